@@ -1,0 +1,17 @@
+pub mod Agreement
+pub mod ClassEvents
+pub mod Cycles
+pub mod Events
+pub mod Examples
+pub mod Joined
+pub mod Marks
+pub mod OneTree
+pub mod Onward
+pub mod Parted
+pub mod Shift
+pub mod TreeDepth
+pub mod Values
+pub mod Review
+pub mod ReviewBlocks
+pub mod ReviewMarks
+pub mod ReviewLoads

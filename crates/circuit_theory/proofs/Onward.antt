@@ -1,0 +1,162 @@
+-- Equal functions of the cut circuits agree onward.
+use Rattle.std.proofs.Common.{◌≡◌, ℕ, zero, suc, ◌+◌, ◌-◌, ◌<◌, ◌≤◌, Bool, true, false, cond, List, [], ◌∷◌, length, get_or, refl, sym, ◌∙◌, ap, subst, arith, inl, inr, Option, Some, None}
+use Rattle.std.specs.Prelude.{◌⊎◌, ◌&&◌, ◌==◌}
+use Rattle.std.specs.List.{Contains, filter_map, cons_option}
+use Rattle.std.proofs.lemmas.List.Elements.{All-contains, All-filter, Contains-append_cases}
+use Rattle.circuit_theory.specs.Circuit.{Circuit, Equation, Gate, Latch, Port, Named, IsLatch, IsSingleDriven, Carries, Holds}
+use Rattle.circuit_theory.specs.Run.{IsRun, Marked, NoneEnabled}
+use Rattle.circuit_theory.specs.Tree.{AreNumbered, HaveEqualFunctions}
+use Rattle.circuit_theory.specs.declared.Mode.TheVariants.{Plain}
+use Rattle.circuit_theory.specs.Agree.{AgreeOnward, AreAlike, IsPair, LatchesEqual, cut, latch_named, same_name, is_kept, named_at, first_of_pair}
+use Rattle.circuit_theory.proofs.Marks.{marks_stay}
+use Rattle.circuit_theory.proofs.Shift.{Contains-head, Contains-tail}
+use Rattle.circuit_theory.proofs.Agreement.{same_at, test_same}
+
+pub Contains-cases : {X : Type 0} (x y : X) (xs : List X) → Contains (x ∷ xs) y → (x ≡ y) ⊎ Contains xs y
+Contains-cases {X} x y xs h = go h.0 h.1 h.2
+  where
+    go : (k : ℕ) → k < length (x ∷ xs) → get_or (x ∷ xs) k y ≡ y → (x ≡ y) ⊎ Contains xs y
+    go zero l e = inl e
+    go (suc k) l e = inr (k, omega arith, e)
+
+both : (x y : Bool) → (x && y) ≡ true → (x ≡ true) × (y ≡ true)
+both true y h = (refl, h)
+both false y h = cc
+
+pub same_name-sound : (xs ys : List ℕ) → same_name xs ys ≡ true → xs ≡ ys
+same_name-sound [] [] h = refl
+same_name-sound [] (y ∷ ys) h = cc
+same_name-sound (x ∷ xs) [] h = cc
+same_name-sound (x ∷ xs) (y ∷ ys) h =
+    let parts = both (x == y) (same_name xs ys) h in
+    let head = test_same x y parts.0 in
+    let tail = same_name-sound xs ys parts.1 in cc
+
+pub latch_named-found : {P : Type 0} (es : List (Equation P)) (name : List ℕ) (u next : P) → latch_named es name ≡ Some (u, next) → Contains es (Latch name u next)
+latch_named-found [] name u next h = cc
+latch_named-found (Gate out fanins cover ∷ es) name u next h = Contains-tail _ _ es (latch_named-found es name u next h)
+latch_named-found (Port out from ∷ es) name u next h = Contains-tail _ _ es (latch_named-found es name u next h)
+latch_named-found {P} (Latch own out to ∷ es) name u next h = go (λ k. latch_named-found es name u next k) (same_name own name) refl
+  where
+    go : (latch_named es name ≡ Some (u, next) → Contains es (Latch name u next)) → (b : Bool) → same_name own name ≡ b → Contains (Latch own out to ∷ es) (Latch name u next)
+    go later true e =
+        let own_is = same_name-sound own name e in
+        let z : Some (out, to) ≡ Some (u, next) = sym (ap (λ b. cond b (Some (out, to)) (latch_named es name)) e) ∙ h in
+        let q : (out, to) ≡ (u, next) = some_same z in
+        subst (λ (x : P × P). Contains (Latch own out to ∷ es) (Latch name x.0 x.1)) q (subst (λ (n : List ℕ). Contains (Latch own out to ∷ es) (Latch n out to)) own_is (Contains-head _ es))
+      where
+        some_same : {X : Type 0} {x y : X} → Some x ≡ Some y → x ≡ y
+        some_same e = cc
+    go later false e = Contains-tail _ _ es (later (sym (ap (λ b. cond b (Some (out, to)) (latch_named es name)) e) ∙ h))
+
+filter_map-from : {X Y : Type 0} (f : X → Option Y) (xs : List X) (y : Y) → Contains (filter_map f xs) y → (x : X) × Contains xs x × (f x ≡ Some y)
+filter_map-from f [] y h = absurd (omega (arith, h.1))
+filter_map-from {X} {Y} f (x ∷ xs) y h = go (λ k. filter_map-from f xs y k) (f x) refl
+  where
+    go : (Contains (filter_map f xs) y → (x : X) × Contains xs x × (f x ≡ Some y)) → (o : Option Y) → f x ≡ o → (z : X) × Contains (x ∷ xs) z × (f z ≡ Some y)
+    go later None e = let r = later (subst (λ (ys : List Y). Contains ys y) (ap (λ o. cons_option o (filter_map f xs)) e) h) in (r.0, Contains-tail x r.0 xs r.1, r.2)
+    go later (Some w) e = pick (Contains-cases w y (filter_map f xs) (subst (λ (ys : List Y). Contains ys y) (ap (λ o. cons_option o (filter_map f xs)) e) h))
+      where
+        pick : (w ≡ y) ⊎ Contains (filter_map f xs) y → (z : X) × Contains (x ∷ xs) z × (f z ≡ Some y)
+        pick (inl q) = (x, Contains-head x xs, e ∙ ap Some q)
+        pick (inr k) = let r = later k in (r.0, Contains-tail x r.0 xs r.1, r.2)
+
+-- an input of a cut circuit is one of the circuit, or an exposed latch
+pub cut_input : {P : Type 0} (names : List (List ℕ)) (c : Circuit P) (name : List ℕ) (p : P) → Contains (cut names c).inputs (record { name = name; place = p }) →
+    Contains c.inputs (record { name = name; place = p }) ⊎ (Contains names name × ((next : P) × IsLatch c name p next))
+unfolding cut
+cut_input {P} names c name p h = go (Contains-append_cases c.inputs _ _ h)
+  where
+    at : List ℕ → Option (Named P)
+    at n = named_at n (first_of_pair (latch_named c.equations n))
+
+    found : (n : List ℕ) (o : Option (P × P)) → latch_named c.equations n ≡ o → named_at n (first_of_pair o) ≡ Some (record { name = name; place = p }) → Contains names n → Contains names name × ((next : P) × IsLatch c name p next)
+    found n None e q m = cc
+    found n (Some x) e q m =
+        let r : Named P = record { name = n; place = x.0 } in
+        let same : r ≡ record { name = name; place = p } = unpack r q in
+        let name_is : n ≡ name = ap (λ (i : Named P). i.name) same in
+        let place_is : x.0 ≡ p = ap (λ (i : Named P). i.place) same in
+        (subst (Contains names) name_is m, (x.1, subst (λ (m : List ℕ). IsLatch c m p x.1) name_is (subst (λ (u : P). IsLatch c n u x.1) place_is (latch_named-found c.equations n x.0 x.1 e))))
+      where
+        unpack : (r : Named P) → Some r ≡ Some (record { name = name; place = p }) → r ≡ record { name = name; place = p }
+        unpack r q = cc
+
+    go : Contains c.inputs (record { name = name; place = p }) ⊎ Contains (filter_map at names) (record { name = name; place = p }) →
+        Contains c.inputs (record { name = name; place = p }) ⊎ (Contains names name × ((next : P) × IsLatch c name p next))
+    go (inl k) = inl k
+    go (inr k) = let f = filter_map-from at names _ k in inr (found f.0 (latch_named c.equations f.0) refl f.2 f.1)
+
+-- a run of a circuit is a run of its cut circuit, and so is its beginning
+pub cut_run : {P : Type 0} (names : List (List ℕ)) (c : Circuit P) (n m : ℕ) (run : ℕ → P → Bool) → m ≤ n → IsRun c n run → IsRun (cut names c) m run
+unfolding cut
+cut_run names c n m run le is_run = record {
+  meets = λ t h. All-filter (is_kept names) (Holds (run t)) c.equations (is_run.meets t (omega arith));
+  carries = λ t h. All-filter (is_kept names) (Carries (run t) (run (t + 1))) c.equations (is_run.carries t (omega arith));
+}
+
+module _ {P Q : Type 0} (names : List (List ℕ)) (a : Circuit P) (b : Circuit Q) (oa ob : List ℕ)
+    (numbered : AreNumbered (cut names a) (cut names b) oa ob) (sa : IsSingleDriven (cut names a)) (sb : IsSingleDriven (cut names b))
+    (left_clear : (name : List ℕ) (p : P) → Contains a.inputs (record { name = name; place = p }) → Contains names name → ⊥)
+    (right_clear : (name : List ℕ) (q : Q) → Contains b.inputs (record { name = name; place = q }) → Contains names name → ⊥)
+    (equal : (p : P) (q : Q) → IsPair names a b p q → HaveEqualFunctions (cut names a) (cut names b) oa ob p q) where
+
+  -- up to a cycle
+  LatchesUpTo : (ℕ → P → Bool) → (ℕ → Q → Bool) → ℕ → Type 0
+  LatchesUpTo left right last = LatchesEqual names a b left right (λ t. t ≤ last)
+
+  alike_cut : (n : ℕ) (left : ℕ → P → Bool) (right : ℕ → Q → Bool) → AreAlike a b n left right → (last : ℕ) → last < n → LatchesUpTo left right last →
+      AreAlike (cut names a) (cut names b) (last + 1) left right
+  unfolding LatchesUpTo
+  alike_cut n left right alike last in_run latches = record {
+    left_run = cut_run names a n (last + 1) left (omega arith) alike.left_run;
+    right_run = cut_run names b n (last + 1) right (omega arith) alike.right_run;
+    equal_inputs = λ name p q l r t h. inputs name p q t h (cut_input names a name p l) (cut_input names b name q r);
+  }
+    where
+      inputs : (name : List ℕ) (p : P) (q : Q) (t : ℕ) → t < last + 1 →
+          Contains a.inputs (record { name = name; place = p }) ⊎ (Contains names name × ((next : P) × IsLatch a name p next)) →
+          Contains b.inputs (record { name = name; place = q }) ⊎ (Contains names name × ((next : Q) × IsLatch b name q next)) → left t p ≡ right t q
+      inputs name p q t h (inl l) (inl r) = alike.equal_inputs name p q l r t (omega arith)
+      inputs name p q t h (inl l) (inr r) = absurd (left_clear name p l r.0)
+      inputs name p q t h (inr l) (inl r) = absurd (right_clear name q r l.0)
+      inputs name p q t h (inr l) (inr r) = latches name p l.1.0 q r.1.0 t l.0 l.1.1 r.1.1 (omega arith)
+
+  pub equal_functions_agree_onward : AgreeOnward Plain names a b
+  unfolding LatchesUpTo alike_cut
+  equal_functions_agree_onward n left right alike T in_run settled start = (λ name u p v q t h l r k. up_to t k name u p v q t h l r (omega arith), outputs)
+    where
+      pair_same : (t : ℕ) → T ≤ t → t < n → LatchesUpTo left right t → (p : P) (q : Q) → IsPair names a b p q → left t p ≡ right t q
+      pair_same t after k latches p q pair =
+          let marks = settled p q pair in
+          let e : T + (t - T) ≡ t = omega arith in
+          same_at (cut names a) (cut names b) oa ob numbered left right (t + 1) (alike_cut n left right alike t k latches) sa sb p q (equal p q pair) t (omega arith)
+              (subst (λ s. Marked (cut names a) NoneEnabled left s p) e (marks_stay (cut names a) NoneEnabled left T (t - T) marks.0))
+              (subst (λ s. Marked (cut names b) NoneEnabled right s q) e (marks_stay (cut names b) NoneEnabled right T (t - T) marks.1))
+
+      up_to : (last : ℕ) → last < n → LatchesUpTo left right last
+      up_to zero k name u p v q t h l r le = start name u p v q t h l r (omega arith)
+      up_to (suc last) k name u p v q t h l r le = go (up_to last (omega arith)) (cases t last le) (start_or T (suc last))
+        where
+          cases : (x y : ℕ) → x ≤ suc y → (x ≤ y) ⊎ (x ≡ suc y)
+          cases x y h = grind arith
+
+          start_or : (x y : ℕ) → (y ≤ x) ⊎ (x < y)
+          start_or x y = grind arith
+
+          go : LatchesUpTo left right last → (t ≤ last) ⊎ (t ≡ suc last) → (suc last ≤ T) ⊎ (T < suc last) → left t u ≡ right t v
+          go before (inl early) w = before name u p v q t h l r early
+          go before (inr now) (inl early) = start name u p v q t h l r (omega arith)
+          go before (inr now) (inr late) =
+              let step = pair_same last (omega arith) (omega arith) before p q (IsPair.nexts h l r) in
+              let lc = All-contains (Carries (left last) (left (last + 1))) a.equations _ (alike.left_run.carries last (omega arith)) l in
+              let rc = All-contains (Carries (right last) (right (last + 1))) b.equations _ (alike.right_run.carries last (omega arith)) r in
+              let e : t ≡ last + 1 = omega arith in
+              ap (λ s. left s u) e ∙ (lc ∙ (step ∙ (sym rc ∙ ap (λ s. right s v) (sym e))))
+
+      outputs : (t : ℕ) (p : P) (q : Q) → T ≤ t → t < n → IsPair [] a b p q → left t p ≡ right t q
+      outputs t p q after k pair = pair_same t after k (up_to t k) p q (wider pair)
+        where
+          wider : {p : P} {q : Q} → IsPair [] a b p q → IsPair names a b p q
+          wider (IsPair.outputs l r) = IsPair.outputs l r
+          wider (IsPair.nexts h l r) = absurd (omega (arith, h.1))

@@ -1,0 +1,15 @@
+pub mod Agree
+pub mod Blocks
+pub mod Circuit
+pub mod Classes
+pub mod Cone
+pub mod Cover
+pub mod Depth
+pub mod Frame
+pub mod Interface
+pub mod Query
+pub mod Replay
+pub mod Run
+pub mod Sizes
+pub mod Tree
+pub mod Mended
