@@ -9,6 +9,7 @@ pub mod Joined
 pub mod Lists
 pub mod Loads
 pub mod Marks
+pub mod NetLaws
 pub mod OneTree
 pub mod Onward
 pub mod Parted

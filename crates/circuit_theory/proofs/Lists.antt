@@ -1,7 +1,9 @@
 -- Membership in lists, and functions over them.
-use Rattle.std.proofs.Common.{◌≡◌, ℕ, zero, suc, ◌<◌, Bool, true, false, cond, List, [], ◌∷◌, length, get_or, map, refl, ◌∙◌, ap, subst, arith, inl, inr, Option, Some, None}
+use Rattle.std.proofs.Common.{◌≡◌, ℕ, zero, suc, ◌<◌, Bool, true, false, cond, List, [], ◌∷◌, ◌++◌, length, get_or, map, refl, ◌∙◌, ap, subst, arith, inl, inr, Option, Some, None, slice_get}
 use Rattle.std.specs.Prelude.{◌⊎◌}
-use Rattle.std.specs.List.{Contains, filter, filter_map, cons_option}
+use Rattle.std.specs.List.{All, AllZip, Contains, filter, filter_map, cons_option}
+use Rattle.std.proofs.lemmas.List.Elements.{All-nil, All-cons}
+use Rattle.std.proofs.lemmas.Option.{slice_get-get_or, slice_get_within, get_or_from_slice_get}
 
 pub Contains-head : {X : Type 0} (x : X) (xs : List X) → Contains (x ∷ xs) x
 Contains-head x xs = (0, omega arith, refl)
@@ -67,3 +69,45 @@ Contains-filter {X} test (y ∷ xs) x h = go (test y) refl (λ k. Contains-filte
         pick (inl q) = subst (Contains (y ∷ xs)) q (Contains-head y xs)
         pick (inr k) = Contains-tail y x xs (ih k)
     go false e ih = Contains-tail y x xs (ih (subst (λ (ys : List X). Contains ys x) (ap (λ b. cond b (y ∷ filter test xs) (filter test xs)) e) h))
+
+-- what holds of each element
+pub All-from_each : {X : Type 0} (F : X → Type 0) (xs : List X) → ((x : X) → Contains xs x → F x) → All F xs
+All-from_each F [] h = All-nil F
+All-from_each F (x ∷ xs) h = All-cons F x xs (h x (Contains-head x xs)) (All-from_each F xs (λ y k. h y (Contains-tail x y xs k)))
+
+-- an element stands at a place
+pub at_of : {X : Type 0} (xs : List X) (x : X) → Contains xs x → (i : ℕ) × (slice_get xs i ≡ Some x)
+at_of xs x h = (h.0, slice_get-get_or xs h.0 x h.1 ∙ ap Some h.2)
+
+-- what stands at a place is an element
+pub of_at : {X : Type 0} (xs : List X) (i : ℕ) (x : X) → slice_get xs i ≡ Some x → Contains xs x
+of_at xs i x h = (i, slice_get_within xs i x h, get_or_from_slice_get xs i x x h)
+
+pub zip_push : {X Y : Type 0} (R : X → Y → Type 0) (xs : List X) (ys : List Y) (x : X) (y : Y) → AllZip R xs ys → R x y → AllZip R (xs ++ x ∷ []) (ys ++ y ∷ [])
+zip_push R [] [] x y h r = (r, tt)
+zip_push R [] (y' ∷ ys) x y h r = absurd h
+zip_push R (x' ∷ xs) [] x y h r = absurd h
+zip_push R (x' ∷ xs) (y' ∷ ys) x y h r = (h.0, zip_push R xs ys x y h.1 r)
+
+pub zip_weaker : {X Y : Type 0} (R S : X → Y → Type 0) → ((x : X) (y : Y) → R x y → S x y) → (xs : List X) (ys : List Y) → AllZip R xs ys → AllZip S xs ys
+zip_weaker R S f [] [] h = tt
+zip_weaker R S f [] (y ∷ ys) h = absurd h
+zip_weaker R S f (x ∷ xs) [] h = absurd h
+zip_weaker R S f (x ∷ xs) (y ∷ ys) h = (f x y h.0, zip_weaker R S f xs ys h.1)
+
+pub zip_length : {X Y : Type 0} (R : X → Y → Type 0) (xs : List X) (ys : List Y) → AllZip R xs ys → length xs ≡ length ys
+zip_length R [] [] h = refl
+zip_length R [] (y ∷ ys) h = absurd h
+zip_length R (x ∷ xs) [] h = absurd h
+zip_length R (x ∷ xs) (y ∷ ys) h = ap suc (zip_length R xs ys h.1)
+
+-- each element on the left has its element on the right
+pub zip_right : {X Y : Type 0} (R : X → Y → Type 0) (xs : List X) (ys : List Y) → AllZip R xs ys → (i : ℕ) (x : X) → slice_get xs i ≡ Some x → (y : Y) × (slice_get ys i ≡ Some y) × R x y
+zip_right R [] [] h i x e = absurd (let k = slice_get_within [] i x e in omega arith)
+zip_right R [] (y ∷ ys) h i x e = absurd h
+zip_right R (x' ∷ xs) [] h i x e = absurd h
+zip_right R (x' ∷ xs) (y ∷ ys) h zero x e = let same : x' ≡ x = unwrap e in (y, refl, subst (λ z. R z y) same h.0)
+  where
+    unwrap : Some x' ≡ Some x → x' ≡ x
+    unwrap q = cc
+zip_right R (x' ∷ xs) (y ∷ ys) h (suc i) x e = zip_right R xs ys h.1 i x e

@@ -9,6 +9,7 @@ pub mod Flattened
 pub mod Frame
 pub mod Interface
 pub mod Names
+pub mod Net
 pub mod Query
 pub mod Replay
 pub mod Run
