@@ -15,5 +15,7 @@ pub mod Onward
 pub mod Parted
 pub mod PutExample
 pub mod Shift
+pub mod Sums
 pub mod TreeDepth
 pub mod Values
+pub mod Weights
