@@ -10,6 +10,7 @@ pub mod Lists
 pub mod Loads
 pub mod Marks
 pub mod NetLaws
+pub mod NetTrees
 pub mod OneTree
 pub mod Onward
 pub mod Parted
