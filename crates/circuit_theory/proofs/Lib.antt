@@ -10,10 +10,13 @@ pub mod Lists
 pub mod Loads
 pub mod Marks
 pub mod NetLaws
+pub mod NetTrees
 pub mod OneTree
 pub mod Onward
 pub mod Parted
 pub mod PutExample
 pub mod Shift
+pub mod Sums
 pub mod TreeDepth
 pub mod Values
+pub mod Weights

@@ -10,11 +10,11 @@ use Rattle.circuit_theory.proofs.Lists.{Contains-head, Contains-tail, Contains-c
 use Rattle.circuit_theory.proofs.Inputs.{beside_is_input}
 
 module _ {P : Type 0} (c : Circuit P) (single : IsSingleDriven c) where
-  chain_up : {p q : P} {n : ℕ} → Reads c p q → ChainFrom c NoneEnabled q n → ChainFrom c NoneEnabled p n
+  pub chain_up : {p q : P} {n : ℕ} → Reads c p q → ChainFrom c NoneEnabled q n → ChainFrom c NoneEnabled p n
   chain_up reads (inl e) = inl e
   chain_up reads (inr x) = inr (x.0, (x.1.0, Reaches.there reads x.1.1), x.2)
 
-  chain_latch : {u : P} {n : ℕ} → LatchChain c NoneEnabled u n → (name : List ℕ) × (next : P) × IsLatch c name u next
+  pub chain_latch : {u : P} {n : ℕ} → LatchChain c NoneEnabled u n → (name : List ℕ) × (next : P) × IsLatch c name u next
   chain_latch (LatchChain.last {next = next} {name = name} latch) = (name, next, latch)
   chain_latch (LatchChain.more edge rest) = (edge.name, edge.next, edge.latch)
 
@@ -28,7 +28,7 @@ module _ {P : Type 0} (c : Circuit P) (single : IsSingleDriven c) where
   read_says {p} {q} (Reads.by_gate {fanins = fanins} {cover = cover} eq h) e k r = subst (ReadSays q) (single.one (Gate p fanins cover) e eq k (sym r)) h
   read_says {p} {q} (Reads.by_port eq) e k r = subst (ReadSays q) (single.one (Port p q) e eq k (sym r)) refl
 
-  extend : {name : List ℕ} {out next : P} {n : ℕ} → IsLatch c name out next → ChainFrom c NoneEnabled next n → ChainFrom c NoneEnabled out (suc n)
+  pub extend : {name : List ℕ} {out next : P} {n : ℕ} → IsLatch c name out next → ChainFrom c NoneEnabled next n → ChainFrom c NoneEnabled out (suc n)
   extend {name} {out} {next} latch (inl e) = inr (out, (inr (name, next, latch), Reaches.here), subst (λ m. LatchChain c NoneEnabled out (suc m)) (sym e) (LatchChain.last latch))
   extend {name} {out} {next} latch (inr x) =
       let other = chain_latch x.2 in

@@ -47,6 +47,14 @@ pub record IsConeWeight {P : Type 0} (c : Circuit P) (next : P) (weight : ℕ) :
   pub met : (q : P) → ((w : ℕ) × Contains places (record { place = q; shift = 0; weight = w })) ↔ Reaches c next q
   pub total : sum_by (λ x. x.weight) places ≡ weight
 
+-- some distinct places of the latch's cone weigh more than the cap
+pub record IsConeOver {P : Type 0} (c : Circuit P) (next : P) (cap : ℕ) : Type 0 where
+  pub places : List (Weighed P)
+  pub distinct : AllPairs (λ x y. x.place ≢ y.place) places
+  pub weighed : (x : Weighed P) → Contains places x → (x.shift ≡ 0) × WeighsAt c x.place x.weight
+  pub met : (x : Weighed P) → Contains places x → Reaches c next x.place
+  pub total : cap < sum_by (λ x. x.weight) places
+
 -- where the unfolding of an event function begins: a signal, or what an enabled latch takes over, the latch left out
 pub record Start (P : Type 0) : Type 0 where
   pub place : P
