@@ -2,7 +2,7 @@
 use Rattle.std.specs.Prelude.{◌≡◌, ℕ, ◌+◌, ◌-◌, ◌==◌, ◌||◌, Bool, true, false, not, if◌then◌else◌, List, [], ◌∷◌, ◌++◌, map, length, take, codes, refl}
 use Rattle.std.specs.List.{filter, slice_split, before_first, suffix_len}
 use Rattle.std.specs.Io.BufRead.{strip_last, ends_with_byte}
-use Rattle.blif_lines.specs.declared.logical.RawLine.{RawLine}
+use Rattle.blif_lines.specs.declared.line.RawLine.{RawLine}
 
 -- a blank or a tab
 abbrev pub is_blank : ℕ → Bool
@@ -59,6 +59,10 @@ raw_lines text = joined_lines 1 (physical_lines text)
 -- the words between blanks
 abbrev pub tokens_of : List ℕ → List (List ℕ)
 tokens_of bytes = filter (λ t. not (is_empty t)) (slice_split is_blank bytes)
+
+-- the words where this one comes first, unless it is empty
+abbrev pub put_token : List ℕ → List (List ℕ) → List (List ℕ)
+put_token word tokens = if is_empty word then tokens else word ∷ tokens
 
 -- a line's number and its tokens
 pub record TokenLine : Type 0 where

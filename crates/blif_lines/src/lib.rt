@@ -4,6 +4,14 @@
 //! backslash at a line's end joins the next line to it.
 #![tactic(auto)]
 
+mod bytes;
+mod line;
 mod logical;
+mod physical;
+#[cfg(test)]
+mod tests;
+mod tokens;
 
-pub use logical::RawLine;
+pub use line::RawLine;
+pub use logical::Lines;
+pub use tokens::tokens_of;
