@@ -2,8 +2,8 @@
 use Rattle.std.specs.Prelude.{ℕ, Bool, List, [], ◌∷◌, ◌++◌, map, length, codes, if◌then◌else◌}
 use Rattle.std.specs.Fmt.{decimal}
 use Rattle.std.specs.List.{flat_map}
-use Rattle.sec_base.specs.declared.PairAnswer.{PairAnswer}
-use Rattle.sec_base.specs.declared.PairAnswer.TheVariants as answer
+use Rattle.sec_base.specs.declared.basics.PairAnswer.{PairAnswer}
+use Rattle.sec_base.specs.declared.basics.PairAnswer.TheVariants as answer
 use Rattle.sec_check.specs.declared.outcome.PairName.{PairName}
 use Rattle.sec_check.specs.declared.outcome.PairName.TheVariants as pair
 use Rattle.sec_check.specs.declared.outcome.Stimulus.{Stimulus}
