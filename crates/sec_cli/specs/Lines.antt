@@ -1,0 +1,47 @@
+-- The text that a run writes.
+use Rattle.std.specs.Prelude.{ℕ, List, [], ◌∷◌, ◌++◌, codes}
+use Rattle.std.specs.Fmt.{decimal}
+use Rattle.circuit_theory.specs.declared.Side.{Side}
+use Rattle.circuit_theory.specs.declared.Side.TheVariants.{A, B}
+use Rattle.blif_read.specs.declared.error.ReadKind.{ReadKind}
+use Rattle.blif_read.specs.declared.error.ReadKind.TheVariants as kind
+use Rattle.sec_check.specs.Report.{report_text}
+use Rattle.sec_cli.specs.declared.finding.Refusal.{Refusal}
+use Rattle.sec_cli.specs.declared.finding.Refusal.TheVariants as refusal
+use Rattle.sec_cli.specs.declared.finding.Finding.{Finding}
+use Rattle.sec_cli.specs.declared.finding.Finding.TheVariants as finding
+
+abbrev pub side_word : Side → List ℕ
+side_word A = codes "A"
+side_word B = codes "B"
+
+-- the kind of a faulty line; an unsupported word stands behind it
+abbrev pub kind_text : ReadKind → List ℕ
+kind_text (kind.Unsupported word) = codes "Unsupported " ++ word
+kind_text kind.UnknownWord = codes "UnknownWord"
+kind_text kind.NoModel = codes "NoModel"
+kind_text kind.BadCount = codes "BadCount"
+kind_text kind.BadRow = codes "BadRow"
+kind_text kind.MixedCover = codes "MixedCover"
+kind_text kind.BadLatchType = codes "BadLatchType"
+kind_text kind.BadInit = codes "BadInit"
+kind_text kind.BadPair = codes "BadPair"
+kind_text kind.DuplicateModel = codes "DuplicateModel"
+kind_text kind.DuplicatePort = codes "DuplicatePort"
+kind_text kind.NameTooLong = codes "NameTooLong"
+kind_text kind.StrayRow = codes "StrayRow"
+kind_text kind.ControlByte = codes "ControlByte"
+
+abbrev pub refusal_text : Refusal → List ℕ
+refusal_text (refusal.TooLong side) = codes "refused " ++ side_word side ++ codes " TooLong" ++ 10 ∷ []
+refusal_text (refusal.Text side line k) = codes "refused " ++ side_word side ++ codes " line " ++ decimal line ++ 32 ∷ [] ++ kind_text k ++ 10 ∷ []
+refusal_text (refusal.Form side) = codes "refused " ++ side_word side ++ codes " NotYet" ++ 10 ∷ []
+refusal_text (refusal.Interface name) = codes "refused Interface " ++ name ++ 10 ∷ []
+refusal_text (refusal.Latches side) = codes "refused " ++ side_word side ++ codes " NotYet" ++ 10 ∷ []
+refusal_text (refusal.Wide inputs) = codes "refused Wide " ++ decimal inputs ++ 10 ∷ []
+
+-- the report of what was found
+abbrev pub finding_text : Finding → List ℕ
+finding_text finding.Words = codes "words refused" ++ 10 ∷ []
+finding_text (finding.Refused r) = refusal_text r
+finding_text (finding.Checked outcome) = report_text outcome

@@ -1,0 +1,31 @@
+//! What a run finds and reports.
+
+use blif_read::ReadKind;
+use sec_base::{Side, Word};
+use sec_check::Outcome;
+
+/// Why a job ends without an answer.
+#[derive(Debug, Drop)]
+pub enum Refusal {
+    /// The file has more than 16,777,216 bytes.
+    TooLong(Side),
+    /// The first faulty line of a text, and what is wrong with it.
+    Text(Side, u32, ReadKind),
+    /// The main model isn't of the form that is built.
+    Form(Side),
+    /// The first name that one circuit has and the other lacks.
+    Interface(Word),
+    /// The circuit has a latch, for which no comparison is built.
+    Latches(Side),
+    /// There are more shared inputs than the comparison takes.
+    Wide(u32),
+}
+
+/// What a report can be made of.
+#[derive(Debug, Drop)]
+pub enum Finding {
+    /// The words are no job.
+    Words,
+    Refused(Refusal),
+    Checked(Outcome),
+}

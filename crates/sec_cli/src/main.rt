@@ -1,0 +1,10 @@
+//! `sec`: compares two circuits in BLIF.
+#![tactic(auto)]
+
+mod finding;
+mod status;
+mod writing;
+
+use std::rt::HostRuntime;
+
+fn main(rt: HostRuntime) {}

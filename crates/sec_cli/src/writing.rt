@@ -1,0 +1,125 @@
+//! The text that a run writes.
+
+ghost use Rattle.std.specs.Prelude.{◌≡◌, ℕ, List, [], ◌∷◌, ◌++◌, codes, OnOk, IfOk};
+ghost use Rattle.std.specs.Fmt.{decimal};
+ghost use Rattle.sec_check.specs.Report.{report_text};
+ghost use Rattle.sec_cli.specs.Lines.{side_word, kind_text, refusal_text, finding_text};
+
+use blif_read::ReadKind;
+use sec_base::{NoMemory, Seq, Side, Text};
+use sec_check::{Settings, report};
+use std::alloc::Global;
+
+use crate::finding::{Finding, Refusal};
+
+fn put(text: &mut Vec<u8>, bytes: &[u8]) -> Result<(), NoMemory>
+    ensures { OnOk result (text.new.items ≡ text.old.items ++ bytes.now) }
+{
+    text.extend_from_slice(bytes)?;
+    Ok(())
+}
+
+/// Puts the word behind what stands before it in the line.
+fn put_behind(text: &mut Vec<u8>, front: &[u8], word: &[u8]) -> Result<(), NoMemory>
+    ensures { OnOk result (text.new.items ≡ text.old.items ++ (front.now ++ word.now)) }
+{
+    put(text, front)?;
+    put(text, word)
+}
+
+fn put_number(alloc: Global, text: &mut Vec<u8>, number: u32) -> Result<(), NoMemory>
+    ensures { OnOk result (text.new.items ≡ text.old.items ++ decimal number) }
+{
+    let digits = number.to_string(alloc)?;
+    put(text, digits.as_bytes())
+}
+
+fn side_word(side: Side) -> &'static str
+    ensures { result.now ≡ side_word side }
+{
+    match side {
+        Side::A => "A",
+        Side::B => "B",
+    }
+}
+
+fn put_kind(text: &mut Vec<u8>, kind: &ReadKind) -> Result<(), NoMemory>
+    ensures { OnOk result (text.new.items ≡ text.old.items ++ kind_text kind.now) }
+{
+    match kind {
+        ReadKind::Unsupported(word) => put_behind(text, b"Unsupported ", word.as_slice()),
+        ReadKind::UnknownWord => put(text, b"UnknownWord"),
+        ReadKind::NoModel => put(text, b"NoModel"),
+        ReadKind::BadCount => put(text, b"BadCount"),
+        ReadKind::BadRow => put(text, b"BadRow"),
+        ReadKind::MixedCover => put(text, b"MixedCover"),
+        ReadKind::BadLatchType => put(text, b"BadLatchType"),
+        ReadKind::BadInit => put(text, b"BadInit"),
+        ReadKind::BadPair => put(text, b"BadPair"),
+        ReadKind::DuplicateModel => put(text, b"DuplicateModel"),
+        ReadKind::DuplicatePort => put(text, b"DuplicatePort"),
+        ReadKind::NameTooLong => put(text, b"NameTooLong"),
+        ReadKind::StrayRow => put(text, b"StrayRow"),
+        ReadKind::ControlByte => put(text, b"ControlByte"),
+    }
+}
+
+fn put_side(text: &mut Vec<u8>, side: Side) -> Result<(), NoMemory>
+    ensures { OnOk result (text.new.items ≡ text.old.items ++ codes "refused " ++ side_word side) }
+{
+    put(text, b"refused ")?;
+    put(text, side_word(side).as_bytes())
+}
+
+fn put_fault(alloc: Global, text: &mut Vec<u8>, side: Side, line: u32, kind: &ReadKind) -> Result<(), NoMemory>
+    ensures { OnOk result (text.new.items ≡ text.old.items ++ (codes "refused " ++ side_word side ++ codes " line " ++ decimal line ++ 32 ∷ [] ++ kind_text kind.now ++ 10 ∷ [])) }
+{
+    put_side(text, side)?;
+    put(text, b" line ")?;
+    put_number(alloc, text, line)?;
+    put(text, b" ")?;
+    put_kind(text, kind)?;
+    put(text, b"\n")
+}
+
+fn put_refusal(alloc: Global, text: &mut Vec<u8>, refusal: &Refusal) -> Result<(), NoMemory>
+    ensures { OnOk result (text.new.items ≡ text.old.items ++ refusal_text refusal.now) }
+{
+    match refusal {
+        Refusal::TooLong(side) => {
+            put_side(text, *side)?;
+            put(text, b" TooLong\n")
+        }
+        Refusal::Text(side, line, kind) => put_fault(alloc, text, *side, *line, kind),
+        Refusal::Form(side) => {
+            put_side(text, *side)?;
+            put(text, b" NotYet\n")
+        }
+        Refusal::Latches(side) => {
+            put_side(text, *side)?;
+            put(text, b" NotYet\n")
+        }
+        Refusal::Interface(name) => {
+            put_behind(text, b"refused Interface ", name.as_slice())?;
+            put(text, b"\n")
+        }
+        Refusal::Wide(inputs) => {
+            put(text, b"refused Wide ")?;
+            put_number(alloc, text, *inputs)?;
+            put(text, b"\n")
+        }
+    }
+}
+
+/// The report of what was found.
+pub fn finding_report(alloc: Global, finding: &Finding, settings: &Settings) -> Result<Text, NoMemory>
+    ensures { IfOk result (λ text. text ≡ finding_text finding.now) }
+{
+    let mut text = Vec::new(alloc);
+    match finding {
+        Finding::Words => put(&mut text, b"words refused\n")?,
+        Finding::Refused(refusal) => put_refusal(alloc, &mut text, refusal)?,
+        Finding::Checked(outcome) => return report(alloc, outcome, settings),
+    }
+    Ok(Seq::from_vec(text))
+}
