@@ -11,6 +11,7 @@ pub mod Loads
 pub mod Marks
 pub mod NetLaws
 pub mod NetTrees
+pub mod Numbers
 pub mod OneTree
 pub mod Onward
 pub mod Parted
