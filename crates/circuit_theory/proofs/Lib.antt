@@ -16,6 +16,7 @@ pub mod OneTree
 pub mod Onward
 pub mod Parted
 pub mod PutExample
+pub mod SameMarks
 pub mod Shift
 pub mod Sums
 pub mod TreeDepth
