@@ -1,6 +1,7 @@
 pub mod Agreement
 pub mod BlockExamples
 pub mod ClassEvents
+pub mod CutLaws
 pub mod Cycles
 pub mod Events
 pub mod Examples
