@@ -1,23 +1,23 @@
 -- Cut circuits have single drivers, and a member of a minimal cut lies on a cycle of one of the circuits, so that it is never
 -- settled there.
-use Rattle.std.proofs.Common.{◌≡◌, ◌≢◌, ℕ, zero, suc, ◌+◌, ◌<◌, Bool, true, false, not, cond, List, [], ◌∷◌, length, refl, sym, ◌∙◌, ap, subst, arith, inl, inr, Some, slice_get}
+use Rattle.std.proofs.Common.{◌≡◌, ◌≢◌, ℕ, zero, suc, Bool, true, false, not, cond, List, [], ◌∷◌, refl, sym, ◌∙◌, ap, subst, arith, inl, inr, Some, slice_get}
 use Rattle.std.specs.Prelude.{◌⊎◌}
 use Rattle.std.specs.List.{Contains, filter}
 use Rattle.std.proofs.lemmas.Option.{slice_get_within}
 use Rattle.circuit_theory.specs.declared.Mode.TheVariants.{Plain}
 use Rattle.circuit_theory.specs.Names.{same_name, is_among}
-use Rattle.circuit_theory.specs.Circuit.{Circuit, Equation, Gate, Latch, Port, Named, IsInput, IsLatch, IsSingleDriven, out_of}
+use Rattle.circuit_theory.specs.Circuit.{Circuit, Equation, Gate, Latch, Port, IsLatch, IsSingleDriven, out_of}
 use Rattle.circuit_theory.specs.Run.{Marked, NoneEnabled}
 use Rattle.circuit_theory.specs.Depth.{LatchReads, LatchPath, HasCycle, without}
-use Rattle.circuit_theory.specs.Net.{IsNet, HasDistinctNames}
+use Rattle.circuit_theory.specs.Net.{HasDistinctNames}
 use Rattle.circuit_theory.specs.Agree.{cut, is_kept, IsMinimalCut, Agree, AgreeOnward, IsPair}
 use Rattle.circuit_theory.specs.Tree.{AreNumbered, HaveEqualFunctions}
-use Rattle.circuit_theory.proofs.Lists.{Contains-head, Contains-tail, Contains-cases, at_of, of_at}
+use Rattle.circuit_theory.proofs.Lists.{Contains-head, Contains-tail, Contains-cases, at_of}
 use Rattle.circuit_theory.proofs.Inputs.{same_name-sound}
-use Rattle.circuit_theory.proofs.Numbers.{distinct_at, same_name-refl, is_among-sound, is_among-complete}
+use Rattle.circuit_theory.proofs.Numbers.{same_name-refl, is_among-sound, is_among-complete}
 use Rattle.circuit_theory.proofs.Onward.{cut_input, equal_functions_agree_onward}
 use Rattle.circuit_theory.proofs.Parted.{kept_equation, parted_functions_agree}
-use Rattle.circuit_theory.proofs.Cycles.{path_append, cycle_never_settled}
+use Rattle.circuit_theory.proofs.Cycles.{cycle_never_settled}
 
 pub same_or_other : (xs ys : List ℕ) → (xs ≡ ys) ⊎ (xs ≢ ys)
 same_or_other xs ys = go (same_name xs ys) refl

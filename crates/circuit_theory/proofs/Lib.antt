@@ -23,3 +23,4 @@ pub mod Sums
 pub mod TreeDepth
 pub mod Values
 pub mod Weights
+pub mod Windows
