@@ -1,6 +1,7 @@
 pub mod Agreement
 pub mod BlockExamples
 pub mod ClassEvents
+pub mod CutLaws
 pub mod Cycles
 pub mod Events
 pub mod Examples
@@ -11,12 +12,15 @@ pub mod Loads
 pub mod Marks
 pub mod NetLaws
 pub mod NetTrees
+pub mod Numbers
 pub mod OneTree
 pub mod Onward
 pub mod Parted
 pub mod PutExample
+pub mod SameMarks
 pub mod Shift
 pub mod Sums
 pub mod TreeDepth
 pub mod Values
 pub mod Weights
+pub mod Windows

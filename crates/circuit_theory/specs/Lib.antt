@@ -5,6 +5,7 @@ pub mod Classes
 pub mod Cone
 pub mod Cover
 pub mod Depth
+pub mod Fits
 pub mod Flattened
 pub mod Frame
 pub mod Interface
@@ -13,5 +14,6 @@ pub mod Net
 pub mod Query
 pub mod Replay
 pub mod Run
+pub mod Sequence
 pub mod Sizes
 pub mod Tree
