@@ -5,24 +5,10 @@ ghost use Rattle.std.specs.Fmt.{decimal};
 ghost use Rattle.std.specs.List.{flat_map};
 ghost use Rattle.sec_check.specs.Report.{digit_of, names_text, row_text, row_line, stimulus_text, answer_word, pair_text, pair_line, values_text, difference_text, verdict_text, counts_text, report_text};
 
-use sec_base::{Bits, NoMemory, PairAnswer, Seq, Text, Words};
+use sec_base::{Bits, NoMemory, PairAnswer, Seq, Text, Words, put, put_number};
 use std::alloc::Global;
 
 use crate::outcome::{Outcome, PairName, PairResult, Settings, Stimulus, Verdict, Witness};
-
-fn put(text: &mut Vec<u8>, bytes: &[u8]) -> Result<(), NoMemory>
-    ensures { OnOk result (text.new.items ≡ text.old.items ++ bytes.now) }
-{
-    text.extend_from_slice(bytes)?;
-    Ok(())
-}
-
-fn put_number(alloc: Global, text: &mut Vec<u8>, number: usize) -> Result<(), NoMemory>
-    ensures { OnOk result (text.new.items ≡ text.old.items ++ decimal number) }
-{
-    let digits = number.to_string(alloc)?;
-    put(text, digits.as_bytes())
-}
 
 fn digit_of(bit: bool) -> u8
     ensures { result ≡ digit_of bit }
@@ -103,7 +89,7 @@ fn put_pair(alloc: Global, text: &mut Vec<u8>, pair: &PairResult) -> Result<(), 
     put(text, b"pair ")?;
     put_pair_name(text, &pair.name)?;
     put(text, b" depth ")?;
-    put_number(alloc, text, pair.size as usize)?;
+    put_number(alloc, text, u64::from(pair.size))?;
     put(text, b" ")?;
     put(text, answer_word(pair.answer).as_bytes())?;
     put(text, b"\n")
@@ -123,7 +109,7 @@ fn put_values(alloc: Global, text: &mut Vec<u8>, witness: &Witness) -> Result<()
     ensures { OnOk result (text.new.items ≡ text.old.items ++ values_text witness.now) }
 {
     put(text, b" cycle ")?;
-    put_number(alloc, text, witness.cycle as usize)?;
+    put_number(alloc, text, u64::from(witness.cycle))?;
     put(text, b" values ")?;
     text.push(digit_of(witness.left))?;
     put(text, b" ")?;
@@ -153,13 +139,13 @@ fn put_counts(alloc: Global, text: &mut Vec<u8>, outcome: &Outcome) -> Result<()
     ensures { OnOk result (text.new.items ≡ text.old.items ++ counts_text outcome.now) }
 {
     put(text, b"inputs ")?;
-    put_number(alloc, text, outcome.inputs as usize)?;
+    put_number(alloc, text, u64::from(outcome.inputs))?;
     put(text, b"\nlatches ")?;
-    put_number(alloc, text, outcome.left_latches as usize)?;
+    put_number(alloc, text, u64::from(outcome.left_latches))?;
     put(text, b" ")?;
-    put_number(alloc, text, outcome.right_latches as usize)?;
+    put_number(alloc, text, u64::from(outcome.right_latches))?;
     put(text, b"\nexposed ")?;
-    put_number(alloc, text, outcome.exposed.len())?;
+    put_number(alloc, text, outcome.exposed.len() as u64)?;
     put_names(text, &outcome.exposed)?;
     put(text, b"\n")
 }

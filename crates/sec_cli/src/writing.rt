@@ -6,18 +6,11 @@ ghost use Rattle.sec_check.specs.Report.{report_text};
 ghost use Rattle.sec_cli.specs.Lines.{side_word, kind_text, refusal_text, finding_text};
 
 use blif_read::ReadKind;
-use sec_base::{NoMemory, Seq, Side, Text};
+use sec_base::{NoMemory, Seq, Side, Text, put, put_number};
 use sec_check::{Settings, report};
 use std::alloc::Global;
 
 use crate::finding::{Finding, Refusal};
-
-fn put(text: &mut Vec<u8>, bytes: &[u8]) -> Result<(), NoMemory>
-    ensures { OnOk result (text.new.items ≡ text.old.items ++ bytes.now) }
-{
-    text.extend_from_slice(bytes)?;
-    Ok(())
-}
 
 /// Puts the word behind what stands before it in the line.
 fn put_behind(text: &mut Vec<u8>, front: &[u8], word: &[u8]) -> Result<(), NoMemory>
@@ -25,13 +18,6 @@ fn put_behind(text: &mut Vec<u8>, front: &[u8], word: &[u8]) -> Result<(), NoMem
 {
     put(text, front)?;
     put(text, word)
-}
-
-fn put_number(alloc: Global, text: &mut Vec<u8>, number: u32) -> Result<(), NoMemory>
-    ensures { OnOk result (text.new.items ≡ text.old.items ++ decimal number) }
-{
-    let digits = number.to_string(alloc)?;
-    put(text, digits.as_bytes())
 }
 
 fn side_word(side: Side) -> &'static str
@@ -76,7 +62,7 @@ fn put_fault(alloc: Global, text: &mut Vec<u8>, side: Side, line: u32, kind: &Re
 {
     put_side(text, side)?;
     put(text, b" line ")?;
-    put_number(alloc, text, line)?;
+    put_number(alloc, text, u64::from(line))?;
     put(text, b" ")?;
     put_kind(text, kind)?;
     put(text, b"\n")
@@ -105,7 +91,7 @@ fn put_refusal(alloc: Global, text: &mut Vec<u8>, refusal: &Refusal) -> Result<(
         }
         Refusal::Wide(inputs) => {
             put(text, b"refused Wide ")?;
-            put_number(alloc, text, *inputs)?;
+            put_number(alloc, text, u64::from(*inputs))?;
             put(text, b"\n")
         }
     }

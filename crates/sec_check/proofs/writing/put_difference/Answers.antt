@@ -13,4 +13,4 @@ on_ok (Ok u) f h = f h
 on_ok (Err e) f h = tt
 
 pub returns : goal.returns
-returns c = on_ok c.put_stimulus.result (λ s. four_pieces _ _ _ _ _ _ _ _ _ c.in_ok-put.ensures c.in_ok-put_pair_name.ensures c.in_ok-put_values.ensures s) c.put_stimulus.ensures
+returns c = on_ok c.put_stimulus.result (λ s. four_pieces _ _ _ _ _ _ _ _ _ c.in_ok-put.ensures.ok c.in_ok-put_pair_name.ensures c.in_ok-put_values.ensures s) c.put_stimulus.ensures
