@@ -11,6 +11,7 @@ pub mod Frame
 pub mod Interface
 pub mod Names
 pub mod Net
+pub mod Places
 pub mod Query
 pub mod Replay
 pub mod Run

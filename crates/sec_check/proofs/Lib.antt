@@ -1,1 +1,2 @@
+pub mod Designs
 pub mod Renamed

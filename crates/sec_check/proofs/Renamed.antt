@@ -1,13 +1,13 @@
 -- A net that is a design with its places numbered has the design's runs.
-use Rattle.std.proofs.Common.{◌≡◌, ℕ, ◌+◌, ◌<◌, Bool, List, [], ◌∷◌, map, length, refl, sym, ◌∙◌, ap, subst, Option, Some, None, slice_get}
+use Rattle.std.proofs.Common.{◌≡◌, ℕ, suc, ◌+◌, ◌<◌, Bool, List, [], ◌∷◌, map, length, refl, sym, ◌∙◌, ap, subst, Option, Some, None, slice_get}
 use Rattle.std.specs.List.{All, AllByRecursion, Contains}
 use Rattle.std.proofs.lemmas.List.Elements.{All-map, All-contains, All-from_recursion, recursion_from_All}
 use Rattle.circuit_theory.specs.Cover.{cover_value}
-use Rattle.circuit_theory.specs.Circuit.{Circuit, Equation, Gate, Latch, Port, Named, Holds, Carries}
+use Rattle.circuit_theory.specs.Circuit.{Circuit, Equation, Gate, Latch, Port, Named, IsInput, Holds, Carries}
 use Rattle.circuit_theory.specs.Classes.{moved, moved_name}
-use Rattle.circuit_theory.specs.Run.{IsRun}
+use Rattle.circuit_theory.specs.Run.{IsRun, Marked, NoneEnabled}
 use Rattle.circuit_theory.specs.Flattened.{IsFlattened, Follows, latch_names}
-use Rattle.circuit_theory.proofs.Lists.{map-map, map_same, Contains-map, Contains-map_from, All-from_each}
+use Rattle.circuit_theory.proofs.Lists.{map-map, map_same, Contains-map, Contains-map_from, All-from_each, of_at}
 use Rattle.circuit_theory.proofs.Numbers.{slice_get-map}
 use Rattle.sec_check.specs.Renaming.{IsBelow, IsRenaming}
 
@@ -44,6 +44,68 @@ moved_names origin (Port out from ∷ es) = moved_names origin es
 some_is : {X : Type 0} (x y : X) → Some x ≡ Some y → x ≡ y
 some_is x y e = cc
 
+-- an equation of the design is one of the net, renamed
+equation_of_net : {P : Type 0} (d : Circuit P) (net : Circuit ℕ) (size : ℕ) (origin : ℕ → P) (number : P → ℕ) → IsRenaming d net size origin number → (e : Equation P) → Contains d.equations e →
+    (x : Equation ℕ) × Contains net.equations x × (moved origin x ≡ e)
+equation_of_net {P} d net size origin number r e h = Contains-map_from (moved origin) net.equations e (subst (λ (es : List (Equation P)). Contains es e) (sym r.equations) h)
+
+-- the signal of an input's place is an input
+input_down : {P : Type 0} (d : Circuit P) (net : Circuit ℕ) (size : ℕ) (origin : ℕ → P) (number : P → ℕ) → IsRenaming d net size origin number →
+    (s : ℕ) → s < size → IsInput d (origin s) → IsInput net s
+input_down {P} d net size origin number r s k h =
+    let found = Contains-map_from (moved_name origin) net.inputs (record { name = h.0; place = origin s }) (subst (λ (is : List (Named P)). Contains is (record { name = h.0; place = origin s })) (sym r.inputs) h.1) in
+    let below : found.0.place < size = All-contains (λ (i : Named ℕ). i.place < size) net.inputs found.0 r.inputs_below found.1 in
+    let same : found.0.place ≡ s = sym (r.back found.0.place below) ∙ ap number (ap (λ (n : Named P). n.place) found.2) ∙ r.back s k in
+    (found.0.name, subst (λ (q : ℕ). Contains net.inputs (record { name = found.0.name; place = q })) same found.1)
+
+-- a mark of the design at a signal's place is a mark of the net
+marks_down : {P : Type 0} (d : Circuit P) (net : Circuit ℕ) (size : ℕ) (origin : ℕ → P) (number : P → ℕ) → IsRenaming d net size origin number → (run : ℕ → P → Bool) {t : ℕ} {p : P} →
+    Marked d NoneEnabled run t p → (s : ℕ) → s < size → origin s ≡ p → Marked net NoneEnabled (λ t s. run t (origin s)) t s
+marks_down {P} d net size origin number r run (Marked.input {p = p} h) s k e =
+    Marked.input (input_down d net size origin number r s k (subst (λ (q : P). IsInput d q) (sym e) h))
+marks_down {P} d net size origin number r run (Marked.gate {t = t} {out = out} {fanins = fanins} {cover = cover} eq each) s k e =
+    by_net (equation_of_net d net size origin number r (Gate out fanins cover) eq) (λ f h. marks_down d net size origin number r run (each f h))
+  where
+    by_net : ((x : Equation ℕ) × Contains net.equations x × (moved origin x ≡ Gate out fanins cover)) →
+        ((f : P) → Contains fanins f → (q : ℕ) → q < size → origin q ≡ f → Marked net NoneEnabled (λ t s. run t (origin s)) t q) → Marked net NoneEnabled (λ t s. run t (origin s)) t s
+    by_net (Gate out' fanins' cover', at, same) ih =
+        let below : IsBelow size (Gate out' fanins' cover') = All-contains (IsBelow size) net.equations (Gate out' fanins' cover') r.below at in
+        let outs : origin out' ≡ out = cc in
+        let reads : map origin fanins' ≡ fanins = cc in
+        let one : out' ≡ s = sym (r.back out' below.0) ∙ ap number (outs ∙ sym e) ∙ r.back s k in
+        subst (λ (q : ℕ). Marked net NoneEnabled (λ t s. run t (origin s)) t q) one
+            (Marked.gate at (λ q h. ih (origin q) (subst (λ (fs : List P). Contains fs (origin q)) reads (Contains-map origin fanins' q h)) q (below.1 q h) refl))
+    by_net (Latch name' out' next', at, same) ih = absurd (cc)
+    by_net (Port out' from', at, same) ih = absurd (cc)
+marks_down {P} d net size origin number r run (Marked.port {t = t} {out = out} {from = from} eq rest) s k e =
+    by_net (equation_of_net d net size origin number r (Port out from) eq) (marks_down d net size origin number r run rest)
+  where
+    by_net : ((x : Equation ℕ) × Contains net.equations x × (moved origin x ≡ Port out from)) →
+        ((q : ℕ) → q < size → origin q ≡ from → Marked net NoneEnabled (λ t s. run t (origin s)) t q) → Marked net NoneEnabled (λ t s. run t (origin s)) t s
+    by_net (Gate out' fanins' cover', at, same) ih = absurd (cc)
+    by_net (Latch name' out' next', at, same) ih = absurd (cc)
+    by_net (Port out' from', at, same) ih =
+        let below : IsBelow size (Port out' from') = All-contains (IsBelow size) net.equations (Port out' from') r.below at in
+        let outs : origin out' ≡ out = cc in
+        let froms : origin from' ≡ from = cc in
+        let one : out' ≡ s = sym (r.back out' below.0) ∙ ap number (outs ∙ sym e) ∙ r.back s k in
+        subst (λ (q : ℕ). Marked net NoneEnabled (λ t s. run t (origin s)) t q) one (Marked.port at (ih from' below.1 froms))
+marks_down {P} d net size origin number r run (Marked.plain {t = t} {name = name} {out = out} {next = next} latch free rest) s k e =
+    by_net (equation_of_net d net size origin number r (Latch name out next) latch) (marks_down d net size origin number r run rest)
+  where
+    by_net : ((x : Equation ℕ) × Contains net.equations x × (moved origin x ≡ Latch name out next)) →
+        ((q : ℕ) → q < size → origin q ≡ next → Marked net NoneEnabled (λ t s. run t (origin s)) t q) → Marked net NoneEnabled (λ t s. run t (origin s)) (suc t) s
+    by_net (Gate out' fanins' cover', at, same) ih = absurd (cc)
+    by_net (Port out' from', at, same) ih = absurd (cc)
+    by_net (Latch name' out' next', at, same) ih =
+        let below : IsBelow size (Latch name' out' next') = All-contains (IsBelow size) net.equations (Latch name' out' next') r.below at in
+        let outs : origin out' ≡ out = cc in
+        let nexts : origin next' ≡ next = cc in
+        let one : out' ≡ s = sym (r.back out' below.0) ∙ ap number (outs ∙ sym e) ∙ r.back s k in
+        subst (λ (q : ℕ). Marked net NoneEnabled (λ t s. run t (origin s)) (suc t) q) one (Marked.plain at (λ e. e) (ih next' below.1 nexts))
+marks_down {P} d net size origin number r run (Marked.loads latch on others loads) s k e = absurd on
+marks_down {P} d net size origin number r run (Marked.keeps latch on others kept) s k e = absurd on
+
 -- the net's runs are the design's
 pub renamed_is_flattened : {P : Type 0} (d : Circuit P) (net : Circuit ℕ) (size : ℕ) (origin : ℕ → P) (number : P → ℕ) (clocked is_place : P → Type 0) →
     IsRenaming d net size origin number → ((p : P) → (clocked p → ⊥) → is_place p → (s : ℕ) × (s < size) × (origin s ≡ p)) →
@@ -63,6 +125,9 @@ renamed_is_flattened {P} d net size origin number clocked is_place r placed = re
     carries = λ t h. subst (All (Carries (λ p. run t (number p)) (λ p. run (t + 1) (number p)))) r.equations (All-map (Carries (λ p. run t (number p)) (λ p. run (t + 1) (number p))) (moved origin) net.equations (All-from_each (λ e. Carries (λ p. run t (number p)) (λ p. run (t + 1) (number p)) (moved origin e)) net.equations (λ e k.
         carries_up origin number size r.back (run t) (run (t + 1)) e (All-contains (IsBelow size) net.equations e r.below k) (All-contains (Carries (run t) (run (t + 1))) net.equations e (is_run.carries t h) k))));
   }, λ t s h k. ap (run t) (r.back s k));
+  settled = λ n run is_run t i o s h ho hs mark.
+      let e : moved_name origin s ≡ o = some_is _ _ (sym (slice_get-map (moved_name origin) net.outputs i s hs) ∙ ap (λ (os : List (Named P)). slice_get os i) r.outputs ∙ ho) in
+      marks_down d net size origin number r run mark s.place (All-contains (λ (o : Named ℕ). o.place < size) net.outputs s r.outputs_below (of_at net.outputs i s hs)) (ap (λ (n : Named P). n.place) e);
   one = λ n u v is_u is_v same t p h free at_place. let found = placed p free at_place in
       ap (u t) (sym found.2) ∙ same t found.0 h found.1 ∙ ap (v t) found.2;
 }

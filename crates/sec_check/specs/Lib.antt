@@ -1,3 +1,4 @@
+pub mod FlatModel
 pub mod Outcome
 pub mod Renaming
 pub mod Report

@@ -17,4 +17,6 @@ pub record IsRenaming {P : Type 0} (d : Circuit P) (net : Circuit ℕ) (size : �
   pub outputs : map (moved_name origin) net.outputs ≡ d.outputs
   pub equations : map (moved origin) net.equations ≡ d.equations
   pub below : All (IsBelow size) net.equations
+  pub inputs_below : All (λ (i : Named ℕ). i.place < size) net.inputs
+  pub outputs_below : All (λ (o : Named ℕ). o.place < size) net.outputs
   pub back : (s : ℕ) → s < size → number (origin s) ≡ s
