@@ -7,6 +7,7 @@ pub mod Events
 pub mod Examples
 pub mod Inputs
 pub mod Joined
+pub mod LawProofs
 pub mod Lists
 pub mod Loads
 pub mod Marks

@@ -9,6 +9,7 @@ pub mod Fits
 pub mod Flattened
 pub mod Frame
 pub mod Interface
+pub mod Laws
 pub mod Names
 pub mod Net
 pub mod Query
