@@ -12,6 +12,7 @@ pub mod Lists
 pub mod Loads
 pub mod Marks
 pub mod NetLaws
+pub mod NetTest
 pub mod NetTrees
 pub mod Numbers
 pub mod OneTree
