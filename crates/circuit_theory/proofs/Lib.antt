@@ -3,8 +3,8 @@ pub mod BlockExamples
 pub mod ClassEvents
 pub mod CutLaws
 pub mod Cycles
+pub mod EventExamples
 pub mod Events
-pub mod Examples
 pub mod Inputs
 pub mod Joined
 pub mod LawProofs
@@ -18,8 +18,9 @@ pub mod Numbers
 pub mod OneTree
 pub mod Onward
 pub mod Parted
-pub mod PutExample
+pub mod PlainExamples
 pub mod SameMarks
+pub mod Samples
 pub mod Shift
 pub mod Sums
 pub mod TreeDepth

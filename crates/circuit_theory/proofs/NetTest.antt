@@ -1,14 +1,14 @@
 -- A test that a small circuit is a flat net, so that it is shown of a sample by computing.
-use Rattle.std.proofs.Common.{◌≡◌, ◌≢◌, ℕ, zero, suc, ◌+◌, ◌<◌, ◌≤◌, Bool, true, false, cond, List, [], ◌∷◌, ◌++◌, length, map, refl, sym, ◌∙◌, ap, subst, arith, inl, inr, Some, slice_get}
+use Rattle.std.proofs.Common.{◌≡◌, ◌≢◌, ℕ, zero, suc, ◌+◌, ◌<◌, Bool, true, false, List, [], ◌∷◌, ◌++◌, length, map, refl, sym, ◌∙◌, ap, subst, arith, inl, inr, Some, slice_get}
 use Rattle.std.specs.Prelude.{◌⊎◌, ◌&&◌, ◌||◌, ◌==◌, not, nat_lt}
-use Rattle.std.specs.List.{All, AllPairs, Contains, list_any, list_all}
+use Rattle.std.specs.List.{All, AllPairs, Contains}
 use Rattle.std.proofs.lemmas.List.Elements.{All-nil, All-cons, Contains-append_cases}
 use Rattle.std.proofs.lemmas.List.Kept.{AllPairs-cons}
 use Rattle.std.specs.Prelude.{slice_index_or}
 use Rattle.std.proofs.lemmas.Option.{slice_get-get_or}
-use Rattle.circuit_theory.specs.Circuit.{Circuit, Equation, Gate, Latch, Port, Named, IsInput, IsSingleDriven, out_of}
+use Rattle.circuit_theory.specs.Circuit.{Circuit, Equation, Gate, Latch, Port, Named, IsInput, out_of}
 use Rattle.circuit_theory.specs.Net.{IsAbove, IsWithin, IsDriven, IsNet}
-use Rattle.circuit_theory.proofs.Lists.{Contains-head, Contains-tail, Contains-cases, Contains-map_from, All-from_each, at_of, of_at}
+use Rattle.circuit_theory.proofs.Lists.{Contains-head, Contains-tail, Contains-cases, Contains-map_from, All-from_each, at_of}
 use Rattle.circuit_theory.proofs.Inputs.{test_same, test_refl}
 use Rattle.circuit_theory.proofs.Numbers.{distinct_at, slice_get-map}
 
@@ -73,7 +73,7 @@ number_among-sound (m ∷ ms) n h = go (m == n) refl (λ k. number_among-sound m
     go true e later = subst (Contains (m ∷ ms)) (test_same m n e) (Contains-head m ms)
     go false e later = Contains-tail m n ms (later (sym (ap (λ b. b || number_among ms n) e) ∙ h))
 
-numbers_distinct-sound : (ns : List ℕ) → numbers_distinct ns ≡ true → AllPairs (λ m n. m ≢ n) ns
+pub numbers_distinct-sound : (ns : List ℕ) → numbers_distinct ns ≡ true → AllPairs (λ m n. m ≢ n) ns
 numbers_distinct-sound [] h = λ i j d l k. absurd (omega arith)
 numbers_distinct-sound (n ∷ ns) h =
     let parts = both (not (number_among ns n)) (numbers_distinct ns) h in
