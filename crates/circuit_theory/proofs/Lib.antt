@@ -1,5 +1,6 @@
 pub mod Agreement
 pub mod BlockExamples
+pub mod CellLaws
 pub mod ClassEvents
 pub mod CutLaws
 pub mod Cycles

@@ -1,5 +1,6 @@
 pub mod Agree
 pub mod Blocks
+pub mod Cells
 pub mod Circuit
 pub mod Classes
 pub mod Cone
