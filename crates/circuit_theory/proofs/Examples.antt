@@ -10,7 +10,7 @@ use Rattle.circuit_theory.specs.declared.Mode.TheVariants.{Plain}
 use Rattle.circuit_theory.specs.Agree.{Agree, IsPair, AreAlike}
 use Rattle.std.proofs.Common.{add-one, ◌+◌}
 use Rattle.std.proofs.lemmas.List.Elements.{All-from_recursion}
-use Rattle.circuit_theory.proofs.Onward.{Contains-cases}
+use Rattle.circuit_theory.proofs.Lists.{Contains-cases}
 
 -- a multiplexer: the first input chooses the second or the third
 abbrev pub mux : Cover
@@ -144,4 +144,4 @@ one_and_two_disagree agree = wrong (agree 3 one_run two_run alike 2 1 2 (omega a
     right_mark : Marked two NoneEnabled two_run 2 2
     right_mark =
         Marked.plain {name = codes "y"} {next = 1} (1, omega arith, refl) (λ e. e)
-            (Marked.plain {name = codes "p"} {next = 0} (0, omega arith, refl) (λ e. e) (Marked.input (codes "a", (0, omega arith, refl))))
+        (Marked.plain {name = codes "p"} {next = 0} (0, omega arith, refl) (λ e. e) (Marked.input (codes "a", (0, omega arith, refl))))

@@ -5,11 +5,15 @@ pub mod Classes
 pub mod Cone
 pub mod Cover
 pub mod Depth
+pub mod Fits
+pub mod Flattened
 pub mod Frame
 pub mod Interface
+pub mod Names
+pub mod Net
 pub mod Query
 pub mod Replay
 pub mod Run
+pub mod Sequence
 pub mod Sizes
 pub mod Tree
-pub mod Mended

@@ -1,4 +1,5 @@
--- The unfolding of a signal as a plain tree, and its value.
+-- The unfolding of a signal as a plain tree, and its value. In the plain form this is the clocked Boolean function of
+-- Ranjan, Singhal, Somenzi and Brayton (DATE 1999).
 use Rattle.std.specs.Prelude.{◌≡◌, ℕ, suc, max, ◌⊎◌, Bool, List, [], ◌∷◌}
 use Rattle.std.specs.List.{Contains}
 use Rattle.circuit_theory.specs.Cover.{Cover, cover_value}

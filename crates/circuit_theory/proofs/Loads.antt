@@ -1,12 +1,11 @@
 -- Loading as "there are values" is loading as "for all values".
-use Rattle.std.proofs.Common.{◌≡◌, ◌≢◌, ℕ, Bool, true, false, List, refl, sym, ◌∙◌}
+use Rattle.std.proofs.Common.{◌≡◌, ◌≢◌, ℕ, Bool, true, false, List, ◌∙◌}
 use Rattle.std.specs.Prelude.{◌⊎◌}
 use Rattle.circuit_theory.specs.Circuit.{Circuit, IsLatch, Meets}
 use Rattle.circuit_theory.specs.Run.{ExtendsWith, Loads, CanPut, IsDetermined}
 use Rattle.circuit_theory.proofs.Events.{put_unique}
 
 module _ {P : Type 0} (c : Circuit P) (same : (p q : P) → (p ≡ q) ⊎ (p ≢ q)) (can_put : CanPut c) (name : List ℕ) (u next : P) (latch : IsLatch c name u next) (det : IsDetermined c next) (x : P → Bool) where
-
   pub all_load : Loads c x u next → (low high : P → Bool) → ExtendsWith c u false x low → ExtendsWith c u true x high → low next ≡ high next
   all_load loads low high l h = put_unique c same u false x low loads.low l loads.low_is det ∙ (loads.same ∙ put_unique c same u true x loads.high high loads.high_is h det)
 

@@ -1,12 +1,11 @@
--- Two circuits of one latch that reads one shared input.
+-- Two circuits of one latch that reads one shared input: both latches are one inductive block.
 use Rattle.std.proofs.Common.{◌≡◌, ◌≢◌, ℕ, zero, suc, Bool, true, false, List, [], ◌∷◌, refl, sym, ◌∙◌, ap, subst, arith, inl, inr}
 use Rattle.std.specs.Prelude.{◌⊎◌, codes}
 use Rattle.std.specs.List.{Contains}
-use Rattle.std.proofs.lemmas.List.Elements.{All-from_recursion}
-use Rattle.circuit_theory.specs.Circuit.{Circuit, Equation, Latch, Named, IsLatch, Holds, Meets, out_of}
+use Rattle.circuit_theory.specs.Circuit.{Circuit, Equation, Latch, IsLatch, Meets, out_of}
 use Rattle.circuit_theory.specs.Classes.{Either, Left, Right, joined}
 use Rattle.circuit_theory.specs.Blocks.{IsInductive, IsConstantOn}
-use Rattle.circuit_theory.proofs.Onward.{Contains-cases}
+use Rattle.circuit_theory.proofs.Lists.{Contains-cases}
 
 abbrev pub started : Circuit ℕ
 started = record {

@@ -1,13 +1,13 @@
--- With latches alone, each can be put.
-use Rattle.std.proofs.Common.{◌≡◌, ◌≢◌, ℕ, zero, suc, Bool, true, false, List, [], ◌∷◌, refl, sym, ◌∙◌, ap, subst, arith, inl, inr}
+-- The multiplexer latch can be put to either bit: the premise of the event theorem can be met by a circuit with gates.
+use Rattle.std.proofs.Common.{◌≡◌, ◌≢◌, ℕ, zero, suc, Bool, true, List, [], ◌∷◌, refl, sym, ◌∙◌, ap, arith, inl, inr}
 use Rattle.std.specs.Prelude.{◌⊎◌, codes}
 use Rattle.std.specs.List.{Contains}
 use Rattle.std.proofs.lemmas.List.Elements.{All-from_recursion}
 use Rattle.circuit_theory.specs.Cover.{Cover, cover_value}
-use Rattle.circuit_theory.specs.Circuit.{Circuit, Equation, Gate, Latch, Named, IsInput, IsLatch, IsSource, Holds, Meets, out_of}
-use Rattle.circuit_theory.specs.Run.{ExtendsWith, CanPut}
+use Rattle.circuit_theory.specs.Circuit.{Equation, Gate, Latch, Named, IsInput, IsLatch, IsSource, Holds, out_of}
+use Rattle.circuit_theory.specs.Run.{CanPut}
 use Rattle.circuit_theory.proofs.Examples.{held, mux}
-use Rattle.circuit_theory.proofs.Onward.{Contains-cases}
+use Rattle.circuit_theory.proofs.Lists.{Contains-cases}
 
 abbrev buffer : Cover
 buffer = record { width = 1; rows = codes "1" ∷ []; on = true }
@@ -68,11 +68,14 @@ input_says p h = go (Contains-cases e_input (record { name = h.0; place = p }) (
 
 pub held_can_put : CanPut held
 unfolding cover_value
-held_can_put x name u next bit latch meets = (put_value x bit, record {
-  meets = All-from_recursion (Holds (put_value x bit)) held.equations (refl, (tt, (refl, tt)));
-  sources = sources;
-  put = ap (put_value x bit) (latch_says name u next latch);
-})
+held_can_put x name u next bit latch meets = (
+  put_value x bit,
+  record {
+    meets = All-from_recursion (Holds (put_value x bit)) held.equations (refl, (tt, (refl, tt)));
+    sources = sources;
+    put = ap (put_value x bit) (latch_says name u next latch);
+  },
+)
   where
     sources : (p : ℕ) → IsSource held p → p ≢ u → put_value x bit p ≡ x p
     sources p (inl i) ne = go (input_says p i)
