@@ -1,5 +1,6 @@
 pub mod Agree
 pub mod Blocks
+pub mod Cells
 pub mod Circuit
 pub mod Classes
 pub mod Cone
@@ -9,6 +10,7 @@ pub mod Fits
 pub mod Flattened
 pub mod Frame
 pub mod Interface
+pub mod Laws
 pub mod Names
 pub mod Net
 pub mod Places
@@ -18,3 +20,4 @@ pub mod Run
 pub mod Sequence
 pub mod Sizes
 pub mod Tree
+pub mod Places

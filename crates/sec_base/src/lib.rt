@@ -13,6 +13,9 @@ mod sinks;
 mod tables;
 mod texts;
 
+#[cfg(test)]
+mod tests;
+
 pub use basics::{Edge, Failed, Init, Orders, PairAnswer, Tag};
 pub use circuit_theory::Side;
 pub use covers::Cover;
