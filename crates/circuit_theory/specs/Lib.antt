@@ -20,4 +20,3 @@ pub mod Run
 pub mod Sequence
 pub mod Sizes
 pub mod Tree
-pub mod Places

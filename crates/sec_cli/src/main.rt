@@ -3,6 +3,7 @@
 
 mod finding;
 mod status;
+mod words;
 mod writing;
 
 use std::rt::HostRuntime;
