@@ -18,7 +18,7 @@ mod tests;
 
 pub use basics::{Edge, Failed, Init, Orders, PairAnswer, Tag};
 pub use circuit_theory::Side;
-pub use covers::Cover;
+pub use covers::{Cover, place_matches};
 pub use fetching::{FetchError, fetch};
 pub use file_path::FilePath;
 pub use list::{BitRows, Bits, Cubes, Duplicate, FileText, Ids, NoMemory, Seq, Text, Word, Words};
