@@ -1,4 +1,6 @@
+pub mod Compared
 pub mod FlatModel
+pub mod Loading
 pub mod Outcome
 pub mod Renaming
 pub mod Report

@@ -1,9 +1,13 @@
 //! Loading circuits, comparing them, and the report of a comparison.
 #![tactic(auto)]
 
+mod comparing;
+mod loading;
 mod outcome;
 mod writing;
 
 pub use circuit_theory::Mode;
+pub use comparing::CompareError;
+pub use loading::{FlatError, LoadError};
 pub use outcome::{Outcome, PairName, PairResult, PairResults, Settings, Stimulus, Verdict, Witness};
 pub use writing::report;

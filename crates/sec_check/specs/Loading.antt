@@ -1,0 +1,40 @@
+-- What a text loads as, and why it is refused.
+use Rattle.std.specs.Prelude.{◌≡◌, ℕ, ◌<◌, ◌≤◌, Bool, false, List, length, Option, Some, None, Result, Ok, Err, IfSome}
+use Rattle.circuit_theory.specs.Circuit.{Circuit}
+use Rattle.circuit_theory.specs.Flattened.{IsFlattened, Follows}
+use Rattle.circuit_theory.specs.Places.{IsPlace}
+use Rattle.blif_read.specs.declared.error.ReadKind.{ReadKind}
+use Rattle.blif_read.specs.Design.{Place, top, circuit_of_design, IsClock}
+use Rattle.blif_read.specs.Reading.{first_fault, spelled}
+use Rattle.flat_net.specs.View.{NetView, circuit_of}
+use Rattle.sec_check.specs.FlatModel.{is_flat}
+
+-- the place's value is the clock's
+abbrev pub IsClocked : Circuit Place → Option (List ℕ) → Place → Type 0
+IsClocked d clock p = (c : List ℕ) × (clock ≡ Some c) × Follows d p (top c)
+
+-- the text spells this circuit: it has no faulty line, and its clock net is this one
+pub record SpellsCircuit (text : List ℕ) (clock : Option (List ℕ)) (d : Circuit Place) : Type 0 where
+  pub accepted : first_fault text ≡ None
+  pub is_clock : IsClock (spelled text) clock
+  pub is_circuit : d ≡ circuit_of_design (spelled text) clock
+
+-- the text, of at most 16,777,216 bytes, spells a design whose runs are the net's
+pub record Loads (text : List ℕ) (net : NetView) : Type 0 where
+  pub short : length text ≤ 16777216
+  pub circuit : Circuit Place
+  pub origin : ℕ → Place
+  pub spells : SpellsCircuit text net.clock circuit
+  pub flattened : IsFlattened circuit (circuit_of net) (length net.drivers) (IsClocked circuit net.clock) (IsPlace circuit) origin
+
+-- the text is too long
+abbrev pub IsTooLong : List ℕ → Type 0
+IsTooLong text = 16777216 < length text
+
+-- the text, of at most 16,777,216 bytes, has its first faulty line here
+abbrev pub HasFault : List ℕ → ℕ → ReadKind → Type 0
+HasFault text line kind = (length text ≤ 16777216) × (first_fault text ≡ Some (record { line = line; kind = kind }))
+
+-- the text, of at most 16,777,216 bytes, spells a design that isn't flattened yet
+abbrev pub IsUnflat : List ℕ → Type 0
+IsUnflat text = (length text ≤ 16777216) × (first_fault text ≡ None) × (is_flat (spelled text) ≡ false)
