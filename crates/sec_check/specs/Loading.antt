@@ -1,12 +1,19 @@
 -- What a text loads as, and why it is refused.
-use Rattle.std.specs.Prelude.{◌≡◌, ℕ, ◌<◌, ◌≤◌, Bool, false, List, length, Option, Some, None, Result, Ok, Err, IfSome}
+use Rattle.std.specs.Prelude.{◌≡◌, ℕ, ◌+◌, ◌^◌, ◌<◌, ◌≤◌, Bool, false, List, map, length, Option, Some, None, Result, Ok, Err, IfSome}
 use Rattle.circuit_theory.specs.Circuit.{Circuit}
 use Rattle.circuit_theory.specs.Flattened.{IsFlattened, Follows}
 use Rattle.circuit_theory.specs.Places.{IsPlace}
 use Rattle.blif_read.specs.declared.error.ReadKind.{ReadKind}
 use Rattle.blif_read.specs.Design.{Place, top, circuit_of_design, IsClock}
 use Rattle.blif_read.specs.Reading.{first_fault, spelled}
+use Rattle.sec_base.specs.Table.{AreDistinct}
+use Rattle.flat_net.specs.declared.parts.Port.{Port}
 use Rattle.flat_net.specs.View.{NetView, circuit_of}
+use Rattle.sec_base.specs.declared.fetching.FetchError.TheVariants as fetch_error
+use Rattle.blif_read.specs.declared.error.ReadError.TheVariants as read_error
+use Rattle.sec_check.specs.declared.loading.FlatError.TheVariants as flat_error
+use Rattle.sec_check.specs.declared.loading.LoadError.{LoadError}
+use Rattle.sec_check.specs.declared.loading.LoadError.TheVariants as load_error
 use Rattle.sec_check.specs.FlatModel.{is_flat}
 
 -- the place's value is the clock's
@@ -18,6 +25,11 @@ pub record SpellsCircuit (text : List ℕ) (clock : Option (List ℕ)) (d : Circ
   pub accepted : first_fault text ≡ None
   pub is_clock : IsClock (spelled text) clock
   pub is_circuit : d ≡ circuit_of_design (spelled text) clock
+
+-- no output name stands twice, and there are few ports and latches: what a comparison asks of each net
+pub record IsComparable (net : NetView) : Type 0 where
+  pub distinct : AreDistinct (map (λ (p : Port). p.name) net.outputs)
+  pub few : length net.inputs + length net.outputs + length net.latches ≤ 2 ^ 27
 
 -- the text, of at most 16,777,216 bytes, spells a design whose runs are the net's
 pub record Loads (text : List ℕ) (net : NetView) : Type 0 where
@@ -38,3 +50,13 @@ HasFault text line kind = (length text ≤ 16777216) × (first_fault text ≡ So
 -- the text, of at most 16,777,216 bytes, spells a design that isn't flattened yet
 abbrev pub IsUnflat : List ℕ → Type 0
 IsUnflat text = (length text ≤ 16777216) × (first_fault text ≡ None) × (is_flat (spelled text) ≡ false)
+
+-- what is true where the text of a path isn't loaded: `held` is what is held there, `rose` that its count of faults rose
+abbrev pub LoadFails : Option (List ℕ) → Type 0 → LoadError → Type 0
+LoadFails held rose (load_error.Fetch fetch_error.Failed) = rose
+LoadFails held rose (load_error.Fetch fetch_error.TooLong) = IfSome held IsTooLong
+LoadFails held rose (load_error.Fetch fetch_error.NoMemory) = Unit {0}
+LoadFails held rose (load_error.Read (read_error.At line kind)) = IfSome held (λ text. HasFault text line kind)
+LoadFails held rose (load_error.Read read_error.NoMemory) = Unit {0}
+LoadFails held rose (load_error.Flat flat_error.NotYet) = IfSome held IsUnflat
+LoadFails held rose (load_error.Flat flat_error.NoMemory) = Unit {0}

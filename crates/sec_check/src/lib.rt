@@ -7,7 +7,7 @@ mod outcome;
 mod writing;
 
 pub use circuit_theory::Mode;
-pub use comparing::CompareError;
-pub use loading::{FlatError, LoadError};
+pub use comparing::{CompareError, compare};
+pub use loading::{FlatError, LoadError, load};
 pub use outcome::{Outcome, PairName, PairResult, PairResults, Settings, Stimulus, Verdict, Witness};
 pub use writing::report;

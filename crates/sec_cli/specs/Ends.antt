@@ -1,0 +1,53 @@
+-- How the parts of a run end.
+use Rattle.std.specs.Prelude.{◌≡◌, ℕ, List, Option, Result, Ok, Err}
+use Rattle.circuit_theory.specs.declared.Side.{Side}
+use Rattle.sec_base.specs.declared.fetching.FetchError.TheVariants as fetch_error
+use Rattle.sec_base.specs.Outside.{Takes, TakesFront}
+use Rattle.blif_read.specs.declared.error.ReadError.TheVariants as read_error
+use Rattle.sec_check.specs.declared.outcome.Outcome.{Outcome}
+use Rattle.sec_check.specs.declared.comparing.CompareError.{CompareError}
+use Rattle.sec_check.specs.declared.comparing.CompareError.TheVariants as compare_error
+use Rattle.sec_check.specs.declared.loading.FlatError.TheVariants as flat_error
+use Rattle.sec_check.specs.declared.loading.LoadError.{LoadError}
+use Rattle.sec_check.specs.declared.loading.LoadError.TheVariants as load_error
+use Rattle.sec_cli.specs.declared.finding.Refusal.TheVariants as refusal
+use Rattle.sec_cli.specs.declared.finding.Finding.{Finding}
+use Rattle.sec_cli.specs.declared.finding.Finding.TheVariants as finding
+use Rattle.sec_cli.specs.declared.finding.Stop.{Stop}
+use Rattle.sec_cli.specs.declared.finding.Stop.TheVariants as stop
+use Rattle.sec_cli.specs.declared.status.StatusName.{StatusName}
+use Rattle.sec_cli.specs.declared.status.StatusName.TheVariants as status
+use Rattle.sec_cli.specs.Answer.{Held, IsFinding, ReadFailed, status_of}
+use Rattle.sec_cli.specs.Job.{Paths}
+use Rattle.sec_cli.specs.Lines.{finding_text}
+
+-- what is found where the file of a side isn't loaded
+abbrev pub load_end : Side → LoadError → Result Finding Stop
+load_end side (load_error.Fetch fetch_error.Failed) = Err stop.ReadFault
+load_end side (load_error.Fetch fetch_error.TooLong) = Ok (finding.Refused (refusal.TooLong side))
+load_end side (load_error.Fetch fetch_error.NoMemory) = Err stop.NoMemory
+load_end side (load_error.Read (read_error.At line kind)) = Ok (finding.Refused (refusal.Text side line kind))
+load_end side (load_error.Read read_error.NoMemory) = Err stop.NoMemory
+load_end side (load_error.Flat flat_error.NotYet) = Ok (finding.Refused (refusal.Form side))
+load_end side (load_error.Flat flat_error.NoMemory) = Err stop.NoMemory
+
+-- what is found by a comparison
+abbrev pub compare_end : Result Outcome CompareError → Result Finding Stop
+compare_end (Ok outcome) = Ok (finding.Checked outcome)
+compare_end (Err (compare_error.Interface name)) = Ok (finding.Refused (refusal.Interface name))
+compare_end (Err (compare_error.NotYet side)) = Ok (finding.Refused (refusal.Latches side))
+compare_end (Err (compare_error.Wide inputs)) = Ok (finding.Refused (refusal.Wide inputs))
+compare_end (Err compare_error.NoMemory) = Err stop.NoMemory
+
+-- the work on the files ends with a finding that is right, or by a read that failed, or at want of memory
+abbrev pub Found : Held → (List ℕ → ℕ) → (List ℕ → ℕ) → Option Paths → Result Finding Stop → Type 0
+Found held before now job (Ok f) = IsFinding held job f
+Found held before now job (Err stop.ReadFault) = ReadFailed held before now job
+Found held before now job (Err stop.NoMemory) = Unit {0}
+
+-- The report of a finding is taken whole, with the finding's status; or a front of it at a write fault; or nothing at want of memory.
+abbrev pub IsWritten : Option (List ℕ) → Option (List ℕ) → Finding → StatusName → Type 0
+IsWritten before now f status.ReadFault = ⊥
+IsWritten before now f status.NoMemory = now ≡ before
+IsWritten before now f status.WriteFault = TakesFront before now (finding_text f)
+IsWritten before now f name = (status_of f ≡ name) × Takes before now (finding_text f)
