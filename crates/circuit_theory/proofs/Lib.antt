@@ -18,6 +18,7 @@ pub mod NetTrees
 pub mod Numbers
 pub mod OneTree
 pub mod Onward
+pub mod Pairs
 pub mod Parted
 pub mod PlainExamples
 pub mod SameMarks

@@ -88,14 +88,13 @@ module _ {P : Type 0} (c : Circuit P) (enabled : P → Type 0) (run : ℕ → P 
 
 -- The marks of a cycle from those of the cycle before, for places that an equation drives.
 module _ {P : Type 0} (c : Circuit P) (enabled : P → Type 0) (run : ℕ → P → Bool) (single : IsSingleDriven c) where
-
   -- what a mark says at the equation that drives the place, rule by rule
   abbrev pub MarkStep : ℕ → Equation P → Type 0
   MarkStep t (Gate out fanins cover) = (p : P) → Contains fanins p → Marked c enabled run t p
   MarkStep zero (Latch name out next) = ⊥
   MarkStep (suc t) (Latch name out next) =
       ((enabled out → ⊥) × Marked c enabled run t next)
-          ⊎ (enabled out × ((u : P) → InCone c next u → u ≢ out → Marked c enabled run t u) × (Loads c (run t) out next ⊎ Marked c enabled run t out))
+      ⊎ (enabled out × ((u : P) → InCone c next u → u ≢ out → Marked c enabled run t u) × (Loads c (run t) out next ⊎ Marked c enabled run t out))
   MarkStep t (Port out from) = Marked c enabled run t from
 
   pub mark_step : {t : ℕ} {p : P} → Marked c enabled run t p → (e : Equation P) → Contains c.equations e → out_of e ≡ p → MarkStep t e
