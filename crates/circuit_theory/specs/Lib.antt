@@ -19,3 +19,4 @@ pub mod Run
 pub mod Sequence
 pub mod Sizes
 pub mod Tree
+pub mod Places

@@ -1,0 +1,6 @@
+pub mod Design
+pub mod Fault
+pub mod Heads
+pub mod Reading
+pub mod Rows
+pub mod Spelled

@@ -1,0 +1,5 @@
+pub mod Deriving
+pub mod Members
+pub mod Merges
+pub mod OneVerdict
+pub mod Sound
