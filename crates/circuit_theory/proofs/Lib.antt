@@ -4,6 +4,7 @@ pub mod CellLaws
 pub mod ClassEvents
 pub mod CutLaws
 pub mod Cycles
+pub mod Designs
 pub mod EventExamples
 pub mod Events
 pub mod Inputs

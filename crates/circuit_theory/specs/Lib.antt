@@ -13,10 +13,10 @@ pub mod Interface
 pub mod Laws
 pub mod Names
 pub mod Net
+pub mod Places
 pub mod Query
 pub mod Replay
 pub mod Run
 pub mod Sequence
 pub mod Sizes
 pub mod Tree
-pub mod Places
