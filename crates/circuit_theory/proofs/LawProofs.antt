@@ -8,10 +8,10 @@ use Rattle.circuit_theory.specs.Net.{IsWithin, IsNet}
 use Rattle.circuit_theory.specs.Depth.{ChainFrom}
 use Rattle.circuit_theory.specs.Tree.{Tree, Unfolds}
 use Rattle.circuit_theory.specs.Agree.{EnabledIn, IsSettled}
-use Rattle.circuit_theory.specs.Laws.{ValuesAreOne, RunsExist, MarksStay, MarksAreTheSame, SettledFromDepth, TreesAreOne, GatesHaveTrees, TreeIsRun, EqualFunctionsAgree, ExposedFunctionsAgree, WitnessMakesDiffer, WeightIsOne}
+use Rattle.circuit_theory.specs.Laws.{ValuesAreOne, RunsExist, MarksStay, MarksAreTheSame, SettledFromDepth, TreesAreOne, GatesHaveTrees, TreeIsRun, EqualFunctionsAgree, ExposedFunctionsAgree, WitnessMakesDiffer, WeightIsOne, PairsAreListed, NumbersAreShared}
 use Rattle.circuit_theory.proofs.Lists.{at_of}
 use Rattle.circuit_theory.proofs.Values.{values_unique, tree_is_run as tree_value_is_run}
-use Rattle.circuit_theory.proofs.Numbers.{distinct_at, one_number}
+use Rattle.circuit_theory.proofs.Numbers.{distinct_at, one_number, numbers_are}
 use Rattle.circuit_theory.proofs.Marks.{marks_stay as marks_stay_by, settled_depth, depth_settled}
 use Rattle.circuit_theory.proofs.SameMarks.{settled_same}
 use Rattle.circuit_theory.proofs.Sums.{same_or_not}
@@ -21,6 +21,7 @@ use Rattle.circuit_theory.proofs.OneTree.{one_tree}
 use Rattle.circuit_theory.proofs.TreeDepth.{tree_depth, chain_latch}
 use Rattle.circuit_theory.proofs.Agreement.{equal_functions_agree as plain_functions_agree}
 use Rattle.circuit_theory.proofs.CutLaws.{exposed_functions_agree as cut_functions_agree, exposed_functions_agree_onward as cut_functions_agree_onward}
+use Rattle.circuit_theory.proofs.Pairs.{pairs_are_listed as listed_pairs}
 use Rattle.circuit_theory.proofs.Windows.{witness_makes_differ as witness_differs}
 use Rattle.circuit_theory.proofs.Weights.{one_weight, over_is_above, one_cone_weight, cone_over_is_above}
 
@@ -143,3 +144,9 @@ weight_is_one c single = (
   λ outputs v w cap h. (λ k. one_weight c single outputs v w h k, λ over. over_is_above c single outputs cap v over h),
   λ next v w cap h. (λ k. one_cone_weight c single next v w h k, λ over. cone_over_is_above c single next cap v over h),
 )
+
+pub pairs_are_listed : PairsAreListed
+pairs_are_listed a b names sa sb na nb once p q = listed_pairs names a b sa sb na nb once p q
+
+pub numbers_are_shared : NumbersAreShared
+numbers_are_shared a b shared left right l r = numbers_are a b shared left right l r

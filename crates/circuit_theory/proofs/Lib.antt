@@ -4,6 +4,7 @@ pub mod CellLaws
 pub mod ClassEvents
 pub mod CutLaws
 pub mod Cycles
+pub mod Designs
 pub mod EventExamples
 pub mod Events
 pub mod Inputs
@@ -18,6 +19,7 @@ pub mod NetTrees
 pub mod Numbers
 pub mod OneTree
 pub mod Onward
+pub mod Pairs
 pub mod Parted
 pub mod PlainExamples
 pub mod SameMarks

@@ -1,5 +1,6 @@
 -- What holds of every flat net. Each law is the contract of a function of this crate.
-use Rattle.std.specs.Prelude.{◌≡◌, ℕ, ◌-◌, ◌<◌, ◌≤◌, ◌↔◌, Bool, List, [], length}
+use Rattle.std.specs.Prelude.{◌≡◌, ℕ, ◌-◌, ◌<◌, ◌≤◌, ◌↔◌, Bool, List, [], length, map}
+use Rattle.std.specs.List.{Contains}
 use Rattle.circuit_theory.specs.declared.Mode.{Mode}
 use Rattle.circuit_theory.specs.declared.Mode.TheVariants.{Plain}
 use Rattle.circuit_theory.specs.Circuit.{Circuit, IsInput, IsLatch, IsSingleDriven}
@@ -7,7 +8,8 @@ use Rattle.circuit_theory.specs.Run.{IsRun, EqualInputs, Extends, CanPut, NoneEn
 use Rattle.circuit_theory.specs.Net.{IsNet, HasDistinctNames}
 use Rattle.circuit_theory.specs.Depth.{IsDepth}
 use Rattle.circuit_theory.specs.Tree.{Tree, Unfolds, IsInputNumber, AreNumbered, HaveEqualFunctions, tree_value}
-use Rattle.circuit_theory.specs.Agree.{cut, IsPair, IsSettled, Agree, AgreeOnward, IsMinimalCut}
+use Rattle.circuit_theory.specs.Agree.{cut, IsPair, pairs_of, IsSettled, Agree, AgreeOnward, IsMinimalCut}
+use Rattle.circuit_theory.specs.Interface.{AreNumbersOf}
 use Rattle.circuit_theory.specs.Sizes.{IsWeight, IsOver, IsConeWeight, IsConeOver}
 use Rattle.circuit_theory.specs.Fits.{IsWitness, MakesDiffer}
 
@@ -75,3 +77,14 @@ abbrev pub WeightIsOne : Type 0
 WeightIsOne = (c : Circuit ℕ) → IsSingleDriven c →
     ((outputs : List ℕ) (v w cap : ℕ) → IsWeight c outputs v → (IsWeight c outputs w → v ≡ w) × (IsOver c outputs cap → cap < v))
     × ((next v w cap : ℕ) → IsConeWeight c next v → (IsConeWeight c next w → v ≡ w) × (IsConeOver c next cap → cap < v))
+
+-- The list of pairs holds exactly the pairs that are compared, where names tell signals apart and no output name of B stands twice.
+abbrev pub PairsAreListed : Type 0
+PairsAreListed = (a b : Circuit ℕ) (names : List (List ℕ)) → IsSingleDriven a → IsSingleDriven b → HasDistinctNames a → HasDistinctNames b →
+    ((name : List ℕ) (q r : ℕ) → Contains b.outputs (record { name = name; place = q }) → Contains b.outputs (record { name = name; place = r }) → q ≡ r) →
+    (p q : ℕ) → IsPair names a b p q ↔ Contains (pairs_of names a b) (record { left = p; right = q })
+
+-- Where shared inputs have one number and all others numbers of their own, a number that both circuits have is that of one name.
+abbrev pub NumbersAreShared : Type 0
+NumbersAreShared = (a b : Circuit ℕ) (shared : List (List ℕ)) (left right : List ℕ) →
+    AreNumbersOf (map (λ i. i.name) a.inputs) shared left right → AreNumbersOf (map (λ i. i.name) b.inputs) shared right left → AreNumbered a b left right

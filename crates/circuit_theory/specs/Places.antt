@@ -2,7 +2,7 @@
 use Rattle.std.specs.Prelude.{◌≡◌, ℕ, List}
 use Rattle.std.specs.List.{Contains}
 use Rattle.circuit_theory.specs.Cover.{Cover}
-use Rattle.circuit_theory.specs.Circuit.{Circuit, Equation, Gate, Port, Named, IsInput, IsLatch, out_of}
+use Rattle.circuit_theory.specs.Circuit.{Circuit, Equation, Gate, Port, IsInput, IsLatch, out_of}
 
 -- A place stands in an equation, or is an input or an output.
 pub data IsPlace {P : Type 0} (c : Circuit P) (p : P) : Type 0 where

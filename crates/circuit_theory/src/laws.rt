@@ -1,7 +1,7 @@
 //! The laws of the definitions. None of these functions does anything: each contract is a law that is proved for every flat net,
 //! by the same definitions that the contracts of the working calls cite.
 
-ghost use Rattle.circuit_theory.specs.Laws.{ValuesAreOne, RunsExist, MarksStay, MarksAreTheSame, SettledFromDepth, TreesAreOne, GatesHaveTrees, TreeIsRun, EqualFunctionsAgree, ExposedFunctionsAgree, WitnessMakesDiffer, WeightIsOne};
+ghost use Rattle.circuit_theory.specs.Laws.{ValuesAreOne, RunsExist, MarksStay, MarksAreTheSame, SettledFromDepth, TreesAreOne, GatesHaveTrees, TreeIsRun, EqualFunctionsAgree, ExposedFunctionsAgree, WitnessMakesDiffer, WeightIsOne, PairsAreListed, NumbersAreShared};
 
 /// In a flat net the values of inputs and latches determine one value for each signal, and a latch can be put to either bit.
 pub fn values_are_one()
@@ -63,4 +63,15 @@ pub fn witness_makes_differ()
 /// The weight of an unfolding is one number, and where it is over a cap, the number is above the cap.
 pub fn weight_is_one()
     ensures { WeightIsOne }
+{}
+
+/// The list of pairs of a comparison holds exactly the pairs that are compared: outputs of one name, and what the two latches of an
+/// exposed name take over.
+pub fn pairs_are_listed()
+    ensures { PairsAreListed }
+{}
+
+/// The numbers that the interface gives to inputs are one on both sides only for inputs of one name.
+pub fn numbers_are_shared()
+    ensures { NumbersAreShared }
 {}
