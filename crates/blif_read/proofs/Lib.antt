@@ -1,0 +1,11 @@
+pub mod Behind
+pub mod Gate
+pub mod Pairs
+pub mod Tokens
+pub mod RowFacts
+pub mod Rowed
+pub mod Taken
+pub mod Goes
+pub mod Steps
+pub mod Bytes
+pub mod Loop

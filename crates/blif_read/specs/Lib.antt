@@ -4,3 +4,4 @@ pub mod Heads
 pub mod Reading
 pub mod Rows
 pub mod Spelled
+pub mod State

@@ -66,7 +66,6 @@ cut_single {P} names c single = record {
         no name l.0 (sym (ap (is_kept names) same) ∙ kept_test names c e h)
 
 module _ {P : Type 0} (c : Circuit P) (enabled : P → Type 0) (names : List (List ℕ)) (i : ℕ) (name : List ℕ) (at : slice_get names i ≡ Some name) where
-
   abbrev Without : P → P → Type 0
   Without u v = LatchPath c enabled (without names i) u v
 
@@ -98,9 +97,16 @@ module _ {P : Type 0} (c : Circuit P) (enabled : P → Type 0) (names : List (Li
       go (inl q) other = inl q
       go (inr m) (inl q) = inr (inl q)
       go (inr m) (inr o) = inr (inr (record {
-        name = e.name; next = e.next; latch = e.latch; kept = stays e.name m e.kept;
-        other_name = e.other_name; other_next = e.other_next; other = e.other; other_kept = stays e.other_name o e.other_kept;
-        cone = e.cone; no_self_edge = e.no_self_edge;
+        name = e.name;
+        next = e.next;
+        latch = e.latch;
+        kept = stays e.name m e.kept;
+        other_name = e.other_name;
+        other_next = e.other_next;
+        other = e.other;
+        other_kept = stays e.other_name o e.other_kept;
+        cone = e.cone;
+        no_self_edge = e.no_self_edge;
       }))
 
   abbrev Leads : P → P → Type 0
@@ -155,7 +161,6 @@ module _ {P : Type 0} (c : Circuit P) (enabled : P → Type 0) (names : List (Li
 -- settled in the circuits themselves, and that they agree onward.
 module _ {P Q : Type 0} (names : List (List ℕ)) (a : Circuit P) (b : Circuit Q) (sa : IsSingleDriven a) (sb : IsSingleDriven b) (na : HasDistinctNames a) (nb : HasDistinctNames b)
     (least : IsMinimalCut Plain a b names) where
-
   -- on which side the cycle lies that the name is needed for
   abbrev on_left : {A B : Type 0} → A ⊎ B → Bool
   on_left (inl x) = true
@@ -225,7 +230,6 @@ module _ {P Q : Type 0} (names : List (List ℕ)) (a : Circuit P) (b : Circuit Q
   module _ (one_input_name : (name name' : List ℕ) (p : P) → Contains a.inputs (record { name = name; place = p }) → Contains a.inputs (record { name = name'; place = p }) → name ≡ name')
       (oa ob : List ℕ) (numbered : AreNumbered (cut names a) (cut names b) oa ob)
       (equal : (p : P) (q : Q) → IsPair names a b p q → HaveEqualFunctions (cut names a) (cut names b) oa ob p q) where
-
     one_name : (name name' : List ℕ) (p : P) → Contains (cut names a).inputs (record { name = name; place = p }) → Contains (cut names a).inputs (record { name = name'; place = p }) → name ≡ name'
     one_name name name' p h k = go (cut_input names a name p h) (cut_input names a name' p k)
       where
@@ -246,10 +250,10 @@ module _ {P Q : Type 0} (names : List (List ℕ)) (a : Circuit P) (b : Circuit Q
     pub exposed_functions_agree : Agree Plain a b
     exposed_functions_agree =
         parted_functions_agree names a b oa ob numbered sa sb left_clear right_clear one_name never_left
-            (λ name u next latch e run t mark. never a sa na least.left_free name (left_cycle name e).1 u next latch run t mark)
-            (λ name v next h latch e run t mark. never b sb nb least.right_free name (right_cycle name h e) v next latch run t mark)
-            (λ name e. (left_cycle name e).0)
-            (λ p q pair. equal p q (wider pair))
+        (λ name u next latch e run t mark. never a sa na least.left_free name (left_cycle name e).1 u next latch run t mark)
+        (λ name v next h latch e run t mark. never b sb nb least.right_free name (right_cycle name h e) v next latch run t mark)
+        (λ name e. (left_cycle name e).0)
+        (λ p q pair. equal p q (wider pair))
       where
         wider : {p : P} {q : Q} → IsPair [] a b p q → IsPair names a b p q
         wider (IsPair.outputs l r) = IsPair.outputs l r

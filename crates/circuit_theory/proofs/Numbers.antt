@@ -134,7 +134,8 @@ numbers_are {P} {Q} a b shared left right l r = record {
     common p q i x y =
         let mine = name_at a x.0 i p left right l x.1 x.2 x.4 (of_at right y.0 i y.4) in
         let theirs = name_at b y.0 i q right left r y.1 y.2 y.4 (of_at left x.0 i x.4) in
-        let same : y.1.name ≡ x.1.name = some_is (sym theirs ∙ mine) in
-        (x.1.name,
-            subst (λ (z : P). Contains a.inputs (record { name = x.1.name; place = z })) x.3 (of_at a.inputs x.0 x.1 x.2),
-            subst (λ (z : Q). Contains b.inputs (record { name = x.1.name; place = z })) y.3 (subst (λ (z : List ℕ). Contains b.inputs (record { name = z; place = y.1.place })) same (of_at b.inputs y.0 y.1 y.2)))
+        let same : y.1.name ≡ x.1.name = some_is (sym theirs ∙ mine) in (
+          x.1.name,
+          subst (λ (z : P). Contains a.inputs (record { name = x.1.name; place = z })) x.3 (of_at a.inputs x.0 x.1 x.2),
+          subst (λ (z : Q). Contains b.inputs (record { name = x.1.name; place = z })) y.3 (subst (λ (z : List ℕ). Contains b.inputs (record { name = z; place = y.1.place })) same (of_at b.inputs y.0 y.1 y.2)),
+        )

@@ -13,15 +13,14 @@ pub values_by_cone : {P : Type 0} (c : Circuit P) (y z : P → Bool) → Meets c
 values_by_cone c y z my mz {p} (IsDetermined.source s) cone = cone p (s, Reaches.here)
 values_by_cone c y z my mz (IsDetermined.gate {fanins = fanins} {cover = cover} eq each) cone =
     All-contains (Holds y) c.equations _ my eq
-        ∙ (ap (cover_value cover) (map_same y z fanins (λ p h. values_by_cone c y z my mz (each p h) (λ u k. cone u (k.0, Reaches.there (Reads.by_gate eq h) k.1))))
-        ∙ sym (All-contains (Holds z) c.equations _ mz eq))
+    ∙ (ap (cover_value cover) (map_same y z fanins (λ p h. values_by_cone c y z my mz (each p h) (λ u k. cone u (k.0, Reaches.there (Reads.by_gate eq h) k.1))))
+    ∙ sym (All-contains (Holds z) c.equations _ mz eq))
 values_by_cone c y z my mz (IsDetermined.port eq from) cone =
     All-contains (Holds y) c.equations _ my eq
-        ∙ (values_by_cone c y z my mz from (λ u k. cone u (k.0, Reaches.there (Reads.by_port eq) k.1)) ∙ sym (All-contains (Holds z) c.equations _ mz eq))
+    ∙ (values_by_cone c y z my mz from (λ u k. cone u (k.0, Reaches.there (Reads.by_port eq) k.1)) ∙ sym (All-contains (Holds z) c.equations _ mz eq))
 
 module _ {P : Type 0} (c : Circuit P) (same : (p q : P) → (p ≡ q) ⊎ (p ≢ q)) (can_put : CanPut c) (det : (name : List ℕ) (u next : P) → IsLatch c name u next → IsDetermined c next)
     (enabled : P → Type 0) (n : ℕ) (r s : ℕ → P → Bool) (is_r : IsRun c n r) (is_s : IsRun c n s) (inputs : (t : ℕ) (p : P) → t < n → IsInput c p → r t p ≡ s t p) where
-
   -- with a latch put to a bit, and the others of its cone equal, what it takes over is one
   put_same : (t : ℕ) (name : List ℕ) (u next : P) → IsLatch c name u next → ((w : P) → InCone c next w → w ≢ u → r t w ≡ s t w) →
       (bit : Bool) (y z : P → Bool) → ExtendsWith c u bit (r t) y → ExtendsWith c u bit (s t) z → y next ≡ z next
@@ -54,10 +53,11 @@ module _ {P : Type 0} (c : Circuit P) (same : (p q : P) → (p ≡ q) ⊎ (p ≢
   -- what is settled in one run is settled in the other, and has one value
   pub settled_same : {t : ℕ} {p : P} → Marked c enabled r t p → t < n → Marked c enabled s t p × (r t p ≡ s t p)
   settled_same {t} {p} (Marked.input i) h = (Marked.input i, inputs t p h i)
-  settled_same {t} (Marked.gate {fanins = fanins} {cover = cover} eq each) h =
-      (Marked.gate eq (λ p k. (settled_same (each p k) h).0),
-          All-contains (Holds (r t)) c.equations _ (is_r.meets t h) eq
-              ∙ (ap (cover_value cover) (map_same (r t) (s t) fanins (λ p k. (settled_same (each p k) h).1)) ∙ sym (All-contains (Holds (s t)) c.equations _ (is_s.meets t h) eq)))
+  settled_same {t} (Marked.gate {fanins = fanins} {cover = cover} eq each) h = (
+    Marked.gate eq (λ p k. (settled_same (each p k) h).0),
+    All-contains (Holds (r t)) c.equations _ (is_r.meets t h) eq
+        ∙ (ap (cover_value cover) (map_same (r t) (s t) fanins (λ p k. (settled_same (each p k) h).1)) ∙ sym (All-contains (Holds (s t)) c.equations _ (is_s.meets t h) eq)),
+  )
   settled_same {t} (Marked.port eq from) h =
       let ih = settled_same from h in
       (Marked.port eq ih.0, All-contains (Holds (r t)) c.equations _ (is_r.meets t h) eq ∙ (ih.1 ∙ sym (All-contains (Holds (s t)) c.equations _ (is_s.meets t h) eq)))
@@ -70,9 +70,10 @@ module _ {P : Type 0} (c : Circuit P) (same : (p q : P) → (p ≡ q) ⊎ (p ≢
   settled_same (Marked.keeps {t = t} {name = name} {out = out} {next = next} latch en others mark) h =
       let own = settled_same mark (omega arith) in
       let next_is : r t next ≡ s t next = values_by_cone c (r t) (s t) (is_r.meets t (omega arith)) (is_s.meets t (omega arith)) (det name out next latch)
-          (at t out own.1 (λ w cone ne. (settled_same (others w cone ne) (omega arith)).1)) in
-      (Marked.keeps latch en (λ w cone ne. (settled_same (others w cone ne) (omega arith)).0) own.0,
-          at_next t out (carried r is_r t (omega arith) name out next latch ∙ (next_is ∙ sym (carried s is_s t (omega arith) name out next latch))))
+      (at t out own.1 (λ w cone ne. (settled_same (others w cone ne) (omega arith)).1)) in (
+        Marked.keeps latch en (λ w cone ne. (settled_same (others w cone ne) (omega arith)).0) own.0,
+        at_next t out (carried r is_r t (omega arith) name out next latch ∙ (next_is ∙ sym (carried s is_s t (omega arith) name out next latch))),
+      )
     where
       at : (t : ℕ) (u : P) → r t u ≡ s t u → ((w : P) → InCone c next w → w ≢ u → r t w ≡ s t w) → (w : P) → InCone c next w → r t w ≡ s t w
       at t u own rest w cone = go (same w u)

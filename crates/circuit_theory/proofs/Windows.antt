@@ -44,7 +44,7 @@ le_true m n h = grind arith
 pub row_value-is : (last : ℕ) (a : ℕ → ℕ → Bool) (count i k : ℕ) → k ≤ last → (count ≤ i → a i k ≡ false) → row_value (sequence_rows last a count) i (last - k) ≡ a i k
 row_value-is last a count i k h none =
     ap (λ row. slice_index_or row i false) (rows_at last a count 0 (suc last) (last - k) (omega arith) ∙ ap (λ t. sequence_row last a t 0 count) (let e : 0 + (last - k) ≡ last - k = omega arith in e))
-        ∙ go (which i count)
+    ∙ go (which i count)
   where
     which : (m n : ℕ) → (m < n) ⊎ (n ≤ m)
     which m n = grind arith
@@ -76,7 +76,7 @@ pub window : {P : Type 0} (c : Circuit P) (order : List ℕ) (p : P) (d : ℕ) (
     run last p ≡ tree_value a tree
 window {P} c order p d tree unfolds a count last deep none n run is_run h takes =
     sym (tree_is_run c order n run is_run last h a (λ q i k m l. sym (takes (last - k) q i (omega arith) m ∙ row_value-is last a count i k l (none i k))) unfolds (omega arith)
-        ∙ ap (λ t. run t p) (let e : last - 0 ≡ last = omega arith in e))
+    ∙ ap (λ t. run t p) (let e : last - 0 ≡ last = omega arith in e))
 
 -- so a witness makes its pair differ in all runs
 pub witness_makes_differ : {P Q : Type 0} (a : Circuit P) (b : Circuit Q) (left right : List ℕ) (p : P) (q : Q) (count : ℕ) (rows : List (List Bool)) (last : ℕ) (l r : Bool) →

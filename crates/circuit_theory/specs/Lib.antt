@@ -1,5 +1,6 @@
 pub mod Agree
 pub mod Blocks
+pub mod Cells
 pub mod Circuit
 pub mod Classes
 pub mod Cone
@@ -9,8 +10,10 @@ pub mod Fits
 pub mod Flattened
 pub mod Frame
 pub mod Interface
+pub mod Laws
 pub mod Names
 pub mod Net
+pub mod Places
 pub mod Query
 pub mod Replay
 pub mod Run
