@@ -43,9 +43,12 @@ impl Model for Net {
 }
 
 impl Net {
-    /// Tells a proof what each net keeps. It does nothing.
+    /// Tells a proof what each net keeps: its circuit is a flat net, whose names tell inputs and latches apart. It does
+    /// nothing.
     pub fn keeps(&self)
-        ensures { IsSound self.now }
+        ensures sound { IsSound self.now }
+        ensures net { IsNet (circuit_of self.now) (length self.now.drivers) }
+        ensures names { HasDistinctNames (circuit_of self.now) }
     {
         let _ = &self.drivers;
     }
