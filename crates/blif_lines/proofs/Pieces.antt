@@ -1,5 +1,5 @@
 -- Places, pieces and lines.
-use Rattle.std.proofs.Common.{◌≡◌, ℕ, ◌+◌, ◌-◌, ◌<◌, ◌≤◌, Bool, true, false, List, [], ◌∷◌, ◌++◌, length, not, take, drop, get_or, map, refl, sym, ◌∙◌, ap, subst, arith, append_assoc, cond, length-drop}
+use Rattle.std.proofs.Common.{◌≡◌, ℕ, ◌+◌, ◌-◌, ◌<◌, ◌≤◌, Bool, true, false, List, [], ◌∷◌, ◌++◌, length, not, take, drop, get_or, refl, sym, ◌∙◌, ap, subst, arith, append_assoc, cond, length-drop}
 use Rattle.std.proofs.lemmas.List.{take_all}
 use Rattle.std.specs.List.{All, filter, slice_split, before_first, after_first, position_or_len, suffix_len}
 use Rattle.std.specs.Io.BufRead.{ends_with_byte}

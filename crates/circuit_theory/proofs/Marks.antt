@@ -86,6 +86,40 @@ module _ {P : Type 0} (c : Circuit P) (enabled : P → Type 0) (run : ℕ → P 
       step {p} {q} (Reads.by_gate {fanins = fanins} {cover = cover} eq h) m = mark_says m (Gate p fanins cover) eq refl q h
       step {p} {q} (Reads.by_port eq) m = mark_says m (Port p q) eq refl
 
+-- The marks of a cycle from those of the cycle before, for places that an equation drives.
+module _ {P : Type 0} (c : Circuit P) (enabled : P → Type 0) (run : ℕ → P → Bool) (single : IsSingleDriven c) where
+  -- what a mark says at the equation that drives the place, rule by rule
+  abbrev pub MarkStep : ℕ → Equation P → Type 0
+  MarkStep t (Gate out fanins cover) = (p : P) → Contains fanins p → Marked c enabled run t p
+  MarkStep zero (Latch name out next) = ⊥
+  MarkStep (suc t) (Latch name out next) =
+      ((enabled out → ⊥) × Marked c enabled run t next)
+      ⊎ (enabled out × ((u : P) → InCone c next u → u ≢ out → Marked c enabled run t u) × (Loads c (run t) out next ⊎ Marked c enabled run t out))
+  MarkStep t (Port out from) = Marked c enabled run t from
+
+  pub mark_step : {t : ℕ} {p : P} → Marked c enabled run t p → (e : Equation P) → Contains c.equations e → out_of e ≡ p → MarkStep t e
+  mark_step (Marked.input i) e h q = absurd (single.no_input e h (subst (IsInput c) (sym q) i))
+  mark_step (Marked.gate {t = t} {out = out} {fanins = fanins} {cover = cover} eq each) e h q = subst (MarkStep t) (single.one (Gate out fanins cover) e eq h (sym q)) each
+  mark_step (Marked.port {t = t} {out = out} {from = from} eq mark) e h q = subst (MarkStep t) (single.one (Port out from) e eq h (sym q)) mark
+  mark_step (Marked.plain {t = t} {name = name} {out = out} {next = next} latch other mark) e h q =
+      subst (MarkStep (suc t)) (single.one (Latch name out next) e latch h (sym q)) (inl (other, mark))
+  mark_step (Marked.loads {t = t} {name = name} {out = out} {next = next} latch en others loads) e h q =
+      subst (MarkStep (suc t)) (single.one (Latch name out next) e latch h (sym q)) (inr (en, others, inl loads))
+  mark_step (Marked.keeps {t = t} {name = name} {out = out} {next = next} latch en others mark) e h q =
+      subst (MarkStep (suc t)) (single.one (Latch name out next) e latch h (sym q)) (inr (en, others, inr mark))
+
+  -- and back: by the rules, what the step says is a mark
+  pub step_mark : (t : ℕ) (e : Equation P) → Contains c.equations e → MarkStep t e → Marked c enabled run t (out_of e)
+  step_mark t (Gate out fanins cover) h step = Marked.gate h step
+  step_mark zero (Latch name out next) h step = absurd step
+  step_mark (suc t) (Latch name out next) h (inl plain) = Marked.plain h plain.0 plain.1
+  step_mark (suc t) (Latch name out next) h (inr held) = go held.0 held.1 held.2
+    where
+      go : enabled out → ((u : P) → InCone c next u → u ≢ out → Marked c enabled run t u) → Loads c (run t) out next ⊎ Marked c enabled run t out → Marked c enabled run (suc t) out
+      go en others (inl loads) = Marked.loads h en others loads
+      go en others (inr mark) = Marked.keeps h en others mark
+  step_mark t (Port out from) h step = Marked.port h step
+
 -- what unfolds is settled from its depth on
 module _ {P : Type 0} (c : Circuit P) (run : ℕ → P → Bool) where
   mutual

@@ -75,7 +75,6 @@ net_run c power inputs zero s = net_value c (λ p. first_value_of power (inputs 
 net_run c power inputs (suc t) s = net_value c (λ p. source_value (net_run c power inputs t) (inputs (suc t)) p (driver_in c.equations p)) s
 
 module _ (c : Circuit ℕ) (size : ℕ) (net : IsNet c size) where
-
   driver_is : (e : Equation ℕ) → Contains c.equations e → driver_in c.equations (out_of e) ≡ Some e
   driver_is e h =
       let f = driver_in-some c.equations e h in
@@ -107,8 +106,8 @@ module _ (c : Circuit ℕ) (size : ℕ) (net : IsNet c size) where
       go lower (Some (Gate out fanins cover)) q =
           let r = driver_in-is c.equations s (Gate out fanins cover) q in
           ap (cover_value cover) (map_same (value_by c x b) (value_by c x d) fanins (λ f m.
-              let l = fanin_below out fanins cover r.0 f m in
-              lower f (omega (arith, r.1)) (omega (arith, r.1))))
+          let l = fanin_below out fanins cover r.0 f m in
+          lower f (omega (arith, r.1)) (omega (arith, r.1))))
 
   pub net_value-source : (x : ℕ → Bool) (p : ℕ) → IsSource c p → net_value c x p ≡ x p
   net_value-source x p (inl i) = ap (driven_value x (value_by c x p) p) (no_driver p i)
@@ -119,7 +118,7 @@ module _ (c : Circuit ℕ) (size : ℕ) (net : IsNet c size) where
   net_value-holds x (Port out from) h = absurd (All-contains IsAbove c.equations (Port out from) net.above h)
   net_value-holds x (Gate out fanins cover) h =
       ap (driven_value x (value_by c x out) out) (driver_is (Gate out fanins cover) h)
-          ∙ ap (cover_value cover) (map_same (value_by c x out) (net_value c x) fanins (λ f m. enough x out (suc f) f (fanin_below out fanins cover h f m) (omega arith)))
+      ∙ ap (cover_value cover) (map_same (value_by c x out) (net_value c x) fanins (λ f m. enough x out (suc f) f (fanin_below out fanins cover h f m) (omega arith)))
 
   pub net_value-meets : (x : ℕ → Bool) → Meets c (net_value c x)
   net_value-meets x = All-from_each (Holds (net_value c x)) c.equations (net_value-holds x)
@@ -168,13 +167,12 @@ module _ (c : Circuit ℕ) (size : ℕ) (net : IsNet c size) where
           go false q = ap (λ b. cond b bit (x p)) q
 
   module _ (power : ℕ → Bool) (inputs : ℕ → ℕ → Bool) where
-
     latch_carries : (t : ℕ) (e : Equation ℕ) → Contains c.equations e → Carries (net_run c power inputs t) (net_run c power inputs (suc t)) e
     latch_carries t (Gate out fanins cover) h = tt
     latch_carries t (Port out from) h = tt
     latch_carries t (Latch name out next) h =
         net_value-source (λ p. source_value (net_run c power inputs t) (inputs (suc t)) p (driver_in c.equations p)) out (inr (name, next, h))
-            ∙ ap (source_value (net_run c power inputs t) (inputs (suc t)) out) (driver_is (Latch name out next) h)
+        ∙ ap (source_value (net_run c power inputs t) (inputs (suc t)) out) (driver_is (Latch name out next) h)
 
     run_meets : (t : ℕ) → Meets c (net_run c power inputs t)
     run_meets zero = net_value-meets (λ p. first_value_of power (inputs 0) p (driver_in c.equations p))
@@ -194,10 +192,10 @@ module _ (c : Circuit ℕ) (size : ℕ) (net : IsNet c size) where
         net_value-source (λ q. first_value_of power (inputs 0) q (driver_in c.equations q)) p (inl i) ∙ ap (first_value_of power (inputs 0) p) (no_driver p i)
     net_run-inputs (suc t) p i =
         net_value-source (λ q. source_value (net_run c power inputs t) (inputs (suc t)) q (driver_in c.equations q)) p (inl i)
-            ∙ ap (source_value (net_run c power inputs t) (inputs (suc t)) p) (no_driver p i)
+        ∙ ap (source_value (net_run c power inputs t) (inputs (suc t)) p) (no_driver p i)
 
     -- and the given power-up
     pub net_run-power : (name : List ℕ) (u next : ℕ) → IsLatch c name u next → net_run c power inputs 0 u ≡ power u
     net_run-power name u next h =
         net_value-source (λ q. first_value_of power (inputs 0) q (driver_in c.equations q)) u (inr (name, next, h))
-            ∙ ap (first_value_of power (inputs 0) u) (driver_is (Latch name u next) h)
+        ∙ ap (first_value_of power (inputs 0) u) (driver_is (Latch name u next) h)

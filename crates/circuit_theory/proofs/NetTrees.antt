@@ -23,7 +23,6 @@ has_number {P} (m ∷ inputs) (j ∷ order) e n h = go (Contains-cases m n input
     go (inr k) later = let r = later k in (r.0, inr r.1)
 
 module _ (c : Circuit ℕ) (size : ℕ) (net : IsNet c size) (order : List ℕ) (numbered : length order ≡ length c.inputs) where
-
   -- a tree of the place at each shift
   abbrev pub HasTree : ℕ → ℕ → Type 0
   HasTree s k = (d : ℕ) × (tree : Tree ℕ) × Unfolds c order s k d tree

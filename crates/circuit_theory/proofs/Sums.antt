@@ -35,7 +35,7 @@ contains_without (z ∷ ys) (suc i) zero y e n = subst (Contains (z ∷ without 
     unwrap q = cc
 contains_without (z ∷ ys) (suc i) (suc j) y e n = Contains-tail z y (without ys i) (contains_without ys i j y e (λ q. n (ap suc q)))
 
-same_or_not : (i j : ℕ) → (i ≡ j) ⊎ (i ≢ j)
+pub same_or_not : (i j : ℕ) → (i ≡ j) ⊎ (i ≢ j)
 same_or_not zero zero = inl refl
 same_or_not zero (suc j) = inr (λ e. omega arith)
 same_or_not (suc i) zero = inr (λ e. omega arith)
@@ -43,7 +43,6 @@ same_or_not (suc i) (suc j) = elim (same_or_not i j) [ inl e ↦ inl (ap suc e) 
 
 -- `Same` tells which elements count once
 module _ {X : Type 0} (w : X → ℕ) (Same : X → X → Type 0) (meet : (x y z : X) → Same x z → Same y z → Same x y) where
-
   pub sum_within : (xs ys : List X) → AllPairs (λ x y. Same x y → ⊥) xs → ((x : X) → Contains xs x → (y : X) × Contains ys y × Same x y × (w x ≡ w y)) → sum_by w xs ≤ sum_by w ys
   sum_within [] ys distinct found = omega arith
   sum_within (x ∷ xs) ys distinct found =

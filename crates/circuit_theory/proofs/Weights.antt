@@ -13,7 +13,6 @@ equation_weight (Latch name out next) = 1
 equation_weight (Port out from) = 1
 
 module _ {P : Type 0} (c : Circuit P) (single : IsSingleDriven c) where
-
   weighs_says : {p : P} {w : ℕ} → WeighsAt c p w → (IsInput c p × (w ≡ 1)) ⊎ ((e : Equation P) × Contains c.equations e × (out_of e ≡ p) × (w ≡ equation_weight e))
   weighs_says (WeighsAt.input i) = inl (i, refl)
   weighs_says (WeighsAt.latch {p = p} {next = next} {name = name} h) = inr (Latch name p next, h, refl, refl)
@@ -42,14 +41,13 @@ module _ {P : Type 0} (c : Circuit P) (single : IsSingleDriven c) where
   meet x y z l r = (l.0 ∙ sym r.0, l.1 ∙ sym r.1)
 
   module _ (outputs : List P) where
-
     within : (xs : List (Weighed P)) → AllPairs (λ x y. (x.place ≡ y.place) → (x.shift ≡ y.shift) → ⊥) xs → ((x : Weighed P) → Contains xs x → WeighsAt c x.place x.weight) →
         (w : ℕ) (weight : IsWeight c outputs w) →
         ((x : Weighed P) → Contains xs x → (v : ℕ) × Contains weight.places (record { place = x.place; shift = x.shift; weight = v })) →
         sum_by (λ x. x.weight) xs ≤ w
     within xs distinct weighed w weight found =
         let h : sum_by (λ x. x.weight) xs ≤ sum_by (λ x. x.weight) weight.places = sum_within (λ x. x.weight) IsSame meet xs weight.places (λ i j d l k e. distinct i j d l k e.0 e.1)
-            (λ x k. let f = found x k in (record { place = x.place; shift = x.shift; weight = f.0 }, f.1, (refl, refl), weighs_one (weighed x k) (weight.weighed _ f.1))) in
+        (λ x k. let f = found x k in (record { place = x.place; shift = x.shift; weight = f.0 }, f.1, (refl, refl), weighs_one (weighed x k) (weight.weighed _ f.1))) in
         omega (arith, weight.total)
 
     pub one_weight : (w v : ℕ) → IsWeight c outputs w → IsWeight c outputs v → w ≡ v
@@ -64,12 +62,11 @@ module _ {P : Type 0} (c : Circuit P) (single : IsSingleDriven c) where
         omega (arith, over.total)
 
   module _ (next : P) where
-
     cone_within : (xs : List (Weighed P)) → AllPairs (λ x y. x.place ≡ y.place → ⊥) xs → ((x : Weighed P) → Contains xs x → (x.shift ≡ 0) × WeighsAt c x.place x.weight) →
         (w : ℕ) (weight : IsConeWeight c next w) → ((x : Weighed P) → Contains xs x → Reaches c next x.place) → sum_by (λ x. x.weight) xs ≤ w
     cone_within xs distinct weighed w weight reached =
         let h : sum_by (λ x. x.weight) xs ≤ sum_by (λ x. x.weight) weight.places = sum_within (λ x. x.weight) (λ x y. x.place ≡ y.place) (λ x y z l r. l ∙ sym r) xs weight.places distinct
-            (λ x k. let f = (weight.met x.place).1 (reached x k) in (record { place = x.place; shift = 0; weight = f.0 }, f.1, refl, weighs_one (weighed x k).1 (weight.weighed _ f.1).1)) in
+        (λ x k. let f = (weight.met x.place).1 (reached x k) in (record { place = x.place; shift = 0; weight = f.0 }, f.1, refl, weighs_one (weighed x k).1 (weight.weighed _ f.1).1)) in
         omega (arith, weight.total)
 
     pub one_cone_weight : (w v : ℕ) → IsConeWeight c next w → IsConeWeight c next v → w ≡ v

@@ -2,7 +2,7 @@
 use Rattle.std.specs.Prelude.{◌≡◌, ℕ, ◌<◌, Bool, List, [], ◌∷◌, map, Some, slice_get}
 use Rattle.std.specs.List.{Contains}
 use Rattle.circuit_theory.specs.Circuit.{Circuit, Equation, Gate, Latch, Port, Named}
-use Rattle.circuit_theory.specs.Run.{IsRun}
+use Rattle.circuit_theory.specs.Run.{IsRun, Marked, NoneEnabled}
 
 -- following port equations from p ends at q
 pub data Follows {P : Type 0} (c : Circuit P) : P → P → Type 0 where
@@ -25,5 +25,8 @@ pub record IsFlattened {P : Type 0} (d : Circuit P) (net : Circuit ℕ) (size : 
   pub latches : latch_names net.equations ≡ latch_names d.equations
   pub down : (n : ℕ) (run : ℕ → P → Bool) → IsRun d n run → IsRun net n (λ t s. run t (origin s))
   pub up : (n : ℕ) (run : ℕ → ℕ → Bool) → IsRun net n run → (whole : ℕ → P → Bool) × IsRun d n whole × ((t s : ℕ) → t < n → s < size → whole t (origin s) ≡ run t s)
+  -- what is settled in the design is settled in the net, as far as the outputs show it
+  pub settled : (n : ℕ) (run : ℕ → P → Bool) → IsRun d n run → (t i : ℕ) (o : Named P) (s : Named ℕ) → t < n → slice_get d.outputs i ≡ Some o → slice_get net.outputs i ≡ Some s →
+      Marked d NoneEnabled run t o.place → Marked net NoneEnabled (λ t s. run t (origin s)) t s.place
   pub one : (n : ℕ) (r s : ℕ → P → Bool) → IsRun d n r → IsRun d n s → ((t i : ℕ) → t < n → i < size → r t (origin i) ≡ s t (origin i)) →
       (t : ℕ) (p : P) → t < n → (clocked p → ⊥) → is_place p → r t p ≡ s t p

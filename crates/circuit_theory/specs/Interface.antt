@@ -45,16 +45,16 @@ first_mismatch a b =
 abbrev pub shared_inputs : Ports → Ports → List (List ℕ)
 shared_inputs a b = inputs_beside a b
 
--- The numbers of one circuit's inputs: a shared input has its place among the shared ones, and an input that is left out a
--- number above these that no other input of either circuit has.
-pub record AreNumbersOf (own : Ports) (shared : List (List ℕ)) (numbers others : List ℕ) : Type 0 where
-  pub each : length numbers ≡ length own.inputs
+-- The numbers of one circuit's inputs, by their names: a shared input has its place among the shared ones, and an input that is
+-- left out a number above these that no other input of either circuit has.
+pub record AreNumbersOf (own shared : List (List ℕ)) (numbers others : List ℕ) : Type 0 where
+  pub each : length numbers ≡ length own
   pub distinct : AllPairs (λ i j. i ≢ j) numbers
-  pub common : (k i : ℕ) (name : List ℕ) → slice_get own.inputs k ≡ Some name → slice_get shared i ≡ Some name → slice_get numbers k ≡ Some i
-  pub left_out : (k i : ℕ) (name : List ℕ) → slice_get own.inputs k ≡ Some name → (Contains shared name → ⊥) → slice_get numbers k ≡ Some i →
+  pub common : (k i : ℕ) (name : List ℕ) → slice_get own k ≡ Some name → slice_get shared i ≡ Some name → slice_get numbers k ≡ Some i
+  pub left_out : (k i : ℕ) (name : List ℕ) → slice_get own k ≡ Some name → (Contains shared name → ⊥) → slice_get numbers k ≡ Some i →
       (length shared ≤ i) × (Contains others i → ⊥)
 
 -- the orders of both circuits: the numbers of A's inputs, and of B's
 pub record AreOrders (a b : Ports) (left right : List ℕ) : Type 0 where
-  pub left_is : AreNumbersOf a (shared_inputs a b) left right
-  pub right_is : AreNumbersOf b (shared_inputs a b) right left
+  pub left_is : AreNumbersOf a.inputs (shared_inputs a b) left right
+  pub right_is : AreNumbersOf b.inputs (shared_inputs a b) right left

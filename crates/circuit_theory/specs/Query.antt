@@ -1,5 +1,5 @@
--- Queries, their variables, the least assignment, and the sequence of a difference.
-use Rattle.std.specs.Prelude.{◌≡◌, ◌≢◌, ℕ, zero, suc, ◌-◌, ◌/◌, ◌%◌, ◌^◌, ◌<◌, ◌==◌, ◌&&◌, ◌⊎◌, ◌↔◌, Bool, true, false, if◌then◌else◌, nat_le, List, [], ◌∷◌, length, refl}
+-- Queries, their variables, and the least assignment that distinguishes.
+use Rattle.std.specs.Prelude.{◌≡◌, ◌≢◌, ℕ, zero, suc, ◌/◌, ◌%◌, ◌^◌, ◌<◌, ◌==◌, ◌&&◌, ◌⊎◌, ◌↔◌, Bool, true, false, if◌then◌else◌, List, [], ◌∷◌, length}
 use Rattle.std.specs.List.{Contains, AllPairs}
 use Rattle.circuit_theory.specs.Tree.{Tree, Leaf, Branch, Trees, Cons, tree_value}
 
@@ -66,14 +66,3 @@ pub record IsLeast {L : Type 0} (same : L → L → Bool) (q : Query L) (variabl
   pub in_range : number < 2 ^ length variables
   pub distinguishes : Distinguishes q (assigned same variables (bits_of number (length variables)))
   pub least : (m : ℕ) → m < number → Distinguishes q (assigned same variables (bits_of m (length variables))) → ⊥
-
--- the value of an input in a cycle of the sequence that ends in cycle last
-abbrev pub sequence_value : ℕ → (ℕ → ℕ → Bool) → ℕ → ℕ → Bool
-sequence_value last a input cycle = if nat_le cycle last then a input (last - cycle) else false
-
--- One latch against two: the variables are (a, 2) and (a, 1), and 1 is the least number, which gives 1 0 0.
-one_against_two : sequence_value 2 (assigned same_shift (record { input = 0; at = 2 } ∷ record { input = 0; at = 1 } ∷ []) (bits_of 1 2)) 0 0 ≡ true
-one_against_two = refl
-
-one_against_two_later : sequence_value 2 (assigned same_shift (record { input = 0; at = 2 } ∷ record { input = 0; at = 1 } ∷ []) (bits_of 1 2)) 0 1 ≡ false
-one_against_two_later = refl

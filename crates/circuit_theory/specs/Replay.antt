@@ -4,13 +4,13 @@ use Rattle.std.specs.List.{Contains, AllPairs}
 use Rattle.circuit_theory.specs.declared.Mode.{Mode}
 use Rattle.circuit_theory.specs.Circuit.{Circuit, IsLatch}
 use Rattle.circuit_theory.specs.Run.{IsRun}
-use Rattle.circuit_theory.specs.Tree.{StandsBeside}
+use Rattle.circuit_theory.specs.Sequence.{TakesInputs}
 use Rattle.circuit_theory.specs.Agree.{PairAt, IsSettled}
 
 -- a run of n cycles over the stimulus, which gives the value of the input with a number in a cycle, that powers up with zeros
 pub record IsZeroRun {P : Type 0} (c : Circuit P) (order : List ℕ) (stimulus : ℕ → ℕ → Bool) (n : ℕ) (run : ℕ → P → Bool) : Type 0 where
   pub is_run : IsRun c n run
-  pub inputs : (t : ℕ) (p : P) (i : ℕ) → t < n → StandsBeside c.inputs order p i → run t p ≡ stimulus i t
+  pub inputs : TakesInputs c order stimulus n run
   pub power : (name : List ℕ) (u next : P) → IsLatch c name u next → run 0 u ≡ false
 
 -- a pair by its place in the list of pairs, and its two values in a cycle

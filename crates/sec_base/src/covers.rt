@@ -115,7 +115,8 @@ impl Duplicate for Cover {
     }
 }
 
-fn place_matches(place: u8, bit: bool) -> bool
+/// Whether a byte of a row matches the bit of its fan-in: `-` matches both.
+pub fn place_matches(place: u8, bit: bool) -> bool
     ensures { result ≡ place_matches place bit }
 {
     place == b'-' || place == (if bit { b'1' } else { b'0' })

@@ -1,4 +1,4 @@
-use Rattle.std.proofs.Common.{rules, ap, ◌∙◌}
+use Rattle.std.proofs.Common.{rules}
 use Rattle.blif_lines.specs.Lines.{cut_line}
 use Rattle.blif_lines.proofs.bytes.cut_line.Goals as goal
 

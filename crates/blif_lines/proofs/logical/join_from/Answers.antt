@@ -1,5 +1,5 @@
-use Rattle.std.proofs.Common.{rules, arith, sym, ◌∙◌}
-use Rattle.blif_lines.proofs.Pieces.{line_goes_on, line_ends}
+use Rattle.std.proofs.Common.{sym, ◌∙◌}
+use Rattle.blif_lines.proofs.Pieces.{line_goes_on}
 use Rattle.blif_lines.proofs.logical.join_from.Goals as goal
 
 pub loop-piece-preserved : goal.loop-piece-preserved

@@ -1,5 +1,5 @@
-use Rattle.std.proofs.Common.{◌≡◌, ◌∷◌, List, ℕ, Bool, [], arith, sym, ◌∙◌, ap}
-use Rattle.blif_lines.specs.Lines.{left_lines, before_line, physical_lines, joined_lines}
+use Rattle.std.proofs.Common.{List, ℕ, Bool, [], sym, ◌∙◌, ap}
+use Rattle.blif_lines.specs.Lines.{left_lines, before_line}
 use Rattle.blif_lines.proofs.Pieces.{begun_with_nothing}
 use Rattle.blif_lines.proofs.logical.Lines.next_line.Goals as goal
 

@@ -1,0 +1,10 @@
+//! Flat circuits: one driver for each signal, gates in an order of evaluation, latches, and no hierarchy.
+#![tactic(auto)]
+
+mod net;
+mod parts;
+mod signals;
+
+pub use net::Net;
+pub use parts::{Driver, Gate, LatchAt, Port};
+pub use signals::{Signal, Signals};

@@ -1,0 +1,9 @@
+pub mod Answers
+pub mod Chains
+pub mod Clauses
+pub mod Laws
+pub mod LiteralFields
+pub mod Literals
+pub mod Merging
+pub mod New
+pub mod Resolution
