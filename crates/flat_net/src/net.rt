@@ -10,6 +10,10 @@ ghost use Rattle.flat_net.specs.Sound.{IsSound};
 
 use crate::parts::{Driver, Gate, LatchAt, Port};
 use crate::signals::Signal;
+
+mod making;
+
+pub(crate) use making::push_within;
 use sec_base::{Cover, NameTable, Word, place_matches};
 use std::marker::Model;
 
