@@ -2,7 +2,7 @@
 use Rattle.std.proofs.Common.{◌≡◌, ◌≢◌, ℕ, zero, suc, ◌<◌, Bool, true, false, List, [], ◌∷◌, length, refl, sym, ◌∙◌, ap, subst, arith, inl, inr, Option, Some, None}
 use Rattle.std.specs.Prelude.{◌⊎◌, ◌||◌, not}
 use Rattle.std.specs.List.{Contains}
-use Rattle.circuit_theory.specs.Circuit.{Circuit, Equation, Gate, Latch, Port, IsInput, IsLatch, IsSource, IsSingleDriven, Reads, Reaches, out_of}
+use Rattle.circuit_theory.specs.Circuit.{Equation, Gate, Latch, Port, IsInput, IsLatch, IsSingleDriven, Reads, Reaches, out_of}
 use Rattle.circuit_theory.specs.Run.{IsDetermined}
 use Rattle.circuit_theory.specs.Tree.{Tree, Trees, Leaf, Fixed, Branch, Nil, Cons, IsInputNumber, tree_value}
 use Rattle.circuit_theory.specs.Frame.{EventSide, NotPut, EventUnfolds, EventUnfoldsAll, ConeLatches, ConeOthers, IsEnable}
@@ -23,7 +23,6 @@ module _ {P : Type 0} (side : EventSide P) (enabled : P → Type 0) (same : (p q
     (numbered : length side.order ≡ length side.circuit.inputs)
     (det : (name : List ℕ) (u next : P) → IsLatch side.circuit name u next → IsDetermined side.circuit next)
     (rank : P → ℕ) (falls : (u w : P) → ConeOthers side.circuit enabled u w → rank w < rank u) where
-
   abbrev HasTree : Option (P × Bool) → P → List ℕ → Type 0
   HasTree put p node = (tree : Tree (List ℕ)) × EventUnfolds side enabled put p node tree
 
@@ -44,13 +43,13 @@ module _ {P : Type 0} (side : EventSide P) (enabled : P → Type 0) (same : (p q
       plain : NotPut put u → (enabled u → ⊥) → HasTree put u node
       plain free off =
           let rest = lower next None (side.class u ∷ node) (det name u next latch)
-              (λ v cone k. let down = falls u v (name, next, latch, cone, λ en. absurd (off en)) in let top = low u (name, next, latch, Reaches.here) free in omega arith) in
+          (λ v cone k. let down = falls u v (name, next, latch, cone, λ en. absurd (off en)) in let top = low u (name, next, latch, Reaches.here) free in omega arith) in
           (rest.0, EventUnfolds.plain latch free off rest.1)
 
       held : NotPut put u → enabled u → HasTree put u node
       held free on =
           let rest = lower next (Some (u, false)) (side.class u ∷ node) (det name u next latch)
-              (λ v cone k. let down = falls u v (name, next, latch, cone, λ en. k) in let top = low u (name, next, latch, Reaches.here) free in omega arith) in
+          (λ v cone k. let down = falls u v (name, next, latch, cone, λ en. k) in let top = low u (name, next, latch, Reaches.here) free in omega arith) in
           (rest.0, EventUnfolds.held latch free on rest.1)
 
       go : NotPut put u ⊎ ((bit : Bool) × ◌≡◌ {A = Option (P × Bool)} put (Some (u, bit))) → HasTree put u node
@@ -68,7 +67,7 @@ module _ {P : Type 0} (side : EventSide P) (enabled : P → Type 0) (same : (p q
   by_rank R latches {p} put node (IsDetermined.source (inr l)) low = latches l.0 p l.1 put node l.2 low
   by_rank R latches {p} put node (IsDetermined.gate {fanins = fanins} {cover = cover} eq each) low =
       let trees = have_trees put fanins node
-          (λ q h. by_rank R latches put node (each q h) (λ v cone k. low v (cone.0, cone.1, cone.2, Reaches.there (Reads.by_gate eq h) cone.3) k)) in
+      (λ q h. by_rank R latches put node (each q h) (λ v cone k. low v (cone.0, cone.1, cone.2, Reaches.there (Reads.by_gate eq h) cone.3) k)) in
       (Branch cover trees.0, EventUnfolds.gate eq trees.1)
   by_rank R latches {p} put node (IsDetermined.port {from = from} eq rest) low =
       let tree = by_rank R latches put node rest (λ v cone k. low v (cone.0, cone.1, cone.2, Reaches.there (Reads.by_port eq) cone.3) k) in
@@ -90,13 +89,12 @@ module _ {P : Type 0} (side : EventSide P) (enabled : P → Type 0) (same : (p q
 
 module _ {P : Type 0} (side : EventSide P) (enabled : P → Type 0) (single : IsSingleDriven side.circuit)
     (one_number : (p : P) (i j : ℕ) → IsInputNumber side.circuit side.order p i → IsInputNumber side.circuit side.order p j → i ≡ j) where
-
   -- what an unfolding says of the equation that drives the place; the put latch is its bit
   abbrev Says : Option (P × Bool) → P → List ℕ → Tree (List ℕ) → Equation P → Type 0
   Says put p node tree (Gate out fanins cover) = ((trees : Trees (List ℕ)) × EventUnfoldsAll side enabled put fanins node trees × (tree ≡ Branch cover trees))
   Says put p node tree (Latch name out next) =
       (NotPut put p × (enabled p → ⊥) × EventUnfolds side enabled None next (side.class p ∷ node) tree)
-          ⊎ ((NotPut put p × enabled p × EventUnfolds side enabled (Some (p, false)) next (side.class p ∷ node) tree) ⊎ ((bit : Bool) × ◌≡◌ {A = Option (P × Bool)} put (Some (p, bit)) × (tree ≡ Fixed bit)))
+      ⊎ ((NotPut put p × enabled p × EventUnfolds side enabled (Some (p, false)) next (side.class p ∷ node) tree) ⊎ ((bit : Bool) × ◌≡◌ {A = Option (P × Bool)} put (Some (p, bit)) × (tree ≡ Fixed bit)))
   Says put p node tree (Port out from) = EventUnfolds side enabled put from node tree
 
   -- the put place is a latch

@@ -1,11 +1,11 @@
 -- Each of two circuits side by side is a part of both, and what holds of nets holds of two nets side by side.
-use Rattle.std.proofs.Common.{◌≡◌, ◌≢◌, ℕ, ◌<◌, Bool, List, [], ◌∷◌, ◌++◌, length, map, refl, sym, ◌∙◌, ap, subst, arith, inl, inr}
+use Rattle.std.proofs.Common.{◌≡◌, ◌≢◌, ℕ, Bool, List, [], ◌∷◌, ◌++◌, length, map, refl, sym, ◌∙◌, ap, subst, arith, inl, inr}
 use Rattle.std.specs.Prelude.{◌⊎◌}
-use Rattle.std.specs.List.{All, Contains}
+use Rattle.std.specs.List.{Contains}
 use Rattle.std.proofs.lemmas.List.Elements.{All-contains, Contains-append_cases, Contains-append_left, Contains-append_right}
 use Rattle.circuit_theory.specs.Cover.{cover_value}
 use Rattle.circuit_theory.specs.Circuit.{Circuit, Equation, Gate, Latch, Port, Named, IsInput, IsLatch, Holds, Meets, IsSingleDriven, out_of}
-use Rattle.circuit_theory.specs.Run.{ExtendsWith, CanPut, IsDetermined}
+use Rattle.circuit_theory.specs.Run.{CanPut, IsDetermined}
 use Rattle.circuit_theory.specs.Tree.{StandsBeside, IsInputNumber}
 use Rattle.circuit_theory.specs.Net.{IsNet}
 use Rattle.circuit_theory.specs.Classes.{Either, Left, Right, moved, moved_name, joined}
@@ -40,7 +40,6 @@ pub right_equation : {P Q : Type 0} (a : Circuit P) (b : Circuit Q) (e : Equatio
 right_equation {P} {Q} a b e h = Contains-append_right (map (moved Left) a.equations) (map (moved Right) b.equations) (moved Right e) (Contains-map (moved Right) b.equations e h)
 
 module _ {P Q : Type 0} (a : Circuit P) (b : Circuit Q) where
-
   pub meets_left : (y : Either P Q → Bool) → Meets (joined a b) y → Meets a (λ p. y (Left p))
   meets_left y meets = All-from_each (Holds (λ p. y (Left p))) a.equations (λ e h. holds_from Left y e (All-contains (Holds y) (joined a b).equations _ meets (left_equation a b e h)))
 
@@ -85,7 +84,7 @@ module _ {P Q : Type 0} (a : Circuit P) (b : Circuit Q) where
       input name p (inl k) =
           let x = Contains-map_from (moved_name Left) a.inputs _ k in
           subst (λ (z : P). Contains a.inputs (record { name = name; place = z })) (left_one x.0.place p (ap (λ (m : Named (Either P Q)). m.place) x.2))
-              (subst (λ (z : List ℕ). Contains a.inputs (record { name = z; place = x.0.place })) (ap (λ (m : Named (Either P Q)). m.name) x.2) x.1)
+          (subst (λ (z : List ℕ). Contains a.inputs (record { name = z; place = x.0.place })) (ap (λ (m : Named (Either P Q)). m.name) x.2) x.1)
       input name p (inr k) =
           let x = Contains-map_from (moved_name Right) b.inputs _ k in
           absurd (left_is_not_right p x.0.place (sym (ap (λ (m : Named (Either P Q)). m.place) x.2)))
@@ -117,7 +116,7 @@ module _ {P Q : Type 0} (a : Circuit P) (b : Circuit Q) where
       input name p (inr k) =
           let x = Contains-map_from (moved_name Right) b.inputs _ k in
           subst (λ (z : Q). Contains b.inputs (record { name = name; place = z })) (right_one x.0.place p (ap (λ (m : Named (Either P Q)). m.place) x.2))
-              (subst (λ (z : List ℕ). Contains b.inputs (record { name = z; place = x.0.place })) (ap (λ (m : Named (Either P Q)). m.name) x.2) x.1)
+          (subst (λ (z : List ℕ). Contains b.inputs (record { name = z; place = x.0.place })) (ap (λ (m : Named (Either P Q)). m.name) x.2) x.1)
       input name p (inl k) =
           let x = Contains-map_from (moved_name Left) a.inputs _ k in
           absurd (left_is_not_right x.0.place p (ap (λ (m : Named (Either P Q)). m.place) x.2))
@@ -133,7 +132,6 @@ joined_same (Right p) (Left q) = inr (λ e. left_is_not_right q p (sym e))
 joined_same (Right p) (Right q) = elim (same_or_not p q) [ inl e ↦ inl (ap Right e) | inr n ↦ inr (λ e. n (right_one p q e)) ]
 
 module _ (a b : Circuit ℕ) (m n : ℕ) (na : IsNet a m) (nb : IsNet b n) where
-
   pub joined_single : IsSingleDriven (joined a b)
   joined_single = record { one = λ e f h k q. one e f q (equation_from a b e h) (equation_from a b f k); no_input = λ e h i. none e i (equation_from a b e h) }
     where

@@ -2,9 +2,11 @@ pub mod Agreement
 pub mod BlockExamples
 pub mod CellLaws
 pub mod ClassEvents
+pub mod ClassMaps
 pub mod CutLaws
 pub mod Cycles
 pub mod Designs
+pub mod EventAgreement
 pub mod EventExamples
 pub mod EventTrees
 pub mod Events

@@ -1,9 +1,8 @@
 -- A circuit as a part of a larger one: its cones, enabled latches and marks are those that it has there.
-use Rattle.std.proofs.Common.{◌≡◌, ◌≢◌, ℕ, suc, ◌<◌, Bool, true, false, List, [], map, refl, sym, ◌∙◌, ap, subst, arith, inl, inr}
+use Rattle.std.proofs.Common.{◌≡◌, ◌≢◌, ℕ, ◌<◌, Bool, true, false, List, [], map, refl, sym, ◌∙◌, ap, subst, arith, inl, inr}
 use Rattle.std.specs.Prelude.{◌⊎◌}
 use Rattle.std.specs.List.{Contains}
-use Rattle.circuit_theory.specs.Cover.{Cover}
-use Rattle.circuit_theory.specs.Circuit.{Circuit, Equation, Gate, Latch, Port, IsInput, IsLatch, IsSource, Meets, InCone, Reads, Reaches, out_of}
+use Rattle.circuit_theory.specs.Circuit.{Circuit, Equation, Gate, Latch, Port, IsLatch, IsSource, Meets, InCone, Reads, Reaches, out_of}
 use Rattle.circuit_theory.specs.Run.{ExtendsWith, Loads, CanPut, IsEnabled, IsDetermined, Marked}
 use Rattle.circuit_theory.specs.Classes.{moved}
 use Rattle.circuit_theory.proofs.Lists.{Contains-map, Contains-map_from}
@@ -36,7 +35,6 @@ next_of (Latch name out next) = next
 next_of (Port out from) = from
 
 module _ {P R : Type 0} (c : Circuit P) (j : Circuit R) (f : P → R) (replace : (R → Bool) → (P → Bool) → R → Bool) (part : IsPart c j f replace) where
-
   pub latch_up : (name : List ℕ) (u next : P) → IsLatch c name u next → IsLatch j name (f u) (f next)
   latch_up name u next h = part.equation (Latch name u next) h
 
@@ -128,7 +126,6 @@ module _ {P R : Type 0} (c : Circuit P) (j : Circuit R) (f : P → R) (replace :
 
   -- where there are values of the whole
   module _ (some : R → Bool) (meets : Meets j some) where
-
     pub enabled_from : (u : P) → IsEnabled j (f u) → IsEnabled c u
     enabled_from u en = record { name = en.name; next = own.0; latch = own.1; self_edge = edge; rises = rises }
       where
@@ -162,11 +159,10 @@ module _ {P R : Type 0} (c : Circuit P) (j : Circuit R) (f : P → R) (replace :
                     let src = source_from p.0 (subst (IsSource j) (sym p.1) s) in
                     let apart : p.0 ≢ u = λ e'. n (sym p.1 ∙ ap f e') in
                     ap (replace (replace some z) v) (sym p.1)
-                        ∙ (part.inside (replace some z) v p.0 ∙ (lv.sources p.0 src apart ∙ (sym (lz.sources p.0 src apart) ∙ (sym (part.inside some z p.0) ∙ ap (replace some z) p.1))))
+                    ∙ (part.inside (replace some z) v p.0 ∙ (lv.sources p.0 src apart ∙ (sym (lz.sources p.0 src apart) ∙ (sym (part.inside some z p.0) ∙ ap (replace some z) p.1))))
 
     -- the marks of a run of the part are marks of the run of the whole
     module _ (n : ℕ) (run : ℕ → R → Bool) (runs : (t : ℕ) → t < n → Meets j (run t)) where
-
       abbrev own_run : ℕ → P → Bool
       own_run t p = run t (f p)
 
@@ -174,24 +170,24 @@ module _ {P R : Type 0} (c : Circuit P) (j : Circuit R) (f : P → R) (replace :
       marks_up {t} {p} (Marked.input i) h = Marked.input (i.0, part.input i.0 p i.1)
       marks_up {t} {p} (Marked.gate {fanins = fanins} {cover = cover} eq each) h =
           Marked.gate {fanins = map f fanins} {cover = cover} (part.equation (Gate p fanins cover) eq)
-              (λ r k. let x = Contains-map_from f fanins r k in subst (Marked j (IsEnabled j) run t) x.2 (marks_up (each x.0 x.1) h))
+          (λ r k. let x = Contains-map_from f fanins r k in subst (Marked j (IsEnabled j) run t) x.2 (marks_up (each x.0 x.1) h))
       marks_up {t} {p} (Marked.port {from = from} eq mark) h = Marked.port (part.equation (Port p from) eq) (marks_up mark h)
       marks_up (Marked.plain {t = t} {name = name} {out = out} {next = next} latch other mark) h =
           Marked.plain (latch_up name out next latch) (λ en. other (enabled_from out en)) (marks_up mark (omega arith))
       marks_up (Marked.loads {t = t} {name = name} {out = out} {next = next} latch en others loads) h =
           Marked.loads (latch_up name out next latch) (enabled_up out en)
-              (λ r cone ne. let x = cone_from next r cone in subst (Marked j (IsEnabled j) run t) x.1 (marks_up (others x.0 x.2 (λ e. ne (sym x.1 ∙ ap f e))) (omega arith)))
-              (loads_up (run t) out next (runs t (omega arith)) loads)
+          (λ r cone ne. let x = cone_from next r cone in subst (Marked j (IsEnabled j) run t) x.1 (marks_up (others x.0 x.2 (λ e. ne (sym x.1 ∙ ap f e))) (omega arith)))
+          (loads_up (run t) out next (runs t (omega arith)) loads)
       marks_up (Marked.keeps {t = t} {name = name} {out = out} {next = next} latch en others mark) h =
           Marked.keeps (latch_up name out next latch) (enabled_up out en)
-              (λ r cone ne. let x = cone_from next r cone in subst (Marked j (IsEnabled j) run t) x.1 (marks_up (others x.0 x.2 (λ e. ne (sym x.1 ∙ ap f e))) (omega arith)))
-              (marks_up mark (omega arith))
+          (λ r cone ne. let x = cone_from next r cone in subst (Marked j (IsEnabled j) run t) x.1 (marks_up (others x.0 x.2 (λ e. ne (sym x.1 ∙ ap f e))) (omega arith)))
+          (marks_up mark (omega arith))
 
   pub determined_up : {p : P} → IsDetermined c p → IsDetermined j (f p)
   determined_up {p} (IsDetermined.source s) = IsDetermined.source (source_up p s)
   determined_up {p} (IsDetermined.gate {fanins = fanins} {cover = cover} eq each) =
       IsDetermined.gate {fanins = map f fanins} {cover = cover} (part.equation (Gate p fanins cover) eq)
-          (λ r k. let x = Contains-map_from f fanins r k in subst (IsDetermined j) x.2 (determined_up (each x.0 x.1)))
+      (λ r k. let x = Contains-map_from f fanins r k in subst (IsDetermined j) x.2 (determined_up (each x.0 x.1)))
   determined_up {p} (IsDetermined.port {from = from} eq rest) = IsDetermined.port (part.equation (Port p from) eq) (determined_up rest)
 
   pub put_up : CanPut c → (x : R → Bool) (name : List ℕ) (u : P) (n : R) (bit : Bool) → IsLatch j name (f u) n → Meets j x → (y : R → Bool) × ExtendsWith j (f u) bit x y
