@@ -2,13 +2,18 @@ pub mod Agreement
 pub mod BlockExamples
 pub mod CellLaws
 pub mod ClassEvents
+pub mod ClassMaps
 pub mod CutLaws
 pub mod Cycles
 pub mod Designs
+pub mod EventAgreement
 pub mod EventExamples
+pub mod EventTrees
 pub mod Events
+pub mod Finite
 pub mod Inputs
 pub mod Joined
+pub mod JoinedParts
 pub mod LawProofs
 pub mod Lists
 pub mod Loads
@@ -21,6 +26,7 @@ pub mod OneTree
 pub mod Onward
 pub mod Pairs
 pub mod Parted
+pub mod Parts
 pub mod PlainExamples
 pub mod SameMarks
 pub mod Samples
