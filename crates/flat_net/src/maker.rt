@@ -1,6 +1,6 @@
 //! A net under construction.
 
-ghost use Rattle.std.specs.Prelude.{◌≡◌, ◌+◌, ◌^◌, ◌<◌, ℕ, Bool, true, false, List, [], ◌∷◌, ◌++◌, length, slice_get, slice_set, Some, All, IfOk, IsSomeAnd, OnOk, OnErr};
+ghost use Rattle.std.specs.Prelude.{◌≡◌, ◌+◌, ◌^◌, ◌<◌, ℕ, Bool, true, false, List, [], ◌∷◌, ◌++◌, length, slice_get, slice_set, Some, All, IfOk, IfSome, is_some, IsSomeAnd, OnOk, OnErr};
 ghost use Rattle.sec_base.specs.Table.{is_among};
 ghost use Rattle.flat_net.specs.Sound.{IsSound};
 ghost use Rattle.flat_net.specs.Makes.{MakerView, empty_net, with_input, with_latch, with_gate, with_cover, with_output, with_next, with_clock};
@@ -57,6 +57,14 @@ impl NetMaker {
         ensures { result ≡ is_among self.now.net.names name.now }
     {
         self.net.has_name(name)
+    }
+
+    /// The signal of the name; None exactly where no signal has it.
+    pub fn find(&self, name: &[u8]) -> Option<Signal>
+        ensures here { IfSome result (λ s. slice_get self.now.net.names s.0 ≡ Some name.now) }
+        ensures found { is_some result ≡ is_among self.now.net.names name.now }
+    {
+        self.net.signal_named(name)
     }
 
     /// A new signal that an input drives. After `NoMemory` nothing has changed.

@@ -1,5 +1,6 @@
 pub mod Compared
 pub mod FlatModel
+pub mod FlatNet
 pub mod Loading
 pub mod Outcome
 pub mod Renaming

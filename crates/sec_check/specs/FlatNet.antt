@@ -1,0 +1,47 @@
+-- A net under construction beside the part of a model that it has taken in.
+use Rattle.std.specs.Prelude.{◌≡◌, ℕ, ◌+◌, ◌<◌, ◌≤◌, Bool, if◌then◌else◌, List, [], ◌∷◌, ◌++◌, map, length, Option, Some, None, slice_get, slice_index_or, bytes_eq}
+use Rattle.std.specs.List.{All, filter_map}
+use Rattle.circuit_theory.specs.Circuit.{Circuit, Equation, Named}
+use Rattle.circuit_theory.specs.Classes.{moved, moved_name}
+use Rattle.blif_read.specs.declared.design.BlifModel.{BlifModel}
+use Rattle.blif_read.specs.declared.design.Statement.{Statement}
+use Rattle.blif_read.specs.Design.{Place, Item, At, top, at_top, equation_of, circuit_of_design}
+use Rattle.flat_net.specs.declared.signals.Signal.{Signal}
+use Rattle.flat_net.specs.View.{NetView, named, equation_of_gate, circuit_of}
+use Rattle.sec_check.specs.FlatModel.{driven_after, main_clock}
+use Rattle.sec_check.specs.Loading.{IsComparable}
+use Rattle.sec_check.specs.Renaming.{IsBelow, IsRenaming}
+
+-- the place that a signal's name is
+abbrev pub origin : List (List ℕ) → ℕ → Place
+origin names s = top (slice_index_or names s [])
+
+-- where the name stands, counted from 0
+abbrev pub place_of : List (List ℕ) → List ℕ → ℕ
+place_of [] name = 0
+place_of (n ∷ names) name = if bytes_eq name n then 0 else place_of names name + 1
+
+-- the number of a place's signal
+abbrev pub number : List (List ℕ) → Place → ℕ
+number names p = place_of names p.name
+
+-- the signals have these names
+abbrev pub AreNamed : List (List ℕ) → List Signal → List (List ℕ) → Type 0
+AreNamed names signals words = map (λ s. slice_get names s.0) signals ≡ map Some words
+
+-- The net has these inputs and the gates of these statements, in their order.
+pub record IsPart (n : NetView) (inputs : List (List ℕ)) (done : List Statement) : Type 0 where
+  pub names : n.names ≡ driven_after inputs done
+  pub inputs_are : map (moved_name (origin n.names)) (map named n.inputs) ≡ map at_top inputs
+  pub equations_are : map (moved (origin n.names)) (map (equation_of_gate n.covers) n.gates) ≡ filter_map equation_of (map (At []) done)
+  pub no_latches : n.latches ≡ []
+  pub no_outputs : n.outputs ≡ []
+  pub few_inputs : length n.inputs ≡ length inputs
+  pub few_drivers : length n.drivers ≡ length inputs + length done
+  pub few_covers : length n.covers ≡ length done
+
+-- the net is the main model's, its places numbered
+pub record IsMainNet (models : List BlifModel) (net : NetView) : Type 0 where
+  pub clock : net.clock ≡ main_clock models
+  pub comparable : IsComparable net
+  pub renaming : IsRenaming (circuit_of_design models (main_clock models)) (circuit_of net) (length net.drivers) (origin net.names) (number net.names)
