@@ -1,2 +1,3 @@
 pub mod Designs
+pub mod Parts
 pub mod Renamed

@@ -2,6 +2,7 @@
 #![tactic(auto)]
 
 mod comparing;
+mod flattening;
 mod loading;
 mod outcome;
 mod writing;
