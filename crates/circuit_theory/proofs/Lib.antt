@@ -15,6 +15,7 @@ pub mod Inputs
 pub mod Joined
 pub mod JoinedParts
 pub mod LawProofs
+pub mod LeafVisits
 pub mod Lists
 pub mod Loads
 pub mod Marks

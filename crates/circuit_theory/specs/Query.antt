@@ -31,7 +31,7 @@ pub record Variable (L : Type 0) : Type 0 where
 mutual
   pub data HasLeaf {L : Type 0} (x : Variable L) : Tree L → Type 0 where
     leaf : HasLeaf x (Leaf x.input x.at)
-    below : {cover : _} {trees : Trees L} → HasLeafIn x trees → HasLeaf x (Branch cover trees)
+    inside : {cover : _} {trees : Trees L} → HasLeafIn x trees → HasLeaf x (Branch cover trees)
 
   pub data HasLeafIn {L : Type 0} (x : Variable L) : Trees L → Type 0 where
     first : {tree : Tree L} {trees : Trees L} → HasLeaf x tree → HasLeafIn x (Cons tree trees)
