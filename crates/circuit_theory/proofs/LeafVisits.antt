@@ -1,9 +1,8 @@
 -- The leaves of a tree are the inputs that the unfolding visits.
-use Rattle.std.proofs.Common.{◌≡◌, ℕ, suc, List, [], ◌∷◌, refl, sym, ◌∙◌, ap, subst, arith, inl, inr}
+use Rattle.std.proofs.Common.{◌≡◌, ℕ, suc, List, [], ◌∷◌, refl, sym, subst, arith, inl, inr}
 use Rattle.std.specs.Prelude.{◌⊎◌, ◌↔◌}
 use Rattle.std.specs.List.{Contains, AllPairs}
-use Rattle.circuit_theory.specs.Cover.{Cover}
-use Rattle.circuit_theory.specs.Circuit.{Circuit, Equation, Gate, Latch, Port, IsInput, IsLatch, Reads, IsSingleDriven}
+use Rattle.circuit_theory.specs.Circuit.{Circuit, Gate, Latch, Port, Reads, IsSingleDriven}
 use Rattle.circuit_theory.specs.Tree.{Tree, Trees, Leaf, Fixed, Branch, Nil, Cons, Unfolds, UnfoldsAll, IsInputNumber}
 use Rattle.circuit_theory.specs.Query.{Variable, HasLeaf, HasLeafIn, AreVariables}
 use Rattle.circuit_theory.specs.Sizes.{Visits}
@@ -29,7 +28,6 @@ leaf_in_says (HasLeafIn.first h) = inl h
 leaf_in_says (HasLeafIn.later h) = inr h
 
 module _ {P : Type 0} (c : Circuit P) (order : List ℕ) (s : P) (from : ℕ) where
-
   -- an input, by its number, that is visited at a shift
   abbrev pub VisitsInput : Variable ℕ → Type 0
   VisitsInput x = (p : P) × IsInputNumber c order p x.input × Visits c s from p x.at
@@ -53,7 +51,6 @@ module _ {P : Type 0} (c : Circuit P) (order : List ℕ) (s : P) (from : ℕ) wh
         pick (inr h) here there = there h
 
   module _ (single : IsSingleDriven c) (one_number : (p : P) (i j : ℕ) → IsInputNumber c order p i → IsInputNumber c order p j → i ≡ j) (d : ℕ) (tree : Tree ℕ) (unfolds : Unfolds c order s from d tree) where
-
     -- a visited place unfolds to a part of the tree
     pub record Part (q : P) (j : ℕ) : Type 0 where
       pub depth : ℕ
