@@ -8,6 +8,7 @@ pub mod Cycles
 pub mod Designs
 pub mod EventAgreement
 pub mod EventExamples
+pub mod EventPairExample
 pub mod EventTrees
 pub mod Events
 pub mod Finite
