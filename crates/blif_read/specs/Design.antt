@@ -7,11 +7,11 @@ use Rattle.circuit_theory.specs.Circuit.{Latch as Register}
 use Rattle.circuit_theory.specs.Flattened.{Follows}
 use Rattle.sec_base.specs.declared.basics.Init.{Init}
 use Rattle.sec_base.specs.declared.basics.Init.TheVariants as init
+use Rattle.sec_base.specs.Table.{is_among}
 use Rattle.blif_read.specs.declared.design.BlifModel.{BlifModel}
 use Rattle.blif_read.specs.declared.design.Pair.{Pair}
 use Rattle.blif_read.specs.declared.design.Statement.{Statement}
 use Rattle.blif_read.specs.declared.design.Statement.TheVariants.{Names, Latch, Subckt}
-use Rattle.blif_read.specs.Heads.{is_among}
 
 -- a step into an instance: its model, and its number among the instances of the model around it
 pub record Inside : Type 0 where

@@ -3,11 +3,12 @@ use Rattle.std.specs.Prelude.{ℕ, ◌==◌, nat_lt, ◌&&◌, ◌||◌, not, Bo
 use Rattle.std.specs.List.{list_any, list_all, before_first, after_first}
 use Rattle.circuit_theory.specs.Interface.{◌or_else◌}
 use Rattle.blif_lines.specs.Lines.{is_empty}
+use Rattle.sec_base.specs.Table.{is_among}
 use Rattle.blif_read.specs.declared.head.Head.{Head}
 use Rattle.blif_read.specs.declared.head.Head.TheVariants as head
 use Rattle.blif_read.specs.declared.error.ReadKind.{ReadKind}
 use Rattle.blif_read.specs.declared.error.ReadKind.TheVariants as kind
-use Rattle.blif_read.specs.Heads.{Line, is_among, count_fits, rest_of, but_last}
+use Rattle.blif_read.specs.Heads.{Line, count_fits, rest_of, but_last}
 use Rattle.blif_read.specs.Rows.{is_row, is_mixed}
 use Rattle.blif_read.specs.Spelled.{blocks_of, names_on, is_equals}
 
@@ -46,12 +47,16 @@ abbrev pub last_names : List (List (List ℕ)) → List Line → Option (Line ×
 last_names rows [] = None
 last_names rows (line ∷ earlier) = names_at line.head line rows (last_names (line.args ∷ rows) earlier)
 
--- the fault of a row under this `.names`
+-- the fault of a row after these rows, under so many fan-ins
+abbrev pub row_fault_after : ℕ → List (List (List ℕ)) → List (List ℕ) → Option ReadKind
+row_fault_after width rows tokens =
+    guard (not (is_row width tokens)) kind.BadRow
+    or_else guard (is_mixed rows tokens) kind.MixedCover
+
+-- the fault of a row under this `.names` with its rows
 abbrev pub row_fault : Option (Line × List (List (List ℕ))) → List (List ℕ) → Option ReadKind
 row_fault None tokens = Some kind.StrayRow
-row_fault (Some names) tokens =
-    guard (not (is_row (length (but_last names.0.args)) tokens)) kind.BadRow
-    or_else guard (is_mixed names.1 tokens) kind.MixedCover
+row_fault (Some names) tokens = row_fault_after (length (but_last names.0.args)) names.1 tokens
 
 abbrev pub row_line_fault : List Line → List (List ℕ) → Option ReadKind
 row_line_fault model tokens = guard (is_empty model) kind.NoModel or_else row_fault (last_names [] model) tokens
@@ -72,9 +77,9 @@ abbrev pub repeats : List (List ℕ) → List (List ℕ) → Bool
 repeats sofar [] = false
 repeats sofar (name ∷ names) = is_among sofar name || repeats (sofar ++ name ∷ []) names
 
--- `=` stands in it, and something before and after the first
+-- something stands before the first `=` and after it; where none stands, nothing is after it
 abbrev pub is_pair : List ℕ → Bool
-is_pair token = list_any is_equals token && not (is_empty (before_first is_equals token)) && not (is_empty (after_first is_equals token))
+is_pair token = not (is_empty (before_first is_equals token)) && not (is_empty (after_first is_equals token))
 
 -- types of latches that no edge clocks
 abbrev pub level_types : List (List ℕ)

@@ -1,13 +1,9 @@
 -- What a line begins with, and the lines of a text by it.
 use Rattle.std.specs.Prelude.{ℕ, ◌==◌, nat_le, ◌&&◌, Bool, true, false, if◌then◌else◌, List, [], ◌∷◌, map, codes, bytes_eq}
-use Rattle.std.specs.List.{list_any}
+use Rattle.sec_base.specs.Table.{is_among}
 use Rattle.blif_lines.specs.Lines.{TokenLine, logical_lines}
 use Rattle.blif_read.specs.declared.head.Head.{Head}
 use Rattle.blif_read.specs.declared.head.Head.TheVariants as head
-
--- one of the names is this name
-abbrev pub is_among : List (List ℕ) → List ℕ → Bool
-is_among names name = list_any (λ n. bytes_eq name n) names
 
 -- the first, or nothing
 abbrev pub first_or_empty : List (List ℕ) → List ℕ

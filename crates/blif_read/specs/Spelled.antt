@@ -5,13 +5,14 @@ use Rattle.sec_base.specs.declared.basics.Edge.{Edge}
 use Rattle.sec_base.specs.declared.basics.Edge.TheVariants as edge
 use Rattle.sec_base.specs.declared.basics.Init.{Init}
 use Rattle.sec_base.specs.declared.basics.Init.TheVariants as init
+use Rattle.sec_base.specs.Table.{is_among}
 use Rattle.blif_read.specs.declared.head.Head.{Head}
 use Rattle.blif_read.specs.declared.head.Head.TheVariants as head
 use Rattle.blif_read.specs.declared.design.BlifModel.{BlifModel}
 use Rattle.blif_read.specs.declared.design.Pair.{Pair}
 use Rattle.blif_read.specs.declared.design.Statement.{Statement}
 use Rattle.blif_read.specs.declared.design.Statement.TheVariants.{Names, Latch, Subckt}
-use Rattle.blif_read.specs.Heads.{Line, same_head, is_among, last_or_empty, first_or_empty, but_last, rest_of}
+use Rattle.blif_read.specs.Heads.{Line, same_head, last_or_empty, first_or_empty, but_last, rest_of}
 use Rattle.blif_read.specs.Rows.{cover_of}
 
 -- the lines of each model, the latest model first; lines before the first `.model` are in none

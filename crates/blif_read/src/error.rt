@@ -1,6 +1,9 @@
 //! Why a text is refused.
 
-use sec_base::Word;
+ghost use Rattle.std.specs.Prelude.{◌≡◌};
+ghost use Rattle.blif_read.specs.declared.error.ReadError.TheVariants as read;
+
+use sec_base::{NoMemory, Word};
 
 /// What is wrong with a line.
 #[derive(Debug, Drop)]
@@ -43,4 +46,12 @@ pub enum ReadError {
     At { line: u32, kind: ReadKind },
     /// Memory was wanted and could not be had.
     NoMemory,
+}
+
+impl From<NoMemory> for ReadError {
+    ghost from_gives = { λ _ e. e ≡ read.NoMemory };
+
+    fn from(_error: NoMemory) -> ReadError {
+        ReadError::NoMemory
+    }
 }

@@ -4,9 +4,17 @@
 //! of California, Berkeley), in the profile that docs/ describes.
 #![tactic(auto)]
 
+mod block;
 mod design;
 mod error;
 mod head;
+mod names;
+mod open_model;
+mod reader;
+mod rows;
+mod statements;
+mod stop;
 
 pub use design::{BlifModel, BlifModels, Design, Pair, Pairs, Statement, Statements};
 pub use error::{ReadError, ReadKind};
+pub use reader::read_design;

@@ -10,6 +10,10 @@ ghost use Rattle.flat_net.specs.Sound.{IsSound};
 
 use crate::parts::{Driver, Gate, LatchAt, Port};
 use crate::signals::Signal;
+
+mod making;
+
+pub(crate) use making::push_within;
 use sec_base::{Cover, NameTable, Word, place_matches};
 use std::marker::Model;
 
@@ -39,9 +43,12 @@ impl Model for Net {
 }
 
 impl Net {
-    /// Tells a proof what each net keeps. It does nothing.
+    /// Tells a proof what each net keeps: its circuit is a flat net, whose names tell inputs and latches apart. It does
+    /// nothing.
     pub fn keeps(&self)
-        ensures { IsSound self.now }
+        ensures sound { IsSound self.now }
+        ensures net { IsNet (circuit_of self.now) (length self.now.drivers) }
+        ensures names { HasDistinctNames (circuit_of self.now) }
     {
         let _ = &self.drivers;
     }

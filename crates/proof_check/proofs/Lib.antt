@@ -1,5 +1,6 @@
 pub mod Deriving
 pub mod Members
 pub mod Merges
+pub mod NewOnes
 pub mod OneVerdict
 pub mod Sound

@@ -1,6 +1,7 @@
 pub mod Answers
 pub mod Chains
 pub mod Clauses
+pub mod Laws
 pub mod LiteralFields
 pub mod Literals
 pub mod Merging

@@ -9,12 +9,16 @@ mod broken;
 mod checker;
 mod derivation;
 mod disjunction;
+mod laws;
 mod merging;
 mod resolution;
+#[cfg(test)]
+mod tests;
 mod variables;
 
 pub use checker::{check_chains, check_log};
 pub use derivation::{Chain, ChainKind, Checked, Log, ProofError, Step, Steps};
 pub use disjunction::{Clause, ClauseError, Clauses};
+pub use laws::{new_contains_no_earlier, one_verdict};
 pub use resolution::{Outcome, Resolver};
 pub use variables::{Literal, Literals};

@@ -27,7 +27,7 @@ loop-i-preserved c =
     let r = c.index-right-j-in-Both in
     let level = level_of c.args.left.now c.args.right.now c.loop-i.i c.loop-i.j l.result r.result (sym l.is) (sym r.is) c.in-Both.ensures.2 in
     both_taken _ _ _ _ _ _ _ l.result r.result c.requires.left c.requires.right c.loop-i.invariant c.in-Both.ensures.0 (sym l.is) c.in-Both.ensures.1 (sym r.is) level
-      (agree_of c.args.pivot l.result r.result c.clashes.result c.if-clashes.false c.clashes.ensures level) c.in_ok-take-in-Both.ensures
+    (agree_of c.args.pivot l.result r.result c.clashes.result c.if-clashes.false c.clashes.ensures level) c.in_ok-take-in-Both.ensures
 
 pub returns : goal.returns
 returns c = end _ _ _ _ _ _ c.loop-i.invariant (omega arith) (omega arith)

@@ -14,10 +14,9 @@ returns-in_default-literal_of c =
 pub returns : goal.returns
 returns c =
     let l = c.in-Some.l in
-    let r = c.in-Some-literal_of.r in
-    (
+    let r = c.in-Some-literal_of.r in (
       λ e. opposite_by_signs c.args.left.now c.args.right.now c.args.variable l r c.in-Some.ensures.0 c.in-Some.ensures.1 c.in-Some-literal_of.ensures.0 c.in-Some-literal_of.ensures.1
-        (λ same. differ_by_test _ _ e (c.is_positive.ensures ∙ same ∙ sym c.is_positive-2.ensures)),
+          (λ same. differ_by_test _ _ e (c.is_positive.ensures ∙ same ∙ sym c.is_positive-2.ensures)),
       λ w. test_by_differ _ _ (λ same. signs_by_opposite c.args.left.now c.args.right.now c.args.variable l r c.requires.left c.requires.right c.in-Some.ensures.0 c.in-Some.ensures.1 c.in-Some-literal_of.ensures.0 c.in-Some-literal_of.ensures.1 w
-        (sym c.is_positive.ensures ∙ same ∙ c.is_positive-2.ensures))
+          (sym c.is_positive.ensures ∙ same ∙ c.is_positive-2.ensures)),
     )

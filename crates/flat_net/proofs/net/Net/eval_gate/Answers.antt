@@ -9,18 +9,18 @@ use Rattle.flat_net.proofs.Places.{All-at, cover_of-is, cover_within, cover_fits
 use Rattle.flat_net.proofs.net.Net.eval_gate.Goals as goal
 
 pub cover-cover-requires : goal.cover-cover-requires
-cover-cover-requires c = cover_within _ c.keeps.ensures _ _ c.gate_at-gate.ensures
+cover-cover-requires c = cover_within _ c.keeps.ensures.sound _ _ c.gate_at-gate.ensures
 
 pub cover_at-requires-clause-width : goal.cover_at-requires-clause-width
-cover_at-requires-clause-width c = cover_fits _ c.keeps.ensures _ _ c.gate_at-gate.ensures _ c.cover-cover.ensures ∙ sym (ap length c.as_slice.ensures)
+cover_at-requires-clause-width c = cover_fits _ c.keeps.ensures.sound _ _ c.gate_at-gate.ensures _ c.cover-cover.ensures ∙ sym (ap length c.as_slice.ensures)
 
 pub cover_at-requires-clause-sound : goal.cover_at-requires-clause-sound
-cover_at-requires-clause-sound c = All-at IsCoverSound _ _ _ c.cover-cover.ensures c.keeps.ensures.covers
+cover_at-requires-clause-sound c = All-at IsCoverSound _ _ _ c.cover-cover.ensures c.keeps.ensures.sound.covers
 
 pub cover_at-requires-clause-within : goal.cover_at-requires-clause-within
 cover_at-requires-clause-within c =
     subst (λ fs. All (λ f. f.0 < length c.args.values.now) fs) (sym c.as_slice.ensures)
-    (subst (λ size. All (λ f. f.0 < size) c.gate_at-gate.result.now.fanins) (sym c.requires.values) (fanins_within _ c.keeps.ensures _ _ c.gate_at-gate.ensures))
+    (subst (λ size. All (λ f. f.0 < size) c.gate_at-gate.result.now.fanins) (sym c.requires.values) (fanins_within _ c.keeps.ensures.sound _ _ c.gate_at-gate.ensures))
 
 pub returns : goal.returns
 returns c =

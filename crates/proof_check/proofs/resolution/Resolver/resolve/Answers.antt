@@ -15,4 +15,4 @@ returns-in-Union-clause-ok c =
     let second : c.as_slice-2.result.now ≡ c.args.self.now = c.as_slice-2.ensures.value ∙ c.self.view_is in
     let opposite = c.hold_opposite.ensures.0 c.if-not-hold_opposite.false in
     rw c.swap.ensures.x_after (resolvent_of c.args.self.now other pivot c.merge.new.out.items (subst IsClause c.self.view_is c.self.invariant) c.requires
-        (subst (λ (a : List Literal). HoldOpposite a other pivot) first opposite) (subst (λ (a : List Literal). IsUnion a other (Some pivot) c.merge.new.out.items) second union))
+    (subst (λ (a : List Literal). HoldOpposite a other pivot) first opposite) (subst (λ (a : List Literal). IsUnion a other (Some pivot) c.merge.new.out.items) second union))
