@@ -15,12 +15,11 @@ use Rattle.circuit_theory.specs.Fits.{side_by_side, HaveEqualEvents, LatchesHave
 use Rattle.circuit_theory.specs.Laws.{EventFunctionsAgree}
 use Rattle.circuit_theory.proofs.Lists.{Contains-head, Contains-tail, Contains-cases}
 use Rattle.circuit_theory.proofs.Agreement.{value_of_number, value_found, first_value}
-use Rattle.circuit_theory.proofs.Numbers.{one_number}
 use Rattle.circuit_theory.proofs.Sums.{same_or_not}
 use Rattle.circuit_theory.proofs.Finite.{Decided, weakly_decided, weakly_each, weakly_below, bits_same, find_or}
 use Rattle.circuit_theory.proofs.Joined.{both, run_joined}
 use Rattle.circuit_theory.proofs.Parts.{marks_up}
-use Rattle.circuit_theory.proofs.JoinedParts.{left_part, right_part, replace_left, replace_right, joined_same, joined_single, joined_can_put, joined_determined, joined_number, left_one, right_one, left_is_not_right}
+use Rattle.circuit_theory.proofs.JoinedParts.{left_part, right_part, replace_left, replace_right, joined_same, joined_single, joined_can_put, joined_determined, joined_number, joined_number_once}
 use Rattle.circuit_theory.proofs.EventTrees.{event_tree, one_enable}
 use Rattle.circuit_theory.proofs.ClassMaps.{class_equal, class_always}
 use Rattle.circuit_theory.proofs.ClassEvents.{Qualifies, event_functions_agree}
@@ -196,16 +195,7 @@ module _ (a b : Circuit ℕ) (m n : ℕ) (left right : List ℕ) (class : Either
   rank_of = rank whole single joined_same depths
 
   number_once : (r : Either ℕ ℕ) (i j : ℕ) → IsInputNumber whole (left ++ right) r i → IsInputNumber whole (left ++ right) r j → i ≡ j
-  number_once r i j h k = go (joined_number a b left right left_long r i h) (joined_number a b left right left_long r j k)
-    where
-      Of : ℕ → Type 0
-      Of e = ((p : ℕ) × (Left p ≡ r) × IsInputNumber a left p e) ⊎ ((q : ℕ) × (Right q ≡ r) × IsInputNumber b right q e)
-
-      go : Of i → Of j → i ≡ j
-      go (inl x) (inl y) = one_number a.inputs left na.inputs y.0 i j (subst (λ p. IsInputNumber a left p i) (left_one x.0 y.0 (x.1 ∙ sym y.1)) x.2) y.2
-      go (inl x) (inr y) = absurd (left_is_not_right x.0 y.0 (x.1 ∙ sym y.1))
-      go (inr x) (inl y) = absurd (left_is_not_right y.0 x.0 (y.1 ∙ sym x.1))
-      go (inr x) (inr y) = one_number b.inputs right nb.inputs y.0 i j (subst (λ q. IsInputNumber b right q i) (right_one x.0 y.0 (x.1 ∙ sym y.1)) x.2) y.2
+  number_once r i j h k = joined_number_once a b m n na nb left right left_long r i j h k
 
   itself : (u : Either ℕ ℕ) → EnablesEqual side u u
   itself u bits x y cx cy ax ay = one_enable side (IsEnabled whole) single number_once bits u [] x y ax ay

@@ -11,6 +11,7 @@ use Rattle.circuit_theory.specs.Net.{IsNet}
 use Rattle.circuit_theory.specs.Classes.{Either, Left, Right, moved, moved_name, joined}
 use Rattle.circuit_theory.proofs.Lists.{Contains-map, Contains-map_from, All-from_each, map-map}
 use Rattle.circuit_theory.proofs.Joined.{both, all_joined, holds_left, holds_right, left_equation, equation_from}
+use Rattle.circuit_theory.proofs.Numbers.{one_number}
 use Rattle.circuit_theory.proofs.Sums.{same_or_not}
 use Rattle.circuit_theory.proofs.NetLaws.{net_can_put, net_determined}
 use Rattle.circuit_theory.proofs.LawProofs.{next_within}
@@ -198,3 +199,17 @@ joined_number a b left right same r i h = first a.inputs left same h
         go : From inputs order → From (m ∷ inputs) (j ∷ order)
         go (inl x) = inl (x.0, x.1, inr x.2)
         go (inr y) = inr y
+
+-- a place of two nets side by side has one number
+pub joined_number_once : (a b : Circuit ℕ) (m n : ℕ) → IsNet a m → IsNet b n → (left right : List ℕ) → length left ≡ length a.inputs → (r : Either ℕ ℕ) (i j : ℕ) →
+    IsInputNumber (joined a b) (left ++ right) r i → IsInputNumber (joined a b) (left ++ right) r j → i ≡ j
+joined_number_once a b m n na nb left right left_long r i j h k = go (joined_number a b left right left_long r i h) (joined_number a b left right left_long r j k)
+  where
+    Of : ℕ → Type 0
+    Of e = ((p : ℕ) × (Left p ≡ r) × IsInputNumber a left p e) ⊎ ((q : ℕ) × (Right q ≡ r) × IsInputNumber b right q e)
+
+    go : Of i → Of j → i ≡ j
+    go (inl x) (inl y) = one_number a.inputs left na.inputs y.0 i j (subst (λ p. IsInputNumber a left p i) (left_one x.0 y.0 (x.1 ∙ sym y.1)) x.2) y.2
+    go (inl x) (inr y) = absurd (left_is_not_right x.0 y.0 (x.1 ∙ sym y.1))
+    go (inr x) (inl y) = absurd (left_is_not_right y.0 x.0 (y.1 ∙ sym x.1))
+    go (inr x) (inr y) = one_number b.inputs right nb.inputs y.0 i j (subst (λ q. IsInputNumber b right q i) (right_one x.0 y.0 (x.1 ∙ sym y.1)) x.2) y.2

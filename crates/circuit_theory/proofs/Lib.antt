@@ -8,6 +8,7 @@ pub mod Cycles
 pub mod Designs
 pub mod EventAgreement
 pub mod EventExamples
+pub mod EventPairExample
 pub mod EventTrees
 pub mod Events
 pub mod Finite
@@ -15,6 +16,7 @@ pub mod Inputs
 pub mod Joined
 pub mod JoinedParts
 pub mod LawProofs
+pub mod LeafVisits
 pub mod Lists
 pub mod Loads
 pub mod Marks
