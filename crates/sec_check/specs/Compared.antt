@@ -48,3 +48,10 @@ Compared a b (Err (refused.NotYet B)) = (first_mismatch (ports_of a) (ports_of b
 Compared a b (Err (refused.Wide inputs)) =
     (first_mismatch (ports_of a) (ports_of b) ≡ None) × (a.latches ≡ []) × (b.latches ≡ []) × (inputs ≡ length (shared_inputs (ports_of a) (ports_of b))) × (12 < inputs)
 Compared a b (Err refused.NoMemory) = Unit {0}
+
+-- the interfaces don't match, and this is the first name; no other refusal comes of it
+abbrev pub InterfaceFails : NetView → NetView → CompareError → Type 0
+InterfaceFails a b (refused.Interface name) = first_mismatch (ports_of a) (ports_of b) ≡ Some name
+InterfaceFails a b (refused.NotYet side) = ⊥
+InterfaceFails a b (refused.Wide inputs) = ⊥
+InterfaceFails a b refused.NoMemory = Unit {0}

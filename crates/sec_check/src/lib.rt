@@ -4,11 +4,13 @@
 mod comparing;
 mod flattening;
 mod loading;
+mod numbers;
 mod outcome;
 mod writing;
 
 pub use circuit_theory::Mode;
 pub use comparing::{CompareError, compare};
 pub use loading::{FlatError, LoadError, load};
+pub use numbers::interface;
 pub use outcome::{Outcome, PairName, PairResult, PairResults, Settings, Stimulus, Verdict, Witness};
 pub use writing::report;
