@@ -1,3 +1,4 @@
 pub mod Designs
+pub mod FlatSteps
 pub mod Parts
 pub mod Renamed

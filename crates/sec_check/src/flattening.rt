@@ -1,16 +1,17 @@
 //! From a design whose main model has gates alone, in order, to a flat net.
 
-ghost use Rattle.std.specs.Prelude.{◌≡◌, ℕ, ◌+◌, ◌^◌, ◌<◌, ◌≤◌, Bool, true, false, List, [], ◌∷◌, ◌++◌, length, take, drop, map, nat_le, MatchOption, IfOk, IsErrOf, All};
+ghost use Rattle.std.specs.Prelude.{◌≡◌, ℕ, ◌+◌, ◌^◌, ◌<◌, ◌≤◌, Bool, true, false, List, [], ◌∷◌, ◌++◌, length, take, drop, map, nat_le, MatchOption, IfOk, OnOk, IsErrOf, All};
 ghost use Rattle.std.specs.List.{list_all, sum_by};
 ghost use Rattle.sec_base.specs.Table.{is_among};
 ghost use Rattle.blif_read.specs.Design.{is_clock};
 ghost use Rattle.blif_read.specs.Kept.{cover_fits};
-ghost use Rattle.sec_check.specs.FlatModel.{first_name, are_new, unclocked, clock_of, inputs_of, is_next, are_in_order, driven_after, places_of, is_small, is_flat_model, is_flat};
-ghost use Rattle.sec_check.specs.FlatNet.{AreNamed, IsPart, IsMainNet};
+ghost use Rattle.flat_net.specs.Makes.{with_gate, with_cover};
+ghost use Rattle.sec_check.specs.FlatModel.{first_name, are_new, unclocked, clock_of, inputs_of, is_next, are_in_order, can_show, driven_after, places_of, is_small, is_flat_model, is_flat};
+ghost use Rattle.sec_check.specs.FlatNet.{AreNamed, AreShown, TakesIn, IsPart, IsMainNet};
 
 use blif_read::{BlifModel, Design, Statement};
 use flat_net::{Net, NetMaker, Signals};
-use sec_base::{Cover, NoMemory, Word};
+use sec_base::{Cover, NameTable, NoMemory, Word};
 use std::alloc::Global;
 
 use crate::loading::FlatError;
@@ -96,6 +97,7 @@ fn add_inputs(
         if maker.has(name) {
             return Ok(false);
         }
+        maker.keeps();
         maker.input(name)?;
     }
     Ok(true)
@@ -118,4 +120,101 @@ fn fanin_signals(
         signals.push(signal)?;
     }
     Ok(Some(signals))
+}
+
+/// A gate on a new signal, over a new cover.
+fn put_gate(
+    maker: &mut NetMaker,
+    name: &[u8],
+    signals: Signals,
+    cover: &Cover,
+) -> Result<(), NoMemory>
+    requires room { length maker.old.net.drivers + 1 < 2 ^ 32 }
+    requires covers { length maker.old.net.covers + 1 < 2 ^ 32 }
+    requires new { is_among maker.old.net.names name.now ≡ false }
+    requires within { All (λ f. f.0 < length maker.old.net.drivers) signals }
+    requires fits { cover.now.width ≡ length signals }
+    ensures { OnOk result (maker.new ≡ record maker.old { net = with_gate (with_cover maker.old.net cover.now) name.now signals (length maker.old.net.covers) }) }
+{
+    let id = maker.cover(cover.copy()?)?;
+    maker.gate(name, signals, id)?;
+    Ok(())
+}
+
+/// Takes in a statement; false where it is no gate that comes next.
+fn add_gate(
+    alloc: Global,
+    maker: &mut NetMaker,
+    clocks: &[Word],
+    statement: &Statement,
+) -> Result<bool, NoMemory>
+    requires room { length maker.old.net.drivers + 1 < 2 ^ 32 }
+    requires covers { length maker.old.net.covers + 1 < 2 ^ 32 }
+    requires fits { cover_fits statement.now ≡ true }
+    ensures next { IfOk result (λ ok. ok ≡ is_next clocks.now maker.old.net.names statement.now) }
+    ensures made { IfOk result (λ ok. ok ≡ true → TakesIn maker.old.net maker.new.net statement.now × (maker.new.set ≡ maker.old.set)) }
+{
+    let Statement::Names {
+        fanins, out, cover, ..
+    } = statement
+    else {
+        return Ok(false);
+    };
+    let Some(signals) = fanin_signals(alloc, maker, fanins.as_slice())? else {
+        return Ok(false);
+    };
+    let name = out.as_slice();
+    if maker.has(name) {
+        return Ok(false);
+    }
+    if has_name(clocks, name) {
+        return Ok(false);
+    }
+    maker.keeps();
+    put_gate(maker, name, signals, cover)?;
+    Ok(true)
+}
+
+/// Takes in the statements; false where one is no gate that comes next.
+fn add_gates(
+    alloc: Global,
+    maker: &mut NetMaker,
+    clocks: &[Word],
+    statements: &[Statement],
+) -> Result<bool, NoMemory>
+    requires few { length statements.now ≤ 400000 }
+    requires fit { list_all cover_fits statements.now ≡ true }
+    requires few_inputs { length maker.old.net.names ≤ 16777216 }
+    requires part { IsPart maker.old.net maker.old.net.names [] }
+    ensures { IfOk result (λ ok. (ok ≡ are_in_order clocks.now maker.old.net.names statements.now)
+        × (ok ≡ true → IsPart maker.new.net maker.old.net.names statements.now × (maker.new.set ≡ maker.old.set))) }
+{
+    for statement in statements {
+        maker.keeps();
+        if !add_gate(alloc, maker, clocks, statement)? {
+            return Ok(false);
+        }
+    }
+    Ok(true)
+}
+
+/// Shows the outputs; false where one isn't driven or stands twice.
+fn add_outputs(alloc: Global, maker: &mut NetMaker, outputs: &[Word]) -> Result<bool, NoMemory>
+    requires none { maker.old.net.outputs ≡ [] }
+    ensures { IfOk result (λ ok. (ok ≡ can_show maker.old.net.names [] outputs.now)
+        × (ok ≡ true → (maker.new.net ≡ record maker.old.net { outputs = maker.new.net.outputs }) × AreShown maker.old.net.names maker.new.net.outputs outputs.now × (maker.new.set ≡ maker.old.set))) }
+{
+    let mut shown = NameTable::new(alloc);
+    for output in outputs {
+        let name = output.as_slice();
+        let Some(signal) = maker.find(name) else {
+            return Ok(false);
+        };
+        if !shown.add(alloc, name)? {
+            return Ok(false);
+        }
+        maker.keeps();
+        maker.output(name, signal)?;
+    }
+    Ok(true)
 }
