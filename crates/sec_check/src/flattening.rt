@@ -1,13 +1,13 @@
 //! From a design whose main model has gates alone, in order, to a flat net.
 
-ghost use Rattle.std.specs.Prelude.{◌≡◌, ℕ, ◌+◌, ◌^◌, ◌<◌, ◌≤◌, Bool, true, false, List, [], ◌∷◌, ◌++◌, length, take, drop, map, nat_le, MatchOption, IfOk, OnOk, IsErrOf, All};
+ghost use Rattle.std.specs.Prelude.{◌≡◌, ℕ, ◌+◌, ◌^◌, ◌<◌, ◌≤◌, Bool, true, false, List, [], ◌∷◌, ◌++◌, length, take, drop, map, None, nat_le, MatchOption, IfOk, OnOk, IsErrOf, All};
 ghost use Rattle.std.specs.List.{list_all, sum_by};
 ghost use Rattle.sec_base.specs.Table.{is_among};
 ghost use Rattle.blif_read.specs.Design.{is_clock};
-ghost use Rattle.blif_read.specs.Kept.{cover_fits};
+ghost use Rattle.blif_read.specs.Kept.{cover_fits, covers_fit};
 ghost use Rattle.flat_net.specs.Makes.{with_gate, with_cover};
 ghost use Rattle.sec_check.specs.FlatModel.{first_name, are_new, unclocked, clock_of, inputs_of, is_next, are_in_order, can_show, driven_after, places_of, is_small, is_flat_model, is_flat};
-ghost use Rattle.sec_check.specs.FlatNet.{AreNamed, AreShown, TakesIn, IsPart, IsMainNet};
+ghost use Rattle.sec_check.specs.FlatNet.{AreNamed, AreShown, TakesIn, IsPart, IsModelNet, IsMainNet};
 
 use blif_read::{BlifModel, Design, Statement};
 use flat_net::{Net, NetMaker, Signals};
@@ -87,7 +87,7 @@ fn add_inputs(
     requires fresh { IsPart maker.old.net [] [] }
     requires set { maker.old.set ≡ [] }
     ensures { let names = unclocked (first_name clocks.now) inputs.now in
-        IfOk result (λ ok. (ok ≡ are_new [] names) × (ok ≡ true → IsPart maker.new.net names [] × (maker.new.set ≡ []))) }
+        IfOk result (λ ok. (ok ≡ are_new [] names) × (ok ≡ true → IsPart maker.new.net names [] × (maker.new.set ≡ []) × (length maker.new.net.drivers ≤ length inputs.now))) }
 {
     for input in inputs {
         let name = input.as_slice();
@@ -217,4 +217,38 @@ fn add_outputs(alloc: Global, maker: &mut NetMaker, outputs: &[Word]) -> Result<
         maker.output(name, signal)?;
     }
     Ok(true)
+}
+
+/// The net, with the first of the clock names.
+fn clocked(mut maker: NetMaker, clocks: &[Word]) -> Result<Net, NoMemory>
+    requires set { maker.set ≡ [] }
+    requires none { maker.net.clock ≡ None }
+    ensures { IfOk result (λ net. net ≡ record maker.net { clock = first_name clocks.now }) }
+{
+    if let Some(clock) = clocks.first() {
+        maker.set_clock(clock.copy()?);
+    }
+    Ok(maker.finish())
+}
+
+/// The net of a flat model; None exactly where the model isn't flat.
+fn flatten_model(alloc: Global, model: &BlifModel) -> Result<Option<Net>, NoMemory>
+    requires { covers_fit model.now ≡ true }
+    ensures { IfOk result (λ found. MatchOption found (is_flat_model model.now ≡ false) (λ net. (is_flat_model model.now ≡ true) × IsModelNet model.now net)) }
+{
+    if !is_small(model) {
+        return Ok(None);
+    }
+    let clocks = model.clocks.as_slice();
+    let mut maker = NetMaker::new(alloc);
+    if !add_inputs(&mut maker, clocks, model.inputs.as_slice())? {
+        return Ok(None);
+    }
+    if !add_gates(alloc, &mut maker, clocks, model.statements.as_slice())? {
+        return Ok(None);
+    }
+    if !add_outputs(alloc, &mut maker, model.outputs.as_slice())? {
+        return Ok(None);
+    }
+    Ok(Some(clocked(maker, clocks)?))
 }
