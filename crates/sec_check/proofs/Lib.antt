@@ -1,4 +1,5 @@
 pub mod Designs
+pub mod FlatMain
 pub mod FlatSteps
 pub mod Parts
 pub mod Renamed
