@@ -1,8 +1,8 @@
 -- The net of a flat model is the main model's design, its places numbered.
-use Rattle.std.proofs.Common.{◌≡◌, ℕ, zero, suc, ◌+◌, ◌*◌, ◌^◌, ◌<◌, ◌≤◌, ◌≢◌, Bool, true, false, cond, List, [], ◌∷◌, ◌++◌, map, length, get_or, refl, sym, ◌∙◌, ap, subst, arith, Option, Some, None, slice_get, add-one}
+use Rattle.std.proofs.Common.{◌≡◌, ℕ, zero, suc, ◌+◌, ◌*◌, ◌^◌, ◌<◌, ◌≤◌, ◌≢◌, Bool, true, false, cond, List, [], ◌∷◌, ◌++◌, map, length, get_or, refl, sym, ◌∙◌, ap, subst, arith, Option, Some, None, slice_get, add-one, length-append}
 use Rattle.std.specs.Prelude.{not, ◌&&◌, ◌||◌, nat_le, bytes_eq, slice_index_or}
 use Rattle.std.specs.List.{All, Contains, filter, filter_map, list_all, sum_by}
-use Rattle.std.proofs.lemmas.List.Elements.{All-contains, All-append, All-nil, All-map}
+use Rattle.std.proofs.lemmas.List.Elements.{All-contains, All-append, All-nil, All-cons, All-map}
 use Rattle.std.proofs.lemmas.Option.{slice_get_within, get_or_from_slice_get, slice_get-get_or}
 use Rattle.std.proofs.lemmas.Slice.Eq.{bytes_eq-Decides}
 use Rattle.std.proofs.lemmas.Bool.{leb-true}
@@ -15,17 +15,22 @@ use Rattle.sec_base.specs.Table.{is_among, AreDistinct}
 use Rattle.blif_read.specs.declared.design.BlifModel.{BlifModel}
 use Rattle.blif_read.specs.declared.design.Statement.{Statement}
 use Rattle.blif_read.specs.declared.design.Statement.TheVariants.{Names, Latch, Subckt}
-use Rattle.blif_read.specs.Design.{Place, Item, At, top, at_top, walk, visited, equation_of, circuit_of_design}
+use Rattle.blif_read.specs.Design.{Place, Item, At, top, at_top, walk, visited, equation_of, circuit_of_design, control_place, clock_places, IsClock}
+use Rattle.blif_read.specs.Reading.{first_fault, spelled}
 use Rattle.flat_net.specs.declared.parts.Port.{Port}
 use Rattle.flat_net.specs.declared.parts.Gate.{Gate}
 use Rattle.flat_net.specs.declared.parts.LatchAt.{LatchAt}
 use Rattle.flat_net.specs.View.{NetView, named, equation_of_gate, equation_of_latch, circuit_of}
 use Rattle.flat_net.specs.Sound.{IsSound}
-use Rattle.sec_check.specs.FlatModel.{clock_of, inputs_of, are_new, is_next, are_in_order, with_output, can_show, driven_after, places_of, is_small, is_flat_model}
+use Rattle.sec_check.specs.FlatModel.{main_clock, first_name, clock_of, inputs_of, are_new, is_next, are_in_order, with_output, can_show, driven_after, places_of, is_small, is_flat_model}
 use Rattle.sec_check.specs.FlatNet.{origin, number, place_of, AreShown, IsPart, IsModelNet, IsMainNet}
-use Rattle.sec_check.specs.Loading.{IsComparable}
+use Rattle.sec_check.specs.Loading.{IsComparable, IsClocked, Loads}
 use Rattle.sec_check.specs.Renaming.{IsBelow, IsRenaming}
 use Rattle.sec_check.proofs.Parts.{gate_below}
+use Rattle.sec_check.proofs.Renamed.{renamed_is_flattened, renamed_places}
+use Rattle.circuit_theory.specs.Flattened.{Follows}
+use Rattle.circuit_theory.specs.Places.{IsPlace}
+use Rattle.std.proofs.Math.Seq.{get_or-append_seam}
 
 and_left : (a b : Bool) → (a && b) ≡ true → a ≡ true
 and_left true b e = refl
@@ -159,6 +164,12 @@ flat_parts : (m : BlifModel) → is_flat_model m ≡ true →
     (is_small m ≡ true) × (are_in_order m.clocks (inputs_of m) m.statements ≡ true) × (can_show (driven_after (inputs_of m) m.statements) [] m.outputs ≡ true)
 flat_parts m flat = four_parts (is_small m) (are_new [] (inputs_of m)) (are_in_order m.clocks (inputs_of m) m.statements) (can_show (driven_after (inputs_of m) m.statements) [] m.outputs) flat
 
+few_clocks : (m : BlifModel) → is_small m ≡ true → length m.clocks ≤ 1
+few_clocks m small = at_most (length m.clocks) 1 (third (nat_le (length m.statements) 400000) (nat_le (sum_by places_of m.statements) 4000000) (nat_le (length m.clocks) 1) (nat_le (length m.inputs) 16777216 && nat_le (length m.outputs) 16777216) small)
+  where
+    third : (a b c d : Bool) → (a && (b && (c && d))) ≡ true → c ≡ true
+    third a b c d h = and_left c d (and_right b (c && d) (and_right a (b && (c && d)) h))
+
 few_ports : (m : BlifModel) → is_small m ≡ true → (length m.inputs ≤ 16777216) × (length m.outputs ≤ 16777216)
 few_ports m small =
     let both = last_two (nat_le (length m.statements) 400000) (nat_le (sum_by places_of m.statements) 4000000) (nat_le (length m.clocks) 1) (nat_le (length m.inputs) 16777216) (nat_le (length m.outputs) 16777216) small in
@@ -180,11 +191,45 @@ comparable_net m net flat made =
       few = omega (arith, own_inputs, fewer, own_outputs, own_latches, inputs, outputs);
     }
 
+-- gates have no controls
+no_controls : (ss : List Statement) (clocks driven : List (List ℕ)) → are_in_order clocks driven ss ≡ true → filter_map control_place (map (At []) ss) ≡ []
+no_controls [] clocks driven e = refl
+no_controls (Names line fanins out cover ∷ ss) clocks driven e = no_controls ss clocks (driven ++ out ∷ []) (and_right (is_next clocks driven (Names line fanins out cover)) _ e)
+no_controls (Latch line input output edge control start ∷ ss) clocks driven e = absurd (cc)
+no_controls (Subckt line model pairs ∷ ss) clocks driven e = absurd (cc)
+
+-- the places of a flat model's clock are its clock names
+flat_clock_places : (m : BlifModel) (others : List BlifModel) → is_flat_model m ≡ true → clock_places (m ∷ others) ≡ map top m.clocks
+unfolding walk
+flat_clock_places m others flat =
+    ap (λ (items : List Item). map top m.clocks ++ filter_map control_place items) (gates_alone (walk 63 (m ∷ others)) (m ∷ others) 0 m.clocks (inputs_of m) m.statements (flat_parts m flat).1)
+    ∙ ap (λ (ps : List Place). map top m.clocks ++ ps) (no_controls m.statements m.clocks (inputs_of m) (flat_parts m flat).1)
+    ∙ append-nil (map top m.clocks)
+
+-- the clock of a flat model is its clock name
+flat_clock : (m : BlifModel) (others : List BlifModel) → is_flat_model m ≡ true → IsClock (m ∷ others) (clock_of m)
+flat_clock m others flat = go m.clocks refl
+  where
+    few : length m.clocks ≤ 1
+    few = few_clocks m (flat_parts m flat).0
+
+    go : (clocks : List (List ℕ)) → m.clocks ≡ clocks → IsClock (m ∷ others) (first_name m.clocks)
+    go [] e = subst (λ (cs : List (List ℕ)). IsClock (m ∷ others) (first_name cs)) (sym e) (flat_clock_places m others flat ∙ ap (map top) e)
+    go (c ∷ []) e = subst (λ (cs : List (List ℕ)). IsClock (m ∷ others) (first_name cs)) (sym e) (
+        subst (λ (ps : List Place). 0 < length ps) (sym places) (omega arith),
+        subst (λ (cs : List (List ℕ)). Contains (m.inputs ++ cs) c) (sym e) (length m.inputs, omega (arith, length-append m.inputs (c ∷ [])), get_or-append_seam m.inputs c [] c),
+        subst (λ (ps : List Place). All (λ p. Follows (circuit_of_design (m ∷ others) None) p (top c)) ps) (sym places) (All-cons (λ (p : Place). Follows (circuit_of_design (m ∷ others) None) p (top c)) (top c) [] Follows.here (All-nil (λ (p : Place). Follows (circuit_of_design (m ∷ others) None) p (top c)))))
+      where
+        places : clock_places (m ∷ others) ≡ top c ∷ []
+        places = flat_clock_places m others flat ∙ ap (map top) e
+    go (c ∷ d ∷ clocks) e = absurd (omega (arith, few, ap length e))
+
 -- the net of a flat model is its design, numbered
 pub main_net : (m : BlifModel) (others : List BlifModel) (net : NetView) → IsSound net → is_flat_model m ≡ true → IsModelNet m net → IsMainNet (m ∷ others) net
 unfolding circuit_of_design walk
 main_net m others net sound flat made = record {
   clock = ap (λ (n : NetView). n.clock) made.net_is;
+  is_clock = flat_clock m others flat;
   comparable = comparable_net m net flat made;
   renaming = renaming;
 }
@@ -234,3 +279,26 @@ main_net m others net sound flat made = record {
 
     renaming : IsRenaming (circuit_of_design (m ∷ others) (clock_of m)) (circuit_of net) (length net.drivers) (origin net.names) (number net.names)
     renaming = record { inputs = inputs; outputs = outputs; equations = gates; below = below; inputs_below = inputs_below; outputs_below = outputs_below; back = back }
+
+-- the same for the first of the models
+pub first_net : (models : List BlifModel) (m : BlifModel) (net : NetView) → 0 < length models → m ≡ get_or models 0 m → IsSound net → is_flat_model m ≡ true → IsModelNet m net → IsMainNet models net
+first_net [] m net some at sound flat made = absurd (omega arith)
+first_net (main ∷ others) m net some at sound flat made =
+    subst (λ (x : BlifModel). IsMainNet (x ∷ others) net) at (main_net m others net sound flat made)
+
+-- the net of a text that is read as these models
+pub text_loads : (text : List ℕ) (models : List BlifModel) (net : NetView) → length text ≤ 16777216 → first_fault text ≡ None → models ≡ spelled text →
+    IsMainNet models net → Loads text net
+text_loads text models net short accepted is main = record {
+  short = short;
+  circuit = circuit_of_design models (main_clock models);
+  origin = origin net.names;
+  spells = record {
+    accepted = accepted;
+    is_clock = subst (λ (ms : List BlifModel). IsClock ms net.clock) is (subst (λ (c : Option (List ℕ)). IsClock models c) (sym main.clock) main.is_clock);
+    is_circuit = ap (circuit_of_design models) (sym main.clock) ∙ ap (λ (ms : List BlifModel). circuit_of_design ms net.clock) is;
+  };
+  flattened = renamed_is_flattened (circuit_of_design models (main_clock models)) (circuit_of net) (length net.drivers) (origin net.names) (number net.names)
+      (IsClocked (circuit_of_design models (main_clock models)) net.clock) (IsPlace (circuit_of_design models (main_clock models))) main.renaming
+      (λ p free place. renamed_places (circuit_of_design models (main_clock models)) (circuit_of net) (length net.drivers) (origin net.names) (number net.names) main.renaming p place);
+}

@@ -6,7 +6,7 @@ use Rattle.circuit_theory.specs.Classes.{moved, moved_name}
 use Rattle.blif_read.specs.declared.design.BlifModel.{BlifModel}
 use Rattle.blif_read.specs.declared.design.Statement.{Statement}
 use Rattle.blif_read.specs.declared.design.Statement.TheVariants.{Names, Latch, Subckt}
-use Rattle.blif_read.specs.Design.{Place, Item, At, top, at_top, equation_of, circuit_of_design}
+use Rattle.blif_read.specs.Design.{Place, Item, At, top, at_top, equation_of, circuit_of_design, IsClock}
 use Rattle.flat_net.specs.declared.signals.Signal.{Signal}
 use Rattle.flat_net.specs.declared.parts.Port.{Port}
 use Rattle.flat_net.specs.Makes.{with_gate, with_cover}
@@ -64,5 +64,6 @@ pub record IsModelNet (m : BlifModel) (net : NetView) : Type 0 where
 -- the net is the main model's, its places numbered
 pub record IsMainNet (models : List BlifModel) (net : NetView) : Type 0 where
   pub clock : net.clock ≡ main_clock models
+  pub is_clock : IsClock models (main_clock models)
   pub comparable : IsComparable net
   pub renaming : IsRenaming (circuit_of_design models (main_clock models)) (circuit_of net) (length net.drivers) (origin net.names) (number net.names)

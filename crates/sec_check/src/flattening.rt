@@ -252,3 +252,19 @@ fn flatten_model(alloc: Global, model: &BlifModel) -> Result<Option<Net>, NoMemo
     }
     Ok(Some(clocked(maker, clocks)?))
 }
+
+/// The net of a design whose main model is flat. `NotYet` comes exactly where it isn't.
+pub(crate) fn flatten_main(alloc: Global, design: &Design) -> Result<Net, FlatError>
+    ensures ok { IfOk result (λ net. IsMainNet design.now.models net) }
+    ensures not_yet { IsErrOf result FlatError.NotYet → is_flat design.now.models ≡ false }
+{
+    let main = &design.models.as_slice()[0];
+    match flatten_model(alloc, main) {
+        Ok(Some(net)) => {
+            net.keeps();
+            Ok(net)
+        }
+        Ok(None) => Err(FlatError::NotYet),
+        Err(NoMemory) => Err(FlatError::NoMemory),
+    }
+}
