@@ -1,3 +1,5 @@
 pub mod Designs
+pub mod Evaluated
+pub mod Noted
 pub mod Parts
 pub mod Renamed
