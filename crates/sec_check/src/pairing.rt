@@ -1,6 +1,6 @@
 //! The pairs of a comparison, and the inputs that both circuits have.
 
-ghost use Rattle.std.specs.Prelude.{◌≡◌, ◌==◌, ◌^◌, ◌≤◌, map, None, length, IfOk};
+ghost use Rattle.std.specs.Prelude.{◌≡◌, ◌==◌, ◌||◌, not, ◌^◌, ◌≤◌, map, None, length, IfOk};
 ghost use Rattle.std.specs.List.{AllZip, list_any};
 ghost use Rattle.circuit_theory.specs.Interface.{first_mismatch, shared_inputs, is_clock, AreOrders};
 ghost use Rattle.sec_base.specs.Table.{AreDistinct};
@@ -22,12 +22,19 @@ pub fn shared_inputs(alloc: Global, a: &Net, b: &Net, orders: &Orders) -> Result
 {
     let mut names = Words::new(alloc);
     for (i, port) in a.inputs().iter().enumerate() {
-        // Only a name that is B's clock may be left out, and then no input of B has its number.
-        if !is_clock(b, port.name.as_slice()) || has_number(orders.right.as_slice(), orders.left.as_slice()[i]) {
+        if is_shared(b, orders.right.as_slice(), port.name.as_slice(), orders.left.as_slice()[i]) {
             names.push(port.name.copy()?)?;
         }
     }
     Ok(names)
+}
+
+/// Whether the other net has the input of this name and number. Only a name that is its clock's may be left out, and then
+/// no input of its own has the number.
+fn is_shared(other: &Net, numbers: &[u32], name: &[u8], number: u32) -> bool
+    ensures { result ≡ (not (is_clock (ports_of other.now) name.now) || list_any (λ n. n == number) numbers.now) }
+{
+    !is_clock(other, name) || has_number(numbers, number)
 }
 
 /// Whether the name is that of the net's clock.
