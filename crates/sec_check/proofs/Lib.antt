@@ -1,5 +1,9 @@
 pub mod Designs
+pub mod Evaluated
 pub mod FlatMain
 pub mod FlatSteps
+pub mod Noted
+pub mod Paired
 pub mod Parts
 pub mod Renamed
+pub mod Shared

@@ -6,3 +6,4 @@ pub mod Outcome
 pub mod Renaming
 pub mod Report
 pub mod Shown
+pub mod Sweep

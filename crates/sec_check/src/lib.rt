@@ -2,10 +2,13 @@
 #![tactic(auto)]
 
 mod comparing;
+mod evaluating;
 mod flattening;
 mod loading;
 mod numbers;
 mod outcome;
+mod pairing;
+mod sweeping;
 mod writing;
 
 pub use circuit_theory::Mode;
