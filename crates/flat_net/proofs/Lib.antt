@@ -2,3 +2,4 @@ pub mod Places
 pub mod Growth
 pub mod NextSet
 pub mod Nets
+pub mod LatchNames
