@@ -11,6 +11,7 @@ ghost use Rattle.flat_net.specs.Sound.{IsSound};
 use crate::parts::{Driver, Gate, LatchAt, Port};
 use crate::signals::Signal;
 
+mod cutting;
 mod making;
 
 pub(crate) use making::push_within;
