@@ -1,0 +1,9 @@
+use Rattle.std.proofs.Common.{◌≡◌, ap, ◌∙◌, arith, None}
+use Rattle.std.specs.Prelude.{replicate}
+use Rattle.sat_search.proofs.Index.{index_start}
+use Rattle.sat_search.proofs.trail.Trail.new.Goals as goal
+
+pub invariant_of-result : goal.invariant_of-result
+invariant_of-result c =
+    let same : c.loop-at._at ≡ c.args.variables = omega arith in
+    rw (c.new.ensures.items, c.loop-at.invariant, same) (index_start c.args.variables c.requires)
