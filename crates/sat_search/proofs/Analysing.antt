@@ -1,5 +1,5 @@
 -- Resolving back from a conflict.
-use Rattle.std.proofs.Common.{◌≡◌, ◌≢◌, ◌⊎◌, ℕ, zero, suc, ◌+◌, ◌<◌, ◌≤◌, Bool, not, List, [], ◌∷◌, ◌++◌, length, get_or, map, take, refl, sym, ◌∙◌, ap, subst, arith, inl, inr, Option, Some, None}
+use Rattle.std.proofs.Common.{◌≡◌, ◌≢◌, ◌⊎◌, ℕ, ◌+◌, ◌<◌, ◌≤◌, List, [], ◌∷◌, ◌++◌, length, get_or, map, take, refl, sym, ◌∙◌, ap, subst, arith, inl, inr, Option, Some, None}
 use Rattle.std.specs.Prelude.{◌↔◌, ◌^◌, slice_get, option_map}
 use Rattle.std.specs.List.{All, Contains}
 use Rattle.std.proofs.lemmas.Bool.{cases_lt, cases_eq}
@@ -8,18 +8,18 @@ use Rattle.std.proofs.lemmas.List.Elements.{All-contains}
 use Rattle.std.proofs.lemmas.Option.{slice_get_within, slice_get-map, get_or_from_slice_get}
 use Rattle.proof_check.specs.Literals.{Literal, negation}
 use Rattle.proof_check.specs.Clauses.{IsClause}
-use Rattle.proof_check.specs.Resolution.{HoldOpposite, Clash, IsResolvent, IsStepAnswer}
-use Rattle.proof_check.specs.Chains.{StepDerives, StepsDerive, ChainDerives}
-use Rattle.proof_check.specs.New.{IsFree, IsMet, HasTwoFree, IsClosed, IsNew}
+use Rattle.proof_check.specs.Resolution.{HoldOpposite, Clash, IsStepAnswer}
+use Rattle.proof_check.specs.Chains.{StepDerives, ChainDerives}
+use Rattle.proof_check.specs.New.{IsFree, IsMet, HasTwoFree, IsNew}
 use Rattle.proof_check.specs.declared.derivation.Step.{Step}
 use Rattle.proof_check.specs.declared.derivation.Chain.{Chain}
 use Rattle.proof_check.specs.declared.resolution.Outcome.{Outcome}
 use Rattle.proof_check.specs.declared.resolution.Outcome.TheVariants as outcome
-use Rattle.proof_check.proofs.Members.{one_of_variable, same_literal, Contains-head}
+use Rattle.proof_check.proofs.Members.{one_of_variable, Contains-head}
 use Rattle.proof_check.proofs.Deriving.{steps_push}
 use Rattle.sat_search.specs.Found.{AllInRange, InRange}
-use Rattle.sat_search.specs.Trails.{TrailView, At, TrueBefore, FreeBefore, FalseBefore, OthersFalse, TwoFreeBefore, QuietAt, Quiet, Forces, IsTrail}
-use Rattle.sat_search.specs.Answers.{IsDistinct, IsConflict, IsLastFalse, IsLastDecision, IsFirstDecision, IsUniqueAt, IsSmallPlace, HasReason, place_after}
+use Rattle.sat_search.specs.Trails.{TrailView, At, TrueBefore, FreeBefore, FalseBefore, TwoFreeBefore, QuietAt, Quiet, Forces, IsTrail}
+use Rattle.sat_search.specs.Answers.{IsDistinct, IsLastFalse, IsLastDecision, IsFirstDecision, IsUniqueAt, IsSmallPlace, HasReason, place_after}
 use Rattle.sat_search.specs.Lessons.{IsLate, IsAnalysing, IsAsserting}
 use Rattle.sat_search.specs.declared.entry.Entry.{Entry}
 use Rattle.sat_search.specs.declared.places.Placed.{Placed}
@@ -234,7 +234,7 @@ asserting known t decision start c steps bound d keep last second clause is a l 
     none_of : (m : Literal) → FreeBefore t.entries d m → IsFree (map (λ (e : Entry). e.literal) (take d t.entries)) m
     none_of m f = (
       λ h. let w = of_set t.entries d m h in f w.0 m w.1 w.2 refl,
-      λ h. let w = of_set t.entries d (negation m) h in f w.0 (negation m) w.1 w.2 refl
+      λ h. let w = of_set t.entries d (negation m) h in f w.0 (negation m) w.1 w.2 refl,
     )
 
     quiet : Quiet known t.entries d

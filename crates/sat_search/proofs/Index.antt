@@ -1,5 +1,5 @@
 -- The marks of a trail that grows or is cut.
-use Rattle.std.proofs.Common.{◌≡◌, ◌≢◌, ◌⊎◌, ℕ, zero, suc, ◌+◌, ◌-◌, ◌*◌, ◌<◌, ◌≤◌, ◌^◌, Bool, true, false, not, List, [], ◌∷◌, ◌++◌, length, get_or, take, refl, sym, ◌∙◌, ap, subst, arith, inl, inr, Option, Some, None, length-append}
+use Rattle.std.proofs.Common.{◌≡◌, ◌≢◌, ◌⊎◌, ℕ, ◌+◌, ◌-◌, ◌<◌, ◌≤◌, ◌^◌, Bool, true, false, List, [], ◌∷◌, ◌++◌, length, get_or, take, refl, sym, ◌∙◌, ap, subst, arith, inl, inr, Option, Some, None, length-append}
 use Rattle.std.specs.Prelude.{slice_get, replicate, sum_by}
 use mathlib.Core.Bool.{beq}
 use Rattle.std.proofs.Math.ListN.{set}
@@ -15,7 +15,7 @@ use Rattle.sat_search.specs.Trails.{At, TrueBefore, FreeBefore}
 use Rattle.sat_search.specs.Index.{blank, mark_of, literal_of, IsIndex}
 use Rattle.sat_search.specs.declared.entry.Entry.{Entry}
 use Rattle.sat_search.specs.declared.entry.Mark.{Mark}
-use Rattle.sat_search.proofs.Lists.{get_one, get_push_old, get_push_new, get_push_cases, get_set_same, get_set_other, get_within, at_number}
+use Rattle.sat_search.proofs.Lists.{get_push_old, get_push_new, get_push_cases, get_set_same, get_set_other, get_within, at_number}
 use Rattle.sat_search.proofs.Trails.{entry_of}
 
 pub index_start : (n : ℕ) → n ≤ 2 ^ 30 → IsIndex [] (replicate n None)

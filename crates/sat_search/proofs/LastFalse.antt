@@ -1,10 +1,8 @@
 -- The literal of a clause that became false last.
 use Rattle.std.proofs.Common.{◌≡◌, ◌≢◌, ◌⊎◌, ℕ, ◌+◌, ◌<◌, ◌≤◌, List, length, get_or, refl, sym, ◌∙◌, ap, subst, arith, inl, inr, Option, Some, None}
-use Rattle.std.specs.Prelude.{slice_get}
 use Rattle.std.specs.List.{Contains}
 use Rattle.std.proofs.lemmas.Bool.{cases_lt}
 use Rattle.proof_check.specs.Literals.{Literal, negation}
-use Rattle.proof_check.proofs.Members.{read}
 use Rattle.sat_search.specs.Trails.{At, TrueBefore}
 use Rattle.sat_search.specs.Answers.{IsDistinct, IsPlace, IsLater, IsLastFalse}
 use Rattle.sat_search.specs.declared.entry.Entry.{Entry}

@@ -1,13 +1,12 @@
 -- One pass over the clauses.
-use Rattle.std.proofs.Common.{◌≡◌, ◌≢◌, ◌⊎◌, ℕ, ◌+◌, ◌<◌, ◌≤◌, List, [], ◌∷◌, ◌++◌, length, refl, sym, ◌∙◌, ap, subst, arith, inl, inr, Option, Some, None, length-append}
+use Rattle.std.proofs.Common.{◌≡◌, ◌⊎◌, ℕ, ◌+◌, ◌<◌, ◌≤◌, List, [], ◌∷◌, ◌++◌, length, refl, sym, ◌∙◌, ap, subst, arith, inl, inr, Some, None, length-append}
 use Rattle.std.specs.Prelude.{slice_get}
 use Rattle.std.specs.List.{Contains}
 use Rattle.std.proofs.lemmas.Bool.{cases_lt}
 use Rattle.std.proofs.lemmas.Option.{slice_get_within}
 use Rattle.proof_check.specs.Literals.{Literal}
-use Rattle.sat_search.specs.Trails.{TrailView, FreeBefore, FalseBefore, OthersFalse, QuietAt, Quiet, Forces, IsTrail}
-use Rattle.sat_search.specs.Answers.{IsPassResult, IsOutcome}
-use Rattle.sat_search.specs.declared.entry.Entry.{Entry}
+use Rattle.sat_search.specs.Trails.{TrailView, FreeBefore, OthersFalse, QuietAt, Forces, IsTrail}
+use Rattle.sat_search.specs.Answers.{IsPassResult}
 use Rattle.sat_search.proofs.Lists.{get_one}
 use Rattle.sat_search.proofs.Trails.{entry_of, trail_push}
 

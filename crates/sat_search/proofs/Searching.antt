@@ -1,7 +1,7 @@
 -- The state of a search, from turn to turn.
-use Rattle.std.proofs.Common.{◌≡◌, ◌≢◌, ◌⊎◌, ℕ, zero, suc, ◌+◌, ◌-◌, ◌*◌, ◌<◌, ◌≤◌, ◌^◌, Bool, true, false, not, cond, List, [], ◌∷◌, ◌++◌, length, get_or, refl, sym, ◌∙◌, ap, subst, arith, inl, inr, Option, Some, None, append_assoc, length-append, Result, Ok, Err, OnOk}
+use Rattle.std.proofs.Common.{◌≡◌, ◌≢◌, ◌⊎◌, ℕ, ◌+◌, ◌-◌, ◌<◌, ◌≤◌, ◌^◌, Bool, true, false, not, cond, List, [], ◌∷◌, ◌++◌, length, refl, sym, ◌∙◌, ap, subst, arith, inl, inr, Option, Some, None, append_assoc, length-append, Result, Ok, Err, OnOk}
 use Rattle.std.specs.Prelude.{slice_get, unwrap_or}
-use Rattle.std.specs.List.{All, Contains}
+use Rattle.std.specs.List.{Contains}
 use Rattle.std.proofs.lemmas.List.{append-nil}
 use Rattle.std.proofs.lemmas.List.Elements.{All-push, All-contains}
 use Rattle.std.proofs.lemmas.Option.{slice_get_within}
@@ -60,7 +60,7 @@ pub search_decided : (clauses : List (List Literal)) (variables conflicts : ℕ)
     FreeBefore old.entries (length old.entries) l → now.variables ≡ old.variables → now.entries ≡ old.entries ++ entry_of l None ∷ [] → IsSearching clauses variables conflicts store now log
 search_decided clauses variables conflicts store old now log l s quiet free same grown =
     search_moved clauses variables conflicts store old now log s same
-      (subst (IsTrail store) (sym grown) (trail_push store old.entries l None s.is_trail free (λ number e. absurd (let q : None ≡ Some number = e in cc)) (λ e. quiet)))
+    (subst (IsTrail store) (sym grown) (trail_push store old.entries l None s.is_trail free (λ number e. absurd (let q : None ≡ Some number = e in cc)) (λ e. quiet)))
 
 new_push : (known derived : List (List Literal)) (c : List Literal) → AllNew known derived → IsNew (known ++ derived) c → AllNew known (derived ++ c ∷ [])
 new_push known [] c h n = (subst (λ ks. IsNew ks c) (append-nil known) n, tt)
@@ -91,7 +91,7 @@ search_refuted clauses variables conflicts store t log more chain s room derives
     derives = subst (λ cs. LogDerives clauses cs (s.derived ++ [] ∷ [])) (sym logged) (log_push clauses log s.derived chain [] s.derives (subst (λ ks. ChainDerives ks chain []) s.stored derives));
     ends_empty = (s.derived, refl);
   },
-  omega (arith, ap length logged, length-append log (chain ∷ []))
+  omega (arith, ap length logged, length-append log (chain ∷ [])),
 )
 
 pub search_limit : (clauses : List (List Literal)) (variables conflicts : ℕ) (store : List (List Literal)) (t : TrailView) (log : List Chain) → IsSearching clauses variables conflicts store t log → length log ≡ conflicts → IsFruitless clauses conflicts log
@@ -141,7 +141,7 @@ pub bits_push : (t : List Entry) (bits now : List Bool) (i : ℕ) (bit : Bool) �
     (length now ≡ i + 1) × ((k : ℕ) (b : Bool) → slice_get now k ≡ Some b → IsBit t (k + 1) b)
 bits_push t bits now i bit h grown is = (
   ap length grown ∙ length-append bits (bit ∷ []) ∙ ap (λ n. n + 1) h.0,
-  λ k b there. go k b (get_push_cases bits bit k b (subst (λ (xs : List Bool). slice_get xs k ≡ Some b) grown there))
+  λ k b there. go k b (get_push_cases bits bit k b (subst (λ (xs : List Bool). slice_get xs k ≡ Some b) grown there)),
 )
   where
     go : (k : ℕ) (b : Bool) → ((k < length bits) × (slice_get bits k ≡ Some b)) ⊎ ((k ≡ length bits) × (bit ≡ b)) → IsBit t (k + 1) b

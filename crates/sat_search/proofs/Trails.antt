@@ -1,12 +1,11 @@
 -- Trails that grow, are cut, and learn a clause.
-use Rattle.std.proofs.Common.{◌≡◌, ◌≢◌, ◌⊎◌, ℕ, zero, suc, ◌+◌, ◌<◌, ◌≤◌, List, [], ◌∷◌, ◌++◌, length, take, refl, sym, ◌∙◌, ap, subst, arith, inl, inr, Option, Some, None}
+use Rattle.std.proofs.Common.{◌≡◌, ◌⊎◌, ℕ, ◌<◌, ◌≤◌, List, [], ◌∷◌, ◌++◌, length, take, refl, sym, ◌∙◌, ap, subst, arith, inl, inr, Option, Some, None}
 use Rattle.std.specs.Prelude.{slice_get}
-use Rattle.std.specs.List.{Contains}
 use Rattle.std.proofs.lemmas.Option.{slice_get_within}
 use Rattle.std.proofs.lemmas.List.{length-take-le}
 use Rattle.proof_check.specs.Literals.{Literal, negation}
 use Rattle.proof_check.proofs.Members.{not_same_sign}
-use Rattle.sat_search.specs.Trails.{At, TrueBefore, FreeBefore, FalseBefore, OthersFalse, MetBefore, TwoFreeBefore, QuietAt, Quiet, Forces, IsTrail}
+use Rattle.sat_search.specs.Trails.{At, TrueBefore, FreeBefore, TwoFreeBefore, QuietAt, Quiet, Forces, IsTrail}
 use Rattle.sat_search.specs.Lessons.{IsAsserting}
 use Rattle.sat_search.specs.declared.entry.Entry.{Entry}
 use Rattle.sat_search.proofs.Lists.{get_one, get_push_old, get_push_new, get_push_cases, get_take, get_take_within}
@@ -145,7 +144,7 @@ pub trail_asserted : (known : List (List Literal)) (t : List Entry) (clause : Li
     IsTrail (known ++ clause ∷ []) (take keep t ++ entry_of l (Some (length known)) ∷ [])
 trail_asserted known t clause l keep is lesson =
     trail_push (known ++ clause ∷ []) (take keep t) l (Some (length known)) (trail_learn known clause (take keep t) (trail_take known t keep is) good) (learnt_free known t clause l keep lesson) forced
-      (λ e. absurd (let q : Some (length known) ≡ None = e in cc))
+    (λ e. absurd (let q : Some (length known) ≡ None = e in cc))
   where
     size : length (take keep t) ≡ keep
     size = length-take-le keep t lesson.shorter

@@ -1,8 +1,8 @@
 -- What the parts of a search answer.
-use Rattle.std.specs.Prelude.{◌≡◌, ◌≢◌, ◌⊎◌, ℕ, ◌+◌, ◌<◌, ◌≤◌, ◌^◌, Bool, List, length, Option, Some, None, slice_get}
+use Rattle.std.specs.Prelude.{◌≡◌, ◌≢◌, ◌⊎◌, ℕ, ◌+◌, ◌<◌, ◌≤◌, ◌^◌, List, length, Option, Some, None, slice_get}
 use Rattle.std.specs.List.{Contains}
 use Rattle.proof_check.specs.Literals.{Literal, negation}
-use Rattle.sat_search.specs.Trails.{TrailView, At, TrueBefore, FreeBefore, FalseBefore, OthersFalse, MetBefore, TwoFreeBefore, QuietAt, Quiet}
+use Rattle.sat_search.specs.Trails.{TrailView, At, TrueBefore, FreeBefore, FalseBefore, OthersFalse, MetBefore, TwoFreeBefore, Quiet}
 use Rattle.sat_search.specs.declared.entry.Entry.{Entry}
 use Rattle.sat_search.specs.declared.entry.Truth.{Truth}
 use Rattle.sat_search.specs.declared.entry.Truth.TheVariants.{True, False, Free}

@@ -1,12 +1,12 @@
 -- What is learnt at a conflict.
-use Rattle.std.specs.Prelude.{◌≡◌, ◌≢◌, ◌⊎◌, ℕ, ◌+◌, ◌<◌, ◌≤◌, List, [], ◌∷◌, ◌++◌, length, Option, Some, None, slice_get}
+use Rattle.std.specs.Prelude.{◌≡◌, ℕ, ◌<◌, ◌≤◌, List, [], length, Option, Some, None, slice_get}
 use Rattle.std.specs.List.{Contains}
 use Rattle.proof_check.specs.Literals.{Literal, negation}
 use Rattle.proof_check.specs.Chains.{StepsDerive, ChainDerives}
 use Rattle.proof_check.specs.New.{IsNew}
 use Rattle.proof_check.specs.declared.derivation.Step.{Step}
 use Rattle.sat_search.specs.Found.{AllInRange}
-use Rattle.sat_search.specs.Trails.{TrailView, At, TrueBefore, FreeBefore, FalseBefore, OthersFalse, TwoFreeBefore}
+use Rattle.sat_search.specs.Trails.{TrailView, At, FreeBefore, FalseBefore, OthersFalse, TwoFreeBefore}
 use Rattle.sat_search.specs.Answers.{IsLastDecision}
 use Rattle.sat_search.specs.declared.entry.Entry.{Entry}
 use Rattle.sat_search.specs.declared.lesson.Lesson.{Lesson}

@@ -14,7 +14,7 @@ use crate::lesson::{Learnt, Lesson};
 use crate::places::Placed;
 use crate::store::Store;
 use crate::trail::Trail;
-use proof_check::{Chain, Literal, Outcome, Resolver, Step};
+use proof_check::{Chain, Literal, Outcome, Resolver, Step, Steps};
 use sec_base::{NoMemory, Seq};
 use std::alloc::Global;
 
@@ -109,20 +109,19 @@ fn unique_at(decision: Option<u32>, second: Option<Placed>) -> Option<u32>
     ensures { IsUniqueAt decision second result }
 {
     match (decision, second) {
-        (Some(d), Some(placed)) => {
-            if placed.place < d {
-                Some(d)
-            } else {
-                None
-            }
-        }
+        (Some(d), Some(placed)) => { if placed.place < d { Some(d) } else { None } }
         (Some(d), None) => Some(d),
         (None, _) => None,
     }
 }
 
 /// Resolves with the reason of the literal that became false last, and gives its number.
-fn resolve_last(store: &Store, trail: &Trail, resolver: &mut Resolver, last: &Placed) -> Result<u32, NoMemory>
+fn resolve_last(
+    store: &Store,
+    trail: &Trail,
+    resolver: &mut Resolver,
+    last: &Placed,
+) -> Result<u32, NoMemory>
     requires forced { HasReason trail.now.entries last.now.place }
     requires there { At trail.now.entries last.now.place (negation last.now.literal) }
     requires holds { Contains resolver.old last.now.literal }
@@ -143,7 +142,13 @@ fn resolve_last(store: &Store, trail: &Trail, resolver: &mut Resolver, last: &Pl
 
 /// Resolves a false clause back to one that has a single literal of the last decision or after it,
 /// or to the empty clause.
-pub(crate) fn analyse(alloc: Global, store: &Store, trail: &Trail, resolver: &mut Resolver, conflict: u32) -> Result<Lesson, NoMemory>
+pub(crate) fn analyse(
+    alloc: Global,
+    store: &Store,
+    trail: &Trail,
+    resolver: &mut Resolver,
+    conflict: u32,
+) -> Result<Lesson, NoMemory>
     requires numbers { length store.now < 2 ^ 32 }
     requires range { InRange trail.now.variables store.now }
     requires trail { IsTrail store.now trail.now.entries }
@@ -160,10 +165,7 @@ pub(crate) fn analyse(alloc: Global, store: &Store, trail: &Trail, resolver: &mu
             let keep = first_decision(trail, after(second), d);
             let learnt = Learnt {
                 clause: resolver.clause()?,
-                chain: Chain {
-                    start: conflict,
-                    steps,
-                },
+                chain: chain_of(conflict, steps),
                 literal: last.literal,
                 keep,
             };
@@ -176,10 +178,14 @@ pub(crate) fn analyse(alloc: Global, store: &Store, trail: &Trail, resolver: &mu
         })?;
         bound = last.place;
     }
-    Ok(Lesson::Refutation(Chain {
-        start: conflict,
-        steps,
-    }))
+    Ok(Lesson::Refutation(chain_of(conflict, steps)))
+}
+
+/// The chain that begins with the clause and takes the steps.
+fn chain_of(start: u32, steps: Steps) -> Chain
+    ensures { result ≡ record { start = start; steps = steps } }
+{
+    Chain { start, steps }
 }
 
 /// The place after this one, or the first.

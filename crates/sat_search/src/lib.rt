@@ -16,6 +16,8 @@ mod range;
 mod running;
 mod status;
 mod store;
+#[cfg(test)]
+mod tests;
 mod trail;
 
 pub use outcome::Found;

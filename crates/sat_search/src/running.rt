@@ -23,7 +23,12 @@ use std::alloc::Global;
 /// `Limit` comes at the conflict after the last one allowed, with a log of exactly so many chains,
 /// each of which derives a clause that unit propagation doesn't give, and never the empty one.
 /// `NoMemory` comes also where clauses have no more numbers, which are of 32 bits.
-pub fn search(alloc: Global, clauses: &Clauses, variables: u32, conflicts: u32) -> Result<Found, NoMemory>
+pub fn search(
+    alloc: Global,
+    clauses: &Clauses,
+    variables: u32,
+    conflicts: u32,
+) -> Result<Found, NoMemory>
     requires variables { variables ≤ 2 ^ 30 }
     requires numbers { length clauses.now < 2 ^ 32 - 200000 }
     requires range { InRange variables clauses.now }
@@ -69,7 +74,13 @@ pub fn search(alloc: Global, clauses: &Clauses, variables: u32, conflicts: u32) 
 }
 
 /// Cuts the trail, and puts there the literal that the learnt clause forces.
-fn learn(store: &mut Store, trail: &mut Trail, clause: Clause, literal: Literal, keep: u32) -> Result<(), NoMemory>
+fn learn(
+    store: &mut Store,
+    trail: &mut Trail,
+    clause: Clause,
+    literal: Literal,
+    keep: u32,
+) -> Result<(), NoMemory>
     requires numbers { length store.old < 2 ^ 32 - 1 }
     requires range { AllInRange trail.old.variables clause }
     requires trail { IsTrail store.old trail.old.entries }

@@ -1,6 +1,6 @@
-use Rattle.std.proofs.Common.{Option, Some, None, sym, arith, subst}
+use Rattle.std.proofs.Common.{Option, sym, arith, subst}
 use Rattle.proof_check.specs.Literals.{Literal}
-use Rattle.sat_search.proofs.Scans.{IsScanned, scan_false, scan_free, scan_open, scan_end_false, scan_end_single}
+use Rattle.sat_search.proofs.Scans.{IsScanned, scan_false, scan_free, scan_open, scan_end_false}
 use Rattle.sat_search.proofs.propagation.status_of.Goals as goal
 use Rattle.sat_search.proofs.propagation.status_of.Goals.{in-False, in-Free+in-None}
 
@@ -16,7 +16,7 @@ loop-literal-preserved c =
     let clause = c.args.clause.now in
     let i = c.loop-literal.literal-index in
     elim c.match-truth.branch [
-      in-False w ↦ rw w.single-is (scan_false t clause i c.loop-literal.single c.literal-item.result c.loop-literal.invariant c.loop-literal-test.true (sym c.literal-item.is) w.in-False.ensures)
+      | in-False w ↦ rw w.single-is (scan_false t clause i c.loop-literal.single c.literal-item.result c.loop-literal.invariant c.loop-literal-test.true (sym c.literal-item.is) w.in-False.ensures)
       | in-Free+in-None w ↦ rw w.single-is (scan_free t clause i c.literal-item.result (subst (λ (s : Option Literal). IsScanned t clause i s) w.in-None.is c.loop-literal.invariant) c.loop-literal-test.true (sym c.literal-item.is) w.in-Free.ensures)
     ]
 

@@ -1,5 +1,3 @@
-use Rattle.std.proofs.Common.{sym, ◌∙◌, ap, refl}
-use Rattle.proof_check.specs.Literals.{Literal}
 use Rattle.sat_search.proofs.Searching.{bit_is}
 use Rattle.sat_search.proofs.running.is_true.Goals as goal
 

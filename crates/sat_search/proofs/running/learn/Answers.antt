@@ -16,8 +16,8 @@ returns-clause-trail c =
     let l = c.args.literal in
     let asserted = trail_asserted known c.args.trail.now.entries c.args.clause l c.args.keep c.requires.trail c.requires.asserting in
     ok_then c.push-2.result c.push-2.ensures.entries (λ grown.
-        let entries : c.push-2.new.self.entries ≡ take c.args.keep c.args.trail.now.entries ++ entry_of l (Some (length known)) ∷ [] =
-            grown ∙ ap (λ (es : List Entry). es ++ entry_of l (Some c.len-number.result) ∷ []) c.cut.ensures.entries ∙ ap (λ (n : ℕ). take c.args.keep c.args.trail.now.entries ++ entry_of l (Some n) ∷ []) c.len-number.ensures
-        in
-        subst (λ (es : List Entry). IsTrail c.push.new.self es) (sym entries)
-          (subst (λ (ks : List (List Literal)). IsTrail ks (take c.args.keep c.args.trail.now.entries ++ entry_of l (Some (length known)) ∷ [])) (sym c.in_ok-push.ensures.ok) asserted))
+    let entries : c.push-2.new.self.entries ≡ take c.args.keep c.args.trail.now.entries ++ entry_of l (Some (length known)) ∷ [] =
+    grown ∙ ap (λ (es : List Entry). es ++ entry_of l (Some c.len-number.result) ∷ []) c.cut.ensures.entries ∙ ap (λ (n : ℕ). take c.args.keep c.args.trail.now.entries ++ entry_of l (Some n) ∷ []) c.len-number.ensures
+    in
+    subst (λ (es : List Entry). IsTrail c.push.new.self es) (sym entries)
+    (subst (λ (ks : List (List Literal)). IsTrail ks (take c.args.keep c.args.trail.now.entries ++ entry_of l (Some (length known)) ∷ [])) (sym c.in_ok-push.ensures.ok) asserted))

@@ -1,8 +1,7 @@
-use Rattle.std.proofs.Common.{ℕ, ◌≡◌, List, Option, Some, None, length, sym, ◌∙◌, ap, subst, arith}
-use Rattle.proof_check.specs.Literals.{Literal}
+use Rattle.std.proofs.Common.{ℕ, Option, subst, arith}
 use Rattle.sat_search.specs.Answers.{IsOutcome}
 use Rattle.sat_search.specs.Lessons.{IsLesson}
-use Rattle.sat_search.proofs.Searching.{search_start, search_moved, search_decided, search_learnt, search_refuted, search_limit, search_model}
+use Rattle.sat_search.proofs.Searching.{search_start, search_moved, search_decided, search_learnt, search_refuted, search_model}
 use Rattle.sat_search.proofs.running.search.Goals as goal
 
 pub turns-init : goal.turns-init
@@ -36,4 +35,4 @@ turns-preserved c =
     let learnt = c.in-Asserting.learnt in
     let made = c.in_ok-learn-in-Asserting.ensures in
     search_learnt c.args.clauses.now c.args.variables c.args.conflicts c.turns.store c.learn-in-Asserting.new.store t c.learn-in-Asserting.new.trail c.turns.log c.push-in-Asserting.new.self learnt.clause learnt.chain learnt.literal learnt.keep s
-      (omega (arith, c.turns.invariant.within, c.len.ensures)) (omega (arith, c.len-in-Asserting.ensures)) lesson.0 lesson.1 lesson.2 made.store c.in_ok-push-in-Asserting.ensures.ok made.variables made.trail
+    (omega (arith, c.turns.invariant.within, c.len.ensures)) (omega (arith, c.len-in-Asserting.ensures)) lesson.0 lesson.1 lesson.2 made.store c.in_ok-push-in-Asserting.ensures.ok made.variables made.trail

@@ -1,4 +1,4 @@
-use Rattle.std.proofs.Common.{◌≡◌, ◌+◌, ◌-◌, ◌*◌, length}
+use Rattle.std.proofs.Common.{◌+◌, ◌-◌, ◌*◌, length}
 use Rattle.sat_search.specs.Running.{IsSearching}
 use Rattle.sat_search.proofs.running.search.Given as goal
 
