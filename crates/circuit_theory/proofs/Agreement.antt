@@ -8,6 +8,7 @@ use Rattle.circuit_theory.specs.declared.Mode.TheVariants.{Plain}
 use Rattle.circuit_theory.specs.Agree.{Agree, AreAlike, IsPair}
 use Rattle.circuit_theory.proofs.Marks.{settled_depth}
 use Rattle.circuit_theory.proofs.Values.{tree_is_run}
+use Rattle.circuit_theory.proofs.Inputs.{test_same, test_refl}
 
 -- the value of the input with this number
 abbrev pub value_of_number : {P : Type 0} → (P → Bool) → List (Named P) → List ℕ → ℕ → Option Bool
@@ -19,12 +20,6 @@ abbrev pub first_value : Option Bool → Option Bool → Bool
 first_value (Some x) y = x
 first_value None (Some y) = y
 first_value None None = false
-
-pub test_same : (j i : ℕ) → (j == i) ≡ true → j ≡ i
-test_same j i h = grind arith
-
-pub test_refl : (i : ℕ) → (i == i) ≡ true
-test_refl i = grind arith
 
 -- where a number is an input's, the value found is that of an input of this number
 pub value_found : {P : Type 0} (v : P → Bool) (inputs : List (Named P)) (order : List ℕ) (p : P) (i : ℕ) → StandsBeside inputs order p i →
@@ -64,7 +59,6 @@ abbrev pub shared_bits : {P Q : Type 0} → Circuit P → Circuit Q → List ℕ
 shared_bits a b oa ob left right t i k = first_value (value_of_number (left (t - k)) a.inputs oa i) (value_of_number (right (t - k)) b.inputs ob i)
 
 module _ {P Q : Type 0} (a : Circuit P) (b : Circuit Q) (oa ob : List ℕ) (numbered : AreNumbered a b oa ob) (left : ℕ → P → Bool) (right : ℕ → Q → Bool) (n : ℕ) (alike : AreAlike a b n left right) where
-
   left_bits : (t : ℕ) (p : P) (i k : ℕ) → IsInputNumber a oa p i → shared_bits a b oa ob left right t i k ≡ left (t - k) p
   left_bits t p i k h =
       let f = value_found (left (t - k)) a.inputs oa p i h in

@@ -1,68 +1,34 @@
 -- Latches of one class load together, once both are settled.
 use Rattle.std.proofs.Common.{◌≡◌, ◌≢◌, ℕ, zero, suc, ◌+◌, ◌-◌, ◌<◌, ◌≤◌, Bool, true, false, List, [], ◌∷◌, refl, sym, ◌∙◌, ap, subst, arith, inl, inr, Option, Some, None}
 use Rattle.std.specs.Prelude.{◌⊎◌, ◌||◌, not}
-use Rattle.std.specs.List.{Contains}
-use Rattle.circuit_theory.specs.Circuit.{Circuit, Equation, Gate, Latch, Port, IsInput, IsLatch, IsSingleDriven, InCone, Reads, Reaches, out_of}
+use Rattle.circuit_theory.specs.Circuit.{Equation, Gate, Latch, Port, IsLatch, IsSingleDriven, InCone, Reaches}
 use Rattle.circuit_theory.specs.Run.{IsRun, IsEnabled, ExtendsWith, Loads, CanPut, IsDetermined, Marked}
 use Rattle.circuit_theory.specs.Tree.{Tree, tree_value, IsInputNumber}
 use Rattle.circuit_theory.specs.Frame.{EventSide, EventUnfolds, ConeLatches, ConeOthers, ReachedAt, IsEnable, HasCare, IsLastLoad}
 use Rattle.circuit_theory.specs.Classes.{EnableCare, EnableAtRoot, EnablesEqual, AlwaysEnabled}
-use Rattle.circuit_theory.proofs.Marks.{marks_stay}
+use Rattle.circuit_theory.proofs.Marks.{marks_stay, mark_says, marks_down, MarkSays}
 use Rattle.circuit_theory.proofs.Events.{AreEvents, from_put, event_tree_is_run, events_have_care, put_unique}
-
--- marks go down to what is read
-module _ {P : Type 0} (c : Circuit P) (enabled : P → Type 0) (run : ℕ → P → Bool) (single : IsSingleDriven c) where
-
-  abbrev pub MarkSays : ℕ → Equation P → Type 0
-  MarkSays t (Gate out fanins cover) = (p : P) → Contains fanins p → Marked c enabled run t p
-  MarkSays t (Latch name out next) =
-      ((enabled out → ⊥) × ((s : ℕ) × (t ≡ suc s) × Marked c enabled run s next))
-          ⊎ (enabled out × ((s : ℕ) × (s < t) × Loads c (run s) out next × ((u : P) → InCone c next u → u ≢ out → Marked c enabled run s u)))
-  MarkSays t (Port out from) = Marked c enabled run t from
-
-  pub mark_says : {t : ℕ} {p : P} → Marked c enabled run t p → (e : Equation P) → Contains c.equations e → out_of e ≡ p → MarkSays t e
-  mark_says (Marked.input i) e h q = absurd (single.no_input e h (subst (IsInput c) (sym q) i))
-  mark_says (Marked.gate {t = t} {out = out} {fanins = fanins} {cover = cover} eq each) e h q = subst (MarkSays t) (single.one (Gate out fanins cover) e eq h (sym q)) each
-  mark_says (Marked.port {t = t} {out = out} {from = from} eq mark) e h q = subst (MarkSays t) (single.one (Port out from) e eq h (sym q)) mark
-  mark_says (Marked.plain {t = s} {name = name} {out = out} {next = next} latch other mark) e h q =
-      subst (MarkSays (suc s)) (single.one (Latch name out next) e latch h (sym q)) (inl (other, (s, refl, mark)))
-  mark_says (Marked.loads {t = s} {name = name} {out = out} {next = next} latch en others loads) e h q =
-      subst (MarkSays (suc s)) (single.one (Latch name out next) e latch h (sym q)) (inr (en, (s, omega arith, loads, others)))
-  mark_says (Marked.keeps {t = s} {name = name} {out = out} {next = next} latch en others mark) e h q =
-      subst (MarkSays (suc s)) (single.one (Latch name out next) e latch h (sym q)) (later (mark_says mark (Latch name out next) latch refl))
-    where
-      later : MarkSays s (Latch name out next) → MarkSays (suc s) (Latch name out next)
-      later (inl x) = absurd (x.0 en)
-      later (inr x) = let y = x.1 in inr (x.0, (y.0, omega (arith, y.1), y.2, y.3))
-
-  pub marks_down : {p u : P} → Reaches c p u → (t : ℕ) → Marked c enabled run t p → Marked c enabled run t u
-  marks_down Reaches.here t mark = mark
-  marks_down (Reaches.there reads rest) t mark = marks_down rest t (step reads mark)
-    where
-      step : {p q : P} → Reads c p q → Marked c enabled run t p → Marked c enabled run t q
-      step {p} {q} (Reads.by_gate {fanins = fanins} {cover = cover} eq h) m = mark_says m (Gate p fanins cover) eq refl q h
-      step {p} {q} (Reads.by_port eq) m = mark_says m (Port p q) eq refl
 
 -- One circuit (two side by side) with its classes, and one run of it.
 module _ {P : Type 0} (side : EventSide P) (same : (p q : P) → (p ≡ q) ⊎ (p ≢ q)) (single : IsSingleDriven side.circuit) (can_put : CanPut side.circuit)
     (det : (name : List ℕ) (u next : P) → IsLatch side.circuit name u next → IsDetermined side.circuit next)
     (rises : (name : List ℕ) (u next : P) → IsLatch side.circuit name u next → IsEnabled side.circuit u →
-        (x low high : P → Bool) → ExtendsWith side.circuit u false x low → ExtendsWith side.circuit u true x high → low next ≡ true → high next ≡ true)
+    (x low high : P → Bool) → ExtendsWith side.circuit u false x low → ExtendsWith side.circuit u true x high → low next ≡ true → high next ≡ true)
     (kind : (v : P) → IsEnabled side.circuit v ⊎ (IsEnabled side.circuit v → ⊥))
     (plain_zero : (name : List ℕ) (u next : P) → IsLatch side.circuit name u next → (IsEnabled side.circuit u → ⊥) → side.class u ≡ 0)
     (equal : (u v : P) (k : ℕ) → IsEnabled side.circuit u → IsEnabled side.circuit v → side.class u ≡ suc k → side.class v ≡ suc k → EnablesEqual side u v)
     (always : (u : P) → IsEnabled side.circuit u → side.class u ≡ 0 → AlwaysEnabled side u)
     (rank : P → ℕ) (rank_down : (u w : P) → ConeOthers side.circuit (IsEnabled side.circuit) u w → rank w < rank u)
     (trees : (name : List ℕ) (v next : P) (bit : Bool) (node : List ℕ) → IsLatch side.circuit name v next → IsEnabled side.circuit v →
-        (tree : Tree (List ℕ)) × EventUnfolds side (IsEnabled side.circuit) (Some (v, bit)) next node tree)
+    (tree : Tree (List ℕ)) × EventUnfolds side (IsEnabled side.circuit) (Some (v, bit)) next node tree)
     (n : ℕ) (run : ℕ → P → Bool) (is_run : IsRun side.circuit n run)
     (x : ℕ → ℕ → Bool) (inputs : (t : ℕ) (p : P) (i : ℕ) → t < n → IsInputNumber side.circuit side.order p i → x i t ≡ run t p) where
-
   abbrev pub OthersMarked : P → P → ℕ → Type 0
   OthersMarked u next t = (w : P) → InCone side.circuit next w → w ≢ u → Marked side.circuit (IsEnabled side.circuit) run t w
 
   -- an enabled latch of the class, of a rank below R, loads, and the others of its cone are marked
   pub record Qualifies (R k t : ℕ) : Type 0 where
+    pub in_run : t < n
     pub name : List ℕ
     pub u : P
     pub next : P
@@ -74,7 +40,6 @@ module _ {P : Type 0} (side : EventSide P) (same : (p q : P) → (p ≡ q) ⊎ (
     pub loads : Loads side.circuit (run t) u next
 
   module _ (decide : (R k t : ℕ) → Qualifies R k t ⊎ (Qualifies R k t → ⊥)) where
-
     abbrev choose : {A B : Type 0} → A ⊎ B → ℕ → ℕ → ℕ
     choose (inl a) m n = m
     choose (inr b) m n = n
@@ -221,8 +186,13 @@ module _ {P : Type 0} (side : EventSide P) (same : (p q : P) → (p ≡ q) ⊎ (
       care = events_have_care side same single can_put det rises n run is_run start (at R t) (bits R t) events kind (λ w k. (first w k).0)
           (λ node name v next bit reached latch en. trees name v next bit (side.class v ∷ node) latch en);
       at_root = IsEnable.own en latch low_tree.1 high_tree.1 refl;
-      then_loads = λ e. record { low = l.0; high = r.0; low_is = l.1; high_is = r.1;
-        same = or_same (l.0 next) (r.0 next) (rises name v next latch en (run t) l.0 r.0 l.1 r.1) (sym (ap2 low_value high_value) ∙ e) };
+      then_loads = λ e. record {
+        low = l.0;
+        high = r.0;
+        low_is = l.1;
+        high_is = r.1;
+        same = or_same (l.0 next) (r.0 next) (rises name v next latch en (run t) l.0 r.0 l.1 r.1) (sym (ap2 low_value high_value) ∙ e);
+      };
       if_loads = λ loads. ap2 low_value high_value ∙ or_not (l.0 next) (r.0 next)
           (put_unique side.circuit same v false (run t) l.0 loads.low l.1 loads.low_is (det name v next latch) ∙ (loads.same ∙ put_unique side.circuit same v true (run t) loads.high r.0 loads.high_is r.1 (det name v next latch)));
     }
@@ -300,7 +270,7 @@ module _ {P : Type 0} (side : EventSide P) (same : (p q : P) → (p ≡ q) ⊎ (
             let last : IsLastLoad side.circuit run v next t (t - 1) = record { earlier = omega (arith, held.1.1); loads = loads; not_since = λ m a b q. absurd (omega arith) } in
             subst (λ (k : ℕ). IsLastLoad side.circuit run v next t (event (suc R) k t)) (sym e) last
         go (inr held) (suc k) e =
-            let own : Qualifies (suc R) (suc k) held.1.0 = record { name = name; u = v; next = next; latch = latch; enabled = en; class_is = e; low_rank = low; others = held.1.3; loads = held.1.2 } in
+            let own : Qualifies (suc R) (suc k) held.1.0 = record { in_run = omega (arith, held.1.1); name = name; u = v; next = next; latch = latch; enabled = en; class_is = e; low_rank = low; others = held.1.3; loads = held.1.2 } in
             let last = event-last (suc R) k t held.1.0 held.1.1 own in
             let cycle = event (suc R) (suc k) t in
             let q = last.qualifies in
@@ -313,7 +283,7 @@ module _ {P : Type 0} (side : EventSide P) (same : (p q : P) → (p ≡ q) ⊎ (
             let found : IsLastLoad side.circuit run v next t cycle = record {
               earlier = last.earlier;
               loads = mine.then_loads (sym agree ∙ theirs.if_loads q.loads);
-              not_since = λ m a b l. last.none_since m a b (record { name = name; u = v; next = next; latch = latch; enabled = en; class_is = e; low_rank = low; others = stay held.1.0 m held.1.3 (omega arith); loads = l });
+              not_since = λ m a b l. last.none_since m a b (record { in_run = omega arith; name = name; u = v; next = next; latch = latch; enabled = en; class_is = e; low_rank = low; others = stay held.1.0 m held.1.3 (omega arith); loads = l });
             } in
             subst (λ (c : ℕ). IsLastLoad side.circuit run v next t (event (suc R) c t)) (sym e) found
 
@@ -328,7 +298,7 @@ module _ {P : Type 0} (side : EventSide P) (same : (p q : P) → (p ≡ q) ⊎ (
     unfolding StartsSettled at
     settled_is_frame R t p tree h low mark unfolds =
         event_tree_is_run side same single can_put det rises n run is_run (λ w. ConeLatches side.circuit p w) (at R t) (bits R t) events unfolds (run t)
-            (record { meets = is_run.meets t h; inputs = λ q i. refl; latches = λ m q o l k. refl; fixed = none_is }) (λ w cone k. cone)
+        (record { meets = is_run.meets t h; inputs = λ q i. refl; latches = λ m q o l k. refl; fixed = none_is }) (λ w cone k. cone)
       where
         events : AreEvents side (IsEnabled side.circuit) (λ w. ConeLatches side.circuit p w) n run (at R t) (bits R t)
         events = frame_events R t (good R) h (λ w. ConeLatches side.circuit p w)
@@ -343,7 +313,7 @@ module _ {P : Type 0} (side : EventSide P) (same : (p q : P) → (p ≡ q) ⊎ (
     unfolding StartsSettled at
     settled_has_care R t p h low mark =
         events_have_care side same single can_put det rises n run is_run (λ w. ConeLatches side.circuit p w) (at R t) (bits R t) events kind (λ w cone. (cone.0, cone.1, cone.2))
-            (λ node name v next bit reached latch en. trees name v next bit (side.class v ∷ node) latch en)
+        (λ node name v next bit reached latch en. trees name v next bit (side.class v ∷ node) latch en)
       where
         events : AreEvents side (IsEnabled side.circuit) (λ w. ConeLatches side.circuit p w) n run (at R t) (bits R t)
         events = frame_events R t (good R) h (λ w. ConeLatches side.circuit p w)
@@ -355,7 +325,7 @@ module _ {P : Type 0} (side : EventSide P) (same : (p q : P) → (p ≡ q) ⊎ (
         Marked side.circuit (IsEnabled side.circuit) run t p → Marked side.circuit (IsEnabled side.circuit) run t q →
         EventUnfolds side (IsEnabled side.circuit) None p [] l → EventUnfolds side (IsEnabled side.circuit) None q [] r →
         ((frame : ℕ → List ℕ → Bool) → HasCare side (IsEnabled side.circuit) (λ w. ConeLatches side.circuit p w) frame → HasCare side (IsEnabled side.circuit) (λ w. ConeLatches side.circuit q w) frame →
-            tree_value frame l ≡ tree_value frame r) → run t p ≡ run t q
+        tree_value frame l ≡ tree_value frame r) → run t p ≡ run t q
     event_functions_agree R t p q l r h lp lq mp mq ul ur equal_where_care =
         sym (settled_is_frame R t p l h lp mp ul)
-            ∙ (equal_where_care (bits R t) (settled_has_care R t p h lp mp) (settled_has_care R t q h lq mq) ∙ settled_is_frame R t q r h lq mq ur)
+        ∙ (equal_where_care (bits R t) (settled_has_care R t p h lp mp) (settled_has_care R t q h lq mq) ∙ settled_is_frame R t q r h lq mq ur)

@@ -4,20 +4,14 @@ use Rattle.std.specs.Prelude.{◌⊎◌, ◌||◌, not}
 use Rattle.std.specs.List.{Contains}
 use Rattle.std.proofs.lemmas.List.Elements.{All-contains}
 use Rattle.circuit_theory.specs.Cover.{cover_value}
-use Rattle.circuit_theory.specs.Circuit.{Circuit, Latch, Named, IsInput, IsLatch, IsSingleDriven, Meets, Carries, Holds, Reads, Reaches}
+use Rattle.circuit_theory.specs.Circuit.{Circuit, Latch, IsInput, IsLatch, IsSingleDriven, Meets, Carries, Holds, Reads, Reaches}
 use Rattle.circuit_theory.specs.Run.{IsRun, IsEnabled, ExtendsWith, Loads, CanPut, IsDetermined}
-use Rattle.circuit_theory.specs.Tree.{Tree, Trees, tree_value, tree_values, IsInputNumber, StandsBeside}
+use Rattle.circuit_theory.specs.Tree.{Tree, Trees, tree_value, tree_values, IsInputNumber}
 use Rattle.circuit_theory.specs.Frame.{EventSide, NotPut, EventUnfolds, EventUnfoldsAll, ConeLatches, ReachedAt, IsEnable, HasCare, IsLastLoad}
-use Rattle.circuit_theory.proofs.Shift.{map_same, Contains-head, Contains-tail}
-
-pub beside_is_input : {P : Type 0} (inputs : List (Named P)) (order : List ℕ) (p : P) (i : ℕ) → StandsBeside inputs order p i → (name : List ℕ) × Contains inputs (record { name = name; place = p })
-beside_is_input [] order p i h = absurd h
-beside_is_input (n ∷ inputs) [] p i h = absurd h
-beside_is_input {P} (n ∷ inputs) (j ∷ order) p i (inl h) = (n.name, subst (λ (q : P). Contains (n ∷ inputs) (record { name = n.name; place = q })) h.0 (Contains-head n inputs))
-beside_is_input (n ∷ inputs) (j ∷ order) p i (inr h) = let r = beside_is_input inputs order p i h in (r.0, Contains-tail n _ inputs r.1)
+use Rattle.circuit_theory.proofs.Lists.{map_same, Contains-head, Contains-tail}
+use Rattle.circuit_theory.proofs.Inputs.{beside_is_input}
 
 module _ {P : Type 0} (c : Circuit P) (same : (p q : P) → (p ≡ q) ⊎ (p ≢ q)) where
-
   -- with a latch put to a bit there is one value of each place that ends at inputs and latches
   pub put_unique : (u : P) (bit : Bool) (x y z : P → Bool) → ExtendsWith c u bit x y → ExtendsWith c u bit x z → {p : P} → IsDetermined c p → y p ≡ z p
   put_unique u bit x y z ey ez {p} (IsDetermined.source s) = go (same p u)
@@ -27,12 +21,11 @@ module _ {P : Type 0} (c : Circuit P) (same : (p q : P) → (p ≡ q) ⊎ (p ≢
       go (inr n) = ey.sources p s n ∙ sym (ez.sources p s n)
   put_unique u bit x y z ey ez (IsDetermined.gate {fanins = fanins} {cover = cover} eq each) =
       All-contains (Holds y) c.equations _ ey.meets eq
-          ∙ (ap (cover_value cover) (map_same y z fanins (λ p h. put_unique u bit x y z ey ez (each p h))) ∙ sym (All-contains (Holds z) c.equations _ ez.meets eq))
+      ∙ (ap (cover_value cover) (map_same y z fanins (λ p h. put_unique u bit x y z ey ez (each p h))) ∙ sym (All-contains (Holds z) c.equations _ ez.meets eq))
   put_unique u bit x y z ey ez (IsDetermined.port eq from) =
       All-contains (Holds y) c.equations _ ey.meets eq ∙ (put_unique u bit x y z ey ez from ∙ sym (All-contains (Holds z) c.equations _ ez.meets eq))
 
   module _ (n : ℕ) (run : ℕ → P → Bool) (is_run : IsRun c n run) (name : List ℕ) (u next : P) (latch : IsLatch c name u next) (det : IsDetermined c next) where
-
     -- the run's own values, as values with the latch put to what it has
     own : (t : ℕ) (bit : Bool) → t < n → run t u ≡ bit → ExtendsWith c u bit (run t) (run t)
     own t bit h e = record { meets = is_run.meets t h; sources = λ p s k. refl; put = e }
@@ -91,10 +84,9 @@ pub record AreEvents {P : Type 0} (side : EventSide P) (enabled : P → Type 0) 
 module _ {P : Type 0} (side : EventSide P) (same : (p q : P) → (p ≡ q) ⊎ (p ≢ q)) (single : IsSingleDriven side.circuit) (can_put : CanPut side.circuit)
     (det : (name : List ℕ) (u next : P) → IsLatch side.circuit name u next → IsDetermined side.circuit next)
     (rises : (name : List ℕ) (u next : P) → IsLatch side.circuit name u next → IsEnabled side.circuit u →
-        (x low high : P → Bool) → ExtendsWith side.circuit u false x low → ExtendsWith side.circuit u true x high → low next ≡ true → high next ≡ true)
+    (x low high : P → Bool) → ExtendsWith side.circuit u false x low → ExtendsWith side.circuit u true x high → low next ≡ true → high next ≡ true)
     (n : ℕ) (run : ℕ → P → Bool) (is_run : IsRun side.circuit n run) (start : P → Type 0) (at : List ℕ → ℕ) (bits : ℕ → List ℕ → Bool)
     (events : AreEvents side (IsEnabled side.circuit) start n run at bits) where
-
   -- values with a latch put, as the lemma wants them
   pub from_put : (name : List ℕ) (u next : P) (bit : Bool) (v x : P → Bool) → IsLatch side.circuit name u next → ExtendsWith side.circuit u bit v x → PutAt side.circuit (Some (u, bit)) v x
   from_put name u next bit v x latch ex = record {
@@ -119,7 +111,7 @@ module _ {P : Type 0} (side : EventSide P) (same : (p q : P) → (p ≡ q) ⊎ (
         events.bits_are node p i h ∙ sym (ex.inputs p (beside_is_input side.circuit.inputs side.order p i h))
     event_tree_is_run (EventUnfolds.gate {fanins = fanins} {cover = cover} eq each) x ex reached =
         ap (cover_value cover) (event_trees_are_run each x ex (λ p h v cone. reached v (cone.0, cone.1, cone.2, Reaches.there (Reads.by_gate eq h) cone.3)))
-            ∙ sym (All-contains (Holds x) side.circuit.equations _ ex.meets eq)
+        ∙ sym (All-contains (Holds x) side.circuit.equations _ ex.meets eq)
     event_tree_is_run (EventUnfolds.port eq from) x ex reached =
         event_tree_is_run from x ex (λ v cone. reached v (cone.0, cone.1, cone.2, Reaches.there (Reads.by_port eq) cone.3)) ∙ sym (All-contains (Holds x) side.circuit.equations _ ex.meets eq)
     event_tree_is_run (EventUnfolds.plain {name = name} {u = u} {next = next} {node = node} {tree = tree} latch not_put not_enabled rest) x ex reached =
@@ -128,8 +120,8 @@ module _ {P : Type 0} (side : EventSide P) (same : (p q : P) → (p ≡ q) ⊎ (
         let step : at node ≡ at child + 1 = events.plain node name u next here latch not_enabled in
         let r = events.in_range node in
         let ih : tree_value bits tree ≡ run (at child) next = event_tree_is_run rest (run (at child))
-            (record { meets = is_run.meets (at child) (events.in_range child); inputs = λ p i. refl; latches = λ m p q l k. refl; fixed = λ w b e. none_is w b e })
-            (λ v cone k. (u, here, refl, (name, next, latch, cone, λ en. absurd (not_enabled en)))) in
+        (record { meets = is_run.meets (at child) (events.in_range child); inputs = λ p i. refl; latches = λ m p q l k. refl; fixed = λ w b e. none_is w b e })
+        (λ v cone k. (u, here, refl, (name, next, latch, cone, λ en. absurd (not_enabled en)))) in
         let carried : run (at child + 1) u ≡ run (at child) next = All-contains (Carries (run (at child)) (run (at child + 1))) side.circuit.equations _ (is_run.carries (at child) (omega arith)) latch in
         ih ∙ (sym carried ∙ (ap (λ t. run t u) (sym step) ∙ sym (ex.latches name u next latch not_put)))
       where
@@ -141,7 +133,7 @@ module _ {P : Type 0} (side : EventSide P) (same : (p q : P) → (p ≡ q) ⊎ (
         let last = events.held node name u next here latch enabled in
         let value = last_load_value side.circuit same n run is_run name u next latch (det name u next latch) can_put (rises name u next latch enabled) (at node) (at child) (events.in_range node) last in
         let ih : tree_value bits tree ≡ last.loads.low next = event_tree_is_run rest last.loads.low (from_put name u next false (run (at child)) last.loads.low latch last.loads.low_is)
-            (λ v cone k. (u, here, refl, (name, next, latch, cone, λ en. k))) in
+        (λ v cone k. (u, here, refl, (name, next, latch, cone, λ en. k))) in
         ih ∙ (sym value ∙ sym (ex.latches name u next latch not_put))
     event_tree_is_run (EventUnfolds.fixed {u = u} {bit = bit}) x ex reached = sym (ex.fixed u bit refl)
 
@@ -158,7 +150,7 @@ module _ {P : Type 0} (side : EventSide P) (same : (p q : P) → (p ≡ q) ⊎ (
   pub events_have_care : ((v : P) → IsEnabled side.circuit v ⊎ (IsEnabled side.circuit v → ⊥)) →
       ((v : P) → start v → (name : List ℕ) × (next : P) × IsLatch side.circuit name v next) →
       ((node : List ℕ) (name : List ℕ) (v next : P) (bit : Bool) → ReachedAt side (IsEnabled side.circuit) start node v → IsLatch side.circuit name v next → IsEnabled side.circuit v →
-          (tree : Tree (List ℕ)) × EventUnfolds side (IsEnabled side.circuit) (Some (v, bit)) next (side.class v ∷ node) tree) →
+      (tree : Tree (List ℕ)) × EventUnfolds side (IsEnabled side.circuit) (Some (v, bit)) next (side.class v ∷ node) tree) →
       HasCare side (IsEnabled side.circuit) start bits
   events_have_care kind start_latch trees node v reached = go (kind v) (latch_of node reached)
     where
@@ -180,7 +172,7 @@ module _ {P : Type 0} (side : EventSide P) (same : (p q : P) → (p ≡ q) ⊎ (
           let low = trees node name v next false reached latch enabled in
           let high = trees node name v next true reached latch enabled in
           let inner : (w : P) → ConeLatches side.circuit next w → w ≢ v → ReachedAt side (IsEnabled side.circuit) start child w =
-              λ w cone k. (v, reached, refl, (name, next, latch, cone, λ en. k)) in
+          λ w cone k. (v, reached, refl, (name, next, latch, cone, λ en. k)) in
           let l = event_tree_is_run low.1 last.loads.low (from_put name v next false (run (at child)) last.loads.low latch last.loads.low_is) inner in
           let h = event_tree_is_run high.1 last.loads.high (from_put name v next true (run (at child)) last.loads.high latch last.loads.high_is) inner in
           IsEnable.own enabled latch low.1 high.1 (or_not _ _ (l ∙ (last.loads.same ∙ sym h)))

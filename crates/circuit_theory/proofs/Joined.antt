@@ -1,5 +1,5 @@
 -- Two circuits side by side: their runs and marks are those of each.
-use Rattle.std.proofs.Common.{◌≡◌, ℕ, ◌+◌, Bool, List, [], ◌∷◌, map, refl, sym, ◌∙◌, ap, subst, arith, inl, inr}
+use Rattle.std.proofs.Common.{◌≡◌, ℕ, ◌+◌, Bool, List, [], ◌∷◌, map, sym, ◌∙◌, ap, inl, inr}
 use Rattle.std.specs.Prelude.{◌⊎◌}
 use Rattle.std.specs.List.{All, AllByRecursion, Contains}
 use Rattle.std.proofs.lemmas.List.Elements.{All-append, All-from_recursion, recursion_from_All, Contains-append_left, Contains-append_cases}
@@ -7,49 +7,28 @@ use Rattle.circuit_theory.specs.Cover.{cover_value}
 use Rattle.circuit_theory.specs.Circuit.{Circuit, Equation, Gate, Latch, Port, Holds, Carries}
 use Rattle.circuit_theory.specs.Run.{IsRun}
 use Rattle.circuit_theory.specs.Classes.{Either, Left, Right, moved, joined}
-use Rattle.circuit_theory.proofs.Shift.{Contains-head, Contains-tail}
-use Rattle.circuit_theory.proofs.Onward.{Contains-cases}
-
-pub map-map : {X Y Z : Type 0} (g : Y → Z) (f : X → Y) (xs : List X) → map g (map f xs) ≡ map (λ x. g (f x)) xs
-map-map g f [] = refl
-map-map g f (x ∷ xs) = ap (λ zs. g (f x) ∷ zs) (map-map g f xs)
-
-pub Contains-map : {X Y : Type 0} (f : X → Y) (xs : List X) (x : X) → Contains xs x → Contains (map f xs) (f x)
-Contains-map f [] x h = absurd (omega (arith, h.1))
-Contains-map f (y ∷ xs) x h = go (Contains-cases y x xs h) (λ k. Contains-map f xs x k)
-  where
-    go : (y ≡ x) ⊎ Contains xs x → (Contains xs x → Contains (map f xs) (f x)) → Contains (f y ∷ map f xs) (f x)
-    go (inl e) ih = subst (λ z. Contains (f y ∷ map f xs) z) (ap f e) (Contains-head (f y) (map f xs))
-    go (inr k) ih = Contains-tail (f y) (f x) (map f xs) (ih k)
-
-pub Contains-map_from : {X Y : Type 0} (f : X → Y) (xs : List X) (y : Y) → Contains (map f xs) y → (x : X) × Contains xs x × (f x ≡ y)
-Contains-map_from f [] y h = absurd (omega (arith, h.1))
-Contains-map_from {X} f (x ∷ xs) y h = go (Contains-cases (f x) y (map f xs) h) (λ k. Contains-map_from f xs y k)
-  where
-    go : (f x ≡ y) ⊎ Contains (map f xs) y → (Contains (map f xs) y → (z : X) × Contains xs z × (f z ≡ y)) → (z : X) × Contains (x ∷ xs) z × (f z ≡ y)
-    go (inl e) ih = (x, Contains-head x xs, e)
-    go (inr k) ih = let r = ih k in (r.0, Contains-tail x r.0 xs r.1, r.2)
+use Rattle.circuit_theory.proofs.Lists.{map-map, Contains-map, Contains-map_from}
 
 abbrev pub both : {P Q : Type 0} → (P → Bool) → (Q → Bool) → Either P Q → Bool
 both l r (Left p) = l p
 both l r (Right q) = r q
 
-holds_left : {P Q : Type 0} (l : P → Bool) (r : Q → Bool) (e : Equation P) → Holds l e → Holds (both l r) (moved Left e)
+pub holds_left : {P Q : Type 0} (l : P → Bool) (r : Q → Bool) (e : Equation P) → Holds l e → Holds (both l r) (moved Left e)
 holds_left l r (Gate out fanins cover) h = h ∙ ap (cover_value cover) (sym (map-map (both l r) Left fanins))
 holds_left l r (Latch name out next) h = tt
 holds_left l r (Port out from) h = h
 
-holds_right : {P Q : Type 0} (l : P → Bool) (r : Q → Bool) (e : Equation Q) → Holds r e → Holds (both l r) (moved Right e)
+pub holds_right : {P Q : Type 0} (l : P → Bool) (r : Q → Bool) (e : Equation Q) → Holds r e → Holds (both l r) (moved Right e)
 holds_right l r (Gate out fanins cover) h = h ∙ ap (cover_value cover) (sym (map-map (both l r) Right fanins))
 holds_right l r (Latch name out next) h = tt
 holds_right l r (Port out from) h = h
 
-carries_left : {P Q : Type 0} (l l' : P → Bool) (r r' : Q → Bool) (e : Equation P) → Carries l l' e → Carries (both l r) (both l' r') (moved Left e)
+pub carries_left : {P Q : Type 0} (l l' : P → Bool) (r r' : Q → Bool) (e : Equation P) → Carries l l' e → Carries (both l r) (both l' r') (moved Left e)
 carries_left l l' r r' (Gate out fanins cover) h = tt
 carries_left l l' r r' (Latch name out next) h = h
 carries_left l l' r r' (Port out from) h = tt
 
-carries_right : {P Q : Type 0} (l l' : P → Bool) (r r' : Q → Bool) (e : Equation Q) → Carries r r' e → Carries (both l r) (both l' r') (moved Right e)
+pub carries_right : {P Q : Type 0} (l l' : P → Bool) (r r' : Q → Bool) (e : Equation Q) → Carries r r' e → Carries (both l r) (both l' r') (moved Right e)
 carries_right l l' r r' (Gate out fanins cover) h = tt
 carries_right l l' r r' (Latch name out next) h = h
 carries_right l l' r r' (Port out from) h = tt
@@ -62,8 +41,8 @@ pub all_joined : {P Q : Type 0} (a : Circuit P) (b : Circuit Q) (F : Equation P 
     ((e : Equation P) → F e → H (moved Left e)) → ((e : Equation Q) → G e → H (moved Right e)) → All F a.equations → All G b.equations → All H (joined a b).equations
 all_joined {P} {Q} a b F G H f g l r =
     All-append H (map (moved {P = P} {Q = Either P Q} Left) a.equations) (map (moved {P = Q} {Q = Either P Q} Right) b.equations)
-        (All-from_recursion H _ (all_map (moved Left) F H f a.equations (recursion_from_All F a.equations l)))
-        (All-from_recursion H _ (all_map (moved Right) G H g b.equations (recursion_from_All G b.equations r)))
+    (All-from_recursion H _ (all_map (moved Left) F H f a.equations (recursion_from_All F a.equations l)))
+    (All-from_recursion H _ (all_map (moved Right) G H g b.equations (recursion_from_All G b.equations r)))
 
 pub run_joined : {P Q : Type 0} (a : Circuit P) (b : Circuit Q) (n : ℕ) (l : ℕ → P → Bool) (r : ℕ → Q → Bool) → IsRun a n l → IsRun b n r → IsRun (joined a b) n (λ t. both (l t) (r t))
 run_joined a b n l r la rb = record {

@@ -3,10 +3,9 @@ use Rattle.std.proofs.Common.{◌≡◌, ℕ, suc, max, List, refl, sym, ◌∙�
 use Rattle.std.specs.List.{Contains}
 use Rattle.circuit_theory.specs.Circuit.{Circuit, Equation, Gate, Latch, Port, IsInput, out_of, IsSingleDriven}
 use Rattle.circuit_theory.specs.Tree.{Tree, Trees, Leaf, Branch, Cons, Unfolds, UnfoldsAll, IsInputNumber}
-use Rattle.circuit_theory.proofs.Events.{beside_is_input}
+use Rattle.circuit_theory.proofs.Inputs.{beside_is_input}
 
 module _ {P : Type 0} (c : Circuit P) (order : List ℕ) (single : IsSingleDriven c) (one_number : (p : P) (i j : ℕ) → IsInputNumber c order p i → IsInputNumber c order p j → i ≡ j) where
-
   -- what an unfolding says of the equation that drives the place
   abbrev pub UnfoldSays : ℕ → ℕ → Tree ℕ → Equation P → Type 0
   UnfoldSays k d tree (Gate out fanins cover) = (trees : Trees ℕ) × UnfoldsAll c order fanins k d trees × (tree ≡ Branch cover trees)

@@ -1,36 +1,18 @@
 -- Equal functions of the cut circuits agree onward.
-use Rattle.std.proofs.Common.{◌≡◌, ℕ, zero, suc, ◌+◌, ◌-◌, ◌<◌, ◌≤◌, Bool, true, false, cond, List, [], ◌∷◌, length, get_or, refl, sym, ◌∙◌, ap, subst, arith, inl, inr, Option, Some, None}
-use Rattle.std.specs.Prelude.{◌⊎◌, ◌&&◌, ◌==◌}
-use Rattle.std.specs.List.{Contains, filter_map, cons_option}
+use Rattle.std.proofs.Common.{◌≡◌, ℕ, zero, suc, ◌+◌, ◌-◌, ◌<◌, ◌≤◌, Bool, true, false, cond, List, [], ◌∷◌, refl, sym, ◌∙◌, ap, subst, arith, inl, inr, Option, Some, None}
+use Rattle.std.specs.Prelude.{◌⊎◌}
+use Rattle.std.specs.List.{Contains, filter_map}
 use Rattle.std.proofs.lemmas.List.Elements.{All-contains, All-filter, Contains-append_cases}
 use Rattle.circuit_theory.specs.Circuit.{Circuit, Equation, Gate, Latch, Port, Named, IsLatch, IsSingleDriven, Carries, Holds}
 use Rattle.circuit_theory.specs.Run.{IsRun, Marked, NoneEnabled}
 use Rattle.circuit_theory.specs.Tree.{AreNumbered, HaveEqualFunctions}
 use Rattle.circuit_theory.specs.declared.Mode.TheVariants.{Plain}
-use Rattle.circuit_theory.specs.Agree.{AgreeOnward, AreAlike, IsPair, LatchesEqual, cut, latch_named, same_name, is_kept, named_at, first_of_pair}
+use Rattle.circuit_theory.specs.Names.{same_name}
+use Rattle.circuit_theory.specs.Agree.{AgreeOnward, AreAlike, IsPair, LatchesEqual, cut, latch_named, is_kept, named_at, first_of_pair}
 use Rattle.circuit_theory.proofs.Marks.{marks_stay}
-use Rattle.circuit_theory.proofs.Shift.{Contains-head, Contains-tail}
-use Rattle.circuit_theory.proofs.Agreement.{same_at, test_same}
-
-pub Contains-cases : {X : Type 0} (x y : X) (xs : List X) → Contains (x ∷ xs) y → (x ≡ y) ⊎ Contains xs y
-Contains-cases {X} x y xs h = go h.0 h.1 h.2
-  where
-    go : (k : ℕ) → k < length (x ∷ xs) → get_or (x ∷ xs) k y ≡ y → (x ≡ y) ⊎ Contains xs y
-    go zero l e = inl e
-    go (suc k) l e = inr (k, omega arith, e)
-
-both : (x y : Bool) → (x && y) ≡ true → (x ≡ true) × (y ≡ true)
-both true y h = (refl, h)
-both false y h = cc
-
-pub same_name-sound : (xs ys : List ℕ) → same_name xs ys ≡ true → xs ≡ ys
-same_name-sound [] [] h = refl
-same_name-sound [] (y ∷ ys) h = cc
-same_name-sound (x ∷ xs) [] h = cc
-same_name-sound (x ∷ xs) (y ∷ ys) h =
-    let parts = both (x == y) (same_name xs ys) h in
-    let head = test_same x y parts.0 in
-    let tail = same_name-sound xs ys parts.1 in cc
+use Rattle.circuit_theory.proofs.Lists.{Contains-head, Contains-tail, filter_map-from}
+use Rattle.circuit_theory.proofs.Agreement.{same_at}
+use Rattle.circuit_theory.proofs.Inputs.{same_name-sound}
 
 pub latch_named-found : {P : Type 0} (es : List (Equation P)) (name : List ℕ) (u next : P) → latch_named es name ≡ Some (u, next) → Contains es (Latch name u next)
 latch_named-found [] name u next h = cc
@@ -48,18 +30,6 @@ latch_named-found {P} (Latch own out to ∷ es) name u next h = go (λ k. latch_
         some_same : {X : Type 0} {x y : X} → Some x ≡ Some y → x ≡ y
         some_same e = cc
     go later false e = Contains-tail _ _ es (later (sym (ap (λ b. cond b (Some (out, to)) (latch_named es name)) e) ∙ h))
-
-filter_map-from : {X Y : Type 0} (f : X → Option Y) (xs : List X) (y : Y) → Contains (filter_map f xs) y → (x : X) × Contains xs x × (f x ≡ Some y)
-filter_map-from f [] y h = absurd (omega (arith, h.1))
-filter_map-from {X} {Y} f (x ∷ xs) y h = go (λ k. filter_map-from f xs y k) (f x) refl
-  where
-    go : (Contains (filter_map f xs) y → (x : X) × Contains xs x × (f x ≡ Some y)) → (o : Option Y) → f x ≡ o → (z : X) × Contains (x ∷ xs) z × (f z ≡ Some y)
-    go later None e = let r = later (subst (λ (ys : List Y). Contains ys y) (ap (λ o. cons_option o (filter_map f xs)) e) h) in (r.0, Contains-tail x r.0 xs r.1, r.2)
-    go later (Some w) e = pick (Contains-cases w y (filter_map f xs) (subst (λ (ys : List Y). Contains ys y) (ap (λ o. cons_option o (filter_map f xs)) e) h))
-      where
-        pick : (w ≡ y) ⊎ Contains (filter_map f xs) y → (z : X) × Contains (x ∷ xs) z × (f z ≡ Some y)
-        pick (inl q) = (x, Contains-head x xs, e ∙ ap Some q)
-        pick (inr k) = let r = later k in (r.0, Contains-tail x r.0 xs r.1, r.2)
 
 -- an input of a cut circuit is one of the circuit, or an exposed latch
 pub cut_input : {P : Type 0} (names : List (List ℕ)) (c : Circuit P) (name : List ℕ) (p : P) → Contains (cut names c).inputs (record { name = name; place = p }) →
@@ -100,7 +70,6 @@ module _ {P Q : Type 0} (names : List (List ℕ)) (a : Circuit P) (b : Circuit Q
     (left_clear : (name : List ℕ) (p : P) → Contains a.inputs (record { name = name; place = p }) → Contains names name → ⊥)
     (right_clear : (name : List ℕ) (q : Q) → Contains b.inputs (record { name = name; place = q }) → Contains names name → ⊥)
     (equal : (p : P) (q : Q) → IsPair names a b p q → HaveEqualFunctions (cut names a) (cut names b) oa ob p q) where
-
   -- up to a cycle
   LatchesUpTo : (ℕ → P → Bool) → (ℕ → Q → Bool) → ℕ → Type 0
   LatchesUpTo left right last = LatchesEqual names a b left right (λ t. t ≤ last)
@@ -131,8 +100,8 @@ module _ {P Q : Type 0} (names : List (List ℕ)) (a : Circuit P) (b : Circuit Q
           let marks = settled p q pair in
           let e : T + (t - T) ≡ t = omega arith in
           same_at (cut names a) (cut names b) oa ob numbered left right (t + 1) (alike_cut n left right alike t k latches) sa sb p q (equal p q pair) t (omega arith)
-              (subst (λ s. Marked (cut names a) NoneEnabled left s p) e (marks_stay (cut names a) NoneEnabled left T (t - T) marks.0))
-              (subst (λ s. Marked (cut names b) NoneEnabled right s q) e (marks_stay (cut names b) NoneEnabled right T (t - T) marks.1))
+          (subst (λ s. Marked (cut names a) NoneEnabled left s p) e (marks_stay (cut names a) NoneEnabled left T (t - T) marks.0))
+          (subst (λ s. Marked (cut names b) NoneEnabled right s q) e (marks_stay (cut names b) NoneEnabled right T (t - T) marks.1))
 
       up_to : (last : ℕ) → last < n → LatchesUpTo left right last
       up_to zero k name u p v q t h l r le = start name u p v q t h l r (omega arith)

@@ -1,7 +1,7 @@
 -- With exposed latches, outputs that are settled in both circuits themselves agree: no exposed latch is read on both sides.
 use Rattle.std.proofs.Common.{◌≡◌, ℕ, ◌+◌, ◌-◌, ◌<◌, Bool, true, false, cond, List, [], ◌∷◌, map, refl, sym, ◌∙◌, ap, subst, arith, inl, inr, Option, Some, None}
 use Rattle.std.specs.Prelude.{◌⊎◌, ◌==◌}
-use Rattle.std.specs.List.{Contains, filter}
+use Rattle.std.specs.List.{Contains}
 use Rattle.std.proofs.lemmas.List.Elements.{All-contains}
 use Rattle.circuit_theory.specs.Cover.{cover_value}
 use Rattle.circuit_theory.specs.Circuit.{Circuit, Equation, Gate, Latch, Port, Named, IsLatch, IsSingleDriven, Holds, Carries}
@@ -9,22 +9,10 @@ use Rattle.circuit_theory.specs.Run.{IsRun, Marked, NoneEnabled}
 use Rattle.circuit_theory.specs.Tree.{Tree, Trees, Unfolds, UnfoldsAll, IsInputNumber, StandsBeside, AreNumbered, HaveEqualFunctions, tree_value, tree_values}
 use Rattle.circuit_theory.specs.declared.Mode.TheVariants.{Plain}
 use Rattle.circuit_theory.specs.Agree.{Agree, IsPair, cut, is_kept}
-use Rattle.circuit_theory.proofs.Shift.{Contains-head, Contains-tail}
 use Rattle.circuit_theory.proofs.Marks.{marked_says}
-use Rattle.circuit_theory.proofs.Agreement.{test_same, test_refl}
-use Rattle.circuit_theory.proofs.Onward.{cut_input, Contains-cases}
-
-pub Contains-filter : {X : Type 0} (test : X → Bool) (xs : List X) (x : X) → Contains (filter test xs) x → Contains xs x
-Contains-filter test [] x h = absurd (omega (arith, h.1))
-Contains-filter {X} test (y ∷ xs) x h = go (test y) refl (λ k. Contains-filter test xs x k)
-  where
-    go : (b : Bool) → test y ≡ b → (Contains (filter test xs) x → Contains xs x) → Contains (y ∷ xs) x
-    go true e ih = pick (Contains-cases y x (filter test xs) (subst (λ (ys : List X). Contains ys x) (ap (λ b. cond b (y ∷ filter test xs) (filter test xs)) e) h))
-      where
-        pick : (y ≡ x) ⊎ Contains (filter test xs) x → Contains (y ∷ xs) x
-        pick (inl q) = subst (Contains (y ∷ xs)) q (Contains-head y xs)
-        pick (inr k) = Contains-tail y x xs (ih k)
-    go false e ih = Contains-tail y x xs (ih (subst (λ (ys : List X). Contains ys x) (ap (λ b. cond b (y ∷ filter test xs) (filter test xs)) e) h))
+use Rattle.circuit_theory.proofs.Onward.{cut_input}
+use Rattle.circuit_theory.proofs.Lists.{Contains-head, Contains-tail, Contains-filter}
+use Rattle.circuit_theory.proofs.Inputs.{test_same, test_refl}
 
 pub kept_equation : {P : Type 0} (names : List (List ℕ)) (c : Circuit P) (e : Equation P) → Contains (cut names c).equations e → Contains c.equations e
 unfolding cut
@@ -32,7 +20,6 @@ kept_equation names c e h = Contains-filter (is_kept names) c.equations e h
 
 module _ {P : Type 0} (names : List (List ℕ)) (c : Circuit P) (single : IsSingleDriven c) (order : List ℕ) (n : ℕ) (run : ℕ → P → Bool) (is_run : IsRun c n run) (t : ℕ) (in_run : t < n) (x : ℕ → ℕ → Bool)
     (inputs : (p : P) (i k s : ℕ) → IsInputNumber (cut names c) order p i → k + s ≡ t → Marked c NoneEnabled run s p → x i k ≡ run s p) where
-
   mutual
     unfolding tree_value
 
@@ -42,7 +29,7 @@ module _ {P : Type 0} (names : List (List ℕ)) (c : Circuit P) (single : IsSing
     cut_tree_is_run (Unfolds.gate {out = out} {fanins = fanins} {cover = cover} eq each) s e mark =
         let own = kept_equation names c (Gate out fanins cover) eq in
         ap (cover_value cover) (cut_trees_are_run each s e (marked_says c run single mark (Gate out fanins cover) own refl))
-            ∙ sym (All-contains (Holds (run s)) c.equations _ (is_run.meets s (omega arith)) own)
+        ∙ sym (All-contains (Holds (run s)) c.equations _ (is_run.meets s (omega arith)) own)
     cut_tree_is_run (Unfolds.port {out = out} {from = from} eq rest) s e mark =
         let own = kept_equation names c (Port out from) eq in
         cut_tree_is_run rest s e (marked_says c run single mark (Port out from) own refl) ∙ sym (All-contains (Holds (run s)) c.equations _ (is_run.meets s (omega arith)) own)
@@ -110,7 +97,6 @@ module _ {P Q : Type 0} (names : List (List ℕ)) (a : Circuit P) (b : Circuit Q
     (right_never : (name : List ℕ) (v next : Q) → Contains names name → IsLatch b name v next → never_left name ≡ false → (run : ℕ → Q → Bool) (t : ℕ) → Marked b NoneEnabled run t v → ⊥)
     (only_names : (name : List ℕ) → never_left name ≡ true → Contains names name)
     (equal : (p : P) (q : Q) → IsPair [] a b p q → HaveEqualFunctions (cut names a) (cut names b) oa ob p q) where
-
   pub parted_functions_agree : Agree Plain a b
   parted_functions_agree n left right alike t p q in_run pair lm rm =
       let e = equal p q pair in

@@ -1,37 +1,22 @@
 -- What is settled in a run is what the past gives.
-use Rattle.std.proofs.Common.{◌≡◌, ℕ, suc, ◌+◌, ◌-◌, ◌<◌, ◌≤◌, Bool, List, [], ◌∷◌, map, refl, sym, ◌∙◌, ap, arith, add-one}
-use Rattle.std.specs.List.{Contains}
+use Rattle.std.proofs.Common.{◌≡◌, ℕ, suc, ◌+◌, ◌-◌, ◌<◌, ◌≤◌, Bool, sym, ◌∙◌, ap, arith, add-one}
 use Rattle.std.proofs.lemmas.List.Elements.{All-contains}
 use Rattle.circuit_theory.specs.Cover.{cover_value}
 use Rattle.circuit_theory.specs.Circuit.{Circuit, IsInput, Holds, Carries}
 use Rattle.circuit_theory.specs.Run.{IsRun, IsPast, Marked, NoneEnabled}
-
-pub Contains-head : {X : Type 0} (x : X) (xs : List X) → Contains (x ∷ xs) x
-Contains-head x xs = (0, omega arith, refl)
-
-pub Contains-tail : {X : Type 0} (x y : X) (xs : List X) → Contains xs y → Contains (x ∷ xs) y
-Contains-tail x y xs h = (suc h.0, omega arith, h.2)
-
--- functions that agree at each element give one list
-pub map_same : {X Y : Type 0} (f g : X → Y) (xs : List X) → ((x : X) → Contains xs x → f x ≡ g x) → map f xs ≡ map g xs
-map_same f g [] h = refl
-map_same f g (x ∷ xs) h =
-    let head : f x ≡ g x = h x (Contains-head x xs) in
-    let tail : map f xs ≡ map g xs = map_same f g xs (λ y k. h y (Contains-tail x y xs k)) in
-    cc
+use Rattle.circuit_theory.proofs.Lists.{map_same}
 
 module _ {P : Type 0} (c : Circuit P) (n : ℕ) (run w : ℕ → P → Bool) (is_run : IsRun c n run) (past : IsPast c w)
     (last : ℕ) (in_run : last < n) (inputs : (p : P) (t : ℕ) → IsInput c p → t ≤ last → w (last - t) p ≡ run t p) where
-
   pub settled_is_past : {t : ℕ} {p : P} → Marked c NoneEnabled run t p → t ≤ last → w (last - t) p ≡ run t p
   settled_is_past {t} {p} (Marked.input i) le = inputs p t i le
   settled_is_past {t} (Marked.gate {fanins = fanins} {cover = cover} eq marks) le =
       All-contains (Holds (w (last - t))) c.equations _ (past.meets (last - t)) eq
-          ∙ (ap (cover_value cover) (map_same (w (last - t)) (run t) fanins (λ p h. settled_is_past (marks p h) le))
-          ∙ sym (All-contains (Holds (run t)) c.equations _ (is_run.meets t (omega arith)) eq))
+      ∙ (ap (cover_value cover) (map_same (w (last - t)) (run t) fanins (λ p h. settled_is_past (marks p h) le))
+      ∙ sym (All-contains (Holds (run t)) c.equations _ (is_run.meets t (omega arith)) eq))
   settled_is_past {t} (Marked.port eq mark) le =
       All-contains (Holds (w (last - t))) c.equations _ (past.meets (last - t)) eq
-          ∙ (settled_is_past mark le ∙ sym (All-contains (Holds (run t)) c.equations _ (is_run.meets t (omega arith)) eq))
+      ∙ (settled_is_past mark le ∙ sym (All-contains (Holds (run t)) c.equations _ (is_run.meets t (omega arith)) eq))
   settled_is_past (Marked.plain {t = t} {out = out} {next = next} latch other mark) le =
       let back : w (last - suc t) out ≡ w (last - suc t + 1) next = All-contains (Carries (w (last - suc t + 1)) (w (last - suc t))) c.equations _ (past.goes_back (last - suc t)) latch in
       let fwd : run (t + 1) out ≡ run t next = All-contains (Carries (run t) (run (t + 1))) c.equations _ (is_run.carries t (omega arith)) latch in

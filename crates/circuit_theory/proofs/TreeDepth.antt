@@ -6,17 +6,15 @@ use Rattle.circuit_theory.specs.Circuit.{Circuit, Equation, Gate, Latch, Port, I
 use Rattle.circuit_theory.specs.Run.{NoneEnabled}
 use Rattle.circuit_theory.specs.Depth.{LatchChain, ChainFrom, IsDepth}
 use Rattle.circuit_theory.specs.Tree.{Tree, Trees, Unfolds, UnfoldsAll}
-use Rattle.circuit_theory.proofs.Shift.{Contains-head, Contains-tail}
-use Rattle.circuit_theory.proofs.Events.{beside_is_input}
-use Rattle.circuit_theory.proofs.Onward.{Contains-cases}
+use Rattle.circuit_theory.proofs.Lists.{Contains-head, Contains-tail, Contains-cases}
+use Rattle.circuit_theory.proofs.Inputs.{beside_is_input}
 
 module _ {P : Type 0} (c : Circuit P) (single : IsSingleDriven c) where
-
-  chain_up : {p q : P} {n : ℕ} → Reads c p q → ChainFrom c NoneEnabled q n → ChainFrom c NoneEnabled p n
+  pub chain_up : {p q : P} {n : ℕ} → Reads c p q → ChainFrom c NoneEnabled q n → ChainFrom c NoneEnabled p n
   chain_up reads (inl e) = inl e
   chain_up reads (inr x) = inr (x.0, (x.1.0, Reaches.there reads x.1.1), x.2)
 
-  chain_latch : {u : P} {n : ℕ} → LatchChain c NoneEnabled u n → (name : List ℕ) × (next : P) × IsLatch c name u next
+  pub chain_latch : {u : P} {n : ℕ} → LatchChain c NoneEnabled u n → (name : List ℕ) × (next : P) × IsLatch c name u next
   chain_latch (LatchChain.last {next = next} {name = name} latch) = (name, next, latch)
   chain_latch (LatchChain.more edge rest) = (edge.name, edge.next, edge.latch)
 
@@ -30,15 +28,26 @@ module _ {P : Type 0} (c : Circuit P) (single : IsSingleDriven c) where
   read_says {p} {q} (Reads.by_gate {fanins = fanins} {cover = cover} eq h) e k r = subst (ReadSays q) (single.one (Gate p fanins cover) e eq k (sym r)) h
   read_says {p} {q} (Reads.by_port eq) e k r = subst (ReadSays q) (single.one (Port p q) e eq k (sym r)) refl
 
-  extend : {name : List ℕ} {out next : P} {n : ℕ} → IsLatch c name out next → ChainFrom c NoneEnabled next n → ChainFrom c NoneEnabled out (suc n)
+  pub extend : {name : List ℕ} {out next : P} {n : ℕ} → IsLatch c name out next → ChainFrom c NoneEnabled next n → ChainFrom c NoneEnabled out (suc n)
   extend {name} {out} {next} latch (inl e) = inr (out, (inr (name, next, latch), Reaches.here), subst (λ m. LatchChain c NoneEnabled out (suc m)) (sym e) (LatchChain.last latch))
   extend {name} {out} {next} latch (inr x) =
       let other = chain_latch x.2 in
-      inr (out, (inr (name, next, latch), Reaches.here), LatchChain.more (record {
-        name = name; next = next; latch = latch; kept = λ h. omega (arith, h.1);
-        other_name = other.0; other_next = other.1; other = other.2; other_kept = λ h. omega (arith, h.1);
-        cone = x.1; no_self_edge = λ en. absurd en;
-      }) x.2)
+      inr (
+        out,
+        (inr (name, next, latch), Reaches.here),
+        LatchChain.more (record {
+          name = name;
+          next = next;
+          latch = latch;
+          kept = λ h. omega (arith, h.1);
+          other_name = other.0;
+          other_next = other.1;
+          other = other.2;
+          other_kept = λ h. omega (arith, h.1);
+          cone = x.1;
+          no_self_edge = λ en. absurd en;
+        }) x.2,
+      )
 
   mutual
     deepest : {order : List ℕ} {p : P} {k d : ℕ} {tree : Tree ℕ} → Unfolds c order p k d tree → ChainFrom c NoneEnabled p d

@@ -5,21 +5,19 @@ use Rattle.circuit_theory.specs.Cover.{cover_value}
 use Rattle.circuit_theory.specs.Circuit.{Circuit, Holds, Carries}
 use Rattle.circuit_theory.specs.Run.{IsRun, IsPast, Extends, IsDetermined}
 use Rattle.circuit_theory.specs.Tree.{Tree, Trees, tree_value, tree_values, Unfolds, UnfoldsAll, IsInputNumber}
-use Rattle.circuit_theory.proofs.Shift.{map_same}
+use Rattle.circuit_theory.proofs.Lists.{map_same}
 
 module _ {P : Type 0} (c : Circuit P) (x u v : P → Bool) (eu : Extends c x u) (ev : Extends c x v) where
-
   pub values_unique : {p : P} → IsDetermined c p → u p ≡ v p
   values_unique {p} (IsDetermined.source s) = eu.sources p s ∙ sym (ev.sources p s)
   values_unique (IsDetermined.gate {fanins = fanins} {cover = cover} eq each) =
       All-contains (Holds u) c.equations _ eu.meets eq
-          ∙ (ap (cover_value cover) (map_same u v fanins (λ p h. values_unique (each p h))) ∙ sym (All-contains (Holds v) c.equations _ ev.meets eq))
+      ∙ (ap (cover_value cover) (map_same u v fanins (λ p h. values_unique (each p h))) ∙ sym (All-contains (Holds v) c.equations _ ev.meets eq))
   values_unique (IsDetermined.port eq from) =
       All-contains (Holds u) c.equations _ eu.meets eq ∙ (values_unique from ∙ sym (All-contains (Holds v) c.equations _ ev.meets eq))
 
 module _ {P : Type 0} (c : Circuit P) (order : List ℕ) (w : ℕ → P → Bool) (past : IsPast c w) (a : ℕ → ℕ → Bool)
     (inputs : (p : P) (i k : ℕ) → IsInputNumber c order p i → a i k ≡ w k p) where
-
   mutual
     unfolding tree_value
 
@@ -38,7 +36,6 @@ module _ {P : Type 0} (c : Circuit P) (order : List ℕ) (w : ℕ → P → Bool
 
 module _ {P : Type 0} (c : Circuit P) (order : List ℕ) (n : ℕ) (run : ℕ → P → Bool) (is_run : IsRun c n run) (last : ℕ) (in_run : last < n)
     (a : ℕ → ℕ → Bool) (inputs : (p : P) (i k : ℕ) → IsInputNumber c order p i → k ≤ last → a i k ≡ run (last - k) p) where
-
   mutual
     unfolding tree_value
 

@@ -22,6 +22,7 @@ pub record Started (P : Type 0) : Type 0 where
   pub place : P
   pub bit : Bool
 
+-- the ports in their listing order, one equation for each gate, latch and port, and the initial values
 pub record Circuit (P : Type 0) : Type 0 where
   pub inputs : List (Named P)
   pub outputs : List (Named P)
@@ -29,6 +30,7 @@ pub record Circuit (P : Type 0) : Type 0 where
   -- only reset runs look at these
   pub starts : List (Started P)
 
+-- the place is an input's
 abbrev pub IsInput : {P : Type 0} → Circuit P → P → Type 0
 IsInput c p = (name : List ℕ) × Contains c.inputs (record { name = name; place = p })
 

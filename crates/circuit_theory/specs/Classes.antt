@@ -1,8 +1,10 @@
 -- Classes of latches that load together. Two circuits are taken as one, side by side.
-use Rattle.std.specs.Prelude.{◌≡◌, ◌≢◌, ℕ, zero, suc, ◌+◌, ◌<◌, ◌≤◌, Bool, true, false, max, List, [], ◌∷◌, ◌++◌, map}
-use Rattle.std.specs.List.{Contains, fold}
+use Rattle.std.specs.Prelude.{◌≡◌, ◌≢◌, ℕ, zero, suc, ◌+◌, ◌<◌, ◌≤◌, ◌⊎◌, Bool, true, false, max, List, [], ◌∷◌, ◌++◌, map, length, Some, slice_get}
+use Rattle.std.specs.List.{Contains, AllPairs, fold}
 use Rattle.circuit_theory.specs.Circuit.{Circuit, Equation, Gate, Latch, Port, Named, Started, IsLatch}
 use Rattle.circuit_theory.specs.Run.{IsEnabled}
+use Rattle.circuit_theory.specs.Depth.{IsDepth}
+use Rattle.circuit_theory.specs.Cone.{latches_of}
 use Rattle.circuit_theory.specs.Frame.{EventSide, HasCare, ConeOthers, IsEnable}
 
 -- a place of A or of B
@@ -10,14 +12,17 @@ pub data Either (P Q : Type 0) : Type 0 where
   Left : (p : P) → Either P Q
   Right : (q : Q) → Either P Q
 
+-- an equation over other places
 abbrev pub moved : {P Q : Type 0} → (P → Q) → Equation P → Equation Q
 moved f (Gate out fanins cover) = Gate (f out) (map f fanins) cover
 moved f (Latch name out next) = Latch name (f out) (f next)
 moved f (Port out from) = Port (f out) (f from)
 
+-- a named place, moved
 abbrev pub moved_name : {P Q : Type 0} → (P → Q) → Named P → Named Q
 moved_name f n = record { name = n.name; place = f n.place }
 
+-- an initial value, moved
 abbrev pub moved_start : {P Q : Type 0} → (P → Q) → Started P → Started Q
 moved_start f x = record { place = f x.place; bit = x.bit }
 
@@ -87,3 +92,34 @@ pub record IsInFirstClass {P : Type 0} (s : EventSide P) (before : List P) (v : 
 pub record IsClassMap {P : Type 0} (s : EventSide P) (order : List P) : Type 0 where
   pub plain : (name : List ℕ) (u next : P) → IsLatch s.circuit name u next → (IsEnabled s.circuit u → ⊥) → s.class u ≡ 0
   pub each : (before after : List P) (v : P) → order ≡ before ++ v ∷ after → IsInFirstClass s before v
+
+-- all enabled latches, by depth, then by place in the list of latches: of two circuits side by side A's come first
+pub record IsLatchOrder {P : Type 0} (s : EventSide P) (order : List P) : Type 0 where
+  pub all : (u : P) → IsEnabled s.circuit u → Contains order u
+  pub enabled : (u : P) → Contains order u → IsEnabled s.circuit u
+  pub in_order : AllPairs (λ u v. (d e i j : ℕ) → IsDepth s.circuit (IsEnabled s.circuit) u d → IsDepth s.circuit (IsEnabled s.circuit) v e →
+      slice_get (latches_of s.circuit) i ≡ Some u → slice_get (latches_of s.circuit) j ≡ Some v → (d < e) ⊎ ((d ≡ e) × (i < j))) order
+
+-- the class map of the circuit: each input has a number, and the enabled latches are taken in their order
+pub record HasClasses {P : Type 0} (s : EventSide P) : Type 0 where
+  pub numbered : length s.order ≡ length s.circuit.inputs
+  pub order : List P
+  pub is_order : IsLatchOrder s order
+  pub is_map : IsClassMap s order
+
+-- the first latch of the class
+pub record IsFounder {P : Type 0} (s : EventSide P) (order : List P) (class : ℕ) (v : P) : Type 0 where
+  pub before : List P
+  pub after : List P
+  pub split : order ≡ before ++ v ∷ after
+  pub class_is : s.class v ≡ class
+  pub first : (u : P) → Contains before u → s.class u ≢ class
+
+-- the first member of the class from which the founder of a later class differs
+pub record IsFirstApart {P : Type 0} (s : EventSide P) (order : List P) (class : ℕ) (member founder : P) : Type 0 where
+  pub before : List P
+  pub after : List P
+  pub split : order ≡ before ++ member ∷ after
+  pub class_is : s.class member ≡ class
+  pub differs : EnablesDiffer s member founder
+  pub earlier : (u : P) → Contains before u → s.class u ≡ class → EnablesEqual s u founder

@@ -1,13 +1,16 @@
--- Event functions: trees over event nodes, what is reached, care, and the events of a run.
+-- Event functions: trees over event nodes, what is reached, care, and the events of a run (event-driven Boolean functions
+-- after Ranjan, Singhal, Somenzi and Brayton, DATE 1999).
 --
 -- A node is the list of classes on its path, the last one first: the root is [], and the child of a node by a class is
 -- class ∷ node. A frame is an assignment of bits to inputs at nodes.
-use Rattle.std.specs.Prelude.{◌≡◌, ◌≢◌, ℕ, zero, suc, ◌+◌, ◌<◌, Bool, true, false, not, ◌||◌, List, [], ◌∷◌, Option, Some, None}
+use Rattle.std.specs.Prelude.{◌≡◌, ◌≢◌, ℕ, zero, suc, ◌+◌, ◌<◌, ◌⊎◌, Bool, true, false, not, ◌||◌, List, [], ◌∷◌, length, reverse, Option, Some, None}
 use Rattle.std.specs.List.{Contains}
+use Rattle.circuit_theory.specs.Names.{ListBefore}
 use Rattle.circuit_theory.specs.Cover.{Cover}
 use Rattle.circuit_theory.specs.Circuit.{Circuit, Gate, Port, IsLatch, Reaches}
 use Rattle.circuit_theory.specs.Run.{Loads}
 use Rattle.circuit_theory.specs.Tree.{Tree, Trees, Leaf, Fixed, Branch, Nil, Cons, tree_value, IsInputNumber}
+use Rattle.circuit_theory.specs.Query.{Variable}
 
 -- a circuit as the event form sees it
 pub record EventSide (P : Type 0) : Type 0 where
@@ -36,6 +39,7 @@ mutual
         EventUnfolds side enabled (Some (u, false)) next (side.class u ∷ node) tree → EventUnfolds side enabled put u node tree
     fixed : {u : P} {bit : Bool} {node : List ℕ} → EventUnfolds side enabled (Some (u, bit)) u node (Fixed bit)
 
+  -- the same of each place of a list
   pub data EventUnfoldsAll {P : Type 0} (side : EventSide P) (enabled : P → Type 0) : Option (P × Bool) → List P → List ℕ → Trees (List ℕ) → Type 0 where
     none : {put : Option (P × Bool)} {node : List ℕ} → EventUnfoldsAll side enabled put [] node Nil
     more : {put : Option (P × Bool)} {p : P} {ps : List P} {node : List ℕ} {tree : Tree (List ℕ)} {trees : Trees (List ℕ)} →
@@ -54,7 +58,7 @@ abbrev pub ReachedAt : {P : Type 0} → EventSide P → (P → Type 0) → (P �
 ReachedAt side enabled start [] v = start v
 ReachedAt {P} side enabled start (k ∷ node) v = (u : P) × ReachedAt side enabled start node u × (side.class u ≡ k) × ConeOthers side.circuit enabled u v
 
--- Bit is the enable of u at a node of the frame: 1 for a plain latch. Bit is a parameter, so that a proof can take a fact apart at any bit.
+-- bit is the enable of u at a node of the frame: 1 for a plain latch
 pub data IsEnable {P : Type 0} (side : EventSide P) (enabled : P → Type 0) (bits : ℕ → List ℕ → Bool) (u : P) (node : List ℕ) (bit : Bool) : Type 0 where
   always : (enabled u → ⊥) → bit ≡ true → IsEnable side enabled bits u node bit
   own : {name : List ℕ} {next : P} {low high : Tree (List ℕ)} → enabled u → IsLatch side.circuit name u next →
@@ -78,11 +82,27 @@ EventCycle side enabled start run t [] cycle = cycle ≡ t
 EventCycle side enabled start run t (zero ∷ node) cycle = EventCycle side enabled start run t node (cycle + 1)
 EventCycle {P} side enabled start run t (suc k ∷ node) cycle =
     (parent : ℕ) × EventCycle side enabled start run t node parent × (cycle < parent)
-        × ((u : P) × (name : List ℕ) × (next : P) × ReachedAt side enabled start node u × (side.class u ≡ suc k) × IsLatch side.circuit name u next × Loads side.circuit (run cycle) u next)
-        × ((later : ℕ) (u : P) (name : List ℕ) (next : P) → cycle < later → later < parent → ReachedAt side enabled start node u → side.class u ≡ suc k →
-            IsLatch side.circuit name u next → Loads side.circuit (run later) u next → ⊥)
+    × ((u : P) × (name : List ℕ) × (next : P) × ReachedAt side enabled start node u × (side.class u ≡ suc k) × IsLatch side.circuit name u next × Loads side.circuit (run cycle) u next)
+    × ((later : ℕ) (u : P) (name : List ℕ) (next : P) → cycle < later → later < parent → ReachedAt side enabled start node u → side.class u ≡ suc k →
+    IsLatch side.circuit name u next → Loads side.circuit (run later) u next → ⊥)
 
 -- the root, and the children by the classes of latches that are reached
 abbrev pub IsNode : {P : Type 0} → EventSide P → (P → Type 0) → (P → Type 0) → List ℕ → Type 0
 IsNode side enabled start [] = Unit {0}
 IsNode {P} side enabled start (k ∷ node) = (u : P) × ReachedAt side enabled start node u × (side.class u ≡ k)
+
+-- Event variables go by longer path, then by path in order of class numbers, then by input. A path is read from the root,
+-- and a node has its last step first.
+abbrev pub NodeBefore : Variable (List ℕ) → Variable (List ℕ) → Type 0
+NodeBefore x y =
+    (length y.at < length x.at)
+    ⊎ ((length x.at ≡ length y.at) × (ListBefore (reverse x.at) (reverse y.at) ⊎ ((x.at ≡ y.at) × (x.input < y.input))))
+
+-- so many steps of class 0
+abbrev pub always_node : ℕ → List ℕ
+always_node zero = []
+always_node (suc k) = 0 ∷ always_node k
+
+-- the frame's bits by shifts, for a pair that reaches class 0 alone
+abbrev pub bits_as_shifts : (ℕ → List ℕ → Bool) → ℕ → ℕ → Bool
+bits_as_shifts bits i k = bits i (always_node k)

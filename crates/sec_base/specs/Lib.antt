@@ -1,0 +1,6 @@
+pub mod Cover
+pub mod Table
+pub mod Outside
+pub mod Fetch
+pub mod MemShelf
+pub mod MemSink

@@ -1,0 +1,13 @@
+pub mod Behind
+pub mod Each
+pub mod Gate
+pub mod Pairs
+pub mod Tokens
+pub mod RowFacts
+pub mod Rowed
+pub mod Taken
+pub mod Goes
+pub mod Steps
+pub mod Bytes
+pub mod Loop
+pub mod Plain

@@ -1,0 +1,20 @@
+//! Reads a text of the Berkeley Logic Interchange Format (BLIF) as a design.
+//!
+//! The words and forms are those of the BLIF manual (Berkeley Logic Interchange Format, University
+//! of California, Berkeley), in the profile that docs/ describes.
+#![tactic(auto)]
+
+mod block;
+mod design;
+mod error;
+mod head;
+mod names;
+mod open_model;
+mod reader;
+mod rows;
+mod statements;
+mod stop;
+
+pub use design::{BlifModel, BlifModels, Design, Pair, Pairs, Statement, Statements};
+pub use error::{ReadError, ReadKind};
+pub use reader::read_design;

@@ -1,0 +1,4 @@
+pub mod Places
+pub mod Growth
+pub mod NextSet
+pub mod Nets

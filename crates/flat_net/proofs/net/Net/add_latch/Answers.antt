@@ -1,0 +1,14 @@
+-- The net has one latch more.
+use Rattle.std.proofs.Common.{◌≡◌, ◌++◌, ◌∷◌, [], rules, subst}
+use Rattle.sec_base.specs.Table.{AreDistinct}
+use Rattle.flat_net.specs.Makes.{with_latch}
+use Rattle.flat_net.specs.Sound.{IsSound}
+use Rattle.flat_net.proofs.Growth.{sound_along, sound_latch}
+use Rattle.flat_net.proofs.net.Net.add_latch.Goals as goal
+
+pub invariant_of-self-2 : goal.invariant_of-self-2
+invariant_of-self-2 c =
+    let names : c.intern.new.self ≡ c.args.self.now.names ++ c.args.name.now ∷ [] = search rules in
+    sound_along (with_latch c.args.self.now c.args.name.now c.args.init)
+    (sound_latch c.args.self.now c.args.name.now c.args.init (subst IsSound c.self.view_is c.self.invariant) (subst AreDistinct names c.keeps.ensures) c.requires.room)
+    (search rules)

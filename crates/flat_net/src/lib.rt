@@ -1,0 +1,12 @@
+//! Flat circuits: one driver for each signal, gates in an order of evaluation, latches, and no hierarchy.
+#![tactic(auto)]
+
+mod maker;
+mod net;
+mod parts;
+mod signals;
+
+pub use maker::NetMaker;
+pub use net::Net;
+pub use parts::{Driver, Gate, LatchAt, Port};
+pub use signals::{Signal, Signals};

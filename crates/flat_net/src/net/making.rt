@@ -1,0 +1,188 @@
+//! How a net grows, signal by signal.
+
+ghost use Rattle.std.specs.Prelude.{◌≡◌, ◌+◌, ◌^◌, ◌<◌, ◌≤◌, ℕ, false, List, [], ◌∷◌, ◌++◌, length, slice_get, vec_len, vec_capacity, Some, All, IfOk, IsSomeAnd, OnOk, OnErr};
+ghost use Rattle.sec_base.specs.Table.{is_among};
+ghost use Rattle.flat_net.specs.Makes.{empty_net, with_input, with_latch, with_gate, with_cover, with_output, with_next, with_clock};
+
+use super::Net;
+use crate::parts::{Driver, Gate, LatchAt, Port};
+use crate::signals::{Signal, Signals};
+use sec_base::{Cover, Init, NameTable, NoMemory, Seq, Word};
+use std::alloc::Global;
+
+impl Net {
+    pub(crate) fn empty(alloc: Global) -> Net
+        ensures { result ≡ empty_net }
+    {
+        Net {
+            inputs: Vec::new(alloc),
+            outputs: Vec::new(alloc),
+            gates: Vec::new(alloc),
+            latches: Vec::new(alloc),
+            covers: Vec::new(alloc),
+            drivers: Vec::new(alloc),
+            names: NameTable::new(alloc),
+            clock: None,
+        }
+    }
+
+    pub(crate) fn has_name(&self, name: &[u8]) -> bool
+        ensures { result ≡ is_among self.now.names name.now }
+    {
+        self.names.has(name)
+    }
+
+    pub(crate) fn add_input(&mut self, alloc: Global, name: &[u8]) -> Result<Signal, NoMemory>
+        requires room { length self.old.drivers + 1 < 2 ^ 32 }
+        requires new { is_among self.old.names name.now ≡ false }
+        ensures signal { IfOk result (λ s. s.0 ≡ length self.old.drivers) }
+        ensures ok { OnOk result (self.new ≡ with_input self.old name.now) }
+        ensures err { OnErr result (self.new ≡ self.old) }
+    {
+        let signal = Signal(self.drivers.len() as u32);
+        let number = self.inputs.len() as u32;
+        let name_kept = Seq::from_vec(name.to_vec(alloc)?);
+        make_room(&mut self.inputs, &mut self.drivers)?;
+        self.names.intern(alloc, name)?;
+        self.names.keeps();
+        push_within(
+            &mut self.inputs,
+            Port {
+                name: name_kept,
+                signal,
+            },
+        );
+        push_within(&mut self.drivers, Driver::Input(number));
+        Ok(signal)
+    }
+
+    pub(crate) fn add_latch(
+        &mut self,
+        alloc: Global,
+        name: &[u8],
+        init: Init,
+    ) -> Result<Signal, NoMemory>
+        requires room { length self.old.drivers + 1 < 2 ^ 32 }
+        requires new { is_among self.old.names name.now ≡ false }
+        ensures signal { IfOk result (λ s. s.0 ≡ length self.old.drivers) }
+        ensures ok { OnOk result (self.new ≡ with_latch self.old name.now init) }
+        ensures err { OnErr result (self.new ≡ self.old) }
+    {
+        let signal = Signal(self.drivers.len() as u32);
+        let number = self.latches.len() as u32;
+        let name_kept = Seq::from_vec(name.to_vec(alloc)?);
+        make_room(&mut self.latches, &mut self.drivers)?;
+        self.names.intern(alloc, name)?;
+        self.names.keeps();
+        push_within(
+            &mut self.latches,
+            LatchAt {
+                name: name_kept,
+                next: signal,
+                out: signal,
+                init,
+            },
+        );
+        push_within(&mut self.drivers, Driver::Latch(number));
+        Ok(signal)
+    }
+
+    pub(crate) fn add_gate(
+        &mut self,
+        alloc: Global,
+        name: &[u8],
+        fanins: Signals,
+        cover: u32,
+    ) -> Result<Signal, NoMemory>
+        requires room { length self.old.drivers + 1 < 2 ^ 32 }
+        requires new { is_among self.old.names name.now ≡ false }
+        requires within { All (λ f. f.0 < length self.old.drivers) fanins }
+        requires fits { IsSomeAnd (slice_get self.old.covers cover) (λ c. c.width ≡ length fanins) }
+        ensures signal { IfOk result (λ s. s.0 ≡ length self.old.drivers) }
+        ensures ok { OnOk result (self.new ≡ with_gate self.old name.now fanins cover) }
+        ensures err { OnErr result (self.new ≡ self.old) }
+    {
+        let out = Signal(self.drivers.len() as u32);
+        let number = self.gates.len() as u32;
+        make_room(&mut self.gates, &mut self.drivers)?;
+        self.names.intern(alloc, name)?;
+        self.names.keeps();
+        push_within(&mut self.gates, Gate { fanins, cover, out });
+        push_within(&mut self.drivers, Driver::Gate(number));
+        Ok(out)
+    }
+
+    pub(crate) fn add_cover(&mut self, cover: Cover) -> Result<u32, NoMemory>
+        requires { length self.old.covers + 1 < 2 ^ 32 }
+        ensures number { IfOk result (λ id. id ≡ length self.old.covers) }
+        ensures ok { OnOk result (self.new ≡ with_cover self.old cover) }
+        ensures err { OnErr result (self.new ≡ self.old) }
+    {
+        cover.keeps();
+        let number = self.covers.len() as u32;
+        self.covers.push(cover)?;
+        Ok(number)
+    }
+
+    pub(crate) fn add_output(
+        &mut self,
+        alloc: Global,
+        name: &[u8],
+        s: Signal,
+    ) -> Result<(), NoMemory>
+        requires { s.0 < length self.old.drivers }
+        ensures ok { OnOk result (self.new ≡ with_output self.old name.now s) }
+        ensures err { OnErr result (self.new ≡ self.old) }
+    {
+        let name_kept = Seq::from_vec(name.to_vec(alloc)?);
+        self.outputs.push(Port {
+            name: name_kept,
+            signal: s,
+        })?;
+        Ok(())
+    }
+
+    pub(crate) fn put_next(&mut self, latch: Signal, next: Signal) -> u32
+        requires latch { (j : ℕ) × (slice_get self.old.drivers latch.0 ≡ Some (Driver.Latch j)) }
+        requires within { next.0 < length self.old.drivers }
+        ensures number { slice_get self.old.drivers latch.0 ≡ Some (Driver.Latch result) }
+        ensures within { result < length self.old.latches }
+        ensures set { self.new ≡ with_next self.old result next }
+    {
+        match self.driver(latch) {
+            Driver::Latch(j) => {
+                self.latches[j as usize].next = next;
+                j
+            }
+            _ => unreachable!(),
+        }
+    }
+
+    pub(crate) fn put_clock(&mut self, name: Word)
+        ensures { self.new ≡ with_clock self.old name }
+    {
+        self.clock = Some(name);
+    }
+}
+
+/// Makes room for one item more in both.
+fn make_room<T, U>(items: &mut Vec<T>, others: &mut Vec<U>) -> Result<(), NoMemory>
+    ensures items { items.new.items ≡ items.old.items }
+    ensures others { others.new.items ≡ others.old.items }
+    ensures room { OnOk result (vec_len items.new < vec_capacity items.new) }
+    ensures other_room { OnOk result (vec_len others.new < vec_capacity others.new) }
+{
+    items.reserve(1)?;
+    others.reserve(1)?;
+    Ok(())
+}
+
+/// Puts the item last, where there is room for it.
+pub(crate) fn push_within<T: Drop>(items: &mut Vec<T>, item: T)
+    requires { vec_len items.old < vec_capacity items.old }
+    ensures { items.new.items ≡ items.old.items ++ item ∷ [] }
+{
+    if items.push(item).is_err() {
+        unreachable!();
+    }
+}

@@ -1,0 +1,82 @@
+//! Signals and short lists of them.
+
+ghost use Rattle.std.specs.Prelude.{◌≡◌, List, [], ◌∷◌, ◌++◌, length, OnOk, OnErr, IfOk};
+
+use sec_base::{Duplicate, NoMemory};
+use smallvec::SmallVec;
+use std::alloc::Global;
+use std::marker::Model;
+
+/// A signal of a net, by its number.
+#[derive(Clone, Copy, Debug, PartialEq, Eq, Default)]
+pub struct Signal(pub u32);
+
+impl Duplicate for Signal {
+    fn duplicate(&self, _alloc: Global) -> Result<Signal, NoMemory> {
+        Ok(*self)
+    }
+}
+
+/// A list of signals, of which up to four take no memory of their own. A contract sees it as the list.
+#[derive(Debug, Drop)]
+pub struct Signals {
+    items: SmallVec<Signal, 4>,
+}
+
+impl Model for Signals {
+    ghost use Rattle.std.specs.Prelude.{List};
+    ghost use Rattle.flat_net.specs.declared.signals.Signal.{Signal};
+
+    ghost Value = { List Signal };
+
+    ghost view = { λ s. s.items.items };
+}
+
+impl Signals {
+    /// The empty list. It takes no memory.
+    pub fn new(alloc: Global) -> Signals
+        ensures { result ≡ [] }
+    {
+        Signals {
+            items: SmallVec::new(alloc),
+        }
+    }
+
+    /// Puts the signal last. After `NoMemory` nothing has changed.
+    pub fn push(&mut self, item: Signal) -> Result<(), NoMemory>
+        ensures ok { OnOk result (self.new ≡ self.old ++ item ∷ []) }
+        ensures err { OnErr result (self.new ≡ self.old) }
+    {
+        self.items.push(item)?;
+        Ok(())
+    }
+
+    /// How many signals there are.
+    pub fn len(&self) -> usize
+        ensures { result ≡ length self.now }
+    {
+        self.items.len()
+    }
+
+    /// The signals as a slice.
+    pub fn as_slice(&self) -> &[Signal]
+        ensures { result.now ≡ self.now }
+    {
+        self.items.as_slice()
+    }
+
+    /// An equal list.
+    pub fn copy(&self) -> Result<Signals, NoMemory>
+        ensures { IfOk result (λ made. made ≡ self.now) }
+    {
+        Ok(Signals {
+            items: SmallVec::from_slice(*self.items.allocator(), self.items.as_slice())?,
+        })
+    }
+}
+
+impl Duplicate for Signals {
+    fn duplicate(&self, _alloc: Global) -> Result<Signals, NoMemory> {
+        self.copy()
+    }
+}
