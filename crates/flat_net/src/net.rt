@@ -1,9 +1,10 @@
 //! The flat circuit.
 
-ghost use Rattle.std.specs.Prelude.{◌≡◌, ◌<◌, ◌↔◌, ℕ, Bool, List, length, map, slice_get, slice_index_or, false, Option, Some, All, IsTrue, IsSome, IfSome, IfNone, option_map, ◌==◌, ◌≢◌, IsSomeAnd, Contains};
+ghost use Rattle.std.specs.Prelude.{◌≡◌, ◌<◌, ◌↔◌, ℕ, Bool, List, length, map, slice_get, slice_index_or, false, Option, Some, All, IsTrue, IsSome, IfSome, IfNone, is_some, option_map, ◌==◌, ◌≢◌, IsSomeAnd, Contains};
 ghost use Rattle.std.specs.List.{list_any};
 ghost use Rattle.circuit_theory.specs.Cover.{cover_value, row_matches, place_matches};
 ghost use Rattle.sec_base.specs.Cover.{IsCoverSound};
+ghost use Rattle.sec_base.specs.Table.{is_among};
 ghost use Rattle.circuit_theory.specs.Net.{IsNet, HasDistinctNames};
 ghost use Rattle.flat_net.specs.View.{NetView, cover_of, circuit_of, is_read};
 ghost use Rattle.flat_net.specs.Sound.{IsSound};
@@ -149,9 +150,10 @@ impl Net {
         }
     }
 
-    fn signal_named(&self, name: &[u8]) -> Option<u32>
+    pub(crate) fn signal_named(&self, name: &[u8]) -> Option<u32>
         ensures here { IfSome result (λ s. slice_get self.now.names s ≡ Some name.now) }
         ensures absent { IfNone result (Contains self.now.names name.now → ⊥) }
+        ensures found { is_some result ≡ is_among self.now.names name.now }
     {
         self.names.find(name)
     }

@@ -2,6 +2,7 @@ pub mod Designs
 pub mod Evaluated
 pub mod FlatMain
 pub mod FlatSteps
+pub mod Interfaces
 pub mod Noted
 pub mod Paired
 pub mod Parts
