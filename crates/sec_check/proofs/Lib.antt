@@ -1,7 +1,10 @@
 pub mod Designs
 pub mod Evaluated
+pub mod LeastLeaves
+pub mod Leaves
 pub mod Noted
 pub mod Paired
 pub mod Parts
 pub mod Renamed
+pub mod Results
 pub mod Shared

@@ -1,10 +1,11 @@
 -- The shared inputs, by the numbers of both circuits' inputs.
-use Rattle.std.proofs.Common.{◌≡◌, ℕ, zero, suc, ◌<◌, Bool, true, false, cond, List, [], ◌∷◌, length, refl, sym, ◌∙◌, ap, subst, arith, inl, inr, ◌⊎◌, Option, Some, None, slice_get}
+use Rattle.std.proofs.Common.{◌≡◌, ℕ, ◌+◌, ◌<◌, Bool, true, false, cond, List, [], ◌∷◌, ◌++◌, length, take, refl, sym, ◌∙◌, ap, subst, arith, inl, inr, ◌⊎◌, Option, Some, None, slice_get}
 use Rattle.std.specs.Prelude.{not, ◌&&◌, ◌||◌, ◌==◌}
 use Rattle.std.specs.List.{Contains, filter, find, list_any}
-use Rattle.std.proofs.lemmas.List.Elements.{All-contains, filter_passes}
+use Rattle.std.proofs.lemmas.List.Elements.{All-contains, filter_passes, filter_more}
+use Rattle.std.proofs.lemmas.Option.{slice_get_within, get_or_from_slice_get}
 use Rattle.circuit_theory.specs.Names.{is_among}
-use Rattle.circuit_theory.specs.Interface.{Ports, is_clock, inputs_beside, first_missing, first_mismatch, shared_inputs, ◌or_else◌, AreNumbersOf, AreOrders}
+use Rattle.circuit_theory.specs.Interface.{Ports, is_clock, inputs_beside, first_missing, first_mismatch, shared_inputs, ◌or_else◌, AreOrders}
 use Rattle.circuit_theory.proofs.Lists.{Contains-head, Contains-tail, Contains-cases, Contains-filter, at_of, of_at}
 use Rattle.circuit_theory.proofs.Inputs.{test_same, test_refl}
 use Rattle.circuit_theory.proofs.Numbers.{is_among-sound}
@@ -93,6 +94,12 @@ has_number-is (n ∷ numbers) i h = go (n == i) refl (λ k. has_number-is number
     go : (b : Bool) → (n == i) ≡ b → (list_any (λ m. m == i) numbers ≡ true → Contains numbers i) → Contains (n ∷ numbers) i
     go true e later = subst (λ m. Contains (n ∷ numbers) m) (test_same n i e) (Contains-head n numbers)
     go false e later = Contains-tail n i numbers (later (sym (ap (λ b. b || list_any (λ m. m == i) numbers) e) ∙ h))
+
+-- the elements that pass a test, with one element more
+pub filter_next : {X : Type 0} (test : X → Bool) (xs : List X) (i : ℕ) (x : X) (b : Bool) → slice_get xs i ≡ Some x → test x ≡ b → filter test (take (i + 1) xs) ≡ filter test (take i xs) ++ cond b (x ∷ []) []
+filter_next {X} test xs i x b at e =
+    filter_more test xs i x (slice_get_within xs i x at)
+    ∙ (ap (λ (y : X). filter test (take i xs) ++ cond (test y) (y ∷ []) []) (get_or_from_slice_get xs i x x at) ∙ ap (λ t. filter test (take i xs) ++ cond t (x ∷ []) []) e)
 
 module _ (a b : Ports) (left right : List ℕ) (matched : AreMatched a b) (orders : AreOrders a b left right) where
   -- a shared name's number is among both circuits' numbers
