@@ -144,7 +144,7 @@ module _ (n : NetView) (none : n.latches ≡ []) where
       kept_if : (t r : Bool) → r ≡ true → not (t && not r) ≡ true
       kept_if true true e = refl
       kept_if false true e = refl
-      kept_if true false e = sym e
+      kept_if true false e = e
       kept_if false false e = refl
 
   -- so the leaves of an output's tree are shared inputs
@@ -152,8 +152,8 @@ module _ (n : NetView) (none : n.latches ≡ []) where
       ((name : List ℕ) → Contains (inputs_beside (ports_of n) other) name → Contains shared name) →
       (s : ℕ) (tree : Tree ℕ) → Contains (map (λ (o : Port). o.signal.0) n.outputs) s → Unfolds (circuit_of n) order s 0 0 tree →
       (y : Variable ℕ) → HasLeaf y tree → y.input < length shared
-  leaf_is_shared other shared order others numbers kept s tree shown unfolds y leaf =
-      let visit = leaf_visits (circuit_of n) order s 0 y unfolds Visits.itself leaf in
+  leaf_is_shared other shared order others numbers kept s tree shown unfolds y is_leaf =
+      let visit = leaf_visits (circuit_of n) order s 0 y unfolds Visits.itself is_leaf in
       let input = input_at n order visit.0 y.input visit.1 in
       let read : Contains (signals_read n) input.port.signal.0 = subst (Contains (signals_read n)) (sym input.place) (visited_is_read s visit.0 y.at shown visit.2) in
       let at = at_of shared input.port.name (kept input.port.name (read_is_kept other input.k input.port input.at read)) in

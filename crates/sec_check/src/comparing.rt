@@ -6,7 +6,7 @@ ghost use Rattle.circuit_theory.specs.declared.Mode.TheVariants.{Plain};
 ghost use Rattle.circuit_theory.specs.Interface.{first_mismatch, shared_inputs, AreOrders};
 ghost use Rattle.sec_check.specs.Compared.{Compared, IsCompared, ports_of};
 ghost use Rattle.sec_check.specs.Loading.{IsComparable};
-ghost use Rattle.sec_check.specs.Sweep.{results_of, answer_of, verdict_of, witness_of};
+ghost use Rattle.sec_check.specs.Sweep.{results_of, answer_of, verdict_of, witness_of, IsUntried};
 
 use flat_net::{Net, Port};
 use sec_base::{BitRows, NoMemory, Orders, PairAnswer, Seq, Side, Word, Words};
@@ -80,13 +80,28 @@ fn outcome_of(alloc: Global, a: &Net, b: &Net, orders: &Orders, shared: Words) -
     requires few { length shared ≤ 12 }
     ensures { IfOk result (IsCompared a.now b.now) }
 {
+    let mut states = pair_outputs(alloc, a, b)?;
+    outcome_with(alloc, a, b, orders, shared, states.as_mut_slice())
+}
+
+/// The same, with the pairs of outputs.
+fn outcome_with(alloc: Global, a: &Net, b: &Net, orders: &Orders, shared: Words, states: &mut [PairState]) -> Result<Outcome, NoMemory>
+    requires matches { first_mismatch (ports_of a.now) (ports_of b.now) ≡ None }
+    requires orders { AreOrders (ports_of a.now) (ports_of b.now) orders.now.left orders.now.right }
+    requires left_gates { a.now.latches ≡ [] }
+    requires right_gates { b.now.latches ≡ [] }
+    requires right { IsComparable b.now }
+    requires shared { shared ≡ shared_inputs (ports_of a.now) (ports_of b.now) }
+    requires few { length shared ≤ 12 }
+    requires untried { AllZip (IsUntried b.now) a.now.outputs states.old }
+    ensures { IfOk result (IsCompared a.now b.now) }
+{
     a.keeps();
     b.keeps();
     let inputs = shared.len() as u32;
-    let mut states = pair_outputs(alloc, a, b)?;
-    try_all(alloc, a, b, orders, inputs, states.as_mut_slice())?;
-    let pairs = results_of(alloc, a.outputs(), states.as_slice())?;
-    let verdict = verdict_of(alloc, a.outputs(), states.as_slice(), shared)?;
+    try_all(alloc, a, b, orders, inputs, states)?;
+    let pairs = results_of(alloc, a.outputs(), states)?;
+    let verdict = verdict_of(alloc, a.outputs(), states, shared)?;
     Ok(Outcome {
         inputs,
         left_latches: 0,
