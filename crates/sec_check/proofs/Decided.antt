@@ -81,7 +81,7 @@ numbered x count =
       λ i h. ap (λ (bs : List Bool). bit_at bs i) same ∙ (bits_from-at x 0 count i h ∙ ap x (let e : 0 + i ≡ i = omega arith in e)),
     )
 
-bits_of-length : (m count : ℕ) → length (bits_of m count) ≡ count
+pub bits_of-length : (m count : ℕ) → length (bits_of m count) ≡ count
 bits_of-length m zero = refl
 bits_of-length m (suc count) = ap suc (bits_of-length (m / 2) count)
 

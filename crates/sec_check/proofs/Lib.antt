@@ -4,6 +4,7 @@ pub mod Evaluated
 pub mod LeastLeaves
 pub mod Leaves
 pub mod Noted
+pub mod Outcomes
 pub mod Paired
 pub mod Parts
 pub mod Renamed
