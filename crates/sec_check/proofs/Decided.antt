@@ -124,7 +124,7 @@ pub tree_of : (n : NetView) → IsSound n → n.latches ≡ [] → (order : List
     (tree : Tree ℕ) × Unfolds (circuit_of n) order s 0 0 tree
 tree_of n sound none order each s h =
     gates_have_trees (circuit_of n) (length n.drivers) order s 0 (sound_is_net n sound)
-        (each ∙ (length-map (λ (p : Port). p.name) n.inputs ∙ sym (length-map named n.inputs))) h (no_latch n none)
+    (each ∙ (length-map (λ (p : Port). p.name) n.inputs ∙ sym (length-map named n.inputs))) h (no_latch n none)
 
 -- a signal of a net without latches has depth 0
 pub depth_zero : (n : NetView) → IsSound n → n.latches ≡ [] → (s : ℕ) → IsDepth (circuit_of n) NoneEnabled s 0
@@ -220,7 +220,7 @@ module _ (c : Comparison) (nets : AreGateNets c) (p q : ℕ) (left_shown : Conta
       let right_value = right_is_value d.number d.left d.right found.1 (assignment d.number) (λ i h. assigned_bit d.number c.count i) in
       let rows = bits_of d.number c.count ∷ [] in
       subst (λ b. IsWitness (circuit_of c.a) (circuit_of c.b) c.left c.right p q c.count rows 0 d.left b) right_value
-          (subst (λ b. IsWitness (circuit_of c.a) (circuit_of c.b) c.left c.right p q c.count rows 0 b (tree_value (assignment d.number) r)) left_value w)
+      (subst (λ b. IsWitness (circuit_of c.a) (circuit_of c.b) c.left c.right p q c.count rows 0 b (tree_value (assignment d.number) r)) left_value w)
 
   -- the answer on the pair
   pub answer_fits : (o : Option Difference) → IsLeastBelow c (2 ^ c.count) p q o → AnswerFits (circuit_of c.a) (circuit_of c.b) c.left c.right p q (answer_of o)

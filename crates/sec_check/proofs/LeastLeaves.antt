@@ -18,5 +18,5 @@ pub witness_of_least : (a b : Circuit ℕ) (left right : List ℕ) (p q n m : �
     ((x : Variable ℕ) → HasLeaf x l → x.input < n) → ((x : Variable ℕ) → HasLeaf x r → x.input < n) →
     IsLeast same_shift (pair_query l r) (all_inputs n) m →
     IsWitness a b left right p q n (bits_of m n ∷ []) 0
-        (tree_value (assigned same_shift (all_inputs n) (bits_of m n)) l) (tree_value (assigned same_shift (all_inputs n) (bits_of m n)) r)
+    (tree_value (assigned same_shift (all_inputs n) (bits_of m n)) l) (tree_value (assigned same_shift (all_inputs n) (bits_of m n)) r)
 witness_of_least a b left right p q n m l r ul ur hl hr least = ?

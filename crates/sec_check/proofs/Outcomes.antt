@@ -113,12 +113,24 @@ first_or_none shared (port ∷ ports) (s ∷ states) e = go s.found refl (first_
     go : (o : Option Difference) → s.found ≡ o → FirstFound shared ports states V ⊎ NoneFound states V →
         FirstFound shared (port ∷ ports) (s ∷ states) (verdict_of shared (port ∷ ports) (s ∷ states)) ⊎ NoneFound (s ∷ states) (verdict_of shared (port ∷ ports) (s ∷ states))
     go (Some d) h rest = inl (record {
-      index = 0; port = port; state = s; difference = d; port_at = refl; state_at = refl; found = h;
+      index = 0;
+      port = port;
+      state = s;
+      difference = d;
+      port_at = refl;
+      state_at = refl;
+      found = h;
       earlier = λ i t l at. absurd (omega arith);
       verdict_is = here (Some d) h;
     })
     go None h (inl f) = inl (record {
-      index = suc f.index; port = f.port; state = f.state; difference = f.difference; port_at = f.port_at; state_at = f.state_at; found = f.found;
+      index = suc f.index;
+      port = f.port;
+      state = f.state;
+      difference = f.difference;
+      port_at = f.port_at;
+      state_at = f.state_at;
+      found = f.found;
       earlier = λ i t l at. before i t l at;
       verdict_is = here None h ∙ f.verdict_is;
     })
@@ -177,10 +189,10 @@ module _ (c : Comparison) (nets : AreGateNets c) (distinct : AreDistinct (names_
   pair_trees : (port : Port) (s : PairState) → Contains c.a.outputs port → IsTried c (2 ^ c.count) port s → PairTrees c s.left.0 s.right.0
   pair_trees port s h t =
       let shown : Contains (map (λ (o : Port). o.signal.0) c.a.outputs) s.left.0 =
-          subst (Contains (map (λ (o : Port). o.signal.0) c.a.outputs)) (sym t.left_is) (Contains-map (λ (o : Port). o.signal.0) c.a.outputs port h) in
+      subst (Contains (map (λ (o : Port). o.signal.0) c.a.outputs)) (sym t.left_is) (Contains-map (λ (o : Port). o.signal.0) c.a.outputs port h) in
       let other = place_named-output c.b.outputs port.name s.right.0 t.right_is in
       let right_shown : Contains (map (λ (o : Port). o.signal.0) c.b.outputs) s.right.0 =
-          subst (Contains (map (λ (o : Port). o.signal.0) c.b.outputs)) other.3 (Contains-map (λ (o : Port). o.signal.0) c.b.outputs other.0 other.1) in
+      subst (Contains (map (λ (o : Port). o.signal.0) c.b.outputs)) other.3 (Contains-map (λ (o : Port). o.signal.0) c.b.outputs other.0 other.1) in
       let left_within : s.left.0 < length c.a.drivers = subst (λ k. k < length c.a.drivers) (sym t.left_is) (All-contains (λ (o : Port). o.signal.0 < length c.a.drivers) c.a.outputs port nets.left_sound.outputs h) in
       let right_within : s.right.0 < length c.b.drivers = subst (λ k. k < length c.b.drivers) other.3 (All-contains (λ (o : Port). o.signal.0 < length c.b.drivers) c.b.outputs other.0 nets.right_sound.outputs other.1) in
       let l = tree_of c.a nets.left_sound nets.left_gates c.left nets.orders.left_is.each s.left.0 left_within in
@@ -282,7 +294,7 @@ module _ (c : Comparison) (nets : AreGateNets c) (distinct : AreDistinct (names_
         let row = bits_of f.difference.number (length (shared_of c)) in
         let bit : slice_get row i ≡ Some (bit_at row i) = slice_get-get_or row i false (subst (λ k. i < k) (sym (bits_of-length f.difference.number (length (shared_of c)))) low) in
         let place : Contains (circuit_of n).inputs (record { name = input.port.name; place = q }) =
-            subst (λ p. Contains (circuit_of n).inputs (record { name = input.port.name; place = p })) input.place (Contains-map named n.inputs input.port (of_at n.inputs input.k input.port input.at)) in
+        subst (λ p. Contains (circuit_of n).inputs (record { name = input.port.name; place = p })) input.place (Contains-map named n.inputs input.port (of_at n.inputs input.k input.port input.at)) in
         ap (λ k. bit_at (bits_of f.difference.number k) i) nets.count_is ∙ sym (obeys 0 i row input.port.name (bit_at row i) q some refl bit name place)
 
     other : (o : Port) × Contains c.b.outputs o × (o.name ≡ f.port.name) × (o.signal.0 ≡ f.state.right.0)
@@ -347,7 +359,7 @@ module _ (c : Comparison) (nets : AreGateNets c) (distinct : AreDistinct (names_
       let trees = pair_trees left.0 s.0 left.1 s.2 in
       let same_name : right.0.name ≡ left.0.name = ap (λ (x : Named ℕ). x.name) right.2 ∙ sym (ap (λ (x : Named ℕ). x.name) left.2) in
       let place : place_named (map named c.b.outputs) left.0.name ≡ Some right.0.signal.0 =
-          place_named-at c.b.outputs left.0.name j.0 right.0 distinct (slice_get-map (λ (o : Port). o.name) c.b.outputs j.0 right.0 j.1 ∙ ap Some same_name) j.1 in
+      place_named-at c.b.outputs left.0.name j.0 right.0 distinct (slice_get-map (λ (o : Port). o.name) c.b.outputs j.0 right.0 j.1 ∙ ap Some same_name) j.1 in
       let q_is : s.0.right.0 ≡ q = some_is (sym s.2.right_is ∙ place) ∙ ap (λ (x : Named ℕ). x.place) right.2 in
       let p_is : s.0.left.0 ≡ p = s.2.left_is ∙ ap (λ (x : Named ℕ). x.place) left.2 in
       let found : IsLeastBelow c (2 ^ c.count) s.0.left.0 s.0.right.0 None = subst (IsLeastBelow c (2 ^ c.count) s.0.left.0 s.0.right.0) (none i.0 s.0 s.1) s.2.found in

@@ -1,5 +1,5 @@
 -- The shared inputs, by the numbers of both circuits' inputs.
-use Rattle.std.proofs.Common.{◌≡◌, ℕ, ◌+◌, ◌<◌, Bool, true, false, cond, List, [], ◌∷◌, ◌++◌, length, take, refl, sym, ◌∙◌, ap, subst, arith, inl, inr, ◌⊎◌, Option, Some, None, slice_get}
+use Rattle.std.proofs.Common.{◌≡◌, ℕ, suc, ◌+◌, ◌<◌, ◌≤◌, Bool, true, false, cond, List, [], ◌∷◌, ◌++◌, length, take, refl, sym, ◌∙◌, ap, subst, arith, inl, inr, ◌⊎◌, Option, Some, None, slice_get}
 use Rattle.std.specs.Prelude.{not, ◌&&◌, ◌||◌, ◌==◌}
 use Rattle.std.specs.List.{Contains, filter, find, list_any}
 use Rattle.std.proofs.lemmas.List.Elements.{All-contains, filter_passes, filter_more}
@@ -131,3 +131,12 @@ module _ (a b : Ports) (left right : List ℕ) (matched : AreMatched a b) (order
           absurd (no_true_false (sym (has_number-true right i (shared_number k i name own number shared)) ∙ hu))
       go true ht false hr true hu =
           absurd ((orders.left_is.left_out k i name own (λ shared. no_true_false (sym (filter-passed (is_kept a b) a.inputs name shared) ∙ kept true false ht hr)) number).1 (has_number-is right i hu))
+
+-- a filter keeps no more than there is
+pub filter_short : {X : Type 0} (test : X → Bool) (xs : List X) → length (filter test xs) ≤ length xs
+filter_short test [] = omega arith
+filter_short {X} test (x ∷ xs) = go (test x) (filter_short test xs)
+  where
+    go : (b : Bool) → length (filter test xs) ≤ length xs → length (cond b (x ∷ filter test xs) (filter test xs)) ≤ suc (length xs)
+    go true h = omega arith
+    go false h = omega arith

@@ -1,14 +1,13 @@
 //! From the bytes of a file to a flat net.
 
-
 ghost use Rattle.std.specs.Prelude.{◌≡◌, ℕ, List, IfOk, IfErr, IfSome, IsErrOf};
 ghost use Rattle.sec_base.specs.Outside.{Rose, SameHeld, NoneFell};
 ghost use Rattle.sec_check.specs.Loading.{Loads, LoadFails, IsComparable};
 
 use blif_read::ReadError;
 use flat_net::Net;
-use std::alloc::Global;
 use sec_base::{FetchError, Shelf};
+use std::alloc::Global;
 
 /// Why a design isn't flattened.
 #[derive(Clone, Copy, Debug, PartialEq, Eq)]

@@ -4,11 +4,10 @@ ghost use Rattle.std.specs.Prelude.{◌≡◌, None, Some, List, ℕ, IfOk, IfEr
 ghost use Rattle.circuit_theory.specs.Interface.{first_mismatch, AreOrders};
 ghost use Rattle.sec_check.specs.Compared.{ports_of, InterfaceFails};
 
+use crate::comparing::CompareError;
 use flat_net::Net;
 use sec_base::Orders;
 use std::alloc::Global;
-
-use crate::comparing::CompareError;
 
 /// The numbers of the inputs of both circuits: a shared input has its place among the shared inputs in A's order, and an
 /// input that is left out a number of its own above these. A name that is one circuit's clock is first left out of the

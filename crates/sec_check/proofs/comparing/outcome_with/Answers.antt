@@ -37,6 +37,6 @@ returns c =
     } in
     let pairs = c.in_ok-pairs.ensures ∙ ap (λ (ports : List Port). results_of ports c.try_all.new.states) c.outputs.ensures in
     let verdict = c.in_ok-verdict.ensures
-        ∙ (ap (λ (ports : List Port). verdict_of c.args.shared ports c.try_all.new.states) c.outputs-2.ensures ∙ ap (λ (names : List (List ℕ)). verdict_of names a.outputs c.try_all.new.states) c.requires.shared) in
+    ∙ (ap (λ (ports : List Port). verdict_of c.args.shared ports c.try_all.new.states) c.outputs-2.ensures ∙ ap (λ (names : List (List ℕ)). verdict_of names a.outputs c.try_all.new.states) c.requires.shared) in
     is_compared both nets c.requires.right.distinct c.try_all.new.states c.in_ok-try_all.ensures c.requires.matches (subst (λ k. k ≤ 12) (sym c.len-inputs.ensures) c.requires.few) _
-        refl refl refl c.new.ensures refl refl pairs verdict
+    refl refl refl c.new.ensures refl refl pairs verdict
