@@ -1,6 +1,8 @@
 pub mod Decided
 pub mod Designs
 pub mod Evaluated
+pub mod FlatMain
+pub mod FlatSteps
 pub mod LeastLeaves
 pub mod Leaves
 pub mod Noted

@@ -26,7 +26,7 @@ use Rattle.sec_check.specs.Renaming.{IsBelow}
 
 -- the nothing that a net begins with
 pub part_start : IsPart empty_net [] []
-part_start = record { names = refl; inputs_are = refl; equations_are = refl; no_latches = refl; no_outputs = refl; few_inputs = refl; few_drivers = refl; few_covers = refl }
+part_start = record { names = refl; inputs_are = refl; equations_are = refl; no_latches = refl; no_outputs = refl; no_clock = refl; few_inputs = refl; few_drivers = refl; few_covers = refl }
 
 -- names that are there keep their places
 pub origin_grows : (names more : List (List ℕ)) (s : ℕ) → s < length names → origin (names ++ more) s ≡ origin names s
@@ -91,6 +91,7 @@ part_input n inputs name sound part = record {
   equations_are = all_gates;
   no_latches = part.no_latches;
   no_outputs = part.no_outputs;
+  no_clock = part.no_clock;
   few_inputs = length-append n.inputs _ ∙ ap (λ k. k + 1) part.few_inputs ∙ sym (length-append inputs (name ∷ []));
   few_drivers = length-append n.drivers _ ∙ counts;
   few_covers = part.few_covers;
@@ -164,6 +165,7 @@ part_gate n inputs done line fanins out cover signals sound part are_named = rec
   equations_are = all_gates;
   no_latches = part.no_latches;
   no_outputs = part.no_outputs;
+  no_clock = part.no_clock;
   few_inputs = part.few_inputs;
   few_drivers = length-append n.drivers _ ∙ counts;
   few_covers = length-append n.covers (cover ∷ []) ∙ ap (λ k. k + 1) part.few_covers ∙ sym (length-append done (Names line fanins out cover ∷ []));

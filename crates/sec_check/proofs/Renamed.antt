@@ -3,7 +3,8 @@ use Rattle.std.proofs.Common.{◌≡◌, ℕ, suc, ◌+◌, ◌<◌, Bool, List,
 use Rattle.std.specs.List.{All, AllByRecursion, Contains}
 use Rattle.std.proofs.lemmas.List.Elements.{All-map, All-contains, All-from_recursion, recursion_from_All}
 use Rattle.circuit_theory.specs.Cover.{cover_value}
-use Rattle.circuit_theory.specs.Circuit.{Circuit, Equation, Gate, Latch, Port, Named, IsInput, Holds, Carries}
+use Rattle.circuit_theory.specs.Circuit.{Circuit, Equation, Gate, Latch, Port, Named, IsInput, Holds, Carries, out_of}
+use Rattle.circuit_theory.specs.Places.{IsPlace}
 use Rattle.circuit_theory.specs.Classes.{moved, moved_name}
 use Rattle.circuit_theory.specs.Run.{IsRun, Marked, NoneEnabled}
 use Rattle.circuit_theory.specs.Flattened.{IsFlattened, Follows, latch_names}
@@ -143,3 +144,45 @@ renamed_is_flattened {P} d net size origin number clocked is_place r placed = re
     same_place i o s ho hs =
         let e : moved_name origin s ≡ o = some_is _ _ (sym (slice_get-map (moved_name origin) net.outputs i s hs) ∙ ap (λ (os : List (Named P)). slice_get os i) r.outputs ∙ ho) in
         subst (λ (q : P). Follows d q (origin s.place)) (ap (λ (n : Named P). n.place) e) Follows.here
+
+-- each place of the design is a signal's
+pub renamed_places : {P : Type 0} (d : Circuit P) (net : Circuit ℕ) (size : ℕ) (origin : ℕ → P) (number : P → ℕ) → IsRenaming d net size origin number →
+    (p : P) → IsPlace d p → (s : ℕ) × (s < size) × (origin s ≡ p)
+renamed_places {P} d net size origin number r p (IsPlace.input h) =
+    let found = Contains-map_from (moved_name origin) net.inputs (record { name = h.0; place = p }) (subst (λ (is : List (Named P)). Contains is (record { name = h.0; place = p })) (sym r.inputs) h.1) in
+    (found.0.place, All-contains (λ (i : Named ℕ). i.place < size) net.inputs found.0 r.inputs_below found.1, ap (λ (n : Named P). n.place) found.2)
+renamed_places {P} d net size origin number r p (IsPlace.output {name = name} h) =
+    let found = Contains-map_from (moved_name origin) net.outputs (record { name = name; place = p }) (subst (λ (os : List (Named P)). Contains os (record { name = name; place = p })) (sym r.outputs) h) in
+    (found.0.place, All-contains (λ (o : Named ℕ). o.place < size) net.outputs found.0 r.outputs_below found.1, ap (λ (n : Named P). n.place) found.2)
+renamed_places {P} d net size origin number r p (IsPlace.driven {e = e} h same) = by_net (equation_of_net d net size origin number r e h)
+  where
+    by_net : ((x : Equation ℕ) × Contains net.equations x × (moved origin x ≡ e)) → (s : ℕ) × (s < size) × (origin s ≡ p)
+    by_net (Gate out fanins cover, at, q) = (out, (All-contains (IsBelow size) net.equations (Gate out fanins cover) r.below at).0, ap out_of q ∙ same)
+    by_net (Latch name out next, at, q) = (out, (All-contains (IsBelow size) net.equations (Latch name out next) r.below at).0, ap out_of q ∙ same)
+    by_net (Port out from, at, q) = (out, (All-contains (IsBelow size) net.equations (Port out from) r.below at).0, ap out_of q ∙ same)
+renamed_places {P} d net size origin number r p (IsPlace.fanin {out = out} {fanins = fanins} {cover = cover} h reads) = by_net (equation_of_net d net size origin number r (Gate out fanins cover) h)
+  where
+    by_net : ((x : Equation ℕ) × Contains net.equations x × (moved origin x ≡ Gate out fanins cover)) → (s : ℕ) × (s < size) × (origin s ≡ p)
+    by_net (Gate out' fanins' cover', at, q) =
+        let below : IsBelow size (Gate out' fanins' cover') = All-contains (IsBelow size) net.equations (Gate out' fanins' cover') r.below at in
+        let fans : map origin fanins' ≡ fanins = cc in
+        let found = Contains-map_from origin fanins' p (subst (λ (fs : List P). Contains fs p) (sym fans) reads) in
+        (found.0, below.1 found.0 found.1, found.2)
+    by_net (Latch name' out' next', at, q) = absurd (cc)
+    by_net (Port out' from', at, q) = absurd (cc)
+renamed_places {P} d net size origin number r p (IsPlace.next {name = name} {out = out} h) = by_net (equation_of_net d net size origin number r (Latch name out p) h)
+  where
+    by_net : ((x : Equation ℕ) × Contains net.equations x × (moved origin x ≡ Latch name out p)) → (s : ℕ) × (s < size) × (origin s ≡ p)
+    by_net (Gate out' fanins' cover', at, q) = absurd (cc)
+    by_net (Port out' from', at, q) = absurd (cc)
+    by_net (Latch name' out' next', at, q) =
+        let below : IsBelow size (Latch name' out' next') = All-contains (IsBelow size) net.equations (Latch name' out' next') r.below at in
+        (next', below.1, cc)
+renamed_places {P} d net size origin number r p (IsPlace.from {out = out} h) = by_net (equation_of_net d net size origin number r (Port out p) h)
+  where
+    by_net : ((x : Equation ℕ) × Contains net.equations x × (moved origin x ≡ Port out p)) → (s : ℕ) × (s < size) × (origin s ≡ p)
+    by_net (Gate out' fanins' cover', at, q) = absurd (cc)
+    by_net (Latch name' out' next', at, q) = absurd (cc)
+    by_net (Port out' from', at, q) =
+        let below : IsBelow size (Port out' from') = All-contains (IsBelow size) net.equations (Port out' from') r.below at in
+        (from', below.1, cc)

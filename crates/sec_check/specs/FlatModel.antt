@@ -51,6 +51,11 @@ abbrev pub driven_after : List (List ℕ) → List Statement → List (List ℕ)
 driven_after driven [] = driven
 driven_after driven (s ∷ rest) = driven_after (with_output driven s) rest
 
+-- each of the outputs is driven, and none stands twice, or among those before
+abbrev pub can_show : List (List ℕ) → List (List ℕ) → List (List ℕ) → Bool
+can_show driven before [] = true
+can_show driven before (name ∷ names) = is_among driven name && (not (is_among before name) && can_show driven (before ++ name ∷ []) names)
+
 -- how many names the statement writes
 abbrev pub places_of : Statement → ℕ
 places_of (Names line fanins out cover) = length fanins + 1
@@ -67,7 +72,7 @@ is_small m =
 abbrev pub is_flat_model : BlifModel → Bool
 is_flat_model m =
     is_small m && (are_new [] (inputs_of m) && (are_in_order m.clocks (inputs_of m) m.statements
-    && (list_all (is_among (driven_after (inputs_of m) m.statements)) m.outputs && are_new [] m.outputs)))
+    && can_show (driven_after (inputs_of m) m.statements) [] m.outputs))
 
 -- the main model, which is the first, is flat
 abbrev pub is_flat : List BlifModel → Bool

@@ -1,13 +1,19 @@
 //! From the bytes of a file to a flat net.
 
-ghost use Rattle.std.specs.Prelude.{◌≡◌, ℕ, List, IfOk, IfErr, IfSome, IsErrOf};
+
+ghost use Rattle.std.specs.Prelude.{◌≡◌, ℕ, List, IfOk, IfErr, IfSome, IsErrOf, ◌≤◌, length, Some};
 ghost use Rattle.sec_base.specs.Outside.{Rose, SameHeld, NoneFell};
 ghost use Rattle.sec_check.specs.Loading.{Loads, LoadFails, IsComparable};
 
-use blif_read::ReadError;
+use blif_read::{ReadError, read_design};
 use flat_net::Net;
-use sec_base::{FetchError, Shelf};
 use std::alloc::Global;
+use sec_base::{FetchError, Shelf, fetch};
+
+use crate::flattening::flatten_main;
+
+/// The most bytes that a file may have.
+const LONGEST: u32 = 16_777_216;
 
 /// Why a design isn't flattened.
 #[derive(Clone, Copy, Debug, PartialEq, Eq)]
@@ -36,5 +42,26 @@ pub fn load<S: Shelf>(alloc: Global, shelf: &mut S, path: &str) -> Result<Net, L
     ensures served { S.serves shelf.old path.now → IsErrOf result (LoadError.Fetch FetchError.Failed) → ⊥ }
     ensures serving { (other : List ℕ) → S.serves shelf.old other → S.serves shelf.new other }
 {
-    Err(LoadError::Fetch(FetchError::NoMemory))
+    let text = match fetch(alloc, shelf, path, LONGEST) {
+        Ok(text) => text,
+        Err(error) => return Err(LoadError::Fetch(error)),
+    };
+    read_and_flatten(alloc, text.as_slice())
+}
+
+/// The net of a text.
+fn read_and_flatten(alloc: Global, text: &[u8]) -> Result<Net, LoadError>
+    requires { length text.now ≤ 16777216 }
+    ensures ok { IfOk result (λ net. Loads text.now net) }
+    ensures comparable { IfOk result IsComparable }
+    ensures err { IfErr result (LoadFails (Some text.now) ⊥) }
+{
+    let design = match read_design(alloc, text) {
+        Ok(design) => design,
+        Err(error) => return Err(LoadError::Read(error)),
+    };
+    match flatten_main(alloc, &design) {
+        Ok(net) => Ok(net),
+        Err(error) => Err(LoadError::Flat(error)),
+    }
 }
