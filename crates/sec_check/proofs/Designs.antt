@@ -53,7 +53,7 @@ pub input_of : {P : Type 0} {d : Circuit P} {net : Circuit ℕ} {size : ℕ} {cl
     IsFlattened d net size clocked is_place origin → (name : List ℕ) (s : ℕ) → Contains net.inputs (record { name = name; place = s }) → Contains d.inputs (record { name = name; place = origin s })
 input_of {P} {d} {net} {size} {clocked} {is_place} {origin} f name s h =
     subst (λ (is : List (Named P)). Contains is (record { name = name; place = origin s })) f.inputs
-        (Contains-map (λ (i : Named ℕ). record { name = i.name; place = origin i.place }) net.inputs (record { name = name; place = s }) h)
+    (Contains-map (λ (i : Named ℕ). record { name = i.name; place = origin i.place }) net.inputs (record { name = name; place = s }) h)
 
 under : (outs : List (Named ℕ)) (i : ℕ) (o : Named ℕ) (name : List ℕ) → o.name ≡ name → slice_get outs i ≡ Some o → slice_get outs i ≡ Some (record { name = name; place = o.place })
 under outs i o name e h = subst (λ (m : List ℕ). slice_get outs i ≡ Some (record { name = m; place = o.place })) e h
@@ -65,9 +65,9 @@ agree_of_nets {P} {Q} {a} {b} {left} {right} {origin = origin} {origin' = origin
     let x = output_of f name p hp in
     let y = output_of g name q hq in
     let there = agree n (λ t s. l t (origin s)) (λ t s. r t (origin' s)) nets_alike t x.output.place y.output.place h
-        (IsPair.outputs {name = name} (of_at left.outputs x.place (record { name = name; place = x.output.place }) (under left.outputs x.place x.output name x.name_is x.output_is)) (of_at right.outputs y.place (record { name = name; place = y.output.place }) (under right.outputs y.place y.output name y.name_is y.output_is)))
-        (f.settled n l alike.left_run t x.place x.own x.output h x.own_is x.output_is (subst (λ p. Marked a NoneEnabled l t p) (sym x.place_is) sp))
-        (g.settled n r alike.right_run t y.place y.own y.output h y.own_is y.output_is (subst (λ q. Marked b NoneEnabled r t q) (sym y.place_is) sq)) in
+    (IsPair.outputs {name = name} (of_at left.outputs x.place (record { name = name; place = x.output.place }) (under left.outputs x.place x.output name x.name_is x.output_is)) (of_at right.outputs y.place (record { name = name; place = y.output.place }) (under right.outputs y.place y.output name y.name_is y.output_is)))
+    (f.settled n l alike.left_run t x.place x.own x.output h x.own_is x.output_is (subst (λ p. Marked a NoneEnabled l t p) (sym x.place_is) sp))
+    (g.settled n r alike.right_run t y.place y.own y.output h y.own_is y.output_is (subst (λ q. Marked b NoneEnabled r t q) (sym y.place_is) sq)) in
     ap (l t) (sym x.place_is) ∙ along a n t l alike.left_run h (f.output_is x.place x.own x.output x.own_is x.output_is)
     ∙ there ∙ sym (ap (r t) (sym y.place_is) ∙ along b n t r alike.right_run h (g.output_is y.place y.own y.output y.own_is y.output_is))
   where

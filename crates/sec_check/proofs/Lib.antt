@@ -1,10 +1,15 @@
+pub mod Decided
 pub mod Designs
 pub mod Evaluated
 pub mod FlatMain
 pub mod FlatSteps
 pub mod Interfaces
+pub mod LeastLeaves
+pub mod Leaves
 pub mod Noted
+pub mod Outcomes
 pub mod Paired
 pub mod Parts
 pub mod Renamed
+pub mod Results
 pub mod Shared

@@ -106,8 +106,8 @@ tried_within c number m n [] (s ∷ states) left right h = absurd h
 tried_within c number m n (port ∷ ports) [] left right h = absurd h
 tried_within c number m n (port ∷ ports) (s ∷ states) left right h =
     All-cons (λ (s : PairState). (s.left.0 < m) × (s.right.0 < n)) s states
-        (subst (λ k. k < m) (sym h.0.left_is) (All-head (λ (p : Port). p.signal.0 < m) port ports left), place_named-within c.b.outputs n port.name s.right.0 right h.0.right_is)
-        (tried_within c number m n ports states (All-tail (λ (p : Port). p.signal.0 < m) port ports left) right h.1)
+    (subst (λ k. k < m) (sym h.0.left_is) (All-head (λ (p : Port). p.signal.0 < m) port ports left), place_named-within c.b.outputs n port.name s.right.0 right h.0.right_is)
+    (tried_within c number m n ports states (All-tail (λ (p : Port). p.signal.0 < m) port ports left) right h.1)
 
 -- the pair that a slice has beyond its end
 abbrev pub no_state : PairState

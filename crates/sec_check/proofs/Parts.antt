@@ -55,12 +55,14 @@ pub gate_below : (n : NetView) → IsSound n → (g : Gate) → Contains n.gates
 gate_below n sound g h =
     let at = at_of n.gates g h in
     let gate = sound.gates at.0 g at.1 in
-    let out : g.out.0 < length n.drivers = slice_get_within n.drivers g.out.0 _ gate.owner in
-    (out, λ f k.
-        let found = Contains-map_from (λ (s : Signal). s.0) g.fanins f k in
-        let low : found.0.0 < g.out.0 = All-contains (λ (s : Signal). s.0 < g.out.0) g.fanins found.0 gate.above found.1 in
-        let same : found.0.0 ≡ f = found.2 in
-        omega arith)
+    let out : g.out.0 < length n.drivers = slice_get_within n.drivers g.out.0 _ gate.owner in (
+      out,
+      λ f k.
+          let found = Contains-map_from (λ (s : Signal). s.0) g.fanins f k in
+          let low : found.0.0 < g.out.0 = All-contains (λ (s : Signal). s.0 < g.out.0) g.fanins found.0 gate.above found.1 in
+          let same : found.0.0 ≡ f = found.2 in
+          omega arith,
+    )
 
 -- a gate of a sound net keeps its cover
 gate_keeps : (n : NetView) → IsSound n → (more : List Cover) (g : Gate) → Contains n.gates g → equation_of_gate (n.covers ++ more) g ≡ equation_of_gate n.covers g
@@ -109,14 +111,14 @@ part_input n inputs name sound part = record {
         map-map (moved_name (origin (n.names ++ name ∷ []))) named (n.inputs ++ new_port ∷ [])
         ∙ map-append (λ p. moved_name (origin (n.names ++ name ∷ [])) (named p)) n.inputs (new_port ∷ [])
         ∙ (λ i. (map_same (λ p. moved_name (origin (n.names ++ name ∷ [])) (named p)) (λ p. moved_name (origin n.names) (named p)) n.inputs (input_keeps n sound (name ∷ []))
-            ∙ sym (map-map (moved_name (origin n.names)) named n.inputs) ∙ part.inputs_are) i ++ (record { name = name; place = last_place i }) ∷ [])
+        ∙ sym (map-map (moved_name (origin n.names)) named n.inputs) ∙ part.inputs_are) i ++ (record { name = name; place = last_place i }) ∷ [])
         ∙ sym (map-append at_top inputs (name ∷ []))
 
     all_gates : map (moved (origin (n.names ++ name ∷ []))) (map (equation_of_gate n.covers) n.gates) ≡ []
     all_gates =
         map-map (moved (origin (n.names ++ name ∷ []))) (equation_of_gate n.covers) n.gates
         ∙ map_same (λ g. moved (origin (n.names ++ name ∷ [])) (equation_of_gate n.covers g)) (λ g. moved (origin n.names) (equation_of_gate n.covers g)) n.gates
-            (λ g h. moved_grows n.names (name ∷ []) (equation_of_gate n.covers g) (subst (λ (d : ℕ). IsBelow d (equation_of_gate n.covers g)) (sym sound.named) (gate_below n sound g h)))
+        (λ g h. moved_grows n.names (name ∷ []) (equation_of_gate n.covers g) (subst (λ (d : ℕ). IsBelow d (equation_of_gate n.covers g)) (sym sound.named) (gate_below n sound g h)))
         ∙ sym (map-map (moved (origin n.names)) (equation_of_gate n.covers) n.gates) ∙ part.equations_are
 
 -- signals of these names stay so where names are added, and are read as these places
@@ -204,5 +206,5 @@ part_gate n inputs done line fanins out cover signals sound part are_named = rec
         map-map (moved (origin (n.names ++ out ∷ []))) (equation_of_gate (n.covers ++ cover ∷ [])) _
         ∙ map-append (λ g. moved (origin (n.names ++ out ∷ [])) (equation_of_gate (n.covers ++ cover ∷ []) g)) n.gates _
         ∙ (λ i. (map_same (λ g. moved (origin (n.names ++ out ∷ [])) (equation_of_gate (n.covers ++ cover ∷ []) g)) (λ g. moved (origin n.names) (equation_of_gate n.covers g)) n.gates old_gate
-            ∙ sym (map-map (moved (origin n.names)) (equation_of_gate n.covers) n.gates) ∙ part.equations_are) i ++ own_gate i ∷ [])
+        ∙ sym (map-map (moved (origin n.names)) (equation_of_gate n.covers) n.gates) ∙ part.equations_are) i ++ own_gate i ∷ [])
         ∙ sym (ap (filter_map equation_of) (map-append (At []) done (Names line fanins out cover ∷ [])) ∙ filter_map-append equation_of (map (At []) done) (map (At []) (Names line fanins out cover ∷ [])))

@@ -75,7 +75,7 @@ marks_down {P} d net size origin number r run (Marked.gate {t = t} {out = out} {
         let reads : map origin fanins' ≡ fanins = cc in
         let one : out' ≡ s = sym (r.back out' below.0) ∙ ap number (outs ∙ sym e) ∙ r.back s k in
         subst (λ (q : ℕ). Marked net NoneEnabled (λ t s. run t (origin s)) t q) one
-            (Marked.gate at (λ q h. ih (origin q) (subst (λ (fs : List P). Contains fs (origin q)) reads (Contains-map origin fanins' q h)) q (below.1 q h) refl))
+        (Marked.gate at (λ q h. ih (origin q) (subst (λ (fs : List P). Contains fs (origin q)) reads (Contains-map origin fanins' q h)) q (below.1 q h) refl))
     by_net (Latch name' out' next', at, same) ih = absurd (cc)
     by_net (Port out' from', at, same) ih = absurd (cc)
 marks_down {P} d net size origin number r run (Marked.port {t = t} {out = out} {from = from} eq rest) s k e =
@@ -120,12 +120,16 @@ renamed_is_flattened {P} d net size origin number clocked is_place r placed = re
     meets = λ t h. All-from_each _ net.equations (λ e k. holds_down origin (run t) e (at_moved (Holds (run t)) e k (is_run.meets t h)));
     carries = λ t h. All-from_each _ net.equations (λ e k. carries_down origin (run t) (run (t + 1)) e (at_moved (Carries (run t) (run (t + 1))) e k (is_run.carries t h)));
   };
-  up = λ n run is_run. ((λ t p. run t (number p)), record {
-    meets = λ t h. subst (All (Holds (λ p. run t (number p)))) r.equations (All-map (Holds (λ p. run t (number p))) (moved origin) net.equations (All-from_each (λ e. Holds (λ p. run t (number p)) (moved origin e)) net.equations (λ e k.
-        holds_up origin number size r.back (run t) e (All-contains (IsBelow size) net.equations e r.below k) (All-contains (Holds (run t)) net.equations e (is_run.meets t h) k))));
-    carries = λ t h. subst (All (Carries (λ p. run t (number p)) (λ p. run (t + 1) (number p)))) r.equations (All-map (Carries (λ p. run t (number p)) (λ p. run (t + 1) (number p))) (moved origin) net.equations (All-from_each (λ e. Carries (λ p. run t (number p)) (λ p. run (t + 1) (number p)) (moved origin e)) net.equations (λ e k.
-        carries_up origin number size r.back (run t) (run (t + 1)) e (All-contains (IsBelow size) net.equations e r.below k) (All-contains (Carries (run t) (run (t + 1))) net.equations e (is_run.carries t h) k))));
-  }, λ t s h k. ap (run t) (r.back s k));
+  up = λ n run is_run. (
+    (λ t p. run t (number p)),
+    record {
+      meets = λ t h. subst (All (Holds (λ p. run t (number p)))) r.equations (All-map (Holds (λ p. run t (number p))) (moved origin) net.equations (All-from_each (λ e. Holds (λ p. run t (number p)) (moved origin e)) net.equations (λ e k.
+          holds_up origin number size r.back (run t) e (All-contains (IsBelow size) net.equations e r.below k) (All-contains (Holds (run t)) net.equations e (is_run.meets t h) k))));
+      carries = λ t h. subst (All (Carries (λ p. run t (number p)) (λ p. run (t + 1) (number p)))) r.equations (All-map (Carries (λ p. run t (number p)) (λ p. run (t + 1) (number p))) (moved origin) net.equations (All-from_each (λ e. Carries (λ p. run t (number p)) (λ p. run (t + 1) (number p)) (moved origin e)) net.equations (λ e k.
+          carries_up origin number size r.back (run t) (run (t + 1)) e (All-contains (IsBelow size) net.equations e r.below k) (All-contains (Carries (run t) (run (t + 1))) net.equations e (is_run.carries t h) k))));
+    },
+    λ t s h k. ap (run t) (r.back s k),
+  );
   settled = λ n run is_run t i o s h ho hs mark.
       let e : moved_name origin s ≡ o = some_is _ _ (sym (slice_get-map (moved_name origin) net.outputs i s hs) ∙ ap (λ (os : List (Named P)). slice_get os i) r.outputs ∙ ho) in
       marks_down d net size origin number r run mark s.place (All-contains (λ (o : Named ℕ). o.place < size) net.outputs s r.outputs_below (of_at net.outputs i s hs)) (ap (λ (n : Named P). n.place) e);

@@ -1,10 +1,11 @@
 -- The shared inputs, by the numbers of both circuits' inputs.
-use Rattle.std.proofs.Common.{◌≡◌, ℕ, zero, suc, ◌<◌, Bool, true, false, cond, List, [], ◌∷◌, length, refl, sym, ◌∙◌, ap, subst, arith, inl, inr, ◌⊎◌, Option, Some, None, slice_get}
+use Rattle.std.proofs.Common.{◌≡◌, ℕ, suc, ◌+◌, ◌<◌, ◌≤◌, Bool, true, false, cond, List, [], ◌∷◌, ◌++◌, length, take, refl, sym, ◌∙◌, ap, subst, arith, inl, inr, ◌⊎◌, Option, Some, None, slice_get}
 use Rattle.std.specs.Prelude.{not, ◌&&◌, ◌||◌, ◌==◌}
 use Rattle.std.specs.List.{Contains, filter, find, list_any}
-use Rattle.std.proofs.lemmas.List.Elements.{All-contains, filter_passes}
+use Rattle.std.proofs.lemmas.List.Elements.{All-contains, filter_passes, filter_more}
+use Rattle.std.proofs.lemmas.Option.{slice_get_within, get_or_from_slice_get}
 use Rattle.circuit_theory.specs.Names.{is_among}
-use Rattle.circuit_theory.specs.Interface.{Ports, is_clock, inputs_beside, first_missing, first_mismatch, shared_inputs, ◌or_else◌, AreNumbersOf, AreOrders}
+use Rattle.circuit_theory.specs.Interface.{Ports, is_clock, inputs_beside, first_missing, first_mismatch, shared_inputs, ◌or_else◌, AreOrders}
 use Rattle.circuit_theory.proofs.Lists.{Contains-head, Contains-tail, Contains-cases, Contains-filter, at_of, of_at}
 use Rattle.circuit_theory.proofs.Inputs.{test_same, test_refl}
 use Rattle.circuit_theory.proofs.Numbers.{is_among-sound}
@@ -94,6 +95,12 @@ has_number-is (n ∷ numbers) i h = go (n == i) refl (λ k. has_number-is number
     go true e later = subst (λ m. Contains (n ∷ numbers) m) (test_same n i e) (Contains-head n numbers)
     go false e later = Contains-tail n i numbers (later (sym (ap (λ b. b || list_any (λ m. m == i) numbers) e) ∙ h))
 
+-- the elements that pass a test, with one element more
+pub filter_next : {X : Type 0} (test : X → Bool) (xs : List X) (i : ℕ) (x : X) (b : Bool) → slice_get xs i ≡ Some x → test x ≡ b → filter test (take (i + 1) xs) ≡ filter test (take i xs) ++ cond b (x ∷ []) []
+filter_next {X} test xs i x b at e =
+    filter_more test xs i x (slice_get_within xs i x at)
+    ∙ (ap (λ (y : X). filter test (take i xs) ++ cond (test y) (y ∷ []) []) (get_or_from_slice_get xs i x x at) ∙ ap (λ t. filter test (take i xs) ++ cond t (x ∷ []) []) e)
+
 module _ (a b : Ports) (left right : List ℕ) (matched : AreMatched a b) (orders : AreOrders a b left right) where
   -- a shared name's number is among both circuits' numbers
   pub shared_number : (k i : ℕ) (name : List ℕ) → slice_get a.inputs k ≡ Some name → slice_get left k ≡ Some i → Contains (shared_inputs a b) name → Contains right i
@@ -124,3 +131,12 @@ module _ (a b : Ports) (left right : List ℕ) (matched : AreMatched a b) (order
           absurd (no_true_false (sym (has_number-true right i (shared_number k i name own number shared)) ∙ hu))
       go true ht false hr true hu =
           absurd ((orders.left_is.left_out k i name own (λ shared. no_true_false (sym (filter-passed (is_kept a b) a.inputs name shared) ∙ kept true false ht hr)) number).1 (has_number-is right i hu))
+
+-- a filter keeps no more than there is
+pub filter_short : {X : Type 0} (test : X → Bool) (xs : List X) → length (filter test xs) ≤ length xs
+filter_short test [] = omega arith
+filter_short {X} test (x ∷ xs) = go (test x) (filter_short test xs)
+  where
+    go : (b : Bool) → length (filter test xs) ≤ length xs → length (cond b (x ∷ filter test xs) (filter test xs)) ≤ suc (length xs)
+    go true h = omega arith
+    go false h = omega arith

@@ -62,7 +62,7 @@ verdict_text (verdict.Different w) = difference_text w
 abbrev pub counts_text : Outcome → List ℕ
 counts_text o =
     codes "inputs " ++ decimal o.inputs ++ 10 ∷ [] ++ codes "latches " ++ decimal o.left_latches ++ 32 ∷ [] ++ decimal o.right_latches ++ 10 ∷ []
-        ++ codes "exposed " ++ decimal (length o.exposed) ++ names_text o.exposed ++ 10 ∷ []
+    ++ codes "exposed " ++ decimal (length o.exposed) ++ names_text o.exposed ++ 10 ∷ []
 
 -- the whole report
 abbrev pub report_text : Outcome → List ℕ

@@ -6,17 +6,18 @@ ghost use Rattle.circuit_theory.specs.declared.Mode.TheVariants.{Plain};
 ghost use Rattle.circuit_theory.specs.Interface.{first_mismatch, shared_inputs, AreOrders};
 ghost use Rattle.sec_check.specs.Compared.{Compared, IsCompared, ports_of};
 ghost use Rattle.sec_check.specs.Loading.{IsComparable};
-ghost use Rattle.sec_check.specs.Sweep.{results_of, answer_of, verdict_of, witness_of};
-
-use flat_net::{Net, Port};
-use sec_base::{BitRows, NoMemory, Orders, PairAnswer, Seq, Side, Word, Words};
-use std::alloc::Global;
+ghost use Rattle.sec_check.specs.Sweep.{results_of, answer_of, verdict_of, witness_of, IsUntried};
 
 use crate::evaluating::bits_of;
 use crate::numbers::interface;
-use crate::outcome::{Outcome, PairName, PairResult, PairResults, Settings, Stimulus, Verdict, Witness};
+use crate::outcome::{
+    Outcome, PairName, PairResult, PairResults, Settings, Stimulus, Verdict, Witness,
+};
 use crate::pairing::{pair_outputs, shared_inputs};
 use crate::sweeping::{Difference, PairState, try_all};
+use flat_net::{Net, Port};
+use sec_base::{BitRows, NoMemory, Orders, PairAnswer, Seq, Side, Word, Words};
+use std::alloc::Global;
 
 /// The most shared inputs of circuits that are compared by trying each assignment.
 const MOST_INPUTS: usize = 12;
@@ -47,7 +48,12 @@ impl From<NoMemory> for CompareError {
 
 /// Compares the circuits by trying each assignment of their shared inputs. It refuses, in this order: interfaces that don't
 /// match, a latch in A, a latch in B, more than 12 shared inputs.
-pub fn compare(alloc: Global, a: &Net, b: &Net, settings: &Settings) -> Result<Outcome, CompareError>
+pub fn compare(
+    alloc: Global,
+    a: &Net,
+    b: &Net,
+    settings: &Settings,
+) -> Result<Outcome, CompareError>
     requires plain { settings.now.mode ≡ Plain }
     requires uncut { settings.now.expose ≡ false }
     requires conflicts { settings.now.conflicts ≤ 200000 }
@@ -70,7 +76,13 @@ pub fn compare(alloc: Global, a: &Net, b: &Net, settings: &Settings) -> Result<O
 }
 
 /// The outcome for circuits without latches and with few shared inputs, of these names.
-fn outcome_of(alloc: Global, a: &Net, b: &Net, orders: &Orders, shared: Words) -> Result<Outcome, NoMemory>
+fn outcome_of(
+    alloc: Global,
+    a: &Net,
+    b: &Net,
+    orders: &Orders,
+    shared: Words,
+) -> Result<Outcome, NoMemory>
     requires matches { first_mismatch (ports_of a.now) (ports_of b.now) ≡ None }
     requires orders { AreOrders (ports_of a.now) (ports_of b.now) orders.now.left orders.now.right }
     requires left_gates { a.now.latches ≡ [] }
@@ -80,13 +92,35 @@ fn outcome_of(alloc: Global, a: &Net, b: &Net, orders: &Orders, shared: Words) -
     requires few { length shared ≤ 12 }
     ensures { IfOk result (IsCompared a.now b.now) }
 {
+    let mut states = pair_outputs(alloc, a, b)?;
+    outcome_with(alloc, a, b, orders, shared, states.as_mut_slice())
+}
+
+/// The same, with the pairs of outputs.
+fn outcome_with(
+    alloc: Global,
+    a: &Net,
+    b: &Net,
+    orders: &Orders,
+    shared: Words,
+    states: &mut [PairState],
+) -> Result<Outcome, NoMemory>
+    requires matches { first_mismatch (ports_of a.now) (ports_of b.now) ≡ None }
+    requires orders { AreOrders (ports_of a.now) (ports_of b.now) orders.now.left orders.now.right }
+    requires left_gates { a.now.latches ≡ [] }
+    requires right_gates { b.now.latches ≡ [] }
+    requires right { IsComparable b.now }
+    requires shared { shared ≡ shared_inputs (ports_of a.now) (ports_of b.now) }
+    requires few { length shared ≤ 12 }
+    requires untried { AllZip (IsUntried b.now) a.now.outputs states.old }
+    ensures { IfOk result (IsCompared a.now b.now) }
+{
     a.keeps();
     b.keeps();
     let inputs = shared.len() as u32;
-    let mut states = pair_outputs(alloc, a, b)?;
-    try_all(alloc, a, b, orders, inputs, states.as_mut_slice())?;
-    let pairs = results_of(alloc, a.outputs(), states.as_slice())?;
-    let verdict = verdict_of(alloc, a.outputs(), states.as_slice(), shared)?;
+    try_all(alloc, a, b, orders, inputs, states)?;
+    let pairs = results_of(alloc, a.outputs(), states)?;
+    let verdict = verdict_of(alloc, a.outputs(), states, shared)?;
     Ok(Outcome {
         inputs,
         left_latches: 0,
@@ -100,7 +134,11 @@ fn outcome_of(alloc: Global, a: &Net, b: &Net, orders: &Orders, shared: Words) -
 }
 
 /// The results of the pairs, in the order of A's outputs.
-fn results_of(alloc: Global, outputs: &[Port], states: &[PairState]) -> Result<PairResults, NoMemory>
+fn results_of(
+    alloc: Global,
+    outputs: &[Port],
+    states: &[PairState],
+) -> Result<PairResults, NoMemory>
     requires { length outputs.now ≡ length states.now }
     ensures { IfOk result (λ results. results ≡ results_of outputs.now states.now) }
 {
@@ -125,7 +163,12 @@ fn answer_of(found: Option<Difference>) -> PairAnswer
 }
 
 /// The first difference of the pairs as the verdict, over these names of shared inputs.
-fn verdict_of(alloc: Global, outputs: &[Port], states: &[PairState], shared: Words) -> Result<Verdict, NoMemory>
+fn verdict_of(
+    alloc: Global,
+    outputs: &[Port],
+    states: &[PairState],
+    shared: Words,
+) -> Result<Verdict, NoMemory>
     requires few { length shared ≤ 12 }
     requires each { length outputs.now ≡ length states.now }
     ensures { IfOk result (λ verdict. verdict ≡ verdict_of shared outputs.now states.now) }
@@ -139,7 +182,12 @@ fn verdict_of(alloc: Global, outputs: &[Port], states: &[PairState], shared: Wor
 }
 
 /// The sequence of one cycle that shows the difference of the outputs of this name.
-fn witness_of(alloc: Global, name: &Word, difference: Difference, shared: Words) -> Result<Witness, NoMemory>
+fn witness_of(
+    alloc: Global,
+    name: &Word,
+    difference: Difference,
+    shared: Words,
+) -> Result<Witness, NoMemory>
     requires { length shared ≤ 12 }
     ensures { IfOk result (λ witness. witness ≡ witness_of shared name.now difference) }
 {
@@ -151,6 +199,9 @@ fn witness_of(alloc: Global, name: &Word, difference: Difference, shared: Words)
         cycle: 0,
         left: difference.left,
         right: difference.right,
-        stimulus: Stimulus { names: shared, rows },
+        stimulus: Stimulus {
+            names: shared,
+            rows,
+        },
     })
 }

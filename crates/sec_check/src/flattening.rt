@@ -9,12 +9,11 @@ ghost use Rattle.flat_net.specs.Makes.{with_gate, with_cover};
 ghost use Rattle.sec_check.specs.FlatModel.{first_name, are_new, unclocked, clock_of, inputs_of, is_next, are_in_order, can_show, driven_after, places_of, is_small, is_flat_model, is_flat};
 ghost use Rattle.sec_check.specs.FlatNet.{AreNamed, AreShown, TakesIn, IsPart, IsModelNet, IsMainNet};
 
+use crate::loading::FlatError;
 use blif_read::{BlifModel, Design, Statement};
 use flat_net::{Net, NetMaker, Signals};
 use sec_base::{Cover, NameTable, NoMemory, Word};
 use std::alloc::Global;
-
-use crate::loading::FlatError;
 
 /// How many names may still be written behind this statement; None where it writes more than so many.
 fn left_behind(statement: &Statement, left: u64) -> Option<u64>
@@ -78,11 +77,7 @@ fn has_name(names: &[Word], name: &[u8]) -> bool
 }
 
 /// Takes in the inputs but the clock; false where one stands twice.
-fn add_inputs(
-    maker: &mut NetMaker,
-    clocks: &[Word],
-    inputs: &[Word],
-) -> Result<bool, NoMemory>
+fn add_inputs(maker: &mut NetMaker, clocks: &[Word], inputs: &[Word]) -> Result<bool, NoMemory>
     requires few { length inputs.now ≤ 16777216 }
     requires fresh { IsPart maker.old.net [] [] }
     requires set { maker.old.set ≡ [] }

@@ -15,5 +15,7 @@ pub use circuit_theory::Mode;
 pub use comparing::{CompareError, compare};
 pub use loading::{FlatError, LoadError, load};
 pub use numbers::interface;
-pub use outcome::{Outcome, PairName, PairResult, PairResults, Settings, Stimulus, Verdict, Witness};
+pub use outcome::{
+    Outcome, PairName, PairResult, PairResults, Settings, Stimulus, Verdict, Witness,
+};
 pub use writing::report;

@@ -1,6 +1,5 @@
 //! What a comparison finds.
 
-
 use circuit_theory::Mode;
 use sec_base::{BitRows, PairAnswer, Seq, Word, Words};
 

@@ -8,11 +8,10 @@ ghost use Rattle.sec_check.specs.Compared.{ports_of};
 ghost use Rattle.sec_check.specs.Loading.{IsComparable};
 ghost use Rattle.sec_check.specs.Sweep.{IsUntried};
 
+use crate::sweeping::PairState;
 use flat_net::{Net, Port};
 use sec_base::{NameTable, NoMemory, Orders, Words};
 use std::alloc::Global;
-
-use crate::sweeping::PairState;
 
 /// The names of the inputs that both circuits have, in A's order.
 pub fn shared_inputs(alloc: Global, a: &Net, b: &Net, orders: &Orders) -> Result<Words, NoMemory>
@@ -22,7 +21,12 @@ pub fn shared_inputs(alloc: Global, a: &Net, b: &Net, orders: &Orders) -> Result
 {
     let mut names = Words::new(alloc);
     for (i, port) in a.inputs().iter().enumerate() {
-        if is_shared(b, orders.right.as_slice(), port.name.as_slice(), orders.left.as_slice()[i]) {
+        if is_shared(
+            b,
+            orders.right.as_slice(),
+            port.name.as_slice(),
+            orders.left.as_slice()[i],
+        ) {
             names.push(port.name.copy()?)?;
         }
     }

@@ -4,11 +4,10 @@ ghost use Rattle.std.specs.Prelude.{◌≡◌, ℕ, ◌^◌, ◌<◌, ◌≤◌,
 ghost use Rattle.std.specs.List.{AllZip};
 ghost use Rattle.sec_check.specs.Sweep.{comparison, found_with, bit_at, noted, IsTried};
 
+use crate::evaluating::{bits_of, evaluate};
 use flat_net::{Net, Signal};
 use sec_base::{NoMemory, Orders};
 use std::alloc::Global;
-
-use crate::evaluating::{bits_of, evaluate};
 
 /// A difference of two signals: the number whose bits the inputs have, and the two values.
 #[derive(Clone, Copy, Debug, PartialEq, Eq)]
@@ -27,7 +26,14 @@ pub struct PairState {
 }
 
 /// Tries each assignment of so many shared inputs in turn, from the number 0 on.
-pub fn try_all(alloc: Global, a: &Net, b: &Net, orders: &Orders, count: u32, states: &mut [PairState]) -> Result<(), NoMemory>
+pub fn try_all(
+    alloc: Global,
+    a: &Net,
+    b: &Net,
+    orders: &Orders,
+    count: u32,
+    states: &mut [PairState],
+) -> Result<(), NoMemory>
     requires few { count ≤ 12 }
     requires left { length orders.now.left ≡ length a.now.inputs }
     requires right { length orders.now.right ≡ length b.now.inputs }
@@ -36,11 +42,29 @@ pub fn try_all(alloc: Global, a: &Net, b: &Net, orders: &Orders, count: u32, sta
 {
     let mut left = vec![in alloc; false; a.size() as usize]?;
     let mut right = vec![in alloc; false; b.size() as usize]?;
-    try_each(alloc, a, b, orders, count, left.as_mut_slice(), right.as_mut_slice(), states)
+    try_each(
+        alloc,
+        a,
+        b,
+        orders,
+        count,
+        left.as_mut_slice(),
+        right.as_mut_slice(),
+        states,
+    )
 }
 
 /// The same, with room for the values of each net's signals.
-fn try_each(alloc: Global, a: &Net, b: &Net, orders: &Orders, count: u32, left: &mut [bool], right: &mut [bool], states: &mut [PairState]) -> Result<(), NoMemory>
+fn try_each(
+    alloc: Global,
+    a: &Net,
+    b: &Net,
+    orders: &Orders,
+    count: u32,
+    left: &mut [bool],
+    right: &mut [bool],
+    states: &mut [PairState],
+) -> Result<(), NoMemory>
     requires few { count ≤ 12 }
     requires left_order { length orders.now.left ≡ length a.now.inputs }
     requires right_order { length orders.now.right ≡ length b.now.inputs }
@@ -66,7 +90,12 @@ fn note_all(states: &mut [PairState], number: u32, left: &[bool], right: &[bool]
     ensures { states.new ≡ map (noted number left.now right.now) states.old }
 {
     for state in states.iter_mut() {
-        state.found = found_with(state.found, number, left[state.left.0 as usize], right[state.right.0 as usize]);
+        state.found = found_with(
+            state.found,
+            number,
+            left[state.left.0 as usize],
+            right[state.right.0 as usize],
+        );
     }
 }
 

@@ -5,10 +5,9 @@ ghost use Rattle.std.specs.Fmt.{decimal};
 ghost use Rattle.std.specs.List.{flat_map};
 ghost use Rattle.sec_check.specs.Report.{digit_of, names_text, row_text, row_line, stimulus_text, answer_word, pair_text, pair_line, values_text, difference_text, verdict_text, counts_text, report_text};
 
+use crate::outcome::{Outcome, PairName, PairResult, Settings, Stimulus, Verdict, Witness};
 use sec_base::{Bits, NoMemory, PairAnswer, Seq, Text, Words, put, put_number};
 use std::alloc::Global;
-
-use crate::outcome::{Outcome, PairName, PairResult, Settings, Stimulus, Verdict, Witness};
 
 fn digit_of(bit: bool) -> u8
     ensures { result ≡ digit_of bit }

@@ -21,7 +21,7 @@ loop-j-preserved c =
     let at = item_at net.gates _ c.loop-j.j gate c.gates-gate-items.ensures c.loop-j-test.true c.gate-item.is in
     let size : length c.loop-j.values ≡ length net.drivers = omega (arith, c.loop-j.auto.values) in
     let value : c.eval_gate.result ≡ cover_value (cover_of net.covers gate) (map (λ f. bit_at c.loop-j.values f.0) gate.fanins) =
-        subst (λ o. IfSome o (λ (g : Gate). c.eval_gate.result ≡ cover_value (cover_of net.covers g) (map (λ f. bit_at c.loop-j.values f.0) g.fanins))) at c.eval_gate.ensures in
+    subst (λ o. IfSome o (λ (g : Gate). c.eval_gate.result ≡ cover_value (cover_of net.covers g) (map (λ f. bit_at c.loop-j.values f.0) g.fanins))) at c.eval_gate.ensures in
     record {
       gates = subst (λ b. HaveGates net (set c.loop-j.values gate.out.0 b) (c.loop-j.j + 1)) (sym value)
           (gates_more net c.keeps.ensures.sound c.loop-j.values c.loop-j.j gate at size c.loop-j.invariant.gates);

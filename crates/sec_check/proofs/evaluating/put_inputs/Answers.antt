@@ -15,4 +15,4 @@ loop-i-preserved c =
     let at = item_at c.args.net.now.inputs _ c.loop-i.i c.port-item.result c.inputs-port-items.ensures c.loop-i-test.true c.port-item.is in
     let size : length c.loop-i.values ≡ length c.args.net.now.drivers = omega (arith, c.loop-i.auto.values, c.requires.size) in
     subst (λ b. HaveInputs c.args.net.now c.args.order.now c.args.bits.now (set c.loop-i.values c.port-item.result.signal.0 b) (c.loop-i.i + 1)) (sym c.bit_at.ensures)
-        (inputs_more c.args.net.now c.keeps.ensures.sound c.args.order.now c.args.bits.now c.loop-i.values c.loop-i.i c.port-item.result at size c.loop-i.invariant)
+    (inputs_more c.args.net.now c.keeps.ensures.sound c.args.order.now c.args.bits.now c.loop-i.values c.loop-i.i c.port-item.result at size c.loop-i.invariant)

@@ -41,10 +41,10 @@ loop-output-preserved c =
     let within : place < length b.outputs = port_within b.outputs place port.name name in
     let other : Port = get_or c.outputs-in-loop-output.result.now place c.index-outputs-place.result in
     let here : slice_get b.outputs place ≡ Some other =
-        ap (λ (ports : List Port). slice_get ports place) (sym c.outputs-in-loop-output.ensures)
-        ∙ slice_get-get_or c.outputs-in-loop-output.result.now place c.index-outputs-place.result (subst (λ (ports : List Port). place < length ports) (sym c.outputs-in-loop-output.ensures) within) in
+    ap (λ (ports : List Port). slice_get ports place) (sym c.outputs-in-loop-output.ensures)
+    ∙ slice_get-get_or c.outputs-in-loop-output.result.now place c.index-outputs-place.result (subst (λ (ports : List Port). place < length ports) (sym c.outputs-in-loop-output.ensures) within) in
     let state : PairState = record { left = port.signal; right = other.signal; found = None } in
     let own : IsUntried b port state = record { left_is = refl; right_is = place_named-at b.outputs port.name place other c.requires.right.distinct name here; found = refl } in
     subst (λ (ports : List Port). AllZip (IsUntried b) ports c.push.new.self.items) (sym (take_next a.outputs i port at))
-        (subst (λ (states : List PairState). AllZip (IsUntried b) (take i a.outputs ++ port ∷ []) states) (sym c.in_ok-push.ensures.items)
-        (zip_push (IsUntried b) (take i a.outputs) c.loop-output.states.items port state c.loop-output.invariant own))
+    (subst (λ (states : List PairState). AllZip (IsUntried b) (take i a.outputs ++ port ∷ []) states) (sym c.in_ok-push.ensures.items)
+    (zip_push (IsUntried b) (take i a.outputs) c.loop-output.states.items port state c.loop-output.invariant own))

@@ -19,4 +19,4 @@ pub loop-state-preserved : goal.loop-state-preserved
 loop-state-preserved c =
     let here = get_or c.loop-state.states c.loop-state.state-index no_state in
     mapped_next (noted c.args.number c.args.left.now c.args.right.now) c.args.states.now c.loop-state.states c.loop-state.state-index no_state _ c.loop-state.invariant c.loop-state-test.true
-        (ap (λ o. record here { found = o }) c.found_with-state.ensures)
+    (ap (λ o. record here { found = o }) c.found_with-state.ensures)

@@ -21,10 +21,10 @@ loop-number-preserved c =
     let both = comparison c.args.a.now c.args.b.now c.args.orders.now.left c.args.orders.now.right c.args.count in
     let n = c.loop-number.number in
     let left : AreValues both.a both.left (bits_of n both.count) c.evaluate.new.values =
-        subst (λ (bits : List Bool). AreValues both.a both.left bits c.evaluate.new.values) (c.as_slice-in-loop-number.ensures.value ∙ c.in_ok-bits.ensures)
-        (subst (λ (order : List ℕ). AreValues both.a order c.as_slice-in-loop-number.result.now c.evaluate.new.values) c.as_slice.ensures c.evaluate.ensures) in
+    subst (λ (bits : List Bool). AreValues both.a both.left bits c.evaluate.new.values) (c.as_slice-in-loop-number.ensures.value ∙ c.in_ok-bits.ensures)
+    (subst (λ (order : List ℕ). AreValues both.a order c.as_slice-in-loop-number.result.now c.evaluate.new.values) c.as_slice.ensures c.evaluate.ensures) in
     let right : AreValues both.b both.right (bits_of n both.count) c.evaluate-in-loop-number.new.values =
-        subst (λ (bits : List Bool). AreValues both.b both.right bits c.evaluate-in-loop-number.new.values) (c.as_slice-in-loop-number-3.ensures.value ∙ c.in_ok-bits.ensures)
-        (subst (λ (order : List ℕ). AreValues both.b order c.as_slice-in-loop-number-3.result.now c.evaluate-in-loop-number.new.values) c.as_slice-in-loop-number-2.ensures c.evaluate-in-loop-number.ensures) in
+    subst (λ (bits : List Bool). AreValues both.b both.right bits c.evaluate-in-loop-number.new.values) (c.as_slice-in-loop-number-3.ensures.value ∙ c.in_ok-bits.ensures)
+    (subst (λ (order : List ℕ). AreValues both.b order c.as_slice-in-loop-number-3.result.now c.evaluate-in-loop-number.new.values) c.as_slice-in-loop-number-2.ensures c.evaluate-in-loop-number.ensures) in
     subst (λ (states : List PairState). AllZip (IsTried both (n + 1)) both.a.outputs states) (sym c.note_all.ensures)
-        (tried_more both n c.evaluate.new.values c.evaluate-in-loop-number.new.values left right both.a.outputs c.loop-number.states c.loop-number.invariant)
+    (tried_more both n c.evaluate.new.values c.evaluate-in-loop-number.new.values left right both.a.outputs c.loop-number.states c.loop-number.invariant)
