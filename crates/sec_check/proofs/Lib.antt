@@ -7,6 +7,7 @@ pub mod Interfaces
 pub mod LeastLeaves
 pub mod Leaves
 pub mod Noted
+pub mod Numbering
 pub mod Outcomes
 pub mod Paired
 pub mod Parts

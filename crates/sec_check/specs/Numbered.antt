@@ -1,6 +1,11 @@
 -- The numbers of one circuit's inputs.
-use Rattle.std.specs.Prelude.{◌≡◌, ℕ, ◌<◌, ◌≤◌, false, List, length, Some, slice_get}
+use Rattle.std.specs.Prelude.{◌≡◌, ℕ, ◌<◌, ◌≤◌, Bool, true, false, not, ◌&&◌, List, length, Some, slice_get}
 use Rattle.circuit_theory.specs.Names.{is_among}
+use Rattle.circuit_theory.specs.Interface.{Ports, is_clock}
+
+-- an input of this name stays: it is read, or it isn't the other's clock
+abbrev pub stays : Ports → Ports → List ℕ → Bool
+stays own other name = not (is_clock other name && not (is_among own.read name))
 
 -- A name among the shared ones has its place there as its number; each other a number of its own in this range, rising.
 pub record AreNumbers (names shared : List (List ℕ)) (from to : ℕ) (numbers : List ℕ) : Type 0 where

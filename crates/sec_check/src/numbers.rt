@@ -1,10 +1,10 @@
 //! Which inputs two circuits share, and the numbers of their inputs.
 
-ghost use Rattle.std.specs.Prelude.{◌≡◌, ◌+◌, ◌^◌, ◌<◌, ◌≤◌, not, None, Some, List, ℕ, length, map, IfOk, IfErr, option_map, Option};
+ghost use Rattle.std.specs.Prelude.{◌≡◌, ◌+◌, ◌^◌, ◌<◌, ◌≤◌, not, None, Some, List, ℕ, length, map, IfOk, IfErr, IfSome, slice_get, option_map, Option};
 ghost use Rattle.circuit_theory.specs.Interface.{first_missing, first_mismatch, inputs_beside, shared_inputs, AreOrders};
 ghost use Rattle.sec_check.specs.Compared.{ports_of, InterfaceFails};
 ghost use Rattle.sec_check.specs.Loading.{IsComparable};
-ghost use Rattle.sec_check.specs.Numbered.{AreNumbers};
+ghost use Rattle.sec_check.specs.Numbered.{AreNumbers, stays};
 
 use flat_net::{Net, Port};
 use sec_base::{Ids, NameTable, NoMemory, Orders, Seq, Word};
@@ -13,18 +13,30 @@ use std::alloc::Global;
 use crate::comparing::CompareError;
 use crate::pairing::{is_clock, output_names};
 
+/// Whether the input stays: it is read, or its name isn't the other's clock.
+fn stays(own: &Net, other: &Net, i: u32) -> bool
+    requires { i < length own.now.inputs }
+    ensures { IfSome (slice_get own.now.inputs i) (λ p. result ≡ stays (ports_of own.now) (ports_of other.now) p.name) }
+{
+    own.keeps();
+    let port = &own.inputs()[i as usize];
+    if is_clock(other, port.name.as_slice()) {
+        return own.input_read(i);
+    }
+    true
+}
+
 /// The names of a circuit's inputs, without the other's clock where nothing reads it.
 fn inputs_beside(alloc: Global, own: &Net, other: &Net) -> Result<NameTable, NoMemory>
     ensures { IfOk result (λ names. names ≡ inputs_beside (ports_of own.now) (ports_of other.now)) }
 {
     own.keeps();
     let mut names = NameTable::new(alloc);
-    for i in 0..own.inputs().len() {
-        let name = own.inputs()[i].name.as_slice();
-        if is_clock(other, name) && !own.input_read(i as u32) {
+    for (i, port) in own.inputs().iter().enumerate() {
+        if !stays(own, other, i as u32) {
             continue;
         }
-        names.intern(alloc, name)?;
+        names.intern(alloc, port.name.as_slice())?;
     }
     Ok(names)
 }
@@ -57,13 +69,12 @@ fn numbers_of(
     let mut numbers = Ids::new(alloc);
     let mut next = from;
     for port in own.inputs() {
-        match shared.find(port.name.as_slice()) {
-            Some(id) => numbers.push(id)?,
-            None => {
-                numbers.push(next)?;
-                next += 1;
-            }
-        }
+        let Some(id) = shared.find(port.name.as_slice()) else {
+            numbers.push(next)?;
+            next += 1;
+            continue;
+        };
+        numbers.push(id)?;
     }
     Ok((numbers, next))
 }
