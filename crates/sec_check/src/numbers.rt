@@ -1,12 +1,12 @@
 //! Which inputs two circuits share, and the numbers of their inputs.
 
 ghost use Rattle.std.specs.Prelude.{◌≡◌, ◌+◌, ◌^◌, ◌<◌, ◌≤◌, not, None, Some, List, ℕ, length, map, IfOk, IfErr, IfSome, slice_get, option_map, Option};
-ghost use Rattle.circuit_theory.specs.Interface.{first_missing, first_mismatch, inputs_beside, shared_inputs, AreOrders};
+ghost use Rattle.circuit_theory.specs.Interface.{first_missing, first_mismatch, inputs_beside, shared_inputs, AreOrders, ◌or_else◌};
 ghost use Rattle.sec_check.specs.Compared.{ports_of, InterfaceFails};
 ghost use Rattle.sec_check.specs.Loading.{IsComparable};
 ghost use Rattle.sec_check.specs.Numbered.{AreNumbers, stays};
 
-use flat_net::{Net, Port};
+use flat_net::Net;
 use sec_base::{Ids, NameTable, NoMemory, Orders, Seq, Word};
 use std::alloc::Global;
 
@@ -89,5 +89,55 @@ pub fn interface(alloc: Global, a: &Net, b: &Net) -> Result<Orders, CompareError
     ensures ok { IfOk result (λ o. (first_mismatch (ports_of a.now) (ports_of b.now) ≡ None) × AreOrders (ports_of a.now) (ports_of b.now) o.left o.right) }
     ensures err { IfErr result (InterfaceFails a.now b.now) }
 {
-    Err(CompareError::NoMemory)
+    let left = inputs_beside(alloc, a, b)?;
+    let right = inputs_beside(alloc, b, a)?;
+    let left_outputs = output_names(alloc, a.outputs())?;
+    let right_outputs = output_names(alloc, b.outputs())?;
+    if let Some(name) = first_mismatch(&left, &right, &left_outputs, &right_outputs) {
+        return Err(CompareError::Interface(copied(alloc, name)?));
+    }
+    orders_of(alloc, a, b, &left)
+}
+
+fn copied(alloc: Global, name: &[u8]) -> Result<Word, NoMemory>
+    ensures { IfOk result (λ word. word ≡ name.now) }
+{
+    Ok(Seq::from_vec(name.to_vec(alloc)?))
+}
+
+/// The first of A's inputs missing in B, B's in A, A's outputs in B, B's in A.
+fn first_mismatch<'a>(
+    left: &'a NameTable,
+    right: &'a NameTable,
+    left_outputs: &'a NameTable,
+    right_outputs: &'a NameTable,
+) -> Option<&'a [u8]>
+    ensures { option_map (λ name. name.now) result ≡ (first_missing left.now right.now or_else first_missing right.now left.now or_else first_missing left_outputs.now right_outputs.now or_else first_missing right_outputs.now left_outputs.now) }
+{
+    if let Some(name) = first_missing(left, right) {
+        return Some(name);
+    }
+    if let Some(name) = first_missing(right, left) {
+        return Some(name);
+    }
+    if let Some(name) = first_missing(left_outputs, right_outputs) {
+        return Some(name);
+    }
+    first_missing(right_outputs, left_outputs)
+}
+
+/// The orders where the interfaces match.
+fn orders_of(alloc: Global, a: &Net, b: &Net, shared: &NameTable) -> Result<Orders, CompareError>
+    requires left { IsComparable a.now }
+    requires right { IsComparable b.now }
+    requires matches { Rattle.circuit_theory.specs.Interface.first_mismatch (ports_of a.now) (ports_of b.now) ≡ None }
+    requires shared { shared.now ≡ shared_inputs (ports_of a.now) (ports_of b.now) }
+    ensures ok { IfOk result (λ o. AreOrders (ports_of a.now) (ports_of b.now) o.left o.right) }
+    ensures err { IfErr result (InterfaceFails a.now b.now) }
+{
+    a.keeps();
+    b.keeps();
+    let (left, middle) = numbers_of(alloc, a, shared, shared.len())?;
+    let (right, _) = numbers_of(alloc, b, shared, middle)?;
+    Ok(Orders { left, right })
 }
