@@ -29,6 +29,7 @@ use Rattle.sec_check.specs.declared.sweeping.PairState.{PairState}
 use Rattle.sec_check.specs.Compared.{ports_of}
 use Rattle.sec_check.specs.Outcome.{HaveDifferentFunctions, AnswerFits, PairFits, PairsFit}
 use Rattle.sec_check.specs.Sweep.{bit_at, Comparison, comparison, AreValues, HaveValues, AreEqualBelow, IsLeastBelow, IsTried, answer_of, results_of}
+use Rattle.sec_check.proofs.Bits.{number_of, bits_of-number_of, number_of-below, bits_of-length}
 use Rattle.sec_check.proofs.LeastLeaves.{all_inputs_from, all_inputs, witness_of_least}
 use Rattle.sec_check.proofs.Leaves.{by_leaves, no_latch, values_meet, InputAt, input_at, values_at_inputs, leaf_is_shared, shared_name}
 use Rattle.sec_check.proofs.Noted.{place_named-within}
@@ -48,29 +49,6 @@ bits_from-at x first zero i h = absurd (omega arith)
 bits_from-at x first (suc count) zero h = ap x (let e : first ≡ first + 0 = omega arith in e)
 bits_from-at x first (suc count) (suc i) h = bits_from-at x (suc first) count i (omega arith) ∙ ap x (let e : suc first + i ≡ first + suc i = omega arith in e)
 
--- the number of a list of bits
-abbrev number_of : List Bool → ℕ
-number_of [] = 0
-number_of (b ∷ bits) = cond b 1 0 + 2 * number_of bits
-
-bits_of-number_of : (bits : List Bool) → bits_of (number_of bits) (length bits) ≡ bits
-bits_of-number_of [] = refl
-bits_of-number_of (true ∷ bits) =
-    let low : (1 + 2 * number_of bits) % 2 ≡ 1 = omega arith in
-    let high : (1 + 2 * number_of bits) / 2 ≡ number_of bits = omega arith in
-    let ih = bits_of-number_of bits in
-    rw (low, high) (ap (λ (bs : List Bool). true ∷ bs) ih)
-bits_of-number_of (false ∷ bits) =
-    let low : (0 + 2 * number_of bits) % 2 ≡ 0 = omega arith in
-    let high : (0 + 2 * number_of bits) / 2 ≡ number_of bits = omega arith in
-    let ih = bits_of-number_of bits in
-    rw (low, high) (ap (λ (bs : List Bool). false ∷ bs) ih)
-
-number_of-below : (bits : List Bool) → number_of bits < 2 ^ length bits
-number_of-below [] = omega arith
-number_of-below (true ∷ bits) = let ih = number_of-below bits in rw pow-suc (omega arith)
-number_of-below (false ∷ bits) = let ih = number_of-below bits in rw pow-suc (omega arith)
-
 -- each assignment of so many inputs has its number
 pub numbered : (x : ℕ → Bool) (count : ℕ) → (m : ℕ) × (m < 2 ^ count) × ((i : ℕ) → i < count → bit_at (bits_of m count) i ≡ x i)
 numbered x count =
@@ -80,10 +58,6 @@ numbered x count =
       subst (λ n. number_of bits < 2 ^ n) (bits_from-length x 0 count) (number_of-below bits),
       λ i h. ap (λ (bs : List Bool). bit_at bs i) same ∙ (bits_from-at x 0 count i h ∙ ap x (let e : 0 + i ≡ i = omega arith in e)),
     )
-
-pub bits_of-length : (m count : ℕ) → length (bits_of m count) ≡ count
-bits_of-length m zero = refl
-bits_of-length m (suc count) = ap suc (bits_of-length (m / 2) count)
 
 all_length : (first count : ℕ) → length (all_inputs_from first count) ≡ count
 all_length first zero = refl

@@ -46,7 +46,7 @@ gates_alone : (within : List Rattle.blif_read.specs.Design.Inside → BlifModel 
 gates_alone within models k clocks driven [] e = refl
 gates_alone within models k clocks driven (Names line fanins out cover ∷ ss) e =
     ap (λ (items : List Item). At [] (Names line fanins out cover) ∷ items)
-        (gates_alone within models k clocks (driven ++ out ∷ []) ss (and_right (is_next clocks driven (Names line fanins out cover)) _ e))
+    (gates_alone within models k clocks (driven ++ out ∷ []) ss (and_right (is_next clocks driven (Names line fanins out cover)) _ e))
 gates_alone within models k clocks driven (Latch line input output edge control start ∷ ss) e = absurd (cc)
 gates_alone within models k clocks driven (Subckt line model pairs ∷ ss) e = absurd (cc)
 
@@ -216,9 +216,10 @@ flat_clock m others flat = go m.clocks refl
     go : (clocks : List (List ℕ)) → m.clocks ≡ clocks → IsClock (m ∷ others) (first_name m.clocks)
     go [] e = subst (λ (cs : List (List ℕ)). IsClock (m ∷ others) (first_name cs)) (sym e) (flat_clock_places m others flat ∙ ap (map top) e)
     go (c ∷ []) e = subst (λ (cs : List (List ℕ)). IsClock (m ∷ others) (first_name cs)) (sym e) (
-        subst (λ (ps : List Place). 0 < length ps) (sym places) (omega arith),
-        subst (λ (cs : List (List ℕ)). Contains (m.inputs ++ cs) c) (sym e) (length m.inputs, omega (arith, length-append m.inputs (c ∷ [])), get_or-append_seam m.inputs c [] c),
-        subst (λ (ps : List Place). All (λ p. Follows (circuit_of_design (m ∷ others) None) p (top c)) ps) (sym places) (All-cons (λ (p : Place). Follows (circuit_of_design (m ∷ others) None) p (top c)) (top c) [] Follows.here (All-nil (λ (p : Place). Follows (circuit_of_design (m ∷ others) None) p (top c)))))
+      subst (λ (ps : List Place). 0 < length ps) (sym places) (omega arith),
+      subst (λ (cs : List (List ℕ)). Contains (m.inputs ++ cs) c) (sym e) (length m.inputs, omega (arith, length-append m.inputs (c ∷ [])), get_or-append_seam m.inputs c [] c),
+      subst (λ (ps : List Place). All (λ p. Follows (circuit_of_design (m ∷ others) None) p (top c)) ps) (sym places) (All-cons (λ (p : Place). Follows (circuit_of_design (m ∷ others) None) p (top c)) (top c) [] Follows.here (All-nil (λ (p : Place). Follows (circuit_of_design (m ∷ others) None) p (top c)))),
+    )
       where
         places : clock_places (m ∷ others) ≡ top c ∷ []
         places = flat_clock_places m others flat ∙ ap (map top) e

@@ -48,10 +48,11 @@ input_step clock inputs i n n' name sound h at e fresh part made few =
     let names = unclocked_more clock inputs i name h at e in
     let known : n.names ≡ unclocked clock (take i inputs) = part.names in
     let new : is_among (unclocked clock (take i inputs)) name ≡ false = subst (λ (ns : List (List ℕ)). is_among ns name ≡ false) known fresh in
-    let longer : length n'.drivers ≡ length n.drivers + 1 = ap (λ (m : NetView). length m.drivers) made ∙ length-append n.drivers _ in
-    (subst (λ (ns : List (List ℕ)). IsPart n' ns []) (sym names) (subst (λ (m : NetView). IsPart m (unclocked clock (take i inputs) ++ name ∷ []) []) (sym made) (part_input n (unclocked clock (take i inputs)) name sound part)),
-     omega arith,
-     new_more clock inputs (unclocked clock (take i inputs)) i name h at e new ∙ ap (λ (ns : List (List ℕ)). are_new ns (unclocked clock (drop (i + 1) inputs))) (sym names))
+    let longer : length n'.drivers ≡ length n.drivers + 1 = ap (λ (m : NetView). length m.drivers) made ∙ length-append n.drivers _ in (
+      subst (λ (ns : List (List ℕ)). IsPart n' ns []) (sym names) (subst (λ (m : NetView). IsPart m (unclocked clock (take i inputs) ++ name ∷ []) []) (sym made) (part_input n (unclocked clock (take i inputs)) name sound part)),
+      omega arith,
+      new_more clock inputs (unclocked clock (take i inputs)) i name h at e new ∙ ap (λ (ns : List (List ℕ)). are_new ns (unclocked clock (drop (i + 1) inputs))) (sym names),
+    )
 
 -- one more statement is taken in
 pub gate_step : (clocks inputs : List (List ℕ)) (statements : List Statement) (i : ℕ) (n n' : NetView) (s : Statement) → IsSound n → i < length statements → s ≡ get_or statements i s →
@@ -60,13 +61,14 @@ pub gate_step : (clocks inputs : List (List ℕ)) (statements : List Statement) 
 gate_step clocks inputs statements i n n' (Names line fanins out cover) sound h at next part (signals, named, made) =
     let s : Statement = Names line fanins out cover in
     let taken : take (i + 1) statements ≡ take i statements ++ Names line fanins out cover ∷ [] =
-        take_more statements i (Names line fanins out cover) h ∙ ap (λ (x : Statement). take i statements ++ x ∷ []) (sym at) in
-    let names : n'.names ≡ n.names ++ out ∷ [] = ap (λ (m : NetView). m.names) made in
-    (subst (λ (ss : List Statement). IsPart n' inputs ss) (sym taken)
-        (subst (λ (m : NetView). IsPart m inputs (take i statements ++ Names line fanins out cover ∷ [])) (sym made)
-            (part_gate n inputs (take i statements) line fanins out cover signals sound part named)),
-     order_more clocks n.names statements i (Names line fanins out cover) h at
-     ∙ ap (λ (b : Bool). b && are_in_order clocks (n.names ++ out ∷ []) (drop (i + 1) statements)) next
-     ∙ ap (λ (ns : List (List ℕ)). are_in_order clocks ns (drop (i + 1) statements)) (sym names))
+    take_more statements i (Names line fanins out cover) h ∙ ap (λ (x : Statement). take i statements ++ x ∷ []) (sym at) in
+    let names : n'.names ≡ n.names ++ out ∷ [] = ap (λ (m : NetView). m.names) made in (
+      subst (λ (ss : List Statement). IsPart n' inputs ss) (sym taken)
+          (subst (λ (m : NetView). IsPart m inputs (take i statements ++ Names line fanins out cover ∷ [])) (sym made)
+          (part_gate n inputs (take i statements) line fanins out cover signals sound part named)),
+      order_more clocks n.names statements i (Names line fanins out cover) h at
+          ∙ ap (λ (b : Bool). b && are_in_order clocks (n.names ++ out ∷ []) (drop (i + 1) statements)) next
+          ∙ ap (λ (ns : List (List ℕ)). are_in_order clocks ns (drop (i + 1) statements)) (sym names),
+    )
 gate_step clocks inputs statements i n n' (Latch line input output edge control start) sound h at next part taken = absurd taken
 gate_step clocks inputs statements i n n' (Subckt line model pairs) sound h at next part taken = absurd taken

@@ -1,9 +1,9 @@
 -- The least number over all shared inputs gives the least over the leaves of two trees alone.
-use Rattle.std.proofs.Common.{◌≡◌, ℕ, zero, suc, ◌+◌, ◌*◌, ◌/◌, ◌%◌, ◌^◌, ◌<◌, ◌≤◌, max, Bool, true, false, cond, List, [], ◌∷◌, length, refl, sym, ◌∙◌, ap, subst, arith, inl, inr, pow-suc}
-use Rattle.std.specs.Prelude.{◌⊎◌, ◌&&◌, ◌||◌, ◌==◌}
+use Rattle.std.proofs.Common.{◌≡◌, ◌≢◌, ℕ, zero, suc, ◌+◌, ◌*◌, ◌^◌, ◌<◌, ◌≤◌, max, Bool, true, false, cond, List, [], ◌∷◌, map, length, get_or, refl, sym, ◌∙◌, ap, subst, arith, inl, inr, ◌⊎◌}
+use Rattle.std.specs.Prelude.{◌&&◌, ◌||◌, ◌==◌, ◌↔◌}
 use Rattle.std.specs.List.{All, AllPairs, Contains}
 use Rattle.std.proofs.lemmas.List.Kept.{AllPairs-cons}
-use Rattle.circuit_theory.specs.Cover.{cover_value}
+use Rattle.circuit_theory.specs.Cover.{Cover, cover_value}
 use Rattle.circuit_theory.specs.Circuit.{Circuit}
 use Rattle.circuit_theory.specs.Tree.{Tree, Trees, Leaf, Fixed, Branch, Nil, Cons, Unfolds, UnfoldsAll, tree_value, tree_values}
 use Rattle.circuit_theory.specs.Query.{Variable, HasLeaf, HasLeafIn, AreVariables, ShiftBefore, same_shift, assigned, bits_of, pair_query, Distinguishes, IsLeast}
@@ -12,6 +12,8 @@ use Rattle.circuit_theory.specs.Fits.{IsWitness}
 use Rattle.circuit_theory.proofs.Inputs.{test_same, test_refl}
 use Rattle.circuit_theory.proofs.Lists.{Contains-head, Contains-tail, Contains-cases, All-from_each}
 use Rattle.circuit_theory.proofs.LeafVisits.{leaf_says, leaf_in_says}
+use Rattle.sec_check.specs.Sweep.{bit_at}
+use Rattle.sec_check.proofs.Bits.{number_of, bits_of-number_of, number_of-below, bits_of-length, number_of-bits_of}
 
 -- the inputs from a number on, each without a shift
 abbrev pub all_inputs_from : ℕ → ℕ → List (Variable ℕ)
@@ -21,441 +23,554 @@ all_inputs_from i (suc n) = (record { input = i; at = 0 }) ∷ all_inputs_from (
 abbrev pub all_inputs : ℕ → List (Variable ℕ)
 all_inputs n = all_inputs_from 0 n
 
--- an input without a shift
+pub all_length : (first count : ℕ) → length (all_inputs_from first count) ≡ count
+all_length first zero = refl
+all_length first (suc count) = ap suc (all_length (suc first) count)
+
+-- whether the input is a leaf without a shift
+mutual
+  leaf_test : ℕ → Tree ℕ → Bool
+  leaf_test i (Leaf j k) = (j == i) && (k == 0)
+  leaf_test i (Fixed bit) = false
+  leaf_test i (Branch cover trees) = leaf_in_test i trees
+
+  leaf_in_test : ℕ → Trees ℕ → Bool
+  leaf_in_test i Nil = false
+  leaf_in_test i (Cons tree trees) = leaf_test i tree || leaf_in_test i trees
+
 abbrev at_zero : ℕ → Variable ℕ
 at_zero i = record { input = i; at = 0 }
 
--- those of the inputs from a number on that are kept
-abbrev kept_from : (ℕ → Bool) → ℕ → ℕ → List (Variable ℕ)
-kept_from keep i zero = []
-kept_from keep i (suc n) = cond (keep i) (at_zero i ∷ kept_from keep (suc i) n) (kept_from keep (suc i) n)
-
--- the number over all inputs: a number over the kept ones, with 0 at each dropped one
-abbrev expand : (ℕ → Bool) → ℕ → ℕ → ℕ → ℕ
-expand keep i zero k = 0
-expand keep i (suc n) k = cond (keep i) (k % 2 + 2 * expand keep (suc i) n (k / 2)) (2 * expand keep (suc i) n k)
-
--- the bits of the kept inputs alone
-abbrev compress : (ℕ → Bool) → ℕ → ℕ → ℕ → ℕ
-compress keep i zero m = 0
-compress keep i (suc n) m = cond (keep i) (m % 2 + 2 * compress keep (suc i) n (m / 2)) (compress keep (suc i) n (m / 2))
-
-skip_head : (i j : ℕ) (c x : Bool) → (i ≡ j → x ≡ false) → x ≡ cond ((i == j) && c) false x
-skip_head i j c x none = go (i == j) refl c
-  where
-    go : (t : Bool) → (i == j) ≡ t → (c : Bool) → x ≡ cond (t && c) false x
-    go true e true = none (test_same i j e)
-    go true e false = refl
-    go false e c = refl
-
-assigned_before : (i n j at : ℕ) (bits : List Bool) → j < i → assigned same_shift (all_inputs_from i n) bits j at ≡ false
-assigned_before i zero j at bits h = refl
-assigned_before i (suc n) j at [] h = refl
-assigned_before i (suc n) j at (b ∷ bits) h =
-    ap (λ t. cond (t && (0 == at)) b (assigned same_shift (all_inputs_from (suc i) n) bits j at)) (let e : (i == j) ≡ false = grind arith in e)
-    ∙ assigned_before (suc i) n j at bits (omega arith)
-
-assigned_step : (b : Bool) (i n k j at e f : ℕ) (rest others : List (Variable ℕ)) →
-    assigned same_shift rest (bits_of (k / 2) (length rest)) j at ≡ assigned same_shift others (bits_of e n) j at →
-    assigned same_shift rest (bits_of k (length rest)) j at ≡ assigned same_shift others (bits_of f n) j at →
-    (i ≡ j → assigned same_shift others (bits_of f n) j at ≡ false) →
-    assigned same_shift (cond b (at_zero i ∷ rest) rest) (bits_of k (length (cond b (at_zero i ∷ rest) rest))) j at
-    ≡ assigned same_shift (at_zero i ∷ others) (bits_of (cond b (k % 2 + 2 * e) (2 * f)) (suc n)) j at
-assigned_step true i n k j at e f rest others kept dropped none =
-    let low : (k % 2 + 2 * e) % 2 ≡ k % 2 = omega arith in
-    let high : (k % 2 + 2 * e) / 2 ≡ e = omega arith in
-    rw (low, high) (ap (λ t. cond ((i == j) && (0 == at)) (k % 2 == 1) t) kept)
-assigned_step false i n k j at e f rest others kept dropped none =
-    let low : (2 * f) % 2 ≡ 0 = omega arith in
-    let high : (2 * f) / 2 ≡ f = omega arith in
-    rw (low, high) (dropped ∙ skip_head i j (0 == at) (assigned same_shift others (bits_of f n) j at) none)
-
--- a number over the kept inputs gives the assignment of the expanded number over all inputs
-kept_assigned : (keep : ℕ → Bool) (i n k j at : ℕ) →
-    assigned same_shift (kept_from keep i n) (bits_of k (length (kept_from keep i n))) j at ≡ assigned same_shift (all_inputs_from i n) (bits_of (expand keep i n k) n) j at
-kept_assigned keep i zero k j at = refl
-kept_assigned keep i (suc n) k j at =
-    assigned_step (keep i) i n k j at (expand keep (suc i) n (k / 2)) (expand keep (suc i) n k) (kept_from keep (suc i) n) (all_inputs_from (suc i) n)
-    (kept_assigned keep (suc i) n (k / 2) j at) (kept_assigned keep (suc i) n k j at) (λ e. assigned_before (suc i) n j at (bits_of (expand keep (suc i) n k) n) (omega arith))
-
-less_step : (b : Bool) (i a k : ℕ) (rest : List (Variable ℕ)) (f : ℕ → ℕ) → a < k → k < 2 ^ length (cond b (at_zero i ∷ rest) rest) →
-    ((x y : ℕ) → x < y → y < 2 ^ length rest → f x < f y) → cond b (a % 2 + 2 * f (a / 2)) (2 * f a) < cond b (k % 2 + 2 * f (k / 2)) (2 * f k)
-less_step true i a k rest f lt in_range ih = go (which (a / 2) (k / 2) (omega arith))
-  where
-    which : (x y : ℕ) → x ≤ y → (x < y) ⊎ (x ≡ y)
-    which x y h = grind arith
-
-    half : k / 2 < 2 ^ length rest
-    half = let r : k < 2 ^ suc (length rest) = in_range in let s = rw pow-suc at r in omega (arith, s)
-
-    go : (a / 2 < k / 2) ⊎ (a / 2 ≡ k / 2) → a % 2 + 2 * f (a / 2) < k % 2 + 2 * f (k / 2)
-    go (inl l) = let h = ih (a / 2) (k / 2) l half in omega arith
-    go (inr e) = let h : f (a / 2) ≡ f (k / 2) = ap f e in omega arith
-less_step false i a k rest f lt in_range ih = let h = ih a k lt in_range in omega arith
-
--- expanding keeps the order
-expand_less : (keep : ℕ → Bool) (i n a k : ℕ) → a < k → k < 2 ^ length (kept_from keep i n) → expand keep i n a < expand keep i n k
-expand_less keep i zero a k lt in_range = absurd (let z : k < 1 = in_range in omega arith)
-expand_less keep i (suc n) a k lt in_range = less_step (keep i) i a k (kept_from keep (suc i) n) (expand keep (suc i) n) lt in_range (λ x y l r. expand_less keep (suc i) n x y l r)
-
-range_step : (b : Bool) (i m c : ℕ) (rest : List (Variable ℕ)) → c < 2 ^ length rest → cond b (m % 2 + 2 * c) c < 2 ^ length (cond b (at_zero i ∷ rest) rest)
-range_step true i m c rest h = rw pow-suc (omega arith)
-range_step false i m c rest h = h
-
-compress_in_range : (keep : ℕ → Bool) (i n m : ℕ) → compress keep i n m < 2 ^ length (kept_from keep i n)
-compress_in_range keep i zero m = let z : 0 < 1 = omega arith in z
-compress_in_range keep i (suc n) m = range_step (keep i) i m (compress keep (suc i) n (m / 2)) (kept_from keep (suc i) n) (compress_in_range keep (suc i) n (m / 2))
-
--- the number with each dropped input's bit cleared
-abbrev cleared : (ℕ → Bool) → ℕ → ℕ → ℕ → ℕ
-cleared keep i n m = expand keep i n (compress keep i n m)
-
-cleared_step : (b : Bool) (m c : ℕ) (f : ℕ → ℕ) → cond b (cond b (m % 2 + 2 * c) c % 2 + 2 * f (cond b (m % 2 + 2 * c) c / 2)) (2 * f (cond b (m % 2 + 2 * c) c)) ≡ cond b (m % 2) 0 + 2 * f c
-cleared_step true m c f =
-    let low : (m % 2 + 2 * c) % 2 ≡ m % 2 = omega arith in
-    let high : f ((m % 2 + 2 * c) / 2) ≡ f c = ap f (let e : (m % 2 + 2 * c) / 2 ≡ c = omega arith in e) in
-    omega arith
-cleared_step false m c f = omega arith
-
-cleared_is : (keep : ℕ → Bool) (i n m : ℕ) → cleared keep i (suc n) m ≡ cond (keep i) (m % 2) 0 + 2 * cleared keep (suc i) n (m / 2)
-cleared_is keep i n m = cleared_step (keep i) m (compress keep (suc i) n (m / 2)) (expand keep (suc i) n)
-
-low_at_most : (b : Bool) (x : ℕ) → cond b x 0 ≤ x
-low_at_most true x = omega arith
-low_at_most false x = omega arith
-
-cleared_at_most : (keep : ℕ → Bool) (i n m : ℕ) → cleared keep i n m ≤ m
-cleared_at_most keep i zero m = let z : 0 ≤ m = omega arith in z
-cleared_at_most keep i (suc n) m =
-    let ih = cleared_at_most keep (suc i) n (m / 2) in
-    let low = low_at_most (keep i) (m % 2) in
-    subst (λ k. k ≤ m) (sym (cleared_is keep i n m)) (let z : cond (keep i) (m % 2) 0 + 2 * cleared keep (suc i) n (m / 2) ≤ m = sum_at_most m (cond (keep i) (m % 2) 0) (cleared keep (suc i) n (m / 2)) low ih in z)
-  where
-    sum_at_most : (m l h : ℕ) → l ≤ m % 2 → h ≤ m / 2 → l + 2 * h ≤ m
-    sum_at_most m l h a b = omega arith
-
-agree_step : (b : Bool) (i j at m n e : ℕ) (others : List (Variable ℕ)) → (i ≡ j → b ≡ true) →
-    assigned same_shift others (bits_of (m / 2) n) j at ≡ assigned same_shift others (bits_of e n) j at →
-    assigned same_shift (at_zero i ∷ others) (bits_of m (suc n)) j at ≡ assigned same_shift (at_zero i ∷ others) (bits_of (cond b (m % 2) 0 + 2 * e) (suc n)) j at
-agree_step true i j at m n e others is_kept ih =
-    let low : (m % 2 + 2 * e) % 2 ≡ m % 2 = omega arith in
-    let high : (m % 2 + 2 * e) / 2 ≡ e = omega arith in
-    rw (low, high) (ap (λ t. cond ((i == j) && (0 == at)) (m % 2 == 1) t) ih)
-agree_step false i j at m n e others is_kept ih =
-    let high : (0 + 2 * e) / 2 ≡ e = omega arith in
-    let other : (i == j) ≡ false = go (i == j) refl in
-    rw (high, other) ih
-  where
-    no_false_true : false ≡ true → ⊥
-    no_false_true q = cc
-
-    go : (t : Bool) → (i == j) ≡ t → t ≡ false
-    go true q = absurd (no_false_true (is_kept (test_same i j q)))
-    go false q = refl
-
--- clearing changes no kept input's bit
-cleared_agrees : (keep : ℕ → Bool) (i n m j at : ℕ) → keep j ≡ true → assigned same_shift (all_inputs_from i n) (bits_of m n) j at ≡ assigned same_shift (all_inputs_from i n) (bits_of (cleared keep i n m) n) j at
-cleared_agrees keep i zero m j at is_kept = refl
-cleared_agrees keep i (suc n) m j at is_kept =
-    agree_step (keep i) i j at m n (cleared keep (suc i) n (m / 2)) (all_inputs_from (suc i) n) (λ e. ap keep e ∙ is_kept) (cleared_agrees keep (suc i) n (m / 2) j at is_kept)
-    ∙ ap (λ k. assigned same_shift (all_inputs_from i (suc n)) (bits_of k (suc n)) j at) (sym (cleared_is keep i n m))
-
--- the row of an assignment of all inputs is the number's bits
-row_is : (x : ℕ → ℕ → Bool) (i n m : ℕ) → ((j : ℕ) → i ≤ j → x j 0 ≡ assigned same_shift (all_inputs_from i n) (bits_of m n) j 0) → bits_of m n ≡ sequence_row 0 x 0 i n
-row_is x i zero m same = refl
-row_is x i (suc n) m same =
-    let head : x i 0 ≡ (m % 2 == 1) = same i (omega arith) ∙ ap (λ t. cond (t && true) (m % 2 == 1) (assigned same_shift (all_inputs_from (suc i) n) (bits_of (m / 2) n) i 0)) (test_refl i) in
-    let tail : bits_of (m / 2) n ≡ sequence_row 0 x 0 (suc i) n = row_is x (suc i) n (m / 2) (λ j h.
-    same j (omega arith) ∙ ap (λ t. cond (t && true) (m % 2 == 1) (assigned same_shift (all_inputs_from (suc i) n) (bits_of (m / 2) n) j 0)) (let e : (i == j) ≡ false = grind arith in e)) in
-    ap (λ b. b ∷ bits_of (m / 2) n) (sym head) ∙ ap (λ bs. x i 0 ∷ bs) tail
-
--- what the kept inputs are
-kept_in : (keep : ℕ → Bool) (i n : ℕ) (x : Variable ℕ) → Contains (kept_from keep i n) x → (i ≤ x.input) × (x.input < i + n) × (x.at ≡ 0) × (keep x.input ≡ true)
-kept_in keep i zero x h = absurd (omega (arith, h.1))
-kept_in keep i (suc n) x h = go (keep i) refl h (λ k. kept_in keep (suc i) n x k)
-  where
-    Says : ℕ → ℕ → Type 0
-    Says i n = (i ≤ x.input) × (x.input < i + n) × (x.at ≡ 0) × (keep x.input ≡ true)
-
-    wider : Says (suc i) n → Says i (suc n)
-    wider r = (omega (arith, r.0), omega (arith, r.1), r.2, r.3)
-
-    pick : keep i ≡ true → (at_zero i ≡ x) ⊎ Contains (kept_from keep (suc i) n) x → (Contains (kept_from keep (suc i) n) x → Says (suc i) n) → Says i (suc n)
-    pick e (inl q) later =
-        let same : i ≡ x.input = ap (λ (y : Variable ℕ). y.input) q in
-        (omega arith, omega arith, sym (ap (λ (y : Variable ℕ). y.at) q), ap keep (sym same) ∙ e)
-    pick e (inr k) later = wider (later k)
-
-    go : (b : Bool) → keep i ≡ b → Contains (cond b (at_zero i ∷ kept_from keep (suc i) n) (kept_from keep (suc i) n)) x → (Contains (kept_from keep (suc i) n) x → Says (suc i) n) → Says i (suc n)
-    go true e k later = pick e (Contains-cases (at_zero i) x (kept_from keep (suc i) n) k) later
-    go false e k later = wider (later k)
-
-in_kept : (keep : ℕ → Bool) (i n j : ℕ) → i ≤ j → j < i + n → keep j ≡ true → Contains (kept_from keep i n) (at_zero j)
-in_kept keep i zero j low high is_kept = absurd (omega arith)
-in_kept keep i (suc n) j low high is_kept = go (which i j low) (keep i) refl (λ l. in_kept keep (suc i) n j l (omega arith) is_kept)
-  where
-    which : (i j : ℕ) → i ≤ j → (i ≡ j) ⊎ (suc i ≤ j)
-    which i j h = grind arith
-
-    no_false_true : false ≡ true → ⊥
-    no_false_true q = cc
-
-    go : (i ≡ j) ⊎ (suc i ≤ j) → (b : Bool) → keep i ≡ b → (suc i ≤ j → Contains (kept_from keep (suc i) n) (at_zero j)) → Contains (cond b (at_zero i ∷ kept_from keep (suc i) n) (kept_from keep (suc i) n)) (at_zero j)
-    go (inl e) true k later = subst (λ z. Contains (at_zero i ∷ kept_from keep (suc i) n) (at_zero z)) e (Contains-head (at_zero i) (kept_from keep (suc i) n))
-    go (inl e) false k later = absurd (no_false_true (sym k ∙ (ap keep e ∙ is_kept)))
-    go (inr l) true k later = Contains-tail (at_zero i) (at_zero j) (kept_from keep (suc i) n) (later l)
-    go (inr l) false k later = later l
-
-kept_in_order : (keep : ℕ → Bool) (i n : ℕ) → AllPairs ShiftBefore (kept_from keep i n)
-kept_in_order keep i zero = λ a b d lt within. absurd (omega arith)
-kept_in_order keep i (suc n) = go (keep i) (kept_in_order keep (suc i) n)
-  where
-    first : All (ShiftBefore (at_zero i)) (kept_from keep (suc i) n)
-    first = All-from_each (ShiftBefore (at_zero i)) (kept_from keep (suc i) n) (λ x h. let s = kept_in keep (suc i) n x h in inr (sym s.2, omega (arith, s.0)))
-
-    go : (b : Bool) → AllPairs ShiftBefore (kept_from keep (suc i) n) → AllPairs ShiftBefore (cond b (at_zero i ∷ kept_from keep (suc i) n) (kept_from keep (suc i) n))
-    go true rest = AllPairs-cons ShiftBefore (at_zero i) (kept_from keep (suc i) n) first rest
-    go false rest = rest
-
--- the input, without a shift, is a leaf
-unfoldable mutual
-  has_leaf : ℕ → Tree ℕ → Bool
-  has_leaf j (Leaf i at) = (i == j) && (at == 0)
-  has_leaf j (Fixed bit) = false
-  has_leaf j (Branch cover trees) = has_leaf_in j trees
-
-  has_leaf_in : ℕ → Trees ℕ → Bool
-  has_leaf_in j Nil = false
-  has_leaf_in j (Cons tree trees) = has_leaf j tree || has_leaf_in j trees
+no_true_false : true ≡ false → ⊥
+no_true_false e = cc
 
 both : (x y : Bool) → (x && y) ≡ true → (x ≡ true) × (y ≡ true)
 both true y h = (refl, h)
-both false y h = cc
+both false y h = absurd (no_true_false (sym h))
 
-both_true : (x y : Bool) → x ≡ true → y ≡ true → (x && y) ≡ true
-both_true true y h g = g
-both_true false y h g = h
+either : (x y : Bool) → (x || y) ≡ true → (x ≡ true) ⊎ (y ≡ true)
+either true y h = inl refl
+either false y h = inr h
 
-one_of : (x y : Bool) → (x || y) ≡ true → (x ≡ true) ⊎ (y ≡ true)
-one_of true y h = inl refl
-one_of false y h = inr h
+or_left : (x y : Bool) → x ≡ true → (x || y) ≡ true
+or_left x y h = ap (λ b. b || y) h
 
-left_true : (x y : Bool) → x ≡ true → (x || y) ≡ true
-left_true true y h = refl
-left_true false y h = cc
-
-right_true : (x y : Bool) → y ≡ true → (x || y) ≡ true
-right_true true y h = refl
-right_true false y h = h
+or_right : (x y : Bool) → y ≡ true → (x || y) ≡ true
+or_right true y h = refl
+or_right false y h = h
 
 mutual
-  unfolding has_leaf has_leaf_in
+  unfolding leaf_test
 
-  leaf_sound : (j : ℕ) (tree : Tree ℕ) → has_leaf j tree ≡ true → HasLeaf (at_zero j) tree
-  leaf_sound j (Leaf i at) h =
-      let parts = both (i == j) (at == 0) h in
-      subst (λ a. HasLeaf (at_zero j) (Leaf a at)) (sym (test_same i j parts.0)) (subst (λ a. HasLeaf (at_zero j) (Leaf j a)) (sym (test_same at 0 parts.1)) HasLeaf.leaf)
-  leaf_sound j (Fixed bit) h = cc
-  leaf_sound j (Branch cover trees) h = HasLeaf.inside (leaf_in_sound j trees h)
+  is_leaf : (i : ℕ) (tree : Tree ℕ) → leaf_test i tree ≡ true → HasLeaf (at_zero i) tree
+  is_leaf i (Leaf j k) h =
+      let parts = both (j == i) (k == 0) h in
+      let input : j ≡ i = test_same j i parts.0 in
+      let at : k ≡ 0 = test_same k 0 parts.1 in
+      subst (λ m. HasLeaf (at_zero i) (Leaf m k)) (sym input) (subst (λ m. HasLeaf (at_zero i) (Leaf i m)) (sym at) HasLeaf.leaf)
+  is_leaf i (Fixed bit) h = absurd (no_true_false (sym h))
+  is_leaf i (Branch cover trees) h = HasLeaf.inside (is_leaf_in i trees h)
 
-  leaf_in_sound : (j : ℕ) (trees : Trees ℕ) → has_leaf_in j trees ≡ true → HasLeafIn (at_zero j) trees
-  leaf_in_sound j Nil h = cc
-  leaf_in_sound j (Cons tree trees) h = go (one_of (has_leaf j tree) (has_leaf_in j trees) h) (λ k. leaf_sound j tree k) (λ k. leaf_in_sound j trees k)
+  is_leaf_in : (i : ℕ) (trees : Trees ℕ) → leaf_in_test i trees ≡ true → HasLeafIn (at_zero i) trees
+  is_leaf_in i Nil h = absurd (no_true_false (sym h))
+  is_leaf_in i (Cons tree trees) h = go (either (leaf_test i tree) (leaf_in_test i trees) h) (λ k. is_leaf i tree k) (λ k. is_leaf_in i trees k)
     where
-      go : (has_leaf j tree ≡ true) ⊎ (has_leaf_in j trees ≡ true) → (has_leaf j tree ≡ true → HasLeaf (at_zero j) tree) → (has_leaf_in j trees ≡ true → HasLeafIn (at_zero j) trees) → HasLeafIn (at_zero j) (Cons tree trees)
+      go : (leaf_test i tree ≡ true) ⊎ (leaf_in_test i trees ≡ true) → (leaf_test i tree ≡ true → HasLeaf (at_zero i) tree) → (leaf_in_test i trees ≡ true → HasLeafIn (at_zero i) trees) → HasLeafIn (at_zero i) (Cons tree trees)
       go (inl k) here there = HasLeafIn.first (here k)
       go (inr k) here there = HasLeafIn.later (there k)
 
 mutual
-  unfolding has_leaf has_leaf_in
+  unfolding leaf_test
 
-  leaf_complete : (x : Variable ℕ) (tree : Tree ℕ) → x.at ≡ 0 → HasLeaf x tree → has_leaf x.input tree ≡ true
-  leaf_complete x (Leaf i at) none h =
-      let e = leaf_says h in
-      both_true (i == x.input) (at == 0) (ap (λ k. k == x.input) e.0 ∙ test_refl x.input) (ap (λ k. k == 0) (e.1 ∙ none))
-  leaf_complete x (Fixed bit) none h = absurd (leaf_says h)
-  leaf_complete x (Branch cover trees) none h = leaf_in_complete x trees none (leaf_says h)
+  leaf_tests : (i : ℕ) (tree : Tree ℕ) → HasLeaf (at_zero i) tree → leaf_test i tree ≡ true
+  leaf_tests i (Leaf j k) h =
+      let says = leaf_says h in
+      ap (λ m. (m == i) && (k == 0)) says.0 ∙ (ap (λ t. t && (k == 0)) (test_refl i) ∙ (ap (λ m. m == 0) says.1 ∙ test_refl 0))
+  leaf_tests i (Fixed bit) h = absurd (leaf_says h)
+  leaf_tests i (Branch cover trees) h = leaf_in_tests i trees (leaf_says h)
 
-  leaf_in_complete : (x : Variable ℕ) (trees : Trees ℕ) → x.at ≡ 0 → HasLeafIn x trees → has_leaf_in x.input trees ≡ true
-  leaf_in_complete x Nil none h = absurd (leaf_in_says h)
-  leaf_in_complete x (Cons tree trees) none h = go (leaf_in_says h) (λ k. leaf_complete x tree none k) (λ k. leaf_in_complete x trees none k)
+  leaf_in_tests : (i : ℕ) (trees : Trees ℕ) → HasLeafIn (at_zero i) trees → leaf_in_test i trees ≡ true
+  leaf_in_tests i Nil h = absurd (leaf_in_says h)
+  leaf_in_tests i (Cons tree trees) h = go (leaf_in_says h) (λ k. leaf_tests i tree k) (λ k. leaf_in_tests i trees k)
     where
-      go : HasLeaf x tree ⊎ HasLeafIn x trees → (HasLeaf x tree → has_leaf x.input tree ≡ true) → (HasLeafIn x trees → has_leaf_in x.input trees ≡ true) → (has_leaf x.input tree || has_leaf_in x.input trees) ≡ true
-      go (inl k) here there = left_true (has_leaf x.input tree) (has_leaf_in x.input trees) (here k)
-      go (inr k) here there = right_true (has_leaf x.input tree) (has_leaf_in x.input trees) (there k)
+      go : HasLeaf (at_zero i) tree ⊎ HasLeafIn (at_zero i) trees → (HasLeaf (at_zero i) tree → leaf_test i tree ≡ true) → (HasLeafIn (at_zero i) trees → leaf_in_test i trees ≡ true) → (leaf_test i tree || leaf_in_test i trees) ≡ true
+      go (inl k) here there = or_left (leaf_test i tree) (leaf_in_test i trees) (here k)
+      go (inr k) here there = or_right (leaf_test i tree) (leaf_in_test i trees) (there k)
 
--- an unfolding without latches has all leaves at its own shift
-module _ {P : Type 0} (c : Circuit P) (order : List ℕ) where
-  mutual
-    leaf_at : {p : P} {k d : ℕ} {tree : Tree ℕ} (x : Variable ℕ) → Unfolds c order p k d tree → d ≡ 0 → HasLeaf x tree → x.at ≡ k
-    leaf_at x (Unfolds.input h) deep is_leaf = sym (leaf_says is_leaf).1
-    leaf_at x (Unfolds.gate eq each) deep is_leaf = leaf_in_at x each deep (leaf_says is_leaf)
-    leaf_at x (Unfolds.port eq rest) deep is_leaf = leaf_at x rest deep is_leaf
-    leaf_at x (Unfolds.latch {d = d} latch rest) deep _ = absurd (let z : suc d ≡ 0 = deep in omega arith)
+-- a tree of depth 0 has its leaves at its own shift
+mutual
+  leaf_shift : {P : Type 0} {c : Circuit P} {order : List ℕ} {p : P} {k d : ℕ} {tree : Tree ℕ} (x : Variable ℕ) → Unfolds c order p k d tree → d ≡ 0 → HasLeaf x tree → x.at ≡ k
+  leaf_shift x (Unfolds.input h) deep here = sym (leaf_says here).1
+  leaf_shift x (Unfolds.gate eq each) deep here = leaves_shift x each deep (leaf_says here)
+  leaf_shift x (Unfolds.port eq from) deep here = leaf_shift x from deep here
+  leaf_shift x (Unfolds.latch {d = d} eq rest) deep here = absurd (let z : suc d ≡ 0 = deep in omega arith)
 
-    leaf_in_at : {ps : List P} {k d : ℕ} {trees : Trees ℕ} (x : Variable ℕ) → UnfoldsAll c order ps k d trees → d ≡ 0 → HasLeafIn x trees → x.at ≡ k
-    leaf_in_at x UnfoldsAll.none deep is_leaf = absurd (leaf_in_says is_leaf)
-    leaf_in_at x (UnfoldsAll.more {k = k} {d = d} {e = e} {tree = tree} {trees = trees} one rest) deep is_leaf =
-        go (leaf_in_says is_leaf) (λ h. leaf_at x one (let y : max d e ≡ 0 = deep in let z : d ≡ 0 = omega arith in z) h) (λ h. leaf_in_at x rest (let y : max d e ≡ 0 = deep in let z : e ≡ 0 = omega arith in z) h)
-      where
-        go : HasLeaf x tree ⊎ HasLeafIn x trees → (HasLeaf x tree → x.at ≡ k) → (HasLeafIn x trees → x.at ≡ k) → x.at ≡ k
-        go (inl h) here there = here h
-        go (inr h) here there = there h
+  leaves_shift : {P : Type 0} {c : Circuit P} {order : List ℕ} {ps : List P} {k d : ℕ} {trees : Trees ℕ} (x : Variable ℕ) → UnfoldsAll c order ps k d trees → d ≡ 0 → HasLeafIn x trees → x.at ≡ k
+  leaves_shift x UnfoldsAll.none deep within = absurd (leaf_in_says within)
+  leaves_shift x (UnfoldsAll.more {k = k} {d = d} {e = e} {tree = tree} {trees = trees} one rest) deep within =
+      let z : max d e ≡ 0 = deep in
+      go (leaf_in_says within) (λ h. leaf_shift x one (let y : d ≡ 0 = omega arith in y) h) (λ h. leaves_shift x rest (let y : e ≡ 0 = omega arith in y) h)
+    where
+      go : HasLeaf x tree ⊎ HasLeafIn x trees → (HasLeaf x tree → x.at ≡ k) → (HasLeafIn x trees → x.at ≡ k) → x.at ≡ k
+      go (inl h) here there = here h
+      go (inr h) here there = there h
 
-module _ (u v : ℕ → ℕ → Bool) where
+-- assignments that agree at the leaves give one value
+module _ (x y : ℕ → ℕ → Bool) where
   mutual
     unfolding tree_value
 
-    -- assignments that agree on the leaves give one value
-    leaves_decide : (tree : Tree ℕ) → ((x : Variable ℕ) → HasLeaf x tree → u x.input x.at ≡ v x.input x.at) → tree_value u tree ≡ tree_value v tree
-    leaves_decide (Leaf i at) same = same (record { input = i; at = at }) HasLeaf.leaf
-    leaves_decide (Fixed bit) same = refl
-    leaves_decide (Branch cover trees) same = ap (cover_value cover) (all_leaves_decide trees (λ x h. same x (HasLeaf.inside h)))
+    same_at_leaves : (tree : Tree ℕ) → ((v : Variable ℕ) → HasLeaf v tree → x v.input v.at ≡ y v.input v.at) → tree_value x tree ≡ tree_value y tree
+    same_at_leaves (Leaf i k) same = same (record { input = i; at = k }) HasLeaf.leaf
+    same_at_leaves (Fixed bit) same = refl
+    same_at_leaves (Branch cover trees) same = ap (cover_value cover) (all_same_at_leaves trees (λ v h. same v (HasLeaf.inside h)))
 
-    all_leaves_decide : (trees : Trees ℕ) → ((x : Variable ℕ) → HasLeafIn x trees → u x.input x.at ≡ v x.input x.at) → tree_values u trees ≡ tree_values v trees
-    all_leaves_decide Nil same = refl
-    all_leaves_decide (Cons tree trees) same =
-        let head = leaves_decide tree (λ x h. same x (HasLeafIn.first h)) in
-        let tail = all_leaves_decide trees (λ x h. same x (HasLeafIn.later h)) in
-        ap (λ b. b ∷ tree_values u trees) head ∙ ap (λ bs. tree_value v tree ∷ bs) tail
+    all_same_at_leaves : (trees : Trees ℕ) → ((v : Variable ℕ) → HasLeafIn v trees → x v.input v.at ≡ y v.input v.at) → tree_values x trees ≡ tree_values y trees
+    all_same_at_leaves Nil same = refl
+    all_same_at_leaves (Cons tree trees) same =
+        let head = same_at_leaves tree (λ v h. same v (HasLeafIn.first h)) in
+        let tail = all_same_at_leaves trees (λ v h. same v (HasLeafIn.later h)) in
+        cc
 
-all_size : (first count : ℕ) → length (all_inputs_from first count) ≡ count
-all_size first zero = refl
-all_size first (suc count) = ap suc (all_size (suc first) count)
+-- two bits ahead of numbers that grow
+one_bit : (b : Bool) → cond b 1 0 ≤ 1
+one_bit true = omega arith
+one_bit false = omega arith
 
-bits_size : (m count : ℕ) → length (bits_of m count) ≡ count
-bits_size m zero = refl
-bits_size m (suc count) = ap suc (bits_size (m / 2) count)
+grown : (p q x y a b : ℕ) → p ≤ 1 → q ≤ 1 → (x ≤ y → a ≤ b) → (x < y → a < b) → (p + 2 * x ≤ q + 2 * y → p + 2 * a ≤ q + 2 * b) × (p + 2 * x < q + 2 * y → p + 2 * a < q + 2 * b)
+grown p q x y a b hp hq same more = (λ h. weak h (which x y), λ h. strict h (which x y))
+  where
+    which : (m n : ℕ) → (m < n) ⊎ (n ≤ m)
+    which m n = grind arith
 
-module _ (n m : ℕ) (l r : Tree ℕ) (left_at : (x : Variable ℕ) → HasLeaf x l → x.at ≡ 0) (right_at : (x : Variable ℕ) → HasLeaf x r → x.at ≡ 0)
-    (hl : (x : Variable ℕ) → HasLeaf x l → x.input < n) (hr : (x : Variable ℕ) → HasLeaf x r → x.input < n) (least : IsLeast same_shift (pair_query l r) (all_inputs n) m) where
-  abbrev keeps : ℕ → Bool
-  keeps j = has_leaf j l || has_leaf j r
+    weak : p + 2 * x ≤ q + 2 * y → (x < y) ⊎ (y ≤ x) → p + 2 * a ≤ q + 2 * b
+    weak h (inl l) = let k = more l in omega (arith, k)
+    weak h (inr l) = let k = same (omega arith) in omega (arith, k)
 
-  abbrev leaves : List (Variable ℕ)
-  leaves = kept_from keeps 0 n
+    strict : p + 2 * x < q + 2 * y → (x < y) ⊎ (y ≤ x) → p + 2 * a < q + 2 * b
+    strict h (inl l) = let k = more l in omega (arith, k)
+    strict h (inr l) = let k = same (omega arith) in omega (arith, k)
 
-  abbrev number : ℕ
-  number = compress keeps 0 n m
+-- the first bit, and the bits behind it
+abbrev head_of : List Bool → Bool
+head_of [] = false
+head_of (b ∷ bits) = b
 
-  abbrev over_all : ℕ → ℕ → ℕ → Bool
-  over_all k = assigned same_shift (all_inputs n) (bits_of k n)
+abbrev tail_of : List Bool → List Bool
+tail_of [] = []
+tail_of (b ∷ bits) = bits
 
-  abbrev over_leaves : ℕ → ℕ → ℕ → Bool
-  over_leaves k = assigned same_shift leaves (bits_of k (length leaves))
+-- The inputs that pass a test, their bits among all bits, and such bits spread over all inputs, 0 at the others.
+module _ (test : ℕ → Bool) where
+  abbrev chosen : ℕ → ℕ → List (Variable ℕ)
+  chosen first zero = []
+  chosen first (suc count) = cond (test first) (at_zero first ∷ chosen (suc first) count) (chosen (suc first) count)
 
-  least_all : (k : ℕ) → k < m → Distinguishes (pair_query l r) (over_all k) → ⊥
-  least_all k h d = least.least k h (subst (λ s. Distinguishes (pair_query l r) (assigned same_shift (all_inputs n) (bits_of k s))) (sym (all_size 0 n)) d)
+  abbrev picked : ℕ → List Bool → List Bool
+  picked first [] = []
+  picked first (b ∷ bits) = cond (test first) (b ∷ picked (suc first) bits) (picked (suc first) bits)
 
-  differs_all : Distinguishes (pair_query l r) (over_all m)
-  differs_all = subst (λ s. Distinguishes (pair_query l r) (assigned same_shift (all_inputs n) (bits_of m s))) (all_size 0 n) least.distinguishes
+  abbrev spread : ℕ → ℕ → List Bool → List Bool
+  spread first zero bits = []
+  spread first (suc count) bits = cond (test first) (head_of bits ∷ spread (suc first) count (tail_of bits)) (false ∷ spread (suc first) count bits)
 
-  -- clearing the bits of what is no leaf changes neither value
-  left_same : tree_value (over_all m) l ≡ tree_value (over_all (cleared keeps 0 n m)) l
-  left_same = leaves_decide (over_all m) (over_all (cleared keeps 0 n m)) l
-      (λ x h. cleared_agrees keeps 0 n m x.input x.at (left_true (has_leaf x.input l) (has_leaf x.input r) (leaf_complete x l (left_at x h) h)))
+  chosen_is : (first count : ℕ) (b : Bool) → test first ≡ b → chosen first (suc count) ≡ cond b (at_zero first ∷ chosen (suc first) count) (chosen (suc first) count)
+  chosen_is first count b e = ap (λ t. cond t (at_zero first ∷ chosen (suc first) count) (chosen (suc first) count)) e
 
-  right_same : tree_value (over_all m) r ≡ tree_value (over_all (cleared keeps 0 n m)) r
-  right_same = leaves_decide (over_all m) (over_all (cleared keeps 0 n m)) r
-      (λ x h. cleared_agrees keeps 0 n m x.input x.at (right_true (has_leaf x.input l) (has_leaf x.input r) (leaf_complete x r (right_at x h) h)))
+  picked_is : (first : ℕ) (bit : Bool) (bits : List Bool) (b : Bool) → test first ≡ b → picked first (bit ∷ bits) ≡ cond b (bit ∷ picked (suc first) bits) (picked (suc first) bits)
+  picked_is first bit bits b e = ap (λ t. cond t (bit ∷ picked (suc first) bits) (picked (suc first) bits)) e
 
-  cleared_differs : Distinguishes (pair_query l r) (over_all (cleared keeps 0 n m))
-  cleared_differs = record { care = refl; differs = λ e. differs_all.differs (left_same ∙ (e ∙ sym right_same)) }
+  spread_is : (first count : ℕ) (bits : List Bool) (b : Bool) → test first ≡ b → spread first (suc count) bits ≡ cond b (head_of bits ∷ spread (suc first) count (tail_of bits)) (false ∷ spread (suc first) count bits)
+  spread_is first count bits b e = ap (λ t. cond t (head_of bits ∷ spread (suc first) count (tail_of bits)) (false ∷ spread (suc first) count bits)) e
 
-  -- so the least number has none of them
-  nothing_cleared : cleared keeps 0 n m ≡ m
-  nothing_cleared = go (which (cleared keeps 0 n m) m (cleared_at_most keeps 0 n m))
+  picked_length : (first : ℕ) (bits : List Bool) → length (picked first bits) ≡ length (chosen first (length bits))
+  picked_length first [] = refl
+  picked_length first (bit ∷ bits) = go (test first) refl (picked_length (suc first) bits)
     where
-      which : (x y : ℕ) → x ≤ y → (x < y) ⊎ (x ≡ y)
-      which x y h = grind arith
+      go : (b : Bool) → test first ≡ b → length (picked (suc first) bits) ≡ length (chosen (suc first) (length bits)) → length (picked first (bit ∷ bits)) ≡ length (chosen first (suc (length bits)))
+      go true e ih = ap length (picked_is first bit bits true e) ∙ (ap suc ih ∙ sym (ap length (chosen_is first (length bits) true e)))
+      go false e ih = ap length (picked_is first bit bits false e) ∙ (ih ∙ sym (ap length (chosen_is first (length bits) false e)))
 
-      go : (cleared keeps 0 n m < m) ⊎ (cleared keeps 0 n m ≡ m) → cleared keeps 0 n m ≡ m
-      go (inl h) = absurd (least_all (cleared keeps 0 n m) h cleared_differs)
-      go (inr e) = e
+  spread_length : (first count : ℕ) (bits : List Bool) → length (spread first count bits) ≡ count
+  spread_length first zero bits = refl
+  spread_length first (suc count) bits = go (test first) refl (spread_length (suc first) count (tail_of bits)) (spread_length (suc first) count bits)
+    where
+      go : (b : Bool) → test first ≡ b → length (spread (suc first) count (tail_of bits)) ≡ count → length (spread (suc first) count bits) ≡ count → length (spread first (suc count) bits) ≡ suc count
+      go true e tail same = ap length (spread_is first count bits true e) ∙ ap suc tail
+      go false e tail same = ap length (spread_is first count bits false e) ∙ ap suc same
 
-  same_functions : (k : ℕ) → over_leaves k ≡ over_all (expand keeps 0 n k)
-  same_functions k = λ t j at. kept_assigned keeps 0 n k j at t
+  -- bits that aren't picked only add to a number
+  spread_picked : (first : ℕ) (bits : List Bool) → number_of (spread first (length bits) (picked first bits)) ≤ number_of bits
+  spread_picked first [] = omega arith
+  spread_picked first (bit ∷ bits) = go (test first) refl (spread_picked (suc first) bits)
+    where
+      go : (b : Bool) → test first ≡ b → number_of (spread (suc first) (length bits) (picked (suc first) bits)) ≤ number_of bits →
+          number_of (spread first (suc (length bits)) (picked first (bit ∷ bits))) ≤ number_of (bit ∷ bits)
+      go true e ih =
+          let own : number_of (spread first (suc (length bits)) (picked first (bit ∷ bits))) ≡ cond bit 1 0 + 2 * number_of (spread (suc first) (length bits) (picked (suc first) bits)) =
+              ap (λ (ps : List Bool). number_of (spread first (suc (length bits)) ps)) (picked_is first bit bits true e) ∙ ap number_of (spread_is first (length bits) (bit ∷ picked (suc first) bits) true e) in
+          omega (arith, own, ih)
+      go false e ih =
+          let own : number_of (spread first (suc (length bits)) (picked first (bit ∷ bits))) ≡ 0 + 2 * number_of (spread (suc first) (length bits) (picked (suc first) bits)) =
+              ap (λ (ps : List Bool). number_of (spread first (suc (length bits)) ps)) (picked_is first bit bits false e) ∙ ap number_of (spread_is first (length bits) (picked (suc first) bits) false e) in
+          omega (arith, own, ih)
 
-  same_assignment : over_leaves number ≡ over_all m
-  same_assignment = same_functions number ∙ ap over_all nothing_cleared
+  -- a greater number stays greater
+  abbrev Grows : ℕ → ℕ → List Bool → List Bool → Type 0
+  Grows first count ps qs =
+      (number_of ps ≤ number_of qs → number_of (spread first count ps) ≤ number_of (spread first count qs))
+      × (number_of ps < number_of qs → number_of (spread first count ps) < number_of (spread first count qs))
 
-  least_over_leaves : IsLeast same_shift (pair_query l r) leaves number
-  least_over_leaves = record {
-    in_range = compress_in_range keeps 0 n m;
-    distinguishes = subst (Distinguishes (pair_query l r)) (sym same_assignment) differs_all;
+  spread_grows : (first count : ℕ) (ps qs : List Bool) → length ps ≡ length (chosen first count) → length qs ≡ length (chosen first count) → Grows first count ps qs
+  spread_grows first zero [] [] hp hq = (λ h. omega arith, λ h. absurd (omega arith))
+  spread_grows first zero [] (q ∷ qs) hp hq = absurd (let z : suc (length qs) ≡ 0 = hq in omega arith)
+  spread_grows first zero (p ∷ ps) qs hp hq = absurd (let z : suc (length ps) ≡ 0 = hp in omega arith)
+  spread_grows first (suc count) ps qs hp hq = go (test first) refl (λ xs ys h k. spread_grows (suc first) count xs ys h k)
+    where
+      Rest : Type 0
+      Rest = (xs ys : List Bool) → length xs ≡ length (chosen (suc first) count) → length ys ≡ length (chosen (suc first) count) → Grows (suc first) count xs ys
+
+      own : (xs : List Bool) (b : Bool) → test first ≡ b → number_of (spread first (suc count) xs) ≡ number_of (cond b (head_of xs ∷ spread (suc first) count (tail_of xs)) (false ∷ spread (suc first) count xs))
+      own xs b e = ap number_of (spread_is first count xs b e)
+
+      size : (xs : List Bool) (b : Bool) → test first ≡ b → length xs ≡ length (chosen first (suc count)) → length xs ≡ length (cond b (at_zero first ∷ chosen (suc first) count) (chosen (suc first) count))
+      size xs b e h = h ∙ ap length (chosen_is first count b e)
+
+      yes : (xs ys : List Bool) → test first ≡ true → length xs ≡ suc (length (chosen (suc first) count)) → length ys ≡ suc (length (chosen (suc first) count)) → Rest → Grows first (suc count) xs ys
+      yes [] ys e hx hy rest = absurd (let z : 0 ≡ suc (length (chosen (suc first) count)) = hx in omega arith)
+      yes (x ∷ xs) [] e hx hy rest = absurd (let z : 0 ≡ suc (length (chosen (suc first) count)) = hy in omega arith)
+      yes (x ∷ xs) (y ∷ ys) e hx hy rest =
+          let zx : suc (length xs) ≡ suc (length (chosen (suc first) count)) = hx in
+          let zy : suc (length ys) ≡ suc (length (chosen (suc first) count)) = hy in
+          let ih = rest xs ys (omega arith) (omega arith) in
+          let step = grown (cond x 1 0) (cond y 1 0) (number_of xs) (number_of ys) (number_of (spread (suc first) count xs)) (number_of (spread (suc first) count ys)) (one_bit x) (one_bit y) ih.0 ih.1 in
+          let ox = own (x ∷ xs) true e in
+          let oy = own (y ∷ ys) true e in
+          (λ h. let k = step.0 h in omega (arith, k, ox, oy), λ h. let k = step.1 h in omega (arith, k, ox, oy))
+
+      go : (b : Bool) → test first ≡ b → Rest → Grows first (suc count) ps qs
+      go true e rest = yes ps qs e (size ps true e hp) (size qs true e hq) rest
+      go false e rest =
+          let ih = rest ps qs (size ps false e hp) (size qs false e hq) in
+          let ox = own ps false e in
+          let oy = own qs false e in
+          (λ h. let k = ih.0 h in omega (arith, k, ox, oy), λ h. let k = ih.1 h in omega (arith, k, ox, oy))
+
+  -- an input below all chosen ones has 0
+  assigned_low : (first count i k : ℕ) (ps : List Bool) → i < first → assigned same_shift (chosen first count) ps i k ≡ false
+  assigned_low first zero i k ps h = refl
+  assigned_low first (suc count) i k ps h = go (test first) refl (λ xs. assigned_low (suc first) count i k xs (omega arith))
+    where
+      go : (b : Bool) → test first ≡ b → ((xs : List Bool) → assigned same_shift (chosen (suc first) count) xs i k ≡ false) → assigned same_shift (chosen first (suc count)) ps i k ≡ false
+      go true e rest = ap (λ (vs : List (Variable ℕ)). assigned same_shift vs ps i k) (chosen_is first count true e) ∙ here ps
+        where
+          here : (xs : List Bool) → assigned same_shift (at_zero first ∷ chosen (suc first) count) xs i k ≡ false
+          here [] = refl
+          here (x ∷ xs) =
+              ap (λ t. cond (t && same_shift 0 k) x (assigned same_shift (chosen (suc first) count) xs i k)) (let z : (first == i) ≡ false = grind arith in z) ∙ rest xs
+      go false e rest = ap (λ (vs : List (Variable ℕ)). assigned same_shift vs ps i k) (chosen_is first count false e) ∙ rest ps
+
+  -- the chosen inputs have the bits that are spread
+  assigned_spread : (first count i : ℕ) (ps : List Bool) → length ps ≡ length (chosen first count) → assigned same_shift (chosen first count) ps (first + i) 0 ≡ bit_at (spread first count ps) i
+  assigned_spread first zero i ps h = sym (nothing i)
+    where
+      nothing : (j : ℕ) → bit_at [] j ≡ false
+      nothing zero = refl
+      nothing (suc j) = refl
+  assigned_spread first (suc count) i ps h = go (test first) refl (λ j xs k. assigned_spread (suc first) count j xs k)
+    where
+      Rest : Type 0
+      Rest = (j : ℕ) (xs : List Bool) → length xs ≡ length (chosen (suc first) count) → assigned same_shift (chosen (suc first) count) xs (suc first + j) 0 ≡ bit_at (spread (suc first) count xs) j
+
+      move : (j : ℕ) → suc first + j ≡ first + suc j
+      move j = omega arith
+
+      yes : (xs : List Bool) (j : ℕ) → length xs ≡ suc (length (chosen (suc first) count)) → Rest → assigned same_shift (at_zero first ∷ chosen (suc first) count) xs (first + j) 0 ≡ bit_at (head_of xs ∷ spread (suc first) count (tail_of xs)) j
+      yes [] j hx rest = absurd (let z : 0 ≡ suc (length (chosen (suc first) count)) = hx in omega arith)
+      yes (x ∷ xs) zero hx rest =
+          ap (λ t. cond (t && true) x (assigned same_shift (chosen (suc first) count) xs (first + 0) 0)) (let z : (first == (first + 0)) ≡ true = grind arith in z)
+      yes (x ∷ xs) (suc j) hx rest =
+          ap (λ t. cond (t && true) x (assigned same_shift (chosen (suc first) count) xs (first + suc j) 0)) (let z : (first == (first + suc j)) ≡ false = grind arith in z)
+          ∙ (ap (λ m. assigned same_shift (chosen (suc first) count) xs m 0) (sym (move j)) ∙ rest j xs (let z : suc (length xs) ≡ suc (length (chosen (suc first) count)) = hx in omega arith))
+
+      no : (j : ℕ) → length ps ≡ length (chosen (suc first) count) → Rest → assigned same_shift (chosen (suc first) count) ps (first + j) 0 ≡ bit_at (false ∷ spread (suc first) count ps) j
+      no zero hx rest = assigned_low (suc first) count (first + 0) 0 ps (omega arith)
+      no (suc j) hx rest = ap (λ m. assigned same_shift (chosen (suc first) count) ps m 0) (sym (move j)) ∙ rest j ps hx
+
+      go : (b : Bool) → test first ≡ b → Rest → assigned same_shift (chosen first (suc count)) ps (first + i) 0 ≡ bit_at (spread first (suc count) ps) i
+      go true e rest =
+          ap (λ (vs : List (Variable ℕ)). assigned same_shift vs ps (first + i) 0) (chosen_is first count true e)
+          ∙ (yes ps i (h ∙ ap length (chosen_is first count true e)) rest ∙ sym (ap (λ (bs : List Bool). bit_at bs i) (spread_is first count ps true e)))
+      go false e rest =
+          ap (λ (vs : List (Variable ℕ)). assigned same_shift vs ps (first + i) 0) (chosen_is first count false e)
+          ∙ (no i (h ∙ ap length (chosen_is first count false e)) rest ∙ sym (ap (λ (bs : List Bool). bit_at bs i) (spread_is first count ps false e)))
+
+  -- at a chosen input the bits that were picked are spread back
+  spread_back : (first i : ℕ) (bits : List Bool) → test (first + i) ≡ true → bit_at (spread first (length bits) (picked first bits)) i ≡ bit_at bits i
+  spread_back first i [] h = refl
+  spread_back first i (bit ∷ bits) h = go (test first) refl i h (λ j k. spread_back (suc first) j bits k)
+    where
+      Back : ℕ → Type 0
+      Back j = bit_at (spread first (suc (length bits)) (picked first (bit ∷ bits))) j ≡ bit_at (bit ∷ bits) j
+
+      whole : (b : Bool) → test first ≡ b → spread first (suc (length bits)) (picked first (bit ∷ bits)) ≡ cond b (bit ∷ spread (suc first) (length bits) (picked (suc first) bits)) (false ∷ spread (suc first) (length bits) (picked (suc first) bits))
+      whole true e = ap (spread first (suc (length bits))) (picked_is first bit bits true e) ∙ spread_is first (length bits) (bit ∷ picked (suc first) bits) true e
+      whole false e = ap (spread first (suc (length bits))) (picked_is first bit bits false e) ∙ spread_is first (length bits) (picked (suc first) bits) false e
+
+      go : (b : Bool) → test first ≡ b → (j : ℕ) → test (first + j) ≡ true → ((m : ℕ) → test (suc first + m) ≡ true → bit_at (spread (suc first) (length bits) (picked (suc first) bits)) m ≡ bit_at bits m) → Back j
+      go true e zero t rest = ap (λ (bs : List Bool). bit_at bs 0) (whole true e)
+      go false e zero t rest = absurd (no_true_false (sym t ∙ (ap test (let z : first + 0 ≡ first = omega arith in z) ∙ e)))
+      go true e (suc j) t rest = ap (λ (bs : List Bool). bit_at bs (suc j)) (whole true e) ∙ rest j (ap test (let z : suc first + j ≡ first + suc j = omega arith in z) ∙ t)
+      go false e (suc j) t rest = ap (λ (bs : List Bool). bit_at bs (suc j)) (whole false e) ∙ rest j (ap test (let z : suc first + j ≡ first + suc j = omega arith in z) ∙ t)
+
+  -- what a chosen input is
+  record IsChosen (first count : ℕ) (x : Variable ℕ) : Type 0 where
+    pub at : x.at ≡ 0
+    pub passes : test x.input ≡ true
+    pub above : first ≤ x.input
+    pub below : x.input < first + count
+
+  chosen_says : (first count : ℕ) (x : Variable ℕ) → Contains (chosen first count) x → IsChosen first count x
+  chosen_says first zero x h = absurd (omega (arith, h.1))
+  chosen_says first (suc count) x h = go (test first) refl (λ k. chosen_says (suc first) count x k)
+    where
+      wider : IsChosen (suc first) count x → IsChosen first (suc count) x
+      wider k = record { at = k.at; passes = k.passes; above = omega (arith, k.above); below = omega (arith, k.below) }
+
+      pick : test first ≡ true → (at_zero first ≡ x) ⊎ Contains (chosen (suc first) count) x → (Contains (chosen (suc first) count) x → IsChosen (suc first) count x) → IsChosen first (suc count) x
+      pick e (inl same) rest =
+          subst (IsChosen first (suc count)) same (record { at = refl; passes = e; above = omega arith; below = omega arith })
+      pick e (inr k) rest = wider (rest k)
+
+      go : (b : Bool) → test first ≡ b → (Contains (chosen (suc first) count) x → IsChosen (suc first) count x) → IsChosen first (suc count) x
+      go true e rest = pick e (Contains-cases (at_zero first) x (chosen (suc first) count) (subst (λ (vs : List (Variable ℕ)). Contains vs x) (chosen_is first count true e) h)) rest
+      go false e rest = wider (rest (subst (λ (vs : List (Variable ℕ)). Contains vs x) (chosen_is first count false e) h))
+
+  chosen_has : (first count i : ℕ) → first ≤ i → i < first + count → test i ≡ true → Contains (chosen first count) (at_zero i)
+  chosen_has first zero i low high t = absurd (omega arith)
+  chosen_has first (suc count) i low high t = go (test first) refl (which first i low) (λ l. chosen_has (suc first) count i l (omega arith) t)
+    where
+      which : (m n : ℕ) → m ≤ n → (m ≡ n) ⊎ (suc m ≤ n)
+      which m n h = grind arith
+
+      In : List (Variable ℕ) → Type 0
+      In vs = Contains vs (at_zero i)
+
+      go : (b : Bool) → test first ≡ b → (first ≡ i) ⊎ (suc first ≤ i) → (suc first ≤ i → Contains (chosen (suc first) count) (at_zero i)) → Contains (chosen first (suc count)) (at_zero i)
+      go true e (inl same) rest = subst In (sym (chosen_is first count true e)) (subst (λ m. Contains (at_zero first ∷ chosen (suc first) count) (at_zero m)) same (Contains-head (at_zero first) (chosen (suc first) count)))
+      go true e (inr l) rest = subst In (sym (chosen_is first count true e)) (Contains-tail (at_zero first) (at_zero i) (chosen (suc first) count) (rest l))
+      go false e (inl same) rest = absurd (no_true_false (sym t ∙ (ap test (sym same) ∙ e)))
+      go false e (inr l) rest = subst In (sym (chosen_is first count false e)) (rest l)
+
+  chosen_order : (first count : ℕ) → AllPairs ShiftBefore (chosen first count)
+  chosen_order first zero = λ i j d below within. absurd (omega (arith, within))
+  chosen_order first (suc count) = go (test first) refl (chosen_order (suc first) count)
+    where
+      before : (y : Variable ℕ) → Contains (chosen (suc first) count) y → ShiftBefore (at_zero first) y
+      before y h = let c = chosen_says (suc first) count y h in inr (sym c.at, omega (arith, c.above))
+
+      go : (b : Bool) → test first ≡ b → AllPairs ShiftBefore (chosen (suc first) count) → AllPairs ShiftBefore (chosen first (suc count))
+      go true e rest = subst (λ (vs : List (Variable ℕ)). AllPairs ShiftBefore vs) (sym (chosen_is first count true e)) (AllPairs-cons ShiftBefore (at_zero first) (chosen (suc first) count) (All-from_each (ShiftBefore (at_zero first)) (chosen (suc first) count) before) rest)
+      go false e rest = subst (λ (vs : List (Variable ℕ)). AllPairs ShiftBefore vs) (sym (chosen_is first count false e)) rest
+
+-- an assignment of all inputs has each one's bit
+pub assigned_from : (first count i : ℕ) (bits : List Bool) → length bits ≡ count → assigned same_shift (all_inputs_from first count) bits (first + i) 0 ≡ bit_at bits i
+assigned_from first zero i [] h = sym (nothing i)
+  where
+    nothing : (j : ℕ) → bit_at [] j ≡ false
+    nothing zero = refl
+    nothing (suc j) = refl
+assigned_from first zero i (b ∷ bits) h = absurd (let z : suc (length bits) ≡ 0 = h in omega arith)
+assigned_from first (suc count) i [] h = absurd (let z : 0 ≡ suc count = h in omega arith)
+assigned_from first (suc count) zero (b ∷ bits) h =
+    ap (λ t. cond (t && true) b (assigned same_shift (all_inputs_from (suc first) count) bits (first + 0) 0)) (let e : (first == (first + 0)) ≡ true = grind arith in e)
+assigned_from first (suc count) (suc i) (b ∷ bits) h =
+    ap (λ t. cond (t && true) b (assigned same_shift (all_inputs_from (suc first) count) bits (first + suc i) 0)) (let e : (first == (first + suc i)) ≡ false = grind arith in e)
+    ∙ (ap (λ k. assigned same_shift (all_inputs_from (suc first) count) bits k 0) (let e : first + suc i ≡ suc first + i = omega arith in e)
+    ∙ assigned_from (suc first) count i bits (let z : suc (length bits) ≡ suc count = h in omega arith))
+
+-- a row has the bits of its inputs
+row_is : (a : ℕ → ℕ → Bool) (first : ℕ) (bits : List Bool) → ((j : ℕ) → a (first + j) 0 ≡ bit_at bits j) → sequence_row 0 a 0 first (length bits) ≡ bits
+row_is a first [] h = refl
+row_is a first (b ∷ bits) h =
+    let here : a first 0 ≡ b = ap (λ k. a k 0) (let z : first ≡ first + 0 = omega arith in z) ∙ h 0 in
+    let rest : sequence_row 0 a 0 (suc first) (length bits) ≡ bits = row_is a (suc first) bits (λ j. ap (λ k. a k 0) (let z : suc first + j ≡ first + suc j = omega arith in z) ∙ h (suc j)) in
+    ap (λ c. c ∷ sequence_row 0 a 0 (suc first) (length bits)) here ∙ ap (λ (bs : List Bool). b ∷ bs) rest
+
+-- the input is a leaf of one of the trees
+abbrev pair_test : Tree ℕ → Tree ℕ → ℕ → Bool
+pair_test l r i = leaf_test i l || leaf_test i r
+
+module _ (a b : Circuit ℕ) (left right : List ℕ) (p q n m : ℕ) (l r : Tree ℕ) (ul : Unfolds a left p 0 0 l) (ur : Unfolds b right q 0 0 r)
+    (hl : (x : Variable ℕ) → HasLeaf x l → x.input < n) (hr : (x : Variable ℕ) → HasLeaf x r → x.input < n) (least : IsLeast same_shift (pair_query l r) (all_inputs n) m) where
+  as_zero : (x : Variable ℕ) → x.at ≡ 0 → x ≡ at_zero x.input
+  as_zero x e = ap (λ k. record { input = x.input; at = k }) e
+
+  left_test : (x : Variable ℕ) → HasLeaf x l → (x.at ≡ 0) × (pair_test l r x.input ≡ true)
+  left_test x h =
+      let at = leaf_shift x ul refl h in
+      (at, or_left (leaf_test x.input l) (leaf_test x.input r) (leaf_tests x.input l (subst (λ (y : Variable ℕ). HasLeaf y l) (as_zero x at) h)))
+
+  right_test : (x : Variable ℕ) → HasLeaf x r → (x.at ≡ 0) × (pair_test l r x.input ≡ true)
+  right_test x h =
+      let at = leaf_shift x ur refl h in
+      (at, or_right (leaf_test x.input l) (leaf_test x.input r) (leaf_tests x.input r (subst (λ (y : Variable ℕ). HasLeaf y r) (as_zero x at) h)))
+
+  -- assignments that agree at the leaves
+  abbrev AreAlike : (ℕ → ℕ → Bool) → (ℕ → ℕ → Bool) → Type 0
+  AreAlike x y = (i : ℕ) → pair_test l r i ≡ true → x i 0 ≡ y i 0
+
+  left_same : (x y : ℕ → ℕ → Bool) → AreAlike x y → tree_value x l ≡ tree_value y l
+  left_same x y alike = same_at_leaves x y l (λ v h. let t = left_test v h in subst (λ k. x v.input k ≡ y v.input k) (sym t.0) (alike v.input t.1))
+
+  right_same : (x y : ℕ → ℕ → Bool) → AreAlike x y → tree_value x r ≡ tree_value y r
+  right_same x y alike = same_at_leaves x y r (λ v h. let t = right_test v h in subst (λ k. x v.input k ≡ y v.input k) (sym t.0) (alike v.input t.1))
+
+  along : (x y : ℕ → ℕ → Bool) → AreAlike x y → Distinguishes (pair_query l r) x → Distinguishes (pair_query l r) y
+  along x y alike d = record { care = refl; differs = λ e. d.differs (left_same x y alike ∙ (e ∙ sym (right_same x y alike))) }
+
+  -- all inputs' assignments by their bits
+  abbrev IsFull : List Bool → Type 0
+  IsFull bits = Distinguishes (pair_query l r) (assigned same_shift (all_inputs n) bits)
+
+  full_bit : (bits : List Bool) → length bits ≡ n → (i : ℕ) → assigned same_shift (all_inputs n) bits i 0 ≡ bit_at bits i
+  full_bit bits h i = ap (λ k. assigned same_shift (all_inputs n) bits k 0) (let z : i ≡ 0 + i = omega arith in z) ∙ assigned_from 0 n i bits h
+
+  abbrev part : List Bool → ℕ → ℕ → Bool
+  part ps = assigned same_shift (chosen (pair_test l r) 0 n) ps
+
+  part_bit : (ps : List Bool) → length ps ≡ length (chosen (pair_test l r) 0 n) → (i : ℕ) → part ps i 0 ≡ bit_at (spread (pair_test l r) 0 n ps) i
+  part_bit ps h i = ap (λ k. part ps k 0) (let z : i ≡ 0 + i = omega arith in z) ∙ assigned_spread (pair_test l r) 0 n i ps h
+
+  B_length : length (bits_of m n) ≡ n
+  B_length = bits_of-length m n
+
+  in_range : m < 2 ^ n
+  in_range = subst (λ k. m < 2 ^ k) (all_length 0 n) least.in_range
+
+  whole_is : IsFull (bits_of m n)
+  whole_is = subst (λ k. IsFull (bits_of m k)) (all_length 0 n) least.distinguishes
+
+  none_less : (k : ℕ) → k < m → IsFull (bits_of k n) → ⊥
+  none_less k h d = least.least k h (subst (λ c. IsFull (bits_of k c)) (sym (all_length 0 n)) d)
+
+  -- no spread bits have a lesser number
+  none_spread : (bits : List Bool) → length bits ≡ n → number_of bits < m → IsFull bits → ⊥
+  none_spread bits size h d =
+      none_less (number_of bits) h (subst IsFull (sym (ap (bits_of (number_of bits)) (sym size) ∙ bits_of-number_of bits)) d)
+
+  P_length : length (picked (pair_test l r) 0 (bits_of m n)) ≡ length (chosen (pair_test l r) 0 n)
+  P_length = picked_length (pair_test l r) 0 (bits_of m n) ∙ ap (λ k. length (chosen (pair_test l r) 0 k)) B_length
+
+  S_low : number_of (spread (pair_test l r) 0 n (picked (pair_test l r) 0 (bits_of m n))) ≤ m
+  S_low =
+      subst (λ k. number_of (spread (pair_test l r) 0 n (picked (pair_test l r) 0 (bits_of m n))) ≤ k) (number_of-bits_of m n in_range)
+      (subst (λ c. number_of (spread (pair_test l r) 0 c (picked (pair_test l r) 0 (bits_of m n))) ≤ number_of (bits_of m n)) B_length (spread_picked (pair_test l r) 0 (bits_of m n)))
+
+  S_length : length (spread (pair_test l r) 0 n (picked (pair_test l r) 0 (bits_of m n))) ≡ n
+  S_length = spread_length (pair_test l r) 0 n (picked (pair_test l r) 0 (bits_of m n))
+
+  S_alike : (i : ℕ) → pair_test l r i ≡ true → bit_at (spread (pair_test l r) 0 n (picked (pair_test l r) 0 (bits_of m n))) i ≡ bit_at (bits_of m n) i
+  S_alike i h =
+      subst (λ c. bit_at (spread (pair_test l r) 0 c (picked (pair_test l r) 0 (bits_of m n))) i ≡ bit_at (bits_of m n) i) B_length
+      (spread_back (pair_test l r) 0 i (bits_of m n) (ap (pair_test l r) (let z : 0 + i ≡ i = omega arith in z) ∙ h))
+
+  -- the least number has 0 at each input that is no leaf
+  S_is : spread (pair_test l r) 0 n (picked (pair_test l r) 0 (bits_of m n)) ≡ bits_of m n
+  S_is = go (which (number_of (spread (pair_test l r) 0 n (picked (pair_test l r) 0 (bits_of m n)))) m)
+    where
+      which : (i j : ℕ) → (i < j) ⊎ (j ≤ i)
+      which i j = grind arith
+
+      go : (number_of (spread (pair_test l r) 0 n (picked (pair_test l r) 0 (bits_of m n))) < m) ⊎ (m ≤ number_of (spread (pair_test l r) 0 n (picked (pair_test l r) 0 (bits_of m n)))) →
+          spread (pair_test l r) 0 n (picked (pair_test l r) 0 (bits_of m n)) ≡ bits_of m n
+      go (inl h) = absurd (none_spread (spread (pair_test l r) 0 n (picked (pair_test l r) 0 (bits_of m n))) S_length h (along _ _ (λ i t.
+          full_bit (bits_of m n) B_length i ∙ (sym (S_alike i t) ∙ sym (full_bit (spread (pair_test l r) 0 n (picked (pair_test l r) 0 (bits_of m n))) S_length i))) whole_is))
+      go (inr h) =
+          let S = spread (pair_test l r) 0 n (picked (pair_test l r) 0 (bits_of m n)) in
+          let same : number_of S ≡ m = omega (arith, h, S_low) in
+          sym (bits_of-number_of S) ∙ (ap (bits_of (number_of S)) S_length ∙ ap (λ k. bits_of k n) same)
+
+  -- the variables' bits are those of the least number
+  part_is : (i : ℕ) → part (picked (pair_test l r) 0 (bits_of m n)) i 0 ≡ bit_at (bits_of m n) i
+  part_is i = part_bit (picked (pair_test l r) 0 (bits_of m n)) P_length i ∙ ap (λ (bs : List Bool). bit_at bs i) S_is
+
+  alike : AreAlike (assigned same_shift (all_inputs n) (bits_of m n)) (part (picked (pair_test l r) 0 (bits_of m n)))
+  alike i t = full_bit (bits_of m n) B_length i ∙ sym (part_is i)
+
+  P_bits : bits_of (number_of (picked (pair_test l r) 0 (bits_of m n))) (length (chosen (pair_test l r) 0 n)) ≡ picked (pair_test l r) 0 (bits_of m n)
+  P_bits = ap (bits_of (number_of (picked (pair_test l r) 0 (bits_of m n)))) (sym P_length) ∙ bits_of-number_of (picked (pair_test l r) 0 (bits_of m n))
+
+  P_range : number_of (picked (pair_test l r) 0 (bits_of m n)) < 2 ^ length (chosen (pair_test l r) 0 n)
+  P_range = subst (λ k. number_of (picked (pair_test l r) 0 (bits_of m n)) < 2 ^ k) P_length (number_of-below (picked (pair_test l r) 0 (bits_of m n)))
+
+  is_least : IsLeast same_shift (pair_query l r) (chosen (pair_test l r) 0 n) (number_of (picked (pair_test l r) 0 (bits_of m n)))
+  is_least = record {
+    in_range = P_range;
+    distinguishes = subst (λ (bs : List Bool). Distinguishes (pair_query l r) (part bs)) (sym P_bits) (along _ _ alike whole_is);
     least = λ k h d.
-        let lower : expand keeps 0 n k < cleared keeps 0 n m = expand_less keeps 0 n k number h (compress_in_range keeps 0 n m) in
-        least_all (expand keeps 0 n k) (subst (λ z. expand keeps 0 n k < z) nothing_cleared lower) (subst (Distinguishes (pair_query l r)) (same_functions k) d);
+        let size = length (chosen (pair_test l r) 0 n) in
+        let Q = bits_of k size in
+        let Q_length : length Q ≡ size = bits_of-length k size in
+        let low : k < 2 ^ size = let z = P_range in omega (arith, h, z) in
+        let less : number_of Q < number_of (picked (pair_test l r) 0 (bits_of m n)) = subst (λ j. j < number_of (picked (pair_test l r) 0 (bits_of m n))) (sym (number_of-bits_of k size low)) h in
+        let spread_less = (spread_grows (pair_test l r) 0 n Q (picked (pair_test l r) 0 (bits_of m n)) Q_length P_length).1 less in
+        let top : number_of (spread (pair_test l r) 0 n (picked (pair_test l r) 0 (bits_of m n))) ≡ m = ap number_of S_is ∙ number_of-bits_of m n in_range in
+        let below : number_of (spread (pair_test l r) 0 n Q) < m = subst (λ j. number_of (spread (pair_test l r) 0 n Q) < j) top spread_less in
+        none_spread (spread (pair_test l r) 0 n Q) (spread_length (pair_test l r) 0 n Q) below
+            (along (part Q) (assigned same_shift (all_inputs n) (spread (pair_test l r) 0 n Q)) (λ i t. part_bit Q Q_length i ∙ sym (full_bit (spread (pair_test l r) 0 n Q) (spread_length (pair_test l r) 0 n Q) i)) d);
   }
 
-  exactly_from : (x : Variable ℕ) → Contains leaves x → (tree : Tree ℕ) × Contains (l ∷ r ∷ []) tree × HasLeaf x tree
-  exactly_from x h =
-      let s = kept_in keeps 0 n x h in
-      let same : at_zero x.input ≡ x = (λ t. record { input = x.input; at = sym s.2 t }) in
-      go same (one_of (has_leaf x.input l) (has_leaf x.input r) s.3)
+  leaf_of : (x : Variable ℕ) → Contains (chosen (pair_test l r) 0 n) x → (tree : Tree ℕ) × Contains (l ∷ r ∷ []) tree × HasLeaf x tree
+  leaf_of x h = go (either (leaf_test x.input l) (leaf_test x.input r) (chosen_says (pair_test l r) 0 n x h).passes)
     where
-      go : at_zero x.input ≡ x → (has_leaf x.input l ≡ true) ⊎ (has_leaf x.input r ≡ true) → (tree : Tree ℕ) × Contains (l ∷ r ∷ []) tree × HasLeaf x tree
-      go e (inl k) = (l, Contains-head l (r ∷ []), subst (λ y. HasLeaf y l) e (leaf_sound x.input l k))
-      go e (inr k) = (r, Contains-tail l r (r ∷ []) (Contains-head r []), subst (λ y. HasLeaf y r) e (leaf_sound x.input r k))
+      back : (tree : Tree ℕ) → HasLeaf (at_zero x.input) tree → HasLeaf x tree
+      back tree k = subst (λ (y : Variable ℕ). HasLeaf y tree) (sym (as_zero x (chosen_says (pair_test l r) 0 n x h).at)) k
 
-  exactly_back : (x : Variable ℕ) → (tree : Tree ℕ) × Contains (l ∷ r ∷ []) tree × HasLeaf x tree → Contains leaves x
-  exactly_back x h = go (Contains-cases l h.0 (r ∷ []) h.1)
+      go : (leaf_test x.input l ≡ true) ⊎ (leaf_test x.input r ≡ true) → (tree : Tree ℕ) × Contains (l ∷ r ∷ []) tree × HasLeaf x tree
+      go (inl t) = (l, Contains-head l (r ∷ []), back l (is_leaf x.input l t))
+      go (inr t) = (r, Contains-tail l r (r ∷ []) (Contains-head r []), back r (is_leaf x.input r t))
+
+  chosen_leaf : (x : Variable ℕ) → (tree : Tree ℕ) × Contains (l ∷ r ∷ []) tree × HasLeaf x tree → Contains (chosen (pair_test l r) 0 n) x
+  chosen_leaf x h = go (Contains-cases l h.0 (r ∷ []) h.1)
     where
-      there : x.at ≡ 0 → x.input < n → keeps x.input ≡ true → Contains leaves x
-      there none low is_kept =
-          let same : at_zero x.input ≡ x = (λ t. record { input = x.input; at = sym none t }) in
-          subst (Contains leaves) same (in_kept keeps 0 n x.input (omega arith) (omega arith) is_kept)
+      made : (x.at ≡ 0) × (pair_test l r x.input ≡ true) → x.input < n → Contains (chosen (pair_test l r) 0 n) x
+      made t low = subst (Contains (chosen (pair_test l r) 0 n)) (sym (as_zero x t.0)) (chosen_has (pair_test l r) 0 n x.input (omega arith) (omega (arith, low)) t.1)
 
-      of_left : HasLeaf x l → Contains leaves x
-      of_left k = there (left_at x k) (hl x k) (left_true (has_leaf x.input l) (has_leaf x.input r) (leaf_complete x l (left_at x k) k))
-
-      of_right : HasLeaf x r → Contains leaves x
-      of_right k = there (right_at x k) (hr x k) (right_true (has_leaf x.input l) (has_leaf x.input r) (leaf_complete x r (right_at x k) k))
-
-      second : (r ≡ h.0) ⊎ Contains [] h.0 → Contains leaves x
-      second (inl e) = of_right (subst (HasLeaf x) (sym e) h.2)
+      second : (r ≡ h.0) ⊎ Contains [] h.0 → Contains (chosen (pair_test l r) 0 n) x
+      second (inl e) = let own = subst (λ (t : Tree ℕ). HasLeaf x t) (sym e) h.2 in made (right_test x own) (hr x own)
       second (inr k) = absurd (omega (arith, k.1))
 
-      go : (l ≡ h.0) ⊎ Contains (r ∷ []) h.0 → Contains leaves x
-      go (inl e) = of_left (subst (HasLeaf x) (sym e) h.2)
+      go : (l ≡ h.0) ⊎ Contains (r ∷ []) h.0 → Contains (chosen (pair_test l r) 0 n) x
+      go (inl e) = let own = subst (λ (t : Tree ℕ). HasLeaf x t) (sym e) h.2 in made (left_test x own) (hl x own)
       go (inr k) = second (Contains-cases r h.0 [] k)
 
-  leaves_are : AreVariables ShiftBefore (l ∷ r ∷ []) leaves
-  leaves_are = record { in_order = kept_in_order keeps 0 n; exactly = λ x. (exactly_from x, exactly_back x) }
-
-  leaves_below : All (λ x. x.input < n) leaves
-  leaves_below = All-from_each (λ (x : Variable ℕ). x.input < n) leaves (λ x h. let s = kept_in keeps 0 n x h in omega (arith, s.1))
-
-  rows_same : bits_of m n ∷ [] ≡ sequence_rows 0 (over_leaves number) n
-  rows_same = ap (λ row. row ∷ []) (row_is (over_leaves number) 0 n m (λ j h. ap (λ (a : ℕ → ℕ → Bool). a j 0) same_assignment))
+  witness : IsWitness a b left right p q n (bits_of m n ∷ []) 0 (tree_value (assigned same_shift (all_inputs n) (bits_of m n)) l) (tree_value (assigned same_shift (all_inputs n) (bits_of m n)) r)
+  witness = record {
+    left_depth = 0;
+    right_depth = 0;
+    left_tree = l;
+    right_tree = r;
+    left_unfolds = ul;
+    right_unfolds = ur;
+    last_is = refl;
+    variables = chosen (pair_test l r) 0 n;
+    are_variables = record { in_order = chosen_order (pair_test l r) 0 n; exactly = λ x. (λ h. leaf_of x h, λ h. chosen_leaf x h) };
+    inputs = All-from_each (λ (x : Variable ℕ). x.input < n) (chosen (pair_test l r) 0 n) (λ x h. let c = chosen_says (pair_test l r) 0 n x h in omega (arith, c.below));
+    bits = picked (pair_test l r) 0 (bits_of m n);
+    each = P_length;
+    distinguishes = along _ _ alike whole_is;
+    least = λ few. (number_of (picked (pair_test l r) 0 (bits_of m n)), sym P_bits, is_least);
+    rows_are = ap (λ (row : List Bool). row ∷ []) (sym (ap (sequence_row 0 (part (picked (pair_test l r) 0 (bits_of m n))) 0 0) (sym B_length)
+        ∙ row_is (part (picked (pair_test l r) 0 (bits_of m n))) 0 (bits_of m n) (λ j. ap (λ k. part (picked (pair_test l r) 0 (bits_of m n)) k 0) (let z : 0 + j ≡ j = omega arith in z) ∙ part_is j)));
+    left_value = left_same _ _ alike;
+    right_value = right_same _ _ alike;
+  }
 
 pub witness_of_least : (a b : Circuit ℕ) (left right : List ℕ) (p q n m : ℕ) (l r : Tree ℕ) →
     Unfolds a left p 0 0 l → Unfolds b right q 0 0 r →
     ((x : Variable ℕ) → HasLeaf x l → x.input < n) → ((x : Variable ℕ) → HasLeaf x r → x.input < n) →
     IsLeast same_shift (pair_query l r) (all_inputs n) m →
     IsWitness a b left right p q n (bits_of m n ∷ []) 0
-    (tree_value (assigned same_shift (all_inputs n) (bits_of m n)) l) (tree_value (assigned same_shift (all_inputs n) (bits_of m n)) r)
-witness_of_least a b left right p q n m l r ul ur hl hr least =
-    let left_at : (x : Variable ℕ) → HasLeaf x l → x.at ≡ 0 = λ x h. leaf_at a left x ul refl h in
-    let right_at : (x : Variable ℕ) → HasLeaf x r → x.at ≡ 0 = λ x h. leaf_at b right x ur refl h in
-    let best = least_over_leaves n m l r left_at right_at hl hr least in
-    let same = same_assignment n m l r left_at right_at hl hr least in
-    record {
-      left_depth = 0;
-      right_depth = 0;
-      left_tree = l;
-      right_tree = r;
-      left_unfolds = ul;
-      right_unfolds = ur;
-      last_is = refl;
-      variables = leaves n m l r left_at right_at hl hr least;
-      are_variables = leaves_are n m l r left_at right_at hl hr least;
-      inputs = leaves_below n m l r left_at right_at hl hr least;
-      bits = bits_of (number n m l r left_at right_at hl hr least) (length (leaves n m l r left_at right_at hl hr least));
-      each = bits_size (number n m l r left_at right_at hl hr least) (length (leaves n m l r left_at right_at hl hr least));
-      distinguishes = best.distinguishes;
-      least = λ few. (number n m l r left_at right_at hl hr least, refl, best);
-      rows_are = rows_same n m l r left_at right_at hl hr least;
-      left_value = ap (λ (x : ℕ → ℕ → Bool). tree_value x l) (sym same);
-      right_value = ap (λ (x : ℕ → ℕ → Bool). tree_value x r) (sym same);
-    }
+        (tree_value (assigned same_shift (all_inputs n) (bits_of m n)) l) (tree_value (assigned same_shift (all_inputs n) (bits_of m n)) r)
+witness_of_least a b left right p q n m l r ul ur hl hr least = witness a b left right p q n m l r ul ur hl hr least

@@ -1,3 +1,4 @@
+pub mod Bits
 pub mod Decided
 pub mod Designs
 pub mod Evaluated

@@ -38,7 +38,8 @@ use Rattle.sec_check.specs.Compared.{ports_of, IsCompared}
 use Rattle.sec_check.specs.Outcome.{AnswerFits, PairFits, PairsFit, IsFirstDifferent, VerdictFits, OutcomeFits, greatest_size}
 use Rattle.sec_check.specs.Shown.{Obeys, MakesDiffer}
 use Rattle.sec_check.specs.Sweep.{bit_at, Comparison, HaveValues, IsLeastBelow, IsTried, IsUntried, answer_of, results_of, verdict_of, verdict_at, witness_of}
-use Rattle.sec_check.proofs.Decided.{AreGateNets, bits_of-length, tree_of, depth_zero, answer_fits, difference_witness, left_leaf, right_leaf, equal_functions, left_is_value, right_is_value}
+use Rattle.sec_check.proofs.Bits.{bits_of-length}
+use Rattle.sec_check.proofs.Decided.{AreGateNets, tree_of, depth_zero, answer_fits, difference_witness, left_leaf, right_leaf, equal_functions, left_is_value, right_is_value}
 use Rattle.sec_check.proofs.Leaves.{by_leaves, input_at, shared_name}
 use Rattle.sec_check.proofs.Noted.{no_state}
 use Rattle.sec_check.proofs.Paired.{names_of, place_named-at}

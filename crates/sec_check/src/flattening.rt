@@ -150,7 +150,10 @@ fn add_gate(
     ensures made { IfOk result (λ ok. ok ≡ true → TakesIn maker.old.net maker.new.net statement.now × (maker.new.set ≡ maker.old.set)) }
 {
     let Statement::Names {
-        fanins, out, cover, ..
+        fanins,
+        out,
+        cover,
+        ..
     } = statement
     else {
         return Ok(false);

@@ -9,6 +9,8 @@ mod numbers;
 mod outcome;
 mod pairing;
 mod sweeping;
+#[cfg(test)]
+mod tests;
 mod writing;
 
 pub use circuit_theory::Mode;

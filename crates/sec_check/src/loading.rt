@@ -1,16 +1,14 @@
 //! From the bytes of a file to a flat net.
 
-
 ghost use Rattle.std.specs.Prelude.{◌≡◌, ℕ, List, IfOk, IfErr, IfSome, IsErrOf, ◌≤◌, length, Some};
 ghost use Rattle.sec_base.specs.Outside.{Rose, SameHeld, NoneFell};
 ghost use Rattle.sec_check.specs.Loading.{Loads, LoadFails, IsComparable};
 
+use crate::flattening::flatten_main;
 use blif_read::{ReadError, read_design};
 use flat_net::Net;
-use std::alloc::Global;
 use sec_base::{FetchError, Shelf, fetch};
-
-use crate::flattening::flatten_main;
+use std::alloc::Global;
 
 /// The most bytes that a file may have.
 const LONGEST: u32 = 16_777_216;

@@ -1,0 +1,143 @@
+//! What no clause says: rows of circuits with the reports that are wanted, through the calls that a program makes.
+
+use super::*;
+use sec_base::{MemShelf, Seq, Side};
+use std::alloc::Global;
+use std::test::Fail;
+
+const PLAIN: Settings = Settings {
+    mode: Mode::Plain,
+    expose: false,
+    conflicts: 20_000,
+};
+
+fn compared(alloc: Global, left: &str, right: &str) -> Result<Result<Outcome, CompareError>, Fail> {
+    let mut shelf = MemShelf::new(alloc, Seq::new(alloc));
+    shelf.put(alloc, "a", left.as_bytes())?;
+    shelf.put(alloc, "b", right.as_bytes())?;
+    let a = load(alloc, &mut shelf, "a")?;
+    let b = load(alloc, &mut shelf, "b")?;
+    Ok(compare(alloc, &a, &b, &PLAIN))
+}
+
+const AND: &str = ".model m\n.inputs a b\n.outputs y\n.names a b y\n11 1\n.end\n";
+
+const AND_BY_ZEROS: &str = ".model m\n.inputs a b\n.outputs y\n.names a b y\n0- 0\n-0 0\n.end\n";
+
+const OR: &str = ".model m\n.inputs a b\n.outputs y\n.names a b y\n1- 1\n-1 1\n.end\n";
+
+const LESS: &str = ".model m\n.inputs a b\n.outputs y\n.names a b y\n01 1\n.end\n";
+
+const LESS_INPUTS_TURNED: &str = ".model m\n.inputs b a\n.outputs y\n.names b a y\n10 1\n.end\n";
+
+const SECOND: &str = ".model m\n.inputs a b\n.outputs y\n.names b y\n1 1\n.end\n";
+
+const NOTHING: &str = ".model m\n.inputs a b\n.outputs y\n.names y\n.end\n";
+
+const PASS: &str = ".model m\n.inputs a\n.outputs a\n.end\n";
+
+const NO_OUTPUTS: &str = ".model m\n.inputs a\n.end\n";
+
+const ONE: &str = ".model m\n.outputs y\n.names y\n1\n.end\n";
+
+const ZERO: &str = ".model m\n.outputs y\n.names y\n.end\n";
+
+const BOTH: &str =
+    ".model m\n.inputs a b\n.outputs y z\n.names a b y\n11 1\n.names a b z\n1- 1\n-1 1\n.end\n";
+
+const BOTH_TURNED: &str =
+    ".model m\n.inputs a b\n.outputs z y\n.names a b y\n11 1\n.names a b z\n10 1\n01 1\n.end\n";
+
+#[test]
+fn outcomes_are_reported(rt: HostRuntime) -> Result<(), Fail> {
+    let alloc = rt.alloc();
+    for (shows, left, right, wanted) in [
+        (
+            "off-set cover equals on-set cover",
+            AND,
+            AND_BY_ZEROS,
+            "inputs 2\nlatches 0 0\nexposed 0\npair y depth 0 equal\nverdict equal\n",
+        ),
+        (
+            "the least assignment is shown",
+            AND,
+            OR,
+            "inputs 2\nlatches 0 0\nexposed 0\npair y depth 0 different\nverdict different y cycle 0 values 0 1\ninputs a b\n10\n",
+        ),
+        (
+            "the first input is the lowest bit",
+            SECOND,
+            NOTHING,
+            "inputs 2\nlatches 0 0\nexposed 0\npair y depth 0 different\nverdict different y cycle 0 values 1 0\ninputs a b\n01\n",
+        ),
+        (
+            "inputs are one by their names",
+            LESS,
+            LESS_INPUTS_TURNED,
+            "inputs 2\nlatches 0 0\nexposed 0\npair y depth 0 equal\nverdict equal\n",
+        ),
+        (
+            "a port is input and output",
+            PASS,
+            PASS,
+            "inputs 1\nlatches 0 0\nexposed 0\npair a depth 0 equal\nverdict equal\n",
+        ),
+        (
+            "there are no pairs",
+            NO_OUTPUTS,
+            NO_OUTPUTS,
+            "inputs 1\nlatches 0 0\nexposed 0\nverdict equal\n",
+        ),
+        (
+            "constants differ without inputs",
+            ONE,
+            ZERO,
+            "inputs 0\nlatches 0 0\nexposed 0\npair y depth 0 different\nverdict different y cycle 0 values 1 0\ninputs\n-\n",
+        ),
+        (
+            "outputs are one by their names",
+            BOTH,
+            BOTH_TURNED,
+            "inputs 2\nlatches 0 0\nexposed 0\npair y depth 0 equal\npair z depth 0 different\nverdict different z cycle 0 values 1 0\ninputs a b\n11\n",
+        ),
+    ] {
+        let outcome = compared(alloc, left, right)??;
+        let text = report(alloc, &outcome, &PLAIN)?;
+        assert_eq!(rt; text.as_slice(), wanted.as_bytes(), "{shows}");
+    }
+    Ok(())
+}
+
+fn refusal(compared: Result<Outcome, CompareError>) -> (&'static str, usize) {
+    match compared {
+        Ok(_) => ("none", 0),
+        Err(CompareError::Interface(name)) => ("interface", name.len()),
+        Err(CompareError::NotYet(Side::A)) => ("latch", 0),
+        Err(CompareError::NotYet(Side::B)) => ("latch", 1),
+        Err(CompareError::Wide(inputs)) => ("wide", inputs as usize),
+        Err(CompareError::NoMemory) => ("memory", 0),
+    }
+}
+
+const TWELVE: &str =
+    ".model m\n.inputs a b c d e f g h i j k l\n.outputs y\n.names l y\n1 1\n.end\n";
+
+const THIRTEEN: &str =
+    ".model m\n.inputs a b c d e f g h i j k l m\n.outputs y\n.names m y\n1 1\n.end\n";
+
+const OTHER_OUTPUT: &str = ".model m\n.inputs a b\n.outputs sum\n.names a b sum\n11 1\n.end\n";
+
+#[test]
+fn refusals_have_their_causes(rt: HostRuntime) -> Result<(), Fail> {
+    let alloc = rt.alloc();
+    for (left, right, wanted) in [
+        (TWELVE, TWELVE, ("none", 0)),
+        (THIRTEEN, THIRTEEN, ("wide", 13)),
+        (TWELVE, THIRTEEN, ("interface", 1)),
+        (AND, OTHER_OUTPUT, ("interface", 1)),
+        (OTHER_OUTPUT, AND, ("interface", 3)),
+    ] {
+        assert_eq!(rt; refusal(compared(alloc, left, right)?), wanted);
+    }
+    Ok(())
+}
