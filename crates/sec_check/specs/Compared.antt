@@ -55,3 +55,10 @@ InterfaceFails a b (refused.Interface name) = first_mismatch (ports_of a) (ports
 InterfaceFails a b (refused.NotYet side) = ⊥
 InterfaceFails a b (refused.Wide inputs) = ⊥
 InterfaceFails a b refused.NoMemory = Unit {0}
+
+-- the refusal of a name, or want of memory
+abbrev pub RefusesName : List ℕ → CompareError → Type 0
+RefusesName name (refused.Interface word) = word ≡ name
+RefusesName name (refused.NotYet side) = ⊥
+RefusesName name (refused.Wide inputs) = ⊥
+RefusesName name refused.NoMemory = Unit {0}

@@ -2,12 +2,12 @@
 
 ghost use Rattle.std.specs.Prelude.{◌≡◌, ◌+◌, ◌^◌, ◌<◌, ◌≤◌, not, None, Some, List, ℕ, length, map, IfOk, IfErr, IfSome, slice_get, option_map, Option};
 ghost use Rattle.circuit_theory.specs.Interface.{first_missing, first_mismatch, inputs_beside, shared_inputs, AreOrders, ◌or_else◌};
-ghost use Rattle.sec_check.specs.Compared.{ports_of, InterfaceFails};
+ghost use Rattle.sec_check.specs.Compared.{ports_of, InterfaceFails, RefusesName};
 ghost use Rattle.sec_check.specs.Loading.{IsComparable};
 ghost use Rattle.sec_check.specs.Numbered.{AreNumbers, stays};
 
 use flat_net::Net;
-use sec_base::{Ids, NameTable, NoMemory, Orders, Seq, Word};
+use sec_base::{Ids, NameTable, NoMemory, Orders, Seq};
 use std::alloc::Global;
 
 use crate::comparing::CompareError;
@@ -94,15 +94,19 @@ pub fn interface(alloc: Global, a: &Net, b: &Net) -> Result<Orders, CompareError
     let left_outputs = output_names(alloc, a.outputs())?;
     let right_outputs = output_names(alloc, b.outputs())?;
     if let Some(name) = first_mismatch(&left, &right, &left_outputs, &right_outputs) {
-        return Err(CompareError::Interface(copied(alloc, name)?));
+        return Err(mismatch_error(alloc, name));
     }
     orders_of(alloc, a, b, &left)
 }
 
-fn copied(alloc: Global, name: &[u8]) -> Result<Word, NoMemory>
-    ensures { IfOk result (λ word. word ≡ name.now) }
+/// The refusal of the name.
+fn mismatch_error(alloc: Global, name: &[u8]) -> CompareError
+    ensures { RefusesName name.now result }
 {
-    Ok(Seq::from_vec(name.to_vec(alloc)?))
+    match name.to_vec(alloc) {
+        Ok(bytes) => CompareError::Interface(Seq::from_vec(bytes)),
+        Err(_) => CompareError::NoMemory,
+    }
 }
 
 /// The first of A's inputs missing in B, B's in A, A's outputs in B, B's in A.
@@ -137,6 +141,7 @@ fn orders_of(alloc: Global, a: &Net, b: &Net, shared: &NameTable) -> Result<Orde
 {
     a.keeps();
     b.keeps();
+    shared.keeps();
     let (left, middle) = numbers_of(alloc, a, shared, shared.len())?;
     let (right, _) = numbers_of(alloc, b, shared, middle)?;
     Ok(Orders { left, right })
