@@ -2,3 +2,8 @@ pub mod Places
 pub mod Growth
 pub mod NextSet
 pub mod Nets
+pub mod LatchNames
+pub mod PlaceLists
+pub mod Exposed
+pub mod CutNets
+pub mod CutCircuits

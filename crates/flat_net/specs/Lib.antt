@@ -1,3 +1,4 @@
 pub mod View
 pub mod Sound
 pub mod Makes
+pub mod Cut

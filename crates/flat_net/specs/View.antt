@@ -1,6 +1,8 @@
 -- What a contract sees of a net: its lists, and the circuit that they are.
-use Rattle.std.specs.Prelude.{ℕ, true, false, List, [], ◌++◌, map, slice_get, unwrap_or, Option, Some, None}
-use Rattle.std.specs.List.{filter_map}
+use Rattle.std.specs.Prelude.{ℕ, true, false, List, [], ◌++◌, map, slice_get, unwrap_or, Option, Some, None, ◌||◌, ◌==◌, Bool}
+use Rattle.std.specs.List.{filter, filter_map, list_any}
+use Rattle.circuit_theory.specs.Interface.{Ports}
+use Rattle.flat_net.specs.declared.signals.Signal.{Signal}
 use Rattle.circuit_theory.specs.Cover.{Cover}
 use Rattle.circuit_theory.specs.Circuit.{Circuit, Equation, Gate as gate_equation, Latch as latch_equation, Named, Started}
 use Rattle.sec_base.specs.declared.basics.Init.{Init}
@@ -54,4 +56,20 @@ circuit_of n = record {
   outputs = map named n.outputs;
   equations = map (equation_of_gate n.covers) n.gates ++ map equation_of_latch n.latches;
   starts = filter_map (λ l. start_of l.out.0 l.init) n.latches;
+}
+
+-- some gate, latch or output reads the signal
+abbrev pub is_read : NetView → Signal → Bool
+is_read n s =
+    list_any (λ g. list_any (λ f. f.0 == s.0) g.fanins) n.gates
+    || list_any (λ l. l.next.0 == s.0) n.latches
+    || list_any (λ port. port.signal.0 == s.0) n.outputs
+
+-- what the interface of the net looks at
+abbrev pub ports_of : NetView → Ports
+ports_of n = record {
+  inputs = map (λ port. port.name) n.inputs;
+  outputs = map (λ port. port.name) n.outputs;
+  clock = n.clock;
+  read = map (λ port. port.name) (filter (λ port. is_read n port.signal) n.inputs);
 }

@@ -64,7 +64,10 @@ impl NetMaker {
         ensures here { IfSome result (λ s. slice_get self.now.net.names s.0 ≡ Some name.now) }
         ensures found { is_some result ≡ is_among self.now.net.names name.now }
     {
-        self.net.signal_named(name)
+        match self.net.signal_named(name) {
+            Some(signal) => Some(Signal(signal)),
+            None => None,
+        }
     }
 
     /// A new signal that an input drives. After `NoMemory` nothing has changed.

@@ -1,16 +1,18 @@
 //! The flat circuit.
 
-ghost use Rattle.std.specs.Prelude.{◌≡◌, ◌<◌, ◌↔◌, ℕ, Bool, List, length, map, slice_get, slice_index_or, false, Option, Some, All, IsTrue, IsSome, IfSome, IfNone, option_map};
+ghost use Rattle.std.specs.Prelude.{◌≡◌, ◌<◌, ◌↔◌, ℕ, Bool, List, length, map, slice_get, slice_index_or, false, Option, Some, All, IsTrue, IsSome, IfSome, IfNone, is_some, option_map, ◌==◌, ◌≢◌, IsSomeAnd, Contains};
 ghost use Rattle.std.specs.List.{list_any};
 ghost use Rattle.circuit_theory.specs.Cover.{cover_value, row_matches, place_matches};
 ghost use Rattle.sec_base.specs.Cover.{IsCoverSound};
+ghost use Rattle.sec_base.specs.Table.{is_among};
 ghost use Rattle.circuit_theory.specs.Net.{IsNet, HasDistinctNames};
-ghost use Rattle.flat_net.specs.View.{NetView, cover_of, circuit_of};
+ghost use Rattle.flat_net.specs.View.{NetView, cover_of, circuit_of, is_read};
 ghost use Rattle.flat_net.specs.Sound.{IsSound};
 
 use crate::parts::{Driver, Gate, LatchAt, Port};
 use crate::signals::Signal;
 
+mod cutting;
 mod making;
 
 pub(crate) use making::push_within;
@@ -122,6 +124,47 @@ impl Net {
         self.names.name(s.0)
     }
 
+    /// Whether some gate, latch or output reads input i. It looks through the whole net.
+    pub fn input_read(&self, i: u32) -> bool
+        requires { i < length self.now.inputs }
+        ensures { IfSome (slice_get self.now.inputs i) (λ port. result ≡ is_read self.now port.signal) }
+    {
+        let port = self.input_at(i);
+        gates_read(self.gates(), port.signal)
+            || latches_read(self.latches(), port.signal)
+            || ports_show(self.outputs(), port.signal)
+    }
+
+    /// The latch with this name; None exactly where no latch has it.
+    pub fn latch_named(&self, name: &[u8]) -> Option<u32>
+        ensures here { IfSome result (λ j. IsSomeAnd (slice_get self.now.latches j) (λ l. l.name ≡ name.now)) }
+        ensures absent { IfNone result (All (λ l. l.name ≢ name.now) self.now.latches) }
+    {
+        self.keeps();
+        let Some(signal) = self.signal_named(name) else {
+            return None;
+        };
+        match self.driver(Signal(signal)) {
+            Driver::Latch(j) => Some(j),
+            _ => None,
+        }
+    }
+
+    pub(crate) fn signal_named(&self, name: &[u8]) -> Option<u32>
+        ensures here { IfSome result (λ s. slice_get self.now.names s ≡ Some name.now) }
+        ensures absent { IfNone result (Contains self.now.names name.now → ⊥) }
+        ensures found { is_some result ≡ is_among self.now.names name.now }
+    {
+        self.names.find(name)
+    }
+
+    fn input_at(&self, i: u32) -> &Port
+        requires { i < length self.now.inputs }
+        ensures { slice_get self.now.inputs i ≡ Some result.now }
+    {
+        &self.inputs[i as usize]
+    }
+
     /// The value of a gate's cover, where the signals have these values. It takes no memory.
     pub fn eval_gate(&self, gate: u32, values: &[bool]) -> bool
         requires gate { gate < length self.now.gates }
@@ -174,4 +217,30 @@ fn row_matches(row: &[u8], fanins: &[Signal], values: &[bool]) -> bool
         }
     }
     true
+}
+
+fn gates_read(gates: &[Gate], signal: Signal) -> bool
+    ensures { result ≡ list_any (λ g. list_any (λ f. f.0 == signal.0) g.fanins) gates.now }
+{
+    gates
+        .iter()
+        .any(|gate| is_fanin(gate.fanins.as_slice(), signal))
+}
+
+fn is_fanin(fanins: &[Signal], signal: Signal) -> bool
+    ensures { result ≡ list_any (λ f. f.0 == signal.0) fanins.now }
+{
+    fanins.iter().any(|fanin| fanin.0 == signal.0)
+}
+
+fn latches_read(latches: &[LatchAt], signal: Signal) -> bool
+    ensures { result ≡ list_any (λ l. l.next.0 == signal.0) latches.now }
+{
+    latches.iter().any(|latch| latch.next.0 == signal.0)
+}
+
+fn ports_show(ports: &[Port], signal: Signal) -> bool
+    ensures { result ≡ list_any (λ port. port.signal.0 == signal.0) ports.now }
+{
+    ports.iter().any(|port| port.signal.0 == signal.0)
 }

@@ -1,10 +1,10 @@
 -- Between the keys of an index set and the list that a table is seen as.
-use Rattle.std.proofs.Common.{◌≡◌, ◌<◌, ℕ, Bool, true, false, cond, ◌||◌, List, [], ◌∷◌, ◌++◌, get_or, map, slice_get, Some, option_map, if◌then◌else◌, Contains, refl, sym, ap, subst, ◌∙◌, true≢false, inl, inr, ◌⊎◌, zero, suc, ◌==◌, ◌&&◌}
+use Rattle.std.proofs.Common.{◌≡◌, ◌+◌, ◌<◌, ℕ, Bool, true, false, cond, ◌||◌, List, [], ◌∷◌, ◌++◌, get_or, map, slice_get, Some, option_map, if◌then◌else◌, Contains, refl, sym, ap, subst, ◌∙◌, true≢false, arith, take, inl, inr, ◌⊎◌, zero, suc, ◌==◌, ◌&&◌}
 use Rattle.std.specs.List.{list_any, find, IsDistinct}
 use Rattle.std.specs.Str.{bytes_eq}
 use Rattle.std.proofs.lemmas.Bool.{cases_order}
 use Rattle.std.proofs.lemmas.Bool.Decides.{Decides-eqb}
-use Rattle.std.proofs.lemmas.List.{map-append}
+use Rattle.std.proofs.lemmas.List.{map-append, take_more}
 use Rattle.std.proofs.lemmas.List.Folds.{list_any_at}
 use Rattle.std.proofs.lemmas.Map.Keys.{apart_from_distinct}
 use Rattle.std.proofs.lemmas.Option.{slice_get-map, slice_get_within, get_or_from_slice_get, none-some, same_Some}
@@ -79,3 +79,35 @@ module _ {K X : Type 0} (f : K → X) (e : K → K → Bool) (same : (a b : K) �
 -- equal pairs pass the test of pairs
 pub pair_eq-same : (a b : ℕ × ℕ) → a ≡ b → ((a.0 == b.0) && (a.1 == b.1)) ≡ true
 pair_eq-same a b e = ap (λ t. t && (a.1 == b.1)) ((Decides-eqb a.0 b.0).1 (ap (λ p. p.0) e)) ∙ (Decides-eqb a.1 b.1).1 (ap (λ p. p.1) e)
+
+-- a name that is among the names stands at a place
+pub is_among-at : (names : List (List ℕ)) (name : List ℕ) → is_among names name ≡ true → (i : ℕ) × (slice_get names i ≡ Some name)
+is_among-at [] name h = absurd (true≢false (sym h))
+is_among-at (x ∷ xs) name h = by (bytes_eq name x) refl (λ k. is_among-at xs name k)
+  where
+    by : (b : Bool) → bytes_eq name x ≡ b → (is_among xs name ≡ true → (i : ℕ) × (slice_get xs i ≡ Some name)) → (i : ℕ) × (slice_get (x ∷ xs) i ≡ Some name)
+    by true e later = (0, ap Some (sym ((bytes_eq-Decides name x).0 e)))
+    by false e later = let rest = later (sym (ap (λ b. b || is_among xs name) e) ∙ h) in (suc rest.0, rest.1)
+
+-- what stands among the first n
+pub slice_get-take : {X : Type 0} (n : ℕ) (xs : List X) (i : ℕ) (x : X) → slice_get (take n xs) i ≡ Some x → (i < n) × (slice_get xs i ≡ Some x)
+slice_get-take zero xs i x h = absurd (none-some x h)
+slice_get-take (suc n) [] i x h = absurd (none-some x h)
+slice_get-take (suc n) (y ∷ xs) zero x h = (omega arith, h)
+slice_get-take (suc n) (y ∷ xs) (suc i) x h = let rest = slice_get-take n xs i x h in (omega (arith, rest.0), rest.1)
+
+-- none of the first i names is the name at i, where no name stands twice
+pub not_before : (names : List (List ℕ)) (i : ℕ) (name : List ℕ) → AreDistinct names → slice_get names i ≡ Some name → is_among (take i names) name ≡ false
+not_before names i name distinct here = by (is_among (take i names) name) refl
+  where
+    by : (b : Bool) → is_among (take i names) name ≡ b → is_among (take i names) name ≡ false
+    by true e =
+        let at = is_among-at (take i names) name e in
+        let before = slice_get-take i names at.0 name at.1 in
+        let same : at.0 ≡ i = distinct at.0 i name before.1 here in
+        absurd (omega (arith, before.0, same))
+    by false e = e
+
+-- the first i and the one at i
+pub take-push : {X : Type 0} (xs : List X) (i : ℕ) (x : X) → slice_get xs i ≡ Some x → take i xs ++ x ∷ [] ≡ take (i + 1) xs
+take-push xs i x here = ap (λ y. take i xs ++ y ∷ []) (sym (get_or_from_slice_get xs i x x here)) ∙ sym (take_more xs i x (slice_get_within xs i x here))

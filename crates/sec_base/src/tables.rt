@@ -121,6 +121,18 @@ impl NameTable {
         Ok(())
     }
 
+    /// An equal table.
+    pub fn copy(&self, alloc: Global) -> Result<NameTable, NoMemory>
+        ensures { IfOk result (λ made. made ≡ self.now) }
+    {
+        self.keeps();
+        let mut made = NameTable::new(alloc);
+        for id in 0..self.len() {
+            made.put(self.name(id).to_vec(alloc)?)?;
+        }
+        Ok(made)
+    }
+
     /// The names in their order.
     pub fn into_words(self, alloc: Global) -> Result<Words, NoMemory>
         ensures { IfOk result (λ words. words ≡ self) }

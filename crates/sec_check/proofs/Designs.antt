@@ -19,10 +19,10 @@ mapped_from f y None e = absurd (cc)
 mapped_from f y (Some x) e = (x, refl, cc)
 
 -- an element of a mapped list comes from the element at its place
-from_map : {X Y : Type 0} (f : X → Y) (xs : List X) (i : ℕ) (y : Y) → slice_get (map f xs) i ≡ Some y → (x : X) × (slice_get xs i ≡ Some x) × (f x ≡ y)
+pub from_map : {X Y : Type 0} (f : X → Y) (xs : List X) (i : ℕ) (y : Y) → slice_get (map f xs) i ≡ Some y → (x : X) × (slice_get xs i ≡ Some x) × (f x ≡ y)
 from_map f xs i y e = mapped_from f y (slice_get xs i) (sym (slice_get-map f xs i) ∙ e)
 
-at_map : {X Y : Type 0} (f : X → Y) (xs : List X) (i : ℕ) (x : X) → slice_get xs i ≡ Some x → slice_get (map f xs) i ≡ Some (f x)
+pub at_map : {X Y : Type 0} (f : X → Y) (xs : List X) (i : ℕ) (x : X) → slice_get xs i ≡ Some x → slice_get (map f xs) i ≡ Some (f x)
 at_map f xs i x e = slice_get-map f xs i ∙ ap (option_map f) e
 
 -- the net's output for an output of the design: it stands at the same place under the same name

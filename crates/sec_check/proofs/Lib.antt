@@ -4,9 +4,11 @@ pub mod Designs
 pub mod Evaluated
 pub mod FlatMain
 pub mod FlatSteps
+pub mod Interfaces
 pub mod LeastLeaves
 pub mod Leaves
 pub mod Noted
+pub mod Numbering
 pub mod Outcomes
 pub mod Paired
 pub mod Parts

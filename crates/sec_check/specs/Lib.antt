@@ -2,6 +2,7 @@ pub mod Compared
 pub mod FlatModel
 pub mod FlatNet
 pub mod Loading
+pub mod Numbered
 pub mod Outcome
 pub mod Renaming
 pub mod Report

@@ -42,7 +42,7 @@ fn is_shared(other: &Net, numbers: &[u32], name: &[u8], number: u32) -> bool
 }
 
 /// Whether the name is that of the net's clock.
-fn is_clock(net: &Net, name: &[u8]) -> bool
+pub(crate) fn is_clock(net: &Net, name: &[u8]) -> bool
     ensures { result ≡ is_clock (ports_of net.now) name.now }
 {
     match net.clock() {
@@ -79,7 +79,7 @@ pub fn pair_outputs(alloc: Global, a: &Net, b: &Net) -> Result<Vec<PairState>, N
 }
 
 /// The table of the names, each at its place.
-fn output_names(alloc: Global, outputs: &[Port]) -> Result<NameTable, NoMemory>
+pub(crate) fn output_names(alloc: Global, outputs: &[Port]) -> Result<NameTable, NoMemory>
     requires distinct { AreDistinct (map (λ p. p.name) outputs.now) }
     requires few { length outputs.now ≤ 2 ^ 27 }
     ensures { IfOk result (λ table. table ≡ map (λ p. p.name) outputs.now) }

@@ -1,6 +1,6 @@
 //! How a net grows, signal by signal.
 
-ghost use Rattle.std.specs.Prelude.{◌≡◌, ◌+◌, ◌^◌, ◌<◌, ◌≤◌, ℕ, false, List, [], ◌∷◌, ◌++◌, length, slice_get, vec_len, vec_capacity, Some, All, IfOk, IfSome, is_some, IsSomeAnd, OnOk, OnErr};
+ghost use Rattle.std.specs.Prelude.{◌≡◌, ◌+◌, ◌^◌, ◌<◌, ◌≤◌, ℕ, false, List, [], ◌∷◌, ◌++◌, length, slice_get, vec_len, vec_capacity, Some, All, IfOk, IsSomeAnd, OnOk, OnErr};
 ghost use Rattle.sec_base.specs.Table.{is_among};
 ghost use Rattle.flat_net.specs.Makes.{empty_net, with_input, with_latch, with_gate, with_cover, with_output, with_next, with_clock};
 
@@ -30,17 +30,6 @@ impl Net {
         ensures { result ≡ is_among self.now.names name.now }
     {
         self.names.has(name)
-    }
-
-    /// The signal of the name, if there is one.
-    pub(crate) fn signal_named(&self, name: &[u8]) -> Option<Signal>
-        ensures here { IfSome result (λ s. slice_get self.now.names s.0 ≡ Some name.now) }
-        ensures found { is_some result ≡ is_among self.now.names name.now }
-    {
-        match self.names.find(name) {
-            Some(id) => Some(Signal(id)),
-            None => None,
-        }
     }
 
     pub(crate) fn add_input(&mut self, alloc: Global, name: &[u8]) -> Result<Signal, NoMemory>

@@ -1,0 +1,193 @@
+//! Nets with latches cut out.
+
+ghost use Rattle.std.specs.Prelude.{◌≡◌, ◌+◌, ◌^◌, ◌<◌, ℕ, List, ◌++◌, length, map, slice_get, slice_index_or, Some, All, IfOk};
+ghost use Rattle.std.specs.List.{filter};
+ghost use Rattle.sec_base.specs.Table.{AreDistinct};
+ghost use Rattle.flat_net.specs.View.{circuit_of};
+ghost use Rattle.flat_net.specs.Cut.{latch_at, exposed_names, as_input, as_output, stays, moved_to, IsCut, IsCutCircuit, ArePlaces};
+
+use super::Net;
+use crate::parts::{Driver, LatchAt, Port};
+use sec_base::{Cover, Duplicate, Ids, NameTable, NoMemory, Word};
+use std::alloc::Global;
+
+impl Net {
+    /// The net without the exposed latches, which are named by their positions: they become inputs behind the inputs,
+    /// and what they take over becomes outputs behind the outputs, in the order given. The other latches keep their
+    /// order, and all else stays.
+    pub fn cut(&self, alloc: Global, exposed: &Ids) -> Result<Net, NoMemory>
+        requires within { All (λ j. j < length self.now.latches) exposed.now }
+        requires distinct { AreDistinct exposed.now }
+        ensures parts { IfOk result (λ net. IsCut self.now net exposed.now) }
+        ensures circuit { IfOk result (λ net. IsCutCircuit (exposed_names self.now exposed.now) (circuit_of self.now) (circuit_of net)) }
+    {
+        self.cut_at(alloc, exposed.as_slice())
+    }
+
+    fn cut_at(&self, alloc: Global, exposed: &[u32]) -> Result<Net, NoMemory>
+        requires within { All (λ j. j < length self.now.latches) exposed.now }
+        requires distinct { AreDistinct exposed.now }
+        ensures parts { IfOk result (λ net. IsCut self.now net exposed.now) }
+        ensures circuit { IfOk result (λ net. IsCutCircuit (exposed_names self.now exposed.now) (circuit_of self.now) (circuit_of net)) }
+    {
+        self.keeps();
+        let names = self.exposed_names(alloc, exposed)?;
+        let places = self.places(alloc, &names)?;
+        Ok(Net {
+            inputs: self.inputs_after(alloc, exposed)?,
+            outputs: self.outputs_after(alloc, exposed)?,
+            gates: copy_all(alloc, self.gates())?,
+            latches: self.latches_left(alloc, &names)?,
+            covers: copy_all(alloc, self.covers_held())?,
+            drivers: moved_drivers(alloc, self.drivers_held(), places.as_slice())?,
+            names: self.names_copied(alloc)?,
+            clock: self.clock_copied()?,
+        })
+    }
+
+    fn covers_held(&self) -> &[Cover]
+        ensures { result.now ≡ self.now.covers }
+    {
+        self.covers.as_slice()
+    }
+
+    fn drivers_held(&self) -> &[Driver]
+        ensures { result.now ≡ self.now.drivers }
+    {
+        self.drivers.as_slice()
+    }
+
+    fn names_copied(&self, alloc: Global) -> Result<NameTable, NoMemory>
+        ensures { IfOk result (λ names. names ≡ self.now.names) }
+    {
+        self.names.copy(alloc)
+    }
+
+    fn clock_copied(&self) -> Result<Option<Word>, NoMemory>
+        ensures { IfOk result (λ clock. clock ≡ self.now.clock) }
+    {
+        match &self.clock {
+            Some(name) => Ok(Some(name.copy()?)),
+            None => Ok(None),
+        }
+    }
+
+    fn latch_at(&self, j: u32) -> &LatchAt
+        requires { j < length self.now.latches }
+        ensures here { slice_get self.now.latches j ≡ Some result.now }
+        ensures is { result.now ≡ latch_at self.now j }
+    {
+        &self.latches[j as usize]
+    }
+
+    fn exposed_names(&self, alloc: Global, exposed: &[u32]) -> Result<NameTable, NoMemory>
+        requires within { All (λ j. j < length self.now.latches) exposed.now }
+        requires distinct { AreDistinct exposed.now }
+        ensures { IfOk result (λ names. names ≡ exposed_names self.now exposed.now) }
+    {
+        self.keeps();
+        let mut names = NameTable::new(alloc);
+        for j in exposed {
+            let latch = self.latch_at(*j);
+            names.add(alloc, latch.name.as_slice())?;
+        }
+        Ok(names)
+    }
+
+    fn inputs_after(&self, alloc: Global, exposed: &[u32]) -> Result<Vec<Port>, NoMemory>
+        requires { All (λ j. j < length self.now.latches) exposed.now }
+        ensures { IfOk result (λ ports. ports.items ≡ self.now.inputs ++ map (λ j. as_input (latch_at self.now j)) exposed.now) }
+    {
+        let mut ports = copy_all(alloc, self.inputs())?;
+        for j in exposed {
+            let latch = self.latch_at(*j);
+            ports.push(Port {
+                name: latch.name.copy()?,
+                signal: latch.out,
+            })?;
+        }
+        Ok(ports)
+    }
+
+    fn outputs_after(&self, alloc: Global, exposed: &[u32]) -> Result<Vec<Port>, NoMemory>
+        requires { All (λ j. j < length self.now.latches) exposed.now }
+        ensures { IfOk result (λ ports. ports.items ≡ self.now.outputs ++ map (λ j. as_output (latch_at self.now j)) exposed.now) }
+    {
+        let mut ports = copy_all(alloc, self.outputs())?;
+        for j in exposed {
+            let latch = self.latch_at(*j);
+            ports.push(Port {
+                name: latch.name.copy()?,
+                signal: latch.next,
+            })?;
+        }
+        Ok(ports)
+    }
+
+    fn latches_left(&self, alloc: Global, names: &NameTable) -> Result<Vec<LatchAt>, NoMemory>
+        ensures { IfOk result (λ left. left.items ≡ filter (stays names.now) self.now.latches) }
+    {
+        let mut left = Vec::new(alloc);
+        for latch in self.latches() {
+            if !names.has(latch.name.as_slice()) {
+                left.push(latch.duplicate(alloc)?)?;
+            }
+        }
+        Ok(left)
+    }
+
+    fn places(&self, alloc: Global, names: &NameTable) -> Result<Vec<Driver>, NoMemory>
+        requires { length self.now.inputs + length names.now < 2 ^ 32 }
+        ensures { IfOk result (λ places. ArePlaces self.now names.now places.items) }
+    {
+        self.keeps();
+        let first = self.inputs().len() as u32;
+        let mut left: u32 = 0;
+        let mut places = Vec::with_capacity(alloc, self.latches().len())?;
+        for latch in self.latches() {
+            match names.find(latch.name.as_slice()) {
+                Some(k) => places.push(Driver::Input(first + k))?,
+                None => {
+                    places.push(Driver::Latch(left))?;
+                    left += 1;
+                }
+            }
+        }
+        Ok(places)
+    }
+}
+
+/// The drivers with each latch's replaced by the one at its place.
+fn moved_drivers(
+    alloc: Global,
+    drivers: &[Driver],
+    places: &[Driver],
+) -> Result<Vec<Driver>, NoMemory>
+    ensures { IfOk result (λ moved. moved.items ≡ map (moved_to places.now) drivers.now) }
+{
+    let mut moved = Vec::with_capacity(alloc, drivers.len())?;
+    for driver in drivers {
+        moved.push(moved_to(*driver, places))?;
+    }
+    Ok(moved)
+}
+
+fn moved_to(driver: Driver, places: &[Driver]) -> Driver
+    ensures { result ≡ moved_to places.now driver }
+{
+    match driver {
+        Driver::Latch(j) => places.get(j as usize).copied().unwrap_or(driver),
+        _ => driver,
+    }
+}
+
+/// Equal items.
+fn copy_all<T: Duplicate>(alloc: Global, items: &[T]) -> Result<Vec<T>, NoMemory>
+    ensures { IfOk result (λ copies. copies.items ≡ items.now) }
+{
+    let mut copies = Vec::with_capacity(alloc, items.len())?;
+    for item in items {
+        copies.push(item.duplicate(alloc)?)?;
+    }
+    Ok(copies)
+}
