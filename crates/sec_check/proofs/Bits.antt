@@ -1,8 +1,7 @@
 -- Numbers and their bits, the lowest first.
-use Rattle.std.proofs.Common.{◌≡◌, ℕ, zero, suc, ◌+◌, ◌*◌, ◌/◌, ◌%◌, ◌^◌, ◌<◌, ◌≤◌, Bool, true, false, cond, List, [], ◌∷◌, length, refl, sym, ◌∙◌, ap, subst, arith, pow-suc}
+use Rattle.std.proofs.Common.{◌≡◌, ℕ, zero, suc, ◌+◌, ◌*◌, ◌/◌, ◌%◌, ◌^◌, ◌<◌, Bool, true, false, cond, List, [], ◌∷◌, length, refl, ◌∙◌, ap, subst, arith, pow-suc}
 use Rattle.std.specs.Prelude.{◌==◌}
 use Rattle.circuit_theory.specs.Query.{bits_of}
-use Rattle.sec_check.specs.Sweep.{bit_at}
 
 -- the number of a list of bits
 abbrev pub number_of : List Bool → ℕ

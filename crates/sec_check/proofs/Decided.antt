@@ -1,39 +1,26 @@
 -- What the trial of all numbers says of the functions of each pair, and of the circuits.
-use Rattle.std.proofs.Common.{◌≡◌, ◌≢◌, ℕ, zero, suc, ◌+◌, ◌-◌, ◌*◌, ◌/◌, ◌%◌, ◌^◌, ◌<◌, ◌≤◌, max, Bool, true, false, cond, List, [], ◌∷◌, map, length, get_or, refl, sym, ◌∙◌, ap, subst, arith, inl, inr, ◌⊎◌, Option, Some, None, slice_get, pow-suc}
-use Rattle.std.specs.Prelude.{◌&&◌, ◌==◌, slice_index_or}
-use Rattle.std.specs.List.{All, AllZip, Contains}
-use Rattle.std.proofs.lemmas.List.Elements.{All-contains, All-cons, All-nil, All-head, All-tail, Contains-get_or}
-use Rattle.std.proofs.lemmas.Option.{slice_get_within, slice_get-get_or}
-use Rattle.circuit_theory.specs.Circuit.{Circuit, Named, IsLatch}
-use Rattle.circuit_theory.specs.Run.{IsRun, NoneEnabled}
-use Rattle.circuit_theory.specs.Net.{IsNet}
+use Rattle.std.proofs.Common.{◌≡◌, ◌≢◌, ℕ, zero, suc, ◌+◌, ◌^◌, ◌<◌, ◌≤◌, Bool, true, false, cond, List, [], ◌∷◌, map, length, refl, sym, ◌∙◌, ap, subst, arith, inl, inr, Option, Some, None}
+use Rattle.std.specs.Prelude.{◌&&◌, ◌==◌}
+use Rattle.std.specs.List.{Contains}
+use Rattle.circuit_theory.specs.Run.{NoneEnabled}
 use Rattle.circuit_theory.specs.Depth.{ChainFrom, IsDepth}
-use Rattle.circuit_theory.specs.Tree.{Tree, tree_value, Unfolds, IsInputNumber, HaveEqualFunctions}
+use Rattle.circuit_theory.specs.Tree.{Tree, tree_value, Unfolds, HaveEqualFunctions}
 use Rattle.circuit_theory.specs.Query.{Variable, HasLeaf, Distinguishes, pair_query, bits_of, same_shift, assigned, IsLeast}
-use Rattle.circuit_theory.specs.Fits.{IsPairDepth, IsWitness}
-use Rattle.circuit_theory.specs.Interface.{Ports, shared_inputs, AreOrders}
-use Rattle.circuit_theory.specs.Agree.{place_named}
-use Rattle.circuit_theory.proofs.Lists.{Contains-map, Contains-map_from, at_of, of_at}
-use Rattle.circuit_theory.proofs.Inputs.{test_refl}
+use Rattle.circuit_theory.specs.Fits.{IsWitness}
+use Rattle.circuit_theory.specs.Interface.{shared_inputs, AreOrders}
 use Rattle.circuit_theory.proofs.LawProofs.{gates_have_trees, length-map}
-use Rattle.circuit_theory.proofs.Numbers.{slice_get-map}
 use Rattle.circuit_theory.proofs.TreeDepth.{chain_latch}
 use Rattle.flat_net.specs.declared.parts.Port.{Port}
 use Rattle.flat_net.specs.View.{NetView, named, circuit_of}
 use Rattle.flat_net.specs.Sound.{IsSound}
 use Rattle.flat_net.proofs.Nets.{sound_is_net}
-use Rattle.sec_base.specs.declared.basics.PairAnswer.{PairAnswer}
-use Rattle.sec_base.specs.declared.basics.PairAnswer.TheVariants as answer
 use Rattle.sec_check.specs.declared.sweeping.Difference.{Difference}
-use Rattle.sec_check.specs.declared.sweeping.PairState.{PairState}
 use Rattle.sec_check.specs.Compared.{ports_of}
-use Rattle.sec_check.specs.Outcome.{HaveDifferentFunctions, AnswerFits, PairFits, PairsFit}
-use Rattle.sec_check.specs.Sweep.{bit_at, Comparison, comparison, AreValues, HaveValues, AreEqualBelow, IsLeastBelow, IsTried, answer_of, results_of}
+use Rattle.sec_check.specs.Outcome.{HaveDifferentFunctions, AnswerFits}
+use Rattle.sec_check.specs.Sweep.{bit_at, Comparison, HaveValues, AreEqualBelow, IsLeastBelow, answer_of}
 use Rattle.sec_check.proofs.Bits.{number_of, bits_of-number_of, number_of-below, bits_of-length}
 use Rattle.sec_check.proofs.LeastLeaves.{all_inputs_from, all_inputs, witness_of_least}
-use Rattle.sec_check.proofs.Leaves.{by_leaves, no_latch, values_meet, InputAt, input_at, values_at_inputs, leaf_is_shared, shared_name}
-use Rattle.sec_check.proofs.Noted.{place_named-within}
-use Rattle.sec_check.proofs.Shared.{are_matched, some_is}
+use Rattle.sec_check.proofs.Leaves.{by_leaves, no_latch, values_meet, values_at_inputs, leaf_is_shared}
 
 -- the bits of an assignment's inputs, from one on
 abbrev pub bits_from : (ℕ → Bool) → ℕ → ℕ → List Bool

@@ -1,13 +1,13 @@
 -- The least number over all shared inputs gives the least over the leaves of two trees alone.
-use Rattle.std.proofs.Common.{◌≡◌, ◌≢◌, ℕ, zero, suc, ◌+◌, ◌*◌, ◌^◌, ◌<◌, ◌≤◌, max, Bool, true, false, cond, List, [], ◌∷◌, map, length, get_or, refl, sym, ◌∙◌, ap, subst, arith, inl, inr, ◌⊎◌}
-use Rattle.std.specs.Prelude.{◌&&◌, ◌||◌, ◌==◌, ◌↔◌}
-use Rattle.std.specs.List.{All, AllPairs, Contains}
+use Rattle.std.proofs.Common.{◌≡◌, ℕ, zero, suc, ◌+◌, ◌*◌, ◌^◌, ◌<◌, ◌≤◌, max, Bool, true, false, cond, List, [], ◌∷◌, length, refl, sym, ◌∙◌, ap, subst, arith, inl, inr, ◌⊎◌}
+use Rattle.std.specs.Prelude.{◌&&◌, ◌||◌, ◌==◌}
+use Rattle.std.specs.List.{AllPairs, Contains}
 use Rattle.std.proofs.lemmas.List.Kept.{AllPairs-cons}
-use Rattle.circuit_theory.specs.Cover.{Cover, cover_value}
+use Rattle.circuit_theory.specs.Cover.{cover_value}
 use Rattle.circuit_theory.specs.Circuit.{Circuit}
 use Rattle.circuit_theory.specs.Tree.{Tree, Trees, Leaf, Fixed, Branch, Nil, Cons, Unfolds, UnfoldsAll, tree_value, tree_values}
-use Rattle.circuit_theory.specs.Query.{Variable, HasLeaf, HasLeafIn, AreVariables, ShiftBefore, same_shift, assigned, bits_of, pair_query, Distinguishes, IsLeast}
-use Rattle.circuit_theory.specs.Sequence.{sequence_row, sequence_rows}
+use Rattle.circuit_theory.specs.Query.{Variable, HasLeaf, HasLeafIn, ShiftBefore, same_shift, assigned, bits_of, pair_query, Distinguishes, IsLeast}
+use Rattle.circuit_theory.specs.Sequence.{sequence_row}
 use Rattle.circuit_theory.specs.Fits.{IsWitness}
 use Rattle.circuit_theory.proofs.Inputs.{test_same, test_refl}
 use Rattle.circuit_theory.proofs.Lists.{Contains-head, Contains-tail, Contains-cases, All-from_each}
@@ -208,11 +208,11 @@ module _ (test : ℕ → Bool) where
           number_of (spread first (suc (length bits)) (picked first (bit ∷ bits))) ≤ number_of (bit ∷ bits)
       go true e ih =
           let own : number_of (spread first (suc (length bits)) (picked first (bit ∷ bits))) ≡ cond bit 1 0 + 2 * number_of (spread (suc first) (length bits) (picked (suc first) bits)) =
-              ap (λ (ps : List Bool). number_of (spread first (suc (length bits)) ps)) (picked_is first bit bits true e) ∙ ap number_of (spread_is first (length bits) (bit ∷ picked (suc first) bits) true e) in
+          ap (λ (ps : List Bool). number_of (spread first (suc (length bits)) ps)) (picked_is first bit bits true e) ∙ ap number_of (spread_is first (length bits) (bit ∷ picked (suc first) bits) true e) in
           omega (arith, own, ih)
       go false e ih =
           let own : number_of (spread first (suc (length bits)) (picked first (bit ∷ bits))) ≡ 0 + 2 * number_of (spread (suc first) (length bits) (picked (suc first) bits)) =
-              ap (λ (ps : List Bool). number_of (spread first (suc (length bits)) ps)) (picked_is first bit bits false e) ∙ ap number_of (spread_is first (length bits) (picked (suc first) bits) false e) in
+          ap (λ (ps : List Bool). number_of (spread first (suc (length bits)) ps)) (picked_is first bit bits false e) ∙ ap number_of (spread_is first (length bits) (picked (suc first) bits) false e) in
           omega (arith, own, ih)
 
   -- a greater number stays greater
@@ -518,7 +518,7 @@ module _ (a b : Circuit ℕ) (left right : List ℕ) (p q n m : ℕ) (l r : Tree
         let top : number_of (spread (pair_test l r) 0 n (picked (pair_test l r) 0 (bits_of m n))) ≡ m = ap number_of S_is ∙ number_of-bits_of m n in_range in
         let below : number_of (spread (pair_test l r) 0 n Q) < m = subst (λ j. number_of (spread (pair_test l r) 0 n Q) < j) top spread_less in
         none_spread (spread (pair_test l r) 0 n Q) (spread_length (pair_test l r) 0 n Q) below
-            (along (part Q) (assigned same_shift (all_inputs n) (spread (pair_test l r) 0 n Q)) (λ i t. part_bit Q Q_length i ∙ sym (full_bit (spread (pair_test l r) 0 n Q) (spread_length (pair_test l r) 0 n Q) i)) d);
+        (along (part Q) (assigned same_shift (all_inputs n) (spread (pair_test l r) 0 n Q)) (λ i t. part_bit Q Q_length i ∙ sym (full_bit (spread (pair_test l r) 0 n Q) (spread_length (pair_test l r) 0 n Q) i)) d);
   }
 
   leaf_of : (x : Variable ℕ) → Contains (chosen (pair_test l r) 0 n) x → (tree : Tree ℕ) × Contains (l ∷ r ∷ []) tree × HasLeaf x tree
@@ -572,5 +572,5 @@ pub witness_of_least : (a b : Circuit ℕ) (left right : List ℕ) (p q n m : �
     ((x : Variable ℕ) → HasLeaf x l → x.input < n) → ((x : Variable ℕ) → HasLeaf x r → x.input < n) →
     IsLeast same_shift (pair_query l r) (all_inputs n) m →
     IsWitness a b left right p q n (bits_of m n ∷ []) 0
-        (tree_value (assigned same_shift (all_inputs n) (bits_of m n)) l) (tree_value (assigned same_shift (all_inputs n) (bits_of m n)) r)
+    (tree_value (assigned same_shift (all_inputs n) (bits_of m n)) l) (tree_value (assigned same_shift (all_inputs n) (bits_of m n)) r)
 witness_of_least a b left right p q n m l r ul ur hl hr least = witness a b left right p q n m l r ul ur hl hr least

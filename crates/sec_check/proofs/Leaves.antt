@@ -1,17 +1,17 @@
 -- Trees of nets without latches: their values, and which inputs their leaves are.
-use Rattle.std.proofs.Common.{◌≡◌, ℕ, zero, suc, ◌+◌, ◌<◌, ◌≤◌, max, Bool, true, false, List, [], ◌∷◌, map, length, get_or, refl, sym, ◌∙◌, ap, subst, arith, inl, inr, ◌⊎◌, Some, slice_get}
+use Rattle.std.proofs.Common.{◌≡◌, ℕ, suc, ◌<◌, max, Bool, true, false, List, [], ◌∷◌, map, length, refl, sym, ◌∙◌, ap, subst, arith, inl, inr, ◌⊎◌, Some, slice_get}
 use Rattle.std.specs.Prelude.{not, ◌&&◌, ◌==◌}
-use Rattle.std.specs.List.{All, Contains, filter, flat_map, list_any}
+use Rattle.std.specs.List.{Contains, filter, flat_map, list_any}
 use Rattle.std.proofs.lemmas.List.Elements.{All-contains, Contains-append_left, Contains-append_right}
-use Rattle.std.proofs.lemmas.Option.{slice_get_within, get_or_from_slice_get, none-some}
-use Rattle.circuit_theory.specs.Cover.{Cover, cover_value}
+use Rattle.std.proofs.lemmas.Option.{slice_get_within, get_or_from_slice_get}
+use Rattle.circuit_theory.specs.Cover.{cover_value}
 use Rattle.circuit_theory.specs.Names.{is_among}
-use Rattle.circuit_theory.specs.Circuit.{Circuit, Equation, Gate as gate_equation, Latch as latch_equation, Port as port_equation, Named, IsInput, IsLatch, Holds, Meets, Reads}
+use Rattle.circuit_theory.specs.Circuit.{Circuit, Equation, Gate as gate_equation, Latch as latch_equation, Port as port_equation, Named, IsLatch, Holds, Meets, Reads}
 use Rattle.circuit_theory.specs.Interface.{Ports, is_clock, inputs_beside, AreNumbersOf}
-use Rattle.circuit_theory.specs.Tree.{Tree, Trees, Cons, tree_value, tree_values, Unfolds, UnfoldsAll, IsInputNumber}
+use Rattle.circuit_theory.specs.Tree.{Tree, Trees, tree_value, tree_values, Unfolds, UnfoldsAll, IsInputNumber}
 use Rattle.circuit_theory.specs.Query.{Variable, HasLeaf, HasLeafIn}
 use Rattle.circuit_theory.specs.Sizes.{Visits}
-use Rattle.circuit_theory.proofs.Lists.{Contains-head, Contains-tail, Contains-cases, Contains-map, Contains-map_from, All-from_each, map-map, at_of, of_at}
+use Rattle.circuit_theory.proofs.Lists.{Contains-cases, Contains-map, All-from_each, map-map, at_of, of_at}
 use Rattle.circuit_theory.proofs.LeafVisits.{leaf_visits}
 use Rattle.circuit_theory.proofs.Numbers.{beside_at, slice_get-map, is_among-sound, is_among-complete}
 use Rattle.flat_net.specs.declared.signals.Signal.{Signal}

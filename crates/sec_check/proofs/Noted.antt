@@ -1,14 +1,12 @@
 -- Going over a list and writing a function's value at each place; what is known of pairs after one number more.
-use Rattle.std.proofs.Common.{◌≡◌, ◌≢◌, ℕ, zero, suc, ◌+◌, ◌<◌, Bool, true, false, cond, List, [], ◌∷◌, ◌++◌, map, length, get_or, set, take, drop, slice_get, Option, Some, None, refl, sym, ◌∙◌, ap, subst, arith, add-one, inl, inr, ◌⊎◌}
-use Rattle.std.specs.List.{All, AllZip, Contains}
+use Rattle.std.proofs.Common.{◌≡◌, ℕ, zero, suc, ◌+◌, ◌<◌, Bool, true, false, cond, List, [], ◌∷◌, ◌++◌, map, length, get_or, set, take, drop, Option, Some, None, refl, sym, ◌∙◌, ap, subst, arith, add-one, inl, inr, ◌⊎◌}
+use Rattle.std.specs.List.{All, AllZip}
 use Rattle.std.proofs.lemmas.List.Elements.{All-cons, All-nil, All-head, All-tail}
-use Rattle.std.proofs.lemmas.Option.{slice_get_within}
 use Rattle.circuit_theory.specs.Names.{same_name}
 use Rattle.circuit_theory.specs.Query.{bits_of}
 use Rattle.circuit_theory.specs.Agree.{place_named}
 use Rattle.flat_net.specs.declared.parts.Port.{Port}
-use Rattle.flat_net.specs.View.{NetView, named}
-use Rattle.flat_net.specs.Sound.{IsSound}
+use Rattle.flat_net.specs.View.{named}
 use Rattle.sec_check.specs.declared.sweeping.Difference.{Difference}
 use Rattle.sec_check.specs.declared.sweeping.PairState.{PairState}
 use Rattle.sec_check.specs.Sweep.{bit_at, Comparison, AreValues, HaveValues, AreEqualBelow, IsLeastBelow, IsTried, found_with, noted}

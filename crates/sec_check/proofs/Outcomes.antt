@@ -1,18 +1,16 @@
 -- The whole outcome: the results of all pairs fit, the verdict is the first difference, and what both mean for the circuits.
-use Rattle.std.proofs.Common.{◌≡◌, ◌≢◌, ℕ, zero, suc, ◌+◌, ◌-◌, ◌^◌, ◌<◌, ◌≤◌, Bool, true, false, cond, max, List, [], ◌∷◌, map, length, get_or, ◌++◌, refl, sym, ◌∙◌, ap, subst, arith, inl, inr, ◌⊎◌, Option, Some, None, slice_get}
+use Rattle.std.proofs.Common.{◌≡◌, ◌≢◌, ℕ, zero, suc, ◌^◌, ◌<◌, ◌≤◌, Bool, true, false, cond, List, [], ◌∷◌, map, length, get_or, ◌++◌, refl, sym, ◌∙◌, ap, subst, arith, inl, inr, ◌⊎◌, Option, Some, None, slice_get}
 use Rattle.std.specs.List.{All, AllZip, Contains}
-use Rattle.std.specs.Prelude.{fold}
 use Rattle.std.proofs.lemmas.List.Elements.{All-contains, All-cons, All-nil}
 use Rattle.std.proofs.lemmas.Option.{slice_get_within, slice_get-get_or, none-some}
 use Rattle.circuit_theory.specs.declared.Mode.TheVariants.{Plain}
 use Rattle.circuit_theory.specs.Names.{same_name}
-use Rattle.circuit_theory.specs.Circuit.{Circuit, Named, IsLatch}
-use Rattle.circuit_theory.specs.Run.{IsRun}
+use Rattle.circuit_theory.specs.Circuit.{Named}
 use Rattle.circuit_theory.specs.Flattened.{latch_names}
 use Rattle.circuit_theory.specs.Tree.{Tree, Unfolds, IsInputNumber, HaveEqualFunctions, AreNumbered}
-use Rattle.circuit_theory.specs.Query.{Variable, HasLeaf, bits_of}
-use Rattle.circuit_theory.specs.Fits.{IsPairDepth, IsWitness}
-use Rattle.circuit_theory.specs.Interface.{Ports, first_mismatch, shared_inputs, AreNumbersOf}
+use Rattle.circuit_theory.specs.Query.{bits_of}
+use Rattle.circuit_theory.specs.Fits.{IsWitness}
+use Rattle.circuit_theory.specs.Interface.{first_mismatch, shared_inputs, AreNumbersOf}
 use Rattle.circuit_theory.specs.Agree.{place_named, IsPair, Agree}
 use Rattle.circuit_theory.proofs.Lists.{Contains-head, Contains-tail, Contains-map, Contains-map_from, map-map, zip_length, at_of, of_at}
 use Rattle.circuit_theory.proofs.Inputs.{same_name-sound}
@@ -22,10 +20,8 @@ use Rattle.flat_net.specs.declared.parts.Port.{Port}
 use Rattle.flat_net.specs.declared.parts.Gate.{Gate}
 use Rattle.flat_net.specs.declared.parts.LatchAt.{LatchAt}
 use Rattle.flat_net.specs.View.{NetView, named, circuit_of, equation_of_gate, equation_of_latch}
-use Rattle.flat_net.specs.Sound.{IsSound}
 use Rattle.flat_net.proofs.Nets.{sound_is_net}
 use Rattle.sec_base.specs.Table.{AreDistinct}
-use Rattle.sec_base.specs.declared.basics.PairAnswer.{PairAnswer}
 use Rattle.sec_base.specs.declared.basics.PairAnswer.TheVariants as answer
 use Rattle.sec_check.specs.declared.outcome.PairResult.{PairResult}
 use Rattle.sec_check.specs.declared.outcome.Verdict.{Verdict}
@@ -35,16 +31,16 @@ use Rattle.sec_check.specs.declared.outcome.Outcome.{Outcome}
 use Rattle.sec_check.specs.declared.sweeping.Difference.{Difference}
 use Rattle.sec_check.specs.declared.sweeping.PairState.{PairState}
 use Rattle.sec_check.specs.Compared.{ports_of, IsCompared}
-use Rattle.sec_check.specs.Outcome.{AnswerFits, PairFits, PairsFit, IsFirstDifferent, VerdictFits, OutcomeFits, greatest_size}
+use Rattle.sec_check.specs.Outcome.{AnswerFits, PairFits, PairsFit, IsFirstDifferent, VerdictFits, greatest_size}
 use Rattle.sec_check.specs.Shown.{Obeys, MakesDiffer}
-use Rattle.sec_check.specs.Sweep.{bit_at, Comparison, HaveValues, IsLeastBelow, IsTried, IsUntried, answer_of, results_of, verdict_of, verdict_at, witness_of}
+use Rattle.sec_check.specs.Sweep.{bit_at, Comparison, IsLeastBelow, IsTried, IsUntried, answer_of, results_of, verdict_of, verdict_at, witness_of}
 use Rattle.sec_check.proofs.Bits.{bits_of-length}
 use Rattle.sec_check.proofs.Decided.{AreGateNets, tree_of, depth_zero, answer_fits, difference_witness, left_leaf, right_leaf, equal_functions, left_is_value, right_is_value}
 use Rattle.sec_check.proofs.Leaves.{by_leaves, input_at, shared_name}
 use Rattle.sec_check.proofs.Noted.{no_state}
 use Rattle.sec_check.proofs.Paired.{names_of, place_named-at}
 use Rattle.sec_check.proofs.Results.{result_of}
-use Rattle.sec_check.proofs.Shared.{are_matched, some_is}
+use Rattle.sec_check.proofs.Shared.{some_is}
 
 -- the place of a name is an output's
 place_named-output : (outputs : List Port) (name : List ℕ) (q : ℕ) → place_named (map named outputs) name ≡ Some q → (o : Port) × Contains outputs o × (o.name ≡ name) × (o.signal.0 ≡ q)

@@ -1,10 +1,9 @@
 -- The results and the verdict, one pair after the other.
-use Rattle.std.proofs.Common.{◌≡◌, ℕ, zero, suc, ◌+◌, ◌<◌, List, [], ◌∷◌, ◌++◌, length, take, drop, get_or, refl, sym, ◌∙◌, ap, arith, add-one, Option, Some, None, slice_get}
+use Rattle.std.proofs.Common.{◌≡◌, ℕ, zero, suc, ◌+◌, ◌<◌, List, [], ◌∷◌, ◌++◌, length, take, drop, get_or, sym, ◌∙◌, ap, arith, add-one, Option, Some, slice_get}
 use Rattle.std.proofs.lemmas.Option.{slice_get_within, slice_get-get_or}
 use Rattle.flat_net.specs.declared.parts.Port.{Port}
 use Rattle.sec_check.specs.declared.outcome.PairName.TheVariants as pair
 use Rattle.sec_check.specs.declared.outcome.PairResult.{PairResult}
-use Rattle.sec_check.specs.declared.outcome.Verdict.{Verdict}
 use Rattle.sec_check.specs.declared.sweeping.Difference.{Difference}
 use Rattle.sec_check.specs.declared.sweeping.PairState.{PairState}
 use Rattle.sec_check.specs.Sweep.{answer_of, results_of, verdict_at, verdict_of}

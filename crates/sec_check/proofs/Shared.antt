@@ -1,7 +1,7 @@
 -- The shared inputs, by the numbers of both circuits' inputs.
-use Rattle.std.proofs.Common.{◌≡◌, ℕ, suc, ◌+◌, ◌<◌, ◌≤◌, Bool, true, false, cond, List, [], ◌∷◌, ◌++◌, length, take, refl, sym, ◌∙◌, ap, subst, arith, inl, inr, ◌⊎◌, Option, Some, None, slice_get}
+use Rattle.std.proofs.Common.{◌≡◌, ℕ, suc, ◌+◌, ◌≤◌, Bool, true, false, cond, List, [], ◌∷◌, ◌++◌, length, take, refl, sym, ◌∙◌, ap, subst, arith, inl, inr, ◌⊎◌, Option, Some, None, slice_get}
 use Rattle.std.specs.Prelude.{not, ◌&&◌, ◌||◌, ◌==◌}
-use Rattle.std.specs.List.{Contains, filter, find, list_any}
+use Rattle.std.specs.List.{Contains, filter, list_any}
 use Rattle.std.proofs.lemmas.List.Elements.{All-contains, filter_passes, filter_more}
 use Rattle.std.proofs.lemmas.Option.{slice_get_within, get_or_from_slice_get}
 use Rattle.circuit_theory.specs.Names.{is_among}

@@ -1,5 +1,5 @@
 -- Trying all assignments of the shared inputs of two nets without latches.
-use Rattle.std.specs.Prelude.{◌≡◌, ◌≢◌, ℕ, ◌<◌, Bool, true, false, not, List, [], ◌∷◌, map, length, slice_get, slice_index_or, Option, Some, None, if◌then◌else◌}
+use Rattle.std.specs.Prelude.{◌≡◌, ◌≢◌, ℕ, ◌<◌, Bool, true, false, List, [], ◌∷◌, map, length, slice_get, slice_index_or, Option, Some, None}
 use Rattle.circuit_theory.specs.Cover.{cover_value}
 use Rattle.circuit_theory.specs.Agree.{place_named}
 use Rattle.circuit_theory.specs.Query.{bits_of}
@@ -10,7 +10,6 @@ use Rattle.sec_base.specs.declared.basics.PairAnswer.{PairAnswer}
 use Rattle.sec_base.specs.declared.basics.PairAnswer.TheVariants as answer
 use Rattle.sec_check.specs.declared.outcome.PairName.TheVariants as pair
 use Rattle.sec_check.specs.declared.outcome.PairResult.{PairResult}
-use Rattle.sec_check.specs.declared.outcome.Stimulus.{Stimulus}
 use Rattle.sec_check.specs.declared.outcome.Verdict.{Verdict}
 use Rattle.sec_check.specs.declared.outcome.Verdict.TheVariants as verdict
 use Rattle.sec_check.specs.declared.outcome.Witness.{Witness}

@@ -1,5 +1,5 @@
 -- A refusal stands at its place in the order, and the count of shared inputs is at most that of A's inputs.
-use Rattle.std.proofs.Common.{◌≡◌, ◌≤◌, ℕ, length, ap, arith}
+use Rattle.std.proofs.Common.{◌≡◌, length, ap, arith}
 use Rattle.std.specs.List.{filter}
 use Rattle.circuit_theory.proofs.LawProofs.{length-map}
 use Rattle.flat_net.specs.declared.parts.Port.{Port}

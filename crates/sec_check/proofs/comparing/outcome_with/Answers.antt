@@ -1,10 +1,9 @@
 -- All assignments are tried, and the outcome is what was found.
-use Rattle.std.proofs.Common.{◌≡◌, ◌≤◌, ◌∙◌, List, [], ℕ, length, refl, sym, ap, subst, arith}
-use Rattle.std.specs.List.{AllZip}
+use Rattle.std.proofs.Common.{◌≤◌, ◌∙◌, List, ℕ, length, refl, sym, ap, subst}
 use Rattle.circuit_theory.proofs.Lists.{zip_length}
 use Rattle.flat_net.specs.declared.parts.Port.{Port}
 use Rattle.sec_check.specs.Compared.{ports_of}
-use Rattle.sec_check.specs.Sweep.{comparison, IsTried, results_of, verdict_of}
+use Rattle.sec_check.specs.Sweep.{comparison, results_of, verdict_of}
 use Rattle.sec_check.proofs.Decided.{AreGateNets}
 use Rattle.sec_check.proofs.Outcomes.{untried_is_tried, is_compared}
 use Rattle.sec_check.proofs.Shared.{are_matched}

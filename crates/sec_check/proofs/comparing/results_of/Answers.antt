@@ -1,5 +1,5 @@
 -- One result more.
-use Rattle.std.proofs.Common.{◌≡◌, ◌<◌, ◌∙◌, List, [], ◌∷◌, ◌++◌, length, take, get_or, refl, sym, ap, arith, subst}
+use Rattle.std.proofs.Common.{◌<◌, ◌∙◌, List, [], ◌∷◌, ◌++◌, take, get_or, refl, sym, ap, subst}
 use Rattle.sec_check.specs.declared.outcome.PairResult.{PairResult}
 use Rattle.sec_check.specs.Sweep.{results_of}
 use Rattle.sec_check.proofs.Evaluated.{item_at}

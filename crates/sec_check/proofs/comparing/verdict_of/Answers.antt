@@ -1,5 +1,5 @@
 -- The verdict is at the first difference, and so is the loop.
-use Rattle.std.proofs.Common.{◌≡◌, ◌<◌, ◌∙◌, length, get_or, refl, sym, ap, subst, Some, None}
+use Rattle.std.proofs.Common.{◌<◌, ◌∙◌, get_or, refl, sym, ap, subst, Some, None}
 use Rattle.sec_check.specs.declared.outcome.Verdict.TheVariants as verdict
 use Rattle.sec_check.specs.declared.outcome.Witness.{Witness}
 use Rattle.sec_check.proofs.Evaluated.{item_at}

@@ -1,5 +1,5 @@
 -- One bit is put, and the rest of the number gives the bits above it.
-use Rattle.std.proofs.Common.{◌≡◌, ℕ, suc, ◌+◌, ◌-◌, ◌/◌, ◌%◌, Bool, List, ◌++◌, ◌∷◌, [], ◌∙◌, sym, ap, arith, append_assoc}
+use Rattle.std.proofs.Common.{◌≡◌, ℕ, suc, ◌+◌, ◌-◌, ◌/◌, ◌%◌, ◌++◌, ◌∷◌, ◌∙◌, sym, ap, arith, append_assoc}
 use Rattle.std.specs.Prelude.{◌==◌}
 use Rattle.circuit_theory.specs.Query.{bits_of}
 use Rattle.sec_check.proofs.evaluating.bits_of.Goals as goal

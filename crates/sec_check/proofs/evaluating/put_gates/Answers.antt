@@ -1,5 +1,5 @@
 -- The gate that the loop is at is written to its own signal.
-use Rattle.std.proofs.Common.{◌≡◌, ◌+◌, ◌<◌, ◌∙◌, length, map, set, slice_get, Some, sym, subst, arith}
+use Rattle.std.proofs.Common.{◌≡◌, ◌+◌, ◌∙◌, length, map, set, sym, subst, arith}
 use Rattle.std.specs.Prelude.{IfSome}
 use Rattle.circuit_theory.specs.Cover.{cover_value}
 use Rattle.flat_net.specs.declared.parts.Gate.{Gate}

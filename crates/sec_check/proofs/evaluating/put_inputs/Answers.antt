@@ -1,5 +1,5 @@
 -- The input that the loop is at is written to its own signal.
-use Rattle.std.proofs.Common.{◌≡◌, ◌+◌, ◌<◌, length, set, slice_get, Some, sym, subst, arith}
+use Rattle.std.proofs.Common.{◌≡◌, ◌+◌, length, set, sym, subst, arith}
 use Rattle.sec_check.specs.Sweep.{HaveInputs}
 use Rattle.sec_check.proofs.Evaluated.{item_at, input_within, inputs_more}
 use Rattle.sec_check.proofs.evaluating.put_inputs.Goals as goal

@@ -1,5 +1,5 @@
 -- Each name is new, and the table has room for it.
-use Rattle.std.proofs.Common.{◌≡◌, ◌+◌, ◌<◌, ◌≤◌, length, ap, arith, refl}
+use Rattle.std.proofs.Common.{◌≡◌, length, ap, arith, refl}
 use Rattle.sec_check.proofs.Evaluated.{item_at}
 use Rattle.sec_check.proofs.Paired.{names_of, names_short, names_next}
 use Rattle.sec_check.proofs.pairing.output_names.Goals as goal

@@ -1,7 +1,7 @@
 -- The table has each name of A's outputs, at the place of B's output of that name.
-use Rattle.std.proofs.Common.{◌≡◌, ◌+◌, ◌<◌, ◌∙◌, List, [], ◌∷◌, ◌++◌, ℕ, length, take, get_or, slice_get, Some, None, refl, sym, ap, subst, arith}
+use Rattle.std.proofs.Common.{◌≡◌, ◌<◌, ◌∙◌, List, [], ◌∷◌, ◌++◌, ℕ, length, take, get_or, slice_get, Some, None, refl, sym, ap, subst}
 use Rattle.std.specs.List.{AllZip, Contains}
-use Rattle.std.proofs.lemmas.Option.{slice_get-get_or, slice_get_within}
+use Rattle.std.proofs.lemmas.Option.{slice_get-get_or}
 use Rattle.circuit_theory.proofs.Lists.{Contains-map, of_at, zip_push}
 use Rattle.flat_net.specs.declared.parts.Port.{Port}
 use Rattle.sec_check.specs.declared.sweeping.PairState.{PairState}

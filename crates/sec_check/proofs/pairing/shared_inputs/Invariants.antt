@@ -1,8 +1,5 @@
-use Rattle.std.proofs.Common.{◌≡◌, take, map}
-use Rattle.std.specs.Prelude.{not, ◌&&◌}
+use Rattle.std.proofs.Common.{◌≡◌, take}
 use Rattle.std.specs.List.{filter}
-use Rattle.circuit_theory.specs.Names.{is_among}
-use Rattle.circuit_theory.specs.Interface.{is_clock}
 use Rattle.sec_check.specs.Compared.{ports_of}
 use Rattle.sec_check.proofs.Shared.{is_kept}
 use Rattle.sec_check.proofs.pairing.shared_inputs.Given as goal

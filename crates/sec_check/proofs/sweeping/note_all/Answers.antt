@@ -1,5 +1,5 @@
 -- The state that the loop is at is the one that stood there before, and its own noted value is written.
-use Rattle.std.proofs.Common.{◌≡◌, ◌<◌, length, get_or, sym, ap, subst}
+use Rattle.std.proofs.Common.{◌<◌, length, get_or, sym, ap, subst}
 use Rattle.sec_check.specs.declared.sweeping.PairState.{PairState}
 use Rattle.sec_check.specs.Sweep.{noted}
 use Rattle.sec_check.proofs.Noted.{no_state, mapped_here, mapped_next}

@@ -1,9 +1,9 @@
 -- One number is tried: each pair has the values of both nets under its bits.
-use Rattle.std.proofs.Common.{◌≡◌, ◌+◌, ◌<◌, ◌∙◌, length, get_or, map, sym, ap, subst, arith, List, ℕ, Bool}
-use Rattle.std.specs.List.{All, AllZip}
+use Rattle.std.proofs.Common.{◌≡◌, ◌+◌, ◌<◌, ◌∙◌, length, get_or, sym, subst, List, ℕ, Bool}
+use Rattle.std.specs.List.{AllZip}
 use Rattle.circuit_theory.specs.Query.{bits_of}
 use Rattle.sec_check.specs.declared.sweeping.PairState.{PairState}
-use Rattle.sec_check.specs.Sweep.{comparison, AreValues, IsTried, noted}
+use Rattle.sec_check.specs.Sweep.{comparison, AreValues, IsTried}
 use Rattle.sec_check.proofs.Noted.{tried_within, tried_more}
 use Rattle.sec_check.proofs.sweeping.try_each.Goals as goal
 
