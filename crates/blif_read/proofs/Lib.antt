@@ -1,4 +1,5 @@
 pub mod Behind
+pub mod Each
 pub mod Gate
 pub mod Pairs
 pub mod Tokens
@@ -9,3 +10,4 @@ pub mod Goes
 pub mod Steps
 pub mod Bytes
 pub mod Loop
+pub mod Plain

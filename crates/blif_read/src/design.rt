@@ -1,5 +1,9 @@
 //! Designs: models with their ports and statements, as a BLIF text gives them.
 
+ghost use Rattle.std.specs.Prelude.{◌≡◌, ◌<◌, true, length};
+ghost use Rattle.std.specs.List.{list_all};
+ghost use Rattle.blif_read.specs.Kept.{is_plain, covers_fit, written_names};
+
 use sec_base::{Cover, Edge, Init, Seq, Word, Words};
 
 /// A pair of a `.subckt` statement: a signal name of the model that is used, and the signal of the model around it.
@@ -60,4 +64,10 @@ pub type BlifModels = Seq<BlifModel>;
 #[derive(Debug, Drop)]
 pub struct Design {
     pub models: BlifModels,
+    /// There is a main model.
+    ghost some: { 0 < length models },
+    /// No name holds `#`, so that names with it can be made.
+    ghost plain: { list_all is_plain (written_names models) ≡ true },
+    /// Each cover has a column for each fan-in.
+    ghost fit: { list_all covers_fit models ≡ true },
 }

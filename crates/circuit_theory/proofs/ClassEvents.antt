@@ -28,6 +28,7 @@ module _ {P : Type 0} (side : EventSide P) (same : (p q : P) → (p ≡ q) ⊎ (
 
   -- an enabled latch of the class, of a rank below R, loads, and the others of its cone are marked
   pub record Qualifies (R k t : ℕ) : Type 0 where
+    pub in_run : t < n
     pub name : List ℕ
     pub u : P
     pub next : P
@@ -269,7 +270,7 @@ module _ {P : Type 0} (side : EventSide P) (same : (p q : P) → (p ≡ q) ⊎ (
             let last : IsLastLoad side.circuit run v next t (t - 1) = record { earlier = omega (arith, held.1.1); loads = loads; not_since = λ m a b q. absurd (omega arith) } in
             subst (λ (k : ℕ). IsLastLoad side.circuit run v next t (event (suc R) k t)) (sym e) last
         go (inr held) (suc k) e =
-            let own : Qualifies (suc R) (suc k) held.1.0 = record { name = name; u = v; next = next; latch = latch; enabled = en; class_is = e; low_rank = low; others = held.1.3; loads = held.1.2 } in
+            let own : Qualifies (suc R) (suc k) held.1.0 = record { in_run = omega (arith, held.1.1); name = name; u = v; next = next; latch = latch; enabled = en; class_is = e; low_rank = low; others = held.1.3; loads = held.1.2 } in
             let last = event-last (suc R) k t held.1.0 held.1.1 own in
             let cycle = event (suc R) (suc k) t in
             let q = last.qualifies in
@@ -282,7 +283,7 @@ module _ {P : Type 0} (side : EventSide P) (same : (p q : P) → (p ≡ q) ⊎ (
             let found : IsLastLoad side.circuit run v next t cycle = record {
               earlier = last.earlier;
               loads = mine.then_loads (sym agree ∙ theirs.if_loads q.loads);
-              not_since = λ m a b l. last.none_since m a b (record { name = name; u = v; next = next; latch = latch; enabled = en; class_is = e; low_rank = low; others = stay held.1.0 m held.1.3 (omega arith); loads = l });
+              not_since = λ m a b l. last.none_since m a b (record { in_run = omega arith; name = name; u = v; next = next; latch = latch; enabled = en; class_is = e; low_rank = low; others = stay held.1.0 m held.1.3 (omega arith); loads = l });
             } in
             subst (λ (c : ℕ). IsLastLoad side.circuit run v next t (event (suc R) c t)) (sym e) found
 

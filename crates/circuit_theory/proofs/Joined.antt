@@ -13,22 +13,22 @@ abbrev pub both : {P Q : Type 0} → (P → Bool) → (Q → Bool) → Either P 
 both l r (Left p) = l p
 both l r (Right q) = r q
 
-holds_left : {P Q : Type 0} (l : P → Bool) (r : Q → Bool) (e : Equation P) → Holds l e → Holds (both l r) (moved Left e)
+pub holds_left : {P Q : Type 0} (l : P → Bool) (r : Q → Bool) (e : Equation P) → Holds l e → Holds (both l r) (moved Left e)
 holds_left l r (Gate out fanins cover) h = h ∙ ap (cover_value cover) (sym (map-map (both l r) Left fanins))
 holds_left l r (Latch name out next) h = tt
 holds_left l r (Port out from) h = h
 
-holds_right : {P Q : Type 0} (l : P → Bool) (r : Q → Bool) (e : Equation Q) → Holds r e → Holds (both l r) (moved Right e)
+pub holds_right : {P Q : Type 0} (l : P → Bool) (r : Q → Bool) (e : Equation Q) → Holds r e → Holds (both l r) (moved Right e)
 holds_right l r (Gate out fanins cover) h = h ∙ ap (cover_value cover) (sym (map-map (both l r) Right fanins))
 holds_right l r (Latch name out next) h = tt
 holds_right l r (Port out from) h = h
 
-carries_left : {P Q : Type 0} (l l' : P → Bool) (r r' : Q → Bool) (e : Equation P) → Carries l l' e → Carries (both l r) (both l' r') (moved Left e)
+pub carries_left : {P Q : Type 0} (l l' : P → Bool) (r r' : Q → Bool) (e : Equation P) → Carries l l' e → Carries (both l r) (both l' r') (moved Left e)
 carries_left l l' r r' (Gate out fanins cover) h = tt
 carries_left l l' r r' (Latch name out next) h = h
 carries_left l l' r r' (Port out from) h = tt
 
-carries_right : {P Q : Type 0} (l l' : P → Bool) (r r' : Q → Bool) (e : Equation Q) → Carries r r' e → Carries (both l r) (both l' r') (moved Right e)
+pub carries_right : {P Q : Type 0} (l l' : P → Bool) (r r' : Q → Bool) (e : Equation Q) → Carries r r' e → Carries (both l r) (both l' r') (moved Right e)
 carries_right l l' r r' (Gate out fanins cover) h = tt
 carries_right l l' r r' (Latch name out next) h = h
 carries_right l l' r r' (Port out from) h = tt

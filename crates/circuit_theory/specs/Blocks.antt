@@ -20,6 +20,7 @@ pub record IsInductive {P : Type 0} (c : Circuit P) (order : List ℕ) (block : 
 abbrev pub Refines : {P : Type 0} → Circuit P → (P → ℕ) → (P → ℕ) → Type 0
 Refines {P} c fine coarse = (name name' : List ℕ) (u next v next' : P) → IsLatch c name u next → IsLatch c name' v next' → fine u ≡ fine v → coarse u ≡ coarse v
 
+-- an inductive partition that each other one refines
 pub record IsCoarsest {P : Type 0} (c : Circuit P) (order : List ℕ) (block : P → ℕ) : Type 0 where
   pub inductive : IsInductive c order block
   pub coarsest : (other : P → ℕ) → IsInductive c order other → Refines c other block

@@ -45,6 +45,7 @@ mutual
     gate : {out : P} {fanins : List P} {cover : Cover} {trees : Trees Source} → Contains c.equations (Gate out fanins cover) → ConeUnfoldsAll c u bit fanins trees → ConeUnfolds c u bit out (Branch cover trees)
     port : {out from : P} {tree : Tree Source} → Contains c.equations (Port out from) → ConeUnfolds c u bit from tree → ConeUnfolds c u bit out tree
 
+  -- the same of each place of a list
   pub data ConeUnfoldsAll {P : Type 0} (c : Circuit P) (u : P) (bit : Bool) : List P → Trees Source → Type 0 where
     none : ConeUnfoldsAll c u bit [] Nil
     more : {p : P} {ps : List P} {tree : Tree Source} {trees : Trees Source} → ConeUnfolds c u bit p tree → ConeUnfoldsAll c u bit ps trees → ConeUnfoldsAll c u bit (p ∷ ps) (Cons tree trees)

@@ -39,6 +39,7 @@ mutual
         EventUnfolds side enabled (Some (u, false)) next (side.class u ∷ node) tree → EventUnfolds side enabled put u node tree
     fixed : {u : P} {bit : Bool} {node : List ℕ} → EventUnfolds side enabled (Some (u, bit)) u node (Fixed bit)
 
+  -- the same of each place of a list
   pub data EventUnfoldsAll {P : Type 0} (side : EventSide P) (enabled : P → Type 0) : Option (P × Bool) → List P → List ℕ → Trees (List ℕ) → Type 0 where
     none : {put : Option (P × Bool)} {node : List ℕ} → EventUnfoldsAll side enabled put [] node Nil
     more : {put : Option (P × Bool)} {p : P} {ps : List P} {node : List ℕ} {tree : Tree (List ℕ)} {trees : Trees (List ℕ)} →

@@ -2,16 +2,17 @@
 use Rattle.std.specs.Prelude.{◌≡◌, ℕ, ◌-◌, ◌<◌, ◌≤◌, ◌↔◌, Bool, List, [], length, map}
 use Rattle.std.specs.List.{Contains}
 use Rattle.circuit_theory.specs.declared.Mode.{Mode}
-use Rattle.circuit_theory.specs.declared.Mode.TheVariants.{Plain}
+use Rattle.circuit_theory.specs.declared.Mode.TheVariants.{Plain, Event}
 use Rattle.circuit_theory.specs.Circuit.{Circuit, IsInput, IsLatch, IsSingleDriven}
-use Rattle.circuit_theory.specs.Run.{IsRun, EqualInputs, Extends, CanPut, NoneEnabled}
+use Rattle.circuit_theory.specs.Run.{IsRun, EqualInputs, Extends, CanPut, IsEnabled, NoneEnabled}
 use Rattle.circuit_theory.specs.Net.{IsNet, HasDistinctNames}
 use Rattle.circuit_theory.specs.Depth.{IsDepth}
 use Rattle.circuit_theory.specs.Tree.{Tree, Unfolds, IsInputNumber, AreNumbered, HaveEqualFunctions, tree_value}
 use Rattle.circuit_theory.specs.Agree.{cut, IsPair, pairs_of, IsSettled, Agree, AgreeOnward, IsMinimalCut}
 use Rattle.circuit_theory.specs.Interface.{AreNumbersOf}
+use Rattle.circuit_theory.specs.Classes.{Either, Left, Right, joined, HasClasses}
 use Rattle.circuit_theory.specs.Sizes.{IsWeight, IsOver, IsConeWeight, IsConeOver}
-use Rattle.circuit_theory.specs.Fits.{IsWitness, MakesDiffer}
+use Rattle.circuit_theory.specs.Fits.{IsWitness, MakesDiffer, HaveEqualEvents, LatchesHaveDepths, side_by_side}
 
 -- Values exist for each choice of inputs and latches and are one, and a latch can be put to either bit.
 abbrev pub ValuesAreOne : Type 0
@@ -88,3 +89,10 @@ PairsAreListed = (a b : Circuit ℕ) (names : List (List ℕ)) → IsSingleDrive
 abbrev pub NumbersAreShared : Type 0
 NumbersAreShared = (a b : Circuit ℕ) (shared : List (List ℕ)) (left right : List ℕ) →
     AreNumbersOf (map (λ i. i.name) a.inputs) shared left right → AreNumbersOf (map (λ i. i.name) b.inputs) shared right left → AreNumbered a b left right
+
+-- Equal event functions mean agreement in the event mode: with the class map of both circuits side by side, where no cycle is left
+-- but self-edges of enabled latches, and the functions of each pair agree in each frame with care for both.
+abbrev pub EventFunctionsAgree : Type 0
+EventFunctionsAgree = (a b : Circuit ℕ) (m n : ℕ) (left right : List ℕ) (class : Either ℕ ℕ → ℕ) → IsNet a m → IsNet b n → AreNumbered a b left right →
+    length left ≡ length a.inputs → length right ≡ length b.inputs → HasClasses (side_by_side a b left right class) → LatchesHaveDepths (joined a b) (IsEnabled (joined a b)) →
+    ((p q : ℕ) → IsPair [] a b p q → HaveEqualEvents (side_by_side a b left right class) (Left p) (Right q)) → Agree Event a b

@@ -6,6 +6,7 @@ pub mod Classes
 pub mod Cone
 pub mod Cover
 pub mod Depth
+pub mod EventQueries
 pub mod Fits
 pub mod Flattened
 pub mod Frame

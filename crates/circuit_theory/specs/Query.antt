@@ -31,8 +31,9 @@ pub record Variable (L : Type 0) : Type 0 where
 mutual
   pub data HasLeaf {L : Type 0} (x : Variable L) : Tree L → Type 0 where
     leaf : HasLeaf x (Leaf x.input x.at)
-    below : {cover : _} {trees : Trees L} → HasLeafIn x trees → HasLeaf x (Branch cover trees)
+    inside : {cover : _} {trees : Trees L} → HasLeafIn x trees → HasLeaf x (Branch cover trees)
 
+  -- the same of one of the trees
   pub data HasLeafIn {L : Type 0} (x : Variable L) : Trees L → Type 0 where
     first : {tree : Tree L} {trees : Trees L} → HasLeaf x tree → HasLeafIn x (Cons tree trees)
     later : {tree : Tree L} {trees : Trees L} → HasLeafIn x trees → HasLeafIn x (Cons tree trees)

@@ -13,6 +13,7 @@ abbrev pub sequence_row : ℕ → (ℕ → ℕ → Bool) → ℕ → ℕ → ℕ
 sequence_row last a cycle input zero = []
 sequence_row last a cycle input (suc count) = sequence_value last a input cycle ∷ sequence_row last a cycle (suc input) count
 
+-- the rows of so many cycles from one on
 abbrev pub sequence_rows_from : ℕ → (ℕ → ℕ → Bool) → ℕ → ℕ → ℕ → List (List Bool)
 sequence_rows_from last a count cycle zero = []
 sequence_rows_from last a count cycle (suc cycles) = sequence_row last a cycle 0 count ∷ sequence_rows_from last a count (suc cycle) cycles

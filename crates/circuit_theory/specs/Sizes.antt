@@ -3,7 +3,7 @@ use Rattle.std.specs.Prelude.{◌≡◌, ◌≢◌, ℕ, suc, ◌+◌, ◌*◌, 
 use Rattle.std.specs.List.{Contains, AllPairs, sum_by}
 use Rattle.circuit_theory.specs.Cover.{Cover}
 use Rattle.circuit_theory.specs.Circuit.{Circuit, Gate, IsInput, IsLatch, Reads, Reaches}
-use Rattle.circuit_theory.specs.Frame.{EventSide}
+use Rattle.circuit_theory.specs.Frame.{EventSide, IsNode}
 
 -- the unfolding of p, k cycles ago, visits q, j cycles ago
 pub data Visits {P : Type 0} (c : Circuit P) (p : P) (k : ℕ) : P → ℕ → Type 0 where
@@ -73,3 +73,32 @@ pub data EventVisits {P : Type 0} (side : EventSide P) (enabled : P → Type 0) 
       EventVisits side enabled starts None next (side.class q ∷ node)
   held : {out : Option P} {q next : P} {node : List ℕ} {name : List ℕ} → EventVisits side enabled starts out q node → IsOther out q → IsLatch side.circuit name q next → enabled q →
       EventVisits side enabled starts (Some q) next (side.class q ∷ node)
+
+-- a place at an event node, and what it counts
+pub record WeighedAtNode (P : Type 0) : Type 0 where
+  pub place : P
+  pub node : List ℕ
+  pub weight : ℕ
+
+-- the event weight of one side: the sum over the distinct places and nodes that its event unfoldings visit
+pub record IsEventWeight {P : Type 0} (side : EventSide P) (enabled : P → Type 0) (starts : List (Start P)) (weight : ℕ) : Type 0 where
+  pub places : List (WeighedAtNode P)
+  pub distinct : AllPairs (λ x y. (x.place ≡ y.place) → (x.node ≡ y.node) → ⊥) places
+  pub weighed : (x : WeighedAtNode P) → Contains places x → WeighsAt side.circuit x.place x.weight
+  pub met : (q : P) (node : List ℕ) → ((w : ℕ) × Contains places (record { place = q; node = node; weight = w })) ↔ ((out : Option P) × EventVisits side enabled starts out q node)
+  pub total : sum_by (λ x. x.weight) places ≡ weight
+
+-- some distinct places and nodes that its event unfoldings visit weigh more than the cap
+pub record IsEventOver {P : Type 0} (side : EventSide P) (enabled : P → Type 0) (starts : List (Start P)) (cap : ℕ) : Type 0 where
+  pub places : List (WeighedAtNode P)
+  pub distinct : AllPairs (λ x y. (x.place ≡ y.place) → (x.node ≡ y.node) → ⊥) places
+  pub weighed : (x : WeighedAtNode P) → Contains places x → WeighsAt side.circuit x.place x.weight
+  pub met : (x : WeighedAtNode P) → Contains places x → (out : Option P) × EventVisits side enabled starts out x.place x.node
+  pub total : cap < sum_by (λ x. x.weight) places
+
+-- the number of distinct event nodes that are reached from these latches, the root among them
+pub record IsNodeCount {P : Type 0} (side : EventSide P) (enabled start : P → Type 0) (count : ℕ) : Type 0 where
+  pub nodes : List (List ℕ)
+  pub distinct : AllPairs (λ m n. m ≢ n) nodes
+  pub exactly : (node : List ℕ) → Contains nodes node ↔ IsNode side enabled start node
+  pub number : length nodes ≡ count

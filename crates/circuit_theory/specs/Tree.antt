@@ -12,6 +12,7 @@ mutual
     Fixed : (bit : Bool) → Tree L
     Branch : (cover : Cover) (subtrees : Trees L) → Tree L
 
+  -- the subtrees in the order of the fan-ins
   pub data Trees (L : Type 0) : Type 0 where
     Nil : Trees L
     Cons : (first : Tree L) (rest : Trees L) → Trees L
@@ -45,6 +46,7 @@ mutual
     port : {out from : P} {k d : ℕ} {tree : Tree ℕ} → Contains c.equations (Port out from) → Unfolds c order from k d tree → Unfolds c order out k d tree
     latch : {name : List ℕ} {out next : P} {k d : ℕ} {tree : Tree ℕ} → IsLatch c name out next → Unfolds c order next (suc k) d tree → Unfolds c order out k (suc d) tree
 
+  -- the same of each fan-in; the depth is the greatest
   pub data UnfoldsAll {P : Type 0} (c : Circuit P) (order : List ℕ) : List P → ℕ → ℕ → Trees ℕ → Type 0 where
     none : {k : ℕ} → UnfoldsAll c order [] k 0 Nil
     more : {p : P} {ps : List P} {k d e : ℕ} {tree : Tree ℕ} {trees : Trees ℕ} → Unfolds c order p k d tree → UnfoldsAll c order ps k e trees → UnfoldsAll c order (p ∷ ps) k (max d e) (Cons tree trees)

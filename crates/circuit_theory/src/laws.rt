@@ -1,7 +1,7 @@
 //! The laws of the definitions. None of these functions does anything: each contract is a law that is proved for every flat net,
 //! by the same definitions that the contracts of the working calls cite.
 
-ghost use Rattle.circuit_theory.specs.Laws.{ValuesAreOne, RunsExist, MarksStay, MarksAreTheSame, SettledFromDepth, TreesAreOne, GatesHaveTrees, TreeIsRun, EqualFunctionsAgree, ExposedFunctionsAgree, WitnessMakesDiffer, WeightIsOne, PairsAreListed, NumbersAreShared};
+ghost use Rattle.circuit_theory.specs.Laws.{ValuesAreOne, RunsExist, MarksStay, MarksAreTheSame, SettledFromDepth, TreesAreOne, GatesHaveTrees, TreeIsRun, EqualFunctionsAgree, ExposedFunctionsAgree, WitnessMakesDiffer, WeightIsOne, PairsAreListed, NumbersAreShared, EventFunctionsAgree};
 
 /// In a flat net the values of inputs and latches determine one value for each signal, and a latch can be put to either bit.
 pub fn values_are_one()
@@ -74,4 +74,10 @@ pub fn pairs_are_listed()
 /// The numbers that the interface gives to inputs are one on both sides only for inputs of one name.
 pub fn numbers_are_shared()
     ensures { NumbersAreShared }
+{}
+
+/// Where the event functions of each pair of outputs agree in each frame with care for both, the two circuits agree in the event mode
+/// on each output wherever it is settled in both.
+pub fn event_functions_agree()
+    ensures { EventFunctionsAgree }
 {}

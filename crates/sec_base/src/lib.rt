@@ -11,10 +11,9 @@ mod mem_sink;
 mod shelves;
 mod sinks;
 mod tables;
-mod texts;
-
 #[cfg(test)]
 mod tests;
+mod texts;
 
 pub use basics::{Edge, Failed, Init, Orders, PairAnswer, Tag};
 pub use circuit_theory::Side;

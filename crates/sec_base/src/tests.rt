@@ -108,8 +108,14 @@ fn fetch_reads_what_is_held(rt: HostRuntime) -> Result<(), Fail> {
     assert_eq!(rt; number_of(fetch(alloc, &mut shelf, "long", 65_537)), 65_537);
     assert_eq!(rt; number_of(fetch(alloc, &mut shelf, "empty", 0)), 0);
     // Read 6 is told to fail.
-    assert_eq!(rt; number_of(fetch(alloc, &mut shelf, "long", 65_537)), 1_000_000);
-    assert_eq!(rt; number_of(fetch(alloc, &mut shelf, "long", 65_536)), 2_000_000);
+    assert_eq!(rt;
+        number_of(fetch(alloc, &mut shelf, "long", 65_537)),
+        1_000_000
+    );
+    assert_eq!(rt;
+        number_of(fetch(alloc, &mut shelf, "long", 65_536)),
+        2_000_000
+    );
     assert_eq!(rt; number_of(fetch(alloc, &mut shelf, "absent", 9)), 1_000_000);
     Ok(())
 }
@@ -143,7 +149,10 @@ fn a_real_file_is_fetched(rt: HostRuntime) -> Result<(), Fail> {
     fs::remove_file(&rt, path)?;
     assert_eq!(rt; held?.as_slice(), b"held for a test\n".as_slice());
     assert_eq!(rt; number_of(longer), 2_000_000);
-    assert_eq!(rt; number_of(fetch(rt.alloc(), &mut shelf, path, 100)), 1_000_000);
+    assert_eq!(rt;
+        number_of(fetch(rt.alloc(), &mut shelf, path, 100)),
+        1_000_000
+    );
     Ok(())
 }
 

@@ -1,4 +1,4 @@
-use Rattle.std.proofs.Common.{sym, ◌∙◌, ap, false}
+use Rattle.std.proofs.Common.{sym, ◌∙◌}
 use Rattle.std.proofs.lemmas.Bool.{false≢true}
 use Rattle.proof_check.proofs.Members.{no_left, no_right, opposite_by_signs, signs_by_opposite, differ_by_test, test_by_differ}
 use Rattle.proof_check.proofs.resolution.hold_opposite.Goals as goal

@@ -1,4 +1,4 @@
-use Rattle.std.proofs.Common.{◌≡◌, List, Some, sym, ◌∙◌, subst}
+use Rattle.std.proofs.Common.{◌≡◌, List, Some, ◌∙◌, subst}
 use Rattle.proof_check.specs.Literals.{Literal}
 use Rattle.proof_check.specs.Clauses.{IsClause}
 use Rattle.proof_check.specs.Resolution.{HoldOpposite}

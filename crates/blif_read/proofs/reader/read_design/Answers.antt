@@ -1,0 +1,20 @@
+use Rattle.std.proofs.Common.{◌≡◌, List, true, ap, sym, ◌∙◌, subst, arith}
+use Rattle.std.specs.List.{list_all}
+use Rattle.blif_read.specs.declared.design.BlifModel.{BlifModel}
+use Rattle.blif_read.specs.Spelled.{models_of}
+use Rattle.blif_read.specs.Reading.{spelled}
+use Rattle.blif_read.specs.Kept.{is_plain, covers_fit, written_names}
+use Rattle.blif_read.proofs.Plain.{spelled_plain, spelled_fit}
+use Rattle.blif_read.proofs.reader.read_design.Goals as goal
+
+pub invariant_of-result : goal.invariant_of-result
+invariant_of-result c =
+    let rd = c.in_ok-read_lines.ensures in
+    let is : c.in_ok-models.models ≡ spelled c.args.text.now = c.in_ok-models.ensures rd.before rd.means ∙ ap models_of (sym rd.lines) in
+    let P : List BlifModel → Type 0 = λ ms. list_all is_plain (written_names ms) ≡ true in
+    let Q : List BlifModel → Type 0 = λ ms. list_all covers_fit ms ≡ true in
+    record {
+      some = omega arith;
+      plain = subst P (sym is) (spelled_plain c.args.text.now);
+      fit = subst Q (sym is) (spelled_fit c.args.text.now);
+    }

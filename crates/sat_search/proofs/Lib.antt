@@ -1,0 +1,9 @@
+pub mod Analysing
+pub mod Choosing
+pub mod Index
+pub mod LastFalse
+pub mod Lists
+pub mod Passes
+pub mod Scans
+pub mod Searching
+pub mod Trails
