@@ -1,19 +1,18 @@
 //! The flat circuit.
 
-ghost use Rattle.std.specs.Prelude.{◌≡◌, ◌<◌, ◌↔◌, ℕ, Bool, List, length, map, slice_get, slice_index_or, false, Option, Some, All, IsTrue, IsSome, IfSome, IfNone, option_map, ◌==◌, ◌≢◌, IsSomeAnd, Contains};
+ghost use Rattle.std.specs.Prelude.{◌≡◌, ◌<◌, length, map, slice_get, slice_index_or, false, Some, All, IfSome, IfNone, option_map, ◌==◌, ◌≢◌, IsSomeAnd, Contains};
 ghost use Rattle.std.specs.List.{list_any};
-ghost use Rattle.circuit_theory.specs.Cover.{cover_value, row_matches, place_matches};
+ghost use Rattle.circuit_theory.specs.Cover.{cover_value, row_matches};
 ghost use Rattle.sec_base.specs.Cover.{IsCoverSound};
 ghost use Rattle.circuit_theory.specs.Net.{IsNet, HasDistinctNames};
 ghost use Rattle.flat_net.specs.View.{NetView, cover_of, circuit_of, is_read};
 ghost use Rattle.flat_net.specs.Sound.{IsSound};
 
-use crate::parts::{Driver, Gate, LatchAt, Port};
-use crate::signals::Signal;
-
 mod cutting;
 mod making;
 
+use crate::parts::{Driver, Gate, LatchAt, Port};
+use crate::signals::Signal;
 pub(crate) use making::push_within;
 use sec_base::{Cover, NameTable, Word, place_matches};
 use std::marker::Model;

@@ -1,6 +1,6 @@
 //! What no clause says: that the calls succeed with ample memory, on small circuits by hand.
 
-ghost use Rattle.std.specs.Prelude.{◌≡◌, ◌+◌, ◌<◌, ℕ, All, length, slice_get, Some, IfOk, OnOk};
+ghost use Rattle.std.specs.Prelude.{◌≡◌, IfOk};
 
 use super::*;
 use sec_base::{Cover, Ids, Init, NoMemory, Seq, Word};
