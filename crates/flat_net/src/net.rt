@@ -6,7 +6,7 @@ ghost use Rattle.circuit_theory.specs.Cover.{cover_value, row_matches};
 ghost use Rattle.sec_base.specs.Cover.{IsCoverSound};
 ghost use Rattle.circuit_theory.specs.Net.{IsNet, HasDistinctNames};
 ghost use Rattle.flat_net.specs.View.{NetView, cover_of, circuit_of, is_read};
-ghost use Rattle.flat_net.specs.Sound.{IsSound};
+ghost use Rattle.flat_net.specs.Sound.{IsSound, IsInOrder};
 
 mod cutting;
 mod making;
@@ -43,12 +43,13 @@ impl Model for Net {
 }
 
 impl Net {
-    /// Tells a proof what each net keeps: its circuit is a flat net, whose names tell inputs and latches apart. It does
-    /// nothing.
+    /// Tells a proof what each net keeps: its circuit is a flat net, whose names tell inputs and latches apart, and
+    /// its gates stand in an order of evaluation. It does nothing.
     pub fn keeps(&self)
         ensures sound { IsSound self.now }
         ensures net { IsNet (circuit_of self.now) (length self.now.drivers) }
         ensures names { HasDistinctNames (circuit_of self.now) }
+        ensures order { IsInOrder self.now }
     {
         let _ = &self.drivers;
     }

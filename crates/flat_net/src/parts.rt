@@ -1,6 +1,5 @@
 //! What a net is made of.
 
-
 use crate::signals::{Signal, Signals};
 use sec_base::{Duplicate, Init, NoMemory, Word};
 use std::alloc::Global;
