@@ -8,157 +8,157 @@ use std::alloc::Global;
 use std::test::Fail;
 
 /// A text, and the net or the fault that is wanted. `|` stands for a line feed.
-const ROWS: [(&str, &str, &str); 31] = [
+const ROWS: [(&str, &[u8], &[u8]); 31] = [
     (
         "a gate",
-        ".model m|.inputs a b|.outputs y|.names a b y|11 1",
-        "inputs a b outputs y gates y latches clock",
+        b".model m|.inputs a b|.outputs y|.names a b y|11 1",
+        b"inputs a b outputs y gates y latches clock",
     ),
     (
         "an instance becomes its gates",
-        ".model top|.inputs a b|.outputs y|.subckt g u=a v=b w=n|.latch n y|.end|.model g|.inputs u v|.outputs w|.names u v w|11 1|.end",
-        "inputs a b outputs y gates g#0#w latches y clock",
+        b".model top|.inputs a b|.outputs y|.subckt g u=a v=b w=n|.latch n y|.end|.model g|.inputs u v|.outputs w|.names u v w|11 1|.end",
+        b"inputs a b outputs y gates g#0#w latches y clock",
     ),
     (
         "gates in reverse order",
-        ".model m|.inputs a|.outputs y|.names x y|1 1|.names a x|1 1",
-        "inputs a outputs y gates x y latches clock",
+        b".model m|.inputs a|.outputs y|.names x y|1 1|.names a x|1 1",
+        b"inputs a outputs y gates x y latches clock",
     ),
     (
         "the clock is no input",
-        ".model m|.inputs c d|.outputs q|.latch d q re c 2",
-        "inputs d outputs q gates latches q clock c",
+        b".model m|.inputs c d|.outputs q|.latch d q re c 2",
+        b"inputs d outputs q gates latches q clock c",
     ),
     (
         "a clock inside an instance",
-        ".model m|.inputs c d|.outputs q|.subckt s k=c d=d q=q|.end|.model s|.inputs d|.clock k|.outputs q|.latch d q re k 0",
-        "inputs d outputs q gates latches s#0#q clock c",
+        b".model m|.inputs c d|.outputs q|.subckt s k=c d=d q=q|.end|.model s|.inputs d|.clock k|.outputs q|.latch d q re k 0",
+        b"inputs d outputs q gates latches s#0#q clock c",
     ),
     (
         "a name that is an input and a clock drives once",
-        ".model m|.inputs c d|.clock c|.outputs q|.latch d q",
-        "inputs d outputs q gates latches q clock c",
+        b".model m|.inputs c d|.clock c|.outputs q|.latch d q",
+        b"inputs d outputs q gates latches q clock c",
     ),
     (
         "an open output",
-        ".model m|.inputs a|.outputs y|.subckt g u=a w=y|.end|.model g|.inputs u|.outputs w z|.names u w|1 1|.names u z|0 1",
-        "inputs a outputs y gates g#0#w g#0#z latches clock",
+        b".model m|.inputs a|.outputs y|.subckt g u=a w=y|.end|.model g|.inputs u|.outputs w z|.names u w|1 1|.names u z|0 1",
+        b"inputs a outputs y gates g#0#w g#0#z latches clock",
     ),
     (
         "instances are numbered over all models",
-        ".model m|.inputs a|.outputs y z|.subckt g u=a w=y|.subckt h u=a w=z|.end|.model g|.inputs u|.outputs w|.names u w|1 1|.end|.model h|.inputs u|.outputs w|.names u w|0 1",
-        "inputs a outputs y z gates g#0#w h#1#w latches clock",
+        b".model m|.inputs a|.outputs y z|.subckt g u=a w=y|.subckt h u=a w=z|.end|.model g|.inputs u|.outputs w|.names u w|1 1|.end|.model h|.inputs u|.outputs w|.names u w|0 1",
+        b"inputs a outputs y z gates g#0#w h#1#w latches clock",
     ),
     (
         "an unknown model",
-        ".model m|.subckt g a=b",
-        "UnknownModel g",
+        b".model m|.subckt g a=b",
+        b"UnknownModel g",
     ),
-    ("a model in itself", ".model m|.subckt m", "Recursive m"),
+    ("a model in itself", b".model m|.subckt m", b"Recursive m"),
     (
         "a model in itself through another",
-        ".model m|.subckt g|.end|.model g|.subckt m",
-        "Recursive m",
+        b".model m|.subckt g|.end|.model g|.subckt m",
+        b"Recursive m",
     ),
     (
         "a pair for no port",
-        ".model m|.inputs a|.subckt g z=a|.end|.model g|.inputs u",
-        "UnknownFormal z",
+        b".model m|.inputs a|.subckt g z=a|.end|.model g|.inputs u",
+        b"UnknownFormal z",
     ),
     (
         "a port twice",
-        ".model m|.inputs a|.subckt g u=a u=a|.end|.model g|.inputs u",
-        "FormalTwice u",
+        b".model m|.inputs a|.subckt g u=a u=a|.end|.model g|.inputs u",
+        b"FormalTwice u",
     ),
     (
         "an open input",
-        ".model m|.inputs a|.subckt g u=a|.end|.model g|.inputs u v",
-        "OpenInput v",
+        b".model m|.inputs a|.subckt g u=a|.end|.model g|.inputs u v",
+        b"OpenInput v",
     ),
     (
         "a clock counts as an input of an instance",
-        ".model m|.inputs a|.subckt g u=a|.end|.model g|.inputs u|.clock k",
-        "OpenInput k",
+        b".model m|.inputs a|.subckt g u=a|.end|.model g|.inputs u|.clock k",
+        b"OpenInput k",
     ),
     (
         "driven twice",
-        ".model m|.inputs a|.outputs z|.names a y|1 1|.names a z|1 1|.names a z|1 1|.names a y|1 1",
-        "TwoDrivers z",
+        b".model m|.inputs a|.outputs z|.names a y|1 1|.names a z|1 1|.names a z|1 1|.names a y|1 1",
+        b"TwoDrivers z",
     ),
     (
         "an input that is driven",
-        ".model m|.inputs a|.names a|1",
-        "TwoDrivers a",
+        b".model m|.inputs a|.names a|1",
+        b"TwoDrivers a",
     ),
     (
         "an input of an instance that is driven inside",
-        ".model m|.inputs a|.subckt g u=a|.end|.model g|.inputs u|.names u",
-        "TwoDrivers g#0#u",
+        b".model m|.inputs a|.subckt g u=a|.end|.model g|.inputs u|.names u",
+        b"TwoDrivers g#0#u",
     ),
     (
         "read and not driven",
-        ".model m|.outputs z|.names x y|1 1",
-        "Undriven x",
+        b".model m|.outputs z|.names x y|1 1",
+        b"Undriven x",
     ),
     (
         "an output that nothing drives",
-        ".model m|.outputs z",
-        "Undriven z",
+        b".model m|.outputs z",
+        b"Undriven z",
     ),
     (
         "two clocks",
-        ".model m|.inputs a c d|.outputs y z|.latch a y re c 2|.latch a z re d 2",
-        "TwoClocks d",
+        b".model m|.inputs a c d|.outputs y z|.latch a y re c 2|.latch a z re d 2",
+        b"TwoClocks d",
     ),
     (
         "two edges",
-        ".model m|.inputs a c|.outputs y z|.latch a y re c 2|.latch a z fe c 2",
-        "TwoEdges z",
+        b".model m|.inputs a c|.outputs y z|.latch a y re c 2|.latch a z fe c 2",
+        b"TwoEdges z",
     ),
     (
         "an edge without a clock counts",
-        ".model m|.inputs a c|.outputs y z|.latch a y re NIL 2|.latch a z fe c 2",
-        "TwoEdges z",
+        b".model m|.inputs a c|.outputs y z|.latch a y re NIL 2|.latch a z fe c 2",
+        b"TwoEdges z",
     ),
     (
         "a gated clock",
-        ".model m|.inputs d e c|.outputs y|.names c e g|11 1|.latch d y re g 2",
-        "GatedClock g",
+        b".model m|.inputs d e c|.outputs y|.names c e g|11 1|.latch d y re g 2",
+        b"GatedClock g",
     ),
     (
         "a clock that is read",
-        ".model m|.inputs d c|.outputs y|.names c y|1 1|.latch d z re c 2",
-        "ClockRead y",
+        b".model m|.inputs d c|.outputs y|.names c y|1 1|.latch d z re c 2",
+        b"ClockRead y",
     ),
     (
         "a clock as an output",
-        ".model m|.inputs d c|.outputs c|.latch d z re c 2",
-        "ClockRead c",
+        b".model m|.inputs d c|.outputs c|.latch d z re c 2",
+        b"ClockRead c",
     ),
     (
         "a loop of two gates",
-        ".model m|.inputs a b|.outputs y|.names y x|1 1|.names x y|1 1",
-        "Loop x y",
+        b".model m|.inputs a b|.outputs y|.names y x|1 1|.names x y|1 1",
+        b"Loop x y",
     ),
     (
         "a gate that reads itself",
-        ".model m|.outputs y|.names y y|1 1",
-        "Loop y",
+        b".model m|.outputs y|.names y y|1 1",
+        b"Loop y",
     ),
     (
         "a latch cuts a loop",
-        ".model m|.outputs q|.names q n|0 1|.latch n q",
-        "inputs outputs q gates n latches q clock",
+        b".model m|.outputs q|.names q n|0 1|.latch n q",
+        b"inputs outputs q gates n latches q clock",
     ),
     (
         "a loop of three begins with the least name",
-        ".model m|.names b c|1 1|.names a b|1 1|.names c a|1 1",
-        "Loop a b c",
+        b".model m|.names b c|1 1|.names a b|1 1|.names c a|1 1",
+        b"Loop a b c",
     ),
     (
         "the first fault of the walk comes before those of drivers",
-        ".model m|.names x y|1 1|.subckt g",
-        "UnknownModel g",
+        b".model m|.names x y|1 1|.subckt g",
+        b"UnknownModel g",
     ),
 ];
 
@@ -236,14 +236,14 @@ fn put_gates(text: &mut Vec<u8>, net: &Net) -> Result<(), NoMemory> {
 }
 
 /// Whether the text is the one that is wanted.
-fn is_text(told: &[u8], want: &str) -> bool {
-    told == want.as_bytes()
+fn is_text(told: &[u8], want: &[u8]) -> bool {
+    told == want
 }
 
 /// The net or the fault of a text.
-fn told(alloc: Global, text: &str) -> Result<Vec<u8>, NoMemory> {
+fn told(alloc: Global, text: &[u8]) -> Result<Vec<u8>, NoMemory> {
     let mut bytes = Vec::new(alloc);
-    for byte in text.as_bytes() {
+    for byte in text {
         bytes.push(if *byte == b'|' { b'\n' } else { *byte })?;
     }
     let mut told = Vec::new(alloc);
