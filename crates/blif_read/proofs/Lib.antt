@@ -1,4 +1,6 @@
 pub mod Behind
+pub mod Count
+pub mod Distinct
 pub mod Each
 pub mod Gate
 pub mod Pairs
