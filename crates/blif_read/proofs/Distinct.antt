@@ -27,11 +27,11 @@ or_right : (a b : Option ReadKind) → (a or_else b) ≡ None → b ≡ None
 or_right None b e = e
 or_right (Some k) b e = cc
 
-guard_none : (b : Bool) (k : ReadKind) → guard b k ≡ None → b ≡ false
+pub guard_none : (b : Bool) (k : ReadKind) → guard b k ≡ None → b ≡ false
 guard_none true k e = cc
 guard_none false k e = refl
 
-not_false : (b : Bool) → not b ≡ false → b ≡ true
+pub not_false : (b : Bool) → not b ≡ false → b ≡ true
 not_false true e = refl
 not_false false e = cc
 
@@ -61,7 +61,7 @@ record GoodBlock (block : List Line) : Type 0 where
   inputs : repeats [] (names_on head.Inputs block) ≡ false
   outputs : repeats [] (names_on head.Outputs block) ≡ false
 
-abbrev a_line : ℕ → Head → List ℕ → List (List ℕ) → Line
+abbrev pub a_line : ℕ → Head → List ℕ → List (List ℕ) → Line
 a_line number h word args = record { number = number; head = h; word = word; args = args }
 
 -- what a word line without a fault is
@@ -73,7 +73,7 @@ gate_open true h args e m = absurd (wrong (is_model_head h) m (guard_none (true 
     wrong false f g = cc
 gate_open false h args e m = refl
 
-gate_fits : (none : Bool) (h : Head) (args : List (List ℕ)) → gate none h args ≡ None → count_fits h (length args) ≡ true
+pub gate_fits : (none : Bool) (h : Head) (args : List (List ℕ)) → gate none h args ≡ None → count_fits h (length args) ≡ true
 gate_fits none h args e =
     not_false (count_fits h (length args)) (guard_none (not (count_fits h (length args))) kind.BadCount (or_right (guard (none && not (is_model_head h)) kind.NoModel) (guard (not (count_fits h (length args))) kind.BadCount) (or_left (guard (none && not (is_model_head h)) kind.NoModel or_else guard (not (count_fits h (length args))) kind.BadCount) (guard (list_any is_long args) kind.NameTooLong) e)))
 
@@ -89,7 +89,7 @@ add_outputs number word args [] some new a = tt
 add_outputs number word args (b ∷ bs) some new a =
     (record { inputs = a.0.inputs; outputs = more_distinct (names_on head.Outputs b) args a.0.outputs (ap (λ block. repeats (names_on head.Outputs block) args) (sym (open_is b bs some)) ∙ new) }, a.1)
 
-word_none : (before : List Line) (h : Head) (number : ℕ) (word : List ℕ) (args : List (List ℕ)) → head_fault before (open_model before) h (a_line number h word args) ≡ word_fault before (open_model before) h args →
+pub word_none : (before : List Line) (h : Head) (number : ℕ) (word : List ℕ) (args : List (List ℕ)) → head_fault before (open_model before) h (a_line number h word args) ≡ word_fault before (open_model before) h args →
     fault_of before (a_line number h word args) ≡ None → (gate (is_empty (open_model before)) h args ≡ None) × (own_fault before (open_model before) h args ≡ None)
 unfolding fault_of
 word_none before h number word args same e =
@@ -143,7 +143,7 @@ names_step before h number word args e g = record { names = g.names ∙ sym (go 
     go [] = refl
     go (b ∷ bs) = aux_names (map model_of bs) (model_of (a_line number h word args ∷ b) ∷ []) ∙ sym (aux_names (map model_of bs) (model_of b ∷ []))
 
-fault_none : (number : ℕ) (fault : Option ReadKind) (later : Option FaultAt) → fault_at number fault later ≡ None → (fault ≡ None) × (later ≡ None)
+pub fault_none : (number : ℕ) (fault : Option ReadKind) (later : Option FaultAt) → fault_at number fault later ≡ None → (fault ≡ None) × (later ≡ None)
 fault_none number None later e = (refl, e)
 fault_none number (Some k) later e = cc
 
