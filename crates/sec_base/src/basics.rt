@@ -1,6 +1,5 @@
 //! Small types that several crates share.
 
-
 use crate::list::{Duplicate, Ids, NoMemory};
 use circuit_theory::Side;
 use std::alloc::Global;
