@@ -38,7 +38,7 @@ strip_shorter byte xs = go (ends_with_byte byte xs)
     go true = take_shorter (length xs - 1) xs
     go false = omega arith
 
-cut_shorter : (piece : List ℕ) → length (cut_line piece) ≤ length piece
+pub cut_shorter : (piece : List ℕ) → length (cut_line piece) ≤ length piece
 unfolding cut_line
 cut_shorter piece =
     let a = strip_shorter 13 piece in
@@ -47,7 +47,7 @@ cut_shorter piece =
     let d = take_shorter (length line - suffix_len is_blank line) line in
     omega arith
 
-going_shorter : (body : List ℕ) → ends_with_byte 92 body ≡ true → length (going_on body) ≤ length body
+pub going_shorter : (body : List ℕ) → ends_with_byte 92 body ≡ true → length (going_on body) ≤ length body
 unfolding going_on
 going_shorter [] e = cc
 going_shorter (x ∷ xs) e = simp (length-append, length-take) (omega arith)

@@ -1,5 +1,8 @@
 pub mod Behind
+pub mod Count
+pub mod Distinct
 pub mod Each
+pub mod Full
 pub mod Gate
 pub mod Pairs
 pub mod Tokens

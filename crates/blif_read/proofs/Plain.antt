@@ -150,11 +150,11 @@ subckt_plain line (t ∷ ts) a = (a.0, pairs_plain ts a.1)
 abbrev PlainAll : List Statement → Type 0
 PlainAll statements = PlainNames (names_in_all statements)
 
-each_left : {X : Type 0} (P : X → Type 0) (xs ys : List X) → Each P (xs ++ ys) → Each P xs
+pub each_left : {X : Type 0} (P : X → Type 0) (xs ys : List X) → Each P (xs ++ ys) → Each P xs
 each_left P [] ys a = tt
 each_left P (x ∷ xs) ys a = (a.0, each_left P xs ys a.1)
 
-each_right : {X : Type 0} (P : X → Type 0) (xs ys : List X) → Each P (xs ++ ys) → Each P ys
+pub each_right : {X : Type 0} (P : X → Type 0) (xs ys : List X) → Each P (xs ++ ys) → Each P ys
 each_right P [] ys a = a
 each_right P (x ∷ xs) ys a = each_right P xs ys a.1
 

@@ -37,9 +37,10 @@ name_of p = flat_name p.path p.name
 abbrev pub model_named : List BlifModel → List ℕ → Option BlifModel
 model_named models name = find (λ m. bytes_eq name m.name) models
 
--- what the walk visits: a statement of a model at a path, or a pair between a path and an instance there
+-- what the walk visits: a gate or latch statement at a path, an instance at a path with the path inside it, or a pair between the two
 pub data Item : Type 0 where
   At : (path : List Inside) (statement : Statement) → Item
+  Enter : (path inner : List Inside) (model : Option BlifModel) (name : List ℕ) (pairs : List Pair) → Item
   Pairing : (outer inner : List Inside) (model : Option BlifModel) (pair : Pair) → Item
 
 abbrev pub entered : (List Inside → BlifModel → List Item) → Option BlifModel → List Inside → List Item
@@ -55,7 +56,7 @@ visited within models path k [] = []
 visited within models path k (Names line fanins out cover ∷ rest) = At path (Names line fanins out cover) ∷ visited within models path k rest
 visited within models path k (Latch line input output edge control start ∷ rest) = At path (Latch line input output edge control start) ∷ visited within models path k rest
 visited within models path k (Subckt line name pairs ∷ rest) =
-    At path (Subckt line name pairs)
+    Enter path (step_into path name k) (model_named models name) name pairs
     ∷ (map (Pairing path (step_into path name k) (model_named models name)) pairs
     ++ (entered within (model_named models name) (step_into path name k) ++ visited within models path (k + 1) rest))
 
@@ -81,6 +82,7 @@ abbrev pub equation_of : Item → Option (Equation Place)
 equation_of (At path (Names line fanins out cover)) = Some (Gate (place_at path out) (map (place_at path) fanins) cover)
 equation_of (At path (Latch line input output edge control start)) = Some (Register (flat_name path output) (place_at path output) (place_at path input))
 equation_of (At path (Subckt line name pairs)) = None
+equation_of (Enter path inner m name pairs) = None
 equation_of (Pairing outer inner m pair) = Some (port_of (is_input_formal m pair.formal) (place_at outer pair.actual) (place_at inner pair.formal))
 
 abbrev pub start_at : Place → Init → Option (Started Place)

@@ -1,11 +1,12 @@
 -- What the models of a text keep.
-use Rattle.std.specs.Prelude.{ℕ, ◌==◌, not, Bool, true, List, [], ◌∷◌, ◌++◌, length, Option, Some, None}
+use Rattle.std.specs.Prelude.{ℕ, ◌==◌, ◌&&◌, not, map, Bool, true, List, [], ◌∷◌, ◌++◌, length, Option, Some, None}
 use Rattle.std.specs.List.{list_all}
 use Rattle.blif_lines.specs.Lines.{is_hash}
 use Rattle.blif_read.specs.declared.design.BlifModel.{BlifModel}
 use Rattle.blif_read.specs.declared.design.Pair.{Pair}
 use Rattle.blif_read.specs.declared.design.Statement.{Statement}
 use Rattle.blif_read.specs.declared.design.Statement.TheVariants.{Names, Latch, Subckt}
+use Rattle.blif_read.specs.Fault.{repeats}
 
 abbrev pub names_in_option : Option (List ℕ) → List (List ℕ)
 names_in_option None = []
@@ -44,3 +45,10 @@ cover_fits other = true
 
 abbrev pub covers_fit : BlifModel → Bool
 covers_fit m = list_all cover_fits m.statements
+
+-- no input is written twice, and no output
+abbrev pub ports_distinct : BlifModel → Bool
+ports_distinct m = not (repeats [] m.inputs) && not (repeats [] m.outputs)
+
+abbrev pub model_names : List BlifModel → List (List ℕ)
+model_names models = map (λ m. m.name) models

@@ -1,8 +1,10 @@
 //! Designs: models with their ports and statements, as a BLIF text gives them.
 
-ghost use Rattle.std.specs.Prelude.{◌≡◌, ◌<◌, true, length};
+ghost use Rattle.std.specs.Prelude.{◌≡◌, ◌<◌, ◌≤◌, [], true, false, not, length};
 ghost use Rattle.std.specs.List.{list_all};
-ghost use Rattle.blif_read.specs.Kept.{is_plain, covers_fit, written_names};
+ghost use Rattle.blif_read.specs.Kept.{is_plain, covers_fit, written_names, model_names, ports_distinct};
+ghost use Rattle.blif_read.specs.Fault.{repeats};
+ghost use Rattle.blif_lines.specs.Lines.{is_empty};
 
 use sec_base::{Cover, Edge, Init, Seq, Word, Words};
 
@@ -70,4 +72,12 @@ pub struct Design {
     ghost plain: { list_all is_plain (written_names models) ≡ true },
     /// Each cover has a column for each fan-in.
     ghost fit: { list_all covers_fit models ≡ true },
+    /// Model names are distinct.
+    ghost distinct: { repeats [] (model_names models) ≡ false },
+    /// A model's inputs are distinct, and so are its outputs.
+    ghost ports: { list_all ports_distinct models ≡ true },
+    /// No name is empty.
+    ghost named: { list_all (λ n. not (is_empty n)) (written_names models) ≡ true },
+    /// No more names are written than a text has bytes at most.
+    ghost few: { length (written_names models) ≤ 16777216 },
 }

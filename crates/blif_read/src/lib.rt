@@ -14,6 +14,8 @@ mod reader;
 mod rows;
 mod statements;
 mod stop;
+#[cfg(test)]
+mod tests;
 
 pub use design::{BlifModel, BlifModels, Design, Pair, Pairs, Statement, Statements};
 pub use error::{ReadError, ReadKind};

@@ -1,12 +1,16 @@
 -- What holds of the elements of a net's lists, by their places.
-use Rattle.std.proofs.Common.{◌≡◌, ◌<◌, ◌∙◌, ℕ, List, length, slice_get, unwrap_or, Some, sym, ap, subst, arith}
+use Rattle.std.proofs.Common.{◌≡◌, ◌<◌, ◌∙◌, ℕ, List, length, slice_get, unwrap_or, Some, sym, ap, subst, arith, inl, inr}
+use Rattle.std.specs.Prelude.{◌⊎◌}
 use Rattle.std.specs.List.{All}
-use Rattle.std.proofs.lemmas.List.Elements.{All-get_or}
+use Rattle.std.proofs.lemmas.Bool.{cases_order}
+use Rattle.std.proofs.lemmas.List.Elements.{All-get_or, All-contains}
 use Rattle.std.proofs.lemmas.Option.{slice_get_within, get_or_from_slice_get, same_Some}
 use Rattle.circuit_theory.specs.Cover.{Cover}
+use Rattle.flat_net.specs.declared.signals.Signal.{Signal}
 use Rattle.flat_net.specs.declared.parts.Gate.{Gate}
+use Rattle.flat_net.specs.declared.parts.Driver.TheVariants as driver
 use Rattle.flat_net.specs.View.{NetView, cover_of, no_cover}
-use Rattle.flat_net.specs.Sound.{IsSound, IsGateOf}
+use Rattle.flat_net.specs.Sound.{IsSound, IsGateOf, IsInOrder}
 
 -- what holds of each element holds of the one at a place
 pub All-at : {X : Type 0} (P : X → Type 0) (xs : List X) (i : ℕ) (x : X) → slice_get xs i ≡ Some x → All P xs → P x
@@ -38,3 +42,20 @@ module _ (n : NetView) (sound : IsSound n) (j : ℕ) (g : Gate) (at : slice_get 
 
   pub fanins_within : All (λ f. f.0 < length n.drivers) g.fanins
   fanins_within k d below = omega (arith, gate_of.above k d below, out_within)
+
+-- each gate stands behind the gates that drive its fan-ins
+pub sound_in_order : (n : NetView) → IsSound n → IsInOrder n
+sound_in_order n sound j k g f at reads drives = pick (cases_order k j)
+  where
+    below : f.0 < g.out.0
+    below = All-contains (λ (s : Signal). s.0 < g.out.0) g.fanins f (sound.gates j g at).above reads
+
+    driven : (h : Gate) × (slice_get n.gates k ≡ Some h) × (h.out.0 ≡ f.0)
+    driven = sound.drivers f.0 (driver.Gate k) drives
+
+    pick : (k ≡ j) ⊎ ((k < j) ⊎ (j < k)) → k < j
+    pick (inl same) =
+        let one : driven.0 ≡ g = one_at n.gates j driven.0 g (ap (slice_get n.gates) (sym same) ∙ driven.1) at in
+        absurd (omega (arith, below, driven.2, ap (λ (h : Gate). h.out.0) one))
+    pick (inr (inl before)) = before
+    pick (inr (inr behind)) = absurd (omega (arith, below, driven.2, sound.ordered j k g driven.0 behind at driven.1))

@@ -1,8 +1,9 @@
 -- What each net keeps.
-use Rattle.std.specs.Prelude.{◌≡◌, ◌^◌, ◌<◌, ◌≤◌, ℕ, length, slice_get, Some, All}
+use Rattle.std.specs.Prelude.{◌≡◌, ◌^◌, ◌<◌, ◌≤◌, ℕ, length, slice_get, Some, All, Contains}
 use Rattle.circuit_theory.specs.Cover.{Cover}
 use Rattle.sec_base.specs.Cover.{IsCoverSound}
 use Rattle.sec_base.specs.Table.{AreDistinct}
+use Rattle.flat_net.specs.declared.signals.Signal.{Signal}
 use Rattle.flat_net.specs.declared.parts.Port.{Port}
 use Rattle.flat_net.specs.declared.parts.Gate.{Gate}
 use Rattle.flat_net.specs.declared.parts.LatchAt.{LatchAt}
@@ -52,3 +53,8 @@ pub record IsSound (n : NetView) : Type 0 where
   pub few_gates : length n.gates ≤ length n.drivers
   pub few_latches : length n.latches ≤ length n.drivers
   pub few_covers : length n.covers < 2 ^ 32
+
+-- each gate stands behind the gates that drive its fan-ins
+abbrev pub IsInOrder : NetView → Type 0
+IsInOrder n =
+    (j k : ℕ) (g : Gate) (f : Signal) → slice_get n.gates j ≡ Some g → Contains g.fanins f → slice_get n.drivers f.0 ≡ Some (driver.Gate k) → k < j

@@ -5,6 +5,8 @@ mod maker;
 mod net;
 mod parts;
 mod signals;
+#[cfg(test)]
+mod tests;
 
 pub use maker::NetMaker;
 pub use net::Net;

@@ -1,20 +1,19 @@
 //! The flat circuit.
 
-ghost use Rattle.std.specs.Prelude.{◌≡◌, ◌<◌, ◌↔◌, ℕ, Bool, List, length, map, slice_get, slice_index_or, false, Option, Some, All, IsTrue, IsSome, IfSome, IfNone, is_some, option_map, ◌==◌, ◌≢◌, IsSomeAnd, Contains};
+ghost use Rattle.std.specs.Prelude.{◌≡◌, ◌<◌, length, map, slice_get, slice_index_or, false, Some, All, IfSome, IfNone, is_some, option_map, ◌==◌, ◌≢◌, IsSomeAnd, Contains};
 ghost use Rattle.std.specs.List.{list_any};
-ghost use Rattle.circuit_theory.specs.Cover.{cover_value, row_matches, place_matches};
+ghost use Rattle.circuit_theory.specs.Cover.{cover_value, row_matches};
 ghost use Rattle.sec_base.specs.Cover.{IsCoverSound};
 ghost use Rattle.sec_base.specs.Table.{is_among};
 ghost use Rattle.circuit_theory.specs.Net.{IsNet, HasDistinctNames};
 ghost use Rattle.flat_net.specs.View.{NetView, cover_of, circuit_of, is_read};
-ghost use Rattle.flat_net.specs.Sound.{IsSound};
-
-use crate::parts::{Driver, Gate, LatchAt, Port};
-use crate::signals::Signal;
+ghost use Rattle.flat_net.specs.Sound.{IsSound, IsInOrder};
 
 mod cutting;
 mod making;
 
+use crate::parts::{Driver, Gate, LatchAt, Port};
+use crate::signals::Signal;
 pub(crate) use making::push_within;
 use sec_base::{Cover, NameTable, Word, place_matches};
 use std::marker::Model;
@@ -45,12 +44,13 @@ impl Model for Net {
 }
 
 impl Net {
-    /// Tells a proof what each net keeps: its circuit is a flat net, whose names tell inputs and latches apart. It does
-    /// nothing.
+    /// Tells a proof what each net keeps: its circuit is a flat net, whose names tell inputs and latches apart, and
+    /// its gates stand in an order of evaluation. It does nothing.
     pub fn keeps(&self)
         ensures sound { IsSound self.now }
         ensures net { IsNet (circuit_of self.now) (length self.now.drivers) }
         ensures names { HasDistinctNames (circuit_of self.now) }
+        ensures order { IsInOrder self.now }
     {
         let _ = &self.drivers;
     }

@@ -1,7 +1,5 @@
 //! What a net is made of.
 
-ghost use Rattle.std.specs.Prelude.{◌≡◌};
-
 use crate::signals::{Signal, Signals};
 use sec_base::{Duplicate, Init, NoMemory, Word};
 use std::alloc::Global;

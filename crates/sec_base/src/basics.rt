@@ -1,7 +1,5 @@
 //! Small types that several crates share.
 
-ghost use Rattle.std.specs.Prelude.{◌≡◌};
-
 use crate::list::{Duplicate, Ids, NoMemory};
 use circuit_theory::Side;
 use std::alloc::Global;

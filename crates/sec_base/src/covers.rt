@@ -1,6 +1,6 @@
 //! Covers: a gate's function as rows over its fan-ins (BLIF manual, `.names`).
 
-ghost use Rattle.std.specs.Prelude.{◌≡◌, Bool, true, ℕ, List, [], ◌∷◌, ◌++◌, length, All, OnOk, OnErr, IfOk};
+ghost use Rattle.std.specs.Prelude.{◌≡◌, true, [], ◌∷◌, ◌++◌, length, All, OnOk, OnErr, IfOk};
 ghost use Rattle.circuit_theory.specs.Cover.{cover_value, row_matches, place_matches};
 ghost use Rattle.std.specs.List.{list_all, list_any, zip};
 ghost use Rattle.sec_base.specs.Cover.{IsCube, IsCoverSound};

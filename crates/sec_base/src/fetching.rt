@@ -1,6 +1,6 @@
 //! A whole file in memory.
 
-ghost use Rattle.std.specs.Prelude.{◌≡◌, ◌≤◌, ◌<◌, ◌++◌, ℕ, List, length, take, vec_len, IsErrOf, IfOk, IfSome, OnOk, OnErr};
+ghost use Rattle.std.specs.Prelude.{◌≡◌, ◌≤◌, ◌<◌, ◌++◌, ℕ, List, length, take, vec_len, IsErrOf, IfOk, IfSome, OnOk};
 ghost use Rattle.sec_base.specs.Outside.{Rose, SameHeld, NoneFell};
 
 use crate::list::{FileText, NoMemory, Seq};

@@ -1,6 +1,6 @@
 //! A shelf in memory.
 
-ghost use Rattle.std.specs.Prelude.{◌≡◌, ◌≢◌, ◌+◌, ◌-◌, ◌^◌, ◌<◌, ◌≤◌, ◌↔◌, ℕ, Bool, true, false, min, List, [], length, Option, Some, IsTrue, IsSome, Contains, IsErrOf, IsOk, IfOk, IfSome, OnOk, OnErr};
+ghost use Rattle.std.specs.Prelude.{◌≡◌, ◌≢◌, ◌≤◌, ◌↔◌, ℕ, List, length, Some, IsTrue, IsSome, Contains, IsErrOf, IsOk, IfOk, IfSome, OnOk, OnErr};
 ghost use Rattle.sec_base.specs.Outside.{Rose, SameHeld, NoneFell, Gives};
 ghost use Rattle.sec_base.specs.MemShelf.{held_by, faults_of, next_call, IsServed, IsServing};
 

@@ -1,6 +1,6 @@
 //! A sink in memory.
 
-ghost use Rattle.std.specs.Prelude.{◌≡◌, ◌≢◌, ◌+◌, ◌-◌, ◌^◌, ◌≤◌, ◌↔◌, ℕ, min, List, [], ◌++◌, length, take, vec_len, vec_capacity, Option, Some, IsTrue, IsOk, IfOk, OnOk, OnErr};
+ghost use Rattle.std.specs.Prelude.{◌≡◌, ◌≢◌, ◌+◌, ◌-◌, ◌≤◌, ◌↔◌, min, [], ◌++◌, length, take, vec_len, vec_capacity, Some, IsTrue, IsOk, IfOk, OnOk, OnErr};
 ghost use Rattle.sec_base.specs.Outside.{Rose, Takes, TakesFront};
 ghost use Rattle.sec_base.specs.MemSink.{Accepts, next_write};
 

@@ -1,6 +1,6 @@
 //! Where files are read from.
 
-ghost use Rattle.std.specs.Prelude.{◌≡◌, ◌≤◌, ℕ, List, Option, None, length, IsErrOf, IfOk, IfSome};
+ghost use Rattle.std.specs.Prelude.{◌≤◌, ℕ, List, Option, None, length, IsErrOf, IfOk, IfSome};
 ghost use Rattle.sec_base.specs.Outside.{Rose, SameHeld, NoneFell, Gives};
 
 use std::io::{Read, Seek, SeekFrom};

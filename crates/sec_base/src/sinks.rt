@@ -1,6 +1,6 @@
 //! Where a report is written.
 
-ghost use Rattle.std.specs.Prelude.{◌≡◌, ◌≤◌, ℕ, List, Option, None, OnOk, OnErr, IsOk};
+ghost use Rattle.std.specs.Prelude.{◌≤◌, ℕ, List, Option, None, OnOk, OnErr, IsOk};
 ghost use Rattle.sec_base.specs.Outside.{Rose, Takes, TakesFront};
 
 use crate::basics::Failed;

@@ -1,6 +1,6 @@
 //! Tables that number names, and pairs of numbers, in the order in which they first come.
 
-ghost use Rattle.std.specs.Prelude.{◌≡◌, ◌+◌, ◌^◌, ◌<◌, ℕ, Bool, false, not, List, [], ◌∷◌, ◌++◌, length, map, if◌then◌else◌, slice_get, is_some, Contains, IfSome, IfNone, IfOk, OnOk, OnErr};
+ghost use Rattle.std.specs.Prelude.{◌≡◌, ◌+◌, ◌^◌, ◌<◌, ℕ, false, not, List, [], ◌∷◌, ◌++◌, length, map, if◌then◌else◌, slice_get, is_some, Contains, IfSome, IfNone, IfOk, OnOk, OnErr};
 ghost use Rattle.sec_base.specs.Table.{is_among, AreDistinct};
 
 use crate::list::{NoMemory, Seq, Words};

@@ -1,9 +1,14 @@
-use Rattle.std.proofs.Common.{◌≡◌, List, true, ap, sym, ◌∙◌, subst, arith}
+use Rattle.std.proofs.Common.{not, length, [], ◌≡◌, List, true, ap, sym, ◌∙◌, subst, arith}
 use Rattle.std.specs.List.{list_all}
 use Rattle.blif_read.specs.declared.design.BlifModel.{BlifModel}
 use Rattle.blif_read.specs.Spelled.{models_of}
 use Rattle.blif_read.specs.Reading.{spelled}
-use Rattle.blif_read.specs.Kept.{is_plain, covers_fit, written_names}
+use Rattle.blif_read.specs.Kept.{is_plain, covers_fit, written_names, model_names, ports_distinct}
+use Rattle.blif_read.specs.Fault.{repeats}
+use Rattle.blif_read.proofs.Distinct.{spelled_names, spelled_ports}
+use Rattle.blif_read.proofs.Count.{spelled_few}
+use Rattle.blif_read.proofs.Full.{spelled_full}
+use Rattle.blif_lines.specs.Lines.{is_empty}
 use Rattle.blif_read.proofs.Plain.{spelled_plain, spelled_fit}
 use Rattle.blif_read.proofs.reader.read_design.Goals as goal
 
@@ -17,4 +22,8 @@ invariant_of-result c =
       some = omega arith;
       plain = subst P (sym is) (spelled_plain c.args.text.now);
       fit = subst Q (sym is) (spelled_fit c.args.text.now);
+      distinct = ap (λ ms. repeats [] (model_names ms)) is ∙ spelled_names c.args.text.now (rd.fault);
+      ports = ap (λ ms. list_all ports_distinct ms) is ∙ spelled_ports c.args.text.now (rd.fault);
+      named = ap (λ ms. list_all (λ n. not (is_empty n)) (written_names ms)) is ∙ spelled_full c.args.text.now rd.fault;
+      few = omega (arith, ap (λ ms. length (written_names ms)) is, spelled_few c.args.text.now c.requires);
     }
