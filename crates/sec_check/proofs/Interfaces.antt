@@ -150,10 +150,11 @@ pub beside_kept : (n : NetView) → IsSound n → (other : Ports) (i : ℕ) (p :
 beside_kept n sound other i p old new at kept is made few =
     let fresh : is_entry old p.name ≡ false = subst (λ (ns : List (List ℕ)). is_entry ns p.name ≡ false) (sym is) (fresh_entry n sound other i p at) in
     let longer : new ≡ old ++ p.name ∷ [] = made ∙ ap (λ (b : Bool). cond b old (old ++ p.name ∷ [])) fresh in
-    let count : length new ≡ length old + 1 = ap length longer ∙ length-append old (p.name ∷ []) in
-    (longer ∙ ap (λ (ns : List (List ℕ)). ns ++ p.name ∷ []) is
-     ∙ sym (beside_more n sound other i p at ∙ ap (λ (b : Bool). cond b (filter (stays (ports_of n) other) (take i (map (λ (q : Port). q.name) n.inputs)) ++ p.name ∷ []) (filter (stays (ports_of n) other) (take i (map (λ (q : Port). q.name) n.inputs)))) kept),
-     omega arith)
+    let count : length new ≡ length old + 1 = ap length longer ∙ length-append old (p.name ∷ []) in (
+      longer ∙ ap (λ (ns : List (List ℕ)). ns ++ p.name ∷ []) is
+          ∙ sym (beside_more n sound other i p at ∙ ap (λ (b : Bool). cond b (filter (stays (ports_of n) other) (take i (map (λ (q : Port). q.name) n.inputs)) ++ p.name ∷ []) (filter (stays (ports_of n) other) (take i (map (λ (q : Port). q.name) n.inputs)))) kept),
+      omega arith,
+    )
 
 -- the table after an input that doesn't
 pub beside_left : (n : NetView) → IsSound n → (other : Ports) (i : ℕ) (p : Port) (old : List (List ℕ)) → slice_get n.inputs i ≡ Some p → stays (ports_of n) other p.name ≡ false →
@@ -166,7 +167,7 @@ pub stays_unclocked : (n : NetView) (other : Ports) (i : ℕ) (p : Port) (b : Bo
     IfSome (slice_get n.inputs i) (λ q. true ≡ stays (ports_of n) other q.name)
 stays_unclocked n other i p b name h at e clock off =
     subst (λ (o : Option Port). IfSome o (λ q. true ≡ stays (ports_of n) other q.name)) (sym (slice_get_read n.inputs (length n.inputs) i p refl h at))
-        (sym (ap (λ (t : Bool). not (t && not (is_among (ports_of n).read p.name))) (sym (ap (is_clock other) e) ∙ (sym clock ∙ off))))
+    (sym (ap (λ (t : Bool). not (t && not (is_among (ports_of n).read p.name))) (sym (ap (is_clock other) e) ∙ (sym clock ∙ off))))
 
 -- the other's clock stays where it is read
 pub stays_read : (n : NetView) → IsSound n → (other : Ports) (i : ℕ) (p : Port) (b r : Bool) (name : List ℕ) → i < length n.inputs → p ≡ get_or n.inputs i p → name ≡ p.name → b ≡ is_clock other name → b ≡ true →
@@ -174,9 +175,9 @@ pub stays_read : (n : NetView) → IsSound n → (other : Ports) (i : ℕ) (p : 
 stays_read n sound other i p b r name h at e clock is read =
     let there = slice_get_read n.inputs (length n.inputs) i p refl h at in
     subst (λ (o : Option Port). IfSome o (λ q. r ≡ stays (ports_of n) other q.name)) (sym there)
-        (subst (λ (o : Option Port). IfSome o (λ q. r ≡ is_read n q.signal)) there read
-         ∙ sym (input_read_by_name n sound i p there) ∙ sym (not_not (is_among (ports_of n).read p.name))
-         ∙ sym (ap (λ (t : Bool). not (t && not (is_among (ports_of n).read p.name))) (sym (ap (is_clock other) e) ∙ (sym clock ∙ is))))
+    (subst (λ (o : Option Port). IfSome o (λ q. r ≡ is_read n q.signal)) there read
+    ∙ sym (input_read_by_name n sound i p there) ∙ sym (not_not (is_among (ports_of n).read p.name))
+    ∙ sym (ap (λ (t : Bool). not (t && not (is_among (ports_of n).read p.name))) (sym (ap (is_clock other) e) ∙ (sym clock ∙ is))))
   where
     not_not : (t : Bool) → not (not t) ≡ t
     not_not true = refl

@@ -79,14 +79,14 @@ pub number_known : (all shared : List (List ℕ)) (k from to id : ℕ) (numbers 
     AreNumbers (take (k + 1) all) shared from to (numbers ++ id ∷ [])
 number_known all shared k from to id numbers name at are here =
     subst (λ (ns : List (List ℕ)). AreNumbers ns shared from to (numbers ++ id ∷ [])) (take-push all k name at)
-        (number_more (take k all) shared from to to numbers name id are (omega arith) (λ e. here) (λ e. absurd (no_true_false (sym (is_among-complete shared name (of_at shared id name here)) ∙ e))))
+    (number_more (take k all) shared from to to numbers name id are (omega arith) (λ e. here) (λ e. absurd (no_true_false (sym (is_among-complete shared name (of_at shared id name here)) ∙ e))))
 
 -- a name's number where it hasn't
 pub number_other : (all shared : List (List ℕ)) (k from to : ℕ) (numbers : List ℕ) (name : List ℕ) → slice_get all k ≡ Some name → AreNumbers (take k all) shared from to numbers → is_among shared name ≡ false →
     AreNumbers (take (k + 1) all) shared from (to + 1) (numbers ++ to ∷ [])
 number_other all shared k from to numbers name at are gone =
     subst (λ (ns : List (List ℕ)). AreNumbers ns shared from (to + 1) (numbers ++ to ∷ [])) (take-push all k name at)
-        (number_more (take k all) shared from to (to + 1) numbers name to are (omega arith) (λ e. absurd (no_true_false (sym e ∙ gone))) (λ e. (refl, refl)))
+    (number_more (take k all) shared from to (to + 1) numbers name to are (omega arith) (λ e. absurd (no_true_false (sym e ∙ gone))) (λ e. (refl, refl)))
 
 -- two numbers at two places of a list differ where a test of each two says so
 apart_from : (numbers : List ℕ) → ((j k h i : ℕ) → j < k → slice_get numbers j ≡ Some h → slice_get numbers k ≡ Some i → h ≢ i) → AllPairs (λ h i. h ≢ i) numbers

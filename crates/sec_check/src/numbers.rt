@@ -6,12 +6,11 @@ ghost use Rattle.sec_check.specs.Compared.{ports_of, InterfaceFails, RefusesName
 ghost use Rattle.sec_check.specs.Loading.{IsComparable};
 ghost use Rattle.sec_check.specs.Numbered.{AreNumbers, stays};
 
+use crate::comparing::CompareError;
+use crate::pairing::{is_clock, output_names};
 use flat_net::Net;
 use sec_base::{Ids, NameTable, NoMemory, Orders, Seq};
 use std::alloc::Global;
-
-use crate::comparing::CompareError;
-use crate::pairing::{is_clock, output_names};
 
 /// Whether the input stays: it is read, or its name isn't the other's clock.
 fn stays(own: &Net, other: &Net, i: u32) -> bool

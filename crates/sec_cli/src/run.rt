@@ -8,18 +8,15 @@ ghost use Rattle.sec_cli.specs.Answer.{IsFinding, IsTaken, ReadFailed, OfTexts, 
 ghost use Rattle.sec_cli.specs.Ends.{load_end, compare_end, Found, IsWritten};
 ghost use Rattle.sec_cli.specs.Lines.{finding_text};
 
-use blif_read::ReadError;
-use circuit_theory::Mode;
-use sec_base::{FetchError, Shelf, Side, Sink};
-use sec_check::{
-    CompareError, FlatError, LoadError, Outcome, Settings, Verdict, compare, load,
-};
-use std::alloc::Global;
-
 use crate::finding::{Finding, Refusal, Stop};
 use crate::status::{Status, StatusName};
 use crate::words::job_of;
 use crate::writing::finding_report;
+use blif_read::ReadError;
+use circuit_theory::Mode;
+use sec_base::{FetchError, Shelf, Side, Sink};
+use sec_check::{CompareError, FlatError, LoadError, Outcome, Settings, Verdict, compare, load};
+use std::alloc::Global;
 
 /// What is found where the file of a side isn't loaded.
 fn load_end(side: Side, error: LoadError) -> Result<Finding, Stop>
@@ -112,12 +109,7 @@ fn status_of(finding: &Finding) -> StatusName
 }
 
 /// Writes the report of what was found, by one write.
-fn finish<W: Sink>(
-    alloc: Global,
-    finding: &Finding,
-    settings: &Settings,
-    out: &mut W,
-) -> StatusName
+fn finish<W: Sink>(alloc: Global, finding: &Finding, settings: &Settings, out: &mut W) -> StatusName
     ensures written { IsWritten (W.taken out.old) (W.taken out.new) finding.now result }
     ensures fault { result ≡ StatusName.WriteFault → Rose (W.faults out.old) (W.faults out.new) }
     ensures accepted { W.accepts out.old (finding_text finding.now) → result ≢ StatusName.WriteFault }
@@ -135,12 +127,7 @@ fn finish<W: Sink>(
 ///
 /// The report is written whole with the statuses `Equal`, `Different`, `Refused` and `Words`; at a write fault a front of it;
 /// at a read fault and at want of memory nothing. Want of memory alone is without a cause here.
-pub fn run<S: Shelf, W: Sink>(
-    alloc: Global,
-    words: &[String],
-    shelf: &mut S,
-    out: &mut W,
-) -> Status
+pub fn run<S: Shelf, W: Sink>(alloc: Global, words: &[String], shelf: &mut S, out: &mut W) -> Status
     ensures taken { IsTaken (W.taken out.old) (W.taken out.new) (S.held shelf.old) (job_of (map (λ w. string_bytes w) words.now)) result.name }
     ensures equal { result.name ≡ StatusName.Equal → IsSomeAnd (job_of (map (λ w. string_bytes w) words.now)) (λ paths. OfTexts (S.held shelf.old) paths TextsAgree) }
     ensures different { result.name ≡ StatusName.Different → IsSomeAnd (job_of (map (λ w. string_bytes w) words.now)) (λ paths.

@@ -5,12 +5,11 @@ ghost use Rattle.std.specs.Fmt.{decimal};
 ghost use Rattle.sec_check.specs.Report.{report_text};
 ghost use Rattle.sec_cli.specs.Lines.{side_word, kind_text, refusal_text, finding_text};
 
+use crate::finding::{Finding, Refusal};
 use blif_read::ReadKind;
 use sec_base::{NoMemory, Seq, Side, Text, put, put_number};
 use sec_check::{Settings, report};
 use std::alloc::Global;
-
-use crate::finding::{Finding, Refusal};
 
 /// Puts the word behind what stands before it in the line.
 fn put_behind(text: &mut Vec<u8>, front: &[u8], word: &[u8]) -> Result<(), NoMemory>
@@ -57,7 +56,13 @@ fn put_side(text: &mut Vec<u8>, side: Side) -> Result<(), NoMemory>
     put(text, side_word(side).as_bytes())
 }
 
-fn put_fault(alloc: Global, text: &mut Vec<u8>, side: Side, line: u32, kind: &ReadKind) -> Result<(), NoMemory>
+fn put_fault(
+    alloc: Global,
+    text: &mut Vec<u8>,
+    side: Side,
+    line: u32,
+    kind: &ReadKind,
+) -> Result<(), NoMemory>
     ensures { OnOk result (text.new.items ≡ text.old.items ++ (codes "refused " ++ side_word side ++ codes " line " ++ decimal line ++ 32 ∷ [] ++ kind_text kind.now ++ 10 ∷ [])) }
 {
     put_side(text, side)?;
@@ -98,7 +103,11 @@ fn put_refusal(alloc: Global, text: &mut Vec<u8>, refusal: &Refusal) -> Result<(
 }
 
 /// The report of what was found.
-pub fn finding_report(alloc: Global, finding: &Finding, settings: &Settings) -> Result<Text, NoMemory>
+pub fn finding_report(
+    alloc: Global,
+    finding: &Finding,
+    settings: &Settings,
+) -> Result<Text, NoMemory>
     ensures { IfOk result (λ text. text ≡ finding_text finding.now) }
 {
     let mut text = Vec::new(alloc);

@@ -22,5 +22,5 @@ loop-i-preserved c =
     let is = said_of c.args.own.now c.loop-i.i c.port-item.result (λ p. c.stays.result ≡ stays (ports_of c.args.own.now) (ports_of c.args.other.now) p.name) at c.stays.ensures in
     let made = c.in_ok-intern.ensures.ok ∙ ap (λ (name : List ℕ). cond (is_entry c.loop-i.names name) c.loop-i.names (c.loop-i.names ++ name ∷ [])) c.as_slice.ensures in
     let step = beside_kept c.args.own.now c.keeps.ensures.sound (ports_of c.args.other.now) c.loop-i.i c.port-item.result c.loop-i.names c.intern.new.self at (sym is ∙ c.if-not-stays.false)
-        c.loop-i.invariant.names_are made c.loop-i.invariant.few in
+    c.loop-i.invariant.names_are made c.loop-i.invariant.few in
     record { names_are = step.0; few = step.1 }

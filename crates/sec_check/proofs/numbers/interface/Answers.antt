@@ -16,16 +16,16 @@ returns-in-Some-clause-err c =
     let outputs = c.in_ok-left_outputs.ensures ∙ ap (map (λ (p : Port). p.name)) c.outputs.ensures in
     let outputs-2 = c.in_ok-right_outputs.ensures ∙ ap (map (λ (p : Port). p.name)) c.outputs-2.ensures in
     let found = mismatch_is c.args.a.now c.args.b.now c.in_ok-left.left c.in_ok-right.right c.in_ok-left_outputs.left_outputs c.in_ok-right_outputs.right_outputs _
-            c.in_ok-left.ensures c.in_ok-right.ensures outputs outputs-2 c.first_mismatch.ensures in
+    c.in_ok-left.ensures c.in_ok-right.ensures outputs outputs-2 c.first_mismatch.ensures in
     refused_name c.args.a.now c.args.b.now c.in-Some.name.now c.mismatch_error.result
-        (found ∙ ap (option_map (λ name. name.now)) c.in-Some.is) c.mismatch_error.ensures
+    (found ∙ ap (option_map (λ name. name.now)) c.in-Some.is) c.mismatch_error.ensures
 
 pub orders_of-requires-clause-matches : goal.orders_of-requires-clause-matches
 orders_of-requires-clause-matches c =
     let outputs = c.in_ok-left_outputs.ensures ∙ ap (map (λ (p : Port). p.name)) c.outputs.ensures in
     let outputs-2 = c.in_ok-right_outputs.ensures ∙ ap (map (λ (p : Port). p.name)) c.outputs-2.ensures in
     mismatch_is c.args.a.now c.args.b.now c.in_ok-left.left c.in_ok-right.right c.in_ok-left_outputs.left_outputs c.in_ok-right_outputs.right_outputs _
-        c.in_ok-left.ensures c.in_ok-right.ensures outputs outputs-2 c.first_mismatch.ensures
+    c.in_ok-left.ensures c.in_ok-right.ensures outputs outputs-2 c.first_mismatch.ensures
     ∙ ap (option_map (λ name. name.now)) c.in_default.is
 
 pub returns-clause-ok : goal.returns-clause-ok
@@ -33,7 +33,7 @@ returns-clause-ok c =
     let outputs = c.in_ok-left_outputs.ensures ∙ ap (map (λ (p : Port). p.name)) c.outputs.ensures in
     let outputs-2 = c.in_ok-right_outputs.ensures ∙ ap (map (λ (p : Port). p.name)) c.outputs-2.ensures in
     with_fact (λ o. AreOrders (ports_of c.args.a.now) (ports_of c.args.b.now) o.left o.right) c.orders_of.result
-        (mismatch_is c.args.a.now c.args.b.now c.in_ok-left.left c.in_ok-right.right c.in_ok-left_outputs.left_outputs c.in_ok-right_outputs.right_outputs _
-            c.in_ok-left.ensures c.in_ok-right.ensures outputs outputs-2 c.first_mismatch.ensures
-        ∙ ap (option_map (λ name. name.now)) c.in_default.is)
-        c.orders_of.ensures.ok
+    (mismatch_is c.args.a.now c.args.b.now c.in_ok-left.left c.in_ok-right.right c.in_ok-left_outputs.left_outputs c.in_ok-right_outputs.right_outputs _
+    c.in_ok-left.ensures c.in_ok-right.ensures outputs outputs-2 c.first_mismatch.ensures
+    ∙ ap (option_map (λ name. name.now)) c.in_default.is)
+    c.orders_of.ensures.ok

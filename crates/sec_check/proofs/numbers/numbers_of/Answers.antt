@@ -16,7 +16,7 @@ loop-port-preserved-in_default c =
     record {
       numbers_are = subst (λ (ns : List ℕ). AreNumbers (take (c.loop-port.port-index + 1) (map (λ (p : Port). p.name) c.args.own.now.inputs)) c.args.shared.now c.args.from (c.loop-port.next + 1) ns) (sym c.in_ok-push.ensures.ok)
           (number_other (map (λ (p : Port). p.name) c.args.own.now.inputs) c.args.shared.now c.loop-port.port-index c.args.from c.loop-port.next c.loop-port.numbers c.port-item.result.name named c.loop-port.invariant.numbers_are
-              (among_entries c.args.shared.now c.port-item.result.name ∙ (sym (ap (is_entry c.args.shared.now) c.as_slice.ensures) ∙ (sym c.find.ensures.found ∙ ap (λ (o : Option ℕ). is_some o) c.in_default.is))));
+          (among_entries c.args.shared.now c.port-item.result.name ∙ (sym (ap (is_entry c.args.shared.now) c.as_slice.ensures) ∙ (sym c.find.ensures.found ∙ ap (λ (o : Option ℕ). is_some o) c.in_default.is))));
       few = omega arith;
     }
 
@@ -28,6 +28,6 @@ loop-port-preserved c =
     record {
       numbers_are = subst (λ (ns : List ℕ). AreNumbers (take (c.loop-port.port-index + 1) (map (λ (p : Port). p.name) c.args.own.now.inputs)) c.args.shared.now c.args.from c.loop-port.next ns) (sym c.in_ok-push-2.ensures.ok)
           (number_known (map (λ (p : Port). p.name) c.args.own.now.inputs) c.args.shared.now c.loop-port.port-index c.args.from c.loop-port.next c.in-Some.id c.loop-port.numbers c.port-item.result.name named c.loop-port.invariant.numbers_are
-              (c.in-Some.ensures.here ∙ ap Some c.as_slice.ensures));
+          (c.in-Some.ensures.here ∙ ap Some c.as_slice.ensures));
       few = omega arith;
     }

@@ -20,4 +20,4 @@ numbers_of-requires-2 c =
 pub returns-clause-ok : goal.returns-clause-ok
 returns-clause-ok c =
     orders_from c.args.a.now c.args.b.now c.keeps.ensures.sound c.keeps-2.ensures.sound c.args.shared.now c.keeps-3.ensures c.requires.shared c.in_ok-left.middle _ c.in_ok-left.left c.in_ok-right.right
-        (subst (λ (f : ℕ). AreNumbers (map (λ (p : Port). p.name) c.args.a.now.inputs) c.args.shared.now f c.in_ok-left.middle c.in_ok-left.left) c.len.ensures c.in_ok-left.ensures.numbers) c.in_ok-right.ensures.numbers
+    (subst (λ (f : ℕ). AreNumbers (map (λ (p : Port). p.name) c.args.a.now.inputs) c.args.shared.now f c.in_ok-left.middle c.in_ok-left.left) c.len.ensures c.in_ok-left.ensures.numbers) c.in_ok-right.ensures.numbers

@@ -16,4 +16,4 @@ returns-clause-found g c =
     let now = g.S.Shelf.faults c.load-2.new.shelf in
     let right = subst (λ (o : Option (List ℕ)). IfSome o (λ y. Loads y c.in-Ok-load.net)) (c.load.ensures.keeps c.args.right.now) c.in-Ok-load.ensures.ok in
     subst (λ (r : Result Finding Stop). Found held before now (Some paths) r) (sym c.compare_end.ensures)
-        (nets_end held before now paths c.in-Ok.net c.in-Ok-load.net c.compare.result c.in-Ok.ensures.ok right c.compare.ensures)
+    (nets_end held before now paths c.in-Ok.net c.in-Ok-load.net c.compare.result c.in-Ok.ensures.ok right c.compare.ensures)
