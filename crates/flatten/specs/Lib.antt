@@ -1,1 +1,4 @@
+pub mod Faults
 pub mod Made
+pub mod Walking
+pub mod Wires
