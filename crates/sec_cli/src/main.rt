@@ -4,6 +4,8 @@
 mod finding;
 mod run;
 mod status;
+#[cfg(test)]
+mod tests;
 mod words;
 mod writing;
 
