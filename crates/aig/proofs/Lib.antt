@@ -1,0 +1,4 @@
+pub mod Literals
+pub mod Growth
+pub mod Meaning
+pub mod CoverMeaning

@@ -1,5 +1,5 @@
 -- Which literal stands for an and, for a cube and for a cover.
-use Rattle.std.specs.Prelude.{◌≡◌, ℕ, ◌+◌, ◌*◌, ◌<◌, ◌==◌, nat_lt, if◌then◌else◌, List, [], ◌∷◌, length, Option, Some, None}
+use Rattle.std.specs.Prelude.{◌≡◌, ℕ, ◌+◌, ◌*◌, ◌<◌, ◌==◌, ◌||◌, nat_lt, if◌then◌else◌, List, [], ◌∷◌, length, Option, Some, None}
 use Rattle.circuit_theory.specs.Cover.{Cover}
 use Rattle.aig.specs.declared.node.Lit.{Lit}
 use Rattle.aig.specs.declared.node.Node.{Node}
@@ -10,7 +10,7 @@ use Rattle.aig.specs.Graph.{flip, IsLitOf}
 -- literal if both are one; 0 if one is the other's complement.
 unfoldable pub simple_and : ℕ → ℕ → Option ℕ
 simple_and l r =
-    if l == 0 then Some 0 else if r == 0 then Some 0 else if l == 1 then Some r else if r == 1 then Some l else if l == r then Some l else if l == flip r then Some 0 else None
+    if (l == 0) || (r == 0) then Some 0 else if l == 1 then Some r else if (r == 1) || (l == r) then Some l else if l == flip r then Some 0 else None
 
 -- the node of two operands, the lesser first
 abbrev pub and_node : ℕ → ℕ → Node

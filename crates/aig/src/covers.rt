@@ -1,10 +1,10 @@
 //! Covers on the graph.
 
-ghost use Rattle.std.specs.Prelude.{◌≡◌, ℕ, ◌+◌, ◌*◌, ◌^◌, ◌<◌, ◌≤◌, Bool, map, length, All, IfOk, OnOk, OnErr};
+ghost use Rattle.std.specs.Prelude.{◌≡◌, ℕ, ◌+◌, ◌*◌, ◌^◌, ◌<◌, ◌≤◌, Bool, map, length, All, IfOk, option_map};
 ghost use Rattle.circuit_theory.specs.Cover.{cover_value};
 ghost use Rattle.aig.specs.Graph.{Grows, vars_of};
 ghost use Rattle.aig.specs.Values.{value, KeepsValues};
-ghost use Rattle.aig.specs.Rules.{IsCoverOf, cover_room};
+ghost use Rattle.aig.specs.Rules.{IsCoverOf, IsRowOf, IsCubeOf, IsPlaceOf, place_lit, cover_room};
 
 use crate::graph::Aig;
 use crate::node::Lit;
@@ -25,6 +25,76 @@ impl Aig {
         ensures few { length self.new ≤ length self.old + cover_room cover.now }
         ensures vars { vars_of self.new ≡ vars_of self.old }
     {
-        Ok(Lit(0))
+        cover.keeps();
+        let rows = cover.rows();
+        let mut lit = Lit(0);
+        for i in 0..rows.len() {
+            lit = self.row(lit, rows[i].as_slice(), fanins)?;
+        }
+        Ok(if cover.on() { lit } else { Aig::not(lit) })
+    }
+
+    /// The literal so far, or the row's cube.
+    fn row(&mut self, from: Lit, row: &[u8], fanins: &[Lit]) -> Result<Lit, NoMemory>
+        requires from { from.0 < 2 * length self.old }
+        requires within { All (λ f. f.0 < 2 * length self.old) fanins.now }
+        requires width { length fanins.now ≡ length row.now }
+        requires room { length self.old + length row.now + 1 < 2 ^ 30 }
+        ensures here { IfOk result (λ x. IsRowOf self.new from.0 row.now (map (λ f. f.0) fanins.now) x.0) }
+        ensures within { IfOk result (λ x. x.0 < 2 * length self.new) }
+        ensures grows { Grows self.old self.new }
+        ensures few { length self.new ≤ length self.old + length row.now + 1 }
+        ensures vars { vars_of self.new ≡ vars_of self.old }
+    {
+        let cube = self.cube(row, fanins)?;
+        let both = self.and(Aig::not(from), Aig::not(cube))?;
+        Ok(Aig::not(both))
+    }
+
+    /// The and of what the places ask of their fan-ins.
+    fn cube(&mut self, places: &[u8], fanins: &[Lit]) -> Result<Lit, NoMemory>
+        requires within { All (λ f. f.0 < 2 * length self.old) fanins.now }
+        requires width { length fanins.now ≡ length places.now }
+        requires room { length self.old + length places.now < 2 ^ 30 }
+        ensures here { IfOk result (λ x. IsCubeOf self.new 1 places.now (map (λ f. f.0) fanins.now) x.0) }
+        ensures within { IfOk result (λ x. x.0 < 2 * length self.new) }
+        ensures grows { Grows self.old self.new }
+        ensures few { length self.new ≤ length self.old + length places.now }
+        ensures vars { vars_of self.new ≡ vars_of self.old }
+    {
+        let mut lit = Lit(1);
+        for i in 0..places.len() {
+            lit = self.place(lit, places[i], fanins[i])?;
+        }
+        Ok(lit)
+    }
+
+    /// The literal so far, and what the place asks of its fan-in.
+    fn place(&mut self, from: Lit, place: u8, fanin: Lit) -> Result<Lit, NoMemory>
+        requires from { from.0 < 2 * length self.old }
+        requires fanin { fanin.0 < 2 * length self.old }
+        requires room { length self.old + 1 < 2 ^ 30 }
+        ensures here { IfOk result (λ x. IsPlaceOf self.new from.0 (place_lit place fanin.0) x.0) }
+        ensures within { IfOk result (λ x. x.0 < 2 * length self.new) }
+        ensures grows { Grows self.old self.new }
+        ensures few { length self.new ≤ length self.old + 1 }
+        ensures vars { vars_of self.new ≡ vars_of self.old }
+    {
+        match place_lit(place, fanin) {
+            None => Ok(from),
+            Some(l) => self.and(from, l),
+        }
+    }
+}
+
+#[tactic(auto, unfolding(crate::specs::Rules::place_lit))]
+fn place_lit(place: u8, fanin: Lit) -> Option<Lit>
+    ensures { option_map (λ l. l.0) result ≡ place_lit place fanin.0 }
+{
+    match place {
+        b'-' => None,
+        b'1' => Some(fanin),
+        b'0' => Some(Aig::not(fanin)),
+        _ => Some(Lit(0)),
     }
 }

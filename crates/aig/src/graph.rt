@@ -78,6 +78,14 @@ impl Aig {
         self.nodes[n as usize]
     }
 
+    /// The nodes in their order.
+    pub fn nodes(&self) -> &[Node]
+        ensures nodes { result.now ≡ self.now }
+        ensures graph { IsGraph self.now }
+    {
+        self.nodes.as_slice()
+    }
+
     /// The complement.
     pub fn not(l: Lit) -> Lit
         ensures literal { result.0 ≡ flip l.0 }
@@ -103,10 +111,8 @@ impl Aig {
         ensures vars { OnOk result (vars_of self.new ≡ max (var + 1) (vars_of self.old)) }
         ensures err { OnErr result (self.new ≡ self.old) }
     {
-        let lit = self.make(Node::Input(var))?;
-        if self.vars <= var {
-            self.vars = var + 1;
-        }
+        let lit = insert(&mut self.nodes, Node::Input(var))?;
+        self.vars = self.vars.max(var + 1);
         Ok(lit)
     }
 
@@ -126,31 +132,42 @@ impl Aig {
     {
         match simple_and(l, r) {
             Some(x) => Ok(x),
-            None => self.make(and_node(l, r)),
+            None => insert(&mut self.nodes, and_node(l, r)),
         }
-    }
-
-    /// The literal of the node, which goes last if it isn't there.
-    fn make(&mut self, node: Node) -> Result<Lit, NoMemory>
-        requires room { length self.old + 1 < 2 ^ 30 }
-        requires above { IsAbove (length self.old) node }
-        ensures here { IfOk result (λ x. IsLitOf self.new node x.0) }
-        ensures grows { Grows self.old self.new }
-        ensures few { length self.new ≤ length self.old + 1 }
-        ensures err { OnErr result (self.new ≡ self.old) }
-    {
-        let (index, _) = self.nodes.insert_full(node)?;
-        Ok(Lit(2 * (index as u32)))
     }
 }
 
+/// The literal of the node, which goes last if it isn't there.
+fn insert(nodes: &mut IndexSet<Node>, node: Node) -> Result<Lit, NoMemory>
+    requires graph { IsGraph nodes.old.keys }
+    requires room { length nodes.old.keys + 1 < 2 ^ 30 }
+    requires above { IsAbove (length nodes.old.keys) node }
+    ensures graph { IsGraph nodes.new.keys }
+    ensures here { IfOk result (λ x. IsLitOf nodes.new.keys node x.0) }
+    ensures grows { Grows nodes.old.keys nodes.new.keys }
+    ensures few { length nodes.new.keys ≤ length nodes.old.keys + 1 }
+    ensures vars { OnOk result (vars_of nodes.new.keys ≡ max (vars_of (node ∷ [])) (vars_of nodes.old.keys)) }
+    ensures err { OnErr result (nodes.new.keys ≡ nodes.old.keys) }
+{
+    let (index, _) = nodes.insert_full(node)?;
+    Ok(Lit(2 * (index as u32)))
+}
+
+#[tactic(auto, unfolding(crate::specs::Rules::simple_and))]
 fn simple_and(l: Lit, r: Lit) -> Option<Lit>
     ensures { option_map (λ x. x.0) result ≡ simple_and l.0 r.0 }
 {
     if l.0 == 0 || r.0 == 0 {
-        return Some(Lit(0));
+        Some(Lit(0))
+    } else if l.0 == 1 {
+        Some(r)
+    } else if r.0 == 1 || l.0 == r.0 {
+        Some(l)
+    } else if l.0 == Aig::not(r).0 {
+        Some(Lit(0))
+    } else {
+        None
     }
-    None
 }
 
 fn and_node(l: Lit, r: Lit) -> Node

@@ -1,7 +1,7 @@
 //! Values of literals under an assignment.
 
-ghost use Rattle.std.specs.Prelude.{◌≡◌, ℕ, ◌+◌, ◌*◌, ◌<◌, ◌≤◌, length, slice_get, Some};
-ghost use Rattle.aig.specs.Graph.{vars_of, IsOrdered};
+ghost use Rattle.std.specs.Prelude.{◌≡◌, ◌*◌, ◌<◌, ◌≤◌, [], ◌∷◌, length};
+ghost use Rattle.aig.specs.Graph.{vars_of, IsOrdered, IsAbove};
 ghost use Rattle.aig.specs.Values as meaning;
 
 use crate::graph::Aig;
@@ -14,7 +14,33 @@ pub fn node_bits(nodes: &[Node], assignment: &[bool], scratch: &mut [bool])
     requires covers { vars_of nodes.now ≤ length assignment.now }
     requires places { length scratch.old ≡ length nodes.now }
     ensures { scratch.new ≡ meaning.node_bits nodes.now (meaning.assigned assignment.now) }
-{}
+{
+    for n in 0..nodes.len() {
+        scratch[n] = node_bit(nodes[n], assignment, &scratch[..n]);
+    }
+}
+
+/// The bit of a node whose operands have these bits.
+fn node_bit(node: Node, assignment: &[bool], bits: &[bool]) -> bool
+    requires above { IsAbove (length bits.now) node }
+    requires covers { vars_of (node ∷ []) ≤ length assignment.now }
+    ensures { result ≡ meaning.node_bit (meaning.assigned assignment.now) bits.now node }
+{
+    match node {
+        Node::Constant => false,
+        Node::Input(v) => assignment[v as usize],
+        Node::And(l, r) => lit_bit(bits, l) && lit_bit(bits, r),
+    }
+}
+
+#[tactic(auto, unfolding(crate::specs::Values::lit_bit))]
+fn lit_bit(bits: &[bool], l: Lit) -> bool
+    requires { l.0 < 2 * length bits.now }
+    ensures { result ≡ meaning.lit_bit bits.now l.0 }
+{
+    let bit = bits[(l.0 / 2) as usize];
+    if l.0 % 2 == 0 { bit } else { !bit }
+}
 
 impl Aig {
     /// The literal's value, where place v of the assignment is variable v's bit. It takes no memory; the scratch then
@@ -26,6 +52,7 @@ impl Aig {
         ensures value { result ≡ meaning.value self.now (meaning.assigned assignment.now) l.0 }
         ensures scratch { scratch.new ≡ meaning.node_bits self.now (meaning.assigned assignment.now) }
     {
-        false
+        node_bits(self.nodes(), assignment, scratch);
+        lit_bit(scratch, l)
     }
 }

@@ -1,0 +1,9 @@
+use Rattle.aig.proofs.Growth.{Builds-one}
+use Rattle.aig.proofs.CoverMeaning.{value-tree}
+use Rattle.aig.proofs.graph.Aig.keeps.Goals as goal
+
+pub returns-clause-one : goal.returns-clause-one
+returns-clause-one c = λ places tree x y distinct is also. Builds-one c.args.self.now c.self.invariant.0 places distinct tree x y is also
+
+pub returns-clause-values : goal.returns-clause-values
+returns-clause-values c = λ places bits a tree x fits is. value-tree c.args.self.now c.self.invariant.0 a places bits fits tree x is
