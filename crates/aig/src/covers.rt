@@ -82,7 +82,10 @@ impl Aig {
     {
         match place_lit(place, fanin) {
             None => Ok(from),
-            Some(l) => self.and(from, l),
+            Some(l) => {
+                let x = self.and(from, l)?;
+                Ok(x)
+            }
         }
     }
 }

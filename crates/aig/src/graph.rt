@@ -132,7 +132,10 @@ impl Aig {
     {
         match simple_and(l, r) {
             Some(x) => Ok(x),
-            None => insert(&mut self.nodes, and_node(l, r)),
+            None => {
+                let x = insert(&mut self.nodes, and_node(l, r))?;
+                Ok(x)
+            }
         }
     }
 }
