@@ -1,21 +1,24 @@
 -- One node more in a graph.
-use Rattle.std.proofs.Common.{◌≡◌, ◌≢◌, ℕ, zero, suc, ◌+◌, ◌*◌, ◌^◌, ◌<◌, ◌≤◌, ◌⊎◌, inl, inr, max, Bool, true, false, ◌&&◌, if◌then◌else◌, List, [], ◌∷◌, ◌++◌, length, slice_get, Option, Some, None, Contains, refl, sym, ap, subst, ◌∙◌, arith, true≢false}
+use Rattle.std.proofs.Common.{◌≡◌, ◌≢◌, ℕ, zero, suc, ◌+◌, ◌*◌, ◌^◌, ◌<◌, ◌≤◌, ◌⊎◌, inl, inr, ◌==◌, max, Bool, true, false, ◌&&◌, if◌then◌else◌, List, [], ◌∷◌, ◌++◌, length, slice_get, Option, Some, None, Contains, All, map, refl, sym, ap, subst, ◌∙◌, arith, true≢false}
 use Rattle.std.specs.Prelude.{nat_lt}
 use Rattle.std.specs.List.{list_any}
-use Rattle.std.proofs.lemmas.Option.{slice_get_within, none-some, same_Some}
+use Rattle.std.proofs.lemmas.Option.{slice_get_within, get_or_from_slice_get, none-some, same_Some}
 use Rattle.std.proofs.lemmas.List.{length-append}
 use Rattle.std.proofs.lemmas.List.Folds.{list_any_at}
+use Rattle.std.proofs.lemmas.Bool.Decides.{Decides-eqb}
 use Rattle.circuit_theory.proofs.Lists.{at_of, of_at}
+use Rattle.circuit_theory.specs.Cover.{Cover, cover_value}
 use Rattle.aig.specs.declared.node.Lit.{Lit}
 use Rattle.aig.specs.declared.node.Node.{Node}
 use Rattle.aig.specs.declared.node.Node.TheVariants.{Constant, Input, And}
+use Rattle.aig.specs.contracts.node.NodePartialEq.TheImpl.{eq-value}
 use Rattle.aig.specs.Graph.{IsGraph, IsOrdered, IsAbove, Grows, IsLitOf, flip, vars_of}
 use Rattle.aig.specs.Values.{value}
-use Rattle.aig.specs.Rules.{simple_and, and_node, IsAndOf, place_lit}
+use Rattle.aig.specs.Rules.{simple_and, and_node, IsAndBy, IsAndOf, IsCoverOf, place_lit}
 use Rattle.aig.proofs.Literals.{flip-within}
 use Rattle.aig.proofs.Growth.{slice_get-append, vars_of-append}
 use Rattle.aig.proofs.Meaning.{value-grows}
-use Rattle.aig.proofs.CoverMeaning.{Simple, simple, value-and}
+use Rattle.aig.proofs.CoverMeaning.{Simple, simple, simple-within, value-and, value-cover}
 
 -- an element of a list with one more
 pub push-cases : {X : Type 0} (xs : List X) (x : X) (n : ℕ) (y : X) → slice_get (xs ++ x ∷ []) n ≡ Some y → (slice_get xs n ≡ Some y) ⊎ ((n ≡ length xs) × (y ≡ x))
@@ -63,12 +66,18 @@ vars_of-member (y ∷ g) (suc n) node h = tail y (vars_of-member g n node h)
     tail (Input v) k = omega arith
     tail (And l r) k = k
 
+-- each node passes the test against itself
+pub node-itself : (node : Node) → (eq-value).it node node ≡ true
+node-itself Constant = refl
+node-itself (Input v) = (Decides-eqb v v).1 refl
+node-itself (And l r) = ap (λ (b : Bool). b && (r.0 == r.0)) ((Decides-eqb l.0 l.0).1 refl) ∙ (Decides-eqb r.0 r.0).1 refl
+
 -- what a set of nodes is after an insert
 module _ (eq : Node → Node → Bool) (itself : (node : Node) → eq node node ≡ true) (g after : List Node) (node : Node) (is : after ≡ (if list_any (eq node) g then g else g ++ node ∷ [])) where
   not_there : list_any (eq node) g ≡ false → Contains g node → ⊥
   not_there none there =
       let at = at_of g node there in
-      true≢false (sym (list_any_at (eq node) g at.0 node (slice_get_within g at.0 node at.1) ?) ∙ none)
+      true≢false (sym (list_any_at (eq node) g at.0 node (slice_get_within g at.0 node at.1) (ap (eq node) (get_or_from_slice_get g at.0 node node at.1) ∙ itself node)) ∙ none)
 
   pub graph-insert : IsGraph g → length g + 1 < 2 ^ 30 → IsAbove (length g) node → IsGraph after
   graph-insert graph room above = subst IsGraph (sym is) (by (list_any (eq node) g) refl)
@@ -127,3 +136,29 @@ place_lit-within place f l n = dash (place == 45)
             zeros : (b : Bool) → (if b then flip f else 0) < 2 * n
             zeros true = flip-within f n h
             zeros false = omega arith
+
+-- the literal that a rule gives is one of the graph
+pub simple_and-within : (n l r x : ℕ) → simple_and l r ≡ Some x → l < 2 * n → r < 2 * n → x < 2 * n
+simple_and-within n l r x e left right = simple-within l r (simple_and l r) (simple l r) x e (2 * n) left right
+
+pub simple_and-is : (g : List Node) (l r x : ℕ) → simple_and l r ≡ Some x → IsAndOf g l r x
+simple_and-is g l r x e = subst (λ (o : Option ℕ). IsAndBy g l r o x) (sym e) refl
+
+pub and_node-is : (g : List Node) (l r x : ℕ) → simple_and l r ≡ None → IsLitOf g (and_node l r) x → IsAndOf g l r x
+and_node-is g l r x e is = subst (λ (o : Option ℕ). IsAndBy g l r o x) (sym e) is
+
+-- a graph has a node
+pub graph-some : (g : List Node) → IsGraph g → 0 < length g
+graph-some g graph = slice_get_within g 0 Constant graph.constant
+
+-- the values of fan-ins stay
+pub fanin-values : (g h : List Node) (a : ℕ → Bool) → Grows g h → (fs : List Lit) → All (λ f. f.0 < 2 * length g) fs → map (value h a) (map (λ f. f.0) fs) ≡ map (λ f. value g a f.0) fs
+fanin-values g h a grows [] within = refl
+fanin-values g h a grows (f ∷ fs) within =
+    let here : f.0 < 2 * length g = within 0 f (omega arith) in
+    let rest : All (λ (k : Lit). k.0 < 2 * length g) fs = λ k d inside. within (suc k) d (omega arith) in
+    ap (λ (b : Bool). b ∷ map (value h a) (map (λ k. k.0) fs)) (value-grows g h grows a f.0 here) ∙ ap (λ (bs : List Bool). value g a f.0 ∷ bs) (fanin-values g h a grows fs rest)
+
+pub value-cover_grown : (g h : List Node) → IsGraph h → Grows g h → (cover : Cover) (fs : List Lit) (x : ℕ) → All (λ f. f.0 < 2 * length g) fs → IsCoverOf h cover (map (λ f. f.0) fs) x → (a : ℕ → Bool) → value h a x ≡ cover_value cover (map (λ f. value g a f.0) fs)
+value-cover_grown g h graph grows cover fs x within is a =
+    value-cover h graph a cover (map (λ f. f.0) fs) x is ∙ ap (cover_value cover) (fanin-values g h a grows fs within)

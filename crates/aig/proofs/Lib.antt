@@ -4,3 +4,4 @@ pub mod Meaning
 pub mod CoverMeaning
 pub mod Insert
 pub mod Folds
+pub mod Bits
