@@ -5,3 +5,4 @@ pub mod CoverMeaning
 pub mod Insert
 pub mod Folds
 pub mod Bits
+pub mod Cones
