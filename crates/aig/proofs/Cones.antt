@@ -1,13 +1,15 @@
 -- Walks from roots, and the cones that they give.
 use Rattle.std.proofs.Common.{◌≡◌, ◌≢◌, ℕ, zero, suc, ◌+◌, ◌*◌, ◌/◌, ◌<◌, ◌≤◌, ◌==◌, ◌⊎◌, inl, inr, Bool, true, false, if◌then◌else◌, List, [], ◌∷◌, ◌++◌, length, map, get_or, sum_by, slice_get, Some, Contains, All, refl, sym, ap, subst, ◌∙◌, arith, true≢false}
-use Rattle.std.specs.List.{list_any}
-use Rattle.std.specs.List.Sorted.{IsStrictlyIncreasing, IsPermutation}
+use Rattle.std.specs.List.{list_any, IsDistinct}
+use Rattle.std.specs.List.Sorted.{IsStrictlyIncreasing, IsPermutation, IsSorted}
 use Rattle.std.proofs.lemmas.Bool.Decides.{Decides-eqb}
-use Rattle.std.proofs.lemmas.Option.{slice_get_within, slice_get-get_or, get_or_from_slice_get, same_Some}
+use Rattle.std.proofs.lemmas.Option.{slice_get_within, slice_get-get_or, get_or_from_slice_get, same_Some, none-some}
 use Rattle.std.proofs.lemmas.List.{length-append}
 use Rattle.std.proofs.lemmas.List.Folds.{list_any_at}
 use Rattle.std.proofs.lemmas.List.Sums.{sum_by-cons}
-use Rattle.std.proofs.lemmas.List.Sorted.{Contains-permutation, IsPermutation-sym}
+use Rattle.std.proofs.lemmas.List.Sorted.{Contains-permutation, IsPermutation-sym, IsNonDecreasingBy-from_sort}
+use Rattle.std.proofs.lemmas.Map.Keys.{IsStrictlyIncreasing-from_distinct, IsDistinct-IsPermutation}
+use Rattle.std.specs.Ordering.{nat_cmp}
 use Rattle.indexmap.proofs.CallerLemmas.{Contains-list_any}
 use Rattle.circuit_theory.proofs.Lists.{Contains-head, Contains-tail, Contains-map_from, at_of, of_at}
 use Rattle.circuit_theory.proofs.Sums.{sum_within}
@@ -221,3 +223,29 @@ walk-begun g roots seen sound rooted = record {
   where
     root_of : (x : ℕ) → ((l : Lit) × Contains roots l × (l.0 ≡ x)) → Contains seen (x / 2)
     root_of x (l, there, e) = let at = at_of roots l there in subst (λ (k : ℕ). Contains seen (k / 2)) e (rooted at.0 l at.1)
+
+-- equality of numbers is one both ways
+eqb-swap : (x y : ℕ) → (x == y) ≡ (y == x)
+eqb-swap x y = by (x == y) (y == x) refl refl
+  where
+    by : (b c : Bool) → (x == y) ≡ b → (y == x) ≡ c → b ≡ c
+    by true true p q = refl
+    by false false p q = refl
+    by true false p q = absurd (true≢false (sym ((Decides-eqb y x).1 (sym ((Decides-eqb x y).0 p))) ∙ q))
+    by false true p q = absurd (true≢false (sym ((Decides-eqb x y).1 (sym ((Decides-eqb y x).0 q))) ∙ p))
+
+-- nothing was seen yet
+pub seen-none : (g : List Node) (roots : List ℕ) → IsSeen g roots []
+seen-none g roots = record {
+  distinct = λ i j x at. absurd (none-some x at);
+  within = λ i n at. absurd (none-some n at);
+  reached = λ i n at. absurd (none-some n at);
+}
+
+-- the numbers of a walk that is done, sorted
+pub cone-made : (g : List Node) (roots seen items sorted made : List ℕ) → IsWalk g roots seen (length seen) → IsDistinct (λ x y. x == y) seen → items ≡ seen → IsPermutation items sorted → IsSorted nat_cmp sorted → made ≡ sorted → IsConeOf g roots made × IsClosed g made
+cone-made g roots seen items sorted made walk distinct is same order e =
+    let moved : IsPermutation seen sorted = subst (λ (xs : List ℕ). IsPermutation xs sorted) is same in
+    let apart : IsDistinct (λ x y. x == y) sorted = IsDistinct-IsPermutation (λ x y. x == y) eqb-swap seen sorted moved distinct in
+    let increasing : IsStrictlyIncreasing sorted = IsStrictlyIncreasing-from_distinct sorted (IsNonDecreasingBy-from_sort (λ x. x) sorted order) apart in
+    (subst (IsConeOf g roots) (sym e) (walk-cone g roots seen sorted walk moved increasing), subst (IsClosed g) (sym e) (walk-closed g roots seen sorted walk moved increasing))

@@ -6,3 +6,4 @@ pub mod Insert
 pub mod Folds
 pub mod Bits
 pub mod Cones
+pub mod Parts

@@ -1,0 +1,2 @@
+use Rattle.aig.proofs.Parts.{part-ordered, part-bits}
+use Rattle.aig.proofs.graph.Aig.part.Goals as goal
