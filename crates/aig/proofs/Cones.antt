@@ -136,12 +136,12 @@ module _ (g : List Node) (graph : IsGraph g) (roots seen : List ℕ) (at n : ℕ
       let one = with_number seen (l.0 / 2) in
       let both = with_number one (r.0 / 2) in
       let first : IsSeen g roots one =
-          seen-number g roots seen (l.0 / 2) walk.sound (operand_small l.0 n inside (omega arith)) (IsReached.operand n l.0 (And l r) reach (is ∙ ap Some e) (inl refl)) in
+      seen-number g roots seen (l.0 / 2) walk.sound (operand_small l.0 n inside (omega arith)) (IsReached.operand n l.0 (And l r) reach (is ∙ ap Some e) (inl refl)) in
       let second : IsSeen g roots both =
-          seen-number g roots one (r.0 / 2) first (operand_small r.0 n inside above.1) (IsReached.operand n r.0 (And l r) reach (is ∙ ap Some e) (inr refl)) in
+      seen-number g roots one (r.0 / 2) first (operand_small r.0 n inside above.1) (IsReached.operand n r.0 (And l r) reach (is ∙ ap Some e) (inr refl)) in
       subst (λ (s : List ℕ). IsWalk g roots s (at + 1)) (sym h)
-          (closed_on both second (λ i m place. with_number-front one (r.0 / 2) i m (with_number-front seen (l.0 / 2) i m place)) (λ x reading. read_of l r x (subst (λ (k : Node). Reads k x) e reading))
-              (omega (arith, with_number-length seen (l.0 / 2), with_number-length one (r.0 / 2))))
+      (closed_on both second (λ i m place. with_number-front one (r.0 / 2) i m (with_number-front seen (l.0 / 2) i m place)) (λ x reading. read_of l r x (subst (λ (k : Node). Reads k x) e reading))
+      (omega (arith, with_number-length seen (l.0 / 2), with_number-length one (r.0 / 2))))
     where
       read_of : (l r : Lit) (x : ℕ) → Reads (And l r) x → Contains (with_number (with_number seen (l.0 / 2)) (r.0 / 2)) (x / 2)
       read_of l r x (inl f) =
@@ -175,7 +175,7 @@ upto-length (suc n) = ap suc (upto-length n)
 pub few-below : (xs : List ℕ) (n : ℕ) → AreDistinct xs → ((i x : ℕ) → slice_get xs i ≡ Some x → x < n) → length xs ≤ n
 few-below xs n distinct small =
     let sums : sum_by (λ (x : ℕ). 1) xs ≤ sum_by (λ (x : ℕ). 1) (upto n) =
-        sum_within (λ (x : ℕ). 1) (λ (x y : ℕ). x ≡ y) (λ x y z p q. p ∙ sym q) xs (upto n) apart (λ x there. (x, upto-has n x (small_of x there), refl, refl)) in
+    sum_within (λ (x : ℕ). 1) (λ (x y : ℕ). x ≡ y) (λ x y z p q. p ∙ sym q) xs (upto n) apart (λ x there. (x, upto-has n x (small_of x there), refl, refl)) in
     omega (arith, ones-length xs, ones-length (upto n), upto-length n)
   where
     small_of : (x : ℕ) → Contains xs x → x < n

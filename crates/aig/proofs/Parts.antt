@@ -1,7 +1,9 @@
 -- The part of a graph that a cone is: its nodes by their places.
-use Rattle.std.proofs.Common.{◌≡◌, ℕ, zero, suc, ◌+◌, ◌-◌, ◌*◌, ◌/◌, ◌%◌, ◌<◌, ◌≤◌, ◌^◌, ◌⊎◌, inl, inr, Bool, true, false, not, ◌&&◌, List, [], ◌∷◌, ◌++◌, length, map, get_or, slice_get, Some, Contains, All, refl, sym, ap, subst, ◌∙◌, arith}
-use Rattle.std.specs.List.Sorted.{IsStrictlyIncreasing}
-use Rattle.std.proofs.lemmas.List.{same_lists, get_or-map, length-map}
+use Rattle.std.proofs.Common.{◌≡◌, ℕ, zero, suc, ◌+◌, ◌-◌, ◌*◌, ◌/◌, ◌%◌, ◌<◌, ◌≤◌, ◌^◌, ◌⊎◌, inl, inr, Bool, true, false, not, ◌&&◌, List, [], ◌∷◌, ◌++◌, length, map, get_or, slice_get, Some, Ok, Err, Contains, All, refl, sym, ap, subst, ◌∙◌, arith}
+use Rattle.std.specs.List.Sorted.{IsStrictlyIncreasing, IsBinarySearchResult}
+use Rattle.std.specs.Ordering.{nat_cmp}
+use Rattle.std.proofs.lemmas.List.Sorted.{searched}
+use Rattle.std.proofs.lemmas.List.{same_lists, get_or-map, length-map, length-append}
 use Rattle.std.proofs.lemmas.List.Kept.{AllPairs-from_increasing}
 use Rattle.std.proofs.lemmas.Option.{slice_get_within, slice_get-get_or, get_or_from_slice_get, same_Some}
 use Rattle.circuit_theory.proofs.Lists.{at_of, of_at}
@@ -12,6 +14,7 @@ use Rattle.aig.specs.Graph.{IsGraph, IsOrdered, IsAbove, flip}
 use Rattle.aig.specs.Values.{value, node_value, node_bits}
 use Rattle.aig.specs.Cone.{Reads, IsClosed, IsPlacedLit, IsPlacedNode, IsPartOf}
 use Rattle.aig.proofs.Literals.{parity, flip-even}
+use Rattle.aig.proofs.Growth.{slice_get-append}
 use Rattle.aig.proofs.Meaning.{value-node, value-even, value-flip, length-node_bits}
 
 -- of numbers that rise the one at a later place is greater
@@ -163,7 +166,7 @@ module _ (g : List Node) (graph : IsGraph g) (nodes : List ℕ) (closed : IsClos
   part-bits a = same_lists (node_bits part a) (map (λ n. value g a (2 * n)) nodes) lengths each
     where
       lengths : length (node_bits part a) ≡ length (map (λ n. value g a (2 * n)) nodes)
-      lengths = length-node_bits part a ∙ is.each ∙ sym (length-map (λ n. value g a (2 * n)) nodes)
+      lengths = length-node_bits part a ∙ is.each ∙ sym (length-map nodes (λ n. value g a (2 * n)))
 
       each : (k : ℕ) (d : Bool) → k < length (node_bits part a) → get_or (node_bits part a) k d ≡ get_or (map (λ n. value g a (2 * n)) nodes) k d
       each k d inside =
@@ -173,3 +176,57 @@ module _ (g : List Node) (graph : IsGraph g) (nodes : List ℕ) (closed : IsClos
         where
           default : (bits : List Bool) (k : ℕ) (d : Bool) → k < length bits → get_or bits k d ≡ get_or bits k false
           default bits k d inside = get_or_from_slice_get bits k (get_or bits k false) d (slice_get-get_or bits k false inside)
+
+-- numbers that rise don't fall
+not-falling : (ns : List ℕ) → IsStrictlyIncreasing ns → (i j : ℕ) → i ≤ j → j < length ns → get_or ns i 0 ≤ get_or ns j 0
+not-falling ns increasing i j below inside = by (cases i j)
+  where
+    cases : (i j : ℕ) → (i < j) ⊎ (j ≤ i)
+    cases i j = grind arith
+
+    by : (i < j) ⊎ (j ≤ i) → get_or ns i 0 ≤ get_or ns j 0
+    by (inl l) = let pair : get_or ns i 0 < get_or ns j 0 = AllPairs-from_increasing ns increasing i j 0 l inside in omega arith
+    by (inr g) = let same : i ≡ j = omega arith in omega (arith, ap (λ (k : ℕ). get_or ns k 0) same)
+
+-- what a search in numbers that rise finds, and that it misses nothing
+pub search-found : (ns : List ℕ) → IsStrictlyIncreasing ns → (x k : ℕ) → IsBinarySearchResult (λ y. nat_cmp y x) ns (Ok k) → slice_get ns k ≡ Some x
+search-found ns increasing x k found =
+    let hit = searched ns x (Ok k) found (not-falling ns increasing) in
+    slice_get-get_or ns k 0 hit.0 ∙ ap Some hit.1
+
+pub search-missed : (ns : List ℕ) → IsStrictlyIncreasing ns → (x i : ℕ) → IsBinarySearchResult (λ y. nat_cmp y x) ns (Err i) → Contains ns x → ⊥
+search-missed ns increasing x i missed there =
+    let hit = searched ns x (Err i) missed (not-falling ns increasing) in
+    let at = at_of ns x there in
+    let here : get_or ns at.0 0 ≡ x = get_or_from_slice_get ns at.0 x 0 at.1 in
+    by at.0 here (slice_get_within ns at.0 x at.1) hit.1 hit.2 (cases at.0 i)
+  where
+    cases : (k i : ℕ) → (k < i) ⊎ (i ≤ k)
+    cases k i = grind arith
+
+    by : (k : ℕ) → get_or ns k 0 ≡ x → k < length ns → ((k : ℕ) → k < i → get_or ns k 0 < x) → ((k : ℕ) → i ≤ k → k < length ns → x < get_or ns k 0) → (k < i) ⊎ (i ≤ k) → ⊥
+    by k here inside before behind (inl l) = let less : get_or ns k 0 < x = before k l in omega arith
+    by k here inside before behind (inr g) = let more : x < get_or ns k 0 = behind k g inside in omega arith
+
+-- one node more of a part
+pub part-step : (g : List Node) (nodes : List ℕ) (part new : List Node) (k : ℕ) (p : Node) (n : ℕ) (node : Node) → length part ≡ k → ((j m : ℕ) (y : Node) → j < k → slice_get nodes j ≡ Some m → slice_get g m ≡ Some y → (q : Node) × (slice_get part j ≡ Some q) × IsPlacedNode nodes y q)
+    → new ≡ part ++ p ∷ [] → slice_get nodes k ≡ Some n → slice_get g n ≡ Some node → IsPlacedNode nodes node p
+    → (length new ≡ k + 1) × ((j m : ℕ) (y : Node) → j < k + 1 → slice_get nodes j ≡ Some m → slice_get g m ≡ Some y → (q : Node) × (slice_get new j ≡ Some q) × IsPlacedNode nodes y q)
+part-step g nodes part new k p n node each placed is here there at_p =
+    (omega (arith, ap length is, length-append part (p ∷ [])), λ j m y below at other. by j m y (before j below) at other)
+  where
+    before : (j : ℕ) → j < k + 1 → (j < k) ⊎ (j ≡ k)
+    before j below = grind arith
+
+    last : (xs : List Node) → slice_get (xs ++ p ∷ []) (length xs) ≡ Some p
+    last [] = refl
+    last (x ∷ xs) = last xs
+
+    by : (j m : ℕ) (y : Node) → (j < k) ⊎ (j ≡ k) → slice_get nodes j ≡ Some m → slice_get g m ≡ Some y → (q : Node) × (slice_get new j ≡ Some q) × IsPlacedNode nodes y q
+    by j m y (inl below) at other =
+        let (q, was, fits) = placed j m y below at other in
+        (q, subst (λ (xs : List Node). slice_get xs j ≡ Some q) (sym is) (slice_get-append part (p ∷ []) j q was), fits)
+    by j m y (inr e) at other =
+        let one : n ≡ m = same_Some n m (sym here ∙ ap (slice_get nodes) (sym e) ∙ at) in
+        let same : node ≡ y = same_Some node y (sym there ∙ ap (slice_get g) one ∙ other) in
+        (p, ap (slice_get new) (e ∙ sym each) ∙ ap (λ (xs : List Node). slice_get xs (length part)) is ∙ last part, subst (λ (z : Node). IsPlacedNode nodes z p) same at_p)

@@ -33,7 +33,7 @@ returns-in_ok-x-in-None-clause-value c = λ a.
     let h : List Node = c.insert.new.nodes.keys in
     let here : IsLitOf h (and_node c.args.l.0 c.args.r.0) c.in_ok-x-in-None.x.0 = subst (λ (node : Node). IsLitOf h node c.in_ok-x-in-None.x.0) c.and_node.ensures c.in_ok-x-in-None.ensures.here in
     value-and_grown c.args.self.now h c.insert.ensures.graph (subst (λ (k : List Node). Grows k h) c.self.view_is c.insert.ensures.grows) c.args.l.0 c.args.r.0 c.in_ok-x-in-None.x.0 c.requires.left c.requires.right
-        (and_node-is h c.args.l.0 c.args.r.0 c.in_ok-x-in-None.x.0 none here) a
+    (and_node-is h c.args.l.0 c.args.r.0 c.in_ok-x-in-None.x.0 none here) a
 
 pub returns-in_ok-x-in-None-clause-older : goal.returns-in_ok-x-in-None-clause-older
 returns-in_ok-x-in-None-clause-older c = value-grows c.args.self.now c.insert.new.nodes.keys (subst (λ (k : List Node). Grows k c.insert.new.nodes.keys) c.self.view_is c.insert.ensures.grows)

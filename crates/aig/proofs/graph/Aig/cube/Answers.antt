@@ -14,6 +14,6 @@ loop-i-preserved c = record {
   vars = c.place.ensures.vars ∙ c.loop-i.invariant.vars;
   rest = λ h x grows is.
       c.loop-i.invariant.rest h x (Grows-trans c.loop-i.self c.place.new.self h c.place.ensures.grows grows)
-          (cube-step c.place.new.self h c.loop-i.lit.0 c.args.places.now c.args.fanins.now c.loop-i.i (get_or c.args.places.now c.loop-i.i 0) (get_or c.args.fanins.now c.loop-i.i (record { 0 = 0 })) (record { 0 = 0 })
-              c.in_ok-next.next.0 x refl refl c.loop-i-test.true (omega (arith, c.requires.width, c.loop-i-test.true)) c.in_ok-next.ensures.here grows is);
+      (cube-step c.place.new.self h c.loop-i.lit.0 c.args.places.now c.args.fanins.now c.loop-i.i (get_or c.args.places.now c.loop-i.i 0) (get_or c.args.fanins.now c.loop-i.i (record { 0 = 0 })) (record { 0 = 0 })
+      c.in_ok-next.next.0 x refl refl c.loop-i-test.true (omega (arith, c.requires.width, c.loop-i-test.true)) c.in_ok-next.ensures.here grows is);
 }
