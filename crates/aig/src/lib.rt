@@ -5,6 +5,8 @@ mod cone;
 mod covers;
 mod graph;
 mod node;
+#[cfg(test)]
+mod tests;
 mod values;
 
 pub use graph::Aig;
