@@ -1,0 +1,5 @@
+pub mod Graph
+pub mod Values
+pub mod Rules
+pub mod Builds
+pub mod Cone

@@ -1,0 +1,14 @@
+//! And-inverter graphs: two-operand ands and complements, where equal nodes are one.
+#![tactic(auto)]
+
+mod cone;
+mod covers;
+mod graph;
+mod node;
+#[cfg(test)]
+mod tests;
+mod values;
+
+pub use graph::Aig;
+pub use node::{Lit, Node};
+pub use values::node_bits;
