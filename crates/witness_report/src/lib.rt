@@ -1,13 +1,20 @@
-// A library with one function.
+//! Stimuli as texts, and what a comparison shows of two circuits that differ.
 #![tactic(auto)]
 
-ghost use Rattle.std.specs.Prelude.{◌≡◌};
-ghost use Rattle.witness_report.specs.Echo.{echo_of};
+mod error;
+mod laws;
+mod pieces;
+mod reading;
+mod rows;
+mod stimulus;
+#[cfg(test)]
+mod tests;
+mod witness;
+mod writing;
 
-// The `ensures` clause is the contract: what `echo` returns is `echo_of` of its argument, a definition
-// in `specs/Echo.antt`, which a caller's clause can cite too.
-pub fn echo(x: usize) -> usize
-    ensures { result ≡ echo_of x }
-{
-    x
-}
+pub use error::StimError;
+pub use laws::reads_back;
+pub use reading::read_stimulus;
+pub use stimulus::Stimulus;
+pub use witness::{PairName, Witness};
+pub use writing::write_stimulus;
