@@ -14,7 +14,7 @@ use std::marker::Model;
 
 /// The run of a net from a power-up, of which it keeps the latest cycle and the marks of its settled signals. It
 /// borrows the net for its life.
-#[derive(Debug, Drop)]
+#[derive(Drop)]
 pub struct MarkedSim<'a> {
     net: &'a Net,
     sim: Sim<'a>,
@@ -23,6 +23,7 @@ pub struct MarkedSim<'a> {
 }
 
 impl<'a> Model for MarkedSim<'a> {
+    ghost use Rattle.std.specs.Prelude.{◌≡◌, length};
     ghost use Rattle.cycle_sim.specs.View.{MarkedView, HasMarks};
 
     ghost Value = { MarkedView };
@@ -48,11 +49,12 @@ impl<'a> MarkedSim<'a> {
         ensures run { IfOk result (λ marked. HasRun marked.sim (power_bits (length net.now.latches) power.now) []) }
     {
         let _ = enabled;
+        net.keeps();
         Ok(MarkedSim {
             net,
             sim: Sim::new(alloc, net, power)?,
-            marks: vec![in alloc; false; net.size() as usize]?,
-            marks_ahead: vec![in alloc; false; net.latches().len()]?,
+            marks: unmarked(alloc, net.size() as usize)?,
+            marks_ahead: unmarked(alloc, net.latches().len())?,
         })
     }
 
@@ -66,6 +68,7 @@ impl<'a> MarkedSim<'a> {
         ensures run { (power : List Bool) (rows : List (List Bool)) → HasRun self.old.sim power rows → HasRun self.new.sim power (rows ++ inputs.now ∷ []) }
     {
         let net = self.net;
+        net.keeps();
         self.sim.step(inputs);
         mark(net, &self.marks_ahead, &mut self.marks);
         mark_ahead(net, &self.marks, &mut self.marks_ahead);
@@ -97,4 +100,11 @@ impl<'a> MarkedSim<'a> {
         net.keeps();
         self.marks[net.outputs()[i as usize].signal.0 as usize]
     }
+}
+
+/// So many places without a mark.
+fn unmarked(alloc: Global, count: usize) -> Result<Vec<bool>, NoMemory>
+    ensures { IfOk result (λ marks. marks.items ≡ replicate count false) }
+{
+    Ok(vec![in alloc; false; count]?)
 }

@@ -61,7 +61,12 @@ fn are_marked(fanins: &[Signal], marks: &[bool]) -> bool
     requires { All (λ f. f.0 < length marks.now) fanins.now }
     ensures { result ≡ list_all (λ f. slice_index_or marks.now f.0 false) fanins.now }
 {
-    fanins.iter().all(|fanin| marks[fanin.0 as usize])
+    for fanin in fanins.iter() {
+        if !marks[fanin.0 as usize] {
+            return false;
+        }
+    }
+    true
 }
 
 /// Puts each latch's mark in the next cycle: that of its data signal now.
@@ -71,5 +76,6 @@ pub(crate) fn mark_ahead(net: &Net, marks: &[bool], latches: &mut [bool])
     ensures size { length latches.new ≡ length latches.old }
     ensures ahead { (t : ℕ) → AreMarks net.now t marks.now → AreMarksAhead net.now (t + 1) latches.new }
 {
+    net.keeps();
     take_over(net, marks, latches);
 }

@@ -12,7 +12,7 @@ use std::alloc::Global;
 use std::marker::Model;
 
 /// The run of a net from a power-up, of which it keeps the latest cycle. It borrows the net for its life.
-#[derive(Debug, Drop)]
+#[derive(Drop)]
 pub struct Sim<'a> {
     net: &'a Net,
     cycles: u32,
@@ -21,6 +21,7 @@ pub struct Sim<'a> {
 }
 
 impl<'a> Model for Sim<'a> {
+    ghost use Rattle.std.specs.Prelude.{◌≡◌, length};
     ghost use Rattle.cycle_sim.specs.View.{SimView};
 
     ghost Value = { SimView };
@@ -54,6 +55,7 @@ impl<'a> Sim<'a> {
         ensures run { (power : List Bool) (rows : List (List Bool)) → HasRun self.old power rows → HasRun self.new power (rows ++ inputs.now ∷ []) }
     {
         let net = self.net;
+        net.keeps();
         compute(net, inputs, &self.ahead, &mut self.values);
         take_over(net, &self.values, &mut self.ahead);
         self.cycles += 1;
