@@ -87,13 +87,13 @@ module _ (n : NetView) (sound : IsSound n) (inputs latches values : List Bool)
           ∙ (carried ∙ sym (get_or_from_slice_get values l.next.0 _ false (latest power rows run before (held run before) l.next.0 (sound.latches at.0 l at.1).within)))
 
 -- the bit of a latch or of an input, by what drives the signal
-latch_bit : List Bool → Option Driver → Bool
+abbrev latch_bit : List Bool → Option Driver → Bool
 latch_bit power None = false
 latch_bit power (Some (driver.Input i)) = false
 latch_bit power (Some (driver.Gate j)) = false
 latch_bit power (Some (driver.Latch j)) = get_or power j false
 
-input_bit : List Bool → Option Driver → Bool
+abbrev input_bit : List Bool → Option Driver → Bool
 input_bit row None = false
 input_bit row (Some (driver.Input i)) = get_or row i false
 input_bit row (Some (driver.Gate j)) = false

@@ -1,5 +1,5 @@
 -- The text of a stimulus, as a function of its names and rows.
-use Rattle.std.specs.Prelude.{ℕ, Bool, true, false, List, [], ◌∷◌, ◌++◌, map, codes, if◌then◌else◌, refl}
+use Rattle.std.specs.Prelude.{◌≡◌, ℕ, Bool, true, false, List, [], ◌∷◌, ◌++◌, map, codes, if◌then◌else◌, refl}
 use Rattle.std.specs.List.{flat_map}
 
 -- the digit of a bit

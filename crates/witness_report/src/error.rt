@@ -17,6 +17,7 @@ pub enum StimError {
 }
 
 impl From<NoMemory> for StimError {
+    ghost use Rattle.std.specs.Prelude.{◌≡◌};
     ghost use Rattle.witness_report.specs.declared.error.StimError.TheVariants as stim_error;
 
     ghost from_gives = { λ _ e. e ≡ stim_error.NoMemory };

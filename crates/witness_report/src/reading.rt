@@ -1,6 +1,6 @@
 //! Stimuli out of texts.
 
-ghost use Rattle.std.specs.Prelude.{◌≡◌, ◌==◌, ◌^◌, ◌<◌, ℕ, Bool, List, ◌∷◌, length, codes, bytes_eq, IfOk, IfSome, IfNone, MatchResult, IsErrOf, MatchOption, Contains, false};
+ghost use Rattle.std.specs.Prelude.{◌≡◌, ◌+◌, ◌==◌, ◌^◌, ◌<◌, ℕ, Bool, List, ◌∷◌, length, codes, bytes_eq, IfOk, IfSome, IfNone, MatchResult, IsErrOf, MatchOption, Contains, false};
 ghost use Rattle.std.specs.List.{slice_split};
 ghost use Rattle.std.specs.Io.BufRead.{strip_last, ends_with_byte};
 ghost use Rattle.witness_report.specs.Text.{header_line};
@@ -36,16 +36,20 @@ fn read_header(alloc: Global, line: &[u8]) -> Result<Option<Words>, NoMemory>
     }
     let mut names = NameTable::new(alloc);
     while let Some(name) = pieces.next_piece() {
-        if name.is_empty() || !names.add(alloc, name)? {
+        if name.is_empty() {
+            return Ok(None);
+        }
+        if !names.add(alloc, name)? {
             return Ok(None);
         }
     }
+    names.keeps();
     Ok(Some(names.into_words(alloc)?))
 }
 
 /// Whether there is a piece, and it is the header's first word.
 fn begins(piece: Option<&[u8]>) -> bool
-    ensures { MatchOption piece (result ≡ false) (λ word. result ≡ bytes_eq word.now (codes "inputs")) }
+    ensures { MatchOption piece.entry (result ≡ false) (λ word. result ≡ bytes_eq word.now (codes "inputs")) }
 {
     match piece {
         Some(word) => word == b"inputs".as_slice(),

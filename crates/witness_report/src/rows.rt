@@ -68,9 +68,9 @@ pub(crate) fn read_rows(
     lines: Pieces<'_>,
 ) -> Result<BitRows, StimError>
     requires { length lines + 2 < 2 ^ 32 }
-    ensures ok { IfOk result (λ rows. (map row_text rows ≡ lines) × AreRows count rows) }
+    ensures ok { IfOk result (λ rows. (map row_text rows ≡ lines.entry) × AreRows count rows) }
     ensures header { (n : ℕ) → IsErrOf result (stim_error.BadHeader n) → ⊥ }
-    ensures row { (n : ℕ) → IsErrOf result (stim_error.BadRow n) → IsBadLine count lines n }
+    ensures row { (n : ℕ) → IsErrOf result (stim_error.BadRow n) → IsBadLine count lines.entry n }
 {
     let mut left = lines;
     let mut number = 2u32;

@@ -1,4 +1,5 @@
-use Rattle.std.proofs.Common.{◌≡◌, ◌∙◌, length, ap, sym, length-replicate}
+use Rattle.std.proofs.Common.{◌≡◌, ◌∙◌, length, ap, sym}
+use Rattle.std.proofs.lemmas.List.{length-replicate}
 use Rattle.cycle_sim.proofs.Marks.{begin}
 use Rattle.cycle_sim.proofs.marked.MarkedSim.new.Goals as goal
 
