@@ -1,8 +1,8 @@
 -- The form of a stimulus and its lines.
-use Rattle.std.proofs.Common.{◌≡◌, ℕ, zero, suc, ◌+◌, ◌<◌, ◌==◌, ◌||◌, Bool, true, false, List, [], ◌∷◌, ◌++◌, map, length, codes, refl, sym, ◌∙◌, ap, subst, arith, inl, inr, ◌⊎◌, append_assoc, length-append, slice_get, Some}
+use Rattle.std.proofs.Common.{◌≡◌, ℕ, zero, suc, ◌+◌, ◌<◌, ◌≤◌, ◌==◌, ◌||◌, not, cond, Bool, true, false, List, [], ◌∷◌, ◌++◌, map, length, codes, refl, sym, ◌∙◌, ap, subst, arith, inl, inr, ◌⊎◌, append_assoc, length-append, slice_get, Some}
 use Rattle.std.specs.List.{slice_split, join_with_byte, All, Contains, flat_map, list_any}
 use Rattle.std.specs.Io.BufRead.{strip_last}
-use Rattle.std.proofs.lemmas.List.{append_cancel_right, append_cancel_left, append_nil}
+use Rattle.std.proofs.lemmas.List.{append_cancel_right, append_cancel_left, append-nil}
 use Rattle.std.proofs.lemmas.List.Elements.{All-contains, All-append, Contains-append_cases, Contains-append_right, Contains-append_left}
 use Rattle.std.proofs.lemmas.List.Splits.{join_with_byte-slice_split, length-slice_split}
 use Rattle.std.proofs.lemmas.Bool.Decides.{Decides-eqb}
@@ -13,11 +13,13 @@ use Rattle.sec_base.proofs.TableLemmas.{is_among-at}
 use Rattle.witness_report.specs.Text.{digit_of, names_text, header_line, row_text, row_line, stimulus_text}
 use Rattle.witness_report.specs.Form.{IsName, AreNames, AreRows, IsForm, lines_of, IsNoRow, IsBadRow}
 use Rattle.witness_report.specs.Parts.{IsBadLine}
-use Rattle.witness_report.proofs.Splits.{split_join, piece_byte, split_push, strip_cases, strip_push}
+use Rattle.witness_report.specs.declared.error.StimError.{StimError}
+use Rattle.witness_report.specs.declared.error.StimError.TheVariants as stim_error
+use Rattle.witness_report.proofs.Splits.{split_join, piece_byte, split_push, strip_cases, strip_push, split_few, strip_few}
 
 -- the header is its words joined by blanks
 words_joined : (word : List ℕ) (names : List (List ℕ)) → word ++ names_text names ≡ join_with_byte 32 (word ∷ names)
-words_joined word [] = append_nil word
+words_joined word [] = append-nil word
 words_joined word (name ∷ names) = ap (λ rest. word ++ 32 ∷ rest) (words_joined name names)
 
 -- the text is its lines joined by line feeds, and one at the end
@@ -27,9 +29,12 @@ lines_joined line (row ∷ rows) =
     ap (λ rest. line ++ 10 ∷ rest) (append_assoc (row_text row) (10 ∷ []) (flat_map row_line rows) ∙ lines_joined (row_text row) rows)
     ∙ sym (append_assoc line (10 ∷ join_with_byte 10 (row_text row ∷ map row_text rows)) (10 ∷ []))
 
+empty_append : (xs : List ℕ) → [] ++ xs ≡ xs
+empty_append xs = refl
+
 pub text_joined : (names : List (List ℕ)) (rows : List (List Bool)) → stimulus_text names rows ≡ join_with_byte 10 (header_line names ∷ map row_text rows) ++ 10 ∷ []
 unfolding stimulus_text
-text_joined names rows = lines_joined (header_line names) rows
+text_joined names rows = ap (λ (rest : List ℕ). header_line names ++ 10 ∷ rest) (empty_append (flat_map row_line rows)) ∙ lines_joined (header_line names) rows
 
 -- the bytes of a digit, of a row and of a header
 digit_no_feed : (bit : Bool) → digit_of bit ≡ 10 → ⊥
@@ -42,7 +47,7 @@ digits_no_feed bits h = let b = Contains-map_from digit_of bits 10 h in digit_no
 row_no_feed : (row : List Bool) → Contains (row_text row) 10 → ⊥
 row_no_feed [] h = digits_dash (Contains-cases 45 10 [] h)
   where
-    digits_dash : (45 ≡ 10) ⊎ Contains [] 10 → ⊥
+    digits_dash : (◌≡◌ {A = ℕ} 45 10) ⊎ Contains [] 10 → ⊥
     digits_dash (inl e) = omega (arith, e)
     digits_dash (inr z) = omega (arith, z.1)
 row_no_feed (bit ∷ bits) h = digits_no_feed (bit ∷ bits) h
@@ -79,7 +84,7 @@ free_by c (x ∷ xs) e h = go (x == c) refl e (Contains-cases x c xs h) (λ k. f
 header_no_feed : (names : List (List ℕ)) → AreNames names → Contains (header_line names) 10 → ⊥
 header_no_feed names are h = go (Contains-append_cases (codes "inputs") (names_text names) 10 h)
   where
-    in_names : (32 ≡ 10) ⊎ ((name : List ℕ) × Contains names name × Contains name 10) → ⊥
+    in_names : (◌≡◌ {A = ℕ} 32 10) ⊎ ((name : List ℕ) × Contains names name × Contains name 10) → ⊥
     in_names (inl e) = omega (arith, e)
     in_names (inr x) = (All-contains IsName names x.0 are.each x.1).no_line_feed x.2
 
@@ -250,3 +255,85 @@ bad_row text names left number are lines bad = record {
   faulty = bad.faulty;
   place = bad.place;
 }
+
+-- a text with a form has a line
+pub no_lines : (text : List ℕ) (names : List (List ℕ)) (rows : List (List Bool)) → lines_of text ≡ [] → IsForm text names rows → ⊥
+no_lines text names rows none form = let f = ap length (sym none ∙ form_lines names rows form.names_are text form.spelled) in omega (arith, f)
+
+-- a line has no line feed
+pub header_free : (text header : List ℕ) (left : List (List ℕ)) → lines_of text ≡ header ∷ left → Contains header 10 → ⊥
+header_free text header left lines h = differ (sym ((Decides-eqb 10 10).1 refl) ∙ (piece_byte 10 (strip_last 10 text) header (subst (λ (ls : List (List ℕ)). Contains ls header) (sym lines) (Contains-head header left)) 10 h).1)
+  where
+    differ : true ≡ false → ⊥
+    differ q = cc
+
+-- the lines are few
+pub few_lines : (text header : List ℕ) (left : List (List ℕ)) → lines_of text ≡ header ∷ left → length left ≤ length text
+few_lines text header left lines =
+    let f = ap length lines in
+    let g = split_few 10 (strip_last 10 text) in
+    let h = strip_few text in
+    omega (arith, f, g, h)
+
+place_left : (xs ys : List (List ℕ)) (k : ℕ) (x : List ℕ) → slice_get xs k ≡ Some x → slice_get (xs ++ ys) k ≡ Some x
+place_left [] ys k x h = absurd (let w = slice_get_within [] k x h in omega arith)
+place_left (y ∷ xs) ys zero x h = h
+place_left (y ∷ xs) ys (suc k) x h = place_left xs ys k x h
+
+place_at : (xs : List (List ℕ)) (x : List ℕ) (ys : List (List ℕ)) → slice_get (xs ++ x ∷ ys) (length xs) ≡ Some x
+place_at [] x ys = refl
+place_at (y ∷ xs) x ys = place_at xs x ys
+
+-- the names so far and what is left of a header
+module _ (line : List ℕ) (names pieces : List (List ℕ)) (name : List ℕ) (rest : List (List ℕ)) (split : slice_split (λ b. b == 32) line ≡ codes "inputs" ∷ (names ++ pieces)) (next : pieces ≡ name ∷ rest) where
+  others_are : (others : List (List ℕ)) → AreNames others → line ≡ header_line others → others ≡ names ++ name ∷ rest
+  others_are others are e =
+      (tails (codes "inputs") (codes "inputs") others (names ++ pieces) (sym (header_names others are) ∙ (ap (slice_split (λ b. b == 32)) (sym e) ∙ split))).1 ∙ ap (λ (ps : List (List ℕ)). names ++ ps) next
+
+  pub empty_name : (length name == 0) ≡ true → (others : List (List ℕ)) → AreNames others → line ≡ header_line others → ⊥
+  empty_name empty others are e =
+      let there : Contains others name = subst (λ (ns : List (List ℕ)). Contains ns name) (sym (others_are others are e)) (Contains-append_right names (name ∷ rest) name (Contains-head name rest)) in
+      let some = (All-contains IsName others name are.each there).some in
+      let none = (Decides-eqb (length name) 0).0 empty in
+      omega (arith, some, none)
+
+  pub twice_name : is_among names name ≡ true → (others : List (List ℕ)) → AreNames others → line ≡ header_line others → ⊥
+  twice_name among others are e =
+      let same = others_are others are e in
+      let at = is_among-at names name among in
+      let first : slice_get others at.0 ≡ Some name = ap (λ (ns : List (List ℕ)). slice_get ns at.0) same ∙ place_left names (name ∷ rest) at.0 name at.1 in
+      let second : slice_get others (length names) ≡ Some name = ap (λ (ns : List (List ℕ)). slice_get ns (length names)) same ∙ place_at names name rest in
+      let one = are.distinct at.0 (length names) name first second in
+      let below = slice_get_within names at.0 name at.1 in
+      omega (arith, one, below)
+
+  pub more_name : (length name == 0) ≡ false → is_among names name ≡ false → (new : List (List ℕ)) → new ≡ cond (is_among names name) names (names ++ name ∷ []) →
+      ((n : List ℕ) → Contains names n → 0 < length n) → (slice_split (λ b. b == 32) line ≡ codes "inputs" ∷ (new ++ rest)) × ((n : List ℕ) → Contains new n → 0 < length n)
+  more_name some apart new is all = (
+    split ∙ ap (λ (ns : List (List ℕ)). codes "inputs" ∷ ns) (ap (λ (ps : List (List ℕ)). names ++ ps) next ∙ (sym (append_assoc names (name ∷ []) rest) ∙ ap (λ (ns : List (List ℕ)). ns ++ rest) (sym pushed))),
+    λ n h. pick n (Contains-append_cases names (name ∷ []) n (subst (λ (ns : List (List ℕ)). Contains ns n) pushed h)),
+  )
+    where
+      pushed : new ≡ names ++ name ∷ []
+      pushed = is ∙ ap (λ t. cond t names (names ++ name ∷ [])) apart
+
+      positive : (n : List ℕ) → (length n == 0) ≡ false → 0 < length n
+      positive [] q = absurd (empty q)
+        where
+          empty : true ≡ false → ⊥
+          empty z = cc
+      positive (x ∷ xs) q = omega arith
+
+      last : (n : List ℕ) → (name ≡ n) ⊎ Contains [] n → 0 < length n
+      last n (inl e) = subst (λ (k : List ℕ). 0 < length k) e (positive name some)
+      last n (inr z) = absurd (omega (arith, z.1))
+
+      pick : (n : List ℕ) → Contains names n ⊎ Contains (name ∷ []) n → 0 < length n
+      pick n (inl h) = all n h
+      pick n (inr h) = last n (Contains-cases name n [] h)
+
+-- the only error that no line causes
+pub only_memory : (e : StimError) → ((n : ℕ) → e ≡ stim_error.BadHeader n → ⊥) → ((n : ℕ) → e ≡ stim_error.BadRow n → ⊥) → e ≡ stim_error.NoMemory
+only_memory (stim_error.BadHeader n) header row = absurd (header n refl)
+only_memory (stim_error.BadRow n) header row = absurd (row n refl)
+only_memory stim_error.NoMemory header row = refl

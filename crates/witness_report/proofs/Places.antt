@@ -1,5 +1,5 @@
 -- Where a byte stands first, and the piece before it.
-use Rattle.std.proofs.Common.{◌≡◌, ℕ, ◌+◌, ◌-◌, ◌<◌, ◌==◌, Bool, true, false, List, [], ◌∷◌, length, take, drop, get_or, sym, subst, arith, length-drop}
+use Rattle.std.proofs.Common.{◌≡◌, ℕ, ◌+◌, ◌-◌, ◌<◌, ◌==◌, Bool, true, false, List, [], ◌∷◌, length, take, drop, get_or, sym, ◌∙◌, ap, subst, arith, length-drop, cond}
 use Rattle.std.proofs.lemmas.List.{take_all}
 use Rattle.std.specs.List.{All, slice_split, position_or_len}
 use Rattle.std.proofs.lemmas.List.Sums.{position_or_len_is, fails_before_first}
@@ -27,3 +27,13 @@ last_is c text e = slice_split_none (λ b. b == c) text (all_fail (λ b. b == c)
 
 pub rest_from : (xs : List ℕ) (n : ℕ) → take (length xs - n) (drop n xs) ≡ drop n xs
 rest_from xs n = take_all (length xs - n) (drop n xs) (omega (arith, length-drop n xs))
+
+-- a piece is taken where more are left
+pub piece_next : (c : ℕ) (done : Bool) (text : List ℕ) (place : ℕ) (rest : List ℕ) → done ≡ false → place ≡ position_or_len (λ b. b == c) text → place < length text → rest ≡ drop (place + 1) text →
+    cond done [] (slice_split (λ b. b == c) text) ≡ take place text ∷ cond done [] (slice_split (λ b. b == c) rest)
+piece_next c done text place rest off is h e =
+    ap (λ t. cond t [] (slice_split (λ b. b == c) text)) off
+    ∙ (next_is c text place is h ∙ (ap (λ (r : List ℕ). take place text ∷ slice_split (λ b. b == c) r) (sym e) ∙ ap (λ t. take place text ∷ cond t [] (slice_split (λ b. b == c) rest)) (sym off)))
+
+pub piece_last : (c : ℕ) (done : Bool) (text : List ℕ) → done ≡ false → length text ≡ position_or_len (λ b. b == c) text → cond done [] (slice_split (λ b. b == c) text) ≡ text ∷ []
+piece_last c done text off e = ap (λ t. cond t [] (slice_split (λ b. b == c) text)) off ∙ last_is c text e

@@ -1,5 +1,5 @@
 -- Splitting and joining.
-use Rattle.std.proofs.Common.{◌≡◌, ℕ, zero, suc, ◌+◌, ◌-◌, ◌<◌, ◌==◌, ◌&&◌, Bool, true, false, List, [], ◌∷◌, ◌++◌, length, get_or, take, refl, sym, ◌∙◌, ap, subst, arith, inl, inr, ◌⊎◌, cond, nat_lt, append_assoc, length-append}
+use Rattle.std.proofs.Common.{◌≡◌, ℕ, zero, suc, ◌+◌, ◌-◌, ◌<◌, ◌==◌, ◌&&◌, Bool, true, false, List, [], ◌∷◌, ◌++◌, length, get_or, take, refl, sym, ◌∙◌, ap, subst, arith, inl, inr, ◌⊎◌, cond, nat_lt, append_assoc, length-append, lt-ltb, ◌≤◌}
 use Rattle.std.specs.List.{slice_split, onto_first, join_with_byte, All, Contains, count_by}
 use Rattle.std.specs.Io.BufRead.{ends_with_byte, strip_last}
 use Rattle.std.proofs.lemmas.List.{append_cancel_right}
@@ -42,25 +42,25 @@ piece_byte c (x ∷ xs) p h b k = go (x == c) refl h (slice_split (λ y. y == c)
     from r = (Contains-tail x b xs r.0, r.1)
 
     here : (x == c) ≡ false → x ≡ b → Rest
-    here no e = (subst (λ z. Contains (x ∷ xs) z) e (Contains-head x xs), subst (λ z. (z == c) ≡ false) e no)
+    here apart e = (subst (λ z. Contains (x ∷ xs) z) e (Contains-head x xs), subst (λ z. (z == c) ≡ false) e apart)
 
     after : (S : List (List ℕ)) → S ≡ slice_split (λ y. y == c) xs → (q : List ℕ) → Contains S q → ((q : List ℕ) → Contains (slice_split (λ y. y == c) xs) q → Contains q b → Contains xs b × ((b == c) ≡ false)) → Contains q b → Rest
     after S e q there ih kq = from (ih q (subst (λ T. Contains T q) e there) kq)
 
     first : (x == c) ≡ false → (S : List (List ℕ)) → S ≡ slice_split (λ y. y == c) xs → Contains (onto_first x S) p → ((q : List ℕ) → Contains (slice_split (λ y. y == c) xs) q → Contains q b → Contains xs b × ((b == c) ≡ false)) → Rest
-    first no [] e there ih = one (Contains-cases (x ∷ []) p [] there)
+    first apart [] e there ih = one (Contains-cases (x ∷ []) p [] there)
       where
         in_one : (x ≡ b) ⊎ Contains [] b → Rest
-        in_one (inl same) = here no same
+        in_one (inl same) = here apart same
         in_one (inr z) = absurd (omega (arith, z.1))
 
         one : ((x ∷ []) ≡ p) ⊎ Contains [] p → Rest
         one (inl same) = in_one (Contains-cases x b [] (subst (λ q. Contains q b) (sym same) k))
         one (inr z) = absurd (omega (arith, z.1))
-    first no (s ∷ S) e there ih = two (Contains-cases (x ∷ s) p S there)
+    first apart (s ∷ S) e there ih = two (Contains-cases (x ∷ s) p S there)
       where
         in_first : (x ≡ b) ⊎ Contains s b → Rest
-        in_first (inl same) = here no same
+        in_first (inl same) = here apart same
         in_first (inr z) = after (s ∷ S) e s (Contains-head s S) ih z
 
         two : ((x ∷ s) ≡ p) ⊎ Contains S p → Rest
@@ -124,8 +124,7 @@ last_at xs x = let e : length (xs ++ x ∷ []) - 1 ≡ length xs = let f = lengt
     at (y ∷ ys) = at ys
 
 some_push : (xs : List ℕ) (x : ℕ) → nat_lt 0 (length (xs ++ x ∷ [])) ≡ true
-some_push [] x = refl
-some_push (y ∷ ys) x = refl
+some_push xs x = let f = length-append xs (x ∷ []) in lt-ltb _ _ (omega (arith, f))
 
 ends_push : (xs : List ℕ) → ends_with_byte 10 (xs ++ 10 ∷ []) ≡ true
 ends_push xs =
@@ -137,3 +136,23 @@ strip_push xs = ap (λ t. cond t (take (length (xs ++ 10 ∷ []) - 1) (xs ++ 10 
   where
     cut : take (length (xs ++ 10 ∷ []) - 1) (xs ++ 10 ∷ []) ≡ xs
     cut = append_cancel_right _ xs (10 ∷ []) (subst (λ k. take (length (xs ++ 10 ∷ []) - 1) (xs ++ 10 ∷ []) ++ k ∷ [] ≡ xs ++ 10 ∷ []) (last_at xs 10) (last_parts (xs ++ 10 ∷ []) (let f = length-append xs (10 ∷ []) in omega (arith, f))))
+
+-- a list has at most one part more than elements
+pub split_few : (c : ℕ) (xs : List ℕ) → length (slice_split (λ b. b == c) xs) ≤ length xs + 1
+split_few c [] = omega arith
+split_few c (x ∷ xs) = go (x == c) (slice_split (λ b. b == c) xs) (split_few c xs)
+  where
+    onto : (S : List (List ℕ)) → length S ≤ length xs + 1 → length (onto_first x S) ≤ suc (length xs) + 1
+    onto [] h = omega arith
+    onto (s ∷ S) h = omega (arith, h)
+
+    go : (t : Bool) (S : List (List ℕ)) → length S ≤ length xs + 1 → length (cond t ([] ∷ S) (onto_first x S)) ≤ suc (length xs) + 1
+    go true S h = omega (arith, h)
+    go false S h = onto S h
+
+pub strip_few : (xs : List ℕ) → length (strip_last 10 xs) ≤ length xs
+strip_few xs = go (strip_cases xs)
+  where
+    go : (strip_last 10 xs ≡ xs) ⊎ (strip_last 10 xs ++ 10 ∷ [] ≡ xs) → length (strip_last 10 xs) ≤ length xs
+    go (inl e) = let f = ap length e in omega (arith, f)
+    go (inr e) = let f = ap length e in let g = length-append (strip_last 10 xs) (10 ∷ []) in omega (arith, f, g)

@@ -59,9 +59,9 @@ fn begins(piece: Option<&[u8]>) -> bool
 
 /// Reads a stimulus: a line `inputs` with the names, each nonempty, after one blank and once, and then for each cycle
 /// a line with one digit for each name, or `-` where there are no names. A line feed at the end may be left out.
-/// `BadHeader` and `BadRow` name the first faulty line. A text has fewer than 2^32 - 1 bytes.
+/// `BadHeader` and `BadRow` name the first faulty line. A text has fewer than 2^32 - 2 bytes.
 pub fn read_stimulus(alloc: Global, text: &[u8]) -> Result<Stimulus, StimError>
-    requires { length text.now + 1 < 2 ^ 32 }
+    requires { length text.now + 2 < 2 ^ 32 }
     ensures ok { IfOk result (λ s. IsForm text.now s.names s.rows) }
     ensures header { (n : ℕ) → IsErrOf result (stim_error.BadHeader n) → (n ≡ 1) × HasNoHeader text.now }
     ensures row { (n : ℕ) → IsErrOf result (stim_error.BadRow n) → IsBadRow text.now n }
@@ -75,6 +75,8 @@ pub fn read_stimulus(alloc: Global, text: &[u8]) -> Result<Stimulus, StimError>
     let Some(names) = read_header(alloc, header)? else {
         return Err(StimError::BadHeader { line: 1 });
     };
-    let rows = read_rows(alloc, names.len(), lines)?;
-    Ok(Stimulus { names, rows })
+    match read_rows(alloc, names.len(), lines) {
+        Ok(rows) => Ok(Stimulus { names, rows }),
+        Err(error) => Err(error),
+    }
 }

@@ -7,10 +7,10 @@ use Rattle.witness_report.specs.Text.{digit_of, row_text}
 use Rattle.witness_report.specs.Form.{IsNoRow}
 
 -- a byte that is no digit
-pub no_digits : (line : List ℕ) (i byte : ℕ) → i < length line → byte ≡ get_or line i byte → ((bit : Bool) → digit_of bit ≡ byte → ⊥) → (bits : List Bool) → map digit_of bits ≡ line → ⊥
-no_digits line i byte below is none bits e =
-    let at = of_at line i byte (slice_get-get_or line i byte below ∙ ap Some (sym is)) in
-    let bit = Contains-map_from digit_of bits byte (subst (λ (l : List ℕ). Contains l byte) (sym e) at) in
+pub no_digits : (line : List ℕ) (i d : ℕ) → i < length line → ((bit : Bool) → digit_of bit ≡ get_or line i d → ⊥) → (bits : List Bool) → map digit_of bits ≡ line → ⊥
+no_digits line i d below none bits e =
+    let at = of_at line i (get_or line i d) (slice_get-get_or line i d below) in
+    let bit = Contains-map_from digit_of bits (get_or line i d) (subst (λ (l : List ℕ). Contains l (get_or line i d)) (sym e) at) in
     none bit.0 bit.2
 
 -- a row with bits is its digits
@@ -29,11 +29,11 @@ row_dash (bit ∷ bits) h = absurd (omega (arith, h))
 
 -- a line that is no dash, of another length, or with a byte that is no digit is no row
 pub no_dash : (line : List ℕ) → (line ≡ 45 ∷ [] → ⊥) → IsNoRow 0 line
-no_dash line no row none e = no (sym e ∙ row_dash row none)
+no_dash line other row none e = other (sym e ∙ row_dash row none)
 
 pub no_length : (count : ℕ) (line : List ℕ) → 0 < count → (length line ≡ count → ⊥) → IsNoRow count line
-no_length count line some no row wide e =
-    no (ap length (sym e ∙ row_digits row (omega (arith, some, wide))) ∙ (length_digits row ∙ wide))
+no_length count line some other row wide e =
+    other (ap length (sym e ∙ row_digits row (omega (arith, some, wide))) ∙ (length_digits row ∙ wide))
 
 pub no_bits : (count : ℕ) (line : List ℕ) → 0 < count → ((bits : List Bool) → map digit_of bits ≡ line → ⊥) → IsNoRow count line
-no_bits count line some no row wide e = no row (sym (row_digits row (omega (arith, some, wide))) ∙ e)
+no_bits count line some other row wide e = other row (sym (row_digits row (omega (arith, some, wide))) ∙ e)
