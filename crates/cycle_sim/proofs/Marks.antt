@@ -141,7 +141,7 @@ module _ (n : NetView) (sound : IsSound n) where
 
       pick : ((⊥ → ⊥) × IsSettled Plain (circuit_of n) run t l.next.0)
           ⊎ (⊥ × ((u : ℕ) → InCone (circuit_of n) l.next.0 u → u ≢ l.out.0 → IsSettled Plain (circuit_of n) run t u)
-              × (Loads (circuit_of n) (run t) l.out.0 l.next.0 ⊎ IsSettled Plain (circuit_of n) run t l.out.0)) → bit ≡ true
+          × (Loads (circuit_of n) (run t) l.out.0 l.next.0 ⊎ IsSettled Plain (circuit_of n) run t l.out.0)) → bit ≡ true
       pick (inl m) = (now run).1 m.1
       pick (inr m) = absurd m.0
 
@@ -166,7 +166,7 @@ module _ (n : NetView) (sound : IsSound n) where
     marks = λ t p h below. absurd (omega (arith, h, none));
     marks_ahead = subst (λ k. AreMarksAhead k m.sim.cycles m.marks_ahead) (sym net)
         (subst (λ k. AreMarksAhead n k m.marks_ahead) (sym none)
-            (λ j l at. first_mark m.marks_ahead j l at (ap (λ bs. slice_get bs j) ahead ∙ replicate_at count j false (let w = slice_get_within n.latches j l at in omega (arith, w, size)))));
+        (λ j l at. first_mark m.marks_ahead j l at (ap (λ bs. slice_get bs j) ahead ∙ replicate_at count j false (let w = slice_get_within n.latches j l at in omega (arith, w, size)))));
   }
 
   -- after one cycle more

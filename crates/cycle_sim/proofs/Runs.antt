@@ -172,6 +172,6 @@ output_is s outputs i port bit same within is begun below value =
     let low : port.signal.0 < length s.net.drivers = All-at (λ (q : Port). q.signal.0 < length s.net.drivers) s.net.outputs i port at below in
     let latest : IsLatest s port.signal.0 bit =
     λ power rows run have from.
-        let have_at : length rows ≡ s.cycles - 1 + 1 = let c = have.cycles in omega (arith, c, begun) in
-        value ∙ get_or_from_slice_get s.values port.signal.0 _ bit (have.values run from (s.cycles - 1) port.signal.0 have_at low) in
+    let have_at : length rows ≡ s.cycles - 1 + 1 = let c = have.cycles in omega (arith, c, begun) in
+    value ∙ get_or_from_slice_get s.values port.signal.0 _ bit (have.values run from (s.cycles - 1) port.signal.0 have_at low) in
     subst (λ o. IfSome o (λ (q : Port). IsLatest s q.signal.0 bit)) (sym at) latest

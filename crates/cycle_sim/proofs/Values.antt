@@ -99,9 +99,9 @@ module _ (n : NetView) (sound : IsSound n) where
       right : bit ≡ v g.out.0
       right =
           is ∙ (ap (cover_value (cover_of n.covers g)) (map_same (λ (f : Signal). get_or values f.0 false) (λ (f : Signal). v f.0) g.fanins
-                  (λ f reads. get_or_from_slice_get values f.0 (v f.0) false (fanin_right values j g v at have f reads)))
-              ∙ (ap (cover_value (cover_of n.covers g)) (sym (map-map v (λ (f : Signal). f.0) g.fanins))
-                  ∙ sym (All-contains (Holds v) (circuit_of n).equations _ meets (gate_stands n j g at))))
+          (λ f reads. get_or_from_slice_get values f.0 (v f.0) false (fanin_right values j g v at have f reads)))
+          ∙ (ap (cover_value (cover_of n.covers g)) (sym (map-map v (λ (f : Signal). f.0) g.fanins))
+          ∙ sym (All-contains (Holds v) (circuit_of n).equations _ meets (gate_stands n j g at))))
 
       go : (k : ℕ) (h : Gate) → slice_get n.gates k ≡ Some h → (k < j) ⊎ (k ≡ j) → IsRight v (set values g.out.0 bit) h.out.0
       go k h at_h (inl low) = right_kept v values g.out.0 bit right h.out.0 (have.gates k h low at_h)

@@ -29,12 +29,9 @@ lines_joined line (row ∷ rows) =
     ap (λ rest. line ++ 10 ∷ rest) (append_assoc (row_text row) (10 ∷ []) (flat_map row_line rows) ∙ lines_joined (row_text row) rows)
     ∙ sym (append_assoc line (10 ∷ join_with_byte 10 (row_text row ∷ map row_text rows)) (10 ∷ []))
 
-empty_append : (xs : List ℕ) → [] ++ xs ≡ xs
-empty_append xs = refl
-
 pub text_joined : (names : List (List ℕ)) (rows : List (List Bool)) → stimulus_text names rows ≡ join_with_byte 10 (header_line names ∷ map row_text rows) ++ 10 ∷ []
 unfolding stimulus_text
-text_joined names rows = ap (λ (rest : List ℕ). header_line names ++ 10 ∷ rest) (empty_append (flat_map row_line rows)) ∙ lines_joined (header_line names) rows
+text_joined names rows = append_assoc (header_line names) (10 ∷ []) (flat_map row_line rows) ∙ lines_joined (header_line names) rows
 
 -- the bytes of a digit, of a row and of a header
 digit_no_feed : (bit : Bool) → digit_of bit ≡ 10 → ⊥
@@ -47,7 +44,7 @@ digits_no_feed bits h = let b = Contains-map_from digit_of bits 10 h in digit_no
 row_no_feed : (row : List Bool) → Contains (row_text row) 10 → ⊥
 row_no_feed [] h = digits_dash (Contains-cases 45 10 [] h)
   where
-    digits_dash : (◌≡◌ {A = ℕ} 45 10) ⊎ Contains [] 10 → ⊥
+    digits_dash : (◌≡◌ {A = ℕ} 45 10) ⊎ Contains {X = ℕ} [] 10 → ⊥
     digits_dash (inl e) = omega (arith, e)
     digits_dash (inr z) = omega (arith, z.1)
 row_no_feed (bit ∷ bits) h = digits_no_feed (bit ∷ bits) h
@@ -224,9 +221,11 @@ pub one_form : (text : List ℕ) (names others : List (List ℕ)) (rows more : L
     IsForm text others more → (names ≡ others) × (rows ≡ more)
 one_form text names others rows more are wide lines form =
     let both = tails (header_line names) (header_line others) (map row_text rows) (map row_text more) (sym lines ∙ form_lines others more form.names_are text form.spelled) in
-    let same : names ≡ others = same_names names others are form.names_are both.0 in
-    (same, rows_same (length names) rows more (λ r h. All-contains (λ (row : List Bool). length row ≡ length names) rows r wide h)
-        (λ r h. All-contains (λ (row : List Bool). length row ≡ length others) more r form.rows_are h ∙ sym (ap length same)) both.1)
+    let same : names ≡ others = same_names names others are form.names_are both.0 in (
+      same,
+      rows_same (length names) rows more (λ r h. All-contains (λ (row : List Bool). length row ≡ length names) rows r wide h)
+          (λ r h. All-contains (λ (row : List Bool). length row ≡ length others) more r form.rows_are h ∙ sym (ap length same)) both.1,
+    )
 
 -- a form has a header and no faulty row
 pub has_header : (text header : List ℕ) (left names : List (List ℕ)) (rows : List (List Bool)) → lines_of text ≡ header ∷ left → IsForm text names rows → AreNames names × (header ≡ header_line names)

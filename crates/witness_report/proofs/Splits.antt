@@ -110,7 +110,7 @@ strip_cases xs = go (nat_lt 0 (length xs)) refl (get_or xs (length xs - 1) 0 == 
     go false e t f = subst (λ s. Goal (s && (get_or xs (length xs - 1) 0 == 10))) (sym e) (inl refl)
     go true e false f = subst (λ s. Goal (s && (get_or xs (length xs - 1) 0 == 10))) (sym e) (subst Goal (sym f) (inl refl))
     go true e true f = subst (λ s. Goal (s && (get_or xs (length xs - 1) 0 == 10))) (sym e) (subst Goal (sym f)
-            (inr (subst (λ k. take (length xs - 1) xs ++ k ∷ [] ≡ xs) ((Decides-eqb (get_or xs (length xs - 1) 0) 10).0 f) (last_parts xs (some xs e)))))
+        (inr (subst (λ k. take (length xs - 1) xs ++ k ∷ [] ≡ xs) ((Decides-eqb (get_or xs (length xs - 1) 0) 10).0 f) (last_parts xs (some xs e)))))
       where
         some : (ys : List ℕ) → nat_lt 0 (length ys) ≡ true → 0 < length ys
         some [] q = absurd (true_false (sym q))

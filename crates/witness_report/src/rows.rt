@@ -44,7 +44,11 @@ fn read_row(alloc: Global, count: usize, line: &[u8]) -> Result<Option<Bits>, No
     ensures none { IfOk result (λ found. IfNone found (IsNoRow count line.now)) }
 {
     if count == 0 {
-        return Ok(if is_dash(line) { Some(Bits::new(alloc)) } else { None });
+        return Ok(if is_dash(line) {
+            Some(Bits::new(alloc))
+        } else {
+            None
+        });
     }
     if line.len() != count {
         return Ok(None);

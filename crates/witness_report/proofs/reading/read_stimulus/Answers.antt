@@ -1,10 +1,15 @@
 -- The first line is the header, and the others are the rows.
-use Rattle.std.proofs.Common.{◌≡◌, ◌==◌, ◌+◌, ◌<◌, ◌∷◌, ℕ, List, Bool, IfSome, IfNone, length, map, sym, ◌∙◌, ap, subst, arith}
+use Rattle.std.proofs.Common.{◌≡◌, ◌==◌, ◌+◌, ◌<◌, ◌∷◌, ℕ, List, Bool, IfSome, IfNone, Result, Err, length, map, sym, ◌∙◌, ap, subst, arith}
 use Rattle.std.specs.List.{slice_split}
 use Rattle.witness_report.specs.Text.{header_line, row_text}
 use Rattle.witness_report.specs.Form.{AreNames, AreRows, lines_of}
+use Rattle.witness_report.specs.Parts.{IsBadLine}
 use Rattle.witness_report.proofs.Forms.{lines_form, one_form, has_header, no_bad_line, bad_row, no_lines, header_free, few_lines, only_memory}
 use Rattle.witness_report.proofs.reading.read_stimulus.Goals as goal
+
+-- one error in two results
+err_is : {T E : Type 0} (x y : E) → ◌≡◌ {A = Result T E} (Err x) (Err y) → x ≡ y
+err_is x y e = cc
 
 pub returns-in_default-clause-all : goal.returns-in_default-clause-all
 returns-in_default-clause-all c = λ names rows form.
@@ -29,14 +34,14 @@ pub returns-in-Err-clause-row : goal.returns-in-Err-clause-row
 returns-in-Err-clause-row c = λ n e.
     let lines = sym (c.new-lines.ensures ∙ ap (slice_split (λ b. b == 10)) c.without_last_feed.ensures) ∙ c.in-Some.ensures in
     let header = subst (λ o. IfSome o (λ names. (c.in-Some.header.now ≡ header_line names) × AreNames names)) c.in-Some-2.is c.in_ok-names.ensures.some in
-    bad_row c.args.text.now _ _ n header.1 (lines ∙ ap (λ (h : List ℕ). h ∷ c.next_piece.new.self) header.0) (c.in-Err.ensures.row n e)
+    bad_row c.args.text.now _ _ n header.1 (lines ∙ ap (λ (h : List ℕ). h ∷ c.next_piece.new.self) header.0) (subst (λ k. IsBadLine k c.next_piece.new.self n) c.len.ensures (c.in-Err.ensures.row n (ap Err (err_is _ _ e))))
 
 pub returns-in-Err-clause-all : goal.returns-in-Err-clause-all
 returns-in-Err-clause-all c = λ names rows form.
     let lines = sym (c.new-lines.ensures ∙ ap (slice_split (λ b. b == 10)) c.without_last_feed.ensures) ∙ c.in-Some.ensures in
     let header = subst (λ o. IfSome o (λ names. (c.in-Some.header.now ≡ header_line names) × AreNames names)) c.in-Some-2.is c.in_ok-names.ensures.some in
-    only_memory c.in-Err.error (λ n e. c.in-Err.ensures.header n e)
-    (λ n e. no_bad_line c.args.text.now _ names _ rows n header.1 (lines ∙ ap (λ (h : List ℕ). h ∷ c.next_piece.new.self) header.0) form (c.in-Err.ensures.row n e))
+    only_memory c.in-Err.error (λ n e. c.in-Err.ensures.header n (ap Err e))
+    (λ n e. no_bad_line c.args.text.now _ names _ rows n header.1 (lines ∙ ap (λ (h : List ℕ). h ∷ c.next_piece.new.self) header.0) form (subst (λ k. IsBadLine k c.next_piece.new.self n) c.len.ensures (c.in-Err.ensures.row n (ap Err e))))
 
 pub returns-in-Ok-clause-ok : goal.returns-in-Ok-clause-ok
 returns-in-Ok-clause-ok c =

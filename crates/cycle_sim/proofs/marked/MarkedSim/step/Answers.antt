@@ -16,8 +16,7 @@ invariant_of-self c =
     let ahead : (with_items m.marks_ahead c.mark_ahead.new.latches).items ≡ c.mark_ahead.new.latches = with_items_is m.marks_ahead c.mark_ahead.new.latches ahead_len in
     let net : c.step.new.self.net ≡ m.net.now = c.step.ensures.net ∙ c.self.invariant.0 in
     let marks_all = ap length marks in
-    let ahead_all = ap length ahead in
-    (
+    let ahead_all = ap length ahead in (
       net,
       marks_all ∙ (marks_len ∙ (m.marks.ok.0 ∙ c.self.invariant.1)),
       ahead_all ∙ (ahead_len ∙ (m.marks_ahead.ok.0 ∙ c.self.invariant.2)),

@@ -17,7 +17,7 @@ returns-clause-run c =
     let taken : c.take_over.new.latches ≡ map (λ (l : LatchAt). get_or c.compute.new.values l.next.0 false) s.net.now.latches =
     c.take_over.ensures ∙ ap (λ (vs : List Bool). map (λ (l : LatchAt). get_or vs l.next.0 false) s.net.now.latches) (c.deref-2.ensures.value ∙ values) in
     λ power rows have.
-        steps s.net.now c.keeps.ensures.sound c.args.inputs.now s.ahead.items c.compute.new.values
-        (λ v meets inputs latches. c.compute.ensures.values v meets inputs (latches ∙ sym c.deref.ensures.value))
-        c.args.self.now _ (ap (λ (k : SimView). k.net) (sym c.self.view_is)) (ap (λ (k : SimView). k.ahead) (sym c.self.view_is)) refl (ap (λ (k : SimView). k.cycles + 1) c.self.view_is) values (ahead ∙ taken)
-        power rows have
+    steps s.net.now c.keeps.ensures.sound c.args.inputs.now s.ahead.items c.compute.new.values
+    (λ v meets inputs latches. c.compute.ensures.values v meets inputs (latches ∙ sym c.deref.ensures.value))
+    c.args.self.now _ (ap (λ (k : SimView). k.net) (sym c.self.view_is)) (ap (λ (k : SimView). k.ahead) (sym c.self.view_is)) refl (ap (λ (k : SimView). k.cycles + 1) c.self.view_is) values (ahead ∙ taken)
+    power rows have
