@@ -46,6 +46,7 @@ impl<'a> MarkedSim<'a> {
         requires power { FitsLatches (length net.now.latches) power.now }
         requires plain { enabled.now ≡ replicate (length net.now.latches) false }
         ensures net { IfOk result (λ marked. marked.sim.net ≡ net.now) }
+        ensures cycles { IfOk result (λ marked. marked.sim.cycles ≡ 0) }
         ensures run { IfOk result (λ marked. HasRun marked.sim (power_bits (length net.now.latches) power.now) []) }
     {
         let _ = enabled;

@@ -36,6 +36,7 @@ impl<'a> Sim<'a> {
     pub fn new(alloc: Global, net: &'a Net, power: &Power) -> Result<Sim<'a>, NoMemory>
         requires { FitsLatches (length net.now.latches) power.now }
         ensures net { IfOk result (λ sim. sim.net ≡ net.now) }
+        ensures cycles { IfOk result (λ sim. sim.cycles ≡ 0) }
         ensures run { IfOk result (λ sim. HasRun sim (power_bits (length net.now.latches) power.now) []) }
     {
         Ok(Sim {

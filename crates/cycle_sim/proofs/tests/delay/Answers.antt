@@ -14,7 +14,7 @@ finish-requires c =
     let drivers : c.latch.new.self.net.drivers ≡ driver.Input 0 ∷ driver.Latch 0 ∷ [] =
     ap (λ (m : MakerView). m.net.drivers) c.in_ok-q.ensures.ok
     ∙ (ap (λ (m : MakerView). m.net.drivers ++ driver.Latch (length m.net.latches) ∷ []) c.in_ok-a.ensures.ok
-        ∙ ap (λ (m : MakerView). (m.net.drivers ++ driver.Input (length m.net.inputs) ∷ []) ++ driver.Latch (length m.net.latches) ∷ []) made) in
+    ∙ ap (λ (m : MakerView). (m.net.drivers ++ driver.Input (length m.net.inputs) ∷ []) ++ driver.Latch (length m.net.latches) ∷ []) made) in
     let place : c.in_ok-q.q.0 ≡ 1 =
     c.in_ok-q.ensures.signal ∙ (ap (λ (m : MakerView). length m.net.drivers) c.in_ok-a.ensures.ok ∙ ap (λ (m : MakerView). length (m.net.drivers ++ driver.Input (length m.net.inputs) ∷ [])) made) in
     let shown_set : c.output.new.self.set ≡ false ∷ [] = ap (λ (m : MakerView). m.set) c.in_ok-output.ensures.ok ∙ set in
