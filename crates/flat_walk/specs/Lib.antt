@@ -1,0 +1,5 @@
+pub mod Within
+pub mod Flat
+pub mod Walking
+pub mod Walked
+pub mod Renaming
