@@ -32,5 +32,5 @@ clock_places (Latch edge (Some control) init) = 1
 clock_places Port = 0
 
 -- at how many places a statement writes a signal's name
-abbrev pub places_in : FlatStatement → ℕ
-places_in s = length s.reads + 1 + clock_places s.kind
+abbrev pub written_places : FlatStatement → ℕ
+written_places s = length s.reads + 1 + clock_places s.kind

@@ -3,7 +3,7 @@
 ghost use Rattle.std.specs.Prelude.{◌≡◌, ◌<◌, ◌≤◌, length, slice_get, Some, All};
 ghost use Rattle.std.specs.List.{sum_by};
 ghost use Rattle.sec_base.specs.Table.{AreDistinct};
-ghost use Rattle.flat_walk.specs.Within.{IsWithin, ReadsAsKind, places_in};
+ghost use Rattle.flat_walk.specs.Within.{IsWithin, ReadsAsKind, written_places};
 
 use sec_base::{Edge, Ids, Init, NameTable, Seq};
 
@@ -56,7 +56,7 @@ pub struct Flat {
     ghost shaped: { All ReadsAsKind statements },
     /// There are at most 400,000 statements, and they write 4,000,000 names at most.
     ghost few: { length statements ≤ 400000 },
-    ghost few_places: { sum_by places_in statements ≤ 4000000 },
+    ghost few_places: { sum_by written_places statements ≤ 4000000 },
 }
 
 impl Flat {
