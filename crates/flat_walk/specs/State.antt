@@ -1,5 +1,6 @@
 -- What the walk has found.
 use Rattle.std.specs.Prelude.{◌≡◌, ℕ, ◌+◌, ◌≤◌, Bool, true, false, All, List, [], ◌∷◌, ◌++◌, map, length, Option, Some, None, slice_get}
+use Rattle.std.specs.List.{list_all}
 use Rattle.circuit_theory.specs.Interface.{◌or_else◌}
 use Rattle.sec_base.specs.Table.{is_among}
 use Rattle.blif_read.specs.declared.design.BlifModel.{BlifModel}
@@ -7,9 +8,10 @@ use Rattle.blif_read.specs.declared.design.Pair.{Pair}
 use Rattle.flat_walk.specs.declared.error.FlatError.{FlatError}
 use Rattle.flat_walk.specs.declared.error.FlatError.TheVariants as flat
 use Rattle.flat_walk.specs.declared.flat.FlatStatement.{FlatStatement}
+use Rattle.flat_walk.specs.declared.flat.Flat.{Flat}
 use Rattle.flat_walk.specs.declared.walked.Walked.{Walked}
-use Rattle.flat_walk.specs.Within.{IsWithin}
-use Rattle.flat_walk.specs.Flat.{FlatOf, FlatDesign, port, named_statement, statement_of, name_at}
+use Rattle.flat_walk.specs.Within.{is_within}
+use Rattle.flat_walk.specs.Flat.{FlatOf, FlatDesign, port, named, named_statement, statement_of, view_of, name_at}
 use Rattle.flat_walk.specs.Walking.{when, is_too_many}
 use Rattle.flat_walk.specs.Steps.{Sofar}
 
@@ -30,7 +32,7 @@ state models w = record { count = w.count; places = w.places; spelled = spelled_
 
 -- each number is one of a name, and not too much was counted
 pub record IsKept (w : Walked) : Type 0 where
-  pub within : All (IsWithin (length w.names)) w.statements
+  pub within : list_all (is_within (length w.names)) w.statements ≡ true
   pub few : w.count ≤ 400000
   pub few_places : w.places ≤ 4000000
 
@@ -54,3 +56,7 @@ port_between false outer inner = record { out = outer; reads = inner ∷ []; kin
 
 abbrev pub pair_between : List (List ℕ) → List ℕ → List ℕ → Pair → FlatOf (List ℕ)
 pair_between inputs outer inner pair = port_between (is_among inputs pair.formal) (outer ++ pair.actual) (inner ++ pair.formal)
+
+-- the statements with the ports of the main model
+abbrev pub IsWithPorts : BlifModel → Walked → Flat → Type 0
+IsWithPorts main w flat = (models : List BlifModel) → named (name_at flat.names) (view_of models flat) ≡ record { inputs = main.inputs; clocks = main.clocks; outputs = main.outputs; statements = spelled_in w.names models w.statements }

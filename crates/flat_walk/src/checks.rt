@@ -60,7 +60,8 @@ fn model_to_enter(
 ) -> Result<u32, FlatError>
     requires tables { AreTables models.now tables.now }
     requires scope { IsScope models.now outer.now }
-    ensures ok { IfOk result (λ k. (model_named models.now name.now ≡ slice_get models.now k) × (k < length models.now)
+    ensures named { IfOk result (λ k. slice_get (model_names models.now) k ≡ Some name.now) }
+    ensures ok { IfOk result (λ k. (model_named models.now name.now ≡ slice_get models.now k)
         × (entry_fault (main_name models.now) (path_of (model_names models.now) outer.now) (model_named models.now name.now) name.now ≡ None)) }
     ensures room { OnOk result (length outer.now.steps.items < 63) }
     ensures err { IfErr result (λ e. e ≢ flat_error.NoMemory → entry_fault (main_name models.now) (path_of (model_names models.now) outer.now) (model_named models.now name.now) name.now ≡ Some e) }
@@ -122,7 +123,8 @@ fn check_ports(
 {
     let seen = check_pairs(alloc, formals, pairs)?;
     check_open(alloc, &seen, model.inputs.as_slice())?;
-    check_open(alloc, &seen, model.clocks.as_slice())
+    check_open(alloc, &seen, model.clocks.as_slice())?;
+    Ok(())
 }
 
 /// The scope of an instance, or its first fault.
@@ -142,7 +144,7 @@ pub(crate) fn entered(
     ensures err { IfErr result (λ e. e ≢ flat_error.NoMemory → found_fault (main_name models.now) (instance_at models.now outer.now instance name.now pairs.now) ≡ Some e) }
 {
     let model = model_to_enter(alloc, models, tables, outer, name)?;
-    let formals = &tables.formals[model as usize];
+    let formals = &tables.formals.as_slice()[model as usize];
     check_ports(alloc, &models[model as usize], formals, pairs)?;
     let inner = outer.inside(alloc, model, name, instance)?;
     if actuals_are_long(outer.prefix.len(), pairs) || formals.exceed(inner.prefix.len()) {

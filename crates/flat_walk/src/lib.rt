@@ -9,6 +9,8 @@ mod flat;
 mod numbering;
 mod scope;
 mod tables;
+#[cfg(test)]
+mod tests;
 mod walked;
 mod walking;
 

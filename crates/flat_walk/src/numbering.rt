@@ -48,9 +48,9 @@ pub(crate) fn number_of_option(
     alloc: Global,
     table: &mut NameTable,
     prefix: &[u8],
-    name: Option<&Word>,
+    name: &Option<Word>,
 ) -> Result<Option<u32>, NoMemory>
-    ensures named { IfOk result (λ n. option_map (slice_get table.new) n ≡ option_map (λ word. Some (prefix.now ++ word.now)) name) }
+    ensures named { IfOk result (λ n. option_map (slice_get table.new) n ≡ option_map (λ word. Some (prefix.now ++ word)) name.now) }
     ensures keeps { OnOk result (Keeps table.old table.new) }
 {
     match name {

@@ -41,7 +41,7 @@ impl Scope {
     pub(crate) fn is_on_path(&self, model: u32) -> bool
         ensures { result ≡ ((model == 0) || list_any (λ s. s.model == model) self.now.steps.items) }
     {
-        model == 0 || self.steps.iter().any(|step| step.model == model)
+        model == 0 || has_step(self.steps.as_slice(), model)
     }
 
     /// The scope of an instance here.
@@ -64,6 +64,12 @@ impl Scope {
             prefix: inner_prefix(alloc, self.prefix.as_slice(), name, instance)?,
         })
     }
+}
+
+fn has_step(steps: &[Step], model: u32) -> bool
+    ensures { result ≡ list_any (λ s. s.model == model) steps.now }
+{
+    steps.iter().any(|step| step.model == model)
 }
 
 /// What stands before the names of the signals inside an instance.

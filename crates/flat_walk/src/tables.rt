@@ -60,8 +60,9 @@ fn room_for(names: &[Word], least: usize) -> usize
 {
     let mut room = least;
     for name in names {
-        if room <= name.len() {
-            room = name.len() + 1;
+        let bytes = name.as_slice().len();
+        if room <= bytes {
+            room = bytes + 1;
         }
     }
     room

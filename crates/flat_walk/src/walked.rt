@@ -86,7 +86,8 @@ impl Walked {
         let reads = numbers(alloc, &mut self.names, prefix, fanins)?;
         let out = number(alloc, &mut self.names, prefix, out)?;
         let kind = FlatKind::Gate { model, statement };
-        self.statements.push(FlatStatement { out, reads, kind })
+        self.statements.push(FlatStatement { out, reads, kind })?;
+        Ok(())
     }
 
     /// Adds a latch.
@@ -97,11 +98,11 @@ impl Walked {
         input: &[u8],
         output: &[u8],
         edge: Option<Edge>,
-        control: Option<&Word>,
+        control: &Option<Word>,
         init: Init,
     ) -> Result<(), NoMemory>
         requires { IsKept self.old }
-        ensures { OnOk result (Adds (λ models. record { out = prefix.now ++ output.now; reads = (prefix.now ++ input.now) ∷ []; kind = latch edge (option_map (λ word. prefix.now ++ word.now) control) init } ∷ []) self.old self.new) }
+        ensures { OnOk result (Adds (λ models. record { out = prefix.now ++ output.now; reads = (prefix.now ++ input.now) ∷ []; kind = latch edge (option_map (λ word. prefix.now ++ word) control.now) init } ∷ []) self.old self.new) }
     {
         let mut reads = Seq::new(alloc);
         reads.push(number(alloc, &mut self.names, prefix, input)?)?;
@@ -112,7 +113,8 @@ impl Walked {
             control,
             init,
         };
-        self.statements.push(FlatStatement { out, reads, kind })
+        self.statements.push(FlatStatement { out, reads, kind })?;
+        Ok(())
     }
 
     /// Adds a port that drives the first signal with the other.
@@ -122,7 +124,8 @@ impl Walked {
         let mut reads = Seq::new(alloc);
         reads.push(from)?;
         let kind = FlatKind::Port;
-        self.statements.push(FlatStatement { out, reads, kind })
+        self.statements.push(FlatStatement { out, reads, kind })?;
+        Ok(())
     }
 
     /// Adds a pair of an instance whose model has these input formals.
@@ -140,10 +143,11 @@ impl Walked {
         let actual = number(alloc, &mut self.names, outer, pair.actual.as_slice())?;
         let formal = number(alloc, &mut self.names, inner, pair.formal.as_slice())?;
         if inputs.has(pair.formal.as_slice()) {
-            self.add_port(alloc, formal, actual)
+            self.add_port(alloc, formal, actual)?;
         } else {
-            self.add_port(alloc, actual, formal)
+            self.add_port(alloc, actual, formal)?;
         }
+        Ok(())
     }
 
     /// Adds the pairs of an instance whose model has these input formals.

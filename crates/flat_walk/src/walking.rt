@@ -1,16 +1,16 @@
 //! The walk over the hierarchy.
 
-ghost use Rattle.std.specs.Prelude.{◌≡◌, ◌≢◌, ◌+◌, ◌++◌, ◌^◌, ◌<◌, ◌≤◌, ◌||◌, ◌∷◌, [], All, Ok, Err, Some, length, map, slice_get, IfOk, IfErr, OnOk};
-ghost use Rattle.std.specs.List.{list_any, sum_by};
+ghost use Rattle.std.specs.Prelude.{◌≡◌, ◌≢◌, ◌++◌, ◌^◌, ◌<◌, ◌≤◌, ◌∷◌, [], true, All, Ok, Err, Some, length, slice_get, IfOk, IfErr, OnOk};
+ghost use Rattle.std.specs.List.{list_all, list_any, sum_by};
 ghost use Rattle.blif_read.specs.Kept.{names_in_option, model_names};
 ghost use Rattle.flat_walk.specs.declared.error.FlatError.TheVariants as flat_error;
-ghost use Rattle.flat_walk.specs.Within.{ReadsAsKind, written_places};
-ghost use Rattle.flat_walk.specs.Flat.{FlatDesign, named, view_of, name_at, statement_in};
+ghost use Rattle.flat_walk.specs.Within.{reads_as_kind, written_places};
+ghost use Rattle.flat_walk.specs.Flat.{statement_in};
 ghost use Rattle.flat_walk.specs.Walked.{IsWalked};
 ghost use Rattle.flat_walk.specs.Walking.{main_name, design_walk_fault};
 ghost use Rattle.flat_walk.specs.Steps.{visits, heads};
 ghost use Rattle.flat_walk.specs.Scopes.{AreTables, IsScope, IsInside, GoesInside, path_of, instance_at, pairs_at, below_scope, is_long_behind};
-ghost use Rattle.flat_walk.specs.State.{IsKept, state, spelled_in};
+ghost use Rattle.flat_walk.specs.State.{IsKept, IsWithPorts, state};
 
 use crate::checks::{are_long, entered, is_long};
 use crate::error::FlatError;
@@ -62,11 +62,12 @@ fn take_instance(
 {
     walked.count(pairs.len() + 1, pairs.len() * 2)?;
     let inner = entered(alloc, models, tables, outer, instance, name, pairs)?;
+    let formals = &tables.formals.as_slice()[inner.model as usize];
     walked.add_pairs(
         alloc,
         outer.prefix.as_slice(),
         inner.prefix.as_slice(),
-        &tables.formals[inner.model as usize].inputs,
+        &formals.inputs,
         pairs,
     )?;
     Ok(inner)
@@ -96,7 +97,7 @@ fn take(
     match statement {
         Statement::Names { fanins, out, .. } => {
             let long = gate_is_long(prefix.len(), fanins.as_slice(), out.as_slice());
-            walked.admit(fanins.len() + 1, long)?;
+            walked.admit(fanins.as_slice().len() + 1, long)?;
             walked.add_gate(
                 alloc,
                 prefix,
@@ -123,7 +124,7 @@ fn take(
                 input.as_slice(),
                 output.as_slice(),
                 *edge,
-                control.as_ref(),
+                control,
                 *init,
             )?;
             Ok(None)
@@ -159,7 +160,8 @@ fn walk_scope(
 {
     let mut instance: usize = 0;
     let mut at: u32 = 0;
-    for statement in models[scope.model as usize].statements.as_slice() {
+    let statements = models[scope.model as usize].statements.as_slice();
+    for statement in statements {
         let inside = take(
             walked, alloc, models, tables, scope, instance, at, statement,
         )?;
@@ -175,10 +177,10 @@ fn walk_scope(
 /// The flat statements with the main model's ports.
 fn with_ports(alloc: Global, mut walked: Walked, main: &BlifModel) -> Result<Flat, NoMemory>
     requires kept { IsKept walked }
-    requires shaped { All ReadsAsKind walked.statements }
+    requires shaped { list_all reads_as_kind walked.statements ≡ true }
     requires few { length walked.statements ≤ 400000 }
     requires few_places { sum_by written_places walked.statements ≤ 4000000 }
-    ensures { IfOk result (λ flat. (models : List BlifModel) → named (name_at flat.names) (view_of models flat) ≡ record { inputs = main.now.inputs; clocks = main.now.clocks; outputs = main.now.outputs; statements = spelled_in walked.names models walked.statements }) }
+    ensures { IfOk result (IsWithPorts main.now walked) }
 {
     let inputs = numbers(alloc, &mut walked.names, b"", main.inputs.as_slice())?;
     let clocks = numbers(alloc, &mut walked.names, b"", main.clocks.as_slice())?;
