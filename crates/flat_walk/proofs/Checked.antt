@@ -3,7 +3,6 @@ use Rattle.std.proofs.Common.{◌≡◌, ℕ, ◌+◌, ◌<◌, ◌≤◌, ◌||
 use Rattle.std.specs.List.{list_any}
 use Rattle.std.specs.Str.{bytes_eq}
 use Rattle.std.proofs.lemmas.List.Folds.{list_any-append}
-use Rattle.std.proofs.lemmas.Bool.{not_from_true, not_from_false}
 use Rattle.std.proofs.lemmas.List.{map-append, take_more}
 use Rattle.sec_base.specs.Table.{is_among}
 use Rattle.circuit_theory.specs.Interface.{◌or_else◌}
@@ -15,51 +14,14 @@ use Rattle.flat_walk.specs.declared.error.FlatError.TheVariants as flat_error
 use Rattle.flat_walk.specs.declared.tables.Formals.{Formals}
 use Rattle.flat_walk.specs.Walking.{when, named_fault, pairs_fault, first_outside, formals_of, ports_fault}
 use Rattle.flat_walk.specs.Scopes.{AreFormals}
-use Rattle.flat_walk.proofs.Walks.{pass, stop}
 
 pub rest_at : {X : Type 0} (xs : List X) (i : ℕ) (x : X) → i < length xs → x ≡ get_or xs i x → drop i xs ≡ x ∷ drop (i + 1) xs
 rest_at xs i x room at = let next : suc i ≡ i + 1 = omega arith in drop-cons xs i x room ∙ ap₂ (λ y k. y ∷ drop k xs) (sym at) next
 
--- a name with a pair
-pub open_step : (seen names : List (List ℕ)) (i : ℕ) (x : List ℕ) → i < length names → x ≡ get_or names i x → is_among seen x ≡ true → first_outside seen (drop i names) ≡ first_outside seen (drop (i + 1) names)
-open_step seen names i x room at is =
-    ap (first_outside seen) (rest_at names i x room at) ∙ ap (λ b. cond b (Some x) (first_outside seen (drop (i + 1) names))) (not_from_true (is_among seen x) is)
-
--- a name without a pair
-pub open_found : (seen names : List (List ℕ)) (i : ℕ) (x : List ℕ) → i < length names → x ≡ get_or names i x → is_among seen x ≡ false → first_outside seen (drop i names) ≡ Some x
-open_found seen names i x room at is =
-    ap (first_outside seen) (rest_at names i x room at) ∙ ap (λ b. cond b (Some x) (first_outside seen (drop (i + 1) names))) (not_from_false (is_among seen x) is)
-
--- a pair without a fault
-pub pair_step : (known : List ℕ → Bool) (seen more : List (List ℕ)) (pairs : List Pair) (i : ℕ) (p : Pair) → i < length pairs → p ≡ get_or pairs i p → known p.formal ≡ true → is_among seen p.formal ≡ false → more ≡ (if is_among seen p.formal then seen else seen ++ p.formal ∷ []) →
-    (pairs_fault known seen (drop i pairs) ≡ pairs_fault known more (drop (i + 1) pairs)) × (more ≡ seen ++ p.formal ∷ [])
-pair_step known seen more pairs i p room at is new added =
-    let e : more ≡ seen ++ p.formal ∷ [] = added ∙ ap (λ b. if b then seen else seen ++ p.formal ∷ []) new in
-    let rest : Option FlatError = pairs_fault known (seen ++ p.formal ∷ []) (drop (i + 1) pairs) in (
-      ap (pairs_fault known seen) (rest_at pairs i p room at)
-          ∙ ap (λ f. f or_else rest) (pass (not (known p.formal)) (flat_error.UnknownFormal p.formal) (when (is_among seen p.formal) (flat_error.FormalTwice p.formal)) (not_from_true (known p.formal) is))
-          ∙ pass (is_among seen p.formal) (flat_error.FormalTwice p.formal) rest new
-          ∙ ap (λ s. pairs_fault known s (drop (i + 1) pairs)) (sym e),
-      e,
-    )
-
--- a pair of an unknown formal
-pub pair_unknown : (known : List ℕ → Bool) (seen : List (List ℕ)) (pairs : List Pair) (i : ℕ) (p : Pair) → i < length pairs → p ≡ get_or pairs i p → known p.formal ≡ false → pairs_fault known seen (drop i pairs) ≡ Some (flat_error.UnknownFormal p.formal)
-pair_unknown known seen pairs i p room at is =
-    ap (pairs_fault known seen) (rest_at pairs i p room at)
-    ∙ ap (λ f. f or_else pairs_fault known (seen ++ p.formal ∷ []) (drop (i + 1) pairs)) (stop (not (known p.formal)) (flat_error.UnknownFormal p.formal) (when (is_among seen p.formal) (flat_error.FormalTwice p.formal)) (not_from_false (known p.formal) is))
-
--- a pair of a formal that has one
-pub pair_twice : (known : List ℕ → Bool) (seen : List (List ℕ)) (pairs : List Pair) (i : ℕ) (p : Pair) → i < length pairs → p ≡ get_or pairs i p → known p.formal ≡ true → is_among seen p.formal ≡ true → pairs_fault known seen (drop i pairs) ≡ Some (flat_error.FormalTwice p.formal)
-pair_twice known seen pairs i p room at is old =
-    ap (pairs_fault known seen) (rest_at pairs i p room at)
-    ∙ ap (λ f. f or_else pairs_fault known (seen ++ p.formal ∷ []) (drop (i + 1) pairs)) (pass (not (known p.formal)) (flat_error.UnknownFormal p.formal) (when (is_among seen p.formal) (flat_error.FormalTwice p.formal)) (not_from_true (known p.formal) is))
-    ∙ stop (is_among seen p.formal) (flat_error.FormalTwice p.formal) (pairs_fault known (seen ++ p.formal ∷ []) (drop (i + 1) pairs)) old
-
--- one name more
-pub seen_more : (pairs : List Pair) (i : ℕ) (p : Pair) (seen more : List (List ℕ)) → i < length pairs → p ≡ get_or pairs i p → seen ≡ map (λ q. q.formal) (take i pairs) → more ≡ seen ++ p.formal ∷ [] → more ≡ map (λ q. q.formal) (take (i + 1) pairs)
-seen_more pairs i p seen more room at before e =
-    e ∙ ap (λ s. s ++ p.formal ∷ []) before ∙ sym (map-append (λ (q : Pair). q.formal) (take i pairs) (p ∷ [])) ∙ ap (map (λ (q : Pair). q.formal)) (ap (λ q. take i pairs ++ q ∷ []) at ∙ sym (take_more pairs i p room))
+-- one more of what a function gives
+pub map_more : {X Y : Type 0} (f : X → Y) (xs : List X) (i : ℕ) (x : X) (before now : List Y) → i < length xs → x ≡ get_or xs i x → before ≡ map f (take i xs) → now ≡ before ++ f x ∷ [] → now ≡ map f (take (i + 1) xs)
+map_more f xs i x before now room at is e =
+    e ∙ ap (λ ys. ys ++ f x ∷ []) is ∙ sym (map-append f (take i xs) (x ∷ [])) ∙ ap (map f) (ap (λ y. take i xs ++ y ∷ []) at ∙ sym (take_more xs i x room))
 
 -- equal tests find the same fault
 pairs_same : (a b : List ℕ → Bool) → ((n : List ℕ) → a n ≡ b n) → (seen : List (List ℕ)) (pairs : List Pair) → pairs_fault a seen pairs ≡ pairs_fault b seen pairs

@@ -25,7 +25,7 @@ use Rattle.flat_walk.specs.Scopes.{inside_at, path_of, below_scope}
 use Rattle.flat_walk.specs.State.{Keeps, AreNamed, IsKept, IsWithPorts, spelled_in, state}
 use Rattle.flat_walk.proofs.Walks.{Found, visits_found, visits_failed, spelled_all}
 use Rattle.flat_walk.proofs.Spelled.{keeps_on, spelled_kept, named_within, named_names, named_kept}
-use Rattle.flat_walk.proofs.Items.{Few, few_main, IsGood, good_models, good_main, place_count, clock_count}
+use Rattle.flat_walk.proofs.Items.{Few, few_main, IsGood, IsGoodModel, good_models, good_main, place_count, clock_count}
 
 map_length : {X Y : Type 0} (f : X → Y) (xs : List X) → length (map f xs) ≡ length xs
 map_length f [] = refl
@@ -145,6 +145,20 @@ walk_done models scope old w steps model empty kept plain fits few h = record {
     places : sum_by written_places w.statements ≡ sum_by place_count (filter_map flat_of (main_walk models))
     places = sym (written_count models w.statements) ∙ sym (named_count (name_at w.names) (map (statement_of models) w.statements)) ∙ ap (sum_by place_count) twice ∙ named_count name_of (filter_map flat_of (main_walk models))
 
+-- the same of models that are the design's
+pub done_at : (ds ms : List BlifModel) (scope : Scope) (old w : Walked) → ms ≡ ds → scope.steps.items ≡ [] → scope.model ≡ 0 → old ≡ record { names = []; statements = []; count = 0; places = 0 } → IsKept w →
+    list_all is_plain (written_names ds) ≡ true → list_all covers_fit ds ≡ true → length (written_names ds) ≤ 16777216 → visits (main_name ms) (state ms old) (below_scope ms scope) ≡ Ok (state ms w) → Done ds w
+done_at ds ms scope old w same steps model empty kept plain fits few h =
+    walk_done ds scope old w steps model empty kept plain fits few (subst (λ (xs : List BlifModel). visits (main_name xs) (state xs old) (below_scope xs scope) ≡ Ok (state xs w)) same h)
+
+-- models have few statements
+pub few_statements : (models : List BlifModel) → list_all is_plain (written_names models) ≡ true → list_all covers_fit models ≡ true → length (written_names models) ≤ 16777216 → All (λ (m : BlifModel). length m.statements < 2 ^ 32) models
+few_statements models plain fits few = all models (good_models models plain fits few)
+  where
+    all : (ms : List BlifModel) → Each IsGoodModel ms → All (λ (m : BlifModel). length m.statements < 2 ^ 32) ms
+    all [] h = All-nil (λ (m : BlifModel). length m.statements < 2 ^ 32)
+    all (m ∷ ms) h = All-cons (λ (m : BlifModel). length m.statements < 2 ^ 32) m ms (omega (arith, h.0.few)) (all ms h.1)
+
 -- the fault of a walk
 pub walk_failed : (models : List BlifModel) (scope : Scope) (old : Walked) (e : FlatError) → scope.steps.items ≡ [] → scope.model ≡ 0 → old ≡ record { names = []; statements = []; count = 0; places = 0 } →
     visits (main_name models) (state models old) (below_scope models scope) ≡ Err e → design_walk_fault models ≡ Some e
@@ -154,13 +168,16 @@ walk_failed models scope old e steps model empty h = visits_failed (main_name mo
 -- the ports of the main model
 pub ports_added : (main : BlifModel) (w : Walked) (flat : Flat) (first second : List (List ℕ)) → IsKept w → flat.statements ≡ w.statements → Keeps w.names first → AreNamed first flat.inputs (map (λ name. [] ++ name) main.inputs) →
     Keeps first second → AreNamed second flat.clocks (map (λ name. [] ++ name) main.clocks) → Keeps second flat.names → AreNamed flat.names flat.outputs (map (λ name. [] ++ name) main.outputs) → IsWithPorts main w flat
-ports_added main w flat first second kept same k1 ins k2 clocks k3 outs models =
-    ap₂ (λ (xs ys : List (List ℕ)). record { inputs = xs; clocks = ys; outputs = map (name_at flat.names) flat.outputs; statements = map (named_statement (name_at flat.names)) (map (statement_of models) flat.statements) })
-    (names flat.inputs main.inputs (named_kept first flat.names flat.inputs (map (λ name. [] ++ name) main.inputs) (keeps_on first second flat.names k2 k3) ins)) (names flat.clocks main.clocks (named_kept second flat.names flat.clocks (map (λ name. [] ++ name) main.clocks) k3 clocks))
-    ∙ ap₂ (λ (xs : List (List ℕ)) (ss : List (FlatOf (List ℕ))). record { inputs = main.inputs; clocks = main.clocks; outputs = xs; statements = ss })
-    (names flat.outputs main.outputs outs)
-    (ap (λ (ss : List FlatStatement). map (named_statement (name_at flat.names)) (map (statement_of models) ss)) same ∙ map-map (named_statement (name_at flat.names)) (statement_of models) w.statements
-    ∙ spelled_kept w.names flat.names (keeps_on w.names first flat.names k1 (keeps_on first second flat.names k2 k3)) models w.statements kept.within)
+ports_added main w flat first second kept same k1 ins k2 clocks k3 outs = record {
+  statements = same;
+  same = λ models.
+      ap₂ (λ (xs ys : List (List ℕ)). record { inputs = xs; clocks = ys; outputs = map (name_at flat.names) flat.outputs; statements = map (named_statement (name_at flat.names)) (map (statement_of models) flat.statements) })
+      (names flat.inputs main.inputs (named_kept first flat.names flat.inputs (map (λ name. [] ++ name) main.inputs) (keeps_on first second flat.names k2 k3) ins)) (names flat.clocks main.clocks (named_kept second flat.names flat.clocks (map (λ name. [] ++ name) main.clocks) k3 clocks))
+      ∙ ap₂ (λ (xs : List (List ℕ)) (ss : List (FlatOf (List ℕ))). record { inputs = main.inputs; clocks = main.clocks; outputs = xs; statements = ss })
+      (names flat.outputs main.outputs outs)
+      (ap (λ (ss : List FlatStatement). map (named_statement (name_at flat.names)) (map (statement_of models) ss)) same ∙ map-map (named_statement (name_at flat.names)) (statement_of models) w.statements
+      ∙ spelled_kept w.names flat.names (keeps_on w.names first flat.names k1 (keeps_on first second flat.names k2 k3)) models w.statements kept.within);
+}
   where
     names : (ns : List ℕ) (xs : List (List ℕ)) → AreNamed flat.names ns (map (λ name. [] ++ name) xs) → map (name_at flat.names) ns ≡ xs
     names ns xs h = named_names flat.names ns (map (λ name. [] ++ name) xs) h ∙ map-id xs
@@ -174,14 +191,14 @@ numbers_within t ns xs h = all ns (named_within t ns xs h)
     all (m ∷ ms) k = let parts = and_parts (nat_lt m (length t)) (list_all (λ n. nat_lt n (length t)) ms) k in All-cons (λ n. n < length t) m ms (ltb-true m (length t) parts.0) (all ms parts.1)
 
 -- the flat statements of a design
-pub walked_is : (models : List BlifModel) (w : Walked) (flat : Flat) (main : BlifModel) → slice_get models 0 ≡ Some main → flat.statements ≡ w.statements → Done models w → IsWithPorts main w flat → IsWalked models flat
-walked_is [] w flat main h same done ports = absurd (cc)
-walked_is (m ∷ ms) w flat main h same done ports = record {
+pub walked_is : (models : List BlifModel) (w : Walked) (flat : Flat) (main : BlifModel) → slice_get models 0 ≡ Some main → Done models w → IsWithPorts main w flat → IsWalked models flat
+walked_is [] w flat main h done ports = absurd (cc)
+walked_is (m ∷ ms) w flat main h done ports = record {
   faultless = done.no_fault;
-  same = ports (m ∷ ms) ∙ ap₂ (λ (x : BlifModel) (ss : List (FlatOf (List ℕ))). record { inputs = x.inputs; clocks = x.clocks; outputs = x.outputs; statements = ss }) is_main done.spelled
+  same = ports.same (m ∷ ms) ∙ ap₂ (λ (x : BlifModel) (ss : List (FlatOf (List ℕ))). record { inputs = x.inputs; clocks = x.clocks; outputs = x.outputs; statements = ss }) is_main done.spelled
       ∙ sym (ap₂ (λ (xs ys : List (List ℕ)). record { inputs = xs; clocks = ys; outputs = map name_of (map top m.outputs); statements = (flat_design_of (m ∷ ms)).statements }) (tops m.inputs) (tops m.clocks)
       ∙ ap (λ (xs : List (List ℕ)). record { inputs = m.inputs; clocks = m.clocks; outputs = xs; statements = (flat_design_of (m ∷ ms)).statements }) (tops m.outputs));
-  shaped = each_to_all IsShaped (map (statement_of (m ∷ ms)) flat.statements) (subst (λ (ss : List FlatStatement). Each IsShaped (map (statement_of (m ∷ ms)) ss)) (sym same) done.shapes);
+  shaped = each_to_all IsShaped (map (statement_of (m ∷ ms)) flat.statements) (subst (λ (ss : List FlatStatement). Each IsShaped (map (statement_of (m ∷ ms)) ss)) (sym ports.statements) done.shapes);
 }
   where
     is_main : main ≡ m

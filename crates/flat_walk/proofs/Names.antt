@@ -4,7 +4,6 @@ use Rattle.std.specs.List.{list_all}
 use Rattle.std.specs.Fmt.{digits, digits_onto, digit_glyph}
 use Rattle.std.proofs.lemmas.Bool.{and_parts}
 use Rattle.std.proofs.lemmas.Fmt.{decimal_injective}
-use Rattle.blif_lines.specs.Lines.{is_hash}
 use Rattle.blif_read.specs.Kept.{is_plain}
 use Rattle.blif_read.specs.Design.{Inside, Place, name_of, place_at, flat_name}
 use Rattle.blif_read.proofs.Each.{Each}
@@ -12,28 +11,28 @@ use Rattle.flat_walk.proofs.Items.{IsPlainStep, IsPlainPlace}
 
 -- a plain name holds no `#`
 hash_in : (a x : List ℕ) → is_plain (a ++ 35 ∷ x) ≡ true → ⊥
-hash_in [] x h = true≢false (sym (and_parts (not (is_hash 35)) (list_all (λ b. not (is_hash b)) x) h).0)
-hash_in (c ∷ a) x h = hash_in a x (and_parts (not (is_hash c)) (list_all (λ b. not (is_hash b)) (a ++ 35 ∷ x)) h).1
+hash_in [] x h = true≢false (sym (and_parts (not (35 == 35)) (list_all (λ b. not (b == 35)) x) h).0)
+hash_in (c ∷ a) x h = hash_in a x (and_parts (not (c == 35)) (list_all (λ b. not (b == 35)) (a ++ 35 ∷ x)) h).1
 
 -- the first `#` parts a name in one way
 split : (a b x y : List ℕ) → is_plain a ≡ true → is_plain b ≡ true → a ++ 35 ∷ x ≡ b ++ 35 ∷ y → (a ≡ b) × (x ≡ y)
 split [] [] x y ha hb e = (refl, cc)
 split [] (d ∷ b) x y ha hb e =
     let first : 35 ≡ d = cc in
-    absurd (true≢false (sym (and_parts (not (is_hash d)) (list_all (λ c. not (is_hash c)) b) hb).0 ∙ ap (λ c. not (is_hash c)) (sym first)))
+    absurd (true≢false (sym (and_parts (not (d == 35)) (list_all (λ c. not (c == 35)) b) hb).0 ∙ ap (λ c. not (c == 35)) (sym first)))
 split (c ∷ a) [] x y ha hb e =
     let first : c ≡ 35 = cc in
-    absurd (true≢false (sym (and_parts (not (is_hash c)) (list_all (λ d. not (is_hash d)) a) ha).0 ∙ ap (λ d. not (is_hash d)) first))
+    absurd (true≢false (sym (and_parts (not (c == 35)) (list_all (λ d. not (d == 35)) a) ha).0 ∙ ap (λ d. not (d == 35)) first))
 split (c ∷ a) (d ∷ b) x y ha hb e =
     let first : c ≡ d = cc in
     let rest : a ++ 35 ∷ x ≡ b ++ 35 ∷ y = cc in
-    let parts = split a b x y (and_parts (not (is_hash c)) (list_all (λ z. not (is_hash z)) a) ha).1 (and_parts (not (is_hash d)) (list_all (λ z. not (is_hash z)) b) hb).1 rest in
+    let parts = split a b x y (and_parts (not (c == 35)) (list_all (λ z. not (z == 35)) a) ha).1 (and_parts (not (d == 35)) (list_all (λ z. not (z == 35)) b) hb).1 rest in
     (ap₂ (λ z zs. z ∷ zs) first parts.0, parts.1)
 
-glyph_plain : (d : ℕ) → not (is_hash (digit_glyph false d)) ≡ true
+glyph_plain : (d : ℕ) → not (digit_glyph false d == 35) ≡ true
 glyph_plain d = by (nat_lt d 10)
   where
-    by : (b : Bool) → not (is_hash (if b then 48 + d else 87 + d)) ≡ true
+    by : (b : Bool) → not ((if b then 48 + d else 87 + d) == 35) ≡ true
     by true = ap not (ne_eqb (48 + d) 35 (λ e. absurd (omega (arith, e))))
     by false = ap not (ne_eqb (87 + d) 35 (λ e. absurd (omega (arith, e))))
 

@@ -87,6 +87,24 @@ pub entry_passed : (main : List ℕ) (path inner : List Inside) (o : Option Blif
     found_fault main (Enter path inner o name pairs) ≡ (ports_fault m pairs or_else when (has_long path inner m pairs) flat_error.LongName)
 entry_passed main path inner o m name pairs none is = ap (λ (f : Option FlatError). f or_else inner_fault path inner o pairs) none ∙ ap (λ (x : Option BlifModel). inner_fault path inner x pairs) is
 
+-- what is left to find in an instance whose model is entered and whose pairs have no fault
+pub entered_is : (models : List BlifModel) (main : List ℕ) (outer inner : Scope) (instance : ℕ) (name : List ℕ) (pairs : List Pair) (m : BlifModel) (f : Formals) → IsScope models outer → entry_fault main (path_of (model_names models) outer) (model_named models name) name ≡ None → model_named models name ≡ Some m →
+    AreFormals m f → ports_fault m pairs ≡ None → IsInside models outer instance name inner →
+    found_fault main (instance_at models outer instance name pairs) ≡ when (list_any (λ (p : Pair). is_long_behind (length outer.prefix) p.actual) pairs || exceeds (length inner.prefix) f.room) flat_error.LongName
+entered_is models main outer inner instance name pairs m f is none found are ports inside =
+    let path : List Inside = path_of (model_names models) outer in
+    entry_passed main path (step_into path name instance) (model_named models name) m name pairs none found
+    ∙ ap (λ (x : Option FlatError). x or_else when (has_long path (step_into path name instance) m pairs) flat_error.LongName) ports
+    ∙ ap (λ (b : Bool). when b flat_error.LongName) (long_is m f path (step_into path name instance) outer.prefix inner.prefix pairs are is.prefix_is (inside.is_scope.prefix_is ∙ ap prefix_of inside.path_is))
+
+-- the fault of the pairs of an instance whose model is entered
+pub entered_ports : (models : List BlifModel) (main : List ℕ) (outer : Scope) (instance : ℕ) (name : List ℕ) (pairs : List Pair) (m : BlifModel) (e : FlatError) → entry_fault main (path_of (model_names models) outer) (model_named models name) name ≡ None → model_named models name ≡ Some m →
+    ports_fault m pairs ≡ Some e → found_fault main (instance_at models outer instance name pairs) ≡ Some e
+entered_ports models main outer instance name pairs m e none found ports =
+    let path : List Inside = path_of (model_names models) outer in
+    entry_passed main path (step_into path name instance) (model_named models name) m name pairs none found
+    ∙ ap (λ (x : Option FlatError). x or_else when (has_long path (step_into path name instance) m pairs) flat_error.LongName) ports
+
 -- the fault of an item that isn't too much is that of its own
 pub item_found : (main : List ℕ) (count places : ℕ) (item : Item) (c p : ℕ) (fault : Option FlatError) → c ≡ count + statements_in item → p ≡ places + places_in item → is_too_many c p ≡ false → found_fault main item ≡ fault → item_fault main count places item ≡ fault
 item_found main count places item c p fault ec ep few is =
@@ -195,3 +213,6 @@ latch_spelled path prefix line input output edge control init is_prefix =
     clock : (c : Option (List ℕ)) → option_map name_of (control_at path c) ≡ option_map (λ word. prefix ++ word) c
     clock None = refl
     clock (Some c) = ap (λ (x : List ℕ). Some x) (name c)
+
+pub gate_more : (fanins words : List (List ℕ)) (out : List ℕ) → words ≡ fanins → length words + 1 ≡ length (fanins ++ out ∷ [])
+gate_more fanins words out same = ap (λ (ws : List (List ℕ)). length ws + 1) same ∙ sym (length-append fanins (out ∷ []))

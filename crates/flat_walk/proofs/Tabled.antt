@@ -185,7 +185,7 @@ main_is : (models : List BlifModel) → main_name models ≡ name_at (model_name
 main_is [] = refl
 main_is (m ∷ ms) = refl
 
-names_length : (models : List BlifModel) → length (model_names models) ≡ length models
+pub names_length : (models : List BlifModel) → length (model_names models) ≡ length models
 names_length [] = refl
 names_length (m ∷ ms) = ap suc (names_length ms)
 
@@ -240,3 +240,7 @@ enters_deep models scope k name d h is off deep =
     map_length : {X Y : Type 0} (f : X → Y) (xs : List X) → length (map f xs) ≡ length xs
     map_length f [] = refl
     map_length f (x ∷ xs) = ap suc (map_length f xs)
+
+-- a name's number is one of a model
+pub model_within : (models : List BlifModel) (k : ℕ) (name : List ℕ) → slice_get (model_names models) k ≡ Some name → k < length models
+model_within models k name h = subst (λ (n : ℕ). k < n) (names_length models) (slice_get_within (model_names models) k name h)

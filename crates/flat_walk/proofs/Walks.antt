@@ -156,10 +156,10 @@ below_is levels models path None = refl
 below_is levels models path (Some m) = refl
 
 -- what is visited in an instance is what is visited below its scope
-inside_is : (models : List BlifModel) (scope inner : Scope) (k : ℕ) (name : List ℕ) → IsInside models scope k name inner → length scope.steps.items < 63 →
+inside_is : (models : List BlifModel) (scope inner : Scope) (k : ℕ) (name : List ℕ) → IsInside models scope k name inner →
     entered (walk (63 - length scope.steps.items) models) (model_named models name) (step_into (path_of (model_names models) scope) name k) ≡ below_scope models inner
-inside_is models scope inner k name inside room =
-    let levels : 63 - length scope.steps.items ≡ 64 - length inner.steps.items = omega (arith, inside.deeper) in
+inside_is models scope inner k name inside =
+    let levels : 63 - length scope.steps.items ≡ 64 - length inner.steps.items = omega (arith, inside.deeper, inside.is_scope.levels) in
     below_is (63 - length scope.steps.items) models (step_into (path_of (model_names models) scope) name k) (model_named models name)
     ∙ ap (λ (l : ℕ). below l models (step_into (path_of (model_names models) scope) name k) (model_named models name)) levels
     ∙ ap (λ (path : List Inside). below (64 - length inner.steps.items) models path (model_named models name)) (sym inside.path_is)
@@ -167,16 +167,16 @@ inside_is models scope inner k name inside room =
 
 -- an instance whose inside is taken
 pub step_inside : (models : List BlifModel) (main : List ℕ) (scope inner : Scope) (k : ℕ) (s : Statement) (rest : List Statement) (old mid new : Sofar) →
-    GoesInside models scope k s (Some inner) → length scope.steps.items < 63 → visits main old (heads models (path_of (model_names models) scope) k s) ≡ Ok mid → visits main mid (below_scope models inner) ≡ Ok new →
+    GoesInside models scope k s (Some inner) → visits main old (heads models (path_of (model_names models) scope) k s) ≡ Ok mid → visits main mid (below_scope models inner) ≡ Ok new →
     visits main old (visited (walk (63 - length scope.steps.items) models) models (path_of (model_names models) scope) k (s ∷ rest)) ≡ visits main new (visited (walk (63 - length scope.steps.items) models) models (path_of (model_names models) scope) (k + 1) rest)
-step_inside models main scope inner k (Names line fanins out cover) rest old mid new goes room h below = absurd (cc)
-step_inside models main scope inner k (Latch line input output edge control start) rest old mid new goes room h below = absurd (cc)
-step_inside models main scope inner k (Subckt line name pairs) rest old mid new goes room h below =
+step_inside models main scope inner k (Names line fanins out cover) rest old mid new goes h below = absurd (cc)
+step_inside models main scope inner k (Latch line input output edge control start) rest old mid new goes h below = absurd (cc)
+step_inside models main scope inner k (Subckt line name pairs) rest old mid new goes h below =
     let path : List Inside = path_of (model_names models) scope in
     let inside : IsInside models scope k name inner = subst (IsInside models scope k name) (the_inner goes.0 goes.1) goes.2 in
     let more : List Item = visited (walk (63 - length scope.steps.items) models) models path (k + 1) rest in
     visits_on main (heads models path k (Subckt line name pairs)) (entered (walk (63 - length scope.steps.items) models) (model_named models name) (step_into path name k) ++ more) old mid h
-    ∙ ap (λ (items : List Item). visits main mid (items ++ more)) (inside_is models scope inner k name inside room)
+    ∙ ap (λ (items : List Item). visits main mid (items ++ more)) (inside_is models scope inner k name inside)
     ∙ visits_on main (below_scope models inner) more mid new below
   where
     the_inner : (x : Scope) → Some inner ≡ Some x → x ≡ inner
@@ -184,16 +184,16 @@ step_inside models main scope inner k (Subckt line name pairs) rest old mid new 
 
 -- a fault inside an instance
 pub step_inside_fault : (models : List BlifModel) (main : List ℕ) (scope inner : Scope) (k : ℕ) (s : Statement) (rest : List Statement) (old mid : Sofar) (e : FlatError) →
-    GoesInside models scope k s (Some inner) → length scope.steps.items < 63 → visits main old (heads models (path_of (model_names models) scope) k s) ≡ Ok mid → visits main mid (below_scope models inner) ≡ Err e →
+    GoesInside models scope k s (Some inner) → visits main old (heads models (path_of (model_names models) scope) k s) ≡ Ok mid → visits main mid (below_scope models inner) ≡ Err e →
     visits main old (visited (walk (63 - length scope.steps.items) models) models (path_of (model_names models) scope) k (s ∷ rest)) ≡ Err e
-step_inside_fault models main scope inner k (Names line fanins out cover) rest old mid e goes room h below = absurd (cc)
-step_inside_fault models main scope inner k (Latch line input output edge control start) rest old mid e goes room h below = absurd (cc)
-step_inside_fault models main scope inner k (Subckt line name pairs) rest old mid e goes room h below =
+step_inside_fault models main scope inner k (Names line fanins out cover) rest old mid e goes h below = absurd (cc)
+step_inside_fault models main scope inner k (Latch line input output edge control start) rest old mid e goes h below = absurd (cc)
+step_inside_fault models main scope inner k (Subckt line name pairs) rest old mid e goes h below =
     let path : List Inside = path_of (model_names models) scope in
     let inside : IsInside models scope k name inner = subst (IsInside models scope k name) (the_inner goes.0 goes.1) goes.2 in
     let more : List Item = visited (walk (63 - length scope.steps.items) models) models path (k + 1) rest in
     visits_on main (heads models path k (Subckt line name pairs)) (entered (walk (63 - length scope.steps.items) models) (model_named models name) (step_into path name k) ++ more) old mid h
-    ∙ ap (λ (items : List Item). visits main mid (items ++ more)) (inside_is models scope inner k name inside room)
+    ∙ ap (λ (items : List Item). visits main mid (items ++ more)) (inside_is models scope inner k name inside)
     ∙ visits_stop main (below_scope models inner) more mid e below
   where
     the_inner : (x : Scope) → Some inner ≡ Some x → x ≡ inner

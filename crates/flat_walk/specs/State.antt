@@ -58,5 +58,6 @@ abbrev pub pair_between : List (List ℕ) → List ℕ → List ℕ → Pair →
 pair_between inputs outer inner pair = port_between (is_among inputs pair.formal) (outer ++ pair.actual) (inner ++ pair.formal)
 
 -- the statements with the ports of the main model
-abbrev pub IsWithPorts : BlifModel → Walked → Flat → Type 0
-IsWithPorts main w flat = (models : List BlifModel) → named (name_at flat.names) (view_of models flat) ≡ record { inputs = main.inputs; clocks = main.clocks; outputs = main.outputs; statements = spelled_in w.names models w.statements }
+pub record IsWithPorts (main : BlifModel) (w : Walked) (flat : Flat) : Type 0 where
+  pub statements : flat.statements ≡ w.statements
+  pub same : (models : List BlifModel) → named (name_at flat.names) (view_of models flat) ≡ record { inputs = main.inputs; clocks = main.clocks; outputs = main.outputs; statements = spelled_in w.names models w.statements }

@@ -1,6 +1,6 @@
 //! The walk over the hierarchy.
 
-ghost use Rattle.std.specs.Prelude.{◌≡◌, ◌≢◌, ◌++◌, ◌^◌, ◌<◌, ◌≤◌, ◌∷◌, [], true, All, Ok, Err, Some, length, slice_get, IfOk, IfErr, OnOk};
+ghost use Rattle.std.specs.Prelude.{◌≡◌, ◌≢◌, ◌+◌, ◌++◌, ◌^◌, ◌<◌, ◌≤◌, ◌∷◌, [], true, All, Ok, Err, Some, length, slice_get, IfOk, IfErr, OnOk};
 ghost use Rattle.std.specs.List.{list_all, list_any, sum_by};
 ghost use Rattle.blif_read.specs.Kept.{names_in_option, model_names};
 ghost use Rattle.flat_walk.specs.declared.error.FlatError.TheVariants as flat_error;
@@ -39,6 +39,16 @@ fn latch_is_long(prefix: usize, input: &[u8], output: &[u8], control: &Option<Wo
         None => false,
     };
     is_long(prefix, input) || is_long(prefix, output) || control_is_long
+}
+
+/// At how many places a latch with this clock writes a signal's name.
+fn latch_places(control: &Option<Word>) -> usize
+    ensures { result ≡ 2 + length (names_in_option control.now) }
+{
+    match control {
+        Some(_) => 3,
+        None => 2,
+    }
 }
 
 /// Takes an instance with its pairs, and gives the scope where the walk goes on.
@@ -117,7 +127,7 @@ fn take(
             ..
         } => {
             let long = latch_is_long(prefix.len(), input.as_slice(), output.as_slice(), control);
-            walked.admit(if control.is_some() { 3 } else { 2 }, long)?;
+            walked.admit(latch_places(control), long)?;
             walked.add_latch(
                 alloc,
                 prefix,
