@@ -216,3 +216,6 @@ latch_spelled path prefix line input output edge control init is_prefix =
 
 pub gate_more : (fanins words : List (List ℕ)) (out : List ℕ) → words ≡ fanins → length words + 1 ≡ length (fanins ++ out ∷ [])
 gate_more fanins words out same = ap (λ (ws : List (List ℕ)). length ws + 1) same ∙ sym (length-append fanins (out ∷ []))
+
+pub latch_more : (input output : List ℕ) (rest : List (List ℕ)) → 2 + length rest ≡ length (input ∷ output ∷ rest)
+latch_more input output rest = omega arith

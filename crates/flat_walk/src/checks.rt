@@ -73,7 +73,7 @@ fn model_to_enter(
     if outer.is_on_path(model) {
         return Err(FlatError::Recursive(word(alloc, name)?));
     }
-    if outer.steps.len() >= STEPS {
+    if outer.steps.as_slice().len() >= STEPS {
         return Err(FlatError::TooDeep(word(alloc, name)?));
     }
     Ok(model)

@@ -1,4 +1,4 @@
-use Rattle.std.proofs.Common.{◌≡◌, ◌<◌, ◌≤◌, ℕ, List, Option, Some, slice_get, sym, ◌∙◌, ap, subst}
+use Rattle.std.proofs.Common.{◌≡◌, ◌<◌, ◌≤◌, ℕ, List, Option, Some, slice_get, sym, ◌∙◌, ap, subst, length}
 use Rattle.sec_base.specs.Table.{is_among, AreDistinct}
 use Rattle.blif_read.specs.declared.design.BlifModel.{BlifModel}
 use Rattle.blif_read.specs.Kept.{model_names}
@@ -24,7 +24,7 @@ pub returns-then-len-ge-STEPS-clause-err : goal.returns-then-len-ge-STEPS-clause
 returns-then-len-ge-STEPS-clause-err c = λ ne.
     enters_deep c.args.models.now c.args.outer.now c.in-Some.model c.args.name.now (subst AreDistinct c.requires.tables.names c.keeps.ensures)
     (subst (λ (ns : List (List ℕ)). slice_get ns c.in-Some.model ≡ Some c.args.name.now) c.requires.tables.names c.in-Some.ensures.here) c.requires.scope (sym c.if-is_on_path.ensures)
-    (subst (λ (n : ℕ). 63 ≤ n) c.len.ensures c.if-len-ge-STEPS.true)
+    (subst (λ (n : ℕ). 63 ≤ n) (c.len.ensures ∙ ap length c.as_slice.ensures.value) c.if-len-ge-STEPS.true)
     ∙ ap (λ (w : List ℕ). Some (flat_error.TooDeep w)) (sym c.in_ok-word-3.ensures)
 
 pub returns-clause-ok : goal.returns-clause-ok
@@ -32,5 +32,5 @@ returns-clause-ok c =
     let distinct : AreDistinct (model_names c.args.models.now) = subst AreDistinct c.requires.tables.names c.keeps.ensures in
     let here : slice_get (model_names c.args.models.now) c.in-Some.model ≡ Some c.args.name.now = subst (λ (ns : List (List ℕ)). slice_get ns c.in-Some.model ≡ Some c.args.name.now) c.requires.tables.names c.in-Some.ensures.here in (
       found_model c.args.models.now c.args.name.now c.in-Some.model distinct here,
-      enters c.args.models.now c.args.outer.now c.in-Some.model c.args.name.now distinct here c.requires.scope (sym c.if-is_on_path.ensures) (subst (λ (n : ℕ). n < 63) c.len.ensures c.if-len-ge-STEPS.false),
+      enters c.args.models.now c.args.outer.now c.in-Some.model c.args.name.now distinct here c.requires.scope (sym c.if-is_on_path.ensures) (subst (λ (n : ℕ). n < 63) (c.len.ensures ∙ ap length c.as_slice.ensures.value) c.if-len-ge-STEPS.false),
     )
