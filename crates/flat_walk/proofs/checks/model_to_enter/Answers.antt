@@ -20,11 +20,11 @@ returns-then-is_on_path-clause-err c = λ ne.
     (subst (λ (ns : List (List ℕ)). slice_get ns c.in-Some.model ≡ Some c.args.name.now) c.requires.tables.names c.in-Some.ensures.here) c.requires.scope (sym c.if-is_on_path.ensures)
     ∙ ap (λ (w : List ℕ). Some (flat_error.Recursive w)) (sym c.in_ok-word-2.ensures)
 
-pub returns-then-len-ge-STEPS-clause-err : goal.returns-then-len-ge-STEPS-clause-err
-returns-then-len-ge-STEPS-clause-err c = λ ne.
+pub returns-then-as_slice-ge-STEPS-clause-err : goal.returns-then-as_slice-ge-STEPS-clause-err
+returns-then-as_slice-ge-STEPS-clause-err c = λ ne.
     enters_deep c.args.models.now c.args.outer.now c.in-Some.model c.args.name.now (subst AreDistinct c.requires.tables.names c.keeps.ensures)
     (subst (λ (ns : List (List ℕ)). slice_get ns c.in-Some.model ≡ Some c.args.name.now) c.requires.tables.names c.in-Some.ensures.here) c.requires.scope (sym c.if-is_on_path.ensures)
-    (subst (λ (n : ℕ). 63 ≤ n) (c.len.ensures ∙ ap length c.as_slice.ensures.value) c.if-len-ge-STEPS.true)
+    (subst (λ (n : ℕ). 63 ≤ n) (ap length c.as_slice.ensures.value) c.if-as_slice-ge-STEPS.true)
     ∙ ap (λ (w : List ℕ). Some (flat_error.TooDeep w)) (sym c.in_ok-word-3.ensures)
 
 pub returns-clause-ok : goal.returns-clause-ok
@@ -32,5 +32,5 @@ returns-clause-ok c =
     let distinct : AreDistinct (model_names c.args.models.now) = subst AreDistinct c.requires.tables.names c.keeps.ensures in
     let here : slice_get (model_names c.args.models.now) c.in-Some.model ≡ Some c.args.name.now = subst (λ (ns : List (List ℕ)). slice_get ns c.in-Some.model ≡ Some c.args.name.now) c.requires.tables.names c.in-Some.ensures.here in (
       found_model c.args.models.now c.args.name.now c.in-Some.model distinct here,
-      enters c.args.models.now c.args.outer.now c.in-Some.model c.args.name.now distinct here c.requires.scope (sym c.if-is_on_path.ensures) (subst (λ (n : ℕ). n < 63) (c.len.ensures ∙ ap length c.as_slice.ensures.value) c.if-len-ge-STEPS.false),
+      enters c.args.models.now c.args.outer.now c.in-Some.model c.args.name.now distinct here c.requires.scope (sym c.if-is_on_path.ensures) (subst (λ (n : ℕ). n < 63) (ap length c.as_slice.ensures.value) c.if-as_slice-ge-STEPS.false),
     )

@@ -1,5 +1,5 @@
-use Rattle.std.proofs.Common.{◌≡◌, ◌+◌, ◌-◌, ◌≤◌, ◌<◌, ℕ, List, [], ◌∷◌, drop, length, Option, Some, None, Ok, Err, slice_get, sym, ◌∙◌, ap, ap₂, subst, refl, arith, drop_of_length-le}
-use Rattle.std.proofs.lemmas.Option.{slice_get_read}
+use Rattle.std.proofs.Common.{◌≡◌, ◌+◌, ◌-◌, ◌≤◌, ◌<◌, ℕ, List, [], ◌∷◌, drop, length, Option, Some, None, Ok, Err, slice_get, get_or, sym, ◌∙◌, ap, ap₂, subst, refl, arith, drop_of_length-le}
+use Rattle.std.proofs.lemmas.Option.{slice_get_read, slice_get-get_or}
 use Rattle.std.proofs.lemmas.Result.{err_from_is_err_and}
 use Rattle.blif_read.specs.declared.design.BlifModel.{BlifModel}
 use Rattle.blif_read.specs.declared.design.Statement.{Statement}
@@ -20,8 +20,8 @@ use Rattle.flat_walk.proofs.walking.+walk_scope.Goals.{in-Some+in_ok-walk_scope,
 pub loop-statement-init : goal.loop-statement-init
 loop-statement-init t c =
     let models : List BlifModel = c.args.models.now in
-    let m : BlifModel = c.index-models-scope.result in
-    let here : slice_get models c.args.scope.now.model ≡ Some m = slice_get_read models (length models) c.args.scope.now.model m refl c.requires.scope.known c.index-models-scope.is in
+    let m : BlifModel = get_or models c.args.scope.now.model c.index-models-scope.result in
+    let here : slice_get models c.args.scope.now.model ≡ Some m = slice_get-get_or models c.args.scope.now.model c.index-models-scope.result c.requires.scope.known in
     record {
       kept = c.requires.kept;
       at_is = refl;
@@ -33,8 +33,8 @@ loop-statement-init t c =
 pub take-requires-clause-here : goal.take-requires-clause-here
 take-requires-clause-here t c =
     let models : List BlifModel = c.args.models.now in
-    let m : BlifModel = c.index-models-scope.result in
-    let here : slice_get models c.args.scope.now.model ≡ Some m = slice_get_read models (length models) c.args.scope.now.model m refl c.requires.scope.known c.index-models-scope.is in
+    let m : BlifModel = get_or models c.args.scope.now.model c.index-models-scope.result in
+    let here : slice_get models c.args.scope.now.model ≡ Some m = slice_get-get_or models c.args.scope.now.model c.index-models-scope.result c.requires.scope.known in
     ap (λ (o : Option BlifModel). statement_in o c.loop-statement.at) here
     ∙ ap₂ (λ (ss : List Statement) (k : ℕ). slice_get ss k) (sym c.as_slice-statements.ensures) c.loop-statement.invariant.at_is
     ∙ slice_get_read c.as_slice-statements.result.now (length c.as_slice-statements.result.now) c.loop-statement.statement-index c.statement-item.result refl c.loop-statement-test.true c.statement-item.is

@@ -1,4 +1,4 @@
-use Rattle.std.proofs.Common.{◌≡◌, ◌<◌, ◌^◌, ℕ, List, [], length, Some, slice_get, sym, ◌∙◌, ap, subst, refl}
+use Rattle.std.proofs.Common.{◌≡◌, ◌<◌, ◌^◌, ℕ, List, [], length, Some, slice_get, get_or, sym, ◌∙◌, ap, subst, refl}
 use Rattle.std.specs.List.{All}
 use Rattle.std.proofs.lemmas.Option.{slice_get_read}
 use Rattle.std.proofs.lemmas.Result.{err_from_is_err_and}
@@ -19,13 +19,27 @@ returns-in_err-walk_scope-clause-err c =
     (walk_failed c.as_slice-models.result.now c.main.result c.new-walked.result c.in_err-walk_scope.field-0.0 c.main.ensures.steps c.main.ensures.model c.new-walked.ensures (c.in_err-walk_scope.ensures.err ne)))
 
 pub with_ports-requires-clause-shaped : goal.with_ports-requires-clause-shaped
-with_ports-requires-clause-shaped c = ?
+with_ports-requires-clause-shaped c =
+    let done : Done c.args.design.now.models c.walk_scope.new.walked = done_at c.args.design.now.models c.as_slice-models.result.now c.main.result c.new-walked.result c.walk_scope.new.walked c.as_slice-models.ensures c.main.ensures.steps c.main.ensures.model c.new-walked.ensures c.in_ok-walk_scope.ensures.kept
+    c.args.design.now.plain c.args.design.now.fit c.args.design.now.few c.in_ok-walk_scope.ensures.ok in
+    done.shaped
 
 pub with_ports-requires-clause-few : goal.with_ports-requires-clause-few
-with_ports-requires-clause-few c = ?
+with_ports-requires-clause-few c =
+    let done : Done c.args.design.now.models c.walk_scope.new.walked = done_at c.args.design.now.models c.as_slice-models.result.now c.main.result c.new-walked.result c.walk_scope.new.walked c.as_slice-models.ensures c.main.ensures.steps c.main.ensures.model c.new-walked.ensures c.in_ok-walk_scope.ensures.kept
+    c.args.design.now.plain c.args.design.now.fit c.args.design.now.few c.in_ok-walk_scope.ensures.ok in
+    done.few
 
 pub with_ports-requires-clause-few_places : goal.with_ports-requires-clause-few_places
-with_ports-requires-clause-few_places c = ?
+with_ports-requires-clause-few_places c =
+    let done : Done c.args.design.now.models c.walk_scope.new.walked = done_at c.args.design.now.models c.as_slice-models.result.now c.main.result c.new-walked.result c.walk_scope.new.walked c.as_slice-models.ensures c.main.ensures.steps c.main.ensures.model c.new-walked.ensures c.in_ok-walk_scope.ensures.kept
+    c.args.design.now.plain c.args.design.now.fit c.args.design.now.few c.in_ok-walk_scope.ensures.ok in
+    done.few_places
 
 pub returns-clause-ok : goal.returns-clause-ok
-returns-clause-ok c = ?
+returns-clause-ok c =
+    let done : Done c.args.design.now.models c.walk_scope.new.walked = done_at c.args.design.now.models c.as_slice-models.result.now c.main.result c.new-walked.result c.walk_scope.new.walked c.as_slice-models.ensures c.main.ensures.steps c.main.ensures.model c.new-walked.ensures c.in_ok-walk_scope.ensures.kept
+    c.args.design.now.plain c.args.design.now.fit c.args.design.now.few c.in_ok-walk_scope.ensures.ok in
+    let first : slice_get c.args.design.now.models 0 ≡ Some c.index-models-0.result =
+    slice_get_read c.args.design.now.models (length c.args.design.now.models) 0 c.index-models-0.result refl c.args.design.now.some (subst (λ (ms : List BlifModel). c.index-models-0.result ≡ get_or ms 0 c.index-models-0.result) c.as_slice-models.ensures c.index-models-0.is) in
+    walked_is c.args.design.now.models c.walk_scope.new.walked c.in_ok-with_ports.field-0 c.index-models-0.result first done c.in_ok-with_ports.ensures
