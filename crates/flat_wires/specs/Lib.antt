@@ -1,0 +1,7 @@
+pub mod Wiring
+pub mod Events
+pub mod Faults
+pub mod Clocks
+pub mod Steps
+pub mod Tables
+pub mod Wired
