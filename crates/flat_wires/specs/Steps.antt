@@ -1,5 +1,5 @@
 -- Steps back along ports, over a table that says of each number from where a port drives it.
-use Rattle.std.specs.Prelude.{◌≡◌, ℕ, zero, suc, ◌<◌, Bool, true, false, List, [], ◌∷◌, length, Option, Some, None, slice_get, slice_index, unwrap_or, is_some, if◌then◌else◌}
+use Rattle.std.specs.Prelude.{◌≡◌, ℕ, zero, suc, ◌<◌, Bool, true, false, List, [], ◌∷◌, length, Option, Some, None, slice_get, slice_index, slice_index_or, unwrap_or, is_some, if◌then◌else◌}
 use Rattle.flat_walk.specs.declared.flat.FlatStatement.{FlatStatement}
 use Rattle.flat_walk.specs.declared.flat.FlatKind.{FlatKind}
 use Rattle.flat_walk.specs.declared.flat.FlatKind.TheVariants as kind
@@ -33,11 +33,11 @@ ArePortsWithin froms = (n m : ℕ) → slice_get froms n ≡ Some (Some m) → m
 
 -- a port drives n
 abbrev pub is_open : List (Option ℕ) → ℕ → Bool
-is_open froms n = is_some (unwrap_or (slice_get froms n) None)
+is_open froms n = is_some (slice_index_or froms n None)
 
 -- one port back, or where no port drives n, n itself
 abbrev pub back : List (Option ℕ) → ℕ → ℕ
-back froms n = unwrap_or (unwrap_or (slice_get froms n) None) n
+back froms n = unwrap_or (slice_index_or froms n None) n
 
 -- so many ports back, or where following ends before, where it ends
 unfoldable pub back_by : List (Option ℕ) → ℕ → ℕ → ℕ

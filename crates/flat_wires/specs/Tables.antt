@@ -1,12 +1,9 @@
 -- What drives each number, where ports come from, and nets, as tables.
-use Rattle.std.specs.Prelude.{◌≡◌, ℕ, ◌<◌, List, [], ◌++◌, length, Option, Some, None, slice_get}
+use Rattle.std.specs.Prelude.{◌≡◌, ℕ, ◌<◌, List, ◌++◌, length, Option, Some, None, slice_get}
 use Rattle.std.specs.List.{Contains}
 use Rattle.flat_wires.specs.declared.source.Source.{Source}
 use Rattle.flat_wires.specs.declared.source.Source.TheVariants as source
-use Rattle.flat_walk.specs.declared.flat.FlatStatement.{FlatStatement}
-use Rattle.flat_walk.specs.declared.flat.FlatKind.{FlatKind}
-use Rattle.flat_walk.specs.declared.flat.FlatKind.TheVariants as kind
-use Rattle.flat_wires.specs.Wiring.{Wiring, some_of}
+use Rattle.flat_wires.specs.Wiring.{Wiring}
 use Rattle.flat_wires.specs.Faults.{HasNet}
 
 -- what drives n, where the inputs and what the statements drive are these
@@ -23,7 +20,7 @@ AreSources inputs outs sources = (n : ℕ) (s : Source) → slice_get sources n 
 pub record ArePorts (w : Wiring ℕ) (size : ℕ) (froms : List (Option ℕ)) : Type 0 where
   pub len : length froms ≡ size
   pub from : (n m : ℕ) → slice_get froms n ≡ Some (Some m) → Contains w.ports (record { out = n; from = m })
-  pub none : (n m : ℕ) → slice_get froms n ≡ Some None → Contains w.ports (record { out = n; from = m }) → ⊥
+  pub all : (n m : ℕ) → Contains w.ports (record { out = n; from = m }) → slice_get froms n ≡ Some (Some m)
   pub within : (n m : ℕ) → slice_get froms n ≡ Some (Some m) → m < size
 
 -- The table says of each number its net. A number without a net is driven by a port from one without a net.
@@ -32,22 +29,14 @@ pub record AreNets (w : Wiring ℕ) (size : ℕ) (nets : List (Option ℕ)) : Ty
   pub net : (n m : ℕ) → slice_get nets n ≡ Some (Some m) → HasNet w n m
   pub ring : (n : ℕ) → slice_get nets n ≡ Some None → (m : ℕ) × Contains w.ports (record { out = n; from = m }) × (slice_get nets m ≡ Some None)
   pub no_net : (n m : ℕ) → slice_get nets n ≡ Some None → HasNet w n m → ⊥
+  pub all : (n m : ℕ) → n < size → HasNet w n m → slice_get nets n ≡ Some (Some m)
 
 -- nothing drives n
 abbrev pub IsOpenIn : List Source → ℕ → Type 0
 IsOpenIn sources n = slice_get sources n ≡ Some source.Open
 
-abbrev pub control_in : FlatKind → List ℕ
-control_in (kind.Gate model statement) = []
-control_in (kind.Latch edge control init) = some_of control
-control_in kind.Port = []
-
--- what a statement reads, and then its clock if it has one
-abbrev pub reads_in : FlatStatement → List ℕ
-reads_in s = s.reads ++ control_in s.kind
-
 -- for each number below the size its driver and its net
-pub record HasTables (w : Wiring ℕ) (size : ℕ) (sources : List Source) (nets : List (Option ℕ)) : Type 0 where
-  pub len : length sources ≡ size
-  pub sources : AreSources (w.inputs ++ w.clocks) w.outs sources
-  pub nets : AreNets w size nets
+pub record HasTables (w : Wiring ℕ) (size : ℕ) (drivers : List Source) (ends : List (Option ℕ)) : Type 0 where
+  pub len : length drivers ≡ size
+  pub sources : AreSources (w.inputs ++ w.clocks) w.outs drivers
+  pub nets : AreNets w size ends

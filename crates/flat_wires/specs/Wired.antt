@@ -4,7 +4,7 @@ use Rattle.std.specs.List.{Contains}
 use Rattle.blif_read.specs.declared.design.BlifModel.{BlifModel}
 use Rattle.flat_walk.specs.declared.flat.Flat.{Flat}
 use Rattle.flat_walk.specs.declared.error.FlatError.{FlatError}
-use Rattle.flat_walk.specs.declared.error.FlatError.TheVariants as flat
+use Rattle.flat_walk.specs.declared.error.FlatError.TheVariants as fault
 use Rattle.flat_walk.specs.Flat.{named, name_at, view_of}
 use Rattle.flat_wires.specs.declared.source.Source.{Source}
 use Rattle.flat_wires.specs.Wiring.{Wiring}
@@ -30,7 +30,7 @@ pub record IsWired (w : Wiring ℕ) (size : ℕ) (wired : WiredView) : Type 0 wh
 
 -- the error is want of memory, or the first fault of the design over its names, whatever models its covers are in
 abbrev pub IsTold : Flat → FlatError → Type 0
-IsTold flat e = e ≢ flat.NoMemory → (models : List BlifModel) → IsWireFault (named (name_at flat.names) (view_of models flat)) e
+IsTold flat e = e ≢ fault.NoMemory → (models : List BlifModel) → IsWireFault (named (name_at flat.names) (view_of models flat)) e
 
 -- the design over its names has no fault of drivers and clocks
 abbrev pub IsFaultless : Flat → Type 0

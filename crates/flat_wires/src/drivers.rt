@@ -1,14 +1,16 @@
 //! What drives each signal, the signals that are driven again and those that nothing drives.
 
 ghost use Rattle.std.specs.Prelude.{◌≡◌, ℕ, ◌<◌, ◌≤◌, ◌^◌, List, [], ◌++◌, length, All, IfOk, IfSome, MatchOption, Some};
-ghost use Rattle.flat_walk.specs.Within.{IsWithin};
-ghost use Rattle.flat_wires.specs.Wiring.{wires_of};
+ghost use Rattle.flat_walk.specs.Flat.{statement_of, kind_of};
+ghost use Rattle.flat_wires.specs.Wiring.{wires_of, reads_by, control_by};
 ghost use Rattle.flat_wires.specs.Events.{IsFirst, IsNever, IsAt};
 ghost use Rattle.flat_wires.specs.Faults.{DrivesAgain};
-ghost use Rattle.flat_wires.specs.Tables.{AreSources, IsOpenIn, reads_in};
+ghost use Rattle.flat_wires.specs.Tables.{AreSources, IsOpenIn};
 
+use crate::keeping::keeps;
+use crate::kinds::control_of;
 use crate::source::Source;
-use flat_walk::{Flat, FlatKind, FlatStatement};
+use flat_walk::{Flat, FlatStatement};
 use sec_base::NoMemory;
 use std::alloc::Global;
 
@@ -28,6 +30,7 @@ pub(crate) fn main_sources(alloc: Global, flat: &Flat) -> Result<Vec<Source>, No
     ensures len { IfOk result (λ sources. length sources.items ≡ length flat.now.names) }
     ensures main { let w = wires_of flat.now in IfOk result (λ sources. AreSources (w.inputs ++ w.clocks) [] sources.items) }
 {
+    keeps(flat);
     let mut sources = vec![in alloc; Source::Open; flat.names.len() as usize]?;
     put_inputs(&mut sources, flat.inputs.as_slice());
     put_inputs(&mut sources, flat.clocks.as_slice());
@@ -42,6 +45,7 @@ pub(crate) fn driven_again(sources: &mut [Source], flat: &Flat) -> Option<u32>
     ensures sources { let w = wires_of flat.now in MatchOption result (AreSources (w.inputs ++ w.clocks) w.outs sources.new) (λ n. n < length flat.now.names) }
     ensures again { let w = wires_of flat.now in MatchOption result (IsNever (DrivesAgain w)) (IsFirst (DrivesAgain w)) }
 {
+    keeps(flat);
     for (place, statement) in flat.statements.as_slice().iter().enumerate() {
         let out = statement.out;
         let Source::Open = sources[out as usize] else {
@@ -67,20 +71,17 @@ fn first_open(sources: &[Source], reads: &[u32]) -> Option<u32>
 
 /// The first signal that the statement reads and nothing drives.
 fn open_read(sources: &[Source], statement: &FlatStatement) -> Option<u32>
-    requires { IsWithin (length sources.now) statement.now }
-    ensures { let found = IsAt (reads_in statement.now) (λ n. n) (IsOpenIn sources.now) in MatchOption result (IsNever found) (IsFirst found) }
+    requires own { All (λ n. n < length sources.now) statement.now.reads }
+    requires control { All (λ n. n < length sources.now) (control_by (kind_of [] statement.now.kind)) }
+    ensures { let found = IsAt (reads_by (statement_of [] statement.now)) (λ n. n) (IsOpenIn sources.now) in MatchOption result (IsNever found) (IsFirst found) }
 {
     let found = first_open(sources, statement.reads.as_slice());
     if found.is_some() {
         return found;
     }
-    match statement.kind {
-        FlatKind::Latch {
-            edge: _,
-            control: Some(control),
-            init: _,
-        } => first_open(sources, &[control]),
-        _ => None,
+    match control_of(statement.kind) {
+        Some(control) => first_open(sources, &[control]),
+        None => None,
     }
 }
 
@@ -90,6 +91,7 @@ pub(crate) fn undriven(flat: &Flat, sources: &[Source]) -> Option<u32>
     ensures within { IfSome result (λ n. n < length flat.now.names) }
     ensures open { let w = wires_of flat.now in let found = IsAt (w.reads ++ w.outputs) (λ n. n) (IsOpenIn sources.now) in MatchOption result (IsNever found) (IsFirst found) }
 {
+    keeps(flat);
     for statement in flat.statements.as_slice() {
         let found = open_read(sources, statement);
         if found.is_some() {

@@ -1,6 +1,6 @@
 //! Where following ports back ends.
 
-ghost use Rattle.std.specs.Prelude.{◌≡◌, ◌+◌, ℕ, ◌<◌, ◌≤◌, length, map, slice_get, slice_index, Some, None, All, IfOk};
+ghost use Rattle.std.specs.Prelude.{◌≡◌, ◌^◌, ◌<◌, length, map, slice_get, slice_index, Some, None, All, IfOk};
 ghost use Rattle.std.specs.List.{count_by};
 ghost use Rattle.flat_wires.specs.Wiring.{wires_of};
 ghost use Rattle.flat_wires.specs.Events.{IsNever};
@@ -8,6 +8,7 @@ ghost use Rattle.flat_wires.specs.Faults.{DrivesAgain};
 ghost use Rattle.flat_wires.specs.Tables.{AreSources, ArePorts, AreNets};
 ghost use Rattle.flat_wires.specs.Steps.{source_port, IsStatementWithin, ArePortsWithin, is_open, IsBackBy, net_at, AreEnds};
 
+use crate::keeping::keeps;
 use crate::source::Source;
 use flat_walk::{Flat, FlatKind};
 use sec_base::NoMemory;
@@ -21,6 +22,7 @@ fn port_from(flat: &Flat, source: Source) -> Option<u32>
     let Source::Statement(place) = source else {
         return None;
     };
+    keeps(flat);
     let statement = &flat.statements.as_slice()[place as usize];
     match statement.kind {
         FlatKind::Port => Some(statement.reads.as_slice()[0]),
@@ -77,13 +79,9 @@ fn still_open(froms: &[Option<u32>], at: &[u32]) -> usize
     requires { All (λ m. m < length froms.now) at.now }
     ensures { result ≡ count_by (is_open froms.now) at.now }
 {
-    let mut open = 0;
-    for place in at {
-        if froms[*place as usize].is_some() {
-            open += 1;
-        }
-    }
-    open
+    at.iter()
+        .filter(|place| froms[**place as usize].is_some())
+        .count()
 }
 
 /// The places that no port drives.
@@ -93,9 +91,10 @@ fn ended(alloc: Global, froms: &[Option<u32>], at: &[u32]) -> Result<Vec<Option<
 {
     let mut nets = Vec::with_capacity(alloc, at.len())?;
     for place in at {
-        nets.push(match froms[*place as usize] {
-            Some(_) => None,
-            None => Some(*place),
+        nets.push(if froms[*place as usize].is_some() {
+            None
+        } else {
+            Some(*place)
         })?;
     }
     Ok(nets)

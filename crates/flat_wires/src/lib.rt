@@ -8,6 +8,8 @@ mod clocks;
 mod drivers;
 mod finding;
 mod following;
+mod keeping;
+mod kinds;
 mod source;
 #[cfg(test)]
 mod tests;
