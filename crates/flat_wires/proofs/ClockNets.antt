@@ -54,7 +54,7 @@ module _ (w : Wiring ℕ) (size : ℕ) (below : IsBounded w size) (nets : List (
   never_other_clock clock one = never_along (OtherNet nets (clock_signals w)) (OtherClock w) other_back (one_never nets (clock_signals w) clock one)
 
   pub clock_is : (clock : Option ℕ) → AreOneNet nets (clock_signals w) clock → IsClockOf w clock
-  clock_is None one i net h = one i net (net_back i net h)
+  clock_is None one = λ i net h. one i net (net_back i net h)
   clock_is (Some clock) one = ((one.0.0, net_there one.0.0 clock one.0.1), λ i net h. one.1 i net (net_back i net h))
 
   -- the readers of the one clock net
@@ -105,15 +105,15 @@ module _ (flat : Flat) (solid : IsSolid flat) where
   -- a clock net that a table gives another source isn't gated
   pub not_gated : IsNever (DrivesAgain (wires_of flat)) → (clock : ℕ) (s : Source) → IsClockOf (wires_of flat) (Some clock) → IsSource ((wires_of flat).inputs ++ (wires_of flat).clocks) (wires_of flat).outs clock s →
       ((i : ℕ) → s ≡ source.Statement i → ⊥) → (p : ℕ) → IsGatedClock (wires_of flat) p → ⊥
-  not_gated never clock s is own no p g =
+  not_gated never clock s is own free p g =
       let at = gated_statement p g in
       let same : p ≡ clock = is.1 g.clock.0 p g.clock.1 in
-      by s own no at.0 (at.1 ∙ ap Some same)
+      by s own free at.0 (at.1 ∙ ap Some same)
     where
       by : (r : Source) → IsSource ((wires_of flat).inputs ++ (wires_of flat).clocks) (wires_of flat).outs clock r → ((i : ℕ) → r ≡ source.Statement i → ⊥) → (i : ℕ) → slice_get (wires_of flat).outs i ≡ Some clock → ⊥
-      by source.Open none no i here = none (Contains-append_right ((wires_of flat).inputs ++ (wires_of flat).clocks) (wires_of flat).outs clock (of_at (wires_of flat).outs i clock here))
-      by source.Input main no i here = never i clock (record { drives = here; before = Contains-append_left ((wires_of flat).inputs ++ (wires_of flat).clocks) (take i (wires_of flat).outs) clock main })
-      by (source.Statement j) own no i here = no j refl
+      by source.Open none free i here = none (Contains-append_right ((wires_of flat).inputs ++ (wires_of flat).clocks) (wires_of flat).outs clock (of_at (wires_of flat).outs i clock here))
+      by source.Input main free i here = never i clock (record { drives = here; before = Contains-append_left ((wires_of flat).inputs ++ (wires_of flat).clocks) (take i (wires_of flat).outs) clock main })
+      by (source.Statement j) own free i here = free j refl
 
   -- without a clock nothing is gated or read as a clock
   pub none_gated : IsClockOf (wires_of flat) None → (p : ℕ) → IsGatedClock (wires_of flat) p → ⊥
@@ -147,10 +147,10 @@ module _ (flat : Flat) (solid : IsSolid flat) where
 
   pub clock_main : HasNoWireFault (wires_of flat) → (clock : ℕ) (s : Source) → IsClockOf (wires_of flat) (Some clock) → IsSource ((wires_of flat).inputs ++ (wires_of flat).clocks) (wires_of flat).outs clock s →
       Contains ((wires_of flat).inputs ++ (wires_of flat).clocks) clock
-  clock_main no clock source.Open is own =
-      absurd (follows_driven no.driven is.0.1.leads.follows (clock_driven no.driven is.0.0 is.0.1.signal is.0.1.here) own)
-  clock_main no clock source.Input is own = own
-  clock_main no clock (source.Statement i) is own = absurd (no.not_gated clock (gated_from i clock own is.0))
+  clock_main free clock source.Open is own =
+      absurd (follows_driven free.driven is.0.1.leads.follows (clock_driven free.driven is.0.0 is.0.1.signal is.0.1.here) own)
+  clock_main free clock source.Input is own = own
+  clock_main free clock (source.Statement i) is own = absurd (free.not_gated clock (gated_from i clock own is.0))
 
 -- edges
 module _ (w : Wiring ℕ) where

@@ -1,16 +1,18 @@
 -- Nets of clocks and edges of latches, signal by signal.
 use Rattle.std.proofs.Common.{◌≡◌, ◌∙◌, ◌<◌, ◌≤◌, ◌+◌, ℕ, zero, suc, List, [], ◌∷◌, ◌++◌, length, map, take, drop, slice_get, Option, Some, None, refl, sym, ap, subst, inl, inr, arith}
-use Rattle.std.specs.Prelude.{◌⊎◌, ◌≢◌}
+use Rattle.std.specs.Prelude.{◌⊎◌, ◌≢◌, unwrap_or}
 use Rattle.std.specs.List.{Contains}
 use Rattle.std.proofs.lemmas.Bool.{cases_lt}
 use Rattle.std.proofs.lemmas.List.{take_all}
 use Rattle.std.proofs.lemmas.Option.{none-some, same_Some, slice_get_within}
 use Rattle.sec_base.proofs.TableLemmas.{take-push, slice_get-take}
 use Rattle.sec_base.specs.declared.basics.Edge.{Edge}
+use Rattle.sec_base.specs.declared.basics.Edge.TheVariants as edge
 use Rattle.flat_wires.specs.Wiring.{Wiring, TypedLatch}
 use Rattle.flat_wires.specs.Events.{IsFirst, IsNever, IsAt}
 use Rattle.flat_wires.specs.Clocks.{NetIsAt, AreOneNet, OtherNet}
 use Rattle.flat_wires.proofs.Joined.{slice_get-append, slice_get-append_cases}
+use Rattle.flat_wires.proofs.SourceTables.{slice_get-last}
 
 module _ (nets : List (Option ℕ)) (signals : List ℕ) where
   at_taken : (i j net : ℕ) → NetIsAt nets (take i signals) j net → (j < i) × NetIsAt nets signals j net
@@ -33,23 +35,18 @@ module _ (nets : List (Option ℕ)) (signals : List ℕ) where
 
   -- the signal itself among the first and one more
   at_last : (i n net : ℕ) → slice_get signals i ≡ Some n → slice_get nets n ≡ Some (Some net) → NetIsAt nets (take (i + 1) signals) i net
-  at_last i n net here leads = record { signal = n; here = last_of signals i n here; leads = leads }
-    where
-      last_of : (xs : List ℕ) (i x : ℕ) → slice_get xs i ≡ Some x → slice_get (take (i + 1) xs) i ≡ Some x
-      last_of [] i x h = absurd (none-some x h)
-      last_of (y ∷ xs) zero x h = h
-      last_of (y ∷ xs) (suc i) x h = last_of xs i x h
+  at_last i n net here leads = record { signal = n; here = slice_get-last signals i n here; leads = leads }
 
   pub one_start : AreOneNet nets (take 0 signals) None
   one_start i net h = none-some h.signal h.here
 
   -- a signal without a net
   pub one_passed : (i n : ℕ) (clock : Option ℕ) → slice_get signals i ≡ Some n → slice_get nets n ≡ Some None → AreOneNet nets (take i signals) clock → AreOneNet nets (take (i + 1) signals) clock
-  one_passed i n None here none old j net h = by (at_cases i j net n here h)
+  one_passed i n None here none old = λ j net h. by j net (at_cases i j net n here h)
     where
-      by : NetIsAt nets (take i signals) j net ⊎ (slice_get nets n ≡ Some (Some net)) → ⊥
-      by (inl k) = old j net k
-      by (inr e) = none-some net (same_Some None (Some net) (sym none ∙ e))
+      by : (j net : ℕ) → NetIsAt nets (take i signals) j net ⊎ (slice_get nets n ≡ Some (Some net)) → ⊥
+      by j net (inl k) = old j net k
+      by j net (inr e) = none-some net (same_Some None (Some net) (sym none ∙ e))
   one_passed i n (Some clock) here none old = ((old.0.0, at_earlier i old.0.0 clock n here old.0.1), λ j net h. by j net (at_cases i j net n here h))
     where
       by : (j net : ℕ) → NetIsAt nets (take i signals) j net ⊎ (slice_get nets n ≡ Some (Some net)) → net ≡ clock
@@ -126,3 +123,28 @@ edge_more typed l edge same old = ((old.0.0, slice_get-append typed (l ∷ []) 0
     by : (i : ℕ) (k : TypedLatch ℕ) → (slice_get typed i ≡ Some k) ⊎ ((j : ℕ) × (length typed + j ≡ i) × (slice_get (l ∷ []) j ≡ Some k)) → k.edge ≡ edge
     by i k (inl h) = old.1 i k h
     by i k (inr (j, e, h)) = last j k h
+
+module _ (nets : List (Option ℕ)) (signals : List ℕ) where
+  -- a signal of the net that the clock is, if there is one
+  pub one_step : (i n net : ℕ) (clock : Option ℕ) → slice_get signals i ≡ Some n → slice_get nets n ≡ Some (Some net) → unwrap_or clock net ≡ net → AreOneNet nets (take i signals) clock → AreOneNet nets (take (i + 1) signals) (Some net)
+  one_step i n net None here leads same old = one_first nets signals i n net here leads old
+  one_step i n net (Some k) here leads same old = subst (λ m. AreOneNet nets (take (i + 1) signals) (Some m)) same (one_more nets signals i n net k here leads same old)
+
+  pub other_step : (i n net : ℕ) (clock : Option ℕ) → slice_get signals i ≡ Some n → slice_get nets n ≡ Some (Some net) → (unwrap_or clock net ≡ net → ⊥) → AreOneNet nets (take i signals) clock → IsFirst (OtherNet nets signals) net
+  other_step i n net None here leads apart old = absurd (apart refl)
+  other_step i n net (Some k) here leads apart old = other_first nets signals i n net k here leads apart old
+
+-- a value that is none of those there are
+pub none_left : {X : Type 0} (o : Option X) → ((x : X) → o ≡ Some x → ⊥) → o ≡ None
+none_left None h = refl
+none_left (Some x) h = absurd (h x refl)
+
+pub edge_same : (a b : Edge) → ((a ≡ b → ⊥) → ⊥) → a ≡ b
+edge_same edge.Rising edge.Rising h = refl
+edge_same edge.Rising edge.Falling h = absurd (h (λ e. cc))
+edge_same edge.Falling edge.Rising h = absurd (h (λ e. cc))
+edge_same edge.Falling edge.Falling h = refl
+
+pub edge_step : (typed : List (TypedLatch ℕ)) (l : TypedLatch ℕ) (first : Option Edge) → unwrap_or first l.edge ≡ l.edge → HaveEdge typed first → HaveEdge (typed ++ l ∷ []) (Some l.edge)
+edge_step typed l None same have = edge_first typed l have
+edge_step typed l (Some edge) same have = subst (λ e. HaveEdge (typed ++ l ∷ []) (Some e)) same (edge_more typed l edge same have)

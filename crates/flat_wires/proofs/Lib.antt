@@ -11,3 +11,5 @@ pub mod ClockTables
 pub mod Rows
 pub mod ClockNets
 pub mod Told
+pub mod Turns
+pub mod Found

@@ -57,9 +57,9 @@ of_row of ss y h =
 
 -- a gate or latch is a cell, and a cell drives what its statement drives
 cell_of : (out : ℕ) (reads : List ℕ) (k : FlatKind) → (k ≡ kind.Port → ⊥) → (c : Cell ℕ) × Contains (cell_by out reads (kind_of [] k)) c × (c.out ≡ out)
-cell_of out reads (kind.Gate model statement) no = (record { out = out; reads = reads }, Contains-head (record { out = out; reads = reads }) [], refl)
-cell_of out reads (kind.Latch edge control init) no = (record { out = out; reads = reads }, Contains-head (record { out = out; reads = reads }) [], refl)
-cell_of out reads kind.Port no = absurd (no refl)
+cell_of out reads (kind.Gate model statement) free = (record { out = out; reads = reads }, Contains-head (record { out = out; reads = reads }) [], refl)
+cell_of out reads (kind.Latch edge control init) free = (record { out = out; reads = reads }, Contains-head (record { out = out; reads = reads }) [], refl)
+cell_of out reads kind.Port free = absurd (free refl)
 
 cell_out : (out : ℕ) (reads : List ℕ) (k : FlatKind) (c : Cell ℕ) → Contains (cell_by out reads (kind_of [] k)) c → c.out ≡ out
 cell_out out reads (kind.Gate model statement) c h = sym (ap (λ (z : Cell ℕ). z.out) (only (record { out = out; reads = reads }) c h))
@@ -67,8 +67,8 @@ cell_out out reads (kind.Latch edge control init) c h = sym (ap (λ (z : Cell �
 cell_out out reads kind.Port c h = absurd (nothing c h)
 
 pub cell_there : (flat : Flat) (i : ℕ) (s : FlatStatement) → slice_get flat.statements i ≡ Some s → (s.kind ≡ kind.Port → ⊥) → (c : Cell ℕ) × Contains (wires_of flat).cells c × (c.out ≡ s.out)
-cell_there flat i s here no =
-    let own = cell_of s.out s.reads s.kind no in
+cell_there flat i s here free =
+    let own = cell_of s.out s.reads s.kind free in
     (own.0, subst (λ zs. Contains zs own.0) (sym (cells_are flat)) (in_row (λ (t : FlatStatement). cell_by t.out t.reads (kind_of [] t.kind)) flat.statements i s own.0 here own.1), own.2)
 
 pub cell_statement : (flat : Flat) (c : Cell ℕ) → Contains (wires_of flat).cells c → (i : ℕ) × (s : FlatStatement) × (slice_get flat.statements i ≡ Some s) × (c.out ≡ s.out)

@@ -39,7 +39,7 @@ sources_none k n s h = subst (λ r. IsSource [] [] n r) (slice_get-replicate k s
 
 -- an input more
 kept_by_input : (xs : List ℕ) (n m : ℕ) (s : Source) → m ≢ n → IsSource xs [] m s → IsSource (xs ++ n ∷ []) [] m s
-kept_by_input xs n m source.Open apart none at = by (Contains-append_cases (xs ++ n ∷ []) [] m at)
+kept_by_input xs n m source.Open apart none = λ at. by (Contains-append_cases (xs ++ n ∷ []) [] m at)
   where
     by_push : Contains xs m ⊎ (n ≡ m) → ⊥
     by_push (inl old) = none (Contains-append_left xs [] m old)
@@ -62,7 +62,7 @@ sources_input xs t n old m s h = by (cases_eq m n)
 
 -- a statement more
 kept_by_statement : (main outs : List ℕ) (n m : ℕ) (s : Source) → m ≢ n → IsSource main outs m s → IsSource main (outs ++ n ∷ []) m s
-kept_by_statement main outs n m source.Open apart none at = by (Contains-append_cases main (outs ++ n ∷ []) m at)
+kept_by_statement main outs n m source.Open apart none = λ at. by (Contains-append_cases main (outs ++ n ∷ []) m at)
   where
     by_push : Contains outs m ⊎ (n ≡ m) → ⊥
     by_push (inl old) = none (Contains-append_right main outs m old)
@@ -83,10 +83,14 @@ sources_push main outs t n i old last m s h = by (cases_eq m n)
         subst (λ r. IsSource main (outs ++ n ∷ []) m r) same (last ∙ ap Some (sym e))
     by (inr apart) = kept_by_statement main outs n m s apart (old m s (slice_get-set_other t n m (source.Statement i) s apart h))
 
-slice_get-last : {X : Type 0} (xs : List X) (i : ℕ) (x : X) → slice_get xs i ≡ Some x → slice_get (take (i + 1) xs) i ≡ Some x
-slice_get-last [] i x h = absurd (none-some x h)
-slice_get-last (y ∷ xs) zero x h = h
-slice_get-last (y ∷ xs) (suc i) x h = slice_get-last xs i x h
+last_of : {X : Type 0} (xs : List X) (i : ℕ) (x : X) → slice_get xs i ≡ Some x → slice_get (take (suc i) xs) i ≡ Some x
+last_of [] i x h = absurd (none-some x h)
+last_of (y ∷ xs) zero x h = h
+last_of (y ∷ xs) (suc i) x h = last_of xs i x h
+
+-- the last of the first items
+pub slice_get-last : {X : Type 0} (xs : List X) (i : ℕ) (x : X) → slice_get xs i ≡ Some x → slice_get (take (i + 1) xs) i ≡ Some x
+slice_get-last xs i x h = let e : suc i ≡ i + 1 = omega arith in subst (λ n. slice_get (take n xs) i ≡ Some x) e (last_of xs i x h)
 
 pub sources_statement : (main outs : List ℕ) (t : List Source) (n i : ℕ) → slice_get outs i ≡ Some n → AreSources main (take i outs) t → AreSources main (take (i + 1) outs) (set t n (source.Statement i))
 sources_statement main outs t n i here old =

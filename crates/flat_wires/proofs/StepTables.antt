@@ -75,6 +75,7 @@ back_push froms at n x end is old = record { each = λ k m h. by k m (slice_get-
     by_last : (k m j : ℕ) → length at + j ≡ k → slice_get (x ∷ []) j ≡ Some m → back froms k ≡ m
     by_last k m zero e here = let same : n ≡ k = omega (arith, e, end) in subst (λ i. back froms i ≡ m) same (is ∙ same_Some x m here)
     by_last k m (suc j) e here = absurd (none-some m here)
+
     by : (k m : ℕ) → (slice_get at k ≡ Some m) ⊎ ((j : ℕ) × (length at + j ≡ k) × (slice_get (x ∷ []) j ≡ Some m)) → back froms k ≡ m
     by k m (inl here) = old.each k m here
     by k m (inr (j, e, here)) = by_last k m j e here
@@ -129,27 +130,28 @@ module _ (p : ℕ → Bool) where
       (i x y : ℕ) → slice_get xs i ≡ Some x → slice_get ys i ≡ Some y → p x ≡ true → p y ≡ true
   same_pass [] ys len h count i x y hx hy px = absurd (none-some x hx)
   same_pass (a ∷ xs) [] len h count i x y hx hy px = absurd (none-some y hy)
-  same_pass (a ∷ xs) (b ∷ ys) len h count i x y hx hy px = by (p a) (p b) refl refl
+  same_pass (a ∷ xs) (b ∷ ys) len h count i x y hx hy px =
+      by (p a) (p b) refl refl (λ k j jx jy. same_pass xs ys (omega (arith, len)) (λ m c d. h (suc m) c d) k j x y jx jy px)
     where
       more : count_by p ys ≤ count_by p xs
       more = fewer xs ys (omega (arith, len)) (λ j c d. h (suc j) c d)
-      later : (j : ℕ) → count_by p xs ≤ count_by p ys → slice_get xs j ≡ Some x → slice_get ys j ≡ Some y → p y ≡ true
-      later j k jx jy = same_pass xs ys (omega (arith, len)) (λ m c d. h (suc m) c d) k j x y jx jy px
-      at : (u v : Bool) → p a ≡ u → p b ≡ v → (u ≡ true → v ≡ true) → count_by p xs ≤ count_by p ys → (j : ℕ) → slice_get (a ∷ xs) j ≡ Some x → slice_get (b ∷ ys) j ≡ Some y → p y ≡ true
-      at u v ea eb go k zero jx jy =
+
+      at : (u v : Bool) → p a ≡ u → p b ≡ v → (u ≡ true → v ≡ true) → ((j : ℕ) → slice_get xs j ≡ Some x → slice_get ys j ≡ Some y → p y ≡ true) →
+          (j : ℕ) → slice_get (a ∷ xs) j ≡ Some x → slice_get (b ∷ ys) j ≡ Some y → p y ≡ true
+      at u v ea eb go later zero jx jy =
           let pa : p a ≡ true = ap p (same_Some a x jx) ∙ px in
           ap p (sym (same_Some b y jy)) ∙ eb ∙ go (sym ea ∙ pa)
-      at u v ea eb go k (suc j) jx jy = later j k jx jy
-      by : (u v : Bool) → p a ≡ u → p b ≡ v → p y ≡ true
-      by true true ea eb = at true true ea eb (λ e. e) (omega (arith, count, count_cons a xs ∙ ap (λ t. cond t 1 0 + count_by p xs) ea, count_cons b ys ∙ ap (λ t. cond t 1 0 + count_by p ys) eb)) i hx hy
-      by false false ea eb = at false false ea eb (λ e. e) (omega (arith, count, count_cons a xs ∙ ap (λ t. cond t 1 0 + count_by p xs) ea, count_cons b ys ∙ ap (λ t. cond t 1 0 + count_by p ys) eb)) i hx hy
-      by false true ea eb = absurd (true≢false (sym (h 0 a b refl refl eb) ∙ ea))
-      by true false ea eb = absurd (omega (arith, count, more, count_cons a xs ∙ ap (λ t. cond t 1 0 + count_by p xs) ea, count_cons b ys ∙ ap (λ t. cond t 1 0 + count_by p ys) eb))
+      at u v ea eb go later (suc j) jx jy = later j jx jy
+
+      by : (u v : Bool) → p a ≡ u → p b ≡ v → (count_by p xs ≤ count_by p ys → (j : ℕ) → slice_get xs j ≡ Some x → slice_get ys j ≡ Some y → p y ≡ true) → p y ≡ true
+      by true true ea eb later = at true true ea eb (λ e. e) (later (omega (arith, count, count_cons a xs ∙ ap (λ t. cond t 1 0 + count_by p xs) ea, count_cons b ys ∙ ap (λ t. cond t 1 0 + count_by p ys) eb))) i hx hy
+      by false false ea eb later = at false false ea eb (λ e. e) (later (omega (arith, count, count_cons a xs ∙ ap (λ t. cond t 1 0 + count_by p xs) ea, count_cons b ys ∙ ap (λ t. cond t 1 0 + count_by p ys) eb))) i hx hy
+      by false true ea eb later = absurd (true≢false (sym (h 0 a b refl refl eb) ∙ ea))
+      by true false ea eb later = absurd (omega (arith, count, more, count_cons a xs ∙ ap (λ t. cond t 1 0 + count_by p xs) ea, count_cons b ys ∙ ap (λ t. cond t 1 0 + count_by p ys) eb))
 
 -- where a round comes to no new end, all is settled
 module _ (froms : List (Option ℕ)) (k : ℕ) (at next : List ℕ) (some : 0 < k) (b : IsBackBy froms k at) (c : IsBackBy froms (k + k) next) (ports : ArePortsWithin froms)
     (count : count_by (is_open froms) at ≤ count_by (is_open froms) next) where
-
   -- an end stays an end
   ended_before : (i x y : ℕ) → slice_get at i ≡ Some x → slice_get next i ≡ Some y → is_open froms y ≡ true → is_open froms x ≡ true
   ended_before i x y hx hy going = by (is_open froms x) refl
@@ -173,16 +175,18 @@ module _ (froms : List (Option ℕ)) (k : ℕ) (at next : List ℕ) (some : 0 < 
     where
       step : back froms n ≡ m
       step = ap (λ o. unwrap_or o n) (get_or_from_slice_get froms n (Some m) None from)
+
       one_more : (j : ℕ) → back_by froms (suc j) n ≡ back_by froms j m
       one_more j = back_by-suc froms j n ∙ ap (λ z. back_by froms j z) step
+
       by : (u : Bool) → is_open froms (get_or at m 0) ≡ u → slice_get at m ≡ Some (get_or at m 0) → slice_get next m ≡ Some (get_or next m 0) → is_open froms (get_or next m 0) ≡ true
       by true e at_m next_m = still m (get_or at m 0) (get_or next m 0) at_m next_m e
       by false e at_m next_m =
           let far : back_by froms (suc k) n ≡ get_or at m 0 = one_more k ∙ b.each m (get_or at m 0) at_m in
           let sum : suc k + (k - 1) ≡ k + k = omega (arith, some) in
           let same : a ≡ get_or at m 0 =
-              sym (c.each n a hn) ∙ sym (ap (λ z. back_by froms z n) sum) ∙ back_by-add froms (suc k) (k - 1) n
-              ∙ ap (λ z. back_by froms (k - 1) z) far ∙ closed_all froms (k - 1) (get_or at m 0) e in
+          sym (c.each n a hn) ∙ sym (ap (λ z. back_by froms z n) sum) ∙ back_by-add froms (suc k) (k - 1) n
+          ∙ ap (λ z. back_by froms (k - 1) z) far ∙ closed_all froms (k - 1) (get_or at m 0) e in
           absurd (true≢false (sym going ∙ ap (is_open froms) same ∙ e))
 
   none_open : (a : ℕ) → net_at froms a ≡ None → is_open froms a ≡ true

@@ -40,9 +40,6 @@ module _ (flat : Flat) (solid : IsSolid flat) where
   below : IsBounded (wires_of flat) (length flat.names)
   below = bounded flat solid
 
-  w : Wiring (List ℕ)
-  w = named_wires (name_at flat.names) (wires_of flat)
-
   pub told_again : (n : ℕ) (name : List ℕ) → slice_get flat.names n ≡ Some name → IsFirst (DrivesAgain (wires_of flat)) n → IsTold flat (fault.TwoDrivers name)
   told_again n name at first =
       told (fault.TwoDrivers name) (subst (λ p. IsFirst (DrivesAgain (named_wires (name_at flat.names) (wires_of flat))) p) (name_is flat.names n name at) (first_again (name_at flat.names) (length flat.names) inj (wires_of flat) below n first))
@@ -92,21 +89,21 @@ module _ (flat : Flat) (solid : IsSolid flat) where
 
   -- without a fault none is told
   no_first : (w : Wiring (List ℕ)) → HasNoWireFault w → (e : FlatError) → FirstFault w e → ⊥
-  no_first w no (fault.TwoDrivers p) h = no.single h.at p h.here
-  no_first w no (fault.Undriven p) h = no.driven h.1.at p h.1.here
-  no_first w no (fault.TwoClocks p) h = no.one_clock h.2.at p h.2.here
-  no_first w no (fault.TwoEdges p) h = no.one_edge h.3.at p h.3.here
-  no_first w no (fault.GatedClock p) h = no.not_gated p h.4
-  no_first w no (fault.ClockRead p) h = no.not_read h.5.at p h.5.here
-  no_first w no other h = h
+  no_first w free (fault.TwoDrivers p) h = free.single h.at p h.here
+  no_first w free (fault.Undriven p) h = free.driven h.1.at p h.1.here
+  no_first w free (fault.TwoClocks p) h = free.one_clock h.2.at p h.2.here
+  no_first w free (fault.TwoEdges p) h = free.one_edge h.3.at p h.3.here
+  no_first w free (fault.GatedClock p) h = free.not_gated p h.4
+  no_first w free (fault.ClockRead p) h = free.not_read h.5.at p h.5.here
+  no_first w free other h = h
 
   pub faultless : HasNoWireFault (wires_of flat) → IsFaultless flat
-  faultless no models e h =
+  faultless free models e h =
       no_first (named_wires (name_at flat.names) (wires_of flat)) record {
-        single = never_again (name_at flat.names) (length flat.names) inj (wires_of flat) below no.single;
-        driven = never_undriven (name_at flat.names) (length flat.names) inj (wires_of flat) below no.driven;
-        one_clock = never_other (name_at flat.names) (length flat.names) inj (wires_of flat) below no.one_clock;
-        one_edge = never_edge (name_at flat.names) (length flat.names) inj (wires_of flat) below no.one_edge;
-        not_gated = never_gated (name_at flat.names) (length flat.names) inj (wires_of flat) below no.not_gated;
-        not_read = never_read (name_at flat.names) (length flat.names) inj (wires_of flat) below no.not_read;
+        single = never_again (name_at flat.names) (length flat.names) inj (wires_of flat) below free.single;
+        driven = never_undriven (name_at flat.names) (length flat.names) inj (wires_of flat) below free.driven;
+        one_clock = never_other (name_at flat.names) (length flat.names) inj (wires_of flat) below free.one_clock;
+        one_edge = never_edge (name_at flat.names) (length flat.names) inj (wires_of flat) below free.one_edge;
+        not_gated = never_gated (name_at flat.names) (length flat.names) inj (wires_of flat) below free.not_gated;
+        not_read = never_read (name_at flat.names) (length flat.names) inj (wires_of flat) below free.not_read;
       } e (subst (λ w. FirstFault w e) (wiring_by_names models flat (name_at flat.names)) h)

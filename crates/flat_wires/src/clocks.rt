@@ -105,7 +105,7 @@ fn output_of(outputs: &[u32], nets: &[Option<u32>], net: u32) -> Option<u32>
     ensures { let read = IsAt (map output_cell outputs.now) (λ c. c.out) (λ c. ReadsNet nets.now net c.reads) in MatchOption result (IsNever read) (IsFirst read) }
 {
     for output in outputs {
-        if nets[*output as usize] == Some(net) {
+        if reads_net(nets, &[*output], net) {
             return Some(*output);
         }
     }

@@ -1,6 +1,6 @@
 //! What drives each signal, the signals that are driven again and those that nothing drives.
 
-ghost use Rattle.std.specs.Prelude.{◌≡◌, ℕ, ◌<◌, ◌≤◌, ◌^◌, List, [], ◌++◌, length, All, IfOk, IfSome, MatchOption, Some};
+ghost use Rattle.std.specs.Prelude.{◌≡◌, ℕ, ◌<◌, ◌≤◌, ◌^◌, List, [], ◌++◌, length, All, IfSome, MatchOption, Some};
 ghost use Rattle.flat_walk.specs.Flat.{statement_of, kind_of};
 ghost use Rattle.flat_wires.specs.Wiring.{wires_of, reads_by, control_by};
 ghost use Rattle.flat_wires.specs.Events.{IsFirst, IsNever, IsAt};
@@ -11,8 +11,6 @@ use crate::keeping::keeps;
 use crate::kinds::control_of;
 use crate::source::Source;
 use flat_walk::{Flat, FlatStatement};
-use sec_base::NoMemory;
-use std::alloc::Global;
 
 /// The inputs drive their signals.
 fn put_inputs(sources: &mut [Source], inputs: &[u32])
@@ -25,27 +23,18 @@ fn put_inputs(sources: &mut [Source], inputs: &[u32])
     }
 }
 
-/// What drives each signal before the walk.
-pub(crate) fn main_sources(alloc: Global, flat: &Flat) -> Result<Vec<Source>, NoMemory>
-    ensures len { IfOk result (λ sources. length sources.items ≡ length flat.now.names) }
-    ensures main { let w = wires_of flat.now in IfOk result (λ sources. AreSources (w.inputs ++ w.clocks) [] sources.items) }
-{
-    keeps(flat);
-    let mut sources = vec![in alloc; Source::Open; flat.names.len() as usize]?;
-    put_inputs(&mut sources, flat.inputs.as_slice());
-    put_inputs(&mut sources, flat.clocks.as_slice());
-    Ok(sources)
-}
-
-/// The statements drive their signals. Stops at the first that is driven again, and gives it.
+/// The main model's inputs and clocks drive their signals, and then the statements. Stops at the first that is driven
+/// again, and gives it.
 pub(crate) fn driven_again(sources: &mut [Source], flat: &Flat) -> Option<u32>
     requires len { length sources.old ≡ length flat.now.names }
-    requires main { let w = wires_of flat.now in AreSources (w.inputs ++ w.clocks) [] sources.old }
+    requires none { AreSources [] [] sources.old }
     ensures len { length sources.new ≡ length sources.old }
     ensures sources { let w = wires_of flat.now in MatchOption result (AreSources (w.inputs ++ w.clocks) w.outs sources.new) (λ n. n < length flat.now.names) }
     ensures again { let w = wires_of flat.now in MatchOption result (IsNever (DrivesAgain w)) (IsFirst (DrivesAgain w)) }
 {
     keeps(flat);
+    put_inputs(sources, flat.inputs.as_slice());
+    put_inputs(sources, flat.clocks.as_slice());
     for (place, statement) in flat.statements.as_slice().iter().enumerate() {
         let out = statement.out;
         let Source::Open = sources[out as usize] else {

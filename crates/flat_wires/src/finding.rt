@@ -8,8 +8,9 @@ ghost use Rattle.flat_wires.specs.Tables.{AreSources, AreNets, HasTables};
 ghost use Rattle.flat_wires.specs.Wired.{IsWired, IsClockOf, IsTold, IsFaultless};
 
 use crate::clocks::{clock_signals, net_reader, one_net, other_edge};
-use crate::drivers::{driven_again, main_sources, undriven};
+use crate::drivers::{driven_again, undriven};
 use crate::following::{ends, ports};
+use crate::keeping::keeps;
 use crate::source::{Source, Wired};
 use flat_walk::{Flat, FlatError};
 use sec_base::{NoMemory, Seq, Word};
@@ -28,7 +29,8 @@ fn sources(alloc: Global, flat: &Flat) -> Result<Vec<Source>, FlatError>
     ensures ok { let w = wires_of flat.now in IfOk result (λ sources. (length sources.items ≡ length flat.now.names) × AreSources (w.inputs ++ w.clocks) w.outs sources.items × IsNever (DrivesAgain w) × IsNever (ReadsUndriven w)) }
     ensures err { IfErr result (IsTold flat.now) }
 {
-    let mut sources = main_sources(alloc, flat)?;
+    keeps(flat);
+    let mut sources = vec![in alloc; Source::Open; flat.names.len() as usize]?;
     if let Some(signal) = driven_again(&mut sources, flat) {
         return Err(FlatError::TwoDrivers(name_of(alloc, flat, signal)?));
     }
@@ -45,6 +47,7 @@ fn nets(alloc: Global, flat: &Flat, sources: &[Source]) -> Result<Vec<Option<u32
     requires single { IsNever (DrivesAgain (wires_of flat.now)) }
     ensures { IfOk result (λ nets. AreNets (wires_of flat.now) (length flat.now.names) nets.items) }
 {
+    keeps(flat);
     let froms = ports(alloc, flat, sources)?;
     ends(alloc, &froms)
 }
@@ -66,6 +69,7 @@ fn check_clock(
     ensures ok { OnOk result (HasNoWireFault (wires_of flat.now)) }
     ensures err { IfErr result (IsTold flat.now) }
 {
+    keeps(flat);
     if let Source::Statement(_) = sources[clock as usize] {
         return Err(FlatError::GatedClock(name_of(alloc, flat, clock)?));
     }
@@ -88,6 +92,7 @@ fn clock_net(
     ensures ok { IfOk result (λ clock. HasNoWireFault (wires_of flat.now) × IsClockOf (wires_of flat.now) clock) }
     ensures err { IfErr result (IsTold flat.now) }
 {
+    keeps(flat);
     let signals = clock_signals(alloc, flat)?;
     let clock = match one_net(&signals, nets) {
         Ok(clock) => clock,
@@ -117,6 +122,7 @@ pub fn wire(alloc: Global, flat: &Flat) -> Result<Wired, FlatError>
     ensures faultless { OnOk result (IsFaultless flat.now) }
     ensures err { IfErr result (IsTold flat.now) }
 {
+    keeps(flat);
     let sources = sources(alloc, flat)?;
     let nets = nets(alloc, flat, &sources)?;
     let clock = clock_net(alloc, flat, &sources, &nets)?;
