@@ -4,7 +4,7 @@ use Rattle.std.specs.Prelude.{◌⊎◌, ◌≢◌, slice_index}
 use Rattle.std.specs.List.{All, Contains}
 use Rattle.std.proofs.lemmas.List.Elements.{All-contains, Contains-append_left, Contains-append_right, Contains-append_cases}
 use Rattle.std.proofs.lemmas.Option.{none-some, same_Some, slice_get-get_or}
-use Rattle.circuit_theory.proofs.Lists.{Contains-map_from, at_of, of_at}
+use Rattle.circuit_theory.proofs.Lists.{Contains-map_from, All-from_each, at_of, of_at}
 use Rattle.flat_walk.specs.declared.flat.Flat.{Flat}
 use Rattle.flat_walk.specs.declared.flat.FlatStatement.{FlatStatement}
 use Rattle.flat_walk.specs.declared.flat.FlatKind.{FlatKind}
@@ -34,6 +34,9 @@ module _ (w : Wiring ℕ) (size : ℕ) (below : IsBounded w size) (nets : List (
       by : Contains w.clocks n ⊎ Contains w.controls n → n < size
       by (inl k) = below.clocks n k
       by (inr k) = below.controls n k
+
+  pub clocks_below : All (λ n. n < size) (clock_signals w)
+  clocks_below = All-from_each (λ n. n < size) (clock_signals w) (λ n h. let at = at_of (clock_signals w) n h in clock_below at.0 n at.1)
 
   pub net_there : (i net : ℕ) → NetIsAt nets (clock_signals w) i net → HasClockNet w i net
   net_there i net h = record { signal = h.signal; here = h.here; leads = are.net h.signal net h.leads }

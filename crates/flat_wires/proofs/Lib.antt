@@ -13,3 +13,4 @@ pub mod ClockNets
 pub mod Told
 pub mod Turns
 pub mod Found
+pub mod Undriven

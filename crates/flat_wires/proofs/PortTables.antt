@@ -101,6 +101,9 @@ source_within flat n source.Open own = tt
 source_within flat n source.Input own = tt
 source_within flat n (source.Statement i) own = let at = statement_at flat i n own in slice_get_within flat.statements i at.0 at.1
 
+pub sources_within : (flat : Flat) (t : List Source) → AreSources ((wires_of flat).inputs ++ (wires_of flat).clocks) (wires_of flat).outs t → All (IsStatementWithin (length flat.statements)) t
+sources_within flat t sources = λ k d below. source_within flat k (get_or t k d) (sources k (get_or t k d) (slice_get-get_or t k d below))
+
 port_in_side : (o : Option FlatStatement) (s : FlatStatement) → o ≡ Some s → port_in o ≡ other_side s.reads s.kind
 port_in_side o s e = ap port_in e
 

@@ -10,12 +10,12 @@ use Rattle.flat_walk.specs.declared.error.FlatError.TheVariants as fault
 use Rattle.flat_walk.specs.Flat.{named, name_at, view_of}
 use Rattle.flat_wires.specs.Wiring.{Wiring, wires_of, wiring_of}
 use Rattle.flat_wires.specs.Events.{IsFirst, IsNever}
-use Rattle.flat_wires.specs.Faults.{DrivesAgain, ReadsUndriven, OtherClock, OtherEdge, IsGatedClock, ClockRead, FirstFault, HasNoWireFault}
+use Rattle.flat_wires.specs.Faults.{DrivesAgain, ReadsUndriven, HasClockNet, OtherClock, OtherEdge, IsGatedClock, ClockRead, FirstFault, HasNoWireFault}
 use Rattle.flat_wires.specs.Solid.{IsSolid}
 use Rattle.flat_wires.specs.Wired.{IsTold, IsFaultless}
 use Rattle.flat_wires.proofs.NamedWires.{named_wires, wiring_by_names}
 use Rattle.flat_wires.proofs.Bounds.{IsBounded, bounded}
-use Rattle.flat_wires.proofs.Transport.{first_again, never_again, first_undriven, never_undriven, first_other, never_other, first_edge, never_edge, gated_there, never_gated, first_read, never_read}
+use Rattle.flat_wires.proofs.Transport.{first_again, never_again, first_undriven, never_undriven, first_other, never_other, first_edge, never_edge, clock_net_below, gated_there, never_gated, first_read, never_read}
 
 -- two numbers of one name are one
 one_number : (names : List (List ℕ)) → AreDistinct names → (m n : ℕ) → m < length names → n < length names → name_at names m ≡ name_at names n → m ≡ n
@@ -39,6 +39,10 @@ module _ (flat : Flat) (solid : IsSolid flat) where
 
   below : IsBounded (wires_of flat) (length flat.names)
   below = bounded flat solid
+
+  -- a clock net has a name
+  pub clock_within : (i n : ℕ) → HasClockNet (wires_of flat) i n → n < length flat.names
+  clock_within = clock_net_below (name_at flat.names) (length flat.names) inj (wires_of flat) below
 
   pub told_again : (n : ℕ) (name : List ℕ) → slice_get flat.names n ≡ Some name → IsFirst (DrivesAgain (wires_of flat)) n → IsTold flat (fault.TwoDrivers name)
   told_again n name at first =

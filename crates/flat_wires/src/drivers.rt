@@ -78,7 +78,7 @@ fn open_read(sources: &[Source], statement: &FlatStatement) -> Option<u32>
 pub(crate) fn undriven(flat: &Flat, sources: &[Source]) -> Option<u32>
     requires len { length sources.now ≡ length flat.now.names }
     ensures within { IfSome result (λ n. n < length flat.now.names) }
-    ensures open { let w = wires_of flat.now in let found = IsAt (w.reads ++ w.outputs) (λ n. n) (IsOpenIn sources.now) in MatchOption result (IsNever found) (IsFirst found) }
+    ensures told { let w = wires_of flat.now in let found = IsAt (w.reads ++ w.outputs) (λ n. n) (IsOpenIn sources.now) in MatchOption result (IsNever found) (IsFirst found) }
 {
     keeps(flat);
     for statement in flat.statements.as_slice() {

@@ -79,6 +79,30 @@ fn check_clock(
     Ok(())
 }
 
+/// The same, where there may be no clock net.
+fn check_clocked(
+    alloc: Global,
+    flat: &Flat,
+    sources: &[Source],
+    nets: &[Option<u32>],
+    clock: Option<u32>,
+) -> Result<(), FlatError>
+    requires tables { HasTables (wires_of flat.now) (length flat.now.names) sources.now nets.now }
+    requires single { IsNever (DrivesAgain (wires_of flat.now)) }
+    requires driven { IsNever (ReadsUndriven (wires_of flat.now)) }
+    requires one_clock { IsNever (OtherClock (wires_of flat.now)) }
+    requires one_edge { IsNever (OtherEdge (wires_of flat.now)) }
+    requires clock { IsClockOf (wires_of flat.now) clock }
+    ensures ok { OnOk result (HasNoWireFault (wires_of flat.now)) }
+    ensures err { IfErr result (IsTold flat.now) }
+{
+    keeps(flat);
+    match clock {
+        Some(net) => check_clock(alloc, flat, sources, nets, net),
+        None => Ok(()),
+    }
+}
+
 /// The clock net, if there is one, or the first fault of clocks.
 fn clock_net(
     alloc: Global,
@@ -101,9 +125,7 @@ fn clock_net(
     if let Some(latch) = other_edge(flat) {
         return Err(FlatError::TwoEdges(name_of(alloc, flat, latch)?));
     }
-    if let Some(clock) = clock {
-        check_clock(alloc, flat, sources, nets, clock)?;
-    }
+    check_clocked(alloc, flat, sources, nets, clock)?;
     Ok(clock)
 }
 

@@ -38,10 +38,10 @@ returns-clause-reader c =
     let flat = c.args.flat.now in
     let i = c.loop-statement.statement-index in
     let past = past_in c.as_slice-statement-items.result.now flat.statements i c.as_slice-statement-items.ensures c.loop-statement-test.false in
-    cells_last flat c.args.nets.now c.args.net i past c.as_slice.result.now (c.as_slice.ensures ∙ sym (inputs_are flat).2) c.output_of.result c.output_of.ensures c.loop-statement.invariant
+    cells_last flat c.args.nets.now c.args.net i past c.as_slice-2.result.now (c.as_slice-2.ensures ∙ sym (inputs_are flat).2) c.output_of.result c.output_of.ensures c.loop-statement.invariant
 
 pub returns-clause-within : goal.returns-clause-within
 returns-clause-within c =
     let flat = c.args.flat.now in
-    output_within (length flat.names) c.as_slice.result.now (subst (λ zs. All (λ n. n < length flat.names) zs) (sym c.as_slice.ensures) c.keeps.ensures.outputs)
+    output_within (length flat.names) c.as_slice-2.result.now (subst (λ zs. All (λ n. n < length flat.names) zs) (sym c.as_slice-2.ensures) c.keeps.ensures.outputs)
     (λ (z : Cell ℕ). ReadsNet c.args.nets.now c.args.net z.reads) c.output_of.result c.output_of.ensures

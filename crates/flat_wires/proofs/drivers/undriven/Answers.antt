@@ -7,8 +7,8 @@ use Rattle.flat_wires.proofs.Turns.{here_in, past_in}
 use Rattle.flat_wires.proofs.Found.{reads_found, reads_more, reads_last, signal_within}
 use Rattle.flat_wires.proofs.drivers.undriven.Goals as goal
 
-pub returns-then-is_some-clause-open : goal.returns-then-is_some-clause-open
-returns-then-is_some-clause-open c =
+pub returns-then-is_some-clause-told : goal.returns-then-is_some-clause-told
+returns-then-is_some-clause-told c =
     let flat = c.args.flat.now in
     let i = c.loop-statement.statement-index in
     let s = c.statement-item.result in
@@ -23,8 +23,8 @@ loop-statement-preserved c =
     let here = here_in c.as_slice-statement-items.result.now flat.statements i s c.as_slice-statement-items.ensures c.loop-statement-test.true c.statement-item.is in
     reads_more flat (IsOpenIn c.args.sources.now) i s here c.open_read-found.result (sym c.is_some.ensures ∙ c.if-is_some.false) c.open_read-found.ensures c.loop-statement.invariant
 
-pub returns-clause-open : goal.returns-clause-open
-returns-clause-open c =
+pub returns-clause-told : goal.returns-clause-told
+returns-clause-told c =
     let flat = c.args.flat.now in
     let i = c.loop-statement.statement-index in
     let past = past_in c.as_slice-statement-items.result.now flat.statements i c.as_slice-statement-items.ensures c.loop-statement-test.false in
