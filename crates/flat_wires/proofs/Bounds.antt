@@ -1,6 +1,6 @@
 -- Each signal of a wiring has a number below the size, and what that gives.
-use Rattle.std.proofs.Common.{◌≡◌, ◌∙◌, ◌<◌, ℕ, zero, suc, List, [], ◌∷◌, ◌++◌, map, length, slice_get, Option, Some, None, refl, sym, ap, subst, inl, inr}
-use Rattle.std.specs.Prelude.{◌⊎◌, ◌^◌, Bool, true, nat_lt, ◌&&◌, ◌==◌}
+use Rattle.std.proofs.Common.{◌≡◌, ◌∙◌, ◌<◌, ℕ, zero, suc, List, [], ◌∷◌, map, length, slice_get, Some, None, sym, ap, subst, inl, inr}
+use Rattle.std.specs.Prelude.{◌⊎◌, ◌^◌, true, nat_lt, ◌&&◌}
 use Rattle.std.proofs.lemmas.Bool.{ltb-true, eqb-true, and_parts}
 use Rattle.std.proofs.lemmas.List.Sums.{AllPass-from_list_all}
 use Rattle.flat_wires.specs.Solid.{IsSolid}
@@ -15,7 +15,7 @@ use Rattle.flat_walk.specs.declared.flat.FlatKind.{FlatKind}
 use Rattle.flat_walk.specs.declared.flat.FlatKind.TheVariants as kind
 use Rattle.flat_walk.specs.Within.{is_within, has_clock_within, can_read, reads_as_kind}
 use Rattle.flat_walk.specs.Flat.{FlatOf, statement_of, kind_of}
-use Rattle.flat_wires.specs.Wiring.{Wiring, PortOf, Cell, joined, some_of, control_by, reads_by, port_from, port_by, cell_by, wires_of}
+use Rattle.flat_wires.specs.Wiring.{Wiring, PortOf, Cell, joined, control_by, reads_by, port_by, cell_by, wires_of}
 use Rattle.flat_wires.proofs.Joined.{Contains-joined_from}
 
 pub record IsBounded (w : Wiring ℕ) (size : ℕ) : Type 0 where

@@ -1,27 +1,26 @@
 -- The clock net and its readers, by the tables of drivers and nets.
-use Rattle.std.proofs.Common.{◌≡◌, ◌∙◌, ◌<◌, ◌≤◌, ◌+◌, ℕ, zero, suc, List, [], ◌∷◌, ◌++◌, length, map, take, drop, get_or, slice_get, Option, Some, None, refl, sym, ap, subst, inl, inr, arith}
-use Rattle.std.specs.Prelude.{◌⊎◌, ◌≢◌, slice_index}
+use Rattle.std.proofs.Common.{◌≡◌, ◌∙◌, ◌<◌, ℕ, List, [], ◌∷◌, ◌++◌, length, map, take, slice_get, Option, Some, None, refl, sym, ap, subst, inl, inr, arith}
+use Rattle.std.specs.Prelude.{◌⊎◌, slice_index}
 use Rattle.std.specs.List.{All, Contains}
 use Rattle.std.proofs.lemmas.List.Elements.{All-contains, Contains-append_left, Contains-append_right, Contains-append_cases}
 use Rattle.std.proofs.lemmas.Option.{none-some, same_Some, slice_get-get_or}
 use Rattle.circuit_theory.proofs.Lists.{Contains-map_from, All-from_each, at_of, of_at}
 use Rattle.flat_walk.specs.declared.flat.Flat.{Flat}
 use Rattle.flat_walk.specs.declared.flat.FlatStatement.{FlatStatement}
-use Rattle.flat_walk.specs.declared.flat.FlatKind.{FlatKind}
 use Rattle.flat_walk.specs.declared.flat.FlatKind.TheVariants as kind
 use Rattle.sec_base.specs.declared.basics.Edge.{Edge}
 use Rattle.flat_wires.specs.declared.source.Source.{Source}
 use Rattle.flat_wires.specs.declared.source.Source.TheVariants as source
-use Rattle.flat_wires.specs.Wiring.{Wiring, PortOf, TypedLatch, Cell, wires_of}
+use Rattle.flat_wires.specs.Wiring.{Wiring, TypedLatch, Cell, wires_of}
 use Rattle.flat_wires.specs.Events.{IsFirst, IsNever, IsAt}
 use Rattle.flat_wires.specs.Faults.{driven, DrivesAgain, IsUndriven, ReadsUndriven, Follows, HasNet, clock_signals, HasClockNet, IsClockNet, OtherClock, HasOtherEdge, OtherEdge, IsGatedClock, output_cell, readers, ReadsClockNet, ClockRead, HasNoWireFault}
-use Rattle.flat_wires.specs.Tables.{IsSource, AreNets, HasTables}
+use Rattle.flat_wires.specs.Tables.{IsSource, AreNets}
 use Rattle.flat_wires.specs.Clocks.{NetIsAt, AreOneNet, OtherNet, ReadsNet}
 use Rattle.flat_wires.specs.Wired.{IsClockOf}
 use Rattle.flat_wires.specs.Solid.{IsSolid}
 use Rattle.flat_wires.specs.Steps.{other_side}
-use Rattle.flat_wires.proofs.Firsts.{first_along, never_along, meant_first, meant_never, never_nil, first_append_left, first_append_right, first_one}
-use Rattle.flat_wires.proofs.Bounds.{IsBounded, bounded, only}
+use Rattle.flat_wires.proofs.Firsts.{first_along, never_along, meant_first, meant_never, first_append_left, first_append_right, first_one}
+use Rattle.flat_wires.proofs.Bounds.{IsBounded, only}
 use Rattle.flat_wires.proofs.PortTables.{out_at, statement_at, port_there}
 use Rattle.flat_wires.proofs.Rows.{cell_there, cell_statement, control_read, from_read}
 use Rattle.flat_wires.proofs.ClockTables.{HaveEdge, one_never}

@@ -1,15 +1,13 @@
 -- Nets of clocks and edges of latches, signal by signal.
-use Rattle.std.proofs.Common.{◌≡◌, ◌∙◌, ◌<◌, ◌≤◌, ◌+◌, ℕ, zero, suc, List, [], ◌∷◌, ◌++◌, length, map, take, drop, slice_get, Option, Some, None, refl, sym, ap, subst, inl, inr, arith}
-use Rattle.std.specs.Prelude.{◌⊎◌, ◌≢◌, unwrap_or}
-use Rattle.std.specs.List.{Contains}
-use Rattle.std.proofs.lemmas.Bool.{cases_lt}
+use Rattle.std.proofs.Common.{◌≡◌, ◌∙◌, ◌<◌, ◌≤◌, ◌+◌, ℕ, zero, suc, List, [], ◌∷◌, ◌++◌, length, take, slice_get, Option, Some, None, refl, sym, ap, subst, inl, inr, arith}
+use Rattle.std.specs.Prelude.{◌⊎◌, unwrap_or}
 use Rattle.std.proofs.lemmas.List.{take_all}
-use Rattle.std.proofs.lemmas.Option.{none-some, same_Some, slice_get_within}
+use Rattle.std.proofs.lemmas.Option.{none-some, same_Some}
 use Rattle.sec_base.proofs.TableLemmas.{take-push, slice_get-take}
 use Rattle.sec_base.specs.declared.basics.Edge.{Edge}
 use Rattle.sec_base.specs.declared.basics.Edge.TheVariants as edge
-use Rattle.flat_wires.specs.Wiring.{Wiring, TypedLatch}
-use Rattle.flat_wires.specs.Events.{IsFirst, IsNever, IsAt}
+use Rattle.flat_wires.specs.Wiring.{TypedLatch}
+use Rattle.flat_wires.specs.Events.{IsFirst, IsNever}
 use Rattle.flat_wires.specs.Clocks.{NetIsAt, AreOneNet, OtherNet}
 use Rattle.flat_wires.proofs.Joined.{slice_get-append, slice_get-append_cases}
 use Rattle.flat_wires.proofs.SourceTables.{slice_get-last}

@@ -1,5 +1,5 @@
 -- The first item that is meant, in one list behind another, and statement by statement.
-use Rattle.std.proofs.Common.{◌≡◌, ◌∙◌, ◌<◌, ◌≤◌, ◌+◌, ℕ, Bool, true, false, List, [], ◌∷◌, ◌++◌, length, map, take, slice_get, Option, Some, None, refl, sym, ap, subst, true≢false, append-nil}
+use Rattle.std.proofs.Common.{◌≡◌, ◌∙◌, ◌<◌, ◌≤◌, ◌+◌, ℕ, true, false, List, [], ◌∷◌, ◌++◌, length, map, take, slice_get, Option, Some, None, refl, sym, ap, subst, true≢false, append-nil}
 use Rattle.std.specs.Prelude.{MatchOption, IfSome, is_some}
 use Rattle.std.specs.List.{All, Contains}
 use Rattle.std.proofs.lemmas.List.Elements.{All-contains}
@@ -9,7 +9,7 @@ use Rattle.flat_walk.specs.declared.flat.FlatStatement.{FlatStatement}
 use Rattle.flat_walk.specs.declared.flat.FlatKind.{FlatKind}
 use Rattle.flat_walk.specs.declared.flat.FlatKind.TheVariants as kind
 use Rattle.flat_walk.specs.Flat.{statement_of, kind_of}
-use Rattle.flat_wires.specs.Wiring.{Wiring, Cell, joined, reads_by, cell_by, wires_of}
+use Rattle.flat_wires.specs.Wiring.{Cell, joined, reads_by, cell_by, wires_of}
 use Rattle.flat_wires.specs.Events.{IsFirst, IsNever, IsAt}
 use Rattle.flat_wires.specs.Faults.{output_cell, readers}
 use Rattle.flat_wires.specs.Clocks.{ReadsNet}

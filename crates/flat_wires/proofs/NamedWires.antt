@@ -1,7 +1,7 @@
 -- The wiring of a design by other names.
-use Rattle.std.proofs.Common.{◌≡◌, ◌∙◌, ℕ, List, [], ◌∷◌, ◌++◌, map, Option, Some, None, option_map, refl, sym, ap, subst}
+use Rattle.std.proofs.Common.{◌≡◌, ◌∙◌, ℕ, List, [], ◌∷◌, ◌++◌, map, Option, Some, None, option_map, refl, sym, ap}
 use Rattle.std.proofs.lemmas.List.{map-append}
-use Rattle.circuit_theory.proofs.Lists.{map-map, map_same}
+use Rattle.circuit_theory.proofs.Lists.{map-map}
 use Rattle.sec_base.specs.declared.basics.Edge.{Edge}
 use Rattle.blif_read.specs.declared.design.BlifModel.{BlifModel}
 use Rattle.flat_walk.specs.declared.flat.Flat.{Flat}

@@ -1,10 +1,9 @@
 -- Nets, by the table of where following ports ends.
-use Rattle.std.proofs.Common.{◌≡◌, ◌∙◌, ◌<◌, ℕ, zero, suc, List, length, get_or, slice_get, Option, Some, None, refl, sym, ap, subst, inl, inr}
-use Rattle.std.specs.Prelude.{◌⊎◌, unwrap_or}
+use Rattle.std.proofs.Common.{◌≡◌, ◌∙◌, ◌<◌, ℕ, zero, suc, List, get_or, slice_get, Option, Some, None, refl, sym, ap, subst}
+use Rattle.std.specs.Prelude.{unwrap_or}
 use Rattle.std.specs.List.{Contains}
-use Rattle.std.proofs.lemmas.List.Elements.{Contains-append_left, Contains-append_cases}
 use Rattle.std.proofs.lemmas.Option.{none-some, same_Some, slice_get-get_or}
-use Rattle.flat_wires.specs.Wiring.{Wiring, PortOf}
+use Rattle.flat_wires.specs.Wiring.{Wiring}
 use Rattle.flat_wires.specs.Faults.{Follows, HasNet}
 use Rattle.flat_wires.specs.Tables.{ArePorts, AreNets}
 use Rattle.flat_wires.specs.Steps.{ArePortsWithin, back, back_by, AreEnds}

@@ -1,6 +1,6 @@
 -- From where ports drive, by the table of what drives each number.
-use Rattle.std.proofs.Common.{◌≡◌, ◌∙◌, ◌<◌, ◌+◌, ℕ, zero, suc, List, [], ◌∷◌, ◌++◌, length, map, take, get_or, slice_get, Option, Some, None, refl, sym, ap, subst, inl, inr, arith}
-use Rattle.std.specs.Prelude.{◌⊎◌, slice_index}
+use Rattle.std.proofs.Common.{◌≡◌, ◌∙◌, ◌<◌, ℕ, zero, suc, List, [], ◌∷◌, ◌++◌, length, map, take, get_or, slice_get, Option, Some, refl, sym, ap, subst, inl, inr, arith}
+use Rattle.std.specs.Prelude.{◌⊎◌}
 use Rattle.std.specs.List.{All, Contains}
 use Rattle.std.proofs.lemmas.Bool.{cases_order}
 use Rattle.std.proofs.lemmas.List.{length-map}
@@ -8,7 +8,7 @@ use Rattle.std.proofs.lemmas.List.Elements.{All-contains, Contains-append_left, 
 use Rattle.std.proofs.lemmas.Option.{none-some, same_Some, slice_get_within, slice_get-get_or}
 use Rattle.circuit_theory.proofs.Lists.{Contains-head, at_of, of_at}
 use Rattle.circuit_theory.proofs.Numbers.{slice_get-map}
-use Rattle.sec_base.proofs.TableLemmas.{key_at, slice_get-take}
+use Rattle.sec_base.proofs.TableLemmas.{key_at}
 use Rattle.flat_walk.specs.declared.flat.Flat.{Flat}
 use Rattle.flat_walk.specs.declared.flat.FlatStatement.{FlatStatement}
 use Rattle.flat_walk.specs.declared.flat.FlatKind.{FlatKind}
@@ -18,12 +18,12 @@ use Rattle.flat_wires.specs.declared.source.Source.{Source}
 use Rattle.flat_wires.specs.declared.source.Source.TheVariants as source
 use Rattle.flat_wires.specs.Wiring.{Wiring, PortOf, port_by, joined, wires_of}
 use Rattle.flat_wires.specs.Events.{IsNever}
-use Rattle.flat_wires.specs.Faults.{driven_before, DrivesAgain}
+use Rattle.flat_wires.specs.Faults.{DrivesAgain}
 use Rattle.flat_wires.specs.Tables.{IsSource, AreSources, ArePorts}
 use Rattle.flat_wires.specs.Steps.{other_side, port_in, source_port, IsStatementWithin}
 use Rattle.flat_wires.specs.Solid.{IsSolid}
 use Rattle.flat_wires.proofs.Joined.{Contains-joined, Contains-joined_from}
-use Rattle.flat_wires.proofs.Bounds.{IsBounded, bounded, only, nothing}
+use Rattle.flat_wires.proofs.Bounds.{bounded, only, nothing}
 
 -- what the statement at a place drives
 pub out_at : (flat : Flat) (i : ℕ) (s : FlatStatement) → slice_get flat.statements i ≡ Some s → slice_get (wires_of flat).outs i ≡ Some s.out

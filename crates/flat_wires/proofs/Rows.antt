@@ -1,18 +1,16 @@
 -- The rows of a wiring, statement by statement.
-use Rattle.std.proofs.Common.{◌≡◌, ◌∙◌, ℕ, List, [], ◌∷◌, ◌++◌, map, slice_get, Option, Some, None, refl, sym, ap, subst, inl, inr}
-use Rattle.std.specs.Prelude.{◌⊎◌, slice_index}
+use Rattle.std.proofs.Common.{◌≡◌, ℕ, List, [], map, slice_get, Some, refl, sym, ap, subst}
+use Rattle.std.specs.Prelude.{slice_index}
 use Rattle.std.specs.List.{Contains}
 use Rattle.std.proofs.lemmas.Option.{none-some, same_Some}
 use Rattle.std.proofs.lemmas.List.Elements.{Contains-append_left, Contains-append_right}
 use Rattle.circuit_theory.proofs.Lists.{Contains-head, at_of, of_at, map-map}
-use Rattle.circuit_theory.proofs.Numbers.{slice_get-map}
-use Rattle.sec_base.proofs.TableLemmas.{key_at}
 use Rattle.flat_walk.specs.declared.flat.Flat.{Flat}
 use Rattle.flat_walk.specs.declared.flat.FlatStatement.{FlatStatement}
 use Rattle.flat_walk.specs.declared.flat.FlatKind.{FlatKind}
 use Rattle.flat_walk.specs.declared.flat.FlatKind.TheVariants as kind
 use Rattle.flat_walk.specs.Flat.{FlatOf, statement_of, kind_of}
-use Rattle.flat_wires.specs.Wiring.{Wiring, PortOf, TypedLatch, Cell, joined, control_by, reads_by, port_by, typed_by, cell_by, wires_of}
+use Rattle.flat_wires.specs.Wiring.{PortOf, Cell, joined, control_by, reads_by, typed_by, cell_by, wires_of}
 use Rattle.flat_wires.specs.Steps.{other_side}
 use Rattle.flat_wires.proofs.Joined.{joined-map, Contains-joined, Contains-joined_from}
 use Rattle.flat_wires.proofs.Bounds.{only, nothing}

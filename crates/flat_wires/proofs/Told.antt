@@ -1,14 +1,13 @@
 -- What is told over the names.
-use Rattle.std.proofs.Common.{◌≡◌, ◌∙◌, ◌<◌, ℕ, List, [], length, get_or, slice_get, Option, Some, None, refl, sym, ap, subst}
+use Rattle.std.proofs.Common.{◌≡◌, ◌∙◌, ◌<◌, ℕ, List, [], length, get_or, slice_get, Some, sym, ap, subst}
 use Rattle.std.specs.Prelude.{unwrap_or}
 use Rattle.std.proofs.lemmas.Option.{slice_get-get_or}
 use Rattle.sec_base.specs.Table.{AreDistinct}
-use Rattle.blif_read.specs.declared.design.BlifModel.{BlifModel}
 use Rattle.flat_walk.specs.declared.flat.Flat.{Flat}
 use Rattle.flat_walk.specs.declared.error.FlatError.{FlatError}
 use Rattle.flat_walk.specs.declared.error.FlatError.TheVariants as fault
-use Rattle.flat_walk.specs.Flat.{named, name_at, view_of}
-use Rattle.flat_wires.specs.Wiring.{Wiring, wires_of, wiring_of}
+use Rattle.flat_walk.specs.Flat.{name_at}
+use Rattle.flat_wires.specs.Wiring.{Wiring, wires_of}
 use Rattle.flat_wires.specs.Events.{IsFirst, IsNever}
 use Rattle.flat_wires.specs.Faults.{DrivesAgain, ReadsUndriven, HasClockNet, OtherClock, OtherEdge, IsGatedClock, ClockRead, FirstFault, HasNoWireFault}
 use Rattle.flat_wires.specs.Solid.{IsSolid}

@@ -7,10 +7,9 @@ use Rattle.std.proofs.lemmas.List.Elements.{Contains-append_cases}
 use Rattle.circuit_theory.proofs.Lists.{Contains-map, Contains-map_from, at_of, of_at, map-map}
 use Rattle.circuit_theory.proofs.Numbers.{slice_get-map}
 use Rattle.sec_base.proofs.TableLemmas.{key_at, slice_get-take}
-use Rattle.sec_base.specs.declared.basics.Edge.{Edge}
 use Rattle.flat_wires.specs.Wiring.{Wiring, PortOf, TypedLatch, Cell}
 use Rattle.flat_wires.specs.Events.{IsFirst, IsNever, IsAt}
-use Rattle.flat_wires.specs.Faults.{driven_before, driven, DrivesAgain, IsUndriven, ReadsUndriven, Follows, HasNet, clock_signals, HasClockNet, IsClockNet, OtherClock, HasOtherEdge, OtherEdge, IsGatedClock, output_cell, readers, ReadsClockNet, ClockRead}
+use Rattle.flat_wires.specs.Faults.{driven_before, driven, DrivesAgain, IsUndriven, ReadsUndriven, Follows, HasNet, clock_signals, HasClockNet, OtherClock, HasOtherEdge, OtherEdge, IsGatedClock, output_cell, readers, ReadsClockNet, ClockRead}
 use Rattle.flat_wires.proofs.Firsts.{first_along, never_along}
 use Rattle.flat_wires.proofs.NamedWires.{named_wires, named_port, named_latch, named_cell}
 use Rattle.flat_wires.proofs.Bounds.{IsBounded, only}

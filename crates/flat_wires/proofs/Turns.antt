@@ -1,12 +1,12 @@
 -- One turn of the loops over signals and statements.
 use Rattle.std.proofs.Common.{◌≡◌, ◌∙◌, ◌<◌, ◌≤◌, ◌+◌, ℕ, suc, List, [], ◌∷◌, ◌++◌, length, map, take, drop, set, get_or, slice_get, Option, Some, None, refl, sym, ap, subst, inl, inr, arith, append_assoc, append-nil}
 use Rattle.std.specs.Prelude.{◌⊎◌, unwrap_or}
-use Rattle.std.specs.List.{All, Contains}
+use Rattle.std.specs.List.{All}
 use Rattle.std.proofs.lemmas.Bool.{cases_lt}
 use Rattle.std.proofs.lemmas.List.{take_all, length-map}
 use Rattle.std.proofs.lemmas.List.Elements.{All-contains}
 use Rattle.std.proofs.lemmas.Option.{slice_get_read, slice_get-get_or, slice_get_within}
-use Rattle.circuit_theory.proofs.Lists.{of_at, map-map}
+use Rattle.circuit_theory.proofs.Lists.{of_at}
 use Rattle.sec_base.proofs.TableLemmas.{take-push}
 use Rattle.sec_base.specs.declared.basics.Edge.{Edge}
 use Rattle.flat_walk.specs.declared.flat.Flat.{Flat}
@@ -14,8 +14,8 @@ use Rattle.flat_walk.specs.declared.flat.FlatStatement.{FlatStatement}
 use Rattle.flat_walk.specs.Flat.{FlatOf, statement_of, kind_of}
 use Rattle.flat_wires.specs.declared.source.Source.{Source}
 use Rattle.flat_wires.specs.declared.source.Source.TheVariants as source
-use Rattle.flat_wires.specs.Wiring.{Wiring, TypedLatch, Cell, joined, control_by, typed_by, with_edge, wires_of}
-use Rattle.flat_wires.specs.Events.{IsFirst, IsNever, IsAt}
+use Rattle.flat_wires.specs.Wiring.{TypedLatch, joined, control_by, typed_by, with_edge, wires_of}
+use Rattle.flat_wires.specs.Events.{IsFirst, IsNever}
 use Rattle.flat_wires.specs.Faults.{DrivesAgain, clock_signals, OtherEdge}
 use Rattle.flat_wires.specs.Tables.{AreSources}
 use Rattle.flat_wires.proofs.Joined.{joined_more, joined_split}

@@ -1,5 +1,5 @@
 -- Nets of clocks and of readers, by the table of nets.
-use Rattle.std.specs.Prelude.{◌≡◌, ◌≢◌, ℕ, ◌<◌, List, [], ◌∷◌, Option, Some, None, slice_get}
+use Rattle.std.specs.Prelude.{◌≡◌, ◌≢◌, ℕ, ◌<◌, List, Option, Some, None, slice_get}
 use Rattle.std.specs.List.{Contains}
 
 -- the i-th signal has the net

@@ -4,7 +4,7 @@ use Rattle.std.specs.List.{Contains}
 use Rattle.flat_walk.specs.declared.error.FlatError.{FlatError}
 use Rattle.flat_walk.specs.declared.error.FlatError.TheVariants as flat
 use Rattle.flat_walk.specs.Flat.{FlatDesign}
-use Rattle.flat_wires.specs.Wiring.{Wiring, PortOf, TypedLatch, Cell, wiring_of}
+use Rattle.flat_wires.specs.Wiring.{Wiring, TypedLatch, Cell, wiring_of}
 use Rattle.flat_wires.specs.Events.{IsFirst, IsNever, IsAt}
 
 -- what the inputs, the clocks and the first i statements drive

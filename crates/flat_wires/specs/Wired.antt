@@ -1,5 +1,5 @@
 -- What the wiring of a flat design without faults of drivers and clocks gives.
-use Rattle.std.specs.Prelude.{◌≡◌, ◌≢◌, ℕ, List, ◌++◌, length, Option, Some, None}
+use Rattle.std.specs.Prelude.{◌≡◌, ◌≢◌, ℕ, List, ◌++◌, Option, Some, None}
 use Rattle.std.specs.List.{Contains}
 use Rattle.blif_read.specs.declared.design.BlifModel.{BlifModel}
 use Rattle.flat_walk.specs.declared.flat.Flat.{Flat}

@@ -1,6 +1,6 @@
-use Rattle.std.proofs.Common.{◌≡◌, ◌∙◌, ◌<◌, ℕ, length, sym, subst, true≢false}
+use Rattle.std.proofs.Common.{◌∙◌, ◌<◌, ℕ, length, sym, subst, true≢false}
 use Rattle.std.specs.Prelude.{All}
-use Rattle.flat_wires.specs.Wiring.{Cell, wires_of}
+use Rattle.flat_wires.specs.Wiring.{Cell}
 use Rattle.flat_wires.specs.Clocks.{ReadsNet}
 use Rattle.flat_wires.proofs.Rows.{inputs_are}
 use Rattle.flat_wires.proofs.Turns.{here_in, past_in}

@@ -1,4 +1,4 @@
-use Rattle.std.proofs.Common.{◌≡◌, ◌<◌, ℕ, get_or, slice_get, Option, Some, None, sym, ap, ◌∙◌}
+use Rattle.std.proofs.Common.{get_or, Some, None, sym, ap, ◌∙◌}
 use Rattle.std.proofs.lemmas.Option.{slice_get-get_or}
 use Rattle.flat_wires.proofs.ClockTables.{one_passed, one_step, other_step, one_all, none_left}
 use Rattle.flat_wires.proofs.clocks.one_net.Goals as goal

@@ -1,4 +1,4 @@
-use Rattle.std.proofs.Common.{◌≡◌, ℕ, sym, ap, ◌∙◌, true≢false}
+use Rattle.std.proofs.Common.{sym, ◌∙◌, true≢false}
 use Rattle.flat_wires.proofs.ClockTables.{edge_same}
 use Rattle.flat_wires.proofs.Turns.{here_in, past_in, edge_passed, edge_turn, edge_other, edge_all}
 use Rattle.flat_wires.proofs.clocks.other_edge.Goals as goal

@@ -1,4 +1,4 @@
-use Rattle.std.proofs.Common.{◌≡◌, ◌<◌, ℕ, length, sym, subst, ◌∙◌, arith}
+use Rattle.std.proofs.Common.{◌≡◌, ◌<◌, length, sym, subst, arith}
 use Rattle.flat_wires.proofs.Turns.{here_in, past_in, out_below, main_from, again_turn, statement_turn, none_turn, statements_all, none_all}
 use Rattle.flat_wires.proofs.drivers.driven_again.Goals as goal
 

@@ -1,4 +1,4 @@
-use Rattle.std.proofs.Common.{◌≡◌, ◌<◌, ℕ, ◌++◌, length, take}
+use Rattle.std.proofs.Common.{◌<◌, ℕ, ◌++◌, take}
 use Rattle.flat_wires.specs.Wiring.{wires_of}
 use Rattle.flat_wires.specs.Faults.{DrivesAgain}
 use Rattle.flat_wires.specs.Tables.{AreSources}

@@ -1,4 +1,4 @@
-use Rattle.std.proofs.Common.{◌≡◌, ◌∙◌, ℕ, get_or, slice_get, Some, sym, ap}
+use Rattle.std.proofs.Common.{◌∙◌, ℕ, get_or, Some, ap}
 use Rattle.std.proofs.lemmas.Option.{slice_get-get_or, get_or_from_slice_get}
 use Rattle.flat_wires.specs.declared.source.Source.TheVariants as source
 use Rattle.flat_wires.specs.Tables.{IsOpenIn}

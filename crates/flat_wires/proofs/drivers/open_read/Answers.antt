@@ -1,4 +1,4 @@
-use Rattle.std.proofs.Common.{◌≡◌, ◌∙◌, ℕ, List, [], ◌∷◌, sym, ap, subst, Some, None}
+use Rattle.std.proofs.Common.{◌≡◌, ◌∙◌, ℕ, [], ◌∷◌, sym, ap, subst}
 use Rattle.flat_walk.specs.Flat.{kind_of}
 use Rattle.flat_wires.specs.Wiring.{control_by, some_of}
 use Rattle.flat_wires.specs.Tables.{IsOpenIn}

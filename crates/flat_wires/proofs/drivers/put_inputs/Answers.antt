@@ -1,4 +1,3 @@
-use Rattle.std.proofs.Common.{take}
 use Rattle.flat_wires.proofs.Turns.{input_turn, input_all}
 use Rattle.flat_wires.proofs.drivers.put_inputs.Goals as goal
 

@@ -1,4 +1,4 @@
-use Rattle.std.proofs.Common.{◌≡◌, ℕ, List, [], ◌++◌, length, take}
+use Rattle.std.proofs.Common.{ℕ, List, [], ◌++◌, take}
 use Rattle.flat_wires.specs.Tables.{AreSources}
 use Rattle.flat_wires.proofs.drivers.put_inputs.Given as goal
 

@@ -1,6 +1,5 @@
-use Rattle.std.proofs.Common.{◌≡◌, ◌∙◌, ◌<◌, ℕ, length, sym, subst}
+use Rattle.std.proofs.Common.{◌∙◌, ◌<◌, length, sym, subst}
 use Rattle.std.specs.Prelude.{All}
-use Rattle.flat_wires.specs.Wiring.{wires_of}
 use Rattle.flat_wires.specs.Tables.{IsOpenIn}
 use Rattle.flat_wires.proofs.Rows.{inputs_are}
 use Rattle.flat_wires.proofs.Turns.{here_in, past_in}

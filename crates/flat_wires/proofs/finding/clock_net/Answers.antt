@@ -1,4 +1,4 @@
-use Rattle.std.proofs.Common.{◌≡◌, ◌<◌, ◌∙◌, ℕ, List, length, sym, subst}
+use Rattle.std.proofs.Common.{◌<◌, ◌∙◌, ℕ, List, length, sym, subst}
 use Rattle.std.specs.Prelude.{All}
 use Rattle.flat_wires.specs.Wiring.{wires_of}
 use Rattle.flat_wires.specs.Events.{IsFirst}

@@ -1,4 +1,4 @@
-use Rattle.std.proofs.Common.{◌≡◌, ◌<◌, ℕ, Option, length, get_or, sym, subst}
+use Rattle.std.proofs.Common.{◌<◌, ℕ, Option, get_or, sym, subst}
 use Rattle.std.proofs.lemmas.Option.{slice_get-get_or}
 use Rattle.flat_wires.specs.declared.source.Source.TheVariants as source
 use Rattle.flat_wires.specs.Wiring.{wires_of}

@@ -3,7 +3,7 @@ use Rattle.std.specs.Prelude.{slice_index, All}
 use Rattle.std.specs.List.{count_by}
 use Rattle.std.proofs.lemmas.Result.{IfOk-weaker}
 use Rattle.flat_wires.specs.Steps.{is_open, IsBackBy, net_at, AreEnds}
-use Rattle.flat_wires.proofs.StepTables.{all_within, all_within_itself, twice_back, settled}
+use Rattle.flat_wires.proofs.StepTables.{all_within, twice_back, settled}
 use Rattle.flat_wires.proofs.following.ends.Goals as goal
 
 -- the table of twice as far

@@ -1,4 +1,4 @@
-use Rattle.std.proofs.Common.{◌≡◌, ◌<◌, ℕ, length}
+use Rattle.std.proofs.Common.{◌≡◌, ◌<◌, ℕ}
 use Rattle.std.specs.List.{count_by}
 use Rattle.flat_wires.specs.Steps.{is_open, IsBackBy}
 use Rattle.flat_wires.proofs.following.ends.Given as goal

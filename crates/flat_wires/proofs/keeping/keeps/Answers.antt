@@ -1,4 +1,4 @@
-use Rattle.std.proofs.Common.{ℕ, ◌<◌, ◌^◌, subst}
+use Rattle.std.proofs.Common.{◌<◌, ◌^◌, subst}
 use Rattle.flat_wires.proofs.Bounds.{solid_from}
 use Rattle.flat_wires.proofs.keeping.keeps.Goals as goal
 
