@@ -10,5 +10,5 @@ mod tests;
 mod values;
 
 pub use graph::Aig;
-pub use node::{Lit, Node};
+pub use node::{Lit, Lits, Node};
 pub use values::node_bits;
