@@ -1,5 +1,5 @@
 -- The faults that the walk meets, statement by statement.
-use Rattle.std.specs.Prelude.{◌≡◌, ℕ, ◌+◌, ◌*◌, nat_lt, nat_le, ◌||◌, not, Bool, true, false, List, [], ◌∷◌, ◌++◌, map, length, Option, Some, None}
+use Rattle.std.specs.Prelude.{ℕ, ◌+◌, ◌*◌, nat_lt, nat_le, ◌||◌, not, Bool, true, false, List, [], ◌∷◌, ◌++◌, map, length, Option, Some, None}
 use Rattle.std.specs.List.{list_any, find}
 use Rattle.circuit_theory.specs.Interface.{◌or_else◌}
 use Rattle.sec_base.specs.Table.{is_among}
