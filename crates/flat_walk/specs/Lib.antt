@@ -3,3 +3,6 @@ pub mod Flat
 pub mod Walking
 pub mod Walked
 pub mod Renaming
+pub mod Steps
+pub mod Scopes
+pub mod State

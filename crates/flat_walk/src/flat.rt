@@ -1,9 +1,9 @@
 //! Flat statements over numbered flat names.
 
-ghost use Rattle.std.specs.Prelude.{◌≡◌, ◌<◌, ◌≤◌, length, slice_get, Some, All};
-ghost use Rattle.std.specs.List.{sum_by};
+ghost use Rattle.std.specs.Prelude.{◌≡◌, ◌<◌, ◌≤◌, length, slice_get, true, Some, All};
+ghost use Rattle.std.specs.List.{list_all, sum_by};
 ghost use Rattle.sec_base.specs.Table.{AreDistinct};
-ghost use Rattle.flat_walk.specs.Within.{IsWithin, ReadsAsKind, places_in};
+ghost use Rattle.flat_walk.specs.Within.{is_within, reads_as_kind, written_places};
 
 use sec_base::{Edge, Ids, Init, NameTable, Seq};
 
@@ -51,12 +51,12 @@ pub struct Flat {
     ghost inputs_within: { All (λ n. n < length names) inputs },
     ghost clocks_within: { All (λ n. n < length names) clocks },
     ghost outputs_within: { All (λ n. n < length names) outputs },
-    ghost within: { All (IsWithin (length names)) statements },
+    ghost within: { list_all (is_within (length names)) statements ≡ true },
     /// A latch reads one signal, and so does a port.
-    ghost shaped: { All ReadsAsKind statements },
+    ghost shaped: { list_all reads_as_kind statements ≡ true },
     /// There are at most 400,000 statements, and they write 4,000,000 names at most.
     ghost few: { length statements ≤ 400000 },
-    ghost few_places: { sum_by places_in statements ≤ 4000000 },
+    ghost few_places: { sum_by written_places statements ≤ 4000000 },
 }
 
 impl Flat {

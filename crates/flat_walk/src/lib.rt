@@ -3,8 +3,15 @@
 //! A signal of the main model keeps its name. An instance of model `m` that is number `k` among those of the model around it puts `m#k#` before the names of its signals, behind the prefix of its own place.
 #![tactic(auto)]
 
+mod checks;
 mod error;
 mod flat;
+mod numbering;
+mod scope;
+mod tables;
+#[cfg(test)]
+mod tests;
+mod walked;
 mod walking;
 
 pub use error::FlatError;
