@@ -1,12 +1,11 @@
 -- A flattening of a design with its places numbered is one of the design.
-use Rattle.std.proofs.Common.{◌≡◌, ℕ, ◌+◌, ◌<◌, Bool, List, map, refl, sym, ◌∙◌, ap, subst, Some, slice_get}
+use Rattle.std.proofs.Common.{◌≡◌, ℕ, ◌<◌, List, map, sym, ◌∙◌, ap, subst, Some, slice_get}
 use Rattle.std.specs.List.{Contains}
 use Rattle.std.proofs.lemmas.List.Elements.{All-contains}
 use Rattle.circuit_theory.specs.Circuit.{Circuit, Equation, Port, Named}
 use Rattle.circuit_theory.specs.Classes.{moved, moved_name}
 use Rattle.circuit_theory.specs.Flattened.{IsFlattened, Follows}
 use Rattle.circuit_theory.specs.Places.{IsPlace}
-use Rattle.circuit_theory.specs.Run.{IsRun, Marked, NoneEnabled}
 use Rattle.circuit_theory.proofs.Lists.{map-map, Contains-map, of_at}
 use Rattle.sec_base.proofs.TableLemmas.{key_at}
 use Rattle.flat_walk.specs.Renaming.{IsRenaming}

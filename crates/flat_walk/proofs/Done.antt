@@ -1,5 +1,5 @@
 -- What the whole walk has found.
-use Rattle.std.proofs.Common.{◌≡◌, ℕ, ◌+◌, ◌-◌, ◌^◌, ◌<◌, ◌≤◌, nat_lt, ◌==◌, ◌&&◌, Bool, true, false, List, [], ◌∷◌, ◌++◌, map, map-id, length, sum_by, filter_map, option_map, slice_get, refl, sym, ◌∙◌, ap, ap₂, subst, Option, Some, None, Ok, Err, arith, zero, suc, eq-eqb, ltb-true}
+use Rattle.std.proofs.Common.{◌≡◌, ℕ, ◌+◌, ◌-◌, ◌^◌, ◌<◌, ◌≤◌, nat_lt, true, List, [], ◌∷◌, ◌++◌, map, map-id, length, sum_by, filter_map, slice_get, refl, sym, ◌∙◌, ap, ap₂, subst, Some, None, Ok, Err, arith, suc, eq-eqb, ltb-true}
 use Rattle.std.specs.List.{list_all, All}
 use Rattle.std.proofs.lemmas.Bool.{and_parts, and_from}
 use Rattle.std.proofs.lemmas.List.Elements.{All-cons, All-nil}
@@ -17,13 +17,13 @@ use Rattle.flat_walk.specs.declared.flat.FlatKind.TheVariants as flat_kind
 use Rattle.flat_walk.specs.declared.scope.Scope.{Scope}
 use Rattle.flat_walk.specs.declared.walked.Walked.{Walked}
 use Rattle.flat_walk.specs.Within.{reads_as_kind, can_read, written_places, clock_places}
-use Rattle.flat_walk.specs.Flat.{FlatOf, FlatDesign, Kind, gate, latch, port, named_kind, named_statement, named, flat_of, flat_design_of, name_at, kind_of, statement_of, view_of, CanBe, IsShaped}
+use Rattle.flat_walk.specs.Flat.{FlatOf, Kind, gate, latch, port, named_kind, named_statement, flat_of, flat_design_of, name_at, kind_of, statement_of, CanBe, IsShaped}
 use Rattle.flat_walk.specs.Walking.{statements_in, places_in, main_name, design_walk_fault}
 use Rattle.flat_walk.specs.Walked.{IsWalked}
-use Rattle.flat_walk.specs.Steps.{Sofar, visits, below}
-use Rattle.flat_walk.specs.Scopes.{inside_at, path_of, below_scope}
+use Rattle.flat_walk.specs.Steps.{visits, below}
+use Rattle.flat_walk.specs.Scopes.{inside_at, below_scope}
 use Rattle.flat_walk.specs.State.{Keeps, AreNamed, IsKept, IsWithPorts, spelled_in, state}
-use Rattle.flat_walk.proofs.Walks.{Found, visits_found, visits_failed, spelled_all}
+use Rattle.flat_walk.proofs.Walks.{Found, visits_found, visits_failed}
 use Rattle.flat_walk.proofs.Spelled.{keeps_on, spelled_kept, named_within, named_names, named_kept}
 use Rattle.flat_walk.proofs.Items.{Few, few_main, IsGood, IsGoodModel, good_models, good_main, place_count, clock_count}
 

@@ -1,19 +1,18 @@
 -- What is true of each visit of the walk over a design.
-use Rattle.std.proofs.Common.{◌≡◌, ℕ, ◌+◌, ◌*◌, ◌^◌, ◌<◌, ◌≤◌, ◌==◌, ◌&&◌, Bool, true, false, cond, true≢false, List, [], ◌∷◌, ◌++◌, map, length, sum_by, find, filter_map, option_map, bytes_eq, refl, sym, ◌∙◌, ap, ap₂, subst, Option, Some, None, length-append, arith, zero, suc, eqb-true}
-use Rattle.std.specs.List.{list_all, cons_option, Contains}
+use Rattle.std.proofs.Common.{◌≡◌, ℕ, ◌+◌, ◌*◌, ◌^◌, ◌<◌, ◌≤◌, ◌==◌, ◌&&◌, Bool, true, false, cond, List, [], ◌∷◌, ◌++◌, map, length, sum_by, filter_map, bytes_eq, refl, sym, ◌∙◌, ap, ap₂, subst, Option, Some, None, length-append, arith, zero, suc, eqb-true}
+use Rattle.std.specs.List.{list_all, cons_option}
 use Rattle.std.proofs.lemmas.Bool.{and_parts}
 use Rattle.std.proofs.lemmas.List.Elements.{filter_map-append}
 use Rattle.std.proofs.lemmas.List.Sums.{sum_by-cons, sum_by-append}
 use Rattle.circuit_theory.specs.Cover.{Cover}
-use Rattle.circuit_theory.proofs.Lists.{Contains-head, Contains-tail}
 use Rattle.blif_read.specs.declared.design.BlifModel.{BlifModel}
 use Rattle.blif_read.specs.declared.design.Pair.{Pair}
 use Rattle.blif_read.specs.declared.design.Statement.{Statement}
 use Rattle.blif_read.specs.declared.design.Statement.TheVariants.{Names, Latch, Subckt}
 use Rattle.blif_read.specs.Kept.{names_in, names_in_option, names_in_pairs, names_in_all, names_in_model, written_names, is_plain, cover_fits, covers_fit}
-use Rattle.blif_read.specs.Design.{Inside, Place, Item, At, Enter, Pairing, place_at, top, is_input_formal, control_at, step_into, model_named, entered, visited, walk, main_walk, main_inputs, main_outputs, main_clocks}
-use Rattle.blif_read.proofs.Each.{Each, each_append, each_map}
-use Rattle.flat_walk.specs.Flat.{FlatOf, Kind, gate, latch, port, flat_port, flat_of, IsShaped, placed_design}
+use Rattle.blif_read.specs.Design.{Inside, Place, Item, At, Enter, Pairing, place_at, top, is_input_formal, control_at, step_into, model_named, entered, visited, walk, main_walk}
+use Rattle.blif_read.proofs.Each.{Each, each_append}
+use Rattle.flat_walk.specs.Flat.{FlatOf, Kind, gate, latch, port, flat_port, flat_of, IsShaped}
 use Rattle.flat_walk.specs.Walking.{statements_in, places_in}
 
 -- the places of a flat statement: at how many it writes a signal's name

@@ -1,11 +1,11 @@
 -- Flat names of distinct places are distinct.
-use Rattle.std.proofs.Common.{◌≡◌, ℕ, ◌+◌, ◌-◌, ◌/◌, ◌%◌, ◌^◌, ◌<◌, ◌≤◌, nat_lt, ◌==◌, ◌&&◌, not, Bool, true, false, true≢false, if◌then◌else◌, List, [], ◌∷◌, ◌++◌, map, length, decimal, slice_index, get_or, refl, sym, ◌∙◌, ap, ap₂, subst, Option, Some, None, arith, zero, suc, eqb-true, eq-eqb, ne_eqb}
+use Rattle.std.proofs.Common.{◌≡◌, ℕ, ◌+◌, ◌/◌, ◌%◌, nat_lt, ◌==◌, ◌&&◌, not, Bool, true, false, true≢false, if◌then◌else◌, List, [], ◌∷◌, ◌++◌, decimal, refl, sym, ◌∙◌, ap, ap₂, arith, zero, suc, ne_eqb}
 use Rattle.std.specs.List.{list_all}
 use Rattle.std.specs.Fmt.{digits, digits_onto, digit_glyph}
 use Rattle.std.proofs.lemmas.Bool.{and_parts}
 use Rattle.std.proofs.lemmas.Fmt.{decimal_injective}
 use Rattle.blif_read.specs.Kept.{is_plain}
-use Rattle.blif_read.specs.Design.{Inside, Place, name_of, place_at, flat_name}
+use Rattle.blif_read.specs.Design.{Inside, Place, name_of, flat_name}
 use Rattle.blif_read.proofs.Each.{Each}
 use Rattle.flat_walk.proofs.Items.{IsPlainStep, IsPlainPlace}
 

@@ -1,18 +1,16 @@
 -- The design's circuit is that of the numbered flat statements, renamed.
-use Rattle.std.proofs.Common.{◌≡◌, ℕ, ◌+◌, ◌<◌, ◌≤◌, nat_lt, ◌==◌, ◌&&◌, not, Bool, true, false, true≢false, cond, if◌then◌else◌, List, [], ◌∷◌, ◌++◌, map, length, filter, filter_map, option_map, bytes_eq, slice_get, unwrap_or, refl, sym, ◌∙◌, ap, ap₂, subst, Option, Some, None, arith, zero, suc, ltb-true, eqb-true, eq-eqb, inl, inr, ◌⊎◌}
+use Rattle.std.proofs.Common.{◌≡◌, ℕ, ◌<◌, ◌≤◌, nat_lt, ◌==◌, ◌&&◌, not, Bool, true, false, true≢false, cond, if◌then◌else◌, List, [], ◌∷◌, ◌++◌, map, length, filter, filter_map, option_map, bytes_eq, slice_get, refl, sym, ◌∙◌, ap, ap₂, Option, Some, None, arith, zero, suc, ltb-true, eqb-true, eq-eqb, inl, inr, ◌⊎◌}
 use Rattle.std.specs.List.{list_all, cons_option, All, Contains}
 use Rattle.std.proofs.lemmas.Bool.{and_parts}
 use Rattle.std.proofs.lemmas.List.Elements.{All-cons, All-nil, All-contains}
 use Rattle.std.proofs.lemmas.Option.{same_Some, none-some}
 use Rattle.std.proofs.lemmas.Slice.Eq.{bytes_eq-Decides}
-use Rattle.circuit_theory.specs.Cover.{Cover}
-use Rattle.circuit_theory.specs.Circuit.{Circuit, Equation, Gate, Port, Named}
+use Rattle.circuit_theory.specs.Circuit.{Equation, Named}
 use Rattle.circuit_theory.specs.Circuit.{Latch as Register}
 use Rattle.circuit_theory.specs.Classes.{moved, moved_name}
 use Rattle.circuit_theory.proofs.Lists.{map-map}
 use Rattle.sec_base.specs.Table.{AreDistinct}
 use Rattle.blif_read.specs.declared.design.BlifModel.{BlifModel}
-use Rattle.blif_read.specs.declared.design.Statement.{Statement}
 use Rattle.blif_read.specs.declared.design.Statement.TheVariants.{Names, Latch, Subckt}
 use Rattle.blif_read.specs.Design.{Place, Item, At, Enter, Pairing, place_at, top, at_top, name_of, is_input_formal, port_of, is_clock, equation_of, main_walk, main_inputs, main_outputs, circuit_of_design}
 use Rattle.blif_read.proofs.Each.{Each, each_append, each_filter, each_all}
@@ -23,7 +21,7 @@ use Rattle.flat_walk.specs.declared.flat.FlatStatement.{FlatStatement}
 use Rattle.flat_walk.specs.declared.flat.FlatKind.{FlatKind}
 use Rattle.flat_walk.specs.declared.flat.FlatKind.TheVariants as flat_kind
 use Rattle.flat_walk.specs.Within.{is_within, has_clock_within}
-use Rattle.flat_walk.specs.Flat.{Kind, FlatOf, FlatDesign, gate, latch, port, named_kind, named_statement, named, flat_port, flat_of, placed_design, flat_design_of, name_at, kind_of, statement_of, view_of, first_of, equation_by, equation_in, named_at, circuit_by, is_number, circuit_of_flat}
+use Rattle.flat_walk.specs.Flat.{Kind, FlatOf, FlatDesign, gate, latch, port, named_kind, named_statement, named, flat_port, flat_of, placed_design, flat_design_of, name_at, kind_of, statement_of, view_of, equation_by, equation_in, named_at, is_number, circuit_of_flat}
 use Rattle.flat_walk.specs.Renaming.{IsBelow, IsRenaming}
 use Rattle.flat_walk.proofs.Items.{IsPlainPlace, IsPlainClock, IsGood, IsGoodModel, good_models, good_main, plain_top}
 use Rattle.flat_walk.proofs.Tabled.{bool_same}

@@ -1,12 +1,12 @@
 -- A net that is a design with its places numbered has the design's runs.
-use Rattle.std.proofs.Common.{◌≡◌, ℕ, suc, ◌+◌, ◌<◌, Bool, List, [], ◌∷◌, map, length, refl, sym, ◌∙◌, ap, subst, Option, Some, None, slice_get}
-use Rattle.std.specs.List.{All, AllByRecursion, Contains}
-use Rattle.std.proofs.lemmas.List.Elements.{All-map, All-contains, All-from_recursion, recursion_from_All}
+use Rattle.std.proofs.Common.{◌≡◌, ℕ, suc, ◌+◌, ◌<◌, Bool, List, [], ◌∷◌, map, refl, sym, ◌∙◌, ap, subst, Some, slice_get}
+use Rattle.std.specs.List.{All, Contains}
+use Rattle.std.proofs.lemmas.List.Elements.{All-map, All-contains}
 use Rattle.circuit_theory.specs.Cover.{cover_value}
 use Rattle.circuit_theory.specs.Circuit.{Circuit, Equation, Gate, Latch, Port, Named, IsInput, Holds, Carries, out_of}
 use Rattle.circuit_theory.specs.Places.{IsPlace}
 use Rattle.circuit_theory.specs.Classes.{moved, moved_name}
-use Rattle.circuit_theory.specs.Run.{IsRun, Marked, NoneEnabled}
+use Rattle.circuit_theory.specs.Run.{Marked, NoneEnabled}
 use Rattle.circuit_theory.specs.Flattened.{IsFlattened, Follows, latch_names}
 use Rattle.circuit_theory.proofs.Lists.{map-map, map_same, Contains-map, Contains-map_from, All-from_each, of_at}
 use Rattle.circuit_theory.proofs.Numbers.{slice_get-map}

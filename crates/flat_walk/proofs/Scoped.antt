@@ -1,10 +1,8 @@
 -- Scopes, their paths and their prefixes.
-use Rattle.std.proofs.Common.{◌≡◌, ℕ, ◌+◌, ◌*◌, ◌-◌, ◌<◌, ◌≤◌, nat_lt, ◌||◌, Bool, true, false, List, [], ◌∷◌, ◌++◌, map, length, get_or, slice_get, refl, sym, ◌∙◌, ap, ap₂, subst, Option, Some, None, Ok, Err, append_assoc, append-nil, length-append, arith, decimal, option_map}
+use Rattle.std.proofs.Common.{◌≡◌, ℕ, ◌+◌, ◌*◌, ◌<◌, nat_lt, ◌||◌, Bool, true, false, List, [], ◌∷◌, ◌++◌, map, length, slice_get, refl, sym, ◌∙◌, ap, ap₂, subst, Option, Some, None, Ok, Err, append_assoc, append-nil, length-append, arith, decimal, option_map}
 use Rattle.std.specs.List.{list_any, All}
 use Rattle.std.proofs.lemmas.List.{map-append}
 use Rattle.std.proofs.lemmas.List.Elements.{All-push}
-use Rattle.std.proofs.lemmas.List.Folds.{list_any-append}
-use Rattle.std.proofs.lemmas.Option.{slice_get_within}
 use Rattle.circuit_theory.specs.Cover.{Cover}
 use Rattle.circuit_theory.specs.Interface.{◌or_else◌}
 use Rattle.sec_base.specs.Table.{is_among}
@@ -13,21 +11,21 @@ use Rattle.sec_base.specs.declared.basics.Init.{Init}
 use Rattle.blif_read.specs.declared.design.BlifModel.{BlifModel}
 use Rattle.blif_read.specs.declared.design.Pair.{Pair}
 use Rattle.blif_read.specs.declared.design.Statement.{Statement}
-use Rattle.blif_read.specs.declared.design.Statement.TheVariants.{Names, Latch, Subckt}
-use Rattle.blif_read.specs.Kept.{model_names, names_in, names_in_option}
-use Rattle.blif_read.specs.Design.{Inside, Place, Item, At, Enter, Pairing, place_at, name_of, flat_name, input_formals, is_input_formal, control_at, step_into, model_named}
+use Rattle.blif_read.specs.declared.design.Statement.TheVariants.{Names, Latch}
+use Rattle.blif_read.specs.Kept.{model_names, names_in}
+use Rattle.blif_read.specs.Design.{Inside, Item, At, Enter, place_at, name_of, flat_name, is_input_formal, control_at, step_into, model_named}
 use Rattle.flat_walk.specs.declared.error.FlatError.{FlatError}
 use Rattle.flat_walk.specs.declared.error.FlatError.TheVariants as flat_error
 use Rattle.flat_walk.specs.declared.scope.Step.{Step}
 use Rattle.flat_walk.specs.declared.scope.Scope.{Scope}
 use Rattle.flat_walk.specs.declared.tables.Formals.{Formals}
 use Rattle.flat_walk.specs.declared.walked.Walked.{Walked}
-use Rattle.flat_walk.specs.Flat.{FlatOf, Kind, gate, latch, port, named_statement, flat_port, name_at, cover_of, cover_at, statement_in}
-use Rattle.flat_walk.specs.Walking.{when, statements_in, places_in, is_too_many, formals_of, is_long_at, has_long, ports_fault, entry_fault, inner_fault, found_fault, item_fault, main_name}
+use Rattle.flat_walk.specs.Flat.{FlatOf, gate, latch, named_statement, flat_port, cover_of, cover_at, statement_in}
+use Rattle.flat_walk.specs.Walking.{when, statements_in, places_in, is_too_many, formals_of, is_long_at, has_long, ports_fault, entry_fault, inner_fault, found_fault, item_fault}
 use Rattle.flat_walk.specs.Steps.{Sofar, spelled_of, after, visits}
 use Rattle.flat_walk.specs.Scopes.{inside_at, path_of, prefix_of, IsScope, IsInside, is_long_behind, exceeds, AreFormals, instance_at, pairs_at}
 use Rattle.flat_walk.specs.State.{state, spelled_in, Adds, with_flats, plain_fault, port_between, pair_between}
-use Rattle.flat_walk.proofs.Spelled.{name_is, some_at}
+use Rattle.flat_walk.proofs.Spelled.{name_is}
 use Rattle.flat_walk.proofs.Walks.{pass, stop, visits-nil, visits_one, visits_fault, visits-pairs, port_of_pair}
 
 -- a flat name is the name behind the prefix

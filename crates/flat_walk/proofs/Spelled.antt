@@ -17,7 +17,7 @@ use Rattle.flat_walk.specs.declared.walked.Walked.{Walked}
 use Rattle.flat_walk.specs.Within.{is_within, has_clock_within}
 use Rattle.flat_walk.specs.Flat.{FlatOf, Kind, gate, latch, port, named_kind, named_statement, name_at, kind_of, statement_of, cover_at}
 use Rattle.flat_walk.specs.Steps.{Sofar}
-use Rattle.flat_walk.specs.State.{Keeps, AreNamed, spelled_in, state, IsKept, with_flats, Adds, port_between, pair_between}
+use Rattle.flat_walk.specs.State.{Keeps, AreNamed, spelled_in, IsKept, with_flats, Adds, port_between, pair_between}
 
 pub keeps_on : (a b c : List (List ℕ)) → Keeps a b → Keeps b c → Keeps a c
 keeps_on a b c f g = λ k x h. g k x (f k x h)

@@ -1,5 +1,5 @@
 -- The tables of the models.
-use Rattle.std.proofs.Common.{◌≡◌, ℕ, ◌+◌, ◌-◌, ◌<◌, ◌≤◌, nat_lt, nat_le, ◌==◌, ◌&&◌, ◌||◌, not, cond, if◌then◌else◌, Bool, true, false, true≢false, List, [], ◌∷◌, ◌++◌, map, length, take, drop, get_or, slice_get, find, bytes_eq, refl, sym, ◌∙◌, ap, ap₂, subst, Option, Some, None, arith, zero, suc, ltb-true, lt-ltb, eqb-true, eq-eqb, le-leb, leb-true, inl, inr, ◌⊎◌}
+use Rattle.std.proofs.Common.{◌≡◌, ℕ, ◌+◌, ◌<◌, ◌≤◌, nat_lt, nat_le, ◌==◌, ◌||◌, cond, if◌then◌else◌, Bool, true, false, List, [], ◌∷◌, ◌++◌, map, length, take, get_or, slice_get, bytes_eq, refl, sym, ◌∙◌, ap, ap₂, subst, Some, None, arith, zero, suc, ltb-true, lt-ltb, eqb-true, eq-eqb, le-leb, leb-true, inl, inr, ◌⊎◌}
 use Rattle.std.specs.List.{list_any, All}
 use Rattle.std.proofs.lemmas.Bool.{and_parts, and_from, or_cases, or_parts, or_left, or_right, false_from_ne_true}
 use Rattle.std.proofs.lemmas.List.{take_more}
@@ -8,20 +8,16 @@ use Rattle.std.proofs.lemmas.List.Folds.{list_any-append}
 use Rattle.std.proofs.lemmas.Option.{slice_get_within, same_Some, none-some}
 use Rattle.std.proofs.lemmas.Slice.Eq.{bytes_eq-Decides}
 use Rattle.sec_base.specs.Table.{is_among, AreDistinct}
-use Rattle.sec_base.proofs.TableLemmas.{is_among-Contains}
-use Rattle.circuit_theory.specs.Interface.{◌or_else◌}
 use Rattle.blif_read.specs.declared.design.BlifModel.{BlifModel}
 use Rattle.blif_read.specs.Kept.{model_names}
 use Rattle.blif_read.specs.Fault.{repeats}
-use Rattle.blif_read.specs.Design.{Inside, input_formals, model_named}
-use Rattle.flat_walk.specs.declared.error.FlatError.{FlatError}
+use Rattle.blif_read.specs.Design.{Inside, model_named}
 use Rattle.flat_walk.specs.declared.error.FlatError.TheVariants as flat_error
 use Rattle.flat_walk.specs.declared.scope.Step.{Step}
 use Rattle.flat_walk.specs.declared.scope.Scope.{Scope}
 use Rattle.flat_walk.specs.declared.tables.Formals.{Formals}
-use Rattle.flat_walk.specs.declared.tables.Tables.{Tables}
 use Rattle.flat_walk.specs.Flat.{name_at}
-use Rattle.flat_walk.specs.Walking.{when, formals_of, entry_fault, main_name}
+use Rattle.flat_walk.specs.Walking.{when, entry_fault, main_name}
 use Rattle.flat_walk.specs.Scopes.{inside_at, path_of, IsScope, is_long_behind, exceeds, AreFormals}
 use Rattle.flat_walk.proofs.Spelled.{name_is, some_at}
 use Rattle.flat_walk.proofs.Walks.{pass, stop}

@@ -1,19 +1,19 @@
 -- The walk item by item, and the definition of its first fault.
-use Rattle.std.proofs.Common.{◌≡◌, ℕ, ◌+◌, ◌-◌, ◌<◌, ◌≤◌, nat_lt, ◌||◌, Bool, true, false, List, [], ◌∷◌, ◌++◌, map, length, sum_by, filter_map, option_map, option_to_list, slice_get, refl, sym, ◌∙◌, ap, subst, Option, Some, None, Result, Ok, Err, append_assoc, append-nil, arith, true≢false, zero, suc, ltb-false}
-use Rattle.std.specs.List.{list_any, cons_option}
+use Rattle.std.proofs.Common.{◌≡◌, ℕ, ◌+◌, ◌-◌, ◌<◌, Bool, true, false, List, [], ◌∷◌, ◌++◌, map, length, sum_by, filter_map, option_map, option_to_list, slice_get, refl, sym, ◌∙◌, ap, subst, Option, Some, None, Result, Ok, Err, append_assoc, append-nil, arith, true≢false, suc}
+use Rattle.std.specs.List.{cons_option}
 use Rattle.std.proofs.lemmas.List.Sums.{sum_by-cons}
 use Rattle.circuit_theory.specs.Interface.{◌or_else◌}
 use Rattle.blif_read.specs.declared.design.BlifModel.{BlifModel}
 use Rattle.blif_read.specs.declared.design.Pair.{Pair}
 use Rattle.blif_read.specs.declared.design.Statement.{Statement}
 use Rattle.blif_read.specs.declared.design.Statement.TheVariants.{Names, Latch, Subckt}
-use Rattle.blif_read.specs.Kept.{names_in, model_names}
-use Rattle.blif_read.specs.Design.{Inside, Place, Item, At, Enter, Pairing, name_of, place_at, flat_name, step_into, model_named, is_input_formal, entered, visited, walk}
+use Rattle.blif_read.specs.Kept.{model_names}
+use Rattle.blif_read.specs.Design.{Inside, Place, Item, At, Pairing, name_of, place_at, step_into, model_named, is_input_formal, entered, visited, walk}
 use Rattle.flat_walk.specs.declared.error.FlatError.{FlatError}
 use Rattle.flat_walk.specs.declared.error.FlatError.TheVariants as flat_error
 use Rattle.flat_walk.specs.declared.scope.Scope.{Scope}
-use Rattle.flat_walk.specs.Flat.{FlatOf, Kind, named_statement, flat_of, flat_port}
-use Rattle.flat_walk.specs.Walking.{when, statements_in, places_in, is_too_many, found_fault, item_fault, walk_fault}
+use Rattle.flat_walk.specs.Flat.{FlatOf, named_statement, flat_of, flat_port}
+use Rattle.flat_walk.specs.Walking.{when, statements_in, places_in, is_too_many, item_fault, walk_fault}
 use Rattle.flat_walk.specs.Steps.{Sofar, spelled_of, after, ends, onward, visits, heads, below}
 use Rattle.flat_walk.specs.Scopes.{path_of, IsInside, GoesInside, below_scope}
 use Rattle.flat_walk.specs.State.{with_flats}

@@ -1,5 +1,5 @@
 -- A circuit that is another with its places numbered.
-use Rattle.std.specs.Prelude.{◌≡◌, ℕ, ◌<◌, List, map}
+use Rattle.std.specs.Prelude.{◌≡◌, ℕ, ◌<◌, map}
 use Rattle.std.specs.List.{All, Contains}
 use Rattle.circuit_theory.specs.Circuit.{Circuit, Equation, Gate, Latch, Port, Named}
 use Rattle.circuit_theory.specs.Classes.{moved, moved_name}

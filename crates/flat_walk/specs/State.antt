@@ -1,5 +1,5 @@
 -- What the walk has found.
-use Rattle.std.specs.Prelude.{◌≡◌, ℕ, ◌+◌, ◌≤◌, Bool, true, false, All, List, [], ◌∷◌, ◌++◌, map, length, Option, Some, None, slice_get}
+use Rattle.std.specs.Prelude.{◌≡◌, ℕ, ◌+◌, ◌≤◌, Bool, true, false, List, [], ◌∷◌, ◌++◌, map, length, Option, Some, slice_get}
 use Rattle.std.specs.List.{list_all}
 use Rattle.circuit_theory.specs.Interface.{◌or_else◌}
 use Rattle.sec_base.specs.Table.{is_among}
@@ -11,7 +11,7 @@ use Rattle.flat_walk.specs.declared.flat.FlatStatement.{FlatStatement}
 use Rattle.flat_walk.specs.declared.flat.Flat.{Flat}
 use Rattle.flat_walk.specs.declared.walked.Walked.{Walked}
 use Rattle.flat_walk.specs.Within.{is_within}
-use Rattle.flat_walk.specs.Flat.{FlatOf, FlatDesign, port, named, named_statement, statement_of, view_of, name_at}
+use Rattle.flat_walk.specs.Flat.{FlatOf, port, named, named_statement, statement_of, view_of, name_at}
 use Rattle.flat_walk.specs.Walking.{when, is_too_many}
 use Rattle.flat_walk.specs.Steps.{Sofar}
 

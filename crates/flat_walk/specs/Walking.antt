@@ -1,12 +1,13 @@
 -- The faults that the walk meets, statement by statement.
-use Rattle.std.specs.Prelude.{◌≡◌, ℕ, ◌+◌, ◌*◌, nat_lt, nat_le, ◌||◌, not, Bool, true, false, List, [], ◌∷◌, ◌++◌, map, length, Option, Some, None}
+use Rattle.std.specs.Prelude.{◌≡◌, ℕ, ◌+◌, ◌*◌, nat_lt, nat_le, ◌||◌, not, Bool, true, false, List, [], ◌∷◌, ◌++◌, map, length, Option, Some, None, codes, refl}
 use Rattle.std.specs.List.{list_any, find}
 use Rattle.circuit_theory.specs.Interface.{◌or_else◌}
 use Rattle.sec_base.specs.Table.{is_among}
 use Rattle.blif_read.specs.declared.design.BlifModel.{BlifModel}
 use Rattle.blif_read.specs.declared.design.Pair.{Pair}
+use Rattle.blif_read.specs.declared.design.Statement.TheVariants.{Subckt}
 use Rattle.blif_read.specs.Kept.{names_in}
-use Rattle.blif_read.specs.Design.{Inside, Item, At, Enter, Pairing, flat_name, input_formals, main_walk}
+use Rattle.blif_read.specs.Design.{Inside, Item, At, Enter, Pairing, flat_name, input_formals, walk, main_walk}
 use Rattle.flat_walk.specs.declared.error.FlatError.{FlatError}
 use Rattle.flat_walk.specs.declared.error.FlatError.TheVariants as flat
 
@@ -92,3 +93,16 @@ main_name (main ∷ others) = main.name
 -- the first fault that the walk over a design meets
 abbrev pub design_walk_fault : List BlifModel → Option FlatError
 design_walk_fault models = walk_fault (main_name models) 0 0 (main_walk models)
+
+-- a model inside itself
+inside_itself : design_walk_fault (record { name = codes "m"; inputs = []; outputs = []; clocks = []; statements = Subckt 2 (codes "m") [] ∷ [] } ∷ []) ≡ Some (flat.Recursive (codes "m"))
+unfolding walk
+inside_itself = refl
+
+-- a clock is a formal too
+open_clock : design_walk_fault
+    (record { name = codes "m"; inputs = codes "a" ∷ []; outputs = []; clocks = []; statements = Subckt 3 (codes "g") (record { formal = codes "u"; actual = codes "a" } ∷ []) ∷ [] }
+    ∷ record { name = codes "g"; inputs = codes "u" ∷ []; outputs = []; clocks = codes "k" ∷ []; statements = [] } ∷ [])
+    ≡ Some (flat.OpenInput (codes "k"))
+unfolding walk
+open_clock = refl

@@ -1,14 +1,12 @@
 //! The faults of an instance.
 
-ghost use Rattle.std.specs.Prelude.{◌≡◌, ◌≢◌, ◌<◌, ◌||◌, ◌++◌, [], ◌∷◌, length, map, slice_get, None, Some, IfOk, IfErr, OnOk};
+ghost use Rattle.std.specs.Prelude.{◌≡◌, ◌≢◌, ◌<◌, ◌||◌, [], length, map, slice_get, None, Some, IfOk, IfErr, OnOk};
 ghost use Rattle.std.specs.List.{list_any};
 ghost use Rattle.sec_base.specs.Table.{is_among};
-ghost use Rattle.circuit_theory.specs.Interface.{◌or_else◌};
-ghost use Rattle.blif_read.specs.Kept.{model_names, names_in_option};
-ghost use Rattle.blif_read.specs.Design.{input_formals, step_into, model_named};
+ghost use Rattle.blif_read.specs.Kept.{model_names};
+ghost use Rattle.blif_read.specs.Design.{model_named};
 ghost use Rattle.flat_walk.specs.declared.error.FlatError.TheVariants as flat_error;
-ghost use Rattle.flat_walk.specs.Flat.{name_at};
-ghost use Rattle.flat_walk.specs.Walking.{when, named_fault, pairs_fault, first_outside, ports_fault, entry_fault, found_fault, main_name};
+ghost use Rattle.flat_walk.specs.Walking.{named_fault, pairs_fault, first_outside, ports_fault, entry_fault, found_fault, main_name};
 ghost use Rattle.flat_walk.specs.Scopes.{path_of, instance_at, IsScope, IsInside, AreFormals, AreTables, is_long_behind};
 
 use crate::error::FlatError;

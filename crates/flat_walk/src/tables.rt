@@ -1,6 +1,6 @@
 //! Tables of the models of a design, made once: their names, and the ports of each.
 
-ghost use Rattle.std.specs.Prelude.{◌≡◌, ◌+◌, ◌++◌, ◌||◌, ℕ, Bool, false, List, [], length, max, take, drop, map, IfOk, OnOk};
+ghost use Rattle.std.specs.Prelude.{◌≡◌, ◌||◌, ℕ, false, List, [], IfOk, OnOk};
 ghost use Rattle.std.specs.List.{list_any};
 ghost use Rattle.sec_base.specs.Table.{is_among};
 ghost use Rattle.blif_read.specs.Kept.{model_names};

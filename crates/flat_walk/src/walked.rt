@@ -1,7 +1,6 @@
 //! What the walk has found.
 
-ghost use Rattle.std.specs.Prelude.{◌≡◌, ◌≢◌, ◌+◌, ◌*◌, ◌++◌, [], ◌∷◌, false, true, map, option_map, Some, None, IfErr, OnOk};
-ghost use Rattle.sec_base.specs.Table.{is_among};
+ghost use Rattle.std.specs.Prelude.{◌≡◌, ◌+◌, ◌++◌, [], ◌∷◌, false, true, map, option_map, Some, None, IfErr, OnOk};
 ghost use Rattle.flat_walk.specs.declared.error.FlatError.TheVariants as flat_error;
 ghost use Rattle.flat_walk.specs.declared.flat.FlatKind.TheVariants as flat_kind;
 ghost use Rattle.flat_walk.specs.Flat.{gate, latch, cover_at};

@@ -16,7 +16,7 @@ pub record WiredView : Type 0 where
   pub nets : List (Option ℕ)
   pub clock : Option ℕ
 
--- The clock net: each clock that has a net has this one, and it is an input or a clock of the main model. None where no clock has a net.
+-- the clock net: each clock that has a net has this one; None where no clock has a net
 abbrev pub IsClockOf : Wiring ℕ → Option ℕ → Type 0
 IsClockOf w None = (i net : ℕ) → HasClockNet w i net → ⊥
 IsClockOf w (Some clock) = IsClockNet w clock × ((i net : ℕ) → HasClockNet w i net → net ≡ clock)

@@ -1,4 +1,4 @@
-use Rattle.std.proofs.Common.{◌≡◌, ◌<◌, ◌||◌, ℕ, List, Bool, true, false, length, Some, slice_get, sym, ◌∙◌, ap, ap₂, subst, refl, get_or}
+use Rattle.std.proofs.Common.{◌≡◌, ◌<◌, ℕ, List, Bool, length, Some, slice_get, sym, ◌∙◌, ap, subst, refl, get_or}
 use Rattle.std.specs.List.{list_any}
 use Rattle.std.proofs.lemmas.Bool.{or_left, or_right, or_from}
 use Rattle.std.proofs.lemmas.Option.{slice_get_read}
@@ -7,7 +7,7 @@ use Rattle.blif_read.specs.declared.design.Pair.{Pair}
 use Rattle.flat_walk.specs.declared.error.FlatError.TheVariants as flat_error
 use Rattle.flat_walk.specs.declared.tables.Formals.{Formals}
 use Rattle.flat_walk.specs.Walking.{main_name, when}
-use Rattle.flat_walk.specs.Scopes.{is_long_behind, exceeds, IsInside, AreFormals}
+use Rattle.flat_walk.specs.Scopes.{is_long_behind, exceeds, IsInside}
 use Rattle.flat_walk.proofs.Tabled.{model_within}
 use Rattle.flat_walk.proofs.Scoped.{inside_made, entered_is}
 use Rattle.flat_walk.proofs.checks.entered.Goals as goal

@@ -1,4 +1,4 @@
-use Rattle.std.proofs.Common.{◌≡◌, ℕ, List, ◌||◌, sym, ◌∙◌, ap, ap₂, refl}
+use Rattle.std.proofs.Common.{ℕ, List, ◌||◌, ◌∙◌, ap, ap₂, refl}
 use Rattle.std.specs.List.{list_any}
 use Rattle.sec_base.specs.Table.{is_among}
 use Rattle.flat_walk.specs.Scopes.{is_long_behind, exceeds}

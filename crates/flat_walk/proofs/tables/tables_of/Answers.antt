@@ -1,9 +1,8 @@
-use Rattle.std.proofs.Common.{◌≡◌, ◌+◌, ℕ, List, ◌∷◌, [], ◌++◌, false, map, drop, length, length-append, Some, slice_get, sym, ◌∙◌, ap, refl, if◌then◌else◌, arith}
+use Rattle.std.proofs.Common.{◌≡◌, ◌+◌, ℕ, List, ◌∷◌, [], ◌++◌, false, map, drop, length, length-append, sym, ◌∙◌, ap, refl, if◌then◌else◌}
 use Rattle.std.proofs.lemmas.Option.{slice_get_read}
 use Rattle.sec_base.specs.Table.{is_among}
 use Rattle.blif_read.specs.declared.design.BlifModel.{BlifModel}
 use Rattle.blif_read.specs.Fault.{repeats}
-use Rattle.flat_walk.specs.declared.tables.Formals.{Formals}
 use Rattle.flat_walk.proofs.Tabled.{names_push, formals_push}
 use Rattle.flat_walk.proofs.Checked.{rest_at, map_more}
 use Rattle.flat_walk.proofs.tables.tables_of.Goals as goal

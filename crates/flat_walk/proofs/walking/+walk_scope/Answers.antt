@@ -1,11 +1,10 @@
-use Rattle.std.proofs.Common.{◌≡◌, ◌+◌, ◌-◌, ◌≤◌, ◌<◌, ℕ, List, [], ◌∷◌, drop, length, Option, Some, None, Ok, Err, slice_get, get_or, sym, ◌∙◌, ap, ap₂, subst, refl, arith, drop_of_length-le}
+use Rattle.std.proofs.Common.{◌≡◌, ◌+◌, ◌-◌, ℕ, List, drop, length, Option, Some, slice_get, get_or, sym, ◌∙◌, ap, ap₂, subst, refl, arith, drop_of_length-le}
 use Rattle.std.proofs.lemmas.Option.{slice_get_read, slice_get-get_or}
 use Rattle.std.proofs.lemmas.Result.{err_from_is_err_and}
 use Rattle.blif_read.specs.declared.design.BlifModel.{BlifModel}
 use Rattle.blif_read.specs.declared.design.Statement.{Statement}
 use Rattle.blif_read.specs.Kept.{model_names}
 use Rattle.blif_read.specs.Design.{Inside, Item, visited, walk}
-use Rattle.flat_walk.specs.declared.scope.Scope.{Scope}
 use Rattle.flat_walk.specs.declared.walked.Walked.{Walked}
 use Rattle.flat_walk.specs.Flat.{statement_in}
 use Rattle.flat_walk.specs.Walking.{main_name}

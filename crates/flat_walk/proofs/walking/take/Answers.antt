@@ -1,10 +1,10 @@
-use Rattle.std.proofs.Common.{◌≡◌, ◌+◌, ℕ, List, [], ◌∷◌, ◌++◌, map, option_map, length, Some, Ok, Err, slice_get, sym, ◌∙◌, ap, ap₂, subst, subst₂, refl}
+use Rattle.std.proofs.Common.{◌+◌, ℕ, List, [], ◌∷◌, ◌++◌, map, option_map, length, Some, sym, ◌∙◌, ap, ap₂, subst, subst₂, refl}
 use Rattle.std.specs.List.{list_any}
 use Rattle.std.proofs.lemmas.Result.{err_from_is_err_and}
 use Rattle.blif_read.specs.declared.design.BlifModel.{BlifModel}
 use Rattle.blif_read.specs.declared.design.Pair.{Pair}
 use Rattle.blif_read.specs.declared.design.Statement.{Statement}
-use Rattle.blif_read.specs.declared.design.Statement.TheVariants.{Names, Latch, Subckt}
+use Rattle.blif_read.specs.declared.design.Statement.TheVariants.{Names, Latch}
 use Rattle.blif_read.specs.Kept.{model_names, names_in_option}
 use Rattle.blif_read.specs.Design.{Inside}
 use Rattle.flat_walk.specs.Flat.{FlatOf, gate, latch, cover_at}

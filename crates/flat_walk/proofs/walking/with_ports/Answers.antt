@@ -1,5 +1,4 @@
-use Rattle.std.proofs.Common.{◌≡◌, ◌<◌, ℕ, List, [], ◌++◌, map, length, true, sym, ◌∙◌, ap, subst, refl}
-use Rattle.std.specs.List.{list_all}
+use Rattle.std.proofs.Common.{ℕ, List, [], ◌++◌, map, length, subst, refl}
 use Rattle.flat_walk.specs.Within.{is_within}
 use Rattle.flat_walk.specs.State.{Keeps, AreNamed}
 use Rattle.flat_walk.proofs.Spelled.{keeps_on, keeps_within, list_all_weaker, within_more, named_kept}

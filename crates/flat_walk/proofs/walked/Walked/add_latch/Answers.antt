@@ -1,4 +1,4 @@
-use Rattle.std.proofs.Common.{◌≡◌, ◌++◌, ◌∷◌, [], ◌∙◌, ap, refl, ℕ, List}
+use Rattle.std.proofs.Common.{◌++◌, ◌∷◌, [], ◌∙◌, ap, refl, ℕ, List}
 use Rattle.flat_walk.specs.declared.flat.FlatKind.TheVariants as flat_kind
 use Rattle.flat_walk.proofs.Spelled.{latch_added}
 use Rattle.flat_walk.proofs.walked.Walked.add_latch.Goals as goal

@@ -1,4 +1,4 @@
-use Rattle.std.proofs.Common.{◌≡◌, ℕ, List, ◌∷◌, [], ◌++◌, Some, slice_get, sym, ◌∙◌, ap, subst, refl}
+use Rattle.std.proofs.Common.{ℕ, List, ◌∷◌, [], ◌++◌, Some, sym, ◌∙◌, ap, subst, refl}
 use Rattle.sec_base.specs.Table.{is_among}
 use Rattle.flat_walk.specs.declared.walked.Walked.{Walked}
 use Rattle.flat_walk.specs.State.{Adds, pair_between}
