@@ -95,14 +95,6 @@ entered_is models main outer inner instance name pairs m f is none found are por
     ∙ ap (λ (x : Option FlatError). x or_else when (has_long path (step_into path name instance) m pairs) flat_error.LongName) ports
     ∙ ap (λ (b : Bool). when b flat_error.LongName) (long_is m f path (step_into path name instance) outer.prefix inner.prefix pairs are is.prefix_is (inside.is_scope.prefix_is ∙ ap prefix_of inside.path_is))
 
--- the fault of the pairs of an instance whose model is entered
-pub entered_ports : (models : List BlifModel) (main : List ℕ) (outer : Scope) (instance : ℕ) (name : List ℕ) (pairs : List Pair) (m : BlifModel) (e : FlatError) → entry_fault main (path_of (model_names models) outer) (model_named models name) name ≡ None → model_named models name ≡ Some m →
-    ports_fault m pairs ≡ Some e → found_fault main (instance_at models outer instance name pairs) ≡ Some e
-entered_ports models main outer instance name pairs m e none found ports =
-    let path : List Inside = path_of (model_names models) outer in
-    entry_passed main path (step_into path name instance) (model_named models name) m name pairs none found
-    ∙ ap (λ (x : Option FlatError). x or_else when (has_long path (step_into path name instance) m pairs) flat_error.LongName) ports
-
 -- the fault of an item that isn't too much is that of its own
 pub item_found : (main : List ℕ) (count places : ℕ) (item : Item) (c p : ℕ) (fault : Option FlatError) → c ≡ count + statements_in item → p ≡ places + places_in item → is_too_many c p ≡ false → found_fault main item ≡ fault → item_fault main count places item ≡ fault
 item_found main count places item c p fault ec ep few is =

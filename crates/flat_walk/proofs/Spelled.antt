@@ -1,5 +1,5 @@
 -- Numbers and the names that they are of.
-use Rattle.std.proofs.Common.{◌≡◌, ℕ, ◌+◌, ◌<◌, ◌≤◌, nat_lt, ◌&&◌, Bool, true, false, List, [], ◌∷◌, ◌++◌, map, length, take, get_or, option_map, slice_get, unwrap_or, refl, sym, ◌∙◌, ap, ap₂, subst, Option, Some, None, append_assoc, append-nil, arith, zero, suc, ltb-true, lt-ltb}
+use Rattle.std.proofs.Common.{◌≡◌, ℕ, ◌+◌, ◌<◌, ◌≤◌, nat_lt, ◌&&◌, Bool, true, false, List, [], ◌∷◌, ◌++◌, map, length, take, get_or, option_map, slice_get, unwrap_or, refl, sym, ◌∙◌, ap, ap₂, subst, Option, Some, None, arith, zero, suc, ltb-true, lt-ltb}
 use Rattle.std.specs.List.{list_all}
 use Rattle.std.proofs.lemmas.Bool.{and_parts, and_from}
 use Rattle.std.proofs.lemmas.List.{map-append, take_more}
@@ -16,8 +16,7 @@ use Rattle.flat_walk.specs.declared.flat.FlatKind.TheVariants as flat_kind
 use Rattle.flat_walk.specs.declared.walked.Walked.{Walked}
 use Rattle.flat_walk.specs.Within.{is_within, has_clock_within}
 use Rattle.flat_walk.specs.Flat.{FlatOf, Kind, gate, latch, port, named_kind, named_statement, name_at, kind_of, statement_of, cover_at}
-use Rattle.flat_walk.specs.Steps.{Sofar}
-use Rattle.flat_walk.specs.State.{Keeps, AreNamed, spelled_in, IsKept, with_flats, Adds, port_between, pair_between}
+use Rattle.flat_walk.specs.State.{Keeps, AreNamed, spelled_in, IsKept, Adds, port_between, pair_between}
 
 pub keeps_on : (a b c : List (List ℕ)) → Keeps a b → Keeps b c → Keeps a c
 keeps_on a b c f g = λ k x h. g k x (f k x h)
@@ -189,22 +188,6 @@ pub output_added : (old now : Walked) (mid inputs : List (List ℕ)) (outer inne
 output_added old now mid inputs outer inner pair actual formal kept k1 is_actual k2 is_formal output statements count places =
     subst (λ (b : Bool). Adds (λ models. port_between b (outer ++ pair.actual) (inner ++ pair.formal) ∷ []) old now) (sym output)
     (port_added old now actual formal (outer ++ pair.actual) (inner ++ pair.formal) kept (keeps_on old.names mid now.names k1 k2) (k2 actual (outer ++ pair.actual) is_actual) is_formal statements count places)
-
-pub adds_none : (w : Walked) → IsKept w → Adds (λ models. []) w w
-adds_none w kept = record {
-  kept = kept;
-  same = λ models. ap (λ (xs : List (FlatOf (List ℕ))). record { count = w.count; places = w.places; spelled = xs }) (sym (append-nil (spelled_in w.names models w.statements)));
-}
-
--- one more of what is added
-pub adds_more : {X : Type 0} (h : X → FlatOf (List ℕ)) (xs : List X) (i : ℕ) (x : X) (a b c : Walked) → i < length xs → x ≡ get_or xs i x → Adds (λ models. map h (take i xs)) a b → Adds (λ models. h x ∷ []) b c → Adds (λ models. map h (take (i + 1) xs)) a c
-adds_more {X} h xs i x a b c room at first second = record {
-  kept = second.kept;
-  same = λ models.
-      let list : map h (take i xs) ++ h x ∷ [] ≡ map h (take (i + 1) xs) = sym (map-append h (take i xs) (x ∷ [])) ∙ ap (map h) (ap (λ (y : X). take i xs ++ y ∷ []) at ∙ sym (take_more xs i x room)) in
-      second.same models ∙ ap (λ (s : Sofar). with_flats s (h x ∷ [])) (first.same models)
-      ∙ ap (λ (ys : List (FlatOf (List ℕ))). record { count = a.count; places = a.places; spelled = ys }) (append_assoc (spelled_in a.names models a.statements) (map h (take i xs)) (h x ∷ []) ∙ ap (λ (ys : List (FlatOf (List ℕ))). spelled_in a.names models a.statements ++ ys) list);
-}
 
 -- one number more
 pub numbers_more : (t u : List (List ℕ)) (ns ms : List ℕ) (n : ℕ) (prefix : List ℕ) (xs : List (List ℕ)) (i : ℕ) (x : List ℕ) → i < length xs → x ≡ get_or xs i x → AreNamed t ns (map (λ name. prefix ++ name) (take i xs)) → Keeps t u → slice_get u n ≡ Some (prefix ++ x) → ms ≡ ns ++ n ∷ [] →

@@ -1,7 +1,7 @@
 -- The tables of the models.
-use Rattle.std.proofs.Common.{◌≡◌, ℕ, ◌+◌, ◌<◌, ◌≤◌, nat_lt, nat_le, ◌==◌, ◌||◌, cond, if◌then◌else◌, Bool, true, false, List, [], ◌∷◌, ◌++◌, map, length, take, get_or, slice_get, bytes_eq, refl, sym, ◌∙◌, ap, ap₂, subst, Some, None, arith, zero, suc, ltb-true, lt-ltb, eqb-true, eq-eqb, le-leb, leb-true, inl, inr, ◌⊎◌}
+use Rattle.std.proofs.Common.{◌≡◌, ℕ, ◌+◌, ◌<◌, ◌≤◌, nat_le, ◌==◌, ◌||◌, cond, if◌then◌else◌, Bool, true, false, List, [], ◌∷◌, ◌++◌, map, length, take, get_or, slice_get, bytes_eq, refl, sym, ◌∙◌, ap, ap₂, subst, Some, None, arith, zero, suc, eqb-true, eq-eqb, le-leb, leb-true, inl, inr, ◌⊎◌}
 use Rattle.std.specs.List.{list_any, All}
-use Rattle.std.proofs.lemmas.Bool.{and_parts, and_from, or_cases, or_parts, or_left, or_right, false_from_ne_true}
+use Rattle.std.proofs.lemmas.Bool.{or_parts, or_left, false_from_ne_true}
 use Rattle.std.proofs.lemmas.List.{take_more}
 use Rattle.std.proofs.lemmas.List.Elements.{All-head, All-tail}
 use Rattle.std.proofs.lemmas.List.Folds.{list_any-append}
@@ -61,43 +61,6 @@ among_more names i x n t u before room at added known =
     let more : is_among (take (i + 1) names) n ≡ (is_among (take i names) n || bytes_eq n x) =
     ap (λ ns. is_among ns n) (take_more names i x room ∙ ap (λ y. take i names ++ y ∷ []) (sym at)) ∙ list_any-append (λ m. bytes_eq n m) (take i names) (x ∷ []) ∙ ap (λ b. is_among (take i names) n || b) (or-false (bytes_eq n x)) in
     ap (λ ns. is_among ns n) added ∙ among_added t x n ∙ ap (λ b. b || bytes_eq n x) known ∙ or_assoc before (is_among (take i names) n) (bytes_eq n x) ∙ ap (λ b. before || b) (sym more)
-
-exceeds_from : (p r : ℕ) → 0 < r → 4097 < p + r → exceeds p r ≡ true
-exceeds_from p r a b = and_from (nat_lt 0 r) (nat_lt 4097 (p + r)) (lt-ltb 0 r a) (lt-ltb 4097 (p + r) b)
-
-exceeds_then : (p r : ℕ) → exceeds p r ≡ true → (0 < r) × (4097 < p + r)
-exceeds_then p r h = let parts = and_parts (nat_lt 0 r) (nat_lt 4097 (p + r)) h in (ltb-true 0 r parts.0, ltb-true 4097 (p + r) parts.1)
-
--- a longer name takes more room
-pub exceeds_longer : (p r : ℕ) (x : List ℕ) → r ≤ length x → exceeds p (length x + 1) ≡ (exceeds p r || is_long_behind p x)
-exceeds_longer p r x h = bool_same (exceeds p (length x + 1)) (exceeds p r || is_long_behind p x) there back
-  where
-    there : exceeds p (length x + 1) ≡ true → (exceeds p r || is_long_behind p x) ≡ true
-    there k = or_right (exceeds p r) (is_long_behind p x) (lt-ltb 4096 (p + length x) (let parts = exceeds_then p (length x + 1) k in omega (arith, parts.1)))
-
-    back : (exceeds p r || is_long_behind p x) ≡ true → exceeds p (length x + 1) ≡ true
-    back k = elim (or_cases (exceeds p r) (is_long_behind p x) k) [
-      | inl a ↦ (let parts = exceeds_then p r a in exceeds_from p (length x + 1) (omega arith) (omega (arith, parts.1, h)))
-      | inr b ↦ exceeds_from p (length x + 1) (omega arith) (let lt : 4096 < p + length x = ltb-true 4096 (p + length x) b in omega (arith, lt))
-    ]
-
--- a shorter name takes no more room
-pub exceeds_shorter : (p r : ℕ) (x : List ℕ) → length x < r → exceeds p r ≡ (exceeds p r || is_long_behind p x)
-exceeds_shorter p r x h = bool_same (exceeds p r) (exceeds p r || is_long_behind p x) (λ k. or_left (exceeds p r) (is_long_behind p x) k) back
-  where
-    back : (exceeds p r || is_long_behind p x) ≡ true → exceeds p r ≡ true
-    back k = elim (or_cases (exceeds p r) (is_long_behind p x) k) [
-      | inl a ↦ a
-      | inr b ↦ exceeds_from p r (omega (arith, h)) (let lt : 4096 < p + length x = ltb-true 4096 (p + length x) b in omega (arith, lt, h))
-    ]
-
--- room for one name more
-pub room_more : (names : List (List ℕ)) (i : ℕ) (x : List ℕ) (p r r' : ℕ) (before : Bool) → i < length names → x ≡ get_or names i x → exceeds p r' ≡ (exceeds p r || is_long_behind p x) → exceeds p r ≡ (before || list_any (is_long_behind p) (take i names)) →
-    exceeds p r' ≡ (before || list_any (is_long_behind p) (take (i + 1) names))
-room_more names i x p r r' before room at step known =
-    let more : list_any (is_long_behind p) (take (i + 1) names) ≡ (list_any (is_long_behind p) (take i names) || is_long_behind p x) =
-    ap (list_any (is_long_behind p)) (take_more names i x room ∙ ap (λ y. take i names ++ y ∷ []) (sym at)) ∙ list_any-append (is_long_behind p) (take i names) (x ∷ []) ∙ ap (λ b. list_any (is_long_behind p) (take i names) || b) (or-false (is_long_behind p x)) in
-    step ∙ ap (λ b. b || is_long_behind p x) known ∙ or_assoc before (list_any (is_long_behind p) (take i names)) (is_long_behind p x) ∙ ap (λ b. before || b) (sym more)
 
 -- the tables of a model's ports
 pub formals_are : (m : BlifModel) (f : Formals) (t u : List (List ℕ)) (r1 r2 : ℕ) →

@@ -37,11 +37,13 @@ pub record FlatDesign (P : Type 0) : Type 0 where
   pub outputs : List P
   pub statements : List (FlatOf P)
 
+-- the kind with its clock by its name
 abbrev pub named_kind : {P Q : Type 0} → (P → Q) → Kind P → Kind Q
 named_kind name (gate cover) = gate cover
 named_kind name (latch edge control init) = latch edge (option_map name control) init
 named_kind name port = port
 
+-- the statement with its signals by their names
 abbrev pub named_statement : {P Q : Type 0} → (P → Q) → FlatOf P → FlatOf Q
 named_statement name s = record { out = name s.out; reads = map name s.reads; kind = named_kind name s.kind }
 
@@ -54,6 +56,7 @@ abbrev pub flat_port : Bool → Place → Place → FlatOf Place
 flat_port true outer inner = record { out = inner; reads = outer ∷ []; kind = port }
 flat_port false outer inner = record { out = outer; reads = inner ∷ []; kind = port }
 
+-- the flat statement of a gate, a latch or a pair; an instance is none of its own
 abbrev pub flat_of : Item → Option (FlatOf Place)
 flat_of (At path (Names line fanins out cover)) = Some (record { out = place_at path out; reads = map (place_at path) fanins; kind = gate cover })
 flat_of (At path (Latch line input output edge control start)) = Some (record { out = place_at path output; reads = place_at path input ∷ []; kind = latch edge (control_at path control) start })
@@ -73,13 +76,16 @@ flat_design_of models = named name_of (placed_design models)
 abbrev pub name_at : List (List ℕ) → ℕ → List ℕ
 name_at names n = unwrap_or (slice_get names n) []
 
+-- the constant 0
 abbrev pub no_cover : Cover
 no_cover = record { width = 0; rows = []; on = true }
 
+-- the cover of a gate
 abbrev pub cover_of : Option Statement → Cover
 cover_of (Some (Names line fanins out cover)) = cover
 cover_of other = no_cover
 
+-- the statement of a model at a place
 abbrev pub statement_in : Option BlifModel → ℕ → Option Statement
 statement_in None k = None
 statement_in (Some m) k = slice_get m.statements k
@@ -88,11 +94,13 @@ statement_in (Some m) k = slice_get m.statements k
 abbrev pub cover_at : List BlifModel → ℕ → ℕ → Cover
 cover_at models model k = cover_of (statement_in (slice_get models model) k)
 
+-- what a numbered statement is, with the cover of its gate
 abbrev pub kind_of : List BlifModel → FlatKind → Kind ℕ
 kind_of models (kind.Gate model statement) = gate (cover_at models model statement)
 kind_of models (kind.Latch edge control init) = latch edge control init
 kind_of models kind.Port = port
 
+-- a numbered statement, with the cover of its gate
 abbrev pub statement_of : List BlifModel → FlatStatement → FlatOf ℕ
 statement_of models s = record { out = s.out; reads = s.reads; kind = kind_of models s.kind }
 
@@ -106,6 +114,7 @@ CanBe count (gate cover) = cover.width ≡ count
 CanBe count (latch edge control init) = count ≡ 1
 CanBe count port = count ≡ 1
 
+-- the statement reads as many signals as its kind can
 abbrev pub IsShaped : {P : Type 0} → FlatOf P → Type 0
 IsShaped s = CanBe (length s.reads) s.kind
 
@@ -114,6 +123,7 @@ abbrev pub first_of : {P : Type 0} → P → List P → P
 first_of none [] = none
 first_of none (first ∷ others) = first
 
+-- the equation of what drives a signal
 abbrev pub equation_by : {P : Type 0} → (P → List ℕ) → P → List P → Kind P → Equation P
 equation_by name out reads (gate cover) = Gate out reads cover
 equation_by name out reads (latch edge control init) = Register (name out) out (first_of out reads)
@@ -129,11 +139,13 @@ start_from place init.Zero = Some (record { place = place; bit = false })
 start_from place init.One = Some (record { place = place; bit = true })
 start_from place other = None
 
+-- the initial value of a latch
 abbrev pub start_by : {P : Type 0} → P → Kind P → Option (Started P)
 start_by out (gate cover) = None
 start_by out (latch edge control init) = start_from out init
 start_by out port = None
 
+-- a signal with its name
 abbrev pub named_at : {P : Type 0} → (P → List ℕ) → P → Named P
 named_at name p = record { name = name p; place = p }
 
@@ -146,6 +158,7 @@ circuit_by name is_clock d = record {
   starts = filter_map (λ s. start_by s.out s.kind) d.statements;
 }
 
+-- the number is the clock's
 abbrev pub is_number : Option ℕ → ℕ → Bool
 is_number None n = false
 is_number (Some c) n = c == n

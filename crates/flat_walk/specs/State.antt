@@ -27,6 +27,7 @@ AreNamed table numbers names = map (slice_get table) numbers ≡ map Some names
 abbrev pub spelled_in : List (List ℕ) → List BlifModel → List FlatStatement → List (FlatOf (List ℕ))
 spelled_in names models statements = map (λ s. named_statement (name_at names) (statement_of models s)) statements
 
+-- what was counted, and the flat statements over their names
 abbrev pub state : List BlifModel → Walked → Sofar
 state models w = record { count = w.count; places = w.places; spelled = spelled_in w.names models w.statements }
 
@@ -54,6 +55,7 @@ abbrev pub port_between : Bool → List ℕ → List ℕ → FlatOf (List ℕ)
 port_between true outer inner = record { out = inner; reads = outer ∷ []; kind = port }
 port_between false outer inner = record { out = outer; reads = inner ∷ []; kind = port }
 
+-- the port of a pair, where the model has these input formals
 abbrev pub pair_between : List (List ℕ) → List ℕ → List ℕ → Pair → FlatOf (List ℕ)
 pair_between inputs outer inner pair = port_between (is_among inputs pair.formal) (outer ++ pair.actual) (inner ++ pair.formal)
 

@@ -15,16 +15,20 @@ pub record Sofar : Type 0 where
   pub places : ℕ
   pub spelled : List (FlatOf (List ℕ))
 
+-- the flat statement of a visit over flat names, if it has one
 abbrev pub spelled_of : Item → List (FlatOf (List ℕ))
 spelled_of item = option_to_list (option_map (named_statement name_of) (flat_of item))
 
+-- what is found behind a visit without a fault
 abbrev pub after : Sofar → Item → Sofar
 after s item = record { count = s.count + statements_in item; places = s.places + places_in item; spelled = s.spelled ++ spelled_of item }
 
+-- a fault ends the walk
 abbrev pub ends : Option FlatError → Sofar → Result Sofar FlatError
 ends None s = Ok s
 ends (Some e) s = Err e
 
+-- the walk goes on where no fault ended it
 abbrev pub onward : (Sofar → Result Sofar FlatError) → Result Sofar FlatError → Result Sofar FlatError
 onward next (Ok s) = next s
 onward next (Err e) = Err e

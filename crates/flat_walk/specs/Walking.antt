@@ -11,10 +11,12 @@ use Rattle.blif_read.specs.Design.{Inside, Item, At, Enter, Pairing, flat_name, 
 use Rattle.flat_walk.specs.declared.error.FlatError.{FlatError}
 use Rattle.flat_walk.specs.declared.error.FlatError.TheVariants as flat
 
+-- the fault, where the test holds
 abbrev pub when : Bool → FlatError → Option FlatError
 when true e = Some e
 when false e = None
 
+-- the fault of a name, if there is one
 abbrev pub named_fault : (List ℕ → FlatError) → Option (List ℕ) → Option FlatError
 named_fault fault None = None
 named_fault fault (Some name) = Some (fault name)
@@ -31,6 +33,7 @@ places_in (At path s) = length (names_in s)
 places_in (Enter path inner m name pairs) = 2 * length pairs
 places_in (Pairing outer inner m pair) = 0
 
+-- more than 400,000 statements or 4,000,000 places
 abbrev pub is_too_many : ℕ → ℕ → Bool
 is_too_many statements places = nat_lt 400000 statements || nat_lt 4000000 places
 
@@ -72,6 +75,7 @@ abbrev pub inner_fault : List Inside → List Inside → Option BlifModel → Li
 inner_fault path inner None pairs = None
 inner_fault path inner (Some m) pairs = ports_fault m pairs or_else when (has_long path inner m pairs) flat.LongName
 
+-- the fault of a visit, but for its count
 abbrev pub found_fault : List ℕ → Item → Option FlatError
 found_fault main (At path s) = when (list_any (is_long_at path) (names_in s)) flat.LongName
 found_fault main (Enter path inner m name pairs) = entry_fault main path m name or_else inner_fault path inner m pairs
@@ -86,6 +90,7 @@ abbrev pub walk_fault : List ℕ → ℕ → ℕ → List Item → Option FlatEr
 walk_fault main statements places [] = None
 walk_fault main statements places (item ∷ items) = item_fault main statements places item or_else walk_fault main (statements + statements_in item) (places + places_in item) items
 
+-- the name of the main model
 abbrev pub main_name : List BlifModel → List ℕ
 main_name [] = []
 main_name (main ∷ others) = main.name

@@ -26,6 +26,7 @@ can_read count Port = count == 1
 abbrev pub reads_as_kind : FlatStatement → Bool
 reads_as_kind s = can_read (length s.reads) s.kind
 
+-- at how many places a statement writes its clock
 abbrev pub clock_places : FlatKind → ℕ
 clock_places (Gate model statement) = 0
 clock_places (Latch edge None init) = 0
