@@ -3,7 +3,7 @@ use Rattle.std.proofs.Common.{◌≡◌, ◌≢◌, ℕ, suc, ◌+◌, ◌<◌, 
 use Rattle.std.specs.List.{list_all, Contains}
 use Rattle.std.specs.Prelude.{All, IfSome, replicate}
 use Rattle.std.proofs.lemmas.List.Elements.{All-contains}
-use Rattle.std.proofs.lemmas.Option.{slice_get_within, slice_get-get_or, get_or_from_slice_get, same_Some}
+use Rattle.std.proofs.lemmas.Option.{slice_get_within, get_or_from_slice_get}
 use Rattle.circuit_theory.specs.Circuit.{Latch as latch_equation, Gate as gate_equation, InCone}
 use Rattle.circuit_theory.specs.Run.{Marked, Loads}
 use Rattle.circuit_theory.specs.Agree.{EnabledIn, IsSettled}

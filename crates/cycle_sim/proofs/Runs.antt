@@ -1,26 +1,26 @@
 -- A step goes on with every run.
-use Rattle.std.proofs.Common.{◌≡◌, ℕ, suc, ◌+◌, ◌-◌, ◌<◌, ◌⊎◌, inl, inr, Bool, false, List, [], ◌∷◌, ◌++◌, map, length, get_or, slice_get, Some, None, Option, refl, sym, ◌∙◌, ap, subst, arith, length-append}
+use Rattle.std.proofs.Common.{◌≡◌, ℕ, ◌+◌, ◌-◌, ◌<◌, ◌⊎◌, inl, inr, Bool, false, List, [], ◌∷◌, ◌++◌, map, length, get_or, slice_get, Some, None, Option, sym, ◌∙◌, ap, subst, arith, length-append}
 use Rattle.std.specs.List.{Contains}
 use Rattle.std.specs.Prelude.{All, IfSome}
 use Rattle.std.proofs.lemmas.List.Elements.{All-contains}
 use Rattle.std.proofs.lemmas.Option.{slice_get_within, slice_get-get_or, get_or_from_slice_get}
 use Rattle.circuit_theory.specs.Circuit.{Meets, Carries, Latch as latch_equation, Named, IsInput, IsLatch}
 use Rattle.circuit_theory.specs.Run.{IsRun}
-use Rattle.circuit_theory.proofs.Lists.{map_same, at_of, of_at}
+use Rattle.circuit_theory.proofs.Lists.{map_same, at_of}
 use Rattle.circuit_theory.proofs.LawProofs.{runs_exist, same_run}
 use Rattle.flat_net.specs.declared.parts.Port.{Port}
 use Rattle.flat_net.specs.declared.parts.Gate.{Gate}
 use Rattle.flat_net.specs.declared.parts.LatchAt.{LatchAt}
 use Rattle.flat_net.specs.declared.parts.Driver.{Driver}
 use Rattle.flat_net.specs.declared.parts.Driver.TheVariants as driver
-use Rattle.flat_net.specs.View.{NetView, circuit_of, named, equation_of_gate, equation_of_latch}
+use Rattle.flat_net.specs.View.{NetView, circuit_of, equation_of_gate, equation_of_latch}
 use Rattle.flat_net.specs.Sound.{IsSound}
 use Rattle.flat_net.proofs.Places.{All-at}
 use Rattle.flat_net.proofs.Nets.{some_at, latch_stands, input_stands, input_from, sound_is_net, equation_from, OfGate, OfLatch}
 use Rattle.cycle_sim.specs.Runs.{IsRunFrom}
 use Rattle.cycle_sim.specs.View.{SimView, HasRun, IsLatest}
 use Rattle.cycle_sim.specs.Steps.{HasInputs, HasLatches}
-use Rattle.cycle_sim.proofs.Lists.{item_at, map_at, maps_at, map_is, append_left, append_last}
+use Rattle.cycle_sim.proofs.Lists.{item_at, maps_at, map_is, append_left, append_last}
 
 -- a run is a run of the rows before the last
 pub shorter : (n : NetView) (power : List Bool) (rows : List (List Bool)) (row : List Bool) (run : ℕ → ℕ → Bool) → IsRunFrom n power (rows ++ row ∷ []) run → IsRunFrom n power rows run

@@ -11,9 +11,8 @@ use Rattle.flat_net.specs.declared.signals.Signal.{Signal}
 use Rattle.flat_net.specs.declared.parts.Port.{Port}
 use Rattle.flat_net.specs.declared.parts.Gate.{Gate}
 use Rattle.flat_net.specs.declared.parts.LatchAt.{LatchAt}
-use Rattle.flat_net.specs.declared.parts.Driver.TheVariants as driver
 use Rattle.flat_net.specs.View.{NetView, circuit_of, cover_of}
-use Rattle.flat_net.specs.Sound.{IsSound, Drives}
+use Rattle.flat_net.specs.Sound.{IsSound}
 use Rattle.flat_net.proofs.Nets.{some_at, gate_stands}
 use Rattle.flat_net.proofs.Places.{one_at, sound_in_order}
 use Rattle.cycle_sim.specs.Steps.{HasInputs, HasLatches, IsRight, Keeps, AreInputsRight, AreLatchesRight}

@@ -1,9 +1,9 @@
 -- The values and the marks of one cycle, against every choice of values v that meets the equations.
-use Rattle.std.specs.Prelude.{◌≡◌, ℕ, ◌<◌, Bool, true, List, length, map, slice_get, Some}
+use Rattle.std.specs.Prelude.{◌≡◌, ℕ, ◌<◌, Bool, List, length, map, slice_get, Some}
 use Rattle.flat_net.specs.View.{NetView}
 use Rattle.flat_net.specs.declared.parts.Port.{Port}
 use Rattle.flat_net.specs.declared.parts.LatchAt.{LatchAt}
-use Rattle.cycle_sim.specs.View.{IsMark, HasMark}
+use Rattle.cycle_sim.specs.View.{HasMark}
 
 -- v has these bits at the inputs
 abbrev pub HasInputs : NetView → List Bool → (ℕ → Bool) → Type 0

@@ -1,17 +1,17 @@
 -- The form of a stimulus and its lines.
-use Rattle.std.proofs.Common.{◌≡◌, ℕ, zero, suc, ◌+◌, ◌<◌, ◌≤◌, ◌==◌, ◌||◌, not, cond, Bool, true, false, List, [], ◌∷◌, ◌++◌, map, length, codes, refl, sym, ◌∙◌, ap, subst, arith, inl, inr, ◌⊎◌, append_assoc, length-append, slice_get, Some}
-use Rattle.std.specs.List.{slice_split, join_with_byte, All, Contains, flat_map, list_any}
+use Rattle.std.proofs.Common.{◌≡◌, ℕ, zero, suc, ◌<◌, ◌≤◌, ◌==◌, ◌||◌, cond, Bool, true, false, List, [], ◌∷◌, ◌++◌, map, length, codes, refl, sym, ◌∙◌, ap, subst, arith, inl, inr, ◌⊎◌, append_assoc, slice_get, Some}
+use Rattle.std.specs.List.{slice_split, join_with_byte, Contains, flat_map, list_any}
 use Rattle.std.specs.Io.BufRead.{strip_last}
-use Rattle.std.proofs.lemmas.List.{append_cancel_right, append_cancel_left, append-nil}
-use Rattle.std.proofs.lemmas.List.Elements.{All-contains, All-append, Contains-append_cases, Contains-append_right, Contains-append_left}
-use Rattle.std.proofs.lemmas.List.Splits.{join_with_byte-slice_split, length-slice_split}
+use Rattle.std.proofs.lemmas.List.{append_cancel_right, append-nil}
+use Rattle.std.proofs.lemmas.List.Elements.{All-contains, Contains-append_cases, Contains-append_right}
+use Rattle.std.proofs.lemmas.List.Splits.{join_with_byte-slice_split}
 use Rattle.std.proofs.lemmas.Bool.Decides.{Decides-eqb}
 use Rattle.std.proofs.lemmas.Option.{slice_get_within}
-use Rattle.circuit_theory.proofs.Lists.{Contains-head, Contains-tail, Contains-cases, Contains-map_from, All-from_each, of_at, at_of}
+use Rattle.circuit_theory.proofs.Lists.{Contains-head, Contains-tail, Contains-cases, Contains-map_from, All-from_each}
 use Rattle.sec_base.specs.Table.{AreDistinct, is_among}
 use Rattle.sec_base.proofs.TableLemmas.{is_among-at}
 use Rattle.witness_report.specs.Text.{digit_of, names_text, header_line, row_text, row_line, stimulus_text}
-use Rattle.witness_report.specs.Form.{IsName, AreNames, AreRows, IsForm, lines_of, IsNoRow, IsBadRow}
+use Rattle.witness_report.specs.Form.{IsName, AreNames, AreRows, IsForm, lines_of, IsBadRow}
 use Rattle.witness_report.specs.Parts.{IsBadLine}
 use Rattle.witness_report.specs.declared.error.StimError.{StimError}
 use Rattle.witness_report.specs.declared.error.StimError.TheVariants as stim_error

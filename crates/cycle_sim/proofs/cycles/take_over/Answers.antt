@@ -1,5 +1,5 @@
 -- The latch that the loop is at takes over its data's value.
-use Rattle.std.proofs.Common.{◌≡◌, ◌<◌, length, get_or, false, ap, arith}
+use Rattle.std.proofs.Common.{◌≡◌, length, get_or, false, ap, arith}
 use Rattle.std.proofs.lemmas.Option.{slice_get_within}
 use Rattle.flat_net.specs.declared.parts.LatchAt.{LatchAt}
 use Rattle.cycle_sim.proofs.Lists.{item_at, map_is}

@@ -1,5 +1,5 @@
 -- A header's words are the names that were read.
-use Rattle.std.proofs.Common.{◌≡◌, ◌==◌, ◌<◌, ◌++◌, ◌∷◌, ℕ, List, not, true, false, Bool, codes, sym, ◌∙◌, ap, subst}
+use Rattle.std.proofs.Common.{◌≡◌, ◌++◌, ◌∷◌, ℕ, List, not, true, false, Bool, codes, sym, ◌∙◌, ap, subst}
 use Rattle.std.proofs.lemmas.List.{append-nil}
 use Rattle.witness_report.specs.Text.{header_line}
 use Rattle.witness_report.specs.Form.{AreNames}

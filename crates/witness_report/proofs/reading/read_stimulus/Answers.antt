@@ -1,8 +1,8 @@
 -- The first line is the header, and the others are the rows.
-use Rattle.std.proofs.Common.{◌≡◌, ◌==◌, ◌+◌, ◌<◌, ◌∷◌, ℕ, List, Bool, IfSome, IfNone, Result, Err, length, map, sym, ◌∙◌, ap, subst, arith}
+use Rattle.std.proofs.Common.{◌≡◌, ◌==◌, ◌∷◌, ℕ, List, IfSome, IfNone, Result, Err, sym, ◌∙◌, ap, subst, arith}
 use Rattle.std.specs.List.{slice_split}
-use Rattle.witness_report.specs.Text.{header_line, row_text}
-use Rattle.witness_report.specs.Form.{AreNames, AreRows, lines_of}
+use Rattle.witness_report.specs.Text.{header_line}
+use Rattle.witness_report.specs.Form.{AreNames, AreRows}
 use Rattle.witness_report.specs.Parts.{IsBadLine}
 use Rattle.witness_report.proofs.Forms.{lines_form, one_form, has_header, no_bad_line, bad_row, no_lines, header_free, few_lines, only_memory}
 use Rattle.witness_report.proofs.reading.read_stimulus.Goals as goal

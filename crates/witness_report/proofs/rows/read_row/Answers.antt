@@ -1,4 +1,4 @@
-use Rattle.std.proofs.Common.{◌≡◌, ◌<◌, List, Bool, IfNone, map, subst, arith}
+use Rattle.std.proofs.Common.{◌≡◌, List, Bool, IfNone, map, subst, arith}
 use Rattle.witness_report.specs.Text.{digit_of}
 use Rattle.witness_report.proofs.RowTexts.{no_bits}
 use Rattle.witness_report.proofs.rows.read_row.Goals as goal

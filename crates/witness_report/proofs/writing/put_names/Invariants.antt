@@ -1,6 +1,5 @@
-use Rattle.std.specs.Prelude.{◌≡◌, ◌++◌, map, take}
-use Rattle.std.specs.List.{flat_map}
-use Rattle.witness_report.specs.Text.{digit_of, names_text, row_line}
+use Rattle.std.specs.Prelude.{◌≡◌, ◌++◌, take}
+use Rattle.witness_report.specs.Text.{names_text}
 use Rattle.witness_report.proofs.writing.put_names.Given as goal
 
 abbrev pub invariant-loop-name : goal.invariant-loop-name

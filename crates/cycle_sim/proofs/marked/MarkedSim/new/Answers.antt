@@ -1,4 +1,4 @@
-use Rattle.std.proofs.Common.{◌≡◌, ◌∙◌, length, ap, sym}
+use Rattle.std.proofs.Common.{◌∙◌, length, ap}
 use Rattle.std.proofs.lemmas.List.{length-replicate}
 use Rattle.cycle_sim.proofs.Marks.{begin}
 use Rattle.cycle_sim.proofs.marked.MarkedSim.new.Goals as goal

@@ -1,8 +1,8 @@
 -- The marks that were put are those of the next cycle.
-use Rattle.std.proofs.Common.{◌≡◌, ◌∙◌, List, Bool, length, refl, sym, ap, subst, arith}
+use Rattle.std.proofs.Common.{◌≡◌, ◌∙◌, length, sym, ap, subst, arith}
 use Rattle.std.specs.Vec.{with_items}
 use Rattle.std.proofs.lemmas.List.{with_items_is}
-use Rattle.cycle_sim.specs.View.{SimView, MarkedView, HasRun}
+use Rattle.cycle_sim.specs.View.{MarkedView, HasRun}
 use Rattle.cycle_sim.specs.Steps.{AreMarksAhead, AreMarks}
 use Rattle.cycle_sim.proofs.Marks.{mark_steps}
 use Rattle.cycle_sim.proofs.marked.MarkedSim.step.Goals as goal
