@@ -13,22 +13,22 @@ use Rattle.latch_graph.proofs.settling.wait_for.Goals as goal
 pub give_up-requires : goal.give_up-requires
 give_up-requires c = λ i step h. slice_get_within c.args.states.now step.signal Open (c.requires.way.steps i step h).opened
 
-pub returns-then-is_new-clause-way : goal.returns-then-is_new-clause-way
-returns-then-is_new-clause-way c =
+pub returns-in_ok-open-clause-way : goal.returns-in_ok-open-clause-way
+returns-in_ok-open-clause-way c =
     let at = read_at c.args.states.now c.args.signal New (omega (arith, c.requires.signal, c.requires.way.table.size)) in
     let new : slice_get c.args.states.now c.args.signal ≡ Some New = at ∙ ap Some (c.is_new.ensures.yes c.if-is_new.true) in
     let node = some_at c.args.nodes.now c.args.signal c.requires.signal in
     way_along c.args.nodes.now c.in_ok-open.ensures.states c.in_ok-open.ensures.way
     (way_opens c.args.nodes.now c.args.states.now c.args.way.now.items c.args.signal c.requires.way c.requires.signal new (λ i a l h. c.requires.leads a i l h) node.0 node.1)
 
-pub returns-then-is_new-clause-later : goal.returns-then-is_new-clause-later
-returns-then-is_new-clause-later c =
+pub returns-in_ok-open-clause-later : goal.returns-in_ok-open-clause-later
+returns-in_ok-open-clause-later c =
     let at = read_at c.args.states.now c.args.signal New (omega (arith, c.requires.signal, c.requires.way.table.size)) in
     let new : slice_get c.args.states.now c.args.signal ≡ Some New = at ∙ ap Some (c.is_new.ensures.yes c.if-is_new.true) in
     subst (λ z. IsLater c.args.states.now z) (sym c.in_ok-open.ensures.states) (set_later c.args.states.now c.args.signal New Open new (λ e. cc) (λ e. cc) (λ e. cc))
 
-pub returns-then-is_new-clause-nearer : goal.returns-then-is_new-clause-nearer
-returns-then-is_new-clause-nearer c =
+pub returns-in_ok-open-clause-nearer : goal.returns-in_ok-open-clause-nearer
+returns-in_ok-open-clause-nearer c =
     let at = read_at c.args.states.now c.args.signal New (omega (arith, c.requires.signal, c.requires.way.table.size)) in
     let new : slice_get c.args.states.now c.args.signal ≡ Some New = at ∙ ap Some (c.is_new.ensures.yes c.if-is_new.true) in
     let count : new_count (set c.args.states.now c.args.signal Open) + 1 ≡ new_count c.args.states.now + 0 = new_count-set c.args.states.now c.args.signal New Open new in
