@@ -1,6 +1,6 @@
 -- What a settled table says of the net: depths, and that there is none.
 use Rattle.std.proofs.Common.{◌≡◌, ◌≢◌, ℕ, zero, suc, ◌+◌, ◌<◌, ◌≤◌, max, List, [], ◌∷◌, ◌++◌, length, map, Option, Some, None, refl, sym, ◌∙◌, ap, subst, arith, inl, inr}
-use Rattle.std.specs.Prelude.{◌⊎◌, slice_get}
+use Rattle.std.specs.Prelude.{◌⊎◌, slice_get, IfSome, IfNone}
 use Rattle.std.specs.List.{Contains}
 use Rattle.flat_net.specs.declared.signals.Signal.{Signal}
 use Rattle.flat_net.specs.declared.parts.Port.{Port}
@@ -26,8 +26,8 @@ use Rattle.latch_graph.specs.declared.settling.State.{State}
 use Rattle.latch_graph.specs.declared.settling.State.TheVariants.{New, Open, Known, Endless, Removed}
 use Rattle.std.proofs.lemmas.Option.{slice_get_within}
 use Rattle.latch_graph.proofs.Tables.{one_depth}
-use Rattle.latch_graph.specs.Graph.{GraphView, IsNodeOf, IsGraphOf}
-use Rattle.latch_graph.specs.Settling.{HasDepth, IsGreatest, IsDepthOf, ReadsEndless, IsRight, IsTable, depth_of, step_of}
+use Rattle.latch_graph.specs.Graph.{GraphView, IsNodeOf, IsGraphOf, AreNodes}
+use Rattle.latch_graph.specs.Settling.{HasDepth, IsGreatest, IsDepthOf, ReadsEndless, IsRight, IsTable, IsSettled, depth_of, step_of}
 
 -- What drives a signal of the net, with its node.
 pub data Driven (n : NetView) (s : ℕ) (node : Node) : Type 0 where
@@ -45,6 +45,12 @@ only_at {X} xs y k x e h = go k (subst (λ (z : List X). slice_get z k ≡ Some 
     go : (k : ℕ) → slice_get (y ∷ []) k ≡ Some x → y ≡ x
     go zero q = cc
     go (suc k) q = absurd (nothing_at [] k x refl q)
+
+none_some : (j : ℕ) → ◌≡◌ {A = Option ℕ} None (Some j) → ⊥
+none_some j e = cc
+
+some_one : (i j : ℕ) → ◌≡◌ {A = Option ℕ} (Some i) (Some j) → i ≡ j
+some_one i j e = cc
 
 module _ (n : NetView) (g : GraphView) (of : IsGraphOf n g) where
   net : IsNet (circuit_of n) (length n.drivers)
@@ -74,6 +80,39 @@ module _ (n : NetView) (g : GraphView) (of : IsGraphOf n g) where
           let out : m.2.0.out.0 ≡ s = subst (λ (z : LatchAt). z.out.0 ≡ s) same x.2 in
           subst (λ (z : Node). Driven n s z) (one_at g.nodes s m.0 node m.1 h)
           (Driven.latch j m.2.0 m.2.1 out (subst (λ z. IsLatch (circuit_of n) m.2.0.name z m.2.0.next.0) out (latch_stands n j m.2.0 m.2.1)) m.2.2 m.2.3 (of.sound.latches j m.2.0 m.2.1).within)
+
+  -- the graph of a net keeps what each graph keeps
+  pub kept_nodes : AreNodes g.nodes g.latches
+  kept_nodes = record {
+    few = omega (arith, of.size, of.sound.few);
+    within = λ s k node r at h. within s k node r at h (driven s node at);
+    below = λ s k node r at lone h. below s k node r lone h (driven s node at);
+    latch = λ s j node at named. latch s j node named (driven s node at);
+    out = λ j l at. out j l (subst (λ (z : List LatchAt). slice_get z j ≡ Some l) of.latches at);
+  }
+    where
+      within : (s k : ℕ) (node : Node) (r : Signal) → slice_get g.nodes s ≡ Some node → slice_get node.reads k ≡ Some r → Driven n s node → r.0 < length g.nodes
+      within s k node r at h (Driven.input is reads lone) = absurd (nothing_at node.reads k r reads h)
+      within s k node r at h (Driven.gate gt stands reads lone below) =
+          let l = below k r (subst (λ (z : List Signal). slice_get z k ≡ Some r) reads h) in
+          let m = slice_get_within g.nodes s node at in
+          omega (arith, l, m)
+      within s k node r at h (Driven.latch j l place out is reads lone inner) =
+          subst (λ (z : Signal). z.0 < length g.nodes) (only_at node.reads l.next k r reads h) (omega (arith, inner, of.size))
+
+      below : (s k : ℕ) (node : Node) (r : Signal) → node.latch ≡ None → slice_get node.reads k ≡ Some r → Driven n s node → r.0 < s
+      below s k node r none h (Driven.input is reads lone) = absurd (nothing_at node.reads k r reads h)
+      below s k node r none h (Driven.gate gt stands reads lone lower) = lower k r (subst (λ (z : List Signal). slice_get z k ≡ Some r) reads h)
+      below s k node r none h (Driven.latch j l place out is reads lone inner) = absurd (none_some j (sym none ∙ lone))
+
+      latch : (s j : ℕ) (node : Node) → node.latch ≡ Some j → Driven n s node → (l : LatchAt) × (slice_get g.latches j ≡ Some l) × (l.out.0 ≡ s) × (node.reads ≡ l.next ∷ [])
+      latch s j node named (Driven.input is reads lone) = absurd (none_some j (sym lone ∙ named))
+      latch s j node named (Driven.gate gt stands reads lone lower) = absurd (none_some j (sym lone ∙ named))
+      latch s j node named (Driven.latch i l place out is reads lone inner) =
+          (l, subst (λ (z : List LatchAt). slice_get z j ≡ Some l) (sym of.latches) (subst (λ z. slice_get n.latches z ≡ Some l) (some_one i j (sym lone ∙ named)) place), out, reads)
+
+      out : (j : ℕ) (l : LatchAt) → slice_get n.latches j ≡ Some l → (node : Node) × (slice_get g.nodes l.out.0 ≡ Some node) × (node.latch ≡ Some j)
+      out j l at = let x = of.nodes l.out.0 (driver.Latch j) (of.sound.latches j l at).owner in (x.0, x.1, x.2.3)
 
   module _ (states : List State) (table : IsTable g.nodes states) where
     node_at : (s : ℕ) (st : State) → slice_get states s ≡ Some st → (node : Node) × (slice_get g.nodes s ≡ Some node)
@@ -209,3 +248,21 @@ module _ (n : NetView) (g : GraphView) (of : IsGraphOf n g) where
 
       pub known : (s d : ℕ) → slice_get states s ≡ Some (Known d) → IsDepth (circuit_of n) NoneEnabled s d
       known s d h = tree_depth (circuit_of n) net.single (trees (suc d) d s (omega arith) h 0).1
+
+-- what a settled table tells of a signal
+pub tells_depth : (g : GraphView) (states : List State) → IsSettled g.nodes states → ((s : ℕ) → slice_get states s ≡ Some Removed → ⊥) → (s : ℕ) (st : State) → slice_get states s ≡ Some st →
+    (r : Option ℕ) → IfSome r (λ d. st ≡ Known d) → IfSome r (λ d. (n : NetView) → IsGraphOf n g → IsDepth (circuit_of n) NoneEnabled s d)
+tells_depth g states settled whole s st at None h = tt
+tells_depth g states settled whole s st at (Some d) h = λ n of. known n g of states settled.table whole s d (at ∙ ap Some h)
+
+pub tells_endless : (g : GraphView) (states : List State) → IsSettled g.nodes states → ((s : ℕ) → slice_get states s ≡ Some Removed → ⊥) → (s : ℕ) (st : State) → slice_get states s ≡ Some st →
+    (r : Option ℕ) → IfNone r ((d : ℕ) → st ≡ Known d → ⊥) → IfNone r ((n : NetView) → IsGraphOf n g → HasNoDepth (circuit_of n) NoneEnabled s)
+tells_endless g states settled whole s st at (Some d) h = tt
+tells_endless g states settled whole s st at None h = λ n of. by st at h n of
+  where
+    by : (st : State) → slice_get states s ≡ Some st → ((d : ℕ) → st ≡ Known d → ⊥) → (n : NetView) → IsGraphOf n g → HasNoDepth (circuit_of n) NoneEnabled s
+    by New at h n of = absurd (settled.final s New at)
+    by Open at h n of = absurd (settled.final s Open at)
+    by (Known d) at h n of = absurd (h d refl)
+    by Endless at h n of = λ m. endless n g of states settled.table m s at
+    by Removed at h n of = absurd (whole s at)

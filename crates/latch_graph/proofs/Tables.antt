@@ -1,5 +1,5 @@
 -- Tables of states with one state changed.
-use Rattle.std.proofs.Common.{◌≡◌, ◌≢◌, ℕ, zero, suc, ◌+◌, ◌<◌, ◌≤◌, List, [], ◌∷◌, length, Option, Some, None, refl, sym, ◌∙◌, ap, subst, arith, inl, inr, get_or, Bool, true, false}
+use Rattle.std.proofs.Common.{◌≡◌, ◌≢◌, ℕ, zero, suc, ◌+◌, ◌<◌, ◌≤◌, List, [], ◌∷◌, length, Option, Some, None, refl, sym, ◌∙◌, ap, subst, arith, inl, inr, get_or, Bool, true, false, ◌++◌, take}
 use Rattle.std.specs.Prelude.{◌⊎◌, slice_get, is_some, IfSome}
 use Rattle.std.specs.List.{sum_by}
 use Rattle.std.proofs.Math.ListN.{set}
@@ -155,3 +155,9 @@ told_depth states s d result h told = (h.1.0, h.1.1, go h.1.0 h.1.2 (subst (λ (
     go (Known f) e x = ap Some x
     go Endless e x = absurd (cc)
     go Removed e x = ap Some x
+
+pub written_back : {X : Type 0} (xs rest : List X) (n : ℕ) → n ≡ length xs → take n (xs ++ rest) ≡ xs
+written_back [] rest zero e = refl
+written_back [] rest (suc n) e = absurd (let z : suc n ≡ 0 = e in omega arith)
+written_back (x ∷ xs) rest zero e = absurd (let z : 0 ≡ suc (length xs) = e in omega arith)
+written_back (x ∷ xs) rest (suc n) e = ap (λ ys. x ∷ ys) (written_back xs rest n (let z : suc n ≡ suc (length xs) = e in omega arith))

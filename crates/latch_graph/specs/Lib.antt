@@ -1,3 +1,4 @@
 pub mod Graph
 pub mod Settling
+pub mod Kept
 pub mod Weight

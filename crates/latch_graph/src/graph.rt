@@ -1,13 +1,15 @@
 //! The latch graph.
 
-ghost use Rattle.std.specs.Prelude.{◌≡◌, ◌<◌, ◌≤◌, length, map, false, All, IfOk, IfSome, IfNone};
+ghost use Rattle.std.specs.Prelude.{◌≡◌, ℕ, ◌<◌, length, map, slice_get, Some, false, All, IfOk, IfSome, IfNone};
 ghost use Rattle.circuit_theory.specs.Run.{NoneEnabled};
 ghost use Rattle.circuit_theory.specs.Depth.{IsDepth, HasNoDepth, HasCycle, IsCycle, BeginsWithLeast};
 ghost use Rattle.flat_net.specs.View.{NetView, circuit_of};
-ghost use Rattle.latch_graph.specs.Graph.{GraphView, IsGraphOf, marked_names, signals_at};
+ghost use Rattle.latch_graph.specs.Graph.{AreNodes, IsGraphOf, marked_names, signals_at};
+ghost use Rattle.latch_graph.specs.Settling.{IsSettled};
 ghost use Rattle.latch_graph.specs.Weight.{Weighs};
 
-use crate::nodes::Node;
+use crate::nodes::{Node, copy_latches, nodes_of};
+use crate::settling::{State, all_new, settled_from};
 use crate::weighing::Weight;
 use flat_net::{LatchAt, Net, Signal, Signals};
 use sec_base::{Bits, Ids, NoMemory};
@@ -21,15 +23,18 @@ use std::marker::Model;
 pub struct LatchGraph {
     nodes: Vec<Node>,
     latches: Vec<LatchAt>,
-    depths: Vec<Option<u32>>,
+    states: Vec<State>,
 }
 
 impl Model for LatchGraph {
     ghost use Rattle.latch_graph.specs.Graph.{GraphView};
+    ghost use Rattle.latch_graph.specs.Kept.{IsKept};
 
     ghost Value = { GraphView };
 
     ghost view = { λ g. record { nodes = g.nodes.items; latches = g.latches.items } };
+
+    ghost invariant = { λ g. IsKept g.nodes.items g.latches.items g.states.items };
 }
 
 impl LatchGraph {
@@ -39,7 +44,30 @@ impl LatchGraph {
         requires plain { All (λ bit. bit ≡ false) skip_self.now }
         ensures { IfOk result (IsGraphOf net.now) }
     {
-        Err(NoMemory)
+        net.keeps();
+        let nodes = nodes_of(alloc, net)?;
+        let latches = copy_latches(alloc, net.latches())?;
+        let states = all_new(alloc, nodes.len())?;
+        let states = settled_from(alloc, nodes.as_slice(), states)?;
+        Ok(LatchGraph {
+            nodes,
+            latches,
+            states,
+        })
+    }
+
+    /// Tells a proof what each graph keeps. It does nothing.
+    pub fn keeps(&self)
+        ensures { AreNodes self.now.nodes self.now.latches }
+    {
+        let _ = &self.nodes;
+    }
+
+    fn states(&self) -> &[State]
+        ensures settled { IsSettled self.now.nodes result.now }
+        ensures whole { (s : ℕ) → slice_get result.now s ≡ Some State.Removed → ⊥ }
+    {
+        self.states.as_slice()
     }
 
     /// The sequential depth of the signal: the greatest number of latches on a way back. None exactly where the cone
@@ -49,7 +77,8 @@ impl LatchGraph {
         ensures depth { IfSome result (λ d. (n : NetView) → IsGraphOf n self.now → IsDepth (circuit_of n) NoneEnabled s.0 d) }
         ensures none { IfNone result ((n : NetView) → IsGraphOf n self.now → HasNoDepth (circuit_of n) NoneEnabled s.0) }
     {
-        None
+        let states = self.states();
+        states[s.0 as usize].known()
     }
 
     /// A cycle of the graph without the removed latches, as latch positions: each latch is read by the next, the last

@@ -1,8 +1,9 @@
 //! The depths of all signals, by walks back through what they read.
 
-ghost use Rattle.std.specs.Prelude.{◌≡◌, ℕ, ◌+◌, ◌*◌, ◌^◌, ◌<◌, ◌≤◌, [], ◌∷◌, ◌++◌, true, false, length, slice_get, slice_set, Some, OnOk, IfSome, IfNone, is_some};
+ghost use Rattle.std.specs.Prelude.{◌≡◌, ℕ, ◌+◌, ◌*◌, ◌^◌, ◌<◌, ◌≤◌, [], ◌∷◌, ◌++◌, true, false, length, slice_get, slice_set, Some, OnOk, IfOk, IfSome, IfNone, is_some};
 ghost use Rattle.flat_net.specs.declared.signals.Signal.{Signal};
 ghost use Rattle.latch_graph.specs.declared.nodes.Node.{Node};
+ghost use Rattle.latch_graph.specs.declared.settling.State.{State};
 ghost use Rattle.latch_graph.specs.Settling.{HasDepth, IsGreatest, IsDepthOf, IsFirst, IsSettled, SameRemoved, IsLater, IsGivenUp, Leads, new_count, IsWay, depth_of};
 
 use crate::nodes::Node;
@@ -31,8 +32,33 @@ pub struct Step {
     pub read: usize,
 }
 
+/// States of so many new signals.
+pub(crate) fn all_new(alloc: Global, count: usize) -> Result<Vec<State>, NoMemory>
+    ensures size { IfOk result (λ states. length states.items ≡ count) }
+    ensures new { IfOk result (λ states. (s : ℕ) (st : State) → slice_get states.items s ≡ Some st → st ≡ State.New) }
+{
+    let mut states = Vec::new(alloc);
+    for _i in 0..count {
+        states.push(State::New)?;
+    }
+    Ok(states)
+}
+
+/// The states with the depth of each new signal, or that it leads back to a cycle.
+pub(crate) fn settled_from(alloc: Global, nodes: &[Node], mut states: Vec<State>) -> Result<Vec<State>, NoMemory>
+    requires few { length nodes.now < 2 ^ 32 }
+    requires within { (s k : ℕ) (node : Node) (r : Signal) → slice_get nodes.now s ≡ Some node → slice_get node.reads k ≡ Some r → r.0 < length nodes.now }
+    requires size { length states.items ≡ length nodes.now }
+    requires first { (s : ℕ) (st : State) → slice_get states.items s ≡ Some st → IsFirst st }
+    ensures settled { IfOk result (λ made. IsSettled nodes.now made.items) }
+    ensures removed { IfOk result (λ made. SameRemoved states.items made.items) }
+{
+    settle(alloc, nodes, states.as_mut_slice())?;
+    Ok(states)
+}
+
 /// Finds the depth of each new signal, or that it leads back to a cycle.
-pub(crate) fn settle(alloc: Global, nodes: &[Node], states: &mut [State]) -> Result<(), NoMemory>
+fn settle(alloc: Global, nodes: &[Node], states: &mut [State]) -> Result<(), NoMemory>
     requires few { length nodes.now < 2 ^ 32 }
     requires within { (s k : ℕ) (node : Node) (r : Signal) → slice_get nodes.now s ≡ Some node → slice_get node.reads k ≡ Some r → r.0 < length nodes.now }
     requires size { length states.old ≡ length nodes.now }
@@ -184,6 +210,17 @@ impl State {
         ensures not { result ≡ false → self ≡ State.New → ⊥ }
     {
         matches!(self, State::New)
+    }
+
+    /// The depth that was found.
+    pub(crate) fn known(self) -> Option<u32>
+        ensures some { IfSome result (λ d. self ≡ State.Known d) }
+        ensures none { IfNone result ((d : ℕ) → self ≡ State.Known d → ⊥) }
+    {
+        match self {
+            State::Known(depth) => Some(depth),
+            _ => None,
+        }
     }
 
     fn has_depth(self) -> bool

@@ -1,0 +1,16 @@
+use Rattle.std.proofs.Common.{◌≡◌, ◌<◌, ℕ, List, Some, length, slice_get, subst, sym, ap, ◌∙◌, refl, arith}
+use Rattle.flat_net.specs.declared.parts.LatchAt.{LatchAt}
+use Rattle.latch_graph.specs.declared.nodes.Node.{Node}
+use Rattle.latch_graph.specs.declared.settling.State.{State}
+use Rattle.latch_graph.specs.declared.settling.State.TheVariants.{New, Removed}
+use Rattle.latch_graph.specs.Graph.{GraphView, IsGraphOf, AreNodes}
+use Rattle.latch_graph.specs.Settling.{IsFirst, IsSettled}
+use Rattle.latch_graph.proofs.Depths.{kept_nodes}
+use Rattle.latch_graph.proofs.graph.LatchGraph.new.Goals as goal
+
+pub settled_from-requires-clause-within : goal.settled_from-requires-clause-within
+settled_from-requires-clause-within c =
+    let g : GraphView = record { nodes = c.in_ok-nodes.nodes.items; latches = c.args.net.now.latches } in
+    let of : IsGraphOf c.args.net.now g = record { sound = c.keeps.ensures.sound; size = c.in_ok-nodes.ensures.size; nodes = c.in_ok-nodes.ensures.nodes; latches = refl } in
+    let kept : AreNodes c.in_ok-nodes.nodes.items c.args.net.now.latches = kept_nodes c.args.net.now g of in
+    subst (λ (z : List Node). (s k : ℕ) (node : Node) (r : _) → slice_get z s ≡ Some node → slice_get node.reads k ≡ Some r → r.0 < length z) (sym c.as_slice.ensures.value) kept.within
