@@ -1,3 +1,5 @@
 pub mod Tables
 pub mod Ways
 pub mod Depths
+pub mod Reading
+pub mod Weights

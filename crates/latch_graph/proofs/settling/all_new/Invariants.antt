@@ -3,8 +3,8 @@ use Rattle.latch_graph.specs.declared.settling.State.{State}
 use Rattle.latch_graph.specs.declared.settling.State.TheVariants.{New}
 use Rattle.latch_graph.proofs.settling.all_new.Given as goal
 
-abbrev pub invariant-loop-_i : goal.invariant-loop-_i
-invariant-loop-_i l = record {
+abbrev pub invariant-loop-i : goal.invariant-loop-i
+invariant-loop-i l = record {
   size : length l.states.items ≡ l._i;
   new : (s : ℕ) (st : State) → slice_get l.states.items s ≡ Some st → st ≡ New;
 }
