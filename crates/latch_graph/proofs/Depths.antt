@@ -36,10 +36,10 @@ pub data Driven (n : NetView) (s : ℕ) (node : Node) : Type 0 where
       ((k : ℕ) (r : Signal) → slice_get g.fanins k ≡ Some r → r.0 < s) → Driven n s node
   latch : (j : ℕ) (l : LatchAt) → slice_get n.latches j ≡ Some l → l.out.0 ≡ s → IsLatch (circuit_of n) l.name s l.next.0 → node.reads ≡ l.next ∷ [] → node.latch ≡ Some j → l.next.0 < length n.drivers → Driven n s node
 
-nothing_at : {X : Type 0} (xs : List X) (k : ℕ) (x : X) → xs ≡ [] → slice_get xs k ≡ Some x → ⊥
+pub nothing_at : {X : Type 0} (xs : List X) (k : ℕ) (x : X) → xs ≡ [] → slice_get xs k ≡ Some x → ⊥
 nothing_at xs k x e h = let l = slice_get_within xs k x h in omega (arith, l, ap length e)
 
-only_at : {X : Type 0} (xs : List X) (y : X) (k : ℕ) (x : X) → xs ≡ y ∷ [] → slice_get xs k ≡ Some x → y ≡ x
+pub only_at : {X : Type 0} (xs : List X) (y : X) (k : ℕ) (x : X) → xs ≡ y ∷ [] → slice_get xs k ≡ Some x → y ≡ x
 only_at {X} xs y k x e h = go k (subst (λ (z : List X). slice_get z k ≡ Some x) e h)
   where
     go : (k : ℕ) → slice_get (y ∷ []) k ≡ Some x → y ≡ x

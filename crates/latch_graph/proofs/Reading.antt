@@ -14,7 +14,7 @@ use Rattle.latch_graph.specs.declared.nodes.Node.{Node}
 use Rattle.latch_graph.specs.Graph.{GraphView, IsGraphOf}
 use Rattle.latch_graph.proofs.Depths.{Driven, driven}
 
-fanins_of : Equation ℕ → List ℕ
+abbrev fanins_of : Equation ℕ → List ℕ
 fanins_of (gate_equation out fanins cover) = fanins
 fanins_of (latch_equation name out next) = []
 fanins_of (port_equation out from) = []

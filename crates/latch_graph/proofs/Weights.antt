@@ -1,6 +1,6 @@
 -- What the places that are met say of the weight.
 use Rattle.std.proofs.Common.{◌≡◌, ℕ, zero, suc, ◌+◌, ◌*◌, ◌<◌, ◌≤◌, max, List, [], ◌∷◌, ◌++◌, length, map, Option, Some, None, refl, sym, ◌∙◌, ap, subst, arith, inl, inr, add-zero, add-one, get_or}
-use Rattle.std.specs.Prelude.{◌⊎◌, ◌↔◌, slice_get}
+use Rattle.std.specs.Prelude.{◌⊎◌, ◌↔◌, slice_get, IfSome, IfNone}
 use Rattle.std.specs.List.{Contains, AllPairs, sum_by}
 use Rattle.std.proofs.lemmas.List.Sums.{sum_by-cons, sum_by-append}
 use Rattle.std.proofs.lemmas.Option.{slice_get_within, slice_get-get_or}
@@ -11,9 +11,10 @@ use Rattle.flat_net.specs.declared.parts.Driver.{Driver}
 use Rattle.flat_net.specs.declared.parts.Driver.TheVariants as driver
 use Rattle.flat_net.specs.View.{NetView, circuit_of, cover_of}
 use Rattle.flat_net.specs.Sound.{IsSound, Drives}
-use Rattle.flat_net.proofs.Places.{one_at}
-use Rattle.flat_net.proofs.Growth.{slice_get-append, slice_get-push, slice_get-push_cases}
+use Rattle.flat_net.proofs.Places.{one_at, cover_of-is}
+use Rattle.flat_net.proofs.Growth.{slice_get-append, slice_get-push, slice_get-push_cases, length-push}
 use Rattle.flat_net.proofs.Nets.{some_at, gate_stands, latch_stands, input_stands}
+use Rattle.circuit_theory.specs.Cover.{Cover}
 use Rattle.circuit_theory.specs.Circuit.{Circuit, Gate as gate_equation, IsLatch, Reads}
 use Rattle.circuit_theory.specs.Sizes.{WeighsAt, Weighed, Visits, IsWeight, IsOver}
 use Rattle.circuit_theory.proofs.Lists.{Contains-map, Contains-map_from, at_of, of_at}
@@ -23,7 +24,8 @@ use Rattle.circuit_theory.proofs.Sums.{same_or_not}
 use Rattle.latch_graph.specs.declared.nodes.Node.{Node}
 use Rattle.latch_graph.specs.Graph.{GraphView, IsGraphOf}
 use Rattle.latch_graph.specs.Settling.{step_of}
-use Rattle.latch_graph.specs.Weight.{gate_weight, driver_weight, weight_of, AreMet, Stay, IsMet}
+use Rattle.latch_graph.specs.Weight.{gate_weight, driver_weight, weight_of, AreMet, Stay, IsMet, Meeting, AreThere}
+use Rattle.latch_graph.proofs.Depths.{Driven, driven, only_at}
 use Rattle.latch_graph.proofs.Reading.{reads_node, latch_node}
 
 pub AllPairs-from_at : {X : Type 0} (R : X → X → Type 0) (xs : List X) → ((i j : ℕ) (x y : X) → i < j → slice_get xs i ≡ Some x → slice_get xs j ≡ Some y → R x y) → AllPairs R xs
@@ -206,3 +208,47 @@ module _ (n : NetView) (sound : IsSound n) (outputs : List ℕ) (places : List (
           let one : step_of node.0.latch ≡ 1 = ap step_of x.named in
           let same : j + step_of node.0.latch ≡ suc j = omega (arith, one) in
           subst (λ z. Contains places (z, suc j)) x.next_is (subst (λ z. Contains places (x.latch.next.0, z)) same step)
+
+-- what the signal of a gate counts
+pub gate_weighs : (n : NetView) (s j : ℕ) (gate : Gate) (cover : Cover) (rows columns : ℕ) → slice_get n.drivers s ≡ Some (driver.Gate j) → slice_get n.gates j ≡ Some gate → slice_get n.covers gate.cover ≡ Some cover →
+    rows ≡ max 1 (length cover.rows) → columns ≡ length gate.fanins + 1 → 1 + rows * columns ≡ weight_of n s
+gate_weighs n s j gate cover rows columns driven at covered rows_are columns_are =
+    let here : weight_of n s ≡ gate_weight n (Some gate) = ap (driver_weight n) driven ∙ ap (gate_weight n) at in
+    let whole : gate_weight n (Some gate) ≡ 1 + max 1 (length cover.rows) * (length gate.fanins + 1) =
+    ap (λ (z : Cover). 1 + max 1 (length z.rows) * (length gate.fanins + 1)) (cover_of-is n.covers gate cover covered) in
+    ap (λ z. 1 + z * columns) rows_are ∙ ap (λ z. 1 + max 1 (length cover.rows) * z) columns_are ∙ sym whole ∙ sym here
+
+-- a new place with the sum, or with what is above the cap
+pub meeting_new : (n : NetView) (old new : List (ℕ × ℕ)) (place : ℕ × ℕ) (total cap : ℕ) (sum : Option ℕ) → IfSome sum (λ z. (z ≡ total + weight_of n place.0) × (z ≤ cap)) → IfNone sum (cap < total + weight_of n place.0) →
+    new ≡ old ++ place ∷ [] → (Contains old place → ⊥) → Meeting n old new place total cap sum
+meeting_new n old new place total cap None some over put absent = (inr (absent, put, refl), over)
+meeting_new n old new place total cap (Some sum) some over put absent = (inr (absent, put, some.0), some.1)
+
+pub met_longer : (n : NetView) (old new : List (ℕ × ℕ)) (place : ℕ × ℕ) (total sum : ℕ) → IsMet n old new place total sum → length old ≤ length new
+met_longer n old new place total sum (inl x) = omega (arith, ap length x.1)
+met_longer n old new place total sum (inr x) = omega (arith, ap length x.1, length-push old place)
+
+pub there_more : (reads : List Signal) (i shift : ℕ) (old new : List (ℕ × ℕ)) (r : Signal) → AreThere reads i shift old → Stay old new → slice_get reads i ≡ Some r → Contains new (r.0, shift) → AreThere reads (i + 1) shift new
+there_more reads i shift old new r there stay at here k q l h = go (same_or_not k i)
+  where
+    go : (k ≡ i) ⊎ (k ≢ i) → Contains new (q.0, shift)
+    go (inl e) = subst (λ (z : Signal). Contains new (z.0, shift)) (one_at reads i r q at (subst (λ z. slice_get reads z ≡ Some q) e h)) here
+    go (inr n) = stay_there old new (q.0, shift) stay (there k q (omega (arith, l, n)) h)
+
+-- what a visited signal reads is visited, a latch's in the cycle before
+pub child_visits : (n : NetView) (g : GraphView) → IsGraphOf n g → (o s shift : ℕ) → Visits (circuit_of n) o 0 s shift → (node : Node) → slice_get g.nodes s ≡ Some node → (k : ℕ) (r : Signal) → slice_get node.reads k ≡ Some r →
+    Visits (circuit_of n) o 0 r.0 (shift + step_of node.latch)
+child_visits n g of o s shift visits node at k r h = go (driven n g of s node at)
+  where
+    go : Driven n s node → Visits (circuit_of n) o 0 r.0 (shift + step_of node.latch)
+    go (Driven.input is reads lone) = absurd (let l = slice_get_within node.reads k r h in omega (arith, l, ap length reads))
+    go (Driven.gate gt stands reads lone below) =
+        let here = of_at gt.fanins k r (subst (λ (z : List Signal). slice_get z k ≡ Some r) reads h) in
+        let none : step_of node.latch ≡ 0 = ap step_of lone in
+        let same : shift ≡ shift + step_of node.latch = omega (arith, none) in
+        subst (λ z. Visits (circuit_of n) o 0 r.0 z) same (Visits.reads visits (Reads.by_gate stands (Contains-map (λ (f : Signal). f.0) gt.fanins r here)))
+    go (Driven.latch j l place out is reads lone inner) =
+        let one : step_of node.latch ≡ 1 = ap step_of lone in
+        let same : suc shift ≡ shift + step_of node.latch = omega (arith, one) in
+        let next : l.next ≡ r = only_at node.reads l.next k r reads h in
+        subst (λ z. Visits (circuit_of n) o 0 r.0 z) same (subst (λ (z : Signal). Visits (circuit_of n) o 0 z.0 (suc shift)) next (Visits.back visits is))

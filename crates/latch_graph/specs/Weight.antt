@@ -8,6 +8,8 @@ use Rattle.flat_net.specs.declared.signals.Signal.{Signal}
 use Rattle.flat_net.specs.declared.parts.Gate.{Gate}
 use Rattle.flat_net.specs.declared.parts.Driver.{Driver}
 use Rattle.flat_net.specs.declared.parts.Driver.TheVariants as driver
+use Rattle.latch_graph.specs.declared.nodes.Node.{Node}
+use Rattle.latch_graph.specs.Settling.{step_of}
 use Rattle.flat_net.specs.View.{NetView, circuit_of, cover_of}
 use Rattle.latch_graph.specs.declared.weighing.Weight.{Weight}
 use Rattle.latch_graph.specs.declared.weighing.Weight.TheVariants.{Within, Over}
@@ -63,3 +65,11 @@ AreVisited n outputs reads shift = (k : ℕ) (r : Signal) → slice_get reads k 
 -- the signals are there so many cycles ago
 abbrev pub AreThere : List Signal → ℕ → ℕ → List (ℕ × ℕ) → Type 0
 AreThere reads count shift places = (k : ℕ) (r : Signal) → k < count → slice_get reads k ≡ Some r → Contains places (r.0, shift)
+
+-- the unfoldings of the outputs visit the place
+abbrev pub IsVisited : NetView → List ℕ → ℕ × ℕ → Type 0
+IsVisited n outputs p = (o : ℕ) × Contains outputs o × Visits (circuit_of n) o 0 p.0 p.1
+
+-- what the place reads is there, a latch's in the cycle before
+abbrev pub AreReadsThere : List Node → ℕ × ℕ → List (ℕ × ℕ) → Type 0
+AreReadsThere nodes p places = (node : Node) (k : ℕ) (r : Signal) → slice_get nodes p.0 ≡ Some node → slice_get node.reads k ≡ Some r → Contains places (r.0, p.1 + step_of node.latch)

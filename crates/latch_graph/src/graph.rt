@@ -10,7 +10,7 @@ ghost use Rattle.latch_graph.specs.Weight.{Weighs};
 
 use crate::nodes::{Node, copy_latches, nodes_of};
 use crate::settling::{State, all_new, settled_from};
-use crate::weighing::Weight;
+use crate::weighing::{Weight, weigh};
 use flat_net::{LatchAt, Net, Signal, Signals};
 use sec_base::{Bits, Ids, NoMemory};
 use std::alloc::Global;
@@ -102,6 +102,6 @@ impl LatchGraph {
         requires within { All (λ s. s.0 < length net.now.drivers) outputs.now }
         ensures { IfOk result (Weighs (circuit_of net.now) (map (λ s. s.0) outputs.now) cap) }
     {
-        Err(NoMemory)
+        weigh(alloc, self.nodes.as_slice(), net, outputs.as_slice(), cap)
     }
 }

@@ -1,14 +1,18 @@
 //! The weight of an unfolding.
 
-ghost use Rattle.std.specs.Prelude.{◌≡◌, ℕ, ◌+◌, ◌*◌, ◌<◌, ◌≤◌, max, List, [], ◌∷◌, ◌++◌, length, slice_get, true, false, Some, IfOk, IfSome, IfNone, OnOk, Contains};
+ghost use Rattle.std.specs.Prelude.{◌≡◌, ℕ, ◌+◌, ◌*◌, ◌^◌, ◌<◌, ◌≤◌, max, map, List, [], ◌∷◌, ◌++◌, length, slice_get, true, false, Some, IfOk, IfSome, IfNone, OnOk, Contains};
 ghost use Rattle.circuit_theory.specs.Sizes.{IsOver};
 ghost use Rattle.flat_net.specs.declared.signals.Signal.{Signal};
 ghost use Rattle.flat_net.specs.View.{circuit_of};
-ghost use Rattle.latch_graph.specs.Weight.{weight_of, AreMet, Stay, Meeting, AreVisited, AreThere};
+ghost use Rattle.latch_graph.specs.Graph.{IsGraphOf};
+ghost use Rattle.latch_graph.specs.Settling.{step_of};
+ghost use Rattle.latch_graph.specs.Weight.{Weighs, weight_of, AreMet, Stay, Meeting, IsVisited, AreVisited, AreThere, AreReadsThere};
 
+use crate::nodes::Node;
 use flat_net::{Driver, Net, Signal};
 use indexmap::IndexSet;
 use sec_base::NoMemory;
+use std::alloc::Global;
 
 /// The weight of the unfoldings of some signals, if it is within a cap.
 #[derive(Clone, Copy, Debug, PartialEq, Eq)]
@@ -17,8 +21,70 @@ pub enum Weight {
     Over,
 }
 
+/// The weight of the unfoldings of these outputs, by the nodes of the net.
+pub(crate) fn weigh(alloc: Global, nodes: &[Node], net: &Net, outputs: &[Signal], cap: u32) -> Result<Weight, NoMemory>
+    requires graph { IsGraphOf net.now (record { nodes = nodes.now; latches = net.now.latches }) }
+    requires within { (k : ℕ) (r : Signal) → slice_get outputs.now k ≡ Some r → r.0 < length net.now.drivers }
+    ensures { IfOk result (Weighs (circuit_of net.now) (map (λ s. s.0) outputs.now) cap) }
+{
+    net.keeps();
+    let mut places = IndexSet::new(alloc);
+    let Some(first) = meet_all(net, &mut places, outputs, 0, 0, cap)? else {
+        return Ok(Weight::Over);
+    };
+    let mut total = first;
+    let mut at = 0;
+    while at < place_count(&places) {
+        let place = place_at(&places, at);
+        match meet_reads(nodes, net, &mut places, place, total, cap)? {
+            Some(sum) => total = sum,
+            None => return Ok(Weight::Over),
+        }
+        at += 1;
+    }
+    Ok(Weight::Within(total))
+}
+
+fn place_count(places: &IndexSet<(u32, u32)>) -> usize
+    ensures { result ≡ length places.now.keys }
+{
+    places.len()
+}
+
+fn place_at(places: &IndexSet<(u32, u32)>, at: usize) -> (u32, u32)
+    requires { at < length places.now.keys }
+    ensures { slice_get places.now.keys at ≡ Some result }
+{
+    places[at]
+}
+
+/// Adds what a place reads, a latch's in the cycle before.
+fn meet_reads(nodes: &[Node], net: &Net, places: &mut IndexSet<(u32, u32)>, place: (u32, u32), total: u32, cap: u32) -> Result<Option<u32>, NoMemory>
+    requires graph { IsGraphOf net.now (record { nodes = nodes.now; latches = net.now.latches }) }
+    requires within { place.0 < length net.now.drivers }
+    requires early { place.1 + 1 ≤ length places.old.keys }
+    requires few { length places.old.keys ≤ total }
+    requires low { total ≤ cap }
+    ensures met { IfOk result (λ sum. IfSome sum (λ sum. (outputs : List ℕ) → IsVisited net.now outputs place → AreMet net.now outputs places.old.keys total → AreMet net.now outputs places.new.keys sum)) }
+    ensures low { IfOk result (λ sum. IfSome sum (λ sum. sum ≤ cap)) }
+    ensures there { IfOk result (λ sum. IfSome sum (λ sum. AreReadsThere nodes.now place places.new.keys)) }
+    ensures stay { OnOk result (Stay places.old.keys places.new.keys) }
+    ensures over { IfOk result (λ sum. IfNone sum ((outputs : List ℕ) → IsVisited net.now outputs place → AreMet net.now outputs places.old.keys total → IsOver (circuit_of net.now) outputs cap)) }
+{
+    let node = &nodes[place.0 as usize];
+    let shift = back(node, place.1);
+    meet_all(net, places, node.reads.as_slice(), shift, total, cap)
+}
+
+fn back(node: &Node, shift: u32) -> u32
+    requires { shift + 1 < 2 ^ 32 }
+    ensures { result ≡ shift + step_of node.now.latch }
+{
+    if node.latch.is_some() { shift + 1 } else { shift }
+}
+
 /// Adds these signals, so many cycles ago. Gives the new sum of the weights; None exactly where it is above the cap.
-pub(crate) fn meet_all(net: &Net, places: &mut IndexSet<(u32, u32)>, reads: &[Signal], shift: u32, total: u32, cap: u32) -> Result<Option<u32>, NoMemory>
+fn meet_all(net: &Net, places: &mut IndexSet<(u32, u32)>, reads: &[Signal], shift: u32, total: u32, cap: u32) -> Result<Option<u32>, NoMemory>
     requires within { (k : ℕ) (r : Signal) → slice_get reads.now k ≡ Some r → r.0 < length net.now.drivers }
     requires early { shift ≤ length places.old.keys }
     requires low { total ≤ cap }
@@ -28,6 +94,7 @@ pub(crate) fn meet_all(net: &Net, places: &mut IndexSet<(u32, u32)>, reads: &[Si
     ensures stay { OnOk result (Stay places.old.keys places.new.keys) }
     ensures over { IfOk result (λ sum. IfNone sum ((outputs : List ℕ) → AreVisited net.now outputs reads.now shift → AreMet net.now outputs places.old.keys total → IsOver (circuit_of net.now) outputs cap)) }
 {
+    net.keeps();
     let mut sum = total;
     for signal in reads.iter() {
         match meet(net, places, (signal.0, shift), sum, cap)? {
