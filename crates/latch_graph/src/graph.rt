@@ -9,6 +9,7 @@ ghost use Rattle.latch_graph.specs.Settling.{IsSettled};
 ghost use Rattle.latch_graph.specs.Weight.{Weighs};
 
 use crate::nodes::{Node, copy_latches, nodes_of};
+use crate::rounds::{first_endless, first_states, round_behind};
 use crate::settling::{State, all_new, settled_from};
 use crate::weighing::{Weight, weigh};
 use flat_net::{LatchAt, Net, Signal, Signals};
@@ -63,6 +64,18 @@ impl LatchGraph {
         let _ = &self.nodes;
     }
 
+    fn nodes(&self) -> &[Node]
+        ensures { result.now ≡ self.now.nodes }
+    {
+        self.nodes.as_slice()
+    }
+
+    fn latches(&self) -> &[LatchAt]
+        ensures { result.now ≡ self.now.latches }
+    {
+        self.latches.as_slice()
+    }
+
     fn states(&self) -> &[State]
         ensures settled { IsSettled self.now.nodes result.now }
         ensures whole { (s : ℕ) → slice_get result.now s ≡ Some State.Removed → ⊥ }
@@ -91,7 +104,16 @@ impl LatchGraph {
         ensures cycle { IfOk result (λ found. IfSome found (λ ids. (n : NetView) → IsGraphOf n self.now → IsCycle (circuit_of n) NoneEnabled (marked_names self.now.latches removed.now) (signals_at self.now.latches ids))) }
         ensures least { IfOk result (λ found. IfSome found (λ ids. (n : NetView) → IsGraphOf n self.now → BeginsWithLeast (circuit_of n) (signals_at self.now.latches ids))) }
     {
-        Err(NoMemory)
+        self.keeps();
+        let states = first_states(alloc, self.nodes(), self.latches(), removed.as_slice())?;
+        let states = settled_from(alloc, self.nodes(), states)?;
+        match first_endless(states.as_slice()) {
+            Some(signal) => {
+                let round = round_behind(alloc, self.nodes(), self.latches(), states.as_slice(), signal)?;
+                Ok(Some(round))
+            }
+            None => Ok(None),
+        }
     }
 
     /// The weight of the unfoldings of these signals: the sum over the distinct pairs of a signal and a number of
@@ -102,6 +124,6 @@ impl LatchGraph {
         requires within { All (λ s. s.0 < length net.now.drivers) outputs.now }
         ensures { IfOk result (Weighs (circuit_of net.now) (map (λ s. s.0) outputs.now) cap) }
     {
-        weigh(alloc, self.nodes.as_slice(), net, outputs.as_slice(), cap)
+        weigh(alloc, self.nodes(), net, outputs.as_slice(), cap)
     }
 }

@@ -223,6 +223,13 @@ impl State {
         }
     }
 
+    pub(crate) fn is_endless(self) -> bool
+        ensures yes { result ≡ true → self ≡ State.Endless }
+        ensures not { result ≡ false → self ≡ State.Endless → ⊥ }
+    {
+        matches!(self, State::Endless)
+    }
+
     fn has_depth(self) -> bool
         ensures { result ≡ is_some (depth_of self) }
     {

@@ -73,7 +73,8 @@ fn meet_reads(nodes: &[Node], net: &Net, places: &mut IndexSet<(u32, u32)>, plac
 {
     let node = &nodes[place.0 as usize];
     let shift = back(node, place.1);
-    meet_all(net, places, node.reads.as_slice(), shift, total, cap)
+    let sum = meet_all(net, places, node.reads.as_slice(), shift, total, cap)?;
+    Ok(sum)
 }
 
 fn back(node: &Node, shift: u32) -> u32
