@@ -46,7 +46,7 @@ only_at {X} xs y k x e h = go k (subst (λ (z : List X). slice_get z k ≡ Some 
     go zero q = cc
     go (suc k) q = absurd (nothing_at [] k x refl q)
 
-none_some : (j : ℕ) → ◌≡◌ {A = Option ℕ} None (Some j) → ⊥
+pub none_some : (j : ℕ) → ◌≡◌ {A = Option ℕ} None (Some j) → ⊥
 none_some j e = cc
 
 some_one : (i j : ℕ) → ◌≡◌ {A = Option ℕ} (Some i) (Some j) → i ≡ j

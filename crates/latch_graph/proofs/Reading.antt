@@ -9,10 +9,10 @@ use Rattle.flat_net.specs.View.{NetView, circuit_of, cover_of}
 use Rattle.flat_net.proofs.Nets.{sound_is_net}
 use Rattle.circuit_theory.specs.Circuit.{Circuit, Equation, Gate as gate_equation, Latch as latch_equation, Port as port_equation, IsLatch, Reads}
 use Rattle.circuit_theory.specs.Net.{IsNet, IsAbove}
-use Rattle.circuit_theory.proofs.Lists.{Contains-map_from, at_of}
+use Rattle.circuit_theory.proofs.Lists.{Contains-map, Contains-map_from, at_of, of_at}
 use Rattle.latch_graph.specs.declared.nodes.Node.{Node}
 use Rattle.latch_graph.specs.Graph.{GraphView, IsGraphOf}
-use Rattle.latch_graph.proofs.Depths.{Driven, driven}
+use Rattle.latch_graph.proofs.Depths.{Driven, driven, nothing_at, none_some}
 
 abbrev fanins_of : Equation ℕ → List ℕ
 fanins_of (gate_equation out fanins cover) = fanins
@@ -67,3 +67,12 @@ module _ (n : NetView) (g : GraphView) (of : IsGraphOf n g) where
       go (Driven.latch j l place out is reads lone inner) =
           let same : latch_equation l.name q l.next.0 ≡ latch_equation name q next = net.single.one (latch_equation l.name q l.next.0) (latch_equation name q next) is e refl in
           record { position = j; latch = l; named = lone; here = place; name_is = cc; out_is = out; next_is = cc; reads = reads }
+
+  -- what a node that isn't a latch's reads, its signal reads
+  pub node_reads : (s : ℕ) (node : Node) → slice_get g.nodes s ≡ Some node → node.latch ≡ None → (k : ℕ) (r : Signal) → slice_get node.reads k ≡ Some r → Reads (circuit_of n) s r.0
+  node_reads s node at plain k r h = go (driven n g of s node at)
+    where
+      go : Driven n s node → Reads (circuit_of n) s r.0
+      go (Driven.input is reads lone) = absurd (nothing_at node.reads k r reads h)
+      go (Driven.gate gt stands reads lone below) = Reads.by_gate stands (Contains-map (λ (f : Signal). f.0) gt.fanins r (of_at gt.fanins k r (subst (λ (z : List Signal). slice_get z k ≡ Some r) reads h)))
+      go (Driven.latch j l place out is reads lone inner) = absurd (none_some j (sym plain ∙ lone))

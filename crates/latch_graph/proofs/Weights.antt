@@ -24,7 +24,7 @@ use Rattle.circuit_theory.proofs.Sums.{same_or_not}
 use Rattle.latch_graph.specs.declared.nodes.Node.{Node}
 use Rattle.latch_graph.specs.Graph.{GraphView, IsGraphOf}
 use Rattle.latch_graph.specs.Settling.{step_of}
-use Rattle.latch_graph.specs.Weight.{gate_weight, driver_weight, weight_of, AreMet, Stay, IsMet, Meeting, AreThere}
+use Rattle.latch_graph.specs.Weight.{gate_weight, driver_weight, weight_of, AreMet, Stay, IsMet, Meeting, AreThere, IsVisited, AreVisited, AreReadsThere}
 use Rattle.latch_graph.proofs.Depths.{Driven, driven, only_at}
 use Rattle.latch_graph.proofs.Reading.{reads_node, latch_node}
 
@@ -252,3 +252,50 @@ child_visits n g of o s shift visits node at k r h = go (driven n g of s node at
         let same : suc shift ≡ shift + step_of node.latch = omega (arith, one) in
         let next : l.next ≡ r = only_at node.reads l.next k r reads h in
         subst (λ z. Visits (circuit_of n) o 0 r.0 z) same (subst (λ (z : Signal). Visits (circuit_of n) o 0 z.0 (suc shift)) next (Visits.back visits is))
+
+-- what an option tells
+pub some_weaker : {X : Type 0} (P Q : X → Type 0) (o : Option X) → ((x : X) → P x → Q x) → IfSome o P → IfSome o Q
+some_weaker P Q None f h = tt
+some_weaker P Q (Some x) f h = f x h
+
+pub none_weaker : {X : Type 0} (P Q : Type 0) (o : Option X) → (P → Q) → IfNone o P → IfNone o Q
+none_weaker P Q None f h = f h
+none_weaker P Q (Some x) f h = tt
+
+pub at_some : {X : Type 0} (P : X → Type 0) (o : Option X) (x : X) → o ≡ Some x → IfSome o P → P x
+at_some P o x e h = subst (λ z. IfSome z P) e h
+
+pub at_none : {X : Type 0} (P : Type 0) (o : Option X) → o ≡ None → IfNone o P → P
+at_none P o e h = subst (λ z. IfNone z P) e h
+
+pub not_some : {X : Type 0} (P : Type 0) (o : Option X) → ((x : X) → o ≡ Some x → ⊥) → IfNone o P → P
+not_some P None never h = h
+not_some P (Some x) never h = absurd (never x refl)
+
+-- what a visited place reads is visited, and there where its reads are
+pub reads_visited : (n : NetView) (g : GraphView) → IsGraphOf n g → (outputs : List ℕ) (p : ℕ × ℕ) (node : Node) (reads : List Signal) (shift : ℕ) → slice_get g.nodes p.0 ≡ Some node → reads ≡ node.reads →
+    shift ≡ p.1 + step_of node.latch → IsVisited n outputs p → AreVisited n outputs reads shift
+reads_visited n g of outputs p node reads shift at is back v k r h =
+    (v.0, v.1, subst (λ z. Visits (circuit_of n) v.0 0 r.0 z) (sym back) (child_visits n g of v.0 p.0 p.1 v.2 node at k r (subst (λ (z : List Signal). slice_get z k ≡ Some r) is h)))
+
+pub reads_there : (nodes : List Node) (p : ℕ × ℕ) (node : Node) (reads : List Signal) (shift : ℕ) (places : List (ℕ × ℕ)) → slice_get nodes p.0 ≡ Some node → reads ≡ node.reads →
+    shift ≡ p.1 + step_of node.latch → AreThere reads (length reads) shift places → AreReadsThere nodes p places
+reads_there nodes p node reads shift places at is back there node' k r at' h =
+    let same : node ≡ node' = one_at nodes p.0 node node' at at' in
+    let here : slice_get reads k ≡ Some r = subst (λ (z : List Signal). slice_get z k ≡ Some r) (ap (λ (z : Node). z.reads) (sym same) ∙ sym is) h in
+    subst (λ (z : Node). Contains places (r.0, p.1 + step_of z.latch)) same
+    (subst (λ z. Contains places (r.0, z)) back (there k r (slice_get_within reads k r here) here))
+
+-- the reads of more places are there
+pub reads_stay : (nodes : List Node) (p : ℕ × ℕ) (old new : List (ℕ × ℕ)) → Stay old new → AreReadsThere nodes p old → AreReadsThere nodes p new
+reads_stay nodes p old new stay there node k r at h = stay_there old new (r.0, p.1 + step_of node.latch) stay (there node k r at h)
+
+-- the outputs visit themselves
+pub outputs_visited : (n : NetView) (outputs : List Signal) → AreVisited n (map (λ s. s.0) outputs) outputs 0
+outputs_visited n outputs k r h = (r.0, Contains-map (λ (s : Signal). s.0) outputs r (of_at outputs k r h), Visits.itself)
+
+pub outputs_there : (outputs : List Signal) (places : List (ℕ × ℕ)) → AreThere outputs (length outputs) 0 places → (o : ℕ) → Contains (map (λ (s : Signal). s.0) outputs) o → Contains places (o, 0)
+outputs_there outputs places there o h =
+    let found = Contains-map_from (λ (s : Signal). s.0) outputs o h in
+    let at = at_of outputs found.0 found.1 in
+    subst (λ z. Contains places (z, 0)) found.2 (there at.0 found.0 (slice_get_within outputs at.0 found.0 at.1) at.1)

@@ -9,7 +9,7 @@ ghost use Rattle.latch_graph.specs.Settling.{IsSettled};
 ghost use Rattle.latch_graph.specs.Weight.{Weighs};
 
 use crate::nodes::{Node, copy_latches, nodes_of};
-use crate::rounds::{first_endless, first_states, round_behind};
+use crate::rounds::find_cycle;
 use crate::settling::{State, all_new, settled_from};
 use crate::weighing::{Weight, weigh};
 use flat_net::{LatchAt, Net, Signal, Signals};
@@ -105,15 +105,8 @@ impl LatchGraph {
         ensures least { IfOk result (λ found. IfSome found (λ ids. (n : NetView) → IsGraphOf n self.now → BeginsWithLeast (circuit_of n) (signals_at self.now.latches ids))) }
     {
         self.keeps();
-        let states = first_states(alloc, self.nodes(), self.latches(), removed.as_slice())?;
-        let states = settled_from(alloc, self.nodes(), states)?;
-        match first_endless(states.as_slice()) {
-            Some(signal) => {
-                let round = round_behind(alloc, self.nodes(), self.latches(), states.as_slice(), signal)?;
-                Ok(Some(round))
-            }
-            None => Ok(None),
-        }
+        let found = find_cycle(alloc, self.nodes(), self.latches(), removed.as_slice())?;
+        Ok(found)
     }
 
     /// The weight of the unfoldings of these signals: the sum over the distinct pairs of a signal and a number of

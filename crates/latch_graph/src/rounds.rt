@@ -1,42 +1,81 @@
 //! Rounds of latches that wait for each other.
 
-ghost use Rattle.std.specs.Prelude.{◌≡◌, ℕ, ◌+◌, ◌-◌, ◌^◌, ◌<◌, ◌≤◌, ◌⊎◌, Bool, true, false, List, length, slice_get, Some, None, IfOk, IfSome, IfNone};
+ghost use Rattle.std.specs.Prelude.{◌≡◌, ℕ, ◌+◌, ◌-◌, ◌^◌, ◌<◌, ◌≤◌, ◌⊎◌, Bool, true, false, List, length, drop, slice_get, slice_set, Some, None, All, IfOk, IfSome, IfNone, if◌then◌else◌};
 ghost use Rattle.circuit_theory.specs.Names.{ListBefore};
-ghost use Rattle.circuit_theory.specs.Circuit.{Reads, Reaches};
+ghost use Rattle.circuit_theory.specs.Circuit.{Reaches};
+ghost use Rattle.circuit_theory.specs.Run.{NoneEnabled};
+ghost use Rattle.circuit_theory.specs.Depth.{HasCycle, IsCycle, BeginsWithLeast};
 ghost use Rattle.flat_net.specs.declared.signals.Signal.{Signal};
 ghost use Rattle.flat_net.specs.declared.parts.LatchAt.{LatchAt};
 ghost use Rattle.flat_net.specs.View.{NetView, circuit_of};
 ghost use Rattle.latch_graph.specs.declared.nodes.Node.{Node};
 ghost use Rattle.latch_graph.specs.declared.settling.State.{State};
-ghost use Rattle.latch_graph.specs.Graph.{AreNodes, IsGraphOf};
-ghost use Rattle.latch_graph.specs.Settling.{IsSettled, SameRemoved};
+ghost use Rattle.latch_graph.specs.Graph.{AreNodes, IsGraphOf, marked_names, signals_at};
+ghost use Rattle.latch_graph.specs.Settling.{IsSettled};
 ghost use Rattle.latch_graph.specs.Rounds.{latch_in, IsEndless, TakesOver, IsTrail, IsRound, IsLeast, IsTurned, IsTurnedRound, StandsBack, AreRemoved};
 
 use crate::nodes::Node;
-use crate::settling::{State, all_new};
+use crate::settling::{State, all_new, settled_from};
 use flat_net::LatchAt;
 use sec_base::{Ids, NoMemory, Seq};
 use std::alloc::Global;
-use std::cmp::Ordering;
+
+/// A cycle without the removed latches, if one is left: each latch is read by the next, the last by the first, and the
+/// first has the least name.
+pub(crate) fn find_cycle(alloc: Global, nodes: &[Node], latches: &[LatchAt], removed: &[bool]) -> Result<Option<Ids>, NoMemory>
+    requires nodes { AreNodes nodes.now latches.now }
+    requires bits { length removed.now ≡ length latches.now }
+    ensures none { IfOk result (λ found. IfNone found ((n : NetView) → IsGraphOf n (record { nodes = nodes.now; latches = latches.now }) → HasCycle (circuit_of n) NoneEnabled (marked_names latches.now removed.now) → ⊥)) }
+    ensures within { IfOk result (λ found. IfSome found (All (λ j. j < length latches.now))) }
+    ensures cycle { IfOk result (λ found. IfSome found (λ ids. (n : NetView) → IsGraphOf n (record { nodes = nodes.now; latches = latches.now }) → IsCycle (circuit_of n) NoneEnabled (marked_names latches.now removed.now) (signals_at latches.now ids))) }
+    ensures least { IfOk result (λ found. IfSome found (λ ids. (n : NetView) → IsGraphOf n (record { nodes = nodes.now; latches = latches.now }) → BeginsWithLeast (circuit_of n) (signals_at latches.now ids))) }
+{
+    let first = first_states(alloc, nodes, latches, removed)?;
+    let states = settled_from(alloc, nodes, first)?;
+    match first_endless(states.as_slice()) {
+        Some(signal) => {
+            let round = round_behind(alloc, nodes, latches, states.as_slice(), signal)?;
+            Ok(Some(round))
+        }
+        None => Ok(None),
+    }
+}
 
 /// The first states: the latches with a set bit are removed.
-pub(crate) fn first_states(alloc: Global, nodes: &[Node], latches: &[LatchAt], removed: &[bool]) -> Result<Vec<State>, NoMemory>
+fn first_states(alloc: Global, nodes: &[Node], latches: &[LatchAt], removed: &[bool]) -> Result<Vec<State>, NoMemory>
     requires nodes { AreNodes nodes.now latches.now }
     requires bits { length removed.now ≡ length latches.now }
     ensures size { IfOk result (λ states. length states.items ≡ length nodes.now) }
     ensures removed { IfOk result (λ states. AreRemoved latches.now removed.now (length latches.now) states.items) }
 {
     let mut states = all_new(alloc, nodes.len())?;
-    for j in 0..latches.len() {
-        if removed[j] {
-            states[latches[j].out.0 as usize] = State::Removed;
-        }
-    }
+    remove_marked(nodes, latches, removed, states.as_mut_slice());
     Ok(states)
 }
 
+fn remove_marked(nodes: &[Node], latches: &[LatchAt], removed: &[bool], states: &mut [State])
+    requires nodes { AreNodes nodes.now latches.now }
+    requires bits { length removed.now ≡ length latches.now }
+    requires size { length states.old ≡ length nodes.now }
+    requires new { (s : ℕ) (st : State) → slice_get states.old s ≡ Some st → st ≡ State.New }
+    ensures { AreRemoved latches.now removed.now (length latches.now) states.new }
+{
+    for j in 0..latches.len() {
+        remove_if(removed[j], states, latches[j].out.0);
+    }
+}
+
+fn remove_if(bit: bool, states: &mut [State], signal: u32)
+    requires { signal < length states.old }
+    ensures { states.new ≡ (if bit then slice_set states.old signal State.Removed else states.old) }
+{
+    if bit {
+        states[signal as usize] = State::Removed;
+    }
+}
+
 /// A signal that leads back to a cycle, if there is one.
-pub(crate) fn first_endless(states: &[State]) -> Option<u32>
+fn first_endless(states: &[State]) -> Option<u32>
     requires { length states.now < 2 ^ 32 }
     ensures some { IfSome result (λ s. slice_get states.now s ≡ Some State.Endless) }
     ensures none { IfNone result ((s : ℕ) → slice_get states.now s ≡ Some State.Endless → ⊥) }
@@ -51,7 +90,7 @@ pub(crate) fn first_endless(states: &[State]) -> Option<u32>
 
 /// A round of latches behind a signal that leads back to a cycle: each is read by the next, the last by the first, and
 /// the first has the least name.
-pub(crate) fn round_behind(alloc: Global, nodes: &[Node], latches: &[LatchAt], states: &[State], signal: u32) -> Result<Ids, NoMemory>
+fn round_behind(alloc: Global, nodes: &[Node], latches: &[LatchAt], states: &[State], signal: u32) -> Result<Ids, NoMemory>
     requires nodes { AreNodes nodes.now latches.now }
     requires settled { IsSettled nodes.now states.now }
     requires endless { slice_get states.now signal ≡ Some State.Endless }
@@ -59,7 +98,8 @@ pub(crate) fn round_behind(alloc: Global, nodes: &[Node], latches: &[LatchAt], s
 {
     let start = latch_behind(nodes, latches, states, signal);
     let round = round_from(alloc, nodes, latches, states, start)?;
-    turned(alloc, latches, round.as_slice())
+    let ids = turned(alloc, latches, round.as_slice())?;
+    Ok(ids)
 }
 
 /// The first latch on the way back from a signal that leads back to a cycle, along signals that do.
@@ -71,7 +111,7 @@ fn latch_behind(nodes: &[Node], latches: &[LatchAt], states: &[State], signal: u
     ensures reached { (n : NetView) → IsGraphOf n (record { nodes = nodes.now; latches = latches.now }) → Reaches (circuit_of n) signal (latch_in latches.now result).out.0 }
 {
     let mut at = signal;
-    loop {
+    'back: loop {
         let node = &nodes[at as usize];
         match node.latch {
             Some(latch) => return latch,
@@ -88,13 +128,11 @@ fn endless_read(node: &Node, states: &[State]) -> u32
     ensures endless { slice_get states.now result ≡ Some State.Endless }
 {
     let reads = node.reads.as_slice();
-    let mut k = 0;
-    while k < reads.len() {
+    for k in 0..reads.len() {
         let read = reads[k].0;
         if states[read as usize].is_endless() {
             return read;
         }
-        k += 1;
     }
     0
 }
@@ -109,18 +147,26 @@ fn round_from(alloc: Global, nodes: &[Node], latches: &[LatchAt], states: &[Stat
     let mut trail = Vec::new(alloc);
     let mut passed = none_passed(alloc, latches.len())?;
     let mut at = start;
-    while !passed[at as usize] {
+    'walk: while !passed[at as usize] {
         passed[at as usize] = true;
         trail.push(at)?;
         at = next_latch(nodes, latches, states, at);
     }
     let from = place_of(trail.as_slice(), at);
-    Ok(Vec::from_slice(alloc, &trail[from..])?)
+    let round = tail_from(alloc, trail.as_slice(), from)?;
+    Ok(round)
+}
+
+fn tail_from(alloc: Global, numbers: &[u32], from: usize) -> Result<Vec<u32>, NoMemory>
+    requires { from ≤ length numbers.now }
+    ensures { IfOk result (λ made. made.items ≡ drop from numbers.now) }
+{
+    Ok(Vec::from_slice(alloc, &numbers[from..])?)
 }
 
 fn none_passed(alloc: Global, count: usize) -> Result<Vec<bool>, NoMemory>
     ensures size { IfOk result (λ passed. length passed.items ≡ count) }
-    ensures none { IfOk result (λ passed. (j : ℕ) → slice_get passed.items j ≡ Some true → ⊥) }
+    ensures none { IfOk result (λ passed. (j : ℕ) (bit : Bool) → slice_get passed.items j ≡ Some bit → bit ≡ false) }
 {
     let mut passed = Vec::new(alloc);
     for _i in 0..count {
@@ -146,14 +192,12 @@ fn place_of(numbers: &[u32], number: u32) -> usize
     requires { (i : ℕ) × (slice_get numbers.now i ≡ Some number) }
     ensures { slice_get numbers.now result ≡ Some number }
 {
-    let mut at = 0;
-    while at < numbers.len() {
+    for at in 0..numbers.len() {
         if numbers[at] == number {
             return at;
         }
-        at += 1;
     }
-    at
+    numbers.len()
 }
 
 /// The round the other way, from the latch with the least name on.
@@ -213,5 +257,5 @@ fn is_before(left: &[u8], right: &[u8]) -> bool
     ensures yes { result ≡ true → ListBefore left.now right.now }
     ensures no { result ≡ false → ListBefore left.now right.now → ⊥ }
 {
-    left.cmp(&right) == Ordering::Less
+    left.cmp(&right).is_lt()
 }
