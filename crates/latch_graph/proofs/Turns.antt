@@ -43,6 +43,11 @@ place_back : (round : List ℕ) (first i x : ℕ) → StandsBack round first i x
 place_back round first i x (inl h) = (first - i, inl (h.0, refl), h.1)
 place_back round first i x (inr h) = (length round + first - i, inr (h.0, refl), h.1)
 
+-- the latches of a turned round are in range
+pub turned_within : (nodes : List Node) (latches : List LatchAt) (states : List State) (turned : List ℕ) → IsTurnedRound nodes latches states turned → (i x : ℕ) → slice_get turned i ≡ Some x → x < length latches
+turned_within nodes latches states turned round i x h =
+    let p = place_back round.round round.turn.first i x (round.turn.back i x h) in (round.closed.endless p.0 x p.2).within
+
 -- one place back is behind the next
 back_after : (n first i p q : ℕ) → first < n → i < n → IsBack n first i p → IsBack n first (after_in_round n i) q → after_in_round n q ≡ p
 back_after n first i p q l m p_is q_is = go (same_or_not (i + 1) n)

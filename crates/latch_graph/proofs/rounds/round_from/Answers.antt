@@ -1,9 +1,9 @@
-use Rattle.std.proofs.Common.{◌≡◌, ◌<◌, ◌+◌, ℕ, List, [], ◌∷◌, ◌++◌, Bool, true, false, length, slice_get, Some, subst, sym, ap, ◌∙◌, refl, arith}
+use Rattle.std.proofs.Common.{◌≡◌, ◌<◌, ◌+◌, ℕ, List, [], ◌∷◌, ◌++◌, Bool, true, false, length, drop, slice_get, Some, subst, sym, ap, ◌∙◌, refl, arith}
 use Rattle.std.proofs.Math.ListN.{set}
 use Rattle.std.proofs.lemmas.Option.{slice_get_within, slice_get_read}
 use Rattle.flat_net.proofs.Growth.{length-push}
-use Rattle.latch_graph.specs.Rounds.{IsTrail}
-use Rattle.latch_graph.proofs.Trails.{trail_more, trail_short}
+use Rattle.latch_graph.specs.Rounds.{IsTrail, IsRound}
+use Rattle.latch_graph.proofs.Trails.{trail_more, trail_short, round_closes}
 use Rattle.latch_graph.proofs.rounds.round_from.Goals as goal
 
 pub walk-preserved : goal.walk-preserved
@@ -29,3 +29,9 @@ place_of-from-requires c =
     let read = slice_get_read c.walk.passed.items (length c.walk.passed.items) c.walk.at c.index.result.now refl l c.index.ensures in
     let there = c.walk.invariant.off c.walk.at (read ∙ ap Some c.walk-test.false) in
     (there.0, subst (λ (z : List ℕ). slice_get z there.0 ≡ Some c.walk.at) (sym c.as_slice.ensures.value) there.1)
+
+pub returns : goal.returns
+returns c =
+    let here = subst (λ (z : List ℕ). slice_get z c.place_of-from.result ≡ Some c.walk.at) c.as_slice.ensures.value c.place_of-from.ensures in
+    subst (λ z. IsRound c.args.nodes.now c.args.latches.now c.args.states.now z) (sym (c.in_ok-round.ensures ∙ ap (λ (z : List ℕ). drop c.place_of-from.result z) c.as_slice-2.ensures.value))
+    (round_closes c.args.nodes.now c.args.latches.now c.args.states.now c.walk.passed.items c.walk.trail.items c.walk.at c.place_of-from.result c.walk.invariant here)
