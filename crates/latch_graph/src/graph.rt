@@ -1,0 +1,78 @@
+//! The latch graph.
+
+ghost use Rattle.std.specs.Prelude.{◌≡◌, ◌<◌, ◌≤◌, length, map, false, All, IfOk, IfSome, IfNone};
+ghost use Rattle.circuit_theory.specs.Run.{NoneEnabled};
+ghost use Rattle.circuit_theory.specs.Depth.{IsDepth, HasNoDepth, HasCycle, IsCycle, BeginsWithLeast};
+ghost use Rattle.flat_net.specs.View.{NetView, circuit_of};
+ghost use Rattle.latch_graph.specs.Graph.{GraphView, IsGraphOf, marked_names, signals_at};
+ghost use Rattle.latch_graph.specs.Weight.{Weighs};
+
+use crate::nodes::Node;
+use crate::weighing::Weight;
+use flat_net::{LatchAt, Net, Signal, Signals};
+use sec_base::{Bits, Ids, NoMemory};
+use std::alloc::Global;
+use std::marker::Model;
+
+/// The latch graph of a net: it has an edge from a latch to each latch whose next value depends on it through gates.
+/// The edges aren't written out; they are ways through the signals. A contract sees what each signal reads, and the
+/// latches.
+#[derive(Debug, Drop)]
+pub struct LatchGraph {
+    nodes: Vec<Node>,
+    latches: Vec<LatchAt>,
+    depths: Vec<Option<u32>>,
+}
+
+impl Model for LatchGraph {
+    ghost use Rattle.latch_graph.specs.Graph.{GraphView};
+
+    ghost Value = { GraphView };
+
+    ghost view = { λ g. record { nodes = g.nodes.items; latches = g.latches.items } };
+}
+
+impl LatchGraph {
+    /// The graph of the net. There is one bit for each latch, and none is set.
+    pub fn new(alloc: Global, net: &Net, skip_self: &Bits) -> Result<LatchGraph, NoMemory>
+        requires length { length skip_self.now ≡ length net.now.latches }
+        requires plain { All (λ bit. bit ≡ false) skip_self.now }
+        ensures { IfOk result (IsGraphOf net.now) }
+    {
+        Err(NoMemory)
+    }
+
+    /// The sequential depth of the signal: the greatest number of latches on a way back. None exactly where the cone
+    /// leads back to a cycle of latches, so that there is no greatest number. It takes no memory.
+    pub fn depth(&self, s: Signal) -> Option<u32>
+        requires { s.0 < length self.now.nodes }
+        ensures depth { IfSome result (λ d. (n : NetView) → IsGraphOf n self.now → IsDepth (circuit_of n) NoneEnabled s.0 d) }
+        ensures none { IfNone result ((n : NetView) → IsGraphOf n self.now → HasNoDepth (circuit_of n) NoneEnabled s.0) }
+    {
+        None
+    }
+
+    /// A cycle of the graph without the removed latches, as latch positions: each latch is read by the next, the last
+    /// by the first, and no latch of the cycle has a name before the first one's in byte order. None exactly where no
+    /// cycle is left. There is one bit for each latch.
+    pub fn cycle(&self, alloc: Global, removed: &Bits) -> Result<Option<Ids>, NoMemory>
+        requires { length removed.now ≡ length self.now.latches }
+        ensures none { IfOk result (λ found. IfNone found ((n : NetView) → IsGraphOf n self.now → HasCycle (circuit_of n) NoneEnabled (marked_names self.now.latches removed.now) → ⊥)) }
+        ensures within { IfOk result (λ found. IfSome found (All (λ j. j < length self.now.latches))) }
+        ensures cycle { IfOk result (λ found. IfSome found (λ ids. (n : NetView) → IsGraphOf n self.now → IsCycle (circuit_of n) NoneEnabled (marked_names self.now.latches removed.now) (signals_at self.now.latches ids))) }
+        ensures least { IfOk result (λ found. IfSome found (λ ids. (n : NetView) → IsGraphOf n self.now → BeginsWithLeast (circuit_of n) (signals_at self.now.latches ids))) }
+    {
+        Err(NoMemory)
+    }
+
+    /// The weight of the unfoldings of these signals: the sum over the distinct pairs of a signal and a number of
+    /// cycles that they visit, where an input or a latch counts 1 and a gate 1 + rows * (fan-ins + 1), a cover without
+    /// rows as one row. `Over` comes exactly where it is above the cap.
+    pub fn weight(&self, alloc: Global, net: &Net, outputs: &Signals, cap: u32) -> Result<Weight, NoMemory>
+        requires graph { IsGraphOf net.now self.now }
+        requires within { All (λ s. s.0 < length net.now.drivers) outputs.now }
+        ensures { IfOk result (Weighs (circuit_of net.now) (map (λ s. s.0) outputs.now) cap) }
+    {
+        Err(NoMemory)
+    }
+}

@@ -1,0 +1,10 @@
+//! The latch graph of a flat circuit: sequential depth, cycles, and the weight of its unfolding.
+#![tactic(auto)]
+
+mod graph;
+mod nodes;
+mod weighing;
+
+pub use graph::LatchGraph;
+pub use nodes::Node;
+pub use weighing::Weight;
