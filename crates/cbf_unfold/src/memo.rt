@@ -1,0 +1,61 @@
+//! The places that were met, with their literals.
+
+ghost use Rattle.std.specs.Prelude.{◌≡◌, ◌≢◌, ℕ, List, [], ◌∷◌, ◌++◌, IfSome, IfNone, OnOk, Contains, map};
+ghost use Rattle.std.specs.List.{AllPairs};
+
+use crate::reaching::Place;
+use aig::Lit;
+use indexmap::IndexMap;
+use sec_base::NoMemory;
+use std::alloc::Global;
+use std::marker::Model;
+
+/// Places with their literals, each place once, in the order in which they were put. A contract sees the list.
+#[derive(Drop)]
+pub(crate) struct Memo {
+    lits: IndexMap<Place, Lit>,
+}
+
+impl Model for Memo {
+    ghost use Rattle.std.specs.Prelude.{List, ℕ};
+    ghost use Rattle.aig.specs.declared.node.Lit.{Lit};
+
+    ghost Value = { List ((ℕ × ℕ) × Lit) };
+
+    ghost view = { λ m. m.lits.entries };
+}
+
+impl Memo {
+    /// Without places. It takes no memory.
+    pub(crate) fn new(alloc: Global) -> Memo
+        ensures { result ≡ [] }
+    {
+        Memo {
+            lits: IndexMap::new(alloc),
+        }
+    }
+
+    /// Tells a proof that no place stands twice. It does nothing.
+    pub(crate) fn keeps(&self)
+        ensures { AllPairs (λ p q. p ≢ q) (map (λ e. e.0) self.now) }
+    {
+        let _ = self.lits.len();
+    }
+
+    /// The literal of the place; None exactly where the place wasn't met.
+    pub(crate) fn get(&self, place: Place) -> Option<Lit>
+        ensures here { IfSome result (λ x. Contains self.now (place, x)) }
+        ensures absent { IfNone result (Contains (map (λ e. e.0) self.now) place → ⊥) }
+    {
+        self.lits.get(&place).copied()
+    }
+
+    /// Puts a place that wasn't met last.
+    pub(crate) fn put(&mut self, place: Place, lit: Lit) -> Result<(), NoMemory>
+        requires { Contains (map (λ e. e.0) self.old) place → ⊥ }
+        ensures { OnOk result (self.new ≡ self.old ++ (place, lit) ∷ []) }
+    {
+        self.lits.insert(place, lit)?;
+        Ok(())
+    }
+}
