@@ -2,3 +2,7 @@ pub mod Lists
 pub mod Table
 pub mod Drivers
 pub mod Weighing
+pub mod ReadPlaces
+pub mod Over
+pub mod Order
+pub mod Walk

@@ -75,3 +75,12 @@ pairs_at R (z ∷ xs) (suc i) (suc j) x y h l hi hj = pairs_at R xs i j x y (All
 pub sum_by-map : {X Y : Type 0} (w : Y → ℕ) (f : X → Y) (xs : List X) → sum_by w (map f xs) ≡ sum_by (λ x. w (f x)) xs
 sum_by-map w f [] = refl
 sum_by-map w f (x ∷ xs) = sum_by-cons w (f x) (map f xs) ∙ ap (λ n. w (f x) + n) (sum_by-map w f xs) ∙ sym (sum_by-cons (λ x. w (f x)) x xs)
+
+-- the first element of a list that had none
+pub only_one : {X : Type 0} (P : X → Type 0) (xs ys : List X) (x : X) → xs ≡ [] → Adds P xs ys → Contains ys x → length ys ≤ length xs + 1 → ys ≡ x ∷ []
+only_one {X} P xs ys x none adds here few = go ys here (omega (arith, few, ap length none))
+  where
+    go : (zs : List X) → Contains zs x → length zs ≤ 1 → zs ≡ x ∷ []
+    go [] h l = absurd (omega (arith, h.1))
+    go (z ∷ []) h l = elim (Contains-cases z x [] h) [ inl e ↦ ap (λ y. y ∷ []) e | inr k ↦ absurd (omega (arith, k.1)) ]
+    go (z ∷ y ∷ zs) h l = absurd (omega arith)

@@ -16,6 +16,7 @@ pub enum UnfoldError {
 }
 
 impl From<NoMemory> for UnfoldError {
+    ghost use Rattle.std.specs.Prelude.{◌≡◌};
     ghost use Rattle.cbf_unfold.specs.declared.error.UnfoldError.TheVariants as unfold_error;
 
     ghost from_gives = { λ _ e. e ≡ unfold_error.NoMemory };
@@ -26,6 +27,7 @@ impl From<NoMemory> for UnfoldError {
 }
 
 impl From<AllocError> for UnfoldError {
+    ghost use Rattle.std.specs.Prelude.{◌≡◌};
     ghost use Rattle.cbf_unfold.specs.declared.error.UnfoldError.TheVariants as unfold_error;
 
     ghost from_gives = { λ _ e. e ≡ unfold_error.NoMemory };
@@ -36,6 +38,7 @@ impl From<AllocError> for UnfoldError {
 }
 
 impl<T: Drop> From<AllocFailed<T>> for UnfoldError {
+    ghost use Rattle.std.specs.Prelude.{◌≡◌};
     ghost use Rattle.cbf_unfold.specs.declared.error.UnfoldError.TheVariants as unfold_error;
 
     ghost from_gives = { λ _ e. e ≡ unfold_error.NoMemory };
