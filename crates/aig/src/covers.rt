@@ -1,8 +1,8 @@
 //! Covers on the graph.
 
-ghost use Rattle.std.specs.Prelude.{◌≡◌, ℕ, ◌+◌, ◌*◌, ◌^◌, ◌<◌, ◌≤◌, Bool, map, length, All, IfOk, option_map};
+ghost use Rattle.std.specs.Prelude.{◌≡◌, ℕ, ◌+◌, ◌*◌, ◌^◌, ◌<◌, ◌≤◌, Bool, map, length, All, IfOk, option_map, if◌then◌else◌};
 ghost use Rattle.circuit_theory.specs.Cover.{cover_value};
-ghost use Rattle.aig.specs.Graph.{Grows, vars_of};
+ghost use Rattle.aig.specs.Graph.{Grows, flip, vars_of};
 ghost use Rattle.aig.specs.Values.{value, KeepsValues};
 ghost use Rattle.aig.specs.Rules.{IsCoverOf, IsRowOf, IsCubeOf, IsPlaceOf, place_lit, cover_room};
 
@@ -26,12 +26,15 @@ impl Aig {
         ensures vars { vars_of self.new ≡ vars_of self.old }
     {
         cover.keeps();
+        self.keeps();
         let rows = cover.rows();
         let mut lit = Lit(0);
         for i in 0..rows.len() {
-            lit = self.row(lit, rows[i].as_slice(), fanins)?;
+            let next = self.row(lit, rows[i].as_slice(), fanins)?;
+            lit = next;
         }
-        Ok(if cover.on() { lit } else { Aig::not(lit) })
+        self.keeps();
+        Ok(signed(lit, cover.on()))
     }
 
     /// The literal so far, or the row's cube.
@@ -47,13 +50,16 @@ impl Aig {
         ensures vars { vars_of self.new ≡ vars_of self.old }
     {
         let cube = self.cube(row, fanins)?;
-        let both = self.and(Aig::not(from), Aig::not(cube))?;
+        let left = Aig::not(from);
+        let right = Aig::not(cube);
+        let both = self.and(left, right)?;
         Ok(Aig::not(both))
     }
 
     /// The and of what the places ask of their fan-ins.
     fn cube(&mut self, places: &[u8], fanins: &[Lit]) -> Result<Lit, NoMemory>
         requires within { All (λ f. f.0 < 2 * length self.old) fanins.now }
+        requires some { 0 < length self.old }
         requires width { length fanins.now ≡ length places.now }
         requires room { length self.old + length places.now < 2 ^ 30 }
         ensures here { IfOk result (λ x. IsCubeOf self.new 1 places.now (map (λ f. f.0) fanins.now) x.0) }
@@ -64,7 +70,8 @@ impl Aig {
     {
         let mut lit = Lit(1);
         for i in 0..places.len() {
-            lit = self.place(lit, places[i], fanins[i])?;
+            let next = self.place(lit, places[i], fanins[i])?;
+            lit = next;
         }
         Ok(lit)
     }
@@ -82,9 +89,20 @@ impl Aig {
     {
         match place_lit(place, fanin) {
             None => Ok(from),
-            Some(l) => self.and(from, l),
+            Some(l) => {
+                let x = self.and(from, l)?;
+                Ok(x)
+            }
         }
     }
+}
+
+/// The literal, or its complement.
+fn signed(l: Lit, plain: bool) -> Lit
+    ensures literal { result.0 ≡ (if plain then l.0 else flip l.0) }
+    ensures within { (n : ℕ) → l.0 < 2 * n → result.0 < 2 * n }
+{
+    if plain { l } else { Aig::not(l) }
 }
 
 #[tactic(auto, unfolding(crate::specs::Rules::place_lit))]

@@ -89,6 +89,7 @@ impl Aig {
     /// The complement.
     pub fn not(l: Lit) -> Lit
         ensures literal { result.0 ≡ flip l.0 }
+        ensures within { (n : ℕ) → l.0 < 2 * n → result.0 < 2 * n }
         ensures value { (g : List Node) (a : ℕ → Bool) → value g a result.0 ≡ not (value g a l.0) }
     {
         if l.0 % 2 == 0 {
@@ -132,7 +133,10 @@ impl Aig {
     {
         match simple_and(l, r) {
             Some(x) => Ok(x),
-            None => insert(&mut self.nodes, and_node(l, r)),
+            None => {
+                let x = insert(&mut self.nodes, and_node(l, r))?;
+                Ok(x)
+            }
         }
     }
 }

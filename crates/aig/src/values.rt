@@ -43,6 +43,7 @@ fn lit_bit(bits: &[bool], l: Lit) -> bool
 }
 
 impl Aig {
+    #[tactic(auto, unfolding(crate::specs::Values::value))]
     /// The literal's value, where place v of the assignment is variable v's bit. It takes no memory; the scratch then
     /// holds the value of each node.
     pub fn value(&self, l: Lit, assignment: &[bool], scratch: &mut [bool]) -> bool

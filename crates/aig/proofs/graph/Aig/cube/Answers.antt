@@ -1,0 +1,10 @@
+use Rattle.std.proofs.Common.{◌≡◌, ◌∙◌, ℕ, ◌+◌, ◌<◌, List, length, refl, sym, arith}
+use Rattle.aig.proofs.Growth.{Grows-refl, Grows-trans}
+use Rattle.aig.proofs.Folds.{cube-step}
+use Rattle.aig.proofs.graph.Aig.cube.Goals as goal
+
+pub loop-i-init : goal.loop-i-init
+loop-i-init c = record { grows = Grows-refl c.args.self.now; few = omega arith; within = omega (arith, c.requires.some); vars = refl; rest = λ h x grows is. is }
+
+pub loop-i-preserved : goal.loop-i-preserved
+loop-i-preserved c = ?

@@ -1,0 +1,9 @@
+use Rattle.std.proofs.Common.{◌≡◌, ℕ, Bool, ◌*◌, subst, List}
+use Rattle.aig.specs.declared.node.Node.{Node}
+use Rattle.aig.specs.Values.{value, node_value}
+use Rattle.aig.proofs.Meaning.{value-node}
+use Rattle.aig.proofs.graph.Aig.node.Goals as goal
+
+pub returns-clause-value : goal.returns-clause-value
+returns-clause-value c = λ a.
+    subst (λ (g : List Node). value g a (2 * c.args.n) ≡ node_value g a c.index.result.now) c.self.view_is (value-node c.self.inside.nodes.keys c.self.invariant.0.ordered c.args.n c.index.result.now a c.index.ensures)
