@@ -3,8 +3,10 @@
 
 mod graph;
 mod nodes;
+mod settling;
 mod weighing;
 
 pub use graph::LatchGraph;
 pub use nodes::Node;
+pub use settling::{State, Step};
 pub use weighing::Weight;
