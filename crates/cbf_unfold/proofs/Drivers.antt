@@ -31,10 +31,10 @@ same_latch e = cc
 no_gate_latch : {i j : ℕ} → driver.Gate i ≡ driver.Latch j → ⊥
 no_gate_latch e = cc
 
-no_input_gate : {i j : ℕ} → driver.Input i ≡ driver.Gate j → ⊥
+pub no_input_gate : {i j : ℕ} → driver.Input i ≡ driver.Gate j → ⊥
 no_input_gate e = cc
 
-no_input_latch : {i j : ℕ} → driver.Input i ≡ driver.Latch j → ⊥
+pub no_input_latch : {i j : ℕ} → driver.Input i ≡ driver.Latch j → ⊥
 no_input_latch e = cc
 
 module _ (n : NetView) (sound : IsSound n) where

@@ -1,50 +1,25 @@
 -- Places and numbers in order.
 use Rattle.std.proofs.Common.{◌≡◌, ◌≢◌, ◌∙◌, ◌+◌, ◌-◌, ◌<◌, ◌≤◌, ℕ, Bool, true, false, List, [], ◌∷◌, length, get_or, refl, sym, ap, subst, arith, inl, inr, true≢false}
-use Rattle.std.specs.Prelude.{◌⊎◌, ◌==◌, ◌&&◌, IsSorted, IsPermutation, Decides}
+use Rattle.std.specs.Prelude.{◌⊎◌, IsSorted, IsPermutation}
 use Rattle.std.specs.List.{All, AllPairs, Contains, IsDistinct}
 use Rattle.std.specs.Cmp.{IsTotalOrder, IsStrictWeakOrder}
 use Rattle.std.specs.declared.cmp.Ordering.{Ordering}
 use Rattle.std.specs.declared.cmp.Ordering.TheVariants.{Less, Equal, Greater}
 use Rattle.std.specs.Ordering.{is_lt, nat_cmp, ordering_then, MatchOrdering}
-use Rattle.std.proofs.lemmas.Bool.Decides.{Decides-eqb, nat_tests}
 use Rattle.std.proofs.lemmas.Cmp.{ranked, then_total, on_total, nat_cmp_total}
 use Rattle.std.proofs.lemmas.List.Sorted.{IsPermutation-sym, All-permutation, Contains-permutation, sorted_far, ranks_by}
 use Rattle.std.proofs.lemmas.Map.Keys.{IsDistinct-IsPermutation}
 use Rattle.std.proofs.lemmas.Map.Made.{AllPairs-from_IsDistinct, IsDistinct-from_AllPairs}
 use Rattle.circuit_theory.specs.Circuit.{Circuit}
-use Rattle.circuit_theory.proofs.Inputs.{test_same}
 use Rattle.sec_base.specs.Table.{AreDistinct}
-use Rattle.sec_base.proofs.TableLemmas.{pair_eq-same}
 use Rattle.cbf_unfold.specs.Places.{Steps, PlaceBefore}
 use Rattle.cbf_unfold.specs.Reach.{AreVisited, IsReach}
 use Rattle.cbf_unfold.proofs.Over.{pairs_differ}
+use Rattle.cbf_unfold.proofs.PairTest.{same_pair, decides_pair, flips}
 
 -- the order of pairs by which a sort goes
 abbrev pub place_cmp : ℕ × ℕ → ℕ × ℕ → Ordering
 place_cmp p q = ordering_then (nat_cmp p.0 q.0) (nat_cmp p.1 q.1)
-
-abbrev pub same_pair : ℕ × ℕ → ℕ × ℕ → Bool
-same_pair p q = (p.0 == q.0) && (p.1 == q.1)
-
-both : (x y : Bool) → (x && y) ≡ true → (x ≡ true) × (y ≡ true)
-both true y h = (refl, h)
-both false y h = cc
-
-decides_pair : (p q : ℕ × ℕ) → Decides (same_pair p q) (p ≡ q)
-decides_pair p q = (λ h. one h, λ e. pair_eq-same p q e)
-  where
-    one : same_pair p q ≡ true → p ≡ q
-    one h =
-        let parts = both (p.0 == q.0) (p.1 == q.1) h in
-        let first : p.0 ≡ q.0 = test_same p.0 q.0 parts.0 in
-        let second : p.1 ≡ q.1 = test_same p.1 q.1 parts.1 in
-        (λ i. (first i, second i))
-
-flips_test : (a b : ℕ) → (a == b) ≡ (b == a)
-flips_test a b = grind (arith, nat_tests)
-
-flips : (p q : ℕ × ℕ) → same_pair p q ≡ same_pair q p
-flips p q = λ i. flips_test p.0 q.0 i && flips_test p.1 q.1 i
 
 -- pairs that differ go on to differ in another order
 pub differ_permuted : (xs ys : List (ℕ × ℕ)) → IsPermutation xs ys → AllPairs (λ x y. x ≢ y) xs → AllPairs (λ x y. x ≢ y) ys

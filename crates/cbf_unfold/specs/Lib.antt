@@ -3,3 +3,4 @@ pub mod Reach
 pub mod View
 pub mod Unfolded
 pub mod Laws
+pub mod Building

@@ -1,7 +1,8 @@
 -- Which places the unfolding of a signal visits, as a list in an order of evaluation.
-use Rattle.std.specs.Prelude.{◌≡◌, ℕ, ◌-◌, ◌<◌, ◌≤◌, List, ◌++◌, All, Contains}
+use Rattle.std.specs.Prelude.{◌≡◌, ◌≢◌, ℕ, ◌-◌, ◌<◌, ◌≤◌, List, ◌++◌, All, Contains}
 use Rattle.std.specs.List.{AllPairs}
 use Rattle.circuit_theory.specs.Circuit.{Circuit}
+use Rattle.circuit_theory.specs.Tree.{IsInputNumber}
 use Rattle.circuit_theory.specs.Sizes.{Visits}
 use Rattle.cbf_unfold.specs.Places.{Steps, PlaceBefore}
 
@@ -22,3 +23,9 @@ pub record AreVisited (c : Circuit ℕ) (size s last : ℕ) (places : List (ℕ 
 pub record IsReach (c : Circuit ℕ) (size s last : ℕ) (places : List (ℕ × ℕ)) : Type 0 where
   pub are : AreVisited c size s last places
   pub ordered : AllPairs PlaceBefore places
+
+-- The inputs among the places, each as its cycle and its number, and none twice.
+pub record AreInputsOf (c : Circuit ℕ) (order : List ℕ) (places found : List (ℕ × ℕ)) : Type 0 where
+  pub from : (x : ℕ × ℕ) → Contains found x → (p : ℕ) × Contains places (x.0, p) × IsInputNumber c order p x.1
+  pub all : (p : ℕ × ℕ) (number : ℕ) → Contains places p → IsInputNumber c order p.1 number → Contains found (p.0, number)
+  pub differ : AllPairs (λ x y. x ≢ y) found

@@ -2,6 +2,7 @@
 
 ghost use Rattle.std.specs.Prelude.{◌≡◌, ◌≢◌, ℕ, List, [], ◌∷◌, ◌++◌, IfSome, IfNone, OnOk, Contains, map};
 ghost use Rattle.std.specs.List.{AllPairs};
+ghost use Rattle.aig.specs.declared.node.Lit.{Lit};
 
 use crate::reaching::Place;
 use aig::Lit;
@@ -47,7 +48,21 @@ impl Memo {
         ensures here { IfSome result (λ x. Contains self.now (place, x)) }
         ensures absent { IfNone result (Contains (map (λ e. e.0) self.now) place → ⊥) }
     {
-        self.lits.get(&place).copied()
+        match self.lits.get(&place) {
+            Some(lit) => Some(*lit),
+            None => None,
+        }
+    }
+
+    /// The literal of a place that was met.
+    pub(crate) fn met(&self, place: Place) -> Lit
+        requires { (x : Lit) × Contains self.now (place, x) }
+        ensures { Contains self.now (place, result) }
+    {
+        match self.get(place) {
+            Some(lit) => lit,
+            None => unreachable!(),
+        }
     }
 
     /// Puts a place that wasn't met last.

@@ -1,16 +1,24 @@
 //! The unfolder.
 
-ghost use Rattle.std.specs.Prelude.{◌≡◌, ℕ, ◌+◌, ◌^◌, ◌<◌, ◌≤◌, List, [], ◌∷◌, ◌++◌, length, IfOk, OnOk};
+ghost use Rattle.std.specs.Prelude.{◌≡◌, ◌≢◌, ℕ, ◌+◌, ◌-◌, ◌^◌, ◌<◌, ◌≤◌, List, [], ◌∷◌, ◌++◌, length, map, All, Contains, IfOk, OnOk, OnErr};
+ghost use Rattle.std.specs.List.{AllPairs};
+ghost use Rattle.circuit_theory.specs.Tree.{IsInputNumber};
 ghost use Rattle.circuit_theory.specs.Sizes.{IsOver};
 ghost use Rattle.flat_net.specs.View.{circuit_of};
-ghost use Rattle.aig.specs.Graph.{Grows};
-ghost use Rattle.cbf_unfold.specs.Reach.{Adds};
-ghost use Rattle.cbf_unfold.specs.View.{IsOrderOf, IsSameUnfolder};
+ghost use Rattle.aig.specs.declared.node.Node.{Node};
+ghost use Rattle.cbf_unfold.specs.View.{IsOrderOf, IsUnfolder};
 ghost use Rattle.cbf_unfold.specs.Unfolded.{IsUnfolded, Fits};
+ghost use Rattle.cbf_unfold.specs.Places.{PlaceBefore};
+ghost use Rattle.cbf_unfold.specs.Building.{IsMet, IsLater, AreNumbered};
 ghost use Rattle.cbf_unfold.specs.declared.error.UnfoldError.TheVariants as unfold_error;
+
+mod building;
+mod literals;
 
 use crate::error::UnfoldError;
 use crate::memo::Memo;
+use crate::reaching::{Place, reach};
+use crate::variables::{inputs_of, numbers_of};
 use aig::{Aig, Lit};
 use flat_net::{Net, Signal};
 use latch_graph::LatchGraph;
@@ -42,7 +50,7 @@ pub struct Unfolder<'a> {
     weight: u32,
 }
 
-impl Model for Unfolder<'_> {
+impl<'a> Model for Unfolder<'a> {
     ghost use Rattle.cbf_unfold.specs.View.{UnfolderView};
 
     ghost Value = { UnfolderView };
@@ -69,7 +77,14 @@ impl<'a> Unfolder<'a> {
         ensures weight { IfOk result (λ u. u.weight ≡ 0) }
         ensures fits { IfOk result (λ u. (g : List Node) (places : List (ℕ × ℕ)) → Fits u g places) }
     {
-        Err(NoMemory)
+        Ok(Unfolder {
+            net,
+            order: order.copy()?,
+            cap: LIMIT,
+            done: Ids::new(alloc),
+            memo: Memo::new(alloc),
+            weight: 0,
+        })
     }
 
     /// The signal as a function of inputs at earlier cycles. The same graph and table are lent each time, and may have
@@ -91,13 +106,79 @@ impl<'a> Unfolder<'a> {
         ensures fits { OnOk result (Fits self.new aig.new places.new) }
         ensures done { OnOk result (self.new.done ≡ self.old.done ++ s.0 ∷ []) }
         ensures over { result ≡ Err unfold_error.TooLarge → IsOver (circuit_of self.old.net) (self.old.done ++ s.0 ∷ []) 2000000 }
-        ensures same { IsSameUnfolder self.old self.new }
-        ensures grows { Grows aig.old aig.new }
-        ensures adds { Adds (λ p. Unit {0}) places.old places.new }
-        ensures nodes { length aig.new + self.old.weight ≤ length aig.old + self.new.weight }
-        ensures entries { length places.new + self.old.weight ≤ length places.old + self.new.weight }
-        ensures limit { self.new.weight ≤ 2000000 }
+        ensures later { IsLater self.old self.new aig.old aig.new places.old places.new }
     {
-        Err(UnfoldError::NoMemory)
+        let net = self.net();
+        net.keeps();
+        let visited = reach(alloc, net, s, self.cap())?;
+        self.begin(s)?;
+        self.build(alloc, aig, places, visited.as_slice())?;
+        self.keeps();
+        let lit = self.met((self.cap(), s.0));
+        let vars = self.variables(alloc, places, visited.as_slice())?;
+        Ok(Unfolded { lit, vars })
+    }
+
+    /// Tells a proof what each unfolder keeps. It does nothing.
+    fn keeps(&self)
+        ensures unfolder { IsUnfolder self.now }
+        ensures apart { AllPairs (λ p q. p ≢ q) (map (λ e. e.0) self.now.memo) }
+    {
+        self.memo.keeps();
+    }
+
+    fn net(&self) -> &'a Net
+        ensures { result.now ≡ self.now.net }
+    {
+        self.net
+    }
+
+    fn order(&self) -> &[u32]
+        ensures { result.now ≡ self.now.order }
+    {
+        self.order.as_slice()
+    }
+
+    fn cap(&self) -> u32
+        ensures { result ≡ self.now.cap }
+    {
+        self.cap
+    }
+
+    /// Puts the signal to those that are unfolded.
+    fn begin(&mut self, s: Signal) -> Result<(), NoMemory>
+        ensures ok { OnOk result (self.new ≡ record self.old { done = self.old.done ++ s.0 ∷ [] }) }
+        ensures err { OnErr result (self.new ≡ self.old) }
+    {
+        self.done.push(s.0)
+    }
+
+    /// The literal of a place that was met.
+    fn met(&self, place: Place) -> Lit
+        requires { IsMet self.now.memo place }
+        ensures { Contains self.now.memo (place, result) }
+    {
+        self.memo.met(place)
+    }
+
+    /// The numbers in the table of the inputs among the places. They are in the table already.
+    fn variables(
+        &self,
+        alloc: Global,
+        places: &mut PlaceTable,
+        visited: &[Place],
+    ) -> Result<Ids, NoMemory>
+        requires cycles { All (λ p. p.0 ≤ self.now.cap) visited.now }
+        requires within { All (λ p. p.1 < length self.now.net.drivers) visited.now }
+        requires ordered { AllPairs PlaceBefore visited.now }
+        requires known { (p : ℕ × ℕ) (number : ℕ) → Contains visited.now p → IsInputNumber (circuit_of self.now.net) self.now.order p.1 number → Contains places.old (number, self.now.cap - p.0) }
+        requires room { length places.old + 1 < 2 ^ 32 }
+        ensures same { places.new ≡ places.old }
+        ensures numbered { IfOk result (λ vars. AreNumbered self.now places.old visited.now vars) }
+    {
+        self.keeps();
+        let found = inputs_of(alloc, self.net(), self.order(), visited)?;
+        let vars = numbers_of(alloc, places, self.cap(), found.as_slice())?;
+        Ok(vars)
     }
 }
