@@ -1,5 +1,5 @@
 -- How an unfolder goes on: what stays, and what one place more brings.
-use Rattle.std.proofs.Common.{◌≡◌, ◌≢◌, ◌∙◌, ◌+◌, ◌-◌, ◌*◌, ◌^◌, ◌<◌, ◌≤◌, ℕ, List, [], ◌∷◌, ◌++◌, length, map, get_or, slice_get, Some, refl, sym, ap, subst, arith, inl, inr, map-append}
+use Rattle.std.proofs.Common.{◌≡◌, ◌≢◌, ◌∙◌, ◌+◌, ◌-◌, ◌*◌, ◌^◌, ◌<◌, ◌≤◌, ℕ, List, [], ◌∷◌, ◌++◌, length, map, get_or, slice_get, Some, refl, sym, ap, subst, arith, inl, inr}
 use Rattle.std.specs.Prelude.{◌⊎◌}
 use Rattle.std.specs.List.{All, AllPairs, Contains, sum_by}
 use Rattle.std.proofs.lemmas.Bool.{cases_order, cases_lt}
@@ -180,7 +180,7 @@ module _ (u v : UnfolderView) (g h : List Node) (places more : List (ℕ × ℕ)
           subst (λ (n : NetView). IsKnown n v.order v.cap h more q y) (sym net)
           (subst (λ (o : List ℕ). IsKnown u.net o v.cap h more q y) (sym order) (subst (λ (c : ℕ). IsKnown u.net u.order c h more q y) (sym cap) k))
 
-      knows : (q : ℕ × ℕ) (y : Lit) → Contains u.memo (q, y) ⊎ ((p, x) ≡ (q, y)) → IsKnown v.net v.order v.cap h more q y.0
+      knows : (q : ℕ × ℕ) (y : Lit) → Contains u.memo (q, y) ⊎ ◌≡◌ {A = (ℕ × ℕ) × Lit} (p, x) (q, y) → IsKnown v.net v.order v.cap h more q y.0
       knows q y (inl m) = known_in q y.0 (known_later u.net u.order u.cap g h places more q y.0 grown.grows grown.adds (holds.known q y m))
       knows q y (inr e) = known_in q y.0 (subst (λ (f : (ℕ × ℕ) × Lit). IsKnown u.net u.order u.cap h more f.0 f.1.0) e known)
 
@@ -189,7 +189,7 @@ module _ (u v : UnfolderView) (g h : List Node) (places more : List (ℕ × ℕ)
           subst (λ (n : NetView). IsVisited (circuit_of n) v.cap v.done q) (sym net)
           (subst (λ (c : ℕ). IsVisited (circuit_of u.net) c v.done q) (sym cap) (subst (λ (d : List ℕ). IsVisited (circuit_of u.net) u.cap d q) (sym done) k))
 
-      visits : (q : ℕ × ℕ) (y : Lit) → Contains u.memo (q, y) ⊎ ((p, x) ≡ (q, y)) → IsVisited (circuit_of v.net) v.cap v.done q
+      visits : (q : ℕ × ℕ) (y : Lit) → Contains u.memo (q, y) ⊎ ◌≡◌ {A = (ℕ × ℕ) × Lit} (p, x) (q, y) → IsVisited (circuit_of v.net) v.cap v.done q
       visits q y (inl m) = visited_in q (holds.visited q y m)
       visits q y (inr e) = visited_in q (subst (λ (f : (ℕ × ℕ) × Lit). IsVisited (circuit_of u.net) u.cap u.done f.0) e ready.visited)
 
@@ -217,3 +217,55 @@ met_next u v g h places more reach i d inside later here before j q below at = g
 pub over_before : (u v : UnfolderView) → v.net ≡ u.net → v.done ≡ u.done → v.cap ≡ u.cap → IsOver (circuit_of v.net) v.done v.cap → IsOver (circuit_of u.net) u.done u.cap
 over_before u v net done cap over =
     subst (λ (n : NetView). IsOver (circuit_of n) u.done u.cap) net (subst (λ (d : List ℕ). IsOver (circuit_of v.net) d u.cap) done (subst (λ (k : ℕ). IsOver (circuit_of v.net) v.done k) cap over))
+
+-- the weight of a place is counted before it is unfolded
+pub ready_weight : (u : UnfolderView) (weight : ℕ) (p : ℕ × ℕ) → IsReady u p → IsReady (record u { weight = weight }) p
+ready_weight u weight p ready = record { visited = ready.visited; within = ready.within; early = ready.early; read = ready.read }
+
+-- what follows for the unfolder as a call has it, `z`, from what holds of the unfolder as it was passed, `u`
+module _ (z u : UnfolderView) (same : z ≡ u) (g : List Node) (places : List (ℕ × ℕ)) (p : ℕ × ℕ) where
+  pub holds_at : Holds u g places → Holds z g places
+  holds_at h = subst (λ (k : UnfolderView). Holds k g places) (sym same) h
+
+  pub ready_as : IsReady u p → IsReady z p
+  ready_as h = subst (λ (k : UnfolderView). IsReady k p) (sym same) h
+
+  pub room_at : HasRoom u g places → HasRoom z g places
+  room_at h = subst (λ (k : UnfolderView). HasRoom k g places) (sym same) h
+
+  pub over_at : IsSound z.net → Holds u g places → HasRoom u g places → AllPairs (λ p q. p ≢ q) (map (λ e. e.0) z.memo) → IsReady u p → (Contains (map (λ e. e.0) z.memo) p → ⊥) → z.cap - z.weight < weight_at z.net p.1 →
+      IsOver (circuit_of u.net) u.done u.cap
+  over_at sound holds room differ ready absent above =
+      subst (λ (k : UnfolderView). IsOver (circuit_of k.net) k.done k.cap) same
+      (place_over z sound g places (holds_at holds) differ p (ready_as ready) absent (room_at room).small above)
+
+  pub weight_later : (h : List Node) (more : List (ℕ × ℕ)) (w : ℕ) → w ≡ weight_at z.net p.1 → w ≤ z.cap - z.weight → HasRoom u g places → HasGrown g h places more (weight_at z.net p.1) →
+      IsLater u (record z { weight = z.weight + w }) g h places more
+  weight_later h more w is within room grown =
+      let small = (room_at room).small in
+      subst (λ (k : UnfolderView). IsLater k (record z { weight = z.weight + w }) g h places more) same (record {
+        net = refl;
+        order = refl;
+        cap = refl;
+        memo = adds_none AnyEntry z.memo z.memo refl;
+        grows = grown.grows;
+        adds = grown.adds;
+        nodes = omega (arith, grown.nodes, is);
+        entries = omega (arith, grown.entries, is);
+        small = omega (arith, within, small);
+      })
+
+  module _ (h : List Node) (more : List (ℕ × ℕ)) (w : ℕ) (x : Lit) (memo : List ((ℕ × ℕ) × Lit)) (put : memo ≡ z.memo ++ (p, x) ∷ []) (is : w ≡ weight_at z.net p.1) (within : w ≤ z.cap - z.weight)
+      (grown : HasGrown g h places more (weight_at z.net p.1)) where
+    pub put_holds : Holds u g places → IsReady u p → IsKnown z.net z.order z.cap h more p x.0 → Holds (record z { memo = memo; weight = z.weight + w }) h more
+    put_holds holds ready known =
+        one_holds z (record z { memo = memo; weight = z.weight + w }) g h places more p x refl refl refl refl put (ap (λ k. z.weight + k) is) grown (holds_at holds) (ready_as ready) known
+
+    pub put_met : IsMet memo p
+    put_met = (x, subst (λ (m : List ((ℕ × ℕ) × Lit)). Contains m (p, x)) (sym put) (Contains-push z.memo (p, x)))
+
+    pub put_later : HasRoom u g places → IsLater u (record z { memo = memo; weight = z.weight + w }) g h places more
+    put_later room =
+        let small = (room_at room).small in
+        subst (λ (k : UnfolderView). IsLater k (record z { memo = memo; weight = z.weight + w }) g h places more) same
+        (one_later z (record z { memo = memo; weight = z.weight + w }) g h places more p x refl refl refl refl put (ap (λ k. z.weight + k) is) grown (omega (arith, within, small)))

@@ -1,6 +1,6 @@
 //! The places that were met, with their literals.
 
-ghost use Rattle.std.specs.Prelude.{◌≡◌, ◌≢◌, ℕ, List, [], ◌∷◌, ◌++◌, IfSome, IfNone, OnOk, Contains, map};
+ghost use Rattle.std.specs.Prelude.{◌≡◌, ◌≢◌, ℕ, List, [], ◌∷◌, ◌++◌, IfSome, IfNone, OnOk, OnErr, Contains, map};
 ghost use Rattle.std.specs.List.{AllPairs};
 ghost use Rattle.aig.specs.declared.node.Lit.{Lit};
 
@@ -65,10 +65,11 @@ impl Memo {
         }
     }
 
-    /// Puts a place that wasn't met last.
+    /// Puts a place that wasn't met last. After `NoMemory` nothing has changed.
     pub(crate) fn put(&mut self, place: Place, lit: Lit) -> Result<(), NoMemory>
         requires { Contains (map (λ e. e.0) self.old) place → ⊥ }
-        ensures { OnOk result (self.new ≡ self.old ++ (place, lit) ∷ []) }
+        ensures ok { OnOk result (self.new ≡ self.old ++ (place, lit) ∷ []) }
+        ensures err { OnErr result (self.new ≡ self.old) }
     {
         self.lits.insert(place, lit)?;
         Ok(())

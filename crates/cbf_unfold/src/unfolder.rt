@@ -111,11 +111,12 @@ impl<'a> Unfolder<'a> {
         let net = self.net();
         net.keeps();
         let visited = reach(alloc, net, s, self.cap())?;
+        let reached = visited.as_slice();
         self.begin(s)?;
-        self.build(alloc, aig, places, visited.as_slice())?;
+        self.build(alloc, aig, places, reached)?;
         self.keeps();
         let lit = self.met((self.cap(), s.0));
-        let vars = self.variables(alloc, places, visited.as_slice())?;
+        let vars = self.variables(alloc, places, reached)?;
         Ok(Unfolded { lit, vars })
     }
 

@@ -1,5 +1,5 @@
 -- Each input is in the table, which stays.
-use Rattle.std.proofs.Common.{◌≡◌, ◌∙◌, ◌-◌, ◌+◌, ℕ, List, sym, ap, subst, take, slice_get, Some}
+use Rattle.std.proofs.Common.{◌≡◌, ◌∙◌, ◌-◌, ◌+◌, ℕ, List, sym, ap, subst, take, get_or, slice_get, Some}
 use Rattle.std.specs.List.{AllZip, Contains}
 use Rattle.std.proofs.lemmas.List.{take_all}
 use Rattle.std.proofs.lemmas.List.Elements.{All-get_or}
@@ -8,7 +8,9 @@ use Rattle.cbf_unfold.proofs.variables.numbers_of.Goals as goal
 
 pub number_of-requires-clause-known : goal.number_of-requires-clause-known
 number_of-requires-clause-known c =
-    subst (λ (t : List (ℕ × ℕ)). Contains t _) (sym c.loop-input.invariant.same) (All-get_or (λ (x : ℕ × ℕ). Contains c.args.table.now (x.1, c.args.last - x.0)) c.args.inputs.now c.loop-input.input-index (0, 0) c.loop-input-test.true c.requires.known)
+    let x : ℕ × ℕ = get_or c.args.inputs.now c.loop-input.input-index (0, 0) in
+    subst (λ (t : List (ℕ × ℕ)). Contains t (x.1, c.args.last - x.0)) (sym c.loop-input.invariant.same)
+    (All-get_or (λ (y : ℕ × ℕ). Contains c.args.table.now (y.1, c.args.last - y.0)) c.args.inputs.now c.loop-input.input-index (0, 0) c.loop-input-test.true c.requires.known)
 
 pub loop-input-preserved : goal.loop-input-preserved
 loop-input-preserved c =
@@ -16,6 +18,6 @@ loop-input-preserved c =
     record {
       same = c.number_of.ensures.same ∙ c.loop-input.invariant.same;
       numbers = subst (λ (l : List ℕ). AllZip R l (take (c.loop-input.input-index + 1) c.args.inputs.now)) (sym c.in_ok-push.ensures.items)
-          (zip_more R c.loop-input.numbers.items c.args.inputs.now c.loop-input.input-index (0, 0) _ c.loop-input-test.true c.loop-input.invariant.numbers
-          (ap (λ (t : List (ℕ × ℕ)). slice_get t _) (sym c.loop-input.invariant.same) ∙ c.in_ok-number_of.ensures.number));
+          (zip_more R c.loop-input.numbers.items c.args.inputs.now c.loop-input.input-index (0, 0) c.in_ok-number_of.field-0 c.loop-input-test.true c.loop-input.invariant.numbers
+          (ap (λ (t : List (ℕ × ℕ)). slice_get t c.in_ok-number_of.field-0) (sym c.loop-input.invariant.same) ∙ c.in_ok-number_of.ensures.number));
     }

@@ -10,8 +10,8 @@ returns-in_err-variable-clause-grown c = grown_none c.args.aig.now c.args.places
 
 pub input-requires-clause-small : goal.input-requires-clause-small
 input-requires-clause-small c =
-    let inside = slice_get_within _ _ _ c.in_ok-variable.ensures.here in
-    let few = (interned _ _ _ c.in_ok-variable.ensures.known c.in_ok-variable.ensures.added).1 in
+    let inside = slice_get_within c.intern.new.self c.in_ok-variable.variable _ c.in_ok-variable.ensures.here in
+    let few = (interned c.args.places.now c.intern.new.self (get_or c.order.result.now c.args.i 0, c.cap.result - c.args.cycle) c.in_ok-variable.ensures.known c.in_ok-variable.ensures.added).1 in
     omega (arith, inside, few, c.requires.entries)
 
 pub returns-clause-here : goal.returns-clause-here
