@@ -10,4 +10,4 @@ pub bits-step : (a : ℕ → Bool) (scratch : List Bool) (nodes : List Node) (n 
     take (n + 1) (set scratch n b) ≡ node_bits (take (n + 1) nodes) a
 bits-step a scratch nodes n node b within at done is =
     take_more_set scratch n b within ∙ ap (λ (c : Bool). take n scratch ++ c ∷ []) is ∙ ap (λ (bits : List Bool). bits ++ node_bit a bits node ∷ []) done
-        ∙ sym (node_bits-push (take n nodes) node a) ∙ ap (λ (ns : List Node). node_bits ns a) (take-push nodes n node at)
+    ∙ sym (node_bits-push (take n nodes) node a) ∙ ap (λ (ns : List Node). node_bits ns a) (take-push nodes n node at)

@@ -176,7 +176,7 @@ module _ (g : List Node) (graph : IsGraph g) (a : ℕ → Bool) where
   pub value-or : (l r x : ℕ) → IsOrOf g l r x → value g a x ≡ value g a l || value g a r
   value-or l r x (y, is, e) =
       ap (value g a) e ∙ value-flip g a y ∙ ap not (value-and (flip l) (flip r) y is) ∙ ap (λ (b : Bool). not (b && value g a (flip r))) (value-flip g a l)
-          ∙ ap (λ (b : Bool). not (not (value g a l) && b)) (value-flip g a r) ∙ or_by_and (value g a l) (value g a r)
+      ∙ ap (λ (b : Bool). not (not (value g a l) && b)) (value-flip g a r) ∙ or_by_and (value g a l) (value g a r)
 
   -- a place of a row and the bit of its fan-in
   value-place : (from p f x : ℕ) → IsPlaceOf g from (place_lit p f) x → value g a x ≡ value g a from && place_matches p (value g a f)
@@ -205,7 +205,7 @@ module _ (g : List Node) (graph : IsGraph g) (a : ℕ → Bool) where
   value-cube from (p ∷ ps) [] x is = absurd is
   value-cube from (p ∷ ps) (f ∷ fs) x (y, here, rest) =
       value-cube y ps fs x rest ∙ ap (λ (b : Bool). b && row_matches ps (map (value g a) fs)) (value-place from p f y here)
-          ∙ and_regrouped (value g a from) (place_matches p (value g a f)) (row_matches ps (map (value g a) fs))
+      ∙ and_regrouped (value g a from) (place_matches p (value g a f)) (row_matches ps (map (value g a) fs))
 
   pub value-row : (from : ℕ) (row fs : List ℕ) (x : ℕ) → IsRowOf g from row fs x → value g a x ≡ value g a from || row_matches row (map (value g a) fs)
   value-row from row fs x (y, cube, is) =
@@ -219,7 +219,7 @@ module _ (g : List Node) (graph : IsGraph g) (a : ℕ → Bool) where
       or_false false = refl
   value-rows from (row ∷ rows) fs x (y, here, rest) =
       value-rows y rows fs x rest ∙ ap (λ (b : Bool). b || list_any (λ r. row_matches r (map (value g a) fs)) rows) (value-row from row fs y here)
-          ∙ or_regrouped (value g a from) (row_matches row (map (value g a) fs)) (list_any (λ r. row_matches r (map (value g a) fs)) rows)
+      ∙ or_regrouped (value g a from) (row_matches row (map (value g a) fs)) (list_any (λ r. row_matches r (map (value g a) fs)) rows)
 
   pub value-cover : (cover : Cover) (fs : List ℕ) (x : ℕ) → IsCoverOf g cover fs x → value g a x ≡ cover_value cover (map (value g a) fs)
   unfolding cover_value
@@ -239,6 +239,7 @@ module _ (g : List Node) (graph : IsGraph g) (a : ℕ → Bool) where
   module _ {L : Type 0} (places : List (ℕ × L)) (bits : ℕ → L → Bool) (fits : (v : ℕ) (p : ℕ × L) → slice_get places v ≡ Some p → a v ≡ bits p.0 p.1) where
     mutual
       unfolding tree_value tree_values
+
       pub value-tree : (tree : Tree L) (x : ℕ) → Builds g places tree x → value g a x ≡ tree_value bits tree
       value-tree (Leaf input at) x (v, place, is) = value-lit (Input v) x is ∙ fits v (input, at) place
       value-tree (Fixed true) x is = ap (value g a) is ∙ value-one

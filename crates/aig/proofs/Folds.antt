@@ -1,5 +1,6 @@
 -- One more place of a cube, and one more row of a cover.
 use Rattle.std.proofs.Common.{◌≡◌, ℕ, zero, suc, ◌+◌, ◌*◌, ◌<◌, ◌≤◌, Bool, List, [], ◌∷◌, length, map, drop, get_or, Option, Some, None, All, refl, sym, ap, subst, ◌∙◌, arith, drop-cons, add-one}
+use Rattle.std.proofs.lemmas.Option.{slice_get-get_or, get_or_from_slice_get}
 use Rattle.aig.specs.declared.node.Lit.{Lit}
 use Rattle.aig.specs.declared.node.Node.{Node}
 use Rattle.aig.specs.Graph.{Grows, flip}
@@ -38,3 +39,21 @@ rows-step g h from rows fs i row y x here within is grows rest =
 pub row-is : (g h : List Node) → Grows g h → (from : ℕ) (row fs : List ℕ) (y l r z x : ℕ) → IsCubeOf g 1 row fs y → l ≡ flip from → r ≡ flip y → IsAndOf h l r z → x ≡ flip z → IsRowOf h from row fs x
 row-is g h grows from row fs y l r z x cube left right is e =
     (y, IsCubeOf-grows g h grows 1 row fs y cube, (z, subst (λ (k : ℕ). IsAndOf h k (flip y) z) left (subst (λ (k : ℕ). IsAndOf h l k z) right is), e))
+
+-- the nodes that one more row may add
+pub rows-more : (start before after i width row : ℕ) → row ≡ width → before ≤ start + i * (width + 1) → after ≤ before + row + 1 → after ≤ start + (i + 1) * (width + 1)
+rows-more start before after i width row same so_far here = omega (arith, right_distrib i width)
+  where
+    right_distrib : (i width : ℕ) → (i + 1) * (width + 1) ≡ i * (width + 1) + (width + 1)
+    right_distrib i width = grind arith
+
+-- no row is left
+pub rows-done : (g : List Node) (from : ℕ) (rows : List (List ℕ)) (fs : List ℕ) (i : ℕ) → length rows ≤ i → AreRowsOf g from (drop i rows) fs from
+rows-done g from [] fs zero h = refl
+rows-done g from [] fs (suc i) h = refl
+rows-done g from (row ∷ rows) fs zero h = absurd (omega arith)
+rows-done g from (row ∷ rows) fs (suc i) h = rows-done g from rows fs i (omega arith)
+
+-- the row at a place
+pub row-at : (rows : List (List ℕ)) (i : ℕ) (row : List ℕ) → i < length rows → row ≡ get_or rows i row → row ≡ get_or rows i []
+row-at rows i row within is = sym (get_or_from_slice_get rows i row [] (slice_get-get_or rows i row within ∙ ap Some (sym is)))

@@ -162,3 +162,6 @@ fanin-values g h a grows (f ∷ fs) within =
 pub value-cover_grown : (g h : List Node) → IsGraph h → Grows g h → (cover : Cover) (fs : List Lit) (x : ℕ) → All (λ f. f.0 < 2 * length g) fs → IsCoverOf h cover (map (λ f. f.0) fs) x → (a : ℕ → Bool) → value h a x ≡ cover_value cover (map (λ f. value g a f.0) fs)
 value-cover_grown g h graph grows cover fs x within is a =
     value-cover h graph a cover (map (λ f. f.0) fs) x is ∙ ap (cover_value cover) (fanin-values g h a grows fs within)
+
+pub lit-within : (g : List Node) (node : Node) (x : ℕ) → IsLitOf g node x → x < 2 * length g
+lit-within g node x (n, e, at) = omega (arith, slice_get_within g n node at)

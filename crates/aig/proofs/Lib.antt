@@ -5,3 +5,5 @@ pub mod CoverMeaning
 pub mod Insert
 pub mod Folds
 pub mod Bits
+pub mod Cones
+pub mod Parts

@@ -132,7 +132,7 @@ value-node g ordered n node a at =
     let (front, back, e, same) = split_at g n node at in
     let above : (l r : Lit) → node ≡ And l r → (l.0 < 2 * length front) × (r.0 < 2 * length front) = λ l r is. operands front l r same (ordered n (And l r) (at ∙ ap Some is)) in
     value-even g a n ∙ ap (λ (k : List Node). get_or (node_bits k a) n false) e ∙ ap (λ (k : ℕ). get_or (node_bits (front ++ node ∷ back) a) k false) (sym same)
-        ∙ node_bits-at front back node a ∙ node_bit-value g front (node ∷ back) a node e above
+    ∙ node_bits-at front back node a ∙ node_bit-value g front (node ∷ back) a node e above
   where
     operands : (front : List Node) (l r : Lit) → length front ≡ n → (l.0 < r.0) × (r.0 < 2 * n) → (l.0 < 2 * length front) × (r.0 < 2 * length front)
     operands front l r same (lesser, greater) = (omega arith, omega arith)

@@ -1,6 +1,8 @@
 -- The cone of some literals, and the part of the graph that it is.
-use Rattle.std.specs.Prelude.{◌≡◌, ◌⊎◌, ℕ, ◌+◌, ◌*◌, ◌/◌, ◌%◌, ◌<◌, Bool, List, length, slice_get, Some, Contains}
+use Rattle.std.specs.Prelude.{◌≡◌, ◌⊎◌, ℕ, ◌+◌, ◌*◌, ◌/◌, ◌%◌, ◌<◌, ◌≤◌, ◌==◌, Bool, if◌then◌else◌, List, [], ◌∷◌, ◌++◌, length, slice_get, Some, Contains}
 use Rattle.std.specs.List.Sorted.{IsStrictlyIncreasing}
+use Rattle.std.specs.List.{list_any}
+use Rattle.sec_base.specs.Table.{AreDistinct}
 use Rattle.aig.specs.declared.node.Lit.{Lit}
 use Rattle.aig.specs.declared.node.Node.{Node}
 use Rattle.aig.specs.declared.node.Node.TheVariants.{Constant, Input, And}
@@ -42,3 +44,26 @@ IsPlacedNode nodes (And l r) placed = (s : Lit) × (t : Lit) × (placed ≡ And 
 pub record IsPartOf (g : List Node) (nodes : List ℕ) (part : List Node) : Type 0 where
   pub each : length part ≡ length nodes
   pub placed : (k n : ℕ) (node : Node) → slice_get nodes k ≡ Some n → slice_get g n ≡ Some node → (p : Node) × (slice_get part k ≡ Some p) × IsPlacedNode nodes node p
+
+-- the numbers, and behind them this one if it isn't among them
+abbrev pub with_number : List ℕ → ℕ → List ℕ
+with_number numbers n = if list_any (λ m. n == m) numbers then numbers else numbers ++ n ∷ []
+
+-- the numbers, and behind them those of the nodes that the node reads
+abbrev pub HasOperands : List ℕ → Node → List ℕ → Type 0
+HasOperands numbers Constant new = new ≡ numbers
+HasOperands numbers (Input v) new = new ≡ numbers
+HasOperands numbers (And l r) new = new ≡ with_number (with_number numbers (l.0 / 2)) (r.0 / 2)
+
+-- numbers of nodes, each once and each reached from a root
+pub record IsSeen (g : List Node) (roots : List ℕ) (seen : List ℕ) : Type 0 where
+  pub distinct : AreDistinct seen
+  pub within : (i n : ℕ) → slice_get seen i ≡ Some n → n < length g
+  pub reached : (i n : ℕ) → slice_get seen i ≡ Some n → IsReached g roots n
+
+-- a walk from the roots: their nodes are seen, and with each of the first that were seen the nodes that it reads
+pub record IsWalk (g : List Node) (roots : List ℕ) (seen : List ℕ) (first : ℕ) : Type 0 where
+  pub sound : IsSeen g roots seen
+  pub front : first ≤ length seen
+  pub rooted : (x : ℕ) → Contains roots x → Contains seen (x / 2)
+  pub closed : (i n x : ℕ) (node : Node) → i < first → slice_get seen i ≡ Some n → slice_get g n ≡ Some node → Reads node x → Contains seen (x / 2)

@@ -1,12 +1,14 @@
 //! The cone of some literals.
 
-ghost use Rattle.std.specs.Prelude.{◌≡◌, ℕ, ◌*◌, ◌<◌, Bool, map, length, All, IfOk};
-ghost use Rattle.aig.specs.Graph.{IsOrdered};
+ghost use Rattle.std.specs.Prelude.{◌≡◌, ℕ, ◌+◌, ◌*◌, ◌/◌, ◌^◌, ◌<◌, ◌≤◌, Bool, List, map, length, slice_get, Some, Contains, All, IfOk, OnOk};
+ghost use Rattle.aig.specs.Graph.{IsOrdered, IsGraph};
 ghost use Rattle.aig.specs.Values.{value, node_bits};
-ghost use Rattle.aig.specs.Cone.{IsConeOf, IsClosed, IsPartOf};
+ghost use Rattle.aig.specs.Cone.{IsConeOf, IsClosed, IsPartOf, IsPlacedLit, IsPlacedNode, IsWalk, HasOperands, Reads, with_number};
+ghost use Rattle.std.specs.List.Sorted.{IsStrictlyIncreasing};
 
 use crate::graph::Aig;
 use crate::node::{Lit, Node};
+use indexmap::IndexSet;
 use sec_base::{Ids, NoMemory};
 use std::alloc::Global;
 
@@ -17,7 +19,15 @@ impl Aig {
         ensures cone { IfOk result (λ nodes. IsConeOf self.now (map (λ l. l.0) roots.now) nodes) }
         ensures closed { IfOk result (λ nodes. IsClosed self.now nodes) }
     {
-        Err(NoMemory)
+        let nodes = self.nodes();
+        let mut seen = IndexSet::new(alloc);
+        for i in 0..roots.len() {
+            see(&mut seen, roots[i].0 / 2)?;
+        }
+        walk(nodes, &mut seen)?;
+        let mut cone = Vec::from_slice(alloc, seen.as_slice())?;
+        cone.sort()?;
+        Ok(Ids::from_vec(cone))
     }
 
     /// The nodes of a cone, each with its operands as literals of places in the cone.
@@ -27,6 +37,74 @@ impl Aig {
         ensures ordered { IfOk result (λ part. IsOrdered part.items) }
         ensures bits { IfOk result (λ part. (a : ℕ → Bool) → node_bits part.items a ≡ map (λ n. value self.now a (2 * n)) cone.now) }
     {
-        Err(NoMemory)
+        let nodes = self.nodes();
+        let mut part = Vec::new(alloc);
+        for k in 0..cone.len() {
+            let node = placed(cone, nodes[cone[k] as usize]);
+            part.push(node)?;
+        }
+        Ok(part)
+    }
+}
+
+/// Puts the nodes that are reached from those that were seen behind them.
+fn walk(nodes: &[Node], seen: &mut IndexSet<u32>) -> Result<(), NoMemory>
+    requires graph { IsGraph nodes.now }
+    requires begun { (roots : List ℕ) × IsWalk nodes.now roots seen.old.keys 0 }
+    ensures { OnOk result ((roots : List ℕ) → IsWalk nodes.now roots seen.old.keys 0 → IsWalk nodes.now roots seen.new.keys (length seen.new.keys)) }
+{
+    let mut at = 0;
+    while at < seen.len() {
+        let number = seen[at];
+        see_operands(seen, nodes[number as usize])?;
+        at += 1;
+    }
+    Ok(())
+}
+
+/// Puts the nodes that this node reads behind those that were seen, if they aren't among them.
+fn see_operands(seen: &mut IndexSet<u32>, node: Node) -> Result<(), NoMemory>
+    ensures { OnOk result (HasOperands seen.old.keys node seen.new.keys) }
+{
+    match node {
+        Node::And(l, r) => {
+            see(seen, l.0 / 2)?;
+            see(seen, r.0 / 2)
+        }
+        _ => Ok(()),
+    }
+}
+
+/// Puts the number behind those that were seen, if it isn't among them.
+fn see(seen: &mut IndexSet<u32>, number: u32) -> Result<(), NoMemory>
+    ensures { OnOk result (seen.new.keys ≡ with_number seen.old.keys number) }
+{
+    seen.insert_full(number)?;
+    Ok(())
+}
+
+/// The node with its operands as literals of places in the list.
+fn placed(cone: &[u32], node: Node) -> Node
+    requires increasing { IsStrictlyIncreasing cone.now }
+    requires few { All (λ n. n < 2 ^ 30) cone.now }
+    requires operands { (x : ℕ) → Reads node x → Contains cone.now (x / 2) }
+    ensures { IsPlacedNode cone.now node result }
+{
+    match node {
+        Node::And(l, r) => Node::And(placed_lit(cone, l), placed_lit(cone, r)),
+        other => other,
+    }
+}
+
+/// The literal as one of a place in the list.
+fn placed_lit(cone: &[u32], l: Lit) -> Lit
+    requires increasing { IsStrictlyIncreasing cone.now }
+    requires few { All (λ n. n < 2 ^ 30) cone.now }
+    requires there { Contains cone.now (l.0 / 2) }
+    ensures { IsPlacedLit cone.now l.0 result.0 }
+{
+    match cone.binary_search(&(l.0 / 2)) {
+        Ok(k) => Lit(2 * (k as u32) + l.0 % 2),
+        Err(_) => l,
     }
 }

@@ -1,4 +1,4 @@
-use Rattle.std.proofs.Common.{◌≡◌, ◌∙◌, ℕ, ◌+◌, ◌<◌, List, length, refl, sym, arith}
+use Rattle.std.proofs.Common.{◌≡◌, ◌∙◌, ℕ, ◌+◌, ◌<◌, List, length, get_or, refl, sym, arith}
 use Rattle.aig.proofs.Growth.{Grows-refl, Grows-trans}
 use Rattle.aig.proofs.Folds.{cube-step}
 use Rattle.aig.proofs.graph.Aig.cube.Goals as goal
@@ -7,4 +7,13 @@ pub loop-i-init : goal.loop-i-init
 loop-i-init c = record { grows = Grows-refl c.args.self.now; few = omega arith; within = omega (arith, c.requires.some); vars = refl; rest = λ h x grows is. is }
 
 pub loop-i-preserved : goal.loop-i-preserved
-loop-i-preserved c = ?
+loop-i-preserved c = record {
+  grows = Grows-trans c.args.self.now c.loop-i.self c.place.new.self c.loop-i.invariant.grows c.place.ensures.grows;
+  few = omega (arith, c.loop-i.invariant.few, c.place.ensures.few);
+  within = c.in_ok-next.ensures.within;
+  vars = c.place.ensures.vars ∙ c.loop-i.invariant.vars;
+  rest = λ h x grows is.
+      c.loop-i.invariant.rest h x (Grows-trans c.loop-i.self c.place.new.self h c.place.ensures.grows grows)
+      (cube-step c.place.new.self h c.loop-i.lit.0 c.args.places.now c.args.fanins.now c.loop-i.i (get_or c.args.places.now c.loop-i.i 0) (get_or c.args.fanins.now c.loop-i.i (record { 0 = 0 })) (record { 0 = 0 })
+      c.in_ok-next.next.0 x refl refl c.loop-i-test.true (omega (arith, c.requires.width, c.loop-i-test.true)) c.in_ok-next.ensures.here grows is);
+}
