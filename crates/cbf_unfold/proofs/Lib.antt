@@ -13,3 +13,4 @@ pub mod Known
 pub mod PlaceLits
 pub mod Going
 pub mod Finish
+pub mod Cone

@@ -1,5 +1,6 @@
 -- What follows for the literal of an unfolded signal.
-use Rattle.std.specs.Prelude.{◌≡◌, ℕ, ◌-◌, ◌+◌, ◌<◌, ◌≤◌, Bool, List, length, slice_get, Some, All}
+use Rattle.std.specs.Prelude.{◌≡◌, ◌≢◌, ℕ, ◌-◌, ◌+◌, ◌<◌, ◌≤◌, Bool, List, [], ◌∷◌, length, slice_get, Some, All, Contains}
+use Rattle.std.specs.List.{AllPairs}
 use Rattle.circuit_theory.specs.declared.Mode.TheVariants.{Plain}
 use Rattle.circuit_theory.specs.Run.{IsRun}
 use Rattle.circuit_theory.specs.Agree.{IsSettled}
@@ -10,7 +11,9 @@ use Rattle.flat_net.specs.View.{NetView, circuit_of}
 use Rattle.flat_net.specs.Sound.{IsSound}
 use Rattle.sec_base.specs.Table.{AreDistinct}
 use Rattle.aig.specs.declared.node.Node.{Node}
-use Rattle.aig.specs.Graph.{Grows}
+use Rattle.aig.specs.declared.node.Node.TheVariants.{Input}
+use Rattle.aig.specs.Graph.{IsGraph, Grows}
+use Rattle.aig.specs.Cone.{IsReached}
 use Rattle.aig.specs.Values.{value}
 use Rattle.aig.specs.Builds.{HasOneLitEach, HasTreeValues}
 use Rattle.cbf_unfold.specs.Reach.{Adds}
@@ -51,3 +54,16 @@ Windows = (n : NetView) (order : List ℕ) (g : List Node) (places : List (ℕ �
     (length_of : ℕ) (run : ℕ → ℕ → Bool) → IsRun (circuit_of n) length_of run → last < length_of →
     TakesInputs (circuit_of n) order (row_value (sequence_rows last (assigned same_shift variables bits) count)) (last + 1) run →
     (a : ℕ → Bool) → TakesBits places (assigned same_shift variables bits) a → run last s ≡ value g a x
+
+-- The variables are distinct, and cover the literal's cone: each variable that is reached from the literal is one of them.
+abbrev pub VariablesCoverCone : Type 0
+VariablesCoverCone = (n : NetView) (order : List ℕ) (g : List Node) (places : List (ℕ × ℕ)) (s x : ℕ) (vars : List ℕ) → IsGraph g → AreDistinct places → IsUnfolded n order g places s x vars →
+    AllPairs (λ u v. u ≢ v) vars × ((k v : ℕ) → IsReached g (x ∷ []) k → slice_get g k ≡ Some (Input v) → Contains vars v)
+
+-- What is reached from several literals is reached from one of them.
+abbrev pub ReachedFromOne : Type 0
+ReachedFromOne = (g : List Node) (roots : List ℕ) (k : ℕ) → IsReached g roots k → (x : ℕ) × Contains roots x × IsReached g (x ∷ []) k
+
+-- No variable is reached from a constant.
+abbrev pub ConstantReachesNone : Type 0
+ConstantReachesNone = (g : List Node) (x : ℕ) → IsGraph g → x < 2 → (k v : ℕ) → IsReached g (x ∷ []) k → slice_get g k ≡ Some (Input v) → ⊥

@@ -1,6 +1,6 @@
 //! What follows for the literal of an unfolded signal. None of these functions does anything: each contract is a law.
 
-ghost use Rattle.cbf_unfold.specs.Laws.{FitsLater, UnfoldedLater, EqualTreesOneLiteral, LiteralIsRun, Windows};
+ghost use Rattle.cbf_unfold.specs.Laws.{FitsLater, UnfoldedLater, EqualTreesOneLiteral, LiteralIsRun, Windows, VariablesCoverCone, ReachedFromOne, ConstantReachesNone};
 
 /// What an unfolder keeps goes on to fit a graph and a table that others let grow.
 pub fn fits_later()
@@ -26,4 +26,19 @@ pub fn literal_is_run()
 /// in the last cycle.
 pub fn windows()
     ensures { Windows }
+{}
+
+/// The variables of an unfolded signal are distinct, and cover the cone of its literal.
+pub fn variables_cover_cone()
+    ensures { VariablesCoverCone }
+{}
+
+/// A node that is reached from several literals is reached from one of them.
+pub fn reached_from_one()
+    ensures { ReachedFromOne }
+{}
+
+/// No variable is reached from a constant.
+pub fn constant_reaches_none()
+    ensures { ConstantReachesNone }
 {}

@@ -11,5 +11,8 @@ mod unfolder;
 mod variables;
 
 pub use error::UnfoldError;
-pub use laws::{equal_trees_one_literal, fits_later, literal_is_run, unfolded_later, windows};
+pub use laws::{
+    constant_reaches_none, equal_trees_one_literal, fits_later, literal_is_run, reached_from_one,
+    unfolded_later, variables_cover_cone, windows,
+};
 pub use unfolder::{Unfolded, Unfolder};
