@@ -99,7 +99,7 @@ module _ (g : List Node) (graph : IsGraph g) (V : ℕ → Type 0) where
   supports_as x y e h = subst Supports (sym e) h
 
   supports_and_of : (l r x : ℕ) → IsAndOf g l r x → Supports l → Supports r → Supports x
-  supports_and_of l r x is left right = go (simple_and l r) (simple l r) is
+  supports_and_of l r x is left right = go (simple l r) is
     where
       node : (b : Bool) → IsLitOf g (if b then And (record { 0 = r }) (record { 0 = l }) else And (record { 0 = l }) (record { 0 = r })) x → Supports x
       node true lit = supports_and (record { 0 = r }) (record { 0 = l }) x lit right left
