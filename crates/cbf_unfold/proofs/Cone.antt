@@ -1,5 +1,5 @@
 -- Each variable in the cone of a tree's literal is a leaf of the tree.
-use Rattle.std.proofs.Common.{◌≡◌, ◌≢◌, ◌∙◌, ◌*◌, ◌/◌, ◌<◌, ℕ, Bool, true, false, List, [], ◌∷◌, length, map, get_or, slice_get, Option, Some, None, refl, sym, ap, subst, arith, inl, inr, nat_lt, ◌==◌, if◌then◌else◌}
+use Rattle.std.proofs.Common.{◌≡◌, ◌≢◌, ◌∙◌, ◌/◌, ◌<◌, ℕ, Bool, true, false, List, [], ◌∷◌, length, get_or, slice_get, Option, Some, None, refl, sym, ap, subst, arith, inl, inr, nat_lt, ◌==◌, if◌then◌else◌}
 use Rattle.std.specs.Prelude.{◌⊎◌}
 use Rattle.std.specs.List.{AllPairs, AllZip, Contains}
 use Rattle.std.proofs.lemmas.Option.{same_Some, slice_get-get_or}
@@ -13,7 +13,7 @@ use Rattle.aig.specs.declared.node.Lit.{Lit}
 use Rattle.aig.specs.declared.node.Node.{Node}
 use Rattle.aig.specs.declared.node.Node.TheVariants.{Constant, Input, And}
 use Rattle.aig.specs.Graph.{IsGraph, IsLitOf, flip}
-use Rattle.aig.specs.Rules.{simple_and, and_node, IsAndBy, IsAndOf, IsOrOf, place_lit, IsPlaceOf, IsCubeOf, IsRowOf, AreRowsOf, IsCoverOf}
+use Rattle.aig.specs.Rules.{IsAndBy, IsAndOf, IsOrOf, place_lit, IsPlaceOf, IsCubeOf, AreRowsOf, IsCoverOf}
 use Rattle.aig.specs.Builds.{Builds, BuildsAll}
 use Rattle.aig.specs.Cone.{Reads, IsReached}
 use Rattle.aig.proofs.CoverMeaning.{Simple, simple}

@@ -1,13 +1,12 @@
 -- What drives a signal says what its place reads and what it counts.
 use Rattle.std.proofs.Common.{◌≡◌, ◌∙◌, ◌+◌, ◌*◌, ◌-◌, ◌<◌, ◌≤◌, ℕ, suc, max, List, [], ◌∷◌, length, map, slice_get, Option, Some, None, refl, sym, ap, subst, arith, inl, inr}
 use Rattle.std.specs.Prelude.{◌⊎◌}
-use Rattle.std.specs.List.{All, Contains}
-use Rattle.std.proofs.lemmas.Option.{slice_get_within, same_Some}
+use Rattle.std.specs.List.{Contains}
 use Rattle.std.proofs.lemmas.List.Elements.{All-contains}
 use Rattle.circuit_theory.specs.Cover.{Cover}
-use Rattle.circuit_theory.specs.Circuit.{Circuit, Equation, Gate as gate_equation, Latch as latch_equation, Port, IsInput, IsLatch, Reads}
-use Rattle.circuit_theory.specs.Net.{IsAbove, IsWithin, IsNet}
-use Rattle.circuit_theory.specs.Sizes.{Visits, WeighsAt}
+use Rattle.circuit_theory.specs.Circuit.{Gate as gate_equation, Latch as latch_equation, Port, IsInput, IsLatch, Reads}
+use Rattle.circuit_theory.specs.Net.{IsAbove, IsWithin}
+use Rattle.circuit_theory.specs.Sizes.{WeighsAt}
 use Rattle.circuit_theory.proofs.Lists.{Contains-map, Contains-map_from}
 use Rattle.flat_net.specs.declared.signals.Signal.{Signal}
 use Rattle.flat_net.specs.declared.parts.Port.{Port as InputPort}
@@ -16,7 +15,7 @@ use Rattle.flat_net.specs.declared.parts.LatchAt.{LatchAt}
 use Rattle.flat_net.specs.declared.parts.Driver.{Driver}
 use Rattle.flat_net.specs.declared.parts.Driver.TheVariants as driver
 use Rattle.flat_net.specs.View.{NetView, circuit_of, cover_of, equation_of_gate, equation_of_latch}
-use Rattle.flat_net.specs.Sound.{IsSound, Drives}
+use Rattle.flat_net.specs.Sound.{IsSound}
 use Rattle.flat_net.proofs.Nets.{OfGate, OfLatch, equation_from, input_from, gate_stands, latch_stands, input_stands, sound_is_net, some_at}
 use Rattle.flat_net.proofs.Places.{one_at}
 use Rattle.cbf_unfold.specs.Places.{Steps, weight_at, driver_weight, gate_weight}

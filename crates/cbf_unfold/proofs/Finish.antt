@@ -1,11 +1,9 @@
 -- What has been unfolded once all places of a signal have been met.
-use Rattle.std.proofs.Common.{◌≡◌, ◌≢◌, ◌∙◌, ◌+◌, ◌-◌, ◌*◌, ◌^◌, ◌<◌, ◌≤◌, ℕ, List, [], ◌∷◌, ◌++◌, length, map, slice_get, Some, refl, sym, ap, subst, arith, inl, inr}
-use Rattle.std.specs.Prelude.{◌⊎◌}
+use Rattle.std.proofs.Common.{◌≡◌, ◌≢◌, ◌∙◌, ◌-◌, ◌^◌, ◌<◌, ◌≤◌, ℕ, List, [], ◌∷◌, ◌++◌, length, map, slice_get, Some, refl, sym, ap, subst, arith, inl, inr}
 use Rattle.std.specs.List.{All, AllPairs, AllZip, Contains, sum_by}
 use Rattle.std.proofs.lemmas.List.Elements.{All-nil, Contains-push, All-weaker, All-contains, All-push, Contains-append_left, Contains-append_right, Contains-push_cases}
 use Rattle.circuit_theory.specs.Circuit.{Circuit}
 use Rattle.circuit_theory.specs.Tree.{Tree, Leaf, Unfolds, IsInputNumber}
-use Rattle.circuit_theory.specs.Query.{Variable, ShiftBefore, AreVariables}
 use Rattle.circuit_theory.specs.Sizes.{Visits, IsOver, IsWeight}
 use Rattle.circuit_theory.proofs.Lists.{All-from_each, of_at}
 use Rattle.circuit_theory.proofs.Numbers.{one_number}
@@ -16,12 +14,12 @@ use Rattle.flat_net.proofs.Nets.{sound_is_net}
 use Rattle.aig.specs.declared.node.Lit.{Lit}
 use Rattle.aig.specs.declared.node.Node.{Node}
 use Rattle.aig.specs.Builds.{Builds}
-use Rattle.cbf_unfold.specs.Places.{PlaceBefore, IsVisited, weight_at}
+use Rattle.cbf_unfold.specs.Places.{PlaceBefore, weight_at}
 use Rattle.cbf_unfold.specs.Reach.{IsReach, AreInputsOf}
 use Rattle.cbf_unfold.specs.View.{UnfolderView}
-use Rattle.cbf_unfold.specs.Unfolded.{IsKnown, IsNumberOf, IsUnfolded, Holds, Fits}
+use Rattle.cbf_unfold.specs.Unfolded.{IsNumberOf, IsUnfolded, Holds, Fits}
 use Rattle.cbf_unfold.specs.Building.{IsMet, HasRoom, IsLater, AreNumbered}
-use Rattle.cbf_unfold.proofs.Going.{met_later, places_weigh}
+use Rattle.cbf_unfold.proofs.Going.{places_weigh}
 use Rattle.cbf_unfold.proofs.InputLists.{reach_all, variable_of, inputs_are_variables}
 
 pub zip_map : {X Y Z : Type 0} (R : X → Y → Type 0) (S : X → Z → Type 0) (f : Y → Z) → ((x : X) (y : Y) → R x y → S x (f y)) → (xs : List X) (ys : List Y) → AllZip R xs ys → AllZip S xs (map f ys)

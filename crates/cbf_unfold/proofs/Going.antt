@@ -1,12 +1,11 @@
 -- How an unfolder goes on: what stays, and what one place more brings.
-use Rattle.std.proofs.Common.{◌≡◌, ◌≢◌, ◌∙◌, ◌+◌, ◌-◌, ◌*◌, ◌^◌, ◌<◌, ◌≤◌, ℕ, List, [], ◌∷◌, ◌++◌, length, map, get_or, slice_get, Some, refl, sym, ap, subst, arith, inl, inr}
+use Rattle.std.proofs.Common.{◌≡◌, ◌≢◌, ◌∙◌, ◌+◌, ◌-◌, ◌<◌, ◌≤◌, ℕ, List, [], ◌∷◌, ◌++◌, length, map, get_or, slice_get, Some, refl, sym, ap, subst, arith, inl, inr}
 use Rattle.std.specs.Prelude.{◌⊎◌}
 use Rattle.std.specs.List.{All, AllPairs, Contains, sum_by}
 use Rattle.std.proofs.lemmas.Bool.{cases_order, cases_lt}
-use Rattle.std.proofs.lemmas.List.Elements.{All-contains, Contains-push, Contains-push_cases, Contains-append_left}
+use Rattle.std.proofs.lemmas.List.Elements.{All-contains, Contains-push, Contains-push_cases}
 use Rattle.std.proofs.lemmas.List.Sums.{sum_by-append, sum_by-cons}
 use Rattle.std.proofs.lemmas.Option.{same_Some, get_or_from_slice_get}
-use Rattle.circuit_theory.specs.Circuit.{Circuit}
 use Rattle.circuit_theory.specs.Sizes.{Visits, IsOver, IsWeight}
 use Rattle.circuit_theory.proofs.Lists.{Contains-map, Contains-map_from, at_of, of_at}
 use Rattle.flat_net.specs.View.{NetView, circuit_of}
@@ -14,14 +13,13 @@ use Rattle.flat_net.specs.Sound.{IsSound}
 use Rattle.flat_net.proofs.Places.{All-at}
 use Rattle.aig.specs.declared.node.Lit.{Lit}
 use Rattle.aig.specs.declared.node.Node.{Node}
-use Rattle.aig.specs.Graph.{Grows}
 use Rattle.aig.proofs.Growth.{Grows-refl, Grows-trans}
 use Rattle.cbf_unfold.specs.Places.{Steps, PlaceBefore, IsVisited, weight_at}
-use Rattle.cbf_unfold.specs.Reach.{Adds, IsReach}
+use Rattle.cbf_unfold.specs.Reach.{IsReach}
 use Rattle.cbf_unfold.specs.View.{UnfolderView}
-use Rattle.cbf_unfold.specs.Unfolded.{IsKnown, Holds, Fits}
+use Rattle.cbf_unfold.specs.Unfolded.{IsKnown, Holds}
 use Rattle.cbf_unfold.specs.Building.{IsMet, IsReady, HasRoom, HasGrown, IsLater}
-use Rattle.cbf_unfold.proofs.Lists.{adds_none, adds_trans, adds_push, adds_contains, pairs_at, pairs_map, sum_by-map}
+use Rattle.cbf_unfold.proofs.Lists.{adds_none, adds_trans, adds_push, adds_contains, pairs_at, sum_by-map}
 use Rattle.cbf_unfold.proofs.Drivers.{step_lower, step_within}
 use Rattle.cbf_unfold.proofs.InputLists.{place_apart, pairs_push}
 use Rattle.cbf_unfold.proofs.Known.{Any, known_later}
@@ -101,8 +99,8 @@ ready_at u v s reach sound among is net cap done i p here met =
     let visited : IsVisited (circuit_of u.net) u.cap u.done p = record { cycle = own.0; from = s; among = among; visits = own.1 } in
     record {
       visited =
-        subst (λ (n : NetView). IsVisited (circuit_of n) v.cap v.done p) (sym net)
-        (subst (λ (k : ℕ). IsVisited (circuit_of u.net) k v.done p) (sym cap) (subst (λ (d : List ℕ). IsVisited (circuit_of u.net) u.cap d p) (sym done) visited));
+          subst (λ (n : NetView). IsVisited (circuit_of n) v.cap v.done p) (sym net)
+          (subst (λ (k : ℕ). IsVisited (circuit_of u.net) k v.done p) (sym cap) (subst (λ (d : List ℕ). IsVisited (circuit_of u.net) u.cap d p) (sym done) visited));
       within = subst (λ (n : NetView). p.1 < length n.drivers) (sym net) inside.1;
       early = inside.0;
       read = λ q steps. let b = stands_before u.net sound s u.cap reach is i p q here (subst (λ (n : NetView). Steps (circuit_of n) p q) net steps) in met b.0 q b.1 b.2;

@@ -1,9 +1,8 @@
 -- How the literals of places follow from those of the places that they read, and stay while the graph and the table grow.
-use Rattle.std.proofs.Common.{◌≡◌, ◌∙◌, ◌+◌, ◌-◌, ◌*◌, ◌<◌, ◌≤◌, ℕ, suc, max, List, [], ◌∷◌, ◌++◌, length, map, slice_get, Some, refl, sym, ap, subst, arith, inl, inr}
-use Rattle.std.specs.List.{All, AllZip, Contains, sum_by}
-use Rattle.std.proofs.lemmas.List.Elements.{All-contains, Contains-push, Contains-push_cases}
+use Rattle.std.proofs.Common.{◌≡◌, ◌-◌, ◌*◌, ◌<◌, ◌≤◌, ℕ, suc, max, List, [], ◌∷◌, length, map, slice_get, Some, refl, sym, subst, arith}
+use Rattle.std.specs.List.{AllZip, Contains}
 use Rattle.circuit_theory.specs.Cover.{Cover}
-use Rattle.circuit_theory.specs.Circuit.{Circuit, Gate as gate_equation, IsLatch}
+use Rattle.circuit_theory.specs.Circuit.{Gate as gate_equation, IsLatch}
 use Rattle.circuit_theory.specs.Tree.{Tree, Trees, Leaf, Branch, Nil, Cons, Unfolds, UnfoldsAll, IsInputNumber}
 use Rattle.circuit_theory.proofs.Lists.{zip_weaker}
 use Rattle.flat_net.specs.declared.signals.Signal.{Signal}

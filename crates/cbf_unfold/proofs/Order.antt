@@ -1,8 +1,8 @@
 -- Places and numbers in order.
-use Rattle.std.proofs.Common.{◌≡◌, ◌≢◌, ◌∙◌, ◌+◌, ◌-◌, ◌<◌, ◌≤◌, ℕ, Bool, true, false, List, [], ◌∷◌, length, get_or, refl, sym, ap, subst, arith, inl, inr, true≢false}
-use Rattle.std.specs.Prelude.{◌⊎◌, IsSorted, IsPermutation}
-use Rattle.std.specs.List.{All, AllPairs, Contains, IsDistinct}
-use Rattle.std.specs.Cmp.{IsTotalOrder, IsStrictWeakOrder}
+use Rattle.std.proofs.Common.{◌≡◌, ◌≢◌, ◌<◌, ℕ, false, List, get_or, refl, sym, subst, arith, inl, inr, true≢false}
+use Rattle.std.specs.Prelude.{IsSorted, IsPermutation}
+use Rattle.std.specs.List.{AllPairs}
+use Rattle.std.specs.Cmp.{IsStrictWeakOrder}
 use Rattle.std.specs.declared.cmp.Ordering.{Ordering}
 use Rattle.std.specs.declared.cmp.Ordering.TheVariants.{Less, Equal, Greater}
 use Rattle.std.specs.Ordering.{is_lt, nat_cmp, ordering_then, MatchOrdering}
@@ -12,7 +12,7 @@ use Rattle.std.proofs.lemmas.Map.Keys.{IsDistinct-IsPermutation}
 use Rattle.std.proofs.lemmas.Map.Made.{AllPairs-from_IsDistinct, IsDistinct-from_AllPairs}
 use Rattle.circuit_theory.specs.Circuit.{Circuit}
 use Rattle.sec_base.specs.Table.{AreDistinct}
-use Rattle.cbf_unfold.specs.Places.{Steps, PlaceBefore}
+use Rattle.cbf_unfold.specs.Places.{PlaceBefore}
 use Rattle.cbf_unfold.specs.Reach.{AreVisited, IsReach}
 use Rattle.cbf_unfold.proofs.Over.{pairs_differ}
 use Rattle.cbf_unfold.proofs.PairTest.{same_pair, decides_pair, flips}

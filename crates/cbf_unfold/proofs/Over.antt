@@ -1,8 +1,7 @@
 -- Weights of places, as the definition of an unfolding's weight counts them.
-use Rattle.std.proofs.Common.{◌≡◌, ◌≢◌, ◌∙◌, ◌+◌, ◌-◌, ◌<◌, ◌≤◌, ℕ, List, [], ◌∷◌, ◌++◌, length, map, take, get_or, slice_get, Some, refl, sym, ap, subst, arith, inl, inr}
-use Rattle.std.specs.List.{All, AllPairs, Contains, sum_by}
+use Rattle.std.proofs.Common.{◌≡◌, ◌≢◌, ◌∙◌, ◌-◌, ◌<◌, ◌≤◌, ℕ, List, length, map, take, get_or, slice_get, Some, sym, ap, subst, arith}
+use Rattle.std.specs.List.{AllPairs, Contains, sum_by}
 use Rattle.std.proofs.lemmas.Option.{slice_get-get_or}
-use Rattle.circuit_theory.specs.Circuit.{Circuit}
 use Rattle.circuit_theory.specs.Sizes.{Visits, WeighsAt, Weighed, IsWeight, IsOver}
 use Rattle.circuit_theory.proofs.Lists.{Contains-map, Contains-map_from}
 use Rattle.sec_base.specs.Table.{AreDistinct}
@@ -38,10 +37,10 @@ module _ (n : NetView) (sound : IsSound n) (last : ℕ) (outputs : List ℕ) whe
     distinct =
         pairs_map weighed (λ x y. x ≢ y) (λ x y. (x.place ≡ y.place) → (x.shift ≡ y.shift) → ⊥) xs
         (λ x y hx hy apart place shift.
-            let left = (visited x hx).0.cycle in
-            let right = (visited y hy).0.cycle in
-            let cycle : x.0 ≡ y.0 = omega arith in
-            apart (λ i. (cycle i, place i)))
+        let left = (visited x hx).0.cycle in
+        let right = (visited y hy).0.cycle in
+        let cycle : x.0 ≡ y.0 = omega arith in
+        apart (λ i. (cycle i, place i)))
         differ
 
     each : (x : Weighed ℕ) → Contains (map weighed xs) x → (p : ℕ × ℕ) × Contains xs p × (weighed p ≡ x)

@@ -1,8 +1,8 @@
 -- The literal of a place, by what drives its signal.
-use Rattle.std.proofs.Common.{◌≡◌, ◌∙◌, ◌+◌, ◌-◌, ◌*◌, ◌^◌, ◌<◌, ◌≤◌, max, ℕ, List, [], ◌∷◌, ◌++◌, length, map, take, get_or, slice_get, Some, Result, Ok, Err, IfOk, IfSome, refl, sym, ap, subst, arith, inl, inr}
+use Rattle.std.proofs.Common.{◌≡◌, ◌∙◌, ◌+◌, ◌-◌, ◌*◌, ◌<◌, ◌≤◌, max, ℕ, List, [], ◌∷◌, ◌++◌, length, map, take, get_or, slice_get, Some, Result, Ok, Err, IfOk, IfSome, refl, sym, ap, subst, arith}
 use Rattle.std.specs.List.{All, AllZip, Contains}
 use Rattle.std.proofs.lemmas.List.{take_more}
-use Rattle.std.proofs.lemmas.List.Elements.{All-nil, All-cons, All-from_get_or}
+use Rattle.std.proofs.lemmas.List.Elements.{All-nil, All-cons}
 use Rattle.std.proofs.Math.Nat.{mul-le-mul_right}
 use Rattle.circuit_theory.specs.Tree.{IsInputNumber}
 use Rattle.circuit_theory.specs.Cover.{Cover}
@@ -12,23 +12,21 @@ use Rattle.flat_net.specs.declared.signals.Signal.{Signal}
 use Rattle.flat_net.specs.declared.parts.Gate.{Gate}
 use Rattle.flat_net.specs.declared.parts.LatchAt.{LatchAt}
 use Rattle.flat_net.specs.declared.parts.Driver.TheVariants as driver
-use Rattle.flat_net.specs.View.{NetView, named, circuit_of, cover_of}
+use Rattle.flat_net.specs.View.{named, circuit_of, cover_of}
 use Rattle.flat_net.specs.Sound.{IsSound}
-use Rattle.flat_net.proofs.Places.{one_at}
 use Rattle.aig.specs.declared.node.Lit.{Lit}
 use Rattle.aig.specs.declared.node.Node.{Node}
 use Rattle.aig.specs.Graph.{Grows, IsLitOf}
 use Rattle.aig.specs.declared.node.Node.TheVariants.{Input}
 use Rattle.aig.specs.Rules.{IsCoverOf, cover_room}
-use Rattle.aig.proofs.Growth.{Grows-refl, Grows-length}
+use Rattle.aig.proofs.Growth.{Grows-refl}
 use Rattle.cbf_unfold.specs.Places.{weight_at, driver_weight, gate_weight}
-use Rattle.cbf_unfold.specs.Reach.{Adds}
 use Rattle.cbf_unfold.specs.View.{UnfolderView, IsOrderOf}
 use Rattle.cbf_unfold.specs.Unfolded.{IsKnown}
 use Rattle.cbf_unfold.specs.Building.{AreKnown, IsMet, IsReady, HasGrown, IsInputLit, IsGateLit}
 use Rattle.cbf_unfold.proofs.Lists.{adds_none, adds_weaker}
 use Rattle.cbf_unfold.proofs.Table.{interned}
-use Rattle.cbf_unfold.proofs.Drivers.{driven_gate, gate_equation_stands, gate_steps_to, gate_weight_is, latch_equation_stands, latch_steps_to}
+use Rattle.cbf_unfold.proofs.Drivers.{driven_gate, gate_equation_stands, gate_steps_to, latch_equation_stands, latch_steps_to}
 use Rattle.cbf_unfold.proofs.Known.{Any, known_later, known_input, known_latch, known_gate}
 
 -- a pair of lists with one element more each

@@ -1,5 +1,5 @@
 -- The places that one place reads, put into a table.
-use Rattle.std.proofs.Common.{◌≡◌, ◌∙◌, ◌+◌, ◌-◌, ◌<◌, ◌≤◌, ℕ, List, length, take, get_or, slice_get, Option, Some, Result, Ok, Err, OnOk, sym, ap, subst, arith}
+use Rattle.std.proofs.Common.{◌≡◌, ◌+◌, ◌-◌, ◌<◌, ℕ, List, length, take, get_or, slice_get, Some, Result, Ok, Err, OnOk, sym, subst}
 use Rattle.std.specs.List.{All, Contains}
 use Rattle.std.proofs.lemmas.List.Elements.{All-more, All-weaker, All-contains, Contains-get_or}
 use Rattle.flat_net.specs.declared.signals.Signal.{Signal}

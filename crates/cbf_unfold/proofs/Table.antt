@@ -1,6 +1,6 @@
 -- What a table of places has after a place was put into it.
-use Rattle.std.proofs.Common.{◌≡◌, ◌≢◌, ◌∙◌, ◌+◌, ◌≤◌, ℕ, zero, suc, Bool, true, false, List, [], ◌∷◌, ◌++◌, length, refl, sym, ap, subst, arith, inl, inr}
-use Rattle.std.specs.Prelude.{◌⊎◌, ◌==◌}
+use Rattle.std.proofs.Common.{◌≡◌, ◌≢◌, ◌+◌, ◌≤◌, ℕ, List, [], ◌∷◌, ◌++◌, length, refl, ap, subst, arith, inl, inr}
+use Rattle.std.specs.Prelude.{◌⊎◌}
 use Rattle.std.specs.List.{Contains}
 use Rattle.circuit_theory.proofs.Lists.{Contains-head, Contains-tail, Contains-cases}
 use Rattle.circuit_theory.proofs.Sums.{same_or_not}

@@ -1,22 +1,21 @@
 -- The walk over the places that an unfolding visits.
-use Rattle.std.proofs.Common.{◌≡◌, ◌≢◌, ◌∙◌, ◌+◌, ◌-◌, ◌<◌, ◌≤◌, ℕ, suc, List, [], ◌∷◌, ◌++◌, length, take, slice_get, Some, refl, sym, ap, subst, arith, inl, inr}
+use Rattle.std.proofs.Common.{◌≡◌, ◌∙◌, ◌+◌, ◌-◌, ◌<◌, ◌≤◌, ℕ, suc, List, [], ◌∷◌, length, take, slice_get, Some, refl, sym, ap, subst, arith, inl, inr}
 use Rattle.std.specs.Prelude.{◌⊎◌}
-use Rattle.std.specs.List.{All, AllPairs, Contains, sum_by}
+use Rattle.std.specs.List.{All, Contains, sum_by}
 use Rattle.std.proofs.lemmas.List.Elements.{All-nil, All-cons, All-append, All-weaker, All-contains}
 use Rattle.std.proofs.lemmas.List.Sums.{sum_by_more}
 use Rattle.std.proofs.lemmas.Bool.{cases_lt}
-use Rattle.std.proofs.lemmas.Option.{slice_get_within, get_or_from_slice_get, same_Some}
-use Rattle.circuit_theory.specs.Circuit.{Circuit, IsLatch, Reads}
+use Rattle.std.proofs.lemmas.Option.{slice_get_within, get_or_from_slice_get}
 use Rattle.circuit_theory.specs.Sizes.{Visits, IsOver}
-use Rattle.circuit_theory.proofs.Lists.{Contains-head, All-from_each, at_of, of_at}
+use Rattle.circuit_theory.proofs.Lists.{Contains-head, All-from_each, at_of}
 use Rattle.sec_base.specs.Table.{AreDistinct}
 use Rattle.sec_base.proofs.TableLemmas.{slice_get-take}
 use Rattle.flat_net.specs.View.{NetView, circuit_of}
 use Rattle.flat_net.specs.Sound.{IsSound}
 use Rattle.flat_net.proofs.Places.{All-at, one_at}
-use Rattle.cbf_unfold.specs.Places.{Steps, IsVisited, weight_at}
+use Rattle.cbf_unfold.specs.Places.{Steps, weight_at}
 use Rattle.cbf_unfold.specs.Reach.{Adds, AreVisited}
-use Rattle.cbf_unfold.proofs.Lists.{adds_at, adds_contains, adds_cases, adds_from, adds_length, adds_take}
+use Rattle.cbf_unfold.proofs.Lists.{adds_at, adds_contains, adds_cases, adds_length, adds_take}
 use Rattle.cbf_unfold.proofs.Drivers.{weight_positive, step_within}
 use Rattle.cbf_unfold.proofs.Over.{pairs_differ, distinct_front, over_from}
 

@@ -1,10 +1,10 @@
 -- What follows for the literal of an unfolded signal.
-use Rattle.std.specs.Prelude.{◌≡◌, ◌≢◌, ℕ, ◌-◌, ◌+◌, ◌<◌, ◌≤◌, Bool, List, [], ◌∷◌, length, slice_get, Some, All, Contains}
+use Rattle.std.specs.Prelude.{◌≡◌, ◌≢◌, ℕ, ◌-◌, ◌+◌, ◌<◌, ◌≤◌, Bool, List, [], ◌∷◌, slice_get, Some, All, Contains}
 use Rattle.std.specs.List.{AllPairs}
 use Rattle.circuit_theory.specs.declared.Mode.TheVariants.{Plain}
 use Rattle.circuit_theory.specs.Run.{IsRun}
 use Rattle.circuit_theory.specs.Agree.{IsSettled}
-use Rattle.circuit_theory.specs.Tree.{IsInputNumber, tree_value}
+use Rattle.circuit_theory.specs.Tree.{IsInputNumber}
 use Rattle.circuit_theory.specs.Query.{assigned, same_shift, Variable}
 use Rattle.circuit_theory.specs.Sequence.{sequence_rows, row_value, TakesInputs}
 use Rattle.flat_net.specs.View.{NetView, circuit_of}

@@ -1,5 +1,4 @@
 -- The places are distinct, so that in order each stands strictly before the next.
-use Rattle.std.proofs.Common.{subst}
 use Rattle.cbf_unfold.proofs.Order.{sorted_reach}
 use Rattle.cbf_unfold.proofs.reaching.reach.Goals as goal
 

@@ -1,5 +1,4 @@
 -- The place is there already, or it goes last.
-use Rattle.std.proofs.Common.{refl}
 use Rattle.circuit_theory.proofs.Lists.{of_at}
 use Rattle.cbf_unfold.proofs.Table.{interned}
 use Rattle.cbf_unfold.proofs.reading.add.Goals as goal

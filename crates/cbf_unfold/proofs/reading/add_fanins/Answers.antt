@@ -1,5 +1,5 @@
 -- One fan-in's place more.
-use Rattle.std.proofs.Common.{arith, rules}
+use Rattle.std.proofs.Common.{arith}
 use Rattle.std.proofs.lemmas.List.{take_all}
 use Rattle.cbf_unfold.proofs.ReadPlaces.{fanin_adds, fanin_all}
 use Rattle.cbf_unfold.proofs.reading.add_fanins.Goals as goal

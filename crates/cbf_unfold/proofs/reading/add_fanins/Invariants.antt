@@ -1,4 +1,4 @@
-use Rattle.std.proofs.Common.{◌≡◌, ◌+◌, ◌≤◌, ℕ, length, take}
+use Rattle.std.proofs.Common.{◌≡◌, ◌+◌, ◌≤◌, length, take}
 use Rattle.std.specs.List.{All, Contains}
 use Rattle.flat_net.specs.declared.signals.Signal.{Signal}
 use Rattle.cbf_unfold.specs.Reach.{Adds}

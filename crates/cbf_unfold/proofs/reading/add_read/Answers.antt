@@ -1,7 +1,7 @@
 -- What drives the signal says what its place reads.
-use Rattle.std.proofs.Common.{◌≡◌, ◌∙◌, ap, sym, subst, arith, Some}
+use Rattle.std.proofs.Common.{◌∙◌, ap, Some}
 use Rattle.std.proofs.lemmas.Option.{slice_get_within}
-use Rattle.cbf_unfold.proofs.Drivers.{input_steps, driven_gate, driven_latch, gate_weight_is}
+use Rattle.cbf_unfold.proofs.Drivers.{input_steps, driven_gate, driven_latch}
 use Rattle.cbf_unfold.proofs.ReadPlaces.{gate_adds, gate_all_ok, latch_adds, latch_all_ok}
 use Rattle.cbf_unfold.proofs.reading.add_read.Goals as goal
 

@@ -1,5 +1,5 @@
 -- The cover has a column for each fan-in.
-use Rattle.std.proofs.Common.{◌≡◌, ◌∙◌, ◌+◌, ◌*◌, ◌^◌, ◌-◌, min, max, ℕ, length, sym, ap, arith}
+use Rattle.std.proofs.Common.{◌≡◌, ◌∙◌, ◌+◌, ◌*◌, ◌^◌, ◌-◌, min, max, length, sym, ap, arith}
 use Rattle.flat_net.proofs.Places.{cover_of-is, cover_within, cover_fits}
 use Rattle.cbf_unfold.specs.Places.{gate_weight}
 use Rattle.cbf_unfold.proofs.Weighing.{saturated}

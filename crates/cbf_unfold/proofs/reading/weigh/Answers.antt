@@ -1,7 +1,7 @@
 -- What drives the signal says what it counts.
-use Rattle.std.proofs.Common.{◌≡◌, ◌∙◌, ap, arith, sym, slice_get, Some}
+use Rattle.std.proofs.Common.{◌∙◌, ap, Some}
 use Rattle.std.proofs.lemmas.Option.{slice_get_within}
-use Rattle.cbf_unfold.proofs.Drivers.{driven_gate, gate_weight_is}
+use Rattle.cbf_unfold.proofs.Drivers.{driven_gate}
 use Rattle.cbf_unfold.proofs.reading.weigh.Goals as goal
 
 pub gate_weight-requires : goal.gate_weight-requires

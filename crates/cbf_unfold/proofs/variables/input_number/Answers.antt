@@ -1,5 +1,5 @@
 -- What drives the signal says whether an input does.
-use Rattle.std.proofs.Common.{◌≡◌, ◌∙◌, ℕ, ap, sym, subst, arith, Some, map, get_or, slice_get}
+use Rattle.std.proofs.Common.{◌∙◌, ℕ, ap, subst, arith, Some, map, get_or}
 use Rattle.std.proofs.lemmas.Option.{slice_get_within, slice_get-get_or}
 use Rattle.circuit_theory.specs.Tree.{IsInputNumber}
 use Rattle.circuit_theory.proofs.Inputs.{beside_is_input}

@@ -1,5 +1,5 @@
 -- One place more, with its number or without one; then the pairs in order.
-use Rattle.std.proofs.Common.{◌≡◌, ◌+◌, ℕ, List, length, sym, subst, take}
+use Rattle.std.proofs.Common.{◌+◌, ℕ, List, sym, subst, take}
 use Rattle.std.proofs.lemmas.List.{take_all}
 use Rattle.flat_net.specs.View.{circuit_of}
 use Rattle.cbf_unfold.specs.Reach.{AreInputsOf}

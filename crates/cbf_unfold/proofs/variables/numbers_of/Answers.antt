@@ -1,7 +1,6 @@
 -- Each input is in the table, which stays.
 use Rattle.std.proofs.Common.{◌≡◌, ◌∙◌, ◌-◌, ◌+◌, ℕ, List, sym, ap, subst, take, get_or, slice_get, Some}
 use Rattle.std.specs.List.{AllZip, Contains}
-use Rattle.std.proofs.lemmas.List.{take_all}
 use Rattle.std.proofs.lemmas.List.Elements.{All-get_or}
 use Rattle.cbf_unfold.proofs.InputLists.{zip_more}
 use Rattle.cbf_unfold.proofs.variables.numbers_of.Goals as goal

@@ -1,5 +1,5 @@
 -- What the map finds is an entry, and it finds each key.
-use Rattle.std.proofs.Common.{◌≡◌, ◌∙◌, ℕ, List, map, sym, subst, Contains}
+use Rattle.std.proofs.Common.{ℕ, List, map, sym, subst, Contains}
 use Rattle.std.proofs.lemmas.Map.Views.{Contains-from_lookup}
 use Rattle.aig.specs.declared.node.Lit.{Lit}
 use Rattle.cbf_unfold.proofs.Entries.{not_found}

@@ -1,5 +1,5 @@
 -- The map keeps its keys apart.
-use Rattle.std.proofs.Common.{◌≡◌, ◌≢◌, ℕ, List, map, subst}
+use Rattle.std.proofs.Common.{◌≢◌, ℕ, List, map, subst}
 use Rattle.std.specs.List.{AllPairs}
 use Rattle.std.proofs.lemmas.Map.Made.{AllPairs-from_IsDistinct}
 use Rattle.aig.specs.declared.node.Lit.{Lit}

@@ -1,5 +1,5 @@
 -- A new key goes last.
-use Rattle.std.proofs.Common.{◌≡◌, ◌∙◌, ◌++◌, ◌∷◌, [], ℕ, List, map, sym, ap, subst, Contains}
+use Rattle.std.proofs.Common.{◌∙◌, ◌++◌, ◌∷◌, [], ℕ, List, map, sym, ap, subst, Contains}
 use Rattle.indexmap.proofs.CallerLemmas.{insert_entry-new}
 use Rattle.aig.specs.declared.node.Lit.{Lit}
 use Rattle.cbf_unfold.proofs.Entries.{absent_key}

@@ -1,9 +1,9 @@
 -- Each place can be unfolded once those before it have been met.
-use Rattle.std.proofs.Common.{◌≡◌, ◌∙◌, ◌+◌, ◌<◌, ℕ, length, get_or, slice_get, Some, sym, subst, arith, refl}
+use Rattle.std.proofs.Common.{◌∙◌, get_or, subst, arith, refl}
 use Rattle.std.proofs.lemmas.Option.{slice_get-get_or, slice_get_within}
 use Rattle.circuit_theory.proofs.Lists.{at_of}
 use Rattle.flat_net.specs.Sound.{IsSound}
-use Rattle.cbf_unfold.proofs.Going.{ready_at, room_later, later_none, later_trans, met_next, over_before}
+use Rattle.cbf_unfold.proofs.Going.{ready_at, room_later, later_none, later_trans, met_next}
 use Rattle.cbf_unfold.proofs.unfolder.Unfolder.build.Goals as goal
 
 pub loop-place-init : goal.loop-place-init

@@ -1,7 +1,6 @@
 -- The place was met before, it weighs too much, or its literal is kept.
-use Rattle.std.proofs.Common.{◌≡◌, ◌+◌, ◌-◌, ◌^◌, ◌<◌, ℕ, List, sym, subst, arith}
+use Rattle.std.proofs.Common.{◌+◌, ℕ, List, sym, subst, arith}
 use Rattle.aig.specs.declared.node.Lit.{Lit}
-use Rattle.cbf_unfold.specs.View.{UnfolderView}
 use Rattle.cbf_unfold.specs.Building.{IsLater}
 use Rattle.cbf_unfold.proofs.Going.{later_none, ready_weight, holds_at, ready_as, room_at, over_at, weight_later, put_holds, put_met, put_later}
 use Rattle.cbf_unfold.proofs.unfolder.Unfolder.build_place.Goals as goal
@@ -37,8 +36,8 @@ put-requires c = c.in_default.ensures.absent
 pub returns-in_err-put-clause-later : goal.returns-in_err-put-clause-later
 returns-in_err-put-clause-later c =
     subst (λ (m : List ((ℕ × ℕ) × Lit)). IsLater c.args.self.now
-        (record { net = c.self.inside.net.now; order = c.self.inside.order; cap = c.self.inside.cap; done = c.self.inside.done; memo = m; weight = c.self.inside.weight + c.in-Some-weigh.weight })
-        c.args.aig.now c.literal.new.aig c.args.places.now c.literal.new.places)
+    (record { net = c.self.inside.net.now; order = c.self.inside.order; cap = c.self.inside.cap; done = c.self.inside.done; memo = m; weight = c.self.inside.weight + c.in-Some-weigh.weight })
+    c.args.aig.now c.literal.new.aig c.args.places.now c.literal.new.places)
     (sym c.in_err-put.ensures.err)
     (weight_later _ c.args.self.now c.self.view_is c.args.aig.now c.args.places.now c.args.place c.literal.new.aig c.literal.new.places c.in-Some-weigh.weight c.in-Some-weigh.ensures.here c.in-Some-weigh.ensures.room c.requires.room c.literal.ensures.grown)
 

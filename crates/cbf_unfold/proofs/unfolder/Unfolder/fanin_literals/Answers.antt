@@ -1,5 +1,5 @@
 -- One fan-in's literal more.
-use Rattle.std.proofs.Common.{◌≡◌, ◌+◌, List, sym, subst, take}
+use Rattle.std.proofs.Common.{◌+◌, List, sym, subst, take}
 use Rattle.std.specs.List.{AllZip, Contains}
 use Rattle.std.proofs.lemmas.List.{take_all}
 use Rattle.std.proofs.lemmas.List.Elements.{All-get_or}

@@ -1,15 +1,13 @@
 -- The gate's cover has a column for each fan-in, and its room is within what the gate counts.
-use Rattle.std.proofs.Common.{◌≡◌, ◌∙◌, ◌+◌, ◌*◌, ◌<◌, ◌≤◌, ℕ, List, length, sym, ap, subst, arith, slice_get, Some, Option, map}
-use Rattle.std.specs.Prelude.{IfSome, IfOk}
-use Rattle.std.specs.List.{All, AllZip, Contains}
-use Rattle.circuit_theory.specs.Cover.{Cover}
+use Rattle.std.proofs.Common.{◌≡◌, ◌∙◌, ◌*◌, ◌<◌, length, sym, ap, subst, arith, slice_get, Some, Option}
+use Rattle.std.specs.Prelude.{IfSome}
+use Rattle.std.specs.List.{All, Contains}
 use Rattle.circuit_theory.proofs.Lists.{zip_length}
 use Rattle.flat_net.specs.declared.signals.Signal.{Signal}
 use Rattle.flat_net.specs.declared.parts.Gate.{Gate}
-use Rattle.flat_net.specs.View.{NetView, cover_of}
+use Rattle.flat_net.specs.View.{NetView}
 use Rattle.flat_net.proofs.Places.{cover_of-is, cover_within, cover_fits}
 use Rattle.aig.specs.declared.node.Lit.{Lit}
-use Rattle.aig.specs.Rules.{IsCoverOf, cover_room}
 use Rattle.cbf_unfold.specs.Places.{gate_weight}
 use Rattle.cbf_unfold.specs.Building.{IsMet}
 use Rattle.cbf_unfold.proofs.PlaceLits.{zip_all, cover_within_weight, gate_lit_from}

@@ -1,5 +1,5 @@
 -- The variable is in the table, and is the next one or one that was there.
-use Rattle.std.proofs.Common.{◌≡◌, ◌∙◌, ◌-◌, ◌+◌, ◌<◌, ◌≤◌, ℕ, get_or, length, sym, ap, arith}
+use Rattle.std.proofs.Common.{◌-◌, get_or, length, ap, arith}
 use Rattle.std.proofs.lemmas.Option.{slice_get_within, slice_get-get_or}
 use Rattle.cbf_unfold.proofs.PlaceLits.{grown_none, input_lit, input_grown}
 use Rattle.cbf_unfold.proofs.Table.{interned}

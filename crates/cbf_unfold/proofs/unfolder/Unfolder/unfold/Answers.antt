@@ -1,13 +1,12 @@
 -- All places of the signal are met, and its inputs are listed.
-use Rattle.std.proofs.Common.{◌≡◌, ◌∙◌, ◌+◌, ◌-◌, ◌<◌, ℕ, List, [], ◌∷◌, length, sym, ap, subst, arith, rules}
+use Rattle.std.proofs.Common.{◌≡◌, ◌∙◌, ◌<◌, ℕ, List, [], ◌∷◌, length, sym, ap, subst, arith, rules}
 use Rattle.circuit_theory.specs.Sizes.{IsOver}
 use Rattle.std.specs.List.{Contains}
 use Rattle.flat_net.specs.View.{NetView, circuit_of}
 use Rattle.flat_net.specs.Sound.{IsSound}
-use Rattle.cbf_unfold.specs.Reach.{IsReach}
 use Rattle.cbf_unfold.specs.View.{UnfolderView}
 use Rattle.cbf_unfold.specs.Unfolded.{IsUnfolded, Fits}
-use Rattle.cbf_unfold.specs.Building.{IsMet, IsLater, AreNumbered}
+use Rattle.cbf_unfold.specs.Building.{IsMet, IsLater}
 use Rattle.cbf_unfold.proofs.Going.{later_none, met_later}
 use Rattle.cbf_unfold.proofs.Finish.{begun, room_first, reach_is, reach_begun, reach_later, holds_from, room_from, over_begun, over_more, later_begun, visited_cycles, visited_within, input_known, unfolded_from, fits_from}
 use Rattle.cbf_unfold.proofs.unfolder.Unfolder.unfold.Goals as goal

@@ -1,13 +1,9 @@
 -- Each input among the places is in the table.
-use Rattle.std.proofs.Common.{◌≡◌, ◌-◌, ◌<◌, ◌≤◌, ℕ, List, length, sym, subst, ap}
-use Rattle.std.specs.List.{All, AllPairs, AllZip, Contains}
-use Rattle.circuit_theory.specs.Tree.{IsInputNumber}
-use Rattle.circuit_theory.proofs.Lists.{All-from_each}
-use Rattle.std.proofs.lemmas.List.Elements.{All-contains}
-use Rattle.flat_net.specs.View.{NetView, circuit_of}
+use Rattle.std.proofs.Common.{◌-◌, ◌<◌, ◌≤◌, ℕ, List, length, sym, subst}
+use Rattle.std.specs.List.{All, Contains}
+use Rattle.flat_net.specs.View.{NetView}
 use Rattle.cbf_unfold.specs.View.{IsOrderOf}
-use Rattle.cbf_unfold.specs.Reach.{AreInputsOf}
-use Rattle.cbf_unfold.proofs.Finish.{inputs_here, inputs_early, inputs_listed, are_numbered}
+use Rattle.cbf_unfold.proofs.Finish.{inputs_early, inputs_listed, are_numbered}
 use Rattle.cbf_unfold.proofs.unfolder.Unfolder.variables.Goals as goal
 
 pub inputs_of-requires-clause-order : goal.inputs_of-requires-clause-order
