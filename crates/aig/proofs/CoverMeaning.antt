@@ -1,11 +1,10 @@
 -- The values of ands, cubes, covers and trees.
-use Rattle.std.proofs.Common.{◌≡◌, ◌≢◌, ℕ, zero, suc, ◌+◌, ◌*◌, ◌<◌, ◌≤◌, ◌==◌, ltb, Bool, true, false, not, ◌&&◌, ◌||◌, if◌then◌else◌, List, [], ◌∷◌, length, map, slice_get, Option, Some, None, refl, sym, ap, subst, ◌∙◌, arith, true≢false, max}
+use Rattle.std.proofs.Common.{◌≡◌, ◌≢◌, ℕ, ◌<◌, ◌==◌, Bool, true, false, not, ◌&&◌, ◌||◌, if◌then◌else◌, List, [], ◌∷◌, map, slice_get, Option, Some, None, refl, sym, ap, ◌∙◌, arith, true≢false}
 use Rattle.std.specs.Prelude.{nat_lt}
 use Rattle.std.specs.List.{list_any}
 use Rattle.std.proofs.lemmas.Bool.Decides.{Decides-eqb}
 use Rattle.circuit_theory.specs.Cover.{Cover, place_matches, row_matches, cover_value}
 use Rattle.circuit_theory.specs.Tree.{Tree, Trees, Leaf, Fixed, Branch, Nil, Cons, tree_value, tree_values}
-use Rattle.aig.specs.declared.node.Lit.{Lit}
 use Rattle.aig.specs.declared.node.Node.{Node}
 use Rattle.aig.specs.declared.node.Node.TheVariants.{Constant, Input, And}
 use Rattle.aig.specs.Graph.{IsGraph, IsLitOf, flip}

@@ -12,7 +12,7 @@ use Rattle.aig.specs.declared.node.Lit.{Lit}
 use Rattle.aig.specs.declared.node.Node.{Node}
 use Rattle.aig.specs.declared.node.Node.TheVariants.{Constant, Input, And}
 use Rattle.aig.specs.contracts.node.NodePartialEq.TheImpl.{eq-value}
-use Rattle.aig.specs.Graph.{IsGraph, IsOrdered, IsAbove, Grows, IsLitOf, flip, vars_of}
+use Rattle.aig.specs.Graph.{IsGraph, IsAbove, Grows, IsLitOf, flip, vars_of}
 use Rattle.aig.specs.Values.{value}
 use Rattle.aig.specs.Rules.{simple_and, and_node, IsAndBy, IsAndOf, IsCoverOf, place_lit}
 use Rattle.aig.proofs.Literals.{flip-within}

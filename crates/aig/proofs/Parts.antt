@@ -1,5 +1,5 @@
 -- The part of a graph that a cone is: its nodes by their places.
-use Rattle.std.proofs.Common.{◌≡◌, ℕ, zero, suc, ◌+◌, ◌-◌, ◌*◌, ◌/◌, ◌%◌, ◌<◌, ◌≤◌, ◌^◌, ◌⊎◌, inl, inr, Bool, true, false, not, ◌&&◌, List, [], ◌∷◌, ◌++◌, length, map, get_or, slice_get, Some, Ok, Err, Contains, All, refl, sym, ap, subst, ◌∙◌, arith}
+use Rattle.std.proofs.Common.{◌≡◌, ℕ, zero, suc, ◌+◌, ◌*◌, ◌/◌, ◌%◌, ◌<◌, ◌≤◌, ◌⊎◌, inl, inr, Bool, false, not, ◌&&◌, List, [], ◌∷◌, ◌++◌, length, map, get_or, slice_get, Some, Ok, Err, Contains, refl, sym, ap, subst, ◌∙◌, arith}
 use Rattle.std.specs.List.Sorted.{IsStrictlyIncreasing, IsBinarySearchResult}
 use Rattle.std.specs.Ordering.{nat_cmp}
 use Rattle.std.proofs.lemmas.List.Sorted.{searched}
@@ -7,12 +7,11 @@ use Rattle.std.proofs.lemmas.List.{same_lists, get_or-map, length-map, length-ap
 use Rattle.std.proofs.lemmas.List.Kept.{AllPairs-from_increasing}
 use Rattle.std.proofs.lemmas.Option.{slice_get_within, slice_get-get_or, get_or_from_slice_get, same_Some}
 use Rattle.circuit_theory.proofs.Lists.{at_of, of_at}
-use Rattle.aig.specs.declared.node.Lit.{Lit}
 use Rattle.aig.specs.declared.node.Node.{Node}
 use Rattle.aig.specs.declared.node.Node.TheVariants.{Constant, Input, And}
 use Rattle.aig.specs.Graph.{IsGraph, IsOrdered, IsAbove, flip}
 use Rattle.aig.specs.Values.{value, node_value, node_bits}
-use Rattle.aig.specs.Cone.{Reads, IsClosed, IsPlacedLit, IsPlacedNode, IsPartOf}
+use Rattle.aig.specs.Cone.{IsClosed, IsPlacedLit, IsPlacedNode, IsPartOf}
 use Rattle.aig.proofs.Literals.{parity, flip-even}
 use Rattle.aig.proofs.Growth.{slice_get-append}
 use Rattle.aig.proofs.Meaning.{value-node, value-even, value-flip, length-node_bits}

@@ -162,8 +162,9 @@ fn simple_and(l: Lit, r: Lit) -> Option<Lit>
     ensures { option_map (λ x. x.0) result ≡ simple_and l.0 r.0 }
 {
     if l.0 == 0 || r.0 == 0 {
-        Some(Lit(0))
-    } else if l.0 == 1 {
+        return Some(Lit(0));
+    }
+    if l.0 == 1 {
         Some(r)
     } else if r.0 == 1 || l.0 == r.0 {
         Some(l)

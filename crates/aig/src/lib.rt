@@ -5,8 +5,10 @@ mod cone;
 mod covers;
 mod graph;
 mod node;
+#[cfg(test)]
+mod tests;
 mod values;
 
 pub use graph::Aig;
-pub use node::{Lit, Node};
+pub use node::{Lit, Lits, Node};
 pub use values::node_bits;

@@ -1,4 +1,4 @@
-use Rattle.std.proofs.Common.{◌≡◌, ◌*◌, ℕ, rules}
+use Rattle.std.proofs.Common.{◌*◌, rules}
 use Rattle.aig.specs.contracts.node.NodePartialEq.TheImpl.{eq-value}
 use Rattle.aig.specs.Graph.{IsLitOf}
 use Rattle.aig.proofs.Insert.{node-itself, graph-insert, vars_of-insert}

@@ -1,8 +1,8 @@
-use Rattle.std.proofs.Common.{◌≡◌, ℕ, ◌≤◌, arith, refl, sym, subst, get_or, slice_get, Some, ◌∙◌}
+use Rattle.std.proofs.Common.{ℕ, arith, refl, sym, subst, get_or, ◌∙◌}
 use Rattle.std.proofs.lemmas.Option.{slice_get-get_or}
 use Rattle.std.proofs.lemmas.List.{length-take-le, length-set}
 use Rattle.aig.specs.declared.node.Node.TheVariants.{Constant}
-use Rattle.aig.specs.Graph.{vars_of, IsAbove}
+use Rattle.aig.specs.Graph.{IsAbove}
 use Rattle.aig.specs.Values.{node_bits, bits_from, assigned}
 use Rattle.aig.proofs.Insert.{vars_of-member}
 use Rattle.aig.proofs.Bits.{bits-step}

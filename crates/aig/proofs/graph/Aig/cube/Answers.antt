@@ -1,4 +1,4 @@
-use Rattle.std.proofs.Common.{◌≡◌, ◌∙◌, ℕ, ◌+◌, ◌<◌, List, length, get_or, refl, sym, arith}
+use Rattle.std.proofs.Common.{◌∙◌, get_or, refl, arith}
 use Rattle.aig.proofs.Growth.{Grows-refl, Grows-trans}
 use Rattle.aig.proofs.Folds.{cube-step}
 use Rattle.aig.proofs.graph.Aig.cube.Goals as goal

@@ -1,5 +1,4 @@
-use Rattle.std.proofs.Common.{subst, List}
-use Rattle.aig.specs.declared.node.Node.{Node}
+use Rattle.std.proofs.Common.{subst}
 use Rattle.aig.specs.Builds.{HasOneLitEach, HasTreeValues}
 use Rattle.aig.proofs.Growth.{Builds-one}
 use Rattle.aig.proofs.CoverMeaning.{value-tree}

@@ -1,4 +1,4 @@
-use Rattle.std.proofs.Common.{◌≡◌, ℕ, Bool, ◌*◌, subst, List}
+use Rattle.std.proofs.Common.{◌≡◌, ◌*◌, subst, List}
 use Rattle.aig.specs.declared.node.Node.{Node}
 use Rattle.aig.specs.Values.{value, node_value}
 use Rattle.aig.proofs.Meaning.{value-node}

@@ -1,4 +1,4 @@
-use Rattle.std.proofs.Common.{◌≡◌, ◌∙◌, ℕ, Some, sym, ap, length}
+use Rattle.std.proofs.Common.{◌≡◌, ◌∙◌, Some, sym, ap, length}
 use Rattle.std.specs.Prelude.{option_map}
 use Rattle.aig.specs.declared.node.Lit.{Lit}
 use Rattle.aig.specs.Rules.{place_lit}

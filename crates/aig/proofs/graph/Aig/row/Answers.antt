@@ -1,4 +1,4 @@
-use Rattle.std.proofs.Common.{◌≡◌, ◌∙◌, ◌<◌, ◌*◌, ℕ, List, length, map, arith}
+use Rattle.std.proofs.Common.{length, map, arith}
 use Rattle.aig.proofs.Growth.{Grows-length}
 use Rattle.aig.proofs.Folds.{row-is}
 use Rattle.aig.proofs.graph.Aig.row.Goals as goal
