@@ -1,0 +1,16 @@
+pub mod Lists
+pub mod Table
+pub mod Drivers
+pub mod Weighing
+pub mod ReadPlaces
+pub mod Over
+pub mod PairTest
+pub mod Order
+pub mod Walk
+pub mod Entries
+pub mod InputLists
+pub mod Known
+pub mod PlaceLits
+pub mod Going
+pub mod Finish
+pub mod Cone

@@ -1,0 +1,136 @@
+-- The literal of a place, by what drives its signal.
+use Rattle.std.proofs.Common.{◌≡◌, ◌∙◌, ◌+◌, ◌-◌, ◌*◌, ◌<◌, ◌≤◌, max, ℕ, List, [], ◌∷◌, ◌++◌, length, map, take, get_or, slice_get, Some, Result, Ok, Err, IfOk, IfSome, refl, sym, ap, subst, arith}
+use Rattle.std.specs.List.{All, AllZip, Contains}
+use Rattle.std.proofs.lemmas.List.{take_more}
+use Rattle.std.proofs.lemmas.List.Elements.{All-nil, All-cons}
+use Rattle.std.proofs.Math.Nat.{mul-le-mul_right}
+use Rattle.circuit_theory.specs.Tree.{IsInputNumber}
+use Rattle.circuit_theory.specs.Cover.{Cover}
+use Rattle.circuit_theory.proofs.Lists.{All-from_each, zip_push, zip_weaker}
+use Rattle.circuit_theory.proofs.Numbers.{at_beside, slice_get-map}
+use Rattle.flat_net.specs.declared.signals.Signal.{Signal}
+use Rattle.flat_net.specs.declared.parts.Gate.{Gate}
+use Rattle.flat_net.specs.declared.parts.LatchAt.{LatchAt}
+use Rattle.flat_net.specs.declared.parts.Driver.TheVariants as driver
+use Rattle.flat_net.specs.View.{named, circuit_of, cover_of}
+use Rattle.flat_net.specs.Sound.{IsSound}
+use Rattle.aig.specs.declared.node.Lit.{Lit}
+use Rattle.aig.specs.declared.node.Node.{Node}
+use Rattle.aig.specs.Graph.{Grows, IsLitOf}
+use Rattle.aig.specs.declared.node.Node.TheVariants.{Input}
+use Rattle.aig.specs.Rules.{IsCoverOf, cover_room}
+use Rattle.aig.proofs.Growth.{Grows-refl}
+use Rattle.cbf_unfold.specs.Places.{weight_at, driver_weight, gate_weight}
+use Rattle.cbf_unfold.specs.View.{UnfolderView, IsOrderOf}
+use Rattle.cbf_unfold.specs.Unfolded.{IsKnown}
+use Rattle.cbf_unfold.specs.Building.{AreKnown, IsMet, IsReady, HasGrown, IsInputLit, IsGateLit}
+use Rattle.cbf_unfold.proofs.Lists.{adds_none, adds_weaker}
+use Rattle.cbf_unfold.proofs.Table.{interned}
+use Rattle.cbf_unfold.proofs.Drivers.{driven_gate, gate_equation_stands, gate_steps_to, latch_equation_stands, latch_steps_to}
+use Rattle.cbf_unfold.proofs.Known.{Any, known_later, known_input, known_latch, known_gate}
+
+-- a pair of lists with one element more each
+pub zip_more_left : {X Y : Type 0} (R : X → Y → Type 0) (xs : List X) (ys : List Y) (i : ℕ) (d : X) (y : Y) → i < length xs → AllZip R (take i xs) ys → R (get_or xs i d) y → AllZip R (take (i + 1) xs) (ys ++ y ∷ [])
+zip_more_left R xs ys i d y inside zip here = subst (λ l. AllZip R l (ys ++ y ∷ [])) (sym (take_more xs i d inside)) (zip_push R (take i xs) ys (get_or xs i d) y zip here)
+
+-- what follows for each element on the right
+pub zip_all : {X Y : Type 0} (R : X → Y → Type 0) (P : Y → Type 0) → ((x : X) (y : Y) → R x y → P y) → (xs : List X) (ys : List Y) → AllZip R xs ys → All P ys
+zip_all R P f [] [] h = All-nil P
+zip_all R P f [] (y ∷ ys) h = absurd h
+zip_all R P f (x ∷ xs) [] h = absurd h
+zip_all R P f (x ∷ xs) (y ∷ ys) h = All-cons P y ys (f x y h.0) (zip_all R P f xs ys h.1)
+
+-- nothing has grown
+pub grown_none : (g : List Node) (places more : List (ℕ × ℕ)) (room : ℕ) → more ≡ places → HasGrown g g places more room
+grown_none g places more room same = record { grows = Grows-refl g; adds = adds_none Any places more same; nodes = omega arith; entries = omega (arith, ap length same) }
+
+-- a gate's room is within what it counts
+pub cover_within_weight : (covers : List Cover) (g : Gate) (cover : Cover) → cover_of covers g ≡ cover → cover.width ≡ length g.fanins → cover_room cover + 1 ≤ gate_weight covers (Some g)
+cover_within_weight covers g cover is width =
+    let weight : gate_weight covers (Some g) ≡ 1 + max 1 (length cover.rows) * (length g.fanins + 1) = ap (λ (k : Cover). 1 + max 1 (length k.rows) * (length g.fanins + 1)) is in
+    let room : cover_room cover ≡ length cover.rows * (length g.fanins + 1) = ap (λ w. length cover.rows * (w + 1)) width in
+    let less : length cover.rows * (length g.fanins + 1) ≤ max 1 (length cover.rows) * (length g.fanins + 1) = mul-le-mul_right (length g.fanins + 1) (let k : length cover.rows ≤ max 1 (length cover.rows) = omega arith in k) in
+    omega (arith, weight, room, less)
+
+-- the variable is the next one or one that was there
+pub gate_lit : {E : Type 0} (u : UnfolderView) (cycle j : ℕ) (h : List Node) (g : Gate) (lits : List Lit) (r : Result Lit E) → slice_get u.net.gates j ≡ Some g → AllZip (λ f y. Contains u.memo ((cycle, f.0), y)) g.fanins lits →
+    IfOk r (λ x. IsCoverOf h (cover_of u.net.covers g) (map (λ y. y.0) lits) x.0) → IfOk r (λ x. x.0 < 2 * length h) → IfOk r (λ x. IsGateLit u cycle j h x.0)
+gate_lit u cycle j h g lits (Ok x) at each is within = record { gate = g; at = at; lits = lits; each = each; is = is; within = within }
+gate_lit u cycle j h g lits (Err e) at each is within = is
+
+module _ (u : UnfolderView) (sound : IsSound u.net) (order : IsOrderOf u.net u.order) (p : ℕ × ℕ) where
+  Is : List Node → List (ℕ × ℕ) → ℕ → Type 0
+  Is g places x = IsKnown u.net u.order u.cap g places p x
+
+  -- an input's place
+  pub input_is : {E : Type 0} (i : ℕ) (g : List Node) (places : List (ℕ × ℕ)) (r : Result Lit E) → slice_get u.net.drivers p.1 ≡ Some (driver.Input i) → IfOk r (λ x. IsInputLit u.order i (u.cap - p.0) g places x.0) →
+      IfOk r (λ x. IsKnown u.net u.order u.cap g places p x.0)
+  input_is i g places (Ok x) drives l =
+      let port = sound.drivers p.1 (driver.Input i) drives in
+      let beside = at_beside (map named u.net.inputs) u.order i l.number (named port.0) (slice_get-map named u.net.inputs i port.0 port.1) l.at in
+      known_input u.net u.order u.cap g places p x.0 l.number l.variable (subst (λ s. IsInputNumber (circuit_of u.net) u.order s l.number) port.2 beside) l.numbered l.lit l.within
+  input_is i g places (Err e) drives l = l
+
+  -- a gate's place
+  pub gate_is : {E : Type 0} (j : ℕ) (g h : List Node) (places : List (ℕ × ℕ)) (r : Result Lit E) → slice_get u.net.drivers p.1 ≡ Some (driver.Gate j) → AreKnown u g places → Grows g h → IfOk r (λ x. IsGateLit u p.0 j h x.0) →
+      IfOk r (λ x. IsKnown u.net u.order u.cap h places p x.0)
+  gate_is j g h places (Ok x) drives known grows l =
+      known_gate u.net u.order u.cap h places p.0 p.1 x.0 l.gate.fanins (cover_of u.net.covers l.gate) l.lits (gate_equation_stands u.net sound p.1 j drives l.gate l.at)
+      (zip_weaker (λ f y. Contains u.memo ((p.0, f.0), y)) (λ f y. IsKnown u.net u.order u.cap h places (p.0, f.0) y.0) (λ f y m. known_later u.net u.order u.cap g h places places (p.0, f.0) y.0 grows (adds_none Any places places refl) (known (p.0, f.0) y m)) l.gate.fanins l.lits l.each)
+      l.is l.within
+  gate_is j g h places (Err e) drives known grows l = l
+
+  -- the gate's fan-ins have been met
+  pub gate_met : (j : ℕ) → slice_get u.net.drivers p.1 ≡ Some (driver.Gate j) → IsReady u p → IfSome (slice_get u.net.gates j) (λ g. All (λ f. IsMet u.memo (p.0, f.0)) g.fanins)
+  gate_met j drives ready =
+      let g = driven_gate u.net sound p.1 j drives in
+      subst (λ o. IfSome o (λ (k : Gate). All (λ f. IsMet u.memo (p.0, f.0)) k.fanins)) (sym g.1)
+      (All-from_each (λ (f : Signal). IsMet u.memo (p.0, f.0)) g.0.fanins (λ f h. ready.read (p.0, f.0) (gate_steps_to u.net sound p.1 j drives g.0 g.1 p.0 f h)))
+
+  -- what a gate counts
+  pub gate_counts : (j : ℕ) → slice_get u.net.drivers p.1 ≡ Some (driver.Gate j) → weight_at u.net p.1 ≡ gate_weight u.net.covers (slice_get u.net.gates j)
+  gate_counts j drives = ap (driver_weight u.net) drives
+
+  -- a latch's place
+  pub latch_met : (j : ℕ) (l : LatchAt) → slice_get u.net.drivers p.1 ≡ Some (driver.Latch j) → slice_get u.net.latches j ≡ Some l → IsReady u p → IsMet u.memo (p.0 - 1, l.next.0)
+  latch_met j l drives at ready = ready.read (p.0 - 1, l.next.0) (latch_steps_to u.net sound p.1 j drives l at p.0 ready.early)
+
+  pub latch_is : (j : ℕ) (l : LatchAt) (x : Lit) (g : List Node) (places : List (ℕ × ℕ)) → slice_get u.net.drivers p.1 ≡ Some (driver.Latch j) → slice_get u.net.latches j ≡ Some l → IsReady u p → AreKnown u g places →
+      Contains u.memo ((p.0 - 1, l.next.0), x) → IsKnown u.net u.order u.cap g places p x.0
+  latch_is j l x g places drives at ready known h =
+      known_latch u.net u.order u.cap g places p.0 p.1 l.next.0 x.0 l.name (latch_equation_stands u.net sound p.1 j drives l at) ready.early ready.visited.cycle (known (p.0 - 1, l.next.0) x h)
+
+-- the same from what the calls gave
+pub gate_lit_from : {E : Type 0} (u : UnfolderView) (cycle j : ℕ) (h : List Node) (g : Gate) (lits : List Lit) (r : Result Lit E) → slice_get u.net.gates j ≡ Some g → (fanins : List Signal) → fanins ≡ g.fanins →
+    AllZip (λ f y. Contains u.memo ((cycle, f.0), y)) fanins lits → (cover : Cover) → cover_of u.net.covers g ≡ cover → (read : List Lit) → read ≡ lits → IfOk r (λ x. IsCoverOf h cover (map (λ y. y.0) read) x.0) →
+    IfOk r (λ x. x.0 < 2 * length h) → IfOk r (λ x. IsGateLit u cycle j h x.0)
+gate_lit_from u cycle j h g lits r at fanins are each cover is read same here within =
+    gate_lit u cycle j h g lits r at (subst (λ (l : List Signal). AllZip (λ f y. Contains u.memo ((cycle, f.0), y)) l lits) are each)
+    (subst (λ (k : Cover). IfOk r (λ x. IsCoverOf h k (map (λ y. y.0) lits) x.0)) (sym is) (subst (λ (l : List Lit). IfOk r (λ x. IsCoverOf h cover (map (λ y. y.0) l) x.0)) same here)) within
+
+-- an input's literal from what the calls gave
+pub input_lit : {E : Type 0} (u : UnfolderView) (i cycle cap number v : ℕ) (os : List ℕ) (h : List Node) (places : List (ℕ × ℕ)) (r : Result Lit E) → os ≡ u.order → cap ≡ u.cap → slice_get os i ≡ Some number →
+    slice_get places v ≡ Some (number, cap - cycle) → IfOk r (λ x. IsLitOf h (Input v) x.0) → IfOk r (λ x. x.0 < 2 * length h) → IfOk r (λ x. IsInputLit u.order i (u.cap - cycle) h places x.0)
+input_lit u i cycle cap number v os h places (Ok x) order caps at numbered lit within = record {
+  number = number;
+  at = ap (λ (l : List ℕ). slice_get l i) (sym order) ∙ at;
+  variable = v;
+  numbered = numbered ∙ ap (λ (k : ℕ). Some (number, k - cycle)) caps;
+  lit = lit;
+  within = within;
+}
+input_lit u i cycle cap number v os h places (Err e) order caps at numbered lit within = lit
+
+-- one variable more at most
+pub input_grown : (g h : List Node) (places more : List (ℕ × ℕ)) (p : ℕ × ℕ) → Grows g h → length h ≤ length g + 1 → (Contains places p → more ≡ places) → ((Contains places p → ⊥) → more ≡ places ++ p ∷ []) → HasGrown g h places more 1
+input_grown g h places more p grows few known added =
+    let one = interned places more p known added in
+    record { grows = grows; adds = adds_weaker (λ q. q ≡ p) Any places more (λ q e. tt) one.0; nodes = few; entries = one.1 }
+
+-- a gate's place adds no entry
+pub gate_grown : (g h : List Node) (places : List (ℕ × ℕ)) (room weight : ℕ) → weight ≡ room → Grows g h → length h ≤ length g + room → HasGrown g h places places weight
+gate_grown g h places room weight same grows few = record { grows = grows; adds = adds_none Any places places refl; nodes = omega (arith, few, same); entries = omega arith }
+
+-- the same growth within an equal room
+pub grown_as : (g h : List Node) (places more : List (ℕ × ℕ)) (room weight : ℕ) → weight ≡ room → HasGrown g h places more room → HasGrown g h places more weight
+grown_as g h places more room weight same grown = subst (HasGrown g h places more) (sym same) grown

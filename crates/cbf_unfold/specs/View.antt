@@ -1,0 +1,34 @@
+-- What a contract sees of an unfolder.
+use Rattle.std.specs.Prelude.{◌≡◌, ℕ, ◌≤◌, List, length}
+use Rattle.sec_base.specs.Table.{AreDistinct}
+use Rattle.flat_net.specs.View.{NetView}
+use Rattle.aig.specs.declared.node.Lit.{Lit}
+
+pub record UnfolderView : Type 0 where
+  pub net : NetView
+  -- the number of each input
+  pub order : List ℕ
+  -- the most that all places together may weigh
+  pub cap : ℕ
+  -- the signals that were unfolded
+  pub done : List ℕ
+  -- the places that were met, with their literals
+  pub memo : List ((ℕ × ℕ) × Lit)
+  -- what these places weigh together
+  pub weight : ℕ
+
+-- one distinct number for each input of the net
+pub record IsOrderOf (n : NetView) (order : List ℕ) : Type 0 where
+  pub each : length order ≡ length n.inputs
+  pub distinct : AreDistinct order
+
+-- what each unfolder keeps
+pub record IsUnfolder (u : UnfolderView) : Type 0 where
+  pub order : IsOrderOf u.net u.order
+  pub cap : u.cap ≤ 2000000
+
+-- it unfolds the same net, with the same numbers and the same limit
+pub record IsSameUnfolder (old new : UnfolderView) : Type 0 where
+  pub net : new.net ≡ old.net
+  pub order : new.order ≡ old.order
+  pub cap : new.cap ≡ old.cap

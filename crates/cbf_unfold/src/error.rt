@@ -1,0 +1,49 @@
+//! Why a signal isn't unfolded.
+
+use sec_base::NoMemory;
+use std::alloc::{AllocError, AllocFailed};
+use thiserror::Error;
+
+/// Why a signal isn't unfolded.
+#[derive(Debug, Drop, Error)]
+pub enum UnfoldError {
+    /// The places that the unfoldings visit weigh more than 2,000,000 together.
+    #[error("the unfolding is too large")]
+    TooLarge,
+    /// Memory was wanted.
+    #[error("out of memory")]
+    NoMemory,
+}
+
+impl From<NoMemory> for UnfoldError {
+    ghost use Rattle.std.specs.Prelude.{◌≡◌};
+    ghost use Rattle.cbf_unfold.specs.declared.error.UnfoldError.TheVariants as unfold_error;
+
+    ghost from_gives = { λ _ e. e ≡ unfold_error.NoMemory };
+
+    fn from(_error: NoMemory) -> UnfoldError {
+        UnfoldError::NoMemory
+    }
+}
+
+impl From<AllocError> for UnfoldError {
+    ghost use Rattle.std.specs.Prelude.{◌≡◌};
+    ghost use Rattle.cbf_unfold.specs.declared.error.UnfoldError.TheVariants as unfold_error;
+
+    ghost from_gives = { λ _ e. e ≡ unfold_error.NoMemory };
+
+    fn from(_error: AllocError) -> UnfoldError {
+        UnfoldError::NoMemory
+    }
+}
+
+impl<T: Drop> From<AllocFailed<T>> for UnfoldError {
+    ghost use Rattle.std.specs.Prelude.{◌≡◌};
+    ghost use Rattle.cbf_unfold.specs.declared.error.UnfoldError.TheVariants as unfold_error;
+
+    ghost from_gives = { λ _ e. e ≡ unfold_error.NoMemory };
+
+    fn from(_error: AllocFailed<T>) -> UnfoldError {
+        UnfoldError::NoMemory
+    }
+}

@@ -1,0 +1,18 @@
+//! The plain unfolding: a signal of a net with latches as a function of inputs at earlier cycles (the clocked Boolean
+//! functions of Ranjan, Singhal, Somenzi and Brayton, DATE 1999).
+#![tactic(auto)]
+
+mod error;
+mod laws;
+mod memo;
+mod reaching;
+mod reading;
+mod unfolder;
+mod variables;
+
+pub use error::UnfoldError;
+pub use laws::{
+    constant_reaches_none, equal_trees_one_literal, fits_later, literal_is_run, reached_from_one,
+    unfolded_later, variables_cover_cone, windows,
+};
+pub use unfolder::{Unfolded, Unfolder};

@@ -1,0 +1,77 @@
+//! The places that were met, with their literals.
+
+ghost use Rattle.std.specs.Prelude.{◌≡◌, ◌≢◌, ℕ, List, [], ◌∷◌, ◌++◌, IfSome, IfNone, OnOk, OnErr, Contains, map};
+ghost use Rattle.std.specs.List.{AllPairs};
+ghost use Rattle.aig.specs.declared.node.Lit.{Lit};
+
+use crate::reaching::Place;
+use aig::Lit;
+use indexmap::IndexMap;
+use sec_base::NoMemory;
+use std::alloc::Global;
+use std::marker::Model;
+
+/// Places with their literals, each place once, in the order in which they were put. A contract sees the list.
+#[derive(Drop)]
+pub(crate) struct Memo {
+    lits: IndexMap<Place, Lit>,
+}
+
+impl Model for Memo {
+    ghost use Rattle.std.specs.Prelude.{List, ℕ};
+    ghost use Rattle.aig.specs.declared.node.Lit.{Lit};
+
+    ghost Value = { List ((ℕ × ℕ) × Lit) };
+
+    ghost view = { λ m. m.lits.entries };
+}
+
+impl Memo {
+    /// Without places. It takes no memory.
+    pub(crate) fn new(alloc: Global) -> Memo
+        ensures { result ≡ [] }
+    {
+        Memo {
+            lits: IndexMap::new(alloc),
+        }
+    }
+
+    /// Tells a proof that no place stands twice. It does nothing.
+    pub(crate) fn keeps(&self)
+        ensures { AllPairs (λ p q. p ≢ q) (map (λ e. e.0) self.now) }
+    {
+        let _ = self.lits.len();
+    }
+
+    /// The literal of the place; None exactly where the place wasn't met.
+    pub(crate) fn get(&self, place: Place) -> Option<Lit>
+        ensures here { IfSome result (λ x. Contains self.now (place, x)) }
+        ensures absent { IfNone result (Contains (map (λ e. e.0) self.now) place → ⊥) }
+    {
+        match self.lits.get(&place) {
+            Some(lit) => Some(*lit),
+            None => None,
+        }
+    }
+
+    /// The literal of a place that was met.
+    pub(crate) fn met(&self, place: Place) -> Lit
+        requires { (x : Lit) × Contains self.now (place, x) }
+        ensures { Contains self.now (place, result) }
+    {
+        match self.get(place) {
+            Some(lit) => lit,
+            None => unreachable!(),
+        }
+    }
+
+    /// Puts a place that wasn't met last. After `NoMemory` nothing has changed.
+    pub(crate) fn put(&mut self, place: Place, lit: Lit) -> Result<(), NoMemory>
+        requires { Contains (map (λ e. e.0) self.old) place → ⊥ }
+        ensures ok { OnOk result (self.new ≡ self.old ++ (place, lit) ∷ []) }
+        ensures err { OnErr result (self.new ≡ self.old) }
+    {
+        self.lits.insert(place, lit)?;
+        Ok(())
+    }
+}

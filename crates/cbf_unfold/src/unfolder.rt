@@ -1,0 +1,185 @@
+//! The unfolder.
+
+ghost use Rattle.std.specs.Prelude.{◌≡◌, ◌≢◌, ℕ, ◌+◌, ◌-◌, ◌^◌, ◌<◌, ◌≤◌, List, [], ◌∷◌, ◌++◌, length, map, All, Contains, IfOk, OnOk, OnErr};
+ghost use Rattle.std.specs.List.{AllPairs};
+ghost use Rattle.circuit_theory.specs.Tree.{IsInputNumber};
+ghost use Rattle.circuit_theory.specs.Sizes.{IsOver};
+ghost use Rattle.flat_net.specs.View.{circuit_of};
+ghost use Rattle.aig.specs.declared.node.Node.{Node};
+ghost use Rattle.cbf_unfold.specs.View.{IsOrderOf, IsUnfolder};
+ghost use Rattle.cbf_unfold.specs.Unfolded.{IsUnfolded, Fits};
+ghost use Rattle.cbf_unfold.specs.Places.{PlaceBefore};
+ghost use Rattle.cbf_unfold.specs.Building.{IsMet, IsLater, AreNumbered};
+ghost use Rattle.cbf_unfold.specs.declared.error.UnfoldError.TheVariants as unfold_error;
+
+mod building;
+mod literals;
+
+use crate::error::UnfoldError;
+use crate::memo::Memo;
+use crate::reaching::{Place, reach};
+use crate::variables::{inputs_of, numbers_of};
+use aig::{Aig, Lit};
+use flat_net::{Net, Signal};
+use latch_graph::LatchGraph;
+use sec_base::{Ids, NoMemory, PlaceTable};
+use std::alloc::Global;
+use std::marker::Model;
+
+/// The most that the places of one unfolder weigh together.
+const LIMIT: u32 = 2_000_000;
+
+/// A signal as a function of inputs at earlier cycles.
+#[derive(Debug, Drop)]
+pub struct Unfolded {
+    /// The function in the graph.
+    pub lit: Lit,
+    /// The inputs at shifts that the signal's tree has as leaves, by their numbers in the table: those of a greater
+    /// shift first, and of one shift by the inputs' numbers.
+    pub vars: Ids,
+}
+
+/// Unfolds signals of one net. Each place, a signal some cycles ago, is unfolded once, whatever reads it.
+#[derive(Drop)]
+pub struct Unfolder<'a> {
+    net: &'a Net,
+    order: Ids,
+    cap: u32,
+    done: Ids,
+    memo: Memo,
+    weight: u32,
+}
+
+impl<'a> Model for Unfolder<'a> {
+    ghost use Rattle.cbf_unfold.specs.View.{UnfolderView};
+
+    ghost Value = { UnfolderView };
+
+    ghost use Rattle.cbf_unfold.specs.View.{IsUnfolder};
+
+    ghost view = { λ u. record { net = u.net.now; order = u.order; cap = u.cap; done = u.done; memo = u.memo; weight = u.weight } };
+
+    ghost invariant = { λ u. IsUnfolder (record { net = u.net.now; order = u.order; cap = u.cap; done = u.done; memo = u.memo; weight = u.weight }) };
+}
+
+impl<'a> Unfolder<'a> {
+    /// An unfolder of the net, that has unfolded nothing. `order` gives each input its number.
+    pub fn new(
+        alloc: Global,
+        net: &'a Net,
+        _graph: &'a LatchGraph,
+        order: &Ids,
+    ) -> Result<Unfolder<'a>, NoMemory>
+        requires { IsOrderOf net.now order.now }
+        ensures net { IfOk result (λ u. u.net ≡ net.now) }
+        ensures order { IfOk result (λ u. u.order ≡ order.now) }
+        ensures none { IfOk result (λ u. u.done ≡ []) }
+        ensures weight { IfOk result (λ u. u.weight ≡ 0) }
+        ensures fits { IfOk result (λ u. (g : List Node) (places : List (ℕ × ℕ)) → Fits u g places) }
+    {
+        Ok(Unfolder {
+            net,
+            order: order.copy()?,
+            cap: LIMIT,
+            done: Ids::new(alloc),
+            memo: Memo::new(alloc),
+            weight: 0,
+        })
+    }
+
+    /// The signal as a function of inputs at earlier cycles. The same graph and table are lent each time, and may have
+    /// grown in between. `TooLarge` comes exactly where the places that the unfoldings of all signals so far visit,
+    /// with this one's, weigh more than 2,000,000 together. After a refusal the graph and the table may have grown, and
+    /// the unfolder is used no more.
+    pub fn unfold(
+        &mut self,
+        alloc: Global,
+        aig: &mut Aig,
+        places: &mut PlaceTable,
+        s: Signal,
+    ) -> Result<Unfolded, UnfoldError>
+        requires signal { s.0 < length self.old.net.drivers }
+        requires fits { Fits self.old aig.old places.old }
+        requires nodes { length aig.old ≤ 2 ^ 29 }
+        requires entries { length places.old ≤ 2 ^ 29 }
+        ensures unfolded { IfOk result (λ r. IsUnfolded self.new.net self.new.order aig.new places.new s.0 r.lit.0 r.vars) }
+        ensures fits { OnOk result (Fits self.new aig.new places.new) }
+        ensures done { OnOk result (self.new.done ≡ self.old.done ++ s.0 ∷ []) }
+        ensures over { result ≡ Err unfold_error.TooLarge → IsOver (circuit_of self.old.net) (self.old.done ++ s.0 ∷ []) 2000000 }
+        ensures later { IsLater self.old self.new aig.old aig.new places.old places.new }
+    {
+        let net = self.net();
+        net.keeps();
+        let visited = reach(alloc, net, s, self.cap())?;
+        let reached = visited.as_slice();
+        self.begin(s)?;
+        self.build(alloc, aig, places, reached)?;
+        self.keeps();
+        let lit = self.met((self.cap(), s.0));
+        let vars = self.variables(alloc, places, reached)?;
+        Ok(Unfolded { lit, vars })
+    }
+
+    /// Tells a proof what each unfolder keeps. It does nothing.
+    fn keeps(&self)
+        ensures unfolder { IsUnfolder self.now }
+        ensures apart { AllPairs (λ p q. p ≢ q) (map (λ e. e.0) self.now.memo) }
+    {
+        self.memo.keeps();
+    }
+
+    fn net(&self) -> &'a Net
+        ensures { result.now ≡ self.now.net }
+    {
+        self.net
+    }
+
+    fn order(&self) -> &[u32]
+        ensures { result.now ≡ self.now.order }
+    {
+        self.order.as_slice()
+    }
+
+    fn cap(&self) -> u32
+        ensures { result ≡ self.now.cap }
+    {
+        self.cap
+    }
+
+    /// Puts the signal to those that are unfolded.
+    fn begin(&mut self, s: Signal) -> Result<(), NoMemory>
+        ensures ok { OnOk result (self.new ≡ record self.old { done = self.old.done ++ s.0 ∷ [] }) }
+        ensures err { OnErr result (self.new ≡ self.old) }
+    {
+        self.done.push(s.0)
+    }
+
+    /// The literal of a place that was met.
+    fn met(&self, place: Place) -> Lit
+        requires { IsMet self.now.memo place }
+        ensures { Contains self.now.memo (place, result) }
+    {
+        self.memo.met(place)
+    }
+
+    /// The numbers in the table of the inputs among the places. They are in the table already.
+    fn variables(
+        &self,
+        alloc: Global,
+        places: &mut PlaceTable,
+        visited: &[Place],
+    ) -> Result<Ids, NoMemory>
+        requires cycles { All (λ p. p.0 ≤ self.now.cap) visited.now }
+        requires within { All (λ p. p.1 < length self.now.net.drivers) visited.now }
+        requires ordered { AllPairs PlaceBefore visited.now }
+        requires known { (p : ℕ × ℕ) (number : ℕ) → Contains visited.now p → IsInputNumber (circuit_of self.now.net) self.now.order p.1 number → Contains places.old (number, self.now.cap - p.0) }
+        requires room { length places.old + 1 < 2 ^ 32 }
+        ensures same { places.new ≡ places.old }
+        ensures numbered { IfOk result (λ vars. AreNumbered self.now places.old visited.now vars) }
+    {
+        self.keeps();
+        let found = inputs_of(alloc, self.net(), self.order(), visited)?;
+        let vars = numbers_of(alloc, places, self.cap(), found.as_slice())?;
+        Ok(vars)
+    }
+}
