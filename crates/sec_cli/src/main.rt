@@ -9,16 +9,31 @@ mod tests;
 mod words;
 mod writing;
 
+ghost use Rattle.std.specs.Prelude.{◌≡◌, ◌≢◌};
+
 use sec_base::{FileShelf, StdSink};
 use std::env;
+use std::io::ErrorKind;
 use std::process::ExitCode;
 use std::rt::HostRuntime;
+
+/// The exit status where the system doesn't give the words.
+fn code_without_words(kind: ErrorKind) -> u8
+    ensures memory { kind ≡ ErrorKind.OutOfMemory → result ≡ 8 }
+    ensures other { kind ≢ ErrorKind.OutOfMemory → result ≡ 10 }
+{
+    match kind {
+        ErrorKind::OutOfMemory => 8,
+        _ => 10,
+    }
+}
 
 fn main(rt: HostRuntime) -> ExitCode {
     let alloc = rt.alloc();
     let mut words = Vec::new(alloc);
-    let Ok(args) = env::args(&rt) else {
-        return ExitCode::from(10);
+    let args = match env::args(&rt) {
+        Ok(args) => args,
+        Err(error) => return ExitCode::from(code_without_words(error.kind())),
     };
     for word in args.skip(1) {
         if words.push(word).is_err() {
