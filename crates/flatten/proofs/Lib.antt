@@ -1,1 +1,3 @@
 pub mod AssembledRuns
+pub mod Rows
+pub mod Searching

@@ -1,5 +1,4 @@
 //! From a design to a flat net.
 #![tactic(auto)]
 
-/// Nothing yet.
-pub fn nothing() {}
+mod search;
