@@ -1,16 +1,20 @@
 -- The turns of a search through what numbers read.
-use Rattle.std.proofs.Common.{◌≡◌, ◌≢◌, ◌+◌, ◌-◌, ◌<◌, ◌≤◌, ◌∙◌, ℕ, zero, suc, List, [], ◌∷◌, ◌++◌, length, take, set, slice_get, slice_index_or, get_or, Some, None, refl, sym, ap, subst, arith, inl, inr}
-use Rattle.std.specs.Prelude.{◌⊎◌}
-use Rattle.std.specs.List.{Contains}
+use Rattle.std.proofs.Common.{◌≡◌, ◌≢◌, ◌+◌, ◌-◌, ◌<◌, ◌≤◌, ◌∙◌, ℕ, zero, suc, List, [], ◌∷◌, ◌++◌, length, take, drop, reverse, replicate, set, slice_get, slice_index_or, get_or, unwrap_or, cond, ltb, Bool, true, false, Option, Some, None, refl, sym, ap, subst, arith, inl, inr}
+use Rattle.std.specs.Prelude.{◌⊎◌, IfSome, ◌==◌}
+use Rattle.std.specs.List.{All, Contains, position, position_or_len}
 use Rattle.std.proofs.lemmas.Bool.{cases_lt}
-use Rattle.std.proofs.lemmas.Option.{none-some, same_Some, slice_get_within}
+use Rattle.std.proofs.lemmas.List.{get_or-reverse, get_or-drop, length-replicate, length-reverse, length-drop, take_all}
+use Rattle.std.proofs.lemmas.List.Quantifiers.{position-Some}
+use Rattle.std.proofs.lemmas.Bool.Decides.{Decides-eqb, Decides-ltb}
+use Rattle.std.proofs.lemmas.Option.{none-some, same_Some, slice_get_within, slice_get_read, slice_get-get_or, get_or_from_slice_get}
+use Rattle.std.proofs.lemmas.List.Elements.{All-get_or, All-contains}
 use Rattle.circuit_theory.proofs.Lists.{at_of, of_at}
 use Rattle.sec_base.specs.Table.{AreDistinct}
 use Rattle.sec_base.proofs.TableLemmas.{slice_get-take}
 use Rattle.flatten.specs.declared.search.Mark.{Mark}
 use Rattle.flatten.specs.declared.search.Mark.TheVariants.{New, Entered, Done}
-use Rattle.flatten.specs.Order.{reads_of, IsBehind}
-use Rattle.flatten.specs.Searched.{IsMet, IsSearch, IsClosed, IsTurn, steps_of, steps_left}
+use Rattle.flatten.specs.Order.{reads_of, IsBehind, IsOrder, IsRound}
+use Rattle.flatten.specs.Searched.{IsMet, IsSearch, IsClosed, IsTurn, steps_of, steps_left, looked_at}
 use Rattle.flatten.proofs.Rows.{same_or_not, slice_get-append, slice_get-push, slice_get-push_cases, slice_get-set_same, slice_get-set_other, slice_get-set_cases, slice_get-take_to, length-set_is}
 
 entered-done : (k : ℕ) → Entered k ≢ Done
@@ -334,3 +338,204 @@ module _ (graph : List (List ℕ)) (marks : List Mark) (way order : List ℕ) (s
   closes_round n r k last reads at = let there = s.on_way r k at in record {
       distinct = s.distinct; next = s.next; place = there.0; there = there.1; last = n; last_there = last; reads = reads;
   }
+
+-- the reads of a number, as the code has them
+pub reads_same : (graph : List (List ℕ)) (n : ℕ) (item reads : List ℕ) → n < length graph → item ≡ get_or graph n item → reads ≡ item → reads ≡ reads_of graph n
+reads_same graph n item reads l is e = e ∙ sym (get_or_from_slice_get graph n item [] (slice_get_read graph (length graph) n item refl l is))
+
+-- how many of them were looked at
+pub looked_same : (marks : List Mark) (n k looked : ℕ) → slice_get marks n ≡ Some (Entered k) → IfSome (slice_get marks n) (λ m. looked ≡ looked_at m) → looked ≡ k
+looked_same marks n k looked at h = subst (λ o. IfSome o (λ m. looked ≡ looked_at m)) at h
+
+-- what is read is in range
+pub read_within : (graph : List (List ℕ)) → All (λ reads. All (λ r. r < length graph) reads) graph → (n k r : ℕ) → n < length graph → slice_get (reads_of graph n) k ≡ Some r → r < length graph
+read_within graph all n k r l h =
+    let reads : All (λ r. r < length graph) (reads_of graph n) = All-get_or (λ (reads : List ℕ). All (λ r. r < length graph) reads) graph n [] l all in
+    All-contains (λ r. r < length graph) (reads_of graph n) r reads (of_at (reads_of graph n) k r h)
+
+-- the facts of a turn
+pub record TurnFacts (graph : List (List ℕ)) (marks : List Mark) (last looked : ℕ) (reads : List ℕ) : Type 0 where
+  pub at : slice_get marks last ≡ Some (Entered looked)
+  pub within : last < length graph
+  pub reads_are : reads ≡ reads_of graph last
+
+pub turn_facts : (graph : List (List ℕ)) (marks : List Mark) (way order : List ℕ) → IsSearch graph marks way order → (last looked : ℕ) (item reads : List ℕ) →
+    slice_get way (length way - 1) ≡ Some last → IfSome (slice_get marks last) (λ m. looked ≡ looked_at m) → item ≡ get_or graph last item → reads ≡ item → TurnFacts graph marks last looked reads
+turn_facts graph marks way order s last looked item reads there h is e =
+    let entered = s.entered (length way - 1) last there in
+    let same : looked ≡ entered.0 = looked_same marks last entered.0 looked entered.1 h in
+    let l : last < length graph = (let w = slice_get_within marks last (Entered entered.0) entered.1 in omega (arith, w, s.size)) in
+    record { at = entered.1 ∙ ap (λ k. Some (Entered k)) (sym same); within = l; reads_are = reads_same graph last item reads l is e }
+
+-- the read at a place
+pub read_there : (graph : List (List ℕ)) (last looked : ℕ) (reads : List ℕ) → reads ≡ reads_of graph last → looked < length reads → slice_get (reads_of graph last) looked ≡ Some (get_or reads looked 0)
+read_there graph last looked reads e l = subst (λ (rs : List ℕ). slice_get rs looked ≡ Some (get_or reads looked 0)) e (slice_get-get_or reads looked 0 l)
+
+-- a turn of the code
+module _ (graph : List (List ℕ)) (marks : List Mark) (way order : List ℕ) (s : IsSearch graph marks way order) (all : All (λ reads. All (λ r. r < length graph) reads) graph)
+    (last looked : ℕ) (item reads : List ℕ) (there : slice_get way (length way - 1) ≡ Some last) (h : IfSome (slice_get marks last) (λ m. looked ≡ looked_at m))
+    (is : item ≡ get_or graph last item) (e : reads ≡ item) where
+  facts : TurnFacts graph marks last looked reads
+  facts = turn_facts graph marks way order s last looked item reads there h is e
+
+  pub last_within : last < length marks
+  last_within = let l = facts.within in omega (arith, l, s.size)
+
+  pub turn_leaves : length reads ≤ looked → (marks' : List Mark) (way' order' : List ℕ) → marks' ≡ set marks last Done → way' ≡ take (length way - 1) way → order' ≡ order ++ last ∷ [] →
+      IsTurn graph marks marks' way' order'
+  turn_leaves full marks' way' order' em ew eo =
+      let l : length (reads_of graph last) ≤ looked = subst (λ (rs : List ℕ). length rs ≤ looked) facts.reads_are full in
+      subst (λ (ms : List Mark). IsTurn graph marks ms way' order') (sym em)
+      (subst (λ (w : List ℕ). IsTurn graph marks (set marks last Done) w order') (sym ew)
+      (subst (λ (o : List ℕ). IsTurn graph marks (set marks last Done) (take (length way - 1) way) o) (sym eo)
+      (leave_full graph marks way order s last looked there facts.at l)))
+
+  module _ (more : looked < length reads) where
+    read_at : slice_get (reads_of graph last) looked ≡ Some (get_or reads looked 0)
+    read_at = read_there graph last looked reads facts.reads_are more
+
+    pub read_fits : get_or reads looked 0 < length marks
+    read_fits = let l = read_within graph all last looked (get_or reads looked 0) facts.within read_at in omega (arith, l, s.size)
+
+    mark_at : (mark : Mark) → mark ≡ get_or marks (get_or reads looked 0) mark → slice_get marks (get_or reads looked 0) ≡ Some mark
+    mark_at mark is = slice_get_read marks (length marks) (get_or reads looked 0) mark refl read_fits is
+
+    pub turn_enters : (mark : Mark) → mark ≡ get_or marks (get_or reads looked 0) mark → mark ≡ New → (marks' : List Mark) (way' order' : List ℕ) →
+        marks' ≡ set marks (get_or reads looked 0) (Entered 0) → way' ≡ way ++ get_or reads looked 0 ∷ [] → order' ≡ order → IsTurn graph marks marks' way' order'
+    turn_enters mark is new marks' way' order' em ew eo =
+        subst (λ (ms : List Mark). IsTurn graph marks ms way' order') (sym em)
+        (subst (λ (w : List ℕ). IsTurn graph marks (set marks (get_or reads looked 0) (Entered 0)) w order') (sym ew)
+        (subst (λ (o : List ℕ). IsTurn graph marks (set marks (get_or reads looked 0) (Entered 0)) (way ++ get_or reads looked 0 ∷ []) o) (sym eo)
+        (enter_new graph marks way order s (get_or reads looked 0) (mark_at mark is ∙ ap Some new)
+        (λ n k. let same : last ≡ n = same_Some last n (sym there ∙ k) in subst (λ m. Contains (reads_of graph m) (get_or reads looked 0)) same (of_at (reads_of graph last) looked (get_or reads looked 0) read_at)))))
+
+    pub turn_looks : (mark : Mark) → mark ≡ get_or marks (get_or reads looked 0) mark → mark ≡ Done → IsTurn graph marks (set marks last (Entered (looked + 1))) way order
+    turn_looks mark is done = look_on graph marks way order s last looked (get_or reads looked 0) facts.at read_at (mark_at mark is ∙ ap Some done)
+
+    pub turn_closes : (mark : Mark) (k : ℕ) → mark ≡ get_or marks (get_or reads looked 0) mark → mark ≡ Entered k → IsClosed graph way (get_or reads looked 0)
+    turn_closes mark k is entered = closes_round graph marks way order s last (get_or reads looked 0) k there (of_at (reads_of graph last) looked (get_or reads looked 0) read_at) (mark_at mark is ∙ ap Some entered)
+
+-- the first number of a way
+pub search_starts : (graph : List (List ℕ)) (marks : List Mark) (way order : List ℕ) → IsSearch graph marks way order → way ≡ [] → (n : ℕ) → n < length graph → (IsMet marks n → ⊥) →
+    (marks' : List Mark) (way' order' : List ℕ) → marks' ≡ set marks n (Entered 0) → way' ≡ way ++ n ∷ [] → order' ≡ order → IsTurn graph marks marks' way' order' × IsMet marks' n
+search_starts graph marks way order s empty n l new marks' way' order' em ew eo =
+    (subst (λ (ms : List Mark). IsTurn graph marks ms way' order') (sym em)
+    (subst (λ (w : List ℕ). IsTurn graph marks (set marks n (Entered 0)) w order') (sym ew)
+    (subst (λ (o : List ℕ). IsTurn graph marks (set marks n (Entered 0)) (way ++ n ∷ []) o) (sym eo)
+    (enter_new graph marks way order s n at (λ m k. absurd (none-some m (subst (λ (w : List ℕ). slice_get w (length way - 1) ≡ Some m) empty k)))))),
+    (Entered 0, subst (λ (ms : List Mark). slice_get ms n ≡ Some (Entered 0)) (sym em) (slice_get-set_same marks n (Entered 0) New at), entered-new 0))
+  where
+    here : (mark : Mark) → slice_get marks n ≡ Some mark → slice_get marks n ≡ Some New
+    here New h = h
+    here (Entered k) h = absurd (new (Entered k, h, entered-new k))
+    here Done h = absurd (new (Done, h, done-new))
+
+    at : slice_get marks n ≡ Some New
+    at = here (get_or marks n New) (slice_get-get_or marks n New (omega (arith, l, s.size)))
+
+-- a way without a last number is empty
+pub no_last : (way : List ℕ) → slice_get way (length way - 1) ≡ None → way ≡ []
+no_last [] h = refl
+no_last (x ∷ way) h =
+    let e : slice_get (x ∷ way) (length (x ∷ way) - 1) ≡ Some (get_or (x ∷ way) (length (x ∷ way) - 1) 0) = slice_get-get_or (x ∷ way) (length (x ∷ way) - 1) 0 (omega arith) in
+    absurd (none-some _ (sym h ∙ e))
+
+-- the search begins with nothing met
+pub search_begins : (graph : List (List ℕ)) (n : ℕ) → n ≡ length graph → IsSearch graph (replicate n New) [] []
+search_begins graph n e = record {
+  size = length-replicate n New ∙ e;
+  entered = λ i m h. absurd (none-some m h);
+  on_way = λ m k h. absurd (entered-new k (sym (all_new n m (Entered k) h)));
+  distinct = λ i j m hi hj. absurd (none-some m hi);
+  next = λ i m q hm hq. absurd (none-some m hm);
+  few = λ m k h. absurd (entered-new k (sym (all_new n m (Entered k) h)));
+  looked = λ m k j r h l there. absurd (entered-new k (sym (all_new n m (Entered k) h)));
+  done = λ m h. absurd (done-new (sym (all_new n m Done h)));
+  only = λ i m h. absurd (none-some m h);
+  once = λ i j m hi hj. absurd (none-some m hi);
+  behind = λ i m r h reads. absurd (none-some m h);
+}
+  where
+    all_new : (n m : ℕ) (mark : Mark) → slice_get (replicate n New) m ≡ Some mark → New ≡ mark
+    all_new zero m mark h = absurd (none-some mark h)
+    all_new (suc n) zero mark h = same_Some New mark h
+    all_new (suc n) (suc m) mark h = all_new n m mark h
+
+-- where all numbers are met and the way is empty, the order is whole
+pub search_ends : (graph : List (List ℕ)) (marks : List Mark) (way order : List ℕ) → IsSearch graph marks way order → way ≡ [] → ((n : ℕ) → n < length graph → IsMet marks n) → IsOrder graph order
+search_ends graph marks way order s empty met = record { each = λ n l. each n (met n l); once = s.once; behind = s.behind }
+  where
+    by : (n : ℕ) (mark : Mark) → slice_get marks n ≡ Some mark → mark ≢ New → Contains order n
+    by n New h new = absurd (new refl)
+    by n (Entered k) h new = let there = s.on_way n k h in absurd (none-some n (subst (λ (w : List ℕ). slice_get w there.0 ≡ Some n) empty there.1))
+    by n Done h new = let there = s.done n h in of_at order there.0 n there.1
+
+    each : (n : ℕ) → IsMet marks n → Contains order n
+    each n m = by n m.0 m.1 m.2
+
+-- the end of a way, from a number on that its last one reads, is a round
+pub way_round : (graph : List (List ℕ)) (way : List ℕ) (read place : ℕ) → IsClosed graph way read → slice_get way place ≡ Some read → IsRound graph (reverse (drop place way))
+way_round graph way read place c there = record {
+  some = omega (arith, size, w);
+  once = λ i j n hi hj.
+      let a = from i n hi in
+      let b = from j n hj in
+      let same = c.distinct (length way - 1 - i) (length way - 1 - j) n a.1 b.1 in
+      omega (arith, a.0, b.0, same);
+  next = λ i n m hn hm.
+      let a = from i n hn in
+      let b = from (suc i) m hm in
+      let step : suc (length way - 1 - suc i) ≡ length way - 1 - i = omega (arith, a.0, b.0) in
+      c.next (length way - 1 - suc i) m n b.1 (subst (λ k. slice_get way k ≡ Some n) (sym step) a.1);
+  closes = λ first last hf hl.
+      let a = from 0 first hf in
+      let b = from (length (reverse (drop place way)) - 1) last hl in
+      let top : length way - 1 - 0 ≡ length way - 1 = omega arith in
+      let low : length way - 1 - (length (reverse (drop place way)) - 1) ≡ place = omega (arith, size, w) in
+      let f : first ≡ c.last = same_Some first c.last (sym a.1 ∙ ap (slice_get way) top ∙ c.last_there) in
+      let l : last ≡ read = same_Some last read (sym b.1 ∙ ap (slice_get way) low ∙ there) in
+      subst (λ k. Contains (reads_of graph k) last) (sym f) (subst (λ k. Contains (reads_of graph c.last) k) (sym l) c.reads);
+}
+  where
+    w : place < length way
+    w = slice_get_within way place read there
+
+    size : length (reverse (drop place way)) ≡ length way - place
+    size = length-reverse (drop place way) ∙ length-drop place way
+
+    from : (i n : ℕ) → slice_get (reverse (drop place way)) i ≡ Some n → (i < length way - place) × (slice_get way (length way - 1 - i) ≡ Some n)
+    from i n h =
+        let l = slice_get_within (reverse (drop place way)) i n h in
+        let k : i < length (drop place way) = omega (arith, l, length-reverse (drop place way)) in
+        let e : get_or (reverse (drop place way)) i n ≡ get_or (drop place way) (length (drop place way) - 1 - i) n = get_or-reverse (drop place way) i n k in
+        let f : get_or (drop place way) (length (drop place way) - 1 - i) n ≡ get_or way (place + (length (drop place way) - 1 - i)) n = get_or-drop place way (length (drop place way) - 1 - i) n in
+        let g : place + (length (drop place way) - 1 - i) ≡ length way - 1 - i = omega (arith, k, length-drop place way, w) in
+        (omega (arith, l, size), slice_get_read way (length way) (length way - 1 - i) n refl (omega (arith, w)) (sym (sym (ap (λ q. get_or way q n) g) ∙ sym f ∙ sym e ∙ get_or_from_slice_get (reverse (drop place way)) i n n h)))
+
+-- a number that stands in the list has a first place
+first_within : (n : ℕ) (numbers : List ℕ) (i : ℕ) → slice_get numbers i ≡ Some n → position_or_len (λ m. m == n) numbers < length numbers
+first_within n [] i h = absurd (none-some n h)
+first_within n (m ∷ numbers) zero h = let same : (m == n) ≡ true = (Decides-eqb m n).1 (same_Some m n h) in rw same (omega arith)
+first_within n (m ∷ numbers) (suc i) h = go (m == n) refl (first_within n numbers i h)
+  where
+    go : (b : Bool) → (m == n) ≡ b → position_or_len (λ m. m == n) numbers < length numbers → position_or_len (λ m. m == n) (m ∷ numbers) < length (m ∷ numbers)
+    go true e rest = rw e (omega arith)
+    go false e rest = rw e (omega (arith, rest))
+
+-- the first place of a number that stands in the list
+pub place_there : (numbers : List ℕ) (n i : ℕ) → slice_get numbers i ≡ Some n → slice_get numbers (unwrap_or (position (λ m. m == n) numbers) 0) ≡ Some n
+place_there numbers n i h =
+    let l : ltb (position_or_len (λ m. m == n) numbers) (length numbers) ≡ true = (Decides-ltb (position_or_len (λ m. m == n) numbers) (length numbers)).1 (first_within n numbers i h) in
+    let e : position (λ m. m == n) numbers ≡ Some (position_or_len (λ m. m == n) numbers) = ap (λ b. cond b (Some (position_or_len (λ m. m == n) numbers)) None) l in
+    let f = position-Some (λ m. m == n) numbers (position_or_len (λ m. m == n) numbers) 0 e in
+    let same : get_or numbers (position_or_len (λ m. m == n) numbers) 0 ≡ n = (Decides-eqb (get_or numbers (position_or_len (λ m. m == n) numbers) 0) n).0 f.1 in
+    subst (λ (o : Option ℕ). slice_get numbers (unwrap_or o 0) ≡ Some n) (sym e) (slice_get-get_or numbers (position_or_len (λ m. m == n) numbers) 0 f.0 ∙ ap Some same)
+
+-- the round that the code gives
+pub round_from : (graph : List (List ℕ)) (way : List ℕ) (read : ℕ) → IsClosed graph way read → (slice whole : List ℕ) (found : Option ℕ) (place : ℕ) (part turned numbers : List ℕ) →
+    slice ≡ way → found ≡ position (λ m. m == read) slice → place ≡ unwrap_or found 0 → whole ≡ way → part ≡ take (length whole - place) (drop place whole) → turned ≡ reverse part → numbers ≡ turned → IsRound graph numbers
+round_from graph way read c slice whole found place part turned numbers es ef ep ew ea et en =
+    let there : slice_get way place ≡ Some read = subst (λ k. slice_get way k ≡ Some read) (sym (ep ∙ ap (λ (o : Option ℕ). unwrap_or o 0) (ef ∙ ap (position (λ m. m == read)) es))) (place_there way read c.place c.there) in
+    let full : part ≡ drop place way =
+    ea ∙ ap (λ (w : List ℕ). take (length w - place) (drop place w)) ew ∙ take_all (length way - place) (drop place way) (omega (arith, length-drop place way)) in
+    subst (IsRound graph) (sym (en ∙ et ∙ ap reverse full)) (way_round graph way read place c there)

@@ -1,6 +1,7 @@
 //! The order in which numbered signals can be evaluated, or a round of signals that read each other.
 
-ghost use Rattle.std.specs.Prelude.{◌≡◌, ◌≢◌, ◌+◌, ◌-◌, ◌^◌, ◌<◌, ℕ, [], ◌∷◌, ◌++◌, length, replicate, take, slice_get, slice_set, slice_index_or, Some, All, IfOk, IfSome, IfNone, OnOk, IsTrue, ◌↔◌};
+ghost use Rattle.std.specs.Prelude.{◌≡◌, ◌≢◌, ◌+◌, ◌-◌, ◌^◌, ◌<◌, ℕ, [], ◌∷◌, ◌++◌, length, replicate, take, slice_get, slice_set, slice_index_or, Some, All, IfOk, IfSome, IfNone, OnOk, IsTrue, ◌↔◌, ◌==◌};
+ghost use Rattle.std.specs.List.{position};
 ghost use Rattle.flatten.specs.Order.{IsOrder, IsRound, reads_of};
 ghost use Rattle.flatten.specs.Searched.{IsMet, IsSearch, IsClosed, IsTurn, looked_at};
 
@@ -154,11 +155,18 @@ impl Search {
         requires { IsClosed graph.now self.now.way.items read }
         ensures { IfOk result (λ numbers. IsRound graph.now numbers) }
     {
-        let place = self.way.iter().position(|n| *n == read).unwrap_or(0);
+        let place = place_in(self.way.as_slice(), read).unwrap_or(0);
         let mut numbers = Vec::from_slice(alloc, &self.way[place..])?;
         numbers.reverse();
         Ok(Seq::from_vec(numbers))
     }
+}
+
+/// The first place of the number.
+fn place_in(numbers: &[u32], number: u32) -> Option<usize>
+    ensures { result ≡ position (λ n. n == number) numbers.now }
+{
+    numbers.iter().position(|n| *n == number)
 }
 
 /// All numbers, each behind those that it reads; or a round of numbers that read each other.
