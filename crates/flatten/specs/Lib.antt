@@ -1,3 +1,6 @@
 pub mod Assembled
 pub mod Order
 pub mod Searched
+pub mod Loops
+pub mod DesignFaults
+pub mod Graph
