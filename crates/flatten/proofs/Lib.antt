@@ -1,3 +1,5 @@
 pub mod AssembledRuns
 pub mod Rows
 pub mod Searching
+pub mod NameOrder
+pub mod GraphSteps
