@@ -3,3 +3,4 @@ pub mod Rows
 pub mod Searching
 pub mod NameOrder
 pub mod GraphSteps
+pub mod LoopLaws

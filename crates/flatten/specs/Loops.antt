@@ -1,10 +1,10 @@
 -- Loops of a flat design: cycles through gates and ports.
-use Rattle.std.specs.Prelude.{◌≡◌, ◌⊎◌, ℕ, suc, ◌-◌, ◌<◌, List, [], ◌∷◌, ◌++◌, length, slice_get, Some}
-use Rattle.std.specs.List.{All, Contains}
+use Rattle.std.specs.Prelude.{◌≡◌, ◌⊎◌, ℕ, suc, ◌-◌, ◌<◌, Bool, List, [], ◌∷◌, ◌++◌, map, length, take, drop, slice_get, slice_index_or, Some}
+use Rattle.std.specs.List.{All, Contains, filter}
 use Rattle.circuit_theory.specs.Cover.{Cover}
 use Rattle.circuit_theory.specs.Names.{ListBefore}
 use Rattle.sec_base.specs.Table.{AreDistinct}
-use Rattle.flat_walk.specs.Flat.{FlatDesign, FlatOf, Kind, gate, latch, port}
+use Rattle.flat_walk.specs.Flat.{FlatDesign, FlatOf, Kind, gate, latch, port, name_at}
 
 -- a gate or a port has its value in the cycle in which it reads
 abbrev pub IsQuick : {P : Type 0} → Kind P → Type 0
@@ -59,3 +59,15 @@ pub record IsLoop (d : FlatDesign (List ℕ)) (names : List (List ℕ)) : Type 0
   pub nets : AreNetsOf d cycle (front ++ back)
   pub turned : names ≡ back ++ front
   pub least : (first name : List ℕ) → slice_get names 0 ≡ Some first → Contains names name → ListBefore name first → ⊥
+
+-- the names of the numbers from a place on, and then of those before it; none of them comes before the first
+pub record IsNamedTurn (names : List (List ℕ)) (numbers : List ℕ) (words : List (List ℕ)) : Type 0 where
+  pub place : ℕ
+  pub within : place < length numbers
+  pub words_are : words ≡ map (name_at names) (drop place numbers ++ take place numbers)
+  pub least : (k : ℕ) → k < length numbers → ListBefore (name_at names (slice_index_or numbers k 0)) (name_at names (slice_index_or numbers place 0)) → ⊥
+
+-- the names of the gates among the numbers, or of all where none is a gate's
+abbrev pub AreLoopNames : List (List ℕ) → (ℕ → Bool) → List ℕ → List (List ℕ) → Type 0
+AreLoopNames names is_gate numbers words =
+    ((0 < length (filter is_gate numbers)) × IsNamedTurn names (filter is_gate numbers) words) ⊎ ((filter is_gate numbers ≡ []) × IsNamedTurn names numbers words)
