@@ -8,7 +8,7 @@ use Rattle.std.proofs.lemmas.List.{map-append, length-map, length-drop, get_or-d
 use Rattle.std.proofs.lemmas.List.Elements.{All-contains, Contains-append_left, Contains-append_right, Contains-append_cases}
 use Rattle.std.proofs.lemmas.Option.{none-some, same_Some, slice_get_within, slice_get-get_or, get_or_from_slice_get, unwrap_or-slice_get}
 use Rattle.circuit_theory.specs.Names.{ListBefore}
-use Rattle.circuit_theory.proofs.Lists.{Contains-map, Contains-map_from, Contains-head, Contains-tail, Contains-cases, All-from_each, at_of, of_at, map-map}
+use Rattle.circuit_theory.proofs.Lists.{Contains-map, Contains-map_from, Contains-head, Contains-tail, Contains-cases, All-from_each, Contains-filter, at_of, of_at, map-map}
 use Rattle.circuit_theory.proofs.Numbers.{slice_get-map}
 use Rattle.sec_base.specs.Table.{AreDistinct}
 use Rattle.sec_base.proofs.TableLemmas.{key_at, slice_get-take}
@@ -172,6 +172,39 @@ module _ (flat : Flat) (wired : WiredView) (is : IsWired (wires_of flat) (length
         (Decides-ltb s.out (length flat.names)).0 out.0,
         λ n k. let at = at_of s.reads n k in (Decides-ltb n (length flat.names)).0 (list_all_place (λ n. nat_lt n (length flat.names)) s.reads at.0 n reads.0 at.1),
       )
+
+  quick_sub : (k : FlatKind) (reads : List ℕ) (r : ℕ) → Contains (quick_reads reads k) r → Contains reads r
+  quick_sub (kind.Gate model statement) reads r h = h
+  quick_sub (kind.Latch edge control init) reads r h = absurd (omega (arith, h.1))
+  quick_sub kind.Port reads r h = h
+
+  -- what reads and what is read is in range
+  read_within : (n r : ℕ) → Contains (reads_of graph n) r → (n < length flat.names) × (r < length flat.names)
+  read_within n r h =
+      let q = quick n r h in
+      let l = statement_within q.i q.s q.at in
+      (subst (λ k. k < length flat.names) q.drives l.0, l.1 r (quick_sub q.s.kind q.s.reads r q.reads))
+
+  pub graph_within : (g : List (List ℕ)) → g ≡ graph → All (λ reads. All (λ r. r < length g) reads) g
+  graph_within g e = subst (λ (g : List (List ℕ)). All (λ reads. All (λ r. r < length g) reads) g) (sym e)
+      (All-from_each (λ reads. All (λ r. r < length graph) reads) graph (λ reads h.
+      let at = at_of graph reads h in
+      let is_reads : reads_of graph at.0 ≡ reads = get_or_from_slice_get graph at.0 reads [] at.1 in
+      All-from_each (λ r. r < length graph) reads (λ r k. let l = read_within at.0 r (subst (λ (rs : List ℕ). Contains rs r) (sym is_reads) k) in omega (arith, l.1, graph_size))))
+
+  pub round_within : (numbers : List ℕ) → IsRound graph numbers → (n : ℕ) → Contains numbers n → n < length flat.names
+  round_within numbers round n h = let at = at_of numbers n h in by at.0 at.1
+    where
+      by : (i : ℕ) → slice_get numbers i ≡ Some n → n < length flat.names
+      by zero at =
+          let last = slice_get-get_or numbers (length numbers - 1) n (omega (arith, round.some)) in
+          (read_within n (get_or numbers (length numbers - 1) n) (round.closes n (get_or numbers (length numbers - 1) n) at last)).0
+      by (suc i) at =
+          let before = slice_get-get_or numbers i n (let l = slice_get_within numbers (suc i) n at in omega (arith, l)) in
+          (read_within n (get_or numbers i n) (round.next i (get_or numbers i n) n before at)).0
+
+  pub round_numbers : (numbers : List ℕ) → IsRound graph numbers → All (λ n. n < length flat.names) numbers
+  round_numbers numbers round = All-from_each (λ n. n < length flat.names) numbers (round_within numbers round)
 
   abbrev name : ℕ → List ℕ
   name n = name_at flat.names n
@@ -389,3 +422,8 @@ module _ (flat : Flat) (wired : WiredView) (is : IsWired (wires_of flat) (length
     round_loop numbers l r words (inl some) = turn_loop (map name numbers) (round_cycle numbers l r) (filter (is_gate_out st wired.sources) numbers) words
         (inl (omega (arith, some.0, length-map (filter (is_gate_out st wired.sources) numbers) name), gates_kept numbers l)) some.1
     round_loop numbers l r words (inr none) = turn_loop (map name numbers) (round_cycle numbers l r) numbers words (inr (refl, no_gates numbers l none.0)) none.1
+
+-- what a filter keeps is in range
+pub kept_within : (p : ℕ → Bool) (size : ℕ) (xs ys zs : List ℕ) → All (λ n. n < size) xs → ys ≡ filter p xs → zs ≡ ys → All (λ n. n < size) zs
+kept_within p size xs ys zs all ey ez =
+    subst (λ (ns : List ℕ). All (λ n. n < size) ns) (sym (ez ∙ ey)) (All-from_each (λ n. n < size) (filter p xs) (λ n h. All-contains (λ n. n < size) xs n all (Contains-filter p xs n h)))
