@@ -4,3 +4,4 @@ pub mod Searching
 pub mod NameOrder
 pub mod GraphSteps
 pub mod LoopLaws
+pub mod Faulted

@@ -33,9 +33,8 @@ IsSoundDesign models = (e : FlatError) → DesignFault models e → ⊥
 abbrev pub IsClocked : Circuit Place → Option (List ℕ) → Place → Type 0
 IsClocked d clock p = (c : List ℕ) × (clock ≡ Some c) × Follows d p (top c)
 
--- The design has no fault, and the net's runs are its runs. No output name stands twice, and there are few ports and latches.
+-- The net's runs are the design's runs. No output name stands twice, and there are few ports and latches.
 pub record IsFlatOf (models : List BlifModel) (net : NetView) : Type 0 where
-  pub sound : IsSoundDesign models
   pub clock : IsClock models net.clock
   pub origin : ℕ → Place
   pub flattened : (let d = circuit_of_design models net.clock in IsFlattened d (circuit_of net) (length net.drivers) (IsClocked d net.clock) (IsPlace d) origin)

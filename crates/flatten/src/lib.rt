@@ -1,5 +1,6 @@
 //! From a design to a flat net.
 #![tactic(auto)]
 
+mod assemble;
 mod loops;
 mod search;

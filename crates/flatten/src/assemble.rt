@@ -1,0 +1,88 @@
+//! The net of a sound flat design.
+
+ghost use Rattle.std.specs.Prelude.{◌≡◌, ◌^◌, ◌+◌, ◌<◌, ℕ, [], ◌∷◌, ◌++◌, false, true, length, replicate, slice_get, slice_set, slice_index_or, Some, All, IfOk, OnOk, IsSomeAnd};
+ghost use Rattle.sec_base.specs.Table.{is_among};
+ghost use Rattle.flat_net.specs.Makes.{empty_net, new_signal, with_input, with_latch, with_gate, with_output, with_next};
+
+use flat_net::{NetMaker, Signal, Signals};
+use sec_base::{Init, NoMemory, PlaceTable};
+use std::alloc::Global;
+
+/// The net so far, the signal of each number that has one, and which covers the net has.
+#[derive(Drop)]
+pub(crate) struct Assembly {
+    maker: NetMaker,
+    signals: Vec<Signal>,
+    covers: PlaceTable,
+}
+
+impl Assembly {
+    /// An empty net over so many numbers.
+    pub(crate) fn new(alloc: Global, size: usize) -> Result<Assembly, NoMemory>
+        ensures net { IfOk result (λ a. a.maker ≡ record { net = empty_net; set = [] }) }
+        ensures signals { IfOk result (λ a. a.signals.items ≡ replicate size (record { 0 = 0 })) }
+        ensures covers { IfOk result (λ a. a.covers ≡ []) }
+    {
+        Ok(Assembly {
+            maker: NetMaker::new(alloc),
+            signals: vec![in alloc; Signal(0); size]?,
+            covers: PlaceTable::new(alloc),
+        })
+    }
+
+    /// The number is an input of this name.
+    pub(crate) fn add_input(&mut self, name: &[u8], number: u32) -> Result<(), NoMemory>
+        requires room { length self.old.maker.net.drivers + 1 < 2 ^ 32 }
+        requires new { is_among self.old.maker.net.names name.now ≡ false }
+        requires number { number < length self.old.signals.items }
+        ensures net { OnOk result (self.new.maker ≡ record self.old.maker { net = with_input self.old.maker.net name.now }) }
+        ensures signals { OnOk result (self.new.signals.items ≡ slice_set self.old.signals.items number (new_signal self.old.maker.net)) }
+        ensures covers { OnOk result (self.new.covers ≡ self.old.covers) }
+    {
+        let signal = self.maker.input(name)?;
+        self.signals[number as usize] = signal;
+        Ok(())
+    }
+
+    /// The number is what a latch of this name drives.
+    pub(crate) fn add_latch(&mut self, name: &[u8], number: u32, init: Init) -> Result<(), NoMemory>
+        requires room { length self.old.maker.net.drivers + 1 < 2 ^ 32 }
+        requires new { is_among self.old.maker.net.names name.now ≡ false }
+        requires number { number < length self.old.signals.items }
+        ensures net { OnOk result (self.new.maker ≡ record { net = with_latch self.old.maker.net name.now init; set = self.old.maker.set ++ false ∷ [] }) }
+        ensures signals { OnOk result (self.new.signals.items ≡ slice_set self.old.signals.items number (new_signal self.old.maker.net)) }
+        ensures covers { OnOk result (self.new.covers ≡ self.old.covers) }
+    {
+        let signal = self.maker.latch(name, init)?;
+        self.signals[number as usize] = signal;
+        Ok(())
+    }
+
+    /// The number is what a gate of this name drives.
+    pub(crate) fn add_gate(&mut self, name: &[u8], number: u32, fanins: Signals, cover: u32) -> Result<(), NoMemory>
+        requires room { length self.old.maker.net.drivers + 1 < 2 ^ 32 }
+        requires new { is_among self.old.maker.net.names name.now ≡ false }
+        requires within { All (λ f. f.0 < length self.old.maker.net.drivers) fanins }
+        requires fits { IsSomeAnd (slice_get self.old.maker.net.covers cover) (λ c. c.width ≡ length fanins) }
+        requires number { number < length self.old.signals.items }
+        ensures net { OnOk result (self.new.maker ≡ record self.old.maker { net = with_gate self.old.maker.net name.now fanins cover }) }
+        ensures signals { OnOk result (self.new.signals.items ≡ slice_set self.old.signals.items number (new_signal self.old.maker.net)) }
+        ensures covers { OnOk result (self.new.covers ≡ self.old.covers) }
+    {
+        let signal = self.maker.gate(name, fanins, cover)?;
+        self.signals[number as usize] = signal;
+        Ok(())
+    }
+
+    /// The number is driven by a port from another: both have one signal.
+    pub(crate) fn join(&mut self, number: u32, from: u32)
+        requires number { number < length self.old.signals.items }
+        requires from { from < length self.old.signals.items }
+        ensures net { self.new.maker ≡ self.old.maker }
+        ensures signals { IsSomeAnd (slice_get self.old.signals.items from) (λ s. self.new.signals.items ≡ slice_set self.old.signals.items number s) }
+        ensures covers { self.new.covers ≡ self.old.covers }
+    {
+        let signal = self.signals[from as usize];
+        self.signals[number as usize] = signal;
+    }
+}
