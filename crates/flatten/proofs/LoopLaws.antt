@@ -162,7 +162,6 @@ module _ (flat : Flat) (wired : WiredView) (is : IsWired (wires_of flat) (length
           let none : reads_of graph n ≡ [] = get_or_past graph n [] (omega (arith, l, length-map wired.sources (source_reads st))) in
           none-some r (subst (λ (rs : List ℕ). slice_get rs p.0 ≡ Some r) none p.1))
 
-
   -- the numbers of a statement are in range
   statement_within : (i : ℕ) (s : FlatStatement) → slice_get st i ≡ Some s → (s.out < length flat.names) × ((n : ℕ) → Contains s.reads n → n < length flat.names)
   statement_within i s h =

@@ -259,9 +259,9 @@ module _ (graph : List (List ℕ)) (marks : List Mark) (way order : List ℕ) (s
                 pick : (i < length way - 1) ⊎ (length way - 1 ≤ i) → (q : ℕ) × (slice_get left_way q ≡ Some m)
                 pick (inl l) = (i, slice_get-take_to (length way - 1) way i m l there)
                 pick (inr l) = absurd (e.0 (
-                  let w = slice_get_within way i m there in
-                  let same : i ≡ length way - 1 = omega (arith, l, w) in
-                  same_Some m n (sym there ∙ ap (slice_get way) same ∙ last)))
+                    let w = slice_get_within way i m there in
+                    let same : i ≡ length way - 1 = omega (arith, l, w) in
+                    same_Some m n (sym there ∙ ap (slice_get way) same ∙ last)))
 
     leave_distinct : AreDistinct left_way
     leave_distinct i j m hi hj = s.distinct i j m (slice_get-take (length way - 1) way i m hi).1 (slice_get-take (length way - 1) way j m hj).1
@@ -336,7 +336,13 @@ module _ (graph : List (List ℕ)) (marks : List Mark) (way order : List ℕ) (s
   -- a read that stands on the way closes a round
   pub closes_round : (n r k : ℕ) → slice_get way (length way - 1) ≡ Some n → Contains (reads_of graph n) r → slice_get marks r ≡ Some (Entered k) → IsClosed graph way r
   closes_round n r k last reads at = let there = s.on_way r k at in record {
-      distinct = s.distinct; next = s.next; place = there.0; there = there.1; last = n; last_there = last; reads = reads;
+    distinct = s.distinct;
+    next = s.next;
+    place = there.0;
+    there = there.1;
+    last = n;
+    last_there = last;
+    reads = reads;
   }
 
 -- the reads of a number, as the code has them
@@ -418,12 +424,13 @@ module _ (graph : List (List ℕ)) (marks : List Mark) (way order : List ℕ) (s
 -- the first number of a way
 pub search_starts : (graph : List (List ℕ)) (marks : List Mark) (way order : List ℕ) → IsSearch graph marks way order → way ≡ [] → (n : ℕ) → n < length graph → (IsMet marks n → ⊥) →
     (marks' : List Mark) (way' order' : List ℕ) → marks' ≡ set marks n (Entered 0) → way' ≡ way ++ n ∷ [] → order' ≡ order → IsTurn graph marks marks' way' order' × IsMet marks' n
-search_starts graph marks way order s empty n l new marks' way' order' em ew eo =
-    (subst (λ (ms : List Mark). IsTurn graph marks ms way' order') (sym em)
-    (subst (λ (w : List ℕ). IsTurn graph marks (set marks n (Entered 0)) w order') (sym ew)
-    (subst (λ (o : List ℕ). IsTurn graph marks (set marks n (Entered 0)) (way ++ n ∷ []) o) (sym eo)
-    (enter_new graph marks way order s n at (λ m k. absurd (none-some m (subst (λ (w : List ℕ). slice_get w (length way - 1) ≡ Some m) empty k)))))),
-    (Entered 0, subst (λ (ms : List Mark). slice_get ms n ≡ Some (Entered 0)) (sym em) (slice_get-set_same marks n (Entered 0) New at), entered-new 0))
+search_starts graph marks way order s empty n l new marks' way' order' em ew eo = (
+  subst (λ (ms : List Mark). IsTurn graph marks ms way' order') (sym em)
+      (subst (λ (w : List ℕ). IsTurn graph marks (set marks n (Entered 0)) w order') (sym ew)
+      (subst (λ (o : List ℕ). IsTurn graph marks (set marks n (Entered 0)) (way ++ n ∷ []) o) (sym eo)
+      (enter_new graph marks way order s n at (λ m k. absurd (none-some m (subst (λ (w : List ℕ). slice_get w (length way - 1) ≡ Some m) empty k)))))),
+  (Entered 0, subst (λ (ms : List Mark). slice_get ms n ≡ Some (Entered 0)) (sym em) (slice_get-set_same marks n (Entered 0) New at), entered-new 0),
+)
   where
     here : (mark : Mark) → slice_get marks n ≡ Some mark → slice_get marks n ≡ Some New
     here New h = h

@@ -59,7 +59,13 @@ impl Assembly {
     }
 
     /// The number is what a gate of this name drives.
-    pub(crate) fn add_gate(&mut self, name: &[u8], number: u32, fanins: Signals, cover: u32) -> Result<(), NoMemory>
+    pub(crate) fn add_gate(
+        &mut self,
+        name: &[u8],
+        number: u32,
+        fanins: Signals,
+        cover: u32,
+    ) -> Result<(), NoMemory>
         requires room { length self.old.maker.net.drivers + 1 < 2 ^ 32 }
         requires new { is_among self.old.maker.net.names name.now ≡ false }
         requires within { All (λ f. f.0 < length self.old.maker.net.drivers) fanins }

@@ -2,5 +2,6 @@
 #![tactic(auto)]
 
 mod assemble;
+mod design;
 mod loops;
 mod search;

@@ -62,7 +62,12 @@ fn is_gate(flat: &Flat, source: Source) -> bool
 }
 
 /// Those of the signals that gates drive.
-fn gates_of(alloc: Global, flat: &Flat, wired: &Wired, numbers: &[u32]) -> Result<Vec<u32>, NoMemory>
+fn gates_of(
+    alloc: Global,
+    flat: &Flat,
+    wired: &Wired,
+    numbers: &[u32],
+) -> Result<Vec<u32>, NoMemory>
     requires numbers { All (λ n. n < length wired.now.sources) numbers.now }
     requires within { All (IsSourceWithin (length flat.now.statements)) wired.now.sources }
     ensures { IfOk result (λ gates. gates.items ≡ filter (is_gate_out flat.now.statements wired.now.sources) numbers.now) }

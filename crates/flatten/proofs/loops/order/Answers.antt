@@ -27,6 +27,6 @@ loop_names-requires-clause-within c = sources_within c.args.flat.now c.args.wire
 pub returns-clause-err : goal.returns-clause-err
 returns-clause-err c = λ no_memory models.
     let round = subst (λ (g : List (List ℕ)). IsRound g c.as_slice.result.now) (c.deref.ensures.value ∙ c.in_ok-graph.ensures.graph)
-        (subst (λ (ns : List ℕ). IsRound c.deref.result.now ns) (sym c.as_slice.ensures) (c.in_ok-order.ensures.round c.in-Round.round c.in-Round.is)) in
+    (subst (λ (ns : List ℕ). IsRound c.deref.result.now ns) (sym c.as_slice.ensures) (c.in_ok-order.ensures.round c.in-Round.round c.in-Round.is)) in
     round_loop c.args.flat.now c.args.wired.now c.requires models c.as_slice.result.now (round_within c.args.flat.now c.args.wired.now c.requires c.as_slice.result.now round) round
     c.in_ok-names-in-Round.names c.in_ok-names-in-Round.ensures
