@@ -1,16 +1,16 @@
 -- An assembled net has the design's runs.
-use Rattle.std.proofs.Common.{arith, ◌≡◌, ℕ, suc, ◌+◌, ◌<◌, Bool, List, map, refl, sym, ◌∙◌, ap, subst, Option, Some, slice_get}
+use Rattle.std.proofs.Common.{arith, ◌≡◌, ℕ, ◌+◌, Bool, List, map, refl, sym, ◌∙◌, ap, subst, Some, slice_get}
 use Rattle.std.specs.List.{All, Contains}
 use Rattle.std.proofs.lemmas.List.Elements.{All-contains}
-use Rattle.circuit_theory.specs.Cover.{Cover, cover_value}
-use Rattle.circuit_theory.specs.Circuit.{Circuit, Equation, Gate, Latch, Port, Named, IsInput, IsLatch, Holds, Carries}
+use Rattle.circuit_theory.specs.Cover.{cover_value}
+use Rattle.circuit_theory.specs.Circuit.{Circuit, Equation, Gate, Latch, Port, Named, IsInput, Holds, Carries}
 use Rattle.circuit_theory.specs.Places.{IsPlace}
 use Rattle.circuit_theory.specs.Classes.{moved, moved_name}
-use Rattle.circuit_theory.specs.Run.{IsRun, Marked, NoneEnabled}
+use Rattle.circuit_theory.specs.Run.{Marked, NoneEnabled}
 use Rattle.circuit_theory.specs.Flattened.{IsFlattened, Follows}
-use Rattle.circuit_theory.proofs.Lists.{map-map, map_same, Contains-map, Contains-map_from, All-from_each, of_at}
+use Rattle.circuit_theory.proofs.Lists.{map-map, map_same, Contains-map_from, All-from_each, of_at}
 use Rattle.circuit_theory.proofs.Numbers.{slice_get-map}
-use Rattle.flatten.specs.Assembled.{IsSignalOf, IsAssembled}
+use Rattle.flatten.specs.Assembled.{IsAssembled}
 
 some_is : {X : Type 0} (x y : X) → Some x ≡ Some y → x ≡ y
 some_is x y e = cc

@@ -1,12 +1,11 @@
 -- The first fault of a design, from the faults that the parts of the flattening tell.
-use Rattle.std.proofs.Common.{◌≡◌, ◌≢◌, ℕ, List, Some, None, sym, ◌∙◌, subst}
+use Rattle.std.proofs.Common.{◌≢◌, ℕ, List, sym, ◌∙◌, subst}
 use Rattle.std.proofs.lemmas.Option.{none-some}
 use Rattle.blif_read.specs.declared.design.BlifModel.{BlifModel}
 use Rattle.flat_walk.specs.declared.flat.Flat.{Flat}
 use Rattle.flat_walk.specs.declared.error.FlatError.{FlatError}
 use Rattle.flat_walk.specs.declared.error.FlatError.TheVariants as fault
 use Rattle.flat_walk.specs.Flat.{FlatDesign, named, name_at, view_of, flat_design_of}
-use Rattle.flat_walk.specs.Walking.{design_walk_fault}
 use Rattle.flat_walk.specs.Walked.{IsWalked}
 use Rattle.flat_wires.specs.Faults.{IsWireFault}
 use Rattle.flat_wires.specs.Wired.{IsTold, IsFaultless}

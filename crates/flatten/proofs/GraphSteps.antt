@@ -1,5 +1,5 @@
 -- What signals read, and the lists that the code makes of it.
-use Rattle.std.proofs.Common.{◌≡◌, ◌<◌, ◌+◌, ◌∙◌, ℕ, List, [], ◌∷◌, ◌++◌, map, length, take, slice_get, Some, sym, ap}
+use Rattle.std.proofs.Common.{◌≡◌, ◌+◌, ◌∙◌, ℕ, List, [], ◌∷◌, ◌++◌, map, take, slice_get, Some, sym, ap}
 use Rattle.std.proofs.lemmas.List.{map-append}
 use Rattle.sec_base.proofs.TableLemmas.{take-push}
 use Rattle.flat_walk.specs.declared.flat.FlatStatement.{FlatStatement}

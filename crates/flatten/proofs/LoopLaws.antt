@@ -1,5 +1,5 @@
 -- Rounds of numbered signals are loops of the design, and an order shows that it has none.
-use Rattle.std.proofs.Common.{◌≡◌, ◌≢◌, ◌+◌, ◌-◌, ◌<◌, ◌≤◌, ◌∙◌, ℕ, zero, suc, Bool, true, false, cond, List, [], ◌∷◌, ◌++◌, map, length, take, drop, slice_get, slice_index_or, get_or, unwrap_or, Option, Some, None, refl, sym, ap, subst, arith, inl, inr, true≢false}
+use Rattle.std.proofs.Common.{◌≡◌, ◌+◌, ◌-◌, ◌<◌, ◌≤◌, ◌∙◌, ℕ, zero, suc, Bool, true, false, cond, List, [], ◌∷◌, ◌++◌, map, length, take, drop, slice_get, get_or, Option, Some, None, refl, sym, ap, subst, arith, inl, inr, true≢false}
 use Rattle.std.specs.Prelude.{◌⊎◌, ◌&&◌, nat_lt}
 use Rattle.std.specs.List.{All, Contains, filter, list_all}
 use Rattle.std.proofs.lemmas.Bool.{cases_order, cases_lt}
@@ -10,22 +10,19 @@ use Rattle.std.proofs.lemmas.Option.{none-some, same_Some, slice_get_within, sli
 use Rattle.circuit_theory.specs.Names.{ListBefore}
 use Rattle.circuit_theory.proofs.Lists.{Contains-map, Contains-map_from, Contains-head, Contains-tail, Contains-cases, All-from_each, Contains-filter, at_of, of_at, map-map}
 use Rattle.circuit_theory.proofs.Numbers.{slice_get-map}
-use Rattle.sec_base.specs.Table.{AreDistinct}
 use Rattle.sec_base.proofs.TableLemmas.{key_at, slice_get-take}
 use Rattle.blif_read.specs.declared.design.BlifModel.{BlifModel}
 use Rattle.flat_walk.specs.declared.flat.Flat.{Flat}
 use Rattle.flat_walk.specs.declared.flat.FlatStatement.{FlatStatement}
 use Rattle.flat_walk.specs.declared.flat.FlatKind.{FlatKind}
 use Rattle.flat_walk.specs.declared.flat.FlatKind.TheVariants as kind
-use Rattle.flat_walk.specs.Flat.{FlatDesign, FlatOf, Kind, gate, latch, port, named, named_kind, named_statement, name_at, statement_of, kind_of, view_of}
+use Rattle.flat_walk.specs.Flat.{FlatDesign, FlatOf, named, named_kind, named_statement, name_at, statement_of, kind_of, view_of}
 use Rattle.flat_wires.specs.declared.source.Source.{Source}
 use Rattle.flat_wires.specs.declared.source.Source.TheVariants as source
 use Rattle.flat_wires.specs.Wiring.{Wiring, wires_of}
-use Rattle.flat_wires.specs.Faults.{driven_before, DrivesAgain}
-use Rattle.flat_wires.specs.Events.{IsNever}
-use Rattle.flat_wires.specs.Tables.{IsSource, AreSources}
+use Rattle.flat_wires.specs.Faults.{driven_before}
 use Rattle.flat_wires.specs.Wired.{WiredView, IsWired}
-use Rattle.flatten.specs.Graph.{IsSourceWithin, quick_reads, source_reads, reads_in, is_gate_kind, is_gate_in, is_gate_source, is_gate_by, is_gate_out, graph_of}
+use Rattle.flatten.specs.Graph.{IsSourceWithin, quick_reads, source_reads, reads_in, is_gate_kind, is_gate_in, is_gate_by, is_gate_out, graph_of}
 use Rattle.flatten.specs.Order.{reads_of, IsOrder, IsRound}
 use Rattle.flatten.specs.Loops.{IsQuick, ReadsFrom, IsCycle, IsGate, IsGateOut, AreKept, AreNetsOf, IsLoop, IsNamedTurn, AreLoopNames}
 use Rattle.flat_walk.specs.Within.{is_within, has_clock_within}

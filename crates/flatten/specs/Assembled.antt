@@ -2,7 +2,7 @@
 use Rattle.std.specs.Prelude.{◌≡◌, ℕ, ◌<◌, List, map}
 use Rattle.std.specs.List.{Contains}
 use Rattle.circuit_theory.specs.Cover.{Cover}
-use Rattle.circuit_theory.specs.Circuit.{Circuit, Equation, Gate, Latch, Port, Named, IsLatch}
+use Rattle.circuit_theory.specs.Circuit.{Circuit, Equation, Gate, Port, Named, IsLatch}
 use Rattle.circuit_theory.specs.Classes.{moved, moved_name}
 use Rattle.circuit_theory.specs.Flattened.{Follows, latch_names}
 use Rattle.circuit_theory.specs.Places.{IsPlace}

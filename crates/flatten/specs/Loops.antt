@@ -1,7 +1,6 @@
 -- Loops of a flat design: cycles through gates and ports.
 use Rattle.std.specs.Prelude.{◌≡◌, ◌⊎◌, ℕ, suc, ◌-◌, ◌<◌, Bool, List, [], ◌∷◌, ◌++◌, map, length, take, drop, slice_get, slice_index_or, Some}
 use Rattle.std.specs.List.{All, Contains, filter}
-use Rattle.circuit_theory.specs.Cover.{Cover}
 use Rattle.circuit_theory.specs.Names.{ListBefore}
 use Rattle.sec_base.specs.Table.{AreDistinct}
 use Rattle.flat_walk.specs.Flat.{FlatDesign, FlatOf, Kind, gate, latch, port, name_at}

@@ -1,4 +1,3 @@
-use Rattle.std.proofs.Common.{◌≡◌}
 use Rattle.std.proofs.lemmas.Result.{err_from_is_err_and}
 use Rattle.flatten.proofs.Faulted.{wire_fault, loop_fault, is_sound}
 use Rattle.flatten.proofs.design.check_design.Goals as goal

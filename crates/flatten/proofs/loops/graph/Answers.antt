@@ -1,4 +1,3 @@
-use Rattle.std.proofs.Common.{◌≡◌, ℕ, List, sym, ◌∙◌, ap, arith}
 use Rattle.flatten.proofs.GraphSteps.{graph_step}
 use Rattle.flatten.proofs.loops.graph.Goals as goal
 

@@ -1,4 +1,4 @@
-use Rattle.std.proofs.Common.{◌≡◌, ℕ, ◌<◌, length, slice_index_or}
+use Rattle.std.proofs.Common.{ℕ, ◌<◌, length, slice_index_or}
 use Rattle.circuit_theory.specs.Names.{ListBefore}
 use Rattle.flat_walk.specs.Flat.{name_at}
 use Rattle.flatten.proofs.loops.least.Given as goal

@@ -1,5 +1,4 @@
-use Rattle.std.proofs.Common.{◌≡◌, List, ℕ, sym, ◌∙◌, subst}
-use Rattle.std.specs.List.{All}
+use Rattle.std.proofs.Common.{List, ℕ, sym, ◌∙◌, subst}
 use Rattle.flatten.specs.Order.{IsOrder, IsRound}
 use Rattle.flatten.proofs.LoopLaws.{sources_within, graph_within, round_within, round_numbers, no_loop, round_loop}
 use Rattle.flatten.proofs.loops.order.Goals as goal

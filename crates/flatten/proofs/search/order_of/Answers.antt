@@ -1,4 +1,4 @@
-use Rattle.std.proofs.Common.{◌≡◌, ◌<◌, ℕ, List, Option, None, arith, sym, ◌∙◌, subst, below_more}
+use Rattle.std.proofs.Common.{◌≡◌, ℕ, List, Option, None, arith, sym, ◌∙◌, subst, below_more}
 use Rattle.std.specs.Prelude.{IfNone}
 use Rattle.flatten.specs.Order.{IsOrder}
 use Rattle.flatten.specs.declared.search.Found.TheVariants.{Order}

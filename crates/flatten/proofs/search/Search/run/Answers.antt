@@ -1,5 +1,4 @@
 use Rattle.std.proofs.Common.{sym, ◌∙◌, true≢false}
-use Rattle.flatten.specs.Searched.{IsMet}
 use Rattle.flatten.proofs.Searching.{search_starts, no_last}
 use Rattle.flatten.proofs.search.Search.run.Goals as goal
 

@@ -1,4 +1,4 @@
-use Rattle.std.proofs.Common.{◌≡◌, ℕ}
+use Rattle.std.proofs.Common.{ℕ}
 use Rattle.flatten.specs.Searched.{IsMet, IsSearch, steps_left}
 use Rattle.flatten.proofs.search.Search.run.Given as goal
 
