@@ -5,3 +5,4 @@ pub mod NameOrder
 pub mod GraphSteps
 pub mod LoopLaws
 pub mod Faulted
+pub mod Building

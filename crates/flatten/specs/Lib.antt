@@ -4,3 +4,4 @@ pub mod Searched
 pub mod Loops
 pub mod DesignFaults
 pub mod Graph
+pub mod Built

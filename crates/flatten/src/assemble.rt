@@ -2,10 +2,12 @@
 
 ghost use Rattle.std.specs.Prelude.{◌≡◌, ◌^◌, ◌+◌, ◌<◌, ℕ, [], ◌∷◌, ◌++◌, false, true, length, replicate, slice_get, slice_set, slice_index_or, Some, All, IfOk, OnOk, IsSomeAnd};
 ghost use Rattle.sec_base.specs.Table.{is_among};
+ghost use Rattle.flat_walk.specs.Flat.{cover_at};
 ghost use Rattle.flat_net.specs.Makes.{empty_net, new_signal, with_input, with_latch, with_gate, with_output, with_next};
 
+use blif_read::{BlifModel, Statement};
 use flat_net::{NetMaker, Signal, Signals};
-use sec_base::{Init, NoMemory, PlaceTable};
+use sec_base::{Cover, Init, NoMemory, PlaceTable};
 use std::alloc::Global;
 
 /// The net so far, the signal of each number that has one, and which covers the net has.
@@ -90,5 +92,23 @@ impl Assembly {
     {
         let signal = self.signals[from as usize];
         self.signals[number as usize] = signal;
+    }
+}
+
+/// A copy of the cover of a statement; of no such statement, the constant 0.
+fn cover_copy(
+    alloc: Global,
+    models: &[BlifModel],
+    model: u32,
+    statement: u32,
+) -> Result<Cover, NoMemory>
+    ensures { IfOk result (λ cover. cover ≡ cover_at models.now model statement) }
+{
+    let Some(model) = models.get(model as usize) else {
+        return Ok(Cover::new(alloc, 0));
+    };
+    match model.statements.as_slice().get(statement as usize) {
+        Some(Statement::Names { cover, .. }) => cover.copy(),
+        _ => Ok(Cover::new(alloc, 0)),
     }
 }

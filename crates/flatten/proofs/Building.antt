@@ -1,0 +1,102 @@
+-- A net that grows by one signal of a number that has none.
+use Rattle.std.proofs.Common.{◌≡◌, ◌≢◌, ◌+◌, ◌^◌, ◌<◌, ◌≤◌, ◌∙◌, ℕ, zero, suc, Bool, true, false, eqb, List, [], ◌∷◌, ◌++◌, map, length, set, get_or, slice_get, Some, refl, sym, ap, subst, arith, inl, inr}
+use Rattle.std.specs.Prelude.{◌⊎◌, ◌||◌}
+use Rattle.std.specs.List.{All, Contains, list_any}
+use Rattle.std.proofs.lemmas.Bool.Decides.{Decides-eqb}
+use Rattle.std.proofs.lemmas.List.{map-append, length-append}
+use Rattle.std.proofs.lemmas.List.Elements.{All-contains, All-push}
+use Rattle.std.proofs.lemmas.Map.Keys.{IsDistinct-from_apart}
+use Rattle.std.proofs.lemmas.Map.Steps.{length-le_from_distinct_below}
+use Rattle.std.proofs.lemmas.Option.{none-some, same_Some, slice_get_within, slice_get-get_or, unwrap_or-slice_get}
+use Rattle.circuit_theory.proofs.Lists.{Contains-head, Contains-tail, Contains-cases, at_of, of_at}
+use Rattle.sec_base.specs.Table.{AreDistinct, is_among}
+use Rattle.sec_base.proofs.TableLemmas.{key_at, is_among-at}
+use Rattle.flat_net.specs.declared.signals.Signal.{Signal}
+use Rattle.flat_net.specs.View.{NetView}
+use Rattle.flat_walk.specs.Flat.{name_at}
+use Rattle.flatten.specs.Built.{IsBuilt}
+use Rattle.flatten.proofs.Rows.{slice_get-push_cases, slice_get-set_same, slice_get-set_other, length-set_is}
+
+name_there : (names : List (List ℕ)) (n : ℕ) → n < length names → slice_get names n ≡ Some (name_at names n)
+name_there names n l = slice_get-get_or names n [] l ∙ ap Some (sym (unwrap_or-slice_get names n []))
+
+-- a number that is found stands in the list
+found_there : (n : ℕ) (ns : List ℕ) → list_any (eqb n) ns ≡ true → Contains ns n
+found_there n [] h = absurd (cc)
+found_there n (m ∷ ns) h = by (eqb n m) refl (λ k. found_there n ns k)
+  where
+    by : (b : Bool) → eqb n m ≡ b → (list_any (eqb n) ns ≡ true → Contains ns n) → Contains (m ∷ ns) n
+    by true e later = subst (λ k. Contains (m ∷ ns) k) (sym ((Decides-eqb n m).0 e)) (Contains-head m ns)
+    by false e later = Contains-tail m n ns (later (sym (ap (λ (b : Bool). b || list_any (eqb n) ns) e) ∙ h))
+
+-- distinct numbers below a bound are no more than it
+few_below : (ns : List ℕ) (size : ℕ) → AreDistinct ns → ((n : ℕ) → Contains ns n → n < size) → length ns ≤ size
+few_below ns size distinct below =
+    length-le_from_distinct_below ns size
+    (IsDistinct-from_apart eqb ns (λ i j d l w. by i j d l w (eqb (get_or ns i d) (get_or ns j d)) refl))
+    (λ q h. below q (found_there q ns h))
+  where
+    by : (i j d : ℕ) → i < j → j < length ns → (b : Bool) → eqb (get_or ns i d) (get_or ns j d) ≡ b → eqb (get_or ns i d) (get_or ns j d) ≡ false
+    by i j d l w true e =
+        let same : get_or ns i d ≡ get_or ns j d = (Decides-eqb (get_or ns i d) (get_or ns j d)).0 e in
+        let hi : slice_get ns i ≡ Some (get_or ns i d) = slice_get-get_or ns i d (omega (arith, l, w)) in
+        let hj : slice_get ns j ≡ Some (get_or ns i d) = slice_get-get_or ns j d w ∙ ap Some (sym same) in
+        absurd (let one = distinct i j (get_or ns i d) hi hj in omega (arith, one, l))
+    by i j d l w false e = e
+
+module _ (names : List (List ℕ)) (made : List ℕ) (net : NetView) (signals : List Signal) (b : IsBuilt names made net signals) (n : ℕ) (l : n < length names) (new : Contains made n → ⊥) where
+  more_once : AreDistinct (made ++ n ∷ [])
+  more_once i j m hi hj = go (slice_get-push_cases made n i m hi) (slice_get-push_cases made n j m hj)
+    where
+      go : (slice_get made i ≡ Some m) ⊎ ((i ≡ length made) × (n ≡ m)) → (slice_get made j ≡ Some m) ⊎ ((j ≡ length made) × (n ≡ m)) → i ≡ j
+      go (inl first) (inl second) = b.once i j m first second
+      go (inl first) (inr second) = absurd (new (of_at made i n (first ∙ ap Some (sym second.1))))
+      go (inr first) (inl second) = absurd (new (of_at made j n (second ∙ ap Some (sym first.1))))
+      go (inr first) (inr second) = first.0 ∙ sym second.0
+
+  more_within : All (λ m. m < length names) (made ++ n ∷ [])
+  more_within = All-push (λ m. m < length names) made n b.within l
+
+  -- there is room for one more
+  pub room_for : length names < 2 ^ 32 → length net.drivers + 1 < 2 ^ 32
+  room_for few =
+      let most = few_below (made ++ n ∷ []) (length names) more_once (λ m h. All-contains (λ m. m < length names) (made ++ n ∷ []) m more_within h) in
+      omega (arith, few, most, length-append made (n ∷ []), b.drivers)
+
+  -- its name is new
+  pub new_name : AreDistinct names → is_among net.names (name_at names n) ≡ false
+  new_name distinct = by (is_among net.names (name_at names n)) refl
+    where
+      by : (t : Bool) → is_among net.names (name_at names n) ≡ t → is_among net.names (name_at names n) ≡ false
+      by false e = e
+      by true e =
+          let at = is_among-at net.names (name_at names n) e in
+          let m = key_at (name_at names) made at.0 (name_at names n) (subst (λ (ns : List (List ℕ)). slice_get ns at.0 ≡ Some (name_at names n)) b.named at.1) in
+          let there = of_at made at.0 m.0 m.1 in
+          let lm = All-contains (λ m. m < length names) made m.0 b.within there in
+          let same : m.0 ≡ n = distinct m.0 n (name_at names n) (name_there names m.0 lm ∙ ap Some m.2) (name_there names n l) in
+          absurd (new (subst (Contains made) same there))
+
+  -- the net with one more signal, of this number
+  pub built_more : (net' : NetView) (signals' : List Signal) → net'.names ≡ net.names ++ name_at names n ∷ [] → length net'.drivers ≡ length net.drivers + 1 →
+      signals' ≡ set signals n (record { 0 = length net.drivers }) → IsBuilt names (made ++ n ∷ []) net' signals'
+  built_more net' signals' en ed es = record {
+    size = ap length es ∙ length-set_is signals n (record { 0 = length net.drivers }) ∙ b.size;
+    named = en ∙ ap (λ (ns : List (List ℕ)). ns ++ name_at names n ∷ []) b.named ∙ sym (map-append (name_at names) made (n ∷ []));
+    drivers = omega (arith, ed, b.drivers, length-append made (n ∷ []));
+    once = more_once;
+    within = more_within;
+    placed = λ s m h. subst (λ (ss : List Signal). slice_get ss m ≡ Some (record { 0 = s })) (sym es) (placed s m (slice_get-push_cases made n s m h));
+  }
+    where
+      here : slice_get signals n ≡ Some (get_or signals n (record { 0 = 0 }))
+      here = slice_get-get_or signals n (record { 0 = 0 }) (omega (arith, l, b.size))
+
+      placed : (s m : ℕ) → (slice_get made s ≡ Some m) ⊎ ((s ≡ length made) × (n ≡ m)) → slice_get (set signals n (record { 0 = length net.drivers })) m ≡ Some (record { 0 = s })
+      placed s m (inl old) =
+          let other : m ≢ n = λ e. new (subst (Contains made) e (of_at made s m old)) in
+          slice_get-set_other signals n m (record { 0 = length net.drivers }) other ∙ b.placed s m old
+      placed s m (inr fresh) =
+          let e : length net.drivers ≡ s = omega (arith, b.drivers, fresh.0) in
+          subst (λ (k : ℕ). slice_get (set signals n (record { 0 = length net.drivers })) k ≡ Some (record { 0 = s })) fresh.1
+          (slice_get-set_same signals n (record { 0 = length net.drivers }) (get_or signals n (record { 0 = 0 })) here ∙ ap (λ (k : ℕ). Some (record { 0 = k })) e)
