@@ -1,10 +1,10 @@
 -- A net that grows by one signal of a number that has none.
-use Rattle.std.proofs.Common.{◌≡◌, ◌≢◌, ◌+◌, ◌^◌, ◌<◌, ◌≤◌, ◌∙◌, ℕ, zero, suc, Bool, true, false, eqb, List, [], ◌∷◌, ◌++◌, map, length, set, get_or, slice_get, Some, refl, sym, ap, subst, arith, inl, inr}
-use Rattle.std.specs.Prelude.{◌⊎◌, ◌||◌}
+use Rattle.std.proofs.Common.{◌≡◌, ◌≢◌, ◌+◌, ◌^◌, ◌<◌, ◌≤◌, ◌∙◌, ℕ, zero, suc, Bool, true, false, eqb, cond, List, [], ◌∷◌, ◌++◌, map, length, take, drop, set, get_or, slice_get, unwrap_or, Option, Some, refl, sym, ap, subst, arith, inl, inr}
+use Rattle.std.specs.Prelude.{◌⊎◌, ◌||◌, not}
 use Rattle.std.specs.List.{All, Contains, list_any}
 use Rattle.std.proofs.lemmas.Bool.Decides.{Decides-eqb}
-use Rattle.std.proofs.lemmas.List.{map-append, length-append}
-use Rattle.std.proofs.lemmas.List.Elements.{All-contains, All-push}
+use Rattle.std.proofs.lemmas.List.{map-append, length-append, take-append-drop}
+use Rattle.std.proofs.lemmas.List.Elements.{All-contains, All-push, filter-append}
 use Rattle.std.proofs.lemmas.Map.Keys.{IsDistinct-from_apart}
 use Rattle.std.proofs.lemmas.Map.Steps.{length-le_from_distinct_below}
 use Rattle.std.proofs.lemmas.Option.{none-some, same_Some, slice_get_within, slice_get-get_or, unwrap_or-slice_get}
@@ -13,9 +13,11 @@ use Rattle.sec_base.specs.Table.{AreDistinct, is_among}
 use Rattle.sec_base.proofs.TableLemmas.{key_at, is_among-at}
 use Rattle.flat_net.specs.declared.signals.Signal.{Signal}
 use Rattle.flat_net.specs.View.{NetView}
-use Rattle.flat_walk.specs.Flat.{name_at}
-use Rattle.flatten.specs.Built.{IsBuilt}
-use Rattle.flatten.proofs.Rows.{slice_get-push_cases, slice_get-set_same, slice_get-set_other, length-set_is}
+use Rattle.flat_walk.specs.Flat.{name_at, is_number}
+use Rattle.flatten.specs.Built.{IsBuilt, unclocked, with_inputs}
+use Rattle.flat_net.specs.Makes.{MakerView, with_input}
+use Rattle.flat_net.proofs.PlaceLists.{filter-take}
+use Rattle.flatten.proofs.Rows.{slice_get-append, slice_get-push, slice_get-push_cases, slice_get-set_same, slice_get-set_other, length-set_is}
 
 name_there : (names : List (List ℕ)) (n : ℕ) → n < length names → slice_get names n ≡ Some (name_at names n)
 name_there names n l = slice_get-get_or names n [] l ∙ ap Some (sym (unwrap_or-slice_get names n []))
@@ -100,3 +102,66 @@ module _ (names : List (List ℕ)) (made : List ℕ) (net : NetView) (signals : 
           let e : length net.drivers ≡ s = omega (arith, b.drivers, fresh.0) in
           subst (λ (k : ℕ). slice_get (set signals n (record { 0 = length net.drivers })) k ≡ Some (record { 0 = s })) fresh.1
           (slice_get-set_same signals n (record { 0 = length net.drivers }) (get_or signals n (record { 0 = 0 })) here ∙ ap (λ (k : ℕ). Some (record { 0 = k })) e)
+
+-- a number of a distinct list isn't among those before it
+fresh_at : (front : List ℕ) (n : ℕ) (rest : List ℕ) → AreDistinct ((front ++ n ∷ []) ++ rest) → Contains front n → ⊥
+fresh_at front n rest distinct h =
+    let at = at_of front n h in
+    let first = slice_get-append (front ++ n ∷ []) rest at.0 n (slice_get-append front (n ∷ []) at.0 n at.1) in
+    let second = slice_get-append (front ++ n ∷ []) rest (length front) n (slice_get-push front n) in
+    let same = distinct at.0 (length front) n first second in
+    let l = slice_get_within front at.0 n at.1 in
+    omega (arith, same, l)
+
+with_inputs-push : (names : List (List ℕ)) (ns : List ℕ) (n : ℕ) (net : NetView) → with_inputs names (ns ++ n ∷ []) net ≡ with_input (with_inputs names ns net) (name_at names n)
+with_inputs-push names [] n net = refl
+with_inputs-push names (m ∷ ns) n net = with_inputs-push names ns n (with_input net (name_at names m))
+
+-- the inputs that the net has so far
+pub record HasInputs (names : List (List ℕ)) (clock : Option ℕ) (inputs : List ℕ) (before after : MakerView) (signals : List Signal) (i : ℕ) : Type 0 where
+  pub built : IsBuilt names (unclocked clock (take i inputs)) after.net signals
+  pub net : after ≡ record before { net = with_inputs names (unclocked clock (take i inputs)) before.net }
+
+module _ (names : List (List ℕ)) (clock : Option ℕ) (inputs : List ℕ) (before after : MakerView) (signals : List Signal) (i n : ℕ) (at : slice_get inputs i ≡ Some n)
+    (has : HasInputs names clock inputs before after signals i) where
+  pub inputs_pass : is_number clock n ≡ true → HasInputs names clock inputs before after signals (i + 1)
+  inputs_pass e =
+      let same : unclocked clock (take i inputs) ≡ unclocked clock (take (i + 1) inputs) = sym (filter-take (λ m. not (is_number clock m)) inputs i n at
+      ∙ ap (λ (b : Bool). cond (not b) (unclocked clock (take i inputs) ++ n ∷ []) (unclocked clock (take i inputs))) e) in
+      record {
+        built = subst (λ (ns : List ℕ). IsBuilt names ns after.net signals) same has.built;
+        net = has.net ∙ ap (λ (ns : List ℕ). record before { net = with_inputs names ns before.net }) same;
+      }
+
+  module _ (e : is_number clock n ≡ false) (distinct : AreDistinct (unclocked clock inputs)) where
+    more : unclocked clock (take (i + 1) inputs) ≡ unclocked clock (take i inputs) ++ n ∷ []
+    more = filter-take (λ m. not (is_number clock m)) inputs i n at
+        ∙ ap (λ (b : Bool). cond (not b) (unclocked clock (take i inputs) ++ n ∷ []) (unclocked clock (take i inputs))) e
+
+    pub input_fresh : Contains (unclocked clock (take i inputs)) n → ⊥
+    input_fresh = fresh_at (unclocked clock (take i inputs)) n (unclocked clock (drop (i + 1) inputs)) (subst AreDistinct whole distinct)
+      where
+        whole : unclocked clock inputs ≡ (unclocked clock (take i inputs) ++ n ∷ []) ++ unclocked clock (drop (i + 1) inputs)
+        whole = ap (unclocked clock) (sym (take-append-drop (i + 1) inputs)) ∙ filter-append (λ m. not (is_number clock m)) (take (i + 1) inputs) (drop (i + 1) inputs)
+            ∙ ap (λ (ns : List ℕ). ns ++ unclocked clock (drop (i + 1) inputs)) more
+
+    pub inputs_take : n < length names → (after' : MakerView) (signals' : List Signal) → after' ≡ record after { net = with_input after.net (name_at names n) } →
+        signals' ≡ set signals n (record { 0 = length after.net.drivers }) → HasInputs names clock inputs before after' signals' (i + 1)
+    inputs_take l after' signals' ea es = record {
+      built = subst (λ (ns : List ℕ). IsBuilt names ns after'.net signals') (sym more)
+          (built_more names (unclocked clock (take i inputs)) after.net signals has.built n l input_fresh after'.net signals'
+          (ap (λ (m : MakerView). m.net.names) ea) (ap (λ (m : MakerView). length m.net.drivers) ea ∙ length-append after.net.drivers _) es);
+      net = ea ∙ ap (λ (m : MakerView). record m { net = with_input m.net (name_at names n) }) has.net
+          ∙ ap (λ (k : NetView). record before { net = k }) (sym (with_inputs-push names (unclocked clock (take i inputs)) n before.net) ∙ ap (λ (ns : List ℕ). with_inputs names ns before.net) (sym more));
+    }
+
+-- the input at a place of the code's slice
+pub input_at : (inputs items : List ℕ) (i : ℕ) → items ≡ inputs → i < length items → slice_get inputs i ≡ Some (get_or items i 0)
+input_at inputs items i e l = subst (λ (ns : List ℕ). slice_get ns i ≡ Some (get_or items i 0)) e (slice_get-get_or items i 0 l)
+
+pub input_within : (names : List (List ℕ)) (inputs : List ℕ) (i n : ℕ) → slice_get inputs i ≡ Some n → All (λ m. m < length names) inputs → n < length names
+input_within names inputs i n at all = All-contains (λ m. m < length names) inputs n all (of_at inputs i n at)
+
+-- the name that the code has
+pub name_in : (names : List (List ℕ)) (n : ℕ) (name : List ℕ) → slice_get names n ≡ Some name → name_at names n ≡ name
+name_in names n name h = ap (λ (o : Option (List ℕ)). unwrap_or o []) h

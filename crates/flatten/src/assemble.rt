@@ -1,12 +1,14 @@
 //! The net of a sound flat design.
 
 ghost use Rattle.std.specs.Prelude.{◌≡◌, ◌^◌, ◌+◌, ◌<◌, ℕ, [], ◌∷◌, ◌++◌, false, true, length, replicate, slice_get, slice_set, slice_index_or, Some, All, IfOk, OnOk, IsSomeAnd};
-ghost use Rattle.sec_base.specs.Table.{is_among};
-ghost use Rattle.flat_walk.specs.Flat.{cover_at};
+ghost use Rattle.sec_base.specs.Table.{is_among, AreDistinct};
+ghost use Rattle.flat_walk.specs.Flat.{cover_at, is_number};
+ghost use Rattle.flatten.specs.Built.{IsBuilt, unclocked, with_inputs};
 ghost use Rattle.flat_net.specs.Makes.{empty_net, new_signal, with_input, with_latch, with_gate, with_output, with_next};
 
 use blif_read::{BlifModel, Statement};
 use flat_net::{NetMaker, Signal, Signals};
+use flat_walk::Flat;
 use sec_base::{Cover, Init, NoMemory, PlaceTable};
 use std::alloc::Global;
 
@@ -43,6 +45,24 @@ impl Assembly {
     {
         let signal = self.maker.input(name)?;
         self.signals[number as usize] = signal;
+        Ok(())
+    }
+
+    /// The main model's inputs but the clock, in their order.
+    pub(crate) fn add_inputs(&mut self, flat: &Flat, clock: Option<u32>) -> Result<(), NoMemory>
+        requires built { IsBuilt flat.now.names [] self.old.maker.net self.old.signals.items }
+        requires distinct { AreDistinct (unclocked clock flat.now.inputs) }
+        ensures built { OnOk result (IsBuilt flat.now.names (unclocked clock flat.now.inputs) self.new.maker.net self.new.signals.items) }
+        ensures net { OnOk result (self.new.maker ≡ record self.old.maker { net = with_inputs flat.now.names (unclocked clock flat.now.inputs) self.old.maker.net }) }
+        ensures covers { OnOk result (self.new.covers ≡ self.old.covers) }
+    {
+        let _size = flat.names.len();
+        for input in flat.inputs.as_slice() {
+            if is_clock(clock, *input) {
+                continue;
+            }
+            self.add_input(flat.name(*input), *input)?;
+        }
         Ok(())
     }
 
@@ -92,6 +112,16 @@ impl Assembly {
     {
         let signal = self.signals[from as usize];
         self.signals[number as usize] = signal;
+    }
+}
+
+/// Whether the number is that of the clock.
+fn is_clock(clock: Option<u32>, number: u32) -> bool
+    ensures { result ≡ is_number clock number }
+{
+    match clock {
+        Some(clock) => clock == number,
+        None => false,
     }
 }
 
