@@ -1,23 +1,33 @@
 -- A net that grows by one signal of a number that has none.
-use Rattle.std.proofs.Common.{◌≡◌, ◌≢◌, ◌+◌, ◌^◌, ◌<◌, ◌≤◌, ◌∙◌, ℕ, zero, suc, Bool, true, false, eqb, cond, List, [], ◌∷◌, ◌++◌, map, length, take, drop, set, get_or, slice_get, unwrap_or, Option, Some, refl, sym, ap, subst, arith, inl, inr}
-use Rattle.std.specs.Prelude.{◌⊎◌, ◌||◌, not}
-use Rattle.std.specs.List.{All, Contains, list_any}
-use Rattle.std.proofs.lemmas.Bool.Decides.{Decides-eqb}
+use Rattle.std.proofs.Common.{◌≡◌, ◌≢◌, ◌+◌, ◌^◌, ◌<◌, ◌≤◌, ◌∙◌, ℕ, zero, suc, Bool, true, false, eqb, cond, List, [], ◌∷◌, ◌++◌, map, length, take, drop, set, get_or, slice_get, unwrap_or, Option, Some, refl, sym, ap, subst, append_assoc, append-nil, arith, inl, inr}
+use Rattle.std.specs.Prelude.{◌⊎◌, ◌||◌, ◌&&◌, not, nat_lt}
+use Rattle.std.specs.List.{All, Contains, list_any, list_all}
+use Rattle.std.proofs.lemmas.Bool.Decides.{Decides-eqb, Decides-ltb}
 use Rattle.std.proofs.lemmas.List.{map-append, length-append, take-append-drop}
 use Rattle.std.proofs.lemmas.List.Elements.{All-contains, All-push, filter-append}
 use Rattle.std.proofs.lemmas.Map.Keys.{IsDistinct-from_apart}
 use Rattle.std.proofs.lemmas.Map.Steps.{length-le_from_distinct_below}
-use Rattle.std.proofs.lemmas.Option.{none-some, same_Some, slice_get_within, slice_get-get_or, unwrap_or-slice_get}
+use Rattle.std.proofs.lemmas.Option.{none-some, same_Some, slice_get_within, slice_get_read, slice_get-get_or, unwrap_or-slice_get}
 use Rattle.circuit_theory.proofs.Lists.{Contains-head, Contains-tail, Contains-cases, at_of, of_at}
 use Rattle.sec_base.specs.Table.{AreDistinct, is_among}
-use Rattle.sec_base.proofs.TableLemmas.{key_at, is_among-at}
+use Rattle.sec_base.proofs.TableLemmas.{key_at, is_among-at, take-push}
 use Rattle.flat_net.specs.declared.signals.Signal.{Signal}
 use Rattle.flat_net.specs.View.{NetView}
+use Rattle.sec_base.specs.declared.basics.Edge.{Edge}
+use Rattle.sec_base.specs.declared.basics.Init.{Init}
+use Rattle.flat_walk.specs.declared.flat.FlatStatement.{FlatStatement}
+use Rattle.flat_walk.specs.declared.flat.FlatKind.{FlatKind}
+use Rattle.flat_walk.specs.declared.flat.FlatKind.TheVariants as kind
+use Rattle.flat_walk.specs.Within.{is_within, has_clock_within}
 use Rattle.flat_walk.specs.Flat.{name_at, is_number}
-use Rattle.flatten.specs.Built.{IsBuilt, unclocked, with_inputs}
+use Rattle.flatten.specs.Built.{IsBuilt, unclocked, with_inputs, latch_out, latch_outs, with_latch_of, with_latches}
 use Rattle.flat_net.specs.Makes.{MakerView, with_input}
 use Rattle.flat_net.proofs.PlaceLists.{filter-take}
 use Rattle.flatten.proofs.Rows.{slice_get-append, slice_get-push, slice_get-push_cases, slice_get-set_same, slice_get-set_other, length-set_is}
+
+both : (x y : Bool) → (x && y) ≡ true → (x ≡ true) × (y ≡ true)
+both true y h = (refl, h)
+both false y h = absurd (cc)
 
 name_there : (names : List (List ℕ)) (n : ℕ) → n < length names → slice_get names n ≡ Some (name_at names n)
 name_there names n l = slice_get-get_or names n [] l ∙ ap Some (sym (unwrap_or-slice_get names n []))
@@ -165,3 +175,73 @@ input_within names inputs i n at all = All-contains (λ m. m < length names) inp
 -- the name that the code has
 pub name_in : (names : List (List ℕ)) (n : ℕ) (name : List ℕ) → slice_get names n ≡ Some name → name_at names n ≡ name
 name_in names n name h = ap (λ (o : Option (List ℕ)). unwrap_or o []) h
+
+-- the latches that the net has so far
+pub record HasLatches (names : List (List ℕ)) (made : List ℕ) (statements : List FlatStatement) (before after : NetView) (signals : List Signal) (i : ℕ) : Type 0 where
+  pub built : IsBuilt names (made ++ latch_outs (take i statements)) after signals
+  pub net : after ≡ with_latches names (take i statements) before
+
+latch_outs-append : (ss ts : List FlatStatement) → latch_outs (ss ++ ts) ≡ latch_outs ss ++ latch_outs ts
+latch_outs-append [] ts = refl
+latch_outs-append (s ∷ ss) ts = ap (λ (ns : List ℕ). latch_out s.kind s.out ++ ns) (latch_outs-append ss ts) ∙ sym (append_assoc (latch_out s.kind s.out) (latch_outs ss) (latch_outs ts))
+
+with_latches-push : (names : List (List ℕ)) (ss : List FlatStatement) (s : FlatStatement) (net : NetView) → with_latches names (ss ++ s ∷ []) net ≡ with_latch_of names s.kind s.out (with_latches names ss net)
+with_latches-push names [] s net = refl
+with_latches-push names (t ∷ ss) s net = with_latches-push names ss s (with_latch_of names t.kind t.out net)
+
+module _ (names : List (List ℕ)) (made : List ℕ) (statements : List FlatStatement) (before after : NetView) (signals : List Signal) (i : ℕ) (s : FlatStatement) (at : slice_get statements i ≡ Some s)
+    (has : HasLatches names made statements before after signals i) where
+  more_outs : latch_outs (take (i + 1) statements) ≡ latch_outs (take i statements) ++ (latch_out s.kind s.out ++ [])
+  more_outs = ap latch_outs (sym (take-push statements i s at)) ∙ latch_outs-append (take i statements) (s ∷ [])
+
+  more_net : with_latches names (take (i + 1) statements) before ≡ with_latch_of names s.kind s.out after
+  more_net = ap (λ (ss : List FlatStatement). with_latches names ss before) (sym (take-push statements i s at)) ∙ with_latches-push names (take i statements) s before
+      ∙ ap (with_latch_of names s.kind s.out) (sym has.net)
+
+  pub latches_pass : latch_out s.kind s.out ≡ [] → with_latch_of names s.kind s.out after ≡ after → HasLatches names made statements before after signals (i + 1)
+  latches_pass none same = record {
+    built = subst (λ (ns : List ℕ). IsBuilt names (made ++ ns) after signals) (sym (more_outs ∙ ap (λ (ns : List ℕ). latch_outs (take i statements) ++ (ns ++ [])) none ∙ append-nil (latch_outs (take i statements)))) has.built;
+    net = sym (more_net ∙ same);
+  }
+
+  module _ (is_latch : latch_out s.kind s.out ≡ s.out ∷ []) (distinct : AreDistinct (made ++ latch_outs statements)) where
+    one_more : made ++ latch_outs (take (i + 1) statements) ≡ (made ++ latch_outs (take i statements)) ++ s.out ∷ []
+    one_more = ap (λ (ns : List ℕ). made ++ ns) (more_outs ∙ ap (λ (ns : List ℕ). latch_outs (take i statements) ++ (ns ++ [])) is_latch)
+        ∙ sym (append_assoc (made) (latch_outs (take i statements)) (s.out ∷ []))
+
+    pub latch_fresh : Contains (made ++ latch_outs (take i statements)) s.out → ⊥
+    latch_fresh = fresh_at (made ++ latch_outs (take i statements)) s.out (latch_outs (drop (i + 1) statements)) (subst AreDistinct whole distinct)
+      where
+        whole : made ++ latch_outs statements ≡ ((made ++ latch_outs (take i statements)) ++ s.out ∷ []) ++ latch_outs (drop (i + 1) statements)
+        whole =
+            ap (λ (ns : List ℕ). made ++ ns) (ap latch_outs (sym (take-append-drop (i + 1) statements)) ∙ latch_outs-append (take (i + 1) statements) (drop (i + 1) statements))
+            ∙ sym (append_assoc (made) (latch_outs (take (i + 1) statements)) (latch_outs (drop (i + 1) statements)))
+            ∙ ap (λ (ns : List ℕ). ns ++ latch_outs (drop (i + 1) statements)) one_more
+
+    pub latches_take : s.out < length names → (after' : NetView) (signals' : List Signal) → after' ≡ with_latch_of names s.kind s.out after → after'.names ≡ after.names ++ name_at names s.out ∷ [] →
+        length after'.drivers ≡ length after.drivers + 1 → signals' ≡ set signals s.out (record { 0 = length after.drivers }) → HasLatches names made statements before after' signals' (i + 1)
+    latches_take l after' signals' ea en ed es = record {
+      built = subst (λ (ns : List ℕ). IsBuilt names ns after' signals') (sym one_more)
+          (built_more names (made ++ latch_outs (take i statements)) after signals has.built s.out l latch_fresh after' signals' en ed es);
+      net = ea ∙ sym more_net;
+    }
+
+-- a statement that is no latch
+pub not_latch : (names : List (List ℕ)) (k : FlatKind) (out : ℕ) (net : NetView) → ((edge : Option Edge) (control : Option ℕ) (init : Init) → k ≡ kind.Latch edge control init → ⊥) →
+    (latch_out k out ≡ []) × (with_latch_of names k out net ≡ net)
+not_latch names (kind.Gate model statement) out net h = (refl, refl)
+not_latch names (kind.Latch edge control init) out net h = absurd (h edge control init refl)
+not_latch names kind.Port out net h = (refl, refl)
+
+-- the statement at a place of the code's slice
+pub statement_at : (statements items : List FlatStatement) (i : ℕ) (s : FlatStatement) → items ≡ statements → i < length items → s ≡ get_or items i s → slice_get statements i ≡ Some s
+statement_at statements items i s e l is = subst (λ (ss : List FlatStatement). slice_get ss i ≡ Some s) e (slice_get_read items (length items) i s refl l is)
+
+-- it drives a signal in range
+pub out_within : (size : ℕ) (statements : List FlatStatement) (i : ℕ) (s : FlatStatement) → list_all (is_within size) statements ≡ true → slice_get statements i ≡ Some s → s.out < size
+out_within size [] i s all h = absurd (none-some s h)
+out_within size (t ∷ ss) zero s all h =
+    let first = both (is_within size t) (list_all (is_within size) ss) all in
+    let out = both (nat_lt t.out size) (list_all (λ n. nat_lt n size) t.reads && has_clock_within size t.kind) first.0 in
+    subst (λ (x : FlatStatement). x.out < size) (same_Some t s h) ((Decides-ltb t.out size).0 out.0)
+out_within size (t ∷ ss) (suc i) s all h = out_within size ss i s (both (is_within size t) (list_all (is_within size) ss) all).1 h

@@ -1,11 +1,14 @@
 -- A net under construction over numbered signals.
-use Rattle.std.specs.Prelude.{◌≡◌, ℕ, ◌<◌, List, [], ◌∷◌, map, length, slice_get, Option, Some, All, not}
+use Rattle.std.specs.Prelude.{◌≡◌, ℕ, ◌<◌, List, [], ◌∷◌, ◌++◌, map, length, slice_get, Option, Some, All, not}
 use Rattle.std.specs.List.{filter}
 use Rattle.circuit_theory.specs.Cover.{Cover}
 use Rattle.sec_base.specs.Table.{AreDistinct}
 use Rattle.blif_read.specs.declared.design.BlifModel.{BlifModel}
 use Rattle.flat_net.specs.declared.signals.Signal.{Signal}
-use Rattle.flat_net.specs.Makes.{with_input}
+use Rattle.flat_net.specs.Makes.{with_input, with_latch}
+use Rattle.flat_walk.specs.declared.flat.FlatStatement.{FlatStatement}
+use Rattle.flat_walk.specs.declared.flat.FlatKind.{FlatKind}
+use Rattle.flat_walk.specs.declared.flat.FlatKind.TheVariants as kind
 use Rattle.flat_net.specs.View.{NetView}
 use Rattle.flat_walk.specs.Flat.{name_at, cover_at, is_number}
 
@@ -30,3 +33,25 @@ unclocked clock ns = filter (λ n. not (is_number clock n)) ns
 abbrev pub with_inputs : List (List ℕ) → List ℕ → NetView → NetView
 with_inputs names [] net = net
 with_inputs names (n ∷ ns) net = with_inputs names ns (with_input net (name_at names n))
+
+-- what the statement drives, where it is a latch
+abbrev pub latch_out : FlatKind → ℕ → List ℕ
+latch_out (kind.Gate model statement) out = []
+latch_out (kind.Latch edge control init) out = out ∷ []
+latch_out kind.Port out = []
+
+-- what the latches drive, in their order
+abbrev pub latch_outs : List FlatStatement → List ℕ
+latch_outs [] = []
+latch_outs (s ∷ ss) = latch_out s.kind s.out ++ latch_outs ss
+
+-- the net with one latch more, where the statement is one
+abbrev pub with_latch_of : List (List ℕ) → FlatKind → ℕ → NetView → NetView
+with_latch_of names (kind.Gate model statement) out net = net
+with_latch_of names (kind.Latch edge control init) out net = with_latch net (name_at names out) init
+with_latch_of names kind.Port out net = net
+
+-- the net with one latch more for each that is among the statements
+abbrev pub with_latches : List (List ℕ) → List FlatStatement → NetView → NetView
+with_latches names [] net = net
+with_latches names (s ∷ ss) net = with_latches names ss (with_latch_of names s.kind s.out net)

@@ -1,14 +1,14 @@
 //! The net of a sound flat design.
 
-ghost use Rattle.std.specs.Prelude.{◌≡◌, ◌^◌, ◌+◌, ◌<◌, ℕ, [], ◌∷◌, ◌++◌, false, true, length, replicate, slice_get, slice_set, slice_index_or, Some, All, IfOk, OnOk, IsSomeAnd};
+ghost use Rattle.std.specs.Prelude.{◌≡◌, ◌^◌, ◌+◌, ◌<◌, ℕ, List, [], ◌∷◌, ◌++◌, false, true, length, replicate, slice_get, slice_set, slice_index_or, Some, All, IfOk, OnOk, IsSomeAnd};
 ghost use Rattle.sec_base.specs.Table.{is_among, AreDistinct};
 ghost use Rattle.flat_walk.specs.Flat.{cover_at, is_number};
-ghost use Rattle.flatten.specs.Built.{IsBuilt, unclocked, with_inputs};
+ghost use Rattle.flatten.specs.Built.{IsBuilt, unclocked, with_inputs, latch_outs, with_latches};
 ghost use Rattle.flat_net.specs.Makes.{empty_net, new_signal, with_input, with_latch, with_gate, with_output, with_next};
 
 use blif_read::{BlifModel, Statement};
 use flat_net::{NetMaker, Signal, Signals};
-use flat_walk::Flat;
+use flat_walk::{Flat, FlatKind};
 use sec_base::{Cover, Init, NoMemory, PlaceTable};
 use std::alloc::Global;
 
@@ -77,6 +77,25 @@ impl Assembly {
     {
         let signal = self.maker.latch(name, init)?;
         self.signals[number as usize] = signal;
+        Ok(())
+    }
+
+    /// The latches, in their order. Each takes over itself until its next is set.
+    pub(crate) fn add_latches(&mut self, flat: &Flat) -> Result<(), NoMemory>
+        ghost made: { List ℕ }
+        requires built { IsBuilt flat.now.names made self.old.maker.net self.old.signals.items }
+        requires distinct { AreDistinct (made ++ latch_outs flat.now.statements) }
+        ensures built { OnOk result (IsBuilt flat.now.names (made ++ latch_outs flat.now.statements) self.new.maker.net self.new.signals.items) }
+        ensures net { OnOk result (self.new.maker.net ≡ with_latches flat.now.names flat.now.statements self.old.maker.net) }
+        ensures covers { OnOk result (self.new.covers ≡ self.old.covers) }
+    {
+        let _size = flat.names.len();
+        for statement in flat.statements.as_slice() {
+            let FlatKind::Latch { init, .. } = statement.kind else {
+                continue;
+            };
+            self.add_latch(flat.name(statement.out), statement.out, init)?;
+        }
         Ok(())
     }
 
