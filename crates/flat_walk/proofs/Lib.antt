@@ -1,0 +1,11 @@
+pub mod Walks
+pub mod Spelled
+pub mod Tabled
+pub mod Scoped
+pub mod Items
+pub mod Names
+pub mod Numbered
+pub mod Renamed
+pub mod Checked
+pub mod Composed
+pub mod Done

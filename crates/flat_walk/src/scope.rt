@@ -1,0 +1,90 @@
+//! Where the walk stands in the hierarchy.
+
+ghost use Rattle.std.specs.Prelude.{◌≡◌, ◌==◌, ◌||◌, ◌++◌, [], ◌∷◌, IfOk};
+ghost use Rattle.std.specs.List.{list_any};
+ghost use Rattle.std.specs.Fmt.{decimal};
+
+use sec_base::{NoMemory, Seq, Word, put, put_number};
+use std::alloc::Global;
+
+/// A step into an instance: the number of its model, and its number among the instances of the model around it.
+#[derive(Clone, Copy, Debug)]
+pub(crate) struct Step {
+    pub(crate) model: u32,
+    pub(crate) instance: usize,
+}
+
+/// A scope of the hierarchy: the steps that lead to it from the main model, the number of the model there, and what
+/// stands before the names of its signals.
+#[derive(Debug, Drop)]
+pub(crate) struct Scope {
+    pub(crate) steps: Vec<Step>,
+    pub(crate) model: u32,
+    pub(crate) prefix: Word,
+}
+
+impl Scope {
+    /// The scope of the main model. It takes no memory.
+    pub(crate) fn main(alloc: Global) -> Scope
+        ensures steps { result.steps.items ≡ [] }
+        ensures model { result.model ≡ 0 }
+        ensures prefix { result.prefix ≡ [] }
+    {
+        Scope {
+            steps: Vec::new(alloc),
+            model: 0,
+            prefix: Seq::new(alloc),
+        }
+    }
+
+    /// Whether the model is the main one, or that of a step.
+    pub(crate) fn is_on_path(&self, model: u32) -> bool
+        ensures { result ≡ ((model == 0) || list_any (λ s. s.model == model) self.now.steps.items) }
+    {
+        model == 0 || has_step(self.steps.as_slice(), model)
+    }
+
+    /// The scope of an instance here.
+    pub(crate) fn inside(
+        &self,
+        alloc: Global,
+        model: u32,
+        name: &[u8],
+        instance: usize,
+    ) -> Result<Scope, NoMemory>
+        ensures steps { IfOk result (λ inner. inner.steps.items ≡ self.now.steps.items ++ record { model = model; instance = instance } ∷ []) }
+        ensures model { IfOk result (λ inner. inner.model ≡ model) }
+        ensures prefix { IfOk result (λ inner. inner.prefix ≡ self.now.prefix ++ (name.now ++ 35 ∷ (decimal instance ++ 35 ∷ []))) }
+    {
+        let mut steps = self.steps.to_vec(alloc)?;
+        steps.push(Step { model, instance })?;
+        Ok(Scope {
+            steps,
+            model,
+            prefix: inner_prefix(alloc, self.prefix.as_slice(), name, instance)?,
+        })
+    }
+}
+
+fn has_step(steps: &[Step], model: u32) -> bool
+    ensures { result ≡ list_any (λ s. s.model == model) steps.now }
+{
+    steps.iter().any(|step| step.model == model)
+}
+
+/// What stands before the names of the signals inside an instance.
+fn inner_prefix(
+    alloc: Global,
+    outer: &[u8],
+    model: &[u8],
+    instance: usize,
+) -> Result<Word, NoMemory>
+    ensures { IfOk result (λ inner. inner ≡ outer.now ++ (model.now ++ 35 ∷ (decimal instance ++ 35 ∷ []))) }
+{
+    let mut inner = outer.to_vec(alloc)?;
+    put(&mut inner, model)?;
+    put(&mut inner, b"#")?;
+    put_number(alloc, &mut inner, instance as u64)?;
+    put(&mut inner, b"#")?;
+    Ok(Seq::from_vec(inner))
+}
