@@ -1,0 +1,16 @@
+pub mod Joined
+pub mod Firsts
+pub mod NamedWires
+pub mod Bounds
+pub mod Transport
+pub mod SourceTables
+pub mod StepTables
+pub mod PortTables
+pub mod NetTables
+pub mod ClockTables
+pub mod Rows
+pub mod ClockNets
+pub mod Told
+pub mod Turns
+pub mod Found
+pub mod Undriven
