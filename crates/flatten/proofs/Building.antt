@@ -114,7 +114,7 @@ module _ (names : List (List ℕ)) (made : List ℕ) (net : NetView) (signals : 
           (slice_get-set_same signals n (record { 0 = length net.drivers }) (get_or signals n (record { 0 = 0 })) here ∙ ap (λ (k : ℕ). Some (record { 0 = k })) e)
 
 -- a number of a distinct list isn't among those before it
-fresh_at : (front : List ℕ) (n : ℕ) (rest : List ℕ) → AreDistinct ((front ++ n ∷ []) ++ rest) → Contains front n → ⊥
+pub fresh_at : (front : List ℕ) (n : ℕ) (rest : List ℕ) → AreDistinct ((front ++ n ∷ []) ++ rest) → Contains front n → ⊥
 fresh_at front n rest distinct h =
     let at = at_of front n h in
     let first = slice_get-append (front ++ n ∷ []) rest at.0 n (slice_get-append front (n ∷ []) at.0 n at.1) in

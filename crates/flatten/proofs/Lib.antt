@@ -6,3 +6,5 @@ pub mod GraphSteps
 pub mod LoopLaws
 pub mod Faulted
 pub mod Building
+pub mod Gating
+pub mod CoverNumbers

@@ -5,3 +5,4 @@ pub mod Loops
 pub mod DesignFaults
 pub mod Graph
 pub mod Built
+pub mod Gated

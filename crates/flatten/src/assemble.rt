@@ -15,9 +15,9 @@ use std::alloc::Global;
 /// The net so far, the signal of each number that has one, and which covers the net has.
 #[derive(Drop)]
 pub(crate) struct Assembly {
-    maker: NetMaker,
-    signals: Vec<Signal>,
-    covers: PlaceTable,
+    pub(crate) maker: NetMaker,
+    pub(crate) signals: Vec<Signal>,
+    pub(crate) covers: PlaceTable,
 }
 
 impl Assembly {
@@ -145,7 +145,7 @@ fn is_clock(clock: Option<u32>, number: u32) -> bool
 }
 
 /// A copy of the cover of a statement; of no such statement, the constant 0.
-fn cover_copy(
+pub(crate) fn cover_copy(
     alloc: Global,
     models: &[BlifModel],
     model: u32,

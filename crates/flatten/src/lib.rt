@@ -3,5 +3,6 @@
 
 mod assemble;
 mod design;
+mod gates;
 mod loops;
 mod search;
