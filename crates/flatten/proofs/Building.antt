@@ -42,7 +42,7 @@ found_there n (m ∷ ns) h = by (eqb n m) refl (λ k. found_there n ns k)
     by false e later = Contains-tail m n ns (later (sym (ap (λ (b : Bool). b || list_any (eqb n) ns) e) ∙ h))
 
 -- distinct numbers below a bound are no more than it
-few_below : (ns : List ℕ) (size : ℕ) → AreDistinct ns → ((n : ℕ) → Contains ns n → n < size) → length ns ≤ size
+pub few_below : (ns : List ℕ) (size : ℕ) → AreDistinct ns → ((n : ℕ) → Contains ns n → n < size) → length ns ≤ size
 few_below ns size distinct below =
     length-le_from_distinct_below ns size
     (IsDistinct-from_apart eqb ns (λ i j d l w. by i j d l w (eqb (get_or ns i d) (get_or ns j d)) refl))

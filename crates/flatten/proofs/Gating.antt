@@ -1,6 +1,6 @@
 -- The gates of a net under construction: what a step over one number of the order does.
-use Rattle.std.proofs.Common.{◌≡◌, ◌≢◌, ◌+◌, ◌<◌, ◌≤◌, ◌==◌, ◌∙◌, ℕ, zero, suc, Bool, true, false, true≢false, cond, List, [], ◌∷◌, ◌++◌, map, length, take, drop, set, get_or, slice_get, Option, Some, None, refl, sym, ap, ap₂, subst, append_assoc, append-nil, arith, inl, inr, eqb-true, eq-eqb}
-use Rattle.std.specs.Prelude.{◌⊎◌}
+use Rattle.std.proofs.Common.{◌≡◌, ◌≢◌, ◌+◌, ◌^◌, ◌<◌, ◌≤◌, ◌==◌, ◌∙◌, ℕ, zero, suc, Bool, true, false, true≢false, cond, List, [], ◌∷◌, ◌++◌, map, length, take, drop, set, get_or, slice_get, Option, Some, None, refl, sym, ap, ap₂, subst, append_assoc, append-nil, arith, inl, inr, eqb-true, eq-eqb}
+use Rattle.std.specs.Prelude.{◌⊎◌, Result, Ok, Err, OnOk, IsSomeAnd}
 use Rattle.std.specs.List.{All, Contains, filter}
 use Rattle.std.proofs.lemmas.List.{map-append, length-append, length-map, take-append-drop}
 use Rattle.std.proofs.lemmas.List.Elements.{All-contains, All-push, filter-append, Contains-append_cases, Contains-append_left, Contains-append_right}
@@ -8,7 +8,7 @@ use Rattle.std.proofs.lemmas.Option.{none-some, same_Some, slice_get_within, sli
 use Rattle.circuit_theory.specs.Cover.{Cover}
 use Rattle.circuit_theory.specs.Circuit.{Equation}
 use Rattle.circuit_theory.specs.Circuit.{Gate as gate_equation}
-use Rattle.circuit_theory.proofs.Lists.{Contains-cases, Contains-head, Contains-tail, at_of, of_at, map_same, map-map, All-from_each}
+use Rattle.circuit_theory.proofs.Lists.{Contains-cases, Contains-head, Contains-tail, Contains-map, Contains-map_from, at_of, of_at, map_same, map-map, All-from_each}
 use Rattle.circuit_theory.proofs.Numbers.{slice_get-map}
 use Rattle.sec_base.specs.Table.{AreDistinct}
 use Rattle.blif_read.specs.declared.design.BlifModel.{BlifModel}
@@ -21,15 +21,17 @@ use Rattle.flat_walk.specs.declared.flat.Flat.{Flat}
 use Rattle.flat_walk.specs.declared.flat.FlatStatement.{FlatStatement}
 use Rattle.flat_walk.specs.declared.flat.FlatKind.{FlatKind}
 use Rattle.flat_walk.specs.declared.flat.FlatKind.TheVariants as kind
-use Rattle.flat_walk.specs.Flat.{name_at, cover_at, kind_of, statement_of, equation_by, equation_in}
+use Rattle.sec_base.specs.declared.basics.Edge.{Edge}
+use Rattle.sec_base.specs.declared.basics.Init.{Init}
+use Rattle.flat_walk.specs.Flat.{CanBe, IsShaped, view_of, name_at, cover_at, kind_of, statement_of, equation_by, equation_in}
 use Rattle.flat_wires.specs.declared.source.Source.{Source}
 use Rattle.flat_wires.specs.declared.source.Source.TheVariants as source
 use Rattle.flat_wires.specs.Wired.{WiredView}
 use Rattle.flatten.specs.Built.{IsBuilt, AreCovers}
-use Rattle.flatten.specs.Graph.{quick_reads, source_reads, reads_in, is_gate_kind, is_gate_in, is_gate_by, is_gate_source, is_gate_out, graph_of}
+use Rattle.flatten.specs.Graph.{IsSourceWithin, quick_reads, source_reads, reads_in, is_gate_kind, is_gate_in, is_gate_by, is_gate_source, is_gate_out, graph_of}
 use Rattle.flatten.specs.Order.{reads_of, IsOrder}
 use Rattle.flatten.specs.Gated.{place_of, net_of, first_made, gates_in, made_by, spot, HasSpot, IsLaid, driver_by, driver_of, statement_or, net_equation, HasGates, IsGrown}
-use Rattle.flatten.proofs.Building.{built_more, fresh_at}
+use Rattle.flatten.proofs.Building.{few_below, built_more, fresh_at}
 use Rattle.flatten.proofs.Rows.{same_or_not, slice_get-append, slice_get-push, slice_get-set_same, slice_get-set_other, length-set_is}
 
 -- the place of a number of a distinct list
@@ -64,6 +66,29 @@ grown_length xs ys grown = by
   where
     by : length xs ≤ length ys
     by = let whole = ap length (take-append-drop (length xs) ys) in let parts = length-append (take (length xs) ys) (drop (length xs) ys) in let front = ap length grown in omega (arith, whole, parts, front)
+
+-- a statement reads as many signals as its kind wants
+pub shaped_at : (models : List BlifModel) (flat : Flat) (k : ℕ) (s : FlatStatement) → All IsShaped (view_of models flat).statements → slice_get flat.statements k ≡ Some s → CanBe (length s.reads) (kind_of models s.kind)
+shaped_at models flat k s shaped hk = All-contains IsShaped (map (statement_of models) flat.statements) (statement_of models s) shaped (Contains-map (statement_of models) flat.statements s (of_at flat.statements k s hk))
+
+pub port_reads : (models : List BlifModel) (flat : Flat) (k : ℕ) (s : FlatStatement) → All IsShaped (view_of models flat).statements → slice_get flat.statements k ≡ Some s → s.kind ≡ kind.Port → length s.reads ≡ 1
+port_reads models flat k s shaped hk port = subst (λ (q : FlatKind). CanBe (length s.reads) (kind_of models q)) port (shaped_at models flat k s shaped hk)
+
+pub gate_width : (models : List BlifModel) (flat : Flat) (k m at : ℕ) (s : FlatStatement) → All IsShaped (view_of models flat).statements → slice_get flat.statements k ≡ Some s → s.kind ≡ kind.Gate m at → (cover_at models m at).width ≡ length s.reads
+gate_width models flat k m at s shaped hk is = subst (λ (q : FlatKind). CanBe (length s.reads) (kind_of models q)) is (shaped_at models flat k s shaped hk)
+
+-- the place of a statement that a source names is within
+pub source_within : (flat : Flat) (sources : List Source) (n k : ℕ) (x : Source) → All (IsSourceWithin (length flat.statements)) sources → slice_get sources n ≡ Some x → x ≡ source.Statement k → k < length flat.statements
+source_within flat sources n k x within hn is = subst (IsSourceWithin (length flat.statements)) is (All-contains (IsSourceWithin (length flat.statements)) sources x within (of_at sources n x hn))
+
+-- a source that is no statement is no gate
+pub no_gate_source : (flat : Flat) (x : Source) → ((k : ℕ) → x ≡ source.Statement k → ⊥) → is_gate_source flat.statements x ≡ false
+no_gate_source flat source.Open none = refl
+no_gate_source flat source.Input none = refl
+no_gate_source flat (source.Statement k) none = absurd (none k refl)
+
+latch_is_no_port : (edge : Option Edge) (control : Option ℕ) (init : Init) → kind.Latch edge control init ≡ kind.Port → ⊥
+latch_is_no_port edge control init e = cc
 
 module _ (models : List BlifModel) (flat : Flat) (wired : WiredView) (order : List ℕ) (laid : IsLaid flat wired order) where
   abbrev pub made : ℕ → List ℕ
@@ -114,6 +139,20 @@ module _ (models : List BlifModel) (flat : Flat) (wired : WiredView) (order : Li
         is_reads = get_or_from_slice_get (graph_of flat.statements wired.sources) n (source_reads flat.statements (source.Statement k)) [] (slice_get-map (source_reads flat.statements) wired.sources n (source.Statement k) hn)
             ∙ ap reads_in hk
 
+    -- it is the number of a name
+    pub read_low : All (λ m. m < length flat.names) order → (k r : ℕ) (s : FlatStatement) → slice_get wired.sources n ≡ Some (source.Statement k) → slice_get flat.statements k ≡ Some s → Contains (quick_reads s.reads s.kind) r → r < length flat.names
+    read_low numbers k r s hn hk there = let before = earlier k r s hn hk there in All-contains (λ m. m < length flat.names) order r numbers (of_at order before.0 r before.2)
+
+    pub number_low : All (λ m. m < length flat.names) order → n < length flat.names
+    number_low numbers = All-contains (λ m. m < length flat.names) order n numbers (of_at order i n at)
+
+    -- there are no more covers than numbers
+    pub covers_room : All (λ m. m < length flat.names) order → (count : ℕ) → count ≤ i → length flat.names < 2 ^ 32 → count + 1 < 2 ^ 32
+    covers_room numbers count few names_few =
+        let most = few_below order (length flat.names) laid.is_order.once (λ m h. All-contains (λ m. m < length flat.names) order m numbers h) in
+        let l = slice_get_within order i n at in
+        omega (arith, few, most, l, names_few)
+
     module _ (net : NetView) (signals : List Signal) (covers : List (ℕ × ℕ)) (has : HasGates models flat wired order net signals covers i) where
       spots_more : (net' : NetView) (signals' : List Signal) → length net.drivers ≤ length net'.drivers → ((m : ℕ) → m ≢ n → slice_get signals' m ≡ slice_get signals m) →
           (HasSpot flat wired order n → (slice_get signals' n ≡ Some (record { 0 = spot flat wired order n })) × (spot flat wired order n < length net'.drivers)) →
@@ -159,6 +198,20 @@ module _ (models : List BlifModel) (flat : Flat) (wired : WiredView) (order : Li
               let low = slice_get_within (made i) p.0 n there in
               (has.built.placed p.0 n there ∙ ap (λ (x : ℕ). Some (record { 0 = x })) (sym is), omega (arith, is, low, has.built.drivers))
 
+      -- a number that no statement drives
+      pub step_default : (x : Source) → slice_get wired.sources n ≡ Some x → ((k : ℕ) → x ≡ source.Statement k → ⊥) → n < length flat.names → HasGates models flat wired order net signals covers (i + 1)
+      step_default x hn none low =
+          step_passes (ap (is_gate_by flat.statements) hn ∙ no_gate_source flat x none) low (λ k s hk at_k port. none k (same_Some x (source.Statement k) (sym hn ∙ hk)))
+
+      -- a latch
+      pub step_latch : (k : ℕ) (s : FlatStatement) (edge : Option Edge) (control : Option ℕ) (init : Init) → slice_get wired.sources n ≡ Some (source.Statement k) → slice_get flat.statements k ≡ Some s → s.kind ≡ kind.Latch edge control init → n < length flat.names →
+          HasGates models flat wired order net signals covers (i + 1)
+      step_latch k s edge control init hn hk is low = step_passes (ap (is_gate_by flat.statements) hn ∙ ap is_gate_in hk ∙ ap is_gate_kind is) low (λ k' s' hn' hk' port.
+          (let same_source : source.Statement k ≡ source.Statement k' = same_Some (source.Statement k) (source.Statement k') (sym hn ∙ hn') in
+          let same_k : k ≡ k' = cc in
+          let same : s ≡ s' = same_Some s s' (sym hk ∙ ap (slice_get flat.statements) same_k ∙ hk') in
+          latch_is_no_port edge control init (sym is ∙ ap (λ (t : FlatStatement). t.kind) same ∙ port)))
+
       -- a number that a port drives takes over the signal of the other side
       pub step_joins : (k from : ℕ) (s : FlatStatement) → slice_get wired.sources n ≡ Some (source.Statement k) → slice_get flat.statements k ≡ Some s → s.kind ≡ kind.Port → Contains s.reads from →
           (x : Signal) (signals' : List Signal) → slice_get signals from ≡ Some x → signals' ≡ set signals n x → HasGates models flat wired order net signals' covers (i + 1)
@@ -200,7 +253,7 @@ module _ (models : List BlifModel) (flat : Flat) (wired : WiredView) (order : Li
           joined : HasSpot flat wired order n → (slice_get signals' n ≡ Some (record { 0 = spot flat wired order n })) × (spot flat wired order n < length net.drivers)
           joined live =
               let before = earlier k from s hn hk (subst (λ (q : FlatKind). Contains (quick_reads s.reads q) from) (sym port) reads) in
-              let old = has.spots before.0 from before.1.0 before.1.1 (subst (Contains full) (sym one_net) live) in
+              let old = has.spots before.0 from before.1 before.2 (subst (Contains full) (sym one_net) live) in
               let same : spot flat wired order from ≡ spot flat wired order n = ap (place_of full) one_net in
               let is : x ≡ record { 0 = spot flat wired order n } = same_Some x (record { 0 = spot flat wired order n }) (sym hx ∙ old.0 ∙ ap (λ (y : ℕ). Some (record { 0 = y })) same) in
               (
@@ -220,10 +273,14 @@ module _ (models : List BlifModel) (flat : Flat) (wired : WiredView) (order : Li
         pub gate_read : (r : ℕ) → Contains s.reads r → (slice_get signals r ≡ Some (record { 0 = spot flat wired order r })) × (spot flat wired order r < length net.drivers)
         gate_read r there =
             let before = earlier k r s hn hk (subst (λ (q : FlatKind). Contains (quick_reads s.reads q) r) (sym is) there) in
-            has.spots before.0 r before.1.0 before.1.1 (laid.read n k model at_statement r s hn hk is there)
+            has.spots before.0 r before.1 before.2 (laid.read n k model at_statement r s hn hk is there)
 
         pub read_is : map (λ r. get_or signals r (record { 0 = 0 })) s.reads ≡ map (λ r. record { 0 = spot flat wired order r }) s.reads
         read_is = map_same (λ r. get_or signals r (record { 0 = 0 })) (λ r. record { 0 = spot flat wired order r }) s.reads (λ r there. get_or_from_slice_get signals r (record { 0 = spot flat wired order r }) (record { 0 = 0 }) (gate_read r there).0)
+
+        pub fanins_low : (fanins : List Signal) → fanins ≡ map (λ r. get_or signals r (record { 0 = 0 })) s.reads → All (λ f. f.0 < length net.drivers) fanins
+        fanins_low fanins e = subst (All (λ (f : Signal). f.0 < length net.drivers)) (sym (e ∙ read_is)) (All-from_each (λ (f : Signal). f.0 < length net.drivers) (map (λ r. record { 0 = spot flat wired order r }) s.reads) (λ f there.
+            (let found = Contains-map_from (λ r. record { 0 = spot flat wired order r }) s.reads f there in subst (λ (g : Signal). g.0 < length net.drivers) found.2 (gate_read found.0 found.1).1)))
 
         pub step_gates : (names_same : n < length flat.names) → (covers' : List (ℕ × ℕ)) (cs : List Cover) (id : ℕ) (net' : NetView) (signals' : List Signal) → AreCovers models covers' cs → IsGrown net.covers cs →
             length covers' ≤ length covers + 1 → slice_get cs id ≡ Some (cover_at models model at_statement) →
@@ -290,3 +347,33 @@ module _ (models : List BlifModel) (flat : Flat) (wired : WiredView) (order : Li
               where
                 cover : cover_of cs made_gate ≡ cover_at models model at_statement
                 cover = cc
+
+        -- as the code does it
+        pub code_gates : n < length flat.names → (covers' : List (ℕ × ℕ)) (id : ℕ) (mid net' : NetView) (between signals' fanins : List Signal) (reads name : List ℕ) → AreCovers models covers' mid.covers → IsGrown net.covers mid.covers →
+            length covers' ≤ length covers + 1 → slice_get mid.covers id ≡ Some (cover_at models model at_statement) → mid ≡ record net { covers = mid.covers } → between ≡ signals → reads ≡ s.reads →
+            fanins ≡ map (λ r. get_or between r (record { 0 = 0 })) reads → name_at flat.names n ≡ name → net' ≡ with_gate mid name fanins id → signals' ≡ set between n (record { 0 = length mid.drivers }) →
+            HasGates models flat wired order net' signals' covers' (i + 1)
+        code_gates low covers' id mid net' between signals' fanins reads name are grown more hc em eb er ef ename en es =
+            step_gates low covers' mid.covers id net' signals' are grown more hc
+            (en ∙ ap (λ (v : NetView). with_gate v name fanins id) em ∙ ap (λ (w : List ℕ). with_gate (record net { covers = mid.covers }) w fanins id) (sym ename)
+            ∙ ap (λ (fs : List Signal). with_gate (record net { covers = mid.covers }) (name_at flat.names n) fs id)
+            (ef ∙ ap₂ (λ (ss : List Signal) (rs : List ℕ). map (λ r. get_or ss r (record { 0 = 0 })) rs) eb er))
+            (es ∙ ap₂ (λ (ss : List Signal) (v : NetView). set ss n (record { 0 = length v.drivers })) eb em)
+
+-- two results of a call that went well
+pub on_ok : {T E A B C P : Type 0} (r : Result T E) → OnOk r A → OnOk r B → OnOk r C → (A → B → C → P) → OnOk r P
+on_ok (Ok x) a b c f = f a b c
+on_ok (Err e) a b c f = tt
+
+pub some_and : {X : Type 0} (o : Option X) (P : X → Type 0) → IsSomeAnd o P → (x : X) × (o ≡ Some x) × P x
+some_and None P h = absurd h
+some_and (Some x) P h = (x, refl, h)
+
+pub some_and_from : {X : Type 0} (o : Option X) (P : X → Type 0) (x : X) → o ≡ Some x → P x → IsSomeAnd o P
+some_and_from o P x e h = subst (λ o. IsSomeAnd o P) (sym e) h
+
+-- the gates are those of an equal net
+pub same_gates : (models : List BlifModel) (flat : Flat) (wired : WiredView) (order : List ℕ) (net net' : NetView) (signals : List Signal) (covers covers' : List (ℕ × ℕ)) (i : ℕ) → net' ≡ net → covers' ≡ covers →
+    HasGates models flat wired order net signals covers i → HasGates models flat wired order net' signals covers' i
+same_gates models flat wired order net net' signals covers covers' i en ec has =
+    subst (λ (v : NetView). HasGates models flat wired order v signals covers' i) (sym en) (subst (λ (cs : List (ℕ × ℕ)). HasGates models flat wired order net signals cs i) (sym ec) has)

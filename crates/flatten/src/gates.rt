@@ -8,10 +8,18 @@ ghost use Rattle.flatten.specs.Gated.{IsLaid, HasGates, IsRest, IsGrown, first_m
 use crate::assemble::{Assembly, cover_copy};
 use blif_read::BlifModel;
 use flat_net::{Signal, Signals};
-use flat_walk::{Flat, FlatKind};
+use flat_walk::{Flat, FlatKind, FlatStatement};
 use flat_wires::{Source, Wired};
 use sec_base::NoMemory;
 use std::alloc::Global;
+
+/// The first number that a statement reads.
+fn first_read(statement: &FlatStatement) -> u32
+    requires { 0 < length statement.now.reads }
+    ensures { slice_get statement.now.reads 0 ≡ Some result }
+{
+    statement.reads.as_slice()[0]
+}
 
 impl Assembly {
     /// The number of the cover of a statement. A cover that the net does not have yet goes last.
@@ -80,7 +88,7 @@ impl Assembly {
         match statement.kind {
             FlatKind::Latch { .. } => Ok(()),
             FlatKind::Port => {
-                self.join(number, statement.reads.as_slice()[0]);
+                self.join(number, first_read(statement));
                 Ok(())
             }
             FlatKind::Gate {
