@@ -6,3 +6,4 @@ pub mod DesignFaults
 pub mod Graph
 pub mod Built
 pub mod Gated
+pub mod Shown

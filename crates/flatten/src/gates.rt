@@ -4,6 +4,7 @@ ghost use Rattle.std.specs.Prelude.{◌≡◌, ◌^◌, ◌+◌, ◌<◌, ◌≤
 ghost use Rattle.flat_walk.specs.Flat.{cover_at, view_of, IsShaped};
 ghost use Rattle.flatten.specs.Built.{IsBuilt, AreCovers};
 ghost use Rattle.flatten.specs.Gated.{IsLaid, HasGates, IsRest, IsGrown, first_made};
+ghost use Rattle.flatten.specs.Shown.{with_outputs};
 
 use crate::assemble::{Assembly, cover_copy};
 use blif_read::BlifModel;
@@ -123,6 +124,20 @@ impl Assembly {
     {
         for place in 0..order.len() {
             self.place_number(alloc, models, flat, wired, order, place)?;
+        }
+        Ok(())
+    }
+
+    /// The main model's outputs in their order, each on the signal of its number.
+    pub(crate) fn add_outputs(&mut self, flat: &Flat) -> Result<(), NoMemory>
+        requires size { length self.old.signals.items ≡ length flat.now.names }
+        requires within { All (λ n. (slice_index_or self.old.signals.items n (record { 0 = 0 })).0 < length self.old.maker.net.drivers) flat.now.outputs }
+        ensures net { OnOk result (self.new.maker ≡ record self.old.maker { net = with_outputs flat.now.names self.old.signals.items flat.now.outputs self.old.maker.net }) }
+        ensures signals { OnOk result (self.new.signals.items ≡ self.old.signals.items) }
+    {
+        for output in flat.outputs.as_slice() {
+            let signal = self.signals[*output as usize];
+            self.maker.output(flat.name(*output), signal)?;
         }
         Ok(())
     }
