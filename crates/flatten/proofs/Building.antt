@@ -181,7 +181,7 @@ pub record HasLatches (names : List (List ℕ)) (made : List ℕ) (statements : 
   pub built : IsBuilt names (made ++ latch_outs (take i statements)) after signals
   pub net : after ≡ with_latches names (take i statements) before
 
-latch_outs-append : (ss ts : List FlatStatement) → latch_outs (ss ++ ts) ≡ latch_outs ss ++ latch_outs ts
+pub latch_outs-append : (ss ts : List FlatStatement) → latch_outs (ss ++ ts) ≡ latch_outs ss ++ latch_outs ts
 latch_outs-append [] ts = refl
 latch_outs-append (s ∷ ss) ts = ap (λ (ns : List ℕ). latch_out s.kind s.out ++ ns) (latch_outs-append ss ts) ∙ sym (append_assoc (latch_out s.kind s.out) (latch_outs ss) (latch_outs ts))
 

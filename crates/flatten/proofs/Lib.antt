@@ -8,3 +8,4 @@ pub mod Faulted
 pub mod Building
 pub mod Gating
 pub mod CoverNumbers
+pub mod Nexts

@@ -54,7 +54,7 @@ and_both true y h = (refl, h)
 and_both false y h = absurd (true≢false (sym h))
 
 -- what passes at each place
-list_all_place : {X : Type 0} (p : X → Bool) (xs : List X) (i : ℕ) (x : X) → list_all p xs ≡ true → slice_get xs i ≡ Some x → p x ≡ true
+pub list_all_place : {X : Type 0} (p : X → Bool) (xs : List X) (i : ℕ) (x : X) → list_all p xs ≡ true → slice_get xs i ≡ Some x → p x ≡ true
 list_all_place p [] i x all h = absurd (none-some x h)
 list_all_place p (y ∷ xs) zero x all h = subst (λ z. p z ≡ true) (same_Some y x h) (and_both (p y) (list_all p xs) all).0
 list_all_place p (y ∷ xs) (suc i) x all h = list_all_place p xs i x (and_both (p y) (list_all p xs) all).1 h

@@ -1,10 +1,10 @@
 //! The gates of the net of a sound flat design.
 
-ghost use Rattle.std.specs.Prelude.{◌≡◌, ◌^◌, ◌+◌, ◌<◌, ◌≤◌, [], length, map, slice_get, slice_index_or, Some, All, IfOk, OnOk};
+ghost use Rattle.std.specs.Prelude.{true, ◌≡◌, ◌^◌, ◌+◌, ◌<◌, ◌≤◌, [], length, map, slice_get, slice_index_or, Some, All, IfOk, OnOk};
 ghost use Rattle.flat_walk.specs.Flat.{cover_at, view_of, IsShaped};
 ghost use Rattle.flatten.specs.Built.{IsBuilt, AreCovers};
 ghost use Rattle.flatten.specs.Gated.{IsLaid, HasGates, IsRest, IsGrown, first_made};
-ghost use Rattle.flatten.specs.Shown.{with_outputs};
+ghost use Rattle.flatten.specs.Shown.{with_outputs, latch_signals, latch_nexts, with_nexts};
 
 use crate::assemble::{Assembly, cover_copy};
 use blif_read::BlifModel;
@@ -140,5 +140,25 @@ impl Assembly {
             self.maker.output(flat.name(*output), signal)?;
         }
         Ok(())
+    }
+
+    /// Each latch takes over the signal of its data.
+    pub(crate) fn set_nexts(&mut self, flat: &Flat)
+        requires size { length self.old.signals.items ≡ length flat.now.names }
+        requires outs { map (λ l. l.out) self.old.maker.net.latches ≡ latch_signals self.old.signals.items flat.now.statements }
+        requires within { All (λ s. s.0 < length self.old.maker.net.drivers) (latch_nexts self.old.signals.items flat.now.statements) }
+        ensures net { self.new.maker.net ≡ record self.old.maker.net { latches = with_nexts self.old.maker.net.latches (latch_nexts self.old.signals.items flat.now.statements) } }
+        ensures set { All (λ set. set ≡ true) self.new.maker.set }
+        ensures signals { self.new.signals.items ≡ self.old.signals.items }
+    {
+        self.maker.keeps();
+        for statement in flat.statements.as_slice() {
+            let FlatKind::Latch { .. } = statement.kind else {
+                continue;
+            };
+            let latch = self.signals[statement.out as usize];
+            let next = self.signals[first_read(statement) as usize];
+            self.maker.set_next(latch, next);
+        }
     }
 }
