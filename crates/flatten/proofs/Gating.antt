@@ -255,8 +255,7 @@ module _ (models : List BlifModel) (flat : Flat) (wired : WiredView) (order : Li
               let before = earlier k from s hn hk (subst (λ (q : FlatKind). Contains (quick_reads s.reads q) from) (sym port) reads) in
               let old = has.spots before.0 from before.1 before.2 (subst (Contains full) (sym one_net) live) in
               let same : spot flat wired order from ≡ spot flat wired order n = ap (place_of full) one_net in
-              let is : x ≡ record { 0 = spot flat wired order n } = same_Some x (record { 0 = spot flat wired order n }) (sym hx ∙ old.0 ∙ ap (λ (y : ℕ). Some (record { 0 = y })) same) in
-              (
+              let is : x ≡ record { 0 = spot flat wired order n } = same_Some x (record { 0 = spot flat wired order n }) (sym hx ∙ old.0 ∙ ap (λ (y : ℕ). Some (record { 0 = y })) same) in (
                 ap (λ (ss : List Signal). slice_get ss n) es ∙ slice_get-set_same signals n x (get_or signals n x) here ∙ ap Some is,
                 subst (λ (y : ℕ). y < length net.drivers) same old.1,
               )

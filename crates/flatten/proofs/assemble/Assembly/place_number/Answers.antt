@@ -166,4 +166,3 @@ returns-in_ok-fanins-in-Gate-clause-has c =
     c.in_ok-fanins-in-Gate.fanins c.as_slice-in-Gate.result.now c.name.result.now c.in_ok-cover-in-Gate.ensures.covers c.in_ok-cover-in-Gate.ensures.grown c.in_ok-cover-in-Gate.ensures.few c.in_ok-cover-in-Gate.ensures.cover
     (ap (λ (m : MakerView). m.net) c.in_ok-cover-in-Gate.ensures.net) c.in_ok-cover-in-Gate.ensures.signals c.as_slice-in-Gate.ensures c.in_ok-fanins-in-Gate.ensures (name_in c.args.flat.now.names n c.name.result.now c.name.ensures)
     (ap (λ (m : MakerView). m.net) en) es))
-

@@ -78,9 +78,11 @@ loop-statement-preserved c =
     let count = length (latch_nexts c.args.self.now.signals.items (take c.loop-statement.statement-index c.args.flat.now.statements)) in
     let drives = ap (λ (n : NetView). slice_get n.drivers c.index-latch.result.now.0) has.net ∙ ap (λ (x : Signal). slice_get c.args.self.now.maker.net.drivers x.0) (sym (place.2 ∙ latch)) ∙ (c.keeps.ensures.sound.latches count place.0 place.1).owner in
     let next = ap (signal_at c.args.self.now.signals.items) (first_is s.out s.reads r c.first_read.ensures) ∙ read_at c.loop-statement.self.signals.items c.args.self.now.signals.items r c.index-next.result.now same (omega (arith, low, c.requires.size)) c.index-next.ensures in
-    let takes = ap (λ (k : FlatKind). latch_data k s.out s.reads) c.in-Latch.is in
-    (nexts_take c.args.flat.now.statements c.args.self.now.signals.items c.args.self.now.maker c.loop-statement.self.maker c.loop-statement.statement-index s at has takes (slice_get_within c.args.self.now.maker.net.latches count place.0 place.1) c.keeps.ensures.set c.set_next.new.self
-    (c.set_next.ensures count drives ∙ ap (λ (x : Signal). record { net = with_next c.loop-statement.self.maker.net count x; set = set c.loop-statement.self.maker.set count true }) (sym next)), same)
+    let takes = ap (λ (k : FlatKind). latch_data k s.out s.reads) c.in-Latch.is in (
+      nexts_take c.args.flat.now.statements c.args.self.now.signals.items c.args.self.now.maker c.loop-statement.self.maker c.loop-statement.statement-index s at has takes (slice_get_within c.args.self.now.maker.net.latches count place.0 place.1) c.keeps.ensures.set c.set_next.new.self
+          (c.set_next.ensures count drives ∙ ap (λ (x : Signal). record { net = with_next c.loop-statement.self.maker.net count x; set = set c.loop-statement.self.maker.set count true }) (sym next)),
+      same,
+    )
 
 pub returns-clause-set : goal.returns-clause-set
 returns-clause-set c =
@@ -90,4 +92,3 @@ returns-clause-set c =
     let count = latch_count c.args.flat.now.statements c.args.self.now.signals.items c.args.self.now.maker.net.latches c.requires.outs in
     subst (All (λ (b : Bool). b ≡ true)) (sym (has.set ∙ ap (λ (ss : List FlatStatement). replicate (length (latch_nexts c.args.self.now.signals.items ss)) true ++ drop (length (latch_nexts c.args.self.now.signals.items ss)) c.args.self.now.maker.set) whole))
     (all_set (length (latch_nexts c.args.self.now.signals.items c.args.flat.now.statements)) c.args.self.now.maker.set (c.keeps.ensures.set ∙ count))
-
