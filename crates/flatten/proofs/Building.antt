@@ -1,5 +1,5 @@
 -- A net that grows by one signal of a number that has none.
-use Rattle.std.proofs.Common.{◌≡◌, ◌≢◌, ◌+◌, ◌^◌, ◌<◌, ◌≤◌, ◌∙◌, ℕ, zero, suc, Bool, true, false, eqb, cond, List, [], ◌∷◌, ◌++◌, map, length, take, drop, set, get_or, slice_get, unwrap_or, Option, Some, refl, sym, ap, subst, append_assoc, append-nil, arith, inl, inr}
+use Rattle.std.proofs.Common.{◌≡◌, ◌≢◌, ◌+◌, ◌^◌, ◌<◌, ◌≤◌, ◌∙◌, ℕ, zero, suc, Bool, true, false, eqb, cond, List, [], ◌∷◌, ◌++◌, length, take, drop, set, get_or, slice_get, unwrap_or, Option, Some, refl, sym, ap, subst, append_assoc, append-nil, arith, inl, inr}
 use Rattle.std.specs.Prelude.{◌⊎◌, ◌||◌, ◌&&◌, not, nat_lt}
 use Rattle.std.specs.List.{All, Contains, list_any, list_all}
 use Rattle.std.proofs.lemmas.Bool.Decides.{Decides-eqb, Decides-ltb}
@@ -8,7 +8,7 @@ use Rattle.std.proofs.lemmas.List.Elements.{All-contains, All-push, filter-appen
 use Rattle.std.proofs.lemmas.Map.Keys.{IsDistinct-from_apart}
 use Rattle.std.proofs.lemmas.Map.Steps.{length-le_from_distinct_below}
 use Rattle.std.proofs.lemmas.Option.{none-some, same_Some, slice_get_within, slice_get_read, slice_get-get_or, unwrap_or-slice_get}
-use Rattle.circuit_theory.proofs.Lists.{Contains-head, Contains-tail, Contains-cases, at_of, of_at}
+use Rattle.circuit_theory.proofs.Lists.{Contains-head, Contains-tail, at_of, of_at}
 use Rattle.sec_base.specs.Table.{AreDistinct, is_among}
 use Rattle.sec_base.proofs.TableLemmas.{key_at, is_among-at, take-push}
 use Rattle.flat_net.specs.declared.signals.Signal.{Signal}

@@ -1,14 +1,14 @@
 -- The gates of a net under construction: what a step over one number of the order does.
-use Rattle.std.proofs.Common.{◌≡◌, ◌≢◌, ◌+◌, ◌^◌, ◌<◌, ◌≤◌, ◌==◌, ◌∙◌, ℕ, zero, suc, Bool, true, false, true≢false, cond, List, [], ◌∷◌, ◌++◌, map, length, take, drop, set, get_or, slice_get, Option, Some, None, refl, sym, ap, ap₂, subst, append_assoc, append-nil, arith, inl, inr, eqb-true, eq-eqb}
+use Rattle.std.proofs.Common.{◌≡◌, ◌≢◌, ◌+◌, ◌^◌, ◌<◌, ◌≤◌, ◌==◌, ◌∙◌, ℕ, zero, suc, Bool, true, false, true≢false, cond, List, [], ◌∷◌, ◌++◌, map, length, take, drop, set, get_or, slice_get, Option, Some, None, refl, sym, ap, ap₂, subst, append_assoc, arith, inl, inr, eqb-true, eq-eqb}
 use Rattle.std.specs.Prelude.{◌⊎◌, Result, Ok, Err, OnOk, IsSomeAnd}
 use Rattle.std.specs.List.{All, Contains, filter}
-use Rattle.std.proofs.lemmas.List.{map-append, length-append, length-map, take-append-drop}
-use Rattle.std.proofs.lemmas.List.Elements.{All-contains, All-push, filter-append, Contains-append_cases, Contains-append_left, Contains-append_right}
+use Rattle.std.proofs.lemmas.List.{map-append, length-append, take-append-drop}
+use Rattle.std.proofs.lemmas.List.Elements.{All-contains, All-push, filter-append, Contains-append_cases}
 use Rattle.std.proofs.lemmas.Option.{none-some, same_Some, slice_get_within, slice_get-get_or, get_or_from_slice_get}
 use Rattle.circuit_theory.specs.Cover.{Cover}
 use Rattle.circuit_theory.specs.Circuit.{Equation}
 use Rattle.circuit_theory.specs.Circuit.{Gate as gate_equation}
-use Rattle.circuit_theory.proofs.Lists.{Contains-cases, Contains-head, Contains-tail, Contains-map, Contains-map_from, at_of, of_at, map_same, map-map, All-from_each}
+use Rattle.circuit_theory.proofs.Lists.{Contains-cases, Contains-map, Contains-map_from, at_of, of_at, map_same, map-map, All-from_each}
 use Rattle.circuit_theory.proofs.Numbers.{slice_get-map}
 use Rattle.sec_base.specs.Table.{AreDistinct}
 use Rattle.blif_read.specs.declared.design.BlifModel.{BlifModel}
@@ -23,13 +23,13 @@ use Rattle.flat_walk.specs.declared.flat.FlatKind.{FlatKind}
 use Rattle.flat_walk.specs.declared.flat.FlatKind.TheVariants as kind
 use Rattle.sec_base.specs.declared.basics.Edge.{Edge}
 use Rattle.sec_base.specs.declared.basics.Init.{Init}
-use Rattle.flat_walk.specs.Flat.{CanBe, IsShaped, view_of, name_at, cover_at, kind_of, statement_of, equation_by, equation_in}
+use Rattle.flat_walk.specs.Flat.{CanBe, IsShaped, view_of, name_at, cover_at, kind_of, statement_of}
 use Rattle.flat_wires.specs.declared.source.Source.{Source}
 use Rattle.flat_wires.specs.declared.source.Source.TheVariants as source
 use Rattle.flat_wires.specs.Wired.{WiredView}
 use Rattle.flatten.specs.Built.{IsBuilt, AreCovers}
 use Rattle.flatten.specs.Graph.{IsSourceWithin, quick_reads, source_reads, reads_in, is_gate_kind, is_gate_in, is_gate_by, is_gate_source, is_gate_out, graph_of}
-use Rattle.flatten.specs.Order.{reads_of, IsOrder}
+use Rattle.flatten.specs.Order.{reads_of}
 use Rattle.flatten.specs.Gated.{place_of, net_of, first_made, gates_in, made_by, spot, HasSpot, IsLaid, driver_by, driver_of, statement_or, net_equation, HasGates, IsGrown}
 use Rattle.flatten.proofs.Building.{few_below, built_more, fresh_at}
 use Rattle.flatten.proofs.Rows.{same_or_not, slice_get-append, slice_get-push, slice_get-set_same, slice_get-set_other, length-set_is}

@@ -1,9 +1,9 @@
 -- What latches take over: one after another is set.
-use Rattle.std.proofs.Common.{◌≡◌, ◌+◌, ◌<◌, ◌∙◌, ℕ, zero, suc, Bool, true, List, [], ◌∷◌, ◌++◌, map, length, take, drop, set, get_or, replicate, slice_get, Some, refl, sym, ap, ap₂, subst, append_assoc, append-nil, arith, eqb-true, ltb-true}
+use Rattle.std.proofs.Common.{◌≡◌, ◌+◌, ◌<◌, ◌∙◌, ℕ, zero, suc, Bool, true, List, [], ◌∷◌, ◌++◌, map, length, take, drop, set, get_or, replicate, slice_get, Some, refl, sym, ap, subst, append_assoc, append-nil, arith, eqb-true, ltb-true}
 use Rattle.std.specs.Prelude.{◌&&◌, nat_lt, Option}
 use Rattle.std.specs.List.{All, Contains, list_all}
 use Rattle.std.proofs.lemmas.Bool.{and_parts}
-use Rattle.std.proofs.lemmas.List.{map-append, length-append, length-map, take-append-drop}
+use Rattle.std.proofs.lemmas.List.{length-append, length-map, take-append-drop}
 use Rattle.std.proofs.lemmas.List.Elements.{All-cons, All-nil, All-contains, Contains-append_right}
 use Rattle.std.proofs.lemmas.Option.{none-some, same_Some, slice_get_read, get_or_from_slice_get}
 use Rattle.circuit_theory.proofs.Lists.{Contains-head}

@@ -1,5 +1,5 @@
 -- The gates of a net under construction, in an order of evaluation.
-use Rattle.std.specs.Prelude.{◌≡◌, ℕ, zero, suc, ◌+◌, ◌<◌, ◌≤◌, ◌==◌, cond, List, [], ◌∷◌, ◌++◌, map, length, take, Option, Some, None, slice_get}
+use Rattle.std.specs.Prelude.{◌≡◌, ℕ, suc, ◌<◌, ◌≤◌, ◌==◌, cond, List, [], ◌∷◌, ◌++◌, map, length, take, Option, Some, None, slice_get}
 use Rattle.std.specs.List.{All, Contains, filter}
 use Rattle.circuit_theory.specs.Circuit.{Equation}
 use Rattle.circuit_theory.specs.Classes.{moved}

@@ -1,7 +1,6 @@
-use Rattle.std.proofs.Common.{◌≡◌, ◌<◌, ◌^◌, ℕ, false, length, take, get_or, arith, sym, ◌∙◌, ap, subst}
+use Rattle.std.proofs.Common.{◌≡◌, false, take, get_or, arith, sym, ◌∙◌, ap, subst}
 use Rattle.sec_base.specs.Table.{is_among}
-use Rattle.flat_walk.specs.Flat.{name_at}
-use Rattle.flat_net.specs.Makes.{MakerView, with_input}
+use Rattle.flat_net.specs.Makes.{with_input}
 use Rattle.flatten.specs.Built.{unclocked}
 use Rattle.flatten.proofs.Building.{input_at, input_within, name_in, input_fresh, inputs_take, room_for, new_name}
 use Rattle.flatten.proofs.assemble.Assembly.add_inputs.Goals as goal

@@ -1,4 +1,4 @@
-use Rattle.std.proofs.Common.{◌<◌, ◌∙◌, ◌++◌, ◌∷◌, [], List, length, ap, sym, subst, arith}
+use Rattle.std.proofs.Common.{◌<◌, ◌∙◌, ◌++◌, ◌∷◌, [], length, ap, arith}
 use Rattle.circuit_theory.specs.Cover.{Cover}
 use Rattle.flat_net.specs.Makes.{MakerView}
 use Rattle.flatten.proofs.CoverNumbers.{intern_new, intern_old, new_covers, same_covers, cover_there}
