@@ -14,12 +14,12 @@ use Rattle.pair_decide.specs.Queries.{IsTrivial, IsSame, IsLeast, Distinguishes,
 
 -- it has two sides that are different literals, a care that isn't the literal 0, and at most 16 variables
 pub record IsNarrow (q : Query) : Type 0 where
-  pub open : IsTrivial q → ⊥
+  pub apart : IsTrivial q → ⊥
   pub few : length q.vars ≤ 16
 
 -- the same with more than 16 variables
 pub record IsWide (q : Query) : Type 0 where
-  pub open : IsTrivial q → ⊥
+  pub apart : IsTrivial q → ⊥
   pub many : 16 < length q.vars
 
 -- the query's clauses, and a refutation of them of at most so many chains
@@ -38,7 +38,7 @@ pub record IsAtLimit (g : List Node) (q : Query) (conflicts : ℕ) (proof : Proo
 
 -- an assignment of the query's variables that distinguishes, for at most 16 variables the least
 pub record IsDifference (g : List Node) (q : Query) (bits : List Bool) : Type 0 where
-  pub open : IsTrivial q → ⊥
+  pub apart : IsTrivial q → ⊥
   pub each : length bits ≡ length q.vars
   pub distinguishes : Distinguishes g q (assigned_to q.vars bits)
   pub least : length q.vars ≤ 16 → (number : ℕ) × (bits ≡ bits_of number (length q.vars)) × IsLeast g q number

@@ -1,8 +1,8 @@
 //! Queries of at most 16 variables: all assignments are tried over the cones of the three literals alone.
 
-ghost use Rattle.std.specs.Prelude.{◌≤◌, length, IfOk};
-ghost use Rattle.pair_decide.specs.Queries.{IsQuery, IsTrivial};
-ghost use Rattle.pair_decide.specs.Answers.{Decides, IsNarrow, IsTable};
+ghost use Rattle.std.specs.Prelude.{ℕ, IfOk};
+ghost use Rattle.pair_decide.specs.Queries.{IsQuery};
+ghost use Rattle.pair_decide.specs.Answers.{Decides, IsNarrow};
 
 use crate::query::{Decision, Query, SameBy};
 use aig::Aig;
@@ -13,7 +13,7 @@ use std::alloc::Global;
 pub(crate) fn decide_by_table(alloc: Global, aig: &Aig, query: &Query) -> Result<Decision, NoMemory>
     requires query { IsQuery aig.now query.now }
     requires narrow { IsNarrow query.now }
-    ensures { IfOk result (Decides aig.now query.now 0) }
+    ensures { IfOk result (λ d. (conflicts : ℕ) → Decides aig.now query.now conflicts d) }
 {
     Err(NoMemory)
 }
