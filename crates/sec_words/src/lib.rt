@@ -1,0 +1,16 @@
+//! The words of the command line, and the job that they ask for.
+//!
+//! The words are read with `clap` as a command `sec` with one required subcommand; what they mean is `clap`'s own
+//! definition for this command.
+#![tactic(auto)]
+
+mod command;
+mod jobs;
+mod settings;
+mod task;
+#[cfg(test)]
+mod tests;
+
+pub use jobs::{WordsError, job};
+pub use settings::Settings;
+pub use task::Task;

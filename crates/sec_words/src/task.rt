@@ -1,0 +1,41 @@
+//! What the program is asked to do.
+
+use crate::settings::Settings;
+use circuit_theory::Mode;
+use sec_base::{FilePath, Word};
+
+/// What the words of a command line ask for: a job.
+#[derive(Debug, Drop)]
+pub enum Task {
+    /// Compare the circuits of two files.
+    Check {
+        a: FilePath,
+        b: FilePath,
+        settings: Settings,
+    },
+    /// Print the latches of a circuit, their depths and a cycle.
+    Graph {
+        a: FilePath,
+        mode: Mode,
+    },
+    /// Run a circuit on a stimulus. `power` has a digit for each latch; without it all power up with 0.
+    Sim {
+        a: FilePath,
+        s: FilePath,
+        mode: Mode,
+        power: Option<Word>,
+    },
+    /// Run two circuits on a stimulus and print where they differ.
+    Replay {
+        a: FilePath,
+        b: FilePath,
+        s: FilePath,
+        mode: Mode,
+    },
+    /// Make a pair of circuits from a number and compare them.
+    Gen {
+        seed: u64,
+        regroup: bool,
+        conflicts: u32,
+    },
+}
