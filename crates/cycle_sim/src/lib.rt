@@ -1,0 +1,16 @@
+//! Simulation of a flat net cycle by cycle: the run from a power-up, and which signals are settled.
+#![tactic(auto)]
+
+mod cycles;
+mod laws;
+mod marked;
+mod marking;
+mod power;
+mod sim;
+#[cfg(test)]
+mod tests;
+
+pub use laws::has_run;
+pub use marked::MarkedSim;
+pub use power::Power;
+pub use sim::Sim;

@@ -1,0 +1,4 @@
+pub mod Places
+pub mod Splits
+pub mod Forms
+pub mod Rows

@@ -1,0 +1,7 @@
+use Rattle.std.specs.Prelude.{◌≡◌, ◌++◌, map, take}
+use Rattle.std.specs.List.{flat_map}
+use Rattle.witness_report.specs.Text.{digit_of, names_text, row_line}
+use Rattle.witness_report.proofs.writing.put_digits.Given as goal
+
+abbrev pub invariant-loop-bit : goal.invariant-loop-bit
+invariant-loop-bit l = l.text.items ≡ l.initial.text.items ++ map digit_of (take l.bit-index l.row)

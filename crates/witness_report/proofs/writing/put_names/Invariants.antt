@@ -1,0 +1,7 @@
+use Rattle.std.specs.Prelude.{◌≡◌, ◌++◌, map, take}
+use Rattle.std.specs.List.{flat_map}
+use Rattle.witness_report.specs.Text.{digit_of, names_text, row_line}
+use Rattle.witness_report.proofs.writing.put_names.Given as goal
+
+abbrev pub invariant-loop-name : goal.invariant-loop-name
+invariant-loop-name l = l.text.items ≡ l.initial.text.items ++ names_text (take l.name-index l.name-items)

@@ -1,0 +1,20 @@
+//! Stimuli as texts, and what a comparison shows of two circuits that differ.
+#![tactic(auto)]
+
+mod error;
+mod laws;
+mod pieces;
+mod reading;
+mod rows;
+mod stimulus;
+#[cfg(test)]
+mod tests;
+mod witness;
+mod writing;
+
+pub use error::StimError;
+pub use laws::reads_back;
+pub use reading::read_stimulus;
+pub use stimulus::Stimulus;
+pub use witness::{PairName, Witness};
+pub use writing::write_stimulus;
