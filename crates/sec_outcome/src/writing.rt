@@ -1,13 +1,16 @@
 //! The report of a comparison, as text.
 
-ghost use Rattle.std.specs.Prelude.{map, ◌≡◌, ℕ, List, [], ◌∷◌, ◌++◌, length, codes, OnOk, OnErr, IfOk};
+ghost use Rattle.std.specs.Prelude.{◌≡◌, ℕ, List, [], ◌∷◌, ◌++◌, length, codes, OnOk, IfOk};
 ghost use Rattle.std.specs.Fmt.{decimal};
 ghost use Rattle.std.specs.List.{flat_map};
-ghost use Rattle.sec_check.specs.Report.{digit_of, names_text, row_text, row_line, stimulus_text, answer_word, pair_text, pair_line, values_text, difference_text, verdict_text, counts_text, report_text};
+ghost use Rattle.witness_report.specs.Text.{digit_of, names_text, stimulus_text};
+ghost use Rattle.sec_outcome.specs.Report.{answer_word, pair_text, pair_front, pair_line, values_text, difference_text, limit_text, verdict_text, counts_text, report_text};
 
-use crate::outcome::{Outcome, PairName, PairResult, Settings, Stimulus, Verdict, Witness};
-use sec_base::{Bits, NoMemory, PairAnswer, Seq, Text, Words, put, put_number};
+use crate::outcome::{LimitAt, Outcome, PairResult, Verdict};
+use sec_base::{NoMemory, PairAnswer, Seq, Text, Words, put, put_number};
+use sec_words::Settings;
 use std::alloc::Global;
+use witness_report::{PairName, Stimulus, Witness, write_stimulus};
 
 fn digit_of(bit: bool) -> u8
     ensures { result ≡ digit_of bit }
@@ -25,42 +28,11 @@ fn put_names(text: &mut Vec<u8>, names: &Words) -> Result<(), NoMemory>
     Ok(())
 }
 
-fn put_digits(text: &mut Vec<u8>, row: &[bool]) -> Result<(), NoMemory>
-    ensures { OnOk result (text.new.items ≡ text.old.items ++ map digit_of row.now) }
+fn put_stimulus(alloc: Global, text: &mut Vec<u8>, stimulus: &Stimulus) -> Result<(), NoMemory>
+    ensures { OnOk result (text.new.items ≡ text.old.items ++ stimulus_text stimulus.now.names stimulus.now.rows) }
 {
-    for bit in row {
-        text.push(digit_of(*bit))?;
-    }
-    Ok(())
-}
-
-fn put_row(text: &mut Vec<u8>, row: &[bool]) -> Result<(), NoMemory>
-    ensures { OnOk result (text.new.items ≡ text.old.items ++ row_line row.now) }
-{
-    if row.is_empty() {
-        return put(text, b"-\n");
-    }
-    put_digits(text, row)?;
-    put(text, b"\n")
-}
-
-fn put_rows(text: &mut Vec<u8>, rows: &[Bits]) -> Result<(), NoMemory>
-    ensures { OnOk result (text.new.items ≡ text.old.items ++ flat_map row_line rows.now) }
-{
-    for row in rows {
-        put_row(text, row.as_slice())?;
-    }
-    Ok(())
-}
-
-#[tactic(auto, unfolding(crate::specs::Report::stimulus_text))]
-fn put_stimulus(text: &mut Vec<u8>, stimulus: &Stimulus) -> Result<(), NoMemory>
-    ensures { OnOk result (text.new.items ≡ text.old.items ++ stimulus_text stimulus.now) }
-{
-    put(text, b"inputs")?;
-    put_names(text, &stimulus.names)?;
-    put(text, b"\n")?;
-    put_rows(text, stimulus.rows.as_slice())
+    let written = write_stimulus(alloc, stimulus)?;
+    put(text, written.as_slice())
 }
 
 fn answer_word(answer: PairAnswer) -> &'static str
@@ -79,14 +51,33 @@ fn put_pair_name(text: &mut Vec<u8>, name: &PairName) -> Result<(), NoMemory>
 {
     match name {
         PairName::Output(word) => put(text, word.as_slice()),
+        PairName::Next(word) => {
+            put(text, b"next ")?;
+            put(text, word.as_slice())
+        }
+    }
+}
+
+/// Puts the front of the pair's own line.
+fn put_pair_front(text: &mut Vec<u8>, name: &PairName) -> Result<(), NoMemory>
+    ensures { OnOk result (text.new.items ≡ text.old.items ++ pair_front name.now) }
+{
+    match name {
+        PairName::Output(word) => {
+            put(text, b"pair ")?;
+            put(text, word.as_slice())
+        }
+        PairName::Next(word) => {
+            put(text, b"next ")?;
+            put(text, word.as_slice())
+        }
     }
 }
 
 fn put_pair(alloc: Global, text: &mut Vec<u8>, pair: &PairResult) -> Result<(), NoMemory>
     ensures { OnOk result (text.new.items ≡ text.old.items ++ pair_line pair.now) }
 {
-    put(text, b"pair ")?;
-    put_pair_name(text, &pair.name)?;
+    put_pair_front(text, &pair.name)?;
     put(text, b" depth ")?;
     put_number(alloc, text, u64::from(pair.size))?;
     put(text, b" ")?;
@@ -122,15 +113,38 @@ fn put_difference(alloc: Global, text: &mut Vec<u8>, witness: &Witness) -> Resul
     put(text, b"verdict different ")?;
     put_pair_name(text, &witness.pair)?;
     put_values(alloc, text, witness)?;
-    put_stimulus(text, &witness.stimulus)
+    put_stimulus(alloc, text, &witness.stimulus)
 }
 
-fn put_verdict(alloc: Global, text: &mut Vec<u8>, verdict: &Verdict) -> Result<(), NoMemory>
-    ensures { OnOk result (text.new.items ≡ text.old.items ++ verdict_text verdict.now) }
+fn put_limit(
+    alloc: Global,
+    text: &mut Vec<u8>,
+    at: &LimitAt,
+    conflicts: u32,
+) -> Result<(), NoMemory>
+    ensures { OnOk result (text.new.items ≡ text.old.items ++ (codes "verdict limit " ++ limit_text at.now ++ codes " conflicts " ++ decimal conflicts ++ 10 ∷ [])) }
+{
+    put(text, b"verdict limit ")?;
+    match at {
+        LimitAt::Pair(name) => put_pair_name(text, name)?,
+    }
+    put(text, b" conflicts ")?;
+    put_number(alloc, text, u64::from(conflicts))?;
+    put(text, b"\n")
+}
+
+fn put_verdict(
+    alloc: Global,
+    text: &mut Vec<u8>,
+    verdict: &Verdict,
+    conflicts: u32,
+) -> Result<(), NoMemory>
+    ensures { OnOk result (text.new.items ≡ text.old.items ++ verdict_text conflicts verdict.now) }
 {
     match verdict {
         Verdict::Equal => put(text, b"verdict equal\n"),
         Verdict::Different(witness) => put_difference(alloc, text, witness),
+        Verdict::Limit(at) => put_limit(alloc, text, at, conflicts),
     }
 }
 
@@ -152,11 +166,11 @@ fn put_counts(alloc: Global, text: &mut Vec<u8>, outcome: &Outcome) -> Result<()
 /// The report of a comparison: the counts, a line for each pair, and the verdict with its sequence.
 /// Each line ends with a line feed; numbers are decimal, and names stand byte for byte.
 pub fn report(alloc: Global, outcome: &Outcome, settings: &Settings) -> Result<Text, NoMemory>
-    ensures { IfOk result (λ text. text ≡ report_text outcome.now) }
+    ensures { IfOk result (λ text. text ≡ report_text settings.now.conflicts outcome.now) }
 {
     let mut text = Vec::new(alloc);
     put_counts(alloc, &mut text, outcome)?;
     put_pairs(alloc, &mut text, outcome.pairs.as_slice())?;
-    put_verdict(alloc, &mut text, &outcome.verdict)?;
+    put_verdict(alloc, &mut text, &outcome.verdict, settings.conflicts)?;
     Ok(Seq::from_vec(text))
 }

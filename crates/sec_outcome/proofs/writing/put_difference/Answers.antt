@@ -1,7 +1,7 @@
 use Rattle.std.proofs.Common.{◌≡◌, ℕ, List, [], ◌∷◌, ◌++◌, OnOk, Result, Ok, Err, ap, ◌∙◌, sym}
 use Rattle.std.proofs.lemmas.List.{append_assoc}
-use Rattle.sec_check.specs.Report.{pair_text, values_text, stimulus_text}
-use Rattle.sec_check.proofs.writing.put_difference.Goals as goal
+use Rattle.sec_outcome.specs.Report.{pair_text, values_text}
+use Rattle.sec_outcome.proofs.writing.put_difference.Goals as goal
 
 -- four pieces that are put one behind the other
 four_pieces : (t a b c d x y z w : List ℕ) → x ≡ t ++ a → y ≡ x ++ b → z ≡ y ++ c → w ≡ z ++ d → w ≡ t ++ (a ++ b ++ c ++ d)
