@@ -2,8 +2,6 @@ pub mod Bits
 pub mod Decided
 pub mod Designs
 pub mod Evaluated
-pub mod FlatMain
-pub mod FlatSteps
 pub mod Interfaces
 pub mod LeastLeaves
 pub mod Leaves
@@ -12,6 +10,5 @@ pub mod Numbering
 pub mod Outcomes
 pub mod Paired
 pub mod Parts
-pub mod Renamed
 pub mod Results
 pub mod Shared

@@ -3,7 +3,6 @@
 
 mod comparing;
 mod evaluating;
-mod flattening;
 mod loading;
 mod numbers;
 mod outcome;
@@ -15,7 +14,8 @@ mod writing;
 
 pub use circuit_theory::Mode;
 pub use comparing::{CompareError, compare};
-pub use loading::{FlatError, LoadError, load};
+pub use flatten::FlatError;
+pub use loading::{LoadError, load};
 pub use numbers::interface;
 pub use outcome::{
     Outcome, PairName, PairResult, PairResults, Settings, Stimulus, Verdict, Witness,

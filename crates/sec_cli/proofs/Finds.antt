@@ -9,11 +9,12 @@ use Rattle.flat_net.specs.View.{NetView}
 use Rattle.sec_check.specs.declared.outcome.Outcome.{Outcome}
 use Rattle.sec_check.specs.declared.comparing.CompareError.{CompareError}
 use Rattle.sec_check.specs.declared.comparing.CompareError.TheVariants as compare_error
-use Rattle.sec_check.specs.declared.loading.FlatError.TheVariants as flat_error
+use Rattle.flat_walk.specs.declared.error.FlatError.{FlatError}
+use Rattle.flat_walk.specs.declared.error.FlatError.TheVariants as flat_error
 use Rattle.sec_check.specs.declared.loading.LoadError.{LoadError}
 use Rattle.sec_check.specs.declared.loading.LoadError.TheVariants as load_error
 use Rattle.sec_check.specs.Compared.{Compared}
-use Rattle.sec_check.specs.Loading.{Loads, LoadFails, IsTooLong, HasFault, IsUnflat}
+use Rattle.sec_check.specs.Loading.{Loads, LoadFails, IsTooLong, HasFault, HasDesignFault}
 use Rattle.sec_cli.specs.Job.{Paths}
 use Rattle.sec_cli.specs.Answer.{Held, ReadFailed}
 use Rattle.sec_cli.specs.Ends.{load_end, compare_end, Found}
@@ -33,11 +34,30 @@ left_ends held before now paths (load_error.Fetch fetch_error.TooLong) h = h
 left_ends held before now paths (load_error.Fetch fetch_error.NoMemory) h = tt
 left_ends held before now paths (load_error.Read (read_error.At line kind)) h = h
 left_ends held before now paths (load_error.Read read_error.NoMemory) h = tt
-left_ends held before now paths (load_error.Flat flat_error.NotYet) h = h
+left_ends held before now paths (load_error.Flat (flat_error.UnknownModel x)) h = h
+left_ends held before now paths (load_error.Flat (flat_error.Recursive x)) h = h
+left_ends held before now paths (load_error.Flat (flat_error.UnknownFormal x)) h = h
+left_ends held before now paths (load_error.Flat (flat_error.FormalTwice x)) h = h
+left_ends held before now paths (load_error.Flat (flat_error.OpenInput x)) h = h
+left_ends held before now paths (load_error.Flat (flat_error.TwoDrivers x)) h = h
+left_ends held before now paths (load_error.Flat (flat_error.Undriven x)) h = h
+left_ends held before now paths (load_error.Flat (flat_error.TwoClocks x)) h = h
+left_ends held before now paths (load_error.Flat (flat_error.TwoEdges x)) h = h
+left_ends held before now paths (load_error.Flat (flat_error.GatedClock x)) h = h
+left_ends held before now paths (load_error.Flat (flat_error.ClockRead x)) h = h
+left_ends held before now paths (load_error.Flat (flat_error.Loop x)) h = h
+left_ends held before now paths (load_error.Flat (flat_error.TooDeep x)) h = h
+left_ends held before now paths (load_error.Flat flat_error.TooMany) h = h
+left_ends held before now paths (load_error.Flat flat_error.LongName) h = h
 left_ends held before now paths (load_error.Flat flat_error.NoMemory) h = tt
 
 with_net : {x : List ℕ} (net : NetView) (F : List ℕ → Type 0) (y : List ℕ) → Loads x net → F y → (n : NetView) × Loads x n × F y
 with_net net F y l f = (net, l, f)
+
+-- A's file is loaded, and B's design has a fault
+faulty : (held : Held) (paths : Paths) (net : NetView) (e : FlatError) → IfSome (held paths.left) (λ x. Loads x net) → IfSome (held paths.right) (λ y. HasDesignFault y e) →
+    IfSome (held paths.left) (λ x. IfSome (held paths.right) (λ y. (n : NetView) × Loads x n × HasDesignFault y e))
+faulty held paths net e l h = both_told (held paths.left) (held paths.right) _ _ _ (λ x y. with_net net (λ text. HasDesignFault text e) y) l h
 
 -- A's file is loaded, B's isn't
 pub right_ends : (held : Held) (before now : List ℕ → ℕ) (paths : Paths) (net : NetView) (error : LoadError) →
@@ -52,7 +72,21 @@ right_ends held before now paths net (load_error.Fetch fetch_error.TooLong) l h 
 right_ends held before now paths net (load_error.Fetch fetch_error.NoMemory) l h = tt
 right_ends held before now paths net (load_error.Read (read_error.At line kind)) l h = both_told (held paths.left) (held paths.right) _ _ _ (λ x y. with_net net (λ text. HasFault text line kind) y) l h
 right_ends held before now paths net (load_error.Read read_error.NoMemory) l h = tt
-right_ends held before now paths net (load_error.Flat flat_error.NotYet) l h = both_told (held paths.left) (held paths.right) _ _ _ (λ x y. with_net net IsUnflat y) l h
+right_ends held before now paths net (load_error.Flat (flat_error.UnknownModel x)) l h = faulty held paths net (flat_error.UnknownModel x) l h
+right_ends held before now paths net (load_error.Flat (flat_error.Recursive x)) l h = faulty held paths net (flat_error.Recursive x) l h
+right_ends held before now paths net (load_error.Flat (flat_error.UnknownFormal x)) l h = faulty held paths net (flat_error.UnknownFormal x) l h
+right_ends held before now paths net (load_error.Flat (flat_error.FormalTwice x)) l h = faulty held paths net (flat_error.FormalTwice x) l h
+right_ends held before now paths net (load_error.Flat (flat_error.OpenInput x)) l h = faulty held paths net (flat_error.OpenInput x) l h
+right_ends held before now paths net (load_error.Flat (flat_error.TwoDrivers x)) l h = faulty held paths net (flat_error.TwoDrivers x) l h
+right_ends held before now paths net (load_error.Flat (flat_error.Undriven x)) l h = faulty held paths net (flat_error.Undriven x) l h
+right_ends held before now paths net (load_error.Flat (flat_error.TwoClocks x)) l h = faulty held paths net (flat_error.TwoClocks x) l h
+right_ends held before now paths net (load_error.Flat (flat_error.TwoEdges x)) l h = faulty held paths net (flat_error.TwoEdges x) l h
+right_ends held before now paths net (load_error.Flat (flat_error.GatedClock x)) l h = faulty held paths net (flat_error.GatedClock x) l h
+right_ends held before now paths net (load_error.Flat (flat_error.ClockRead x)) l h = faulty held paths net (flat_error.ClockRead x) l h
+right_ends held before now paths net (load_error.Flat (flat_error.Loop x)) l h = faulty held paths net (flat_error.Loop x) l h
+right_ends held before now paths net (load_error.Flat (flat_error.TooDeep x)) l h = faulty held paths net (flat_error.TooDeep x) l h
+right_ends held before now paths net (load_error.Flat flat_error.TooMany) l h = faulty held paths net flat_error.TooMany l h
+right_ends held before now paths net (load_error.Flat flat_error.LongName) l h = faulty held paths net flat_error.LongName l h
 right_ends held before now paths net (load_error.Flat flat_error.NoMemory) l h = tt
 
 -- both files are loaded and compared

@@ -16,8 +16,7 @@ use Rattle.sec_check.specs.declared.outcome.Outcome.{Outcome}
 use Rattle.sec_check.specs.declared.outcome.Witness.{Witness}
 use Rattle.sec_check.specs.declared.comparing.CompareError.TheVariants as compare_error
 use Rattle.sec_check.specs.Compared.{Compared}
-use Rattle.sec_check.specs.FlatModel.{is_flat}
-use Rattle.sec_check.specs.Loading.{Loads, IsTooLong, HasFault, IsUnflat, SpellsCircuit}
+use Rattle.sec_check.specs.Loading.{Loads, IsTooLong, HasFault, HasDesignFault, SpellsCircuit}
 use Rattle.sec_check.specs.Report.{report_text}
 use Rattle.sec_check.specs.Shown.{MakesDiffer}
 use Rattle.sec_cli.specs.declared.finding.Refusal.{Refusal}
@@ -50,7 +49,7 @@ OfNets held paths P = OfTexts held paths (λ x y. (a : NetView) × (b : NetView)
 abbrev pub IsRefusal : Held → Paths → Refusal → Type 0
 IsRefusal held paths (refusal.TooLong side) = OfSide held paths side IsTooLong
 IsRefusal held paths (refusal.Text side line kind) = OfSide held paths side (λ x. HasFault x line kind)
-IsRefusal held paths (refusal.Form side) = OfSide held paths side IsUnflat
+IsRefusal held paths (refusal.Design side fault) = OfSide held paths side (λ x. HasDesignFault x fault)
 IsRefusal held paths (refusal.Interface name) = OfNets held paths (λ a b. Compared a b (Err (compare_error.Interface name)))
 IsRefusal held paths (refusal.Latches side) = OfNets held paths (λ a b. Compared a b (Err (compare_error.NotYet side)))
 IsRefusal held paths (refusal.Wide inputs) = OfNets held paths (λ a b. Compared a b (Err (compare_error.Wide inputs)))

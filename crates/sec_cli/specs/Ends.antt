@@ -7,7 +7,8 @@ use Rattle.blif_read.specs.declared.error.ReadError.TheVariants as read_error
 use Rattle.sec_check.specs.declared.outcome.Outcome.{Outcome}
 use Rattle.sec_check.specs.declared.comparing.CompareError.{CompareError}
 use Rattle.sec_check.specs.declared.comparing.CompareError.TheVariants as compare_error
-use Rattle.sec_check.specs.declared.loading.FlatError.TheVariants as flat_error
+use Rattle.flat_walk.specs.declared.error.FlatError.{FlatError}
+use Rattle.flat_walk.specs.declared.error.FlatError.TheVariants as flat_error
 use Rattle.sec_check.specs.declared.loading.LoadError.{LoadError}
 use Rattle.sec_check.specs.declared.loading.LoadError.TheVariants as load_error
 use Rattle.sec_cli.specs.declared.finding.Refusal.TheVariants as refusal
@@ -21,6 +22,11 @@ use Rattle.sec_cli.specs.Answer.{Held, IsFinding, ReadFailed, status_of}
 use Rattle.sec_cli.specs.Job.{Paths}
 use Rattle.sec_cli.specs.Lines.{finding_text}
 
+-- what is found where the design of a side isn't flattened
+abbrev pub flatten_end : Side → FlatError → Result Finding Stop
+flatten_end side flat_error.NoMemory = Err stop.NoMemory
+flatten_end side fault = Ok (finding.Refused (refusal.Design side fault))
+
 -- what is found where the file of a side isn't loaded
 abbrev pub load_end : Side → LoadError → Result Finding Stop
 load_end side (load_error.Fetch fetch_error.Failed) = Err stop.ReadFault
@@ -28,8 +34,7 @@ load_end side (load_error.Fetch fetch_error.TooLong) = Ok (finding.Refused (refu
 load_end side (load_error.Fetch fetch_error.NoMemory) = Err stop.NoMemory
 load_end side (load_error.Read (read_error.At line kind)) = Ok (finding.Refused (refusal.Text side line kind))
 load_end side (load_error.Read read_error.NoMemory) = Err stop.NoMemory
-load_end side (load_error.Flat flat_error.NotYet) = Ok (finding.Refused (refusal.Form side))
-load_end side (load_error.Flat flat_error.NoMemory) = Err stop.NoMemory
+load_end side (load_error.Flat error) = flatten_end side error
 
 -- what is found by a comparison
 abbrev pub compare_end : Result Outcome CompareError → Result Finding Stop

@@ -2,7 +2,7 @@
 
 use blif_read::ReadKind;
 use sec_base::{Side, Word};
-use sec_check::Outcome;
+use sec_check::{FlatError, Outcome};
 
 /// Why a job ends without an answer.
 #[derive(Debug, Drop)]
@@ -11,8 +11,8 @@ pub enum Refusal {
     TooLong(Side),
     /// The first faulty line of a text, and what is wrong with it.
     Text(Side, u32, ReadKind),
-    /// The main model isn't of the form that is built.
-    Form(Side),
+    /// The first fault of a design.
+    Design(Side, FlatError),
     /// The first name that one circuit has and the other lacks.
     Interface(Word),
     /// The circuit has a latch, for which no comparison is built.

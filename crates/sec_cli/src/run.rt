@@ -30,8 +30,8 @@ fn load_end(side: Side, error: LoadError) -> Result<Finding, Stop>
             Ok(Finding::Refused(Refusal::Text(side, line, kind)))
         }
         LoadError::Read(ReadError::NoMemory) => Err(Stop::NoMemory),
-        LoadError::Flat(FlatError::NotYet) => Ok(Finding::Refused(Refusal::Form(side))),
         LoadError::Flat(FlatError::NoMemory) => Err(Stop::NoMemory),
+        LoadError::Flat(error) => Ok(Finding::Refused(Refusal::Design(side, error))),
     }
 }
 

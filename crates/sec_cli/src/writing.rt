@@ -2,13 +2,13 @@
 
 ghost use Rattle.std.specs.Prelude.{◌≡◌, ℕ, List, [], ◌∷◌, ◌++◌, codes, OnOk, IfOk};
 ghost use Rattle.std.specs.Fmt.{decimal};
-ghost use Rattle.sec_check.specs.Report.{report_text};
-ghost use Rattle.sec_cli.specs.Lines.{side_word, kind_text, refusal_text, finding_text};
+ghost use Rattle.sec_check.specs.Report.{names_text, report_text};
+ghost use Rattle.sec_cli.specs.Lines.{side_word, kind_text, design_fault_text, refusal_text, finding_text};
 
 use crate::finding::{Finding, Refusal};
 use blif_read::ReadKind;
-use sec_base::{NoMemory, Seq, Side, Text, put, put_number};
-use sec_check::{Settings, report};
+use sec_base::{NoMemory, Seq, Side, Text, Words, put, put_number};
+use sec_check::{FlatError, Settings, report};
 use std::alloc::Global;
 
 /// Puts the word behind what stands before it in the line.
@@ -49,6 +49,43 @@ fn put_kind(text: &mut Vec<u8>, kind: &ReadKind) -> Result<(), NoMemory>
     }
 }
 
+/// Puts each name behind a blank.
+fn put_names(text: &mut Vec<u8>, names: &Words) -> Result<(), NoMemory>
+    ensures { OnOk result (text.new.items ≡ text.old.items ++ names_text names.now) }
+{
+    for name in names.as_slice() {
+        put(text, b" ")?;
+        put(text, name.as_slice())?;
+    }
+    Ok(())
+}
+
+fn put_design_fault(text: &mut Vec<u8>, fault: &FlatError) -> Result<(), NoMemory>
+    ensures { OnOk result (text.new.items ≡ text.old.items ++ design_fault_text fault.now) }
+{
+    match fault {
+        FlatError::UnknownModel(name) => put_behind(text, b"UnknownModel ", name.as_slice()),
+        FlatError::Recursive(name) => put_behind(text, b"Recursive ", name.as_slice()),
+        FlatError::UnknownFormal(name) => put_behind(text, b"UnknownFormal ", name.as_slice()),
+        FlatError::FormalTwice(name) => put_behind(text, b"FormalTwice ", name.as_slice()),
+        FlatError::OpenInput(name) => put_behind(text, b"OpenInput ", name.as_slice()),
+        FlatError::TwoDrivers(name) => put_behind(text, b"TwoDrivers ", name.as_slice()),
+        FlatError::Undriven(name) => put_behind(text, b"Undriven ", name.as_slice()),
+        FlatError::TwoClocks(name) => put_behind(text, b"TwoClocks ", name.as_slice()),
+        FlatError::TwoEdges(name) => put_behind(text, b"TwoEdges ", name.as_slice()),
+        FlatError::GatedClock(name) => put_behind(text, b"GatedClock ", name.as_slice()),
+        FlatError::ClockRead(name) => put_behind(text, b"ClockRead ", name.as_slice()),
+        FlatError::Loop(names) => {
+            put(text, b"Loop")?;
+            put_names(text, names)
+        }
+        FlatError::TooDeep(name) => put_behind(text, b"TooDeep ", name.as_slice()),
+        FlatError::TooMany => put(text, b"TooMany"),
+        FlatError::LongName => put(text, b"LongName"),
+        FlatError::NoMemory => put(text, b"NoMemory"),
+    }
+}
+
 fn put_side(text: &mut Vec<u8>, side: Side) -> Result<(), NoMemory>
     ensures { OnOk result (text.new.items ≡ text.old.items ++ codes "refused " ++ side_word side) }
 {
@@ -82,9 +119,11 @@ fn put_refusal(alloc: Global, text: &mut Vec<u8>, refusal: &Refusal) -> Result<(
             put(text, b" TooLong\n")
         }
         Refusal::Text(side, line, kind) => put_fault(alloc, text, *side, *line, kind),
-        Refusal::Form(side) => {
+        Refusal::Design(side, fault) => {
             put_side(text, *side)?;
-            put(text, b" NotYet\n")
+            put(text, b" ")?;
+            put_design_fault(text, fault)?;
+            put(text, b"\n")
         }
         Refusal::Latches(side) => {
             put_side(text, *side)?;
