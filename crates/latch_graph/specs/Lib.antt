@@ -1,3 +1,5 @@
 pub mod Graph
 pub mod Settling
+pub mod Kept
 pub mod Weight
+pub mod Rounds

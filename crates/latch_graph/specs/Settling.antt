@@ -120,3 +120,4 @@ pub record IsGivenUp (way : List Step) (count : ℕ) (old new : List State) : Ty
   pub endless : (i : ℕ) (step : Step) → i < count → slice_get way i ≡ Some step → slice_get new step.signal ≡ Some Endless
   pub kept : (s : ℕ) (st : State) → slice_get old s ≡ Some st → (slice_get new s ≡ Some st) ⊎ ((i : ℕ) × (step : Step) × (slice_get way i ≡ Some step) × (step.signal ≡ s))
   pub from : (s : ℕ) (st : State) → slice_get new s ≡ Some st → (slice_get old s ≡ Some st) ⊎ (st ≡ Endless)
+  pub fewer : new_count new ≤ new_count old

@@ -1,14 +1,17 @@
 //! The latch graph.
 
-ghost use Rattle.std.specs.Prelude.{◌≡◌, ◌<◌, ◌≤◌, length, map, false, All, IfOk, IfSome, IfNone};
+ghost use Rattle.std.specs.Prelude.{◌≡◌, ℕ, ◌<◌, length, map, slice_get, Some, false, All, IfOk, IfSome, IfNone};
 ghost use Rattle.circuit_theory.specs.Run.{NoneEnabled};
 ghost use Rattle.circuit_theory.specs.Depth.{IsDepth, HasNoDepth, HasCycle, IsCycle, BeginsWithLeast};
 ghost use Rattle.flat_net.specs.View.{NetView, circuit_of};
-ghost use Rattle.latch_graph.specs.Graph.{GraphView, IsGraphOf, marked_names, signals_at};
+ghost use Rattle.latch_graph.specs.Graph.{AreNodes, IsGraphOf, marked_names, signals_at};
+ghost use Rattle.latch_graph.specs.Settling.{IsSettled};
 ghost use Rattle.latch_graph.specs.Weight.{Weighs};
 
-use crate::nodes::Node;
-use crate::weighing::Weight;
+use crate::nodes::{Node, copy_latches, nodes_of};
+use crate::rounds::find_cycle;
+use crate::settling::{State, all_new, settled_from};
+use crate::weighing::{Weight, weigh};
 use flat_net::{LatchAt, Net, Signal, Signals};
 use sec_base::{Bits, Ids, NoMemory};
 use std::alloc::Global;
@@ -21,15 +24,18 @@ use std::marker::Model;
 pub struct LatchGraph {
     nodes: Vec<Node>,
     latches: Vec<LatchAt>,
-    depths: Vec<Option<u32>>,
+    states: Vec<State>,
 }
 
 impl Model for LatchGraph {
     ghost use Rattle.latch_graph.specs.Graph.{GraphView};
+    ghost use Rattle.latch_graph.specs.Kept.{IsKept};
 
     ghost Value = { GraphView };
 
     ghost view = { λ g. record { nodes = g.nodes.items; latches = g.latches.items } };
+
+    ghost invariant = { λ g. IsKept g.nodes.items g.latches.items g.states.items };
 }
 
 impl LatchGraph {
@@ -39,7 +45,42 @@ impl LatchGraph {
         requires plain { All (λ bit. bit ≡ false) skip_self.now }
         ensures { IfOk result (IsGraphOf net.now) }
     {
-        Err(NoMemory)
+        net.keeps();
+        let nodes = nodes_of(alloc, net)?;
+        let latches = copy_latches(alloc, net.latches())?;
+        let states = all_new(alloc, nodes.len())?;
+        let states = settled_from(alloc, nodes.as_slice(), states)?;
+        Ok(LatchGraph {
+            nodes,
+            latches,
+            states,
+        })
+    }
+
+    /// Tells a proof what each graph keeps. It does nothing.
+    pub fn keeps(&self)
+        ensures { AreNodes self.now.nodes self.now.latches }
+    {
+        let _ = &self.nodes;
+    }
+
+    fn nodes(&self) -> &[Node]
+        ensures { result.now ≡ self.now.nodes }
+    {
+        self.nodes.as_slice()
+    }
+
+    fn latches(&self) -> &[LatchAt]
+        ensures { result.now ≡ self.now.latches }
+    {
+        self.latches.as_slice()
+    }
+
+    fn states(&self) -> &[State]
+        ensures settled { IsSettled self.now.nodes result.now }
+        ensures whole { (s : ℕ) → slice_get result.now s ≡ Some State.Removed → ⊥ }
+    {
+        self.states.as_slice()
     }
 
     /// The sequential depth of the signal: the greatest number of latches on a way back. None exactly where the cone
@@ -49,7 +90,8 @@ impl LatchGraph {
         ensures depth { IfSome result (λ d. (n : NetView) → IsGraphOf n self.now → IsDepth (circuit_of n) NoneEnabled s.0 d) }
         ensures none { IfNone result ((n : NetView) → IsGraphOf n self.now → HasNoDepth (circuit_of n) NoneEnabled s.0) }
     {
-        None
+        let states = self.states();
+        states[s.0 as usize].known()
     }
 
     /// A cycle of the graph without the removed latches, as latch positions: each latch is read by the next, the last
@@ -62,7 +104,9 @@ impl LatchGraph {
         ensures cycle { IfOk result (λ found. IfSome found (λ ids. (n : NetView) → IsGraphOf n self.now → IsCycle (circuit_of n) NoneEnabled (marked_names self.now.latches removed.now) (signals_at self.now.latches ids))) }
         ensures least { IfOk result (λ found. IfSome found (λ ids. (n : NetView) → IsGraphOf n self.now → BeginsWithLeast (circuit_of n) (signals_at self.now.latches ids))) }
     {
-        Err(NoMemory)
+        self.keeps();
+        let found = find_cycle(alloc, self.nodes(), self.latches(), removed.as_slice())?;
+        Ok(found)
     }
 
     /// The weight of the unfoldings of these signals: the sum over the distinct pairs of a signal and a number of
@@ -73,6 +117,6 @@ impl LatchGraph {
         requires within { All (λ s. s.0 < length net.now.drivers) outputs.now }
         ensures { IfOk result (Weighs (circuit_of net.now) (map (λ s. s.0) outputs.now) cap) }
     {
-        Err(NoMemory)
+        weigh(alloc, self.nodes(), net, outputs.as_slice(), cap)
     }
 }

@@ -3,6 +3,7 @@
 
 mod graph;
 mod nodes;
+mod rounds;
 mod settling;
 mod weighing;
 

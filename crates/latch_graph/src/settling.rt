@@ -1,8 +1,9 @@
 //! The depths of all signals, by walks back through what they read.
 
-ghost use Rattle.std.specs.Prelude.{◌≡◌, ℕ, ◌+◌, ◌*◌, ◌^◌, ◌<◌, ◌≤◌, [], ◌∷◌, ◌++◌, length, slice_get, slice_set, Some, OnOk, IfSome, IfNone, is_some, vec_len};
+ghost use Rattle.std.specs.Prelude.{◌≡◌, ℕ, ◌+◌, ◌*◌, ◌^◌, ◌<◌, ◌≤◌, [], ◌∷◌, ◌++◌, true, false, length, slice_get, slice_set, Some, OnOk, IfOk, IfSome, IfNone, is_some};
 ghost use Rattle.flat_net.specs.declared.signals.Signal.{Signal};
 ghost use Rattle.latch_graph.specs.declared.nodes.Node.{Node};
+ghost use Rattle.latch_graph.specs.declared.settling.State.{State};
 ghost use Rattle.latch_graph.specs.Settling.{HasDepth, IsGreatest, IsDepthOf, IsFirst, IsSettled, SameRemoved, IsLater, IsGivenUp, Leads, new_count, IsWay, depth_of};
 
 use crate::nodes::Node;
@@ -31,8 +32,33 @@ pub struct Step {
     pub read: usize,
 }
 
+/// States of so many new signals.
+pub(crate) fn all_new(alloc: Global, count: usize) -> Result<Vec<State>, NoMemory>
+    ensures size { IfOk result (λ states. length states.items ≡ count) }
+    ensures new { IfOk result (λ states. (s : ℕ) (st : State) → slice_get states.items s ≡ Some st → st ≡ State.New) }
+{
+    let mut states = Vec::new(alloc);
+    for _i in 0..count {
+        states.push(State::New)?;
+    }
+    Ok(states)
+}
+
+/// The states with the depth of each new signal, or that it leads back to a cycle.
+pub(crate) fn settled_from(alloc: Global, nodes: &[Node], mut states: Vec<State>) -> Result<Vec<State>, NoMemory>
+    requires few { length nodes.now < 2 ^ 32 }
+    requires within { (s k : ℕ) (node : Node) (r : Signal) → slice_get nodes.now s ≡ Some node → slice_get node.reads k ≡ Some r → r.0 < length nodes.now }
+    requires size { length states.items ≡ length nodes.now }
+    requires first { (s : ℕ) (st : State) → slice_get states.items s ≡ Some st → IsFirst st }
+    ensures settled { IfOk result (λ made. IsSettled nodes.now made.items) }
+    ensures removed { IfOk result (λ made. SameRemoved states.items made.items) }
+{
+    settle(alloc, nodes, states.as_mut_slice())?;
+    Ok(states)
+}
+
 /// Finds the depth of each new signal, or that it leads back to a cycle.
-pub(crate) fn settle(alloc: Global, nodes: &[Node], states: &mut [State]) -> Result<(), NoMemory>
+fn settle(alloc: Global, nodes: &[Node], states: &mut [State]) -> Result<(), NoMemory>
     requires few { length nodes.now < 2 ^ 32 }
     requires within { (s k : ℕ) (node : Node) (r : Signal) → slice_get nodes.now s ≡ Some node → slice_get node.reads k ≡ Some r → r.0 < length nodes.now }
     requires size { length states.old ≡ length nodes.now }
@@ -58,7 +84,7 @@ fn settle_from(nodes: &[Node], states: &mut [State], way: &mut Vec<Step>, root: 
     ensures later { OnOk result (IsLater states.old states.new) }
     ensures root { OnOk result (slice_get states.new root ≡ Some State.New → ⊥) }
 {
-    if !matches!(states[root as usize], State::New) {
+    if !states[root as usize].is_new() {
         return Ok(());
     }
     open(states, way, root)?;
@@ -73,7 +99,6 @@ fn open(states: &mut [State], way: &mut Vec<Step>, signal: u32) -> Result<(), No
     requires { signal < length states.old }
     ensures states { OnOk result (states.new ≡ slice_set states.old signal State.Open) }
     ensures way { OnOk result (way.new.items ≡ way.old.items ++ record { signal = signal; read = 0 } ∷ []) }
-    ensures len { OnOk result (vec_len way.new ≡ vec_len way.old + 1) }
 {
     way.push(Step { signal, read: 0 })?;
     states[signal as usize] = State::Open;
@@ -87,7 +112,7 @@ fn take_step(nodes: &[Node], states: &mut [State], way: &mut Vec<Step>, step: St
     requires way { IsWay nodes.now states.old (way.old.items ++ step ∷ []) }
     ensures way { OnOk result (IsWay nodes.now states.new way.new.items) }
     ensures later { OnOk result (IsLater states.old states.new) }
-    ensures nearer { OnOk result (vec_len way.new + 2 * new_count states.new ≤ vec_len way.old + 2 * new_count states.old) }
+    ensures nearer { OnOk result (length way.new.items + 2 * new_count states.new ≤ length way.old.items + 2 * new_count states.old) }
 {
     let node = &nodes[step.signal as usize];
     let reads = node.reads.as_slice();
@@ -112,14 +137,15 @@ fn wait_for(nodes: &[Node], states: &mut [State], way: &mut Vec<Step>, signal: u
     requires signal { signal < length nodes.now }
     requires way { IsWay nodes.now states.old way.old.items }
     requires unknown { (d : ℕ) → HasDepth states.old signal d → ⊥ }
-    requires leads { (a : Step) (i : ℕ) → i + 1 ≡ vec_len way.old → slice_get way.old.items i ≡ Some a → Leads nodes.now a (record { signal = signal; read = 0 }) }
-    requires some { 0 < vec_len way.old }
+    requires leads { (a : Step) (i : ℕ) → i + 1 ≡ length way.old.items → slice_get way.old.items i ≡ Some a → Leads nodes.now a (record { signal = signal; read = 0 }) }
+    requires some { 0 < length way.old.items }
     ensures way { OnOk result (IsWay nodes.now states.new way.new.items) }
     ensures later { OnOk result (IsLater states.old states.new) }
-    ensures nearer { OnOk result (vec_len way.new + 2 * new_count states.new + 1 ≤ vec_len way.old + 2 * new_count states.old) }
+    ensures nearer { OnOk result (length way.new.items + 2 * new_count states.new + 1 ≤ length way.old.items + 2 * new_count states.old) }
 {
-    if matches!(states[signal as usize], State::New) {
-        open(states, way, signal)
+    if states[signal as usize].is_new() {
+        open(states, way, signal)?;
+        Ok(())
     } else {
         give_up(states, way);
         Ok(())
@@ -129,7 +155,7 @@ fn wait_for(nodes: &[Node], states: &mut [State], way: &mut Vec<Step>, signal: u
 /// All signals on the way lead back to a cycle.
 fn give_up(states: &mut [State], way: &mut Vec<Step>)
     requires { (i : ℕ) (step : Step) → slice_get way.old.items i ≡ Some step → step.signal < length states.old }
-    ensures states { IsGivenUp way.old.items (vec_len way.old) states.old states.new }
+    ensures states { IsGivenUp way.old.items (length way.old.items) states.old states.new }
     ensures way { way.new.items ≡ [] }
 {
     for step in way.iter() {
@@ -170,12 +196,40 @@ fn greatest(reads: &[Signal], states: &[State]) -> u32
 {
     let mut most = 0;
     for signal in reads.iter() {
-        most = most.max(states[signal.0 as usize].depth());
+        let depth = states[signal.0 as usize].depth();
+        if most < depth {
+            most = depth;
+        }
     }
     most
 }
 
 impl State {
+    fn is_new(self) -> bool
+        ensures yes { result ≡ true → self ≡ State.New }
+        ensures not { result ≡ false → self ≡ State.New → ⊥ }
+    {
+        matches!(self, State::New)
+    }
+
+    /// The depth that was found.
+    pub(crate) fn known(self) -> Option<u32>
+        ensures some { IfSome result (λ d. self ≡ State.Known d) }
+        ensures none { IfNone result ((d : ℕ) → self ≡ State.Known d → ⊥) }
+    {
+        match self {
+            State::Known(depth) => Some(depth),
+            _ => None,
+        }
+    }
+
+    pub(crate) fn is_endless(self) -> bool
+        ensures yes { result ≡ true → self ≡ State.Endless }
+        ensures not { result ≡ false → self ≡ State.Endless → ⊥ }
+    {
+        matches!(self, State::Endless)
+    }
+
     fn has_depth(self) -> bool
         ensures { result ≡ is_some (depth_of self) }
     {

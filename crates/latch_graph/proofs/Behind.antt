@@ -1,0 +1,124 @@
+-- The latches behind a signal that leads back to a cycle, the removed ones, and the one with the least name.
+use Rattle.std.proofs.Common.{◌≡◌, ◌≢◌, ℕ, ◌+◌, ◌<◌, ◌≤◌, Bool, true, false, List, [], ◌∷◌, length, Option, Some, None, refl, sym, ◌∙◌, ap, subst, arith, inl, inr, get_or}
+use Rattle.std.specs.Prelude.{◌⊎◌, slice_get, if◌then◌else◌}
+use Rattle.std.proofs.Math.ListN.{set}
+use Rattle.std.proofs.lemmas.Option.{slice_get_within, slice_get-get_or, get_or_from_slice_get}
+use Rattle.flat_net.specs.declared.signals.Signal.{Signal}
+use Rattle.flat_net.specs.declared.parts.LatchAt.{LatchAt}
+use Rattle.flat_net.specs.View.{NetView, circuit_of}
+use Rattle.flat_net.specs.Cut.{no_latch}
+use Rattle.flat_net.proofs.Places.{one_at}
+use Rattle.circuit_theory.specs.Circuit.{Circuit, Reads, Reaches}
+use Rattle.circuit_theory.specs.Names.{ListBefore}
+use Rattle.circuit_theory.proofs.Sums.{same_or_not}
+use Rattle.latch_graph.specs.declared.nodes.Node.{Node}
+use Rattle.latch_graph.specs.declared.settling.State.{State}
+use Rattle.latch_graph.specs.declared.settling.State.TheVariants.{New, Endless, Removed}
+use Rattle.latch_graph.specs.Graph.{AreNodes}
+use Rattle.latch_graph.specs.Settling.{IsTable, SameRemoved}
+use Rattle.latch_graph.specs.Rounds.{latch_in, IsEndless, AreRemoved}
+use Rattle.latch_graph.proofs.Tables.{set_same, set_other, set_cases}
+use Rattle.latch_graph.proofs.Depths.{only_at}
+use Rattle.latch_graph.proofs.Before.{before_self, before_after}
+use Rattle.latch_graph.proofs.Turns.{IsWithout}
+
+pub reach_more : {c : Circuit ℕ} {p q r : ℕ} → Reaches c p q → Reads c q r → Reaches c p r
+reach_more Reaches.here reads = Reaches.there reads Reaches.here
+reach_more (Reaches.there first rest) reads = Reaches.there first (reach_more rest reads)
+
+-- the latch of an endless signal
+pub endless_latch : (nodes : List Node) (latches : List LatchAt) (states : List State) → AreNodes nodes latches → (s j : ℕ) (node : Node) → slice_get nodes s ≡ Some node → node.latch ≡ Some j → slice_get states s ≡ Some Endless →
+    IsEndless latches states j × ((latch_in latches j).out.0 ≡ s)
+endless_latch nodes latches states are s j node at named h =
+    let l = are.latch s j node at named in
+    let same : latch_in latches j ≡ l.0 = get_or_from_slice_get latches j l.0 no_latch l.1 in
+    let out : (latch_in latches j).out.0 ≡ s = ap (λ (z : LatchAt). z.out.0) same ∙ l.2 in
+    (record { within = slice_get_within latches j l.0 l.1; endless = subst (λ z. slice_get states z ≡ Some Endless) (sym out) h }, out)
+
+-- what an endless latch takes over is endless
+pub next_endless : (nodes : List Node) (latches : List LatchAt) (states : List State) → AreNodes nodes latches → IsTable nodes states → (j : ℕ) → IsEndless latches states j → (l : LatchAt) → slice_get latches j ≡ Some l →
+    slice_get states l.next.0 ≡ Some Endless
+next_endless nodes latches states are table j e l at =
+    let same : latch_in latches j ≡ l = get_or_from_slice_get latches j l no_latch at in
+    let node = are.out j l at in
+    let back = are.latch l.out.0 j node.0 node.1 node.2 in
+    let one : back.0 ≡ l = one_at latches j back.0 l back.1 at in
+    let reads = table.right l.out.0 node.0 Endless node.1 (subst (λ (z : LatchAt). slice_get states z.out.0 ≡ Some Endless) same e.endless) in
+    let next : back.0.next ≡ reads.1 = only_at node.0.reads back.0.next reads.0 reads.1 back.3 reads.2 in
+    subst (λ (z : LatchAt). slice_get states z.next.0 ≡ Some Endless) one (subst (λ (z : Signal). slice_get states z.0 ≡ Some Endless) (sym next) reads.3)
+
+-- at first no latch is removed
+pub removed_none : (latches : List LatchAt) (bits : List Bool) (states : List State) → ((s : ℕ) (st : State) → slice_get states s ≡ Some st → st ≡ New) → AreRemoved latches bits 0 states
+removed_none latches bits states new = record { from = λ s st h. inl (new s st h); marked = λ j l m. absurd (omega (arith, m)) }
+
+-- one latch more, removed or not
+pub removed_more : (latches : List LatchAt) (bits : List Bool) (j : ℕ) (states states' : List State) (l : LatchAt) (b : Bool) → AreRemoved latches bits j states → slice_get latches j ≡ Some l → slice_get bits j ≡ Some b → l.out.0 < length states →
+    states' ≡ (if b then set states l.out.0 Removed else states) → AreRemoved latches bits (j + 1) states'
+removed_more latches bits j states states' l false r at bit inside e = subst (λ z. AreRemoved latches bits (j + 1) z) (sym e) (record { from = r.from; marked = λ i k m h b. marked i k h b m (same_or_not i j) })
+  where
+    marked : (i : ℕ) (k : LatchAt) → slice_get latches i ≡ Some k → slice_get bits i ≡ Some true → i < j + 1 → (i ≡ j) ⊎ (i ≢ j) → slice_get states k.out.0 ≡ Some Removed
+    marked i k h b m (inl q) = absurd (differ (sym (subst (λ z. slice_get bits z ≡ Some true) q b) ∙ bit))
+      where
+        differ : ◌≡◌ {A = Option Bool} (Some true) (Some false) → ⊥
+        differ x = cc
+    marked i k h b m (inr n) = r.marked i k (omega (arith, m, n)) h b
+removed_more latches bits j states states' l true r at bit inside e =
+    subst (λ z. AreRemoved latches bits (j + 1) z) (sym e) (record { from = λ s st h. from s st (set_cases states l.out.0 s Removed st h); marked = λ i k m h b. marked i k h b m (same_or_not i j) (same_or_not k.out.0 l.out.0) })
+  where
+    from : (s : ℕ) (st : State) → ((s ≡ l.out.0) × (Removed ≡ st)) ⊎ ((s ≢ l.out.0) × (slice_get states s ≡ Some st)) →
+        (st ≡ New) ⊎ ((st ≡ Removed) × (i : ℕ) × (k : LatchAt) × (slice_get latches i ≡ Some k) × (slice_get bits i ≡ Some true) × (k.out.0 ≡ s))
+    from s st (inl x) = inr (sym x.1, j, l, at, bit, sym x.0)
+    from s st (inr x) = r.from s st x.1
+
+    here : slice_get (set states l.out.0 Removed) l.out.0 ≡ Some Removed
+    here = set_same states l.out.0 (get_or states l.out.0 New) Removed (slice_get-get_or states l.out.0 New inside)
+
+    marked : (i : ℕ) (k : LatchAt) → slice_get latches i ≡ Some k → slice_get bits i ≡ Some true → i < j + 1 → (i ≡ j) ⊎ (i ≢ j) → (k.out.0 ≡ l.out.0) ⊎ (k.out.0 ≢ l.out.0) → slice_get (set states l.out.0 Removed) k.out.0 ≡ Some Removed
+    marked i k h b m q (inl o) = subst (λ z. slice_get (set states l.out.0 Removed) z ≡ Some Removed) (sym o) here
+    marked i k h b m (inl q) (inr o) = absurd (o (ap (λ (z : LatchAt). z.out.0) (one_at latches j k l (subst (λ z. slice_get latches z ≡ Some k) q h) at)))
+    marked i k h b m (inr n) (inr o) = set_other states l.out.0 k.out.0 Removed Removed o (r.marked i k (omega (arith, m, n)) h b)
+
+-- the removed latches of a settled table
+pub without_is : (latches : List LatchAt) (bits : List Bool) (first states : List State) → AreRemoved latches bits (length latches) first → SameRemoved first states → IsWithout latches bits states
+without_is latches bits first states r same = record {
+  were = λ s h. were s (r.from s Removed (same.were s h));
+  marked = λ j l h b. same.stay l.out.0 (r.marked j l (slice_get_within latches j l h) h b);
+}
+  where
+    were : (s : ℕ) → (Removed ≡ New) ⊎ ((Removed ≡ Removed) × (j : ℕ) × (l : LatchAt) × (slice_get latches j ≡ Some l) × (slice_get bits j ≡ Some true) × (l.out.0 ≡ s)) →
+        (j : ℕ) × (l : LatchAt) × (slice_get latches j ≡ Some l) × (slice_get bits j ≡ Some true) × (l.out.0 ≡ s)
+    were s (inl e) = absurd (differ e)
+      where
+        differ : Removed ≡ New → ⊥
+        differ x = cc
+    were s (inr x) = (x.1, x.2, x.3, x.4, x.5)
+
+-- none of the first so many latches of the round has a name before that of the best
+abbrev pub IsLeastBefore : List LatchAt → List ℕ → ℕ → ℕ → Type 0
+IsLeastBefore latches round i best = (m j x : ℕ) → m < i → slice_get round m ≡ Some j → slice_get round best ≡ Some x → ListBefore (latch_in latches j).name (latch_in latches x).name → ⊥
+
+pub least_same : (latches : List LatchAt) (round : List ℕ) (i best y z : ℕ) → IsLeastBefore latches round i best → slice_get round i ≡ Some y → slice_get round best ≡ Some z →
+    (ListBefore (latch_in latches y).name (latch_in latches z).name → ⊥) → IsLeastBefore latches round (i + 1) best
+least_same latches round i best y z least at there not m j x l h k before = go (same_or_not m i)
+  where
+    go : (m ≡ i) ⊎ (m ≢ i) → ⊥
+    go (inr n) = least m j x (omega (arith, l, n)) h k before
+    go (inl e) =
+        let one : j ≡ y = one_at round i j y (subst (λ w. slice_get round w ≡ Some j) e h) at in
+        let two : x ≡ z = one_at round best x z k there in
+        not (subst (λ w. ListBefore (latch_in latches y).name (latch_in latches w).name) two (subst (λ w. ListBefore (latch_in latches w).name (latch_in latches x).name) one before))
+
+pub least_more : (latches : List LatchAt) (round : List ℕ) (i best y z : ℕ) → IsLeastBefore latches round i best → slice_get round i ≡ Some y → slice_get round best ≡ Some z →
+    ListBefore (latch_in latches y).name (latch_in latches z).name → IsLeastBefore latches round (i + 1) i
+least_more latches round i best y z least at there first m j x l h k before = go (same_or_not m i)
+  where
+    two : x ≡ y
+    two = one_at round i x y k at
+
+    go : (m ≡ i) ⊎ (m ≢ i) → ⊥
+    go (inr n) =
+        least m j z (omega (arith, l, n)) h there
+        (before_after (latch_in latches j).name (latch_in latches y).name (latch_in latches z).name (subst (λ w. ListBefore (latch_in latches j).name (latch_in latches w).name) two before) first)
+    go (inl e) =
+        let one : j ≡ y = one_at round i j y (subst (λ w. slice_get round w ≡ Some j) e h) at in
+        before_self (latch_in latches y).name (subst (λ w. ListBefore (latch_in latches y).name (latch_in latches w).name) two (subst (λ w. ListBefore (latch_in latches w).name (latch_in latches x).name) one before))

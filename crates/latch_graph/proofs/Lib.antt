@@ -1,0 +1,9 @@
+pub mod Tables
+pub mod Ways
+pub mod Depths
+pub mod Reading
+pub mod Weights
+pub mod Before
+pub mod Trails
+pub mod Turns
+pub mod Behind

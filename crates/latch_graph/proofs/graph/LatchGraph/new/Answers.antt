@@ -1,0 +1,31 @@
+use Rattle.std.proofs.Common.{◌≡◌, ◌<◌, ℕ, List, Some, length, slice_get, subst, sym, ap, ◌∙◌, refl, arith}
+use Rattle.flat_net.specs.declared.parts.LatchAt.{LatchAt}
+use Rattle.latch_graph.specs.declared.nodes.Node.{Node}
+use Rattle.latch_graph.specs.declared.settling.State.{State}
+use Rattle.latch_graph.specs.declared.settling.State.TheVariants.{New, Removed}
+use Rattle.latch_graph.specs.Graph.{GraphView, IsGraphOf, AreNodes}
+use Rattle.latch_graph.specs.Settling.{IsFirst, IsSettled}
+use Rattle.latch_graph.proofs.Depths.{kept_nodes}
+use Rattle.latch_graph.proofs.graph.LatchGraph.new.Goals as goal
+
+pub settled_from-requires-clause-within : goal.settled_from-requires-clause-within
+settled_from-requires-clause-within c =
+    let g : GraphView = record { nodes = c.in_ok-nodes.nodes.items; latches = c.args.net.now.latches } in
+    let of : IsGraphOf c.args.net.now g = record { sound = c.keeps.ensures.sound; size = c.in_ok-nodes.ensures.size; nodes = c.in_ok-nodes.ensures.nodes; latches = refl } in
+    let kept : AreNodes c.in_ok-nodes.nodes.items c.args.net.now.latches = kept_nodes c.args.net.now g of in
+    subst (λ (z : List Node). (s k : ℕ) (node : Node) (r : _) → slice_get z s ≡ Some node → slice_get node.reads k ≡ Some r → r.0 < length z) (sym c.as_slice.ensures.value) kept.within
+
+pub invariant_of-result : goal.invariant_of-result
+invariant_of-result c =
+    let g : GraphView = record { nodes = c.in_ok-nodes.nodes.items; latches = c.args.net.now.latches } in
+    let of : IsGraphOf c.args.net.now g = record { sound = c.keeps.ensures.sound; size = c.in_ok-nodes.ensures.size; nodes = c.in_ok-nodes.ensures.nodes; latches = refl } in
+    let kept : AreNodes c.in_ok-nodes.nodes.items c.args.net.now.latches = kept_nodes c.args.net.now g of in
+    let same : c.in_ok-latches.latches.items ≡ c.args.net.now.latches = c.in_ok-latches.ensures ∙ c.latches.ensures in
+    record {
+      right = subst (λ (z : List LatchAt). AreNodes c.in_ok-nodes.nodes.items z) (sym same) kept;
+      settled = subst (λ (z : List Node). IsSettled z c.in_ok-states-2.states.items) c.as_slice.ensures.value c.in_ok-states-2.ensures.settled;
+      whole = λ s h. removed_new (c.in_ok-states.ensures.new s Removed (c.in_ok-states-2.ensures.removed.were s h));
+    }
+  where
+    removed_new : Removed ≡ New → ⊥
+    removed_new e = cc
