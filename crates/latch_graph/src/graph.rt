@@ -112,7 +112,13 @@ impl LatchGraph {
     /// The weight of the unfoldings of these signals: the sum over the distinct pairs of a signal and a number of
     /// cycles that they visit, where an input or a latch counts 1 and a gate 1 + rows * (fan-ins + 1), a cover without
     /// rows as one row. `Over` comes exactly where it is above the cap.
-    pub fn weight(&self, alloc: Global, net: &Net, outputs: &Signals, cap: u32) -> Result<Weight, NoMemory>
+    pub fn weight(
+        &self,
+        alloc: Global,
+        net: &Net,
+        outputs: &Signals,
+        cap: u32,
+    ) -> Result<Weight, NoMemory>
         requires graph { IsGraphOf net.now self.now }
         requires within { All (λ s. s.0 < length net.now.drivers) outputs.now }
         ensures { IfOk result (Weighs (circuit_of net.now) (map (λ s. s.0) outputs.now) cap) }

@@ -22,7 +22,12 @@ use std::alloc::Global;
 
 /// A cycle without the removed latches, if one is left: each latch is read by the next, the last by the first, and the
 /// first has the least name.
-pub(crate) fn find_cycle(alloc: Global, nodes: &[Node], latches: &[LatchAt], removed: &[bool]) -> Result<Option<Ids>, NoMemory>
+pub(crate) fn find_cycle(
+    alloc: Global,
+    nodes: &[Node],
+    latches: &[LatchAt],
+    removed: &[bool],
+) -> Result<Option<Ids>, NoMemory>
     requires nodes { AreNodes nodes.now latches.now }
     requires bits { length removed.now ≡ length latches.now }
     ensures none { IfOk result (λ found. IfNone found ((n : NetView) → IsGraphOf n (record { nodes = nodes.now; latches = latches.now }) → HasCycle (circuit_of n) NoneEnabled (marked_names latches.now removed.now) → ⊥)) }
@@ -42,7 +47,12 @@ pub(crate) fn find_cycle(alloc: Global, nodes: &[Node], latches: &[LatchAt], rem
 }
 
 /// The first states: the latches with a set bit are removed.
-fn first_states(alloc: Global, nodes: &[Node], latches: &[LatchAt], removed: &[bool]) -> Result<Vec<State>, NoMemory>
+fn first_states(
+    alloc: Global,
+    nodes: &[Node],
+    latches: &[LatchAt],
+    removed: &[bool],
+) -> Result<Vec<State>, NoMemory>
     requires nodes { AreNodes nodes.now latches.now }
     requires bits { length removed.now ≡ length latches.now }
     ensures size { IfOk result (λ states. length states.items ≡ length nodes.now) }
@@ -90,7 +100,13 @@ fn first_endless(states: &[State]) -> Option<u32>
 
 /// A round of latches behind a signal that leads back to a cycle: each is read by the next, the last by the first, and
 /// the first has the least name.
-fn round_behind(alloc: Global, nodes: &[Node], latches: &[LatchAt], states: &[State], signal: u32) -> Result<Ids, NoMemory>
+fn round_behind(
+    alloc: Global,
+    nodes: &[Node],
+    latches: &[LatchAt],
+    states: &[State],
+    signal: u32,
+) -> Result<Ids, NoMemory>
     requires nodes { AreNodes nodes.now latches.now }
     requires settled { IsSettled nodes.now states.now }
     requires endless { slice_get states.now signal ≡ Some State.Endless }
@@ -138,7 +154,13 @@ fn endless_read(node: &Node, states: &[State]) -> u32
 }
 
 /// The round to which the way back from the latch leads, each latch before those that it waits for.
-fn round_from(alloc: Global, nodes: &[Node], latches: &[LatchAt], states: &[State], start: u32) -> Result<Vec<u32>, NoMemory>
+fn round_from(
+    alloc: Global,
+    nodes: &[Node],
+    latches: &[LatchAt],
+    states: &[State],
+    start: u32,
+) -> Result<Vec<u32>, NoMemory>
     requires nodes { AreNodes nodes.now latches.now }
     requires settled { IsSettled nodes.now states.now }
     requires start { IsEndless latches.now states.now start }
@@ -222,7 +244,11 @@ fn place_back(count: usize, first: usize, i: usize) -> usize
     ensures within { result < count }
     ensures place { ((i ≤ first) × (result ≡ first - i)) ⊎ ((first < i) × (result ≡ count + first - i)) }
 {
-    if i <= first { first - i } else { count + first - i }
+    if i <= first {
+        first - i
+    } else {
+        count + first - i
+    }
 }
 
 /// The place of a latch whose name isn't behind another one's of the round.

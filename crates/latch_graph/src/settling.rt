@@ -45,7 +45,11 @@ pub(crate) fn all_new(alloc: Global, count: usize) -> Result<Vec<State>, NoMemor
 }
 
 /// The states with the depth of each new signal, or that it leads back to a cycle.
-pub(crate) fn settled_from(alloc: Global, nodes: &[Node], mut states: Vec<State>) -> Result<Vec<State>, NoMemory>
+pub(crate) fn settled_from(
+    alloc: Global,
+    nodes: &[Node],
+    mut states: Vec<State>,
+) -> Result<Vec<State>, NoMemory>
     requires few { length nodes.now < 2 ^ 32 }
     requires within { (s k : ℕ) (node : Node) (r : Signal) → slice_get nodes.now s ≡ Some node → slice_get node.reads k ≡ Some r → r.0 < length nodes.now }
     requires size { length states.items ≡ length nodes.now }
@@ -73,7 +77,12 @@ fn settle(alloc: Global, nodes: &[Node], states: &mut [State]) -> Result<(), NoM
     Ok(())
 }
 
-fn settle_from(nodes: &[Node], states: &mut [State], way: &mut Vec<Step>, root: u32) -> Result<(), NoMemory>
+fn settle_from(
+    nodes: &[Node],
+    states: &mut [State],
+    way: &mut Vec<Step>,
+    root: u32,
+) -> Result<(), NoMemory>
     requires few { length nodes.now < 2 ^ 32 }
     requires within { (s k : ℕ) (node : Node) (r : Signal) → slice_get nodes.now s ≡ Some node → slice_get node.reads k ≡ Some r → r.0 < length nodes.now }
     requires root { root < length nodes.now }
@@ -106,7 +115,12 @@ fn open(states: &mut [State], way: &mut Vec<Step>, signal: u32) -> Result<(), No
 }
 
 /// Goes on from the last step of the way: to a signal that it waits for, or back from it.
-fn take_step(nodes: &[Node], states: &mut [State], way: &mut Vec<Step>, step: Step) -> Result<(), NoMemory>
+fn take_step(
+    nodes: &[Node],
+    states: &mut [State],
+    way: &mut Vec<Step>,
+    step: Step,
+) -> Result<(), NoMemory>
     requires few { length nodes.now < 2 ^ 32 }
     requires within { (s k : ℕ) (node : Node) (r : Signal) → slice_get nodes.now s ≡ Some node → slice_get node.reads k ≡ Some r → r.0 < length nodes.now }
     requires way { IsWay nodes.now states.old (way.old.items ++ step ∷ []) }
@@ -133,7 +147,12 @@ fn take_step(nodes: &[Node], states: &mut [State], way: &mut Vec<Step>, step: St
 
 /// Goes on to a signal without depth that the last step of the way reads; gives the way up where the signal leads back
 /// to a cycle.
-fn wait_for(nodes: &[Node], states: &mut [State], way: &mut Vec<Step>, signal: u32) -> Result<(), NoMemory>
+fn wait_for(
+    nodes: &[Node],
+    states: &mut [State],
+    way: &mut Vec<Step>,
+    signal: u32,
+) -> Result<(), NoMemory>
     requires signal { signal < length nodes.now }
     requires way { IsWay nodes.now states.old way.old.items }
     requires unknown { (d : ℕ) → HasDepth states.old signal d → ⊥ }

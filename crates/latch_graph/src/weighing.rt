@@ -22,7 +22,13 @@ pub enum Weight {
 }
 
 /// The weight of the unfoldings of these outputs, by the nodes of the net.
-pub(crate) fn weigh(alloc: Global, nodes: &[Node], net: &Net, outputs: &[Signal], cap: u32) -> Result<Weight, NoMemory>
+pub(crate) fn weigh(
+    alloc: Global,
+    nodes: &[Node],
+    net: &Net,
+    outputs: &[Signal],
+    cap: u32,
+) -> Result<Weight, NoMemory>
     requires graph { IsGraphOf net.now (record { nodes = nodes.now; latches = net.now.latches }) }
     requires within { (k : ℕ) (r : Signal) → slice_get outputs.now k ≡ Some r → r.0 < length net.now.drivers }
     ensures { IfOk result (Weighs (circuit_of net.now) (map (λ s. s.0) outputs.now) cap) }
@@ -59,7 +65,14 @@ fn place_at(places: &IndexSet<(u32, u32)>, at: usize) -> (u32, u32)
 }
 
 /// Adds what a place reads, a latch's in the cycle before.
-fn meet_reads(nodes: &[Node], net: &Net, places: &mut IndexSet<(u32, u32)>, place: (u32, u32), total: u32, cap: u32) -> Result<Option<u32>, NoMemory>
+fn meet_reads(
+    nodes: &[Node],
+    net: &Net,
+    places: &mut IndexSet<(u32, u32)>,
+    place: (u32, u32),
+    total: u32,
+    cap: u32,
+) -> Result<Option<u32>, NoMemory>
     requires graph { IsGraphOf net.now (record { nodes = nodes.now; latches = net.now.latches }) }
     requires within { place.0 < length net.now.drivers }
     requires early { place.1 + 1 ≤ length places.old.keys }
@@ -81,11 +94,22 @@ fn back(node: &Node, shift: u32) -> u32
     requires { shift + 1 < 2 ^ 32 }
     ensures { result ≡ shift + step_of node.now.latch }
 {
-    if node.latch.is_some() { shift + 1 } else { shift }
+    if node.latch.is_some() {
+        shift + 1
+    } else {
+        shift
+    }
 }
 
 /// Adds these signals, so many cycles ago. Gives the new sum of the weights; None exactly where it is above the cap.
-fn meet_all(net: &Net, places: &mut IndexSet<(u32, u32)>, reads: &[Signal], shift: u32, total: u32, cap: u32) -> Result<Option<u32>, NoMemory>
+fn meet_all(
+    net: &Net,
+    places: &mut IndexSet<(u32, u32)>,
+    reads: &[Signal],
+    shift: u32,
+    total: u32,
+    cap: u32,
+) -> Result<Option<u32>, NoMemory>
     requires within { (k : ℕ) (r : Signal) → slice_get reads.now k ≡ Some r → r.0 < length net.now.drivers }
     requires early { shift ≤ length places.old.keys }
     requires low { total ≤ cap }
@@ -107,7 +131,13 @@ fn meet_all(net: &Net, places: &mut IndexSet<(u32, u32)>, reads: &[Signal], shif
 }
 
 /// Adds a signal so many cycles ago, if it isn't there yet.
-fn meet(net: &Net, places: &mut IndexSet<(u32, u32)>, place: (u32, u32), total: u32, cap: u32) -> Result<Option<u32>, NoMemory>
+fn meet(
+    net: &Net,
+    places: &mut IndexSet<(u32, u32)>,
+    place: (u32, u32),
+    total: u32,
+    cap: u32,
+) -> Result<Option<u32>, NoMemory>
     requires place { place.0 < length net.now.drivers }
     requires low { total ≤ cap }
     ensures { IfOk result (Meeting net.now places.old.keys places.new.keys place total cap) }
@@ -143,13 +173,7 @@ fn heavier(net: &Net, s: Signal, total: u32, cap: u32) -> Option<u32>
             let fanins = gate.fanins.as_slice().len();
             added_to(total, at_least_one(rows), fanins + 1, cap)
         }
-        _ => {
-            if total < cap {
-                Some(total + 1)
-            } else {
-                None
-            }
-        }
+        _ => { if total < cap { Some(total + 1) } else { None } }
     }
 }
 

@@ -37,6 +37,9 @@ returns-in_ok-push-in-Latch c = λ d h.
     let x = c.keeps.ensures.sound.drivers c.args.s.0 (driver.Latch c.in-Latch.j) c.in-Latch.ensures in
     let l : c.in-Latch.j < length c.latches.result.now = omega (arith, slice_get_within c.args.net.now.latches c.in-Latch.j x.0 x.1, ap length c.latches.ensures) in
     let at = slice_get_read c.latches.result.now (length c.latches.result.now) c.in-Latch.j c.index-latches-j.result refl l c.index-latches-j.is in
-    subst (λ z. IsNodeOf c.args.net.now z (record { reads = c.push.new.self; latch = Some c.in-Latch.j })) (one_at c.args.net.now.drivers c.args.s.0 (driver.Latch c.in-Latch.j) d c.in-Latch.ensures h)
-    (c.index-latches-j.result, subst (λ (z : List LatchAt). slice_get z c.in-Latch.j ≡ Some c.index-latches-j.result) c.latches.ensures at,
-    c.in_ok-push-in-Latch.ensures.ok ∙ ap (λ (z : LatchAt). c.new-reads.result ++ z.next ∷ []) (sym c.index-latches-j.is) ∙ ap (λ (z : List Signal). z ++ c.index-latches-j.result.next ∷ []) c.new-reads.ensures, refl)
+    subst (λ z. IsNodeOf c.args.net.now z (record { reads = c.push.new.self; latch = Some c.in-Latch.j })) (one_at c.args.net.now.drivers c.args.s.0 (driver.Latch c.in-Latch.j) d c.in-Latch.ensures h) (
+      c.index-latches-j.result,
+      subst (λ (z : List LatchAt). slice_get z c.in-Latch.j ≡ Some c.index-latches-j.result) c.latches.ensures at,
+      c.in_ok-push-in-Latch.ensures.ok ∙ ap (λ (z : LatchAt). c.new-reads.result ++ z.next ∷ []) (sym c.index-latches-j.is) ∙ ap (λ (z : List Signal). z ++ c.index-latches-j.result.next ∷ []) c.new-reads.ensures,
+      refl,
+    )

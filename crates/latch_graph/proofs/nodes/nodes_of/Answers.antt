@@ -15,10 +15,11 @@ loop-s-preserved c = record {
 }
   where
     right : (s : ℕ) (d : Driver) → slice_get c.args.net.now.drivers s ≡ Some d → s < c.loop-s.s + 1 → (s ≡ c.loop-s.s) ⊎ (s ≢ c.loop-s.s) → (x : Node) × (slice_get c.push.new.self.items s ≡ Some x) × IsNodeOf c.args.net.now d x
-    right s d h l (inl e) =
-        (c.in_ok-node_of.field-0,
-        subst (λ (z : List Node). slice_get z s ≡ Some c.in_ok-node_of.field-0) (sym c.in_ok-push.ensures.items) (slice_get-push c.loop-s.nodes.items c.in_ok-node_of.field-0 s (omega (arith, e, c.loop-s.invariant.size))),
-        c.in_ok-node_of.ensures d (subst (λ z. slice_get c.args.net.now.drivers z ≡ Some d) e h))
+    right s d h l (inl e) = (
+      c.in_ok-node_of.field-0,
+      subst (λ (z : List Node). slice_get z s ≡ Some c.in_ok-node_of.field-0) (sym c.in_ok-push.ensures.items) (slice_get-push c.loop-s.nodes.items c.in_ok-node_of.field-0 s (omega (arith, e, c.loop-s.invariant.size))),
+      c.in_ok-node_of.ensures d (subst (λ z. slice_get c.args.net.now.drivers z ≡ Some d) e h),
+    )
     right s d h l (inr n) =
         let x = c.loop-s.invariant.right s d (omega (arith, l, n)) h in
         (x.0, subst (λ (z : List Node). slice_get z s ≡ Some x.0) (sym c.in_ok-push.ensures.items) (slice_get-append c.loop-s.nodes.items (c.in_ok-node_of.field-0 ∷ []) s x.0 x.1), x.2)

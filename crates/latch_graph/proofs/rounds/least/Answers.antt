@@ -10,12 +10,12 @@ loop-i-preserved c =
     let at = slice_get-get_or c.args.round.now i 0 c.loop-i-test.true in
     let there = slice_get-get_or c.args.round.now c.loop-i.best 0 c.loop-i.invariant.within in
     elim c.if-is_named_before.branch [
-      then-is_named_before w ↦ record {
+      | then-is_named_before w ↦ record {
         within = subst (λ z. z < length c.args.round.now) (sym w.best-is) c.loop-i-test.true;
         least = subst (λ z. IsLeastBefore c.args.latches.now c.args.round.now (i + 1) z) (sym w.best-is)
             (least_more c.args.latches.now c.args.round.now i c.loop-i.best _ _ c.loop-i.invariant.least at there (c.is_named_before.ensures.yes w.if-is_named_before.true));
       }
-    | else-is_named_before w ↦ record {
+      | else-is_named_before w ↦ record {
         within = subst (λ z. z < length c.args.round.now) (sym w.best-is) c.loop-i.invariant.within;
         least = subst (λ z. IsLeastBefore c.args.latches.now c.args.round.now (i + 1) z) (sym w.best-is)
             (least_same c.args.latches.now c.args.round.now i c.loop-i.best _ _ c.loop-i.invariant.least at there (c.is_named_before.ensures.no w.if-is_named_before.false));

@@ -16,10 +16,10 @@ loop-signal-preserved c =
     let r : Signal = get_or c.args.reads.now i (record { 0 = 0 }) in
     let e = told_depth c.args.states.now r.0 New c.depth-depth.result (c.requires i r at) c.depth-depth.ensures in
     elim c.if-most-depth.branch [
-      then-most-depth w ↦ subst (λ m. IsGreatestBefore c.args.states.now c.args.reads.now (i + 1) m) (sym w.most-is)
-        (greatest_more c.args.states.now c.args.reads.now i c.loop-signal.most c.depth-depth.result r c.loop-signal.invariant at e w.if-most-depth.true)
-    | else-most-depth w ↦ subst (λ m. IsGreatestBefore c.args.states.now c.args.reads.now (i + 1) m) (sym w.most-is)
-        (greatest_same c.args.states.now c.args.reads.now i c.loop-signal.most c.depth-depth.result r c.loop-signal.invariant at e w.if-most-depth.false)
+      | then-most-depth w ↦ subst (λ m. IsGreatestBefore c.args.states.now c.args.reads.now (i + 1) m) (sym w.most-is)
+          (greatest_more c.args.states.now c.args.reads.now i c.loop-signal.most c.depth-depth.result r c.loop-signal.invariant at e w.if-most-depth.true)
+      | else-most-depth w ↦ subst (λ m. IsGreatestBefore c.args.states.now c.args.reads.now (i + 1) m) (sym w.most-is)
+          (greatest_same c.args.states.now c.args.reads.now i c.loop-signal.most c.depth-depth.result r c.loop-signal.invariant at e w.if-most-depth.false)
     ]
 
 pub returns : goal.returns

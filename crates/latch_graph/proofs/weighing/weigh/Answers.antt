@@ -79,10 +79,11 @@ loop-at-preserved c = record {
 pub returns : goal.returns
 returns c =
     let outputs = map (λ (s : Signal). s.0) c.args.outputs.now in
-    let g : GraphView = record { nodes = c.args.nodes.now; latches = c.args.net.now.latches } in
-    (is_weight c.args.net.now c.keeps.ensures.sound outputs c.loop-at.places.keys c.loop-at.total c.loop-at.invariant.met g c.requires.graph c.loop-at.invariant.roots
-    (λ p h node at k r reads.
-    let place = at_of c.loop-at.places.keys p h in
-    let l = slice_get_within c.loop-at.places.keys place.0 p place.1 in
-    c.loop-at.invariant.closed place.0 p (omega (arith, l, c.loop-at-test.false, c.place_count.ensures)) place.1 node k r at reads),
-    c.loop-at.invariant.low)
+    let g : GraphView = record { nodes = c.args.nodes.now; latches = c.args.net.now.latches } in (
+      is_weight c.args.net.now c.keeps.ensures.sound outputs c.loop-at.places.keys c.loop-at.total c.loop-at.invariant.met g c.requires.graph c.loop-at.invariant.roots
+          (λ p h node at k r reads.
+          let place = at_of c.loop-at.places.keys p h in
+          let l = slice_get_within c.loop-at.places.keys place.0 p place.1 in
+          c.loop-at.invariant.closed place.0 p (omega (arith, l, c.loop-at-test.false, c.place_count.ensures)) place.1 node k r at reads),
+      c.loop-at.invariant.low,
+    )
