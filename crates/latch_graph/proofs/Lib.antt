@@ -7,3 +7,4 @@ pub mod Before
 pub mod Trails
 pub mod Turns
 pub mod Behind
+pub mod NoDepth
