@@ -1,18 +1,17 @@
 -- What a settled table says of the net: depths, and that there is none.
-use Rattle.std.proofs.Common.{◌≡◌, ◌≢◌, ℕ, zero, suc, ◌+◌, ◌<◌, ◌≤◌, max, List, [], ◌∷◌, ◌++◌, length, map, Option, Some, None, refl, sym, ◌∙◌, ap, subst, arith, inl, inr}
+use Rattle.std.proofs.Common.{◌≡◌, ℕ, zero, suc, ◌+◌, ◌<◌, ◌≤◌, max, List, [], ◌∷◌, length, map, Option, Some, None, refl, sym, ◌∙◌, ap, subst, arith, inl, inr}
 use Rattle.std.specs.Prelude.{◌⊎◌, slice_get, IfSome, IfNone}
 use Rattle.std.specs.List.{Contains}
 use Rattle.flat_net.specs.declared.signals.Signal.{Signal}
-use Rattle.flat_net.specs.declared.parts.Port.{Port}
 use Rattle.flat_net.specs.declared.parts.Gate.{Gate}
 use Rattle.flat_net.specs.declared.parts.LatchAt.{LatchAt}
 use Rattle.flat_net.specs.declared.parts.Driver.{Driver}
 use Rattle.flat_net.specs.declared.parts.Driver.TheVariants as driver
 use Rattle.flat_net.specs.View.{NetView, circuit_of, cover_of, named}
-use Rattle.flat_net.specs.Sound.{IsSound, Drives}
+use Rattle.flat_net.specs.Sound.{Drives}
 use Rattle.flat_net.proofs.Places.{one_at, All-at}
 use Rattle.flat_net.proofs.Nets.{some_at, gate_stands, latch_stands, input_stands, sound_is_net}
-use Rattle.circuit_theory.specs.Circuit.{Circuit, Equation, Gate as gate_equation, IsInput, IsLatch, Reads, Reaches, IsSource}
+use Rattle.circuit_theory.specs.Circuit.{Gate as gate_equation, IsInput, IsLatch, Reads}
 use Rattle.circuit_theory.specs.Run.{NoneEnabled}
 use Rattle.circuit_theory.specs.Depth.{ChainFrom, IsDepth, HasNoDepth}
 use Rattle.circuit_theory.specs.Tree.{Tree, Trees, Leaf, Branch, Nil, Cons, Unfolds, UnfoldsAll}
@@ -27,7 +26,7 @@ use Rattle.latch_graph.specs.declared.settling.State.TheVariants.{New, Open, Kno
 use Rattle.std.proofs.lemmas.Option.{slice_get_within}
 use Rattle.latch_graph.proofs.Tables.{one_depth}
 use Rattle.latch_graph.specs.Graph.{GraphView, IsNodeOf, IsGraphOf, AreNodes}
-use Rattle.latch_graph.specs.Settling.{HasDepth, IsGreatest, IsDepthOf, ReadsEndless, IsRight, IsTable, IsSettled, depth_of, step_of}
+use Rattle.latch_graph.specs.Settling.{HasDepth, IsDepthOf, ReadsEndless, IsTable, IsSettled, depth_of, step_of}
 
 -- What drives a signal of the net, with its node.
 pub data Driven (n : NetView) (s : ℕ) (node : Node) : Type 0 where

@@ -1,10 +1,9 @@
 -- How a trail of latches goes on, and the round at its end.
-use Rattle.std.proofs.Common.{◌≡◌, ◌≢◌, ℕ, zero, suc, ◌+◌, ◌-◌, ◌<◌, ◌≤◌, Bool, true, false, List, [], ◌∷◌, ◌++◌, length, drop, Option, Some, None, refl, sym, ◌∙◌, ap, subst, arith, inl, inr, get_or, ◌==◌}
+use Rattle.std.proofs.Common.{◌≡◌, ◌≢◌, ℕ, zero, suc, ◌+◌, ◌-◌, ◌<◌, ◌≤◌, Bool, true, false, List, [], ◌∷◌, ◌++◌, length, drop, Option, Some, refl, sym, ◌∙◌, ap, subst, arith, inl, inr, ◌==◌}
 use Rattle.std.specs.Prelude.{◌⊎◌, slice_get, if◌then◌else◌}
 use Rattle.std.proofs.Math.ListN.{set}
 use Rattle.std.proofs.lemmas.List.{length-set, length-drop}
 use Rattle.std.proofs.lemmas.Option.{slice_get_within}
-use Rattle.sec_base.specs.Table.{AreDistinct}
 use Rattle.flat_net.specs.declared.parts.LatchAt.{LatchAt}
 use Rattle.flat_net.proofs.Places.{one_at}
 use Rattle.flat_net.proofs.Growth.{slice_get-append, slice_get-push, slice_get-push_cases, length-push}
@@ -14,7 +13,7 @@ use Rattle.circuit_theory.proofs.Sums.{same_or_not}
 use Rattle.circuit_theory.proofs.Inputs.{test_same, test_refl}
 use Rattle.latch_graph.specs.declared.nodes.Node.{Node}
 use Rattle.latch_graph.specs.declared.settling.State.{State}
-use Rattle.latch_graph.specs.Rounds.{IsEndless, TakesOver, IsTrail, IsRound, latch_in}
+use Rattle.latch_graph.specs.Rounds.{IsEndless, TakesOver, IsTrail, IsRound}
 use Rattle.latch_graph.proofs.Tables.{set_same, set_other, set_cases}
 
 true_false : ◌≡◌ {A = Option Bool} (Some true) (Some false) → ⊥

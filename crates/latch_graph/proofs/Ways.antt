@@ -1,5 +1,5 @@
 -- How a way of open signals goes on.
-use Rattle.std.proofs.Common.{◌≡◌, ◌≢◌, ℕ, zero, suc, ◌+◌, ◌*◌, ◌<◌, ◌≤◌, List, [], ◌∷◌, ◌++◌, length, Option, Some, None, refl, sym, ◌∙◌, ap, subst, arith, inl, inr, get_or}
+use Rattle.std.proofs.Common.{◌≡◌, ◌≢◌, ℕ, ◌+◌, ◌<◌, ◌≤◌, List, [], ◌∷◌, ◌++◌, length, Option, Some, None, refl, sym, ◌∙◌, ap, subst, arith, inl, inr}
 use Rattle.std.specs.Prelude.{◌⊎◌, slice_get}
 use Rattle.std.proofs.Math.ListN.{set}
 use Rattle.std.proofs.lemmas.List.{length-set}
@@ -14,7 +14,7 @@ use Rattle.latch_graph.specs.declared.nodes.Node.{Node}
 use Rattle.latch_graph.specs.declared.settling.State.{State}
 use Rattle.latch_graph.specs.declared.settling.State.TheVariants.{New, Open, Known, Endless, Removed}
 use Rattle.latch_graph.specs.declared.settling.Step.{Step}
-use Rattle.latch_graph.specs.Settling.{HasDepth, IsGreatest, IsDepthOf, ReadsEndless, IsRight, IsTable, IsStep, IsWay, Leads, IsLater, SameRemoved, IsGivenUp, IsFirst, IsFinal, IsSettled, depth_of, step_of, is_new, new_count}
+use Rattle.latch_graph.specs.Settling.{HasDepth, IsGreatest, IsDepthOf, ReadsEndless, IsRight, IsTable, IsStep, IsWay, Leads, IsLater, IsGivenUp, IsFirst, IsFinal, IsSettled, depth_of, step_of, is_new, new_count}
 use Rattle.latch_graph.proofs.Tables.{set_same, set_other, set_cases, new_count-set, Keeps, keeps_right, set_keeps}
 
 -- setting a state that isn't final, to one that isn't new

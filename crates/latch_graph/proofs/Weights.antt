@@ -1,10 +1,9 @@
 -- What the places that are met say of the weight.
-use Rattle.std.proofs.Common.{◌≡◌, ◌≢◌, ℕ, zero, suc, ◌+◌, ◌*◌, ◌<◌, ◌≤◌, max, List, [], ◌∷◌, ◌++◌, length, map, Option, Some, None, refl, sym, ◌∙◌, ap, subst, arith, inl, inr, add-zero, add-one, get_or}
-use Rattle.std.specs.Prelude.{◌⊎◌, ◌↔◌, slice_get, IfSome, IfNone}
+use Rattle.std.proofs.Common.{◌≡◌, ◌≢◌, ℕ, suc, ◌+◌, ◌*◌, ◌<◌, ◌≤◌, max, List, [], ◌∷◌, ◌++◌, length, map, Option, Some, None, refl, sym, ◌∙◌, ap, subst, arith, inl, inr, get_or}
+use Rattle.std.specs.Prelude.{◌⊎◌, slice_get, IfSome, IfNone}
 use Rattle.std.specs.List.{Contains, AllPairs, sum_by}
 use Rattle.std.proofs.lemmas.List.Sums.{sum_by-cons, sum_by-append}
 use Rattle.std.proofs.lemmas.Option.{slice_get_within, slice_get-get_or}
-use Rattle.sec_base.specs.Table.{AreDistinct}
 use Rattle.flat_net.specs.declared.signals.Signal.{Signal}
 use Rattle.flat_net.specs.declared.parts.Gate.{Gate}
 use Rattle.flat_net.specs.declared.parts.Driver.{Driver}
@@ -15,7 +14,7 @@ use Rattle.flat_net.proofs.Places.{one_at, cover_of-is}
 use Rattle.flat_net.proofs.Growth.{slice_get-append, slice_get-push, slice_get-push_cases, length-push}
 use Rattle.flat_net.proofs.Nets.{some_at, gate_stands, latch_stands, input_stands}
 use Rattle.circuit_theory.specs.Cover.{Cover}
-use Rattle.circuit_theory.specs.Circuit.{Circuit, Gate as gate_equation, IsLatch, Reads}
+use Rattle.circuit_theory.specs.Circuit.{Gate as gate_equation, IsLatch, Reads}
 use Rattle.circuit_theory.specs.Sizes.{WeighsAt, Weighed, Visits, IsWeight, IsOver}
 use Rattle.circuit_theory.proofs.Lists.{Contains-map, Contains-map_from, at_of, of_at}
 use Rattle.circuit_theory.proofs.Designs.{map_at}

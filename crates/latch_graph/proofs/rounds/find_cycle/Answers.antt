@@ -1,4 +1,4 @@
-use Rattle.std.proofs.Common.{◌≡◌, ◌<◌, ℕ, List, slice_get, get_or, Some, length, subst, arith}
+use Rattle.std.proofs.Common.{◌≡◌, ℕ, List, slice_get, get_or, Some, subst}
 use Rattle.std.proofs.lemmas.Option.{slice_get-get_or}
 use Rattle.latch_graph.specs.declared.settling.State.{State}
 use Rattle.latch_graph.specs.declared.settling.State.TheVariants.{Endless}

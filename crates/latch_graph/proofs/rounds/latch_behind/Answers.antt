@@ -1,10 +1,8 @@
-use Rattle.std.proofs.Common.{◌≡◌, ◌<◌, ℕ, List, Some, slice_get, length, subst, sym, refl, arith}
+use Rattle.std.proofs.Common.{◌<◌, length, subst, sym, refl, arith}
 use Rattle.std.proofs.lemmas.Option.{slice_get_within, slice_get_read}
-use Rattle.flat_net.specs.declared.signals.Signal.{Signal}
-use Rattle.flat_net.specs.View.{NetView, circuit_of}
+use Rattle.flat_net.specs.View.{circuit_of}
 use Rattle.circuit_theory.specs.Circuit.{Reads, Reaches}
 use Rattle.latch_graph.specs.declared.settling.State.TheVariants.{Endless}
-use Rattle.latch_graph.specs.Graph.{GraphView}
 use Rattle.latch_graph.proofs.Reading.{node_reads}
 use Rattle.latch_graph.proofs.Behind.{endless_latch, reach_more}
 use Rattle.latch_graph.proofs.rounds.latch_behind.Goals as goal

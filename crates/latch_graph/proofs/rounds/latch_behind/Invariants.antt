@@ -1,4 +1,4 @@
-use Rattle.std.proofs.Common.{◌≡◌, ℕ, slice_get, Some}
+use Rattle.std.proofs.Common.{◌≡◌, slice_get, Some}
 use Rattle.flat_net.specs.View.{NetView, circuit_of}
 use Rattle.circuit_theory.specs.Circuit.{Reaches}
 use Rattle.latch_graph.specs.declared.settling.State.TheVariants.{Endless}

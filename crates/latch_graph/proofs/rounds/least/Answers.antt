@@ -1,4 +1,4 @@
-use Rattle.std.proofs.Common.{◌≡◌, ◌<◌, ◌+◌, ℕ, length, get_or, slice_get, Some, subst, sym, arith}
+use Rattle.std.proofs.Common.{◌<◌, ◌+◌, length, subst, sym, arith}
 use Rattle.std.proofs.lemmas.Option.{slice_get_within, slice_get-get_or}
 use Rattle.latch_graph.proofs.Behind.{IsLeastBefore, least_same, least_more}
 use Rattle.latch_graph.proofs.rounds.least.Goals as goal

@@ -1,4 +1,4 @@
-use Rattle.std.proofs.Common.{◌≡◌, ◌<◌, ℕ, get_or, arith}
+use Rattle.std.proofs.Common.{get_or}
 use Rattle.std.proofs.lemmas.Option.{slice_get-get_or}
 use Rattle.latch_graph.proofs.Behind.{next_endless}
 use Rattle.latch_graph.proofs.rounds.next_latch.Goals as goal

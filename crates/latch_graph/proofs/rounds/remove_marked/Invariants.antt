@@ -1,4 +1,3 @@
-use Rattle.std.proofs.Common.{◌≡◌, length}
 use Rattle.latch_graph.specs.Rounds.{AreRemoved}
 use Rattle.latch_graph.proofs.rounds.remove_marked.Given as goal
 

@@ -1,4 +1,4 @@
-use Rattle.std.proofs.Common.{◌≡◌, ◌<◌, ℕ, List, get_or, slice_get, Some, length, subst, ap, arith}
+use Rattle.std.proofs.Common.{◌≡◌, List, get_or, slice_get, Some, length, subst, ap, arith}
 use Rattle.latch_graph.specs.declared.settling.Step.{Step}
 use Rattle.latch_graph.specs.Settling.{IsGivenUp}
 use Rattle.latch_graph.proofs.Tables.{read_at}

@@ -1,7 +1,6 @@
-use Rattle.std.proofs.Common.{◌≡◌, ◌+◌, ℕ, Some, get_or, slice_get, subst, sym, arith}
+use Rattle.std.proofs.Common.{◌+◌, get_or, subst, sym}
 use Rattle.flat_net.specs.declared.signals.Signal.{Signal}
 use Rattle.latch_graph.specs.declared.settling.State.TheVariants.{New}
-use Rattle.latch_graph.specs.Settling.{HasDepth}
 use Rattle.latch_graph.proofs.Tables.{IsGreatestBefore, read_at, told_depth, greatest_none, greatest_same, greatest_more, greatest_all}
 use Rattle.latch_graph.proofs.settling.greatest.Goals as goal
 use Rattle.latch_graph.proofs.settling.greatest.Goals.{then-most-depth, else-most-depth}

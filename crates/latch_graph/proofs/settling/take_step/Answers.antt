@@ -1,12 +1,11 @@
-use Rattle.std.proofs.Common.{◌≡◌, ◌<◌, ◌≤◌, ◌+◌, ◌*◌, ℕ, List, [], ◌∷◌, ◌++◌, get_or, slice_get, Some, length, subst, sym, ap, ◌∙◌, refl, arith}
+use Rattle.std.proofs.Common.{◌≡◌, ◌<◌, ◌+◌, List, slice_get, Some, length, subst, sym, ap, refl, arith}
 use Rattle.std.proofs.Math.ListN.{set}
 use Rattle.std.proofs.lemmas.Option.{slice_get_within, slice_get_read, get_or_from_slice_get}
 use Rattle.flat_net.proofs.Places.{one_at}
 use Rattle.flat_net.specs.declared.signals.Signal.{Signal}
 use Rattle.latch_graph.specs.declared.nodes.Node.{Node}
 use Rattle.latch_graph.specs.declared.settling.State.TheVariants.{Open, Known}
-use Rattle.latch_graph.specs.declared.settling.Step.{Step}
-use Rattle.latch_graph.specs.Settling.{HasDepth, IsDepthOf, IsStep, new_count}
+use Rattle.latch_graph.specs.Settling.{HasDepth, IsDepthOf, new_count}
 use Rattle.latch_graph.proofs.Tables.{new_count-set}
 use Rattle.latch_graph.proofs.Ways.{way_along, way_waits, way_settles, set_later, depth_fits, last_step, last_passed, last_leads}
 use Rattle.latch_graph.proofs.settling.take_step.Goals as goal

@@ -1,11 +1,11 @@
-use Rattle.std.proofs.Common.{◌≡◌, ◌<◌, ◌+◌, ℕ, List, get_or, slice_get, Option, Some, length, subst, sym, ap, ◌∙◌, refl, arith}
+use Rattle.std.proofs.Common.{◌≡◌, ◌+◌, slice_get, Option, Some, length, subst, sym, ap, ◌∙◌, refl, arith}
 use Rattle.std.proofs.Math.ListN.{set}
 use Rattle.std.proofs.lemmas.Option.{slice_get_within}
 use Rattle.flat_net.proofs.Growth.{length-push}
 use Rattle.flat_net.proofs.Nets.{some_at}
-use Rattle.latch_graph.specs.declared.settling.State.TheVariants.{New, Open, Endless, Removed}
+use Rattle.latch_graph.specs.declared.settling.State.TheVariants.{New, Open}
 use Rattle.latch_graph.specs.declared.settling.State.{State}
-use Rattle.latch_graph.specs.Settling.{IsLater, new_count, is_new}
+use Rattle.latch_graph.specs.Settling.{IsLater, new_count}
 use Rattle.latch_graph.proofs.Tables.{read_at, new_count-set}
 use Rattle.latch_graph.proofs.Ways.{way_along, way_opens, way_given_up, given_up_later, set_later}
 use Rattle.latch_graph.proofs.settling.wait_for.Goals as goal

@@ -1,4 +1,4 @@
-use Rattle.std.proofs.Common.{◌≡◌, ◌<◌, ◌≤◌, ◌+◌, ℕ, List, [], ◌∷◌, ◌++◌, Some, None, get_or, slice_get, length, subst, ap, arith}
+use Rattle.std.proofs.Common.{◌≡◌, Some, get_or, slice_get, subst, arith}
 use Rattle.flat_net.specs.declared.signals.Signal.{Signal}
 use Rattle.latch_graph.specs.Weight.{Meeting}
 use Rattle.latch_graph.proofs.Tables.{read_at}

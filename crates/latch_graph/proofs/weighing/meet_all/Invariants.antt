@@ -1,4 +1,4 @@
-use Rattle.std.proofs.Common.{◌≤◌, ℕ, List, length, map}
+use Rattle.std.proofs.Common.{◌≤◌, ℕ, List, length}
 use Rattle.latch_graph.specs.Weight.{AreMet, Stay, AreVisited, AreThere}
 use Rattle.latch_graph.proofs.weighing.meet_all.Given as goal
 

@@ -1,4 +1,4 @@
-use Rattle.std.proofs.Common.{◌≡◌, ◌<◌, ◌≤◌, ◌+◌, ◌-◌, ℕ, List, map, Some, slice_get}
+use Rattle.std.proofs.Common.{◌≡◌, ◌<◌, ◌≤◌, ◌-◌, ℕ, map, Some, slice_get}
 use Rattle.std.specs.List.{Contains}
 use Rattle.latch_graph.specs.Weight.{AreMet, AreReadsThere}
 use Rattle.latch_graph.proofs.weighing.weigh.Given as goal

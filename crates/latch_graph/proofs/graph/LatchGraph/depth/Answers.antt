@@ -1,4 +1,4 @@
-use Rattle.std.proofs.Common.{◌<◌, length, arith}
+use Rattle.std.proofs.Common.{arith}
 use Rattle.latch_graph.specs.declared.settling.State.TheVariants.{New}
 use Rattle.latch_graph.proofs.Tables.{read_at}
 use Rattle.latch_graph.proofs.Depths.{tells_depth, tells_endless}

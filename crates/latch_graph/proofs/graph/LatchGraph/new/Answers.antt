@@ -1,10 +1,9 @@
-use Rattle.std.proofs.Common.{◌≡◌, ◌<◌, ℕ, List, Some, length, slice_get, subst, sym, ap, ◌∙◌, refl, arith}
+use Rattle.std.proofs.Common.{◌≡◌, ◌<◌, ℕ, List, Some, length, slice_get, subst, sym, ◌∙◌, refl}
 use Rattle.flat_net.specs.declared.parts.LatchAt.{LatchAt}
 use Rattle.latch_graph.specs.declared.nodes.Node.{Node}
-use Rattle.latch_graph.specs.declared.settling.State.{State}
 use Rattle.latch_graph.specs.declared.settling.State.TheVariants.{New, Removed}
 use Rattle.latch_graph.specs.Graph.{GraphView, IsGraphOf, AreNodes}
-use Rattle.latch_graph.specs.Settling.{IsFirst, IsSettled}
+use Rattle.latch_graph.specs.Settling.{IsSettled}
 use Rattle.latch_graph.proofs.Depths.{kept_nodes}
 use Rattle.latch_graph.proofs.graph.LatchGraph.new.Goals as goal
 
