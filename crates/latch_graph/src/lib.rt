@@ -5,6 +5,8 @@ mod graph;
 mod nodes;
 mod rounds;
 mod settling;
+#[cfg(test)]
+mod tests;
 mod weighing;
 
 pub use graph::LatchGraph;
