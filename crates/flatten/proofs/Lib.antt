@@ -9,3 +9,8 @@ pub mod Building
 pub mod Gating
 pub mod CoverNumbers
 pub mod Nexts
+pub mod DistinctLists
+pub mod MainPorts
+pub mod Drivers
+pub mod Laid
+pub mod Spots
