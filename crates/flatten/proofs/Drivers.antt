@@ -12,7 +12,7 @@ use Rattle.flat_walk.specs.declared.flat.Flat.{Flat}
 use Rattle.flat_walk.specs.declared.flat.FlatStatement.{FlatStatement}
 use Rattle.flat_walk.specs.declared.flat.FlatKind.{FlatKind}
 use Rattle.flat_walk.specs.declared.flat.FlatKind.TheVariants as kind
-use Rattle.flat_walk.specs.Flat.{statement_of, kind_of}
+use Rattle.flat_walk.specs.Flat.{statement_of, kind_of, first_of}
 use Rattle.flat_walk.specs.Within.{is_within, has_clock_within, can_read, reads_as_kind}
 use Rattle.flat_wires.specs.declared.source.Source.{Source}
 use Rattle.flat_wires.specs.declared.source.Source.TheVariants as source
@@ -33,6 +33,12 @@ one_is : (reads : List ℕ) (n : ℕ) → length reads ≡ 1 → Contains reads 
 one_is [] n one h = absurd (nothing n h)
 one_is (x ∷ []) n one h = only x n h
 one_is (x ∷ y ∷ reads) n one h = absurd (omega (arith, one))
+
+-- what is read first
+pub one_first : (reads : List ℕ) (none n : ℕ) → length reads ≡ 1 → Contains reads n → first_of none reads ≡ n
+one_first [] none n one h = absurd (nothing n h)
+one_first (x ∷ []) none n one h = only x n h
+one_first (x ∷ y ∷ reads) none n one h = absurd (omega (arith, one))
 
 one_there : (reads : List ℕ) → length reads ≡ 1 → Contains reads (slice_index reads 0)
 one_there [] one = absurd (omega (arith, one))

@@ -14,3 +14,5 @@ pub mod MainPorts
 pub mod Drivers
 pub mod Laid
 pub mod Spots
+pub mod NumberClocks
+pub mod Whole
