@@ -22,7 +22,7 @@ use Rattle.flat_wires.specs.Faults.{driven, Follows, HasNet}
 use Rattle.flat_wires.specs.Wired.{WiredView, IsWired}
 use Rattle.flat_wires.proofs.Bounds.{only, nothing}
 use Rattle.flat_wires.proofs.PortTables.{out_at, statement_at, one_place, port_there, port_statement}
-use Rattle.flat_wires.proofs.Rows.{reads_are, inputs_are, of_row, from_read}
+use Rattle.flat_wires.proofs.Rows.{reads_are, inputs_are, in_row, of_row, from_read}
 use Rattle.flatten.specs.Graph.{quick_reads, source_reads, reads_in, graph_of}
 use Rattle.flatten.specs.Order.{reads_of, IsOrder}
 use Rattle.flatten.specs.Gated.{net_or, net_of}
@@ -39,6 +39,10 @@ pub one_first : (reads : List ℕ) (none n : ℕ) → length reads ≡ 1 → Con
 one_first [] none n one h = absurd (nothing n h)
 one_first (x ∷ []) none n one h = only x n h
 one_first (x ∷ y ∷ reads) none n one h = absurd (omega (arith, one))
+
+pub first_there : (none : ℕ) (reads : List ℕ) → length reads ≡ 1 → Contains reads (first_of none reads)
+first_there none [] one = absurd (omega (arith, one))
+first_there none (x ∷ reads) one = Contains-head x reads
 
 one_there : (reads : List ℕ) → length reads ≡ 1 → Contains reads (slice_index reads 0)
 one_there [] one = absurd (omega (arith, one))
@@ -86,6 +90,15 @@ all_reads_low flat n h = by (Contains-append_cases (wires_of flat).reads (wires_
     by : Contains (wires_of flat).reads n ⊎ Contains (wires_of flat).outputs n → n < length flat.names
     by (inl read) = let own = of_row (λ (s : FlatStatement). reads_by (statement_of [] s)) flat.statements n (subst (λ (ns : List ℕ). Contains ns n) (reads_are flat) read) in read_low flat own.0 own.1 n own.2 own.3
     by (inr shown) = All-contains (λ m. m < length flat.names) flat.outputs n flat.outputs_within (subst (λ (ns : List ℕ). Contains ns n) (inputs_are flat).2 shown)
+
+-- what a statement reads is read
+pub statement_reads : (flat : Flat) (k n : ℕ) (s : FlatStatement) → slice_get flat.statements k ≡ Some s → Contains s.reads n → Contains (all_reads flat) n
+statement_reads flat k n s here reads =
+    Contains-append_left (wires_of flat).reads (wires_of flat).outputs n (subst (λ (ns : List ℕ). Contains ns n) (sym (reads_are flat))
+    (in_row (λ (t : FlatStatement). reads_by (statement_of [] t)) flat.statements k s n here (Contains-append_left s.reads (control_by (kind_of [] s.kind)) n reads)))
+
+pub output_reads : (flat : Flat) (n : ℕ) → Contains flat.outputs n → Contains (all_reads flat) n
+output_reads flat n shown = Contains-append_right (wires_of flat).reads (wires_of flat).outputs n (subst (λ (ns : List ℕ). Contains ns n) (sym (inputs_are flat).2) shown)
 
 -- what is driven has the number of a name
 pub driven_low : (flat : Flat) (n : ℕ) → Contains (driven (wires_of flat)) n → n < length flat.names

@@ -12,16 +12,16 @@ use Rattle.flat_walk.specs.declared.flat.Flat.{Flat}
 use Rattle.flat_walk.specs.declared.flat.FlatStatement.{FlatStatement}
 use Rattle.flat_walk.specs.declared.flat.FlatKind.{FlatKind}
 use Rattle.flat_walk.specs.declared.flat.FlatKind.TheVariants as kind
-use Rattle.flat_walk.specs.Flat.{statement_of, kind_of, is_number}
+use Rattle.flat_walk.specs.Flat.{kind_of, is_number}
 use Rattle.flat_walk.specs.Walked.{IsWalked}
 use Rattle.flat_wires.specs.declared.source.Source.{Source}
 use Rattle.flat_wires.specs.declared.source.Source.TheVariants as source
-use Rattle.flat_wires.specs.Wiring.{Cell, joined, reads_by, control_by, cell_by, wires_of}
+use Rattle.flat_wires.specs.Wiring.{Cell, joined, cell_by, wires_of}
 use Rattle.flat_wires.specs.Faults.{driven, Follows, clock_signals, IsClockNet, output_cell, readers}
 use Rattle.flat_wires.specs.Wired.{WiredView, IsClockOf, IsWired}
 use Rattle.flat_wires.proofs.Bounds.{nothing, only}
 use Rattle.flat_wires.proofs.PortTables.{out_at, statement_at}
-use Rattle.flat_wires.proofs.Rows.{outs_are, reads_are, cells_are, inputs_are, in_row, of_row, cell_there}
+use Rattle.flat_wires.proofs.Rows.{outs_are, cells_are, inputs_are, in_row, of_row, cell_there}
 use Rattle.flatten.specs.Built.{unclocked, latch_out, latch_outs}
 use Rattle.flatten.specs.Graph.{is_gate_kind, is_gate_in, is_gate_by, is_gate_out, graph_of}
 use Rattle.flatten.specs.Order.{IsOrder}
@@ -30,7 +30,7 @@ use Rattle.flatten.proofs.LoopLaws.{sources_within}
 use Rattle.flatten.proofs.Gating.{filter_passes}
 use Rattle.flatten.proofs.DistinctLists.{distinct_nil, distinct_cons, distinct_head, distinct_tail, distinct_append, distinct_filter, Contains-kept}
 use Rattle.flatten.proofs.MainPorts.{inputs_distinct}
-use Rattle.flatten.proofs.Drivers.{all_reads, all_reads_low, driven_low, port_reads_one, out_low, source_is, source_drives, main_is_free, port_at, in_order, has_net, net_through, net_own, net_driven}
+use Rattle.flatten.proofs.Drivers.{all_reads, all_reads_low, statement_reads, output_reads, driven_low, port_reads_one, out_low, source_is, source_drives, main_is_free, port_at, in_order, has_net, net_through, net_own, net_driven}
 
 -- what latches drive, as a row
 latch_row : (ss : List FlatStatement) → latch_outs ss ≡ joined (λ (s : FlatStatement). latch_out s.kind s.out) ss
@@ -107,10 +107,10 @@ cell_is out reads (kind.Latch edge control init) free = refl
 cell_is out reads kind.Port free = absurd (free refl)
 
 module _ (flat : Flat) (wired : WiredView) (order : List ℕ) (is : IsWired (wires_of flat) (length flat.names) wired) (ordered : IsOrder (graph_of flat.statements wired.sources) order) where
-  input_main : (n : ℕ) → Contains flat.inputs n → Contains ((wires_of flat).inputs ++ (wires_of flat).clocks) n
+  pub input_main : (n : ℕ) → Contains flat.inputs n → Contains ((wires_of flat).inputs ++ (wires_of flat).clocks) n
   input_main n h = Contains-append_left (wires_of flat).inputs (wires_of flat).clocks n (subst (λ (ns : List ℕ). Contains ns n) (sym (inputs_are flat).0) h)
 
-  input_of : (n : ℕ) → Contains (unclocked wired.clock flat.inputs) n → Contains ((wires_of flat).inputs ++ (wires_of flat).clocks) n
+  pub input_of : (n : ℕ) → Contains (unclocked wired.clock flat.inputs) n → Contains ((wires_of flat).inputs ++ (wires_of flat).clocks) n
   input_of n h = input_main n (Contains-filter (λ m. not (is_number wired.clock m)) flat.inputs n h)
 
   -- no port drives an input, nor what a latch drives
@@ -153,7 +153,7 @@ module _ (flat : Flat) (wired : WiredView) (order : List ℕ) (is : IsWired (wir
       latch_no_gate g.1.kind g.1.out latch.0 g.4)
 
   -- a driven end of ports that is not the clock has its signal
-  end_there : (m : ℕ) → m < length flat.names → ((from : ℕ) → Contains (wires_of flat).ports (record { out = m; from = from }) → ⊥) → Contains (driven (wires_of flat)) m → (IsClockNet (wires_of flat) m → ⊥) → Contains (made_by flat wired order) m
+  pub end_there : (m : ℕ) → m < length flat.names → ((from : ℕ) → Contains (wires_of flat).ports (record { out = m; from = from }) → ⊥) → Contains (driven (wires_of flat)) m → (IsClockNet (wires_of flat) m → ⊥) → Contains (made_by flat wired order) m
   end_there m low ends fed free = by (Contains-append_cases ((wires_of flat).inputs ++ (wires_of flat).clocks) (wires_of flat).outs m fed)
     where
       in_first : Contains (first_made flat wired) m → Contains (made_by flat wired order) m
@@ -218,8 +218,7 @@ module _ (flat : Flat) (wired : WiredView) (order : List ℕ) (is : IsWired (wir
   fanin_spot k n s here free reads = read_spot n read (reader_free (record { out = s.out; reads = s.reads }) n reader reads (all_reads_low flat n read))
     where
       read : Contains (all_reads flat) n
-      read = Contains-append_left (wires_of flat).reads (wires_of flat).outputs n (subst (λ (ns : List ℕ). Contains ns n) (sym (reads_are flat))
-          (in_row (λ (t : FlatStatement). reads_by (statement_of [] t)) flat.statements k s n here (Contains-append_left s.reads (control_by (kind_of [] s.kind)) n reads)))
+      read = statement_reads flat k n s here reads
 
       reader : Contains (readers (wires_of flat)) (record { out = s.out; reads = s.reads })
       reader = Contains-append_left (wires_of flat).cells (map output_cell (wires_of flat).outputs) (record { out = s.out; reads = s.reads })
@@ -229,16 +228,11 @@ module _ (flat : Flat) (wired : WiredView) (order : List ℕ) (is : IsWired (wir
 
   -- what a main output shows has a spot
   pub output_spot : (n : ℕ) → Contains flat.outputs n → HasSpot flat wired order n
-  output_spot n shown = read_spot n read (reader_free (output_cell n) n reader (Contains-head n []) (all_reads_low flat n read))
+  output_spot n shown = read_spot n (output_reads flat n shown) (reader_free (output_cell n) n reader (Contains-head n []) (all_reads_low flat n (output_reads flat n shown)))
     where
-      there : Contains (wires_of flat).outputs n
-      there = subst (λ (ns : List ℕ). Contains ns n) (sym (inputs_are flat).2) shown
-
-      read : Contains (all_reads flat) n
-      read = Contains-append_right (wires_of flat).reads (wires_of flat).outputs n there
-
       reader : Contains (readers (wires_of flat)) (output_cell n)
-      reader = Contains-append_right (wires_of flat).cells (map output_cell (wires_of flat).outputs) (output_cell n) (Contains-map output_cell (wires_of flat).outputs n there)
+      reader = Contains-append_right (wires_of flat).cells (map output_cell (wires_of flat).outputs) (output_cell n)
+          (Contains-map output_cell (wires_of flat).outputs n (subst (λ (ns : List ℕ). Contains ns n) (sym (inputs_are flat).2) shown))
 
   -- what a gate or a latch drives is its own net
   pub own_net : (k : ℕ) (s : FlatStatement) → slice_get flat.statements k ≡ Some s → (s.kind ≡ kind.Port → ⊥) → net_of wired.nets s.out ≡ s.out

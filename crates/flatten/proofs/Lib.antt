@@ -13,6 +13,7 @@ pub mod DistinctLists
 pub mod MainPorts
 pub mod Drivers
 pub mod Laid
+pub mod Spotted
 pub mod Spots
 pub mod NumberClocks
 pub mod Whole

@@ -1,29 +1,27 @@
 -- The clock of a design, from the numbered clock net.
-use Rattle.std.proofs.Common.{◌≡◌, ◌∙◌, ◌<◌, ℕ, zero, suc, Bool, true, false, List, [], ◌∷◌, ◌++◌, map, length, filter_map, option_map, slice_get, Option, Some, None, refl, sym, ap, ap₂, subst, arith, inl, inr}
+use Rattle.std.proofs.Common.{◌≡◌, ◌∙◌, ◌<◌, ℕ, Bool, true, false, List, [], ◌∷◌, ◌++◌, map, length, filter_map, option_map, slice_get, Option, Some, None, refl, sym, ap, ap₂, subst, arith, inl, inr}
 use Rattle.std.specs.Prelude.{◌⊎◌, ◌≤◌}
-use Rattle.std.specs.List.{All, Contains, list_all, cons_option}
+use Rattle.std.specs.List.{Contains, list_all, cons_option}
 use Rattle.std.proofs.lemmas.List.{map-append, length-map}
 use Rattle.std.proofs.lemmas.List.Elements.{All-contains, Contains-append_left, Contains-append_right, Contains-append_cases}
 use Rattle.std.proofs.lemmas.Option.{slice_get_within}
-use Rattle.circuit_theory.specs.Circuit.{Circuit, Equation, Port}
+use Rattle.circuit_theory.specs.Circuit.{Port}
 use Rattle.circuit_theory.specs.Flattened.{Follows}
 use Rattle.circuit_theory.proofs.Lists.{Contains-map, Contains-map_from, All-from_each, at_of, of_at}
 use Rattle.blif_read.specs.declared.design.BlifModel.{BlifModel}
 use Rattle.blif_read.specs.declared.design.Statement.TheVariants.{Names, Latch, Subckt}
-use Rattle.blif_read.specs.Design.{Inside, Place, top, name_of, Item, At, Enter, Pairing, is_input_formal, place_at, control_at, control_place, main_walk, main_inputs, main_clocks, clock_places, circuit_of_design, IsClock}
+use Rattle.blif_read.specs.Design.{Place, top, name_of, Item, At, Enter, Pairing, is_input_formal, place_at, control_at, control_place, main_walk, main_inputs, main_clocks, clock_places, circuit_of_design, IsClock}
 use Rattle.blif_read.specs.Kept.{is_plain, written_names, covers_fit}
 use Rattle.flat_walk.specs.declared.flat.Flat.{Flat}
-use Rattle.flat_walk.specs.declared.flat.FlatStatement.{FlatStatement}
 use Rattle.flat_walk.specs.declared.flat.FlatKind.{FlatKind}
-use Rattle.flat_walk.specs.declared.flat.FlatKind.TheVariants as kind
-use Rattle.flat_walk.specs.Flat.{FlatDesign, FlatOf, gate, latch, port, named, flat_port, flat_of, placed_design, name_at, kind_of, statement_of, view_of, first_of, equation_by, equation_in, circuit_of_flat}
+use Rattle.flat_walk.specs.Flat.{FlatDesign, FlatOf, named, flat_port, flat_of, placed_design, name_at, kind_of, statement_of, view_of, equation_by, equation_in, circuit_of_flat}
 use Rattle.flat_walk.specs.Walked.{IsWalked}
 use Rattle.flat_walk.specs.Renaming.{IsRenaming}
 use Rattle.flat_walk.proofs.Items.{good_models}
 use Rattle.flat_walk.proofs.Numbered.{origin_in, number_in, design_places, placed_is, places_plain, place_named_is, IsNumber, flat_is_renaming}
 use Rattle.flat_walk.proofs.Composed.{follows_moved}
-use Rattle.flat_wires.specs.Wiring.{Wiring, joined, some_of, control_by, wiring_of, wires_of}
-use Rattle.flat_wires.specs.Faults.{clock_signals, HasNet, HasClockNet}
+use Rattle.flat_wires.specs.Wiring.{joined, some_of, control_by, wiring_of, wires_of}
+use Rattle.flat_wires.specs.Faults.{clock_signals, HasClockNet}
 use Rattle.flat_wires.specs.Faults.{Follows as Leads}
 use Rattle.flat_wires.specs.Wired.{WiredView, IsClockOf, IsWired}
 use Rattle.flat_wires.proofs.NamedWires.{named_wires, named_wiring, any_covers}
@@ -31,7 +29,7 @@ use Rattle.flat_wires.proofs.Rows.{inputs_are, control_read}
 use Rattle.flatten.specs.Graph.{graph_of}
 use Rattle.flatten.specs.Order.{IsOrder}
 use Rattle.flatten.specs.Gated.{net_of}
-use Rattle.flatten.proofs.Drivers.{all_reads, all_reads_low, driven_low, port_reads_one, one_first, PortBy, port_by, source_drives, has_net}
+use Rattle.flatten.proofs.Drivers.{all_reads_low, driven_low, port_reads_one, one_first, PortBy, port_by, source_drives, has_net}
 
 -- the controls of latches, visit by visit
 controls_visited : (items : List Item) → joined (λ (s : FlatOf Place). control_by s.kind) (filter_map flat_of items) ≡ filter_map control_place items
@@ -137,9 +135,9 @@ module _ (models : List BlifModel) (flat : Flat) (wired : WiredView) (is : IsWir
           none (n ∷ ns) e = absurd (never 0 (net_of wired.nets n) (clock_net 0 n (ap (λ (xs : List ℕ). slice_get xs 0) e)))
       clock_by (Some c) own main = (
         (let own_place = slice_get_within (clock_signals (wires_of flat)) own.0.0 own.0.1.signal own.0.1.here in
-        let count = ap length clock_places_are in
-        let same = length-map (clock_signals (wires_of flat)) (origin_in models flat) in
-        omega (arith, own_place, count, same)),
+            let count = ap length clock_places_are in
+            let same = length-map (clock_signals (wires_of flat)) (origin_in models flat) in
+            omega (arith, own_place, count, same)),
         (main_place c (main c refl)).1,
         All-from_each (λ (p : Place). Follows (circuit_of_design models None) p (top (name_at flat.names c))) (clock_places models) leads,
       )

@@ -1,13 +1,11 @@
 -- The spots of a net that has all its gates.
-use Rattle.std.proofs.Common.{◌≡◌, ◌∙◌, ◌+◌, ◌<◌, ◌==◌, ℕ, zero, suc, Bool, true, false, true≢false, cond, List, [], ◌∷◌, ◌++◌, map, length, take, slice_get, Option, Some, refl, sym, ap, ap₂, subst, append_assoc, append-nil, arith, inl, inr, eqb-true, eq-eqb}
+use Rattle.std.proofs.Common.{◌≡◌, ◌∙◌, ◌+◌, ◌<◌, ◌==◌, ℕ, zero, suc, Bool, true, false, true≢false, cond, List, [], ◌∷◌, ◌++◌, map, length, take, slice_get, Some, refl, sym, ap, ap₂, subst, append_assoc, append-nil, arith, inl, inr, eqb-true, eq-eqb}
 use Rattle.std.specs.Prelude.{◌⊎◌}
 use Rattle.std.specs.List.{All, Contains}
 use Rattle.std.proofs.lemmas.List.{map-append, length-append}
 use Rattle.std.proofs.lemmas.List.Elements.{All-contains, Contains-append_left}
 use Rattle.std.proofs.lemmas.Option.{slice_get_within, get_or_from_slice_get}
-use Rattle.circuit_theory.proofs.Lists.{Contains-head, Contains-cases, Contains-map_from, All-from_each}
-use Rattle.sec_base.specs.declared.basics.Edge.{Edge}
-use Rattle.sec_base.specs.declared.basics.Init.{Init}
+use Rattle.circuit_theory.proofs.Lists.{Contains-cases, Contains-map_from, All-from_each}
 use Rattle.blif_read.specs.declared.design.BlifModel.{BlifModel}
 use Rattle.flat_net.specs.declared.signals.Signal.{Signal}
 use Rattle.flat_net.specs.declared.parts.LatchAt.{LatchAt}
@@ -17,10 +15,10 @@ use Rattle.flat_walk.specs.declared.flat.Flat.{Flat}
 use Rattle.flat_walk.specs.declared.flat.FlatStatement.{FlatStatement}
 use Rattle.flat_walk.specs.declared.flat.FlatKind.{FlatKind}
 use Rattle.flat_walk.specs.declared.flat.FlatKind.TheVariants as kind
-use Rattle.flat_walk.specs.Flat.{name_at, first_of, kind_of}
+use Rattle.flat_walk.specs.Flat.{name_at, kind_of}
 use Rattle.flat_wires.specs.Wiring.{joined, control_by, wires_of}
 use Rattle.flat_wires.specs.Wired.{WiredView, IsWired}
-use Rattle.flat_wires.proofs.Bounds.{nothing, only}
+use Rattle.flat_wires.proofs.Bounds.{nothing}
 use Rattle.flat_wires.proofs.Joined.{slice_get-append_right}
 use Rattle.flat_wires.proofs.Rows.{of_row}
 use Rattle.flatten.specs.Built.{unclocked, with_inputs, latch_out, latch_outs, with_latch_of, with_latches}
@@ -29,8 +27,8 @@ use Rattle.flatten.specs.Order.{IsOrder}
 use Rattle.flatten.specs.Gated.{place_of, first_made, gates_in, made_by, spot, HasSpot, HasGates}
 use Rattle.flatten.specs.Shown.{signal_at, latch_data, latch_signals, latch_nexts}
 use Rattle.flatten.proofs.Rows.{slice_get-append}
-use Rattle.flatten.proofs.Nexts.{latch_reads}
 use Rattle.flatten.proofs.Drivers.{in_order, read_low}
+use Rattle.flatten.proofs.Spotted.{data_read}
 use Rattle.flatten.proofs.Laid.{fanin_spot, output_spot}
 
 -- what stands in a list stands at its place
@@ -83,29 +81,10 @@ signals_are f start (n ∷ ns) each =
     ap₂ (λ (x : Signal) (xs : List Signal). x ∷ xs) (each 0 n refl ∙ ap (λ (k : ℕ). record { 0 = k }) first)
     (signals_are f (suc start) ns (λ i m h. each (suc i) m h ∙ ap (λ (k : ℕ). record { 0 = k }) (let e : start + suc i ≡ suc start + i = omega arith in e)))
 
-first_there : (out : ℕ) (reads : List ℕ) → length reads ≡ 1 → Contains reads (first_of out reads)
-first_there out [] one = absurd (omega (arith, one))
-first_there out (x ∷ reads) one = Contains-head x reads
-
 -- what latches take over, as a row
 next_row : (signals : List Signal) (ss : List FlatStatement) → latch_nexts signals ss ≡ joined (λ (s : FlatStatement). map (signal_at signals) (latch_data s.kind s.out s.reads)) ss
 next_row signals [] = refl
 next_row signals (s ∷ ss) = ap (λ (ns : List Signal). map (signal_at signals) (latch_data s.kind s.out s.reads) ++ ns) (next_row signals ss)
-
--- the data of a latch is what it reads
-pub data_read : (flat : Flat) (k n : ℕ) (s : FlatStatement) → slice_get flat.statements k ≡ Some s → Contains (latch_data s.kind s.out s.reads) n → (s.kind ≡ kind.Port → ⊥) × Contains s.reads n
-data_read flat k n s here h = by s.kind refl h
-  where
-    no_port : (edge : Option Edge) (control : Option ℕ) (init : Init) → kind.Latch edge control init ≡ kind.Port → ⊥
-    no_port edge control init e = cc
-
-    by : (q : FlatKind) → s.kind ≡ q → Contains (latch_data q s.out s.reads) n → (s.kind ≡ kind.Port → ⊥) × Contains s.reads n
-    by (kind.Gate model statement) e k = absurd (nothing n k)
-    by kind.Port e k = absurd (nothing n k)
-    by (kind.Latch edge control init) e k' = (
-      λ port. no_port edge control init (sym e ∙ port),
-      subst (Contains s.reads) (only (first_of s.out s.reads) n k') (first_there s.out s.reads (latch_reads flat.statements k s edge control init flat.shaped here e)),
-    )
 
 module _ (models : List BlifModel) (flat : Flat) (wired : WiredView) (order : List ℕ) (is : IsWired (wires_of flat) (length flat.names) wired) (ordered : IsOrder (graph_of flat.statements wired.sources) order)
     (net : NetView) (signals : List Signal) (covers : List (ℕ × ℕ)) (has : HasGates models flat wired order net signals covers (length order)) where

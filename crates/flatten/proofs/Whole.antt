@@ -1,18 +1,16 @@
 -- The net of the numbered statements of a sound design is the design's.
-use Rattle.std.proofs.Common.{◌≡◌, ◌∙◌, ◌+◌, ◌^◌, ◌<◌, ◌≤◌, ℕ, zero, suc, Bool, true, false, cond, not, List, [], ◌∷◌, ◌++◌, map, length, filter, option_map, slice_get, Option, Some, None, refl, sym, ap, ap₂, subst, arith}
-use Rattle.std.specs.List.{All, Contains, list_all}
-use Rattle.std.proofs.lemmas.List.{length-map, length-append}
-use Rattle.std.proofs.lemmas.List.Elements.{All-contains}
-use Rattle.std.proofs.lemmas.Option.{slice_get-get_or}
+use Rattle.std.proofs.Common.{◌≡◌, ◌∙◌, ◌<◌, ◌≤◌, ℕ, suc, Bool, true, false, cond, not, List, [], ◌∷◌, ◌++◌, map, length, filter, option_map, Option, refl, sym, ap, subst, arith}
+use Rattle.std.specs.List.{list_all}
+use Rattle.std.proofs.lemmas.List.{length-map}
 use Rattle.circuit_theory.specs.Cover.{Cover}
 use Rattle.circuit_theory.specs.Circuit.{Circuit, Equation, Gate, Latch, Port, Named}
 use Rattle.circuit_theory.specs.Classes.{moved_name}
 use Rattle.circuit_theory.specs.Flattened.{IsFlattened, Follows, latch_names}
 use Rattle.circuit_theory.specs.Places.{IsPlace}
-use Rattle.circuit_theory.proofs.Lists.{map-map, of_at}
+use Rattle.circuit_theory.proofs.Lists.{map-map}
 use Rattle.sec_base.specs.Table.{AreDistinct}
 use Rattle.blif_read.specs.declared.design.BlifModel.{BlifModel}
-use Rattle.blif_read.specs.Design.{Place, top, main_inputs, main_outputs, circuit_of_design, IsClock}
+use Rattle.blif_read.specs.Design.{Place, main_inputs, main_outputs, circuit_of_design, IsClock}
 use Rattle.blif_read.specs.Kept.{is_plain, written_names, covers_fit, ports_distinct}
 use Rattle.flat_net.specs.declared.parts.Port.{Port as OutPort}
 use Rattle.flat_net.specs.declared.parts.Gate.{Gate as NetGate}
@@ -20,7 +18,7 @@ use Rattle.flat_net.specs.declared.parts.LatchAt.{LatchAt}
 use Rattle.flat_net.specs.View.{NetView, circuit_of, equation_of_gate, equation_of_latch}
 use Rattle.flat_net.specs.View.{named as port_named}
 use Rattle.flat_walk.specs.declared.flat.Flat.{Flat}
-use Rattle.flat_walk.specs.Flat.{FlatOf, name_at, statement_of, view_of, equation_in, named_at, is_number, circuit_of_flat}
+use Rattle.flat_walk.specs.Flat.{name_at, statement_of, equation_in, named_at, is_number}
 use Rattle.flat_walk.specs.Walked.{IsWalked}
 use Rattle.flat_walk.specs.Renaming.{IsRenaming}
 use Rattle.flat_walk.proofs.Numbered.{origin_in, number_in}
@@ -35,6 +33,7 @@ use Rattle.flatten.specs.Graph.{graph_of}
 use Rattle.flatten.specs.Order.{IsOrder}
 use Rattle.flatten.proofs.AssembledRuns.{assembled_is_flattened}
 use Rattle.flatten.proofs.MainPorts.{main_distinct, main_few, inputs_named, outputs_named}
+use Rattle.flatten.proofs.Spotted.{number_low}
 use Rattle.flatten.proofs.NumberClocks.{clock_number, main_place, renaming, clock_is}
 
 -- no more pass than there are
@@ -69,9 +68,12 @@ module _ (models : List BlifModel) (flat : Flat) (wired : WiredView) (order : Li
     flattened : (let d = circuit_of_design models (option_map (name_at flat.names) wired.clock) in IsFlattened d (circuit_of net) (length net.drivers) (IsClocked d (option_map (name_at flat.names) wired.clock)) (IsPlace d) (λ s. origin_in models flat (number s)))
     flattened = composed design (numbered_circuit models flat wired) (circuit_of net) (length flat.names) (length net.drivers) (origin_in models flat) (number_in flat) number (IsClocked design (option_map (name_at flat.names) wired.clock)) (IsClockNumber (numbered_circuit models flat wired) wired.clock) renamed
         (assembled_is_flattened (numbered_circuit models flat wired) (circuit_of net) (length net.drivers) (IsClockNumber (numbered_circuit models flat wired) wired.clock) number signal a) within
-        (λ q low leads. (name_at flat.names leads.0, ap (option_map (name_at flat.names)) leads.1,
-            subst (Follows design (origin_in models flat q)) (main_place models flat wired is plain fits few walked leads.0 (is.clock_is_main leads.0 leads.1)).0
-            (follows_moved design (numbered_circuit models flat wired) (length flat.names) (origin_in models flat) (number_in flat) renamed leads.2)))
+        (λ q low leads. (
+          name_at flat.names leads.0,
+          ap (option_map (name_at flat.names)) leads.1,
+          subst (Follows design (origin_in models flat q)) (main_place models flat wired is plain fits few walked leads.0 (is.clock_is_main leads.0 leads.1)).0
+              (follows_moved design (numbered_circuit models flat wired) (length flat.names) (origin_in models flat) (number_in flat) renamed leads.2),
+        ))
       where
         renamed : IsRenaming (circuit_of_design models (option_map (name_at flat.names) wired.clock)) (numbered_circuit models flat wired) (length flat.names) (origin_in models flat) (number_in flat)
         renamed = renaming models flat wired is plain fits few walked wired.clock (clock_number models flat wired is)
@@ -119,7 +121,6 @@ module _ (models : List BlifModel) (flat : Flat) (wired : WiredView) (order : Li
     }
 
   -- the net with its signals at the spots of the layout is the design's
-  pub net_is_flat : (net : NetView) → IsNetOf models flat wired order net → length net.drivers ≡ length (made_by flat wired order) → All (λ n. n < length flat.names) (made_by flat wired order) →
-      net.clock ≡ option_map (name_at flat.names) wired.clock → IsFlatOf models net
-  net_is_flat net a size low clock = assembled_is_flat net (number_at flat wired order) (spot flat wired order) a
-      (λ s below. All-contains (λ n. n < length flat.names) (made_by flat wired order) (number_at flat wired order s) low (of_at (made_by flat wired order) s (number_at flat wired order s) (slice_get-get_or (made_by flat wired order) s 0 (omega (arith, below, size))))) clock
+  pub net_is_flat : (net : NetView) → IsNetOf models flat wired order net → length net.drivers ≡ length (made_by flat wired order) → net.clock ≡ option_map (name_at flat.names) wired.clock → IsFlatOf models net
+  net_is_flat net a size clock = assembled_is_flat net (number_at flat wired order) (spot flat wired order) a
+      (λ s below. number_low flat wired order is ordered s (omega (arith, below, size))) clock
