@@ -9,3 +9,5 @@ pub mod Building
 pub mod Gating
 pub mod CoverNumbers
 pub mod Nexts
+pub mod MadeNets
+pub mod Assembling

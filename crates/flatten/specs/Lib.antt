@@ -7,3 +7,4 @@ pub mod Graph
 pub mod Built
 pub mod Gated
 pub mod Shown
+pub mod Made
