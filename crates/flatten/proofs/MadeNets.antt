@@ -27,7 +27,7 @@ use Rattle.flat_wires.specs.Wired.{WiredView}
 use Rattle.flat_wires.proofs.Joined.{slice_get-append_right}
 use Rattle.flatten.specs.Graph.{source_reads}
 use Rattle.flatten.specs.Built.{unclocked, with_inputs, latch_out, latch_outs, with_latch_of, with_latches}
-use Rattle.flatten.specs.Shown.{shown_at, signal_at, latch_data, latch_signals, latch_nexts, with_nexts}
+use Rattle.flatten.specs.Shown.{shown_at, with_outputs, signal_at, latch_data, latch_signals, latch_nexts, with_nexts}
 use Rattle.flatten.specs.Gated.{IsLaid, HasGates, HasSpot, IsRest, spot, net_of, first_made, gates_in, driver_of, net_equation}
 use Rattle.flatten.specs.Made.{IsSpotted, IsMade, port_on, latch_by, latch_on}
 use Rattle.flatten.proofs.Building.{out_within}
@@ -150,6 +150,29 @@ module _ (names : List (List ℕ)) where
           ∙ ap (λ (ls : List LatchAt). (let l : LatchAt = record { name = name_at names s.out; next = record { 0 = place (first_of s.out s.reads) }; out = record { 0 = place s.out }; init = init } in l) ∷ ls) (later (kind.Latch edge control init) at rest)
       by kind.Port at here rest = later kind.Port at rest
 
+-- the net that is begun, as the code has it
+module _ (flat : Flat) (clock : Option ℕ) (net : NetView) (is_begun : net ≡ with_latches flat.names flat.statements (with_inputs flat.names (unclocked clock flat.inputs) empty_net)) where
+  abbrev first_inputs : NetView
+  first_inputs = with_inputs flat.names (unclocked clock flat.inputs) empty_net
+
+  pub begun_at : (other : Option ℕ) → clock ≡ other → net ≡ with_latches flat.names flat.statements (with_inputs flat.names (unclocked other flat.inputs) empty_net)
+  begun_at other e = is_begun ∙ ap (λ (o : Option ℕ). with_latches flat.names flat.statements (with_inputs flat.names (unclocked o flat.inputs) empty_net)) e
+
+  begun_keeps : {X : Type 0} (part : NetView → X) → ((net : NetView) (word : List ℕ) → part (with_input net word) ≡ part net) → ((net : NetView) (word : List ℕ) (init : Init) → part (with_latch net word init) ≡ part net) → part net ≡ part empty_net
+  begun_keeps part input latch = ap part is_begun ∙ latches_keep flat.names part latch flat.statements first_inputs ∙ inputs_keep flat.names part input (unclocked clock flat.inputs) empty_net
+
+  pub begun_gates : net.gates ≡ []
+  begun_gates = begun_keeps (λ (n : NetView). n.gates) (λ n word. refl) (λ n word init. refl)
+
+  pub begun_covers : net.covers ≡ []
+  begun_covers = begun_keeps (λ (n : NetView). n.covers) (λ n word. refl) (λ n word init. refl)
+
+  begun_outputs : net.outputs ≡ []
+  begun_outputs = begun_keeps (λ (n : NetView). n.outputs) (λ n word. refl) (λ n word init. refl)
+
+  begun_clock : net.clock ≡ None
+  begun_clock = begun_keeps (λ (n : NetView). n.clock) (λ n word. refl) (λ n word init. refl)
+
 -- what latches drive is what statements drive
 pub latch_outs_from : (ss : List FlatStatement) (n : ℕ) → Contains (latch_outs ss) n → (s : FlatStatement) × Contains ss s × (latch_out s.kind s.out ≡ s.out ∷ []) × (s.out ≡ n)
 latch_outs_from [] n h = absurd (omega (arith, h.1))
@@ -232,12 +255,10 @@ module _ (models : List BlifModel) (flat : Flat) (wired : WiredView) (order : Li
         ∙ ports_made flat.names (unclocked wired.clock flat.inputs) empty_net ∙ ports_are flat.names (spot flat wired order) (unclocked wired.clock flat.inputs) 0 input_spot
 
     no_outputs : after.net.outputs ≡ []
-    no_outputs = rest.outputs ∙ ap (λ (n : NetView). n.outputs) is_begun ∙ latches_keep flat.names (λ (n : NetView). n.outputs) (λ n word init. refl) flat.statements first_net
-        ∙ inputs_keep flat.names (λ (n : NetView). n.outputs) (λ n word. refl) (unclocked wired.clock flat.inputs) empty_net
+    no_outputs = rest.outputs ∙ begun_outputs flat wired.clock begun.net is_begun
 
-    pub no_clock : after.net.clock ≡ None
-    no_clock = rest.clock ∙ ap (λ (n : NetView). n.clock) is_begun ∙ latches_keep flat.names (λ (n : NetView). n.clock) (λ n word init. refl) flat.statements first_net
-        ∙ inputs_keep flat.names (λ (n : NetView). n.clock) (λ n word. refl) (unclocked wired.clock flat.inputs) empty_net
+    no_clock : after.net.clock ≡ None
+    no_clock = rest.clock ∙ begun_clock flat wired.clock begun.net is_begun
 
     latches_are : after.net.latches ≡ own_latches flat.names (length (unclocked wired.clock flat.inputs)) flat.statements
     latches_are = rest.latches ∙ ap (λ (n : NetView). n.latches) is_begun ∙ latches_made flat.names flat.statements first_net
@@ -293,3 +314,42 @@ module _ (models : List BlifModel) (flat : Flat) (wired : WiredView) (order : Li
       names = en ∙ has.built.named ∙ ap (λ (ns : List ℕ). map (name_at flat.names) (first_made flat wired ++ gates_in flat wired ns)) whole;
       clock = ek;
     }
+
+    -- the steps behind it, as the code has them
+    module _ (shown : MakerView) (same_signals : List Signal) (shown_is : shown ≡ record after { net = with_outputs flat.names signals flat.outputs after.net }) (same : same_signals ≡ signals) where
+      pub shown_outs : map (λ (l : LatchAt). l.out) shown.net.latches ≡ latch_signals same_signals flat.statements
+      shown_outs = ap (λ (m : MakerView). map (λ (l : LatchAt). l.out) m.net.latches) shown_is ∙ outs_are ∙ ap (λ (ss : List Signal). latch_signals ss flat.statements) (sym same)
+
+      pub shown_nexts : All (λ (x : Signal). x.0 < length shown.net.drivers) (latch_nexts same_signals flat.statements)
+      shown_nexts = subst (λ (m : MakerView). All (λ (x : Signal). x.0 < length m.net.drivers) (latch_nexts same_signals flat.statements)) (sym shown_is)
+          (subst (λ (ss : List Signal). All (λ (x : Signal). x.0 < length after.net.drivers) (latch_nexts ss flat.statements)) (sym same) nexts_within)
+
+      module _ (last : NetView) (last_is : last ≡ record shown.net { latches = with_nexts shown.net.latches (latch_nexts same_signals flat.statements) }) where
+        pub last_clock : last.clock ≡ None
+        last_clock = ap (λ (n : NetView). n.clock) last_is ∙ ap (λ (m : MakerView). m.net.clock) shown_is ∙ no_clock
+
+        pub last_made : (clock : Option ℕ) (net : NetView) → clock ≡ wired.clock → net ≡ record last { clock = option_map (name_at flat.names) clock } → IsMade models flat wired order net
+        last_made clock net ek en = is_made net
+            (part (λ (n : NetView). n.inputs)) (part (λ (n : NetView). n.outputs)) (part (λ (n : NetView). n.gates)) (part (λ (n : NetView). n.latches)) (part (λ (n : NetView). n.covers))
+            (part (λ (n : NetView). length n.drivers)) (part (λ (n : NetView). n.names)) (part (λ (n : NetView). n.clock))
+          where
+            whole_net : net ≡ record after.net {
+              outputs = after.net.outputs ++ map (shown_at flat.names signals) flat.outputs;
+              latches = with_nexts after.net.latches (latch_nexts signals flat.statements);
+              clock = option_map (name_at flat.names) wired.clock;
+            }
+            whole_net =
+                en ∙ ap (λ (n : NetView). record n { clock = option_map (name_at flat.names) clock })
+                (last_is ∙ ap (λ (m : MakerView). record m.net { latches = with_nexts m.net.latches (latch_nexts same_signals flat.statements) }) shown_is)
+                ∙ ap₂ (λ (ss : List Signal) (o : Option ℕ). let n : NetView = record after.net {
+                  outputs = after.net.outputs ++ map (shown_at flat.names signals) flat.outputs;
+                  latches = with_nexts after.net.latches (latch_nexts ss flat.statements);
+                  clock = option_map (name_at flat.names) o;
+                } in n) same ek
+
+            part : {X : Type 0} (f : NetView → X) → f net ≡ f (record after.net {
+              outputs = after.net.outputs ++ map (shown_at flat.names signals) flat.outputs;
+              latches = with_nexts after.net.latches (latch_nexts signals flat.statements);
+              clock = option_map (name_at flat.names) wired.clock;
+            })
+            part f = ap f whole_net
