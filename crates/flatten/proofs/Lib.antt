@@ -11,3 +11,11 @@ pub mod CoverNumbers
 pub mod Nexts
 pub mod MadeNets
 pub mod Assembling
+pub mod DistinctLists
+pub mod MainPorts
+pub mod Drivers
+pub mod Laid
+pub mod Spotted
+pub mod Spots
+pub mod NumberClocks
+pub mod Whole

@@ -8,3 +8,4 @@ pub mod Built
 pub mod Gated
 pub mod Shown
 pub mod Made
+pub mod Clocked
