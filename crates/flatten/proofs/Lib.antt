@@ -9,6 +9,8 @@ pub mod Building
 pub mod Gating
 pub mod CoverNumbers
 pub mod Nexts
+pub mod MadeNets
+pub mod Assembling
 pub mod DistinctLists
 pub mod MainPorts
 pub mod Drivers

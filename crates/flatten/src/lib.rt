@@ -5,4 +5,8 @@ mod assemble;
 mod design;
 mod gates;
 mod loops;
+mod making;
 mod search;
+
+pub use design::flatten;
+pub use flat_walk::FlatError;
