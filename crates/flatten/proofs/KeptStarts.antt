@@ -30,6 +30,7 @@ use Rattle.flat_wires.specs.Wired.{WiredView, IsWired}
 use Rattle.flatten.specs.Clocked.{numbered_circuit, number_at}
 use Rattle.flatten.specs.Gated.{made_by, spot}
 use Rattle.flatten.specs.Graph.{graph_of}
+use Rattle.flatten.specs.Made.{latch_by, IsMade}
 use Rattle.flatten.specs.Order.{IsOrder}
 use Rattle.flatten.proofs.NumberClocks.{placed, place_name}
 use Rattle.flatten.proofs.Spotted.{number_back}
@@ -92,30 +93,27 @@ start_place models out (kind.Latch edge control start) x e = (no_port edge contr
     by init.DontCare e = absurd (none-some x e)
     by init.Unknown e = absurd (none-some x e)
 
--- The initial values of a net whose latches are those of the statements, each in a row of one: a latch drives its place.
-module _ (models : List BlifModel) (place : ℕ → ℕ) (row : FlatKind → ℕ → List ℕ → List LatchAt) (gate_row : (model at out : ℕ) (reads : List ℕ) → row (kind.Gate model at) out reads ≡ []) (port_row : (out : ℕ) (reads : List ℕ) → row kind.Port out reads ≡ [])
-    (latch_row : (edge : Option Edge) (control : Option ℕ) (start : Init) (out : ℕ) (reads : List ℕ) → (l : LatchAt) × (row (kind.Latch edge control start) out reads ≡ l ∷ []) × (l.out.0 ≡ place out) × (l.init ≡ start)) where
-  row_start : (out : ℕ) (start : Init) → net_start (place out) start ≡ option_map (moved_start place) (start_from out start)
-  row_start out init.Zero = refl
-  row_start out init.One = refl
-  row_start out init.DontCare = refl
-  row_start out init.Unknown = refl
+-- the initial values of a net whose latches are those of the statements
+row_start : (place : ℕ → ℕ) (out : ℕ) (start : Init) → net_start (place out) start ≡ option_map (moved_start place) (start_from out start)
+row_start place out init.Zero = refl
+row_start place out init.One = refl
+row_start place out init.DontCare = refl
+row_start place out init.Unknown = refl
 
-  pub row_starts : (ss : List FlatStatement) →
-      filter_map (λ (l : LatchAt). net_start l.out.0 l.init) (joined (λ (s : FlatStatement). row s.kind s.out s.reads) ss) ≡ map (moved_start place) (filter_map (λ (s : FlatOf ℕ). start_by s.out s.kind) (map (statement_of models) ss))
-  row_starts [] = refl
-  row_starts (s ∷ ss) = by s.kind (row_starts ss)
-    where
-      by : (k : FlatKind) → filter_map (λ (l : LatchAt). net_start l.out.0 l.init) (joined (λ (s : FlatStatement). row s.kind s.out s.reads) ss) ≡ map (moved_start place) (filter_map (λ (s : FlatOf ℕ). start_by s.out s.kind) (map (statement_of models) ss)) →
-          filter_map (λ (l : LatchAt). net_start l.out.0 l.init) (row k s.out s.reads ++ joined (λ (s : FlatStatement). row s.kind s.out s.reads) ss)
-          ≡ map (moved_start place) (cons_option (start_by s.out (kind_of models k)) (filter_map (λ (s : FlatOf ℕ). start_by s.out s.kind) (map (statement_of models) ss)))
-      by (kind.Gate model at) rest = ap (λ (ls : List LatchAt). filter_map (λ (l : LatchAt). net_start l.out.0 l.init) (ls ++ joined (λ (s : FlatStatement). row s.kind s.out s.reads) ss)) (gate_row model at s.out s.reads) ∙ rest
-      by kind.Port rest = ap (λ (ls : List LatchAt). filter_map (λ (l : LatchAt). net_start l.out.0 l.init) (ls ++ joined (λ (s : FlatStatement). row s.kind s.out s.reads) ss)) (port_row s.out s.reads) ∙ rest
-      by (kind.Latch edge control start) rest =
-          let own = latch_row edge control start s.out s.reads in
-          ap (λ (ls : List LatchAt). filter_map (λ (l : LatchAt). net_start l.out.0 l.init) (ls ++ joined (λ (s : FlatStatement). row s.kind s.out s.reads) ss)) own.1
-          ∙ ap₂ (λ (o : Option (Started ℕ)) (xs : List (Started ℕ)). cons_option o xs) (ap₂ net_start own.2 own.3 ∙ row_start s.out start) rest
-          ∙ cons_moved (moved_start place) (start_from s.out start) (filter_map (λ (s : FlatOf ℕ). start_by s.out s.kind) (map (statement_of models) ss))
+row_starts : (models : List BlifModel) (name : ℕ → List ℕ) (place : ℕ → ℕ) (ss : List FlatStatement) →
+    filter_map (λ (l : LatchAt). net_start l.out.0 l.init) (joined (λ (s : FlatStatement). latch_by name place s.kind s.out s.reads) ss) ≡ map (moved_start place) (filter_map (λ (s : FlatOf ℕ). start_by s.out s.kind) (map (statement_of models) ss))
+row_starts models name place [] = refl
+row_starts models name place (s ∷ ss) = by s.kind (row_starts models name place ss)
+  where
+    by : (k : FlatKind) →
+        filter_map (λ (l : LatchAt). net_start l.out.0 l.init) (joined (λ (s : FlatStatement). latch_by name place s.kind s.out s.reads) ss) ≡ map (moved_start place) (filter_map (λ (s : FlatOf ℕ). start_by s.out s.kind) (map (statement_of models) ss)) →
+        filter_map (λ (l : LatchAt). net_start l.out.0 l.init) (latch_by name place k s.out s.reads ++ joined (λ (s : FlatStatement). latch_by name place s.kind s.out s.reads) ss)
+        ≡ map (moved_start place) (cons_option (start_by s.out (kind_of models k)) (filter_map (λ (s : FlatOf ℕ). start_by s.out s.kind) (map (statement_of models) ss)))
+    by (kind.Gate model at) rest = rest
+    by kind.Port rest = rest
+    by (kind.Latch edge control start) rest =
+        ap₂ (λ (o : Option (Started ℕ)) (xs : List (Started ℕ)). cons_option o xs) (row_start place s.out start) rest
+        ∙ cons_moved (moved_start place) (start_from s.out start) (filter_map (λ (s : FlatOf ℕ). start_by s.out s.kind) (map (statement_of models) ss))
 
 module _ (models : List BlifModel) (flat : Flat) (wired : WiredView) (order : List ℕ) (plain : list_all is_plain (written_names models) ≡ true) (fits : list_all covers_fit models ≡ true) (few : length (written_names models) ≤ 16777216)
     (walked : IsWalked models flat) (is : IsWired (wires_of flat) (length flat.names) wired) (ordered : IsOrder (graph_of flat.statements wired.sources) order) where
@@ -127,28 +125,35 @@ module _ (models : List BlifModel) (flat : Flat) (wired : WiredView) (order : Li
       ∙ ap (λ (d : FlatDesign Place). filter_map (λ (s : FlatOf Place). start_by s.out s.kind) d.statements) (placed models flat wired is plain fits few walked)
       ∙ starts_visited (main_walk models)
 
-  -- a net with the initial values of the numbered circuit, each at its spot, has the design's
-  pub net_starts : (net : NetView) → (circuit_of net).starts ≡ map (moved_start (spot flat wired order)) (numbered_circuit models flat wired).starts →
-      (clock : Option (List ℕ)) → map (moved_start (λ s. origin_in models flat (number_at flat wired order s))) (circuit_of net).starts ≡ (circuit_of_design models clock).starts
-  net_starts net same clock =
-      ap (map (moved_start (λ s. origin_in models flat (number_at flat wired order s)))) same
-      ∙ map-map (moved_start (λ s. origin_in models flat (number_at flat wired order s))) (moved_start (spot flat wired order)) (numbered_circuit models flat wired).starts
-      ∙ map_same (λ (x : Started ℕ). moved_start (λ s. origin_in models flat (number_at flat wired order s)) (moved_start (spot flat wired order) x)) (moved_start (origin_in models flat)) (numbered_circuit models flat wired).starts each
-      ∙ numbered_starts clock
-    where
-      each : (x : Started ℕ) → Contains (numbered_circuit models flat wired).starts x → moved_start (λ s. origin_in models flat (number_at flat wired order s)) (moved_start (spot flat wired order) x) ≡ moved_start (origin_in models flat) x
-      each x h =
-          let found = filter_map-from (λ (s : FlatOf ℕ). start_by s.out s.kind) (map (statement_of models) flat.statements) x h in
-          let own = Contains-map_from (statement_of models) flat.statements found.0 found.1 in
-          let at = at_of flat.statements own.0 own.1 in
-          let place = start_place models own.0.out own.0.kind x (ap (λ (s : FlatOf ℕ). start_by s.out s.kind) own.2 ∙ found.2) in
-          let back : number_at flat wired order (spot flat wired order x.place) ≡ x.place =
-          subst (λ (n : ℕ). number_at flat wired order (spot flat wired order n) ≡ n) place.1 (number_back flat wired order is ordered at.0 own.0 at.1 place.0) in
-          ap (λ (n : ℕ). record { place = origin_in models flat n; bit = x.bit }) back
+  -- the place at which a signal of the net is driven
+  abbrev pub origin : ℕ → Place
+  origin s = origin_in models flat (number_at flat wired order s)
 
-  -- a signal of the net has the flat name of the place at which it is driven
-  pub net_names : (net : NetView) → net.names ≡ map (name_at flat.names) (made_by flat wired order) → (s : ℕ) → s < length net.names → slice_get net.names s ≡ Some (name_of (origin_in models flat (number_at flat wired order s)))
-  net_names net same s below =
-      ap (λ (ns : List (List ℕ)). slice_get ns s) same
-      ∙ slice_get-map (name_at flat.names) (made_by flat wired order) s (number_at flat wired order s) (slice_get-get_or (made_by flat wired order) s 0 (let count = ap length same in let all = length-map (made_by flat wired order) (name_at flat.names) in omega (arith, below, count, all)))
-      ∙ ap Some (sym (place_name models flat wired is plain fits few walked (number_at flat wired order s)))
+  module _ (net : NetView) (made : IsMade models flat wired order net) where
+    -- the net has the initial values of the design
+    pub made_starts : (clock : Option (List ℕ)) → map (moved_start (λ s. origin_in models flat (number_at flat wired order s))) (circuit_of net).starts ≡ (circuit_of_design models clock).starts
+    made_starts clock =
+        ap (map (moved_start origin)) at_spots
+        ∙ map-map (moved_start origin) (moved_start (spot flat wired order)) (numbered_circuit models flat wired).starts
+        ∙ map_same (λ (x : Started ℕ). moved_start origin (moved_start (spot flat wired order) x)) (moved_start (origin_in models flat)) (numbered_circuit models flat wired).starts each
+        ∙ numbered_starts clock
+      where
+        at_spots : (circuit_of net).starts ≡ map (moved_start (spot flat wired order)) (numbered_circuit models flat wired).starts
+        at_spots = ap (filter_map (λ (l : LatchAt). net_start l.out.0 l.init)) made.latches ∙ row_starts models (name_at flat.names) (spot flat wired order) flat.statements
+
+        each : (x : Started ℕ) → Contains (numbered_circuit models flat wired).starts x → moved_start origin (moved_start (spot flat wired order) x) ≡ moved_start (origin_in models flat) x
+        each x h =
+            let found = filter_map-from (λ (s : FlatOf ℕ). start_by s.out s.kind) (map (statement_of models) flat.statements) x h in
+            let own = Contains-map_from (statement_of models) flat.statements found.0 found.1 in
+            let at = at_of flat.statements own.0 own.1 in
+            let place = start_place models own.0.out own.0.kind x (ap (λ (s : FlatOf ℕ). start_by s.out s.kind) own.2 ∙ found.2) in
+            let back : number_at flat wired order (spot flat wired order x.place) ≡ x.place =
+            subst (λ (n : ℕ). number_at flat wired order (spot flat wired order n) ≡ n) place.1 (number_back flat wired order is ordered at.0 own.0 at.1 place.0) in
+            ap (λ (n : ℕ). record { place = origin_in models flat n; bit = x.bit }) back
+
+    -- a signal of the net has the flat name of the place at which it is driven
+    pub made_names : (s : ℕ) → s < length net.drivers → slice_get net.names s ≡ Some (name_of (origin_in models flat (number_at flat wired order s)))
+    made_names s below =
+        ap (λ (ns : List (List ℕ)). slice_get ns s) made.names
+        ∙ slice_get-map (name_at flat.names) (made_by flat wired order) s (number_at flat wired order s) (slice_get-get_or (made_by flat wired order) s 0 (omega (arith, below, made.size)))
+        ∙ ap Some (sym (place_name models flat wired is plain fits few walked (number_at flat wired order s)))

@@ -16,7 +16,6 @@ pub mod MainPorts
 pub mod Drivers
 pub mod Laid
 pub mod Spotted
-pub mod Spots
 pub mod NumberClocks
 pub mod Whole
 pub mod KeptStarts
