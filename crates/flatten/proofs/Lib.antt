@@ -19,3 +19,4 @@ pub mod Spotted
 pub mod Spots
 pub mod NumberClocks
 pub mod Whole
+pub mod FlatNets
