@@ -32,6 +32,9 @@ use Rattle.flatten.proofs.DistinctLists.{distinct_nil, distinct_cons, distinct_h
 use Rattle.flatten.proofs.MainPorts.{inputs_distinct}
 use Rattle.flatten.proofs.Drivers.{all_reads, all_reads_low, statement_reads, output_reads, driven_low, port_reads_one, out_low, source_is, source_drives, main_is_free, port_at, in_order, has_net, net_through, net_own, net_driven}
 
+same_statement : (i j : ℕ) → Some (source.Statement i) ≡ Some (source.Statement j) → i ≡ j
+same_statement i j e = cc
+
 -- what latches drive, as a row
 latch_row : (ss : List FlatStatement) → latch_outs ss ≡ joined (λ (s : FlatStatement). latch_out s.kind s.out) ss
 latch_row [] = refl
@@ -117,28 +120,22 @@ module _ (flat : Flat) (wired : WiredView) (order : List ℕ) (is : IsWired (wir
   first_free : (n k : ℕ) (s : FlatStatement) → Contains (first_made flat wired) n → slice_get wired.sources n ≡ Some (source.Statement k) → slice_get flat.statements k ≡ Some s → (latch_out s.kind s.out ≡ s.out ∷ []) × (s.out ≡ n)
   first_free n k s h at here = by (Contains-append_cases (unclocked wired.clock flat.inputs) (latch_outs flat.statements) n h)
     where
-      some_statement : (i j : ℕ) → Some (source.Statement i) ≡ Some (source.Statement j) → i ≡ j
-      some_statement i j e = cc
-
       by : Contains (unclocked wired.clock flat.inputs) n ⊎ Contains (latch_outs flat.statements) n → (latch_out s.kind s.out ≡ s.out ∷ []) × (s.out ≡ n)
       by (inl input) = absurd (main_is_free flat wired is n k (input_of n input) at)
       by (inr latch) =
           let l = latch_of flat.statements n latch in
-          let place : l.0 ≡ k = some_statement l.0 k (sym (subst (λ (m : ℕ). slice_get wired.sources m ≡ Some (source.Statement l.0)) l.4 (source_is flat wired is l.0 l.1 l.2)) ∙ at) in
+          let place : l.0 ≡ k = same_statement l.0 k (sym (subst (λ (m : ℕ). slice_get wired.sources m ≡ Some (source.Statement l.0)) l.4 (source_is flat wired is l.0 l.1 l.2)) ∙ at) in
           let same : l.1 ≡ s = same_Some l.1 s (sym l.2 ∙ ap (slice_get flat.statements) place ∙ here) in
           subst (λ (t : FlatStatement). (latch_out t.kind t.out ≡ t.out ∷ []) × (t.out ≡ n)) same (l.3, l.4)
 
   statements_distinct : AreDistinct (map (λ (s : FlatStatement). s.out) flat.statements)
   statements_distinct = subst AreDistinct (outs_are flat) (λ i j n hi hj. by i j n hi hj)
     where
-      some_statement : (i j : ℕ) → Some (source.Statement i) ≡ Some (source.Statement j) → i ≡ j
-      some_statement i j e = cc
-
       by : (i j n : ℕ) → slice_get (wires_of flat).outs i ≡ Some n → slice_get (wires_of flat).outs j ≡ Some n → i ≡ j
       by i j n hi hj =
           let a = statement_at flat i n hi in
           let b = statement_at flat j n hj in
-          some_statement i j (sym (subst (λ (m : ℕ). slice_get wired.sources m ≡ Some (source.Statement i)) a.2 (source_is flat wired is i a.0 a.1)) ∙ subst (λ (m : ℕ). slice_get wired.sources m ≡ Some (source.Statement j)) b.2 (source_is flat wired is j b.0 b.1))
+          same_statement i j (sym (subst (λ (m : ℕ). slice_get wired.sources m ≡ Some (source.Statement i)) a.2 (source_is flat wired is i a.0 a.1)) ∙ subst (λ (m : ℕ). slice_get wired.sources m ≡ Some (source.Statement j)) b.2 (source_is flat wired is j b.0 b.1))
 
   -- inputs, latches and gates drive distinct numbers
   pub made_distinct : AreDistinct flat.inputs → AreDistinct (made_by flat wired order)
@@ -238,11 +235,8 @@ module _ (flat : Flat) (wired : WiredView) (order : List ℕ) (is : IsWired (wir
   pub own_net : (k : ℕ) (s : FlatStatement) → slice_get flat.statements k ≡ Some s → (s.kind ≡ kind.Port → ⊥) → net_of wired.nets s.out ≡ s.out
   own_net k s here free = net_own flat wired is order ordered s.out (out_low flat k s here) (λ j t at there port. free (ap (λ (x : FlatStatement). x.kind) (one_statement k j s t here there (source_is flat wired is k s here) at) ∙ port))
     where
-      some_statement : (i j : ℕ) → Some (source.Statement i) ≡ Some (source.Statement j) → i ≡ j
-      some_statement i j e = cc
-
       one_statement : (k j : ℕ) (s t : FlatStatement) → slice_get flat.statements k ≡ Some s → slice_get flat.statements j ≡ Some t → slice_get wired.sources s.out ≡ Some (source.Statement k) → slice_get wired.sources s.out ≡ Some (source.Statement j) → s ≡ t
-      one_statement k j s t here there a b = same_Some s t (sym here ∙ ap (slice_get flat.statements) (some_statement k j (sym a ∙ b)) ∙ there)
+      one_statement k j s t here there a b = same_Some s t (sym here ∙ ap (slice_get flat.statements) (same_statement k j (sym a ∙ b)) ∙ there)
 
   -- and has a spot
   pub cell_spot : (k : ℕ) (s : FlatStatement) → slice_get flat.statements k ≡ Some s → (s.kind ≡ kind.Port → ⊥) → HasSpot flat wired order s.out

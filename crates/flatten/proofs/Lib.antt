@@ -20,3 +20,4 @@ pub mod Spots
 pub mod NumberClocks
 pub mod Whole
 pub mod FlatNets
+pub mod KeptStarts

@@ -86,10 +86,10 @@ module _ (models : List BlifModel) (flat : Flat) (wired : WiredView) (is : IsWir
     abbrev pub place : ℕ → Place
     place = origin_in models flat
 
-    placed : named (origin_in models flat) (view_of models flat) ≡ placed_design models
+    pub placed : named (origin_in models flat) (view_of models flat) ≡ placed_design models
     placed = placed_is models flat (places_plain models (good_models models plain fits few)) walked.same
 
-    place_name : (n : ℕ) → name_of (origin_in models flat n) ≡ name_at flat.names n
+    pub place_name : (n : ℕ) → name_of (origin_in models flat n) ≡ name_at flat.names n
     place_name n = place_named_is (design_places (placed_design models)) (name_at flat.names n)
 
     -- an input or a clock stands in the main model

@@ -1,11 +1,10 @@
 -- The spots of a net that has all its gates.
-use Rattle.std.proofs.Common.{◌≡◌, ◌∙◌, ◌+◌, ◌<◌, ◌==◌, ℕ, zero, suc, Bool, true, false, true≢false, cond, List, [], ◌∷◌, ◌++◌, map, length, take, slice_get, Some, refl, sym, ap, ap₂, subst, append_assoc, append-nil, arith, inl, inr, eqb-true, eq-eqb}
-use Rattle.std.specs.Prelude.{◌⊎◌}
+use Rattle.std.proofs.Common.{◌≡◌, ◌∙◌, ◌+◌, ◌<◌, ℕ, zero, suc, List, [], ◌∷◌, ◌++◌, map, length, take, slice_get, Some, refl, sym, ap, ap₂, subst, append_assoc, append-nil, arith}
 use Rattle.std.specs.List.{All, Contains}
 use Rattle.std.proofs.lemmas.List.{map-append, length-append}
 use Rattle.std.proofs.lemmas.List.Elements.{All-contains, Contains-append_left}
 use Rattle.std.proofs.lemmas.Option.{slice_get_within, get_or_from_slice_get}
-use Rattle.circuit_theory.proofs.Lists.{Contains-cases, Contains-map_from, All-from_each}
+use Rattle.circuit_theory.proofs.Lists.{Contains-map_from, All-from_each}
 use Rattle.blif_read.specs.declared.design.BlifModel.{BlifModel}
 use Rattle.flat_net.specs.declared.signals.Signal.{Signal}
 use Rattle.flat_net.specs.declared.parts.LatchAt.{LatchAt}
@@ -18,32 +17,17 @@ use Rattle.flat_walk.specs.declared.flat.FlatKind.TheVariants as kind
 use Rattle.flat_walk.specs.Flat.{name_at, kind_of}
 use Rattle.flat_wires.specs.Wiring.{joined, control_by, wires_of}
 use Rattle.flat_wires.specs.Wired.{WiredView, IsWired}
-use Rattle.flat_wires.proofs.Bounds.{nothing}
 use Rattle.flat_wires.proofs.Joined.{slice_get-append_right}
 use Rattle.flat_wires.proofs.Rows.{of_row}
 use Rattle.flatten.specs.Built.{unclocked, with_inputs, latch_out, latch_outs, with_latch_of, with_latches}
 use Rattle.flatten.specs.Graph.{graph_of}
 use Rattle.flatten.specs.Order.{IsOrder}
-use Rattle.flatten.specs.Gated.{place_of, first_made, gates_in, made_by, spot, HasSpot, HasGates}
+use Rattle.flatten.specs.Gated.{first_made, gates_in, spot, HasSpot, HasGates}
 use Rattle.flatten.specs.Shown.{signal_at, latch_data, latch_signals, latch_nexts}
 use Rattle.flatten.proofs.Rows.{slice_get-append}
 use Rattle.flatten.proofs.Drivers.{in_order, read_low}
 use Rattle.flatten.proofs.Spotted.{data_read}
 use Rattle.flatten.proofs.Laid.{fanin_spot, output_spot}
-
--- what stands in a list stands at its place
-pub place_there : (ms : List ℕ) (n : ℕ) → Contains ms n → slice_get ms (place_of ms n) ≡ Some n
-place_there [] n h = absurd (nothing n h)
-place_there (m ∷ ms) n h = by (m == n) refl (Contains-cases m n ms h) (λ k. place_there ms n k)
-  where
-    by : (b : Bool) → (m == n) ≡ b → (m ≡ n) ⊎ Contains ms n → (Contains ms n → slice_get ms (place_of ms n) ≡ Some n) → slice_get (m ∷ ms) (cond b 0 (suc (place_of ms n))) ≡ Some n
-    by true e k rest = ap Some (eqb-true m n e)
-    by false e (inl same) rest = absurd (true≢false (sym (eq-eqb m n same) ∙ e))
-    by false e (inr later) rest = rest later
-
--- a spot is within the net
-pub spot_within : (flat : Flat) (wired : WiredView) (order : List ℕ) (n : ℕ) → HasSpot flat wired order n → spot flat wired order n < length (made_by flat wired order)
-spot_within flat wired order n live = slice_get_within (made_by flat wired order) (spot flat wired order n) _ (place_there (made_by flat wired order) _ live)
 
 -- signals in a row
 abbrev pub signals_from : ℕ → ℕ → List Signal

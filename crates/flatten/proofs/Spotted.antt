@@ -1,14 +1,14 @@
 -- The spots of what is shown, taken over or placed in the circuit of numbered statements.
-use Rattle.std.proofs.Common.{◌≡◌, ◌∙◌, ◌<◌, ℕ, true, not, List, ◌++◌, map, length, filter, slice_get, Option, Some, None, refl, sym, ap, subst, inl, inr, eqb-true}
+use Rattle.std.proofs.Common.{◌≡◌, ◌∙◌, ◌<◌, ℕ, true, false, Bool, not, List, ◌++◌, map, length, filter, slice_get, Option, Some, None, refl, sym, ap, subst, inl, inr, eqb-true, eq-eqb, ◌∷◌, [], ◌==◌, suc, true≢false, cond}
 use Rattle.std.specs.Prelude.{◌⊎◌}
 use Rattle.std.specs.List.{All, Contains}
 use Rattle.std.proofs.lemmas.List.Elements.{All-contains, Contains-append_left, Contains-append_right, Contains-append_cases}
-use Rattle.std.proofs.lemmas.Option.{slice_get-get_or}
+use Rattle.std.proofs.lemmas.Option.{slice_get-get_or, slice_get_within, get_or_from_slice_get}
 use Rattle.circuit_theory.specs.Cover.{Cover}
 use Rattle.circuit_theory.specs.Circuit.{Equation, Gate, Latch, Port, Named, out_of}
 use Rattle.circuit_theory.specs.Flattened.{Follows}
 use Rattle.circuit_theory.specs.Places.{IsPlace}
-use Rattle.circuit_theory.proofs.Lists.{Contains-map_from, Contains-filter, All-from_each, at_of, of_at}
+use Rattle.circuit_theory.proofs.Lists.{Contains-cases, Contains-map_from, Contains-filter, All-from_each, at_of, of_at}
 use Rattle.sec_base.specs.declared.basics.Edge.{Edge}
 use Rattle.sec_base.specs.declared.basics.Init.{Init}
 use Rattle.blif_read.specs.declared.design.BlifModel.{BlifModel}
@@ -27,13 +27,27 @@ use Rattle.flatten.specs.Built.{unclocked, latch_outs}
 use Rattle.flatten.specs.Clocked.{numbered_circuit, IsClockNumber, number_at}
 use Rattle.flatten.specs.Graph.{is_gate_out, graph_of}
 use Rattle.flatten.specs.Order.{IsOrder}
-use Rattle.flatten.specs.Gated.{net_of, first_made, gates_in, made_by, HasSpot}
+use Rattle.flatten.specs.Gated.{place_of, net_of, spot, first_made, gates_in, made_by, HasSpot}
 use Rattle.flatten.specs.Shown.{latch_data}
 use Rattle.flatten.proofs.Gating.{filter_passes}
 use Rattle.flatten.proofs.LoopLaws.{list_all_place}
 use Rattle.flatten.proofs.Drivers.{all_reads, all_reads_low, driven_low, statement_reads, output_reads, first_there, port_reads_one, out_low, source_drives, main_is_free, has_net, net_through, net_own, net_driven}
-use Rattle.flatten.proofs.Laid.{latch_of, gate_of, input_main, input_of, end_there, fanin_spot, output_spot, own_net}
+use Rattle.flatten.proofs.Laid.{latch_of, gate_of, input_main, input_of, end_there, fanin_spot, output_spot, own_net, cell_spot}
 use Rattle.flatten.proofs.NumberClocks.{leads_back}
+
+-- what stands in a list stands at its place
+pub place_there : (ms : List ℕ) (n : ℕ) → Contains ms n → slice_get ms (place_of ms n) ≡ Some n
+place_there [] n h = absurd (nothing n h)
+place_there (m ∷ ms) n h = by (m == n) refl (Contains-cases m n ms h) (λ k. place_there ms n k)
+  where
+    by : (b : Bool) → (m == n) ≡ b → (m ≡ n) ⊎ Contains ms n → (Contains ms n → slice_get ms (place_of ms n) ≡ Some n) → slice_get (m ∷ ms) (cond b 0 (suc (place_of ms n))) ≡ Some n
+    by true e k rest = ap Some (eqb-true m n e)
+    by false e (inl same) rest = absurd (true≢false (sym (eq-eqb m n same) ∙ e))
+    by false e (inr later) rest = rest later
+
+-- a spot is within the net
+pub spot_within : (flat : Flat) (wired : WiredView) (order : List ℕ) (n : ℕ) → HasSpot flat wired order n → spot flat wired order n < length (made_by flat wired order)
+spot_within flat wired order n live = slice_get_within (made_by flat wired order) (spot flat wired order n) _ (place_there (made_by flat wired order) _ live)
 
 -- the data of a latch is what it reads
 pub data_read : (flat : Flat) (k n : ℕ) (s : FlatStatement) → slice_get flat.statements k ≡ Some s → Contains (latch_data s.kind s.out s.reads) n → (s.kind ≡ kind.Port → ⊥) × Contains s.reads n
@@ -103,6 +117,12 @@ module _ (flat : Flat) (wired : WiredView) (order : List ℕ) (is : IsWired (wir
 
   pub number_low : (s : ℕ) → s < length (made_by flat wired order) → number_at flat wired order s < length flat.names
   number_low s below = All-contains (λ n. n < length flat.names) (made_by flat wired order) (number_at flat wired order s) made_low (of_at (made_by flat wired order) s (number_at flat wired order s) (slice_get-get_or (made_by flat wired order) s 0 below))
+
+  -- what a gate or a latch drives is the number of its signal
+  pub number_back : (k : ℕ) (s : FlatStatement) → slice_get flat.statements k ≡ Some s → (s.kind ≡ kind.Port → ⊥) → number_at flat wired order (spot flat wired order s.out) ≡ s.out
+  number_back k s here free =
+      get_or_from_slice_get (made_by flat wired order) (spot flat wired order s.out) (net_of wired.nets s.out) 0 (place_there (made_by flat wired order) (net_of wired.nets s.out) (cell_spot flat wired order is ordered k s here free))
+      ∙ own_net flat wired order is ordered k s here free
 
   -- a number whose net is driven
   record IsFed (n : ℕ) : Type 0 where
