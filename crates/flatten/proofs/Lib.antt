@@ -18,4 +18,5 @@ pub mod Laid
 pub mod Spotted
 pub mod NumberClocks
 pub mod Whole
+pub mod FlatNets
 pub mod KeptStarts

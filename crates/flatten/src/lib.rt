@@ -7,6 +7,8 @@ mod gates;
 mod loops;
 mod making;
 mod search;
+#[cfg(test)]
+mod tests;
 
 pub use design::flatten;
 pub use flat_walk::FlatError;
