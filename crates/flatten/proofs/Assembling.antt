@@ -36,30 +36,14 @@ use Rattle.flatten.specs.Built.{unclocked, latch_out, latch_outs}
 use Rattle.flatten.specs.Shown.{latch_data}
 use Rattle.flatten.specs.Gated.{IsLaid, HasSpot, place_of, net_or, net_of, spot, made_by, first_made, gates_in, driver_of, driver_by, statement_or, net_equation}
 use Rattle.flatten.specs.Made.{IsSpotted, IsMade, port_on, latch_by, latch_on}
-use Rattle.flatten.proofs.LoopLaws.{list_all_place, source_is, statement_within}
 use Rattle.flatten.proofs.Gating.{place_of_is, filter_passes}
+use Rattle.flatten.proofs.DistinctLists.{Contains-kept}
+use Rattle.flatten.proofs.Drivers.{source_is, out_low, first_there, port_reads_one}
+use Rattle.flatten.proofs.Laid.{gate_of}
+use Rattle.flatten.proofs.Laid.{latch_there as latch_there_out}
+use Rattle.flatten.proofs.NumberClocks.{leads_back}
+use Rattle.flatten.proofs.Spotted.{place_there}
 use Rattle.flatten.proofs.MadeNets.{order_within, first_own}
-
--- a number of a list stands at its place
-pub place_there : (ms : List ℕ) (n : ℕ) → Contains ms n → slice_get ms (place_of ms n) ≡ Some n
-place_there [] n h = absurd (omega (arith, h.1))
-place_there (m ∷ ms) n h = by (m == n) refl (Contains-cases m n ms h) (place_there ms n)
-  where
-    by : (b : Bool) → (m == n) ≡ b → (m ≡ n) ⊎ Contains ms n → (Contains ms n → slice_get ms (place_of ms n) ≡ Some n) → slice_get (m ∷ ms) (cond b 0 (suc (place_of ms n))) ≡ Some n
-    by true e k rest = ap Some (eqb-true m n e)
-    by false e (inl same) rest = absurd (true≢false (sym (eq-eqb m n same) ∙ e))
-    by false e (inr later) rest = rest later
-
--- what passes its test is kept by a filter
-pub filter_keeps : {X : Type 0} (test : X → Bool) (xs : List X) (x : X) → Contains xs x → test x ≡ true → Contains (filter test xs) x
-filter_keeps test [] x h e = h
-filter_keeps {X} test (y ∷ xs) x h e = by (test y) refl (Contains-cases y x xs h) (λ k. filter_keeps test xs x k e)
-  where
-    by : (b : Bool) → test y ≡ b → (y ≡ x) ⊎ Contains xs x → (Contains xs x → Contains (filter test xs) x) → Contains (cond b (y ∷ filter test xs) (filter test xs)) x
-    by true q (inl same) rest = subst (Contains (y ∷ filter test xs)) same (Contains-head y (filter test xs))
-    by true q (inr k) rest = Contains-tail y x (filter test xs) (rest k)
-    by false q (inl same) rest = absurd (true≢false (sym (ap test same ∙ e) ∙ q))
-    by false q (inr k) rest = rest k
 
 latch_names-append : {P : Type 0} (xs ys : List (Equation P)) → latch_names (xs ++ ys) ≡ latch_names xs ++ latch_names ys
 latch_names-append [] ys = refl
@@ -74,21 +58,6 @@ gates_unnamed covers (g ∷ gates) = gates_unnamed covers gates
 latches_named : (latches : List LatchAt) → latch_names (map equation_of_latch latches) ≡ map (λ (l : LatchAt). l.name) latches
 latches_named [] = refl
 latches_named (l ∷ latches) = ap (λ (ns : List (List ℕ)). l.name ∷ ns) (latches_named latches)
-
--- a latch is one of those that drive
-latch_outs_there : (ss : List FlatStatement) (s : FlatStatement) → Contains ss s → latch_out s.kind s.out ≡ s.out ∷ [] → Contains (latch_outs ss) s.out
-latch_outs_there [] s h is = absurd (omega (arith, h.1))
-latch_outs_there (t ∷ ss) s h is = by (Contains-cases t s ss h) (λ k. latch_outs_there ss s k is)
-  where
-    by : (t ≡ s) ⊎ Contains ss s → (Contains ss s → Contains (latch_outs ss) s.out) → Contains (latch_out t.kind t.out ++ latch_outs ss) s.out
-    by (inl same) later = Contains-append_left (latch_out t.kind t.out) (latch_outs ss) s.out
-        (subst (λ (ns : List ℕ). Contains ns s.out) (sym (ap (λ (x : FlatStatement). latch_out x.kind x.out) same ∙ is)) (Contains-head s.out []))
-    by (inr k) later = Contains-append_right (latch_out t.kind t.out) (latch_outs ss) s.out (later k)
-
--- a statement that reads one signal reads its first
-first_there : (out : ℕ) (reads : List ℕ) → length reads ≡ 1 → Contains reads (first_of out reads)
-first_there out [] one = absurd (omega (arith, one))
-first_there out (r ∷ reads) one = Contains-head r reads
 
 module _ (models : List BlifModel) (flat : Flat) (wired : WiredView) (order : List ℕ) (is : IsWired (wires_of flat) (length flat.names) wired) (laid : IsLaid flat wired order)
     (spotted : IsSpotted flat wired order) (net : NetView) (made : IsMade models flat wired order net) where
@@ -151,47 +120,22 @@ module _ (models : List BlifModel) (flat : Flat) (wired : WiredView) (order : Li
       by (kind.Latch edge control init) k e = absurd (cc)
       by kind.Port k e = (k, cc, cc)
 
-  -- the statement behind a gate's number
-  gate_from : (n : ℕ) → is_gate_out st wired.sources n ≡ true → (k m c : ℕ) × (s : FlatStatement) × (slice_get wired.sources n ≡ Some (source.Statement k)) × (slice_get st k ≡ Some s) × (s.kind ≡ kind.Gate m c)
-  gate_from n h = by (slice_get wired.sources n) refl h
-    where
-      by_kind : (k : ℕ) (s : FlatStatement) (q : FlatKind) → slice_get wired.sources n ≡ Some (source.Statement k) → slice_get st k ≡ Some s → s.kind ≡ q → is_gate_kind q ≡ true →
-          (k m c : ℕ) × (s : FlatStatement) × (slice_get wired.sources n ≡ Some (source.Statement k)) × (slice_get st k ≡ Some s) × (s.kind ≡ kind.Gate m c)
-      by_kind k s (kind.Gate m c) hn hk e g = (k, m, c, s, hn, hk, e)
-      by_kind k s (kind.Latch edge control init) hn hk e g = absurd (true≢false (sym g))
-      by_kind k s kind.Port hn hk e g = absurd (true≢false (sym g))
-
-      by_statement : (k : ℕ) (o : Option FlatStatement) → slice_get wired.sources n ≡ Some (source.Statement k) → slice_get st k ≡ o → is_gate_in o ≡ true →
-          (k m c : ℕ) × (s : FlatStatement) × (slice_get wired.sources n ≡ Some (source.Statement k)) × (slice_get st k ≡ Some s) × (s.kind ≡ kind.Gate m c)
-      by_statement k None hn hk g = absurd (true≢false (sym g))
-      by_statement k (Some s) hn hk g = by_kind k s s.kind hn hk refl g
-
-      by : (o : Option Source) → slice_get wired.sources n ≡ o → is_gate_by st o ≡ true →
-          (k m c : ℕ) × (s : FlatStatement) × (slice_get wired.sources n ≡ Some (source.Statement k)) × (slice_get st k ≡ Some s) × (s.kind ≡ kind.Gate m c)
-      by None hn g = absurd (true≢false (sym g))
-      by (Some source.Open) hn g = absurd (true≢false (sym g))
-      by (Some source.Input) hn g = absurd (true≢false (sym g))
-      by (Some (source.Statement k)) hn g = by_statement k (slice_get st k) hn refl g
-
   driver_at : (n k : ℕ) (s : FlatStatement) → slice_get wired.sources n ≡ Some (source.Statement k) → slice_get st k ≡ Some s → driver_of flat wired n ≡ s
   driver_at n k s hn hk = ap (driver_by st n) hn ∙ ap (statement_or n) hk
-
-  source_at : (i : ℕ) (s : FlatStatement) → slice_get st i ≡ Some s → slice_get wired.sources s.out ≡ Some (source.Statement i)
-  source_at i s h = source_is flat wired is i s h (statement_within flat wired is i s h).0
 
   in_order : (n : ℕ) → n < length flat.names → Contains order n
   in_order n l = laid.is_order.each n (omega (arith, l, length-map wired.sources (source_reads st), laid.size))
 
   -- a gate is one of those in the order
   gate_kept : (i : ℕ) (s : FlatStatement) (m c : ℕ) → slice_get st i ≡ Some s → s.kind ≡ kind.Gate m c → Contains (gates_in flat wired order) s.out
-  gate_kept i s m c h k = filter_keeps (is_gate_out st wired.sources) order s.out (in_order s.out (statement_within flat wired is i s h).0)
-      (ap (is_gate_by st) (source_at i s h) ∙ ap is_gate_in h ∙ ap is_gate_kind k)
+  gate_kept i s m c h k = Contains-kept (is_gate_out st wired.sources) order s.out (in_order s.out (out_low flat i s h))
+      (ap (is_gate_by st) (source_is flat wired is i s h) ∙ ap is_gate_in h ∙ ap is_gate_kind k)
 
   -- the net's equation of a statement that is no port
   gate_there : (i : ℕ) (s : FlatStatement) (m c : ℕ) → slice_get st i ≡ Some s → s.kind ≡ kind.Gate m c → Contains net_equations (moved signal (equation s))
   gate_there i s m c h k = Contains-append_left (map (equation_of_gate net.covers) net.gates) (map equation_of_latch net.latches) (moved signal (equation s))
       (subst (λ (es : List (Equation ℕ)). Contains es (moved signal (equation s))) (sym made.gates)
-      (subst (λ (t : FlatStatement). Contains (map (λ n. net_equation models flat wired order (driver_of flat wired n)) (gates_in flat wired order)) (net_equation models flat wired order t)) (driver_at s.out i s (source_at i s h) h)
+      (subst (λ (t : FlatStatement). Contains (map (λ n. net_equation models flat wired order (driver_of flat wired n)) (gates_in flat wired order)) (net_equation models flat wired order t)) (driver_at s.out i s (source_is flat wired is i s h) h)
       (Contains-map (λ n. net_equation models flat wired order (driver_of flat wired n)) (gates_in flat wired order) s.out (gate_kept i s m c h k))))
 
   latch_there : (i : ℕ) (s : FlatStatement) (edge : Option Edge) (control : Option ℕ) (init : Init) → slice_get st i ≡ Some s → s.kind ≡ kind.Latch edge control init → Contains net_equations (moved signal (equation s))
@@ -219,8 +163,8 @@ module _ (models : List BlifModel) (flat : Flat) (wired : WiredView) (order : Li
       by : Contains (map (equation_of_gate net.covers) net.gates) e ⊎ Contains (map equation_of_latch net.latches) e → (x : Equation ℕ) × Contains d.equations x × (moved signal x ≡ e)
       by (inl k) =
           let found = Contains-map_from (λ n. net_equation models flat wired order (driver_of flat wired n)) (gates_in flat wired order) e (subst (λ (es : List (Equation ℕ)). Contains es e) made.gates k) in
-          let g = gate_from found.0 (filter_passes (is_gate_out st wired.sources) order found.0 found.1) in
-          (equation g.3, equation_there g.3 (of_at st g.0 g.3 g.5), ap (net_equation models flat wired order) (sym (driver_at found.0 g.0 g.3 g.4 g.5)) ∙ found.2)
+          let g = gate_of st wired.sources found.0 (filter_passes (is_gate_out st wired.sources) order found.0 found.1) in
+          (equation g.1, equation_there g.1 (of_at st g.0 g.1 g.3), ap (net_equation models flat wired order) (sym (driver_at found.0 g.0 g.1 g.2 g.3)) ∙ found.2)
       by (inr k) =
           let found = Contains-map_from equation_of_latch net.latches e k in
           let at = at_of (joined (latch_on flat wired order) st) found.0 (subst (λ (ls : List LatchAt). Contains ls found.0) made.latches found.1) in
@@ -259,36 +203,13 @@ module _ (models : List BlifModel) (flat : Flat) (wired : WiredView) (order : Li
       let at = slice_get-get_or full s 0 (omega (arith, l, made.size)) in
       ap (place_of full) (own_made (origin s) (of_at full s (origin s) at)) ∙ place_of_is full s (origin s) laid.once at
 
-  -- ports lead back to the net
-  port_there : (out from : ℕ) → Contains (wires_of flat).ports (record { out = out; from = from }) → Contains d.equations (Port out from)
-  unfolding wires_of
-  port_there out from h =
-      let at = at_of (wires_of flat).ports (record { out = out; from = from }) h in
-      let row = Contains-joined_from (λ (s : FlatOf ℕ). port_by s.out s.reads s.kind) (map (statement_of []) st) (record { out = out; from = from }) at.0 at.1 in
-      let s = key_at (statement_of []) st row.0 row.1 row.2 in
-      subst (Contains d.equations) (by s.0 s.0.kind row.3 (subst (λ (x : FlatOf ℕ). slice_get (port_by x.out x.reads x.kind) row.3 ≡ Some (record { out = out; from = from })) (sym s.2) row.4)) (equation_there s.0 (of_at st row.0 s.0 s.1))
-    where
-      by_reads : (o : ℕ) (reads : List ℕ) (k : ℕ) → slice_get (port_from o reads) k ≡ Some (record { out = out; from = from }) → Port o (first_of o reads) ≡ Port out from
-      by_reads o [] k h = absurd (none-some (record { out = out; from = from }) h)
-      by_reads o (r ∷ reads) zero h = ap (λ (p : PortOf ℕ). Port p.out p.from) (same_Some (record { out = o; from = r }) (record { out = out; from = from }) h)
-      by_reads o (r ∷ reads) (suc k) h = absurd (none-some (record { out = out; from = from }) h)
-
-      by : (s : FlatStatement) (q : FlatKind) (k : ℕ) → slice_get (port_by s.out s.reads (kind_of [] q)) k ≡ Some (record { out = out; from = from }) → equation_by (name_at flat.names) s.out s.reads (kind_of models q) ≡ Port out from
-      by s (kind.Gate m c) k h = absurd (none-some (record { out = out; from = from }) h)
-      by s (kind.Latch edge control init) k h = absurd (none-some (record { out = out; from = from }) h)
-      by s kind.Port k h = by_reads s.out s.reads k h
-
-  port_follows : {p q : ℕ} → WireFollows (wires_of flat) p q → Follows d p q
-  port_follows WireFollows.here = Follows.here
-  port_follows (WireFollows.there {p = p} {from = from} h rest) = Follows.there (port_there p from h) (port_follows rest)
-
   follows_net : (n : ℕ) → Follows d n (net_of wired.nets n)
   follows_net n = by (slice_get wired.nets n) refl
     where
       by : (o : Option (Option ℕ)) → slice_get wired.nets n ≡ o → Follows d n (net_or n o)
       by None h = Follows.here
       by (Some None) h = Follows.here
-      by (Some (Some m)) h = port_follows (is.tables.nets.net n m h).follows
+      by (Some (Some m)) h = leads_back models flat wired is wired.clock (is.tables.nets.net n m h).follows
 
   signal_of : (n : ℕ) → HasSpot flat wired order n → IsSignalOf d (length net.drivers) origin n (signal n)
   signal_of n live = record { within = signal_low n live; follows = subst (Follows d n) (sym (origin_signal n live)) (follows_net n) }
@@ -336,7 +257,7 @@ module _ (models : List BlifModel) (flat : Flat) (wired : WiredView) (order : Li
       let k = gate_is f.1 out fanins cover f.3 in (
         subst (λ (n : ℕ). IsSignalOf d (length net.drivers) origin n (signal n)) k.3
             (signal_of f.1.out (made_spot f.1.out (Contains-append_right (first_made flat wired) (gates_in flat wired order) f.1.out (gate_kept f.0 f.1 k.0 k.1 f.2 k.2)))),
-        λ n there. signal_of n (laid.read f.1.out f.0 k.0 k.1 n f.1 (source_at f.0 f.1 f.2) f.2 k.2 (subst (λ (ns : List ℕ). Contains ns n) (sym k.4) there)),
+        λ n there. signal_of n (laid.read f.1.out f.0 k.0 k.1 n f.1 (source_is flat wired is f.0 f.1 f.2) f.2 k.2 (subst (λ (ns : List ℕ). Contains ns n) (sym k.4) there)),
       )
 
   taken : (name : List ℕ) (out next : ℕ) → IsLatch d name out next → IsSignalOf d (length net.drivers) origin out (signal out) × IsSignalOf d (length net.drivers) origin next (signal next)
@@ -345,7 +266,7 @@ module _ (models : List BlifModel) (flat : Flat) (wired : WiredView) (order : Li
       let s : FlatStatement = f.1 in
       let k = latch_is s name out next f.3 in
       let there = of_at st f.0 s f.2 in
-      let first = Contains-append_right (unclocked wired.clock flat.inputs) (latch_outs st) s.out (latch_outs_there st s there (ap (λ (q : FlatKind). latch_out q s.out) k.3)) in
+      let first = Contains-append_right (unclocked wired.clock flat.inputs) (latch_outs st) s.out (latch_there_out st f.0 s f.2 (ap (λ (q : FlatKind). latch_out q s.out) k.3)) in
       let reads = subst (λ (ns : List ℕ). Contains ns (first_of s.out s.reads)) (sym (ap (λ (q : FlatKind). latch_data q s.out s.reads) k.3)) (Contains-head (first_of s.out s.reads) []) in (
         subst (λ (n : ℕ). IsSignalOf d (length net.drivers) origin n (signal n)) k.4 (signal_of s.out (made_spot s.out (Contains-append_left (first_made flat wired) (gates_in flat wired order) s.out first))),
         subst (λ (n : ℕ). IsSignalOf d (length net.drivers) origin n (signal n)) k.5 (signal_of (first_of s.out s.reads) (spotted.taken s (first_of s.out s.reads) there reads)),
@@ -361,8 +282,8 @@ module _ (models : List BlifModel) (flat : Flat) (wired : WiredView) (order : Li
       let f = statement_from (Port out from) h in
       let s : FlatStatement = f.1 in
       let k = port_is s out from f.3 in
-      let one = eqb-true (length s.reads) 1 (subst (λ (q : FlatKind). can_read (length s.reads) q ≡ true) k.0 (list_all_place reads_as_kind st f.0 s flat.shaped f.2)) in
-      let same = laid.through s.out f.0 (first_of s.out s.reads) s (source_at f.0 s f.2) f.2 k.0 (first_there s.out s.reads one) in
+      let one = port_reads_one flat f.0 s f.2 k.0 in
+      let same = laid.through s.out f.0 (first_of s.out s.reads) s (source_is flat wired is f.0 s f.2) f.2 k.0 (first_there s.out s.reads one) in
       ap signal (sym k.1) ∙ ap (place_of full) (sym same) ∙ ap signal k.2
 
   pub made_is_assembled : (clocked : ℕ → Type 0) → ((n : ℕ) → IsPlace d n → (clocked n → ⊥) → HasSpot flat wired order n) →

@@ -10,16 +10,14 @@ use Rattle.flat_walk.specs.Walked.{IsWalked}
 use Rattle.flat_walk.proofs.Numbered.{IsNumber}
 use Rattle.flat_wires.specs.Wiring.{wires_of}
 use Rattle.flat_wires.specs.Wired.{WiredView, IsWired}
-use Rattle.flatten.specs.Clocked.{numbered_circuit, IsClockNumber}
 use Rattle.flatten.specs.DesignFaults.{IsFlatOf}
 use Rattle.flatten.specs.Gated.{IsLaid}
 use Rattle.flatten.specs.Graph.{graph_of}
 use Rattle.flatten.specs.Made.{IsSpotted, IsMade}
 use Rattle.flatten.specs.Order.{IsOrder}
-use Rattle.flatten.proofs.Assembling.{made_is_assembled}
 use Rattle.flatten.proofs.Laid.{laid}
-use Rattle.flatten.proofs.Spotted.{outputs_spotted, taken_spotted, place_spot}
-use Rattle.flatten.proofs.Whole.{net_is_flat}
+use Rattle.flatten.proofs.Spotted.{outputs_spotted, taken_spotted}
+use Rattle.flatten.proofs.Whole.{made_is_flat}
 
 -- the clock has the number of a name
 pub clock_within : (size : ℕ) (clock : Option ℕ) → IsNumber size clock → IfSome clock (λ c. c < size)
@@ -41,7 +39,4 @@ module _ (models : List BlifModel) (flat : Flat) (wired : WiredView) (order numb
     pub is_flat : list_all is_plain (written_names models) ≡ true → list_all covers_fit models ≡ true → length (written_names models) ≤ 16777216 →
         (net : NetView) (view : List BlifModel) → view ≡ models → IsMade view flat wired numbers net → IsFlatOf models net
     is_flat plain fits few net view view_is view_made =
-        let made = subst (λ (ms : List BlifModel). IsMade ms flat wired numbers net) view_is view_made in
-        net_is_flat models flat wired numbers ports plain fits few walked is is_order net
-        (made_is_assembled models flat wired numbers is is_laid is_spotted net made (IsClockNumber (numbered_circuit models flat wired) wired.clock) (place_spot flat wired numbers is is_order models))
-        made.size made.clock
+        made_is_flat models flat wired numbers ports plain fits few walked is is_order net (subst (λ (ms : List BlifModel). IsMade ms flat wired numbers net) view_is view_made) is_laid is_spotted

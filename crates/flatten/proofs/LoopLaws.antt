@@ -102,7 +102,7 @@ module _ (flat : Flat) (wired : WiredView) (is : IsWired (wires_of flat) (length
   before_take i j n h l = Contains-append_right (w.inputs ++ w.clocks) (take i w.outs) n (of_at (take i w.outs) j n (slice_get-take_to i w.outs j n l h))
 
   -- the table has the statement that drives a signal
-  pub source_is : (i : ℕ) (s : FlatStatement) → slice_get st i ≡ Some s → s.out < length flat.names → slice_get wired.sources s.out ≡ Some (source.Statement i)
+  source_is : (i : ℕ) (s : FlatStatement) → slice_get st i ≡ Some s → s.out < length flat.names → slice_get wired.sources s.out ≡ Some (source.Statement i)
   source_is i s h l = by (get_or wired.sources s.out source.Open) (slice_get-get_or wired.sources s.out source.Open (omega (arith, l, is.tables.len)))
     where
       drives : slice_get w.outs i ≡ Some s.out
@@ -160,7 +160,7 @@ module _ (flat : Flat) (wired : WiredView) (is : IsWired (wires_of flat) (length
           none-some r (subst (λ (rs : List ℕ). slice_get rs p.0 ≡ Some r) none p.1))
 
   -- the numbers of a statement are in range
-  pub statement_within : (i : ℕ) (s : FlatStatement) → slice_get st i ≡ Some s → (s.out < length flat.names) × ((n : ℕ) → Contains s.reads n → n < length flat.names)
+  statement_within : (i : ℕ) (s : FlatStatement) → slice_get st i ≡ Some s → (s.out < length flat.names) × ((n : ℕ) → Contains s.reads n → n < length flat.names)
   statement_within i s h =
       let all : is_within (length flat.names) s ≡ true = list_all_place (is_within (length flat.names)) st i s flat.within h in
       let out = and_both (nat_lt s.out (length flat.names)) (list_all (λ n. nat_lt n (length flat.names)) s.reads && has_clock_within (length flat.names) s.kind) all in

@@ -3,7 +3,7 @@ use Rattle.std.proofs.Common.{◌≡◌, ◌+◌, ◌<◌, ◌∙◌, ℕ, zero,
 use Rattle.std.specs.Prelude.{◌⊎◌, slice_index_or, option_map}
 use Rattle.std.specs.List.{All, Contains}
 use Rattle.std.proofs.lemmas.List.{length-append, length-map, take_all}
-use Rattle.std.proofs.lemmas.List.Elements.{All-contains, Contains-append_cases}
+use Rattle.std.proofs.lemmas.List.Elements.{All-contains, Contains-append_left, Contains-append_cases}
 use Rattle.std.proofs.lemmas.Option.{get_or_from_slice_get, slice_get_within}
 use Rattle.circuit_theory.specs.Cover.{Cover}
 use Rattle.circuit_theory.proofs.Lists.{Contains-cases, Contains-head, Contains-tail, Contains-filter, Contains-map_from, at_of, of_at, All-from_each, map_same}
@@ -21,8 +21,8 @@ use Rattle.flat_walk.specs.declared.flat.Flat.{Flat}
 use Rattle.flat_walk.specs.declared.flat.FlatStatement.{FlatStatement}
 use Rattle.flat_walk.specs.declared.flat.FlatKind.{FlatKind}
 use Rattle.flat_walk.specs.declared.flat.FlatKind.TheVariants as kind
-use Rattle.flat_walk.specs.Flat.{name_at, first_of, is_number}
-use Rattle.flat_wires.specs.Wiring.{joined}
+use Rattle.flat_walk.specs.Flat.{name_at, first_of, kind_of}
+use Rattle.flat_wires.specs.Wiring.{joined, control_by}
 use Rattle.flat_wires.specs.Wired.{WiredView}
 use Rattle.flat_wires.proofs.Joined.{slice_get-append_right}
 use Rattle.flatten.specs.Graph.{source_reads}
@@ -30,8 +30,9 @@ use Rattle.flatten.specs.Built.{unclocked, with_inputs, latch_out, latch_outs, w
 use Rattle.flatten.specs.Shown.{shown_at, with_outputs, signal_at, latch_data, latch_signals, latch_nexts, with_nexts}
 use Rattle.flatten.specs.Gated.{IsLaid, HasGates, HasSpot, IsRest, spot, net_of, first_made, gates_in, driver_of, net_equation}
 use Rattle.flatten.specs.Made.{IsSpotted, IsMade, port_on, latch_by, latch_on}
-use Rattle.flatten.proofs.Building.{out_within}
-use Rattle.flatten.proofs.Nexts.{read_within}
+use Rattle.flatten.proofs.Drivers.{out_low, read_low}
+use Rattle.flatten.proofs.Laid.{latch_of}
+use Rattle.flatten.proofs.Spotted.{data_read}
 use Rattle.flatten.proofs.Gating.{spot_at}
 use Rattle.flatten.proofs.Rows.{slice_get-append}
 
@@ -173,22 +174,6 @@ module _ (flat : Flat) (clock : Option ℕ) (net : NetView) (is_begun : net ≡ 
   begun_clock : net.clock ≡ None
   begun_clock = begun_keeps (λ (n : NetView). n.clock) (λ n word. refl) (λ n word init. refl)
 
--- what latches drive is what statements drive
-pub latch_outs_from : (ss : List FlatStatement) (n : ℕ) → Contains (latch_outs ss) n → (s : FlatStatement) × Contains ss s × (latch_out s.kind s.out ≡ s.out ∷ []) × (s.out ≡ n)
-latch_outs_from [] n h = absurd (omega (arith, h.1))
-latch_outs_from (s ∷ ss) n h = by s.kind refl (Contains-append_cases (latch_out s.kind s.out) (latch_outs ss) n h) (λ k. let found = latch_outs_from ss n k in (found.0, Contains-tail s found.0 ss found.1, found.2, found.3))
-  where
-    by : (q : FlatKind) → s.kind ≡ q → Contains (latch_out q s.out) n ⊎ Contains (latch_outs ss) n → (Contains (latch_outs ss) n → (t : FlatStatement) × Contains (s ∷ ss) t × (latch_out t.kind t.out ≡ t.out ∷ []) × (t.out ≡ n)) →
-        (t : FlatStatement) × Contains (s ∷ ss) t × (latch_out t.kind t.out ≡ t.out ∷ []) × (t.out ≡ n)
-    by q is (inr k) later = later k
-    by (kind.Gate model statement) is (inl k) later = absurd (omega (arith, k.1))
-    by kind.Port is (inl k) later = absurd (omega (arith, k.1))
-    by (kind.Latch edge control init) is (inl k) later = (s, Contains-head s ss, ap (λ (q : FlatKind). latch_out q s.out) is, one (Contains-cases s.out n [] k))
-      where
-        one : (s.out ≡ n) ⊎ Contains [] n → s.out ≡ n
-        one (inl e) = e
-        one (inr none) = absurd (omega (arith, none.1))
-
 -- what latches take over is their data
 nexts_from : (signals : List Signal) (ss : List FlatStatement) (x : Signal) → Contains (latch_nexts signals ss) x → (s : FlatStatement) × (n : ℕ) × Contains ss s × Contains (latch_data s.kind s.out s.reads) n × (signal_at signals n ≡ x)
 nexts_from signals [] x h = absurd (omega (arith, h.1))
@@ -198,24 +183,6 @@ nexts_from signals (s ∷ ss) x h = by (Contains-append_cases (map (signal_at si
         (t : FlatStatement) × (n : ℕ) × Contains (s ∷ ss) t × Contains (latch_data t.kind t.out t.reads) n × (signal_at signals n ≡ x)
     by (inl k) later = let found = Contains-map_from (signal_at signals) (latch_data s.kind s.out s.reads) x k in (s, found.0, Contains-head s ss, found.1, found.2)
     by (inr k) later = later k
-
--- a latch's data has a number of a name
-data_within : (flat : Flat) (s : FlatStatement) (n : ℕ) → Contains flat.statements s → Contains (latch_data s.kind s.out s.reads) n → n < length flat.names
-data_within flat s n there h = by s.kind h
-  where
-    first : (reads : List ℕ) → s.reads ≡ reads → first_of s.out reads ≡ n → n < length flat.names
-    first [] is e = let at = at_of flat.statements s there in subst (λ (m : ℕ). m < length flat.names) e (out_within (length flat.names) flat.statements at.0 s flat.within at.1)
-    first (r ∷ reads) is e = let at = at_of flat.statements s there in
-        subst (λ (m : ℕ). m < length flat.names) e (read_within (length flat.names) flat.statements at.0 s r flat.within at.1 (ap (λ (rs : List ℕ). slice_get rs 0) is))
-
-    by : (q : FlatKind) → Contains (latch_data q s.out s.reads) n → n < length flat.names
-    by (kind.Gate model statement) k = absurd (omega (arith, k.1))
-    by kind.Port k = absurd (omega (arith, k.1))
-    by (kind.Latch edge control init) k = one (Contains-cases (first_of s.out s.reads) n [] k)
-      where
-        one : (first_of s.out s.reads ≡ n) ⊎ Contains [] n → n < length flat.names
-        one (inl e) = first s.reads refl e
-        one (inr none) = absurd (omega (arith, none.1))
 
 module _ (models : List BlifModel) (flat : Flat) (wired : WiredView) (order : List ℕ) (laid : IsLaid flat wired order) where
   pub order_within : All (λ n. n < length flat.names) order
@@ -227,9 +194,8 @@ module _ (models : List BlifModel) (flat : Flat) (wired : WiredView) (order : Li
       by : Contains (unclocked wired.clock flat.inputs) n ⊎ Contains (latch_outs flat.statements) n → n < length flat.names
       by (inl k) = All-contains (λ m. m < length flat.names) flat.inputs n flat.inputs_within (Contains-filter _ flat.inputs n k)
       by (inr k) =
-          let found = latch_outs_from flat.statements n k in
-          let at = at_of flat.statements found.0 found.1 in
-          subst (λ (m : ℕ). m < length flat.names) found.3 (out_within (length flat.names) flat.statements at.0 found.0 flat.within at.1)
+          let found = latch_of flat.statements n k in
+          subst (λ (m : ℕ). m < length flat.names) found.4 (out_low flat found.0 found.1 found.2)
 
   -- what inputs and latches drive is its own net
   pub first_own : (n : ℕ) → Contains (first_made flat wired) n → net_of wired.nets n ≡ n
@@ -285,7 +251,9 @@ module _ (models : List BlifModel) (flat : Flat) (wired : WiredView) (order : Li
         (slice_get-append_right (unclocked wired.clock flat.inputs) (latch_outs flat.statements) i n h))))
 
     data_is : (s : FlatStatement) (n : ℕ) → Contains flat.statements s → Contains (latch_data s.kind s.out s.reads) n → (signal_at signals n ≡ record { 0 = spot flat wired order n }) × (spot flat wired order n < length after.net.drivers)
-    data_is s n there h = signal_is n (data_within flat s n there h) (spotted.taken s n there h)
+    data_is s n there h =
+        let at = at_of flat.statements s there in
+        signal_is n (read_low flat at.0 s n at.1 (Contains-append_left s.reads (control_by (kind_of [] s.kind)) n (data_read flat at.0 n s at.1 h).1)) (spotted.taken s n there h)
 
     pub nexts_within : All (λ (x : Signal). x.0 < length after.net.drivers) (latch_nexts signals flat.statements)
     nexts_within = All-from_each (λ (x : Signal). x.0 < length after.net.drivers) (latch_nexts signals flat.statements) (λ x h.

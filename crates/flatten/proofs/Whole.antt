@@ -1,16 +1,16 @@
 -- The net of the numbered statements of a sound design is the design's.
-use Rattle.std.proofs.Common.{◌≡◌, ◌∙◌, ◌<◌, ◌≤◌, ℕ, suc, Bool, true, false, cond, not, List, [], ◌∷◌, ◌++◌, map, length, filter, option_map, Option, refl, sym, ap, subst, arith}
+use Rattle.std.proofs.Common.{◌≡◌, ◌∙◌, ◌<◌, ◌≤◌, ℕ, suc, Bool, true, false, cond, not, List, [], ◌∷◌, ◌++◌, map, length, filter, option_map, slice_get, Option, Some, refl, sym, ap, subst, arith}
 use Rattle.std.specs.List.{list_all}
 use Rattle.std.proofs.lemmas.List.{length-map}
 use Rattle.circuit_theory.specs.Cover.{Cover}
 use Rattle.circuit_theory.specs.Circuit.{Circuit, Equation, Gate, Latch, Port, Named}
-use Rattle.circuit_theory.specs.Classes.{moved_name}
+use Rattle.circuit_theory.specs.Classes.{moved_name, moved_start}
 use Rattle.circuit_theory.specs.Flattened.{IsFlattened, Follows, latch_names}
 use Rattle.circuit_theory.specs.Places.{IsPlace}
 use Rattle.circuit_theory.proofs.Lists.{map-map}
 use Rattle.sec_base.specs.Table.{AreDistinct}
 use Rattle.blif_read.specs.declared.design.BlifModel.{BlifModel}
-use Rattle.blif_read.specs.Design.{Place, main_inputs, main_outputs, circuit_of_design, IsClock}
+use Rattle.blif_read.specs.Design.{Place, name_of, main_inputs, main_outputs, circuit_of_design, IsClock}
 use Rattle.blif_read.specs.Kept.{is_plain, written_names, covers_fit, ports_distinct}
 use Rattle.flat_net.specs.declared.parts.Port.{Port as OutPort}
 use Rattle.flat_net.specs.declared.parts.Gate.{Gate as NetGate}
@@ -26,14 +26,17 @@ use Rattle.flat_walk.proofs.Composed.{composed, follows_moved}
 use Rattle.flat_wires.specs.Wiring.{wires_of}
 use Rattle.flat_wires.specs.Wired.{WiredView, IsWired}
 use Rattle.flatten.specs.Assembled.{IsAssembled}
-use Rattle.flatten.specs.Clocked.{numbered_circuit, IsClockNumber, number_at, IsNetOf}
+use Rattle.flatten.specs.Clocked.{numbered_circuit, IsClockNumber, number_at}
 use Rattle.flatten.specs.DesignFaults.{IsClocked, IsFlatOf}
-use Rattle.flatten.specs.Gated.{made_by, spot}
+use Rattle.flatten.specs.Gated.{spot, IsLaid}
 use Rattle.flatten.specs.Graph.{graph_of}
+use Rattle.flatten.specs.Made.{IsSpotted, IsMade}
 use Rattle.flatten.specs.Order.{IsOrder}
 use Rattle.flatten.proofs.AssembledRuns.{assembled_is_flattened}
 use Rattle.flatten.proofs.MainPorts.{main_distinct, main_few, inputs_named, outputs_named}
-use Rattle.flatten.proofs.Spotted.{number_low}
+use Rattle.flatten.proofs.Spotted.{number_low, place_spot}
+use Rattle.flatten.proofs.Assembling.{made_is_assembled}
+use Rattle.flatten.proofs.KeptStarts.{made_names, made_starts}
 use Rattle.flatten.proofs.NumberClocks.{clock_number, main_place, renaming, clock_is}
 
 -- no more pass than there are
@@ -64,7 +67,9 @@ module _ (models : List BlifModel) (flat : Flat) (wired : WiredView) (order : Li
 
   -- whatever the spots are, an assembled net of the numbered circuit is the design's
   module _ (net : NetView) (number : ℕ → ℕ) (signal : ℕ → ℕ) (a : (let d = numbered_circuit models flat wired in IsAssembled d (circuit_of net) (length net.drivers) (IsClockNumber d wired.clock) number signal))
-      (within : (s : ℕ) → s < length net.drivers → number s < length flat.names) (clock : net.clock ≡ option_map (name_at flat.names) wired.clock) where
+      (within : (s : ℕ) → s < length net.drivers → number s < length flat.names) (clock : net.clock ≡ option_map (name_at flat.names) wired.clock)
+      (names : (s : ℕ) → s < length net.drivers → slice_get net.names s ≡ Some (name_of (origin_in models flat (number s))))
+      (starts : (c : Option (List ℕ)) → map (moved_start (λ s. origin_in models flat (number s))) (circuit_of net).starts ≡ (circuit_of_design models c).starts) where
     flattened : (let d = circuit_of_design models (option_map (name_at flat.names) wired.clock) in IsFlattened d (circuit_of net) (length net.drivers) (IsClocked d (option_map (name_at flat.names) wired.clock)) (IsPlace d) (λ s. origin_in models flat (number s)))
     flattened = composed design (numbered_circuit models flat wired) (circuit_of net) (length flat.names) (length net.drivers) (origin_in models flat) (number_in flat) number (IsClocked design (option_map (name_at flat.names) wired.clock)) (IsClockNumber (numbered_circuit models flat wired) wired.clock) renamed
         (assembled_is_flattened (numbered_circuit models flat wired) (circuit_of net) (length net.drivers) (IsClockNumber (numbered_circuit models flat wired) wired.clock) number signal a) within
@@ -116,11 +121,16 @@ module _ (models : List BlifModel) (flat : Flat) (wired : WiredView) (order : Li
       clock = subst (IsClock models) (sym clock) (clock_is models flat wired is plain fits few walked order ordered);
       origin = λ s. origin_in models flat (number s);
       flattened = subst (λ (c : Option (List ℕ)). (let d = circuit_of_design models c in IsFlattened d (circuit_of net) (length net.drivers) (IsClocked d c) (IsPlace d) (λ s. origin_in models flat (number s)))) (sym clock) flattened;
+      names = names;
+      starts = starts net.clock;
       distinct = subst AreDistinct (sym output_names) (main_distinct models ports).1;
       few = let i = input_count in let o = output_count in let l = latch_count in let m = main_few models in omega (arith, i, o, l, m, few);
     }
 
-  -- the net with its signals at the spots of the layout is the design's
-  pub net_is_flat : (net : NetView) → IsNetOf models flat wired order net → length net.drivers ≡ length (made_by flat wired order) → net.clock ≡ option_map (name_at flat.names) wired.clock → IsFlatOf models net
-  net_is_flat net a size clock = assembled_is_flat net (number_at flat wired order) (spot flat wired order) a
-      (λ s below. number_low flat wired order is ordered s (omega (arith, below, size))) clock
+  -- the net that is made is the design's
+  pub made_is_flat : (net : NetView) → IsMade models flat wired order net → IsLaid flat wired order → IsSpotted flat wired order → IsFlatOf models net
+  made_is_flat net made laid spotted =
+      assembled_is_flat net (number_at flat wired order) (spot flat wired order)
+      (made_is_assembled models flat wired order is laid spotted net made (IsClockNumber (numbered_circuit models flat wired) wired.clock) (place_spot flat wired order is ordered models))
+      (λ s below. number_low flat wired order is ordered s (omega (arith, below, made.size))) made.clock
+      (made_names models flat wired order plain fits few walked is ordered net made) (made_starts models flat wired order plain fits few walked is ordered net made)
