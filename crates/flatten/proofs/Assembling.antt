@@ -1,7 +1,7 @@
 -- The net that is made of a flat design has the design's equations without its ports.
-use Rattle.std.proofs.Common.{◌≡◌, ◌+◌, ◌<◌, ◌==◌, ◌∙◌, ℕ, zero, suc, Bool, true, false, true≢false, cond, List, [], ◌∷◌, ◌++◌, map, length, slice_get, get_or, Option, Some, None, refl, sym, ap, subst, arith, inl, inr, eqb-true, eq-eqb}
+use Rattle.std.proofs.Common.{◌≡◌, ◌<◌, ◌∙◌, ℕ, zero, suc, true≢false, List, [], ◌∷◌, ◌++◌, map, length, slice_get, get_or, Option, Some, None, refl, sym, ap, subst, arith, inl, inr}
 use Rattle.std.specs.Prelude.{◌⊎◌}
-use Rattle.std.specs.List.{All, Contains, filter}
+use Rattle.std.specs.List.{Contains}
 use Rattle.std.proofs.lemmas.List.{length-map}
 use Rattle.std.proofs.lemmas.List.Elements.{All-contains, Contains-append_left, Contains-append_right, Contains-append_cases}
 use Rattle.std.proofs.lemmas.Option.{none-some, same_Some, slice_get_within, slice_get-get_or, get_or_from_slice_get}
@@ -10,8 +10,7 @@ use Rattle.circuit_theory.specs.Circuit.{Circuit, Equation, Gate, Latch, Port, N
 use Rattle.circuit_theory.specs.Classes.{moved, moved_name}
 use Rattle.circuit_theory.specs.Flattened.{Follows, latch_names}
 use Rattle.circuit_theory.specs.Places.{IsPlace}
-use Rattle.circuit_theory.proofs.Lists.{Contains-cases, Contains-head, Contains-tail, Contains-filter, Contains-map, Contains-map_from, at_of, of_at, map_same, map-map}
-use Rattle.sec_base.proofs.TableLemmas.{key_at}
+use Rattle.circuit_theory.proofs.Lists.{Contains-head, Contains-filter, Contains-map, Contains-map_from, at_of, of_at, map_same, map-map}
 use Rattle.sec_base.specs.declared.basics.Edge.{Edge}
 use Rattle.sec_base.specs.declared.basics.Init.{Init}
 use Rattle.blif_read.specs.declared.design.BlifModel.{BlifModel}
@@ -22,16 +21,13 @@ use Rattle.flat_walk.specs.declared.flat.Flat.{Flat}
 use Rattle.flat_walk.specs.declared.flat.FlatStatement.{FlatStatement}
 use Rattle.flat_walk.specs.declared.flat.FlatKind.{FlatKind}
 use Rattle.flat_walk.specs.declared.flat.FlatKind.TheVariants as kind
-use Rattle.flat_walk.specs.Within.{can_read, reads_as_kind}
-use Rattle.flat_walk.specs.Flat.{FlatOf, name_at, first_of, kind_of, statement_of, view_of, equation_by, equation_in, named_at, circuit_of_flat}
-use Rattle.flat_wires.specs.declared.source.Source.{Source}
+use Rattle.flat_walk.specs.Flat.{name_at, first_of, kind_of, statement_of, view_of, equation_by, equation_in, named_at, circuit_of_flat}
 use Rattle.flat_wires.specs.declared.source.Source.TheVariants as source
-use Rattle.flat_wires.specs.Wiring.{PortOf, joined, port_by, port_from, wires_of}
+use Rattle.flat_wires.specs.Wiring.{joined, wires_of}
 use Rattle.flat_wires.specs.Wired.{WiredView, IsWired}
-use Rattle.flat_wires.specs.Faults.{Follows as WireFollows}
 use Rattle.flat_wires.proofs.Joined.{Contains-joined, Contains-joined_from}
 use Rattle.flatten.specs.Assembled.{IsSignalOf, IsAssembled}
-use Rattle.flatten.specs.Graph.{source_reads, is_gate_kind, is_gate_in, is_gate_by, is_gate_source, is_gate_out}
+use Rattle.flatten.specs.Graph.{source_reads, is_gate_kind, is_gate_in, is_gate_by, is_gate_out}
 use Rattle.flatten.specs.Built.{unclocked, latch_out, latch_outs}
 use Rattle.flatten.specs.Shown.{latch_data}
 use Rattle.flatten.specs.Gated.{IsLaid, HasSpot, place_of, net_or, net_of, spot, made_by, first_made, gates_in, driver_of, driver_by, statement_or, net_equation}

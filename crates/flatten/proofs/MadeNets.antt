@@ -1,12 +1,12 @@
 -- The net of a sound flat design: what each step of its making leaves.
-use Rattle.std.proofs.Common.{◌≡◌, ◌+◌, ◌<◌, ◌∙◌, ℕ, zero, suc, List, [], ◌∷◌, ◌++◌, map, length, take, slice_get, Option, Some, None, refl, sym, ap, ap₂, subst, append_assoc, append-nil, arith, inl, inr}
+use Rattle.std.proofs.Common.{◌≡◌, ◌+◌, ◌<◌, ◌∙◌, ℕ, suc, List, [], ◌∷◌, ◌++◌, map, length, take, slice_get, Option, Some, None, refl, sym, ap, ap₂, subst, append_assoc, append-nil, arith, inl, inr}
 use Rattle.std.specs.Prelude.{◌⊎◌, slice_index_or, option_map}
 use Rattle.std.specs.List.{All, Contains}
 use Rattle.std.proofs.lemmas.List.{length-append, length-map, take_all}
 use Rattle.std.proofs.lemmas.List.Elements.{All-contains, Contains-append_left, Contains-append_cases}
 use Rattle.std.proofs.lemmas.Option.{get_or_from_slice_get, slice_get_within}
 use Rattle.circuit_theory.specs.Cover.{Cover}
-use Rattle.circuit_theory.proofs.Lists.{Contains-cases, Contains-head, Contains-tail, Contains-filter, Contains-map_from, at_of, of_at, All-from_each, map_same}
+use Rattle.circuit_theory.proofs.Lists.{Contains-head, Contains-tail, Contains-filter, Contains-map_from, at_of, of_at, All-from_each, map_same}
 use Rattle.sec_base.specs.Table.{AreDistinct}
 use Rattle.sec_base.specs.declared.basics.Init.{Init}
 use Rattle.blif_read.specs.declared.design.BlifModel.{BlifModel}
@@ -29,7 +29,7 @@ use Rattle.flatten.specs.Graph.{source_reads}
 use Rattle.flatten.specs.Built.{unclocked, with_inputs, latch_out, latch_outs, with_latch_of, with_latches}
 use Rattle.flatten.specs.Shown.{shown_at, with_outputs, signal_at, latch_data, latch_signals, latch_nexts, with_nexts}
 use Rattle.flatten.specs.Gated.{IsLaid, HasGates, HasSpot, IsRest, spot, net_of, first_made, gates_in, driver_of, net_equation}
-use Rattle.flatten.specs.Made.{IsSpotted, IsMade, port_on, latch_by, latch_on}
+use Rattle.flatten.specs.Made.{IsSpotted, IsMade, port_on, latch_by}
 use Rattle.flatten.proofs.Drivers.{out_low, read_low}
 use Rattle.flatten.proofs.Laid.{latch_of}
 use Rattle.flatten.proofs.Spotted.{data_read}

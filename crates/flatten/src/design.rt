@@ -41,7 +41,16 @@ pub(crate) fn check_design(alloc: Global, design: &Design) -> Result<Checked, Fl
     Ok(Checked { flat, wired, order })
 }
 
-/// The flat net of a design: its runs are the design's runs.
+/// The flat net of a design: its runs are the design's runs, with the meaning of `.subckt` in the BLIF manual. Each net of
+/// signals that ports join is one signal, with the flat name of the place at which it is driven; a latch has the flat name
+/// of its output, and keeps its initial value. The clock is no input of the net.
+///
+/// Every other error than `NoMemory` comes exactly where the design has a fault, and tells the first. The faults of the walk
+/// come first, by the first statement that has one: `TooMany`, `UnknownModel`, `Recursive`, `TooDeep`, then pair by pair
+/// `UnknownFormal` and `FormalTwice`, then `OpenInput` and `LongName`. A design without these has those of its drivers and
+/// clocks in this order: `TwoDrivers`, `Undriven`, `TwoClocks`, `TwoEdges`, `GatedClock`, `ClockRead`. Last comes `Loop`, the
+/// names of a cycle through gates and ports, each read by the driver of the next, beginning with the least in the order of
+/// bytes; there may be other cycles.
 pub fn flatten(alloc: Global, design: &Design) -> Result<Net, FlatError>
     ensures ok { IfOk result (IsFlatOf design.now.models) }
     ensures sound { OnOk result (IsSoundDesign design.now.models) }

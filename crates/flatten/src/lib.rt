@@ -1,4 +1,4 @@
-//! From a design to a flat net.
+//! From a hierarchical design to a flat net with the same runs, or to the design's first fault.
 #![tactic(auto)]
 
 mod assemble;

@@ -55,10 +55,7 @@ const ROWS: [(&str, &str); 28] = [
     ),
     (".model m|.subckt g a=b", "UnknownModel g"),
     (".model m|.subckt m|.end", "Recursive m"),
-    (
-        ".model m|.subckt g|.end|.model g|.subckt m",
-        "Recursive m",
-    ),
+    (".model m|.subckt g|.end|.model g|.subckt m", "Recursive m"),
     (
         ".model m|.inputs a|.outputs y|.names a y|1 1|.names a y|1 1|.end",
         "TwoDrivers y",
@@ -235,7 +232,11 @@ fn designs_are_flattened(rt: HostRuntime) -> Result<(), Fail> {
     let alloc = rt.alloc();
     for (row, wanted) in ROWS {
         let text = text_of(alloc, row)?;
-        assert_eq!(rt; show_text(alloc, &text)?.as_slice(), wanted.as_bytes(), "{row}");
+        assert_eq!(rt;
+            show_text(alloc, &text)?.as_slice(),
+            wanted.as_bytes(),
+            "{row}"
+        );
     }
     Ok(())
 }
@@ -245,7 +246,11 @@ fn levels_are_counted(rt: HostRuntime) -> Result<(), Fail> {
     let alloc = rt.alloc();
     for (levels, wanted) in [(63, "in out"), (64, "TooDeep pm")] {
         let text = chain(alloc, levels)?;
-        assert_eq!(rt; show_text(alloc, &text)?.as_slice(), wanted.as_bytes(), "{wanted}");
+        assert_eq!(rt;
+            show_text(alloc, &text)?.as_slice(),
+            wanted.as_bytes(),
+            "{wanted}"
+        );
     }
     Ok(())
 }
