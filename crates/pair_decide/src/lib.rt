@@ -6,6 +6,7 @@
 
 mod deciding;
 mod query;
+mod reading;
 mod renaming;
 mod searching;
 mod table;
