@@ -4,6 +4,8 @@
 mod cnf;
 mod cones;
 mod encoding;
+#[cfg(test)]
+mod tests;
 
 pub use cnf::Cnf;
 pub use cones::{Cones, Nodes, cones_of};

@@ -10,6 +10,8 @@ mod reading;
 mod renaming;
 mod searching;
 mod table;
+#[cfg(test)]
+mod tests;
 
 pub use deciding::decide;
 pub use query::{Decision, Proof, Query, SameBy};
