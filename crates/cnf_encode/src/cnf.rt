@@ -1,0 +1,13 @@
+//! The clauses of a query.
+
+use proof_check::Clauses;
+use sec_base::Ids;
+use std::marker::Model;
+
+/// Clauses over the nodes of a graph: variable k, from 1 on, stands for node `nodes[k - 1]`.
+#[derive(Debug, Drop)]
+pub struct Cnf {
+    pub clauses: Clauses,
+    pub variables: u32,
+    pub nodes: Ids,
+}

@@ -1,0 +1,12 @@
+//! The clauses of a query: they can be met exactly where its two sides differ under its care.
+#![tactic(auto)]
+
+mod cnf;
+mod cones;
+mod encoding;
+#[cfg(test)]
+mod tests;
+
+pub use cnf::Cnf;
+pub use cones::{Cones, Nodes, cones_of};
+pub use encoding::encode;

@@ -1,0 +1,42 @@
+-- What stands behind the answer that the limit of conflicts was met.
+use Rattle.std.specs.Prelude.{◌≡◌, ◌≢◌, ℕ, ◌<◌, Bool, true, List, [], ◌∷◌, length, slice_get, Some}
+use Rattle.circuit_theory.specs.Circuit.{Circuit}
+use Rattle.circuit_theory.specs.Tree.{Tree, Unfolds, tree_value}
+use Rattle.circuit_theory.specs.Query.{Variable, AreVariables, ShiftBefore}
+use Rattle.aig.specs.declared.node.Node.{Node}
+use Rattle.aig.specs.Values.{value}
+use Rattle.cnf_encode.specs.Encoding.{IsEncoding}
+use Rattle.sat_search.specs.Found.{IsFruitless}
+use Rattle.pair_decide.specs.declared.query.Proof.{Proof}
+
+-- In the graph the literal has the value of the function, where the graph's variables are inputs at shifts.
+abbrev pub HasValueOf : List Node → List (ℕ × ℕ) → ℕ → ((ℕ → ℕ → Bool) → Bool) → Type 0
+HasValueOf g places lit function =
+    (bits : ℕ → ℕ → Bool) (a : ℕ → Bool) → ((v : ℕ) (p : ℕ × ℕ) → slice_get places v ≡ Some p → a v ≡ bits p.0 p.1) → value g a lit ≡ function bits
+
+-- The pair's functions have more than 16 variables, and the proof that is kept has the clauses of three literals of a graph that
+-- have the values of the two functions and of the care, which holds always; the sides are different literals, and the care isn't
+-- the literal 0. Its log has exactly as many chains as conflicts are allowed, all of them valid over these clauses; each derives a
+-- clause that tells unit propagation something, and none the empty clause.
+pub record IsUndecided {P Q : Type 0} (a : Circuit P) (b : Circuit Q) (left right : List ℕ) (conflicts : ℕ) (p : P) (q : Q) (proof : Proof) : Type 0 where
+  pub left_depth : ℕ
+  pub right_depth : ℕ
+  pub left_tree : Tree ℕ
+  pub right_tree : Tree ℕ
+  pub left_unfolds : Unfolds a left p 0 left_depth left_tree
+  pub right_unfolds : Unfolds b right q 0 right_depth right_tree
+  pub variables : List (Variable ℕ)
+  pub are_variables : AreVariables ShiftBefore (left_tree ∷ right_tree ∷ []) variables
+  pub many : 16 < length variables
+  pub graph : List Node
+  pub places : List (ℕ × ℕ)
+  pub left_lit : ℕ
+  pub right_lit : ℕ
+  pub care_lit : ℕ
+  pub left_value : HasValueOf graph places left_lit (λ bits. tree_value bits left_tree)
+  pub right_value : HasValueOf graph places right_lit (λ bits. tree_value bits right_tree)
+  pub care_value : HasValueOf graph places care_lit (λ bits. true)
+  pub sides : left_lit ≢ right_lit
+  pub care : care_lit ≢ 0
+  pub clauses : IsEncoding graph left_lit right_lit care_lit proof.cnf
+  pub log : IsFruitless proof.cnf.clauses conflicts proof.log

@@ -1,0 +1,8 @@
+//! The plain form: the outputs of two circuits without cycles of latches as functions of the inputs at earlier cycles, pair by pair.
+#![tactic(auto)]
+
+mod comparing;
+mod error;
+
+pub use comparing::compare_plain;
+pub use error::PlainError;

@@ -1,0 +1,16 @@
+use Rattle.std.proofs.Common.{◌≡◌, ℕ, List, [], ◌∷◌, ◌++◌, OnOk, Result, Ok, Err, ap, ◌∙◌, sym}
+use Rattle.std.proofs.lemmas.List.{append_assoc}
+use Rattle.sec_outcome.specs.Report.{pair_text, values_text}
+use Rattle.sec_outcome.proofs.writing.put_difference.Goals as goal
+
+-- four pieces that are put one behind the other
+four_pieces : (t a b c d x y z w : List ℕ) → x ≡ t ++ a → y ≡ x ++ b → z ≡ y ++ c → w ≡ z ++ d → w ≡ t ++ (a ++ b ++ c ++ d)
+four_pieces t a b c d x y z w p q r s =
+    s ∙ ap (λ (v : List ℕ). v ++ d) (r ∙ ap (λ (v : List ℕ). v ++ c) (q ∙ ap (λ (v : List ℕ). v ++ b) p)) ∙ simp append_assoc
+
+on_ok : {E : Type 0} {P Q : Type 0} (r : Result (Unit {0}) E) → (P → Q) → OnOk r P → OnOk r Q
+on_ok (Ok u) f h = f h
+on_ok (Err e) f h = tt
+
+pub returns : goal.returns
+returns c = on_ok c.put_stimulus.result (λ s. four_pieces _ _ _ _ _ _ _ _ _ c.in_ok-put.ensures.ok c.in_ok-put_pair_name.ensures c.in_ok-put_values.ensures s) c.put_stimulus.ensures

@@ -1,0 +1,63 @@
+-- The text of a comparison's report, as a function of what was found and of how it was compared.
+use Rattle.std.specs.Prelude.{ℕ, List, [], ◌∷◌, ◌++◌, length, codes}
+use Rattle.std.specs.Fmt.{decimal}
+use Rattle.std.specs.List.{flat_map}
+use Rattle.sec_base.specs.declared.basics.PairAnswer.{PairAnswer}
+use Rattle.sec_base.specs.declared.basics.PairAnswer.TheVariants as answer
+use Rattle.witness_report.specs.Text.{digit_of, names_text, stimulus_text}
+use Rattle.witness_report.specs.declared.witness.PairName.{PairName}
+use Rattle.witness_report.specs.declared.witness.PairName.TheVariants as pair
+use Rattle.witness_report.specs.declared.witness.Witness.{Witness}
+use Rattle.sec_outcome.specs.declared.outcome.PairResult.{PairResult}
+use Rattle.sec_outcome.specs.declared.outcome.LimitAt.{LimitAt}
+use Rattle.sec_outcome.specs.declared.outcome.LimitAt.TheVariants as limit
+use Rattle.sec_outcome.specs.declared.outcome.Verdict.{Verdict}
+use Rattle.sec_outcome.specs.declared.outcome.Verdict.TheVariants as verdict
+use Rattle.sec_outcome.specs.declared.outcome.Outcome.{Outcome}
+
+abbrev pub answer_word : PairAnswer → List ℕ
+answer_word answer.Equal = codes "equal"
+answer_word answer.Different = codes "different"
+answer_word answer.NotShown = codes "not-shown"
+answer_word answer.Limit = codes "limit"
+
+-- a pair in the verdict's line: an output's name, or `next` and the latch's
+abbrev pub pair_text : PairName → List ℕ
+pair_text (pair.Output name) = name
+pair_text (pair.Next name) = codes "next " ++ name
+
+-- the front of a pair's own line
+abbrev pub pair_front : PairName → List ℕ
+pair_front (pair.Output name) = codes "pair " ++ name
+pair_front (pair.Next name) = codes "next " ++ name
+
+-- the line of a pair
+abbrev pub pair_line : PairResult → List ℕ
+pair_line p = pair_front p.name ++ codes " depth " ++ decimal p.size ++ 32 ∷ [] ++ answer_word p.answer ++ 10 ∷ []
+
+-- the cycle of a difference and the values of both sides
+unfoldable pub values_text : Witness → List ℕ
+values_text w = codes " cycle " ++ decimal w.cycle ++ codes " values " ++ digit_of w.left ∷ [] ++ 32 ∷ [] ++ digit_of w.right ∷ [] ++ 10 ∷ []
+
+-- the line of a difference, then its stimulus
+abbrev pub difference_text : Witness → List ℕ
+difference_text w = codes "verdict different " ++ pair_text w.pair ++ values_text w ++ stimulus_text w.stimulus.names w.stimulus.rows
+
+-- where the limit was met
+abbrev pub limit_text : LimitAt → List ℕ
+limit_text (limit.Pair name) = pair_text name
+
+abbrev pub verdict_text : ℕ → Verdict → List ℕ
+verdict_text conflicts verdict.Equal = codes "verdict equal" ++ 10 ∷ []
+verdict_text conflicts (verdict.Different w) = difference_text w
+verdict_text conflicts (verdict.Limit at) = codes "verdict limit " ++ limit_text at ++ codes " conflicts " ++ decimal conflicts ++ 10 ∷ []
+
+-- the lines of the counts
+abbrev pub counts_text : Outcome → List ℕ
+counts_text o =
+    codes "inputs " ++ decimal o.inputs ++ 10 ∷ [] ++ codes "latches " ++ decimal o.left_latches ++ 32 ∷ [] ++ decimal o.right_latches ++ 10 ∷ []
+    ++ codes "exposed " ++ decimal (length o.exposed) ++ names_text o.exposed ++ 10 ∷ []
+
+-- the whole report, where each query had so many conflicts
+abbrev pub report_text : ℕ → Outcome → List ℕ
+report_text conflicts o = counts_text o ++ flat_map pair_line o.pairs ++ verdict_text conflicts o.verdict

@@ -1,0 +1,11 @@
+//! What a comparison finds, and its report as text.
+#![tactic(auto)]
+
+mod outcome;
+mod writing;
+
+pub use outcome::{LimitAt, Outcome, PairResult, PairResults, Verdict};
+pub use pair_decide::Proof;
+pub use sec_words::Settings;
+pub use witness_report::{PairName, Stimulus, Witness};
+pub use writing::report;

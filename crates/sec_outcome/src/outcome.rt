@@ -1,0 +1,54 @@
+//! What a comparison finds.
+
+use pair_decide::Proof;
+use sec_base::{PairAnswer, Seq, Words};
+use witness_report::{PairName, Witness};
+
+/// What was found of one pair.
+#[derive(Debug, Drop)]
+pub struct PairResult {
+    pub name: PairName,
+    /// The greater of the two sides' sequential depths, in cycles.
+    pub size: u32,
+    pub answer: PairAnswer,
+    /// The clauses of the pair's query and the log of the search, exactly where the answer is `Limit`.
+    pub proof: Option<Proof>,
+}
+
+/// The results of the pairs, in order.
+pub type PairResults = Seq<PairResult>;
+
+/// Where a comparison met the limit of conflicts.
+#[derive(Debug, Drop)]
+pub enum LimitAt {
+    /// At the query of this pair.
+    Pair(PairName),
+}
+
+/// The answer of a comparison: the first of different, limit and equal that some pair has.
+#[derive(Debug, Drop)]
+pub enum Verdict {
+    /// Every pair's functions agree.
+    Equal,
+    /// A pair's functions differ, and the sequence shows it.
+    Different(Witness),
+    /// A query wasn't decided within the number of conflicts.
+    Limit(LimitAt),
+}
+
+/// All that a comparison finds.
+#[derive(Debug, Drop)]
+pub struct Outcome {
+    /// The number of inputs that both circuits have.
+    pub inputs: u32,
+    pub left_latches: u32,
+    pub right_latches: u32,
+    /// The names of the latches that were cut open.
+    pub exposed: Words,
+    /// The number of event classes besides the one that always loads.
+    pub classes: u32,
+    pub pairs: PairResults,
+    /// The greatest depth of the pairs, in cycles.
+    pub through: u32,
+    pub verdict: Verdict,
+}
