@@ -1,1 +1,4 @@
 pub mod Names
+pub mod Places
+pub mod Lines
+pub mod Runs
