@@ -2,3 +2,4 @@ pub mod Names
 pub mod Places
 pub mod Lines
 pub mod Runs
+pub mod Reports
