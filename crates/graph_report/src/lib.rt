@@ -1,0 +1,9 @@
+//! The report of a circuit's latch graph: sequential depths, and a cycle.
+#![tactic(auto)]
+
+mod report;
+#[cfg(test)]
+mod tests;
+mod writing;
+
+pub use report::graph_report;

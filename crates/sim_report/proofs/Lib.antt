@@ -1,0 +1,5 @@
+pub mod Names
+pub mod Places
+pub mod Lines
+pub mod Runs
+pub mod Reports

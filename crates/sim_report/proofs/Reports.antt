@@ -1,0 +1,67 @@
+-- There is one run over a stimulus that fits, and one report of it.
+use Rattle.std.proofs.Common.{◌≡◌, ◌∙◌, ◌<◌, ℕ, zero, suc, Bool, true, false, List, [], ◌∷◌, map, length, slice_get, Option, Some, None, refl, sym, ap, subst, arith}
+use Rattle.std.specs.Prelude.{All, ◌↔◌}
+use Rattle.std.proofs.lemmas.List.{length-map}
+use Rattle.std.proofs.lemmas.List.Elements.{All-map}
+use Rattle.std.proofs.lemmas.Option.{slice_get_within, same_Some}
+use Rattle.sec_base.specs.Table.{AreDistinct}
+use Rattle.flat_net.specs.declared.parts.Port.{Port}
+use Rattle.flat_net.specs.View.{NetView}
+use Rattle.flat_net.specs.Sound.{IsSound}
+use Rattle.flat_net.proofs.Nets.{some_at}
+use Rattle.cycle_sim.proofs.Runs.{run_exists, one_run}
+use Rattle.sim_report.specs.Checks.{power_of, first_misfit}
+use Rattle.sim_report.specs.Report.{Shown, IsShown, sim_text, IsSimulated, IsSimReport}
+use Rattle.sim_report.specs.Cycles.{reordered}
+use Rattle.sim_report.proofs.Runs.{fed, simulated, no_misfit, length-power, has_columns}
+
+-- lists with one element at each place are one
+same_places : {X : Type 0} (xs ys : List X) → length xs ≡ length ys → ((i : ℕ) (x y : X) → slice_get xs i ≡ Some x → slice_get ys i ≡ Some y → x ≡ y) → xs ≡ ys
+same_places [] [] e h = refl
+same_places [] (y ∷ ys) e h = absurd (omega (arith, e))
+same_places (x ∷ xs) [] e h = absurd (omega (arith, e))
+same_places (x ∷ xs) (y ∷ ys) e h =
+    let head : x ≡ y = h zero x y refl refl in
+    let tail : xs ≡ ys = same_places xs ys (omega (arith, e)) (λ i a b p q. h (suc i) a b p q) in
+    cc
+
+-- bits that are 1 in one case are one
+same_bits : {P : Type 0} (a b : Bool) → (a ≡ true) ↔ P → (b ≡ true) ↔ P → a ≡ b
+same_bits true true l r = refl
+same_bits false false l r = refl
+same_bits true false l r = sym (r.1 (l.0 refl))
+same_bits false true l r = l.1 (r.0 refl)
+
+-- what is right of one cycle is one
+same_shown : (n : NetView) (t : ℕ) (run : ℕ → ℕ → Bool) (a b : Shown) → IsShown n t run a → IsShown n t run b → a ≡ b
+same_shown n t run a b l r =
+    let values : a.values ≡ b.values = l.values ∙ sym r.values in
+    let marks : a.marks ≡ b.marks =
+    same_places a.marks b.marks (l.each ∙ sym r.each)
+    (λ i x y at_x at_y. let w = slice_get_within a.marks i x at_x in let port = some_at n.outputs i (omega (arith, w, l.each)) in same_bits x y (l.marks i port.0 x port.1 at_x) (r.marks i port.0 y port.1 at_y)) in
+    λ i. record { values = values i; marks = marks i }
+
+module _ (n : NetView) (sound : IsSound n) (names : List (List ℕ)) (rows : List (List Bool)) (distinct : AreDistinct names) (wide : All (λ row. length row ≡ length names) rows) (power : Option (List ℕ))
+    (fits : first_misfit n names power ≡ None) where
+  pub simulation_exists : (run : ℕ → ℕ → Bool) × IsSimulated n names rows (power_of n power) run
+  simulation_exists =
+      let fitting = no_misfit n names power fits in
+      let columns = has_columns n names fitting.complete in
+      let width : All (λ row. length row ≡ length n.inputs) (map (reordered columns.0) rows) =
+      All-map (λ (row : List Bool). length row ≡ length n.inputs) (reordered columns.0) rows (λ k d below. length-map columns.0 _ ∙ columns.1.each) in
+      let made = run_exists n sound (power_of n power) (map (reordered columns.0) rows) (length-power n power fitting.power_fits) width in
+      (made.0, simulated n names rows columns.0 columns.1 wide distinct (power_of n power) made.0 made.1)
+
+  pub one_simulation : (run other : ℕ → ℕ → Bool) → IsSimulated n names rows (power_of n power) run → IsSimulated n names rows (power_of n power) other →
+      (t p : ℕ) → t < length rows → p < length n.drivers → other t p ≡ run t p
+  one_simulation run other first second t p early within =
+      let columns = has_columns n names (no_misfit n names power fits).complete in
+      one_run n sound (power_of n power) (map (reordered columns.0) rows) run other (fed n names rows columns.0 columns.1 wide (power_of n power) run first) (fed n names rows columns.0 columns.1 wide (power_of n power) other second)
+      t p (subst (λ k. t < k) (sym (length-map rows (reordered columns.0))) early) within
+
+  pub one_report : (text other : List ℕ) → IsSimReport n names rows power text → IsSimReport n names rows power other → text ≡ other
+  one_report text other first second =
+      let run = simulation_exists in
+      let cycles : first.cycles ≡ second.cycles =
+      same_places first.cycles second.cycles (first.each ∙ sym second.each) (λ t a b at_a at_b. same_shown n t run.0 a b (first.shown run.0 run.1 t a at_a) (second.shown run.0 run.1 t b at_b)) in
+      first.text_is ∙ (ap (sim_text (map (λ (p : Port). p.name) n.outputs)) cycles ∙ sym second.text_is)

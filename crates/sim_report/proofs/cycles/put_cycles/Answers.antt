@@ -1,0 +1,30 @@
+-- One row more is fed.
+use Rattle.std.proofs.Common.{◌≡◌, ◌∙◌, ◌+◌, ◌++◌, ◌∷◌, [], ℕ, List, Bool, map, take, length, refl, sym, ap, subst, arith}
+use Rattle.std.specs.Vec.{with_items}
+use Rattle.std.proofs.lemmas.List.{with_items_is, map-append, length-map}
+use Rattle.sec_base.proofs.TableLemmas.{take-push}
+use Rattle.cycle_sim.specs.View.{HasRun}
+use Rattle.cycle_sim.proofs.Lists.{item_at}
+use Rattle.sim_report.specs.Cycles.{reordered}
+use Rattle.sim_report.proofs.Lines.{IsAt, at_more}
+use Rattle.sim_report.proofs.cycles.put_cycles.Goals as goal
+
+pub loop-row-preserved : goal.loop-row-preserved
+loop-row-preserved c =
+    let n = c.args.net.now in
+    let columns = c.args.columns.now in
+    let rows = c.args.rows.now in
+    let i = c.loop-row.row-index in
+    let row = c.row-item.result in
+    let at = item_at rows rows i row refl c.loop-row-test.true c.row-item.is in
+    let size : length c.reorder.new.bits ≡ c.loop-row.bits.len = omega (arith, c.reorder.auto.bits, c.deref_mut.ensures.len) in
+    let written : (with_items c.loop-row.bits c.reorder.new.bits).items ≡ c.reorder.new.bits = with_items_is c.loop-row.bits c.reorder.new.bits size in
+    let bits : c.reorder.new.bits ≡ reordered columns row = c.reorder.ensures ∙ ap (reordered columns) c.as_slice.ensures in
+    let fed : c.deref.result.now ≡ reordered columns row = c.deref.ensures.value ∙ (written ∙ bits) in
+    let more : map (reordered columns) (take i rows) ++ reordered columns row ∷ [] ≡ map (reordered columns) (take (i + 1) rows) =
+    sym (map-append (reordered columns) (take i rows) (row ∷ [])) ∙ ap (map (reordered columns)) (take-push rows i row at) in
+    let next = at_more n c.args.power (map (reordered columns) (take i rows)) (reordered columns row) c.loop-row.sim.sim c.put_next.new.sim.sim c.args.text.now.items c.loop-row.text.items c.put_next.new.text.items
+    c.loop-row.invariant.0 c.put_next.ensures.net
+    (λ power before h. subst (λ (r : List Bool). HasRun c.put_next.new.sim.sim power (before ++ r ∷ [])) fed (c.put_next.ensures.run power before h)) c.in_ok-put_next.ensures.put in
+    (subst (λ (done : List (List Bool)). IsAt n c.args.power done c.put_next.new.sim.sim c.args.text.now.items c.put_next.new.text.items) more next,
+    ap length (written ∙ bits) ∙ length-map columns _)

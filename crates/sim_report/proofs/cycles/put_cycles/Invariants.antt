@@ -1,0 +1,7 @@
+use Rattle.std.proofs.Common.{◌≡◌, map, take, length}
+use Rattle.sim_report.specs.Cycles.{reordered}
+use Rattle.sim_report.proofs.Lines.{IsAt}
+use Rattle.sim_report.proofs.cycles.put_cycles.Given as goal
+
+abbrev pub invariant-loop-row : goal.invariant-loop-row
+invariant-loop-row l = IsAt l.net l.fn.power (map (reordered l.columns) (take l.row-index l.rows)) l.sim.sim l.initial.text.items l.text.items × (length l.bits.items ≡ length l.columns)

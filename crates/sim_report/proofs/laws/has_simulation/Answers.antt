@@ -1,0 +1,13 @@
+use Rattle.sim_report.proofs.Reports.{simulation_exists, one_simulation, one_report}
+use Rattle.sim_report.proofs.laws.has_simulation.Goals as goal
+
+pub returns-clause-exists : goal.returns-clause-exists
+returns-clause-exists c = λ power fits. simulation_exists c.args.net.now c.keeps.ensures.sound c.args.stimulus.now.names c.args.stimulus.now.rows c.args.stimulus.now.distinct c.args.stimulus.now.fit power fits
+
+pub returns-clause-one : goal.returns-clause-one
+returns-clause-one c = λ power run other fits first second t p early within.
+    one_simulation c.args.net.now c.keeps.ensures.sound c.args.stimulus.now.names c.args.stimulus.now.rows c.args.stimulus.now.distinct c.args.stimulus.now.fit power fits run other first second t p early within
+
+pub returns-clause-report : goal.returns-clause-report
+returns-clause-report c = λ power text other fits first second.
+    one_report c.args.net.now c.keeps.ensures.sound c.args.stimulus.now.names c.args.stimulus.now.rows c.args.stimulus.now.distinct c.args.stimulus.now.fit power fits text other first second

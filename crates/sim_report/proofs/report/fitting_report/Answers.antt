@@ -1,0 +1,33 @@
+-- The columns are those of the inputs, and the lines those of the run.
+use Rattle.std.proofs.Common.{◌≡◌, ◌∙◌, ◌++◌, ◌∷◌, [], ℕ, List, Bool, map, length, sym, ap, subst}
+use Rattle.std.specs.Prelude.{All, codes, option_map, ◌<◌}
+use Rattle.flat_net.specs.declared.parts.Port.{Port}
+use Rattle.witness_report.specs.Text.{names_text}
+use Rattle.sim_report.specs.Checks.{power_of}
+use Rattle.sim_report.specs.Report.{IsSimReport}
+use Rattle.sim_report.specs.Cycles.{AreColumns, PutsCycles, reordered}
+use Rattle.sim_report.proofs.Runs.{columns_within, report_is}
+use Rattle.sim_report.proofs.report.fitting_report.Goals as goal
+
+pub put_cycles-requires-clause-within : goal.put_cycles-requires-clause-within
+put_cycles-requires-clause-within c =
+    let s = c.args.stimulus.now in
+    let are = subst (λ (names : List (List ℕ)). AreColumns c.args.net.now names c.in_ok-columns.columns.items) c.requires.table c.in_ok-columns.ensures in
+    subst (λ (columns : List ℕ). All (λ (row : List Bool). All (λ k. k < length row) columns) c.as_slice-2.result.now) (sym c.as_slice.ensures.value)
+    (subst (λ (rows : List (List Bool)). All (λ (row : List Bool). All (λ k. k < length row) c.in_ok-columns.columns.items) rows) (sym c.as_slice-2.ensures)
+    (columns_within c.args.net.now s.names s.rows c.in_ok-columns.columns.items are s.fit))
+
+pub returns : goal.returns
+returns c =
+    let n = c.args.net.now in
+    let s = c.args.stimulus.now in
+    let columns = c.in_ok-columns.columns.items in
+    let are = subst (λ (names : List (List ℕ)). AreColumns n names columns) c.requires.table c.in_ok-columns.ensures in
+    let begins : c.put-2.new.text.items ≡ codes "outputs" ++ names_text (map (λ (p : Port). p.name) n.outputs) ++ 10 ∷ [] =
+    c.in_ok-put-2.ensures.ok ∙ ap (λ (t : List ℕ). t ++ 10 ∷ []) (c.in_ok-put_ports.ensures
+    ∙ (ap (λ (ports : List Port). c.put.new.text.items ++ names_text (map (λ (p : Port). p.name) ports)) c.outputs.ensures
+    ∙ ap (λ (t : List ℕ). t ++ names_text (map (λ (p : Port). p.name) n.outputs)) (c.in_ok-put.ensures.ok ∙ ap (λ (t : List ℕ). t ++ codes "outputs") c.new-text.ensures.items))) in
+    let put = subst (λ (bits : List Bool). PutsCycles n bits (map (reordered columns) s.rows) c.put-2.new.text.items c.put_cycles.new.text.items) c.in_ok-bits.ensures
+    (subst (λ (k : List ℕ). PutsCycles n c.in_ok-bits.bits (map (reordered k) s.rows) c.put-2.new.text.items c.put_cycles.new.text.items) c.as_slice.ensures.value
+    (subst (λ (rows : List (List Bool)). PutsCycles n c.in_ok-bits.bits (map (reordered c.as_slice.result.now) rows) c.put-2.new.text.items c.put_cycles.new.text.items) c.as_slice-2.ensures c.in_ok-put_cycles.ensures)) in
+    subst (IsSimReport n s.names s.rows _) (sym c.from_vec.ensures) (report_is n s.names s.rows columns are s.fit _ c.put-2.new.text.items c.put_cycles.new.text.items begins put)

@@ -1,0 +1,35 @@
+-- When a stimulus and a power word fit a circuit.
+use Rattle.std.specs.Prelude.{ℕ, ◌==◌, ◌&&◌, ◌||◌, Bool, true, false, if◌then◌else◌, List, map, length, replicate, Option, Some, None}
+use Rattle.std.specs.List.{list_all}
+use Rattle.circuit_theory.specs.Interface.{first_missing, ◌or_else◌}
+use Rattle.flat_net.specs.declared.parts.Port.{Port}
+use Rattle.flat_net.specs.View.{NetView}
+use Rattle.sim_report.specs.declared.refusal.Misfit.{Misfit}
+use Rattle.sim_report.specs.declared.refusal.Misfit.TheVariants as misfit
+
+abbrev pub input_names : NetView → List (List ℕ)
+input_names n = map (λ (p : Port). p.name) n.inputs
+
+-- each digit is `0` or `1`, and there is one for each latch
+abbrev pub is_power_word : NetView → List ℕ → Bool
+is_power_word n word = (length word == length n.latches) && list_all (λ digit. (digit == 48) || (digit == 49)) word
+
+abbrev pub is_power : NetView → Option (List ℕ) → Bool
+is_power n None = true
+is_power n (Some word) = is_power_word n word
+
+-- the latches' bits in cycle 0: those of the word, or 0
+abbrev pub power_of : NetView → Option (List ℕ) → List Bool
+power_of n None = replicate (length n.latches) false
+power_of n (Some word) = map (λ digit. digit == 49) word
+
+abbrev pub named_misfit : (List ℕ → Misfit) → Option (List ℕ) → Option Misfit
+named_misfit kind None = None
+named_misfit kind (Some name) = Some (kind name)
+
+-- The first that doesn't fit: a name of the header that is no input, an input that the header lacks, the power word.
+abbrev pub first_misfit : NetView → List (List ℕ) → Option (List ℕ) → Option Misfit
+first_misfit n names power =
+    named_misfit misfit.Unknown (first_missing names (input_names n))
+    or_else named_misfit misfit.Missing (first_missing (input_names n) names)
+    or_else (if is_power n power then None else Some misfit.Power)

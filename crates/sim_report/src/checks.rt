@@ -1,0 +1,130 @@
+//! Whether a stimulus and a power word fit a circuit.
+
+ghost use Rattle.std.specs.Prelude.{◌≡◌, ◌==◌, ◌||◌, length, map, option_map, IfOk};
+ghost use Rattle.std.specs.List.{list_all};
+ghost use Rattle.circuit_theory.specs.Interface.{first_missing};
+ghost use Rattle.sec_base.specs.Table.{AreDistinct};
+ghost use Rattle.sim_report.specs.Checks.{input_names, is_power_word, is_power, power_of, first_misfit};
+
+use crate::refusal::Misfit;
+use flat_net::Net;
+use sec_base::{Bits, NameTable, NoMemory, Seq, Word, Words};
+use std::alloc::Global;
+
+/// The first of the names that isn't among the others.
+fn first_missing<'a>(names: &'a NameTable, others: &NameTable) -> Option<&'a [u8]>
+    ensures { option_map (λ name. name.now) result ≡ first_missing names.now others.now }
+{
+    for id in 0..names.len() {
+        let name = names.name(id);
+        if !others.has(name) {
+            return Some(name);
+        }
+    }
+    None
+}
+
+/// The table of the names, each at its place.
+pub(crate) fn table_of_names(alloc: Global, names: &Words) -> Result<NameTable, NoMemory>
+    requires { AreDistinct names.now }
+    ensures { IfOk result (λ table. table ≡ names.now) }
+{
+    let mut table = NameTable::new(alloc);
+    for name in names.as_slice() {
+        table.add(alloc, name.as_slice())?;
+    }
+    Ok(table)
+}
+
+/// The table of the inputs' names, each at its place.
+fn table_of_inputs(alloc: Global, net: &Net) -> Result<NameTable, NoMemory>
+    ensures { IfOk result (λ table. table ≡ input_names net.now) }
+{
+    net.keeps();
+    let mut table = NameTable::new(alloc);
+    for port in net.inputs() {
+        table.add(alloc, port.name.as_slice())?;
+    }
+    Ok(table)
+}
+
+fn is_digit(digit: u8) -> bool
+    ensures { result ≡ ((digit == 48) || (digit == 49)) }
+{
+    digit == b'0' || digit == b'1'
+}
+
+fn are_digits(word: &[u8]) -> bool
+    ensures { result ≡ list_all (λ digit. (digit == 48) || (digit == 49)) word.now }
+{
+    word.iter().all(|digit| is_digit(*digit))
+}
+
+/// Whether the word has one digit `0` or `1` for each latch.
+fn is_power_word(net: &Net, word: &[u8]) -> bool
+    ensures { result ≡ is_power_word net.now word.now }
+{
+    if word.len() != net.latches().len() {
+        return false;
+    }
+    are_digits(word)
+}
+
+/// Whether there is no power word, or it has one digit `0` or `1` for each latch.
+fn is_power(net: &Net, power: Option<&[u8]>) -> bool
+    ensures { result ≡ is_power net.now (option_map (λ word. word.now) power.entry) }
+{
+    match power {
+        Some(word) => is_power_word(net, word),
+        None => true,
+    }
+}
+
+/// The bits of the latches in cycle 0: those of the power word, or 0.
+pub(crate) fn power_of(alloc: Global, net: &Net, power: Option<&[u8]>) -> Result<Bits, NoMemory>
+    ensures { IfOk result (λ bits. bits ≡ power_of net.now (option_map (λ word. word.now) power.entry)) }
+{
+    match power {
+        Some(word) => bits_of(alloc, word),
+        None => Ok(Seq::from_vec(vec![in alloc; false; net.latches().len()]?)),
+    }
+}
+
+/// The bits of the digits.
+fn bits_of(alloc: Global, digits: &[u8]) -> Result<Bits, NoMemory>
+    ensures { IfOk result (λ bits. bits ≡ map (λ digit. digit == 49) digits.now) }
+{
+    let mut bits = Bits::new(alloc);
+    for digit in digits {
+        bits.push(*digit == b'1')?;
+    }
+    Ok(bits)
+}
+
+fn word_of(alloc: Global, name: &[u8]) -> Result<Word, NoMemory>
+    ensures { IfOk result (λ word. word ≡ name.now) }
+{
+    Ok(Seq::from_vec(name.to_vec(alloc)?))
+}
+
+/// The first that doesn't fit: a name of the header that is no input, an input that the header lacks, the power word.
+pub(crate) fn first_misfit(
+    alloc: Global,
+    net: &Net,
+    names: &NameTable,
+    power: Option<&[u8]>,
+) -> Result<Option<Misfit>, NoMemory>
+    ensures { IfOk result (λ misfit. misfit ≡ first_misfit net.now names.now (option_map (λ word. word.now) power.entry)) }
+{
+    let inputs = table_of_inputs(alloc, net)?;
+    if let Some(name) = first_missing(names, &inputs) {
+        return Ok(Some(Misfit::Unknown(word_of(alloc, name)?)));
+    }
+    if let Some(name) = first_missing(&inputs, names) {
+        return Ok(Some(Misfit::Missing(word_of(alloc, name)?)));
+    }
+    if !is_power(net, power) {
+        return Ok(Some(Misfit::Power));
+    }
+    Ok(None)
+}

@@ -1,0 +1,16 @@
+//! The simulation of a circuit on a stimulus, and its report.
+#![tactic(auto)]
+
+mod checks;
+mod columns;
+mod cycles;
+mod laws;
+mod refusal;
+mod report;
+#[cfg(test)]
+mod tests;
+mod writing;
+
+pub use laws::has_simulation;
+pub use refusal::{Misfit, SimError};
+pub use report::sim_report;
