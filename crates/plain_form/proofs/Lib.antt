@@ -4,4 +4,5 @@ pub mod Matched
 pub mod Leaves
 pub mod OutputNames
 pub mod Reading
+pub mod Growing
 pub mod PairQueries
