@@ -1,12 +1,13 @@
 -- Functions of signals while the graph and the table grow, and the weight of their unfoldings.
-use Rattle.std.proofs.Common.{◌≡◌, ◌+◌, ◌<◌, ◌≤◌, ◌∙◌, ℕ, zero, suc, List, [], ◌∷◌, ◌++◌, length, map, take, get_or, sym, ap, subst, arith, inl, inr, refl}
+use Rattle.std.proofs.Common.{◌≡◌, ◌+◌, ◌<◌, ◌≤◌, ◌∙◌, ℕ, zero, suc, List, [], ◌∷◌, ◌++◌, length, map, take, get_or, Err, sym, ap, subst, arith, inl, inr, refl}
 use Rattle.std.specs.Prelude.{◌↔◌}
-use Rattle.std.specs.List.{AllZip, Contains}
+use Rattle.std.specs.List.{All, AllZip, Contains}
 use Rattle.std.proofs.lemmas.List.{map-append}
+use Rattle.std.proofs.lemmas.List.Elements.{All-contains}
 use Rattle.std.proofs.lemmas.Option.{slice_get-get_or}
 use Rattle.circuit_theory.specs.Circuit.{Circuit}
 use Rattle.circuit_theory.specs.Sizes.{IsWeight, IsOver}
-use Rattle.circuit_theory.proofs.Lists.{Contains-cases, Contains-head, Contains-tail, zip_weaker}
+use Rattle.circuit_theory.proofs.Lists.{All-from_each, Contains-cases, Contains-head, Contains-map, Contains-tail, zip_weaker}
 use Rattle.flat_net.specs.declared.signals.Signal.{Signal}
 use Rattle.flat_net.specs.View.{NetView, circuit_of}
 use Rattle.aig.specs.declared.node.Node.{Node}
@@ -17,7 +18,11 @@ use Rattle.cbf_unfold.specs.View.{UnfolderView}
 use Rattle.cbf_unfold.specs.Unfolded.{IsUnfolded}
 use Rattle.cbf_unfold.specs.Building.{IsLater}
 use Rattle.cbf_unfold.proofs.Known.{unfolded_later}
-use Rattle.plain_form.specs.Pairs.{IsFunctionOf}
+use Rattle.circuit_theory.specs.declared.Side.TheVariants.{A, B}
+use Rattle.plain_form.specs.declared.error.PlainError.{PlainError}
+use Rattle.plain_form.specs.declared.error.PlainError.TheVariants as refused
+use Rattle.plain_form.specs.declared.pairing.OutputPair.{OutputPair}
+use Rattle.plain_form.specs.Pairs.{IsFunctionOf, AreLight, AreTooLarge, IsRefusalOf, Unfolds, left_signals, right_signals}
 use Rattle.plain_form.proofs.Assignments.{take_next}
 
 -- functions of the signals stay them while the graph and the table grow
@@ -86,3 +91,32 @@ pub over_all : (signals : List Signal) (i : ℕ) (d : Signal) (u : UnfolderView)
 over_all signals i d u n inside before net over =
     subst (λ (m : NetView). IsOver (circuit_of m) (numbers_of signals) 2000000) net
     (over_weaker (circuit_of u.net) (u.done ++ (get_or signals i d).0 ∷ []) (numbers_of signals) 2000000 (done_among signals i d u.done inside before) over)
+
+pub within_from : (signals : List Signal) (numbers : List ℕ) (size : ℕ) → numbers_of signals ≡ numbers → All (λ s. s < size) numbers → All (λ (s : Signal). s.0 < size) signals
+within_from signals numbers size same all =
+    All-from_each (λ (s : Signal). s.0 < size) signals (λ s h. All-contains (λ n. n < size) numbers s.0 all (subst (λ (l : List ℕ). Contains l s.0) same (Contains-map (λ (t : Signal). t.0) signals s h)))
+
+-- a relation on a list that a function gives
+pub zip_from_map : {X Y Z : Type 0} (f : X → Y) (R : Y → Z → Type 0) (xs : List X) (zs : List Z) → AllZip R (map f xs) zs → AllZip (λ x z. R (f x) z) xs zs
+zip_from_map f R [] [] h = tt
+zip_from_map f R [] (z ∷ zs) h = absurd h
+zip_from_map f R (x ∷ xs) [] h = absurd h
+zip_from_map f R (x ∷ xs) (z ∷ zs) h = (h.0, zip_from_map f R xs zs h.1)
+
+module _ (a b : NetView) (left right : List ℕ) (pairs : List OutputPair) where
+  no_B_A : B ≡ A → ⊥
+  no_B_A e = cc
+
+  no_A_B : A ≡ B → ⊥
+  no_A_B e = cc
+
+  -- a refusal of A, or of B once A is unfolded
+  pub refused_left : (signals : List ℕ) (e : PlainError) → signals ≡ left_signals pairs → IsRefusalOf A a signals e → Unfolds a b left right pairs (Err e)
+  refused_left signals (refused.TooLarge A) same h = subst (AreTooLarge a) same h.1
+  refused_left signals (refused.TooLarge B) same h = absurd (no_B_A h.0)
+  refused_left signals refused.NoMemory same h = tt
+
+  pub refused_right : (signals : List ℕ) (e : PlainError) → signals ≡ right_signals pairs → AreLight a (left_signals pairs) → IsRefusalOf B b signals e → Unfolds a b left right pairs (Err e)
+  refused_right signals (refused.TooLarge A) same light h = absurd (no_A_B h.0)
+  refused_right signals (refused.TooLarge B) same light h = (light, subst (AreTooLarge b) same h.1)
+  refused_right signals refused.NoMemory same light h = tt
