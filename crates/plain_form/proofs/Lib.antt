@@ -5,4 +5,5 @@ pub mod Leaves
 pub mod OutputNames
 pub mod Reading
 pub mod Growing
+pub mod Rows
 pub mod PairQueries
