@@ -1,9 +1,9 @@
 -- The rows of a sequence, cycle by cycle: the variables of each cycle's shift stand behind each other.
-use Rattle.std.proofs.Common.{◌≡◌, ◌≢◌, ℕ, zero, suc, ◌+◌, ◌-◌, ◌<◌, ◌≤◌, Bool, true, false, cond, List, [], ◌∷◌, ◌++◌, map, length, take, drop, get_or, slice_get, Some, refl, sym, ◌∙◌, ap, subst, arith, add-one, inl, inr, nat_le}
-use Rattle.std.specs.Prelude.{◌⊎◌}
+use Rattle.std.proofs.Common.{◌≡◌, ◌≢◌, ℕ, zero, suc, ◌+◌, ◌-◌, ◌<◌, ◌≤◌, Bool, true, false, cond, List, [], ◌∷◌, ◌++◌, map, length, take, drop, get_or, slice_get, Option, Some, None, refl, sym, ◌∙◌, ap, subst, arith, add-one, inl, inr, nat_le}
+use Rattle.std.specs.Prelude.{◌⊎◌, is_some}
 use Rattle.std.specs.List.{All, AllPairs, Contains}
 use Rattle.std.proofs.lemmas.List.{take-append-drop, drop-drop, length-drop, map-append}
-use Rattle.std.proofs.lemmas.List.Elements.{All-take, All-drop}
+use Rattle.std.proofs.lemmas.List.Elements.{All-nil, All-cons, All-take, All-drop}
 use Rattle.std.proofs.lemmas.List.Kept.{AllPairs-cons}
 use Rattle.std.proofs.lemmas.Option.{slice_get_within, slice_get-get_or}
 use Rattle.circuit_theory.specs.Query.{Variable, ShiftBefore, assigned, same_shift}
@@ -15,9 +15,12 @@ use Rattle.sec_base.proofs.TableLemmas.{slice_get-take}
 use Rattle.latch_graph.proofs.Trails.{slice_get-drop}
 use Rattle.cbf_unfold.proofs.Lists.{pairs_at}
 use Rattle.flat_net.proofs.Places.{All-at}
+use Rattle.aig.specs.declared.node.Node.{Node}
+use Rattle.pair_decide.specs.declared.query.Query.{Query}
 use Rattle.pair_decide.specs.Queries.{assigned_to}
+use Rattle.witness_report.specs.declared.witness.Witness.{Witness}
 use Rattle.plain_form.specs.Variables.{variable_of, variables_of, GoesBefore, AreInOrder}
-use Rattle.plain_form.specs.Sequences.{bits_at, IsSequence, EndsShift}
+use Rattle.plain_form.specs.Sequences.{bits_at, IsSequence, EndsShift, IsWitnessOf, IsFirstOf}
 use Rattle.plain_form.proofs.MergeLists.{pairs_drop}
 use Rattle.plain_form.proofs.Assignments.{length_take, assigned_in_shift, front_left_out, back_left_out}
 
@@ -210,3 +213,22 @@ module _ (places : List (ℕ × ℕ)) (vars : List ℕ) (bits : List Bool) (last
         ∙ (assigned_in_shift places (part vars from to) (part bits from to) (last - cycle) each i
         ∙ (sym (whole i)
         ∙ (sym (ap (λ t. cond t (bits_at places vars bits i (last - cycle)) false) (le_true cycle last early)) ∙ ap (λ k. sequence_value last (bits_at places vars bits) k cycle) (let e : i ≡ 0 + i = omega arith in e)))))
+
+row_long : (last : ℕ) (a : ℕ → ℕ → Bool) (cycle first count : ℕ) → length (sequence_row last a cycle first count) ≡ count
+row_long last a cycle first zero = refl
+row_long last a cycle first (suc count) = ap suc (row_long last a cycle (suc first) count)
+
+-- each row has a bit for each input
+pub rows_fit : (last : ℕ) (a : ℕ → ℕ → Bool) (count cycle cycles : ℕ) → All (λ row. length row ≡ count) (sequence_rows_from last a count cycle cycles)
+rows_fit last a count cycle zero = All-nil (λ row. length row ≡ count)
+rows_fit last a count cycle (suc cycles) =
+    All-cons (λ row. length row ≡ count) (sequence_row last a cycle 0 count) (sequence_rows_from last a count (suc cycle) cycles) (row_long last a cycle 0 count) (rows_fit last a count (suc cycle) cycles)
+
+-- the first sequence is the one that was made
+pub first_made : (g : List Node) (places : List (ℕ × ℕ)) (q : Query) (name : List ℕ) (last : ℕ) (names : List (List ℕ)) (first : Option Witness) (bits : Option (List Bool)) (made : List Bool) (w : Witness) → is_some first ≡ false → bits ≡ Some made →
+    IsWitnessOf g places q made name last names w → IsFirstOf g places q name last names first bits (Some w)
+first_made g places q name last names None bits made w none is h = subst (λ (o : Option (List Bool)). IsFirstOf g places q name last names None o (Some w)) (sym is) (w, refl, h)
+first_made g places q name last names (Some v) bits made w none is h = absurd (no none)
+  where
+    no : true ≡ false → ⊥
+    no e = cc
