@@ -125,12 +125,12 @@ module _ {a b : NetView} {left right : List ℕ} {g : List Node} {places : List 
       (right_tree, Contains-tail left_tree right_tree (right_tree ∷ []) (Contains-head right_tree []), subst (HasLeaf y) (only_one right_tree leaf.0 leaf.1) leaf.2)
 
   variables_to : (y : Variable ℕ) (tree : Tree ℕ) → (left_tree ≡ tree) ⊎ Contains (right_tree ∷ []) tree → HasLeaf y tree → (v : ℕ) × Contains q.vars v × (variable_of places v ≡ y)
-  variables_to y tree (inl same) leaf =
-      let here : Contains x.left_is.variables y = (x.left_is.are_variables.exactly y).1 (left_tree, Contains-head left_tree [], subst (HasLeaf y) (sym same) leaf) in
+  variables_to y tree (inl same) is_leaf =
+      let here : Contains x.left_is.variables y = (x.left_is.are_variables.exactly y).1 (left_tree, Contains-head left_tree [], subst (HasLeaf y) (sym same) is_leaf) in
       let v = Contains-map_from (variable_of places) l.vars y (subst (λ (ys : List (Variable ℕ)). Contains ys y) (sym (variables_are places l.vars x.left_is.variables x.left_is.numbered)) here) in
       (v.0, (x.asks.variables_are.exactly v.0).1 (inl v.1), v.2)
-  variables_to y tree (inr k) leaf =
-      let here : Contains x.right_is.variables y = (x.right_is.are_variables.exactly y).1 (tree, k, leaf) in
+  variables_to y tree (inr k) is_leaf =
+      let here : Contains x.right_is.variables y = (x.right_is.are_variables.exactly y).1 (tree, k, is_leaf) in
       let v = Contains-map_from (variable_of places) r.vars y (subst (λ (ys : List (Variable ℕ)). Contains ys y) (sym (variables_are places r.vars x.right_is.variables x.right_is.numbered)) here) in
       (v.0, (x.asks.variables_are.exactly v.0).1 (inr v.1), v.2)
 
