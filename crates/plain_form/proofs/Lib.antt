@@ -9,4 +9,5 @@ pub mod Rows
 pub mod Decided
 pub mod Results
 pub mod PairAt
+pub mod Outcomes
 pub mod PairQueries
