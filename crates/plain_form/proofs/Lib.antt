@@ -1,0 +1,13 @@
+pub mod Assignments
+pub mod MergeLists
+pub mod Matched
+pub mod Leaves
+pub mod OutputNames
+pub mod Reading
+pub mod Growing
+pub mod Rows
+pub mod Decided
+pub mod Results
+pub mod PairAt
+pub mod Outcomes
+pub mod PairQueries
