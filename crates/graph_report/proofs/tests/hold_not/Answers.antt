@@ -5,7 +5,6 @@ use Rattle.std.proofs.lemmas.List.Elements.{All-cons, All-nil}
 use Rattle.circuit_theory.specs.Cover.{Cover}
 use Rattle.sec_base.specs.declared.basics.Init.TheVariants as init
 use Rattle.flat_net.specs.declared.signals.Signal.{Signal}
-use Rattle.flat_net.specs.declared.parts.Driver.{Driver}
 use Rattle.flat_net.specs.declared.parts.Driver.TheVariants as driver
 use Rattle.flat_net.specs.Makes.{MakerView, empty_net, with_input, with_latch, with_cover, with_gate, with_output, with_next}
 use Rattle.graph_report.proofs.tests.hold_not.Goals as goal
