@@ -1,9 +1,8 @@
 -- Runs over a stimulus, and runs by rows in the order of the inputs.
-use Rattle.std.proofs.Common.{◌≡◌, ◌∙◌, ◌+◌, ◌<◌, ℕ, zero, suc, Bool, true, false, List, [], ◌∷◌, ◌++◌, map, length, get_or, replicate, slice_get, Option, Some, None, refl, sym, ap, subst, arith}
+use Rattle.std.proofs.Common.{◌≡◌, ◌∙◌, ◌<◌, ℕ, zero, suc, Bool, true, false, List, [], ◌∷◌, ◌++◌, map, length, get_or, slice_get, Option, Some, None, refl, sym, ap, subst, arith}
 use Rattle.std.specs.Prelude.{All, Contains, codes, ◌==◌, ◌&&◌, if◌then◌else◌}
 use Rattle.std.proofs.lemmas.Bool.{eqb-true}
 use Rattle.std.proofs.lemmas.List.{length-map, length-replicate}
-use Rattle.std.proofs.lemmas.List.Elements.{All-map}
 use Rattle.std.proofs.lemmas.Option.{slice_get_within, slice_get-get_or, get_or_from_slice_get, same_Some}
 use Rattle.circuit_theory.specs.Run.{IsRun}
 use Rattle.circuit_theory.specs.Interface.{first_missing, ◌or_else◌}
@@ -19,8 +18,8 @@ use Rattle.cycle_sim.specs.Runs.{IsRunFrom}
 use Rattle.cycle_sim.proofs.Lists.{map_at, map_is}
 use Rattle.sim_report.specs.declared.refusal.Misfit.{Misfit}
 use Rattle.sim_report.specs.declared.refusal.Misfit.TheVariants as misfit
-use Rattle.sim_report.specs.Checks.{input_names, is_power_word, is_power, power_of, named_misfit, first_misfit}
-use Rattle.sim_report.specs.Report.{Shown, cycle_lines, sim_text, IsSimulated, IsSimReport}
+use Rattle.sim_report.specs.Checks.{input_names, is_power, power_of, named_misfit, first_misfit}
+use Rattle.sim_report.specs.Report.{cycle_lines, IsSimulated, IsSimReport}
 use Rattle.sim_report.specs.Cycles.{AreColumns, PutsCycles, reordered}
 use Rattle.sim_report.proofs.Names.{missing_none}
 

@@ -1,9 +1,8 @@
 -- The report of a simulation: the outputs' values and marks in each cycle.
-use Rattle.std.specs.Prelude.{◌≡◌, ℕ, ◌+◌, ◌<◌, ◌↔◌, Bool, true, List, [], ◌∷◌, ◌++◌, map, length, codes, slice_get, Some, Option}
+use Rattle.std.specs.Prelude.{◌≡◌, ℕ, ◌+◌, ◌↔◌, Bool, true, List, [], ◌∷◌, ◌++◌, map, length, codes, slice_get, Some, Option}
 use Rattle.std.specs.Fmt.{decimal}
 use Rattle.std.specs.List.{Contains}
 use Rattle.circuit_theory.specs.declared.Mode.TheVariants.{Plain}
-use Rattle.circuit_theory.specs.Circuit.{Circuit}
 use Rattle.circuit_theory.specs.Run.{IsRun}
 use Rattle.circuit_theory.specs.Agree.{IsSettled}
 use Rattle.flat_net.specs.declared.parts.Port.{Port}

@@ -10,11 +10,7 @@ use sec_base::{NameTable, NoMemory};
 use std::alloc::Global;
 
 /// For each input the column of its name. Each input has one.
-pub(crate) fn columns_of(
-    alloc: Global,
-    net: &Net,
-    names: &NameTable,
-) -> Result<Vec<u32>, NoMemory>
+pub(crate) fn columns_of(alloc: Global, net: &Net, names: &NameTable) -> Result<Vec<u32>, NoMemory>
     requires { first_missing (input_names net.now) names.now ≡ None }
     ensures { IfOk result (λ columns. AreColumns net.now names.now columns.items) }
 {

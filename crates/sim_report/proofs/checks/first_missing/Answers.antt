@@ -1,4 +1,4 @@
-use Rattle.std.proofs.Common.{◌≡◌, ◌+◌, Bool, cond, drop, sym, ◌∙◌, ap, Some}
+use Rattle.std.proofs.Common.{◌+◌, Bool, cond, drop, sym, ◌∙◌, ap, Some}
 use Rattle.circuit_theory.specs.Interface.{first_missing}
 use Rattle.sim_report.proofs.Names.{missing_more}
 use Rattle.sim_report.proofs.checks.first_missing.Goals as goal

@@ -1,5 +1,5 @@
 -- Each input stands in the header, at its column.
-use Rattle.std.proofs.Common.{◌≡◌, ◌+◌, ℕ, List, [], ◌∷◌, ◌++◌, length, slice_get, Some, sym, ◌∙◌, ap, subst, arith, length-append}
+use Rattle.std.proofs.Common.{◌≡◌, ℕ, List, [], ◌∷◌, ◌++◌, length, slice_get, Some, sym, ◌∙◌, ap, subst, arith, length-append}
 use Rattle.std.specs.Prelude.{Contains}
 use Rattle.circuit_theory.proofs.Lists.{Contains-map, of_at}
 use Rattle.flat_net.specs.declared.parts.Port.{Port}
@@ -25,7 +25,8 @@ loop-port-preserved c =
     let at = item_at inputs _ c.loop-port.port-index c.port-item.result c.inputs-port-items.ensures c.loop-port-test.true c.port-item.is in
     let named : slice_get names column ≡ Some c.port-item.result.name = c.in-Some.ensures.here ∙ ap Some c.as_slice.ensures in
     let grown : c.push.new.self.items ≡ columns ++ column ∷ [] = c.in_ok-push.ensures.items in
-    let size = ap length grown in
-    (omega (arith, size, length-append columns (column ∷ []), c.loop-port.invariant.0),
-    λ i k port at_port at_column. each_more (λ (p : Port) (q : ℕ). slice_get names q ≡ Some p.name) inputs columns c.port-item.result column (ap (slice_get inputs) c.loop-port.invariant.0 ∙ at) named
-    (λ j p q at_p at_q. c.loop-port.invariant.1 j q p at_p at_q) i port k at_port (sym (ap (λ (cs : List ℕ). slice_get cs i) grown) ∙ at_column))
+    let size = ap length grown in (
+      omega (arith, size, length-append columns (column ∷ []), c.loop-port.invariant.0),
+      λ i k port at_port at_column. each_more (λ (p : Port) (q : ℕ). slice_get names q ≡ Some p.name) inputs columns c.port-item.result column (ap (slice_get inputs) c.loop-port.invariant.0 ∙ at) named
+          (λ j p q at_p at_q. c.loop-port.invariant.1 j q p at_p at_q) i port k at_port (sym (ap (λ (cs : List ℕ). slice_get cs i) grown) ∙ at_column),
+    )

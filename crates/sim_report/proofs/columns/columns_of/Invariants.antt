@@ -1,4 +1,4 @@
-use Rattle.std.proofs.Common.{◌≡◌, ◌<◌, ℕ, length, slice_get, Some}
+use Rattle.std.proofs.Common.{◌≡◌, ℕ, length, slice_get, Some}
 use Rattle.flat_net.specs.declared.parts.Port.{Port}
 use Rattle.sim_report.proofs.columns.columns_of.Given as goal
 

@@ -1,4 +1,4 @@
-use Rattle.std.proofs.Common.{◌<◌, ℕ, false, get_or, arith}
+use Rattle.std.proofs.Common.{ℕ, false, get_or, arith}
 use Rattle.std.proofs.lemmas.Option.{slice_get_within}
 use Rattle.cycle_sim.proofs.Lists.{map_is}
 use Rattle.sim_report.proofs.columns.reorder.Goals as goal

@@ -1,4 +1,4 @@
-use Rattle.std.proofs.Common.{◌≡◌, ◌<◌, ℕ, Bool, length, slice_get, Some}
+use Rattle.std.proofs.Common.{◌≡◌, ℕ, Bool, length, slice_get, Some}
 use Rattle.flat_net.specs.declared.parts.Port.{Port}
 use Rattle.cycle_sim.specs.View.{IsLatest}
 use Rattle.sim_report.proofs.cycles.latest_values.Given as goal

@@ -1,5 +1,5 @@
 -- One row more is fed.
-use Rattle.std.proofs.Common.{◌≡◌, ◌∙◌, ◌+◌, ◌++◌, ◌∷◌, [], ℕ, List, Bool, map, take, length, refl, sym, ap, subst, arith}
+use Rattle.std.proofs.Common.{◌≡◌, ◌∙◌, ◌+◌, ◌++◌, ◌∷◌, [], List, Bool, map, take, length, refl, sym, ap, subst, arith}
 use Rattle.std.specs.Vec.{with_items}
 use Rattle.std.proofs.lemmas.List.{with_items_is, map-append, length-map}
 use Rattle.sec_base.proofs.TableLemmas.{take-push}
@@ -25,6 +25,7 @@ loop-row-preserved c =
     sym (map-append (reordered columns) (take i rows) (row ∷ [])) ∙ ap (map (reordered columns)) (take-push rows i row at) in
     let next = at_more n c.args.power (map (reordered columns) (take i rows)) (reordered columns row) c.loop-row.sim.sim c.put_next.new.sim.sim c.args.text.now.items c.loop-row.text.items c.put_next.new.text.items
     c.loop-row.invariant.0 c.put_next.ensures.net
-    (λ power before h. subst (λ (r : List Bool). HasRun c.put_next.new.sim.sim power (before ++ r ∷ [])) fed (c.put_next.ensures.run power before h)) c.in_ok-put_next.ensures.put in
-    (subst (λ (done : List (List Bool)). IsAt n c.args.power done c.put_next.new.sim.sim c.args.text.now.items c.put_next.new.text.items) more next,
-    ap length (written ∙ bits) ∙ length-map columns _)
+    (λ power before h. subst (λ (r : List Bool). HasRun c.put_next.new.sim.sim power (before ++ r ∷ [])) fed (c.put_next.ensures.run power before h)) c.in_ok-put_next.ensures.put in (
+      subst (λ (done : List (List Bool)). IsAt n c.args.power done c.put_next.new.sim.sim c.args.text.now.items c.put_next.new.text.items) more next,
+      ap length (written ∙ bits) ∙ length-map columns _,
+    )

@@ -1,4 +1,4 @@
-use Rattle.std.proofs.Common.{◌≡◌, ◌-◌, ◌++◌, List, Bool, Result, Ok, Err, OnOk, ◌∙◌, sym, ap, subst}
+use Rattle.std.proofs.Common.{◌-◌, ◌++◌, List, Bool, Result, Ok, Err, OnOk, ◌∙◌, sym, ap, subst}
 use Rattle.sim_report.specs.Report.{cycle_line}
 use Rattle.sim_report.specs.Cycles.{AreLatest, AreMarks}
 use Rattle.sim_report.proofs.cycles.put_next.Goals as goal

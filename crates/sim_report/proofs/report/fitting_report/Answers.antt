@@ -1,9 +1,8 @@
 -- The columns are those of the inputs, and the lines those of the run.
 use Rattle.std.proofs.Common.{◌≡◌, ◌∙◌, ◌++◌, ◌∷◌, [], ℕ, List, Bool, map, length, sym, ap, subst}
-use Rattle.std.specs.Prelude.{All, codes, option_map, ◌<◌}
+use Rattle.std.specs.Prelude.{All, codes, ◌<◌}
 use Rattle.flat_net.specs.declared.parts.Port.{Port}
 use Rattle.witness_report.specs.Text.{names_text}
-use Rattle.sim_report.specs.Checks.{power_of}
 use Rattle.sim_report.specs.Report.{IsSimReport}
 use Rattle.sim_report.specs.Cycles.{AreColumns, PutsCycles, reordered}
 use Rattle.sim_report.proofs.Runs.{columns_within, report_is}

@@ -1,5 +1,5 @@
 -- Both latches have their next.
-use Rattle.std.proofs.Common.{◌≡◌, ◌∙◌, ◌++◌, ◌∷◌, [], ◌<◌, ℕ, List, Bool, true, false, length, slice_get, slice_set, Some, codes, refl, sym, ap, subst, arith}
+use Rattle.std.proofs.Common.{◌≡◌, ◌∙◌, ◌++◌, ◌∷◌, [], ◌<◌, List, Bool, true, false, length, slice_get, slice_set, Some, codes, refl, sym, ap, subst, arith}
 use Rattle.std.specs.List.{All}
 use Rattle.std.proofs.lemmas.List.Elements.{All-cons, All-nil}
 use Rattle.sec_base.specs.declared.basics.Init.TheVariants as init
@@ -72,9 +72,11 @@ module _ (m0 m1 m2 m3 m4 : MakerView) (p y : Signal) (begins : m0 ≡ record { n
 
 pub set_next-requires-2-clause-latch : goal.set_next-requires-2-clause-latch
 set_next-requires-2-clause-latch c =
-    let p_drives = drives_p _ _ _ _ _ c.in_ok-p.p c.in_ok-y.y c.new-maker.ensures c.in_ok-a.ensures.ok c.in_ok-p.ensures.ok c.in_ok-y.ensures.ok c.in_ok-output.ensures.ok c.in_ok-p.ensures.signal c.in_ok-y.ensures.signal in
-    (1, drives_y _ _ _ _ _ c.in_ok-p.p c.in_ok-y.y c.new-maker.ensures c.in_ok-a.ensures.ok c.in_ok-p.ensures.ok c.in_ok-y.ensures.ok c.in_ok-output.ensures.ok c.in_ok-p.ensures.signal c.in_ok-y.ensures.signal
-    _ c.in_ok-a.a (c.set_next.ensures 0 p_drives))
+    let p_drives = drives_p _ _ _ _ _ c.in_ok-p.p c.in_ok-y.y c.new-maker.ensures c.in_ok-a.ensures.ok c.in_ok-p.ensures.ok c.in_ok-y.ensures.ok c.in_ok-output.ensures.ok c.in_ok-p.ensures.signal c.in_ok-y.ensures.signal in (
+      1,
+      drives_y _ _ _ _ _ c.in_ok-p.p c.in_ok-y.y c.new-maker.ensures c.in_ok-a.ensures.ok c.in_ok-p.ensures.ok c.in_ok-y.ensures.ok c.in_ok-output.ensures.ok c.in_ok-p.ensures.signal c.in_ok-y.ensures.signal
+          _ c.in_ok-a.a (c.set_next.ensures 0 p_drives),
+    )
 
 pub set_next-requires-2-clause-within : goal.set_next-requires-2-clause-within
 set_next-requires-2-clause-within c =
