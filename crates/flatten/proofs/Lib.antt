@@ -1,0 +1,11 @@
+pub mod AssembledRuns
+pub mod Rows
+pub mod Searching
+pub mod NameOrder
+pub mod GraphSteps
+pub mod LoopLaws
+pub mod Faulted
+pub mod Building
+pub mod Gating
+pub mod CoverNumbers
+pub mod Nexts

@@ -1,0 +1,9 @@
+pub mod Assembled
+pub mod Order
+pub mod Searched
+pub mod Loops
+pub mod DesignFaults
+pub mod Graph
+pub mod Built
+pub mod Gated
+pub mod Shown

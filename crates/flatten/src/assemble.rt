@@ -1,0 +1,163 @@
+//! The net of a sound flat design.
+
+ghost use Rattle.std.specs.Prelude.{◌≡◌, ◌^◌, ◌+◌, ◌<◌, ℕ, List, [], ◌∷◌, ◌++◌, false, true, length, replicate, slice_get, slice_set, slice_index_or, Some, All, IfOk, OnOk, IsSomeAnd};
+ghost use Rattle.sec_base.specs.Table.{is_among, AreDistinct};
+ghost use Rattle.flat_walk.specs.Flat.{cover_at, is_number};
+ghost use Rattle.flatten.specs.Built.{IsBuilt, unclocked, with_inputs, latch_outs, with_latches};
+ghost use Rattle.flat_net.specs.Makes.{empty_net, new_signal, with_input, with_latch, with_gate, with_output, with_next};
+
+use blif_read::{BlifModel, Statement};
+use flat_net::{NetMaker, Signal, Signals};
+use flat_walk::{Flat, FlatKind};
+use sec_base::{Cover, Init, NoMemory, PlaceTable};
+use std::alloc::Global;
+
+/// The net so far, the signal of each number that has one, and which covers the net has.
+#[derive(Drop)]
+pub(crate) struct Assembly {
+    pub(crate) maker: NetMaker,
+    pub(crate) signals: Vec<Signal>,
+    pub(crate) covers: PlaceTable,
+}
+
+impl Assembly {
+    /// An empty net over so many numbers.
+    pub(crate) fn new(alloc: Global, size: usize) -> Result<Assembly, NoMemory>
+        ensures net { IfOk result (λ a. a.maker ≡ record { net = empty_net; set = [] }) }
+        ensures signals { IfOk result (λ a. a.signals.items ≡ replicate size (record { 0 = 0 })) }
+        ensures covers { IfOk result (λ a. a.covers ≡ []) }
+    {
+        Ok(Assembly {
+            maker: NetMaker::new(alloc),
+            signals: vec![in alloc; Signal(0); size]?,
+            covers: PlaceTable::new(alloc),
+        })
+    }
+
+    /// The number is an input of this name.
+    pub(crate) fn add_input(&mut self, name: &[u8], number: u32) -> Result<(), NoMemory>
+        requires room { length self.old.maker.net.drivers + 1 < 2 ^ 32 }
+        requires new { is_among self.old.maker.net.names name.now ≡ false }
+        requires number { number < length self.old.signals.items }
+        ensures net { OnOk result (self.new.maker ≡ record self.old.maker { net = with_input self.old.maker.net name.now }) }
+        ensures signals { OnOk result (self.new.signals.items ≡ slice_set self.old.signals.items number (new_signal self.old.maker.net)) }
+        ensures covers { OnOk result (self.new.covers ≡ self.old.covers) }
+    {
+        let signal = self.maker.input(name)?;
+        self.signals[number as usize] = signal;
+        Ok(())
+    }
+
+    /// The main model's inputs but the clock, in their order.
+    pub(crate) fn add_inputs(&mut self, flat: &Flat, clock: Option<u32>) -> Result<(), NoMemory>
+        requires built { IsBuilt flat.now.names [] self.old.maker.net self.old.signals.items }
+        requires distinct { AreDistinct (unclocked clock flat.now.inputs) }
+        ensures built { OnOk result (IsBuilt flat.now.names (unclocked clock flat.now.inputs) self.new.maker.net self.new.signals.items) }
+        ensures net { OnOk result (self.new.maker ≡ record self.old.maker { net = with_inputs flat.now.names (unclocked clock flat.now.inputs) self.old.maker.net }) }
+        ensures covers { OnOk result (self.new.covers ≡ self.old.covers) }
+    {
+        let _size = flat.names.len();
+        for input in flat.inputs.as_slice() {
+            if is_clock(clock, *input) {
+                continue;
+            }
+            self.add_input(flat.name(*input), *input)?;
+        }
+        Ok(())
+    }
+
+    /// The number is what a latch of this name drives.
+    pub(crate) fn add_latch(&mut self, name: &[u8], number: u32, init: Init) -> Result<(), NoMemory>
+        requires room { length self.old.maker.net.drivers + 1 < 2 ^ 32 }
+        requires new { is_among self.old.maker.net.names name.now ≡ false }
+        requires number { number < length self.old.signals.items }
+        ensures net { OnOk result (self.new.maker ≡ record { net = with_latch self.old.maker.net name.now init; set = self.old.maker.set ++ false ∷ [] }) }
+        ensures signals { OnOk result (self.new.signals.items ≡ slice_set self.old.signals.items number (new_signal self.old.maker.net)) }
+        ensures covers { OnOk result (self.new.covers ≡ self.old.covers) }
+    {
+        let signal = self.maker.latch(name, init)?;
+        self.signals[number as usize] = signal;
+        Ok(())
+    }
+
+    /// The latches, in their order. Each takes over itself until its next is set.
+    pub(crate) fn add_latches(&mut self, flat: &Flat) -> Result<(), NoMemory>
+        ghost made: { List ℕ }
+        requires built { IsBuilt flat.now.names made self.old.maker.net self.old.signals.items }
+        requires distinct { AreDistinct (made ++ latch_outs flat.now.statements) }
+        ensures built { OnOk result (IsBuilt flat.now.names (made ++ latch_outs flat.now.statements) self.new.maker.net self.new.signals.items) }
+        ensures net { OnOk result (self.new.maker.net ≡ with_latches flat.now.names flat.now.statements self.old.maker.net) }
+        ensures covers { OnOk result (self.new.covers ≡ self.old.covers) }
+    {
+        let _size = flat.names.len();
+        for statement in flat.statements.as_slice() {
+            let FlatKind::Latch { init, .. } = statement.kind else {
+                continue;
+            };
+            self.add_latch(flat.name(statement.out), statement.out, init)?;
+        }
+        Ok(())
+    }
+
+    /// The number is what a gate of this name drives.
+    pub(crate) fn add_gate(
+        &mut self,
+        name: &[u8],
+        number: u32,
+        fanins: Signals,
+        cover: u32,
+    ) -> Result<(), NoMemory>
+        requires room { length self.old.maker.net.drivers + 1 < 2 ^ 32 }
+        requires new { is_among self.old.maker.net.names name.now ≡ false }
+        requires within { All (λ f. f.0 < length self.old.maker.net.drivers) fanins }
+        requires fits { IsSomeAnd (slice_get self.old.maker.net.covers cover) (λ c. c.width ≡ length fanins) }
+        requires number { number < length self.old.signals.items }
+        ensures net { OnOk result (self.new.maker ≡ record self.old.maker { net = with_gate self.old.maker.net name.now fanins cover }) }
+        ensures signals { OnOk result (self.new.signals.items ≡ slice_set self.old.signals.items number (new_signal self.old.maker.net)) }
+        ensures covers { OnOk result (self.new.covers ≡ self.old.covers) }
+    {
+        let signal = self.maker.gate(name, fanins, cover)?;
+        self.signals[number as usize] = signal;
+        Ok(())
+    }
+
+    /// The number is driven by a port from another: both have one signal.
+    pub(crate) fn join(&mut self, number: u32, from: u32)
+        requires number { number < length self.old.signals.items }
+        requires from { from < length self.old.signals.items }
+        ensures net { self.new.maker ≡ self.old.maker }
+        ensures signals { IsSomeAnd (slice_get self.old.signals.items from) (λ s. self.new.signals.items ≡ slice_set self.old.signals.items number s) }
+        ensures covers { self.new.covers ≡ self.old.covers }
+    {
+        let signal = self.signals[from as usize];
+        self.signals[number as usize] = signal;
+    }
+}
+
+/// Whether the number is that of the clock.
+fn is_clock(clock: Option<u32>, number: u32) -> bool
+    ensures { result ≡ is_number clock number }
+{
+    match clock {
+        Some(clock) => clock == number,
+        None => false,
+    }
+}
+
+/// A copy of the cover of a statement; of no such statement, the constant 0.
+pub(crate) fn cover_copy(
+    alloc: Global,
+    models: &[BlifModel],
+    model: u32,
+    statement: u32,
+) -> Result<Cover, NoMemory>
+    ensures { IfOk result (λ cover. cover ≡ cover_at models.now model statement) }
+{
+    let Some(model) = models.get(model as usize) else {
+        return Ok(Cover::new(alloc, 0));
+    };
+    match model.statements.as_slice().get(statement as usize) {
+        Some(Statement::Names { cover, .. }) => cover.copy(),
+        _ => Ok(Cover::new(alloc, 0)),
+    }
+}
