@@ -48,7 +48,7 @@ use Rattle.sec_check.proofs.Paired.{names_of, place_named-at}
 use Rattle.sec_check.proofs.Shared.{some_is}
 
 -- a place that is found under a name stands there under it
-place_stands : {Q : Type 0} (ns : List (Named Q)) (name : List ℕ) (q : Q) → place_named ns name ≡ Some q → Contains ns (record { name = name; place = q })
+pub place_stands : {Q : Type 0} (ns : List (Named Q)) (name : List ℕ) (q : Q) → place_named ns name ≡ Some q → Contains ns (record { name = name; place = q })
 place_stands [] name q h = absurd (none-some q h)
 place_stands {Q} (n ∷ ns) name q h = go (same_name n.name name) refl (λ k. place_stands ns name q k)
   where
