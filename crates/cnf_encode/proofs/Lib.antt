@@ -1,0 +1,6 @@
+pub mod Placing
+pub mod Added
+pub mod Meeting
+pub mod Places
+pub mod Shown
+pub mod Sized

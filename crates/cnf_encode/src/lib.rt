@@ -2,7 +2,11 @@
 #![tactic(auto)]
 
 mod cnf;
+mod cones;
 mod encoding;
+#[cfg(test)]
+mod tests;
 
 pub use cnf::Cnf;
+pub use cones::{Cones, Nodes, cones_of};
 pub use encoding::encode;

@@ -1,5 +1,5 @@
 -- The answers to a query, and what stands behind each.
-use Rattle.std.specs.Prelude.{◌≡◌, ℕ, ◌≤◌, ◌<◌, ⊥, List, length, Some, None, Option}
+use Rattle.std.specs.Prelude.{◌≡◌, ℕ, ◌≤◌, ◌<◌, Bool, List, length, Some, None, Option}
 use Rattle.circuit_theory.specs.Query.{bits_of}
 use Rattle.aig.specs.declared.node.Node.{Node}
 use Rattle.proof_check.specs.Chains.{IsRefutation}

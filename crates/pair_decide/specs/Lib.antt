@@ -1,2 +1,4 @@
 pub mod Queries
+pub mod Tables
+pub mod Reading
 pub mod Answers

@@ -1,5 +1,5 @@
 -- Queries over a graph: do two literals agree wherever a third one, the care, holds?
-use Rattle.std.specs.Prelude.{◌≡◌, ◌≢◌, ◌⊎◌, ℕ, ◌^◌, ◌<◌, ◌==◌, Bool, true, false, if◌then◌else◌, List, [], ◌∷◌, length, slice_get, Some, Contains}
+use Rattle.std.specs.Prelude.{◌≡◌, ◌≢◌, ◌⊎◌, ℕ, ◌*◌, ◌^◌, ◌<◌, ◌==◌, Bool, true, false, if◌then◌else◌, List, [], ◌∷◌, length, slice_get, Some, Contains}
 use Rattle.std.specs.List.{AllPairs}
 use Rattle.circuit_theory.specs.Query.{bits_of}
 use Rattle.aig.specs.declared.node.Node.{Node}

@@ -1,7 +1,7 @@
 //! The whole decision.
 
-ghost use Rattle.std.specs.Prelude.{◌≤◌, IfOk};
-ghost use Rattle.pair_decide.specs.Queries.{IsQuery};
+ghost use Rattle.std.specs.Prelude.{◌≤◌, ◌↔◌, IfOk, IsTrue};
+ghost use Rattle.pair_decide.specs.Queries.{IsQuery, IsTrivial};
 ghost use Rattle.pair_decide.specs.Answers.{Decides};
 
 use crate::query::{Decision, Query, SameBy};
@@ -21,11 +21,19 @@ pub fn decide(alloc: Global, aig: &Aig, query: &Query, conflicts: u32) -> Result
     requires conflicts { conflicts ≤ 200000 }
     ensures { IfOk result (Decides aig.now query.now conflicts) }
 {
-    if query.left == query.right || query.care == Lit(0) {
+    if is_trivial(query) {
+        aig.keeps();
         return Ok(Decision::Same(SameBy::Literal));
     }
     if query.vars.len() <= NARROW {
         return decide_by_table(alloc, aig, query);
     }
     decide_by_search(alloc, aig, query, conflicts)
+}
+
+/// Whether both sides are one literal, or the care is the literal 0.
+fn is_trivial(query: &Query) -> bool
+    ensures { IsTrue result ↔ IsTrivial query.now }
+{
+    query.left == query.right || query.care == Lit(0)
 }

@@ -6,8 +6,12 @@
 
 mod deciding;
 mod query;
+mod reading;
+mod renaming;
 mod searching;
 mod table;
+#[cfg(test)]
+mod tests;
 
 pub use deciding::decide;
 pub use query::{Decision, Proof, Query, SameBy};

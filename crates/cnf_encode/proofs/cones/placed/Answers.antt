@@ -1,0 +1,38 @@
+-- What the search finds stands there, and it misses nothing.
+use Rattle.std.proofs.Common.{◌≡◌, ℕ, ◌+◌, ◌*◌, ◌/◌, ◌%◌, ◌<◌, ◌≤◌, slice_get, arith, ap, ◌∙◌}
+use Rattle.std.proofs.lemmas.Option.{slice_get_within, get_or_from_slice_get}
+use Rattle.aig.proofs.Parts.{search-found, search-missed, place-below}
+use Rattle.cnf_encode.proofs.cones.placed.Goals as goal
+
+pub overflow_cast-result : goal.overflow_cast-result
+overflow_cast-result c =
+    let at = search-found c.args.nodes.now c.requires.increasing (c.args.l.0 / 2) c.in-Ok.k c.in-Ok.ensures.position in
+    let low : c.in-Ok.k ≤ c.args.l.0 / 2 = place-below c.args.nodes.now c.requires.increasing c.in-Ok.k (c.args.l.0 / 2) at in
+    omega (arith, low, c.requires.few c.in-Ok.k 0 (slice_get_within c.args.nodes.now c.in-Ok.k (c.args.l.0 / 2) at), get_or_from_slice_get c.args.nodes.now c.in-Ok.k (c.args.l.0 / 2) 0 at)
+
+pub overflow_mul-result : goal.overflow_mul-result
+overflow_mul-result c =
+    let at = search-found c.args.nodes.now c.requires.increasing (c.args.l.0 / 2) c.in-Ok.k c.in-Ok.ensures.position in
+    let low : c.in-Ok.k ≤ c.args.l.0 / 2 = place-below c.args.nodes.now c.requires.increasing c.in-Ok.k (c.args.l.0 / 2) at in
+    omega (arith, low, c.requires.few c.in-Ok.k 0 (slice_get_within c.args.nodes.now c.in-Ok.k (c.args.l.0 / 2) at), get_or_from_slice_get c.args.nodes.now c.in-Ok.k (c.args.l.0 / 2) 0 at)
+
+pub overflow_add-result : goal.overflow_add-result
+overflow_add-result c =
+    let at = search-found c.args.nodes.now c.requires.increasing (c.args.l.0 / 2) c.in-Ok.k c.in-Ok.ensures.position in
+    let low : c.in-Ok.k ≤ c.args.l.0 / 2 = place-below c.args.nodes.now c.requires.increasing c.in-Ok.k (c.args.l.0 / 2) at in
+    omega (arith, low, c.requires.few c.in-Ok.k 0 (slice_get_within c.args.nodes.now c.in-Ok.k (c.args.l.0 / 2) at), get_or_from_slice_get c.args.nodes.now c.in-Ok.k (c.args.l.0 / 2) 0 at)
+
+sign-of : (k s : ℕ) → s < 2 → (2 * k + s) % 2 ≡ s
+sign-of k s h = omega arith
+
+half-of : (k s : ℕ) → s < 2 → (2 * k + s) / 2 ≡ k
+half-of k s h = omega arith
+
+pub returns : goal.returns
+returns c =
+    let at = search-found c.args.nodes.now c.requires.increasing (c.args.l.0 / 2) c.in-Ok.k c.in-Ok.ensures.position in
+    let small : c.args.l.0 % 2 < 2 = omega arith in
+    (sign-of c.in-Ok.k (c.args.l.0 % 2) small, ap (slice_get c.args.nodes.now) (half-of c.in-Ok.k (c.args.l.0 % 2) small) ∙ at)
+
+pub unreachable-requires : goal.unreachable-requires
+unreachable-requires c = search-missed c.args.nodes.now c.requires.increasing (c.args.l.0 / 2) c.in-Err.field-0 c.in-Err.ensures.position c.requires.there
