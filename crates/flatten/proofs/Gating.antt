@@ -105,7 +105,7 @@ module _ (models : List BlifModel) (flat : Flat) (wired : WiredView) (order : Li
       ∙ sym (append_assoc (first_made flat wired) (gates_in flat wired (take i order)) (gates_in flat wired (drop i order)))
 
   -- a number that is its own net has the signal of its place
-  spot_at : (i k n : ℕ) → slice_get (made i) k ≡ Some n → net_of wired.nets n ≡ n → spot flat wired order n ≡ k
+  pub spot_at : (i k n : ℕ) → slice_get (made i) k ≡ Some n → net_of wired.nets n ≡ n → spot flat wired order n ≡ k
   spot_at i k n h own =
       ap (place_of full) own ∙ place_of_is full k n laid.once
       (subst (λ (ns : List ℕ). slice_get ns k ≡ Some n) (sym (made_whole i)) (slice_get-append (made i) (gates_in flat wired (drop i order)) k n h))

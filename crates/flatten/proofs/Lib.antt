@@ -9,3 +9,14 @@ pub mod Building
 pub mod Gating
 pub mod CoverNumbers
 pub mod Nexts
+pub mod MadeNets
+pub mod Assembling
+pub mod DistinctLists
+pub mod MainPorts
+pub mod Drivers
+pub mod Laid
+pub mod Spotted
+pub mod NumberClocks
+pub mod Whole
+pub mod FlatNets
+pub mod KeptStarts

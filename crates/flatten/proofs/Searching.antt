@@ -470,8 +470,11 @@ search_begins graph n e = record {
 
 -- where all numbers are met and the way is empty, the order is whole
 pub search_ends : (graph : List (List ℕ)) (marks : List Mark) (way order : List ℕ) → IsSearch graph marks way order → way ≡ [] → ((n : ℕ) → n < length graph → IsMet marks n) → IsOrder graph order
-search_ends graph marks way order s empty met = record { each = λ n l. each n (met n l); once = s.once; behind = s.behind }
+search_ends graph marks way order s empty met = record { each = λ n l. each n (met n l); only = only; once = s.once; behind = s.behind }
   where
+    only : (n : ℕ) → Contains order n → n < length graph
+    only n h = let at = at_of order n h in let l = slice_get_within marks n Done (s.only at.0 n at.1) in omega (arith, l, s.size)
+
     by : (n : ℕ) (mark : Mark) → slice_get marks n ≡ Some mark → mark ≢ New → Contains order n
     by n New h new = absurd (new refl)
     by n (Entered k) h new = let there = s.on_way n k h in absurd (none-some n (subst (λ (w : List ℕ). slice_get w there.0 ≡ Some n) empty there.1))

@@ -6,6 +6,7 @@ use Rattle.sec_base.specs.Table.{AreDistinct}
 use Rattle.blif_read.specs.declared.design.BlifModel.{BlifModel}
 use Rattle.flat_net.specs.declared.signals.Signal.{Signal}
 use Rattle.flat_net.specs.Makes.{with_input, with_latch}
+use Rattle.flat_walk.specs.declared.flat.Flat.{Flat}
 use Rattle.flat_walk.specs.declared.flat.FlatStatement.{FlatStatement}
 use Rattle.flat_walk.specs.declared.flat.FlatKind.{FlatKind}
 use Rattle.flat_walk.specs.declared.flat.FlatKind.TheVariants as kind
@@ -44,6 +45,11 @@ latch_out kind.Port out = []
 abbrev pub latch_outs : List FlatStatement → List ℕ
 latch_outs [] = []
 latch_outs (s ∷ ss) = latch_out s.kind s.out ++ latch_outs ss
+
+-- the net is driven at these numbers, and each latch drives another one
+pub record CanTakeLatches (flat : Flat) (made : List ℕ) (net : NetView) (signals : List Signal) : Type 0 where
+  pub built : IsBuilt flat.names made net signals
+  pub distinct : AreDistinct (made ++ latch_outs flat.statements)
 
 -- the net with one latch more, where the statement is one
 abbrev pub with_latch_of : List (List ℕ) → FlatKind → ℕ → NetView → NetView

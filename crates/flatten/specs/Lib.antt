@@ -7,3 +7,5 @@ pub mod Graph
 pub mod Built
 pub mod Gated
 pub mod Shown
+pub mod Made
+pub mod Clocked

@@ -1,15 +1,15 @@
 //! The net of a sound flat design.
 
-ghost use Rattle.std.specs.Prelude.{◌≡◌, ◌^◌, ◌+◌, ◌<◌, ℕ, List, [], ◌∷◌, ◌++◌, false, true, length, replicate, slice_get, slice_set, slice_index_or, Some, All, IfOk, OnOk, IsSomeAnd};
+ghost use Rattle.std.specs.Prelude.{◌≡◌, ◌^◌, ◌+◌, ◌<◌, ℕ, List, [], ◌∷◌, ◌++◌, false, true, length, replicate, slice_get, slice_set, slice_index_or, option_map, Some, None, All, IfOk, IfSome, OnOk, IsSomeAnd};
 ghost use Rattle.sec_base.specs.Table.{is_among, AreDistinct};
-ghost use Rattle.flat_walk.specs.Flat.{cover_at, is_number};
-ghost use Rattle.flatten.specs.Built.{IsBuilt, unclocked, with_inputs, latch_outs, with_latches};
+ghost use Rattle.flat_walk.specs.Flat.{cover_at, is_number, name_at};
+ghost use Rattle.flatten.specs.Built.{IsBuilt, CanTakeLatches, unclocked, with_inputs, latch_outs, with_latches};
 ghost use Rattle.flat_net.specs.Makes.{empty_net, new_signal, with_input, with_latch, with_gate, with_output, with_next};
 
 use blif_read::{BlifModel, Statement};
-use flat_net::{NetMaker, Signal, Signals};
+use flat_net::{Net, NetMaker, Signal, Signals};
 use flat_walk::{Flat, FlatKind};
-use sec_base::{Cover, Init, NoMemory, PlaceTable};
+use sec_base::{Cover, Init, NoMemory, PlaceTable, Seq};
 use std::alloc::Global;
 
 /// The net so far, the signal of each number that has one, and which covers the net has.
@@ -82,10 +82,8 @@ impl Assembly {
 
     /// The latches, in their order. Each takes over itself until its next is set.
     pub(crate) fn add_latches(&mut self, flat: &Flat) -> Result<(), NoMemory>
-        ghost made: { List ℕ }
-        requires built { IsBuilt flat.now.names made self.old.maker.net self.old.signals.items }
-        requires distinct { AreDistinct (made ++ latch_outs flat.now.statements) }
-        ensures built { OnOk result (IsBuilt flat.now.names (made ++ latch_outs flat.now.statements) self.new.maker.net self.new.signals.items) }
+        requires { (made : List ℕ) × CanTakeLatches flat.now made self.old.maker.net self.old.signals.items }
+        ensures built { OnOk result ((made : List ℕ) → CanTakeLatches flat.now made self.old.maker.net self.old.signals.items → IsBuilt flat.now.names (made ++ latch_outs flat.now.statements) self.new.maker.net self.new.signals.items) }
         ensures net { OnOk result (self.new.maker.net ≡ with_latches flat.now.names flat.now.statements self.old.maker.net) }
         ensures covers { OnOk result (self.new.covers ≡ self.old.covers) }
     {
@@ -97,6 +95,46 @@ impl Assembly {
             self.add_latch(flat.name(statement.out), statement.out, init)?;
         }
         Ok(())
+    }
+
+    /// The inputs but the clock and the latches, each of which takes over itself.
+    pub(crate) fn begin(
+        alloc: Global,
+        flat: &Flat,
+        clock: Option<u32>,
+    ) -> Result<Assembly, NoMemory>
+        requires { AreDistinct (unclocked clock flat.now.inputs ++ latch_outs flat.now.statements) }
+        ensures built { IfOk result (λ a. IsBuilt flat.now.names (unclocked clock flat.now.inputs ++ latch_outs flat.now.statements) a.maker.net a.signals.items) }
+        ensures net { IfOk result (λ a. a.maker.net ≡ with_latches flat.now.names flat.now.statements (with_inputs flat.now.names (unclocked clock flat.now.inputs) empty_net)) }
+        ensures covers { IfOk result (λ a. a.covers ≡ []) }
+    {
+        let mut assembly = Assembly::new(alloc, flat.names.len() as usize)?;
+        assembly.add_inputs(flat, clock)?;
+        assembly.add_latches(flat)?;
+        Ok(assembly)
+    }
+
+    /// The net, with this clock.
+    pub(crate) fn finish(
+        self,
+        alloc: Global,
+        flat: &Flat,
+        clock: Option<u32>,
+    ) -> Result<Net, NoMemory>
+        requires set { All (λ set. set ≡ true) self.maker.set }
+        requires no_clock { self.maker.net.clock ≡ None }
+        requires clock { IfSome clock (λ c. c < length flat.now.names) }
+        ensures { IfOk result (λ net. net ≡ record self.maker.net { clock = option_map (name_at flat.now.names) clock }) }
+    {
+        let Assembly {
+            mut maker,
+            signals: _,
+            covers: _,
+        } = self;
+        if let Some(clock) = clock {
+            maker.set_clock(Seq::from_vec(flat.name(clock).to_vec(alloc)?));
+        }
+        Ok(maker.finish())
     }
 
     /// The number is what a gate of this name drives.

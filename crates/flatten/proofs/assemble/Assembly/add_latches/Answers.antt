@@ -9,41 +9,39 @@ use Rattle.flatten.proofs.Building.{statement_at, out_within, not_latch, name_in
 use Rattle.flatten.proofs.assemble.Assembly.add_latches.Goals as goal
 
 pub loop-statement-preserved-in_default : goal.loop-statement-preserved-in_default
-loop-statement-preserved-in_default g c =
+loop-statement-preserved-in_default c =
     let at = statement_at c.args.flat.now.statements c.as_slice-statement-items.result.now c.loop-statement.statement-index c.statement-item.result c.as_slice-statement-items.ensures c.loop-statement-test.true c.statement-item.is in
     let l = out_within (length c.args.flat.now.names) c.args.flat.now.statements c.loop-statement.statement-index c.statement-item.result c.args.flat.now.within at in
-    let has = c.loop-statement.invariant.0 in
     let none = not_latch c.args.flat.now.names c.statement-item.result.kind c.statement-item.result.out c.loop-statement.self.maker.net (λ edge control init e. c.in_default.not-Latch edge control init e) in
-    (latches_pass c.args.flat.now.names g.made c.args.flat.now.statements c.args.self.now.maker.net c.loop-statement.self.maker.net c.loop-statement.self.signals.items c.loop-statement.statement-index c.statement-item.result at has none.0 none.1, c.loop-statement.invariant.1)
+    ((λ made can. latches_pass c.args.flat.now.names made c.args.flat.now.statements c.args.self.now.maker.net c.loop-statement.self.maker.net c.loop-statement.self.signals.items c.loop-statement.statement-index c.statement-item.result at (c.loop-statement.invariant.0 made can) none.0 none.1), c.loop-statement.invariant.1)
 
 pub add_latch-requires-clause-room : goal.add_latch-requires-clause-room
-add_latch-requires-clause-room g c =
+add_latch-requires-clause-room c =
     let at = statement_at c.args.flat.now.statements c.as_slice-statement-items.result.now c.loop-statement.statement-index c.statement-item.result c.as_slice-statement-items.ensures c.loop-statement-test.true c.statement-item.is in
     let l = out_within (length c.args.flat.now.names) c.args.flat.now.statements c.loop-statement.statement-index c.statement-item.result c.args.flat.now.within at in
-    let has = c.loop-statement.invariant.0 in
+    let has = c.loop-statement.invariant.0 c.requires.0 c.requires.1 in
     let is_latch = ap (λ (k : FlatKind). latch_out k c.statement-item.result.out) c.in-Latch.is in
-    room_for c.args.flat.now.names (g.made ++ latch_outs (take c.loop-statement.statement-index c.args.flat.now.statements)) c.loop-statement.self.maker.net c.loop-statement.self.signals.items has.built c.statement-item.result.out l (latch_fresh c.args.flat.now.names g.made c.args.flat.now.statements c.args.self.now.maker.net c.loop-statement.self.maker.net c.loop-statement.self.signals.items c.loop-statement.statement-index c.statement-item.result at has is_latch c.requires.1) (omega arith)
+    room_for c.args.flat.now.names (c.requires.0 ++ latch_outs (take c.loop-statement.statement-index c.args.flat.now.statements)) c.loop-statement.self.maker.net c.loop-statement.self.signals.items has.built c.statement-item.result.out l (latch_fresh c.args.flat.now.names c.requires.0 c.args.flat.now.statements c.args.self.now.maker.net c.loop-statement.self.maker.net c.loop-statement.self.signals.items c.loop-statement.statement-index c.statement-item.result at has is_latch c.requires.1.distinct) (omega arith)
 
 pub add_latch-requires-clause-new : goal.add_latch-requires-clause-new
-add_latch-requires-clause-new g c =
+add_latch-requires-clause-new c =
     let at = statement_at c.args.flat.now.statements c.as_slice-statement-items.result.now c.loop-statement.statement-index c.statement-item.result c.as_slice-statement-items.ensures c.loop-statement-test.true c.statement-item.is in
     let l = out_within (length c.args.flat.now.names) c.args.flat.now.statements c.loop-statement.statement-index c.statement-item.result c.args.flat.now.within at in
-    let has = c.loop-statement.invariant.0 in
+    let has = c.loop-statement.invariant.0 c.requires.0 c.requires.1 in
     let is_latch = ap (λ (k : FlatKind). latch_out k c.statement-item.result.out) c.in-Latch.is in
     subst (λ word. is_among c.loop-statement.self.maker.net.names word ≡ false) (name_in c.args.flat.now.names c.statement-item.result.out c.name.result.now c.name.ensures)
-    (new_name c.args.flat.now.names (g.made ++ latch_outs (take c.loop-statement.statement-index c.args.flat.now.statements)) c.loop-statement.self.maker.net c.loop-statement.self.signals.items has.built c.statement-item.result.out l (latch_fresh c.args.flat.now.names g.made c.args.flat.now.statements c.args.self.now.maker.net c.loop-statement.self.maker.net c.loop-statement.self.signals.items c.loop-statement.statement-index c.statement-item.result at has is_latch c.requires.1) c.args.flat.now.distinct)
+    (new_name c.args.flat.now.names (c.requires.0 ++ latch_outs (take c.loop-statement.statement-index c.args.flat.now.statements)) c.loop-statement.self.maker.net c.loop-statement.self.signals.items has.built c.statement-item.result.out l (latch_fresh c.args.flat.now.names c.requires.0 c.args.flat.now.statements c.args.self.now.maker.net c.loop-statement.self.maker.net c.loop-statement.self.signals.items c.loop-statement.statement-index c.statement-item.result at has is_latch c.requires.1.distinct) c.args.flat.now.distinct)
 
 pub loop-statement-preserved : goal.loop-statement-preserved
-loop-statement-preserved g c =
+loop-statement-preserved c =
     let at = statement_at c.args.flat.now.statements c.as_slice-statement-items.result.now c.loop-statement.statement-index c.statement-item.result c.as_slice-statement-items.ensures c.loop-statement-test.true c.statement-item.is in
     let l = out_within (length c.args.flat.now.names) c.args.flat.now.statements c.loop-statement.statement-index c.statement-item.result c.args.flat.now.within at in
-    let has = c.loop-statement.invariant.0 in
     let is_latch = ap (λ (k : FlatKind). latch_out k c.statement-item.result.out) c.in-Latch.is in
     let name = name_in c.args.flat.now.names c.statement-item.result.out c.name.result.now c.name.ensures in
     let net = ap (λ (m : MakerView). m.net) c.in_ok-add_latch.ensures.net ∙ ap (λ word. with_latch c.loop-statement.self.maker.net word c.in-Latch.init) (sym name) in (
-      latches_take c.args.flat.now.names g.made c.args.flat.now.statements c.args.self.now.maker.net c.loop-statement.self.maker.net c.loop-statement.self.signals.items c.loop-statement.statement-index c.statement-item.result at has is_latch c.requires.1 l c.add_latch.new.self.maker.net c.add_latch.new.self.signals.items
+      (λ made can. latches_take c.args.flat.now.names made c.args.flat.now.statements c.args.self.now.maker.net c.loop-statement.self.maker.net c.loop-statement.self.signals.items c.loop-statement.statement-index c.statement-item.result at (c.loop-statement.invariant.0 made can) is_latch can.distinct l c.add_latch.new.self.maker.net c.add_latch.new.self.signals.items
           (net ∙ sym (ap (λ (k : FlatKind). with_latch_of c.args.flat.now.names k c.statement-item.result.out c.loop-statement.self.maker.net) c.in-Latch.is))
           (ap (λ (n : NetView). n.names) net) (ap (λ (n : NetView). length n.drivers) net ∙ length-append c.loop-statement.self.maker.net.drivers _)
-          c.in_ok-add_latch.ensures.signals,
+          c.in_ok-add_latch.ensures.signals),
       c.in_ok-add_latch.ensures.covers ∙ c.loop-statement.invariant.1,
     )
