@@ -1,9 +1,10 @@
 -- What stands behind the answer that the limit of conflicts was met.
-use Rattle.std.specs.Prelude.{◌≡◌, ◌≢◌, ℕ, ◌<◌, Bool, true, List, [], ◌∷◌, length, slice_get, Some}
+use Rattle.std.specs.Prelude.{◌≡◌, ◌≢◌, ℕ, ◌*◌, ◌<◌, Bool, true, List, [], ◌∷◌, length, slice_get, Some}
 use Rattle.circuit_theory.specs.Circuit.{Circuit}
 use Rattle.circuit_theory.specs.Tree.{Tree, Unfolds, tree_value}
 use Rattle.circuit_theory.specs.Query.{Variable, AreVariables, ShiftBefore}
 use Rattle.aig.specs.declared.node.Node.{Node}
+use Rattle.aig.specs.Graph.{IsGraph}
 use Rattle.aig.specs.Values.{value}
 use Rattle.cnf_encode.specs.Encoding.{IsEncoding}
 use Rattle.sat_search.specs.Found.{IsFruitless}
@@ -14,7 +15,7 @@ abbrev pub HasValueOf : List Node → List (ℕ × ℕ) → ℕ → ((ℕ → �
 HasValueOf g places lit function =
     (bits : ℕ → ℕ → Bool) (a : ℕ → Bool) → ((v : ℕ) (p : ℕ × ℕ) → slice_get places v ≡ Some p → a v ≡ bits p.0 p.1) → value g a lit ≡ function bits
 
--- The pair's functions have more than 16 variables, and the proof that is kept has the clauses of three literals of a graph that
+-- The pair's functions have more than 16 variables, and the proof that is kept has the clauses of three literals of a graph, which
 -- have the values of the two functions and of the care, which holds always; the sides are different literals, and the care isn't
 -- the literal 0. Its log has exactly as many chains as conflicts are allowed, all of them valid over these clauses; each derives a
 -- clause that tells unit propagation something, and none the empty clause.
@@ -33,6 +34,10 @@ pub record IsUndecided {P Q : Type 0} (a : Circuit P) (b : Circuit Q) (left righ
   pub left_lit : ℕ
   pub right_lit : ℕ
   pub care_lit : ℕ
+  pub is_graph : IsGraph graph
+  pub left_within : left_lit < 2 * length graph
+  pub right_within : right_lit < 2 * length graph
+  pub care_within : care_lit < 2 * length graph
   pub left_value : HasValueOf graph places left_lit (λ bits. tree_value bits left_tree)
   pub right_value : HasValueOf graph places right_lit (λ bits. tree_value bits right_tree)
   pub care_value : HasValueOf graph places care_lit (λ bits. true)

@@ -12,6 +12,7 @@ pub enum PlainError {
 }
 
 impl From<NoMemory> for PlainError {
+    ghost use Rattle.std.specs.Prelude.{◌≡◌};
     ghost use Rattle.plain_form.specs.declared.error.PlainError.TheVariants.{NoMemory};
 
     ghost from_gives = { λ _ e. e ≡ NoMemory };

@@ -2,7 +2,13 @@
 #![tactic(auto)]
 
 mod comparing;
+mod deciding;
 mod error;
+mod merging;
+mod pairing;
+mod unfolding;
+mod verdict;
+mod witness;
 
 pub use comparing::compare_plain;
 pub use error::PlainError;

@@ -1,0 +1,122 @@
+-- Functions of signals while the graph and the table grow, and the weight of their unfoldings.
+use Rattle.std.proofs.Common.{◌≡◌, ◌+◌, ◌<◌, ◌≤◌, ◌∙◌, ℕ, zero, suc, List, [], ◌∷◌, ◌++◌, length, map, take, get_or, Err, sym, ap, subst, arith, inl, inr, refl}
+use Rattle.std.specs.Prelude.{◌↔◌}
+use Rattle.std.specs.List.{All, AllZip, Contains}
+use Rattle.std.proofs.lemmas.List.{map-append}
+use Rattle.std.proofs.lemmas.List.Elements.{All-contains}
+use Rattle.std.proofs.lemmas.Option.{slice_get-get_or}
+use Rattle.circuit_theory.specs.Circuit.{Circuit}
+use Rattle.circuit_theory.specs.Sizes.{IsWeight, IsOver}
+use Rattle.circuit_theory.proofs.Lists.{All-from_each, Contains-cases, Contains-head, Contains-map, Contains-tail, zip_weaker}
+use Rattle.flat_net.specs.declared.signals.Signal.{Signal}
+use Rattle.flat_net.specs.View.{NetView, circuit_of}
+use Rattle.aig.specs.declared.node.Node.{Node}
+use Rattle.aig.specs.Graph.{Grows}
+use Rattle.cbf_unfold.specs.declared.unfolder.Unfolded.{Unfolded}
+use Rattle.cbf_unfold.specs.Reach.{Adds}
+use Rattle.cbf_unfold.specs.View.{UnfolderView}
+use Rattle.cbf_unfold.specs.Unfolded.{IsUnfolded}
+use Rattle.cbf_unfold.specs.Building.{IsLater}
+use Rattle.cbf_unfold.proofs.Known.{unfolded_later}
+use Rattle.circuit_theory.specs.declared.Side.TheVariants.{A, B}
+use Rattle.plain_form.specs.declared.error.PlainError.{PlainError}
+use Rattle.plain_form.specs.declared.error.PlainError.TheVariants as refused
+use Rattle.plain_form.specs.declared.pairing.OutputPair.{OutputPair}
+use Rattle.plain_form.specs.Pairs.{IsFunctionOf, AreLight, AreTooLarge, IsRefusalOf, Unfolds, left_signals, right_signals}
+use Rattle.plain_form.proofs.Assignments.{take_next}
+
+-- functions of the signals stay them while the graph and the table grow
+pub functions_later : {X : Type 0} (signal : X → ℕ) (n : NetView) (order : List ℕ) (g h : List Node) (places more : List (ℕ × ℕ)) → Grows g h → Adds (λ p. Unit {0}) places more → (xs : List X) (us : List Unfolded) →
+    AllZip (λ x u. IsFunctionOf n order g places (signal x) u) xs us → AllZip (λ x u. IsFunctionOf n order h more (signal x) u) xs us
+functions_later {X} signal n order g h places more grows adds xs us zip =
+    zip_weaker (λ (x : X) (u : Unfolded). IsFunctionOf n order g places (signal x) u) (λ x u. IsFunctionOf n order h more (signal x) u)
+    (λ x u f. unfolded_later n order g h places more (signal x) u.lit.0 u.vars grows adds f) xs us zip
+
+-- the function that an unfolder gives is one of its net
+pub function_of : (u v : UnfolderView) (n : NetView) (order : List ℕ) (g h k : List Node) (places more most : List (ℕ × ℕ)) (s : ℕ) (r : Unfolded) → u.net ≡ n → u.order ≡ order → IsLater u v g h places more →
+    IsUnfolded v.net v.order k most s r.lit.0 r.vars → IsFunctionOf n order k most s r
+function_of u v n order g h k places more most s r net numbers later is =
+    subst (λ (m : NetView). IsUnfolded m order k most s r.lit.0 r.vars) (later.net ∙ net)
+    (subst (λ (l : List ℕ). IsUnfolded v.net l k most s r.lit.0 r.vars) (later.order ∙ numbers) is)
+
+abbrev pub numbers_of : List Signal → List ℕ
+numbers_of signals = map (λ (s : Signal). s.0) signals
+
+-- one signal more
+pub done_next : (signals : List Signal) (i : ℕ) (d : Signal) (done more : List ℕ) → i < length signals → done ≡ numbers_of (take i signals) → more ≡ done ++ (get_or signals i d).0 ∷ [] → more ≡ numbers_of (take (i + 1) signals)
+done_next signals i d done more inside before is =
+    is
+    ∙ (ap (λ (l : List ℕ). l ++ (get_or signals i d).0 ∷ []) before
+    ∙ (sym (map-append (λ (s : Signal). s.0) (take i signals) (get_or signals i d ∷ []))
+    ∙ ap numbers_of (sym (take_next signals i (get_or signals i d) (slice_get-get_or signals i d inside)))))
+
+-- more outputs weigh no less
+pub over_weaker : (c : Circuit ℕ) (xs ys : List ℕ) (cap : ℕ) → ((x : ℕ) → Contains xs x → Contains ys x) → IsOver c xs cap → IsOver c ys cap
+over_weaker c xs ys cap sub over = record {
+  places = over.places;
+  distinct = over.distinct;
+  weighed = over.weighed;
+  met = λ x h. let m = over.met x h in (m.0, sub m.0 m.1, m.2);
+  total = over.total;
+}
+
+-- what was done and the next signal are signals
+pub done_among : (signals : List Signal) (i : ℕ) (d : Signal) (done : List ℕ) → i < length signals → done ≡ numbers_of (take i signals) → (x : ℕ) → Contains (done ++ (get_or signals i d).0 ∷ []) x → Contains (numbers_of signals) x
+done_among signals i d done inside before x h =
+    Contains-part signals (i + 1) x (subst (λ (l : List ℕ). Contains l x) (done_next signals i d done _ inside before refl) h)
+  where
+    Contains-part : (ss : List Signal) (n : ℕ) (y : ℕ) → Contains (numbers_of (take n ss)) y → Contains (numbers_of ss) y
+    Contains-part [] zero y k = k
+    Contains-part [] (suc n) y k = k
+    Contains-part (t ∷ ss) zero y k = absurd (omega (arith, k.1))
+    Contains-part (t ∷ ss) (suc n) y k =
+        elim (Contains-cases t.0 y (numbers_of (take n ss)) k) [ inl e ↦ subst (Contains (t.0 ∷ numbers_of ss)) e (Contains-head t.0 (numbers_of ss)) | inr m ↦ Contains-tail t.0 y (numbers_of ss) (Contains-part ss n y m) ]
+
+-- the same outputs have the same weight
+pub weight_same : (c : Circuit ℕ) (xs ys : List ℕ) (w : ℕ) → ((x : ℕ) → Contains xs x → Contains ys x) → ((x : ℕ) → Contains ys x → Contains xs x) → IsWeight c xs w → IsWeight c ys w
+weight_same c xs ys w forth back weight = record {
+  places = weight.places;
+  distinct = weight.distinct;
+  weighed = weight.weighed;
+  met = λ q j. (
+    λ h. let m = (weight.met q j).0 h in (m.0, forth m.0 m.1, m.2),
+    λ h. (weight.met q j).1 (h.0, back h.0 h.1, h.2),
+  );
+  total = weight.total;
+}
+
+-- what is over with one signal more is over with all
+pub over_all : (signals : List Signal) (i : ℕ) (d : Signal) (u : UnfolderView) (n : NetView) → i < length signals → u.done ≡ numbers_of (take i signals) → u.net ≡ n → IsOver (circuit_of u.net) (u.done ++ (get_or signals i d).0 ∷ []) 2000000 →
+    IsOver (circuit_of n) (numbers_of signals) 2000000
+over_all signals i d u n inside before net over =
+    subst (λ (m : NetView). IsOver (circuit_of m) (numbers_of signals) 2000000) net
+    (over_weaker (circuit_of u.net) (u.done ++ (get_or signals i d).0 ∷ []) (numbers_of signals) 2000000 (done_among signals i d u.done inside before) over)
+
+pub within_from : (signals : List Signal) (numbers : List ℕ) (size : ℕ) → numbers_of signals ≡ numbers → All (λ s. s < size) numbers → All (λ (s : Signal). s.0 < size) signals
+within_from signals numbers size same all =
+    All-from_each (λ (s : Signal). s.0 < size) signals (λ s h. All-contains (λ n. n < size) numbers s.0 all (subst (λ (l : List ℕ). Contains l s.0) same (Contains-map (λ (t : Signal). t.0) signals s h)))
+
+-- a relation on a list that a function gives
+pub zip_from_map : {X Y Z : Type 0} (f : X → Y) (R : Y → Z → Type 0) (xs : List X) (zs : List Z) → AllZip R (map f xs) zs → AllZip (λ x z. R (f x) z) xs zs
+zip_from_map f R [] [] h = tt
+zip_from_map f R [] (z ∷ zs) h = absurd h
+zip_from_map f R (x ∷ xs) [] h = absurd h
+zip_from_map f R (x ∷ xs) (z ∷ zs) h = (h.0, zip_from_map f R xs zs h.1)
+
+module _ (a b : NetView) (left right : List ℕ) (pairs : List OutputPair) where
+  no_B_A : B ≡ A → ⊥
+  no_B_A e = cc
+
+  no_A_B : A ≡ B → ⊥
+  no_A_B e = cc
+
+  -- a refusal of A, or of B once A is unfolded
+  pub refused_left : (signals : List ℕ) (e : PlainError) → signals ≡ left_signals pairs → IsRefusalOf A a signals e → Unfolds a b left right pairs (Err e)
+  refused_left signals (refused.TooLarge A) same h = subst (AreTooLarge a) same h.1
+  refused_left signals (refused.TooLarge B) same h = absurd (no_B_A h.0)
+  refused_left signals refused.NoMemory same h = tt
+
+  pub refused_right : (signals : List ℕ) (e : PlainError) → signals ≡ right_signals pairs → AreLight a (left_signals pairs) → IsRefusalOf B b signals e → Unfolds a b left right pairs (Err e)
+  refused_right signals (refused.TooLarge A) same light h = absurd (no_A_B h.0)
+  refused_right signals (refused.TooLarge B) same light h = (light, subst (AreTooLarge b) same h.1)
+  refused_right signals refused.NoMemory same light h = tt

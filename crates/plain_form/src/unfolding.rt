@@ -1,0 +1,132 @@
+//! The functions of all pairs.
+
+ghost use Rattle.std.specs.Prelude.{◌≡◌, ℕ, ◌+◌, ◌^◌, ◌<◌, ◌≤◌, List, map, length, All, IfOk, IfErr, OnOk};
+ghost use Rattle.std.specs.List.{AllZip};
+ghost use Rattle.aig.specs.Graph.{Grows};
+ghost use Rattle.cbf_unfold.specs.Reach.{Adds};
+ghost use Rattle.cbf_unfold.specs.View.{IsOrderOf};
+ghost use Rattle.cbf_unfold.specs.declared.error.UnfoldError.TheVariants as unfold_error;
+ghost use Rattle.plain_form.specs.Pairs.{IsFunctionOf, AreLight, AreTooLarge, IsRefusalOf, Unfolds, left_signals, right_signals};
+
+use crate::error::PlainError;
+use crate::pairing::OutputPair;
+use aig::Aig;
+use cbf_unfold::{UnfoldError, Unfolded, Unfolder};
+use flat_net::{Net, Signal};
+use latch_graph::LatchGraph;
+use sec_base::{Ids, NoMemory, Orders, PlaceTable, Side};
+use std::alloc::Global;
+
+/// The functions of each pair's two outputs, on one graph and one table of inputs at shifts.
+#[derive(Drop)]
+pub(crate) struct Functions {
+    pub aig: Aig,
+    pub places: PlaceTable,
+    pub left: Vec<Unfolded>,
+    pub right: Vec<Unfolded>,
+}
+
+/// Unfolds all of A, then all of B.
+pub(crate) fn unfold_pairs(
+    alloc: Global,
+    a: &Net,
+    b: &Net,
+    left: &LatchGraph,
+    right: &LatchGraph,
+    orders: &Orders,
+    pairs: &[OutputPair],
+) -> Result<Functions, PlainError>
+    requires left_order { IsOrderOf a.now orders.now.left }
+    requires right_order { IsOrderOf b.now orders.now.right }
+    requires left { All (λ s. s < length a.now.drivers) (left_signals pairs.now) }
+    requires right { All (λ s. s < length b.now.drivers) (right_signals pairs.now) }
+    ensures { Unfolds a.now b.now orders.now.left orders.now.right pairs.now result }
+{
+    let mut aig = Aig::new(alloc)?;
+    let mut places = PlaceTable::new(alloc);
+    let signals = left_signals(alloc, pairs)?;
+    let left = unfold_side(alloc, Side::A, a, left, &orders.left, &mut aig, &mut places, signals.as_slice())?;
+    let signals = right_signals(alloc, pairs)?;
+    let right = unfold_side(alloc, Side::B, b, right, &orders.right, &mut aig, &mut places, signals.as_slice())?;
+    Ok(Functions {
+        aig,
+        places,
+        left,
+        right,
+    })
+}
+
+fn left_signals(alloc: Global, pairs: &[OutputPair]) -> Result<Vec<Signal>, NoMemory>
+    ensures { IfOk result (λ signals. signals.items ≡ map (λ p. p.left) pairs.now) }
+{
+    let signals = pairs.iter().map(|pair| pair.left).collect(alloc)?;
+    Ok(signals)
+}
+
+fn right_signals(alloc: Global, pairs: &[OutputPair]) -> Result<Vec<Signal>, NoMemory>
+    ensures { IfOk result (λ signals. signals.items ≡ map (λ p. p.right) pairs.now) }
+{
+    let signals = pairs.iter().map(|pair| pair.right).collect(alloc)?;
+    Ok(signals)
+}
+
+/// Unfolds the signals of one circuit.
+fn unfold_side(
+    alloc: Global,
+    side: Side,
+    net: &Net,
+    graph: &LatchGraph,
+    order: &Ids,
+    aig: &mut Aig,
+    places: &mut PlaceTable,
+    signals: &[Signal],
+) -> Result<Vec<Unfolded>, PlainError>
+    requires order { IsOrderOf net.now order.now }
+    requires signals { All (λ s. s.0 < length net.now.drivers) signals.now }
+    requires nodes { length aig.old ≤ 2 ^ 28 }
+    requires entries { length places.old ≤ 2 ^ 28 }
+    ensures unfolded { IfOk result (λ us. AllZip (λ s u. IsFunctionOf net.now order.now aig.new places.new s.0 u) signals.now us.items) }
+    ensures light { OnOk result (AreLight net.now (map (λ s. s.0) signals.now)) }
+    ensures refused { IfErr result (IsRefusalOf side net.now (map (λ s. s.0) signals.now)) }
+    ensures grows { Grows aig.old aig.new }
+    ensures adds { Adds (λ p. Unit {0}) places.old places.new }
+    ensures nodes { length aig.new ≤ length aig.old + 2000000 }
+    ensures entries { length places.new ≤ length places.old + 2000000 }
+{
+    match unfold_signals(alloc, net, graph, order, aig, places, signals) {
+        Ok(unfolded) => Ok(unfolded),
+        Err(UnfoldError::TooLarge) => Err(PlainError::TooLarge(side)),
+        Err(UnfoldError::NoMemory) => Err(PlainError::NoMemory),
+    }
+}
+
+/// Unfolds the signals of one net in their order, by one unfolder.
+fn unfold_signals(
+    alloc: Global,
+    net: &Net,
+    graph: &LatchGraph,
+    order: &Ids,
+    aig: &mut Aig,
+    places: &mut PlaceTable,
+    signals: &[Signal],
+) -> Result<Vec<Unfolded>, UnfoldError>
+    requires order { IsOrderOf net.now order.now }
+    requires signals { All (λ s. s.0 < length net.now.drivers) signals.now }
+    requires nodes { length aig.old ≤ 2 ^ 28 }
+    requires entries { length places.old ≤ 2 ^ 28 }
+    ensures unfolded { IfOk result (λ us. AllZip (λ s u. IsFunctionOf net.now order.now aig.new places.new s.0 u) signals.now us.items) }
+    ensures light { OnOk result (AreLight net.now (map (λ s. s.0) signals.now)) }
+    ensures over { result ≡ Err unfold_error.TooLarge → AreTooLarge net.now (map (λ s. s.0) signals.now) }
+    ensures grows { Grows aig.old aig.new }
+    ensures adds { Adds (λ p. Unit {0}) places.old places.new }
+    ensures nodes { length aig.new ≤ length aig.old + 2000000 }
+    ensures entries { length places.new ≤ length places.old + 2000000 }
+{
+    let mut unfolder = Unfolder::new(alloc, net, graph, order)?;
+    let mut unfolded = Vec::new(alloc);
+    for s in signals {
+        let one = unfolder.unfold(alloc, aig, places, *s)?;
+        unfolded.push(one)?;
+    }
+    Ok(unfolded)
+}
