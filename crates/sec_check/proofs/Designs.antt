@@ -10,8 +10,8 @@ use Rattle.circuit_theory.specs.Run.{IsRun, Marked, NoneEnabled}
 use Rattle.circuit_theory.specs.Agree.{Agree, AreAlike, IsPair}
 use Rattle.circuit_theory.specs.Flattened.{IsFlattened, Follows}
 use Rattle.circuit_theory.proofs.Lists.{Contains-map, at_of, of_at}
-use Rattle.sec_check.specs.declared.outcome.Stimulus.{Stimulus}
-use Rattle.sec_check.specs.declared.outcome.Witness.{Witness}
+use Rattle.witness_report.specs.declared.stimulus.Stimulus.{Stimulus}
+use Rattle.witness_report.specs.declared.witness.Witness.{Witness}
 use Rattle.sec_check.specs.Shown.{Obeys, MakesDiffer}
 
 mapped_from : {X Y : Type 0} (f : X → Y) (y : Y) (o : Option X) → option_map f o ≡ Some y → (x : X) × (o ≡ Some x) × (f x ≡ y)

@@ -16,14 +16,13 @@ use Rattle.flat_net.specs.declared.parts.Port.{Port}
 use Rattle.flat_net.specs.declared.parts.Gate.{Gate}
 use Rattle.flat_net.specs.declared.parts.LatchAt.{LatchAt}
 use Rattle.flat_net.specs.declared.signals.Signal.{Signal}
-use Rattle.flat_net.specs.View.{NetView, is_read}
+use Rattle.flat_net.specs.View.{NetView, is_read, ports_of}
 use Rattle.flat_net.specs.declared.parts.Driver.TheVariants as driver
 use Rattle.flat_net.specs.Sound.{IsSound}
 use Rattle.std.proofs.lemmas.Option.{slice_get_within, get_or_from_slice_get, slice_get_read}
 use Rattle.circuit_theory.proofs.Lists.{at_of, of_at, Contains-map, Contains-map_from, Contains-filter}
 use Rattle.sec_check.proofs.Designs.{from_map, at_map}
 use Rattle.sec_check.proofs.Shared.{some_is, Contains-filter_in, filter-passed}
-use Rattle.sec_check.specs.Compared.{signals_read, ports_of}
 use Rattle.sec_check.specs.Numbered.{stays}
 use Rattle.flat_net.proofs.PlaceLists.{filter-take}
 
@@ -54,25 +53,12 @@ pub among_entries : (names : List (List ℕ)) (name : List ℕ) → is_among nam
 among_entries [] name = refl
 among_entries (n ∷ names) name = λ i. same_test name n i || among_entries names name i
 
--- the signal is read where it is one of the signals that are read
-pub read_same : (n : NetView) (s : Signal) → is_read n s ≡ list_any (λ x. x == s.0) (signals_read n)
-read_same n s =
-    (λ i. (gates n.gates i || list_any-map (λ x. x == s.0) (λ (l : LatchAt). l.next.0) n.latches i) || list_any-map (λ x. x == s.0) (λ (o : Port). o.signal.0) n.outputs i)
-    ∙ sym (list_any-append (λ x. x == s.0) (flat_map (λ g. map (λ f. f.0) g.fanins) n.gates ++ map (λ l. l.next.0) n.latches) (map (λ o. o.signal.0) n.outputs)
-    ∙ ap (λ b. b || list_any (λ x. x == s.0) (map (λ (o : Port). o.signal.0) n.outputs)) (list_any-append (λ x. x == s.0) (flat_map (λ (g : Gate). map (λ (f : Signal). f.0) g.fanins) n.gates) (map (λ (l : LatchAt). l.next.0) n.latches)))
-  where
-    gates : (gs : List Gate) → list_any (λ g. list_any (λ f. f.0 == s.0) g.fanins) gs ≡ list_any (λ x. x == s.0) (flat_map (λ g. map (λ f. f.0) g.fanins) gs)
-    gates [] = refl
-    gates (g ∷ gs) =
-        (λ i. list_any-map (λ x. x == s.0) (λ (f : Signal). f.0) g.fanins i || gates gs i)
-        ∙ sym (list_any-append (λ x. x == s.0) (map (λ (f : Signal). f.0) g.fanins) (flat_map (λ (h : Gate). map (λ (f : Signal). f.0) h.fanins) gs))
-
 -- whether an input is read, by its name
 pub input_read_by_name : (n : NetView) → IsSound n → (k : ℕ) (p : Port) → slice_get n.inputs k ≡ Some p → is_among (ports_of n).read p.name ≡ is_read n p.signal
 input_read_by_name n sound k p at = go (is_read n p.signal) refl (is_among (ports_of n).read p.name) refl
   where
     test : Port → Bool
-    test q = list_any (λ x. x == q.signal.0) (signals_read n)
+    test q = is_read n q.signal
 
     no : true ≡ false → ⊥
     no e = cc
@@ -87,12 +73,12 @@ input_read_by_name n sound k p at = go (is_read n p.signal) refl (is_among (port
     go true e true f = f ∙ sym e
     go false e false f = f ∙ sym e
     go true e false f = absurd (no (sym (is_among-complete (ports_of n).read p.name
-        (Contains-map (λ (q : Port). q.name) (filter test n.inputs) p (Contains-filter_in test n.inputs p (of_at n.inputs k p at) (sym (read_same n p.signal) ∙ e)))) ∙ f))
+        (Contains-map (λ (q : Port). q.name) (filter test n.inputs) p (Contains-filter_in test n.inputs p (of_at n.inputs k p at) e))) ∙ f))
     go false e true f =
         let found = Contains-map_from (λ (q : Port). q.name) (filter test n.inputs) p.name (is_among-sound (ports_of n).read p.name f) in
         let input = Contains-filter test n.inputs found.0 found.1 in
         let signal = same_input found.0 input found.2 in
-        absurd (no (sym (ap (λ (s : ℕ). list_any (λ x. x == s) (signals_read n)) (sym signal) ∙ filter-passed test n.inputs found.0 found.1) ∙ (sym (read_same n p.signal) ∙ e)))
+        absurd (no (sym (ap (λ (s : ℕ). is_read n (record { 0 = s })) (sym signal) ∙ filter-passed test n.inputs found.0 found.1) ∙ e))
 
 -- an input's name stands once
 pub name_once : (n : NetView) → IsSound n → (j k : ℕ) (p q : Port) → slice_get n.inputs j ≡ Some p → slice_get n.inputs k ≡ Some q → p.name ≡ q.name → j ≡ k

@@ -3,9 +3,9 @@ use Rattle.std.proofs.Common.{◌≡◌, ◌≢◌, ℕ, zero, suc, ◌+◌, ◌
 use Rattle.std.specs.List.{Contains, AllPairs, filter}
 use Rattle.circuit_theory.proofs.LawProofs.{length-map}
 use Rattle.flat_net.specs.declared.parts.Port.{Port}
-use Rattle.flat_net.specs.View.{NetView}
+use Rattle.flat_net.specs.View.{NetView, ports_of}
 use Rattle.flat_net.specs.Sound.{IsSound}
-use Rattle.sec_check.specs.Compared.{ports_of, InterfaceFails, RefusesName}
+use Rattle.sec_check.specs.Compared.{InterfaceFails, RefusesName}
 use Rattle.sec_check.specs.declared.comparing.CompareError.{CompareError}
 use Rattle.sec_check.specs.declared.comparing.CompareError.TheVariants as refused
 use Rattle.sec_check.proofs.Designs.{from_map}
@@ -208,6 +208,6 @@ mismatch_is a b left right left_outputs right_outputs m l r lo ro is =
 -- a refused name is the mismatch
 pub refused_name : (a b : NetView) (name : List ℕ) (e : CompareError) → first_mismatch (ports_of a) (ports_of b) ≡ Some name → RefusesName name e → InterfaceFails a b e
 refused_name a b name (refused.Interface word) m h = m ∙ ap Some (sym h)
-refused_name a b name (refused.NotYet side) m h = h
-refused_name a b name (refused.Wide inputs) m h = h
+refused_name a b name (refused.Cyclic side names) m h = h
+refused_name a b name (refused.TooLarge side) m h = h
 refused_name a b name refused.NoMemory m h = tt

@@ -1,5 +1,5 @@
 -- The output of a name, by the place of its name.
-use Rattle.std.proofs.Common.{◌≡◌, ℕ, zero, suc, ◌+◌, ◌<◌, ◌≤◌, Bool, true, false, cond, List, [], ◌∷◌, ◌++◌, map, length, take, refl, sym, ◌∙◌, ap, subst, arith, add-one, Some, slice_get}
+use Rattle.std.proofs.Common.{◌≡◌, ℕ, zero, suc, ◌+◌, ◌<◌, ◌≤◌, Bool, true, false, cond, List, [], ◌∷◌, ◌++◌, map, length, get_or, take, refl, sym, ◌∙◌, ap, subst, arith, add-one, Some, slice_get}
 use Rattle.std.specs.List.{Contains}
 use Rattle.std.proofs.lemmas.List.{map-append, take-map}
 use Rattle.std.proofs.lemmas.Option.{slice_get_within, slice_get-get_or, get_or_from_slice_get}
@@ -60,6 +60,10 @@ names_short [] (suc i) = omega arith
 names_short (p ∷ ports) zero = omega arith
 names_short (p ∷ ports) (suc i) = let ih = names_short ports i in omega arith
 
+-- the element that a loop is at
+pub item_at : {X : Type 0} (xs ys : List X) (i : ℕ) (x : X) → ys ≡ xs → i < length ys → x ≡ get_or ys i x → slice_get xs i ≡ Some x
+item_at xs ys i x same h is = ap (λ zs. slice_get zs i) (sym same) ∙ (slice_get-get_or ys i x h ∙ ap Some (sym is))
+
 -- the front with one element more
 pub take_next : {X : Type 0} (xs : List X) (i : ℕ) (x : X) → slice_get xs i ≡ Some x → take (i + 1) xs ≡ take i xs ++ x ∷ []
 take_next {X} xs i x at =
@@ -74,9 +78,3 @@ names_next ports i port name table more distinct at same held added =
     added (λ h. name_is_new (names_of ports) i name distinct own (subst (λ (names : List (List ℕ)). Contains names name) front h))
     ∙ (ap (λ (names : List (List ℕ)). names ++ name ∷ []) held ∙ (ap (λ (n : List ℕ). names_of (take i ports) ++ n ∷ []) same
     ∙ (sym (map-append (λ (p : Port). p.name) (take i ports) (port ∷ [])) ∙ ap names_of (sym (take_next ports i port at)))))
-
--- where a name stands, a port stands
-pub port_within : (ports : List Port) (i : ℕ) (name : List ℕ) → slice_get (names_of ports) i ≡ Some name → i < length ports
-port_within [] i name h = slice_get_within [] i name h
-port_within (p ∷ ports) zero name h = omega arith
-port_within (p ∷ ports) (suc i) name h = let ih = port_within ports i name h in omega arith

@@ -1,10 +1,4 @@
 pub mod Compared
-pub mod FlatModel
-pub mod FlatNet
 pub mod Loading
 pub mod Numbered
-pub mod Outcome
-pub mod Renaming
-pub mod Report
 pub mod Shown
-pub mod Sweep

@@ -1,24 +1,21 @@
 -- What a text loads as, and why it is refused.
-use Rattle.std.specs.Prelude.{◌≡◌, ℕ, ◌+◌, ◌^◌, ◌<◌, ◌≤◌, Bool, false, List, map, length, Option, Some, None, Result, Ok, Err, IfSome}
+use Rattle.std.specs.Prelude.{◌≡◌, ℕ, ◌+◌, ◌^◌, ◌<◌, ◌≤◌, List, map, length, Option, Some, None, Result, Ok, Err, IfSome}
 use Rattle.circuit_theory.specs.Circuit.{Circuit}
-use Rattle.circuit_theory.specs.Flattened.{IsFlattened, Follows}
+use Rattle.circuit_theory.specs.Flattened.{IsFlattened}
 use Rattle.circuit_theory.specs.Places.{IsPlace}
 use Rattle.blif_read.specs.declared.error.ReadKind.{ReadKind}
-use Rattle.blif_read.specs.Design.{Place, top, circuit_of_design, IsClock}
+use Rattle.blif_read.specs.Design.{Place, circuit_of_design, IsClock}
 use Rattle.blif_read.specs.Reading.{first_fault, spelled}
 use Rattle.sec_base.specs.Table.{AreDistinct}
 use Rattle.flat_net.specs.declared.parts.Port.{Port}
 use Rattle.flat_net.specs.View.{NetView, circuit_of}
+use Rattle.flat_walk.specs.declared.error.FlatError.{FlatError}
+use Rattle.flat_walk.specs.declared.error.FlatError.TheVariants as flat_error
+use Rattle.flatten.specs.DesignFaults.{DesignFault, IsClocked}
 use Rattle.sec_base.specs.declared.fetching.FetchError.TheVariants as fetch_error
 use Rattle.blif_read.specs.declared.error.ReadError.TheVariants as read_error
-use Rattle.sec_check.specs.declared.loading.FlatError.TheVariants as flat_error
 use Rattle.sec_check.specs.declared.loading.LoadError.{LoadError}
 use Rattle.sec_check.specs.declared.loading.LoadError.TheVariants as load_error
-use Rattle.sec_check.specs.FlatModel.{is_flat}
-
--- the place's value is the clock's
-abbrev pub IsClocked : Circuit Place → Option (List ℕ) → Place → Type 0
-IsClocked d clock p = (c : List ℕ) × (clock ≡ Some c) × Follows d p (top c)
 
 -- the text spells this circuit: it has no faulty line, and its clock net is this one
 pub record SpellsCircuit (text : List ℕ) (clock : Option (List ℕ)) (d : Circuit Place) : Type 0 where
@@ -47,9 +44,14 @@ IsTooLong text = 16777216 < length text
 abbrev pub HasFault : List ℕ → ℕ → ReadKind → Type 0
 HasFault text line kind = (length text ≤ 16777216) × (first_fault text ≡ Some (record { line = line; kind = kind }))
 
--- the text, of at most 16,777,216 bytes, spells a design that isn't flattened yet
-abbrev pub IsUnflat : List ℕ → Type 0
-IsUnflat text = (length text ≤ 16777216) × (first_fault text ≡ None) × (is_flat (spelled text) ≡ false)
+-- the text, of at most 16,777,216 bytes, spells a design whose first fault is this one
+abbrev pub HasDesignFault : List ℕ → FlatError → Type 0
+HasDesignFault text e = (length text ≤ 16777216) × (first_fault text ≡ None) × DesignFault (spelled text) e
+
+-- the same of what is held, where that is told; nothing is said of want of memory
+abbrev pub FlattenFails : Option (List ℕ) → FlatError → Type 0
+FlattenFails held flat_error.NoMemory = Unit {0}
+FlattenFails held e = IfSome held (λ text. HasDesignFault text e)
 
 -- what is true where the text of a path isn't loaded: `held` is what is held there, `rose` that its count of faults rose
 abbrev pub LoadFails : Option (List ℕ) → Type 0 → LoadError → Type 0
@@ -58,5 +60,4 @@ LoadFails held rose (load_error.Fetch fetch_error.TooLong) = IfSome held IsTooLo
 LoadFails held rose (load_error.Fetch fetch_error.NoMemory) = Unit {0}
 LoadFails held rose (load_error.Read (read_error.At line kind)) = IfSome held (λ text. HasFault text line kind)
 LoadFails held rose (load_error.Read read_error.NoMemory) = Unit {0}
-LoadFails held rose (load_error.Flat flat_error.NotYet) = IfSome held IsUnflat
-LoadFails held rose (load_error.Flat flat_error.NoMemory) = Unit {0}
+LoadFails held rose (load_error.Flat e) = FlattenFails held e

@@ -3,9 +3,9 @@ use Rattle.std.specs.Prelude.{◌≡◌, ◌≢◌, ℕ, ◌<◌, Bool, List, So
 use Rattle.std.specs.List.{Contains}
 use Rattle.circuit_theory.specs.Circuit.{Circuit, Named}
 use Rattle.circuit_theory.specs.Run.{IsRun}
-use Rattle.sec_check.specs.declared.outcome.PairName.TheVariants as pair
-use Rattle.sec_check.specs.declared.outcome.Stimulus.{Stimulus}
-use Rattle.sec_check.specs.declared.outcome.Witness.{Witness}
+use Rattle.witness_report.specs.declared.witness.PairName.TheVariants as pair
+use Rattle.witness_report.specs.declared.stimulus.Stimulus.{Stimulus}
+use Rattle.witness_report.specs.declared.witness.Witness.{Witness}
 
 -- in each cycle of the sequence, each of the circuit's inputs that the sequence names has the printed bit
 abbrev pub Obeys : {P : Type 0} → Circuit P → Stimulus → ℕ → (ℕ → P → Bool) → Type 0

@@ -1,23 +1,20 @@
-//! Loading circuits, comparing them, and the report of a comparison.
+//! Loading circuits, and comparing them.
 #![tactic(auto)]
 
 mod comparing;
-mod evaluating;
-mod flattening;
+mod cycles;
 mod loading;
 mod numbers;
-mod outcome;
 mod pairing;
-mod sweeping;
 #[cfg(test)]
 mod tests;
-mod writing;
 
 pub use circuit_theory::Mode;
 pub use comparing::{CompareError, compare};
-pub use loading::{FlatError, LoadError, load};
+pub use flatten::FlatError;
+pub use loading::{LoadError, load};
 pub use numbers::interface;
-pub use outcome::{
-    Outcome, PairName, PairResult, PairResults, Settings, Stimulus, Verdict, Witness,
+pub use sec_outcome::{
+    LimitAt, Outcome, PairName, PairResult, PairResults, Proof, Settings, Stimulus, Verdict,
+    Witness, report,
 };
-pub use writing::report;

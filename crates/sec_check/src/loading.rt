@@ -4,23 +4,14 @@ ghost use Rattle.std.specs.Prelude.{◌≡◌, ℕ, List, IfOk, IfErr, IfSome, I
 ghost use Rattle.sec_base.specs.Outside.{Rose, SameHeld, NoneFell};
 ghost use Rattle.sec_check.specs.Loading.{Loads, LoadFails, IsComparable};
 
-use crate::flattening::flatten_main;
 use blif_read::{ReadError, read_design};
 use flat_net::Net;
+use flatten::{FlatError, flatten};
 use sec_base::{FetchError, Shelf, fetch};
 use std::alloc::Global;
 
 /// The most bytes that a file may have.
 const LONGEST: u32 = 16_777_216;
-
-/// Why a design isn't flattened.
-#[derive(Clone, Copy, Debug, PartialEq, Eq)]
-pub enum FlatError {
-    /// The main model has a latch or an instance, isn't sound, or has a gate before one that it reads.
-    NotYet,
-    /// Memory was wanted and couldn't be had.
-    NoMemory,
-}
 
 /// Why a file isn't loaded.
 #[derive(Debug, Drop)]
@@ -58,7 +49,7 @@ fn read_and_flatten(alloc: Global, text: &[u8]) -> Result<Net, LoadError>
         Ok(design) => design,
         Err(error) => return Err(LoadError::Read(error)),
     };
-    match flatten_main(alloc, &design) {
+    match flatten(alloc, &design) {
         Ok(net) => Ok(net),
         Err(error) => Err(LoadError::Flat(error)),
     }

@@ -2,7 +2,8 @@
 
 ghost use Rattle.std.specs.Prelude.{◌≡◌, ◌+◌, ◌^◌, ◌<◌, ◌≤◌, not, None, Some, List, ℕ, length, map, IfOk, IfErr, IfSome, slice_get, option_map, Option};
 ghost use Rattle.circuit_theory.specs.Interface.{first_missing, first_mismatch, inputs_beside, shared_inputs, AreOrders, ◌or_else◌};
-ghost use Rattle.sec_check.specs.Compared.{ports_of, InterfaceFails, RefusesName};
+ghost use Rattle.flat_net.specs.View.{ports_of};
+ghost use Rattle.sec_check.specs.Compared.{InterfaceFails, RefusesName};
 ghost use Rattle.sec_check.specs.Loading.{IsComparable};
 ghost use Rattle.sec_check.specs.Numbered.{AreNumbers, stays};
 

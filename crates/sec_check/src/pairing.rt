@@ -1,14 +1,11 @@
-//! The pairs of a comparison, and the inputs that both circuits have.
+//! The names of outputs, and of the inputs that both circuits have.
 
 ghost use Rattle.std.specs.Prelude.{◌≡◌, ◌==◌, ◌||◌, not, ◌^◌, ◌≤◌, map, None, length, IfOk};
-ghost use Rattle.std.specs.List.{AllZip, list_any};
+ghost use Rattle.std.specs.List.{list_any};
 ghost use Rattle.circuit_theory.specs.Interface.{first_mismatch, shared_inputs, is_clock, AreOrders};
 ghost use Rattle.sec_base.specs.Table.{AreDistinct};
-ghost use Rattle.sec_check.specs.Compared.{ports_of};
-ghost use Rattle.sec_check.specs.Loading.{IsComparable};
-ghost use Rattle.sec_check.specs.Sweep.{IsUntried};
+ghost use Rattle.flat_net.specs.View.{ports_of};
 
-use crate::sweeping::PairState;
 use flat_net::{Net, Port};
 use sec_base::{NameTable, NoMemory, Orders, Words};
 use std::alloc::Global;
@@ -55,27 +52,6 @@ fn has_number(numbers: &[u32], number: u32) -> bool
     ensures { result ≡ list_any (λ n. n == number) numbers.now }
 {
     numbers.iter().any(|n| *n == number)
-}
-
-/// Each output of A beside B's output of its name.
-pub fn pair_outputs(alloc: Global, a: &Net, b: &Net) -> Result<Vec<PairState>, NoMemory>
-    requires matches { first_mismatch (ports_of a.now) (ports_of b.now) ≡ None }
-    requires right { IsComparable b.now }
-    ensures { IfOk result (λ states. AllZip (IsUntried b.now) a.now.outputs states.items) }
-{
-    let places = output_names(alloc, b.outputs())?;
-    let mut states = Vec::new(alloc);
-    for output in a.outputs() {
-        let Some(place) = places.find(output.name.as_slice()) else {
-            unreachable!()
-        };
-        states.push(PairState {
-            left: output.signal,
-            right: b.outputs()[place as usize].signal,
-            found: None,
-        })?;
-    }
-    Ok(states)
 }
 
 /// The table of the names, each at its place.

@@ -1,2 +1,4 @@
+pub mod Complete
+pub mod Conflicts
 pub mod Finds
 pub mod Means

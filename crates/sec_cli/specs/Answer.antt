@@ -1,89 +1,121 @@
 -- What is true where a run ends as it does.
-use Rattle.std.specs.Prelude.{◌≡◌, ◌≢◌, ◌⊎◌, ◌≤◌, ℕ, false, List, length, Option, Some, None, Ok, Err, IfSome, IsSomeAnd}
+use Rattle.std.specs.Prelude.{◌≡◌, ◌⊎◌, ◌≤◌, ℕ, List, [], length, Option, Some, None, Ok, Err, IfSome, IsSomeAnd, Contains}
+use Rattle.std.specs.List.{filter_map}
 use Rattle.circuit_theory.specs.declared.Mode.TheVariants.{Plain}
 use Rattle.circuit_theory.specs.declared.Side.{Side}
 use Rattle.circuit_theory.specs.declared.Side.TheVariants.{A, B}
 use Rattle.circuit_theory.specs.Circuit.{Circuit}
 use Rattle.circuit_theory.specs.Agree.{Agree}
+use Rattle.circuit_theory.specs.Interface.{AreOrders}
 use Rattle.sec_base.specs.Outside.{Rose, Takes, TakesFront}
-use Rattle.blif_read.specs.declared.error.ReadKind.{ReadKind}
 use Rattle.blif_read.specs.Design.{Place}
 use Rattle.blif_read.specs.Reading.{first_fault, spelled}
-use Rattle.flat_net.specs.View.{NetView}
-use Rattle.sec_check.specs.declared.outcome.Verdict.{Verdict}
-use Rattle.sec_check.specs.declared.outcome.Verdict.TheVariants as verdict
-use Rattle.sec_check.specs.declared.outcome.Outcome.{Outcome}
-use Rattle.sec_check.specs.declared.outcome.Witness.{Witness}
+use Rattle.flat_net.specs.View.{NetView, circuit_of, ports_of}
+use Rattle.flatten.specs.DesignFaults.{IsSoundDesign}
+use Rattle.pair_decide.specs.declared.query.Proof.{Proof}
+use Rattle.witness_report.specs.declared.witness.Witness.{Witness}
+use Rattle.witness_report.specs.declared.witness.PairName.TheVariants as pair
+use Rattle.sec_words.specs.declared.task.Task.{Task}
+use Rattle.sec_outcome.specs.declared.outcome.PairResult.{PairResult}
+use Rattle.sec_outcome.specs.declared.outcome.LimitAt.TheVariants as limit_at
+use Rattle.sec_outcome.specs.declared.outcome.Verdict.{Verdict}
+use Rattle.sec_outcome.specs.declared.outcome.Verdict.TheVariants as verdict
+use Rattle.sec_outcome.specs.declared.outcome.Outcome.{Outcome}
+use Rattle.sec_outcome.specs.Report.{report_text}
+use Rattle.plain_form.specs.Formed.{IsAcyclic, IsTooLarge}
+use Rattle.plain_form.specs.Limits.{IsUndecided}
 use Rattle.sec_check.specs.declared.comparing.CompareError.TheVariants as compare_error
-use Rattle.sec_check.specs.Compared.{Compared}
-use Rattle.sec_check.specs.FlatModel.{is_flat}
-use Rattle.sec_check.specs.Loading.{Loads, IsTooLong, HasFault, IsUnflat, SpellsCircuit}
-use Rattle.sec_check.specs.Report.{report_text}
+use Rattle.sec_check.specs.Compared.{Compared, InterfacesMatch}
+use Rattle.sec_check.specs.Loading.{Loads, IsTooLong, HasFault, HasDesignFault, SpellsCircuit}
 use Rattle.sec_check.specs.Shown.{MakesDiffer}
 use Rattle.sec_cli.specs.declared.finding.Refusal.{Refusal}
 use Rattle.sec_cli.specs.declared.finding.Refusal.TheVariants as refusal
 use Rattle.sec_cli.specs.declared.finding.Finding.{Finding}
 use Rattle.sec_cli.specs.declared.finding.Finding.TheVariants as finding
+use Rattle.sec_cli.specs.declared.status.Status.{Status}
 use Rattle.sec_cli.specs.declared.status.StatusName.{StatusName}
 use Rattle.sec_cli.specs.declared.status.StatusName.TheVariants as status
-use Rattle.sec_cli.specs.Job.{Paths}
+use Rattle.sec_cli.specs.Job.{Check, check_of, OfCheck}
 use Rattle.sec_cli.specs.Lines.{finding_text}
 
 -- the bytes that are held at a path, where they are told
 abbrev pub Held : Type 0
 Held = List ℕ → Option (List ℕ)
 
--- what is said of the two texts of the job, where both are told
-abbrev pub OfTexts : Held → Paths → (List ℕ → List ℕ → Type 0) → Type 0
-OfTexts held paths P = IfSome (held paths.left) (λ x. IfSome (held paths.right) (λ y. P x y))
+-- what is said of the two texts that are compared, where both are told
+abbrev pub OfTexts : Held → Check → (List ℕ → List ℕ → Type 0) → Type 0
+OfTexts held check P = IfSome (held check.left) (λ x. IfSome (held check.right) (λ y. P x y))
 
 -- what is said of the text of a side; B is looked at only where A loads
-abbrev pub OfSide : Held → Paths → Side → (List ℕ → Type 0) → Type 0
-OfSide held paths A P = IfSome (held paths.left) P
-OfSide held paths B P = OfTexts held paths (λ x y. (net : NetView) × Loads x net × P y)
+abbrev pub OfSide : Held → Check → Side → (List ℕ → Type 0) → Type 0
+OfSide held check A P = IfSome (held check.left) P
+OfSide held check B P = OfTexts held check (λ x y. (net : NetView) × Loads x net × P y)
 
 -- what is said of the two nets that the texts load as
-abbrev pub OfNets : Held → Paths → (NetView → NetView → Type 0) → Type 0
-OfNets held paths P = OfTexts held paths (λ x y. (a : NetView) × (b : NetView) × Loads x a × Loads y b × P a b)
+abbrev pub OfNets : Held → Check → (NetView → NetView → Type 0) → Type 0
+OfNets held check P = OfTexts held check (λ x y. (a : NetView) × (b : NetView) × Loads x a × Loads y b × P a b)
 
--- why a job is refused; the first cause in the order of the work
-abbrev pub IsRefusal : Held → Paths → Refusal → Type 0
-IsRefusal held paths (refusal.TooLong side) = OfSide held paths side IsTooLong
-IsRefusal held paths (refusal.Text side line kind) = OfSide held paths side (λ x. HasFault x line kind)
-IsRefusal held paths (refusal.Form side) = OfSide held paths side IsUnflat
-IsRefusal held paths (refusal.Interface name) = OfNets held paths (λ a b. Compared a b (Err (compare_error.Interface name)))
-IsRefusal held paths (refusal.Latches side) = OfNets held paths (λ a b. Compared a b (Err (compare_error.NotYet side)))
-IsRefusal held paths (refusal.Wide inputs) = OfNets held paths (λ a b. Compared a b (Err (compare_error.Wide inputs)))
+-- why a comparison is refused; the first cause in the order of the work
+abbrev pub IsRefusal : Held → Check → Refusal → Type 0
+IsRefusal held check refusal.NotBuilt = ⊥
+IsRefusal held check (refusal.TooLong side) = OfSide held check side IsTooLong
+IsRefusal held check (refusal.Text side line kind) = OfSide held check side (λ x. HasFault x line kind)
+IsRefusal held check (refusal.Design side fault) = OfSide held check side (λ x. HasDesignFault x fault)
+IsRefusal held check (refusal.Interface name) = OfNets held check (λ a b. Compared a b check.settings.conflicts (Err (compare_error.Interface name)))
+IsRefusal held check (refusal.TooLarge side) = OfNets held check (λ a b. Compared a b check.settings.conflicts (Err (compare_error.TooLarge side)))
 
--- what is true of the words and of the files where this is found
-abbrev pub IsFinding : Held → Option Paths → Finding → Type 0
-IsFinding held job finding.Words = job ≡ None
-IsFinding held job (finding.Refused r) = IsSomeAnd job (λ paths. IsRefusal held paths r)
-IsFinding held job (finding.Checked o) = IsSomeAnd job (λ paths. OfNets held paths (λ a b. Compared a b (Ok o)))
+-- what is true of the files where this is found of them
+abbrev pub IsFoundOf : Held → Check → Finding → Type 0
+IsFoundOf held check finding.Words = ⊥
+IsFoundOf held check (finding.Refused r) = IsRefusal held check r
+IsFoundOf held check (finding.Cyclic side names) = OfNets held check (λ a b. Compared a b check.settings.conflicts (Err (compare_error.Cyclic side names)))
+IsFoundOf held check (finding.Checked o settings) = (settings ≡ check.settings) × OfNets held check (λ a b. Compared a b check.settings.conflicts (Ok o))
+
+-- the same where the job's comparison is built; no other job is
+abbrev pub IsFoundOfBuilt : Held → Option Check → Finding → Type 0
+IsFoundOfBuilt held None f = f ≡ finding.Refused refusal.NotBuilt
+IsFoundOfBuilt held (Some check) f = IsFoundOf held check f
+
+-- what is found: that the words are no job, or what is true of the job
+abbrev pub IsFinding : Held → Option Task → Finding → Type 0
+IsFinding held None f = f ≡ finding.Words
+IsFinding held (Some task) f = IsFoundOfBuilt held (check_of task) f
 
 -- the status of a verdict
 abbrev pub verdict_status : Verdict → StatusName
 verdict_status verdict.Equal = status.Equal
 verdict_status (verdict.Different w) = status.Different
+verdict_status (verdict.Limit at) = status.Limit
 
 -- the status of a finding
 abbrev pub status_of : Finding → StatusName
 status_of finding.Words = status.Words
 status_of (finding.Refused r) = status.Refused
-status_of (finding.Checked o) = verdict_status o.verdict
+status_of (finding.Cyclic side names) = status.Cyclic
+status_of (finding.Checked o settings) = verdict_status o.verdict
+
+-- the proofs of the queries that met the limit, in the order of the pairs
+abbrev pub proofs_of : Finding → List Proof
+proofs_of finding.Words = []
+proofs_of (finding.Refused r) = []
+proofs_of (finding.Cyclic side names) = []
+proofs_of (finding.Checked o settings) = filter_map (λ (r : PairResult). r.proof) o.pairs
 
 -- a read of A's path failed, or, where A loads, a read of B's
-abbrev pub ReadFailed : Held → (List ℕ → ℕ) → (List ℕ → ℕ) → Option Paths → Type 0
-ReadFailed held before now job = IsSomeAnd job (λ paths.
-    Rose (before paths.left) (now paths.left)
-    ⊎ (Rose (before paths.right) (now paths.right) × IfSome (held paths.left) (λ x. (net : NetView) × Loads x net)))
+abbrev pub ReadFailed : Held → (List ℕ → ℕ) → (List ℕ → ℕ) → Check → Type 0
+ReadFailed held before now check =
+    Rose (before check.left) (now check.left)
+    ⊎ (Rose (before check.right) (now check.right) × IfSome (held check.left) (λ x. (net : NetView) × Loads x net))
 
--- With a finding its whole report is taken; at a write fault a front of it; else nothing.
-abbrev pub IsTaken : Option (List ℕ) → Option (List ℕ) → Held → Option Paths → StatusName → Type 0
-IsTaken before now held job status.ReadFault = now ≡ before
-IsTaken before now held job status.NoMemory = now ≡ before
-IsTaken before now held job status.WriteFault = (f : Finding) × IsFinding held job f × TakesFront before now (finding_text f)
-IsTaken before now held job name = (f : Finding) × IsFinding held job f × (status_of f ≡ name) × Takes before now (finding_text f)
+-- With a finding its whole report is taken, and the status has its proofs; at a write fault a front of the report; else nothing.
+abbrev pub EndsAs : Option (List ℕ) → Option (List ℕ) → Held → Option Task → List Proof → StatusName → Type 0
+EndsAs before now held job proofs status.ReadFault = (now ≡ before) × (proofs ≡ [])
+EndsAs before now held job proofs status.NoMemory = (now ≡ before) × (proofs ≡ [])
+EndsAs before now held job proofs status.WriteFault = (f : Finding) × IsFinding held job f × (proofs ≡ proofs_of f) × TakesFront before now (finding_text f)
+EndsAs before now held job proofs name = (f : Finding) × IsFinding held job f × (proofs ≡ proofs_of f) × (status_of f ≡ name) × Takes before now (finding_text f)
+
+abbrev pub IsTaken : Option (List ℕ) → Option (List ℕ) → Held → Option Task → Status → Type 0
+IsTaken before now held job s = EndsAs before now held job s.proofs s.name
 
 -- the circuits that the two texts spell agree
 pub record TextsAgree (x y : List ℕ) : Type 0 where
@@ -96,7 +128,7 @@ pub record TextsAgree (x y : List ℕ) : Type 0 where
   pub agree : Agree Plain left right
 
 -- the circuits that the two texts spell differ in all runs over the sequence that is printed behind what was written before
-pub record TextsDiffer (x y : List ℕ) (before now : Option (List ℕ)) : Type 0 where
+pub record TextsDiffer (x y : List ℕ) (conflicts : ℕ) (before now : Option (List ℕ)) : Type 0 where
   pub left_clock : Option (List ℕ)
   pub right_clock : Option (List ℕ)
   pub left : Circuit Place
@@ -106,5 +138,61 @@ pub record TextsDiffer (x y : List ℕ) (before now : Option (List ℕ)) : Type 
   pub outcome : Outcome
   pub witness : Witness
   pub is_verdict : outcome.verdict ≡ verdict.Different witness
-  pub printed : Takes before now (report_text outcome)
+  pub printed : Takes before now (report_text conflicts outcome)
   pub shown : MakesDiffer left right witness
+
+-- The report names outputs of the two texts' nets whose query has more than 16 variables and met the limit, which one of the
+-- proofs shows: its clauses, and a log of exactly as many chains as conflicts are allowed.
+pub record TextsUndecided (x y : List ℕ) (conflicts : ℕ) (proofs : List Proof) (before now : Option (List ℕ)) : Type 0 where
+  pub left_net : NetView
+  pub right_net : NetView
+  pub left_loads : Loads x left_net
+  pub right_loads : Loads y right_net
+  pub left : List ℕ
+  pub right : List ℕ
+  pub orders : AreOrders (ports_of left_net) (ports_of right_net) left right
+  pub name : List ℕ
+  pub left_place : ℕ
+  pub right_place : ℕ
+  pub left_output : Contains (circuit_of left_net).outputs (record { name = name; place = left_place })
+  pub right_output : Contains (circuit_of right_net).outputs (record { name = name; place = right_place })
+  pub proof : Proof
+  pub kept : Contains proofs proof
+  pub undecided : IsUndecided (circuit_of left_net) (circuit_of right_net) left right conflicts left_place right_place proof
+  pub outcome : Outcome
+  pub is_verdict : outcome.verdict ≡ verdict.Limit (limit_at.Pair (pair.Output name))
+  pub printed : Takes before now (report_text conflicts outcome)
+
+-- the text isn't too long, and it spells a design without a fault
+pub record IsAccepted (x : List ℕ) : Type 0 where
+  pub short : length x ≤ 16777216
+  pub accepted : first_fault x ≡ None
+  pub sound : IsSoundDesign (spelled x)
+
+-- both texts are accepted, their interfaces match, no latch graph has a cycle, and no unfolding is too large
+pub record AreComparable (x y : List ℕ) : Type 0 where
+  pub left : IsAccepted x
+  pub right : IsAccepted y
+  pub match : (a b : NetView) → Loads x a → Loads y b → InterfacesMatch a b
+  pub left_acyclic : (a : NetView) → Loads x a → IsAcyclic a
+  pub right_acyclic : (b : NetView) → Loads y b → IsAcyclic b
+  pub left_light : (a : NetView) → Loads x a → IsTooLarge a → ⊥
+  pub right_light : (b : NetView) → Loads y b → IsTooLarge b → ⊥
+
+-- both texts are told and can be compared, and no count of their paths rose or stands at its last value
+pub record CanAnswer (held : Held) (before now : List ℕ → ℕ) (check : Check) : Type 0 where
+  pub texts : IsSomeAnd (held check.left) (λ x. IsSomeAnd (held check.right) (λ y. AreComparable x y))
+  pub left_read : Rose (before check.left) (now check.left) → ⊥
+  pub right_read : Rose (before check.right) (now check.right) → ⊥
+
+-- a verdict, or want of memory
+abbrev pub IsAnswer : StatusName → Type 0
+IsAnswer status.Equal = Unit {0}
+IsAnswer status.Different = Unit {0}
+IsAnswer status.Limit = Unit {0}
+IsAnswer status.Refused = ⊥
+IsAnswer status.Words = ⊥
+IsAnswer status.ReadFault = ⊥
+IsAnswer status.WriteFault = ⊥
+IsAnswer status.NoMemory = Unit {0}
+IsAnswer status.Cyclic = ⊥

@@ -5,7 +5,10 @@ use Rattle.circuit_theory.specs.declared.Side.{Side}
 use Rattle.circuit_theory.specs.declared.Side.TheVariants.{A, B}
 use Rattle.blif_read.specs.declared.error.ReadKind.{ReadKind}
 use Rattle.blif_read.specs.declared.error.ReadKind.TheVariants as kind
-use Rattle.sec_check.specs.Report.{report_text}
+use Rattle.flat_walk.specs.declared.error.FlatError.{FlatError}
+use Rattle.flat_walk.specs.declared.error.FlatError.TheVariants as flat
+use Rattle.witness_report.specs.Text.{names_text}
+use Rattle.sec_outcome.specs.Report.{report_text}
 use Rattle.sec_cli.specs.declared.finding.Refusal.{Refusal}
 use Rattle.sec_cli.specs.declared.finding.Refusal.TheVariants as refusal
 use Rattle.sec_cli.specs.declared.finding.Finding.{Finding}
@@ -32,16 +35,36 @@ kind_text kind.NameTooLong = codes "NameTooLong"
 kind_text kind.StrayRow = codes "StrayRow"
 kind_text kind.ControlByte = codes "ControlByte"
 
+-- the kind of a design's fault, with the names that it has
+abbrev pub design_fault_text : FlatError → List ℕ
+design_fault_text (flat.UnknownModel name) = codes "UnknownModel " ++ name
+design_fault_text (flat.Recursive name) = codes "Recursive " ++ name
+design_fault_text (flat.UnknownFormal name) = codes "UnknownFormal " ++ name
+design_fault_text (flat.FormalTwice name) = codes "FormalTwice " ++ name
+design_fault_text (flat.OpenInput name) = codes "OpenInput " ++ name
+design_fault_text (flat.TwoDrivers name) = codes "TwoDrivers " ++ name
+design_fault_text (flat.Undriven name) = codes "Undriven " ++ name
+design_fault_text (flat.TwoClocks name) = codes "TwoClocks " ++ name
+design_fault_text (flat.TwoEdges name) = codes "TwoEdges " ++ name
+design_fault_text (flat.GatedClock name) = codes "GatedClock " ++ name
+design_fault_text (flat.ClockRead name) = codes "ClockRead " ++ name
+design_fault_text (flat.Loop names) = codes "Loop" ++ names_text names
+design_fault_text (flat.TooDeep name) = codes "TooDeep " ++ name
+design_fault_text flat.TooMany = codes "TooMany"
+design_fault_text flat.LongName = codes "LongName"
+design_fault_text flat.NoMemory = codes "NoMemory"
+
 abbrev pub refusal_text : Refusal → List ℕ
+refusal_text refusal.NotBuilt = codes "refused NotYet" ++ 10 ∷ []
 refusal_text (refusal.TooLong side) = codes "refused " ++ side_word side ++ codes " TooLong" ++ 10 ∷ []
 refusal_text (refusal.Text side line k) = codes "refused " ++ side_word side ++ codes " line " ++ decimal line ++ 32 ∷ [] ++ kind_text k ++ 10 ∷ []
-refusal_text (refusal.Form side) = codes "refused " ++ side_word side ++ codes " NotYet" ++ 10 ∷ []
+refusal_text (refusal.Design side fault) = codes "refused " ++ side_word side ++ 32 ∷ [] ++ design_fault_text fault ++ 10 ∷ []
 refusal_text (refusal.Interface name) = codes "refused Interface " ++ name ++ 10 ∷ []
-refusal_text (refusal.Latches side) = codes "refused " ++ side_word side ++ codes " NotYet" ++ 10 ∷ []
-refusal_text (refusal.Wide inputs) = codes "refused Wide " ++ decimal inputs ++ 10 ∷ []
+refusal_text (refusal.TooLarge side) = codes "refused " ++ side_word side ++ codes " TooLarge" ++ 10 ∷ []
 
 -- the report of what was found
 abbrev pub finding_text : Finding → List ℕ
 finding_text finding.Words = codes "words refused" ++ 10 ∷ []
 finding_text (finding.Refused r) = refusal_text r
-finding_text (finding.Checked outcome) = report_text outcome
+finding_text (finding.Cyclic side names) = codes "cyclic " ++ side_word side ++ names_text names ++ 10 ∷ []
+finding_text (finding.Checked outcome settings) = report_text settings.conflicts outcome

@@ -1,24 +1,24 @@
 //! What a run finds and reports.
 
 use blif_read::ReadKind;
-use sec_base::{Side, Word};
-use sec_check::Outcome;
+use sec_base::{Side, Word, Words};
+use sec_check::{FlatError, Outcome, Settings};
 
 /// Why a job ends without an answer.
 #[derive(Debug, Drop)]
 pub enum Refusal {
+    /// No such job is built yet.
+    NotBuilt,
     /// The file has more than 16,777,216 bytes.
     TooLong(Side),
     /// The first faulty line of a text, and what is wrong with it.
     Text(Side, u32, ReadKind),
-    /// The main model isn't of the form that is built.
-    Form(Side),
+    /// The first fault of a design.
+    Design(Side, FlatError),
     /// The first name that one circuit has and the other lacks.
     Interface(Word),
-    /// The circuit has a latch, for which no comparison is built.
-    Latches(Side),
-    /// There are more shared inputs than the comparison takes.
-    Wide(u32),
+    /// The unfoldings of the circuit's outputs weigh more than 2,000,000 together.
+    TooLarge(Side),
 }
 
 /// What a report can be made of.
@@ -27,7 +27,10 @@ pub enum Finding {
     /// The words are no job.
     Words,
     Refused(Refusal),
-    Checked(Outcome),
+    /// The names of the latches of a cycle of the circuit's latch graph, beginning with the least.
+    Cyclic(Side, Words),
+    /// The outcome of a comparison that was made with these settings.
+    Checked(Outcome, Settings),
 }
 
 /// Why the work on the files ends without a report.

@@ -1,12 +1,12 @@
 //! `sec`: decides whether two circuits in BLIF behave alike.
 #![tactic(auto)]
 
+mod comparison;
 mod finding;
 mod run;
 mod status;
 #[cfg(test)]
 mod tests;
-mod words;
 mod writing;
 
 ghost use Rattle.std.specs.Prelude.{◌≡◌, ◌≢◌};

@@ -2,13 +2,14 @@
 
 ghost use Rattle.std.specs.Prelude.{◌≡◌, ℕ, List, [], ◌∷◌, ◌++◌, codes, OnOk, IfOk};
 ghost use Rattle.std.specs.Fmt.{decimal};
-ghost use Rattle.sec_check.specs.Report.{report_text};
-ghost use Rattle.sec_cli.specs.Lines.{side_word, kind_text, refusal_text, finding_text};
+ghost use Rattle.witness_report.specs.Text.{names_text};
+ghost use Rattle.sec_outcome.specs.Report.{report_text};
+ghost use Rattle.sec_cli.specs.Lines.{side_word, kind_text, design_fault_text, refusal_text, finding_text};
 
 use crate::finding::{Finding, Refusal};
 use blif_read::ReadKind;
-use sec_base::{NoMemory, Seq, Side, Text, put, put_number};
-use sec_check::{Settings, report};
+use sec_base::{NoMemory, Seq, Side, Text, Words, put, put_number};
+use sec_check::{FlatError, report};
 use std::alloc::Global;
 
 /// Puts the word behind what stands before it in the line.
@@ -73,48 +74,88 @@ fn put_fault(
     put(text, b"\n")
 }
 
+/// Puts each name behind a blank.
+fn put_names(text: &mut Vec<u8>, names: &Words) -> Result<(), NoMemory>
+    ensures { OnOk result (text.new.items ≡ text.old.items ++ names_text names.now) }
+{
+    for name in names.as_slice() {
+        put(text, b" ")?;
+        put(text, name.as_slice())?;
+    }
+    Ok(())
+}
+
+fn put_design_fault(text: &mut Vec<u8>, fault: &FlatError) -> Result<(), NoMemory>
+    ensures { OnOk result (text.new.items ≡ text.old.items ++ design_fault_text fault.now) }
+{
+    match fault {
+        FlatError::UnknownModel(name) => put_behind(text, b"UnknownModel ", name.as_slice()),
+        FlatError::Recursive(name) => put_behind(text, b"Recursive ", name.as_slice()),
+        FlatError::UnknownFormal(name) => put_behind(text, b"UnknownFormal ", name.as_slice()),
+        FlatError::FormalTwice(name) => put_behind(text, b"FormalTwice ", name.as_slice()),
+        FlatError::OpenInput(name) => put_behind(text, b"OpenInput ", name.as_slice()),
+        FlatError::TwoDrivers(name) => put_behind(text, b"TwoDrivers ", name.as_slice()),
+        FlatError::Undriven(name) => put_behind(text, b"Undriven ", name.as_slice()),
+        FlatError::TwoClocks(name) => put_behind(text, b"TwoClocks ", name.as_slice()),
+        FlatError::TwoEdges(name) => put_behind(text, b"TwoEdges ", name.as_slice()),
+        FlatError::GatedClock(name) => put_behind(text, b"GatedClock ", name.as_slice()),
+        FlatError::ClockRead(name) => put_behind(text, b"ClockRead ", name.as_slice()),
+        FlatError::Loop(names) => {
+            put(text, b"Loop")?;
+            put_names(text, names)
+        }
+        FlatError::TooDeep(name) => put_behind(text, b"TooDeep ", name.as_slice()),
+        FlatError::TooMany => put(text, b"TooMany"),
+        FlatError::LongName => put(text, b"LongName"),
+        FlatError::NoMemory => put(text, b"NoMemory"),
+    }
+}
+
 fn put_refusal(alloc: Global, text: &mut Vec<u8>, refusal: &Refusal) -> Result<(), NoMemory>
     ensures { OnOk result (text.new.items ≡ text.old.items ++ refusal_text refusal.now) }
 {
     match refusal {
+        Refusal::NotBuilt => put(text, b"refused NotYet\n"),
         Refusal::TooLong(side) => {
             put_side(text, *side)?;
             put(text, b" TooLong\n")
         }
         Refusal::Text(side, line, kind) => put_fault(alloc, text, *side, *line, kind),
-        Refusal::Form(side) => {
+        Refusal::Design(side, fault) => {
             put_side(text, *side)?;
-            put(text, b" NotYet\n")
-        }
-        Refusal::Latches(side) => {
-            put_side(text, *side)?;
-            put(text, b" NotYet\n")
+            put(text, b" ")?;
+            put_design_fault(text, fault)?;
+            put(text, b"\n")
         }
         Refusal::Interface(name) => {
             put_behind(text, b"refused Interface ", name.as_slice())?;
             put(text, b"\n")
         }
-        Refusal::Wide(inputs) => {
-            put(text, b"refused Wide ")?;
-            put_number(alloc, text, u64::from(*inputs))?;
-            put(text, b"\n")
+        Refusal::TooLarge(side) => {
+            put_side(text, *side)?;
+            put(text, b" TooLarge\n")
         }
     }
 }
 
+fn put_cycle(text: &mut Vec<u8>, side: Side, names: &Words) -> Result<(), NoMemory>
+    ensures { OnOk result (text.new.items ≡ text.old.items ++ (codes "cyclic " ++ side_word side ++ names_text names.now ++ 10 ∷ [])) }
+{
+    put_behind(text, b"cyclic ", side_word(side).as_bytes())?;
+    put_names(text, names)?;
+    put(text, b"\n")
+}
+
 /// The report of what was found.
-pub fn finding_report(
-    alloc: Global,
-    finding: &Finding,
-    settings: &Settings,
-) -> Result<Text, NoMemory>
+pub fn finding_report(alloc: Global, finding: &Finding) -> Result<Text, NoMemory>
     ensures { IfOk result (λ text. text ≡ finding_text finding.now) }
 {
     let mut text = Vec::new(alloc);
     match finding {
         Finding::Words => put(&mut text, b"words refused\n")?,
         Finding::Refused(refusal) => put_refusal(alloc, &mut text, refusal)?,
-        Finding::Checked(outcome) => return report(alloc, outcome, settings),
+        Finding::Cyclic(side, names) => put_cycle(&mut text, *side, names)?,
+        Finding::Checked(outcome, settings) => return report(alloc, outcome, settings),
     }
     Ok(Seq::from_vec(text))
 }

@@ -116,6 +116,15 @@ fn put_difference(alloc: Global, text: &mut Vec<u8>, witness: &Witness) -> Resul
     put_stimulus(alloc, text, &witness.stimulus)
 }
 
+/// Puts the place where the limit was met.
+fn put_limit_at(text: &mut Vec<u8>, at: &LimitAt) -> Result<(), NoMemory>
+    ensures { OnOk result (text.new.items ≡ text.old.items ++ limit_text at.now) }
+{
+    match at {
+        LimitAt::Pair(name) => put_pair_name(text, name),
+    }
+}
+
 fn put_limit(
     alloc: Global,
     text: &mut Vec<u8>,
@@ -125,9 +134,7 @@ fn put_limit(
     ensures { OnOk result (text.new.items ≡ text.old.items ++ (codes "verdict limit " ++ limit_text at.now ++ codes " conflicts " ++ decimal conflicts ++ 10 ∷ [])) }
 {
     put(text, b"verdict limit ")?;
-    match at {
-        LimitAt::Pair(name) => put_pair_name(text, name)?,
-    }
+    put_limit_at(text, at)?;
     put(text, b" conflicts ")?;
     put_number(alloc, text, u64::from(conflicts))?;
     put(text, b"\n")

@@ -1,7 +1,7 @@
 use Rattle.std.proofs.Common.{◌≡◌, ◌+◌, ◌≤◌, ℕ, Bool, cond, List, [], ◌∷◌, ◌++◌, length, subst, sym, ◌∙◌, ap, arith}
 use Rattle.sec_base.specs.Table.{is_among as is_entry}
 use Rattle.flat_net.specs.declared.parts.Port.{Port}
-use Rattle.sec_check.specs.Compared.{ports_of}
+use Rattle.flat_net.specs.View.{ports_of}
 use Rattle.sec_check.specs.Numbered.{stays}
 use Rattle.sec_check.proofs.Interfaces.{input_at, said_of, beside_kept, beside_left}
 use Rattle.sec_check.proofs.numbers.inputs_beside.Goals as goal

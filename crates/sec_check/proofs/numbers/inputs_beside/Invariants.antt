@@ -1,7 +1,7 @@
 use Rattle.std.proofs.Common.{◌≡◌, ◌≤◌, map, take, length}
 use Rattle.std.specs.List.{filter}
 use Rattle.flat_net.specs.declared.parts.Port.{Port}
-use Rattle.sec_check.specs.Compared.{ports_of}
+use Rattle.flat_net.specs.View.{ports_of}
 use Rattle.sec_check.specs.Numbered.{stays}
 use Rattle.sec_check.proofs.numbers.inputs_beside.Given as goal
 

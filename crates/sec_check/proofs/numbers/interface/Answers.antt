@@ -2,7 +2,7 @@ use Rattle.std.proofs.Common.{◌≡◌, ℕ, List, map, sym, ◌∙◌, ap, Opt
 use Rattle.std.specs.Prelude.{IfOk}
 use Rattle.std.specs.Option.{option_map}
 use Rattle.circuit_theory.specs.Interface.{AreOrders}
-use Rattle.sec_check.specs.Compared.{ports_of}
+use Rattle.flat_net.specs.View.{ports_of}
 use Rattle.flat_net.specs.declared.parts.Port.{Port}
 use Rattle.sec_check.proofs.Numbering.{mismatch_is, refused_name}
 use Rattle.sec_check.proofs.numbers.interface.Goals as goal

@@ -1,6 +1,6 @@
 use Rattle.std.proofs.Common.{◌≡◌, ℕ, List, get_or, subst}
 use Rattle.flat_net.specs.declared.parts.Port.{Port}
-use Rattle.sec_check.specs.Compared.{ports_of}
+use Rattle.flat_net.specs.View.{ports_of}
 use Rattle.sec_check.proofs.Interfaces.{stays_unclocked, stays_read}
 use Rattle.sec_check.proofs.numbers.stays.Goals as goal
 

@@ -1,7 +1,6 @@
 -- Each name is new, and the table has room for it.
 use Rattle.std.proofs.Common.{◌≡◌, length, ap, arith, refl}
-use Rattle.sec_check.proofs.Evaluated.{item_at}
-use Rattle.sec_check.proofs.Paired.{names_of, names_short, names_next}
+use Rattle.sec_check.proofs.Paired.{names_of, item_at, names_short, names_next}
 use Rattle.sec_check.proofs.pairing.output_names.Goals as goal
 
 pub intern-requires : goal.intern-requires

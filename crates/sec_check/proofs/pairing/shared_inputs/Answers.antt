@@ -7,8 +7,8 @@ use Rattle.std.proofs.lemmas.Option.{slice_get-get_or, slice_get_within}
 use Rattle.circuit_theory.specs.Interface.{is_clock}
 use Rattle.circuit_theory.proofs.Numbers.{slice_get-map}
 use Rattle.flat_net.specs.declared.parts.Port.{Port}
-use Rattle.sec_check.specs.Compared.{ports_of}
-use Rattle.sec_check.proofs.Evaluated.{item_at}
+use Rattle.flat_net.specs.View.{ports_of}
+use Rattle.sec_check.proofs.Paired.{item_at}
 use Rattle.sec_check.proofs.Shared.{is_kept, are_matched, filter_next, kept_by_number}
 use Rattle.sec_check.proofs.pairing.shared_inputs.Goals as goal
 use Rattle.sec_check.proofs.pairing.shared_inputs.Goals.{then-is_shared+in_ok-copy+in_ok-push, else-is_shared}

@@ -1,6 +1,6 @@
 use Rattle.std.proofs.Common.{◌≡◌, take}
 use Rattle.std.specs.List.{filter}
-use Rattle.sec_check.specs.Compared.{ports_of}
+use Rattle.flat_net.specs.View.{ports_of}
 use Rattle.sec_check.proofs.Shared.{is_kept}
 use Rattle.sec_check.proofs.pairing.shared_inputs.Given as goal
 

@@ -1,7 +1,0 @@
-use Rattle.std.specs.Prelude.{◌≡◌, ◌++◌, map, take}
-use Rattle.std.specs.List.{flat_map}
-use Rattle.sec_check.specs.Report.{digit_of, names_text, row_line, pair_line}
-use Rattle.sec_check.proofs.writing.put_digits.Given as goal
-
-abbrev pub invariant-loop-bit : goal.invariant-loop-bit
-invariant-loop-bit l = l.text.items ≡ l.initial.text.items ++ map digit_of (take l.bit-index l.row)

@@ -1,7 +1,0 @@
-use Rattle.std.specs.Prelude.{◌≡◌, ◌++◌, map, take}
-use Rattle.std.specs.List.{flat_map}
-use Rattle.sec_check.specs.Report.{digit_of, names_text, row_line, pair_line}
-use Rattle.sec_check.proofs.writing.put_names.Given as goal
-
-abbrev pub invariant-loop-name : goal.invariant-loop-name
-invariant-loop-name l = l.text.items ≡ l.initial.text.items ++ names_text (take l.name-index l.name-items)

@@ -1,0 +1,29 @@
+use Rattle.std.proofs.Common.{subst, Some}
+use Rattle.sec_cli.specs.Ends.{IsWrittenAs}
+use Rattle.sec_cli.proofs.Means.{equal_means, different_means, limit_means, written_ends}
+use Rattle.sec_cli.proofs.Complete.{ends_with_answer}
+use Rattle.sec_cli.proofs.run.run_job.Goals as goal
+
+pub returns-in-Ok-clause-equal : goal.returns-in-Ok-clause-equal
+returns-in-Ok-clause-equal g c =
+    equal_means (g.S.Shelf.held c.args.shelf.now) (Some c.args.task.now) (g.W.Sink.taken c.args.out.now) (g.W.Sink.taken c.finish.new.out) c.in-Ok.finding c.finish.result.proofs c.finish.result.name
+    c.in-Ok.ensures.found c.finish.ensures.written
+
+pub returns-in-Ok-clause-different : goal.returns-in-Ok-clause-different
+returns-in-Ok-clause-different g c =
+    different_means (g.S.Shelf.held c.args.shelf.now) (Some c.args.task.now) (g.W.Sink.taken c.args.out.now) (g.W.Sink.taken c.finish.new.out) c.in-Ok.finding c.finish.result.proofs c.finish.result.name
+    c.in-Ok.ensures.found c.finish.ensures.written
+
+pub returns-in-Ok-clause-limit : goal.returns-in-Ok-clause-limit
+returns-in-Ok-clause-limit g c =
+    limit_means (g.S.Shelf.held c.args.shelf.now) (Some c.args.task.now) (g.W.Sink.taken c.args.out.now) (g.W.Sink.taken c.finish.new.out) c.in-Ok.finding c.finish.result.proofs c.finish.result.name
+    c.in-Ok.ensures.found c.finish.ensures.written
+
+pub returns-in-Ok-clause-complete : goal.returns-in-Ok-clause-complete
+returns-in-Ok-clause-complete g c can sink =
+    let held = g.S.Shelf.held c.args.shelf.now in
+    let before = g.W.Sink.taken c.args.out.now in
+    let now = g.W.Sink.taken c.finish.new.out in
+    ends_with_answer held before now (g.S.Shelf.faults c.args.shelf.now) (g.S.Shelf.faults c.find.new.shelf) (Some c.args.task.now) c.finish.result.proofs c.finish.result.name
+    (written_ends held (Some c.args.task.now) before now c.in-Ok.finding c.finish.result.proofs c.finish.result.name c.in-Ok.ensures.found c.finish.ensures.written)
+    (λ e. absurd (subst (IsWrittenAs before now c.in-Ok.finding c.finish.result.proofs) e c.finish.ensures.written)) (λ e. sink (c.finish.ensures.fault e)) can
