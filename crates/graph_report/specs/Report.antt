@@ -39,10 +39,11 @@ abbrev pub depth_text : Option ℕ → List ℕ
 depth_text None = 45 ∷ []
 depth_text (Some d) = decimal d
 
--- in the plain mode each latch is plain
+-- the line of a latch; in the plain mode each is of the kind `plain`
 abbrev pub latch_line : List ℕ → Option ℕ → List ℕ
 latch_line name depth = codes "latch " ++ name ++ codes " depth " ++ depth_text depth ++ codes " plain\n"
 
+-- the line of an output
 abbrev pub output_line : List ℕ → Option ℕ → List ℕ
 output_line name depth = codes "output " ++ name ++ codes " depth " ++ depth_text depth ++ 10 ∷ []
 
@@ -50,6 +51,7 @@ output_line name depth = codes "output " ++ name ++ codes " depth " ++ depth_tex
 abbrev pub lines_text : (List ℕ → Option ℕ → List ℕ) → List Measured → List ℕ
 lines_text line measured = flat_map (λ (m : Measured). line m.signal.name m.depth) measured
 
+-- the line of the cycle's names, or that there is none
 abbrev pub cycle_line : Option (List LatchAt) → List ℕ
 cycle_line None = codes "acyclic\n"
 cycle_line (Some latches) = codes "cycle" ++ names_text (map (λ (l : LatchAt). l.name) latches) ++ 10 ∷ []

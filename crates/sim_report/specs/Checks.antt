@@ -7,6 +7,7 @@ use Rattle.flat_net.specs.View.{NetView}
 use Rattle.sim_report.specs.declared.refusal.Misfit.{Misfit}
 use Rattle.sim_report.specs.declared.refusal.Misfit.TheVariants as misfit
 
+-- the names of the inputs, in the net's order
 abbrev pub input_names : NetView → List (List ℕ)
 input_names n = map (λ (p : Port). p.name) n.inputs
 
@@ -14,6 +15,7 @@ input_names n = map (λ (p : Port). p.name) n.inputs
 abbrev pub is_power_word : NetView → List ℕ → Bool
 is_power_word n word = (length word == length n.latches) && list_all (λ digit. (digit == 48) || (digit == 49)) word
 
+-- the same of a word that there may be
 abbrev pub is_power : NetView → Option (List ℕ) → Bool
 is_power n None = true
 is_power n (Some word) = is_power_word n word
@@ -23,6 +25,7 @@ abbrev pub power_of : NetView → Option (List ℕ) → List Bool
 power_of n None = replicate (length n.latches) false
 power_of n (Some word) = map (λ digit. digit == 49) word
 
+-- a misfit by its name, if there is one
 abbrev pub named_misfit : (List ℕ → Misfit) → Option (List ℕ) → Option Misfit
 named_misfit kind None = None
 named_misfit kind (Some name) = Some (kind name)

@@ -15,6 +15,7 @@ pub record Shown : Type 0 where
   pub values : List Bool
   pub marks : List Bool
 
+-- the line of cycle t
 abbrev pub cycle_line : ℕ → Shown → List ℕ
 cycle_line t shown = codes "cycle " ++ decimal t ++ codes " values " ++ row_text shown.values ++ codes " marks " ++ row_text shown.marks ++ 10 ∷ []
 

@@ -16,6 +16,7 @@ pub enum Misfit {
 /// Why there is no report.
 #[derive(Debug, Drop)]
 pub enum SimError {
+    /// The stimulus or the power word doesn't fit the circuit.
     Misfit(Misfit),
     /// Memory was wanted and couldn't be had.
     NoMemory,

@@ -1,11 +1,13 @@
 //! What no clause says: that the calls succeed with ample memory, on small circuits by hand.
 
+ghost use Rattle.std.specs.Prelude.{◌+◌, ◌^◌, ◌<◌, length};
+
 use super::*;
 use flat_net::{Net, NetMaker};
 use sec_base::{Init, NoMemory, Text, put};
 use std::alloc::Global;
 use std::test::Fail;
-use witness_report::read_stimulus;
+use witness_report::{StimError, read_stimulus};
 
 /// The latch p behind the input a, and y behind p.
 fn two(alloc: Global) -> Result<Net, Fail> {
@@ -33,6 +35,20 @@ fn unshown(alloc: Global) -> Result<Net, Fail> {
     let mut maker = NetMaker::new(alloc);
     maker.input(b"a")?;
     Ok(maker.finish())
+}
+
+/// What is answered where the stimulus is a text. A text that is read has few enough rows.
+fn answered(
+    alloc: Global,
+    net: &Net,
+    text: &[u8],
+    power: Option<&[u8]>,
+) -> Result<Result<Text, SimError>, StimError>
+    requires { length text.now + 2 < 2 ^ 32 }
+{
+    let stimulus = read_stimulus(alloc, text)?;
+    has_simulation(net, &stimulus);
+    Ok(sim_report(alloc, net, &stimulus, power))
 }
 
 /// The report, or what is a misfit.
@@ -76,11 +92,10 @@ fn two_latches_show_their_input_two_cycles_late(rt: HostRuntime) -> Result<(), F
         ("inputs a\n", Some("12"), "Power"),
     ] {
         assert!(rt; stimulus.len() < 1_000);
-        let stimulus = read_stimulus(alloc, stimulus.as_bytes())?;
-        assert!(rt; stimulus.rows.len() < 1_000);
+        let text = stimulus.as_bytes();
         let answer = match power {
-            Some(word) => sim_report(alloc, &net, &stimulus, Some(word.as_bytes())),
-            None => sim_report(alloc, &net, &stimulus, None),
+            Some(word) => answered(alloc, &net, text, Some(word.as_bytes()))?,
+            None => answered(alloc, &net, text, None)?,
         };
         assert_eq!(rt; told(alloc, answer)?.as_slice(), wanted.as_bytes());
     }
@@ -91,10 +106,7 @@ fn two_latches_show_their_input_two_cycles_late(rt: HostRuntime) -> Result<(), F
 fn a_bit_stands_under_its_name(rt: HostRuntime) -> Result<(), Fail> {
     let alloc = rt.alloc();
     let net = first_of_two(alloc)?;
-    let stimulus = read_stimulus(alloc, b"inputs b a\n10\n01\n")?;
-    assert!(rt; stimulus.rows.len() < 1_000);
-    has_simulation(&net, &stimulus);
-    let report = sim_report(alloc, &net, &stimulus, None)?;
+    let report = answered(alloc, &net, b"inputs b a\n10\n01\n", None)??;
     assert_eq!(rt;
         report.as_slice(),
         b"outputs y\ncycle 0 values 0 marks 1\ncycle 1 values 1 marks 1\n".as_slice()
@@ -106,9 +118,7 @@ fn a_bit_stands_under_its_name(rt: HostRuntime) -> Result<(), Fail> {
 fn a_dash_stands_where_nothing_is_shown(rt: HostRuntime) -> Result<(), Fail> {
     let alloc = rt.alloc();
     let net = unshown(alloc)?;
-    let stimulus = read_stimulus(alloc, b"inputs a\n1\n")?;
-    assert!(rt; stimulus.rows.len() < 1_000);
-    let report = sim_report(alloc, &net, &stimulus, Some(b""))?;
+    let report = answered(alloc, &net, b"inputs a\n1\n", Some(b""))??;
     assert_eq!(rt;
         report.as_slice(),
         b"outputs\ncycle 0 values - marks -\n".as_slice()
