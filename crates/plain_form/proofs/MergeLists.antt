@@ -115,7 +115,6 @@ module _ (places : List (ℕ × ℕ)) where
   Rest left right i j merged = (more : List ℕ) → IsMergeOf places (drop i left) (drop j right) more → IsMergeOf places left right (merged ++ more)
 
   module _ (left right : List ℕ) (left_ordered : AllPairs R left) (right_ordered : AllPairs R right) where
-
     left_at : (i u : ℕ) → slice_get left i ≡ Some u → AllPairs R (u ∷ drop (suc i) left)
     left_at i u at = subst (AllPairs R) (drop_at left i u at) (pairs_drop R i left left_ordered)
 

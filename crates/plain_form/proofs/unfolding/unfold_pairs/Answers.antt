@@ -49,8 +49,7 @@ returns c =
     let left_list = c.as_slice.ensures.value ∙ c.in_ok-signals.ensures in
     let right_list = c.as_slice-2.ensures.value ∙ c.in_ok-signals-2.ensures in
     let left_order = c.args.orders.now.left in
-    let right_order = c.args.orders.now.right in
-    (
+    let right_order = c.args.orders.now.right in (
       subst (AreLight a) (lefts pairs c.as_slice.result.now left_list) c.in_ok-left.ensures.light,
       subst (AreLight b) (rights pairs c.as_slice-2.result.now right_list) c.in_ok-right.ensures.light,
       record {

@@ -76,10 +76,9 @@ returns-clause-unfolded c =
 pub returns-clause-light : goal.returns-clause-light
 returns-clause-light c =
     let fits = c.loop-s.invariant.fits in
-    let all : c.loop-s.unfolder.done ≡ numbers_of c.args.signals.now = c.loop-s.invariant.done ∙ ap numbers_of (take_all c.loop-s.s-index c.args.signals.now c.loop-s-test.false) in
-    (
+    let all : c.loop-s.unfolder.done ≡ numbers_of c.args.signals.now = c.loop-s.invariant.done ∙ ap numbers_of (take_all c.loop-s.s-index c.args.signals.now c.loop-s-test.false) in (
       c.loop-s.unfolder.weight,
       subst (λ (n : NetView). IsWeight (circuit_of n) (numbers_of c.args.signals.now) c.loop-s.unfolder.weight) c.loop-s.invariant.net
-      (subst (λ (l : List ℕ). IsWeight (circuit_of c.loop-s.unfolder.net) l c.loop-s.unfolder.weight) all fits.weighs),
+          (subst (λ (l : List ℕ). IsWeight (circuit_of c.loop-s.unfolder.net) l c.loop-s.unfolder.weight) all fits.weighs),
       fits.small,
     )
