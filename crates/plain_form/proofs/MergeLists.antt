@@ -1,7 +1,7 @@
 -- Merging two lists of variables, which are in order.
-use Rattle.std.proofs.Common.{◌≡◌, ℕ, zero, suc, ◌+◌, ◌<◌, ◌≤◌, List, [], ◌∷◌, ◌++◌, length, drop, map, slice_get, Some, refl, sym, ◌∙◌, ap, subst, arith, inl, inr, add-one, append_assoc, append-nil}
-use Rattle.std.specs.Prelude.{◌⊎◌, ◌↔◌}
-use Rattle.std.specs.List.{All, AllPairs, Contains}
+use Rattle.std.proofs.Common.{◌≡◌, ℕ, zero, suc, ◌+◌, ◌≤◌, List, [], ◌∷◌, ◌++◌, length, drop, slice_get, Some, refl, sym, ◌∙◌, ap, subst, arith, inl, inr, add-one, append_assoc, append-nil}
+use Rattle.std.specs.Prelude.{◌⊎◌}
+use Rattle.std.specs.List.{AllPairs, Contains}
 use Rattle.std.proofs.lemmas.List.Kept.{AllPairs-cons}
 use Rattle.std.proofs.lemmas.Option.{slice_get_within, same_Some}
 use Rattle.circuit_theory.specs.Query.{Variable, ShiftBefore}

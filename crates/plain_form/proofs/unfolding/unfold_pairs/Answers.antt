@@ -1,5 +1,5 @@
 -- The signals are those of the pairs, and A's functions stay while B is unfolded.
-use Rattle.std.proofs.Common.{◌≡◌, ◌≤◌, ◌∙◌, ℕ, List, map, Err, sym, ap, subst, arith, rules}
+use Rattle.std.proofs.Common.{◌≡◌, ◌∙◌, List, map, Err, sym, ap, subst, rules}
 use Rattle.std.specs.List.{AllZip}
 use Rattle.circuit_theory.proofs.Lists.{map-map}
 use Rattle.flat_net.specs.declared.signals.Signal.{Signal}

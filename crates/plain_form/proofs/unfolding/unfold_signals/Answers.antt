@@ -1,5 +1,5 @@
 -- Signal after signal the functions stay, and the weight is that of all signals so far.
-use Rattle.std.proofs.Common.{◌≡◌, ◌≤◌, ◌∙◌, ℕ, List, ◌+◌, length, map, take, refl, sym, ap, subst, arith, rules}
+use Rattle.std.proofs.Common.{◌≡◌, ◌∙◌, ℕ, List, ◌+◌, take, refl, sym, ap, subst, arith, rules}
 use Rattle.std.specs.List.{AllZip}
 use Rattle.std.proofs.lemmas.List.{take_all}
 use Rattle.circuit_theory.specs.Sizes.{IsWeight}
@@ -7,7 +7,6 @@ use Rattle.flat_net.specs.declared.signals.Signal.{Signal}
 use Rattle.flat_net.specs.View.{NetView, circuit_of}
 use Rattle.aig.proofs.Growth.{Grows-trans}
 use Rattle.cbf_unfold.specs.declared.unfolder.Unfolded.{Unfolded}
-use Rattle.cbf_unfold.specs.Building.{IsLater}
 use Rattle.cbf_unfold.proofs.Going.{later_none, later_trans}
 use Rattle.cbf_unfold.proofs.Lists.{adds_none, adds_trans}
 use Rattle.cbf_unfold.proofs.PlaceLits.{zip_more_left}
