@@ -6,4 +6,8 @@ pub mod OutputNames
 pub mod Reading
 pub mod Growing
 pub mod Rows
+pub mod Decided
+pub mod Results
+pub mod PairAt
+pub mod Outcomes
 pub mod PairQueries

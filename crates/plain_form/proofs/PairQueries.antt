@@ -1,6 +1,6 @@
 -- The query of two functions on one graph and table, and what its answers say of their trees.
-use Rattle.std.proofs.Common.{◌≡◌, ◌≢◌, ℕ, ◌*◌, ◌^◌, ◌<◌, ◌≤◌, Bool, true, List, [], ◌∷◌, map, length, get_or, slice_get, Some, refl, sym, ◌∙◌, ap, subst, arith, inl, inr}
-use Rattle.std.specs.Prelude.{◌⊎◌, ◌↔◌}
+use Rattle.std.proofs.Common.{◌≡◌, ◌≢◌, ℕ, ◌^◌, ◌<◌, Bool, true, List, [], ◌∷◌, map, length, get_or, slice_get, Some, refl, sym, ◌∙◌, ap, subst, arith, inl, inr}
+use Rattle.std.specs.Prelude.{◌⊎◌}
 use Rattle.std.specs.List.{All, AllPairs, AllZip, Contains}
 use Rattle.std.proofs.lemmas.List.Elements.{All-nil, All-cons}
 use Rattle.std.proofs.lemmas.List.Kept.{AllPairs-cons}
@@ -26,7 +26,7 @@ use Rattle.cbf_unfold.specs.Unfolded.{IsNumberOf}
 use Rattle.cbf_unfold.proofs.Cone.{covers_cone, reached_one, constant_reaches}
 use Rattle.cbf_unfold.proofs.Lists.{pairs_map}
 use Rattle.pair_decide.specs.declared.query.Query.{Query}
-use Rattle.pair_decide.specs.Queries.{IsQuery, IsSame, IsLeast, Distinguishes, assigned_to, roots_of, numbered}
+use Rattle.pair_decide.specs.Queries.{IsQuery, IsSame, IsLeast, Distinguishes, assigned_to, roots_of}
 use Rattle.plain_form.specs.Limits.{HasValueOf}
 use Rattle.plain_form.specs.Pairs.{IsFunctionOf}
 use Rattle.plain_form.specs.Sequences.{bits_at}
@@ -125,12 +125,12 @@ module _ {a b : NetView} {left right : List ℕ} {g : List Node} {places : List 
       (right_tree, Contains-tail left_tree right_tree (right_tree ∷ []) (Contains-head right_tree []), subst (HasLeaf y) (only_one right_tree leaf.0 leaf.1) leaf.2)
 
   variables_to : (y : Variable ℕ) (tree : Tree ℕ) → (left_tree ≡ tree) ⊎ Contains (right_tree ∷ []) tree → HasLeaf y tree → (v : ℕ) × Contains q.vars v × (variable_of places v ≡ y)
-  variables_to y tree (inl same) leaf =
-      let here : Contains x.left_is.variables y = (x.left_is.are_variables.exactly y).1 (left_tree, Contains-head left_tree [], subst (HasLeaf y) (sym same) leaf) in
+  variables_to y tree (inl same) is_leaf =
+      let here : Contains x.left_is.variables y = (x.left_is.are_variables.exactly y).1 (left_tree, Contains-head left_tree [], subst (HasLeaf y) (sym same) is_leaf) in
       let v = Contains-map_from (variable_of places) l.vars y (subst (λ (ys : List (Variable ℕ)). Contains ys y) (sym (variables_are places l.vars x.left_is.variables x.left_is.numbered)) here) in
       (v.0, (x.asks.variables_are.exactly v.0).1 (inl v.1), v.2)
-  variables_to y tree (inr k) leaf =
-      let here : Contains x.right_is.variables y = (x.right_is.are_variables.exactly y).1 (tree, k, leaf) in
+  variables_to y tree (inr k) is_leaf =
+      let here : Contains x.right_is.variables y = (x.right_is.are_variables.exactly y).1 (tree, k, is_leaf) in
       let v = Contains-map_from (variable_of places) r.vars y (subst (λ (ys : List (Variable ℕ)). Contains ys y) (sym (variables_are places r.vars x.right_is.variables x.right_is.numbered)) here) in
       (v.0, (x.asks.variables_are.exactly v.0).1 (inr v.1), v.2)
 
