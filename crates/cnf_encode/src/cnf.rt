@@ -2,7 +2,6 @@
 
 use proof_check::Clauses;
 use sec_base::Ids;
-use std::marker::Model;
 
 /// Clauses over the nodes of a graph: variable k, from 1 on, stands for node `nodes[k - 1]`.
 #[derive(Debug, Drop)]

@@ -1,11 +1,11 @@
 -- From what a search finds to the query.
-use Rattle.std.proofs.Common.{◌≡◌, ◌≢◌, ℕ, ◌+◌, ◌-◌, ◌*◌, ◌<◌, ◌≤◌, ◌⊎◌, inl, inr, Bool, true, false, List, [], ◌∷◌, length, get_or, slice_get, Option, Some, None, Contains, refl, sym, ◌∙◌, ap, subst, arith}
+use Rattle.std.proofs.Common.{◌≡◌, ◌≢◌, ℕ, ◌+◌, ◌-◌, ◌*◌, ◌<◌, ◌⊎◌, inl, inr, Bool, true, false, List, [], ◌∷◌, length, get_or, slice_get, Option, Some, None, Contains, refl, sym, ◌∙◌, ap, arith}
 use Rattle.std.specs.Prelude.{unwrap_or}
 use Rattle.std.specs.List.{All}
-use Rattle.std.proofs.lemmas.Option.{none-some, slice_get_within, get_or_from_slice_get, unwrap_or-slice_get}
+use Rattle.std.proofs.lemmas.Option.{none-some, get_or_from_slice_get, unwrap_or-slice_get}
 use Rattle.circuit_theory.proofs.Lists.{All-from_each, Contains-head, Contains-tail, Contains-cases, at_of}
 use Rattle.proof_check.specs.Literals.{Literal}
-use Rattle.proof_check.specs.Clauses.{Satisfies, Unsatisfiable}
+use Rattle.proof_check.specs.Clauses.{Unsatisfiable}
 use Rattle.proof_check.specs.Chains.{IsRefutation, CheckFails}
 use Rattle.proof_check.specs.declared.derivation.Chain.{Chain}
 use Rattle.proof_check.specs.declared.derivation.ChainKind.{ChainKind}
@@ -21,7 +21,7 @@ use Rattle.aig.proofs.Meaning.{value-node}
 use Rattle.cnf_encode.specs.declared.cnf.Cnf.{Cnf}
 use Rattle.cnf_encode.specs.Encoding.{ShowsDifference, MeansDifference}
 use Rattle.pair_decide.specs.declared.query.Query.{Query}
-use Rattle.pair_decide.specs.Queries.{IsQuery, IsSame, IsTrivial, Distinguishes, assigned_to, roots_of}
+use Rattle.pair_decide.specs.Queries.{IsQuery, IsSame, assigned_to, roots_of}
 use Rattle.pair_decide.specs.Reading.{AreInputBits}
 use Rattle.pair_decide.specs.Answers.{IsWide, IsDifference}
 use Rattle.pair_decide.proofs.Numbered.{assigned_to-at}

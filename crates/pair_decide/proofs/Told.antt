@@ -1,6 +1,5 @@
 -- What the bits of the three literals tell.
-use Rattle.std.proofs.Common.{◌≡◌, ◌≢◌, ℕ, Bool, true, false, List, refl, sym, ◌∙◌, ap}
-use Rattle.std.specs.Prelude.{not}
+use Rattle.std.proofs.Common.{◌≡◌, ◌≢◌, ℕ, Bool, true, List, sym, ◌∙◌, ap}
 use Rattle.aig.specs.declared.node.Node.{Node}
 use Rattle.aig.specs.Values.{lit_bit, node_bits, value, assigned}
 use Rattle.pair_decide.specs.declared.table.Table.{Table}

@@ -1,5 +1,5 @@
 -- From the table of a query's cones to the query.
-use Rattle.std.proofs.Common.{◌≡◌, ◌≢◌, ℕ, ◌+◌, ◌*◌, ◌/◌, ◌%◌, ◌^◌, ◌<◌, ◌≤◌, Bool, true, false, List, [], ◌∷◌, length, map, get_or, slice_get, Option, Some, None, Contains, refl, sym, ◌∙◌, ap, subst, arith}
+use Rattle.std.proofs.Common.{◌≡◌, ◌≢◌, ℕ, ◌*◌, ◌/◌, ◌^◌, ◌<◌, Bool, true, false, List, length, map, get_or, slice_get, Option, Some, None, Contains, refl, sym, ◌∙◌, ap, subst, arith}
 use Rattle.std.specs.List.{AllZip}
 use Rattle.std.proofs.lemmas.List.{length-map}
 use Rattle.std.proofs.lemmas.Option.{slice_get_within, slice_get-get_or, same_Some}
@@ -13,7 +13,7 @@ use Rattle.cnf_encode.specs.declared.cones.Cones.{Cones}
 use Rattle.cnf_encode.specs.Cones.{AreConesOf}
 use Rattle.pair_decide.specs.declared.query.Query.{Query}
 use Rattle.pair_decide.specs.declared.table.Table.{Table}
-use Rattle.pair_decide.specs.Queries.{IsQuery, Covers, IsSame, IsLeast, IsTrivial, Distinguishes, assigned_to, roots_of}
+use Rattle.pair_decide.specs.Queries.{IsQuery, IsSame, IsLeast, IsTrivial, Distinguishes, assigned_to}
 use Rattle.pair_decide.specs.Tables.{IsCovered, AreCovered, IsRenamed, IsSound, TellsApart, IsLeastOf}
 use Rattle.pair_decide.specs.Answers.{IsTable, IsDifference}
 use Rattle.pair_decide.proofs.Numbered.{number_of, bits_of-number_of, number_of-below, bits_of-length, assigned_to-at, map-at}

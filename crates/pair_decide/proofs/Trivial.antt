@@ -1,5 +1,5 @@
 -- Sides that are one literal, and a care that never holds.
-use Rattle.std.proofs.Common.{◌≡◌, ℕ, ◌*◌, ◌⊎◌, inl, inr, Bool, true, false, List, sym, ◌∙◌, ap, true≢false}
+use Rattle.std.proofs.Common.{◌≡◌, ℕ, inl, inr, Bool, false, List, sym, ◌∙◌, ap, true≢false}
 use Rattle.aig.specs.declared.node.Node.{Node}
 use Rattle.aig.specs.declared.node.Node.TheVariants.{Constant}
 use Rattle.aig.specs.Graph.{IsGraph}

@@ -1,10 +1,9 @@
 -- The three literals' nodes stand in their cones.
-use Rattle.std.proofs.Common.{◌≡◌, ℕ, ◌*◌, ◌/◌, ◌<◌, ◌^◌, Bool, List, [], ◌∷◌, length, slice_get, Some, Contains, refl, sym, ap, subst, ◌∙◌, arith}
+use Rattle.std.proofs.Common.{◌≡◌, ℕ, ◌/◌, ◌<◌, ◌^◌, List, [], ◌∷◌, Contains, sym, subst}
 use Rattle.std.specs.List.{All}
 use Rattle.circuit_theory.proofs.Lists.{Contains-head, Contains-tail}
 use Rattle.aig.specs.declared.node.Node.{Node}
 use Rattle.aig.specs.Graph.{IsGraph, IsOrdered}
-use Rattle.aig.specs.Values.{value}
 use Rattle.aig.specs.Cone.{IsConeOf, IsClosed, IsPartOf, IsPlacedLit}
 use Rattle.cnf_encode.specs.declared.cones.Cones.{Cones}
 use Rattle.cnf_encode.specs.Cones.{AreConesOf}

@@ -1,4 +1,4 @@
-use Rattle.std.proofs.Common.{◌≡◌, ℕ, List, [], ◌∷◌, ◌++◌, length, sym, ap, subst, ◌∙◌}
+use Rattle.std.proofs.Common.{◌≡◌, List, [], ◌++◌, length, ap, subst, ◌∙◌}
 use Rattle.proof_check.specs.Literals.{Literal}
 use Rattle.aig.specs.declared.node.Node.{Node}
 use Rattle.cnf_encode.specs.declared.cones.Cones.{Cones}

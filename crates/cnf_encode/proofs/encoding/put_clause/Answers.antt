@@ -1,4 +1,4 @@
-use Rattle.std.proofs.Common.{◌≡◌, List, [], ◌∷◌, ◌++◌, ◌∙◌, sym, ap, subst, rules}
+use Rattle.std.proofs.Common.{◌≡◌, List, [], ◌∷◌, ◌++◌, ◌∙◌, subst, rules}
 use Rattle.proof_check.specs.Literals.{Literal}
 use Rattle.proof_check.specs.Clauses.{IsClauseOf, IsTautology}
 use Rattle.cnf_encode.specs.Encoding.{Adds}

@@ -1,4 +1,4 @@
-use Rattle.std.proofs.Common.{◌+◌, List, get_or, take, sym, subst}
+use Rattle.std.proofs.Common.{List, get_or, take, sym, subst}
 use Rattle.std.proofs.lemmas.Option.{slice_get-get_or}
 use Rattle.proof_check.specs.Literals.{Literal}
 use Rattle.aig.specs.declared.node.Node.TheVariants.{Constant}

@@ -1,4 +1,3 @@
-use Rattle.std.proofs.Common.{◌≡◌, ◌∙◌, length, refl, sym, ap, subst, arith}
 use Rattle.pair_decide.proofs.Trivial.{trivial-same}
 use Rattle.pair_decide.proofs.deciding.decide.Goals as goal
 

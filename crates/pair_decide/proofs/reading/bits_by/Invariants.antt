@@ -1,4 +1,4 @@
-use Rattle.std.proofs.Common.{◌≡◌, ℕ, map, take, nat_eq, unwrap_or, false}
+use Rattle.std.proofs.Common.{◌≡◌, map, take, nat_eq, unwrap_or, false}
 use Rattle.indexmap.specs.IndexMap.{get}
 use Rattle.pair_decide.proofs.reading.bits_by.Given as goal
 

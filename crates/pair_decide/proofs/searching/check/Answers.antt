@@ -1,7 +1,6 @@
 -- A refutation has no fault.
 use Rattle.std.proofs.Common.{subst}
 use Rattle.proof_check.specs.Chains.{CheckFails}
-use Rattle.proof_check.specs.declared.derivation.ProofError.TheVariants as error
 use Rattle.pair_decide.proofs.Searched.{no-fault}
 use Rattle.pair_decide.proofs.searching.check.Goals as goal
 

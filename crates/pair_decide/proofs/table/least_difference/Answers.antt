@@ -1,9 +1,8 @@
 -- The table over the variables' places answers the query.
-use Rattle.std.proofs.Common.{◌≡◌, ◌∙◌, ℕ, List, length, refl, sym, ap, subst}
+use Rattle.std.proofs.Common.{◌≡◌, ◌∙◌, ℕ, List, length, refl, sym, subst}
 use Rattle.std.specs.List.{AllZip}
 use Rattle.aig.specs.declared.node.Node.{Node}
-use Rattle.pair_decide.specs.declared.table.Table.{Table}
-use Rattle.pair_decide.specs.Tables.{AreCovered, IsRenamed, IsSound, IsLeastOf}
+use Rattle.pair_decide.specs.Tables.{AreCovered, IsRenamed, IsLeastOf}
 use Rattle.pair_decide.proofs.Transported.{part-covered, table-sound, table-answer}
 use Rattle.pair_decide.proofs.table.least_difference.Goals as goal
 

@@ -1,5 +1,5 @@
 -- One bit is put, and the rest of the number gives the bits above it.
-use Rattle.std.proofs.Common.{◌≡◌, ◌<◌, length, refl, arith}
+use Rattle.std.proofs.Common.{◌<◌, length, refl, arith}
 use Rattle.pair_decide.proofs.Numbered.{bits_of-step}
 use Rattle.pair_decide.proofs.table.put_bits.Goals as goal
 

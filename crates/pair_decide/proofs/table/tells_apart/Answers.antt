@@ -1,6 +1,5 @@
-use Rattle.std.proofs.Common.{◌≡◌, true, false, sym, ◌∙◌, true≢false}
+use Rattle.std.proofs.Common.{sym, ◌∙◌, true≢false}
 use Rattle.proof_check.proofs.Members.{differ_by_test, test_by_differ}
-use Rattle.pair_decide.specs.Tables.{TellsApart}
 use Rattle.pair_decide.proofs.Told.{told, told-care, told-apart}
 use Rattle.pair_decide.proofs.table.tells_apart.Goals as goal
 
