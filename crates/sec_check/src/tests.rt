@@ -1,7 +1,13 @@
 //! What no clause says: rows of circuits with the reports that are wanted, through the calls that a program makes.
 
+ghost use Rattle.std.specs.Prelude.{◌<◌, length};
+ghost use Rattle.latch_graph.specs.Graph.{IsGraphOf};
+
 use super::*;
-use sec_base::{MemShelf, Seq, Side};
+use crate::cycles::{find_cycle, graph_of};
+use flat_net::{Net, Signal, Signals};
+use latch_graph::{LatchGraph, Weight};
+use sec_base::{MemShelf, NoMemory, Seq, Side};
 use std::alloc::Global;
 use std::test::Fail;
 
@@ -182,6 +188,77 @@ fn unfoldings_are_bounded(rt: HostRuntime) -> Result<(), Fail> {
         (within.as_str(), over.as_str(), "size of B"),
     ] {
         assert_eq!(rt; refusal(compared(alloc, left, right)?).0, wanted);
+    }
+    Ok(())
+}
+
+const LATE: &str = ".model m\n.inputs a b\n.outputs y\n.names a b n\n11 1\n.latch n y\n.end\n";
+
+const LATCHED_ONE: &str = ".model m\n.outputs y\n.names k\n1\n.latch k y\n.end\n";
+
+const TOGGLE: &str = ".model m\n.outputs y\n.names q n\n0 1\n.latch n q\n.names q y\n1 1\n.end\n";
+
+/// The signal of the first output.
+fn first_output(net: &Net) -> Signal
+    requires { 0 < length net.now.outputs }
+    ensures { result.0 < length net.now.drivers }
+{
+    net.keeps();
+    net.outputs()[0].signal
+}
+
+fn weight_of(
+    alloc: Global,
+    net: &Net,
+    graph: &LatchGraph,
+    s: Signal,
+    cap: u32,
+) -> Result<Weight, NoMemory>
+    requires graph { IsGraphOf net.now graph.now }
+    requires signal { s.0 < length net.now.drivers }
+{
+    let mut signals = Signals::new(alloc);
+    signals.push(s)?;
+    graph.weight(alloc, net, &signals, cap)
+}
+
+#[test]
+fn latch_graphs_of_small_circuits(rt: HostRuntime) -> Result<(), Fail> {
+    let alloc = rt.alloc();
+    for (text, depth, cycle, weight) in [
+        (LATE, Some(1u32), "", 7u32),
+        (LATCHED_ONE, Some(1), "", 3),
+        (TOGGLE, None, "q", 2_000_001),
+    ] {
+        let mut shelf = MemShelf::new(alloc, Seq::new(alloc));
+        shelf.put(alloc, "a", text.as_bytes())?;
+        let net = load(alloc, &mut shelf, "a")?;
+        assert_eq!(rt; net.outputs().len(), 1);
+        let output = first_output(&net);
+        let graph = graph_of(alloc, &net)?;
+        assert_eq!(rt; graph.depth(output), depth);
+        match find_cycle(alloc, &net, &graph)? {
+            Some(names) => {
+                assert_eq!(rt; names.len(), 1);
+                assert_eq!(rt; names.as_slice()[0].as_slice(), cycle.as_bytes());
+            }
+            None => assert_eq!(rt; cycle, ""),
+        }
+        // What weighs without end is over each cap.
+        if weight <= 2_000_000 {
+            assert_eq!(rt;
+                weight_of(alloc, &net, &graph, output, 2_000_000)?,
+                Weight::Within(weight)
+            );
+            assert_eq!(rt;
+                weight_of(alloc, &net, &graph, output, weight)?,
+                Weight::Within(weight)
+            );
+        }
+        assert_eq!(rt;
+            weight_of(alloc, &net, &graph, output, (weight - 1).min(2_000_000))?,
+            Weight::Over
+        );
     }
     Ok(())
 }

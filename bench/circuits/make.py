@@ -1,0 +1,111 @@
+#!/usr/bin/env python3
+"""Writes large circuits as BLIF files, whose whole runs are timed: bench/circuits/make.py FOLDER"""
+import pathlib
+import sys
+
+folder = pathlib.Path(sys.argv[1])
+folder.mkdir(parents=True, exist_ok=True)
+
+
+def write(name, lines):
+    (folder / f"{name}.blif").write_text("\n".join(lines) + "\n")
+
+
+def chain(count):
+    """A chain of gates, written from its end to its front."""
+    yield ".model m"
+    yield ".inputs g0"
+    yield f".outputs g{count}"
+    for i in range(count, 0, -1):
+        yield f".names g{i - 1} g{i}"
+        yield "0 1"
+    yield ".end"
+
+
+def doubling(levels):
+    """Each model has the next one twice, the last one a gate."""
+    yield ".model top"
+    yield ".inputs a"
+    yield ".subckt m1 u=a"
+    yield ".end"
+    for i in range(1, levels):
+        yield f".model m{i}"
+        yield ".inputs u"
+        yield f".subckt m{i + 1} u=u"
+        yield f".subckt m{i + 1} u=u"
+        yield ".end"
+    yield f".model m{levels}"
+    yield ".inputs u"
+    yield ".names u w"
+    yield "1 1"
+    yield ".end"
+
+
+def readers(gates, columns):
+    """One net that is read at each column of each gate."""
+    yield ".model m"
+    yield ".inputs a"
+    yield f".outputs g{gates - 1}"
+    for i in range(gates):
+        yield ".names " + "a " * columns + f"g{i}"
+    yield ".end"
+
+
+def latches(count):
+    """A chain of latches, written from its end to its front."""
+    yield ".model m"
+    yield ".inputs q0"
+    yield f".outputs q{count}"
+    for i in range(count, 0, -1):
+        yield f".latch q{i - 1} q{i}"
+    yield ".end"
+
+
+def adder_by_majority(bits):
+    """The last bit of a sum behind one latch; carries by the majority of both bits and the carry before."""
+    yield ".model m"
+    yield ".inputs " + " ".join([f"a{i}" for i in range(bits)] + [f"b{i}" for i in range(bits)] + ["c0"])
+    yield ".outputs s"
+    for i in range(bits - 1):
+        yield f".names a{i} b{i} c{i} c{i + 1}"
+        yield from ("11- 1", "1-1 1", "-11 1")
+    last = bits - 1
+    yield f".names a{last} b{last} c{last} n"
+    yield from ("100 1", "010 1", "001 1", "111 1")
+    yield ".latch n s"
+    yield ".end"
+
+
+def adder_by_sums(bits):
+    """The same with a latch behind each input, and carries by the sums of the operands."""
+    yield ".model m"
+    yield ".inputs " + " ".join([f"a{i}" for i in range(bits)] + [f"b{i}" for i in range(bits)] + ["c0"])
+    yield ".outputs s"
+    for i in range(bits):
+        yield f".latch a{i} u{i}"
+        yield f".latch b{i} v{i}"
+    yield ".latch c0 k0"
+    for i in range(bits - 1):
+        yield f".names u{i} v{i} g{i}"
+        yield "11 1"
+        yield f".names u{i} v{i} h{i}"
+        yield from ("10 1", "01 1")
+        yield f".names g{i} h{i} k{i} k{i + 1}"
+        yield from ("1-- 1", "-11 1")
+    last = bits - 1
+    yield f".names u{last} v{last} h{last}"
+    yield from ("10 1", "01 1")
+    yield f".names h{last} k{last} s"
+    yield from ("10 1", "01 1")
+    yield ".end"
+
+
+write("chain_400000", chain(400_000))
+write("doubling_17", doubling(17))
+write("readers_3999000", readers(1_000, 3_998))
+write("latches_400000", latches(400_000))
+for bits in (16, 32, 64, 128, 256):
+    write(f"majority_{bits}", adder_by_majority(bits))
+    write(f"sums_{bits}", adder_by_sums(bits))
+for doublings in (50_000, 100_000, 200_000):
+    write(f"chain_{doublings}", chain(doublings))
