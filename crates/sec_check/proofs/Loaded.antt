@@ -7,21 +7,19 @@ use Rattle.blif_read.specs.Reading.{first_fault, spelled}
 use Rattle.flat_net.specs.View.{NetView}
 use Rattle.flat_walk.specs.declared.error.FlatError.{FlatError}
 use Rattle.flat_walk.specs.declared.error.FlatError.TheVariants as fault
-use Rattle.flatten.specs.DesignFaults.{DesignFault, IsFlatOf}
-use Rattle.sec_check.specs.Loading.{Loads, IsComparable, HasDesignFault, FlattenFails}
+use Rattle.flatten.specs.DesignFaults.{DesignFault, IsSoundDesign, IsFlatOf}
+use Rattle.sec_check.specs.Loading.{Loads, SpellsCircuit, IsComparable, HasDesignFault, FlattenFails}
 
 -- the flat net of the design that the text spells
-pub text_loads : (text : List ℕ) (models : List BlifModel) (net : NetView) → length text ≤ 16777216 → first_fault text ≡ None → models ≡ spelled text → IsFlatOf models net → Loads text net
-text_loads text models net short accepted is flat = go (subst (λ (ms : List BlifModel). IsFlatOf ms net) is flat)
-  where
-    go : IsFlatOf (spelled text) net → Loads text net
-    go f = record {
-      short = short;
-      circuit = circuit_of_design (spelled text) net.clock;
-      origin = f.origin;
-      spells = record { accepted = accepted; is_clock = f.clock; is_circuit = refl };
-      flattened = f.flattened;
-    }
+pub text_loads : (text : List ℕ) (models : List BlifModel) (net : NetView) → length text ≤ 16777216 → first_fault text ≡ None → models ≡ spelled text → IsSoundDesign models → IsFlatOf models net → Loads text net
+text_loads text models net short faultless is sound flat = record {
+  accepted = record { short = short; faultless = faultless; sound = subst IsSoundDesign is sound };
+  flat = subst (λ (ms : List BlifModel). IsFlatOf ms net) is flat;
+}
+
+-- the circuit that the text spells, with the net's clock
+pub spelled_circuit : (text : List ℕ) (net : NetView) → Loads text net → SpellsCircuit text net.clock (circuit_of_design (spelled text) net.clock)
+spelled_circuit text net loads = record { accepted = loads.accepted.faultless; is_clock = loads.flat.clock; is_circuit = refl }
 
 -- a flat net can be compared
 pub flat_is_comparable : (models : List BlifModel) (net : NetView) → IsFlatOf models net → IsComparable net

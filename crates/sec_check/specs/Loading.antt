@@ -1,17 +1,15 @@
 -- What a text loads as, and why it is refused.
 use Rattle.std.specs.Prelude.{◌≡◌, ℕ, ◌+◌, ◌^◌, ◌<◌, ◌≤◌, List, map, length, Option, Some, None, Result, Ok, Err, IfSome}
 use Rattle.circuit_theory.specs.Circuit.{Circuit}
-use Rattle.circuit_theory.specs.Flattened.{IsFlattened}
-use Rattle.circuit_theory.specs.Places.{IsPlace}
 use Rattle.blif_read.specs.declared.error.ReadKind.{ReadKind}
 use Rattle.blif_read.specs.Design.{Place, circuit_of_design, IsClock}
 use Rattle.blif_read.specs.Reading.{first_fault, spelled}
 use Rattle.sec_base.specs.Table.{AreDistinct}
 use Rattle.flat_net.specs.declared.parts.Port.{Port}
-use Rattle.flat_net.specs.View.{NetView, circuit_of}
+use Rattle.flat_net.specs.View.{NetView}
 use Rattle.flat_walk.specs.declared.error.FlatError.{FlatError}
 use Rattle.flat_walk.specs.declared.error.FlatError.TheVariants as flat_error
-use Rattle.flatten.specs.DesignFaults.{DesignFault, IsClocked}
+use Rattle.flatten.specs.DesignFaults.{DesignFault, IsSoundDesign, IsFlatOf}
 use Rattle.sec_base.specs.declared.fetching.FetchError.TheVariants as fetch_error
 use Rattle.blif_read.specs.declared.error.ReadError.TheVariants as read_error
 use Rattle.sec_check.specs.declared.loading.LoadError.{LoadError}
@@ -28,13 +26,16 @@ pub record IsComparable (net : NetView) : Type 0 where
   pub distinct : AreDistinct (map (λ (p : Port). p.name) net.outputs)
   pub few : length net.inputs + length net.outputs + length net.latches ≤ 2 ^ 27
 
--- the text, of at most 16,777,216 bytes, spells a design whose runs are the net's
-pub record Loads (text : List ℕ) (net : NetView) : Type 0 where
+-- the text, of at most 16,777,216 bytes, has no faulty line and spells a design without a fault
+pub record IsAccepted (text : List ℕ) : Type 0 where
   pub short : length text ≤ 16777216
-  pub circuit : Circuit Place
-  pub origin : ℕ → Place
-  pub spells : SpellsCircuit text net.clock circuit
-  pub flattened : IsFlattened circuit (circuit_of net) (length net.drivers) (IsClocked circuit net.clock) (IsPlace circuit) origin
+  pub faultless : first_fault text ≡ None
+  pub sound : IsSoundDesign (spelled text)
+
+-- the text is accepted, and the net is its design's: its runs are the design's
+pub record Loads (text : List ℕ) (net : NetView) : Type 0 where
+  pub accepted : IsAccepted text
+  pub flat : IsFlatOf (spelled text) net
 
 -- the text is too long
 abbrev pub IsTooLong : List ℕ → Type 0

@@ -112,32 +112,76 @@ fn refusal(compared: Result<Outcome, CompareError>) -> (&'static str, usize) {
     match compared {
         Ok(_) => ("none", 0),
         Err(CompareError::Interface(name)) => ("interface", name.len()),
-        Err(CompareError::NotYet(Side::A)) => ("latch", 0),
-        Err(CompareError::NotYet(Side::B)) => ("latch", 1),
-        Err(CompareError::Wide(inputs)) => ("wide", inputs as usize),
+        Err(CompareError::Cyclic(Side::A, names)) => ("cycle of A", names.len()),
+        Err(CompareError::Cyclic(Side::B, names)) => ("cycle of B", names.len()),
+        Err(CompareError::TooLarge(Side::A)) => ("size of A", 0),
+        Err(CompareError::TooLarge(Side::B)) => ("size of B", 0),
         Err(CompareError::NoMemory) => ("memory", 0),
     }
 }
 
-const TWELVE: &str =
-    ".model m\n.inputs a b c d e f g h i j k l\n.outputs y\n.names l y\n1 1\n.end\n";
-
 const THIRTEEN: &str =
     ".model m\n.inputs a b c d e f g h i j k l m\n.outputs y\n.names m y\n1 1\n.end\n";
 
+const TWELVE: &str =
+    ".model m\n.inputs a b c d e f g h i j k l\n.outputs y\n.names l y\n1 1\n.end\n";
+
 const OTHER_OUTPUT: &str = ".model m\n.inputs a b\n.outputs sum\n.names a b sum\n11 1\n.end\n";
+
+const RING: &str =
+    ".model m\n.outputs y\n.latch q p\n.names p n\n0 1\n.latch n q\n.names q y\n1 1\n.end\n";
 
 #[test]
 fn refusals_have_their_causes(rt: HostRuntime) -> Result<(), Fail> {
     let alloc = rt.alloc();
     for (left, right, wanted) in [
-        (TWELVE, TWELVE, ("none", 0)),
-        (THIRTEEN, THIRTEEN, ("wide", 13)),
+        (THIRTEEN, THIRTEEN, ("none", 0)),
         (TWELVE, THIRTEEN, ("interface", 1)),
         (AND, OTHER_OUTPUT, ("interface", 1)),
         (OTHER_OUTPUT, AND, ("interface", 3)),
+        (RING, ONE, ("cycle of A", 2)),
+        (ONE, RING, ("cycle of B", 2)),
+        (RING, RING, ("cycle of A", 2)),
+        (RING, AND, ("interface", 1)),
     ] {
         assert_eq!(rt; refusal(compared(alloc, left, right)?), wanted);
+    }
+    Ok(())
+}
+
+/// A gate of a thousand inputs with so many rows that take any of them.
+fn wide_gate(alloc: Global, rows: u32) -> Result<String, Fail> {
+    let mut names = String::new(alloc);
+    let mut row = String::new(alloc);
+    for i in 0u32..1_000 {
+        names.push_str(format!(in alloc; " x{i}")?.as_str())?;
+        row.push_str("-")?;
+    }
+    row.push_str(" 1\n")?;
+    let mut text = String::from_str(alloc, ".model m\n.inputs")?;
+    text.push_str(names.as_str())?;
+    text.push_str("\n.outputs y\n.names")?;
+    text.push_str(names.as_str())?;
+    text.push_str(" y\n")?;
+    for _i in 0..rows {
+        text.push_str(row.as_str())?;
+    }
+    text.push_str(".end\n")?;
+    Ok(text)
+}
+
+#[test]
+fn unfoldings_are_bounded(rt: HostRuntime) -> Result<(), Fail> {
+    let alloc = rt.alloc();
+    // The gate weighs 1 + rows * 1001, and each input 1.
+    let within = wide_gate(alloc, 1_997)?;
+    let over = wide_gate(alloc, 1_998)?;
+    for (left, right, wanted) in [
+        (within.as_str(), within.as_str(), "none"),
+        (over.as_str(), within.as_str(), "size of A"),
+        (within.as_str(), over.as_str(), "size of B"),
+    ] {
+        assert_eq!(rt; refusal(compared(alloc, left, right)?).0, wanted);
     }
     Ok(())
 }

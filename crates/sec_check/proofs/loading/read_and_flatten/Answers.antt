@@ -4,7 +4,7 @@ use Rattle.sec_check.proofs.loading.read_and_flatten.Goals as goal
 pub returns-in-Ok-flatten-clause-ok : goal.returns-in-Ok-flatten-clause-ok
 returns-in-Ok-flatten-clause-ok c =
     let read = rw c.in-Ok.is at c.read_design.ensures in
-    text_loads c.args.text.now c.in-Ok.design.models c.in-Ok-flatten.net c.requires read.0 read.1 c.in-Ok-flatten.ensures.ok
+    text_loads c.args.text.now c.in-Ok.design.models c.in-Ok-flatten.net c.requires read.0 read.1 c.in-Ok-flatten.ensures.sound c.in-Ok-flatten.ensures.ok
 
 pub returns-in-Ok-flatten-clause-comparable : goal.returns-in-Ok-flatten-clause-comparable
 returns-in-Ok-flatten-clause-comparable c = flat_is_comparable c.in-Ok.design.models c.in-Ok-flatten.net c.in-Ok-flatten.ensures.ok
