@@ -4,11 +4,11 @@ use Rattle.std.specs.Prelude.{IfSome, IsSomeAnd}
 use Rattle.std.proofs.lemmas.Option.{none-some}
 use Rattle.circuit_theory.specs.declared.Side.{Side}
 use Rattle.circuit_theory.specs.declared.Side.TheVariants.{A, B}
-use Rattle.sec_base.specs.Outside.{Rose}
 use Rattle.flat_net.specs.View.{NetView, ports_of}
 use Rattle.pair_decide.specs.declared.query.Proof.{Proof}
 use Rattle.sec_words.specs.declared.task.Task.{Task}
-use Rattle.sec_check.specs.Loading.{Loads, IsTooLong, HasFault, HasDesignFault}
+use Rattle.sec_words.specs.declared.task.Task.TheVariants as task
+use Rattle.sec_check.specs.Loading.{IsAccepted, IsTooLong, HasFault, HasDesignFault}
 use Rattle.sec_check.proofs.ToldCycles.{told_is_cyclic}
 use Rattle.sec_cli.specs.declared.finding.Refusal.{Refusal}
 use Rattle.sec_cli.specs.declared.finding.Refusal.TheVariants as refusal
@@ -19,7 +19,7 @@ use Rattle.sec_outcome.specs.declared.outcome.Verdict.TheVariants as verdict
 use Rattle.sec_cli.specs.declared.status.StatusName.{StatusName}
 use Rattle.sec_cli.specs.declared.status.StatusName.TheVariants as status
 use Rattle.sec_cli.specs.Job.{Check, check_of, OfCheck}
-use Rattle.sec_cli.specs.Answer.{Held, OfTexts, OfSide, OfNets, IsRefusal, IsFoundOf, IsFoundOfBuilt, IsFinding, ReadFailed, IsAccepted, AreComparable, CanAnswer, IsAnswer, EndsAs, verdict_status, status_of}
+use Rattle.sec_cli.specs.Answer.{Held, OfTexts, OfSide, OfNets, IsRefusal, IsFoundOf, WhereBuilt, IsFinding, AreComparable, CanAnswer, IsAnswer, EndsAs, verdict_status, status_of}
 
 -- the two texts that are told
 record AreTold (held : Held) (check : Check) : Type 0 where
@@ -29,7 +29,7 @@ record AreTold (held : Held) (check : Check) : Type 0 where
   pub right_is : held check.right ≡ Some right
   pub comparable : AreComparable left right
 
-some_and : {X : Type 0} (o : Option X) (P : X → Type 0) → IsSomeAnd o P → (x : X) × (o ≡ Some x) × P x
+pub some_and : {X : Type 0} (o : Option X) (P : X → Type 0) → IsSomeAnd o P → (x : X) × (o ≡ Some x) × P x
 some_and None P h = absurd h
 some_and (Some x) P h = (x, refl, h)
 
@@ -39,7 +39,7 @@ are_told held check h =
     let right = some_and (held check.right) (λ y. AreComparable left.0 y) left.2 in
     record { left = left.0; right = right.0; left_is = left.1; right_is = right.1; comparable = right.2 }
 
-if_told : {X : Type 0} (o : Option X) (P : X → Type 0) (x : X) → o ≡ Some x → IfSome o P → P x
+pub if_told : {X : Type 0} (o : Option X) (P : X → Type 0) (x : X) → o ≡ Some x → IfSome o P → P x
 if_told {X} o P x e h = let Q : Option X → Type 0 = λ p. IfSome p P in subst Q e h
 
 module _ (held : Held) (check : Check) (told : AreTold held check) where
@@ -59,13 +59,17 @@ module _ (held : Held) (check : Check) (told : AreTold held check) where
   no_refusal refusal.NotBuilt h = h
   no_refusal (refusal.TooLong A) h = too_long told.left told.comparable.left (of_left IsTooLong h)
   no_refusal (refusal.TooLong B) h = too_long told.right told.comparable.right (of_texts _ h).2
-  no_refusal (refusal.Text A line kind) h = no_fault _ (sym told.comparable.left.accepted ∙ (of_left (λ x. HasFault x line kind) h).1)
-  no_refusal (refusal.Text B line kind) h = no_fault _ (sym told.comparable.right.accepted ∙ (of_texts _ h).2.1)
+  no_refusal (refusal.Text A line kind) h = no_fault _ (sym told.comparable.left.faultless ∙ (of_left (λ x. HasFault x line kind) h).1)
+  no_refusal (refusal.Text B line kind) h = no_fault _ (sym told.comparable.right.faultless ∙ (of_texts _ h).2.1)
   no_refusal (refusal.Design A fault) h = told.comparable.left.sound fault (of_left (λ x. HasDesignFault x fault) h).2
   no_refusal (refusal.Design B fault) h = told.comparable.right.sound fault (of_texts _ h).2.2
   no_refusal (refusal.Interface name) h = let n = of_texts _ h in no_fault _ (sym (told.comparable.match n.0 n.1 n.2 n.3) ∙ n.4)
   no_refusal (refusal.TooLarge A) h = let n = of_texts _ h in told.comparable.left_light n.0 n.2 n.4.3
   no_refusal (refusal.TooLarge B) h = let n = of_texts _ h in told.comparable.right_light n.1 n.3 n.4.4
+  no_refusal refusal.StimulusTooLong h = h
+  no_refusal (refusal.BadHeader line) h = h
+  no_refusal (refusal.BadRow line) h = h
+  no_refusal (refusal.Misfit m) h = h
 
   no_cycle : (side : Side) (names : List (List ℕ)) → IsFoundOf held check (finding.Cyclic side names) → ⊥
   no_cycle A names h = let n = of_texts _ h in told_is_cyclic n.0 names n.4.1 (told.comparable.left_acyclic n.0 n.2)
@@ -76,6 +80,7 @@ module _ (held : Held) (check : Check) (told : AreTold held check) where
   has_verdict finding.Words h = h
   has_verdict (finding.Refused r) h = no_refusal r h
   has_verdict (finding.Cyclic side names) h = no_cycle side names h
+  has_verdict (finding.Done report) h = absurd h
   has_verdict (finding.Checked o s) h = go o.verdict
     where
       go : (v : Verdict) → IsAnswer (verdict_status v)
@@ -84,33 +89,28 @@ module _ (held : Held) (check : Check) (told : AreTold held check) where
       go (verdict.Limit at) = tt
 
 -- the finding of a job that can be answered
-job_verdict : (held : Held) (fb fn : List ℕ → ℕ) (job : Option Task) (f : Finding) → OfCheck job (CanAnswer held fb fn) → IsFinding held job f → IsAnswer (status_of f)
-job_verdict held fb fn None f can found = absurd can
-job_verdict held fb fn (Some job) f can found = go (check_of job) can found
+job_verdict : (held : Held) (job : Option Task) (f : Finding) → OfCheck job (CanAnswer held) → IsFinding held job f → IsAnswer (status_of f)
+job_verdict held None f can found = absurd can
+job_verdict held (Some (task.Check a b settings)) f can found = go (check_of (task.Check a b settings)) can found
   where
-    go : (o : Option Check) → IsSomeAnd o (CanAnswer held fb fn) → IsFoundOfBuilt held o f → IsAnswer (status_of f)
+    go : (o : Option Check) → IsSomeAnd o (CanAnswer held) → WhereBuilt f o (λ check. IsFoundOf held check f) → IsAnswer (status_of f)
     go None can h = absurd can
-    go (Some check) can h = has_verdict held check (are_told held check can.texts) f h
-
--- no read failed
-no_read_fault : (held : Held) (fb fn : List ℕ → ℕ) (job : Option Task) → OfCheck job (CanAnswer held fb fn) → OfCheck job (ReadFailed held fb fn) → ⊥
-no_read_fault held fb fn None can failed = can
-no_read_fault held fb fn (Some job) can failed = go (check_of job) can failed
-  where
-    go : (o : Option Check) → IsSomeAnd o (CanAnswer held fb fn) → IsSomeAnd o (ReadFailed held fb fn) → ⊥
-    go None can h = can
-    go (Some check) can (inl h) = can.left_read h
-    go (Some check) can (inr h) = can.right_read h.0
+    go (Some check) can h = has_verdict held check (are_told held check can) f h
+job_verdict held (Some (task.Graph a mode)) f can found = absurd can
+job_verdict held (Some (task.Sim a s mode power)) f can found = absurd can
+job_verdict held (Some (task.Replay a b s mode)) f can found = absurd can
+job_verdict held (Some (task.Gen seed regroup conflicts)) f can found = absurd can
 
 -- so the run ends with a verdict, or at want of memory
-pub ends_with_answer : (held : Held) (before now : Option (List ℕ)) (fb fn : List ℕ → ℕ) (job : Option Task) (proofs : List Proof) (name : StatusName) → EndsAs before now held job proofs name →
-    (name ≡ status.ReadFault → OfCheck job (ReadFailed held fb fn)) → (name ≡ status.WriteFault → ⊥) → OfCheck job (CanAnswer held fb fn) → IsAnswer name
-ends_with_answer held before now fb fn job proofs status.Equal ends read write can = tt
-ends_with_answer held before now fb fn job proofs status.Different ends read write can = tt
-ends_with_answer held before now fb fn job proofs status.Limit ends read write can = tt
-ends_with_answer held before now fb fn job proofs status.NoMemory ends read write can = tt
-ends_with_answer held before now fb fn job proofs status.ReadFault ends read write can = absurd (no_read_fault held fb fn job can (read refl))
-ends_with_answer held before now fb fn job proofs status.WriteFault ends read write can = absurd (write refl)
-ends_with_answer held before now fb fn job proofs status.Refused ends read write can = subst IsAnswer ends.3 (job_verdict held fb fn job ends.0 can ends.1)
-ends_with_answer held before now fb fn job proofs status.Words ends read write can = subst IsAnswer ends.3 (job_verdict held fb fn job ends.0 can ends.1)
-ends_with_answer held before now fb fn job proofs status.Cyclic ends read write can = subst IsAnswer ends.3 (job_verdict held fb fn job ends.0 can ends.1)
+pub ends_with_answer : (held : Held) (before now : Option (List ℕ)) (job : Option Task) (proofs : List Proof) (name : StatusName) → EndsAs before now held job proofs name →
+    (name ≡ status.ReadFault → ⊥) → (name ≡ status.WriteFault → ⊥) → OfCheck job (CanAnswer held) → IsAnswer name
+ends_with_answer held before now job proofs status.Equal ends read write can = tt
+ends_with_answer held before now job proofs status.Different ends read write can = tt
+ends_with_answer held before now job proofs status.Limit ends read write can = tt
+ends_with_answer held before now job proofs status.NoMemory ends read write can = tt
+ends_with_answer held before now job proofs status.ReadFault ends read write can = absurd (read refl)
+ends_with_answer held before now job proofs status.WriteFault ends read write can = absurd (write refl)
+ends_with_answer held before now job proofs status.Refused ends read write can = subst IsAnswer ends.3 (job_verdict held job ends.0 can ends.1)
+ends_with_answer held before now job proofs status.Words ends read write can = subst IsAnswer ends.3 (job_verdict held job ends.0 can ends.1)
+ends_with_answer held before now job proofs status.Cyclic ends read write can = subst IsAnswer ends.3 (job_verdict held job ends.0 can ends.1)
+ends_with_answer held before now job proofs status.Done ends read write can = subst IsAnswer ends.3 (job_verdict held job ends.0 can ends.1)
