@@ -18,7 +18,7 @@ use Rattle.sec_cli.specs.declared.finding.Finding.{Finding}
 use Rattle.sec_cli.specs.declared.finding.Finding.TheVariants as finding
 use Rattle.sec_cli.specs.declared.status.StatusName.{StatusName}
 use Rattle.sec_cli.specs.declared.status.StatusName.TheVariants as status
-use Rattle.sec_cli.specs.Job.{Simulation, graph_of, sim_of, OfGraph, OfSim}
+use Rattle.sec_cli.specs.Job.{Sim, graph_of, sim_of, OfGraph, OfSim}
 use Rattle.sec_cli.specs.Reports.{IsStimulus, HasBadHeader, HasBadRow, IsCircuitRefusal, IsGraphFound, IsSimRefusal, IsSimFound, CanBeRun}
 use Rattle.sec_cli.specs.Answer.{Held, WhereBuilt, IsFinding, CanSimulate, IsDone, EndsAs, status_of}
 use Rattle.sec_cli.proofs.Complete.{some_and, if_told}
@@ -101,7 +101,7 @@ sim_finding : (held : Held) (job : Option Task) → OfSim job (CanSimulate held)
 sim_finding held None can f found = absurd can
 sim_finding held (Some (task.Sim a s mode power)) can f found = go (sim_of (task.Sim a s mode power)) can found
   where
-    go : (o : Option Simulation) → IsSomeAnd o (CanSimulate held) → WhereBuilt f o (λ sim. IsSimFound (held sim.circuit) (held sim.stimulus) sim.power f) → IsDone (status_of f)
+    go : (o : Option Sim) → IsSomeAnd o (CanSimulate held) → WhereBuilt f o (λ sim. IsSimFound (held sim.circuit) (held sim.stimulus) sim.power f) → IsDone (status_of f)
     go None can h = absurd can
     go (Some sim) can h =
         let x = some_and (held sim.circuit) (λ t. IsSomeAnd (held sim.stimulus) (λ y. CanBeRun t y sim.power)) can in

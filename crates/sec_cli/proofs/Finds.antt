@@ -24,7 +24,7 @@ use Rattle.sec_cli.specs.declared.finding.Stop.TheVariants as stop
 use Rattle.std.proofs.lemmas.Option.{none-some}
 use Rattle.sec_cli.specs.declared.finding.Refusal.TheVariants as refusal
 use Rattle.sec_cli.specs.declared.finding.Finding.TheVariants as finding
-use Rattle.sec_cli.specs.Job.{Check, Simulation, check_of, graph_of, sim_of}
+use Rattle.sec_cli.specs.Job.{Check, Sim, check_of, graph_of, sim_of}
 use Rattle.sec_cli.specs.Reports.{IsGraphFound, IsSimFound}
 use Rattle.sec_cli.specs.Answer.{Held, ReadFailed, SimReadFailed, IsFoundOf, WhereBuilt}
 use Rattle.sec_cli.specs.Ends.{load_end, compare_end, EndsBy, FoundOf, Found}
@@ -129,10 +129,10 @@ found_of_graph held before now (task.Replay a b s mode) path r e h = absurd (non
 found_of_graph held before now (task.Gen seed regroup conflicts) path r e h = absurd (none-some path e)
 
 -- what is found of a simulation is found of the job that asks for it
-pub found_of_sim : (held : Held) (before now : List ℕ → ℕ) (job : Task) (sim : Simulation) (r : Result Finding Stop) → sim_of job ≡ Some sim →
+pub found_of_sim : (held : Held) (before now : List ℕ → ℕ) (job : Task) (sim : Sim) (r : Result Finding Stop) → sim_of job ≡ Some sim →
     EndsBy (IsSimFound (held sim.circuit) (held sim.stimulus) sim.power) (SimReadFailed held before now sim) r → Found held before now (Some job) r
-found_of_sim held before now (task.Sim a s mode power) sim (Ok f) e h = subst (λ (o : Option Simulation). WhereBuilt f o (λ m. IsSimFound (held m.circuit) (held m.stimulus) m.power f)) (sym e) h
-found_of_sim held before now (task.Sim a s mode power) sim (Err stop.ReadFault) e h = inr (inr (subst (λ (o : Option Simulation). IsSomeAnd o (SimReadFailed held before now)) (sym e) h))
+found_of_sim held before now (task.Sim a s mode power) sim (Ok f) e h = subst (λ (o : Option Sim). WhereBuilt f o (λ m. IsSimFound (held m.circuit) (held m.stimulus) m.power f)) (sym e) h
+found_of_sim held before now (task.Sim a s mode power) sim (Err stop.ReadFault) e h = inr (inr (subst (λ (o : Option Sim). IsSomeAnd o (SimReadFailed held before now)) (sym e) h))
 found_of_sim held before now (task.Sim a s mode power) sim (Err stop.NoMemory) e h = tt
 found_of_sim held before now (task.Check a b settings) sim r e h = absurd (none-some sim e)
 found_of_sim held before now (task.Graph a mode) sim r e h = absurd (none-some sim e)
@@ -143,7 +143,7 @@ found_of_sim held before now (task.Gen seed regroup conflicts) sim r e h = absur
 pub found_unbuilt : (held : Held) (before now : List ℕ → ℕ) (job : Task) → check_of job ≡ None → graph_of job ≡ None → sim_of job ≡ None → Found held before now (Some job) (Ok (finding.Refused refusal.NotBuilt))
 found_unbuilt held before now (task.Check a b settings) check graph sim = subst (λ (o : Option Check). WhereBuilt (finding.Refused refusal.NotBuilt) o (λ c. IsFoundOf held c (finding.Refused refusal.NotBuilt))) (sym check) refl
 found_unbuilt held before now (task.Graph a mode) check graph sim = subst (λ (o : Option (List ℕ)). WhereBuilt (finding.Refused refusal.NotBuilt) o (λ p. IsGraphFound (held p) (finding.Refused refusal.NotBuilt))) (sym graph) refl
-found_unbuilt held before now (task.Sim a s mode power) check graph sim = subst (λ (o : Option Simulation). WhereBuilt (finding.Refused refusal.NotBuilt) o (λ m. IsSimFound (held m.circuit) (held m.stimulus) m.power (finding.Refused refusal.NotBuilt))) (sym sim) refl
+found_unbuilt held before now (task.Sim a s mode power) check graph sim = subst (λ (o : Option Sim). WhereBuilt (finding.Refused refusal.NotBuilt) o (λ m. IsSimFound (held m.circuit) (held m.stimulus) m.power (finding.Refused refusal.NotBuilt))) (sym sim) refl
 found_unbuilt held before now (task.Replay a b s mode) check graph sim = refl
 found_unbuilt held before now (task.Gen seed regroup conflicts) check graph sim = refl
 

@@ -30,7 +30,7 @@ use Rattle.sec_cli.specs.declared.finding.Finding.{Finding}
 use Rattle.sec_cli.specs.declared.finding.Finding.TheVariants as finding
 use Rattle.sec_cli.specs.declared.status.StatusName.{StatusName}
 use Rattle.sec_cli.specs.declared.status.StatusName.TheVariants as status
-use Rattle.sec_cli.specs.Job.{Check, Simulation, check_of, graph_of, sim_of, OfCheck}
+use Rattle.sec_cli.specs.Job.{Check, Sim, check_of, graph_of, sim_of, OfCheck}
 use Rattle.sec_cli.specs.Lines.{finding_text}
 use Rattle.sec_cli.specs.Reports.{IsGraphFound, IsSimFound, TakesGraph, TakesRun}
 use Rattle.sec_cli.specs.Answer.{Held, OfTexts, OfNets, IsFinding, IsFoundOf, WhereBuilt, TakesReport, EndsAs, TextsAgree, TextsDiffer, TextsUndecided, verdict_status, status_of, proofs_of}
@@ -80,7 +80,7 @@ of_check P held (Some (task.Graph a mode)) f found words refused done each = abs
     go (Some path) h = neither done refused (graph_status (held path) f h)
 of_check P held (Some (task.Sim a s mode power)) f found words refused done each = absurd (go (sim_of (task.Sim a s mode power)) found)
   where
-    go : (o : Option Simulation) → WhereBuilt f o (λ sim. IsSimFound (held sim.circuit) (held sim.stimulus) sim.power f) → ⊥
+    go : (o : Option Sim) → WhereBuilt f o (λ sim. IsSimFound (held sim.circuit) (held sim.stimulus) sim.power f) → ⊥
     go None h = refused (ap status_of h)
     go (Some sim) h = neither done refused (sim_status (held sim.circuit) (held sim.stimulus) sim.power f h)
 of_check P held (Some (task.Replay a b s mode)) f found words refused done each = absurd (refused (ap status_of found))
@@ -277,7 +277,7 @@ done_found held (Some (task.Graph a mode)) before now f found e taken = inl (go 
     go (Some path) h = graph_taken (held path) before now f h e taken
 done_found held (Some (task.Sim a s mode power)) before now f found e taken = inr (go (sim_of (task.Sim a s mode power)) found)
   where
-    go : (o : Option Simulation) → WhereBuilt f o (λ sim. IsSimFound (held sim.circuit) (held sim.stimulus) sim.power f) → IsSomeAnd o (λ sim. TakesRun (held sim.circuit) (held sim.stimulus) sim.power before now)
+    go : (o : Option Sim) → WhereBuilt f o (λ sim. IsSimFound (held sim.circuit) (held sim.stimulus) sim.power f) → IsSomeAnd o (λ sim. TakesRun (held sim.circuit) (held sim.stimulus) sim.power before now)
     go None h = absurd (other f status.Done status.Refused e (λ q. cc) (ap status_of h))
     go (Some sim) h = run_taken (held sim.circuit) (held sim.stimulus) sim.power before now f h e taken
 done_found held (Some (task.Replay a b s mode)) before now f found e taken = absurd (other f status.Done status.Refused e (λ q. cc) (ap status_of found))

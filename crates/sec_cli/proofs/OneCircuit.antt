@@ -1,5 +1,6 @@
 -- What the parts of the work on one circuit find.
-use Rattle.std.proofs.Common.{◌≡◌, ℕ, ◌≤◌, ◌<◌, ◌∷◌, ◌++◌, length, Bool, List, map, refl, sym, ap, subst, ◌∙◌, arith, length-map, Option, Some, None, Result, Ok, Err}
+use Rattle.std.proofs.Common.{◌≡◌, ℕ, ◌≤◌, ◌<◌, ◌∷◌, ◌++◌, length, Bool, List, map, refl, sym, ap, subst, ◌∙◌, arith, Option, Some, None, Result, Ok, Err}
+use Rattle.std.proofs.lemmas.List.{length-map}
 use Rattle.std.specs.Prelude.{IfSome, IfOk, OnOk, IsErrOf}
 use Rattle.circuit_theory.specs.declared.Side.TheVariants.{A}
 use Rattle.sec_base.specs.declared.fetching.FetchError.TheVariants as fetch_error
@@ -101,4 +102,4 @@ text_ends text stim_error.NoMemory short header row = tt
 pub few_rows : (text : List ℕ) (names : List (List ℕ)) (rows : List (List Bool)) → IsForm text names rows → length rows ≤ length text
 few_rows text names rows form =
     let few = few_lines text _ (map row_text rows) (form_lines names rows form.names_are text form.spelled) in
-    subst (λ (n : ℕ). n ≤ length text) (length-map row_text rows) few
+    subst (λ (n : ℕ). n ≤ length text) (length-map rows row_text) few

@@ -34,7 +34,7 @@ use Rattle.sec_cli.specs.declared.finding.Finding.TheVariants as finding
 use Rattle.sec_cli.specs.declared.status.Status.{Status}
 use Rattle.sec_cli.specs.declared.status.StatusName.{StatusName}
 use Rattle.sec_cli.specs.declared.status.StatusName.TheVariants as status
-use Rattle.sec_cli.specs.Job.{Check, Simulation, check_of, graph_of, sim_of, OfCheck, OfGraph, OfSim}
+use Rattle.sec_cli.specs.Job.{Check, Sim, check_of, graph_of, sim_of, OfCheck, OfGraph, OfSim}
 use Rattle.sec_cli.specs.Lines.{finding_text}
 use Rattle.sec_cli.specs.Reports.{IsLoaded, IsGraphFound, IsSimFound, TakesGraph, TakesRun, CanBeRun}
 
@@ -123,7 +123,7 @@ ReadFailed held before now check =
     ⊎ (Rose (before check.right) (now check.right) × IfSome (held check.left) (λ x. (net : NetView) × Loads x net))
 
 -- a read of the circuit's path failed, or, where it loads, a read of the stimulus's
-abbrev pub SimReadFailed : Held → (List ℕ → ℕ) → (List ℕ → ℕ) → Simulation → Type 0
+abbrev pub SimReadFailed : Held → (List ℕ → ℕ) → (List ℕ → ℕ) → Sim → Type 0
 SimReadFailed held before now sim =
     Rose (before sim.circuit) (now sim.circuit) ⊎ (Rose (before sim.stimulus) (now sim.stimulus) × IsLoaded (held sim.circuit))
 
@@ -208,7 +208,7 @@ TakesReport before now held job =
     OfGraph job (λ path. TakesGraph (held path) before now) ⊎ OfSim job (λ sim. TakesRun (held sim.circuit) (held sim.stimulus) sim.power before now)
 
 -- both texts are told, and the circuit can be run over the stimulus from the power word
-abbrev pub CanSimulate : Held → Simulation → Type 0
+abbrev pub CanSimulate : Held → Sim → Type 0
 CanSimulate held sim = IsSomeAnd (held sim.circuit) (λ x. IsSomeAnd (held sim.stimulus) (λ y. CanBeRun x y sim.power))
 
 -- the report is done, or want of memory

@@ -37,13 +37,13 @@ graph_of (task.Replay a b s mode) = None
 graph_of (task.Gen seed regroup conflicts) = None
 
 -- the paths of a circuit and of a stimulus for it, and the power word
-pub record Simulation : Type 0 where
+pub record Sim : Type 0 where
   pub circuit : List ℕ
   pub stimulus : List ℕ
   pub power : Option (List ℕ)
 
 -- what is simulated, in the plain form
-abbrev pub sim_of : Task → Option Simulation
+abbrev pub sim_of : Task → Option Sim
 sim_of (task.Check a b settings) = None
 sim_of (task.Graph a mode) = None
 sim_of (task.Sim a s mode power) = if is_plain mode then Some (record { circuit = a; stimulus = s; power = power }) else None
@@ -67,5 +67,5 @@ abbrev pub OfGraph : Option Task → (List ℕ → Type 0) → Type 0
 OfGraph job P = IsSomeAnd (option_and_then graph_of job) P
 
 -- what is said of the simulation that the job asks for
-abbrev pub OfSim : Option Task → (Simulation → Type 0) → Type 0
+abbrev pub OfSim : Option Task → (Sim → Type 0) → Type 0
 OfSim job P = IsSomeAnd (option_and_then sim_of job) P

@@ -2,7 +2,7 @@
 
 ghost use Rattle.std.specs.Prelude.{◌≡◌, ◌<◌, ◌≤◌, ◌^◌, ℕ, List, length, option_map, IfOk, IfErr, IfSome, IfNone, IsErrOf, None, Some, Option};
 ghost use Rattle.sec_base.specs.Outside.{Rose, SameHeld, NoneFell};
-ghost use Rattle.sec_cli.specs.Job.{Simulation, graph_of, sim_of};
+ghost use Rattle.sec_cli.specs.Job.{Sim, graph_of, sim_of};
 ghost use Rattle.sec_cli.specs.Reports.{IsStimulus, StimulusFails, IsGraphFound, IsSimFound};
 ghost use Rattle.sec_cli.specs.Answer.{SimReadFailed};
 ghost use Rattle.sec_cli.specs.Ends.{EndsBy, stimulus_end, sim_end};
@@ -161,7 +161,7 @@ pub fn simulate<S: Shelf>(
     simulation: &Simulation<'_>,
     shelf: &mut S,
 ) -> Result<Finding, Stop>
-    ensures found { let sim : Simulation = record { circuit = simulation.now.circuit.now; stimulus = simulation.now.stimulus.now; power = option_map (λ digits. digits.now) simulation.now.power } in
+    ensures found { let sim : Sim = record { circuit = simulation.now.circuit.now; stimulus = simulation.now.stimulus.now; power = option_map (λ digits. digits.now) simulation.now.power } in
         EndsBy (IsSimFound (S.held shelf.old sim.circuit) (S.held shelf.old sim.stimulus) sim.power) (SimReadFailed (S.held shelf.old) (S.faults shelf.old) (S.faults shelf.new) sim) result }
     ensures keeps { SameHeld (S.held shelf.old) (S.held shelf.new) }
     ensures served { S.serves shelf.old simulation.now.circuit.now → S.serves shelf.old simulation.now.stimulus.now → IsErrOf result Stop.ReadFault → ⊥ }

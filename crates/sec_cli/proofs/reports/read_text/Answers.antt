@@ -7,5 +7,5 @@ returns-in-Ok-clause-few c =
     let few = few_rows c.args.text.now c.in-Ok.stimulus.names c.in-Ok.stimulus.rows c.in-Ok.ensures.ok in
     omega (arith, few, c.requires)
 
-pub returns-clause-err : goal.returns-clause-err
-returns-clause-err c = text_ends c.args.text.now c.in-Err.error c.requires (λ n e. c.in-Err.ensures.header n (ap Err e)) (λ n e. c.in-Err.ensures.row n (ap Err e))
+pub returns-in-Err-clause-err : goal.returns-in-Err-clause-err
+returns-in-Err-clause-err c = text_ends c.args.text.now c.in-Err.error c.requires (λ n e. c.in-Err.ensures.header n (ap Err e)) (λ n e. c.in-Err.ensures.row n (ap Err e))
