@@ -7,6 +7,7 @@ use Rattle.circuit_theory.specs.declared.Side.TheVariants.{A, B}
 use Rattle.flat_net.specs.View.{NetView, ports_of}
 use Rattle.pair_decide.specs.declared.query.Proof.{Proof}
 use Rattle.sec_words.specs.declared.task.Task.{Task}
+use Rattle.sec_words.specs.declared.task.Task.TheVariants as task
 use Rattle.sec_check.specs.Loading.{IsAccepted, IsTooLong, HasFault, HasDesignFault}
 use Rattle.sec_check.proofs.ToldCycles.{told_is_cyclic}
 use Rattle.sec_cli.specs.declared.finding.Refusal.{Refusal}
@@ -18,7 +19,7 @@ use Rattle.sec_outcome.specs.declared.outcome.Verdict.TheVariants as verdict
 use Rattle.sec_cli.specs.declared.status.StatusName.{StatusName}
 use Rattle.sec_cli.specs.declared.status.StatusName.TheVariants as status
 use Rattle.sec_cli.specs.Job.{Check, check_of, OfCheck}
-use Rattle.sec_cli.specs.Answer.{Held, OfTexts, OfSide, OfNets, IsRefusal, IsFoundOf, IsFoundOfBuilt, IsFinding, AreComparable, CanAnswer, IsAnswer, EndsAs, verdict_status, status_of}
+use Rattle.sec_cli.specs.Answer.{Held, OfTexts, OfSide, OfNets, IsRefusal, IsFoundOf, WhereBuilt, IsFinding, AreComparable, CanAnswer, IsAnswer, EndsAs, verdict_status, status_of}
 
 -- the two texts that are told
 record AreTold (held : Held) (check : Check) : Type 0 where
@@ -28,7 +29,7 @@ record AreTold (held : Held) (check : Check) : Type 0 where
   pub right_is : held check.right ≡ Some right
   pub comparable : AreComparable left right
 
-some_and : {X : Type 0} (o : Option X) (P : X → Type 0) → IsSomeAnd o P → (x : X) × (o ≡ Some x) × P x
+pub some_and : {X : Type 0} (o : Option X) (P : X → Type 0) → IsSomeAnd o P → (x : X) × (o ≡ Some x) × P x
 some_and None P h = absurd h
 some_and (Some x) P h = (x, refl, h)
 
@@ -38,7 +39,7 @@ are_told held check h =
     let right = some_and (held check.right) (λ y. AreComparable left.0 y) left.2 in
     record { left = left.0; right = right.0; left_is = left.1; right_is = right.1; comparable = right.2 }
 
-if_told : {X : Type 0} (o : Option X) (P : X → Type 0) (x : X) → o ≡ Some x → IfSome o P → P x
+pub if_told : {X : Type 0} (o : Option X) (P : X → Type 0) (x : X) → o ≡ Some x → IfSome o P → P x
 if_told {X} o P x e h = let Q : Option X → Type 0 = λ p. IfSome p P in subst Q e h
 
 module _ (held : Held) (check : Check) (told : AreTold held check) where
@@ -65,6 +66,10 @@ module _ (held : Held) (check : Check) (told : AreTold held check) where
   no_refusal (refusal.Interface name) h = let n = of_texts _ h in no_fault _ (sym (told.comparable.match n.0 n.1 n.2 n.3) ∙ n.4)
   no_refusal (refusal.TooLarge A) h = let n = of_texts _ h in told.comparable.left_light n.0 n.2 n.4.3
   no_refusal (refusal.TooLarge B) h = let n = of_texts _ h in told.comparable.right_light n.1 n.3 n.4.4
+  no_refusal refusal.StimulusTooLong h = h
+  no_refusal (refusal.BadHeader line) h = h
+  no_refusal (refusal.BadRow line) h = h
+  no_refusal (refusal.Misfit m) h = h
 
   no_cycle : (side : Side) (names : List (List ℕ)) → IsFoundOf held check (finding.Cyclic side names) → ⊥
   no_cycle A names h = let n = of_texts _ h in told_is_cyclic n.0 names n.4.1 (told.comparable.left_acyclic n.0 n.2)
@@ -75,6 +80,7 @@ module _ (held : Held) (check : Check) (told : AreTold held check) where
   has_verdict finding.Words h = h
   has_verdict (finding.Refused r) h = no_refusal r h
   has_verdict (finding.Cyclic side names) h = no_cycle side names h
+  has_verdict (finding.Done report) h = absurd h
   has_verdict (finding.Checked o s) h = go o.verdict
     where
       go : (v : Verdict) → IsAnswer (verdict_status v)
@@ -85,11 +91,15 @@ module _ (held : Held) (check : Check) (told : AreTold held check) where
 -- the finding of a job that can be answered
 job_verdict : (held : Held) (job : Option Task) (f : Finding) → OfCheck job (CanAnswer held) → IsFinding held job f → IsAnswer (status_of f)
 job_verdict held None f can found = absurd can
-job_verdict held (Some job) f can found = go (check_of job) can found
+job_verdict held (Some (task.Check a b settings)) f can found = go (check_of (task.Check a b settings)) can found
   where
-    go : (o : Option Check) → IsSomeAnd o (CanAnswer held) → IsFoundOfBuilt held o f → IsAnswer (status_of f)
+    go : (o : Option Check) → IsSomeAnd o (CanAnswer held) → WhereBuilt f o (λ check. IsFoundOf held check f) → IsAnswer (status_of f)
     go None can h = absurd can
     go (Some check) can h = has_verdict held check (are_told held check can) f h
+job_verdict held (Some (task.Graph a mode)) f can found = absurd can
+job_verdict held (Some (task.Sim a s mode power)) f can found = absurd can
+job_verdict held (Some (task.Replay a b s mode)) f can found = absurd can
+job_verdict held (Some (task.Gen seed regroup conflicts)) f can found = absurd can
 
 -- so the run ends with a verdict, or at want of memory
 pub ends_with_answer : (held : Held) (before now : Option (List ℕ)) (job : Option Task) (proofs : List Proof) (name : StatusName) → EndsAs before now held job proofs name →
@@ -103,3 +113,4 @@ ends_with_answer held before now job proofs status.WriteFault ends read write ca
 ends_with_answer held before now job proofs status.Refused ends read write can = subst IsAnswer ends.3 (job_verdict held job ends.0 can ends.1)
 ends_with_answer held before now job proofs status.Words ends read write can = subst IsAnswer ends.3 (job_verdict held job ends.0 can ends.1)
 ends_with_answer held before now job proofs status.Cyclic ends read write can = subst IsAnswer ends.3 (job_verdict held job ends.0 can ends.1)
+ends_with_answer held before now job proofs status.Done ends read write can = subst IsAnswer ends.3 (job_verdict held job ends.0 can ends.1)

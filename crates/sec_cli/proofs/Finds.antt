@@ -10,6 +10,7 @@ use Rattle.flat_walk.specs.declared.error.FlatError.{FlatError}
 use Rattle.flat_walk.specs.declared.error.FlatError.TheVariants as flat_error
 use Rattle.sec_words.specs.declared.settings.Settings.{Settings}
 use Rattle.sec_words.specs.declared.task.Task.{Task}
+use Rattle.sec_words.specs.declared.task.Task.TheVariants as task
 use Rattle.sec_outcome.specs.declared.outcome.Outcome.{Outcome}
 use Rattle.sec_check.specs.declared.comparing.CompareError.{CompareError}
 use Rattle.sec_check.specs.declared.comparing.CompareError.TheVariants as compare_error
@@ -20,9 +21,13 @@ use Rattle.sec_check.specs.Loading.{Loads, LoadFails, FlattenFails, IsTooLong, H
 use Rattle.sec_cli.specs.declared.finding.Finding.{Finding}
 use Rattle.sec_cli.specs.declared.finding.Stop.{Stop}
 use Rattle.sec_cli.specs.declared.finding.Stop.TheVariants as stop
-use Rattle.sec_cli.specs.Job.{Check, check_of}
-use Rattle.sec_cli.specs.Answer.{Held, ReadFailed, IsFoundOfBuilt}
-use Rattle.sec_cli.specs.Ends.{load_end, compare_end, FoundOf, Found}
+use Rattle.std.proofs.lemmas.Option.{none-some}
+use Rattle.sec_cli.specs.declared.finding.Refusal.TheVariants as refusal
+use Rattle.sec_cli.specs.declared.finding.Finding.TheVariants as finding
+use Rattle.sec_cli.specs.Job.{Check, Sim, check_of, graph_of, sim_of}
+use Rattle.sec_cli.specs.Reports.{IsGraphFound, IsSimFound}
+use Rattle.sec_cli.specs.Answer.{Held, ReadFailed, SimReadFailed, IsFoundOf, WhereBuilt}
+use Rattle.sec_cli.specs.Ends.{load_end, compare_end, EndsBy, FoundOf, Found}
 
 -- what holds of something held, where it is told
 both_told : {X Y : Type 0} (o : Option X) (o' : Option Y) (F : X → Type 0) (G : Y → Type 0) (H : X → Y → Type 0) →
@@ -104,13 +109,46 @@ nets_end held before now check a b (Err (compare_error.TooLarge side)) l m c = b
 nets_end held before now check a b (Err compare_error.NoMemory) l m c = tt
 
 -- what is found of the files is found of the job that compares them
-pub found_of_job : (held : Held) (before now : List ℕ → ℕ) (job : Task) (check : Check) (r : Result Finding Stop) → check_of job ≡ Some check → FoundOf held before now check r → Found held before now (Some job) r
-found_of_job held before now job check (Ok f) e h = subst (λ (o : Option Check). IsFoundOfBuilt held o f) (sym e) h
-found_of_job held before now job check (Err stop.ReadFault) e h = subst (λ (o : Option Check). IsSomeAnd o (ReadFailed held before now)) (sym e) h
-found_of_job held before now job check (Err stop.NoMemory) e h = tt
+pub found_of_check : (held : Held) (before now : List ℕ → ℕ) (job : Task) (check : Check) (r : Result Finding Stop) → check_of job ≡ Some check → FoundOf held before now check r → Found held before now (Some job) r
+found_of_check held before now (task.Check a b settings) check (Ok f) e h = subst (λ (o : Option Check). WhereBuilt f o (λ c. IsFoundOf held c f)) (sym e) h
+found_of_check held before now (task.Check a b settings) check (Err stop.ReadFault) e h = inl (subst (λ (o : Option Check). IsSomeAnd o (ReadFailed held before now)) (sym e) h)
+found_of_check held before now (task.Check a b settings) check (Err stop.NoMemory) e h = tt
+found_of_check held before now (task.Graph a mode) check r e h = absurd (none-some check e)
+found_of_check held before now (task.Sim a s mode power) check r e h = absurd (none-some check e)
+found_of_check held before now (task.Replay a b s mode) check r e h = absurd (none-some check e)
+found_of_check held before now (task.Gen seed regroup conflicts) check r e h = absurd (none-some check e)
+
+-- what is found of a circuit is found of the job that asks for its latch graph
+pub found_of_graph : (held : Held) (before now : List ℕ → ℕ) (job : Task) (path : List ℕ) (r : Result Finding Stop) → graph_of job ≡ Some path → EndsBy (IsGraphFound (held path)) (Rose (before path) (now path)) r → Found held before now (Some job) r
+found_of_graph held before now (task.Graph a mode) path (Ok f) e h = subst (λ (o : Option (List ℕ)). WhereBuilt f o (λ p. IsGraphFound (held p) f)) (sym e) h
+found_of_graph held before now (task.Graph a mode) path (Err stop.ReadFault) e h = inr (inl (subst (λ (o : Option (List ℕ)). IsSomeAnd o (λ p. Rose (before p) (now p))) (sym e) h))
+found_of_graph held before now (task.Graph a mode) path (Err stop.NoMemory) e h = tt
+found_of_graph held before now (task.Check a b settings) path r e h = absurd (none-some path e)
+found_of_graph held before now (task.Sim a s mode power) path r e h = absurd (none-some path e)
+found_of_graph held before now (task.Replay a b s mode) path r e h = absurd (none-some path e)
+found_of_graph held before now (task.Gen seed regroup conflicts) path r e h = absurd (none-some path e)
+
+-- what is found of a simulation is found of the job that asks for it
+pub found_of_sim : (held : Held) (before now : List ℕ → ℕ) (job : Task) (sim : Sim) (r : Result Finding Stop) → sim_of job ≡ Some sim →
+    EndsBy (IsSimFound (held sim.circuit) (held sim.stimulus) sim.power) (SimReadFailed held before now sim) r → Found held before now (Some job) r
+found_of_sim held before now (task.Sim a s mode power) sim (Ok f) e h = subst (λ (o : Option Sim). WhereBuilt f o (λ m. IsSimFound (held m.circuit) (held m.stimulus) m.power f)) (sym e) h
+found_of_sim held before now (task.Sim a s mode power) sim (Err stop.ReadFault) e h = inr (inr (subst (λ (o : Option Sim). IsSomeAnd o (SimReadFailed held before now)) (sym e) h))
+found_of_sim held before now (task.Sim a s mode power) sim (Err stop.NoMemory) e h = tt
+found_of_sim held before now (task.Check a b settings) sim r e h = absurd (none-some sim e)
+found_of_sim held before now (task.Graph a mode) sim r e h = absurd (none-some sim e)
+found_of_sim held before now (task.Replay a b s mode) sim r e h = absurd (none-some sim e)
+found_of_sim held before now (task.Gen seed regroup conflicts) sim r e h = absurd (none-some sim e)
+
+-- a job that isn't built is refused
+pub found_unbuilt : (held : Held) (before now : List ℕ → ℕ) (job : Task) → check_of job ≡ None → graph_of job ≡ None → sim_of job ≡ None → Found held before now (Some job) (Ok (finding.Refused refusal.NotBuilt))
+found_unbuilt held before now (task.Check a b settings) check graph sim = subst (λ (o : Option Check). WhereBuilt (finding.Refused refusal.NotBuilt) o (λ c. IsFoundOf held c (finding.Refused refusal.NotBuilt))) (sym check) refl
+found_unbuilt held before now (task.Graph a mode) check graph sim = subst (λ (o : Option (List ℕ)). WhereBuilt (finding.Refused refusal.NotBuilt) o (λ p. IsGraphFound (held p) (finding.Refused refusal.NotBuilt))) (sym graph) refl
+found_unbuilt held before now (task.Sim a s mode power) check graph sim = subst (λ (o : Option Sim). WhereBuilt (finding.Refused refusal.NotBuilt) o (λ m. IsSimFound (held m.circuit) (held m.stimulus) m.power (finding.Refused refusal.NotBuilt))) (sym sim) refl
+found_unbuilt held before now (task.Replay a b s mode) check graph sim = refl
+found_unbuilt held before now (task.Gen seed regroup conflicts) check graph sim = refl
 
 -- a count that rose from a later value rose from an earlier one
-rose_before : (a b c : ℕ) → a ≤ b → Rose b c → Rose a c
+pub rose_before : (a b c : ℕ) → a ≤ b → Rose b c → Rose a c
 rose_before a b c h r = omega arith
 
 -- a load that failed later failed by what was held before

@@ -8,6 +8,7 @@ use Rattle.flat_net.specs.View.{NetView, circuit_of, ports_of}
 use Rattle.pair_decide.specs.declared.query.Proof.{Proof}
 use Rattle.witness_report.specs.declared.witness.Witness.{Witness}
 use Rattle.sec_words.specs.declared.task.Task.{Task}
+use Rattle.sec_words.specs.declared.task.Task.TheVariants as task
 use Rattle.sec_words.specs.declared.settings.Settings.{Settings}
 use Rattle.sec_outcome.specs.declared.outcome.PairResult.{PairResult}
 use Rattle.sec_outcome.specs.declared.outcome.LimitAt.{LimitAt}
@@ -27,11 +28,12 @@ use Rattle.sec_check.proofs.Loaded.{spelled_circuit}
 use Rattle.sec_check.proofs.Outcomes.{place_stands, output_of, limit_answer}
 use Rattle.sec_cli.specs.declared.finding.Finding.{Finding}
 use Rattle.sec_cli.specs.declared.finding.Finding.TheVariants as finding
-use Rattle.sec_cli.specs.declared.finding.Refusal.TheVariants as refusal
 use Rattle.sec_cli.specs.declared.status.StatusName.{StatusName}
 use Rattle.sec_cli.specs.declared.status.StatusName.TheVariants as status
-use Rattle.sec_cli.specs.Job.{Check, check_of, OfCheck}
-use Rattle.sec_cli.specs.Answer.{Held, OfTexts, OfNets, IsFinding, IsFoundOf, IsFoundOfBuilt, EndsAs, TextsAgree, TextsDiffer, TextsUndecided, verdict_status, status_of, proofs_of}
+use Rattle.sec_cli.specs.Job.{Check, Sim, check_of, graph_of, sim_of, OfCheck}
+use Rattle.sec_cli.specs.Lines.{finding_text}
+use Rattle.sec_cli.specs.Reports.{IsGraphFound, IsSimFound, TakesGraph, TakesRun}
+use Rattle.sec_cli.specs.Answer.{Held, OfTexts, OfNets, IsFinding, IsFoundOf, WhereBuilt, TakesReport, EndsAs, TextsAgree, TextsDiffer, TextsUndecided, verdict_status, status_of, proofs_of}
 use Rattle.sec_cli.specs.Ends.{IsWrittenAs}
 
 if_some : {X : Type 0} {F G : X → Type 0} (o : Option X) → ((x : X) → F x → G x) → IfSome o F → IfSome o G
@@ -43,15 +45,46 @@ over_nets : (held : Held) (check : Check) (P : NetView → NetView → Type 0) (
     ((x y : List ℕ) (a b : NetView) → Loads x a → Loads y b → P a b → Q x y) → OfNets held check P → OfTexts held check Q
 over_nets held check P Q each h = if_some (held check.left) (λ x here. if_some (held check.right) (λ y n. each x y n.0 n.1 n.2 n.3 n.4) here) h
 
--- what is said of the files of a finding that neither words nor an unbuilt job give
-pub of_built : (P : Check → Type 0) (held : Held) (job : Option Task) (f : Finding) → IsFinding held job f → (f ≡ finding.Words → ⊥) → (f ≡ finding.Refused refusal.NotBuilt → ⊥) →
+neither : {X Y : Type 0} → (X → ⊥) → (Y → ⊥) → X ⊎ Y → ⊥
+neither f g (inl x) = f x
+neither f g (inr y) = g y
+
+-- what is found of one circuit is a report or a refusal
+graph_status : (circuit : Option (List ℕ)) (f : Finding) → IsGraphFound circuit f → (status_of f ≡ status.Done) ⊎ (status_of f ≡ status.Refused)
+graph_status circuit finding.Words h = absurd h
+graph_status circuit (finding.Refused r) h = inr refl
+graph_status circuit (finding.Cyclic side names) h = absurd h
+graph_status circuit (finding.Checked o s) h = absurd h
+graph_status circuit (finding.Done report) h = inl refl
+
+sim_status : (circuit stimulus power : Option (List ℕ)) (f : Finding) → IsSimFound circuit stimulus power f → (status_of f ≡ status.Done) ⊎ (status_of f ≡ status.Refused)
+sim_status circuit stimulus power finding.Words h = absurd h
+sim_status circuit stimulus power (finding.Refused r) h = inr refl
+sim_status circuit stimulus power (finding.Cyclic side names) h = absurd h
+sim_status circuit stimulus power (finding.Checked o s) h = absurd h
+sim_status circuit stimulus power (finding.Done report) h = inl refl
+
+-- what is said of the files of a finding that neither words, nor a refusal, nor a report on one circuit give
+of_check : (P : Check → Type 0) (held : Held) (job : Option Task) (f : Finding) → IsFinding held job f → (status_of f ≡ status.Words → ⊥) → (status_of f ≡ status.Refused → ⊥) → (status_of f ≡ status.Done → ⊥) →
     ((check : Check) → IsFoundOf held check f → P check) → OfCheck job P
-of_built P held None f found words unbuilt each = absurd (words found)
-of_built P held (Some job) f found words unbuilt each = go (check_of job) found
+of_check P held None f found words refused done each = absurd (words (ap status_of found))
+of_check P held (Some (task.Check a b settings)) f found words refused done each = go (check_of (task.Check a b settings)) found
   where
-    go : (o : Option Check) → IsFoundOfBuilt held o f → IsSomeAnd o P
-    go None h = absurd (unbuilt h)
+    go : (o : Option Check) → WhereBuilt f o (λ check. IsFoundOf held check f) → IsSomeAnd o P
+    go None h = absurd (refused (ap status_of h))
     go (Some check) h = each check h
+of_check P held (Some (task.Graph a mode)) f found words refused done each = absurd (go (graph_of (task.Graph a mode)) found)
+  where
+    go : (o : Option (List ℕ)) → WhereBuilt f o (λ path. IsGraphFound (held path) f) → ⊥
+    go None h = refused (ap status_of h)
+    go (Some path) h = neither done refused (graph_status (held path) f h)
+of_check P held (Some (task.Sim a s mode power)) f found words refused done each = absurd (go (sim_of (task.Sim a s mode power)) found)
+  where
+    go : (o : Option Sim) → WhereBuilt f o (λ sim. IsSimFound (held sim.circuit) (held sim.stimulus) sim.power f) → ⊥
+    go None h = refused (ap status_of h)
+    go (Some sim) h = neither done refused (sim_status (held sim.circuit) (held sim.stimulus) sim.power f h)
+of_check P held (Some (task.Replay a b s mode)) f found words refused done each = absurd (refused (ap status_of found))
+of_check P held (Some (task.Gen seed regroup conflicts)) f found words refused done each = absurd (refused (ap status_of found))
 
 equal_verdict : (v : Verdict) → verdict_status v ≡ status.Equal → v ≡ verdict.Equal
 equal_verdict verdict.Equal e = refl
@@ -153,6 +186,7 @@ equal_found : (held : Held) (check : Check) (f : Finding) → IsFoundOf held che
 equal_found held check finding.Words h e = absurd h
 equal_found held check (finding.Refused r) h e = absurd (cc)
 equal_found held check (finding.Cyclic side names) h e = absurd (cc)
+equal_found held check (finding.Done report) h e = absurd h
 equal_found held check (finding.Checked o s) h e = over_nets held check _ TextsAgree (texts_agree check.settings.conflicts o (equal_verdict o.verdict e)) h.1
 
 different_found : (held : Held) (check : Check) (before now : Option (List ℕ)) (f : Finding) (proofs : List Proof) → IsFoundOf held check f → IsWrittenAs before now f proofs status.Different →
@@ -160,6 +194,7 @@ different_found : (held : Held) (check : Check) (before now : Option (List ℕ))
 different_found held check before now finding.Words proofs h w = absurd h
 different_found held check before now (finding.Refused r) proofs h w = absurd (let e = w.1 in cc)
 different_found held check before now (finding.Cyclic side names) proofs h w = absurd (let e = w.1 in cc)
+different_found held check before now (finding.Done report) proofs h w = absurd h
 different_found held check before now (finding.Checked o s) proofs h w =
     let d = different_verdict o.verdict w.1 in
     over_nets held check _ (λ x y. TextsDiffer x y check.settings.conflicts before now) (texts_differ before now check.settings.conflicts o d.0 d.1 (report_of before now o s check h.0 w.2)) h.1
@@ -169,30 +204,28 @@ limit_found : (held : Held) (check : Check) (before now : Option (List ℕ)) (f 
 limit_found held check before now finding.Words proofs h w = absurd h
 limit_found held check before now (finding.Refused r) proofs h w = absurd (let e = w.1 in cc)
 limit_found held check before now (finding.Cyclic side names) proofs h w = absurd (let e = w.1 in cc)
+limit_found held check before now (finding.Done report) proofs h w = absurd h
 limit_found held check before now (finding.Checked o s) proofs h w =
     let l = limit_verdict o.verdict w.1 in
     over_nets held check _ (λ x y. TextsUndecided x y check.settings.conflicts proofs before now) (texts_undecided before now check.settings.conflicts proofs o l.0 l.1 w.0 (report_of before now o s check h.0 w.2)) h.1
 
--- a status is neither that of no words nor that of an unbuilt job
-not_words : (f : Finding) (name : StatusName) → status_of f ≡ name → (status.Words ≡ name → ⊥) → f ≡ finding.Words → ⊥
-not_words f name e other is = other (sym (ap status_of is) ∙ e)
-
-not_unbuilt : (f : Finding) (name : StatusName) → status_of f ≡ name → (status.Refused ≡ name → ⊥) → f ≡ finding.Refused refusal.NotBuilt → ⊥
-not_unbuilt f name e other is = other (sym (ap status_of is) ∙ e)
+-- a finding has one status
+other : (f : Finding) (name another : StatusName) → status_of f ≡ name → (another ≡ name → ⊥) → status_of f ≡ another → ⊥
+other f name another e apart is = apart (sym is ∙ e)
 
 -- the status equal
 pub equal_means : (held : Held) (job : Option Task) (before now : Option (List ℕ)) (f : Finding) (proofs : List Proof) (name : StatusName) →
     IsFinding held job f → IsWrittenAs before now f proofs name → name ≡ status.Equal → OfCheck job (λ check. OfTexts held check TextsAgree)
 equal_means held job before now f proofs name found written e =
     let w = subst (IsWrittenAs before now f proofs) e written in
-    of_built (λ check. OfTexts held check TextsAgree) held job f found (not_words f status.Equal w.1 (λ q. cc)) (not_unbuilt f status.Equal w.1 (λ q. cc)) (λ check h. equal_found held check f h w.1)
+    of_check (λ check. OfTexts held check TextsAgree) held job f found (other f status.Equal status.Words w.1 (λ q. cc)) (other f status.Equal status.Refused w.1 (λ q. cc)) (other f status.Equal status.Done w.1 (λ q. cc)) (λ check h. equal_found held check f h w.1)
 
 -- the status different
 pub different_means : (held : Held) (job : Option Task) (before now : Option (List ℕ)) (f : Finding) (proofs : List Proof) (name : StatusName) →
     IsFinding held job f → IsWrittenAs before now f proofs name → name ≡ status.Different → OfCheck job (λ check. OfTexts held check (λ x y. TextsDiffer x y check.settings.conflicts before now))
 different_means held job before now f proofs name found written e =
     let w = subst (IsWrittenAs before now f proofs) e written in
-    of_built (λ check. OfTexts held check (λ x y. TextsDiffer x y check.settings.conflicts before now)) held job f found (not_words f status.Different w.1 (λ q. cc)) (not_unbuilt f status.Different w.1 (λ q. cc))
+    of_check (λ check. OfTexts held check (λ x y. TextsDiffer x y check.settings.conflicts before now)) held job f found (other f status.Different status.Words w.1 (λ q. cc)) (other f status.Different status.Refused w.1 (λ q. cc)) (other f status.Different status.Done w.1 (λ q. cc))
     (λ check h. different_found held check before now f proofs h w)
 
 -- the status limit
@@ -200,8 +233,62 @@ pub limit_means : (held : Held) (job : Option Task) (before now : Option (List �
     IsFinding held job f → IsWrittenAs before now f proofs name → name ≡ status.Limit → OfCheck job (λ check. OfTexts held check (λ x y. TextsUndecided x y check.settings.conflicts proofs before now))
 limit_means held job before now f proofs name found written e =
     let w = subst (IsWrittenAs before now f proofs) e written in
-    of_built (λ check. OfTexts held check (λ x y. TextsUndecided x y check.settings.conflicts proofs before now)) held job f found (not_words f status.Limit w.1 (λ q. cc)) (not_unbuilt f status.Limit w.1 (λ q. cc))
+    of_check (λ check. OfTexts held check (λ x y. TextsUndecided x y check.settings.conflicts proofs before now)) held job f found (other f status.Limit status.Words w.1 (λ q. cc)) (other f status.Limit status.Refused w.1 (λ q. cc)) (other f status.Limit status.Done w.1 (λ q. cc))
     (λ check h. limit_found held check before now f proofs h w)
+
+-- no verdict is a report on one circuit
+no_done_verdict : (v : Verdict) → verdict_status v ≡ status.Done → ⊥
+no_done_verdict verdict.Equal e = cc
+no_done_verdict (verdict.Different w) e = cc
+no_done_verdict (verdict.Limit at) e = cc
+
+no_done : (held : Held) (check : Check) (f : Finding) → IsFoundOf held check f → status_of f ≡ status.Done → ⊥
+no_done held check finding.Words h e = h
+no_done held check (finding.Refused r) h e = cc
+no_done held check (finding.Cyclic side names) h e = cc
+no_done held check (finding.Checked o s) h e = no_done_verdict o.verdict e
+no_done held check (finding.Done report) h e = h
+
+graph_taken : (circuit before now : Option (List ℕ)) (f : Finding) → IsGraphFound circuit f → status_of f ≡ status.Done → Takes before now (finding_text f) → TakesGraph circuit before now
+graph_taken circuit before now finding.Words h e taken = absurd h
+graph_taken circuit before now (finding.Refused r) h e taken = absurd (cc)
+graph_taken circuit before now (finding.Cyclic side names) h e taken = absurd h
+graph_taken circuit before now (finding.Checked o s) h e taken = absurd h
+graph_taken circuit before now (finding.Done report) h e taken = (report, h, taken)
+
+run_taken : (circuit stimulus power before now : Option (List ℕ)) (f : Finding) → IsSimFound circuit stimulus power f → status_of f ≡ status.Done → Takes before now (finding_text f) → TakesRun circuit stimulus power before now
+run_taken circuit stimulus power before now finding.Words h e taken = absurd h
+run_taken circuit stimulus power before now (finding.Refused r) h e taken = absurd (cc)
+run_taken circuit stimulus power before now (finding.Cyclic side names) h e taken = absurd h
+run_taken circuit stimulus power before now (finding.Checked o s) h e taken = absurd h
+run_taken circuit stimulus power before now (finding.Done report) h e taken = (report, h, taken)
+
+done_found : (held : Held) (job : Option Task) (before now : Option (List ℕ)) (f : Finding) → IsFinding held job f → status_of f ≡ status.Done → Takes before now (finding_text f) → TakesReport before now held job
+done_found held None before now f found e taken = absurd (other f status.Done status.Words e (λ q. cc) (ap status_of found))
+done_found held (Some (task.Check a b settings)) before now f found e taken = absurd (go (check_of (task.Check a b settings)) found)
+  where
+    go : (o : Option Check) → WhereBuilt f o (λ check. IsFoundOf held check f) → ⊥
+    go None h = other f status.Done status.Refused e (λ q. cc) (ap status_of h)
+    go (Some check) h = no_done held check f h e
+done_found held (Some (task.Graph a mode)) before now f found e taken = inl (go (graph_of (task.Graph a mode)) found)
+  where
+    go : (o : Option (List ℕ)) → WhereBuilt f o (λ path. IsGraphFound (held path) f) → IsSomeAnd o (λ path. TakesGraph (held path) before now)
+    go None h = absurd (other f status.Done status.Refused e (λ q. cc) (ap status_of h))
+    go (Some path) h = graph_taken (held path) before now f h e taken
+done_found held (Some (task.Sim a s mode power)) before now f found e taken = inr (go (sim_of (task.Sim a s mode power)) found)
+  where
+    go : (o : Option Sim) → WhereBuilt f o (λ sim. IsSimFound (held sim.circuit) (held sim.stimulus) sim.power f) → IsSomeAnd o (λ sim. TakesRun (held sim.circuit) (held sim.stimulus) sim.power before now)
+    go None h = absurd (other f status.Done status.Refused e (λ q. cc) (ap status_of h))
+    go (Some sim) h = run_taken (held sim.circuit) (held sim.stimulus) sim.power before now f h e taken
+done_found held (Some (task.Replay a b s mode)) before now f found e taken = absurd (other f status.Done status.Refused e (λ q. cc) (ap status_of found))
+done_found held (Some (task.Gen seed regroup conflicts)) before now f found e taken = absurd (other f status.Done status.Refused e (λ q. cc) (ap status_of found))
+
+-- the status done
+pub done_means : (held : Held) (job : Option Task) (before now : Option (List ℕ)) (f : Finding) (proofs : List Proof) (name : StatusName) →
+    IsFinding held job f → IsWrittenAs before now f proofs name → name ≡ status.Done → TakesReport before now held job
+done_means held job before now f proofs name found written e =
+    let w = subst (IsWrittenAs before now f proofs) e written in
+    done_found held job before now f found w.1 w.2
 
 -- how a run ends with a written finding
 pub written_ends : (held : Held) (job : Option Task) (before now : Option (List ℕ)) (f : Finding) (proofs : List Proof) (name : StatusName) →
@@ -215,3 +302,4 @@ written_ends held job before now f proofs status.ReadFault found w = absurd w
 written_ends held job before now f proofs status.WriteFault found w = (f, found, w.0, w.1)
 written_ends held job before now f proofs status.NoMemory found w = w
 written_ends held job before now f proofs status.Cyclic found w = (f, found, w.0, w.1, w.2)
+written_ends held job before now f proofs status.Done found w = (f, found, w.0, w.1, w.2)

@@ -14,6 +14,7 @@ use Rattle.pair_decide.specs.declared.query.Proof.{Proof}
 use Rattle.witness_report.specs.declared.witness.Witness.{Witness}
 use Rattle.witness_report.specs.declared.witness.PairName.TheVariants as pair
 use Rattle.sec_words.specs.declared.task.Task.{Task}
+use Rattle.sec_words.specs.declared.task.Task.TheVariants as task
 use Rattle.sec_outcome.specs.declared.outcome.PairResult.{PairResult}
 use Rattle.sec_outcome.specs.declared.outcome.LimitAt.TheVariants as limit_at
 use Rattle.sec_outcome.specs.declared.outcome.Verdict.{Verdict}
@@ -33,8 +34,9 @@ use Rattle.sec_cli.specs.declared.finding.Finding.TheVariants as finding
 use Rattle.sec_cli.specs.declared.status.Status.{Status}
 use Rattle.sec_cli.specs.declared.status.StatusName.{StatusName}
 use Rattle.sec_cli.specs.declared.status.StatusName.TheVariants as status
-use Rattle.sec_cli.specs.Job.{Check, check_of, OfCheck}
+use Rattle.sec_cli.specs.Job.{Check, Sim, check_of, graph_of, sim_of, OfCheck, OfGraph, OfSim}
 use Rattle.sec_cli.specs.Lines.{finding_text}
+use Rattle.sec_cli.specs.Reports.{IsLoaded, IsGraphFound, IsSimFound, TakesGraph, TakesRun, CanBeRun}
 
 -- the bytes that are held at a path, where they are told
 abbrev pub Held : Type 0
@@ -61,6 +63,10 @@ IsRefusal held check (refusal.Text side line kind) = OfSide held check side (λ 
 IsRefusal held check (refusal.Design side fault) = OfSide held check side (λ x. HasDesignFault x fault)
 IsRefusal held check (refusal.Interface name) = OfNets held check (λ a b. Compared a b check.settings.conflicts (Err (compare_error.Interface name)))
 IsRefusal held check (refusal.TooLarge side) = OfNets held check (λ a b. Compared a b check.settings.conflicts (Err (compare_error.TooLarge side)))
+IsRefusal held check refusal.StimulusTooLong = ⊥
+IsRefusal held check (refusal.BadHeader line) = ⊥
+IsRefusal held check (refusal.BadRow line) = ⊥
+IsRefusal held check (refusal.Misfit m) = ⊥
 
 -- what is true of the files where this is found of them
 abbrev pub IsFoundOf : Held → Check → Finding → Type 0
@@ -68,16 +74,25 @@ IsFoundOf held check finding.Words = ⊥
 IsFoundOf held check (finding.Refused r) = IsRefusal held check r
 IsFoundOf held check (finding.Cyclic side names) = OfNets held check (λ a b. Compared a b check.settings.conflicts (Err (compare_error.Cyclic side names)))
 IsFoundOf held check (finding.Checked o settings) = (settings ≡ check.settings) × OfNets held check (λ a b. Compared a b check.settings.conflicts (Ok o))
+IsFoundOf held check (finding.Done report) = ⊥
 
--- the same where the job's comparison is built; no other job is
-abbrev pub IsFoundOfBuilt : Held → Option Check → Finding → Type 0
-IsFoundOfBuilt held None f = f ≡ finding.Refused refusal.NotBuilt
-IsFoundOfBuilt held (Some check) f = IsFoundOf held check f
+-- what is said of what a job asks for, where that is built; else the job is refused
+abbrev pub WhereBuilt : {X : Type 0} → Finding → Option X → (X → Type 0) → Type 0
+WhereBuilt f None P = f ≡ finding.Refused refusal.NotBuilt
+WhereBuilt f (Some x) P = P x
+
+-- what is true of a job where this is found
+abbrev pub IsFoundOfJob : Held → Task → Finding → Type 0
+IsFoundOfJob held (task.Check a b settings) f = WhereBuilt f (check_of (task.Check a b settings)) (λ check. IsFoundOf held check f)
+IsFoundOfJob held (task.Graph a mode) f = WhereBuilt f (graph_of (task.Graph a mode)) (λ path. IsGraphFound (held path) f)
+IsFoundOfJob held (task.Sim a s mode power) f = WhereBuilt f (sim_of (task.Sim a s mode power)) (λ sim. IsSimFound (held sim.circuit) (held sim.stimulus) sim.power f)
+IsFoundOfJob held (task.Replay a b s mode) f = f ≡ finding.Refused refusal.NotBuilt
+IsFoundOfJob held (task.Gen seed regroup conflicts) f = f ≡ finding.Refused refusal.NotBuilt
 
 -- what is found: that the words are no job, or what is true of the job
 abbrev pub IsFinding : Held → Option Task → Finding → Type 0
 IsFinding held None f = f ≡ finding.Words
-IsFinding held (Some task) f = IsFoundOfBuilt held (check_of task) f
+IsFinding held (Some job) f = IsFoundOfJob held job f
 
 -- the status of a verdict
 abbrev pub verdict_status : Verdict → StatusName
@@ -91,6 +106,7 @@ status_of finding.Words = status.Words
 status_of (finding.Refused r) = status.Refused
 status_of (finding.Cyclic side names) = status.Cyclic
 status_of (finding.Checked o settings) = verdict_status o.verdict
+status_of (finding.Done report) = status.Done
 
 -- the proofs of the queries that met the limit, in the order of the pairs
 abbrev pub proofs_of : Finding → List Proof
@@ -98,12 +114,23 @@ proofs_of finding.Words = []
 proofs_of (finding.Refused r) = []
 proofs_of (finding.Cyclic side names) = []
 proofs_of (finding.Checked o settings) = filter_map (λ (r : PairResult). r.proof) o.pairs
+proofs_of (finding.Done report) = []
 
 -- a read of A's path failed, or, where A loads, a read of B's
 abbrev pub ReadFailed : Held → (List ℕ → ℕ) → (List ℕ → ℕ) → Check → Type 0
 ReadFailed held before now check =
     Rose (before check.left) (now check.left)
     ⊎ (Rose (before check.right) (now check.right) × IfSome (held check.left) (λ x. (net : NetView) × Loads x net))
+
+-- a read of the circuit's path failed, or, where it loads, a read of the stimulus's
+abbrev pub SimReadFailed : Held → (List ℕ → ℕ) → (List ℕ → ℕ) → Sim → Type 0
+SimReadFailed held before now sim =
+    Rose (before sim.circuit) (now sim.circuit) ⊎ (Rose (before sim.stimulus) (now sim.stimulus) × IsLoaded (held sim.circuit))
+
+-- a read of a path of the job failed, and all that comes before it had gone through
+abbrev pub JobReadFailed : Held → (List ℕ → ℕ) → (List ℕ → ℕ) → Option Task → Type 0
+JobReadFailed held before now job =
+    OfCheck job (ReadFailed held before now) ⊎ (OfGraph job (λ path. Rose (before path) (now path)) ⊎ OfSim job (SimReadFailed held before now))
 
 -- With a finding its whole report is taken, and the status has its proofs; at a write fault a front of the report; else nothing.
 abbrev pub EndsAs : Option (List ℕ) → Option (List ℕ) → Held → Option Task → List Proof → StatusName → Type 0
@@ -175,6 +202,21 @@ pub record AreComparable (x y : List ℕ) : Type 0 where
 abbrev pub CanAnswer : Held → Check → Type 0
 CanAnswer held check = IsSomeAnd (held check.left) (λ x. IsSomeAnd (held check.right) (λ y. AreComparable x y))
 
+-- the job reports on one circuit, and its whole report is taken
+abbrev pub TakesReport : Option (List ℕ) → Option (List ℕ) → Held → Option Task → Type 0
+TakesReport before now held job =
+    OfGraph job (λ path. TakesGraph (held path) before now) ⊎ OfSim job (λ sim. TakesRun (held sim.circuit) (held sim.stimulus) sim.power before now)
+
+-- both texts are told, and the circuit can be run over the stimulus from the power word
+abbrev pub CanSimulate : Held → Sim → Type 0
+CanSimulate held sim = IsSomeAnd (held sim.circuit) (λ x. IsSomeAnd (held sim.stimulus) (λ y. CanBeRun x y sim.power))
+
+-- the report is done, or want of memory
+abbrev pub IsDone : StatusName → Type 0
+IsDone status.Done = Unit {0}
+IsDone status.NoMemory = Unit {0}
+IsDone other = ⊥
+
 -- a verdict, or want of memory
 abbrev pub IsAnswer : StatusName → Type 0
 IsAnswer status.Equal = Unit {0}
@@ -186,3 +228,4 @@ IsAnswer status.ReadFault = ⊥
 IsAnswer status.WriteFault = ⊥
 IsAnswer status.NoMemory = Unit {0}
 IsAnswer status.Cyclic = ⊥
+IsAnswer status.Done = ⊥

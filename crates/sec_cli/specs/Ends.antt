@@ -14,6 +14,11 @@ use Rattle.sec_check.specs.declared.comparing.CompareError.{CompareError}
 use Rattle.sec_check.specs.declared.comparing.CompareError.TheVariants as compare_error
 use Rattle.sec_check.specs.declared.loading.LoadError.{LoadError}
 use Rattle.sec_check.specs.declared.loading.LoadError.TheVariants as load_error
+use Rattle.witness_report.specs.declared.error.StimError.TheVariants as stim_error
+use Rattle.sim_report.specs.declared.refusal.SimError.{SimError}
+use Rattle.sim_report.specs.declared.refusal.SimError.TheVariants as sim_error
+use Rattle.sec_cli.specs.declared.reports.StimulusError.{StimulusError}
+use Rattle.sec_cli.specs.declared.reports.StimulusError.TheVariants as stimulus_error
 use Rattle.sec_cli.specs.declared.finding.Refusal.TheVariants as refusal
 use Rattle.sec_cli.specs.declared.finding.Finding.{Finding}
 use Rattle.sec_cli.specs.declared.finding.Finding.TheVariants as finding
@@ -22,8 +27,8 @@ use Rattle.sec_cli.specs.declared.finding.Stop.TheVariants as stop
 use Rattle.sec_cli.specs.declared.status.Status.{Status}
 use Rattle.sec_cli.specs.declared.status.StatusName.{StatusName}
 use Rattle.sec_cli.specs.declared.status.StatusName.TheVariants as status
-use Rattle.sec_cli.specs.Answer.{Held, IsFinding, IsFoundOf, ReadFailed, proofs_of, status_of}
-use Rattle.sec_cli.specs.Job.{Check, OfCheck}
+use Rattle.sec_cli.specs.Answer.{Held, IsFinding, IsFoundOf, ReadFailed, JobReadFailed, proofs_of, status_of}
+use Rattle.sec_cli.specs.Job.{Check}
 use Rattle.sec_cli.specs.Lines.{finding_text}
 
 -- what is found where the design of a side isn't flattened
@@ -48,6 +53,27 @@ compare_end settings (Err (compare_error.Cyclic side names)) = Ok (finding.Cycli
 compare_end settings (Err (compare_error.TooLarge side)) = Ok (finding.Refused (refusal.TooLarge side))
 compare_end settings (Err compare_error.NoMemory) = Err stop.NoMemory
 
+-- what is found where the stimulus isn't loaded
+abbrev pub stimulus_end : StimulusError → Result Finding Stop
+stimulus_end (stimulus_error.Fetch fetch_error.Failed) = Err stop.ReadFault
+stimulus_end (stimulus_error.Fetch fetch_error.TooLong) = Ok (finding.Refused refusal.StimulusTooLong)
+stimulus_end (stimulus_error.Fetch fetch_error.NoMemory) = Err stop.NoMemory
+stimulus_end (stimulus_error.Read (stim_error.BadHeader line)) = Ok (finding.Refused (refusal.BadHeader line))
+stimulus_end (stimulus_error.Read (stim_error.BadRow line)) = Ok (finding.Refused (refusal.BadRow line))
+stimulus_end (stimulus_error.Read stim_error.NoMemory) = Err stop.NoMemory
+
+-- what is found by a simulation
+abbrev pub sim_end : Result (List ℕ) SimError → Result Finding Stop
+sim_end (Ok report) = Ok (finding.Done report)
+sim_end (Err (sim_error.Misfit m)) = Ok (finding.Refused (refusal.Misfit m))
+sim_end (Err sim_error.NoMemory) = Err stop.NoMemory
+
+-- the work ends with a finding of this kind, or by a read that failed, or at want of memory
+abbrev pub EndsBy : (Finding → Type 0) → Type 0 → Result Finding Stop → Type 0
+EndsBy P failed (Ok f) = P f
+EndsBy P failed (Err stop.ReadFault) = failed
+EndsBy P failed (Err stop.NoMemory) = Unit {0}
+
 -- the work on two files ends with a finding that is right, or by a read that failed, or at want of memory
 abbrev pub FoundOf : Held → (List ℕ → ℕ) → (List ℕ → ℕ) → Check → Result Finding Stop → Type 0
 FoundOf held before now check (Ok f) = IsFoundOf held check f
@@ -57,7 +83,7 @@ FoundOf held before now check (Err stop.NoMemory) = Unit {0}
 -- the same of a job
 abbrev pub Found : Held → (List ℕ → ℕ) → (List ℕ → ℕ) → Option Task → Result Finding Stop → Type 0
 Found held before now job (Ok f) = IsFinding held job f
-Found held before now job (Err stop.ReadFault) = OfCheck job (ReadFailed held before now)
+Found held before now job (Err stop.ReadFault) = JobReadFailed held before now job
 Found held before now job (Err stop.NoMemory) = Unit {0}
 
 -- The report of a finding is taken whole, with the finding's status; or a front of it at a write fault; or nothing at want of memory.

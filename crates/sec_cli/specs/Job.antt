@@ -1,4 +1,4 @@
--- What a job compares.
+-- What a job asks for.
 use Rattle.std.specs.Prelude.{ℕ, ◌≤◌, Bool, true, false, not, ◌&&◌, if◌then◌else◌, List, Option, Some, None, option_and_then, IsSomeAnd}
 use Rattle.circuit_theory.specs.declared.Mode.{Mode}
 use Rattle.circuit_theory.specs.declared.Mode.TheVariants.{Plain, Event}
@@ -20,13 +20,35 @@ is_plain Event = false
 abbrev pub is_built : Settings → Bool
 is_built s = is_plain s.mode && not s.expose
 
--- what is compared; no other job is built
+-- what is compared, where that is built
 abbrev pub check_of : Task → Option Check
 check_of (task.Check a b settings) = if is_built settings then Some (record { left = a; right = b; settings = settings }) else None
 check_of (task.Graph a mode) = None
 check_of (task.Sim a s mode power) = None
 check_of (task.Replay a b s mode) = None
 check_of (task.Gen seed regroup conflicts) = None
+
+-- the path of the circuit whose latch graph is told, in the plain form
+abbrev pub graph_of : Task → Option (List ℕ)
+graph_of (task.Check a b settings) = None
+graph_of (task.Graph a mode) = if is_plain mode then Some a else None
+graph_of (task.Sim a s mode power) = None
+graph_of (task.Replay a b s mode) = None
+graph_of (task.Gen seed regroup conflicts) = None
+
+-- the paths of a circuit and of a stimulus for it, and the power word
+pub record Sim : Type 0 where
+  pub circuit : List ℕ
+  pub stimulus : List ℕ
+  pub power : Option (List ℕ)
+
+-- what is simulated, in the plain form
+abbrev pub sim_of : Task → Option Sim
+sim_of (task.Check a b settings) = None
+sim_of (task.Graph a mode) = None
+sim_of (task.Sim a s mode power) = if is_plain mode then Some (record { circuit = a; stimulus = s; power = power }) else None
+sim_of (task.Replay a b s mode) = None
+sim_of (task.Gen seed regroup conflicts) = None
 
 -- at most 200,000 conflicts are allowed for a query
 abbrev pub HasFewConflicts : Task → Type 0
@@ -39,3 +61,11 @@ HasFewConflicts (task.Gen seed regroup conflicts) = conflicts ≤ 200000
 -- what is said of the comparison that the job asks for
 abbrev pub OfCheck : Option Task → (Check → Type 0) → Type 0
 OfCheck job P = IsSomeAnd (option_and_then check_of job) P
+
+-- what is said of the path of the circuit whose latch graph the job asks for
+abbrev pub OfGraph : Option Task → (List ℕ → Type 0) → Type 0
+OfGraph job P = IsSomeAnd (option_and_then graph_of job) P
+
+-- what is said of the simulation that the job asks for
+abbrev pub OfSim : Option Task → (Sim → Type 0) → Type 0
+OfSim job P = IsSomeAnd (option_and_then sim_of job) P

@@ -2,4 +2,5 @@ pub mod Answer
 pub mod Ends
 pub mod Job
 pub mod Lines
+pub mod Reports
 pub mod Status

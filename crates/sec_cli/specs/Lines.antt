@@ -9,6 +9,8 @@ use Rattle.flat_walk.specs.declared.error.FlatError.{FlatError}
 use Rattle.flat_walk.specs.declared.error.FlatError.TheVariants as flat
 use Rattle.witness_report.specs.Text.{names_text}
 use Rattle.sec_outcome.specs.Report.{report_text}
+use Rattle.sim_report.specs.declared.refusal.Misfit.{Misfit}
+use Rattle.sim_report.specs.declared.refusal.Misfit.TheVariants as misfit
 use Rattle.sec_cli.specs.declared.finding.Refusal.{Refusal}
 use Rattle.sec_cli.specs.declared.finding.Refusal.TheVariants as refusal
 use Rattle.sec_cli.specs.declared.finding.Finding.{Finding}
@@ -54,6 +56,12 @@ design_fault_text flat.TooMany = codes "TooMany"
 design_fault_text flat.LongName = codes "LongName"
 design_fault_text flat.NoMemory = codes "NoMemory"
 
+-- what doesn't fit a circuit
+abbrev pub misfit_text : Misfit → List ℕ
+misfit_text (misfit.Unknown name) = codes "refused S Unknown " ++ name ++ 10 ∷ []
+misfit_text (misfit.Missing name) = codes "refused S Missing " ++ name ++ 10 ∷ []
+misfit_text misfit.Power = codes "refused Power" ++ 10 ∷ []
+
 abbrev pub refusal_text : Refusal → List ℕ
 refusal_text refusal.NotBuilt = codes "refused NotYet" ++ 10 ∷ []
 refusal_text (refusal.TooLong side) = codes "refused " ++ side_word side ++ codes " TooLong" ++ 10 ∷ []
@@ -61,10 +69,23 @@ refusal_text (refusal.Text side line k) = codes "refused " ++ side_word side ++ 
 refusal_text (refusal.Design side fault) = codes "refused " ++ side_word side ++ 32 ∷ [] ++ design_fault_text fault ++ 10 ∷ []
 refusal_text (refusal.Interface name) = codes "refused Interface " ++ name ++ 10 ∷ []
 refusal_text (refusal.TooLarge side) = codes "refused " ++ side_word side ++ codes " TooLarge" ++ 10 ∷ []
+refusal_text refusal.StimulusTooLong = codes "refused S TooLong" ++ 10 ∷ []
+refusal_text (refusal.BadHeader line) = codes "refused S line " ++ decimal line ++ codes " BadHeader" ++ 10 ∷ []
+refusal_text (refusal.BadRow line) = codes "refused S line " ++ decimal line ++ codes " BadRow" ++ 10 ∷ []
+refusal_text (refusal.Misfit m) = misfit_text m
+
+-- the words are no job
+abbrev pub words_text : List ℕ
+words_text = codes "words refused" ++ 10 ∷ []
+
+-- a cycle of the circuit's latch graph
+abbrev pub cycle_text : Side → List (List ℕ) → List ℕ
+cycle_text side names = codes "cyclic " ++ side_word side ++ names_text names ++ 10 ∷ []
 
 -- the report of what was found
 abbrev pub finding_text : Finding → List ℕ
-finding_text finding.Words = codes "words refused" ++ 10 ∷ []
+finding_text finding.Words = words_text
 finding_text (finding.Refused r) = refusal_text r
-finding_text (finding.Cyclic side names) = codes "cyclic " ++ side_word side ++ names_text names ++ 10 ∷ []
+finding_text (finding.Cyclic side names) = cycle_text side names
 finding_text (finding.Checked outcome settings) = report_text settings.conflicts outcome
+finding_text (finding.Done report) = report

@@ -13,3 +13,4 @@ code_of status.ReadFault = 6
 code_of status.WriteFault = 7
 code_of status.NoMemory = 8
 code_of status.Cyclic = 9
+code_of status.Done = 0

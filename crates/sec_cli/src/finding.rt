@@ -1,8 +1,12 @@
 //! What a run finds and reports.
 
-use blif_read::ReadKind;
-use sec_base::{Side, Word, Words};
-use sec_check::{FlatError, Outcome, Settings};
+ghost use Rattle.std.specs.Prelude.{◌≡◌};
+ghost use Rattle.sec_cli.specs.Ends.{load_end};
+
+use blif_read::{ReadError, ReadKind};
+use sec_base::{FetchError, Side, Text, Word, Words};
+use sec_check::{FlatError, LoadError, Outcome, Settings};
+use sim_report::Misfit;
 
 /// Why a job ends without an answer.
 #[derive(Debug, Drop)]
@@ -19,6 +23,14 @@ pub enum Refusal {
     Interface(Word),
     /// The unfoldings of the circuit's outputs weigh more than 2,000,000 together.
     TooLarge(Side),
+    /// The file of the stimulus has more than 16,777,216 bytes.
+    StimulusTooLong,
+    /// The line of the stimulus, its first one, is no header.
+    BadHeader(u32),
+    /// The first line of the stimulus that is no row.
+    BadRow(u32),
+    /// What doesn't fit the circuit.
+    Misfit(Misfit),
 }
 
 /// What a report can be made of.
@@ -31,6 +43,8 @@ pub enum Finding {
     Cyclic(Side, Words),
     /// The outcome of a comparison that was made with these settings.
     Checked(Outcome, Settings),
+    /// The report of one circuit.
+    Done(Text),
 }
 
 /// Why the work on the files ends without a report.
@@ -38,4 +52,21 @@ pub enum Finding {
 pub enum Stop {
     ReadFault,
     NoMemory,
+}
+
+/// What is found where the file of a side isn't loaded.
+pub fn load_end(side: Side, error: LoadError) -> Result<Finding, Stop>
+    ensures { result ≡ load_end side error }
+{
+    match error {
+        LoadError::Fetch(FetchError::Failed) => Err(Stop::ReadFault),
+        LoadError::Fetch(FetchError::TooLong) => Ok(Finding::Refused(Refusal::TooLong(side))),
+        LoadError::Fetch(FetchError::NoMemory) => Err(Stop::NoMemory),
+        LoadError::Read(ReadError::At { line, kind }) => {
+            Ok(Finding::Refused(Refusal::Text(side, line, kind)))
+        }
+        LoadError::Read(ReadError::NoMemory) => Err(Stop::NoMemory),
+        LoadError::Flat(FlatError::NoMemory) => Err(Stop::NoMemory),
+        LoadError::Flat(fault) => Ok(Finding::Refused(Refusal::Design(side, fault))),
+    }
 }

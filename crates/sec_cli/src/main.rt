@@ -3,6 +3,7 @@
 
 mod comparison;
 mod finding;
+mod reports;
 mod run;
 mod status;
 #[cfg(test)]

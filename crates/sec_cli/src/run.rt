@@ -1,43 +1,28 @@
 //! The top call.
 
-ghost use Rattle.std.specs.Prelude.{◌≡◌, ◌≢◌, ◌≤◌, ℕ, List, false, IsErrOf, IfOk, OnOk, map, string_bytes, Option, None, Some, option_and_then, option_to_list, ◌++◌};
+ghost use Rattle.std.specs.Prelude.{◌≡◌, ◌≢◌, ◌≤◌, ℕ, List, false, IsErrOf, IsSomeAnd, IfOk, OnOk, map, string_bytes, Option, None, Some, option_and_then, option_to_list, ◌++◌};
 ghost use Rattle.std.specs.List.{filter_map};
 ghost use Rattle.circuit_theory.specs.declared.Mode.TheVariants.{Plain};
 ghost use Rattle.sec_base.specs.Outside.{Rose, SameHeld, NoneFell};
 ghost use Rattle.sec_words.specs.Jobs.{job_of};
-ghost use Rattle.sec_cli.specs.Job.{check_of, Check, HasFewConflicts, OfCheck};
-ghost use Rattle.sec_cli.specs.Answer.{IsFinding, IsTaken, ReadFailed, OfTexts, TextsAgree, TextsDiffer, TextsUndecided, CanAnswer, IsAnswer, status_of, proofs_of};
-ghost use Rattle.sec_cli.specs.Ends.{load_end, compare_end, FoundOf, Found, IsWritten};
+ghost use Rattle.sec_outcome.specs.Report.{report_text};
+ghost use Rattle.sec_check.specs.Loading.{IsAccepted};
+ghost use Rattle.sec_cli.specs.Job.{check_of, graph_of, sim_of, Check, HasFewConflicts, OfCheck, OfGraph, OfSim};
+ghost use Rattle.sec_cli.specs.Answer.{IsFinding, IsTaken, JobReadFailed, OfTexts, TextsAgree, TextsDiffer, TextsUndecided, TakesReport, CanAnswer, CanSimulate, IsAnswer, IsDone, status_of, proofs_of};
+ghost use Rattle.sec_cli.specs.Ends.{compare_end, FoundOf, Found, IsWritten};
 ghost use Rattle.sec_cli.specs.Lines.{finding_text};
 
 use crate::comparison::{Comparison, comparison_of};
-use crate::finding::{Finding, Refusal, Stop};
+use crate::finding::{Finding, Refusal, Stop, load_end};
+use crate::reports::{graph_of, simulate, simulation_of, tell_graph};
 use crate::status::{Proofs, Status, StatusName};
-use crate::writing::finding_report;
-use blif_read::ReadError;
-use sec_base::{FetchError, NoMemory, Shelf, Side, Sink};
+use crate::writing::{cycle_report, refusal_report, words_report};
+use sec_base::{NoMemory, Shelf, Side, Sink, Text};
 use sec_check::{
-    CompareError, FlatError, LoadError, Outcome, PairResult, PairResults, Settings, Verdict, compare, load,
+    CompareError, Outcome, PairResult, PairResults, Settings, Verdict, compare, load, report,
 };
 use sec_words::{Task, WordsError, job};
 use std::alloc::Global;
-
-/// What is found where the file of a side isn't loaded.
-fn load_end(side: Side, error: LoadError) -> Result<Finding, Stop>
-    ensures { result ≡ load_end side error }
-{
-    match error {
-        LoadError::Fetch(FetchError::Failed) => Err(Stop::ReadFault),
-        LoadError::Fetch(FetchError::TooLong) => Ok(Finding::Refused(Refusal::TooLong(side))),
-        LoadError::Fetch(FetchError::NoMemory) => Err(Stop::NoMemory),
-        LoadError::Read(ReadError::At { line, kind }) => {
-            Ok(Finding::Refused(Refusal::Text(side, line, kind)))
-        }
-        LoadError::Read(ReadError::NoMemory) => Err(Stop::NoMemory),
-        LoadError::Flat(FlatError::NoMemory) => Err(Stop::NoMemory),
-        LoadError::Flat(fault) => Ok(Finding::Refused(Refusal::Design(side, fault))),
-    }
-}
 
 /// What is found by a comparison.
 fn compare_end(
@@ -87,10 +72,30 @@ fn find<S: Shelf>(alloc: Global, task: &Task, shelf: &mut S) -> Result<Finding, 
     ensures found { Found (S.held shelf.old) (S.faults shelf.old) (S.faults shelf.new) (Some task.now) result }
     ensures keeps { SameHeld (S.held shelf.old) (S.held shelf.new) }
     ensures served { OfCheck (Some task.now) (λ check. S.serves shelf.old check.left × S.serves shelf.old check.right) → IsErrOf result Stop.ReadFault → ⊥ }
-    ensures idle { check_of task.now ≡ None → shelf.new ≡ shelf.old }
+    ensures served_graph { OfGraph (Some task.now) (λ path. S.serves shelf.old path) → IsErrOf result Stop.ReadFault → ⊥ }
+    ensures served_sim { OfSim (Some task.now) (λ sim. S.serves shelf.old sim.circuit × S.serves shelf.old sim.stimulus) → IsErrOf result Stop.ReadFault → ⊥ }
+    ensures idle { check_of task.now ≡ None → graph_of task.now ≡ None → sim_of task.now ≡ None → shelf.new ≡ shelf.old }
 {
     match comparison_of(task) {
         Some(comparison) => check(alloc, &comparison, shelf),
+        None => find_report(alloc, task, shelf),
+    }
+}
+
+/// Finds what a job asks for that compares nothing.
+fn find_report<S: Shelf>(alloc: Global, task: &Task, shelf: &mut S) -> Result<Finding, Stop>
+    requires { check_of task.now ≡ None }
+    ensures found { Found (S.held shelf.old) (S.faults shelf.old) (S.faults shelf.new) (Some task.now) result }
+    ensures keeps { SameHeld (S.held shelf.old) (S.held shelf.new) }
+    ensures served_graph { OfGraph (Some task.now) (λ path. S.serves shelf.old path) → IsErrOf result Stop.ReadFault → ⊥ }
+    ensures served_sim { OfSim (Some task.now) (λ sim. S.serves shelf.old sim.circuit × S.serves shelf.old sim.stimulus) → IsErrOf result Stop.ReadFault → ⊥ }
+    ensures idle { graph_of task.now ≡ None → sim_of task.now ≡ None → shelf.new ≡ shelf.old }
+{
+    if let Some(path) = graph_of(task) {
+        return tell_graph(alloc, path, shelf);
+    }
+    match simulation_of(task) {
+        Some(simulation) => simulate(alloc, &simulation, shelf),
         None => Ok(Finding::Refused(Refusal::NotBuilt)),
     }
 }
@@ -113,6 +118,7 @@ fn status_of(finding: &Finding) -> StatusName
         Finding::Refused(_) => StatusName::Refused,
         Finding::Cyclic(_, _) => StatusName::Cyclic,
         Finding::Checked(outcome, _) => verdict_status(&outcome.verdict),
+        Finding::Done(_) => StatusName::Done,
     }
 }
 
@@ -138,15 +144,33 @@ fn proofs_in(alloc: Global, pairs: PairResults) -> Result<Proofs, NoMemory>
     Ok(proofs)
 }
 
-/// The proofs of the queries that met the limit, in the order in which they were decided.
-fn proofs_of(alloc: Global, finding: Finding) -> Result<Proofs, NoMemory>
-    ensures { IfOk result (λ proofs. proofs ≡ proofs_of finding) }
+/// The report of a comparison, and the proofs of the pairs that met the limit.
+fn comparison_report(
+    alloc: Global,
+    outcome: Outcome,
+    settings: &Settings,
+) -> Result<(Text, Proofs), NoMemory>
+    ensures text { IfOk result (λ made. made.0 ≡ report_text settings.now.conflicts outcome) }
+    ensures proofs { IfOk result (λ made. made.1 ≡ filter_map (λ pair. pair.proof) outcome.pairs) }
+{
+    let text = report(alloc, &outcome, settings)?;
+    let proofs = proofs_in(alloc, outcome.pairs)?;
+    Ok((text, proofs))
+}
+
+/// The report of what was found, and the proofs of the queries that met the limit, in the order in which they were decided.
+fn report_of(alloc: Global, finding: Finding) -> Result<(Text, Proofs), NoMemory>
+    ensures text { IfOk result (λ made. made.0 ≡ finding_text finding) }
+    ensures proofs { IfOk result (λ made. made.1 ≡ proofs_of finding) }
 {
     match finding {
-        Finding::Words => Ok(Proofs::new(alloc)),
-        Finding::Refused(_) => Ok(Proofs::new(alloc)),
-        Finding::Cyclic(_, _) => Ok(Proofs::new(alloc)),
-        Finding::Checked(outcome, _) => proofs_in(alloc, outcome.pairs),
+        Finding::Words => Ok((words_report(alloc)?, Proofs::new(alloc))),
+        Finding::Refused(refusal) => Ok((refusal_report(alloc, &refusal)?, Proofs::new(alloc))),
+        Finding::Cyclic(side, names) => {
+            Ok((cycle_report(alloc, side, &names)?, Proofs::new(alloc)))
+        }
+        Finding::Checked(outcome, settings) => comparison_report(alloc, outcome, &settings),
+        Finding::Done(text) => Ok((text, Proofs::new(alloc))),
     }
 }
 
@@ -156,11 +180,8 @@ fn finish<W: Sink>(alloc: Global, finding: Finding, out: &mut W) -> Status
     ensures fault { result.name ≡ StatusName.WriteFault → Rose (W.faults out.old) (W.faults out.new) }
     ensures accepted { W.accepts out.old (finding_text finding) → result.name ≢ StatusName.WriteFault }
 {
-    let Ok(text) = finding_report(alloc, &finding) else {
-        return Status::bare(alloc, StatusName::NoMemory);
-    };
     let name = status_of(&finding);
-    let Ok(proofs) = proofs_of(alloc, finding) else {
+    let Ok((text, proofs)) = report_of(alloc, finding) else {
         return Status::bare(alloc, StatusName::NoMemory);
     };
     match out.write(text.as_slice()) {
@@ -174,7 +195,7 @@ fn finish<W: Sink>(alloc: Global, finding: Finding, out: &mut W) -> Status
 
 /// Does the job, and writes its report last, by one write.
 ///
-/// The report is written whole with the statuses `Equal`, `Different`, `Limit`, `Refused` and `Cyclic`; at a write fault a
+/// The report is written whole with the statuses `Equal`, `Done`, `Different`, `Limit`, `Refused` and `Cyclic`; at a write fault a
 /// front of it; at a read fault and at want of memory nothing. Want of memory alone is without a cause here. A job that isn't
 /// built is refused, and nothing is fetched for it.
 pub fn run_job<S: Shelf, W: Sink>(
@@ -190,14 +211,20 @@ pub fn run_job<S: Shelf, W: Sink>(
         OfTexts (S.held shelf.old) check (λ x y. TextsDiffer x y check.settings.conflicts (W.taken out.old) (W.taken out.new))) }
     ensures limit { result.name ≡ StatusName.Limit → OfCheck (Some task.now) (λ check.
         OfTexts (S.held shelf.old) check (λ x y. TextsUndecided x y check.settings.conflicts result.proofs (W.taken out.old) (W.taken out.new))) }
-    ensures read_fault { result.name ≡ StatusName.ReadFault → OfCheck (Some task.now) (ReadFailed (S.held shelf.old) (S.faults shelf.old) (S.faults shelf.new)) }
+    ensures done { result.name ≡ StatusName.Done → TakesReport (W.taken out.old) (W.taken out.new) (S.held shelf.old) (Some task.now) }
+    ensures read_fault { result.name ≡ StatusName.ReadFault → JobReadFailed (S.held shelf.old) (S.faults shelf.old) (S.faults shelf.new) (Some task.now) }
     ensures write_fault { result.name ≡ StatusName.WriteFault → Rose (W.faults out.old) (W.faults out.new) }
     // Where no read and no write fails, two texts that can be compared are answered.
     ensures complete { OfCheck (Some task.now) (CanAnswer (S.held shelf.old)) → result.name ≢ StatusName.ReadFault → result.name ≢ StatusName.WriteFault → IsAnswer result.name }
+    // So is a circuit that can be told or run.
+    ensures complete_graph { OfGraph (Some task.now) (λ path. IsSomeAnd (S.held shelf.old path) IsAccepted) → result.name ≢ StatusName.ReadFault → result.name ≢ StatusName.WriteFault → IsDone result.name }
+    ensures complete_sim { OfSim (Some task.now) (CanSimulate (S.held shelf.old)) → result.name ≢ StatusName.ReadFault → result.name ≢ StatusName.WriteFault → IsDone result.name }
     ensures served { OfCheck (Some task.now) (λ check. S.serves shelf.old check.left × S.serves shelf.old check.right) → result.name ≢ StatusName.ReadFault }
+    ensures served_graph { OfGraph (Some task.now) (λ path. S.serves shelf.old path) → result.name ≢ StatusName.ReadFault }
+    ensures served_sim { OfSim (Some task.now) (λ sim. S.serves shelf.old sim.circuit × S.serves shelf.old sim.stimulus) → result.name ≢ StatusName.ReadFault }
     ensures accepted { ((f : Finding) → IsFinding (S.held shelf.old) (Some task.now) f → W.accepts out.old (finding_text f)) → result.name ≢ StatusName.WriteFault }
     ensures keeps { SameHeld (S.held shelf.old) (S.held shelf.new) }
-    ensures idle { check_of task.now ≡ None → shelf.new ≡ shelf.old }
+    ensures idle { check_of task.now ≡ None → graph_of task.now ≡ None → sim_of task.now ≡ None → shelf.new ≡ shelf.old }
 {
     match find(alloc, task, shelf) {
         Ok(finding) => finish(alloc, finding, out),
@@ -215,14 +242,21 @@ pub fn run<S: Shelf, W: Sink>(alloc: Global, words: &[String], shelf: &mut S, ou
         OfTexts (S.held shelf.old) check (λ x y. TextsDiffer x y check.settings.conflicts (W.taken out.old) (W.taken out.new))) }
     ensures limit { result.name ≡ StatusName.Limit → OfCheck (job_of (map (λ w. string_bytes w) words.now)) (λ check.
         OfTexts (S.held shelf.old) check (λ x y. TextsUndecided x y check.settings.conflicts result.proofs (W.taken out.old) (W.taken out.new))) }
-    ensures read_fault { result.name ≡ StatusName.ReadFault → OfCheck (job_of (map (λ w. string_bytes w) words.now)) (ReadFailed (S.held shelf.old) (S.faults shelf.old) (S.faults shelf.new)) }
+    ensures done { result.name ≡ StatusName.Done → TakesReport (W.taken out.old) (W.taken out.new) (S.held shelf.old) (job_of (map (λ w. string_bytes w) words.now)) }
+    ensures read_fault { result.name ≡ StatusName.ReadFault → JobReadFailed (S.held shelf.old) (S.faults shelf.old) (S.faults shelf.new) (job_of (map (λ w. string_bytes w) words.now)) }
     ensures write_fault { result.name ≡ StatusName.WriteFault → Rose (W.faults out.old) (W.faults out.new) }
     // Where no read and no write fails, two texts that can be compared are answered.
     ensures complete { OfCheck (job_of (map (λ w. string_bytes w) words.now)) (CanAnswer (S.held shelf.old)) → result.name ≢ StatusName.ReadFault → result.name ≢ StatusName.WriteFault → IsAnswer result.name }
+    // So is a circuit that can be told or run.
+    ensures complete_graph { OfGraph (job_of (map (λ w. string_bytes w) words.now)) (λ path. IsSomeAnd (S.held shelf.old path) IsAccepted) → result.name ≢ StatusName.ReadFault → result.name ≢ StatusName.WriteFault → IsDone result.name }
+    ensures complete_sim { OfSim (job_of (map (λ w. string_bytes w) words.now)) (CanSimulate (S.held shelf.old)) → result.name ≢ StatusName.ReadFault → result.name ≢ StatusName.WriteFault → IsDone result.name }
     ensures served { OfCheck (job_of (map (λ w. string_bytes w) words.now)) (λ check. S.serves shelf.old check.left × S.serves shelf.old check.right) → result.name ≢ StatusName.ReadFault }
+    ensures served_graph { OfGraph (job_of (map (λ w. string_bytes w) words.now)) (λ path. S.serves shelf.old path) → result.name ≢ StatusName.ReadFault }
+    ensures served_sim { OfSim (job_of (map (λ w. string_bytes w) words.now)) (λ sim. S.serves shelf.old sim.circuit × S.serves shelf.old sim.stimulus) → result.name ≢ StatusName.ReadFault }
     ensures accepted { ((f : Finding) → IsFinding (S.held shelf.old) (job_of (map (λ w. string_bytes w) words.now)) f → W.accepts out.old (finding_text f)) → result.name ≢ StatusName.WriteFault }
     ensures keeps { SameHeld (S.held shelf.old) (S.held shelf.new) }
-    ensures idle { option_and_then check_of (job_of (map (λ w. string_bytes w) words.now)) ≡ None → shelf.new ≡ shelf.old }
+    ensures idle { option_and_then check_of (job_of (map (λ w. string_bytes w) words.now)) ≡ None → option_and_then graph_of (job_of (map (λ w. string_bytes w) words.now)) ≡ None
+        → option_and_then sim_of (job_of (map (λ w. string_bytes w) words.now)) ≡ None → shelf.new ≡ shelf.old }
 {
     match job(alloc, words) {
         Ok(task) => run_job(alloc, &task, shelf, out),

@@ -31,6 +31,8 @@ pub enum StatusName {
     NoMemory,
     /// A latch graph has a cycle.
     Cyclic,
+    /// The report of one circuit is written.
+    Done,
 }
 
 /// How a run ended.
@@ -67,6 +69,7 @@ impl Status {
             StatusName::WriteFault => 7,
             StatusName::NoMemory => 8,
             StatusName::Cyclic => 9,
+            StatusName::Done => 0,
         }
     }
 }

@@ -3,13 +3,13 @@
 ghost use Rattle.std.specs.Prelude.{◌≡◌, ℕ, List, [], ◌∷◌, ◌++◌, codes, OnOk, IfOk};
 ghost use Rattle.std.specs.Fmt.{decimal};
 ghost use Rattle.witness_report.specs.Text.{names_text};
-ghost use Rattle.sec_outcome.specs.Report.{report_text};
-ghost use Rattle.sec_cli.specs.Lines.{side_word, kind_text, design_fault_text, refusal_text, finding_text};
+ghost use Rattle.sec_cli.specs.Lines.{side_word, kind_text, design_fault_text, misfit_text, refusal_text, words_text, cycle_text};
 
-use crate::finding::{Finding, Refusal};
+use crate::finding::Refusal;
 use blif_read::ReadKind;
 use sec_base::{NoMemory, Seq, Side, Text, Words, put, put_number};
-use sec_check::{FlatError, report};
+use sec_check::FlatError;
+use sim_report::Misfit;
 use std::alloc::Global;
 
 /// Puts the word behind what stands before it in the line.
@@ -18,6 +18,14 @@ fn put_behind(text: &mut Vec<u8>, front: &[u8], word: &[u8]) -> Result<(), NoMem
 {
     put(text, front)?;
     put(text, word)
+}
+
+/// Puts the line of the word behind what stands before it.
+fn put_line(text: &mut Vec<u8>, front: &[u8], word: &[u8]) -> Result<(), NoMemory>
+    ensures { OnOk result (text.new.items ≡ text.old.items ++ (front.now ++ word.now ++ 10 ∷ [])) }
+{
+    put_behind(text, front, word)?;
+    put(text, b"\n")
 }
 
 fn side_word(side: Side) -> &'static str
@@ -111,6 +119,30 @@ fn put_design_fault(text: &mut Vec<u8>, fault: &FlatError) -> Result<(), NoMemor
     }
 }
 
+/// Puts the line of a stimulus's fault, which ends with the kind.
+fn put_stimulus_fault(
+    alloc: Global,
+    text: &mut Vec<u8>,
+    line: u32,
+    kind: &[u8],
+) -> Result<(), NoMemory>
+    ensures { OnOk result (text.new.items ≡ text.old.items ++ codes "refused S line " ++ decimal line ++ kind.now) }
+{
+    put(text, b"refused S line ")?;
+    put_number(alloc, text, u64::from(line))?;
+    put(text, kind)
+}
+
+fn put_misfit(text: &mut Vec<u8>, misfit: &Misfit) -> Result<(), NoMemory>
+    ensures { OnOk result (text.new.items ≡ text.old.items ++ misfit_text misfit.now) }
+{
+    match misfit {
+        Misfit::Unknown(name) => put_line(text, b"refused S Unknown ", name.as_slice()),
+        Misfit::Missing(name) => put_line(text, b"refused S Missing ", name.as_slice()),
+        Misfit::Power => put(text, b"refused Power\n"),
+    }
+}
+
 fn put_refusal(alloc: Global, text: &mut Vec<u8>, refusal: &Refusal) -> Result<(), NoMemory>
     ensures { OnOk result (text.new.items ≡ text.old.items ++ refusal_text refusal.now) }
 {
@@ -127,35 +159,43 @@ fn put_refusal(alloc: Global, text: &mut Vec<u8>, refusal: &Refusal) -> Result<(
             put_design_fault(text, fault)?;
             put(text, b"\n")
         }
-        Refusal::Interface(name) => {
-            put_behind(text, b"refused Interface ", name.as_slice())?;
-            put(text, b"\n")
-        }
+        Refusal::Interface(name) => put_line(text, b"refused Interface ", name.as_slice()),
         Refusal::TooLarge(side) => {
             put_side(text, *side)?;
             put(text, b" TooLarge\n")
         }
+        Refusal::StimulusTooLong => put(text, b"refused S TooLong\n"),
+        Refusal::BadHeader(line) => put_stimulus_fault(alloc, text, *line, b" BadHeader\n"),
+        Refusal::BadRow(line) => put_stimulus_fault(alloc, text, *line, b" BadRow\n"),
+        Refusal::Misfit(misfit) => put_misfit(text, misfit),
     }
 }
 
-fn put_cycle(text: &mut Vec<u8>, side: Side, names: &Words) -> Result<(), NoMemory>
-    ensures { OnOk result (text.new.items ≡ text.old.items ++ (codes "cyclic " ++ side_word side ++ names_text names.now ++ 10 ∷ [])) }
-{
-    put_behind(text, b"cyclic ", side_word(side).as_bytes())?;
-    put_names(text, names)?;
-    put(text, b"\n")
-}
-
-/// The report of what was found.
-pub fn finding_report(alloc: Global, finding: &Finding) -> Result<Text, NoMemory>
-    ensures { IfOk result (λ text. text ≡ finding_text finding.now) }
+/// The report that the words are no job.
+pub fn words_report(alloc: Global) -> Result<Text, NoMemory>
+    ensures { IfOk result (λ text. text ≡ words_text) }
 {
     let mut text = Vec::new(alloc);
-    match finding {
-        Finding::Words => put(&mut text, b"words refused\n")?,
-        Finding::Refused(refusal) => put_refusal(alloc, &mut text, refusal)?,
-        Finding::Cyclic(side, names) => put_cycle(&mut text, *side, names)?,
-        Finding::Checked(outcome, settings) => return report(alloc, outcome, settings),
-    }
+    put(&mut text, b"words refused\n")?;
+    Ok(Seq::from_vec(text))
+}
+
+/// The report of a refusal.
+pub fn refusal_report(alloc: Global, refusal: &Refusal) -> Result<Text, NoMemory>
+    ensures { IfOk result (λ text. text ≡ refusal_text refusal.now) }
+{
+    let mut text = Vec::new(alloc);
+    put_refusal(alloc, &mut text, refusal)?;
+    Ok(Seq::from_vec(text))
+}
+
+/// The report of a cycle of a side's latch graph.
+pub fn cycle_report(alloc: Global, side: Side, names: &Words) -> Result<Text, NoMemory>
+    ensures { IfOk result (λ text. text ≡ cycle_text side names.now) }
+{
+    let mut text = Vec::new(alloc);
+    put_behind(&mut text, b"cyclic ", side_word(side).as_bytes())?;
+    put_names(&mut text, names)?;
+    put(&mut text, b"\n")?;
     Ok(Seq::from_vec(text))
 }
