@@ -56,8 +56,7 @@ const WIDE_EARLY: &str =
 
 const CONSTANT_LATCH: &str = ".model m\n.outputs y\n.names k\n1\n.latch k y\n.end\n";
 
-const TOGGLE: &str =
-    ".model m\n.outputs y\n.names q n\n0 1\n.latch n q\n.names q y\n1 1\n.end\n";
+const TOGGLE: &str = ".model m\n.outputs y\n.names q n\n0 1\n.latch n q\n.names q y\n1 1\n.end\n";
 
 /// What Yosys and ABC write.
 const YOSYS: &str =
@@ -90,8 +89,7 @@ const OPEN_INPUT: &str =
 
 const RECURSIVE: &str = ".model m\n.inputs u\n.subckt m u=u\n.end\n";
 
-const LOOP: &str =
-    ".model m\n.inputs a b\n.outputs y\n.names y x\n1 1\n.names x y\n1 1\n.end\n";
+const LOOP: &str = ".model m\n.inputs a b\n.outputs y\n.names y x\n1 1\n.names x y\n1 1\n.end\n";
 
 const GATED: &str =
     ".model m\n.inputs d e c\n.outputs y\n.names c e g\n11 1\n.latch d y re g 2\n.end\n";
@@ -387,13 +385,11 @@ fn late_adder(alloc: Global) -> Result<String, Fail> {
     put_adder_ports(alloc, &mut text)?;
     for i in 0u32..8 {
         let next = i + 1;
-        text.push_str(
-            format!(in alloc; ".names a{i} b{i} c{i} c{next}\n11- 1\n1-1 1\n-11 1\n")?.as_str(),
-        )?;
+        text.push_str(format!(in alloc;
+            ".names a{i} b{i} c{i} c{next}\n11- 1\n1-1 1\n-11 1\n"
+        )?.as_str())?;
     }
-    text.push_str(
-        ".names a8 b8 c8 n\n100 1\n010 1\n001 1\n111 1\n.latch n s\n.end\n",
-    )?;
+    text.push_str(".names a8 b8 c8 n\n100 1\n010 1\n001 1\n111 1\n.latch n s\n.end\n")?;
     Ok(text)
 }
 
@@ -407,17 +403,14 @@ fn early_adder(alloc: Global) -> Result<String, Fail> {
     text.push_str(".latch c0 k0\n")?;
     for i in 0u32..8 {
         let next = i + 1;
-        text.push_str(
-            format!(in alloc; ".names u{i} v{i} g{i}\n11 1\n.names u{i} v{i} h{i}\n10 1\n01 1\n")?
-                .as_str(),
-        )?;
-        text.push_str(
-            format!(in alloc; ".names g{i} h{i} k{i} k{next}\n1-- 1\n-11 1\n")?.as_str(),
-        )?;
+        text.push_str(format!(in alloc;
+            ".names u{i} v{i} g{i}\n11 1\n.names u{i} v{i} h{i}\n10 1\n01 1\n"
+        )?.as_str())?;
+        text.push_str(format!(in alloc;
+            ".names g{i} h{i} k{i} k{next}\n1-- 1\n-11 1\n"
+        )?.as_str())?;
     }
-    text.push_str(
-        ".names u8 v8 h8\n10 1\n01 1\n.names h8 k8 s\n10 1\n01 1\n.end\n",
-    )?;
+    text.push_str(".names u8 v8 h8\n10 1\n01 1\n.names h8 k8 s\n10 1\n01 1\n.end\n")?;
     Ok(text)
 }
 
@@ -428,8 +421,18 @@ fn a_wide_pair_is_searched(rt: HostRuntime) -> Result<(), Fail> {
     let early = early_adder(alloc)?;
     for (line, wanted, code, proofs) in [
         ("check a b --conflicts=0", ADDER_AT_ITS_LIMIT, 3u8, 1usize),
-        ("check a a --conflicts=0", "inputs 19\nlatches 1 1\nexposed 0\npair s depth 1 equal\nverdict equal\n", 0, 0),
-        ("check a b", "inputs 19\nlatches 1 19\nexposed 0\npair s depth 1 equal\nverdict equal\n", 0, 0),
+        (
+            "check a a --conflicts=0",
+            "inputs 19\nlatches 1 1\nexposed 0\npair s depth 1 equal\nverdict equal\n",
+            0,
+            0,
+        ),
+        (
+            "check a b",
+            "inputs 19\nlatches 1 19\nexposed 0\npair s depth 1 equal\nverdict equal\n",
+            0,
+            0,
+        ),
     ] {
         let words = words_of(alloc, line)?;
         let mut shelf = shelf_of(alloc, late.as_str(), early.as_str(), 0)?;
