@@ -2,7 +2,7 @@
 use Rattle.std.proofs.Common.{◌≡◌, ℕ, ◌+◌, ◌<◌, ◌≤◌, max, Bool, true, false, List, [], ◌∷◌, map, length, refl, sym, ◌∙◌, ap, subst, arith, inl, inr, ◌⊎◌, Some, slice_get}
 use Rattle.std.specs.Prelude.{not, ◌&&◌, ◌||◌, ◌==◌}
 use Rattle.std.specs.List.{Contains, filter, list_any}
-use Rattle.std.proofs.lemmas.Option.{slice_get_within, same_Some}
+use Rattle.std.proofs.lemmas.Option.{slice_get_within}
 use Rattle.circuit_theory.specs.Names.{is_among}
 use Rattle.circuit_theory.specs.Circuit.{Circuit, Gate as gate_equation, Latch as latch_equation, Port as port_equation, Named, IsLatch, Reads}
 use Rattle.circuit_theory.specs.Interface.{Ports, is_clock, inputs_beside, AreNumbersOf}
@@ -19,6 +19,7 @@ use Rattle.flat_net.specs.declared.parts.Gate.{Gate}
 use Rattle.flat_net.specs.declared.parts.LatchAt.{LatchAt}
 use Rattle.flat_net.specs.View.{NetView, named, equation_of_gate, equation_of_latch, circuit_of, is_read, ports_of}
 use Rattle.flat_net.proofs.Nets.{OfGate, OfLatch, equation_from}
+use Rattle.flat_net.proofs.Places.{one_at}
 use Rattle.sec_base.proofs.TableLemmas.{key_at}
 use Rattle.plain_form.proofs.Matched.{is_kept, Contains-filter_in}
 
@@ -171,5 +172,5 @@ module _ (n : NetView) where
       let at = at_of shared input.port.name (kept input.port.name (read_is_kept other input.k input.port input.at read)) in
       let own : slice_get (ports_of n).inputs input.k ≡ Some input.port.name = slice_get-map (λ (p : Port). p.name) n.inputs input.k input.port input.at in
       let common : slice_get order input.k ≡ Some at.0 = numbers.common input.k at.0 input.port.name own at.1 in
-      let same : at.0 ≡ y.input = same_Some at.0 y.input (sym common ∙ input.number) in
+      let same : at.0 ≡ y.input = one_at order input.k at.0 y.input common input.number in
       subst (λ i. i < length shared) same (slice_get_within shared at.0 input.port.name at.1)
