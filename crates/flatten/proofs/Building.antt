@@ -134,15 +134,6 @@ pub record HasInputs (names : List (List ℕ)) (clock : Option ℕ) (inputs : Li
 
 module _ (names : List (List ℕ)) (clock : Option ℕ) (inputs : List ℕ) (before after : MakerView) (signals : List Signal) (i n : ℕ) (at : slice_get inputs i ≡ Some n)
     (has : HasInputs names clock inputs before after signals i) where
-  pub inputs_pass : is_number clock n ≡ true → HasInputs names clock inputs before after signals (i + 1)
-  inputs_pass e =
-      let same : unclocked clock (take i inputs) ≡ unclocked clock (take (i + 1) inputs) = sym (filter-take (λ m. not (is_number clock m)) inputs i n at
-      ∙ ap (λ (b : Bool). cond (not b) (unclocked clock (take i inputs) ++ n ∷ []) (unclocked clock (take i inputs))) e) in
-      record {
-        built = subst (λ (ns : List ℕ). IsBuilt names ns after.net signals) same has.built;
-        net = has.net ∙ ap (λ (ns : List ℕ). record before { net = with_inputs names ns before.net }) same;
-      }
-
   module _ (e : is_number clock n ≡ false) (distinct : AreDistinct (unclocked clock inputs)) where
     more : unclocked clock (take (i + 1) inputs) ≡ unclocked clock (take i inputs) ++ n ∷ []
     more = filter-take (λ m. not (is_number clock m)) inputs i n at

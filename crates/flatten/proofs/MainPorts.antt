@@ -10,7 +10,7 @@ use Rattle.circuit_theory.proofs.Lists.{Contains-head, Contains-cases, at_of}
 use Rattle.sec_base.specs.Table.{is_among, AreDistinct}
 use Rattle.sec_base.proofs.TableLemmas.{Contains_not-is_among}
 use Rattle.blif_read.specs.declared.design.BlifModel.{BlifModel}
-use Rattle.blif_read.specs.Design.{top, name_of, main_inputs, main_outputs, main_clocks}
+use Rattle.blif_read.specs.Design.{top, name_of, main_inputs, main_outputs}
 use Rattle.blif_read.specs.Fault.{repeats}
 use Rattle.blif_read.specs.Kept.{ports_distinct, written_names, names_in_model, names_in_all}
 use Rattle.flat_walk.specs.declared.flat.Flat.{Flat}
@@ -69,15 +69,9 @@ module _ (models : List BlifModel) (flat : Flat) (walked : IsWalked models flat)
   pub inputs_named : map (name_at flat.names) flat.inputs ≡ main_inputs models
   inputs_named = ap (λ (d : FlatDesign (List ℕ)). d.inputs) walked.same ∙ top_names (main_inputs models)
 
-  pub clocks_named : map (name_at flat.names) flat.clocks ≡ main_clocks models
-  clocks_named = ap (λ (d : FlatDesign (List ℕ)). d.clocks) walked.same ∙ top_names (main_clocks models)
-
   pub outputs_named : map (name_at flat.names) flat.outputs ≡ main_outputs models
   outputs_named = ap (λ (d : FlatDesign (List ℕ)). d.outputs) walked.same ∙ top_names (main_outputs models)
 
   -- no number stands twice among the inputs
   pub inputs_distinct : list_all ports_distinct models ≡ true → AreDistinct flat.inputs
   inputs_distinct ports = distinct_named (name_at flat.names) flat.inputs (subst AreDistinct (sym inputs_named) (main_distinct models ports).0)
-
-  pub outputs_distinct : list_all ports_distinct models ≡ true → AreDistinct flat.outputs
-  outputs_distinct ports = distinct_named (name_at flat.names) flat.outputs (subst AreDistinct (sym outputs_named) (main_distinct models ports).1)

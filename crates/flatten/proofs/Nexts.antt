@@ -1,5 +1,5 @@
 -- What latches take over: one after another is set.
-use Rattle.std.proofs.Common.{◌≡◌, ◌+◌, ◌<◌, ◌∙◌, ℕ, zero, suc, Bool, true, List, [], ◌∷◌, ◌++◌, map, length, take, drop, set, get_or, replicate, slice_get, Some, refl, sym, ap, subst, append_assoc, append-nil, arith, eqb-true, ltb-true}
+use Rattle.std.proofs.Common.{◌≡◌, ◌+◌, ◌<◌, ◌∙◌, ℕ, zero, suc, Bool, true, List, [], ◌∷◌, ◌++◌, map, length, take, drop, set, get_or, replicate, slice_get, Some, refl, sym, ap, subst, append_assoc, append-nil, arith, ltb-true}
 use Rattle.std.specs.Prelude.{◌&&◌, nat_lt, Option}
 use Rattle.std.specs.List.{All, Contains, list_all}
 use Rattle.std.proofs.lemmas.Bool.{and_parts}
@@ -18,7 +18,7 @@ use Rattle.flat_net.specs.Makes.{MakerView, next_set, with_next}
 use Rattle.flat_walk.specs.declared.flat.FlatStatement.{FlatStatement}
 use Rattle.flat_walk.specs.declared.flat.FlatKind.{FlatKind}
 use Rattle.flat_walk.specs.declared.flat.FlatKind.TheVariants as kind
-use Rattle.flat_walk.specs.Within.{is_within, has_clock_within, can_read, reads_as_kind}
+use Rattle.flat_walk.specs.Within.{is_within, has_clock_within}
 use Rattle.flat_walk.specs.Flat.{first_of}
 use Rattle.flatten.specs.Built.{latch_out, latch_outs}
 use Rattle.flatten.specs.Shown.{signal_at, latch_data, latch_signals, latch_nexts, with_nexts}
@@ -92,10 +92,6 @@ counts signals (s ∷ ss) = by s.kind (counts signals ss)
     by (kind.Gate model statement) e = e
     by (kind.Latch edge control init) e = ap suc e
     by kind.Port e = e
-
--- a latch's data is the one number that it reads
-pub latch_reads : (statements : List FlatStatement) (i : ℕ) (s : FlatStatement) (edge : Option Edge) (control : Option ℕ) (init : Init) → list_all reads_as_kind statements ≡ true → slice_get statements i ≡ Some s → s.kind ≡ kind.Latch edge control init → length s.reads ≡ 1
-latch_reads statements i s edge control init all at is = eqb-true (length s.reads) 1 (subst (λ (q : FlatKind). can_read (length s.reads) q ≡ true) is (list_all_place reads_as_kind statements i s all at))
 
 pub read_within : (size : ℕ) (statements : List FlatStatement) (i : ℕ) (s : FlatStatement) (r : ℕ) → list_all (is_within size) statements ≡ true → slice_get statements i ≡ Some s → slice_get s.reads 0 ≡ Some r → r < size
 read_within size statements i s r all at h =

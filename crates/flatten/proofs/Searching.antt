@@ -1,9 +1,9 @@
 -- The turns of a search through what numbers read.
-use Rattle.std.proofs.Common.{◌≡◌, ◌≢◌, ◌+◌, ◌-◌, ◌<◌, ◌≤◌, ◌∙◌, ℕ, zero, suc, List, [], ◌∷◌, ◌++◌, length, take, drop, reverse, replicate, set, slice_get, get_or, unwrap_or, cond, ltb, Bool, true, false, Option, Some, None, refl, sym, ap, subst, arith, inl, inr}
+use Rattle.std.proofs.Common.{◌≡◌, ◌≢◌, ◌+◌, ◌-◌, ◌<◌, ◌≤◌, ◌∙◌, ℕ, zero, suc, List, [], ◌∷◌, ◌++◌, length, take, drop, reverse, set, slice_get, get_or, unwrap_or, cond, ltb, Bool, true, false, Option, Some, None, refl, sym, ap, subst, arith, inl, inr}
 use Rattle.std.specs.Prelude.{◌⊎◌, IfSome, ◌==◌}
 use Rattle.std.specs.List.{All, Contains, position, position_or_len}
 use Rattle.std.proofs.lemmas.Bool.{cases_lt}
-use Rattle.std.proofs.lemmas.List.{get_or-reverse, get_or-drop, length-replicate, length-reverse, length-drop, take_all}
+use Rattle.std.proofs.lemmas.List.{get_or-reverse, get_or-drop, length-reverse, length-drop, take_all}
 use Rattle.std.proofs.lemmas.List.Quantifiers.{position-Some}
 use Rattle.std.proofs.lemmas.Bool.Decides.{Decides-eqb, Decides-ltb}
 use Rattle.std.proofs.lemmas.Option.{none-some, same_Some, slice_get_within, slice_get_read, slice_get-get_or, get_or_from_slice_get}
@@ -446,27 +446,6 @@ no_last [] h = refl
 no_last (x ∷ way) h =
     let e : slice_get (x ∷ way) (length (x ∷ way) - 1) ≡ Some (get_or (x ∷ way) (length (x ∷ way) - 1) 0) = slice_get-get_or (x ∷ way) (length (x ∷ way) - 1) 0 (omega arith) in
     absurd (none-some _ (sym h ∙ e))
-
--- the search begins with nothing met
-pub search_begins : (graph : List (List ℕ)) (n : ℕ) → n ≡ length graph → IsSearch graph (replicate n New) [] []
-search_begins graph n e = record {
-  size = length-replicate n New ∙ e;
-  entered = λ i m h. absurd (none-some m h);
-  on_way = λ m k h. absurd (entered-new k (sym (all_new n m (Entered k) h)));
-  distinct = λ i j m hi hj. absurd (none-some m hi);
-  next = λ i m q hm hq. absurd (none-some m hm);
-  few = λ m k h. absurd (entered-new k (sym (all_new n m (Entered k) h)));
-  looked = λ m k j r h l there. absurd (entered-new k (sym (all_new n m (Entered k) h)));
-  done = λ m h. absurd (done-new (sym (all_new n m Done h)));
-  only = λ i m h. absurd (none-some m h);
-  once = λ i j m hi hj. absurd (none-some m hi);
-  behind = λ i m r h reads. absurd (none-some m h);
-}
-  where
-    all_new : (n m : ℕ) (mark : Mark) → slice_get (replicate n New) m ≡ Some mark → New ≡ mark
-    all_new zero m mark h = absurd (none-some mark h)
-    all_new (suc n) zero mark h = same_Some New mark h
-    all_new (suc n) (suc m) mark h = all_new n m mark h
 
 -- where all numbers are met and the way is empty, the order is whole
 pub search_ends : (graph : List (List ℕ)) (marks : List Mark) (way order : List ℕ) → IsSearch graph marks way order → way ≡ [] → ((n : ℕ) → n < length graph → IsMet marks n) → IsOrder graph order

@@ -3,7 +3,7 @@ use Rattle.std.proofs.Common.{◌≡◌, ◌∙◌, ◌<◌, ℕ, true, false, B
 use Rattle.std.specs.Prelude.{◌⊎◌}
 use Rattle.std.specs.List.{All, Contains}
 use Rattle.std.proofs.lemmas.List.Elements.{All-contains, Contains-append_left, Contains-append_right, Contains-append_cases}
-use Rattle.std.proofs.lemmas.Option.{slice_get-get_or, slice_get_within, get_or_from_slice_get}
+use Rattle.std.proofs.lemmas.Option.{slice_get-get_or, get_or_from_slice_get}
 use Rattle.circuit_theory.specs.Cover.{Cover}
 use Rattle.circuit_theory.specs.Circuit.{Equation, Gate, Latch, Port, Named, out_of}
 use Rattle.circuit_theory.specs.Flattened.{Follows}
@@ -44,10 +44,6 @@ place_there (m ∷ ms) n h = by (m == n) refl (Contains-cases m n ms h) (λ k. p
     by true e k rest = ap Some (eqb-true m n e)
     by false e (inl same) rest = absurd (true≢false (sym (eq-eqb m n same) ∙ e))
     by false e (inr later) rest = rest later
-
--- a spot is within the net
-pub spot_within : (flat : Flat) (wired : WiredView) (order : List ℕ) (n : ℕ) → HasSpot flat wired order n → spot flat wired order n < length (made_by flat wired order)
-spot_within flat wired order n live = slice_get_within (made_by flat wired order) (spot flat wired order n) _ (place_there (made_by flat wired order) _ live)
 
 -- the data of a latch is what it reads
 pub data_read : (flat : Flat) (k n : ℕ) (s : FlatStatement) → slice_get flat.statements k ≡ Some s → Contains (latch_data s.kind s.out s.reads) n → (s.kind ≡ kind.Port → ⊥) × Contains s.reads n

@@ -97,7 +97,7 @@ impl Assembly {
         Ok(())
     }
 
-    /// The inputs but the clock and the latches, each of which takes over itself.
+    /// The net of the inputs, without the clock, and of the latches, each of which takes over itself until its next is set.
     pub(crate) fn begin(
         alloc: Global,
         flat: &Flat,
@@ -114,7 +114,7 @@ impl Assembly {
         Ok(assembly)
     }
 
-    /// The net, with this clock.
+    /// The finished net, with the clock of this number, if there is one.
     pub(crate) fn finish(
         self,
         alloc: Global,

@@ -1,5 +1,5 @@
 -- What the answer to a pair's query says of its result, and of its sequence.
-use Rattle.std.proofs.Common.{◌≡◌, ◌≢◌, ℕ, ◌+◌, ◌<◌, ◌≤◌, max, Bool, List, [], ◌∷◌, map, length, slice_get, Option, Some, None, refl, sym, ◌∙◌, ap, subst, arith, inl, inr}
+use Rattle.std.proofs.Common.{◌≡◌, ℕ, ◌<◌, ◌≤◌, max, Bool, List, map, length, Option, None, refl, sym, ◌∙◌, ap, subst, arith, inl, inr}
 use Rattle.std.specs.List.{All, Contains}
 use Rattle.std.proofs.lemmas.List.Elements.{All-map}
 use Rattle.circuit_theory.specs.Circuit.{Circuit}
@@ -10,10 +10,9 @@ use Rattle.circuit_theory.specs.Query.{Variable, HasLeaf, bits_of, pair_query, s
 use Rattle.circuit_theory.specs.Query as query
 use Rattle.circuit_theory.specs.Run.{NoneEnabled}
 use Rattle.circuit_theory.specs.Sequence.{sequence_rows}
-use Rattle.circuit_theory.specs.Tree.{Tree, HaveEqualFunctions, tree_value}
+use Rattle.circuit_theory.specs.Tree.{HaveEqualFunctions}
 use Rattle.circuit_theory.proofs.Lists.{All-from_each}
 use Rattle.circuit_theory.proofs.TreeDepth.{tree_depth}
-use Rattle.sec_base.specs.declared.basics.PairAnswer.TheVariants as answer
 use Rattle.flat_net.specs.declared.parts.Port.{Port}
 use Rattle.flat_net.specs.View.{NetView, circuit_of, ports_of}
 use Rattle.flat_net.specs.Sound.{IsSound}
@@ -28,12 +27,11 @@ use Rattle.pair_decide.specs.declared.query.Decision.{Decision}
 use Rattle.pair_decide.specs.declared.query.Decision.TheVariants as decision
 use Rattle.pair_decide.specs.Queries.{IsSame}
 use Rattle.pair_decide.specs.Answers.{Decides, IsDifference, IsAtLimit}
-use Rattle.witness_report.specs.declared.witness.PairName.TheVariants as pair
 use Rattle.witness_report.specs.declared.witness.Witness.{Witness}
 use Rattle.sec_outcome.specs.declared.outcome.PairResult.{PairResult}
 use Rattle.plain_form.specs.Found.{IsResultOf}
 use Rattle.plain_form.specs.Limits.{IsUndecided}
-use Rattle.plain_form.specs.Outcome.{HaveDifferentFunctions, AnswerFits, PairFits}
+use Rattle.plain_form.specs.Outcome.{HaveDifferentFunctions, PairFits}
 use Rattle.plain_form.specs.Sequences.{bits_at, IsSequence, IsWitnessOf}
 use Rattle.plain_form.specs.Variables.{variable_of, variables_of}
 use Rattle.plain_form.proofs.Leaves.{leaf_shift, leaf_is_shared}

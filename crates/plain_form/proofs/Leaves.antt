@@ -1,10 +1,10 @@
 -- The leaves of an output's tree: shared inputs, at shifts up to the tree's depth.
-use Rattle.std.proofs.Common.{◌≡◌, ℕ, suc, ◌+◌, ◌<◌, ◌≤◌, max, Bool, true, false, cond, List, [], ◌∷◌, map, length, refl, sym, ◌∙◌, ap, subst, arith, inl, inr, ◌⊎◌, Some, slice_get}
+use Rattle.std.proofs.Common.{◌≡◌, ℕ, ◌+◌, ◌<◌, ◌≤◌, max, Bool, true, false, List, [], ◌∷◌, map, length, refl, sym, ◌∙◌, ap, subst, arith, inl, inr, ◌⊎◌, Some, slice_get}
 use Rattle.std.specs.Prelude.{not, ◌&&◌, ◌||◌, ◌==◌}
-use Rattle.std.specs.List.{All, Contains, filter, list_any}
+use Rattle.std.specs.List.{Contains, filter, list_any}
 use Rattle.std.proofs.lemmas.Option.{slice_get_within, same_Some}
 use Rattle.circuit_theory.specs.Names.{is_among}
-use Rattle.circuit_theory.specs.Circuit.{Circuit, Equation, Gate as gate_equation, Latch as latch_equation, Port as port_equation, Named, IsLatch, Reads}
+use Rattle.circuit_theory.specs.Circuit.{Circuit, Gate as gate_equation, Latch as latch_equation, Port as port_equation, Named, IsLatch, Reads}
 use Rattle.circuit_theory.specs.Interface.{Ports, is_clock, inputs_beside, AreNumbersOf}
 use Rattle.circuit_theory.specs.Tree.{Tree, Trees, Unfolds, UnfoldsAll, IsInputNumber}
 use Rattle.circuit_theory.specs.Query.{Variable, HasLeaf, HasLeafIn}
@@ -170,5 +170,6 @@ module _ (n : NetView) where
       let read = visited_is_read s y.at input.port.signal shown (subst (λ q. Visits (circuit_of n) s 0 q y.at) (sym input.place) visit.2) in
       let at = at_of shared input.port.name (kept input.port.name (read_is_kept other input.k input.port input.at read)) in
       let own : slice_get (ports_of n).inputs input.k ≡ Some input.port.name = slice_get-map (λ (p : Port). p.name) n.inputs input.k input.port input.at in
-      let same : at.0 ≡ y.input = same_Some at.0 y.input (sym (numbers.common input.k at.0 input.port.name own at.1) ∙ input.number) in
+      let common : slice_get order input.k ≡ Some at.0 = numbers.common input.k at.0 input.port.name own at.1 in
+      let same : at.0 ≡ y.input = same_Some at.0 y.input (sym common ∙ input.number) in
       subst (λ i. i < length shared) same (slice_get_within shared at.0 input.port.name at.1)

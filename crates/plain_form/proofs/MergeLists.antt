@@ -1,7 +1,7 @@
 -- Merging two lists of variables, which are in order.
-use Rattle.std.proofs.Common.{◌≡◌, ℕ, zero, suc, ◌+◌, ◌<◌, ◌≤◌, List, [], ◌∷◌, ◌++◌, length, drop, map, slice_get, Some, refl, sym, ◌∙◌, ap, subst, arith, inl, inr, add-one, append_assoc, append-nil}
-use Rattle.std.specs.Prelude.{◌⊎◌, ◌↔◌}
-use Rattle.std.specs.List.{All, AllPairs, Contains}
+use Rattle.std.proofs.Common.{◌≡◌, ℕ, zero, suc, ◌+◌, ◌≤◌, List, [], ◌∷◌, ◌++◌, length, drop, slice_get, Some, refl, sym, ◌∙◌, ap, subst, arith, inl, inr, add-one, append_assoc, append-nil}
+use Rattle.std.specs.Prelude.{◌⊎◌}
+use Rattle.std.specs.List.{AllPairs, Contains}
 use Rattle.std.proofs.lemmas.List.Kept.{AllPairs-cons}
 use Rattle.std.proofs.lemmas.Option.{slice_get_within, same_Some}
 use Rattle.circuit_theory.specs.Query.{Variable, ShiftBefore}
@@ -115,7 +115,6 @@ module _ (places : List (ℕ × ℕ)) where
   Rest left right i j merged = (more : List ℕ) → IsMergeOf places (drop i left) (drop j right) more → IsMergeOf places left right (merged ++ more)
 
   module _ (left right : List ℕ) (left_ordered : AllPairs R left) (right_ordered : AllPairs R right) where
-
     left_at : (i u : ℕ) → slice_get left i ≡ Some u → AllPairs R (u ∷ drop (suc i) left)
     left_at i u at = subst (AllPairs R) (drop_at left i u at) (pairs_drop R i left left_ordered)
 

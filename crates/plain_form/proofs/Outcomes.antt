@@ -1,11 +1,10 @@
 -- The whole outcome fits, and each refusal has its cause.
-use Rattle.std.proofs.Common.{◌≡◌, ◌≢◌, ℕ, zero, suc, ◌+◌, ◌<◌, ◌≤◌, List, [], ◌∷◌, ◌++◌, map, length, slice_get, Option, Some, None, Err, refl, sym, ◌∙◌, ap, subst, arith, inl, inr}
+use Rattle.std.proofs.Common.{◌≡◌, ◌≢◌, ℕ, suc, ◌<◌, List, [], ◌∷◌, ◌++◌, map, length, slice_get, Option, Some, None, Err, refl, sym, ◌∙◌, ap, subst, arith, inl, inr}
 use Rattle.std.specs.Prelude.{◌⊎◌}
 use Rattle.std.specs.List.{All, AllZip, Contains}
 use Rattle.std.proofs.lemmas.List.Elements.{All-contains}
 use Rattle.std.proofs.lemmas.Option.{same_Some}
 use Rattle.circuit_theory.specs.declared.Side.TheVariants.{A, B}
-use Rattle.circuit_theory.specs.Agree.{place_named}
 use Rattle.circuit_theory.specs.Flattened.{latch_names}
 use Rattle.circuit_theory.specs.Interface.{shared_inputs, first_mismatch, AreNumbersOf, AreOrders}
 use Rattle.circuit_theory.proofs.Lists.{All-from_each, Contains-cases, Contains-head, Contains-map, Contains-map_from, Contains-tail, at_of}
@@ -22,19 +21,17 @@ use Rattle.flat_net.specs.declared.parts.LatchAt.{LatchAt}
 use Rattle.flat_net.specs.View.{NetView, named, circuit_of, ports_of, equation_of_gate, equation_of_latch}
 use Rattle.flat_net.specs.Sound.{IsSound}
 use Rattle.cbf_unfold.specs.View.{IsOrderOf}
-use Rattle.pair_decide.specs.declared.query.Proof.{Proof}
 use Rattle.witness_report.specs.declared.witness.Witness.{Witness}
 use Rattle.sec_outcome.specs.declared.outcome.Outcome.{Outcome}
 use Rattle.sec_outcome.specs.declared.outcome.PairResult.{PairResult}
 use Rattle.sec_outcome.specs.declared.outcome.Verdict.{Verdict}
 use Rattle.sec_outcome.specs.declared.outcome.Verdict.TheVariants as verdict
-use Rattle.sec_outcome.specs.declared.outcome.LimitAt.{LimitAt}
 use Rattle.plain_form.specs.declared.error.PlainError.{PlainError}
 use Rattle.plain_form.specs.declared.error.PlainError.TheVariants as refused
 use Rattle.plain_form.specs.declared.pairing.OutputPair.{OutputPair}
-use Rattle.plain_form.specs.Formed.{outputs_of, IsLight, IsTooLarge, Formed}
-use Rattle.plain_form.specs.Found.{IsFirst, HaveFound, IsVerdictOf}
-use Rattle.plain_form.specs.Outcome.{AnswerFits, PairFits, PairsFit, VerdictFits, OutcomeFits, greatest_size}
+use Rattle.plain_form.specs.Formed.{outputs_of, IsLight, Formed}
+use Rattle.plain_form.specs.Found.{HaveFound, IsVerdictOf}
+use Rattle.plain_form.specs.Outcome.{AnswerFits, PairFits, VerdictFits, OutcomeFits, greatest_size}
 use Rattle.plain_form.specs.Pairs.{IsOutputPair, AreLight, AreTooLarge, Unfolds, left_signals, right_signals}
 use Rattle.plain_form.proofs.Assignments.{once_each}
 use Rattle.plain_form.proofs.Growing.{over_weaker, weight_same}

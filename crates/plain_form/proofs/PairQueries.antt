@@ -1,6 +1,6 @@
 -- The query of two functions on one graph and table, and what its answers say of their trees.
-use Rattle.std.proofs.Common.{◌≡◌, ◌≢◌, ℕ, ◌*◌, ◌^◌, ◌<◌, ◌≤◌, Bool, true, List, [], ◌∷◌, map, length, get_or, slice_get, Some, refl, sym, ◌∙◌, ap, subst, arith, inl, inr}
-use Rattle.std.specs.Prelude.{◌⊎◌, ◌↔◌}
+use Rattle.std.proofs.Common.{◌≡◌, ◌≢◌, ℕ, ◌^◌, ◌<◌, Bool, true, List, [], ◌∷◌, map, length, get_or, slice_get, Some, refl, sym, ◌∙◌, ap, subst, arith, inl, inr}
+use Rattle.std.specs.Prelude.{◌⊎◌}
 use Rattle.std.specs.List.{All, AllPairs, AllZip, Contains}
 use Rattle.std.proofs.lemmas.List.Elements.{All-nil, All-cons}
 use Rattle.std.proofs.lemmas.List.Kept.{AllPairs-cons}
@@ -26,7 +26,7 @@ use Rattle.cbf_unfold.specs.Unfolded.{IsNumberOf}
 use Rattle.cbf_unfold.proofs.Cone.{covers_cone, reached_one, constant_reaches}
 use Rattle.cbf_unfold.proofs.Lists.{pairs_map}
 use Rattle.pair_decide.specs.declared.query.Query.{Query}
-use Rattle.pair_decide.specs.Queries.{IsQuery, IsSame, IsLeast, Distinguishes, assigned_to, roots_of, numbered}
+use Rattle.pair_decide.specs.Queries.{IsQuery, IsSame, IsLeast, Distinguishes, assigned_to, roots_of}
 use Rattle.plain_form.specs.Limits.{HasValueOf}
 use Rattle.plain_form.specs.Pairs.{IsFunctionOf}
 use Rattle.plain_form.specs.Sequences.{bits_at}

@@ -1,5 +1,5 @@
 -- The rows of a sequence, cycle by cycle: the variables of each cycle's shift stand behind each other.
-use Rattle.std.proofs.Common.{◌≡◌, ◌≢◌, ℕ, zero, suc, ◌+◌, ◌-◌, ◌<◌, ◌≤◌, Bool, true, false, cond, List, [], ◌∷◌, ◌++◌, map, length, take, drop, get_or, slice_get, Option, Some, None, refl, sym, ◌∙◌, ap, subst, arith, add-one, inl, inr, nat_le}
+use Rattle.std.proofs.Common.{◌≡◌, ◌≢◌, ℕ, zero, suc, ◌+◌, ◌-◌, ◌<◌, ◌≤◌, Bool, true, false, cond, List, [], ◌∷◌, ◌++◌, map, length, take, drop, get_or, slice_get, Option, Some, None, refl, sym, ◌∙◌, ap, subst, arith, inl, inr, nat_le}
 use Rattle.std.specs.Prelude.{◌⊎◌, is_some}
 use Rattle.std.specs.List.{All, AllPairs, Contains}
 use Rattle.std.proofs.lemmas.List.{take-append-drop, drop-drop, length-drop, map-append}
@@ -19,7 +19,7 @@ use Rattle.aig.specs.declared.node.Node.{Node}
 use Rattle.pair_decide.specs.declared.query.Query.{Query}
 use Rattle.pair_decide.specs.Queries.{assigned_to}
 use Rattle.witness_report.specs.declared.witness.Witness.{Witness}
-use Rattle.plain_form.specs.Variables.{variable_of, variables_of, GoesBefore, AreInOrder}
+use Rattle.plain_form.specs.Variables.{variable_of, variables_of, GoesBefore}
 use Rattle.plain_form.specs.Sequences.{bits_at, IsSequence, EndsShift, IsWitnessOf, IsFirstOf}
 use Rattle.plain_form.proofs.MergeLists.{pairs_drop}
 use Rattle.plain_form.proofs.Assignments.{length_take, assigned_in_shift, front_left_out, back_left_out}
@@ -85,9 +85,6 @@ pub record IsAtCycle (places : List (ℕ × ℕ)) (vars : List ℕ) (last cycle 
   pub left : (k v : ℕ) → at ≤ k → slice_get vars k ≡ Some v → (variable_of places v).at + cycle ≤ last
 
 module _ (places : List (ℕ × ℕ)) (vars : List ℕ) (bits : List Bool) (last count : ℕ) (seq : IsSequence places vars bits last count) where
-  shift : ℕ → ℕ
-  shift v = (variable_of places v).at
-
   pub at_first : IsAtCycle places vars last 0 0
   at_first = record {
     at_in = omega arith;
@@ -102,9 +99,6 @@ module _ (places : List (ℕ × ℕ)) (vars : List ℕ) (bits : List Bool) (last
       where
         here : to < length vars
         here = let l = slice_get_within vars k v at in omega (arith, above, l)
-
-        w : ℕ
-        w = get_or vars to 0
 
         at_w : slice_get vars to ≡ Some (get_or vars to 0)
         at_w = slice_get-get_or vars to 0 here

@@ -14,9 +14,8 @@ use Rattle.sec_outcome.specs.declared.outcome.Verdict.{Verdict}
 use Rattle.sec_outcome.specs.declared.outcome.Verdict.TheVariants as verdict
 use Rattle.sec_outcome.specs.declared.outcome.LimitAt.{LimitAt}
 use Rattle.sec_outcome.specs.declared.outcome.LimitAt.TheVariants as limit_at
-use Rattle.plain_form.specs.Outcome.{PairsFit, IsFirstDifferent, IsFirstLimit}
+use Rattle.plain_form.specs.Outcome.{PairsFit, IsFirstDifferent}
 use Rattle.plain_form.specs.Pairs.{AreFunctions}
-use Rattle.plain_form.specs.declared.deciding.Findings.{Findings}
 use Rattle.plain_form.specs.declared.pairing.OutputPair.{OutputPair}
 use Rattle.plain_form.specs.declared.unfolding.Functions.{Functions}
 

@@ -1,5 +1,5 @@
 -- The variables of a query: inputs at shifts, by their numbers in a table.
-use Rattle.std.specs.Prelude.{◌≡◌, ◌⊎◌, ◌↔◌, ℕ, ◌<◌, List, [], ◌∷◌, length, map, slice_index_or}
+use Rattle.std.specs.Prelude.{◌≡◌, ◌⊎◌, ◌↔◌, ℕ, ◌<◌, List, length, map, slice_index_or}
 use Rattle.std.specs.List.{All, AllPairs, Contains}
 use Rattle.circuit_theory.specs.Query.{Variable, ShiftBefore}
 use Rattle.std.specs.declared.cmp.Ordering.{Ordering}

@@ -53,7 +53,15 @@ pub fn compare_plain(
     b.keeps();
     let pairs = pair_outputs(alloc, a, b, left, right)?;
     let functions = unfold_pairs(alloc, a, b, left, right, orders, pairs.as_slice())?;
-    let outcome = outcome_of(alloc, a, b, &functions, pairs.as_slice(), &shared, conflicts)?;
+    let outcome = outcome_of(
+        alloc,
+        a,
+        b,
+        &functions,
+        pairs.as_slice(),
+        &shared,
+        conflicts,
+    )?;
     Ok(outcome)
 }
 
@@ -76,8 +84,9 @@ fn outcome_of(
     requires conflicts { conflicts ≤ 200000 }
     ensures { IfOk result (OutcomeFits (circuit_of a.now) (circuit_of b.now) (ports_of a.now) (ports_of b.now) conflicts) }
 {
-    let Findings { results, first } =
-        decide_pairs(alloc, a, b, functions, pairs, shared, conflicts)?;
+    let Findings { results, first } = decide_pairs(
+        alloc, a, b, functions, pairs, shared, conflicts,
+    )?;
     let verdict = verdict_of(first, results.as_slice())?;
     let through = greatest_size(results.as_slice());
     Ok(Outcome {

@@ -51,10 +51,24 @@ pub(crate) fn decide_pairs(
     let mut results = PairResults::new(alloc);
     let mut first = None;
     for (i, output) in a.outputs().iter().enumerate() {
-        let query = query_of(alloc, &functions.places, &functions.left[i], &functions.right[i])?;
+        let query = query_of(
+            alloc,
+            &functions.places,
+            &functions.left[i],
+            &functions.right[i],
+        )?;
         let decision = decide(alloc, &functions.aig, &query, conflicts)?;
         let (result, bits) = result_of(output.name.copy()?, pairs[i].size, decision);
-        first = first_of(alloc, functions, &query, first, bits, &output.name, pairs[i].size, shared)?;
+        first = first_of(
+            alloc,
+            functions,
+            &query,
+            first,
+            bits,
+            &output.name,
+            pairs[i].size,
+            shared,
+        )?;
         results.push(result)?;
     }
     Ok(Findings { results, first })
@@ -71,12 +85,7 @@ fn query_of(
     requires right { AreInOrder places.now right.now.vars }
     ensures { IfOk result (IsPairQuery places.now left.now right.now) }
 {
-    let vars = merge_variables(
-        alloc,
-        places,
-        left.vars.as_slice(),
-        right.vars.as_slice(),
-    )?;
+    let vars = merge_variables(alloc, places, left.vars.as_slice(), right.vars.as_slice())?;
     Ok(Query {
         left: left.lit,
         right: right.lit,
@@ -91,8 +100,14 @@ fn result_of(name: Word, size: u32, decision: Decision) -> (PairResult, Option<B
 {
     match decision {
         Decision::Same(_) => (pair_result(name, size, PairAnswer::Equal, None), None),
-        Decision::Differs(bits) => (pair_result(name, size, PairAnswer::Different, None), Some(bits)),
-        Decision::Limit(proof) => (pair_result(name, size, PairAnswer::Limit, Some(proof)), None),
+        Decision::Differs(bits) => (
+            pair_result(name, size, PairAnswer::Different, None),
+            Some(bits),
+        ),
+        Decision::Limit(proof) => (
+            pair_result(name, size, PairAnswer::Limit, Some(proof)),
+            None,
+        ),
     }
 }
 

@@ -45,9 +45,27 @@ pub(crate) fn unfold_pairs(
     let mut aig = Aig::new(alloc)?;
     let mut places = PlaceTable::new(alloc);
     let signals = left_signals(alloc, pairs)?;
-    let left = unfold_side(alloc, Side::A, a, left, &orders.left, &mut aig, &mut places, signals.as_slice())?;
+    let left = unfold_side(
+        alloc,
+        Side::A,
+        a,
+        left,
+        &orders.left,
+        &mut aig,
+        &mut places,
+        signals.as_slice(),
+    )?;
     let signals = right_signals(alloc, pairs)?;
-    let right = unfold_side(alloc, Side::B, b, right, &orders.right, &mut aig, &mut places, signals.as_slice())?;
+    let right = unfold_side(
+        alloc,
+        Side::B,
+        b,
+        right,
+        &orders.right,
+        &mut aig,
+        &mut places,
+        signals.as_slice(),
+    )?;
     Ok(Functions {
         aig,
         places,

@@ -38,7 +38,5 @@ fn copy_name(name: &PairName) -> Result<PairName, NoMemory>
 pub(crate) fn greatest_size(results: &[PairResult]) -> u32
     ensures { result ≡ greatest_size results.now }
 {
-    results
-        .iter()
-        .fold(0, |size, pair| size.max(pair.size))
+    results.iter().fold(0, |size, pair| size.max(pair.size))
 }

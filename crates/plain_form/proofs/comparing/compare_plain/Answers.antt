@@ -1,6 +1,6 @@
 -- The pairs' signals are those of the outputs.
-use Rattle.std.proofs.Common.{◌≡◌, ◌<◌, ◌∙◌, List, ℕ, length, Err, sym, ap, subst, rules}
-use Rattle.std.specs.List.{All, AllZip}
+use Rattle.std.proofs.Common.{◌≡◌, ◌∙◌, List, Err, sym, subst, rules}
+use Rattle.std.specs.List.{AllZip}
 use Rattle.circuit_theory.specs.Interface.{shared_inputs}
 use Rattle.flat_net.specs.View.{ports_of}
 use Rattle.plain_form.specs.declared.pairing.OutputPair.{OutputPair}

@@ -1,9 +1,7 @@
 -- The parts of the outcome fit together.
-use Rattle.std.proofs.Common.{◌≡◌, ◌≤◌, ◌∙◌, List, ℕ, length, map, refl, ap, subst, arith}
-use Rattle.std.specs.List.{filter}
+use Rattle.std.proofs.Common.{◌∙◌, List, length, map, refl, ap, subst, arith}
 use Rattle.circuit_theory.proofs.LawProofs.{length-map}
 use Rattle.flat_net.specs.declared.parts.Port.{Port}
-use Rattle.flat_net.specs.declared.parts.LatchAt.{LatchAt}
 use Rattle.flat_net.specs.View.{ports_of}
 use Rattle.flat_net.proofs.CutNets.{length-filter-le}
 use Rattle.sec_outcome.specs.declared.outcome.PairResult.{PairResult}

@@ -1,16 +1,16 @@
 -- Each pair's query is one of the graph, and its answer that of the pair.
-use Rattle.std.proofs.Common.{◌≡◌, ◌<◌, ◌+◌, ◌∙◌, ℕ, Bool, List, [], length, take, get_or, Option, Some, refl, sym, ap, subst, arith}
+use Rattle.std.proofs.Common.{◌≡◌, ℕ, Bool, List, length, get_or, Option, Some, refl, ap, subst, arith}
 use Rattle.std.proofs.lemmas.List.{take_all}
 use Rattle.circuit_theory.specs.Fits.{IsWitness}
 use Rattle.flat_net.specs.declared.signals.Signal.{Signal}
 use Rattle.flat_net.specs.declared.parts.Port.{Port}
 use Rattle.flat_net.specs.View.{circuit_of}
 use Rattle.plain_form.specs.declared.pairing.OutputPair.{OutputPair}
-use Rattle.plain_form.specs.Found.{IsResultOf, HaveFunctions, HaveFound}
+use Rattle.plain_form.specs.Found.{IsResultOf, HaveFound}
 use Rattle.plain_form.specs.Outcome.{PairFits}
 use Rattle.plain_form.proofs.Decided.{pair_fits, is_sequence, is_witness}
 use Rattle.plain_form.proofs.PairAt.{no_pair, at_port, pairs_within, left_within, right_within, output_pair, left_is_shown, right_is_shown, left_variables, right_variables, asks_pair, shared_distinct}
-use Rattle.plain_form.proofs.PairQueries.{AsksPair, is_query}
+use Rattle.plain_form.proofs.PairQueries.{is_query}
 use Rattle.plain_form.proofs.Results.{found_none, found_more, is_different}
 use Rattle.plain_form.proofs.deciding.decide_pairs.Goals as goal
 

@@ -1,5 +1,5 @@
 -- One number goes behind, or one that both lists have, and at the end what is left of one list.
-use Rattle.std.proofs.Common.{◌≡◌, ◌+◌, ◌∙◌, ℕ, List, ◌∷◌, [], ◌++◌, drop, get_or, sym, ap, subst, arith, inl, inr}
+use Rattle.std.proofs.Common.{◌≡◌, ◌+◌, ◌∙◌, ℕ, List, ◌++◌, drop, get_or, sym, ap, subst, arith, inl, inr}
 use Rattle.plain_form.specs.Variables.{IsMergeOf}
 use Rattle.plain_form.proofs.MergeLists.{Rest, rest_less, rest_equal, rest_greater, rest_done}
 use Rattle.plain_form.proofs.Reading.{number_at, rest_from}

@@ -1,5 +1,4 @@
-use Rattle.std.proofs.Common.{length, ◌-◌, ◌+◌, ◌≤◌, drop}
-use Rattle.plain_form.specs.Variables.{IsMergeOf}
+use Rattle.std.proofs.Common.{length, ◌-◌, ◌+◌, ◌≤◌}
 use Rattle.plain_form.proofs.MergeLists.{Rest}
 use Rattle.plain_form.proofs.merging.merge_variables.Given as goal
 

@@ -1,5 +1,5 @@
 -- The signals are those of the pairs, and A's functions stay while B is unfolded.
-use Rattle.std.proofs.Common.{◌≡◌, ◌≤◌, ◌∙◌, ℕ, List, map, Err, sym, ap, subst, arith, rules}
+use Rattle.std.proofs.Common.{◌≡◌, ◌∙◌, List, map, Err, sym, ap, subst, rules}
 use Rattle.std.specs.List.{AllZip}
 use Rattle.circuit_theory.proofs.Lists.{map-map}
 use Rattle.flat_net.specs.declared.signals.Signal.{Signal}
@@ -49,8 +49,7 @@ returns c =
     let left_list = c.as_slice.ensures.value ∙ c.in_ok-signals.ensures in
     let right_list = c.as_slice-2.ensures.value ∙ c.in_ok-signals-2.ensures in
     let left_order = c.args.orders.now.left in
-    let right_order = c.args.orders.now.right in
-    (
+    let right_order = c.args.orders.now.right in (
       subst (AreLight a) (lefts pairs c.as_slice.result.now left_list) c.in_ok-left.ensures.light,
       subst (AreLight b) (rights pairs c.as_slice-2.result.now right_list) c.in_ok-right.ensures.light,
       record {

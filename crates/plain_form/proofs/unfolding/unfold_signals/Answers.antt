@@ -1,5 +1,5 @@
 -- Signal after signal the functions stay, and the weight is that of all signals so far.
-use Rattle.std.proofs.Common.{◌≡◌, ◌≤◌, ◌∙◌, ℕ, List, ◌+◌, length, map, take, refl, sym, ap, subst, arith, rules}
+use Rattle.std.proofs.Common.{◌≡◌, ◌∙◌, ℕ, List, ◌+◌, take, refl, sym, ap, subst, arith, rules}
 use Rattle.std.specs.List.{AllZip}
 use Rattle.std.proofs.lemmas.List.{take_all}
 use Rattle.circuit_theory.specs.Sizes.{IsWeight}
@@ -7,7 +7,6 @@ use Rattle.flat_net.specs.declared.signals.Signal.{Signal}
 use Rattle.flat_net.specs.View.{NetView, circuit_of}
 use Rattle.aig.proofs.Growth.{Grows-trans}
 use Rattle.cbf_unfold.specs.declared.unfolder.Unfolded.{Unfolded}
-use Rattle.cbf_unfold.specs.Building.{IsLater}
 use Rattle.cbf_unfold.proofs.Going.{later_none, later_trans}
 use Rattle.cbf_unfold.proofs.Lists.{adds_none, adds_trans}
 use Rattle.cbf_unfold.proofs.PlaceLits.{zip_more_left}
@@ -76,10 +75,9 @@ returns-clause-unfolded c =
 pub returns-clause-light : goal.returns-clause-light
 returns-clause-light c =
     let fits = c.loop-s.invariant.fits in
-    let all : c.loop-s.unfolder.done ≡ numbers_of c.args.signals.now = c.loop-s.invariant.done ∙ ap numbers_of (take_all c.loop-s.s-index c.args.signals.now c.loop-s-test.false) in
-    (
+    let all : c.loop-s.unfolder.done ≡ numbers_of c.args.signals.now = c.loop-s.invariant.done ∙ ap numbers_of (take_all c.loop-s.s-index c.args.signals.now c.loop-s-test.false) in (
       c.loop-s.unfolder.weight,
       subst (λ (n : NetView). IsWeight (circuit_of n) (numbers_of c.args.signals.now) c.loop-s.unfolder.weight) c.loop-s.invariant.net
-      (subst (λ (l : List ℕ). IsWeight (circuit_of c.loop-s.unfolder.net) l c.loop-s.unfolder.weight) all fits.weighs),
+          (subst (λ (l : List ℕ). IsWeight (circuit_of c.loop-s.unfolder.net) l c.loop-s.unfolder.weight) all fits.weighs),
       fits.small,
     )

@@ -1,7 +1,6 @@
 -- Up to here the variables are those of the shift.
-use Rattle.std.proofs.Common.{◌≡◌, ◌∙◌, ℕ, length, slice_get, Some, sym, ap, subst, arith, inl, inr}
+use Rattle.std.proofs.Common.{◌≡◌, ◌∙◌, length, slice_get, Some, sym, subst, arith, inl, inr}
 use Rattle.std.proofs.lemmas.Option.{slice_get_within}
-use Rattle.plain_form.specs.Variables.{variable_of}
 use Rattle.plain_form.proofs.Reading.{shift_at, below_or_here}
 use Rattle.plain_form.proofs.witness.end_of_shift.Goals as goal
 

@@ -1,5 +1,5 @@
 -- Cycle by cycle one row more, of the variables that stand behind those of the cycles before.
-use Rattle.std.proofs.Common.{◌≡◌, ◌≤◌, ◌+◌, ◌∙◌, ℕ, suc, Bool, List, [], ◌∷◌, ◌++◌, refl, sym, ap, subst, arith, add-one}
+use Rattle.std.proofs.Common.{◌≡◌, ◌≤◌, ◌+◌, ◌∙◌, ℕ, suc, Bool, List, [], ◌∷◌, ◌++◌, sym, ap, arith, add-one}
 use Rattle.circuit_theory.specs.Sequence.{sequence_row, sequence_rows_from}
 use Rattle.plain_form.specs.Sequences.{bits_at}
 use Rattle.plain_form.proofs.Rows.{at_first, at_next, row_is, rows_more}
