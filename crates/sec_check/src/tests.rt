@@ -256,7 +256,13 @@ fn latch_graphs_of_small_circuits(rt: HostRuntime) -> Result<(), Fail> {
             );
         }
         assert_eq!(rt;
-            weight_of(alloc, &net, &graph, output, weight.saturating_sub(1).min(2_000_000))?,
+            weight_of(
+                alloc,
+                &net,
+                &graph,
+                output,
+                weight.saturating_sub(1).min(2_000_000)
+            )?,
             Weight::Over
         );
     }
