@@ -25,10 +25,7 @@ use sec_words::{Task, WordsError, job};
 use std::alloc::Global;
 
 /// What is found by a comparison.
-fn compare_end(
-    settings: Settings,
-    compared: Result<Outcome, CompareError>,
-) -> Result<Finding, Stop>
+fn compare_end(settings: Settings, compared: Result<Outcome, CompareError>) -> Result<Finding, Stop>
     ensures { result ≡ compare_end settings compared }
 {
     match compared {
@@ -198,12 +195,7 @@ fn finish<W: Sink>(alloc: Global, finding: Finding, out: &mut W) -> Status
 /// The report is written whole with the statuses `Equal`, `Done`, `Different`, `Limit`, `Refused` and `Cyclic`; at a write fault a
 /// front of it; at a read fault and at want of memory nothing. Want of memory alone is without a cause here. A job that isn't
 /// built is refused, and nothing is fetched for it.
-pub fn run_job<S: Shelf, W: Sink>(
-    alloc: Global,
-    task: &Task,
-    shelf: &mut S,
-    out: &mut W,
-) -> Status
+pub fn run_job<S: Shelf, W: Sink>(alloc: Global, task: &Task, shelf: &mut S, out: &mut W) -> Status
     requires { HasFewConflicts task.now }
     ensures taken { IsTaken (W.taken out.old) (W.taken out.new) (S.held shelf.old) (Some task.now) result }
     ensures equal { result.name ≡ StatusName.Equal → OfCheck (Some task.now) (λ check. OfTexts (S.held shelf.old) check TextsAgree) }

@@ -56,8 +56,11 @@ const WIDE_EARLY: &str =
 
 const CONSTANT_LATCH: &str = ".model m\n.outputs y\n.names k\n1\n.latch k y\n.end\n";
 
-const TOGGLE: &str =
-    ".model m\n.outputs y\n.names q n\n0 1\n.latch n q\n.names q y\n1 1\n.end\n";
+const TOGGLE: &str = ".model m\n.outputs y\n.names q n\n0 1\n.latch n q\n.names q y\n1 1\n.end\n";
+
+/// The latch keeps its value where e is 0, and else takes over the complement of a.
+const HOLD_NOT: &str =
+    ".model m\n.inputs e a\n.outputs y\n.names e a q n\n10- 1\n0-1 1\n.latch n q\n.names q y\n1 1\n.end\n";
 
 /// What Yosys and ABC write.
 const YOSYS: &str =
@@ -90,8 +93,7 @@ const OPEN_INPUT: &str =
 
 const RECURSIVE: &str = ".model m\n.inputs u\n.subckt m u=u\n.end\n";
 
-const LOOP: &str =
-    ".model m\n.inputs a b\n.outputs y\n.names y x\n1 1\n.names x y\n1 1\n.end\n";
+const LOOP: &str = ".model m\n.inputs a b\n.outputs y\n.names y x\n1 1\n.names x y\n1 1\n.end\n";
 
 const GATED: &str =
     ".model m\n.inputs d e c\n.outputs y\n.names c e g\n11 1\n.latch d y re g 2\n.end\n";
@@ -356,8 +358,9 @@ fn other_words_and_jobs_are_refused(rt: HostRuntime) -> Result<(), Fail> {
         ("help", "words refused\n", 5),
         ("check a b --expose", "refused NotYet\n", 4),
         ("check c c --mode event", "refused NotYet\n", 4),
-        ("graph c", "refused NotYet\n", 4),
-        ("sim a s", "refused NotYet\n", 4),
+        ("graph a --mode event", "refused NotYet\n", 4),
+        ("graph c --mode event", "refused NotYet\n", 4),
+        ("sim a s --mode event", "refused NotYet\n", 4),
         ("replay a b s", "refused NotYet\n", 4),
         ("gen 7", "refused NotYet\n", 4),
     ] {
@@ -367,6 +370,214 @@ fn other_words_and_jobs_are_refused(rt: HostRuntime) -> Result<(), Fail> {
         let status = run(alloc, words.as_slice(), &mut shelf, &mut out);
         assert_eq!(rt; out.taken(), wanted.as_bytes(), "{line}");
         assert_eq!(rt; status.code(), code, "{line}");
+    }
+    Ok(())
+}
+
+#[test]
+fn a_latch_graph_is_told(rt: HostRuntime) -> Result<(), Fail> {
+    let alloc = rt.alloc();
+    for (line, a, wanted, code) in [
+        (
+            "graph a",
+            HOLD_NOT,
+            "inputs 2\noutputs 1\nlatches 1\nlatch q depth - plain\noutput y depth -\ncycle q\n",
+            0u8,
+        ),
+        (
+            "graph a --mode plain",
+            LATE,
+            "inputs 2\noutputs 1\nlatches 1\nlatch y depth 1 plain\noutput y depth 1\nacyclic\n",
+            0,
+        ),
+        (
+            "graph a",
+            AND,
+            "inputs 2\noutputs 1\nlatches 0\noutput y depth 0\nacyclic\n",
+            0,
+        ),
+        ("graph a", CUT_IN_A_ROW, "refused A line 5 BadRow\n", 4),
+        ("graph a", LOOP, "refused A Loop x y\n", 4),
+        ("graph c", AND, "", 6),
+        ("graph a b", AND, "words refused\n", 5),
+    ] {
+        let words = words_of(alloc, line)?;
+        let mut shelf = shelf_of(alloc, a, OR, 0)?;
+        let mut out = MemSink::new(alloc, 1_000, None, 0)?;
+        let status = run(alloc, words.as_slice(), &mut shelf, &mut out);
+        assert_eq!(rt; out.taken(), wanted.as_bytes(), "{line}: {wanted}");
+        assert_eq!(rt; status.code(), code, "{line}: {wanted}");
+    }
+    Ok(())
+}
+
+/// The runs of two latches behind an input, over one stimulus, that begin with these bits.
+const TWO_FROM_ZEROS: &str =
+    "outputs y\ncycle 0 values 0 marks 0\ncycle 1 values 0 marks 0\ncycle 2 values 1 marks 1\n";
+
+const TWO_FROM_ONE_ZERO: &str =
+    "outputs y\ncycle 0 values 0 marks 0\ncycle 1 values 1 marks 0\ncycle 2 values 1 marks 1\n";
+
+#[test]
+fn a_stimulus_is_run(rt: HostRuntime) -> Result<(), Fail> {
+    let alloc = rt.alloc();
+    for (line, a, s, wanted, code) in [
+        (
+            "sim a b",
+            TWO_LATCHES,
+            "inputs a\n1\n0\n0\n",
+            TWO_FROM_ZEROS,
+            0u8,
+        ),
+        (
+            "sim a b",
+            TWO_LATCHES,
+            "inputs a\n1\n0\n0",
+            TWO_FROM_ZEROS,
+            0,
+        ),
+        (
+            "sim a b --power 10",
+            TWO_LATCHES,
+            "inputs a\n1\n0\n0\n",
+            TWO_FROM_ONE_ZERO,
+            0,
+        ),
+        ("sim a b", TWO_LATCHES, "inputs a\n", "outputs y\n", 0),
+        (
+            "sim a b",
+            AND,
+            "inputs b a\n01\n11\n",
+            "outputs y\ncycle 0 values 0 marks 1\ncycle 1 values 1 marks 1\n",
+            0,
+        ),
+        (
+            "sim a b",
+            ONE,
+            "inputs\n-\n",
+            "outputs y\ncycle 0 values 1 marks 1\n",
+            0,
+        ),
+        (
+            "sim a b",
+            NO_OUTPUTS,
+            "inputs a\n1\n",
+            "outputs\ncycle 0 values - marks -\n",
+            0,
+        ),
+        (
+            "sim a b",
+            TWO_LATCHES,
+            "inputs a\n2\n",
+            "refused S line 2 BadRow\n",
+            4,
+        ),
+        (
+            "sim a b",
+            TWO_LATCHES,
+            "inputs a\n1\n\n",
+            "refused S line 3 BadRow\n",
+            4,
+        ),
+        (
+            "sim a b",
+            TWO_LATCHES,
+            "",
+            "refused S line 1 BadHeader\n",
+            4,
+        ),
+        (
+            "sim a b",
+            TWO_LATCHES,
+            "inputs a a\n11\n",
+            "refused S line 1 BadHeader\n",
+            4,
+        ),
+        (
+            "sim a b --power 1",
+            TWO_LATCHES,
+            "inputs c b\n11\n",
+            "refused S Unknown c\n",
+            4,
+        ),
+        (
+            "sim a b --power 1",
+            AND,
+            "inputs b\n1\n",
+            "refused S Missing a\n",
+            4,
+        ),
+        (
+            "sim a b --power 1",
+            TWO_LATCHES,
+            "inputs a\n1\n",
+            "refused Power\n",
+            4,
+        ),
+        (
+            "sim a b --power 12",
+            TWO_LATCHES,
+            "inputs a\n1\n",
+            "refused Power\n",
+            4,
+        ),
+        (
+            "sim a b",
+            CUT_IN_A_ROW,
+            "inputs\n2\n",
+            "refused A line 5 BadRow\n",
+            4,
+        ),
+        ("sim a c", CUT_IN_A_ROW, "", "refused A line 5 BadRow\n", 4),
+        ("sim a c", TWO_LATCHES, "", "", 6),
+        ("sim c b", TWO_LATCHES, "inputs a\n1\n", "", 6),
+        ("sim a", TWO_LATCHES, "", "words refused\n", 5),
+    ] {
+        let words = words_of(alloc, line)?;
+        let mut shelf = shelf_of(alloc, a, s, 0)?;
+        let mut out = MemSink::new(alloc, 1_000, None, 0)?;
+        let status = run(alloc, words.as_slice(), &mut shelf, &mut out);
+        assert_eq!(rt; out.taken(), wanted.as_bytes(), "{line}: {wanted}");
+        assert_eq!(rt; status.code(), code, "{line}: {wanted}");
+    }
+    Ok(())
+}
+
+#[test]
+fn a_stimulus_has_a_longest_length(rt: HostRuntime) -> Result<(), Fail> {
+    let alloc = rt.alloc();
+    let words = words_of(alloc, "sim a b")?;
+    for (count, wanted) in [
+        (16_777_216usize, "refused S line 1 BadHeader\n"),
+        (16_777_217, "refused S TooLong\n"),
+    ] {
+        let feeds = vec![in alloc; b'\n'; count]?;
+        let mut shelf = shelf_of(alloc, TWO_LATCHES, "", 0)?;
+        shelf.put(alloc, "b", feeds.as_slice())?;
+        let mut out = MemSink::new(alloc, 1_000, None, 0)?;
+        let status = run(alloc, words.as_slice(), &mut shelf, &mut out);
+        assert_eq!(rt; out.taken(), wanted.as_bytes(), "{wanted}");
+        assert_eq!(rt; status.code(), 4, "{wanted}");
+    }
+    Ok(())
+}
+
+#[test]
+fn each_failing_read_of_a_simulation_is_told(rt: HostRuntime) -> Result<(), Fail> {
+    let alloc = rt.alloc();
+    let words = words_of(alloc, "sim a b")?;
+    // Each file takes two reads, the second of which gives nothing.
+    for fail in 1u32..6 {
+        let mut shelf = shelf_of(alloc, TWO_LATCHES, "inputs a\n1\n0\n0\n", fail)?;
+        let mut out = MemSink::new(alloc, 1_000, None, 0)?;
+        let status = run(alloc, words.as_slice(), &mut shelf, &mut out);
+        let wanted = if fail < 5 {
+            ("", 6u8)
+        } else {
+            (TWO_FROM_ZEROS, 0)
+        };
+        assert_eq!(rt; out.taken(), wanted.0.as_bytes(), "read {fail} fails");
+        assert_eq!(rt; status.code(), wanted.1, "read {fail} fails");
     }
     Ok(())
 }
@@ -387,13 +598,11 @@ fn late_adder(alloc: Global) -> Result<String, Fail> {
     put_adder_ports(alloc, &mut text)?;
     for i in 0u32..8 {
         let next = i + 1;
-        text.push_str(
-            format!(in alloc; ".names a{i} b{i} c{i} c{next}\n11- 1\n1-1 1\n-11 1\n")?.as_str(),
-        )?;
+        text.push_str(format!(in alloc;
+            ".names a{i} b{i} c{i} c{next}\n11- 1\n1-1 1\n-11 1\n"
+        )?.as_str())?;
     }
-    text.push_str(
-        ".names a8 b8 c8 n\n100 1\n010 1\n001 1\n111 1\n.latch n s\n.end\n",
-    )?;
+    text.push_str(".names a8 b8 c8 n\n100 1\n010 1\n001 1\n111 1\n.latch n s\n.end\n")?;
     Ok(text)
 }
 
@@ -407,17 +616,14 @@ fn early_adder(alloc: Global) -> Result<String, Fail> {
     text.push_str(".latch c0 k0\n")?;
     for i in 0u32..8 {
         let next = i + 1;
-        text.push_str(
-            format!(in alloc; ".names u{i} v{i} g{i}\n11 1\n.names u{i} v{i} h{i}\n10 1\n01 1\n")?
-                .as_str(),
-        )?;
-        text.push_str(
-            format!(in alloc; ".names g{i} h{i} k{i} k{next}\n1-- 1\n-11 1\n")?.as_str(),
-        )?;
+        text.push_str(format!(in alloc;
+            ".names u{i} v{i} g{i}\n11 1\n.names u{i} v{i} h{i}\n10 1\n01 1\n"
+        )?.as_str())?;
+        text.push_str(format!(in alloc;
+            ".names g{i} h{i} k{i} k{next}\n1-- 1\n-11 1\n"
+        )?.as_str())?;
     }
-    text.push_str(
-        ".names u8 v8 h8\n10 1\n01 1\n.names h8 k8 s\n10 1\n01 1\n.end\n",
-    )?;
+    text.push_str(".names u8 v8 h8\n10 1\n01 1\n.names h8 k8 s\n10 1\n01 1\n.end\n")?;
     Ok(text)
 }
 
@@ -428,8 +634,18 @@ fn a_wide_pair_is_searched(rt: HostRuntime) -> Result<(), Fail> {
     let early = early_adder(alloc)?;
     for (line, wanted, code, proofs) in [
         ("check a b --conflicts=0", ADDER_AT_ITS_LIMIT, 3u8, 1usize),
-        ("check a a --conflicts=0", "inputs 19\nlatches 1 1\nexposed 0\npair s depth 1 equal\nverdict equal\n", 0, 0),
-        ("check a b", "inputs 19\nlatches 1 19\nexposed 0\npair s depth 1 equal\nverdict equal\n", 0, 0),
+        (
+            "check a a --conflicts=0",
+            "inputs 19\nlatches 1 1\nexposed 0\npair s depth 1 equal\nverdict equal\n",
+            0,
+            0,
+        ),
+        (
+            "check a b",
+            "inputs 19\nlatches 1 19\nexposed 0\npair s depth 1 equal\nverdict equal\n",
+            0,
+            0,
+        ),
     ] {
         let words = words_of(alloc, line)?;
         let mut shelf = shelf_of(alloc, late.as_str(), early.as_str(), 0)?;
