@@ -1,10 +1,9 @@
 -- Where both texts are told and can be compared, a run ends with a verdict, or at want of memory.
-use Rattle.std.proofs.Common.{◌≡◌, ℕ, ◌≤◌, ◌<◌, List, refl, sym, ◌∙◌, subst, ap, arith, inl, inr, ◌⊎◌, Option, Some, None, Err}
+use Rattle.std.proofs.Common.{◌≡◌, ℕ, List, refl, sym, ◌∙◌, subst, arith, Option, Some, None}
 use Rattle.std.specs.Prelude.{IfSome, IsSomeAnd}
 use Rattle.std.proofs.lemmas.Option.{none-some}
 use Rattle.circuit_theory.specs.declared.Side.{Side}
 use Rattle.circuit_theory.specs.declared.Side.TheVariants.{A, B}
-use Rattle.flat_net.specs.View.{NetView, ports_of}
 use Rattle.pair_decide.specs.declared.query.Proof.{Proof}
 use Rattle.sec_words.specs.declared.task.Task.{Task}
 use Rattle.sec_words.specs.declared.task.Task.TheVariants as task
@@ -19,7 +18,7 @@ use Rattle.sec_outcome.specs.declared.outcome.Verdict.TheVariants as verdict
 use Rattle.sec_cli.specs.declared.status.StatusName.{StatusName}
 use Rattle.sec_cli.specs.declared.status.StatusName.TheVariants as status
 use Rattle.sec_cli.specs.Job.{Check, check_of, OfCheck}
-use Rattle.sec_cli.specs.Answer.{Held, OfTexts, OfSide, OfNets, IsRefusal, IsFoundOf, WhereBuilt, IsFinding, AreComparable, CanAnswer, IsAnswer, EndsAs, verdict_status, status_of}
+use Rattle.sec_cli.specs.Answer.{Held, OfTexts, IsRefusal, IsFoundOf, WhereBuilt, IsFinding, AreComparable, CanAnswer, IsAnswer, EndsAs, verdict_status, status_of}
 
 -- the two texts that are told
 record AreTold (held : Held) (check : Check) : Type 0 where

@@ -1,12 +1,10 @@
 -- Where a circuit is accepted, and a stimulus and a power word fit it, a run ends with the report, or at want of memory.
-use Rattle.std.proofs.Common.{◌≡◌, ℕ, ◌≤◌, ◌<◌, [], ◌∷◌, Bool, List, length, refl, sym, ◌∙◌, subst, ap, arith, Option, Some, None}
-use Rattle.std.specs.Prelude.{IfSome, IsSomeAnd}
+use Rattle.std.proofs.Common.{◌≡◌, ℕ, Bool, List, refl, sym, ◌∙◌, subst, ap, arith, Option, Some, None}
+use Rattle.std.specs.Prelude.{IsSomeAnd}
 use Rattle.std.proofs.lemmas.Option.{none-some}
 use Rattle.circuit_theory.specs.declared.Side.TheVariants.{A, B}
-use Rattle.flat_net.specs.View.{NetView}
 use Rattle.pair_decide.specs.declared.query.Proof.{Proof}
-use Rattle.witness_report.specs.Text.{header_line, row_text}
-use Rattle.witness_report.specs.Form.{IsForm, HasNoHeader, IsBadRow, lines_of}
+use Rattle.witness_report.specs.Form.{IsForm, HasNoHeader, IsBadRow}
 use Rattle.witness_report.proofs.Forms.{form_lines, one_form, no_bad_line}
 use Rattle.sim_report.specs.Checks.{first_misfit}
 use Rattle.sec_words.specs.declared.task.Task.{Task}

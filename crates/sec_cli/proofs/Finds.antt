@@ -1,6 +1,6 @@
 -- What the parts of the work on the files find.
 use Rattle.std.proofs.Common.{◌≡◌, ℕ, ◌≤◌, List, refl, sym, subst, arith, inl, inr, Option, Some, None, Result, Ok, Err}
-use Rattle.std.specs.Prelude.{IfSome, IsSomeAnd, IsErrOf, min, ◌+◌, ◌-◌, ◌^◌}
+use Rattle.std.specs.Prelude.{IfSome, IsSomeAnd, IsErrOf}
 use Rattle.circuit_theory.specs.declared.Side.TheVariants.{A, B}
 use Rattle.sec_base.specs.Outside.{Rose}
 use Rattle.sec_base.specs.declared.fetching.FetchError.TheVariants as fetch_error

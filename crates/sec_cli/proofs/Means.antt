@@ -1,5 +1,5 @@
 -- What the statuses equal, different and limit mean for the texts.
-use Rattle.std.proofs.Common.{◌≡◌, ℕ, List, [], ◌∷◌, ◌++◌, refl, sym, ◌∙◌, subst, ap, arith, inl, inr, ◌⊎◌, Option, Some, None, Ok}
+use Rattle.std.proofs.Common.{◌≡◌, ℕ, List, [], ◌∷◌, refl, sym, ◌∙◌, subst, ap, arith, inl, inr, ◌⊎◌, Option, Some, None}
 use Rattle.std.specs.Prelude.{IfSome, IsSomeAnd}
 use Rattle.std.specs.List.{Contains, filter_map}
 use Rattle.circuit_theory.proofs.Lists.{Contains-head, Contains-tail, Contains-cases, of_at}
@@ -19,7 +19,7 @@ use Rattle.sec_outcome.specs.declared.outcome.Verdict.TheVariants as verdict
 use Rattle.sec_outcome.specs.Report.{report_text}
 use Rattle.circuit_theory.specs.Interface.{shared_inputs}
 use Rattle.plain_form.specs.Outcome.{VerdictFits, IsFirstLimit}
-use Rattle.sec_check.specs.Compared.{Compared, IsCompared}
+use Rattle.sec_check.specs.Compared.{IsCompared}
 use Rattle.sec_check.specs.Loading.{Loads}
 use Rattle.blif_read.specs.Design.{circuit_of_design}
 use Rattle.blif_read.specs.Reading.{spelled}
@@ -33,7 +33,7 @@ use Rattle.sec_cli.specs.declared.status.StatusName.TheVariants as status
 use Rattle.sec_cli.specs.Job.{Check, Sim, check_of, graph_of, sim_of, OfCheck}
 use Rattle.sec_cli.specs.Lines.{finding_text}
 use Rattle.sec_cli.specs.Reports.{IsGraphFound, IsSimFound, TakesGraph, TakesRun}
-use Rattle.sec_cli.specs.Answer.{Held, OfTexts, OfNets, IsFinding, IsFoundOf, WhereBuilt, TakesReport, EndsAs, TextsAgree, TextsDiffer, TextsUndecided, verdict_status, status_of, proofs_of}
+use Rattle.sec_cli.specs.Answer.{Held, OfTexts, OfNets, IsFinding, IsFoundOf, WhereBuilt, TakesReport, EndsAs, TextsAgree, TextsDiffer, TextsUndecided, verdict_status, status_of}
 use Rattle.sec_cli.specs.Ends.{IsWrittenAs}
 
 if_some : {X : Type 0} {F G : X → Type 0} (o : Option X) → ((x : X) → F x → G x) → IfSome o F → IfSome o G

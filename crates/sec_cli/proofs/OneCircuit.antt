@@ -1,5 +1,5 @@
 -- What the parts of the work on one circuit find.
-use Rattle.std.proofs.Common.{◌≡◌, ℕ, ◌≤◌, ◌<◌, ◌∷◌, ◌++◌, length, Bool, List, map, refl, sym, ap, subst, ◌∙◌, arith, Option, Some, None, Result, Ok, Err}
+use Rattle.std.proofs.Common.{◌≡◌, ℕ, ◌≤◌, length, Bool, List, map, refl, subst, Option, Some, None, Result, Ok, Err}
 use Rattle.std.proofs.lemmas.List.{length-map}
 use Rattle.std.specs.Prelude.{IfSome, IfOk, OnOk, IsErrOf}
 use Rattle.circuit_theory.specs.declared.Side.TheVariants.{A}
@@ -24,11 +24,9 @@ use Rattle.sec_cli.specs.declared.finding.Refusal.{Refusal}
 use Rattle.sec_cli.specs.declared.finding.Refusal.TheVariants as refusal
 use Rattle.sec_cli.specs.declared.finding.Finding.{Finding}
 use Rattle.sec_cli.specs.declared.finding.Finding.TheVariants as finding
-use Rattle.sec_cli.specs.declared.finding.Stop.{Stop}
-use Rattle.sec_cli.specs.declared.reports.StimulusError.{StimulusError}
 use Rattle.sec_cli.specs.declared.reports.StimulusError.TheVariants as stimulus_error
-use Rattle.sec_cli.specs.Reports.{IsStimulus, StimulusFails, IsLoaded, IsCircuitRefusal, IsSimFound, IsSimRefusal}
-use Rattle.sec_cli.specs.Ends.{load_end, stimulus_end, sim_end, EndsBy}
+use Rattle.sec_cli.specs.Reports.{IsStimulus, StimulusFails, IsCircuitRefusal, IsSimFound, IsSimRefusal}
+use Rattle.sec_cli.specs.Ends.{load_end, sim_end, EndsBy}
 
 -- the circuit isn't loaded
 pub circuit_ends : (P : Finding → Type 0) (failed rose : Type 0) (circuit : Option (List ℕ)) (error : LoadError) → ((r : Refusal) → IsCircuitRefusal circuit r → P (finding.Refused r)) → (rose → failed) →
@@ -67,21 +65,6 @@ sim_circuit circuit stimulus power refusal.StimulusTooLong h = absurd h
 sim_circuit circuit stimulus power (refusal.BadHeader line) h = absurd h
 sim_circuit circuit stimulus power (refusal.BadRow line) h = absurd h
 sim_circuit circuit stimulus power (refusal.Misfit m) h = absurd h
-
--- what loads is loaded
-pub is_loaded : (circuit : Option (List ℕ)) (net : NetView) → IfSome circuit (λ x. Loads x net) → IsLoaded circuit
-is_loaded None net h = tt
-is_loaded (Some x) net h = (net, h)
-
--- the circuit is loaded, the stimulus isn't
-pub stimulus_ends : (circuit stimulus power : Option (List ℕ)) (failed rose : Type 0) (error : StimulusError) → IsLoaded circuit → (rose → failed) → StimulusFails stimulus rose error →
-    EndsBy (IsSimFound circuit stimulus power) failed (stimulus_end error)
-stimulus_ends circuit stimulus power failed rose (stimulus_error.Fetch fetch_error.Failed) loaded fail h = fail h
-stimulus_ends circuit stimulus power failed rose (stimulus_error.Fetch fetch_error.TooLong) loaded fail h = (loaded, h)
-stimulus_ends circuit stimulus power failed rose (stimulus_error.Fetch fetch_error.NoMemory) loaded fail h = tt
-stimulus_ends circuit stimulus power failed rose (stimulus_error.Read (stim_error.BadHeader line)) loaded fail h = (loaded, h)
-stimulus_ends circuit stimulus power failed rose (stimulus_error.Read (stim_error.BadRow line)) loaded fail h = (loaded, h)
-stimulus_ends circuit stimulus power failed rose (stimulus_error.Read stim_error.NoMemory) loaded fail h = tt
 
 -- both are loaded, and the circuit is run
 pub run_ends : (circuit stimulus power : Option (List ℕ)) (failed : Type 0) (net : NetView) (names : List (List ℕ)) (rows : List (List Bool)) (r : Result (List ℕ) SimError) →

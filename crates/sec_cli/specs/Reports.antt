@@ -1,6 +1,6 @@
 -- What is true where a report on one circuit ends as it does. A text is given where it is told.
 use Rattle.std.specs.Prelude.{◌≡◌, ◌≤◌, ℕ, Bool, List, length, Option, Some, None, IfSome}
-use Rattle.circuit_theory.specs.declared.Side.TheVariants.{A, B}
+use Rattle.circuit_theory.specs.declared.Side.TheVariants.{A}
 use Rattle.sec_base.specs.Outside.{Takes}
 use Rattle.sec_base.specs.declared.fetching.FetchError.TheVariants as fetch_error
 use Rattle.flat_net.specs.View.{NetView}

@@ -1,4 +1,4 @@
-use Rattle.std.proofs.Common.{◌≡◌, List, sym, subst, inl, Option, Result}
+use Rattle.std.proofs.Common.{List, sym, subst, inl, Option, Result}
 use Rattle.std.specs.Prelude.{ℕ, IfSome, option_map}
 use Rattle.sec_base.specs.Outside.{Rose}
 use Rattle.sec_cli.specs.declared.finding.Finding.{Finding}

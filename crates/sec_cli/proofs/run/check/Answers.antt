@@ -1,4 +1,4 @@
-use Rattle.std.proofs.Common.{◌≡◌, ℕ, List, sym, subst, Option, Some, Result}
+use Rattle.std.proofs.Common.{ℕ, List, sym, subst, Option, Result}
 use Rattle.std.specs.Prelude.{IfSome, IsErrOf}
 use Rattle.sec_check.specs.Loading.{Loads}
 use Rattle.sec_cli.specs.Job.{Check}
@@ -6,8 +6,16 @@ use Rattle.sec_cli.specs.Ends.{FoundOf}
 use Rattle.sec_cli.specs.declared.finding.Finding.{Finding}
 use Rattle.sec_cli.specs.declared.finding.Stop.{Stop}
 use Rattle.sec_cli.specs.declared.finding.Stop.TheVariants as stop
-use Rattle.sec_cli.proofs.Finds.{right_ends, nets_end, later_fails, no_fault_compared}
+use Rattle.sec_cli.proofs.Finds.{left_ends, right_ends, nets_end, later_fails, no_fault_compared}
 use Rattle.sec_cli.proofs.run.check.Goals as goal
+
+pub returns-in-Err-clause-found : goal.returns-in-Err-clause-found
+returns-in-Err-clause-found g c =
+    let check : Check = record { left = c.args.comparison.now.left.now; right = c.args.comparison.now.right.now; settings = c.args.comparison.now.settings } in
+    let held = g.S.Shelf.held c.args.shelf.now in
+    let before = g.S.Shelf.faults c.args.shelf.now in
+    let now = g.S.Shelf.faults c.load.new.shelf in
+    subst (λ (r : Result Finding Stop). FoundOf held before now check r) (sym c.load_end.ensures) (left_ends held before now check c.in-Err.error c.in-Err.ensures.err)
 
 pub returns-in-Err-load-clause-found : goal.returns-in-Err-load-clause-found
 returns-in-Err-load-clause-found g c =
