@@ -1,0 +1,6 @@
+pub mod WayLemmas
+pub mod Edges
+pub mod Marking
+pub mod Walks
+pub mod Removed
+pub mod Sides

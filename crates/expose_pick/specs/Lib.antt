@@ -1,0 +1,5 @@
+pub mod Chosen
+pub mod Refused
+pub mod Laws
+pub mod Marks
+pub mod Walk
