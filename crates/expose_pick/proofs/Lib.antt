@@ -4,3 +4,5 @@ pub mod Marking
 pub mod Walks
 pub mod Removed
 pub mod Sides
+pub mod Tried
+pub mod Paired

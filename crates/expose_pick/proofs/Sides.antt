@@ -22,18 +22,9 @@ use Rattle.expose_pick.specs.declared.marks.Mark.{Mark}
 use Rattle.expose_pick.specs.declared.marks.Mark.TheVariants.{Waiting, Exposed, Clear, Seen}
 use Rattle.expose_pick.specs.Chosen.{IsFree, at_places, names_at}
 use Rattle.expose_pick.specs.Marks.{WayBack, IsOut, IsBlocked, IsBlockedBut, AreMarks, AreFirst, IsTried, signal_of}
+use Rattle.expose_pick.specs.Trying.{IsSide}
 use Rattle.expose_pick.proofs.WayLemmas.{way_map, still_free}
 use Rattle.expose_pick.proofs.Edges.{IsRing, cycle_ring, ring_cycle}
-
--- After the first k positions were tried: the later ones wait, those at the places are exposed, no other latch is taken out, and
--- no cycle is left.
-pub record IsSide (g : GraphView) (positions : List ℕ) (k : ℕ) (places : List ℕ) (marks : List Mark) : Type 0 where
-  pub table : AreMarks g.nodes marks (k + 1)
-  pub waiting : (i j : ℕ) → k ≤ i → slice_get positions i ≡ Some j → slice_get marks (signal_of g.latches j) ≡ Some Waiting
-  pub exposed : (i p j : ℕ) → slice_get places i ≡ Some p → slice_get positions p ≡ Some j → slice_get marks (signal_of g.latches j) ≡ Some Exposed
-  pub blocked : (s : ℕ) → IsBlocked marks s → (i : ℕ) × (j : ℕ) × (slice_get positions i ≡ Some j) × (signal_of g.latches j ≡ s) × ((k ≤ i) ⊎ Contains places i)
-  pub free : (n : NetView) → IsGraphOf n g → (j : ℕ) → j < length g.latches → (IsBlocked marks (signal_of g.latches j) → ⊥) →
-      WayBack g.nodes (IsBlocked marks) (signal_of g.latches j) (signal_of g.latches j) → ⊥
 
 -- the latch at a position
 pub latch_of : (latches : List LatchAt) (j : ℕ) → j < length latches → slice_get latches j ≡ Some (get_or latches j no_latch)

@@ -3,3 +3,4 @@ pub mod Refused
 pub mod Laws
 pub mod Marks
 pub mod Walk
+pub mod Trying

@@ -5,7 +5,8 @@ ghost use Rattle.sec_base.specs.Table.{AreDistinct};
 ghost use Rattle.flat_net.specs.declared.signals.Signal.{Signal};
 ghost use Rattle.latch_graph.specs.declared.nodes.Node.{Node};
 ghost use Rattle.expose_pick.specs.Chosen.{IsFree, IsMinimalChoice};
-ghost use Rattle.expose_pick.specs.Marks.{AreMarks, IsTried, IsBlocked, IsBlockedBut, WayBack};
+ghost use Rattle.expose_pick.specs.Marks.{AreMarks, IsTried, IsBlocked, IsBlockedBut, WayBack, signal_of};
+ghost use Rattle.expose_pick.specs.Trying.{AreTried};
 
 use crate::marks::{Mark, first_marks};
 use crate::walking::leads_back;
@@ -34,24 +35,56 @@ pub(crate) fn chosen(
     b.keeps();
     let mut left = first_marks(alloc, a.nodes(), a.latches(), lefts)?;
     let mut right = first_marks(alloc, b.nodes(), b.latches(), rights)?;
+    let places = try_all(
+        alloc,
+        a,
+        b,
+        lefts,
+        rights,
+        left.as_mut_slice(),
+        right.as_mut_slice(),
+    )?;
+    Ok(places)
+}
+
+/// Tries each pair in turn, and gives the places of those whose latches stay taken out.
+fn try_all(
+    alloc: Global,
+    a: &LatchGraph,
+    b: &LatchGraph,
+    lefts: &[u32],
+    rights: &[u32],
+    left: &mut [Mark],
+    right: &mut [Mark],
+) -> Result<Ids, NoMemory>
+    requires left { All (λ j. j < length a.now.latches) lefts.now }
+    requires right { All (λ j. j < length b.now.latches) rights.now }
+    requires left_once { AreDistinct lefts.now }
+    requires right_once { AreDistinct rights.now }
+    requires pairs { length rights.now ≡ length lefts.now }
+    requires none_tried { AreTried a.now b.now lefts.now rights.now 0 left.old right.old [] }
+    ensures { IfOk result (AreTried a.now b.now lefts.now rights.now (length lefts.now) left.new right.new) }
+{
+    a.keeps();
+    b.keeps();
     let mut places = Seq::new(alloc);
     for k in 0..lefts.len() {
-        let u = a.latches()[lefts[k] as usize].out.0;
-        let v = b.latches()[rights[k] as usize].out.0;
+        let u = signal_at(a, lefts[k]);
+        let v = signal_at(b, rights[k]);
         let place = k as u32;
-        let needed = is_needed(
-            alloc,
-            a.nodes(),
-            b.nodes(),
-            left.as_mut_slice(),
-            right.as_mut_slice(),
-            u,
-            v,
-            place + 1,
-        )?;
+        let turn = place + 1;
+        let needed = is_needed(alloc, a.nodes(), b.nodes(), left, right, u, v, turn)?;
         push_if(needed, &mut places, place)?;
     }
     Ok(places)
+}
+
+/// The signal of the latch at the position.
+fn signal_at(graph: &LatchGraph, position: u32) -> u32
+    requires { position < length graph.now.latches }
+    ensures { result ≡ signal_of graph.now.latches position }
+{
+    graph.latches()[position as usize].out.0
 }
 
 fn push_if(needed: bool, places: &mut Ids, place: u32) -> Result<(), NoMemory>
