@@ -6,3 +6,4 @@ pub mod Removed
 pub mod Sides
 pub mod Tried
 pub mod Paired
+pub mod Cuts
