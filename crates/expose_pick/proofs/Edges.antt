@@ -18,7 +18,8 @@ use Rattle.latch_graph.specs.declared.nodes.Node.{Node}
 use Rattle.latch_graph.specs.Graph.{GraphView, IsGraphOf, AreNodes}
 use Rattle.latch_graph.proofs.Depths.{kept_nodes, only_at, none_some}
 use Rattle.latch_graph.proofs.Reading.{reads_node, latch_node, node_reads}
-use Rattle.expose_pick.specs.Marks.{NodeReads, WayBack, signal_of}
+use Rattle.expose_pick.specs.Readers.{NodeReads, WayBack}
+use Rattle.expose_pick.specs.Marks.{signal_of}
 use Rattle.expose_pick.proofs.WayLemmas.{way_then}
 
 -- the name of a latch's equation

@@ -1,4 +1,5 @@
 pub mod WayLemmas
+pub mod Turned
 pub mod Edges
 pub mod Marking
 pub mod Walks

@@ -18,12 +18,16 @@ use Rattle.flat_net.proofs.Places.{one_at, All-at}
 use Rattle.flat_net.proofs.Growth.{slice_get-push_cases}
 use Rattle.latch_graph.specs.declared.nodes.Node.{Node}
 use Rattle.latch_graph.specs.Graph.{GraphView, IsGraphOf, AreNodes}
+use Rattle.expose_pick.specs.declared.marks.Direction.{Direction}
+use Rattle.expose_pick.specs.declared.marks.Direction.TheVariants.{Back}
 use Rattle.expose_pick.specs.declared.marks.Mark.{Mark}
-use Rattle.expose_pick.specs.declared.marks.Mark.TheVariants.{Waiting, Exposed, Clear, Seen}
+use Rattle.expose_pick.specs.declared.marks.Mark.TheVariants.{Out, Met}
 use Rattle.expose_pick.specs.Chosen.{IsFree, at_places, names_at}
-use Rattle.expose_pick.specs.Marks.{WayBack, IsOut, IsBlocked, IsBlockedBut, AreMarks, AreFirst, IsTried, signal_of}
+use Rattle.expose_pick.specs.Readers.{WayBack}
+use Rattle.expose_pick.specs.Marks.{IsBlocked, AreMarks, AreFirst, IsTried, signal_of}
 use Rattle.expose_pick.specs.Trying.{IsSide}
 use Rattle.expose_pick.proofs.WayLemmas.{way_map, still_free}
+use Rattle.expose_pick.proofs.Marking.{out_met, met_same}
 use Rattle.expose_pick.proofs.Edges.{IsRing, cycle_ring, ring_cycle}
 
 -- the latch at a position
@@ -64,25 +68,21 @@ one_name n g of i j k l h m e =
 pub side_first : (g : GraphView) (positions : List ℕ) (marks : List Mark) → All (λ j. j < length g.latches) positions → length marks ≡ length g.nodes → AreFirst g.latches positions (length positions) marks →
     IsFree g positions → IsSide g positions 0 [] marks
 side_first g positions marks within size first none = record {
-  table = record { size = size; clear = λ s r h e. absurd (not_clear (first.from s Clear h)); early = λ s t h. early t (first.from s (Seen t) h) };
-  waiting = λ i j l h. first.wait i j (slice_get_within positions i j h) h;
+  table = record { size = size; early = λ s t way h. early t way (first.from s (Met way t) h) };
+  waiting = λ i j l h. first.out i j (slice_get_within positions i j h) h;
   exposed = λ i p j h. absurd (let l = slice_get_within [] i p h in omega (arith, l));
-  blocked = λ s b. blocked s b.0 b.2 (first.from s b.0 b.1);
+  blocked = λ s b. blocked s (first.from s Out b);
   free = free;
 }
   where
-    not_clear : {s : ℕ} → (Clear ≡ Seen 0) ⊎ ((Clear ≡ Waiting) × (i : ℕ) × (j : ℕ) × (slice_get positions i ≡ Some j) × (signal_of g.latches j ≡ s)) → ⊥
-    not_clear (inl e) = cc
-    not_clear (inr x) = let e = x.0 in cc
+    early : {s : ℕ} (t : ℕ) (way : Direction) → (Met way t ≡ Met Back 0) ⊎ ((Met way t ≡ Out) × (i : ℕ) × (j : ℕ) × (slice_get positions i ≡ Some j) × (signal_of g.latches j ≡ s)) → t < 0 + 1
+    early t way (inl e) = let same = (met_same e).1 in omega (arith, same)
+    early t way (inr x) = absurd (out_met (sym x.0))
 
-    early : {s : ℕ} (t : ℕ) → (Seen t ≡ Seen 0) ⊎ ((Seen t ≡ Waiting) × (i : ℕ) × (j : ℕ) × (slice_get positions i ≡ Some j) × (signal_of g.latches j ≡ s)) → t < 0 + 1
-    early t (inl e) = let same : t ≡ 0 = cc in omega (arith, same)
-    early t (inr x) = let e = x.0 in absurd (cc)
-
-    blocked : (s : ℕ) (mark : Mark) → IsOut mark → (mark ≡ Seen 0) ⊎ ((mark ≡ Waiting) × (i : ℕ) × (j : ℕ) × (slice_get positions i ≡ Some j) × (signal_of g.latches j ≡ s)) →
+    blocked : (s : ℕ) → (Out ≡ Met Back 0) ⊎ ((Out ≡ Out) × (i : ℕ) × (j : ℕ) × (slice_get positions i ≡ Some j) × (signal_of g.latches j ≡ s)) →
         (i : ℕ) × (j : ℕ) × (slice_get positions i ≡ Some j) × (signal_of g.latches j ≡ s) × ((0 ≤ i) ⊎ Contains [] i)
-    blocked s mark out (inl e) = absurd (subst (λ z. IsOut z) e out)
-    blocked s mark out (inr x) = (x.1, x.2, x.3, x.4, inl (omega arith))
+    blocked s (inl e) = absurd (out_met e)
+    blocked s (inr x) = (x.1, x.2, x.3, x.4, inl (omega arith))
 
     free : (n : NetView) → IsGraphOf n g → (j : ℕ) → j < length g.latches → (IsBlocked marks (signal_of g.latches j) → ⊥) → WayBack g.nodes (IsBlocked marks) (signal_of g.latches j) (signal_of g.latches j) → ⊥
     free n of j l away way =
@@ -94,8 +94,8 @@ side_first g positions marks within size first none = record {
             let place = at_of positions x.0 x.1 in
             let inside = All-contains (λ z. z < length g.latches) positions x.0 within x.1 in
             let same : x.0 ≡ i = one_name n g of x.0 i (get_or g.latches x.0 no_latch) k (latch_of g.latches x.0 inside) h x.2 in
-            let wait = first.wait place.0 x.0 (slice_get_within positions place.0 x.0 place.1) place.1 in
-            (Waiting, subst (λ z. slice_get marks z ≡ Some Waiting) (ap (λ z. signal_of g.latches z) same ∙ signal_is g.latches i k h) wait, tt)
+            let out = first.out place.0 x.0 (slice_get_within positions place.0 x.0 place.1) place.1 in
+            subst (λ z. IsBlocked marks z) (ap (λ z. signal_of g.latches z) same ∙ signal_is g.latches i k h) out
 
 -- one turn
 module _ (g : GraphView) (are : AreNodes g.nodes g.latches) (positions : List ℕ) (within : All (λ j. j < length g.latches) positions) (distinct : AreDistinct positions) (k j : ℕ) (at : slice_get positions k ≡ Some j)
@@ -111,25 +111,25 @@ module _ (g : GraphView) (are : AreNodes g.nodes g.latches) (positions : List �
       let same : m ≡ j = one_signal g are m j (in_graph i m h) (in_graph k j at) e in
       n (distinct i k j (subst (λ z. slice_get positions i ≡ Some z) same h) at)
 
-  -- the latch waited before
-  pub waited : slice_get marks root ≡ Some Waiting
+  -- the latch was taken out before
+  pub waited : IsBlocked marks root
   waited = side.waiting k j (omega arith) at
 
   pub blocked_before : (needed : Bool) → IsTried marks new root needed → (s : ℕ) → IsBlocked new s → IsBlocked marks s
   blocked_before needed tried s b = go (same_or_not s root)
     where
       go : (s ≡ root) ⊎ (s ≢ root) → IsBlocked marks s
-      go (inl e) = (Waiting, subst (λ z. slice_get marks z ≡ Some Waiting) (sym e) waited, tt)
-      go (inr n) = (b.0, tried.were s b.0 b.2 n b.1, b.2)
+      go (inl e) = subst (λ z. IsBlocked marks z) (sym e) waited
+      go (inr n) = tried.were s n b
 
   blocked_after : (needed : Bool) → IsTried marks new root needed → (s : ℕ) → IsBlocked marks s → s ≢ root → IsBlocked new s
-  blocked_after needed tried s b n = (b.0, tried.stay s b.0 b.2 n b.1, b.2)
+  blocked_after needed tried s b n = tried.stay s n b
 
-  waiting : (needed : Bool) → IsTried marks new root needed → (i m : ℕ) → k + 1 ≤ i → slice_get positions i ≡ Some m → slice_get new (signal_of g.latches m) ≡ Some Waiting
-  waiting needed tried i m l h = tried.stay (signal_of g.latches m) Waiting tt (apart i m h (λ e. omega (arith, l, e))) (side.waiting i m (omega (arith, l)) h)
+  waiting : (needed : Bool) → IsTried marks new root needed → (i m : ℕ) → k + 1 ≤ i → slice_get positions i ≡ Some m → IsBlocked new (signal_of g.latches m)
+  waiting needed tried i m l h = tried.stay (signal_of g.latches m) (apart i m h (λ e. omega (arith, l, e))) (side.waiting i m (omega (arith, l)) h)
 
-  exposed : (needed : Bool) → IsTried marks new root needed → (i p m : ℕ) → slice_get places i ≡ Some p → slice_get positions p ≡ Some m → slice_get new (signal_of g.latches m) ≡ Some Exposed
-  exposed needed tried i p m h o = tried.stay (signal_of g.latches m) Exposed tt (apart p m o (λ e. let l = below i p h in omega (arith, l, e))) (side.exposed i p m h o)
+  exposed : (needed : Bool) → IsTried marks new root needed → (i p m : ℕ) → slice_get places i ≡ Some p → slice_get positions p ≡ Some m → IsBlocked new (signal_of g.latches m)
+  exposed needed tried i p m h o = tried.stay (signal_of g.latches m) (apart p m o (λ e. let l = below i p h in omega (arith, l, e))) (side.exposed i p m h o)
 
   -- what is still taken out
   still : (needed : Bool) → IsTried marks new root needed → (s : ℕ) → IsBlocked new s → s ≢ root → (i : ℕ) × (m : ℕ) × (slice_get positions i ≡ Some m) × (signal_of g.latches m ≡ s) × ((k + 1 ≤ i) ⊎ Contains places i)
@@ -159,14 +159,14 @@ module _ (g : GraphView) (are : AreNodes g.nodes g.latches) (positions : List �
       kept s b = go (same_or_not s root)
         where
           go : (s ≡ root) ⊎ (s ≢ root) → IsBlocked new s
-          go (inl e) = (Exposed, subst (λ z. slice_get new z ≡ Some Exposed) (sym e) (tried.exposed refl), tt)
+          go (inl e) = subst (λ z. IsBlocked new z) (sym e) (tried.out refl)
           go (inr n) = blocked_after true tried s b n
 
-      shown : (i p m : ℕ) → slice_get positions p ≡ Some m → (slice_get places i ≡ Some p) ⊎ ((i ≡ length places) × (k ≡ p)) → slice_get new (signal_of g.latches m) ≡ Some Exposed
+      shown : (i p m : ℕ) → slice_get positions p ≡ Some m → (slice_get places i ≡ Some p) ⊎ ((i ≡ length places) × (k ≡ p)) → IsBlocked new (signal_of g.latches m)
       shown i p m o (inl h) = exposed true tried i p m h o
       shown i p m o (inr h) =
           let same : j ≡ m = one_at positions k j m at (subst (λ z. slice_get positions z ≡ Some m) (sym h.1) o) in
-          subst (λ z. slice_get new (signal_of g.latches z) ≡ Some Exposed) same (tried.exposed refl)
+          subst (λ z. IsBlocked new (signal_of g.latches z)) same (tried.out refl)
 
       blocked : (s : ℕ) → IsBlocked new s → (s ≡ root) ⊎ (s ≢ root) → (i : ℕ) × (m : ℕ) × (slice_get positions i ≡ Some m) × (signal_of g.latches m ≡ s) × ((k + 1 ≤ i) ⊎ Contains (places ++ k ∷ []) i)
       blocked s b (inl e) = (k, j, at, sym e, inr (Contains-append_right places (k ∷ []) k (Contains-head k [])))

@@ -1,7 +1,8 @@
 -- Both graphs while pairs of latches are tried in turn, and what is chosen at the end.
 use Rattle.std.proofs.Common.{◌≡◌, ◌≢◌, ℕ, zero, suc, ◌+◌, ◌<◌, ◌≤◌, Bool, true, false, List, [], ◌∷◌, ◌++◌, length, map, get_or, Option, Some, refl, sym, ◌∙◌, ap, subst, arith, inl, inr}
-use Rattle.std.specs.Prelude.{◌⊎◌, slice_get, if◌then◌else◌}
+use Rattle.std.specs.Prelude.{◌⊎◌, ◌||◌, slice_get, if◌then◌else◌}
 use Rattle.std.specs.List.{All, Contains}
+use Rattle.std.proofs.Math.ListN.{set}
 use Rattle.std.proofs.lemmas.Option.{slice_get_within, slice_get-get_or, get_or_from_slice_get}
 use Rattle.std.proofs.lemmas.Bool.{cases_order}
 use Rattle.circuit_theory.specs.Run.{NoneEnabled}
@@ -20,11 +21,13 @@ use Rattle.latch_graph.specs.declared.nodes.Node.{Node}
 use Rattle.latch_graph.specs.Graph.{GraphView, IsGraphOf, AreNodes}
 use Rattle.latch_graph.proofs.Weights.{AllPairs-from_at}
 use Rattle.expose_pick.specs.declared.marks.Mark.{Mark}
-use Rattle.expose_pick.specs.declared.marks.Mark.TheVariants.{Exposed}
+use Rattle.expose_pick.specs.declared.marks.Mark.TheVariants.{Out}
 use Rattle.expose_pick.specs.Chosen.{IsFree, IsMinimalChoice, at_places, names_at}
-use Rattle.expose_pick.specs.Marks.{WayBack, IsBlocked, IsBlockedBut, AreMarks, AreFirst, IsTried, signal_of}
-use Rattle.expose_pick.specs.Trying.{IsSide, IsNeeded, AreTried}
+use Rattle.expose_pick.specs.Readers.{WayBack}
+use Rattle.expose_pick.specs.Marks.{IsBlocked, IsBlockedBut, AreMarks, IsPutBack, IsTried, signal_of}
+use Rattle.expose_pick.specs.Trying.{IsField, IsSide, IsNeeded, AreTried}
 use Rattle.expose_pick.proofs.WayLemmas.{way_map}
+use Rattle.expose_pick.proofs.Marking.{tried_if, marks_if, way_but}
 use Rattle.expose_pick.proofs.Edges.{cycle_ring, ring_cycle}
 use Rattle.expose_pick.proofs.Sides.{latch_of, signal_is, one_signal, signal_within, one_name, side_first, side_exposed, side_back, blocked_before}
 
@@ -117,29 +120,76 @@ module _ (a b : GraphView) (are_a : AreNodes a.nodes a.latches) (are_b : AreNode
     tried_more true tried_left tried_right need none_left none_right after e = subst (λ z. AreTried a b lefts rights (k + 1) new_left new_right z) (sym e) (with_it tried_left tried_right (need refl))
     tried_more false tried_left tried_right need none_left none_right after e = subst (λ z. AreTried a b lefts rights (k + 1) new_left new_right z) (sym e) (without_it tried_left tried_right (none_left refl) (none_right refl))
 
--- a way of one list of nodes at one signal is one of an equal list at an equal signal
-ring_along : (blocked : ℕ → ℕ → Type 0) (nodes others : List Node) (u v : ℕ) → nodes ≡ others → u ≡ v → WayBack nodes (blocked u) u u → WayBack others (blocked v) v v
-ring_along blocked nodes others u v same is way = subst (λ z. WayBack others (blocked z) z z) is (subst (λ (z : List Node). WayBack z (blocked u) u u) same way)
-
 -- the same, as a turn of the program tells it
-module _ (a b : GraphView) (are_a : AreNodes a.nodes a.latches) (are_b : AreNodes b.nodes b.latches) (lefts rights : List ℕ) (within_a : All (λ j. j < length a.latches) lefts) (within_b : All (λ j. j < length b.latches) rights)
-    (distinct_a : AreDistinct lefts) (distinct_b : AreDistinct rights) (many : length rights ≡ length lefts) (k : ℕ) (inside : k < length lefts) (places : List ℕ) (left right new_left new_right : List Mark)
-    (t : AreTried a b lefts rights k left right places) where
-  pub tried_turn : (nodes_a nodes_b : List Node) → nodes_a ≡ a.nodes → nodes_b ≡ b.nodes → (u v : ℕ) → u ≡ signal_of a.latches (get_or lefts k 0) → v ≡ signal_of b.latches (get_or rights k 0) →
-      AreMarks nodes_a new_left (k + 1 + 1) → AreMarks nodes_b new_right (k + 1 + 1) → (needed : Bool) → IsTried left new_left u needed → IsTried right new_right v needed →
-      (needed ≡ true → WayBack nodes_a (IsBlockedBut new_left u) u u ⊎ WayBack nodes_b (IsBlockedBut new_right v) v v) →
-      (needed ≡ false → WayBack nodes_a (IsBlocked new_left) u u → ⊥) → (needed ≡ false → WayBack nodes_b (IsBlocked new_right) v v → ⊥) →
-      (after : List ℕ) → after ≡ (if needed then places ++ k ∷ [] else places) → AreTried a b lefts rights (k + 1) new_left new_right after
-  tried_turn nodes_a nodes_b same_a same_b u v u_is v_is table_left table_right needed tried_left tried_right need none_left none_right after after_is =
-      tried_more a b are_a are_b lefts rights within_a within_b distinct_a distinct_b k (get_or lefts k 0) (get_or rights k 0) (slice_get-get_or lefts k 0 inside) (slice_get-get_or rights k 0 (omega (arith, inside, many)))
-      places left right new_left new_right t (subst (λ (z : List Node). AreMarks z new_left (k + 1 + 1)) same_a table_left) (subst (λ (z : List Node). AreMarks z new_right (k + 1 + 1)) same_b table_right) needed
-      (subst (λ z. IsTried left new_left z needed) u_is tried_left) (subst (λ z. IsTried right new_right z needed) v_is tried_right) (λ e. go (need e))
-      (λ e way. none_left e (ring_along (λ z. IsBlocked new_left) a.nodes nodes_a (signal_of a.latches (get_or lefts k 0)) u (sym same_a) (sym u_is) way))
-      (λ e way. none_right e (ring_along (λ z. IsBlocked new_right) b.nodes nodes_b (signal_of b.latches (get_or rights k 0)) v (sym same_b) (sym v_is) way)) after after_is
+module _ (a b : GraphView) (lefts rights : List ℕ) (readers_a readers_b : List Node) (field_a : IsField a lefts readers_a) (field_b : IsField b rights readers_b) (many : length rights ≡ length lefts) (k : ℕ) (inside : k < length lefts) (places : List ℕ)
+    (left right mid_left mid_right : List Mark) (t : AreTried a b lefts rights k left right places) where
+  abbrev u : ℕ
+  u = signal_of a.latches (get_or lefts k 0)
+
+  abbrev v : ℕ
+  v = signal_of b.latches (get_or rights k 0)
+
+  pub tried_turn : AreMarks a.nodes mid_left (k + 1 + 1) → AreMarks b.nodes mid_right (k + 1 + 1) → IsPutBack left mid_left u → IsPutBack right mid_right v → (in_left in_right : Bool) →
+      (in_left ≡ true → WayBack a.nodes (IsBlocked mid_left) u u) → (in_left ≡ false → WayBack a.nodes (IsBlocked mid_left) u u → ⊥) →
+      (in_right ≡ true → WayBack b.nodes (IsBlocked mid_right) v v) → (in_right ≡ false → WayBack b.nodes (IsBlocked mid_right) v v → ⊥) →
+      (needed : Bool) → needed ≡ (in_left || in_right) → (new_left new_right : List Mark) (after : List ℕ) →
+      new_left ≡ (if needed then set mid_left u Out else mid_left) → new_right ≡ (if needed then set mid_right v Out else mid_right) → after ≡ (if needed then places ++ k ∷ [] else places) →
+      AreTried a b lefts rights (k + 1) new_left new_right after
+  tried_turn table_left table_right back_left back_right in_left in_right yes_left no_left yes_right no_right needed needed_is new_left new_right after left_is right_is after_is =
+      tried_more a b field_a.are field_b.are lefts rights field_a.within field_b.within field_a.once field_b.once k (get_or lefts k 0) (get_or rights k 0) at_left at_right
+      places left right new_left new_right t (marks_if a.nodes mid_left new_left (k + 1 + 1) u needed table_left left_is) (marks_if b.nodes mid_right new_right (k + 1 + 1) v needed table_right right_is) needed
+      (tried_if left mid_left new_left u needed back_left inside_left left_is) (tried_if right mid_right new_right v needed back_right inside_right right_is)
+      (λ e. need in_left in_right yes_left yes_right (sym needed_is ∙ e))
+      (λ e way. spare_left in_left in_right no_left (sym needed_is ∙ e) (unchanged a.nodes mid_left new_left needed e left_is way))
+      (λ e way. spare_right in_left in_right no_right (sym needed_is ∙ e) (unchanged_right needed e right_is way)) after after_is
     where
-      go : WayBack nodes_a (IsBlockedBut new_left u) u u ⊎ WayBack nodes_b (IsBlockedBut new_right v) v v → IsNeeded a b new_left new_right (get_or lefts k 0) (get_or rights k 0)
-      go (inl way) = inl (ring_along (IsBlockedBut new_left) nodes_a a.nodes u (signal_of a.latches (get_or lefts k 0)) same_a u_is way)
-      go (inr way) = inr (ring_along (IsBlockedBut new_right) nodes_b b.nodes v (signal_of b.latches (get_or rights k 0)) same_b v_is way)
+      at_left : slice_get lefts k ≡ Some (get_or lefts k 0)
+      at_left = slice_get-get_or lefts k 0 inside
+
+      at_right : slice_get rights k ≡ Some (get_or rights k 0)
+      at_right = slice_get-get_or rights k 0 (omega (arith, inside, many))
+
+      inside_left : u < length mid_left
+      inside_left = let l = signal_within a field_a.are (get_or lefts k 0) (All-at (λ z. z < length a.latches) lefts k (get_or lefts k 0) at_left field_a.within) in omega (arith, l, table_left.size)
+
+      inside_right : v < length mid_right
+      inside_right = let l = signal_within b field_b.are (get_or rights k 0) (All-at (λ z. z < length b.latches) rights k (get_or rights k 0) at_right field_b.within) in omega (arith, l, table_right.size)
+
+      need : (x y : Bool) → (x ≡ true → WayBack a.nodes (IsBlocked mid_left) u u) → (y ≡ true → WayBack b.nodes (IsBlocked mid_right) v v) → (x || y) ≡ true → IsNeeded a b new_left new_right (get_or lefts k 0) (get_or rights k 0)
+      need true y holds other e = inl (way_but a.nodes mid_left new_left u needed left_is (holds refl))
+      need false y holds other e = inr (way_but b.nodes mid_right new_right v needed right_is (other e))
+
+      unchanged : (nodes : List Node) (mid new : List Mark) (needed : Bool) → needed ≡ false → new ≡ (if needed then set mid u Out else mid) → WayBack nodes (IsBlocked new) u u → WayBack nodes (IsBlocked mid) u u
+      unchanged nodes mid new true e is way = absurd (true_false e)
+        where
+          true_false : true ≡ false → ⊥
+          true_false h = cc
+      unchanged nodes mid new false e is way = subst (λ (z : List Mark). WayBack nodes (IsBlocked z) u u) is way
+
+      unchanged_right : (needed : Bool) → needed ≡ false → new_right ≡ (if needed then set mid_right v Out else mid_right) → WayBack b.nodes (IsBlocked new_right) v v → WayBack b.nodes (IsBlocked mid_right) v v
+      unchanged_right true e is way = absurd (true_false e)
+        where
+          true_false : true ≡ false → ⊥
+          true_false h = cc
+      unchanged_right false e is way = subst (λ (z : List Mark). WayBack b.nodes (IsBlocked z) v v) is way
+
+      spare_left : (x y : Bool) → (x ≡ false → WayBack a.nodes (IsBlocked mid_left) u u → ⊥) → (x || y) ≡ false → WayBack a.nodes (IsBlocked mid_left) u u → ⊥
+      spare_left true y fails e = absurd (cc)
+      spare_left false y fails e = fails refl
+
+      spare_right : (x y : Bool) → (y ≡ false → WayBack b.nodes (IsBlocked mid_right) v v → ⊥) → (x || y) ≡ false → WayBack b.nodes (IsBlocked mid_right) v v → ⊥
+      spare_right true y fails e = absurd (cc)
+      spare_right false y fails e = fails e
+
+-- the same of equal graphs and positions
+pub tried_along : (a a' b b' : GraphView) (lefts lefts' rights rights' : List ℕ) (k k' : ℕ) (left right : List Mark) (places : List ℕ) → a ≡ a' → b ≡ b' → lefts ≡ lefts' → rights ≡ rights' → k ≡ k' → AreTried a b lefts rights k left right places →
+    AreTried a' b' lefts' rights' k' left right places
+tried_along a a' b b' lefts lefts' rights rights' k k' left right places ea eb el er ek t =
+    subst (λ (z : GraphView). AreTried z b' lefts' rights' k' left right places) ea
+    (subst (λ (z : GraphView). AreTried a z lefts' rights' k' left right places) eb
+    (subst (λ (z : List ℕ). AreTried a b z rights' k' left right places) el
+    (subst (λ (z : List ℕ). AreTried a b lefts z k' left right places) er
+    (subst (λ z. AreTried a b lefts rights z left right places) ek t))))
 
 -- what stands in a list without one place
 pub without_from : {X : Type 0} (ys : List X) (i : ℕ) (y : X) → Contains (without ys i) y → (q : ℕ) × (slice_get ys q ≡ Some y) × (q ≢ i)
@@ -199,7 +249,7 @@ module _ (g : GraphView) (are : AreNodes g.nodes g.latches) (positions : List �
               let inside = All-at (λ z. z < length g.latches) positions r v here within in
               let same : v ≡ u = one_name n g of v u (get_or g.latches v no_latch) l (latch_of g.latches v inside) at named in
               let out : signal_of g.latches v ≡ l.out.0 = ap (λ z. signal_of g.latches z) same ∙ signal_is g.latches u l at in
-              ((Exposed, subst (λ z. slice_get marks z ≡ Some Exposed) out (side.exposed q r v placed here), tt), λ e. apart v here (out ∙ e))
+              (subst (λ z. IsBlocked marks z) out (side.exposed q r v placed here), λ e. apart v here (out ∙ e))
             where
               position_at : (r v : ℕ) → r < length positions → get_or positions r 0 ≡ v → slice_get positions r ≡ Some v
               position_at r v l e = slice_get-get_or positions r 0 l ∙ ap Some e

@@ -1,411 +1,263 @@
--- How a walk back from a latch goes on.
-use Rattle.std.proofs.Common.{◌≡◌, ◌≢◌, ℕ, ◌+◌, ◌*◌, ◌<◌, ◌≤◌, List, [], ◌∷◌, ◌++◌, length, Some, refl, sym, ◌∙◌, ap, subst, arith, inl, inr, get_or}
-use Rattle.std.specs.Prelude.{◌⊎◌, slice_get, if◌then◌else◌}
+-- How a walk from a latch goes on, and what it means that it meets the other walk or ends.
+use Rattle.std.proofs.Common.{◌≡◌, ◌≢◌, ℕ, zero, suc, ◌+◌, ◌<◌, ◌≤◌, Bool, true, false, not, List, [], ◌∷◌, ◌++◌, length, Some, refl, sym, ◌∙◌, ap, subst, arith, inl, inr}
+use Rattle.std.specs.Prelude.{◌⊎◌, slice_get}
 use Rattle.std.proofs.Math.ListN.{set}
-use Rattle.std.proofs.lemmas.Option.{slice_get_within, slice_get_read, slice_get-get_or, get_or_from_slice_get}
-use Rattle.std.proofs.lemmas.Bool.{ne_eqb}
-use Rattle.circuit_theory.proofs.Inputs.{test_refl}
+use Rattle.std.proofs.lemmas.Option.{slice_get_within}
 use Rattle.circuit_theory.proofs.Sums.{same_or_not}
 use Rattle.flat_net.specs.declared.signals.Signal.{Signal}
 use Rattle.flat_net.proofs.Places.{one_at}
-use Rattle.flat_net.proofs.Nets.{some_at}
 use Rattle.flat_net.proofs.Growth.{slice_get-append, slice_get-push, slice_get-push_cases, length-push}
 use Rattle.latch_graph.specs.declared.nodes.Node.{Node}
-use Rattle.latch_graph.proofs.Tables.{set_same, set_other, set_cases}
+use Rattle.latch_graph.proofs.Tables.{set_same, set_cases}
+use Rattle.expose_pick.specs.declared.marks.Direction.{Direction}
+use Rattle.expose_pick.specs.declared.marks.Direction.TheVariants.{Back, Ahead}
 use Rattle.expose_pick.specs.declared.marks.Mark.{Mark}
-use Rattle.expose_pick.specs.declared.marks.Mark.TheVariants.{Waiting, Exposed, Clear, Seen}
-use Rattle.expose_pick.specs.declared.walking.Step.{Step}
-use Rattle.expose_pick.specs.Marks.{NodeReads, WayBack, IsOut, IsBlocked, IsPassed, LeadsNowhere, IsNowhere, AreMarks, SameOut, IsPutBack}
-use Rattle.expose_pick.specs.Walk.{Passed, IsUnseen, IsReached, IsStep, IsWalk, unseen_of, unseen_count}
-use Rattle.expose_pick.proofs.WayLemmas.{way_more}
-use Rattle.expose_pick.proofs.Marking.{Keeps, keeps-set, same_out-set, same_out_refl, blocked_new, way_along, marks-set, marks_later, unseen-set}
+use Rattle.expose_pick.specs.declared.marks.Mark.TheVariants.{Out, Met}
+use Rattle.expose_pick.specs.Readers.{NodeReads, WayBack, AreReaders}
+use Rattle.expose_pick.specs.Marks.{IsBlocked, AreMarks}
+use Rattle.expose_pick.specs.Walk.{other_way, IsOlder, IsLater, IsPassed, IsMet, IsWalk, IsGoing, HasMet, Adds, Meets, unseen_count}
+use Rattle.expose_pick.proofs.WayLemmas.{way_then, way_more, way_ahead, way_behind}
+use Rattle.expose_pick.proofs.Marking.{way_along, met_same, met_free, later_refl, later-set, later_same, later_table, marks-back, met_stays, other_were, unseen-met}
 
--- the marks are different
-seen_clear : (u : ℕ) → Seen u ≡ Clear → ⊥
-seen_clear u e = cc
+-- what the other walk has met in this turn, where a direction isn't this one
+not_way : (way other : Direction) → (way ≡ other → ⊥) → other ≡ other_way way
+not_way Back Back n = absurd (n refl)
+not_way Back Ahead n = refl
+not_way Ahead Back n = refl
+not_way Ahead Ahead n = absurd (n refl)
 
-same_seen : {u v : ℕ} → Seen u ≡ Seen v → u ≡ v
-same_seen e = cc
+-- a signal that was met in this turn: by this walk, or by the other
+pub meets_met : (marks : List Mark) (met : List ℕ) (signal root turn last : ℕ) (way other : Direction) (b : Bool) → (b ≡ true → way ≡ other) → (b ≡ false → way ≢ other) → slice_get marks signal ≡ Some (Met other last) → last ≡ turn → signal ≢ root →
+    Meets marks marks met met signal way root turn (not b)
+meets_met marks met signal root turn last way other true holds fails at same apart =
+    (apart, inl (refl, refl, inr (subst (λ z. slice_get marks signal ≡ Some (Met z turn)) (sym (holds refl)) (subst (λ z. slice_get marks signal ≡ Some (Met other z)) same at))))
+meets_met marks met signal root turn last way other false holds fails at same apart =
+    (refl, refl, inr (subst (λ z. slice_get marks signal ≡ Some (Met z turn)) (not_way way other (fails refl)) (subst (λ z. slice_get marks signal ≡ Some (Met other z)) same at)))
 
--- the signal is on the way
-abbrev IsOnWay : List Step → ℕ → Type 0
-IsOnWay way s = (i : ℕ) × (step : Step) × (slice_get way i ≡ Some step) × (step.signal ≡ s)
+module _ (nodes : List Node) (root : ℕ) (way : Direction) (turn : ℕ) where
+  -- what is passed or met stays so, whichever walk goes on
+  passed_along : (v : Direction) (old new : List Mark) → IsLater v turn old new → (r : ℕ) → IsPassed old root way turn r → IsPassed new root way turn r
+  passed_along v old new later r p = (p.0, go p.1)
+    where
+      go : IsBlocked old r ⊎ (slice_get old r ≡ Some (Met way turn)) → IsBlocked new r ⊎ (slice_get new r ≡ Some (Met way turn))
+      go (inl b) = inl ((later_same v turn old new later).stay r b)
+      go (inr h) = inr (met_stays v turn old new later way r h)
 
--- all that the signal reads is passed
-abbrev ReadsPassed : List Node → List Mark → ℕ → ℕ → ℕ → Type 0
-ReadsPassed nodes marks root turn s = (r : ℕ) → NodeReads nodes s r → Passed marks root turn r
+  met_along : (v : Direction) (old new : List Mark) → IsLater v turn old new → (s : ℕ) → IsMet nodes old root way turn s → IsMet nodes new root way turn s
+  met_along v old new later s (inl e) = inl e
+  met_along v old new later s (inr x) = inr (way_along nodes old new (later_same v turn old new later) x.0, met_stays v turn old new later way s x.1)
 
-module _ (nodes : List Node) (root turn : ℕ) where
-
-  passed_along : (old new : List Mark) → Keeps turn old new → (s : ℕ) → Passed old root turn s → Passed new root turn s
-  passed_along old new keeps s x = (x.0, keeps.passed s x.1)
-
-  reached_along : (old new : List Mark) → SameOut old new → (s : ℕ) → IsReached nodes old root s → IsReached nodes new root s
-  reached_along old new same s (inl e) = inl e
-  reached_along old new same s (inr way) = inr (way_along nodes old new same way)
-
-  step_stays : (old new : List Mark) → SameOut old new → Keeps turn old new → (step : Step) → IsStep nodes old root turn step → IsStep nodes new root turn step
-  step_stays old new same keeps step s = record {
-    node = s.node;
-    here = s.here;
-    unblocked = λ b. s.unblocked (blocked_new old new same step.signal b);
-    reached = reached_along old new same step.signal s.reached;
-    passed = λ k r l h. passed_along old new keeps r.0 (s.passed k r l h);
+  -- the walk stays where the other one goes on
+  pub walk_other : (v : Direction) → (way ≡ v → ⊥) → (old new : List Mark) → IsLater v turn old new → (met : List ℕ) (at : ℕ) → IsWalk nodes old root way turn met at → IsWalk nodes new root way turn met at
+  walk_other v other old new later met at w = record {
+    begun = w.begun;
+    seen = λ s h. w.seen s (other_were v turn old new later way s other h);
+    are_met = λ i s h. met_along v old new later s (w.are_met i s h);
+    passed = λ i s r l h e. passed_along v old new later r (w.passed i s r l h e);
   }
-
-  -- what a signal that is reached reads is reached
-  reach_more : (marks : List Mark) (s r : ℕ) → IsReached nodes marks root s → (IsBlocked marks s → ⊥) → NodeReads nodes s r → WayBack nodes (IsBlocked marks) root r
-  reach_more marks s r (inl same) free e = WayBack.last (subst (λ z. NodeReads nodes z r) same e)
-  reach_more marks s r (inr way) free e = way_more nodes (IsBlocked marks) way free e
 
   -- the walk begins
-  pub walk_begins : (marks : List Mark) → AreMarks nodes marks turn → slice_get marks root ≡ Some Waiting → (node : Node) → slice_get nodes root ≡ Some node → IsWalk nodes (set marks root (Seen turn)) root turn ([] ++ record { signal = root; read = 0 } ∷ [])
-  walk_begins marks table waits node here = record {
-    table = marks-set nodes marks turn (turn + 1) root (Seen turn) (marks_later nodes marks turn table) keeps (λ e. absurd (seen_clear turn e)) (λ u e. let same = same_seen e in omega (arith, same));
-    apart = λ s h e. apart s e (set_cases marks root s (Seen turn) Clear h);
-    begun = inl (set_same marks root Waiting (Seen turn) waits);
-    steps = λ i step h. steps step (slice_get-push_cases [] (record { signal = root; read = 0 }) i step h);
-    seen = λ s h. seen s (set_cases marks root s (Seen turn) (Seen turn) h);
+  pub walk_begins : (table : List Node) (marks : List Mark) → AreMarks table marks turn → IsBlocked marks root → IsWalk nodes (set marks root (Met Back turn)) root way turn (root ∷ []) 0
+  walk_begins table marks early out = record {
+    begun = refl;
+    seen = λ s h. seen s (set_cases marks root s (Met Back turn) (Met way turn) h);
+    are_met = are_met;
+    passed = λ i s r l h e. absurd (omega (arith, l));
   }
     where
-      keeps : Keeps turn marks (set marks root (Seen turn))
-      keeps = keeps-set turn marks root Waiting (Seen turn) waits refl (λ x. absurd x)
+      seen : (s : ℕ) → ((s ≡ root) × (Met Back turn ≡ Met way turn)) ⊎ ((s ≢ root) × (slice_get marks s ≡ Some (Met way turn))) → (i : ℕ) × (slice_get (root ∷ []) i ≡ Some s)
+      seen s (inl x) = (0, ap Some (sym x.0))
+      seen s (inr x) = absurd (let l = early.early s turn way x.1 in omega (arith, l))
 
-      apart : (s : ℕ) → NodeReads nodes s root → ((s ≡ root) × (Seen turn ≡ Clear)) ⊎ ((s ≢ root) × (slice_get marks s ≡ Some Clear)) → ⊥
-      apart s e (inl x) = seen_clear turn x.1
-      apart s e (inr x) = let y = table.clear s root x.1 e in subst (λ z. LeadsNowhere z) (one_at marks root y.0 Waiting y.1 waits) y.2
+      are_met : (i s : ℕ) → slice_get (root ∷ []) i ≡ Some s → IsMet nodes (set marks root (Met Back turn)) root way turn s
+      are_met zero s h = inl (let e : root ≡ s = cc in sym e)
+      are_met (suc i) s h = absurd (let l = slice_get_within (root ∷ []) (suc i) s h in let one : length (root ∷ []) ≡ 1 = refl in omega (arith, l, one))
 
-      first : IsStep nodes (set marks root (Seen turn)) root turn (record { signal = root; read = 0 })
-      first = record {
-        node = node;
-        here = here;
-        unblocked = λ b. subst (λ z. IsOut z) (one_at (set marks root (Seen turn)) root b.0 (Seen turn) b.1 (set_same marks root Waiting (Seen turn) waits)) b.2;
-        reached = inl refl;
-        passed = λ k r l h. absurd (omega (arith, l));
-      }
-
-      steps : {i : ℕ} (step : Step) → (slice_get [] i ≡ Some step) ⊎ ((i ≡ length {A = Step} []) × (record { signal = root; read = 0 } ≡ step)) → IsStep nodes (set marks root (Seen turn)) root turn step
-      steps {i} step (inl h) = absurd (let l = slice_get_within [] i step h in omega (arith, l))
-      steps step (inr h) = subst (λ z. IsStep nodes (set marks root (Seen turn)) root turn z) h.1 first
-
-      seen : (s : ℕ) → ((s ≡ root) × (Seen turn ≡ Seen turn)) ⊎ ((s ≢ root) × (slice_get marks s ≡ Some (Seen turn))) →
-          ReadsPassed nodes (set marks root (Seen turn)) root turn s ⊎ IsOnWay ([] ++ record { signal = root; read = 0 } ∷ []) s
-      seen s (inl x) = inr (0, record { signal = root; read = 0 }, refl, sym x.0)
-      seen s (inr x) = absurd (let l = table.early s turn x.1 in omega (arith, l))
-
-  -- the root's latch is put back
-  pub root_back : (marks : List Mark) → slice_get marks root ≡ Some Waiting → IsPutBack marks (set marks root (Seen turn)) root
-  root_back marks waits = record {
-    stay = λ s mark out n h. set_other marks root s mark (Seen turn) n h;
-    were = λ s mark out h. were s mark out (set_cases marks root s (Seen turn) mark h);
-    back = λ b. subst (λ z. IsOut z) (one_at (set marks root (Seen turn)) root b.0 (Seen turn) b.1 (set_same marks root Waiting (Seen turn) waits)) b.2;
-  }
+  -- a signal that was met is one of the graph
+  pub met_within : (marks : List Mark) (met : List ℕ) (at i s : ℕ) → IsWalk nodes marks root way turn met at → root < length nodes → length marks ≡ length nodes → slice_get met i ≡ Some s → s < length nodes
+  met_within marks met at i s w root_in size h = go (w.are_met i s h)
     where
-      were : (s : ℕ) (mark : Mark) → IsOut mark → ((s ≡ root) × (Seen turn ≡ mark)) ⊎ ((s ≢ root) × (slice_get marks s ≡ Some mark)) → slice_get marks s ≡ Some mark
-      were s mark out (inl x) = absurd (subst (λ z. IsOut z) (sym x.1) out)
-      were s mark out (inr x) = x.1
+      go : IsMet nodes marks root way turn s → s < length nodes
+      go (inl e) = omega (arith, e, root_in)
+      go (inr x) = let l = slice_get_within marks s (Met way turn) x.1 in omega (arith, l, size)
 
-  pub back_along : (old marks new : List Mark) → IsPutBack old marks root → SameOut marks new → IsPutBack old new root
-  back_along old marks new back same = record {
-    stay = λ s mark out n h. same.stay s mark out (back.stay s mark out n h);
-    were = λ s mark out h. back.were s mark out (same.were s mark out h);
-    back = λ b. back.back (blocked_new marks new same root b);
-  }
+  pub going_begins : (marks : List Mark) (met : List ℕ) (at s : ℕ) (reads : List Signal) → IsWalk nodes marks root way turn met at → slice_get met at ≡ Some s → IsGoing nodes marks root way turn met at 0 s reads
+  going_begins marks met at s reads w here = record { walk = w; here = here; reads_passed = λ i r l h. absurd (omega (arith, l)) }
 
-  module _ (marks : List Mark) (way : List Step) (a : Step) (w : IsWalk nodes marks root turn (way ++ a ∷ [])) where
-    pub last_step : IsStep nodes marks root turn a
-    last_step = w.steps (length way) a (slice_get-push way a (length way) refl)
+  -- a way leads to what a met signal reads
+  reach_more : (marks : List Mark) (s r : ℕ) → IsMet nodes marks root way turn s → NodeReads nodes s r → WayBack nodes (IsBlocked marks) root r
+  reach_more marks s r (inl same) e = WayBack.last (subst (λ z. NodeReads nodes z r) same e)
+  reach_more marks s r (inr x) e = way_more nodes (IsBlocked marks) x.0 (met_free marks s turn way x.1) e
 
-    pub node_here : (node : Node) → node ≡ get_or nodes a.signal node → slice_get nodes a.signal ≡ Some node
-    node_here node is = slice_get_read nodes (length nodes) a.signal node refl (slice_get_within nodes a.signal last_step.node last_step.here) is
+  module _ (marks : List Mark) (met : List ℕ) (at k s : ℕ) (reads : List Signal) (g : IsGoing nodes marks root way turn met at k s reads) where
+    here : slice_get met at ≡ Some s
+    here = g.here
 
-    before : (i : ℕ) (x : Step) → slice_get way i ≡ Some x → IsStep nodes marks root turn x
-    before i x h = w.steps i x (slice_get-append way (a ∷ []) i x h)
+    -- it reads the root, or what the other walk has met
+    pub going_found : (r : Signal) → NodeReads nodes s r.0 → (new : List Mark) (later : List ℕ) → Meets marks new met later r.0 way root turn true → HasMet nodes new root way turn
+    going_found r e new later m = subst (λ z. HasMet nodes z root way turn) (sym m.0) (r.0, reach_more marks s r.0 (g.walk.are_met at s here) e, m.2)
 
-    -- the last step's node reads
-    pub step_reads : (node : Node) → slice_get nodes a.signal ≡ Some node → (k : ℕ) (r : Signal) → slice_get node.reads k ≡ Some r → NodeReads nodes a.signal r.0
-    step_reads node here k r h = record { node = node; place = k; signal = r; here = here; read = h; is = refl }
+    -- all that it reads is passed
+    pub going_ends : (node : Node) → slice_get nodes s ≡ Some node → reads ≡ node.reads → length reads ≤ k → IsWalk nodes marks root way turn met (at + 1)
+    going_ends node node_here same all = record {
+      begun = g.walk.begun;
+      seen = g.walk.seen;
+      are_met = g.walk.are_met;
+      passed = λ i u r l h e. passed i u r l h e (same_or_not i at);
+    }
+      where
+        passed : (i u r : ℕ) → i < at + 1 → slice_get met i ≡ Some u → NodeReads nodes u r → (i ≡ at) ⊎ (i ≢ at) → IsPassed marks root way turn r
+        passed i u r l h e (inr n) = g.walk.passed i u r (omega (arith, l, n)) h e
+        passed i u r l h e (inl q) =
+            let one : u ≡ s = one_at met at u s (subst (λ z. slice_get met z ≡ Some u) q h) here in
+            let two : e.node ≡ node = one_at nodes s e.node node (subst (λ z. slice_get nodes z ≡ Some e.node) one e.here) node_here in
+            let read : slice_get reads e.place ≡ Some e.signal = subst (λ (z : List Signal). slice_get z e.place ≡ Some e.signal) (ap (λ (z : Node). z.reads) two ∙ sym same) e.read in
+            let inside = slice_get_within reads e.place e.signal read in
+            subst (λ z. IsPassed marks root way turn z) e.is (g.reads_passed e.place e.signal (omega (arith, inside, all)) read)
 
-    -- and what it reads before its place is passed
-    pub step_passed : (node : Node) → slice_get nodes a.signal ≡ Some node → (k : ℕ) (r : Signal) → k < a.read → slice_get node.reads k ≡ Some r → Passed marks root turn r.0
-    step_passed node here k r l h =
-        let same : node ≡ last_step.node = one_at nodes a.signal node last_step.node here last_step.here in
-        last_step.passed k r l (subst (λ (z : Node). slice_get z.reads k ≡ Some r) same h)
+    -- what is left to say once one reading more is passed
+    pub record IsMore (new : List Mark) (later : List ℕ) : Type 0 where
+      pub going : IsGoing nodes new root way turn later at (k + 1) s reads
+      pub later_is : IsLater way turn marks new
+      pub room : length later + unseen_count turn new ≡ length met + unseen_count turn marks
 
-    -- the last step's signal reads the root
-    pub walk_found : (node : Node) → node ≡ get_or nodes a.signal node → (reads : List Signal) → reads ≡ node.reads → (place : ℕ) → place < length reads → (get_or reads place (record { 0 = 0 })).0 ≡ root → WayBack nodes (IsBlocked marks) root root
-    walk_found node is reads same place inside root_is =
-        let at : slice_get reads place ≡ Some (get_or reads place (record { 0 = 0 })) = slice_get-get_or reads place (record { 0 = 0 }) inside in
-        let read = subst (λ (z : List Signal). slice_get z place ≡ Some (get_or reads place (record { 0 = 0 }))) same at in
-        reach_more marks a.signal root last_step.reached last_step.unblocked (subst (λ z. NodeReads nodes a.signal z) root_is (step_reads node (node_here node is) place (get_or reads place (record { 0 = 0 })) read))
+    pub going_more : (r : Signal) → slice_get reads k ≡ Some r → NodeReads nodes s r.0 → (new : List Mark) (later : List ℕ) → Meets marks new met later r.0 way root turn false → IsMore new later
+    going_more r read e new later m = go m.1
+      where
+        inside : at < length met
+        inside = slice_get_within met at s here
 
-    -- what it reads is in the table
-    pub step_within : ((s k : ℕ) (n : Node) (r : Signal) → slice_get nodes s ≡ Some n → slice_get n.reads k ≡ Some r → r.0 < length nodes) → (node : Node) → node ≡ get_or nodes a.signal node → (reads : List Signal) → reads ≡ node.reads →
-        (k : ℕ) (r : Signal) → slice_get reads k ≡ Some r → r.0 < length marks
-    step_within within node is reads same k r h =
-        let l = within a.signal k node r (node_here node is) (subst (λ (z : List Signal). slice_get z k ≡ Some r) same h) in
-        omega (arith, l, w.table.size)
+        passed_more : (others : List Mark) → ((q : ℕ) → IsPassed marks root way turn q → IsPassed others root way turn q) → IsPassed others root way turn r.0 → (i : ℕ) (q : Signal) → i < k + 1 → slice_get reads i ≡ Some q → IsPassed others root way turn q.0
+        passed_more others along this i q l h = by (same_or_not i k)
+          where
+            by : (i ≡ k) ⊎ (i ≢ k) → IsPassed others root way turn q.0
+            by (inl same) = subst (λ (z : Signal). IsPassed others root way turn z.0) (one_at reads k r q read (subst (λ z. slice_get reads z ≡ Some q) same h)) this
+            by (inr n) = along q.0 (g.reads_passed i q (omega (arith, l, n)) h)
 
-    pub signal_within : a.signal < length nodes
-    signal_within = slice_get_within nodes a.signal last_step.node last_step.here
+        same_as : (slice_get marks r.0 ≡ Some Out) ⊎ (slice_get marks r.0 ≡ Some (Met way turn)) → IsMore marks met
+        same_as pass = record { going = record { walk = g.walk; here = here; reads_passed = passed_more marks (λ q p. p) (m.0, pass) }; later_is = later_refl way turn marks; room = refl }
 
-    -- the last step's signal reads a signal that is to be looked at
-    module _ (node : Node) (here : slice_get nodes a.signal ≡ Some node) (place : ℕ) (r : Signal) (read : slice_get node.reads place ≡ Some r) (other : r.0 ≢ root) (unseen : IsUnseen marks turn r.0)
-        (passed : (k : ℕ) (q : Signal) → k < place → slice_get node.reads k ≡ Some q → Passed marks root turn q.0) (next : Node) (next_here : slice_get nodes r.0 ≡ Some next) where
-      abbrev back_step : Step
-      back_step = record { signal = a.signal; read = place }
-
-      abbrev next_step : Step
-      next_step = record { signal = r.0; read = 0 }
-
-      abbrev opened_marks : List Mark
-      opened_marks = set marks r.0 (Seen turn)
-
-      keeps : Keeps turn marks opened_marks
-      keeps = keeps-set turn marks r.0 (Seen unseen.0) (Seen turn) unseen.1 refl (λ x. absurd x)
-
-      -- one signal fewer is to be looked at
-      pub opens_fewer : unseen_count turn opened_marks + 1 ≡ unseen_count turn marks
-      opens_fewer =
-          let count = unseen-set turn marks r.0 (Seen unseen.0) (Seen turn) unseen.1 in
-          let one : unseen_of turn (Seen unseen.0) ≡ 1 = ap (λ z. if z then 0 else 1) (ne_eqb unseen.0 turn unseen.2) in
-          let none : unseen_of turn (Seen turn) ≡ 0 = ap (λ z. if z then 0 else 1) (test_refl turn) in
-          omega (arith, count, one, none)
-
-      pub opens_out : SameOut marks opened_marks
-      opens_out = same_out-set marks r.0 (Seen unseen.0) (Seen turn) unseen.1 (λ x. x) (λ x. x)
-
-      marked : slice_get opened_marks r.0 ≡ Some (Seen turn)
-      marked = set_same marks r.0 (Seen unseen.0) (Seen turn) unseen.1
-
-      pub walk_goes : IsWalk nodes opened_marks root turn ((way ++ back_step ∷ []) ++ next_step ∷ [])
-      walk_goes = record {
-        table = marks-set nodes marks turn (turn + 1) r.0 (Seen turn) w.table keeps (λ x. absurd (seen_clear turn x)) (λ u x. let same = same_seen x in omega (arith, same));
-        apart = λ s h x. apart s x (set_cases marks r.0 s (Seen turn) Clear h);
-        begun = begun w.begun;
-        steps = λ i step h. last_of i step (slice_get-push_cases (way ++ back_step ∷ []) next_step i step h);
-        seen = λ s h. seen s (set_cases marks r.0 s (Seen turn) (Seen turn) h);
-      }
-        where
-          apart : (s : ℕ) → NodeReads nodes s root → ((s ≡ r.0) × (Seen turn ≡ Clear)) ⊎ ((s ≢ r.0) × (slice_get marks s ≡ Some Clear)) → ⊥
-          apart s x (inl y) = seen_clear turn y.1
-          apart s x (inr y) = w.apart s y.1 x
-
-          begun : (slice_get marks root ≡ Some (Seen turn)) ⊎ (slice_get marks root ≡ Some Clear) → (slice_get opened_marks root ≡ Some (Seen turn)) ⊎ (slice_get opened_marks root ≡ Some Clear)
-          begun (inl h) = inl (set_other marks r.0 root (Seen turn) (Seen turn) (λ x. other (sym x)) h)
-          begun (inr h) = inr (set_other marks r.0 root Clear (Seen turn) (λ x. other (sym x)) h)
-
-          back : IsStep nodes opened_marks root turn back_step
-          back = record {
-            node = node;
-            here = here;
-            unblocked = λ x. last_step.unblocked (blocked_new marks opened_marks opens_out a.signal x);
-            reached = reached_along marks opened_marks opens_out a.signal last_step.reached;
-            passed = λ k q l h. passed_along marks opened_marks keeps q.0 (passed k q l h);
-          }
-
-          opened : IsStep nodes opened_marks root turn next_step
-          opened = record {
-            node = next;
-            here = next_here;
-            unblocked = λ x. subst (λ z. IsOut z) (one_at opened_marks r.0 x.0 (Seen turn) x.1 marked) x.2;
-            reached = inr (way_along nodes marks opened_marks opens_out (reach_more marks a.signal r.0 last_step.reached last_step.unblocked (step_reads node here place r read)));
-            passed = λ k q l h. absurd (omega (arith, l));
-          }
-
-          middle_of : (i : ℕ) (step : Step) → (slice_get way i ≡ Some step) ⊎ ((i ≡ length way) × (back_step ≡ step)) → IsStep nodes opened_marks root turn step
-          middle_of i step (inl h) = step_stays marks opened_marks opens_out keeps step (before i step h)
-          middle_of i step (inr h) = subst (λ z. IsStep nodes opened_marks root turn z) h.1 back
-
-          last_of : (i : ℕ) (step : Step) → (slice_get (way ++ back_step ∷ []) i ≡ Some step) ⊎ ((i ≡ length (way ++ back_step ∷ [])) × (next_step ≡ step)) → IsStep nodes opened_marks root turn step
-          last_of i step (inl h) = middle_of i step (slice_get-push_cases way back_step i step h)
-          last_of i step (inr h) = subst (λ z. IsStep nodes opened_marks root turn z) h.1 opened
-
-          held : (s i : ℕ) (step : Step) → step.signal ≡ s → (slice_get way i ≡ Some step) ⊎ ((i ≡ length way) × (a ≡ step)) → IsOnWay ((way ++ back_step ∷ []) ++ next_step ∷ []) s
-          held s i step x (inl h) = (i, step, slice_get-append (way ++ back_step ∷ []) (next_step ∷ []) i step (slice_get-append way (back_step ∷ []) i step h), x)
-          held s i step x (inr h) = (length way, back_step, slice_get-append (way ++ back_step ∷ []) (next_step ∷ []) (length way) back_step (slice_get-push way back_step (length way) refl), ap (λ (z : Step). z.signal) h.1 ∙ x)
-
-          older : (s : ℕ) → ReadsPassed nodes marks root turn s ⊎ IsOnWay (way ++ a ∷ []) s → ReadsPassed nodes opened_marks root turn s ⊎ IsOnWay ((way ++ back_step ∷ []) ++ next_step ∷ []) s
-          older s (inl all) = inl (λ q x. passed_along marks opened_marks keeps q (all q x))
-          older s (inr x) = inr (held s x.0 x.1 x.3 (slice_get-push_cases way a x.0 x.1 x.2))
-
-          seen : (s : ℕ) → ((s ≡ r.0) × (Seen turn ≡ Seen turn)) ⊎ ((s ≢ r.0) × (slice_get marks s ≡ Some (Seen turn))) → ReadsPassed nodes opened_marks root turn s ⊎ IsOnWay ((way ++ back_step ∷ []) ++ next_step ∷ []) s
-          seen s (inl x) = inr (length (way ++ back_step ∷ []), next_step, slice_get-push (way ++ back_step ∷ []) next_step (length (way ++ back_step ∷ [])) refl, sym x.0)
-          seen s (inr x) = older s (w.seen s x.1)
-
-    -- all that the last step's signal reads is passed
-    module _ (all : ReadsPassed nodes marks root turn a.signal) where
-      pub walk_stays : IsWalk nodes marks root turn way
-      walk_stays = record { table = w.table; apart = w.apart; begun = w.begun; steps = before; seen = λ s h. seen s (w.seen s h) }
-        where
-          held : (s i : ℕ) (step : Step) → step.signal ≡ s → (slice_get way i ≡ Some step) ⊎ ((i ≡ length way) × (a ≡ step)) → ReadsPassed nodes marks root turn s ⊎ IsOnWay way s
-          held s i step x (inl h) = inr (i, step, h, x)
-          held s i step x (inr h) = inl (subst (λ z. ReadsPassed nodes marks root turn z) (ap (λ (z : Step). z.signal) h.1 ∙ x) all)
-
-          seen : (s : ℕ) → ReadsPassed nodes marks root turn s ⊎ IsOnWay (way ++ a ∷ []) s → ReadsPassed nodes marks root turn s ⊎ IsOnWay way s
-          seen s (inl x) = inl x
-          seen s (inr x) = held s x.0 x.1 x.3 (slice_get-push_cases way a x.0 x.1 x.2)
-
-      -- and leads nowhere
-      module _ (old : Mark) (at : slice_get marks a.signal ≡ Some old) (nowhere : (r : ℕ) → NodeReads nodes a.signal r → IsNowhere marks r) where
-        abbrev cleared : List Mark
-        cleared = set marks a.signal Clear
-
-        stays : Keeps turn marks cleared
-        stays = keeps-set turn marks a.signal old Clear at tt (λ x. tt)
-
-        pub clears_out : SameOut marks cleared
-        clears_out = same_out-set marks a.signal old Clear at (λ x. last_step.unblocked (old, at, x)) (λ x. x)
-
-        pub walk_clears : IsWalk nodes cleared root turn way
-        walk_clears = record {
-          table = marks-set nodes marks turn (turn + 1) a.signal Clear w.table stays (λ x. nowhere) (λ u x. absurd (seen_clear u (sym x)));
-          apart = λ s h x. apart s x (set_cases marks a.signal s Clear Clear h);
-          begun = begun w.begun (same_or_not root a.signal);
-          steps = λ i step h. step_stays marks cleared clears_out stays step (before i step h);
-          seen = λ s h. seen s (set_cases marks a.signal s Clear (Seen turn) h);
+        added : (x : (mark : Mark) × (slice_get marks r.0 ≡ Some mark) × IsOlder turn mark) → IsMore (set marks r.0 (Met way turn)) (met ++ r.0 ∷ [])
+        added x = record {
+          going = record {
+            walk = record {
+              begun = slice_get-append met (r.0 ∷ []) 0 root g.walk.begun;
+              seen = λ u h. seen u (set_cases marks r.0 u (Met way turn) (Met way turn) h);
+              are_met = λ i u h. are_met i u (slice_get-push_cases met r.0 i u h);
+              passed = λ i u q l h o. passed i u q l o (slice_get-push_cases met r.0 i u h);
+            };
+            here = slice_get-append met (r.0 ∷ []) at s here;
+            reads_passed = passed_more (set marks r.0 (Met way turn)) (passed_along way marks (set marks r.0 (Met way turn)) moved) (m.0, inr marked);
+          };
+          later_is = moved;
+          room = let fewer = unseen-met way turn marks r.0 x.0 x.1 x.2 in omega (arith, fewer, length-push met r.0);
         }
           where
-            apart : (s : ℕ) → NodeReads nodes s root → ((s ≡ a.signal) × (Clear ≡ Clear)) ⊎ ((s ≢ a.signal) × (slice_get marks s ≡ Some Clear)) → ⊥
-            apart s x (inl y) = (all root (subst (λ z. NodeReads nodes z root) y.0 x)).0 refl
-            apart s x (inr y) = w.apart s y.1 x
+            moved : IsLater way turn marks (set marks r.0 (Met way turn))
+            moved = later-set way turn marks r.0 x.0 x.1 x.2
 
-            begun : (slice_get marks root ≡ Some (Seen turn)) ⊎ (slice_get marks root ≡ Some Clear) → (root ≡ a.signal) ⊎ (root ≢ a.signal) → (slice_get cleared root ≡ Some (Seen turn)) ⊎ (slice_get cleared root ≡ Some Clear)
-            begun h (inl e) = inr (subst (λ z. slice_get cleared z ≡ Some Clear) (sym e) (set_same marks a.signal old Clear at))
-            begun (inl h) (inr n) = inl (set_other marks a.signal root (Seen turn) Clear n h)
-            begun (inr h) (inr n) = inr (set_other marks a.signal root Clear Clear n h)
+            marked : slice_get (set marks r.0 (Met way turn)) r.0 ≡ Some (Met way turn)
+            marked = set_same marks r.0 x.0 (Met way turn) x.1
 
-            held : (s i : ℕ) (step : Step) → s ≢ a.signal → step.signal ≡ s → (slice_get way i ≡ Some step) ⊎ ((i ≡ length way) × (a ≡ step)) → IsOnWay way s
-            held s i step n x (inl h) = (i, step, h, x)
-            held s i step n x (inr h) = absurd (n (sym x ∙ ap (λ (z : Step). z.signal) (sym h.1)))
+            seen : (u : ℕ) → ((u ≡ r.0) × (Met way turn ≡ Met way turn)) ⊎ ((u ≢ r.0) × (slice_get marks u ≡ Some (Met way turn))) → (i : ℕ) × (slice_get (met ++ r.0 ∷ []) i ≡ Some u)
+            seen u (inl y) = (length met, slice_get-push met r.0 (length met) refl ∙ ap Some (sym y.0))
+            seen u (inr y) = let z = g.walk.seen u y.1 in (z.0, slice_get-append met (r.0 ∷ []) z.0 u z.1)
 
-            older : (s : ℕ) → s ≢ a.signal → ReadsPassed nodes marks root turn s ⊎ IsOnWay (way ++ a ∷ []) s → ReadsPassed nodes cleared root turn s ⊎ IsOnWay way s
-            older s n (inl x) = inl (λ q y. passed_along marks cleared stays q (x q y))
-            older s n (inr x) = inr (held s x.0 x.1 n x.3 (slice_get-push_cases way a x.0 x.1 x.2))
+            are_met : (i u : ℕ) → (slice_get met i ≡ Some u) ⊎ ((i ≡ length met) × (r.0 ≡ u)) → IsMet nodes (set marks r.0 (Met way turn)) root way turn u
+            are_met i u (inl h) = met_along way marks (set marks r.0 (Met way turn)) moved u (g.walk.are_met i u h)
+            are_met i u (inr h) = subst (λ z. IsMet nodes (set marks r.0 (Met way turn)) root way turn z) h.1
+                (inr (way_along nodes marks (set marks r.0 (Met way turn)) (later_same way turn marks (set marks r.0 (Met way turn)) moved) (reach_more marks s r.0 (g.walk.are_met at s here) e), marked))
 
-            seen : (s : ℕ) → ((s ≡ a.signal) × (Clear ≡ Seen turn)) ⊎ ((s ≢ a.signal) × (slice_get marks s ≡ Some (Seen turn))) → ReadsPassed nodes cleared root turn s ⊎ IsOnWay way s
-            seen s (inl x) = absurd (seen_clear turn (sym x.1))
-            seen s (inr x) = older s x.0 (w.seen s x.1)
+            passed : (i u q : ℕ) → i < at → NodeReads nodes u q → (slice_get met i ≡ Some u) ⊎ ((i ≡ length met) × (r.0 ≡ u)) → IsPassed (set marks r.0 (Met way turn)) root way turn q
+            passed i u q l o (inl h) = passed_along way marks (set marks r.0 (Met way turn)) moved q (g.walk.passed i u q l h o)
+            passed i u q l o (inr h) = absurd (omega (arith, l, h.0, inside))
 
-    -- what is left of the walk once all that the last step's signal reads is passed
-    pub record IsLeftBy (new : List Mark) : Type 0 where
-      pub walk : IsWalk nodes new root turn way
-      pub out : SameOut marks new
-      pub fewer : unseen_count turn new ≤ unseen_count turn marks
+        go : Adds marks new met later r.0 way turn → IsMore new later
+        go (inl x) = subst (λ z. IsMore z later) (sym x.0) (subst (λ z. IsMore marks z) (sym x.1) (same_as x.2))
+        go (inr x) = subst (λ z. IsMore z later) (sym x.0) (subst (λ z. IsMore (set marks r.0 (Met way turn)) z) (sym x.1) (added x.2))
 
-    pub walk_leaves : (node : Node) → node ≡ get_or nodes a.signal node → (reads : List Signal) → reads ≡ node.reads → ((k : ℕ) (r : Signal) → slice_get reads k ≡ Some r → Passed marks root turn r.0) → (new : List Mark) →
-        (new ≡ marks) ⊎ ((new ≡ set marks a.signal Clear) × ((k : ℕ) (r : Signal) → slice_get reads k ≡ Some r → IsNowhere marks r.0)) → IsLeftBy new
-    walk_leaves node is reads same passed new changed = by changed
+  -- a walk that has ended has not come back to the root
+  module _ (marks : List Mark) (met : List ℕ) (at : ℕ) (w : IsWalk nodes marks root way turn met at) (all : length met ≤ at) where
+    never : (i s : ℕ) → slice_get met i ≡ Some s → {r : ℕ} → WayBack nodes (IsBlocked marks) s r → r ≢ root
+    never i s h {r} (WayBack.last e) = (w.passed i s r (let l = slice_get_within met i s h in omega (arith, l, all)) h e).0
+    never i s h {r} (WayBack.more {q = q} e free rest) = go (w.passed i s q (let l = slice_get_within met i s h in omega (arith, l, all)) h e).1 (λ j k. never j q k rest)
       where
-        here : slice_get nodes a.signal ≡ Some node
-        here = node_here node is
-
-        read_in : (r : ℕ) (e : NodeReads nodes a.signal r) → slice_get reads e.place ≡ Some e.signal
-        read_in r e = subst (λ (z : List Signal). slice_get z e.place ≡ Some e.signal) (ap (λ (z : Node). z.reads) (one_at nodes a.signal e.node node e.here here) ∙ sym same) e.read
-
-        all : ReadsPassed nodes marks root turn a.signal
-        all r e = subst (λ z. Passed marks root turn z) e.is (passed e.place e.signal (read_in r e))
-
-        old : (mark : Mark) × (slice_get marks a.signal ≡ Some mark)
-        old = some_at marks a.signal (let l = slice_get_within nodes a.signal node here in omega (arith, l, w.table.size))
-
-        by : (new ≡ marks) ⊎ ((new ≡ set marks a.signal Clear) × ((k : ℕ) (r : Signal) → slice_get reads k ≡ Some r → IsNowhere marks r.0)) → IsLeftBy new
-        by (inl unchanged) = subst (λ z. IsLeftBy z) (sym unchanged) (record { walk = walk_stays all; out = same_out_refl marks; fewer = omega arith })
-        by (inr x) =
-            let nowhere = λ (r : ℕ) (e : NodeReads nodes a.signal r). subst (λ z. IsNowhere marks z) e.is (x.1 e.place e.signal (read_in r e)) in
-            let count = unseen-set turn marks a.signal old.0 Clear old.1 in
-            let zero_more : unseen_of turn Clear ≡ 0 = refl in
-            subst (λ z. IsLeftBy z) (sym x.0) (record { walk = walk_clears all old.0 old.1 nowhere; out = clears_out all old.0 old.1 nowhere; fewer = omega (arith, count, zero_more) })
-
-    -- the walk once the last step's signal has led to another
-    pub record IsOpenedBy (new : List Mark) (later : List Step) : Type 0 where
-      pub walk : IsWalk nodes new root turn later
-      pub out : SameOut marks new
-      pub nearer : length later + 2 * unseen_count turn new ≤ length way + 2 * unseen_count turn marks
-
-    pub walk_opens : (node : Node) → node ≡ get_or nodes a.signal node → (reads : List Signal) → reads ≡ node.reads → (place : ℕ) → ((r : Signal) × (slice_get reads place ≡ Some r) × ((r.0 ≡ root) ⊎ IsUnseen marks turn r.0)) →
-        ((k : ℕ) (r : Signal) → k < place → slice_get reads k ≡ Some r → Passed marks root turn r.0) → (signal : ℕ) → signal ≡ (get_or reads place (record { 0 = 0 })).0 → signal ≢ root →
-        (new : List Mark) (middle later : List Step) → new ≡ set marks signal (Seen turn) → middle ≡ way ++ record { signal = a.signal; read = place } ∷ [] → later ≡ middle ++ record { signal = signal; read = 0 } ∷ [] → IsOpenedBy new later
-    walk_opens node is reads same place found passed signal signal_is other new middle later new_is middle_is later_is =
-        subst (λ z. IsOpenedBy z later) (sym new_is) (subst (λ z. IsOpenedBy (set marks signal (Seen turn)) z) (sym way_is) (subst (λ z. IsOpenedBy (set marks z (Seen turn)) ((way ++ record { signal = a.signal; read = place } ∷ []) ++ record { signal = z; read = 0 } ∷ [])) (sym one) opened_by))
-      where
-        one : signal ≡ found.0.0
-        one = signal_is ∙ ap (λ (z : Signal). z.0) (get_or_from_slice_get reads place found.0 (record { 0 = 0 }) found.1)
-
-        way_is : later ≡ (way ++ record { signal = a.signal; read = place } ∷ []) ++ record { signal = signal; read = 0 } ∷ []
-        way_is = later_is ∙ ap (λ (z : List Step). z ++ record { signal = signal; read = 0 } ∷ []) middle_is
-
-        here : slice_get nodes a.signal ≡ Some node
-        here = node_here node is
-
-        apart : found.0.0 ≢ root
-        apart e = other (one ∙ e)
-
-        unseen_in : (found.0.0 ≡ root) ⊎ IsUnseen marks turn found.0.0 → IsUnseen marks turn found.0.0
-        unseen_in (inl e) = absurd (apart e)
-        unseen_in (inr u) = u
-
-        unseen : IsUnseen marks turn found.0.0
-        unseen = unseen_in found.2
-
-        passed_in : (k : ℕ) (q : Signal) → k < place → slice_get node.reads k ≡ Some q → Passed marks root turn q.0
-        passed_in k q l h = passed k q l (subst (λ (z : List Signal). slice_get z k ≡ Some q) (sym same) h)
-
-        next : (n : Node) × (slice_get nodes found.0.0 ≡ Some n)
-        next = some_at nodes found.0.0 (let l = slice_get_within marks found.0.0 (Seen unseen.0) unseen.1 in omega (arith, l, w.table.size))
-
-        read : slice_get node.reads place ≡ Some found.0
-        read = subst (λ (z : List Signal). slice_get z place ≡ Some found.0) same found.1
-
-        opened_by : IsOpenedBy (set marks found.0.0 (Seen turn)) ((way ++ record { signal = a.signal; read = place } ∷ []) ++ record { signal = found.0.0; read = 0 } ∷ [])
-        opened_by =
-            let fewer = opens_fewer node here place found.0 read apart unseen passed_in next.0 next.1 in
-            let first : length (way ++ record { signal = a.signal; read = place } ∷ []) ≡ length way + 1 = length-push way (record { signal = a.signal; read = place }) in
-            let second : length ((way ++ record { signal = a.signal; read = place } ∷ []) ++ record { signal = found.0.0; read = 0 } ∷ []) ≡ length (way ++ record { signal = a.signal; read = place } ∷ []) + 1 = length-push (way ++ record { signal = a.signal; read = place } ∷ []) (record { signal = found.0.0; read = 0 }) in
-            record {
-              walk = walk_goes node here place found.0 read apart unseen passed_in next.0 next.1;
-              out = opens_out node here place found.0 read apart unseen passed_in next.0 next.1;
-              nearer = omega (arith, fewer, first, second);
-            }
-
-  -- a walk that has ended has not met the root
-  module _ (marks : List Mark) (w : IsWalk nodes marks root turn []) where
-    -- looked at, or clear
-    abbrev IsInside : ℕ → Type 0
-    IsInside s = (slice_get marks s ≡ Some (Seen turn)) ⊎ (slice_get marks s ≡ Some Clear)
-
-    abbrev IsFar : ℕ → Type 0
-    IsFar r = (r ≢ root) × (IsBlocked marks r ⊎ IsInside r)
-
-    far_passed : (r : ℕ) (mark : Mark) → slice_get marks r ≡ Some mark → IsPassed turn mark → IsBlocked marks r ⊎ IsInside r
-    far_passed r Waiting h p = inl (Waiting, h, tt)
-    far_passed r Exposed h p = inl (Exposed, h, tt)
-    far_passed r Clear h p = inr (inr h)
-    far_passed r (Seen t) h p = inr (inl (subst (λ z. slice_get marks r ≡ Some (Seen z)) p h))
-
-    far_nowhere : (r : ℕ) (mark : Mark) → slice_get marks r ≡ Some mark → LeadsNowhere mark → IsBlocked marks r ⊎ IsInside r
-    far_nowhere r Waiting h p = absurd p
-    far_nowhere r Exposed h p = inl (Exposed, h, tt)
-    far_nowhere r Clear h p = inr (inr h)
-    far_nowhere r (Seen t) h p = absurd p
-
-    far : (s r : ℕ) → IsInside s → NodeReads nodes s r → IsFar r
-    far s r (inl h) e = go (w.seen s h)
-      where
-        go : ReadsPassed nodes marks root turn s ⊎ IsOnWay [] s → IsFar r
-        go (inl all) = let x = all r e in (x.0, far_passed r x.1.0 x.1.1 x.1.2)
-        go (inr x) = absurd (let l = slice_get_within [] x.0 x.1 x.2 in omega (arith, l))
-    far s r (inr h) e =
-        let x = w.table.clear s r h e in
-        ((λ same. w.apart s h (subst (λ z. NodeReads nodes s z) same e)), far_nowhere r x.0 x.1 x.2)
-
-    never : {s r : ℕ} → IsInside s → WayBack nodes (IsBlocked marks) s r → r ≢ root
-    never {s} {r} inside (WayBack.last e) = (far s r inside e).0
-    never {s} {r} inside (WayBack.more {q = q} e free rest) = go (far s q inside e).1 (λ x. never x rest)
-      where
-        go : IsBlocked marks q ⊎ IsInside q → (IsInside q → r ≢ root) → r ≢ root
-        go (inl x) later = absurd (free x)
-        go (inr x) later = later x
+        go : IsBlocked marks q ⊎ (slice_get marks q ≡ Some (Met way turn)) → ((j : ℕ) → slice_get met j ≡ Some q → r ≢ root) → r ≢ root
+        go (inl b) later = absurd (free b)
+        go (inr k) later = let x = w.seen q k in later x.0 x.1
 
     pub walk_ends : WayBack nodes (IsBlocked marks) root root → ⊥
-    walk_ends way = never w.begun way refl
+    walk_ends round = never 0 root w.begun round refl
+
+-- a walk back over the nodes, and a walk ahead over the readers
+pub record AreWalks (nodes readers : List Node) (marks : List Mark) (root turn : ℕ) (behind ahead : List ℕ) (at : ℕ) : Type 0 where
+  pub table : AreMarks nodes marks (turn + 1)
+  pub back : slice_get marks root ≡ Some (Met Back turn)
+  pub walk_back : IsWalk nodes marks root Back turn behind at
+  pub walk_ahead : IsWalk readers marks root Ahead turn ahead at
+
+pub walks_begin : (nodes readers : List Node) (marks new : List Mark) (root turn : ℕ) (behind ahead : List ℕ) → AreMarks nodes marks turn → IsBlocked marks root → new ≡ set marks root (Met Back turn) → behind ≡ root ∷ [] → ahead ≡ root ∷ [] →
+    AreWalks nodes readers new root turn behind ahead 0
+walks_begin nodes readers marks new root turn behind ahead table out new_is behind_is ahead_is =
+    subst (λ (z : List Mark). AreWalks nodes readers z root turn behind ahead 0) (sym new_is)
+    (subst (λ (z : List ℕ). AreWalks nodes readers (set marks root (Met Back turn)) root turn z ahead 0) (sym behind_is)
+    (subst (λ (z : List ℕ). AreWalks nodes readers (set marks root (Met Back turn)) root turn (root ∷ []) z 0) (sym ahead_is) (record {
+      table = marks-back nodes marks turn root table;
+      back = set_same marks root Out (Met Back turn) out;
+      walk_back = walk_begins nodes root Back turn nodes marks table out;
+      walk_ahead = walk_begins readers root Ahead turn nodes marks table out;
+    })))
+
+pub ahead_back : Ahead ≡ Back → ⊥
+ahead_back e = cc
+
+pub back_ahead : Back ≡ Ahead → ⊥
+back_ahead e = cc
+
+module _ (nodes readers : List Node) (marks mid : List Mark) (root turn : ℕ) (behind ahead met : List ℕ) (at : ℕ) (w : AreWalks nodes readers marks root turn behind ahead at) (later : IsLater Back turn marks mid) where
+  -- the walk ahead, once the walk back has gone on
+  pub ahead_stays : IsWalk readers mid root Ahead turn ahead at
+  ahead_stays = walk_other readers root Ahead turn Back ahead_back marks mid later ahead at w.walk_ahead
+
+  pub walks_on : (new : List Mark) (met_ahead : List ℕ) → IsLater Ahead turn mid new → IsWalk nodes mid root Back turn met (at + 1) → IsWalk readers new root Ahead turn met_ahead (at + 1) → AreWalks nodes readers new root turn met met_ahead (at + 1)
+  walks_on new met_ahead later_ahead on on_ahead = record {
+    table = later_table Ahead turn mid new later_ahead nodes (later_table Back turn marks mid later nodes w.table);
+    back = met_stays Ahead turn mid new later_ahead Back root (met_stays Back turn marks mid later Back root w.back);
+    walk_back = walk_other nodes root Back turn Ahead back_ahead mid new later_ahead met (at + 1) on;
+    walk_ahead = on_ahead;
+  }
+
+-- two walks that meet close a cycle
+module _ (nodes readers : List Node) (are : AreReaders nodes readers) (root turn : ℕ) (marks : List Mark) where
+  join : (x : ℕ) → WayBack nodes (IsBlocked marks) root x → (x ≡ root) ⊎ (WayBack nodes (IsBlocked marks) x root × (IsBlocked marks x → ⊥)) → WayBack nodes (IsBlocked marks) root root
+  join x way (inl same) = subst (λ z. WayBack nodes (IsBlocked marks) root z) same way
+  join x way (inr back) = way_then nodes (IsBlocked marks) way back.1 back.0
+
+  ahead_met : (x : ℕ) → IsMet readers marks root Ahead turn x → (x ≡ root) ⊎ (WayBack nodes (IsBlocked marks) x root × (IsBlocked marks x → ⊥))
+  ahead_met x (inl same) = inl same
+  ahead_met x (inr m) = inr (way_behind nodes readers (IsBlocked marks) are m.0, met_free marks x turn Ahead m.1)
+
+  -- the walk ahead has ended
+  pub ahead_ends : (met : List ℕ) (at : ℕ) → IsWalk readers marks root Ahead turn met at → length met ≤ at → WayBack nodes (IsBlocked marks) root root → ⊥
+  ahead_ends met at w all way = walk_ends readers root Ahead turn marks met at w all (way_ahead nodes readers (IsBlocked marks) are way)
+
+  pub back_meets : HasMet nodes marks root Back turn → (met : List ℕ) (at : ℕ) → IsWalk readers marks root Ahead turn met at → WayBack nodes (IsBlocked marks) root root
+  back_meets m met at w = go m.2
+    where
+      go : (m.0 ≡ root) ⊎ (slice_get marks m.0 ≡ Some (Met Ahead turn)) → WayBack nodes (IsBlocked marks) root root
+      go (inl same) = join m.0 m.1 (inl same)
+      go (inr h) = let x = w.seen m.0 h in join m.0 m.1 (ahead_met m.0 (w.are_met x.0 m.0 x.1))
+
+  pub ahead_meets : HasMet readers marks root Ahead turn → (met : List ℕ) (at : ℕ) → IsWalk nodes marks root Back turn met at → WayBack nodes (IsBlocked marks) root root
+  ahead_meets m met at w = go m.2
+    where
+      back : WayBack nodes (IsBlocked marks) m.0 root
+      back = way_behind nodes readers (IsBlocked marks) are m.1
+
+      by : IsMet nodes marks root Back turn m.0 → WayBack nodes (IsBlocked marks) root root
+      by (inl same) = subst (λ z. WayBack nodes (IsBlocked marks) z root) same back
+      by (inr x) = way_then nodes (IsBlocked marks) x.0 (met_free marks m.0 turn Back x.1) back
+
+      go : (m.0 ≡ root) ⊎ (slice_get marks m.0 ≡ Some (Met Back turn)) → WayBack nodes (IsBlocked marks) root root
+      go (inl same) = subst (λ z. WayBack nodes (IsBlocked marks) z root) same back
+      go (inr h) = let x = w.seen m.0 h in by (w.are_met x.0 m.0 x.1)

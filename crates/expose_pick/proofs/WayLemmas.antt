@@ -3,7 +3,7 @@ use Rattle.std.proofs.Common.{◌≡◌, ◌≢◌, ℕ, List, sym, subst, inl, 
 use Rattle.std.specs.Prelude.{◌⊎◌}
 use Rattle.circuit_theory.proofs.Sums.{same_or_not}
 use Rattle.latch_graph.specs.declared.nodes.Node.{Node}
-use Rattle.expose_pick.specs.Marks.{NodeReads, WayBack}
+use Rattle.expose_pick.specs.Readers.{NodeReads, WayBack, AreReaders}
 
 -- a way stays where fewer signals are blocked
 pub way_map : (nodes : List Node) (blocked other : ℕ → Type 0) → ((s : ℕ) → other s → blocked s) → {s r : ℕ} → WayBack nodes blocked s r → WayBack nodes other s r
@@ -19,6 +19,15 @@ module _ (nodes : List Node) (blocked : ℕ → Type 0) where
   -- one reading more
   pub way_more : {s q r : ℕ} → WayBack nodes blocked s q → (blocked q → ⊥) → NodeReads nodes q r → WayBack nodes blocked s r
   way_more way free e = way_then way free (WayBack.last e)
+
+-- a way turned round
+pub way_ahead : (nodes readers : List Node) (blocked : ℕ → Type 0) → AreReaders nodes readers → {s r : ℕ} → WayBack nodes blocked s r → WayBack readers blocked r s
+way_ahead nodes readers blocked are {s} {r} (WayBack.last e) = WayBack.last (are.back s r e)
+way_ahead nodes readers blocked are {s} {r} (WayBack.more {q = q} e free rest) = way_more readers blocked (way_ahead nodes readers blocked are rest) free (are.back s q e)
+
+pub way_behind : (nodes readers : List Node) (blocked : ℕ → Type 0) → AreReaders nodes readers → {s r : ℕ} → WayBack readers blocked s r → WayBack nodes blocked r s
+way_behind nodes readers blocked are {s} {r} (WayBack.last e) = WayBack.last (are.from r s e)
+way_behind nodes readers blocked are {s} {r} (WayBack.more {q = q} e free rest) = way_more nodes blocked (way_behind nodes readers blocked are rest) free (are.from q s e)
 
 -- a way that may go through one signal more avoids it, or goes through it
 module _ (nodes : List Node) (old new : ℕ → Type 0) (root : ℕ) (stay : (s : ℕ) → old s → s ≢ root → new s) where

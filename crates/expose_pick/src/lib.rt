@@ -7,6 +7,7 @@ mod laws;
 mod marks;
 mod pairs;
 mod picking;
+mod readers;
 mod remaining;
 mod trying;
 mod walking;

@@ -1,45 +1,100 @@
-//! Walks back from a latch that is put back, through gates and latches that aren't taken out.
+//! Walks from a latch that is put back, through gates and latches that aren't taken out: back along what is read, and
+//! ahead along what reads.
 
-ghost use Rattle.std.specs.Prelude.{◌≡◌, ◌≢◌, ℕ, ◌+◌, ◌*◌, ◌^◌, ◌<◌, ◌≤◌, ◌⊎◌, [], ◌∷◌, ◌++◌, true, false, length, slice_get, slice_set, Some, OnOk, IfOk, IfSome, IfNone};
+ghost use Rattle.std.specs.Prelude.{◌≡◌, ◌≢◌, ℕ, ◌+◌, ◌<◌, ◌⊎◌, [], ◌∷◌, ◌++◌, true, false, length, slice_get, slice_set, Some, OnOk, IfOk};
 ghost use Rattle.flat_net.specs.declared.signals.Signal.{Signal};
 ghost use Rattle.latch_graph.specs.declared.nodes.Node.{Node};
 ghost use Rattle.expose_pick.specs.declared.marks.Mark.{Mark};
-ghost use Rattle.expose_pick.specs.Marks.{AreMarks, IsNowhere, SameOut, IsPutBack, IsBlocked, WayBack};
-ghost use Rattle.expose_pick.specs.Walk.{IsWalk, Passed, IsUnseen, unseen_count};
+ghost use Rattle.expose_pick.specs.Readers.{AreReaders, WayBack};
+ghost use Rattle.expose_pick.specs.Marks.{AreMarks, IsPutBack, IsBlocked};
+ghost use Rattle.expose_pick.specs.Walk.{IsWalk, IsLater, Meets, HasMet, unseen_count};
 
-use crate::marks::Mark;
-use flat_net::Signal;
+use crate::marks::{Direction, Mark};
 use latch_graph::Node;
 use sec_base::NoMemory;
 use std::alloc::Global;
 
-/// A place on the way: a signal, with how many of the signals that it reads there is nothing more to look at.
-#[derive(Clone, Copy, Debug, PartialEq, Eq)]
-pub struct Step {
-    pub signal: u32,
-    pub read: usize,
-}
-
-/// Puts the latch of the root back, and tells whether the root leads back to itself.
-pub(crate) fn leads_back(
+/// Puts the latch of the root back, and tells whether that closes a cycle. A walk back and a walk ahead go on in turn,
+/// until they meet or one of them has ended.
+pub(crate) fn closes_cycle(
     alloc: Global,
     nodes: &[Node],
+    readers: &[Node],
     marks: &mut [Mark],
     root: u32,
     turn: u32,
 ) -> Result<bool, NoMemory>
-    requires within { (s k : ℕ) (node : Node) (r : Signal) → slice_get nodes.now s ≡ Some node → slice_get node.reads k ≡ Some r → r.0 < length nodes.now }
+    requires readers { AreReaders nodes.now readers.now }
     requires marks { AreMarks nodes.now marks.old turn }
-    requires root { slice_get marks.old root ≡ Some Mark.Waiting }
+    requires root { slice_get marks.old root ≡ Some Mark.Out }
     ensures yes { IfOk result (λ found. found ≡ true → WayBack nodes.now (IsBlocked marks.new) root root) }
     ensures no { IfOk result (λ found. found ≡ false → WayBack nodes.now (IsBlocked marks.new) root root → ⊥) }
     ensures marks { OnOk result (AreMarks nodes.now marks.new (turn + 1)) }
     ensures back { OnOk result (IsPutBack marks.old marks.new root) }
 {
-    let mut way = Vec::new(alloc);
-    open(marks, &mut way, root, turn)?;
-    while let Some(step) = way.pop() {
-        let found = take_step(nodes, marks, &mut way, step, root, turn)?;
+    put_back(marks, root, turn);
+    let mut behind = list_of(alloc, root)?;
+    let mut ahead = list_of(alloc, root)?;
+    let mut at = 0;
+    while at < behind.len() {
+        if at >= ahead.len() {
+            return Ok(false);
+        }
+        let met = go_on(nodes, marks, &mut behind, at, Direction::Back, root, turn)?;
+        if met {
+            return Ok(true);
+        }
+        let met_ahead = go_on(readers, marks, &mut ahead, at, Direction::Ahead, root, turn)?;
+        if met_ahead {
+            return Ok(true);
+        }
+        at += 1;
+    }
+    Ok(false)
+}
+
+fn put_back(marks: &mut [Mark], root: u32, turn: u32)
+    requires { root < length marks.old }
+    ensures { marks.new ≡ slice_set marks.old root (Mark.Met Direction.Back turn) }
+{
+    marks[root as usize] = Mark::Met(Direction::Back, turn);
+}
+
+fn list_of(alloc: Global, signal: u32) -> Result<Vec<u32>, NoMemory>
+    ensures { IfOk result (λ made. made.items ≡ signal ∷ []) }
+{
+    let mut made = Vec::new(alloc);
+    made.push(signal)?;
+    Ok(made)
+}
+
+/// Goes on from the signal that was met at this place to what it reads. Tells whether that is the root, or was met by
+/// the other walk.
+fn go_on(
+    nodes: &[Node],
+    marks: &mut [Mark],
+    met: &mut Vec<u32>,
+    at: usize,
+    way: Direction,
+    root: u32,
+    turn: u32,
+) -> Result<bool, NoMemory>
+    requires size { length marks.old ≡ length nodes.now }
+    requires within { (s k : ℕ) (node : Node) (r : Signal) → slice_get nodes.now s ≡ Some node → slice_get node.reads k ≡ Some r → r.0 < length nodes.now }
+    requires root { root < length nodes.now }
+    requires at { at < length met.old.items }
+    requires free { IsBlocked marks.old root → ⊥ }
+    requires walk { IsWalk nodes.now marks.old root way turn met.old.items at }
+    ensures yes { IfOk result (λ found. found ≡ true → HasMet nodes.now marks.new root way turn) }
+    ensures no { IfOk result (λ found. found ≡ false → IsWalk nodes.now marks.new root way turn met.new.items (at + 1)) }
+    ensures later { OnOk result (IsLater way turn marks.old marks.new) }
+    ensures room { OnOk result (length met.new.items + unseen_count turn marks.new ≡ length met.old.items + unseen_count turn marks.old) }
+{
+    let signal = met[at];
+    let node = &nodes[signal as usize];
+    let reads = node.reads.as_slice();
+    for k in 0..reads.len() {
+        let found = meet(marks, met, reads[k].0, way, root, turn)?;
         if found {
             return Ok(true);
         }
@@ -47,103 +102,31 @@ pub(crate) fn leads_back(
     Ok(false)
 }
 
-/// Puts a signal on the way.
-fn open(
+/// Meets a signal: it goes last, if no walk has met it in this turn. Tells whether it is the root, or was met by the
+/// other walk.
+fn meet(
     marks: &mut [Mark],
-    way: &mut Vec<Step>,
+    met: &mut Vec<u32>,
     signal: u32,
-    turn: u32,
-) -> Result<(), NoMemory>
-    requires { signal < length marks.old }
-    ensures marks { OnOk result (marks.new ≡ slice_set marks.old signal (Mark.Seen turn)) }
-    ensures way { OnOk result (way.new.items ≡ way.old.items ++ record { signal = signal; read = 0 } ∷ []) }
-{
-    way.push(Step { signal, read: 0 })?;
-    marks[signal as usize] = Mark::Seen(turn);
-    Ok(())
-}
-
-/// Goes on from the last step of the way: to a signal that it reads, or back from it. Tells whether it reads the root.
-fn take_step(
-    nodes: &[Node],
-    marks: &mut [Mark],
-    way: &mut Vec<Step>,
-    step: Step,
+    way: Direction,
     root: u32,
     turn: u32,
 ) -> Result<bool, NoMemory>
-    requires within { (s k : ℕ) (node : Node) (r : Signal) → slice_get nodes.now s ≡ Some node → slice_get node.reads k ≡ Some r → r.0 < length nodes.now }
-    requires walk { IsWalk nodes.now marks.old root turn (way.old.items ++ step ∷ []) }
-    ensures yes { IfOk result (λ found. found ≡ true → WayBack nodes.now (IsBlocked marks.new) root root) }
-    ensures marks { OnOk result (AreMarks nodes.now marks.new (turn + 1)) }
-    ensures no { IfOk result (λ found. found ≡ false → IsWalk nodes.now marks.new root turn way.new.items) }
-    ensures out { OnOk result (SameOut marks.old marks.new) }
-    ensures nearer { OnOk result (length way.new.items + 2 * unseen_count turn marks.new ≤ length way.old.items + 2 * unseen_count turn marks.old) }
+    requires { signal < length marks.old }
+    ensures { IfOk result (Meets marks.old marks.new met.old.items met.new.items signal way root turn) }
 {
-    let node = &nodes[step.signal as usize];
-    let reads = node.reads.as_slice();
-    match next_read(reads, marks, step.read, root, turn) {
-        None => {
-            leave(reads, marks, step.signal);
-            Ok(false)
-        }
-        Some(read) => {
-            let signal = reads[read].0;
-            if signal == root {
-                return Ok(true);
+    if signal == root {
+        return Ok(true);
+    }
+    match marks[signal as usize] {
+        Mark::Out => Ok(false),
+        Mark::Met(other, last) => {
+            if last == turn {
+                return Ok(!way.is(other));
             }
-            way.push(Step {
-                signal: step.signal,
-                read,
-            })?;
-            open(marks, way, signal, turn)?;
+            met.push(signal)?;
+            marks[signal as usize] = Mark::Met(way, turn);
             Ok(false)
         }
     }
-}
-
-/// Marks a signal that reads signals alone which lead back to no latch that waits.
-fn leave(reads: &[Signal], marks: &mut [Mark], signal: u32)
-    requires within { (k : ℕ) (r : Signal) → slice_get reads.now k ≡ Some r → r.0 < length marks.old }
-    requires signal { signal < length marks.old }
-    ensures { (marks.new ≡ marks.old) ⊎ ((marks.new ≡ slice_set marks.old signal Mark.Clear) × ((k : ℕ) (r : Signal) → slice_get reads.now k ≡ Some r → IsNowhere marks.old r.0)) }
-{
-    if all_nowhere(reads, marks) {
-        marks[signal as usize] = Mark::Clear;
-    }
-}
-
-fn all_nowhere(reads: &[Signal], marks: &[Mark]) -> bool
-    requires { (k : ℕ) (r : Signal) → slice_get reads.now k ≡ Some r → r.0 < length marks.now }
-    ensures { result ≡ true → (k : ℕ) (r : Signal) → slice_get reads.now k ≡ Some r → IsNowhere marks.now r.0 }
-{
-    for k in 0..reads.len() {
-        if !marks[reads[k].0 as usize].leads_nowhere() {
-            return false;
-        }
-    }
-    true
-}
-
-/// The first place from `from` on whose signal is the root, or is to be looked at.
-fn next_read(
-    reads: &[Signal],
-    marks: &[Mark],
-    from: usize,
-    root: u32,
-    turn: u32,
-) -> Option<usize>
-    requires within { (k : ℕ) (r : Signal) → slice_get reads.now k ≡ Some r → r.0 < length marks.now }
-    requires passed { (k : ℕ) (r : Signal) → k < from → slice_get reads.now k ≡ Some r → Passed marks.now root turn r.0 }
-    ensures here { IfSome result (λ read. (r : Signal) × (slice_get reads.now read ≡ Some r) × ((r.0 ≡ root) ⊎ IsUnseen marks.now turn r.0)) }
-    ensures passed { IfSome result (λ read. (k : ℕ) (r : Signal) → k < read → slice_get reads.now k ≡ Some r → Passed marks.now root turn r.0) }
-    ensures none { IfNone result ((k : ℕ) (r : Signal) → slice_get reads.now k ≡ Some r → Passed marks.now root turn r.0) }
-{
-    for read in from..reads.len() {
-        let signal = reads[read].0;
-        if signal == root || !marks[signal as usize].is_passed(turn) {
-            return Some(read);
-        }
-    }
-    None
 }
