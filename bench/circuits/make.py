@@ -11,15 +11,22 @@ def write(name, lines):
     (folder / f"{name}.blif").write_text("\n".join(lines) + "\n")
 
 
-def chain(count):
-    """A chain of gates, written from its end to its front."""
+def chain(count, name, link):
+    """A chain of so many parts, written from its end to its front; `link` gives the lines of one part."""
     yield ".model m"
-    yield ".inputs g0"
-    yield f".outputs g{count}"
+    yield f".inputs {name}0"
+    yield f".outputs {name}{count}"
     for i in range(count, 0, -1):
-        yield f".names g{i - 1} g{i}"
-        yield "0 1"
+        yield from link(f"{name}{i - 1}", f"{name}{i}")
     yield ".end"
+
+
+def inverters(count):
+    return chain(count, "g", lambda before, after: (f".names {before} {after}", "0 1"))
+
+
+def latches(count):
+    return chain(count, "q", lambda before, after: (f".latch {before} {after}",))
 
 
 def doubling(levels):
@@ -48,16 +55,6 @@ def readers(gates, columns):
     yield f".outputs g{gates - 1}"
     for i in range(gates):
         yield ".names " + "a " * columns + f"g{i}"
-    yield ".end"
-
-
-def latches(count):
-    """A chain of latches, written from its end to its front."""
-    yield ".model m"
-    yield ".inputs q0"
-    yield f".outputs q{count}"
-    for i in range(count, 0, -1):
-        yield f".latch q{i - 1} q{i}"
     yield ".end"
 
 
@@ -100,7 +97,7 @@ def adder_by_sums(bits):
     yield ".end"
 
 
-write("chain_400000", chain(400_000))
+write("chain_400000", inverters(400_000))
 write("doubling_17", doubling(17))
 write("readers_3999000", readers(1_000, 3_998))
 write("latches_400000", latches(400_000))
@@ -108,4 +105,4 @@ for bits in (16, 32, 64, 128, 256):
     write(f"majority_{bits}", adder_by_majority(bits))
     write(f"sums_{bits}", adder_by_sums(bits))
 for doublings in (50_000, 100_000, 200_000):
-    write(f"chain_{doublings}", chain(doublings))
+    write(f"chain_{doublings}", inverters(doublings))
