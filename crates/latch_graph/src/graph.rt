@@ -64,13 +64,15 @@ impl LatchGraph {
         let _ = &self.nodes;
     }
 
-    fn nodes(&self) -> &[Node]
+    /// For each signal of the net what it reads.
+    pub fn nodes(&self) -> &[Node]
         ensures { result.now ≡ self.now.nodes }
     {
         self.nodes.as_slice()
     }
 
-    fn latches(&self) -> &[LatchAt]
+    /// The latches of the net.
+    pub fn latches(&self) -> &[LatchAt]
         ensures { result.now ≡ self.now.latches }
     {
         self.latches.as_slice()

@@ -1,0 +1,13 @@
+-- What a refusal says.
+use Rattle.std.specs.Prelude.{ℕ, List}
+use Rattle.circuit_theory.specs.declared.Side.TheVariants.{A, B}
+use Rattle.latch_graph.specs.Graph.{GraphView}
+use Rattle.expose_pick.specs.declared.error.PickError.{PickError}
+use Rattle.expose_pick.specs.declared.error.PickError.TheVariants as pick_error
+use Rattle.expose_pick.specs.Chosen.{IsFree, IsLeft}
+
+-- a cycle of the first graph is left, or else one of the second
+abbrev pub Refuses : GraphView → GraphView → List ℕ → List ℕ → PickError → Type 0
+Refuses a b left right (pick_error.Unpaired A ids) = IsLeft a left ids
+Refuses a b left right (pick_error.Unpaired B ids) = IsFree a left × IsLeft b right ids
+Refuses a b left right pick_error.NoMemory = Unit {0}
