@@ -1,8 +1,13 @@
 //! The latches that are exposed, or a cycle that no exposed latches break.
 
+ghost use Rattle.std.specs.Prelude.{◌≡◌, ◌<◌, length, All, IfOk};
+ghost use Rattle.flat_net.specs.Cut.{exposed_names};
 ghost use Rattle.latch_graph.specs.Graph.{IsGraphOf};
+ghost use Rattle.expose_pick.specs.Chosen.{at_places, lefts, rights};
 ghost use Rattle.exposure.specs.Exposed.{Exposes};
 
+use crate::pairing::common_pairs;
+use expose_pick::{LatchPair, PickError, chosen_is_minimal_cut, pick};
 use flat_net::Net;
 use latch_graph::LatchGraph;
 use sec_base::{Ids, NoMemory, Side, Words};
@@ -50,5 +55,59 @@ pub fn expose(
     requires right_graph { IsGraphOf b.now right.now }
     ensures { Exposes a.now b.now result }
 {
-    Err(ExposeError::NoMemory)
+    chosen_is_minimal_cut();
+    let common = common_pairs(alloc, a, b)?;
+    match pick(alloc, left, right, &common) {
+        Ok(places) => Ok(exposure_at(alloc, a, common.as_slice(), places.as_slice())?),
+        Err(
+            PickError::Unpaired {
+                side: Side::A,
+                cycle,
+            },
+        ) => Err(ExposeError::Unpaired(Side::A, names_at(alloc, a, cycle.as_slice())?)),
+        Err(
+            PickError::Unpaired {
+                side: Side::B,
+                cycle,
+            },
+        ) => Err(ExposeError::Unpaired(Side::B, names_at(alloc, b, cycle.as_slice())?)),
+        Err(PickError::NoMemory) => Err(ExposeError::NoMemory),
+    }
+}
+
+/// The names of the latches at these positions.
+fn names_at(alloc: Global, net: &Net, positions: &[u32]) -> Result<Words, NoMemory>
+    requires { All (λ j. j < length net.now.latches) positions.now }
+    ensures { IfOk result (λ names. names ≡ exposed_names net.now positions.now) }
+{
+    let latches = net.latches();
+    let mut names = Words::new(alloc);
+    for position in positions {
+        names.push(latches[*position as usize].name.copy()?)?;
+    }
+    Ok(names)
+}
+
+/// The latches of the pairs at these places.
+fn exposure_at(
+    alloc: Global,
+    a: &Net,
+    common: &[LatchPair],
+    places: &[u32],
+) -> Result<Exposure, NoMemory>
+    requires common { All (λ p. p.left < length a.now.latches) common.now }
+    requires places { All (λ k. k < length common.now) places.now }
+    ensures left { IfOk result (λ e. e.left ≡ at_places (lefts common.now) places.now) }
+    ensures right { IfOk result (λ e. e.right ≡ at_places (rights common.now) places.now) }
+    ensures names { IfOk result (λ e. e.names ≡ exposed_names a.now (at_places (lefts common.now) places.now)) }
+{
+    let mut left = Ids::new(alloc);
+    let mut right = Ids::new(alloc);
+    for place in places {
+        let pair = common[*place as usize];
+        left.push(pair.left)?;
+        right.push(pair.right)?;
+    }
+    let names = names_at(alloc, a, left.as_slice())?;
+    Ok(Exposure { names, left, right })
 }

@@ -3,5 +3,6 @@
 #![tactic(auto)]
 
 mod exposing;
+mod pairing;
 
 pub use exposing::{ExposeError, Exposure, expose};
