@@ -11,6 +11,7 @@ use Rattle.witness_report.specs.declared.witness.Witness.{Witness}
 use Rattle.sec_outcome.specs.declared.outcome.PairResult.{PairResult}
 use Rattle.sec_outcome.specs.declared.outcome.LimitAt.{LimitAt}
 use Rattle.sec_outcome.specs.declared.outcome.LimitAt.TheVariants as limit
+use Rattle.sec_outcome.specs.declared.outcome.Why.{Why}
 use Rattle.sec_outcome.specs.declared.outcome.Why.TheVariants as why
 use Rattle.sec_outcome.specs.declared.outcome.Verdict.{Verdict}
 use Rattle.sec_outcome.specs.declared.outcome.Verdict.TheVariants as verdict
@@ -48,10 +49,14 @@ witness_text w = pair_text w.pair ++ values_text w ++ stimulus_text w.stimulus.n
 abbrev pub limit_text : LimitAt → List ℕ
 limit_text (limit.Pair name) = pair_text name
 
+-- what is shown, and what shows it
+abbrev pub why_text : Why → List ℕ
+why_text (why.Cut w) = codes "cut " ++ witness_text w
+
 abbrev pub verdict_text : ℕ → Verdict → List ℕ
 verdict_text conflicts verdict.Equal = codes "verdict equal" ++ 10 ∷ []
 verdict_text conflicts (verdict.Different w) = codes "verdict different " ++ witness_text w
-verdict_text conflicts (verdict.NotShown (why.Cut w)) = codes "verdict not-shown cut " ++ witness_text w
+verdict_text conflicts (verdict.NotShown reason) = codes "verdict not-shown " ++ why_text reason
 verdict_text conflicts (verdict.Limit at) = codes "verdict limit " ++ limit_text at ++ codes " conflicts " ++ decimal conflicts ++ 10 ∷ []
 
 -- the lines of the counts

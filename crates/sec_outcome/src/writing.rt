@@ -4,7 +4,7 @@ ghost use Rattle.std.specs.Prelude.{◌≡◌, ℕ, List, [], ◌∷◌, ◌++�
 ghost use Rattle.std.specs.Fmt.{decimal};
 ghost use Rattle.std.specs.List.{flat_map};
 ghost use Rattle.witness_report.specs.Text.{digit_of, names_text, stimulus_text};
-ghost use Rattle.sec_outcome.specs.Report.{answer_word, pair_text, pair_front, pair_line, values_text, witness_text, limit_text, through_text, verdict_text, counts_text, report_text};
+ghost use Rattle.sec_outcome.specs.Report.{answer_word, pair_text, pair_front, pair_line, values_text, witness_text, why_text, limit_text, through_text, verdict_text, counts_text, report_text};
 
 use crate::outcome::{LimitAt, Outcome, PairResult, Verdict, Why};
 use sec_base::{NoMemory, PairAnswer, Seq, Text, Words, put, put_number};
@@ -116,6 +116,18 @@ fn put_witness(alloc: Global, text: &mut Vec<u8>, witness: &Witness) -> Result<(
     put_stimulus(alloc, text, &witness.stimulus)
 }
 
+/// Puts what is shown where latches were cut open, and the sequence that shows it.
+fn put_why(alloc: Global, text: &mut Vec<u8>, why: &Why) -> Result<(), NoMemory>
+    ensures { OnOk result (text.new.items ≡ text.old.items ++ why_text why.now) }
+{
+    match why {
+        Why::Cut(witness) => {
+            put(text, b"cut ")?;
+            put_witness(alloc, text, witness)
+        }
+    }
+}
+
 /// Puts the place where the limit was met.
 fn put_limit_at(text: &mut Vec<u8>, at: &LimitAt) -> Result<(), NoMemory>
     ensures { OnOk result (text.new.items ≡ text.old.items ++ limit_text at.now) }
@@ -154,9 +166,9 @@ fn put_verdict(
             put(text, b"verdict different ")?;
             put_witness(alloc, text, witness)
         }
-        Verdict::NotShown(Why::Cut(witness)) => {
-            put(text, b"verdict not-shown cut ")?;
-            put_witness(alloc, text, witness)
+        Verdict::NotShown(why) => {
+            put(text, b"verdict not-shown ")?;
+            put_why(alloc, text, why)
         }
         Verdict::Limit(at) => put_limit(alloc, text, at, conflicts),
     }
