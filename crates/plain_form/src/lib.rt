@@ -10,5 +10,6 @@ mod unfolding;
 mod verdict;
 mod witness;
 
-pub use comparing::compare_plain;
+pub use comparing::{Findings, compare_plain};
 pub use error::PlainError;
+pub use pairing::SignalPair;

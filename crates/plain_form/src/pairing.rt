@@ -17,6 +17,14 @@ use latch_graph::LatchGraph;
 use sec_base::{NameTable, NoMemory};
 use std::alloc::Global;
 
+/// Two signals that are compared, one of each circuit, and what the pair is called.
+#[derive(Debug, Drop)]
+pub struct SignalPair {
+    pub name: PairName,
+    pub left: Signal,
+    pub right: Signal,
+}
+
 /// Two outputs of one name, and the greater of their depths.
 #[derive(Clone, Copy, Debug)]
 pub(crate) struct OutputPair {

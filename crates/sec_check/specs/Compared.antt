@@ -1,66 +1,79 @@
 -- What a comparison answers.
-use Rattle.std.specs.Prelude.{◌≡◌, ℕ, List, [], Option, Some, None, Result, Ok, Err}
-use Rattle.std.specs.List.{AllZip}
+use Rattle.std.specs.Prelude.{◌≡◌, ℕ, Bool, true, false, List, [], Option, Some, None, Result, Ok, Err}
 use Rattle.circuit_theory.specs.declared.Mode.TheVariants.{Plain}
+use Rattle.circuit_theory.specs.declared.Side.{Side}
 use Rattle.circuit_theory.specs.declared.Side.TheVariants.{A, B}
-use Rattle.circuit_theory.specs.Agree.{Agree}
-use Rattle.circuit_theory.specs.Circuit.{IsLatch}
-use Rattle.circuit_theory.specs.Depth.{IsCycle, BeginsWithLeast}
+use Rattle.circuit_theory.specs.Agree.{Agree, AgreeOnward}
 use Rattle.circuit_theory.specs.Interface.{first_mismatch}
-use Rattle.circuit_theory.specs.Run.{NoneEnabled}
 use Rattle.flat_net.specs.View.{NetView, circuit_of, ports_of}
 use Rattle.witness_report.specs.declared.witness.Witness.{Witness}
+use Rattle.sec_words.specs.declared.settings.Settings.{Settings}
 use Rattle.sec_outcome.specs.declared.outcome.Verdict.TheVariants as verdict
+use Rattle.sec_outcome.specs.declared.outcome.Why.TheVariants as why
 use Rattle.sec_outcome.specs.declared.outcome.Outcome.{Outcome}
+use Rattle.exposure.specs.Common.{common_names}
+use Rattle.exposure.specs.Exposed.{IsFreeWithout, IsToldCycle}
 use Rattle.plain_form.specs.Formed.{IsAcyclic, IsLight, IsTooLarge}
-use Rattle.plain_form.specs.Outcome.{OutcomeFits}
 use Rattle.sec_check.specs.declared.comparing.CompareError.{CompareError}
 use Rattle.sec_check.specs.declared.comparing.CompareError.TheVariants as refused
-use Rattle.sec_check.specs.Shown.{MakesDiffer}
-
--- the cycle of a latch graph that is told, by the names of its latches: each is read by the next, the last by the first, and no
--- latch of it has a name before the first
-pub record IsToldCycle (n : NetView) (names : List (List ℕ)) : Type 0 where
-  pub latches : List ℕ
-  pub cycle : IsCycle (circuit_of n) NoneEnabled [] latches
-  pub least : BeginsWithLeast (circuit_of n) latches
-  pub named : AllZip (λ name u. (next : ℕ) × IsLatch (circuit_of n) name u next) names latches
+use Rattle.sec_check.specs.Fitting.{IsChoice, AreCutAt, OutcomeFits}
+use Rattle.sec_check.specs.Shown.{MakesDiffer, MakesCutsDiffer, AgreeFrom}
 
 -- the cycle, if any, that is told of a latch graph
 abbrev pub IsCycleOf : NetView → Option (List (List ℕ)) → Type 0
 IsCycleOf n None = IsAcyclic n
-IsCycleOf n (Some names) = IsToldCycle n names
+IsCycleOf n (Some names) = IsToldCycle n [] names
 
 -- the interfaces match
 abbrev pub InterfacesMatch : NetView → NetView → Type 0
 InterfacesMatch a b = first_mismatch (ports_of a) (ports_of b) ≡ None
 
--- The interfaces match, no latch graph has a cycle, both unfoldings are light, and the outcome fits the circuits: equal where
--- they agree, different where its sequence shows it.
-pub record IsCompared (a b : NetView) (conflicts : ℕ) (o : Outcome) : Type 0 where
-  pub matches : InterfacesMatch a b
-  pub left_acyclic : IsAcyclic a
-  pub right_acyclic : IsAcyclic b
-  pub left_light : IsLight a
-  pub right_light : IsLight b
-  pub fits : OutcomeFits (circuit_of a) (circuit_of b) (ports_of a) (ports_of b) conflicts o
-  pub equal : o.verdict ≡ verdict.Equal → Agree Plain (circuit_of a) (circuit_of b)
-  pub different : (w : Witness) → o.verdict ≡ verdict.Different w → MakesDiffer (circuit_of a) (circuit_of b) w
+-- What equal says: the circuits agree, and agree onward; so where the exposed latches are equal from the start up to the printed cycle,
+-- they are equal for ever, and the outputs from that cycle on.
+pub record AreEqual (a b : NetView) (o : Outcome) : Type 0 where
+  pub agree : Agree Plain (circuit_of a) (circuit_of b)
+  pub onward : AgreeOnward Plain o.exposed (circuit_of a) (circuit_of b)
+  pub from : AgreeFrom o.through o.exposed (circuit_of a) (circuit_of b)
 
--- the outcome, or the first refusal: the interface, a cycle of A, a cycle of B, A's size, B's size
-abbrev pub Compared : NetView → NetView → ℕ → Result Outcome CompareError → Type 0
-Compared a b conflicts (Ok o) = IsCompared a b conflicts o
-Compared a b conflicts (Err (refused.Interface name)) = first_mismatch (ports_of a) (ports_of b) ≡ Some name
-Compared a b conflicts (Err (refused.Cyclic A names)) = InterfacesMatch a b × IsToldCycle a names
-Compared a b conflicts (Err (refused.Cyclic B names)) = InterfacesMatch a b × IsAcyclic a × IsToldCycle b names
-Compared a b conflicts (Err (refused.TooLarge A)) = InterfacesMatch a b × IsAcyclic a × IsAcyclic b × IsTooLarge a
-Compared a b conflicts (Err (refused.TooLarge B)) = InterfacesMatch a b × IsAcyclic a × IsAcyclic b × IsLight a × IsTooLarge b
-Compared a b conflicts (Err refused.NoMemory) = Unit {0}
+-- The interfaces match, the outcome fits the circuits, and both unfoldings are light. Equal, different and not shown say what they
+-- say of the circuits.
+pub record IsCompared (a b : NetView) (settings : Settings) (o : Outcome) : Type 0 where
+  pub matches : InterfacesMatch a b
+  pub fits : OutcomeFits a b settings.expose settings.conflicts o
+  pub left_light : IsLight fits.left_cut
+  pub right_light : IsLight fits.right_cut
+  pub equal : o.verdict ≡ verdict.Equal → AreEqual a b o
+  pub different : (w : Witness) → o.verdict ≡ verdict.Different w → MakesDiffer (circuit_of a) (circuit_of b) w
+  pub not_shown : (w : Witness) → o.verdict ≡ verdict.NotShown (why.Cut w) → MakesCutsDiffer o.exposed (circuit_of a) (circuit_of b) w
+
+-- no latch is to be cut open, and no latch graph has a cycle; or none has one without the latches that both circuits name
+abbrev pub AreBroken : NetView → NetView → Bool → Type 0
+AreBroken a b false = IsAcyclic a × IsAcyclic b
+AreBroken a b true = IsFreeWithout a (common_names (circuit_of a) (circuit_of b)) × IsFreeWithout b (common_names (circuit_of a) (circuit_of b))
+
+-- A cut circuit of one of the sides is too large: A, or else B.
+pub data AreTooLarge (a b : NetView) (expose : Bool) : Side → Type 0 where
+  left : {names : List (List ℕ)} {m k : NetView} → IsChoice a b expose names → AreCutAt a b names m k → IsTooLarge m → AreTooLarge a b expose A
+  right : {names : List (List ℕ)} {m k : NetView} → IsChoice a b expose names → AreCutAt a b names m k → IsLight m → IsTooLarge k → AreTooLarge a b expose B
+
+-- The outcome, or the first refusal: the interface; a cycle of A, of B; where latches are to be cut open a cycle of A, of B that no
+-- common latch breaks; A's size, B's size.
+abbrev pub Compared : NetView → NetView → Settings → Result Outcome CompareError → Type 0
+Compared a b settings (Ok o) = IsCompared a b settings o
+Compared a b settings (Err (refused.Interface name)) = first_mismatch (ports_of a) (ports_of b) ≡ Some name
+Compared a b settings (Err (refused.Cyclic A names)) = InterfacesMatch a b × (settings.expose ≡ false) × IsToldCycle a [] names
+Compared a b settings (Err (refused.Cyclic B names)) = InterfacesMatch a b × (settings.expose ≡ false) × IsAcyclic a × IsToldCycle b [] names
+Compared a b settings (Err (refused.Unpaired A names)) = InterfacesMatch a b × (settings.expose ≡ true) × IsToldCycle a (common_names (circuit_of a) (circuit_of b)) names
+Compared a b settings (Err (refused.Unpaired B names)) =
+    InterfacesMatch a b × (settings.expose ≡ true) × IsFreeWithout a (common_names (circuit_of a) (circuit_of b)) × IsToldCycle b (common_names (circuit_of a) (circuit_of b)) names
+Compared a b settings (Err (refused.TooLarge side)) = InterfacesMatch a b × AreBroken a b settings.expose × AreTooLarge a b settings.expose side
+Compared a b settings (Err refused.NoMemory) = Unit {0}
 
 -- the interfaces don't match, and this is the first name; no other refusal comes of it
 abbrev pub InterfaceFails : NetView → NetView → CompareError → Type 0
 InterfaceFails a b (refused.Interface name) = first_mismatch (ports_of a) (ports_of b) ≡ Some name
 InterfaceFails a b (refused.Cyclic side names) = ⊥
+InterfaceFails a b (refused.Unpaired side names) = ⊥
 InterfaceFails a b (refused.TooLarge side) = ⊥
 InterfaceFails a b refused.NoMemory = Unit {0}
 
@@ -68,5 +81,6 @@ InterfaceFails a b refused.NoMemory = Unit {0}
 abbrev pub RefusesName : List ℕ → CompareError → Type 0
 RefusesName name (refused.Interface word) = word ≡ name
 RefusesName name (refused.Cyclic side names) = ⊥
+RefusesName name (refused.Unpaired side names) = ⊥
 RefusesName name (refused.TooLarge side) = ⊥
 RefusesName name refused.NoMemory = Unit {0}

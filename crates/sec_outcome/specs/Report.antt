@@ -11,6 +11,8 @@ use Rattle.witness_report.specs.declared.witness.Witness.{Witness}
 use Rattle.sec_outcome.specs.declared.outcome.PairResult.{PairResult}
 use Rattle.sec_outcome.specs.declared.outcome.LimitAt.{LimitAt}
 use Rattle.sec_outcome.specs.declared.outcome.LimitAt.TheVariants as limit
+use Rattle.sec_outcome.specs.declared.outcome.Why.{Why}
+use Rattle.sec_outcome.specs.declared.outcome.Why.TheVariants as why
 use Rattle.sec_outcome.specs.declared.outcome.Verdict.{Verdict}
 use Rattle.sec_outcome.specs.declared.outcome.Verdict.TheVariants as verdict
 use Rattle.sec_outcome.specs.declared.outcome.Outcome.{Outcome}
@@ -39,17 +41,22 @@ pair_line p = pair_front p.name ++ codes " depth " ++ decimal p.size ++ 32 ∷ [
 unfoldable pub values_text : Witness → List ℕ
 values_text w = codes " cycle " ++ decimal w.cycle ++ codes " values " ++ digit_of w.left ∷ [] ++ 32 ∷ [] ++ digit_of w.right ∷ [] ++ 10 ∷ []
 
--- the line of a difference, then its stimulus
-abbrev pub difference_text : Witness → List ℕ
-difference_text w = codes "verdict different " ++ pair_text w.pair ++ values_text w ++ stimulus_text w.stimulus.names w.stimulus.rows
+-- the pair, the cycle and the values of a sequence, then its stimulus
+abbrev pub witness_text : Witness → List ℕ
+witness_text w = pair_text w.pair ++ values_text w ++ stimulus_text w.stimulus.names w.stimulus.rows
 
 -- where the limit was met
 abbrev pub limit_text : LimitAt → List ℕ
 limit_text (limit.Pair name) = pair_text name
 
+-- what is shown, and what shows it
+abbrev pub why_text : Why → List ℕ
+why_text (why.Cut w) = codes "cut " ++ witness_text w
+
 abbrev pub verdict_text : ℕ → Verdict → List ℕ
 verdict_text conflicts verdict.Equal = codes "verdict equal" ++ 10 ∷ []
-verdict_text conflicts (verdict.Different w) = difference_text w
+verdict_text conflicts (verdict.Different w) = codes "verdict different " ++ witness_text w
+verdict_text conflicts (verdict.NotShown reason) = codes "verdict not-shown " ++ why_text reason
 verdict_text conflicts (verdict.Limit at) = codes "verdict limit " ++ limit_text at ++ codes " conflicts " ++ decimal conflicts ++ 10 ∷ []
 
 -- the lines of the counts
@@ -58,6 +65,14 @@ counts_text o =
     codes "inputs " ++ decimal o.inputs ++ 10 ∷ [] ++ codes "latches " ++ decimal o.left_latches ++ 32 ∷ [] ++ decimal o.right_latches ++ 10 ∷ []
     ++ codes "exposed " ++ decimal (length o.exposed) ++ names_text o.exposed ++ 10 ∷ []
 
+-- the cycle from which on all pairs are settled, where the circuits are equal and latches were cut open
+abbrev pub through_text : ℕ → List (List ℕ) → Verdict → List ℕ
+through_text through [] verdict = []
+through_text through (name ∷ names) verdict.Equal = codes "through " ++ decimal through ++ 10 ∷ []
+through_text through (name ∷ names) (verdict.Different w) = []
+through_text through (name ∷ names) (verdict.NotShown reason) = []
+through_text through (name ∷ names) (verdict.Limit at) = []
+
 -- the whole report, where each query had so many conflicts
 abbrev pub report_text : ℕ → Outcome → List ℕ
-report_text conflicts o = counts_text o ++ flat_map pair_line o.pairs ++ verdict_text conflicts o.verdict
+report_text conflicts o = counts_text o ++ flat_map pair_line o.pairs ++ through_text o.through o.exposed o.verdict ++ verdict_text conflicts o.verdict

@@ -4,7 +4,7 @@
 mod outcome;
 mod writing;
 
-pub use outcome::{LimitAt, Outcome, PairResult, PairResults, Verdict};
+pub use outcome::{LimitAt, Outcome, PairResult, PairResults, Verdict, Why};
 pub use pair_decide::Proof;
 pub use sec_words::Settings;
 pub use witness_report::{PairName, Stimulus, Witness};

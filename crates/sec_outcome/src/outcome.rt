@@ -25,13 +25,22 @@ pub enum LimitAt {
     Pair(PairName),
 }
 
-/// The answer of a comparison: the first of different, limit and equal that some pair has.
+/// What is shown where the functions of a pair differ and latches were cut open: the circuits themselves may still agree.
+#[derive(Debug, Drop)]
+pub enum Why {
+    /// A sequence over the inputs and the latches that were cut open makes the pair of the cut circuits differ.
+    Cut(Witness),
+}
+
+/// The answer of a comparison: the first of different, limit, not shown and equal that some pair has.
 #[derive(Debug, Drop)]
 pub enum Verdict {
     /// Every pair's functions agree.
     Equal,
-    /// A pair's functions differ, and the sequence shows it.
+    /// A pair's functions differ, and the sequence shows it; no latch was cut open.
     Different(Witness),
+    /// A pair's functions differ, and latches were cut open.
+    NotShown(Why),
     /// A query wasn't decided within the number of conflicts.
     Limit(LimitAt),
 }

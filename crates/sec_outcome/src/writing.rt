@@ -4,9 +4,9 @@ ghost use Rattle.std.specs.Prelude.{◌≡◌, ℕ, List, [], ◌∷◌, ◌++�
 ghost use Rattle.std.specs.Fmt.{decimal};
 ghost use Rattle.std.specs.List.{flat_map};
 ghost use Rattle.witness_report.specs.Text.{digit_of, names_text, stimulus_text};
-ghost use Rattle.sec_outcome.specs.Report.{answer_word, pair_text, pair_front, pair_line, values_text, difference_text, limit_text, verdict_text, counts_text, report_text};
+ghost use Rattle.sec_outcome.specs.Report.{answer_word, pair_text, pair_front, pair_line, values_text, witness_text, why_text, limit_text, through_text, verdict_text, counts_text, report_text};
 
-use crate::outcome::{LimitAt, Outcome, PairResult, Verdict};
+use crate::outcome::{LimitAt, Outcome, PairResult, Verdict, Why};
 use sec_base::{NoMemory, PairAnswer, Seq, Text, Words, put, put_number};
 use sec_words::Settings;
 use std::alloc::Global;
@@ -107,13 +107,25 @@ fn put_values(alloc: Global, text: &mut Vec<u8>, witness: &Witness) -> Result<()
     put(text, b"\n")
 }
 
-fn put_difference(alloc: Global, text: &mut Vec<u8>, witness: &Witness) -> Result<(), NoMemory>
-    ensures { OnOk result (text.new.items ≡ text.old.items ++ difference_text witness.now) }
+/// Puts the pair, the cycle and the values of a sequence, and then its stimulus.
+fn put_witness(alloc: Global, text: &mut Vec<u8>, witness: &Witness) -> Result<(), NoMemory>
+    ensures { OnOk result (text.new.items ≡ text.old.items ++ witness_text witness.now) }
 {
-    put(text, b"verdict different ")?;
     put_pair_name(text, &witness.pair)?;
     put_values(alloc, text, witness)?;
     put_stimulus(alloc, text, &witness.stimulus)
+}
+
+/// Puts what is shown where latches were cut open, and the sequence that shows it.
+fn put_why(alloc: Global, text: &mut Vec<u8>, why: &Why) -> Result<(), NoMemory>
+    ensures { OnOk result (text.new.items ≡ text.old.items ++ why_text why.now) }
+{
+    match why {
+        Why::Cut(witness) => {
+            put(text, b"cut ")?;
+            put_witness(alloc, text, witness)
+        }
+    }
 }
 
 /// Puts the place where the limit was met.
@@ -150,8 +162,32 @@ fn put_verdict(
 {
     match verdict {
         Verdict::Equal => put(text, b"verdict equal\n"),
-        Verdict::Different(witness) => put_difference(alloc, text, witness),
+        Verdict::Different(witness) => {
+            put(text, b"verdict different ")?;
+            put_witness(alloc, text, witness)
+        }
+        Verdict::NotShown(why) => {
+            put(text, b"verdict not-shown ")?;
+            put_why(alloc, text, why)
+        }
         Verdict::Limit(at) => put_limit(alloc, text, at, conflicts),
+    }
+}
+
+/// Puts the cycle from which on all pairs are settled, where the circuits are equal and latches were cut open.
+fn put_through(alloc: Global, text: &mut Vec<u8>, outcome: &Outcome) -> Result<(), NoMemory>
+    ensures { OnOk result (text.new.items ≡ text.old.items ++ through_text outcome.now.through outcome.now.exposed outcome.now.verdict) }
+{
+    if outcome.exposed.len() == 0 {
+        return Ok(());
+    }
+    match outcome.verdict {
+        Verdict::Equal => {
+            put(text, b"through ")?;
+            put_number(alloc, text, u64::from(outcome.through))?;
+            put(text, b"\n")
+        }
+        _ => Ok(()),
     }
 }
 
@@ -170,7 +206,8 @@ fn put_counts(alloc: Global, text: &mut Vec<u8>, outcome: &Outcome) -> Result<()
     put(text, b"\n")
 }
 
-/// The report of a comparison: the counts, a line for each pair, and the verdict with its sequence.
+/// The report of a comparison: the counts, a line for each pair, the cycle from which on all pairs are settled where it is asked
+/// for, and the verdict with its sequence.
 /// Each line ends with a line feed; numbers are decimal, and names stand byte for byte.
 pub fn report(alloc: Global, outcome: &Outcome, settings: &Settings) -> Result<Text, NoMemory>
     ensures { IfOk result (λ text. text ≡ report_text settings.now.conflicts outcome.now) }
@@ -178,6 +215,7 @@ pub fn report(alloc: Global, outcome: &Outcome, settings: &Settings) -> Result<T
     let mut text = Vec::new(alloc);
     put_counts(alloc, &mut text, outcome)?;
     put_pairs(alloc, &mut text, outcome.pairs.as_slice())?;
+    put_through(alloc, &mut text, outcome)?;
     put_verdict(alloc, &mut text, &outcome.verdict, settings.conflicts)?;
     Ok(Seq::from_vec(text))
 }

@@ -1,7 +1,5 @@
-use Rattle.std.specs.Prelude.{◌≡◌, ◌++◌, map, take}
-use Rattle.std.specs.List.{flat_map}
+use Rattle.std.specs.Prelude.{◌≡◌, ◌++◌, take}
 use Rattle.witness_report.specs.Text.{names_text}
-use Rattle.sec_outcome.specs.Report.{pair_line}
 use Rattle.sec_outcome.proofs.writing.put_names.Given as goal
 
 abbrev pub invariant-loop-name : goal.invariant-loop-name

@@ -1,6 +1,5 @@
-use Rattle.std.specs.Prelude.{◌≡◌, ◌++◌, map, take}
+use Rattle.std.specs.Prelude.{◌≡◌, ◌++◌, take}
 use Rattle.std.specs.List.{flat_map}
-use Rattle.witness_report.specs.Text.{names_text}
 use Rattle.sec_outcome.specs.Report.{pair_line}
 use Rattle.sec_outcome.proofs.writing.put_pairs.Given as goal
 

@@ -1,0 +1,57 @@
+-- What it means that an outcome fits two circuits, in the plain form.
+use Rattle.std.specs.Prelude.{◌≡◌, ℕ, ◌<◌, Bool, true, false, List, [], ◌∷◌, ◌++◌, length, All}
+use Rattle.std.specs.List.{AllPairs}
+use Rattle.circuit_theory.specs.declared.Mode.TheVariants.{Plain}
+use Rattle.circuit_theory.specs.Agree.{IsMinimalCut}
+use Rattle.circuit_theory.specs.Interface.{shared_inputs, AreNumbersOf}
+use Rattle.flat_net.specs.Cut.{IsCut, IsCutCircuit, exposed_names}
+use Rattle.flat_net.specs.View.{NetView, circuit_of, ports_of}
+use Rattle.sec_outcome.specs.declared.outcome.Outcome.{Outcome}
+use Rattle.plain_form.specs.Outcome.{named_pairs, PairsFit, VerdictFits, greatest_size}
+
+-- The names are a minimal cut, which has no name where no latch is to be cut open.
+pub record IsChoice (a b : NetView) (expose : Bool) (names : List (List ℕ)) : Type 0 where
+  pub minimal : IsMinimalCut Plain (circuit_of a) (circuit_of b) names
+  pub closed : expose ≡ false → names ≡ []
+
+-- Both nets with the latches of these names cut out, which stand in A's order: each is an input, and what it takes over an output.
+pub record AreCutAt (a b : NetView) (names : List (List ℕ)) (m k : NetView) : Type 0 where
+  pub left : List ℕ
+  pub right : List ℕ
+  pub in_order : AllPairs (λ i j. i < j) left
+  pub left_within : All (λ j. j < length a.latches) left
+  pub right_within : All (λ j. j < length b.latches) right
+  pub left_names : exposed_names a left ≡ names
+  pub right_names : exposed_names b right ≡ names
+  pub left_cut : IsCut a m left
+  pub right_cut : IsCut b k right
+  pub left_circuit : IsCutCircuit names (circuit_of a) (circuit_of m)
+  pub right_circuit : IsCutCircuit names (circuit_of b) (circuit_of k)
+
+-- the names of a sequence: the shared inputs in A's order, then the exposed latches
+abbrev pub columns_of : NetView → NetView → List (List ℕ) → List (List ℕ)
+columns_of a b names = shared_inputs (ports_of a) (ports_of b) ++ names
+
+-- some latch is cut open
+abbrev pub is_cut : List (List ℕ) → Bool
+is_cut [] = false
+is_cut (name ∷ names) = true
+
+-- The outcome fits the circuits: the counts, the exposed names, the pairs in order with their answers over both circuits as they
+-- are cut, and the verdict.
+pub record OutcomeFits (a b : NetView) (expose : Bool) (conflicts : ℕ) (o : Outcome) : Type 0 where
+  pub left_cut : NetView
+  pub right_cut : NetView
+  pub exposed : IsChoice a b expose o.exposed
+  pub are_cut : AreCutAt a b o.exposed left_cut right_cut
+  pub left : List ℕ
+  pub right : List ℕ
+  pub left_numbers : AreNumbersOf (ports_of left_cut).inputs (columns_of a b o.exposed) left right
+  pub right_numbers : AreNumbersOf (ports_of right_cut).inputs (columns_of a b o.exposed) right left
+  pub inputs : o.inputs ≡ length (shared_inputs (ports_of a) (ports_of b))
+  pub left_latches : o.left_latches ≡ length a.latches
+  pub right_latches : o.right_latches ≡ length b.latches
+  pub classes : o.classes ≡ 0
+  pub pairs : PairsFit (circuit_of left_cut) (circuit_of right_cut) left right (is_cut o.exposed) conflicts (named_pairs o.exposed (circuit_of a) (circuit_of b)) o.pairs
+  pub through : o.through ≡ greatest_size o.pairs
+  pub verdict_is : VerdictFits (circuit_of left_cut) (circuit_of right_cut) left right (columns_of a b o.exposed) (named_pairs o.exposed (circuit_of a) (circuit_of b)) o.pairs o.verdict
