@@ -31,7 +31,7 @@ use Rattle.sec_outcome.specs.declared.outcome.PairResult.{PairResult}
 use Rattle.plain_form.specs.Formed.{outputs_of, AreColumns}
 use Rattle.plain_form.specs.Found.{IsResultOf}
 use Rattle.plain_form.specs.Limits.{IsUndecided}
-use Rattle.plain_form.specs.Outcome.{differing, HaveDifferentFunctions, AnswerFits, NamedPair, PairFits}
+use Rattle.plain_form.specs.Outcome.{differing, HaveDifferentFunctions, AnswerFits, PairFits}
 use Rattle.plain_form.specs.Sequences.{bits_at, IsSequence, IsWitnessOf}
 use Rattle.plain_form.specs.Variables.{variable_of, variables_of}
 use Rattle.plain_form.proofs.Leaves.{leaf_shift, leaf_is_column}

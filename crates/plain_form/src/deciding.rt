@@ -96,20 +96,12 @@ fn query_of(
 }
 
 /// The result of the pair of this name, and the bits of its query's variables under which the sides differ, if they do.
-fn result_of(
-    name: PairName,
-    size: u32,
-    cut: bool,
-    decision: Decision,
-) -> (PairResult, Option<Bits>)
+fn result_of(name: PairName, size: u32, cut: bool, decision: Decision) -> (PairResult, Option<Bits>)
     ensures { IsResultOf name size cut decision result.0 result.1 }
 {
     match decision {
         Decision::Same(_) => (pair_result(name, size, PairAnswer::Equal, None), None),
-        Decision::Differs(bits) => (
-            pair_result(name, size, differing(cut), None),
-            Some(bits),
-        ),
+        Decision::Differs(bits) => (pair_result(name, size, differing(cut), None), Some(bits)),
         Decision::Limit(proof) => (
             pair_result(name, size, PairAnswer::Limit, Some(proof)),
             None,
