@@ -1,11 +1,10 @@
 -- What the answer to a pair's query says of its result, and of its sequence.
-use Rattle.std.proofs.Common.{◌≡◌, ℕ, ◌<◌, ◌≤◌, max, Bool, List, map, length, Option, None, refl, sym, ◌∙◌, ap, subst, arith, inl, inr}
+use Rattle.std.proofs.Common.{◌≡◌, ℕ, ◌<◌, ◌≤◌, max, Bool, true, false, List, length, Option, None, refl, sym, ◌∙◌, ap, subst, arith, inl, inr}
 use Rattle.std.specs.List.{All, Contains}
 use Rattle.std.proofs.lemmas.List.Elements.{All-map}
 use Rattle.circuit_theory.specs.Circuit.{Circuit}
 use Rattle.circuit_theory.specs.Depth.{IsDepth}
 use Rattle.circuit_theory.specs.Fits.{IsPairDepth, IsWitness}
-use Rattle.circuit_theory.specs.Interface.{shared_inputs, first_mismatch, AreOrders}
 use Rattle.circuit_theory.specs.Query.{Variable, HasLeaf, bits_of, pair_query, same_shift}
 use Rattle.circuit_theory.specs.Query as query
 use Rattle.circuit_theory.specs.Run.{NoneEnabled}
@@ -13,8 +12,7 @@ use Rattle.circuit_theory.specs.Sequence.{sequence_rows}
 use Rattle.circuit_theory.specs.Tree.{HaveEqualFunctions}
 use Rattle.circuit_theory.proofs.Lists.{All-from_each}
 use Rattle.circuit_theory.proofs.TreeDepth.{tree_depth}
-use Rattle.flat_net.specs.declared.parts.Port.{Port}
-use Rattle.flat_net.specs.View.{NetView, circuit_of, ports_of}
+use Rattle.flat_net.specs.View.{NetView, circuit_of}
 use Rattle.flat_net.specs.Sound.{IsSound}
 use Rattle.flat_net.proofs.Nets.{sound_is_net}
 use Rattle.aig.specs.declared.node.Node.{Node}
@@ -27,15 +25,16 @@ use Rattle.pair_decide.specs.declared.query.Decision.{Decision}
 use Rattle.pair_decide.specs.declared.query.Decision.TheVariants as decision
 use Rattle.pair_decide.specs.Queries.{IsSame}
 use Rattle.pair_decide.specs.Answers.{Decides, IsDifference, IsAtLimit}
+use Rattle.witness_report.specs.declared.witness.PairName.{PairName}
 use Rattle.witness_report.specs.declared.witness.Witness.{Witness}
 use Rattle.sec_outcome.specs.declared.outcome.PairResult.{PairResult}
+use Rattle.plain_form.specs.Formed.{outputs_of, AreColumns}
 use Rattle.plain_form.specs.Found.{IsResultOf}
 use Rattle.plain_form.specs.Limits.{IsUndecided}
-use Rattle.plain_form.specs.Outcome.{HaveDifferentFunctions, PairFits}
+use Rattle.plain_form.specs.Outcome.{differing, HaveDifferentFunctions, AnswerFits, PairFits}
 use Rattle.plain_form.specs.Sequences.{bits_at, IsSequence, IsWitnessOf}
 use Rattle.plain_form.specs.Variables.{variable_of, variables_of}
-use Rattle.plain_form.proofs.Leaves.{leaf_shift, leaf_is_shared}
-use Rattle.plain_form.proofs.Matched.{are_matched}
+use Rattle.plain_form.proofs.Leaves.{leaf_shift, leaf_is_column}
 use Rattle.plain_form.proofs.PairQueries.{AsksPair, left_tree, right_tree, query_in_order, are_variables, each_variable, is_query, left_value, right_value, care_value, same_trees, left_at_bits, right_at_bits, trees_differ, variables_long, least_is}
 
 same_of : (g : List Node) (q : Query) (conflicts : ℕ) (by : SameBy) → Decides g q conflicts (decision.Same by) → IsSame g q
@@ -100,15 +99,22 @@ module _ {a b : NetView} {left right : List ℕ} {g : List Node} {places : List 
     log = h.fruitless;
   }
 
+  differs : (cut : Bool) (conflicts : ℕ) → HaveDifferentFunctions (circuit_of a) (circuit_of b) left right s t → AnswerFits (circuit_of a) (circuit_of b) left right cut conflicts s t (differing cut) None
+  differs false conflicts h = (refl, h)
+  differs true conflicts h = (refl, h)
+
   -- the result has the answer of the query
-  pub pair_fits : (conflicts : ℕ) (name : List ℕ) (size : ℕ) (d : Decision) (result : PairResult) (bits : Option (List Bool)) → Decides g q conflicts d → IsResultOf name size d result bits → IsPairDepth (circuit_of a) (circuit_of b) s t size →
-      PairFits (circuit_of a) (circuit_of b) left right conflicts name s t result
-  pair_fits conflicts name size (decision.Same by) result bits h is depth =
-      subst (PairFits (circuit_of a) (circuit_of b) left right conflicts name s t) (sym is.0) (record { name_is = refl; size_is = depth; answer_is = equal_functions (same_of g q conflicts by h) })
-  pair_fits conflicts name size (decision.Differs found) result bits h is depth =
-      subst (PairFits (circuit_of a) (circuit_of b) left right conflicts name s t) (sym is.0) (record { name_is = refl; size_is = depth; answer_is = different_functions found h })
-  pair_fits conflicts name size (decision.Limit proof) result bits h is depth =
-      subst (PairFits (circuit_of a) (circuit_of b) left right conflicts name s t) (sym is.0) (record { name_is = refl; size_is = depth; answer_is = undecided conflicts proof h })
+  pub pair_fits : (name : PairName) (cut : Bool) (conflicts size : ℕ) (d : Decision) (result : PairResult) (bits : Option (List Bool)) → Decides g q conflicts d → IsResultOf name size cut d result bits → IsPairDepth (circuit_of a) (circuit_of b) s t size →
+      PairFits (circuit_of a) (circuit_of b) left right cut conflicts (record { name = name; left = s; right = t }) result
+  pair_fits name cut conflicts size d result bits h is depth = go d h is
+    where
+      Fits : PairResult → Type 0
+      Fits r = PairFits (circuit_of a) (circuit_of b) left right cut conflicts (record { name = name; left = s; right = t }) r
+
+      go : (e : Decision) → Decides g q conflicts e → IsResultOf name size cut e result bits → Fits result
+      go (decision.Same by) decided r = subst Fits (sym r.0) (record { name_is = refl; size_is = depth; answer_is = equal_functions (same_of g q conflicts by decided) })
+      go (decision.Differs found) decided r = subst Fits (sym r.0) (record { name_is = refl; size_is = depth; answer_is = differs cut conflicts (different_functions found decided) })
+      go (decision.Limit proof) decided r = subst Fits (sym r.0) (record { name_is = refl; size_is = depth; answer_is = undecided conflicts proof decided })
 
   -- the size is the greater depth of both trees
   module _ (sound_a : IsSound a) (sound_b : IsSound b) (last : ℕ) (depth : IsPairDepth (circuit_of a) (circuit_of b) s t last) where
@@ -121,20 +127,12 @@ module _ {a b : NetView} {left right : List ℕ} {g : List Node} {places : List 
     last_is : last ≡ max x.left_is.depth x.right_is.depth
     last_is = depth.greater ∙ (ap (λ d. max d depth.right) (sym left_depth) ∙ ap (λ d. max x.left_is.depth d) (sym right_depth))
 
-    module _ (shared : List (List ℕ)) (shared_is : shared ≡ shared_inputs (ports_of a) (ports_of b)) (orders : AreOrders (ports_of a) (ports_of b) left right) (matches : first_mismatch (ports_of a) (ports_of b) ≡ None)
-        (left_shown : Contains (map (λ (o : Port). o.signal.0) a.outputs) s) (right_shown : Contains (map (λ (o : Port). o.signal.0) b.outputs) t) where
-      shared_long : length (shared_inputs (ports_of a) (ports_of b)) ≡ length shared
-      shared_long = ap length (sym shared_is)
+    module _ (columns : List (List ℕ)) (left_columns : AreColumns a columns left right) (right_columns : AreColumns b columns right left) (left_shown : Contains (outputs_of a) s) (right_shown : Contains (outputs_of b) t) where
+      left_input : (y : Variable ℕ) → HasLeaf y (left_tree x) → y.input < length columns
+      left_input y is_leaf = leaf_is_column a columns left right left_columns s x.left_is.depth (left_tree x) left_shown x.left_is.unfolds y is_leaf
 
-      left_input : (y : Variable ℕ) → HasLeaf y (left_tree x) → y.input < length shared
-      left_input y is_leaf =
-          subst (λ k. y.input < k) shared_long
-          (leaf_is_shared a (ports_of b) (shared_inputs (ports_of a) (ports_of b)) left right orders.left_is (λ name h. h) s x.left_is.depth (left_tree x) left_shown x.left_is.unfolds y is_leaf)
-
-      right_input : (y : Variable ℕ) → HasLeaf y (right_tree x) → y.input < length shared
-      right_input y is_leaf =
-          subst (λ k. y.input < k) shared_long
-          (leaf_is_shared b (ports_of a) (shared_inputs (ports_of a) (ports_of b)) right left orders.right_is (are_matched (ports_of a) (ports_of b) matches).inputs_back t x.right_is.depth (right_tree x) right_shown x.right_is.unfolds y is_leaf)
+      right_input : (y : Variable ℕ) → HasLeaf y (right_tree x) → y.input < length columns
+      right_input y is_leaf = leaf_is_column b columns right left right_columns t x.right_is.depth (right_tree x) right_shown x.right_is.unfolds y is_leaf
 
       left_late : (y : Variable ℕ) → HasLeaf y (left_tree x) → y.at ≤ last
       left_late y is_leaf = let h = leaf_shift (circuit_of a) left y x.left_is.unfolds is_leaf in omega (arith, h, last_is)
@@ -142,11 +140,11 @@ module _ {a b : NetView} {left right : List ℕ} {g : List Node} {places : List 
       right_late : (y : Variable ℕ) → HasLeaf y (right_tree x) → y.at ≤ last
       right_late y is_leaf = let h = leaf_shift (circuit_of b) right y x.right_is.unfolds is_leaf in omega (arith, h, last_is)
 
-      inputs_within : All (λ v. (variable_of places v).input < length shared) q.vars
-      inputs_within = All-from_each (λ v. (variable_of places v).input < length shared) q.vars (λ v h. each_variable x (λ y. y.input < length shared) left_input right_input v h)
+      inputs_within : All (λ v. (variable_of places v).input < length columns) q.vars
+      inputs_within = All-from_each (λ v. (variable_of places v).input < length columns) q.vars (λ v h. each_variable x (λ y. y.input < length columns) left_input right_input v h)
 
       -- the bits of a difference give a sequence
-      pub is_sequence : (bits : List Bool) → length bits ≡ length q.vars → IsSequence places q.vars bits last (length shared)
+      pub is_sequence : (bits : List Bool) → length bits ≡ length q.vars → IsSequence places q.vars bits last (length columns)
       is_sequence bits each = record {
         each = each;
         in_order = query_in_order x;
@@ -155,8 +153,8 @@ module _ {a b : NetView} {left right : List ℕ} {g : List Node} {places : List 
       }
 
       -- and the sequence is a witness
-      pub is_witness : (bits : List Bool) (name : List ℕ) (w : Witness) → IsDifference g q bits → IsWitnessOf g places q bits name last shared w →
-          IsWitness (circuit_of a) (circuit_of b) left right s t (length shared) w.stimulus.rows w.cycle w.left w.right
+      pub is_witness : (bits : List Bool) (name : PairName) (w : Witness) → IsDifference g q bits → IsWitnessOf g places q bits name last columns w →
+          IsWitness (circuit_of a) (circuit_of b) left right s t (length columns) w.stimulus.rows w.cycle w.left w.right
       is_witness bits name w d is = record {
         left_depth = x.left_is.depth;
         right_depth = x.right_is.depth;
@@ -167,12 +165,12 @@ module _ {a b : NetView} {left right : List ℕ} {g : List Node} {places : List 
         last_is = is.cycle_is ∙ last_is;
         variables = variables_of places q.vars;
         are_variables = are_variables x;
-        inputs = All-map (λ (y : Variable ℕ). y.input < length shared) (variable_of places) q.vars inputs_within;
+        inputs = All-map (λ (y : Variable ℕ). y.input < length columns) (variable_of places) q.vars inputs_within;
         bits = bits;
         each = d.each ∙ sym (variables_long x);
         distinguishes = trees_differ x bits d.distinguishes;
         least = λ few. least (omega (arith, few, variables_long x));
-        rows_are = is.rows_are ∙ ap (λ n. sequence_rows n (bits_at places q.vars bits) (length shared)) (sym is.cycle_is);
+        rows_are = is.rows_are ∙ ap (λ n. sequence_rows n (bits_at places q.vars bits) (length columns)) (sym is.cycle_is);
         left_value = is.left_is ∙ left_at_bits x bits;
         right_value = is.right_is ∙ right_at_bits x bits;
       }

@@ -20,7 +20,7 @@ use Rattle.cbf_unfold.proofs.Known.{unfolded_later}
 use Rattle.circuit_theory.specs.declared.Side.TheVariants.{A, B}
 use Rattle.plain_form.specs.declared.error.PlainError.{PlainError}
 use Rattle.plain_form.specs.declared.error.PlainError.TheVariants as refused
-use Rattle.plain_form.specs.declared.pairing.OutputPair.{OutputPair}
+use Rattle.plain_form.specs.declared.pairing.SignalPair.{SignalPair}
 use Rattle.plain_form.specs.Pairs.{IsFunctionOf, AreLight, AreTooLarge, IsRefusalOf, Unfolds, left_signals, right_signals}
 use Rattle.plain_form.proofs.Assignments.{take_next}
 
@@ -102,7 +102,7 @@ zip_from_map f R [] (z ∷ zs) h = absurd h
 zip_from_map f R (x ∷ xs) [] h = absurd h
 zip_from_map f R (x ∷ xs) (z ∷ zs) h = (h.0, zip_from_map f R xs zs h.1)
 
-module _ (a b : NetView) (left right : List ℕ) (pairs : List OutputPair) where
+module _ (a b : NetView) (left right : List ℕ) (pairs : List SignalPair) where
   no_B_A : B ≡ A → ⊥
   no_B_A e = cc
 

@@ -1,18 +1,16 @@
--- The leaves of an output's tree: shared inputs, at shifts up to the tree's depth.
-use Rattle.std.proofs.Common.{◌≡◌, ℕ, ◌+◌, ◌<◌, ◌≤◌, max, Bool, true, false, List, [], ◌∷◌, map, length, refl, sym, ◌∙◌, ap, subst, arith, inl, inr, ◌⊎◌, Some, slice_get}
-use Rattle.std.specs.Prelude.{not, ◌&&◌, ◌||◌, ◌==◌}
+-- The leaves of an output's tree: inputs with columns, at shifts up to the tree's depth.
+use Rattle.std.proofs.Common.{◌≡◌, ℕ, ◌+◌, ◌<◌, ◌≤◌, max, Bool, true, false, cond, List, [], ◌∷◌, map, length, refl, sym, ◌∙◌, ap, subst, arith, inl, inr, ◌⊎◌, Some, slice_get}
+use Rattle.std.specs.Prelude.{◌||◌, ◌==◌}
 use Rattle.std.specs.List.{Contains, filter, list_any}
 use Rattle.std.proofs.lemmas.Option.{slice_get_within}
-use Rattle.circuit_theory.specs.Names.{is_among}
 use Rattle.circuit_theory.specs.Circuit.{Circuit, Gate as gate_equation, Latch as latch_equation, Port as port_equation, Named, IsLatch, Reads}
-use Rattle.circuit_theory.specs.Interface.{Ports, is_clock, inputs_beside, AreNumbersOf}
 use Rattle.circuit_theory.specs.Tree.{Tree, Trees, Unfolds, UnfoldsAll, IsInputNumber}
 use Rattle.circuit_theory.specs.Query.{Variable, HasLeaf, HasLeafIn}
 use Rattle.circuit_theory.specs.Sizes.{Visits}
-use Rattle.circuit_theory.proofs.Lists.{Contains-cases, Contains-map, at_of, of_at}
+use Rattle.circuit_theory.proofs.Lists.{Contains-cases, Contains-head, Contains-map, Contains-tail, at_of, of_at}
 use Rattle.circuit_theory.proofs.Inputs.{test_refl}
 use Rattle.circuit_theory.proofs.LeafVisits.{leaf_visits, leaf_says, leaf_in_says}
-use Rattle.circuit_theory.proofs.Numbers.{beside_at, slice_get-map, is_among-complete}
+use Rattle.circuit_theory.proofs.Numbers.{beside_at, slice_get-map}
 use Rattle.flat_net.specs.declared.signals.Signal.{Signal}
 use Rattle.flat_net.specs.declared.parts.Port.{Port}
 use Rattle.flat_net.specs.declared.parts.Gate.{Gate}
@@ -21,7 +19,7 @@ use Rattle.flat_net.specs.View.{NetView, named, equation_of_gate, equation_of_la
 use Rattle.flat_net.proofs.Nets.{OfGate, OfLatch, equation_from}
 use Rattle.flat_net.proofs.Places.{one_at}
 use Rattle.sec_base.proofs.TableLemmas.{key_at}
-use Rattle.plain_form.proofs.Matched.{is_kept, Contains-filter_in}
+use Rattle.plain_form.specs.Formed.{outputs_of, AreColumns}
 
 module _ {P : Type 0} (c : Circuit P) (order : List ℕ) where
   mutual
@@ -56,6 +54,23 @@ any_passes {X} test (y ∷ xs) x h e = go (Contains-cases y x xs h) (λ k. any_p
     go : (y ≡ x) ⊎ Contains xs x → (Contains xs x → list_any test xs ≡ true) → list_any test (y ∷ xs) ≡ true
     go (inl same) later = or_left (test y) (list_any test xs) (ap test same ∙ e)
     go (inr k) later = or_right (test y) (list_any test xs) (later k)
+
+no_true_false : true ≡ false → ⊥
+no_true_false e = cc
+
+-- a test that an element passes keeps it
+Contains-filter_in : {X : Type 0} (test : X → Bool) (xs : List X) (x : X) → Contains xs x → test x ≡ true → Contains (filter test xs) x
+Contains-filter_in test [] x h e = absurd (omega (arith, h.1))
+Contains-filter_in {X} test (y ∷ xs) x h e = go (test y) refl (Contains-cases y x xs h) (λ k. Contains-filter_in test xs x k e)
+  where
+    In : Bool → Type 0
+    In b = Contains (cond b (y ∷ filter test xs) (filter test xs)) x
+
+    go : (b : Bool) → test y ≡ b → (y ≡ x) ⊎ Contains xs x → (Contains xs x → Contains (filter test xs) x) → Contains (filter test (y ∷ xs)) x
+    go true q (inl same) later = subst In (sym q) (subst (λ z. Contains (y ∷ filter test xs) z) same (Contains-head y (filter test xs)))
+    go true q (inr k) later = subst In (sym q) (Contains-tail y x (filter test xs) (later k))
+    go false q (inl same) later = absurd (no_true_false (sym e ∙ (ap test (sym same) ∙ q)))
+    go false q (inr k) later = subst In (sym q) (later k)
 
 no_port : (n : NetView) (out from : ℕ) → Contains (circuit_of n).equations (port_equation out from) → ⊥
 no_port n out from h = go (equation_from n (port_equation out from) h)
@@ -146,31 +161,22 @@ module _ (n : NetView) where
       by_visit r i (Visits.reads before (Reads.by_port eq)) e = absurd (no_port n _ _ eq)
       by_visit r i (Visits.back {name = name} before latch) e = by_latch name _ r latch e
 
-  -- an input that is read isn't left out
-  read_is_kept : (other : Ports) (k : ℕ) (port : Port) → slice_get n.inputs k ≡ Some port → is_read n port.signal ≡ true → Contains (inputs_beside (ports_of n) other) port.name
-  read_is_kept other k port at read =
+  -- an input that is read has its name among those that are read
+  read_by_name : (k : ℕ) (port : Port) → slice_get n.inputs k ≡ Some port → is_read n port.signal ≡ true → Contains (ports_of n).read port.name
+  read_by_name k port at read =
       let test = λ (p : Port). is_read n p.signal in
-      let here : Contains (filter test n.inputs) port = Contains-filter_in test n.inputs port (of_at n.inputs k port at) read in
-      let among : is_among (ports_of n).read port.name ≡ true = is_among-complete (ports_of n).read port.name (Contains-map (λ (p : Port). p.name) (filter test n.inputs) port here) in
-      Contains-filter_in (is_kept (ports_of n) other) (ports_of n).inputs port.name (Contains-map (λ (p : Port). p.name) n.inputs port (of_at n.inputs k port at)) (kept_if (is_clock other port.name) (is_among (ports_of n).read port.name) among)
-    where
-      kept_if : (t r : Bool) → r ≡ true → not (t && not r) ≡ true
-      kept_if true true e = refl
-      kept_if false true e = refl
-      kept_if true false e = e
-      kept_if false false e = refl
+      Contains-map (λ (p : Port). p.name) (filter test n.inputs) port (Contains-filter_in test n.inputs port (of_at n.inputs k port at) read)
 
-  -- so the leaves of an output's tree are shared inputs
-  pub leaf_is_shared : (other : Ports) (shared : List (List ℕ)) (order others : List ℕ) → AreNumbersOf (ports_of n).inputs shared order others →
-      ((name : List ℕ) → Contains (inputs_beside (ports_of n) other) name → Contains shared name) →
-      (s d : ℕ) (tree : Tree ℕ) → Contains (map (λ (o : Port). o.signal.0) n.outputs) s → Unfolds (circuit_of n) order s 0 d tree →
-      (y : Variable ℕ) → HasLeaf y tree → y.input < length shared
-  leaf_is_shared other shared order others numbers kept s d tree shown unfolds y is_leaf =
+  -- so the leaves of an output's tree are columns
+  pub leaf_is_column : (columns : List (List ℕ)) (order others : List ℕ) → AreColumns n columns order others →
+      (s d : ℕ) (tree : Tree ℕ) → Contains (outputs_of n) s → Unfolds (circuit_of n) order s 0 d tree →
+      (y : Variable ℕ) → HasLeaf y tree → y.input < length columns
+  leaf_is_column columns order others are s d tree shown unfolds y is_leaf =
       let visit = leaf_visits (circuit_of n) order s 0 y unfolds Visits.itself is_leaf in
       let input = input_at n order visit.0 y.input visit.1 in
       let read = visited_is_read s y.at input.port.signal shown (subst (λ q. Visits (circuit_of n) s 0 q y.at) (sym input.place) visit.2) in
-      let at = at_of shared input.port.name (kept input.port.name (read_is_kept other input.k input.port input.at read)) in
+      let at = at_of columns input.port.name (are.read input.port.name (read_by_name input.k input.port input.at read)) in
       let own : slice_get (ports_of n).inputs input.k ≡ Some input.port.name = slice_get-map (λ (p : Port). p.name) n.inputs input.k input.port input.at in
-      let common : slice_get order input.k ≡ Some at.0 = numbers.common input.k at.0 input.port.name own at.1 in
+      let common : slice_get order input.k ≡ Some at.0 = are.numbers.common input.k at.0 input.port.name own at.1 in
       let same : at.0 ≡ y.input = one_at order input.k at.0 y.input common input.number in
-      subst (λ i. i < length shared) same (slice_get_within shared at.0 input.port.name at.1)
+      subst (λ i. i < length columns) same (slice_get_within columns at.0 input.port.name at.1)

@@ -1,8 +1,6 @@
 pub mod Assignments
 pub mod MergeLists
-pub mod Matched
 pub mod Leaves
-pub mod OutputNames
 pub mod Reading
 pub mod Growing
 pub mod Rows

@@ -18,6 +18,7 @@ use Rattle.flat_net.proofs.Places.{All-at}
 use Rattle.aig.specs.declared.node.Node.{Node}
 use Rattle.pair_decide.specs.declared.query.Query.{Query}
 use Rattle.pair_decide.specs.Queries.{assigned_to}
+use Rattle.witness_report.specs.declared.witness.PairName.{PairName}
 use Rattle.witness_report.specs.declared.witness.Witness.{Witness}
 use Rattle.plain_form.specs.Variables.{variable_of, variables_of, GoesBefore}
 use Rattle.plain_form.specs.Sequences.{bits_at, IsSequence, EndsShift, IsWitnessOf, IsFirstOf}
@@ -219,7 +220,7 @@ rows_fit last a count cycle (suc cycles) =
     All-cons (λ row. length row ≡ count) (sequence_row last a cycle 0 count) (sequence_rows_from last a count (suc cycle) cycles) (row_long last a cycle 0 count) (rows_fit last a count (suc cycle) cycles)
 
 -- the first sequence is the one that was made
-pub first_made : (g : List Node) (places : List (ℕ × ℕ)) (q : Query) (name : List ℕ) (last : ℕ) (names : List (List ℕ)) (first : Option Witness) (bits : Option (List Bool)) (made : List Bool) (w : Witness) → is_some first ≡ false → bits ≡ Some made →
+pub first_made : (g : List Node) (places : List (ℕ × ℕ)) (q : Query) (name : PairName) (last : ℕ) (names : List (List ℕ)) (first : Option Witness) (bits : Option (List Bool)) (made : List Bool) (w : Witness) → is_some first ≡ false → bits ≡ Some made →
     IsWitnessOf g places q made name last names w → IsFirstOf g places q name last names first bits (Some w)
 first_made g places q name last names None bits made w none is h = subst (λ (o : Option (List Bool)). IsFirstOf g places q name last names None o (Some w)) (sym is) (w, refl, h)
 first_made g places q name last names (Some v) bits made w none is h = absurd (no none)

@@ -1,5 +1,5 @@
 -- What it means that what is found of some pairs fits two circuits, in the plain form.
-use Rattle.std.specs.Prelude.{◌≡◌, ◌≢◌, ℕ, ◌<◌, max, Bool, true, false, List, [], ◌∷◌, ◌++◌, length, Option, Some, None, slice_get, fold}
+use Rattle.std.specs.Prelude.{◌≡◌, ◌≢◌, ℕ, ◌<◌, max, Bool, true, false, List, ◌++◌, length, Option, Some, None, slice_get, fold}
 use Rattle.std.specs.List.{All, AllZip, filter_map}
 use Rattle.circuit_theory.specs.Circuit.{Circuit}
 use Rattle.circuit_theory.specs.Agree.{place_named, latch_named, second_of_pair}

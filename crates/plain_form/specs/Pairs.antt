@@ -1,26 +1,17 @@
--- Pairs of outputs of one name, and their functions on one graph and table.
-use Rattle.std.specs.Prelude.{◌≡◌, ℕ, ◌≤◌, List, map, Result, Ok, Err, Some}
+-- The functions of pairs of signals, on one graph and table.
+use Rattle.std.specs.Prelude.{◌≡◌, ℕ, ◌≤◌, List, map, Result, Ok, Err}
 use Rattle.std.specs.List.{AllZip}
 use Rattle.circuit_theory.specs.declared.Side.{Side}
 use Rattle.circuit_theory.specs.declared.Side.TheVariants.{A, B}
-use Rattle.circuit_theory.specs.Agree.{place_named}
-use Rattle.circuit_theory.specs.Fits.{IsPairDepth}
 use Rattle.circuit_theory.specs.Sizes.{IsWeight, IsOver}
-use Rattle.flat_net.specs.declared.parts.Port.{Port}
 use Rattle.flat_net.specs.View.{NetView, circuit_of}
 use Rattle.aig.specs.declared.node.Node.{Node}
 use Rattle.cbf_unfold.specs.declared.unfolder.Unfolded.{Unfolded}
 use Rattle.cbf_unfold.specs.Unfolded.{IsUnfolded}
 use Rattle.plain_form.specs.declared.error.PlainError.{PlainError}
 use Rattle.plain_form.specs.declared.error.PlainError.TheVariants as refused
-use Rattle.plain_form.specs.declared.pairing.OutputPair.{OutputPair}
+use Rattle.plain_form.specs.declared.pairing.SignalPair.{SignalPair}
 use Rattle.plain_form.specs.declared.unfolding.Functions.{Functions}
-
--- an output of A and B's output of its name, with the greater of their depths
-pub record IsOutputPair (a b : NetView) (port : Port) (pair : OutputPair) : Type 0 where
-  pub left_is : pair.left ≡ port.signal
-  pub right_is : place_named (circuit_of b).outputs port.name ≡ Some pair.right.0
-  pub size_is : IsPairDepth (circuit_of a) (circuit_of b) pair.left.0 pair.right.0 pair.size
 
 -- the unfoldings of these signals weigh at most 2,000,000 together
 abbrev pub AreLight : NetView → List ℕ → Type 0
@@ -35,23 +26,23 @@ abbrev pub IsRefusalOf : Side → NetView → List ℕ → PlainError → Type 0
 IsRefusalOf side n signals (refused.TooLarge other) = (other ≡ side) × AreTooLarge n signals
 IsRefusalOf side n signals refused.NoMemory = Unit {0}
 
-abbrev pub left_signals : List OutputPair → List ℕ
-left_signals pairs = map (λ (p : OutputPair). p.left.0) pairs
+abbrev pub left_signals : List SignalPair → List ℕ
+left_signals pairs = map (λ (p : SignalPair). p.left.0) pairs
 
-abbrev pub right_signals : List OutputPair → List ℕ
-right_signals pairs = map (λ (p : OutputPair). p.right.0) pairs
+abbrev pub right_signals : List SignalPair → List ℕ
+right_signals pairs = map (λ (p : SignalPair). p.right.0) pairs
 
 -- the literal and the variables are the signal's function
 abbrev pub IsFunctionOf : NetView → List ℕ → List Node → List (ℕ × ℕ) → ℕ → Unfolded → Type 0
 IsFunctionOf n order g places s u = IsUnfolded n order g places s u.lit.0 u.vars
 
 -- both functions of each pair, on one graph and table
-pub record AreFunctions (a b : NetView) (left right : List ℕ) (pairs : List OutputPair) (f : Functions) : Type 0 where
-  pub left_are : AllZip (λ (p : OutputPair) u. IsFunctionOf a left f.aig f.places p.left.0 u) pairs f.left.items
-  pub right_are : AllZip (λ (p : OutputPair) u. IsFunctionOf b right f.aig f.places p.right.0 u) pairs f.right.items
+pub record AreFunctions (a b : NetView) (left right : List ℕ) (pairs : List SignalPair) (f : Functions) : Type 0 where
+  pub left_are : AllZip (λ (p : SignalPair) u. IsFunctionOf a left f.aig f.places p.left.0 u) pairs f.left.items
+  pub right_are : AllZip (λ (p : SignalPair) u. IsFunctionOf b right f.aig f.places p.right.0 u) pairs f.right.items
 
 -- the functions of the pairs, or the first circuit whose outputs weigh too much
-abbrev pub Unfolds : NetView → NetView → List ℕ → List ℕ → List OutputPair → Result Functions PlainError → Type 0
+abbrev pub Unfolds : NetView → NetView → List ℕ → List ℕ → List SignalPair → Result Functions PlainError → Type 0
 Unfolds a b left right pairs (Ok f) = AreLight a (left_signals pairs) × AreLight b (right_signals pairs) × AreFunctions a b left right pairs f
 Unfolds a b left right pairs (Err (refused.TooLarge A)) = AreTooLarge a (left_signals pairs)
 Unfolds a b left right pairs (Err (refused.TooLarge B)) = AreLight a (left_signals pairs) × AreTooLarge b (right_signals pairs)

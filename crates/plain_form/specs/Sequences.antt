@@ -7,7 +7,7 @@ use Rattle.aig.specs.declared.node.Node.{Node}
 use Rattle.aig.specs.Values.{value}
 use Rattle.pair_decide.specs.declared.query.Query.{Query}
 use Rattle.pair_decide.specs.Queries.{assigned_to}
-use Rattle.witness_report.specs.declared.witness.PairName.TheVariants as pair
+use Rattle.witness_report.specs.declared.witness.PairName.{PairName}
 use Rattle.witness_report.specs.declared.witness.Witness.{Witness}
 use Rattle.plain_form.specs.Variables.{variable_of, variables_of, AreInOrder}
 
@@ -30,8 +30,8 @@ pub record EndsShift (places : List (ℕ × ℕ)) (vars : List ℕ) (from shift 
   pub next : (v : ℕ) → slice_get vars to ≡ Some v → (variable_of places v).at ≢ shift
 
 -- the sequence that ends in a cycle, over the inputs of these names, with the values of both sides
-pub record IsWitnessOf (g : List Node) (places : List (ℕ × ℕ)) (q : Query) (bits : List Bool) (name : List ℕ) (last : ℕ) (names : List (List ℕ)) (w : Witness) : Type 0 where
-  pub pair_is : w.pair ≡ pair.Output name
+pub record IsWitnessOf (g : List Node) (places : List (ℕ × ℕ)) (q : Query) (bits : List Bool) (name : PairName) (last : ℕ) (names : List (List ℕ)) (w : Witness) : Type 0 where
+  pub pair_is : w.pair ≡ name
   pub cycle_is : w.cycle ≡ last
   pub left_is : w.left ≡ value g (assigned_to q.vars bits) q.left.0
   pub right_is : w.right ≡ value g (assigned_to q.vars bits) q.right.0
@@ -39,7 +39,7 @@ pub record IsWitnessOf (g : List Node) (places : List (ℕ × ℕ)) (q : Query) 
   pub rows_are : w.stimulus.rows ≡ sequence_rows last (bits_at places q.vars bits) (length names)
 
 -- the sequence that there is already, or else that of the bits, if there are some
-abbrev pub IsFirstOf : List Node → List (ℕ × ℕ) → Query → List ℕ → ℕ → List (List ℕ) → Option Witness → Option (List Bool) → Option Witness → Type 0
+abbrev pub IsFirstOf : List Node → List (ℕ × ℕ) → Query → PairName → ℕ → List (List ℕ) → Option Witness → Option (List Bool) → Option Witness → Type 0
 IsFirstOf g places q name last names (Some w) bits first = first ≡ Some w
 IsFirstOf g places q name last names None None first = first ≡ None
 IsFirstOf g places q name last names None (Some bits) first = (w : Witness) × (first ≡ Some w) × IsWitnessOf g places q bits name last names w

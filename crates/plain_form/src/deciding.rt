@@ -1,48 +1,55 @@
 //! The pairs are decided, one after the other.
 
 ghost use Rattle.std.specs.Prelude.{◌≡◌, ◌≤◌, IfOk};
-ghost use Rattle.circuit_theory.specs.Interface.{first_mismatch, shared_inputs};
-ghost use Rattle.std.specs.List.{AllZip};
-ghost use Rattle.flat_net.specs.View.{ports_of};
-ghost use Rattle.plain_form.specs.Pairs.{IsOutputPair};
-ghost use Rattle.plain_form.specs.Variables.{AreInOrder, IsPairQuery};
+ghost use Rattle.sec_base.specs.Table.{AreDistinct};
+ghost use Rattle.latch_graph.specs.Graph.{IsGraphOf};
+ghost use Rattle.plain_form.specs.Formed.{IsAcyclic, ArePairsOf};
 ghost use Rattle.plain_form.specs.Found.{IsResultOf, HaveFound, HaveFunctions};
+ghost use Rattle.plain_form.specs.Outcome.{differing};
+ghost use Rattle.plain_form.specs.Variables.{AreInOrder, IsPairQuery};
 
 use crate::merging::merge_variables;
-use crate::pairing::OutputPair;
+use crate::pairing::{SignalPair, copy_name, pair_depth};
 use crate::unfolding::Functions;
 use crate::witness::first_of;
 use aig::Lit;
 use cbf_unfold::Unfolded;
 use flat_net::Net;
+use latch_graph::LatchGraph;
 use pair_decide::{Decision, Proof, Query, decide};
-use sec_base::{Bits, NoMemory, PairAnswer, PlaceTable, Word, Words};
+use sec_base::{Bits, NoMemory, PairAnswer, PlaceTable, Words};
 use sec_outcome::{PairName, PairResult, PairResults, Witness};
 use std::alloc::Global;
 
-/// What is found of the pairs: their results, and the sequence of the first that is different.
+/// The results of the pairs, and the sequence of the first that differs.
 #[derive(Drop)]
-pub(crate) struct Findings {
+pub(crate) struct Decided {
     pub results: PairResults,
     pub first: Option<Witness>,
 }
 
-/// Decides each pair in A's order, with at most so many conflicts.
+/// Decides each pair in order, with at most so many conflicts.
 pub(crate) fn decide_pairs(
     alloc: Global,
     a: &Net,
     b: &Net,
+    left: &LatchGraph,
+    right: &LatchGraph,
     functions: &Functions,
-    pairs: &[OutputPair],
-    shared: &Words,
+    columns: &Words,
+    pairs: &[SignalPair],
+    cut: bool,
     conflicts: u32,
-) -> Result<Findings, NoMemory>
-    requires matches { first_mismatch (ports_of a.now) (ports_of b.now) ≡ None }
-    requires pairs { AllZip (IsOutputPair a.now b.now) a.now.outputs pairs.now }
-    requires functions { HaveFunctions a.now b.now pairs.now functions.now }
-    requires shared { shared.now ≡ shared_inputs (ports_of a.now) (ports_of b.now) }
+) -> Result<Decided, NoMemory>
+    requires left_graph { IsGraphOf a.now left.now }
+    requires right_graph { IsGraphOf b.now right.now }
+    requires left_acyclic { IsAcyclic a.now }
+    requires right_acyclic { IsAcyclic b.now }
+    requires functions { HaveFunctions a.now b.now columns.now pairs.now functions.now }
+    requires distinct { AreDistinct columns.now }
+    requires pairs { ArePairsOf a.now b.now pairs.now }
     requires conflicts { conflicts ≤ 200000 }
-    ensures { IfOk result (λ f. (x : HaveFunctions a.now b.now pairs.now functions.now) → HaveFound a.now b.now x.left x.right shared.now conflicts a.now.outputs f.results f.first) }
+    ensures { IfOk result (λ d. (x : HaveFunctions a.now b.now columns.now pairs.now functions.now) → HaveFound a.now b.now x.left x.right columns.now cut conflicts pairs.now d.results d.first) }
 {
     a.keeps();
     b.keeps();
@@ -50,7 +57,8 @@ pub(crate) fn decide_pairs(
     functions.places.keeps();
     let mut results = PairResults::new(alloc);
     let mut first = None;
-    for (i, output) in a.outputs().iter().enumerate() {
+    for (i, pair) in pairs.iter().enumerate() {
+        let size = pair_depth(a, b, left, right, pair.left, pair.right);
         let query = query_of(
             alloc,
             &functions.places,
@@ -58,20 +66,13 @@ pub(crate) fn decide_pairs(
             &functions.right[i],
         )?;
         let decision = decide(alloc, &functions.aig, &query, conflicts)?;
-        let (result, bits) = result_of(output.name.copy()?, pairs[i].size, decision);
+        let (result, bits) = result_of(copy_name(&pair.name)?, size, cut, decision);
         first = first_of(
-            alloc,
-            functions,
-            &query,
-            first,
-            bits,
-            &output.name,
-            pairs[i].size,
-            shared,
+            alloc, functions, &query, first, bits, &pair.name, size, columns,
         )?;
         results.push(result)?;
     }
-    Ok(Findings { results, first })
+    Ok(Decided { results, first })
 }
 
 /// Whether two functions always agree, as a query.
@@ -95,15 +96,12 @@ fn query_of(
 }
 
 /// The result of the pair of this name, and the bits of its query's variables under which the sides differ, if they do.
-fn result_of(name: Word, size: u32, decision: Decision) -> (PairResult, Option<Bits>)
-    ensures { IsResultOf name size decision result.0 result.1 }
+fn result_of(name: PairName, size: u32, cut: bool, decision: Decision) -> (PairResult, Option<Bits>)
+    ensures { IsResultOf name size cut decision result.0 result.1 }
 {
     match decision {
         Decision::Same(_) => (pair_result(name, size, PairAnswer::Equal, None), None),
-        Decision::Differs(bits) => (
-            pair_result(name, size, PairAnswer::Different, None),
-            Some(bits),
-        ),
+        Decision::Differs(bits) => (pair_result(name, size, differing(cut), None), Some(bits)),
         Decision::Limit(proof) => (
             pair_result(name, size, PairAnswer::Limit, Some(proof)),
             None,
@@ -111,11 +109,22 @@ fn result_of(name: Word, size: u32, decision: Decision) -> (PairResult, Option<B
     }
 }
 
-fn pair_result(name: Word, size: u32, answer: PairAnswer, proof: Option<Proof>) -> PairResult
-    ensures { result ≡ record { name = PairName.Output name; size = size; answer = answer; proof = proof } }
+/// How a pair is answered whose functions differ.
+fn differing(cut: bool) -> PairAnswer
+    ensures { result ≡ differing cut }
+{
+    if cut {
+        PairAnswer::NotShown
+    } else {
+        PairAnswer::Different
+    }
+}
+
+fn pair_result(name: PairName, size: u32, answer: PairAnswer, proof: Option<Proof>) -> PairResult
+    ensures { result ≡ record { name = name; size = size; answer = answer; proof = proof } }
 {
     PairResult {
-        name: PairName::Output(name),
+        name,
         size,
         answer,
         proof,

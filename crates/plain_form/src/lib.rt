@@ -1,4 +1,4 @@
-//! The plain form: the outputs of two circuits without cycles of latches as functions of the inputs at earlier cycles, pair by pair.
+//! The plain form: pairs of signals of two circuits without cycles of latches, as functions of the inputs at earlier cycles.
 #![tactic(auto)]
 
 mod comparing;

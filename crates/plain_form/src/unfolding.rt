@@ -9,7 +9,7 @@ ghost use Rattle.cbf_unfold.specs.declared.error.UnfoldError.TheVariants as unfo
 ghost use Rattle.plain_form.specs.Pairs.{IsFunctionOf, AreLight, AreTooLarge, IsRefusalOf, Unfolds, left_signals, right_signals};
 
 use crate::error::PlainError;
-use crate::pairing::OutputPair;
+use crate::pairing::SignalPair;
 use aig::Aig;
 use cbf_unfold::{UnfoldError, Unfolded, Unfolder};
 use flat_net::{Net, Signal};
@@ -17,7 +17,7 @@ use latch_graph::LatchGraph;
 use sec_base::{Ids, NoMemory, Orders, PlaceTable, Side};
 use std::alloc::Global;
 
-/// The functions of each pair's two outputs, on one graph and one table of inputs at shifts.
+/// The functions of each pair's two signals, on one graph and one table of inputs at shifts.
 #[derive(Drop)]
 pub(crate) struct Functions {
     pub aig: Aig,
@@ -34,7 +34,7 @@ pub(crate) fn unfold_pairs(
     left: &LatchGraph,
     right: &LatchGraph,
     orders: &Orders,
-    pairs: &[OutputPair],
+    pairs: &[SignalPair],
 ) -> Result<Functions, PlainError>
     requires left_order { IsOrderOf a.now orders.now.left }
     requires right_order { IsOrderOf b.now orders.now.right }
@@ -74,14 +74,14 @@ pub(crate) fn unfold_pairs(
     })
 }
 
-fn left_signals(alloc: Global, pairs: &[OutputPair]) -> Result<Vec<Signal>, NoMemory>
+fn left_signals(alloc: Global, pairs: &[SignalPair]) -> Result<Vec<Signal>, NoMemory>
     ensures { IfOk result (λ signals. signals.items ≡ map (λ p. p.left) pairs.now) }
 {
     let signals = pairs.iter().map(|pair| pair.left).collect(alloc)?;
     Ok(signals)
 }
 
-fn right_signals(alloc: Global, pairs: &[OutputPair]) -> Result<Vec<Signal>, NoMemory>
+fn right_signals(alloc: Global, pairs: &[SignalPair]) -> Result<Vec<Signal>, NoMemory>
     ensures { IfOk result (λ signals. signals.items ≡ map (λ p. p.right) pairs.now) }
 {
     let signals = pairs.iter().map(|pair| pair.right).collect(alloc)?;

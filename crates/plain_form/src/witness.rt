@@ -10,10 +10,11 @@ ghost use Rattle.pair_decide.specs.Queries.{assigned_to};
 ghost use Rattle.plain_form.specs.Variables.{variable_of};
 ghost use Rattle.plain_form.specs.Sequences.{bits_at, IsSequence, IsWitnessOf, IsFirstOf, EndsShift};
 
+use crate::pairing::copy_name;
 use crate::unfolding::Functions;
 use aig::Aig;
 use pair_decide::Query;
-use sec_base::{BitRows, Bits, NoMemory, PlaceTable, Seq, Word, Words};
+use sec_base::{BitRows, Bits, NoMemory, PlaceTable, Seq, Words};
 use sec_outcome::{PairName, Stimulus, Witness};
 use std::alloc::Global;
 
@@ -24,7 +25,7 @@ pub(crate) fn first_of(
     query: &Query,
     first: Option<Witness>,
     bits: Option<Bits>,
-    name: &Word,
+    name: &PairName,
     last: u32,
     names: &Words,
 ) -> Result<Option<Witness>, NoMemory>
@@ -53,7 +54,7 @@ fn witness_of(
     functions: &Functions,
     query: &Query,
     bits: &Bits,
-    name: &Word,
+    name: &PairName,
     last: u32,
     names: &Words,
 ) -> Result<Witness, NoMemory>
@@ -74,7 +75,7 @@ fn witness_of(
     let right = aig.value(query.right, assignment.as_slice(), scratch.as_mut_slice());
     let names = names.copy()?;
     Ok(Witness {
-        pair: PairName::Output(name.copy()?),
+        pair: copy_name(name)?,
         cycle: last,
         left,
         right,

@@ -4,16 +4,16 @@ use Rattle.std.specs.List.{AllZip}
 use Rattle.circuit_theory.proofs.Lists.{map-map}
 use Rattle.flat_net.specs.declared.signals.Signal.{Signal}
 use Rattle.cbf_unfold.specs.declared.unfolder.Unfolded.{Unfolded}
-use Rattle.plain_form.specs.declared.pairing.OutputPair.{OutputPair}
+use Rattle.plain_form.specs.declared.pairing.SignalPair.{SignalPair}
 use Rattle.plain_form.specs.Pairs.{IsFunctionOf, AreLight, Unfolds, left_signals, right_signals}
 use Rattle.plain_form.proofs.Growing.{functions_later, numbers_of, within_from, zip_from_map, refused_left, refused_right}
 use Rattle.plain_form.proofs.unfolding.unfold_pairs.Goals as goal
 
-lefts : (pairs : List OutputPair) (signals : List Signal) → signals ≡ map (λ (p : OutputPair). p.left) pairs → numbers_of signals ≡ left_signals pairs
-lefts pairs signals e = ap numbers_of e ∙ map-map (λ (s : Signal). s.0) (λ (p : OutputPair). p.left) pairs
+lefts : (pairs : List SignalPair) (signals : List Signal) → signals ≡ map (λ (p : SignalPair). p.left) pairs → numbers_of signals ≡ left_signals pairs
+lefts pairs signals e = ap numbers_of e ∙ map-map (λ (s : Signal). s.0) (λ (p : SignalPair). p.left) pairs
 
-rights : (pairs : List OutputPair) (signals : List Signal) → signals ≡ map (λ (p : OutputPair). p.right) pairs → numbers_of signals ≡ right_signals pairs
-rights pairs signals e = ap numbers_of e ∙ map-map (λ (s : Signal). s.0) (λ (p : OutputPair). p.right) pairs
+rights : (pairs : List SignalPair) (signals : List Signal) → signals ≡ map (λ (p : SignalPair). p.right) pairs → numbers_of signals ≡ right_signals pairs
+rights pairs signals e = ap numbers_of e ∙ map-map (λ (s : Signal). s.0) (λ (p : SignalPair). p.right) pairs
 
 pub unfold_side-requires-clause-signals : goal.unfold_side-requires-clause-signals
 unfold_side-requires-clause-signals c = within_from c.as_slice.result.now (left_signals c.args.pairs.now) _ (lefts c.args.pairs.now c.as_slice.result.now (c.as_slice.ensures.value ∙ c.in_ok-signals.ensures)) c.requires.left
@@ -54,11 +54,11 @@ returns c =
       subst (AreLight b) (rights pairs c.as_slice-2.result.now right_list) c.in_ok-right.ensures.light,
       record {
         left_are =
-            zip_from_map (λ (p : OutputPair). p.left) (λ (s : Signal) (u : Unfolded). IsFunctionOf a left_order g places s.0 u) pairs c.in_ok-left.left.items
+            zip_from_map (λ (p : SignalPair). p.left) (λ (s : Signal) (u : Unfolded). IsFunctionOf a left_order g places s.0 u) pairs c.in_ok-left.left.items
             (subst (λ (ss : List Signal). AllZip (λ (s : Signal) (u : Unfolded). IsFunctionOf a left_order g places s.0 u) ss c.in_ok-left.left.items) left_list
             (functions_later (λ (s : Signal). s.0) a left_order c.unfold_side.new.aig g c.unfold_side.new.places places c.unfold_side-2.ensures.grows c.unfold_side-2.ensures.adds c.as_slice.result.now c.in_ok-left.left.items c.in_ok-left.ensures.unfolded));
         right_are =
-            zip_from_map (λ (p : OutputPair). p.right) (λ (s : Signal) (u : Unfolded). IsFunctionOf b right_order g places s.0 u) pairs c.in_ok-right.right.items
+            zip_from_map (λ (p : SignalPair). p.right) (λ (s : Signal) (u : Unfolded). IsFunctionOf b right_order g places s.0 u) pairs c.in_ok-right.right.items
             (subst (λ (ss : List Signal). AllZip (λ (s : Signal) (u : Unfolded). IsFunctionOf b right_order g places s.0 u) ss c.in_ok-right.right.items) right_list c.in_ok-right.ensures.unfolded);
       },
     )
