@@ -14,3 +14,4 @@ pub mod Steps
 pub mod Bytes
 pub mod Loop
 pub mod Plain
+mod Texts

@@ -12,6 +12,8 @@ mod names;
 mod open_model;
 mod reader;
 mod rows;
+#[cfg(test)]
+mod slow;
 mod statements;
 mod stop;
 #[cfg(test)]

@@ -2,6 +2,7 @@
 
 ghost use Rattle.std.specs.Prelude.{◌≤◌, length};
 
+use crate::slow::slowly_told;
 use crate::{BlifModel, Design, ReadError, ReadKind, Statement, read_design};
 use sec_base::{Edge, Init, NoMemory, Word, Words};
 use std::alloc::Global;
@@ -62,7 +63,7 @@ const ROWS: [(&str, &[u8], &[u8]); 58] = [
     (
         "pairs are split at their first equals sign",
         b".model m|.subckt g a=b=c d=e",
-        b"model m inputs outputs subckt@2 g a=b=c d=e",
+        b"model m inputs outputs subckt@2 g a = b=c d = e",
     ),
     (
         "an instance without pairs",
@@ -253,7 +254,74 @@ const ROWS: [(&str, &[u8], &[u8]); 58] = [
     ),
 ];
 
-fn put(text: &mut Vec<u8>, word: &[u8]) -> Result<(), NoMemory> {
+/// Texts that a slow reading is compared at, beside those above. `|` stands for a line feed, and `@` for 4,096 letters.
+const TEXTS: [&[u8]; 63] = [
+    b".gate\x01 a",
+    b".bar\x7f a",
+    b".model m # \x01\x7f|.inputs a # |",
+    b".model m|.inputs a\x0b",
+    b".gate and2",
+    b".model m|.end|.gate and2",
+    b".end m",
+    b".names",
+    b".model m|.model",
+    b".model @",
+    b".model @x",
+    b".model @x a",
+    b".model m|.latch d q xx @x",
+    b".model m|.inputs a a @x",
+    b".model m|.subckt @x a",
+    b".model m|.names a y|@x 1",
+    b".model m|.latch d q al c 4",
+    b".model m|.latch d q as c",
+    b".model m|.latch d q re",
+    b".model m|.latch d q 10",
+    b".model m|.latch d q fe NIL|.latch q p 3",
+    b".model m|.latch d q re c 5",
+    b".model m|.inputs a a",
+    b".model m|.inputs a|.outputs b|.model n|.inputs a|.outputs b",
+    b".model m|.outputs b|.inputs b|.outputs c b",
+    b".model m|.clock a b|.inputs a|.clock b c a",
+    b".model m|.inputs|.outputs|.clock",
+    b".model m|.model m",
+    b".model m|.model n|.end|.model n",
+    b".model m\r|.inputs a\r\r|",
+    b".model m|.inputs a\rb",
+    b".model m\r|.names y\r|1\r",
+    b"\t.model\t m \t|.inputs\ta\t",
+    b".model \xc3\xa9|.inputs \xff|.end",
+    b".model m|.inputs a \\||.outputs y",
+    b".model m|.inputs a \\|# b \\|.outputs y",
+    b".model m|.inputs a \\ # b|c|.outputs y",
+    b".model m|.inputs a\\|b",
+    b".model m|.inputs a \\ \\|b",
+    b"\\|\\|.model m|.end m",
+    b".model m|.end\\",
+    b".mod\\|el m",
+    b".model m|.names a y \\|z|1- 1",
+    b".model m|.names a b y||# x|11 1|\t|0- 1|.names y|1|1",
+    b".model m|.names y|1|1|0",
+    b".model m|.names a y|0 0|1 1",
+    b".model m|.names a b y|1- 1|2- 0",
+    b".model m|.names a y|1 1 1",
+    b".model m|.names a y|1",
+    b".model m|.names a y|- -",
+    b".model m|.names y|.end|.model n|1",
+    b".model m|.names y|.clock c|1",
+    b".model m|1 1|.names y",
+    b"1 1|.model m",
+    b".model m|.subckt g =a",
+    b".model m|.subckt g a=",
+    b".model m|.subckt a=b c==d",
+    b".model m|.subckt",
+    b".model m|.end|.end",
+    b".model m|.names2 a",
+    b".model m|.end|.end m",
+    b".model m|.names a \\|b y # \\|11 1||# 1|1- 0",
+    b".model m|.latch d q fe NIL|.end|.model n|.names y|0",
+];
+
+pub(crate) fn put(text: &mut Vec<u8>, word: &[u8]) -> Result<(), NoMemory> {
     if !text.is_empty() {
         text.push(b' ')?;
     }
@@ -348,8 +416,8 @@ fn put_statement(alloc: Global, text: &mut Vec<u8>, statement: &Statement) -> Re
             put(text, model.as_slice())?;
             for pair in pairs.as_slice() {
                 put(text, pair.formal.as_slice())?;
-                text.push(b'=')?;
-                text.extend_from_slice(pair.actual.as_slice())?;
+                put(text, b"=")?;
+                put(text, pair.actual.as_slice())?;
             }
         }
     }
@@ -430,11 +498,15 @@ fn is_text(told: &[u8], want: &[u8]) -> bool {
     told == want
 }
 
-/// The text with line feeds in place of bars.
+/// The text with line feeds in place of bars, and 4,096 letters in place of each `@`.
 fn lines_of(alloc: Global, text: &[u8]) -> Result<Vec<u8>, NoMemory> {
     let mut bytes = Vec::new(alloc);
     for byte in text {
-        bytes.push(if *byte == b'|' { b'\n' } else { *byte })?;
+        match *byte {
+            b'|' => bytes.push(b'\n')?,
+            b'@' => bytes.extend_from_slice(&[b'n'; 4_096])?,
+            other => bytes.push(other)?,
+        }
     }
     Ok(bytes)
 }
@@ -445,6 +517,18 @@ fn texts_and_what_they_spell(rt: HostRuntime) -> Result<(), Fail> {
         let bytes = lines_of(rt.alloc(), text)?;
         assert!(rt; bytes.len() <= 16_777_216);
         assert!(rt; is_text(&told(rt.alloc(), &bytes)?, want), "{name}");
+    }
+    Ok(())
+}
+
+#[test]
+fn a_slow_reading_tells_the_same(rt: HostRuntime) -> Result<(), Fail> {
+    let alloc = rt.alloc();
+    for text in ROWS.iter().map(|row| row.1).chain(TEXTS.iter().copied()) {
+        let bytes = lines_of(alloc, text)?;
+        assert!(rt; bytes.len() <= 16_777_216);
+        let slowly = slowly_told(alloc, &bytes)?;
+        assert!(rt; is_text(&told(alloc, &bytes)?, &slowly), "{text:?}");
     }
     Ok(())
 }
