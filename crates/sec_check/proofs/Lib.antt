@@ -1,9 +1,16 @@
+pub mod CutNets
+pub mod CutPairs
+pub mod DesignLatches
+pub mod DesignPlaces
 pub mod Designs
 pub mod Interfaces
 pub mod Leaves
 pub mod Loaded
+pub mod Meaning
 pub mod Numbering
 pub mod Outcomes
 pub mod Paired
+pub mod SameEquations
+pub mod Sequences
 pub mod Shared
 pub mod ToldCycles
