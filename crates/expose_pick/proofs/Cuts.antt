@@ -1,15 +1,15 @@
 -- A choice of pairs is a minimal cut of the circuits, and a cycle that is left shows that there is none.
-use Rattle.std.proofs.Common.{◌≡◌, ◌≢◌, ℕ, zero, suc, ◌+◌, ◌<◌, List, [], ◌∷◌, length, map, get_or, Some, refl, sym, ◌∙◌, ap, subst, arith, inl, inr}
-use Rattle.std.specs.Prelude.{◌⊎◌, slice_get, slice_index_or}
+use Rattle.std.proofs.Common.{◌≡◌, ℕ, zero, suc, ◌+◌, ◌<◌, List, length, get_or, Some, refl, sym, ◌∙◌, ap, subst, arith, inl, inr}
+use Rattle.std.specs.Prelude.{◌⊎◌, slice_get}
 use Rattle.std.specs.List.{All, Contains}
 use Rattle.std.proofs.lemmas.Option.{slice_get_within, slice_get-get_or, get_or_from_slice_get}
 use Rattle.std.proofs.lemmas.List.Elements.{All-contains}
 use Rattle.circuit_theory.specs.declared.Mode.TheVariants.{Plain}
-use Rattle.circuit_theory.specs.Circuit.{Circuit, Equation, Gate as gate_equation, Latch as latch_equation, Port as port_equation, IsLatch}
+use Rattle.circuit_theory.specs.Circuit.{Circuit, Latch as latch_equation, IsLatch}
 use Rattle.circuit_theory.specs.Run.{NoneEnabled}
 use Rattle.circuit_theory.specs.Depth.{LatchReads, LatchPath, HasCycle, IsCycle, after_in_round, without}
 use Rattle.circuit_theory.specs.Agree.{IsMinimalCut}
-use Rattle.circuit_theory.proofs.Lists.{map_same, map-map, Contains-map, Contains-map_from, at_of}
+use Rattle.circuit_theory.proofs.Lists.{map_same, map-map, Contains-map, Contains-map_from}
 use Rattle.circuit_theory.proofs.Designs.{map_at}
 use Rattle.circuit_theory.proofs.LawProofs.{length-map}
 use Rattle.flat_net.specs.declared.parts.LatchAt.{LatchAt}
@@ -20,7 +20,7 @@ use Rattle.flat_net.proofs.Nets.{OfGate, OfLatch, equation_from, some_at, latch_
 use Rattle.latch_graph.specs.Graph.{GraphView, IsGraphOf, signals_at}
 use Rattle.latch_graph.proofs.Trails.{after_last, after_next}
 use Rattle.expose_pick.specs.declared.pairs.LatchPair.{LatchPair}
-use Rattle.expose_pick.specs.Chosen.{IsFree, IsLeft, IsMinimalChoice, lefts, rights, at_places, names_at}
+use Rattle.expose_pick.specs.Chosen.{IsLeft, IsMinimalChoice, lefts, rights, at_places, names_at}
 use Rattle.expose_pick.specs.Laws.{HaveOneName, AreAllPairs}
 use Rattle.expose_pick.proofs.Removed.{cycle_fewer}
 

@@ -16,7 +16,7 @@ use Rattle.circuit_theory.proofs.Sums.{same_or_not}
 use Rattle.latch_graph.specs.declared.nodes.Node.{Node}
 use Rattle.latch_graph.proofs.Tables.{set_same, set_other, set_cases}
 use Rattle.expose_pick.specs.declared.marks.Direction.{Direction}
-use Rattle.expose_pick.specs.declared.marks.Direction.TheVariants.{Back, Ahead}
+use Rattle.expose_pick.specs.declared.marks.Direction.TheVariants.{Back}
 use Rattle.expose_pick.specs.declared.marks.Mark.{Mark}
 use Rattle.expose_pick.specs.declared.marks.Mark.TheVariants.{Out, Met}
 use Rattle.expose_pick.specs.Readers.{WayBack}

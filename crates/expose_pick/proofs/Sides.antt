@@ -1,18 +1,15 @@
 -- One graph while its latches are tried in turn.
-use Rattle.std.proofs.Common.{◌≡◌, ◌≢◌, ℕ, zero, suc, ◌+◌, ◌<◌, ◌≤◌, Bool, true, false, List, [], ◌∷◌, ◌++◌, length, map, get_or, Option, Some, refl, sym, ◌∙◌, ap, subst, arith, inl, inr}
-use Rattle.std.specs.Prelude.{◌⊎◌, slice_get, if◌then◌else◌}
+use Rattle.std.proofs.Common.{◌≡◌, ◌≢◌, ℕ, ◌+◌, ◌<◌, ◌≤◌, Bool, true, false, List, [], ◌∷◌, ◌++◌, length, get_or, Option, Some, refl, sym, ◌∙◌, ap, subst, arith, inl, inr}
+use Rattle.std.specs.Prelude.{◌⊎◌, slice_get}
 use Rattle.std.specs.List.{All, Contains}
 use Rattle.std.proofs.lemmas.Option.{slice_get_within, slice_get-get_or, get_or_from_slice_get}
 use Rattle.std.proofs.lemmas.List.Elements.{All-contains, Contains-append_left, Contains-append_right}
-use Rattle.circuit_theory.specs.Run.{NoneEnabled}
-use Rattle.circuit_theory.specs.Depth.{HasCycle, without}
-use Rattle.circuit_theory.proofs.Lists.{Contains-head, Contains-map, Contains-map_from, at_of, of_at}
-use Rattle.circuit_theory.proofs.Designs.{map_at}
+use Rattle.circuit_theory.proofs.Lists.{Contains-head, Contains-map_from, at_of}
 use Rattle.circuit_theory.proofs.Sums.{same_or_not}
 use Rattle.sec_base.specs.Table.{AreDistinct}
 use Rattle.flat_net.specs.declared.parts.LatchAt.{LatchAt}
 use Rattle.flat_net.specs.declared.parts.Driver.TheVariants as driver
-use Rattle.flat_net.specs.View.{NetView, circuit_of}
+use Rattle.flat_net.specs.View.{NetView}
 use Rattle.flat_net.specs.Cut.{no_latch}
 use Rattle.flat_net.proofs.Places.{one_at, All-at}
 use Rattle.flat_net.proofs.Growth.{slice_get-push_cases}
@@ -22,13 +19,13 @@ use Rattle.expose_pick.specs.declared.marks.Direction.{Direction}
 use Rattle.expose_pick.specs.declared.marks.Direction.TheVariants.{Back}
 use Rattle.expose_pick.specs.declared.marks.Mark.{Mark}
 use Rattle.expose_pick.specs.declared.marks.Mark.TheVariants.{Out, Met}
-use Rattle.expose_pick.specs.Chosen.{IsFree, at_places, names_at}
+use Rattle.expose_pick.specs.Chosen.{IsFree, names_at}
 use Rattle.expose_pick.specs.Readers.{WayBack}
 use Rattle.expose_pick.specs.Marks.{IsBlocked, AreMarks, AreFirst, IsTried, signal_of}
 use Rattle.expose_pick.specs.Trying.{IsSide}
 use Rattle.expose_pick.proofs.WayLemmas.{way_map, still_free}
 use Rattle.expose_pick.proofs.Marking.{out_met, met_same}
-use Rattle.expose_pick.proofs.Edges.{IsRing, cycle_ring, ring_cycle}
+use Rattle.expose_pick.proofs.Edges.{ring_cycle}
 
 -- the latch at a position
 pub latch_of : (latches : List LatchAt) (j : ℕ) → j < length latches → slice_get latches j ≡ Some (get_or latches j no_latch)

@@ -1,5 +1,5 @@
 -- Both graphs while pairs of latches are tried in turn, and what is chosen at the end.
-use Rattle.std.proofs.Common.{◌≡◌, ◌≢◌, ℕ, zero, suc, ◌+◌, ◌<◌, ◌≤◌, Bool, true, false, List, [], ◌∷◌, ◌++◌, length, map, get_or, Option, Some, refl, sym, ◌∙◌, ap, subst, arith, inl, inr}
+use Rattle.std.proofs.Common.{◌≡◌, ◌≢◌, ℕ, zero, suc, ◌+◌, ◌<◌, ◌≤◌, Bool, true, false, List, [], ◌∷◌, ◌++◌, length, map, get_or, Some, refl, sym, ◌∙◌, ap, subst, arith, inl, inr}
 use Rattle.std.specs.Prelude.{◌⊎◌, ◌||◌, slice_get, if◌then◌else◌}
 use Rattle.std.specs.List.{All, Contains}
 use Rattle.std.proofs.Math.ListN.{set}
@@ -7,7 +7,7 @@ use Rattle.std.proofs.lemmas.Option.{slice_get_within, slice_get-get_or, get_or_
 use Rattle.std.proofs.lemmas.Bool.{cases_order}
 use Rattle.circuit_theory.specs.Run.{NoneEnabled}
 use Rattle.circuit_theory.specs.Depth.{HasCycle, without}
-use Rattle.circuit_theory.proofs.Lists.{Contains-cases, Contains-map, at_of, of_at}
+use Rattle.circuit_theory.proofs.Lists.{Contains-cases, Contains-map, at_of}
 use Rattle.circuit_theory.proofs.Designs.{map_at}
 use Rattle.circuit_theory.proofs.LawProofs.{length-map}
 use Rattle.sec_base.specs.Table.{AreDistinct}
@@ -29,7 +29,7 @@ use Rattle.expose_pick.specs.Trying.{IsField, IsSide, IsNeeded, AreTried}
 use Rattle.expose_pick.proofs.WayLemmas.{way_map}
 use Rattle.expose_pick.proofs.Marking.{tried_if, marks_if, way_but}
 use Rattle.expose_pick.proofs.Edges.{cycle_ring, ring_cycle}
-use Rattle.expose_pick.proofs.Sides.{latch_of, signal_is, one_signal, signal_within, one_name, side_first, side_exposed, side_back, blocked_before}
+use Rattle.expose_pick.proofs.Sides.{latch_of, signal_is, one_signal, signal_within, one_name, side_exposed, side_back, blocked_before}
 
 -- positions that are distinct are fewer than signals
 pub few_positions : (g : GraphView) → AreNodes g.nodes g.latches → (positions : List ℕ) → All (λ j. j < length g.latches) positions → AreDistinct positions → length positions ≤ length g.nodes

@@ -17,7 +17,7 @@ use Rattle.expose_pick.specs.Readers.{NodeReads, WayBack, AreReaders}
 use Rattle.expose_pick.specs.Marks.{IsBlocked, AreMarks}
 use Rattle.expose_pick.specs.Walk.{other_way, IsOlder, IsLater, IsPassed, IsMet, IsWalk, IsGoing, HasMet, Adds, Meets, unseen_count}
 use Rattle.expose_pick.proofs.WayLemmas.{way_then, way_more, way_ahead, way_behind}
-use Rattle.expose_pick.proofs.Marking.{way_along, met_same, met_free, later_refl, later-set, later_same, later_table, marks-back, met_stays, other_were, unseen-met}
+use Rattle.expose_pick.proofs.Marking.{way_along, met_free, later_refl, later-set, later_same, later_table, marks-back, met_stays, other_were, unseen-met}
 
 -- what the other walk has met in this turn, where a direction isn't this one
 not_way : (way other : Direction) → (way ≡ other → ⊥) → other ≡ other_way way

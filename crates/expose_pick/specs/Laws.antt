@@ -1,5 +1,5 @@
 -- What a choice, or a refusal, means for the circuits.
-use Rattle.std.specs.Prelude.{◌≡◌, ℕ, ◌<◌, ◌⊎◌, List, length, map, slice_get, slice_index_or, Some, All, Contains}
+use Rattle.std.specs.Prelude.{◌≡◌, ℕ, ◌<◌, List, length, slice_get, slice_index_or, Some, All, Contains}
 use Rattle.circuit_theory.specs.declared.Mode.TheVariants.{Plain}
 use Rattle.circuit_theory.specs.Agree.{IsMinimalCut}
 use Rattle.flat_net.specs.declared.parts.LatchAt.{LatchAt}

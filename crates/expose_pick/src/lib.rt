@@ -9,6 +9,8 @@ mod pairs;
 mod picking;
 mod readers;
 mod remaining;
+#[cfg(test)]
+mod tests;
 mod trying;
 mod walking;
 

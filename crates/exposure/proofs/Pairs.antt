@@ -1,7 +1,7 @@
 -- The latches that two circuits have under one name, one after the other.
 use Rattle.std.proofs.Common.{◌≡◌, ◌≢◌, ◌+◌, ◌<◌, ◌∙◌, ℕ, Bool, true, false, cond, List, [], ◌∷◌, ◌++◌, length, map, take, get_or, slice_get, Option, Some, None, refl, sym, ap, subst, arith}
 use Rattle.std.specs.Prelude.{IsSomeAnd}
-use Rattle.std.specs.List.{All, AllPairs, Contains, filter}
+use Rattle.std.specs.List.{All, Contains, filter}
 use Rattle.std.proofs.Math.Seq.{take-length}
 use Rattle.std.proofs.lemmas.List.{append-nil, map-append, take_more}
 use Rattle.std.proofs.lemmas.List.Elements.{filter-append, All-push, All-get_or, All-nil}
@@ -20,7 +20,7 @@ use Rattle.flat_net.specs.Cut.{no_latch, latch_at, exposed_names}
 use Rattle.flat_net.proofs.Places.{All-at}
 use Rattle.expose_pick.specs.declared.pairs.LatchPair.{LatchPair}
 use Rattle.expose_pick.specs.Chosen.{lefts}
-use Rattle.exposure.specs.Common.{common_names, HaveOneName, AreCommonUpTo, AreCommon}
+use Rattle.exposure.specs.Common.{HaveOneName, AreCommonUpTo, AreCommon}
 
 -- the names of a net's latches
 abbrev name_of : LatchAt → List ℕ

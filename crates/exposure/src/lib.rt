@@ -4,5 +4,7 @@
 
 mod exposing;
 mod pairing;
+#[cfg(test)]
+mod tests;
 
 pub use exposing::{ExposeError, Exposure, expose};

@@ -1,10 +1,9 @@
 -- One latch more is taken out.
-use Rattle.std.proofs.Common.{◌≡◌, ◌<◌, ◌+◌, ◌∙◌, length, get_or, refl, sym, ap, subst, arith}
+use Rattle.std.proofs.Common.{◌≡◌, ◌+◌, ◌∙◌, length, get_or, refl, sym, ap, subst, arith}
 use Rattle.std.proofs.Math.ListN.{set}
 use Rattle.std.proofs.lemmas.Option.{slice_get-get_or, slice_get_read, get_or_from_slice_get}
 use Rattle.flat_net.specs.declared.parts.LatchAt.{LatchAt}
 use Rattle.flat_net.specs.Cut.{no_latch}
-use Rattle.expose_pick.specs.declared.marks.Mark.{Mark}
 use Rattle.expose_pick.specs.declared.marks.Mark.TheVariants.{Out}
 use Rattle.expose_pick.specs.Marks.{AreFirst, signal_of}
 use Rattle.expose_pick.proofs.Marking.{first_none, first_more}

@@ -1,4 +1,3 @@
-use Rattle.std.proofs.Common.{◌≡◌, length}
 use Rattle.expose_pick.specs.Marks.{AreFirst}
 use Rattle.expose_pick.proofs.marks.mark_out.Given as goal
 

@@ -1,4 +1,4 @@
-use Rattle.std.proofs.Common.{◌≡◌, length, ap, ◌∙◌}
+use Rattle.std.proofs.Common.{length, ap, ◌∙◌}
 use Rattle.expose_pick.proofs.Removed.{none_left, some_left}
 use Rattle.expose_pick.proofs.remaining.cycle_left.Goals as goal
 

@@ -1,4 +1,4 @@
-use Rattle.std.proofs.Common.{◌<◌, length, get_or, arith}
+use Rattle.std.proofs.Common.{arith}
 use Rattle.std.proofs.lemmas.Option.{slice_get-get_or}
 use Rattle.expose_pick.proofs.Marking.{bits_none, bits_more}
 use Rattle.expose_pick.proofs.remaining.set_all.Goals as goal

@@ -1,5 +1,5 @@
 -- One pair more is tried.
-use Rattle.std.proofs.Common.{◌≡◌, ◌<◌, Bool, length, get_or, sym, ap, ◌∙◌, arith}
+use Rattle.std.proofs.Common.{◌≡◌, ◌<◌, length, get_or, sym, ap, ◌∙◌, arith}
 use Rattle.std.specs.Prelude.{◌||◌}
 use Rattle.std.proofs.lemmas.Option.{slice_get-get_or}
 use Rattle.flat_net.proofs.Places.{All-at}

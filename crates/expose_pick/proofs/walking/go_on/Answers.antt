@@ -1,5 +1,5 @@
 -- One reading more.
-use Rattle.std.proofs.Common.{◌≡◌, ◌<◌, ◌≤◌, ◌+◌, List, Bool, length, get_or, Some, refl, sym, subst, arith}
+use Rattle.std.proofs.Common.{◌≡◌, List, Bool, length, get_or, Some, refl, subst, arith}
 use Rattle.std.specs.Prelude.{slice_get}
 use Rattle.std.proofs.lemmas.Option.{slice_get-get_or, slice_get_read}
 use Rattle.flat_net.specs.declared.signals.Signal.{Signal}

@@ -1,4 +1,4 @@
-use Rattle.std.proofs.Common.{◌≡◌, ◌∙◌, ℕ, List, sym, ap, subst}
+use Rattle.std.proofs.Common.{◌≡◌, ◌∙◌, ℕ, List, ap, subst}
 use Rattle.circuit_theory.specs.declared.Side.{Side}
 use Rattle.circuit_theory.specs.declared.Side.TheVariants.{A, B}
 use Rattle.flat_net.specs.View.{circuit_of}
@@ -8,7 +8,7 @@ use Rattle.expose_pick.specs.declared.error.PickError.{PickError}
 use Rattle.expose_pick.specs.declared.error.PickError.TheVariants as pick_error
 use Rattle.exposure.specs.Common.{common_names}
 use Rattle.expose_pick.specs.declared.pairs.LatchPair.{LatchPair}
-use Rattle.expose_pick.specs.Chosen.{IsMinimalChoice, IsFree, IsLeft, lefts, rights, at_places}
+use Rattle.expose_pick.specs.Chosen.{lefts, rights, at_places}
 use Rattle.expose_pick.specs.Refused.{Refuses}
 use Rattle.exposure.proofs.Exposures.{right_once, left_common, right_common, left_free, exposed}
 use Rattle.exposure.proofs.ToldCycles.{told_cycle}

@@ -1,7 +1,6 @@
-use Rattle.std.proofs.Common.{◌≡◌, ◌≢◌, ◌<◌, ◌≤◌, ◌+◌, ◌∷◌, [], ◌++◌, ◌∙◌, ℕ, List, length, Some, sym, ap, subst, arith}
+use Rattle.std.proofs.Common.{◌≡◌, ◌≢◌, ◌<◌, ◌+◌, ◌∙◌, ℕ, List, length, sym, ap, subst, arith}
 use Rattle.std.specs.List.{All}
 use Rattle.flat_net.specs.declared.parts.LatchAt.{LatchAt}
-use Rattle.expose_pick.specs.declared.pairs.LatchPair.{LatchPair}
 use Rattle.exposure.specs.Common.{AreCommonUpTo}
 use Rattle.exposure.proofs.Pairs.{common_same, common_more, common_all, own_name, some_named}
 use Rattle.exposure.proofs.pairing.common_pairs.Goals as goal
