@@ -1,12 +1,12 @@
+pub mod Columns
 pub mod CutNets
 pub mod CutPairs
-pub mod DesignLatches
-pub mod DesignPlaces
 pub mod Designs
 pub mod Interfaces
 pub mod Leaves
 pub mod Loaded
 pub mod Meaning
+pub mod NamedPairs
 pub mod Numbering
 pub mod Outcomes
 pub mod Paired
@@ -14,3 +14,6 @@ pub mod SameEquations
 pub mod Sequences
 pub mod Shared
 pub mod ToldCycles
+pub mod Uncut
+pub mod DesignLatches
+pub mod DesignPlaces

@@ -5,6 +5,8 @@ use Rattle.circuit_theory.proofs.LawProofs.{length-map}
 use Rattle.flat_net.specs.declared.parts.Port.{Port}
 use Rattle.flat_net.specs.View.{NetView, ports_of}
 use Rattle.flat_net.specs.Sound.{IsSound}
+use Rattle.sec_base.specs.declared.basics.Orders.{Orders}
+use Rattle.sec_check.specs.Choosing.{AreNumbered}
 use Rattle.sec_check.specs.Compared.{InterfaceFails, RefusesName}
 use Rattle.sec_check.specs.declared.comparing.CompareError.{CompareError}
 use Rattle.sec_check.specs.declared.comparing.CompareError.TheVariants as refused
@@ -185,18 +187,23 @@ inputs_once n sound i j name hi hj =
     let q = from_map (λ (p : Port). p.name) n.inputs j name hj in
     name_once n sound i j p.0 q.0 p.1 q.1 (p.2 ∙ sym q.2)
 
--- the numbers of both circuits are their orders
-pub orders_from : (a b : NetView) → IsSound a → IsSound b → (shared : List (List ℕ)) → AreDistinct shared → shared ≡ shared_inputs (ports_of a) (ports_of b) → (middle end : ℕ) (left right : List ℕ) →
-    AreNumbers (map (λ (p : Port). p.name) a.inputs) shared (length shared) middle left → AreNumbers (map (λ (p : Port). p.name) b.inputs) shared middle end right →
-    AreOrders (ports_of a) (ports_of b) left right
-orders_from a b sa sb shared once is middle end left right la rb =
-    let above : length shared ≤ middle = la.ordered in
+-- the numbers of both circuits, one after the other
+pub numbered_from : (a b : NetView) → IsSound a → IsSound b → (columns : List (List ℕ)) → AreDistinct columns → (middle end : ℕ) (o : Orders) →
+    AreNumbers (map (λ (p : Port). p.name) a.inputs) columns (length columns) middle o.left → AreNumbers (map (λ (p : Port). p.name) b.inputs) columns middle end o.right →
+    AreNumbered a b columns o
+numbered_from a b sa sb columns once middle end o la rb =
+    let above : length columns ≤ middle = la.ordered in
     record {
-      left_is = subst (λ (ns : List (List ℕ)). AreNumbersOf (ports_of a).inputs ns left right) is
-          (numbers_of_one (ports_of a).inputs (ports_of b).inputs shared (length shared) middle middle end left right (inputs_once a sa) once la rb (omega arith) above (inl (omega arith)));
-      right_is = subst (λ (ns : List (List ℕ)). AreNumbersOf (ports_of b).inputs ns right left) is
-          (numbers_of_one (ports_of b).inputs (ports_of a).inputs shared middle end (length shared) middle right left (inputs_once b sb) once rb la above (omega arith) (inr (omega arith)));
+      left = numbers_of_one (ports_of a).inputs (ports_of b).inputs columns (length columns) middle middle end o.left o.right (inputs_once a sa) once la rb (omega arith) above (inl (omega arith));
+      right = numbers_of_one (ports_of b).inputs (ports_of a).inputs columns middle end (length columns) middle o.right o.left (inputs_once b sb) once rb la above (omega arith) (inr (omega arith));
     }
+
+-- which are the orders where the columns are the shared inputs
+pub orders_from : (a b : NetView) (shared : List (List ℕ)) → shared ≡ shared_inputs (ports_of a) (ports_of b) → (o : Orders) → AreNumbered a b shared o → AreOrders (ports_of a) (ports_of b) o.left o.right
+orders_from a b shared is o are = record {
+  left_is = subst (λ (ns : List (List ℕ)). AreNumbersOf (ports_of a).inputs ns o.left o.right) is are.left;
+  right_is = subst (λ (ns : List (List ℕ)). AreNumbersOf (ports_of b).inputs ns o.right o.left) is are.right;
+}
 
 -- the tables' first mismatch is the nets'
 pub mismatch_is : (a b : NetView) (left right left_outputs right_outputs : List (List ℕ)) (m : Option (List ℕ)) →
@@ -209,5 +216,6 @@ mismatch_is a b left right left_outputs right_outputs m l r lo ro is =
 pub refused_name : (a b : NetView) (name : List ℕ) (e : CompareError) → first_mismatch (ports_of a) (ports_of b) ≡ Some name → RefusesName name e → InterfaceFails a b e
 refused_name a b name (refused.Interface word) m h = m ∙ ap Some (sym h)
 refused_name a b name (refused.Cyclic side names) m h = h
+refused_name a b name (refused.Unpaired side names) m h = h
 refused_name a b name (refused.TooLarge side) m h = h
 refused_name a b name refused.NoMemory m h = tt

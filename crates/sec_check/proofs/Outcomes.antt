@@ -1,242 +1,157 @@
--- What an outcome that fits says of the circuits: what its verdict means, and what stands behind each result.
-use Rattle.std.proofs.Common.{◌≡◌, ◌≢◌, ℕ, zero, suc, ◌+◌, ◌-◌, ◌<◌, ◌≤◌, max, Bool, true, false, cond, List, [], ◌∷◌, map, length, get_or, refl, sym, ◌∙◌, ap, subst, arith, inl, inr, ◌⊎◌, Option, Some, None, Err, slice_get}
-use Rattle.std.specs.Prelude.{slice_index_or}
-use Rattle.std.specs.List.{All, Contains}
-use Rattle.std.proofs.lemmas.List.Elements.{All-contains, All-cons, All-nil}
-use Rattle.std.proofs.lemmas.Option.{slice_get-get_or, none-some}
-use Rattle.circuit_theory.specs.declared.Mode.TheVariants.{Plain}
+-- From what is found of the cut nets to the answer of a comparison.
+use Rattle.std.specs.Prelude.{nat_lt, IsErrAnd}
+use Rattle.std.specs.List.{Contains}
+use Rattle.std.proofs.Common.{◌≡◌, ℕ, ◌<◌, Bool, true, false, List, [], ◌∷◌, ◌++◌, map, length, refl, sym, ◌∙◌, ap, subst, arith, suc, Result, Ok, Err}
+use Rattle.std.proofs.lemmas.Bool.Decides.{nat_tests}
 use Rattle.circuit_theory.specs.declared.Side.{Side}
 use Rattle.circuit_theory.specs.declared.Side.TheVariants.{A, B}
-use Rattle.circuit_theory.specs.Names.{same_name}
-use Rattle.circuit_theory.specs.Circuit.{Circuit, Named}
-use Rattle.circuit_theory.specs.Run.{IsRun}
-use Rattle.circuit_theory.specs.Tree.{Tree, Unfolds, IsInputNumber, HaveEqualFunctions, AreNumbered, tree_value}
-use Rattle.circuit_theory.specs.Query.{Variable, HasLeaf, assigned, same_shift}
-use Rattle.circuit_theory.specs.Sequence.{sequence_row, sequence_rows_from, sequence_rows, row_value}
-use Rattle.circuit_theory.specs.Fits.{IsWitness}
-use Rattle.circuit_theory.specs.Interface.{shared_inputs, AreNumbersOf, AreOrders}
-use Rattle.circuit_theory.specs.Agree.{place_named, IsPair, Agree}
-use Rattle.circuit_theory.proofs.Lists.{Contains-head, Contains-tail, Contains-map, map-map, at_of, of_at}
-use Rattle.circuit_theory.proofs.Inputs.{same_name-sound}
-use Rattle.circuit_theory.proofs.LawProofs.{equal_functions_agree, numbers_are_shared}
-use Rattle.circuit_theory.proofs.Numbers.{slice_get-map}
-use Rattle.circuit_theory.proofs.Windows.{row_value-is}
-use Rattle.flat_net.specs.declared.parts.Port.{Port}
-use Rattle.flat_net.specs.View.{NetView, named, circuit_of, ports_of}
+use Rattle.circuit_theory.specs.Interface.{shared_inputs, AreNumbersOf}
+use Rattle.sec_base.specs.declared.basics.Orders.{Orders}
 use Rattle.flat_net.specs.Sound.{IsSound}
-use Rattle.flat_net.proofs.Nets.{sound_is_net}
-use Rattle.sec_base.specs.Table.{AreDistinct}
-use Rattle.sec_base.specs.declared.basics.PairAnswer.{PairAnswer}
-use Rattle.sec_base.specs.declared.basics.PairAnswer.TheVariants as answer
-use Rattle.pair_decide.specs.declared.query.Proof.{Proof}
-use Rattle.witness_report.specs.declared.witness.PairName.TheVariants as pair
-use Rattle.witness_report.specs.declared.witness.Witness.{Witness}
-use Rattle.sec_outcome.specs.declared.outcome.PairResult.{PairResult}
-use Rattle.sec_outcome.specs.declared.outcome.Verdict.{Verdict}
-use Rattle.sec_outcome.specs.declared.outcome.Verdict.TheVariants as verdict
+use Rattle.flat_net.specs.View.{NetView, circuit_of, ports_of}
+use Rattle.sec_words.specs.declared.settings.Settings.{Settings}
 use Rattle.sec_outcome.specs.declared.outcome.Outcome.{Outcome}
-use Rattle.plain_form.specs.Formed.{IsAcyclic, IsFormed, Formed}
-use Rattle.plain_form.specs.Limits.{IsUndecided}
-use Rattle.plain_form.specs.Outcome.{AnswerFits, PairFits, PairsFit, IsFirstDifferent, VerdictFits, OutcomeFits}
+use Rattle.exposure.specs.declared.exposing.Exposure.{Exposure}
+use Rattle.plain_form.specs.declared.comparing.Findings.{Findings}
 use Rattle.plain_form.specs.declared.error.PlainError.TheVariants as plain_error
+use Rattle.plain_form.specs.declared.pairing.SignalPair.{SignalPair}
+use Rattle.plain_form.specs.Formed.{AreFound, AreColumns, Formed, places_of}
+use Rattle.plain_form.specs.Outcome.{NamedPair, FindingsFit, named_pairs}
+use Rattle.sec_check.specs.declared.comparing.CompareError.{CompareError}
 use Rattle.sec_check.specs.declared.comparing.CompareError.TheVariants as refused
-use Rattle.sec_check.specs.Compared.{InterfacesMatch, IsCompared, Compared}
+use Rattle.sec_check.specs.Choosing.{IsChosen, Chosen, AreCutBy, AreNumbered}
+use Rattle.sec_check.specs.Compared.{InterfacesMatch, InterfaceFails, AreTooLarge, IsCompared, Compared}
+use Rattle.sec_check.specs.Fitting.{AreCutAt, OutcomeFits, columns_of, is_cut}
 use Rattle.sec_check.specs.Loading.{IsComparable}
-use Rattle.sec_check.specs.Shown.{Obeys, MakesDiffer}
-use Rattle.sec_check.proofs.Leaves.{HasInputsValue, run_by_leaves, input_at, shared_name}
-use Rattle.sec_check.proofs.Paired.{names_of, place_named-at}
-use Rattle.sec_check.proofs.Shared.{some_is}
+use Rattle.sec_check.proofs.Columns.{left_read, right_read}
+use Rattle.sec_check.proofs.Meaning.{they_are_equal, makes_differ, makes_cuts_differ}
+use Rattle.sec_check.proofs.Shared.{are_matched}
 
--- a place that is found under a name stands there under it
-pub place_stands : {Q : Type 0} (ns : List (Named Q)) (name : List ℕ) (q : Q) → place_named ns name ≡ Some q → Contains ns (record { name = name; place = q })
-place_stands [] name q h = absurd (none-some q h)
-place_stands {Q} (n ∷ ns) name q h = go (same_name n.name name) refl (λ k. place_stands ns name q k)
+-- the interface's refusal
+pub interface_refused : (a b : NetView) (settings : Settings) (e : CompareError) → InterfaceFails a b e → Compared a b settings (Err e)
+interface_refused a b settings (refused.Interface name) h = h
+interface_refused a b settings (refused.Cyclic side names) h = absurd h
+interface_refused a b settings (refused.Unpaired side names) h = absurd h
+interface_refused a b settings (refused.TooLarge side) h = absurd h
+interface_refused a b settings refused.NoMemory h = tt
+
+-- want of memory
+pub memory_wanted : (a b : NetView) (settings : Settings) (r : Result Outcome CompareError) → IsErrAnd r (λ e. e ≡ refused.NoMemory) → Compared a b settings r
+memory_wanted a b settings (Ok o) h = absurd h
+memory_wanted a b settings (Err e) h = subst (λ (x : CompareError). Compared a b settings (Err x)) (sym h) tt
+
+-- the refusal of a cycle
+pub choice_refused : (a b : NetView) (settings : Settings) (e : CompareError) → InterfacesMatch a b → Chosen a b settings.expose (Err e) → Compared a b settings (Err e)
+choice_refused a b settings (refused.Interface name) matches h = absurd h
+choice_refused a b settings (refused.Cyclic A names) matches h = (matches, h.0, h.1)
+choice_refused a b settings (refused.Cyclic B names) matches h = (matches, h.0, h.1, h.2)
+choice_refused a b settings (refused.Unpaired A names) matches h = (matches, h.0, h.1)
+choice_refused a b settings (refused.Unpaired B names) matches h = (matches, h.0, h.1, h.2)
+choice_refused a b settings (refused.TooLarge side) matches h = absurd h
+choice_refused a b settings refused.NoMemory matches h = tt
+
+-- whether a list has names
+pub has_names : (names : List (List ℕ)) (count : ℕ) → count ≡ length names → nat_lt 0 count ≡ is_cut names
+has_names [] count e = ap (nat_lt 0) e
+has_names (name ∷ names) count e = some count (omega (arith, e))
   where
-    Found : Named Q → Type 0
-    Found m = Contains (m ∷ ns) (record { name = name; place = q })
+    some : (n : ℕ) → 0 < n → nat_lt 0 n ≡ true
+    some n h = grind (arith, nat_tests)
 
-    go : (b : Bool) → same_name n.name name ≡ b → (place_named ns name ≡ Some q → Contains ns (record { name = name; place = q })) → Found n
-    go true e later =
-        let place : n.place ≡ q = some_is (sym (ap (λ b. cond b (Some n.place) (place_named ns name)) e) ∙ h) in
-        let whole : n ≡ record { name = name; place = q } = (λ i. record { name = same_name-sound n.name name e i; place = place i }) in
-        subst (λ (m : Named Q). Contains (n ∷ ns) m) whole (Contains-head n ns)
-    go false e later = Contains-tail n (record { name = name; place = q }) ns (later (sym (ap (λ b. cond b (Some n.place) (place_named ns name)) e) ∙ h))
+module _ (a b m k : NetView) (expose : Bool) (e : Exposure) (chosen : IsChosen a b expose e) (cut : AreCutBy a b e m k) where
+  -- the nets are cut at the chosen names
+  pub cut_at : AreCutAt a b e.names m k
+  cut_at = record {
+    left = e.left;
+    right = e.right;
+    in_order = chosen.in_order;
+    left_within = chosen.left.within;
+    right_within = chosen.right.within;
+    left_names = chosen.left.named;
+    right_names = chosen.right.named;
+    left_cut = cut.left;
+    right_cut = cut.right;
+    left_circuit = cut.left_circuit;
+    right_circuit = cut.right_circuit;
+  }
 
--- the result of an output, with the output of its name on the other side
-pub record HasResult {P Q : Type 0} (a : Circuit P) (b : Circuit Q) (left right : List ℕ) (conflicts : ℕ) (n : Named P) (r : PairResult) : Type 0 where
-  pub place : Q
-  pub place_is : place_named b.outputs n.name ≡ Some place
-  pub fits : PairFits a b left right conflicts n.name n.place place r
+  -- the numbers of the inputs, with what is read
+  module _ (matches : InterfacesMatch a b) (orders : Orders) (columns shared : List (List ℕ)) (columns_are : columns ≡ shared ++ e.names) (shared_is : shared ≡ shared_inputs (ports_of a) (ports_of b)) (numbered : AreNumbered m k columns orders) where
+    all_columns : columns ≡ columns_of a b e.names
+    all_columns = columns_are ∙ ap (λ (ss : List (List ℕ)). ss ++ e.names) shared_is
 
--- each output has a result
-pub result_of : {P Q : Type 0} (a : Circuit P) (b : Circuit Q) (left right : List ℕ) (conflicts : ℕ) (ns : List (Named P)) (rs : List PairResult) → PairsFit a b left right conflicts ns rs →
-    (i : ℕ) (n : Named P) → slice_get ns i ≡ Some n → (r : PairResult) × (slice_get rs i ≡ Some r) × HasResult a b left right conflicts n r
-result_of a b left right conflicts [] rs h i n at = absurd (none-some n at)
-result_of a b left right conflicts (m ∷ ns) [] h i n at = absurd h
-result_of {P} a b left right conflicts (m ∷ ns) (r ∷ rs) h zero n at =
-    (r, refl, subst (λ (o : Named P). HasResult a b left right conflicts o r) (some_is at) (record { place = h.0; place_is = h.1; fits = h.2 }))
-result_of a b left right conflicts (m ∷ ns) (r ∷ rs) h (suc i) n at = result_of a b left right conflicts ns rs h.3 i n at
+    pub left_columns : AreColumns m columns orders.left orders.right
+    left_columns = record {
+      numbers = numbered.left;
+      read = λ name h. subst (λ (cs : List (List ℕ)). Contains cs name) (sym all_columns) (left_read a b m e.names e.left cut.left chosen.left name h);
+    }
 
--- and each result is an output's
-pub output_of : {P Q : Type 0} (a : Circuit P) (b : Circuit Q) (left right : List ℕ) (conflicts : ℕ) (ns : List (Named P)) (rs : List PairResult) → PairsFit a b left right conflicts ns rs →
-    (i : ℕ) (r : PairResult) → slice_get rs i ≡ Some r → (n : Named P) × (slice_get ns i ≡ Some n) × HasResult a b left right conflicts n r
-output_of a b left right conflicts ns [] h i r at = absurd (none-some r at)
-output_of a b left right conflicts [] (s ∷ rs) h i r at = absurd h
-output_of a b left right conflicts (m ∷ ns) (s ∷ rs) h zero r at =
-    (m, refl, subst (λ (t : PairResult). HasResult a b left right conflicts m t) (some_is at) (record { place = h.0; place_is = h.1; fits = h.2 }))
-output_of a b left right conflicts (m ∷ ns) (s ∷ rs) h (suc i) r at = output_of a b left right conflicts ns rs h.3 i r at
+    pub right_columns : AreColumns k columns orders.right orders.left
+    right_columns = record {
+      numbers = numbered.right;
+      read = λ name h. subst (λ (cs : List (List ℕ)). Contains cs name) (sym all_columns) (right_read a b k e.names e.right (are_matched (ports_of a) (ports_of b) matches) cut.right chosen.right name h);
+    }
 
-module _ {P Q : Type 0} (a : Circuit P) (b : Circuit Q) (left right : List ℕ) (conflicts : ℕ) (p : P) (q : Q) where
-  -- an equal pair has equal functions
-  equal_answer : (x : PairAnswer) (proof : Option Proof) → AnswerFits a b left right conflicts p q x proof → x ≡ answer.Equal → HaveEqualFunctions a b left right p q
-  equal_answer answer.Equal None h e = h
-  equal_answer answer.Equal (Some proof) h e = absurd h
-  equal_answer answer.Different proof h e = absurd (cc)
-  equal_answer answer.NotShown proof h e = absurd h
-  equal_answer answer.Limit proof h e = absurd (cc)
+-- what is found of the cut nets is the outcome of the comparison
+module _ (a b m k : NetView) (settings : Settings) (e : Exposure) (sa : IsSound a) (sb : IsSound b) (ca : IsComparable a) (cb : IsComparable b) (matches : InterfacesMatch a b)
+    (chosen : IsChosen a b settings.expose e) (cut : AreCutBy a b e m k)
+    (orders : Orders) (columns shared : List (List ℕ)) (columns_are : columns ≡ shared ++ e.names) (shared_is : shared ≡ shared_inputs (ports_of a) (ports_of b)) (numbered : AreNumbered m k columns orders) where
+  module _ (pairs : List SignalPair) (named : map places_of pairs ≡ named_pairs e.names (circuit_of a) (circuit_of b)) (some : Bool) (some_is : some ≡ is_cut e.names) (f : Findings)
+      (found : AreFound m k orders.left orders.right columns some settings.conflicts pairs f) where
+    own_columns : columns ≡ columns_of a b e.names
+    own_columns = columns_are ∙ ap (λ (ss : List (List ℕ)). ss ++ e.names) shared_is
 
-  -- a pair at the limit has a proof that its query was given up
-  pub limit_answer : (x : PairAnswer) (proof : Option Proof) → AnswerFits a b left right conflicts p q x proof → x ≡ answer.Limit →
-      (kept : Proof) × (proof ≡ Some kept) × IsUndecided a b left right conflicts p q kept
-  limit_answer answer.Equal proof h e = absurd (cc)
-  limit_answer answer.Different proof h e = absurd (cc)
-  limit_answer answer.NotShown proof h e = absurd h
-  limit_answer answer.Limit None h e = absurd h
-  limit_answer answer.Limit (Some proof) h e = (proof, refl, h)
+    fit : FindingsFit (circuit_of m) (circuit_of k) orders.left orders.right (columns_of a b e.names) (is_cut e.names) settings.conflicts (named_pairs e.names (circuit_of a) (circuit_of b)) f
+    fit =
+        subst (λ (cs : List (List ℕ)). FindingsFit (circuit_of m) (circuit_of k) orders.left orders.right cs (is_cut e.names) settings.conflicts (named_pairs e.names (circuit_of a) (circuit_of b)) f) own_columns
+        (subst (λ (s : Bool). FindingsFit (circuit_of m) (circuit_of k) orders.left orders.right columns s settings.conflicts (named_pairs e.names (circuit_of a) (circuit_of b)) f) some_is
+        (subst (λ (ps : List (NamedPair ℕ ℕ)). FindingsFit (circuit_of m) (circuit_of k) orders.left orders.right columns some settings.conflicts ps f) named found.fits))
 
--- the rows of a sequence, in length
-row_size : (last : ℕ) (x : ℕ → ℕ → Bool) (cycle input count : ℕ) → length (sequence_row last x cycle input count) ≡ count
-row_size last x cycle input zero = refl
-row_size last x cycle input (suc count) = ap suc (row_size last x cycle (suc input) count)
-
-row_there : (last : ℕ) (x : ℕ → ℕ → Bool) (count cycle cycles t : ℕ) → t < cycles →
-    (row : List Bool) × (slice_get (sequence_rows_from last x count cycle cycles) t ≡ Some row) × (length row ≡ count) × (slice_index_or (sequence_rows_from last x count cycle cycles) t [] ≡ row)
-row_there last x count cycle zero t h = absurd (omega arith)
-row_there last x count cycle (suc cycles) zero h = (sequence_row last x cycle 0 count, refl, row_size last x cycle 0 count, refl)
-row_there last x count cycle (suc cycles) (suc t) h = row_there last x count (suc cycle) cycles t (omega arith)
-
-no_equal_different : (w : Witness) → verdict.Different w ≡ verdict.Equal → ⊥
-no_equal_different w e = cc
-
-same_verdict : (v w : Witness) → verdict.Different v ≡ verdict.Different w → v ≡ w
-same_verdict v w e = cc
-
--- one side of a difference: in a run that obeys the sequence the place has in the last cycle the value of its tree
-module _ (n : NetView) (order others : List ℕ) (shared : List (List ℕ)) (numbers : AreNumbersOf (ports_of n).inputs shared order others) (w : Witness) (names : w.stimulus.names ≡ shared)
-    (x : ℕ → ℕ → Bool) (rows : w.stimulus.rows ≡ sequence_rows w.cycle x (length shared)) (steps : ℕ) (run : ℕ → ℕ → Bool) (in_run : w.cycle < steps) (is_run : IsRun (circuit_of n) steps run)
-    (obeys : Obeys (circuit_of n) w.stimulus steps run) where
-  -- the bit that is printed for an input of a number, some cycles before the last
-  printed : (q i j : ℕ) → IsInputNumber (circuit_of n) order q i → i < length shared → j ≤ w.cycle → x i j ≡ run (w.cycle - j) q
-  printed q i j number low deep =
-      let input = input_at n order q i number in
-      let own : slice_get (ports_of n).inputs input.k ≡ Some input.port.name = slice_get-map (λ (p : Port). p.name) n.inputs input.k input.port input.at in
-      let name : slice_get w.stimulus.names i ≡ Some input.port.name = ap (λ (ns : List (List ℕ)). slice_get ns i) names ∙ shared_name (ports_of n).inputs shared order others numbers input.k i input.port.name own input.number low in
-      let there = row_there w.cycle x (length shared) 0 (suc w.cycle) (w.cycle - j) (omega arith) in
-      let row : slice_get w.stimulus.rows (w.cycle - j) ≡ Some there.0 = ap (λ (rs : List (List Bool)). slice_get rs (w.cycle - j)) rows ∙ there.1 in
-      let bit : slice_get there.0 i ≡ Some (slice_index_or there.0 i false) = slice_get-get_or there.0 i false (omega (arith, low, there.2)) in
-      let place : Contains (circuit_of n).inputs (record { name = input.port.name; place = q }) =
-      subst (λ p. Contains (circuit_of n).inputs (record { name = input.port.name; place = p })) input.place (Contains-map named n.inputs input.port (of_at n.inputs input.k input.port input.at)) in
-      sym (row_value-is w.cycle x (length shared) i j deep (λ h. absurd (omega (arith, h, low))))
-      ∙ (ap (λ (r : List Bool). slice_index_or r i false) there.3 ∙ sym (obeys (w.cycle - j) i there.0 input.port.name (slice_index_or there.0 i false) q (omega arith) row bit name place))
-
-  has_value : (p d : ℕ) (tree : Tree ℕ) → Unfolds (circuit_of n) order p 0 d tree → d ≤ w.cycle → ((i j : ℕ) → HasLeaf (record { input = i; at = j }) tree → i < length shared) → run w.cycle p ≡ tree_value x tree
-  has_value p d tree unfolds deep low =
-      sym (run_by_leaves (circuit_of n) order steps run is_run w.cycle in_run x unfolds (omega arith) (λ q i j number leaf l. printed q i j number (low i j leaf) l)
-      ∙ ap (λ t. run t p) (let e : w.cycle - 0 ≡ w.cycle = omega arith in e))
-
-module _ (a b : NetView) (conflicts : ℕ) (o : Outcome) (fits : OutcomeFits (circuit_of a) (circuit_of b) (ports_of a) (ports_of b) conflicts o) where
-  abbrev shared : List (List ℕ)
-  shared = shared_inputs (ports_of a) (ports_of b)
-
-  are_numbered : AreNumbered (circuit_of a) (circuit_of b) fits.left fits.right
-  are_numbered = numbers_are_shared (circuit_of a) (circuit_of b) (shared_inputs (ports_of a) (ports_of b)) fits.left fits.right
-      (subst (λ (names : List (List ℕ)). AreNumbersOf names (shared_inputs (ports_of a) (ports_of b)) fits.left fits.right) (sym (map-map (λ (i : Named ℕ). i.name) named a.inputs)) fits.orders.left_is)
-      (subst (λ (names : List (List ℕ)). AreNumbersOf names (shared_inputs (ports_of a) (ports_of b)) fits.right fits.left) (sym (map-map (λ (i : Named ℕ). i.name) named b.inputs)) fits.orders.right_is)
-
-  -- where all results are equal, each pair has equal functions
-  functions_equal : AreDistinct (names_of b.outputs) → All (λ (r : PairResult). r.answer ≡ answer.Equal) o.pairs → (p q : ℕ) → IsPair [] (circuit_of a) (circuit_of b) p q →
-      HaveEqualFunctions (circuit_of a) (circuit_of b) fits.left fits.right p q
-  functions_equal distinct all p q (IsPair.outputs {name = name} hp hq) =
-      let i = at_of (circuit_of a).outputs (record { name = name; place = p }) hp in
-      let j = at_of (circuit_of b).outputs (record { name = name; place = q }) hq in
-      let found = result_of (circuit_of a) (circuit_of b) fits.left fits.right conflicts (circuit_of a).outputs o.pairs fits.pairs i.0 (record { name = name; place = p }) i.1 in
-      let equal : found.0.answer ≡ answer.Equal = All-contains (λ (r : PairResult). r.answer ≡ answer.Equal) o.pairs found.0 all (of_at o.pairs i.0 found.0 found.1) in
-      let place : found.2.place ≡ q = some_is (sym found.2.place_is ∙ only_place distinct name j.0 q j.1) in
-      subst (λ z. HaveEqualFunctions (circuit_of a) (circuit_of b) fits.left fits.right p z) place
-      (equal_answer (circuit_of a) (circuit_of b) fits.left fits.right conflicts p found.2.place found.0.answer found.0.proof found.2.fits.answer_is equal)
-    where
-      only_place : AreDistinct (names_of b.outputs) → (name : List ℕ) (j q : ℕ) → slice_get (map named b.outputs) j ≡ Some (record { name = name; place = q }) → place_named (map named b.outputs) name ≡ Some q
-      only_place distinct name j q at =
-          let port = port_at b.outputs j (record { name = name; place = q }) at in
-          let here : slice_get (names_of b.outputs) j ≡ Some name = slice_get-map (λ (x : Port). x.name) b.outputs j port.0 port.1 ∙ ap (λ (m : Named ℕ). Some m.name) port.2 in
-          place_named-at b.outputs name j port.0 distinct here port.1 ∙ ap (λ (m : Named ℕ). Some m.place) port.2
-        where
-          port_at : (ports : List Port) (j : ℕ) (m : Named ℕ) → slice_get (map named ports) j ≡ Some m → (port : Port) × (slice_get ports j ≡ Some port) × (named port ≡ m)
-          port_at [] j m h = absurd (none-some m h)
-          port_at (port ∷ ports) zero m h = (port, refl, some_is h)
-          port_at (port ∷ ports) (suc j) m h = port_at ports j m h
-  functions_equal distinct all p q (IsPair.nexts h l r) = absurd (omega (arith, h.1))
-
-  -- so the circuits agree
-  pub they_agree : IsSound a → IsSound b → AreDistinct (names_of b.outputs) → o.verdict ≡ verdict.Equal → Agree Plain (circuit_of a) (circuit_of b)
-  they_agree sa sb distinct e =
-      let all : All (λ (r : PairResult). r.answer ≡ answer.Equal) o.pairs =
-      subst (λ v. VerdictFits (circuit_of a) (circuit_of b) fits.left fits.right (shared_inputs (ports_of a) (ports_of b)) o.pairs v) e fits.verdict_is in
-      equal_functions_agree (circuit_of a) (circuit_of b) (length a.drivers) (length b.drivers) fits.left fits.right (sound_is_net a sa) (sound_is_net b sb) are_numbered (functions_equal distinct all)
-
-  -- the leaves of both trees are shared inputs
-  leaf_below : (p q last : ℕ) (rows : List (List Bool)) (l r : Bool) (wit : IsWitness (circuit_of a) (circuit_of b) fits.left fits.right p q (length shared) rows last l r) → (tree : Tree ℕ) →
-      Contains (wit.left_tree ∷ wit.right_tree ∷ []) tree → (i j : ℕ) → HasLeaf (record { input = i; at = j }) tree → i < length shared
-  leaf_below p q last rows l r wit tree there i j leaf =
-      All-contains (λ (v : Variable ℕ). v.input < length shared) wit.variables (record { input = i; at = j }) wit.inputs ((wit.are_variables.exactly (record { input = i; at = j })).1 (tree, there, leaf))
-
-  deep_left : (d e m : ℕ) → m ≡ max d e → d ≤ m
-  deep_left d e m h = omega (arith, h)
-
-  deep_right : (d e m : ℕ) → m ≡ max d e → e ≤ m
-  deep_right d e m h = omega (arith, h)
-
-  first_shows : (w : Witness) → IsFirstDifferent (circuit_of a) (circuit_of b) fits.left fits.right shared o.pairs w → MakesDiffer (circuit_of a) (circuit_of b) w
-  first_shows w f =
-      let wit = f.witness in
-      let x : ℕ → ℕ → Bool = assigned same_shift wit.variables wit.bits in
-      record {
-        name = f.output.name;
-        left_place = f.output.place;
-        right_place = f.right_place;
-        named = f.named;
-        left_output = of_at (circuit_of a).outputs f.index f.output f.output_is;
-        right_output = place_stands (circuit_of b).outputs f.output.name f.right_place f.right_is;
-        differ = λ e. wit.distinguishes.differs (sym wit.left_value ∙ (e ∙ wit.right_value));
-        left_shows = λ steps run below is_run obeys.
-            has_value a fits.left fits.right shared fits.orders.left_is w f.names_are x wit.rows_are steps run below is_run obeys f.output.place wit.left_depth wit.left_tree wit.left_unfolds
-            (deep_left wit.left_depth wit.right_depth w.cycle wit.last_is) (leaf_below f.output.place f.right_place w.cycle w.stimulus.rows w.left w.right wit wit.left_tree (Contains-head wit.left_tree (wit.right_tree ∷ [])))
-            ∙ sym wit.left_value;
-        right_shows = λ steps run below is_run obeys.
-            has_value b fits.right fits.left shared fits.orders.right_is w f.names_are x wit.rows_are steps run below is_run obeys f.right_place wit.right_depth wit.right_tree wit.right_unfolds
-            (deep_right wit.left_depth wit.right_depth w.cycle wit.last_is)
-            (leaf_below f.output.place f.right_place w.cycle w.stimulus.rows w.left w.right wit wit.right_tree (Contains-tail wit.left_tree wit.right_tree (wit.right_tree ∷ []) (Contains-head wit.right_tree [])))
-            ∙ sym wit.right_value;
+    module _ (inputs left_latches right_latches : ℕ) (inputs_are : inputs ≡ length shared) (left_are : left_latches ≡ length a.latches) (right_are : right_latches ≡ length b.latches) where
+      abbrev outcome : Outcome
+      outcome = record {
+        inputs = inputs;
+        left_latches = left_latches;
+        right_latches = right_latches;
+        exposed = e.names;
+        classes = 0;
+        pairs = f.pairs;
+        through = f.through;
+        verdict = f.verdict;
       }
 
-  -- the sequence makes the outputs differ
-  pub they_differ : (w : Witness) → o.verdict ≡ verdict.Different w → MakesDiffer (circuit_of a) (circuit_of b) w
-  they_differ w e = first_shows w (subst (λ v. VerdictFits (circuit_of a) (circuit_of b) fits.left fits.right (shared_inputs (ports_of a) (ports_of b)) o.pairs v) e fits.verdict_is)
+      outcome_fits : OutcomeFits a b settings.expose settings.conflicts outcome
+      outcome_fits = record {
+        left_cut = m;
+        right_cut = k;
+        exposed = chosen.choice;
+        are_cut = cut_at a b m k settings.expose e chosen cut;
+        left = orders.left;
+        right = orders.right;
+        left_numbers = subst (λ (cs : List (List ℕ)). AreNumbersOf (ports_of m).inputs cs orders.left orders.right) own_columns numbered.left;
+        right_numbers = subst (λ (cs : List (List ℕ)). AreNumbersOf (ports_of k).inputs cs orders.right orders.left) own_columns numbered.right;
+        inputs = inputs_are ∙ ap length shared_is;
+        left_latches = left_are;
+        right_latches = right_are;
+        classes = refl;
+        pairs = fit.pairs_fit;
+        through = fit.through;
+        verdict_is = fit.verdict_is;
+      }
 
--- so an outcome in the plain form is the comparison's
-pub formed_is_compared : (a b : NetView) (conflicts : ℕ) (o : Outcome) → IsSound a → IsSound b → IsComparable b → InterfacesMatch a b → IsAcyclic a → IsAcyclic b → IsFormed a b conflicts o → IsCompared a b conflicts o
-formed_is_compared a b conflicts o sa sb comparable matches left right formed = record {
-  matches = matches;
-  left_acyclic = left;
-  right_acyclic = right;
-  left_light = formed.left_light;
-  right_light = formed.right_light;
-  fits = formed.fits;
-  equal = they_agree a b conflicts o formed.fits sa sb comparable.distinct;
-  different = they_differ a b conflicts o formed.fits;
-}
+      pub outcome_is_compared : IsCompared a b settings outcome
+      unfolding outcome_fits
+      outcome_is_compared = record {
+        matches = matches;
+        fits = outcome_fits;
+        left_light = found.left_light;
+        right_light = found.right_light;
+        equal = they_are_equal a b settings.expose settings.conflicts outcome outcome_fits sa sb ca.distinct cb.distinct;
+        different = makes_differ a b settings.expose settings.conflicts outcome outcome_fits sa sb ca.distinct cb.distinct;
+        not_shown = makes_cuts_differ a b settings.expose settings.conflicts outcome outcome_fits sa sb ca.distinct cb.distinct;
+      }
 
--- and a circuit that is too large is refused
-pub too_large : (a b : NetView) (conflicts : ℕ) (side : Side) → InterfacesMatch a b → IsAcyclic a → IsAcyclic b → Formed a b conflicts (Err (plain_error.TooLarge side)) → Compared a b conflicts (Err (refused.TooLarge side))
-too_large a b conflicts A matches left right large = (matches, left, right, large)
-too_large a b conflicts B matches left right large = (matches, left, right, large.0, large.1)
+  -- a net that is too large is refused
+  pub too_large : (pairs : List SignalPair) (some : Bool) (side : Side) → Formed m k orders.left orders.right columns some settings.conflicts pairs (Err (plain_error.TooLarge side)) → Compared a b settings (Err (refused.TooLarge side))
+  too_large pairs some A large = (matches, chosen.broken, AreTooLarge.left chosen.choice (cut_at a b m k settings.expose e chosen cut) large)
+  too_large pairs some B large = (matches, chosen.broken, AreTooLarge.right chosen.choice (cut_at a b m k settings.expose e chosen cut) large.0 large.1)

@@ -2,7 +2,7 @@
 use Rattle.std.proofs.Common.{◌≡◌, ℕ, zero, suc, ◌+◌, ◌<◌, ◌≤◌, Bool, true, false, cond, List, [], ◌∷◌, ◌++◌, map, length, get_or, take, refl, sym, ◌∙◌, ap, subst, arith, add-one, Some, slice_get}
 use Rattle.std.specs.List.{Contains}
 use Rattle.std.proofs.lemmas.List.{map-append, take-map}
-use Rattle.std.proofs.lemmas.Option.{slice_get_within, slice_get-get_or, get_or_from_slice_get}
+use Rattle.std.proofs.lemmas.Option.{slice_get_within, slice_get-get_or, get_or_from_slice_get, none-some}
 use Rattle.std.proofs.Math.Seq.{take-suc}
 use Rattle.circuit_theory.specs.Names.{same_name}
 use Rattle.circuit_theory.specs.Agree.{place_named}
@@ -33,6 +33,31 @@ place_named-at (p ∷ ports) name (suc i) port distinct h at = go (same_name p.n
     go : (b : Bool) → same_name p.name name ≡ b → place_named (map named ports) name ≡ Some port.signal.0 → place_named (map named (p ∷ ports)) name ≡ Some port.signal.0
     go true e later = absurd (let same : 0 ≡ suc i = distinct 0 (suc i) name (ap Some (same_name-sound p.name name e)) h in omega arith)
     go false e later = ap (λ b. cond b (Some p.signal.0) (place_named (map named ports) name)) e ∙ later
+
+-- the output of a name is one of the outputs
+pub place_named-from : (ports : List Port) (name : List ℕ) (q : ℕ) → place_named (map named ports) name ≡ Some q → (port : Port) × Contains ports port × (port.name ≡ name) × (port.signal.0 ≡ q)
+place_named-from [] name q h = absurd (none-some q h)
+place_named-from (p ∷ ports) name q h = go (same_name p.name name) refl (λ k. place_named-from ports name q k)
+  where
+    Found : List Port → Type 0
+    Found ps = (port : Port) × Contains ps port × (port.name ≡ name) × (port.signal.0 ≡ q)
+
+    go : (b : Bool) → same_name p.name name ≡ b → (place_named (map named ports) name ≡ Some q → Found ports) → Found (p ∷ ports)
+    go true e later = (
+      p,
+      (0, omega arith, refl),
+      same_name-sound p.name name e,
+      some_is (sym (ap (λ b. cond b (Some p.signal.0) (place_named (map named ports) name)) e) ∙ h),
+    )
+    go false e later =
+        let r = later (sym (ap (λ b. cond b (Some p.signal.0) (place_named (map named ports) name)) e) ∙ h) in
+        (r.0, (suc r.1.0, omega (arith, r.1.1), r.1.2), r.2, r.3)
+
+-- where a name stands, a port stands
+pub port_within : (ports : List Port) (i : ℕ) (name : List ℕ) → slice_get (names_of ports) i ≡ Some name → i < length ports
+port_within [] i name h = slice_get_within [] i name h
+port_within (p ∷ ports) zero name h = omega arith
+port_within (p ∷ ports) (suc i) name h = let ih = port_within ports i name h in omega arith
 
 -- the name at a place is none of those before
 pub name_is_new : (names : List (List ℕ)) (i : ℕ) (name : List ℕ) → AreDistinct names → slice_get names i ≡ Some name → Contains (take i names) name → ⊥

@@ -49,13 +49,14 @@ pub record AreMatched (a b : Ports) : Type 0 where
   pub inputs : (name : List ℕ) → Contains (inputs_beside a b) name → Contains (inputs_beside b a) name
   pub inputs_back : (name : List ℕ) → Contains (inputs_beside b a) name → Contains (inputs_beside a b) name
   pub outputs : (name : List ℕ) → Contains a.outputs name → Contains b.outputs name
+  pub outputs_back : (name : List ℕ) → Contains b.outputs name → Contains a.outputs name
 
 pub are_matched : (a b : Ports) → first_mismatch a b ≡ None → AreMatched a b
 are_matched a b e =
     let four = or_else-none _ (first_missing b.outputs a.outputs) e in
     let three = or_else-none _ (first_missing a.outputs b.outputs) four.0 in
     let two = or_else-none (first_missing (inputs_beside a b) (inputs_beside b a)) (first_missing (inputs_beside b a) (inputs_beside a b)) three.0 in
-    record { inputs = missing_none _ _ two.0; inputs_back = missing_none _ _ two.1; outputs = missing_none _ _ three.1 }
+    record { inputs = missing_none _ _ two.0; inputs_back = missing_none _ _ two.1; outputs = missing_none _ _ three.1; outputs_back = missing_none _ _ four.1 }
 
 -- a test that an element passes keeps it
 pub Contains-filter_in : {X : Type 0} (test : X → Bool) (xs : List X) (x : X) → Contains xs x → test x ≡ true → Contains (filter test xs) x
@@ -73,64 +74,6 @@ Contains-filter_in {X} test (y ∷ xs) x h e = go (test y) refl (Contains-cases 
 
 pub filter-passed : {X : Type 0} (test : X → Bool) (xs : List X) (x : X) → Contains (filter test xs) x → test x ≡ true
 filter-passed test xs x h = All-contains (λ y. test y ≡ true) (filter test xs) x (filter_passes test xs) h
-
--- whether a number stands in a list
-pub has_number-true : (numbers : List ℕ) (i : ℕ) → Contains numbers i → list_any (λ n. n == i) numbers ≡ true
-has_number-true [] i h = absurd (omega (arith, h.1))
-has_number-true (n ∷ numbers) i h = go (Contains-cases n i numbers h) (λ k. has_number-true numbers i k)
-  where
-    or_true : (b : Bool) → (b || true) ≡ true
-    or_true true = refl
-    or_true false = refl
-
-    go : (n ≡ i) ⊎ Contains numbers i → (Contains numbers i → list_any (λ m. m == i) numbers ≡ true) → list_any (λ m. m == i) (n ∷ numbers) ≡ true
-    go (inl e) later = ap (λ b. b || list_any (λ m. m == i) numbers) (ap (λ m. m == i) e ∙ test_refl i)
-    go (inr k) later = ap (λ b. (n == i) || b) (later k) ∙ or_true (n == i)
-
-pub has_number-is : (numbers : List ℕ) (i : ℕ) → list_any (λ n. n == i) numbers ≡ true → Contains numbers i
-has_number-is [] i h = absurd (no_true_false (sym h))
-has_number-is (n ∷ numbers) i h = go (n == i) refl (λ k. has_number-is numbers i k)
-  where
-    go : (b : Bool) → (n == i) ≡ b → (list_any (λ m. m == i) numbers ≡ true → Contains numbers i) → Contains (n ∷ numbers) i
-    go true e later = subst (λ m. Contains (n ∷ numbers) m) (test_same n i e) (Contains-head n numbers)
-    go false e later = Contains-tail n i numbers (later (sym (ap (λ b. b || list_any (λ m. m == i) numbers) e) ∙ h))
-
--- the elements that pass a test, with one element more
-pub filter_next : {X : Type 0} (test : X → Bool) (xs : List X) (i : ℕ) (x : X) (b : Bool) → slice_get xs i ≡ Some x → test x ≡ b → filter test (take (i + 1) xs) ≡ filter test (take i xs) ++ cond b (x ∷ []) []
-filter_next {X} test xs i x b at e =
-    filter_more test xs i x (slice_get_within xs i x at)
-    ∙ (ap (λ (y : X). filter test (take i xs) ++ cond (test y) (y ∷ []) []) (get_or_from_slice_get xs i x x at) ∙ ap (λ t. filter test (take i xs) ++ cond t (x ∷ []) []) e)
-
-module _ (a b : Ports) (left right : List ℕ) (matched : AreMatched a b) (orders : AreOrders a b left right) where
-  -- a shared name's number is among both circuits' numbers
-  pub shared_number : (k i : ℕ) (name : List ℕ) → slice_get a.inputs k ≡ Some name → slice_get left k ≡ Some i → Contains (shared_inputs a b) name → Contains right i
-  shared_number k i name own number shared =
-      let at = at_of (shared_inputs a b) name shared in
-      let there = at_of b.inputs name (Contains-filter (is_kept b a) b.inputs name (matched.inputs name shared)) in
-      let same : at.0 ≡ i = some_is (sym (orders.left_is.common k at.0 name own at.1) ∙ number) in
-      subst (Contains right) same (of_at right there.0 at.0 (orders.right_is.common there.0 at.0 name there.1 at.1))
-
-  -- an input of A is shared where its name isn't B's clock, or where B has an input of its number
-  pub kept_by_number : (k i : ℕ) (name : List ℕ) → slice_get a.inputs k ≡ Some name → slice_get left k ≡ Some i →
-      is_kept a b name ≡ (not (is_clock b name) || list_any (λ n. n == i) right)
-  kept_by_number k i name own number = go (is_clock b name) refl (is_among a.read name) refl (list_any (λ n. n == i) right) refl
-    where
-      kept : (t r : Bool) → is_clock b name ≡ t → is_among a.read name ≡ r → is_kept a b name ≡ not (t && not r)
-      kept t r ht hr = ap (λ x. not (x && not (is_among a.read name))) ht ∙ ap (λ x. not (t && not x)) hr
-
-      right_side : (t u : Bool) → is_clock b name ≡ t → list_any (λ n. n == i) right ≡ u → (not t || u) ≡ (not (is_clock b name) || list_any (λ n. n == i) right)
-      right_side t u ht hu = ap (λ x. not x || u) (sym ht) ∙ ap (λ x. not (is_clock b name) || x) (sym hu)
-
-      go : (t : Bool) → is_clock b name ≡ t → (r : Bool) → is_among a.read name ≡ r → (u : Bool) → list_any (λ n. n == i) right ≡ u →
-          is_kept a b name ≡ (not (is_clock b name) || list_any (λ n. n == i) right)
-      go false ht r hr u hu = kept false r ht hr ∙ right_side false u ht hu
-      go true ht true hr true hu = kept true true ht hr ∙ right_side true true ht hu
-      go true ht false hr false hu = kept true false ht hr ∙ right_side true false ht hu
-      go true ht true hr false hu =
-          let shared = Contains-filter_in (is_kept a b) a.inputs name (of_at a.inputs k name own) (kept true true ht hr) in
-          absurd (no_true_false (sym (has_number-true right i (shared_number k i name own number shared)) ∙ hu))
-      go true ht false hr true hu =
-          absurd ((orders.left_is.left_out k i name own (λ shared. no_true_false (sym (filter-passed (is_kept a b) a.inputs name shared) ∙ kept true false ht hr)) number).1 (has_number-is right i hu))
 
 -- a filter keeps no more than there is
 pub filter_short : {X : Type 0} (test : X → Bool) (xs : List X) → length (filter test xs) ≤ length xs

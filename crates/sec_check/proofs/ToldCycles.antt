@@ -14,7 +14,7 @@ use Rattle.flat_net.specs.Cut.{no_latch, latch_at, exposed_names}
 use Rattle.flat_net.proofs.Nets.{latch_stands, some_at}
 use Rattle.latch_graph.specs.Graph.{GraphView, IsGraphOf, marked_names, signals_at}
 use Rattle.plain_form.specs.Formed.{IsAcyclic}
-use Rattle.sec_check.specs.Compared.{IsToldCycle}
+use Rattle.exposure.specs.Exposed.{IsToldCycle}
 use Rattle.sec_check.proofs.Shared.{some_is}
 
 no_true : true ≡ false → ⊥
@@ -43,7 +43,7 @@ acyclic_graph n g bits none free = subst (λ (names : List (List ℕ)). HasCycle
 -- the cycle that is told
 pub told_cycle : (n : NetView) (g : GraphView) (bits : List Bool) (positions : List ℕ) → IsGraphOf n g → All (λ bit. bit ≡ false) bits → All (λ j. j < length g.latches) positions →
     IsCycle (circuit_of n) NoneEnabled (marked_names g.latches bits) (signals_at g.latches positions) → BeginsWithLeast (circuit_of n) (signals_at g.latches positions) →
-    IsToldCycle n (exposed_names n positions)
+    IsToldCycle n [] (exposed_names n positions)
 told_cycle n g bits positions graph none within cycle least = record {
   latches = signals_at n.latches positions;
   cycle = subst (λ (ls : List LatchAt). IsCycle (circuit_of n) NoneEnabled [] (signals_at ls positions)) graph.latches
@@ -89,7 +89,7 @@ module _ {P : Type 0} (c : Circuit P) (enabled : P → Type 0) (removed : List (
       go (suc i) e last at closes = LatchPath.step closes (back i last (ap (slice_get latches) (sym e) ∙ at))
 
 -- a cycle that is told is one
-pub told_is_cyclic : (n : NetView) (names : List (List ℕ)) → IsToldCycle n names → IsAcyclic n → ⊥
+pub told_is_cyclic : (n : NetView) (names : List (List ℕ)) → IsToldCycle n [] names → IsAcyclic n → ⊥
 told_is_cyclic n names told free =
     let first = some_at told.latches 0 told.cycle.some in
     free (round (circuit_of n) NoneEnabled [] told.latches told.cycle first.0 first.1)

@@ -1,6 +1,7 @@
 //! Loading circuits, and comparing them.
 #![tactic(auto)]
 
+mod choosing;
 mod comparing;
 mod cycles;
 mod loading;

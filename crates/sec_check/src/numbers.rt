@@ -1,17 +1,28 @@
 //! Which inputs two circuits share, and the numbers of their inputs.
 
 ghost use Rattle.std.specs.Prelude.{◌≡◌, ◌+◌, ◌^◌, ◌<◌, ◌≤◌, not, None, Some, List, ℕ, length, map, IfOk, IfErr, IfSome, slice_get, option_map, Option};
-ghost use Rattle.circuit_theory.specs.Interface.{first_missing, first_mismatch, inputs_beside, shared_inputs, AreOrders, ◌or_else◌};
+ghost use Rattle.circuit_theory.specs.Interface.{first_missing, first_mismatch, inputs_beside, is_clock, shared_inputs, AreOrders, ◌or_else◌};
 ghost use Rattle.flat_net.specs.View.{ports_of};
+ghost use Rattle.sec_check.specs.Choosing.{AreNumbered};
 ghost use Rattle.sec_check.specs.Compared.{InterfaceFails, RefusesName};
 ghost use Rattle.sec_check.specs.Loading.{IsComparable};
 ghost use Rattle.sec_check.specs.Numbered.{AreNumbers, stays};
 
 use crate::comparing::CompareError;
-use crate::pairing::{is_clock, output_names};
+use crate::pairing::output_names;
 use flat_net::Net;
 use sec_base::{Ids, NameTable, NoMemory, Orders, Seq};
 use std::alloc::Global;
+
+/// Whether the name is that of the net's clock.
+fn is_clock(net: &Net, name: &[u8]) -> bool
+    ensures { result ≡ is_clock (ports_of net.now) name.now }
+{
+    match net.clock() {
+        Some(clock) => clock == name,
+        None => false,
+    }
+}
 
 /// Whether the input stays: it is read, or its name isn't the other's clock.
 fn stays(own: &Net, other: &Net, i: u32) -> bool
@@ -89,6 +100,18 @@ pub fn interface(alloc: Global, a: &Net, b: &Net) -> Result<Orders, CompareError
     ensures ok { IfOk result (λ o. (first_mismatch (ports_of a.now) (ports_of b.now) ≡ None) × AreOrders (ports_of a.now) (ports_of b.now) o.left o.right) }
     ensures err { IfErr result (InterfaceFails a.now b.now) }
 {
+    let shared = shared_names(alloc, a, b)?;
+    let orders = orders_of(alloc, a, b, &shared)?;
+    Ok(orders)
+}
+
+/// The names of the inputs that both circuits have, in A's order. `Interface` comes as in `interface`.
+pub(crate) fn shared_names(alloc: Global, a: &Net, b: &Net) -> Result<NameTable, CompareError>
+    requires left { IsComparable a.now }
+    requires right { IsComparable b.now }
+    ensures ok { IfOk result (λ names. (first_mismatch (ports_of a.now) (ports_of b.now) ≡ None) × (names ≡ shared_inputs (ports_of a.now) (ports_of b.now))) }
+    ensures err { IfErr result (InterfaceFails a.now b.now) }
+{
     let left = inputs_beside(alloc, a, b)?;
     let right = inputs_beside(alloc, b, a)?;
     let left_outputs = output_names(alloc, a.outputs())?;
@@ -96,7 +119,7 @@ pub fn interface(alloc: Global, a: &Net, b: &Net) -> Result<Orders, CompareError
     if let Some(name) = first_mismatch(&left, &right, &left_outputs, &right_outputs) {
         return Err(mismatch_error(alloc, name));
     }
-    orders_of(alloc, a, b, &left)
+    Ok(left)
 }
 
 /// The refusal of the name.
@@ -130,19 +153,21 @@ fn first_mismatch<'a>(
     first_missing(right_outputs, left_outputs)
 }
 
-/// The orders where the interfaces match.
-fn orders_of(alloc: Global, a: &Net, b: &Net, shared: &NameTable) -> Result<Orders, CompareError>
-    requires left { IsComparable a.now }
-    requires right { IsComparable b.now }
-    requires matches { Rattle.circuit_theory.specs.Interface.first_mismatch (ports_of a.now) (ports_of b.now) ≡ None }
-    requires shared { shared.now ≡ shared_inputs (ports_of a.now) (ports_of b.now) }
-    ensures ok { IfOk result (λ o. AreOrders (ports_of a.now) (ports_of b.now) o.left o.right) }
-    ensures err { IfErr result (InterfaceFails a.now b.now) }
+/// The numbers of the inputs of both nets: a column has its place among the columns, and any other input a number of its own
+/// above these.
+pub(crate) fn orders_of(
+    alloc: Global,
+    a: &Net,
+    b: &Net,
+    columns: &NameTable,
+) -> Result<Orders, NoMemory>
+    requires { length columns.now + length a.now.inputs + length b.now.inputs < 2 ^ 32 }
+    ensures { IfOk result (AreNumbered a.now b.now columns.now) }
 {
     a.keeps();
     b.keeps();
-    shared.keeps();
-    let (left, middle) = numbers_of(alloc, a, shared, shared.len())?;
-    let (right, _) = numbers_of(alloc, b, shared, middle)?;
+    columns.keeps();
+    let (left, middle) = numbers_of(alloc, a, columns, columns.len())?;
+    let (right, _) = numbers_of(alloc, b, columns, middle)?;
     Ok(Orders { left, right })
 }

@@ -1,57 +1,87 @@
-//! The names of outputs, and of the inputs that both circuits have.
+//! The pairs that are compared: outputs of one name, and what exposed latches take over.
 
-ghost use Rattle.std.specs.Prelude.{◌≡◌, ◌==◌, ◌||◌, not, ◌^◌, ◌≤◌, map, None, length, IfOk};
-ghost use Rattle.std.specs.List.{list_any};
-ghost use Rattle.circuit_theory.specs.Interface.{first_mismatch, shared_inputs, is_clock, AreOrders};
+ghost use Rattle.std.specs.Prelude.{◌≡◌, ◌<◌, ◌≤◌, ◌^◌, map, None, length, slice_get, IfOk, IfSome, All};
+ghost use Rattle.std.specs.List.{AllZip};
+ghost use Rattle.circuit_theory.specs.Interface.{first_mismatch};
 ghost use Rattle.sec_base.specs.Table.{AreDistinct};
+ghost use Rattle.flat_net.specs.Cut.{latch_at};
 ghost use Rattle.flat_net.specs.View.{ports_of};
+ghost use Rattle.sec_check.specs.Choosing.{AreNamedAt};
+ghost use Rattle.sec_check.specs.Loading.{IsComparable};
+ghost use Rattle.sec_check.specs.Pairing.{IsOutputPair, IsNextPairAt, ArePairs};
 
-use flat_net::{Net, Port};
-use sec_base::{NameTable, NoMemory, Orders, Words};
+use exposure::Exposure;
+use flat_net::{Net, Port, Signal};
+use plain_form::SignalPair;
+use sec_base::{Ids, NameTable, NoMemory, Seq};
+use sec_outcome::PairName;
 use std::alloc::Global;
 
-/// The names of the inputs that both circuits have, in A's order.
-pub fn shared_inputs(alloc: Global, a: &Net, b: &Net, orders: &Orders) -> Result<Words, NoMemory>
+/// Pairs, in order.
+type SignalPairs = Seq<SignalPair>;
+
+/// Each output of A beside B's output of its name, then what the exposed latches take over.
+pub(crate) fn pairs_of(
+    alloc: Global,
+    a: &Net,
+    b: &Net,
+    exposure: &Exposure,
+) -> Result<SignalPairs, NoMemory>
     requires matches { first_mismatch (ports_of a.now) (ports_of b.now) ≡ None }
-    requires orders { AreOrders (ports_of a.now) (ports_of b.now) orders.now.left orders.now.right }
-    ensures { IfOk result (λ names. names ≡ shared_inputs (ports_of a.now) (ports_of b.now)) }
+    requires right { IsComparable b.now }
+    requires left_named { AreNamedAt a.now exposure.now.names exposure.now.left }
+    requires right_named { AreNamedAt b.now exposure.now.names exposure.now.right }
+    ensures { IfOk result (ArePairs a.now b.now exposure.now.names exposure.now.left exposure.now.right) }
 {
-    let mut names = Words::new(alloc);
-    for (i, port) in a.inputs().iter().enumerate() {
-        if is_shared(
-            b,
-            orders.right.as_slice(),
-            port.name.as_slice(),
-            orders.left.as_slice()[i],
-        ) {
-            names.push(port.name.copy()?)?;
-        }
+    let mut pairs = output_pairs(alloc, a, b)?;
+    for k in 0..exposure.names.len() {
+        pairs.push(next_pair(a, b, exposure, k)?)?;
     }
-    Ok(names)
+    Ok(pairs)
 }
 
-/// Whether the other net has the input of this name and number. Only a name that is its clock's may be left out, and then
-/// no input of its own has the number.
-fn is_shared(other: &Net, numbers: &[u32], name: &[u8], number: u32) -> bool
-    ensures { result ≡ (not (is_clock (ports_of other.now) name.now) || list_any (λ n. n == number) numbers.now) }
+/// Each output of A beside B's output of its name.
+fn output_pairs(alloc: Global, a: &Net, b: &Net) -> Result<SignalPairs, NoMemory>
+    requires matches { first_mismatch (ports_of a.now) (ports_of b.now) ≡ None }
+    requires right { IsComparable b.now }
+    ensures { IfOk result (AllZip (IsOutputPair b.now) a.now.outputs) }
 {
-    !is_clock(other, name) || has_number(numbers, number)
-}
-
-/// Whether the name is that of the net's clock.
-pub(crate) fn is_clock(net: &Net, name: &[u8]) -> bool
-    ensures { result ≡ is_clock (ports_of net.now) name.now }
-{
-    match net.clock() {
-        Some(clock) => clock == name,
-        None => false,
+    let names = output_names(alloc, b.outputs())?;
+    let mut pairs = SignalPairs::new(alloc);
+    for output in a.outputs() {
+        let Some(place) = names.find(output.name.as_slice()) else {
+            unreachable!()
+        };
+        pairs.push(SignalPair {
+            name: PairName::Output(output.name.copy()?),
+            left: output.signal,
+            right: b.outputs()[place as usize].signal,
+        })?;
     }
+    Ok(pairs)
 }
 
-fn has_number(numbers: &[u32], number: u32) -> bool
-    ensures { result ≡ list_any (λ n. n == number) numbers.now }
+/// What the k-th exposed latch takes over in A and in B.
+fn next_pair(a: &Net, b: &Net, exposure: &Exposure, k: usize) -> Result<SignalPair, NoMemory>
+    requires place { k < length exposure.now.names }
+    requires left_named { AreNamedAt a.now exposure.now.names exposure.now.left }
+    requires right_named { AreNamedAt b.now exposure.now.names exposure.now.right }
+    ensures { IfOk result (IsNextPairAt a.now b.now exposure.now.names exposure.now.left exposure.now.right k) }
 {
-    numbers.iter().any(|n| *n == number)
+    Ok(SignalPair {
+        name: PairName::Next(exposure.names.as_slice()[k].copy()?),
+        left: next_at(a, &exposure.left, k),
+        right: next_at(b, &exposure.right, k),
+    })
+}
+
+/// What the latch at the k-th of these positions takes over.
+fn next_at(net: &Net, positions: &Ids, k: usize) -> Signal
+    requires place { k < length positions.now }
+    requires within { All (λ j. j < length net.now.latches) positions.now }
+    ensures { IfSome (slice_get positions.now k) (λ j. result ≡ (latch_at net.now j).next) }
+{
+    net.latches()[positions.as_slice()[k] as usize].next
 }
 
 /// The table of the names, each at its place.

@@ -1,6 +1,7 @@
 //! What no clause says: rows of circuits with the reports that are wanted, through the calls that a program makes.
 
-ghost use Rattle.std.specs.Prelude.{◌<◌, length};
+ghost use Rattle.std.specs.Prelude.{◌≡◌, ◌<◌, ◌≤◌, length};
+ghost use Rattle.circuit_theory.specs.declared.Mode.TheVariants.{Plain};
 ghost use Rattle.latch_graph.specs.Graph.{IsGraphOf};
 
 use super::*;
@@ -17,13 +18,27 @@ const PLAIN: Settings = Settings {
     conflicts: 20_000,
 };
 
-fn compared(alloc: Global, left: &str, right: &str) -> Result<Result<Outcome, CompareError>, Fail> {
+const EXPOSE: Settings = Settings {
+    mode: Mode::Plain,
+    expose: true,
+    conflicts: 20_000,
+};
+
+fn compared(
+    alloc: Global,
+    left: &str,
+    right: &str,
+    settings: &Settings,
+) -> Result<Result<Outcome, CompareError>, Fail>
+    requires plain { settings.now.mode ≡ Plain }
+    requires conflicts { settings.now.conflicts ≤ 200000 }
+{
     let mut shelf = MemShelf::new(alloc, Seq::new(alloc));
     shelf.put(alloc, "a", left.as_bytes())?;
     shelf.put(alloc, "b", right.as_bytes())?;
     let a = load(alloc, &mut shelf, "a")?;
     let b = load(alloc, &mut shelf, "b")?;
-    Ok(compare(alloc, &a, &b, &PLAIN))
+    Ok(compare(alloc, &a, &b, settings))
 }
 
 const AND: &str = ".model m\n.inputs a b\n.outputs y\n.names a b y\n11 1\n.end\n";
@@ -107,10 +122,54 @@ fn outcomes_are_reported(rt: HostRuntime) -> Result<(), Fail> {
             "inputs 2\nlatches 0 0\nexposed 0\npair y depth 0 equal\npair z depth 0 different\nverdict different z cycle 0 values 1 0\ninputs a b\n11\n",
         ),
     ] {
-        let outcome = compared(alloc, left, right)??;
+        let outcome = compared(alloc, left, right, &PLAIN)??;
         let text = report(alloc, &outcome, &PLAIN)?;
         assert_eq!(rt; text.as_slice(), wanted.as_bytes(), "{shows}");
     }
+    Ok(())
+}
+
+const TOGGLE: &str = ".model m\n.outputs y\n.names q n\n0 1\n.latch n q\n.names q y\n1 1\n.end\n";
+
+const TOGGLE_R: &str =
+    ".model m\n.outputs y\n.names r n\n0 1\n.latch n r\n.names r y\n1 1\n.end\n";
+
+const KEEP: &str = ".model m\n.outputs y\n.names q n\n1 1\n.latch n q\n.names q y\n1 1\n.end\n";
+
+const RING: &str =
+    ".model m\n.outputs y\n.latch q p\n.names p n\n0 1\n.latch n q\n.names q y\n1 1\n.end\n";
+
+#[test]
+fn outcomes_with_exposed_latches_are_reported(rt: HostRuntime) -> Result<(), Fail> {
+    let alloc = rt.alloc();
+    for (shows, left, right, wanted) in [
+        (
+            "a latch that reads itself is cut open",
+            TOGGLE,
+            TOGGLE,
+            "inputs 0\nlatches 1 1\nexposed 1 q\npair y depth 0 equal\nnext q depth 0 equal\nthrough 0\nverdict equal\n",
+        ),
+        (
+            "what the latches take over differs",
+            TOGGLE,
+            KEEP,
+            "inputs 0\nlatches 1 1\nexposed 1 q\npair y depth 0 equal\nnext q depth 0 not-shown\nverdict not-shown cut next q cycle 0 values 1 0\ninputs q\n0\n",
+        ),
+        (
+            "no latch is cut open without a cycle",
+            AND,
+            OR,
+            "inputs 2\nlatches 0 0\nexposed 0\npair y depth 0 different\nverdict different y cycle 0 values 0 1\ninputs a b\n10\n",
+        ),
+    ] {
+        let outcome = compared(alloc, left, right, &EXPOSE)??;
+        let text = report(alloc, &outcome, &EXPOSE)?;
+        assert_eq!(rt; text.as_slice(), wanted.as_bytes(), "{shows}");
+    }
+    // One latch of the two is enough.
+    let outcome = compared(alloc, RING, RING, &EXPOSE)??;
+    assert_eq!(rt; outcome.exposed.len(), 1);
+    assert_eq!(rt; outcome.through, 1);
     Ok(())
 }
 
@@ -120,6 +179,8 @@ fn refusal(compared: Result<Outcome, CompareError>) -> (&'static str, usize) {
         Err(CompareError::Interface(name)) => ("interface", name.len()),
         Err(CompareError::Cyclic(Side::A, names)) => ("cycle of A", names.len()),
         Err(CompareError::Cyclic(Side::B, names)) => ("cycle of B", names.len()),
+        Err(CompareError::Unpaired(Side::A, names)) => ("unpaired of A", names.len()),
+        Err(CompareError::Unpaired(Side::B, names)) => ("unpaired of B", names.len()),
         Err(CompareError::TooLarge(Side::A)) => ("size of A", 0),
         Err(CompareError::TooLarge(Side::B)) => ("size of B", 0),
         Err(CompareError::NoMemory) => ("memory", 0),
@@ -134,23 +195,23 @@ const TWELVE: &str =
 
 const OTHER_OUTPUT: &str = ".model m\n.inputs a b\n.outputs sum\n.names a b sum\n11 1\n.end\n";
 
-const RING: &str =
-    ".model m\n.outputs y\n.latch q p\n.names p n\n0 1\n.latch n q\n.names q y\n1 1\n.end\n";
-
 #[test]
 fn refusals_have_their_causes(rt: HostRuntime) -> Result<(), Fail> {
     let alloc = rt.alloc();
-    for (left, right, wanted) in [
-        (THIRTEEN, THIRTEEN, ("none", 0)),
-        (TWELVE, THIRTEEN, ("interface", 1)),
-        (AND, OTHER_OUTPUT, ("interface", 1)),
-        (OTHER_OUTPUT, AND, ("interface", 3)),
-        (RING, ONE, ("cycle of A", 2)),
-        (ONE, RING, ("cycle of B", 2)),
-        (RING, RING, ("cycle of A", 2)),
-        (RING, AND, ("interface", 1)),
+    for (left, right, settings, wanted) in [
+        (THIRTEEN, THIRTEEN, PLAIN, ("none", 0)),
+        (TWELVE, THIRTEEN, PLAIN, ("interface", 1)),
+        (AND, OTHER_OUTPUT, PLAIN, ("interface", 1)),
+        (OTHER_OUTPUT, AND, PLAIN, ("interface", 3)),
+        (RING, ONE, PLAIN, ("cycle of A", 2)),
+        (ONE, RING, PLAIN, ("cycle of B", 2)),
+        (RING, RING, PLAIN, ("cycle of A", 2)),
+        (RING, AND, PLAIN, ("interface", 1)),
+        (TOGGLE, TOGGLE_R, EXPOSE, ("unpaired of A", 1)),
+        (ONE, TOGGLE, EXPOSE, ("unpaired of B", 1)),
+        (RING, AND, EXPOSE, ("interface", 1)),
     ] {
-        assert_eq!(rt; refusal(compared(alloc, left, right)?), wanted);
+        assert_eq!(rt; refusal(compared(alloc, left, right, &settings)?), wanted);
     }
     Ok(())
 }
@@ -187,7 +248,7 @@ fn unfoldings_are_bounded(rt: HostRuntime) -> Result<(), Fail> {
         (over.as_str(), within.as_str(), "size of A"),
         (within.as_str(), over.as_str(), "size of B"),
     ] {
-        assert_eq!(rt; refusal(compared(alloc, left, right)?).0, wanted);
+        assert_eq!(rt; refusal(compared(alloc, left, right, &PLAIN)?).0, wanted);
     }
     Ok(())
 }
@@ -195,8 +256,6 @@ fn unfoldings_are_bounded(rt: HostRuntime) -> Result<(), Fail> {
 const LATE: &str = ".model m\n.inputs a b\n.outputs y\n.names a b n\n11 1\n.latch n y\n.end\n";
 
 const LATCHED_ONE: &str = ".model m\n.outputs y\n.names k\n1\n.latch k y\n.end\n";
-
-const TOGGLE: &str = ".model m\n.outputs y\n.names q n\n0 1\n.latch n q\n.names q y\n1 1\n.end\n";
 
 /// The signal of the first output.
 fn first_output(net: &Net) -> Signal

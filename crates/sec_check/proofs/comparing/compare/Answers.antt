@@ -1,15 +1,18 @@
-use Rattle.std.proofs.Common.{subst}
-use Rattle.sec_check.specs.Compared.{IsCycleOf}
-use Rattle.sec_check.proofs.Outcomes.{formed_is_compared, too_large}
+-- Nets without latches cut out, and want of memory.
+use Rattle.std.proofs.Common.{◌≡◌, ◌∙◌, ℕ, List, length, sym}
+use Rattle.sec_check.proofs.Outcomes.{memory_wanted}
+use Rattle.sec_check.proofs.Uncut.{uncut, no_names}
 use Rattle.sec_check.proofs.comparing.compare.Goals as goal
 
-pub returns-in-Ok : goal.returns-in-Ok
-returns-in-Ok c =
-    formed_is_compared c.args.a.now c.args.b.now c.args.settings.now.conflicts c.in-Ok.outcome c.keeps.ensures.sound c.keeps-2.ensures.sound c.requires.right c.in_ok-orders.ensures.ok.0
-    (subst (IsCycleOf c.args.a.now) c.in_default.is c.in_ok-names.ensures) (subst (IsCycleOf c.args.b.now) c.in_default-2.is c.in_ok-names-2.ensures) c.in-Ok.ensures
+pub compare_cut-requires-clause-cut : goal.compare_cut-requires-clause-cut
+compare_cut-requires-clause-cut c =
+    uncut c.args.a.now c.args.b.now c.args.settings.now.expose c.in_ok-exposure.exposure c.in_ok-exposure.ensures (no_names c.in_ok-exposure.exposure.names (sym c.len.ensures ∙ c.if-len-eq0.true))
 
-pub returns-in-Err-TooLarge : goal.returns-in-Err-TooLarge
-returns-in-Err-TooLarge c =
-    let large = rw c.in-Err-TooLarge.field-0-is at c.in-Err-TooLarge.ensures in
-    too_large c.args.a.now c.args.b.now c.args.settings.now.conflicts c.in-Err-TooLarge.side c.in_ok-orders.ensures.ok.0
-    (subst (IsCycleOf c.args.a.now) c.in_default.is c.in_ok-names.ensures) (subst (IsCycleOf c.args.b.now) c.in_default-2.is c.in_ok-names-2.ensures) large
+pub returns-in_err-right_cut : goal.returns-in_err-right_cut
+returns-in_err-right_cut c = memory_wanted c.args.a.now c.args.b.now c.args.settings.now c.from_residual-in_err-right_cut.result c.from_residual-in_err-right_cut.ensures.1
+
+pub returns-in_err-left-2 : goal.returns-in_err-left-2
+returns-in_err-left-2 c = memory_wanted c.args.a.now c.args.b.now c.args.settings.now c.from_residual-in_err-left-2.result c.from_residual-in_err-left-2.ensures.1
+
+pub returns-in_err-right-2 : goal.returns-in_err-right-2
+returns-in_err-right-2 c = memory_wanted c.args.a.now c.args.b.now c.args.settings.now c.from_residual-in_err-right-2.result c.from_residual-in_err-right-2.ensures.1

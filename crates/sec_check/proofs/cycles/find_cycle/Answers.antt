@@ -1,7 +1,7 @@
 use Rattle.sec_check.proofs.ToldCycles.{told_cycle, acyclic_graph}
 use Rattle.flat_net.specs.Cut.{exposed_names}
-use Rattle.std.proofs.Common.{List, ℕ, sym, subst}
-use Rattle.sec_check.specs.Compared.{IsToldCycle}
+use Rattle.std.proofs.Common.{List, [], ℕ, sym, subst}
+use Rattle.exposure.specs.Exposed.{IsToldCycle}
 use Rattle.sec_check.proofs.cycles.find_cycle.Goals as goal
 
 pub returns-in-Some : goal.returns-in-Some
@@ -11,7 +11,7 @@ returns-in-Some c =
     let within = rw c.in-Some.is at c.in_ok-positions.ensures.within in
     let cycle = rw c.in-Some.is at c.in_ok-positions.ensures.cycle in
     let least = rw c.in-Some.is at c.in_ok-positions.ensures.least in
-    subst (λ (names : List (List ℕ)). IsToldCycle n names) (sym c.in_ok-names_at-in-Some.ensures)
+    subst (λ (names : List (List ℕ)). IsToldCycle n [] names) (sym c.in_ok-names_at-in-Some.ensures)
     (told_cycle n g c.in_ok-none.none c.in-Some.positions c.requires c.in_ok-none.ensures.none within (cycle n c.requires) (least n c.requires))
 
 pub returns : goal.returns
