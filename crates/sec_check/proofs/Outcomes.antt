@@ -142,6 +142,8 @@ module _ (a b m k : NetView) (settings : Settings) (e : Exposure) (sa : IsSound 
       pub outcome_is_compared : IsCompared a b settings outcome
       unfolding outcome_fits
       outcome_is_compared = record {
+        left_sound = sa;
+        right_sound = sb;
         matches = matches;
         fits = outcome_fits;
         left_light = found.left_light;

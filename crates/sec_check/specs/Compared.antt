@@ -5,6 +5,7 @@ use Rattle.circuit_theory.specs.declared.Side.{Side}
 use Rattle.circuit_theory.specs.declared.Side.TheVariants.{A, B}
 use Rattle.circuit_theory.specs.Agree.{Agree, AgreeOnward}
 use Rattle.circuit_theory.specs.Interface.{first_mismatch}
+use Rattle.flat_net.specs.Sound.{IsSound}
 use Rattle.flat_net.specs.View.{NetView, circuit_of, ports_of}
 use Rattle.witness_report.specs.declared.witness.Witness.{Witness}
 use Rattle.sec_words.specs.declared.settings.Settings.{Settings}
@@ -36,8 +37,10 @@ pub record AreEqual (a b : NetView) (o : Outcome) : Type 0 where
   pub from : AgreeFrom o.through o.exposed (circuit_of a) (circuit_of b)
 
 -- The interfaces match, the outcome fits the circuits, and both unfoldings are light. Equal, different and not shown say what they
--- say of the circuits.
+-- say of the circuits. Both nets keep what each net keeps.
 pub record IsCompared (a b : NetView) (settings : Settings) (o : Outcome) : Type 0 where
+  pub left_sound : IsSound a
+  pub right_sound : IsSound b
   pub matches : InterfacesMatch a b
   pub fits : OutcomeFits a b settings.expose settings.conflicts o
   pub left_light : IsLight fits.left_cut
