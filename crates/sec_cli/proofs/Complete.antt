@@ -1,5 +1,5 @@
 -- Where both texts are told and can be compared, a run ends with a verdict, or at want of memory.
-use Rattle.std.proofs.Common.{◌≡◌, ℕ, List, refl, sym, ◌∙◌, subst, arith, Option, Some, None}
+use Rattle.std.proofs.Common.{◌≡◌, ℕ, List, [], refl, sym, ◌∙◌, subst, arith, Option, Some, None}
 use Rattle.std.specs.Prelude.{IfSome, IsSomeAnd}
 use Rattle.std.proofs.lemmas.Option.{none-some}
 use Rattle.circuit_theory.specs.declared.Side.{Side}
@@ -8,7 +8,9 @@ use Rattle.pair_decide.specs.declared.query.Proof.{Proof}
 use Rattle.sec_words.specs.declared.task.Task.{Task}
 use Rattle.sec_words.specs.declared.task.Task.TheVariants as task
 use Rattle.sec_check.specs.Loading.{IsAccepted, IsTooLong, HasFault, HasDesignFault}
-use Rattle.sec_check.proofs.ToldCycles.{told_is_cyclic}
+use Rattle.flat_net.specs.View.{circuit_of}
+use Rattle.exposure.specs.Exposed.{common_names}
+use Rattle.sec_check.specs.Compared.{AreBroken}
 use Rattle.sec_cli.specs.declared.finding.Refusal.{Refusal}
 use Rattle.sec_cli.specs.declared.finding.Refusal.TheVariants as refusal
 use Rattle.sec_cli.specs.declared.finding.Finding.{Finding}
@@ -19,6 +21,7 @@ use Rattle.sec_cli.specs.declared.status.StatusName.{StatusName}
 use Rattle.sec_cli.specs.declared.status.StatusName.TheVariants as status
 use Rattle.sec_cli.specs.Job.{Check, check_of, OfCheck}
 use Rattle.sec_cli.specs.Answer.{Held, OfTexts, IsRefusal, IsFoundOf, WhereBuilt, IsFinding, AreComparable, CanAnswer, IsAnswer, EndsAs, verdict_status, status_of}
+use Rattle.sec_cli.proofs.ToldCycles.{is_not_free}
 
 -- the two texts that are told
 record AreTold (held : Held) (check : Check) : Type 0 where
@@ -26,16 +29,16 @@ record AreTold (held : Held) (check : Check) : Type 0 where
   pub right : List ℕ
   pub left_is : held check.left ≡ Some left
   pub right_is : held check.right ≡ Some right
-  pub comparable : AreComparable left right
+  pub comparable : AreComparable left right check.settings.expose
 
 pub some_and : {X : Type 0} (o : Option X) (P : X → Type 0) → IsSomeAnd o P → (x : X) × (o ≡ Some x) × P x
 some_and None P h = absurd h
 some_and (Some x) P h = (x, refl, h)
 
-are_told : (held : Held) (check : Check) → IsSomeAnd (held check.left) (λ x. IsSomeAnd (held check.right) (λ y. AreComparable x y)) → AreTold held check
+are_told : (held : Held) (check : Check) → CanAnswer held check → AreTold held check
 are_told held check h =
-    let left = some_and (held check.left) (λ x. IsSomeAnd (held check.right) (λ y. AreComparable x y)) h in
-    let right = some_and (held check.right) (λ y. AreComparable left.0 y) left.2 in
+    let left = some_and (held check.left) (λ x. IsSomeAnd (held check.right) (λ y. AreComparable x y check.settings.expose)) h in
+    let right = some_and (held check.right) (λ y. AreComparable left.0 y check.settings.expose) left.2 in
     record { left = left.0; right = right.0; left_is = left.1; right_is = right.1; comparable = right.2 }
 
 pub if_told : {X : Type 0} (o : Option X) (P : X → Type 0) (x : X) → o ≡ Some x → IfSome o P → P x
@@ -63,28 +66,45 @@ module _ (held : Held) (check : Check) (told : AreTold held check) where
   no_refusal (refusal.Design A fault) h = told.comparable.left.sound fault (of_left (λ x. HasDesignFault x fault) h).2
   no_refusal (refusal.Design B fault) h = told.comparable.right.sound fault (of_texts _ h).2.2
   no_refusal (refusal.Interface name) h = let n = of_texts _ h in no_fault _ (sym (told.comparable.match n.0 n.1 n.2 n.3) ∙ n.4)
-  no_refusal (refusal.TooLarge A) h = let n = of_texts _ h in told.comparable.left_light n.0 n.2 n.4.3
-  no_refusal (refusal.TooLarge B) h = let n = of_texts _ h in told.comparable.right_light n.1 n.3 n.4.4
+  no_refusal (refusal.TooLarge side) h = let n = of_texts _ h in told.comparable.light n.0 n.1 n.2 n.3 side n.4.2
   no_refusal refusal.StimulusTooLong h = h
   no_refusal (refusal.BadHeader line) h = h
   no_refusal (refusal.BadRow line) h = h
   no_refusal (refusal.Misfit m) h = h
 
   no_cycle : (side : Side) (names : List (List ℕ)) → IsFoundOf held check (finding.Cyclic side names) → ⊥
-  no_cycle A names h = let n = of_texts _ h in told_is_cyclic n.0 names n.4.1 (told.comparable.left_acyclic n.0 n.2)
-  no_cycle B names h = let n = of_texts _ h in told_is_cyclic n.1 names n.4.2 (told.comparable.right_acyclic n.1 n.3)
+  no_cycle A names h =
+      let n = of_texts _ h in
+      let free = subst (AreBroken n.0 n.1) n.4.1 (told.comparable.broken n.0 n.1 n.2 n.3) in
+      is_not_free n.0 [] names n.4.2 free.0
+  no_cycle B names h =
+      let n = of_texts _ h in
+      let free = subst (AreBroken n.0 n.1) n.4.1 (told.comparable.broken n.0 n.1 n.2 n.3) in
+      is_not_free n.1 [] names n.4.3 free.1
+
+  no_unpaired : (side : Side) (names : List (List ℕ)) → IsFoundOf held check (finding.Unpaired side names) → ⊥
+  no_unpaired A names h =
+      let n = of_texts _ h in
+      let free = subst (AreBroken n.0 n.1) n.4.1 (told.comparable.broken n.0 n.1 n.2 n.3) in
+      is_not_free n.0 (common_names (circuit_of n.0) (circuit_of n.1)) names n.4.2 free.0
+  no_unpaired B names h =
+      let n = of_texts _ h in
+      let free = subst (AreBroken n.0 n.1) n.4.1 (told.comparable.broken n.0 n.1 n.2 n.3) in
+      is_not_free n.1 (common_names (circuit_of n.0) (circuit_of n.1)) names n.4.3 free.1
 
   -- a finding of them has the status of a verdict
   has_verdict : (f : Finding) → IsFoundOf held check f → IsAnswer (status_of f)
   has_verdict finding.Words h = h
   has_verdict (finding.Refused r) h = no_refusal r h
   has_verdict (finding.Cyclic side names) h = no_cycle side names h
+  has_verdict (finding.Unpaired side names) h = no_unpaired side names h
   has_verdict (finding.Done report) h = absurd h
   has_verdict (finding.Checked o s) h = go o.verdict
     where
       go : (v : Verdict) → IsAnswer (verdict_status v)
       go verdict.Equal = tt
       go (verdict.Different w) = tt
+      go (verdict.NotShown reason) = tt
       go (verdict.Limit at) = tt
 
 -- the finding of a job that can be answered
@@ -105,6 +125,7 @@ pub ends_with_answer : (held : Held) (before now : Option (List ℕ)) (job : Opt
     (name ≡ status.ReadFault → ⊥) → (name ≡ status.WriteFault → ⊥) → OfCheck job (CanAnswer held) → IsAnswer name
 ends_with_answer held before now job proofs status.Equal ends read write can = tt
 ends_with_answer held before now job proofs status.Different ends read write can = tt
+ends_with_answer held before now job proofs status.NotShown ends read write can = tt
 ends_with_answer held before now job proofs status.Limit ends read write can = tt
 ends_with_answer held before now job proofs status.NoMemory ends read write can = tt
 ends_with_answer held before now job proofs status.ReadFault ends read write can = absurd (read refl)

@@ -54,6 +54,7 @@ module _ (circuit : Option (List ℕ)) (x : List ℕ) (is : circuit ≡ Some x) 
   graph_done finding.Words h = absurd h
   graph_done (finding.Refused r) h = absurd (circuit_stands r h)
   graph_done (finding.Cyclic side names) h = absurd h
+  graph_done (finding.Unpaired side names) h = absurd h
   graph_done (finding.Checked o s) h = absurd h
   graph_done (finding.Done report) h = tt
 
@@ -79,6 +80,7 @@ module _ (circuit stimulus power : Option (List ℕ)) (x y : List ℕ) (is : cir
   run_done finding.Words h = absurd h
   run_done (finding.Refused r) h = absurd (run_stands r h)
   run_done (finding.Cyclic side names) h = absurd h
+  run_done (finding.Unpaired side names) h = absurd h
   run_done (finding.Checked o s) h = absurd h
   run_done (finding.Done report) h = tt
 
@@ -119,6 +121,7 @@ ends_done held before now job proofs status.ReadFault ends read write can = absu
 ends_done held before now job proofs status.WriteFault ends read write can = absurd (write refl)
 ends_done held before now job proofs status.Equal ends read write can = subst IsDone ends.3 (can ends.0 ends.1)
 ends_done held before now job proofs status.Different ends read write can = subst IsDone ends.3 (can ends.0 ends.1)
+ends_done held before now job proofs status.NotShown ends read write can = subst IsDone ends.3 (can ends.0 ends.1)
 ends_done held before now job proofs status.Limit ends read write can = subst IsDone ends.3 (can ends.0 ends.1)
 ends_done held before now job proofs status.Refused ends read write can = subst IsDone ends.3 (can ends.0 ends.1)
 ends_done held before now job proofs status.Words ends read write can = subst IsDone ends.3 (can ends.0 ends.1)

@@ -101,10 +101,11 @@ right_ends held before now check net (load_error.Flat flat_error.NoMemory) l h =
 
 -- both files are loaded and compared
 pub nets_end : (held : Held) (before now : List ℕ → ℕ) (check : Check) (a b : NetView) (r : Result Outcome CompareError) →
-    IfSome (held check.left) (λ x. Loads x a) → IfSome (held check.right) (λ y. Loads y b) → Compared a b check.settings.conflicts r → FoundOf held before now check (compare_end check.settings r)
+    IfSome (held check.left) (λ x. Loads x a) → IfSome (held check.right) (λ y. Loads y b) → Compared a b check.settings r → FoundOf held before now check (compare_end check.settings r)
 nets_end held before now check a b (Ok o) l m c = (refl, both_told (held check.left) (held check.right) _ _ _ (λ x y p q. (a, b, p, q, c)) l m)
 nets_end held before now check a b (Err (compare_error.Interface name)) l m c = both_told (held check.left) (held check.right) _ _ _ (λ x y p q. (a, b, p, q, c)) l m
 nets_end held before now check a b (Err (compare_error.Cyclic side names)) l m c = both_told (held check.left) (held check.right) _ _ _ (λ x y p q. (a, b, p, q, c)) l m
+nets_end held before now check a b (Err (compare_error.Unpaired side names)) l m c = both_told (held check.left) (held check.right) _ _ _ (λ x y p q. (a, b, p, q, c)) l m
 nets_end held before now check a b (Err (compare_error.TooLarge side)) l m c = both_told (held check.left) (held check.right) _ _ _ (λ x y p q. (a, b, p, q, c)) l m
 nets_end held before now check a b (Err compare_error.NoMemory) l m c = tt
 
@@ -165,5 +166,6 @@ pub no_fault_compared : (settings : Settings) (r : Result Outcome CompareError) 
 no_fault_compared settings (Ok o) h = absurd (cc)
 no_fault_compared settings (Err (compare_error.Interface name)) h = absurd (cc)
 no_fault_compared settings (Err (compare_error.Cyclic side names)) h = absurd (cc)
+no_fault_compared settings (Err (compare_error.Unpaired side names)) h = absurd (cc)
 no_fault_compared settings (Err (compare_error.TooLarge side)) h = absurd (cc)
 no_fault_compared settings (Err compare_error.NoMemory) h = absurd (cc)

@@ -2,5 +2,8 @@ pub mod Complete
 pub mod CompleteReports
 pub mod Conflicts
 pub mod Finds
+pub mod Fitted
 pub mod Means
 pub mod OneCircuit
+pub mod Texts
+pub mod ToldCycles

@@ -1,31 +1,20 @@
--- What the statuses equal, different and limit mean for the texts.
-use Rattle.std.proofs.Common.{◌≡◌, ℕ, List, [], ◌∷◌, refl, sym, ◌∙◌, subst, ap, arith, inl, inr, ◌⊎◌, Option, Some, None}
+-- What the statuses equal, different, not shown and limit mean for the texts.
+use Rattle.std.proofs.Common.{◌≡◌, ℕ, List, refl, sym, ◌∙◌, subst, ap, inl, inr, ◌⊎◌, Option, Some, None}
 use Rattle.std.specs.Prelude.{IfSome, IsSomeAnd}
-use Rattle.std.specs.List.{Contains, filter_map}
-use Rattle.circuit_theory.proofs.Lists.{Contains-head, Contains-tail, Contains-cases, of_at}
 use Rattle.sec_base.specs.Outside.{Takes}
-use Rattle.flat_net.specs.View.{NetView, circuit_of, ports_of}
+use Rattle.flat_net.specs.View.{NetView}
 use Rattle.pair_decide.specs.declared.query.Proof.{Proof}
 use Rattle.witness_report.specs.declared.witness.Witness.{Witness}
 use Rattle.sec_words.specs.declared.task.Task.{Task}
 use Rattle.sec_words.specs.declared.task.Task.TheVariants as task
 use Rattle.sec_words.specs.declared.settings.Settings.{Settings}
-use Rattle.sec_outcome.specs.declared.outcome.PairResult.{PairResult}
 use Rattle.sec_outcome.specs.declared.outcome.LimitAt.{LimitAt}
-use Rattle.sec_outcome.specs.declared.outcome.LimitAt.TheVariants as limit_at
 use Rattle.sec_outcome.specs.declared.outcome.Outcome.{Outcome}
 use Rattle.sec_outcome.specs.declared.outcome.Verdict.{Verdict}
 use Rattle.sec_outcome.specs.declared.outcome.Verdict.TheVariants as verdict
+use Rattle.sec_outcome.specs.declared.outcome.Why.TheVariants as why
 use Rattle.sec_outcome.specs.Report.{report_text}
-use Rattle.circuit_theory.specs.Interface.{shared_inputs}
-use Rattle.plain_form.specs.Outcome.{VerdictFits, IsFirstLimit}
-use Rattle.sec_check.specs.Compared.{IsCompared}
 use Rattle.sec_check.specs.Loading.{Loads}
-use Rattle.blif_read.specs.Design.{circuit_of_design}
-use Rattle.blif_read.specs.Reading.{spelled}
-use Rattle.sec_check.proofs.Designs.{agree_of_nets, shown_of_nets}
-use Rattle.sec_check.proofs.Loaded.{spelled_circuit}
-use Rattle.sec_check.proofs.Outcomes.{place_stands, output_of, limit_answer}
 use Rattle.sec_cli.specs.declared.finding.Finding.{Finding}
 use Rattle.sec_cli.specs.declared.finding.Finding.TheVariants as finding
 use Rattle.sec_cli.specs.declared.status.StatusName.{StatusName}
@@ -33,8 +22,9 @@ use Rattle.sec_cli.specs.declared.status.StatusName.TheVariants as status
 use Rattle.sec_cli.specs.Job.{Check, Sim, check_of, graph_of, sim_of, OfCheck}
 use Rattle.sec_cli.specs.Lines.{finding_text}
 use Rattle.sec_cli.specs.Reports.{IsGraphFound, IsSimFound, TakesGraph, TakesRun}
-use Rattle.sec_cli.specs.Answer.{Held, OfTexts, OfNets, IsFinding, IsFoundOf, WhereBuilt, TakesReport, EndsAs, TextsAgree, TextsDiffer, TextsUndecided, verdict_status, status_of}
+use Rattle.sec_cli.specs.Answer.{Held, OfTexts, OfNets, IsFinding, IsFoundOf, WhereBuilt, TakesReport, EndsAs, TextsAgree, TextsDiffer, TextsNotShown, TextsUndecided, verdict_status, status_of}
 use Rattle.sec_cli.specs.Ends.{IsWrittenAs}
+use Rattle.sec_cli.proofs.Texts.{texts_agree, texts_differ, texts_not_shown, texts_undecided}
 
 if_some : {X : Type 0} {F G : X → Type 0} (o : Option X) → ((x : X) → F x → G x) → IfSome o F → IfSome o G
 if_some None f h = tt
@@ -54,6 +44,7 @@ graph_status : (circuit : Option (List ℕ)) (f : Finding) → IsGraphFound circ
 graph_status circuit finding.Words h = absurd h
 graph_status circuit (finding.Refused r) h = inr refl
 graph_status circuit (finding.Cyclic side names) h = absurd h
+graph_status circuit (finding.Unpaired side names) h = absurd h
 graph_status circuit (finding.Checked o s) h = absurd h
 graph_status circuit (finding.Done report) h = inl refl
 
@@ -61,6 +52,7 @@ sim_status : (circuit stimulus power : Option (List ℕ)) (f : Finding) → IsSi
 sim_status circuit stimulus power finding.Words h = absurd h
 sim_status circuit stimulus power (finding.Refused r) h = inr refl
 sim_status circuit stimulus power (finding.Cyclic side names) h = absurd h
+sim_status circuit stimulus power (finding.Unpaired side names) h = absurd h
 sim_status circuit stimulus power (finding.Checked o s) h = absurd h
 sim_status circuit stimulus power (finding.Done report) h = inl refl
 
@@ -89,125 +81,74 @@ of_check P held (Some (task.Gen seed regroup conflicts)) f found words refused d
 equal_verdict : (v : Verdict) → verdict_status v ≡ status.Equal → v ≡ verdict.Equal
 equal_verdict verdict.Equal e = refl
 equal_verdict (verdict.Different w) e = absurd (cc)
+equal_verdict (verdict.NotShown reason) e = absurd (cc)
 equal_verdict (verdict.Limit at) e = absurd (cc)
 
 different_verdict : (v : Verdict) → verdict_status v ≡ status.Different → (w : Witness) × (v ≡ verdict.Different w)
 different_verdict verdict.Equal e = absurd (cc)
 different_verdict (verdict.Different w) e = (w, refl)
+different_verdict (verdict.NotShown reason) e = absurd (cc)
 different_verdict (verdict.Limit at) e = absurd (cc)
+
+not_shown_verdict : (v : Verdict) → verdict_status v ≡ status.NotShown → (w : Witness) × (v ≡ verdict.NotShown (why.Cut w))
+not_shown_verdict verdict.Equal e = absurd (cc)
+not_shown_verdict (verdict.Different w) e = absurd (cc)
+not_shown_verdict (verdict.NotShown (why.Cut w)) e = (w, refl)
+not_shown_verdict (verdict.Limit at) e = absurd (cc)
 
 limit_verdict : (v : Verdict) → verdict_status v ≡ status.Limit → (at : LimitAt) × (v ≡ verdict.Limit at)
 limit_verdict verdict.Equal e = absurd (cc)
 limit_verdict (verdict.Different w) e = absurd (cc)
+limit_verdict (verdict.NotShown reason) e = absurd (cc)
 limit_verdict (verdict.Limit at) e = (at, refl)
 
-texts_agree : (conflicts : ℕ) (o : Outcome) → o.verdict ≡ verdict.Equal → (x y : List ℕ) (a b : NetView) → Loads x a → Loads y b → IsCompared a b conflicts o → TextsAgree x y
-texts_agree conflicts o e x y a b left right compared = record {
-  left_clock = a.clock;
-  right_clock = b.clock;
-  left = circuit_of_design (spelled x) a.clock;
-  right = circuit_of_design (spelled y) b.clock;
-  left_spelled = spelled_circuit x a left;
-  right_spelled = spelled_circuit y b right;
-  agree = agree_of_nets left.flat.flattened right.flat.flattened (compared.equal e);
-}
-
-texts_differ : (before now : Option (List ℕ)) (conflicts : ℕ) (o : Outcome) (w : Witness) → o.verdict ≡ verdict.Different w → Takes before now (report_text conflicts o) →
-    (x y : List ℕ) (a b : NetView) → Loads x a → Loads y b → IsCompared a b conflicts o → TextsDiffer x y conflicts before now
-texts_differ before now conflicts o w e taken x y a b left right compared = record {
-  left_clock = a.clock;
-  right_clock = b.clock;
-  left = circuit_of_design (spelled x) a.clock;
-  right = circuit_of_design (spelled y) b.clock;
-  left_spelled = spelled_circuit x a left;
-  right_spelled = spelled_circuit y b right;
-  outcome = o;
-  witness = w;
-  is_verdict = e;
-  printed = taken;
-  shown = shown_of_nets left.flat.flattened right.flat.flattened (compared.different w e);
-}
-
--- the proof that a result has is among the proofs
-kept_proof : (results : List PairResult) (r : PairResult) (proof : Proof) → Contains results r → r.proof ≡ Some proof → Contains (filter_map (λ (s : PairResult). s.proof) results) proof
-kept_proof [] r proof h e = absurd (none h)
-  where
-    none : Contains [] r → ⊥
-    none k = omega (arith, k.1)
-kept_proof (s ∷ results) r proof h e = go s.proof refl (Contains-cases s r results h) (λ k. kept_proof results r proof k e)
-  where
-    go : (o : Option Proof) → s.proof ≡ o → (s ≡ r) ⊎ Contains results r → (Contains results r → Contains (filter_map (λ (t : PairResult). t.proof) results) proof) →
-        Contains (filter_map (λ (t : PairResult). t.proof) (s ∷ results)) proof
-    go None q (inl same) later = absurd (no (sym q ∙ (ap (λ (t : PairResult). t.proof) same ∙ e)))
-      where
-        no : None ≡ Some proof → ⊥
-        no z = cc
-    go None q (inr k) later = rw q (later k)
-    go (Some x) q (inl same) later = rw q (subst (λ z. Contains (x ∷ filter_map (λ (t : PairResult). t.proof) results) z) (one (sym q ∙ (ap (λ (t : PairResult). t.proof) same ∙ e))) (Contains-head x (filter_map (λ (t : PairResult). t.proof) results)))
-      where
-        one : Some x ≡ Some proof → x ≡ proof
-        one z = cc
-    go (Some x) q (inr k) later = rw q (Contains-tail x proof (filter_map (λ (t : PairResult). t.proof) results) (later k))
-
-texts_undecided : (before now : Option (List ℕ)) (conflicts : ℕ) (proofs : List Proof) (o : Outcome) (at : LimitAt) → o.verdict ≡ verdict.Limit at → proofs ≡ filter_map (λ (r : PairResult). r.proof) o.pairs →
-    Takes before now (report_text conflicts o) → (x y : List ℕ) (a b : NetView) → Loads x a → Loads y b → IsCompared a b conflicts o → TextsUndecided x y conflicts proofs before now
-texts_undecided before now conflicts proofs o at e kept taken x y a b left right compared =
-    let fits = compared.fits in
-    let first : IsFirstLimit o.pairs at = subst (λ v. VerdictFits (circuit_of a) (circuit_of b) fits.left fits.right (shared_inputs (ports_of a) (ports_of b)) o.pairs v) e fits.verdict_is in
-    let out = output_of (circuit_of a) (circuit_of b) fits.left fits.right conflicts (circuit_of a).outputs o.pairs fits.pairs first.index first.result first.result_is in
-    let n = out.0 in
-    let given = limit_answer (circuit_of a) (circuit_of b) fits.left fits.right conflicts n.place out.2.place first.result.answer first.result.proof out.2.fits.answer_is first.limit in
-    record {
-      left_net = a;
-      right_net = b;
-      left_loads = left;
-      right_loads = right;
-      left = fits.left;
-      right = fits.right;
-      orders = fits.orders;
-      name = n.name;
-      left_place = n.place;
-      right_place = out.2.place;
-      left_output = of_at (circuit_of a).outputs first.index n out.1;
-      right_output = place_stands (circuit_of b).outputs n.name out.2.place out.2.place_is;
-      proof = given.0;
-      kept = subst (λ (ps : List Proof). Contains ps given.0) (sym kept) (kept_proof o.pairs first.result given.0 (of_at o.pairs first.index first.result first.result_is) given.1);
-      undecided = given.2;
-      outcome = o;
-      is_verdict = e ∙ ap verdict.Limit (first.at_is ∙ ap limit_at.Pair out.2.fits.name_is);
-      printed = taken;
-    }
-
--- a report by the conflicts of the comparison
+-- a report by the settings of the comparison
 report_of : (before now : Option (List ℕ)) (o : Outcome) (s : Settings) (check : Check) → s ≡ check.settings → Takes before now (report_text s.conflicts o) → Takes before now (report_text check.settings.conflicts o)
 report_of before now o s check e taken = subst (λ (t : Settings). Takes before now (report_text t.conflicts o)) e taken
 
-equal_found : (held : Held) (check : Check) (f : Finding) → IsFoundOf held check f → status_of f ≡ status.Equal → OfTexts held check TextsAgree
-equal_found held check finding.Words h e = absurd h
-equal_found held check (finding.Refused r) h e = absurd (cc)
-equal_found held check (finding.Cyclic side names) h e = absurd (cc)
-equal_found held check (finding.Done report) h e = absurd h
-equal_found held check (finding.Checked o s) h e = over_nets held check _ TextsAgree (texts_agree check.settings.conflicts o (equal_verdict o.verdict e)) h.1
+equal_found : (held : Held) (check : Check) (before now : Option (List ℕ)) (f : Finding) (proofs : List Proof) → IsFoundOf held check f → IsWrittenAs before now f proofs status.Equal →
+    OfTexts held check (λ x y. TextsAgree x y check.settings.conflicts before now)
+equal_found held check before now finding.Words proofs h w = absurd h
+equal_found held check before now (finding.Refused r) proofs h w = absurd (let e = w.1 in cc)
+equal_found held check before now (finding.Cyclic side names) proofs h w = absurd (let e = w.1 in cc)
+equal_found held check before now (finding.Unpaired side names) proofs h w = absurd (let e = w.1 in cc)
+equal_found held check before now (finding.Done report) proofs h w = absurd h
+equal_found held check before now (finding.Checked o s) proofs h w =
+    let v = equal_verdict o.verdict w.1 in
+    over_nets held check _ (λ x y. TextsAgree x y check.settings.conflicts before now) (λ x y a b left right compared. texts_agree before now check.settings o (report_of before now o s check h.0 w.2) x y a b left right compared v) h.1
 
 different_found : (held : Held) (check : Check) (before now : Option (List ℕ)) (f : Finding) (proofs : List Proof) → IsFoundOf held check f → IsWrittenAs before now f proofs status.Different →
     OfTexts held check (λ x y. TextsDiffer x y check.settings.conflicts before now)
 different_found held check before now finding.Words proofs h w = absurd h
 different_found held check before now (finding.Refused r) proofs h w = absurd (let e = w.1 in cc)
 different_found held check before now (finding.Cyclic side names) proofs h w = absurd (let e = w.1 in cc)
+different_found held check before now (finding.Unpaired side names) proofs h w = absurd (let e = w.1 in cc)
 different_found held check before now (finding.Done report) proofs h w = absurd h
 different_found held check before now (finding.Checked o s) proofs h w =
-    let d = different_verdict o.verdict w.1 in
-    over_nets held check _ (λ x y. TextsDiffer x y check.settings.conflicts before now) (texts_differ before now check.settings.conflicts o d.0 d.1 (report_of before now o s check h.0 w.2)) h.1
+    let v = different_verdict o.verdict w.1 in
+    over_nets held check _ (λ x y. TextsDiffer x y check.settings.conflicts before now) (λ x y a b left right compared. texts_differ before now check.settings o (report_of before now o s check h.0 w.2) x y a b left right compared v.0 v.1) h.1
+
+not_shown_found : (held : Held) (check : Check) (before now : Option (List ℕ)) (f : Finding) (proofs : List Proof) → IsFoundOf held check f → IsWrittenAs before now f proofs status.NotShown →
+    OfTexts held check (λ x y. TextsNotShown x y check.settings before now)
+not_shown_found held check before now finding.Words proofs h w = absurd h
+not_shown_found held check before now (finding.Refused r) proofs h w = absurd (let e = w.1 in cc)
+not_shown_found held check before now (finding.Cyclic side names) proofs h w = absurd (let e = w.1 in cc)
+not_shown_found held check before now (finding.Unpaired side names) proofs h w = absurd (let e = w.1 in cc)
+not_shown_found held check before now (finding.Done report) proofs h w = absurd h
+not_shown_found held check before now (finding.Checked o s) proofs h w =
+    let v = not_shown_verdict o.verdict w.1 in
+    over_nets held check _ (λ x y. TextsNotShown x y check.settings before now) (λ x y a b left right compared. texts_not_shown before now check.settings o (report_of before now o s check h.0 w.2) x y a b left right compared v.0 v.1) h.1
 
 limit_found : (held : Held) (check : Check) (before now : Option (List ℕ)) (f : Finding) (proofs : List Proof) → IsFoundOf held check f → IsWrittenAs before now f proofs status.Limit →
-    OfTexts held check (λ x y. TextsUndecided x y check.settings.conflicts proofs before now)
+    OfTexts held check (λ x y. TextsUndecided x y check.settings proofs before now)
 limit_found held check before now finding.Words proofs h w = absurd h
 limit_found held check before now (finding.Refused r) proofs h w = absurd (let e = w.1 in cc)
 limit_found held check before now (finding.Cyclic side names) proofs h w = absurd (let e = w.1 in cc)
+limit_found held check before now (finding.Unpaired side names) proofs h w = absurd (let e = w.1 in cc)
 limit_found held check before now (finding.Done report) proofs h w = absurd h
 limit_found held check before now (finding.Checked o s) proofs h w =
-    let l = limit_verdict o.verdict w.1 in
-    over_nets held check _ (λ x y. TextsUndecided x y check.settings.conflicts proofs before now) (texts_undecided before now check.settings.conflicts proofs o l.0 l.1 w.0 (report_of before now o s check h.0 w.2)) h.1
+    let v = limit_verdict o.verdict w.1 in
+    over_nets held check _ (λ x y. TextsUndecided x y check.settings proofs before now) (λ x y a b left right compared. texts_undecided before now check.settings o (report_of before now o s check h.0 w.2) x y a b left right compared proofs v.0 v.1 w.0) h.1
 
 -- a finding has one status
 other : (f : Finding) (name another : StatusName) → status_of f ≡ name → (another ≡ name → ⊥) → status_of f ≡ another → ⊥
@@ -215,10 +156,11 @@ other f name another e apart is = apart (sym is ∙ e)
 
 -- the status equal
 pub equal_means : (held : Held) (job : Option Task) (before now : Option (List ℕ)) (f : Finding) (proofs : List Proof) (name : StatusName) →
-    IsFinding held job f → IsWrittenAs before now f proofs name → name ≡ status.Equal → OfCheck job (λ check. OfTexts held check TextsAgree)
+    IsFinding held job f → IsWrittenAs before now f proofs name → name ≡ status.Equal → OfCheck job (λ check. OfTexts held check (λ x y. TextsAgree x y check.settings.conflicts before now))
 equal_means held job before now f proofs name found written e =
     let w = subst (IsWrittenAs before now f proofs) e written in
-    of_check (λ check. OfTexts held check TextsAgree) held job f found (other f status.Equal status.Words w.1 (λ q. cc)) (other f status.Equal status.Refused w.1 (λ q. cc)) (other f status.Equal status.Done w.1 (λ q. cc)) (λ check h. equal_found held check f h w.1)
+    of_check (λ check. OfTexts held check (λ x y. TextsAgree x y check.settings.conflicts before now)) held job f found (other f status.Equal status.Words w.1 (λ q. cc)) (other f status.Equal status.Refused w.1 (λ q. cc)) (other f status.Equal status.Done w.1 (λ q. cc))
+    (λ check h. equal_found held check before now f proofs h w)
 
 -- the status different
 pub different_means : (held : Held) (job : Option Task) (before now : Option (List ℕ)) (f : Finding) (proofs : List Proof) (name : StatusName) →
@@ -228,24 +170,34 @@ different_means held job before now f proofs name found written e =
     of_check (λ check. OfTexts held check (λ x y. TextsDiffer x y check.settings.conflicts before now)) held job f found (other f status.Different status.Words w.1 (λ q. cc)) (other f status.Different status.Refused w.1 (λ q. cc)) (other f status.Different status.Done w.1 (λ q. cc))
     (λ check h. different_found held check before now f proofs h w)
 
+-- the status not shown
+pub not_shown_means : (held : Held) (job : Option Task) (before now : Option (List ℕ)) (f : Finding) (proofs : List Proof) (name : StatusName) →
+    IsFinding held job f → IsWrittenAs before now f proofs name → name ≡ status.NotShown → OfCheck job (λ check. OfTexts held check (λ x y. TextsNotShown x y check.settings before now))
+not_shown_means held job before now f proofs name found written e =
+    let w = subst (IsWrittenAs before now f proofs) e written in
+    of_check (λ check. OfTexts held check (λ x y. TextsNotShown x y check.settings before now)) held job f found (other f status.NotShown status.Words w.1 (λ q. cc)) (other f status.NotShown status.Refused w.1 (λ q. cc)) (other f status.NotShown status.Done w.1 (λ q. cc))
+    (λ check h. not_shown_found held check before now f proofs h w)
+
 -- the status limit
 pub limit_means : (held : Held) (job : Option Task) (before now : Option (List ℕ)) (f : Finding) (proofs : List Proof) (name : StatusName) →
-    IsFinding held job f → IsWrittenAs before now f proofs name → name ≡ status.Limit → OfCheck job (λ check. OfTexts held check (λ x y. TextsUndecided x y check.settings.conflicts proofs before now))
+    IsFinding held job f → IsWrittenAs before now f proofs name → name ≡ status.Limit → OfCheck job (λ check. OfTexts held check (λ x y. TextsUndecided x y check.settings proofs before now))
 limit_means held job before now f proofs name found written e =
     let w = subst (IsWrittenAs before now f proofs) e written in
-    of_check (λ check. OfTexts held check (λ x y. TextsUndecided x y check.settings.conflicts proofs before now)) held job f found (other f status.Limit status.Words w.1 (λ q. cc)) (other f status.Limit status.Refused w.1 (λ q. cc)) (other f status.Limit status.Done w.1 (λ q. cc))
+    of_check (λ check. OfTexts held check (λ x y. TextsUndecided x y check.settings proofs before now)) held job f found (other f status.Limit status.Words w.1 (λ q. cc)) (other f status.Limit status.Refused w.1 (λ q. cc)) (other f status.Limit status.Done w.1 (λ q. cc))
     (λ check h. limit_found held check before now f proofs h w)
 
 -- no verdict is a report on one circuit
 no_done_verdict : (v : Verdict) → verdict_status v ≡ status.Done → ⊥
 no_done_verdict verdict.Equal e = cc
 no_done_verdict (verdict.Different w) e = cc
+no_done_verdict (verdict.NotShown reason) e = cc
 no_done_verdict (verdict.Limit at) e = cc
 
 no_done : (held : Held) (check : Check) (f : Finding) → IsFoundOf held check f → status_of f ≡ status.Done → ⊥
 no_done held check finding.Words h e = h
 no_done held check (finding.Refused r) h e = cc
 no_done held check (finding.Cyclic side names) h e = cc
+no_done held check (finding.Unpaired side names) h e = cc
 no_done held check (finding.Checked o s) h e = no_done_verdict o.verdict e
 no_done held check (finding.Done report) h e = h
 
@@ -253,6 +205,7 @@ graph_taken : (circuit before now : Option (List ℕ)) (f : Finding) → IsGraph
 graph_taken circuit before now finding.Words h e taken = absurd h
 graph_taken circuit before now (finding.Refused r) h e taken = absurd (cc)
 graph_taken circuit before now (finding.Cyclic side names) h e taken = absurd h
+graph_taken circuit before now (finding.Unpaired side names) h e taken = absurd h
 graph_taken circuit before now (finding.Checked o s) h e taken = absurd h
 graph_taken circuit before now (finding.Done report) h e taken = (report, h, taken)
 
@@ -260,6 +213,7 @@ run_taken : (circuit stimulus power before now : Option (List ℕ)) (f : Finding
 run_taken circuit stimulus power before now finding.Words h e taken = absurd h
 run_taken circuit stimulus power before now (finding.Refused r) h e taken = absurd (cc)
 run_taken circuit stimulus power before now (finding.Cyclic side names) h e taken = absurd h
+run_taken circuit stimulus power before now (finding.Unpaired side names) h e taken = absurd h
 run_taken circuit stimulus power before now (finding.Checked o s) h e taken = absurd h
 run_taken circuit stimulus power before now (finding.Done report) h e taken = (report, h, taken)
 
@@ -295,6 +249,7 @@ pub written_ends : (held : Held) (job : Option Task) (before now : Option (List 
     IsFinding held job f → IsWrittenAs before now f proofs name → EndsAs before now held job proofs name
 written_ends held job before now f proofs status.Equal found w = (f, found, w.0, w.1, w.2)
 written_ends held job before now f proofs status.Different found w = (f, found, w.0, w.1, w.2)
+written_ends held job before now f proofs status.NotShown found w = (f, found, w.0, w.1, w.2)
 written_ends held job before now f proofs status.Limit found w = (f, found, w.0, w.1, w.2)
 written_ends held job before now f proofs status.Refused found w = (f, found, w.0, w.1, w.2)
 written_ends held job before now f proofs status.Words found w = (f, found, w.0, w.1, w.2)

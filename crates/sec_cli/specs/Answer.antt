@@ -1,32 +1,34 @@
 -- What is true where a run ends as it does.
-use Rattle.std.specs.Prelude.{◌≡◌, ◌⊎◌, ℕ, List, [], Option, Some, None, Ok, Err, IfSome, IsSomeAnd, Contains}
+use Rattle.std.specs.Prelude.{◌≡◌, ◌≢◌, ◌⊎◌, ℕ, Bool, true, List, [], Option, Some, None, Ok, Err, IfSome, IsSomeAnd, Contains}
 use Rattle.std.specs.List.{filter_map}
 use Rattle.circuit_theory.specs.declared.Mode.TheVariants.{Plain}
 use Rattle.circuit_theory.specs.declared.Side.{Side}
 use Rattle.circuit_theory.specs.declared.Side.TheVariants.{A, B}
 use Rattle.circuit_theory.specs.Circuit.{Circuit}
-use Rattle.circuit_theory.specs.Agree.{Agree}
-use Rattle.circuit_theory.specs.Interface.{AreOrders}
+use Rattle.circuit_theory.specs.Agree.{Agree, IsMinimalCut}
+use Rattle.circuit_theory.specs.Interface.{AreNumbersOf}
 use Rattle.sec_base.specs.Outside.{Rose, Takes, TakesFront}
 use Rattle.blif_read.specs.Design.{Place}
 use Rattle.flat_net.specs.View.{NetView, circuit_of, ports_of}
 use Rattle.pair_decide.specs.declared.query.Proof.{Proof}
 use Rattle.witness_report.specs.declared.witness.Witness.{Witness}
-use Rattle.witness_report.specs.declared.witness.PairName.TheVariants as pair
+use Rattle.sec_words.specs.declared.settings.Settings.{Settings}
 use Rattle.sec_words.specs.declared.task.Task.{Task}
 use Rattle.sec_words.specs.declared.task.Task.TheVariants as task
 use Rattle.sec_outcome.specs.declared.outcome.PairResult.{PairResult}
 use Rattle.sec_outcome.specs.declared.outcome.LimitAt.TheVariants as limit_at
 use Rattle.sec_outcome.specs.declared.outcome.Verdict.{Verdict}
 use Rattle.sec_outcome.specs.declared.outcome.Verdict.TheVariants as verdict
+use Rattle.sec_outcome.specs.declared.outcome.Why.TheVariants as why
 use Rattle.sec_outcome.specs.declared.outcome.Outcome.{Outcome}
 use Rattle.sec_outcome.specs.Report.{report_text}
-use Rattle.plain_form.specs.Formed.{IsAcyclic, IsTooLarge}
 use Rattle.plain_form.specs.Limits.{IsUndecided}
+use Rattle.plain_form.specs.Outcome.{NamedPair, named_pairs}
 use Rattle.sec_check.specs.declared.comparing.CompareError.TheVariants as compare_error
-use Rattle.sec_check.specs.Compared.{Compared, InterfacesMatch}
+use Rattle.sec_check.specs.Compared.{Compared, InterfacesMatch, AreEqual, AreBroken, AreTooLarge}
+use Rattle.sec_check.specs.Fitting.{IsChoice, AreCutAt, columns_of}
 use Rattle.sec_check.specs.Loading.{IsAccepted, Loads, IsTooLong, HasFault, HasDesignFault, SpellsCircuit}
-use Rattle.sec_check.specs.Shown.{MakesDiffer}
+use Rattle.sec_check.specs.Shown.{MakesDiffer, MakesCutsDiffer, AgreeFrom}
 use Rattle.sec_cli.specs.declared.finding.Refusal.{Refusal}
 use Rattle.sec_cli.specs.declared.finding.Refusal.TheVariants as refusal
 use Rattle.sec_cli.specs.declared.finding.Finding.{Finding}
@@ -61,8 +63,8 @@ IsRefusal held check refusal.NotBuilt = ⊥
 IsRefusal held check (refusal.TooLong side) = OfSide held check side IsTooLong
 IsRefusal held check (refusal.Text side line kind) = OfSide held check side (λ x. HasFault x line kind)
 IsRefusal held check (refusal.Design side fault) = OfSide held check side (λ x. HasDesignFault x fault)
-IsRefusal held check (refusal.Interface name) = OfNets held check (λ a b. Compared a b check.settings.conflicts (Err (compare_error.Interface name)))
-IsRefusal held check (refusal.TooLarge side) = OfNets held check (λ a b. Compared a b check.settings.conflicts (Err (compare_error.TooLarge side)))
+IsRefusal held check (refusal.Interface name) = OfNets held check (λ a b. Compared a b check.settings (Err (compare_error.Interface name)))
+IsRefusal held check (refusal.TooLarge side) = OfNets held check (λ a b. Compared a b check.settings (Err (compare_error.TooLarge side)))
 IsRefusal held check refusal.StimulusTooLong = ⊥
 IsRefusal held check (refusal.BadHeader line) = ⊥
 IsRefusal held check (refusal.BadRow line) = ⊥
@@ -72,8 +74,9 @@ IsRefusal held check (refusal.Misfit m) = ⊥
 abbrev pub IsFoundOf : Held → Check → Finding → Type 0
 IsFoundOf held check finding.Words = ⊥
 IsFoundOf held check (finding.Refused r) = IsRefusal held check r
-IsFoundOf held check (finding.Cyclic side names) = OfNets held check (λ a b. Compared a b check.settings.conflicts (Err (compare_error.Cyclic side names)))
-IsFoundOf held check (finding.Checked o settings) = (settings ≡ check.settings) × OfNets held check (λ a b. Compared a b check.settings.conflicts (Ok o))
+IsFoundOf held check (finding.Cyclic side names) = OfNets held check (λ a b. Compared a b check.settings (Err (compare_error.Cyclic side names)))
+IsFoundOf held check (finding.Unpaired side names) = OfNets held check (λ a b. Compared a b check.settings (Err (compare_error.Unpaired side names)))
+IsFoundOf held check (finding.Checked o settings) = (settings ≡ check.settings) × OfNets held check (λ a b. Compared a b check.settings (Ok o))
 IsFoundOf held check (finding.Done report) = ⊥
 
 -- what is said of what a job asks for, where that is built; else the job is refused
@@ -98,6 +101,7 @@ IsFinding held (Some job) f = IsFoundOfJob held job f
 abbrev pub verdict_status : Verdict → StatusName
 verdict_status verdict.Equal = status.Equal
 verdict_status (verdict.Different w) = status.Different
+verdict_status (verdict.NotShown reason) = status.NotShown
 verdict_status (verdict.Limit at) = status.Limit
 
 -- the status of a finding
@@ -105,6 +109,7 @@ abbrev pub status_of : Finding → StatusName
 status_of finding.Words = status.Words
 status_of (finding.Refused r) = status.Refused
 status_of (finding.Cyclic side names) = status.Cyclic
+status_of (finding.Unpaired side names) = status.Cyclic
 status_of (finding.Checked o settings) = verdict_status o.verdict
 status_of (finding.Done report) = status.Done
 
@@ -113,6 +118,7 @@ abbrev pub proofs_of : Finding → List Proof
 proofs_of finding.Words = []
 proofs_of (finding.Refused r) = []
 proofs_of (finding.Cyclic side names) = []
+proofs_of (finding.Unpaired side names) = []
 proofs_of (finding.Checked o settings) = filter_map (λ (r : PairResult). r.proof) o.pairs
 proofs_of (finding.Done report) = []
 
@@ -142,8 +148,10 @@ EndsAs before now held job proofs name = (f : Finding) × IsFinding held job f �
 abbrev pub IsTaken : Option (List ℕ) → Option (List ℕ) → Held → Option Task → Status → Type 0
 IsTaken before now held job s = EndsAs before now held job s.proofs s.name
 
--- the circuits that the two texts spell agree
-pub record TextsAgree (x y : List ℕ) : Type 0 where
+-- The circuits that the two texts spell agree; and in any two runs of theirs with equal inputs in which the exposed latches that are
+-- printed are equal from the start up to the printed cycle, these are equal for ever, and the outputs from that cycle on. The flat nets
+-- that the texts load as agree onward over the printed names.
+pub record TextsAgree (x y : List ℕ) (conflicts : ℕ) (before now : Option (List ℕ)) : Type 0 where
   pub left_clock : Option (List ℕ)
   pub right_clock : Option (List ℕ)
   pub left : Circuit Place
@@ -151,8 +159,18 @@ pub record TextsAgree (x y : List ℕ) : Type 0 where
   pub left_spelled : SpellsCircuit x left_clock left
   pub right_spelled : SpellsCircuit y right_clock right
   pub agree : Agree Plain left right
+  pub left_net : NetView
+  pub right_net : NetView
+  pub left_loads : Loads x left_net
+  pub right_loads : Loads y right_net
+  pub outcome : Outcome
+  pub is_verdict : outcome.verdict ≡ verdict.Equal
+  pub printed : Takes before now (report_text conflicts outcome)
+  pub from : AgreeFrom outcome.through outcome.exposed left right
+  pub equal : AreEqual left_net right_net outcome
 
--- the circuits that the two texts spell differ in all runs over the sequence that is printed behind what was written before
+-- The circuits that the two texts spell differ in all runs over the sequence that is printed behind what was written before. No latch
+-- is cut open.
 pub record TextsDiffer (x y : List ℕ) (conflicts : ℕ) (before now : Option (List ℕ)) : Type 0 where
   pub left_clock : Option (List ℕ)
   pub right_clock : Option (List ℕ)
@@ -163,44 +181,63 @@ pub record TextsDiffer (x y : List ℕ) (conflicts : ℕ) (before now : Option (
   pub outcome : Outcome
   pub witness : Witness
   pub is_verdict : outcome.verdict ≡ verdict.Different witness
+  pub uncut : outcome.exposed ≡ []
   pub printed : Takes before now (report_text conflicts outcome)
   pub shown : MakesDiffer left right witness
 
--- The report names outputs of the two texts' nets whose query has more than 16 variables and met the limit, which one of the
--- proofs shows: its clauses, and a log of exactly as many chains as conflicts are allowed.
-pub record TextsUndecided (x y : List ℕ) (conflicts : ℕ) (proofs : List Proof) (before now : Option (List ℕ)) : Type 0 where
+-- Latches were to be cut open, and the exposed ones that are printed are some: a minimal cut of the two flat nets that the texts load
+-- as. With these cut out the nets differ in all runs over the sequence that is printed, which is over inputs and exposed latches.
+pub record TextsNotShown (x y : List ℕ) (settings : Settings) (before now : Option (List ℕ)) : Type 0 where
   pub left_net : NetView
   pub right_net : NetView
   pub left_loads : Loads x left_net
   pub right_loads : Loads y right_net
+  pub outcome : Outcome
+  pub witness : Witness
+  pub is_verdict : outcome.verdict ≡ verdict.NotShown (why.Cut witness)
+  pub printed : Takes before now (report_text settings.conflicts outcome)
+  pub exposes : settings.expose ≡ true
+  pub exposed : outcome.exposed ≢ []
+  pub minimal : IsMinimalCut Plain (circuit_of left_net) (circuit_of right_net) outcome.exposed
+  pub shown : MakesCutsDiffer outcome.exposed (circuit_of left_net) (circuit_of right_net) witness
+
+-- The report names a pair of the two texts' nets, outputs or what exposed latches take over, whose query over the nets with the exposed
+-- latches cut out has more than 16 variables and met the limit, which one of the proofs shows: its clauses, and a log of exactly as
+-- many chains as conflicts are allowed. Without latches that are to be cut open none is exposed.
+pub record TextsUndecided (x y : List ℕ) (settings : Settings) (proofs : List Proof) (before now : Option (List ℕ)) : Type 0 where
+  pub left_net : NetView
+  pub right_net : NetView
+  pub left_loads : Loads x left_net
+  pub right_loads : Loads y right_net
+  pub outcome : Outcome
+  pub exposed : IsChoice left_net right_net settings.expose outcome.exposed
+  pub left_cut : NetView
+  pub right_cut : NetView
+  pub are_cut : AreCutAt left_net right_net outcome.exposed left_cut right_cut
   pub left : List ℕ
   pub right : List ℕ
-  pub orders : AreOrders (ports_of left_net) (ports_of right_net) left right
-  pub name : List ℕ
-  pub left_place : ℕ
-  pub right_place : ℕ
-  pub left_output : Contains (circuit_of left_net).outputs (record { name = name; place = left_place })
-  pub right_output : Contains (circuit_of right_net).outputs (record { name = name; place = right_place })
+  pub left_numbers : AreNumbersOf (ports_of left_cut).inputs (columns_of left_net right_net outcome.exposed) left right
+  pub right_numbers : AreNumbersOf (ports_of right_cut).inputs (columns_of left_net right_net outcome.exposed) right left
+  pub named : NamedPair ℕ ℕ
+  pub is_pair : Contains (named_pairs outcome.exposed (circuit_of left_net) (circuit_of right_net)) named
   pub proof : Proof
   pub kept : Contains proofs proof
-  pub undecided : IsUndecided (circuit_of left_net) (circuit_of right_net) left right conflicts left_place right_place proof
-  pub outcome : Outcome
-  pub is_verdict : outcome.verdict ≡ verdict.Limit (limit_at.Pair (pair.Output name))
-  pub printed : Takes before now (report_text conflicts outcome)
+  pub undecided : IsUndecided (circuit_of left_cut) (circuit_of right_cut) left right settings.conflicts named.left named.right proof
+  pub is_verdict : outcome.verdict ≡ verdict.Limit (limit_at.Pair named.name)
+  pub printed : Takes before now (report_text settings.conflicts outcome)
 
--- both texts are accepted, their interfaces match, no latch graph has a cycle, and no unfolding is too large
-pub record AreComparable (x y : List ℕ) : Type 0 where
+-- Both texts are accepted, their interfaces match, and no unfolding is too large. No latch graph has a cycle; where latches are to be cut
+-- open, none is left without the latches that both circuits name.
+pub record AreComparable (x y : List ℕ) (expose : Bool) : Type 0 where
   pub left : IsAccepted x
   pub right : IsAccepted y
   pub match : (a b : NetView) → Loads x a → Loads y b → InterfacesMatch a b
-  pub left_acyclic : (a : NetView) → Loads x a → IsAcyclic a
-  pub right_acyclic : (b : NetView) → Loads y b → IsAcyclic b
-  pub left_light : (a : NetView) → Loads x a → IsTooLarge a → ⊥
-  pub right_light : (b : NetView) → Loads y b → IsTooLarge b → ⊥
+  pub broken : (a b : NetView) → Loads x a → Loads y b → AreBroken a b expose
+  pub light : (a b : NetView) → Loads x a → Loads y b → (side : Side) → AreTooLarge a b expose side → ⊥
 
 -- both texts are told and can be compared
 abbrev pub CanAnswer : Held → Check → Type 0
-CanAnswer held check = IsSomeAnd (held check.left) (λ x. IsSomeAnd (held check.right) (λ y. AreComparable x y))
+CanAnswer held check = IsSomeAnd (held check.left) (λ x. IsSomeAnd (held check.right) (λ y. AreComparable x y check.settings.expose))
 
 -- the job reports on one circuit, and its whole report is taken
 abbrev pub TakesReport : Option (List ℕ) → Option (List ℕ) → Held → Option Task → Type 0
@@ -221,6 +258,7 @@ IsDone other = ⊥
 abbrev pub IsAnswer : StatusName → Type 0
 IsAnswer status.Equal = Unit {0}
 IsAnswer status.Different = Unit {0}
+IsAnswer status.NotShown = Unit {0}
 IsAnswer status.Limit = Unit {0}
 IsAnswer status.Refused = ⊥
 IsAnswer status.Words = ⊥

@@ -50,6 +50,7 @@ abbrev pub compare_end : Settings → Result Outcome CompareError → Result Fin
 compare_end settings (Ok outcome) = Ok (finding.Checked outcome settings)
 compare_end settings (Err (compare_error.Interface name)) = Ok (finding.Refused (refusal.Interface name))
 compare_end settings (Err (compare_error.Cyclic side names)) = Ok (finding.Cyclic side names)
+compare_end settings (Err (compare_error.Unpaired side names)) = Ok (finding.Unpaired side names)
 compare_end settings (Err (compare_error.TooLarge side)) = Ok (finding.Refused (refusal.TooLarge side))
 compare_end settings (Err compare_error.NoMemory) = Err stop.NoMemory
 

@@ -1,5 +1,5 @@
 -- What a job asks for.
-use Rattle.std.specs.Prelude.{ℕ, ◌≤◌, Bool, true, false, not, ◌&&◌, if◌then◌else◌, List, Option, Some, None, option_and_then, IsSomeAnd}
+use Rattle.std.specs.Prelude.{ℕ, ◌≤◌, Bool, true, false, if◌then◌else◌, List, Option, Some, None, option_and_then, IsSomeAnd}
 use Rattle.circuit_theory.specs.declared.Mode.{Mode}
 use Rattle.circuit_theory.specs.declared.Mode.TheVariants.{Plain, Event}
 use Rattle.sec_words.specs.declared.settings.Settings.{Settings}
@@ -16,9 +16,9 @@ abbrev pub is_plain : Mode → Bool
 is_plain Plain = true
 is_plain Event = false
 
--- the comparison is built: it is in the plain form, and no latches are cut open
+-- the comparison is built: it is in the plain form
 abbrev pub is_built : Settings → Bool
-is_built s = is_plain s.mode && not s.expose
+is_built s = is_plain s.mode
 
 -- what is compared, where that is built
 abbrev pub check_of : Task → Option Check

@@ -82,10 +82,15 @@ words_text = codes "words refused" ++ 10 ∷ []
 abbrev pub cycle_text : Side → List (List ℕ) → List ℕ
 cycle_text side names = codes "cyclic " ++ side_word side ++ names_text names ++ 10 ∷ []
 
+-- a cycle of the circuit's latch graph that no latch breaks that both circuits name
+abbrev pub unpaired_text : Side → List (List ℕ) → List ℕ
+unpaired_text side names = codes "unpaired " ++ side_word side ++ names_text names ++ 10 ∷ []
+
 -- the report of what was found
 abbrev pub finding_text : Finding → List ℕ
 finding_text finding.Words = words_text
 finding_text (finding.Refused r) = refusal_text r
 finding_text (finding.Cyclic side names) = cycle_text side names
+finding_text (finding.Unpaired side names) = unpaired_text side names
 finding_text (finding.Checked outcome settings) = report_text settings.conflicts outcome
 finding_text (finding.Done report) = report

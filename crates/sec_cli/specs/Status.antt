@@ -6,6 +6,7 @@ use Rattle.sec_cli.specs.declared.status.StatusName.TheVariants as status
 abbrev pub code_of : StatusName → ℕ
 code_of status.Equal = 0
 code_of status.Different = 1
+code_of status.NotShown = 2
 code_of status.Limit = 3
 code_of status.Refused = 4
 code_of status.Words = 5

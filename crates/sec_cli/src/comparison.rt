@@ -1,6 +1,6 @@
 //! What a job compares.
 
-ghost use Rattle.std.specs.Prelude.{◌≡◌, ◌≤◌, ◌↔◌, IsTrue, false, None, IfSome, IfNone, Option};
+ghost use Rattle.std.specs.Prelude.{◌≡◌, ◌≤◌, ◌↔◌, IsTrue, None, IfSome, IfNone, Option};
 ghost use Rattle.circuit_theory.specs.declared.Mode.TheVariants.{Plain};
 ghost use Rattle.sec_cli.specs.Job.{check_of, is_built, HasFewConflicts};
 
@@ -15,13 +15,13 @@ pub struct Comparison<'a> {
     pub settings: Settings,
 }
 
-/// Whether the comparison is built: it is in the plain form, and no latches are cut open.
+/// Whether the comparison is built: it is in the plain form.
 fn is_built(settings: &Settings) -> bool
     ensures built { result ≡ is_built settings.now }
-    ensures means { IsTrue result ↔ ((settings.now.mode ≡ Plain) × (settings.now.expose ≡ false)) }
+    ensures means { IsTrue result ↔ (settings.now.mode ≡ Plain) }
 {
     match settings.mode {
-        Mode::Plain => !settings.expose,
+        Mode::Plain => true,
         Mode::Event => false,
     }
 }
@@ -30,7 +30,7 @@ fn is_built(settings: &Settings) -> bool
 pub fn comparison_of(task: &Task) -> Option<Comparison<'_>>
     requires { HasFewConflicts task.now }
     ensures some { IfSome result (λ c. check_of task.now ≡ Option.Some (record { left = c.left.now; right = c.right.now; settings = c.settings })) }
-    ensures plain { IfSome result (λ c. (c.settings.mode ≡ Plain) × (c.settings.expose ≡ false)) }
+    ensures plain { IfSome result (λ c. c.settings.mode ≡ Plain) }
     ensures few { IfSome result (λ c. c.settings.conflicts ≤ 200000) }
     ensures none { IfNone result (check_of task.now ≡ None) }
 {

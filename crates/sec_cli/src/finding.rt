@@ -21,7 +21,8 @@ pub enum Refusal {
     Design(Side, FlatError),
     /// The first name that one circuit has and the other lacks.
     Interface(Word),
-    /// The unfoldings of the circuit's outputs weigh more than 2,000,000 together.
+    /// The unfoldings of the circuit's outputs weigh more than 2,000,000 together, where latches are cut open those of the cut
+    /// circuit's.
     TooLarge(Side),
     /// The file of the stimulus has more than 16,777,216 bytes.
     StimulusTooLong,
@@ -41,6 +42,9 @@ pub enum Finding {
     Refused(Refusal),
     /// The names of the latches of a cycle of the circuit's latch graph, beginning with the least.
     Cyclic(Side, Words),
+    /// The names of the latches of a cycle of the circuit's latch graph that no latch breaks that both circuits have under one name,
+    /// in the same form.
+    Unpaired(Side, Words),
     /// The outcome of a comparison that was made with these settings.
     Checked(Outcome, Settings),
     /// The report of one circuit.

@@ -2,6 +2,8 @@
 #![tactic(auto)]
 
 mod comparison;
+#[cfg(test)]
+mod expose_tests;
 mod finding;
 mod reports;
 mod run;

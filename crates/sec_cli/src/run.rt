@@ -1,6 +1,6 @@
 //! The top call.
 
-ghost use Rattle.std.specs.Prelude.{◌≡◌, ◌≢◌, ◌≤◌, ℕ, List, false, IsErrOf, IsSomeAnd, IfOk, OnOk, map, string_bytes, Option, None, Some, option_and_then, option_to_list, ◌++◌};
+ghost use Rattle.std.specs.Prelude.{◌≡◌, ◌≢◌, ◌≤◌, ℕ, List, IsErrOf, IsSomeAnd, IfOk, OnOk, map, string_bytes, Option, None, Some, option_and_then, option_to_list, ◌++◌};
 ghost use Rattle.std.specs.List.{filter_map};
 ghost use Rattle.circuit_theory.specs.declared.Mode.TheVariants.{Plain};
 ghost use Rattle.sec_base.specs.Outside.{Rose, SameHeld, NoneFell};
@@ -8,7 +8,7 @@ ghost use Rattle.sec_words.specs.Jobs.{job_of};
 ghost use Rattle.sec_outcome.specs.Report.{report_text};
 ghost use Rattle.sec_check.specs.Loading.{IsAccepted};
 ghost use Rattle.sec_cli.specs.Job.{check_of, graph_of, sim_of, Check, HasFewConflicts, OfCheck, OfGraph, OfSim};
-ghost use Rattle.sec_cli.specs.Answer.{IsFinding, IsTaken, JobReadFailed, OfTexts, TextsAgree, TextsDiffer, TextsUndecided, TakesReport, CanAnswer, CanSimulate, IsAnswer, IsDone, status_of, proofs_of};
+ghost use Rattle.sec_cli.specs.Answer.{IsFinding, IsTaken, JobReadFailed, OfTexts, TextsAgree, TextsDiffer, TextsNotShown, TextsUndecided, TakesReport, CanAnswer, CanSimulate, IsAnswer, IsDone, status_of, proofs_of};
 ghost use Rattle.sec_cli.specs.Ends.{compare_end, FoundOf, Found, IsWritten};
 ghost use Rattle.sec_cli.specs.Lines.{finding_text};
 
@@ -16,7 +16,7 @@ use crate::comparison::{Comparison, comparison_of};
 use crate::finding::{Finding, Refusal, Stop, load_end};
 use crate::reports::{graph_of, simulate, simulation_of, tell_graph};
 use crate::status::{Proofs, Status, StatusName};
-use crate::writing::{cycle_report, refusal_report, words_report};
+use crate::writing::{cycle_report, refusal_report, unpaired_report, words_report};
 use sec_base::{NoMemory, Shelf, Side, Sink, Text};
 use sec_check::{
     CompareError, Outcome, PairResult, PairResults, Settings, Verdict, compare, load, report,
@@ -32,6 +32,7 @@ fn compare_end(settings: Settings, compared: Result<Outcome, CompareError>) -> R
         Ok(outcome) => Ok(Finding::Checked(outcome, settings)),
         Err(CompareError::Interface(name)) => Ok(Finding::Refused(Refusal::Interface(name))),
         Err(CompareError::Cyclic(side, names)) => Ok(Finding::Cyclic(side, names)),
+        Err(CompareError::Unpaired(side, names)) => Ok(Finding::Unpaired(side, names)),
         Err(CompareError::TooLarge(side)) => Ok(Finding::Refused(Refusal::TooLarge(side))),
         Err(CompareError::NoMemory) => Err(Stop::NoMemory),
     }
@@ -44,7 +45,6 @@ fn check<S: Shelf>(
     shelf: &mut S,
 ) -> Result<Finding, Stop>
     requires plain { comparison.now.settings.mode ≡ Plain }
-    requires uncut { comparison.now.settings.expose ≡ false }
     requires conflicts { comparison.now.settings.conflicts ≤ 200000 }
     ensures found { let check : Check = record { left = comparison.now.left.now; right = comparison.now.right.now; settings = comparison.now.settings } in
         FoundOf (S.held shelf.old) (S.faults shelf.old) (S.faults shelf.new) check result }
@@ -103,6 +103,7 @@ fn verdict_status(verdict: &Verdict) -> StatusName
     match verdict {
         Verdict::Equal => StatusName::Equal,
         Verdict::Different(_) => StatusName::Different,
+        Verdict::NotShown(_) => StatusName::NotShown,
         Verdict::Limit(_) => StatusName::Limit,
     }
 }
@@ -113,7 +114,7 @@ fn status_of(finding: &Finding) -> StatusName
     match finding {
         Finding::Words => StatusName::Words,
         Finding::Refused(_) => StatusName::Refused,
-        Finding::Cyclic(_, _) => StatusName::Cyclic,
+        Finding::Cyclic(_, _) | Finding::Unpaired(_, _) => StatusName::Cyclic,
         Finding::Checked(outcome, _) => verdict_status(&outcome.verdict),
         Finding::Done(_) => StatusName::Done,
     }
@@ -166,6 +167,9 @@ fn report_of(alloc: Global, finding: Finding) -> Result<(Text, Proofs), NoMemory
         Finding::Cyclic(side, names) => {
             Ok((cycle_report(alloc, side, &names)?, Proofs::new(alloc)))
         }
+        Finding::Unpaired(side, names) => {
+            Ok((unpaired_report(alloc, side, &names)?, Proofs::new(alloc)))
+        }
         Finding::Checked(outcome, settings) => comparison_report(alloc, outcome, &settings),
         Finding::Done(text) => Ok((text, Proofs::new(alloc))),
     }
@@ -192,17 +196,20 @@ fn finish<W: Sink>(alloc: Global, finding: Finding, out: &mut W) -> Status
 
 /// Does the job, and writes its report last, by one write.
 ///
-/// The report is written whole with the statuses `Equal`, `Done`, `Different`, `Limit`, `Refused` and `Cyclic`; at a write fault a
-/// front of it; at a read fault and at want of memory nothing. Want of memory alone is without a cause here. A job that isn't
+/// The report is written whole with the statuses `Equal`, `Done`, `Different`, `NotShown`, `Limit`, `Refused` and `Cyclic`; at a
+/// write fault a front of it; at a read fault and at want of memory nothing. Want of memory alone is without a cause here. A job that isn't
 /// built is refused, and nothing is fetched for it.
 pub fn run_job<S: Shelf, W: Sink>(alloc: Global, task: &Task, shelf: &mut S, out: &mut W) -> Status
     requires { HasFewConflicts task.now }
     ensures taken { IsTaken (W.taken out.old) (W.taken out.new) (S.held shelf.old) (Some task.now) result }
-    ensures equal { result.name ≡ StatusName.Equal → OfCheck (Some task.now) (λ check. OfTexts (S.held shelf.old) check TextsAgree) }
+    ensures equal { result.name ≡ StatusName.Equal → OfCheck (Some task.now) (λ check.
+        OfTexts (S.held shelf.old) check (λ x y. TextsAgree x y check.settings.conflicts (W.taken out.old) (W.taken out.new))) }
     ensures different { result.name ≡ StatusName.Different → OfCheck (Some task.now) (λ check.
         OfTexts (S.held shelf.old) check (λ x y. TextsDiffer x y check.settings.conflicts (W.taken out.old) (W.taken out.new))) }
+    ensures not_shown { result.name ≡ StatusName.NotShown → OfCheck (Some task.now) (λ check.
+        OfTexts (S.held shelf.old) check (λ x y. TextsNotShown x y check.settings (W.taken out.old) (W.taken out.new))) }
     ensures limit { result.name ≡ StatusName.Limit → OfCheck (Some task.now) (λ check.
-        OfTexts (S.held shelf.old) check (λ x y. TextsUndecided x y check.settings.conflicts result.proofs (W.taken out.old) (W.taken out.new))) }
+        OfTexts (S.held shelf.old) check (λ x y. TextsUndecided x y check.settings result.proofs (W.taken out.old) (W.taken out.new))) }
     ensures done { result.name ≡ StatusName.Done → TakesReport (W.taken out.old) (W.taken out.new) (S.held shelf.old) (Some task.now) }
     ensures read_fault { result.name ≡ StatusName.ReadFault → JobReadFailed (S.held shelf.old) (S.faults shelf.old) (S.faults shelf.new) (Some task.now) }
     ensures write_fault { result.name ≡ StatusName.WriteFault → Rose (W.faults out.old) (W.faults out.new) }
@@ -229,11 +236,14 @@ pub fn run_job<S: Shelf, W: Sink>(alloc: Global, task: &Task, shelf: &mut S, out
 /// no job; all else is as `run_job` says.
 pub fn run<S: Shelf, W: Sink>(alloc: Global, words: &[String], shelf: &mut S, out: &mut W) -> Status
     ensures taken { IsTaken (W.taken out.old) (W.taken out.new) (S.held shelf.old) (job_of (map (λ w. string_bytes w) words.now)) result }
-    ensures equal { result.name ≡ StatusName.Equal → OfCheck (job_of (map (λ w. string_bytes w) words.now)) (λ check. OfTexts (S.held shelf.old) check TextsAgree) }
+    ensures equal { result.name ≡ StatusName.Equal → OfCheck (job_of (map (λ w. string_bytes w) words.now)) (λ check.
+        OfTexts (S.held shelf.old) check (λ x y. TextsAgree x y check.settings.conflicts (W.taken out.old) (W.taken out.new))) }
     ensures different { result.name ≡ StatusName.Different → OfCheck (job_of (map (λ w. string_bytes w) words.now)) (λ check.
         OfTexts (S.held shelf.old) check (λ x y. TextsDiffer x y check.settings.conflicts (W.taken out.old) (W.taken out.new))) }
+    ensures not_shown { result.name ≡ StatusName.NotShown → OfCheck (job_of (map (λ w. string_bytes w) words.now)) (λ check.
+        OfTexts (S.held shelf.old) check (λ x y. TextsNotShown x y check.settings (W.taken out.old) (W.taken out.new))) }
     ensures limit { result.name ≡ StatusName.Limit → OfCheck (job_of (map (λ w. string_bytes w) words.now)) (λ check.
-        OfTexts (S.held shelf.old) check (λ x y. TextsUndecided x y check.settings.conflicts result.proofs (W.taken out.old) (W.taken out.new))) }
+        OfTexts (S.held shelf.old) check (λ x y. TextsUndecided x y check.settings result.proofs (W.taken out.old) (W.taken out.new))) }
     ensures done { result.name ≡ StatusName.Done → TakesReport (W.taken out.old) (W.taken out.new) (S.held shelf.old) (job_of (map (λ w. string_bytes w) words.now)) }
     ensures read_fault { result.name ≡ StatusName.ReadFault → JobReadFailed (S.held shelf.old) (S.faults shelf.old) (S.faults shelf.new) (job_of (map (λ w. string_bytes w) words.now)) }
     ensures write_fault { result.name ≡ StatusName.WriteFault → Rose (W.faults out.old) (W.faults out.new) }

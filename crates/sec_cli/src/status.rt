@@ -17,6 +17,8 @@ pub enum StatusName {
     Equal,
     /// A printed sequence makes an output differ.
     Different,
+    /// Latches were cut open, and a printed sequence makes a pair of the cut circuits differ.
+    NotShown,
     /// A query wasn't decided within the number of conflicts.
     Limit,
     /// A text, an interface or a size is refused, or the job isn't built.
@@ -29,7 +31,7 @@ pub enum StatusName {
     WriteFault,
     /// Memory was wanted and couldn't be had; nothing is written.
     NoMemory,
-    /// A latch graph has a cycle.
+    /// A latch graph has a cycle, or one that no latch breaks that both circuits name where latches may be cut open.
     Cyclic,
     /// The report of one circuit is written.
     Done,
@@ -62,6 +64,7 @@ impl Status {
         match self.name {
             StatusName::Equal => 0,
             StatusName::Different => 1,
+            StatusName::NotShown => 2,
             StatusName::Limit => 3,
             StatusName::Refused => 4,
             StatusName::Words => 5,

@@ -3,7 +3,7 @@
 ghost use Rattle.std.specs.Prelude.{◌≡◌, ℕ, List, [], ◌∷◌, ◌++◌, codes, OnOk, IfOk};
 ghost use Rattle.std.specs.Fmt.{decimal};
 ghost use Rattle.witness_report.specs.Text.{names_text};
-ghost use Rattle.sec_cli.specs.Lines.{side_word, kind_text, design_fault_text, misfit_text, refusal_text, words_text, cycle_text};
+ghost use Rattle.sec_cli.specs.Lines.{side_word, kind_text, design_fault_text, misfit_text, refusal_text, words_text, cycle_text, unpaired_text};
 
 use crate::finding::Refusal;
 use blif_read::ReadKind;
@@ -189,13 +189,34 @@ pub fn refusal_report(alloc: Global, refusal: &Refusal) -> Result<Text, NoMemory
     Ok(Seq::from_vec(text))
 }
 
+/// Puts the line of the latches of a cycle of a side's latch graph behind what stands before the side.
+fn put_cycle(
+    text: &mut Vec<u8>,
+    front: &[u8],
+    side: Side,
+    names: &Words,
+) -> Result<(), NoMemory>
+    ensures { OnOk result (text.new.items ≡ text.old.items ++ (front.now ++ side_word side ++ names_text names.now ++ 10 ∷ [])) }
+{
+    put_behind(text, front, side_word(side).as_bytes())?;
+    put_names(text, names)?;
+    put(text, b"\n")
+}
+
 /// The report of a cycle of a side's latch graph.
 pub fn cycle_report(alloc: Global, side: Side, names: &Words) -> Result<Text, NoMemory>
     ensures { IfOk result (λ text. text ≡ cycle_text side names.now) }
 {
     let mut text = Vec::new(alloc);
-    put_behind(&mut text, b"cyclic ", side_word(side).as_bytes())?;
-    put_names(&mut text, names)?;
-    put(&mut text, b"\n")?;
+    put_cycle(&mut text, b"cyclic ", side, names)?;
+    Ok(Seq::from_vec(text))
+}
+
+/// The report of a cycle of a side's latch graph that no latch breaks that both circuits name.
+pub fn unpaired_report(alloc: Global, side: Side, names: &Words) -> Result<Text, NoMemory>
+    ensures { IfOk result (λ text. text ≡ unpaired_text side names.now) }
+{
+    let mut text = Vec::new(alloc);
+    put_cycle(&mut text, b"unpaired ", side, names)?;
     Ok(Seq::from_vec(text))
 }

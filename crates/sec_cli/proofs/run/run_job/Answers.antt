@@ -1,5 +1,5 @@
 use Rattle.std.proofs.Common.{Some}
-use Rattle.sec_cli.proofs.Means.{equal_means, different_means, limit_means, done_means, written_ends}
+use Rattle.sec_cli.proofs.Means.{equal_means, different_means, not_shown_means, limit_means, done_means, written_ends}
 use Rattle.sec_cli.proofs.Complete.{ends_with_answer}
 use Rattle.sec_cli.proofs.CompleteReports.{graph_ends_done, sim_ends_done}
 use Rattle.sec_cli.proofs.run.run_job.Goals as goal
@@ -12,6 +12,11 @@ returns-in-Ok-clause-equal g c =
 pub returns-in-Ok-clause-different : goal.returns-in-Ok-clause-different
 returns-in-Ok-clause-different g c =
     different_means (g.S.Shelf.held c.args.shelf.now) (Some c.args.task.now) (g.W.Sink.taken c.args.out.now) (g.W.Sink.taken c.finish.new.out) c.in-Ok.finding c.finish.result.proofs c.finish.result.name
+    c.in-Ok.ensures.found c.finish.ensures.written
+
+pub returns-in-Ok-clause-not_shown : goal.returns-in-Ok-clause-not_shown
+returns-in-Ok-clause-not_shown g c =
+    not_shown_means (g.S.Shelf.held c.args.shelf.now) (Some c.args.task.now) (g.W.Sink.taken c.args.out.now) (g.W.Sink.taken c.finish.new.out) c.in-Ok.finding c.finish.result.proofs c.finish.result.name
     c.in-Ok.ensures.found c.finish.ensures.written
 
 pub returns-in-Ok-clause-limit : goal.returns-in-Ok-clause-limit
