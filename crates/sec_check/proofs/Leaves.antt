@@ -44,20 +44,6 @@ module _ {P : Type 0} (c : Circuit P) (order : List ℕ) (n : ℕ) (run : ℕ �
         let tail = all_by_leaves rest (omega arith) (λ q i j h m l. leaves q i j h (HasLeafIn.later m) l) in
         cc
 
--- an input by its number
-pub record InputAt (n : NetView) (order : List ℕ) (p i : ℕ) : Type 0 where
-  pub k : ℕ
-  pub port : Port
-  pub at : slice_get n.inputs k ≡ Some port
-  pub place : port.signal.0 ≡ p
-  pub number : slice_get order k ≡ Some i
-
-pub input_at : (n : NetView) (order : List ℕ) (p i : ℕ) → IsInputNumber (circuit_of n) order p i → InputAt n order p i
-input_at n order p i h =
-    let b = beside_at (circuit_of n).inputs order p i h in
-    let key = key_at named n.inputs b.0 b.1 b.2 in
-    record { k = b.0; port = key.0; at = key.1; place = ap (λ (m : Named ℕ). m.place) key.2 ∙ b.3; number = b.4 }
-
 -- a number below the count of shared inputs is that of the shared input there
 pub shared_name : (own shared : List (List ℕ)) (numbers others : List ℕ) → AreNumbersOf own shared numbers others → (k i : ℕ) (name : List ℕ) →
     slice_get own k ≡ Some name → slice_get numbers k ≡ Some i → i < length shared → slice_get shared i ≡ Some name

@@ -19,36 +19,18 @@ use Rattle.plain_form.specs.Formed.{AreFound, AreColumns, Formed, places_of}
 use Rattle.plain_form.specs.Outcome.{NamedPair, FindingsFit, named_pairs}
 use Rattle.sec_check.specs.declared.comparing.CompareError.{CompareError}
 use Rattle.sec_check.specs.declared.comparing.CompareError.TheVariants as refused
-use Rattle.sec_check.specs.Choosing.{IsChosen, Chosen, AreCutBy, AreNumbered}
-use Rattle.sec_check.specs.Compared.{InterfacesMatch, InterfaceFails, AreTooLarge, IsCompared, Compared}
+use Rattle.sec_check.specs.Choosing.{IsChosen, AreCutBy, AreNumbered}
+use Rattle.sec_check.specs.Compared.{InterfacesMatch, AreTooLarge, IsCompared, Compared}
 use Rattle.sec_check.specs.Fitting.{AreCutAt, OutcomeFits, columns_of, is_cut}
 use Rattle.sec_check.specs.Loading.{IsComparable}
 use Rattle.sec_check.proofs.Columns.{left_read, right_read}
 use Rattle.sec_check.proofs.Meaning.{they_are_equal, makes_differ, makes_cuts_differ}
 use Rattle.sec_check.proofs.Shared.{are_matched}
 
--- the interface's refusal
-pub interface_refused : (a b : NetView) (settings : Settings) (e : CompareError) → InterfaceFails a b e → Compared a b settings (Err e)
-interface_refused a b settings (refused.Interface name) h = h
-interface_refused a b settings (refused.Cyclic side names) h = absurd h
-interface_refused a b settings (refused.Unpaired side names) h = absurd h
-interface_refused a b settings (refused.TooLarge side) h = absurd h
-interface_refused a b settings refused.NoMemory h = tt
-
 -- want of memory
 pub memory_wanted : (a b : NetView) (settings : Settings) (r : Result Outcome CompareError) → IsErrAnd r (λ e. e ≡ refused.NoMemory) → Compared a b settings r
 memory_wanted a b settings (Ok o) h = absurd h
 memory_wanted a b settings (Err e) h = subst (λ (x : CompareError). Compared a b settings (Err x)) (sym h) tt
-
--- the refusal of a cycle
-pub choice_refused : (a b : NetView) (settings : Settings) (e : CompareError) → InterfacesMatch a b → Chosen a b settings.expose (Err e) → Compared a b settings (Err e)
-choice_refused a b settings (refused.Interface name) matches h = absurd h
-choice_refused a b settings (refused.Cyclic A names) matches h = (matches, h.0, h.1)
-choice_refused a b settings (refused.Cyclic B names) matches h = (matches, h.0, h.1, h.2)
-choice_refused a b settings (refused.Unpaired A names) matches h = (matches, h.0, h.1)
-choice_refused a b settings (refused.Unpaired B names) matches h = (matches, h.0, h.1, h.2)
-choice_refused a b settings (refused.TooLarge side) matches h = absurd h
-choice_refused a b settings refused.NoMemory matches h = tt
 
 -- whether a list has names
 pub has_names : (names : List (List ℕ)) (count : ℕ) → count ≡ length names → nat_lt 0 count ≡ is_cut names

@@ -74,12 +74,3 @@ Contains-filter_in {X} test (y ∷ xs) x h e = go (test y) refl (Contains-cases 
 
 pub filter-passed : {X : Type 0} (test : X → Bool) (xs : List X) (x : X) → Contains (filter test xs) x → test x ≡ true
 filter-passed test xs x h = All-contains (λ y. test y ≡ true) (filter test xs) x (filter_passes test xs) h
-
--- a filter keeps no more than there is
-pub filter_short : {X : Type 0} (test : X → Bool) (xs : List X) → length (filter test xs) ≤ length xs
-filter_short test [] = omega arith
-filter_short {X} test (x ∷ xs) = go (test x) (filter_short test xs)
-  where
-    go : (b : Bool) → length (filter test xs) ≤ length xs → length (cond b (x ∷ filter test xs) (filter test xs)) ≤ suc (length xs)
-    go true h = omega arith
-    go false h = omega arith
