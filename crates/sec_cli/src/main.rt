@@ -5,6 +5,8 @@ mod comparison;
 #[cfg(test)]
 mod expose_tests;
 mod finding;
+#[cfg(test)]
+mod hostile;
 mod reports;
 mod run;
 mod status;

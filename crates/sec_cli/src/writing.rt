@@ -190,12 +190,7 @@ pub fn refusal_report(alloc: Global, refusal: &Refusal) -> Result<Text, NoMemory
 }
 
 /// Puts the line of the latches of a cycle of a side's latch graph behind what stands before the side.
-fn put_cycle(
-    text: &mut Vec<u8>,
-    front: &[u8],
-    side: Side,
-    names: &Words,
-) -> Result<(), NoMemory>
+fn put_cycle(text: &mut Vec<u8>, front: &[u8], side: Side, names: &Words) -> Result<(), NoMemory>
     ensures { OnOk result (text.new.items ≡ text.old.items ++ (front.now ++ side_word side ++ names_text names.now ++ 10 ∷ [])) }
 {
     put_behind(text, front, side_word(side).as_bytes())?;
