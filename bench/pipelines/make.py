@@ -88,7 +88,7 @@ def multiplier_of(bits):
 def make(folder, name, lines, commands):
     verilog, a, b = (folder / f"{name}.{end}" for end in ("v", "a.blif", "b.blif"))
     verilog.write_text("\n".join(lines) + "\n")
-    flow = f"read_verilog {verilog}; synth -flatten -top top; dfflegalize -cell $_DFF_P_ x; opt_clean; abc; opt_clean -purge; write_blif -noalias {a}"
+    flow = f"read_verilog {verilog}; synth -flatten -top top; dfflegalize -cell $_DFF_P_ 01; opt_clean; abc; opt_clean -purge; write_blif -noalias {a}"
     subprocess.run(["yosys", "-q", "-p", flow], check=True)
     subprocess.run(["berkeley-abc", "-q", f"read_blif {a}; {commands}; write_blif {b}"], check=True, capture_output=True)
 
