@@ -72,9 +72,7 @@ pub fn compare(
     let right = graph_of(alloc, b)?;
     let exposure = choose(alloc, a, b, &left, &right, settings.expose)?;
     if exposure.names.len() == 0 {
-        return compare_cut(
-            alloc, a, b, a, b, &left, &right, shared, exposure, settings,
-        );
+        return compare_cut(alloc, a, b, a, b, &left, &right, shared, exposure, settings);
     }
     let left_cut = a.cut(alloc, &exposure.left)?;
     let right_cut = b.cut(alloc, &exposure.right)?;
@@ -146,11 +144,7 @@ fn compare_cut(
 }
 
 /// The columns of a sequence: the shared inputs, then the exposed latches.
-fn columns_of(
-    alloc: Global,
-    shared: NameTable,
-    exposed: &Words,
-) -> Result<NameTable, NoMemory>
+fn columns_of(alloc: Global, shared: NameTable, exposed: &Words) -> Result<NameTable, NoMemory>
     requires { AreDistinct (shared ++ exposed.now) }
     ensures { IfOk result (λ columns. columns ≡ shared ++ exposed.now) }
 {

@@ -16,7 +16,9 @@ returns-in-Some-clause-err c =
 pub returns-clause-ok : goal.returns-clause-ok
 returns-clause-ok c =
     let outputs = c.in_ok-left_outputs.ensures ∙ ap (map (λ (p : Port). p.name)) c.outputs.ensures in
-    let outputs-2 = c.in_ok-right_outputs.ensures ∙ ap (map (λ (p : Port). p.name)) c.outputs-2.ensures in
-    (mismatch_is c.args.a.now c.args.b.now c.in_ok-left.left c.in_ok-right.right c.in_ok-left_outputs.left_outputs c.in_ok-right_outputs.right_outputs _
-    c.in_ok-left.ensures c.in_ok-right.ensures outputs outputs-2 c.first_mismatch.ensures
-    ∙ ap (option_map (λ name. name.now)) c.in_default.is, c.in_ok-left.ensures)
+    let outputs-2 = c.in_ok-right_outputs.ensures ∙ ap (map (λ (p : Port). p.name)) c.outputs-2.ensures in (
+      mismatch_is c.args.a.now c.args.b.now c.in_ok-left.left c.in_ok-right.right c.in_ok-left_outputs.left_outputs c.in_ok-right_outputs.right_outputs _
+          c.in_ok-left.ensures c.in_ok-right.ensures outputs outputs-2 c.first_mismatch.ensures
+          ∙ ap (option_map (λ name. name.now)) c.in_default.is,
+      c.in_ok-left.ensures,
+    )
