@@ -9,7 +9,7 @@ use Rattle.sec_words.specs.declared.task.Task.{Task}
 use Rattle.sec_words.specs.declared.task.Task.TheVariants as task
 use Rattle.sec_check.specs.Loading.{IsAccepted, IsTooLong, HasFault, HasDesignFault}
 use Rattle.flat_net.specs.View.{circuit_of}
-use Rattle.exposure.specs.Exposed.{common_names}
+use Rattle.exposure.specs.Common.{common_names}
 use Rattle.sec_check.specs.Compared.{AreBroken}
 use Rattle.sec_cli.specs.declared.finding.Refusal.{Refusal}
 use Rattle.sec_cli.specs.declared.finding.Refusal.TheVariants as refusal
