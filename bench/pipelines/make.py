@@ -1,8 +1,9 @@
 #!/usr/bin/env python3
-"""Makes pairs of pipelines with Yosys and ABC, each family over three doublings: bench/pipelines/make.py FOLDER
+"""Makes pairs of circuits with Yosys and ABC, each family over three doublings: bench/pipelines/make.py FOLDER
 
-For each Verilog design NAME it writes NAME.v, NAME.a.blif, which Yosys mapped, and NAME.b.blif, which ABC retimed and
-resynthesised. It needs `yosys` and `berkeley-abc`.
+For each Verilog design NAME it writes NAME.v, NAME.a.blif, which Yosys mapped, and NAME.b.blif, which ABC changed:
+pipelines are retimed and resynthesised; circuits with feedback, which go to FOLDER/feedback, are resynthesised and keep the
+names of their latches. It needs `yosys` and `berkeley-abc`.
 """
 import pathlib
 import subprocess
@@ -12,6 +13,8 @@ RESYN2 = "balance; rewrite; refactor; balance; rewrite; rewrite -z; balance; ref
 # Where latches move: towards few latches, or towards a short cycle. The file is read afresh before each.
 DRETIME_RESYN2 = f"strash; zero; dretime; strash; {RESYN2}"
 RETIME_DC2 = "strash; zero; retime; strash; dc2"
+# No latch moves.
+KEEP_RESYN2 = f"strash; {RESYN2}"
 
 
 def filter_of(taps):
@@ -85,6 +88,35 @@ def multiplier_of(bits):
     return lines
 
 
+def counter_of(bits):
+    """A counter with an enable, a load and a limit."""
+    return [
+        f"module top(input clk, input run, input load, input [{bits - 1}:0] x, output reg [{bits - 1}:0] n, output full);",
+        f"  assign full = n >= {{{bits}{{1'b1}}}} - x;",
+        "  always @(posedge clk) if (load) n <= x; else if (run) n <= full ? 0 : n + 1;",
+        "endmodule",
+    ]
+
+
+def accumulator_of(bits):
+    """A sum that a sample is added to or taken from."""
+    return [
+        f"module top(input clk, input clear, input down, input [{bits - 1}:0] x, output reg [{bits - 1}:0] sum);",
+        "  always @(posedge clk) if (clear) sum <= 0; else sum <= down ? sum - x : sum + x;",
+        "endmodule",
+    ]
+
+
+def machine_of(states):
+    """A state machine that goes on at its own input, back at another, and else stays."""
+    width = (states - 1).bit_length()
+    lines = [f"module top(input clk, input reset, input [{states - 1}:0] go, input back, output reg [{width - 1}:0] at, output last);"]
+    lines += ["  always @(posedge clk) if (reset) at <= 0; else case (at)"]
+    lines += [f"    {i}: if (go[{i}]) at <= {(i + 1) % states}; else if (back) at <= {(i - 1) % states};" for i in range(states)]
+    lines += ["    endcase", f"  assign last = at == {states - 1};", "endmodule"]
+    return lines
+
+
 def make(folder, name, lines, commands):
     verilog, a, b = (folder / f"{name}.{end}" for end in ("v", "a.blif", "b.blif"))
     verilog.write_text("\n".join(lines) + "\n")
@@ -103,6 +135,12 @@ def main():
         make(folder, f"butterfly_{size:02}", butterfly_of(size), RETIME_DC2)
     for size in (2, 4, 8, 16):
         make(folder, f"multiplier_{size:02}", multiplier_of(size), DRETIME_RESYN2)
+    feedback = folder / "feedback"
+    feedback.mkdir(exist_ok=True)
+    for size in (8, 16, 32, 64):
+        make(feedback, f"counter_{size:02}", counter_of(size), KEEP_RESYN2)
+        make(feedback, f"accumulator_{size:02}", accumulator_of(size), KEEP_RESYN2)
+        make(feedback, f"machine_{size:02}", machine_of(size), KEEP_RESYN2)
 
 
 main()
