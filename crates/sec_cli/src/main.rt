@@ -3,6 +3,8 @@
 
 mod comparison;
 mod finding;
+#[cfg(test)]
+mod hostile;
 mod reports;
 mod run;
 mod status;
