@@ -7,6 +7,8 @@ mod laws;
 mod memo;
 mod reaching;
 mod reading;
+#[cfg(test)]
+mod tests;
 mod unfolder;
 mod variables;
 
