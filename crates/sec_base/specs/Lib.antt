@@ -4,3 +4,4 @@ pub mod Outside
 pub mod Fetch
 pub mod MemShelf
 pub mod MemSink
+pub mod Texts

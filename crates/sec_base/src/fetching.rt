@@ -14,10 +14,13 @@ const PIECE: usize = 65_536;
 /// Why a file wasn't fetched.
 #[derive(Debug, Drop, Error)]
 pub enum FetchError {
+    /// A read of the path failed; its count of faults rose in the call, or stands at the last value of u64.
     #[error("a read failed")]
     Failed,
+    /// More bytes are held at the path than the limit.
     #[error("the file is too long")]
     TooLong,
+    /// Memory was wanted and couldn't be had.
     #[error("out of memory")]
     NoMemory,
 }

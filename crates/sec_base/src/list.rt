@@ -1,6 +1,6 @@
 //! The list type of the project, and want of memory.
 
-ghost use Rattle.std.specs.Prelude.{◌≡◌, List, [], ◌∷◌, ◌++◌, length, OnOk, OnErr, IfOk};
+ghost use Rattle.std.specs.Prelude.{◌≡◌, false, List, [], ◌∷◌, ◌++◌, length, replicate, OnOk, OnErr, IfOk};
 
 use std::alloc::{AllocError, AllocFailed, Global};
 use std::marker::Model;
@@ -107,6 +107,15 @@ impl<T: Duplicate> Duplicate for Seq<T> {
     }
 }
 
+impl<T: Duplicate> Duplicate for Option<T> {
+    fn duplicate(&self, alloc: Global) -> Result<Option<T>, NoMemory> {
+        match self {
+            Some(value) => Ok(Some(value.duplicate(alloc)?)),
+            None => Ok(None),
+        }
+    }
+}
+
 impl Duplicate for u8 {
     fn duplicate(&self, _alloc: Global) -> Result<u8, NoMemory> {
         Ok(*self)
@@ -123,6 +132,13 @@ impl Duplicate for bool {
     fn duplicate(&self, _alloc: Global) -> Result<bool, NoMemory> {
         Ok(*self)
     }
+}
+
+/// So many bits, none of them set.
+pub fn unset_bits(alloc: Global, count: usize) -> Result<Bits, NoMemory>
+    ensures { IfOk result (λ bits. bits ≡ replicate count false) }
+{
+    Ok(Seq::from_vec(vec![in alloc; false; count]?))
 }
 
 /// A name or another word of a text, as its bytes.

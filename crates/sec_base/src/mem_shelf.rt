@@ -10,7 +10,7 @@ use std::alloc::Global;
 use std::collections::BTreeMap;
 
 /// A file of a `MemShelf`, with its count of faults.
-#[derive(Debug, Drop)]
+#[derive(Drop)]
 pub struct HeldFile {
     pub bytes: FileText,
     pub faults: u64,
@@ -18,7 +18,7 @@ pub struct HeldFile {
 
 /// Files in memory. The reads whose numbers are told, counted from 1, fail, and so does each read of a path that
 /// isn't held. All paths that aren't held share one count of faults.
-#[derive(Debug, Drop)]
+#[derive(Drop)]
 pub struct MemShelf {
     pub files: BTreeMap<String, HeldFile>,
     pub fails: Ids,

@@ -12,7 +12,7 @@ use std::marker::Model;
 
 /// A sink with room for some bytes in all. Write number `fail_at`, counted from 1, takes at most `keep` bytes and
 /// fails; a write past the room takes what fits and fails.
-#[derive(Debug, Drop)]
+#[derive(Drop)]
 pub struct MemSink {
     bytes: Vec<u8>,
     room: usize,

@@ -10,7 +10,10 @@ use std::{fs, io};
 /// Why a read failed.
 #[derive(Clone, Copy, Debug, PartialEq, Eq)]
 pub enum ShelfError {
+    /// The outside failed: the file can't be opened, or its bytes can't be had. The path's count of faults has risen,
+    /// or stands at the last value of u64.
     Failed,
+    /// Memory was wanted and couldn't be had. No fault is counted.
     NoMemory,
 }
 
@@ -39,7 +42,7 @@ pub trait Shelf {
 }
 
 /// Real files. It tells no content, and has one count of faults for all paths.
-#[derive(Debug, Drop)]
+#[derive(Drop)]
 pub struct FileShelf<'a, R: Files> {
     rt: &'a R,
     faults: u64,

@@ -27,7 +27,7 @@ pub trait Sink {
 }
 
 /// The standard output. It tells nothing of what it took.
-#[derive(Debug, Drop)]
+#[derive(Drop)]
 pub struct StdSink<'a, R: Print> {
     rt: &'a R,
     faults: u64,

@@ -1,5 +1,5 @@
 -- Each name is new, since none stands twice.
-use Rattle.std.proofs.Common.{◌≡◌, ◌∙◌, ◌++◌, ◌∷◌, [], false, take, rules, ap}
+use Rattle.std.proofs.Common.{◌≡◌, ◌∙◌, ◌++◌, ◌∷◌, [], take, rules, ap}
 use Rattle.sec_base.specs.Table.{is_among}
 use Rattle.sec_base.proofs.TableLemmas.{not_before, take-push}
 use Rattle.sec_base.proofs.tables.NameTable.copy.Goals as goal

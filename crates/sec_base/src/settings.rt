@@ -1,0 +1,13 @@
+//! How a comparison is made.
+
+use circuit_theory::Mode;
+
+/// How a comparison is made.
+#[derive(Clone, Copy, Debug, PartialEq, Eq)]
+pub struct Settings {
+    pub mode: Mode,
+    /// Whether latches that both circuits have are cut open.
+    pub expose: bool,
+    /// The greatest number of conflicts of one query, 0 to 200,000.
+    pub conflicts: u32,
+}
