@@ -1,0 +1,11 @@
+pub mod Lists
+pub mod Drivers
+pub mod Weighing
+pub mod Walks
+pub mod Among
+pub mod Cones
+pub mod Literals
+pub mod Queries
+pub mod EnabledForm
+pub mod Unate
+pub mod OneCone

@@ -1,0 +1,187 @@
+//! Whether a latch has a load enable.
+
+ghost use Rattle.std.specs.Prelude.{◌≡◌, ℕ, ◌+◌, ◌*◌, ◌^◌, ◌<◌, ◌≤◌, length, slice_get, Some, Contains, IsTrue, ◌↔◌, IfOk};
+ghost use Rattle.std.specs.List.{sum_by};
+ghost use Rattle.flat_net.specs.View.{circuit_of};
+ghost use Rattle.aig.specs.Graph.{vars_of};
+ghost use Rattle.unate_enable.specs.Weighing.{weight_at};
+ghost use Rattle.unate_enable.specs.Walks.{AreReached};
+ghost use Rattle.unate_enable.specs.declared.support.LatchCone.{LatchCone};
+ghost use Rattle.unate_enable.specs.Cones.{data_of_latch, out_of_latch, IsConeOfLatch, places_of};
+ghost use Rattle.unate_enable.specs.Building.{AreClosed};
+ghost use Rattle.unate_enable.specs.Recovery.{IsRecovery, IsTooLarge, IsAnswer, IsQueryOf, recovery_of};
+ghost use Rattle.unate_enable.specs.declared.recovery.RecoverError.TheVariants as recover_error;
+
+use crate::building::lit_with;
+use crate::reading::{are_light, latch_of};
+use crate::sources::{cone_among, places};
+use crate::walking::reached;
+use aig::Aig;
+use flat_net::{Net, Signal};
+use pair_decide::{Decision, Proof, Query, decide};
+use sec_base::{Bits, Ids, NoMemory};
+use std::alloc::Global;
+
+/// What is found out about a latch.
+#[derive(Debug, Drop)]
+pub enum Recovery {
+    /// The latch isn't in the cone of what it takes over.
+    Plain,
+    /// It is, and what it takes over never goes down where the latch itself goes up.
+    Enabled,
+    /// A bit for each input and then for each latch of its cone, with which it takes over 1 where it is 0, and 0 where it is 1.
+    NotUnate(Bits),
+    /// The search for such bits met the limit.
+    Limit(Proof),
+}
+
+/// Why nothing is found out about a latch.
+#[derive(Clone, Copy, Debug, PartialEq, Eq)]
+pub enum RecoverError {
+    /// The latch is in its own cone, which weighs more than 2,000,000.
+    TooLarge,
+    /// Memory was wanted.
+    NoMemory,
+}
+
+impl From<NoMemory> for RecoverError {
+    ghost use Rattle.std.specs.Prelude.{◌≡◌};
+    ghost use Rattle.unate_enable.specs.declared.recovery.RecoverError.TheVariants as recover_error;
+
+    ghost from_gives = { λ _ e. e ≡ recover_error.NoMemory };
+
+    fn from(_error: NoMemory) -> RecoverError {
+        RecoverError::NoMemory
+    }
+}
+
+/// Finds out whether the latch has a load enable. It looks at no signals but those of the latch's cone.
+pub fn recover(
+    alloc: Global,
+    net: &Net,
+    latch: u32,
+    conflicts: u32,
+) -> Result<Recovery, RecoverError>
+    requires latch { latch < length net.now.latches }
+    requires conflicts { conflicts ≤ 200000 }
+    ensures recovery { IfOk result (IsRecovery net.now latch conflicts) }
+    ensures large { result ≡ Err recover_error.TooLarge → IsTooLarge net.now latch }
+{
+    net.keeps();
+    let at = latch_of(net, latch);
+    let signals = reached(alloc, net, at.next)?;
+    if !is_among(signals.as_slice(), at.out) {
+        return Ok(Recovery::Plain);
+    }
+    if !are_light(net, signals.as_slice()) {
+        return Err(RecoverError::TooLarge);
+    }
+    let recovery = ask(alloc, net, latch, signals.as_slice(), conflicts)?;
+    Ok(recovery)
+}
+
+fn is_among(signals: &[u32], s: Signal) -> bool
+    ensures { IsTrue result ↔ Contains signals.now s.0 }
+{
+    signals.contains(&s.0)
+}
+
+/// Asks for values with which the latch falls. The signals are those of its cone, the latch among them.
+fn ask(
+    alloc: Global,
+    net: &Net,
+    latch: u32,
+    signals: &[u32],
+    conflicts: u32,
+) -> Result<Recovery, NoMemory>
+    requires latch { latch < length net.now.latches }
+    requires conflicts { conflicts ≤ 200000 }
+    requires reached { AreReached (circuit_of net.now) (length net.now.drivers) (data_of_latch net.now latch) signals.now }
+    requires own { Contains signals.now (out_of_latch net.now latch) }
+    requires light { sum_by (weight_at net.now) signals.now ≤ 2000000 }
+    ensures { IfOk result (IsAnswer net.now latch conflicts) }
+{
+    net.keeps();
+    let cone = cone_among(alloc, net, latch, signals)?;
+    let places = places(alloc, net, &cone)?;
+    ask_over(alloc, net, latch, signals, places.as_slice(), conflicts)
+}
+
+/// The same over the signals of the inputs and then of the other latches of its cone.
+fn ask_over(
+    alloc: Global,
+    net: &Net,
+    latch: u32,
+    signals: &[u32],
+    places: &[u32],
+    conflicts: u32,
+) -> Result<Recovery, NoMemory>
+    requires latch { latch < length net.now.latches }
+    requires conflicts { conflicts ≤ 200000 }
+    requires reached { AreReached (circuit_of net.now) (length net.now.drivers) (data_of_latch net.now latch) signals.now }
+    requires own { Contains signals.now (out_of_latch net.now latch) }
+    requires light { sum_by (weight_at net.now) signals.now ≤ 2000000 }
+    requires places { (cone : LatchCone) × IsConeOfLatch net.now latch cone × (places.now ≡ places_of net.now cone) }
+    ensures { IfOk result (IsAnswer net.now latch conflicts) }
+{
+    net.keeps();
+    let mut aig = Aig::new(alloc)?;
+    let query = query_of(alloc, net, latch, signals, places, &mut aig)?;
+    aig.keeps();
+    let decision = decide(alloc, &aig, &query, conflicts)?;
+    Ok(recovery_of(decision))
+}
+
+/// What the decision says of the latch.
+fn recovery_of(decision: Decision) -> Recovery
+    ensures { result ≡ recovery_of decision }
+{
+    match decision {
+        Decision::Same(_) => Recovery::Enabled,
+        Decision::Differs(bits) => Recovery::NotUnate(bits),
+        Decision::Limit(proof) => Recovery::Limit(proof),
+    }
+}
+
+/// The query of the latch: f0, f1, and f0 as the care.
+fn query_of(
+    alloc: Global,
+    net: &Net,
+    latch: u32,
+    signals: &[u32],
+    places: &[u32],
+    aig: &mut Aig,
+) -> Result<Query, NoMemory>
+    requires latch { latch < length net.now.latches }
+    requires reached { AreReached (circuit_of net.now) (length net.now.drivers) (data_of_latch net.now latch) signals.now }
+    requires closed { AreClosed (circuit_of net.now) (out_of_latch net.now latch) places.now signals.now }
+    requires few { length places.now ≤ 2000000 }
+    requires light { sum_by (weight_at net.now) signals.now ≤ 2000000 }
+    requires small { length aig.old ≤ 1 }
+    requires empty { vars_of aig.old ≡ 0 }
+    ensures { IfOk result (IsQueryOf net.now latch places.now aig.new) }
+{
+    net.keeps();
+    let at = latch_of(net, latch);
+    let low = lit_with(alloc, net, aig, signals, places, at.out, false, at.next)?;
+    let high = lit_with(alloc, net, aig, signals, places, at.out, true, at.next)?;
+    let vars = numbers(alloc, places.len() as u32)?;
+    Ok(Query {
+        left: low,
+        right: high,
+        care: low,
+        vars,
+    })
+}
+
+/// The numbers from 0 on, so many.
+fn numbers(alloc: Global, count: u32) -> Result<Ids, NoMemory>
+    ensures each { IfOk result (λ numbers. length numbers ≡ count) }
+    ensures are { IfOk result (λ numbers. (k : ℕ) → k < count → slice_get numbers k ≡ Some k) }
+{
+    let mut numbers = Ids::new(alloc);
+    for k in 0..count {
+        numbers.push(k)?;
+    }
+    Ok(numbers)
+}
