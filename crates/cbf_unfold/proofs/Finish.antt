@@ -7,7 +7,7 @@ use Rattle.circuit_theory.specs.Tree.{Tree, Leaf, Unfolds, IsInputNumber}
 use Rattle.circuit_theory.specs.Sizes.{Visits, IsOver, IsWeight}
 use Rattle.circuit_theory.proofs.Lists.{All-from_each, of_at}
 use Rattle.circuit_theory.proofs.Numbers.{one_number}
-use Rattle.circuit_theory.proofs.OneTree.{one_tree}
+use Rattle.circuit_laws.proofs.OneTree.{one_tree}
 use Rattle.flat_net.specs.View.{NetView, circuit_of}
 use Rattle.flat_net.specs.Sound.{IsSound}
 use Rattle.flat_net.proofs.Nets.{sound_is_net}

@@ -11,7 +11,7 @@ use Rattle.circuit_theory.specs.Circuit.{Circuit, IsSingleDriven}
 use Rattle.circuit_theory.specs.Tree.{Tree, Unfolds, IsInputNumber}
 use Rattle.circuit_theory.specs.Query.{Variable, ShiftBefore, AreVariables}
 use Rattle.circuit_theory.specs.Sizes.{Visits}
-use Rattle.circuit_theory.proofs.LeafVisits.{VisitsInput, variables_are_visits}
+use Rattle.circuit_laws.proofs.LeafVisits.{VisitsInput, variables_are_visits}
 use Rattle.circuit_theory.proofs.Lists.{Contains-head, Contains-tail, Contains-map, Contains-map_from, All-from_each, at_of, zip_push}
 use Rattle.circuit_theory.proofs.Numbers.{one_number, one_place}
 use Rattle.circuit_theory.proofs.Sums.{AllPairs-head, AllPairs-tail}

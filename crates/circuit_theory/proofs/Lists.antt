@@ -111,3 +111,20 @@ zip_right R (x' ∷ xs) (y ∷ ys) h zero x e = let same : x' ≡ x = unwrap e i
     unwrap : Some x' ≡ Some x → x' ≡ x
     unwrap q = cc
 zip_right R (x' ∷ xs) (y ∷ ys) h (suc i) x e = zip_right R xs ys h.1 i x e
+
+pub length-map : {X Y : Type 0} (f : X → Y) (xs : List X) → length (map f xs) ≡ length xs
+length-map f [] = refl
+length-map f (x ∷ xs) = ap suc (length-map f xs)
+
+-- what a mapped list has at a place comes from the element there
+pub map_at : {X Y : Type 0} (f : X → Y) (xs : List X) (i : ℕ) (y : Y) → slice_get (map f xs) i ≡ Some y → (x : X) × (slice_get xs i ≡ Some x) × (f x ≡ y)
+map_at f [] i y h = absurd (nothing i h)
+  where
+    nothing : (i : ℕ) → slice_get [] i ≡ Some y → ⊥
+    nothing zero q = cc
+    nothing (suc i) q = cc
+map_at f (x ∷ xs) zero y h = (x, refl, unwrap h)
+  where
+    unwrap : Some (f x) ≡ Some y → f x ≡ y
+    unwrap q = cc
+map_at f (x ∷ xs) (suc i) y h = map_at f xs i y h

@@ -65,3 +65,7 @@ abbrev pub without : {X : Type 0} → List X → ℕ → List X
 without [] i = []
 without (x ∷ xs) zero = xs
 without (x ∷ xs) (suc i) = x ∷ without xs i
+
+-- each latch has a depth: no cycle is left in the latch graph
+abbrev pub LatchesHaveDepths : {P : Type 0} → Circuit P → (P → Type 0) → Type 0
+LatchesHaveDepths {P} c enabled = (name : List ℕ) (u next : P) → IsLatch c name u next → (d : ℕ) × IsDepth c enabled u d

@@ -1,13 +1,11 @@
 -- What stands behind the answers on a pair.
-use Rattle.std.specs.Prelude.{◌≡◌, ◌≢◌, ℕ, ◌+◌, ◌<◌, ◌≤◌, max, Bool, List, [], ◌∷◌, ◌++◌, length, None}
+use Rattle.std.specs.Prelude.{◌≡◌, ◌≢◌, ℕ, ◌+◌, ◌<◌, ◌≤◌, max, Bool, List, [], ◌∷◌, length}
 use Rattle.std.specs.List.{All}
-use Rattle.circuit_theory.specs.Circuit.{Circuit, IsLatch}
-use Rattle.circuit_theory.specs.Run.{IsRun, IsEnabled, NoneEnabled}
+use Rattle.circuit_theory.specs.Circuit.{Circuit}
+use Rattle.circuit_theory.specs.Run.{IsRun, NoneEnabled}
 use Rattle.circuit_theory.specs.Depth.{IsDepth}
 use Rattle.circuit_theory.specs.Tree.{Tree, Unfolds, tree_value}
 use Rattle.circuit_theory.specs.Query.{Variable, AreVariables, ShiftBefore, same_shift, assigned, bits_of, pair_query, Distinguishes, IsLeast}
-use Rattle.circuit_theory.specs.Frame.{EventSide, EventUnfolds, ConeLatches, HasCare}
-use Rattle.circuit_theory.specs.Classes.{Either, joined}
 use Rattle.circuit_theory.specs.Sequence.{sequence_rows, row_value, TakesInputs}
 
 -- the depth of a pair is the greater of both depths
@@ -46,20 +44,3 @@ pub record IsWitness {P Q : Type 0} (a : Circuit P) (b : Circuit Q) (left right 
   pub rows_are : rows ≡ sequence_rows last (assigned same_shift variables bits) count
   pub left_value : l ≡ tree_value (assigned same_shift variables bits) left_tree
   pub right_value : r ≡ tree_value (assigned same_shift variables bits) right_tree
-
--- two circuits side by side as the event form sees them: the numbers of A's inputs come first
-abbrev pub side_by_side : {P Q : Type 0} → Circuit P → Circuit Q → List ℕ → List ℕ → (Either P Q → ℕ) → EventSide (Either P Q)
-side_by_side a b left right class = record { circuit = joined a b; order = left ++ right; class = class }
-
--- both places unfold in the event form, to functions that agree in each frame with care for both
-pub record HaveEqualEvents {P : Type 0} (s : EventSide P) (p q : P) : Type 0 where
-  pub left_tree : Tree (List ℕ)
-  pub right_tree : Tree (List ℕ)
-  pub left_unfolds : EventUnfolds s (IsEnabled s.circuit) None p [] left_tree
-  pub right_unfolds : EventUnfolds s (IsEnabled s.circuit) None q [] right_tree
-  pub same : (bits : ℕ → List ℕ → Bool) → HasCare s (IsEnabled s.circuit) (ConeLatches s.circuit p) bits → HasCare s (IsEnabled s.circuit) (ConeLatches s.circuit q) bits →
-      tree_value bits left_tree ≡ tree_value bits right_tree
-
--- each latch has a depth: no cycle is left in the latch graph
-abbrev pub LatchesHaveDepths : {P : Type 0} → Circuit P → (P → Type 0) → Type 0
-LatchesHaveDepths {P} c enabled = (name : List ℕ) (u next : P) → IsLatch c name u next → (d : ℕ) × IsDepth c enabled u d

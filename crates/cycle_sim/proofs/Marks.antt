@@ -9,7 +9,7 @@ use Rattle.circuit_theory.specs.Run.{Marked, Loads}
 use Rattle.circuit_theory.specs.Agree.{EnabledIn, IsSettled}
 use Rattle.circuit_theory.specs.declared.Mode.TheVariants.{Plain}
 use Rattle.circuit_theory.proofs.Lists.{Contains-map, Contains-map_from}
-use Rattle.circuit_theory.proofs.Marks.{mark_step}
+use Rattle.circuit_laws.proofs.Marks.{mark_step}
 use Rattle.circuit_theory.proofs.Sums.{same_or_not}
 use Rattle.flat_net.specs.declared.signals.Signal.{Signal}
 use Rattle.flat_net.specs.declared.parts.Port.{Port}

@@ -7,7 +7,7 @@ use Rattle.std.proofs.lemmas.Option.{slice_get_within, slice_get-get_or, get_or_
 use Rattle.circuit_theory.specs.Circuit.{Meets, Carries, Latch as latch_equation, Named, IsInput, IsLatch}
 use Rattle.circuit_theory.specs.Run.{IsRun}
 use Rattle.circuit_theory.proofs.Lists.{map_same, at_of}
-use Rattle.circuit_theory.proofs.LawProofs.{runs_exist, same_run}
+use Rattle.circuit_laws.proofs.LawProofs.{runs_exist, same_run}
 use Rattle.flat_net.specs.declared.parts.Port.{Port}
 use Rattle.flat_net.specs.declared.parts.Gate.{Gate}
 use Rattle.flat_net.specs.declared.parts.LatchAt.{LatchAt}

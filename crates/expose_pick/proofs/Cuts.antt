@@ -9,9 +9,7 @@ use Rattle.circuit_theory.specs.Circuit.{Circuit, Latch as latch_equation, IsLat
 use Rattle.circuit_theory.specs.Run.{NoneEnabled}
 use Rattle.circuit_theory.specs.Depth.{LatchReads, LatchPath, HasCycle, IsCycle, after_in_round, without}
 use Rattle.circuit_theory.specs.Agree.{IsMinimalCut}
-use Rattle.circuit_theory.proofs.Lists.{map_same, map-map, Contains-map, Contains-map_from}
-use Rattle.circuit_theory.proofs.Designs.{map_at}
-use Rattle.circuit_theory.proofs.LawProofs.{length-map}
+use Rattle.circuit_theory.proofs.Lists.{map_same, map-map, Contains-map, Contains-map_from, map_at, length-map}
 use Rattle.flat_net.specs.declared.parts.LatchAt.{LatchAt}
 use Rattle.flat_net.specs.View.{NetView, circuit_of, equation_of_gate, equation_of_latch}
 use Rattle.flat_net.specs.Cut.{no_latch}

@@ -4,7 +4,7 @@ use Rattle.std.specs.Prelude.{◌⊎◌, slice_get}
 use Rattle.std.specs.List.{AllPairs}
 use Rattle.std.proofs.lemmas.Bool.{cases_order}
 use Rattle.std.proofs.lemmas.Option.{slice_get_within, get_or_from_slice_get}
-use Rattle.circuit_theory.proofs.Designs.{map_at}
+use Rattle.circuit_theory.proofs.Lists.{map_at}
 use Rattle.sec_base.specs.Table.{AreDistinct}
 
 -- what is told apart pair by pair stands at one place each

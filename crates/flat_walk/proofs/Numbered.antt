@@ -5,9 +5,8 @@ use Rattle.std.proofs.lemmas.Bool.{and_parts}
 use Rattle.std.proofs.lemmas.List.Elements.{All-cons, All-nil, All-contains}
 use Rattle.std.proofs.lemmas.Option.{same_Some, none-some}
 use Rattle.std.proofs.lemmas.Slice.Eq.{bytes_eq-Decides}
-use Rattle.circuit_theory.specs.Circuit.{Equation, Named}
-use Rattle.circuit_theory.specs.Circuit.{Latch as Register}
-use Rattle.circuit_theory.specs.Classes.{moved, moved_name}
+use Rattle.circuit_theory.specs.Circuit.{Equation, Named, Latch as Register}
+use Rattle.circuit_theory.specs.Joined.{moved, moved_name}
 use Rattle.circuit_theory.proofs.Lists.{map-map}
 use Rattle.sec_base.specs.Table.{AreDistinct}
 use Rattle.blif_read.specs.declared.design.BlifModel.{BlifModel}

@@ -5,7 +5,7 @@ use Rattle.std.proofs.lemmas.List.Elements.{All-map, All-contains}
 use Rattle.circuit_theory.specs.Cover.{cover_value}
 use Rattle.circuit_theory.specs.Circuit.{Circuit, Equation, Gate, Latch, Port, Named, IsInput, Holds, Carries, out_of}
 use Rattle.circuit_theory.specs.Places.{IsPlace}
-use Rattle.circuit_theory.specs.Classes.{moved, moved_name}
+use Rattle.circuit_theory.specs.Joined.{moved, moved_name}
 use Rattle.circuit_theory.specs.Run.{Marked, NoneEnabled}
 use Rattle.circuit_theory.specs.Flattened.{IsFlattened, Follows, latch_names}
 use Rattle.circuit_theory.proofs.Lists.{map-map, map_same, Contains-map, Contains-map_from, All-from_each, of_at}

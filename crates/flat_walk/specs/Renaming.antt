@@ -2,7 +2,7 @@
 use Rattle.std.specs.Prelude.{◌≡◌, ℕ, ◌<◌, map}
 use Rattle.std.specs.List.{All, Contains}
 use Rattle.circuit_theory.specs.Circuit.{Circuit, Equation, Gate, Latch, Port, Named}
-use Rattle.circuit_theory.specs.Classes.{moved, moved_name}
+use Rattle.circuit_theory.specs.Joined.{moved, moved_name}
 
 -- each signal of the equation is below the size
 abbrev pub IsBelow : ℕ → Equation ℕ → Type 0

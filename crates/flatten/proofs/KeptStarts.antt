@@ -4,7 +4,7 @@ use Rattle.std.specs.List.{Contains, list_all, cons_option}
 use Rattle.std.specs.Prelude.{◌≤◌}
 use Rattle.std.proofs.lemmas.Option.{none-some, slice_get-get_or}
 use Rattle.circuit_theory.specs.Circuit.{Started}
-use Rattle.circuit_theory.specs.Classes.{moved_start}
+use Rattle.circuit_theory.specs.Joined.{moved_start}
 use Rattle.circuit_theory.proofs.Lists.{map-map, map_same, Contains-map_from, filter_map-from, at_of}
 use Rattle.circuit_theory.proofs.Numbers.{slice_get-map}
 use Rattle.sec_base.specs.declared.basics.Edge.{Edge}

@@ -2,7 +2,7 @@
 use Rattle.std.specs.Prelude.{◌≡◌, ℕ, suc, ◌<◌, ◌≤◌, ◌==◌, cond, List, [], ◌∷◌, ◌++◌, map, length, take, Option, Some, None, slice_get}
 use Rattle.std.specs.List.{All, Contains, filter}
 use Rattle.circuit_theory.specs.Circuit.{Equation}
-use Rattle.circuit_theory.specs.Classes.{moved}
+use Rattle.circuit_theory.specs.Joined.{moved}
 use Rattle.sec_base.specs.Table.{AreDistinct}
 use Rattle.blif_read.specs.declared.design.BlifModel.{BlifModel}
 use Rattle.flat_net.specs.declared.signals.Signal.{Signal}

@@ -16,10 +16,9 @@ use Rattle.circuit_theory.specs.Run.{NoneEnabled}
 use Rattle.circuit_theory.specs.Depth.{ChainFrom, IsDepth, HasNoDepth}
 use Rattle.circuit_theory.specs.Tree.{Tree, Trees, Leaf, Branch, Nil, Cons, Unfolds, UnfoldsAll}
 use Rattle.circuit_theory.specs.Net.{IsNet}
-use Rattle.circuit_theory.proofs.Lists.{Contains-head, Contains-tail, Contains-cases, Contains-map, at_of, of_at}
-use Rattle.circuit_theory.proofs.LawProofs.{length-map}
-use Rattle.circuit_theory.proofs.NetTrees.{has_number}
-use Rattle.circuit_theory.proofs.TreeDepth.{chain_up, extend, tree_depth}
+use Rattle.circuit_theory.proofs.Lists.{Contains-head, Contains-tail, Contains-cases, Contains-map, at_of, of_at, length-map}
+use Rattle.circuit_laws.proofs.NetTrees.{has_number}
+use Rattle.circuit_laws.proofs.TreeDepth.{chain_up, extend, tree_depth}
 use Rattle.latch_graph.specs.declared.nodes.Node.{Node}
 use Rattle.latch_graph.specs.declared.settling.State.{State}
 use Rattle.latch_graph.specs.declared.settling.State.TheVariants.{New, Open, Known, Endless, Removed}

@@ -17,9 +17,7 @@ use Rattle.circuit_theory.specs.Names.{ListBefore}
 use Rattle.circuit_theory.specs.Run.{NoneEnabled}
 use Rattle.circuit_theory.specs.Depth.{LatchReads, LatchPath, HasCycle, IsCycle, BeginsWithLeast, after_in_round}
 use Rattle.circuit_theory.specs.Net.{IsNet, IsWithin}
-use Rattle.circuit_theory.proofs.Lists.{Contains-head, Contains-tail, Contains-cases, Contains-map_from, at_of}
-use Rattle.circuit_theory.proofs.Designs.{map_at}
-use Rattle.circuit_theory.proofs.LawProofs.{length-map}
+use Rattle.circuit_theory.proofs.Lists.{Contains-head, Contains-tail, Contains-cases, Contains-map_from, at_of, map_at, length-map}
 use Rattle.circuit_theory.proofs.Sums.{same_or_not}
 use Rattle.latch_graph.specs.declared.nodes.Node.{Node}
 use Rattle.latch_graph.specs.declared.settling.State.{State}

@@ -16,9 +16,7 @@ use Rattle.flat_net.proofs.Nets.{some_at, gate_stands, latch_stands, input_stand
 use Rattle.circuit_theory.specs.Cover.{Cover}
 use Rattle.circuit_theory.specs.Circuit.{Gate as gate_equation, IsLatch, Reads}
 use Rattle.circuit_theory.specs.Sizes.{WeighsAt, Weighed, Visits, IsWeight, IsOver}
-use Rattle.circuit_theory.proofs.Lists.{Contains-map, Contains-map_from, at_of, of_at}
-use Rattle.circuit_theory.proofs.Designs.{map_at}
-use Rattle.circuit_theory.proofs.LawProofs.{length-map}
+use Rattle.circuit_theory.proofs.Lists.{Contains-map, Contains-map_from, at_of, of_at, map_at, length-map}
 use Rattle.circuit_theory.proofs.Sums.{same_or_not}
 use Rattle.latch_graph.specs.declared.nodes.Node.{Node}
 use Rattle.latch_graph.specs.Graph.{GraphView, IsGraphOf}

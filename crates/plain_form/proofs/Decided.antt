@@ -11,7 +11,7 @@ use Rattle.circuit_theory.specs.Run.{NoneEnabled}
 use Rattle.circuit_theory.specs.Sequence.{sequence_rows}
 use Rattle.circuit_theory.specs.Tree.{HaveEqualFunctions}
 use Rattle.circuit_theory.proofs.Lists.{All-from_each}
-use Rattle.circuit_theory.proofs.TreeDepth.{tree_depth}
+use Rattle.circuit_laws.proofs.TreeDepth.{tree_depth}
 use Rattle.flat_net.specs.View.{NetView, circuit_of}
 use Rattle.flat_net.specs.Sound.{IsSound}
 use Rattle.flat_net.proofs.Nets.{sound_is_net}

@@ -9,7 +9,7 @@ use Rattle.circuit_theory.specs.Query.{Variable, HasLeaf, HasLeafIn}
 use Rattle.circuit_theory.specs.Sizes.{Visits}
 use Rattle.circuit_theory.proofs.Lists.{Contains-cases, Contains-head, Contains-map, Contains-tail, at_of, of_at}
 use Rattle.circuit_theory.proofs.Inputs.{test_refl}
-use Rattle.circuit_theory.proofs.LeafVisits.{leaf_visits, leaf_says, leaf_in_says}
+use Rattle.circuit_laws.proofs.LeafVisits.{leaf_visits, leaf_says, leaf_in_says}
 use Rattle.circuit_theory.proofs.Numbers.{beside_at, slice_get-map}
 use Rattle.flat_net.specs.declared.signals.Signal.{Signal}
 use Rattle.flat_net.specs.declared.parts.Port.{Port}

@@ -8,9 +8,8 @@ use Rattle.std.proofs.lemmas.Option.{slice_get_within, get_or_from_slice_get}
 use Rattle.circuit_theory.specs.Tree.{Tree, tree_value}
 use Rattle.circuit_theory.specs.Query as query
 use Rattle.circuit_theory.specs.Query.{Variable, AreVariables, ShiftBefore, HasLeaf, assigned, same_shift, pair_query, bits_of}
-use Rattle.circuit_theory.proofs.Lists.{Contains-head, Contains-tail, Contains-cases, Contains-map, Contains-map_from, All-from_each}
+use Rattle.circuit_theory.proofs.Lists.{Contains-head, Contains-tail, Contains-cases, Contains-map, Contains-map_from, All-from_each, length-map}
 use Rattle.circuit_theory.proofs.Sums.{AllPairs-head, AllPairs-tail}
-use Rattle.circuit_theory.proofs.LawProofs.{length-map}
 use Rattle.sec_base.specs.Table.{AreDistinct}
 use Rattle.flat_net.specs.View.{NetView}
 use Rattle.aig.specs.declared.node.Lit.{Lit}

@@ -8,8 +8,7 @@ use Rattle.std.proofs.lemmas.List.Kept.{AllPairs-cons}
 use Rattle.std.proofs.lemmas.Option.{slice_get_within, slice_get-get_or}
 use Rattle.circuit_theory.specs.Query.{Variable, ShiftBefore, assigned, same_shift}
 use Rattle.circuit_theory.specs.Sequence.{sequence_value, sequence_row, sequence_rows_from}
-use Rattle.circuit_theory.proofs.Lists.{All-from_each, Contains-map_from, at_of, of_at}
-use Rattle.circuit_theory.proofs.LawProofs.{length-map}
+use Rattle.circuit_theory.proofs.Lists.{All-from_each, Contains-map_from, at_of, of_at, length-map}
 use Rattle.circuit_theory.proofs.Sums.{AllPairs-head, AllPairs-tail}
 use Rattle.sec_base.proofs.TableLemmas.{slice_get-take}
 use Rattle.latch_graph.proofs.Trails.{slice_get-drop}

@@ -7,8 +7,7 @@ use Rattle.std.proofs.lemmas.Option.{slice_get_within, slice_get-get_or}
 use Rattle.std.proofs.lemmas.List.{map-append, append_assoc}
 use Rattle.circuit_theory.specs.Names.{is_among as is_named}
 use Rattle.circuit_theory.specs.Interface.{inputs_beside, shared_inputs, is_clock}
-use Rattle.circuit_theory.proofs.LawProofs.{length-map}
-use Rattle.circuit_theory.proofs.Lists.{Contains-map, Contains-map_from, Contains-filter, map-map, at_of, of_at}
+use Rattle.circuit_theory.proofs.Lists.{length-map, Contains-map, Contains-map_from, Contains-filter, map-map, at_of, of_at}
 use Rattle.circuit_theory.proofs.Numbers.{is_among-complete}
 use Rattle.sec_base.specs.Table.{AreDistinct, is_among}
 use Rattle.sec_base.proofs.TableLemmas.{key_at, is_among-Contains, is_among-at, slice_get-take, take-push}

@@ -11,9 +11,9 @@ use Rattle.circuit_theory.specs.Fits.{IsWitness}
 use Rattle.circuit_theory.specs.Interface.{AreNumbersOf}
 use Rattle.circuit_theory.proofs.Lists.{map-map}
 use Rattle.circuit_theory.proofs.Numbers.{is_among-complete}
-use Rattle.circuit_theory.proofs.Parted.{kept_equation}
-use Rattle.circuit_theory.proofs.CutLaws.{kept_test}
-use Rattle.circuit_theory.proofs.LawProofs.{numbers_are_shared}
+use Rattle.circuit_laws.proofs.Parted.{kept_equation}
+use Rattle.circuit_laws.proofs.CutLaws.{kept_test}
+use Rattle.circuit_laws.proofs.LawProofs.{numbers_are_shared}
 use Rattle.flat_net.specs.View.{NetView, named, circuit_of, ports_of}
 use Rattle.flat_net.specs.Cut.{IsCutCircuit}
 use Rattle.plain_form.specs.Formed.{IsAcyclic}

@@ -14,8 +14,8 @@ use Rattle.circuit_theory.specs.Tree.{HaveEqualFunctions}
 use Rattle.circuit_theory.proofs.Lists.{Contains-head, Contains-tail, Contains-map_from, filter_map-from, map-map, at_of, zip_right}
 use Rattle.circuit_theory.proofs.Inputs.{same_name-sound}
 use Rattle.circuit_theory.proofs.Numbers.{slice_get-map}
-use Rattle.circuit_theory.proofs.Onward.{latch_named-found}
-use Rattle.circuit_theory.proofs.Pairs.{pairs_are_listed}
+use Rattle.circuit_laws.proofs.Onward.{latch_named-found}
+use Rattle.circuit_laws.proofs.Pairs.{pairs_are_listed}
 use Rattle.flat_net.specs.declared.parts.Port.{Port}
 use Rattle.flat_net.specs.View.{NetView, named, circuit_of}
 use Rattle.sec_base.specs.Table.{AreDistinct}

@@ -11,8 +11,8 @@ use Rattle.circuit_theory.specs.Places.{IsPlace}
 use Rattle.circuit_theory.specs.Flattened.{IsFlattened, latch_names}
 use Rattle.circuit_theory.specs.Agree.{AreAlike, IsPair, LatchesEqual}
 use Rattle.circuit_theory.proofs.Lists.{Contains-head, Contains-tail, Contains-cases, All-from_each, map_same, of_at}
-use Rattle.circuit_theory.proofs.NetLaws.{net_run, net_run-runs}
-use Rattle.circuit_theory.proofs.Designs.{OutputOf, output_of, follows_same, input_up}
+use Rattle.circuit_laws.proofs.NetLaws.{net_run, net_run-runs}
+use Rattle.circuit_laws.proofs.Designs.{OutputOf, output_of, follows_same, input_up}
 use Rattle.sec_check.specs.Shown.{AgreeFrom}
 
 -- two bits that can't differ are one

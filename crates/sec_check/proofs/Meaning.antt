@@ -11,11 +11,11 @@ use Rattle.circuit_theory.specs.Agree.{cut, IsPair, IsSettled, Agree, AgreeOnwar
 use Rattle.circuit_theory.specs.Fits.{IsPairDepth, IsWitness}
 use Rattle.circuit_theory.specs.Interface.{AreNumbersOf}
 use Rattle.circuit_theory.proofs.Lists.{of_at, zip_right}
-use Rattle.circuit_theory.proofs.Marks.{depth_settled}
-use Rattle.circuit_theory.proofs.Onward.{cut_input, cut_run}
-use Rattle.circuit_theory.proofs.TreeDepth.{tree_depth}
-use Rattle.circuit_theory.proofs.CutLaws.{cut_single}
-use Rattle.circuit_theory.proofs.LawProofs.{exposed_functions_agree}
+use Rattle.circuit_laws.proofs.Marks.{depth_settled}
+use Rattle.circuit_laws.proofs.Onward.{cut_input, cut_run}
+use Rattle.circuit_laws.proofs.TreeDepth.{tree_depth}
+use Rattle.circuit_laws.proofs.CutLaws.{cut_single}
+use Rattle.circuit_laws.proofs.LawProofs.{exposed_functions_agree}
 use Rattle.flat_net.specs.declared.parts.Port.{Port}
 use Rattle.flat_net.specs.View.{NetView, circuit_of}
 use Rattle.flat_net.specs.Sound.{IsSound}

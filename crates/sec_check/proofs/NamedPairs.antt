@@ -7,10 +7,9 @@ use Rattle.std.proofs.lemmas.Option.{none-some, slice_get-get_or}
 use Rattle.circuit_theory.specs.Circuit.{IsLatch, Named}
 use Rattle.circuit_theory.specs.Net.{HasDistinctNames}
 use Rattle.circuit_theory.specs.Agree.{place_named, latch_named, second_of_pair}
-use Rattle.circuit_theory.proofs.LawProofs.{length-map}
-use Rattle.circuit_theory.proofs.Lists.{map_same, map-map, Contains-cases, Contains-map, Contains-map_from, at_of, of_at, zip_right}
+use Rattle.circuit_theory.proofs.Lists.{length-map, map_same, map-map, Contains-cases, Contains-map, Contains-map_from, at_of, of_at, zip_right}
 use Rattle.circuit_theory.proofs.Numbers.{slice_get-map}
-use Rattle.circuit_theory.proofs.Pairs.{latch_is_named}
+use Rattle.circuit_laws.proofs.Pairs.{latch_is_named}
 use Rattle.sec_base.specs.Table.{AreDistinct}
 use Rattle.flat_net.specs.declared.parts.Port.{Port}
 use Rattle.flat_net.specs.declared.parts.LatchAt.{LatchAt}

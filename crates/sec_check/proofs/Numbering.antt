@@ -1,7 +1,7 @@
 -- The numbers of the inputs, one by one, and what they make for two circuits.
 use Rattle.std.proofs.Common.{◌≡◌, ◌≢◌, ℕ, zero, suc, ◌+◌, ◌<◌, ◌≤◌, Bool, true, false, cond, List, [], ◌∷◌, ◌++◌, length, get_or, map, take, refl, sym, ◌∙◌, ap, subst, arith, inl, inr, ◌⊎◌, Option, Some, None, slice_get, length-append}
 use Rattle.std.specs.List.{Contains, AllPairs, filter}
-use Rattle.circuit_theory.proofs.LawProofs.{length-map}
+use Rattle.circuit_theory.proofs.Lists.{length-map, at_of, of_at, All-from_each}
 use Rattle.flat_net.specs.declared.parts.Port.{Port}
 use Rattle.flat_net.specs.View.{NetView, ports_of}
 use Rattle.flat_net.specs.Sound.{IsSound}
@@ -14,7 +14,6 @@ use Rattle.sec_check.proofs.Designs.{from_map}
 use Rattle.std.proofs.lemmas.Option.{slice_get_within, slice_get-get_or}
 use Rattle.circuit_theory.specs.Names.{is_among}
 use Rattle.circuit_theory.specs.Interface.{Ports, inputs_beside, shared_inputs, first_missing, first_mismatch, ◌or_else◌, AreNumbersOf, AreOrders}
-use Rattle.circuit_theory.proofs.Lists.{at_of, of_at, All-from_each}
 use Rattle.circuit_theory.proofs.Numbers.{is_among-sound, is_among-complete}
 use Rattle.sec_base.specs.Table.{is_among as is_entry, AreDistinct}
 use Rattle.sec_base.proofs.TableLemmas.{take-push}

@@ -13,7 +13,7 @@ use Rattle.circuit_theory.specs.Fits.{IsWitness}
 use Rattle.circuit_theory.specs.Interface.{AreNumbersOf}
 use Rattle.circuit_theory.proofs.Lists.{Contains-head, Contains-tail, of_at}
 use Rattle.circuit_theory.proofs.Numbers.{slice_get-map, beside_at}
-use Rattle.circuit_theory.proofs.Windows.{row_value-is}
+use Rattle.circuit_laws.proofs.Windows.{row_value-is}
 use Rattle.witness_report.specs.declared.witness.Witness.{Witness}
 use Rattle.sec_check.specs.Shown.{Obeys}
 use Rattle.sec_check.proofs.Leaves.{run_by_leaves, shared_name}

@@ -6,9 +6,9 @@ use Rattle.circuit_theory.specs.Net.{IsNet}
 use Rattle.circuit_theory.specs.Run.{ExtendsWith, IsDetermined, IsEnabled}
 use Rattle.unate_enable.specs.Recovery.{LoadsOrKeeps}
 use Rattle.circuit_theory.proofs.Sums.{same_or_not}
-use Rattle.circuit_theory.proofs.NetLaws.{net_determined}
-use Rattle.circuit_theory.proofs.LawProofs.{next_within}
-use Rattle.circuit_theory.proofs.Events.{put_unique}
+use Rattle.circuit_laws.proofs.NetLaws.{net_determined}
+use Rattle.circuit_laws.proofs.LawProofs.{next_within}
+use Rattle.circuit_laws.proofs.Loads.{put_unique}
 
 -- of two bits of which the first doesn't fall to the second
 takes_or_keeps : (l h q n : Bool) → (l ≡ true → h ≡ true) → (q ≡ false → n ≡ l) → (q ≡ true → n ≡ h) → n ≡ cond (l || not h) l q

@@ -6,7 +6,7 @@ use Rattle.circuit_theory.specs.Circuit.{Circuit, Equation, Gate, Latch, Port, I
 use Rattle.circuit_theory.specs.Run.{ExtendsWith, IsEnabled}
 use Rattle.circuit_theory.specs.Net.{IsNet}
 use Rattle.circuit_theory.proofs.Lists.{of_at}
-use Rattle.circuit_theory.proofs.NetLaws.{net_value, net_value-extends, net_can_put}
+use Rattle.circuit_laws.proofs.NetLaws.{net_value, net_value-extends, net_can_put}
 use Rattle.flat_net.specs.View.{NetView, circuit_of}
 use Rattle.flat_net.specs.Cut.{latch_at}
 use Rattle.flat_net.specs.Sound.{IsSound}

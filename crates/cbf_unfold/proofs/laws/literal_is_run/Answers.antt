@@ -1,6 +1,6 @@
 -- The literal has the tree's value, and the tree has the run's.
 use Rattle.std.proofs.Common.{◌∙◌, length}
-use Rattle.circuit_theory.proofs.LawProofs.{tree_is_run}
+use Rattle.circuit_laws.proofs.LawProofs.{tree_is_run}
 use Rattle.flat_net.specs.View.{circuit_of}
 use Rattle.flat_net.proofs.Nets.{sound_is_net}
 use Rattle.cbf_unfold.proofs.laws.literal_is_run.Goals as goal

@@ -1,7 +1,7 @@
 -- The sequence gives the tree's value, and the literal has it too.
 use Rattle.std.proofs.Common.{◌∙◌, ℕ, Bool, sym}
 use Rattle.circuit_theory.specs.Query.{assigned, same_shift}
-use Rattle.circuit_theory.proofs.Windows.{window, assigned_above}
+use Rattle.circuit_laws.proofs.Windows.{window, assigned_above}
 use Rattle.flat_net.specs.View.{circuit_of}
 use Rattle.cbf_unfold.proofs.laws.windows.Goals as goal
 

@@ -1,0 +1,4 @@
+//! The laws of circuits, their runs and marks, sequential depth, and the plain form (clocked Boolean functions), with their lemmas.
+#![tactic(auto)]
+
+pub mod laws;

@@ -1,0 +1,4 @@
+//! Slow programs over small circuits, and computed examples that meet the premises of the laws. Nothing stands on this crate.
+#![tactic(auto)]
+
+pub mod cells;

@@ -1,5 +1,0 @@
-use Rattle.circuit_theory.proofs.EventAgreement.{event_functions_agree_in_nets}
-use Rattle.circuit_theory.proofs.laws.event_functions_agree.Goals as goal
-
-pub returns : goal.returns
-returns c = event_functions_agree_in_nets

@@ -1,5 +1,0 @@
-use Rattle.circuit_theory.proofs.LawProofs.{gates_have_trees}
-use Rattle.circuit_theory.proofs.laws.gates_have_trees.Goals as goal
-
-pub returns : goal.returns
-returns c = gates_have_trees

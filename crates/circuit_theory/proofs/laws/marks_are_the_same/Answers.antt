@@ -1,5 +1,0 @@
-use Rattle.circuit_theory.proofs.LawProofs.{marks_are_the_same}
-use Rattle.circuit_theory.proofs.laws.marks_are_the_same.Goals as goal
-
-pub returns : goal.returns
-returns c = marks_are_the_same

@@ -1,5 +1,0 @@
-use Rattle.circuit_theory.proofs.LawProofs.{marks_stay}
-use Rattle.circuit_theory.proofs.laws.marks_stay.Goals as goal
-
-pub returns : goal.returns
-returns c = marks_stay

@@ -1,5 +1,0 @@
-use Rattle.circuit_theory.proofs.LawProofs.{numbers_are_shared}
-use Rattle.circuit_theory.proofs.laws.numbers_are_shared.Goals as goal
-
-pub returns : goal.returns
-returns c = numbers_are_shared

@@ -1,5 +1,0 @@
-use Rattle.circuit_theory.proofs.LawProofs.{pairs_are_listed}
-use Rattle.circuit_theory.proofs.laws.pairs_are_listed.Goals as goal
-
-pub returns : goal.returns
-returns c = pairs_are_listed

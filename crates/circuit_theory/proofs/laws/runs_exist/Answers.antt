@@ -1,5 +1,0 @@
-use Rattle.circuit_theory.proofs.LawProofs.{runs_exist}
-use Rattle.circuit_theory.proofs.laws.runs_exist.Goals as goal
-
-pub returns : goal.returns
-returns c = runs_exist

@@ -1,5 +1,0 @@
-use Rattle.circuit_theory.proofs.LawProofs.{tree_is_run}
-use Rattle.circuit_theory.proofs.laws.tree_is_run.Goals as goal
-
-pub returns : goal.returns
-returns c = tree_is_run

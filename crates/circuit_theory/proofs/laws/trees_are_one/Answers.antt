@@ -1,5 +1,0 @@
-use Rattle.circuit_theory.proofs.LawProofs.{trees_are_one}
-use Rattle.circuit_theory.proofs.laws.trees_are_one.Goals as goal
-
-pub returns : goal.returns
-returns c = trees_are_one

@@ -1,5 +1,0 @@
-use Rattle.circuit_theory.proofs.LawProofs.{witness_makes_differ}
-use Rattle.circuit_theory.proofs.laws.witness_makes_differ.Goals as goal
-
-pub returns : goal.returns
-returns c = witness_makes_differ

@@ -1,0 +1,17 @@
+pub mod ClassEvents
+pub mod ClassMaps
+pub mod CutMarks
+pub mod CutNets
+pub mod CutParts
+pub mod EventAgreement
+pub mod EventTrees
+pub mod EventVariables
+pub mod EventWindows
+pub mod Events
+pub mod Exchanged
+pub mod ExposedCycles
+pub mod ExposedEvents
+pub mod FrameValues
+pub mod OneClassMap
+pub mod SettledEvents
+pub mod SideParts
