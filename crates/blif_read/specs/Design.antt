@@ -2,7 +2,8 @@
 use Rattle.std.specs.Prelude.{◌≡◌, ℕ, zero, suc, ◌+◌, ◌<◌, Bool, true, false, not, List, [], ◌∷◌, ◌++◌, map, length, Option, Some, None, codes, bytes_eq, refl}
 use Rattle.std.specs.List.{filter, filter_map, find, All, Contains}
 use Rattle.std.specs.Fmt.{decimal, digits}
-use Rattle.circuit_theory.specs.Circuit.{Circuit, Equation, Gate, Port, Named, Started, Latch as Register}
+use Rattle.circuit_theory.specs.Circuit.{Circuit, Equation, Gate, Port, Named, Started}
+use Rattle.circuit_theory.specs.Circuit.{Latch as Register}
 use Rattle.circuit_theory.specs.Flattened.{Follows}
 use Rattle.sec_base.specs.declared.basics.Init.{Init}
 use Rattle.sec_base.specs.declared.basics.Init.TheVariants as init

@@ -6,29 +6,25 @@ use Rattle.std.proofs.lemmas.List.Elements.{All-append, All-from_recursion, recu
 use Rattle.circuit_theory.specs.Cover.{cover_value}
 use Rattle.circuit_theory.specs.Circuit.{Circuit, Equation, Gate, Latch, Port, Holds, Carries}
 use Rattle.circuit_theory.specs.Run.{IsRun}
-use Rattle.circuit_theory.specs.Joined.{Either, Left, Right, moved, joined}
+use Rattle.circuit_theory.specs.Joined.{Either, Left, Right, moved, joined, beside}
 use Rattle.circuit_theory.proofs.Lists.{map-map, Contains-map, Contains-map_from}
 
-abbrev pub both : {P Q : Type 0} → (P → Bool) → (Q → Bool) → Either P Q → Bool
-both l r (Left p) = l p
-both l r (Right q) = r q
-
-pub holds_left : {P Q : Type 0} (l : P → Bool) (r : Q → Bool) (e : Equation P) → Holds l e → Holds (both l r) (moved Left e)
-holds_left l r (Gate out fanins cover) h = h ∙ ap (cover_value cover) (sym (map-map (both l r) Left fanins))
+pub holds_left : {P Q : Type 0} (l : P → Bool) (r : Q → Bool) (e : Equation P) → Holds l e → Holds (beside l r) (moved Left e)
+holds_left l r (Gate out fanins cover) h = h ∙ ap (cover_value cover) (sym (map-map (beside l r) Left fanins))
 holds_left l r (Latch name out next) h = tt
 holds_left l r (Port out from) h = h
 
-pub holds_right : {P Q : Type 0} (l : P → Bool) (r : Q → Bool) (e : Equation Q) → Holds r e → Holds (both l r) (moved Right e)
-holds_right l r (Gate out fanins cover) h = h ∙ ap (cover_value cover) (sym (map-map (both l r) Right fanins))
+pub holds_right : {P Q : Type 0} (l : P → Bool) (r : Q → Bool) (e : Equation Q) → Holds r e → Holds (beside l r) (moved Right e)
+holds_right l r (Gate out fanins cover) h = h ∙ ap (cover_value cover) (sym (map-map (beside l r) Right fanins))
 holds_right l r (Latch name out next) h = tt
 holds_right l r (Port out from) h = h
 
-pub carries_left : {P Q : Type 0} (l l' : P → Bool) (r r' : Q → Bool) (e : Equation P) → Carries l l' e → Carries (both l r) (both l' r') (moved Left e)
+pub carries_left : {P Q : Type 0} (l l' : P → Bool) (r r' : Q → Bool) (e : Equation P) → Carries l l' e → Carries (beside l r) (beside l' r') (moved Left e)
 carries_left l l' r r' (Gate out fanins cover) h = tt
 carries_left l l' r r' (Latch name out next) h = h
 carries_left l l' r r' (Port out from) h = tt
 
-pub carries_right : {P Q : Type 0} (l l' : P → Bool) (r r' : Q → Bool) (e : Equation Q) → Carries r r' e → Carries (both l r) (both l' r') (moved Right e)
+pub carries_right : {P Q : Type 0} (l l' : P → Bool) (r r' : Q → Bool) (e : Equation Q) → Carries r r' e → Carries (beside l r) (beside l' r') (moved Right e)
 carries_right l l' r r' (Gate out fanins cover) h = tt
 carries_right l l' r r' (Latch name out next) h = h
 carries_right l l' r r' (Port out from) h = tt
@@ -44,10 +40,10 @@ all_joined {P} {Q} a b F G H f g l r =
     (All-from_recursion H _ (all_map (moved Left) F H f a.equations (recursion_from_All F a.equations l)))
     (All-from_recursion H _ (all_map (moved Right) G H g b.equations (recursion_from_All G b.equations r)))
 
-pub run_joined : {P Q : Type 0} (a : Circuit P) (b : Circuit Q) (n : ℕ) (l : ℕ → P → Bool) (r : ℕ → Q → Bool) → IsRun a n l → IsRun b n r → IsRun (joined a b) n (λ t. both (l t) (r t))
+pub run_joined : {P Q : Type 0} (a : Circuit P) (b : Circuit Q) (n : ℕ) (l : ℕ → P → Bool) (r : ℕ → Q → Bool) → IsRun a n l → IsRun b n r → IsRun (joined a b) n (λ t. beside (l t) (r t))
 run_joined a b n l r la rb = record {
-  meets = λ t h. all_joined a b (Holds (l t)) (Holds (r t)) (Holds (both (l t) (r t))) (holds_left (l t) (r t)) (holds_right (l t) (r t)) (la.meets t h) (rb.meets t h);
-  carries = λ t h. all_joined a b (Carries (l t) (l (t + 1))) (Carries (r t) (r (t + 1))) (Carries (both (l t) (r t)) (both (l (t + 1)) (r (t + 1))))
+  meets = λ t h. all_joined a b (Holds (l t)) (Holds (r t)) (Holds (beside (l t) (r t))) (holds_left (l t) (r t)) (holds_right (l t) (r t)) (la.meets t h) (rb.meets t h);
+  carries = λ t h. all_joined a b (Carries (l t) (l (t + 1))) (Carries (r t) (r (t + 1))) (Carries (beside (l t) (r t)) (beside (l (t + 1)) (r (t + 1))))
       (carries_left (l t) (l (t + 1)) (r t) (r (t + 1))) (carries_right (l t) (l (t + 1)) (r t) (r (t + 1))) (la.carries t h) (rb.carries t h);
 }
 

@@ -8,9 +8,9 @@ use Rattle.circuit_theory.specs.Circuit.{Circuit, Equation, Gate, Latch, Port, N
 use Rattle.circuit_theory.specs.Run.{CanPut, IsDetermined}
 use Rattle.circuit_theory.specs.Tree.{StandsBeside, IsInputNumber}
 use Rattle.circuit_theory.specs.Net.{IsNet}
-use Rattle.circuit_theory.specs.Joined.{Either, Left, Right, moved, moved_name, joined}
+use Rattle.circuit_theory.specs.Joined.{Either, Left, Right, moved, moved_name, joined, beside}
 use Rattle.circuit_theory.proofs.Lists.{Contains-map, Contains-map_from, All-from_each, map-map}
-use Rattle.circuit_laws.proofs.Joined.{both, all_joined, holds_left, holds_right, left_equation, equation_from}
+use Rattle.circuit_laws.proofs.Joined.{all_joined, holds_left, holds_right, left_equation, equation_from}
 use Rattle.circuit_theory.proofs.Numbers.{one_number}
 use Rattle.circuit_theory.proofs.Sums.{same_or_not}
 use Rattle.circuit_laws.proofs.NetLaws.{net_can_put, net_determined}
@@ -47,14 +47,14 @@ module _ {P Q : Type 0} (a : Circuit P) (b : Circuit Q) where
   pub meets_right : (y : Either P Q → Bool) → Meets (joined a b) y → Meets b (λ q. y (Right q))
   meets_right y meets = All-from_each (Holds (λ q. y (Right q))) b.equations (λ e h. holds_from Right y e (All-contains (Holds y) (joined a b).equations _ meets (right_equation a b e h)))
 
-  pub meets_both : (v : P → Bool) (w : Q → Bool) → Meets a v → Meets b w → Meets (joined a b) (both v w)
-  meets_both v w mv mw = all_joined a b (Holds v) (Holds w) (Holds (both v w)) (holds_left v w) (holds_right v w) mv mw
+  pub meets_both : (v : P → Bool) (w : Q → Bool) → Meets a v → Meets b w → Meets (joined a b) (beside v w)
+  meets_both v w mv mw = all_joined a b (Holds v) (Holds w) (Holds (beside v w)) (holds_left v w) (holds_right v w) mv mw
 
   abbrev pub replace_left : (Either P Q → Bool) → (P → Bool) → Either P Q → Bool
-  replace_left y v = both v (λ q. y (Right q))
+  replace_left y v = beside v (λ q. y (Right q))
 
   abbrev pub replace_right : (Either P Q → Bool) → (Q → Bool) → Either P Q → Bool
-  replace_right y w = both (λ p. y (Left p)) w
+  replace_right y w = beside (λ p. y (Left p)) w
 
   abbrev left_inputs : List (Named (Either P Q))
   left_inputs = map (moved_name Left) a.inputs

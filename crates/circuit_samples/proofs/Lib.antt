@@ -1,3 +1,4 @@
+pub mod AssumeExamples
 pub mod BlockExamples
 pub mod CellLaws
 pub mod EventExamples
@@ -5,4 +6,5 @@ pub mod EventPairExample
 pub mod NetTest
 pub mod OpenToggleExample
 pub mod PlainExamples
+pub mod ResetExamples
 pub mod Samples

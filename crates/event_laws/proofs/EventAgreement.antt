@@ -9,7 +9,7 @@ use Rattle.circuit_theory.specs.Depth.{LatchReads, LatchChain, ChainFrom, IsDept
 use Rattle.circuit_theory.specs.Tree.{Tree, IsInputNumber, AreNumbered}
 use Rattle.circuit_theory.specs.Net.{IsNet}
 use Rattle.event_theory.specs.Frame.{EventSide, EventUnfolds, ConeLatches, ConeOthers, IsLastLoad, IsNumberedRun}
-use Rattle.circuit_theory.specs.Joined.{Either, Left, Right, joined}
+use Rattle.circuit_theory.specs.Joined.{Either, Left, Right, joined, beside}
 use Rattle.event_theory.specs.Classes.{EnablesEqual, HasClasses}
 use Rattle.circuit_theory.specs.Agree.{Agree, AreAlike, IsPair}
 use Rattle.event_theory.specs.EventFits.{side_by_side, HaveEqualEvents}
@@ -18,7 +18,7 @@ use Rattle.circuit_theory.proofs.Lists.{Contains-head, Contains-tail, Contains-c
 use Rattle.circuit_laws.proofs.Agreement.{value_of_number, value_found, first_value}
 use Rattle.circuit_theory.proofs.Sums.{same_or_not}
 use Rattle.circuit_laws.proofs.Finite.{Decided, Weakly, weakly_decided, weakly_each, weakly_below, bits_same, find_or}
-use Rattle.circuit_laws.proofs.Joined.{both, run_joined}
+use Rattle.circuit_laws.proofs.Joined.{run_joined}
 use Rattle.circuit_laws.proofs.Parts.{marks_up}
 use Rattle.circuit_laws.proofs.JoinedParts.{left_part, right_part, replace_left, replace_right, joined_same, joined_single, joined_can_put, joined_determined, joined_number, joined_number_once}
 use Rattle.event_laws.proofs.EventTrees.{event_tree, one_enable}
@@ -376,14 +376,14 @@ module _ (a b : Circuit ℕ) (m n : ℕ) (left right : List ℕ) (class : Either
 
   -- two runs with equal inputs, side by side
   module _ (length_ : ℕ) (l : ℕ → ℕ → Bool) (r : ℕ → ℕ → Bool) (alike : AreAlike a b length_ l r) where
-    pub side_run : IsNumberedRun side length_ (λ t. both (l t) (r t))
+    pub side_run : IsNumberedRun side length_ (λ t. beside (l t) (r t))
     side_run = record { is_run = run_joined a b length_ l r alike.left_run alike.right_run; inputs = number_same }
       where
-        number_same : (t : ℕ) (x y : Either ℕ ℕ) (i : ℕ) → t < length_ → IsInputNumber whole (left ++ right) x i → IsInputNumber whole (left ++ right) y i → both (l t) (r t) x ≡ both (l t) (r t) y
+        number_same : (t : ℕ) (x y : Either ℕ ℕ) (i : ℕ) → t < length_ → IsInputNumber whole (left ++ right) x i → IsInputNumber whole (left ++ right) y i → beside (l t) (r t) x ≡ beside (l t) (r t) y
         number_same t x y i h hx hy = go (joined_number a b left right left_long x i hx) (joined_number a b left right left_long y i hy)
           where
             run : Either ℕ ℕ → Bool
-            run = both (l t) (r t)
+            run = beside (l t) (r t)
 
             Of : Either ℕ ℕ → Type 0
             Of z = ((p : ℕ) × (Left p ≡ z) × IsInputNumber a left p i) ⊎ ((q : ℕ) × (Right q ≡ z) × IsInputNumber b right q i)
@@ -397,19 +397,19 @@ module _ (a b : Circuit ℕ) (m n : ℕ) (left right : List ℕ) (class : Either
             go (inr p) (inl q) = ap run (sym p.1) ∙ (sym (across q.0 p.0 q.2 p.2) ∙ ap run q.1)
             go (inr p) (inr q) = ap run (sym p.1) ∙ (ap (r t) (numbered.right_once p.0 q.0 i p.2 q.2) ∙ ap run q.1)
 
-    runs : (s : ℕ) → s < length_ → Meets whole (both (l s) (r s))
+    runs : (s : ℕ) → s < length_ → Meets whole (beside (l s) (r s))
     runs s low = side_run.is_run.meets s low
 
     -- what is settled in one of them is settled there
-    pub left_mark : (t p : ℕ) → t < length_ → Marked a (IsEnabled a) l t p → Marked whole (IsEnabled whole) (λ s. both (l s) (r s)) t (Left p)
-    left_mark t p h mark = marks_up a whole Left (replace_left a b) (left_part a b) (both (l t) (r t)) (runs t h) length_ (λ s. both (l s) (r s)) runs mark h
+    pub left_mark : (t p : ℕ) → t < length_ → Marked a (IsEnabled a) l t p → Marked whole (IsEnabled whole) (λ s. beside (l s) (r s)) t (Left p)
+    left_mark t p h mark = marks_up a whole Left (replace_left a b) (left_part a b) (beside (l t) (r t)) (runs t h) length_ (λ s. beside (l s) (r s)) runs mark h
 
-    pub right_mark : (t q : ℕ) → t < length_ → Marked b (IsEnabled b) r t q → Marked whole (IsEnabled whole) (λ s. both (l s) (r s)) t (Right q)
-    right_mark t q h mark = marks_up b whole Right (replace_right a b) (right_part a b) (both (l t) (r t)) (runs t h) length_ (λ s. both (l s) (r s)) runs mark h
+    pub right_mark : (t q : ℕ) → t < length_ → Marked b (IsEnabled b) r t q → Marked whole (IsEnabled whole) (λ s. beside (l s) (r s)) t (Right q)
+    right_mark t q h mark = marks_up b whole Right (replace_right a b) (right_part a b) (beside (l t) (r t)) (runs t h) length_ (λ s. beside (l s) (r s)) runs mark h
 
     -- two places that are settled in their circuits, with equal event functions, have one value
     pub event_pair_agrees : (t p q : ℕ) → t < length_ → HaveEqualEvents side (Left p) (Right q) → Marked a (IsEnabled a) l t p → Marked b (IsEnabled b) r t q → l t p ≡ r t q
-    event_pair_agrees t p q h equal lm rm = event_places_agree length_ (λ s. both (l s) (r s)) side_run t (Left p) (Right q) h equal (left_mark t p h lm) (right_mark t q h rm)
+    event_pair_agrees t p q h equal lm rm = event_places_agree length_ (λ s. beside (l s) (r s)) side_run t (Left p) (Right q) h equal (left_mark t p h lm) (right_mark t q h rm)
 
   pub events_agree : ((p q : ℕ) → IsPair [] a b p q → HaveEqualEvents side (Left p) (Right q)) → Agree Event a b
   events_agree equal length_ l r alike t p q h pair lm rm = event_pair_agrees length_ l r alike t p q h (equal p q pair) lm rm

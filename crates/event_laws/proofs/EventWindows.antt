@@ -10,7 +10,7 @@ use Rattle.circuit_theory.specs.Net.{IsNet}
 use Rattle.circuit_theory.specs.Depth.{IsDepth, LatchesHaveDepths}
 use Rattle.circuit_theory.specs.Sequence.{sequence_rows, row_value, TakesInputs}
 use Rattle.event_theory.specs.Frame.{EventSide, EventUnfolds, EventUnfoldsAll, ConeLatches, ConeOthers, ReachedAt, EventCycle, IsNumberedRun, IsNode, IsFilled, always_node, bits_as_shifts}
-use Rattle.circuit_theory.specs.Joined.{Either, Left, Right, joined}
+use Rattle.circuit_theory.specs.Joined.{Either, Left, Right, joined, beside}
 use Rattle.event_theory.specs.Classes.{HasClasses}
 use Rattle.event_theory.specs.EventFits.{side_by_side, ReachesAlways}
 use Rattle.event_laws.specs.Laws.{EventWitnessMakesDiffer}
@@ -20,7 +20,7 @@ use Rattle.circuit_theory.proofs.Numbers.{one_number}
 use Rattle.circuit_laws.proofs.Finite.{bits_same}
 use Rattle.circuit_laws.proofs.NetLaws.{net_run, net_run-runs, net_run-inputs}
 use Rattle.circuit_laws.proofs.Windows.{row_value-is, rows_length}
-use Rattle.circuit_laws.proofs.Joined.{both, run_joined}
+use Rattle.circuit_laws.proofs.Joined.{run_joined}
 use Rattle.circuit_laws.proofs.JoinedParts.{joined_same, joined_single, joined_determined, joined_number}
 use Rattle.event_laws.proofs.EventAgreement.{rank, rank_one, rank_within, falls, kind, known, loads_always}
 use Rattle.event_laws.proofs.SettledEvents.{settled_has_events_in_nets}
@@ -143,7 +143,7 @@ module _ (a b : Circuit ℕ) (m n : ℕ) (left right : List ℕ) (class : Either
       (takes_l : TakesInputs a left (row_value (sequence_rows last (bits_as_shifts bits) count)) (last + 1) l)
       (takes_r : TakesInputs b right (row_value (sequence_rows last (bits_as_shifts bits) count)) (last + 1) r) where
     abbrev run : ℕ → Either ℕ ℕ → Bool
-    run t = both (l t) (r t)
+    run t = beside (l t) (r t)
 
     value_at : (t : ℕ) (x : Either ℕ ℕ) (i : ℕ) → t < last + 1 → IsInputNumber whole_ (left ++ right) x i → run t x ≡ row_value (sequence_rows last (bits_as_shifts bits) count) i t
     value_at t x i h number = go (joined_number a b left right left_long x i number)

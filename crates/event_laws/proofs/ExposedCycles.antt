@@ -16,7 +16,7 @@ use Rattle.event_laws.specs.Laws.{ExposedEventsAreCommon}
 use Rattle.circuit_laws.proofs.Marks.{MarkSays, mark_says, marks_stay, marks_down}
 use Rattle.circuit_laws.proofs.SameMarks.{values_by_cone}
 use Rattle.circuit_laws.proofs.Parts.{IsPart, latch_from, cone_from, enabled_up, enabled_from, loads_up}
-use Rattle.circuit_laws.proofs.Joined.{both, run_joined}
+use Rattle.circuit_laws.proofs.Joined.{run_joined}
 use Rattle.circuit_laws.proofs.JoinedParts.{left_part, right_part, replace_left, replace_right, joined_same, joined_can_put, joined_determined}
 use Rattle.circuit_laws.proofs.Onward.{cut_run}
 use Rattle.circuit_laws.proofs.Parted.{kept_equation}
@@ -215,7 +215,7 @@ module _ (a b : Circuit ℕ) (m n : ℕ) (names : List (List ℕ)) (left right :
   run s = beside (l s) (r s)
 
   abbrev other : ℕ → Either ℕ ℕ → Bool
-  other s = both (new_left a b m n names na nb da db least size l r alike s) (new_right a b m n names na nb da db least size l r alike s)
+  other s = beside (new_left a b m n names na nb da db least size l r alike s) (new_right a b m n names na nb da db least size l r alike s)
 
   meets_run : (t : ℕ) → t < size → Meets whole (run t)
   meets_run t h = (run_joined ca cb size l r (cut_run names a size size l (omega arith) alike.left_run) (cut_run names b size size r (omega arith) alike.right_run)).meets t h

@@ -8,13 +8,12 @@ use Rattle.circuit_theory.specs.Circuit.{Circuit, Equation, Gate, Latch, Port, I
 use Rattle.circuit_theory.specs.Run.{IsEnabled}
 use Rattle.circuit_theory.specs.Net.{HasDistinctNames}
 use Rattle.circuit_theory.specs.Depth.{LatchReads, LatchPath, LatchChain, ChainFrom, IsDepth, LatchesHaveDepths}
-use Rattle.circuit_theory.specs.Joined.{Either, Left, Right, joined}
+use Rattle.circuit_theory.specs.Joined.{Either, Left, Right, joined, beside}
 use Rattle.circuit_theory.specs.Agree.{cut, EnabledIn}
 use Rattle.event_laws.specs.Laws.{SidesAreParts, CutIsNet}
 use Rattle.circuit_theory.proofs.Numbers.{is_among-sound, is_among-complete}
 use Rattle.circuit_laws.proofs.NetLaws.{net_value, net_value-extends}
 use Rattle.circuit_laws.proofs.Parts.{IsPart, latch_up, latch_from, cone_up, cone_from, enabled_up, enabled_from}
-use Rattle.circuit_laws.proofs.Joined.{both}
 use Rattle.circuit_laws.proofs.JoinedParts.{left_part, right_part, replace_left, replace_right, meets_both}
 use Rattle.circuit_laws.proofs.Parted.{kept_equation}
 use Rattle.circuit_laws.proofs.CutLaws.{kept_test}
@@ -97,7 +96,7 @@ sides_are_parts_in_nets a b m n na nb = (
 )
   where
     some : Either ℕ ℕ → Bool
-    some = both (net_value a (λ p. false)) (net_value b (λ q. false))
+    some = beside (net_value a (λ p. false)) (net_value b (λ q. false))
 
     meets : Meets (joined a b) some
     meets = meets_both a b (net_value a (λ p. false)) (net_value b (λ q. false)) (net_value-extends a m na (λ p. false)).meets (net_value-extends b n nb (λ q. false)).meets

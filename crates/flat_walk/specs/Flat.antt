@@ -2,7 +2,8 @@
 use Rattle.std.specs.Prelude.{◌≡◌, ℕ, ◌==◌, Bool, true, false, not, List, [], ◌∷◌, map, length, Option, Some, None, option_map, slice_get, unwrap_or}
 use Rattle.std.specs.List.{filter, filter_map}
 use Rattle.circuit_theory.specs.Cover.{Cover}
-use Rattle.circuit_theory.specs.Circuit.{Circuit, Equation, Gate, Port, Named, Started, Latch as Register}
+use Rattle.circuit_theory.specs.Circuit.{Circuit, Equation, Gate, Port, Named, Started}
+use Rattle.circuit_theory.specs.Circuit.{Latch as Register}
 use Rattle.sec_base.specs.declared.basics.Edge.{Edge}
 use Rattle.sec_base.specs.declared.basics.Init.{Init}
 use Rattle.sec_base.specs.declared.basics.Init.TheVariants as init

@@ -6,7 +6,8 @@ use Rattle.std.proofs.lemmas.List.{map-append, length-append, take-append-drop}
 use Rattle.std.proofs.lemmas.List.Elements.{All-contains, All-push, filter-append, Contains-append_cases}
 use Rattle.std.proofs.lemmas.Option.{none-some, same_Some, slice_get_within, slice_get-get_or, get_or_from_slice_get}
 use Rattle.circuit_theory.specs.Cover.{Cover}
-use Rattle.circuit_theory.specs.Circuit.{Equation, Gate as gate_equation}
+use Rattle.circuit_theory.specs.Circuit.{Equation}
+use Rattle.circuit_theory.specs.Circuit.{Gate as gate_equation}
 use Rattle.circuit_theory.proofs.Lists.{Contains-cases, Contains-map, Contains-map_from, at_of, of_at, map_same, map-map, All-from_each}
 use Rattle.circuit_theory.proofs.Numbers.{slice_get-map}
 use Rattle.sec_base.specs.Table.{AreDistinct}

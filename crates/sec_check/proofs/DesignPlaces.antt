@@ -5,7 +5,8 @@ use Rattle.std.specs.List.{Contains, filter}
 use Rattle.std.proofs.lemmas.Bool.{and_parts}
 use Rattle.std.proofs.lemmas.Option.{slice_get_within}
 use Rattle.circuit_theory.specs.Names.{same_name}
-use Rattle.circuit_theory.specs.Circuit.{Equation, Gate, Port, Named, IsLatch, out_of, Latch as Register}
+use Rattle.circuit_theory.specs.Circuit.{Equation, Gate, Port, Named, IsLatch, out_of}
+use Rattle.circuit_theory.specs.Circuit.{Latch as Register}
 use Rattle.circuit_theory.specs.Places.{IsPlace}
 use Rattle.circuit_theory.proofs.Inputs.{test_same, test_refl, same_name-sound}
 use Rattle.circuit_theory.proofs.Lists.{Contains-cases, Contains-filter, Contains-map, Contains-map_from, filter_map-from}

@@ -1,0 +1,11 @@
+pub mod Care
+pub mod EventCare
+pub mod EventLaws
+pub mod Filled
+pub mod Meeting
+pub mod OnwardCare
+pub mod PlainCare
+pub mod PlainLaws
+pub mod Reading
+pub mod ResetFilled
+pub mod Shown

@@ -1,0 +1,5 @@
+use Rattle.assume_laws.proofs.PlainLaws.{equal_functions_agree_under}
+use Rattle.assume_laws.proofs.laws.equal_functions_agree_under.Goals as goal
+
+pub returns : goal.returns
+returns c = equal_functions_agree_under

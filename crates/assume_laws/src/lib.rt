@@ -1,0 +1,4 @@
+//! Comparison under an assumption on the inputs: the laws that hold of the runs that meet it.
+#![tactic(auto)]
+
+pub mod laws;

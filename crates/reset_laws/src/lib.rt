@@ -1,0 +1,5 @@
+//! Runs that begin with the latches' initial values: the reset form and the laws that hold of it. None of these functions does
+//! anything: each contract is a law.
+#![tactic(auto)]
+
+pub mod laws;

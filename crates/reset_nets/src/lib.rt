@@ -1,0 +1,4 @@
+//! The laws of reset runs, for nets.
+#![tactic(auto)]
+
+pub mod laws;
