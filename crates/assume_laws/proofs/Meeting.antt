@@ -1,9 +1,9 @@
 -- The row of a difference of the assumption's query.
-use Rattle.std.proofs.Common.{◌≡◌, ℕ, Bool, true, false, List, [], refl, sym, ◌∙◌, ap, subst, arith, inl, inr}
+use Rattle.std.proofs.Common.{◌≡◌, ℕ, Bool, true, false, List, refl, sym, ◌∙◌, ap, subst}
 use Rattle.circuit_theory.specs.Circuit.{Circuit}
 use Rattle.circuit_theory.specs.Tree.{Tree, Trees, Leaf, IsInputNumber, tree_value}
 use Rattle.circuit_theory.specs.Query.{Variable, HasLeaf, HasLeafIn, same_shift, assigned}
-use Rattle.circuit_theory.proofs.Lists.{Contains-cases}
+use Rattle.circuit_theory.proofs.Lists.{only}
 use Rattle.reset_laws.proofs.ResetWindows.{assigned_absent}
 use Rattle.assume_laws.specs.Assume.{PlaceUnfolds, PlaceUnfoldsAll}
 use Rattle.assume_laws.specs.Laws.{MeetingRowMeets}
@@ -61,7 +61,7 @@ meeting_row_meets c size place tree is = (
     meets = (tree_meets c size is place tree (assigned same_shift variables bits) d.unfolds).0 (bit_true (tree_value (assigned same_shift variables bits) tree) d.distinguishes.differs);
     others = λ i none. assigned_absent same_shift variables bits i place (λ v h e.
         let f = (d.are_variables.exactly v).0 h in
-        let t : tree ≡ f.0 = elim (Contains-cases tree f.0 [] f.1) [ inl e ↦ e | inr k ↦ absurd (omega (arith, k.1)) ] in
+        let t = only tree f.0 f.1 in
         let n = leaf_input c.circuit c.order place v d.unfolds (subst (HasLeaf v) (sym t) f.2) in
         none n.0 (subst (IsInputNumber c.circuit c.order n.0) e n.1));
     above = λ i h. below_count same_shift variables bits count i place inputs h;

@@ -13,7 +13,7 @@ use Rattle.circuit_theory.specs.Depth.{LatchReads, LatchPath, HasCycle, without}
 use Rattle.circuit_theory.specs.Net.{HasDistinctNames}
 use Rattle.circuit_theory.specs.Agree.{cut, is_kept, EnabledIn, IsMinimalCut, Agree, AgreeOnward, IsPair}
 use Rattle.circuit_theory.specs.Tree.{AreNumbered, HaveEqualFunctions}
-use Rattle.circuit_theory.proofs.Lists.{Contains-head, Contains-tail, Contains-cases, at_of}
+use Rattle.circuit_theory.proofs.Lists.{Contains-head, Contains-tail, Contains-cases, at_of, filter_test}
 use Rattle.circuit_theory.proofs.Inputs.{same_name-sound}
 use Rattle.circuit_theory.proofs.Numbers.{same_name-refl, is_among-sound, is_among-complete}
 use Rattle.circuit_laws.proofs.Onward.{cut_input, equal_functions_agree_onward}
@@ -29,18 +29,6 @@ same_or_other xs ys = go (same_name xs ys) refl
     go : (b : Bool) → same_name xs ys ≡ b → (xs ≡ ys) ⊎ (xs ≢ ys)
     go true e = inl (same_name-sound xs ys e)
     go false e = inr (λ q. no (sym (subst (λ (z : List ℕ). same_name xs z ≡ true) q (same_name-refl xs)) ∙ e))
-
-pub filter_test : {X : Type 0} (test : X → Bool) (xs : List X) (x : X) → Contains (filter test xs) x → test x ≡ true
-filter_test test [] x h = absurd (omega (arith, h.1))
-filter_test {X} test (y ∷ xs) x h = go (test y) refl (λ k. filter_test test xs x k)
-  where
-    go : (b : Bool) → test y ≡ b → (Contains (filter test xs) x → test x ≡ true) → test x ≡ true
-    go true e later = pick (Contains-cases y x (filter test xs) (subst (λ (ys : List X). Contains ys x) (ap (λ b. cond b (y ∷ filter test xs) (filter test xs)) e) h))
-      where
-        pick : (y ≡ x) ⊎ Contains (filter test xs) x → test x ≡ true
-        pick (inl q) = sym (ap test q) ∙ e
-        pick (inr k) = later k
-    go false e later = later (subst (λ (ys : List X). Contains ys x) (ap (λ b. cond b (y ∷ filter test xs) (filter test xs)) e) h)
 
 -- an equation of a cut circuit is no latch of an exposed name
 pub kept_test : {P : Type 0} (names : List (List ℕ)) (c : Circuit P) (e : Equation P) → Contains (cut names c).equations e → is_kept names e ≡ true

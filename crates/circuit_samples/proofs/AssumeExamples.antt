@@ -12,8 +12,8 @@ use Rattle.circuit_theory.specs.Query.{Query, Variable, HasLeaf, HasLeafIn, Shif
 use Rattle.circuit_theory.specs.Agree.{IsPair}
 use Rattle.circuit_theory.specs.Fits.{MakesDiffer}
 use Rattle.circuit_theory.proofs.Inputs.{test_same}
-use Rattle.circuit_theory.proofs.Lists.{Contains-head, Contains-cases}
-use Rattle.circuit_samples.proofs.Samples.{one, two, buffer, only, one_net, two_net}
+use Rattle.circuit_theory.proofs.Lists.{Contains-head, Contains-cases, only}
+use Rattle.circuit_samples.proofs.Samples.{one, two, buffer, one_net, two_net}
 use Rattle.circuit_samples.proofs.PlainExamples.{one_unfolds, two_unfolds}
 use Rattle.circuit_samples.proofs.NetTest.{numbers_distinct-sound}
 use Rattle.circuit_theory.proofs.Numbers.{one_place}

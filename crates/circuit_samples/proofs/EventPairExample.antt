@@ -16,8 +16,8 @@ use Rattle.event_theory.specs.Classes.{EnableCare, EnablesEqual, SometimesOff, D
 use Rattle.circuit_theory.specs.Cone.{latches_of}
 use Rattle.circuit_theory.specs.Agree.{Agree, IsPair}
 use Rattle.event_theory.specs.EventFits.{side_by_side, HaveEqualEvents}
-use Rattle.circuit_theory.proofs.Lists.{Contains-cases}
-use Rattle.circuit_samples.proofs.Samples.{hold_not_cover, buffer, inverter, LatchItem, item_of, only}
+use Rattle.circuit_theory.proofs.Lists.{Contains-cases, only}
+use Rattle.circuit_samples.proofs.Samples.{hold_not_cover, buffer, inverter, LatchItem, item_of}
 use Rattle.circuit_samples.proofs.NetTest.{net_test-sound, numbers_distinct-sound}
 use Rattle.circuit_theory.proofs.Numbers.{one_place}
 use Rattle.circuit_laws.proofs.Parts.{latch_from, latch_up, reaches_up, reaches_from, enabled_up}

@@ -14,8 +14,8 @@ use Rattle.circuit_theory.specs.Joined.{Either, Left, Right, moved, joined}
 use Rattle.event_theory.specs.Classes.{HasClasses}
 use Rattle.circuit_theory.specs.Agree.{cut, Agree, AgreeOnward, EnabledIn, IsPair, IsMinimalCut}
 use Rattle.event_theory.specs.EventFits.{side_by_side, HaveEqualEvents}
-use Rattle.circuit_theory.proofs.Lists.{Contains-cases}
-use Rattle.circuit_samples.proofs.Samples.{buffer, inverter, toggle, toggle_net, LatchItem, item_of, only}
+use Rattle.circuit_theory.proofs.Lists.{Contains-cases, only}
+use Rattle.circuit_samples.proofs.Samples.{buffer, inverter, toggle, toggle_net, LatchItem, item_of}
 use Rattle.circuit_laws.proofs.NetLaws.{net_value, net_value-extends, net_can_put}
 use Rattle.circuit_laws.proofs.Joined.{equation_from}
 use Rattle.event_laws.proofs.ExposedEvents.{exposed_event_functions_agree_in_nets}

@@ -10,13 +10,14 @@ use Rattle.circuit_theory.specs.Run.{NoneEnabled}
 use Rattle.circuit_theory.specs.Depth.{LatchReads, LatchPath, HasCycle, IsCycle, LatchChain, IsDepth, HasNoDepth, after_in_round, without}
 use Rattle.circuit_theory.specs.Tree.{Tree, Leaf, Branch, Nil, Cons, Unfolds, UnfoldsAll, tree_value, AreNumbered, HaveEqualFunctions}
 use Rattle.circuit_theory.specs.Agree.{Agree, IsPair, AreAlike, IsSettled, IsMinimalCut}
-use Rattle.circuit_samples.proofs.Samples.{and_cover, constant_one, late, early, one, two, constant_latch, toggle, late_net, early_net, one_net, two_net, constant_latch_net, toggle_net, only, item_of, LatchItem}
+use Rattle.circuit_samples.proofs.Samples.{and_cover, constant_one, late, early, one, two, constant_latch, toggle, late_net, early_net, one_net, two_net, constant_latch_net, toggle_net, item_of, LatchItem}
 use Rattle.circuit_laws.proofs.TreeDepth.{tree_depth}
 use Rattle.circuit_laws.proofs.Marks.{marks_down}
 use Rattle.circuit_laws.proofs.Cycles.{cycle_never_settled}
 use Rattle.circuit_theory.proofs.Numbers.{one_place}
 use Rattle.circuit_samples.proofs.NetTest.{numbers_distinct-sound}
 use Rattle.circuit_laws.proofs.LawProofs.{settled_from_depth, equal_functions_agree}
+use Rattle.circuit_theory.proofs.Lists.{only}
 
 -- A latch behind a gate and latches before it give one tree: the and of both inputs, one cycle ago.
 abbrev pub and_tree : Tree ℕ

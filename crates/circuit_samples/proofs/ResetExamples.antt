@@ -10,8 +10,8 @@ use Rattle.circuit_theory.specs.Tree.{Tree, Leaf, Fixed, Branch, Nil, Cons, AreN
 use Rattle.circuit_theory.specs.Query.{Variable, HasLeaf, Distinguishes, pair_query, assigned, same_shift}
 use Rattle.circuit_theory.specs.Agree.{IsPair}
 use Rattle.circuit_theory.specs.Fits.{IsPairDepth}
-use Rattle.circuit_theory.proofs.Lists.{Contains-cases}
-use Rattle.circuit_samples.proofs.Samples.{late, early, one, and_cover, only}
+use Rattle.circuit_theory.proofs.Lists.{Contains-cases, only}
+use Rattle.circuit_samples.proofs.Samples.{late, early, one, and_cover}
 use Rattle.circuit_samples.proofs.NetTest.{net_test-sound, numbers_distinct-sound}
 use Rattle.circuit_theory.proofs.Numbers.{one_place}
 use Rattle.circuit_laws.proofs.TreeDepth.{tree_depth}

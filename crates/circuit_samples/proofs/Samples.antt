@@ -151,11 +151,3 @@ item_of (Latch m o to ∷ es) name out next h = go (Contains-cases (Latch m o to
         Contains (record { name = m; out = o; next = to } ∷ latch_items es) (record { name = name; out = out; next = next })
     go (inl q) later = subst (Contains (record { name = m; out = o; next = to } ∷ latch_items es)) (ap item q) (Contains-head _ (latch_items es))
     go (inr k) later = Contains-tail _ _ (latch_items es) (later k)
-
--- the one element of a list
-pub only : {X : Type 0} (x y : X) → Contains (x ∷ []) y → x ≡ y
-only x y h = go (Contains-cases x y [] h)
-  where
-    go : (x ≡ y) ⊎ Contains [] y → x ≡ y
-    go (inl e) = e
-    go (inr k) = absurd (omega (arith, k.1))

@@ -1,5 +1,5 @@
 -- Membership in lists, and functions over them.
-use Rattle.std.proofs.Common.{◌≡◌, ℕ, zero, suc, ◌<◌, Bool, true, false, cond, List, [], ◌∷◌, ◌++◌, length, get_or, map, refl, ◌∙◌, ap, subst, arith, inl, inr, Option, Some, None, slice_get}
+use Rattle.std.proofs.Common.{◌≡◌, ℕ, zero, suc, ◌<◌, Bool, true, false, cond, List, [], ◌∷◌, ◌++◌, length, get_or, map, refl, sym, ◌∙◌, ap, subst, arith, inl, inr, Option, Some, None, slice_get}
 use Rattle.std.specs.Prelude.{◌⊎◌}
 use Rattle.std.specs.List.{All, AllZip, Contains, filter, filter_map, cons_option}
 use Rattle.std.proofs.lemmas.List.Elements.{All-nil, All-cons}
@@ -69,6 +69,27 @@ Contains-filter {X} test (y ∷ xs) x h = go (test y) refl (λ k. Contains-filte
         pick (inl q) = subst (Contains (y ∷ xs)) q (Contains-head y xs)
         pick (inr k) = Contains-tail y x xs (ih k)
     go false e ih = Contains-tail y x xs (ih (subst (λ (ys : List X). Contains ys x) (ap (λ b. cond b (y ∷ filter test xs) (filter test xs)) e) h))
+
+-- and meets the test
+pub filter_test : {X : Type 0} (test : X → Bool) (xs : List X) (x : X) → Contains (filter test xs) x → test x ≡ true
+filter_test test [] x h = absurd (omega (arith, h.1))
+filter_test {X} test (y ∷ xs) x h = go (test y) refl (λ k. filter_test test xs x k)
+  where
+    go : (b : Bool) → test y ≡ b → (Contains (filter test xs) x → test x ≡ true) → test x ≡ true
+    go true e later = pick (Contains-cases y x (filter test xs) (subst (λ (ys : List X). Contains ys x) (ap (λ b. cond b (y ∷ filter test xs) (filter test xs)) e) h))
+      where
+        pick : (y ≡ x) ⊎ Contains (filter test xs) x → test x ≡ true
+        pick (inl q) = sym (ap test q) ∙ e
+        pick (inr k) = later k
+    go false e later = later (subst (λ (ys : List X). Contains ys x) (ap (λ b. cond b (y ∷ filter test xs) (filter test xs)) e) h)
+
+-- the one element of a list
+pub only : {X : Type 0} (x y : X) → Contains (x ∷ []) y → x ≡ y
+only x y h = go (Contains-cases x y [] h)
+  where
+    go : (x ≡ y) ⊎ Contains [] y → x ≡ y
+    go (inl e) = e
+    go (inr k) = absurd (omega (arith, k.1))
 
 -- what holds of each element
 pub All-from_each : {X : Type 0} (F : X → Type 0) (xs : List X) → ((x : X) → Contains xs x → F x) → All F xs
