@@ -147,15 +147,15 @@ module _ {P : Type 0} (side : EventSide P) (same : (p q : P) → (p ≡ q) ⊎ (
 module _ {R : Type 0} (names : List (List ℕ)) (c : Circuit ℕ) (single : IsSingleDriven c) (distinct : HasDistinctNames c) (j : Circuit R) (f : ℕ → R) (replace : (R → Bool) → (ℕ → Bool) → R → Bool)
     (part : IsPart (cut names c) j f replace) (size : ℕ) (run : ℕ → R → Bool) (meets : (t : ℕ) → t < size → Meets j (run t)) (Z : ℕ → R → Type 0)
     (into : (t p : ℕ) → Marked c (IsEnabled c) (λ s q. run s (f q)) t p → Z t (f p)) where
-  abbrev own : ℕ → ℕ → Bool
+  abbrev pub own : ℕ → ℕ → Bool
   own s q = run s (f q)
 
-  cone_known : (s nx : ℕ) (w : R) → Marked c (IsEnabled c) own s nx → InCone j (f nx) w → Z s w
+  pub cone_known : (s nx : ℕ) (w : R) → Marked c (IsEnabled c) own s nx → InCone j (f nx) w → Z s w
   cone_known s nx w mark cone =
       let v = cone_from (cut names c) j f replace part nx w cone in
       subst (Z s) v.1 (into s v.0 (marks_down c (IsEnabled c) own single (cone_uncut names c single distinct nx v.0 v.2).1 s mark))
 
-  part_says : (t : ℕ) (name : List ℕ) (u : ℕ) (next : R) → t < size → IsLatch j name (f u) next → Marked c (IsEnabled c) own t u →
+  pub part_says : (t : ℕ) (name : List ℕ) (u : ℕ) (next : R) → t < size → IsLatch j name (f u) next → Marked c (IsEnabled c) own t u →
       ((IsEnabled j (f u) → ⊥) × ((s : ℕ) × (t ≡ suc s) × ((w : R) → InCone j next w → Z s w)))
       ⊎ (IsEnabled j (f u) × ((s : ℕ) × (s < t) × Loads j (run s) (f u) next × ((w : R) → InCone j next w → w ≢ f u → Z s w)))
   part_says t name u next h latch mark = go (mark_says c (IsEnabled c) own single mark (Latch name u mine.0) (kept_equation names c (Latch name u mine.0) mine.1) refl)

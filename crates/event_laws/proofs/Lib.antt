@@ -11,7 +11,9 @@ pub mod Events
 pub mod Exchanged
 pub mod ExposedCycles
 pub mod ExposedEvents
+pub mod ExposedNames
 pub mod FrameValues
 pub mod OneClassMap
+pub mod ReachedLatches
 pub mod SettledEvents
 pub mod SideParts

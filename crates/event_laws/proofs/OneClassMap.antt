@@ -10,8 +10,9 @@ use Rattle.circuit_theory.specs.Tree.{Tree, Trees}
 use Rattle.circuit_theory.specs.Cone.{latch_place, latches_of}
 use Rattle.event_theory.specs.Frame.{EventSide, NotPut, EventUnfolds, EventUnfoldsAll, ConeLatches, ConeOthers, ReachedAt, IsEnable, HasCare}
 use Rattle.circuit_theory.specs.Joined.{joined}
-use Rattle.event_theory.specs.Classes.{EnableCare, EnablesDiffer, SometimesOff, EqualsMembers, DiffersFromMember, classes_of, IsInFirstClass, HasClasses}
-use Rattle.event_laws.specs.Laws.{ClassesAreOne}
+use Rattle.event_theory.specs.Classes.{EnableCare, EnablesDiffer, SometimesOff, EqualsMembers, DiffersFromMember, classes_of, IsInFirstClass, IsLatchOrder, HasClasses}
+use Rattle.event_theory.specs.EventTotals.{IsMapSoFar}
+use Rattle.event_laws.specs.Laws.{ClassesAreOne, ClassesSoFarAreOne}
 use Rattle.circuit_theory.proofs.Lists.{Contains-head, Contains-tail, Contains-cases, at_of}
 use Rattle.circuit_theory.proofs.Sums.{AllPairs-head, AllPairs-tail}
 use Rattle.circuit_laws.proofs.Finite.{weakly_decided}
@@ -179,34 +180,19 @@ module _ {P : Type 0} (c : Circuit P) (single : IsSingleDriven c) (same : (p q :
   depth_of : (u : P) → On u → IsDepth c On u (rank_of u)
   depth_of u en = rank_is c single same depths en.name u en.next en.latch
 
-  module _ (f g : P → ℕ) (mine : HasClasses (side f)) (theirs : HasClasses (side g)) where
-    one_order : mine.order ≡ theirs.order
-    one_order =
-        sorted_once same Before mine.order theirs.order apart mine.is_order.in_order theirs.is_order.in_order
-        (λ u h. theirs.is_order.all u (mine.is_order.enabled u h)) (λ u h. mine.is_order.all u (theirs.is_order.enabled u h))
-      where
-        apart : (u v : P) → Contains mine.order u → Contains mine.order v → Before u v → Before v u → ⊥
-        apart u v hu hv x y =
-            let eu = mine.is_order.enabled u hu in
-            let ev = mine.is_order.enabled v hv in
-            let i = place_of u eu in
-            let j = place_of v ev in
-            clash (rank_of u) (rank_of v) i.0 j.0 (x (rank_of u) (rank_of v) i.0 j.0 (depth_of u eu) (depth_of v ev) i.1 j.1) (y (rank_of v) (rank_of u) j.0 i.0 (depth_of v ev) (depth_of u eu) j.1 i.1)
-          where
-            clash : (d e i j : ℕ) → (d < e) ⊎ ((d ≡ e) × (i < j)) → (e < d) ⊎ ((e ≡ d) × (j < i)) → ⊥
-            clash d e i j (inl a) (inl b) = omega arith
-            clash d e i j (inl a) (inr b) = omega (arith, b.0)
-            clash d e i j (inr a) (inl b) = omega (arith, a.0)
-            clash d e i j (inr a) (inr b) = omega (arith, a.1, b.1)
-
+  -- two class maps that both give their classes to the latches taken so far, which stand first in the order
+  module _ (f g : P → ℕ) (order taken rest : List P) (is_order : IsLatchOrder (side f) order) (whole : order ≡ taken ++ rest)
+      (plain : (name : List ℕ) (u next : P) → IsLatch c name u next → (On u → ⊥) → f u ≡ 0) (plain_too : (name : List ℕ) (u next : P) → IsLatch c name u next → (On u → ⊥) → g u ≡ 0)
+      (joins : (before after : List P) (v : P) → taken ≡ before ++ v ∷ after → IsInFirstClass (side f) before v)
+      (joins_too : (before after : List P) (v : P) → taken ≡ before ++ v ∷ after → IsInFirstClass (side g) before v) where
     -- what stands before in the order is no deeper
-    no_deeper : (before after : List P) (v : P) → mine.order ≡ before ++ v ∷ after → (u : P) → Contains before u → rank_of u ≤ rank_of v
+    no_deeper : (before after : List P) (v : P) → order ≡ before ++ v ∷ after → (u : P) → Contains before u → rank_of u ≤ rank_of v
     no_deeper before after v split u h =
-        let ev = mine.is_order.enabled v (subst (λ zs. Contains zs v) (sym split) (Contains-append_right before (v ∷ after) v (Contains-head v after))) in
-        let eu = mine.is_order.enabled u (subst (λ zs. Contains zs u) (sym split) (Contains-append_left before (v ∷ after) u h)) in
+        let ev = is_order.enabled v (subst (λ zs. Contains zs v) (sym split) (Contains-append_right before (v ∷ after) v (Contains-head v after))) in
+        let eu = is_order.enabled u (subst (λ zs. Contains zs u) (sym split) (Contains-append_left before (v ∷ after) u h)) in
         let i = place_of u eu in
         let j = place_of v ev in
-        low (ahead before (subst (AllPairs Before) split mine.is_order.in_order) h (rank_of u) (rank_of v) i.0 j.0 (depth_of u eu) (depth_of v ev) i.1 j.1)
+        low (ahead before (subst (AllPairs Before) split is_order.in_order) h (rank_of u) (rank_of v) i.0 j.0 (depth_of u eu) (depth_of v ev) i.1 j.1)
       where
         low : {i j : ℕ} → (rank_of u < rank_of v) ⊎ ((rank_of u ≡ rank_of v) × (i < j)) → rank_of u ≤ rank_of v
         low (inl a) = omega arith
@@ -221,11 +207,11 @@ module _ {P : Type 0} (c : Circuit P) (single : IsSingleDriven c) (same : (p q :
             pick (inr m) later = later m
 
     -- an enabled latch of a lower rank stands before
-    stands_before : (before after : List P) (v w : P) → mine.order ≡ before ++ v ∷ after → On w → rank_of w < rank_of v → Contains before w
-    stands_before before after v w split en low = pick (Contains-append_cases before (v ∷ after) w (subst (λ zs. Contains zs w) split (mine.is_order.all w en)))
+    stands_before : (before after : List P) (v w : P) → order ≡ before ++ v ∷ after → On w → rank_of w < rank_of v → Contains before w
+    stands_before before after v w split en low = pick (Contains-append_cases before (v ∷ after) w (subst (λ zs. Contains zs w) split (is_order.all w en)))
       where
         ev : On v
-        ev = mine.is_order.enabled v (subst (λ zs. Contains zs v) (sym split) (Contains-append_right before (v ∷ after) v (Contains-head v after)))
+        ev = is_order.enabled v (subst (λ zs. Contains zs v) (sym split) (Contains-append_right before (v ∷ after) v (Contains-head v after)))
 
         behind : (xs : List P) → AllPairs Before (xs ++ v ∷ after) → Contains after w → Before v w
         behind [] all k = AllPairs-head Before v after all w k
@@ -244,40 +230,50 @@ module _ {P : Type 0} (c : Circuit P) (single : IsSingleDriven c) (same : (p q :
             other (inr m) =
                 let i = place_of v ev in
                 let j = place_of w en in
-                absurd (deeper (behind before (subst (AllPairs Before) split mine.is_order.in_order) m (rank_of v) (rank_of w) i.0 j.0 (depth_of v ev) (depth_of w en) i.1 j.1))
+                absurd (deeper (behind before (subst (AllPairs Before) split is_order.in_order) m (rank_of v) (rank_of w) i.0 j.0 (depth_of v ev) (depth_of w en) i.1 j.1))
 
     -- where the latches before have one class, so have all of lower rank
-    lower_agree : (before after : List P) (v : P) → mine.order ≡ before ++ v ∷ after → ((u : P) → Contains before u → f u ≡ g u) → Agrees (rank_of v) f g
+    lower_agree : (before after : List P) (v : P) → order ≡ before ++ v ∷ after → ((u : P) → Contains before u → f u ≡ g u) → Agrees (rank_of v) f g
     lower_agree before after v split members name w next latch low = numbers_same (f w) (g w) (λ apart. weakly_decided (λ d. apart (by d)))
       where
         by : On w ⊎ (On w → ⊥) → f w ≡ g w
         by (inl en) = members w (stands_before before after v w split en low)
-        by (inr off) = mine.is_map.plain name w next latch off ∙ sym (theirs.is_map.plain name w next latch off)
+        by (inr off) = plain name w next latch off ∙ sym (plain_too name w next latch off)
 
-    step : (before after : List P) (v : P) → mine.order ≡ before ++ v ∷ after → ((u : P) → Contains before u → f u ≡ g u) → f v ≡ g v
-    step before after v split members = go (order (f v) (g v))
+    in_order : (before after : List P) (v : P) → taken ≡ before ++ v ∷ after → order ≡ before ++ v ∷ (after ++ rest)
+    in_order before after v split = whole ∙ (ap (λ zs. zs ++ rest) split ∙ again before)
       where
-        order : (i j : ℕ) → (i ≡ j) ⊎ ((i < j) ⊎ (j < i))
-        order i j = grind arith
+        again : (xs : List P) → (xs ++ v ∷ after) ++ rest ≡ xs ++ v ∷ (after ++ rest)
+        again [] = refl
+        again (x ∷ xs) = ap (λ zs. x ∷ zs) (again xs)
+
+    step : (before after : List P) (v : P) → taken ≡ before ++ v ∷ after → ((u : P) → Contains before u → f u ≡ g u) → f v ≡ g v
+    step before after v split members = go (either_way (f v) (g v))
+      where
+        either_way : (i j : ℕ) → (i ≡ j) ⊎ ((i < j) ⊎ (j < i))
+        either_way i j = grind arith
 
         number : classes_of (side f) before ≡ classes_of (side g) before
         number = fold_same f g 0 before members
 
+        placed : order ≡ before ++ v ∷ (after ++ rest)
+        placed = in_order before after v split
+
         agree : Agrees (rank_of v) f g
-        agree = lower_agree before after v split members
+        agree = lower_agree before (after ++ rest) v placed members
 
         first : IsInFirstClass (side f) before v
-        first = mine.is_map.each before after v split
+        first = joins before after v split
 
         second : IsInFirstClass (side g) before v
-        second = theirs.is_map.each before after v (sym one_order ∙ split)
+        second = joins_too before after v split
 
         go : (f v ≡ g v) ⊎ ((f v < g v) ⊎ (g v < f v)) → f v ≡ g v
         go (inl e) = e
-        go (inr (inl l)) = absurd (not_lower f g before v (λ name w next latch low. sym (agree name w next latch low)) members (no_deeper before after v split) number first second l)
-        go (inr (inr l)) = absurd (not_lower g f before v agree (λ u h. sym (members u h)) (no_deeper before after v split) (sym number) second first l)
+        go (inr (inl l)) = absurd (not_lower f g before v (λ name w next latch low. sym (agree name w next latch low)) members (no_deeper before (after ++ rest) v placed) number first second l)
+        go (inr (inr l)) = absurd (not_lower g f before v agree (λ u h. sym (members u h)) (no_deeper before (after ++ rest) v placed) (sym number) second first l)
 
-    each_of : (before after : List P) → mine.order ≡ before ++ after → ((u : P) → Contains before u → f u ≡ g u) → (u : P) → Contains after u → f u ≡ g u
+    each_of : (before after : List P) → taken ≡ before ++ after → ((u : P) → Contains before u → f u ≡ g u) → (u : P) → Contains after u → f u ≡ g u
     each_of before [] split members u h = absurd (omega (arith, h.1))
     each_of before (v ∷ after) split members u h =
         pick (Contains-cases v u after h) (λ k. each_of (before ++ v ∷ []) after (split ∙ again before) (λ w m. longer w m) u k)
@@ -304,13 +300,54 @@ module _ {P : Type 0} (c : Circuit P) (single : IsSingleDriven c) (same : (p q :
         pick (inl e) later = ap f (sym e) ∙ (now ∙ ap g e)
         pick (inr k) later = later k
 
+    one_so_far : (u : P) → Contains taken u → f u ≡ g u
+    one_so_far u h = each_of [] taken refl (λ w k. absurd (omega (arith, k.1))) u h
+
+  -- of two class maps as far as they go, the one going on from the other
+  pub one_class_so_far : (f g : P → ℕ) (taken more rest others : List P) → IsMapSoFar (side f) taken rest → IsMapSoFar (side g) (taken ++ more) others → (u : P) → Contains taken u → f u ≡ g u
+  one_class_so_far f g taken more rest others mine theirs =
+      one_so_far f g (taken ++ rest) taken rest mine.is_order refl mine.plain theirs.plain mine.each (λ before after v split. theirs.each before (after ++ more) v (ap (λ zs. zs ++ more) split ∙ again before after v))
+    where
+      again : (xs after : List P) (v : P) → (xs ++ v ∷ after) ++ more ≡ xs ++ v ∷ (after ++ more)
+      again [] after v = refl
+      again (x ∷ xs) after v = ap (λ zs. x ∷ zs) (again xs after v)
+
+  module _ (f g : P → ℕ) (mine : HasClasses (side f)) (theirs : HasClasses (side g)) where
+    one_order : mine.order ≡ theirs.order
+    one_order =
+        sorted_once same Before mine.order theirs.order apart mine.is_order.in_order theirs.is_order.in_order
+        (λ u h. theirs.is_order.all u (mine.is_order.enabled u h)) (λ u h. mine.is_order.all u (theirs.is_order.enabled u h))
+      where
+        apart : (u v : P) → Contains mine.order u → Contains mine.order v → Before u v → Before v u → ⊥
+        apart u v hu hv x y =
+            let eu = mine.is_order.enabled u hu in
+            let ev = mine.is_order.enabled v hv in
+            let i = place_of u eu in
+            let j = place_of v ev in
+            clash (rank_of u) (rank_of v) i.0 j.0 (x (rank_of u) (rank_of v) i.0 j.0 (depth_of u eu) (depth_of v ev) i.1 j.1) (y (rank_of v) (rank_of u) j.0 i.0 (depth_of v ev) (depth_of u eu) j.1 i.1)
+          where
+            clash : (d e i j : ℕ) → (d < e) ⊎ ((d ≡ e) × (i < j)) → (e < d) ⊎ ((e ≡ d) × (j < i)) → ⊥
+            clash d e i j (inl a) (inl b) = omega arith
+            clash d e i j (inl a) (inr b) = omega (arith, b.0)
+            clash d e i j (inr a) (inl b) = omega (arith, a.0)
+            clash d e i j (inr a) (inr b) = omega (arith, a.1, b.1)
+
+    no_more : (xs : List P) → xs ≡ xs ++ []
+    no_more [] = refl
+    no_more (x ∷ xs) = ap (λ zs. x ∷ zs) (no_more xs)
+
     pub one_class : (name : List ℕ) (u next : P) → IsLatch c name u next → f u ≡ g u
     one_class name u next latch = numbers_same (f u) (g u) (λ apart. weakly_decided (λ d. apart (by d)))
       where
         by : On u ⊎ (On u → ⊥) → f u ≡ g u
-        by (inl en) = each_of [] mine.order refl (λ w h. absurd (omega (arith, h.1))) u (mine.is_order.all u en)
+        by (inl en) = one_so_far f g mine.order mine.order [] mine.is_order (no_more mine.order) mine.is_map.plain theirs.is_map.plain mine.is_map.each
+            (λ before after v split. theirs.is_map.each before after v (sym one_order ∙ split)) u (mine.is_order.all u en)
         by (inr off) = mine.is_map.plain name u next latch off ∙ sym (theirs.is_map.plain name u next latch off)
 
 pub classes_are_one_in_nets : ClassesAreOne
 classes_are_one_in_nets a b m n left right f g na nb depths mine theirs name u next latch =
     one_class (joined a b) (joined_single a b m n na nb) joined_same depths (left ++ right) f g mine theirs name u next latch
+
+pub classes_so_far_are_one_in_nets : ClassesSoFarAreOne
+classes_so_far_are_one_in_nets a b m n left right f g taken more rest others na nb depths mine theirs u h =
+    one_class_so_far (joined a b) (joined_single a b m n na nb) joined_same depths (left ++ right) f g taken more rest others mine theirs u h

@@ -1,15 +1,15 @@
 -- What holds of all flat nets in the event form. Each law is the contract of a function of this crate.
-use Rattle.std.specs.Prelude.{◌≡◌, ◌≢◌, ℕ, ◌<◌, ◌↔◌, Bool, true, false, not, ◌||◌, max, List, [], length, None}
+use Rattle.std.specs.Prelude.{◌≡◌, ◌≢◌, ℕ, ◌<◌, ◌↔◌, Bool, true, false, not, ◌||◌, max, List, [], length, None, ◌∷◌, ◌++◌, Option}
 use Rattle.std.specs.List.{All, Contains, AllPairs}
 use Rattle.circuit_theory.specs.declared.Mode.{Mode}
 use Rattle.circuit_theory.specs.declared.Mode.TheVariants.{Event}
 use Rattle.circuit_theory.specs.Circuit.{Circuit, IsLatch}
-use Rattle.circuit_theory.specs.Run.{ExtendsWith, IsEnabled}
+use Rattle.circuit_theory.specs.Run.{ExtendsWith, IsEnabled, IsRun, IsDetermined}
 use Rattle.circuit_theory.specs.Net.{IsNet, HasDistinctNames}
 use Rattle.circuit_theory.specs.Depth.{IsDepth, HasCycle, LatchesHaveDepths}
 use Rattle.circuit_theory.specs.Tree.{Tree, AreNumbered, tree_value}
 use Rattle.circuit_theory.specs.Agree.{cut, IsPair, EnabledIn, IsSettled, AreAlike, Agree, AgreeOnward, IsMinimalCut}
-use Rattle.event_theory.specs.Frame.{EventSide, bits_as_shifts, EventUnfolds, ConeLatches, IsEnable, AreFrameValues, EventCycle, IsNumberedRun, IsNode, HasEvents}
+use Rattle.event_theory.specs.Frame.{EventSide, bits_as_shifts, EventUnfolds, ConeLatches, IsEnable, AreFrameValues, EventCycle, IsNumberedRun, IsNode, HasEvents, ReachedAt}
 use Rattle.circuit_theory.specs.Joined.{Either, Left, Right, joined, beside}
 use Rattle.event_theory.specs.Classes.{HasClasses}
 use Rattle.circuit_theory.specs.Query.{Query, Variable}
@@ -17,6 +17,9 @@ use Rattle.circuit_theory.specs.Sequence.{sequence_rows}
 use Rattle.event_theory.specs.EventFrames.{AreNodeVariables, IsPairTree, frame_of, IsUnshownFrame, HaveDifferentEvents, IsEventDifference}
 use Rattle.circuit_theory.specs.Fits.{MakesDiffer}
 use Rattle.event_theory.specs.EventFits.{IsEventWitness, ReachesAlways, HaveEqualEvents, side_by_side}
+use Rattle.event_theory.specs.EventSizes.{Start, EventVisits}
+use Rattle.event_theory.specs.EventTotals.{IsMapSoFar, StartLatches}
+use Rattle.event_theory.specs.Reached.{LatchAtNode, AreReached, IsClosed}
 
 -- Equal event functions mean agreement in the event mode: with the class map of both circuits side by side, where no cycle is left
 -- but self-edges of enabled latches, and the functions of each pair agree in each frame with care for both.
@@ -110,3 +113,29 @@ ExposedEventsAreCommon = (a b : Circuit ℕ) (m n : ℕ) (names : List (List ℕ
     IsNode (side_by_side (cut names a) (cut names b) left right class) (IsEnabled (joined (cut names a) (cut names b))) (ConeLatches (joined (cut names a) (cut names b)) (Right q)) node →
     EventCycle (side_by_side (cut names a) (cut names b) left right class) (IsEnabled (joined (cut names a) (cut names b))) (ConeLatches (joined (cut names a) (cut names b)) (Left p)) (λ s. beside (l s) (r s)) t node e →
     EventCycle (side_by_side (cut names a) (cut names b) left right class) (IsEnabled (joined (cut names a) (cut names b))) (ConeLatches (joined (cut names a) (cut names b)) (Right q)) (λ s. beside (l s) (r s)) t node d → e ≡ d
+
+-- The class map is one as far as it goes: of two maps of which the one goes on from the other, each gives the latches taken so far the same classes.
+abbrev pub ClassesSoFarAreOne : Type 0
+ClassesSoFarAreOne = (a b : Circuit ℕ) (m n : ℕ) (left right : List ℕ) (f g : Either ℕ ℕ → ℕ) (taken more rest others : List (Either ℕ ℕ)) → IsNet a m → IsNet b n →
+    LatchesHaveDepths (joined a b) (IsEnabled (joined a b)) → IsMapSoFar (side_by_side a b left right f) taken rest → IsMapSoFar (side_by_side a b left right g) (taken ++ more) others →
+    (u : Either ℕ ℕ) → Contains taken u → f u ≡ g u
+
+-- What some starts reach is a finite list of latches at nodes.
+abbrev pub ReachedAreListed : Type 0
+ReachedAreListed = (a b : Circuit ℕ) (m n : ℕ) (left right : List ℕ) (class : Either ℕ ℕ → ℕ) → IsNet a m → IsNet b n → LatchesHaveDepths (joined a b) (IsEnabled (joined a b)) →
+    (starts : List (Start (Either ℕ ℕ))) → ((x : Start (Either ℕ ℕ)) → Contains starts x → IsDetermined (joined a b) x.place) →
+    (list : List (LatchAtNode (Either ℕ ℕ))) × AreReached (side_by_side a b left right class) (IsEnabled (joined a b)) (StartLatches (side_by_side a b left right class) starts) list
+
+-- A list of latches at nodes that is closed, and of which each element is reached, holds exactly what is reached.
+abbrev pub ClosedListsAreReached : Type 0
+ClosedListsAreReached = (s : EventSide (Either ℕ ℕ)) (starts : List (Start (Either ℕ ℕ))) (list : List (LatchAtNode (Either ℕ ℕ))) → IsClosed s (IsEnabled s.circuit) (StartLatches s starts) list →
+    ((x : LatchAtNode (Either ℕ ℕ)) → Contains list x → ReachedAt s (IsEnabled s.circuit) (StartLatches s starts) x.node x.latch) → AreReached s (IsEnabled s.circuit) (StartLatches s starts) list
+
+-- With latches exposed by a minimal cut, of two places that are settled in the circuits themselves, in any two runs and cycles, at most one reads an exposed name.
+abbrev pub ExposedNamesAreApart : Type 0
+ExposedNamesAreApart = (a b : Circuit ℕ) (m n : ℕ) (names : List (List ℕ)) (left right : List ℕ) (class : Either ℕ ℕ → ℕ) → IsNet a m → IsNet b n → HasDistinctNames a → HasDistinctNames b →
+    IsMinimalCut Event a b names → (size : ℕ) (l r : ℕ → ℕ → Bool) → IsRun a size l → IsRun b size r → (s t p q : ℕ) → s < size → t < size → IsSettled Event a l s p → IsSettled Event b r t q →
+    (name : List ℕ) (u v : ℕ) → Contains names name → Contains (cut names a).inputs (record { name = name; place = u }) → Contains (cut names b).inputs (record { name = name; place = v }) →
+    (node node' : List ℕ) (out out' : Option (Either ℕ ℕ)) →
+    EventVisits (side_by_side (cut names a) (cut names b) left right class) (IsEnabled (joined (cut names a) (cut names b))) (record { place = Left p; left_out = None } ∷ []) out (Left u) node →
+    EventVisits (side_by_side (cut names a) (cut names b) left right class) (IsEnabled (joined (cut names a) (cut names b))) (record { place = Right q; left_out = None } ∷ []) out' (Right v) node' → ⊥

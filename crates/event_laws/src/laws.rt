@@ -1,7 +1,7 @@
 //! The laws of the event form. None of these functions does anything: each contract is a law that is proved for all flat nets, by the
 //! same definitions that the contracts of the working calls cite.
 
-ghost use Rattle.event_laws.specs.Laws.{EventFunctionsAgree, ExposedEventFunctionsAgree, SettledHasEvents, EventsAreCommon, EventWitnessMakesDiffer, SidesAreParts, CutIsNet, TreesAreFrameValues, ClassesAreOne, DifferencesAreShown, EventDifferenceIsWitness, ExposedEventsAreCommon};
+ghost use Rattle.event_laws.specs.Laws.{EventFunctionsAgree, ExposedEventFunctionsAgree, SettledHasEvents, EventsAreCommon, EventWitnessMakesDiffer, SidesAreParts, CutIsNet, TreesAreFrameValues, ClassesAreOne, DifferencesAreShown, EventDifferenceIsWitness, ExposedEventsAreCommon, ClassesSoFarAreOne, ReachedAreListed, ClosedListsAreReached, ExposedNamesAreApart};
 
 /// Where the event functions of each pair of outputs agree in each frame with care for both, the two circuits agree in the event mode
 /// on each output wherever it is settled in both.
@@ -70,4 +70,25 @@ pub fn event_difference_is_witness()
 /// runs with equal inputs, whatever the exposed latches do.
 pub fn exposed_events_are_common()
     ensures { ExposedEventsAreCommon }
+{}
+
+/// Two class maps of one pair of circuits give the same classes as far as both go.
+pub fn classes_so_far_are_one()
+    ensures { ClassesSoFarAreOne }
+{}
+
+/// The latches that event unfoldings reach, each at its event nodes, are a finite list.
+pub fn reached_are_listed()
+    ensures { ReachedAreListed }
+{}
+
+/// A work list that is closed under what it has to reach, and holds nothing else, holds exactly what is reached.
+pub fn closed_lists_are_reached()
+    ensures { ClosedListsAreReached }
+{}
+
+/// With latches exposed by a minimal cut, an output of one circuit and one of the other that are settled in the circuits themselves don't
+/// both read an exposed name.
+pub fn exposed_names_are_apart()
+    ensures { ExposedNamesAreApart }
 {}

@@ -5,3 +5,4 @@ pub mod EventQueries
 pub mod EventSizes
 pub mod EventTotals
 pub mod Frame
+pub mod Reached
