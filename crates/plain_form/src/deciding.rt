@@ -1,6 +1,6 @@
 //! The pairs are decided, one after the other.
 
-ghost use Rattle.std.specs.Prelude.{◌≡◌, ◌≤◌, IfOk};
+ghost use Rattle.std.specs.Prelude.{◌≡◌, ◌+◌, ◌<◌, ◌≤◌, length, take, IfOk, OnOk};
 ghost use Rattle.sec_base.specs.Table.{AreDistinct};
 ghost use Rattle.latch_graph.specs.Graph.{IsGraphOf};
 ghost use Rattle.plain_form.specs.Formed.{IsAcyclic, ArePairsOf};
@@ -11,7 +11,7 @@ ghost use Rattle.plain_form.specs.Variables.{AreInOrder, IsPairQuery};
 use crate::merging::merge_variables;
 use crate::pairing::{SignalPair, copy_name, pair_depth};
 use crate::unfolding::Functions;
-use crate::witness::first_of;
+use crate::witness::put_first;
 use aig::Lit;
 use cbf_unfold::Unfolded;
 use flat_net::Net;
@@ -51,28 +51,81 @@ pub(crate) fn decide_pairs(
     requires conflicts { conflicts ≤ 200000 }
     ensures { IfOk result (λ d. (x : HaveFunctions a.now b.now columns.now pairs.now functions.now) → HaveFound a.now b.now x.left x.right columns.now cut conflicts pairs.now d.results d.first) }
 {
+    let mut decided = Decided {
+        results: PairResults::new(alloc),
+        first: None,
+    };
+    for i in 0..pairs.len() {
+        decide_next(
+            alloc,
+            a,
+            b,
+            left,
+            right,
+            functions,
+            columns,
+            pairs,
+            i,
+            cut,
+            conflicts,
+            &mut decided,
+        )?;
+    }
+    Ok(decided)
+}
+
+/// Decides the pair at a place, where those before it are decided.
+fn decide_next(
+    alloc: Global,
+    a: &Net,
+    b: &Net,
+    left: &LatchGraph,
+    right: &LatchGraph,
+    functions: &Functions,
+    columns: &Words,
+    pairs: &[SignalPair],
+    i: usize,
+    cut: bool,
+    conflicts: u32,
+    decided: &mut Decided,
+) -> Result<(), NoMemory>
+    requires left_graph { IsGraphOf a.now left.now }
+    requires right_graph { IsGraphOf b.now right.now }
+    requires left_acyclic { IsAcyclic a.now }
+    requires right_acyclic { IsAcyclic b.now }
+    requires functions { HaveFunctions a.now b.now columns.now pairs.now functions.now }
+    requires distinct { AreDistinct columns.now }
+    requires pairs { ArePairsOf a.now b.now pairs.now }
+    requires place { i < length pairs.now }
+    requires conflicts { conflicts ≤ 200000 }
+    ensures { OnOk result ((x : HaveFunctions a.now b.now columns.now pairs.now functions.now) → HaveFound a.now b.now x.left x.right columns.now cut conflicts (take i pairs.now) decided.old.results decided.old.first → HaveFound a.now b.now x.left x.right columns.now cut conflicts (take (i + 1) pairs.now) decided.new.results decided.new.first) }
+{
     a.keeps();
     b.keeps();
     functions.aig.keeps();
     functions.places.keeps();
-    let mut results = PairResults::new(alloc);
-    let mut first = None;
-    for (i, pair) in pairs.iter().enumerate() {
-        let size = pair_depth(a, b, left, right, pair.left, pair.right);
-        let query = query_of(
-            alloc,
-            &functions.places,
-            &functions.left[i],
-            &functions.right[i],
-        )?;
-        let decision = decide(alloc, &functions.aig, &query, conflicts)?;
-        let (result, bits) = result_of(copy_name(&pair.name)?, size, cut, decision);
-        first = first_of(
-            alloc, functions, &query, first, bits, &pair.name, size, columns,
-        )?;
-        results.push(result)?;
-    }
-    Ok(Decided { results, first })
+    let pair = &pairs[i];
+    let size = pair_depth(a, b, left, right, pair.left, pair.right);
+    let query = query_of(
+        alloc,
+        &functions.places,
+        &functions.left[i],
+        &functions.right[i],
+    )?;
+    let decision = decide(alloc, &functions.aig, &query, conflicts)?;
+    let (result, bits) = result_of(copy_name(&pair.name)?, size, cut, decision);
+    decided.results.push(result)?;
+    put_first(
+        alloc,
+        functions,
+        &query,
+        &mut decided.first,
+        bits,
+        &pair.name,
+        size,
+        columns,
+    )?;
+    Ok(())
 }
 
 /// Whether two functions always agree, as a query.

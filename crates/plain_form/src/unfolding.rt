@@ -2,6 +2,7 @@
 
 ghost use Rattle.std.specs.Prelude.{◌≡◌, ℕ, ◌+◌, ◌^◌, ◌<◌, ◌≤◌, List, map, length, All, IfOk, IfErr, OnOk};
 ghost use Rattle.std.specs.List.{AllZip};
+ghost use Rattle.circuit_theory.specs.declared.Side.TheVariants.{A, B};
 ghost use Rattle.aig.specs.Graph.{Grows};
 ghost use Rattle.cbf_unfold.specs.Reach.{Adds};
 ghost use Rattle.cbf_unfold.specs.View.{IsOrderOf};
@@ -44,34 +45,70 @@ pub(crate) fn unfold_pairs(
 {
     let mut aig = Aig::new(alloc)?;
     let mut places = PlaceTable::new(alloc);
-    let signals = left_signals(alloc, pairs)?;
-    let left = unfold_side(
-        alloc,
-        Side::A,
-        a,
-        left,
-        &orders.left,
-        &mut aig,
-        &mut places,
-        signals.as_slice(),
-    )?;
-    let signals = right_signals(alloc, pairs)?;
-    let right = unfold_side(
-        alloc,
-        Side::B,
-        b,
-        right,
-        &orders.right,
-        &mut aig,
-        &mut places,
-        signals.as_slice(),
-    )?;
+    let left = unfold_left(alloc, a, left, &orders.left, &mut aig, &mut places, pairs)?;
+    let right = unfold_right(alloc, b, right, &orders.right, &mut aig, &mut places, pairs)?;
     Ok(Functions {
         aig,
         places,
         left,
         right,
     })
+}
+
+/// Unfolds the left signals of the pairs.
+fn unfold_left(
+    alloc: Global,
+    net: &Net,
+    graph: &LatchGraph,
+    order: &Ids,
+    aig: &mut Aig,
+    places: &mut PlaceTable,
+    pairs: &[SignalPair],
+) -> Result<Vec<Unfolded>, PlainError>
+    requires order { IsOrderOf net.now order.now }
+    requires signals { All (λ s. s < length net.now.drivers) (left_signals pairs.now) }
+    requires nodes { length aig.old ≤ 2 ^ 28 }
+    requires entries { length places.old ≤ 2 ^ 28 }
+    ensures unfolded { IfOk result (λ us. AllZip (λ p u. IsFunctionOf net.now order.now aig.new places.new p.left.0 u) pairs.now us.items) }
+    ensures light { OnOk result (AreLight net.now (left_signals pairs.now)) }
+    ensures refused { IfErr result (IsRefusalOf A net.now (left_signals pairs.now)) }
+    ensures grows { Grows aig.old aig.new }
+    ensures adds { Adds (λ p. Unit {0}) places.old places.new }
+    ensures nodes { length aig.new ≤ length aig.old + 2000000 }
+    ensures entries { length places.new ≤ length places.old + 2000000 }
+{
+    let signals = left_signals(alloc, pairs)?;
+    let given = signals.as_slice();
+    let unfolded = unfold_side(alloc, Side::A, net, graph, order, aig, places, given)?;
+    Ok(unfolded)
+}
+
+/// Unfolds the right signals of the pairs.
+fn unfold_right(
+    alloc: Global,
+    net: &Net,
+    graph: &LatchGraph,
+    order: &Ids,
+    aig: &mut Aig,
+    places: &mut PlaceTable,
+    pairs: &[SignalPair],
+) -> Result<Vec<Unfolded>, PlainError>
+    requires order { IsOrderOf net.now order.now }
+    requires signals { All (λ s. s < length net.now.drivers) (right_signals pairs.now) }
+    requires nodes { length aig.old ≤ 2 ^ 28 }
+    requires entries { length places.old ≤ 2 ^ 28 }
+    ensures unfolded { IfOk result (λ us. AllZip (λ p u. IsFunctionOf net.now order.now aig.new places.new p.right.0 u) pairs.now us.items) }
+    ensures light { OnOk result (AreLight net.now (right_signals pairs.now)) }
+    ensures refused { IfErr result (IsRefusalOf B net.now (right_signals pairs.now)) }
+    ensures grows { Grows aig.old aig.new }
+    ensures adds { Adds (λ p. Unit {0}) places.old places.new }
+    ensures nodes { length aig.new ≤ length aig.old + 2000000 }
+    ensures entries { length places.new ≤ length places.old + 2000000 }
+{
+    let signals = right_signals(alloc, pairs)?;
+    let given = signals.as_slice();
+    let unfolded = unfold_side(alloc, Side::B, net, graph, order, aig, places, given)?;
+    Ok(unfolded)
 }
 
 fn left_signals(alloc: Global, pairs: &[SignalPair]) -> Result<Vec<Signal>, NoMemory>

@@ -1,6 +1,7 @@
 //! The verdict of a comparison.
 
-ghost use Rattle.std.specs.Prelude.{◌≡◌, IfOk};
+ghost use Rattle.std.specs.Prelude.{◌≡◌, List, IfOk};
+ghost use Rattle.sec_outcome.specs.declared.outcome.PairResult.{PairResult};
 ghost use Rattle.plain_form.specs.Found.{IsVerdictOf, IsLimitOr, IsFirstLimitOf};
 ghost use Rattle.plain_form.specs.Outcome.{greatest_size};
 
@@ -17,25 +18,33 @@ pub(crate) fn verdict_of(
 ) -> Result<Verdict, NoMemory>
     ensures { IfOk result (IsVerdictOf first cut results.now) }
 {
+    let limit = first_limit(results)?;
+    Ok(verdict_by(first, cut, limit))
+}
+
+/// The same by the first pair that met its limit, if there is one.
+fn verdict_by(first: Option<Witness>, cut: bool, limit: Option<LimitAt>) -> Verdict
+    ensures { (results : List PairResult) → IsFirstLimitOf results limit → IsVerdictOf first cut results result }
+{
     match first {
-        None => limit_or(results, Verdict::Equal),
+        None => limit_or(limit, Verdict::Equal),
         Some(witness) => {
             if cut {
-                limit_or(results, Verdict::NotShown(Why::Cut(witness)))
+                limit_or(limit, Verdict::NotShown(Why::Cut(witness)))
             } else {
-                Ok(Verdict::Different(witness))
+                Verdict::Different(witness)
             }
         }
     }
 }
 
-/// The first limit, if a pair met one, or else this verdict.
-fn limit_or(results: &[PairResult], other: Verdict) -> Result<Verdict, NoMemory>
-    ensures { IfOk result (IsLimitOr other results.now) }
+/// The limit, if there is one, or else this verdict.
+fn limit_or(limit: Option<LimitAt>, other: Verdict) -> Verdict
+    ensures { (results : List PairResult) → IsFirstLimitOf results limit → IsLimitOr other results result }
 {
-    match first_limit(results)? {
-        Some(at) => Ok(Verdict::Limit(at)),
-        None => Ok(other),
+    match limit {
+        Some(at) => Verdict::Limit(at),
+        None => other,
     }
 }
 

@@ -1,11 +1,12 @@
 //! The sequence of a difference.
 
-ghost use Rattle.std.specs.Prelude.{◌≡◌, ◌≢◌, ℕ, ◌+◌, ◌*◌, ◌<◌, ◌≤◌, map, length, false, slice_index_or, All, IfOk};
+ghost use Rattle.std.specs.Prelude.{◌≡◌, ◌≢◌, ℕ, ◌+◌, ◌*◌, ◌<◌, ◌≤◌, map, length, false, slice_index_or, All, IfOk, OnOk};
 ghost use Rattle.std.specs.Option.{ForSome};
 ghost use Rattle.std.specs.List.{AllPairs};
 ghost use Rattle.circuit_theory.specs.Sequence.{sequence_rows};
 ghost use Rattle.sec_base.specs.Table.{AreDistinct};
 ghost use Rattle.aig.specs.Graph.{vars_of};
+ghost use Rattle.aig.specs.Values.{value};
 ghost use Rattle.pair_decide.specs.Queries.{assigned_to};
 ghost use Rattle.plain_form.specs.Variables.{variable_of};
 ghost use Rattle.plain_form.specs.Sequences.{bits_at, IsSequence, IsWitnessOf, IsFirstOf, EndsShift};
@@ -18,31 +19,32 @@ use sec_base::{BitRows, Bits, NoMemory, PlaceTable, Seq, Words};
 use sec_outcome::{PairName, Stimulus, Witness};
 use std::alloc::Global;
 
-/// The sequence that there is already, or else that of a pair of this name, where bits make its sides differ.
-pub(crate) fn first_of(
+/// Makes the sequence of a pair of this name where bits make its sides differ, if there is no sequence yet.
+pub(crate) fn put_first(
     alloc: Global,
     functions: &Functions,
     query: &Query,
-    first: Option<Witness>,
+    first: &mut Option<Witness>,
     bits: Option<Bits>,
     name: &PairName,
     last: u32,
     names: &Words,
-) -> Result<Option<Witness>, NoMemory>
+) -> Result<(), NoMemory>
     requires left { query.now.left.0 < 2 * length functions.now.aig }
     requires right { query.now.right.0 < 2 * length functions.now.aig }
     requires sequence { ForSome bits (λ bs. IsSequence functions.now.places query.now.vars bs last (length names.now)) }
     requires distinct { AreDistinct names.now }
-    ensures { IfOk result (IsFirstOf functions.now.aig functions.now.places query.now name.now last names.now first bits) }
+    ensures { OnOk result (IsFirstOf functions.now.aig functions.now.places query.now name.now last names.now first.old bits first.new) }
 {
     if first.is_some() {
-        return Ok(first);
+        return Ok(());
     }
     match bits {
-        None => Ok(None),
+        None => Ok(()),
         Some(bits) => {
             let witness = witness_of(alloc, functions, query, &bits, name, last, names)?;
-            Ok(Some(witness))
+            *first = Some(witness);
+            Ok(())
         }
     }
 }
@@ -64,15 +66,11 @@ fn witness_of(
     requires distinct { AreDistinct names.now }
     ensures { IfOk result (IsWitnessOf functions.now.aig functions.now.places query.now bits.now name.now last names.now) }
 {
-    let aig = &functions.aig;
     let places = &functions.places;
     let vars = query.vars.as_slice();
     let bits = bits.as_slice();
+    let (left, right) = sides_at(alloc, functions, query, bits)?;
     let rows = rows_of(alloc, places, vars, bits, last, names.len())?;
-    let assignment = assignment_of(alloc, aig, places, vars, bits)?;
-    let mut scratch = vec![in alloc; false; aig.size() as usize]?;
-    let left = aig.value(query.left, assignment.as_slice(), scratch.as_mut_slice());
-    let right = aig.value(query.right, assignment.as_slice(), scratch.as_mut_slice());
     let names = names.copy()?;
     Ok(Witness {
         pair: copy_name(name)?,
@@ -81,6 +79,28 @@ fn witness_of(
         right,
         stimulus: Stimulus { names, rows },
     })
+}
+
+/// The values of a query's sides where its variables have these bits, and all others 0.
+fn sides_at(
+    alloc: Global,
+    functions: &Functions,
+    query: &Query,
+    bits: &[bool],
+) -> Result<(bool, bool), NoMemory>
+    requires left { query.now.left.0 < 2 * length functions.now.aig }
+    requires right { query.now.right.0 < 2 * length functions.now.aig }
+    requires each { length query.now.vars ≡ length bits.now }
+    requires within { All (λ v. v < length functions.now.places) query.now.vars }
+    requires distinct { AllPairs (λ u v. u ≢ v) query.now.vars }
+    ensures { IfOk result (λ sides. (sides.0 ≡ value functions.now.aig (assigned_to query.now.vars bits.now) query.now.left.0) × (sides.1 ≡ value functions.now.aig (assigned_to query.now.vars bits.now) query.now.right.0)) }
+{
+    let aig = &functions.aig;
+    let assignment = assignment_of(alloc, aig, &functions.places, query.vars.as_slice(), bits)?;
+    let mut scratch = vec![in alloc; false; aig.size() as usize]?;
+    let left = aig.value(query.left, assignment.as_slice(), scratch.as_mut_slice());
+    let right = aig.value(query.right, assignment.as_slice(), scratch.as_mut_slice());
+    Ok((left, right))
 }
 
 /// The bits of the graph's variables: those of a query have these, all others 0.
