@@ -29,7 +29,7 @@ use Rattle.unate_enable.specs.declared.recovery.Recovery.{Recovery}
 use Rattle.unate_enable.specs.declared.recovery.Recovery.TheVariants as recovery
 use Rattle.aig.specs.Graph.{IsGraph}
 use Rattle.unate_enable.specs.Recovery.{recovery_of, IsAsked, IsAnswer, IsRecovery, HasSelfEdge, IsCase, IsQueryOf, FallsAt, IsNotUnate, IsEnabledAt}
-use Rattle.unate_enable.proofs.EnabledForm.{enabled_loads_or_keeps_in_nets}
+use Rattle.circuit_laws.proofs.EnabledForm.{enabled_loads_or_keeps_in_nets}
 use Rattle.unate_enable.proofs.Cones.{ArePlaces}
 
 abbrev next_of : Equation ℕ → ℕ
