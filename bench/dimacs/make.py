@@ -154,6 +154,8 @@ def at_random(variables, seed):
 
 
 def main():
+    if len(sys.argv) != 2 or sys.argv[1].startswith("-"):
+        sys.exit(__doc__)
     folder = sys.argv[1]
     os.makedirs(folder, exist_ok=True)
     for width in (9, 16, 32, 64, 128, 256):

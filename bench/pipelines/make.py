@@ -126,6 +126,8 @@ def make(folder, name, lines, commands):
 
 
 def main():
+    if len(sys.argv) != 2 or sys.argv[1].startswith("-"):
+        sys.exit(__doc__)
     folder = pathlib.Path(sys.argv[1])
     folder.mkdir(parents=True, exist_ok=True)
     for size in (4, 8, 16, 32):
