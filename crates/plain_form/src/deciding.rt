@@ -4,7 +4,8 @@ ghost use Rattle.std.specs.Prelude.{◌≡◌, ◌+◌, ◌<◌, ◌≤◌, leng
 ghost use Rattle.sec_base.specs.Table.{AreDistinct};
 ghost use Rattle.latch_graph.specs.Graph.{IsGraphOf};
 ghost use Rattle.plain_form.specs.Formed.{IsAcyclic, ArePairsOf};
-ghost use Rattle.plain_form.specs.Found.{IsResultOf, HaveFound, HaveFunctions};
+ghost use Rattle.pair_decide.specs.Queries.{IsQuery};
+ghost use Rattle.plain_form.specs.Found.{IsResultOf, IsSettled, HaveFound, HaveFunctions};
 ghost use Rattle.plain_form.specs.Outcome.{differing};
 ghost use Rattle.plain_form.specs.Variables.{AreInOrder, IsPairQuery};
 
@@ -12,7 +13,7 @@ use crate::merging::merge_variables;
 use crate::pairing::{SignalPair, copy_name, pair_depth};
 use crate::unfolding::Functions;
 use crate::witness::put_first;
-use aig::Lit;
+use aig::{Aig, Lit};
 use cbf_unfold::Unfolded;
 use flat_net::Net;
 use latch_graph::LatchGraph;
@@ -112,8 +113,15 @@ fn decide_next(
         &functions.left[i],
         &functions.right[i],
     )?;
-    let decision = decide(alloc, &functions.aig, &query, conflicts)?;
-    let (result, bits) = result_of(copy_name(&pair.name)?, size, cut, decision);
+    let (result, bits) = settle(
+        alloc,
+        &functions.aig,
+        &query,
+        &pair.name,
+        size,
+        cut,
+        conflicts,
+    )?;
     decided.results.push(result)?;
     put_first(
         alloc,
@@ -126,6 +134,26 @@ fn decide_next(
         columns,
     )?;
     Ok(())
+}
+
+/// The result of the pair of this name and size by its query, and the bits of the query's variables under which the sides differ, if
+/// they do.
+fn settle(
+    alloc: Global,
+    aig: &Aig,
+    query: &Query,
+    name: &PairName,
+    size: u32,
+    cut: bool,
+    conflicts: u32,
+) -> Result<(PairResult, Option<Bits>), NoMemory>
+    requires query { IsQuery aig.now query.now }
+    requires conflicts { conflicts ≤ 200000 }
+    ensures { IfOk result (λ settled. IsSettled aig.now query.now conflicts name.now size cut settled.0 settled.1) }
+{
+    let decision = decide(alloc, aig, query, conflicts)?;
+    let name = copy_name(name)?;
+    Ok(result_of(name, size, cut, decision))
 }
 
 /// Whether two functions always agree, as a query.

@@ -1,6 +1,5 @@
 -- Each pair's query is one of the graph, and its answer that of the pair.
 use Rattle.std.proofs.Common.{◌≡◌, ◌∷◌, ◌++◌, Bool, List, [], take, slice_get, Option, Some, refl, sym, subst, arith}
-use Rattle.witness_report.specs.declared.witness.PairName.{PairName}
 use Rattle.sec_outcome.specs.declared.outcome.PairResult.{PairResult}
 use Rattle.plain_form.specs.declared.pairing.SignalPair.{SignalPair}
 use Rattle.plain_form.specs.Found.{IsResultOf, HaveFound}
@@ -80,8 +79,8 @@ query_of-requires-clause-right c =
     let at : slice_get pairs i ≡ Some p = item_at pairs pairs i p refl c.requires.place c.index-pairs-i.is in
     right_variables a b pairs i p at c.args.columns.now f c.requires.functions c.index-2.result.now c.index-2.ensures
 
-pub decide-requires-clause-query : goal.decide-requires-clause-query
-decide-requires-clause-query c =
+pub settle-requires-clause-query : goal.settle-requires-clause-query
+settle-requires-clause-query c =
     let a = c.args.a.now in
     let b = c.args.b.now in
     let pairs = c.args.pairs.now in
@@ -128,9 +127,9 @@ put_first-requires-clause-sequence c = λ bs e.
     let x = c.requires.functions in
     let size = c.pair_depth-size.result in
     let asks = asks_pair a b pairs i p at c.args.columns.now f x c.index.result.now c.index-2.result.now c.in_ok-query.query c.index.ensures c.index-2.ensures c.keeps-3.ensures.graph c.keeps-4.ensures c.keeps-3.ensures.values c.in_ok-query.ensures in
-    let result : IsResultOf c.in_ok-copy_name.field-0 size c.args.cut c.in_ok-decision.decision c.result_of-result.result.0 (Some bs) =
-    subst (λ (o : Option (List Bool)). IsResultOf c.in_ok-copy_name.field-0 size c.args.cut c.in_ok-decision.decision c.result_of-result.result.0 o) e c.result_of-result.ensures in
-    let differing = is_differing f.aig c.in_ok-query.query c.args.conflicts c.in_ok-copy_name.field-0 size c.args.cut c.in_ok-decision.decision c.result_of-result.result.0 bs c.in_ok-decision.ensures result in
+    let settled = c.in_ok-result.ensures in
+    let result : IsResultOf p.name size c.args.cut settled.0 c.in_ok-result.result (Some bs) = subst (λ (o : Option (List Bool)). IsResultOf p.name size c.args.cut settled.0 c.in_ok-result.result o) e settled.2 in
+    let differing = is_differing f.aig c.in_ok-query.query c.args.conflicts p.name size c.args.cut settled.0 c.in_ok-result.result bs settled.1 result in
     is_sequence asks c.keeps.ensures.sound c.keeps-2.ensures.sound size c.pair_depth-size.ensures c.args.columns.now x.left_columns x.right_columns (left_shown a b pairs i p at c.requires.pairs) (right_shown a b pairs i p at c.requires.pairs) bs differing.difference.each
 
 pub returns : goal.returns
@@ -143,17 +142,18 @@ returns c = λ x before.
     let p : SignalPair = c.index-pairs-i.result in
     let at : slice_get pairs i ≡ Some p = item_at pairs pairs i p refl c.requires.place c.index-pairs-i.is in
     let q = c.in_ok-query.query in
-    let d = c.in_ok-decision.decision in
+    let settled = c.in_ok-result.ensures in
+    let d = settled.0 in
     let columns = c.args.columns.now in
     let size = c.pair_depth-size.result in
-    let r : PairResult = c.result_of-result.result.0 in
-    let bits : Option (List Bool) = c.result_of-result.result.1 in
+    let r : PairResult = c.in_ok-result.result in
+    let bits : Option (List Bool) = c.in_ok-result.bits in
     let asks = asks_pair a b pairs i p at c.args.columns.now f x c.index.result.now c.index-2.result.now c.in_ok-query.query c.index.ensures c.index-2.ensures c.keeps-3.ensures.graph c.keeps-4.ensures c.keeps-3.ensures.values c.in_ok-query.ensures in
-    let is : IsResultOf p.name size c.args.cut d r bits = subst (λ (n : PairName). IsResultOf n size c.args.cut d r bits) c.in_ok-copy_name.ensures c.result_of-result.ensures in
-    let fits = pair_fits asks p.name c.args.cut c.args.conflicts size d r bits c.in_ok-decision.ensures is c.pair_depth-size.ensures in
+    let is : IsResultOf p.name size c.args.cut d r bits = settled.2 in
+    let fits = pair_fits asks p.name c.args.cut c.args.conflicts size d r bits settled.1 is c.pair_depth-size.ensures in
     subst (λ (ps : List SignalPair). HaveFound a b x.left x.right columns c.args.cut c.args.conflicts ps c.push.new.self c.put_first.new.first) (sym (take_next pairs i p at))
     (subst (λ (rs : List PairResult). HaveFound a b x.left x.right columns c.args.cut c.args.conflicts (take i pairs ++ p ∷ []) rs c.put_first.new.first) (sym c.in_ok-push.ensures.ok)
-    (found_more a b x.left x.right columns c.args.cut c.args.conflicts f.aig f.places q d c.in_ok-decision.ensures (take i pairs) c.args.decided.now.results p size r fits
+    (found_more a b x.left x.right columns c.args.cut c.args.conflicts f.aig f.places q d settled.1 (take i pairs) c.args.decided.now.results p size r fits
     (λ bs w difference of.
     is_witness asks c.keeps.ensures.sound c.keeps-2.ensures.sound size c.pair_depth-size.ensures columns x.left_columns x.right_columns (left_shown a b pairs i p at c.requires.pairs) (right_shown a b pairs i p at c.requires.pairs) bs p.name w difference of)
     c.args.decided.now.first c.put_first.new.first bits is before c.in_ok-put_first.ensures))
