@@ -11,7 +11,7 @@ use Rattle.blif_read.specs.declared.reader.Reader.{Reader}
 use Rattle.blif_read.specs.Heads.{Line, line_of, headed, lines_of}
 use Rattle.blif_read.specs.Fault.{fault_of}
 use Rattle.blif_read.specs.Reading.{fault_at, first_fault_after}
-use Rattle.blif_read.specs.State.{TookAnd, TookLine, Means, ReadTo, ReadLines, lines_among, answer_at}
+use Rattle.blif_read.specs.State.{TookAnd, TookLine, Means, ReadTo, TookLines, lines_among, answer_at}
 
 -- from the step on a line's tokens to the line
 pub took_line : (number : ℕ) (t : List ℕ) (ts : List (List ℕ)) (before : List Line) (new : Reader) (result : Result (Unit {0}) Stop) (given : Result (Unit {0}) ReadError) →
@@ -50,7 +50,7 @@ read_on whole raw raws old new u rd step = step_ok whole raw.number (tokens_of r
 step_err : (text : List ℕ) (number : ℕ) (tokens : List (List ℕ)) (rest : List TokenLine) (old new : Reader) (e : ReadError) →
     ReadTo (lines_of text) (map headed (cond (not (is_empty tokens)) (record { number = number; tokens = tokens } ∷ rest) rest)) old →
     ((before : List Line) → Means old before → TookLine number tokens before new (Err e)) →
-    ReadLines text (Err e)
+    TookLines text new (Err e)
 step_err text number tokens rest old new read.NoMemory rd step = tt
 step_err text number [] rest old new (read.At line k) rd step = absurd (step rd.before rd.means)
 step_err text number (t ∷ ts) rest old new (read.At line k) rd step =
@@ -61,7 +61,7 @@ step_err text number (t ∷ ts) rest old new (read.At line k) rd step =
 pub read_stops : (text : List ℕ) (raw : RawLine) (raws : List RawLine) (old new : Reader) (e : ReadError) →
     ReadTo (lines_of text) (lines_among (raw ∷ raws)) old →
     ((before : List Line) → Means old before → TookLine raw.number (tokens_of raw.bytes) before new (Err e)) →
-    ReadLines text (Err e)
+    TookLines text new (Err e)
 read_stops text raw raws old new e rd step = step_err text raw.number (tokens_of raw.bytes) (filter (λ line. not (is_empty line.tokens)) (map token_line raws)) old new e rd step
 
 -- before the first line

@@ -21,7 +21,7 @@ use Rattle.blif_read.specs.Heads.{Line, line_of, lines_of, headed, last_or_empty
 use Rattle.blif_read.specs.Rows.{cover_of}
 use Rattle.blif_read.specs.Spelled.{edge_of, init_of, blocks_of, names_on, clocks_on, names_of, statements_of, model_of}
 use Rattle.blif_read.specs.Fault.{type_fault, init_fault, open_block, open_model, last_names, own_fault, fault_of}
-use Rattle.blif_read.specs.Reading.{first_fault_after, back_over}
+use Rattle.blif_read.specs.Reading.{first_fault_after, back_over, spelled}
 
 -- a part of a line was read: it has this fault, or none and this value
 abbrev pub Took : {X : Type 0} → Option ReadKind → X → Result X Stop → Type 0
@@ -159,10 +159,20 @@ abbrev pub lines_among : List RawLine → List Line
 lines_among raws = map headed (filter (λ line. not (is_empty line.tokens)) (map token_line raws))
 
 -- all lines of the text were taken, or this is the first fault of a line
-abbrev pub ReadLines : List ℕ → Result Reader ReadError → Type 0
-ReadLines text (Ok reader) = ReadTo (lines_of text) [] reader
-ReadLines text (Err read.NoMemory) = Unit {0}
-ReadLines text (Err (read.At line kind)) = first_fault_after [] (lines_of text) ≡ Some (record { line = line; kind = kind })
+abbrev pub TookLines : List ℕ → Reader → Result (Unit {0}) ReadError → Type 0
+TookLines text new (Ok u) = ReadTo (lines_of text) [] new
+TookLines text new (Err read.NoMemory) = Unit {0}
+TookLines text new (Err (read.At line kind)) = first_fault_after [] (lines_of text) ≡ Some (record { line = line; kind = kind })
+
+-- no line of the text is faulty, and these are the models that it spells, or this is the first fault of a line
+abbrev pub ReadModels : List ℕ → Result (List BlifModel) ReadError → Type 0
+ReadModels text (Ok models) = (first_fault_after [] (lines_of text) ≡ None) × (models ≡ spelled text)
+ReadModels text (Err read.NoMemory) = Unit {0}
+ReadModels text (Err (read.At line kind)) = first_fault_after [] (lines_of text) ≡ Some (record { line = line; kind = kind })
+
+-- an open model of this name, of which no line was read yet
+abbrev pub new_model : List ℕ → OpenModel
+new_model name = record { name = name; inputs = []; outputs = []; clocks = []; statements = []; block = None }
 
 -- the bytes of these lines
 abbrev pub bytes_of : List RawLine → ℕ

@@ -14,8 +14,9 @@ use crate::head::Head;
 use crate::names::{add_names, add_new};
 use crate::statements::{latch_of, subckt_of};
 use crate::stop::{Stop, fault};
-use sec_base::{NameTable, NoMemory, Seq, Word};
+use sec_base::{NameTable, NoMemory, Seq, Word, Words};
 use std::alloc::Global;
+use std::mem;
 
 /// A model whose lines are being read.
 #[derive(Debug, Drop)]
@@ -141,25 +142,29 @@ impl OpenModel {
         }
     }
 
-    /// The model, where no line of it comes any more.
-    pub(crate) fn close(mut self, alloc: Global) -> Result<BlifModel, NoMemory>
-        ensures { (block : List Line) → MeansOpen self block → IfOk result (λ model. model ≡ model_of block) }
+    /// The names of its ports, which are left empty.
+    fn take_ports(&mut self, alloc: Global) -> Result<(Words, Words, Words), NoMemory>
+        ensures names { IfOk result (λ w. (w.0 ≡ self.old.inputs) × ((w.1 ≡ self.old.outputs) × (w.2 ≡ self.old.clocks))) }
+        ensures same { OnOk result ((self.new.name ≡ self.old.name) × (self.new.statements ≡ self.old.statements)) }
+    {
+        let inputs = mem::replace(&mut self.inputs, NameTable::new(alloc)).into_words(alloc)?;
+        let outputs = mem::replace(&mut self.outputs, NameTable::new(alloc)).into_words(alloc)?;
+        let clocks = mem::replace(&mut self.clocks, NameTable::new(alloc)).into_words(alloc)?;
+        Ok((inputs, outputs, clocks))
+    }
+
+    /// The model, where no line of it comes any more. What was read is moved out.
+    pub(crate) fn close(&mut self, alloc: Global) -> Result<BlifModel, NoMemory>
+        ensures { (block : List Line) → MeansOpen self.old block → IfOk result (λ model. model ≡ model_of block) }
     {
         self.end_rows()?;
-        let OpenModel {
-            name,
+        let (inputs, outputs, clocks) = self.take_ports(alloc)?;
+        Ok(BlifModel {
+            name: mem::replace(&mut self.name, Seq::new(alloc)),
             inputs,
             outputs,
             clocks,
-            statements,
-            block: _,
-        } = self;
-        Ok(BlifModel {
-            name,
-            inputs: inputs.into_words(alloc)?,
-            outputs: outputs.into_words(alloc)?,
-            clocks: clocks.into_words(alloc)?,
-            statements,
+            statements: mem::replace(&mut self.statements, Seq::new(alloc)),
         })
     }
 }

@@ -6,7 +6,7 @@ ghost use Rattle.blif_read.specs.Heads.{Line, line_of, count_fits};
 ghost use Rattle.blif_read.specs.Spelled.{models_of};
 ghost use Rattle.blif_read.specs.Fault.{fault_of, word_fault, row_line_fault, open_model, is_model_head};
 ghost use Rattle.blif_read.specs.Reading.{Reads};
-ghost use Rattle.blif_read.specs.State.{Means, TookAnd, TookWord, TookLine, ReadLines, line_with, is_word, stays, refusal_at};
+ghost use Rattle.blif_read.specs.State.{Means, TookAnd, TookWord, TookLine, TookLines, ReadModels, line_with, new_model, is_word, stays, refusal_at};
 ghost use Rattle.blif_read.specs.declared.head.Head.TheVariants as head;
 
 use crate::design::{BlifModels, Design};
@@ -16,8 +16,9 @@ use crate::names::word_of;
 use crate::open_model::OpenModel;
 use crate::stop::{Stop, fault};
 use blif_lines::{Lines, RawLine, tokens_of};
-use sec_base::{NameTable, NoMemory, Seq};
+use sec_base::{NameTable, NoMemory, Seq, Word};
 use std::alloc::Global;
+use std::mem;
 
 /// What was read so far.
 #[derive(Debug, Drop)]
@@ -44,10 +45,25 @@ impl Reader {
     fn close(&mut self, alloc: Global) -> Result<(), NoMemory>
         ensures { (before : List Line) → Means self.old before → OnOk result ((self.new.names ≡ self.old.names) × (self.new.current ≡ None) × (self.new.models ≡ models_of before)) }
     {
-        if let Some(current) = self.current.take() {
+        if let Some(current) = &mut self.current {
             self.models.push(current.close(alloc)?)?;
         }
+        self.leave();
         Ok(())
+    }
+
+    /// Leaves no model open.
+    fn leave(&mut self)
+        ensures { self.new ≡ record self.old { current = None } }
+    {
+        self.current = None;
+    }
+
+    /// Opens a model of this name in place of the one that is closed.
+    fn open(&mut self, alloc: Global, name: Word)
+        ensures { self.new ≡ record self.old { current = Some (new_model name) } }
+    {
+        self.current = Some(OpenModel::new(alloc, name));
     }
 
     /// Opens the model of this name.
@@ -58,7 +74,7 @@ impl Reader {
         if !self.names.add(alloc, name)? {
             return fault(ReadKind::DuplicateModel);
         }
-        self.current = Some(OpenModel::new(alloc, word_of(alloc, name)?));
+        self.open(alloc, word_of(alloc, name)?);
         Ok(())
     }
 
@@ -174,17 +190,35 @@ impl Reader {
         Ok(())
     }
 
-    /// The models, where no line comes any more.
-    fn finish(mut self, alloc: Global) -> Result<BlifModels, NoMemory>
-        ensures { (before : List Line) → Means self before → IfOk result (λ models. models ≡ models_of before) }
+    /// Takes the lines of a text.
+    fn take_lines(&mut self, alloc: Global, text: &[u8]) -> Result<(), ReadError>
+        requires begun { Means self.old [] }
+        requires short { length text.now ≤ 16777216 }
+        ensures { TookLines text.now self.new result }
+    {
+        let mut lines = Lines::new(text);
+        while let Some(line) = lines.next_line(alloc)? {
+            self.take_line(alloc, &line)?;
+        }
+        Ok(())
+    }
+
+    /// The models of a text, or its first faulty line.
+    fn read(&mut self, alloc: Global, text: &[u8]) -> Result<BlifModels, ReadError>
+        requires begun { Means self.old [] }
+        requires short { length text.now ≤ 16777216 }
+        ensures { ReadModels text.now result }
+    {
+        self.take_lines(alloc, text)?;
+        Ok(self.finish(alloc)?)
+    }
+
+    /// The models, where no line comes any more. They are moved out.
+    fn finish(&mut self, alloc: Global) -> Result<BlifModels, NoMemory>
+        ensures { (before : List Line) → Means self.old before → IfOk result (λ models. models ≡ models_of before) }
     {
         self.close(alloc)?;
-        let Reader {
-            names: _,
-            models,
-            current: _,
-        } = self;
-        Ok(models)
+        Ok(mem::replace(&mut self.models, Seq::new(alloc)))
     }
 }
 
@@ -198,16 +232,13 @@ fn at_line(line: u32, stop: Stop) -> ReadError
     }
 }
 
-fn read_lines(alloc: Global, text: &[u8]) -> Result<Reader, ReadError>
+/// The models of a text, or its first faulty line.
+fn read_models(alloc: Global, text: &[u8]) -> Result<BlifModels, ReadError>
     requires { length text.now ≤ 16777216 }
-    ensures { ReadLines text.now result }
+    ensures { ReadModels text.now result }
 {
     let mut reader = Reader::new(alloc);
-    let mut lines = Lines::new(text);
-    while let Some(line) = lines.next_line(alloc)? {
-        reader.take_line(alloc, &line)?;
-    }
-    Ok(reader)
+    reader.read(alloc, text)
 }
 
 /// Reads a BLIF text as a design, or says which line is the first faulty one and what is wrong with
@@ -217,7 +248,7 @@ pub fn read_design(alloc: Global, text: &[u8]) -> Result<Design, ReadError>
     requires { length text.now ≤ 16777216 }
     ensures { Reads text.now result }
 {
-    let models = read_lines(alloc, text)?.finish(alloc)?;
+    let models = read_models(alloc, text)?;
     if models.len() == 0 {
         return Err(ReadError::At {
             line: 0,
