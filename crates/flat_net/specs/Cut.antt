@@ -68,3 +68,9 @@ abbrev pub moved_to : List Driver → Driver → Driver
 moved_to places (driver.Input i) = driver.Input i
 moved_to places (driver.Gate j) = driver.Gate j
 moved_to places (driver.Latch j) = unwrap_or (slice_get places j) (driver.Latch j)
+
+-- the drivers after the cut: each latch's is that of its new place
+pub record AreMoved (n : NetView) (names : List (List ℕ)) (drivers : List Driver) : Type 0 where
+  pub places : List Driver
+  pub right : ArePlaces n names places
+  pub moved : drivers ≡ map (moved_to places) n.drivers

@@ -4,10 +4,10 @@ ghost use Rattle.std.specs.Prelude.{◌≡◌, ◌+◌, ◌^◌, ◌<◌, ◌++�
 ghost use Rattle.std.specs.List.{filter};
 ghost use Rattle.sec_base.specs.Table.{AreDistinct};
 ghost use Rattle.flat_net.specs.View.{circuit_of};
-ghost use Rattle.flat_net.specs.Cut.{latch_at, exposed_names, as_input, as_output, stays, moved_to, IsCut, IsCutCircuit, ArePlaces};
+ghost use Rattle.flat_net.specs.Cut.{latch_at, exposed_names, as_input, as_output, stays, moved_to, IsCut, IsCutCircuit, ArePlaces, AreMoved};
 
 use super::Net;
-use crate::parts::{Driver, LatchAt, Port};
+use crate::parts::{Driver, Gate, LatchAt, Port};
 use sec_base::{Cover, Duplicate, Ids, NameTable, NoMemory, Word};
 use std::alloc::Global;
 
@@ -31,18 +31,80 @@ impl Net {
         ensures circuit { IfOk result (λ net. IsCutCircuit (exposed_names self.now exposed.now) (circuit_of self.now) (circuit_of net)) }
     {
         self.keeps();
-        let names = self.exposed_names(alloc, exposed)?;
-        let places = self.places(alloc, &names)?;
+        let (inputs, outputs) = self.ports_after(alloc, exposed)?;
+        let (latches, drivers) = self.latches_after(alloc, exposed)?;
+        let (gates, covers) = self.gates_copied(alloc)?;
+        let (names, clock) = self.names_copied(alloc)?;
         Ok(Net {
-            inputs: self.inputs_after(alloc, exposed)?,
-            outputs: self.outputs_after(alloc, exposed)?,
-            gates: copy_all(alloc, self.gates())?,
-            latches: self.latches_left(alloc, &names)?,
-            covers: copy_all(alloc, self.covers_held())?,
-            drivers: moved_drivers(alloc, self.drivers_held(), places.as_slice())?,
-            names: self.names_copied(alloc)?,
-            clock: self.clock_copied()?,
+            inputs,
+            outputs,
+            gates,
+            latches,
+            covers,
+            drivers,
+            names,
+            clock,
         })
+    }
+
+    /// The inputs and the outputs, each with what is exposed behind.
+    fn ports_after(
+        &self,
+        alloc: Global,
+        exposed: &[u32],
+    ) -> Result<(Vec<Port>, Vec<Port>), NoMemory>
+        requires { All (λ j. j < length self.now.latches) exposed.now }
+        ensures inputs { IfOk result (λ p. p.0.items ≡ self.now.inputs ++ map (λ j. as_input (latch_at self.now j)) exposed.now) }
+        ensures outputs { IfOk result (λ p. p.1.items ≡ self.now.outputs ++ map (λ j. as_output (latch_at self.now j)) exposed.now) }
+    {
+        let inputs = self.inputs_after(alloc, exposed)?;
+        let outputs = self.outputs_after(alloc, exposed)?;
+        Ok((inputs, outputs))
+    }
+
+    /// The latches that stay, and what drives each signal then.
+    fn latches_after(
+        &self,
+        alloc: Global,
+        exposed: &[u32],
+    ) -> Result<(Vec<LatchAt>, Vec<Driver>), NoMemory>
+        requires within { All (λ j. j < length self.now.latches) exposed.now }
+        requires distinct { AreDistinct exposed.now }
+        ensures latches { IfOk result (λ p. p.0.items ≡ filter (stays (exposed_names self.now exposed.now)) self.now.latches) }
+        ensures drivers { IfOk result (λ p. AreMoved self.now (exposed_names self.now exposed.now) p.1.items) }
+    {
+        self.keeps();
+        let names = self.exposed_names(alloc, exposed)?;
+        let drivers = self.drivers_after(alloc, &names)?;
+        let latches = self.latches_left(alloc, &names)?;
+        Ok((latches, drivers))
+    }
+
+    fn drivers_after(&self, alloc: Global, names: &NameTable) -> Result<Vec<Driver>, NoMemory>
+        requires { length self.now.inputs + length names.now < 2 ^ 32 }
+        ensures { IfOk result (λ drivers. AreMoved self.now names.now drivers.items) }
+    {
+        let places = self.places(alloc, names)?;
+        let drivers = moved_drivers(alloc, self.drivers_held(), places.as_slice())?;
+        Ok(drivers)
+    }
+
+    fn gates_copied(&self, alloc: Global) -> Result<(Vec<Gate>, Vec<Cover>), NoMemory>
+        ensures gates { IfOk result (λ p. p.0.items ≡ self.now.gates) }
+        ensures covers { IfOk result (λ p. p.1.items ≡ self.now.covers) }
+    {
+        let gates = copy_all(alloc, self.gates())?;
+        let covers = copy_all(alloc, self.covers_held())?;
+        Ok((gates, covers))
+    }
+
+    fn names_copied(&self, alloc: Global) -> Result<(NameTable, Option<Word>), NoMemory>
+        ensures names { IfOk result (λ p. p.0 ≡ self.now.names) }
+        ensures clock { IfOk result (λ p. p.1 ≡ self.now.clock) }
+    {
+        let names = self.table_copied(alloc)?;
+        let clock = self.clock_copied()?;
+        Ok((names, clock))
     }
 
     fn covers_held(&self) -> &[Cover]
@@ -57,7 +119,7 @@ impl Net {
         self.drivers.as_slice()
     }
 
-    fn names_copied(&self, alloc: Global) -> Result<NameTable, NoMemory>
+    fn table_copied(&self, alloc: Global) -> Result<NameTable, NoMemory>
         ensures { IfOk result (λ names. names ≡ self.now.names) }
     {
         self.names.copy(alloc)
