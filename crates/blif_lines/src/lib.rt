@@ -8,8 +8,6 @@ mod bytes;
 mod line;
 mod logical;
 mod physical;
-#[cfg(test)]
-mod tests;
 mod tokens;
 
 pub use line::RawLine;

@@ -12,12 +12,8 @@ mod names;
 mod open_model;
 mod reader;
 mod rows;
-#[cfg(test)]
-mod slow;
 mod statements;
 mod stop;
-#[cfg(test)]
-mod tests;
 
 pub use design::{BlifModel, BlifModels, Design, Pair, Pairs, Statement, Statements};
 pub use error::{ReadError, ReadKind};

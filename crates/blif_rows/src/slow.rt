@@ -1,8 +1,8 @@
 //! A plain slow reading of a text, by the rules of the format: all lines first, then for each line a look back over all
 //! lines before it. It keeps nothing from line to line, and takes nothing of the reader.
 
-use crate::tests::put;
-use sec_base::NoMemory;
+use crate::told::put;
+use sec_base::{MAX_NAME_BYTES, NoMemory};
 use std::alloc::Global;
 use std::mem;
 
@@ -324,7 +324,7 @@ fn fault_of(before: &[Line], line: &Line) -> Option<&'static str> {
     if !count_fits(word, line.args().len()) {
         return Some("BadCount");
     }
-    if line.args().iter().any(|token| token.len() > 4_096) {
+    if line.args().iter().any(|token| token.len() > MAX_NAME_BYTES) {
         return Some("NameTooLong");
     }
     own_fault(before, model, line)
