@@ -7,8 +7,6 @@ mod marked;
 mod marking;
 mod power;
 mod sim;
-#[cfg(test)]
-mod tests;
 
 pub use laws::has_run;
 pub use marked::MarkedSim;

@@ -9,8 +9,6 @@ mod pairs;
 mod picking;
 mod readers;
 mod remaining;
-#[cfg(test)]
-mod tests;
 mod trying;
 mod walking;
 

@@ -4,7 +4,5 @@
 
 mod exposing;
 mod pairing;
-#[cfg(test)]
-mod tests;
 
 pub use exposing::{ExposeError, Exposure, expose};

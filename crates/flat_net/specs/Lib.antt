@@ -1,3 +1,4 @@
+pub mod Comparable
 pub mod View
 pub mod Sound
 pub mod Makes

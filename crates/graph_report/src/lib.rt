@@ -2,8 +2,6 @@
 #![tactic(auto)]
 
 mod report;
-#[cfg(test)]
-mod tests;
 mod writing;
 
 pub use report::graph_report;

@@ -11,7 +11,7 @@ use Rattle.sec_base.specs.Table.{is_among as is_entry}
 use Rattle.circuit_theory.specs.Names.{same_name, is_among}
 use Rattle.circuit_theory.specs.Interface.{Ports, is_clock, inputs_beside, first_missing}
 use Rattle.circuit_theory.proofs.Inputs.{same_name-sound}
-use Rattle.circuit_theory.proofs.Numbers.{same_name-refl, is_among-sound, is_among-complete}
+use Rattle.circuit_theory.proofs.Numbers.{same_name-refl, is_among-sound, is_among-complete, slice_get-map}
 use Rattle.flat_net.specs.declared.parts.Port.{Port}
 use Rattle.flat_net.specs.declared.parts.Gate.{Gate}
 use Rattle.flat_net.specs.declared.parts.LatchAt.{LatchAt}
@@ -21,7 +21,7 @@ use Rattle.flat_net.specs.declared.parts.Driver.TheVariants as driver
 use Rattle.flat_net.specs.Sound.{IsSound}
 use Rattle.std.proofs.lemmas.Option.{slice_get_within, get_or_from_slice_get, slice_get_read}
 use Rattle.circuit_theory.proofs.Lists.{at_of, of_at, Contains-map, Contains-map_from, Contains-filter}
-use Rattle.sec_check.proofs.Designs.{from_map, at_map}
+use Rattle.circuit_laws.proofs.Designs.{map_at}
 use Rattle.sec_check.proofs.Shared.{some_is, Contains-filter_in, filter-passed}
 use Rattle.sec_check.specs.Numbered.{stays}
 use Rattle.flat_net.proofs.PlaceLists.{filter-take}
@@ -104,7 +104,7 @@ fresh_entry n sound other i p at = go (is_entry names p.name) refl
         let there = at_of (take i (map (λ (q : Port). q.name) n.inputs)) p.name before in
         let low = slice_get-take i (map (λ (q : Port). q.name) n.inputs) there.0 p.name there.1 in
         let below : there.0 < i = low.0 in
-        let own = from_map (λ (q : Port). q.name) n.inputs there.0 p.name low.1 in
+        let own = map_at (λ (q : Port). q.name) n.inputs there.0 p.name low.1 in
         let same : there.0 ≡ i = name_once n sound there.0 i own.0 p own.1 at own.2 in
         omega arith
 
@@ -127,7 +127,7 @@ missing_more names others i name at =
 pub beside_more : (n : NetView) → IsSound n → (other : Ports) (i : ℕ) (p : Port) → slice_get n.inputs i ≡ Some p →
     filter (stays (ports_of n) other) (take (i + 1) (map (λ (q : Port). q.name) n.inputs))
     ≡ cond (stays (ports_of n) other p.name) (filter (stays (ports_of n) other) (take i (map (λ (q : Port). q.name) n.inputs)) ++ p.name ∷ []) (filter (stays (ports_of n) other) (take i (map (λ (q : Port). q.name) n.inputs)))
-beside_more n sound other i p at = filter-take (stays (ports_of n) other) (map (λ (q : Port). q.name) n.inputs) i p.name (at_map (λ (q : Port). q.name) n.inputs i p at)
+beside_more n sound other i p at = filter-take (stays (ports_of n) other) (map (λ (q : Port). q.name) n.inputs) i p.name (slice_get-map (λ (q : Port). q.name) n.inputs i p at)
 
 -- the table after an input that stays
 pub beside_kept : (n : NetView) → IsSound n → (other : Ports) (i : ℕ) (p : Port) (old new : List (List ℕ)) → slice_get n.inputs i ≡ Some p → stays (ports_of n) other p.name ≡ true →

@@ -1,10 +1,8 @@
 pub mod Columns
 pub mod CutNets
 pub mod CutPairs
-pub mod Designs
 pub mod Interfaces
 pub mod Leaves
-pub mod Loaded
 pub mod Meaning
 pub mod NamedPairs
 pub mod Numbering
@@ -15,5 +13,3 @@ pub mod Sequences
 pub mod Shared
 pub mod ToldCycles
 pub mod Uncut
-pub mod DesignLatches
-pub mod DesignPlaces

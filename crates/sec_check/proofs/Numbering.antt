@@ -10,7 +10,7 @@ use Rattle.sec_check.specs.Choosing.{AreNumbered}
 use Rattle.sec_check.specs.Compared.{InterfaceFails, RefusesName}
 use Rattle.sec_check.specs.declared.comparing.CompareError.{CompareError}
 use Rattle.sec_check.specs.declared.comparing.CompareError.TheVariants as refused
-use Rattle.sec_check.proofs.Designs.{from_map}
+use Rattle.circuit_laws.proofs.Designs.{map_at}
 use Rattle.std.proofs.lemmas.Option.{slice_get_within, slice_get-get_or}
 use Rattle.circuit_theory.specs.Names.{is_among}
 use Rattle.circuit_theory.specs.Interface.{Ports, inputs_beside, shared_inputs, first_missing, first_mismatch, ◌or_else◌, AreNumbersOf, AreOrders}
@@ -182,8 +182,8 @@ few_shared a b shared is =
 -- no input name of a net stands twice
 pub inputs_once : (n : NetView) → IsSound n → AreDistinct (map (λ (p : Port). p.name) n.inputs)
 inputs_once n sound i j name hi hj =
-    let p = from_map (λ (p : Port). p.name) n.inputs i name hi in
-    let q = from_map (λ (p : Port). p.name) n.inputs j name hj in
+    let p = map_at (λ (p : Port). p.name) n.inputs i name hi in
+    let q = map_at (λ (p : Port). p.name) n.inputs j name hj in
     name_once n sound i j p.0 q.0 p.1 q.1 (p.2 ∙ sym q.2)
 
 -- the numbers of both circuits, one after the other

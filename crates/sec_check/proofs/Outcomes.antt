@@ -22,7 +22,7 @@ use Rattle.sec_check.specs.declared.comparing.CompareError.TheVariants as refuse
 use Rattle.sec_check.specs.Choosing.{IsChosen, AreCutBy, AreNumbered}
 use Rattle.sec_check.specs.Compared.{InterfacesMatch, AreTooLarge, IsCompared, Compared}
 use Rattle.sec_check.specs.Fitting.{AreCutAt, OutcomeFits, columns_of, is_cut}
-use Rattle.sec_check.specs.Loading.{IsComparable}
+use Rattle.flat_net.specs.Comparable.{IsComparable}
 use Rattle.sec_check.proofs.Columns.{left_read, right_read}
 use Rattle.sec_check.proofs.Meaning.{they_are_equal, makes_differ, makes_cuts_differ}
 use Rattle.sec_check.proofs.Shared.{are_matched}

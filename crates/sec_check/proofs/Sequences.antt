@@ -15,7 +15,7 @@ use Rattle.circuit_theory.proofs.Lists.{Contains-head, Contains-tail, of_at}
 use Rattle.circuit_theory.proofs.Numbers.{slice_get-map, beside_at}
 use Rattle.circuit_laws.proofs.Windows.{row_value-is}
 use Rattle.witness_report.specs.declared.witness.Witness.{Witness}
-use Rattle.sec_check.specs.Shown.{Obeys}
+use Rattle.witness_report.specs.Shown.{Obeys}
 use Rattle.sec_check.proofs.Leaves.{run_by_leaves, shared_name}
 
 -- the rows of a sequence, in length

@@ -18,7 +18,7 @@ use Rattle.plain_form.specs.Formed.{IsAcyclic, IsLight, IsTooLarge}
 use Rattle.sec_check.specs.declared.comparing.CompareError.{CompareError}
 use Rattle.sec_check.specs.declared.comparing.CompareError.TheVariants as refused
 use Rattle.sec_check.specs.Fitting.{IsChoice, AreCutAt, OutcomeFits}
-use Rattle.sec_check.specs.Shown.{MakesDiffer, MakesCutsDiffer, AgreeFrom}
+use Rattle.witness_report.specs.Shown.{MakesDiffer, MakesCutsDiffer, AgreeFrom}
 
 -- the cycle, if any, that is told of a latch graph
 abbrev pub IsCycleOf : NetView → Option (List (List ℕ)) → Type 0

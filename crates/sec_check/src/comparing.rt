@@ -8,7 +8,7 @@ ghost use Rattle.flat_net.specs.View.{ports_of};
 ghost use Rattle.latch_graph.specs.Graph.{IsGraphOf};
 ghost use Rattle.sec_check.specs.Choosing.{IsChosen, AreCutBy};
 ghost use Rattle.sec_check.specs.Compared.{Compared, InterfacesMatch};
-ghost use Rattle.sec_check.specs.Loading.{IsComparable};
+ghost use Rattle.flat_net.specs.Comparable.{IsComparable};
 
 use crate::choosing::choose;
 use crate::cycles::graph_of;
@@ -23,7 +23,7 @@ use sec_outcome::{Outcome, Settings};
 use std::alloc::Global;
 
 /// Why two circuits aren't compared.
-#[derive(Debug, Drop)]
+#[derive(Drop)]
 pub enum CompareError {
     /// The first name that one circuit has and the other lacks, in the order A's inputs missing in B, B's in A, A's outputs
     /// missing in B, B's in A.
@@ -74,12 +74,57 @@ pub fn compare(
     if exposure.names.len() == 0 {
         return compare_cut(alloc, a, b, a, b, &left, &right, shared, exposure, settings);
     }
+    compare_exposed(alloc, a, b, shared, exposure, settings)
+}
+
+/// Compares the circuits by the nets in which the exposed latches are cut out.
+fn compare_exposed(
+    alloc: Global,
+    a: &Net,
+    b: &Net,
+    shared: NameTable,
+    exposure: Exposure,
+    settings: &Settings,
+) -> Result<Outcome, CompareError>
+    requires conflicts { settings.now.conflicts ≤ 200000 }
+    requires left { IsComparable a.now }
+    requires right { IsComparable b.now }
+    requires matches { InterfacesMatch a.now b.now }
+    requires shared { shared ≡ shared_inputs (ports_of a.now) (ports_of b.now) }
+    requires chosen { IsChosen a.now b.now settings.now.expose exposure }
+    ensures { Compared a.now b.now settings.now result }
+{
     let left_cut = a.cut(alloc, &exposure.left)?;
     let right_cut = b.cut(alloc, &exposure.right)?;
-    let left = graph_of(alloc, &left_cut)?;
-    let right = graph_of(alloc, &right_cut)?;
+    compare_nets(
+        alloc, a, b, &left_cut, &right_cut, shared, exposure, settings,
+    )
+}
+
+/// Compares the circuits by the nets in which the exposed latches are cut out.
+fn compare_nets(
+    alloc: Global,
+    a: &Net,
+    b: &Net,
+    left_cut: &Net,
+    right_cut: &Net,
+    shared: NameTable,
+    exposure: Exposure,
+    settings: &Settings,
+) -> Result<Outcome, CompareError>
+    requires conflicts { settings.now.conflicts ≤ 200000 }
+    requires left { IsComparable a.now }
+    requires right { IsComparable b.now }
+    requires matches { InterfacesMatch a.now b.now }
+    requires shared { shared ≡ shared_inputs (ports_of a.now) (ports_of b.now) }
+    requires chosen { IsChosen a.now b.now settings.now.expose exposure }
+    requires cut { AreCutBy a.now b.now exposure left_cut.now right_cut.now }
+    ensures { Compared a.now b.now settings.now result }
+{
+    let left = graph_of(alloc, left_cut)?;
+    let right = graph_of(alloc, right_cut)?;
     compare_cut(
-        alloc, a, b, &left_cut, &right_cut, &left, &right, shared, exposure, settings,
+        alloc, a, b, left_cut, right_cut, &left, &right, shared, exposure, settings,
     )
 }
 

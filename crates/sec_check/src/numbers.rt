@@ -1,11 +1,11 @@
 //! Which inputs two circuits share, and the numbers of their inputs.
 
-ghost use Rattle.std.specs.Prelude.{◌≡◌, ◌+◌, ◌^◌, ◌<◌, ◌≤◌, not, None, Some, List, ℕ, length, map, IfOk, IfErr, IfSome, slice_get, option_map, Option};
+ghost use Rattle.std.specs.Prelude.{◌≡◌, ◌+◌, ◌^◌, ◌<◌, ◌≤◌, not, None, Some, List, ℕ, length, map, IfOk, OnOk, IfErr, IfSome, slice_get, option_map, Option};
 ghost use Rattle.circuit_theory.specs.Interface.{first_missing, first_mismatch, inputs_beside, is_clock, shared_inputs, AreOrders, ◌or_else◌};
 ghost use Rattle.flat_net.specs.View.{ports_of};
 ghost use Rattle.sec_check.specs.Choosing.{AreNumbered};
 ghost use Rattle.sec_check.specs.Compared.{InterfaceFails, RefusesName};
-ghost use Rattle.sec_check.specs.Loading.{IsComparable};
+ghost use Rattle.flat_net.specs.Comparable.{IsComparable};
 ghost use Rattle.sec_check.specs.Numbered.{AreNumbers, stays};
 
 use crate::comparing::CompareError;
@@ -114,12 +114,31 @@ pub(crate) fn shared_names(alloc: Global, a: &Net, b: &Net) -> Result<NameTable,
 {
     let left = inputs_beside(alloc, a, b)?;
     let right = inputs_beside(alloc, b, a)?;
+    match_names(alloc, a, b, &left, &right)?;
+    Ok(left)
+}
+
+/// Refuses the first name that is missing on the other side, of the inputs and then of the outputs.
+fn match_names(
+    alloc: Global,
+    a: &Net,
+    b: &Net,
+    left: &NameTable,
+    right: &NameTable,
+) -> Result<(), CompareError>
+    requires left_comparable { IsComparable a.now }
+    requires right_comparable { IsComparable b.now }
+    requires left { left.now ≡ inputs_beside (ports_of a.now) (ports_of b.now) }
+    requires right { right.now ≡ inputs_beside (ports_of b.now) (ports_of a.now) }
+    ensures ok { OnOk result (first_mismatch (ports_of a.now) (ports_of b.now) ≡ None) }
+    ensures err { IfErr result (InterfaceFails a.now b.now) }
+{
     let left_outputs = output_names(alloc, a.outputs())?;
     let right_outputs = output_names(alloc, b.outputs())?;
-    if let Some(name) = first_mismatch(&left, &right, &left_outputs, &right_outputs) {
+    if let Some(name) = first_mismatch(left, right, &left_outputs, &right_outputs) {
         return Err(mismatch_error(alloc, name));
     }
-    Ok(left)
+    Ok(())
 }
 
 /// The refusal of the name.

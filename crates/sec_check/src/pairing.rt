@@ -7,7 +7,7 @@ ghost use Rattle.sec_base.specs.Table.{AreDistinct};
 ghost use Rattle.flat_net.specs.Cut.{latch_at};
 ghost use Rattle.flat_net.specs.View.{ports_of};
 ghost use Rattle.sec_check.specs.Choosing.{AreNamedAt};
-ghost use Rattle.sec_check.specs.Loading.{IsComparable};
+ghost use Rattle.flat_net.specs.Comparable.{IsComparable};
 ghost use Rattle.sec_check.specs.Pairing.{IsOutputPair, IsNextPairAt, ArePairs};
 
 use exposure::Exposure;

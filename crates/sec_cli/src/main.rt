@@ -1,22 +1,10 @@
 //! `sec`: decides whether two circuits in BLIF behave alike.
 #![tactic(auto)]
 
-mod comparison;
-#[cfg(test)]
-mod expose_tests;
-mod finding;
-#[cfg(test)]
-mod hostile;
-mod reports;
-mod run;
-mod status;
-#[cfg(test)]
-mod tests;
-mod writing;
-
 ghost use Rattle.std.specs.Prelude.{◌≡◌, ◌≢◌};
 
 use sec_base::{FileShelf, StdSink};
+use sec_run::run;
 use std::env;
 use std::io::ErrorKind;
 use std::process::ExitCode;
@@ -47,6 +35,6 @@ fn main(rt: HostRuntime) -> ExitCode {
     }
     let mut shelf = FileShelf::new(&rt);
     let mut out = StdSink::new(&rt);
-    let status = run::run(alloc, words.as_slice(), &mut shelf, &mut out);
+    let status = run(alloc, words.as_slice(), &mut shelf, &mut out);
     ExitCode::from(status.code())
 }

@@ -8,8 +8,6 @@ mod command;
 mod jobs;
 mod settings;
 mod task;
-#[cfg(test)]
-mod tests;
 
 pub use jobs::{WordsError, job};
 pub use settings::Settings;

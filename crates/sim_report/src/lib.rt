@@ -7,8 +7,6 @@ mod cycles;
 mod laws;
 mod refusal;
 mod report;
-#[cfg(test)]
-mod tests;
 mod writing;
 
 pub use laws::has_simulation;

@@ -7,8 +7,6 @@ mod pieces;
 mod reading;
 mod rows;
 mod stimulus;
-#[cfg(test)]
-mod tests;
 mod witness;
 mod writing;
 

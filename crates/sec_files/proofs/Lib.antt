@@ -1,0 +1,5 @@
+pub mod DesignLatches
+pub mod DesignPlaces
+pub mod Designs
+pub mod Loaded
+pub mod StimulusTexts

@@ -1,0 +1,57 @@
+-- What a text loads as, and why it is refused.
+use Rattle.std.specs.Prelude.{◌≡◌, ℕ, ◌<◌, ◌≤◌, List, length, Option, Some, None, IfSome}
+use Rattle.circuit_theory.specs.Circuit.{Circuit}
+use Rattle.blif_read.specs.declared.error.ReadKind.{ReadKind}
+use Rattle.blif_read.specs.Design.{Place, circuit_of_design, IsClock}
+use Rattle.blif_read.specs.Reading.{first_fault, spelled}
+use Rattle.flat_net.specs.View.{NetView}
+use Rattle.flat_walk.specs.declared.error.FlatError.{FlatError}
+use Rattle.flat_walk.specs.declared.error.FlatError.TheVariants as flat_error
+use Rattle.flatten.specs.DesignFaults.{DesignFault, IsSoundDesign, IsFlatOf}
+use Rattle.sec_base.specs.declared.fetching.FetchError.TheVariants as fetch_error
+use Rattle.blif_read.specs.declared.error.ReadError.TheVariants as read_error
+use Rattle.sec_files.specs.declared.loading.LoadError.{LoadError}
+use Rattle.sec_files.specs.declared.loading.LoadError.TheVariants as load_error
+
+-- the text spells this circuit: it has no faulty line, and its clock net is this one
+pub record SpellsCircuit (text : List ℕ) (clock : Option (List ℕ)) (d : Circuit Place) : Type 0 where
+  pub accepted : first_fault text ≡ None
+  pub is_clock : IsClock (spelled text) clock
+  pub is_circuit : d ≡ circuit_of_design (spelled text) clock
+
+-- the text, of at most 16,777,216 bytes, has no faulty line and spells a design without a fault
+pub record IsAccepted (text : List ℕ) : Type 0 where
+  pub short : length text ≤ 16777216
+  pub faultless : first_fault text ≡ None
+  pub sound : IsSoundDesign (spelled text)
+
+-- the text is accepted, and the net is its design's: its runs are the design's
+pub record Loads (text : List ℕ) (net : NetView) : Type 0 where
+  pub accepted : IsAccepted text
+  pub flat : IsFlatOf (spelled text) net
+
+-- the text is too long
+abbrev pub IsTooLong : List ℕ → Type 0
+IsTooLong text = 16777216 < length text
+
+-- the text, of at most 16,777,216 bytes, has its first faulty line here
+abbrev pub HasFault : List ℕ → ℕ → ReadKind → Type 0
+HasFault text line kind = (length text ≤ 16777216) × (first_fault text ≡ Some (record { line = line; kind = kind }))
+
+-- the text, of at most 16,777,216 bytes, spells a design whose first fault is this one
+abbrev pub HasDesignFault : List ℕ → FlatError → Type 0
+HasDesignFault text e = (length text ≤ 16777216) × (first_fault text ≡ None) × DesignFault (spelled text) e
+
+-- the same of what is held, where that is told; nothing is said of want of memory
+abbrev pub FlattenFails : Option (List ℕ) → FlatError → Type 0
+FlattenFails held flat_error.NoMemory = Unit {0}
+FlattenFails held e = IfSome held (λ text. HasDesignFault text e)
+
+-- what is true where the text of a path isn't loaded: `held` is what is held there, `rose` that its count of faults rose
+abbrev pub LoadFails : Option (List ℕ) → Type 0 → LoadError → Type 0
+LoadFails held rose (load_error.Fetch fetch_error.Failed) = rose
+LoadFails held rose (load_error.Fetch fetch_error.TooLong) = IfSome held IsTooLong
+LoadFails held rose (load_error.Fetch fetch_error.NoMemory) = Unit {0}
+LoadFails held rose (load_error.Read (read_error.At line kind)) = IfSome held (λ text. HasFault text line kind)
+LoadFails held rose (load_error.Read read_error.NoMemory) = Unit {0}
+LoadFails held rose (load_error.Flat e) = FlattenFails held e

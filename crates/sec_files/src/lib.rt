@@ -1,0 +1,12 @@
+//! Loading files: circuits as flat nets, and stimuli.
+#![tactic(auto)]
+
+mod loading;
+mod stimuli;
+
+pub use flatten::FlatError;
+pub use loading::{LoadError, load};
+pub use stimuli::{StimulusError, load_stimulus};
+
+/// The most bytes that a file may have.
+const LONGEST: u32 = 16_777_216;

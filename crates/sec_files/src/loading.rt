@@ -1,0 +1,55 @@
+//! From the bytes of a file to a flat net.
+
+ghost use Rattle.std.specs.Prelude.{◌≡◌, ℕ, List, IfOk, IfErr, IfSome, IsErrOf, ◌≤◌, length, Some};
+ghost use Rattle.sec_base.specs.Outside.{Rose, SameHeld, NoneFell};
+ghost use Rattle.flat_net.specs.Comparable.{IsComparable};
+ghost use Rattle.sec_files.specs.Loading.{Loads, LoadFails};
+
+use crate::LONGEST;
+use blif_read::{ReadError, read_design};
+use flat_net::Net;
+use flatten::{FlatError, flatten};
+use sec_base::{FetchError, Shelf, fetch};
+use std::alloc::Global;
+
+/// Why a file isn't loaded.
+#[derive(Drop)]
+pub enum LoadError {
+    Fetch(FetchError),
+    Read(ReadError),
+    Flat(FlatError),
+}
+
+/// Fetches the file at the path, reads it and flattens its design. A refusal of one step ends the work.
+pub fn load<S: Shelf>(alloc: Global, shelf: &mut S, path: &str) -> Result<Net, LoadError>
+    ensures ok { IfOk result (λ net. IfSome (S.held shelf.old path.now) (λ text. Loads text net)) }
+    ensures comparable { IfOk result IsComparable }
+    ensures err { IfErr result (LoadFails (S.held shelf.old path.now) (Rose (S.faults shelf.old path.now) (S.faults shelf.new path.now))) }
+    ensures keeps { SameHeld (S.held shelf.old) (S.held shelf.new) }
+    ensures later { NoneFell (S.faults shelf.old) (S.faults shelf.new) }
+    ensures served { S.serves shelf.old path.now → IsErrOf result (LoadError.Fetch FetchError.Failed) → ⊥ }
+    ensures serving { (other : List ℕ) → S.serves shelf.old other → S.serves shelf.new other }
+{
+    let text = match fetch(alloc, shelf, path, LONGEST) {
+        Ok(text) => text,
+        Err(error) => return Err(LoadError::Fetch(error)),
+    };
+    read_and_flatten(alloc, text.as_slice())
+}
+
+/// The net of a text.
+fn read_and_flatten(alloc: Global, text: &[u8]) -> Result<Net, LoadError>
+    requires { length text.now ≤ 16777216 }
+    ensures ok { IfOk result (λ net. Loads text.now net) }
+    ensures comparable { IfOk result IsComparable }
+    ensures err { IfErr result (LoadFails (Some text.now) ⊥) }
+{
+    let design = match read_design(alloc, text) {
+        Ok(design) => design,
+        Err(error) => return Err(LoadError::Read(error)),
+    };
+    match flatten(alloc, &design) {
+        Ok(net) => Ok(net),
+        Err(error) => Err(LoadError::Flat(error)),
+    }
+}

@@ -1,0 +1,49 @@
+//! From the bytes of a file to a stimulus.
+
+ghost use Rattle.std.specs.Prelude.{◌<◌, ◌≤◌, ◌^◌, length, IfOk, IfErr, IfSome, IsErrOf, Some};
+ghost use Rattle.sec_base.specs.Outside.{Rose, SameHeld};
+ghost use Rattle.sec_files.specs.Stimuli.{IsStimulus, StimulusFails};
+
+use crate::LONGEST;
+use sec_base::{FetchError, Shelf, fetch};
+use std::alloc::Global;
+use witness_report::{StimError, Stimulus, read_stimulus};
+
+/// Why a stimulus isn't loaded.
+#[derive(Drop)]
+pub enum StimulusError {
+    Fetch(FetchError),
+    Read(StimError),
+}
+
+/// Fetches the file at the path and reads it as a stimulus. A refusal of one step ends the work.
+pub fn load_stimulus<S: Shelf>(
+    alloc: Global,
+    shelf: &mut S,
+    path: &str,
+) -> Result<Stimulus, StimulusError>
+    ensures ok { IfOk result (λ s. IfSome (S.held shelf.old path.now) (λ text. IsStimulus text s.names s.rows)) }
+    ensures few { IfOk result (λ s. length s.rows < 2 ^ 32) }
+    ensures err { IfErr result (StimulusFails (S.held shelf.old path.now) (Rose (S.faults shelf.old path.now) (S.faults shelf.new path.now))) }
+    ensures keeps { SameHeld (S.held shelf.old) (S.held shelf.new) }
+    ensures served { S.serves shelf.old path.now → IsErrOf result (StimulusError.Fetch FetchError.Failed) → ⊥ }
+{
+    let text = match fetch(alloc, shelf, path, LONGEST) {
+        Ok(text) => text,
+        Err(error) => return Err(StimulusError::Fetch(error)),
+    };
+    read_text(alloc, text.as_slice())
+}
+
+/// Reads a text as a stimulus.
+fn read_text(alloc: Global, text: &[u8]) -> Result<Stimulus, StimulusError>
+    requires { length text.now ≤ 16777216 }
+    ensures ok { IfOk result (λ s. IsStimulus text.now s.names s.rows) }
+    ensures few { IfOk result (λ s. length s.rows < 2 ^ 32) }
+    ensures err { IfErr result (StimulusFails (Some text.now) ⊥) }
+{
+    match read_stimulus(alloc, text) {
+        Ok(stimulus) => Ok(stimulus),
+        Err(error) => Err(StimulusError::Read(error)),
+    }
+}

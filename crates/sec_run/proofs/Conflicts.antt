@@ -1,0 +1,135 @@
+-- A job of the words allows at most 200,000 conflicts.
+use Rattle.std.proofs.Common.{◌≡◌, ℕ, ◌≤◌, length, Bool, true, false, cond, List, refl, subst, inl, inr, ◌⊎◌, Option, Some, None}
+use Rattle.std.specs.Prelude.{◌==◌, option_and_then, option_map, codes, bytes_eq}
+use Rattle.std.specs.Str.Parse.{digits_value, without_leading_plus}
+use Rattle.circuit_theory.specs.declared.Mode.{Mode}
+use Rattle.clap.specs.Words.{Row, Text, fault_of, first_of, subcommand_of}
+use Rattle.clap.specs.ValueTests.{accepts}
+use Rattle.clap.proofs.ValueTestLemmas.{accepts-Accepts}
+use Rattle.sec_words.specs.declared.settings.Settings.{Settings}
+use Rattle.sec_words.specs.declared.task.Task.{Task}
+use Rattle.sec_words.specs.declared.task.Task.TheVariants as task
+use Rattle.sec_words.specs.Command.{sec_app, most_conflicts, any_number}
+use Rattle.sec_words.specs.Jobs.{job_of, task_in, check_in, graph_in, sim_in, replay_in, gen_in, settings_in, conflicts_in, mode_in, number_of, is_set, with_word}
+use Rattle.sec_run.specs.Job.{HasFewConflicts}
+
+some_is : {X : Type 0} {x y : X} → Some x ≡ Some y → x ≡ y
+some_is q = cc
+
+-- what was made from something was made from it
+and_then_some : {X Y : Type 0} (f : X → Option Y) (o : Option X) (y : Y) → option_and_then f o ≡ Some y → (x : X) × (o ≡ Some x) × (f x ≡ Some y)
+and_then_some f None y e = absurd (cc)
+and_then_some f (Some x) y e = (x, refl, e)
+
+map_some : {X Y : Type 0} (f : X → Y) (o : Option X) (y : Y) → option_map f o ≡ Some y → (x : X) × (o ≡ Some x) × (f x ≡ y)
+map_some f None y e = absurd (cc)
+map_some f (Some x) y e = (x, refl, some_is e)
+
+-- a choice gives what one of the two gives
+either : {X : Type 0} (b : Bool) (o p : Option X) (x : X) → cond b o p ≡ Some x → (o ≡ Some x) ⊎ (p ≡ Some x)
+either true o p x e = inl e
+either false o p x e = inr e
+
+where_true : {X : Type 0} (b : Bool) (o : Option X) (x : X) → cond b o None ≡ Some x → (b ≡ true) × (o ≡ Some x)
+where_true true o x e = (refl, e)
+where_true false o x e = absurd (cc)
+
+few : (rows : List Row) (n : ℕ) → conflicts_in rows ≡ Some n → n ≤ 200000
+few rows n e =
+    let word = and_then_some (number_of most_conflicts) (first_of (codes "conflicts") rows) n e in
+    let number = where_true (accepts false most_conflicts word.0) (Some (digits_value 10 (without_leading_plus word.0))) n word.2 in
+    subst (λ (k : ℕ). k ≤ 200000) (some_is number.1) (accepts-Accepts false most_conflicts word.0 number.0).3
+
+abbrev settings_of : List Row → Mode → ℕ → Settings
+settings_of rows mode conflicts = record { mode = mode; expose = is_set (codes "expose") rows; conflicts = conflicts }
+
+few_settings : (rows : List Row) (s : Settings) → settings_in rows ≡ Some s → s.conflicts ≤ 200000
+few_settings rows s e =
+    let mode = and_then_some (λ m. option_map (settings_of rows m) (conflicts_in rows)) (mode_in rows) s e in
+    let conflicts = map_some (settings_of rows mode.0) (conflicts_in rows) s mode.2 in
+    subst (λ (t : Settings). t.conflicts ≤ 200000) conflicts.2 (few rows conflicts.0 conflicts.1)
+
+few_check : (rows : List Row) (job : Task) → check_in rows ≡ Some job → HasFewConflicts job
+few_check rows job e =
+    let a = and_then_some (λ x. with_word (codes "b") rows (λ y. option_map (task.Check x y) (settings_in rows))) (first_of (codes "a") rows) job e in
+    let b = and_then_some (λ y. option_map (task.Check a.0 y) (settings_in rows)) (first_of (codes "b") rows) job a.2 in
+    let settings = map_some (task.Check a.0 b.0) (settings_in rows) job b.2 in
+    subst HasFewConflicts settings.2 (few_settings rows settings.0 settings.1)
+
+few_graph : (rows : List Row) (job : Task) → graph_in rows ≡ Some job → HasFewConflicts job
+few_graph rows job e =
+    let a = and_then_some (λ x. option_map (task.Graph x) (mode_in rows)) (first_of (codes "a") rows) job e in
+    let mode = map_some (task.Graph a.0) (mode_in rows) job a.2 in
+    let few_here : HasFewConflicts (task.Graph a.0 mode.0) = tt in
+    subst HasFewConflicts mode.2 few_here
+
+few_sim : (rows : List Row) (job : Task) → sim_in rows ≡ Some job → HasFewConflicts job
+few_sim rows job e =
+    let power : Option Text = first_of (codes "power") rows in
+    let a = and_then_some (λ x. with_word (codes "s") rows (λ y. option_map (λ m. task.Sim x y m power) (mode_in rows))) (first_of (codes "a") rows) job e in
+    let s = and_then_some (λ y. option_map (λ m. task.Sim a.0 y m power) (mode_in rows)) (first_of (codes "s") rows) job a.2 in
+    let mode = map_some (λ m. task.Sim a.0 s.0 m power) (mode_in rows) job s.2 in
+    let few_here : HasFewConflicts (task.Sim a.0 s.0 mode.0 power) = tt in
+    subst HasFewConflicts mode.2 few_here
+
+few_replay : (rows : List Row) (job : Task) → replay_in rows ≡ Some job → HasFewConflicts job
+few_replay rows job e =
+    let a = and_then_some (λ x. with_word (codes "b") rows (λ y. with_word (codes "s") rows (λ z. option_map (task.Replay x y z) (mode_in rows)))) (first_of (codes "a") rows) job e in
+    let b = and_then_some (λ y. with_word (codes "s") rows (λ z. option_map (task.Replay a.0 y z) (mode_in rows))) (first_of (codes "b") rows) job a.2 in
+    let s = and_then_some (λ z. option_map (task.Replay a.0 b.0 z) (mode_in rows)) (first_of (codes "s") rows) job b.2 in
+    let mode = map_some (task.Replay a.0 b.0 s.0) (mode_in rows) job s.2 in
+    let few_here : HasFewConflicts (task.Replay a.0 b.0 s.0 mode.0) = tt in
+    subst HasFewConflicts mode.2 few_here
+
+few_gen : (rows : List Row) (job : Task) → gen_in rows ≡ Some job → HasFewConflicts job
+few_gen rows job e =
+    let regroup : Bool = is_set (codes "regroup") rows in
+    let n = and_then_some (λ x. option_and_then (λ y. option_map (task.Gen y regroup) (conflicts_in rows)) (number_of any_number x)) (first_of (codes "n") rows) job e in
+    let seed = and_then_some (λ y. option_map (task.Gen y regroup) (conflicts_in rows)) (number_of any_number n.0) job n.2 in
+    let conflicts = map_some (task.Gen seed.0 regroup) (conflicts_in rows) job seed.2 in
+    subst HasFewConflicts conflicts.2 (few rows conflicts.0 conflicts.1)
+
+-- the tasks of the subcommands behind the third, the second and the first
+abbrev replays : List ℕ → List Row → Option Task
+replays name rows = cond (bytes_eq name (codes "replay")) (replay_in rows) (cond (bytes_eq name (codes "gen")) (gen_in rows) None)
+
+abbrev sims : List ℕ → List Row → Option Task
+sims name rows = cond (bytes_eq name (codes "sim")) (sim_in rows) (replays name rows)
+
+abbrev graphs : List ℕ → List Row → Option Task
+graphs name rows = cond (bytes_eq name (codes "graph")) (graph_in rows) (sims name rows)
+
+few_replays : (name : List ℕ) (rows : List Row) (job : Task) → replays name rows ≡ Some job → HasFewConflicts job
+few_replays name rows job e = go (either (bytes_eq name (codes "replay")) (replay_in rows) (cond (bytes_eq name (codes "gen")) (gen_in rows) None) job e)
+  where
+    go : (replay_in rows ≡ Some job) ⊎ (cond (bytes_eq name (codes "gen")) (gen_in rows) None ≡ Some job) → HasFewConflicts job
+    go (inl h) = few_replay rows job h
+    go (inr h) = few_gen rows job (where_true (bytes_eq name (codes "gen")) (gen_in rows) job h).1
+
+few_sims : (name : List ℕ) (rows : List Row) (job : Task) → sims name rows ≡ Some job → HasFewConflicts job
+few_sims name rows job e = go (either (bytes_eq name (codes "sim")) (sim_in rows) (replays name rows) job e)
+  where
+    go : (sim_in rows ≡ Some job) ⊎ (replays name rows ≡ Some job) → HasFewConflicts job
+    go (inl h) = few_sim rows job h
+    go (inr h) = few_replays name rows job h
+
+few_graphs : (name : List ℕ) (rows : List Row) (job : Task) → graphs name rows ≡ Some job → HasFewConflicts job
+few_graphs name rows job e = go (either (bytes_eq name (codes "graph")) (graph_in rows) (sims name rows) job e)
+  where
+    go : (graph_in rows ≡ Some job) ⊎ (sims name rows ≡ Some job) → HasFewConflicts job
+    go (inl h) = few_graph rows job h
+    go (inr h) = few_sims name rows job h
+
+few_task : (name : List ℕ) (rows : List Row) (job : Task) → task_in name rows ≡ Some job → HasFewConflicts job
+few_task name rows job e = go (either (bytes_eq name (codes "check")) (check_in rows) (graphs name rows) job e)
+  where
+    go : (check_in rows ≡ Some job) ⊎ (graphs name rows ≡ Some job) → HasFewConflicts job
+    go (inl h) = few_check rows job h
+    go (inr h) = few_graphs name rows job h
+
+-- what stands behind a job of the words
+pub few_conflicts : (words : List (List ℕ)) (job : Task) → job_of words ≡ Some job → HasFewConflicts job
+few_conflicts words job e =
+    let taken = where_true (length (fault_of sec_app words) == 0) (option_and_then (λ met. task_in met.0 met.1) (subcommand_of sec_app words)) job e in
+    let met = and_then_some (λ m. task_in m.0 m.1) (subcommand_of sec_app words) job taken.1 in
+    few_task met.0.0 met.0.1 job met.2

@@ -1,0 +1,171 @@
+-- What the parts of the work on the files find.
+use Rattle.std.proofs.Common.{◌≡◌, ℕ, ◌≤◌, List, refl, sym, subst, arith, inl, inr, Option, Some, None, Result, Ok, Err}
+use Rattle.std.specs.Prelude.{IfSome, IsSomeAnd, IsErrOf}
+use Rattle.circuit_theory.specs.declared.Side.TheVariants.{A, B}
+use Rattle.sec_base.specs.Outside.{Rose}
+use Rattle.sec_base.specs.declared.fetching.FetchError.TheVariants as fetch_error
+use Rattle.blif_read.specs.declared.error.ReadError.TheVariants as read_error
+use Rattle.flat_net.specs.View.{NetView}
+use Rattle.flat_walk.specs.declared.error.FlatError.{FlatError}
+use Rattle.flat_walk.specs.declared.error.FlatError.TheVariants as flat_error
+use Rattle.sec_words.specs.declared.settings.Settings.{Settings}
+use Rattle.sec_words.specs.declared.task.Task.{Task}
+use Rattle.sec_words.specs.declared.task.Task.TheVariants as task
+use Rattle.sec_outcome.specs.declared.outcome.Outcome.{Outcome}
+use Rattle.sec_check.specs.declared.comparing.CompareError.{CompareError}
+use Rattle.sec_check.specs.declared.comparing.CompareError.TheVariants as compare_error
+use Rattle.sec_files.specs.declared.loading.LoadError.{LoadError}
+use Rattle.sec_files.specs.declared.loading.LoadError.TheVariants as load_error
+use Rattle.sec_check.specs.Compared.{Compared}
+use Rattle.sec_files.specs.Loading.{Loads, LoadFails, FlattenFails, IsTooLong, HasFault, HasDesignFault}
+use Rattle.sec_run.specs.declared.finding.Finding.{Finding}
+use Rattle.sec_run.specs.declared.finding.Stop.{Stop}
+use Rattle.sec_run.specs.declared.finding.Stop.TheVariants as stop
+use Rattle.std.proofs.lemmas.Option.{none-some}
+use Rattle.sec_run.specs.declared.finding.Refusal.TheVariants as refusal
+use Rattle.sec_run.specs.declared.finding.Finding.TheVariants as finding
+use Rattle.sec_run.specs.Job.{Check, Sim, check_of, graph_of, sim_of}
+use Rattle.sec_run.specs.Reports.{IsGraphFound, IsSimFound}
+use Rattle.sec_run.specs.Answer.{Held, ReadFailed, SimReadFailed, IsFoundOf, WhereBuilt}
+use Rattle.sec_run.specs.Ends.{load_end, compare_end, EndsBy, FoundOf, Found}
+
+-- what holds of something held, where it is told
+both_told : {X Y : Type 0} (o : Option X) (o' : Option Y) (F : X → Type 0) (G : Y → Type 0) (H : X → Y → Type 0) →
+    ((x : X) (y : Y) → F x → G y → H x y) → IfSome o F → IfSome o' G → IfSome o (λ x. IfSome o' (λ y. H x y))
+both_told None o' F G H f p q = tt
+both_told (Some x) None F G H f p q = tt
+both_told (Some x) (Some y) F G H f p q = f x y p q
+
+-- A's file isn't loaded
+pub left_ends : (held : Held) (before now : List ℕ → ℕ) (check : Check) (error : LoadError) →
+    LoadFails (held check.left) (Rose (before check.left) (now check.left)) error → FoundOf held before now check (load_end A error)
+left_ends held before now check (load_error.Fetch fetch_error.Failed) h = inl h
+left_ends held before now check (load_error.Fetch fetch_error.TooLong) h = h
+left_ends held before now check (load_error.Fetch fetch_error.NoMemory) h = tt
+left_ends held before now check (load_error.Read (read_error.At line kind)) h = h
+left_ends held before now check (load_error.Read read_error.NoMemory) h = tt
+left_ends held before now check (load_error.Flat (flat_error.UnknownModel x)) h = h
+left_ends held before now check (load_error.Flat (flat_error.Recursive x)) h = h
+left_ends held before now check (load_error.Flat (flat_error.UnknownFormal x)) h = h
+left_ends held before now check (load_error.Flat (flat_error.FormalTwice x)) h = h
+left_ends held before now check (load_error.Flat (flat_error.OpenInput x)) h = h
+left_ends held before now check (load_error.Flat (flat_error.TwoDrivers x)) h = h
+left_ends held before now check (load_error.Flat (flat_error.Undriven x)) h = h
+left_ends held before now check (load_error.Flat (flat_error.TwoClocks x)) h = h
+left_ends held before now check (load_error.Flat (flat_error.TwoEdges x)) h = h
+left_ends held before now check (load_error.Flat (flat_error.GatedClock x)) h = h
+left_ends held before now check (load_error.Flat (flat_error.ClockRead x)) h = h
+left_ends held before now check (load_error.Flat (flat_error.Loop x)) h = h
+left_ends held before now check (load_error.Flat (flat_error.TooDeep x)) h = h
+left_ends held before now check (load_error.Flat flat_error.TooMany) h = h
+left_ends held before now check (load_error.Flat flat_error.LongName) h = h
+left_ends held before now check (load_error.Flat flat_error.NoMemory) h = tt
+
+with_net : {x : List ℕ} (net : NetView) (F : List ℕ → Type 0) (y : List ℕ) → Loads x net → F y → (n : NetView) × Loads x n × F y
+with_net net F y l f = (net, l, f)
+
+-- A's file is loaded, and B's design has a fault
+faulty : (held : Held) (check : Check) (net : NetView) (e : FlatError) → IfSome (held check.left) (λ x. Loads x net) → IfSome (held check.right) (λ y. HasDesignFault y e) →
+    IfSome (held check.left) (λ x. IfSome (held check.right) (λ y. (n : NetView) × Loads x n × HasDesignFault y e))
+faulty held check net e l h = both_told (held check.left) (held check.right) _ _ _ (λ x y. with_net net (λ text. HasDesignFault text e) y) l h
+
+-- A's file is loaded, B's isn't
+pub right_ends : (held : Held) (before now : List ℕ → ℕ) (check : Check) (net : NetView) (error : LoadError) →
+    IfSome (held check.left) (λ x. Loads x net) → LoadFails (held check.right) (Rose (before check.right) (now check.right)) error →
+    FoundOf held before now check (load_end B error)
+right_ends held before now check net (load_error.Fetch fetch_error.Failed) l h = inr (h, loaded (held check.left) l)
+  where
+    loaded : (o : Option (List ℕ)) → IfSome o (λ x. Loads x net) → IfSome o (λ x. (n : NetView) × Loads x n)
+    loaded None l = tt
+    loaded (Some x) l = (net, l)
+right_ends held before now check net (load_error.Fetch fetch_error.TooLong) l h = both_told (held check.left) (held check.right) _ _ _ (λ x y. with_net net IsTooLong y) l h
+right_ends held before now check net (load_error.Fetch fetch_error.NoMemory) l h = tt
+right_ends held before now check net (load_error.Read (read_error.At line kind)) l h = both_told (held check.left) (held check.right) _ _ _ (λ x y. with_net net (λ text. HasFault text line kind) y) l h
+right_ends held before now check net (load_error.Read read_error.NoMemory) l h = tt
+right_ends held before now check net (load_error.Flat (flat_error.UnknownModel x)) l h = faulty held check net (flat_error.UnknownModel x) l h
+right_ends held before now check net (load_error.Flat (flat_error.Recursive x)) l h = faulty held check net (flat_error.Recursive x) l h
+right_ends held before now check net (load_error.Flat (flat_error.UnknownFormal x)) l h = faulty held check net (flat_error.UnknownFormal x) l h
+right_ends held before now check net (load_error.Flat (flat_error.FormalTwice x)) l h = faulty held check net (flat_error.FormalTwice x) l h
+right_ends held before now check net (load_error.Flat (flat_error.OpenInput x)) l h = faulty held check net (flat_error.OpenInput x) l h
+right_ends held before now check net (load_error.Flat (flat_error.TwoDrivers x)) l h = faulty held check net (flat_error.TwoDrivers x) l h
+right_ends held before now check net (load_error.Flat (flat_error.Undriven x)) l h = faulty held check net (flat_error.Undriven x) l h
+right_ends held before now check net (load_error.Flat (flat_error.TwoClocks x)) l h = faulty held check net (flat_error.TwoClocks x) l h
+right_ends held before now check net (load_error.Flat (flat_error.TwoEdges x)) l h = faulty held check net (flat_error.TwoEdges x) l h
+right_ends held before now check net (load_error.Flat (flat_error.GatedClock x)) l h = faulty held check net (flat_error.GatedClock x) l h
+right_ends held before now check net (load_error.Flat (flat_error.ClockRead x)) l h = faulty held check net (flat_error.ClockRead x) l h
+right_ends held before now check net (load_error.Flat (flat_error.Loop x)) l h = faulty held check net (flat_error.Loop x) l h
+right_ends held before now check net (load_error.Flat (flat_error.TooDeep x)) l h = faulty held check net (flat_error.TooDeep x) l h
+right_ends held before now check net (load_error.Flat flat_error.TooMany) l h = faulty held check net flat_error.TooMany l h
+right_ends held before now check net (load_error.Flat flat_error.LongName) l h = faulty held check net flat_error.LongName l h
+right_ends held before now check net (load_error.Flat flat_error.NoMemory) l h = tt
+
+-- both files are loaded and compared
+pub nets_end : (held : Held) (before now : List ℕ → ℕ) (check : Check) (a b : NetView) (r : Result Outcome CompareError) →
+    IfSome (held check.left) (λ x. Loads x a) → IfSome (held check.right) (λ y. Loads y b) → Compared a b check.settings r → FoundOf held before now check (compare_end check.settings r)
+nets_end held before now check a b (Ok o) l m c = (refl, both_told (held check.left) (held check.right) _ _ _ (λ x y p q. (a, b, p, q, c)) l m)
+nets_end held before now check a b (Err (compare_error.Interface name)) l m c = both_told (held check.left) (held check.right) _ _ _ (λ x y p q. (a, b, p, q, c)) l m
+nets_end held before now check a b (Err (compare_error.Cyclic side names)) l m c = both_told (held check.left) (held check.right) _ _ _ (λ x y p q. (a, b, p, q, c)) l m
+nets_end held before now check a b (Err (compare_error.Unpaired side names)) l m c = both_told (held check.left) (held check.right) _ _ _ (λ x y p q. (a, b, p, q, c)) l m
+nets_end held before now check a b (Err (compare_error.TooLarge side)) l m c = both_told (held check.left) (held check.right) _ _ _ (λ x y p q. (a, b, p, q, c)) l m
+nets_end held before now check a b (Err compare_error.NoMemory) l m c = tt
+
+-- what is found of the files is found of the job that compares them
+pub found_of_check : (held : Held) (before now : List ℕ → ℕ) (job : Task) (check : Check) (r : Result Finding Stop) → check_of job ≡ Some check → FoundOf held before now check r → Found held before now (Some job) r
+found_of_check held before now (task.Check a b settings) check (Ok f) e h = subst (λ (o : Option Check). WhereBuilt f o (λ c. IsFoundOf held c f)) (sym e) h
+found_of_check held before now (task.Check a b settings) check (Err stop.ReadFault) e h = inl (subst (λ (o : Option Check). IsSomeAnd o (ReadFailed held before now)) (sym e) h)
+found_of_check held before now (task.Check a b settings) check (Err stop.NoMemory) e h = tt
+found_of_check held before now (task.Graph a mode) check r e h = absurd (none-some check e)
+found_of_check held before now (task.Sim a s mode power) check r e h = absurd (none-some check e)
+found_of_check held before now (task.Replay a b s mode) check r e h = absurd (none-some check e)
+found_of_check held before now (task.Gen seed regroup conflicts) check r e h = absurd (none-some check e)
+
+-- what is found of a circuit is found of the job that asks for its latch graph
+pub found_of_graph : (held : Held) (before now : List ℕ → ℕ) (job : Task) (path : List ℕ) (r : Result Finding Stop) → graph_of job ≡ Some path → EndsBy (IsGraphFound (held path)) (Rose (before path) (now path)) r → Found held before now (Some job) r
+found_of_graph held before now (task.Graph a mode) path (Ok f) e h = subst (λ (o : Option (List ℕ)). WhereBuilt f o (λ p. IsGraphFound (held p) f)) (sym e) h
+found_of_graph held before now (task.Graph a mode) path (Err stop.ReadFault) e h = inr (inl (subst (λ (o : Option (List ℕ)). IsSomeAnd o (λ p. Rose (before p) (now p))) (sym e) h))
+found_of_graph held before now (task.Graph a mode) path (Err stop.NoMemory) e h = tt
+found_of_graph held before now (task.Check a b settings) path r e h = absurd (none-some path e)
+found_of_graph held before now (task.Sim a s mode power) path r e h = absurd (none-some path e)
+found_of_graph held before now (task.Replay a b s mode) path r e h = absurd (none-some path e)
+found_of_graph held before now (task.Gen seed regroup conflicts) path r e h = absurd (none-some path e)
+
+-- what is found of a simulation is found of the job that asks for it
+pub found_of_sim : (held : Held) (before now : List ℕ → ℕ) (job : Task) (sim : Sim) (r : Result Finding Stop) → sim_of job ≡ Some sim →
+    EndsBy (IsSimFound (held sim.circuit) (held sim.stimulus) sim.power) (SimReadFailed held before now sim) r → Found held before now (Some job) r
+found_of_sim held before now (task.Sim a s mode power) sim (Ok f) e h = subst (λ (o : Option Sim). WhereBuilt f o (λ m. IsSimFound (held m.circuit) (held m.stimulus) m.power f)) (sym e) h
+found_of_sim held before now (task.Sim a s mode power) sim (Err stop.ReadFault) e h = inr (inr (subst (λ (o : Option Sim). IsSomeAnd o (SimReadFailed held before now)) (sym e) h))
+found_of_sim held before now (task.Sim a s mode power) sim (Err stop.NoMemory) e h = tt
+found_of_sim held before now (task.Check a b settings) sim r e h = absurd (none-some sim e)
+found_of_sim held before now (task.Graph a mode) sim r e h = absurd (none-some sim e)
+found_of_sim held before now (task.Replay a b s mode) sim r e h = absurd (none-some sim e)
+found_of_sim held before now (task.Gen seed regroup conflicts) sim r e h = absurd (none-some sim e)
+
+-- a job that isn't built is refused
+pub found_unbuilt : (held : Held) (before now : List ℕ → ℕ) (job : Task) → check_of job ≡ None → graph_of job ≡ None → sim_of job ≡ None → Found held before now (Some job) (Ok (finding.Refused refusal.NotBuilt))
+found_unbuilt held before now (task.Check a b settings) check graph sim = subst (λ (o : Option Check). WhereBuilt (finding.Refused refusal.NotBuilt) o (λ c. IsFoundOf held c (finding.Refused refusal.NotBuilt))) (sym check) refl
+found_unbuilt held before now (task.Graph a mode) check graph sim = subst (λ (o : Option (List ℕ)). WhereBuilt (finding.Refused refusal.NotBuilt) o (λ p. IsGraphFound (held p) (finding.Refused refusal.NotBuilt))) (sym graph) refl
+found_unbuilt held before now (task.Sim a s mode power) check graph sim = subst (λ (o : Option Sim). WhereBuilt (finding.Refused refusal.NotBuilt) o (λ m. IsSimFound (held m.circuit) (held m.stimulus) m.power (finding.Refused refusal.NotBuilt))) (sym sim) refl
+found_unbuilt held before now (task.Replay a b s mode) check graph sim = refl
+found_unbuilt held before now (task.Gen seed regroup conflicts) check graph sim = refl
+
+-- a count that rose from a later value rose from an earlier one
+pub rose_before : (a b c : ℕ) → a ≤ b → Rose b c → Rose a c
+rose_before a b c h r = omega arith
+
+-- a load that failed later failed by what was held before
+pub later_fails : (later held : Option (List ℕ)) (a b c : ℕ) (error : LoadError) → later ≡ held → a ≤ b → LoadFails later (Rose b c) error → LoadFails held (Rose a c) error
+later_fails later held a b c (load_error.Fetch fetch_error.Failed) same grew h = rose_before a b c grew h
+later_fails later held a b c (load_error.Fetch fetch_error.TooLong) same grew h = subst (λ (o : Option (List ℕ)). IfSome o IsTooLong) same h
+later_fails later held a b c (load_error.Fetch fetch_error.NoMemory) same grew h = tt
+later_fails later held a b c (load_error.Read (read_error.At line kind)) same grew h = subst (λ (o : Option (List ℕ)). IfSome o (λ text. HasFault text line kind)) same h
+later_fails later held a b c (load_error.Read read_error.NoMemory) same grew h = tt
+later_fails later held a b c (load_error.Flat e) same grew h = subst (λ (o : Option (List ℕ)). FlattenFails o e) same h
+
+-- a comparison ends with no read fault
+pub no_fault_compared : (settings : Settings) (r : Result Outcome CompareError) → IsErrOf (compare_end settings r) stop.ReadFault → ⊥
+no_fault_compared settings (Ok o) h = absurd (cc)
+no_fault_compared settings (Err (compare_error.Interface name)) h = absurd (cc)
+no_fault_compared settings (Err (compare_error.Cyclic side names)) h = absurd (cc)
+no_fault_compared settings (Err (compare_error.Unpaired side names)) h = absurd (cc)
+no_fault_compared settings (Err (compare_error.TooLarge side)) h = absurd (cc)
+no_fault_compared settings (Err compare_error.NoMemory) h = absurd (cc)
