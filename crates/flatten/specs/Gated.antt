@@ -18,7 +18,7 @@ use Rattle.flat_wires.specs.declared.source.Source.TheVariants as source
 use Rattle.flat_wires.specs.Wired.{WiredView}
 use Rattle.flatten.specs.Built.{IsBuilt, AreCovers, unclocked, latch_outs}
 use Rattle.flatten.specs.Graph.{IsSourceWithin, graph_of, is_gate_out}
-use Rattle.flatten.specs.Order.{IsOrder}
+use Rattle.gate_order.specs.Order.{IsOrder}
 
 -- the place of a number in a list
 abbrev pub place_of : List ℕ → ℕ → ℕ

@@ -97,6 +97,18 @@ impl Assembly {
         Ok(())
     }
 
+    /// The main model's inputs but the clock, and then the latches.
+    fn add_sources(&mut self, flat: &Flat, clock: Option<u32>) -> Result<(), NoMemory>
+        requires built { IsBuilt flat.now.names [] self.old.maker.net self.old.signals.items }
+        requires distinct { AreDistinct (unclocked clock flat.now.inputs ++ latch_outs flat.now.statements) }
+        ensures built { OnOk result (IsBuilt flat.now.names (unclocked clock flat.now.inputs ++ latch_outs flat.now.statements) self.new.maker.net self.new.signals.items) }
+        ensures net { OnOk result (self.new.maker.net ≡ with_latches flat.now.names flat.now.statements (with_inputs flat.now.names (unclocked clock flat.now.inputs) self.old.maker.net)) }
+        ensures covers { OnOk result (self.new.covers ≡ self.old.covers) }
+    {
+        self.add_inputs(flat, clock)?;
+        self.add_latches(flat)
+    }
+
     /// The net of the inputs, without the clock, and of the latches, each of which takes over itself until its next is set.
     pub(crate) fn begin(
         alloc: Global,
@@ -109,8 +121,7 @@ impl Assembly {
         ensures covers { IfOk result (λ a. a.covers ≡ []) }
     {
         let mut assembly = Assembly::new(alloc, flat.names.len() as usize)?;
-        assembly.add_inputs(flat, clock)?;
-        assembly.add_latches(flat)?;
+        assembly.add_sources(flat, clock)?;
         Ok(assembly)
     }
 

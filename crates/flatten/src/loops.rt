@@ -11,11 +11,11 @@ ghost use Rattle.flat_wires.specs.Wired.{IsWired};
 ghost use Rattle.flat_wires.specs.Wiring.{wires_of};
 ghost use Rattle.flatten.specs.DesignFaults.{IsLoopFault};
 ghost use Rattle.flatten.specs.Loops.{IsLoop, IsNamedTurn, AreLoopNames};
-ghost use Rattle.flatten.specs.Order.{IsOrder};
+ghost use Rattle.gate_order.specs.Order.{IsOrder};
 
-use crate::search::{Found, order_of};
 use flat_walk::{Flat, FlatError, FlatKind};
 use flat_wires::{Source, Wired};
+use gate_order::{Found, order_of};
 use sec_base::{Ids, NoMemory, Seq, Words};
 use std::alloc::Global;
 use std::cmp::Ordering;

@@ -9,13 +9,16 @@ use Rattle.circuit_theory.specs.Query.{Variable, HasLeaf, bits_of, pair_query, s
 use Rattle.circuit_theory.specs.Query as query
 use Rattle.circuit_theory.specs.Run.{NoneEnabled}
 use Rattle.circuit_theory.specs.Sequence.{sequence_rows}
-use Rattle.circuit_theory.specs.Tree.{HaveEqualFunctions}
+use Rattle.circuit_theory.specs.Tree.{Tree, HaveEqualFunctions}
 use Rattle.circuit_theory.proofs.Lists.{All-from_each}
 use Rattle.circuit_laws.proofs.TreeDepth.{tree_depth}
 use Rattle.flat_net.specs.View.{NetView, circuit_of}
 use Rattle.flat_net.specs.Sound.{IsSound}
 use Rattle.flat_net.proofs.Nets.{sound_is_net}
+use Rattle.aig.specs.declared.node.Lit.{Lit}
 use Rattle.aig.specs.declared.node.Node.{Node}
+use Rattle.aig.specs.Builds.{Builds}
+use Rattle.aig.proofs.Growth.{Builds-one}
 use Rattle.cbf_unfold.specs.declared.unfolder.Unfolded.{Unfolded}
 use Rattle.pair_decide.specs.declared.query.Query.{Query}
 use Rattle.pair_decide.specs.declared.query.Proof.{Proof}
@@ -70,6 +73,16 @@ module _ {a b : NetView} {left right : List ℕ} {g : List Node} {places : List 
     differs = trees_differ x bits d.distinguishes;
   }
 
+  left_builds : Builds g places (left_tree x) q.left.0
+  left_builds = subst (Builds g places (left_tree x)) (sym (ap (λ (y : Lit). y.0) x.asks.left_is)) x.left_is.builds
+
+  right_builds : Builds g places (right_tree x) q.right.0
+  right_builds = subst (Builds g places (right_tree x)) (sym (ap (λ (y : Lit). y.0) x.asks.right_is)) x.right_is.builds
+
+  -- one tree has one literal
+  one_literal : left_tree x ≡ right_tree x → q.left.0 ≡ q.right.0
+  one_literal e = Builds-one g x.graph places x.distinct (left_tree x) q.left.0 q.right.0 left_builds (subst (λ (t : Tree ℕ). Builds g places t q.right.0) (sym e) right_builds)
+
   undecided : (conflicts : ℕ) (proof : Proof) → IsAtLimit g q conflicts proof → IsUndecided (circuit_of a) (circuit_of b) left right conflicts s t proof
   undecided conflicts proof h = record {
     left_depth = x.left_is.depth;
@@ -78,11 +91,13 @@ module _ {a b : NetView} {left right : List ℕ} {g : List Node} {places : List 
     right_tree = right_tree x;
     left_unfolds = x.left_is.unfolds;
     right_unfolds = x.right_is.unfolds;
+    two_trees = λ e. h.wide.apart (inl (one_literal e));
     variables = variables_of places q.vars;
     are_variables = are_variables x;
     many = omega (arith, variables_long x, h.wide.many);
     graph = g;
     places = places;
+    distinct = x.distinct;
     left_lit = q.left.0;
     right_lit = q.right.0;
     care_lit = q.care.0;
@@ -90,6 +105,8 @@ module _ {a b : NetView} {left right : List ℕ} {g : List Node} {places : List 
     left_within = (is_query x).left;
     right_within = (is_query x).right;
     care_within = (is_query x).care;
+    left_builds = left_builds;
+    right_builds = right_builds;
     left_value = left_value x;
     right_value = right_value x;
     care_value = care_value x;

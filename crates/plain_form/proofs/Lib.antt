@@ -9,3 +9,4 @@ pub mod Results
 pub mod PairAt
 pub mod Outcomes
 pub mod PairQueries
+pub mod NoLimits

@@ -5,3 +5,4 @@ pub mod Variables
 pub mod Pairs
 pub mod Sequences
 pub mod Found
+pub mod Laws

@@ -4,6 +4,8 @@ use Rattle.circuit_theory.specs.Circuit.{Circuit}
 use Rattle.circuit_theory.specs.Tree.{Tree, Unfolds, tree_value}
 use Rattle.circuit_theory.specs.Query.{Variable, AreVariables, ShiftBefore}
 use Rattle.aig.specs.declared.node.Node.{Node}
+use Rattle.sec_base.specs.Table.{AreDistinct}
+use Rattle.aig.specs.Builds.{Builds}
 use Rattle.aig.specs.Graph.{IsGraph}
 use Rattle.aig.specs.Values.{value}
 use Rattle.cnf_encode.specs.Encoding.{IsEncoding}
@@ -15,10 +17,11 @@ abbrev pub HasValueOf : List Node → List (ℕ × ℕ) → ℕ → ((ℕ → �
 HasValueOf g places lit function =
     (bits : ℕ → ℕ → Bool) (a : ℕ → Bool) → ((v : ℕ) (p : ℕ × ℕ) → slice_get places v ≡ Some p → a v ≡ bits p.0 p.1) → value g a lit ≡ function bits
 
--- The pair's functions have more than 16 variables, and the proof that is kept has the clauses of three literals of a graph, which
--- have the values of the two functions and of the care, which holds always; the sides are different literals, and the care isn't
--- the literal 0. Its log has exactly as many chains as conflicts are allowed, all of them valid over these clauses; each derives a
--- clause that tells unit propagation something, and none the empty clause.
+-- The pair's functions have more than 16 variables, and their trees are two. The proof that is kept has the clauses of three literals
+-- of a graph: those of the two trees, by which they have the values of the two functions, and that of the care, which holds always; no
+-- place has two variables, the sides are different literals, and the care isn't the literal 0. Its log has exactly as many chains as
+-- conflicts are allowed, all of them valid over these clauses; each derives a clause that tells unit propagation something, and none
+-- the empty clause.
 pub record IsUndecided {P Q : Type 0} (a : Circuit P) (b : Circuit Q) (left right : List ℕ) (conflicts : ℕ) (p : P) (q : Q) (proof : Proof) : Type 0 where
   pub left_depth : ℕ
   pub right_depth : ℕ
@@ -26,11 +29,13 @@ pub record IsUndecided {P Q : Type 0} (a : Circuit P) (b : Circuit Q) (left righ
   pub right_tree : Tree ℕ
   pub left_unfolds : Unfolds a left p 0 left_depth left_tree
   pub right_unfolds : Unfolds b right q 0 right_depth right_tree
+  pub two_trees : left_tree ≢ right_tree
   pub variables : List (Variable ℕ)
   pub are_variables : AreVariables ShiftBefore (left_tree ∷ right_tree ∷ []) variables
   pub many : 16 < length variables
   pub graph : List Node
   pub places : List (ℕ × ℕ)
+  pub distinct : AreDistinct places
   pub left_lit : ℕ
   pub right_lit : ℕ
   pub care_lit : ℕ
@@ -38,6 +43,8 @@ pub record IsUndecided {P Q : Type 0} (a : Circuit P) (b : Circuit Q) (left righ
   pub left_within : left_lit < 2 * length graph
   pub right_within : right_lit < 2 * length graph
   pub care_within : care_lit < 2 * length graph
+  pub left_builds : Builds graph places left_tree left_lit
+  pub right_builds : Builds graph places right_tree right_lit
   pub left_value : HasValueOf graph places left_lit (λ bits. tree_value bits left_tree)
   pub right_value : HasValueOf graph places right_lit (λ bits. tree_value bits right_tree)
   pub care_value : HasValueOf graph places care_lit (λ bits. true)

@@ -4,6 +4,7 @@
 mod comparing;
 mod deciding;
 mod error;
+pub mod laws;
 mod merging;
 mod pairing;
 mod unfolding;

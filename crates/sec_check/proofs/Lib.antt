@@ -1,6 +1,7 @@
 pub mod Columns
 pub mod CutNets
 pub mod CutPairs
+pub mod CutSizes
 pub mod Interfaces
 pub mod Leaves
 pub mod Meaning

@@ -21,9 +21,10 @@ use Rattle.sec_check.specs.declared.comparing.CompareError.{CompareError}
 use Rattle.sec_check.specs.declared.comparing.CompareError.TheVariants as refused
 use Rattle.sec_check.specs.Choosing.{IsChosen, AreCutBy, AreNumbered}
 use Rattle.sec_check.specs.Compared.{InterfacesMatch, AreTooLarge, IsCompared, Compared}
-use Rattle.sec_check.specs.Fitting.{AreCutAt, OutcomeFits, columns_of, is_cut}
+use Rattle.sec_check.specs.Fitting.{AreCutAt, StandInOrder, OutcomeFits, columns_of, is_cut}
 use Rattle.flat_net.specs.Comparable.{IsComparable}
 use Rattle.sec_check.proofs.Columns.{left_read, right_read}
+use Rattle.sec_check.proofs.CutSizes.{cut_over, cut_light}
 use Rattle.sec_check.proofs.Meaning.{they_are_equal, makes_differ, makes_cuts_differ}
 use Rattle.sec_check.proofs.Shared.{are_matched}
 
@@ -135,7 +136,11 @@ module _ (a b m k : NetView) (settings : Settings) (e : Exposure) (sa : IsSound 
         not_shown = makes_cuts_differ a b settings.expose settings.conflicts outcome outcome_fits sa sb ca.distinct cb.distinct;
       }
 
+  chosen_in_order : StandInOrder a e.names
+  chosen_in_order = record { positions = e.left; in_order = chosen.in_order; within = chosen.left.within; named = chosen.left.named }
+
   -- a net that is too large is refused
   pub too_large : (pairs : List SignalPair) (some : Bool) (side : Side) → Formed m k orders.left orders.right columns some settings.conflicts pairs (Err (plain_error.TooLarge side)) → Compared a b settings (Err (refused.TooLarge side))
-  too_large pairs some A large = (matches, chosen.broken, AreTooLarge.left chosen.choice (cut_at a b m k settings.expose e chosen cut) large)
-  too_large pairs some B large = (matches, chosen.broken, AreTooLarge.right chosen.choice (cut_at a b m k settings.expose e chosen cut) large.0 large.1)
+  too_large pairs some A large = (matches, chosen.broken, AreTooLarge.left chosen.choice chosen_in_order (cut_over e.names (circuit_of a) m cut.left_circuit large))
+  too_large pairs some B large =
+      (matches, chosen.broken, AreTooLarge.right chosen.choice chosen_in_order (cut_light e.names (circuit_of a) m cut.left_circuit large.0) (cut_over e.names (circuit_of b) k cut.right_circuit large.1))

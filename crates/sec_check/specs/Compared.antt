@@ -14,10 +14,10 @@ use Rattle.sec_outcome.specs.declared.outcome.Why.TheVariants as why
 use Rattle.sec_outcome.specs.declared.outcome.Outcome.{Outcome}
 use Rattle.exposure.specs.Common.{common_names}
 use Rattle.exposure.specs.Exposed.{IsFreeWithout, IsToldCycle}
-use Rattle.plain_form.specs.Formed.{IsAcyclic, IsLight, IsTooLarge}
+use Rattle.plain_form.specs.Formed.{IsAcyclic, IsLight}
 use Rattle.sec_check.specs.declared.comparing.CompareError.{CompareError}
 use Rattle.sec_check.specs.declared.comparing.CompareError.TheVariants as refused
-use Rattle.sec_check.specs.Fitting.{IsChoice, AreCutAt, OutcomeFits}
+use Rattle.sec_check.specs.Fitting.{IsChoice, StandInOrder, IsCutOver, IsCutLight, OutcomeFits}
 use Rattle.witness_report.specs.Shown.{MakesDiffer, MakesCutsDiffer, AgreeFrom}
 
 -- the cycle, if any, that is told of a latch graph
@@ -54,10 +54,10 @@ abbrev pub AreBroken : NetView → NetView → Bool → Type 0
 AreBroken a b false = IsAcyclic a × IsAcyclic b
 AreBroken a b true = IsFreeWithout a (common_names (circuit_of a) (circuit_of b)) × IsFreeWithout b (common_names (circuit_of a) (circuit_of b))
 
--- A cut circuit of one of the sides is too large: A, or else B.
+-- With the latches of a choice of names cut out, which stand in A's order, a circuit of one of the sides is too large: A, or else B.
 pub data AreTooLarge (a b : NetView) (expose : Bool) : Side → Type 0 where
-  left : {names : List (List ℕ)} {m k : NetView} → IsChoice a b expose names → AreCutAt a b names m k → IsTooLarge m → AreTooLarge a b expose A
-  right : {names : List (List ℕ)} {m k : NetView} → IsChoice a b expose names → AreCutAt a b names m k → IsLight m → IsTooLarge k → AreTooLarge a b expose B
+  left : {names : List (List ℕ)} → IsChoice a b expose names → StandInOrder a names → IsCutOver names (circuit_of a) → AreTooLarge a b expose A
+  right : {names : List (List ℕ)} → IsChoice a b expose names → StandInOrder a names → IsCutLight names (circuit_of a) → IsCutOver names (circuit_of b) → AreTooLarge a b expose B
 
 -- The outcome, or the first refusal: the interface; a cycle of A, of B; where latches are to be cut open a cycle of A, of B that no
 -- common latch breaks; A's size, B's size.

@@ -1,9 +1,11 @@
 -- What it means that an outcome fits two circuits, in the plain form.
-use Rattle.std.specs.Prelude.{◌≡◌, ℕ, ◌<◌, Bool, true, false, List, [], ◌∷◌, ◌++◌, length, All}
+use Rattle.std.specs.Prelude.{◌≡◌, ℕ, ◌<◌, ◌≤◌, Bool, true, false, List, [], ◌∷◌, ◌++◌, map, length, All}
 use Rattle.std.specs.List.{AllPairs}
 use Rattle.circuit_theory.specs.declared.Mode.TheVariants.{Plain}
-use Rattle.circuit_theory.specs.Agree.{IsMinimalCut}
+use Rattle.circuit_theory.specs.Agree.{cut, IsMinimalCut}
+use Rattle.circuit_theory.specs.Circuit.{Circuit}
 use Rattle.circuit_theory.specs.Interface.{shared_inputs, AreNumbersOf}
+use Rattle.circuit_theory.specs.Sizes.{IsWeight, IsOver}
 use Rattle.flat_net.specs.Cut.{IsCut, IsCutCircuit, exposed_names}
 use Rattle.flat_net.specs.View.{NetView, circuit_of, ports_of}
 use Rattle.sec_outcome.specs.declared.outcome.Outcome.{Outcome}
@@ -27,6 +29,25 @@ pub record AreCutAt (a b : NetView) (names : List (List ℕ)) (m k : NetView) : 
   pub right_cut : IsCut b k right
   pub left_circuit : IsCutCircuit names (circuit_of a) (circuit_of m)
   pub right_circuit : IsCutCircuit names (circuit_of b) (circuit_of k)
+
+-- the names are those of latches of the net, in its order
+pub record StandInOrder (n : NetView) (names : List (List ℕ)) : Type 0 where
+  pub positions : List ℕ
+  pub in_order : AllPairs (λ i j. i < j) positions
+  pub within : All (λ j. j < length n.latches) positions
+  pub named : exposed_names n positions ≡ names
+
+-- the places of the outputs of the circuit with the latches of these names cut out
+abbrev pub cut_outputs : {P : Type 0} → List (List ℕ) → Circuit P → List P
+cut_outputs names c = map (λ o. o.place) (cut names c).outputs
+
+-- the unfoldings of all these outputs weigh more than 2,000,000 together
+abbrev pub IsCutOver : {P : Type 0} → List (List ℕ) → Circuit P → Type 0
+IsCutOver names c = IsOver (cut names c) (cut_outputs names c) 2000000
+
+-- or at most that
+abbrev pub IsCutLight : {P : Type 0} → List (List ℕ) → Circuit P → Type 0
+IsCutLight names c = (w : ℕ) × IsWeight (cut names c) (cut_outputs names c) w × (w ≤ 2000000)
 
 -- the names of a sequence: the shared inputs in A's order, then the exposed latches
 abbrev pub columns_of : NetView → NetView → List (List ℕ) → List (List ℕ)

@@ -1,0 +1,4 @@
+pub mod NoFaults
+pub mod Ranking
+pub mod CutFlats
+pub mod KeptNames

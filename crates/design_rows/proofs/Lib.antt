@@ -1,0 +1,4 @@
+pub mod Places
+pub mod Tested
+pub mod Examples
+pub mod Toggle

@@ -1,0 +1,39 @@
+//! What every net of some small designs is. The functions do nothing: each contract is an example.
+#![tactic(auto)]
+
+ghost use Rattle.design_rows.specs.Small.{OnAndIsSmall, OffAndIsSmall, LateIsSmall, EarlyIsSmall, HierIsSmall, TwoIsSmall, ToggleIsSmall};
+
+/// An `and` by its one row.
+pub fn on_and_is_small()
+    ensures { OnAndIsSmall }
+{}
+
+/// An `and` by the rows where it is 0.
+pub fn off_and_is_small()
+    ensures { OffAndIsSmall }
+{}
+
+/// An `and` with a latch behind it.
+pub fn late_is_small()
+    ensures { LateIsSmall }
+{}
+
+/// An `and` with a latch at each input.
+pub fn early_is_small()
+    ensures { EarlyIsSmall }
+{}
+
+/// An `and` in an instance, with a latch behind it.
+pub fn hier_is_small()
+    ensures { HierIsSmall }
+{}
+
+/// Two latches in a row.
+pub fn two_is_small()
+    ensures { TwoIsSmall }
+{}
+
+/// A latch that takes over its own value, turned: it lies on a cycle, and is to be cut open.
+pub fn toggle_is_small()
+    ensures { ToggleIsSmall }
+{}

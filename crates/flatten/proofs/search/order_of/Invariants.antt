@@ -1,9 +1,0 @@
-use Rattle.std.proofs.Common.{◌≡◌, ℕ, ◌<◌, []}
-use Rattle.flatten.specs.Searched.{IsMet, IsSearch}
-use Rattle.flatten.proofs.search.order_of.Given as goal
-
-abbrev pub invariant-loop-start : goal.invariant-loop-start
-invariant-loop-start l =
-    IsSearch l.graph l.search.marks.items l.search.way.items l.search.order.items
-    × (l.search.way.items ≡ [])
-    × ((n : ℕ) → n < l.start → IsMet l.search.marks.items n)

@@ -1,0 +1,4 @@
+pub mod Comparing
+pub mod Examples
+pub mod OneNets
+pub mod Stimuli

@@ -1,0 +1,4 @@
+pub mod Texts
+pub mod Premises
+pub mod Stimuli
+pub mod TextNets
