@@ -5,8 +5,6 @@ mod cone;
 mod covers;
 mod graph;
 mod node;
-#[cfg(test)]
-mod tests;
 mod values;
 
 pub use graph::Aig;

@@ -4,8 +4,6 @@
 mod cnf;
 mod cones;
 mod encoding;
-#[cfg(test)]
-mod tests;
 
 pub use cnf::Cnf;
 pub use cones::{Cones, Nodes, cones_of};

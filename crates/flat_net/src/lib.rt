@@ -5,8 +5,6 @@ mod maker;
 mod net;
 mod parts;
 mod signals;
-#[cfg(test)]
-mod tests;
 
 pub use maker::NetMaker;
 pub use net::Net;

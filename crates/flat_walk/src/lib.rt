@@ -9,8 +9,6 @@ mod flat;
 mod numbering;
 mod scope;
 mod tables;
-#[cfg(test)]
-mod tests;
 mod walked;
 mod walking;
 

@@ -11,8 +11,6 @@ mod following;
 mod keeping;
 mod kinds;
 mod source;
-#[cfg(test)]
-mod tests;
 
 pub use finding::wire;
 pub use source::{Source, Wired};
