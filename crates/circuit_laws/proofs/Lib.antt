@@ -6,6 +6,7 @@ pub mod EnabledForm
 pub mod Finite
 pub mod Joined
 pub mod JoinedParts
+pub mod JoinedValues
 pub mod LawProofs
 pub mod LeafVisits
 pub mod Loads

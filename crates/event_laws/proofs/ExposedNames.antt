@@ -1,9 +1,9 @@
 -- With latches exposed by a minimal cut, two places that are settled in the circuits themselves don't both read an exposed name.
-use Rattle.std.proofs.Common.{◌≡◌, ◌≢◌, ℕ, suc, ◌<◌, Bool, true, false, List, [], ◌∷◌, refl, sym, ap, subst, arith, inl, inr, Option, Some, None}
+use Rattle.std.proofs.Common.{◌≡◌, ◌≢◌, ℕ, suc, ◌<◌, Bool, true, false, List, [], ◌∷◌, refl, sym, subst, arith, inl, inr, Option, None}
 use Rattle.std.specs.Prelude.{◌⊎◌}
 use Rattle.std.specs.List.{Contains}
 use Rattle.circuit_theory.specs.declared.Mode.TheVariants.{Event}
-use Rattle.circuit_theory.specs.Circuit.{Circuit, Latch, IsInput, IsLatch, IsSource, IsSingleDriven, InCone, Reaches, Meets}
+use Rattle.circuit_theory.specs.Circuit.{Circuit, Latch, IsInput, IsLatch, IsSingleDriven, InCone, Reaches, Meets}
 use Rattle.circuit_theory.specs.Run.{IsRun, IsEnabled, Loads, Marked}
 use Rattle.circuit_theory.specs.Net.{IsNet, HasDistinctNames}
 use Rattle.circuit_theory.specs.Joined.{Either, Left, Right, joined, beside}

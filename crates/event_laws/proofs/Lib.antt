@@ -12,6 +12,7 @@ pub mod Exchanged
 pub mod ExposedCycles
 pub mod ExposedEvents
 pub mod ExposedNames
+pub mod FrameExist
 pub mod FrameValues
 pub mod OneClassMap
 pub mod ReachedLatches

@@ -5,10 +5,9 @@ use Rattle.std.specs.Prelude.{◌⊎◌, ◌↔◌}
 use Rattle.std.specs.List.{Contains}
 use Rattle.std.proofs.lemmas.List.Elements.{Contains-append_cases, Contains-append_left, Contains-append_right}
 use Rattle.circuit_theory.specs.Cover.{Cover}
-use Rattle.circuit_theory.specs.Circuit.{Circuit, Equation, Gate, Latch, Port, IsInput, IsLatch, IsSingleDriven, Reads, Reaches}
+use Rattle.circuit_theory.specs.Circuit.{Circuit, Equation, Gate, Latch, Port, IsLatch, IsSingleDriven, Reads, Reaches}
 use Rattle.circuit_theory.specs.Run.{IsEnabled, IsDetermined}
-use Rattle.circuit_theory.specs.Depth.{LatchesHaveDepths}
-use Rattle.circuit_theory.specs.Joined.{Either, Left, Right, joined}
+use Rattle.circuit_theory.specs.Joined.{joined}
 use Rattle.event_theory.specs.Frame.{EventSide, ConeLatches, ConeOthers, ReachedAt}
 use Rattle.event_theory.specs.EventSizes.{Start, IsOther}
 use Rattle.event_theory.specs.EventTotals.{StartLatches}

@@ -1,7 +1,7 @@
 //! The laws of the event form. None of these functions does anything: each contract is a law that is proved for all flat nets, by the
 //! same definitions that the contracts of the working calls cite.
 
-ghost use Rattle.event_laws.specs.Laws.{EventFunctionsAgree, ExposedEventFunctionsAgree, SettledHasEvents, EventsAreCommon, EventWitnessMakesDiffer, SidesAreParts, CutIsNet, TreesAreFrameValues, ClassesAreOne, DifferencesAreShown, EventDifferenceIsWitness, ExposedEventsAreCommon, ClassesSoFarAreOne, ReachedAreListed, ClosedListsAreReached, ExposedNamesAreApart};
+ghost use Rattle.event_laws.specs.Laws.{EventFunctionsAgree, ExposedEventFunctionsAgree, SettledHasEvents, EventsAreCommon, EventWitnessMakesDiffer, SidesAreParts, CutIsNet, TreesAreFrameValues, ClassesAreOne, DifferencesAreShown, EventDifferenceIsWitness, ExposedEventsAreCommon, ClassesSoFarAreOne, ReachedAreListed, ClosedListsAreReached, ExposedNamesAreApart, FrameValuesExist};
 
 /// Where the event functions of each pair of outputs agree in each frame with care for both, the two circuits agree in the event mode
 /// on each output wherever it is settled in both.
@@ -91,4 +91,9 @@ pub fn closed_lists_are_reached()
 /// both read an exposed name.
 pub fn exposed_names_are_apart()
     ensures { ExposedNamesAreApart }
+{}
+
+/// Each frame has values at each node, where it is known of each latch whether it is enabled.
+pub fn frame_values_exist()
+    ensures { FrameValuesExist }
 {}

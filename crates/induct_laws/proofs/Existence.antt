@@ -26,6 +26,7 @@ use Rattle.induct_laws.specs.Laws.{CoarsestExists}
 use Rattle.induct_laws.proofs.Deciding.{decided_imp, decided_both, decided_not, bits_decided, decided_each, decided_some, decided_beside, assignments, all_assigned}
 use Rattle.induct_laws.proofs.Partitions.{split_coarser, initial_coarser}
 use Rattle.induct_laws.proofs.Splitting.{split_by, split_is, initial, initial_is, place_number, place_number-distinct, joined_one_start}
+use Rattle.circuit_laws.proofs.JoinedValues.{joined_values}
 
 length_without : {X : Type 0} (ys : List X) (i : ℕ) (y : X) → slice_get ys i ≡ Some y → suc (length (without ys i)) ≡ length ys
 length_without [] i y e = absurd (let k = slice_get_within [] i y e in omega arith)
@@ -267,26 +268,6 @@ module _ {P : Type 0} (c : Circuit P) (order : List ℕ) where
     coarsest_from block coarser starts =
         let all = pairs c.equations c.equations in
         find_coarsest (length all) all block (omega arith) (λ e f l m h. all_pairs c.equations c.equations e f l m) coarser starts
-
--- values of two nets side by side
-pub joined_values : (a b : Circuit ℕ) (m n : ℕ) → IsNet a m → IsNet b n → (x : Either ℕ ℕ → Bool) → (v : Either ℕ ℕ → Bool) × Extends (joined a b) x v
-joined_values a b m n na nb x = (beside v w, record { meets = meets_both a b v w (net_value-meets a m na own) (net_value-meets b n nb other); sources = sources })
-  where
-    own : ℕ → Bool
-    own p = x (Left p)
-
-    other : ℕ → Bool
-    other q = x (Right q)
-
-    v : ℕ → Bool
-    v = net_value a own
-
-    w : ℕ → Bool
-    w = net_value b other
-
-    sources : (p : Either ℕ ℕ) → IsSource (joined a b) p → beside v w p ≡ x p
-    sources (Left p) s = net_value-source a m na own p (source_from a (joined a b) Left (replace_left a b) (left_part a b) p s)
-    sources (Right q) s = net_value-source b n nb other q (source_from b (joined a b) Right (replace_right a b) (right_part a b) q s)
 
 pub coarsest_exists : CoarsestExists
 coarsest_exists a b m n order na nb oa ob =

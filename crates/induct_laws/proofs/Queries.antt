@@ -18,7 +18,7 @@ use Rattle.circuit_theory.proofs.Lists.{Contains-head, Contains-tail, Contains-c
 use Rattle.induct_laws.specs.Queries.{BlockUnfolds, BlockUnfoldsAll, ReadsBlocks, AssignmentsAreValues, block_query}
 use Rattle.induct_laws.specs.Laws.{BlocksAreVariables, QueriesDecide}
 use Rattle.induct_laws.proofs.Deciding.{if_same}
-use Rattle.induct_laws.proofs.Existence.{joined_values}
+use Rattle.circuit_laws.proofs.JoinedValues.{joined_values}
 
 -- what the assignment has to give inputs and latches
 module _ {P : Type 0} (c : Circuit P) (order : List ℕ) (block : P → ℕ) (a : ℕ → Source → Bool) (x : P → Bool) (meets : Meets c x)
