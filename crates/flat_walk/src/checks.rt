@@ -13,11 +13,11 @@ use crate::error::FlatError;
 use crate::scope::Scope;
 use crate::tables::{Formals, Tables};
 use blif_read::{BlifModel, Pair};
-use sec_base::{NameTable, NoMemory, Seq, Word};
+use sec_base::{MAX_LEVELS, MAX_NAME_BYTES, NameTable, NoMemory, Seq, Word};
 use std::alloc::Global;
 
-/// The most steps from the main model, which stands on the first of 64 levels.
-const STEPS: usize = 63;
+/// The most steps from the main model, which stands on the first level.
+const STEPS: usize = MAX_LEVELS - 1;
 
 fn word(alloc: Global, name: &[u8]) -> Result<Word, NoMemory>
     ensures { IfOk result (λ made. made ≡ name.now) }
@@ -29,7 +29,7 @@ fn word(alloc: Global, name: &[u8]) -> Result<Word, NoMemory>
 pub(crate) fn is_long(prefix: usize, name: &[u8]) -> bool
     ensures { result ≡ is_long_behind prefix name.now }
 {
-    prefix > 4096 || name.len() > 4096 - prefix
+    prefix > MAX_NAME_BYTES || name.len() > MAX_NAME_BYTES - prefix
 }
 
 /// Whether one of the names behind so many bytes has more than 4,096 bytes.

@@ -8,7 +8,7 @@ use sec_base::{NoMemory, Seq, Word, put, put_number};
 use std::alloc::Global;
 
 /// A step into an instance: the number of its model, and its number among the instances of the model around it.
-#[derive(Clone, Copy, Debug)]
+#[derive(Clone, Copy)]
 pub(crate) struct Step {
     pub(crate) model: u32,
     pub(crate) instance: usize,
@@ -16,7 +16,7 @@ pub(crate) struct Step {
 
 /// A scope of the hierarchy: the steps that lead to it from the main model, the number of the model there, and what
 /// stands before the names of its signals.
-#[derive(Debug, Drop)]
+#[derive(Drop)]
 pub(crate) struct Scope {
     pub(crate) steps: Vec<Step>,
     pub(crate) model: u32,

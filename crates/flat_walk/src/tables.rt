@@ -12,7 +12,7 @@ use sec_base::{NameTable, NoMemory, Word};
 use std::alloc::Global;
 
 /// The ports of a model.
-#[derive(Debug, Drop)]
+#[derive(Drop)]
 pub(crate) struct Formals {
     /// Inputs and clocks.
     pub(crate) inputs: NameTable,
@@ -22,7 +22,7 @@ pub(crate) struct Formals {
 }
 
 /// The names of the models by number, and for each model its ports.
-#[derive(Debug, Drop)]
+#[derive(Drop)]
 pub(crate) struct Tables {
     pub(crate) names: NameTable,
     pub(crate) formals: Vec<Formals>,

@@ -11,17 +11,11 @@ use crate::error::FlatError;
 use crate::flat::{FlatKind, FlatStatement, FlatStatements};
 use crate::numbering::{number, number_of_option, numbers};
 use blif_read::Pair;
-use sec_base::{Edge, Init, NameTable, NoMemory, Seq, Word};
+use sec_base::{Edge, Init, MAX_PLACES, MAX_STATEMENTS, NameTable, NoMemory, Seq, Word};
 use std::alloc::Global;
 
-/// The most flat statements.
-const STATEMENTS: usize = 400_000;
-
-/// The most places at which flat statements write a signal's name.
-const PLACES: usize = 4_000_000;
-
 /// The flat statements so far with the names of their signals, and how many statements and places were counted.
-#[derive(Debug, Drop)]
+#[derive(Drop)]
 pub(crate) struct Walked {
     pub(crate) names: NameTable,
     pub(crate) statements: FlatStatements,
@@ -48,7 +42,7 @@ impl Walked {
         ensures ok { OnOk result ((is_too_many (self.old.count + statements) (self.old.places + places) ≡ false) × IsKept self.new × (self.new ≡ record self.old { count = self.old.count + statements; places = self.old.places + places })) }
         ensures err { IfErr result (λ e. (is_too_many (self.old.count + statements) (self.old.places + places) ≡ true) × (e ≡ flat_error.TooMany)) }
     {
-        if statements > STATEMENTS - self.count || places > PLACES - self.places {
+        if statements > MAX_STATEMENTS - self.count || places > MAX_PLACES - self.places {
             return Err(FlatError::TooMany);
         }
         self.count += statements;
