@@ -1,6 +1,6 @@
 //! The top call.
 
-ghost use Rattle.std.specs.Prelude.{◌≡◌, ◌≢◌, ◌≤◌, ℕ, List, [], IsErrOf, IsSomeAnd, IfOk, OnOk, map, string_bytes, Option, None, Some, option_and_then, option_to_list, ◌++◌};
+ghost use Rattle.std.specs.Prelude.{◌≡◌, ◌≢◌, ◌≤◌, ℕ, List, IsErrOf, IsSomeAnd, IfOk, OnOk, map, string_bytes, Option, None, Some, option_and_then, option_to_list, ◌++◌};
 ghost use Rattle.std.specs.List.{filter_map};
 ghost use Rattle.circuit_theory.specs.declared.Mode.TheVariants.{Plain};
 ghost use Rattle.sec_base.specs.Outside.{Rose, SameHeld, NoneFell};
@@ -164,27 +164,20 @@ fn comparison_report(
     Ok((text, proofs))
 }
 
-/// The report without proofs.
-fn bare(alloc: Global, text: Result<Text, NoMemory>) -> Result<(Text, Proofs), NoMemory>
-    ensures text { (wanted : List ℕ) → IfOk text (λ t. t ≡ wanted) → IfOk result (λ made. made.0 ≡ wanted) }
-    ensures proofs { IfOk result (λ made. made.1 ≡ []) }
-{
-    match text {
-        Ok(text) => Ok((text, Proofs::new(alloc))),
-        Err(error) => Err(error),
-    }
-}
-
 /// The report of what was found, and the proofs of the queries that met the limit, in the order in which they were decided.
 fn report_of(alloc: Global, finding: Finding) -> Result<(Text, Proofs), NoMemory>
     ensures text { IfOk result (λ made. made.0 ≡ finding_text finding) }
     ensures proofs { IfOk result (λ made. made.1 ≡ proofs_of finding) }
 {
     match finding {
-        Finding::Words => bare(alloc, words_report(alloc)),
-        Finding::Refused(refusal) => bare(alloc, refusal_report(alloc, &refusal)),
-        Finding::Cyclic(side, names) => bare(alloc, cycle_report(alloc, side, &names)),
-        Finding::Unpaired(side, names) => bare(alloc, unpaired_report(alloc, side, &names)),
+        Finding::Words => Ok((words_report(alloc)?, Proofs::new(alloc))),
+        Finding::Refused(refusal) => Ok((refusal_report(alloc, &refusal)?, Proofs::new(alloc))),
+        Finding::Cyclic(side, names) => {
+            Ok((cycle_report(alloc, side, &names)?, Proofs::new(alloc)))
+        }
+        Finding::Unpaired(side, names) => {
+            Ok((unpaired_report(alloc, side, &names)?, Proofs::new(alloc)))
+        }
         Finding::Checked(outcome, settings) => comparison_report(alloc, outcome, &settings),
         Finding::Done(text) => Ok((text, Proofs::new(alloc))),
     }
