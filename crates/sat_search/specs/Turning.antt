@@ -1,0 +1,36 @@
+-- The state of a search from turn to turn.
+use Rattle.std.specs.Prelude.{◌≡◌, ℕ, ◌+◌, ◌-◌, ◌*◌, ◌<◌, List, [], length}
+use Rattle.proof_check.specs.Literals.{Literal}
+use Rattle.sat_search.specs.Found.{IsFound}
+use Rattle.sat_search.specs.Trails.{TrailView}
+use Rattle.sat_search.specs.Watching.{IsWatched}
+use Rattle.sat_search.specs.Learning.{IsLoading}
+use Rattle.sat_search.specs.Running.{IsSearching}
+use Rattle.sat_search.specs.declared.outcome.Found.TheVariants as found
+use Rattle.sat_search.specs.declared.turning.SearchState.{SearchState}
+use Rattle.sat_search.specs.declared.turning.Turn.{Turn}
+use Rattle.sat_search.specs.declared.turning.Turn.TheVariants.{Goes, Model, Refuted, Limit}
+
+-- the given clauses are there, and nothing was done with them
+pub record IsNewState (clauses : List (List Literal)) (variables : ℕ) (s : SearchState) : Type 0 where
+  pub stored : s.store ≡ clauses
+  pub empty : s.log ≡ []
+  pub no_entries : s.trail ≡ record { variables = variables; entries = [] }
+  pub loading : IsLoading [] s.trail s.watches.pairs.items s.watches.watchers
+  pub first : s.watches.head ≡ 0
+
+-- the given clauses and those that the log derives are watched
+pub record IsRunning (clauses : List (List Literal)) (variables conflicts : ℕ) (s : SearchState) : Type 0 where
+  pub searching : IsSearching clauses variables conflicts s.store s.trail s.log
+  pub watched : IsWatched s.store s.trail s.watches.pairs.items s.watches.watchers s.watches.head
+
+-- how many conflicts are left, and before the next of them free variables
+abbrev pub work_left : ℕ → ℕ → SearchState → ℕ
+work_left variables conflicts s = (conflicts - length s.log) * (variables + 1) + (variables - length s.trail.entries)
+
+-- the search goes on with less work left, or something is found
+abbrev pub IsTurned : List (List Literal) → ℕ → ℕ → SearchState → SearchState → Turn → Type 0
+IsTurned clauses variables conflicts old new Goes = IsRunning clauses variables conflicts new × (work_left variables conflicts new < work_left variables conflicts old)
+IsTurned clauses variables conflicts old new (Model bits) = IsFound clauses variables conflicts (found.Model bits)
+IsTurned clauses variables conflicts old new Refuted = IsFound clauses variables conflicts (found.Refuted new.log)
+IsTurned clauses variables conflicts old new Limit = IsFound clauses variables conflicts (found.Limit new.log)
