@@ -20,8 +20,7 @@ use Rattle.flat_net.specs.View.{NetView, is_read, ports_of}
 use Rattle.flat_net.specs.declared.parts.Driver.TheVariants as driver
 use Rattle.flat_net.specs.Sound.{IsSound}
 use Rattle.std.proofs.lemmas.Option.{slice_get_within, get_or_from_slice_get, slice_get_read}
-use Rattle.circuit_theory.proofs.Lists.{at_of, of_at, Contains-map, Contains-map_from, Contains-filter}
-use Rattle.circuit_laws.proofs.Designs.{map_at}
+use Rattle.circuit_theory.proofs.Lists.{at_of, of_at, map_at, Contains-map, Contains-map_from, Contains-filter}
 use Rattle.sec_check.proofs.Shared.{some_is, Contains-filter_in, filter-passed}
 use Rattle.sec_check.specs.Numbered.{stays}
 use Rattle.flat_net.proofs.PlaceLists.{filter-take}

@@ -1,7 +1,7 @@
 -- The numbers of the inputs, one by one, and what they make for two circuits.
 use Rattle.std.proofs.Common.{◌≡◌, ◌≢◌, ℕ, zero, suc, ◌+◌, ◌<◌, ◌≤◌, Bool, true, false, cond, List, [], ◌∷◌, ◌++◌, length, get_or, map, take, refl, sym, ◌∙◌, ap, subst, arith, inl, inr, ◌⊎◌, Option, Some, None, slice_get, length-append}
 use Rattle.std.specs.List.{Contains, AllPairs, filter}
-use Rattle.circuit_theory.proofs.Lists.{length-map, at_of, of_at, All-from_each}
+use Rattle.circuit_theory.proofs.Lists.{length-map, map_at, at_of, of_at, All-from_each}
 use Rattle.flat_net.specs.declared.parts.Port.{Port}
 use Rattle.flat_net.specs.View.{NetView, ports_of}
 use Rattle.flat_net.specs.Sound.{IsSound}
@@ -10,7 +10,6 @@ use Rattle.sec_check.specs.Choosing.{AreNumbered}
 use Rattle.sec_check.specs.Compared.{InterfaceFails, RefusesName}
 use Rattle.sec_check.specs.declared.comparing.CompareError.{CompareError}
 use Rattle.sec_check.specs.declared.comparing.CompareError.TheVariants as refused
-use Rattle.circuit_laws.proofs.Designs.{map_at}
 use Rattle.std.proofs.lemmas.Option.{slice_get_within, slice_get-get_or}
 use Rattle.circuit_theory.specs.Names.{is_among}
 use Rattle.circuit_theory.specs.Interface.{Ports, inputs_beside, shared_inputs, first_missing, first_mismatch, ◌or_else◌, AreNumbersOf, AreOrders}

@@ -22,7 +22,7 @@ use Rattle.pair_decide.specs.declared.query.SameBy.TheVariants as same
 use Rattle.pair_decide.specs.declared.query.Decision.{Decision}
 use Rattle.pair_decide.specs.declared.query.Decision.TheVariants as decision
 use Rattle.pair_decide.specs.Answers.{IsDifference, Decides}
-use Rattle.pair_decide.proofs.Numbered.{assigned_to-at}
+use Rattle.lane_eval.proofs.Numbered.{assigned_to-at}
 use Rattle.unate_enable.specs.declared.support.LatchCone.{LatchCone}
 use Rattle.unate_enable.specs.Cones.{out_of_latch, data_of_latch, IsConeOfLatch, places_of}
 use Rattle.unate_enable.specs.declared.recovery.Recovery.{Recovery}
