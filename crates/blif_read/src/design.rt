@@ -9,7 +9,7 @@ ghost use Rattle.blif_lines.specs.Lines.{is_empty};
 use sec_base::{Cover, Edge, Init, Seq, Word, Words};
 
 /// A pair of a `.subckt` statement: a signal name of the model that is used, and the signal of the model around it.
-#[derive(Debug, Drop)]
+#[derive(Drop)]
 pub struct Pair {
     pub formal: Word,
     pub actual: Word,
@@ -19,7 +19,7 @@ pub struct Pair {
 pub type Pairs = Seq<Pair>;
 
 /// A statement of a model, with the number of the line on which it begins, from 1.
-#[derive(Debug, Drop)]
+#[derive(Drop)]
 pub enum Statement {
     /// `.names`: the output has the cover's value of the fan-ins.
     Names {
@@ -50,7 +50,7 @@ pub enum Statement {
 pub type Statements = Seq<Statement>;
 
 /// A model: its ports and its statements, in the order of the text.
-#[derive(Debug, Drop)]
+#[derive(Drop)]
 pub struct BlifModel {
     pub name: Word,
     pub inputs: Words,
@@ -63,7 +63,7 @@ pub struct BlifModel {
 pub type BlifModels = Seq<BlifModel>;
 
 /// A design: the models of a text. The first is the main one.
-#[derive(Debug, Drop)]
+#[derive(Drop)]
 pub struct Design {
     pub models: BlifModels,
     /// There is a main model.

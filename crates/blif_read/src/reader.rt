@@ -21,7 +21,7 @@ use std::alloc::Global;
 use std::mem;
 
 /// What was read so far.
-#[derive(Debug, Drop)]
+#[derive(Drop)]
 pub(crate) struct Reader {
     /// The names of all models, the open one's among them.
     pub(crate) names: NameTable,

@@ -30,7 +30,7 @@ use std::marker::Model;
 const LIMIT: u32 = 2_000_000;
 
 /// A signal as a function of inputs at earlier cycles.
-#[derive(Debug, Drop)]
+#[derive(Drop)]
 pub struct Unfolded {
     /// The function in the graph.
     pub lit: Lit,

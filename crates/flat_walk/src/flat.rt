@@ -8,7 +8,7 @@ ghost use Rattle.flat_walk.specs.Within.{is_within, reads_as_kind, written_place
 use sec_base::{Edge, Ids, Init, NameTable, Seq};
 
 /// What a flat statement is.
-#[derive(Clone, Copy, Debug)]
+#[derive(Clone, Copy)]
 pub enum FlatKind {
     /// A gate: its cover is that of a statement of a model, by their places in the design.
     Gate {
@@ -27,7 +27,7 @@ pub enum FlatKind {
 
 /// A flat statement: the signal that it drives, and the signals that it reads in their order, by the numbers of their
 /// flat names. A gate reads its fan-ins, a latch its data alone (its clock stands in its kind), a port the other side.
-#[derive(Debug, Drop)]
+#[derive(Drop)]
 pub struct FlatStatement {
     pub out: u32,
     pub reads: Ids,
@@ -38,7 +38,7 @@ pub struct FlatStatement {
 pub type FlatStatements = Seq<FlatStatement>;
 
 /// The flat statements of a design in the order of the walk, the main model's ports, and the flat names by number.
-#[derive(Debug, Drop)]
+#[derive(Drop)]
 pub struct Flat {
     pub names: NameTable,
     pub inputs: Ids,

@@ -5,7 +5,7 @@ use circuit_theory::Mode;
 use sec_base::{FilePath, Word};
 
 /// What the words of a command line ask for: a job.
-#[derive(Debug, Drop)]
+#[derive(Drop)]
 pub enum Task {
     /// Compare the circuits of two files.
     Check {
