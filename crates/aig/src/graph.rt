@@ -99,7 +99,9 @@ impl Aig {
         }
     }
 
-    /// The variable's literal. After `NoMemory` nothing has changed.
+    /// The literal of the variable with this number, which is at most 2^32 - 2. Where the graph doesn't have it, it
+    /// makes one node, so the graph has at most 2^30 - 2 before. After `NoMemory`, which comes where memory was
+    /// wanted, nothing has changed.
     pub fn input(&mut self, var: u32) -> Result<Lit, NoMemory>
         requires room { length self.old + 1 < 2 ^ 30 }
         requires small { var + 1 < 2 ^ 32 }
@@ -117,7 +119,10 @@ impl Aig {
         Ok(lit)
     }
 
-    /// The literal of the and. The same arguments give the same literal. After `NoMemory` nothing has changed.
+    /// The literal of the and of two literals of the graph, each less than twice the number of nodes. The same arguments
+    /// give the same literal, in either order. A constant operand, equal operands and an operand with its complement
+    /// need no node; else the node is looked up, and made where the graph doesn't have it (structural hashing), so the
+    /// graph has at most 2^30 - 2 before. After `NoMemory`, which comes where memory was wanted, nothing has changed.
     pub fn and(&mut self, l: Lit, r: Lit) -> Result<Lit, NoMemory>
         requires left { l.0 < 2 * length self.old }
         requires right { r.0 < 2 * length self.old }

@@ -1,7 +1,7 @@
 use Rattle.std.proofs.Common.{◌≡◌, ℕ, ◌/◌, ◌<◌, map, slice_get, Some, Contains}
 use Rattle.aig.specs.declared.node.Lit.{Lit}
 use Rattle.aig.specs.Cone.{IsSeen}
-use Rattle.aig.proofs.graph.Aig.cone.Given as goal
+use Rattle.aig.proofs.cone.reached.Given as goal
 
 abbrev pub invariant-loop-i : goal.invariant-loop-i
 invariant-loop-i l = record {
