@@ -15,7 +15,7 @@ pub struct Pair {
     pub actual: Word,
 }
 
-/// Pairs.
+/// Pairs of one `.subckt`, in their order.
 pub type Pairs = Seq<Pair>;
 
 /// A statement of a model, with the number of the line on which it begins, from 1.
@@ -46,7 +46,7 @@ pub enum Statement {
     },
 }
 
-/// Statements.
+/// Statements of one model, in their order.
 pub type Statements = Seq<Statement>;
 
 /// A model: its ports and its statements, in the order of the text.
@@ -59,7 +59,7 @@ pub struct BlifModel {
     pub statements: Statements,
 }
 
-/// Models.
+/// Models, in their order.
 pub type BlifModels = Seq<BlifModel>;
 
 /// A design: the models of a text. The first is the main one.
