@@ -5,7 +5,8 @@ ghost use Rattle.std.specs.List.{list_all, sum_by};
 ghost use Rattle.sec_base.specs.Table.{AreDistinct};
 ghost use Rattle.flat_walk.specs.Within.{is_within, reads_as_kind, written_places};
 
-use sec_base::{Edge, Ids, Init, NameTable, Seq};
+use sec_base::{Duplicate, Edge, Ids, Init, NameTable, NoMemory, Seq};
+use std::alloc::Global;
 
 /// What a flat statement is.
 #[derive(Clone, Copy)]
@@ -32,6 +33,16 @@ pub struct FlatStatement {
     pub out: u32,
     pub reads: Ids,
     pub kind: FlatKind,
+}
+
+impl Duplicate for FlatStatement {
+    fn duplicate(&self, _alloc: Global) -> Result<FlatStatement, NoMemory> {
+        Ok(FlatStatement {
+            out: self.out,
+            reads: self.reads.copy()?,
+            kind: self.kind,
+        })
+    }
 }
 
 /// Flat statements.
