@@ -127,13 +127,43 @@ fn with_command<'a>(command: Command<'a>, sub: Command<'a>) -> Result<Command<'a
     command.subcommand(sub)
 }
 
+fn with_check<'a>(alloc: Global, command: Command<'a>) -> Result<Command<'a>, AllocError>
+    ensures { IfOk result (λ c. app_of c ≡ with_subcommand (app_of command.entry) check_app.top) }
+{
+    with_command(command, check_command(alloc)?)
+}
+
+fn with_graph<'a>(alloc: Global, command: Command<'a>) -> Result<Command<'a>, AllocError>
+    ensures { IfOk result (λ c. app_of c ≡ with_subcommand (app_of command.entry) graph_app.top) }
+{
+    with_command(command, graph_command(alloc)?)
+}
+
+fn with_sim<'a>(alloc: Global, command: Command<'a>) -> Result<Command<'a>, AllocError>
+    ensures { IfOk result (λ c. app_of c ≡ with_subcommand (app_of command.entry) sim_app.top) }
+{
+    with_command(command, sim_command(alloc)?)
+}
+
+fn with_replay<'a>(alloc: Global, command: Command<'a>) -> Result<Command<'a>, AllocError>
+    ensures { IfOk result (λ c. app_of c ≡ with_subcommand (app_of command.entry) replay_app.top) }
+{
+    with_command(command, replay_command(alloc)?)
+}
+
+fn with_gen<'a>(alloc: Global, command: Command<'a>) -> Result<Command<'a>, AllocError>
+    ensures { IfOk result (λ c. app_of c ≡ with_subcommand (app_of command.entry) gen_app.top) }
+{
+    with_command(command, gen_command(alloc)?)
+}
+
 /// The command `sec` with its subcommands.
 pub(crate) fn sec_command<'a>(alloc: Global) -> Result<Command<'a>, AllocError>
     ensures { IfOk result (λ c. app_of c ≡ sec_app) }
 {
-    let command = with_command(top_command(alloc), check_command(alloc)?)?;
-    let command = with_command(command, graph_command(alloc)?)?;
-    let command = with_command(command, sim_command(alloc)?)?;
-    let command = with_command(command, replay_command(alloc)?)?;
-    with_command(command, gen_command(alloc)?)
+    let command = with_check(alloc, top_command(alloc))?;
+    let command = with_graph(alloc, command)?;
+    let command = with_sim(alloc, command)?;
+    let command = with_replay(alloc, command)?;
+    with_gen(alloc, command)
 }

@@ -6,9 +6,11 @@
 
 mod command;
 mod jobs;
+mod laws;
 mod settings;
 mod task;
 
 pub use jobs::{WordsError, job};
+pub use laws::{taken_words_are_job, words_are_taken};
 pub use settings::Settings;
 pub use task::Task;
