@@ -4,7 +4,8 @@ ghost use Rattle.std.specs.Prelude.{◌≡◌, IfOk};
 ghost use Rattle.blif_read.specs.declared.design.Statement.TheVariants as statement;
 
 use crate::design::{BlifModel, Pair, Pairs, Statement};
-use sec_base::{Cover, Duplicate, Edge, Init, NoMemory, Word, Words};
+use crate::statements::latch_with;
+use sec_base::{Cover, Duplicate, NoMemory, Word, Words};
 use std::alloc::Global;
 
 impl Duplicate for Pair {
@@ -25,27 +26,6 @@ fn names_copy(line: u32, fanins: &Words, out: &Word, cover: &Cover) -> Result<St
         fanins: fanins.copy()?,
         out: out.copy()?,
         cover: cover.copy()?,
-    })
-}
-
-/// A `.latch` with copies of these.
-fn latch_copy(
-    line: u32,
-    input: &Word,
-    output: &Word,
-    edge: Option<Edge>,
-    control: Option<Word>,
-    init: Init,
-) -> Result<Statement, NoMemory>
-    ensures { IfOk result (λ made. made ≡ statement.Latch line input.now output.now edge control init) }
-{
-    Ok(Statement::Latch {
-        line,
-        input: input.copy()?,
-        output: output.copy()?,
-        edge,
-        control,
-        init,
     })
 }
 
@@ -76,10 +56,11 @@ impl Duplicate for Statement {
                 edge,
                 control,
                 init,
-            } => latch_copy(
+            } => latch_with(
+                alloc,
                 *line,
-                input,
-                output,
+                input.as_slice(),
+                output.as_slice(),
                 *edge,
                 control.duplicate(alloc)?,
                 *init,
