@@ -1,6 +1,6 @@
 -- What a subcommand's words give where they have no fault.
-use Rattle.std.proofs.Common.{◌≡◌, ◌<◌, ◌&&◌, ◌||◌, not, ℕ, zero, suc, Bool, cond, true, false, List, [], ◌∷◌, ◌++◌, length, fold, Option, Some, None, is_some, refl, sym, ap, subst, ◌∙◌, arith, true≢false, eqb-true}
-use Rattle.std.specs.Prelude.{⊤, ◌==◌, find, slice_get, option_and_then}
+use Rattle.std.proofs.Common.{◌≡◌, ◌<◌, ◌&&◌, ◌||◌, not, Bool, cond, true, false, List, [], ◌∷◌, ◌++◌, length, fold, Some, refl, sym, ap, subst, ◌∙◌, arith, true≢false, eqb-true}
+use Rattle.std.specs.Prelude.{find, slice_get, option_and_then}
 use Rattle.std.specs.List.{list_any}
 use Rattle.std.specs.Option.{option_map_or}
 use Rattle.std.specs.Str.{bytes_eq}
@@ -9,12 +9,12 @@ use Rattle.clap.specs.Facts.{explicit_source, parser_of_value}
 use Rattle.clap.specs.Kinds.{Kinds, check_kinds, or_else, request_kinds, value_kinds, values_kinds}
 use Rattle.clap.specs.Faults.{check_fault, default_fault, defaults_fault, given_default_fault, level_fault, settle_fault, values_fault, walk_fault}
 use Rattle.clap.specs.Takes.{is_given}
-use Rattle.clap.specs.Walk.{Held, Row, Rule, Text, Walk, action_of, arg_by_id, at_row, default_rows, finished, first_of, has_row, is_empty, more_values, nothing_held, reading_by, rows_after, settled, walk, walk_from, with_default, with_values}
+use Rattle.clap.specs.Walk.{Held, Row, Rule, Text, action_of, arg_by_id, default_rows, finished, first_of, has_row, is_empty, more_values, nothing_held, reading_by, rows_after, settled, walk, walk_from, with_default, with_values}
 use Rattle.clap.specs.Simple.{Shape}
 use Rattle.clap.specs.declared.parser.matches.ValueSource.{ValueSource}
 use Rattle.clap.specs.declared.parser.matches.ValueSource.TheVariants.{DefaultValue}
 use Rattle.clap.specs.declared.builder.value_parser.Reading.{Reading}
-use Rattle.sec_words.proofs.Taken.{else_first, else_next, same_text, EachRule, rule_found, IsOwn, AreGood, AreGoodFor, good_values, good_settled, good_walk}
+use Rattle.sec_words.proofs.Taken.{else_first, else_next, same_text, EachRule, IsOwn, AreGood, good_values, good_settled, good_walk}
 
 -- a row stays
 has_more : (id other : Text) (how : Reading) (s : ValueSource) (values : List Text) (rows : List Row) → has_row id rows ≡ true → has_row id (with_values other how s values rows) ≡ true
