@@ -2,14 +2,12 @@
 //! (local minimisation: Beame, Kautz and Sabharwal; Sorensson and Biere).
 
 ghost use Rattle.std.specs.Prelude.{◌<◌, ◌≤◌, ◌^◌, length, OnOk};
-ghost use Rattle.sat_search.specs.Found.{InRange};
-ghost use Rattle.sat_search.specs.Trails.{IsTrail};
+ghost use Rattle.clause_watch.specs.Range.{InRange};
+ghost use Rattle.clause_watch.specs.Trails.{IsTrail};
 ghost use Rattle.sat_search.specs.Uniques.{IsUnique};
 
 use crate::analysis::{is_forced, resolve_with_reason};
-use crate::places::Placed;
-use crate::store::Store;
-use crate::trail::Trail;
+use clause_watch::{Placed, Store, Trail};
 use proof_check::{Chain, Resolver};
 use sec_base::NoMemory;
 use std::alloc::Global;
