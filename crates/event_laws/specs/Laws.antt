@@ -1,5 +1,5 @@
 -- What holds of all flat nets in the event form. Each law is the contract of a function of this crate.
-use Rattle.std.specs.Prelude.{◌≡◌, ◌≢◌, ℕ, ◌<◌, ◌↔◌, Bool, true, false, not, ◌||◌, max, List, [], length, None, ◌∷◌, ◌++◌, Option, ◌⊎◌}
+use Rattle.std.specs.Prelude.{◌≡◌, ◌≢◌, ℕ, ◌<◌, ◌↔◌, Bool, true, false, not, ◌||◌, max, List, [], length, None, ◌∷◌, ◌++◌, Option}
 use Rattle.std.specs.List.{All, Contains, AllPairs}
 use Rattle.circuit_theory.specs.declared.Mode.{Mode}
 use Rattle.circuit_theory.specs.declared.Mode.TheVariants.{Event}
@@ -140,8 +140,8 @@ ExposedNamesAreApart = (a b : Circuit ℕ) (m n : ℕ) (names : List (List ℕ))
     EventVisits (side_by_side (cut names a) (cut names b) left right class) (IsEnabled (joined (cut names a) (cut names b))) (record { place = Left p; left_out = None } ∷ []) out (Left u) node →
     EventVisits (side_by_side (cut names a) (cut names b) left right class) (IsEnabled (joined (cut names a) (cut names b))) (record { place = Right q; left_out = None } ∷ []) out' (Right v) node' → ⊥
 
--- Each frame has values at each node, where it is known of each latch whether it is enabled.
+-- Each frame has values at each node.
 abbrev pub FrameValuesExist : Type 0
 FrameValuesExist = (a b : Circuit ℕ) (m n : ℕ) (left right : List ℕ) (class : Either ℕ ℕ → ℕ) → IsNet a m → IsNet b n → length left ≡ length a.inputs → length right ≡ length b.inputs →
-    LatchesHaveDepths (joined a b) (IsEnabled (joined a b)) → ((v : Either ℕ ℕ) → IsEnabled (joined a b) v ⊎ (IsEnabled (joined a b) v → ⊥)) → (bits : ℕ → List ℕ → Bool) →
+    LatchesHaveDepths (joined a b) (IsEnabled (joined a b)) → (bits : ℕ → List ℕ → Bool) →
     (w : List ℕ → Either ℕ ℕ → Bool) × AreFrameValues (side_by_side a b left right class) (IsEnabled (joined a b)) bits w

@@ -93,7 +93,7 @@ pub fn exposed_names_are_apart()
     ensures { ExposedNamesAreApart }
 {}
 
-/// Each frame has values at each node, where it is known of each latch whether it is enabled.
+/// Each frame has values at each node.
 pub fn frame_values_exist()
     ensures { FrameValuesExist }
 {}
