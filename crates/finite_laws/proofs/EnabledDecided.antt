@@ -30,7 +30,7 @@ fanins_of (Port out from) other = other
 
 module _ {P : Type 0} (c : Circuit P) (same : (p q : P) → (p ≡ q) ⊎ (p ≢ q)) (single : IsSingleDriven c) where
   -- an input or latch reads nothing in its own cycle
-  source_reads : {p q : P} → IsSource c p → Reads c p q → ⊥
+  pub source_reads : {p q : P} → IsSource c p → Reads c p q → ⊥
   source_reads {p} (inl i) (Reads.by_gate {fanins = fanins} {cover = cover} eq h) = single.no_input (Gate p fanins cover) eq i
   source_reads {p} (inl i) (Reads.by_port {from = from} eq) = single.no_input (Port p from) eq i
   source_reads {p} (inr l) (Reads.by_gate {fanins = fanins} {cover = cover} eq h) = wrong (single.one (Gate p fanins cover) (Latch l.0 p l.1) eq l.2 refl)
@@ -43,7 +43,7 @@ module _ {P : Type 0} (c : Circuit P) (same : (p q : P) → (p ≡ q) ⊎ (p ≢
       wrong e = cc
 
   -- a gate reads its fan-ins alone
-  gate_reads : {out q : P} (fanins : List P) (cover : Cover) → Contains c.equations (Gate out fanins cover) → Reads c out q → Contains fanins q
+  pub gate_reads : {out q : P} (fanins : List P) (cover : Cover) → Contains c.equations (Gate out fanins cover) → Reads c out q → Contains fanins q
   gate_reads {out} {q} fanins cover at (Reads.by_gate {fanins = others} {cover = other} eq h) =
       subst (λ (fs : List P). Contains fs q) (ap (λ e. fanins_of e fanins) (single.one (Gate out others other) (Gate out fanins cover) eq at refl)) h
   gate_reads {out} {q} fanins cover at (Reads.by_port {from = from} eq) = absurd (wrong (single.one (Port out from) (Gate out fanins cover) eq at refl))
@@ -59,7 +59,7 @@ module _ {P : Type 0} (c : Circuit P) (same : (p q : P) → (p ≡ q) ⊎ (p ≢
       wrong e = cc
   port_reads {out} {q} from at (Reads.by_port {from = other} eq) = ap next_of (single.one (Port out from) (Port out other) at eq refl)
 
-  steps : {p u : P} → Reaches c p u → (p ≡ u) ⊎ ((q : P) × Reads c p q × Reaches c q u)
+  pub steps : {p u : P} → Reaches c p u → (p ≡ u) ⊎ ((q : P) × Reads c p q × Reaches c q u)
   steps Reaches.here = inl refl
   steps (Reaches.there {q = q} reads rest) = inr (q, reads, rest)
 

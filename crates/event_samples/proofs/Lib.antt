@@ -1,0 +1,4 @@
+pub mod Each
+pub mod ExposedPair
+pub mod HoldCells
+pub mod TwoClasses

@@ -1,0 +1,1 @@
+//! The samples. None of these functions does anything: each contract is a computed example.
