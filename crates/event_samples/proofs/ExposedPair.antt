@@ -7,7 +7,7 @@ use Rattle.circuit_theory.specs.declared.Mode.TheVariants.{Event}
 use Rattle.circuit_theory.specs.Names.{same_name}
 use Rattle.circuit_theory.specs.Cover.{Cover, cover_value}
 use Rattle.circuit_theory.specs.Circuit.{Circuit, Gate, Latch, Named, IsLatch, IsSource, IsSingleDriven, Reads, Reaches, Holds}
-use Rattle.circuit_theory.specs.Run.{ExtendsWith, IsEnabled}
+use Rattle.circuit_theory.specs.Run.{IsRun, ExtendsWith, IsEnabled, Marked}
 use Rattle.circuit_theory.specs.Net.{IsNet, HasDistinctNames}
 use Rattle.circuit_theory.specs.Depth.{LatchReads, LatchPath, HasCycle, without}
 use Rattle.circuit_theory.specs.Tree.{IsInputNumber}
@@ -24,7 +24,7 @@ use Rattle.circuit_samples.proofs.NetTest.{net_test-sound}
 use Rattle.event_samples.specs.Samples.{held, opened, before, behind, exposed, load_cover, load_not_cover, same_cover, not_cover, numbers, class_at, class_of}
 use Rattle.event_samples.specs.Premises.{AreEventSides, AreExposedSides, PairsAreEqual}
 use Rattle.event_samples.proofs.Each.{Each, each_at, EachLatch, each_latch}
-use Rattle.event_samples.proofs.HoldCells.{IsHold, hold_enabled, hold_reads}
+use Rattle.event_samples.proofs.HoldCells.{IsHold, hold_enabled, hold_reads, hold_marked}
 use Rattle.event_samples.proofs.TwoClasses.{left_side, right_side, event_sides, joined_q_enabled, z_equal, y_equal, t_equal, holds_load, loads_load, holds_not, loads_not}
 
 -- the place of a latch, and of an input, of a name
@@ -45,11 +45,17 @@ module _ (load out : Cover) (holds : (b bit : Bool) → cover_value load (false 
   pub held_net : IsNet (held load out) 11
   held_net = net_test-sound (held load out) 11 refl
 
-  abbrev own : EventSide ℕ
+  abbrev pub own : EventSide ℕ
   own = record { circuit = c; order = 0 ∷ 1 ∷ 2 ∷ []; class = class_at }
 
   once : (p i j : ℕ) → IsInputNumber c own.order p i → IsInputNumber c own.order p j → i ≡ j
   once p i j h k = one_number c.inputs own.order held_net.inputs p i j h k
+
+  abbrev pub held_q : IsHold own 3 4
+  held_q = record { e = 0; a = 2; i = 0; j = 2; load = load; gate = (0, omega arith, refl); e_is = inl (refl, refl); a_is = inr (inr (inl (refl, refl))); holds = holds; loads = loads }
+
+  abbrev held_r : IsHold own 5 6
+  held_r = record { e = 1; a = 2; i = 1; j = 2; load = load_cover; gate = (1, omega arith, refl); e_is = inr (inl (refl, refl)); a_is = inr (inr (inl (refl, refl))); holds = holds_load; loads = loads_load }
 
   -- each latch but t loads under an enable
   Kind : List ℕ → ℕ → ℕ → Type 0
@@ -57,13 +63,7 @@ module _ (load out : Cover) (holds : (b bit : Bool) → cover_value load (false 
 
   kind : (name : List ℕ) (u next : ℕ) → IsLatch c name u next → Kind name u next
   unfolding Kind
-  kind name u next latch = each_latch Kind c.equations (inr q, (inr r, (inl refl, tt))) name u next latch
-    where
-      q : IsHold own 3 4
-      q = record { e = 0; a = 2; i = 0; j = 2; load = load; gate = (0, omega arith, refl); e_is = inl (refl, refl); a_is = inr (inr (inl (refl, refl))); holds = holds; loads = loads }
-
-      r : IsHold own 5 6
-      r = record { e = 1; a = 2; i = 1; j = 2; load = load_cover; gate = (1, omega arith, refl); e_is = inr (inl (refl, refl)); a_is = inr (inr (inl (refl, refl))); holds = holds_load; loads = loads_load }
+  kind name u next latch = each_latch Kind c.equations (inr held_q, (inr held_r, (inl refl, tt))) name u next latch
 
   -- without t no latch reads another
   no_reading : (u v : ℕ) → LatchReads c (EnabledIn Event c) exposed u v → ⊥
@@ -79,6 +79,12 @@ module _ (load out : Cover) (holds : (b bit : Bool) → cover_value load (false 
   pub held_free : HasCycle (held load out) (EnabledIn Event (held load out)) exposed → ⊥
   held_free (u, LatchPath.edge e) = no_reading u u e
   held_free (u, LatchPath.step {v = v} e rest) = no_reading u v e
+
+  -- where e is 1 in a run, z is settled in the next cycle
+  pub held_z_marked : (n : ℕ) (run : ℕ → ℕ → Bool) → IsRun (held load out) n run → (t : ℕ) → t < n → run t 0 ≡ true → Marked (held load out) (IsEnabled (held load out)) run (suc t) 9
+  held_z_marked n run is_run t l e =
+      Marked.gate {fanins = 3 ∷ []} {cover = out} (3, omega arith, refl)
+      (λ p k. subst (Marked c (IsEnabled c) run (suc t)) (only 3 p k) (hold_marked own same_or_not held_net.single once (codes "q") 3 4 (5, omega arith, refl) held_q (net_can_put c 11 held_net) n run is_run t l e))
 
   t_latch : IsLatch c (codes "t") 7 8
   t_latch = (7, omega arith, refl)
@@ -168,11 +174,11 @@ minimal = record {
     needed zero h = inl (held_cycle load_not_cover same_cover holds_not loads_not)
     needed (suc i) h = absurd (omega arith)
 
-cut_before : cut exposed before ≡ left_side
+pub cut_before : cut exposed before ≡ left_side
 unfolding cut
 cut_before = refl
 
-cut_behind : cut exposed behind ≡ right_side
+pub cut_behind : cut exposed behind ≡ right_side
 unfolding cut
 cut_behind = refl
 

@@ -7,7 +7,7 @@ use Rattle.std.proofs.lemmas.List.Elements.{All-contains}
 use Rattle.std.proofs.lemmas.Option.{slice_get-get_or}
 use Rattle.circuit_theory.specs.Cover.{Cover, cover_value}
 use Rattle.circuit_theory.specs.Circuit.{Circuit, Equation, Gate, Latch, Port, IsInput, IsLatch, IsSource, IsSingleDriven, InCone, Reads, Reaches, Meets, Holds}
-use Rattle.circuit_theory.specs.Run.{ExtendsWith, IsEnabled, Loads, CanPut, IsDetermined}
+use Rattle.circuit_theory.specs.Run.{IsRun, ExtendsWith, IsEnabled, Loads, CanPut, Marked}
 use Rattle.circuit_theory.specs.Depth.{LatchReads, LatchPath, LatchChain, ChainFrom, IsDepth, LatchesHaveDepths}
 use Rattle.circuit_theory.specs.Tree.{Tree, Leaf, Fixed, Branch, Nil, Cons, IsInputNumber, tree_value}
 use Rattle.circuit_theory.specs.Cone.{latches_of}
@@ -115,6 +115,17 @@ module _ {P : Type 0} (side : EventSide P) (same : (p q : P) → (p ≡ q) ⊎ (
         first : (next ≡ w) ⊎ ((q : P) × Reads c next q × Reaches c q w) → w ≡ u
         first (inl e) = absurd (wrong (single.one (Gate next (h.e ∷ h.a ∷ u ∷ []) h.load) (Latch other next to) h.gate (subst (λ (z : P). IsLatch c other z to) (sym e) is) refl))
         first (inr r) = each_at Goes (h.e ∷ h.a ∷ u ∷ []) fanin r.0 (gate_reads c same single (h.e ∷ h.a ∷ u ∷ []) h.load h.gate r.1) r.2
+
+    -- where it loads in a run it is settled from then on
+    pub hold_marked : CanPut c → (n : ℕ) (run : ℕ → P → Bool) → IsRun c n run → (t : ℕ) → t < n → run t h.e ≡ true → Marked c On run (suc t) u
+    hold_marked can n run is_run t l e = Marked.loads {name = name} {next = next} latch hold_enabled others (hold_loads can (run t) (is_run.meets t l) e)
+      where
+        others : (w : P) → InCone c next w → w ≢ u → Marked c On run t w
+        others w cone n = go cone.0
+          where
+            go : IsSource c w → Marked c On run t w
+            go (inl i) = Marked.input i
+            go (inr l) = absurd (n (hold_reads w l.0 l.1 l.2 cone.1))
 
     -- the tree of what it takes over
     pub hold_next : (bit : Bool) (node : List ℕ) → EventUnfolds side On (Some (u, bit)) next node (hold_tree h.load h.i h.j bit node)

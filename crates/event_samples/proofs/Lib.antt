@@ -1,4 +1,6 @@
 pub mod Each
+pub mod EventRuns
 pub mod ExposedPair
 pub mod HoldCells
+pub mod Reached
 pub mod TwoClasses

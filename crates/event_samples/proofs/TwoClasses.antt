@@ -13,23 +13,24 @@ use Rattle.circuit_theory.specs.Cone.{latches_of}
 use Rattle.circuit_theory.specs.Joined.{Either, Left, Right, joined}
 use Rattle.circuit_theory.specs.Agree.{Agree, IsPair}
 use Rattle.event_theory.specs.Frame.{EventSide, EventUnfolds, EventUnfoldsAll, ConeLatches, HasCare}
-use Rattle.event_theory.specs.Classes.{IsInFirstClass, IsClassMap, HasClasses, classes_of}
+use Rattle.event_theory.specs.Classes.{IsInFirstClass, IsClassMap, IsLatchOrder, HasClasses, classes_of}
 use Rattle.event_theory.specs.EventFits.{side_by_side, HaveEqualEvents}
 use Rattle.circuit_theory.proofs.Inputs.{beside_is_input}
 use Rattle.circuit_theory.proofs.Numbers.{one_place}
 use Rattle.circuit_laws.proofs.JoinedParts.{joined_same, joined_single, joined_number_once}
 use Rattle.event_laws.proofs.EventAgreement.{events_agree}
 use Rattle.circuit_samples.proofs.NetTest.{net_test-sound, numbers_distinct-sound}
-use Rattle.event_samples.specs.Samples.{opened, load_cover, load_not_cover, same_cover, not_cover, all_cover, numbers, class_of}
+use Rattle.event_samples.specs.Samples.{opened_before, opened_behind, load_cover, load_not_cover, same_cover, not_cover, all_cover, numbers, class_of}
 use Rattle.event_samples.specs.Premises.{AreEventSides}
+use Rattle.event_samples.specs.Events.{HasTwoClasses}
 use Rattle.event_samples.proofs.Each.{Each, each_at, EachLatch, each_latch, each_pair, each_split}
 use Rattle.event_samples.proofs.HoldCells.{IsHold, hold_tree, hold_enabled, hold_unfolds, hold_enable_is, hold_depths, in_first, in_their_order}
 
 abbrev pub left_side : Circuit ℕ
-left_side = opened load_not_cover same_cover
+left_side = opened_before
 
 abbrev pub right_side : Circuit ℕ
-right_side = opened load_cover not_cover
+right_side = opened_behind
 
 abbrev pub whole : Circuit (Either ℕ ℕ)
 whole = joined left_side right_side
@@ -197,14 +198,16 @@ class_map = record {
 apart : AllPairs (λ u v. u ≢ v) order
 apart = each_pair (λ u v. u ≢ v) order (((λ e. cc), ((λ e. cc), ((λ e. cc), tt))), (((λ e. cc), ((λ e. cc), tt)), (((λ e. cc), tt), (tt, tt))))
 
+pub latch_order : IsLatchOrder side order
+latch_order = in_their_order side joined_same single number_once all_hold class_is apart (λ u h. each_at LatchAt order (lq, (lr, (rq, (rr, tt)))) u h)
+    (λ name u next latch. each_latch (λ m v to. Contains order v) whole.equations ((0, omega arith, refl), ((1, omega arith, refl), ((2, omega arith, refl), ((3, omega arith, refl), tt)))) name u next latch)
+
 pub classes : HasClasses side
-classes = record {
-  numbered = refl;
-  order = order;
-  is_order = in_their_order side joined_same single number_once all_hold class_is apart (λ u h. each_at LatchAt order (lq, (lr, (rq, (rr, tt)))) u h)
-      (λ name u next latch. each_latch (λ m v to. Contains order v) whole.equations ((0, omega arith, refl), ((1, omega arith, refl), ((2, omega arith, refl), ((3, omega arith, refl), tt)))) name u next latch);
-  is_map = class_map;
-}
+classes = record { numbered = refl; order = order; is_order = latch_order; is_map = class_map }
+
+pub two_classes : HasTwoClasses
+unfolding classes
+two_classes = (classes, refl)
 
 pub event_sides : AreEventSides left_side right_side 11 11 numbers numbers class_of
 event_sides = record { left_net = left_net; right_net = right_net; numbered = numbered; left_long = refl; right_long = refl; classes = classes; depths = depths }

@@ -2,7 +2,9 @@
 use Rattle.std.specs.Prelude.{◌==◌, ℕ, if◌then◌else◌, List, [], ◌∷◌, codes, true}
 use Rattle.circuit_theory.specs.Cover.{Cover}
 use Rattle.circuit_theory.specs.Circuit.{Circuit, Gate, Latch}
-use Rattle.circuit_theory.specs.Joined.{Either, Left, Right}
+use Rattle.circuit_theory.specs.Joined.{Either, Left, Right, joined}
+use Rattle.event_theory.specs.Frame.{EventSide}
+use Rattle.event_theory.specs.EventFits.{side_by_side}
 
 -- the value of the one fan-in
 abbrev pub same_cover : Cover
@@ -71,3 +73,16 @@ class_at p = if p == 3 then 1 else if p == 5 then 2 else 0
 abbrev pub class_of : Either ℕ ℕ → ℕ
 class_of (Left p) = class_at p
 class_of (Right q) = class_at q
+
+abbrev pub opened_before : Circuit ℕ
+opened_before = opened load_not_cover same_cover
+
+abbrev pub opened_behind : Circuit ℕ
+opened_behind = opened load_cover not_cover
+
+-- the opened circuits side by side
+abbrev pub opened_both : Circuit (Either ℕ ℕ)
+opened_both = joined opened_before opened_behind
+
+abbrev pub opened_side : EventSide (Either ℕ ℕ)
+opened_side = side_by_side opened_before opened_behind numbers numbers class_of
