@@ -21,7 +21,8 @@ use Rattle.event_samples.specs.Samples.{before, behind, exposed, load_cover, loa
 use Rattle.event_samples.specs.Events.{ReachOneNode, HasSettledPair, HasExposedSettledPair}
 use Rattle.event_samples.proofs.Each.{Each, each_at}
 use Rattle.event_samples.proofs.HoldCells.{IsHold, hold_marked, hold_loads}
-use Rattle.event_samples.proofs.TwoClasses.{left_side, right_side, whole, side, left_net, right_net, numbered, single, number_once, classes, depths, left_q, left_r, right_q, right_r, left_q_latch, left_r_latch, right_q_latch, right_r_latch, left_y_reads, left_z_reads, holds_load, loads_load, holds_not, loads_not}
+use Rattle.event_samples.proofs.Opened.{holds_load, loads_load, holds_not, loads_not}
+use Rattle.event_samples.proofs.TwoClasses.{left_side, right_side, whole, side, left_net, right_net, numbered, single, number_once, classes, depths, left_q, left_r, right_q, right_r, left_q_latch, left_r_latch, right_q_latch, right_r_latch, left_y_reads, left_z_reads}
 use Rattle.event_samples.proofs.ExposedPair.{before_net, behind_net, held_z_marked, cut_before, cut_behind}
 
 -- a run of two cycles in which each input is 1

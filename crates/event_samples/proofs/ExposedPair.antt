@@ -25,7 +25,8 @@ use Rattle.event_samples.specs.Samples.{held, opened, before, behind, exposed, l
 use Rattle.event_samples.specs.Premises.{AreEventSides, AreExposedSides, PairsAreEqual}
 use Rattle.event_samples.proofs.Each.{Each, each_at, EachLatch, each_latch}
 use Rattle.event_samples.proofs.HoldCells.{IsHold, hold_enabled, hold_reads, hold_marked}
-use Rattle.event_samples.proofs.TwoClasses.{left_side, right_side, event_sides, joined_q_enabled, z_equal, y_equal, t_equal, holds_load, loads_load, holds_not, loads_not}
+use Rattle.event_samples.proofs.Opened.{holds_load, loads_load, holds_not, loads_not}
+use Rattle.event_samples.proofs.TwoClasses.{left_side, right_side, event_sides, joined_q_enabled, z_equal, y_equal, t_equal}
 
 -- the place of a latch, and of an input, of a name
 abbrev latch_of_name : List ℕ → ℕ

@@ -2,5 +2,6 @@ pub mod Each
 pub mod EventRuns
 pub mod ExposedPair
 pub mod HoldCells
+pub mod Opened
 pub mod Reached
 pub mod TwoClasses

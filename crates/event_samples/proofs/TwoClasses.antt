@@ -23,8 +23,12 @@ use Rattle.circuit_samples.proofs.NetTest.{net_test-sound, numbers_distinct-soun
 use Rattle.event_samples.specs.Samples.{opened_before, opened_behind, load_cover, load_not_cover, same_cover, not_cover, all_cover, numbers, class_of}
 use Rattle.event_samples.specs.Premises.{AreEventSides}
 use Rattle.event_samples.specs.Events.{HasTwoClasses}
-use Rattle.event_samples.proofs.Each.{Each, each_at, EachLatch, each_latch, each_pair, each_split}
+use Rattle.event_samples.proofs.Opened
+use Rattle.event_samples.proofs.Opened.{LoadPair, holds_load, loads_load, holds_not, loads_not}
 use Rattle.event_samples.proofs.HoldCells.{IsHold, hold_tree, hold_enabled, hold_unfolds, hold_enable_is, hold_depths, in_first, in_their_order}
+
+abbrev pub pair : LoadPair
+pair = record { la = load_not_cover; oa = same_cover; lb = load_cover; ob = not_cover; holds_a = holds_not; loads_a = loads_not; holds_b = holds_load; loads_b = loads_load }
 
 abbrev pub left_side : Circuit ℕ
 left_side = opened_before
@@ -38,297 +42,111 @@ whole = joined left_side right_side
 abbrev pub side : EventSide (Either ℕ ℕ)
 side = side_by_side left_side right_side numbers numbers class_of
 
-pub left_net : IsNet left_side 11
-left_net = net_test-sound left_side 11 refl
-
-pub right_net : IsNet right_side 11
-right_net = net_test-sound right_side 11 refl
-
-pub numbered : AreNumbered left_side right_side numbers numbers
-numbered = record {
-  left_once = λ p q i h k. once p q i h k;
-  right_once = λ p q i h k. once p q i h k;
-  shared = λ p q i h k. let n = beside_is_input left_side.inputs numbers p i h in (n.0, n.1, subst (λ z. Contains right_side.inputs (record { name = n.0; place = z })) (once p q i h k) n.1);
-}
-  where
-    once : (p q i : ℕ) → StandsBeside left_side.inputs numbers p i → StandsBeside left_side.inputs numbers q i → p ≡ q
-    once p q i h k = one_place left_side.inputs numbers (numbers_distinct-sound numbers refl) p q i h k
-
-pub single : IsSingleDriven whole
-single = joined_single left_side right_side 11 11 left_net right_net
-
-pub number_once : (p : Either ℕ ℕ) (i j : ℕ) → IsInputNumber whole side.order p i → IsInputNumber whole side.order p j → i ≡ j
-number_once p i j h k = joined_number_once left_side right_side 11 11 left_net right_net numbers numbers refl p i j h k
-
-pub holds_load : (b bit : Bool) → cover_value load_cover (false ∷ b ∷ bit ∷ []) ≡ bit
-unfolding cover_value
-holds_load true true = refl
-holds_load true false = refl
-holds_load false true = refl
-holds_load false false = refl
-
-pub loads_load : (b : Bool) → cover_value load_cover (true ∷ b ∷ false ∷ []) ≡ cover_value load_cover (true ∷ b ∷ true ∷ [])
-unfolding cover_value
-loads_load true = refl
-loads_load false = refl
-
-pub holds_not : (b bit : Bool) → cover_value load_not_cover (false ∷ b ∷ bit ∷ []) ≡ bit
-unfolding cover_value
-holds_not true true = refl
-holds_not true false = refl
-holds_not false true = refl
-holds_not false false = refl
-
-pub loads_not : (b : Bool) → cover_value load_not_cover (true ∷ b ∷ false ∷ []) ≡ cover_value load_not_cover (true ∷ b ∷ true ∷ [])
-unfolding cover_value
-loads_not true = refl
-loads_not false = refl
-
--- the four latches
-abbrev pub left_q : IsHold side (Left 3) (Left 4)
-left_q = record { e = Left 0; a = Left 2; i = 0; j = 2; load = load_not_cover; gate = (0, omega arith, refl); e_is = inl (refl, refl); a_is = inr (inr (inl (refl, refl))); holds = holds_not; loads = loads_not }
-
-abbrev pub left_r : IsHold side (Left 5) (Left 6)
-left_r = record { e = Left 1; a = Left 2; i = 1; j = 2; load = load_cover; gate = (1, omega arith, refl); e_is = inr (inl (refl, refl)); a_is = inr (inr (inl (refl, refl))); holds = holds_load; loads = loads_load }
-
-abbrev pub right_q : IsHold side (Right 3) (Right 4)
-right_q = record {
-  e = Right 0;
-  a = Right 2;
-  i = 0;
-  j = 2;
-  load = load_cover;
-  gate = (7, omega arith, refl);
-  e_is = inr (inr (inr (inr (inl (refl, refl)))));
-  a_is = inr (inr (inr (inr (inr (inr (inl (refl, refl)))))));
-  holds = holds_load;
-  loads = loads_load;
-}
-
-abbrev pub right_r : IsHold side (Right 5) (Right 6)
-right_r = record {
-  e = Right 1;
-  a = Right 2;
-  i = 1;
-  j = 2;
-  load = load_cover;
-  gate = (8, omega arith, refl);
-  e_is = inr (inr (inr (inr (inr (inl (refl, refl))))));
-  a_is = inr (inr (inr (inr (inr (inr (inl (refl, refl)))))));
-  holds = holds_load;
-  loads = loads_load;
-}
-
-pub left_q_latch : IsLatch whole (codes "q") (Left 3) (Left 4)
-left_q_latch = (5, omega arith, refl)
-
-pub left_r_latch : IsLatch whole (codes "r") (Left 5) (Left 6)
-left_r_latch = (6, omega arith, refl)
-
-pub right_q_latch : IsLatch whole (codes "q") (Right 3) (Right 4)
-right_q_latch = (12, omega arith, refl)
-
-pub right_r_latch : IsLatch whole (codes "r") (Right 5) (Right 6)
-right_r_latch = (13, omega arith, refl)
-
--- each latch is one of them, and of the class after its enable's number
-abbrev HoldOfClass : List ℕ → Either ℕ ℕ → Either ℕ ℕ → Type 0
-HoldOfClass name u next = (h : IsHold side u next) × (class_of u ≡ suc h.i)
-
-each_hold : (name : List ℕ) (u next : Either ℕ ℕ) → IsLatch whole name u next → HoldOfClass name u next
-each_hold name u next latch = each_latch HoldOfClass whole.equations ((left_q, refl), ((left_r, refl), ((right_q, refl), ((right_r, refl), tt)))) name u next latch
-
-pub all_hold : (name : List ℕ) (u next : Either ℕ ℕ) → IsLatch whole name u next → IsHold side u next
-all_hold name u next latch = (each_hold name u next latch).0
-
-class_is : (name : List ℕ) (u next : Either ℕ ℕ) (latch : IsLatch whole name u next) → class_of u ≡ suc (all_hold name u next latch).i
-unfolding all_hold
-class_is name u next latch = (each_hold name u next latch).1
-
-pub depths : LatchesHaveDepths whole (IsEnabled whole)
-depths = hold_depths side joined_same single number_once all_hold
-
 abbrev pub order : List (Either ℕ ℕ)
 order = Left 3 ∷ Left 5 ∷ Right 3 ∷ Right 5 ∷ []
 
-abbrev LatchAt : Either ℕ ℕ → Type 0
-LatchAt u = (name : List ℕ) × (next : Either ℕ ℕ) × IsLatch whole name u next
+pub left_net : IsNet left_side 11
+left_net = Opened.left_net pair
 
-lq : LatchAt (Left 3)
-lq = (codes "q", Left 4, left_q_latch)
+pub right_net : IsNet right_side 11
+right_net = Opened.right_net pair
 
-lr : LatchAt (Left 5)
-lr = (codes "r", Left 6, left_r_latch)
+pub numbered : AreNumbered left_side right_side numbers numbers
+numbered = Opened.numbered pair
 
-rq : LatchAt (Right 3)
-rq = (codes "q", Right 4, right_q_latch)
+pub single : IsSingleDriven whole
+single = Opened.single pair
 
-rr : LatchAt (Right 5)
-rr = (codes "r", Right 6, right_r_latch)
+pub number_once : (p : Either ℕ ℕ) (i j : ℕ) → IsInputNumber whole side.order p i → IsInputNumber whole side.order p j → i ≡ j
+number_once = Opened.number_once pair
 
--- r of either side comes after A's q, which founds class 1
-after_q : (front : List (Either ℕ ℕ)) → Contains front (Left 3) → (k : ℕ) → suc k < 2 → (u : Either ℕ ℕ) × Contains front u × (class_of u ≡ suc k)
-after_q front h zero l = (Left 3, h, refl)
-after_q front h (suc k) l = absurd (omega arith)
+abbrev pub left_q : IsHold side (Left 3) (Left 4)
+left_q = Opened.left_q pair
 
-none_before : (front : List (Either ℕ ℕ)) → (k : ℕ) → suc k < 1 → (u : Either ℕ ℕ) × Contains front u × (class_of u ≡ suc k)
-none_before front k l = absurd (omega arith)
+abbrev pub left_r : IsHold side (Left 5) (Left 6)
+left_r = Opened.left_r pair
 
-first_class : (front : List (Either ℕ ℕ)) (v : Either ℕ ℕ) → LatchAt v → Each LatchAt front → class_of v ≤ classes_of side front + 1 → ((k : ℕ) → suc k < class_of v → (u : Either ℕ ℕ) × Contains front u × (class_of u ≡ suc k)) → IsInFirstClass side front v
-first_class front v at latches most earlier = in_first side joined_same single number_once all_hold class_is front v at (λ u h. each_at LatchAt front latches u h) most earlier
+abbrev pub right_q : IsHold side (Right 3) (Right 4)
+right_q = Opened.right_q pair
+
+abbrev pub right_r : IsHold side (Right 5) (Right 6)
+right_r = Opened.right_r pair
+
+pub left_q_latch : IsLatch whole (codes "q") (Left 3) (Left 4)
+left_q_latch = Opened.left_q_latch pair
+
+pub left_r_latch : IsLatch whole (codes "r") (Left 5) (Left 6)
+left_r_latch = Opened.left_r_latch pair
+
+pub right_q_latch : IsLatch whole (codes "q") (Right 3) (Right 4)
+right_q_latch = Opened.right_q_latch pair
+
+pub right_r_latch : IsLatch whole (codes "r") (Right 5) (Right 6)
+right_r_latch = Opened.right_r_latch pair
+
+pub all_hold : (name : List ℕ) (u next : Either ℕ ℕ) → IsLatch whole name u next → IsHold side u next
+all_hold = Opened.all_hold pair
+
+pub depths : LatchesHaveDepths whole (IsEnabled whole)
+depths = Opened.depths pair
 
 pub class_map : IsClassMap side order
-class_map = record {
-  plain = λ name u next latch off. absurd (off (hold_enabled side joined_same single number_once name u next latch (all_hold name u next latch)));
-  each = λ front after v e. each_split (IsInFirstClass side) order splits front after v e;
-}
-  where
-    splits : IsInFirstClass side [] (Left 3) × (IsInFirstClass side (Left 3 ∷ []) (Left 5) × (IsInFirstClass side (Left 3 ∷ Left 5 ∷ []) (Right 3) × (IsInFirstClass side (Left 3 ∷ Left 5 ∷ Right 3 ∷ []) (Right 5) × Unit {0})))
-    splits = (
-      first_class [] (Left 3) lq tt (omega arith) (none_before []),
-      (
-        first_class (Left 3 ∷ []) (Left 5) lr (lq, tt) (omega arith) (after_q (Left 3 ∷ []) (0, omega arith, refl)),
-        (
-          first_class (Left 3 ∷ Left 5 ∷ []) (Right 3) rq (lq, (lr, tt)) (omega arith) (none_before (Left 3 ∷ Left 5 ∷ [])),
-          (first_class (Left 3 ∷ Left 5 ∷ Right 3 ∷ []) (Right 5) rr (lq, (lr, (rq, tt))) (omega arith) (after_q (Left 3 ∷ Left 5 ∷ Right 3 ∷ []) (0, omega arith, refl)), tt),
-        ),
-      ),
-    )
-
-apart : AllPairs (λ u v. u ≢ v) order
-apart = each_pair (λ u v. u ≢ v) order (((λ e. cc), ((λ e. cc), ((λ e. cc), tt))), (((λ e. cc), ((λ e. cc), tt)), (((λ e. cc), tt), (tt, tt))))
+class_map = Opened.class_map pair
 
 pub latch_order : IsLatchOrder side order
-latch_order = in_their_order side joined_same single number_once all_hold class_is apart (λ u h. each_at LatchAt order (lq, (lr, (rq, (rr, tt)))) u h)
-    (λ name u next latch. each_latch (λ m v to. Contains order v) whole.equations ((0, omega arith, refl), ((1, omega arith, refl), ((2, omega arith, refl), ((3, omega arith, refl), tt)))) name u next latch)
+latch_order = Opened.latch_order pair
 
 pub classes : HasClasses side
-classes = record { numbered = refl; order = order; is_order = latch_order; is_map = class_map }
+classes = Opened.classes pair
 
 pub two_classes : HasTwoClasses
-unfolding classes
-two_classes = (classes, refl)
+two_classes = Opened.two_classes pair
 
 pub event_sides : AreEventSides left_side right_side 11 11 numbers numbers class_of
-event_sides = record { left_net = left_net; right_net = right_net; numbered = numbered; left_long = refl; right_long = refl; classes = classes; depths = depths }
-
--- the trees of the outputs
-abbrev pub left_z : Tree (List ℕ)
-left_z = Branch same_cover (Cons (hold_tree load_not_cover 0 2 false (1 ∷ [])) Nil)
-
-abbrev pub right_z : Tree (List ℕ)
-right_z = Branch not_cover (Cons (hold_tree load_cover 0 2 false (1 ∷ [])) Nil)
-
-abbrev pub y_of : Tree (List ℕ) → Tree (List ℕ)
-y_of z = Branch all_cover (Cons z (Cons (hold_tree load_cover 1 2 false (2 ∷ [])) (Cons (Leaf 3 []) Nil)))
-
-abbrev pub t_tree : Tree (List ℕ)
-t_tree = Branch not_cover (Cons (Leaf 3 []) Nil)
-
-abbrev On : Either ℕ ℕ → Type 0
-On = IsEnabled whole
-
-pub left_z_unfolds : EventUnfolds side On None (Left 9) [] left_z
-left_z_unfolds = EventUnfolds.gate {fanins = Left 3 ∷ []} (3, omega arith, refl) (EventUnfoldsAll.more (hold_unfolds side joined_same single number_once (codes "q") (Left 3) (Left 4) left_q_latch left_q []) EventUnfoldsAll.none)
-
-pub right_z_unfolds : EventUnfolds side On None (Right 9) [] right_z
-right_z_unfolds = EventUnfolds.gate {fanins = Right 3 ∷ []} (10, omega arith, refl) (EventUnfoldsAll.more (hold_unfolds side joined_same single number_once (codes "q") (Right 3) (Right 4) right_q_latch right_q []) EventUnfoldsAll.none)
-
-pub left_y_unfolds : EventUnfolds side On None (Left 10) [] (y_of left_z)
-left_y_unfolds =
-    EventUnfolds.gate {fanins = Left 9 ∷ Left 5 ∷ Left 7 ∷ []} (4, omega arith, refl)
-    (EventUnfoldsAll.more left_z_unfolds
-    (EventUnfoldsAll.more (hold_unfolds side joined_same single number_once (codes "r") (Left 5) (Left 6) left_r_latch left_r [])
-    (EventUnfoldsAll.more (EventUnfolds.input (inr (inr (inr (inl (refl, refl)))))) EventUnfoldsAll.none)))
-
-pub right_y_unfolds : EventUnfolds side On None (Right 10) [] (y_of right_z)
-right_y_unfolds =
-    EventUnfolds.gate {fanins = Right 9 ∷ Right 5 ∷ Right 7 ∷ []} (11, omega arith, refl)
-    (EventUnfoldsAll.more right_z_unfolds
-    (EventUnfoldsAll.more (hold_unfolds side joined_same single number_once (codes "r") (Right 5) (Right 6) right_r_latch right_r [])
-    (EventUnfoldsAll.more (EventUnfolds.input (inr (inr (inr (inr (inr (inr (inr (inl (refl, refl)))))))))) EventUnfoldsAll.none)))
+event_sides = Opened.event_sides pair
 
 pub left_z_reads : Reaches whole (Left 9) (Left 3)
-left_z_reads = Reaches.there (Reads.by_gate {fanins = Left 3 ∷ []} (3, omega arith, refl) (0, omega arith, refl)) Reaches.here
+left_z_reads = Opened.left_z_reads pair
 
 pub left_y_reads : Reaches whole (Left 10) (Left 3)
-left_y_reads = Reaches.there (Reads.by_gate {fanins = Left 9 ∷ Left 5 ∷ Left 7 ∷ []} (4, omega arith, refl) (0, omega arith, refl)) left_z_reads
+left_y_reads = Opened.left_y_reads pair
 
--- with care for what reads q, e is 1 at the last load
-e_is_on : (bits : ℕ → List ℕ → Bool) (p : Either ℕ ℕ) → Reaches whole p (Left 3) → HasCare side On (ConeLatches whole p) bits → true ≡ bits 0 (1 ∷ [])
-e_is_on bits p reads care = hold_enable_is side joined_same single number_once (codes "q") (Left 3) (Left 4) left_q_latch left_q bits (1 ∷ []) true (care [] (Left 3) (codes "q", Left 4, left_q_latch, reads))
+pub joined_q_enabled : IsEnabled whole (Left 3)
+joined_q_enabled = Opened.joined_q_enabled pair
 
 z_same : (a : Bool) → cover_value same_cover (cover_value load_not_cover (true ∷ a ∷ false ∷ []) ∷ []) ≡ cover_value not_cover (cover_value load_cover (true ∷ a ∷ false ∷ []) ∷ [])
 unfolding cover_value
 z_same true = refl
 z_same false = refl
 
-z_values : (bits : ℕ → List ℕ → Bool) → true ≡ bits 0 (1 ∷ []) → tree_value bits left_z ≡ tree_value bits right_z
+z_values : (bits : ℕ → List ℕ → Bool) → true ≡ bits 0 (1 ∷ []) → tree_value bits (Opened.left_z pair) ≡ tree_value bits (Opened.right_z pair)
 unfolding tree_value
 z_values bits e =
     subst (λ b. cover_value same_cover (cover_value load_not_cover (b ∷ bits 2 (1 ∷ []) ∷ false ∷ []) ∷ []) ≡ cover_value not_cover (cover_value load_cover (b ∷ bits 2 (1 ∷ []) ∷ false ∷ []) ∷ [])) e (z_same (bits 2 (1 ∷ [])))
 
-y_values : (bits : ℕ → List ℕ → Bool) (l r : Tree (List ℕ)) → tree_value bits l ≡ tree_value bits r → tree_value bits (y_of l) ≡ tree_value bits (y_of r)
-unfolding tree_value
-y_values bits l r e = ap (λ b. cover_value all_cover (b ∷ cover_value load_cover (bits 1 (2 ∷ []) ∷ bits 2 (2 ∷ []) ∷ false ∷ []) ∷ bits 3 [] ∷ [])) e
-
 pub z_equal : HaveEqualEvents side (Left 9) (Right 9)
-z_equal = record { left_tree = left_z; right_tree = right_z; left_unfolds = left_z_unfolds; right_unfolds = right_z_unfolds; same = λ bits l r. z_values bits (e_is_on bits (Left 9) left_z_reads l) }
+z_equal = record {
+  left_tree = Opened.left_z pair;
+  right_tree = Opened.right_z pair;
+  left_unfolds = Opened.left_z_unfolds pair;
+  right_unfolds = Opened.right_z_unfolds pair;
+  same = λ bits l r. z_values bits (Opened.e_is_on pair bits (Left 9) left_z_reads l);
+}
 
 pub y_equal : HaveEqualEvents side (Left 10) (Right 10)
 y_equal = record {
-  left_tree = y_of left_z;
-  right_tree = y_of right_z;
-  left_unfolds = left_y_unfolds;
-  right_unfolds = right_y_unfolds;
-  same = λ bits l r. y_values bits left_z right_z (z_values bits (e_is_on bits (Left 10) left_y_reads l));
+  left_tree = Opened.y_of pair (Opened.left_z pair);
+  right_tree = Opened.y_of pair (Opened.right_z pair);
+  left_unfolds = Opened.left_y_unfolds pair;
+  right_unfolds = Opened.right_y_unfolds pair;
+  same = λ bits l r. Opened.y_values pair bits (Opened.left_z pair) (Opened.right_z pair) (z_values bits (Opened.e_is_on pair bits (Left 10) left_y_reads l));
 }
 
 pub t_equal : HaveEqualEvents side (Left 8) (Right 8)
-t_equal = record {
-  left_tree = t_tree;
-  right_tree = t_tree;
-  left_unfolds = EventUnfolds.gate {fanins = Left 7 ∷ []} (2, omega arith, refl) (EventUnfoldsAll.more (EventUnfolds.input (inr (inr (inr (inl (refl, refl)))))) EventUnfoldsAll.none);
-  right_unfolds = EventUnfolds.gate {fanins = Right 7 ∷ []} (9, omega arith, refl) (EventUnfoldsAll.more (EventUnfolds.input (inr (inr (inr (inr (inr (inr (inr (inl (refl, refl)))))))))) EventUnfoldsAll.none);
-  same = λ bits l r. refl;
-}
-
--- an output by its name
-abbrev pub Output : Named ℕ → Type 0
-Output n = ((n.name ≡ codes "y") × (n.place ≡ 10)) ⊎ (((n.name ≡ codes "z") × (n.place ≡ 9)) ⊎ ((n.name ≡ codes "t") × (n.place ≡ 8)))
+t_equal = record { left_tree = Opened.t_tree pair; right_tree = Opened.t_tree pair; left_unfolds = Opened.left_t_unfolds pair; right_unfolds = Opened.right_t_unfolds pair; same = λ bits l r. refl }
 
 pub pairs_equal : (p q : ℕ) → IsPair [] left_side right_side p q → HaveEqualEvents side (Left p) (Right q)
-pairs_equal p q (IsPair.nexts h l r) = absurd (omega (arith, h.1))
-pairs_equal p q (IsPair.outputs {name = name} l r) = go (output p l) (output q r)
-  where
-    output : (s : ℕ) → Contains left_side.outputs (record { name = name; place = s }) → Output (record { name = name; place = s })
-    output s h = each_at Output left_side.outputs (inl (refl, refl), (inr (inl (refl, refl)), (inr (inr (refl, refl)), tt))) (record { name = name; place = s }) h
-
-    Equal : ℕ → ℕ → Type 0
-    Equal x y = HaveEqualEvents side (Left x) (Right y)
-
-    at : (x y : ℕ) → Equal x y → p ≡ x → q ≡ y → Equal p q
-    at x y equal e d = subst (λ z. Equal z q) (sym e) (subst (Equal x) (sym d) equal)
-
-    other : (x y : ℕ) → x ≢ y → name ≡ x ∷ [] → name ≡ y ∷ [] → ⊥
-    other x y n e d = n (first (sym e ∙ d))
-      where
-        first : x ∷ [] ≡ y ∷ [] → x ≡ y
-        first k = cc
-
-    go : Output (record { name = name; place = p }) → Output (record { name = name; place = q }) → Equal p q
-    go (inl x) (inl y) = at 10 10 y_equal x.1 y.1
-    go (inl x) (inr (inl y)) = absurd (other 121 122 (λ e. omega arith) x.0 y.0)
-    go (inl x) (inr (inr y)) = absurd (other 121 116 (λ e. omega arith) x.0 y.0)
-    go (inr (inl x)) (inl y) = absurd (other 122 121 (λ e. omega arith) x.0 y.0)
-    go (inr (inl x)) (inr (inl y)) = at 9 9 z_equal x.1 y.1
-    go (inr (inl x)) (inr (inr y)) = absurd (other 122 116 (λ e. omega arith) x.0 y.0)
-    go (inr (inr x)) (inl y) = absurd (other 116 121 (λ e. omega arith) x.0 y.0)
-    go (inr (inr x)) (inr (inl y)) = absurd (other 116 122 (λ e. omega arith) x.0 y.0)
-    go (inr (inr x)) (inr (inr y)) = at 8 8 t_equal x.1 y.1
+pairs_equal = Opened.at_outputs pair (λ p q. HaveEqualEvents side (Left p) (Right q)) y_equal z_equal t_equal
 
 pub opened_agree : Agree Event left_side right_side
 opened_agree = events_agree left_side right_side 11 11 numbers numbers class_of left_net right_net numbered refl refl classes depths pairs_equal
-
-pub joined_q_enabled : IsEnabled whole (Left 3)
-joined_q_enabled = hold_enabled side joined_same single number_once (codes "q") (Left 3) (Left 4) left_q_latch left_q
