@@ -22,8 +22,8 @@ use Rattle.event_samples.specs.Events.{ReachOneNode, HasSettledPair, HasExposedS
 use Rattle.event_samples.proofs.Each.{Each, each_at}
 use Rattle.event_samples.proofs.HoldCells.{IsHold, hold_marked, hold_loads}
 use Rattle.event_samples.proofs.Opened.{holds_load, loads_load, holds_not, loads_not}
-use Rattle.event_samples.proofs.TwoClasses.{left_side, right_side, whole, side, left_net, right_net, numbered, single, number_once, classes, depths, left_q, left_r, right_q, right_r, left_q_latch, left_r_latch, right_q_latch, right_r_latch, left_y_reads, left_z_reads}
-use Rattle.event_samples.proofs.ExposedPair.{before_net, behind_net, held_z_marked, cut_before, cut_behind}
+use Rattle.event_samples.proofs.TwoClasses.{pair, left_side, right_side, whole, side, left_net, right_net, numbered, single, number_once, classes, depths, left_q, left_r, right_q, right_r, left_q_latch, left_r_latch, right_q_latch, right_r_latch, left_y_reads, left_z_reads}
+use Rattle.event_samples.proofs.ExposedPair.{left_held_net, right_held_net, held_z_marked, cut_left, cut_right, at_cut}
 
 -- a run of two cycles in which each input is 1
 abbrev AllOn : Circuit ℕ → Type 0
@@ -138,10 +138,10 @@ left_y_events = settled_has_events_in_nets left_side right_side 11 11 numbers nu
 
 -- the circuits themselves, in which t toggles
 before_all : AllOn before
-before_all = all_on before 11 before_net
+before_all = all_on before 11 (left_held_net pair)
 
 behind_all : AllOn behind
-behind_all = all_on behind 11 behind_net
+behind_all = all_on behind 11 (right_held_net pair)
 
 alike : AreAlike before behind 2 before_all.0 behind_all.0
 alike = record { left_run = before_all.1; right_run = behind_all.1; equal_inputs = λ name p q l r t h. before_all.2 t p (name, l) ∙ sym (behind_all.2 t q (name, r)) }
@@ -167,14 +167,13 @@ one_node = record {
 }
   where
     left_run : IsRun left_side 2 before_all.0
-    left_run = subst (λ c. IsRun c 2 before_all.0) cut_before (cut_run exposed before 2 2 before_all.0 (omega arith) before_all.1)
+    left_run = subst (λ c. IsRun c 2 before_all.0) (cut_left pair) (cut_run exposed before 2 2 before_all.0 (omega arith) before_all.1)
 
     right_run : IsRun right_side 2 behind_all.0
-    right_run = subst (λ c. IsRun c 2 behind_all.0) cut_behind (cut_run exposed behind 2 2 behind_all.0 (omega arith) behind_all.1)
+    right_run = subst (λ c. IsRun c 2 behind_all.0) (cut_right pair) (cut_run exposed behind 2 2 behind_all.0 (omega arith) behind_all.1)
 
 cut_one_node : ReachOneNode (cut exposed before) (cut exposed behind) before_all.0 behind_all.0 9 9
-cut_one_node =
-    subst (λ a. ReachOneNode a (cut exposed behind) before_all.0 behind_all.0 9 9) (sym cut_before) (subst (λ b. ReachOneNode left_side b before_all.0 behind_all.0 9 9) (sym cut_behind) one_node)
+cut_one_node = at_cut pair (λ a b. ReachOneNode a b before_all.0 behind_all.0 9 9) one_node
 
 pub exposed_settled_pair : HasExposedSettledPair
 exposed_settled_pair = record { left = before_all.0; right = behind_all.0; alike = alike; left_settled = before_z_settled; right_settled = behind_z_settled; nodes = cut_one_node }

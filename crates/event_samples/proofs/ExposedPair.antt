@@ -25,8 +25,8 @@ use Rattle.event_samples.specs.Samples.{held, opened, before, behind, exposed, l
 use Rattle.event_samples.specs.Premises.{AreEventSides, AreExposedSides, PairsAreEqual}
 use Rattle.event_samples.proofs.Each.{Each, each_at, EachLatch, each_latch}
 use Rattle.event_samples.proofs.HoldCells.{IsHold, hold_enabled, hold_reads, hold_marked}
-use Rattle.event_samples.proofs.Opened.{holds_load, loads_load, holds_not, loads_not}
-use Rattle.event_samples.proofs.TwoClasses.{left_side, right_side, event_sides, joined_q_enabled, z_equal, y_equal, t_equal}
+use Rattle.event_samples.proofs.Opened.{LoadPair, event_sides, holds_load, loads_load}
+use Rattle.event_samples.proofs.TwoClasses.{pair, side, joined_q_enabled, z_equal, y_equal, t_equal}
 
 -- the place of a latch, and of an input, of a name
 abbrev latch_of_name : List ℕ → ℕ
@@ -155,93 +155,101 @@ module _ (load out : Cover) (holds : (b bit : Bool) → cover_value load (false 
       wrong : true ≡ false → ⊥
       wrong e = cc
 
-abbrev pub before_net : IsNet before 11
-before_net = held_net load_not_cover same_cover holds_not loads_not
+module _ (x : LoadPair) where
+  abbrev pub left_held : Circuit ℕ
+  left_held = held x.la x.oa
 
-abbrev pub behind_net : IsNet behind 11
-behind_net = held_net load_cover not_cover holds_load loads_load
+  abbrev pub right_held : Circuit ℕ
+  right_held = held x.lb x.ob
 
-pub minimal : IsMinimalCut Event before behind exposed
-minimal = record {
-  common = λ name h.
-      let e = only (codes "t") name h in
-      (7, 8, 7, 8, subst (λ m. IsLatch before m 7 8) e (7, omega arith, refl), subst (λ m. IsLatch behind m 7 8) e (7, omega arith, refl));
-  left_free = held_free load_not_cover same_cover holds_not loads_not;
-  right_free = held_free load_cover not_cover holds_load loads_load;
-  needed = needed;
-}
-  where
-    needed : (i : ℕ) → i < 1 → HasCycle before (EnabledIn Event before) (without exposed i) ⊎ HasCycle behind (EnabledIn Event behind) (without exposed i)
-    needed zero h = inl (held_cycle load_not_cover same_cover holds_not loads_not)
-    needed (suc i) h = absurd (omega arith)
+  pub left_held_net : IsNet left_held 11
+  left_held_net = held_net x.la x.oa x.holds_a x.loads_a
 
-pub cut_before : cut exposed before ≡ left_side
-unfolding cut
-cut_before = refl
+  pub right_held_net : IsNet right_held 11
+  right_held_net = held_net x.lb x.ob x.holds_b x.loads_b
 
-pub cut_behind : cut exposed behind ≡ right_side
-unfolding cut
-cut_behind = refl
+  pub left_names : HasDistinctNames left_held
+  left_names = held_names x.la x.oa x.holds_a x.loads_a
 
--- what the law asks of the cut circuits, and that q is enabled there and of class 1
-pub record AreMet (a b : Circuit ℕ) : Type 0 where
-  pub sides : AreEventSides a b 11 11 numbers numbers class_of
-  pub equal : PairsAreEqual exposed before behind a b numbers numbers class_of
-  pub enabled : IsEnabled (joined a b) (Left 3)
+  pub right_names : HasDistinctNames right_held
+  right_names = held_names x.lb x.ob x.holds_b x.loads_b
 
-met : AreMet left_side right_side
-met = record { sides = event_sides; equal = λ p q pair. equal p q pair; enabled = joined_q_enabled }
-  where
-    Equal : ℕ → ℕ → Type 0
-    Equal x y = HaveEqualEvents (side_by_side left_side right_side numbers numbers class_of) (Left x) (Right y)
+  pub minimal : IsMinimalCut Event left_held right_held exposed
+  minimal = record {
+    common = λ name h.
+        let e = only (codes "t") name h in
+        (7, 8, 7, 8, subst (λ m. IsLatch left_held m 7 8) e (7, omega arith, refl), subst (λ m. IsLatch right_held m 7 8) e (7, omega arith, refl));
+    left_free = held_free x.la x.oa x.holds_a x.loads_a;
+    right_free = held_free x.lb x.ob x.holds_b x.loads_b;
+    needed = needed;
+  }
+    where
+      needed : (i : ℕ) → i < 1 → HasCycle left_held (EnabledIn Event left_held) (without exposed i) ⊎ HasCycle right_held (EnabledIn Event right_held) (without exposed i)
+      needed zero h = inl (held_cycle x.la x.oa x.holds_a x.loads_a)
+      needed (suc i) h = absurd (omega arith)
 
-    Output : Named ℕ → Type 0
-    Output n = ((n.name ≡ codes "y") × (n.place ≡ 10)) ⊎ ((n.name ≡ codes "z") × (n.place ≡ 9))
+  pub cut_left : cut exposed left_held ≡ opened x.la x.oa
+  unfolding cut
+  cut_left = refl
 
-    output : (name : List ℕ) (s : ℕ) → Contains before.outputs (record { name = name; place = s }) → Output (record { name = name; place = s })
-    output name s h = each_at Output before.outputs (inl (refl, refl), (inr (refl, refl), tt)) (record { name = name; place = s }) h
+  pub cut_right : cut exposed right_held ≡ opened x.lb x.ob
+  unfolding cut
+  cut_right = refl
 
-    at : (p q x y : ℕ) → Equal x y → p ≡ x → q ≡ y → Equal p q
-    at p q x y equal e d = subst (λ z. Equal z q) (sym e) (subst (Equal x) (sym d) equal)
+  -- what holds of the opened circuits holds of the cut ones
+  pub at_cut : (F : Circuit ℕ → Circuit ℕ → Type 0) → F (opened x.la x.oa) (opened x.lb x.ob) → F (cut exposed left_held) (cut exposed right_held)
+  at_cut F h = subst (λ a. F a (cut exposed right_held)) (sym cut_left) (subst (F (opened x.la x.oa)) (sym cut_right) h)
 
-    other : (name : List ℕ) (x y : ℕ) → x ≢ y → name ≡ x ∷ [] → name ≡ y ∷ [] → ⊥
-    other name x y n e d = n (first (sym e ∙ d))
-      where
-        first : x ∷ [] ≡ y ∷ [] → x ≡ y
-        first k = cc
+  pub cut_sides : AreEventSides (cut exposed left_held) (cut exposed right_held) 11 11 numbers numbers class_of
+  cut_sides = at_cut (λ a b. AreEventSides a b 11 11 numbers numbers class_of) (event_sides x)
 
-    outputs : (name : List ℕ) (p q : ℕ) → Output (record { name = name; place = p }) → Output (record { name = name; place = q }) → Equal p q
-    outputs name p q (inl x) (inl y) = at p q 10 10 y_equal x.1 y.1
-    outputs name p q (inl x) (inr y) = absurd (other name 121 122 (λ e. omega arith) x.0 y.0)
-    outputs name p q (inr x) (inl y) = absurd (other name 122 121 (λ e. omega arith) x.0 y.0)
-    outputs name p q (inr x) (inr y) = at p q 9 9 z_equal x.1 y.1
+  pub exposed_sides : AreExposedSides left_held right_held 11 11 exposed numbers numbers class_of
+  exposed_sides = record { left_net = left_held_net; right_net = right_held_net; left_names = left_names; right_names = right_names; minimal = minimal; sides = cut_sides }
 
-    -- what the latch of a name takes over
-    next_of : (load out : Cover) (name : List ℕ) (u next : ℕ) → IsLatch (held load out) name u next → name ≡ codes "t" → next ≡ 8
-    next_of load out name u next l =
-        each_latch (λ m v to. m ≡ codes "t" → to ≡ 8) (held load out).equations ((λ e. absurd (other (codes "q") 113 116 (λ d. omega arith) refl e)), ((λ e. absurd (other (codes "r") 114 116 (λ d. omega arith) refl e)), ((λ e. refl), tt))) name u next l
+  Output : List ℕ → ℕ → Type 0
+  Output name s = ((name ≡ codes "y") × (s ≡ 10)) ⊎ ((name ≡ codes "z") × (s ≡ 9))
 
-    equal : (p q : ℕ) → IsPair exposed before behind p q → Equal p q
-    equal p q (IsPair.outputs {name = name} l r) = outputs name p q (output name p l) (output name q r)
-    equal p q (IsPair.nexts {name = name} {u = u} {v = v} h l r) =
-        let e = sym (only (codes "t") name h) in
-        at p q 8 8 t_equal (next_of load_not_cover same_cover name u p l e) (next_of load_cover not_cover name v q r e)
+  output : (load out : Cover) (name : List ℕ) (s : ℕ) → Contains (held load out).outputs (record { name = name; place = s }) → Output name s
+  unfolding Output
+  output load out name s h = each_at (λ (n : Named ℕ). Output n.name n.place) (held load out).outputs (inl (refl, refl), (inr (refl, refl), tt)) (record { name = name; place = s }) h
 
-pub cut_met : AreMet (cut exposed before) (cut exposed behind)
-cut_met = subst (λ a. AreMet a (cut exposed behind)) (sym cut_before) (subst (AreMet left_side) (sym cut_behind) met)
+  other : (name : List ℕ) (i j : ℕ) → i ≢ j → name ≡ i ∷ [] → name ≡ j ∷ [] → ⊥
+  other name i j n e d = n (first (sym e ∙ d))
+    where
+      first : i ∷ [] ≡ j ∷ [] → i ≡ j
+      first k = cc
 
-pub exposed_sides : AreExposedSides before behind 11 11 exposed numbers numbers class_of
-exposed_sides = record {
-  left_net = before_net;
-  right_net = behind_net;
-  left_names = held_names load_not_cover same_cover holds_not loads_not;
-  right_names = held_names load_cover not_cover holds_load loads_load;
-  minimal = minimal;
-  sides = cut_met.sides;
-}
+  -- what the latch of a name takes over
+  next_of : (load out : Cover) (name : List ℕ) (u next : ℕ) → IsLatch (held load out) name u next → name ≡ codes "t" → next ≡ 8
+  next_of load out name u next l =
+      each_latch (λ m v to. m ≡ codes "t" → to ≡ 8) (held load out).equations
+      ((λ e. absurd (other (codes "q") 113 116 (λ d. omega arith) refl e)), ((λ e. absurd (other (codes "r") 114 116 (λ d. omega arith) refl e)), ((λ e. refl), tt))) name u next l
+
+  -- the pairs are those of y and z, and what t takes over
+  pub at_pairs : (F : ℕ → ℕ → Type 0) → F 10 10 → F 9 9 → F 8 8 → (p q : ℕ) → IsPair exposed left_held right_held p q → F p q
+  unfolding Output
+  at_pairs F y z t p q (IsPair.outputs {name = name} l r) = go (output x.la x.oa name p l) (output x.lb x.ob name q r)
+    where
+      at : (i j : ℕ) → F i j → p ≡ i → q ≡ j → F p q
+      at i j h e d = subst (λ k. F k q) (sym e) (subst (F i) (sym d) h)
+
+      go : Output name p → Output name q → F p q
+      go (inl a) (inl b) = at 10 10 y a.1 b.1
+      go (inl a) (inr b) = absurd (other name 121 122 (λ e. omega arith) a.0 b.0)
+      go (inr a) (inl b) = absurd (other name 122 121 (λ e. omega arith) a.0 b.0)
+      go (inr a) (inr b) = at 9 9 z a.1 b.1
+  at_pairs F y z t p q (IsPair.nexts {name = name} {u = u} {v = v} h l r) =
+      let e = sym (only (codes "t") name h) in
+      subst (λ k. F k q) (sym (next_of x.la x.oa name u p l e)) (subst (F 8) (sym (next_of x.lb x.ob name v q r e)) t)
+
+abbrev Met : Circuit ℕ → Circuit ℕ → Type 0
+Met a b = PairsAreEqual exposed before behind a b numbers numbers class_of × IsEnabled (joined a b) (Left 3)
+
+pub cut_met : PairsAreEqual exposed before behind (cut exposed before) (cut exposed behind) numbers numbers class_of × IsEnabled (joined (cut exposed before) (cut exposed behind)) (Left 3)
+cut_met = at_cut pair Met ((λ p q h. at_pairs pair (λ i j. HaveEqualEvents side (Left i) (Right j)) y_equal z_equal t_equal p q h), joined_q_enabled)
 
 pub before_and_behind_agree : Agree Event before behind × AgreeOnward Event exposed before behind
 before_and_behind_agree =
-    let x = exposed_sides in
+    let x = exposed_sides pair in
     let s = x.sides in
-    exposed_event_functions_agree_in_nets before behind 11 11 exposed numbers numbers class_of x.left_net x.right_net x.left_names x.right_names x.minimal s.numbered s.left_long s.right_long s.classes s.depths cut_met.equal
+    exposed_event_functions_agree_in_nets before behind 11 11 exposed numbers numbers class_of x.left_net x.right_net x.left_names x.right_names x.minimal s.numbered s.left_long s.right_long s.classes s.depths cut_met.0

@@ -1,3 +1,4 @@
+pub mod AssumedPair
 pub mod Each
 pub mod EventRuns
 pub mod ExposedPair

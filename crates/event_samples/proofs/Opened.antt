@@ -236,7 +236,7 @@ module _ (x : LoadPair) where
   abbrev pub t_tree : Tree (List ℕ)
   t_tree = Branch not_cover (Cons (Leaf 3 []) Nil)
 
-  abbrev On : Either ℕ ℕ → Type 0
+  abbrev pub On : Either ℕ ℕ → Type 0
   On = IsEnabled whole
 
   pub left_z_unfolds : EventUnfolds side On None (Left 9) [] left_z

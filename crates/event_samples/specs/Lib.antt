@@ -1,3 +1,4 @@
+pub mod Assumed
 pub mod Events
 pub mod Premises
 pub mod Samples

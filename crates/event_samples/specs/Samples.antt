@@ -86,3 +86,14 @@ opened_both = joined opened_before opened_behind
 
 abbrev pub opened_side : EventSide (Either ℕ ℕ)
 opened_side = side_by_side opened_before opened_behind numbers numbers class_of
+
+-- 0 where the first fan-in is 1, else the third
+abbrev pub load_zero_cover : Cover
+load_zero_cover = record { width = 3; rows = codes "0-1" ∷ []; on = true }
+
+-- q loads 0, and z is q
+abbrev pub cleared : Circuit ℕ
+cleared = held load_zero_cover same_cover
+
+abbrev pub opened_cleared : Circuit ℕ
+opened_cleared = opened load_zero_cover same_cover

@@ -6,7 +6,9 @@ ghost use Rattle.circuit_theory.specs.declared.Mode.TheVariants.{Event};
 ghost use Rattle.circuit_theory.specs.Run.{IsEnabled};
 ghost use Rattle.circuit_theory.specs.Agree.{cut, Agree, AgreeOnward};
 ghost use Rattle.circuit_theory.specs.Joined.{Left, joined};
-ghost use Rattle.event_samples.specs.Samples.{before, behind, exposed, opened_before, opened_behind, numbers, class_of};
+ghost use Rattle.assume_laws.specs.Assume.{IsAssumption, ReadsInputs, AgreeUnder, AgreeOnwardUnder};
+ghost use Rattle.event_samples.specs.Samples.{before, behind, cleared, exposed, opened_before, opened_behind, opened_cleared, numbers, class_of};
+ghost use Rattle.event_samples.specs.Assumed.{a_is_one, PairsAreEqualUnder};
 ghost use Rattle.event_samples.specs.Premises.{AreEventSides, AreExposedSides, PairsAreEqual};
 ghost use Rattle.event_samples.specs.Events.{HasTwoClasses, HasSettledPair, HasExposedSettledPair, FramesHaveValues, HasMapsSoFar, HasReachedList};
 
@@ -52,4 +54,23 @@ pub fn maps_so_far()
 /// A closed list of the latches that an output reaches.
 pub fn reached_list()
     ensures { HasReachedList }
+{}
+
+/// Two circuits with two load enables of which one loads the complement of an input and the other loads 0: they are equal, and agree, under
+/// the assumption that this input is 1.
+pub fn assumed_pair()
+    ensures assumption { IsAssumption a_is_one 2 }
+    ensures sides { AreEventSides opened_before opened_cleared 11 11 numbers numbers class_of }
+    ensures reads { ReadsInputs a_is_one opened_before numbers }
+    ensures equal { PairsAreEqualUnder a_is_one [] opened_before opened_cleared opened_before opened_cleared numbers numbers class_of }
+    ensures agree { AgreeUnder Event a_is_one opened_before opened_cleared }
+{}
+
+/// The same with a latch that toggles, which is exposed.
+pub fn assumed_and_exposed()
+    ensures sides { AreExposedSides before cleared 11 11 exposed numbers numbers class_of }
+    ensures reads { ReadsInputs a_is_one (cut exposed before) numbers }
+    ensures equal { PairsAreEqualUnder a_is_one exposed before cleared (cut exposed before) (cut exposed cleared) numbers numbers class_of }
+    ensures agree { AgreeUnder Event a_is_one before cleared }
+    ensures onward { AgreeOnwardUnder Event exposed a_is_one before cleared }
 {}
