@@ -18,7 +18,7 @@ use Rattle.circuit_samples.proofs.NetTest.{net_test-sound}
 use Rattle.event_samples.specs.Samples.{opened, held, before, cleared, opened_before, opened_cleared, exposed, load_cover, load_not_cover, load_zero_cover, same_cover, numbers, class_of}
 use Rattle.event_samples.specs.Premises.{AreEventSides, AreExposedSides}
 use Rattle.event_samples.specs.Assumed.{a_is_one, PairsAreEqualUnder}
-use Rattle.event_samples.proofs.Each.{Each, each_at, each_latch}
+use Rattle.circuit_samples.proofs.Each.{Each, each_at, each_latch}
 use Rattle.event_samples.proofs.Opened
 use Rattle.event_samples.proofs.Opened.{LoadPair, holds_not, loads_not}
 use Rattle.event_samples.proofs.ExposedPair.{exposed_sides, at_cut, at_pairs}

@@ -19,7 +19,7 @@ use Rattle.circuit_laws.proofs.JoinedParts.{left_part, right_part, joined_same, 
 use Rattle.event_laws.proofs.SettledEvents.{settled_has_events_in_nets}
 use Rattle.event_samples.specs.Samples.{before, behind, exposed, load_cover, load_not_cover, same_cover, not_cover, numbers, class_of}
 use Rattle.event_samples.specs.Events.{ReachOneNode, HasSettledPair, HasExposedSettledPair}
-use Rattle.event_samples.proofs.Each.{Each, each_at}
+use Rattle.circuit_samples.proofs.Each.{Each, each_at}
 use Rattle.event_samples.proofs.HoldCells.{IsHold, hold_marked, hold_loads}
 use Rattle.event_samples.proofs.Opened.{holds_load, loads_load, holds_not, loads_not}
 use Rattle.event_samples.proofs.TwoClasses.{pair, left_side, right_side, whole, side, left_net, right_net, numbered, single, number_once, classes, depths, left_q, left_r, right_q, right_r, left_q_latch, left_r_latch, right_q_latch, right_r_latch, left_y_reads, left_z_reads}

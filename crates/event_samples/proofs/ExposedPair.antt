@@ -23,7 +23,7 @@ use Rattle.event_laws.proofs.ExposedEvents.{exposed_event_functions_agree_in_net
 use Rattle.circuit_samples.proofs.NetTest.{net_test-sound}
 use Rattle.event_samples.specs.Samples.{held, opened, before, behind, exposed, load_cover, load_not_cover, same_cover, not_cover, numbers, class_at, class_of}
 use Rattle.event_samples.specs.Premises.{AreEventSides, AreExposedSides, PairsAreEqual}
-use Rattle.event_samples.proofs.Each.{Each, each_at, EachLatch, each_latch}
+use Rattle.circuit_samples.proofs.Each.{Each, each_at, EachLatch, each_latch}
 use Rattle.event_samples.proofs.HoldCells.{IsHold, hold_enabled, hold_reads, hold_marked}
 use Rattle.event_samples.proofs.Opened.{LoadPair, event_sides, holds_load, loads_load}
 use Rattle.event_samples.proofs.TwoClasses.{pair, side, joined_q_enabled, z_equal, y_equal, t_equal}

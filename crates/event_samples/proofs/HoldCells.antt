@@ -18,7 +18,7 @@ use Rattle.circuit_theory.proofs.Inputs.{beside_is_input, test_same, test_refl}
 use Rattle.circuit_theory.proofs.Numbers.{distinct_at}
 use Rattle.finite_laws.proofs.EnabledDecided.{source_reads, gate_reads, steps}
 use Rattle.event_laws.proofs.EventTrees.{one_enable}
-use Rattle.event_samples.proofs.Each.{Each, each_at}
+use Rattle.circuit_samples.proofs.Each.{Each, each_at}
 
 -- the latch loads the input a, or what its cover makes of it, where the input e is 1; i and j are their numbers
 pub record IsHold {P : Type 0} (side : EventSide P) (u next : P) : Type 0 where

@@ -1,5 +1,4 @@
 pub mod AssumedPair
-pub mod Each
 pub mod EventRuns
 pub mod ExposedPair
 pub mod HoldCells

@@ -22,7 +22,7 @@ use Rattle.event_laws.proofs.EventAgreement.{events_agree}
 use Rattle.circuit_samples.proofs.NetTest.{net_test-sound, numbers_distinct-sound}
 use Rattle.event_samples.specs.Samples.{opened, load_cover, load_not_cover, not_cover, all_cover, numbers, class_of}
 use Rattle.event_samples.specs.Premises.{AreEventSides}
-use Rattle.event_samples.proofs.Each.{Each, each_at, EachLatch, each_latch, each_pair, each_split}
+use Rattle.circuit_samples.proofs.Each.{Each, each_at, EachLatch, each_latch, each_pair, each_split}
 use Rattle.event_samples.proofs.HoldCells.{IsHold, hold_tree, hold_enabled, hold_unfolds, hold_enable_is, hold_depths, in_first, in_their_order}
 
 pub holds_load : (b bit : Bool) → cover_value load_cover (false ∷ b ∷ bit ∷ []) ≡ bit

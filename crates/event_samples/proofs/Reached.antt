@@ -18,7 +18,7 @@ use Rattle.event_laws.proofs.FrameExist.{frame_values_exist_in_nets}
 use Rattle.event_laws.proofs.ReachedLatches.{closed_lists_are_reached}
 use Rattle.event_samples.specs.Samples.{numbers, class_of}
 use Rattle.event_samples.specs.Events.{FramesHaveValues, HasMapsSoFar, HasReachedList, start_y, reached_y}
-use Rattle.event_samples.proofs.Each.{Each, each_at, EachLatch, each_latch}
+use Rattle.circuit_samples.proofs.Each.{Each, each_at, EachLatch, each_latch}
 use Rattle.event_samples.proofs.HoldCells.{no_others}
 use Rattle.event_samples.proofs.TwoClasses.{left_side, right_side, whole, side, left_net, right_net, single, number_once, all_hold, depths, latch_order, class_map, order, left_q_latch, left_r_latch, left_y_reads}
 
