@@ -105,7 +105,7 @@ z_values bits e d = subst (λ a. Value (bits 0 (1 ∷ [])) a) d (subst (λ b. Va
 
 -- the assumption holds where q of the first side has loaded
 a_is_on : (bits : ℕ → List ℕ → Bool) (p q : Either ℕ ℕ) (tree : Tree (List ℕ)) → EventUnfolds side (Opened.On cleared_pair) None p [] tree → HasLeaf (record { input = 2; at = 1 ∷ [] }) tree → HasCareUnder a_is_one side p q bits → true ≡ bits 2 (1 ∷ [])
-a_is_on bits p q tree unfolds leaf care = sym (meets_row (λ i. bits i (1 ∷ [])) (care.meets (1 ∷ []) (tree, 2, inl (inl unfolds), leaf)))
+a_is_on bits p q tree unfolds stands care = sym (meets_row (λ i. bits i (1 ∷ [])) (care.meets (1 ∷ []) (tree, 2, inl (inl unfolds), stands)))
 
 z_leaf : HasLeaf (record { input = 2; at = 1 ∷ [] }) (Opened.left_z cleared_pair)
 z_leaf = HasLeaf.inside (HasLeafIn.first (HasLeaf.inside (HasLeafIn.later (HasLeafIn.first HasLeaf.leaf))))

@@ -1,3 +1,4 @@
+pub mod AlwaysPair
 pub mod AssumedPair
 pub mod EventRuns
 pub mod ExposedPair

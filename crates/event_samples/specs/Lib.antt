@@ -1,3 +1,4 @@
+pub mod Always
 pub mod Assumed
 pub mod Events
 pub mod Premises
