@@ -1,4 +1,5 @@
 pub mod AlwaysPair
+pub mod AssumedDifference
 pub mod AssumedPair
 pub mod EventRuns
 pub mod ExposedPair

@@ -2,6 +2,7 @@
 use Rattle.std.specs.Prelude.{◌==◌, ℕ, Bool, true, false, max, List, [], ◌∷◌, codes}
 use Rattle.circuit_theory.specs.Cover.{Cover}
 use Rattle.circuit_theory.specs.Circuit.{Circuit, Gate, Latch}
+use Rattle.circuit_theory.specs.Tree.{Tree, Leaf, Branch, Nil, Cons}
 use Rattle.circuit_theory.specs.Query.{Query, Variable}
 use Rattle.circuit_theory.specs.Joined.{Either, Left, Right, joined}
 use Rattle.event_theory.specs.Frame.{EventSide}
@@ -71,3 +72,23 @@ assumed_query = record { left = λ bits. bits 0 (0 ∷ []); right = λ bits. fal
 -- a row that meets it, and is 0 elsewhere
 abbrev pub meeting_row : ℕ → Bool
 meeting_row i = i == 0
+
+-- an assumption that no row meets
+abbrev pub never : Assumption
+never = record {
+  circuit = record {
+    inputs = record { name = codes "a"; place = 0 } ∷ [];
+    outputs = record { name = codes "ok"; place = 1 } ∷ [];
+    equations = Gate 1 [] nothing_cover ∷ [];
+    starts = [];
+  };
+  order = 0 ∷ [];
+  output = 1;
+}
+
+-- the trees of both at one place
+abbrev pub ok_tree : Tree ℕ
+ok_tree = Branch same_cover (Cons (Leaf 0 0) Nil)
+
+abbrev pub never_tree : Tree ℕ
+never_tree = Branch nothing_cover Nil
