@@ -1,29 +1,26 @@
 -- Four latches from 0: one block by initial values, and two blocks in the coarsest inductive partition.
-use Rattle.std.proofs.Common.{◌≡◌, ◌≢◌, ℕ, zero, suc, ◌<◌, Bool, true, false, List, [], ◌∷◌, ◌++◌, length, refl, sym, ◌∙◌, ap, subst, arith, inl, inr}
+use Rattle.std.proofs.Common.{◌≡◌, ℕ, Bool, true, false, List, [], ◌∷◌, refl, sym, ◌∙◌, ap, subst, arith, inl, inr}
 use Rattle.std.specs.Prelude.{◌⊎◌, ◌↔◌, codes}
 use Rattle.std.specs.List.{Contains}
-use Rattle.std.proofs.lemmas.List.Elements.{All-nil, All-cons}
 use Rattle.circuit_theory.specs.Cover.{cover_value}
-use Rattle.circuit_theory.specs.Circuit.{Circuit, Gate, Latch, Named, Started, IsInput, IsLatch, Meets, Holds}
+use Rattle.circuit_theory.specs.Circuit.{Circuit, Named, Started, IsInput, IsLatch, Meets, Holds}
 use Rattle.circuit_theory.specs.Run.{IsResetRun}
 use Rattle.circuit_theory.specs.Net.{IsNet}
-use Rattle.circuit_theory.specs.Tree.{Tree, Leaf, Branch, Nil, Cons, AreNumbered, IsInputNumber, tree_value}
-use Rattle.circuit_theory.specs.Cone.{Source, AnInput, ALatch}
-use Rattle.circuit_theory.specs.Query.{IsSame}
-use Rattle.circuit_theory.specs.Joined.{Either, Left, Right, joined, beside}
+use Rattle.circuit_theory.specs.Tree.{AreNumbered, IsInputNumber, tree_value}
+use Rattle.circuit_theory.specs.Joined.{Either, Left, Right}
 use Rattle.circuit_theory.specs.Agree.{IsPair}
-use Rattle.circuit_theory.specs.Blocks.{IsConstantOn, IsInductive, IsCoarsest, Refines}
+use Rattle.circuit_theory.specs.Blocks.{IsConstantOn, IsCoarsest}
 use Rattle.circuit_theory.proofs.Lists.{only, All-from_each}
 use Rattle.circuit_theory.proofs.Numbers.{one_place}
 use Rattle.reset_laws.specs.Reset.{HasStarts, AreAlikeFromReset, AgreeFromReset}
 use Rattle.reset_laws.proofs.ResetRuns.{reset_runs_exist}
-use Rattle.induct_laws.specs.Partitions.{ShareStart, IsInitial, IsCoarser, IsSplitBy, AreEqualOver}
-use Rattle.induct_laws.specs.Queries.{BlockUnfolds, BlockUnfoldsAll, block_query}
+use Rattle.induct_laws.specs.Partitions.{IsInitial, IsCoarser, AreEqualOver}
+use Rattle.induct_laws.specs.Queries.{BlockUnfolds, BlockUnfoldsAll}
 use Rattle.induct_laws.proofs.Partitions.{initial_is_coarser, split_stays_coarser}
 use Rattle.induct_laws.proofs.Runs.{blocks_stay_equal, equal_over_blocks_agree}
-use Rattle.circuit_samples.specs.Partitioned.{complement, three_latches, one_latch, all_latches, a_number, first_block, last_block, telling, TellApart, HasEqualLatches, HasQueries}
+use Rattle.circuit_samples.specs.Partitioned.{three_latches, one_latch, all_latches, a_number, first_block, last_block, telling, TellApart, HasEqualLatches, HasQueries}
 use Rattle.circuit_samples.proofs.NetTest.{net_test-sound, numbers_distinct-sound}
-use Rattle.circuit_samples.proofs.Each.{Each, each_at, EachLatch, each_latch}
+use Rattle.circuit_samples.proofs.Each.{Each, each_at, each_latch}
 
 pub left_net : IsNet three_latches 5
 left_net = net_test-sound three_latches 5 refl

@@ -1,2 +1,4 @@
+pub mod Assumed
 pub mod Cells
+pub mod Circuits
 pub mod Partitioned

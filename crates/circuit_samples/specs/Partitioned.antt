@@ -1,11 +1,11 @@
 -- Two circuits whose latches all start with 0, and the partition of their latches that is the coarsest inductive one.
-use Rattle.std.specs.Prelude.{◌≡◌, ◌<◌, ◌==◌, ◌↔◌, ℕ, Bool, true, false, if◌then◌else◌, List, [], ◌∷◌, codes}
+use Rattle.std.specs.Prelude.{◌≡◌, ◌<◌, ◌==◌, ℕ, Bool, true, false, if◌then◌else◌, List, [], ◌∷◌, codes}
 use Rattle.circuit_theory.specs.Cover.{Cover}
-use Rattle.circuit_theory.specs.Circuit.{Circuit, Gate, Latch, IsLatch, Meets}
-use Rattle.circuit_theory.specs.Tree.{Tree, Leaf, Branch, Nil, Cons}
-use Rattle.circuit_theory.specs.Cone.{Source, AnInput, ALatch}
+use Rattle.circuit_theory.specs.Circuit.{Circuit, Gate, Latch, Meets}
+use Rattle.circuit_theory.specs.Tree.{Leaf, Branch, Nil, Cons}
+use Rattle.circuit_theory.specs.Cone.{AnInput}
 use Rattle.circuit_theory.specs.Query.{IsSame}
-use Rattle.circuit_theory.specs.Joined.{Either, Left, Right, joined, beside}
+use Rattle.circuit_theory.specs.Joined.{Either, Left, Right, joined}
 use Rattle.circuit_theory.specs.Blocks.{IsConstantOn}
 use Rattle.reset_laws.specs.Reset.{AreAlikeFromReset}
 use Rattle.induct_laws.specs.Partitions.{IsSplitBy}
