@@ -56,13 +56,13 @@ cut_is : (cover : Cover) → cut toggled (toggle_with cover) ≡ opened cover
 unfolding cut
 cut_is cover = refl
 
-one_letter : (x y : ℕ) → x ∷ [] ≡ y ∷ [] → x ≡ y
+pub one_letter : (x y : ℕ) → x ∷ [] ≡ y ∷ [] → x ≡ y
 one_letter x y e = cc
 
-toggle_latch : (cover : Cover) (name : List ℕ) (u next : ℕ) → IsLatch (toggle_with cover) name u next → (codes "q" ≡ name) × (1 ≡ u) × (2 ≡ next)
+pub toggle_latch : (cover : Cover) (name : List ℕ) (u next : ℕ) → IsLatch (toggle_with cover) name u next → (codes "q" ≡ name) × (1 ≡ u) × (2 ≡ next)
 toggle_latch cover name u next latch = each_latch (λ m v to. (codes "q" ≡ m) × (1 ≡ v) × (2 ≡ to)) (toggle_with cover).equations ((refl, refl, refl), tt) name u next latch
 
-toggle_names : (cover : Cover) → HasDistinctNames (toggle_with cover)
+pub toggle_names : (cover : Cover) → HasDistinctNames (toggle_with cover)
 toggle_names cover = record {
   inputs = λ name p q h k. sym (place_of name p h) ∙ place_of name q k;
   latches = λ name u next v next' l r. sym (toggle_latch cover name u next l).1 ∙ (toggle_latch cover name v next' r).1;

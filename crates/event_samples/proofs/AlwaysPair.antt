@@ -1,33 +1,32 @@
 -- A latch that loads in every cycle is of class 0, and the sequence of its difference from the constant 0 makes the two differ in all runs.
-use Rattle.std.proofs.Common.{◌≡◌, ◌≢◌, ℕ, zero, suc, ◌+◌, ◌<◌, ◌≤◌, Bool, true, false, max, List, [], ◌∷◌, ◌++◌, length, refl, sym, ◌∙◌, ap, subst, arith, inl, inr, Some, None}
-use Rattle.std.specs.Prelude.{◌⊎◌, ◌↔◌, ◌||◌, ◌==◌, not, codes}
-use Rattle.std.specs.List.{All, Contains, AllPairs}
+use Rattle.std.proofs.Common.{◌≡◌, ℕ, zero, suc, ◌<◌, ◌≤◌, Bool, true, false, List, [], ◌∷◌, refl, sym, ◌∙◌, subst, arith, inl, inr, Some, None}
+use Rattle.std.specs.Prelude.{◌⊎◌, ◌||◌, not, codes}
+use Rattle.std.specs.List.{Contains}
 use Rattle.std.proofs.lemmas.List.Elements.{All-contains, All-nil, All-cons}
 use Rattle.circuit_theory.specs.Cover.{cover_value}
-use Rattle.circuit_theory.specs.Circuit.{Circuit, Gate, Latch, Named, IsLatch, IsSource, IsSingleDriven, InCone, Reads, Reaches, Holds}
+use Rattle.circuit_theory.specs.Circuit.{Gate, IsLatch, IsSource, IsSingleDriven, InCone, Reads, Reaches, Holds}
 use Rattle.circuit_theory.specs.Run.{ExtendsWith, IsEnabled}
 use Rattle.circuit_theory.specs.Net.{IsNet}
-use Rattle.circuit_theory.specs.Depth.{LatchReads, LatchChain, ChainFrom, IsDepth, LatchesHaveDepths}
-use Rattle.circuit_theory.specs.Tree.{Tree, Trees, Leaf, Fixed, Branch, Nil, Cons, AreNumbered, IsInputNumber, StandsBeside, tree_value}
-use Rattle.circuit_theory.specs.Query.{Query, Variable, HasLeaf, HasLeafIn, Distinguishes, IsLeast, bits_of}
-use Rattle.circuit_theory.specs.Names.{same_name}
-use Rattle.circuit_theory.specs.Joined.{Either, Left, Right, joined}
+use Rattle.circuit_theory.specs.Depth.{LatchChain, ChainFrom, IsDepth, LatchesHaveDepths}
+use Rattle.circuit_theory.specs.Tree.{Tree, Leaf, Fixed, Branch, Nil, Cons, AreNumbered, IsInputNumber, StandsBeside, tree_value}
+use Rattle.circuit_theory.specs.Query.{Variable, HasLeaf, HasLeafIn, Distinguishes, bits_of}
+use Rattle.circuit_theory.specs.Joined.{Either, Left, Right}
 use Rattle.circuit_theory.specs.Fits.{MakesDiffer}
-use Rattle.event_theory.specs.Frame.{EventSide, EventUnfolds, EventUnfoldsAll, ConeLatches, ConeOthers, ReachedAt, IsEnable, HasCare}
-use Rattle.event_theory.specs.Classes.{EnableCare, IsInFirstClass, IsClassMap, HasClasses}
+use Rattle.event_theory.specs.Frame.{EventUnfolds, EventUnfoldsAll, ConeLatches, ConeOthers, ReachedAt, IsEnable, HasCare}
+use Rattle.event_theory.specs.Classes.{IsInFirstClass, HasClasses}
 use Rattle.event_theory.specs.EventQueries.{IsEventPairQuery}
 use Rattle.event_theory.specs.EventFrames.{IsCareTree, AreNodeVariables, IsPairTree, frame_of, HaveDifferentEvents, IsEventDifference}
-use Rattle.event_theory.specs.EventFits.{side_by_side, ReachesAlways}
+use Rattle.event_theory.specs.EventFits.{ReachesAlways}
 use Rattle.circuit_theory.proofs.Inputs.{beside_is_input}
 use Rattle.circuit_theory.proofs.Lists.{Contains-head, only}
 use Rattle.circuit_theory.proofs.Numbers.{one_place}
 use Rattle.circuit_laws.proofs.JoinedParts.{joined_same, joined_single, joined_number_once}
-use Rattle.finite_laws.proofs.EnabledDecided.{source_reads, gate_reads, steps}
+use Rattle.finite_laws.proofs.EnabledDecided.{gate_reads, steps}
 use Rattle.event_laws.proofs.EventTrees.{one_event_tree, one_enable}
 use Rattle.event_laws.proofs.EventVariables.{event_difference_gives_witness}
 use Rattle.event_laws.proofs.EventWindows.{event_witness_makes_differ_in_nets}
 use Rattle.circuit_samples.proofs.NetTest.{net_test-sound, numbers_distinct-sound}
-use Rattle.circuit_samples.proofs.Each.{Each, each_at, EachLatch, each_latch, each_split}
+use Rattle.circuit_samples.proofs.Each.{each_latch, each_split}
 use Rattle.event_samples.specs.Samples.{same_cover}
 use Rattle.event_samples.specs.Premises.{AreEventSides}
 use Rattle.event_samples.specs.Always.{first_cover, nothing_cover, always_loads, nothing, always_both, no_class, always_side, always_query, always_variables}

@@ -1,25 +1,24 @@
 -- The same difference under the assumption that a is 1: the sequence meets it throughout.
-use Rattle.std.proofs.Common.{◌≡◌, ℕ, zero, suc, ◌<◌, ◌≤◌, Bool, true, false, List, [], ◌∷◌, refl, sym, ◌∙◌, ap, subst, arith, inl, inr, None}
-use Rattle.std.specs.Prelude.{◌⊎◌, ◌==◌, ◌↔◌, codes}
-use Rattle.std.specs.List.{All, Contains}
+use Rattle.std.proofs.Common.{◌≡◌, ℕ, zero, suc, ◌<◌, Bool, true, false, List, [], ◌∷◌, refl, sym, ◌∙◌, ap, subst, arith, inl, inr}
+use Rattle.std.specs.Prelude.{◌⊎◌, ◌==◌}
+use Rattle.std.specs.List.{Contains}
 use Rattle.std.proofs.lemmas.List.Elements.{All-nil, All-cons, All-head}
 use Rattle.circuit_theory.specs.Cover.{cover_value}
-use Rattle.circuit_theory.specs.Circuit.{Circuit, Gate, Holds}
-use Rattle.circuit_theory.specs.Tree.{Tree, Leaf, Branch, Nil, Cons, tree_value}
-use Rattle.circuit_theory.specs.Query.{Variable, HasLeaf, HasLeafIn, AreVariables, ShiftBefore, Distinguishes, assigned, same_shift, bits_of, IsSame}
-use Rattle.circuit_theory.specs.Joined.{Either, Left, Right}
+use Rattle.circuit_theory.specs.Circuit.{Gate, Holds}
+use Rattle.circuit_theory.specs.Tree.{Tree, Leaf, Branch, Nil, tree_value}
+use Rattle.circuit_theory.specs.Query.{Variable, HasLeaf, HasLeafIn, Distinguishes, assigned, same_shift, bits_of, IsSame}
+use Rattle.circuit_theory.specs.Joined.{Left, Right}
 use Rattle.circuit_theory.specs.Fits.{MakesDiffer}
-use Rattle.event_theory.specs.Frame.{EventUnfolds}
-use Rattle.event_theory.specs.EventFrames.{AreNodeVariables, IsPairTree, frame_of}
+use Rattle.event_theory.specs.EventFrames.{AreNodeVariables, frame_of}
 use Rattle.circuit_theory.proofs.Inputs.{test_same}
 use Rattle.circuit_theory.proofs.Lists.{Contains-head, only}
 use Rattle.event_laws.proofs.EventWindows.{event_witness_makes_differ_in_nets}
-use Rattle.assume_laws.specs.Assume.{IsAssumption, RowMeets, PlaceUnfolds, PlaceUnfoldsAll, HasVariableAtNode, HasCareUnder}
+use Rattle.assume_laws.specs.Assume.{IsAssumption, RowMeets, PlaceUnfolds, PlaceUnfoldsAll, HasVariableAtNode}
 use Rattle.assume_laws.specs.Sequences.{RowsMeet, IsMeetingDifference, IsMeetingRow, IsEventPairQueryUnder, IsPairTreeUnder, IsSideTree, IsEventDifferenceUnder, HaveDifferentEventsUnder, assumption_query}
 use Rattle.assume_laws.proofs.Meeting.{leaf_input, leaf_at}
 use Rattle.assume_laws.proofs.Filled.{event_difference_is_witness_under}
 use Rattle.circuit_samples.proofs.NetTest.{net_test-sound}
-use Rattle.circuit_samples.proofs.Each.{Each, each_at, each_latch}
+use Rattle.circuit_samples.proofs.Each.{each_latch}
 use Rattle.event_samples.specs.Samples.{same_cover}
 use Rattle.event_samples.specs.Always.{always_loads, nothing, no_class, always_side, always_variables, one_always, never, assumed_query, meeting_row, nothing_cover, ok_tree}
 use Rattle.event_samples.proofs.AlwaysPair.{the_variable, left_tree, right_tree, left_unfolds, right_unfolds, left_value, right_value, care_of, pair_leaf, left_has_leaf, variables_of, left_depth, right_depth, left_always, right_always, always_sides}
@@ -131,7 +130,7 @@ assumed_shown = record {
 pub assumed_differ : MakesDiffer always_loads nothing (0 ∷ []) (0 ∷ []) 3 1 ((true ∷ []) ∷ (true ∷ []) ∷ []) 1 true false × RowsMeet one_always ((true ∷ []) ∷ (true ∷ []) ∷ []) 1
 assumed_differ =
     let w = event_difference_is_witness_under one_always always_side 3 1 1 1 0 assumed_query always_variables always_variables (true ∷ []) meeting_row assumed_difference
-        (All-cons (λ (x : Variable (List ℕ)). x.input < 1) the_variable [] (omega arith) (All-nil (λ (x : Variable (List ℕ)). x.input < 1))) meeting_is left_depth right_depth left_always right_always in
+    (All-cons (λ (x : Variable (List ℕ)). x.input < 1) the_variable [] (omega arith) (All-nil (λ (x : Variable (List ℕ)). x.input < 1))) meeting_is left_depth right_depth left_always right_always in
     let s = always_sides in
     (event_witness_makes_differ_in_nets always_loads nothing 4 2 (0 ∷ []) (0 ∷ []) no_class s.left_net s.right_net s.numbered s.left_long s.right_long s.classes s.depths 3 1 1 ((true ∷ []) ∷ (true ∷ []) ∷ []) 1 true false w.0, w.1)
 

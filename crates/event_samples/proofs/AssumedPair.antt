@@ -1,5 +1,5 @@
 -- Under the assumption that a is 1, a latch that loads the complement of a and one that loads 0 are equal, without and with t cut open.
-use Rattle.std.proofs.Common.{◌≡◌, ℕ, Bool, true, false, List, [], ◌∷◌, refl, sym, ◌∙◌, ap, subst, arith, inl, inr, None}
+use Rattle.std.proofs.Common.{◌≡◌, ℕ, Bool, true, false, List, [], ◌∷◌, refl, sym, ap, subst, arith, inl, inr, None}
 use Rattle.std.specs.Prelude.{◌⊎◌, codes}
 use Rattle.std.specs.List.{Contains}
 use Rattle.std.proofs.lemmas.List.Elements.{All-nil, All-cons}
@@ -9,16 +9,16 @@ use Rattle.circuit_theory.specs.Circuit.{Circuit, Gate, Named, Holds}
 use Rattle.circuit_theory.specs.Tree.{Tree, IsInputNumber, tree_value}
 use Rattle.circuit_theory.specs.Query.{HasLeaf, HasLeafIn}
 use Rattle.circuit_theory.specs.Joined.{Either, Left, Right}
-use Rattle.circuit_theory.specs.Agree.{cut, IsPair}
+use Rattle.circuit_theory.specs.Agree.{cut}
 use Rattle.event_theory.specs.Frame.{EventSide, EventUnfolds}
 use Rattle.circuit_theory.proofs.Lists.{only}
-use Rattle.assume_laws.specs.Assume.{IsAssumption, RowMeets, ReadsInputs, HasVariableAtNode, HasCareUnder, HaveEqualEventsUnder, AgreeUnder, AgreeOnwardUnder}
+use Rattle.assume_laws.specs.Assume.{IsAssumption, RowMeets, ReadsInputs, HasCareUnder, HaveEqualEventsUnder, AgreeUnder, AgreeOnwardUnder}
 use Rattle.assume_laws.proofs.EventLaws.{event_functions_agree_under, exposed_event_functions_agree_under}
 use Rattle.circuit_samples.proofs.NetTest.{net_test-sound}
-use Rattle.event_samples.specs.Samples.{opened, held, before, cleared, opened_before, opened_cleared, exposed, load_cover, load_not_cover, load_zero_cover, same_cover, numbers, class_of}
+use Rattle.event_samples.specs.Samples.{opened, before, cleared, opened_before, opened_cleared, exposed, load_not_cover, load_zero_cover, same_cover, numbers, class_of}
 use Rattle.event_samples.specs.Premises.{AreEventSides, AreExposedSides}
 use Rattle.event_samples.specs.Assumed.{a_is_one, PairsAreEqualUnder}
-use Rattle.circuit_samples.proofs.Each.{Each, each_at, each_latch}
+use Rattle.circuit_samples.proofs.Each.{each_at, each_latch}
 use Rattle.event_samples.proofs.Opened
 use Rattle.event_samples.proofs.Opened.{LoadPair, holds_not, loads_not}
 use Rattle.event_samples.proofs.ExposedPair.{exposed_sides, at_cut, at_pairs}

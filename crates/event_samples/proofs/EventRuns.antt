@@ -1,16 +1,13 @@
 -- Runs in which both enables are 1 settle the outputs in cycle 1: the events that they reach lie in cycle 0, without and with t cut open.
-use Rattle.std.proofs.Common.{◌≡◌, ◌≢◌, ℕ, zero, suc, ◌+◌, ◌<◌, Bool, true, false, List, [], ◌∷◌, refl, sym, ◌∙◌, ap, subst, arith, inl, inr}
+use Rattle.std.proofs.Common.{◌≡◌, ℕ, Bool, true, false, List, [], ◌∷◌, refl, sym, ◌∙◌, subst, arith}
 use Rattle.std.specs.Prelude.{codes}
-use Rattle.std.specs.List.{Contains}
 use Rattle.circuit_theory.specs.declared.Mode.TheVariants.{Event}
-use Rattle.circuit_theory.specs.Circuit.{Circuit, Gate, Named, IsInput, IsLatch, Reads, Reaches, Meets}
+use Rattle.circuit_theory.specs.Circuit.{Circuit, IsInput, IsLatch, Reads, Reaches, Meets}
 use Rattle.circuit_theory.specs.Run.{IsRun, IsEnabled, Loads, CanPut, Marked}
 use Rattle.circuit_theory.specs.Net.{IsNet}
-use Rattle.circuit_theory.specs.Tree.{IsInputNumber}
-use Rattle.circuit_theory.specs.Joined.{Either, Left, Right, joined, beside}
+use Rattle.circuit_theory.specs.Joined.{Either, Left, Right, beside}
 use Rattle.circuit_theory.specs.Agree.{cut, AreAlike, IsSettled}
-use Rattle.event_theory.specs.Frame.{EventSide, ConeLatches, ReachedAt, EventCycle, IsNumberedRun, IsNode, HasEvents}
-use Rattle.event_theory.specs.EventFits.{side_by_side}
+use Rattle.event_theory.specs.Frame.{ConeLatches, EventCycle, IsNumberedRun, IsNode, HasEvents}
 use Rattle.circuit_theory.proofs.Inputs.{beside_is_input}
 use Rattle.circuit_laws.proofs.LawProofs.{runs_exist}
 use Rattle.circuit_laws.proofs.Onward.{cut_run}
@@ -19,7 +16,7 @@ use Rattle.circuit_laws.proofs.JoinedParts.{left_part, right_part, joined_same, 
 use Rattle.event_laws.proofs.SettledEvents.{settled_has_events_in_nets}
 use Rattle.event_samples.specs.Samples.{before, behind, exposed, load_cover, load_not_cover, same_cover, not_cover, numbers, class_of}
 use Rattle.event_samples.specs.Events.{ReachOneNode, HasSettledPair, HasExposedSettledPair}
-use Rattle.circuit_samples.proofs.Each.{Each, each_at}
+use Rattle.circuit_samples.proofs.Each.{each_at}
 use Rattle.event_samples.proofs.HoldCells.{IsHold, hold_marked, hold_loads}
 use Rattle.event_samples.proofs.Opened.{holds_load, loads_load, holds_not, loads_not}
 use Rattle.event_samples.proofs.TwoClasses.{pair, left_side, right_side, whole, side, left_net, right_net, numbered, single, number_once, classes, depths, left_q, left_r, right_q, right_r, left_q_latch, left_r_latch, right_q_latch, right_r_latch, left_y_reads, left_z_reads}

@@ -6,24 +6,24 @@ use Rattle.std.proofs.lemmas.List.Elements.{All-contains}
 use Rattle.circuit_theory.specs.declared.Mode.TheVariants.{Event}
 use Rattle.circuit_theory.specs.Names.{same_name}
 use Rattle.circuit_theory.specs.Cover.{Cover, cover_value}
-use Rattle.circuit_theory.specs.Circuit.{Circuit, Gate, Latch, Named, IsLatch, IsSource, IsSingleDriven, Reads, Reaches, Holds}
+use Rattle.circuit_theory.specs.Circuit.{Circuit, Gate, Named, IsLatch, Reads, Reaches, Holds}
 use Rattle.circuit_theory.specs.Run.{IsRun, ExtendsWith, IsEnabled, Marked}
 use Rattle.circuit_theory.specs.Net.{IsNet, HasDistinctNames}
 use Rattle.circuit_theory.specs.Depth.{LatchReads, LatchPath, HasCycle, without}
 use Rattle.circuit_theory.specs.Tree.{IsInputNumber}
-use Rattle.circuit_theory.specs.Joined.{Either, Left, Right, joined}
+use Rattle.circuit_theory.specs.Joined.{Left, Right, joined}
 use Rattle.circuit_theory.specs.Agree.{cut, Agree, AgreeOnward, EnabledIn, IsPair, IsMinimalCut}
 use Rattle.event_theory.specs.Frame.{EventSide}
-use Rattle.event_theory.specs.EventFits.{side_by_side, HaveEqualEvents}
+use Rattle.event_theory.specs.EventFits.{HaveEqualEvents}
 use Rattle.circuit_theory.proofs.Lists.{only}
 use Rattle.circuit_theory.proofs.Numbers.{one_number}
 use Rattle.circuit_theory.proofs.Sums.{same_or_not}
 use Rattle.circuit_laws.proofs.NetLaws.{net_value, net_value-extends, net_can_put}
 use Rattle.event_laws.proofs.ExposedEvents.{exposed_event_functions_agree_in_nets}
 use Rattle.circuit_samples.proofs.NetTest.{net_test-sound}
-use Rattle.event_samples.specs.Samples.{held, opened, before, behind, exposed, load_cover, load_not_cover, same_cover, not_cover, numbers, class_at, class_of}
+use Rattle.event_samples.specs.Samples.{held, opened, before, behind, exposed, load_cover, not_cover, numbers, class_at, class_of}
 use Rattle.event_samples.specs.Premises.{AreEventSides, AreExposedSides, PairsAreEqual}
-use Rattle.circuit_samples.proofs.Each.{Each, each_at, EachLatch, each_latch}
+use Rattle.circuit_samples.proofs.Each.{each_at, each_latch}
 use Rattle.event_samples.proofs.HoldCells.{IsHold, hold_enabled, hold_reads, hold_marked}
 use Rattle.event_samples.proofs.Opened.{LoadPair, event_sides, holds_load, loads_load}
 use Rattle.event_samples.proofs.TwoClasses.{pair, side, joined_q_enabled, z_equal, y_equal, t_equal}

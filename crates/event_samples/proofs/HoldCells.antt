@@ -1,17 +1,17 @@
 -- Circuits whose latches load an input where another input is 1, and else keep their values: each latch is enabled, its enable is that
 -- input, and it reads no other latch.
-use Rattle.std.proofs.Common.{◌≡◌, ◌≢◌, ℕ, zero, suc, ◌+◌, ◌<◌, ◌≤◌, Bool, true, false, List, [], ◌∷◌, ◌++◌, length, refl, sym, ◌∙◌, ap, subst, arith, inl, inr, Some, None, slice_get}
+use Rattle.std.proofs.Common.{◌≡◌, ◌≢◌, ℕ, zero, suc, ◌+◌, ◌<◌, ◌≤◌, Bool, true, false, List, [], ◌∷◌, length, refl, sym, ◌∙◌, ap, subst, arith, inl, inr, Some, None, slice_get}
 use Rattle.std.specs.Prelude.{◌⊎◌, ◌||◌, ◌==◌, not, slice_index_or}
 use Rattle.std.specs.List.{Contains, AllPairs}
 use Rattle.std.proofs.lemmas.List.Elements.{All-contains}
 use Rattle.std.proofs.lemmas.Option.{slice_get-get_or}
 use Rattle.circuit_theory.specs.Cover.{Cover, cover_value}
-use Rattle.circuit_theory.specs.Circuit.{Circuit, Equation, Gate, Latch, Port, IsInput, IsLatch, IsSource, IsSingleDriven, InCone, Reads, Reaches, Meets, Holds}
+use Rattle.circuit_theory.specs.Circuit.{Circuit, Gate, Latch, IsInput, IsLatch, IsSource, IsSingleDriven, InCone, Reads, Reaches, Meets, Holds}
 use Rattle.circuit_theory.specs.Run.{IsRun, ExtendsWith, IsEnabled, Loads, CanPut, Marked}
-use Rattle.circuit_theory.specs.Depth.{LatchReads, LatchPath, LatchChain, ChainFrom, IsDepth, LatchesHaveDepths}
+use Rattle.circuit_theory.specs.Depth.{LatchReads, LatchChain, ChainFrom, IsDepth, LatchesHaveDepths}
 use Rattle.circuit_theory.specs.Tree.{Tree, Leaf, Fixed, Branch, Nil, Cons, IsInputNumber, tree_value}
 use Rattle.circuit_theory.specs.Cone.{latches_of}
-use Rattle.event_theory.specs.Frame.{EventSide, EventUnfolds, EventUnfoldsAll, ConeLatches, ConeOthers, ReachedAt, IsEnable}
+use Rattle.event_theory.specs.Frame.{EventSide, EventUnfolds, EventUnfoldsAll, ConeOthers, ReachedAt, IsEnable}
 use Rattle.event_theory.specs.Classes.{EnableCare, EnablesEqual, EnablesDiffer, SometimesOff, EqualsMembers, DiffersFromMember, IsInFirstClass, IsLatchOrder, classes_of}
 use Rattle.circuit_theory.proofs.Lists.{of_at}
 use Rattle.circuit_theory.proofs.Inputs.{beside_is_input, test_same, test_refl}

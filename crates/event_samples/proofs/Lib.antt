@@ -6,4 +6,5 @@ pub mod ExposedPair
 pub mod HoldCells
 pub mod Opened
 pub mod Reached
+pub mod SettledReader
 pub mod TwoClasses

@@ -1,28 +1,25 @@
 -- Two opened circuits side by side, whatever q of either side loads and z makes of it: they have two classes besides `always`.
-use Rattle.std.proofs.Common.{◌≡◌, ◌≢◌, ℕ, zero, suc, ◌+◌, ◌<◌, ◌≤◌, Bool, true, false, List, [], ◌∷◌, ◌++◌, length, refl, sym, ◌∙◌, ap, subst, arith, inl, inr, Some, None}
+use Rattle.std.proofs.Common.{◌≡◌, ◌≢◌, ℕ, zero, suc, ◌+◌, ◌<◌, ◌≤◌, Bool, true, false, List, [], ◌∷◌, refl, sym, ◌∙◌, ap, subst, arith, inl, inr, None}
 use Rattle.std.specs.Prelude.{◌⊎◌, codes}
 use Rattle.std.specs.List.{Contains, AllPairs}
-use Rattle.circuit_theory.specs.declared.Mode.TheVariants.{Event}
 use Rattle.circuit_theory.specs.Cover.{Cover, cover_value}
-use Rattle.circuit_theory.specs.Circuit.{Circuit, Gate, Latch, Named, IsLatch, IsSingleDriven, Reads, Reaches}
+use Rattle.circuit_theory.specs.Circuit.{Circuit, Named, IsLatch, IsSingleDriven, Reads, Reaches}
 use Rattle.circuit_theory.specs.Run.{IsEnabled}
 use Rattle.circuit_theory.specs.Net.{IsNet}
 use Rattle.circuit_theory.specs.Depth.{LatchesHaveDepths}
 use Rattle.circuit_theory.specs.Tree.{Tree, Leaf, Branch, Nil, Cons, AreNumbered, IsInputNumber, StandsBeside, tree_value}
-use Rattle.circuit_theory.specs.Cone.{latches_of}
 use Rattle.circuit_theory.specs.Joined.{Either, Left, Right, joined}
-use Rattle.circuit_theory.specs.Agree.{Agree, IsPair}
+use Rattle.circuit_theory.specs.Agree.{IsPair}
 use Rattle.event_theory.specs.Frame.{EventSide, EventUnfolds, EventUnfoldsAll, ConeLatches, HasCare}
 use Rattle.event_theory.specs.Classes.{IsInFirstClass, IsClassMap, IsLatchOrder, HasClasses, classes_of}
-use Rattle.event_theory.specs.EventFits.{side_by_side, HaveEqualEvents}
+use Rattle.event_theory.specs.EventFits.{side_by_side}
 use Rattle.circuit_theory.proofs.Inputs.{beside_is_input}
 use Rattle.circuit_theory.proofs.Numbers.{one_place}
 use Rattle.circuit_laws.proofs.JoinedParts.{joined_same, joined_single, joined_number_once}
-use Rattle.event_laws.proofs.EventAgreement.{events_agree}
 use Rattle.circuit_samples.proofs.NetTest.{net_test-sound, numbers_distinct-sound}
 use Rattle.event_samples.specs.Samples.{opened, load_cover, load_not_cover, not_cover, all_cover, numbers, class_of}
 use Rattle.event_samples.specs.Premises.{AreEventSides}
-use Rattle.circuit_samples.proofs.Each.{Each, each_at, EachLatch, each_latch, each_pair, each_split}
+use Rattle.circuit_samples.proofs.Each.{Each, each_at, each_latch, each_pair, each_split}
 use Rattle.event_samples.proofs.HoldCells.{IsHold, hold_tree, hold_enabled, hold_unfolds, hold_enable_is, hold_depths, in_first, in_their_order}
 
 pub holds_load : (b bit : Bool) → cover_value load_cover (false ∷ b ∷ bit ∷ []) ≡ bit

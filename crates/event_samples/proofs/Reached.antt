@@ -1,15 +1,15 @@
 -- What the outputs of the opened circuits reach, and their class map on the way.
-use Rattle.std.proofs.Common.{◌≡◌, ℕ, zero, suc, Bool, List, [], ◌∷◌, ◌++◌, refl, sym, ◌∙◌, ap, subst, arith, inl, inr, append_assoc}
-use Rattle.std.specs.Prelude.{◌⊎◌, codes, None}
+use Rattle.std.proofs.Common.{◌≡◌, ℕ, List, [], ◌∷◌, ◌++◌, refl, sym, ◌∙◌, ap, subst, arith, append_assoc}
+use Rattle.std.specs.Prelude.{codes, None}
 use Rattle.std.specs.List.{Contains}
 use Rattle.circuit_theory.specs.Circuit.{IsLatch, Reads, Reaches}
 use Rattle.circuit_theory.specs.Run.{IsEnabled, IsDetermined}
 use Rattle.circuit_theory.specs.Joined.{Either, Left, Right}
-use Rattle.event_theory.specs.Frame.{ConeLatches, ConeOthers, ReachedAt}
+use Rattle.event_theory.specs.Frame.{ReachedAt}
 use Rattle.event_theory.specs.Classes.{IsLatchOrder}
 use Rattle.event_theory.specs.EventSizes.{Start}
 use Rattle.event_theory.specs.EventTotals.{StartLatches, IsMapSoFar}
-use Rattle.event_theory.specs.Reached.{LatchAtNode, AreReached, IsClosed}
+use Rattle.event_theory.specs.Reached.{LatchAtNode, IsClosed}
 use Rattle.circuit_theory.proofs.Lists.{only}
 use Rattle.circuit_laws.proofs.NetLaws.{net_determined}
 use Rattle.circuit_laws.proofs.Parts.{determined_up, reaches_from}
@@ -18,7 +18,7 @@ use Rattle.event_laws.proofs.FrameExist.{frame_values_exist_in_nets}
 use Rattle.event_laws.proofs.ReachedLatches.{closed_lists_are_reached}
 use Rattle.event_samples.specs.Samples.{numbers, class_of}
 use Rattle.event_samples.specs.Events.{FramesHaveValues, HasMapsSoFar, HasReachedList, start_y, reached_y}
-use Rattle.circuit_samples.proofs.Each.{Each, each_at, EachLatch, each_latch}
+use Rattle.circuit_samples.proofs.Each.{each_at, each_latch}
 use Rattle.event_samples.proofs.HoldCells.{no_others}
 use Rattle.event_samples.proofs.TwoClasses.{left_side, right_side, whole, side, left_net, right_net, single, number_once, all_hold, depths, latch_order, class_map, order, left_q_latch, left_r_latch, left_y_reads}
 

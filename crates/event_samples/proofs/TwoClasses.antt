@@ -1,31 +1,25 @@
 -- The opened circuits side by side have two classes besides `always`, and their outputs have equal event functions.
-use Rattle.std.proofs.Common.{◌≡◌, ◌≢◌, ℕ, zero, suc, ◌+◌, ◌<◌, ◌≤◌, Bool, true, false, List, [], ◌∷◌, ◌++◌, length, refl, sym, ◌∙◌, ap, subst, arith, inl, inr, Some, None}
-use Rattle.std.specs.Prelude.{◌⊎◌, codes}
-use Rattle.std.specs.List.{Contains, AllPairs}
+use Rattle.std.proofs.Common.{◌≡◌, ℕ, Bool, true, false, List, [], ◌∷◌, refl, subst}
+use Rattle.std.specs.Prelude.{codes}
 use Rattle.circuit_theory.specs.declared.Mode.TheVariants.{Event}
 use Rattle.circuit_theory.specs.Cover.{cover_value}
-use Rattle.circuit_theory.specs.Circuit.{Circuit, Gate, Latch, Named, IsLatch, IsSingleDriven, Reads, Reaches}
+use Rattle.circuit_theory.specs.Circuit.{Circuit, IsLatch, IsSingleDriven, Reaches}
 use Rattle.circuit_theory.specs.Run.{IsEnabled}
 use Rattle.circuit_theory.specs.Net.{IsNet}
 use Rattle.circuit_theory.specs.Depth.{LatchesHaveDepths}
-use Rattle.circuit_theory.specs.Tree.{Tree, Leaf, Branch, Nil, Cons, AreNumbered, IsInputNumber, StandsBeside, tree_value}
-use Rattle.circuit_theory.specs.Cone.{latches_of}
+use Rattle.circuit_theory.specs.Tree.{AreNumbered, IsInputNumber, tree_value}
 use Rattle.circuit_theory.specs.Joined.{Either, Left, Right, joined}
 use Rattle.circuit_theory.specs.Agree.{Agree, IsPair}
-use Rattle.event_theory.specs.Frame.{EventSide, EventUnfolds, EventUnfoldsAll, ConeLatches, HasCare}
-use Rattle.event_theory.specs.Classes.{IsInFirstClass, IsClassMap, IsLatchOrder, HasClasses, classes_of}
+use Rattle.event_theory.specs.Frame.{EventSide}
+use Rattle.event_theory.specs.Classes.{IsClassMap, IsLatchOrder, HasClasses}
 use Rattle.event_theory.specs.EventFits.{side_by_side, HaveEqualEvents}
-use Rattle.circuit_theory.proofs.Inputs.{beside_is_input}
-use Rattle.circuit_theory.proofs.Numbers.{one_place}
-use Rattle.circuit_laws.proofs.JoinedParts.{joined_same, joined_single, joined_number_once}
 use Rattle.event_laws.proofs.EventAgreement.{events_agree}
-use Rattle.circuit_samples.proofs.NetTest.{net_test-sound, numbers_distinct-sound}
-use Rattle.event_samples.specs.Samples.{opened_before, opened_behind, load_cover, load_not_cover, same_cover, not_cover, all_cover, numbers, class_of}
+use Rattle.event_samples.specs.Samples.{opened_before, opened_behind, load_cover, load_not_cover, same_cover, not_cover, numbers, class_of}
 use Rattle.event_samples.specs.Premises.{AreEventSides}
 use Rattle.event_samples.specs.Events.{HasTwoClasses}
 use Rattle.event_samples.proofs.Opened
 use Rattle.event_samples.proofs.Opened.{LoadPair, holds_load, loads_load, holds_not, loads_not}
-use Rattle.event_samples.proofs.HoldCells.{IsHold, hold_tree, hold_enabled, hold_unfolds, hold_enable_is, hold_depths, in_first, in_their_order}
+use Rattle.event_samples.proofs.HoldCells.{IsHold}
 
 abbrev pub pair : LoadPair
 pair = record { la = load_not_cover; oa = same_cover; lb = load_cover; ob = not_cover; holds_a = holds_not; loads_a = loads_not; holds_b = holds_load; loads_b = loads_load }

@@ -1,10 +1,10 @@
 -- A latch that loads in every cycle though it reads itself, against the constant 0: they differ, without an assumption and under one.
-use Rattle.std.specs.Prelude.{◌==◌, ℕ, Bool, true, false, max, List, [], ◌∷◌, codes}
+use Rattle.std.specs.Prelude.{◌==◌, ℕ, Bool, true, false, List, [], ◌∷◌, codes}
 use Rattle.circuit_theory.specs.Cover.{Cover}
 use Rattle.circuit_theory.specs.Circuit.{Circuit, Gate, Latch}
 use Rattle.circuit_theory.specs.Tree.{Tree, Leaf, Branch, Nil, Cons}
 use Rattle.circuit_theory.specs.Query.{Query, Variable}
-use Rattle.circuit_theory.specs.Joined.{Either, Left, Right, joined}
+use Rattle.circuit_theory.specs.Joined.{Either, joined}
 use Rattle.event_theory.specs.Frame.{EventSide}
 use Rattle.event_theory.specs.EventFits.{side_by_side}
 use Rattle.assume_laws.specs.Assume.{Assumption}

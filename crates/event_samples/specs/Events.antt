@@ -6,7 +6,7 @@ use Rattle.circuit_theory.specs.Circuit.{Circuit}
 use Rattle.circuit_theory.specs.Run.{IsEnabled, IsDetermined}
 use Rattle.circuit_theory.specs.Agree.{cut, AreAlike, IsSettled}
 use Rattle.circuit_theory.specs.Joined.{Either, Left, Right, joined, beside}
-use Rattle.event_theory.specs.Frame.{EventSide, ConeLatches, EventCycle, IsNumberedRun, IsNode, HasEvents, AreFrameValues}
+use Rattle.event_theory.specs.Frame.{ConeLatches, EventCycle, IsNumberedRun, IsNode, HasEvents, AreFrameValues}
 use Rattle.event_theory.specs.Classes.{HasClasses, classes_of}
 use Rattle.event_theory.specs.EventFits.{side_by_side}
 use Rattle.event_theory.specs.EventSizes.{Start}

@@ -2,4 +2,5 @@ pub mod Always
 pub mod Assumed
 pub mod Events
 pub mod Premises
+pub mod Reader
 pub mod Samples

@@ -13,6 +13,7 @@ ghost use Rattle.event_theory.specs.EventFrames.{AreNodeVariables, IsPairTree, H
 ghost use Rattle.event_theory.specs.EventFits.{ReachesAlways};
 ghost use Rattle.assume_laws.specs.Assume.{IsAssumption, ReadsInputs, PlaceUnfolds, AgreeUnder, AgreeOnwardUnder};
 ghost use Rattle.assume_laws.specs.Sequences.{RowsMeet, IsMeetingDifference, IsMeetingRow, IsPairTreeUnder, IsEventDifferenceUnder, HaveDifferentEventsUnder, assumption_query};
+ghost use Rattle.event_samples.specs.Reader.{HasSettledReader};
 ghost use Rattle.event_samples.specs.Always.{always_loads, nothing, always_both, no_class, always_side, always_query, always_variables, one_always, never, assumed_query, meeting_row, ok_tree, never_tree};
 ghost use Rattle.event_samples.specs.Samples.{before, behind, cleared, exposed, opened_before, opened_behind, opened_cleared, numbers, class_of};
 ghost use Rattle.event_samples.specs.Assumed.{a_is_one, PairsAreEqualUnder};
@@ -112,4 +113,9 @@ pub fn met_and_not_met()
     ensures assumption { IsAssumption never 2 }
     ensures unfolds { PlaceUnfolds never.circuit never.order 0 never.output never_tree }
     ensures never { IsSame (assumption_query never_tree) }
+{}
+
+/// A latch that is exposed since it toggles in the other circuit, and that is settled in its own, where it reads itself, an exposed name.
+pub fn settled_reader()
+    ensures { HasSettledReader }
 {}
