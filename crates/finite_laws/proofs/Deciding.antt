@@ -1,11 +1,11 @@
 -- What can be decided over lists, and all values of finitely many places.
-use Rattle.std.proofs.Common.{◌≡◌, ℕ, Bool, true, false, List, [], ◌∷◌, ◌++◌, map, refl, ap, subst, arith, inl, inr}
+use Rattle.std.proofs.Common.{◌≡◌, ◌≢◌, ℕ, Bool, true, false, List, [], ◌∷◌, ◌++◌, map, refl, ap, subst, arith, inl, inr}
 use Rattle.std.specs.Prelude.{◌⊎◌}
 use Rattle.std.specs.List.{Contains}
 use Rattle.std.proofs.lemmas.List.Elements.{Contains-append_left, Contains-append_right}
-use Rattle.circuit_theory.specs.Circuit.{Named}
+use Rattle.circuit_theory.specs.Circuit.{Equation, Gate, Latch, Port, Named, out_of}
 use Rattle.circuit_theory.specs.Tree.{StandsBeside}
-use Rattle.circuit_theory.proofs.Lists.{Contains-head, Contains-cases, Contains-map}
+use Rattle.circuit_theory.proofs.Lists.{Contains-head, Contains-tail, Contains-cases, Contains-map}
 use Rattle.circuit_laws.proofs.Finite.{Decided, find_or}
 
 pub decided_imp : {A B : Type 0} → Decided A → Decided B → Decided (A → B)
@@ -63,6 +63,42 @@ decided_beside {P} (n ∷ inputs) (j ∷ order) F h = go (h n.place j) (decided_
     go (inl f) (inl rest) = inl (pick f rest)
     go (inl f) (inr none) = inr (λ all. none (λ p i k. all p i (inr k)))
     go (inr none) rest = inr (λ all. none (all n.place j (inl (refl, refl))))
+
+module _ {P : Type 0} (same : (p q : P) → (p ≡ q) ⊎ (p ≢ q)) where
+  -- whether a place is a latch
+  pub latch_or : (es : List (Equation P)) (v : P) → ((name : List ℕ) × (next : P) × Contains es (Latch name v next)) ⊎ ((name : List ℕ) (next : P) → Contains es (Latch name v next) → ⊥)
+  latch_or [] v = inr (λ name next h. omega (arith, h.1))
+  latch_or (Gate out fanins cover ∷ es) v = go (latch_or es v)
+    where
+      go : ((name : List ℕ) × (next : P) × Contains es (Latch name v next)) ⊎ ((name : List ℕ) (next : P) → Contains es (Latch name v next) → ⊥) →
+          ((name : List ℕ) × (next : P) × Contains (Gate out fanins cover ∷ es) (Latch name v next)) ⊎ ((name : List ℕ) (next : P) → Contains (Gate out fanins cover ∷ es) (Latch name v next) → ⊥)
+      go (inl x) = inl (x.0, x.1, Contains-tail _ _ es x.2)
+      go (inr none) = inr (λ name next h. pick name next (Contains-cases (Gate out fanins cover) (Latch name v next) es h))
+        where
+          pick : (name : List ℕ) (next : P) → (Gate out fanins cover ≡ Latch name v next) ⊎ Contains es (Latch name v next) → ⊥
+          pick name next (inl e) = cc
+          pick name next (inr k) = none name next k
+  latch_or (Port out from ∷ es) v = go (latch_or es v)
+    where
+      go : ((name : List ℕ) × (next : P) × Contains es (Latch name v next)) ⊎ ((name : List ℕ) (next : P) → Contains es (Latch name v next) → ⊥) →
+          ((name : List ℕ) × (next : P) × Contains (Port out from ∷ es) (Latch name v next)) ⊎ ((name : List ℕ) (next : P) → Contains (Port out from ∷ es) (Latch name v next) → ⊥)
+      go (inl x) = inl (x.0, x.1, Contains-tail _ _ es x.2)
+      go (inr none) = inr (λ name next h. pick name next (Contains-cases (Port out from) (Latch name v next) es h))
+        where
+          pick : (name : List ℕ) (next : P) → (Port out from ≡ Latch name v next) ⊎ Contains es (Latch name v next) → ⊥
+          pick name next (inl e) = cc
+          pick name next (inr k) = none name next k
+  latch_or (Latch own out to ∷ es) v = go (same out v) (latch_or es v)
+    where
+      go : (out ≡ v) ⊎ (out ≢ v) → ((name : List ℕ) × (next : P) × Contains es (Latch name v next)) ⊎ ((name : List ℕ) (next : P) → Contains es (Latch name v next) → ⊥) →
+          ((name : List ℕ) × (next : P) × Contains (Latch own out to ∷ es) (Latch name v next)) ⊎ ((name : List ℕ) (next : P) → Contains (Latch own out to ∷ es) (Latch name v next) → ⊥)
+      go (inl e) later = inl (own, to, subst (λ (u : P). Contains (Latch own out to ∷ es) (Latch own u to)) e (Contains-head _ es))
+      go (inr n) (inl x) = inl (x.0, x.1, Contains-tail _ _ es x.2)
+      go (inr n) (inr none) = inr (λ name next h. pick name next (Contains-cases (Latch own out to) (Latch name v next) es h))
+        where
+          pick : (name : List ℕ) (next : P) → (Latch own out to ≡ Latch name v next) ⊎ Contains es (Latch name v next) → ⊥
+          pick name next (inl e) = n (ap out_of e)
+          pick name next (inr k) = none name next k
 
 -- the first where the two are one, else the second
 abbrev pub if_same : {A X : Type 0} → A ⊎ (A → ⊥) → X → X → X
