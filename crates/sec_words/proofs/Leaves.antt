@@ -79,7 +79,7 @@ module _ (c : List Rule) where
 
       fresh : (v : Text) (vs : List Text) → or_else (request_kinds (action_of a)) (values_fault a (v ∷ vs)) ≡ [] → AreGood c (with_values a.id (reading_by a) DefaultValue (v ∷ vs) rows)
       fresh v vs k = good_values c a.id (reading_by a) DefaultValue (v ∷ vs) rows (λ b is. (let same : Some a ≡ Some b = sym own.0 ∙ is in let one : a ≡ b = cc in
-        subst (λ (x : Rule). (values_fault x (v ∷ vs) ≡ []) × (0 < length (v ∷ vs))) one (else_next (request_kinds (action_of a)) (values_fault a (v ∷ vs)) k, omega arith))) good
+          subst (λ (x : Rule). (values_fault x (v ∷ vs) ≡ []) × (0 < length (v ∷ vs))) one (else_next (request_kinds (action_of a)) (values_fault a (v ∷ vs)) k, omega arith))) good
 
       given : (vs : List Text) → cond (is_empty vs) [] (given_default_fault a vs) ≡ [] → AreGood c (default_rows a.id (reading_by a) vs rows)
       given [] k = good

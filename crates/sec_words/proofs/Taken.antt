@@ -98,8 +98,11 @@ module _ (c : List Rule) where
   pub good_values : (id : Text) (how : Reading) (s : ValueSource) (values : List Text) (rows : List Row) → AreGoodFor id values → AreGood rows → AreGood (with_values id how s values rows)
   good_values id how s values rows new h =
       good_at id (more_values s values) (record { id = id; values = values; count = None; source = Some s; reading = how } ∷ []) rows
-      (λ r e old. (λ a is. (let mine : arg_by_id c id ≡ Some a = ap (arg_by_id c) (sym (same_text r.id id e)) ∙ is in
-        (values_append a.ignore_case (parser_of_value a.parser) r.values values (old a is).0 (new a mine).0, length_more r.values values (new a mine).1)), tt)) (new, tt) h
+      (λ r e old. (
+        λ a is. (let mine : arg_by_id c id ≡ Some a = ap (arg_by_id c) (sym (same_text r.id id e)) ∙ is in
+            (values_append a.ignore_case (parser_of_value a.parser) r.values values (old a is).0 (new a mine).0, length_more r.values values (new a mine).1)),
+        tt,
+      )) (new, tt) h
 
   good_without : (id : Text) (rows : List Row) → AreGood rows → AreGood (without id rows)
   good_without id rows h = good_at id (λ _. []) [] rows (λ r e old. tt) tt h
@@ -111,6 +114,7 @@ module _ (c : List Rule) where
       let below : nat_lt 0 (unwrap_or_range a.range).start_inclusive ≡ true = lt-ltb 0 (unwrap_or_range a.range).start_inclusive least in
       absurd (let none : range_kinds (unwrap_or_range a.range).start_inclusive (most_values a) 0 ≡ [] = e in let some : Kinds = InvalidValue ∷ [] in
       let kinds : some ≡ [] = sym (ap (λ b. cond (b && (0 == 0)) some (range_left (unwrap_or_range a.range).start_inclusive (most_values a))) below) ∙ none in cc)
+
   missing_some : (a : Rule) (values : List Text) → 0 < length a.missing → 0 < length (values_or_missing a values)
   missing_some a [] h = h
   missing_some a (v ∷ vs) h = omega arith

@@ -1,4 +1,3 @@
-use Rattle.std.proofs.Common.{Some}
 use Rattle.std.proofs.lemmas.Result.{err_from_is_err_and}
 use Rattle.flat_walk.proofs.Done.{walk_failed, walk_found}
 use Rattle.flat_walk.proofs.walking.walked_of.Goals as goal
