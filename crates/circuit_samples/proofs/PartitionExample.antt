@@ -1,12 +1,13 @@
 -- Four latches from 0: one block by initial values, and two blocks in the coarsest inductive partition.
-use Rattle.std.proofs.Common.{◌≡◌, ℕ, Bool, true, false, List, [], ◌∷◌, refl, sym, ◌∙◌, ap, subst, arith, inl, inr}
+use Rattle.std.proofs.Common.{◌≡◌, ◌≢◌, ℕ, Bool, true, false, List, [], ◌∷◌, refl, sym, ◌∙◌, ap, subst, arith, inl, inr}
 use Rattle.std.specs.Prelude.{◌⊎◌, ◌↔◌, codes}
-use Rattle.std.specs.List.{Contains}
+use Rattle.std.specs.List.{Contains, AllPairs}
 use Rattle.circuit_theory.specs.Cover.{cover_value}
 use Rattle.circuit_theory.specs.Circuit.{Circuit, Named, Started, IsInput, IsLatch, Meets, Holds}
 use Rattle.circuit_theory.specs.Run.{IsResetRun}
 use Rattle.circuit_theory.specs.Net.{IsNet}
 use Rattle.circuit_theory.specs.Tree.{AreNumbered, IsInputNumber, tree_value}
+use Rattle.circuit_theory.specs.Cone.{latches_of}
 use Rattle.circuit_theory.specs.Joined.{Either, Left, Right}
 use Rattle.circuit_theory.specs.Agree.{IsPair}
 use Rattle.circuit_theory.specs.Blocks.{IsConstantOn, IsCoarsest}
@@ -20,7 +21,7 @@ use Rattle.induct_laws.proofs.Partitions.{initial_is_coarser, split_stays_coarse
 use Rattle.induct_laws.proofs.Runs.{blocks_stay_equal, equal_over_blocks_agree}
 use Rattle.circuit_samples.specs.Partitioned.{three_latches, one_latch, all_latches, a_number, first_block, last_block, telling, TellApart, HasEqualLatches, HasQueries}
 use Rattle.circuit_samples.proofs.NetTest.{net_test-sound, numbers_distinct-sound}
-use Rattle.circuit_samples.proofs.Each.{Each, each_at, each_latch}
+use Rattle.circuit_samples.proofs.Each.{Each, each_at, each_latch, each_pair}
 
 pub left_net : IsNet three_latches 5
 left_net = net_test-sound three_latches 5 refl
@@ -37,6 +38,9 @@ starts_of c bits latches = record {
   of_latches = λ u bit h. each_at (λ (s : Started ℕ). (name : List ℕ) × (next : ℕ) × IsLatch c name s.place next) c.starts latches (record { place = u; bit = bit }) h;
   once = λ u x y h k. zero_start c bits u x h ∙ sym (zero_start c bits u y k);
 }
+
+pub distinct_latches : AllPairs (λ u v. u ≢ v) (latches_of three_latches)
+distinct_latches = each_pair (λ u v. u ≢ v) (latches_of three_latches) (((λ e. omega arith), ((λ e. omega arith), tt)), (((λ e. omega arith), tt), (tt, tt)))
 
 pub left_starts : HasStarts three_latches
 left_starts = starts_of three_latches (refl, (refl, (refl, tt))) ((codes "p", 0, (1, omega arith, refl)), ((codes "q", 0, (2, omega arith, refl)), ((codes "r", 4, (3, omega arith, refl)), tt)))

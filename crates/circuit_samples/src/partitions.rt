@@ -1,6 +1,8 @@
 //! A computed example of inductive partitions. Its functions do nothing: each contract is an example that meets what laws ask.
 
-ghost use Rattle.std.specs.Prelude.{ℕ, ◌++◌, List, [], ◌∷◌};
+ghost use Rattle.std.specs.Prelude.{ℕ, ◌≢◌, List, [], ◌∷◌};
+ghost use Rattle.std.specs.List.{AllPairs};
+ghost use Rattle.circuit_theory.specs.Cone.{latches_of};
 ghost use Rattle.circuit_theory.specs.Net.{IsNet};
 ghost use Rattle.circuit_theory.specs.Tree.{AreNumbered};
 ghost use Rattle.circuit_theory.specs.Agree.{IsPair};
@@ -14,6 +16,7 @@ ghost use Rattle.circuit_samples.specs.Partitioned.{three_latches, one_latch, al
 pub fn two_blocks()
     ensures left_net { IsNet three_latches 5 }
     ensures right_net { IsNet one_latch 2 }
+    ensures latches { AllPairs (λ u v. u ≢ v) (latches_of three_latches) }
     ensures left_starts { HasStarts three_latches }
     ensures right_starts { HasStarts one_latch }
     ensures numbered { AreNumbered three_latches one_latch (0 ∷ []) (0 ∷ []) }

@@ -6,18 +6,20 @@ use Rattle.std.specs.List.{Contains, AllPairs}
 use Rattle.std.proofs.lemmas.List.Elements.{All-contains}
 use Rattle.std.proofs.lemmas.Option.{slice_get-get_or}
 use Rattle.circuit_theory.specs.Cover.{Cover, cover_value}
-use Rattle.circuit_theory.specs.Circuit.{Circuit, Gate, Latch, IsInput, IsLatch, IsSource, IsSingleDriven, InCone, Reads, Reaches, Meets, Holds}
+use Rattle.circuit_theory.specs.Circuit.{Circuit, Gate, Latch, IsInput, IsLatch, IsSource, IsSingleDriven, InCone, Reads, Reaches, Meets, Holds, Equation, Port}
 use Rattle.circuit_theory.specs.Run.{IsRun, ExtendsWith, IsEnabled, Loads, CanPut, Marked}
 use Rattle.circuit_theory.specs.Depth.{LatchReads, LatchChain, ChainFrom, IsDepth, LatchesHaveDepths}
 use Rattle.circuit_theory.specs.Tree.{Tree, Leaf, Fixed, Branch, Nil, Cons, IsInputNumber, tree_value}
 use Rattle.circuit_theory.specs.Cone.{latches_of}
+use Rattle.circuit_theory.specs.Query.{Variable, HasLeaf, HasLeafIn}
+use Rattle.event_theory.specs.EventFrames.{IsEnableTree, IsCareTree}
 use Rattle.event_theory.specs.Frame.{EventSide, EventUnfolds, EventUnfoldsAll, ConeOthers, ReachedAt, IsEnable}
 use Rattle.event_theory.specs.Classes.{EnableCare, EnablesEqual, EnablesDiffer, SometimesOff, EqualsMembers, DiffersFromMember, IsInFirstClass, IsLatchOrder, classes_of}
 use Rattle.circuit_theory.proofs.Lists.{of_at}
 use Rattle.circuit_theory.proofs.Inputs.{beside_is_input, test_same, test_refl}
 use Rattle.circuit_theory.proofs.Numbers.{distinct_at}
 use Rattle.finite_laws.proofs.EnabledDecided.{source_reads, gate_reads, steps}
-use Rattle.event_laws.proofs.EventTrees.{one_enable}
+use Rattle.event_laws.proofs.EventTrees.{one_enable, one_event_tree}
 use Rattle.circuit_samples.proofs.Each.{Each, each_at}
 
 -- the latch loads the input a, or what its cover makes of it, where the input e is 1; i and j are their numbers
@@ -32,6 +34,14 @@ pub record IsHold {P : Type 0} (side : EventSide P) (u next : P) : Type 0 where
   pub a_is : IsInputNumber side.circuit side.order a j
   pub holds : (b bit : Bool) → cover_value load (false ∷ b ∷ bit ∷ []) ≡ bit
   pub loads : (b : Bool) → cover_value load (true ∷ b ∷ false ∷ []) ≡ cover_value load (true ∷ b ∷ true ∷ [])
+
+at_leaf : (i : ℕ) (x : Variable (List ℕ)) → HasLeaf x (Leaf i []) → record { input = i; at = [] } ≡ x
+at_leaf i x HasLeaf.leaf = refl
+
+abbrev next_of : {P : Type 0} → Equation P → P
+next_of (Gate out fanins cover) = out
+next_of (Latch m out to) = to
+next_of (Port out from) = from
 
 -- the tree of what such a latch takes over, with itself read as a bit
 abbrev pub hold_tree : Cover → ℕ → ℕ → Bool → List ℕ → Tree (List ℕ)
@@ -159,6 +169,23 @@ module _ {P : Type 0} (side : EventSide P) (same : (p q : P) → (p ≡ q) ⊎ (
     pub hold_enable_is : (bits : ℕ → List ℕ → Bool) (node : List ℕ) (x : Bool) → IsEnable side On bits u node x → x ≡ bits h.i node
     hold_enable_is bits node x k = one_enable side On single once bits u node x (bits h.i node) k (hold_enable bits node)
 
+    -- the leaves of its enable at the root are both inputs there
+    pub hold_leaf : (tree : Tree (List ℕ)) → IsEnableTree side u tree → (x : Variable (List ℕ)) → HasLeaf x tree → (record { input = h.i; at = [] } ≡ x) ⊎ (record { input = h.j; at = [] } ≡ x)
+    hold_leaf tree (IsEnableTree.own {name = other} {next = to} {bit = bit} {tree = t} is on unfolds) x stands =
+        two_leaves bit x (subst (HasLeaf x) (one_event_tree side On single once (name, next, latch) moved (hold_next bit [])) stands)
+      where
+        to_is : to ≡ next
+        to_is = ap next_of (single.one (Latch other u to) (Latch name u next) is latch refl)
+
+        moved : EventUnfolds side On (Some (u, bit)) next [] t
+        moved = subst (λ (q : P). EventUnfolds side On (Some (u, bit)) q [] t) to_is unfolds
+
+        two_leaves : (b : Bool) (y : Variable (List ℕ)) → HasLeaf y (hold_tree h.load h.i h.j b []) → (record { input = h.i; at = [] } ≡ y) ⊎ (record { input = h.j; at = [] } ≡ y)
+        two_leaves b y (HasLeaf.inside (HasLeafIn.first k)) = inl (at_leaf h.i y k)
+        two_leaves b y (HasLeaf.inside (HasLeafIn.later (HasLeafIn.first k))) = inr (at_leaf h.j y k)
+        two_leaves b y (HasLeaf.inside (HasLeafIn.later (HasLeafIn.later (HasLeafIn.first k)))) = absurd (elim k [ ])
+        two_leaves b y (HasLeaf.inside (HasLeafIn.later (HasLeafIn.later (HasLeafIn.later k)))) = absurd (elim k [ ])
+
   module _ (all : (name : List ℕ) (u next : P) → IsLatch c name u next → IsHold side u next) where
     -- no latch reads another
     pub no_others : (u w : P) → ConeOthers c On u w → ⊥
@@ -192,6 +219,10 @@ module _ {P : Type 0} (side : EventSide P) (same : (p q : P) → (p ≡ q) ⊎ (
     -- each frame has care for each enable
     pub enable_care : (bits : ℕ → List ℕ → Bool) (u : P) → EnableCare side bits u
     enable_care bits u node v h = absurd (no_others u v (at_root (ConeOthers c On u) node v h).1)
+
+    -- no care of an enable reads a tree
+    pub no_care_tree : (u : P) (tree : Tree (List ℕ)) → IsCareTree side (ConeOthers c On u) tree → ⊥
+    no_care_tree u tree (IsCareTree.enable {node = node} {v = v} reached is on unfolds) = no_others u v (at_root (ConeOthers c On u) node v reached).1
 
     pub sometimes_off : (name : List ℕ) (u next : P) → IsLatch c name u next → SometimesOff side u
     sometimes_off name u next latch = record { bits = λ i node. false; care = enable_care (λ i node. false) u; off = hold_enable name u next latch (all name u next latch) (λ i node. false) [] }

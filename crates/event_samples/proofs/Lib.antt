@@ -6,5 +6,6 @@ pub mod ExposedPair
 pub mod HoldCells
 pub mod Opened
 pub mod Reached
+pub mod Separated
 pub mod SettledReader
 pub mod TwoClasses

@@ -4,6 +4,7 @@ use Rattle.std.specs.List.{Contains}
 use Rattle.circuit_theory.specs.declared.Mode.TheVariants.{Event}
 use Rattle.circuit_theory.specs.Circuit.{Circuit}
 use Rattle.circuit_theory.specs.Run.{IsEnabled, IsDetermined}
+use Rattle.circuit_theory.specs.Query.{Variable}
 use Rattle.circuit_theory.specs.Agree.{cut, AreAlike, IsSettled}
 use Rattle.circuit_theory.specs.Joined.{Either, Left, Right, joined, beside}
 use Rattle.event_theory.specs.Frame.{ConeLatches, EventCycle, IsNumberedRun, IsNode, HasEvents, AreFrameValues}
@@ -66,3 +67,11 @@ pub record HasReachedList : Type 0 where
   pub determined : (x : Start (Either ℕ ℕ)) → Contains start_y x → IsDetermined opened_both x.place
   pub closed : IsClosed opened_side (IsEnabled opened_both) (StartLatches opened_side start_y) reached_y
   pub reached : AreReached opened_side (IsEnabled opened_both) (StartLatches opened_side start_y) reached_y
+
+-- an input at the root
+abbrev pub root_variable : ℕ → Variable (List ℕ)
+root_variable i = record { input = i; at = [] }
+
+-- all four latches, in their order
+abbrev pub opened_order : List (Either ℕ ℕ)
+opened_order = Left 3 ∷ Left 5 ∷ Right 3 ∷ Right 5 ∷ []

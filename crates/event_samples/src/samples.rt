@@ -9,16 +9,16 @@ ghost use Rattle.circuit_theory.specs.Query.{Variable, IsSame};
 ghost use Rattle.circuit_theory.specs.Fits.{MakesDiffer};
 ghost use Rattle.circuit_theory.specs.Agree.{cut, Agree, AgreeOnward};
 ghost use Rattle.circuit_theory.specs.Joined.{Left, Right, joined};
-ghost use Rattle.event_theory.specs.EventFrames.{AreNodeVariables, IsPairTree, HaveDifferentEvents, IsEventDifference};
+ghost use Rattle.event_theory.specs.EventFrames.{AreNodeVariables, IsPairTree, HaveDifferentEvents, IsEventDifference, IsSeparation, IsSeparationFromAlways};
 ghost use Rattle.event_theory.specs.EventFits.{ReachesAlways};
 ghost use Rattle.assume_laws.specs.Assume.{IsAssumption, ReadsInputs, PlaceUnfolds, AgreeUnder, AgreeOnwardUnder};
 ghost use Rattle.assume_laws.specs.Sequences.{RowsMeet, IsMeetingDifference, IsMeetingRow, IsPairTreeUnder, IsEventDifferenceUnder, HaveDifferentEventsUnder, assumption_query};
 ghost use Rattle.event_samples.specs.Reader.{HasSettledReader};
 ghost use Rattle.event_samples.specs.Always.{always_loads, nothing, always_both, no_class, always_side, always_query, always_variables, one_always, never, assumed_query, meeting_row, ok_tree, never_tree};
-ghost use Rattle.event_samples.specs.Samples.{before, behind, cleared, exposed, opened_before, opened_behind, opened_cleared, numbers, class_of};
+ghost use Rattle.event_samples.specs.Samples.{before, behind, cleared, exposed, opened_before, opened_behind, opened_cleared, opened_side, numbers, class_of};
 ghost use Rattle.event_samples.specs.Assumed.{a_is_one, PairsAreEqualUnder};
 ghost use Rattle.event_samples.specs.Premises.{AreEventSides, AreExposedSides, PairsAreEqual};
-ghost use Rattle.event_samples.specs.Events.{HasTwoClasses, HasSettledPair, HasExposedSettledPair, FramesHaveValues, HasMapsSoFar, HasReachedList};
+ghost use Rattle.event_samples.specs.Events.{HasTwoClasses, HasSettledPair, HasExposedSettledPair, FramesHaveValues, HasMapsSoFar, HasReachedList, root_variable, opened_order};
 
 /// Two circuits with two load enables: one loads a complement, the other complements what it has loaded. There are two classes besides
 /// `always`, the outputs have equal event functions, and the circuits agree.
@@ -118,4 +118,11 @@ pub fn met_and_not_met()
 /// A latch that is exposed since it toggles in the other circuit, and that is settled in its own, where it reads itself, an exposed name.
 pub fn settled_reader()
     ensures { HasSettledReader }
+{}
+
+/// The separation of the two classes: where the one enable is 1 and the other 0, the first founder loads and the second doesn't; and that of
+/// the first class from `always`.
+pub fn separated()
+    ensures classes { IsSeparation opened_side opened_order 1 2 (Left 3) (Left 5) (root_variable 0 ∷ root_variable 1 ∷ root_variable 2 ∷ []) (true ∷ false ∷ false ∷ []) true false }
+    ensures always { IsSeparationFromAlways opened_side opened_order 1 (Left 3) (root_variable 0 ∷ root_variable 2 ∷ []) (false ∷ false ∷ []) }
 {}
