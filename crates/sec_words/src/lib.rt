@@ -7,10 +7,9 @@
 mod command;
 mod jobs;
 mod laws;
-mod settings;
 mod task;
 
 pub use jobs::{WordsError, job};
 pub use laws::{taken_words_are_job, words_are_taken};
-pub use settings::Settings;
+pub use sec_base::Settings;
 pub use task::Task;
