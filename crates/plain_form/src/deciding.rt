@@ -3,12 +3,15 @@
 ghost use Rattle.std.specs.Prelude.{◌≡◌, ◌+◌, ◌<◌, ◌≤◌, length, take, IfOk, OnOk};
 ghost use Rattle.sec_base.specs.Table.{AreDistinct};
 ghost use Rattle.latch_graph.specs.Graph.{IsGraphOf};
+ghost use Rattle.swept_queries.specs.InStead.{IsKnown};
+ghost use Rattle.plain_form.specs.Asked.{AreSweptPairs};
 ghost use Rattle.plain_form.specs.Formed.{IsAcyclic, ArePairsOf};
 ghost use Rattle.pair_decide.specs.Queries.{IsQuery};
 ghost use Rattle.plain_form.specs.Found.{IsResultOf, IsSettled, HaveFound, HaveFunctions};
 ghost use Rattle.plain_form.specs.Outcome.{differing};
 ghost use Rattle.plain_form.specs.Variables.{AreInOrder, IsPairQuery};
 
+use crate::asking::sweep_pairs;
 use crate::merging::merge_variables;
 use crate::pairing::{SignalPair, copy_name, pair_depth};
 use crate::unfolding::Functions;
@@ -17,10 +20,11 @@ use aig::{Aig, Lit};
 use cbf_unfold::Unfolded;
 use flat_net::Net;
 use latch_graph::LatchGraph;
-use pair_decide::{Decision, Proof, Query, decide};
+use pair_decide::{Decision, Proof, Query};
 use sec_base::{Bits, NoMemory, PairAnswer, PlaceTable, Words};
 use sec_outcome::{PairName, PairResult, PairResults, Witness};
 use std::alloc::Global;
+use swept_queries::SweptQueries;
 
 /// The results of the pairs, and the sequence of the first that differs.
 #[derive(Drop)]
@@ -52,6 +56,7 @@ pub(crate) fn decide_pairs(
     requires conflicts { conflicts ≤ 200000 }
     ensures { IfOk result (λ d. (x : HaveFunctions a.now b.now columns.now pairs.now functions.now) → HaveFound a.now b.now x.left x.right columns.now cut conflicts pairs.now d.results d.first) }
 {
+    let swept = sweep_pairs(alloc, functions, conflicts)?;
     let mut decided = Decided {
         results: PairResults::new(alloc),
         first: None,
@@ -64,6 +69,7 @@ pub(crate) fn decide_pairs(
             left,
             right,
             functions,
+            &swept,
             columns,
             pairs,
             i,
@@ -83,6 +89,7 @@ fn decide_next(
     left: &LatchGraph,
     right: &LatchGraph,
     functions: &Functions,
+    swept: &SweptQueries,
     columns: &Words,
     pairs: &[SignalPair],
     i: usize,
@@ -97,6 +104,7 @@ fn decide_next(
     requires functions { HaveFunctions a.now b.now columns.now pairs.now functions.now }
     requires distinct { AreDistinct columns.now }
     requires pairs { ArePairsOf a.now b.now pairs.now }
+    requires swept { AreSweptPairs functions.now swept.now }
     requires place { i < length pairs.now }
     requires conflicts { conflicts ≤ 200000 }
     ensures { OnOk result ((x : HaveFunctions a.now b.now columns.now pairs.now functions.now) → HaveFound a.now b.now x.left x.right columns.now cut conflicts (take i pairs.now) decided.old.results decided.old.first → HaveFound a.now b.now x.left x.right columns.now cut conflicts (take (i + 1) pairs.now) decided.new.results decided.new.first) }
@@ -117,6 +125,8 @@ fn decide_next(
         alloc,
         &functions.aig,
         &query,
+        swept,
+        i,
         &pair.name,
         size,
         cut,
@@ -136,22 +146,25 @@ fn decide_next(
     Ok(())
 }
 
-/// The result of the pair of this name and size by its query, and the bits of the query's variables under which the sides differ, if
-/// they do.
+/// The result of the pair of this name, size and place by its query, and the bits of the query's variables under which the sides
+/// differ, if they do.
 fn settle(
     alloc: Global,
     aig: &Aig,
     query: &Query,
+    swept: &SweptQueries,
+    i: usize,
     name: &PairName,
     size: u32,
     cut: bool,
     conflicts: u32,
 ) -> Result<(PairResult, Option<Bits>), NoMemory>
     requires query { IsQuery aig.now query.now }
+    requires swept { IsKnown aig.now swept.now i query.now }
     requires conflicts { conflicts ≤ 200000 }
     ensures { IfOk result (λ settled. IsSettled aig.now query.now conflicts name.now size cut settled.0 settled.1) }
 {
-    let decision = decide(alloc, aig, query, conflicts)?;
+    let decision = swept.decide(alloc, aig, query, i, conflicts)?;
     let name = copy_name(name)?;
     Ok(result_of(name, size, cut, decision))
 }

@@ -91,6 +91,18 @@ settle-requires-clause-query c =
     is_query
     (asks_pair a b pairs i p at c.args.columns.now f c.requires.functions c.index.result.now c.index-2.result.now c.in_ok-query.query c.index.ensures c.index-2.ensures c.keeps-3.ensures.graph c.keeps-4.ensures c.keeps-3.ensures.values c.in_ok-query.ensures)
 
+pub settle-requires-clause-swept : goal.settle-requires-clause-swept
+settle-requires-clause-swept c =
+    let pairs = c.args.pairs.now in
+    let f = c.args.functions.now in
+    let i = c.args.i in
+    let p : SignalPair = c.index-pairs-i.result in
+    let at : slice_get pairs i ≡ Some p = item_at pairs pairs i p refl c.requires.place c.index-pairs-i.is in
+    let left = left_within c.args.a.now c.args.b.now pairs i p at c.args.columns.now f c.requires.functions in
+    let right = right_within c.args.a.now c.args.b.now pairs i p at c.args.columns.now f c.requires.functions in
+    c.requires.swept i c.index.result.now c.index-2.result.now c.in_ok-query.query (item_at f.left.items f.left.items i c.index.result.now refl left c.index.ensures)
+    (item_at f.right.items f.right.items i c.index-2.result.now refl right c.index-2.ensures) c.in_ok-query.ensures
+
 pub put_first-requires-clause-left : goal.put_first-requires-clause-left
 put_first-requires-clause-left c =
     let a = c.args.a.now in
