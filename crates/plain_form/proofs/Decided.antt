@@ -32,7 +32,8 @@ use Rattle.swept_queries.proofs.Stand.{is_same, is_difference}
 use Rattle.witness_report.specs.declared.witness.PairName.{PairName}
 use Rattle.witness_report.specs.declared.witness.Witness.{Witness}
 use Rattle.sec_outcome.specs.declared.outcome.PairResult.{PairResult}
-use Rattle.plain_form.specs.Formed.{outputs_of, AreColumns}
+use Rattle.sec_setup.specs.Pairs.{outputs_of}
+use Rattle.sec_setup.specs.Setup.{AreColumns}
 use Rattle.plain_form.specs.Found.{IsResultOf}
 use Rattle.plain_form.specs.Limits.{ReadOnly, IsUndecided}
 use Rattle.plain_form.specs.Outcome.{differing, HaveDifferentFunctions, AnswerFits, PairFits}

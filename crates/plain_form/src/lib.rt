@@ -14,4 +14,3 @@ mod witness;
 
 pub use comparing::{Findings, compare_plain};
 pub use error::PlainError;
-pub use pairing::SignalPair;
