@@ -1,4 +1,8 @@
 pub mod Lists
 pub mod Values
 pub mod Marks
+pub mod MarkedRuns
 pub mod Runs
+pub mod SomeGates
+pub mod Turned
+pub mod Modes

@@ -1,3 +1,4 @@
 pub mod Runs
 pub mod View
 pub mod Steps
+pub mod Turning

@@ -1,8 +1,11 @@
 -- The values and the marks of one cycle, against every choice of values v that meets the equations.
-use Rattle.std.specs.Prelude.{◌≡◌, ℕ, ◌<◌, Bool, List, length, map, slice_get, Some}
+use Rattle.std.specs.Prelude.{◌≡◌, ℕ, ◌<◌, Bool, true, List, length, map, slice_get, Some}
 use Rattle.flat_net.specs.View.{NetView}
 use Rattle.flat_net.specs.declared.parts.Port.{Port}
 use Rattle.flat_net.specs.declared.parts.LatchAt.{LatchAt}
+use Rattle.latch_cone.specs.declared.parts.ConeParts.{ConeParts}
+use Rattle.latch_cone.specs.Cones.{AreOthers}
+use Rattle.latch_cone.specs.Parts.{AreConeGates}
 use Rattle.cycle_sim.specs.View.{HasMark}
 
 -- v has these bits at the inputs
@@ -27,19 +30,29 @@ AreInputsRight n v bits = (i : ℕ) (port : Port) → slice_get n.inputs i ≡ S
 abbrev pub AreLatchesRight : NetView → (ℕ → Bool) → List Bool → Type 0
 AreLatchesRight n v bits = (j : ℕ) (l : LatchAt) → slice_get n.latches j ≡ Some l → IsRight v bits l.out.0
 
+-- the bits are v's values of all signals
+abbrev pub HasValues : NetView → (ℕ → Bool) → List Bool → Type 0
+HasValues n v bits = (p : ℕ) → p < length n.drivers → IsRight v bits p
+
 -- what had its mark of cycle t has it still
-abbrev pub KeepsMarks : NetView → ℕ → List Bool → List Bool → Type 0
-KeepsMarks n t old new = (p : ℕ) → HasMark n t old p p → HasMark n t new p p
+abbrev pub KeepsMarks : NetView → List Bool → (ℕ → ℕ → Bool) → ℕ → List Bool → List Bool → Type 0
+KeepsMarks n enabled run t old new = (p : ℕ) → HasMark n enabled run t old p p → HasMark n enabled run t new p p
 
-abbrev pub AreInputsMarked : NetView → ℕ → List Bool → Type 0
-AreInputsMarked n t bits = (i : ℕ) (port : Port) → slice_get n.inputs i ≡ Some port → HasMark n t bits port.signal.0 port.signal.0
+abbrev pub AreInputsMarked : NetView → List Bool → (ℕ → ℕ → Bool) → ℕ → List Bool → Type 0
+AreInputsMarked n enabled run t bits = (i : ℕ) (port : Port) → slice_get n.inputs i ≡ Some port → HasMark n enabled run t bits port.signal.0 port.signal.0
 
-abbrev pub AreLatchesMarked : NetView → ℕ → List Bool → Type 0
-AreLatchesMarked n t bits = (j : ℕ) (l : LatchAt) → slice_get n.latches j ≡ Some l → HasMark n t bits l.out.0 l.out.0
+abbrev pub AreLatchesMarked : NetView → List Bool → (ℕ → ℕ → Bool) → ℕ → List Bool → Type 0
+AreLatchesMarked n enabled run t bits = (j : ℕ) (l : LatchAt) → slice_get n.latches j ≡ Some l → HasMark n enabled run t bits l.out.0 l.out.0
 
 -- each latch's own bit is its mark of cycle t
-abbrev pub AreMarksAhead : NetView → ℕ → List Bool → Type 0
-AreMarksAhead n t bits = (j : ℕ) (l : LatchAt) → slice_get n.latches j ≡ Some l → HasMark n t bits j l.out.0
+abbrev pub AreMarksAhead : NetView → List Bool → (ℕ → ℕ → Bool) → ℕ → List Bool → Type 0
+AreMarksAhead n enabled run t bits = (j : ℕ) (l : LatchAt) → slice_get n.latches j ≡ Some l → HasMark n enabled run t bits j l.out.0
 
-abbrev pub AreMarks : NetView → ℕ → List Bool → Type 0
-AreMarks n t bits = (p : ℕ) → p < length n.drivers → HasMark n t bits p p
+abbrev pub AreMarks : NetView → List Bool → (ℕ → ℕ → Bool) → ℕ → List Bool → Type 0
+AreMarks n enabled run t bits = (p : ℕ) → p < length n.drivers → HasMark n enabled run t bits p p
+
+-- for each latch whose bit is set, the parts of its cone
+pub record AreConesKept (n : NetView) (enabled : List Bool) (cones : List ConeParts) : Type 0 where
+  pub each : length cones ≡ length n.latches
+  pub others : (j : ℕ) (l : LatchAt) (cone : ConeParts) → slice_get n.latches j ≡ Some l → slice_get enabled j ≡ Some true → slice_get cones j ≡ Some cone → AreOthers n l cone.others
+  pub gates : (j : ℕ) (l : LatchAt) (cone : ConeParts) → slice_get n.latches j ≡ Some l → slice_get enabled j ≡ Some true → slice_get cones j ≡ Some cone → AreConeGates n l cone.gates

@@ -3,10 +3,13 @@
 
 mod cycles;
 mod laws;
+mod loading;
 mod marked;
 mod marking;
+mod next_marks;
 mod power;
 mod sim;
+mod turning;
 
 pub use laws::has_run;
 pub use marked::MarkedSim;

@@ -1,14 +1,21 @@
 //! A net's run with the marks of the signals that are settled.
 
-ghost use Rattle.std.specs.Prelude.{◌≡◌, ◌+◌, ◌-◌, ◌^◌, ◌<◌, false, ℕ, Bool, List, [], ◌∷◌, ◌++◌, length, replicate, slice_get, IfOk, IfSome};
+ghost use Rattle.std.specs.Prelude.{◌≡◌, ◌+◌, ◌^◌, ◌<◌, false, true, ℕ, Bool, List, [], ◌∷◌, ◌++◌, length, replicate, slice_get, Some, IfOk, IfSome};
+ghost use Rattle.flat_net.specs.declared.signals.Signal.{Signal};
+ghost use Rattle.flat_net.specs.declared.parts.LatchAt.{LatchAt};
+ghost use Rattle.latch_cone.specs.Cones.{AreOthers};
+ghost use Rattle.latch_cone.specs.Parts.{AreConeGates};
 ghost use Rattle.cycle_sim.specs.Runs.{power_bits, FitsLatches};
-ghost use Rattle.cycle_sim.specs.View.{HasRun, IsLatest, IsMark};
+ghost use Rattle.cycle_sim.specs.View.{HasMarkedRun, IsLatest, IsLatestMark};
+ghost use Rattle.cycle_sim.specs.Steps.{AreConesKept};
 
-use crate::marking::{mark, mark_ahead};
+use crate::marking::mark;
+use crate::next_marks::mark_ahead;
 use crate::power::Power;
 use crate::sim::Sim;
-use flat_net::Net;
-use sec_base::{Bits, NoMemory};
+use flat_net::{Net, Signals};
+use latch_cone::{ConeParts, cone_parts};
+use sec_base::{Bits, Ids, NoMemory};
 use std::alloc::Global;
 use std::marker::Model;
 
@@ -18,25 +25,33 @@ use std::marker::Model;
 pub struct MarkedSim<'a> {
     net: &'a Net,
     sim: Sim<'a>,
+    enabled: Bits,
+    /// For each latch that counts as enabled the parts of its cone.
+    cones: Vec<ConeParts>,
+    /// Room to try out values.
+    tried: Vec<bool>,
     marks: Vec<bool>,
     marks_ahead: Vec<bool>,
 }
 
 impl<'a> Model for MarkedSim<'a> {
     ghost use Rattle.std.specs.Prelude.{◌≡◌, length};
-    ghost use Rattle.cycle_sim.specs.View.{MarkedView, HasMarks};
+    ghost use Rattle.flat_net.specs.Sound.{IsSound};
+    ghost use Rattle.cycle_sim.specs.View.{MarkedView};
+    ghost use Rattle.cycle_sim.specs.Steps.{AreConesKept};
 
     ghost Value = { MarkedView };
 
-    ghost view = { λ m. record { sim = m.sim; marks = m.marks.items; marks_ahead = m.marks_ahead.items } };
+    ghost view = { λ m. record { sim = m.sim; enabled = m.enabled; marks = m.marks.items; marks_ahead = m.marks_ahead.items } };
 
-    ghost invariant = { λ m. (m.sim.net ≡ m.net.now) × (length m.marks.items ≡ length m.net.now.drivers) × (length m.marks_ahead.items ≡ length m.net.now.latches)
-        × HasMarks (record { sim = m.sim; marks = m.marks.items; marks_ahead = m.marks_ahead.items }) };
+    ghost invariant = { λ m. (m.sim.net ≡ m.net.now) × (length m.enabled ≡ length m.net.now.latches) × AreConesKept m.net.now m.enabled m.cones.items
+        × (length m.tried.items ≡ length m.net.now.drivers) × (length m.marks.items ≡ length m.net.now.drivers) × (length m.marks_ahead.items ≡ length m.net.now.latches) };
 }
 
 impl<'a> MarkedSim<'a> {
-    /// The net before its first cycle, with the latches at their power-up values and nothing settled. Latches with
-    /// load enables aren't marked as such yet, so no bit of `enabled` may be set.
+    /// The net before its first cycle, with the latches at their power-up values and nothing settled. The latches whose
+    /// bits are set count as enabled: such a latch is settled in the next cycle where all other latches of its cone are
+    /// settled and it loads or is settled already.
     pub fn new(
         alloc: Global,
         net: &'a Net,
@@ -44,18 +59,22 @@ impl<'a> MarkedSim<'a> {
         enabled: &Bits,
     ) -> Result<MarkedSim<'a>, NoMemory>
         requires power { FitsLatches (length net.now.latches) power.now }
-        requires plain { enabled.now ≡ replicate (length net.now.latches) false }
+        requires enabled { length enabled.now ≡ length net.now.latches }
         ensures net { IfOk result (λ marked. marked.sim.net ≡ net.now) }
+        ensures enabled { IfOk result (λ marked. marked.enabled ≡ enabled.now) }
         ensures cycles { IfOk result (λ marked. marked.sim.cycles ≡ 0) }
-        ensures run { IfOk result (λ marked. HasRun marked.sim (power_bits (length net.now.latches) power.now) []) }
+        ensures run { IfOk result (λ marked. HasMarkedRun marked (power_bits (length net.now.latches) power.now) []) }
     {
-        let _ = enabled;
         net.keeps();
+        let cones = cones_of(alloc, net, enabled.as_slice())?;
         Ok(MarkedSim {
             net,
+            cones,
+            enabled: enabled.copy()?,
             sim: Sim::new(alloc, net, power)?,
-            marks: unmarked(alloc, net.size() as usize)?,
-            marks_ahead: unmarked(alloc, net.latches().len())?,
+            tried: cleared(alloc, net.size() as usize)?,
+            marks: cleared(alloc, net.size() as usize)?,
+            marks_ahead: cleared(alloc, net.latches().len())?,
         })
     }
 
@@ -65,14 +84,23 @@ impl<'a> MarkedSim<'a> {
         requires width { length inputs.now ≡ length self.old.sim.net.inputs }
         requires room { self.old.sim.cycles + 1 < 2 ^ 32 }
         ensures net { self.new.sim.net ≡ self.old.sim.net }
+        ensures enabled { self.new.enabled ≡ self.old.enabled }
         ensures cycles { self.new.sim.cycles ≡ self.old.sim.cycles + 1 }
-        ensures run { (power : List Bool) (rows : List (List Bool)) → HasRun self.old.sim power rows → HasRun self.new.sim power (rows ++ inputs.now ∷ []) }
+        ensures run { (power : List Bool) (rows : List (List Bool)) → HasMarkedRun self.old power rows → HasMarkedRun self.new power (rows ++ inputs.now ∷ []) }
     {
         let net = self.net;
         net.keeps();
         self.sim.step(inputs);
         mark(net, &self.marks_ahead, &mut self.marks);
-        mark_ahead(net, &self.marks, &mut self.marks_ahead);
+        mark_ahead(
+            net,
+            self.enabled.as_slice(),
+            &self.cones,
+            self.sim.values(),
+            &self.marks,
+            &mut self.tried,
+            &mut self.marks_ahead,
+        );
     }
 
     /// How many cycles are computed.
@@ -95,7 +123,7 @@ impl<'a> MarkedSim<'a> {
     pub fn mark(&self, i: u32) -> bool
         requires place { i < length self.now.sim.net.outputs }
         requires begun { 0 < self.now.sim.cycles }
-        ensures { IfSome (slice_get self.now.sim.net.outputs i) (λ port. IsMark self.now.sim.net (self.now.sim.cycles - 1) port.signal.0 result) }
+        ensures { IfSome (slice_get self.now.sim.net.outputs i) (λ port. IsLatestMark self.now port.signal.0 result) }
     {
         let net = self.net;
         net.keeps();
@@ -103,9 +131,38 @@ impl<'a> MarkedSim<'a> {
     }
 }
 
-/// So many places without a mark.
-fn unmarked(alloc: Global, count: usize) -> Result<Vec<bool>, NoMemory>
-    ensures { IfOk result (λ marks. marks.items ≡ replicate count false) }
+/// For each latch whose bit is set the parts of its cone.
+fn cones_of(alloc: Global, net: &Net, enabled: &[bool]) -> Result<Vec<ConeParts>, NoMemory>
+    requires { length enabled.now ≡ length net.now.latches }
+    ensures { IfOk result (λ cones. AreConesKept net.now enabled.now cones.items) }
+{
+    net.keeps();
+    let mut cones = Vec::with_capacity(alloc, enabled.len())?;
+    for j in 0..enabled.len() {
+        cones.push(cone_where(alloc, net, enabled[j], j as u32)?)?;
+    }
+    Ok(cones)
+}
+
+/// The parts of the latch's cone, where that is asked.
+fn cone_where(alloc: Global, net: &Net, asked: bool, latch: u32) -> Result<ConeParts, NoMemory>
+    requires { latch < length net.now.latches }
+    ensures others { asked ≡ true → IfOk result (λ cone. (l : LatchAt) → slice_get net.now.latches latch ≡ Some l → AreOthers net.now l cone.others) }
+    ensures gates { asked ≡ true → IfOk result (λ cone. (l : LatchAt) → slice_get net.now.latches latch ≡ Some l → AreConeGates net.now l cone.gates) }
+{
+    if asked {
+        cone_parts(alloc, net, latch)
+    } else {
+        Ok(ConeParts {
+            others: Signals::new(alloc),
+            gates: Ids::new(alloc),
+        })
+    }
+}
+
+/// So many places, none of them set.
+fn cleared(alloc: Global, count: usize) -> Result<Vec<bool>, NoMemory>
+    ensures { IfOk result (λ places. places.items ≡ replicate count false) }
 {
     Ok(vec![in alloc; false; count]?)
 }

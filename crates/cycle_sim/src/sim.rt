@@ -69,6 +69,14 @@ impl<'a> Sim<'a> {
         self.cycles
     }
 
+    /// The value of each signal in the latest cycle.
+    pub(crate) fn values(&self) -> &[bool]
+        ensures is { result.now ≡ self.now.values }
+        ensures size { length result.now ≡ length self.now.net.drivers }
+    {
+        &self.values
+    }
+
     /// The value of output i in the latest cycle.
     pub fn output(&self, i: u32) -> bool
         requires place { i < length self.now.net.outputs }

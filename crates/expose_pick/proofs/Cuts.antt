@@ -4,18 +4,18 @@ use Rattle.std.specs.Prelude.{◌⊎◌, slice_get}
 use Rattle.std.specs.List.{All, Contains}
 use Rattle.std.proofs.lemmas.Option.{slice_get_within, slice_get-get_or, get_or_from_slice_get}
 use Rattle.std.proofs.lemmas.List.Elements.{All-contains}
-use Rattle.circuit_theory.specs.declared.Mode.TheVariants.{Plain}
+use Rattle.circuit_theory.specs.declared.Mode.{Mode}
 use Rattle.circuit_theory.specs.Circuit.{Circuit, Latch as latch_equation, IsLatch}
-use Rattle.circuit_theory.specs.Run.{NoneEnabled}
 use Rattle.circuit_theory.specs.Depth.{LatchReads, LatchPath, HasCycle, IsCycle, after_in_round, without}
-use Rattle.circuit_theory.specs.Agree.{IsMinimalCut}
+use Rattle.circuit_theory.specs.Agree.{EnabledIn, IsMinimalCut}
 use Rattle.circuit_theory.proofs.Lists.{map_same, map-map, Contains-map, Contains-map_from, map_at, length-map}
 use Rattle.flat_net.specs.declared.parts.LatchAt.{LatchAt}
 use Rattle.flat_net.specs.View.{NetView, circuit_of, equation_of_gate, equation_of_latch}
 use Rattle.flat_net.specs.Cut.{no_latch}
 use Rattle.flat_net.proofs.Places.{one_at, All-at}
 use Rattle.flat_net.proofs.Nets.{OfGate, OfLatch, equation_from, some_at, latch_stands}
-use Rattle.latch_graph.specs.Graph.{GraphView, IsGraphOf, signals_at}
+use Rattle.latch_graph.specs.Graph.{GraphView, IsGraphOf, IsGraphIn, SkippedBy, signals_at}
+use Rattle.latch_graph.proofs.Skipping.{has_cycle_less, skips_as_mode, mode_as_skips}
 use Rattle.latch_graph.proofs.Trails.{after_last, after_next}
 use Rattle.expose_pick.specs.declared.pairs.LatchPair.{LatchPair}
 use Rattle.expose_pick.specs.Chosen.{IsLeft, IsMinimalChoice, lefts, rights, at_places, names_at}
@@ -74,9 +74,28 @@ latch_in_graph n g of name u next h = go (equation_from n (latch_equation name u
 latch_in_net : (n : NetView) (g : GraphView) → IsGraphOf n g → (j : ℕ) → j < length g.latches → IsLatch (circuit_of n) (get_or g.latches j no_latch).name (get_or g.latches j no_latch).out.0 (get_or g.latches j no_latch).next.0
 latch_in_net n g of j l = latch_stands n j (get_or g.latches j no_latch) (subst (λ (z : List LatchAt). slice_get z j ≡ Some (get_or g.latches j no_latch)) of.latches (slice_get-get_or g.latches j no_latch l))
 
-module _ (m n : NetView) (a b : GraphView) (common : List LatchPair) (of_m : IsGraphOf m a) (of_n : IsGraphOf n b) where
+module _ (mode : Mode) (m n : NetView) (a b : GraphView) (common : List LatchPair) (in_m : IsGraphIn mode m a) (in_n : IsGraphIn mode n b) where
+  of_m : IsGraphOf m a
+  of_m = in_m.graph
+
+  of_n : IsGraphOf n b
+  of_n = in_n.graph
+
+  -- cycles of the graphs are cycles of the mode, and the other way round
+  to_left : (names : List (List ℕ)) → HasCycle (circuit_of m) (SkippedBy a) names → HasCycle (circuit_of m) (EnabledIn mode (circuit_of m)) names
+  to_left names h = has_cycle_less (circuit_of m) (SkippedBy a) (EnabledIn mode (circuit_of m)) (skips_as_mode mode m a in_m) names h
+
+  to_right : (names : List (List ℕ)) → HasCycle (circuit_of n) (SkippedBy b) names → HasCycle (circuit_of n) (EnabledIn mode (circuit_of n)) names
+  to_right names h = has_cycle_less (circuit_of n) (SkippedBy b) (EnabledIn mode (circuit_of n)) (skips_as_mode mode n b in_n) names h
+
+  from_left : (names : List (List ℕ)) → HasCycle (circuit_of m) (EnabledIn mode (circuit_of m)) names → HasCycle (circuit_of m) (SkippedBy a) names
+  from_left names h = has_cycle_less (circuit_of m) (EnabledIn mode (circuit_of m)) (SkippedBy a) (mode_as_skips mode m a in_m) names h
+
+  from_right : (names : List (List ℕ)) → HasCycle (circuit_of n) (EnabledIn mode (circuit_of n)) names → HasCycle (circuit_of n) (SkippedBy b) names
+  from_right names h = has_cycle_less (circuit_of n) (EnabledIn mode (circuit_of n)) (SkippedBy b) (mode_as_skips mode n b in_n) names h
+
   -- all names of latches of both circuits are those of pairs
-  module _ (all : AreAllPairs a b common) (names : List (List ℕ)) (cut : IsMinimalCut Plain (circuit_of m) (circuit_of n) names) where
+  module _ (all : AreAllPairs a b common) (names : List (List ℕ)) (cut : IsMinimalCut mode (circuit_of m) (circuit_of n) names) where
     pair_of : (name : List ℕ) → Contains names name → (p : LatchPair) × Contains common p × ((get_or a.latches p.left no_latch).name ≡ name) × ((get_or b.latches p.right no_latch).name ≡ name)
     pair_of name h =
         let x = cut.common name h in
@@ -98,11 +117,11 @@ module _ (m n : NetView) (a b : GraphView) (common : List LatchPair) (of_m : IsG
 
     pub left_refused : (ids : List ℕ) → IsLeft a (lefts common) ids → ⊥
     left_refused ids left =
-        cut.left_free (cycle_fewer (circuit_of m) NoneEnabled (names_at a.latches (lefts common)) names left_named (round_cycle (circuit_of m) NoneEnabled (names_at a.latches (lefts common)) (signals_at a.latches ids) (left.round m of_m)))
+        cut.left_free (to_left names (cycle_fewer (circuit_of m) (SkippedBy a) (names_at a.latches (lefts common)) names left_named (round_cycle (circuit_of m) (SkippedBy a) (names_at a.latches (lefts common)) (signals_at a.latches ids) (left.round m of_m))))
 
     pub right_refused : (ids : List ℕ) → IsLeft b (rights common) ids → ⊥
     right_refused ids left =
-        cut.right_free (cycle_fewer (circuit_of n) NoneEnabled (names_at b.latches (rights common)) names right_named (round_cycle (circuit_of n) NoneEnabled (names_at b.latches (rights common)) (signals_at b.latches ids) (left.round n of_n)))
+        cut.right_free (to_right names (cycle_fewer (circuit_of n) (SkippedBy b) (names_at b.latches (rights common)) names right_named (round_cycle (circuit_of n) (SkippedBy b) (names_at b.latches (rights common)) (signals_at b.latches ids) (left.round n of_n))))
 
   -- each pair is of latches of one name
   module _ (one_name : All (HaveOneName a b) common) (places : List ℕ) (choice : IsMinimalChoice a b (lefts common) (rights common) places) where
@@ -168,10 +187,15 @@ module _ (m n : NetView) (a b : GraphView) (common : List LatchPair) (of_m : IsG
           subst (λ z. IsLatch (circuit_of n) z (get_or b.latches p.pair.right no_latch).out.0 (get_or b.latches p.pair.right no_latch).next.0) right (latch_in_net n b of_n p.pair.right p.named.right),
         )
 
-    pub minimal_cut : IsMinimalCut Plain (circuit_of m) (circuit_of n) names
+    pub minimal_cut : IsMinimalCut mode (circuit_of m) (circuit_of n) names
     minimal_cut = record {
       common = in_both;
-      left_free = choice.left_free m of_m;
-      right_free = subst (λ (z : List (List ℕ)). HasCycle (circuit_of n) NoneEnabled z → ⊥) same_names (choice.right_free n of_n);
-      needed = λ i l. subst (λ (z : List (List ℕ)). HasCycle (circuit_of m) NoneEnabled (without names i) ⊎ HasCycle (circuit_of n) NoneEnabled (without z i)) same_names (choice.needed m n of_m of_n i (omega (arith, l, many)));
+      left_free = λ cycle. choice.left_free m of_m (from_left names cycle);
+      right_free = λ cycle. subst (λ (z : List (List ℕ)). HasCycle (circuit_of n) (SkippedBy b) z → ⊥) same_names (choice.right_free n of_n) (from_right names cycle);
+      needed = λ i l. needed i (subst (λ (z : List (List ℕ)). HasCycle (circuit_of m) (SkippedBy a) (without names i) ⊎ HasCycle (circuit_of n) (SkippedBy b) (without z i)) same_names (choice.needed m n of_m of_n i (omega (arith, l, many))));
     }
+      where
+        needed : (i : ℕ) → HasCycle (circuit_of m) (SkippedBy a) (without names i) ⊎ HasCycle (circuit_of n) (SkippedBy b) (without names i) →
+            HasCycle (circuit_of m) (EnabledIn mode (circuit_of m)) (without names i) ⊎ HasCycle (circuit_of n) (EnabledIn mode (circuit_of n)) (without names i)
+        needed i (inl h) = inl (to_left (without names i) h)
+        needed i (inr h) = inr (to_right (without names i) h)

@@ -5,7 +5,6 @@ use Rattle.std.specs.List.{All, Contains}
 use Rattle.std.proofs.Math.ListN.{set}
 use Rattle.std.proofs.lemmas.Option.{slice_get_within, slice_get-get_or, get_or_from_slice_get}
 use Rattle.std.proofs.lemmas.Bool.{cases_order}
-use Rattle.circuit_theory.specs.Run.{NoneEnabled}
 use Rattle.circuit_theory.specs.Depth.{HasCycle, without}
 use Rattle.circuit_theory.proofs.Lists.{Contains-cases, Contains-map, at_of, map_at, length-map}
 use Rattle.sec_base.specs.Table.{AreDistinct}
@@ -16,7 +15,7 @@ use Rattle.flat_net.proofs.Places.{one_at, All-at}
 use Rattle.flat_net.proofs.Growth.{slice_get-push_cases}
 use Rattle.flat_net.proofs.CutNets.{few_distinct}
 use Rattle.latch_graph.specs.declared.nodes.Node.{Node}
-use Rattle.latch_graph.specs.Graph.{GraphView, IsGraphOf, AreNodes}
+use Rattle.latch_graph.specs.Graph.{GraphView, IsGraphOf, SkippedBy, AreNodes}
 use Rattle.latch_graph.proofs.Weights.{AllPairs-from_at}
 use Rattle.expose_pick.specs.declared.marks.Mark.{Mark}
 use Rattle.expose_pick.specs.declared.marks.Mark.TheVariants.{Out}
@@ -221,7 +220,7 @@ module _ (g : GraphView) (are : AreNodes g.nodes g.latches) (positions : List �
 
   -- a latch that is needed closes a cycle
   pub cycle_at_end : ((i j p q : ℕ) → i < j → slice_get places i ≡ Some p → slice_get places j ≡ Some q → p < q) → (n : NetView) → IsGraphOf n g → (i p j : ℕ) → slice_get places i ≡ Some p → slice_get positions p ≡ Some j →
-      WayBack g.nodes (IsBlockedBut marks (signal_of g.latches j)) (signal_of g.latches j) (signal_of g.latches j) → HasCycle (circuit_of n) NoneEnabled (without (names_at g.latches (at_places positions places)) i)
+      WayBack g.nodes (IsBlockedBut marks (signal_of g.latches j)) (signal_of g.latches j) (signal_of g.latches j) → HasCycle (circuit_of n) (SkippedBy g) (without (names_at g.latches (at_places positions places)) i)
   cycle_at_end increasing n of i p j h o way =
       let inside = All-at (λ z. z < length g.latches) positions p j o within in
       ring_cycle n g of (IsBlockedBut marks (signal_of g.latches j)) (without (names_at g.latches (at_places positions places)) i) own j (get_or g.latches j no_latch) (latch_of g.latches j inside) (λ x. x.1 refl) way
@@ -276,7 +275,7 @@ is_minimal a b are_a are_b lefts rights within_a within_b distinct_a distinct_b 
     below_right i p h = let l = t.below i p h in omega (arith, l, many)
 
     needed : (m n : NetView) → IsGraphOf m a → IsGraphOf n b → (i p : ℕ) → slice_get places i ≡ Some p →
-        HasCycle (circuit_of m) NoneEnabled (without (names_at a.latches (at_places lefts places)) i) ⊎ HasCycle (circuit_of n) NoneEnabled (without (names_at b.latches (at_places rights places)) i)
+        HasCycle (circuit_of m) (SkippedBy a) (without (names_at a.latches (at_places lefts places)) i) ⊎ HasCycle (circuit_of n) (SkippedBy b) (without (names_at b.latches (at_places rights places)) i)
     needed m n of_a of_b i p h = go (t.needed i p (get_or lefts p 0) (get_or rights p 0) h at_left at_right)
       where
         at_left : slice_get lefts p ≡ Some (get_or lefts p 0)
@@ -286,6 +285,6 @@ is_minimal a b are_a are_b lefts rights within_a within_b distinct_a distinct_b 
         at_right = slice_get-get_or rights p 0 (below_right i p h)
 
         go : IsNeeded a b left right (get_or lefts p 0) (get_or rights p 0) →
-            HasCycle (circuit_of m) NoneEnabled (without (names_at a.latches (at_places lefts places)) i) ⊎ HasCycle (circuit_of n) NoneEnabled (without (names_at b.latches (at_places rights places)) i)
+            HasCycle (circuit_of m) (SkippedBy a) (without (names_at a.latches (at_places lefts places)) i) ⊎ HasCycle (circuit_of n) (SkippedBy b) (without (names_at b.latches (at_places rights places)) i)
         go (inl way) = inl (cycle_at_end a are_a lefts within_a distinct_a places left t.on_left t.below t.increasing m of_a i p (get_or lefts p 0) h at_left way)
         go (inr way) = inr (cycle_at_end b are_b rights within_b distinct_b places right on_right below_right t.increasing n of_b i p (get_or rights p 0) h at_right way)

@@ -5,14 +5,15 @@ use Rattle.std.proofs.lemmas.List.{get_or-map, length-map}
 use Rattle.std.proofs.lemmas.List.Elements.{All-head, All-tail, All-cons, All-nil, All-get_or}
 use Rattle.std.proofs.lemmas.Option.{slice_get-get_or}
 use Rattle.circuit_theory.specs.Agree.{IsMinimalCut}
-use Rattle.circuit_theory.specs.declared.Mode.TheVariants.{Plain}
+use Rattle.circuit_theory.specs.declared.Mode.{Mode}
 use Rattle.flat_net.specs.declared.parts.LatchAt.{LatchAt}
 use Rattle.flat_net.specs.declared.parts.Driver.TheVariants as driver
 use Rattle.flat_net.specs.View.{NetView, circuit_of}
 use Rattle.flat_net.specs.Sound.{IsSound}
 use Rattle.flat_net.specs.Cut.{no_latch, latch_at, exposed_names}
 use Rattle.flat_net.proofs.Places.{one_at}
-use Rattle.latch_graph.specs.Graph.{GraphView, IsGraphOf}
+use Rattle.latch_graph.specs.Graph.{GraphView, IsGraphOf, IsGraphIn}
+use Rattle.latch_graph.proofs.Skipping.{cycle_in_graph}
 use Rattle.expose_pick.specs.declared.pairs.LatchPair.{LatchPair}
 use Rattle.expose_pick.specs.Chosen.{IsFree, IsMinimalChoice, lefts, rights, at_places, names_at}
 use Rattle.expose_pick.specs.Laws.{ChosenIsMinimalCut}
@@ -71,6 +72,11 @@ in_order_mapped f places each i j d less inside =
     let order = each i j 0 less below in
     omega (arith, get_or-map f places i 0 d above, get_or-map f places j 0 d below, order)
 
+-- where no cycle of the graph is left, none of the circuit is in the mode
+free_in : (mode : Mode) (n : NetView) (g : GraphView) → IsGraphIn mode n g → (positions : List ℕ) → IsFree g positions → IsFreeWithout mode n (names_at g.latches positions)
+free_in mode n g is positions free cycle =
+    free n is.graph (cycle_in_graph mode n g is (names_at g.latches positions) cycle)
+
 module _ (a b : NetView) (ga gb : GraphView) (of_a : IsGraphOf a ga) (of_b : IsGraphOf b gb) (common : List LatchPair) (are : AreCommon a b common) where
   pub left_once : AllPairs (λ (p q : LatchPair). p.left ≢ q.left) common
   left_once i j d less inside e = let order = are.in_order i j d less inside in omega (arith, order, e)
@@ -114,13 +120,13 @@ module _ (a b : NetView) (ga gb : GraphView) (of_a : IsGraphOf a ga) (of_b : IsG
   pub right_common : names_at gb.latches (rights common) ≡ common_names (circuit_of a) (circuit_of b)
   right_common = ap (λ (ls : List LatchAt). names_at ls (rights common)) of_b.latches ∙ right_named common are.each ∙ are.names
 
-  pub left_free : IsFree ga (lefts common) → IsFreeWithout a (common_names (circuit_of a) (circuit_of b))
-  left_free free = subst (IsFreeWithout a) left_common (free a of_a)
+  pub left_free : (mode : Mode) → IsGraphIn mode a ga → IsFree ga (lefts common) → IsFreeWithout mode a (common_names (circuit_of a) (circuit_of b))
+  left_free mode is free = subst (IsFreeWithout mode a) left_common (free_in mode a ga is (lefts common) free)
 
-  pub right_free : IsFree gb (rights common) → IsFreeWithout b (common_names (circuit_of a) (circuit_of b))
-  right_free free = subst (IsFreeWithout b) right_common (free b of_b)
+  pub right_free : (mode : Mode) → IsGraphIn mode b gb → IsFree gb (rights common) → IsFreeWithout mode b (common_names (circuit_of a) (circuit_of b))
+  right_free mode is free = subst (IsFreeWithout mode b) right_common (free_in mode b gb is (rights common) free)
 
-  module _ (places : List ℕ) (choice : IsMinimalChoice ga gb (lefts common) (rights common) places) where
+  module _ (mode : Mode) (in_a : IsGraphIn mode a ga) (in_b : IsGraphIn mode b gb) (places : List ℕ) (choice : IsMinimalChoice ga gb (lefts common) (rights common) places) where
     pub places_within : All (λ (k : ℕ). k < length common) places
     places_within = subst (λ (n : ℕ). All (λ (k : ℕ). k < n) places) (length-map common (λ (p : LatchPair). p.left)) choice.within
 
@@ -137,11 +143,11 @@ module _ (a b : NetView) (ga gb : GraphView) (of_a : IsGraphOf a ga) (of_b : IsG
 
     -- such a choice, with its names
     made : ChosenIsMinimalCut → IsFree ga (lefts common) → IsFree gb (rights common) →
-        AreExposed a b (record { names = exposed_names a (at_places (lefts common) places); left = at_places (lefts common) places; right = at_places (rights common) places })
+        AreExposed mode a b (record { names = exposed_names a (at_places (lefts common) places); left = at_places (lefts common) places; right = at_places (rights common) places })
     made law free_a free_b = record {
       minimal =
-          subst (λ (ls : List LatchAt). IsMinimalCut Plain (circuit_of a) (circuit_of b) (names_at ls (at_places (lefts common) places))) of_a.latches
-          (law a b ga gb common places of_a of_b graph_named choice);
+          subst (λ (ls : List LatchAt). IsMinimalCut mode (circuit_of a) (circuit_of b) (names_at ls (at_places (lefts common) places))) of_a.latches
+          (law mode a b ga gb common places in_a in_b graph_named choice);
       in_order =
           in_order_mapped (λ (k : ℕ). get_or (lefts common) k 0) places (pairs_at (λ p. p.left) common (λ (j k : ℕ). j < k) are.in_order places choice.increasing places_within);
       left_within = all_mapped (λ (k : ℕ). k < length common) (λ (j : ℕ). j < length a.latches) (λ (k : ℕ). get_or (lefts common) k 0) places
@@ -154,15 +160,15 @@ module _ (a b : NetView) (ga gb : GraphView) (of_a : IsGraphOf a ga) (of_b : IsG
           distinct_by (λ (k : ℕ). get_or (rights common) k 0) places (pairs_at (λ p. p.right) common (λ (j k : ℕ). j ≢ k) right_once places choice.increasing places_within);
       left_names = refl;
       right_names = right_at places places_within;
-      paired = (left_free free_a, right_free free_b);
+      paired = (left_free mode in_a free_a, right_free mode in_b free_b);
     }
 
     pub exposed : ChosenIsMinimalCut → IsFree ga (lefts common) → IsFree gb (rights common) → (e : Exposure) → e.left ≡ at_places (lefts common) places → e.right ≡ at_places (rights common) places →
-        e.names ≡ exposed_names a (at_places (lefts common) places) → AreExposed a b e
+        e.names ≡ exposed_names a (at_places (lefts common) places) → AreExposed mode a b e
     exposed law free_a free_b e left right names =
-        subst (λ (ns : List (List ℕ)). AreExposed a b (record { names = ns; left = e.left; right = e.right })) (sym names)
-        (subst (λ (l : List ℕ). AreExposed a b (record { names = exposed_names a (at_places (lefts common) places); left = l; right = e.right })) (sym left)
-        (subst (λ (r : List ℕ). AreExposed a b (record { names = exposed_names a (at_places (lefts common) places); left = at_places (lefts common) places; right = r })) (sym right)
+        subst (λ (ns : List (List ℕ)). AreExposed mode a b (record { names = ns; left = e.left; right = e.right })) (sym names)
+        (subst (λ (l : List ℕ). AreExposed mode a b (record { names = exposed_names a (at_places (lefts common) places); left = l; right = e.right })) (sym left)
+        (subst (λ (r : List ℕ). AreExposed mode a b (record { names = exposed_names a (at_places (lefts common) places); left = at_places (lefts common) places; right = r })) (sym right)
         (made law free_a free_b)))
 
 -- the positions at the places are those of latches

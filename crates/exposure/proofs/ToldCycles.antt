@@ -5,12 +5,14 @@ use Rattle.std.proofs.lemmas.List.Elements.{All-head, All-tail}
 use Rattle.std.proofs.lemmas.Option.{slice_get-get_or}
 use Rattle.circuit_theory.specs.Circuit.{IsLatch}
 use Rattle.circuit_theory.specs.Depth.{IsCycle, BeginsWithLeast}
-use Rattle.circuit_theory.specs.Run.{NoneEnabled}
+use Rattle.circuit_theory.specs.declared.Mode.{Mode}
+use Rattle.circuit_theory.specs.Agree.{EnabledIn}
 use Rattle.flat_net.specs.declared.parts.LatchAt.{LatchAt}
 use Rattle.flat_net.specs.View.{NetView, circuit_of}
 use Rattle.flat_net.specs.Cut.{no_latch, latch_at, exposed_names}
 use Rattle.flat_net.proofs.Nets.{latch_stands}
-use Rattle.latch_graph.specs.Graph.{GraphView, IsGraphOf, signals_at}
+use Rattle.latch_graph.specs.Graph.{GraphView, IsGraphIn, signals_at}
+use Rattle.latch_graph.proofs.Skipping.{mode_cycle}
 use Rattle.expose_pick.specs.Chosen.{IsLeft, names_at}
 use Rattle.exposure.specs.Exposed.{IsToldCycle}
 
@@ -23,17 +25,18 @@ names_beside n (j ∷ js) within = (
   names_beside n js (All-tail (λ i. i < length n.latches) j js within),
 )
 
-module _ (n : NetView) (g : GraphView) (graph : IsGraphOf n g) (positions ids : List ℕ) (left : IsLeft g positions ids) where
+module _ (mode : Mode) (n : NetView) (g : GraphView) (is : IsGraphIn mode n g) (positions ids : List ℕ) (left : IsLeft g positions ids) where
   pub ids_within : All (λ j. j < length n.latches) ids
-  ids_within = subst (λ (ls : List LatchAt). All (λ j. j < length ls) ids) graph.latches left.within
+  ids_within = subst (λ (ls : List LatchAt). All (λ j. j < length ls) ids) is.graph.latches left.within
 
   -- the cycle that is told, where the latches that are left out have these names
-  pub told_cycle : (without names : List (List ℕ)) → names_at g.latches positions ≡ without → names ≡ exposed_names n ids → IsToldCycle n without names
-  told_cycle without names out told = subst (IsToldCycle n without) (sym told) (record {
+  pub told_cycle : (without names : List (List ℕ)) → names_at g.latches positions ≡ without → names ≡ exposed_names n ids → IsToldCycle mode n without names
+  told_cycle without names out told = subst (IsToldCycle mode n without) (sym told) (record {
     latches = signals_at n.latches ids;
     cycle =
-        subst (λ (ls : List LatchAt). IsCycle (circuit_of n) NoneEnabled without (signals_at ls ids)) graph.latches
-        (subst (λ (names : List (List ℕ)). IsCycle (circuit_of n) NoneEnabled names (signals_at g.latches ids)) out (left.round n graph));
-    least = subst (λ (ls : List LatchAt). BeginsWithLeast (circuit_of n) (signals_at ls ids)) graph.latches (left.least n graph);
+        subst (λ (ls : List LatchAt). IsCycle (circuit_of n) (EnabledIn mode (circuit_of n)) without (signals_at ls ids)) is.graph.latches
+        (subst (λ (names : List (List ℕ)). IsCycle (circuit_of n) (EnabledIn mode (circuit_of n)) names (signals_at g.latches ids)) out
+        (mode_cycle mode n g is (names_at g.latches positions) (signals_at g.latches ids) (left.round n is.graph)));
+    least = subst (λ (ls : List LatchAt). BeginsWithLeast (circuit_of n) (signals_at ls ids)) is.graph.latches (left.least n is.graph);
     named = names_beside n ids ids_within;
   })

@@ -2,7 +2,8 @@
 
 ghost use Rattle.std.specs.Prelude.{◌≡◌, ◌<◌, length, All, IfOk};
 ghost use Rattle.flat_net.specs.Cut.{exposed_names};
-ghost use Rattle.latch_graph.specs.Graph.{IsGraphOf};
+ghost use Rattle.circuit_theory.specs.declared.Mode.{Mode};
+ghost use Rattle.latch_graph.specs.Graph.{IsGraphOf, IsGraphIn};
 ghost use Rattle.expose_pick.specs.Chosen.{at_places, lefts, rights};
 ghost use Rattle.exposure.specs.Exposed.{Exposes};
 
@@ -43,7 +44,8 @@ impl From<NoMemory> for ExposeError {
 }
 
 /// The latches that are exposed: a minimal cut among the latches that both circuits have under one name. `Unpaired` comes
-/// exactly where a cycle is left without all of those, A's before B's.
+/// exactly where a cycle is left without all of those, A's before B's. The cycles are those of each mode whose enabled latches'
+/// self-edges are exactly those that both graphs leave out.
 pub fn expose(
     alloc: Global,
     a: &Net,
@@ -53,7 +55,7 @@ pub fn expose(
 ) -> Result<Exposure, ExposeError>
     requires left_graph { IsGraphOf a.now left.now }
     requires right_graph { IsGraphOf b.now right.now }
-    ensures { Exposes a.now b.now result }
+    ensures { (mode : Mode) → IsGraphIn mode a.now left.now → IsGraphIn mode b.now right.now → Exposes mode a.now b.now result }
 {
     chosen_is_minimal_cut();
     let common = common_pairs(alloc, a, b)?;

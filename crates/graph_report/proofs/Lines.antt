@@ -1,21 +1,23 @@
 -- The lines of signals with their depths, one after the other.
 use Rattle.std.proofs.Common.{◌≡◌, ◌∙◌, ◌+◌, ◌<◌, ℕ, List, [], ◌∷◌, ◌++◌, map, length, take, get_or, slice_get, Option, Some, None, Result, Ok, Err, OnOk, sym, ap, arith, append_assoc}
 use Rattle.std.specs.Prelude.{IfSome, IfNone}
+use Rattle.std.specs.List.{flat_map}
 use Rattle.std.proofs.lemmas.Grind.{flat_map-append}
 use Rattle.std.proofs.lemmas.List.{append-nil, map-append}
 use Rattle.std.proofs.lemmas.List.Elements.{All-append, All-cons, All-nil}
 use Rattle.std.proofs.lemmas.Option.{slice_get_within, slice_get-get_or}
 use Rattle.sec_base.proofs.TableLemmas.{take-push}
-use Rattle.circuit_theory.specs.Circuit.{Circuit, Named}
-use Rattle.circuit_theory.specs.Run.{NoneEnabled}
+use Rattle.circuit_theory.specs.Circuit.{Named}
 use Rattle.circuit_theory.specs.Depth.{IsDepth, HasNoDepth}
 use Rattle.flat_net.specs.declared.parts.Port.{Port}
 use Rattle.flat_net.specs.declared.parts.LatchAt.{LatchAt}
 use Rattle.flat_net.specs.View.{NetView, circuit_of}
 use Rattle.flat_net.proofs.Places.{All-at}
-use Rattle.latch_graph.specs.Graph.{GraphView, IsGraphOf}
-use Rattle.graph_report.specs.Report.{Measured, IsMeasured, lines_text}
-use Rattle.graph_report.specs.Puts.{PutsLines}
+use Rattle.circuit_theory.specs.declared.Mode.{Mode}
+use Rattle.latch_graph.specs.Graph.{GraphView, IsGraphOf, IsGraphIn, SkippedBy}
+use Rattle.latch_graph.proofs.Skipping.{mode_depth, mode_no_depth}
+use Rattle.graph_report.specs.Report.{IsMeasured, IsGraphReport, counts_text, latch_line, output_line, cycle_line}
+use Rattle.graph_report.specs.Puts.{PutsLines, PutsLatches, PutsOutputs, PutsCycle}
 
 -- the element that a loop is at
 pub item_at : {X : Type 0} (xs ys : List X) (i : ℕ) (x : X) → ys ≡ xs → i < length ys → x ≡ get_or ys i x → slice_get xs i ≡ Some x
@@ -34,33 +36,43 @@ on_ok (Ok u) f h = f h
 on_ok (Err e) f h = tt
 
 -- one line more
-pub lines_more : (c : Circuit ℕ) (signals : List (Named ℕ)) (line : List ℕ → Option ℕ → List ℕ) (old mid new : List ℕ) (signal : Named ℕ) (depth : Option ℕ) → PutsLines c signals line old mid →
-    IsMeasured c (record { signal = signal; depth = depth }) → new ≡ mid ++ line signal.name depth → PutsLines c (signals ++ signal ∷ []) line old new
-lines_more c signals line old mid new signal depth have right put = record {
-  measured = have.measured ++ last ∷ [];
-  are = record {
-    signals_are = map-append (λ (m : Measured). m.signal) have.measured (last ∷ []) ∙ ap (λ (s : List (Named ℕ)). s ++ signal ∷ []) have.are.signals_are;
-    right = All-append (IsMeasured c) have.measured (last ∷ []) have.are.right (All-cons (IsMeasured c) last [] right (All-nil (IsMeasured c)));
+pub lines_more : {X : Type 0} (signal_of : X → Named ℕ) (Right : X → Type 0) (line : X → List ℕ) (signals : List (Named ℕ)) (old mid new : List ℕ) (x : X) → PutsLines signal_of Right line signals old mid →
+    Right x → new ≡ mid ++ line x → PutsLines signal_of Right line (signals ++ signal_of x ∷ []) old new
+lines_more {X} signal_of Right line signals old mid new x have right put = record {
+  items = have.items ++ x ∷ [];
+  tell = record {
+    signals_are = map-append signal_of have.items (x ∷ []) ∙ ap (λ (s : List (Named ℕ)). s ++ signal_of x ∷ []) have.tell.signals_are;
+    right = All-append Right have.items (x ∷ []) have.tell.right (All-cons Right x [] right (All-nil Right));
   };
-  text_is = put ∙ (ap (λ (t : List ℕ). t ++ line signal.name depth) have.text_is
-      ∙ (append_assoc old (lines_text line have.measured) (line signal.name depth)
-      ∙ ap (λ (t : List ℕ). old ++ t) (ap (λ (t : List ℕ). lines_text line have.measured ++ t) (sym (append-nil (line signal.name depth)))
-      ∙ sym (flat_map-append (λ (m : Measured). line m.signal.name m.depth) have.measured (last ∷ [])))));
+  text_is = put ∙ (ap (λ (t : List ℕ). t ++ line x) have.text_is
+      ∙ (append_assoc old (flat_map line have.items) (line x)
+      ∙ ap (λ (t : List ℕ). old ++ t) (ap (λ (t : List ℕ). flat_map line have.items ++ t) (sym (append-nil (line x)))
+      ∙ sym (flat_map-append line have.items (x ∷ [])))));
 }
-  where
-    last : Measured
-    last = record { signal = signal; depth = depth }
 
 module _ (n : NetView) (g : GraphView) (of : IsGraphOf n g) where
-  -- what the graph says of a signal is right of the net
-  pub measured : (signal : Named ℕ) (depth : Option ℕ) → IfSome depth (λ d. (m : NetView) → IsGraphOf m g → IsDepth (circuit_of m) NoneEnabled signal.place d) →
-      IfNone depth ((m : NetView) → IsGraphOf m g → HasNoDepth (circuit_of m) NoneEnabled signal.place) → IsMeasured (circuit_of n) (record { signal = signal; depth = depth })
-  measured signal None some none = none n of
-  measured signal (Some d) some none = some n of
-
   -- the signals of latches and outputs are in the graph
   pub latch_within : (j : ℕ) (l : LatchAt) → slice_get n.latches j ≡ Some l → l.out.0 < length g.nodes
   latch_within j l at = let w = slice_get_within n.drivers l.out.0 _ (of.sound.latches j l at).owner in omega (arith, w, of.size)
 
   pub output_within : (i : ℕ) (port : Port) → slice_get n.outputs i ≡ Some port → port.signal.0 < length g.nodes
   output_within i port at = let w = All-at (λ (p : Port). p.signal.0 < length n.drivers) n.outputs i port at of.sound.outputs in omega (arith, w, of.size)
+
+module _ (mode : Mode) (n : NetView) (g : GraphView) (of : IsGraphIn mode n g) where
+  -- what the graph says of a signal is right of the net
+  pub measured : (signal : Named ℕ) (depth : Option ℕ) → IfSome depth (λ d. (m : NetView) → IsGraphOf m g → IsDepth (circuit_of m) (SkippedBy g) signal.place d) →
+      IfNone depth ((m : NetView) → IsGraphOf m g → HasNoDepth (circuit_of m) (SkippedBy g) signal.place) → IsMeasured mode (circuit_of n) (record { signal = signal; depth = depth })
+  measured signal None some none = mode_no_depth mode n g of signal.place (none n of.graph)
+  measured signal (Some d) some none = mode_depth mode n g of signal.place d (some n of.graph)
+
+-- the whole report, from its parts
+pub report_of : (mode : Mode) (n : NetView) (first second third last : List ℕ) → first ≡ counts_text n → PutsLatches mode n n.latches first second → PutsOutputs mode n n.outputs second third → PutsCycle mode n third last → IsGraphReport mode n last
+report_of mode n first second third last counts latches outputs cycle = record {
+  latches = latches.items;
+  outputs = outputs.items;
+  cycle = cycle.cycle;
+  latches_are = latches.tell;
+  outputs_are = outputs.tell;
+  cycle_is = cycle.found;
+  text_is = cycle.text_is ∙ ap (λ (t : List ℕ). t ++ cycle_line cycle.cycle) (outputs.text_is ∙ ap (λ (t : List ℕ). t ++ flat_map output_line outputs.items) (latches.text_is ∙ ap (λ (t : List ℕ). t ++ flat_map latch_line latches.items) counts));
+}

@@ -1,38 +1,45 @@
 //! The report of a circuit's latch graph.
 
-ghost use Rattle.std.specs.Prelude.{◌≡◌, false, length, map, replicate, IfOk, OnOk};
-ghost use Rattle.flat_net.specs.View.{circuit_of, named};
-ghost use Rattle.latch_graph.specs.Graph.{IsGraphOf};
-ghost use Rattle.graph_report.specs.Report.{IsGraphReport, latch_signal, latch_line, output_line};
-ghost use Rattle.graph_report.specs.Puts.{PutsLines, PutsCycle};
+ghost use Rattle.std.specs.Prelude.{◌≡◌, ◌<◌, false, length, map, replicate, slice_get, Some, option_map, All, IfOk, IfSome, OnOk};
+ghost use Rattle.circuit_theory.specs.declared.Mode.{Mode};
+ghost use Rattle.flat_net.specs.Cut.{latch_at};
+ghost use Rattle.latch_cone.specs.Kinds.{AreKindsIn};
+ghost use Rattle.latch_graph.specs.Graph.{IsGraphOf, IsGraphIn};
+ghost use Rattle.graph_report.specs.Report.{IsFound, IsGraphReport};
+ghost use Rattle.graph_report.specs.Puts.{PutsLatches, PutsOutputs, PutsCycle};
 
 use crate::writing::{put_counts, put_latch, put_names, put_output};
 use flat_net::Net;
+use latch_cone::{LatchKind, enabled_among};
 use latch_graph::LatchGraph;
-use sec_base::{Bits, NoMemory, Seq, Text, put};
+use sec_base::{Bits, Ids, NoMemory, Seq, Text, put};
 use std::alloc::Global;
 
-/// The report of a net in the plain mode: a line each for the numbers of inputs, outputs and latches; for each latch and
-/// then for each output a line with its sequential depth, or a dash where a cycle of latches leads to it; and last the
-/// latches of a cycle from its least name on, or the word `acyclic`. Each line ends with a line feed.
-pub fn graph_report(alloc: Global, net: &Net) -> Result<Text, NoMemory>
-    ensures { IfOk result (λ text. IsGraphReport net.now text) }
+/// The report of a net whose latches are of these kinds in a mode: a line each for the numbers of inputs, outputs and latches; for
+/// each latch a line with its sequential depth, or a dash where a cycle of latches leads to it, and its kind; for each output the
+/// same without a kind; and last the latches of a cycle from its least name on, or the word `acyclic`. Each line ends with a line
+/// feed. Self-edges of latches with a load enable are left out of depths and cycles.
+pub fn graph_report(alloc: Global, net: &Net, kinds: &[LatchKind]) -> Result<Text, NoMemory>
+    requires { length kinds.now ≡ length net.now.latches }
+    ensures { (mode : Mode) → AreKindsIn mode net.now kinds.now → IfOk result (λ text. IsGraphReport mode net.now text) }
 {
-    let unset = unset(alloc, net.latches().len())?;
-    let graph = LatchGraph::new(alloc, net, &unset)?;
+    let graph = graph_of(alloc, net, kinds)?;
     let mut text = Vec::new(alloc);
     put_counts(alloc, &mut text, net)?;
-    put_latches(alloc, &mut text, net, &graph)?;
+    put_latches(alloc, &mut text, net, &graph, kinds)?;
     put_outputs(alloc, &mut text, net, &graph)?;
-    put_cycle(alloc, &mut text, net, &graph, &unset)?;
+    put_cycle(alloc, &mut text, net, &graph)?;
     Ok(Seq::from_vec(text))
 }
 
-/// So many bits, none of them set.
-fn unset(alloc: Global, count: usize) -> Result<Bits, NoMemory>
-    ensures { IfOk result (λ bits. bits ≡ replicate count false) }
+/// The latch graph without the self-edges of the latches with a load enable.
+fn graph_of(alloc: Global, net: &Net, kinds: &[LatchKind]) -> Result<LatchGraph, NoMemory>
+    requires { length kinds.now ≡ length net.now.latches }
+    ensures graph { IfOk result (IsGraphOf net.now) }
+    ensures in_mode { (mode : Mode) → AreKindsIn mode net.now kinds.now → IfOk result (IsGraphIn mode net.now) }
 {
-    Ok(Seq::from_vec(vec![in alloc; false; count]?))
+    let enabled = enabled_among(alloc, kinds)?;
+    LatchGraph::new(alloc, net, &enabled)
 }
 
 /// Puts the lines of the latches.
@@ -41,15 +48,26 @@ fn put_latches(
     text: &mut Vec<u8>,
     net: &Net,
     graph: &LatchGraph,
+    kinds: &[LatchKind],
 ) -> Result<(), NoMemory>
-    requires { IsGraphOf net.now graph.now }
-    ensures { OnOk result (PutsLines (circuit_of net.now) (map latch_signal net.now.latches) latch_line text.old.items text.new.items) }
+    requires graph { IsGraphOf net.now graph.now }
+    requires kinds { length kinds.now ≡ length net.now.latches }
+    ensures { (mode : Mode) → IsGraphIn mode net.now graph.now → AreKindsIn mode net.now kinds.now →
+        OnOk result (PutsLatches mode net.now net.now.latches text.old.items text.new.items) }
 {
-    for latch in net.latches() {
+    for (j, latch) in net.latches().iter().enumerate() {
         let depth = graph.depth(latch.out);
-        put_latch(alloc, text, latch.name.as_slice(), depth)?;
+        let kind = kind_at(kinds, j);
+        put_latch(alloc, text, latch.name.as_slice(), depth, kind)?;
     }
     Ok(())
+}
+
+fn kind_at(kinds: &[LatchKind], j: usize) -> LatchKind
+    requires { j < length kinds.now }
+    ensures { slice_get kinds.now j ≡ Some result }
+{
+    kinds[j]
 }
 
 /// Puts the lines of the outputs.
@@ -60,7 +78,7 @@ fn put_outputs(
     graph: &LatchGraph,
 ) -> Result<(), NoMemory>
     requires { IsGraphOf net.now graph.now }
-    ensures { OnOk result (PutsLines (circuit_of net.now) (map named net.now.outputs) output_line text.old.items text.new.items) }
+    ensures { (mode : Mode) → IsGraphIn mode net.now graph.now → OnOk result (PutsOutputs mode net.now net.now.outputs text.old.items text.new.items) }
 {
     for output in net.outputs() {
         let depth = graph.depth(output.signal);
@@ -69,19 +87,35 @@ fn put_outputs(
     Ok(())
 }
 
-/// Puts the line of a cycle. No bit is set, so that no latch is left out.
+/// So many bits, none of them set.
+fn unset(alloc: Global, count: usize) -> Result<Bits, NoMemory>
+    ensures { IfOk result (λ bits. bits ≡ replicate count false) }
+{
+    Ok(Seq::from_vec(vec![in alloc; false; count]?))
+}
+
+/// The positions of the latches of a cycle, from its least name on; None exactly where there is no cycle.
+fn cycle_of(alloc: Global, net: &Net, graph: &LatchGraph) -> Result<Option<Ids>, NoMemory>
+    requires { IsGraphOf net.now graph.now }
+    ensures within { IfOk result (λ found. IfSome found (All (λ j. j < length net.now.latches))) }
+    ensures found { (mode : Mode) → IsGraphIn mode net.now graph.now → IfOk result (λ found. IsFound mode net.now (option_map (map (latch_at net.now)) found)) }
+{
+    let unset = unset(alloc, net.latches().len())?;
+    let found = graph.cycle(alloc, &unset)?;
+    Ok(found)
+}
+
+/// Puts the line of a cycle, or that there is none.
 fn put_cycle(
     alloc: Global,
     text: &mut Vec<u8>,
     net: &Net,
     graph: &LatchGraph,
-    unset: &Bits,
 ) -> Result<(), NoMemory>
-    requires graph { IsGraphOf net.now graph.now }
-    requires unset { unset.now ≡ replicate (length net.now.latches) false }
-    ensures { OnOk result (PutsCycle net.now text.old.items text.new.items) }
+    requires { IsGraphOf net.now graph.now }
+    ensures { (mode : Mode) → IsGraphIn mode net.now graph.now → OnOk result (PutsCycle mode net.now text.old.items text.new.items) }
 {
-    match graph.cycle(alloc, unset)? {
+    match cycle_of(alloc, net, graph)? {
         Some(places) => {
             put(text, b"cycle")?;
             put_names(text, net.latches(), places.as_slice())?;

@@ -3,9 +3,10 @@
 ghost use Rattle.std.specs.Prelude.{◌≡◌, ◌++◌, ◌<◌, map, length, slice_index_or, All, OnOk};
 ghost use Rattle.witness_report.specs.Text.{names_text};
 ghost use Rattle.flat_net.specs.Cut.{no_latch};
-ghost use Rattle.graph_report.specs.Report.{depth_text, latch_line, output_line, counts_text};
+ghost use Rattle.graph_report.specs.Report.{depth_text, kind_word, latch_text, output_text, counts_text};
 
 use flat_net::{LatchAt, Net};
+use latch_cone::LatchKind;
 use sec_base::{NoMemory, put, put_number};
 use std::alloc::Global;
 
@@ -31,20 +32,33 @@ fn put_depth(alloc: Global, text: &mut Vec<u8>, depth: Option<u32>) -> Result<()
     }
 }
 
+fn kind_word(kind: LatchKind) -> &'static str
+    ensures { result.now ≡ kind_word kind }
+{
+    match kind {
+        LatchKind::Plain => "plain",
+        LatchKind::Enabled => "enabled",
+        LatchKind::NotUnate => "not-unate",
+    }
+}
+
 /// Puts the line of a latch.
 pub(crate) fn put_latch(
     alloc: Global,
     text: &mut Vec<u8>,
     name: &[u8],
     depth: Option<u32>,
+    kind: LatchKind,
 ) -> Result<(), NoMemory>
-    ensures { OnOk result (text.new.items ≡ text.old.items ++ latch_line name.now depth) }
+    ensures { OnOk result (text.new.items ≡ text.old.items ++ latch_text name.now depth kind) }
 {
     put(text, b"latch ")?;
     put(text, name)?;
     put(text, b" depth ")?;
     put_depth(alloc, text, depth)?;
-    put(text, b" plain\n")
+    put(text, b" ")?;
+    put(text, kind_word(kind).as_bytes())?;
+    put(text, b"\n")
 }
 
 /// Puts the line of an output.
@@ -54,7 +68,7 @@ pub(crate) fn put_output(
     name: &[u8],
     depth: Option<u32>,
 ) -> Result<(), NoMemory>
-    ensures { OnOk result (text.new.items ≡ text.old.items ++ output_line name.now depth) }
+    ensures { OnOk result (text.new.items ≡ text.old.items ++ output_text name.now depth) }
 {
     put(text, b"output ")?;
     put(text, name)?;

@@ -7,17 +7,20 @@ use Rattle.flat_net.specs.declared.signals.Signal.{Signal}
 use Rattle.flat_net.specs.declared.parts.LatchAt.{LatchAt}
 use Rattle.flat_net.specs.Cut.{no_latch}
 use Rattle.flat_net.proofs.Places.{one_at}
-use Rattle.circuit_theory.specs.Circuit.{Circuit, Reads, Reaches}
+use Rattle.flat_net.proofs.Nets.{latch_stands}
+use Rattle.flat_net.specs.View.{NetView, circuit_of}
+use Rattle.circuit_theory.specs.Circuit.{Circuit, IsSource, Reads, Reaches}
 use Rattle.circuit_theory.specs.Names.{ListBefore}
 use Rattle.circuit_theory.proofs.Sums.{same_or_not}
 use Rattle.latch_graph.specs.declared.nodes.Node.{Node}
 use Rattle.latch_graph.specs.declared.settling.State.{State}
 use Rattle.latch_graph.specs.declared.settling.State.TheVariants.{New, Endless, Removed}
-use Rattle.latch_graph.specs.Graph.{AreNodes}
-use Rattle.latch_graph.specs.Settling.{IsTable, SameRemoved}
-use Rattle.latch_graph.specs.Rounds.{latch_in, IsEndless, AreRemoved}
+use Rattle.latch_graph.specs.Graph.{GraphView, IsGraphOf, AreNodes}
+use Rattle.latch_cone.specs.Cones.{IsMarkedBy}
+use Rattle.latch_graph.specs.Settling.{ReadsEndless, IsTable, SameRemoved}
+use Rattle.latch_graph.specs.Rounds.{latch_in, IsEndless, TakesOver, AreRemoved}
 use Rattle.latch_graph.proofs.Tables.{set_same, set_other, set_cases}
-use Rattle.latch_graph.proofs.Depths.{only_at}
+use Rattle.latch_graph.proofs.Depths.{Driven, driven, none_some, read_taken}
 use Rattle.latch_graph.proofs.Before.{before_self, before_after}
 use Rattle.latch_graph.proofs.Turns.{IsWithout}
 
@@ -34,17 +37,44 @@ endless_latch nodes latches states are s j node at named h =
     let out : (latch_in latches j).out.0 ≡ s = ap (λ (z : LatchAt). z.out.0) same ∙ l.2 in
     (record { within = slice_get_within latches j l.0 l.1; endless = subst (λ z. slice_get states z ≡ Some Endless) (sym out) h }, out)
 
--- what an endless latch takes over is endless
-pub next_endless : (nodes : List Node) (latches : List LatchAt) (states : List State) → AreNodes nodes latches → IsTable nodes states → (j : ℕ) → IsEndless latches states j → (l : LatchAt) → slice_get latches j ≡ Some l →
-    slice_get states l.next.0 ≡ Some Endless
-next_endless nodes latches states are table j e l at =
-    let same : latch_in latches j ≡ l = get_or_from_slice_get latches j l no_latch at in
-    let node = are.out j l at in
-    let back = are.latch l.out.0 j node.0 node.1 node.2 in
-    let one : back.0 ≡ l = one_at latches j back.0 l back.1 at in
-    let reads = table.right l.out.0 node.0 Endless node.1 (subst (λ (z : LatchAt). slice_get states z.out.0 ≡ Some Endless) same e.endless) in
-    let next : back.0.next ≡ reads.1 = only_at node.0.reads back.0.next reads.0 reads.1 back.3 reads.2 in
-    subst (λ (z : LatchAt). slice_get states z.next.0 ≡ Some Endless) one (subst (λ (z : Signal). slice_get states z.0 ≡ Some Endless) (sym next) reads.3)
+-- an endless latch reads what is endless
+pub record IsEndlessNode (nodes : List Node) (states : List State) (s j : ℕ) : Type 0 where
+  pub node : Node
+  pub here : slice_get nodes s ≡ Some node
+  pub named : node.latch ≡ Some j
+  pub reads : ReadsEndless states node
+
+pub endless_node : (nodes : List Node) (latches : List LatchAt) (states : List State) → AreNodes nodes latches → IsTable nodes states → (j : ℕ) → IsEndless latches states j → IsEndlessNode nodes states (latch_in latches j).out.0 j
+endless_node nodes latches states are table j e =
+    let at = slice_get-get_or latches j no_latch e.within in
+    let node = are.out j (latch_in latches j) at in
+    record { node = node.0; here = node.1; named = node.2; reads = table.right (latch_in latches j).out.0 node.0 Endless node.1 e.endless }
+
+abbrev graph_of : List Node → List LatchAt → List Bool → GraphView
+graph_of nodes latches bits = record { nodes = nodes; latches = latches; skipped = bits }
+
+-- a latch behind what an endless latch reads is one that it takes over
+pub takes_over : (nodes : List Node) (latches : List LatchAt) (j k : ℕ) → j < length latches → k < length latches → (node : Node) → slice_get nodes (latch_in latches j).out.0 ≡ Some node → node.latch ≡ Some j → (i : ℕ) (r : Signal) → slice_get node.reads i ≡ Some r →
+    ((n : NetView) (bits : List Bool) → IsGraphOf n (record { nodes = nodes; latches = latches; skipped = bits }) → Reaches (circuit_of n) r.0 (latch_in latches k).out.0) → TakesOver nodes latches j k
+takes_over nodes latches j k inside other node here named i r at reached n bits of = go (driven n (graph_of nodes latches bits) of (latch_in latches j).out.0 node here)
+  where
+    in_net : (j : ℕ) → j < length latches → slice_get n.latches j ≡ Some (latch_in latches j)
+    in_net j l = subst (λ (z : List LatchAt). slice_get z j ≡ Some (latch_in latches j)) of.latches (slice_get-get_or latches j no_latch l)
+
+    source : IsSource (circuit_of n) (latch_in latches k).out.0
+    source = inr ((latch_in latches k).name, (latch_in latches k).next.0, latch_stands n k (latch_in latches k) (in_net k other))
+
+    some_one : (i j : ℕ) → ◌≡◌ {A = Option ℕ} (Some i) (Some j) → i ≡ j
+    some_one i j e = cc
+
+    go : Driven n bits (latch_in latches j).out.0 node → Reaches (circuit_of n) (latch_in latches j).next.0 (latch_in latches k).out.0 × (IsMarkedBy latches bits (latch_in latches j).out.0 → (latch_in latches j).out.0 ≢ (latch_in latches k).out.0)
+    go (Driven.input is reads lone) = absurd (none_some j (sym lone ∙ named))
+    go (Driven.gate gt stands reads lone below) = absurd (none_some j (sym lone ∙ named))
+    go (Driven.latch m l place out is bit bit_is taken lone within) =
+        let same : m ≡ j = some_one m j (sym lone ∙ named) in
+        let one : l ≡ latch_in latches j = one_at n.latches j l (latch_in latches j) (subst (λ z. slice_get n.latches z ≡ Some l) same place) (in_net j inside) in
+        subst (λ (z : LatchAt). Reaches (circuit_of n) z.next.0 (latch_in latches k).out.0 × (IsMarkedBy latches bits z.out.0 → z.out.0 ≢ (latch_in latches k).out.0)) one
+        (read_taken n (graph_of nodes latches bits) of m l bit node.reads place bit_is taken i r at (latch_in latches k).out.0 source (reached n bits of))
 
 -- at first no latch is removed
 pub removed_none : (latches : List LatchAt) (bits : List Bool) (states : List State) → ((s : ℕ) (st : State) → slice_get states s ≡ Some st → st ≡ New) → AreRemoved latches bits 0 states

@@ -14,7 +14,6 @@ use Rattle.flat_net.proofs.Places.{one_at}
 use Rattle.flat_net.proofs.Nets.{some_at, latch_stands, sound_is_net}
 use Rattle.circuit_theory.specs.Circuit.{Equation, Gate as gate_equation, Latch as latch_equation, Port as port_equation, IsLatch, Reads, Reaches}
 use Rattle.circuit_theory.specs.Names.{ListBefore}
-use Rattle.circuit_theory.specs.Run.{NoneEnabled}
 use Rattle.circuit_theory.specs.Depth.{LatchReads, LatchPath, HasCycle, IsCycle, BeginsWithLeast, after_in_round}
 use Rattle.circuit_theory.specs.Net.{IsNet, IsWithin}
 use Rattle.circuit_theory.proofs.Lists.{Contains-head, Contains-tail, Contains-cases, Contains-map_from, at_of, map_at, length-map}
@@ -22,11 +21,12 @@ use Rattle.circuit_theory.proofs.Sums.{same_or_not}
 use Rattle.latch_graph.specs.declared.nodes.Node.{Node}
 use Rattle.latch_graph.specs.declared.settling.State.{State}
 use Rattle.latch_graph.specs.declared.settling.State.TheVariants.{New, Open, Known, Endless, Removed}
-use Rattle.latch_graph.specs.Graph.{GraphView, IsGraphOf, marked_names, signals_at}
+use Rattle.latch_graph.specs.Graph.{GraphView, IsGraphOf, SkippedBy, marked_names, signals_at}
+use Rattle.latch_cone.specs.Cones.{IsMarkedBy}
 use Rattle.latch_graph.specs.Settling.{HasDepth, IsDepthOf, IsSettled, depth_of, step_of}
 use Rattle.latch_graph.specs.Rounds.{latch_in, IsEndless, TakesOver, StandsBack, IsTurnedRound}
 use Rattle.latch_graph.proofs.Tables.{one_depth}
-use Rattle.latch_graph.proofs.Depths.{kept_nodes}
+use Rattle.latch_graph.proofs.Depths.{kept_nodes, taken_read}
 use Rattle.latch_graph.proofs.Reading.{reads_node, latch_node}
 use Rattle.latch_graph.proofs.Trails.{after_last, after_next}
 use Rattle.latch_graph.proofs.Weights.{AllPairs-from_at}
@@ -120,12 +120,15 @@ pub record IsWithout (latches : List LatchAt) (bits : List Bool) (states : List 
   pub were : (s : ℕ) → slice_get states s ≡ Some Removed → (j : ℕ) × (l : LatchAt) × (slice_get latches j ≡ Some l) × (slice_get bits j ≡ Some true) × (l.out.0 ≡ s)
   pub marked : (j : ℕ) (l : LatchAt) → slice_get latches j ≡ Some l → slice_get bits j ≡ Some true → slice_get states l.out.0 ≡ Some Removed
 
-module _ (n : NetView) (nodes : List Node) (latches : List LatchAt) (of : IsGraphOf n (record { nodes = nodes; latches = latches })) (bits : List Bool) (states : List State) (without : IsWithout latches bits states) where
+module _ (n : NetView) (nodes : List Node) (latches : List LatchAt) (skipped : List Bool) (of : IsGraphOf n (record { nodes = nodes; latches = latches; skipped = skipped })) (bits : List Bool) (states : List State) (without : IsWithout latches bits states) where
   net : IsNet (circuit_of n) (length n.drivers)
   net = sound_is_net n of.sound
 
   abbrev g : GraphView
-  g = record { nodes = nodes; latches = latches }
+  g = record { nodes = nodes; latches = latches; skipped = skipped }
+
+  abbrev left_out : ℕ → Type 0
+  left_out = IsMarkedBy latches skipped
 
   latch_here : (j : ℕ) (l : LatchAt) → slice_get latches j ≡ Some l → slice_get n.latches j ≡ Some l
   latch_here j l h = subst (λ (z : List LatchAt). slice_get z j ≡ Some l) of.latches h
@@ -163,7 +166,7 @@ module _ (n : NetView) (nodes : List Node) (latches : List LatchAt) (of : IsGrap
       differ : Endless ≡ Removed → ⊥
       differ q = cc
 
-  edge : (j k : ℕ) → IsEndless latches states j → IsEndless latches states k → TakesOver nodes latches j k → LatchReads (circuit_of n) NoneEnabled (marked_names latches bits) (latch_in latches j).out.0 (latch_in latches k).out.0
+  edge : (j k : ℕ) → IsEndless latches states j → IsEndless latches states k → TakesOver nodes latches j k → LatchReads (circuit_of n) left_out (marked_names latches bits) (latch_in latches j).out.0 (latch_in latches k).out.0
   edge j k a b takes = record {
     name = (latch_in latches j).name;
     next = (latch_in latches j).next.0;
@@ -173,8 +176,8 @@ module _ (n : NetView) (nodes : List Node) (latches : List LatchAt) (of : IsGrap
     other_next = (latch_in latches k).next.0;
     other = is_latch k b.within;
     other_kept = kept k b;
-    cone = (inr ((latch_in latches k).name, (latch_in latches k).next.0, is_latch k b.within), takes n of);
-    no_self_edge = λ en. absurd en;
+    cone = (inr ((latch_in latches k).name, (latch_in latches k).next.0, is_latch k b.within), (takes n skipped of).0);
+    no_self_edge = (takes n skipped of).1;
   }
 
   module _ (turned : List ℕ) (round : IsTurnedRound nodes latches states turned) where
@@ -193,7 +196,7 @@ module _ (n : NetView) (nodes : List Node) (latches : List LatchAt) (of : IsGrap
     many : length (signals_at latches turned) ≡ length around
     many = length-map (λ j. (latch_in latches j).out.0) turned ∙ round.turn.size
 
-    pub is_cycle : IsCycle (circuit_of n) NoneEnabled (marked_names latches bits) (signals_at latches turned)
+    pub is_cycle : IsCycle (circuit_of n) left_out (marked_names latches bits) (signals_at latches turned)
     is_cycle = record {
       some = omega (arith, round.closed.some, many);
       distinct = AllPairs-from_at (λ u v. u ≢ v) (signals_at latches turned) distinct;
@@ -211,7 +214,7 @@ module _ (n : NetView) (nodes : List Node) (latches : List LatchAt) (of : IsGrap
             let once : i ≡ j = back_once (length around) round.turn.first i j q.0 round.turn.within (inside i a.0 a.1) (inside j b.0 b.1) (subst (λ z. IsBack (length around) round.turn.first i z) place p.1) q.1 in
             omega (arith, once, l)
 
-        edges : (i u v : ℕ) → slice_get (signals_at latches turned) i ≡ Some u → slice_get (signals_at latches turned) (after_in_round (length around) i) ≡ Some v → LatchReads (circuit_of n) NoneEnabled (marked_names latches bits) v u
+        edges : (i u v : ℕ) → slice_get (signals_at latches turned) i ≡ Some u → slice_get (signals_at latches turned) (after_in_round (length around) i) ≡ Some v → LatchReads (circuit_of n) left_out (marked_names latches bits) v u
         edges i u v h k =
             let a = map_at (λ j. (latch_in latches j).out.0) turned i u h in
             let b = map_at (λ j. (latch_in latches j).out.0) turned (after_in_round (length around) i) v k in
@@ -220,7 +223,7 @@ module _ (n : NetView) (nodes : List Node) (latches : List LatchAt) (of : IsGrap
             let next : after_in_round (length around) q.0 ≡ p.0 = back_after (length around) round.turn.first i p.0 q.0 round.turn.within (inside i a.0 a.1) p.1 q.1 in
             let takes = round.closed.edges q.0 b.0 a.0 q.2 (subst (λ z. slice_get around z ≡ Some a.0) (sym next) p.2) in
             let found = edge b.0 a.0 (turned_endless (after_in_round (length around) i) b.0 b.1) (turned_endless i a.0 a.1) takes in
-            subst (λ z. LatchReads (circuit_of n) NoneEnabled (marked_names latches bits) z u) b.2 (subst (λ z. LatchReads (circuit_of n) NoneEnabled (marked_names latches bits) (latch_in latches b.0).out.0 z) a.2 found)
+            subst (λ z. LatchReads (circuit_of n) left_out (marked_names latches bits) z u) b.2 (subst (λ z. LatchReads (circuit_of n) left_out (marked_names latches bits) (latch_in latches b.0).out.0 z) a.2 found)
 
     pub begins_with_least : BeginsWithLeast (circuit_of n) (signals_at latches turned)
     begins_with_least name name' u next v next' h k first other before =
@@ -240,8 +243,8 @@ module _ (n : NetView) (nodes : List Node) (latches : List LatchAt) (of : IsGrap
         zeroth p (inl x) = omega (arith, x.1)
         zeroth p (inr x) = absurd (omega (arith, x.0))
 
-  -- without an endless signal no cycle is left
-  module _ (settled : IsSettled nodes states) (none : (s : ℕ) → slice_get states s ≡ Some Endless → ⊥) where
+  -- depths fall along a way, and without an endless signal no cycle is left
+  module _ (settled : IsSettled nodes states) where
     abbrev Lower : ℕ → ℕ → Type 0
     Lower s d = (e : ℕ) × HasDepth states s e × (e ≤ d)
 
@@ -280,21 +283,22 @@ module _ (n : NetView) (nodes : List Node) (latches : List LatchAt) (of : IsGrap
             none_some : (j : ℕ) → ◌≡◌ {A = Option ℕ} None (Some j) → ⊥
             none_some j e = cc
 
-    reach_lower : {p u : ℕ} → Reaches (circuit_of n) p u → (d : ℕ) → HasDepth states p d → Lower u d
+    pub reach_lower : {p u : ℕ} → Reaches (circuit_of n) p u → (d : ℕ) → HasDepth states p d → Lower u d
     reach_lower Reaches.here d h = (d, h, omega arith)
     reach_lower (Reaches.there reads rest) d h =
         let x = read_lower reads d h in
         let y = reach_lower rest x.0 x.1 in
         (y.0, y.1, omega (arith, x.2, y.2))
 
-    edge_lower : {u v : ℕ} → LatchReads (circuit_of n) NoneEnabled (marked_names latches bits) u v → (d : ℕ) → HasDepth states u d → Below v d
+    pub edge_lower : {u v : ℕ} → LatchReads (circuit_of n) left_out (marked_names latches bits) u v → (d : ℕ) → HasDepth states u d → Below v d
     edge_lower {u} {v} e d h =
         let node = node_at u d h in
         let x = latch_node n g of e.latch node.0 node.1 in
         let y = by_reads u d h node.0 node.1 (λ k. not_removed x.latch x.out_is x.name_is (without.were u k)) in
-        let z = y.1.each 0 x.latch.next (ap (λ (z : List Signal). slice_get z 0) x.reads) in
+        let read = taken_read n g of x.position x.latch x.bit node.0.reads x.here x.bit_is x.taken e.other (subst (λ z. Reaches (circuit_of n) z v) (sym x.next_is) e.cone.1) (subst (λ z. left_out z → z ≢ v) (sym x.out_is) e.no_self_edge) in
+        let z = y.1.each read.0 read.1 read.2 in
         let one : step_of node.0.latch ≡ 1 = ap step_of x.named in
-        let w = reach_lower e.cone.1 z.0 (subst (λ z'. HasDepth states z' z.0) x.next_is z.1) in
+        let w = reach_lower read.3 z.0 z.1 in
         (w.0, w.1, omega (arith, w.2, z.2, y.2, one))
       where
         not_removed : (l : LatchAt) → l.out.0 ≡ u → l.name ≡ e.name → (j : ℕ) × (k : LatchAt) × (slice_get latches j ≡ Some k) × (slice_get bits j ≡ Some true) × (k.out.0 ≡ u) → ⊥
@@ -303,15 +307,30 @@ module _ (n : NetView) (nodes : List Node) (latches : List LatchAt) (of : IsGrap
             let same : m.1.name ≡ e.name = ap latch_name (net.single.one (latch_equation m.1.name m.1.out.0 m.1.next.0) (latch_equation e.name u e.next) stands e.latch m.4) in
             e.kept (subst (λ z. Contains (marked_names latches bits) z) same (marked_has latches bits m.0 m.1 m.2 m.3))
 
-    path_lower : {u v : ℕ} → LatchPath (circuit_of n) NoneEnabled (marked_names latches bits) u v → (d : ℕ) → HasDepth states u d → Below v d
+    -- a kept latch is one more than what it takes over
+    pub latch_deep : {name : List ℕ} {u next : ℕ} → IsLatch (circuit_of n) name u next → (Contains (marked_names latches bits) name → ⊥) → (d : ℕ) → HasDepth states u d → 1 ≤ d
+    latch_deep {name} {u} {next} latch kept d h =
+        let node = node_at u d h in
+        let x = latch_node n g of latch node.0 node.1 in
+        let y = by_reads u d h node.0 node.1 (λ k. not_removed (without.were u k)) in
+        let one : step_of node.0.latch ≡ 1 = ap step_of x.named in
+        omega (arith, y.2, one)
+      where
+        not_removed : (j : ℕ) × (k : LatchAt) × (slice_get latches j ≡ Some k) × (slice_get bits j ≡ Some true) × (k.out.0 ≡ u) → ⊥
+        not_removed m =
+            let stands = latch_stands n m.0 m.1 (latch_here m.0 m.1 m.2) in
+            let same : m.1.name ≡ name = ap latch_name (net.single.one (latch_equation m.1.name m.1.out.0 m.1.next.0) (latch_equation name u next) stands latch m.4) in
+            kept (subst (λ z. Contains (marked_names latches bits) z) same (marked_has latches bits m.0 m.1 m.2 m.3))
+
+    path_lower : {u v : ℕ} → LatchPath (circuit_of n) left_out (marked_names latches bits) u v → (d : ℕ) → HasDepth states u d → Below v d
     path_lower (LatchPath.edge e) d h = edge_lower e d h
     path_lower (LatchPath.step e rest) d h =
         let x = edge_lower e d h in
         let y = path_lower rest x.0 x.1 in
         (y.0, y.1, omega (arith, x.2, y.2))
 
-    depth_at : (s : ℕ) → s < length nodes → (d : ℕ) × HasDepth states s d
-    depth_at s l = by st.0 st.1
+    depth_at : ((s : ℕ) → slice_get states s ≡ Some Endless → ⊥) → (s : ℕ) → s < length nodes → (d : ℕ) × HasDepth states s d
+    depth_at none s l = by st.0 st.1
       where
         st : (st : State) × (slice_get states s ≡ Some st)
         st = some_at states s (omega (arith, l, settled.table.size))
@@ -323,15 +342,15 @@ module _ (n : NetView) (nodes : List Node) (latches : List LatchAt) (of : IsGrap
         by Endless h = absurd (none s h)
         by Removed h = (0, (Removed, h, refl))
 
-    start_of : {u v : ℕ} → LatchPath (circuit_of n) NoneEnabled (marked_names latches bits) u v → (name : List ℕ) × (next : ℕ) × IsLatch (circuit_of n) name u next
+    start_of : {u v : ℕ} → LatchPath (circuit_of n) left_out (marked_names latches bits) u v → (name : List ℕ) × (next : ℕ) × IsLatch (circuit_of n) name u next
     start_of (LatchPath.edge e) = (e.name, e.next, e.latch)
     start_of (LatchPath.step e rest) = (e.name, e.next, e.latch)
 
-    pub no_cycle : HasCycle (circuit_of n) NoneEnabled (marked_names latches bits) → ⊥
-    no_cycle cycle =
+    pub no_cycle : ((s : ℕ) → slice_get states s ≡ Some Endless → ⊥) → HasCycle (circuit_of n) left_out (marked_names latches bits) → ⊥
+    no_cycle none cycle =
         let latch = start_of cycle.1 in
         let inside = latch_within n of.sound latch.2 in
-        let d = depth_at cycle.0 (omega (arith, inside, of.size)) in
+        let d = depth_at none cycle.0 (omega (arith, inside, of.size)) in
         let e = path_lower cycle.1 d.0 d.1 in
         let same : d.0 ≡ e.0 = one_depth states cycle.0 d.0 e.0 d.1 e.1 in
         omega (arith, e.2, same)

@@ -1,11 +1,12 @@
 -- What the places that are met say of the weight.
-use Rattle.std.proofs.Common.{◌≡◌, ◌≢◌, ℕ, suc, ◌+◌, ◌*◌, ◌<◌, ◌≤◌, max, List, [], ◌∷◌, ◌++◌, length, map, Option, Some, None, refl, sym, ◌∙◌, ap, subst, arith, inl, inr, get_or}
+use Rattle.std.proofs.Common.{◌≡◌, ◌≢◌, ℕ, Bool, true, false, suc, ◌+◌, ◌*◌, ◌<◌, ◌≤◌, max, List, [], ◌∷◌, ◌++◌, length, map, Option, Some, None, refl, sym, ◌∙◌, ap, subst, arith, inl, inr, get_or}
 use Rattle.std.specs.Prelude.{◌⊎◌, slice_get, IfSome, IfNone}
 use Rattle.std.specs.List.{Contains, AllPairs, sum_by}
 use Rattle.std.proofs.lemmas.List.Sums.{sum_by-cons, sum_by-append}
 use Rattle.std.proofs.lemmas.Option.{slice_get_within, slice_get-get_or}
 use Rattle.flat_net.specs.declared.signals.Signal.{Signal}
 use Rattle.flat_net.specs.declared.parts.Gate.{Gate}
+use Rattle.flat_net.specs.declared.parts.LatchAt.{LatchAt}
 use Rattle.flat_net.specs.declared.parts.Driver.{Driver}
 use Rattle.flat_net.specs.declared.parts.Driver.TheVariants as driver
 use Rattle.flat_net.specs.View.{NetView, circuit_of, cover_of}
@@ -19,7 +20,7 @@ use Rattle.circuit_theory.specs.Sizes.{WeighsAt, Weighed, Visits, IsWeight, IsOv
 use Rattle.circuit_theory.proofs.Lists.{Contains-map, Contains-map_from, at_of, of_at, map_at, length-map}
 use Rattle.circuit_theory.proofs.Sums.{same_or_not}
 use Rattle.latch_graph.specs.declared.nodes.Node.{Node}
-use Rattle.latch_graph.specs.Graph.{GraphView, IsGraphOf}
+use Rattle.latch_graph.specs.Graph.{GraphView, IsGraphOf, IsPlainGraphOf, ArePlainNodes, AreTaken}
 use Rattle.latch_graph.specs.Settling.{step_of}
 use Rattle.latch_graph.specs.Weight.{gate_weight, driver_weight, weight_of, AreMet, Stay, IsMet, Meeting, AreThere, IsVisited, AreVisited, AreReadsThere}
 use Rattle.latch_graph.proofs.Depths.{Driven, driven, only_at}
@@ -136,6 +137,14 @@ met_none n outputs = record {
     nothing : (i : ℕ) (p : ℕ × ℕ) → slice_get [] i ≡ Some p → ⊥
     nothing i p h = let l = slice_get_within [] i p h in omega (arith, l)
 
+-- a latch's node reads what the latch takes over, where no self-edge is left out
+pub plain_taken : (n : NetView) (g : GraphView) → IsPlainGraphOf n g → (j : ℕ) (l : LatchAt) (bit : Bool) (reads : List Signal) → slice_get g.skipped j ≡ Some bit → AreTaken n l bit reads → reads ≡ l.next ∷ []
+plain_taken n g plain j l false reads b taken = taken
+plain_taken n g plain j l true reads b taken = absurd (differ (plain.plain j true b))
+  where
+    differ : true ≡ false → ⊥
+    differ e = cc
+
 module _ (n : NetView) (sound : IsSound n) (outputs : List ℕ) (places : List (ℕ × ℕ)) (total : ℕ) (met : AreMet n outputs places total) where
   abbrev weighed : ℕ × ℕ → Weighed ℕ
   weighed p = record { place = p.0; shift = p.1; weight = weight_of n p.0 }
@@ -173,10 +182,10 @@ module _ (n : NetView) (sound : IsSound n) (outputs : List ℕ) (places : List (
   is_over cap l = record { places = map weighed places; distinct = apart; weighed = right; met = visited; total = subst (λ z. cap < z) (sym whole) l }
 
   -- places that have what they read are all that is visited
-  pub is_weight : (g : GraphView) → IsGraphOf n g → ((o : ℕ) → Contains outputs o → Contains places (o, 0)) →
+  pub is_weight : (g : GraphView) → IsPlainGraphOf n g → ((o : ℕ) → Contains outputs o → Contains places (o, 0)) →
       ((p : ℕ × ℕ) → Contains places p → (node : Node) → slice_get g.nodes p.0 ≡ Some node → (k : ℕ) (r : Signal) → slice_get node.reads k ≡ Some r → Contains places (r.0, p.1 + step_of node.latch)) →
       IsWeight (circuit_of n) outputs total
-  is_weight g of roots closed = record {
+  is_weight g plain roots closed = record {
     places = map weighed places;
     distinct = apart;
     weighed = right;
@@ -184,6 +193,9 @@ module _ (n : NetView) (sound : IsSound n) (outputs : List ℕ) (places : List (
     total = whole;
   }
     where
+      of : IsGraphOf n g
+      of = plain.graph
+
       node_at : (p : ℕ × ℕ) → Contains places p → (node : Node) × (slice_get g.nodes p.0 ≡ Some node)
       node_at p h = let at = at_of places p h in some_at g.nodes p.0 (omega (arith, met.within at.0 p at.1, of.size))
 
@@ -201,7 +213,7 @@ module _ (n : NetView) (sound : IsSound n) (outputs : List ℕ) (places : List (
           let before = reached rest h in
           let node = node_at (q, j) before in
           let x = latch_node n g of latch node.0 node.1 in
-          let step = closed (q, j) before node.0 node.1 0 x.latch.next (ap (λ (z : List Signal). slice_get z 0) x.reads) in
+          let step = closed (q, j) before node.0 node.1 0 x.latch.next (ap (λ (z : List Signal). slice_get z 0) (plain_taken n g plain x.position x.latch x.bit node.0.reads x.bit_is x.taken)) in
           let one : step_of node.0.latch ≡ 1 = ap step_of x.named in
           let same : j + step_of node.0.latch ≡ suc j = omega (arith, one) in
           subst (λ z. Contains places (z, suc j)) x.next_is (subst (λ z. Contains places (x.latch.next.0, z)) same step)
@@ -233,21 +245,21 @@ there_more reads i shift old new r there stay at here k q l h = go (same_or_not 
     go (inr n) = stay_there old new (q.0, shift) stay (there k q (omega (arith, l, n)) h)
 
 -- what a visited signal reads is visited, a latch's in the cycle before
-pub child_visits : (n : NetView) (g : GraphView) → IsGraphOf n g → (o s shift : ℕ) → Visits (circuit_of n) o 0 s shift → (node : Node) → slice_get g.nodes s ≡ Some node → (k : ℕ) (r : Signal) → slice_get node.reads k ≡ Some r →
+pub child_visits : (n : NetView) (g : GraphView) → IsPlainGraphOf n g → (o s shift : ℕ) → Visits (circuit_of n) o 0 s shift → (node : Node) → slice_get g.nodes s ≡ Some node → (k : ℕ) (r : Signal) → slice_get node.reads k ≡ Some r →
     Visits (circuit_of n) o 0 r.0 (shift + step_of node.latch)
-child_visits n g of o s shift visits node at k r h = go (driven n g of s node at)
+child_visits n g plain o s shift visits node at k r h = go (driven n g plain.graph s node at)
   where
-    go : Driven n s node → Visits (circuit_of n) o 0 r.0 (shift + step_of node.latch)
+    go : Driven n g.skipped s node → Visits (circuit_of n) o 0 r.0 (shift + step_of node.latch)
     go (Driven.input is reads lone) = absurd (let l = slice_get_within node.reads k r h in omega (arith, l, ap length reads))
     go (Driven.gate gt stands reads lone below) =
         let here = of_at gt.fanins k r (subst (λ (z : List Signal). slice_get z k ≡ Some r) reads h) in
         let none : step_of node.latch ≡ 0 = ap step_of lone in
         let same : shift ≡ shift + step_of node.latch = omega (arith, none) in
         subst (λ z. Visits (circuit_of n) o 0 r.0 z) same (Visits.reads visits (Reads.by_gate stands (Contains-map (λ (f : Signal). f.0) gt.fanins r here)))
-    go (Driven.latch j l place out is reads lone inner) =
+    go (Driven.latch j l place out is bit bit_is taken lone inner) =
         let one : step_of node.latch ≡ 1 = ap step_of lone in
         let same : suc shift ≡ shift + step_of node.latch = omega (arith, one) in
-        let next : l.next ≡ r = only_at node.reads l.next k r reads h in
+        let next : l.next ≡ r = only_at node.reads l.next k r (plain_taken n g plain j l bit node.reads bit_is taken) h in
         subst (λ z. Visits (circuit_of n) o 0 r.0 z) same (subst (λ (z : Signal). Visits (circuit_of n) o 0 z.0 (suc shift)) next (Visits.back visits is))
 
 -- what an option tells
@@ -270,7 +282,7 @@ not_some P None never h = h
 not_some P (Some x) never h = absurd (never x refl)
 
 -- what a visited place reads is visited, and there where its reads are
-pub reads_visited : (n : NetView) (g : GraphView) → IsGraphOf n g → (outputs : List ℕ) (p : ℕ × ℕ) (node : Node) (reads : List Signal) (shift : ℕ) → slice_get g.nodes p.0 ≡ Some node → reads ≡ node.reads →
+pub reads_visited : (n : NetView) (g : GraphView) → IsPlainGraphOf n g → (outputs : List ℕ) (p : ℕ × ℕ) (node : Node) (reads : List Signal) (shift : ℕ) → slice_get g.nodes p.0 ≡ Some node → reads ≡ node.reads →
     shift ≡ p.1 + step_of node.latch → IsVisited n outputs p → AreVisited n outputs reads shift
 reads_visited n g of outputs p node reads shift at is back v k r h =
     (v.0, v.1, subst (λ z. Visits (circuit_of n) v.0 0 r.0 z) (sym back) (child_visits n g of v.0 p.0 p.1 v.2 node at k r (subst (λ (z : List Signal). slice_get z k ≡ Some r) is h)))
@@ -296,3 +308,10 @@ outputs_there outputs places there o h =
     let found = Contains-map_from (λ (s : Signal). s.0) outputs o h in
     let at = at_of outputs found.0 found.1 in
     subst (λ z. Contains places (z, 0)) found.2 (there at.0 found.0 (slice_get_within outputs at.0 found.0 at.1) at.1)
+
+-- the nodes of a plain graph
+pub plain_nodes : (n : NetView) (g : GraphView) → IsPlainGraphOf n g → (nodes : List Node) → nodes ≡ g.nodes → ArePlainNodes n nodes
+plain_nodes n g plain nodes e = subst (λ (z : List Node). ArePlainNodes n z) (sym e) (record {
+  bits = g.skipped;
+  plain = record { graph = record { sound = plain.graph.sound; size = plain.graph.size; nodes = plain.graph.nodes; latches = refl; bits = plain.graph.bits }; plain = plain.plain };
+})

@@ -1,5 +1,5 @@
 -- Rounds of latches, each of which waits for the next.
-use Rattle.std.specs.Prelude.{◌≡◌, ℕ, ◌+◌, ◌-◌, ◌<◌, ◌≤◌, ◌⊎◌, Bool, true, List, length, slice_get, slice_index_or, Some}
+use Rattle.std.specs.Prelude.{◌≡◌, ◌≢◌, ℕ, ◌+◌, ◌-◌, ◌<◌, ◌≤◌, ◌⊎◌, Bool, true, List, length, slice_get, slice_index_or, Some}
 use Rattle.circuit_theory.specs.Names.{ListBefore}
 use Rattle.circuit_theory.specs.Circuit.{Reaches}
 use Rattle.circuit_theory.specs.Depth.{after_in_round}
@@ -11,6 +11,7 @@ use Rattle.latch_graph.specs.declared.nodes.Node.{Node}
 use Rattle.latch_graph.specs.declared.settling.State.{State}
 use Rattle.latch_graph.specs.declared.settling.State.TheVariants.{New, Endless, Removed}
 use Rattle.latch_graph.specs.Graph.{IsGraphOf}
+use Rattle.latch_cone.specs.Cones.{IsMarkedBy}
 
 abbrev pub latch_in : List LatchAt → ℕ → LatchAt
 latch_in latches j = slice_index_or latches j no_latch
@@ -20,10 +21,10 @@ pub record IsEndless (latches : List LatchAt) (states : List State) (j : ℕ) : 
   pub within : j < length latches
   pub endless : slice_get states (latch_in latches j).out.0 ≡ Some Endless
 
--- the first latch takes over what depends on the second through gates
+-- the first latch takes over what depends on the second through gates, and is another one where its self-edge is left out
 abbrev pub TakesOver : List Node → List LatchAt → ℕ → ℕ → Type 0
 TakesOver nodes latches j k =
-    (n : NetView) → IsGraphOf n (record { nodes = nodes; latches = latches }) → Reaches (circuit_of n) (latch_in latches j).next.0 (latch_in latches k).out.0
+    (n : NetView) (bits : List Bool) → IsGraphOf n (record { nodes = nodes; latches = latches; skipped = bits }) → Reaches (circuit_of n) (latch_in latches j).next.0 (latch_in latches k).out.0 × (IsMarkedBy latches bits (latch_in latches j).out.0 → (latch_in latches j).out.0 ≢ (latch_in latches k).out.0)
 
 -- the latches that were passed, each once, and the latch that comes next
 pub record IsTrail (nodes : List Node) (latches : List LatchAt) (states : List State) (passed : List Bool) (trail : List ℕ) (at : ℕ) : Type 0 where

@@ -1,10 +1,12 @@
 //! The latch graph.
 
-ghost use Rattle.std.specs.Prelude.{◌≡◌, ℕ, ◌<◌, length, map, slice_get, Some, false, All, IfOk, IfSome, IfNone};
-ghost use Rattle.circuit_theory.specs.Run.{NoneEnabled};
+ghost use Rattle.std.specs.Prelude.{◌≡◌, ℕ, ◌<◌, length, map, slice_get, Some, All, IfOk, IfSome, IfNone};
 ghost use Rattle.circuit_theory.specs.Depth.{IsDepth, HasNoDepth, HasCycle, IsCycle, BeginsWithLeast};
+ghost use Rattle.circuit_theory.specs.declared.Mode.{Mode};
+ghost use Rattle.circuit_theory.specs.declared.Mode.TheVariants.{Plain};
+ghost use Rattle.latch_cone.specs.Cones.{MarksEnabled};
 ghost use Rattle.flat_net.specs.View.{NetView, circuit_of};
-ghost use Rattle.latch_graph.specs.Graph.{AreNodes, IsGraphOf, marked_names, signals_at};
+ghost use Rattle.latch_graph.specs.Graph.{AreNodes, IsGraphOf, IsGraphIn, SkippedBy, marked_names, signals_at};
 ghost use Rattle.latch_graph.specs.Settling.{IsSettled};
 ghost use Rattle.latch_graph.specs.Weight.{Weighs};
 
@@ -17,13 +19,15 @@ use sec_base::{Bits, Ids, NoMemory};
 use std::alloc::Global;
 use std::marker::Model;
 
-/// The latch graph of a net: it has an edge from a latch to each latch whose next value depends on it through gates.
-/// The edges aren't written out; they are ways through the signals. A contract sees what each signal reads, and the
-/// latches.
+/// The latch graph of a net: it has an edge from a latch to each latch whose next value depends on it through gates,
+/// but no edge from a skipped latch to itself. The edges aren't written out; they are ways through the signals, and a
+/// skipped latch reads the other latches of its cone at once. A contract sees what each signal reads, the latches, and
+/// which of them are skipped.
 #[derive(Debug, Drop)]
 pub struct LatchGraph {
     nodes: Vec<Node>,
     latches: Vec<LatchAt>,
+    skipped: Vec<bool>,
     states: Vec<State>,
 }
 
@@ -33,26 +37,30 @@ impl Model for LatchGraph {
 
     ghost Value = { GraphView };
 
-    ghost view = { λ g. record { nodes = g.nodes.items; latches = g.latches.items } };
+    ghost view = { λ g. record { nodes = g.nodes.items; latches = g.latches.items; skipped = g.skipped.items } };
 
     ghost invariant = { λ g. IsKept g.nodes.items g.latches.items g.states.items };
 }
 
 impl LatchGraph {
-    /// The graph of the net. There is one bit for each latch, and none is set.
+    /// The graph of the net, without the self-edges of the latches whose bits are set. There is one bit for each latch.
     pub fn new(alloc: Global, net: &Net, skip_self: &Bits) -> Result<LatchGraph, NoMemory>
-        requires length { length skip_self.now ≡ length net.now.latches }
-        requires plain { All (λ bit. bit ≡ false) skip_self.now }
-        ensures { IfOk result (IsGraphOf net.now) }
+        requires { length skip_self.now ≡ length net.now.latches }
+        ensures graph { IfOk result (IsGraphOf net.now) }
+        ensures skipped { IfOk result (λ graph. graph.skipped ≡ skip_self.now) }
+        ensures in_mode { (mode : Mode) → MarksEnabled mode net.now skip_self.now → IfOk result (IsGraphIn mode net.now) }
     {
         net.keeps();
-        let nodes = nodes_of(alloc, net)?;
+        let bits = skip_self.as_slice();
+        let nodes = nodes_of(alloc, net, bits)?;
         let latches = copy_latches(alloc, net.latches())?;
+        let skipped = Vec::from_slice(alloc, bits)?;
         let states = all_new(alloc, nodes.len())?;
         let states = settled_from(alloc, nodes.as_slice(), states)?;
         Ok(LatchGraph {
             nodes,
             latches,
+            skipped,
             states,
         })
     }
@@ -89,8 +97,8 @@ impl LatchGraph {
     /// leads back to a cycle of latches, so that there is no greatest number. It takes no memory.
     pub fn depth(&self, s: Signal) -> Option<u32>
         requires { s.0 < length self.now.nodes }
-        ensures depth { IfSome result (λ d. (n : NetView) → IsGraphOf n self.now → IsDepth (circuit_of n) NoneEnabled s.0 d) }
-        ensures none { IfNone result ((n : NetView) → IsGraphOf n self.now → HasNoDepth (circuit_of n) NoneEnabled s.0) }
+        ensures depth { IfSome result (λ d. (n : NetView) → IsGraphOf n self.now → IsDepth (circuit_of n) (SkippedBy self.now) s.0 d) }
+        ensures none { IfNone result ((n : NetView) → IsGraphOf n self.now → HasNoDepth (circuit_of n) (SkippedBy self.now) s.0) }
     {
         let states = self.states();
         states[s.0 as usize].known()
@@ -101,9 +109,9 @@ impl LatchGraph {
     /// cycle is left. There is one bit for each latch.
     pub fn cycle(&self, alloc: Global, removed: &Bits) -> Result<Option<Ids>, NoMemory>
         requires { length removed.now ≡ length self.now.latches }
-        ensures none { IfOk result (λ found. IfNone found ((n : NetView) → IsGraphOf n self.now → HasCycle (circuit_of n) NoneEnabled (marked_names self.now.latches removed.now) → ⊥)) }
+        ensures none { IfOk result (λ found. IfNone found ((n : NetView) → IsGraphOf n self.now → HasCycle (circuit_of n) (SkippedBy self.now) (marked_names self.now.latches removed.now) → ⊥)) }
         ensures within { IfOk result (λ found. IfSome found (All (λ j. j < length self.now.latches))) }
-        ensures cycle { IfOk result (λ found. IfSome found (λ ids. (n : NetView) → IsGraphOf n self.now → IsCycle (circuit_of n) NoneEnabled (marked_names self.now.latches removed.now) (signals_at self.now.latches ids))) }
+        ensures cycle { IfOk result (λ found. IfSome found (λ ids. (n : NetView) → IsGraphOf n self.now → IsCycle (circuit_of n) (SkippedBy self.now) (marked_names self.now.latches removed.now) (signals_at self.now.latches ids))) }
         ensures least { IfOk result (λ found. IfSome found (λ ids. (n : NetView) → IsGraphOf n self.now → BeginsWithLeast (circuit_of n) (signals_at self.now.latches ids))) }
     {
         self.keeps();
@@ -121,7 +129,7 @@ impl LatchGraph {
         outputs: &Signals,
         cap: u32,
     ) -> Result<Weight, NoMemory>
-        requires graph { IsGraphOf net.now self.now }
+        requires graph { IsGraphIn Plain net.now self.now }
         requires within { All (λ s. s.0 < length net.now.drivers) outputs.now }
         ensures { IfOk result (Weighs (circuit_of net.now) (map (λ s. s.0) outputs.now) cap) }
     {

@@ -3,7 +3,6 @@
 ghost use Rattle.std.specs.Prelude.{◌≡◌, ℕ, ◌+◌, ◌-◌, ◌^◌, ◌<◌, ◌≤◌, ◌⊎◌, Bool, true, false, List, length, drop, slice_get, slice_set, Some, None, All, IfOk, IfSome, IfNone, if◌then◌else◌};
 ghost use Rattle.circuit_theory.specs.Names.{ListBefore};
 ghost use Rattle.circuit_theory.specs.Circuit.{Reaches};
-ghost use Rattle.circuit_theory.specs.Run.{NoneEnabled};
 ghost use Rattle.circuit_theory.specs.Depth.{HasCycle, IsCycle, BeginsWithLeast};
 ghost use Rattle.flat_net.specs.declared.signals.Signal.{Signal};
 ghost use Rattle.flat_net.specs.declared.parts.LatchAt.{LatchAt};
@@ -11,6 +10,7 @@ ghost use Rattle.flat_net.specs.View.{NetView, circuit_of};
 ghost use Rattle.latch_graph.specs.declared.nodes.Node.{Node};
 ghost use Rattle.latch_graph.specs.declared.settling.State.{State};
 ghost use Rattle.latch_graph.specs.Graph.{AreNodes, IsGraphOf, marked_names, signals_at};
+ghost use Rattle.latch_cone.specs.Cones.{IsMarkedBy};
 ghost use Rattle.latch_graph.specs.Settling.{IsSettled};
 ghost use Rattle.latch_graph.specs.Rounds.{latch_in, IsEndless, TakesOver, IsTrail, IsRound, IsLeast, IsTurned, IsTurnedRound, StandsBack, AreRemoved};
 
@@ -30,10 +30,10 @@ pub(crate) fn find_cycle(
 ) -> Result<Option<Ids>, NoMemory>
     requires nodes { AreNodes nodes.now latches.now }
     requires bits { length removed.now ≡ length latches.now }
-    ensures none { IfOk result (λ found. IfNone found ((n : NetView) → IsGraphOf n (record { nodes = nodes.now; latches = latches.now }) → HasCycle (circuit_of n) NoneEnabled (marked_names latches.now removed.now) → ⊥)) }
+    ensures none { IfOk result (λ found. IfNone found ((n : NetView) (bits : List Bool) → IsGraphOf n (record { nodes = nodes.now; latches = latches.now; skipped = bits }) → HasCycle (circuit_of n) (IsMarkedBy latches.now bits) (marked_names latches.now removed.now) → ⊥)) }
     ensures within { IfOk result (λ found. IfSome found (All (λ j. j < length latches.now))) }
-    ensures cycle { IfOk result (λ found. IfSome found (λ ids. (n : NetView) → IsGraphOf n (record { nodes = nodes.now; latches = latches.now }) → IsCycle (circuit_of n) NoneEnabled (marked_names latches.now removed.now) (signals_at latches.now ids))) }
-    ensures least { IfOk result (λ found. IfSome found (λ ids. (n : NetView) → IsGraphOf n (record { nodes = nodes.now; latches = latches.now }) → BeginsWithLeast (circuit_of n) (signals_at latches.now ids))) }
+    ensures cycle { IfOk result (λ found. IfSome found (λ ids. (n : NetView) (bits : List Bool) → IsGraphOf n (record { nodes = nodes.now; latches = latches.now; skipped = bits }) → IsCycle (circuit_of n) (IsMarkedBy latches.now bits) (marked_names latches.now removed.now) (signals_at latches.now ids))) }
+    ensures least { IfOk result (λ found. IfSome found (λ ids. (n : NetView) (bits : List Bool) → IsGraphOf n (record { nodes = nodes.now; latches = latches.now; skipped = bits }) → BeginsWithLeast (circuit_of n) (signals_at latches.now ids))) }
 {
     let first = first_states(alloc, nodes, latches, removed)?;
     let states = settled_from(alloc, nodes, first)?;
@@ -124,7 +124,7 @@ fn latch_behind(nodes: &[Node], latches: &[LatchAt], states: &[State], signal: u
     requires settled { IsSettled nodes.now states.now }
     requires endless { slice_get states.now signal ≡ Some State.Endless }
     ensures endless { IsEndless latches.now states.now result }
-    ensures reached { (n : NetView) → IsGraphOf n (record { nodes = nodes.now; latches = latches.now }) → Reaches (circuit_of n) signal (latch_in latches.now result).out.0 }
+    ensures reached { (n : NetView) (bits : List Bool) → IsGraphOf n (record { nodes = nodes.now; latches = latches.now; skipped = bits }) → Reaches (circuit_of n) signal (latch_in latches.now result).out.0 }
 {
     let mut at = signal;
     'back: loop {
@@ -197,6 +197,13 @@ fn none_passed(alloc: Global, count: usize) -> Result<Vec<bool>, NoMemory>
     Ok(passed)
 }
 
+fn signal_of(latches: &[LatchAt], latch: u32) -> u32
+    requires { latch < length latches.now }
+    ensures { result ≡ (latch_in latches.now latch).out.0 }
+{
+    latches[latch as usize].out.0
+}
+
 /// The latch that the latch waits for.
 fn next_latch(nodes: &[Node], latches: &[LatchAt], states: &[State], latch: u32) -> u32
     requires nodes { AreNodes nodes.now latches.now }
@@ -205,8 +212,10 @@ fn next_latch(nodes: &[Node], latches: &[LatchAt], states: &[State], latch: u32)
     ensures endless { IsEndless latches.now states.now result }
     ensures takes { TakesOver nodes.now latches.now latch result }
 {
-    let next = latches[latch as usize].next;
-    latch_behind(nodes, latches, states, next.0)
+    let own = signal_of(latches, latch);
+    let node = &nodes[own as usize];
+    let read = endless_read(node, states);
+    latch_behind(nodes, latches, states, read)
 }
 
 /// The place of the number.

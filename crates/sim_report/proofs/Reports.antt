@@ -6,7 +6,9 @@ use Rattle.std.proofs.lemmas.List.Elements.{All-map}
 use Rattle.std.proofs.lemmas.Option.{slice_get_within}
 use Rattle.sec_base.specs.Table.{AreDistinct}
 use Rattle.flat_net.specs.declared.parts.Port.{Port}
-use Rattle.flat_net.specs.View.{NetView}
+use Rattle.circuit_theory.specs.declared.Mode.{Mode}
+use Rattle.circuit_theory.specs.Agree.{EnabledIn}
+use Rattle.flat_net.specs.View.{NetView, circuit_of}
 use Rattle.flat_net.specs.Sound.{IsSound}
 use Rattle.flat_net.proofs.Nets.{some_at}
 use Rattle.cycle_sim.proofs.Runs.{run_exists, one_run}
@@ -33,8 +35,8 @@ same_bits true false l r = sym (r.1 (l.0 refl))
 same_bits false true l r = l.1 (r.0 refl)
 
 -- what is right of one cycle is one
-same_shown : (n : NetView) (t : ℕ) (run : ℕ → ℕ → Bool) (a b : Shown) → IsShown n t run a → IsShown n t run b → a ≡ b
-same_shown n t run a b l r =
+same_shown : (n : NetView) (enabled : ℕ → Type 0) (t : ℕ) (run : ℕ → ℕ → Bool) (a b : Shown) → IsShown n enabled t run a → IsShown n enabled t run b → a ≡ b
+same_shown n enabled t run a b l r =
     let values : a.values ≡ b.values = l.values ∙ sym r.values in
     let marks : a.marks ≡ b.marks =
     same_places a.marks b.marks (l.each ∙ sym r.each)
@@ -59,9 +61,9 @@ module _ (n : NetView) (sound : IsSound n) (names : List (List ℕ)) (rows : Lis
       one_run n sound (power_of n power) (map (reordered columns.0) rows) run other (fed n names rows columns.0 columns.1 wide (power_of n power) run first) (fed n names rows columns.0 columns.1 wide (power_of n power) other second)
       t p (subst (λ k. t < k) (sym (length-map rows (reordered columns.0))) early) within
 
-  pub one_report : (text other : List ℕ) → IsSimReport n names rows power text → IsSimReport n names rows power other → text ≡ other
-  one_report text other first second =
+  pub one_report : (mode : Mode) (text other : List ℕ) → IsSimReport mode n names rows power text → IsSimReport mode n names rows power other → text ≡ other
+  one_report mode text other first second =
       let run = simulation_exists in
       let cycles : first.cycles ≡ second.cycles =
-      same_places first.cycles second.cycles (first.each ∙ sym second.each) (λ t a b at_a at_b. same_shown n t run.0 a b (first.shown run.0 run.1 t a at_a) (second.shown run.0 run.1 t b at_b)) in
+      same_places first.cycles second.cycles (first.each ∙ sym second.each) (λ t a b at_a at_b. same_shown n (EnabledIn mode (circuit_of n)) t run.0 a b (first.shown run.0 run.1 t a at_a) (second.shown run.0 run.1 t b at_b)) in
       first.text_is ∙ (ap (sim_text (map (λ (p : Port). p.name) n.outputs)) cycles ∙ sym second.text_is)

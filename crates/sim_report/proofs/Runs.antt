@@ -21,6 +21,9 @@ use Rattle.sim_report.specs.declared.refusal.Misfit.TheVariants as misfit
 use Rattle.sim_report.specs.Checks.{input_names, is_power, power_of, named_misfit, first_misfit}
 use Rattle.sim_report.specs.Report.{cycle_lines, IsSimulated, IsSimReport}
 use Rattle.sim_report.specs.Cycles.{AreColumns, PutsCycles, reordered}
+use Rattle.latch_cone.specs.Cones.{MarksEnabled}
+use Rattle.circuit_theory.specs.declared.Mode.{Mode}
+use Rattle.sim_report.proofs.Lines.{shown_in_mode}
 use Rattle.sim_report.proofs.Names.{missing_none}
 
 -- the columns of a stimulus whose rows have one bit for each name
@@ -74,13 +77,13 @@ module _ (n : NetView) (names : List (List ℕ)) (rows : List (List Bool)) (colu
   columns_within t row below = λ k c here. column_within t (get_or rows t row) k (get_or columns k c) (slice_get-get_or rows t row below) (slice_get-get_or columns k c here)
 
   -- the lines behind the outputs' names are the report
-  pub report_is : (power : Option (List ℕ)) (head text : List ℕ) → head ≡ codes "outputs" ++ names_text (map (λ (p : Port). p.name) n.outputs) ++ 10 ∷ [] →
-      PutsCycles n (power_of n power) (map (reordered columns) rows) head text → IsSimReport n names rows power text
-  report_is power head text begins put = record {
+  pub report_is : (mode : Mode) (enabled : List Bool) → MarksEnabled mode n enabled → (power : Option (List ℕ)) (head text : List ℕ) → head ≡ codes "outputs" ++ names_text (map (λ (p : Port). p.name) n.outputs) ++ 10 ∷ [] →
+      PutsCycles n enabled (power_of n power) (map (reordered columns) rows) head text → IsSimReport mode n names rows power text
+  report_is mode enabled marks power head text begins put = record {
     cycles = put.cycles;
     each = put.each ∙ length-map rows (reordered columns);
     text_is = put.text_is ∙ ap (λ (x : List ℕ). x ++ cycle_lines 0 put.cycles) begins;
-    shown = λ run s t shown at. put.shown run (fed (power_of n power) run s) t shown at;
+    shown = λ run s t shown at. shown_in_mode n mode enabled marks t run shown (put.shown run (fed (power_of n power) run s) t shown at);
   }
 
 -- neither is there

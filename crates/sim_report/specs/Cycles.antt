@@ -3,7 +3,8 @@ use Rattle.std.specs.Prelude.{◌≡◌, ℕ, ◌-◌, Bool, false, List, ◌++�
 use Rattle.flat_net.specs.declared.parts.Port.{Port}
 use Rattle.flat_net.specs.View.{NetView}
 use Rattle.cycle_sim.specs.Runs.{IsRunFrom}
-use Rattle.cycle_sim.specs.View.{SimView, IsLatest, IsMark}
+use Rattle.latch_cone.specs.Cones.{IsMarkedBy}
+use Rattle.cycle_sim.specs.View.{SimView, MarkedView, IsLatest, IsLatestMark}
 use Rattle.sim_report.specs.Report.{Shown, cycle_line, cycle_lines, IsShown}
 
 -- for each input the column of its name
@@ -21,20 +22,21 @@ pub record AreLatest (s : SimView) (bits : List Bool) : Type 0 where
   pub right : (i : ℕ) (port : Port) (bit : Bool) → slice_get s.net.outputs i ≡ Some port → slice_get bits i ≡ Some bit → IsLatest s port.signal.0 bit
 
 -- the bits are the marks of the outputs in the latest cycle
-pub record AreMarks (s : SimView) (bits : List Bool) : Type 0 where
-  pub each : length bits ≡ length s.net.outputs
-  pub right : (i : ℕ) (port : Port) (bit : Bool) → slice_get s.net.outputs i ≡ Some port → slice_get bits i ≡ Some bit → IsMark s.net (s.cycles - 1) port.signal.0 bit
+pub record AreMarks (m : MarkedView) (bits : List Bool) : Type 0 where
+  pub each : length bits ≡ length m.sim.net.outputs
+  pub right : (i : ℕ) (port : Port) (bit : Bool) → slice_get m.sim.net.outputs i ≡ Some port → slice_get bits i ≡ Some bit → IsLatestMark m port.signal.0 bit
 
 -- a line of the latest cycle is put behind the text
-pub record PutsLatest (s : SimView) (old new : List ℕ) : Type 0 where
+pub record PutsLatest (m : MarkedView) (old new : List ℕ) : Type 0 where
   pub shown : Shown
-  pub values : AreLatest s shown.values
-  pub marks : AreMarks s shown.marks
-  pub text_is : new ≡ old ++ cycle_line (s.cycles - 1) shown
+  pub values : AreLatest m.sim shown.values
+  pub marks : AreMarks m shown.marks
+  pub text_is : new ≡ old ++ cycle_line (m.sim.cycles - 1) shown
 
--- the lines of the cycles of the run from this power-up by these rows are put behind the text
-pub record PutsCycles (n : NetView) (power : List Bool) (rows : List (List Bool)) (old new : List ℕ) : Type 0 where
+-- the lines of the cycles of the run from this power-up by these rows are put behind the text, where the latches whose bits are
+-- set count as enabled
+pub record PutsCycles (n : NetView) (enabled power : List Bool) (rows : List (List Bool)) (old new : List ℕ) : Type 0 where
   pub cycles : List Shown
   pub each : length cycles ≡ length rows
   pub text_is : new ≡ old ++ cycle_lines 0 cycles
-  pub shown : (run : ℕ → ℕ → Bool) → IsRunFrom n power rows run → (t : ℕ) (shown : Shown) → slice_get cycles t ≡ Some shown → IsShown n t run shown
+  pub shown : (run : ℕ → ℕ → Bool) → IsRunFrom n power rows run → (t : ℕ) (shown : Shown) → slice_get cycles t ≡ Some shown → IsShown n (IsMarkedBy n.latches enabled) t run shown

@@ -2,9 +2,9 @@
 use Rattle.std.specs.Prelude.{◌≡◌, ℕ, ◌+◌, ◌↔◌, Bool, true, List, [], ◌∷◌, ◌++◌, map, length, codes, slice_get, Some, Option}
 use Rattle.std.specs.Fmt.{decimal}
 use Rattle.std.specs.List.{Contains}
-use Rattle.circuit_theory.specs.declared.Mode.TheVariants.{Plain}
-use Rattle.circuit_theory.specs.Run.{IsRun}
-use Rattle.circuit_theory.specs.Agree.{IsSettled}
+use Rattle.circuit_theory.specs.declared.Mode.{Mode}
+use Rattle.circuit_theory.specs.Run.{IsRun, Marked}
+use Rattle.circuit_theory.specs.Agree.{EnabledIn}
 use Rattle.flat_net.specs.declared.parts.Port.{Port}
 use Rattle.flat_net.specs.View.{NetView, circuit_of}
 use Rattle.witness_report.specs.Text.{names_text, row_text}
@@ -36,15 +36,15 @@ pub record IsSimulated (n : NetView) (names : List (List ℕ)) (rows : List (Lis
   pub takes : (t k : ℕ) (row : List Bool) (bit : Bool) (port : Port) → slice_get rows t ≡ Some row → slice_get row k ≡ Some bit → Contains n.inputs port → slice_get names k ≡ Some port.name → run t port.signal.0 ≡ bit
 
 -- What is shown of a cycle is right: in each such run the values of the outputs, in their order, and each mark is 1 exactly where
--- the output is settled.
-pub record IsShown (n : NetView) (t : ℕ) (run : ℕ → ℕ → Bool) (shown : Shown) : Type 0 where
+-- the output is settled, with these latches as the enabled ones.
+pub record IsShown (n : NetView) (enabled : ℕ → Type 0) (t : ℕ) (run : ℕ → ℕ → Bool) (shown : Shown) : Type 0 where
   pub values : shown.values ≡ map (λ port. run t port.signal.0) n.outputs
   pub each : length shown.marks ≡ length n.outputs
-  pub marks : (i : ℕ) (port : Port) (mark : Bool) → slice_get n.outputs i ≡ Some port → slice_get shown.marks i ≡ Some mark → (mark ≡ true) ↔ IsSettled Plain (circuit_of n) run t port.signal.0
+  pub marks : (i : ℕ) (port : Port) (mark : Bool) → slice_get n.outputs i ≡ Some port → slice_get shown.marks i ≡ Some mark → (mark ≡ true) ↔ Marked (circuit_of n) enabled run t port.signal.0
 
--- The text is the report of the net's run over the stimulus from the power word.
-pub record IsSimReport (n : NetView) (names : List (List ℕ)) (rows : List (List Bool)) (power : Option (List ℕ)) (text : List ℕ) : Type 0 where
+-- The text is the report of the net's run over the stimulus from the power word, with the marks of the mode.
+pub record IsSimReport (mode : Mode) (n : NetView) (names : List (List ℕ)) (rows : List (List Bool)) (power : Option (List ℕ)) (text : List ℕ) : Type 0 where
   pub cycles : List Shown
   pub each : length cycles ≡ length rows
   pub text_is : text ≡ sim_text (map (λ (p : Port). p.name) n.outputs) cycles
-  pub shown : (run : ℕ → ℕ → Bool) → IsSimulated n names rows (power_of n power) run → (t : ℕ) (shown : Shown) → slice_get cycles t ≡ Some shown → IsShown n t run shown
+  pub shown : (run : ℕ → ℕ → Bool) → IsSimulated n names rows (power_of n power) run → (t : ℕ) (shown : Shown) → slice_get cycles t ≡ Some shown → IsShown n (EnabledIn mode (circuit_of n)) t run shown

@@ -1,14 +1,14 @@
 //! The cycles of a simulation.
 
-ghost use Rattle.std.specs.Prelude.{◌≡◌, ◌+◌, ◌^◌, ◌<◌, false, ℕ, Bool, List, [], ◌∷◌, ◌++◌, length, map, replicate, All, IfOk, OnOk};
-ghost use Rattle.cycle_sim.specs.View.{HasRun};
+ghost use Rattle.std.specs.Prelude.{◌≡◌, ◌+◌, ◌^◌, ◌<◌, ℕ, Bool, List, [], ◌∷◌, ◌++◌, length, map, All, IfOk, OnOk};
+ghost use Rattle.cycle_sim.specs.View.{HasMarkedRun};
 ghost use Rattle.sim_report.specs.Cycles.{AreLatest, AreMarks, PutsLatest, PutsCycles, reordered};
 
 use crate::columns::reorder;
 use crate::writing::put_cycle;
 use cycle_sim::{MarkedSim, Power};
 use flat_net::Net;
-use sec_base::{Bits, NoMemory, Seq};
+use sec_base::{Bits, NoMemory};
 use std::alloc::Global;
 
 /// The values of the outputs, of which there are so many, in the latest cycle.
@@ -28,7 +28,7 @@ fn latest_values(alloc: Global, sim: &MarkedSim<'_>, count: u32) -> Result<Vec<b
 fn latest_marks(alloc: Global, sim: &MarkedSim<'_>, count: u32) -> Result<Vec<bool>, NoMemory>
     requires count { count ≡ length sim.now.sim.net.outputs }
     requires begun { 0 < sim.now.sim.cycles }
-    ensures { IfOk result (λ bits. AreMarks sim.now.sim bits.items) }
+    ensures { IfOk result (λ bits. AreMarks sim.now bits.items) }
 {
     let mut bits = Vec::new(alloc);
     for i in 0..count {
@@ -50,9 +50,10 @@ fn put_next(
     requires width { length inputs.now ≡ length sim.old.sim.net.inputs }
     requires room { sim.old.sim.cycles + 1 < 2 ^ 32 }
     ensures net { sim.new.sim.net ≡ sim.old.sim.net }
+    ensures enabled { sim.new.enabled ≡ sim.old.enabled }
     ensures cycles { sim.new.sim.cycles ≡ sim.old.sim.cycles + 1 }
-    ensures run { (power : List Bool) (rows : List (List Bool)) → HasRun sim.old.sim power rows → HasRun sim.new.sim power (rows ++ inputs.now ∷ []) }
-    ensures put { OnOk result (PutsLatest sim.new.sim text.old.items text.new.items) }
+    ensures run { (power : List Bool) (rows : List (List Bool)) → HasMarkedRun sim.old power rows → HasMarkedRun sim.new power (rows ++ inputs.now ∷ []) }
+    ensures put { OnOk result (PutsLatest sim.new text.old.items text.new.items) }
 {
     sim.step(inputs);
     let values = latest_values(alloc, sim, outputs)?;
@@ -66,35 +67,29 @@ fn put_next(
     )
 }
 
-/// So many bits, none of them set.
-fn unset(alloc: Global, count: usize) -> Result<Bits, NoMemory>
-    ensures { IfOk result (λ bits. bits ≡ replicate count false) }
-{
-    Ok(Seq::from_vec(vec![in alloc; false; count]?))
-}
-
 /// Puts a line for each cycle of the net's run from the power-up, where the bits of its inputs stand in these columns of
-/// the rows. A net with 2^32 outputs or more answers `NoMemory`.
+/// the rows, and the latches whose bits are set count as enabled. A net with 2^32 outputs or more answers `NoMemory`.
 pub(crate) fn put_cycles(
     alloc: Global,
     text: &mut Vec<u8>,
     net: &Net,
     power: Bits,
+    enabled: &Bits,
     columns: &[u32],
     rows: &[Bits],
 ) -> Result<(), NoMemory>
     requires power { length power ≡ length net.now.latches }
+    requires enabled { length enabled.now ≡ length net.now.latches }
     requires columns { length columns.now ≡ length net.now.inputs }
     requires within { All (λ row. All (λ k. k < length row) columns.now) rows.now }
     requires few { length rows.now < 2 ^ 32 }
-    ensures { OnOk result (PutsCycles net.now power (map (reordered columns.now) rows.now) text.old.items text.new.items) }
+    ensures { OnOk result (PutsCycles net.now enabled.now power (map (reordered columns.now) rows.now) text.old.items text.new.items) }
 {
     let Ok(outputs) = u32::try_from(net.outputs().len()) else {
         return Err(NoMemory);
     };
-    let enabled = unset(alloc, net.latches().len())?;
     let power = Power::Given(power);
-    let mut sim = MarkedSim::new(alloc, net, &power, &enabled)?;
+    let mut sim = MarkedSim::new(alloc, net, &power, enabled)?;
     let mut bits = vec![in alloc; false; columns.len()]?;
     for row in rows {
         reorder(row.as_slice(), columns, &mut bits);

@@ -1,6 +1,7 @@
 //! What holds of every simulation. The function does nothing: its contract is a law.
 
 ghost use Rattle.std.specs.Prelude.{◌≡◌, ◌<◌, ℕ, Bool, List, Option, None, length};
+ghost use Rattle.circuit_theory.specs.declared.Mode.{Mode};
 ghost use Rattle.sim_report.specs.Checks.{first_misfit, power_of};
 ghost use Rattle.sim_report.specs.Report.{IsSimulated, IsSimReport};
 
@@ -14,8 +15,8 @@ pub fn has_simulation(net: &Net, stimulus: &Stimulus)
     ensures one { (power : Option (List ℕ)) (run other : ℕ → ℕ → Bool) → first_misfit net.now stimulus.now.names power ≡ None →
         IsSimulated net.now stimulus.now.names stimulus.now.rows (power_of net.now power) run → IsSimulated net.now stimulus.now.names stimulus.now.rows (power_of net.now power) other →
         (t p : ℕ) → t < length stimulus.now.rows → p < length net.now.drivers → other t p ≡ run t p }
-    ensures report { (power : Option (List ℕ)) (text other : List ℕ) → first_misfit net.now stimulus.now.names power ≡ None →
-        IsSimReport net.now stimulus.now.names stimulus.now.rows power text → IsSimReport net.now stimulus.now.names stimulus.now.rows power other → text ≡ other }
+    ensures report { (mode : Mode) (power : Option (List ℕ)) (text other : List ℕ) → first_misfit net.now stimulus.now.names power ≡ None →
+        IsSimReport mode net.now stimulus.now.names stimulus.now.rows power text → IsSimReport mode net.now stimulus.now.names stimulus.now.rows power other → text ≡ other }
 {
     net.keeps();
     let _ = &stimulus.rows;

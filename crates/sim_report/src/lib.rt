@@ -10,5 +10,5 @@ mod report;
 mod writing;
 
 pub use laws::has_simulation;
-pub use refusal::{Misfit, SimError};
-pub use report::sim_report;
+pub use refusal::Misfit;
+pub use report::{misfit_of, sim_report};

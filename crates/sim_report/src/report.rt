@@ -1,57 +1,69 @@
 //! The report of a simulation.
 
-ghost use Rattle.std.specs.Prelude.{◌≡◌, ◌^◌, ◌<◌, None, Some, length, option_map, IfOk, OnOk, IsErrOf};
-ghost use Rattle.sim_report.specs.declared.refusal.Misfit.{Misfit};
+ghost use Rattle.std.specs.Prelude.{◌≡◌, ◌^◌, ◌<◌, None, length, option_map, IfOk};
+ghost use Rattle.circuit_theory.specs.declared.Mode.{Mode};
+ghost use Rattle.latch_cone.specs.Cones.{MarksEnabled};
 ghost use Rattle.sim_report.specs.Checks.{first_misfit};
 ghost use Rattle.sim_report.specs.Report.{IsSimReport};
 
 use crate::checks::{first_misfit, power_of, table_of_names};
 use crate::columns::columns_of;
 use crate::cycles::put_cycles;
-use crate::refusal::SimError;
+use crate::refusal::Misfit;
 use crate::writing::put_ports;
 use flat_net::Net;
-use sec_base::{NameTable, NoMemory, Seq, Text, put};
+use sec_base::{Bits, NameTable, NoMemory, Seq, Text, put};
 use std::alloc::Global;
 use witness_report::Stimulus;
 
-/// The report of a net's run over a stimulus: a line `outputs` with their names, then for each cycle a line with the
-/// values of the outputs and their marks, each line ended by a line feed. The latches power up with the digits of the
-/// power word, in the net's order of latches, and with 0 where there is none.
-///
-/// `Misfit` comes exactly where the header isn't the net's inputs, in any order, or the power word hasn't one digit for
-/// each latch; it names the first that doesn't fit. A net with 2^32 outputs or more answers `NoMemory`.
+/// The first that doesn't fit the net: a name of the header that is no input, an input that the header lacks, or a power word that
+/// hasn't one digit for each latch. None exactly where all fits.
+pub fn misfit_of(
+    alloc: Global,
+    net: &Net,
+    stimulus: &Stimulus,
+    power: Option<&[u8]>,
+) -> Result<Option<Misfit>, NoMemory>
+    ensures { IfOk result (λ misfit. misfit ≡ first_misfit net.now stimulus.now.names (option_map (λ word. word.now) power.entry)) }
+{
+    let names = table_of_names(alloc, &stimulus.names)?;
+    first_misfit(alloc, net, &names, power)
+}
+
+/// The report of a net's run over a stimulus that fits it: a line `outputs` with their names, then for each cycle a line with the
+/// values of the outputs and their marks, each line ended by a line feed. The latches power up with the digits of the power word,
+/// in the net's order of latches, and with 0 where there is none. The latches whose bits are set count as enabled; the marks are
+/// those of each mode whose enabled latches are exactly these. A net with 2^32 outputs or more answers want of memory.
 pub fn sim_report(
     alloc: Global,
     net: &Net,
     stimulus: &Stimulus,
     power: Option<&[u8]>,
-) -> Result<Text, SimError>
-    requires { length stimulus.now.rows < 2 ^ 32 }
-    ensures ok { IfOk result (λ text. IsSimReport net.now stimulus.now.names stimulus.now.rows (option_map (λ word. word.now) power.entry) text) }
-    ensures fits { OnOk result (first_misfit net.now stimulus.now.names (option_map (λ word. word.now) power.entry) ≡ None) }
-    ensures misfit { (m : Misfit) → IsErrOf result (SimError.Misfit m) → first_misfit net.now stimulus.now.names (option_map (λ word. word.now) power.entry) ≡ Some m }
+    enabled: &Bits,
+) -> Result<Text, NoMemory>
+    requires few { length stimulus.now.rows < 2 ^ 32 }
+    requires enabled { length enabled.now ≡ length net.now.latches }
+    requires fits { first_misfit net.now stimulus.now.names (option_map (λ word. word.now) power) ≡ None }
+    ensures { (mode : Mode) → MarksEnabled mode net.now enabled.now → IfOk result (λ text. IsSimReport mode net.now stimulus.now.names stimulus.now.rows (option_map (λ word. word.now) power.entry) text) }
 {
     let names = table_of_names(alloc, &stimulus.names)?;
-    if let Some(misfit) = first_misfit(alloc, net, &names, power)? {
-        return Err(SimError::Misfit(misfit));
-    }
-    let text = fitting_report(alloc, net, stimulus, &names, power)?;
-    Ok(text)
+    fitting_report(alloc, net, stimulus, &names, power, enabled)
 }
 
-/// The report, where nothing is a misfit. The table is that of the stimulus' names.
+/// The report. The table is that of the stimulus' names.
 fn fitting_report(
     alloc: Global,
     net: &Net,
     stimulus: &Stimulus,
     names: &NameTable,
     power: Option<&[u8]>,
+    enabled: &Bits,
 ) -> Result<Text, NoMemory>
     requires few { length stimulus.now.rows < 2 ^ 32 }
     requires table { names.now ≡ stimulus.now.names }
+    requires enabled { length enabled.now ≡ length net.now.latches }
     requires fits { first_misfit net.now stimulus.now.names (option_map (λ word. word.now) power) ≡ None }
-    ensures { IfOk result (λ text. IsSimReport net.now stimulus.now.names stimulus.now.rows (option_map (λ word. word.now) power.entry) text) }
+    ensures { (mode : Mode) → MarksEnabled mode net.now enabled.now → IfOk result (λ text. IsSimReport mode net.now stimulus.now.names stimulus.now.rows (option_map (λ word. word.now) power.entry) text) }
 {
     let columns = columns_of(alloc, net, names)?;
     let bits = power_of(alloc, net, power)?;
@@ -64,6 +76,7 @@ fn fitting_report(
         &mut text,
         net,
         bits,
+        enabled,
         columns.as_slice(),
         stimulus.rows.as_slice(),
     )?;

@@ -32,11 +32,11 @@ loop-gate-preserved c =
     let below : gate.out.0 < length c.loop-gate.marks = omega (arith, within, c.loop-gate.auto.marks, c.requires) in
     let value : c.are_marked-settled.result ≡ list_all (λ (f : Signal). get_or c.loop-gate.marks f.0 false) gate.fanins =
     c.are_marked-settled.ensures ∙ ap (list_all (λ (f : Signal). get_or c.loop-gate.marks f.0 false)) c.as_slice.ensures in
-    λ t inputs latches.
-    gates_marked_more net c.keeps.ensures.sound c.loop-gate.marks c.loop-gate.gate-index gate c.are_marked-settled.result at below value t (c.loop-gate.invariant t inputs latches)
+    λ enabled run t inputs latches.
+    gates_marked_more net c.keeps.ensures.sound enabled run t c.loop-gate.marks c.loop-gate.gate-index gate c.are_marked-settled.result at below value (c.loop-gate.invariant enabled run t inputs latches)
 
 pub returns-clause-put : goal.returns-clause-put
-returns-clause-put c = λ t inputs latches.
-    let have = c.loop-gate.invariant t inputs latches in
-    all_driven c.args.net.now c.keeps.ensures.sound (λ s. HasMark c.args.net.now t c.loop-gate.marks s s) have.inputs have.latches
+returns-clause-put c = λ enabled run t inputs latches.
+    let have = c.loop-gate.invariant enabled run t inputs latches in
+    all_driven c.args.net.now c.keeps.ensures.sound (λ s. HasMark c.args.net.now enabled run t c.loop-gate.marks s s) have.inputs have.latches
     (λ k g h at. have.gates k g (let w = slice_get_within c.args.net.now.gates k g at in let e = ap length c.gates-gate-items.ensures in omega (arith, w, e)) at)

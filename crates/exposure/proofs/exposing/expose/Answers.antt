@@ -19,11 +19,11 @@ pick-requires-clause-right_once c =
     right_once c.args.a.now c.args.b.now c.args.left.now c.args.right.now c.requires.left_graph c.requires.right_graph c.in_ok-common.common c.in_ok-common.ensures
 
 pub returns-in-Ok : goal.returns-in-Ok
-returns-in-Ok c =
+returns-in-Ok c = λ mode in_a in_b.
     let pairs = c.as_slice.ensures in
     let places = c.as_slice-in-Ok.ensures in
     let made = c.in_ok-exposure_at-in-Ok.ensures in
-    exposed c.args.a.now c.args.b.now c.args.left.now c.args.right.now c.requires.left_graph c.requires.right_graph c.in_ok-common.common c.in_ok-common.ensures c.in-Ok.places c.in-Ok.ensures.minimal
+    exposed c.args.a.now c.args.b.now c.args.left.now c.args.right.now c.requires.left_graph c.requires.right_graph c.in_ok-common.common c.in_ok-common.ensures mode in_a in_b c.in-Ok.places c.in-Ok.ensures.minimal
     c.chosen_is_minimal_cut.ensures c.in-Ok.ensures.left_paired c.in-Ok.ensures.right_paired c.in_ok-exposure_at-in-Ok.field-0
     (made.left ∙ ap (λ (ps : List LatchPair). at_places (lefts ps) c.as_slice-in-Ok.result.now) pairs ∙ ap (at_places (lefts c.in_ok-common.common)) places)
     (made.right ∙ ap (λ (ps : List LatchPair). at_places (rights ps) c.as_slice-in-Ok.result.now) pairs ∙ ap (at_places (rights c.in_ok-common.common)) places)
@@ -37,7 +37,7 @@ refuses ga gb left right error side side' ids is same refused =
     subst (Refuses ga gb left right) (is ∙ ap (λ (s : Side). pick_error.Unpaired s ids) same) refused
 
 pub returns-in-Err-Unpaired-A-default : goal.returns-in-Err-Unpaired-A-default
-returns-in-Err-Unpaired-A-default c =
+returns-in-Err-Unpaired-A-default c = λ mode in_a in_b.
     let a = c.args.a.now in
     let b = c.args.b.now in
     let ga = c.args.left.now in
@@ -45,12 +45,12 @@ returns-in-Err-Unpaired-A-default c =
     let pairs = c.in_ok-common.common in
     let arm = c.in-Err-Unpaired-A-default in
     let refused = refuses ga gb (lefts pairs) (rights pairs) arm.field-0 arm.field-0-0 A arm.cycle arm.field-0-is arm.field-0-0-is arm.ensures.unpaired in
-    told_cycle a ga c.requires.left_graph (lefts pairs) arm.cycle refused (common_names (circuit_of a) (circuit_of b)) c.in_ok-names_at-in-Err-Unpaired-A-default.field-0
+    told_cycle mode a ga in_a (lefts pairs) arm.cycle refused (common_names (circuit_of a) (circuit_of b)) c.in_ok-names_at-in-Err-Unpaired-A-default.field-0
     (left_common a b ga gb c.requires.left_graph c.requires.right_graph pairs c.in_ok-common.ensures)
     (c.in_ok-names_at-in-Err-Unpaired-A-default.ensures ∙ ap (exposed_names a) c.as_slice-in-Err-Unpaired-A-default.ensures)
 
 pub returns-in-Err-Unpaired-B-default : goal.returns-in-Err-Unpaired-B-default
-returns-in-Err-Unpaired-B-default c =
+returns-in-Err-Unpaired-B-default c = λ mode in_a in_b.
     let a = c.args.a.now in
     let b = c.args.b.now in
     let ga = c.args.left.now in
@@ -58,8 +58,8 @@ returns-in-Err-Unpaired-B-default c =
     let pairs = c.in_ok-common.common in
     let arm = c.in-Err-Unpaired-B-default in
     let refused = refuses ga gb (lefts pairs) (rights pairs) arm.field-0 arm.field-0-0 B arm.cycle arm.field-0-is arm.field-0-0-is arm.ensures.unpaired in (
-      left_free a b ga gb c.requires.left_graph c.requires.right_graph pairs c.in_ok-common.ensures refused.0,
-      told_cycle b gb c.requires.right_graph (rights pairs) arm.cycle refused.1 (common_names (circuit_of a) (circuit_of b)) c.in_ok-names_at-in-Err-Unpaired-B-default.field-0
+      left_free a b ga gb c.requires.left_graph c.requires.right_graph pairs c.in_ok-common.ensures mode in_a refused.0,
+      told_cycle mode b gb in_b (rights pairs) arm.cycle refused.1 (common_names (circuit_of a) (circuit_of b)) c.in_ok-names_at-in-Err-Unpaired-B-default.field-0
           (right_common a b ga gb c.requires.left_graph c.requires.right_graph pairs c.in_ok-common.ensures)
           (c.in_ok-names_at-in-Err-Unpaired-B-default.ensures ∙ ap (exposed_names b) c.as_slice-in-Err-Unpaired-B-default.ensures),
     )

@@ -1,8 +1,9 @@
-use Rattle.std.proofs.Common.{map, take}
-use Rattle.flat_net.specs.View.{circuit_of}
-use Rattle.graph_report.specs.Report.{latch_signal, latch_line}
-use Rattle.graph_report.specs.Puts.{PutsLines}
+use Rattle.std.proofs.Common.{take}
+use Rattle.circuit_theory.specs.declared.Mode.{Mode}
+use Rattle.latch_cone.specs.Kinds.{AreKindsIn}
+use Rattle.latch_graph.specs.Graph.{IsGraphIn}
+use Rattle.graph_report.specs.Puts.{PutsLatches}
 use Rattle.graph_report.proofs.report.put_latches.Given as goal
 
-abbrev pub invariant-loop-latch : goal.invariant-loop-latch
-invariant-loop-latch l = PutsLines (circuit_of l.net) (map latch_signal (take l.latch-index l.net.latches)) latch_line l.initial.text.items l.text.items
+abbrev pub invariant-loop-j : goal.invariant-loop-j
+invariant-loop-j l = (mode : Mode) → IsGraphIn mode l.net l.graph → AreKindsIn mode l.net l.kinds → PutsLatches mode l.net (take l.j l.net.latches) l.initial.text.items l.text.items

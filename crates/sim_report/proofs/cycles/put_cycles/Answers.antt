@@ -3,7 +3,7 @@ use Rattle.std.proofs.Common.{◌≡◌, ◌∙◌, ◌+◌, ◌++◌, ◌∷◌
 use Rattle.std.specs.Vec.{with_items}
 use Rattle.std.proofs.lemmas.List.{with_items_is, map-append, length-map}
 use Rattle.sec_base.proofs.TableLemmas.{take-push}
-use Rattle.cycle_sim.specs.View.{HasRun}
+use Rattle.cycle_sim.specs.View.{HasMarkedRun}
 use Rattle.cycle_sim.proofs.Lists.{item_at}
 use Rattle.sim_report.specs.Cycles.{reordered}
 use Rattle.sim_report.proofs.Lines.{IsAt, at_more}
@@ -23,9 +23,9 @@ loop-row-preserved c =
     let fed : c.deref.result.now ≡ reordered columns row = c.deref.ensures.value ∙ (written ∙ bits) in
     let more : map (reordered columns) (take i rows) ++ reordered columns row ∷ [] ≡ map (reordered columns) (take (i + 1) rows) =
     sym (map-append (reordered columns) (take i rows) (row ∷ [])) ∙ ap (map (reordered columns)) (take-push rows i row at) in
-    let next = at_more n c.args.power (map (reordered columns) (take i rows)) (reordered columns row) c.loop-row.sim.sim c.put_next.new.sim.sim c.args.text.now.items c.loop-row.text.items c.put_next.new.text.items
-    c.loop-row.invariant.0 c.put_next.ensures.net
-    (λ power before h. subst (λ (r : List Bool). HasRun c.put_next.new.sim.sim power (before ++ r ∷ [])) fed (c.put_next.ensures.run power before h)) c.in_ok-put_next.ensures.put in (
-      subst (λ (done : List (List Bool)). IsAt n c.args.power done c.put_next.new.sim.sim c.args.text.now.items c.put_next.new.text.items) more next,
+    let next = at_more n c.args.enabled.now c.args.power (map (reordered columns) (take i rows)) (reordered columns row) c.loop-row.sim c.put_next.new.sim c.args.text.now.items c.loop-row.text.items c.put_next.new.text.items
+    c.loop-row.invariant.0 c.put_next.ensures.net c.put_next.ensures.enabled
+    (λ power before h. subst (λ (r : List Bool). HasMarkedRun c.put_next.new.sim power (before ++ r ∷ [])) fed (c.put_next.ensures.run power before h)) c.in_ok-put_next.ensures.put in (
+      subst (λ (done : List (List Bool)). IsAt n c.args.enabled.now c.args.power done c.put_next.new.sim c.args.text.now.items c.put_next.new.text.items) more next,
       ap length (written ∙ bits) ∙ length-map columns _,
     )

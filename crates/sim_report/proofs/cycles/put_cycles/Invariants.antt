@@ -4,4 +4,4 @@ use Rattle.sim_report.proofs.Lines.{IsAt}
 use Rattle.sim_report.proofs.cycles.put_cycles.Given as goal
 
 abbrev pub invariant-loop-row : goal.invariant-loop-row
-invariant-loop-row l = IsAt l.net l.fn.power (map (reordered l.columns) (take l.row-index l.rows)) l.sim.sim l.initial.text.items l.text.items × (length l.bits.items ≡ length l.columns)
+invariant-loop-row l = IsAt l.net l.enabled l.fn.power (map (reordered l.columns) (take l.row-index l.rows)) l.sim l.initial.text.items l.text.items × (length l.bits.items ≡ length l.columns)

@@ -12,6 +12,6 @@ returns-clause-put c =
     on_ok c.put_cycle.result (λ put. record {
       shown = record { values = c.as_slice.result.now; marks = c.as_slice-2.result.now };
       values = subst (λ (bits : List Bool). AreLatest c.step.new.self.sim bits) (sym c.as_slice.ensures.value) c.in_ok-values.ensures;
-      marks = subst (λ (bits : List Bool). AreMarks c.step.new.self.sim bits) (sym c.as_slice-2.ensures.value) c.in_ok-marks.ensures;
+      marks = subst (λ (bits : List Bool). AreMarks c.step.new.self bits) (sym c.as_slice-2.ensures.value) c.in_ok-marks.ensures;
       text_is = put ∙ ap (λ k. c.args.text.now.items ++ cycle_line (k - 1) (record { values = c.as_slice.result.now; marks = c.as_slice-2.result.now })) c.cycles.ensures;
     }) c.put_cycle.ensures

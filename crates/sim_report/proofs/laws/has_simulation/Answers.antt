@@ -9,5 +9,5 @@ returns-clause-one c = λ power run other fits first second t p early within.
     one_simulation c.args.net.now c.keeps.ensures.sound c.args.stimulus.now.names c.args.stimulus.now.rows c.args.stimulus.now.distinct c.args.stimulus.now.fit power fits run other first second t p early within
 
 pub returns-clause-report : goal.returns-clause-report
-returns-clause-report c = λ power text other fits first second.
-    one_report c.args.net.now c.keeps.ensures.sound c.args.stimulus.now.names c.args.stimulus.now.rows c.args.stimulus.now.distinct c.args.stimulus.now.fit power fits text other first second
+returns-clause-report c = λ mode power text other fits first second.
+    one_report c.args.net.now c.keeps.ensures.sound c.args.stimulus.now.names c.args.stimulus.now.rows c.args.stimulus.now.distinct c.args.stimulus.now.fit power fits mode text other first second

@@ -17,7 +17,7 @@ put_cycles-requires-clause-within c =
     (columns_within c.args.net.now s.names s.rows c.in_ok-columns.columns.items are s.fit))
 
 pub returns : goal.returns
-returns c =
+returns c = λ mode enabled.
     let n = c.args.net.now in
     let s = c.args.stimulus.now in
     let columns = c.in_ok-columns.columns.items in
@@ -26,7 +26,7 @@ returns c =
     c.in_ok-put-2.ensures.ok ∙ ap (λ (t : List ℕ). t ++ 10 ∷ []) (c.in_ok-put_ports.ensures
     ∙ (ap (λ (ports : List Port). c.put.new.text.items ++ names_text (map (λ (p : Port). p.name) ports)) c.outputs.ensures
     ∙ ap (λ (t : List ℕ). t ++ names_text (map (λ (p : Port). p.name) n.outputs)) (c.in_ok-put.ensures.ok ∙ ap (λ (t : List ℕ). t ++ codes "outputs") c.new-text.ensures.items))) in
-    let put = subst (λ (bits : List Bool). PutsCycles n bits (map (reordered columns) s.rows) c.put-2.new.text.items c.put_cycles.new.text.items) c.in_ok-bits.ensures
-    (subst (λ (k : List ℕ). PutsCycles n c.in_ok-bits.bits (map (reordered k) s.rows) c.put-2.new.text.items c.put_cycles.new.text.items) c.as_slice.ensures.value
-    (subst (λ (rows : List (List Bool)). PutsCycles n c.in_ok-bits.bits (map (reordered c.as_slice.result.now) rows) c.put-2.new.text.items c.put_cycles.new.text.items) c.as_slice-2.ensures c.in_ok-put_cycles.ensures)) in
-    subst (IsSimReport n s.names s.rows _) (sym c.from_vec.ensures) (report_is n s.names s.rows columns are s.fit _ c.put-2.new.text.items c.put_cycles.new.text.items begins put)
+    let put = subst (λ (bits : List Bool). PutsCycles n c.args.enabled.now bits (map (reordered columns) s.rows) c.put-2.new.text.items c.put_cycles.new.text.items) c.in_ok-bits.ensures
+    (subst (λ (k : List ℕ). PutsCycles n c.args.enabled.now c.in_ok-bits.bits (map (reordered k) s.rows) c.put-2.new.text.items c.put_cycles.new.text.items) c.as_slice.ensures.value
+    (subst (λ (rows : List (List Bool)). PutsCycles n c.args.enabled.now c.in_ok-bits.bits (map (reordered c.as_slice.result.now) rows) c.put-2.new.text.items c.put_cycles.new.text.items) c.as_slice-2.ensures c.in_ok-put_cycles.ensures)) in
+    subst (IsSimReport mode n s.names s.rows _) (sym c.from_vec.ensures) (report_is n s.names s.rows columns are s.fit mode c.args.enabled.now enabled _ c.put-2.new.text.items c.put_cycles.new.text.items begins put)
