@@ -166,12 +166,10 @@ fn put_difference(
         }
     }
     put(out, b" with the values")?;
-    for lit in [sides.left, sides.right, sides.care] {
-        if !value_of(alloc, sketch, lit, bits, out)? {
-            return Ok(false);
-        }
-    }
-    Ok(true)
+    let left = value_of(alloc, sketch, sides.left, bits, out)?;
+    let right = value_of(alloc, sketch, sides.right, bits, out)?;
+    let care = value_of(alloc, sketch, sides.care, bits, out)?;
+    Ok(left && right && care)
 }
 
 /// Puts whether a sweep with at most so many conflicts as the third word says gives both sides one literal.

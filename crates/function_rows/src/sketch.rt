@@ -31,9 +31,10 @@ impl Sketch {
     pub(crate) fn literal(&self, word: &[u8]) -> Option<Lit>
         ensures { IfSome result (λ l. l.0 < 2 * length self.now.graph) }
     {
-        let plain = word.strip_prefix(b"~".as_slice());
-        let lit = self.plain_literal(plain.unwrap_or(word))?;
-        Some(if plain.is_some() { Aig::not(lit) } else { lit })
+        match word.strip_prefix(b"~".as_slice()) {
+            Some(plain) => Some(Aig::not(self.plain_literal(plain)?)),
+            None => self.plain_literal(word),
+        }
     }
 
     fn plain_literal(&self, word: &[u8]) -> Option<Lit>
@@ -132,8 +133,8 @@ impl Sketch {
             return Ok(None);
         };
         let mut all = Some(Lit(1));
-        for variable in (0..count).rev() {
-            all = self.and_variable(all, variable, false)?;
+        for behind in 0..count {
+            all = self.and_variable(all, count - 1 - behind, false)?;
         }
         Ok(all)
     }
