@@ -1,4 +1,4 @@
--- One latch and two in a row agree where the input is always 1, and two differ from the constant 0 by a sequence that is 1 throughout:
+-- One latch and two in a sent agree where the input is always 1, and two differ from the constant 0 by a sequence that is 1 throughout:
 -- the premises of the laws are met.
 use Rattle.std.proofs.Common.{◌≡◌, ℕ, zero, suc, ◌<◌, Bool, true, false, List, [], ◌∷◌, refl, sym, ◌∙◌, ap, subst, arith, inl, inr}
 use Rattle.std.specs.Prelude.{◌⊎◌, ◌==◌, codes}
@@ -29,17 +29,17 @@ unfolding cover_value
 same_bit true = refl
 same_bit false = refl
 
--- a row meets it where a is 1
-pub row_meets : (row : ℕ → Bool) → row 0 ≡ true → RowMeets only_a row
-row_meets row e v values inputs =
+-- a sent meets it where a is 1
+pub row_meets : (sent : ℕ → Bool) → sent 0 ≡ true → RowMeets only_a sent
+row_meets sent e v values inputs =
     All-head (Holds v) (Gate 1 (0 ∷ []) buffer) [] values ∙ (same_bit (v 0) ∙ (inputs 0 0 (inl (refl, refl)) ∙ e))
 
 -- and only there
-pub meets_row : (row : ℕ → Bool) → RowMeets only_a row → row 0 ≡ true
-meets_row row meets = meets (λ p. row 0) (All-cons (Holds (λ p. row 0)) (Gate 1 (0 ∷ []) buffer) [] (sym (same_bit (row 0))) (All-nil (Holds (λ p. row 0)))) number
+pub meets_row : (sent : ℕ → Bool) → RowMeets only_a sent → sent 0 ≡ true
+meets_row sent meets = meets (λ p. sent 0) (All-cons (Holds (λ p. sent 0)) (Gate 1 (0 ∷ []) buffer) [] (sym (same_bit (sent 0))) (All-nil (Holds (λ p. sent 0)))) number
   where
-    number : (p i : ℕ) → ((0 ≡ p) × (0 ≡ i)) ⊎ ⊥ → row 0 ≡ row i
-    number p i (inl h) = ap row h.1
+    number : (p i : ℕ) → ((0 ≡ p) × (0 ≡ i)) ⊎ ⊥ → sent 0 ≡ sent i
+    number p i (inl h) = ap sent h.1
     number p i (inr h) = absurd h
 
 pub reads_a : (c : Circuit ℕ) → c.inputs ≡ record { name = codes "a"; place = 0 } ∷ [] → ReadsInputs only_a c (0 ∷ [])

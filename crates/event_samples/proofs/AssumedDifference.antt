@@ -36,16 +36,16 @@ unfolding cover_value
 same_bit true = refl
 same_bit false = refl
 
--- a row meets it where a is 1
-row_meets : (row : ℕ → Bool) → row 0 ≡ true → RowMeets one_always row
-row_meets row e v values inputs = All-head (Holds v) (Gate 1 (0 ∷ []) same_cover) [] values ∙ (same_bit (v 0) ∙ (inputs 0 0 (inl (refl, refl)) ∙ e))
+-- a sent meets it where a is 1
+row_meets : (sent : ℕ → Bool) → sent 0 ≡ true → RowMeets one_always sent
+row_meets sent e v values inputs = All-head (Holds v) (Gate 1 (0 ∷ []) same_cover) [] values ∙ (same_bit (v 0) ∙ (inputs 0 0 (inl (refl, refl)) ∙ e))
 
 -- and only there
-meets_row : (row : ℕ → Bool) → RowMeets one_always row → row 0 ≡ true
-meets_row row meets = meets (λ p. row 0) (All-cons (Holds (λ p. row 0)) (Gate 1 (0 ∷ []) same_cover) [] (sym (same_bit (row 0))) (All-nil (Holds (λ p. row 0)))) number
+meets_row : (sent : ℕ → Bool) → RowMeets one_always sent → sent 0 ≡ true
+meets_row sent meets = meets (λ p. sent 0) (All-cons (Holds (λ p. sent 0)) (Gate 1 (0 ∷ []) same_cover) [] (sym (same_bit (sent 0))) (All-nil (Holds (λ p. sent 0)))) number
   where
-    number : (p i : ℕ) → ((0 ≡ p) × (0 ≡ i)) ⊎ ⊥ → row 0 ≡ row i
-    number p i (inl h) = ap row h.1
+    number : (p i : ℕ) → ((0 ≡ p) × (0 ≡ i)) ⊎ ⊥ → sent 0 ≡ sent i
+    number p i (inl h) = ap sent h.1
     number p i (inr h) = absurd h
 
 -- a node with a variable of the pair is that of the one variable
@@ -175,7 +175,7 @@ meeting_difference = record {
     low zero h d = d.differs (same_bit false)
     low (suc m) h d = omega arith
 
--- and one that no row meets
+-- and one that no sent meets
 pub never_unfolds : PlaceUnfolds {L = ℕ} never.circuit never.order 0 never.output (Branch nothing_cover Nil)
 never_unfolds = PlaceUnfolds.gate {fanins = []} (0, omega arith, refl) PlaceUnfoldsAll.none
 

@@ -54,12 +54,12 @@ unfolding cover_value
 same_bit true = refl
 same_bit false = refl
 
--- a row meets it only where a is 1
-meets_row : (row : ℕ → Bool) → RowMeets a_is_one row → row 2 ≡ true
-meets_row row meets = meets (λ p. row 2) (All-cons (Holds (λ p. row 2)) (Gate 1 (0 ∷ []) same_cover) [] (sym (same_bit (row 2))) (All-nil (Holds (λ p. row 2)))) number
+-- a sent meets it only where a is 1
+meets_row : (sent : ℕ → Bool) → RowMeets a_is_one sent → sent 2 ≡ true
+meets_row sent meets = meets (λ p. sent 2) (All-cons (Holds (λ p. sent 2)) (Gate 1 (0 ∷ []) same_cover) [] (sym (same_bit (sent 2))) (All-nil (Holds (λ p. sent 2)))) number
   where
-    number : (p i : ℕ) → ((0 ≡ p) × (2 ≡ i)) ⊎ ⊥ → row 2 ≡ row i
-    number p i (inl h) = ap row h.1
+    number : (p i : ℕ) → ((0 ≡ p) × (2 ≡ i)) ⊎ ⊥ → sent 2 ≡ sent i
+    number p i (inl h) = ap sent h.1
     number p i (inr h) = absurd h
 
 -- a is an input of the opened circuits, of number 2
