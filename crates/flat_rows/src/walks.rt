@@ -34,13 +34,18 @@ pub(crate) fn put_walk(alloc: Global, out: &mut Vec<u8>, design: &Design) -> Res
     }
 }
 
-/// Puts the fault of drivers and clocks.
-pub(crate) fn put_wires(alloc: Global, out: &mut Vec<u8>, design: &Design) -> Result<(), NoMemory> {
-    let Ok(flat) = walk(alloc, design) else {
-        return put(out, b" no walk");
-    };
-    match wire(alloc, &flat) {
+/// Puts the fault of the walk's drivers and clocks.
+fn put_wire_fault(alloc: Global, out: &mut Vec<u8>, flat: &Flat) -> Result<(), NoMemory> {
+    match wire(alloc, flat) {
         Ok(_) => put(out, b" none"),
         Err(error) => put_fault(out, &error),
+    }
+}
+
+/// Puts the fault of drivers and clocks.
+pub(crate) fn put_wires(alloc: Global, out: &mut Vec<u8>, design: &Design) -> Result<(), NoMemory> {
+    match walk(alloc, design) {
+        Ok(flat) => put_wire_fault(alloc, out, &flat),
+        Err(_) => put(out, b" no walk"),
     }
 }

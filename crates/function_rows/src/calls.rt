@@ -11,6 +11,45 @@ use sec_base::{NoMemory, put, put_number};
 use std::alloc::Global;
 use std::simd::u64x8;
 
+/// What a row calls.
+#[derive(Clone, Copy)]
+enum Asked {
+    Literals,
+    Size,
+    Cone,
+    Value,
+    Table,
+    Signatures,
+    AndBlock,
+    Encode,
+    Decide,
+    Sweep,
+}
+
+/// The name of each call.
+const NAMES: [(&[u8], Asked); 10] = [
+    (b"literals", Asked::Literals),
+    (b"size", Asked::Size),
+    (b"cone", Asked::Cone),
+    (b"value", Asked::Value),
+    (b"table_differs", Asked::Table),
+    (b"signatures", Asked::Signatures),
+    (b"and_block", Asked::AndBlock),
+    (b"encode", Asked::Encode),
+    (b"decide", Asked::Decide),
+    (b"sweep", Asked::Sweep),
+];
+
+/// The call of this name.
+fn asked_of(name: &[u8]) -> Option<Asked> {
+    for (spelled, asked) in NAMES {
+        if name == spelled {
+            return Some(asked);
+        }
+    }
+    None
+}
+
 /// Puts the answer of the call that the words spell. False where they spell none on this graph.
 pub(crate) fn call(
     alloc: Global,
@@ -21,18 +60,30 @@ pub(crate) fn call(
     let Some((name, given)) = words.split_first() else {
         return Ok(false);
     };
-    match *name {
-        b"literals" => put_literals(alloc, sketch, out),
-        b"size" => put_size(alloc, sketch, out),
-        b"cone" => put_cone(alloc, sketch, given, out),
-        b"value" => put_value(alloc, sketch, given, out),
-        b"table_differs" => put_table(alloc, sketch, given, out),
-        b"signatures" => put_signatures(alloc, sketch, given, out),
-        b"and_block" => put_and_block(alloc, given, out),
-        b"encode" => put_clauses(alloc, sketch, given, out),
-        b"decide" => put_decision(alloc, sketch, given, out),
-        b"sweep" => put_swept(alloc, sketch, given, out),
-        _ => Ok(false),
+    match asked_of(name) {
+        Some(asked) => put_answer(alloc, sketch, asked, given, out),
+        None => Ok(false),
+    }
+}
+
+fn put_answer(
+    alloc: Global,
+    sketch: &Sketch,
+    asked: Asked,
+    given: &[&[u8]],
+    out: &mut Vec<u8>,
+) -> Result<bool, NoMemory> {
+    match asked {
+        Asked::Literals => put_literals(alloc, sketch, out),
+        Asked::Size => put_size(alloc, sketch, out),
+        Asked::Cone => put_cone(alloc, sketch, given, out),
+        Asked::Value => put_value(alloc, sketch, given, out),
+        Asked::Table => put_table(alloc, sketch, given, out),
+        Asked::Signatures => put_signatures(alloc, sketch, given, out),
+        Asked::AndBlock => put_and_block(alloc, given, out),
+        Asked::Encode => put_clauses(alloc, sketch, given, out),
+        Asked::Decide => put_decision(alloc, sketch, given, out),
+        Asked::Sweep => put_swept(alloc, sketch, given, out),
     }
 }
 

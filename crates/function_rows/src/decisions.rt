@@ -11,6 +11,7 @@ use aig::{Aig, Lit, Lits};
 use cnf_encode::{Cnf, encode};
 use lane_eval::table_differs;
 use pair_decide::{Decision, Query, SameBy, decide};
+use proof_check::Literal;
 use sec_base::{Ids, NoMemory, put, put_number};
 use std::alloc::Global;
 use sweep::{Swept, sweep};
@@ -91,14 +92,54 @@ fn put_cnf(alloc: Global, cnf: &Cnf, out: &mut Vec<u8>) -> Result<(), NoMemory> 
         put_word(alloc, out, u64::from(*node))?;
     }
     for clause in cnf.clauses.as_slice() {
-        put(out, b" (")?;
-        for literal in clause.as_slice() {
-            put(out, if literal.is_positive() { b" " } else { b" -" })?;
-            put_number(alloc, out, u64::from(literal.variable()))?;
-        }
-        put(out, b" )")?;
+        put_literals(alloc, clause.as_slice(), out)?;
     }
     Ok(())
+}
+
+/// Puts the literals of a clause.
+fn put_literals(alloc: Global, literals: &[Literal], out: &mut Vec<u8>) -> Result<(), NoMemory> {
+    put(out, b" (")?;
+    for literal in literals {
+        put(out, if literal.is_positive() { b" " } else { b" -" })?;
+        put_number(alloc, out, u64::from(literal.variable()))?;
+    }
+    put(out, b" )")
+}
+
+/// The number of conflicts that the word at a place spells.
+fn conflicts_at(given: &[&[u8]], place: usize) -> Option<u32>
+    ensures { IfSome result (λ conflicts. conflicts ≤ 200000) }
+{
+    let conflicts = number_of(given.get(place)?)?;
+    if conflicts <= 200_000 {
+        Some(conflicts as u32)
+    } else {
+        None
+    }
+}
+
+/// The decision of the query over all variables.
+fn decision_of(
+    alloc: Global,
+    sketch: &Sketch,
+    sides: Sides,
+    conflicts: u32,
+) -> Result<Decision, NoMemory>
+    requires left { sides.left.0 < 2 * length sketch.now.graph }
+    requires right { sides.right.0 < 2 * length sketch.now.graph }
+    requires care { sides.care.0 < 2 * length sketch.now.graph }
+    requires conflicts { conflicts ≤ 200000 }
+{
+    let Sides { left, right, care } = sides;
+    let vars = all_vars(alloc, &sketch.graph)?;
+    let query = Query {
+        left,
+        right,
+        care,
+        vars,
+    };
+    decide(alloc, &sketch.graph, &query, conflicts)
 }
 
 /// Puts the decision of the query over all variables, with at most so many conflicts as the fourth word says.
@@ -111,40 +152,29 @@ pub(crate) fn put_decision(
     let Some(sides) = sides_of(sketch, given) else {
         return Ok(false);
     };
-    let Some(conflicts) = given.get(3).and_then(|word| number_of(word)) else {
+    let Some(conflicts) = conflicts_at(given, 3) else {
         return Ok(false);
     };
-    if conflicts > 200_000 {
-        return Ok(false);
+    match decision_of(alloc, sketch, sides, conflicts)? {
+        Decision::Same(by) => put_same(&by, out),
+        Decision::Differs(bits) => put_difference(alloc, sketch, sides, bits.as_slice(), out),
+        Decision::Limit(proof) => put_limit(alloc, proof.log.len(), out),
     }
-    let Sides { left, right, care } = sides;
-    let vars = all_vars(alloc, &sketch.graph)?;
-    let query = Query {
-        left,
-        right,
-        care,
-        vars,
-    };
-    let decision = decide(alloc, &sketch.graph, &query, conflicts as u32)?;
-    match &decision {
-        Decision::Same(by) => put_same(by, out)?,
-        Decision::Differs(bits) => {
-            return put_difference(alloc, sketch, sides, bits.as_slice(), out);
-        }
-        Decision::Limit(proof) => {
-            put(out, b" limit, chains")?;
-            put_word(alloc, out, proof.log.len() as u64)?;
-        }
+}
+
+fn put_same(by: &SameBy, out: &mut Vec<u8>) -> Result<bool, NoMemory> {
+    match by {
+        SameBy::Literal => put(out, b" same by the literal")?,
+        SameBy::Table => put(out, b" same by the table")?,
+        SameBy::Refuted(_) => put(out, b" same by a refutation")?,
     }
     Ok(true)
 }
 
-fn put_same(by: &SameBy, out: &mut Vec<u8>) -> Result<(), NoMemory> {
-    match by {
-        SameBy::Literal => put(out, b" same by the literal"),
-        SameBy::Table => put(out, b" same by the table"),
-        SameBy::Refuted(_) => put(out, b" same by a refutation"),
-    }
+fn put_limit(alloc: Global, chains: usize, out: &mut Vec<u8>) -> Result<bool, NoMemory> {
+    put(out, b" limit, chains")?;
+    put_word(alloc, out, chains as u64)?;
+    Ok(true)
 }
 
 /// Puts the bits of a difference, where they are few, and the values of both sides and of the care under them.
@@ -185,27 +215,34 @@ pub(crate) fn put_swept(
     let (Some(left), Some(right)) = (sketch.literal(first), sketch.literal(second)) else {
         return Ok(false);
     };
-    let Some(conflicts) = given.get(2).and_then(|word| number_of(word)) else {
+    let Some(conflicts) = conflicts_at(given, 2) else {
         return Ok(false);
     };
-    if conflicts > 200_000 {
-        return Ok(false);
+    if are_merged(alloc, &sketch.graph, left, right, conflicts)? {
+        put(out, b" one literal")?;
+    } else {
+        put(out, b" two literals")?;
     }
+    Ok(true)
+}
+
+/// Whether a sweep gives both sides one literal.
+fn are_merged(
+    alloc: Global,
+    graph: &Aig,
+    left: Lit,
+    right: Lit,
+    conflicts: u32,
+) -> Result<bool, NoMemory>
+    requires left { left.0 < 2 * length graph.now }
+    requires right { right.0 < 2 * length graph.now }
+{
     let mut roots = Lits::new(alloc);
     roots.push(left)?;
     roots.push(right)?;
-    let swept = sweep_of(alloc, &sketch.graph, &roots, conflicts as u32)?;
+    let swept = sweep_of(alloc, graph, &roots, conflicts)?;
     let lits = swept.lits.as_slice();
-    let one = lits.first() == lits.get(1);
-    put(
-        out,
-        if one {
-            b" one literal"
-        } else {
-            b" two literals"
-        },
-    )?;
-    Ok(true)
+    Ok(lits.first() == lits.get(1))
 }
 
 /// The sweep with 512 assignments that a generator gives.

@@ -44,13 +44,28 @@ fn put_cycles(alloc: Global, told: &mut Vec<u8>, net: &Net, rows: &str) -> Resul
     let enabled = unset(alloc, net.latches().len())?;
     let mut marked = MarkedSim::new(alloc, net, &Power::Ones, &enabled)?;
     for row in rows.split_whitespace() {
-        let inputs = bits_of(alloc, row)?;
-        if inputs.len() != net.inputs().len() || marked.cycles() > 1_000 {
-            return Err(Fault::Row);
-        }
-        marked.step(inputs.as_slice());
-        put_outputs(told, net, &marked)?;
+        put_cycle(alloc, told, net, &mut marked, row)?;
     }
+    Ok(())
+}
+
+/// Takes one cycle over the row, and puts the values and the marks of the outputs in it.
+fn put_cycle(
+    alloc: Global,
+    told: &mut Vec<u8>,
+    net: &Net,
+    marked: &mut MarkedSim<'_>,
+    row: &str,
+) -> Result<(), Fault>
+    requires { marked.old.sim.net ≡ net.now }
+    ensures { marked.new.sim.net ≡ marked.old.sim.net }
+{
+    let inputs = bits_of(alloc, row)?;
+    if inputs.len() != net.inputs().len() || marked.cycles() > 1_000 {
+        return Err(Fault::Row);
+    }
+    marked.step(inputs.as_slice());
+    put_outputs(told, net, marked)?;
     Ok(())
 }
 
@@ -60,12 +75,18 @@ fn put_outputs(told: &mut Vec<u8>, net: &Net, marked: &MarkedSim<'_>) -> Result<
     requires begun { 0 < marked.now.sim.cycles }
 {
     put(told, b"values ")?;
-    for i in 0..net.outputs().len() {
-        put_bit(told, marked.output(i as u32))?;
+    for (place, _) in net.outputs().iter().enumerate() {
+        let Ok(output) = u32::try_from(place) else {
+            break;
+        };
+        put_bit(told, marked.output(output))?;
     }
     put(told, b" marks ")?;
-    for i in 0..net.outputs().len() {
-        put_bit(told, marked.mark(i as u32))?;
+    for (place, _) in net.outputs().iter().enumerate() {
+        let Ok(output) = u32::try_from(place) else {
+            break;
+        };
+        put_bit(told, marked.mark(output))?;
     }
     put(told, b"\n")
 }
