@@ -16,8 +16,11 @@ use Rattle.flat_net.specs.View.{NetView, circuit_of, ports_of}
 use Rattle.flatten.specs.DesignFaults.{IsSoundDesign, IsFlatOf}
 use Rattle.exposure.specs.Common.{common_names}
 use Rattle.sec_run.specs.Answer.{AreComparable}
-use Rattle.sec_check.specs.Compared.{InterfacesMatch, AreBroken, AreTooLarge}
-use Rattle.sec_check.specs.Fitting.{IsChoice, IsCutOver}
+use Rattle.sec_setup.specs.Matching.{InterfacesMatch}
+use Rattle.sec_setup.specs.Cycles.{AreBroken}
+use Rattle.sec_check.specs.Compared.{AreTooLarge}
+use Rattle.sec_setup.specs.Cuts.{IsChoice}
+use Rattle.sec_check.specs.Fitting.{IsCutOver}
 use Rattle.sec_files.specs.Loading.{IsAccepted, Loads}
 use Rattle.premise_rows.specs.OneText.{CanBeUnfolded}
 use Rattle.design_rows.specs.Small.{Small, IsSmall, AreSmall}

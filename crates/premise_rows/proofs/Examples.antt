@@ -16,8 +16,10 @@ use Rattle.flat_net.specs.View.{NetView, circuit_of}
 use Rattle.flatten.specs.DesignFaults.{IsFlatOf}
 use Rattle.blif_read.specs.declared.design.BlifModel.{BlifModel}
 use Rattle.exposure.specs.Common.{common_names}
-use Rattle.sec_check.specs.Compared.{AreBroken, AreTooLarge}
-use Rattle.sec_check.specs.Fitting.{IsChoice, IsCutOver}
+use Rattle.sec_setup.specs.Cycles.{AreBroken}
+use Rattle.sec_check.specs.Compared.{AreTooLarge}
+use Rattle.sec_setup.specs.Cuts.{IsChoice}
+use Rattle.sec_check.specs.Fitting.{IsCutOver}
 use Rattle.sec_files.specs.Loading.{Loads}
 use Rattle.design_rows.specs.Designs as design
 use Rattle.design_rows.specs.Small.{small_and, small_late, small_early, small_two, small_toggle, small_idle, IsSmall}

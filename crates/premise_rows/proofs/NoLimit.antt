@@ -22,9 +22,9 @@ use Rattle.flat_net.specs.View.{NetView, named, circuit_of, ports_of}
 use Rattle.flat_net.proofs.CutNets.{few_distinct}
 use Rattle.pair_decide.specs.declared.query.Proof.{Proof}
 use Rattle.sec_words.specs.declared.settings.Settings.{Settings}
-use Rattle.sec_check.specs.Fitting.{IsChoice, columns_of}
-use Rattle.sec_check.proofs.CutNets.{same_as_cut, cut_numbers}
-use Rattle.sec_check.proofs.SameEquations.{same_tree}
+use Rattle.sec_setup.specs.Cuts.{IsChoice, columns_of}
+use Rattle.sec_setup.proofs.CutNets.{same_as_cut, cut_numbers}
+use Rattle.sec_setup.proofs.SameEquations.{same_tree}
 use Rattle.sec_run.specs.Answer.{TextsUndecided}
 use Rattle.design_rows.specs.Designs as design
 use Rattle.design_rows.specs.Small.{Small, small_and, IsSmall}

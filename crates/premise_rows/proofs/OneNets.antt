@@ -26,8 +26,10 @@ use Rattle.flatten.specs.OneNet.{AreOneNet}
 use Rattle.exposure.specs.Common.{common_names}
 use Rattle.exposure.specs.Exposed.{IsToldCycle}
 use Rattle.design_laws.proofs.KeptNames.{latch_names_are}
-use Rattle.sec_check.specs.Compared.{AreBroken, AreTooLarge}
-use Rattle.sec_check.specs.Fitting.{IsChoice, StandInOrder, cut_outputs, IsCutOver, IsCutLight}
+use Rattle.sec_setup.specs.Cycles.{AreBroken}
+use Rattle.sec_check.specs.Compared.{AreTooLarge}
+use Rattle.sec_setup.specs.Cuts.{IsChoice, StandInOrder}
+use Rattle.sec_check.specs.Fitting.{cut_outputs, IsCutOver, IsCutLight}
 use Rattle.premise_rows.specs.TextNets.{OneNetIsEnough, ToldCyclesAreOne}
 
 names_of_rows : {P : Type 0} (es : List (Equation P)) → latch_names es ≡ latch_names (latch_rows es)

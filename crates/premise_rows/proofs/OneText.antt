@@ -48,12 +48,16 @@ use Rattle.sec_outcome.specs.declared.outcome.Why.TheVariants as why
 use Rattle.sec_outcome.specs.declared.outcome.Outcome.{Outcome}
 use Rattle.sec_words.specs.declared.settings.Settings.{Settings}
 use Rattle.plain_form.specs.Laws.{HaveOneTree}
-use Rattle.plain_form.specs.Outcome.{NamedPair, named_pairs, HaveDifferentFunctions, AnswerFits, PairFits, VerdictFits}
-use Rattle.sec_check.specs.Compared.{IsCompared, AreBroken, AreTooLarge}
-use Rattle.sec_check.specs.Fitting.{IsChoice, IsCutOver, columns_of, is_cut, OutcomeFits}
-use Rattle.sec_check.proofs.CutNets.{same_as_cut, cut_numbers}
-use Rattle.sec_check.proofs.CutPairs.{IsOutputPair, IsNextPair, one_output, listed_is}
-use Rattle.sec_check.proofs.SameEquations.{same_tree}
+use Rattle.sec_setup.specs.Pairs.{NamedPair, named_pairs}
+use Rattle.plain_form.specs.Outcome.{HaveDifferentFunctions, AnswerFits, PairFits, VerdictFits}
+use Rattle.sec_setup.specs.Cycles.{AreBroken}
+use Rattle.sec_check.specs.Compared.{IsCompared, AreTooLarge}
+use Rattle.sec_setup.specs.Cuts.{IsChoice, columns_of, is_cut}
+use Rattle.sec_check.specs.Fitting.{IsCutOver, OutcomeFits}
+use Rattle.sec_setup.proofs.CutNets.{same_as_cut, cut_numbers}
+use Rattle.sec_setup.specs.Pairing.{IsOutputPair, IsNextPair}
+use Rattle.sec_check.proofs.CutPairs.{one_output, listed_is}
+use Rattle.sec_setup.proofs.SameEquations.{same_tree}
 use Rattle.sec_files.specs.Loading.{Loads}
 use Rattle.premise_rows.specs.OneText.{OneTextIsEqual, CanBeUnfolded, UnfoldedIsComparable}
 

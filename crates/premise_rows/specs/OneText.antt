@@ -4,7 +4,7 @@ use Rattle.flat_net.specs.View.{NetView, circuit_of}
 use Rattle.sec_words.specs.declared.settings.Settings.{Settings}
 use Rattle.sec_outcome.specs.declared.outcome.Verdict.TheVariants as verdict
 use Rattle.sec_outcome.specs.declared.outcome.Outcome.{Outcome}
-use Rattle.plain_form.specs.Formed.{IsAcyclic}
+use Rattle.sec_setup.specs.Cycles.{IsAcyclic}
 use Rattle.sec_check.specs.Compared.{IsCompared}
 use Rattle.sec_check.specs.Fitting.{IsCutOver}
 use Rattle.sec_files.specs.Loading.{IsAccepted, Loads}

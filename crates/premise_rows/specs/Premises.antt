@@ -1,7 +1,7 @@
 -- Texts that meet the premises of what is promised of comparisons, latch graphs and simulations.
 use Rattle.std.specs.Prelude.{ℕ, ◌≤◌, Bool, true, List, length}
 use Rattle.flat_net.specs.View.{NetView}
-use Rattle.sec_check.specs.Fitting.{IsChoice}
+use Rattle.sec_setup.specs.Cuts.{IsChoice}
 use Rattle.sec_run.specs.Answer.{AreComparable}
 use Rattle.sec_files.specs.Loading.{IsAccepted, Loads}
 use Rattle.premise_rows.specs.OneText.{CanBeUnfolded}

@@ -4,7 +4,9 @@ use Rattle.circuit_theory.specs.declared.Side.{Side}
 use Rattle.flat_net.specs.View.{NetView}
 use Rattle.flatten.specs.OneNet.{AreOneNet}
 use Rattle.exposure.specs.Exposed.{IsToldCycle}
-use Rattle.sec_check.specs.Compared.{InterfacesMatch, AreBroken, AreTooLarge}
+use Rattle.sec_setup.specs.Matching.{InterfacesMatch}
+use Rattle.sec_setup.specs.Cycles.{AreBroken}
+use Rattle.sec_check.specs.Compared.{AreTooLarge}
 use Rattle.sec_files.specs.Loading.{Loads}
 
 -- A text loads as one net, up to the numbers of its signals.
