@@ -1,9 +1,8 @@
 -- Texts of small designs without cycles can be compared.
 use Rattle.std.specs.Prelude.{◌⊎◌}
 use Rattle.std.specs.List.{Contains}
-use Rattle.std.proofs.Common.{◌≡◌, ◌∙◌, ℕ, ◌<◌, ◌≤◌, Bool, true, false, List, [], ◌∷◌, ◌++◌, length, Option, None, refl, sym, ap, ap₂, subst, arith, inl, inr}
+use Rattle.std.proofs.Common.{◌≡◌, ◌∙◌, ℕ, ◌≤◌, Bool, true, false, List, [], ◌∷◌, ◌++◌, length, Option, None, refl, sym, ap, ap₂, subst, arith, inl, inr}
 use Rattle.circuit_theory.specs.declared.Side.{Side}
-use Rattle.circuit_theory.specs.Agree.{cut}
 use Rattle.circuit_theory.specs.Circuit.{Equation, Gate, Latch, Port}
 use Rattle.circuit_theory.specs.Flattened.{latch_names}
 use Rattle.circuit_theory.proofs.Lists.{Contains-head, Contains-tail, Contains-cases}

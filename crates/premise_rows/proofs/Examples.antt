@@ -1,13 +1,12 @@
 -- The worked texts are small designs' texts, and what can be done with them.
-use Rattle.std.proofs.Common.{◌≡◌, ◌∙◌, ℕ, ◌<◌, Bool, true, false, List, [], ◌∷◌, ◌++◌, length, filter, None, refl, sym, ap, ap₂, subst, arith, inl, inr}
-use Rattle.std.specs.Prelude.{codes, ◌⊎◌}
+use Rattle.std.proofs.Common.{◌≡◌, ℕ, true, List, [], ◌∷◌, filter, refl, sym, ap, ap₂, subst, arith, inl, inr}
+use Rattle.std.specs.Prelude.{codes}
 use Rattle.std.specs.List.{Contains}
 use Rattle.circuit_theory.specs.declared.Side.{Side}
 use Rattle.circuit_theory.specs.Names.{is_among}
 use Rattle.circuit_theory.specs.Depth.{HasCycle}
 use Rattle.circuit_theory.specs.Run.{NoneEnabled}
-use Rattle.circuit_theory.specs.Circuit.{Equation, Gate, Latch, Port}
-use Rattle.circuit_theory.specs.Flattened.{latch_names}
+use Rattle.circuit_theory.specs.Circuit.{Latch}
 use Rattle.circuit_theory.proofs.Lists.{Contains-head, Contains-tail, Contains-cases}
 use Rattle.blif_lines.specs.Lines.{cut_line, going_on}
 use Rattle.blif_read.specs.Fault.{fault_of}

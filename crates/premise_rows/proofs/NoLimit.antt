@@ -1,11 +1,11 @@
 -- The functions of two ands have two variables, so that no limit is told of them.
-use Rattle.std.proofs.Common.{◌≡◌, ◌∙◌, ℕ, ◌<◌, ◌≤◌, Bool, List, [], ◌∷◌, ◌++◌, map, length, get_or, slice_get, Option, Some, refl, sym, ap, ap₂, subst, arith, inl, inr}
+use Rattle.std.proofs.Common.{◌≡◌, ◌∙◌, ℕ, ◌<◌, ◌≤◌, List, [], ◌∷◌, ◌++◌, map, length, get_or, slice_get, Option, Some, refl, sym, ap, ap₂, subst, arith, inl, inr}
 use Rattle.std.specs.Prelude.{◌⊎◌, codes}
 use Rattle.std.specs.List.{AllPairs, Contains}
 use Rattle.std.proofs.lemmas.List.{length-map}
 use Rattle.std.proofs.lemmas.Option.{get_or_from_slice_get, slice_get_within}
 use Rattle.circuit_theory.specs.Agree.{cut}
-use Rattle.circuit_theory.specs.Circuit.{Circuit, Equation, Latch, Named, IsLatch}
+use Rattle.circuit_theory.specs.Circuit.{Circuit, Latch, Named, IsLatch}
 use Rattle.circuit_theory.specs.Flattened.{latch_names}
 use Rattle.circuit_theory.specs.Interface.{Ports, AreNumbersOf, shared_inputs}
 use Rattle.circuit_theory.specs.Query.{Variable, HasLeaf, ShiftBefore}
@@ -27,10 +27,10 @@ use Rattle.sec_setup.proofs.CutNets.{same_as_cut, cut_numbers}
 use Rattle.sec_setup.proofs.SameEquations.{same_tree}
 use Rattle.sec_run.specs.Answer.{TextsUndecided}
 use Rattle.design_rows.specs.Designs as design
-use Rattle.design_rows.specs.Small.{Small, small_and, IsSmall}
+use Rattle.design_rows.specs.Small.{small_and, IsSmall}
 use Rattle.premise_rows.specs.RuledOut.{AndsMeetNoLimit}
 use Rattle.premise_rows.specs.Texts.{on_and, off_and}
-use Rattle.premise_rows.proofs.Comparing.{net_is_small, latch_in, small_ports, ports_are}
+use Rattle.premise_rows.proofs.Comparing.{net_is_small, latch_in, ports_are}
 use Rattle.premise_rows.proofs.Examples.{on_and_spells, off_and_spells}
 
 none_in : {X : Type 0} (x : X) → Contains [] x → ⊥
@@ -63,8 +63,8 @@ module _ (n m : NetView) (names : List (List ℕ)) (is : IsCutCircuit names (cir
       by (inr l) = absurd (none_in name (subst (λ (ns : List (List ℕ)). Contains ns name) none l.0))
 
   leaf_is_low : (p d : ℕ) (tree : Tree ℕ) → Unfolds (circuit_of m) own p 0 d tree → (x : Variable ℕ) → HasLeaf x tree → (x.at ≡ 0) × (x.input < length columns)
-  leaf_is_low p d tree unfolds x leaf =
-      let v = leaf_visits (cut names (circuit_of n)) own p 0 x (same_tree (circuit_of m) (cut names (circuit_of n)) (same_as_cut names (circuit_of n) (circuit_of m) is) unfolds) Visits.itself leaf in
+  leaf_is_low p d tree unfolds x found =
+      let v = leaf_visits (cut names (circuit_of n)) own p 0 x (same_tree (circuit_of m) (cut names (circuit_of n)) (same_as_cut names (circuit_of n) (circuit_of m) is) unfolds) Visits.itself found in
       let k = beside_at (cut names (circuit_of n)).inputs own v.0 x.input v.1 in
       let at = at_of columns k.1.name (is_column k.1.name k.1.place (of_at (cut names (circuit_of n)).inputs k.0 k.1 k.2)) in
       let number : slice_get own k.0 ≡ Some at.0 = (cut_numbers names columns own others n m is numbers).common k.0 at.0 k.1.name (slice_get-map (λ (i : Named ℕ). i.name) (cut names (circuit_of n)).inputs k.0 k.1 k.2) at.1 in
@@ -142,16 +142,16 @@ module _ (settings : Settings) (proofs : List Proof) (before now : Option (List 
   low x h = let t = (u.undecided.are_variables.exactly x).0 h in by t.0 t.2 (Contains-cases u.undecided.left_tree t.0 (u.undecided.right_tree ∷ []) t.1)
     where
       by_right : (tree : Tree ℕ) → HasLeaf x tree → (u.undecided.right_tree ≡ tree) ⊎ Contains [] tree → (x.at ≡ 0) × (x.input < length columns)
-      by_right tree leaf (inl same) =
+      by_right tree found (inl same) =
           leaf_is_low u.right_net u.right_cut names u.are_cut.right_circuit unexposed right.latches columns u.right u.left u.right_numbers right_all u.named.right u.undecided.right_depth u.undecided.right_tree u.undecided.right_unfolds x
-          (subst (HasLeaf x) (sym same) leaf)
-      by_right tree leaf (inr none) = absurd (none_in tree none)
+          (subst (HasLeaf x) (sym same) found)
+      by_right tree found (inr none) = absurd (none_in tree none)
 
       by : (tree : Tree ℕ) → HasLeaf x tree → (u.undecided.left_tree ≡ tree) ⊎ Contains (u.undecided.right_tree ∷ []) tree → (x.at ≡ 0) × (x.input < length columns)
-      by tree leaf (inl same) =
+      by tree found (inl same) =
           leaf_is_low u.left_net u.left_cut names u.are_cut.left_circuit unexposed left.latches columns u.left u.right u.left_numbers left_all u.named.left u.undecided.left_depth u.undecided.left_tree u.undecided.left_unfolds x
-          (subst (HasLeaf x) (sym same) leaf)
-      by tree leaf (inr k) = by_right tree leaf (Contains-cases u.undecided.right_tree tree [] k)
+          (subst (HasLeaf x) (sym same) found)
+      by tree found (inr k) = by_right tree found (Contains-cases u.undecided.right_tree tree [] k)
 
   no_limit : ⊥
   no_limit =

@@ -1,12 +1,12 @@
 -- What is said of one net that a text loads as is said of all of them.
-use Rattle.std.proofs.Common.{◌≡◌, ◌∙◌, ℕ, ◌<◌, ◌≤◌, zero, suc, Bool, true, false, List, [], ◌∷◌, map, length, filter, get_or, slice_get, Option, Some, refl, sym, ap, ap₂, subst, arith, inl, inr}
-use Rattle.std.specs.Prelude.{◌↔◌, ◌≢◌, All}
+use Rattle.std.proofs.Common.{◌≡◌, ◌∙◌, ℕ, ◌<◌, zero, suc, Bool, true, false, List, [], ◌∷◌, map, length, filter, get_or, slice_get, Some, refl, sym, ap, ap₂, subst, arith, inl, inr}
+use Rattle.std.specs.Prelude.{◌≢◌, All}
 use Rattle.std.specs.List.{AllZip, Contains}
 use Rattle.std.proofs.lemmas.List.{length-map}
 use Rattle.std.proofs.lemmas.Option.{none-some, same_Some}
 use Rattle.circuit_theory.specs.declared.Side.{Side}
 use Rattle.circuit_theory.specs.Agree.{cut}
-use Rattle.circuit_theory.specs.Circuit.{Circuit, Equation, Gate, Latch, Port, Named, IsLatch}
+use Rattle.circuit_theory.specs.Circuit.{Equation, Gate, Latch, Port, Named, IsLatch}
 use Rattle.circuit_theory.specs.Joined.{moved, moved_name}
 use Rattle.circuit_theory.specs.Depth.{LatchReads, HasCycle, after_in_round}
 use Rattle.circuit_theory.specs.Flattened.{latch_names}
@@ -18,11 +18,10 @@ use Rattle.circuit_theory.specs.Sizes.{IsWeight, IsOver}
 use Rattle.circuit_theory.proofs.Lists.{Contains-cases, Contains-map_from, map-map, of_at}
 use Rattle.flat_net.specs.declared.parts.LatchAt.{LatchAt}
 use Rattle.flat_net.specs.Cut.{no_latch, exposed_names}
-use Rattle.flat_net.specs.View.{NetView, circuit_of, ports_of}
+use Rattle.flat_net.specs.View.{NetView, circuit_of}
 use Rattle.net_alike.specs.Renumbered.{latch_rows, AreRenumbered}
 use Rattle.net_alike.proofs.Carrying.{pairs_map, edge, forth, turned, cycle_carried, over_carried, weight_carried}
 use Rattle.net_alike.proofs.Cutting.{cut_carried, minimal_cuts_are_carried}
-use Rattle.flatten.specs.OneNet.{AreOneNet}
 use Rattle.exposure.specs.Common.{common_names}
 use Rattle.exposure.specs.Exposed.{IsToldCycle}
 use Rattle.design_laws.proofs.KeptNames.{latch_names_are}

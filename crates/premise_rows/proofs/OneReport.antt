@@ -1,12 +1,12 @@
 -- The reports of one text are one: depths, marks and values are carried from one of its nets to the other.
-use Rattle.std.proofs.Common.{◌≡◌, ◌∙◌, ℕ, suc, ◌≤◌, Bool, true, false, List, [], ◌∷◌, ◌++◌, map, length, replicate, slice_get, Option, Some, None, refl, sym, ap, ap₂, subst, arith}
-use Rattle.std.specs.Prelude.{All, Contains, MatchOption, codes, ◌↔◌}
+use Rattle.std.proofs.Common.{◌≡◌, ◌∙◌, ℕ, suc, Bool, true, false, List, [], ◌∷◌, ◌++◌, map, length, replicate, slice_get, Option, Some, None, refl, sym, ap, ap₂, subst, arith}
+use Rattle.std.specs.Prelude.{Contains, MatchOption, codes, ◌↔◌}
 use Rattle.std.specs.Fmt.{decimal}
 use Rattle.std.proofs.lemmas.List.{length-map}
 use Rattle.std.proofs.lemmas.List.Elements.{All-contains, Contains-append_right}
 use Rattle.circuit_theory.specs.declared.Mode.TheVariants.{Plain}
 use Rattle.circuit_theory.specs.Agree.{IsSettled}
-use Rattle.circuit_theory.specs.Circuit.{Circuit, Equation, Gate, Latch, Port, Named}
+use Rattle.circuit_theory.specs.Circuit.{Equation, Gate, Latch, Port, Named}
 use Rattle.circuit_theory.specs.Cover.{Cover}
 use Rattle.circuit_theory.specs.Depth.{IsDepth, HasNoDepth}
 use Rattle.circuit_theory.specs.Joined.{moved, moved_name}
@@ -15,16 +15,14 @@ use Rattle.circuit_theory.specs.Run.{NoneEnabled}
 use Rattle.circuit_theory.proofs.Lists.{Contains-head, Contains-tail, Contains-map, Contains-map_from, map-map, map_at, of_at}
 use Rattle.circuit_theory.proofs.Numbers.{slice_get-map}
 use Rattle.blif_read.specs.Reading.{spelled}
-use Rattle.flat_net.specs.declared.parts.Port.{Port as NetPort}
 use Rattle.flat_net.specs.declared.parts.Gate.{Gate as NetGate}
 use Rattle.flat_net.specs.declared.parts.LatchAt.{LatchAt}
 use Rattle.flat_net.specs.View.{NetView, named, equation_of_gate, equation_of_latch, circuit_of}
 use Rattle.net_alike.specs.Renumbered.{latch_rows, AreRenumbered}
 use Rattle.net_alike.proofs.Carrying.{depth_carried, no_depth_carried, run_carried, mark_carried}
-use Rattle.flatten.specs.OneNet.{AreOneNet}
 use Rattle.flatten.proofs.OneNets.{nets_are_one}
 use Rattle.graph_report.specs.Report.{Measured, IsMeasured, AreMeasured, latch_signal, latch_line, output_line, lines_text, counts_text, cycle_line, IsGraphReport}
-use Rattle.sim_report.specs.Checks.{power_of, first_misfit}
+use Rattle.sim_report.specs.Checks.{power_of}
 use Rattle.sim_report.specs.Report.{Shown, sim_text, IsSimulated, IsShown, IsSimReport}
 use Rattle.sim_report.proofs.Reports.{one_report}
 use Rattle.premise_rows.specs.OneReport.{AreOneGraph, GraphReportsAreOne, SimReportsAreOne}

@@ -1,15 +1,15 @@
 -- A text that is compared with itself is equal: both nets are one, so that each pair has one tree.
-use Rattle.std.proofs.Common.{◌≡◌, ◌≢◌, ◌∙◌, ℕ, ◌<◌, suc, Bool, true, false, true≢false, not, cond, List, [], ◌∷◌, ◌++◌, map, length, filter, get_or, slice_get, Option, Some, None, refl, sym, ap, ap₂, subst, arith, inl, inr}
+use Rattle.std.proofs.Common.{◌≡◌, ◌∙◌, ℕ, ◌<◌, Bool, true, false, true≢false, not, cond, List, [], ◌∷◌, map, length, filter, get_or, slice_get, Option, Some, None, refl, sym, ap, ap₂, subst, arith, inl, inr}
 use Rattle.std.specs.Prelude.{◌⊎◌, ◌&&◌, bytes_eq}
 use Rattle.std.specs.List.{AllZip, Contains}
-use Rattle.std.proofs.lemmas.List.{same_lists, length-map}
+use Rattle.std.proofs.lemmas.List.{same_lists}
 use Rattle.std.proofs.lemmas.List.Elements.{Contains-append_left, Contains-append_right}
-use Rattle.std.proofs.lemmas.Option.{get_or_from_slice_get, slice_get_within}
+use Rattle.std.proofs.lemmas.Option.{get_or_from_slice_get}
 use Rattle.std.proofs.lemmas.Slice.Eq.{bytes_eq-Decides}
 use Rattle.circuit_theory.specs.declared.Side.{Side}
 use Rattle.circuit_theory.specs.Names.{same_name, is_among}
 use Rattle.circuit_theory.specs.Agree.{cut}
-use Rattle.circuit_theory.specs.Circuit.{Circuit, Equation, Gate, Latch, Port, Named, IsInput, IsLatch, IsSingleDriven}
+use Rattle.circuit_theory.specs.Circuit.{Circuit, Latch, Named, IsLatch}
 use Rattle.circuit_theory.specs.Joined.{moved_name}
 use Rattle.circuit_theory.specs.Depth.{HasCycle}
 use Rattle.circuit_theory.specs.Interface.{Ports, AreNumbersOf, is_clock, inputs_beside, shared_inputs, first_missing, first_mismatch, ◌or_else◌}

@@ -3,7 +3,6 @@ use Rattle.std.proofs.Common.{◌≡◌, ℕ, List, Option, Some, None, refl, sy
 use Rattle.std.specs.Prelude.{IfSome, IsSomeAnd, Ok}
 use Rattle.pair_decide.specs.declared.query.Proof.{Proof}
 use Rattle.flat_net.specs.View.{NetView}
-use Rattle.sec_words.specs.declared.settings.Settings.{Settings}
 use Rattle.sec_words.specs.declared.task.Task.{Task}
 use Rattle.sec_words.specs.declared.task.Task.TheVariants as task
 use Rattle.sec_outcome.specs.declared.outcome.Outcome.{Outcome}

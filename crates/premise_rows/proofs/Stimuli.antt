@@ -1,20 +1,19 @@
 -- A stimulus and power words that fit two latches in a row.
-use Rattle.std.proofs.Common.{◌≡◌, ◌∙◌, ℕ, Bool, true, false, List, [], ◌∷◌, map, length, Option, Some, None, refl, sym, ap, ap₂, arith, inl, inr}
+use Rattle.std.proofs.Common.{◌≡◌, ◌∙◌, ℕ, Bool, true, false, List, [], ◌∷◌, length, Option, Some, None, refl, sym, ap, ap₂, arith, inl, inr}
 use Rattle.std.specs.Prelude.{codes, ◌==◌, ◌&&◌, ◌||◌, if◌then◌else◌}
-use Rattle.std.specs.List.{All, Contains, list_all}
+use Rattle.std.specs.List.{Contains, list_all}
 use Rattle.std.proofs.lemmas.List.{length-map}
 use Rattle.std.proofs.lemmas.List.Elements.{All-cons, All-nil}
 use Rattle.circuit_theory.specs.Interface.{first_missing, ◌or_else◌}
 use Rattle.circuit_theory.proofs.Lists.{Contains-cases}
 use Rattle.flat_net.specs.declared.parts.LatchAt.{LatchAt}
-use Rattle.flat_net.specs.View.{NetView, ports_of}
+use Rattle.flat_net.specs.View.{NetView}
 use Rattle.flatten.proofs.DistinctLists.{distinct_nil, distinct_cons}
 use Rattle.witness_report.specs.Form.{IsName, IsForm}
 use Rattle.witness_report.specs.Text.{stimulus_text}
 use Rattle.sim_report.specs.declared.refusal.Misfit.{Misfit}
 use Rattle.sim_report.specs.declared.refusal.Misfit.TheVariants as misfit
 use Rattle.sim_report.specs.Checks.{is_power, named_misfit, first_misfit}
-use Rattle.sec_files.specs.Loading.{Loads}
 use Rattle.sec_files.specs.Stimuli.{IsStimulus}
 use Rattle.design_rows.specs.Designs as design
 use Rattle.design_rows.specs.Small.{small_two, IsSmall}

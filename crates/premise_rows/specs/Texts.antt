@@ -1,5 +1,5 @@
 -- Texts that are worked in the documents.
-use Rattle.std.specs.Prelude.{ℕ, Bool, true, false, List, [], ◌∷◌, codes}
+use Rattle.std.specs.Prelude.{ℕ, List, codes}
 
 -- an and by the row where it is 1
 abbrev pub on_and : List ℕ
