@@ -31,7 +31,8 @@ use Rattle.pair_decide.specs.Answers.{Decides, IsDifference, IsAtLimit}
 use Rattle.witness_report.specs.declared.witness.PairName.{PairName}
 use Rattle.witness_report.specs.declared.witness.Witness.{Witness}
 use Rattle.sec_outcome.specs.declared.outcome.PairResult.{PairResult}
-use Rattle.plain_form.specs.Formed.{outputs_of, AreColumns}
+use Rattle.sec_setup.specs.Pairs.{outputs_of}
+use Rattle.sec_setup.specs.Setup.{AreColumns}
 use Rattle.plain_form.specs.Found.{IsResultOf}
 use Rattle.plain_form.specs.Limits.{IsUndecided}
 use Rattle.plain_form.specs.Outcome.{differing, HaveDifferentFunctions, AnswerFits, PairFits}

@@ -19,7 +19,8 @@ use Rattle.flat_net.specs.View.{NetView, named, equation_of_gate, equation_of_la
 use Rattle.flat_net.proofs.Nets.{OfGate, OfLatch, equation_from}
 use Rattle.flat_net.proofs.Places.{one_at}
 use Rattle.sec_base.proofs.TableLemmas.{key_at}
-use Rattle.plain_form.specs.Formed.{outputs_of, AreColumns}
+use Rattle.sec_setup.specs.Pairs.{outputs_of}
+use Rattle.sec_setup.specs.Setup.{AreColumns}
 
 module _ {P : Type 0} (c : Circuit P) (order : List ℕ) where
   mutual

@@ -1,5 +1,5 @@
 -- Pairs of one tree don't meet the limit.
-use Rattle.std.proofs.Common.{◌≡◌, ℕ, zero, suc, Bool, List, [], ◌∷◌, slice_get, Option, Some, None, refl, subst}
+use Rattle.std.proofs.Common.{◌≡◌, ℕ, zero, suc, Bool, List, [], ◌∷◌, slice_get, Option, Some, None, subst}
 use Rattle.std.specs.List.{AllZip, Contains}
 use Rattle.std.proofs.lemmas.Option.{none-some, same_Some}
 use Rattle.circuit_theory.specs.Circuit.{Circuit}
@@ -7,10 +7,9 @@ use Rattle.circuit_theory.proofs.Lists.{Contains-head, Contains-tail}
 use Rattle.sec_base.specs.declared.basics.PairAnswer.{PairAnswer}
 use Rattle.sec_base.specs.declared.basics.PairAnswer.TheVariants as answer
 use Rattle.pair_decide.specs.declared.query.Proof.{Proof}
-use Rattle.sec_outcome.specs.declared.outcome.PairResult.{PairResult}
 use Rattle.sec_outcome.specs.declared.outcome.Verdict.{Verdict}
 use Rattle.plain_form.specs.Laws.{HaveOneTree, OneTreeHasNoLimit}
-use Rattle.plain_form.specs.Outcome.{NamedPair, AnswerFits, PairFits, VerdictFits}
+use Rattle.plain_form.specs.Outcome.{AnswerFits, PairFits, VerdictFits}
 
 -- what stands beside an entry of the second list
 beside : {X Y : Type 0} (R : X → Y → Type 0) (xs : List X) (ys : List Y) → AllZip R xs ys → (i : ℕ) (y : Y) → slice_get ys i ≡ Some y → (x : X) × Contains xs x × R x y

@@ -15,12 +15,15 @@ use Rattle.witness_report.specs.declared.witness.Witness.{Witness}
 use Rattle.sec_outcome.specs.declared.outcome.LimitAt.{LimitAt}
 use Rattle.sec_outcome.specs.declared.outcome.PairResult.{PairResult}
 use Rattle.sec_outcome.specs.declared.outcome.Verdict.{Verdict}
+use Rattle.sec_setup.specs.declared.setup.Setup.{Setup}
 use Rattle.plain_form.specs.declared.error.PlainError.{PlainError}
 use Rattle.plain_form.specs.declared.error.PlainError.TheVariants as refused
-use Rattle.plain_form.specs.declared.pairing.SignalPair.{SignalPair}
-use Rattle.plain_form.specs.Formed.{outputs_of, IsLight, AreColumns, places_of, ArePairsOf, Formed}
+use Rattle.sec_setup.specs.declared.pairing.SignalPair.{SignalPair}
+use Rattle.plain_form.specs.Formed.{IsLight, Formed}
+use Rattle.sec_setup.specs.Pairs.{outputs_of, places_of, ArePairsOf, NamedPair}
+use Rattle.sec_setup.specs.Setup.{AreColumns}
 use Rattle.plain_form.specs.Found.{HaveFound, IsLimitAt, IsLimitOr, IsVerdictOf}
-use Rattle.plain_form.specs.Outcome.{NamedPair, AnswerFits, PairFits, NoneIs, IsFirstLimit, VerdictFits}
+use Rattle.plain_form.specs.Outcome.{AnswerFits, PairFits, NoneIs, IsFirstLimit, VerdictFits}
 use Rattle.plain_form.specs.Pairs.{AreLight, AreTooLarge, Unfolds, left_signals, right_signals}
 use Rattle.plain_form.proofs.Assignments.{once_each}
 use Rattle.plain_form.proofs.Growing.{over_weaker, weight_same}
@@ -43,11 +46,12 @@ module _ (a b : NetView) (pairs : List SignalPair) (paired : ArePairsOf a b pair
   pub right_light : AreLight b (right_signals pairs) → IsLight b
   right_light (w, weight, few) = (w, weight_same (circuit_of b) (right_signals pairs) (outputs_of b) w (λ s. (paired.right s).0) (λ s. (paired.right s).1) weight, few)
 
-  -- a refusal is one of all outputs
-  pub refusal_formed : (left right : List ℕ) (columns : List (List ℕ)) (cut : Bool) (conflicts : ℕ) (e : PlainError) → Unfolds a b left right pairs (Err e) → Formed a b left right columns cut conflicts pairs (Err e)
-  refusal_formed left right columns cut conflicts (refused.TooLarge A) h = subst (AreTooLarge a) paired.left h
-  refusal_formed left right columns cut conflicts (refused.TooLarge B) h = (left_light h.0, over_weaker (circuit_of b) (right_signals pairs) (outputs_of b) 2000000 (λ s. (paired.right s).0) h.1)
-  refusal_formed left right columns cut conflicts refused.NoMemory h = tt
+-- a refusal is one of all outputs
+pub refusal_formed : (s : Setup) (conflicts : ℕ) (paired : ArePairsOf s.left.now s.right.now s.pairs) (e : PlainError) → Unfolds s.left.now s.right.now s.orders.left s.orders.right s.pairs (Err e) → Formed s conflicts (Err e)
+refusal_formed s conflicts paired (refused.TooLarge A) h = subst (AreTooLarge s.left.now) paired.left h
+refusal_formed s conflicts paired (refused.TooLarge B) h =
+    (left_light s.left.now s.right.now s.pairs paired h.0, over_weaker (circuit_of s.right.now) (right_signals s.pairs) (outputs_of s.right.now) 2000000 (λ n. (paired.right n).0) h.1)
+refusal_formed s conflicts paired refused.NoMemory h = tt
 
 -- what each pair of a relation has
 each_right : {X Y : Type 0} (R : X → Y → Type 0) (F : Y → Type 0) → ((x : X) (y : Y) → R x y → F y) → (xs : List X) (ys : List Y) → AllZip R xs ys → All F ys

@@ -12,11 +12,10 @@ use Rattle.aig.specs.Graph.{IsGraph}
 use Rattle.aig.specs.Builds.{HasTreeValues}
 use Rattle.cbf_unfold.specs.declared.unfolder.Unfolded.{Unfolded}
 use Rattle.pair_decide.specs.declared.query.Query.{Query}
-use Rattle.plain_form.specs.declared.pairing.SignalPair.{SignalPair}
+use Rattle.sec_setup.specs.declared.pairing.SignalPair.{SignalPair}
 use Rattle.plain_form.specs.declared.unfolding.Functions.{Functions}
-use Rattle.plain_form.specs.Formed.{outputs_of, ArePairsOf}
-use Rattle.plain_form.specs.Found.{HaveFunctions}
-use Rattle.plain_form.specs.Pairs.{IsFunctionOf}
+use Rattle.sec_setup.specs.Pairs.{outputs_of, ArePairsOf}
+use Rattle.plain_form.specs.Pairs.{IsFunctionOf, AreFunctions}
 use Rattle.plain_form.specs.Variables.{AreInOrder, IsPairQuery}
 use Rattle.plain_form.proofs.PairQueries.{AsksPair, in_order}
 use Rattle.plain_form.proofs.Reading.{item_at}
@@ -39,31 +38,31 @@ module _ (a b : NetView) (pairs : List SignalPair) (i : ℕ) (p : SignalPair) (a
   pub right_shown : ArePairsOf a b pairs → Contains (outputs_of b) p.right.0
   right_shown paired = (paired.right p.right.0).0 (Contains-map (λ (q : SignalPair). q.right.0) pairs p (of_at pairs i p at))
 
-  module _ (columns : List (List ℕ)) (f : Functions) (x : HaveFunctions a b columns pairs f) where
+  module _ (left right : List ℕ) (f : Functions) (are : AreFunctions a b left right pairs f) where
     abbrev is_left : SignalPair → Unfolded → Type 0
-    is_left q u = IsFunctionOf a x.left f.aig f.places q.left.0 u
+    is_left q u = IsFunctionOf a left f.aig f.places q.left.0 u
 
     abbrev is_right : SignalPair → Unfolded → Type 0
-    is_right q u = IsFunctionOf b x.right f.aig f.places q.right.0 u
+    is_right q u = IsFunctionOf b right f.aig f.places q.right.0 u
 
     pub left_within : i < length f.left.items
-    left_within = let h = slice_get_within pairs i p at in let n = zip_length is_left pairs f.left.items x.are.left_are in omega (arith, h, n)
+    left_within = let h = slice_get_within pairs i p at in let n = zip_length is_left pairs f.left.items are.left_are in omega (arith, h, n)
 
     pub right_within : i < length f.right.items
-    right_within = let h = slice_get_within pairs i p at in let n = zip_length is_right pairs f.right.items x.are.right_are in omega (arith, h, n)
+    right_within = let h = slice_get_within pairs i p at in let n = zip_length is_right pairs f.right.items are.right_are in omega (arith, h, n)
 
-    left_here : (l : Unfolded) → l ≡ get_or f.left.items i l → IsFunctionOf a x.left f.aig f.places p.left.0 l
-    left_here l e = zip_at is_left pairs f.left.items x.are.left_are i p l at (item_at f.left.items f.left.items i l refl left_within e)
+    left_here : (l : Unfolded) → l ≡ get_or f.left.items i l → IsFunctionOf a left f.aig f.places p.left.0 l
+    left_here l e = zip_at is_left pairs f.left.items are.left_are i p l at (item_at f.left.items f.left.items i l refl left_within e)
 
-    right_here : (r : Unfolded) → r ≡ get_or f.right.items i r → IsFunctionOf b x.right f.aig f.places p.right.0 r
-    right_here r e = zip_at is_right pairs f.right.items x.are.right_are i p r at (item_at f.right.items f.right.items i r refl right_within e)
+    right_here : (r : Unfolded) → r ≡ get_or f.right.items i r → IsFunctionOf b right f.aig f.places p.right.0 r
+    right_here r e = zip_at is_right pairs f.right.items are.right_are i p r at (item_at f.right.items f.right.items i r refl right_within e)
 
     pub left_variables : (l : Unfolded) → l ≡ get_or f.left.items i l → AreInOrder f.places l.vars
-    left_variables l e = in_order a x.left f.aig f.places p.left.0 l (left_here l e)
+    left_variables l e = in_order a left f.aig f.places p.left.0 l (left_here l e)
 
     pub right_variables : (r : Unfolded) → r ≡ get_or f.right.items i r → AreInOrder f.places r.vars
-    right_variables r e = in_order b x.right f.aig f.places p.right.0 r (right_here r e)
+    right_variables r e = in_order b right f.aig f.places p.right.0 r (right_here r e)
 
     pub asks_pair : (l r : Unfolded) (q : Query) → l ≡ get_or f.left.items i l → r ≡ get_or f.right.items i r → IsGraph f.aig → AreDistinct f.places → HasTreeValues f.aig → IsPairQuery f.places l r q →
-        AsksPair a b x.left x.right f.aig f.places p.left.0 p.right.0 l r q
+        AsksPair a b left right f.aig f.places p.left.0 p.right.0 l r q
     asks_pair l r q e_l e_r graph distinct values asks = record { graph = graph; distinct = distinct; values = values; left_is = left_here l e_l; right_is = right_here r e_r; asks = asks }

@@ -20,10 +20,10 @@ use Rattle.pair_decide.specs.Answers.{Decides, IsDifference}
 use Rattle.witness_report.specs.declared.witness.PairName.{PairName}
 use Rattle.witness_report.specs.declared.witness.Witness.{Witness}
 use Rattle.sec_outcome.specs.declared.outcome.PairResult.{PairResult}
-use Rattle.plain_form.specs.declared.pairing.SignalPair.{SignalPair}
-use Rattle.plain_form.specs.Formed.{places_of}
+use Rattle.sec_setup.specs.declared.pairing.SignalPair.{SignalPair}
+use Rattle.sec_setup.specs.Pairs.{places_of, NamedPair}
 use Rattle.plain_form.specs.Found.{IsResultOf, IsFirst, HaveFound}
-use Rattle.plain_form.specs.Outcome.{NamedPair, differing, PairFits, PairsFit, IsFirstOfAnswer, NoneIs}
+use Rattle.plain_form.specs.Outcome.{differing, PairFits, PairsFit, IsFirstOfAnswer, NoneIs}
 use Rattle.plain_form.specs.Sequences.{IsWitnessOf, IsFirstOf}
 
 module _ {P Q : Type 0} (a : Circuit P) (b : Circuit Q) (left right : List ℕ) (columns : List (List ℕ)) (wanted : PairAnswer) where

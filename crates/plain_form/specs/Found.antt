@@ -15,10 +15,12 @@ use Rattle.sec_outcome.specs.declared.outcome.Verdict.TheVariants as verdict
 use Rattle.sec_outcome.specs.declared.outcome.Why.TheVariants as why
 use Rattle.sec_outcome.specs.declared.outcome.LimitAt.{LimitAt}
 use Rattle.sec_outcome.specs.declared.outcome.LimitAt.TheVariants as limit_at
-use Rattle.plain_form.specs.Formed.{AreColumns, places_of}
+use Rattle.sec_setup.specs.declared.pairing.SignalPair.{SignalPair}
+use Rattle.sec_setup.specs.declared.setup.Setup.{Setup}
+use Rattle.sec_setup.specs.Cuts.{is_cut}
+use Rattle.sec_setup.specs.Pairs.{places_of}
 use Rattle.plain_form.specs.Outcome.{differing, NoneIs, PairsFit, IsFirstOfAnswer}
 use Rattle.plain_form.specs.Pairs.{AreFunctions}
-use Rattle.plain_form.specs.declared.pairing.SignalPair.{SignalPair}
 use Rattle.plain_form.specs.declared.unfolding.Functions.{Functions}
 
 -- the result of a pair whose query has this answer, and the bits of a difference
@@ -41,13 +43,13 @@ pub record HaveFound (a b : NetView) (left right : List ℕ) (columns : List (Li
   pub fit : PairsFit (circuit_of a) (circuit_of b) left right cut conflicts (map places_of pairs) results
   pub first_is : IsFirst a b left right columns cut pairs results first
 
--- both functions of each pair, over some numbers of the inputs that have these names
-pub record HaveFunctions (a b : NetView) (columns : List (List ℕ)) (pairs : List SignalPair) (f : Functions) : Type 0 where
-  pub left : List ℕ
-  pub right : List ℕ
-  pub left_columns : AreColumns a columns left right
-  pub right_columns : AreColumns b columns right left
-  pub are : AreFunctions a b left right pairs f
+-- the same of the first pairs of a setup
+abbrev pub HaveFoundIn : Setup → ℕ → List SignalPair → List PairResult → Option Witness → Type 0
+HaveFoundIn s conflicts pairs results first = HaveFound s.left.now s.right.now s.orders.left s.orders.right s.columns (is_cut s.exposed) conflicts pairs results first
+
+-- both functions of each pair of a setup
+abbrev pub HaveFunctions : Setup → Functions → Type 0
+HaveFunctions s f = AreFunctions s.left.now s.right.now s.orders.left s.orders.right s.pairs f
 
 -- the first pair that met the limit
 pub record IsLimitAt (results : List PairResult) (at : LimitAt) : Type 0 where

@@ -6,7 +6,8 @@ use Rattle.circuit_theory.specs.Tree.{Tree, Unfolds}
 use Rattle.sec_outcome.specs.declared.outcome.LimitAt.{LimitAt}
 use Rattle.sec_outcome.specs.declared.outcome.Verdict.TheVariants as verdict
 use Rattle.plain_form.specs.declared.comparing.Findings.{Findings}
-use Rattle.plain_form.specs.Outcome.{NamedPair, FindingsFit}
+use Rattle.plain_form.specs.Outcome.{FindingsFit}
+use Rattle.sec_setup.specs.Pairs.{NamedPair}
 
 -- both places unfold to one tree
 abbrev pub HaveOneTree : {P Q : Type 0} → Circuit P → Circuit Q → List ℕ → List ℕ → P → Q → Type 0

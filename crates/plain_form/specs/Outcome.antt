@@ -1,16 +1,13 @@
 -- What it means that what is found of some pairs fits two circuits, in the plain form.
-use Rattle.std.specs.Prelude.{◌≡◌, ◌≢◌, ℕ, ◌<◌, max, Bool, true, false, List, ◌++◌, length, Option, Some, None, slice_get, fold}
-use Rattle.std.specs.List.{All, AllZip, filter_map}
+use Rattle.std.specs.Prelude.{◌≡◌, ◌≢◌, ℕ, ◌<◌, max, Bool, true, false, List, length, Option, Some, None, slice_get, fold}
+use Rattle.std.specs.List.{All, AllZip}
 use Rattle.circuit_theory.specs.Circuit.{Circuit}
-use Rattle.circuit_theory.specs.Agree.{place_named, latch_named, second_of_pair}
 use Rattle.circuit_theory.specs.Fits.{IsPairDepth, IsWitness}
 use Rattle.circuit_theory.specs.Query.{Distinguishes, pair_query}
 use Rattle.circuit_theory.specs.Tree.{Tree, Unfolds, HaveEqualFunctions}
 use Rattle.sec_base.specs.declared.basics.PairAnswer.{PairAnswer}
 use Rattle.sec_base.specs.declared.basics.PairAnswer.TheVariants as answer
 use Rattle.pair_decide.specs.declared.query.Proof.{Proof}
-use Rattle.witness_report.specs.declared.witness.PairName.{PairName}
-use Rattle.witness_report.specs.declared.witness.PairName.TheVariants as pair
 use Rattle.witness_report.specs.declared.witness.Witness.{Witness}
 use Rattle.sec_outcome.specs.declared.outcome.PairResult.{PairResult}
 use Rattle.sec_outcome.specs.declared.outcome.Verdict.{Verdict}
@@ -18,27 +15,9 @@ use Rattle.sec_outcome.specs.declared.outcome.Verdict.TheVariants as verdict
 use Rattle.sec_outcome.specs.declared.outcome.Why.TheVariants as why
 use Rattle.sec_outcome.specs.declared.outcome.LimitAt.{LimitAt}
 use Rattle.sec_outcome.specs.declared.outcome.LimitAt.TheVariants as limit_at
+use Rattle.sec_setup.specs.Pairs.{NamedPair}
 use Rattle.plain_form.specs.Limits.{IsUndecided}
 use Rattle.plain_form.specs.declared.comparing.Findings.{Findings}
-
--- two places that are compared, under the name of the pair
-pub record NamedPair (P Q : Type 0) : Type 0 where
-  pub name : PairName
-  pub left : P
-  pub right : Q
-
--- the pair of two places that are there
-abbrev pub pair_called : {P Q : Type 0} → PairName → Option P → Option Q → Option (NamedPair P Q)
-pair_called name None q = None
-pair_called name (Some p) None = None
-pair_called name (Some p) (Some q) = Some (record { name = name; left = p; right = q })
-
--- The pairs of a comparison in their order, by their names: the outputs in A's order, then what the latches of the exposed names
--- take over. A and B are not cut, so an output and an exposed latch of one name stay apart.
-abbrev pub named_pairs : {P Q : Type 0} → List (List ℕ) → Circuit P → Circuit Q → List (NamedPair P Q)
-named_pairs exposed a b =
-    filter_map (λ o. pair_called (pair.Output o.name) (Some o.place) (place_named b.outputs o.name)) a.outputs
-    ++ filter_map (λ name. pair_called (pair.Next name) (second_of_pair (latch_named a.equations name)) (second_of_pair (latch_named b.equations name))) exposed
 
 -- both sides of a pair unfold, to functions that some assignment makes differ
 pub record HaveDifferentFunctions {P Q : Type 0} (a : Circuit P) (b : Circuit Q) (left right : List ℕ) (p : P) (q : Q) : Type 0 where

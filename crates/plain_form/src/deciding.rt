@@ -1,25 +1,22 @@
 //! The pairs are decided, one after the other.
 
 ghost use Rattle.std.specs.Prelude.{◌≡◌, ◌+◌, ◌<◌, ◌≤◌, length, take, IfOk, OnOk};
-ghost use Rattle.sec_base.specs.Table.{AreDistinct};
-ghost use Rattle.latch_graph.specs.Graph.{IsGraphOf};
-ghost use Rattle.plain_form.specs.Formed.{IsAcyclic, ArePairsOf};
 ghost use Rattle.pair_decide.specs.Queries.{IsQuery};
-ghost use Rattle.plain_form.specs.Found.{IsResultOf, IsSettled, HaveFound, HaveFunctions};
+ghost use Rattle.sec_setup.specs.Setup.{IsSetup};
+ghost use Rattle.plain_form.specs.Found.{IsResultOf, IsSettled, HaveFoundIn, HaveFunctions};
 ghost use Rattle.plain_form.specs.Outcome.{differing};
 ghost use Rattle.plain_form.specs.Variables.{AreInOrder, IsPairQuery};
 
 use crate::merging::merge_variables;
-use crate::pairing::{SignalPair, copy_name, pair_depth};
+use crate::pairing::{copy_name, pair_depth};
 use crate::unfolding::Functions;
 use crate::witness::put_first;
 use aig::{Aig, Lit};
 use cbf_unfold::Unfolded;
-use flat_net::Net;
-use latch_graph::LatchGraph;
 use pair_decide::{Decision, Proof, Query, decide};
-use sec_base::{Bits, NoMemory, PairAnswer, PlaceTable, Words};
+use sec_base::{Bits, NoMemory, PairAnswer, PlaceTable};
 use sec_outcome::{PairName, PairResult, PairResults, Witness};
+use sec_setup::Setup;
 use std::alloc::Global;
 
 /// The results of the pairs, and the sequence of the first that differs.
@@ -32,45 +29,21 @@ pub(crate) struct Decided {
 /// Decides each pair in order, with at most so many conflicts.
 pub(crate) fn decide_pairs(
     alloc: Global,
-    a: &Net,
-    b: &Net,
-    left: &LatchGraph,
-    right: &LatchGraph,
+    setup: &Setup<'_>,
     functions: &Functions,
-    columns: &Words,
-    pairs: &[SignalPair],
-    cut: bool,
     conflicts: u32,
 ) -> Result<Decided, NoMemory>
-    requires left_graph { IsGraphOf a.now left.now }
-    requires right_graph { IsGraphOf b.now right.now }
-    requires left_acyclic { IsAcyclic a.now }
-    requires right_acyclic { IsAcyclic b.now }
-    requires functions { HaveFunctions a.now b.now columns.now pairs.now functions.now }
-    requires distinct { AreDistinct columns.now }
-    requires pairs { ArePairsOf a.now b.now pairs.now }
+    requires setup { IsSetup setup.now }
+    requires functions { HaveFunctions setup.now functions.now }
     requires conflicts { conflicts ≤ 200000 }
-    ensures { IfOk result (λ d. (x : HaveFunctions a.now b.now columns.now pairs.now functions.now) → HaveFound a.now b.now x.left x.right columns.now cut conflicts pairs.now d.results d.first) }
+    ensures { IfOk result (λ d. HaveFoundIn setup.now conflicts setup.now.pairs d.results d.first) }
 {
     let mut decided = Decided {
         results: PairResults::new(alloc),
         first: None,
     };
-    for i in 0..pairs.len() {
-        decide_next(
-            alloc,
-            a,
-            b,
-            left,
-            right,
-            functions,
-            columns,
-            pairs,
-            i,
-            cut,
-            conflicts,
-            &mut decided,
-        )?;
+    for i in 0..setup.pairs.len() {
+        decide_next(alloc, setup, functions, i, conflicts, &mut decided)?;
     }
     Ok(decided)
 }
@@ -78,41 +51,31 @@ pub(crate) fn decide_pairs(
 /// Decides the pair at a place, where those before it are decided.
 fn decide_next(
     alloc: Global,
-    a: &Net,
-    b: &Net,
-    left: &LatchGraph,
-    right: &LatchGraph,
+    setup: &Setup<'_>,
     functions: &Functions,
-    columns: &Words,
-    pairs: &[SignalPair],
     i: usize,
-    cut: bool,
     conflicts: u32,
     decided: &mut Decided,
 ) -> Result<(), NoMemory>
-    requires left_graph { IsGraphOf a.now left.now }
-    requires right_graph { IsGraphOf b.now right.now }
-    requires left_acyclic { IsAcyclic a.now }
-    requires right_acyclic { IsAcyclic b.now }
-    requires functions { HaveFunctions a.now b.now columns.now pairs.now functions.now }
-    requires distinct { AreDistinct columns.now }
-    requires pairs { ArePairsOf a.now b.now pairs.now }
-    requires place { i < length pairs.now }
+    requires setup { IsSetup setup.now }
+    requires functions { HaveFunctions setup.now functions.now }
+    requires place { i < length setup.now.pairs }
     requires conflicts { conflicts ≤ 200000 }
-    ensures { OnOk result ((x : HaveFunctions a.now b.now columns.now pairs.now functions.now) → HaveFound a.now b.now x.left x.right columns.now cut conflicts (take i pairs.now) decided.old.results decided.old.first → HaveFound a.now b.now x.left x.right columns.now cut conflicts (take (i + 1) pairs.now) decided.new.results decided.new.first) }
+    ensures { OnOk result (HaveFoundIn setup.now conflicts (take i setup.now.pairs) decided.old.results decided.old.first → HaveFoundIn setup.now conflicts (take (i + 1) setup.now.pairs) decided.new.results decided.new.first) }
 {
-    a.keeps();
-    b.keeps();
+    setup.left.keeps();
+    setup.right.keeps();
     functions.aig.keeps();
     functions.places.keeps();
-    let pair = &pairs[i];
-    let size = pair_depth(a, b, left, right, pair.left, pair.right);
+    let pair = &setup.pairs.as_slice()[i];
+    let size = pair_depth(setup, pair.left, pair.right);
     let query = query_of(
         alloc,
         &functions.places,
         &functions.left[i],
         &functions.right[i],
     )?;
+    let cut = setup.is_cut();
     let (result, bits) = settle(
         alloc,
         &functions.aig,
@@ -131,7 +94,7 @@ fn decide_next(
         bits,
         &pair.name,
         size,
-        columns,
+        &setup.columns,
     )?;
     Ok(())
 }

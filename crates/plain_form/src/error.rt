@@ -3,7 +3,7 @@
 use sec_base::{NoMemory, Side};
 
 /// Why two circuits aren't compared in the plain form.
-#[derive(Debug, Drop)]
+#[derive(Drop)]
 pub enum PlainError {
     /// The unfoldings of this circuit's outputs weigh more than 2,000,000 together; A comes first.
     TooLarge(Side),

@@ -13,4 +13,3 @@ mod witness;
 
 pub use comparing::{Findings, compare_plain};
 pub use error::PlainError;
-pub use pairing::SignalPair;

@@ -1,4 +1,4 @@
-//! The pairs of signals that are compared.
+//! The depth and the name of a pair of signals.
 
 ghost use Rattle.std.specs.Prelude.{◌≡◌, ◌<◌, length, IfOk};
 ghost use Rattle.circuit_theory.specs.Depth.{IsDepth};
@@ -6,40 +6,24 @@ ghost use Rattle.circuit_theory.specs.Fits.{IsPairDepth};
 ghost use Rattle.circuit_theory.specs.Run.{NoneEnabled};
 ghost use Rattle.flat_net.specs.View.{circuit_of};
 ghost use Rattle.latch_graph.specs.Graph.{IsGraphOf};
-ghost use Rattle.plain_form.specs.Formed.{IsAcyclic};
+ghost use Rattle.sec_setup.specs.Cycles.{IsAcyclic};
+ghost use Rattle.sec_setup.specs.Setup.{IsSetup};
 
 use flat_net::{Net, Signal};
 use latch_graph::LatchGraph;
 use sec_base::NoMemory;
 use sec_outcome::PairName;
-
-/// Two signals that are compared, one of each circuit, and what the pair is called.
-#[derive(Debug, Drop)]
-pub struct SignalPair {
-    pub name: PairName,
-    pub left: Signal,
-    pub right: Signal,
-}
+use sec_setup::Setup;
 
 /// The greater depth of a signal of A and one of B.
-pub(crate) fn pair_depth(
-    a: &Net,
-    b: &Net,
-    left: &LatchGraph,
-    right: &LatchGraph,
-    s: Signal,
-    t: Signal,
-) -> u32
-    requires left_graph { IsGraphOf a.now left.now }
-    requires right_graph { IsGraphOf b.now right.now }
-    requires left_acyclic { IsAcyclic a.now }
-    requires right_acyclic { IsAcyclic b.now }
-    requires left { s.0 < length a.now.drivers }
-    requires right { t.0 < length b.now.drivers }
-    ensures { IsPairDepth (circuit_of a.now) (circuit_of b.now) s.0 t.0 result }
+pub(crate) fn pair_depth(setup: &Setup<'_>, s: Signal, t: Signal) -> u32
+    requires setup { IsSetup setup.now }
+    requires left { s.0 < length setup.now.left.now.drivers }
+    requires right { t.0 < length setup.now.right.now.drivers }
+    ensures { IsPairDepth (circuit_of setup.now.left.now) (circuit_of setup.now.right.now) s.0 t.0 result }
 {
-    let left_depth = depth_of(a, left, s);
-    let right_depth = depth_of(b, right, t);
+    let left_depth = depth_of(setup.left, setup.left_graph, s);
+    let right_depth = depth_of(setup.right, setup.right_graph, t);
     left_depth.max(right_depth)
 }
 

@@ -1,21 +1,22 @@
 //! The functions of all pairs.
 
-ghost use Rattle.std.specs.Prelude.{◌≡◌, ℕ, ◌+◌, ◌^◌, ◌<◌, ◌≤◌, List, map, length, All, IfOk, IfErr, OnOk};
+ghost use Rattle.std.specs.Prelude.{◌≡◌, ℕ, ◌+◌, ◌^◌, ◌<◌, ◌≤◌, List, [], map, length, All, IfOk, IfErr, OnOk};
 ghost use Rattle.std.specs.List.{AllZip};
 ghost use Rattle.circuit_theory.specs.declared.Side.TheVariants.{A, B};
 ghost use Rattle.aig.specs.Graph.{Grows};
 ghost use Rattle.cbf_unfold.specs.Reach.{Adds};
+ghost use Rattle.cbf_unfold.specs.Unfolded.{Fits};
 ghost use Rattle.cbf_unfold.specs.View.{IsOrderOf};
 ghost use Rattle.cbf_unfold.specs.declared.error.UnfoldError.TheVariants as unfold_error;
 ghost use Rattle.plain_form.specs.Pairs.{IsFunctionOf, AreLight, AreTooLarge, IsRefusalOf, Unfolds, left_signals, right_signals};
 
 use crate::error::PlainError;
-use crate::pairing::SignalPair;
 use aig::Aig;
 use cbf_unfold::{UnfoldError, Unfolded, Unfolder};
 use flat_net::{Net, Signal};
 use latch_graph::LatchGraph;
 use sec_base::{Ids, NoMemory, Orders, PlaceTable, Side};
+use sec_setup::SignalPair;
 use std::alloc::Global;
 
 /// The functions of each pair's two signals, on one graph and one table of inputs at shifts.
@@ -178,6 +179,30 @@ fn unfold_signals(
     ensures entries { length places.new ≤ length places.old + 2000000 }
 {
     let mut unfolder = Unfolder::new(alloc, net, graph, order)?;
+    unfold_all(alloc, &mut unfolder, aig, places, signals)
+}
+
+/// Unfolds the signals in their order by an unfolder that has unfolded nothing.
+fn unfold_all(
+    alloc: Global,
+    unfolder: &mut Unfolder<'_>,
+    aig: &mut Aig,
+    places: &mut PlaceTable,
+    signals: &[Signal],
+) -> Result<Vec<Unfolded>, UnfoldError>
+    requires signals { All (λ s. s.0 < length unfolder.old.net.drivers) signals.now }
+    requires none { unfolder.old.done ≡ [] }
+    requires fits { Fits unfolder.old aig.old places.old }
+    requires nodes { length aig.old ≤ 2 ^ 28 }
+    requires entries { length places.old ≤ 2 ^ 28 }
+    ensures unfolded { IfOk result (λ us. AllZip (λ s u. IsFunctionOf unfolder.old.net unfolder.old.order aig.new places.new s.0 u) signals.now us.items) }
+    ensures light { OnOk result (AreLight unfolder.old.net (map (λ s. s.0) signals.now)) }
+    ensures over { result ≡ Err unfold_error.TooLarge → AreTooLarge unfolder.old.net (map (λ s. s.0) signals.now) }
+    ensures grows { Grows aig.old aig.new }
+    ensures adds { Adds (λ p. Unit {0}) places.old places.new }
+    ensures nodes { length aig.new ≤ length aig.old + 2000000 }
+    ensures entries { length places.new ≤ length places.old + 2000000 }
+{
     let mut unfolded = Vec::new(alloc);
     for s in signals {
         let one = unfolder.unfold(alloc, aig, places, *s)?;

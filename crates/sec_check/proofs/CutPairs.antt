@@ -25,7 +25,8 @@ use Rattle.pair_decide.specs.declared.query.Proof.{Proof}
 use Rattle.witness_report.specs.declared.witness.PairName.{PairName}
 use Rattle.witness_report.specs.declared.witness.PairName.TheVariants as pair
 use Rattle.sec_outcome.specs.declared.outcome.PairResult.{PairResult}
-use Rattle.plain_form.specs.Outcome.{NamedPair, pair_called, named_pairs, AnswerFits, PairFits, PairsFit, greatest_size}
+use Rattle.plain_form.specs.Outcome.{AnswerFits, PairFits, PairsFit, greatest_size}
+use Rattle.sec_setup.specs.Pairs.{NamedPair, pair_called, named_pairs}
 use Rattle.witness_report.specs.Shown.{ArePlacesOf}
 
 some_is : {X : Type 0} {x y : X} → Some x ≡ Some y → x ≡ y

@@ -1,15 +1,14 @@
 -- The sizes of a cut net are those of the cut circuit.
-use Rattle.std.proofs.Common.{◌≡◌, ◌∙◌, ℕ, ◌≤◌, List, map, refl, sym, ap, subst, inl, inr}
-use Rattle.std.specs.Prelude.{◌↔◌}
+use Rattle.std.proofs.Common.{◌≡◌, ◌∙◌, ℕ, List, map, sym, ap, subst}
 use Rattle.std.specs.List.{Contains}
 use Rattle.circuit_theory.specs.Agree.{cut}
 use Rattle.circuit_theory.specs.Circuit.{Circuit, Equation, Gate, Latch, Port, Named, Reads}
-use Rattle.circuit_theory.specs.Sizes.{Visits, WeighsAt, Weighed, IsWeight, IsOver}
+use Rattle.circuit_theory.specs.Sizes.{Visits, WeighsAt, IsWeight, IsOver}
 use Rattle.circuit_theory.proofs.Lists.{map-map}
-use Rattle.flat_net.specs.declared.parts.Port.{Port as NetPort}
 use Rattle.flat_net.specs.Cut.{IsCutCircuit}
 use Rattle.flat_net.specs.View.{NetView, named, circuit_of}
-use Rattle.plain_form.specs.Formed.{outputs_of, IsLight, IsTooLarge}
+use Rattle.plain_form.specs.Formed.{IsLight, IsTooLarge}
+use Rattle.sec_setup.specs.Pairs.{outputs_of}
 use Rattle.sec_check.specs.Fitting.{cut_outputs, IsCutOver, IsCutLight}
 
 -- sizes look at inputs and equations alone

@@ -1,20 +1,16 @@
 -- The value of a tree in a run, by the values of its leaves alone.
 use Rattle.std.proofs.Common.{◌≡◌, ℕ, suc, ◌+◌, ◌-◌, ◌<◌, ◌≤◌, Bool, true, false, List, map, length, refl, sym, ◌∙◌, ap, arith, Some, slice_get}
-use Rattle.std.specs.List.{Contains}
 use Rattle.std.proofs.lemmas.List.Elements.{All-contains}
 use Rattle.circuit_theory.specs.Cover.{cover_value}
 use Rattle.circuit_theory.specs.Names.{is_among}
-use Rattle.circuit_theory.specs.Circuit.{Circuit, Named, Holds, Carries}
+use Rattle.circuit_theory.specs.Circuit.{Circuit, Holds, Carries}
 use Rattle.circuit_theory.specs.Interface.{AreNumbersOf}
 use Rattle.circuit_theory.specs.Run.{IsRun}
 use Rattle.circuit_theory.specs.Tree.{Tree, Trees, tree_value, tree_values, Unfolds, UnfoldsAll, IsInputNumber}
 use Rattle.circuit_theory.specs.Query.{HasLeaf, HasLeafIn}
 use Rattle.circuit_theory.proofs.Lists.{at_of}
-use Rattle.circuit_theory.proofs.Numbers.{beside_at, is_among-sound, is_among-complete}
-use Rattle.flat_net.specs.declared.parts.Port.{Port}
-use Rattle.flat_net.specs.View.{NetView, named, circuit_of}
-use Rattle.sec_base.proofs.TableLemmas.{key_at}
-use Rattle.sec_check.proofs.Shared.{some_is}
+use Rattle.circuit_theory.proofs.Numbers.{is_among-sound, is_among-complete}
+use Rattle.sec_setup.proofs.Shared.{some_is}
 
 -- the leaf's value is that of its input, so many cycles before the last
 abbrev pub HasInputsValue : {P : Type 0} → Circuit P → List ℕ → (ℕ → P → Bool) → ℕ → (ℕ → ℕ → Bool) → (ℕ → ℕ → Type 0) → Type 0

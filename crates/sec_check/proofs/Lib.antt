@@ -1,16 +1,7 @@
-pub mod Columns
-pub mod CutNets
 pub mod CutPairs
 pub mod CutSizes
-pub mod Interfaces
 pub mod Leaves
 pub mod Meaning
-pub mod NamedPairs
-pub mod Numbering
 pub mod Outcomes
-pub mod Paired
-pub mod SameEquations
+pub mod Refusals
 pub mod Sequences
-pub mod Shared
-pub mod ToldCycles
-pub mod Uncut

@@ -31,11 +31,13 @@ use Rattle.sec_outcome.specs.declared.outcome.Verdict.{Verdict}
 use Rattle.sec_outcome.specs.declared.outcome.Verdict.TheVariants as verdict
 use Rattle.sec_outcome.specs.declared.outcome.Why.TheVariants as why
 use Rattle.sec_outcome.specs.declared.outcome.Outcome.{Outcome}
-use Rattle.plain_form.specs.Outcome.{NamedPair, named_pairs, AnswerFits, PairFits, IsFirstOfAnswer, NoneIs, VerdictFits}
+use Rattle.plain_form.specs.Outcome.{AnswerFits, PairFits, IsFirstOfAnswer, NoneIs, VerdictFits}
+use Rattle.sec_setup.specs.Pairs.{NamedPair, named_pairs}
 use Rattle.sec_check.specs.Compared.{AreEqual}
-use Rattle.sec_check.specs.Fitting.{OutcomeFits, columns_of, is_cut}
+use Rattle.sec_check.specs.Fitting.{OutcomeFits}
+use Rattle.sec_setup.specs.Cuts.{columns_of, is_cut}
 use Rattle.witness_report.specs.Shown.{Obeys, ArePlacesOf, MakesDiffer, MakesCutsDiffer, AgreeFrom}
-use Rattle.sec_check.proofs.CutNets.{cut_functions, cut_witness, cut_depth, cut_numbers, cut_numbered}
+use Rattle.sec_setup.proofs.CutNets.{cut_functions, cut_witness, cut_depth, cut_numbers, cut_numbered}
 use Rattle.sec_check.proofs.CutPairs.{IsOutputPair, IsNextPair, one_output, pair_listed, listed_is, listed_places, equal_answer, different_answer, result_of, size_is_within}
 use Rattle.sec_check.proofs.Sequences.{values_differ, left_value_shows, right_value_shows}
 

@@ -1,5 +1,5 @@
 -- What a comparison answers.
-use Rattle.std.specs.Prelude.{◌≡◌, ℕ, Bool, true, false, List, [], Option, Some, None, Result, Ok, Err}
+use Rattle.std.specs.Prelude.{◌≡◌, ℕ, Bool, true, false, List, [], Some, Result, Ok, Err}
 use Rattle.circuit_theory.specs.declared.Mode.TheVariants.{Plain}
 use Rattle.circuit_theory.specs.declared.Side.{Side}
 use Rattle.circuit_theory.specs.declared.Side.TheVariants.{A, B}
@@ -8,26 +8,22 @@ use Rattle.circuit_theory.specs.Interface.{first_mismatch}
 use Rattle.flat_net.specs.Sound.{IsSound}
 use Rattle.flat_net.specs.View.{NetView, circuit_of, ports_of}
 use Rattle.witness_report.specs.declared.witness.Witness.{Witness}
-use Rattle.sec_words.specs.declared.settings.Settings.{Settings}
+use Rattle.witness_report.specs.Shown.{MakesDiffer, MakesCutsDiffer, AgreeFrom}
+use Rattle.sec_base.specs.declared.settings.Settings.{Settings}
 use Rattle.sec_outcome.specs.declared.outcome.Verdict.TheVariants as verdict
 use Rattle.sec_outcome.specs.declared.outcome.Why.TheVariants as why
 use Rattle.sec_outcome.specs.declared.outcome.Outcome.{Outcome}
 use Rattle.exposure.specs.Common.{common_names}
 use Rattle.exposure.specs.Exposed.{IsFreeWithout, IsToldCycle}
-use Rattle.plain_form.specs.Formed.{IsAcyclic, IsLight}
-use Rattle.sec_check.specs.declared.comparing.CompareError.{CompareError}
-use Rattle.sec_check.specs.declared.comparing.CompareError.TheVariants as refused
-use Rattle.sec_check.specs.Fitting.{IsChoice, StandInOrder, IsCutOver, IsCutLight, OutcomeFits}
-use Rattle.witness_report.specs.Shown.{MakesDiffer, MakesCutsDiffer, AgreeFrom}
-
--- the cycle, if any, that is told of a latch graph
-abbrev pub IsCycleOf : NetView → Option (List (List ℕ)) → Type 0
-IsCycleOf n None = IsAcyclic n
-IsCycleOf n (Some names) = IsToldCycle n [] names
-
--- the interfaces match
-abbrev pub InterfacesMatch : NetView → NetView → Type 0
-InterfacesMatch a b = first_mismatch (ports_of a) (ports_of b) ≡ None
+use Rattle.sec_setup.specs.declared.error.SetupError.{SetupError}
+use Rattle.sec_setup.specs.declared.error.SetupError.TheVariants as unset
+use Rattle.sec_setup.specs.Cuts.{IsChoice, StandInOrder}
+use Rattle.sec_setup.specs.Cycles.{IsAcyclic, AreBroken}
+use Rattle.sec_setup.specs.Matching.{InterfacesMatch}
+use Rattle.plain_form.specs.Formed.{IsLight}
+use Rattle.sec_check.specs.declared.error.CompareError.{CompareError}
+use Rattle.sec_check.specs.declared.error.CompareError.TheVariants as refused
+use Rattle.sec_check.specs.Fitting.{IsCutOver, IsCutLight, OutcomeFits}
 
 -- What equal says: the circuits agree, and agree onward; so where the exposed latches are equal from the start up to the printed cycle,
 -- they are equal for ever, and the outputs from that cycle on.
@@ -48,11 +44,6 @@ pub record IsCompared (a b : NetView) (settings : Settings) (o : Outcome) : Type
   pub equal : o.verdict ≡ verdict.Equal → AreEqual a b o
   pub different : (w : Witness) → o.verdict ≡ verdict.Different w → MakesDiffer (circuit_of a) (circuit_of b) w
   pub not_shown : (w : Witness) → o.verdict ≡ verdict.NotShown (why.Cut w) → MakesCutsDiffer o.exposed (circuit_of a) (circuit_of b) w
-
--- no latch is to be cut open, and no latch graph has a cycle; or none has one without the latches that both circuits name
-abbrev pub AreBroken : NetView → NetView → Bool → Type 0
-AreBroken a b false = IsAcyclic a × IsAcyclic b
-AreBroken a b true = IsFreeWithout a (common_names (circuit_of a) (circuit_of b)) × IsFreeWithout b (common_names (circuit_of a) (circuit_of b))
 
 -- With the latches of a choice of names cut out, which stand in A's order, a circuit of one of the sides is too large: A, or else B.
 pub data AreTooLarge (a b : NetView) (expose : Bool) : Side → Type 0 where
@@ -75,15 +66,12 @@ Compared a b settings (Err refused.NoMemory) = Unit {0}
 -- the interfaces don't match, and this is the first name; no other refusal comes of it
 abbrev pub InterfaceFails : NetView → NetView → CompareError → Type 0
 InterfaceFails a b (refused.Interface name) = first_mismatch (ports_of a) (ports_of b) ≡ Some name
-InterfaceFails a b (refused.Cyclic side names) = ⊥
-InterfaceFails a b (refused.Unpaired side names) = ⊥
-InterfaceFails a b (refused.TooLarge side) = ⊥
 InterfaceFails a b refused.NoMemory = Unit {0}
+InterfaceFails a b other = ⊥
 
--- the refusal of a name, or want of memory
-abbrev pub RefusesName : List ℕ → CompareError → Type 0
-RefusesName name (refused.Interface word) = word ≡ name
-RefusesName name (refused.Cyclic side names) = ⊥
-RefusesName name (refused.Unpaired side names) = ⊥
-RefusesName name (refused.TooLarge side) = ⊥
-RefusesName name refused.NoMemory = Unit {0}
+-- why circuits that can't be set up aren't compared
+abbrev pub refusal_of : SetupError → CompareError
+refusal_of (unset.Interface name) = refused.Interface name
+refusal_of (unset.Cyclic side names) = refused.Cyclic side names
+refusal_of (unset.Unpaired side names) = refused.Unpaired side names
+refusal_of unset.NoMemory = refused.NoMemory

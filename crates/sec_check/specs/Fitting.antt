@@ -1,41 +1,14 @@
 -- What it means that an outcome fits two circuits, in the plain form.
-use Rattle.std.specs.Prelude.{◌≡◌, ℕ, ◌<◌, ◌≤◌, Bool, true, false, List, [], ◌∷◌, ◌++◌, map, length, All}
-use Rattle.std.specs.List.{AllPairs}
-use Rattle.circuit_theory.specs.declared.Mode.TheVariants.{Plain}
-use Rattle.circuit_theory.specs.Agree.{cut, IsMinimalCut}
+use Rattle.std.specs.Prelude.{◌≡◌, ℕ, ◌≤◌, Bool, List, map, length}
+use Rattle.circuit_theory.specs.Agree.{cut}
 use Rattle.circuit_theory.specs.Circuit.{Circuit}
 use Rattle.circuit_theory.specs.Interface.{shared_inputs, AreNumbersOf}
 use Rattle.circuit_theory.specs.Sizes.{IsWeight, IsOver}
-use Rattle.flat_net.specs.Cut.{IsCut, IsCutCircuit, exposed_names}
 use Rattle.flat_net.specs.View.{NetView, circuit_of, ports_of}
 use Rattle.sec_outcome.specs.declared.outcome.Outcome.{Outcome}
-use Rattle.plain_form.specs.Outcome.{named_pairs, PairsFit, VerdictFits, greatest_size}
-
--- The names are a minimal cut, which has no name where no latch is to be cut open.
-pub record IsChoice (a b : NetView) (expose : Bool) (names : List (List ℕ)) : Type 0 where
-  pub minimal : IsMinimalCut Plain (circuit_of a) (circuit_of b) names
-  pub closed : expose ≡ false → names ≡ []
-
--- Both nets with the latches of these names cut out, which stand in A's order: each is an input, and what it takes over an output.
-pub record AreCutAt (a b : NetView) (names : List (List ℕ)) (m k : NetView) : Type 0 where
-  pub left : List ℕ
-  pub right : List ℕ
-  pub in_order : AllPairs (λ i j. i < j) left
-  pub left_within : All (λ j. j < length a.latches) left
-  pub right_within : All (λ j. j < length b.latches) right
-  pub left_names : exposed_names a left ≡ names
-  pub right_names : exposed_names b right ≡ names
-  pub left_cut : IsCut a m left
-  pub right_cut : IsCut b k right
-  pub left_circuit : IsCutCircuit names (circuit_of a) (circuit_of m)
-  pub right_circuit : IsCutCircuit names (circuit_of b) (circuit_of k)
-
--- the names are those of latches of the net, in its order
-pub record StandInOrder (n : NetView) (names : List (List ℕ)) : Type 0 where
-  pub positions : List ℕ
-  pub in_order : AllPairs (λ i j. i < j) positions
-  pub within : All (λ j. j < length n.latches) positions
-  pub named : exposed_names n positions ≡ names
+use Rattle.sec_setup.specs.Cuts.{IsChoice, AreCutAt, columns_of, is_cut}
+use Rattle.sec_setup.specs.Pairs.{named_pairs}
+use Rattle.plain_form.specs.Outcome.{PairsFit, VerdictFits, greatest_size}
 
 -- the places of the outputs of the circuit with the latches of these names cut out
 abbrev pub cut_outputs : {P : Type 0} → List (List ℕ) → Circuit P → List P
@@ -48,15 +21,6 @@ IsCutOver names c = IsOver (cut names c) (cut_outputs names c) 2000000
 -- or at most that
 abbrev pub IsCutLight : {P : Type 0} → List (List ℕ) → Circuit P → Type 0
 IsCutLight names c = (w : ℕ) × IsWeight (cut names c) (cut_outputs names c) w × (w ≤ 2000000)
-
--- the names of a sequence: the shared inputs in A's order, then the exposed latches
-abbrev pub columns_of : NetView → NetView → List (List ℕ) → List (List ℕ)
-columns_of a b names = shared_inputs (ports_of a) (ports_of b) ++ names
-
--- some latch is cut open
-abbrev pub is_cut : List (List ℕ) → Bool
-is_cut [] = false
-is_cut (name ∷ names) = true
 
 -- The outcome fits the circuits: the counts, the exposed names, the pairs in order with their answers over both circuits as they
 -- are cut, and the verdict.

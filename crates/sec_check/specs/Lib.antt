@@ -1,5 +1,2 @@
-pub mod Choosing
 pub mod Compared
 pub mod Fitting
-pub mod Numbered
-pub mod Pairing

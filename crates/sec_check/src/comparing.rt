@@ -1,55 +1,24 @@
 //! Comparing two circuits.
 
-ghost use Rattle.std.specs.Prelude.{◌≡◌, ◌≤◌, ◌++◌, IfOk};
+ghost use Rattle.std.specs.Prelude.{◌≡◌, ◌≤◌, length, IfOk};
 ghost use Rattle.circuit_theory.specs.declared.Mode.TheVariants.{Plain};
 ghost use Rattle.circuit_theory.specs.Interface.{shared_inputs};
-ghost use Rattle.sec_base.specs.Table.{AreDistinct};
-ghost use Rattle.flat_net.specs.View.{ports_of};
-ghost use Rattle.latch_graph.specs.Graph.{IsGraphOf};
-ghost use Rattle.sec_check.specs.Choosing.{IsChosen, AreCutBy};
-ghost use Rattle.sec_check.specs.Compared.{Compared, InterfacesMatch};
 ghost use Rattle.flat_net.specs.Comparable.{IsComparable};
+ghost use Rattle.flat_net.specs.View.{ports_of};
+ghost use Rattle.sec_setup.specs.Choosing.{IsChosen};
+ghost use Rattle.sec_setup.specs.Cuts.{AreCutBy, AreCutOpen};
+ghost use Rattle.sec_setup.specs.Matching.{InterfacesMatch};
+ghost use Rattle.sec_setup.specs.Setup.{AreGraphed};
+ghost use Rattle.sec_check.specs.Compared.{Compared};
 
-use crate::choosing::choose;
-use crate::cycles::graph_of;
-use crate::numbers::{orders_of, shared_names};
-use crate::pairing::pairs_of;
+use crate::error::CompareError;
 use exposure::Exposure;
 use flat_net::Net;
-use latch_graph::LatchGraph;
-use plain_form::{PlainError, compare_plain};
-use sec_base::{NameTable, NoMemory, Side, Word, Words};
+use plain_form::{Findings, PlainError, compare_plain};
+use sec_base::{NameTable, NoMemory};
 use sec_outcome::{Outcome, Settings};
+use sec_setup::{Nets, Setup, choose, graph_of, set_up, shared_names};
 use std::alloc::Global;
-
-/// Why two circuits aren't compared.
-#[derive(Drop)]
-pub enum CompareError {
-    /// The first name that one circuit has and the other lacks, in the order A's inputs missing in B, B's in A, A's outputs
-    /// missing in B, B's in A.
-    Interface(Word),
-    /// The names of the latches of a cycle of this circuit's latch graph, each read by the next, the last by the first, beginning
-    /// with the least name in byte order; A comes first.
-    Cyclic(Side, Words),
-    /// The names of the latches of a cycle of this circuit that no latch breaks that both circuits have under one name, in the same
-    /// form, where latches may be cut open; A comes first.
-    Unpaired(Side, Words),
-    /// The unfoldings of this circuit's outputs weigh more than 2,000,000 together, where latches are cut open those of the cut
-    /// circuit's; A comes first.
-    TooLarge(Side),
-    /// Memory was wanted and couldn't be had.
-    NoMemory,
-}
-
-impl From<NoMemory> for CompareError {
-    ghost use Rattle.sec_check.specs.declared.comparing.CompareError.TheVariants.{NoMemory};
-
-    ghost from_gives = { λ _ e. e ≡ NoMemory };
-
-    fn from(_error: NoMemory) -> CompareError {
-        CompareError::NoMemory
-    }
-}
 
 /// Compares the circuits by unfolding their outputs into functions of the inputs at earlier cycles. Where latches may be cut open, a
 /// minimal cut of them becomes inputs, and what they take over is compared as the outputs are. It refuses, in this order:
@@ -68,134 +37,158 @@ pub fn compare(
     ensures { Compared a.now b.now settings.now result }
 {
     let shared = shared_names(alloc, a, b)?;
-    let left = graph_of(alloc, a)?;
-    let right = graph_of(alloc, b)?;
-    let exposure = choose(alloc, a, b, &left, &right, settings.expose)?;
+    let left_graph = graph_of(alloc, a)?;
+    let right_graph = graph_of(alloc, b)?;
+    let nets = Nets {
+        left: a,
+        right: b,
+        left_graph: &left_graph,
+        right_graph: &right_graph,
+    };
+    compare_matching(alloc, &nets, &shared, settings)
+}
+
+/// Compares circuits whose interfaces match, by the names of the inputs that they share.
+fn compare_matching(
+    alloc: Global,
+    nets: &Nets<'_>,
+    shared: &NameTable,
+    settings: &Settings,
+) -> Result<Outcome, CompareError>
+    requires conflicts { settings.now.conflicts ≤ 200000 }
+    requires left { IsComparable nets.now.left.now }
+    requires right { IsComparable nets.now.right.now }
+    requires graphs { AreGraphed nets.now }
+    requires matches { InterfacesMatch nets.now.left.now nets.now.right.now }
+    requires shared { shared.now ≡ shared_inputs (ports_of nets.now.left.now) (ports_of nets.now.right.now) }
+    ensures { Compared nets.now.left.now nets.now.right.now settings.now result }
+{
+    let exposure = choose(alloc, nets, settings.expose)?;
     if exposure.names.len() == 0 {
-        return compare_cut(alloc, a, b, a, b, &left, &right, shared, exposure, settings);
+        return compare_nets(
+            alloc, nets.left, nets.right, nets, shared, &exposure, settings,
+        );
     }
-    compare_exposed(alloc, a, b, shared, exposure, settings)
+    compare_exposed(alloc, nets, shared, &exposure, settings)
 }
 
 /// Compares the circuits by the nets in which the exposed latches are cut out.
 fn compare_exposed(
     alloc: Global,
-    a: &Net,
-    b: &Net,
-    shared: NameTable,
-    exposure: Exposure,
+    nets: &Nets<'_>,
+    shared: &NameTable,
+    exposure: &Exposure,
     settings: &Settings,
 ) -> Result<Outcome, CompareError>
     requires conflicts { settings.now.conflicts ≤ 200000 }
-    requires left { IsComparable a.now }
-    requires right { IsComparable b.now }
-    requires matches { InterfacesMatch a.now b.now }
-    requires shared { shared ≡ shared_inputs (ports_of a.now) (ports_of b.now) }
-    requires chosen { IsChosen a.now b.now settings.now.expose exposure }
-    ensures { Compared a.now b.now settings.now result }
+    requires left { IsComparable nets.now.left.now }
+    requires right { IsComparable nets.now.right.now }
+    requires matches { InterfacesMatch nets.now.left.now nets.now.right.now }
+    requires shared { shared.now ≡ shared_inputs (ports_of nets.now.left.now) (ports_of nets.now.right.now) }
+    requires chosen { IsChosen nets.now.left.now nets.now.right.now settings.now.expose exposure.now }
+    ensures { Compared nets.now.left.now nets.now.right.now settings.now result }
 {
-    let left_cut = a.cut(alloc, &exposure.left)?;
-    let right_cut = b.cut(alloc, &exposure.right)?;
-    compare_nets(
-        alloc, a, b, &left_cut, &right_cut, shared, exposure, settings,
+    let cut = cut_nets(alloc, nets.left, nets.right, exposure)?;
+    compare_cut(
+        alloc, nets, &cut.left, &cut.right, shared, exposure, settings,
     )
 }
 
-/// Compares the circuits by the nets in which the exposed latches are cut out.
+/// Both nets with the exposed latches cut out.
+#[derive(Drop)]
+struct CutNets {
+    left: Net,
+    right: Net,
+}
+
+/// Cuts the exposed latches out of both nets.
+fn cut_nets(alloc: Global, a: &Net, b: &Net, exposure: &Exposure) -> Result<CutNets, NoMemory>
+    requires left { IsComparable a.now }
+    requires right { IsComparable b.now }
+    requires exposed { AreCutOpen a.now b.now exposure.now }
+    ensures { IfOk result (λ c. AreCutBy a.now b.now exposure.now c.left c.right) }
+{
+    let left = a.cut(alloc, &exposure.left)?;
+    let right = b.cut(alloc, &exposure.right)?;
+    Ok(CutNets { left, right })
+}
+
+/// Compares the circuits by these nets, in which the exposed latches are cut out.
+fn compare_cut(
+    alloc: Global,
+    nets: &Nets<'_>,
+    left: &Net,
+    right: &Net,
+    shared: &NameTable,
+    exposure: &Exposure,
+    settings: &Settings,
+) -> Result<Outcome, CompareError>
+    requires conflicts { settings.now.conflicts ≤ 200000 }
+    requires left { IsComparable nets.now.left.now }
+    requires right { IsComparable nets.now.right.now }
+    requires matches { InterfacesMatch nets.now.left.now nets.now.right.now }
+    requires shared { shared.now ≡ shared_inputs (ports_of nets.now.left.now) (ports_of nets.now.right.now) }
+    requires chosen { IsChosen nets.now.left.now nets.now.right.now settings.now.expose exposure.now }
+    requires cut { AreCutBy nets.now.left.now nets.now.right.now exposure.now left.now right.now }
+    ensures { Compared nets.now.left.now nets.now.right.now settings.now result }
+{
+    let left_graph = graph_of(alloc, left)?;
+    let right_graph = graph_of(alloc, right)?;
+    let cut = Nets {
+        left,
+        right,
+        left_graph: &left_graph,
+        right_graph: &right_graph,
+    };
+    compare_nets(
+        alloc, nets.left, nets.right, &cut, shared, exposure, settings,
+    )
+}
+
+/// Compares the circuits by the nets in which the exposed latches are cut out, which are the circuits' own where none is.
 fn compare_nets(
     alloc: Global,
     a: &Net,
     b: &Net,
-    left_cut: &Net,
-    right_cut: &Net,
-    shared: NameTable,
-    exposure: Exposure,
+    cut: &Nets<'_>,
+    shared: &NameTable,
+    exposure: &Exposure,
     settings: &Settings,
 ) -> Result<Outcome, CompareError>
     requires conflicts { settings.now.conflicts ≤ 200000 }
     requires left { IsComparable a.now }
     requires right { IsComparable b.now }
     requires matches { InterfacesMatch a.now b.now }
-    requires shared { shared ≡ shared_inputs (ports_of a.now) (ports_of b.now) }
-    requires chosen { IsChosen a.now b.now settings.now.expose exposure }
-    requires cut { AreCutBy a.now b.now exposure left_cut.now right_cut.now }
-    ensures { Compared a.now b.now settings.now result }
-{
-    let left = graph_of(alloc, left_cut)?;
-    let right = graph_of(alloc, right_cut)?;
-    compare_cut(
-        alloc, a, b, left_cut, right_cut, &left, &right, shared, exposure, settings,
-    )
-}
-
-/// Compares the circuits by the nets in which the exposed latches are cut out, and by the latch graphs of these.
-fn compare_cut(
-    alloc: Global,
-    a: &Net,
-    b: &Net,
-    left: &Net,
-    right: &Net,
-    left_graph: &LatchGraph,
-    right_graph: &LatchGraph,
-    shared: NameTable,
-    exposure: Exposure,
-    settings: &Settings,
-) -> Result<Outcome, CompareError>
-    requires conflicts { settings.now.conflicts ≤ 200000 }
-    requires left_comparable { IsComparable a.now }
-    requires right_comparable { IsComparable b.now }
-    requires matches { InterfacesMatch a.now b.now }
-    requires shared { shared ≡ shared_inputs (ports_of a.now) (ports_of b.now) }
-    requires chosen { IsChosen a.now b.now settings.now.expose exposure }
-    requires cut { AreCutBy a.now b.now exposure left.now right.now }
-    requires left_graph { IsGraphOf left.now left_graph.now }
-    requires right_graph { IsGraphOf right.now right_graph.now }
+    requires shared { shared.now ≡ shared_inputs (ports_of a.now) (ports_of b.now) }
+    requires chosen { IsChosen a.now b.now settings.now.expose exposure.now }
+    requires cut { AreCutBy a.now b.now exposure.now cut.now.left.now cut.now.right.now }
+    requires graphs { AreGraphed cut.now }
     ensures { Compared a.now b.now settings.now result }
 {
     a.keeps();
     b.keeps();
-    left.keeps();
-    right.keeps();
-    let inputs = shared.len();
-    let table = columns_of(alloc, shared, &exposure.names)?;
-    let orders = orders_of(alloc, left, right, &table)?;
-    let columns = table.into_words(alloc)?;
-    let pairs = pairs_of(alloc, a, b, &exposure)?;
-    match compare_plain(
-        alloc,
-        left,
-        right,
-        left_graph,
-        right_graph,
-        &orders,
-        &columns,
-        pairs.as_slice(),
-        exposure.names.len() > 0,
-        settings.conflicts,
-    ) {
-        Ok(findings) => Ok(Outcome {
-            inputs,
-            left_latches: a.latches().len() as u32,
-            right_latches: b.latches().len() as u32,
-            exposed: exposure.names,
-            classes: 0,
-            pairs: findings.pairs,
-            through: findings.through,
-            verdict: findings.verdict,
-        }),
+    let setup = set_up(alloc, a, b, cut, shared, exposure)?;
+    match compare_plain(alloc, &setup, settings.conflicts) {
+        Ok(findings) => Ok(outcome_of(a, b, setup, findings)),
         Err(PlainError::TooLarge(side)) => Err(CompareError::TooLarge(side)),
         Err(PlainError::NoMemory) => Err(CompareError::NoMemory),
     }
 }
 
-/// The columns of a sequence: the shared inputs, then the exposed latches.
-fn columns_of(alloc: Global, shared: NameTable, exposed: &Words) -> Result<NameTable, NoMemory>
-    requires { AreDistinct (shared ++ exposed.now) }
-    ensures { IfOk result (λ columns. columns ≡ shared ++ exposed.now) }
+/// The outcome by what is found of the pairs of a setup of these nets.
+fn outcome_of(a: &Net, b: &Net, setup: Setup<'_>, findings: Findings) -> Outcome
+    ensures { result ≡ record { inputs = setup.entry.inputs; left_latches = length a.now.latches; right_latches = length b.now.latches; exposed = setup.entry.exposed; classes = 0; pairs = findings.pairs; through = findings.through; verdict = findings.verdict } }
 {
-    let mut columns = shared;
-    for name in exposed.as_slice() {
-        columns.add(alloc, name.as_slice())?;
+    a.keeps();
+    b.keeps();
+    Outcome {
+        inputs: setup.inputs,
+        left_latches: a.latches().len() as u32,
+        right_latches: b.latches().len() as u32,
+        exposed: setup.exposed,
+        classes: 0,
+        pairs: findings.pairs,
+        through: findings.through,
+        verdict: findings.verdict,
     }
-    Ok(columns)
 }

@@ -6,6 +6,6 @@ mod writing;
 
 pub use outcome::{LimitAt, Outcome, PairResult, PairResults, Verdict, Why};
 pub use pair_decide::Proof;
-pub use sec_words::Settings;
+pub use sec_base::Settings;
 pub use witness_report::{PairName, Stimulus, Witness};
 pub use writing::report;

@@ -5,7 +5,7 @@ use sec_base::{PairAnswer, Seq, Words};
 use witness_report::{PairName, Witness};
 
 /// What was found of one pair.
-#[derive(Debug, Drop)]
+#[derive(Drop)]
 pub struct PairResult {
     pub name: PairName,
     /// The greater of the two sides' sequential depths, in cycles.
@@ -19,21 +19,21 @@ pub struct PairResult {
 pub type PairResults = Seq<PairResult>;
 
 /// Where a comparison met the limit of conflicts.
-#[derive(Debug, Drop)]
+#[derive(Drop)]
 pub enum LimitAt {
     /// At the query of this pair.
     Pair(PairName),
 }
 
 /// What is shown where the functions of a pair differ and latches were cut open: the circuits themselves may still agree.
-#[derive(Debug, Drop)]
+#[derive(Drop)]
 pub enum Why {
     /// A sequence over the inputs and the latches that were cut open makes the pair of the cut circuits differ.
     Cut(Witness),
 }
 
 /// The answer of a comparison: the first of different, limit, not shown and equal that some pair has.
-#[derive(Debug, Drop)]
+#[derive(Drop)]
 pub enum Verdict {
     /// Every pair's functions agree.
     Equal,
@@ -46,7 +46,7 @@ pub enum Verdict {
 }
 
 /// All that a comparison finds.
-#[derive(Debug, Drop)]
+#[derive(Drop)]
 pub struct Outcome {
     /// The number of inputs that both circuits have.
     pub inputs: u32,

@@ -3,30 +3,13 @@
 ghost use Rattle.std.specs.Prelude.{◌≡◌, ℕ, List, [], ◌∷◌, ◌++◌, length, codes, OnOk, IfOk};
 ghost use Rattle.std.specs.Fmt.{decimal};
 ghost use Rattle.std.specs.List.{flat_map};
-ghost use Rattle.witness_report.specs.Text.{digit_of, names_text, stimulus_text};
+ghost use Rattle.witness_report.specs.Text.{stimulus_text};
 ghost use Rattle.sec_outcome.specs.Report.{answer_word, pair_text, pair_front, pair_line, values_text, witness_text, why_text, limit_text, through_text, verdict_text, counts_text, report_text};
 
 use crate::outcome::{LimitAt, Outcome, PairResult, Verdict, Why};
-use sec_base::{NoMemory, PairAnswer, Seq, Text, Words, put, put_number};
-use sec_words::Settings;
+use sec_base::{NoMemory, PairAnswer, Seq, Settings, Text, digit_of, put, put_names, put_number};
 use std::alloc::Global;
 use witness_report::{PairName, Stimulus, Witness, write_stimulus};
-
-fn digit_of(bit: bool) -> u8
-    ensures { result ≡ digit_of bit }
-{
-    if bit { b'1' } else { b'0' }
-}
-
-fn put_names(text: &mut Vec<u8>, names: &Words) -> Result<(), NoMemory>
-    ensures { OnOk result (text.new.items ≡ text.old.items ++ names_text names.now) }
-{
-    for name in names.as_slice() {
-        put(text, b" ")?;
-        put(text, name.as_slice())?;
-    }
-    Ok(())
-}
 
 fn put_stimulus(alloc: Global, text: &mut Vec<u8>, stimulus: &Stimulus) -> Result<(), NoMemory>
     ensures { OnOk result (text.new.items ≡ text.old.items ++ stimulus_text stimulus.now.names stimulus.now.rows) }

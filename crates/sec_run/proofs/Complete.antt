@@ -10,7 +10,7 @@ use Rattle.sec_words.specs.declared.task.Task.TheVariants as task
 use Rattle.sec_files.specs.Loading.{IsAccepted, IsTooLong, HasFault, HasDesignFault}
 use Rattle.flat_net.specs.View.{circuit_of}
 use Rattle.exposure.specs.Common.{common_names}
-use Rattle.sec_check.specs.Compared.{AreBroken}
+use Rattle.sec_setup.specs.Cycles.{AreBroken}
 use Rattle.sec_run.specs.declared.finding.Refusal.{Refusal}
 use Rattle.sec_run.specs.declared.finding.Refusal.TheVariants as refusal
 use Rattle.sec_run.specs.declared.finding.Finding.{Finding}

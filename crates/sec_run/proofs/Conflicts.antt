@@ -6,7 +6,7 @@ use Rattle.circuit_theory.specs.declared.Mode.{Mode}
 use Rattle.clap.specs.Words.{Row, Text, fault_of, first_of, subcommand_of}
 use Rattle.clap.specs.ValueTests.{accepts}
 use Rattle.clap.proofs.ValueTestLemmas.{accepts-Accepts}
-use Rattle.sec_words.specs.declared.settings.Settings.{Settings}
+use Rattle.sec_base.specs.declared.settings.Settings.{Settings}
 use Rattle.sec_words.specs.declared.task.Task.{Task}
 use Rattle.sec_words.specs.declared.task.Task.TheVariants as task
 use Rattle.sec_words.specs.Command.{sec_app, most_conflicts, any_number}

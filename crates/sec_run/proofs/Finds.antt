@@ -8,12 +8,12 @@ use Rattle.blif_read.specs.declared.error.ReadError.TheVariants as read_error
 use Rattle.flat_net.specs.View.{NetView}
 use Rattle.flat_walk.specs.declared.error.FlatError.{FlatError}
 use Rattle.flat_walk.specs.declared.error.FlatError.TheVariants as flat_error
-use Rattle.sec_words.specs.declared.settings.Settings.{Settings}
+use Rattle.sec_base.specs.declared.settings.Settings.{Settings}
 use Rattle.sec_words.specs.declared.task.Task.{Task}
 use Rattle.sec_words.specs.declared.task.Task.TheVariants as task
 use Rattle.sec_outcome.specs.declared.outcome.Outcome.{Outcome}
-use Rattle.sec_check.specs.declared.comparing.CompareError.{CompareError}
-use Rattle.sec_check.specs.declared.comparing.CompareError.TheVariants as compare_error
+use Rattle.sec_check.specs.declared.error.CompareError.{CompareError}
+use Rattle.sec_check.specs.declared.error.CompareError.TheVariants as compare_error
 use Rattle.sec_files.specs.declared.loading.LoadError.{LoadError}
 use Rattle.sec_files.specs.declared.loading.LoadError.TheVariants as load_error
 use Rattle.sec_check.specs.Compared.{Compared}

@@ -10,7 +10,7 @@ use Rattle.pair_decide.specs.declared.query.Proof.{Proof}
 use Rattle.sec_outcome.specs.declared.outcome.PairResult.{PairResult}
 use Rattle.plain_form.specs.Limits.{IsUndecided}
 use Rattle.plain_form.specs.Outcome.{AnswerFits}
-use Rattle.sec_check.specs.Fitting.{is_cut}
+use Rattle.sec_setup.specs.Cuts.{is_cut}
 
 some_is : {X : Type 0} {x y : X} → Some x ≡ Some y → x ≡ y
 some_is q = cc

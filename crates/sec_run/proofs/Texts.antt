@@ -6,7 +6,7 @@ use Rattle.sec_base.specs.Outside.{Takes}
 use Rattle.flat_net.specs.View.{NetView, circuit_of}
 use Rattle.pair_decide.specs.declared.query.Proof.{Proof}
 use Rattle.witness_report.specs.declared.witness.Witness.{Witness}
-use Rattle.sec_words.specs.declared.settings.Settings.{Settings}
+use Rattle.sec_base.specs.declared.settings.Settings.{Settings}
 use Rattle.sec_outcome.specs.declared.outcome.PairResult.{PairResult}
 use Rattle.sec_outcome.specs.declared.outcome.LimitAt.{LimitAt}
 use Rattle.sec_outcome.specs.declared.outcome.LimitAt.TheVariants as limit_at
@@ -15,9 +15,10 @@ use Rattle.sec_outcome.specs.declared.outcome.Verdict.{Verdict}
 use Rattle.sec_outcome.specs.declared.outcome.Verdict.TheVariants as verdict
 use Rattle.sec_outcome.specs.declared.outcome.Why.TheVariants as why
 use Rattle.sec_outcome.specs.Report.{report_text}
-use Rattle.plain_form.specs.Outcome.{NamedPair, named_pairs, PairFits, VerdictFits, IsFirstLimit}
+use Rattle.plain_form.specs.Outcome.{PairFits, VerdictFits, IsFirstLimit}
+use Rattle.sec_setup.specs.Pairs.{NamedPair, named_pairs}
 use Rattle.sec_check.specs.Compared.{IsCompared}
-use Rattle.sec_check.specs.Fitting.{columns_of, is_cut}
+use Rattle.sec_setup.specs.Cuts.{columns_of, is_cut}
 use Rattle.sec_files.specs.Loading.{Loads}
 use Rattle.blif_read.specs.Design.{circuit_of_design}
 use Rattle.blif_read.specs.Reading.{spelled}

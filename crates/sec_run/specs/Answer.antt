@@ -12,7 +12,7 @@ use Rattle.blif_read.specs.Design.{Place}
 use Rattle.flat_net.specs.View.{NetView, circuit_of, ports_of}
 use Rattle.pair_decide.specs.declared.query.Proof.{Proof}
 use Rattle.witness_report.specs.declared.witness.Witness.{Witness}
-use Rattle.sec_words.specs.declared.settings.Settings.{Settings}
+use Rattle.sec_base.specs.declared.settings.Settings.{Settings}
 use Rattle.sec_words.specs.declared.task.Task.{Task}
 use Rattle.sec_words.specs.declared.task.Task.TheVariants as task
 use Rattle.sec_outcome.specs.declared.outcome.PairResult.{PairResult}
@@ -23,10 +23,12 @@ use Rattle.sec_outcome.specs.declared.outcome.Why.TheVariants as why
 use Rattle.sec_outcome.specs.declared.outcome.Outcome.{Outcome}
 use Rattle.sec_outcome.specs.Report.{report_text}
 use Rattle.plain_form.specs.Limits.{IsUndecided}
-use Rattle.plain_form.specs.Outcome.{NamedPair, named_pairs}
-use Rattle.sec_check.specs.declared.comparing.CompareError.TheVariants as compare_error
-use Rattle.sec_check.specs.Compared.{Compared, InterfacesMatch, AreEqual, AreBroken, AreTooLarge}
-use Rattle.sec_check.specs.Fitting.{IsChoice, AreCutAt, columns_of}
+use Rattle.sec_setup.specs.Pairs.{NamedPair, named_pairs}
+use Rattle.sec_check.specs.declared.error.CompareError.TheVariants as compare_error
+use Rattle.sec_check.specs.Compared.{Compared, AreEqual, AreTooLarge}
+use Rattle.sec_setup.specs.Matching.{InterfacesMatch}
+use Rattle.sec_setup.specs.Cycles.{AreBroken}
+use Rattle.sec_setup.specs.Cuts.{IsChoice, AreCutAt, columns_of}
 use Rattle.sec_files.specs.Loading.{IsAccepted, Loads, IsTooLong, HasFault, HasDesignFault, SpellsCircuit}
 use Rattle.witness_report.specs.Shown.{MakesDiffer, MakesCutsDiffer, AgreeFrom}
 use Rattle.sec_run.specs.declared.finding.Refusal.{Refusal}

@@ -7,11 +7,11 @@ use Rattle.blif_read.specs.declared.error.ReadError.TheVariants as read_error
 use Rattle.flat_walk.specs.declared.error.FlatError.{FlatError}
 use Rattle.flat_walk.specs.declared.error.FlatError.TheVariants as flat_error
 use Rattle.pair_decide.specs.declared.query.Proof.{Proof}
-use Rattle.sec_words.specs.declared.settings.Settings.{Settings}
+use Rattle.sec_base.specs.declared.settings.Settings.{Settings}
 use Rattle.sec_words.specs.declared.task.Task.{Task}
 use Rattle.sec_outcome.specs.declared.outcome.Outcome.{Outcome}
-use Rattle.sec_check.specs.declared.comparing.CompareError.{CompareError}
-use Rattle.sec_check.specs.declared.comparing.CompareError.TheVariants as compare_error
+use Rattle.sec_check.specs.declared.error.CompareError.{CompareError}
+use Rattle.sec_check.specs.declared.error.CompareError.TheVariants as compare_error
 use Rattle.sec_files.specs.declared.loading.LoadError.{LoadError}
 use Rattle.sec_files.specs.declared.loading.LoadError.TheVariants as load_error
 use Rattle.witness_report.specs.declared.error.StimError.TheVariants as stim_error

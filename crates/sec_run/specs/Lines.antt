@@ -7,7 +7,7 @@ use Rattle.blif_read.specs.declared.error.ReadKind.{ReadKind}
 use Rattle.blif_read.specs.declared.error.ReadKind.TheVariants as kind
 use Rattle.flat_walk.specs.declared.error.FlatError.{FlatError}
 use Rattle.flat_walk.specs.declared.error.FlatError.TheVariants as flat
-use Rattle.witness_report.specs.Text.{names_text}
+use Rattle.sec_base.specs.Texts.{names_text}
 use Rattle.sec_outcome.specs.Report.{report_text}
 use Rattle.sim_report.specs.declared.refusal.Misfit.{Misfit}
 use Rattle.sim_report.specs.declared.refusal.Misfit.TheVariants as misfit

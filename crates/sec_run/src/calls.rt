@@ -1,6 +1,6 @@
 //! The top call.
 
-ghost use Rattle.std.specs.Prelude.{◌≡◌, ◌≢◌, ◌≤◌, ℕ, List, IsErrOf, IsSomeAnd, IfOk, OnOk, map, string_bytes, Option, None, Some, option_and_then, option_to_list, ◌++◌};
+ghost use Rattle.std.specs.Prelude.{◌≡◌, ◌≢◌, ◌≤◌, ℕ, List, [], Ok, IsErrOf, IsSomeAnd, IfOk, OnOk, map, string_bytes, Option, None, Some, option_and_then, option_to_list, ◌++◌};
 ghost use Rattle.std.specs.List.{filter_map};
 ghost use Rattle.circuit_theory.specs.declared.Mode.TheVariants.{Plain};
 ghost use Rattle.sec_base.specs.Outside.{Rose, SameHeld, NoneFell};
@@ -164,19 +164,31 @@ fn comparison_report(
     Ok((text, proofs))
 }
 
+/// The report, if it could be made, of a finding without proofs.
+fn without_proofs(
+    alloc: Global,
+    made: Result<Text, NoMemory>,
+) -> Result<(Text, Proofs), NoMemory>
+    ensures text { IfOk result (λ r. made ≡ Ok r.0) }
+    ensures proofs { IfOk result (λ r. r.1 ≡ []) }
+{
+    match made {
+        Ok(text) => Ok((text, Proofs::new(alloc))),
+        Err(NoMemory) => Err(NoMemory),
+    }
+}
+
 /// The report of what was found, and the proofs of the queries that met the limit, in the order in which they were decided.
 fn report_of(alloc: Global, finding: Finding) -> Result<(Text, Proofs), NoMemory>
     ensures text { IfOk result (λ made. made.0 ≡ finding_text finding) }
     ensures proofs { IfOk result (λ made. made.1 ≡ proofs_of finding) }
 {
     match finding {
-        Finding::Words => Ok((words_report(alloc)?, Proofs::new(alloc))),
-        Finding::Refused(refusal) => Ok((refusal_report(alloc, &refusal)?, Proofs::new(alloc))),
-        Finding::Cyclic(side, names) => {
-            Ok((cycle_report(alloc, side, &names)?, Proofs::new(alloc)))
-        }
+        Finding::Words => without_proofs(alloc, words_report(alloc)),
+        Finding::Refused(refusal) => without_proofs(alloc, refusal_report(alloc, &refusal)),
+        Finding::Cyclic(side, names) => without_proofs(alloc, cycle_report(alloc, side, &names)),
         Finding::Unpaired(side, names) => {
-            Ok((unpaired_report(alloc, side, &names)?, Proofs::new(alloc)))
+            without_proofs(alloc, unpaired_report(alloc, side, &names))
         }
         Finding::Checked(outcome, settings) => comparison_report(alloc, outcome, &settings),
         Finding::Done(text) => Ok((text, Proofs::new(alloc))),

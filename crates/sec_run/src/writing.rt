@@ -2,12 +2,12 @@
 
 ghost use Rattle.std.specs.Prelude.{◌≡◌, ℕ, List, [], ◌∷◌, ◌++◌, codes, OnOk, IfOk};
 ghost use Rattle.std.specs.Fmt.{decimal};
-ghost use Rattle.witness_report.specs.Text.{names_text};
+ghost use Rattle.sec_base.specs.Texts.{names_text};
 ghost use Rattle.sec_run.specs.Lines.{side_word, kind_text, design_fault_text, misfit_text, refusal_text, words_text, cycle_text, unpaired_text};
 
 use crate::finding::Refusal;
 use blif_read::ReadKind;
-use sec_base::{NoMemory, Seq, Side, Text, Words, put, put_number};
+use sec_base::{NoMemory, Seq, Side, Text, Words, put, put_names, put_number};
 use sec_files::FlatError;
 use sim_report::Misfit;
 use std::alloc::Global;
@@ -80,17 +80,6 @@ fn put_fault(
     put(text, b" ")?;
     put_kind(text, kind)?;
     put(text, b"\n")
-}
-
-/// Puts each name behind a blank.
-fn put_names(text: &mut Vec<u8>, names: &Words) -> Result<(), NoMemory>
-    ensures { OnOk result (text.new.items ≡ text.old.items ++ names_text names.now) }
-{
-    for name in names.as_slice() {
-        put(text, b" ")?;
-        put(text, name.as_slice())?;
-    }
-    Ok(())
 }
 
 fn put_design_fault(text: &mut Vec<u8>, fault: &FlatError) -> Result<(), NoMemory>

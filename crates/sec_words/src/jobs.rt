@@ -9,12 +9,11 @@ ghost use Rattle.sec_words.specs.Command.{sec_app};
 ghost use Rattle.sec_words.specs.Jobs.{job_of, task_in, check_in, graph_in, sim_in, replay_in, gen_in, mode_of, mode_in, is_set, number_of, conflicts_in, settings_in};
 
 use crate::command::sec_command;
-use crate::settings::Settings;
 use crate::task::Task;
 use circuit_theory::Mode;
 use clap::ArgMatches;
 use clap::error::ErrorKind;
-use sec_base::{FilePath, NoMemory, Seq, Word};
+use sec_base::{FilePath, NoMemory, Seq, Settings, Word};
 use std::alloc::{AllocError, Global};
 
 /// Why the words are no job.

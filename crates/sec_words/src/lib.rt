@@ -6,9 +6,8 @@
 
 mod command;
 mod jobs;
-mod settings;
 mod task;
 
 pub use jobs::{WordsError, job};
-pub use settings::Settings;
+pub use sec_base::Settings;
 pub use task::Task;

@@ -1,8 +1,7 @@
 //! What the program is asked to do.
 
-use crate::settings::Settings;
 use circuit_theory::Mode;
-use sec_base::{FilePath, Word};
+use sec_base::{FilePath, Settings, Word};
 
 /// What the words of a command line ask for: a job.
 #[derive(Debug, Drop)]

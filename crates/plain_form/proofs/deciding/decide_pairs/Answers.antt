@@ -1,11 +1,11 @@
 -- Each pair is decided behind those before it.
 use Rattle.std.proofs.Common.{List, subst, arith}
 use Rattle.std.proofs.lemmas.List.{take_all}
-use Rattle.plain_form.specs.declared.pairing.SignalPair.{SignalPair}
-use Rattle.plain_form.specs.Found.{HaveFound}
+use Rattle.sec_setup.specs.declared.pairing.SignalPair.{SignalPair}
+use Rattle.plain_form.specs.Found.{HaveFoundIn}
 use Rattle.plain_form.proofs.deciding.decide_pairs.Goals as goal
 
 pub returns : goal.returns
-returns c = λ x.
-    subst (λ (ps : List SignalPair). HaveFound c.args.a.now c.args.b.now x.left x.right c.args.columns.now c.args.cut c.args.conflicts ps c.loop-i.decided.results c.loop-i.decided.first)
-    (take_all c.loop-i.i c.args.pairs.now (omega (arith, c.loop-i-test.false))) (c.loop-i.invariant x)
+returns c =
+    subst (λ (ps : List SignalPair). HaveFoundIn c.args.setup.now c.args.conflicts ps c.loop-i.decided.results c.loop-i.decided.first)
+    (take_all c.loop-i.i c.args.setup.now.pairs (omega (arith, c.loop-i-test.false, c.len-i-end.ensures))) c.loop-i.invariant

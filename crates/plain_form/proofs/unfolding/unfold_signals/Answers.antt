@@ -1,83 +1,37 @@
--- Signal after signal the functions stay, and the weight is that of all signals so far.
-use Rattle.std.proofs.Common.{◌≡◌, ◌∙◌, ℕ, List, ◌+◌, take, refl, sym, ap, subst, arith, rules}
-use Rattle.std.specs.List.{AllZip}
-use Rattle.std.proofs.lemmas.List.{take_all}
-use Rattle.circuit_theory.specs.Sizes.{IsWeight}
+-- An unfolder that has unfolded nothing unfolds all.
+use Rattle.std.proofs.Common.{◌≡◌, ◌<◌, ℕ, List, length, refl, sym, subst, Err, IfOk}
+use Rattle.std.specs.Prelude.{OnOk}
+use Rattle.std.specs.List.{All, AllZip}
 use Rattle.flat_net.specs.declared.signals.Signal.{Signal}
-use Rattle.flat_net.specs.View.{NetView, circuit_of}
-use Rattle.aig.proofs.Growth.{Grows-trans}
+use Rattle.flat_net.specs.View.{NetView}
+use Rattle.cbf_unfold.specs.declared.error.UnfoldError.TheVariants as unfold_error
 use Rattle.cbf_unfold.specs.declared.unfolder.Unfolded.{Unfolded}
-use Rattle.cbf_unfold.proofs.Going.{later_none, later_trans}
-use Rattle.cbf_unfold.proofs.Lists.{adds_none, adds_trans}
-use Rattle.cbf_unfold.proofs.PlaceLits.{zip_more_left}
-use Rattle.plain_form.specs.Pairs.{IsFunctionOf}
-use Rattle.plain_form.proofs.Growing.{functions_later, function_of, numbers_of, done_next, over_all}
+use Rattle.cbf_unfold.proofs.Lists.{adds_none}
+use Rattle.plain_form.specs.Pairs.{IsFunctionOf, AreLight, AreTooLarge}
+use Rattle.plain_form.proofs.Growing.{numbers_of}
 use Rattle.plain_form.proofs.unfolding.unfold_signals.Goals as goal
 
 pub returns-in_err-unfolder-clause-adds : goal.returns-in_err-unfolder-clause-adds
 returns-in_err-unfolder-clause-adds c = adds_none (λ (p : ℕ × ℕ). Unit {0}) c.args.places.now c.args.places.now refl
 
-pub loop-s-init : goal.loop-s-init
-loop-s-init c =
-    let u = c.in_ok-unfolder.unfolder in
-    let fits = c.in_ok-unfolder.ensures.fits c.args.aig.now c.args.places.now in
-    record {
-      net = c.in_ok-unfolder.ensures.net;
-      order = c.in_ok-unfolder.ensures.order;
-      done = c.in_ok-unfolder.ensures.none;
-      fits = fits;
-      later = later_none u c.args.aig.now c.args.places.now (omega (arith, fits.small, fits.limit));
-      unfolded = search rules;
-    }
-
-pub returns-in_err-one-clause-over : goal.returns-in_err-one-clause-over
-returns-in_err-one-clause-over c = λ e.
-    over_all c.args.signals.now c.loop-s.s-index _ c.loop-s.unfolder c.args.net.now c.loop-s-test.true c.loop-s.invariant.done c.loop-s.invariant.net (c.unfold.ensures.over (search rules))
-
-pub returns-in_err-one-clause-grows : goal.returns-in_err-one-clause-grows
-returns-in_err-one-clause-grows c = Grows-trans c.args.aig.now c.loop-s.aig c.unfold.new.aig c.loop-s.invariant.later.grows c.unfold.ensures.later.grows
-
-pub returns-in_err-one-clause-adds : goal.returns-in_err-one-clause-adds
-returns-in_err-one-clause-adds c = adds_trans (λ (p : ℕ × ℕ). Unit {0}) c.args.places.now c.loop-s.places c.unfold.new.places c.loop-s.invariant.later.adds c.unfold.ensures.later.adds
-
-pub returns-in_err-push-clause-grows : goal.returns-in_err-push-clause-grows
-returns-in_err-push-clause-grows c = Grows-trans c.args.aig.now c.loop-s.aig c.unfold.new.aig c.loop-s.invariant.later.grows c.unfold.ensures.later.grows
-
-pub returns-in_err-push-clause-adds : goal.returns-in_err-push-clause-adds
-returns-in_err-push-clause-adds c = adds_trans (λ (p : ℕ × ℕ). Unit {0}) c.args.places.now c.loop-s.places c.unfold.new.places c.loop-s.invariant.later.adds c.unfold.ensures.later.adds
-
-pub loop-s-preserved : goal.loop-s-preserved
-loop-s-preserved c =
-    let n = c.args.net.now in
-    let order = c.args.order.now in
-    let i = c.loop-s.s-index in
-    let g = c.unfold.new.aig in
-    let places = c.unfold.new.places in
-    let later = c.unfold.ensures.later in
-    record {
-      net = later.net ∙ c.loop-s.invariant.net;
-      order = later.order ∙ c.loop-s.invariant.order;
-      done = done_next c.args.signals.now i _ c.loop-s.unfolder.done c.unfold.new.self.done c.loop-s-test.true c.loop-s.invariant.done c.in_ok-one.ensures.done;
-      fits = c.in_ok-one.ensures.fits;
-      later = later_trans c.in_ok-unfolder.unfolder c.loop-s.unfolder c.unfold.new.self c.args.aig.now c.loop-s.aig g c.args.places.now c.loop-s.places places c.loop-s.invariant.later later;
-      unfolded =
-          subst (λ (us : List Unfolded). AllZip (λ (s : Signal) (u : Unfolded). IsFunctionOf n order g places s.0 u) (take (i + 1) c.args.signals.now) us) (sym {A = List Unfolded} c.in_ok-push.ensures.items)
-          (zip_more_left (λ (s : Signal) (u : Unfolded). IsFunctionOf n order g places s.0 u) c.args.signals.now c.loop-s.unfolded.items i _ c.in_ok-one.one c.loop-s-test.true
-          (functions_later (λ (s : Signal). s.0) n order c.loop-s.aig g c.loop-s.places places later.grows later.adds (take i c.args.signals.now) c.loop-s.unfolded.items c.loop-s.invariant.unfolded)
-          (function_of c.loop-s.unfolder c.unfold.new.self n order c.loop-s.aig g g c.loop-s.places places places _ c.in_ok-one.one c.loop-s.invariant.net c.loop-s.invariant.order later c.in_ok-one.ensures.unfolded));
-    }
+pub unfold_all-requires : goal.unfold_all-requires
+unfold_all-requires c = record {
+  signals = subst (λ (n : NetView). All (λ (s : Signal). s.0 < length n.drivers) c.args.signals.now) (sym c.in_ok-unfolder.ensures.net) c.requires.signals;
+  none = c.in_ok-unfolder.ensures.none;
+  fits = c.in_ok-unfolder.ensures.fits c.args.aig.now c.args.places.now;
+  nodes = c.requires.nodes;
+  entries = c.requires.entries;
+}
 
 pub returns-clause-unfolded : goal.returns-clause-unfolded
 returns-clause-unfolded c =
-    subst (λ (ss : List Signal). AllZip (λ (s : Signal) (u : Unfolded). IsFunctionOf c.args.net.now c.args.order.now c.loop-s.aig c.loop-s.places s.0 u) ss c.loop-s.unfolded.items)
-    (take_all c.loop-s.s-index c.args.signals.now c.loop-s-test.false) c.loop-s.invariant.unfolded
+    let u = c.in_ok-unfolder.unfolder in
+    subst (λ (n : NetView). IfOk c.unfold_all.result (λ us. AllZip (λ (s : Signal) (x : Unfolded). IsFunctionOf n c.args.order.now c.unfold_all.new.aig c.unfold_all.new.places s.0 x) c.args.signals.now us.items)) c.in_ok-unfolder.ensures.net
+    (subst (λ (o : List ℕ). IfOk c.unfold_all.result (λ us. AllZip (λ (s : Signal) (x : Unfolded). IsFunctionOf u.net o c.unfold_all.new.aig c.unfold_all.new.places s.0 x) c.args.signals.now us.items)) c.in_ok-unfolder.ensures.order
+    c.unfold_all.ensures.unfolded)
 
 pub returns-clause-light : goal.returns-clause-light
-returns-clause-light c =
-    let fits = c.loop-s.invariant.fits in
-    let all : c.loop-s.unfolder.done ≡ numbers_of c.args.signals.now = c.loop-s.invariant.done ∙ ap numbers_of (take_all c.loop-s.s-index c.args.signals.now c.loop-s-test.false) in (
-      c.loop-s.unfolder.weight,
-      subst (λ (n : NetView). IsWeight (circuit_of n) (numbers_of c.args.signals.now) c.loop-s.unfolder.weight) c.loop-s.invariant.net
-          (subst (λ (l : List ℕ). IsWeight (circuit_of c.loop-s.unfolder.net) l c.loop-s.unfolder.weight) all fits.weighs),
-      fits.small,
-    )
+returns-clause-light c = subst (λ (n : NetView). OnOk c.unfold_all.result (AreLight n (numbers_of c.args.signals.now))) c.in_ok-unfolder.ensures.net c.unfold_all.ensures.light
+
+pub returns-clause-over : goal.returns-clause-over
+returns-clause-over c = subst (λ (n : NetView). c.unfold_all.result ≡ Err unfold_error.TooLarge → AreTooLarge n (numbers_of c.args.signals.now)) c.in_ok-unfolder.ensures.net c.unfold_all.ensures.over

@@ -1,8 +1,9 @@
--- Nets without latches cut out.
-use Rattle.std.proofs.Common.{◌≡◌, ◌∙◌, ℕ, List, length, sym}
-use Rattle.sec_check.proofs.Uncut.{uncut, no_names}
+-- Interfaces that don't match.
+use Rattle.sec_check.specs.Compared.{Compared, refusal_of}
+use Rattle.sec_check.proofs.Refusals.{refused_by, unmatched}
 use Rattle.sec_check.proofs.comparing.compare.Goals as goal
 
-pub compare_cut-requires-clause-cut : goal.compare_cut-requires-clause-cut
-compare_cut-requires-clause-cut c =
-    uncut c.args.a.now c.args.b.now c.args.settings.now.expose c.in_ok-exposure.exposure c.in_ok-exposure.ensures (no_names c.in_ok-exposure.exposure.names (sym c.len.ensures ∙ c.if-len-eq0.true))
+pub returns-in_err-shared : goal.returns-in_err-shared
+returns-in_err-shared c =
+    refused_by (Compared c.args.a.now c.args.b.now c.args.settings.now) c.from_residual.result (refusal_of c.in_err-shared.field-0.0) c.from_residual.ensures.1
+    (unmatched c.args.a.now c.args.b.now c.args.settings.now c.in_err-shared.field-0.0 c.in_err-shared.ensures.err)

@@ -1,0 +1,35 @@
+-- The choice of the latches that are cut open, and the numbers of the inputs of nets.
+use Rattle.std.specs.Prelude.{◌≡◌, ℕ, Bool, true, false, List, [], Result, Ok, Err}
+use Rattle.circuit_theory.specs.declared.Side.TheVariants.{A, B}
+use Rattle.circuit_theory.specs.Interface.{AreNumbersOf}
+use Rattle.sec_base.specs.declared.basics.Orders.{Orders}
+use Rattle.flat_net.specs.View.{NetView, circuit_of, ports_of}
+use Rattle.exposure.specs.Common.{common_names}
+use Rattle.exposure.specs.Exposed.{IsFreeWithout, IsToldCycle}
+use Rattle.exposure.specs.declared.exposing.Exposure.{Exposure}
+use Rattle.sec_setup.specs.declared.error.SetupError.{SetupError}
+use Rattle.sec_setup.specs.declared.error.SetupError.TheVariants as refused
+use Rattle.sec_setup.specs.Cuts.{AreCutOpen}
+use Rattle.sec_setup.specs.Cycles.{IsAcyclic, AreBroken}
+
+-- The latches that are cut open. None is where none is to be, and then no latch graph has a cycle.
+pub record IsChosen (a b : NetView) (expose : Bool) (e : Exposure) : Type 0 where
+  pub cut_open : AreCutOpen a b e
+  pub closed : expose ≡ false → e.names ≡ []
+  pub broken : AreBroken a b expose
+
+-- the choice, or the cycle that is refused
+abbrev pub Chosen : NetView → NetView → Bool → Result Exposure SetupError → Type 0
+Chosen a b expose (Ok e) = IsChosen a b expose e
+Chosen a b expose (Err (refused.Interface name)) = ⊥
+Chosen a b expose (Err (refused.Cyclic A names)) = (expose ≡ false) × IsToldCycle a [] names
+Chosen a b expose (Err (refused.Cyclic B names)) = (expose ≡ false) × IsAcyclic a × IsToldCycle b [] names
+Chosen a b expose (Err (refused.Unpaired A names)) = (expose ≡ true) × IsToldCycle a (common_names (circuit_of a) (circuit_of b)) names
+Chosen a b expose (Err (refused.Unpaired B names)) =
+    (expose ≡ true) × IsFreeWithout a (common_names (circuit_of a) (circuit_of b)) × IsToldCycle b (common_names (circuit_of a) (circuit_of b)) names
+Chosen a b expose (Err refused.NoMemory) = Unit {0}
+
+-- the numbers of the inputs of both nets, where the columns have their places as numbers
+pub record AreNumbered (a b : NetView) (columns : List (List ℕ)) (orders : Orders) : Type 0 where
+  pub left : AreNumbersOf (ports_of a).inputs columns orders.left orders.right
+  pub right : AreNumbersOf (ports_of b).inputs columns orders.right orders.left

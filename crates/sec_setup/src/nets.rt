@@ -1,0 +1,13 @@
+//! Two nets beside one another.
+
+use flat_net::Net;
+use latch_graph::LatchGraph;
+
+/// Two nets, A's and B's, and the latch graph of each.
+#[derive(Clone, Copy)]
+pub struct Nets<'a> {
+    pub left: &'a Net,
+    pub right: &'a Net,
+    pub left_graph: &'a LatchGraph,
+    pub right_graph: &'a LatchGraph,
+}
