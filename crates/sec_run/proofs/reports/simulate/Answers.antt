@@ -22,8 +22,8 @@ returns-in-Err-clause-found g c =
     subst (λ (r : Result Finding Stop). EndsBy P failed r) (sym c.load_end.ensures)
     (circuit_ends P failed (Rose (before sim.circuit) (now sim.circuit)) (held sim.circuit) c.in-Err.error (sim_circuit (held sim.circuit) (held sim.stimulus) sim.power) (λ rose. inl rose) c.in-Err.ensures.err)
 
-pub returns-in-Ok-clause-found : goal.returns-in-Ok-clause-found
-returns-in-Ok-clause-found g c =
+pub returns-in-Ok-plain_run-clause-found : goal.returns-in-Ok-plain_run-clause-found
+returns-in-Ok-plain_run-clause-found g c =
     let sim : Sim = record { circuit = c.args.simulation.now.circuit.now; stimulus = c.args.simulation.now.stimulus.now; power = option_map (λ digits. digits.now) c.args.simulation.now.power } in
     let held = g.S.Shelf.held c.args.shelf.now in
     let names = c.in-Ok-load_stimulus.stimulus.names in
