@@ -4,7 +4,7 @@ ghost use Rattle.std.specs.Prelude.{◌<◌, ◌≤◌, length, IfOk};
 ghost use Rattle.latch_graph.specs.Graph.{IsGraphOf};
 
 use crate::fault::Fault;
-use exposure::{ExposeError, expose};
+use exposure::{ExposeError, Exposure, expose};
 use flat_net::{Net, Signal, Signals};
 use latch_graph::{LatchGraph, Weight};
 use sec_base::{Bits, Ids, NoMemory, Seq, Shelf, Side, Words, put, put_number};
@@ -45,31 +45,54 @@ pub fn put_exposed<S: Shelf>(
     told: &mut Vec<u8>,
     files: &str,
 ) -> Result<(), Fault> {
-    let (a, b) = files.split_once(' ').ok_or(Fault::Row)?;
-    let a = load(alloc, data, a)?;
-    let b = load(alloc, data, b)?;
-    put_exposed_of(alloc, told, &a, &b)?;
-    put(told, b"\n")?;
+    let (left, right) = files.split_once(' ').ok_or(Fault::Row)?;
+    let a = load(alloc, data, left)?;
+    put_exposed_beside(alloc, data, told, &a, right)
+}
+
+fn put_exposed_beside<S: Shelf>(
+    alloc: Global,
+    data: &mut S,
+    told: &mut Vec<u8>,
+    a: &Net,
+    file: &str,
+) -> Result<(), Fault> {
+    let b = load(alloc, data, file)?;
+    put_exposed_of(alloc, told, a, &b)?;
     Ok(())
 }
 
 fn put_exposed_of(alloc: Global, told: &mut Vec<u8>, a: &Net, b: &Net) -> Result<(), NoMemory> {
+    match exposed(alloc, a, b) {
+        Ok(exposure) => put_exposure(alloc, told, &exposure),
+        Err(error) => put_refusal(told, &error),
+    }
+}
+
+fn exposed(alloc: Global, a: &Net, b: &Net) -> Result<Exposure, ExposeError> {
     let left = graph_of(alloc, a)?;
     let right = graph_of(alloc, b)?;
-    match expose(alloc, a, b, &left, &right) {
-        Ok(exposure) => {
-            put(told, b"exposed")?;
-            put_names(told, &exposure.names)?;
-            put(told, b" left")?;
-            put_positions(alloc, told, &exposure.left)?;
-            put(told, b" right")?;
-            put_positions(alloc, told, &exposure.right)
+    expose(alloc, a, b, &left, &right)
+}
+
+fn put_exposure(alloc: Global, told: &mut Vec<u8>, exposure: &Exposure) -> Result<(), NoMemory> {
+    put(told, b"exposed")?;
+    put_names(told, &exposure.names)?;
+    put(told, b" left")?;
+    put_positions(alloc, told, &exposure.left)?;
+    put(told, b" right")?;
+    put_positions(alloc, told, &exposure.right)?;
+    put(told, b"\n")
+}
+
+fn put_refusal(told: &mut Vec<u8>, error: &ExposeError) -> Result<(), NoMemory> {
+    match error {
+        ExposeError::Unpaired(side, names) => {
+            put(told, side_text(*side))?;
+            put_names(told, names)?;
+            put(told, b"\n")
         }
-        Err(ExposeError::Unpaired(side, names)) => {
-            put(told, side_text(side))?;
-            put_names(told, &names)
-        }
-        Err(ExposeError::NoMemory) => Err(NoMemory),
+        ExposeError::NoMemory => Err(NoMemory),
     }
 }
 
@@ -88,11 +111,27 @@ pub fn put_graph<S: Shelf>(
     path: &str,
 ) -> Result<(), Fault> {
     let net = load(alloc, data, path)?;
-    let graph = graph_of(alloc, &net)?;
+    put_graph_of(alloc, told, &net)?;
+    Ok(())
+}
+
+fn put_graph_of(alloc: Global, told: &mut Vec<u8>, net: &Net) -> Result<(), NoMemory> {
+    let graph = graph_of(alloc, net)?;
+    put_outputs(alloc, told, net, &graph)?;
+    put_cycle(alloc, told, net, &graph)
+}
+
+fn put_outputs(
+    alloc: Global,
+    told: &mut Vec<u8>,
+    net: &Net,
+    graph: &LatchGraph,
+) -> Result<(), NoMemory>
+    requires { IsGraphOf net.now graph.now }
+{
     for i in 0..net.outputs().len() {
-        put_output(alloc, told, &net, &graph, i)?;
+        put_output(alloc, told, net, graph, i)?;
     }
-    put_cycle(alloc, told, &net, &graph)?;
     Ok(())
 }
 
