@@ -1,11 +1,12 @@
 //! The depth and the name of a pair of signals.
 
 ghost use Rattle.std.specs.Prelude.{◌≡◌, ◌<◌, length, IfOk};
+ghost use Rattle.circuit_theory.specs.declared.Mode.TheVariants.{Plain};
 ghost use Rattle.circuit_theory.specs.Depth.{IsDepth};
 ghost use Rattle.circuit_theory.specs.Fits.{IsPairDepth};
 ghost use Rattle.circuit_theory.specs.Run.{NoneEnabled};
 ghost use Rattle.flat_net.specs.View.{circuit_of};
-ghost use Rattle.latch_graph.specs.Graph.{IsGraphOf};
+ghost use Rattle.latch_graph.specs.Graph.{IsGraphIn};
 ghost use Rattle.sec_setup.specs.Cycles.{IsAcyclic};
 ghost use Rattle.sec_setup.specs.Setup.{IsSetup};
 
@@ -29,7 +30,7 @@ pub(crate) fn pair_depth(setup: &Setup<'_>, s: Signal, t: Signal) -> u32
 
 /// The depth of a signal of a net whose latch graph has no cycle.
 fn depth_of(net: &Net, graph: &LatchGraph, s: Signal) -> u32
-    requires graph { IsGraphOf net.now graph.now }
+    requires graph { IsGraphIn Plain net.now graph.now }
     requires acyclic { IsAcyclic net.now }
     requires signal { s.0 < length net.now.drivers }
     ensures { IsDepth (circuit_of net.now) NoneEnabled s.0 result }

@@ -55,11 +55,11 @@ pub data AreTooLarge (a b : NetView) (expose : Bool) : Side → Type 0 where
 abbrev pub Compared : NetView → NetView → Settings → Result Outcome CompareError → Type 0
 Compared a b settings (Ok o) = IsCompared a b settings o
 Compared a b settings (Err (refused.Interface name)) = first_mismatch (ports_of a) (ports_of b) ≡ Some name
-Compared a b settings (Err (refused.Cyclic A names)) = InterfacesMatch a b × (settings.expose ≡ false) × IsToldCycle a [] names
-Compared a b settings (Err (refused.Cyclic B names)) = InterfacesMatch a b × (settings.expose ≡ false) × IsAcyclic a × IsToldCycle b [] names
-Compared a b settings (Err (refused.Unpaired A names)) = InterfacesMatch a b × (settings.expose ≡ true) × IsToldCycle a (common_names (circuit_of a) (circuit_of b)) names
+Compared a b settings (Err (refused.Cyclic A names)) = InterfacesMatch a b × (settings.expose ≡ false) × IsToldCycle Plain a [] names
+Compared a b settings (Err (refused.Cyclic B names)) = InterfacesMatch a b × (settings.expose ≡ false) × IsAcyclic a × IsToldCycle Plain b [] names
+Compared a b settings (Err (refused.Unpaired A names)) = InterfacesMatch a b × (settings.expose ≡ true) × IsToldCycle Plain a (common_names (circuit_of a) (circuit_of b)) names
 Compared a b settings (Err (refused.Unpaired B names)) =
-    InterfacesMatch a b × (settings.expose ≡ true) × IsFreeWithout a (common_names (circuit_of a) (circuit_of b)) × IsToldCycle b (common_names (circuit_of a) (circuit_of b)) names
+    InterfacesMatch a b × (settings.expose ≡ true) × IsFreeWithout Plain a (common_names (circuit_of a) (circuit_of b)) × IsToldCycle Plain b (common_names (circuit_of a) (circuit_of b)) names
 Compared a b settings (Err (refused.TooLarge side)) = InterfacesMatch a b × AreBroken a b settings.expose × AreTooLarge a b settings.expose side
 Compared a b settings (Err refused.NoMemory) = Unit {0}
 

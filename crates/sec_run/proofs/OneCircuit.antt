@@ -1,16 +1,11 @@
 -- What the parts of the work on one circuit find.
-use Rattle.std.proofs.Common.{◌≡◌, ℕ, Bool, List, refl, Option, Some, None, Result, Ok, Err}
-use Rattle.std.specs.Prelude.{IfSome, IfOk, OnOk, IsErrOf}
+use Rattle.std.proofs.Common.{◌≡◌, ℕ, Bool, List, Option, Some, None, Result, Ok, Err}
+use Rattle.std.specs.Prelude.{IfSome}
 use Rattle.circuit_theory.specs.declared.Side.TheVariants.{A}
 use Rattle.sec_base.specs.declared.fetching.FetchError.TheVariants as fetch_error
 use Rattle.blif_read.specs.declared.error.ReadError.TheVariants as read_error
 use Rattle.flat_net.specs.View.{NetView}
 use Rattle.flat_walk.specs.declared.error.FlatError.TheVariants as flat_error
-use Rattle.sim_report.specs.declared.refusal.Misfit.{Misfit}
-use Rattle.sim_report.specs.declared.refusal.SimError.{SimError}
-use Rattle.sim_report.specs.declared.refusal.SimError.TheVariants as sim_error
-use Rattle.sim_report.specs.Checks.{first_misfit}
-use Rattle.sim_report.specs.Report.{IsSimReport}
 use Rattle.sec_files.specs.declared.loading.LoadError.{LoadError}
 use Rattle.sec_files.specs.declared.loading.LoadError.TheVariants as load_error
 use Rattle.sec_files.specs.Loading.{Loads, LoadFails}
@@ -19,8 +14,8 @@ use Rattle.sec_run.specs.declared.finding.Refusal.TheVariants as refusal
 use Rattle.sec_run.specs.declared.finding.Finding.{Finding}
 use Rattle.sec_run.specs.declared.finding.Finding.TheVariants as finding
 use Rattle.sec_files.specs.Stimuli.{IsStimulus}
-use Rattle.sec_run.specs.Reports.{IsCircuitRefusal, IsSimFound, IsSimRefusal}
-use Rattle.sec_run.specs.Ends.{load_end, sim_end, EndsBy}
+use Rattle.sec_run.specs.Reports.{IsCircuitRefusal, IsRunFound, IsSimFound, IsSimRefusal}
+use Rattle.sec_run.specs.Ends.{load_end, EndsBy}
 
 -- the circuit isn't loaded
 pub circuit_ends : (P : Finding → Type 0) (failed rose : Type 0) (circuit : Option (List ℕ)) (error : LoadError) → ((r : Refusal) → IsCircuitRefusal circuit r → P (finding.Refused r)) → (rose → failed) →
@@ -61,9 +56,8 @@ sim_circuit circuit stimulus power (refusal.BadRow line) h = absurd h
 sim_circuit circuit stimulus power (refusal.Misfit m) h = absurd h
 
 -- both are loaded, and the circuit is run
-pub run_ends : (circuit stimulus power : Option (List ℕ)) (failed : Type 0) (net : NetView) (names : List (List ℕ)) (rows : List (List Bool)) (r : Result (List ℕ) SimError) →
-    IfSome circuit (λ x. Loads x net) → IfSome stimulus (λ y. IsStimulus y names rows) → IfOk r (λ report. IsSimReport net names rows power report) → OnOk r (first_misfit net names power ≡ None) →
-    ((m : Misfit) → IsErrOf r (sim_error.Misfit m) → first_misfit net names power ≡ Some m) → EndsBy (IsSimFound circuit stimulus power) failed (sim_end r)
-run_ends circuit stimulus power failed net names rows (Ok report) loads spells ok fits misfit = record { net = net; names = names; rows = rows; loads = loads; spells = spells; fits = fits; is_report = ok }
-run_ends circuit stimulus power failed net names rows (Err (sim_error.Misfit m)) loads spells ok fits misfit = record { net = net; names = names; rows = rows; loads = loads; spells = spells; is_first = misfit m refl }
-run_ends circuit stimulus power failed net names rows (Err sim_error.NoMemory) loads spells ok fits misfit = tt
+pub run_found : (circuit stimulus power : Option (List ℕ)) (net : NetView) (names : List (List ℕ)) (rows : List (List Bool)) (f : Finding) →
+    IfSome circuit (λ x. Loads x net) → IfSome stimulus (λ y. IsStimulus y names rows) → IsRunFound net names rows power f → IsSimFound circuit stimulus power f
+run_found circuit stimulus power net names rows (finding.Done report) loads spells run = record { net = net; names = names; rows = rows; loads = loads; spells = spells; fits = run.0; is_report = run.1 }
+run_found circuit stimulus power net names rows (finding.Refused (refusal.Misfit m)) loads spells run = record { net = net; names = names; rows = rows; loads = loads; spells = spells; is_first = run }
+run_found circuit stimulus power net names rows other loads spells run = absurd run

@@ -2,6 +2,7 @@
 use Rattle.std.proofs.Common.{◌≡◌, ℕ, zero, suc, ◌+◌, ◌-◌, ◌<◌, List, length, sym, ◌∙◌, ap, subst, refl, arith, add-one, Some, slice_get}
 use Rattle.std.proofs.lemmas.Bool.Decides.{nat_tests}
 use Rattle.std.proofs.lemmas.Option.{slice_get_within}
+use Rattle.circuit_theory.specs.declared.Mode.TheVariants.{Plain}
 use Rattle.circuit_theory.specs.Circuit.{Circuit}
 use Rattle.circuit_theory.specs.Depth.{LatchReads, LatchPath, IsCycle, HasCycle, after_in_round}
 use Rattle.circuit_theory.specs.Run.{NoneEnabled}
@@ -49,7 +50,7 @@ module _ {P : Type 0} (c : Circuit P) (enabled : P → Type 0) (removed : List (
       go (suc i) e last at closes = LatchPath.step closes (back i last (ap (slice_get latches) (sym e) ∙ at))
 
 -- the latch graph isn't free of cycles without the latches of these names
-pub is_not_free : (n : NetView) (without names : List (List ℕ)) → IsToldCycle n without names → IsFreeWithout n without → ⊥
+pub is_not_free : (n : NetView) (without names : List (List ℕ)) → IsToldCycle Plain n without names → IsFreeWithout Plain n without → ⊥
 is_not_free n without names told free =
     let first = some_at told.latches 0 told.cycle.some in
     free (round (circuit_of n) NoneEnabled without told.latches told.cycle first.0 first.1)

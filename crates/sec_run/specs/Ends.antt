@@ -15,8 +15,6 @@ use Rattle.sec_check.specs.declared.error.CompareError.TheVariants as compare_er
 use Rattle.sec_files.specs.declared.loading.LoadError.{LoadError}
 use Rattle.sec_files.specs.declared.loading.LoadError.TheVariants as load_error
 use Rattle.witness_report.specs.declared.error.StimError.TheVariants as stim_error
-use Rattle.sim_report.specs.declared.refusal.SimError.{SimError}
-use Rattle.sim_report.specs.declared.refusal.SimError.TheVariants as sim_error
 use Rattle.sec_files.specs.declared.stimuli.StimulusError.{StimulusError}
 use Rattle.sec_files.specs.declared.stimuli.StimulusError.TheVariants as stimulus_error
 use Rattle.sec_run.specs.declared.finding.Refusal.TheVariants as refusal
@@ -62,12 +60,6 @@ stimulus_end (stimulus_error.Fetch fetch_error.NoMemory) = Err stop.NoMemory
 stimulus_end (stimulus_error.Read (stim_error.BadHeader line)) = Ok (finding.Refused (refusal.BadHeader line))
 stimulus_end (stimulus_error.Read (stim_error.BadRow line)) = Ok (finding.Refused (refusal.BadRow line))
 stimulus_end (stimulus_error.Read stim_error.NoMemory) = Err stop.NoMemory
-
--- what is found by a simulation
-abbrev pub sim_end : Result (List ℕ) SimError → Result Finding Stop
-sim_end (Ok report) = Ok (finding.Done report)
-sim_end (Err (sim_error.Misfit m)) = Ok (finding.Refused (refusal.Misfit m))
-sim_end (Err sim_error.NoMemory) = Err stop.NoMemory
 
 -- the work ends with a finding of this kind, or by a read that failed, or at want of memory
 abbrev pub EndsBy : (Finding → Type 0) → Type 0 → Result Finding Stop → Type 0

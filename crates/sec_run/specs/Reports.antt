@@ -1,5 +1,6 @@
 -- What is true where a report on one circuit ends as it does. A text is given where it is told.
 use Rattle.std.specs.Prelude.{◌≡◌, ℕ, Bool, List, Option, Some, None, IfSome}
+use Rattle.circuit_theory.specs.declared.Mode.TheVariants.{Plain}
 use Rattle.circuit_theory.specs.declared.Side.TheVariants.{A}
 use Rattle.sec_base.specs.Outside.{Takes}
 use Rattle.flat_net.specs.View.{NetView}
@@ -29,7 +30,7 @@ IsCircuitRefusal circuit other = ⊥
 pub record ReportsGraph (circuit : Option (List ℕ)) (report : List ℕ) : Type 0 where
   pub net : NetView
   pub loads : IfSome circuit (λ x. Loads x net)
-  pub is_report : IsGraphReport net report
+  pub is_report : IsGraphReport Plain net report
 
 -- what is found where the latch graph of a circuit is asked for
 abbrev pub IsGraphFound : Option (List ℕ) → Finding → Type 0
@@ -46,7 +47,7 @@ pub record ReportsRun (circuit stimulus power : Option (List ℕ)) (report : Lis
   pub loads : IfSome circuit (λ x. Loads x net)
   pub spells : IfSome stimulus (λ y. IsStimulus y names rows)
   pub fits : first_misfit net names power ≡ None
-  pub is_report : IsSimReport net names rows power report
+  pub is_report : IsSimReport Plain net names rows power report
 
 -- the first that doesn't fit the net that the circuit's text loads as, of the stimulus that the other text spells and the power word
 pub record HasMisfit (circuit stimulus power : Option (List ℕ)) (m : Misfit) : Type 0 where
@@ -70,6 +71,12 @@ abbrev pub IsSimFound : Option (List ℕ) → Option (List ℕ) → Option (List
 IsSimFound circuit stimulus power (finding.Done report) = ReportsRun circuit stimulus power report
 IsSimFound circuit stimulus power (finding.Refused r) = IsSimRefusal circuit stimulus power r
 IsSimFound circuit stimulus power other = ⊥
+
+-- what is found of a run of the net over a stimulus
+abbrev pub IsRunFound : NetView → List (List ℕ) → List (List Bool) → Option (List ℕ) → Finding → Type 0
+IsRunFound n names rows power (finding.Done report) = (first_misfit n names power ≡ None) × IsSimReport Plain n names rows power report
+IsRunFound n names rows power (finding.Refused (refusal.Misfit m)) = first_misfit n names power ≡ Some m
+IsRunFound n names rows power other = ⊥
 
 -- the whole report of the latch graph is taken
 abbrev pub TakesGraph : Option (List ℕ) → Option (List ℕ) → Option (List ℕ) → Type 0

@@ -1,21 +1,25 @@
 //! The jobs that report on one circuit.
 
-ghost use Rattle.std.specs.Prelude.{◌≡◌, option_map, IfSome, IfNone, IsErrOf, None, Option};
+ghost use Rattle.std.specs.Prelude.{◌≡◌, ◌^◌, ◌<◌, length, option_map, IfOk, IfSome, IfNone, IsErrOf, None, Option};
+ghost use Rattle.circuit_theory.specs.declared.Mode.TheVariants.{Plain};
+ghost use Rattle.graph_report.specs.Report.{IsGraphReport};
 ghost use Rattle.sec_base.specs.Outside.{Rose, SameHeld};
 ghost use Rattle.sec_run.specs.Job.{Sim, graph_of, sim_of};
-ghost use Rattle.sec_run.specs.Reports.{IsGraphFound, IsSimFound};
+ghost use Rattle.sec_run.specs.Reports.{IsGraphFound, IsSimFound, IsRunFound};
 ghost use Rattle.sec_run.specs.Answer.{SimReadFailed};
-ghost use Rattle.sec_run.specs.Ends.{EndsBy, stimulus_end, sim_end};
+ghost use Rattle.sec_run.specs.Ends.{EndsBy, stimulus_end};
 
 use crate::finding::{Finding, Refusal, Stop, load_end};
 use circuit_theory::Mode;
+use flat_net::Net;
 use graph_report::graph_report;
+use latch_cone::{all_plain, none_enabled};
 use sec_base::{FetchError, NoMemory, Shelf, Side, Text, Word};
 use sec_files::{StimulusError, load, load_stimulus};
 use sec_words::Task;
-use sim_report::{SimError, sim_report};
+use sim_report::{misfit_of, sim_report};
 use std::alloc::Global;
-use witness_report::StimError;
+use witness_report::{StimError, Stimulus};
 
 /// The paths of a circuit and of a stimulus for it, and the power word.
 #[derive(Clone, Copy)]
@@ -76,10 +80,18 @@ pub fn tell_graph<S: Shelf>(alloc: Global, path: &str, shelf: &mut S) -> Result<
         Ok(net) => net,
         Err(error) => return load_end(Side::A, error),
     };
-    match graph_report(alloc, &net) {
+    match plain_graph(alloc, &net) {
         Ok(text) => Ok(Finding::Done(text)),
         Err(NoMemory) => Err(Stop::NoMemory),
     }
+}
+
+/// The report of the net's latch graph in the plain mode.
+fn plain_graph(alloc: Global, net: &Net) -> Result<Text, NoMemory>
+    ensures { IfOk result (IsGraphReport Plain net.now) }
+{
+    let kinds = all_plain(alloc, net)?;
+    graph_report(alloc, net, &kinds)
 }
 
 /// What is found where the stimulus isn't loaded.
@@ -102,15 +114,22 @@ fn stimulus_end(error: StimulusError) -> Result<Finding, Stop>
     }
 }
 
-/// What is found by a simulation.
-fn sim_end(simulated: Result<Text, SimError>) -> Result<Finding, Stop>
-    ensures { result ≡ sim_end simulated }
+/// The report of the net's run over the stimulus in the plain mode, or what doesn't fit the net.
+fn plain_run(
+    alloc: Global,
+    net: &Net,
+    stimulus: &Stimulus,
+    power: Option<&[u8]>,
+) -> Result<Finding, NoMemory>
+    requires { length stimulus.now.rows < 2 ^ 32 }
+    ensures { IfOk result (IsRunFound net.now stimulus.now.names stimulus.now.rows (option_map (λ word. word.now) power.entry)) }
 {
-    match simulated {
-        Ok(text) => Ok(Finding::Done(text)),
-        Err(SimError::Misfit(misfit)) => Ok(Finding::Refused(Refusal::Misfit(misfit))),
-        Err(SimError::NoMemory) => Err(Stop::NoMemory),
+    if let Some(misfit) = misfit_of(alloc, net, stimulus, power)? {
+        return Ok(Finding::Refused(Refusal::Misfit(misfit)));
     }
+    let none = none_enabled(alloc, net)?;
+    let text = sim_report(alloc, net, stimulus, power, &none)?;
+    Ok(Finding::Done(text))
 }
 
 /// Loads the circuit, then the stimulus, and reports the circuit's run over it.
@@ -132,6 +151,8 @@ pub fn simulate<S: Shelf>(
         Ok(stimulus) => stimulus,
         Err(error) => return stimulus_end(error),
     };
-    let simulated = sim_report(alloc, &net, &stimulus, simulation.power);
-    sim_end(simulated)
+    match plain_run(alloc, &net, &stimulus, simulation.power) {
+        Ok(finding) => Ok(finding),
+        Err(NoMemory) => Err(Stop::NoMemory),
+    }
 }

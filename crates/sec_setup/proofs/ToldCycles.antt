@@ -5,6 +5,7 @@ use Rattle.std.specs.List.{All, AllZip, Contains}
 use Rattle.std.proofs.lemmas.List.Elements.{All-head, All-tail}
 use Rattle.std.proofs.lemmas.Bool.Decides.{nat_tests}
 use Rattle.std.proofs.lemmas.Option.{slice_get-get_or, slice_get_within}
+use Rattle.circuit_theory.specs.declared.Mode.TheVariants.{Plain}
 use Rattle.circuit_theory.specs.Circuit.{Circuit, IsLatch}
 use Rattle.circuit_theory.specs.Depth.{LatchReads, LatchPath, IsCycle, BeginsWithLeast, HasCycle, after_in_round}
 use Rattle.circuit_theory.specs.Run.{NoneEnabled}
@@ -12,7 +13,8 @@ use Rattle.flat_net.specs.declared.parts.LatchAt.{LatchAt}
 use Rattle.flat_net.specs.View.{NetView, circuit_of}
 use Rattle.flat_net.specs.Cut.{no_latch, latch_at, exposed_names}
 use Rattle.flat_net.proofs.Nets.{latch_stands, some_at}
-use Rattle.latch_graph.specs.Graph.{GraphView, IsGraphOf, marked_names, signals_at}
+use Rattle.latch_graph.specs.Graph.{GraphView, IsGraphIn, SkippedBy, marked_names, signals_at}
+use Rattle.latch_graph.proofs.Skipping.{mode_cycle, cycle_in_graph}
 use Rattle.sec_setup.specs.Cycles.{IsAcyclic}
 use Rattle.exposure.specs.Exposed.{IsToldCycle}
 use Rattle.sec_setup.proofs.Shared.{some_is}
@@ -37,19 +39,20 @@ names_beside n (j ∷ js) within = (
 )
 
 -- no cycle is left where none is left without any latch
-pub acyclic_graph : (n : NetView) (g : GraphView) (bits : List Bool) → All (λ bit. bit ≡ false) bits → (HasCycle (circuit_of n) NoneEnabled (marked_names g.latches bits) → ⊥) → IsAcyclic n
-acyclic_graph n g bits none free = subst (λ (names : List (List ℕ)). HasCycle (circuit_of n) NoneEnabled names → ⊥) (marked_names-none g.latches bits none) free
+pub acyclic_graph : (n : NetView) (g : GraphView) (bits : List Bool) → IsGraphIn Plain n g → All (λ bit. bit ≡ false) bits → (HasCycle (circuit_of n) (SkippedBy g) (marked_names g.latches bits) → ⊥) → IsAcyclic n
+acyclic_graph n g bits is none free cycle = free (subst (HasCycle (circuit_of n) (SkippedBy g)) (sym (marked_names-none g.latches bits none)) (cycle_in_graph Plain n g is [] cycle))
 
 -- the cycle that is told
-pub told_cycle : (n : NetView) (g : GraphView) (bits : List Bool) (positions : List ℕ) → IsGraphOf n g → All (λ bit. bit ≡ false) bits → All (λ j. j < length g.latches) positions →
-    IsCycle (circuit_of n) NoneEnabled (marked_names g.latches bits) (signals_at g.latches positions) → BeginsWithLeast (circuit_of n) (signals_at g.latches positions) →
-    IsToldCycle n [] (exposed_names n positions)
-told_cycle n g bits positions graph none within cycle least = record {
+pub told_cycle : (n : NetView) (g : GraphView) (bits : List Bool) (positions : List ℕ) → IsGraphIn Plain n g → All (λ bit. bit ≡ false) bits → All (λ j. j < length g.latches) positions →
+    IsCycle (circuit_of n) (SkippedBy g) (marked_names g.latches bits) (signals_at g.latches positions) → BeginsWithLeast (circuit_of n) (signals_at g.latches positions) →
+    IsToldCycle Plain n [] (exposed_names n positions)
+told_cycle n g bits positions is none within cycle least = record {
   latches = signals_at n.latches positions;
-  cycle = subst (λ (ls : List LatchAt). IsCycle (circuit_of n) NoneEnabled [] (signals_at ls positions)) graph.latches
-      (subst (λ (names : List (List ℕ)). IsCycle (circuit_of n) NoneEnabled names (signals_at g.latches positions)) (marked_names-none g.latches bits none) cycle);
-  least = subst (λ (ls : List LatchAt). BeginsWithLeast (circuit_of n) (signals_at ls positions)) graph.latches least;
-  named = names_beside n positions (subst (λ (ls : List LatchAt). All (λ j. j < length ls) positions) graph.latches within);
+  cycle = subst (λ (ls : List LatchAt). IsCycle (circuit_of n) NoneEnabled [] (signals_at ls positions)) is.graph.latches
+      (subst (λ (names : List (List ℕ)). IsCycle (circuit_of n) NoneEnabled names (signals_at g.latches positions)) (marked_names-none g.latches bits none)
+      (mode_cycle Plain n g is (marked_names g.latches bits) (signals_at g.latches positions) cycle));
+  least = subst (λ (ls : List LatchAt). BeginsWithLeast (circuit_of n) (signals_at ls positions)) is.graph.latches least;
+  named = names_beside n positions (subst (λ (ls : List LatchAt). All (λ j. j < length ls) positions) is.graph.latches within);
 }
 
 -- a cycle as a list is a way from a latch back to itself
@@ -89,7 +92,7 @@ module _ {P : Type 0} (c : Circuit P) (enabled : P → Type 0) (removed : List (
       go (suc i) e last at closes = LatchPath.step closes (back i last (ap (slice_get latches) (sym e) ∙ at))
 
 -- a cycle that is told is one
-pub told_is_cyclic : (n : NetView) (names : List (List ℕ)) → IsToldCycle n [] names → IsAcyclic n → ⊥
+pub told_is_cyclic : (n : NetView) (names : List (List ℕ)) → IsToldCycle Plain n [] names → IsAcyclic n → ⊥
 told_is_cyclic n names told free =
     let first = some_at told.latches 0 told.cycle.some in
     free (round (circuit_of n) NoneEnabled [] told.latches told.cycle first.0 first.1)

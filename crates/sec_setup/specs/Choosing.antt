@@ -1,5 +1,6 @@
 -- The choice of the latches that are cut open, and the numbers of the inputs of nets.
 use Rattle.std.specs.Prelude.{◌≡◌, ℕ, Bool, true, false, List, [], Result, Ok, Err}
+use Rattle.circuit_theory.specs.declared.Mode.TheVariants.{Plain}
 use Rattle.circuit_theory.specs.declared.Side.TheVariants.{A, B}
 use Rattle.circuit_theory.specs.Interface.{AreNumbersOf}
 use Rattle.sec_base.specs.declared.basics.Orders.{Orders}
@@ -22,11 +23,11 @@ pub record IsChosen (a b : NetView) (expose : Bool) (e : Exposure) : Type 0 wher
 abbrev pub Chosen : NetView → NetView → Bool → Result Exposure SetupError → Type 0
 Chosen a b expose (Ok e) = IsChosen a b expose e
 Chosen a b expose (Err (refused.Interface name)) = ⊥
-Chosen a b expose (Err (refused.Cyclic A names)) = (expose ≡ false) × IsToldCycle a [] names
-Chosen a b expose (Err (refused.Cyclic B names)) = (expose ≡ false) × IsAcyclic a × IsToldCycle b [] names
-Chosen a b expose (Err (refused.Unpaired A names)) = (expose ≡ true) × IsToldCycle a (common_names (circuit_of a) (circuit_of b)) names
+Chosen a b expose (Err (refused.Cyclic A names)) = (expose ≡ false) × IsToldCycle Plain a [] names
+Chosen a b expose (Err (refused.Cyclic B names)) = (expose ≡ false) × IsAcyclic a × IsToldCycle Plain b [] names
+Chosen a b expose (Err (refused.Unpaired A names)) = (expose ≡ true) × IsToldCycle Plain a (common_names (circuit_of a) (circuit_of b)) names
 Chosen a b expose (Err (refused.Unpaired B names)) =
-    (expose ≡ true) × IsFreeWithout a (common_names (circuit_of a) (circuit_of b)) × IsToldCycle b (common_names (circuit_of a) (circuit_of b)) names
+    (expose ≡ true) × IsFreeWithout Plain a (common_names (circuit_of a) (circuit_of b)) × IsToldCycle Plain b (common_names (circuit_of a) (circuit_of b)) names
 Chosen a b expose (Err refused.NoMemory) = Unit {0}
 
 -- the numbers of the inputs of both nets, where the columns have their places as numbers

@@ -1,10 +1,11 @@
 -- What two circuits are compared by.
 use Rattle.std.specs.Prelude.{◌≡◌, ℕ, List, map, length}
 use Rattle.std.specs.List.{Contains}
+use Rattle.circuit_theory.specs.declared.Mode.TheVariants.{Plain}
 use Rattle.circuit_theory.specs.Interface.{shared_inputs, AreNumbersOf}
 use Rattle.sec_base.specs.Table.{AreDistinct}
 use Rattle.flat_net.specs.View.{NetView, circuit_of, ports_of}
-use Rattle.latch_graph.specs.Graph.{IsGraphOf}
+use Rattle.latch_graph.specs.Graph.{IsGraphIn}
 use Rattle.sec_setup.specs.declared.nets.Nets.{Nets}
 use Rattle.sec_setup.specs.declared.setup.Setup.{Setup}
 use Rattle.sec_setup.specs.Cuts.{AreCutAt, columns_of}
@@ -13,8 +14,8 @@ use Rattle.sec_setup.specs.Pairs.{ArePairsOf, named_pairs, places_of}
 
 -- the graphs are those of the nets
 pub record AreGraphed (n : Nets) : Type 0 where
-  pub left : IsGraphOf n.left.now n.left_graph.now
-  pub right : IsGraphOf n.right.now n.right_graph.now
+  pub left : IsGraphIn Plain n.left.now n.left_graph.now
+  pub right : IsGraphIn Plain n.right.now n.right_graph.now
 
 -- the numbers of the net's inputs: those of the named columns have their places there, and whatever is read is a column
 pub record AreColumns (n : NetView) (columns : List (List ℕ)) (own others : List ℕ) : Type 0 where
@@ -24,8 +25,8 @@ pub record AreColumns (n : NetView) (columns : List (List ℕ)) (own others : Li
 -- What each form may rely on: the graphs are those of the nets and have no cycle, the inputs of both are numbered by the columns, and
 -- the pairs are those of their outputs.
 pub record IsSetup (s : Setup) : Type 0 where
-  pub left_graph : IsGraphOf s.left.now s.left_graph.now
-  pub right_graph : IsGraphOf s.right.now s.right_graph.now
+  pub left_graph : IsGraphIn Plain s.left.now s.left_graph.now
+  pub right_graph : IsGraphIn Plain s.right.now s.right_graph.now
   pub left_acyclic : IsAcyclic s.left.now
   pub right_acyclic : IsAcyclic s.right.now
   pub left_columns : AreColumns s.left.now s.columns s.orders.left s.orders.right

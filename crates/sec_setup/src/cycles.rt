@@ -1,17 +1,19 @@
 //! The latch graph of a net, and a cycle of it by the names of its latches.
 
 ghost use Rattle.std.specs.Prelude.{◌≡◌, ◌<◌, length, false, All, IfOk};
+ghost use Rattle.circuit_theory.specs.declared.Mode.TheVariants.{Plain};
 ghost use Rattle.flat_net.specs.Cut.{exposed_names};
-ghost use Rattle.latch_graph.specs.Graph.{IsGraphOf};
+ghost use Rattle.latch_graph.specs.Graph.{IsGraphIn};
 ghost use Rattle.sec_setup.specs.Cycles.{IsCycleOf};
 
 use flat_net::Net;
+use latch_cone::none_enabled;
 use latch_graph::LatchGraph;
 use sec_base::{Bits, Ids, NoMemory, Words, unset_bits};
 use std::alloc::Global;
 
 /// One bit for each latch of the net, none set.
-fn none_skipped(alloc: Global, net: &Net) -> Result<Bits, NoMemory>
+fn none_removed(alloc: Global, net: &Net) -> Result<Bits, NoMemory>
     ensures each { IfOk result (λ bits. length bits ≡ length net.now.latches) }
     ensures none { IfOk result (All (λ bit. bit ≡ false)) }
 {
@@ -20,9 +22,9 @@ fn none_skipped(alloc: Global, net: &Net) -> Result<Bits, NoMemory>
 
 /// The graph of the net's latches.
 pub fn graph_of(alloc: Global, net: &Net) -> Result<LatchGraph, NoMemory>
-    ensures { IfOk result (IsGraphOf net.now) }
+    ensures { IfOk result (IsGraphIn Plain net.now) }
 {
-    let none = none_skipped(alloc, net)?;
+    let none = none_enabled(alloc, net)?;
     LatchGraph::new(alloc, net, &none)
 }
 
@@ -45,10 +47,10 @@ pub(crate) fn find_cycle(
     net: &Net,
     graph: &LatchGraph,
 ) -> Result<Option<Words>, NoMemory>
-    requires { IsGraphOf net.now graph.now }
+    requires { IsGraphIn Plain net.now graph.now }
     ensures { IfOk result (IsCycleOf net.now) }
 {
-    let none = none_skipped(alloc, net)?;
+    let none = none_removed(alloc, net)?;
     match graph.cycle(alloc, &none)? {
         Some(positions) => Ok(Some(names_at(alloc, net, &positions)?)),
         None => Ok(None),

@@ -1,5 +1,6 @@
 use Rattle.sec_setup.proofs.ToldCycles.{told_cycle, acyclic_graph}
 use Rattle.std.proofs.Common.{List, [], ℕ, sym, subst}
+use Rattle.circuit_theory.specs.declared.Mode.TheVariants.{Plain}
 use Rattle.exposure.specs.Exposed.{IsToldCycle}
 use Rattle.sec_setup.proofs.cycles.find_cycle.Goals as goal
 
@@ -10,10 +11,10 @@ returns-in-Some c =
     let within = rw c.in-Some.is at c.in_ok-positions.ensures.within in
     let cycle = rw c.in-Some.is at c.in_ok-positions.ensures.cycle in
     let least = rw c.in-Some.is at c.in_ok-positions.ensures.least in
-    subst (λ (names : List (List ℕ)). IsToldCycle n [] names) (sym c.in_ok-names_at-in-Some.ensures)
-    (told_cycle n g c.in_ok-none.none c.in-Some.positions c.requires c.in_ok-none.ensures.none within (cycle n c.requires) (least n c.requires))
+    subst (λ (names : List (List ℕ)). IsToldCycle Plain n [] names) (sym c.in_ok-names_at-in-Some.ensures)
+    (told_cycle n g c.in_ok-none.none c.in-Some.positions c.requires c.in_ok-none.ensures.none within (cycle n c.requires.graph) (least n c.requires.graph))
 
 pub returns : goal.returns
 returns c =
     let free = rw c.in-None.is at c.in_ok-positions.ensures.none in
-    acyclic_graph c.args.net.now c.args.graph.now c.in_ok-none.none c.in_ok-none.ensures.none (free c.args.net.now c.requires)
+    acyclic_graph c.args.net.now c.args.graph.now c.in_ok-none.none c.requires c.in_ok-none.ensures.none (free c.args.net.now c.requires.graph)
