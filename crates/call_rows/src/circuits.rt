@@ -1,13 +1,15 @@
 //! Latch graphs, and the latches that are exposed.
 
 ghost use Rattle.std.specs.Prelude.{◌<◌, ◌≤◌, length, IfOk};
-ghost use Rattle.latch_graph.specs.Graph.{IsGraphOf};
+ghost use Rattle.circuit_theory.specs.declared.Mode.TheVariants.{Plain};
+ghost use Rattle.latch_graph.specs.Graph.{IsGraphIn};
 
 use crate::fault::Fault;
 use exposure::{ExposeError, Exposure, expose};
 use flat_net::{Net, Signal, Signals};
+use latch_cone::none_enabled;
 use latch_graph::{LatchGraph, Weight};
-use sec_base::{Bits, Ids, NoMemory, Seq, Shelf, Side, Words, put, put_number};
+use sec_base::{Ids, NoMemory, Shelf, Side, Words, put, put_number};
 use sec_files::load;
 use std::alloc::Global;
 
@@ -16,9 +18,9 @@ const MOST: u32 = 1_000;
 
 /// The graph of the net's latches.
 fn graph_of(alloc: Global, net: &Net) -> Result<LatchGraph, NoMemory>
-    ensures { IfOk result (IsGraphOf net.now) }
+    ensures { IfOk result (IsGraphIn Plain net.now) }
 {
-    let none: Bits = Seq::from_vec(vec![in alloc; false; net.latches().len()]?);
+    let none = none_enabled(alloc, net)?;
     LatchGraph::new(alloc, net, &none)
 }
 
@@ -127,7 +129,7 @@ fn put_outputs(
     net: &Net,
     graph: &LatchGraph,
 ) -> Result<(), NoMemory>
-    requires { IsGraphOf net.now graph.now }
+    requires { IsGraphIn Plain net.now graph.now }
 {
     for i in 0..net.outputs().len() {
         put_output(alloc, told, net, graph, i)?;
@@ -143,7 +145,7 @@ fn put_output(
     graph: &LatchGraph,
     i: usize,
 ) -> Result<(), NoMemory>
-    requires graph { IsGraphOf net.now graph.now }
+    requires graph { IsGraphIn Plain net.now graph.now }
     requires place { i < length net.now.outputs }
 {
     net.keeps();
@@ -179,7 +181,7 @@ fn weight_of(
     signal: Signal,
     cap: u32,
 ) -> Result<Weight, NoMemory>
-    requires graph { IsGraphOf net.now graph.now }
+    requires graph { IsGraphIn Plain net.now graph.now }
     requires signal { signal.0 < length net.now.drivers }
 {
     let mut signals = Signals::new(alloc);
@@ -194,9 +196,9 @@ fn put_cycle(
     net: &Net,
     graph: &LatchGraph,
 ) -> Result<(), NoMemory>
-    requires { IsGraphOf net.now graph.now }
+    requires { IsGraphIn Plain net.now graph.now }
 {
-    let none: Bits = Seq::from_vec(vec![in alloc; false; net.latches().len()]?);
+    let none = none_enabled(alloc, net)?;
     match graph.cycle(alloc, &none)? {
         Some(positions) => {
             put(told, b"cycle")?;
