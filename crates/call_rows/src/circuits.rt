@@ -1,13 +1,15 @@
 //! Latch graphs, and the latches that are exposed.
 
 ghost use Rattle.std.specs.Prelude.{◌<◌, ◌≤◌, length, IfOk};
-ghost use Rattle.latch_graph.specs.Graph.{IsGraphOf};
+ghost use Rattle.circuit_theory.specs.declared.Mode.TheVariants.{Plain};
+ghost use Rattle.latch_graph.specs.Graph.{IsGraphIn};
 
 use crate::fault::Fault;
-use exposure::{ExposeError, expose};
+use exposure::{ExposeError, Exposure, expose};
 use flat_net::{Net, Signal, Signals};
+use latch_cone::none_enabled;
 use latch_graph::{LatchGraph, Weight};
-use sec_base::{Bits, Ids, NoMemory, Seq, Shelf, Side, Words, put, put_number};
+use sec_base::{Ids, NoMemory, Shelf, Side, Words, put, put_number};
 use sec_files::load;
 use std::alloc::Global;
 
@@ -16,9 +18,9 @@ const MOST: u32 = 1_000;
 
 /// The graph of the net's latches.
 fn graph_of(alloc: Global, net: &Net) -> Result<LatchGraph, NoMemory>
-    ensures { IfOk result (IsGraphOf net.now) }
+    ensures { IfOk result (IsGraphIn Plain net.now) }
 {
-    let none: Bits = Seq::from_vec(vec![in alloc; false; net.latches().len()]?);
+    let none = none_enabled(alloc, net)?;
     LatchGraph::new(alloc, net, &none)
 }
 
@@ -45,31 +47,54 @@ pub fn put_exposed<S: Shelf>(
     told: &mut Vec<u8>,
     files: &str,
 ) -> Result<(), Fault> {
-    let (a, b) = files.split_once(' ').ok_or(Fault::Row)?;
-    let a = load(alloc, data, a)?;
-    let b = load(alloc, data, b)?;
-    put_exposed_of(alloc, told, &a, &b)?;
-    put(told, b"\n")?;
+    let (left, right) = files.split_once(' ').ok_or(Fault::Row)?;
+    let a = load(alloc, data, left)?;
+    put_exposed_beside(alloc, data, told, &a, right)
+}
+
+fn put_exposed_beside<S: Shelf>(
+    alloc: Global,
+    data: &mut S,
+    told: &mut Vec<u8>,
+    a: &Net,
+    file: &str,
+) -> Result<(), Fault> {
+    let b = load(alloc, data, file)?;
+    put_exposed_of(alloc, told, a, &b)?;
     Ok(())
 }
 
 fn put_exposed_of(alloc: Global, told: &mut Vec<u8>, a: &Net, b: &Net) -> Result<(), NoMemory> {
+    match exposed(alloc, a, b) {
+        Ok(exposure) => put_exposure(alloc, told, &exposure),
+        Err(error) => put_refusal(told, &error),
+    }
+}
+
+fn exposed(alloc: Global, a: &Net, b: &Net) -> Result<Exposure, ExposeError> {
     let left = graph_of(alloc, a)?;
     let right = graph_of(alloc, b)?;
-    match expose(alloc, a, b, &left, &right) {
-        Ok(exposure) => {
-            put(told, b"exposed")?;
-            put_names(told, &exposure.names)?;
-            put(told, b" left")?;
-            put_positions(alloc, told, &exposure.left)?;
-            put(told, b" right")?;
-            put_positions(alloc, told, &exposure.right)
+    expose(alloc, a, b, &left, &right)
+}
+
+fn put_exposure(alloc: Global, told: &mut Vec<u8>, exposure: &Exposure) -> Result<(), NoMemory> {
+    put(told, b"exposed")?;
+    put_names(told, &exposure.names)?;
+    put(told, b" left")?;
+    put_positions(alloc, told, &exposure.left)?;
+    put(told, b" right")?;
+    put_positions(alloc, told, &exposure.right)?;
+    put(told, b"\n")
+}
+
+fn put_refusal(told: &mut Vec<u8>, error: &ExposeError) -> Result<(), NoMemory> {
+    match error {
+        ExposeError::Unpaired(side, names) => {
+            put(told, side_text(*side))?;
+            put_names(told, names)?;
+            put(told, b"\n")
         }
-        Err(ExposeError::Unpaired(side, names)) => {
-            put(told, side_text(side))?;
-            put_names(told, &names)
-        }
-        Err(ExposeError::NoMemory) => Err(NoMemory),
+        ExposeError::NoMemory => Err(NoMemory),
     }
 }
 
@@ -88,11 +113,27 @@ pub fn put_graph<S: Shelf>(
     path: &str,
 ) -> Result<(), Fault> {
     let net = load(alloc, data, path)?;
-    let graph = graph_of(alloc, &net)?;
+    put_graph_of(alloc, told, &net)?;
+    Ok(())
+}
+
+fn put_graph_of(alloc: Global, told: &mut Vec<u8>, net: &Net) -> Result<(), NoMemory> {
+    let graph = graph_of(alloc, net)?;
+    put_outputs(alloc, told, net, &graph)?;
+    put_cycle(alloc, told, net, &graph)
+}
+
+fn put_outputs(
+    alloc: Global,
+    told: &mut Vec<u8>,
+    net: &Net,
+    graph: &LatchGraph,
+) -> Result<(), NoMemory>
+    requires { IsGraphIn Plain net.now graph.now }
+{
     for i in 0..net.outputs().len() {
-        put_output(alloc, told, &net, &graph, i)?;
+        put_output(alloc, told, net, graph, i)?;
     }
-    put_cycle(alloc, told, &net, &graph)?;
     Ok(())
 }
 
@@ -104,7 +145,7 @@ fn put_output(
     graph: &LatchGraph,
     i: usize,
 ) -> Result<(), NoMemory>
-    requires graph { IsGraphOf net.now graph.now }
+    requires graph { IsGraphIn Plain net.now graph.now }
     requires place { i < length net.now.outputs }
 {
     net.keeps();
@@ -140,7 +181,7 @@ fn weight_of(
     signal: Signal,
     cap: u32,
 ) -> Result<Weight, NoMemory>
-    requires graph { IsGraphOf net.now graph.now }
+    requires graph { IsGraphIn Plain net.now graph.now }
     requires signal { signal.0 < length net.now.drivers }
 {
     let mut signals = Signals::new(alloc);
@@ -155,9 +196,9 @@ fn put_cycle(
     net: &Net,
     graph: &LatchGraph,
 ) -> Result<(), NoMemory>
-    requires { IsGraphOf net.now graph.now }
+    requires { IsGraphIn Plain net.now graph.now }
 {
-    let none: Bits = Seq::from_vec(vec![in alloc; false; net.latches().len()]?);
+    let none = none_enabled(alloc, net)?;
     match graph.cycle(alloc, &none)? {
         Some(positions) => {
             put(told, b"cycle")?;

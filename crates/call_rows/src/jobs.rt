@@ -46,14 +46,23 @@ fn shown(alloc: Global, task: &Task) -> Result<String, NoMemory> {
     }
 }
 
+fn put_task(alloc: Global, told: &mut Vec<u8>, task: &Task) -> Result<(), NoMemory> {
+    let text = shown(alloc, task)?;
+    put(told, text.as_bytes())?;
+    put(told, b"\n")
+}
+
+fn put_asked(alloc: Global, told: &mut Vec<u8>, words: &[String]) -> Result<(), NoMemory> {
+    match job(alloc, words) {
+        Ok(task) => put_task(alloc, told, &task),
+        Err(WordsError::Refused) => put(told, b"refused\n"),
+        Err(WordsError::NoMemory) => Err(NoMemory),
+    }
+}
+
 /// Puts the job that the words ask for, or that they are refused.
 pub fn put_job(alloc: Global, told: &mut Vec<u8>, line: &str) -> Result<(), Fault> {
     let words = words_of(alloc, line)?;
-    match job(alloc, words.as_slice()) {
-        Ok(task) => put(told, shown(alloc, &task)?.as_bytes())?,
-        Err(WordsError::Refused) => put(told, b"refused")?,
-        Err(WordsError::NoMemory) => return Err(Fault::NoMemory),
-    }
-    put(told, b"\n")?;
+    put_asked(alloc, told, words.as_slice())?;
     Ok(())
 }

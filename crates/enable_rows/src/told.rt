@@ -43,12 +43,22 @@ fn net_of(alloc: Global, row: &[u8]) -> Result<Option<Net>, NoMemory> {
 }
 
 fn put_latches(alloc: Global, text: &mut Vec<u8>, net: &Net) -> Result<(), NoMemory> {
-    for latch in 0..net.latches().len() as u32 {
-        put_cone(alloc, text, net, latch)?;
-        put_enable(alloc, text, net, latch, 0)?;
-        put_enable(alloc, text, net, latch, 20_000)?;
+    for (place, _) in net.latches().iter().enumerate() {
+        let Ok(latch) = u32::try_from(place) else {
+            break;
+        };
+        put_latch(alloc, text, net, latch)?;
     }
     Ok(())
+}
+
+/// Puts the latch's cone, and what is found out about it without conflicts and with 20,000.
+fn put_latch(alloc: Global, text: &mut Vec<u8>, net: &Net, latch: u32) -> Result<(), NoMemory>
+    requires { latch < length net.now.latches }
+{
+    put_cone(alloc, text, net, latch)?;
+    put_enable(alloc, text, net, latch, 0)?;
+    put_enable(alloc, text, net, latch, 20_000)
 }
 
 /// Puts the names of the inputs and of the other latches of the latch's cone.
