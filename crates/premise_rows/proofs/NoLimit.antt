@@ -21,7 +21,7 @@ use Rattle.flat_net.specs.Cut.{IsCutCircuit}
 use Rattle.flat_net.specs.View.{NetView, named, circuit_of, ports_of}
 use Rattle.flat_net.proofs.CutNets.{few_distinct}
 use Rattle.pair_decide.specs.declared.query.Proof.{Proof}
-use Rattle.sec_words.specs.declared.settings.Settings.{Settings}
+use Rattle.sec_base.specs.declared.settings.Settings.{Settings}
 use Rattle.sec_setup.specs.Cuts.{IsChoice, columns_of}
 use Rattle.sec_setup.proofs.CutNets.{same_as_cut, cut_numbers}
 use Rattle.sec_setup.proofs.SameEquations.{same_tree}

@@ -13,6 +13,7 @@ use Rattle.circuit_theory.specs.Flattened.{latch_names}
 use Rattle.circuit_theory.specs.Interface.{first_mismatch}
 use Rattle.circuit_theory.specs.Names.{is_among}
 use Rattle.circuit_theory.specs.Places.{IsPlace}
+use Rattle.circuit_theory.specs.declared.Mode.TheVariants.{Plain}
 use Rattle.circuit_theory.specs.Run.{NoneEnabled}
 use Rattle.circuit_theory.specs.Sizes.{IsWeight, IsOver}
 use Rattle.circuit_theory.proofs.Lists.{Contains-cases, Contains-map_from, map-map, of_at}
@@ -73,7 +74,7 @@ beside R (x ∷ xs) (z ∷ ys) h y k = elim (Contains-cases z y ys k) [ inl same
 
 module _ (a m : NetView) (to back : ℕ → ℕ) (r : AreRenumbered (circuit_of a) (circuit_of m) to back) where
   -- a cycle that is told
-  module _ (without names : List (List ℕ)) (t : IsToldCycle a without names) where
+  module _ (without names : List (List ℕ)) (t : IsToldCycle Plain a without names) where
     latch_at : (u : ℕ) → Contains t.latches u → back (to u) ≡ u
     latch_at u h =
         let x = beside (λ name u. (next : ℕ) × IsLatch (circuit_of a) name u next) names t.latches t.named u h in
@@ -83,7 +84,7 @@ module _ (a m : NetView) (to back : ℕ → ℕ) (r : AreRenumbered (circuit_of 
     latch_here name u v next h same l =
         subst (λ (w : ℕ). IsLatch (circuit_of a) name w (back next)) (ap back (sym same) ∙ latch_at u h) (r.from (Latch name v next) l)
 
-    told_there : IsToldCycle m without names
+    told_there : IsToldCycle Plain m without names
     told_there = record {
       latches = map to t.latches;
       cycle = record {

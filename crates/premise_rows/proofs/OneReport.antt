@@ -2,6 +2,7 @@
 use Rattle.std.proofs.Common.{◌≡◌, ◌∙◌, ℕ, suc, Bool, true, false, List, [], ◌∷◌, ◌++◌, map, length, replicate, slice_get, Option, Some, None, refl, sym, ap, ap₂, subst, arith}
 use Rattle.std.specs.Prelude.{Contains, MatchOption, codes, ◌↔◌}
 use Rattle.std.specs.Fmt.{decimal}
+use Rattle.std.specs.List.{flat_map}
 use Rattle.std.proofs.lemmas.List.{length-map}
 use Rattle.std.proofs.lemmas.List.Elements.{All-contains, Contains-append_right}
 use Rattle.circuit_theory.specs.declared.Mode.TheVariants.{Plain}
@@ -21,7 +22,10 @@ use Rattle.flat_net.specs.View.{NetView, named, equation_of_gate, equation_of_la
 use Rattle.net_alike.specs.Renumbered.{latch_rows, AreRenumbered}
 use Rattle.net_alike.proofs.Carrying.{depth_carried, no_depth_carried, run_carried, mark_carried}
 use Rattle.flatten.proofs.OneNets.{nets_are_one}
-use Rattle.graph_report.specs.Report.{Measured, IsMeasured, AreMeasured, latch_signal, latch_line, output_line, lines_text, counts_text, cycle_line, IsGraphReport}
+use Rattle.latch_cone.specs.declared.kinds.LatchKind.{LatchKind}
+use Rattle.latch_cone.specs.declared.kinds.LatchKind.TheVariants as kind
+use Rattle.latch_cone.specs.Kinds.{IsKindIn}
+use Rattle.graph_report.specs.Report.{Measured, IsMeasured, MeasuredLatch, IsMeasuredLatch, TellOf, latch_signal, latch_text, latch_line, output_text, output_line, counts_text, cycle_line, IsGraphReport}
 use Rattle.sim_report.specs.Checks.{power_of}
 use Rattle.sim_report.specs.Report.{Shown, sim_text, IsSimulated, IsShown, IsSimReport}
 use Rattle.sim_report.proofs.Reports.{one_report}
@@ -72,31 +76,53 @@ module _ (a b : NetView) (to back : ℕ → ℕ) (r : AreRenumbered (circuit_of 
       let high = own.greatest k h.reached in
       ap Some (omega (arith, low, high))
 
-  -- so its line is one
-  same_lines : (line : List ℕ → Option ℕ → List ℕ) (xs ys : List Measured) → map (moved_name to) (map (λ (m : Measured). m.signal) xs) ≡ map (λ (m : Measured). m.signal) ys →
-      ((m : Measured) → Contains xs m → IsPlace (circuit_of a) m.signal.place) → ((m : Measured) → Contains xs m → IsMeasured (circuit_of a) m) → ((m : Measured) → Contains ys m → IsMeasured (circuit_of b) m) →
-      lines_text line xs ≡ lines_text line ys
-  same_lines line [] [] same at left right = refl
-  same_lines line [] (y ∷ ys) same at left right = absurd (cc)
-  same_lines line (x ∷ xs) [] same at left right = absurd (cc)
-  same_lines line (x ∷ xs) (y ∷ ys) same at left right =
-      let head : moved_name to x.signal ≡ y.signal = cc in
-      let rest : map (moved_name to) (map (λ (m : Measured). m.signal) xs) ≡ map (λ (m : Measured). m.signal) ys = cc in
-      let name : x.signal.name ≡ y.signal.name = ap (λ (n : Named ℕ). n.name) head in
+  -- a measured signal has one depth in both
+  depth_is : (x y : Measured) → moved_name to x.signal ≡ y.signal → IsPlace (circuit_of a) x.signal.place → IsMeasured Plain (circuit_of a) x → IsMeasured Plain (circuit_of b) y → x.depth ≡ y.depth
+  depth_is x y head at left right =
       let place : to x.signal.place ≡ y.signal.place = ap (λ (n : Named ℕ). n.place) head in
-      let own : IsMeasured (circuit_of b) (record { signal = record { name = y.signal.name; place = to x.signal.place }; depth = y.depth }) =
-      subst (λ (p : ℕ). IsMeasured (circuit_of b) (record { signal = record { name = y.signal.name; place = p }; depth = y.depth })) (sym place) (right y (Contains-head y ys)) in
-      let depth : x.depth ≡ y.depth = one_depth x.signal.place (at x (Contains-head x xs)) x.depth y.depth (left x (Contains-head x xs)) own in
-      ap₂ (λ (l m : List ℕ). l ++ m) (ap₂ line name depth)
-      (same_lines line xs ys rest (λ m h. at m (Contains-tail x m xs h)) (λ m h. left m (Contains-tail x m xs h)) (λ m h. right m (Contains-tail y m ys h)))
+      let own : IsMeasured Plain (circuit_of b) (record { signal = record { name = y.signal.name; place = to x.signal.place }; depth = y.depth }) =
+      subst (λ (p : ℕ). IsMeasured Plain (circuit_of b) (record { signal = record { name = y.signal.name; place = p }; depth = y.depth })) (sym place) right in
+      one_depth x.signal.place at x.depth y.depth left own
+
+  output_lines : (x y : Measured) → moved_name to x.signal ≡ y.signal → IsPlace (circuit_of a) x.signal.place → IsMeasured Plain (circuit_of a) x → IsMeasured Plain (circuit_of b) y → output_line x ≡ output_line y
+  output_lines x y head at left right = ap₂ output_text (ap (λ (n : Named ℕ). n.name) head) (depth_is x y head at left right)
+
+  latch_lines : (x y : MeasuredLatch) → moved_name to x.measured.signal ≡ y.measured.signal → IsPlace (circuit_of a) x.measured.signal.place → IsMeasuredLatch Plain (circuit_of a) x → IsMeasuredLatch Plain (circuit_of b) y → latch_line x ≡ latch_line y
+  latch_lines x y head at left right =
+      ap₂ (λ (name : List ℕ) (depth : Option ℕ). latch_text name depth x.kind) (ap (λ (n : Named ℕ). n.name) head) (depth_is x.measured y.measured head at left.0 right.0)
+      ∙ ap (latch_text y.measured.signal.name y.measured.depth) (same_kind x.kind y.kind left.1 right.1)
+    where
+      same_kind : (k j : LatchKind) → IsKindIn Plain (circuit_of a) x.measured.signal.place k → IsKindIn Plain (circuit_of b) y.measured.signal.place j → k ≡ j
+      same_kind kind.Plain kind.Plain h g = refl
+      same_kind kind.Plain kind.Enabled h g = absurd g
+      same_kind kind.Plain kind.NotUnate h g = absurd g
+      same_kind kind.Enabled j h g = absurd h
+      same_kind kind.NotUnate j h g = absurd h
+
+  -- so all lines are the same
+  same_lines : {X : Type 0} (signal : X → Named ℕ) (line : X → List ℕ) (Left Right : X → Type 0) →
+      ((x y : X) → moved_name to (signal x) ≡ signal y → IsPlace (circuit_of a) (signal x).place → Left x → Right y → line x ≡ line y) →
+      (xs ys : List X) → map (moved_name to) (map signal xs) ≡ map signal ys →
+      ((x : X) → Contains xs x → IsPlace (circuit_of a) (signal x).place) → ((x : X) → Contains xs x → Left x) → ((y : X) → Contains ys y → Right y) →
+      flat_map line xs ≡ flat_map line ys
+  same_lines signal line Left Right step [] [] same at left right = refl
+  same_lines signal line Left Right step [] (y ∷ ys) same at left right = absurd (cc)
+  same_lines signal line Left Right step (x ∷ xs) [] same at left right = absurd (cc)
+  same_lines signal line Left Right step (x ∷ xs) (y ∷ ys) same at left right =
+      let head : moved_name to (signal x) ≡ signal y = cc in
+      let rest : map (moved_name to) (map signal xs) ≡ map signal ys = cc in
+      ap₂ (λ (l m : List ℕ). l ++ m) (step x y head (at x (Contains-head x xs)) (left x (Contains-head x xs)) (right y (Contains-head y ys)))
+      (same_lines signal line Left Right step xs ys rest (λ m h. at m (Contains-tail x m xs h)) (λ m h. left m (Contains-tail x m xs h)) (λ m h. right m (Contains-tail y m ys h)))
 
   -- the same of signals in their order
-  measured_lines : (line : List ℕ → Option ℕ → List ℕ) (own others : List (Named ℕ)) → map (moved_name to) own ≡ others → ((s : Named ℕ) → Contains own s → IsPlace (circuit_of a) s.place) →
-      (xs ys : List Measured) → AreMeasured (circuit_of a) own xs → AreMeasured (circuit_of b) others ys → lines_text line xs ≡ lines_text line ys
-  measured_lines line own others same at xs ys left right =
-      same_lines line xs ys (ap (map (moved_name to)) left.signals_are ∙ same ∙ sym right.signals_are)
-      (λ m h. at m.signal (subst (λ (ss : List (Named ℕ)). Contains ss m.signal) left.signals_are (Contains-map (λ (k : Measured). k.signal) xs m h)))
-      (λ m h. All-contains (IsMeasured (circuit_of a)) xs m left.right h) (λ m h. All-contains (IsMeasured (circuit_of b)) ys m right.right h)
+  told_lines : {X : Type 0} (signal : X → Named ℕ) (line : X → List ℕ) (Left Right : X → Type 0) →
+      ((x y : X) → moved_name to (signal x) ≡ signal y → IsPlace (circuit_of a) (signal x).place → Left x → Right y → line x ≡ line y) →
+      (own others : List (Named ℕ)) → map (moved_name to) own ≡ others → ((s : Named ℕ) → Contains own s → IsPlace (circuit_of a) s.place) →
+      (xs ys : List X) → TellOf signal Left own xs → TellOf signal Right others ys → flat_map line xs ≡ flat_map line ys
+  told_lines signal line Left Right step own others same at xs ys left right =
+      same_lines signal line Left Right step xs ys (ap (map (moved_name to)) left.signals_are ∙ same ∙ sym right.signals_are)
+      (λ m h. at (signal m) (subst (λ (ss : List (Named ℕ)). Contains ss (signal m)) left.signals_are (Contains-map signal xs m h)))
+      (λ m h. All-contains Left xs m left.right h) (λ m h. All-contains Right ys m right.right h)
 
   signal_place : (s : Named ℕ) → Contains (map latch_signal a.latches) s → IsPlace (circuit_of a) s.place
   signal_place s h =
@@ -114,21 +140,23 @@ module _ (a b : NetView) (to back : ℕ → ℕ) (r : AreRenumbered (circuit_of 
       ap₂ (λ (i o : ℕ). codes "inputs " ++ decimal i ++ codes "\noutputs " ++ decimal o ++ codes "\nlatches " ++ decimal (length a.latches) ++ 10 ∷ []) inputs outputs
       ∙ ap (λ (l : ℕ). codes "inputs " ++ decimal (length b.inputs) ++ codes "\noutputs " ++ decimal (length b.outputs) ++ codes "\nlatches " ++ decimal l ++ 10 ∷ []) latches
 
-  one_graph : (left right : List ℕ) → IsGraphReport a left → IsGraphReport b right → AreOneGraph a b left right
+  one_graph : (left right : List ℕ) → IsGraphReport Plain a left → IsGraphReport Plain b right → AreOneGraph a b left right
   one_graph left right x y =
-      let latches : lines_text latch_line x.latches ≡ lines_text latch_line y.latches =
-      measured_lines latch_line (map latch_signal a.latches) (map latch_signal b.latches) same_latches signal_place x.latches y.latches x.latches_are y.latches_are in
-      let outputs : lines_text output_line x.outputs ≡ lines_text output_line y.outputs =
-      measured_lines output_line (map named a.outputs) (map named b.outputs) r.outputs (λ s h. IsPlace.output {name = s.name} h) x.outputs y.outputs x.outputs_are y.outputs_are in
+      let latches : flat_map latch_line x.latches ≡ flat_map latch_line y.latches =
+      told_lines (λ (l : MeasuredLatch). l.measured.signal) latch_line (IsMeasuredLatch Plain (circuit_of a)) (IsMeasuredLatch Plain (circuit_of b)) latch_lines
+      (map latch_signal a.latches) (map latch_signal b.latches) same_latches signal_place x.latches y.latches x.latches_are y.latches_are in
+      let outputs : flat_map output_line x.outputs ≡ flat_map output_line y.outputs =
+      told_lines (λ (m : Measured). m.signal) output_line (IsMeasured Plain (circuit_of a)) (IsMeasured Plain (circuit_of b)) output_lines
+      (map named a.outputs) (map named b.outputs) r.outputs (λ s h. IsPlace.output {name = s.name} h) x.outputs y.outputs x.outputs_are y.outputs_are in
       record {
         counts = counts_text b;
-        latches = lines_text latch_line y.latches;
-        outputs = lines_text output_line y.outputs;
+        latches = flat_map latch_line y.latches;
+        outputs = flat_map output_line y.outputs;
         left_cycle = x.cycle;
         right_cycle = y.cycle;
         left_found = x.cycle_is;
         right_found = y.cycle_is;
-        left_is = x.text_is ∙ ap (λ (c : List ℕ). c ++ lines_text latch_line x.latches ++ lines_text output_line x.outputs ++ cycle_line x.cycle) same_counts
+        left_is = x.text_is ∙ ap (λ (c : List ℕ). c ++ flat_map latch_line x.latches ++ flat_map output_line x.outputs ++ cycle_line x.cycle) same_counts
             ∙ ap₂ (λ (l o : List ℕ). counts_text b ++ l ++ o ++ cycle_line x.cycle) latches outputs;
         right_is = y.text_is;
       }
@@ -160,7 +188,7 @@ module _ (a b : NetView) (to back : ℕ → ℕ) (r : AreRenumbered (circuit_of 
           subst (λ (p : ℕ). run t p ≡ bit) (ap (λ (n : Named ℕ). n.place) other.2) (s.takes t k row bit other.0 at at_bit other.1 (is_named ∙ ap Some name)));
     }
 
-    shown : (t : ℕ) (run : ℕ → ℕ → Bool) (s : Shown) → IsShown a t (λ t p. run t (to p)) s → IsShown b t run s
+    shown : (t : ℕ) (run : ℕ → ℕ → Bool) (s : Shown) → IsShown a NoneEnabled t (λ t p. run t (to p)) s → IsShown b NoneEnabled t run s
     shown t run s h = record {
       values = h.values ∙ values_there named named a.outputs b.outputs r.outputs (run t);
       each = h.each ∙ count named named a.outputs b.outputs r.outputs;
@@ -174,7 +202,7 @@ module _ (a b : NetView) (to back : ℕ → ℕ) (r : AreRenumbered (circuit_of 
           subst (λ (p : ℕ). (mark ≡ true) ↔ IsSettled Plain (circuit_of b) run t p) place ((λ e. there.0 (same.0 e)), (λ m. same.1 (there.1 m))));
     }
 
-    report_there : (text : List ℕ) → IsSimReport a names rows power text → IsSimReport b names rows power text
+    report_there : (text : List ℕ) → IsSimReport Plain a names rows power text → IsSimReport Plain b names rows power text
     report_there text x = record {
       cycles = x.cycles;
       each = x.each;
@@ -189,4 +217,4 @@ graph_reports_are_one text a b la lb left right x y = let one = nets_are_one (sp
 pub sim_reports_are_one : SimReportsAreOne
 sim_reports_are_one text a b la lb stimulus names rows s power fits left right x y =
     let one = nets_are_one (spelled text) a b la.flat lb.flat in
-    one_report b lb.flat.sound names rows s.form.names_are.distinct s.form.rows_are power fits left right (report_there a b one.to one.back one.circuits names rows power left x) y
+    one_report b lb.flat.sound names rows s.form.names_are.distinct s.form.rows_are power fits Plain left right (report_there a b one.to one.back one.circuits names rows power left x) y

@@ -46,7 +46,7 @@ use Rattle.sec_outcome.specs.declared.outcome.Verdict.{Verdict}
 use Rattle.sec_outcome.specs.declared.outcome.Verdict.TheVariants as verdict
 use Rattle.sec_outcome.specs.declared.outcome.Why.TheVariants as why
 use Rattle.sec_outcome.specs.declared.outcome.Outcome.{Outcome}
-use Rattle.sec_words.specs.declared.settings.Settings.{Settings}
+use Rattle.sec_base.specs.declared.settings.Settings.{Settings}
 use Rattle.plain_form.specs.Laws.{HaveOneTree}
 use Rattle.sec_setup.specs.Pairs.{NamedPair, named_pairs}
 use Rattle.plain_form.specs.Outcome.{HaveDifferentFunctions, AnswerFits, PairFits, VerdictFits}

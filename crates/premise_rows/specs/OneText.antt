@@ -1,7 +1,7 @@
 -- What is answered where a text is compared with itself.
 use Rattle.std.specs.Prelude.{◌≡◌, ℕ, Bool, List, [], Some, IsSomeAnd}
 use Rattle.flat_net.specs.View.{NetView, circuit_of}
-use Rattle.sec_words.specs.declared.settings.Settings.{Settings}
+use Rattle.sec_base.specs.declared.settings.Settings.{Settings}
 use Rattle.sec_outcome.specs.declared.outcome.Verdict.TheVariants as verdict
 use Rattle.sec_outcome.specs.declared.outcome.Outcome.{Outcome}
 use Rattle.sec_setup.specs.Cycles.{IsAcyclic}

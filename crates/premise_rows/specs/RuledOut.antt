@@ -1,7 +1,7 @@
 -- Answers that the contract of `run` rules out.
 use Rattle.std.specs.Prelude.{ℕ, List, Option}
 use Rattle.pair_decide.specs.declared.query.Proof.{Proof}
-use Rattle.sec_words.specs.declared.settings.Settings.{Settings}
+use Rattle.sec_base.specs.declared.settings.Settings.{Settings}
 use Rattle.sec_run.specs.Answer.{TextsUndecided}
 use Rattle.premise_rows.specs.Texts.{on_and, off_and}
 

@@ -1,5 +1,6 @@
 -- What is said of one net that a text loads as is said of all of them.
 use Rattle.std.specs.Prelude.{ℕ, ◌↔◌, Bool, List}
+use Rattle.circuit_theory.specs.declared.Mode.TheVariants.{Plain}
 use Rattle.circuit_theory.specs.declared.Side.{Side}
 use Rattle.flat_net.specs.View.{NetView}
 use Rattle.flatten.specs.OneNet.{AreOneNet}
@@ -18,6 +19,6 @@ abbrev pub OneNetIsEnough : Type 0
 OneNetIsEnough = (a b m k : NetView) → AreOneNet a m → AreOneNet b k →
     (InterfacesMatch a b ↔ InterfacesMatch m k) × ((expose : Bool) → AreBroken a b expose ↔ AreBroken m k expose) × ((expose : Bool) (side : Side) → AreTooLarge a b expose side ↔ AreTooLarge m k expose side)
 
--- The cycles that can be told of a latch graph, by the names of the latches, are the same of all nets of a text.
+-- The cycles that can be told of a latch graph in the plain mode, by the names of the latches, are the same of all nets of a text.
 abbrev pub ToldCyclesAreOne : Type 0
-ToldCyclesAreOne = (a m : NetView) → AreOneNet a m → (without names : List (List ℕ)) → IsToldCycle a without names ↔ IsToldCycle m without names
+ToldCyclesAreOne = (a m : NetView) → AreOneNet a m → (without names : List (List ℕ)) → IsToldCycle Plain a without names ↔ IsToldCycle Plain m without names
