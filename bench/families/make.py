@@ -29,17 +29,20 @@ def ripple(n, majority):
 
 
 def prefix(n, fault):
-    """An adder by parallel prefixes, each twice as long as before."""
-    lines = [f"wire [{n}:0] g0 = {{a&b, c0}}, p0 = {{a^b, 1'b0}};"]
-    k, d = 0, 1
+    """An adder by parallel prefixes, each twice as long as before. The carry into the sum is the lowest of the terms."""
+    some = ["c0"] + [f"(a[{i}] & b[{i}])" for i in range(n)]
+    every = ["1'b0"] + [f"(a[{i}] ^ b[{i}])" for i in range(n)]
+    lines, d = [], 1
     while d <= n:
-        lines.append(f"wire [{n}:0] g{k+1}, p{k+1};")
-        lines.append(f"assign g{k+1}[{d-1}:0] = g{k}[{d-1}:0]; assign p{k+1}[{d-1}:0] = p{k}[{d-1}:0];")
-        lines.append(f"assign g{k+1}[{n}:{d}] = g{k}[{n}:{d}] | (p{k}[{n}:{d}] & g{k}[{n-d}:0]);")
-        lines.append(f"assign p{k+1}[{n}:{d}] = p{k}[{n}:{d}] & p{k}[{n-d}:0];")
-        k, d = k + 1, 2 * d
+        wires = [(f"g{d}_{i}", f"p{d}_{i}") for i in range(n + 1)]
+        for i, (g, p) in enumerate(wires):
+            lower = i - d
+            lines.append(f"wire {g} = {some[i]}" + (f" | ({every[i]} & {some[lower]});" if lower >= 0 else ";"))
+            lines.append(f"wire {p} = {every[i]}" + (f" & {every[lower]};" if lower >= 0 else ";"))
+        some, every, d = [g for g, _ in wires], [p for _, p in wires], 2 * d
+    lines += [f"assign s[{i}] = a[{i}] ^ b[{i}] ^ {some[i]};" for i in range(n)]
     wrong = f" ^ (a[{n-1}] & b[{n-2}] & ~a[0] & b[1] & a[2] & b[3])" if fault else ""
-    lines.append(f"assign s = {{g{k}[{n}]{wrong}, p0[{n}:1] ^ g{k}[{n-1}:0]}};")
+    lines.append(f"assign s[{n}] = {some[n]}{wrong};")
     return module("top", f"input [{n-1}:0] a, b, input c0, output [{n}:0] s", "\n".join(lines))
 
 
@@ -130,7 +133,7 @@ def sorter(words, width, odd_even):
 def synthesise(folder, name, text):
     source, target = folder / f"{name}.v", folder / f"{name}.blif"
     source.write_text(text)
-    script = f"read_verilog {source}; synth -flatten -top top; write_blif {target}"
+    script = f"read_verilog {source}; synth -flatten -top top; abc -g AND,OR,XOR; opt_clean; write_blif {target}"
     subprocess.run(["yosys", "-q", "-p", script], check=True)
     source.unlink()
 
