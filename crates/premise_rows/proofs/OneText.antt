@@ -55,8 +55,7 @@ use Rattle.sec_check.specs.Compared.{IsCompared, AreTooLarge}
 use Rattle.sec_setup.specs.Cuts.{IsChoice, columns_of, is_cut}
 use Rattle.sec_check.specs.Fitting.{IsCutOver, OutcomeFits}
 use Rattle.sec_setup.proofs.CutNets.{same_as_cut, cut_numbers}
-use Rattle.sec_setup.specs.Pairing.{IsOutputPair, IsNextPair}
-use Rattle.sec_check.proofs.CutPairs.{one_output, listed_is}
+use Rattle.sec_check.proofs.CutPairs.{IsOutputPair, IsNextPair, one_output, listed_is}
 use Rattle.sec_setup.proofs.SameEquations.{same_tree}
 use Rattle.sec_files.specs.Loading.{Loads}
 use Rattle.premise_rows.specs.OneText.{OneTextIsEqual, CanBeUnfolded, UnfoldedIsComparable}
