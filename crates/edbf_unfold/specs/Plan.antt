@@ -32,3 +32,9 @@ pub record IsPlanOf (e : EventCircuitView) (frames : List Frame) (children : Lis
   pub is_plan : IsPlan e frames children plan
   pub has : (p : ℕ × ℕ) → Contains table p → (s : Step) × Contains plan s × (place_of s ≡ p)
   pub weighs : sum_by (λ s. weight_at e.net s.signal) plan ≡ sum_by (λ p. weight_at e.net p.1) table
+
+-- a plan in which the root has a step, and which weighs no more than the cap
+pub record IsRootPlan (e : EventCircuitView) (frames : List Frame) (children : List (ℕ × ℕ)) (root : ℕ × ℕ) (cap : ℕ) (plan : List Step) : Type 0 where
+  pub is_plan : IsPlan e frames children plan
+  pub has : (s : Step) × Contains plan s × (place_of s ≡ root)
+  pub few : sum_by (λ s. weight_at e.net s.signal) plan ≤ cap
