@@ -101,6 +101,15 @@ pub record IsLater (u v : EventUnfolderView) (w x : EventGraphView) (room : ℕ)
   pub memo : Adds (λ e. Unit {0}) u.memo v.memo
   pub grown : HasGrown w x room
 
+-- the same unfolder after a signal more was unfolded: at most so many places, each a frame and an event node more, and so much graph
+pub record HasUnfolded (u v : EventUnfolderView) (w x : EventGraphView) (room : ℕ) : Type 0 where
+  pub circuit : v.circuit ≡ u.circuit
+  pub grows : GrowsEvents w x
+  pub frames : length v.frames ≤ length u.frames + room + 1
+  pub children : length x.children ≤ length w.children + room
+  pub nodes : length x.graph ≤ length w.graph + room
+  pub places : length x.places ≤ length w.places + room
+
 -- the literal is the variable of the input with this position at the node
 pub record IsInputLit (e : EventCircuitView) (i node : ℕ) (w : EventGraphView) (x : ℕ) : Type 0 where
   pub number : ℕ

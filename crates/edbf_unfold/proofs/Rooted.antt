@@ -1,0 +1,55 @@
+-- A signal is unfolded from a frame at the root.
+use Rattle.std.proofs.Common.{◌≡◌, ◌∙◌, ℕ, List, [], ◌∷◌, ◌++◌, slice_get, Some, refl, sym, ap, subst, arith, inl, inr}
+use Rattle.std.specs.Prelude.{◌⊎◌}
+use Rattle.std.specs.List.{Contains}
+use Rattle.flat_net.proofs.Growth.{slice_get-append}
+use Rattle.flat_net.proofs.Places.{one_at}
+use Rattle.aig.specs.declared.node.Lit.{Lit}
+use Rattle.edbf_unfold.specs.declared.frames.Frame.{Frame}
+use Rattle.edbf_unfold.specs.declared.frames.Put.{Put}
+use Rattle.edbf_unfold.specs.declared.frames.Step.{Step}
+use Rattle.edbf_unfold.specs.Nodes.{EventGraphView, IsEventGraph, path_of}
+use Rattle.edbf_unfold.specs.View.{EventCircuitView}
+use Rattle.edbf_unfold.specs.Known.{EventUnfolderView, IsKnownAt, IsKnownIn, AreKnown, IsMet, IsLater, put_of}
+use Rattle.edbf_unfold.specs.Walk.{IsOpened}
+use Rattle.edbf_unfold.specs.Plan.{place_of, IsRootPlan}
+use Rattle.edbf_unfold.proofs.Going.{are_known_later}
+use Rattle.edbf_unfold.proofs.Lists.{adds_at}
+use Rattle.edbf_unfold.proofs.Paths.{path_grows}
+
+-- what is known is known with a frame more
+pub frame_known : (i u : EventUnfolderView) → i ≡ u → (w : EventGraphView) (frames : List Frame) (f : Frame) → (frames ≡ i.frames) ⊎ (frames ≡ i.frames ++ f ∷ []) → AreKnown u.circuit w u.frames u.memo → AreKnown i.circuit w frames i.memo
+frame_known i u same w frames f which known = λ p x h. let k = own p x h in (k.0, kept which p.0 k.0 k.1, k.2, k.3)
+  where
+    own : AreKnown i.circuit w i.frames i.memo
+    own = subst (λ (v : EventUnfolderView). AreKnown v.circuit w v.frames v.memo) (sym same) known
+
+    kept : (frames ≡ i.frames) ⊎ (frames ≡ i.frames ++ f ∷ []) → (n : ℕ) (g : Frame) → slice_get i.frames n ≡ Some g → slice_get frames n ≡ Some g
+    kept (inl e) n g at = subst (λ (l : List Frame). slice_get l n ≡ Some g) (sym e) at
+    kept (inr e) n g at = subst (λ (l : List Frame). slice_get l n ≡ Some g) (sym e) (slice_get-append i.frames (f ∷ []) n g at)
+
+-- and while a walk opens frames and event nodes
+pub opened_known : (u v : EventUnfolderView) (w x : EventGraphView) (room : ℕ) → IsOpened u v w x room → IsEventGraph w → AreKnown u.circuit w u.frames u.memo → AreKnown v.circuit x v.frames v.memo
+opened_known u v w x room opened is known =
+    subst (λ (e : EventCircuitView). AreKnown e x v.frames v.memo) (sym opened.circuit)
+    (subst (λ (m : List ((ℕ × ℕ) × Lit)). AreKnown u.circuit x v.frames m) (sym opened.memo)
+    (λ p y h. let k = are_known_later u.circuit w x u.frames u.memo is opened.grows known p y h in (k.0, adds_at (λ (f : Frame). Unit {0}) u.frames v.frames p.0 k.0 opened.frames k.1, k.2, k.3)))
+
+-- the root was met
+pub root_met : (e : EventCircuitView) (frames : List Frame) (children : List (ℕ × ℕ)) (root : ℕ × ℕ) (cap : ℕ) (plan now : List Step) (memo : List ((ℕ × ℕ) × Lit)) → IsRootPlan e frames children root cap plan → now ≡ plan →
+    ((p : Step) → Contains now p → IsMet memo (p.frame, p.signal)) → IsMet memo root
+root_met e frames children root cap plan now memo is same met = subst (IsMet memo) is.has.2 (met is.has.0 (subst (λ (l : List Step). Contains l is.has.0) (sym same) is.has.1))
+
+root_path : (children : List (ℕ × ℕ)) → path_of children 0 ≡ []
+root_path children = path_grows [] children 0 (omega arith)
+
+-- so its literal is right at the root
+pub root_known : (u v t : EventUnfolderView) (w x y : EventGraphView) (room more frame s : ℕ) (put : Put) (lit : Lit) → slice_get u.frames frame ≡ Some (record { node = 0; put = put }) → IsOpened u v w x room → IsLater v t x y more →
+    AreKnown t.circuit y t.frames t.memo → Contains t.memo ((frame, s), lit) → IsKnownAt t.circuit y (put_of put) s [] lit.0
+root_known u v t w x y room more frame s put lit here opened later known met =
+    let k = known (frame, s) lit met in
+    let at_v : slice_get v.frames frame ≡ Some (record { node = 0; put = put }) = adds_at (λ (f : Frame). Unit {0}) u.frames v.frames frame (record { node = 0; put = put }) opened.frames here in
+    let at_t : slice_get t.frames frame ≡ Some (record { node = 0; put = put }) = subst (λ (l : List Frame). slice_get l frame ≡ Some (record { node = 0; put = put })) (sym later.frames) at_v in
+    let same : k.0 ≡ record { node = 0; put = put } = one_at t.frames frame k.0 (record { node = 0; put = put }) k.1 at_t in
+    let known_in : IsKnownIn t.circuit y (record { node = 0; put = put }) s lit.0 = subst (λ (f : Frame). IsKnownIn t.circuit y f s lit.0) same k.3 in
+    subst (λ (path : List ℕ). IsKnownAt t.circuit y (put_of put) s path lit.0) (root_path y.children) known_in
