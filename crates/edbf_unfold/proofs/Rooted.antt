@@ -1,5 +1,5 @@
 -- A signal is unfolded from a frame at the root.
-use Rattle.std.proofs.Common.{◌≡◌, ◌∙◌, ℕ, List, [], ◌∷◌, ◌++◌, slice_get, Some, refl, sym, ap, subst, arith, inl, inr}
+use Rattle.std.proofs.Common.{◌≡◌, ◌*◌, ◌<◌, ℕ, true, false, length, List, [], ◌∷◌, ◌++◌, slice_get, Some, refl, sym, ap, subst, arith, inl, inr}
 use Rattle.std.specs.Prelude.{◌⊎◌}
 use Rattle.std.specs.List.{Contains}
 use Rattle.flat_net.proofs.Growth.{slice_get-append}
@@ -8,12 +8,18 @@ use Rattle.aig.specs.declared.node.Lit.{Lit}
 use Rattle.edbf_unfold.specs.declared.frames.Frame.{Frame}
 use Rattle.edbf_unfold.specs.declared.frames.Put.{Put}
 use Rattle.edbf_unfold.specs.declared.frames.Step.{Step}
-use Rattle.edbf_unfold.specs.Nodes.{EventGraphView, IsEventGraph, path_of}
+use Rattle.flat_net.specs.declared.parts.LatchAt.{LatchAt}
+use Rattle.flat_net.specs.Sound.{IsSound}
+use Rattle.flat_net.specs.View.{NetView}
+use Rattle.aig.specs.Graph.{flip}
+use Rattle.aig.specs.Rules.{IsAndOf}
+use Rattle.edbf_unfold.specs.Nodes.{EventGraphView, IsEventGraph, GrowsEvents, path_of}
 use Rattle.edbf_unfold.specs.View.{EventCircuitView}
-use Rattle.edbf_unfold.specs.Known.{EventUnfolderView, IsKnownAt, IsKnownIn, AreKnown, IsMet, IsLater, put_of}
+use Rattle.edbf_unfold.specs.Known.{EventUnfolderView, IsKnownAt, IsKnownIn, IsEnableLit, AreKnown, IsMet, IsLater, put_of}
 use Rattle.edbf_unfold.specs.Walk.{IsOpened}
 use Rattle.edbf_unfold.specs.Plan.{place_of, IsRootPlan}
-use Rattle.edbf_unfold.proofs.Going.{are_known_later}
+use Rattle.edbf_unfold.proofs.Going.{are_known_later, grows_trans}
+use Rattle.edbf_unfold.proofs.Known.{known_at_later}
 use Rattle.edbf_unfold.proofs.Lists.{adds_at}
 use Rattle.edbf_unfold.proofs.Paths.{path_grows}
 
@@ -53,3 +59,22 @@ root_known u v t w x y room more frame s put lit here opened later known met =
     let same : k.0 ≡ record { node = 0; put = put } = one_at t.frames frame k.0 (record { node = 0; put = put }) k.1 at_t in
     let known_in : IsKnownIn t.circuit y (record { node = 0; put = put }) s lit.0 = subst (λ (f : Frame). IsKnownIn t.circuit y f s lit.0) same k.3 in
     subst (λ (path : List ℕ). IsKnownAt t.circuit y (put_of put) s path lit.0) (root_path y.children) known_in
+
+-- a latch takes over a signal of the net
+pub next_within : (e now : EventCircuitView) (n : NetView) (j : ℕ) (l : LatchAt) → now ≡ e → n ≡ now.net → IsSound now.net → slice_get n.latches j ≡ Some l → l.next.0 < length e.net.drivers
+next_within e now n j l same net sound at =
+    subst (λ (k : EventCircuitView). l.next.0 < length k.net.drivers) same (sound.latches j l (subst (λ (m : NetView). slice_get m.latches j ≡ Some l) net at)).within
+
+-- the enable's literal is made of those of its two functions
+pub enable_lit : (e now : EventCircuitView) → now ≡ e → (w x y : EventGraphView) → IsEventGraph w → IsEventGraph x → GrowsEvents w x → GrowsEvents x y → (l : LatchAt) (f0 f1 not_f0 both lit : ℕ) →
+    IsKnownAt e w (Some (l.out.0, false)) l.next.0 [] f0 → IsKnownAt now x (Some (l.out.0, true)) l.next.0 [] f1 → not_f0 ≡ flip f0 → IsAndOf y.graph not_f0 f1 both → lit ≡ flip both → lit < 2 * length y.graph → IsEnableLit now y l lit
+enable_lit e now same w x y is also grows more l f0 f1 not_f0 both lit low high flipped and_is lit_is within = record {
+  f0 = f0;
+  f1 = f1;
+  both = both;
+  low = known_at_later now w y is (grows_trans w x y grows more) (Some (l.out.0, false)) l.next.0 [] f0 (subst (λ (k : EventCircuitView). IsKnownAt k w (Some (l.out.0, false)) l.next.0 [] f0) (sym same) low);
+  high = known_at_later now x y also more (Some (l.out.0, true)) l.next.0 [] f1 high;
+  and_is = subst (λ (k : ℕ). IsAndOf y.graph k f1 both) flipped and_is;
+  lit_is = lit_is;
+  within = within;
+}

@@ -1,19 +1,20 @@
 -- When the literal of a signal at a node is right.
-use Rattle.std.specs.Prelude.{◌≡◌, ◌⊎◌, ℕ, ◌+◌, ◌*◌, ◌<◌, ◌≤◌, max, Bool, true, false, List, length, map, Option, Some, None, slice_get, Contains}
+use Rattle.std.specs.Prelude.{◌≡◌, ◌⊎◌, ℕ, ◌+◌, ◌*◌, ◌^◌, ◌<◌, ◌≤◌, max, Bool, true, false, List, [], length, map, Option, Some, None, slice_get, Contains}
 use Rattle.std.specs.List.{AllZip}
 use Rattle.circuit_theory.specs.Cover.{Cover}
 use Rattle.circuit_theory.specs.Tree.{Tree}
 use Rattle.circuit_theory.specs.Circuit.{IsLatch, Reads}
 use Rattle.event_theory.specs.Frame.{EventUnfolds, NotPut}
 use Rattle.flat_net.specs.declared.parts.Gate.{Gate}
+use Rattle.flat_net.specs.declared.parts.LatchAt.{LatchAt}
 use Rattle.flat_net.specs.declared.parts.Driver.{Driver}
 use Rattle.flat_net.specs.declared.parts.Driver.TheVariants as driver
 use Rattle.flat_net.specs.View.{NetView, circuit_of, cover_of}
 use Rattle.aig.specs.declared.node.Lit.{Lit}
 use Rattle.aig.specs.declared.node.Node.{Node}
 use Rattle.aig.specs.declared.node.Node.TheVariants.{Input}
-use Rattle.aig.specs.Graph.{IsLitOf}
-use Rattle.aig.specs.Rules.{IsCoverOf}
+use Rattle.aig.specs.Graph.{IsLitOf, flip}
+use Rattle.aig.specs.Rules.{IsAndOf, IsCoverOf}
 use Rattle.aig.specs.Builds.{Builds}
 use Rattle.edbf_unfold.specs.declared.frames.Frame.{Frame}
 use Rattle.edbf_unfold.specs.declared.frames.Put.{Put}
@@ -39,6 +40,17 @@ pub record IsKnownAt (e : EventCircuitView) (w : EventGraphView) (put : Option (
 -- the same in a frame: a node, and the latch that is put there
 abbrev pub IsKnownIn : EventCircuitView → EventGraphView → Frame → ℕ → ℕ → Type 0
 IsKnownIn e w f p lit = IsKnownAt e w (put_of f.put) p (path_of w.children f.node) lit
+
+-- the literal is that of the latch's enable at the root: the function with the latch at 0, or not that with it at 1
+pub record IsEnableLit (e : EventCircuitView) (w : EventGraphView) (l : LatchAt) (lit : ℕ) : Type 0 where
+  pub f0 : ℕ
+  pub f1 : ℕ
+  pub both : ℕ
+  pub low : IsKnownAt e w (Some (l.out.0, false)) l.next.0 [] f0
+  pub high : IsKnownAt e w (Some (l.out.0, true)) l.next.0 [] f1
+  pub and_is : IsAndOf w.graph (flip f0) f1 both
+  pub lit_is : lit ≡ flip both
+  pub within : lit < 2 * length w.graph
 
 -- each literal that is kept is right: an entry is the number of a frame and a signal, with the literal
 abbrev pub AreKnown : EventCircuitView → EventGraphView → List Frame → List ((ℕ × ℕ) × Lit) → Type 0
@@ -109,6 +121,13 @@ pub record HasUnfolded (u v : EventUnfolderView) (w x : EventGraphView) (room : 
   pub children : length x.children ≤ length w.children + room
   pub nodes : length x.graph ≤ length w.graph + room
   pub places : length x.places ≤ length w.places + room
+
+-- there is room for so many places more
+pub record HasRoomFor (u : EventUnfolderView) (w : EventGraphView) (room : ℕ) : Type 0 where
+  pub frames : length u.frames + room + 2 < 2 ^ 32
+  pub children : length w.children + room + 2 < 2 ^ 32
+  pub nodes : length w.graph + room < 2 ^ 30
+  pub places : length w.places + room < 2 ^ 31
 
 -- the literal is the variable of the input with this position at the node
 pub record IsInputLit (e : EventCircuitView) (i node : ℕ) (w : EventGraphView) (x : ℕ) : Type 0 where
