@@ -72,7 +72,7 @@ one_literal e f w put other p q path way x y is k l same =
     Builds-one w.graph is.is_graph (named_places w) (named_distinct w is) k.tree x y k.builds (subst (λ (t : Tree (List ℕ)). Builds w.graph (named_places w) t y) (sym same) l.builds)
 
 pub one_enable_literal : EqualEnablesOneLiteral
-one_enable_literal e f w l m x y is k n low high =
+one_enable_literal e f w node other l m x y is k n low high =
     let f0 = one_literal e f w _ _ _ _ _ _ k.f0 n.f0 is k.low n.low low in
     let f1 = one_literal e f w _ _ _ _ _ _ k.f1 n.f1 is k.high n.high high in
     let both : k.both ≡ n.both = IsAndOf-one w.graph is.is_graph (flip k.f0) k.f1 k.both n.both k.and_is (subst (λ (a : ℕ). IsAndOf w.graph (flip a) k.f1 n.both) (sym f0) (subst (λ (b : ℕ). IsAndOf w.graph (flip n.f0) b n.both) (sym f1) n.and_is)) in
@@ -87,7 +87,7 @@ or_not true c = refl
 or_not false c = refl
 
 pub enable_value : EnableLiteralIsEnable
-enable_value e w j l x sound is at on k bits a fits =
+enable_value e w node j l x sound is at on k bits a fits =
     IsEnable.own {name = l.name} {next = l.next.0} {low = k.low.tree} {high = k.high.tree} on (latch_equation_stands e.net sound l.out.0 j (sound.latches j l at).owner l at) k.low.unfolds k.high.unfolds
     (ap (λ b. b || not (tree_value bits k.high.tree)) (sym low) ∙ (ap (λ b. value w.graph a k.f0 || not b) (sym high) ∙ (sym (or_not (value w.graph a k.f0) (value w.graph a k.f1)) ∙ sym whole)))
   where

@@ -1,12 +1,12 @@
 -- A signal is unfolded from a frame at the root.
-use Rattle.std.proofs.Common.{◌≡◌, ◌*◌, ◌<◌, ℕ, true, false, length, List, [], ◌∷◌, ◌++◌, slice_get, Some, refl, sym, ap, subst, arith, inl, inr}
+use Rattle.std.proofs.Common.{◌≡◌, ◌*◌, ◌<◌, ◌≤◌, ℕ, true, false, length, List, [], ◌∷◌, ◌++◌, slice_get, Some, refl, sym, ap, subst, arith, inl, inr}
 use Rattle.std.specs.Prelude.{◌⊎◌}
 use Rattle.std.specs.List.{Contains}
 use Rattle.flat_net.proofs.Growth.{slice_get-append}
 use Rattle.flat_net.proofs.Places.{one_at}
 use Rattle.aig.specs.declared.node.Lit.{Lit}
 use Rattle.edbf_unfold.specs.declared.frames.Frame.{Frame}
-use Rattle.edbf_unfold.specs.declared.frames.Put.{Put}
+use Rattle.edbf_unfold.specs.declared.frames.Put.TheVariants.{Low, High}
 use Rattle.edbf_unfold.specs.declared.frames.Step.{Step}
 use Rattle.flat_net.specs.declared.parts.LatchAt.{LatchAt}
 use Rattle.flat_net.specs.Sound.{IsSound}
@@ -19,7 +19,8 @@ use Rattle.edbf_unfold.specs.Known.{EventUnfolderView, IsKnownAt, IsKnownIn, IsE
 use Rattle.edbf_unfold.specs.Walk.{IsOpened}
 use Rattle.edbf_unfold.specs.Plan.{place_of, IsRootPlan}
 use Rattle.edbf_unfold.proofs.Going.{are_known_later, grows_trans}
-use Rattle.edbf_unfold.proofs.Known.{known_at_later}
+use Rattle.edbf_unfold.proofs.Known.{known_later}
+use Rattle.edbf_unfold.proofs.Opening.{children_more}
 use Rattle.edbf_unfold.proofs.Lists.{adds_at}
 use Rattle.edbf_unfold.proofs.Paths.{path_grows}
 
@@ -46,19 +47,17 @@ pub root_met : (e : EventCircuitView) (frames : List Frame) (children : List (�
     ((p : Step) → Contains now p → IsMet memo (p.frame, p.signal)) → IsMet memo root
 root_met e frames children root cap plan now memo is same met = subst (IsMet memo) is.has.2 (met is.has.0 (subst (λ (l : List Step). Contains l is.has.0) (sym same) is.has.1))
 
-root_path : (children : List (ℕ × ℕ)) → path_of children 0 ≡ []
+pub root_path : (children : List (ℕ × ℕ)) → path_of children 0 ≡ []
 root_path children = path_grows [] children 0 (omega arith)
 
--- so its literal is right at the root
-pub root_known : (u v t : EventUnfolderView) (w x y : EventGraphView) (room more frame s : ℕ) (put : Put) (lit : Lit) → slice_get u.frames frame ≡ Some (record { node = 0; put = put }) → IsOpened u v w x room → IsLater v t x y more →
-    AreKnown t.circuit y t.frames t.memo → Contains t.memo ((frame, s), lit) → IsKnownAt t.circuit y (put_of put) s [] lit.0
-root_known u v t w x y room more frame s put lit here opened later known met =
-    let k = known (frame, s) lit met in
-    let at_v : slice_get v.frames frame ≡ Some (record { node = 0; put = put }) = adds_at (λ (f : Frame). Unit {0}) u.frames v.frames frame (record { node = 0; put = put }) opened.frames here in
-    let at_t : slice_get t.frames frame ≡ Some (record { node = 0; put = put }) = subst (λ (l : List Frame). slice_get l frame ≡ Some (record { node = 0; put = put })) (sym later.frames) at_v in
-    let same : k.0 ≡ record { node = 0; put = put } = one_at t.frames frame k.0 (record { node = 0; put = put }) k.1 at_t in
-    let known_in : IsKnownIn t.circuit y (record { node = 0; put = put }) s lit.0 = subst (λ (f : Frame). IsKnownIn t.circuit y f s lit.0) same k.3 in
-    subst (λ (path : List ℕ). IsKnownAt t.circuit y (put_of put) s path lit.0) (root_path y.children) known_in
+-- so its literal is right in its frame
+pub root_known : (u v t : EventUnfolderView) (w x y : EventGraphView) (room more id s : ℕ) (frame : Frame) (lit : Lit) → slice_get u.frames id ≡ Some frame → IsOpened u v w x room → IsLater v t x y more → AreKnown t.circuit y t.frames t.memo →
+    Contains t.memo ((id, s), lit) → IsKnownIn t.circuit y frame s lit.0
+root_known u v t w x y room more id s frame lit here opened later known met =
+    let k = known (id, s) lit met in
+    let at_v : slice_get v.frames id ≡ Some frame = adds_at (λ (f : Frame). Unit {0}) u.frames v.frames id frame opened.frames here in
+    let at_t : slice_get t.frames id ≡ Some frame = subst (λ (l : List Frame). slice_get l id ≡ Some frame) (sym later.frames) at_v in
+    subst (λ (f : Frame). IsKnownIn t.circuit y f s lit.0) (one_at t.frames id k.0 frame k.1 at_t) k.3
 
 -- a latch takes over a signal of the net
 pub next_within : (e now : EventCircuitView) (n : NetView) (j : ℕ) (l : LatchAt) → now ≡ e → n ≡ now.net → IsSound now.net → slice_get n.latches j ≡ Some l → l.next.0 < length e.net.drivers
@@ -66,14 +65,15 @@ next_within e now n j l same net sound at =
     subst (λ (k : EventCircuitView). l.next.0 < length k.net.drivers) same (sound.latches j l (subst (λ (m : NetView). slice_get m.latches j ≡ Some l) net at)).within
 
 -- the enable's literal is made of those of its two functions
-pub enable_lit : (e now : EventCircuitView) → now ≡ e → (w x y : EventGraphView) → IsEventGraph w → IsEventGraph x → GrowsEvents w x → GrowsEvents x y → (l : LatchAt) (f0 f1 not_f0 both lit : ℕ) →
-    IsKnownAt e w (Some (l.out.0, false)) l.next.0 [] f0 → IsKnownAt now x (Some (l.out.0, true)) l.next.0 [] f1 → not_f0 ≡ flip f0 → IsAndOf y.graph not_f0 f1 both → lit ≡ flip both → lit < 2 * length y.graph → IsEnableLit now y l lit
-enable_lit e now same w x y is also grows more l f0 f1 not_f0 both lit low high flipped and_is lit_is within = record {
+pub enable_lit : (e now : EventCircuitView) → now ≡ e → (w x y : EventGraphView) → IsEventGraph w → IsEventGraph x → GrowsEvents w x → GrowsEvents x y → (node : ℕ) → node ≤ length w.children → (l : LatchAt) (f0 f1 not_f0 both lit : ℕ) →
+    IsKnownIn e w (record { node = node; put = Low l.out.0 }) l.next.0 f0 → IsKnownIn now x (record { node = node; put = High l.out.0 }) l.next.0 f1 → not_f0 ≡ flip f0 → IsAndOf y.graph not_f0 f1 both → lit ≡ flip both → lit < 2 * length y.graph →
+    IsEnableLit now y node l lit
+enable_lit e now same w x y is also grows more node made l f0 f1 not_f0 both lit low high flipped and_is lit_is within = record {
   f0 = f0;
   f1 = f1;
   both = both;
-  low = known_at_later now w y is (grows_trans w x y grows more) (Some (l.out.0, false)) l.next.0 [] f0 (subst (λ (k : EventCircuitView). IsKnownAt k w (Some (l.out.0, false)) l.next.0 [] f0) (sym same) low);
-  high = known_at_later now x y also more (Some (l.out.0, true)) l.next.0 [] f1 high;
+  low = known_later now w y is (grows_trans w x y grows more) (record { node = node; put = Low l.out.0 }) l.next.0 f0 made (subst (λ (k : EventCircuitView). IsKnownIn k w (record { node = node; put = Low l.out.0 }) l.next.0 f0) (sym same) low);
+  high = known_later now x y also more (record { node = node; put = High l.out.0 }) l.next.0 f1 (let k = children_more w x grows in omega (arith, made, k)) high;
   and_is = subst (λ (k : ℕ). IsAndOf y.graph k f1 both) flipped and_is;
   lit_is = lit_is;
   within = within;

@@ -41,13 +41,13 @@ pub record IsKnownAt (e : EventCircuitView) (w : EventGraphView) (put : Option (
 abbrev pub IsKnownIn : EventCircuitView → EventGraphView → Frame → ℕ → ℕ → Type 0
 IsKnownIn e w f p lit = IsKnownAt e w (put_of f.put) p (path_of w.children f.node) lit
 
--- the literal is that of the latch's enable at the root: the function with the latch at 0, or not that with it at 1
-pub record IsEnableLit (e : EventCircuitView) (w : EventGraphView) (l : LatchAt) (lit : ℕ) : Type 0 where
+-- the literal is that of the latch's enable at the node: the function with the latch at 0, or not that with it at 1
+pub record IsEnableLit (e : EventCircuitView) (w : EventGraphView) (node : ℕ) (l : LatchAt) (lit : ℕ) : Type 0 where
   pub f0 : ℕ
   pub f1 : ℕ
   pub both : ℕ
-  pub low : IsKnownAt e w (Some (l.out.0, false)) l.next.0 [] f0
-  pub high : IsKnownAt e w (Some (l.out.0, true)) l.next.0 [] f1
+  pub low : IsKnownIn e w (record { node = node; put = Low l.out.0 }) l.next.0 f0
+  pub high : IsKnownIn e w (record { node = node; put = High l.out.0 }) l.next.0 f1
   pub and_is : IsAndOf w.graph (flip f0) f1 both
   pub lit_is : lit ≡ flip both
   pub within : lit < 2 * length w.graph

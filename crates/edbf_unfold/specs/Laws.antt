@@ -5,7 +5,7 @@ use Rattle.event_theory.specs.Frame.{IsEnable}
 use Rattle.flat_net.specs.declared.parts.LatchAt.{LatchAt}
 use Rattle.flat_net.specs.Sound.{IsSound}
 use Rattle.aig.specs.Values.{value}
-use Rattle.edbf_unfold.specs.Nodes.{EventGraphView, IsEventGraph, GrowsEvents, named_places}
+use Rattle.edbf_unfold.specs.Nodes.{EventGraphView, IsEventGraph, GrowsEvents, named_places, path_of}
 use Rattle.edbf_unfold.specs.View.{EventCircuitView, side_of, Enabled}
 use Rattle.edbf_unfold.specs.Known.{IsKnownAt, IsEnableLit}
 
@@ -20,17 +20,17 @@ EqualEventTreesOneLiteral = (e f : EventCircuitView) (w : EventGraphView) (put o
 
 -- So have enables whose two functions have equal trees.
 abbrev pub EqualEnablesOneLiteral : Type 0
-EqualEnablesOneLiteral = (e f : EventCircuitView) (w : EventGraphView) (l m : LatchAt) (x y : ℕ) → IsEventGraph w → (k : IsEnableLit e w l x) (n : IsEnableLit f w m y) → k.low.tree ≡ n.low.tree → k.high.tree ≡ n.high.tree → x ≡ y
+EqualEnablesOneLiteral = (e f : EventCircuitView) (w : EventGraphView) (node other : ℕ) (l m : LatchAt) (x y : ℕ) → IsEventGraph w → (k : IsEnableLit e w node l x) (n : IsEnableLit f w other m y) → k.low.tree ≡ n.low.tree → k.high.tree ≡ n.high.tree → x ≡ y
 
 -- The literal has in each frame the value of its tree.
 abbrev pub LiteralIsTree : Type 0
 LiteralIsTree = (e : EventCircuitView) (w : EventGraphView) (put : Option (ℕ × Bool)) (p : ℕ) (path : List ℕ) (x : ℕ) → IsEventGraph w → (k : IsKnownAt e w put p path x) → (bits : ℕ → List ℕ → Bool) (a : ℕ → Bool) → TakesFrame w bits a →
     value w.graph a x ≡ tree_value bits k.tree
 
--- The literal of an enabled latch's enable has in each frame the enable's value at the root.
+-- The literal of an enabled latch's enable has in each frame the enable's value at its node.
 abbrev pub EnableLiteralIsEnable : Type 0
-EnableLiteralIsEnable = (e : EventCircuitView) (w : EventGraphView) (j : ℕ) (l : LatchAt) (x : ℕ) → IsSound e.net → IsEventGraph w → slice_get e.net.latches j ≡ Some l → Enabled e l.out.0 → IsEnableLit e w l x →
-    (bits : ℕ → List ℕ → Bool) (a : ℕ → Bool) → TakesFrame w bits a → IsEnable (side_of e) (Enabled e) bits l.out.0 [] (value w.graph a x)
+EnableLiteralIsEnable = (e : EventCircuitView) (w : EventGraphView) (node j : ℕ) (l : LatchAt) (x : ℕ) → IsSound e.net → IsEventGraph w → slice_get e.net.latches j ≡ Some l → Enabled e l.out.0 → IsEnableLit e w node l x →
+    (bits : ℕ → List ℕ → Bool) (a : ℕ → Bool) → TakesFrame w bits a → IsEnable (side_of e) (Enabled e) bits l.out.0 (path_of w.children node) (value w.graph a x)
 
 -- A literal goes on to be right while the event graph grows.
 abbrev pub KnownLater : Type 0

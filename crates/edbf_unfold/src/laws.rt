@@ -17,7 +17,7 @@ pub fn literal_is_tree()
     ensures { LiteralIsTree }
 {}
 
-/// In each frame the literal of a latch's enable has the enable's value at the root.
+/// In each frame the literal of a latch's enable has the enable's value at its node.
 pub fn enable_literal_is_enable()
     ensures { EnableLiteralIsEnable }
 {}
