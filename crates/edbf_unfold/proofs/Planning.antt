@@ -1,5 +1,5 @@
 -- The steps of a walk's places, and their order.
-use Rattle.std.proofs.Common.{◌≡◌, ◌≢◌, ◌∙◌, ◌+◌, ◌-◌, ◌<◌, ◌≤◌, ℕ, true, false, true≢false, List, [], ◌∷◌, ◌++◌, length, map, take, get_or, slice_get, Some, refl, sym, ap, subst, arith, inl, inr}
+use Rattle.std.proofs.Common.{◌≡◌, ◌∙◌, ◌+◌, ◌-◌, ◌<◌, ◌≤◌, ℕ, true, true≢false, List, [], ◌∷◌, ◌++◌, length, map, take, get_or, slice_get, Some, refl, sym, ap, subst, arith, inl, inr}
 use Rattle.std.specs.Prelude.{◌⊎◌, IsSorted, IsPermutation}
 use Rattle.std.specs.List.{Contains, sum_by}
 use Rattle.std.specs.Cmp.{IsStrictWeakOrder}
@@ -12,10 +12,7 @@ use Rattle.std.proofs.lemmas.List.{map-append, take_more}
 use Rattle.std.proofs.lemmas.List.Sorted.{IsPermutation-sym, Contains-permutation, sorted_far, ranks_by, sum_by-IsPermutation}
 use Rattle.std.proofs.lemmas.Option.{get_or_from_slice_get, slice_get_within}
 use Rattle.circuit_theory.proofs.Lists.{at_of, of_at, length-map}
-use Rattle.circuit_theory.specs.Circuit.{IsLatch}
-use Rattle.event_theory.specs.Frame.{NotPut}
 use Rattle.flat_net.specs.Sound.{IsSound}
-use Rattle.flat_net.specs.View.{circuit_of}
 use Rattle.flat_net.proofs.Growth.{length-push, slice_get-append, slice_get-push}
 use Rattle.flat_net.proofs.Nets.{some_at}
 use Rattle.flat_net.proofs.Places.{one_at}
@@ -23,7 +20,7 @@ use Rattle.edbf_unfold.specs.declared.frames.Frame.{Frame}
 use Rattle.edbf_unfold.specs.declared.frames.Step.{Step}
 use Rattle.edbf_unfold.specs.Nodes.{IsTree}
 use Rattle.edbf_unfold.specs.View.{EventCircuitView, side_of}
-use Rattle.edbf_unfold.specs.Known.{put_of, IsOnward, IsReadyBy, StandsBefore, weight_at}
+use Rattle.edbf_unfold.specs.Known.{IsOnward, IsReadyBy, StandsBefore, weight_at}
 use Rattle.edbf_unfold.specs.Walk.{IsExpanded}
 use Rattle.edbf_unfold.specs.Plan.{IsStepOf, AreSteps, AreExpanded, IsPlanOf, place_of}
 use Rattle.edbf_unfold.proofs.Drivers.{reads_lower}

@@ -1,5 +1,5 @@
 -- A signal is unfolded from a frame at the root.
-use Rattle.std.proofs.Common.{◌≡◌, ◌*◌, ◌<◌, ◌≤◌, ℕ, true, false, length, List, [], ◌∷◌, ◌++◌, slice_get, Some, refl, sym, ap, subst, arith, inl, inr}
+use Rattle.std.proofs.Common.{◌≡◌, ◌*◌, ◌<◌, ◌≤◌, ℕ, length, List, [], ◌∷◌, ◌++◌, slice_get, Some, sym, subst, arith, inl, inr}
 use Rattle.std.specs.Prelude.{◌⊎◌}
 use Rattle.std.specs.List.{Contains}
 use Rattle.flat_net.proofs.Growth.{slice_get-append}
@@ -15,9 +15,9 @@ use Rattle.aig.specs.Graph.{flip}
 use Rattle.aig.specs.Rules.{IsAndOf}
 use Rattle.edbf_unfold.specs.Nodes.{EventGraphView, IsEventGraph, GrowsEvents, path_of}
 use Rattle.edbf_unfold.specs.View.{EventCircuitView}
-use Rattle.edbf_unfold.specs.Known.{EventUnfolderView, IsKnownAt, IsKnownIn, IsEnableLit, AreKnown, IsMet, IsLater, put_of}
+use Rattle.edbf_unfold.specs.Known.{EventUnfolderView, IsKnownIn, IsEnableLit, AreKnown, IsMet, IsLater}
 use Rattle.edbf_unfold.specs.Walk.{IsOpened}
-use Rattle.edbf_unfold.specs.Plan.{place_of, IsRootPlan}
+use Rattle.edbf_unfold.specs.Plan.{IsRootPlan}
 use Rattle.edbf_unfold.proofs.Going.{are_known_later, grows_trans}
 use Rattle.edbf_unfold.proofs.Known.{known_later}
 use Rattle.edbf_unfold.proofs.Opening.{children_more}

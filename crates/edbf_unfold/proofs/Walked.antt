@@ -1,6 +1,6 @@
 -- What a walk to its end gives a plan.
 use Rattle.std.proofs.Common.{◌≡◌, ◌∙◌, ◌≤◌, ℕ, List, length, take, slice_get, Some, sym, ap, subst, arith}
-use Rattle.std.specs.List.{All, Contains, sum_by}
+use Rattle.std.specs.List.{All, sum_by}
 use Rattle.std.proofs.lemmas.List.{take_all}
 use Rattle.std.proofs.lemmas.List.Elements.{All-weaker}
 use Rattle.flat_net.specs.Sound.{IsSound}

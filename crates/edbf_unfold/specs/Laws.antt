@@ -1,5 +1,5 @@
 -- What follows for the literals of event trees.
-use Rattle.std.specs.Prelude.{◌≡◌, ℕ, Bool, true, List, [], Option, Some, slice_get}
+use Rattle.std.specs.Prelude.{◌≡◌, ℕ, Bool, List, Option, Some, slice_get}
 use Rattle.circuit_theory.specs.Tree.{tree_value}
 use Rattle.event_theory.specs.Frame.{IsEnable}
 use Rattle.flat_net.specs.declared.parts.LatchAt.{LatchAt}

@@ -1,7 +1,6 @@
 -- The steps of the places of a walk, in an order in which each can be done.
 use Rattle.std.specs.Prelude.{◌≡◌, ℕ, ◌-◌, ◌≤◌, List, length, map, slice_get, Some, All, Contains}
 use Rattle.std.specs.List.{sum_by}
-use Rattle.flat_net.specs.View.{NetView}
 use Rattle.edbf_unfold.specs.declared.frames.Frame.{Frame}
 use Rattle.edbf_unfold.specs.declared.frames.Step.{Step}
 use Rattle.edbf_unfold.specs.View.{EventCircuitView}

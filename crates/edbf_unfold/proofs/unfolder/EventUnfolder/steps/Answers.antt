@@ -1,7 +1,6 @@
 -- The walk has expanded all, so that its places make a plan.
 use Rattle.std.proofs.Common.{◌≡◌, ℕ, List, length, ap, subst, arith}
 use Rattle.flat_net.specs.Sound.{IsSound}
-use Rattle.edbf_unfold.specs.declared.frames.Frame.{Frame}
 use Rattle.edbf_unfold.specs.Nodes.{IsTree}
 use Rattle.edbf_unfold.specs.Plan.{AreExpanded, IsPlanOf}
 use Rattle.edbf_unfold.specs.View.{EventCircuitView}
