@@ -19,3 +19,4 @@ pub mod ReachedLatches
 pub mod Separations
 pub mod SettledEvents
 pub mod SideParts
+pub mod SideTrees

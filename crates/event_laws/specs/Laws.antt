@@ -19,6 +19,7 @@ use Rattle.circuit_theory.specs.Fits.{MakesDiffer}
 use Rattle.event_theory.specs.EventFits.{IsEventWitness, ReachesAlways, HaveEqualEvents, side_by_side}
 use Rattle.event_theory.specs.EventSizes.{Start, EventVisits}
 use Rattle.event_theory.specs.EventTotals.{IsMapSoFar, StartLatches}
+use Rattle.event_laws.specs.Sides.{UnfoldsAsPart}
 use Rattle.event_theory.specs.Reached.{LatchAtNode, AreReached, IsClosed}
 
 -- Equal event functions mean agreement in the event mode: with the class map of both circuits side by side, where no cycle is left
@@ -154,3 +155,9 @@ SeparationsAreOne = (s : EventSide (Either ℕ ℕ)) (order : List (Either ℕ �
 -- The founder of a class differs from a member of each lower class that joined before it: from `always` in a frame with care in which its enable is 0.
 abbrev pub FoundersAreApart : Type 0
 FoundersAreApart = (s : EventSide (Either ℕ ℕ)) (order : List (Either ℕ ℕ)) (low high : ℕ) (founder : Either ℕ ℕ) → IsClassMap s order → (f : IsFounder s order high founder) → low < high → DiffersFromMember s f.before low founder
+
+-- Side by side each circuit has the unfoldings, enables and cares that it has by itself.
+abbrev pub SidesUnfoldAsParts : Type 0
+SidesUnfoldAsParts = (a b : Circuit ℕ) (m n : ℕ) (left right : List ℕ) (class : Either ℕ ℕ → ℕ) → IsNet a m → IsNet b n → length left ≡ length a.inputs →
+    UnfoldsAsPart (record { circuit = a; order = left; class = λ p. class (Left p) }) (side_by_side a b left right class) Left
+    × UnfoldsAsPart (record { circuit = b; order = right; class = λ q. class (Right q) }) (side_by_side a b left right class) Right

@@ -1,7 +1,7 @@
 //! The laws of the event form. None of these functions does anything: each contract is a law that is proved for all flat nets, by the
 //! same definitions that the contracts of the working calls cite.
 
-ghost use Rattle.event_laws.specs.Laws.{EventFunctionsAgree, ExposedEventFunctionsAgree, SettledHasEvents, EventsAreCommon, EventWitnessMakesDiffer, SidesAreParts, CutIsNet, TreesAreFrameValues, ClassesAreOne, DifferencesAreShown, EventDifferenceIsWitness, ExposedEventsAreCommon, ClassesSoFarAreOne, ReachedAreListed, ClosedListsAreReached, ExposedNamesAreApart, FrameValuesExist, SeparationsAreOne, FoundersAreApart};
+ghost use Rattle.event_laws.specs.Laws.{EventFunctionsAgree, ExposedEventFunctionsAgree, SettledHasEvents, EventsAreCommon, EventWitnessMakesDiffer, SidesAreParts, CutIsNet, TreesAreFrameValues, ClassesAreOne, DifferencesAreShown, EventDifferenceIsWitness, ExposedEventsAreCommon, ClassesSoFarAreOne, ReachedAreListed, ClosedListsAreReached, ExposedNamesAreApart, FrameValuesExist, SeparationsAreOne, FoundersAreApart, SidesUnfoldAsParts};
 
 /// Where the event functions of each pair of outputs agree in each frame with care for both, the two circuits agree in the event mode
 /// on each output wherever it is settled in both.
@@ -107,4 +107,9 @@ pub fn separations_are_one()
 /// Each two classes can be separated: the founder of the higher one differs from a member of the lower one, or from `always`.
 pub fn founders_are_apart()
     ensures { FoundersAreApart }
+{}
+
+/// Side by side each circuit has the unfoldings, enables and cares that it has by itself.
+pub fn sides_unfold_as_parts()
+    ensures { SidesUnfoldAsParts }
 {}

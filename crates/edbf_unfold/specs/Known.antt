@@ -1,0 +1,164 @@
+-- When the literal of a signal at a node is right.
+use Rattle.std.specs.Prelude.{◌≡◌, ◌⊎◌, ℕ, ◌+◌, ◌*◌, ◌^◌, ◌<◌, ◌≤◌, max, Bool, true, false, List, length, map, Option, Some, None, slice_get, Contains}
+use Rattle.std.specs.List.{AllZip}
+use Rattle.circuit_theory.specs.Cover.{Cover}
+use Rattle.circuit_theory.specs.Tree.{Tree}
+use Rattle.circuit_theory.specs.Circuit.{IsLatch, Reads}
+use Rattle.event_theory.specs.Frame.{EventUnfolds, NotPut}
+use Rattle.flat_net.specs.declared.parts.Gate.{Gate}
+use Rattle.flat_net.specs.declared.parts.LatchAt.{LatchAt}
+use Rattle.flat_net.specs.declared.parts.Driver.{Driver}
+use Rattle.flat_net.specs.declared.parts.Driver.TheVariants as driver
+use Rattle.flat_net.specs.View.{NetView, circuit_of, cover_of}
+use Rattle.aig.specs.declared.node.Lit.{Lit}
+use Rattle.aig.specs.declared.node.Node.{Node}
+use Rattle.aig.specs.declared.node.Node.TheVariants.{Input}
+use Rattle.aig.specs.Graph.{IsLitOf, flip}
+use Rattle.aig.specs.Rules.{IsAndOf, IsCoverOf}
+use Rattle.aig.specs.Builds.{Builds}
+use Rattle.edbf_unfold.specs.declared.frames.Frame.{Frame}
+use Rattle.edbf_unfold.specs.declared.frames.Put.{Put}
+use Rattle.edbf_unfold.specs.declared.frames.Put.TheVariants.{Free, Low, High}
+use Rattle.edbf_unfold.specs.declared.frames.Step.{Step}
+use Rattle.edbf_unfold.specs.Adds.{Adds}
+use Rattle.edbf_unfold.specs.Nodes.{EventGraphView, IsChild, path_of, named_places, GrowsEvents}
+use Rattle.edbf_unfold.specs.View.{EventCircuitView, side_of, Enabled}
+
+-- the latch that is read as a constant, with the bit
+abbrev pub put_of : Put → Option (ℕ × Bool)
+put_of Free = None
+put_of (Low u) = Some (u, false)
+put_of (High u) = Some (u, true)
+
+-- the literal is that of the signal's tree at the path, under the latch that is put
+pub record IsKnownAt (e : EventCircuitView) (w : EventGraphView) (put : Option (ℕ × Bool)) (p : ℕ) (path : List ℕ) (lit : ℕ) : Type 0 where
+  pub tree : Tree (List ℕ)
+  pub unfolds : EventUnfolds (side_of e) (Enabled e) put p path tree
+  pub builds : Builds w.graph (named_places w) tree lit
+  pub within : lit < 2 * length w.graph
+
+-- the same in a frame: a node, and the latch that is put there
+abbrev pub IsKnownIn : EventCircuitView → EventGraphView → Frame → ℕ → ℕ → Type 0
+IsKnownIn e w f p lit = IsKnownAt e w (put_of f.put) p (path_of w.children f.node) lit
+
+-- the literal is that of the latch's enable at the node: the function with the latch at 0, or not that with it at 1
+pub record IsEnableLit (e : EventCircuitView) (w : EventGraphView) (node : ℕ) (l : LatchAt) (lit : ℕ) : Type 0 where
+  pub f0 : ℕ
+  pub f1 : ℕ
+  pub both : ℕ
+  pub low : IsKnownIn e w (record { node = node; put = Low l.out.0 }) l.next.0 f0
+  pub high : IsKnownIn e w (record { node = node; put = High l.out.0 }) l.next.0 f1
+  pub and_is : IsAndOf w.graph (flip f0) f1 both
+  pub lit_is : lit ≡ flip both
+  pub within : lit < 2 * length w.graph
+
+-- each literal that is kept is right: an entry is the number of a frame and a signal, with the literal
+abbrev pub AreKnown : EventCircuitView → EventGraphView → List Frame → List ((ℕ × ℕ) × Lit) → Type 0
+AreKnown e w frames memo = (p : ℕ × ℕ) (x : Lit) → Contains memo (p, x) → (f : Frame) × (slice_get frames p.0 ≡ Some f) × (f.node ≤ length w.children) × IsKnownIn e w f p.1 x.0
+
+-- what is put at the child through the latch: the latch itself as 0 if it is enabled
+abbrev pub IsOwnPut : EventCircuitView → ℕ → Put → Type 0
+IsOwnPut e u put = (Enabled e u × (put ≡ Low u)) ⊎ ((Enabled e u → ⊥) × (put ≡ Free))
+
+-- g is the frame in which the latch u, read in f, takes over its data
+pub record IsOnward (e : EventCircuitView) (children : List (ℕ × ℕ)) (u : ℕ) (f g : Frame) : Type 0 where
+  pub child : IsChild children f.node ((side_of e).class u) g.node
+  pub own : IsOwnPut e u g.put
+
+-- what a contract sees of an unfolder
+pub record EventUnfolderView : Type 0 where
+  pub circuit : EventCircuitView
+  -- the frames that were met
+  pub frames : List Frame
+  -- the signals that were met in frames, with their literals
+  pub memo : List ((ℕ × ℕ) × Lit)
+
+-- the place has been met
+abbrev pub IsMet : List ((ℕ × ℕ) × Lit) → ℕ × ℕ → Type 0
+IsMet memo p = (x : Lit) × Contains memo (p, x)
+
+-- The step can be done, where Met says which places have been met: what its signal reads in its frame has been met, and so has what
+-- its latch takes over in the frame onward.
+pub record IsReadyBy (e : EventCircuitView) (frames : List Frame) (children : List (ℕ × ℕ)) (Met : ℕ × ℕ → Type 0) (step : Step) : Type 0 where
+  pub frame : Frame
+  pub at : slice_get frames step.frame ≡ Some frame
+  pub node : frame.node ≤ length children
+  pub within : step.signal < length e.net.drivers
+  pub reads : (q : ℕ) → Reads (circuit_of e.net) step.signal q → Met (step.frame, q)
+  pub onward : (name : List ℕ) (next : ℕ) → IsLatch (circuit_of e.net) name step.signal next → NotPut (put_of frame.put) step.signal →
+      (g : Frame) × (slice_get frames step.onward ≡ Some g) × IsOnward e children step.signal frame g × Met (step.onward, next)
+
+abbrev pub IsReady : EventUnfolderView → EventGraphView → Step → Type 0
+IsReady u w step = IsReadyBy u.circuit u.frames w.children (IsMet u.memo) step
+
+-- the place stands among the first steps of the plan
+abbrev pub StandsBefore : List Step → ℕ → ℕ × ℕ → Type 0
+StandsBefore plan i p = (j : ℕ) × (q : Step) × (j < i) × (slice_get plan j ≡ Some q) × ((q.frame, q.signal) ≡ p)
+
+-- each step of the plan can be done once those before it have been
+abbrev pub IsPlan : EventCircuitView → List Frame → List (ℕ × ℕ) → List Step → Type 0
+IsPlan e frames children plan = (i : ℕ) (step : Step) → slice_get plan i ≡ Some step → IsReadyBy e frames children (StandsBefore plan i) step
+
+-- the event graph has grown by so much at most, with no new event node
+pub record HasGrown (w v : EventGraphView) (room : ℕ) : Type 0 where
+  pub grows : GrowsEvents w v
+  pub children : v.children ≡ w.children
+  pub nodes : length v.graph ≤ length w.graph + room
+  pub places : length v.places ≤ length w.places + room
+
+-- the same unfolder later: it has met more, and the event graph has grown by so much at most
+pub record IsLater (u v : EventUnfolderView) (w x : EventGraphView) (room : ℕ) : Type 0 where
+  pub circuit : v.circuit ≡ u.circuit
+  pub frames : v.frames ≡ u.frames
+  pub memo : Adds (λ e. Unit {0}) u.memo v.memo
+  pub grown : HasGrown w x room
+
+-- the same unfolder after a signal more was unfolded: at most so many places, each a frame and an event node more, and so much graph
+pub record HasUnfolded (u v : EventUnfolderView) (w x : EventGraphView) (room : ℕ) : Type 0 where
+  pub circuit : v.circuit ≡ u.circuit
+  pub grows : GrowsEvents w x
+  pub frames : length v.frames ≤ length u.frames + room + 1
+  pub children : length x.children ≤ length w.children + room
+  pub nodes : length x.graph ≤ length w.graph + room
+  pub places : length x.places ≤ length w.places + room
+
+-- there is room for so many places more
+pub record HasRoomFor (u : EventUnfolderView) (w : EventGraphView) (room : ℕ) : Type 0 where
+  pub frames : length u.frames + room + 2 < 2 ^ 32
+  pub children : length w.children + room + 2 < 2 ^ 32
+  pub nodes : length w.graph + room < 2 ^ 30
+  pub places : length w.places + room < 2 ^ 31
+
+-- the literal is the variable of the input with this position at the node
+pub record IsInputLit (e : EventCircuitView) (i node : ℕ) (w : EventGraphView) (x : ℕ) : Type 0 where
+  pub number : ℕ
+  pub at : slice_get e.order i ≡ Some number
+  pub variable : ℕ
+  pub numbered : slice_get w.places variable ≡ Some (number, node)
+  pub lit : IsLitOf w.graph (Input variable) x
+  pub within : x < 2 * length w.graph
+
+-- the literal is the gate's cover of its fan-ins' literals in the frame
+pub record IsGateLit (u : EventUnfolderView) (frame j : ℕ) (g : List Node) (x : ℕ) : Type 0 where
+  pub gate : Gate
+  pub at : slice_get u.circuit.net.gates j ≡ Some gate
+  pub lits : List Lit
+  pub each : AllZip (λ f y. Contains u.memo ((frame, f.0), y)) gate.fanins lits
+  pub is : IsCoverOf g (cover_of u.circuit.net.covers gate) (map (λ y. y.0) lits) x
+  pub within : x < 2 * length g
+
+-- a gate counts 1 + rows * (fan-ins + 1), where a cover without rows has one
+abbrev pub gate_weight : List Cover → Option Gate → ℕ
+gate_weight covers None = 1
+gate_weight covers (Some g) = 1 + max 1 (length (cover_of covers g).rows) * (length g.fanins + 1)
+
+-- an input or latch counts 1
+abbrev pub driver_weight : NetView → Option Driver → ℕ
+driver_weight n None = 1
+driver_weight n (Some (driver.Input i)) = 1
+driver_weight n (Some (driver.Gate j)) = gate_weight n.covers (slice_get n.gates j)
+driver_weight n (Some (driver.Latch j)) = 1
+
+-- what a signal of the net counts
+abbrev pub weight_at : NetView → ℕ → ℕ
+weight_at n s = driver_weight n (slice_get n.drivers s)
