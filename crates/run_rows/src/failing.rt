@@ -46,10 +46,7 @@ pub fn put_short_writes(
     words: &[String],
     files: &Files,
 ) -> Result<(), Fault> {
-    let mut shelf = shelf_of(alloc, files, 0)?;
-    let mut out = MemSink::new(alloc, ROOM, None, 0)?;
-    let _status = run(alloc, words, &mut shelf, &mut out);
-    for keep in 0..out.taken().len() {
+    for keep in 0..report_length(alloc, words, files)? {
         put(told, b"the write takes ")?;
         put_number(alloc, told, keep as u64)?;
         put(told, b"\n")?;
@@ -57,6 +54,14 @@ pub fn put_short_writes(
     }
     put(told, b"\n")?;
     Ok(())
+}
+
+/// How long the whole report is.
+fn report_length(alloc: Global, words: &[String], files: &Files) -> Result<usize, Fault> {
+    let mut shelf = shelf_of(alloc, files, 0)?;
+    let mut out = MemSink::new(alloc, ROOM, None, 0)?;
+    let _status = run(alloc, words, &mut shelf, &mut out);
+    Ok(out.taken().len())
 }
 
 fn put_short_write(
