@@ -1,7 +1,7 @@
 -- What the parts of the work on one circuit find.
 use Rattle.std.proofs.Common.{◌≡◌, ℕ, Bool, List, Option, Some, None, Result, Ok, Err}
 use Rattle.std.specs.Prelude.{IfSome}
-use Rattle.circuit_theory.specs.declared.Side.TheVariants.{A}
+use Rattle.circuit_theory.specs.declared.Side.TheVariants.{A, B}
 use Rattle.sec_base.specs.declared.fetching.FetchError.TheVariants as fetch_error
 use Rattle.blif_read.specs.declared.error.ReadError.TheVariants as read_error
 use Rattle.flat_net.specs.View.{NetView}

@@ -31,4 +31,4 @@ returns-clause-found g c =
     let failed : Type 0 = SimReadFailed held (g.S.Shelf.faults c.args.shelf.now) (g.S.Shelf.faults c.load_stimulus.new.shelf) sim in
     let spells = subst (λ (o : Option (List ℕ)). IfSome o (λ y. IsStimulus y names rows)) (c.load.ensures.keeps sim.stimulus) c.in-Ok-load_stimulus.ensures.ok in
     subst (λ (r : Result Finding Stop). EndsBy (IsSimFound sim.mode (held sim.circuit) (held sim.stimulus) sim.power) failed r) (sym c.sim_end.ensures)
-    (run_ends sim.mode (held sim.circuit) (held sim.stimulus) sim.power failed c.in-Ok.net names rows c.run_circuit-simulated.result c.in-Ok.ensures.ok spells c.run_circuit-simulated.ensures)
+    (run_ends sim.mode (held sim.circuit) (held sim.stimulus) sim.power failed c.in-Ok.net names rows c.simulate-simulated.result c.in-Ok.ensures.ok spells c.simulate-simulated.ensures)
