@@ -78,12 +78,7 @@ fn recovered(alloc: Global, net: &Net, conflicts: u32) -> Result<LatchKinds, Kin
 }
 
 /// Finds out what a latch is.
-fn kind_of(
-    alloc: Global,
-    net: &Net,
-    latch: u32,
-    conflicts: u32,
-) -> Result<LatchKind, KindsError>
+fn kind_of(alloc: Global, net: &Net, latch: u32, conflicts: u32) -> Result<LatchKind, KindsError>
     requires latch { latch < length net.now.latches }
     requires conflicts { conflicts ≤ 200000 }
     ensures { FoundAt net.now latch conflicts result }

@@ -166,10 +166,7 @@ fn comparison_report(
 }
 
 /// The report, if it could be made, of a finding without proofs.
-fn without_proofs(
-    alloc: Global,
-    made: Result<Text, NoMemory>,
-) -> Result<(Text, Proofs), NoMemory>
+fn without_proofs(alloc: Global, made: Result<Text, NoMemory>) -> Result<(Text, Proofs), NoMemory>
     ensures text { IfOk result (λ r. made ≡ Ok r.0) }
     ensures proofs { IfOk result (λ r. r.1 ≡ []) }
 {

@@ -154,12 +154,6 @@ pub fn simulate<S: Shelf>(
         Ok(stimulus) => stimulus,
         Err(error) => return stimulus_end(error),
     };
-    let simulated = run_circuit(
-        alloc,
-        &net,
-        &stimulus,
-        simulation.power,
-        simulation.mode,
-    );
+    let simulated = run_circuit(alloc, &net, &stimulus, simulation.power, simulation.mode);
     sim_end(simulated)
 }
