@@ -158,9 +158,9 @@ def main():
         sys.exit(__doc__)
     folder = sys.argv[1]
     os.makedirs(folder, exist_ok=True)
-    for width in (9, 16, 32, 64, 128, 256):
-        adders(width, False).write(f"{folder}/adders_last_bit_{width:03}.cnf")
-        adders(width, True).write(f"{folder}/adders_all_bits_{width:03}.cnf")
+    for width in (9, 16, 32, 64, 128, 256, 512, 1024):
+        adders(width, False).write(f"{folder}/adders_last_bit_{width:04}.cnf")
+        adders(width, True).write(f"{folder}/adders_all_bits_{width:04}.cnf")
     for width in (4, 5, 6, 7):
         multipliers(width).write(f"{folder}/multipliers_{width}.cnf")
     for holes in (4, 5, 6, 7, 8):

@@ -20,11 +20,7 @@ impl Aig {
         ensures closed { IfOk result (λ nodes. IsClosed self.now nodes) }
     {
         let nodes = self.nodes();
-        let mut seen = IndexSet::new(alloc);
-        for i in 0..roots.len() {
-            see(&mut seen, roots[i].0 / 2)?;
-        }
-        walk(nodes, &mut seen)?;
+        let seen = reached(alloc, nodes, roots)?;
         let mut cone = Vec::from_slice(alloc, seen.as_slice())?;
         cone.sort()?;
         Ok(Ids::from_vec(cone))
@@ -45,6 +41,20 @@ impl Aig {
         }
         Ok(part)
     }
+}
+
+/// The nodes that are reached from the roots, each once.
+fn reached(alloc: Global, nodes: &[Node], roots: &[Lit]) -> Result<IndexSet<u32>, NoMemory>
+    requires graph { IsGraph nodes.now }
+    requires within { All (λ l. l.0 < 2 * length nodes.now) roots.now }
+    ensures { IfOk result (λ seen. IsWalk nodes.now (map (λ l. l.0) roots.now) seen.keys (length seen.keys)) }
+{
+    let mut seen = IndexSet::new(alloc);
+    for i in 0..roots.len() {
+        see(&mut seen, roots[i].0 / 2)?;
+    }
+    walk(nodes, &mut seen)?;
+    Ok(seen)
 }
 
 /// Puts the nodes that are reached from those that were seen behind them.

@@ -11,8 +11,10 @@ use crate::node::Lit;
 use sec_base::{Cover, NoMemory};
 
 impl Aig {
-    /// The literal of the cover's function of the fan-ins. The same arguments give the same literal. After `NoMemory`
-    /// nodes may have been added.
+    /// The literal of the cover's function of the fan-ins: one literal of the graph for each column, in their order. The
+    /// same arguments give the same literal. A cover of r rows and w columns makes at most r * (w + 1) nodes, and with
+    /// these the graph has fewer than 2^30. After `NoMemory`, which comes where memory was wanted, nodes may have been
+    /// added, and those from before stand as they stood.
     pub fn cover(&mut self, cover: &Cover, fanins: &[Lit]) -> Result<Lit, NoMemory>
         requires within { All (λ f. f.0 < 2 * length self.old) fanins.now }
         requires width { length fanins.now ≡ cover.now.width }

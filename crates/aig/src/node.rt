@@ -3,7 +3,8 @@
 use sec_base::{Duplicate, NoMemory, Seq};
 use std::alloc::Global;
 
-/// A literal: twice a node's number, plus one where it stands for the node's complement.
+/// A literal: twice a node's number, plus one where it stands for the node's complement, as in the AIGER format (Biere,
+/// The AIGER And-Inverter Graph Format, 2007). So 0 is the constant 0, and 1 the constant 1.
 #[derive(Clone, Copy, Debug, PartialEq, Eq, Hash)]
 pub struct Lit(pub u32);
 
@@ -16,10 +17,13 @@ impl Duplicate for Lit {
 /// Literals.
 pub type Lits = Seq<Lit>;
 
-/// A node of the graph: the constant 0, a variable, or the and of two literals.
+/// A node of the graph. Nodes are numbered from 0; in a graph no node stands twice, and there are fewer than 2^30.
 #[derive(Clone, Copy, Debug, PartialEq, Eq, Hash)]
 pub enum Node {
+    /// The constant 0, which has the number 0.
     Constant,
+    /// A variable, by its number: at most 2^32 - 2. Numbers may be left out.
     Input(u32),
+    /// The and of two literals of nodes with lower numbers, the lesser literal first.
     And(Lit, Lit),
 }

@@ -43,9 +43,10 @@ fn lit_bit(bits: &[bool], l: Lit) -> bool
 }
 
 impl Aig {
+    /// The literal's value under an assignment. The literal is one of the graph: less than twice the number of nodes. The
+    /// assignment has at least `vars()` bits, at place v that of variable v. The scratch has `size()` places, whatever
+    /// they hold; then place n has the value of node n. It walks all nodes once, and takes no memory.
     #[tactic(auto, unfolding(crate::specs::Values::value))]
-    /// The literal's value, where place v of the assignment is variable v's bit. It takes no memory; the scratch then
-    /// holds the value of each node.
     pub fn value(&self, l: Lit, assignment: &[bool], scratch: &mut [bool]) -> bool
         requires within { l.0 < 2 * length self.now }
         requires covers { vars_of self.now ≤ length assignment.now }

@@ -218,7 +218,7 @@ module _ (a b : Circuit ℕ) (m n : ℕ) (left right : List ℕ) (class : Either
         let ep = events t p h mp in
         let eq = events t q h mq in
         sym (ep.value bits l fp ul)
-        ∙ (equal bits (ep.care (enabled_or kinds facts) bits fp) (eq.care (enabled_or kinds facts) bits fq) (run_frame-rows kinds facts care along t h) ∙ eq.value bits r fq ur)))
+        ∙ (equal bits (ep.care bits fp) (eq.care bits fq) (run_frame-rows kinds facts care along t h) ∙ eq.value bits r fq ur)))
 
   -- of two runs with equal inputs
   pub event_pair_under : (care : (ℕ → Bool) → Type 0) (size : ℕ) (l r : ℕ → ℕ → Bool) → AreAlike a b size l r → HoldsAlong care a left size l → (t p q : ℕ) (lt rt : Tree (List ℕ)) → t < size →

@@ -1,7 +1,7 @@
 //! Tables of names and of pairs.
 
 use crate::rows::number_of;
-use sec_base::{NameTable, NoMemory, PlaceTable, put, put_number};
+use sec_base::{Duplicate, Ids, NameTable, NoMemory, Orders, PlaceTable, put, put_number};
 use std::alloc::Global;
 
 fn put_found(
@@ -61,7 +61,33 @@ pub(crate) fn put_names(alloc: Global, out: &mut Vec<u8>, words: &[&[u8]]) -> Re
     sec_base::put_names(out, &copy.into_words(alloc)?)
 }
 
-/// Puts the number of each pair, and then the pairs.
+fn put_ids(alloc: Global, out: &mut Vec<u8>, ids: &Ids) -> Result<(), NoMemory> {
+    for id in ids.as_slice() {
+        put(out, b" ")?;
+        put_number(alloc, out, u64::from(*id))?;
+    }
+    Ok(())
+}
+
+/// Puts a copy of two lists: the first and the second numbers of the pairs.
+fn put_copied(alloc: Global, out: &mut Vec<u8>, table: &PlaceTable) -> Result<(), NoMemory> {
+    let mut orders = Orders {
+        left: Ids::new(alloc),
+        right: Ids::new(alloc),
+    };
+    for number in 0..table.len() {
+        let (first, second) = table.pair(number);
+        orders.left.push(first)?;
+        orders.right.push(second)?;
+    }
+    let copy = orders.duplicate(alloc)?;
+    put(out, b", copied")?;
+    put_ids(alloc, out, &copy.left)?;
+    put(out, b" and")?;
+    put_ids(alloc, out, &copy.right)
+}
+
+/// Puts the number of each pair, then the pairs, and then a copy of the lists of their numbers.
 pub(crate) fn put_places(
     alloc: Global,
     out: &mut Vec<u8>,
@@ -84,5 +110,5 @@ pub(crate) fn put_places(
         put_number(alloc, out, u64::from(first))?;
         put_number(alloc, out, u64::from(second))?;
     }
-    Ok(())
+    put_copied(alloc, out, &table)
 }

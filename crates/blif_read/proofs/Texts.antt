@@ -1,5 +1,5 @@
 -- The first fault and the models of texts that the tests read too, computed from the definitions.
-use Rattle.std.specs.Prelude.{◌≡◌, true, false, [], ◌∷◌, Some, None, codes, refl}
+use Rattle.std.specs.Prelude.{◌≡◌, false, [], ◌∷◌, Some, None, codes, refl}
 use Rattle.sec_base.specs.declared.basics.Init.TheVariants as init
 use Rattle.sec_base.specs.declared.basics.Edge.TheVariants as edge
 use Rattle.blif_lines.specs.Lines.{cut_line, going_on}

@@ -17,7 +17,7 @@ use sec_base::{Cover, NoMemory, Seq, Word, Words};
 use std::alloc::Global;
 
 /// A `.names` line, and the cover of the rows that were read so far.
-#[derive(Debug, Drop)]
+#[derive(Drop)]
 pub(crate) struct Block {
     pub(crate) line: u32,
     pub(crate) fanins: Words,

@@ -9,17 +9,17 @@ ghost use Rattle.blif_lines.specs.Lines.{is_empty};
 use sec_base::{Cover, Edge, Init, Seq, Word, Words};
 
 /// A pair of a `.subckt` statement: a signal name of the model that is used, and the signal of the model around it.
-#[derive(Debug, Drop)]
+#[derive(Drop)]
 pub struct Pair {
     pub formal: Word,
     pub actual: Word,
 }
 
-/// Pairs.
+/// Pairs of one `.subckt`, in their order.
 pub type Pairs = Seq<Pair>;
 
 /// A statement of a model, with the number of the line on which it begins, from 1.
-#[derive(Debug, Drop)]
+#[derive(Drop)]
 pub enum Statement {
     /// `.names`: the output has the cover's value of the fan-ins.
     Names {
@@ -46,11 +46,11 @@ pub enum Statement {
     },
 }
 
-/// Statements.
+/// Statements of one model, in their order.
 pub type Statements = Seq<Statement>;
 
 /// A model: its ports and its statements, in the order of the text.
-#[derive(Debug, Drop)]
+#[derive(Drop)]
 pub struct BlifModel {
     pub name: Word,
     pub inputs: Words,
@@ -59,11 +59,11 @@ pub struct BlifModel {
     pub statements: Statements,
 }
 
-/// Models.
+/// Models, in their order.
 pub type BlifModels = Seq<BlifModel>;
 
 /// A design: the models of a text. The first is the main one.
-#[derive(Debug, Drop)]
+#[derive(Drop)]
 pub struct Design {
     pub models: BlifModels,
     /// There is a main model.

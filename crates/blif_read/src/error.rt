@@ -6,7 +6,7 @@ ghost use Rattle.blif_read.specs.declared.error.ReadError.TheVariants as read;
 use sec_base::{NoMemory, Word};
 
 /// What is wrong with a line.
-#[derive(Debug, Drop)]
+#[derive(Drop)]
 pub enum ReadKind {
     /// A word that this reader knows and does not read, or the type of a latch that is not clocked by an edge.
     Unsupported(Word),
@@ -39,7 +39,7 @@ pub enum ReadKind {
 }
 
 /// Why a text is no design.
-#[derive(Debug, Drop)]
+#[derive(Drop)]
 pub enum ReadError {
     /// The first faulty line, by the number of its first physical line from 1, and what is wrong
     /// with it. Line 0 with `NoModel` stands for a text without a model.

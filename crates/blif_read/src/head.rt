@@ -12,7 +12,7 @@ use crate::error::ReadKind;
 const NAME_BYTES: usize = 4096;
 
 /// What the first token of a line says the line is.
-#[derive(Clone, Copy, Debug, PartialEq, Eq)]
+#[derive(Clone, Copy, PartialEq, Eq)]
 pub enum Head {
     Model,
     Inputs,

@@ -5,6 +5,7 @@
 #![tactic(auto)]
 
 mod block;
+mod copies;
 mod design;
 mod error;
 mod head;

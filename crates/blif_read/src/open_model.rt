@@ -19,7 +19,7 @@ use std::alloc::Global;
 use std::mem;
 
 /// A model whose lines are being read.
-#[derive(Debug, Drop)]
+#[derive(Drop)]
 pub(crate) struct OpenModel {
     pub(crate) name: Word,
     pub(crate) inputs: NameTable,

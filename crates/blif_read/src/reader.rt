@@ -6,7 +6,7 @@ ghost use Rattle.blif_read.specs.Heads.{Line, line_of, count_fits};
 ghost use Rattle.blif_read.specs.Spelled.{models_of};
 ghost use Rattle.blif_read.specs.Fault.{fault_of, word_fault, row_line_fault, open_model, is_model_head};
 ghost use Rattle.blif_read.specs.Reading.{Reads};
-ghost use Rattle.blif_read.specs.State.{Means, TookAnd, TookWord, TookLine, TookLines, ReadModels, line_with, new_model, is_word, stays, refusal_at};
+ghost use Rattle.blif_read.specs.State.{Means, TookAnd, TookWord, TookLine, TookLines, ReadModels, line_with, is_word, stays, refusal_at};
 ghost use Rattle.blif_read.specs.declared.head.Head.TheVariants as head;
 
 use crate::design::{BlifModels, Design};
@@ -21,7 +21,7 @@ use std::alloc::Global;
 use std::mem;
 
 /// What was read so far.
-#[derive(Debug, Drop)]
+#[derive(Drop)]
 pub(crate) struct Reader {
     /// The names of all models, the open one's among them.
     pub(crate) names: NameTable,
@@ -48,22 +48,15 @@ impl Reader {
         if let Some(current) = &mut self.current {
             self.models.push(current.close(alloc)?)?;
         }
-        self.leave();
+        self.open(None);
         Ok(())
     }
 
-    /// Leaves no model open.
-    fn leave(&mut self)
-        ensures { self.new ≡ record self.old { current = None } }
+    /// Has this model open, or none, in place of the one that is closed.
+    fn open(&mut self, model: Option<OpenModel>)
+        ensures { self.new ≡ record self.old { current = model } }
     {
-        self.current = None;
-    }
-
-    /// Opens a model of this name in place of the one that is closed.
-    fn open(&mut self, alloc: Global, name: Word)
-        ensures { self.new ≡ record self.old { current = Some (new_model name) } }
-    {
-        self.current = Some(OpenModel::new(alloc, name));
+        self.current = model;
     }
 
     /// Opens the model of this name.
@@ -74,7 +67,8 @@ impl Reader {
         if !self.names.add(alloc, name)? {
             return fault(ReadKind::DuplicateModel);
         }
-        self.open(alloc, word_of(alloc, name)?);
+        let model = OpenModel::new(alloc, word_of(alloc, name)?);
+        self.open(Some(model));
         Ok(())
     }
 

@@ -9,6 +9,7 @@ ghost use Rattle.sec_base.specs.Table.{is_among};
 ghost use Rattle.blif_read.specs.declared.head.Head.TheVariants as head;
 ghost use Rattle.blif_read.specs.State.{TookStatement, TookEdge, TookInit};
 ghost use Rattle.blif_read.specs.declared.error.ReadKind.TheVariants as kind;
+ghost use Rattle.blif_read.specs.declared.design.Statement.TheVariants as statement;
 
 use crate::design::{Pair, Pairs, Statement};
 use crate::error::ReadKind;
@@ -83,17 +84,33 @@ fn control_of(alloc: Global, word: &[u8]) -> Result<Option<Word>, NoMemory>
     Ok(Some(word_of(alloc, word)?))
 }
 
-fn plain_latch(alloc: Global, line: u32, input: &[u8], output: &[u8]) -> Result<Statement, Stop>
-    ensures { TookStatement (latch_fault (input.now ∷ output.now ∷ [])) (latch_of line (input.now ∷ output.now ∷ [])) result }
+/// The latch of these words, of which it keeps copies.
+pub(crate) fn latch_with(
+    alloc: Global,
+    line: u32,
+    input: &[u8],
+    output: &[u8],
+    edge: Option<Edge>,
+    control: Option<Word>,
+    init: Init,
+) -> Result<Statement, NoMemory>
+    ensures { IfOk result (λ made. made ≡ statement.Latch line input.now output.now edge control init) }
 {
     Ok(Statement::Latch {
         line,
         input: word_of(alloc, input)?,
         output: word_of(alloc, output)?,
-        edge: None,
-        control: None,
-        init: Init::Unknown,
+        edge,
+        control,
+        init,
     })
+}
+
+fn plain_latch(alloc: Global, line: u32, input: &[u8], output: &[u8]) -> Result<Statement, Stop>
+    ensures { TookStatement (latch_fault (input.now ∷ output.now ∷ [])) (latch_of line (input.now ∷ output.now ∷ [])) result }
+{
+    let latch = latch_with(alloc, line, input, output, None, None, Init::Unknown)?;
+    Ok(latch)
 }
 
 fn started_latch(
@@ -106,14 +123,8 @@ fn started_latch(
     ensures { TookStatement (latch_fault (input.now ∷ output.now ∷ start.now ∷ [])) (latch_of line (input.now ∷ output.now ∷ start.now ∷ [])) result }
 {
     let init = init_of(start)?;
-    Ok(Statement::Latch {
-        line,
-        input: word_of(alloc, input)?,
-        output: word_of(alloc, output)?,
-        edge: None,
-        control: None,
-        init,
-    })
+    let latch = latch_with(alloc, line, input, output, None, None, init)?;
+    Ok(latch)
 }
 
 fn typed_latch(
@@ -127,14 +138,17 @@ fn typed_latch(
     ensures { TookStatement (latch_fault (input.now ∷ output.now ∷ kind.now ∷ control.now ∷ [])) (latch_of line (input.now ∷ output.now ∷ kind.now ∷ control.now ∷ [])) result }
 {
     let edge = edge_of(alloc, kind)?;
-    Ok(Statement::Latch {
+    let control = control_of(alloc, control)?;
+    let latch = latch_with(
+        alloc,
         line,
-        input: word_of(alloc, input)?,
-        output: word_of(alloc, output)?,
-        edge: Some(edge),
-        control: control_of(alloc, control)?,
-        init: Init::Unknown,
-    })
+        input,
+        output,
+        Some(edge),
+        control,
+        Init::Unknown,
+    )?;
+    Ok(latch)
 }
 
 fn full_latch(
@@ -150,14 +164,9 @@ fn full_latch(
 {
     let edge = edge_of(alloc, kind)?;
     let init = init_of(start)?;
-    Ok(Statement::Latch {
-        line,
-        input: word_of(alloc, input)?,
-        output: word_of(alloc, output)?,
-        edge: Some(edge),
-        control: control_of(alloc, control)?,
-        init,
-    })
+    let control = control_of(alloc, control)?;
+    let latch = latch_with(alloc, line, input, output, Some(edge), control, init)?;
+    Ok(latch)
 }
 
 /// The latch of these tokens.

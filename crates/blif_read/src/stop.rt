@@ -8,7 +8,7 @@ use sec_base::NoMemory;
 use std::alloc::{AllocError, AllocFailed};
 
 /// Why the reading ends early.
-#[derive(Debug, Drop)]
+#[derive(Drop)]
 pub(crate) enum Stop {
     NoMemory,
     Fault(ReadKind),

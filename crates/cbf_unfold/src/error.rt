@@ -7,10 +7,11 @@ use thiserror::Error;
 /// Why a signal isn't unfolded.
 #[derive(Debug, Drop, Error)]
 pub enum UnfoldError {
-    /// The places that the unfoldings visit weigh more than 2,000,000 together.
+    /// The places that the unfoldings of all signals so far visit weigh more than 2,000,000 together, in the weight that
+    /// `Unfolder::unfold` tells.
     #[error("the unfolding is too large")]
     TooLarge,
-    /// Memory was wanted.
+    /// Memory was wanted and couldn't be had.
     #[error("out of memory")]
     NoMemory,
 }

@@ -30,7 +30,7 @@ use std::marker::Model;
 const LIMIT: u32 = 2_000_000;
 
 /// A signal as a function of inputs at earlier cycles.
-#[derive(Debug, Drop)]
+#[derive(Drop)]
 pub struct Unfolded {
     /// The function in the graph.
     pub lit: Lit,
@@ -63,7 +63,10 @@ impl<'a> Model for Unfolder<'a> {
 }
 
 impl<'a> Unfolder<'a> {
-    /// An unfolder of the net, that has unfolded nothing. `order` gives each input its number.
+    /// An unfolder of the net, that has unfolded nothing. `order` has a number for each input of the net, at place i that
+    /// of input i, and none twice; two nets whose inputs have the same names take the same numbers for them. The graph
+    /// of the net's latches is lent for as long as the net, and isn't looked at. `NoMemory` comes where the copy of
+    /// `order` wanted memory.
     pub fn new(
         alloc: Global,
         net: &'a Net,
@@ -87,10 +90,15 @@ impl<'a> Unfolder<'a> {
         })
     }
 
-    /// The signal as a function of inputs at earlier cycles. The same graph and table are lent each time, and may have
-    /// grown in between. `TooLarge` comes exactly where the places that the unfoldings of all signals so far visit,
-    /// with this one's, weigh more than 2,000,000 together. After a refusal the graph and the table may have grown, and
-    /// the unfolder is used no more.
+    /// The signal of the net as a function of inputs at earlier cycles. The same graph and table are lent each time, and
+    /// may have grown in between, to at most 2^29 nodes and 2^29 entries. An entry is an input's number and a shift: how
+    /// many cycles ago the input is read.
+    ///
+    /// `TooLarge` comes exactly where the places that the unfoldings of all signals so far visit, with this one's, weigh
+    /// more than 2,000,000 together. A place is a signal some cycles ago, and counts once however often it is visited: an
+    /// input or a latch 1, a gate 1 + r * (f + 1) with f fan-ins and a cover of r rows, or of one where it has none. A
+    /// signal that reads itself through latches is refused: the places that it visits have no end. After a refusal, also
+    /// one for want of memory, the graph and the table may have grown, and the unfolder is used no more.
     pub fn unfold(
         &mut self,
         alloc: Global,

@@ -1,11 +1,11 @@
--- One latch and two in a row agree where the input is always 1, and two differ from the constant 0 by a sequence that is 1 throughout:
+-- One latch and two in a sent agree where the input is always 1, and two differ from the constant 0 by a sequence that is 1 throughout:
 -- the premises of the laws are met.
 use Rattle.std.proofs.Common.{◌≡◌, ℕ, zero, suc, ◌<◌, Bool, true, false, List, [], ◌∷◌, refl, sym, ◌∙◌, ap, subst, arith, inl, inr}
 use Rattle.std.specs.Prelude.{◌⊎◌, ◌==◌, codes}
 use Rattle.std.specs.List.{Contains, AllPairs}
 use Rattle.std.proofs.lemmas.List.Elements.{All-nil, All-cons, All-head}
 use Rattle.circuit_theory.specs.declared.Mode.TheVariants.{Plain}
-use Rattle.circuit_theory.specs.Cover.{Cover, cover_value}
+use Rattle.circuit_theory.specs.Cover.{cover_value}
 use Rattle.circuit_theory.specs.Circuit.{Circuit, Gate, Named, Holds}
 use Rattle.circuit_theory.specs.Tree.{Tree, Trees, Leaf, Branch, Nil, AreNumbered, IsInputNumber, StandsBeside, tree_value, Unfolds, UnfoldsAll}
 use Rattle.circuit_theory.specs.Query.{Query, Variable, HasLeaf, HasLeafIn, ShiftBefore, Distinguishes, assigned, same_shift, bits_of}
@@ -13,48 +13,36 @@ use Rattle.circuit_theory.specs.Agree.{IsPair}
 use Rattle.circuit_theory.specs.Fits.{MakesDiffer}
 use Rattle.circuit_theory.proofs.Inputs.{test_same}
 use Rattle.circuit_theory.proofs.Lists.{Contains-head, Contains-cases, only}
-use Rattle.circuit_samples.proofs.Samples.{one, two, buffer, one_net, two_net}
+use Rattle.circuit_samples.specs.Circuits.{one, two, buffer, only_a, zero_cover, nil_a, ones, only_first}
+use Rattle.circuit_samples.proofs.Samples.{one_net, two_net}
 use Rattle.circuit_samples.proofs.PlainExamples.{one_unfolds, two_unfolds}
 use Rattle.circuit_samples.proofs.NetTest.{numbers_distinct-sound}
 use Rattle.circuit_theory.proofs.Numbers.{one_place}
-use Rattle.assume_laws.specs.Assume.{Assumption, RowMeets, ReadsInputs, HasVariableAt, HaveEqualFunctionsUnder, AgreeUnder}
+use Rattle.assume_laws.specs.Assume.{RowMeets, ReadsInputs, HasVariableAt, HaveEqualFunctionsUnder, AgreeUnder}
 use Rattle.assume_laws.specs.Sequences.{RowsMeet, IsTreeUnder, IsWitnessUnder}
 use Rattle.assume_laws.proofs.Meeting.{leaf_input, leaf_at}
 use Rattle.assume_laws.proofs.PlainLaws.{equal_functions_agree_under}
 use Rattle.assume_laws.proofs.Filled.{witness_makes_differ_under}
-
--- 0 a, 1 y, which is a
-abbrev pub only_a : Assumption
-only_a = record {
-  circuit = record {
-    inputs = record { name = codes "a"; place = 0 } ∷ [];
-    outputs = record { name = codes "y"; place = 1 } ∷ [];
-    equations = Gate 1 (0 ∷ []) buffer ∷ [];
-    starts = [];
-  };
-  order = 0 ∷ [];
-  output = 1;
-}
 
 same_bit : (b : Bool) → cover_value buffer (b ∷ []) ≡ b
 unfolding cover_value
 same_bit true = refl
 same_bit false = refl
 
--- a row meets it where a is 1
-row_meets : (row : ℕ → Bool) → row 0 ≡ true → RowMeets only_a row
-row_meets row e v values inputs =
+-- a sent meets it where a is 1
+pub row_meets : (sent : ℕ → Bool) → sent 0 ≡ true → RowMeets only_a sent
+row_meets sent e v values inputs =
     All-head (Holds v) (Gate 1 (0 ∷ []) buffer) [] values ∙ (same_bit (v 0) ∙ (inputs 0 0 (inl (refl, refl)) ∙ e))
 
 -- and only there
-meets_row : (row : ℕ → Bool) → RowMeets only_a row → row 0 ≡ true
-meets_row row meets = meets (λ p. row 0) (All-cons (Holds (λ p. row 0)) (Gate 1 (0 ∷ []) buffer) [] (sym (same_bit (row 0))) (All-nil (Holds (λ p. row 0)))) number
+pub meets_row : (sent : ℕ → Bool) → RowMeets only_a sent → sent 0 ≡ true
+meets_row sent meets = meets (λ p. sent 0) (All-cons (Holds (λ p. sent 0)) (Gate 1 (0 ∷ []) buffer) [] (sym (same_bit (sent 0))) (All-nil (Holds (λ p. sent 0)))) number
   where
-    number : (p i : ℕ) → ((0 ≡ p) × (0 ≡ i)) ⊎ ⊥ → row 0 ≡ row i
-    number p i (inl h) = ap row h.1
+    number : (p i : ℕ) → ((0 ≡ p) × (0 ≡ i)) ⊎ ⊥ → sent 0 ≡ sent i
+    number p i (inl h) = ap sent h.1
     number p i (inr h) = absurd h
 
-reads_a : (c : Circuit ℕ) → c.inputs ≡ record { name = codes "a"; place = 0 } ∷ [] → ReadsInputs only_a c (0 ∷ [])
+pub reads_a : (c : Circuit ℕ) → c.inputs ≡ record { name = codes "a"; place = 0 } ∷ [] → ReadsInputs only_a c (0 ∷ [])
 reads_a c e = record {
   each = refl;
   found = λ p i h. (codes "a", 0, named p i h, subst (λ (ns : List (Named ℕ)). Contains ns (record { name = codes "a"; place = 0 })) (sym e) (Contains-head _ []), at_zero p i h);
@@ -74,7 +62,7 @@ reads_a c e = record {
         let same = only (record { name = codes "a"; place = 0 }) (record { name = name; place = q }) (subst (λ (ns : List (Named ℕ)). Contains ns (record { name = name; place = q })) e other) in
         subst (λ x. IsInputNumber c (0 ∷ []) x i) (ap (λ (n : Named ℕ). n.place) same) (at_zero p i h)
 
-numbered_a : AreNumbered one two (0 ∷ []) (0 ∷ [])
+pub numbered_a : AreNumbered one two (0 ∷ []) (0 ∷ [])
 numbered_a = record {
   left_once = λ p q i h k. one_place one.inputs (0 ∷ []) (numbers_distinct-sound (0 ∷ []) refl) p q i h k;
   right_once = λ p q i h k. one_place two.inputs (0 ∷ []) (numbers_distinct-sound (0 ∷ []) refl) p q i h k;
@@ -89,49 +77,59 @@ numbered_a = record {
     shared p q i (inl h) (inr k) = absurd k
     shared p q i (inr h) k = absurd h
 
+pub under_equal : (p q : ℕ) → IsPair [] one two p q → HaveEqualFunctionsUnder only_a one two (0 ∷ []) (0 ∷ []) p q
+unfolding tree_value
+under_equal p q (IsPair.outputs {name = name} l r) =
+    let left : 1 ≡ p = ap (λ (n : Named ℕ). n.place) (only (record { name = codes "y"; place = 1 }) (record { name = name; place = p }) l) in
+    let right : 2 ≡ q = ap (λ (n : Named ℕ). n.place) (only (record { name = codes "y"; place = 2 }) (record { name = name; place = q }) r) in
+    subst (λ x. HaveEqualFunctionsUnder only_a one two (0 ∷ []) (0 ∷ []) x q) left (subst (λ x. HaveEqualFunctionsUnder only_a one two (0 ∷ []) (0 ∷ []) 1 x) right (record {
+      left_depth = 1;
+      right_depth = 2;
+      left_tree = Leaf 0 1;
+      right_tree = Leaf 0 2;
+      left_unfolds = one_unfolds;
+      right_unfolds = two_unfolds;
+      same = λ x meets. meets_row (λ i. x i 1) (meets 1 (0, inl HasLeaf.leaf)) ∙ sym (meets_row (λ i. x i 2) (meets 2 (0, inr HasLeaf.leaf)));
+    }))
+under_equal p q (IsPair.nexts h l r) = absurd (omega (arith, h.1))
+
 -- one latch and two agree wherever both are settled, in the runs in which a is always 1
 pub one_and_two_agree : AgreeUnder Plain only_a one two
-unfolding tree_value
-one_and_two_agree = equal_functions_agree_under only_a one two 2 3 (0 ∷ []) (0 ∷ []) one_net two_net numbered_a (reads_a one refl) equal
-  where
-    equal : (p q : ℕ) → IsPair [] one two p q → HaveEqualFunctionsUnder only_a one two (0 ∷ []) (0 ∷ []) p q
-    equal p q (IsPair.outputs {name = name} l r) =
-        let left : 1 ≡ p = ap (λ (n : Named ℕ). n.place) (only (record { name = codes "y"; place = 1 }) (record { name = name; place = p }) l) in
-        let right : 2 ≡ q = ap (λ (n : Named ℕ). n.place) (only (record { name = codes "y"; place = 2 }) (record { name = name; place = q }) r) in
-        subst (λ x. HaveEqualFunctionsUnder only_a one two (0 ∷ []) (0 ∷ []) x q) left (subst (λ x. HaveEqualFunctionsUnder only_a one two (0 ∷ []) (0 ∷ []) 1 x) right (record {
-          left_depth = 1;
-          right_depth = 2;
-          left_tree = Leaf 0 1;
-          right_tree = Leaf 0 2;
-          left_unfolds = one_unfolds;
-          right_unfolds = two_unfolds;
-          same = λ x meets. meets_row (λ i. x i 1) (meets 1 (0, inl HasLeaf.leaf)) ∙ sym (meets_row (λ i. x i 2) (meets 2 (0, inr HasLeaf.leaf)));
-        }))
-    equal p q (IsPair.nexts h l r) = absurd (omega (arith, h.1))
-
-abbrev pub zero_cover : Cover
-zero_cover = record { width = 0; rows = []; on = true }
-
--- 0 a, 1 y, the constant 0
-abbrev pub nil_a : Circuit ℕ
-nil_a = record {
-  inputs = record { name = codes "a"; place = 0 } ∷ [];
-  outputs = record { name = codes "y"; place = 1 } ∷ [];
-  equations = Gate 1 [] zero_cover ∷ [];
-  starts = [];
-}
+one_and_two_agree = equal_functions_agree_under only_a one two 2 3 (0 ∷ []) (0 ∷ []) one_net two_net numbered_a (reads_a one refl) under_equal
 
 abbrev v : Variable ℕ
 v = record { input = 0; at = 2 }
 
 -- two latches differ from the constant 0 in cycle 2, by a sequence that meets the assumption throughout
-pub two_differs : MakesDiffer two nil_a (0 ∷ []) (0 ∷ []) 2 1 ((true ∷ []) ∷ (true ∷ []) ∷ (true ∷ []) ∷ []) 2 true false × RowsMeet only_a ((true ∷ []) ∷ (true ∷ []) ∷ (true ∷ []) ∷ []) 2
+pub under_witness : IsWitnessUnder only_a two nil_a (0 ∷ []) (0 ∷ []) 2 1 1 only_first ones 2 true false
 unfolding tree_value cover_value
-two_differs = witness_makes_differ_under only_a two nil_a (0 ∷ []) (0 ∷ []) 2 1 1 meeting ((true ∷ []) ∷ (true ∷ []) ∷ (true ∷ []) ∷ []) 2 true false witness
+under_witness = record {
+  left_depth = 2;
+  right_depth = 0;
+  left_tree = Leaf 0 2;
+  right_tree = Branch zero_cover Nil;
+  left_unfolds = two_unfolds;
+  right_unfolds = Unfolds.gate {fanins = []} (0, omega arith, refl) UnfoldsAll.none;
+  last_is = refl;
+  sides = v ∷ [];
+  variables = v ∷ [];
+  bits = true ∷ [];
+  difference = record {
+    are_sides = record { in_order = single; exactly = λ x. (λ h. subst Left (only v x h) (Leaf 0 2, Contains-head (Leaf 0 2) (Branch zero_cover Nil ∷ []), HasLeaf.leaf), λ h. side x h.0 h.1 h.2) };
+    are_variables = record { in_order = single; exactly = λ x. (λ h. subst Under (only v x h) (Leaf 0 2, inl (inl refl), HasLeaf.leaf), λ h. under x h.0 h.1 h.2) };
+    each = refl;
+    query = query;
+    asks = record { left_is = λ x. refl; right_is = λ x. refl; care_is = λ x. (λ e at h. row_meets (λ i. x i at) (ap (x 0) (sym (place at h)) ∙ e), λ all. meets_row (λ i. x i 2) (all 2 (0, inl HasLeaf.leaf))) };
+    distinguishes = distinguishes;
+    least = λ le. (1, refl, record { in_range = omega arith; distinguishes = distinguishes; least = least });
+  };
+  inputs = All-cons (λ (x : Variable ℕ). x.input < 1) v [] (omega arith) (All-nil (λ (x : Variable ℕ). x.input < 1));
+  meeting_is = record { meets = row_meets (λ i. i == 0) refl; others = λ i none. other i (λ e. none 0 (inl (refl, e))); above = λ i h. other i (λ e. omega arith) };
+  rows_are = refl;
+  left_value = refl;
+  right_value = refl;
+}
   where
-    meeting : ℕ → Bool
-    meeting i = i == 0
-
     left_tree : Tree ℕ
     left_tree = Leaf 0 2
 
@@ -218,30 +216,5 @@ two_differs = witness_makes_differ_under only_a two nil_a (0 ∷ []) (0 ∷ []) 
     least zero h d = apart (sym d.care)
     least (suc m) h d = omega arith
 
-    witness : IsWitnessUnder only_a two nil_a (0 ∷ []) (0 ∷ []) 2 1 1 meeting ((true ∷ []) ∷ (true ∷ []) ∷ (true ∷ []) ∷ []) 2 true false
-    witness = record {
-      left_depth = 2;
-      right_depth = 0;
-      left_tree = Leaf 0 2;
-      right_tree = Branch zero_cover Nil;
-      left_unfolds = two_unfolds;
-      right_unfolds = Unfolds.gate {fanins = []} (0, omega arith, refl) UnfoldsAll.none;
-      last_is = refl;
-      sides = v ∷ [];
-      variables = v ∷ [];
-      bits = true ∷ [];
-      difference = record {
-        are_sides = record { in_order = single; exactly = λ x. (λ h. subst Left (only v x h) (Leaf 0 2, Contains-head (Leaf 0 2) (Branch zero_cover Nil ∷ []), HasLeaf.leaf), λ h. side x h.0 h.1 h.2) };
-        are_variables = record { in_order = single; exactly = λ x. (λ h. subst Under (only v x h) (Leaf 0 2, inl (inl refl), HasLeaf.leaf), λ h. under x h.0 h.1 h.2) };
-        each = refl;
-        query = query;
-        asks = record { left_is = λ x. refl; right_is = λ x. refl; care_is = λ x. (λ e at h. row_meets (λ i. x i at) (ap (x 0) (sym (place at h)) ∙ e), λ all. meets_row (λ i. x i 2) (all 2 (0, inl HasLeaf.leaf))) };
-        distinguishes = distinguishes;
-        least = λ le. (1, refl, record { in_range = omega arith; distinguishes = distinguishes; least = least });
-      };
-      inputs = All-cons (λ (x : Variable ℕ). x.input < 1) v [] (omega arith) (All-nil (λ (x : Variable ℕ). x.input < 1));
-      meeting_is = record { meets = row_meets (λ i. i == 0) refl; others = λ i none. other i (λ e. none 0 (inl (refl, e))); above = λ i h. other i (λ e. omega arith) };
-      rows_are = refl;
-      left_value = refl;
-      right_value = refl;
-    }
+pub two_differs : MakesDiffer two nil_a (0 ∷ []) (0 ∷ []) 2 1 ones 2 true false × RowsMeet only_a ones 2
+two_differs = witness_makes_differ_under only_a two nil_a (0 ∷ []) (0 ∷ []) 2 1 1 only_first ones 2 true false under_witness

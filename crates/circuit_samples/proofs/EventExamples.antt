@@ -9,7 +9,8 @@ use Rattle.circuit_theory.specs.Depth.{LatchReads, LatchPath, HasCycle, LatchCha
 use Rattle.circuit_theory.specs.Tree.{Leaf, Fixed, Branch, Nil, Cons}
 use Rattle.event_theory.specs.Frame.{EventSide, EventUnfolds, EventUnfoldsAll}
 use Rattle.circuit_theory.specs.Agree.{IsSettled}
-use Rattle.circuit_samples.proofs.Samples.{hold_not_cover, buffer, hold_not, hold_not_net, item_of, LatchItem}
+use Rattle.circuit_samples.specs.Circuits.{hold_not_cover, buffer, hold_not}
+use Rattle.circuit_samples.proofs.Samples.{hold_not_net, item_of, LatchItem}
 use Rattle.circuit_laws.proofs.NetLaws.{net_can_put}
 use Rattle.circuit_laws.proofs.Marks.{mark_says, marks_down, MarkSays}
 use Rattle.circuit_theory.proofs.Lists.{only}

@@ -1,10 +1,10 @@
 pub mod AssumeExamples
-pub mod BlockExamples
 pub mod CellLaws
+pub mod Each
 pub mod EventExamples
-pub mod EventPairExample
 pub mod NetTest
-pub mod OpenToggleExample
+pub mod PartitionExample
 pub mod PlainExamples
 pub mod ResetExamples
 pub mod Samples
+pub mod UnderExamples

@@ -10,7 +10,8 @@ use Rattle.circuit_theory.specs.Run.{NoneEnabled}
 use Rattle.circuit_theory.specs.Depth.{LatchReads, LatchPath, HasCycle, IsCycle, LatchChain, IsDepth, HasNoDepth, after_in_round, without}
 use Rattle.circuit_theory.specs.Tree.{Tree, Leaf, Branch, Nil, Cons, Unfolds, UnfoldsAll, tree_value, AreNumbered, HaveEqualFunctions}
 use Rattle.circuit_theory.specs.Agree.{Agree, IsPair, AreAlike, IsSettled, IsMinimalCut}
-use Rattle.circuit_samples.proofs.Samples.{and_cover, constant_one, late, early, one, two, constant_latch, toggle, late_net, early_net, one_net, two_net, constant_latch_net, toggle_net, item_of, LatchItem}
+use Rattle.circuit_samples.specs.Circuits.{and_cover, constant_one, late, early, one, two, constant_latch, toggle}
+use Rattle.circuit_samples.proofs.Samples.{late_net, early_net, one_net, two_net, constant_latch_net, toggle_net, item_of, LatchItem}
 use Rattle.circuit_laws.proofs.TreeDepth.{tree_depth}
 use Rattle.circuit_laws.proofs.Marks.{marks_down}
 use Rattle.circuit_laws.proofs.Cycles.{cycle_never_settled}

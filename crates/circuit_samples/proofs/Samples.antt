@@ -1,97 +1,12 @@
 -- Small circuits, each shown to be a flat net by computing.
-use Rattle.std.proofs.Common.{◌≡◌, ℕ, true, List, [], ◌∷◌, refl, ap, subst, arith, inl, inr}
-use Rattle.std.specs.Prelude.{◌⊎◌, codes}
+use Rattle.std.proofs.Common.{◌≡◌, ℕ, List, [], ◌∷◌, refl, ap, subst, arith, inl, inr}
+use Rattle.std.specs.Prelude.{◌⊎◌}
 use Rattle.std.specs.List.{Contains}
-use Rattle.circuit_theory.specs.Cover.{Cover}
-use Rattle.circuit_theory.specs.Circuit.{Circuit, Equation, Gate, Latch, Port, Named}
+use Rattle.circuit_theory.specs.Circuit.{Equation, Gate, Latch, Port}
 use Rattle.circuit_theory.specs.Net.{IsNet}
+use Rattle.circuit_samples.specs.Circuits.{late, early, one, two, constant_latch, toggle, hold_not}
 use Rattle.circuit_theory.proofs.Lists.{Contains-head, Contains-tail, Contains-cases}
 use Rattle.circuit_samples.proofs.NetTest.{net_test-sound}
-
-abbrev pub and_cover : Cover
-and_cover = record { width = 2; rows = codes "11" ∷ []; on = true }
-
-abbrev pub buffer : Cover
-buffer = record { width = 1; rows = codes "1" ∷ []; on = true }
-
-abbrev pub inverter : Cover
-inverter = record { width = 1; rows = codes "0" ∷ []; on = true }
-
-abbrev pub constant_one : Cover
-constant_one = record { width = 0; rows = [] ∷ []; on = true }
-
--- the first fan-in chooses the complement of the second, or the third
-abbrev pub hold_not_cover : Cover
-hold_not_cover = record { width = 3; rows = codes "10-" ∷ codes "0-1" ∷ []; on = true }
-
-abbrev pub input_a : Named ℕ
-input_a = record { name = codes "a"; place = 0 }
-
-abbrev pub input_b : Named ℕ
-input_b = record { name = codes "b"; place = 1 }
-
--- 0 a, 1 b, 2 their and, 3 y: the latch stands behind the gate
-abbrev pub late : Circuit ℕ
-late = record {
-  inputs = input_a ∷ input_b ∷ [];
-  outputs = record { name = codes "y"; place = 3 } ∷ [];
-  equations = Gate 2 (0 ∷ 1 ∷ []) and_cover ∷ Latch (codes "y") 3 2 ∷ [];
-  starts = [];
-}
-
--- 0 a, 1 b, 2 p, 3 q, 4 y: the latches stand before the gate
-abbrev pub early : Circuit ℕ
-early = record {
-  inputs = input_a ∷ input_b ∷ [];
-  outputs = record { name = codes "y"; place = 4 } ∷ [];
-  equations = Gate 4 (2 ∷ 3 ∷ []) and_cover ∷ Latch (codes "p") 2 0 ∷ Latch (codes "q") 3 1 ∷ [];
-  starts = [];
-}
-
--- 0 a, 1 y: one latch
-abbrev pub one : Circuit ℕ
-one = record {
-  inputs = input_a ∷ [];
-  outputs = record { name = codes "y"; place = 1 } ∷ [];
-  equations = Latch (codes "y") 1 0 ∷ [];
-  starts = [];
-}
-
--- 0 a, 1 p, 2 y: two latches in a row
-abbrev pub two : Circuit ℕ
-two = record {
-  inputs = input_a ∷ [];
-  outputs = record { name = codes "y"; place = 2 } ∷ [];
-  equations = Latch (codes "p") 1 0 ∷ Latch (codes "y") 2 1 ∷ [];
-  starts = [];
-}
-
--- 0 the constant 1, 1 y, a latch of it
-abbrev pub constant_latch : Circuit ℕ
-constant_latch = record {
-  inputs = [];
-  outputs = record { name = codes "y"; place = 1 } ∷ [];
-  equations = Gate 0 [] constant_one ∷ Latch (codes "y") 1 0 ∷ [];
-  starts = [];
-}
-
--- 0 q, 1 its complement, which q takes over, 2 y
-abbrev pub toggle : Circuit ℕ
-toggle = record {
-  inputs = [];
-  outputs = record { name = codes "y"; place = 2 } ∷ [];
-  equations = Gate 1 (0 ∷ []) inverter ∷ Gate 2 (0 ∷ []) buffer ∷ Latch (codes "q") 0 1 ∷ [];
-  starts = [];
-}
-
--- 0 e, 1 a, 2 q, 3 what q takes over, 4 y: with e the latch loads the complement of a, else it holds
-abbrev pub hold_not : Circuit ℕ
-hold_not = record {
-  inputs = record { name = codes "e"; place = 0 } ∷ record { name = codes "a"; place = 1 } ∷ [];
-  outputs = record { name = codes "y"; place = 4 } ∷ [];
-  equations = Gate 3 (0 ∷ 1 ∷ 2 ∷ []) hold_not_cover ∷ Gate 4 (2 ∷ []) buffer ∷ Latch (codes "q") 2 3 ∷ [];
-  starts = [];
-}
 
 pub late_net : IsNet late 4
 late_net = net_test-sound late 4 refl

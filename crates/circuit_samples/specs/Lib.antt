@@ -1,1 +1,4 @@
+pub mod Assumed
 pub mod Cells
+pub mod Circuits
+pub mod Partitioned

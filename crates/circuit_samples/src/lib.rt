@@ -1,4 +1,6 @@
-//! Slow programs over small circuits, and computed examples that meet the premises of the laws. Nothing stands on this crate.
+//! Slow programs over small circuits, and computed examples that meet the premises of the laws. Only further examples stand on this crate.
 #![tactic(auto)]
 
+pub mod assumptions;
 pub mod cells;
+pub mod partitions;

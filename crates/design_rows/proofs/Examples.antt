@@ -8,8 +8,8 @@ use Rattle.circuit_theory.specs.Sizes.{Weighed}
 use Rattle.blif_read.specs.Design.{Inside, Place, place_at, top, walk, circuit_of_design}
 use Rattle.design_laws.specs.NoFault.{rank_in, has_no_fault}
 use Rattle.design_laws.proofs.NoFaults.{tested_is_sound}
-use Rattle.design_rows.specs.Designs.{on_and, off_and, late, early, two, hier}
-use Rattle.design_rows.specs.Small.{small_and, OnAndIsSmall, OffAndIsSmall, small_late, LateIsSmall, small_early, EarlyIsSmall, HierIsSmall, small_two, TwoIsSmall}
+use Rattle.design_rows.specs.Designs.{on_and, off_and, late, early, two, idle, ring, hier}
+use Rattle.design_rows.specs.Small.{small_and, OnAndIsSmall, OffAndIsSmall, small_late, LateIsSmall, small_early, EarlyIsSmall, HierIsSmall, small_two, TwoIsSmall, small_idle, IdleIsSmall, small_ring, RingIsSmall}
 use Rattle.design_rows.proofs.Tested.{PassesTests, tested_is_small}
 
 -- a place of the main model so many cycles ago, and what it counts
@@ -120,3 +120,48 @@ two_sound = refl
 
 pub two_is_small : TwoIsSmall
 two_is_small = (tested_is_sound [] two two_sound, tested_is_small two small_two (rank_of (codes "p" ∷ codes "y" ∷ [])) two_spots two_passes)
+
+-- the output and the input; nothing is read of the latch
+abbrev idle_spots : List (Weighed Place)
+idle_spots = at_top (codes "y") 0 3 ∷ at_top (codes "a") 0 1 ∷ []
+
+idle_passes : PassesTests idle small_idle (rank_of (codes "q" ∷ [])) idle_spots
+unfolding circuit_of_design walk cut
+idle_passes = record { no_clock = refl; inputs = refl; outputs = refl; latches = refl; ranked = refl; closed = refl; weight = refl }
+
+idle_sound : has_no_fault (codes "y" ∷ []) idle ≡ true
+unfolding walk
+idle_sound = refl
+
+pub idle_is_small : IdleIsSmall
+idle_is_small = (tested_is_sound (codes "y" ∷ []) idle idle_sound, tested_is_small idle small_idle (rank_of (codes "q" ∷ [])) idle_spots idle_passes)
+
+-- with the first latch cut open: it is an input now and a cycle ago, and the other a latch
+abbrev first_spots : List (Weighed Place)
+first_spots = at_top (codes "y") 0 3 ∷ at_top (codes "p") 0 1 ∷ at_top (codes "q") 0 1 ∷ at_top (codes "p") 1 1 ∷ []
+
+first_passes : PassesTests ring (small_ring (codes "p") 6) (rank_of (codes "q" ∷ [])) first_spots
+unfolding circuit_of_design walk cut
+first_passes = record { no_clock = refl; inputs = refl; outputs = refl; latches = refl; ranked = refl; closed = refl; weight = refl }
+
+-- with the second cut open
+abbrev second_spots : List (Weighed Place)
+second_spots = at_top (codes "y") 0 3 ∷ at_top (codes "p") 0 1 ∷ at_top (codes "q") 1 1 ∷ []
+
+-- all else behind the second latch
+abbrev second_rank : Place → ℕ
+second_rank p = if is_among (codes "q" ∷ []) p.name then 0 else 1
+
+second_passes : PassesTests ring (small_ring (codes "q") 5) second_rank second_spots
+unfolding circuit_of_design walk cut
+second_passes = record { no_clock = refl; inputs = refl; outputs = refl; latches = refl; ranked = refl; closed = refl; weight = refl }
+
+ring_sound : has_no_fault (codes "y" ∷ []) ring ≡ true
+unfolding walk
+ring_sound = refl
+
+pub ring_is_small : RingIsSmall
+ring_is_small = (
+  (tested_is_sound (codes "y" ∷ []) ring ring_sound, tested_is_small ring (small_ring (codes "p") 6) (rank_of (codes "q" ∷ [])) first_spots first_passes),
+  (tested_is_sound (codes "y" ∷ []) ring ring_sound, tested_is_small ring (small_ring (codes "q") 5) second_rank second_spots second_passes),
+)

@@ -49,6 +49,15 @@ toggle = one_model [] (codes "y" ∷ [])
 abbrev pub two : List BlifModel
 two = one_model (codes "a" ∷ []) (codes "y" ∷ []) (Latch 4 (codes "a") (codes "p") None None init.Unknown ∷ Latch 5 (codes "p") (codes "y") None None init.Unknown ∷ [])
 
+-- a latch that feeds no output, beside an output that is an input
+abbrev pub idle : List BlifModel
+idle = one_model (codes "a" ∷ []) (codes "y" ∷ []) (Latch 4 (codes "a") (codes "q") None None init.Unknown ∷ Names 5 (codes "a" ∷ []) (codes "y") same_cover ∷ [])
+
+-- two latches that take over each other
+abbrev pub ring : List BlifModel
+ring = one_model [] (codes "y" ∷ [])
+    (Latch 3 (codes "q") (codes "p") None None init.Unknown ∷ Latch 4 (codes "p") (codes "q") None None init.Unknown ∷ Names 5 (codes "p" ∷ []) (codes "y") same_cover ∷ [])
+
 -- an and inside of an instance, and a latch behind it
 abbrev pub hier : List BlifModel
 hier = record {

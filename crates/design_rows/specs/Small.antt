@@ -8,7 +8,7 @@ use Rattle.circuit_theory.specs.Sizes.{IsOver}
 use Rattle.blif_read.specs.declared.design.BlifModel.{BlifModel}
 use Rattle.flat_net.specs.View.{NetView, circuit_of, ports_of}
 use Rattle.flatten.specs.DesignFaults.{IsSoundDesign, IsFlatOf}
-use Rattle.design_rows.specs.Designs.{on_and, off_and, late, early, toggle, two, hier}
+use Rattle.design_rows.specs.Designs.{on_and, off_and, late, early, toggle, two, idle, ring, hier}
 
 -- the names of the ports and latches, which latches are to be cut open, and what the unfolding of the rest weighs
 pub record Small : Type 0 where
@@ -62,6 +62,20 @@ small_two = record { inputs = codes "a" ∷ []; outputs = codes "y" ∷ []; latc
 
 abbrev pub TwoIsSmall : Type 0
 TwoIsSmall = AreSmall two small_two
+
+abbrev pub small_idle : Small
+small_idle = record { inputs = codes "a" ∷ []; outputs = codes "y" ∷ []; latches = codes "q" ∷ []; removed = []; weight = 4 }
+
+abbrev pub IdleIsSmall : Type 0
+IdleIsSmall = AreSmall idle small_idle
+
+-- a ring with one of its two latches cut open
+abbrev pub small_ring : List ℕ → ℕ → Small
+small_ring name weight = record { inputs = []; outputs = codes "y" ∷ []; latches = codes "p" ∷ codes "q" ∷ []; removed = name ∷ []; weight = weight }
+
+-- either latch of the ring breaks it
+abbrev pub RingIsSmall : Type 0
+RingIsSmall = AreSmall ring (small_ring (codes "p") 6) × AreSmall ring (small_ring (codes "q") 5)
 
 abbrev pub small_toggle : Small
 small_toggle = record { inputs = []; outputs = codes "y" ∷ []; latches = codes "q" ∷ []; removed = codes "q" ∷ []; weight = 7 }

@@ -1,7 +1,7 @@
 //! What every net of some small designs is. The functions do nothing: each contract is an example.
 #![tactic(auto)]
 
-ghost use Rattle.design_rows.specs.Small.{OnAndIsSmall, OffAndIsSmall, LateIsSmall, EarlyIsSmall, HierIsSmall, TwoIsSmall, ToggleIsSmall};
+ghost use Rattle.design_rows.specs.Small.{OnAndIsSmall, OffAndIsSmall, LateIsSmall, EarlyIsSmall, HierIsSmall, TwoIsSmall, ToggleIsSmall, IdleIsSmall, RingIsSmall};
 
 /// An `and` by its one row.
 pub fn on_and_is_small()
@@ -36,4 +36,14 @@ pub fn two_is_small()
 /// A latch that takes over its own value, turned: it lies on a cycle, and is to be cut open.
 pub fn toggle_is_small()
     ensures { ToggleIsSmall }
+{}
+
+/// A latch that feeds no output.
+pub fn idle_is_small()
+    ensures { IdleIsSmall }
+{}
+
+/// Two latches that take over each other: either breaks the ring.
+pub fn ring_is_small()
+    ensures { RingIsSmall }
 {}

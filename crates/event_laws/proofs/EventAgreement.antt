@@ -14,52 +14,17 @@ use Rattle.event_theory.specs.Classes.{EnablesEqual, HasClasses}
 use Rattle.circuit_theory.specs.Agree.{Agree, AreAlike, IsPair}
 use Rattle.event_theory.specs.EventFits.{side_by_side, HaveEqualEvents}
 use Rattle.event_laws.specs.Laws.{EventFunctionsAgree}
-use Rattle.circuit_theory.proofs.Lists.{Contains-head, Contains-tail, Contains-cases}
+use Rattle.circuit_theory.proofs.Lists.{Contains-cases}
 use Rattle.circuit_laws.proofs.Agreement.{value_of_number, value_found, first_value}
 use Rattle.circuit_theory.proofs.Sums.{same_or_not}
 use Rattle.circuit_laws.proofs.Finite.{Decided, Weakly, weakly_decided, weakly_each, weakly_below, bits_same, find_or}
+use Rattle.finite_laws.proofs.Deciding.{latch_or}
 use Rattle.circuit_laws.proofs.Joined.{run_joined}
 use Rattle.circuit_laws.proofs.Parts.{marks_up}
 use Rattle.circuit_laws.proofs.JoinedParts.{left_part, right_part, replace_left, replace_right, joined_same, joined_single, joined_can_put, joined_determined, joined_number, joined_number_once}
 use Rattle.event_laws.proofs.EventTrees.{event_tree, one_enable}
 use Rattle.event_laws.proofs.ClassMaps.{class_equal, class_always}
 use Rattle.event_laws.proofs.ClassEvents.{Qualifies, event, event-zero, always_loads, good_last, event_functions_agree}
-
-module _ {P : Type 0} (same : (p q : P) → (p ≡ q) ⊎ (p ≢ q)) where
-  -- whether a place is a latch
-  pub latch_or : (es : List (Equation P)) (v : P) → ((name : List ℕ) × (next : P) × Contains es (Latch name v next)) ⊎ ((name : List ℕ) (next : P) → Contains es (Latch name v next) → ⊥)
-  latch_or [] v = inr (λ name next h. omega (arith, h.1))
-  latch_or (Gate out fanins cover ∷ es) v = go (latch_or es v)
-    where
-      go : ((name : List ℕ) × (next : P) × Contains es (Latch name v next)) ⊎ ((name : List ℕ) (next : P) → Contains es (Latch name v next) → ⊥) →
-          ((name : List ℕ) × (next : P) × Contains (Gate out fanins cover ∷ es) (Latch name v next)) ⊎ ((name : List ℕ) (next : P) → Contains (Gate out fanins cover ∷ es) (Latch name v next) → ⊥)
-      go (inl x) = inl (x.0, x.1, Contains-tail _ _ es x.2)
-      go (inr none) = inr (λ name next h. pick name next (Contains-cases (Gate out fanins cover) (Latch name v next) es h))
-        where
-          pick : (name : List ℕ) (next : P) → (Gate out fanins cover ≡ Latch name v next) ⊎ Contains es (Latch name v next) → ⊥
-          pick name next (inl e) = cc
-          pick name next (inr k) = none name next k
-  latch_or (Port out from ∷ es) v = go (latch_or es v)
-    where
-      go : ((name : List ℕ) × (next : P) × Contains es (Latch name v next)) ⊎ ((name : List ℕ) (next : P) → Contains es (Latch name v next) → ⊥) →
-          ((name : List ℕ) × (next : P) × Contains (Port out from ∷ es) (Latch name v next)) ⊎ ((name : List ℕ) (next : P) → Contains (Port out from ∷ es) (Latch name v next) → ⊥)
-      go (inl x) = inl (x.0, x.1, Contains-tail _ _ es x.2)
-      go (inr none) = inr (λ name next h. pick name next (Contains-cases (Port out from) (Latch name v next) es h))
-        where
-          pick : (name : List ℕ) (next : P) → (Port out from ≡ Latch name v next) ⊎ Contains es (Latch name v next) → ⊥
-          pick name next (inl e) = cc
-          pick name next (inr k) = none name next k
-  latch_or (Latch own out to ∷ es) v = go (same out v) (latch_or es v)
-    where
-      go : (out ≡ v) ⊎ (out ≢ v) → ((name : List ℕ) × (next : P) × Contains es (Latch name v next)) ⊎ ((name : List ℕ) (next : P) → Contains es (Latch name v next) → ⊥) →
-          ((name : List ℕ) × (next : P) × Contains (Latch own out to ∷ es) (Latch name v next)) ⊎ ((name : List ℕ) (next : P) → Contains (Latch own out to ∷ es) (Latch name v next) → ⊥)
-      go (inl e) later = inl (own, to, subst (λ (u : P). Contains (Latch own out to ∷ es) (Latch own u to)) e (Contains-head _ es))
-      go (inr n) (inl x) = inl (x.0, x.1, Contains-tail _ _ es x.2)
-      go (inr n) (inr none) = inr (λ name next h. pick name next (Contains-cases (Latch own out to) (Latch name v next) es h))
-        where
-          pick : (name : List ℕ) (next : P) → (Latch own out to ≡ Latch name v next) ⊎ Contains es (Latch name v next) → ⊥
-          pick name next (inl e) = n (ap out_of e)
-          pick name next (inr k) = none name next k
 
 -- a number above those of all that is driven
 pub bound_of : {P : Type 0} (rank : P → ℕ) (es : List (Equation P)) → (R : ℕ) × ((e : Equation P) → Contains es e → rank (out_of e) < R)

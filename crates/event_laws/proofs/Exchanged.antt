@@ -2,7 +2,7 @@
 use Rattle.std.proofs.Common.{◌≡◌, ◌≢◌, ℕ, Bool, false, cond, List, [], refl, ap, inl, inr, Option, Some, None}
 use Rattle.std.specs.Prelude.{◌⊎◌}
 use Rattle.circuit_theory.specs.Circuit.{Circuit, Equation, Gate, Latch, Port, IsInput, IsLatch, IsSingleDriven}
-use Rattle.event_laws.proofs.EventAgreement.{latch_or}
+use Rattle.finite_laws.proofs.Deciding.{latch_or}
 
 -- the value of the latch that was found
 abbrev pub value_named : {P : Type 0} → (P → Bool) → Option (P × P) → Bool

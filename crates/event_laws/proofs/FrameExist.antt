@@ -17,7 +17,9 @@ use Rattle.circuit_laws.proofs.JoinedParts.{joined_same, joined_single, joined_d
 use Rattle.circuit_laws.proofs.JoinedValues.{joined_values}
 use Rattle.event_laws.proofs.Events.{PutAt}
 use Rattle.event_laws.proofs.EventTrees.{event_tree, one_event_tree}
-use Rattle.event_laws.proofs.EventAgreement.{latch_or, rank, rank_falls}
+use Rattle.finite_laws.proofs.Deciding.{latch_or}
+use Rattle.finite_laws.proofs.EnabledDecided.{enabled_in_nets_beside}
+use Rattle.event_laws.proofs.EventAgreement.{rank, rank_falls}
 use Rattle.event_laws.proofs.SettledEvents.{put_at}
 
 -- the number of an input, or that the place is none
@@ -146,9 +148,9 @@ module _ {P : Type 0} (side : EventSide P) (same : (p q : P) → (p ≡ q) ⊎ (
           none_is v b e = cc
 
 pub frame_values_exist_in_nets : FrameValuesExist
-frame_values_exist_in_nets a b m n left right class na nb left_long right_long depths kind bits =
+frame_values_exist_in_nets a b m n left right class na nb left_long right_long depths bits =
     frame_values (side_by_side a b left right class) joined_same single (joined_values a b m n na nb) (joined_determined a b m n na nb) numbered
-    (λ r i j h k. joined_number_once a b m n na nb left right left_long r i j h k) kind (rank (joined a b) single joined_same depths) (rank_falls (joined a b) single joined_same depths) bits
+    (λ r i j h k. joined_number_once a b m n na nb left right left_long r i j h k) (enabled_in_nets_beside a b m n na nb) (rank (joined a b) single joined_same depths) (rank_falls (joined a b) single joined_same depths) bits
   where
     single : IsSingleDriven (joined a b)
     single = joined_single a b m n na nb

@@ -16,5 +16,6 @@ pub mod FrameExist
 pub mod FrameValues
 pub mod OneClassMap
 pub mod ReachedLatches
+pub mod Separations
 pub mod SettledEvents
 pub mod SideParts

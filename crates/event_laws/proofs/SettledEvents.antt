@@ -14,6 +14,7 @@ use Rattle.event_theory.specs.EventFits.{side_by_side}
 use Rattle.event_laws.specs.Laws.{SettledHasEvents, EventsAreCommon}
 use Rattle.circuit_theory.proofs.Lists.{Contains-head, Contains-tail}
 use Rattle.circuit_theory.proofs.Inputs.{beside_is_input}
+use Rattle.finite_laws.proofs.EnabledDecided.{enabled_in_nets_beside}
 use Rattle.circuit_laws.proofs.Marks.{marks_stay, mark_says, marks_down, MarkSays}
 use Rattle.event_laws.proofs.Events.{PutAt, last_load_value}
 use Rattle.circuit_laws.proofs.Loads.{put_unique}
@@ -324,14 +325,13 @@ module _ {P : Type 0} (side : EventSide P) (same : (p q : P) → (p ≡ q) ⊎ (
   cone_marked : (t : ℕ) (p : P) → M t p → (w : P) → cone_of p w → ((name : List ℕ) × (next : P) × IsLatch c name w next) × M t w
   cone_marked t p mark w cone = ((cone.0, cone.1, cone.2), marks_down c On run single cone.3 t mark)
 
-  pub has_events : (t : ℕ) (p : P) → t < n → M t p →
-      (((v : P) → On v ⊎ (On v → ⊥)) → (name : List ℕ) (v next : P) (bit : Bool) (node : List ℕ) → IsLatch c name v next → (tree : Tree (List ℕ)) × EventUnfolds side On (Some (v, bit)) next node tree) →
-      HasEvents side On run t p
-  has_events t p h mark trees = record {
+  pub has_events : (t : ℕ) (p : P) → t < n → M t p → ((v : P) → On v ⊎ (On v → ⊥)) →
+      ((name : List ℕ) (v next : P) (bit : Bool) (node : List ℕ) → IsLatch c name v next → (tree : Tree (List ℕ)) × EventUnfolds side On (Some (v, bit)) next node tree) → HasEvents side On run t p
+  has_events t p h mark kind trees = record {
     exist = λ node i. let x = there (ConeLatches c p) t h (cone_marked t p mark) node i in (x.cycle, x.is);
     together = together (ConeLatches c p) t h (cone_marked t p mark);
     value = λ bits tree filled unfolds. has_value (ConeLatches c p) t h (cone_marked t p mark) bits filled p tree (λ v cone. cone) unfolds;
-    care = λ kind bits filled. has_care (ConeLatches c p) t h (cone_marked t p mark) bits filled kind (trees kind);
+    care = λ bits filled. has_care (ConeLatches c p) t h (cone_marked t p mark) bits filled kind trees;
   }
 
   -- a node that two settled places reach has one cycle
@@ -365,7 +365,7 @@ settled_has_events_in_nets a b m n left right class na nb numbered left_long rig
     has_events (side_by_side a b left right class) joined_same (joined_single a b m n na nb) (joined_can_put a b m n na nb) (joined_determined a b m n na nb)
     (rises_at (joined a b) (joined_single a b m n na nb) joined_same depths) classes.is_map.plain size run shared.is_run
     (loads_are_one a b m n left right class na nb numbered left_long right_long classes depths size run shared) (loads_before a b m n left right class na nb numbered left_long right_long classes depths size run shared)
-    t p h mark (trees_of a b m n left right class na nb numbered left_long right_long classes depths)
+    t p h mark (enabled_in_nets_beside a b m n na nb) (trees_of a b m n left right class na nb numbered left_long right_long classes depths (enabled_in_nets_beside a b m n na nb))
 
 pub events_are_common_in_nets : EventsAreCommon
 events_are_common_in_nets a b m n left right class na nb numbered left_long right_long classes depths size run shared t p q h mp mq node e d i j x y =

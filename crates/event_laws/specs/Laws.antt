@@ -1,5 +1,5 @@
 -- What holds of all flat nets in the event form. Each law is the contract of a function of this crate.
-use Rattle.std.specs.Prelude.{◌≡◌, ◌≢◌, ℕ, ◌<◌, ◌↔◌, Bool, true, false, not, ◌||◌, max, List, [], length, None, ◌∷◌, ◌++◌, Option, ◌⊎◌}
+use Rattle.std.specs.Prelude.{◌≡◌, ◌≢◌, ℕ, ◌<◌, ◌↔◌, Bool, true, false, not, ◌||◌, max, List, [], length, None, ◌∷◌, ◌++◌, Option}
 use Rattle.std.specs.List.{All, Contains, AllPairs}
 use Rattle.circuit_theory.specs.declared.Mode.{Mode}
 use Rattle.circuit_theory.specs.declared.Mode.TheVariants.{Event}
@@ -11,10 +11,10 @@ use Rattle.circuit_theory.specs.Tree.{Tree, AreNumbered, tree_value}
 use Rattle.circuit_theory.specs.Agree.{cut, IsPair, EnabledIn, IsSettled, AreAlike, Agree, AgreeOnward, IsMinimalCut}
 use Rattle.event_theory.specs.Frame.{EventSide, bits_as_shifts, EventUnfolds, ConeLatches, IsEnable, AreFrameValues, EventCycle, IsNumberedRun, IsNode, HasEvents, ReachedAt}
 use Rattle.circuit_theory.specs.Joined.{Either, Left, Right, joined, beside}
-use Rattle.event_theory.specs.Classes.{HasClasses}
+use Rattle.event_theory.specs.Classes.{HasClasses, IsClassMap, IsFounder, DiffersFromMember}
 use Rattle.circuit_theory.specs.Query.{Query, Variable}
 use Rattle.circuit_theory.specs.Sequence.{sequence_rows}
-use Rattle.event_theory.specs.EventFrames.{AreNodeVariables, IsPairTree, frame_of, IsUnshownFrame, HaveDifferentEvents, IsEventDifference}
+use Rattle.event_theory.specs.EventFrames.{AreNodeVariables, IsSeparation, IsPairTree, frame_of, IsUnshownFrame, HaveDifferentEvents, IsEventDifference}
 use Rattle.circuit_theory.specs.Fits.{MakesDiffer}
 use Rattle.event_theory.specs.EventFits.{IsEventWitness, ReachesAlways, HaveEqualEvents, side_by_side}
 use Rattle.event_theory.specs.EventSizes.{Start, EventVisits}
@@ -140,8 +140,17 @@ ExposedNamesAreApart = (a b : Circuit ℕ) (m n : ℕ) (names : List (List ℕ))
     EventVisits (side_by_side (cut names a) (cut names b) left right class) (IsEnabled (joined (cut names a) (cut names b))) (record { place = Left p; left_out = None } ∷ []) out (Left u) node →
     EventVisits (side_by_side (cut names a) (cut names b) left right class) (IsEnabled (joined (cut names a) (cut names b))) (record { place = Right q; left_out = None } ∷ []) out' (Right v) node' → ⊥
 
--- Each frame has values at each node, where it is known of each latch whether it is enabled.
+-- Each frame has values at each node.
 abbrev pub FrameValuesExist : Type 0
 FrameValuesExist = (a b : Circuit ℕ) (m n : ℕ) (left right : List ℕ) (class : Either ℕ ℕ → ℕ) → IsNet a m → IsNet b n → length left ≡ length a.inputs → length right ≡ length b.inputs →
-    LatchesHaveDepths (joined a b) (IsEnabled (joined a b)) → ((v : Either ℕ ℕ) → IsEnabled (joined a b) v ⊎ (IsEnabled (joined a b) v → ⊥)) → (bits : ℕ → List ℕ → Bool) →
+    LatchesHaveDepths (joined a b) (IsEnabled (joined a b)) → (bits : ℕ → List ℕ → Bool) →
     (w : List ℕ → Either ℕ ℕ → Bool) × AreFrameValues (side_by_side a b left right class) (IsEnabled (joined a b)) bits w
+
+-- Two separations of the same two classes name the same two latches.
+abbrev pub SeparationsAreOne : Type 0
+SeparationsAreOne = (s : EventSide (Either ℕ ℕ)) (order : List (Either ℕ ℕ)) (low high : ℕ) (u v f g : Either ℕ ℕ) (xs ys : List (Variable (List ℕ))) (left_bits right_bits : List Bool) (l r l' r' : Bool) →
+    IsSeparation s order low high u f xs left_bits l r → IsSeparation s order low high v g ys right_bits l' r' → (u ≡ v) × (f ≡ g)
+
+-- The founder of a class differs from a member of each lower class that joined before it: from `always` in a frame with care in which its enable is 0.
+abbrev pub FoundersAreApart : Type 0
+FoundersAreApart = (s : EventSide (Either ℕ ℕ)) (order : List (Either ℕ ℕ)) (low high : ℕ) (founder : Either ℕ ℕ) → IsClassMap s order → (f : IsFounder s order high founder) → low < high → DiffersFromMember s f.before low founder

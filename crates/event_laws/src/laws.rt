@@ -1,7 +1,7 @@
 //! The laws of the event form. None of these functions does anything: each contract is a law that is proved for all flat nets, by the
 //! same definitions that the contracts of the working calls cite.
 
-ghost use Rattle.event_laws.specs.Laws.{EventFunctionsAgree, ExposedEventFunctionsAgree, SettledHasEvents, EventsAreCommon, EventWitnessMakesDiffer, SidesAreParts, CutIsNet, TreesAreFrameValues, ClassesAreOne, DifferencesAreShown, EventDifferenceIsWitness, ExposedEventsAreCommon, ClassesSoFarAreOne, ReachedAreListed, ClosedListsAreReached, ExposedNamesAreApart, FrameValuesExist};
+ghost use Rattle.event_laws.specs.Laws.{EventFunctionsAgree, ExposedEventFunctionsAgree, SettledHasEvents, EventsAreCommon, EventWitnessMakesDiffer, SidesAreParts, CutIsNet, TreesAreFrameValues, ClassesAreOne, DifferencesAreShown, EventDifferenceIsWitness, ExposedEventsAreCommon, ClassesSoFarAreOne, ReachedAreListed, ClosedListsAreReached, ExposedNamesAreApart, FrameValuesExist, SeparationsAreOne, FoundersAreApart};
 
 /// Where the event functions of each pair of outputs agree in each frame with care for both, the two circuits agree in the event mode
 /// on each output wherever it is settled in both.
@@ -93,7 +93,18 @@ pub fn exposed_names_are_apart()
     ensures { ExposedNamesAreApart }
 {}
 
-/// Each frame has values at each node, where it is known of each latch whether it is enabled.
+/// Each frame has values at each node.
 pub fn frame_values_exist()
     ensures { FrameValuesExist }
+{}
+
+/// Two classes have one separation: its two latches are the founder of the higher class, and the first member of the lower one from which
+/// it differs.
+pub fn separations_are_one()
+    ensures { SeparationsAreOne }
+{}
+
+/// Each two classes can be separated: the founder of the higher one differs from a member of the lower one, or from `always`.
+pub fn founders_are_apart()
+    ensures { FoundersAreApart }
 {}

@@ -86,12 +86,3 @@ pub record IsFounder {P : Type 0} (s : EventSide P) (order : List P) (class : �
   pub split : order ≡ before ++ v ∷ after
   pub class_is : s.class v ≡ class
   pub first : (u : P) → Contains before u → s.class u ≢ class
-
--- the first member of the class from which the founder of a later class differs
-pub record IsFirstApart {P : Type 0} (s : EventSide P) (order : List P) (class : ℕ) (member founder : P) : Type 0 where
-  pub before : List P
-  pub after : List P
-  pub split : order ≡ before ++ member ∷ after
-  pub class_is : s.class member ≡ class
-  pub differs : EnablesDiffer s member founder
-  pub earlier : (u : P) → Contains before u → s.class u ≡ class → EnablesEqual s u founder

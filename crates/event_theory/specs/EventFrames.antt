@@ -1,6 +1,6 @@
 -- The variables of a query in the event form, the frame of an assignment, and what stands behind a separation and a frame that is
 -- printed.
-use Rattle.std.specs.Prelude.{◌≡◌, ◌≢◌, ℕ, ◌≤◌, ◌⊎◌, ◌↔◌, Bool, false, List, [], ◌∷◌, ◌++◌, length, None, Some}
+use Rattle.std.specs.Prelude.{◌≡◌, ◌≢◌, ℕ, ◌<◌, ◌≤◌, ◌⊎◌, ◌↔◌, Bool, false, List, [], ◌∷◌, ◌++◌, length, None, Some}
 use Rattle.std.specs.List.{Contains, AllPairs}
 use Rattle.circuit_theory.specs.Names.{same_name}
 use Rattle.circuit_theory.specs.Circuit.{IsLatch}
@@ -8,7 +8,7 @@ use Rattle.circuit_theory.specs.Run.{IsEnabled}
 use Rattle.circuit_theory.specs.Tree.{Tree, tree_value}
 use Rattle.circuit_theory.specs.Query.{Query, Variable, HasLeaf, assigned, bits_of, Distinguishes, IsLeast}
 use Rattle.event_theory.specs.Frame.{EventSide, EventUnfolds, ConeLatches, ConeOthers, ReachedAt, HasCare, NodeBefore}
-use Rattle.event_theory.specs.Classes.{EnableCare, EnableAtRoot, EnablesEqual}
+use Rattle.event_theory.specs.Classes.{EnableCare, EnableAtRoot, EnablesEqual, IsFounder}
 use Rattle.event_theory.specs.EventSizes.{IsNodeCount}
 use Rattle.event_theory.specs.EventQueries.{IsEventPairQuery}
 
@@ -62,9 +62,11 @@ pub record IsUnshownFrame {P : Type 0} (s : EventSide P) (p q : P) (variables : 
   pub right_value : r ≡ tree_value (frame_of variables bits) right_tree
   pub differ : l ≢ r
 
--- What stands behind the separation of two classes other than 0: the first member of the lower one, in the order of joining, from which
--- the founder of the higher one differs, and a frame with care for both in which the two enables have these values.
-pub record IsSeparation {P : Type 0} (s : EventSide P) (order : List P) (low : ℕ) (member founder : P) (variables : List (Variable (List ℕ))) (bits : List Bool) (l r : Bool) : Type 0 where
+-- What stands behind the separation of two classes other than 0: the founder of the higher one, the first member of the lower one, in the
+-- order of joining, from which it differs, and a frame with care for both in which the two enables have these values.
+pub record IsSeparation {P : Type 0} (s : EventSide P) (order : List P) (low high : ℕ) (member founder : P) (variables : List (Variable (List ℕ))) (bits : List Bool) (l r : Bool) : Type 0 where
+  pub lower : low < high
+  pub founder_is : IsFounder s order high founder
   pub before : List P
   pub after : List P
   pub split : order ≡ before ++ member ∷ after
@@ -78,8 +80,10 @@ pub record IsSeparation {P : Type 0} (s : EventSide P) (order : List P) (low : �
   pub right_is : EnableAtRoot s (frame_of variables bits) founder r
   pub differ : l ≢ r
 
--- the same of class 0, which stands for `always`: the founder's enable is 0
-pub record IsSeparationFromAlways {P : Type 0} (s : EventSide P) (founder : P) (variables : List (Variable (List ℕ))) (bits : List Bool) : Type 0 where
+-- the same from class 0, which stands for `always`: the founder's enable is 0
+pub record IsSeparationFromAlways {P : Type 0} (s : EventSide P) (order : List P) (high : ℕ) (founder : P) (variables : List (Variable (List ℕ))) (bits : List Bool) : Type 0 where
+  pub lower : 0 < high
+  pub founder_is : IsFounder s order high founder
   pub are_variables : AreNodeVariables (IsClassTree s founder founder) variables
   pub each : length bits ≡ length variables
   pub care : EnableCare s (frame_of variables bits) founder

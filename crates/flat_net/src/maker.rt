@@ -14,7 +14,7 @@ use std::marker::Model;
 
 /// A net under construction. A latch takes over itself until its next is set. A contract sees the net so far, and for
 /// each latch whether its next was set.
-#[derive(Debug, Drop)]
+#[derive(Drop)]
 pub struct NetMaker {
     net: Net,
     set: Vec<bool>,

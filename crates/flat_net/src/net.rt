@@ -20,7 +20,7 @@ use std::marker::Model;
 
 /// A flat circuit. Each signal has one driver and a name of its own, and each gate stands behind the gates that it
 /// reads. A contract sees the record of its lists.
-#[derive(Debug, Drop)]
+#[derive(Drop)]
 pub struct Net {
     inputs: Vec<Port>,
     outputs: Vec<Port>,

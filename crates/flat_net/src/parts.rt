@@ -5,14 +5,14 @@ use sec_base::{Duplicate, Init, NoMemory, Word};
 use std::alloc::Global;
 
 /// An input or an output, with the signal that it drives or shows.
-#[derive(Debug, Drop)]
+#[derive(Drop)]
 pub struct Port {
     pub name: Word,
     pub signal: Signal,
 }
 
 /// A gate: its signal has the value of a cover of the fan-ins. The cover is named by its number in the net.
-#[derive(Debug, Drop)]
+#[derive(Drop)]
 pub struct Gate {
     pub fanins: Signals,
     pub cover: u32,
@@ -29,7 +29,7 @@ pub struct LatchAt {
 }
 
 /// What drives a signal, by its number among the inputs, gates or latches.
-#[derive(Clone, Copy, Debug, PartialEq, Eq)]
+#[derive(Clone, Copy, PartialEq, Eq)]
 pub enum Driver {
     Input(u32),
     Gate(u32),

@@ -22,7 +22,7 @@ use Rattle.flat_walk.specs.Walking.{statements_in, places_in, main_name, design_
 use Rattle.flat_walk.specs.Walked.{IsWalked}
 use Rattle.flat_walk.specs.Steps.{visits, below}
 use Rattle.flat_walk.specs.Scopes.{inside_at, below_scope}
-use Rattle.flat_walk.specs.State.{Keeps, AreNamed, IsKept, IsWithPorts, spelled_in, state}
+use Rattle.flat_walk.specs.State.{Keeps, AreNamed, ArePortNumbers, HasWalked, IsKept, IsWithPorts, spelled_in, state}
 use Rattle.flat_walk.proofs.Walks.{Found, visits_found, visits_failed}
 use Rattle.flat_walk.proofs.Spelled.{keeps_on, spelled_kept, named_within, named_names, named_kept}
 use Rattle.flat_walk.proofs.Items.{Few, few_main, IsGood, IsGoodModel, good_models, good_main, place_count, clock_count}
@@ -112,20 +112,26 @@ pub record Done (models : List BlifModel) (w : Walked) : Type 0 where
   pub few : length w.statements ≤ 400000
   pub few_places : sum_by written_places w.statements ≤ 4000000
 
-pub walk_done : (models : List BlifModel) (scope : Scope) (old w : Walked) → scope.steps.items ≡ [] → scope.model ≡ 0 → old ≡ record { names = []; statements = []; count = 0; places = 0 } → IsKept w →
-    list_all is_plain (written_names models) ≡ true → list_all covers_fit models ≡ true → length (written_names models) ≤ 16777216 → visits (main_name models) (state models old) (below_scope models scope) ≡ Ok (state models w) → Done models w
-walk_done models scope old w steps model empty kept plain fits few h = record {
+-- what a walk from the main model's scope finds
+pub walk_found : (models : List BlifModel) (scope : Scope) (old w : Walked) → scope.steps.items ≡ [] → scope.model ≡ 0 → old ≡ record { names = []; statements = []; count = 0; places = 0 } → IsKept w →
+    visits (main_name models) (state models old) (below_scope models scope) ≡ Ok (state models w) → HasWalked models w
+walk_found models scope old w steps model empty kept h = record {
+  kept = kept;
+  found = ap₂ (visits (main_name models)) (ap (state models) (sym empty)) (sym (main_scope_is models scope steps model)) ∙ h;
+}
+
+pub walk_done : (models : List BlifModel) (w : Walked) → list_all is_plain (written_names models) ≡ true → list_all covers_fit models ≡ true → length (written_names models) ≤ 16777216 → HasWalked models w → Done models w
+walk_done models w plain fits few has = record {
   no_fault = found.no_fault;
   spelled = spelled;
   shapes = shapes;
   shaped = each_shaped models w.statements shapes;
-  few = (let most : w.count ≡ 0 + sum_by statements_in (main_walk models) = found.count in omega (arith, many, counts.few, most, kept.few));
-  few_places = (let most : w.places ≡ 0 + sum_by places_in (main_walk models) = found.places in omega (arith, places, counts.few_places, most, kept.few_places));
+  few = (let most : w.count ≡ 0 + sum_by statements_in (main_walk models) = found.count in omega (arith, many, counts.few, most, has.kept.few));
+  few_places = (let most : w.places ≡ 0 + sum_by places_in (main_walk models) = found.places in omega (arith, places, counts.few_places, most, has.kept.few_places));
 }
   where
     found : Found (record { count = 0; places = 0; spelled = [] }) (state models w) (main_name models) (main_walk models)
-    found = visits_found (main_name models) (main_walk models) (record { count = 0; places = 0; spelled = [] }) (state models w)
-        (ap₂ (visits (main_name models)) (ap (state models) (sym empty)) (sym (main_scope_is models scope steps model)) ∙ h)
+    found = visits_found (main_name models) (main_walk models) (record { count = 0; places = 0; spelled = [] }) (state models w) has.found
 
     counts : Few (main_walk models)
     counts = few_main models
@@ -146,10 +152,8 @@ walk_done models scope old w steps model empty kept plain fits few h = record {
     places = sym (written_count models w.statements) ∙ sym (named_count (name_at w.names) (map (statement_of models) w.statements)) ∙ ap (sum_by place_count) twice ∙ named_count name_of (filter_map flat_of (main_walk models))
 
 -- the same of models that are the design's
-pub done_at : (ds ms : List BlifModel) (scope : Scope) (old w : Walked) → ms ≡ ds → scope.steps.items ≡ [] → scope.model ≡ 0 → old ≡ record { names = []; statements = []; count = 0; places = 0 } → IsKept w →
-    list_all is_plain (written_names ds) ≡ true → list_all covers_fit ds ≡ true → length (written_names ds) ≤ 16777216 → visits (main_name ms) (state ms old) (below_scope ms scope) ≡ Ok (state ms w) → Done ds w
-done_at ds ms scope old w same steps model empty kept plain fits few h =
-    walk_done ds scope old w steps model empty kept plain fits few (subst (λ (xs : List BlifModel). visits (main_name xs) (state xs old) (below_scope xs scope) ≡ Ok (state xs w)) same h)
+pub done_at : (ds ms : List BlifModel) (w : Walked) → ms ≡ ds → list_all is_plain (written_names ds) ≡ true → list_all covers_fit ds ≡ true → length (written_names ds) ≤ 16777216 → HasWalked ms w → Done ds w
+done_at ds ms w same plain fits few has = walk_done ds w plain fits few (subst (λ (xs : List BlifModel). HasWalked xs w) same has)
 
 -- models have few statements
 pub few_statements : (models : List BlifModel) → list_all is_plain (written_names models) ≡ true → list_all covers_fit models ≡ true → length (written_names models) ≤ 16777216 → All (λ (m : BlifModel). length m.statements < 2 ^ 32) models
@@ -165,22 +169,31 @@ pub walk_failed : (models : List BlifModel) (scope : Scope) (old : Walked) (e : 
 walk_failed models scope old e steps model empty h = visits_failed (main_name models) (main_walk models) (record { count = 0; places = 0; spelled = [] }) e
     (ap₂ (visits (main_name models)) (ap (state models) (sym empty)) (sym (main_scope_is models scope steps model)) ∙ h)
 
+-- the main model's ports, numbered one list after the other
+pub ports_numbered : (main : BlifModel) (before first second now : List (List ℕ)) (inputs clocks outputs : List ℕ) → Keeps before first → AreNamed first inputs (map (λ name. [] ++ name) main.inputs) →
+    Keeps first second → AreNamed second clocks (map (λ name. [] ++ name) main.clocks) → Keeps second now → AreNamed now outputs (map (λ name. [] ++ name) main.outputs) → ArePortNumbers main before now inputs clocks outputs
+ports_numbered main before first second now inputs clocks outputs k1 ins k2 cs k3 outs = record {
+  of_inputs = plain inputs main.inputs (named_kept first now inputs (map (λ name. [] ++ name) main.inputs) (keeps_on first second now k2 k3) ins);
+  of_clocks = plain clocks main.clocks (named_kept second now clocks (map (λ name. [] ++ name) main.clocks) k3 cs);
+  of_outputs = plain outputs main.outputs outs;
+  keeps = keeps_on before first now k1 (keeps_on first second now k2 k3);
+}
+  where
+    plain : (ns : List ℕ) (xs : List (List ℕ)) → AreNamed now ns (map (λ name. [] ++ name) xs) → AreNamed now ns xs
+    plain ns xs h = subst (AreNamed now ns) (map-id xs) h
+
 -- the ports of the main model
-pub ports_added : (main : BlifModel) (w : Walked) (flat : Flat) (first second : List (List ℕ)) → IsKept w → flat.statements ≡ w.statements → Keeps w.names first → AreNamed first flat.inputs (map (λ name. [] ++ name) main.inputs) →
-    Keeps first second → AreNamed second flat.clocks (map (λ name. [] ++ name) main.clocks) → Keeps second flat.names → AreNamed flat.names flat.outputs (map (λ name. [] ++ name) main.outputs) → IsWithPorts main w flat
-ports_added main w flat first second kept same k1 ins k2 clocks k3 outs = record {
+pub ports_added : (main : BlifModel) (w : Walked) (flat : Flat) → IsKept w → flat.statements ≡ w.statements → ArePortNumbers main w.names flat.names flat.inputs flat.clocks flat.outputs → IsWithPorts main w flat
+ports_added main w flat kept same ports = record {
   statements = same;
   same = λ models.
       ap₂ (λ (xs ys : List (List ℕ)). record { inputs = xs; clocks = ys; outputs = map (name_at flat.names) flat.outputs; statements = map (named_statement (name_at flat.names)) (map (statement_of models) flat.statements) })
-      (names flat.inputs main.inputs (named_kept first flat.names flat.inputs (map (λ name. [] ++ name) main.inputs) (keeps_on first second flat.names k2 k3) ins)) (names flat.clocks main.clocks (named_kept second flat.names flat.clocks (map (λ name. [] ++ name) main.clocks) k3 clocks))
+      (named_names flat.names flat.inputs main.inputs ports.of_inputs) (named_names flat.names flat.clocks main.clocks ports.of_clocks)
       ∙ ap₂ (λ (xs : List (List ℕ)) (ss : List (FlatOf (List ℕ))). record { inputs = main.inputs; clocks = main.clocks; outputs = xs; statements = ss })
-      (names flat.outputs main.outputs outs)
+      (named_names flat.names flat.outputs main.outputs ports.of_outputs)
       (ap (λ (ss : List FlatStatement). map (named_statement (name_at flat.names)) (map (statement_of models) ss)) same ∙ map-map (named_statement (name_at flat.names)) (statement_of models) w.statements
-      ∙ spelled_kept w.names flat.names (keeps_on w.names first flat.names k1 (keeps_on first second flat.names k2 k3)) models w.statements kept.within);
+      ∙ spelled_kept w.names flat.names ports.keeps models w.statements kept.within);
 }
-  where
-    names : (ns : List ℕ) (xs : List (List ℕ)) → AreNamed flat.names ns (map (λ name. [] ++ name) xs) → map (name_at flat.names) ns ≡ xs
-    names ns xs h = named_names flat.names ns (map (λ name. [] ++ name) xs) h ∙ map-id xs
 
 -- numbers of names are numbers
 pub numbers_within : (t : List (List ℕ)) (ns : List ℕ) (xs : List (List ℕ)) → AreNamed t ns xs → All (λ n. n < length t) ns

@@ -1,10 +1,11 @@
 -- What the walk has found.
-use Rattle.std.specs.Prelude.{◌≡◌, ℕ, ◌+◌, ◌≤◌, Bool, true, false, List, [], ◌∷◌, ◌++◌, map, length, Option, Some, slice_get}
+use Rattle.std.specs.Prelude.{◌≡◌, ℕ, ◌+◌, ◌≤◌, Bool, true, false, List, [], ◌∷◌, ◌++◌, map, length, Option, Some, Ok, slice_get}
 use Rattle.std.specs.List.{list_all}
 use Rattle.circuit_theory.specs.Interface.{◌or_else◌}
 use Rattle.sec_base.specs.Table.{is_among}
 use Rattle.blif_read.specs.declared.design.BlifModel.{BlifModel}
 use Rattle.blif_read.specs.declared.design.Pair.{Pair}
+use Rattle.blif_read.specs.Design.{main_walk}
 use Rattle.flat_walk.specs.declared.error.FlatError.{FlatError}
 use Rattle.flat_walk.specs.declared.error.FlatError.TheVariants as flat
 use Rattle.flat_walk.specs.declared.flat.FlatStatement.{FlatStatement}
@@ -12,8 +13,8 @@ use Rattle.flat_walk.specs.declared.flat.Flat.{Flat}
 use Rattle.flat_walk.specs.declared.walked.Walked.{Walked}
 use Rattle.flat_walk.specs.Within.{is_within}
 use Rattle.flat_walk.specs.Flat.{FlatOf, port, named, named_statement, statement_of, view_of, name_at}
-use Rattle.flat_walk.specs.Walking.{when, is_too_many}
-use Rattle.flat_walk.specs.Steps.{Sofar}
+use Rattle.flat_walk.specs.Walking.{when, is_too_many, main_name}
+use Rattle.flat_walk.specs.Steps.{Sofar, visits}
 
 -- each number of a name stays its number
 abbrev pub Keeps : List (List ℕ) → List (List ℕ) → Type 0
@@ -63,3 +64,19 @@ pair_between inputs outer inner pair = port_between (is_among inputs pair.formal
 pub record IsWithPorts (main : BlifModel) (w : Walked) (flat : Flat) : Type 0 where
   pub statements : flat.statements ≡ w.statements
   pub same : (models : List BlifModel) → named (name_at flat.names) (view_of models flat) ≡ record { inputs = main.inputs; clocks = main.clocks; outputs = main.outputs; statements = spelled_in w.names models w.statements }
+
+-- the main model's ports have these numbers, and each number of a name before stays its number
+pub record ArePortNumbers (main : BlifModel) (before now : List (List ℕ)) (inputs clocks outputs : List ℕ) : Type 0 where
+  pub of_inputs : AreNamed now inputs main.inputs
+  pub of_clocks : AreNamed now clocks main.clocks
+  pub of_outputs : AreNamed now outputs main.outputs
+  pub keeps : Keeps before now
+
+-- nothing was found yet
+abbrev pub nothing_yet : Sofar
+nothing_yet = record { count = 0; places = 0; spelled = [] }
+
+-- what the walk over the models leaves, where it meets no fault
+pub record HasWalked (models : List BlifModel) (w : Walked) : Type 0 where
+  pub kept : IsKept w
+  pub found : visits (main_name models) nothing_yet (main_walk models) ≡ Ok (state models w)

@@ -1,9 +1,10 @@
 //! The faults of an instance.
 
-ghost use Rattle.std.specs.Prelude.{◌≡◌, ◌≢◌, ◌<◌, ◌||◌, [], length, map, slice_get, None, Some, IfOk, IfErr, OnOk};
+ghost use Rattle.std.specs.Prelude.{◌≡◌, ◌≢◌, ◌<◌, ◌||◌, List, [], ◌∷◌, ◌++◌, length, map, slice_get, None, Some, IfOk, IfErr, OnOk};
 ghost use Rattle.std.specs.List.{list_any};
 ghost use Rattle.sec_base.specs.Table.{is_among};
 ghost use Rattle.blif_read.specs.Kept.{model_names};
+ghost use Rattle.blif_read.specs.declared.design.Pair.{Pair};
 ghost use Rattle.blif_read.specs.Design.{model_named};
 ghost use Rattle.flat_walk.specs.declared.error.FlatError.TheVariants as flat_error;
 ghost use Rattle.flat_walk.specs.Walking.{named_fault, pairs_fault, first_outside, ports_fault, entry_fault, found_fault, main_name};
@@ -84,15 +85,30 @@ fn check_pairs(alloc: Global, formals: &Formals, pairs: &[Pair]) -> Result<NameT
 {
     let mut seen = NameTable::new(alloc);
     for pair in pairs {
-        let formal = pair.formal.as_slice();
-        if !formals.has(formal) {
-            return Err(FlatError::UnknownFormal(word(alloc, formal)?));
-        }
-        if !seen.add(alloc, formal)? {
-            return Err(FlatError::FormalTwice(word(alloc, formal)?));
-        }
+        see_pair(alloc, formals, &mut seen, pair)?;
     }
     Ok(seen)
+}
+
+/// Puts the pair's formal behind those that were seen, or tells what is wrong with it.
+fn see_pair(
+    alloc: Global,
+    formals: &Formals,
+    seen: &mut NameTable,
+    pair: &Pair,
+) -> Result<(), FlatError>
+    ensures seen { OnOk result (seen.new ≡ seen.old ++ pair.now.formal ∷ []) }
+    ensures ok { OnOk result ((pairs : List Pair) → pairs_fault (λ n. is_among formals.now.inputs n || is_among formals.now.outputs n) seen.old (pair.now ∷ pairs) ≡ pairs_fault (λ n. is_among formals.now.inputs n || is_among formals.now.outputs n) seen.new pairs) }
+    ensures err { IfErr result (λ e. e ≢ flat_error.NoMemory → (pairs : List Pair) → pairs_fault (λ n. is_among formals.now.inputs n || is_among formals.now.outputs n) seen.old (pair.now ∷ pairs) ≡ Some e) }
+{
+    let formal = pair.formal.as_slice();
+    if !formals.has(formal) {
+        return Err(FlatError::UnknownFormal(word(alloc, formal)?));
+    }
+    if !seen.add(alloc, formal)? {
+        return Err(FlatError::FormalTwice(word(alloc, formal)?));
+    }
+    Ok(())
 }
 
 /// The first of the names without a pair is a fault.

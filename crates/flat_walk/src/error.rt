@@ -8,7 +8,7 @@ use std::alloc::{AllocError, AllocFailed};
 
 /// Why a design is no sound circuit. Names of signals are flat names: `m#k#` stands before a name for each instance
 /// around it, where m is the instance's model and k its number among the instances of the model around it.
-#[derive(Debug, Drop)]
+#[derive(Drop)]
 pub enum FlatError {
     /// An instance of a model that the design does not have; the model's name.
     UnknownModel(Word),

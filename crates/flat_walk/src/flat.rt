@@ -5,10 +5,11 @@ ghost use Rattle.std.specs.List.{list_all, sum_by};
 ghost use Rattle.sec_base.specs.Table.{AreDistinct};
 ghost use Rattle.flat_walk.specs.Within.{is_within, reads_as_kind, written_places};
 
-use sec_base::{Edge, Ids, Init, NameTable, Seq};
+use sec_base::{Duplicate, Edge, Ids, Init, NameTable, NoMemory, Seq};
+use std::alloc::Global;
 
 /// What a flat statement is.
-#[derive(Clone, Copy, Debug)]
+#[derive(Clone, Copy)]
 pub enum FlatKind {
     /// A gate: its cover is that of a statement of a model, by their places in the design.
     Gate {
@@ -27,18 +28,28 @@ pub enum FlatKind {
 
 /// A flat statement: the signal that it drives, and the signals that it reads in their order, by the numbers of their
 /// flat names. A gate reads its fan-ins, a latch its data alone (its clock stands in its kind), a port the other side.
-#[derive(Debug, Drop)]
+#[derive(Drop)]
 pub struct FlatStatement {
     pub out: u32,
     pub reads: Ids,
     pub kind: FlatKind,
 }
 
+impl Duplicate for FlatStatement {
+    fn duplicate(&self, _alloc: Global) -> Result<FlatStatement, NoMemory> {
+        Ok(FlatStatement {
+            out: self.out,
+            reads: self.reads.copy()?,
+            kind: self.kind,
+        })
+    }
+}
+
 /// Flat statements.
 pub type FlatStatements = Seq<FlatStatement>;
 
 /// The flat statements of a design in the order of the walk, the main model's ports, and the flat names by number.
-#[derive(Debug, Drop)]
+#[derive(Drop)]
 pub struct Flat {
     pub names: NameTable,
     pub inputs: Ids,

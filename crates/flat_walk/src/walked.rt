@@ -1,12 +1,16 @@
 //! What the walk has found.
 
-ghost use Rattle.std.specs.Prelude.{◌≡◌, ◌+◌, ◌++◌, [], ◌∷◌, false, true, map, option_map, Some, None, IfErr, OnOk};
+ghost use Rattle.std.specs.Prelude.{◌≡◌, ◌≢◌, ◌+◌, ◌++◌, [], ◌∷◌, false, true, length, map, option_map, Some, None, IfErr, OnOk};
+ghost use Rattle.std.specs.List.{list_any};
+ghost use Rattle.blif_read.specs.Kept.{names_in_option};
 ghost use Rattle.flat_walk.specs.declared.error.FlatError.TheVariants as flat_error;
 ghost use Rattle.flat_walk.specs.declared.flat.FlatKind.TheVariants as flat_kind;
 ghost use Rattle.flat_walk.specs.Flat.{gate, latch, cover_at};
 ghost use Rattle.flat_walk.specs.Walking.{is_too_many};
+ghost use Rattle.flat_walk.specs.Scopes.{is_long_behind};
 ghost use Rattle.flat_walk.specs.State.{IsKept, Adds, plain_fault, pair_between};
 
+use crate::checks::{are_long, is_long};
 use crate::error::FlatError;
 use crate::flat::{FlatKind, FlatStatement, FlatStatements};
 use crate::numbering::{number, number_of_option, numbers};
@@ -110,6 +114,52 @@ impl Walked {
         Ok(())
     }
 
+    /// Counts and adds a gate, or refuses it: for its count, or for a long name.
+    pub(crate) fn take_gate(
+        &mut self,
+        alloc: Global,
+        prefix: &[u8],
+        fanins: &[Word],
+        out: &[u8],
+        model: u32,
+        statement: u32,
+    ) -> Result<(), FlatError>
+        requires { IsKept self.old }
+        ensures kept { OnOk result (IsKept self.new) }
+        ensures ok { OnOk result (plain_fault self.old.count self.old.places (length fanins.now + 1) (list_any (is_long_behind (length prefix.now)) (fanins.now ++ out.now ∷ [])) ≡ None) }
+        ensures adds { OnOk result (Adds (λ models. record { out = prefix.now ++ out.now; reads = map (λ name. prefix.now ++ name) fanins.now; kind = gate (cover_at models model statement) } ∷ [])
+            (record self.old { count = self.old.count + 1; places = self.old.places + (length fanins.now + 1) }) self.new) }
+        ensures err { IfErr result (λ e. e ≢ flat_error.NoMemory → plain_fault self.old.count self.old.places (length fanins.now + 1) (list_any (is_long_behind (length prefix.now)) (fanins.now ++ out.now ∷ [])) ≡ Some e) }
+    {
+        self.admit(fanins.len() + 1, gate_is_long(prefix.len(), fanins, out))?;
+        self.add_gate(alloc, prefix, fanins, out, model, statement)?;
+        Ok(())
+    }
+
+    /// Counts and adds a latch, or refuses it: for its count, or for a long name.
+    pub(crate) fn take_latch(
+        &mut self,
+        alloc: Global,
+        prefix: &[u8],
+        input: &[u8],
+        output: &[u8],
+        edge: Option<Edge>,
+        control: &Option<Word>,
+        init: Init,
+    ) -> Result<(), FlatError>
+        requires { IsKept self.old }
+        ensures kept { OnOk result (IsKept self.new) }
+        ensures ok { OnOk result (plain_fault self.old.count self.old.places (2 + length (names_in_option control.now)) (list_any (is_long_behind (length prefix.now)) (input.now ∷ output.now ∷ names_in_option control.now)) ≡ None) }
+        ensures adds { OnOk result (Adds (λ models. record { out = prefix.now ++ output.now; reads = (prefix.now ++ input.now) ∷ []; kind = latch edge (option_map (λ word. prefix.now ++ word) control.now) init } ∷ [])
+            (record self.old { count = self.old.count + 1; places = self.old.places + (2 + length (names_in_option control.now)) }) self.new) }
+        ensures err { IfErr result (λ e. e ≢ flat_error.NoMemory → plain_fault self.old.count self.old.places (2 + length (names_in_option control.now)) (list_any (is_long_behind (length prefix.now)) (input.now ∷ output.now ∷ names_in_option control.now)) ≡ Some e) }
+    {
+        let long = latch_is_long(prefix.len(), input, output, control);
+        self.admit(latch_places(control), long)?;
+        self.add_latch(alloc, prefix, input, output, edge, control, init)?;
+        Ok(())
+    }
+
     /// Adds a port that drives the first signal with the other.
     fn add_port(&mut self, alloc: Global, out: u32, from: u32) -> Result<(), NoMemory>
         ensures { OnOk result (self.new ≡ record self.old { statements = self.old.statements ++ record { out = out; reads = from ∷ []; kind = flat_kind.Port } ∷ [] }) }
@@ -159,5 +209,33 @@ impl Walked {
             self.add_pair(alloc, outer, inner, inputs, pair)?;
         }
         Ok(())
+    }
+}
+
+/// Whether a name of the gate behind so many bytes has more than 4,096 bytes.
+fn gate_is_long(prefix: usize, fanins: &[Word], out: &[u8]) -> bool
+    ensures { result ≡ list_any (is_long_behind prefix) (fanins.now ++ out.now ∷ []) }
+{
+    are_long(prefix, fanins) || is_long(prefix, out)
+}
+
+/// Whether a name of the latch behind so many bytes has more than 4,096 bytes.
+fn latch_is_long(prefix: usize, input: &[u8], output: &[u8], control: &Option<Word>) -> bool
+    ensures { result ≡ list_any (is_long_behind prefix) (input.now ∷ output.now ∷ names_in_option control.now) }
+{
+    let control_is_long = match control {
+        Some(control) => is_long(prefix, control.as_slice()),
+        None => false,
+    };
+    is_long(prefix, input) || is_long(prefix, output) || control_is_long
+}
+
+/// At how many places a latch with this clock writes a signal's name.
+fn latch_places(control: &Option<Word>) -> usize
+    ensures { result ≡ 2 + length (names_in_option control.now) }
+{
+    match control {
+        Some(_) => 3,
+        None => 2,
     }
 }

@@ -1,18 +1,19 @@
 //! The walk over the hierarchy.
 
-ghost use Rattle.std.specs.Prelude.{◌≡◌, ◌≢◌, ◌+◌, ◌++◌, ◌^◌, ◌<◌, ◌≤◌, ◌∷◌, [], true, All, Ok, Err, Some, length, slice_get, IfOk, IfErr, OnOk};
-ghost use Rattle.std.specs.List.{list_all, list_any, sum_by};
-ghost use Rattle.blif_read.specs.Kept.{names_in_option, model_names};
+ghost use Rattle.std.specs.Prelude.{◌≡◌, ◌≢◌, ◌^◌, ◌<◌, ◌≤◌, ◌∷◌, [], true, false, All, Ok, Err, Some, length, slice_get, IfOk, IfErr, OnOk};
+ghost use Rattle.std.specs.List.{list_all, sum_by};
+ghost use Rattle.blif_read.specs.Kept.{model_names};
+ghost use Rattle.blif_read.specs.Fault.{repeats};
 ghost use Rattle.flat_walk.specs.declared.error.FlatError.TheVariants as flat_error;
 ghost use Rattle.flat_walk.specs.Within.{reads_as_kind, written_places};
 ghost use Rattle.flat_walk.specs.Flat.{statement_in};
 ghost use Rattle.flat_walk.specs.Walked.{IsWalked};
 ghost use Rattle.flat_walk.specs.Walking.{main_name, design_walk_fault};
 ghost use Rattle.flat_walk.specs.Steps.{visits, heads};
-ghost use Rattle.flat_walk.specs.Scopes.{AreTables, IsScope, IsInside, GoesInside, path_of, instance_at, pairs_at, below_scope, is_long_behind};
-ghost use Rattle.flat_walk.specs.State.{IsKept, IsWithPorts, state};
+ghost use Rattle.flat_walk.specs.Scopes.{AreTables, IsScope, IsInside, GoesInside, path_of, instance_at, pairs_at, below_scope};
+ghost use Rattle.flat_walk.specs.State.{ArePortNumbers, HasWalked, IsKept, IsWithPorts, state};
 
-use crate::checks::{are_long, entered, is_long};
+use crate::checks::entered;
 use crate::error::FlatError;
 use crate::flat::Flat;
 use crate::numbering::numbers;
@@ -20,36 +21,9 @@ use crate::scope::Scope;
 use crate::tables::{Tables, tables_of};
 use crate::walked::Walked;
 use blif_read::{BlifModel, Design, Pair, Statement};
-use sec_base::{NoMemory, Word};
+use sec_base::{Ids, NameTable, NoMemory, Seq, Word};
 use std::alloc::Global;
-
-/// Whether a name of the gate behind so many bytes has more than 4,096 bytes.
-fn gate_is_long(prefix: usize, fanins: &[Word], out: &[u8]) -> bool
-    ensures { result ≡ list_any (is_long_behind prefix) (fanins.now ++ out.now ∷ []) }
-{
-    are_long(prefix, fanins) || is_long(prefix, out)
-}
-
-/// Whether a name of the latch behind so many bytes has more than 4,096 bytes.
-fn latch_is_long(prefix: usize, input: &[u8], output: &[u8], control: &Option<Word>) -> bool
-    ensures { result ≡ list_any (is_long_behind prefix) (input.now ∷ output.now ∷ names_in_option control.now) }
-{
-    let control_is_long = match control {
-        Some(control) => is_long(prefix, control.as_slice()),
-        None => false,
-    };
-    is_long(prefix, input) || is_long(prefix, output) || control_is_long
-}
-
-/// At how many places a latch with this clock writes a signal's name.
-fn latch_places(control: &Option<Word>) -> usize
-    ensures { result ≡ 2 + length (names_in_option control.now) }
-{
-    match control {
-        Some(_) => 3,
-        None => 2,
-    }
-}
+use std::mem;
 
 /// Takes an instance with its pairs, and gives the scope where the walk goes on.
 fn take_instance(
@@ -106,9 +80,7 @@ fn take(
     let prefix = scope.prefix.as_slice();
     match statement {
         Statement::Names { fanins, out, .. } => {
-            let long = gate_is_long(prefix.len(), fanins.as_slice(), out.as_slice());
-            walked.admit(fanins.as_slice().len() + 1, long)?;
-            walked.add_gate(
+            walked.take_gate(
                 alloc,
                 prefix,
                 fanins.as_slice(),
@@ -126,9 +98,7 @@ fn take(
             init,
             ..
         } => {
-            let long = latch_is_long(prefix.len(), input.as_slice(), output.as_slice(), control);
-            walked.admit(latch_places(control), long)?;
-            walked.add_latch(
+            walked.take_latch(
                 alloc,
                 prefix,
                 input.as_slice(),
@@ -184,25 +154,51 @@ fn walk_scope(
     Ok(())
 }
 
-/// The flat statements with the main model's ports.
-fn with_ports(alloc: Global, mut walked: Walked, main: &BlifModel) -> Result<Flat, NoMemory>
-    requires kept { IsKept walked }
-    requires shaped { list_all reads_as_kind walked.statements ≡ true }
-    requires few { length walked.statements ≤ 400000 }
-    requires few_places { sum_by written_places walked.statements ≤ 4000000 }
-    ensures { IfOk result (IsWithPorts main.now walked) }
+/// The numbers of the main model's inputs, clocks and outputs. New names go last.
+fn port_numbers(
+    alloc: Global,
+    names: &mut NameTable,
+    main: &BlifModel,
+) -> Result<(Ids, Ids, Ids), NoMemory>
+    ensures { IfOk result (λ ports. ArePortNumbers main.now names.old names.new ports.0 ports.1 ports.2) }
 {
-    let inputs = numbers(alloc, &mut walked.names, b"", main.inputs.as_slice())?;
-    let clocks = numbers(alloc, &mut walked.names, b"", main.clocks.as_slice())?;
-    let outputs = numbers(alloc, &mut walked.names, b"", main.outputs.as_slice())?;
+    let inputs = numbers(alloc, names, b"", main.inputs.as_slice())?;
+    let clocks = numbers(alloc, names, b"", main.clocks.as_slice())?;
+    let outputs = numbers(alloc, names, b"", main.outputs.as_slice())?;
+    Ok((inputs, clocks, outputs))
+}
+
+/// The flat statements with the main model's ports. They are moved out.
+fn with_ports(alloc: Global, walked: &mut Walked, main: &BlifModel) -> Result<Flat, NoMemory>
+    requires kept { IsKept walked.old }
+    requires shaped { list_all reads_as_kind walked.old.statements ≡ true }
+    requires few { length walked.old.statements ≤ 400000 }
+    requires few_places { sum_by written_places walked.old.statements ≤ 4000000 }
+    ensures { IfOk result (IsWithPorts main.now walked.old) }
+{
+    let (inputs, clocks, outputs) = port_numbers(alloc, &mut walked.names, main)?;
     walked.names.keeps();
     Ok(Flat {
-        names: walked.names,
+        names: mem::replace(&mut walked.names, NameTable::new(alloc)),
         inputs,
         clocks,
         outputs,
-        statements: walked.statements,
+        statements: mem::replace(&mut walked.statements, Seq::new(alloc)),
     })
+}
+
+/// What the walk over a design's models finds.
+fn walked_of(alloc: Global, models: &[BlifModel]) -> Result<Walked, FlatError>
+    requires apart { repeats [] (model_names models.now) ≡ false }
+    requires some { 0 < length models.now }
+    requires few { All (λ m. length m.statements < 2 ^ 32) models.now }
+    ensures ok { IfOk result (HasWalked models.now) }
+    ensures err { IfErr result (λ e. e ≢ flat_error.NoMemory → design_walk_fault models.now ≡ Some e) }
+{
+    let tables = tables_of(alloc, models)?;
+    let mut walked = Walked::new(alloc);
+    walk_scope(&mut walked, alloc, models, &tables, &Scope::main(alloc))?;
+    Ok(walked)
 }
 
 /// The flat statements of a design. A fault is the first that the walk meets; no other is looked for.
@@ -211,8 +207,6 @@ pub fn walk(alloc: Global, design: &Design) -> Result<Flat, FlatError>
     ensures err { IfErr result (λ e. e ≢ flat_error.NoMemory → design_walk_fault design.now.models ≡ Some e) }
 {
     let models = design.models.as_slice();
-    let tables = tables_of(alloc, models)?;
-    let mut walked = Walked::new(alloc);
-    walk_scope(&mut walked, alloc, models, &tables, &Scope::main(alloc))?;
-    Ok(with_ports(alloc, walked, &models[0])?)
+    let mut walked = walked_of(alloc, models)?;
+    Ok(with_ports(alloc, &mut walked, &models[0])?)
 }

@@ -6,7 +6,7 @@ ghost use Rattle.flat_wires.specs.Wired.{WiredView};
 use std::marker::Model;
 
 /// What drives a signal.
-#[derive(Clone, Copy, Debug, PartialEq, Eq)]
+#[derive(Clone, Copy, PartialEq, Eq)]
 pub enum Source {
     /// Nothing does, and nothing reads it.
     Open,
@@ -17,7 +17,7 @@ pub enum Source {
 }
 
 /// For each signal of a flat design what drives it and its net, and the clock net.
-#[derive(Debug, Drop)]
+#[derive(Drop)]
 pub struct Wired {
     pub(crate) sources: Vec<Source>,
     pub(crate) nets: Vec<Option<u32>>,

@@ -11,6 +11,7 @@ use flat_net::{Net, NetMaker, Signal, Signals};
 use flat_walk::{Flat, FlatKind};
 use sec_base::{Cover, Init, NoMemory, PlaceTable, Seq};
 use std::alloc::Global;
+use std::mem;
 
 /// The net so far, the signal of each number that has one, and which covers the net has.
 #[derive(Drop)]
@@ -125,27 +126,23 @@ impl Assembly {
         Ok(assembly)
     }
 
-    /// The finished net, with the clock of this number, if there is one.
+    /// The finished net, with the clock of this number, if there is one. It is moved out.
     pub(crate) fn finish(
-        self,
+        &mut self,
         alloc: Global,
         flat: &Flat,
         clock: Option<u32>,
     ) -> Result<Net, NoMemory>
-        requires set { All (λ set. set ≡ true) self.maker.set }
-        requires no_clock { self.maker.net.clock ≡ None }
+        requires set { All (λ set. set ≡ true) self.old.maker.set }
+        requires no_clock { self.old.maker.net.clock ≡ None }
         requires clock { IfSome clock (λ c. c < length flat.now.names) }
-        ensures { IfOk result (λ net. net ≡ record self.maker.net { clock = option_map (name_at flat.now.names) clock }) }
+        ensures { IfOk result (λ net. net ≡ record self.old.maker.net { clock = option_map (name_at flat.now.names) clock }) }
     {
-        let Assembly {
-            mut maker,
-            signals: _,
-            covers: _,
-        } = self;
         if let Some(clock) = clock {
-            maker.set_clock(Seq::from_vec(flat.name(clock).to_vec(alloc)?));
+            self.maker
+                .set_clock(Seq::from_vec(flat.name(clock).to_vec(alloc)?));
         }
-        Ok(maker.finish())
+        Ok(mem::replace(&mut self.maker, NetMaker::new(alloc)).finish())
     }
 
     /// The number is what a gate of this name drives.

@@ -7,23 +7,20 @@ use Rattle.std.proofs.lemmas.List.Elements.{Contains-append_left, Contains-appen
 use Rattle.std.proofs.lemmas.Option.{slice_get_within}
 use Rattle.circuit_theory.specs.Circuit.{Circuit, Equation, Gate, Latch, Port, Named, IsLatch, IsSource, Meets, IsSingleDriven, out_of}
 use Rattle.circuit_theory.specs.Run.{Extends, IsDetermined}
-use Rattle.circuit_theory.specs.Net.{IsNet}
 use Rattle.circuit_theory.specs.Depth.{without}
 use Rattle.circuit_theory.specs.Tree.{StandsBeside}
-use Rattle.circuit_theory.specs.Joined.{Either, Left, Right, joined, beside}
+use Rattle.circuit_theory.specs.Joined.{Either, joined}
 use Rattle.circuit_theory.specs.Blocks.{IsConstantOn, IsCoarsest}
 use Rattle.circuit_laws.proofs.Finite.{Decided, find_or}
 use Rattle.circuit_theory.proofs.Inputs.{beside_is_input}
-use Rattle.circuit_laws.proofs.JoinedParts.{joined_same, joined_single, joined_determined, left_part, right_part, replace_left, replace_right, meets_both}
+use Rattle.circuit_laws.proofs.JoinedParts.{joined_same, joined_single, joined_determined}
 use Rattle.circuit_theory.proofs.Lists.{Contains-cases, Contains-map, at_of}
-use Rattle.circuit_laws.proofs.NetLaws.{net_value, net_value-meets, net_value-source}
-use Rattle.circuit_laws.proofs.Parts.{source_from}
 use Rattle.circuit_theory.proofs.Sums.{same_or_not, contains_without}
 use Rattle.circuit_laws.proofs.Values.{values_unique}
 use Rattle.reset_laws.specs.Reset.{HasOneStart}
 use Rattle.induct_laws.specs.Partitions.{ShareStart, IsCoarser, IsSplitBy}
 use Rattle.induct_laws.specs.Laws.{CoarsestExists}
-use Rattle.induct_laws.proofs.Deciding.{decided_imp, decided_both, decided_not, bits_decided, decided_each, decided_some, decided_beside, assignments, all_assigned}
+use Rattle.finite_laws.proofs.Deciding.{decided_imp, decided_both, decided_not, bits_decided, decided_each, decided_some, decided_beside, assignments, all_assigned}
 use Rattle.induct_laws.proofs.Partitions.{split_coarser, initial_coarser}
 use Rattle.induct_laws.proofs.Splitting.{split_by, split_is, initial, initial_is, place_number, place_number-distinct, joined_one_start}
 use Rattle.circuit_laws.proofs.JoinedValues.{joined_values}

@@ -17,7 +17,7 @@ use Rattle.circuit_laws.proofs.JoinedParts.{joined_same, joined_single, joined_n
 use Rattle.circuit_theory.proofs.Lists.{Contains-head, Contains-tail, Contains-cases}
 use Rattle.induct_laws.specs.Queries.{BlockUnfolds, BlockUnfoldsAll, ReadsBlocks, AssignmentsAreValues, block_query}
 use Rattle.induct_laws.specs.Laws.{BlocksAreVariables, QueriesDecide}
-use Rattle.induct_laws.proofs.Deciding.{if_same}
+use Rattle.finite_laws.proofs.Deciding.{if_same}
 use Rattle.circuit_laws.proofs.JoinedValues.{joined_values}
 
 -- what the assignment has to give inputs and latches

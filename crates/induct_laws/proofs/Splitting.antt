@@ -9,7 +9,7 @@ use Rattle.circuit_theory.proofs.Lists.{Contains-head, Contains-tail, Contains-c
 use Rattle.circuit_laws.proofs.JoinedParts.{left_one, right_one, left_is_not_right}
 use Rattle.reset_laws.specs.Reset.{HasOneStart}
 use Rattle.induct_laws.specs.Partitions.{ShareStart, IsInitial, IsSplitBy}
-use Rattle.induct_laws.proofs.Deciding.{if_same}
+use Rattle.finite_laws.proofs.Deciding.{if_same}
 
 abbrev next_of : {P : Type 0} → Equation P → P
 next_of (Gate out fanins cover) = out

@@ -1,7 +1,8 @@
 -- What the answer to a pair's query says of its result, and of its sequence.
-use Rattle.std.proofs.Common.{◌≡◌, ℕ, ◌<◌, ◌≤◌, max, Bool, true, false, List, length, Option, None, refl, sym, ◌∙◌, ap, subst, arith, inl, inr}
+use Rattle.std.proofs.Common.{◌≡◌, ℕ, ◌<◌, ◌≤◌, max, Bool, true, false, List, length, get_or, Option, None, refl, sym, ◌∙◌, ap, subst, arith, inl, inr}
 use Rattle.std.specs.List.{All, Contains}
-use Rattle.std.proofs.lemmas.List.Elements.{All-map}
+use Rattle.std.proofs.lemmas.List.Elements.{All-map, All-contains}
+use Rattle.std.proofs.lemmas.Option.{slice_get-get_or}
 use Rattle.circuit_theory.specs.Circuit.{Circuit}
 use Rattle.circuit_theory.specs.Depth.{IsDepth}
 use Rattle.circuit_theory.specs.Fits.{IsPairDepth, IsWitness}
@@ -10,7 +11,7 @@ use Rattle.circuit_theory.specs.Query as query
 use Rattle.circuit_theory.specs.Run.{NoneEnabled}
 use Rattle.circuit_theory.specs.Sequence.{sequence_rows}
 use Rattle.circuit_theory.specs.Tree.{Tree, HaveEqualFunctions}
-use Rattle.circuit_theory.proofs.Lists.{All-from_each}
+use Rattle.circuit_theory.proofs.Lists.{All-from_each, Contains-map}
 use Rattle.circuit_laws.proofs.TreeDepth.{tree_depth}
 use Rattle.flat_net.specs.View.{NetView, circuit_of}
 use Rattle.flat_net.specs.Sound.{IsSound}
@@ -22,29 +23,24 @@ use Rattle.aig.proofs.Growth.{Builds-one}
 use Rattle.cbf_unfold.specs.declared.unfolder.Unfolded.{Unfolded}
 use Rattle.pair_decide.specs.declared.query.Query.{Query}
 use Rattle.pair_decide.specs.declared.query.Proof.{Proof}
-use Rattle.pair_decide.specs.declared.query.SameBy.{SameBy}
-use Rattle.pair_decide.specs.declared.query.SameBy.TheVariants as same
 use Rattle.pair_decide.specs.declared.query.Decision.{Decision}
 use Rattle.pair_decide.specs.declared.query.Decision.TheVariants as decision
-use Rattle.pair_decide.specs.Queries.{IsSame}
-use Rattle.pair_decide.specs.Answers.{Decides, IsDifference, IsAtLimit}
+use Rattle.pair_decide.specs.Queries.{IsSame, roots_of}
+use Rattle.pair_decide.specs.Answers.{IsDifference, IsAtLimit}
+use Rattle.swept_queries.specs.InStead.{IsInStead, DecidesInStead}
+use Rattle.swept_queries.proofs.Stand.{is_same, is_difference}
 use Rattle.witness_report.specs.declared.witness.PairName.{PairName}
 use Rattle.witness_report.specs.declared.witness.Witness.{Witness}
 use Rattle.sec_outcome.specs.declared.outcome.PairResult.{PairResult}
 use Rattle.sec_setup.specs.Pairs.{outputs_of}
 use Rattle.sec_setup.specs.Setup.{AreColumns}
 use Rattle.plain_form.specs.Found.{IsResultOf}
-use Rattle.plain_form.specs.Limits.{IsUndecided}
+use Rattle.plain_form.specs.Limits.{ReadOnly, IsUndecided}
 use Rattle.plain_form.specs.Outcome.{differing, HaveDifferentFunctions, AnswerFits, PairFits}
 use Rattle.plain_form.specs.Sequences.{bits_at, IsSequence, IsWitnessOf}
 use Rattle.plain_form.specs.Variables.{variable_of, variables_of}
 use Rattle.plain_form.proofs.Leaves.{leaf_shift, leaf_is_column}
-use Rattle.plain_form.proofs.PairQueries.{AsksPair, left_tree, right_tree, query_in_order, are_variables, each_variable, is_query, left_value, right_value, care_value, same_trees, left_at_bits, right_at_bits, trees_differ, variables_long, least_is}
-
-same_of : (g : List Node) (q : Query) (conflicts : ℕ) (by : SameBy) → Decides g q conflicts (decision.Same by) → IsSame g q
-same_of g q conflicts same.Literal h = h.1
-same_of g q conflicts same.Table h = h.1
-same_of g q conflicts (same.Refuted proof) h = h.1
+use Rattle.plain_form.proofs.PairQueries.{AsksPair, left_tree, right_tree, query_in_order, are_variables, each_variable, left_value, right_value, care_value, same_trees, left_at_bits, right_at_bits, trees_differ, variables_long, least_is}
 
 -- there is one depth
 one_depth : (c : Circuit ℕ) (s d e : ℕ) → IsDepth c NoneEnabled s d → IsDepth c NoneEnabled s e → d ≡ e
@@ -84,37 +80,43 @@ module _ {a b : NetView} {left right : List ℕ} {g : List Node} {places : List 
   one_literal : left_tree x ≡ right_tree x → q.left.0 ≡ q.right.0
   one_literal e = Builds-one g x.graph places x.distinct (left_tree x) q.left.0 q.right.0 left_builds (subst (λ (t : Tree ℕ). Builds g places t q.right.0) (sym e) right_builds)
 
-  undecided : (conflicts : ℕ) (proof : Proof) → IsAtLimit g q conflicts proof → IsUndecided (circuit_of a) (circuit_of b) left right conflicts s t proof
-  undecided conflicts proof h = record {
+  -- the cones of the literals read the variables of the functions alone
+  read_own : (h : List Node) (r : Query) → IsInStead g q h r → ReadOnly h places (roots_of r) (variables_of places q.vars)
+  read_own h r stands n v reached at =
+      let here : Contains q.vars v = subst (λ (vs : List ℕ). Contains vs v) stands.vars (stands.query.covers n v reached at) in
+      let within : v < length places = All-contains (λ u. u < length places) q.vars v (query_in_order x).within here in
+      (get_or places v (0, 0), slice_get-get_or places v (0, 0) within, Contains-map (variable_of places) q.vars v here)
+
+  undecided : (conflicts : ℕ) (proof : Proof) (h : List Node) (r : Query) → IsInStead g q h r → IsAtLimit h r conflicts proof → IsUndecided (circuit_of a) (circuit_of b) left right conflicts s t proof
+  undecided conflicts proof h r stands limit = record {
     left_depth = x.left_is.depth;
     right_depth = x.right_is.depth;
     left_tree = left_tree x;
     right_tree = right_tree x;
     left_unfolds = x.left_is.unfolds;
     right_unfolds = x.right_is.unfolds;
-    two_trees = λ e. h.wide.apart (inl (one_literal e));
+    two_trees = λ e. limit.wide.apart (stands.trivial (inl (one_literal e)));
     variables = variables_of places q.vars;
     are_variables = are_variables x;
-    many = omega (arith, variables_long x, h.wide.many);
-    graph = g;
+    many = omega (arith, variables_long x, ap length stands.vars, limit.wide.many);
+    graph = h;
     places = places;
     distinct = x.distinct;
-    left_lit = q.left.0;
-    right_lit = q.right.0;
-    care_lit = q.care.0;
-    is_graph = x.graph;
-    left_within = (is_query x).left;
-    right_within = (is_query x).right;
-    care_within = (is_query x).care;
-    left_builds = left_builds;
-    right_builds = right_builds;
-    left_value = left_value x;
-    right_value = right_value x;
-    care_value = care_value x;
-    sides = λ e. h.wide.apart (inl e);
-    care = λ e. h.wide.apart (inr e);
-    clauses = h.encoding;
-    log = h.fruitless;
+    left_lit = r.left.0;
+    right_lit = r.right.0;
+    care_lit = r.care.0;
+    is_graph = stands.graph;
+    left_within = stands.query.left;
+    right_within = stands.query.right;
+    care_within = stands.query.care;
+    own = read_own h r stands;
+    left_value = λ bits y takes. stands.left y ∙ left_value x bits y takes;
+    right_value = λ bits y takes. stands.right y ∙ right_value x bits y takes;
+    care_value = λ bits y takes. stands.care y ∙ care_value x bits y takes;
+    sides = λ e. limit.wide.apart (inl e);
+    care = λ e. limit.wide.apart (inr e);
+    clauses = limit.encoding;
+    log = limit.fruitless;
   }
 
   differs : (cut : Bool) (conflicts : ℕ) → HaveDifferentFunctions (circuit_of a) (circuit_of b) left right s t → AnswerFits (circuit_of a) (circuit_of b) left right cut conflicts s t (differing cut) None
@@ -122,17 +124,17 @@ module _ {a b : NetView} {left right : List ℕ} {g : List Node} {places : List 
   differs true conflicts h = (refl, h)
 
   -- the result has the answer of the query
-  pub pair_fits : (name : PairName) (cut : Bool) (conflicts size : ℕ) (d : Decision) (result : PairResult) (bits : Option (List Bool)) → Decides g q conflicts d → IsResultOf name size cut d result bits → IsPairDepth (circuit_of a) (circuit_of b) s t size →
+  pub pair_fits : (name : PairName) (cut : Bool) (conflicts size : ℕ) (d : Decision) (result : PairResult) (bits : Option (List Bool)) → DecidesInStead g q conflicts d → IsResultOf name size cut d result bits → IsPairDepth (circuit_of a) (circuit_of b) s t size →
       PairFits (circuit_of a) (circuit_of b) left right cut conflicts (record { name = name; left = s; right = t }) result
   pair_fits name cut conflicts size d result bits h is depth = go d h is
     where
       Fits : PairResult → Type 0
       Fits r = PairFits (circuit_of a) (circuit_of b) left right cut conflicts (record { name = name; left = s; right = t }) r
 
-      go : (e : Decision) → Decides g q conflicts e → IsResultOf name size cut e result bits → Fits result
-      go (decision.Same by) decided r = subst Fits (sym r.0) (record { name_is = refl; size_is = depth; answer_is = equal_functions (same_of g q conflicts by decided) })
-      go (decision.Differs found) decided r = subst Fits (sym r.0) (record { name_is = refl; size_is = depth; answer_is = differs cut conflicts (different_functions found decided) })
-      go (decision.Limit proof) decided r = subst Fits (sym r.0) (record { name_is = refl; size_is = depth; answer_is = undecided conflicts proof decided })
+      go : (e : Decision) → DecidesInStead g q conflicts e → IsResultOf name size cut e result bits → Fits result
+      go (decision.Same by) decided r = subst Fits (sym r.0) (record { name_is = refl; size_is = depth; answer_is = equal_functions (is_same decided) })
+      go (decision.Differs found) decided r = subst Fits (sym r.0) (record { name_is = refl; size_is = depth; answer_is = differs cut conflicts (different_functions found (is_difference decided)) })
+      go (decision.Limit proof) decided r = subst Fits (sym r.0) (record { name_is = refl; size_is = depth; answer_is = undecided conflicts proof decided.graph decided.asked decided.stands decided.decides })
 
   -- the size is the greater depth of both trees
   module _ (sound_a : IsSound a) (sound_b : IsSound b) (last : ℕ) (depth : IsPairDepth (circuit_of a) (circuit_of b) s t last) where

@@ -4,6 +4,7 @@ pub mod Leaves
 pub mod Reading
 pub mod Growing
 pub mod Rows
+pub mod AskedPairs
 pub mod Decided
 pub mod Results
 pub mod PairAt

@@ -16,7 +16,9 @@ use Rattle.aig.specs.declared.node.Node.{Node}
 use Rattle.pair_decide.specs.declared.query.Query.{Query}
 use Rattle.pair_decide.specs.declared.query.Decision.{Decision}
 use Rattle.pair_decide.specs.declared.query.Decision.TheVariants as decision
-use Rattle.pair_decide.specs.Answers.{Decides, IsDifference}
+use Rattle.pair_decide.specs.Answers.{IsDifference}
+use Rattle.swept_queries.specs.InStead.{DecidesInStead}
+use Rattle.swept_queries.proofs.Stand.{is_difference}
 use Rattle.witness_report.specs.declared.witness.PairName.{PairName}
 use Rattle.witness_report.specs.declared.witness.Witness.{Witness}
 use Rattle.sec_outcome.specs.declared.outcome.PairResult.{PairResult}
@@ -95,12 +97,12 @@ pub record IsDiffering (g : List Node) (q : Query) (bits : List Bool) (size : �
   pub size_is : r.size ≡ size
   pub difference : IsDifference g q bits
 
-pub is_differing : (g : List Node) (q : Query) (conflicts : ℕ) (name : PairName) (size : ℕ) (cut : Bool) (d : Decision) (r : PairResult) (bits : List Bool) → Decides g q conflicts d → IsResultOf name size cut d r (Some bits) → IsDiffering g q bits size cut r
+pub is_differing : (g : List Node) (q : Query) (conflicts : ℕ) (name : PairName) (size : ℕ) (cut : Bool) (d : Decision) (r : PairResult) (bits : List Bool) → DecidesInStead g q conflicts d → IsResultOf name size cut d r (Some bits) → IsDiffering g q bits size cut r
 is_differing g q conflicts name size cut (decision.Same by) r bits h is = absurd (no_some is.1)
 is_differing g q conflicts name size cut (decision.Differs found) r bits h is = record {
   answered = ap (λ (s : PairResult). s.answer) is.0;
   size_is = ap (λ (s : PairResult). s.size) is.0;
-  difference = subst (IsDifference g q) (sym (some_is is.1)) h;
+  difference = subst (IsDifference g q) (sym (some_is is.1)) (is_difference h);
 }
 is_differing g q conflicts name size cut (decision.Limit proof) r bits h is = absurd (no_some is.1)
 
@@ -111,7 +113,7 @@ module _ (a b : NetView) (left right : List ℕ) (columns : List (List ℕ)) (cu
       (subst (λ (rs : List PairResult). HaveFound a b left right columns cut conflicts [] rs None) (sym empty) (record { fit = tt; first_is = All-nil (λ (r : PairResult). r.answer ≢ differing cut) }))
 
   -- one pair more
-  module _ (g : List Node) (places : List (ℕ × ℕ)) (q : Query) (d : Decision) (decided : Decides g q conflicts d) (pairs : List SignalPair) (results : List PairResult) (p : SignalPair) (size : ℕ) (r : PairResult)
+  module _ (g : List Node) (places : List (ℕ × ℕ)) (q : Query) (d : Decision) (decided : DecidesInStead g q conflicts d) (pairs : List SignalPair) (results : List PairResult) (p : SignalPair) (size : ℕ) (r : PairResult)
       (fits : PairFits (circuit_of a) (circuit_of b) left right cut conflicts (places_of p) r)
       (witness : (bs : List Bool) (w : Witness) → IsDifference g q bs → IsWitnessOf g places q bs p.name size columns w → IsWitness (circuit_of a) (circuit_of b) left right p.left.0 p.right.0 (length columns) w.stimulus.rows w.cycle w.left w.right) where
     next : map places_of (pairs ++ p ∷ []) ≡ map places_of pairs ++ places_of p ∷ []

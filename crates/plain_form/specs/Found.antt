@@ -6,7 +6,7 @@ use Rattle.aig.specs.declared.node.Node.{Node}
 use Rattle.pair_decide.specs.declared.query.Query.{Query}
 use Rattle.pair_decide.specs.declared.query.Decision.{Decision}
 use Rattle.pair_decide.specs.declared.query.Decision.TheVariants as decision
-use Rattle.pair_decide.specs.Answers.{Decides}
+use Rattle.swept_queries.specs.InStead.{DecidesInStead}
 use Rattle.witness_report.specs.declared.witness.PairName.{PairName}
 use Rattle.witness_report.specs.declared.witness.Witness.{Witness}
 use Rattle.sec_outcome.specs.declared.outcome.PairResult.{PairResult}
@@ -29,9 +29,9 @@ IsResultOf name size cut (decision.Same by) r bits = (r ≡ record { name = name
 IsResultOf name size cut (decision.Differs found) r bits = (r ≡ record { name = name; size = size; answer = differing cut; proof = None }) × (bits ≡ Some found)
 IsResultOf name size cut (decision.Limit proof) r bits = (r ≡ record { name = name; size = size; answer = answer.Limit; proof = Some proof }) × (bits ≡ None)
 
--- the result by a right decision of the query, and the bits of a difference
+-- the result by a right decision of the query, or of one in its stead, and the bits of a difference
 abbrev pub IsSettled : List Node → Query → ℕ → PairName → ℕ → Bool → PairResult → Option (List Bool) → Type 0
-IsSettled g q conflicts name size cut r bits = (d : Decision) × Decides g q conflicts d × IsResultOf name size cut d r bits
+IsSettled g q conflicts name size cut r bits = (d : Decision) × DecidesInStead g q conflicts d × IsResultOf name size cut d r bits
 
 -- no pair differs, or the sequence is that of the first that does
 abbrev pub IsFirst : NetView → NetView → List ℕ → List ℕ → List (List ℕ) → Bool → List SignalPair → List PairResult → Option Witness → Type 0

@@ -4,5 +4,6 @@ pub mod Formed
 pub mod Variables
 pub mod Pairs
 pub mod Sequences
+pub mod Asked
 pub mod Found
 pub mod Laws

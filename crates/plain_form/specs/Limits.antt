@@ -1,11 +1,13 @@
 -- What stands behind the answer that the limit of conflicts was met.
 use Rattle.std.specs.Prelude.{◌≡◌, ◌≢◌, ℕ, ◌*◌, ◌<◌, Bool, true, List, [], ◌∷◌, length, slice_get, Some}
+use Rattle.std.specs.List.{Contains}
 use Rattle.circuit_theory.specs.Circuit.{Circuit}
 use Rattle.circuit_theory.specs.Tree.{Tree, Unfolds, tree_value}
 use Rattle.circuit_theory.specs.Query.{Variable, AreVariables, ShiftBefore}
 use Rattle.aig.specs.declared.node.Node.{Node}
 use Rattle.sec_base.specs.Table.{AreDistinct}
-use Rattle.aig.specs.Builds.{Builds}
+use Rattle.aig.specs.declared.node.Node.TheVariants.{Input}
+use Rattle.aig.specs.Cone.{IsReached}
 use Rattle.aig.specs.Graph.{IsGraph}
 use Rattle.aig.specs.Values.{value}
 use Rattle.cnf_encode.specs.Encoding.{IsEncoding}
@@ -17,11 +19,16 @@ abbrev pub HasValueOf : List Node → List (ℕ × ℕ) → ℕ → ((ℕ → �
 HasValueOf g places lit function =
     (bits : ℕ → ℕ → Bool) (a : ℕ → Bool) → ((v : ℕ) (p : ℕ × ℕ) → slice_get places v ≡ Some p → a v ≡ bits p.0 p.1) → value g a lit ≡ function bits
 
+-- the cones of the literals read none but these inputs at shifts
+abbrev pub ReadOnly : List Node → List (ℕ × ℕ) → List ℕ → List (Variable ℕ) → Type 0
+ReadOnly g places lits variables =
+    (n v : ℕ) → IsReached g lits n → slice_get g n ≡ Some (Input v) → (p : ℕ × ℕ) × (slice_get places v ≡ Some p) × Contains variables (record { input = p.0; at = p.1 })
+
 -- The pair's functions have more than 16 variables, and their trees are two. The proof that is kept has the clauses of three literals
--- of a graph: those of the two trees, by which they have the values of the two functions, and that of the care, which holds always; no
--- place has two variables, the sides are different literals, and the care isn't the literal 0. Its log has exactly as many chains as
--- conflicts are allowed, all of them valid over these clauses; each derives a clause that tells unit propagation something, and none
--- the empty clause.
+-- of a graph: two that have the values of the two functions, and that of the care, which holds always. They read none but the
+-- variables of the functions, no place has two variables, the sides are different literals, and the care isn't the literal 0. The
+-- log has exactly as many chains as conflicts are allowed, all of them valid over these clauses; each derives a clause that tells
+-- unit propagation something, and none the empty clause.
 pub record IsUndecided {P Q : Type 0} (a : Circuit P) (b : Circuit Q) (left right : List ℕ) (conflicts : ℕ) (p : P) (q : Q) (proof : Proof) : Type 0 where
   pub left_depth : ℕ
   pub right_depth : ℕ
@@ -43,8 +50,7 @@ pub record IsUndecided {P Q : Type 0} (a : Circuit P) (b : Circuit Q) (left righ
   pub left_within : left_lit < 2 * length graph
   pub right_within : right_lit < 2 * length graph
   pub care_within : care_lit < 2 * length graph
-  pub left_builds : Builds graph places left_tree left_lit
-  pub right_builds : Builds graph places right_tree right_lit
+  pub own : ReadOnly graph places (left_lit ∷ right_lit ∷ care_lit ∷ []) variables
   pub left_value : HasValueOf graph places left_lit (λ bits. tree_value bits left_tree)
   pub right_value : HasValueOf graph places right_lit (λ bits. tree_value bits right_tree)
   pub care_value : HasValueOf graph places care_lit (λ bits. true)

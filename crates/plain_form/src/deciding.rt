@@ -1,23 +1,27 @@
 //! The pairs are decided, one after the other.
 
 ghost use Rattle.std.specs.Prelude.{◌≡◌, ◌+◌, ◌<◌, ◌≤◌, length, take, IfOk, OnOk};
+ghost use Rattle.swept_queries.specs.InStead.{IsKnown};
+ghost use Rattle.plain_form.specs.Asked.{AreSweptPairs};
 ghost use Rattle.pair_decide.specs.Queries.{IsQuery};
 ghost use Rattle.sec_setup.specs.Setup.{IsSetup};
 ghost use Rattle.plain_form.specs.Found.{IsResultOf, IsSettled, HaveFoundIn, HaveFunctions};
 ghost use Rattle.plain_form.specs.Outcome.{differing};
 ghost use Rattle.plain_form.specs.Variables.{AreInOrder, IsPairQuery};
 
+use crate::asking::sweep_pairs;
 use crate::merging::merge_variables;
 use crate::pairing::{copy_name, pair_depth};
 use crate::unfolding::Functions;
 use crate::witness::put_first;
 use aig::{Aig, Lit};
 use cbf_unfold::Unfolded;
-use pair_decide::{Decision, Proof, Query, decide};
+use pair_decide::{Decision, Proof, Query};
 use sec_base::{Bits, NoMemory, PairAnswer, PlaceTable};
 use sec_outcome::{PairName, PairResult, PairResults, Witness};
 use sec_setup::Setup;
 use std::alloc::Global;
+use swept_queries::SweptQueries;
 
 /// The results of the pairs, and the sequence of the first that differs.
 #[derive(Drop)]
@@ -38,12 +42,13 @@ pub(crate) fn decide_pairs(
     requires conflicts { conflicts ≤ 200000 }
     ensures { IfOk result (λ d. HaveFoundIn setup.now conflicts setup.now.pairs d.results d.first) }
 {
+    let swept = sweep_pairs(alloc, functions, conflicts)?;
     let mut decided = Decided {
         results: PairResults::new(alloc),
         first: None,
     };
     for i in 0..setup.pairs.len() {
-        decide_next(alloc, setup, functions, i, conflicts, &mut decided)?;
+        decide_next(alloc, setup, functions, &swept, i, conflicts, &mut decided)?;
     }
     Ok(decided)
 }
@@ -53,12 +58,14 @@ fn decide_next(
     alloc: Global,
     setup: &Setup<'_>,
     functions: &Functions,
+    swept: &SweptQueries,
     i: usize,
     conflicts: u32,
     decided: &mut Decided,
 ) -> Result<(), NoMemory>
     requires setup { IsSetup setup.now }
     requires functions { HaveFunctions setup.now functions.now }
+    requires swept { AreSweptPairs functions.now swept.now }
     requires place { i < length setup.now.pairs }
     requires conflicts { conflicts ≤ 200000 }
     ensures { OnOk result (HaveFoundIn setup.now conflicts (take i setup.now.pairs) decided.old.results decided.old.first → HaveFoundIn setup.now conflicts (take (i + 1) setup.now.pairs) decided.new.results decided.new.first) }
@@ -80,6 +87,8 @@ fn decide_next(
         alloc,
         &functions.aig,
         &query,
+        swept,
+        i,
         &pair.name,
         size,
         cut,
@@ -99,22 +108,25 @@ fn decide_next(
     Ok(())
 }
 
-/// The result of the pair of this name and size by its query, and the bits of the query's variables under which the sides differ, if
-/// they do.
+/// The result of the pair of this name, size and place by its query, and the bits of the query's variables under which the sides
+/// differ, if they do.
 fn settle(
     alloc: Global,
     aig: &Aig,
     query: &Query,
+    swept: &SweptQueries,
+    i: usize,
     name: &PairName,
     size: u32,
     cut: bool,
     conflicts: u32,
 ) -> Result<(PairResult, Option<Bits>), NoMemory>
     requires query { IsQuery aig.now query.now }
+    requires swept { IsKnown aig.now swept.now i query.now }
     requires conflicts { conflicts ≤ 200000 }
     ensures { IfOk result (λ settled. IsSettled aig.now query.now conflicts name.now size cut settled.0 settled.1) }
 {
-    let decision = decide(alloc, aig, query, conflicts)?;
+    let decision = swept.decide(alloc, aig, query, i, conflicts)?;
     let name = copy_name(name)?;
     Ok(result_of(name, size, cut, decision))
 }

@@ -1,6 +1,7 @@
 //! The plain form: pairs of signals of two circuits without cycles of latches, as functions of the inputs at earlier cycles.
 #![tactic(auto)]
 
+mod asking;
 mod comparing;
 mod deciding;
 mod error;

@@ -3,7 +3,7 @@ use Rattle.std.proofs.Common.{◌≡◌, ℕ, ◌+◌, ◌-◌, ◌*◌, ◌<◌
 use Rattle.std.specs.Prelude.{IfOk}
 use Rattle.proof_check.specs.Literals.{Literal}
 use Rattle.sec_base.specs.declared.list.NoMemory.{NoMemory}
-use Rattle.sat_search.specs.Turning.{IsRunning, IsTurned, work_left}
+use Rattle.sat_search.specs.Turning.{IsRunning, IsTurned}
 use Rattle.sat_search.specs.declared.turning.SearchState.{SearchState}
 use Rattle.sat_search.specs.declared.turning.Turn.{Turn}
 use Rattle.sat_search.specs.declared.turning.Turn.TheVariants.{Goes, Model, Refuted, Limit}

@@ -1,5 +1,5 @@
 -- Clauses with a single late literal, and how they are shortened.
-use Rattle.std.proofs.Common.{◌≡◌, ◌≢◌, ◌⊎◌, ℕ, ◌+◌, ◌<◌, ◌≤◌, List, [], ◌∷◌, ◌++◌, length, refl, sym, ◌∙◌, ap, subst, arith, inl, inr, Option, Some, None}
+use Rattle.std.proofs.Common.{◌≡◌, ◌≢◌, ◌⊎◌, ℕ, ◌+◌, ◌<◌, ◌≤◌, List, length, refl, sym, ap, subst, arith, inl, inr, Option, Some, None}
 use Rattle.std.specs.Prelude.{◌↔◌, ◌^◌, slice_get}
 use Rattle.std.specs.List.{Contains}
 use Rattle.std.proofs.lemmas.Bool.{cases_eq}
@@ -9,16 +9,17 @@ use Rattle.proof_check.specs.Chains.{ChainDerives}
 use Rattle.proof_check.specs.declared.derivation.Step.{Step}
 use Rattle.proof_check.specs.declared.derivation.Chain.{Chain}
 use Rattle.proof_check.proofs.Deriving.{steps_push}
-use Rattle.sat_search.specs.Found.{AllInRange, InRange}
-use Rattle.sat_search.specs.Trails.{TrailView, At, TrueBefore, FalseBefore, OthersFalse, Forces, IsTrail}
+use Rattle.clause_watch.specs.Range.{AllInRange, InRange}
+use Rattle.clause_watch.specs.Trails.{TrailView, At, TrueBefore, FalseBefore, OthersFalse, IsTrail}
 use Rattle.sat_search.specs.Answers.{IsDistinct, IsLastFalse, IsLastDecision, IsUniqueAt, IsSmallPlace, HasReason, place_after}
-use Rattle.sat_search.specs.Lessons.{IsLate, IsAnalysing, IsAsserting, IsLearnt}
+use Rattle.sat_search.specs.Lessons.{IsLate, IsAnalysing, IsLearnt}
+use Rattle.clause_watch.specs.Learning.{IsAsserting}
 use Rattle.sat_search.specs.Uniques.{IsUnique, IsReasonStep, IsLearntFrom}
-use Rattle.sat_search.specs.declared.entry.Entry.{Entry}
+use Rattle.clause_watch.specs.declared.entry.Entry.{Entry}
 use Rattle.sat_search.specs.declared.lesson.Learnt.{Learnt}
-use Rattle.sat_search.specs.declared.places.Placed.{Placed}
-use Rattle.sat_search.proofs.Lists.{get_one, at_number}
-use Rattle.sat_search.proofs.Trails.{at_one, at_within, true_more}
+use Rattle.clause_watch.specs.declared.places.Placed.{Placed}
+use Rattle.clause_watch.proofs.Lists.{get_one, at_number}
+use Rattle.clause_watch.proofs.Trails.{at_one, at_within, true_more}
 use Rattle.sat_search.proofs.Analysing.{not_zero, all_of_members, late_last, falsified_whole, analysing_step, asserting}
 
 -- what became false before the last one

@@ -1,10 +1,9 @@
 -- The state of a search from turn to turn.
-use Rattle.std.specs.Prelude.{◌≡◌, ℕ, ◌+◌, ◌-◌, ◌*◌, ◌<◌, List, [], length}
+use Rattle.std.specs.Prelude.{◌≡◌, ℕ, ◌+◌, ◌-◌, ◌*◌, ◌<◌, ◌^◌, List, [], length}
 use Rattle.proof_check.specs.Literals.{Literal}
 use Rattle.sat_search.specs.Found.{IsFound}
-use Rattle.sat_search.specs.Trails.{TrailView}
-use Rattle.sat_search.specs.Watching.{IsWatched}
-use Rattle.sat_search.specs.Learning.{IsLoading}
+use Rattle.clause_watch.specs.Watching.{IsWatched}
+use Rattle.clause_watch.specs.Learning.{IsLoading}
 use Rattle.sat_search.specs.Running.{IsSearching}
 use Rattle.sat_search.specs.declared.outcome.Found.TheVariants as found
 use Rattle.sat_search.specs.declared.turning.SearchState.{SearchState}
@@ -12,17 +11,16 @@ use Rattle.sat_search.specs.declared.turning.Turn.{Turn}
 use Rattle.sat_search.specs.declared.turning.Turn.TheVariants.{Goes, Model, Refuted, Limit}
 
 -- the given clauses are there, and nothing was done with them
-pub record IsNewState (clauses : List (List Literal)) (variables : ℕ) (s : SearchState) : Type 0 where
-  pub stored : s.store ≡ clauses
+pub record IsNewState (s : SearchState) : Type 0 where
+  pub numbers : length s.watches.clauses.known < 2 ^ 32
   pub empty : s.log ≡ []
-  pub no_entries : s.trail ≡ record { variables = variables; entries = [] }
-  pub loading : IsLoading [] s.trail s.watches.pairs.items s.watches.watchers
+  pub loading : IsLoading s.watches.clauses.known s.trail s.watches.clauses.pairs s.watches.clauses.rows 0
   pub first : s.watches.head ≡ 0
 
 -- the given clauses and those that the log derives are watched
 pub record IsRunning (clauses : List (List Literal)) (variables conflicts : ℕ) (s : SearchState) : Type 0 where
-  pub searching : IsSearching clauses variables conflicts s.store s.trail s.log
-  pub watched : IsWatched s.store s.trail s.watches.pairs.items s.watches.watchers s.watches.head
+  pub searching : IsSearching clauses variables conflicts s.watches.clauses.known s.trail s.log
+  pub watched : IsWatched s.watches.clauses.known s.trail s.watches.clauses.pairs s.watches.clauses.rows s.watches.head
 
 -- how many conflicts are left, and before the next of them free variables
 abbrev pub work_left : ℕ → ℕ → SearchState → ℕ

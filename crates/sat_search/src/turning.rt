@@ -1,28 +1,28 @@
 //! The turns of a search.
 
-ghost use Rattle.std.specs.Prelude.{◌≡◌, ◌<◌, ◌≤◌, ◌^◌, length, IfOk, OnOk};
-ghost use Rattle.sat_search.specs.Trails.{Quiet};
-ghost use Rattle.sat_search.specs.Answers.{IsDistinct, IsConflict};
-ghost use Rattle.sat_search.specs.Watching.{IsWatched};
+ghost use Rattle.std.specs.Prelude.{◌≡◌, ◌-◌, ◌<◌, ◌≤◌, ◌^◌, length, IfOk, OnOk};
+ghost use Rattle.clause_watch.specs.Range.{InRange};
+ghost use Rattle.clause_watch.specs.Trails.{Quiet};
+ghost use Rattle.sat_search.specs.Answers.{IsDistinct};
+ghost use Rattle.clause_watch.specs.Answers.{IsConflict};
+ghost use Rattle.clause_watch.specs.Watching.{IsWatched};
 ghost use Rattle.sat_search.specs.Lessons.{IsLearnt};
 ghost use Rattle.sat_search.specs.Running.{AreBits, IsBit};
 ghost use Rattle.sat_search.specs.Turning.{IsNewState, IsRunning, IsTurned};
 ghost use Rattle.sat_search.specs.declared.turning.Turn.TheVariants as turns;
 
-use crate::analysis::analyse;
+use crate::analysis::{analyse, first_decision};
 use crate::lesson::{Learnt, Lesson};
 use crate::order::Order;
-use crate::store::Store;
-use crate::trail::Trail;
-use crate::watching::Watches;
+use clause_watch::{Trail, Watches};
 use proof_check::{Clauses, Log, Resolver};
 use sec_base::{Bits, NoMemory, Seq};
 use std::alloc::Global;
+use std::mem;
 
 /// What a search works on.
 #[derive(Drop)]
 pub(crate) struct SearchState {
-    pub(crate) store: Store,
     pub(crate) trail: Trail,
     pub(crate) watches: Watches,
     pub(crate) order: Order,
@@ -45,21 +45,23 @@ pub(crate) enum Turn {
 }
 
 impl SearchState {
-    /// The given clauses, none of which is watched yet.
+    /// The given clauses, none of which is met yet.
     pub(crate) fn new(
         alloc: Global,
         clauses: &Clauses,
         variables: u32,
     ) -> Result<SearchState, NoMemory>
-        requires { variables ≤ 2 ^ 30 }
-        ensures { IfOk result (IsNewState clauses.now variables) }
+        requires variables { variables ≤ 2 ^ 30 }
+        requires numbers { length clauses.now < 2 ^ 32 - 200000 }
+        requires range { InRange variables clauses.now }
+        ensures known { IfOk result (λ state. state.watches.clauses.known ≡ clauses.now) }
+        ensures variables { IfOk result (λ state. state.trail.variables ≡ variables) }
+        ensures new { IfOk result IsNewState }
     {
         let order = Order::new(alloc, variables)?;
-        let store = Store::new(alloc, clauses)?;
         let trail = Trail::new(alloc, variables)?;
-        let watches = Watches::new(alloc, variables)?;
+        let watches = Watches::new(alloc, clauses, variables)?;
         Ok(SearchState {
-            store,
             trail,
             watches,
             order,
@@ -73,7 +75,7 @@ impl SearchState {
         requires { (clauses : _) × (variables : _) × IsRunning clauses variables conflicts self.old }
         ensures { IfOk result (λ turn. (clauses : _) (variables : _) → IsRunning clauses variables conflicts self.old → IsTurned clauses variables conflicts self.old self.new turn) }
     {
-        let found = self.watches.propagate(&self.store, &mut self.trail)?;
+        let found = self.watches.propagate(&mut self.trail)?;
         match found {
             None => self.decide(alloc),
             Some(conflict) => {
@@ -87,9 +89,9 @@ impl SearchState {
 
     /// Decides a free variable, where nothing is forced any more.
     fn decide(&mut self, alloc: Global) -> Result<Turn, NoMemory>
-        requires watched { IsWatched self.old.store self.old.trail self.old.watches.pairs.items self.old.watches.watchers self.old.watches.head }
+        requires watched { IsWatched self.old.watches.clauses.known self.old.trail self.old.watches.clauses.pairs self.old.watches.clauses.rows self.old.watches.head }
         requires whole { self.old.watches.head ≡ length self.old.trail.entries }
-        requires quiet { Quiet self.old.store self.old.trail.entries (length self.old.trail.entries) }
+        requires quiet { Quiet self.old.watches.clauses.known self.old.trail.entries (length self.old.trail.entries) }
         ensures { IfOk result (λ turn. (clauses : _) (variables : _) (conflicts : _) → IsRunning clauses variables conflicts self.old → IsTurned clauses variables conflicts self.old self.new turn) }
     {
         let Some(literal) = self.order.choose(&self.trail) else {
@@ -102,12 +104,12 @@ impl SearchState {
     /// Learns from the false clause of a number.
     fn learn(&mut self, alloc: Global, conflict: u32) -> Result<Turn, NoMemory>
         requires running { (clauses : _) × (variables : _) × (conflicts : _) × IsRunning clauses variables conflicts self.old }
-        requires conflict { IsConflict self.old.store self.old.trail.entries conflict }
+        requires conflict { IsConflict self.old.watches.clauses.known self.old.trail.entries conflict }
         ensures { IfOk result (λ turn. (clauses : _) (variables : _) (conflicts : _) → IsRunning clauses variables conflicts self.old → length self.old.log < conflicts → IsTurned clauses variables conflicts self.old self.new turn) }
     {
         match analyse(
             alloc,
-            &self.store,
+            self.watches.clauses.store(),
             &self.trail,
             &mut self.resolver,
             conflict,
@@ -125,11 +127,11 @@ impl SearchState {
 
     /// Adds a learnt clause, cuts the trail, and makes the literal true that the clause forces.
     fn add_learnt(&mut self, learnt: Learnt) -> Result<(), NoMemory>
-        requires watched { IsWatched self.old.store self.old.trail self.old.watches.pairs.items self.old.watches.watchers self.old.watches.head }
-        requires learnt { IsLearnt self.old.store self.old.trail learnt }
+        requires watched { IsWatched self.old.watches.clauses.known self.old.trail self.old.watches.clauses.pairs self.old.watches.clauses.rows self.old.watches.head }
+        requires learnt { IsLearnt self.old.watches.clauses.known self.old.trail learnt }
         ensures { OnOk result ((clauses : _) (variables : _) (conflicts : _) → IsRunning clauses variables conflicts self.old → length self.old.log < conflicts → IsTurned clauses variables conflicts self.old self.new turns.Goes) }
     {
-        if self.store.len() >= u32::MAX as usize {
+        if self.watches.clauses.len() >= u32::MAX as usize {
             return Err(NoMemory);
         }
         self.order.learn(&self.trail, &learnt);
@@ -141,24 +143,37 @@ impl SearchState {
             keep,
         } = learnt;
         self.log.push(chain)?;
-        self.watches.learn(
-            &mut self.store,
-            &mut self.trail,
-            clause,
-            literal,
-            second,
-            keep,
-        )?;
         self.watches
-            .restart(&self.store, &mut self.trail, &mut self.order);
+            .learn(&mut self.trail, clause, literal, second, keep)?;
+        self.restart();
         Ok(())
     }
 
-    /// The log alone.
-    pub(crate) fn into_log(self) -> Log
-        ensures { result ≡ self.log }
+    /// Takes back all decisions, where it is time to begin again.
+    fn restart(&mut self)
+        requires watched { IsWatched self.old.watches.clauses.known self.old.trail self.old.watches.clauses.pairs self.old.watches.clauses.rows self.old.watches.head }
+        ensures known { self.new.watches.clauses.known ≡ self.old.watches.clauses.known }
+        ensures variables { self.new.trail.variables ≡ self.old.trail.variables }
+        ensures log { self.new.log ≡ self.old.log }
+        ensures watched { IsWatched self.new.watches.clauses.known self.new.trail self.new.watches.clauses.pairs self.new.watches.clauses.rows self.new.watches.head }
     {
-        self.log
+        if !self.order.is_due() {
+            return;
+        }
+        let end = self.trail.len();
+        let first = first_decision(&self.trail, 0, end);
+        if first == end {
+            return;
+        }
+        self.order.release(&self.trail, first);
+        self.watches.cut(&mut self.trail, first);
+    }
+
+    /// The log, which is empty from now on.
+    pub(crate) fn take_log(&mut self, alloc: Global) -> Log
+        ensures { result ≡ self.old.log }
+    {
+        mem::replace(&mut self.log, Seq::new(alloc))
     }
 }
 

@@ -5,7 +5,7 @@ use circuit_theory::Side;
 use std::alloc::Global;
 
 /// The clock edge at which a latch loads, as the BLIF words `re` and `fe` say.
-#[derive(Clone, Copy, Debug, PartialEq, Eq)]
+#[derive(Clone, Copy, PartialEq, Eq)]
 pub enum Edge {
     Rising,
     Falling,
@@ -21,11 +21,11 @@ pub enum Init {
 }
 
 /// A read or a write of the outside failed.
-#[derive(Clone, Copy, Debug, PartialEq, Eq)]
+#[derive(Clone, Copy, PartialEq, Eq)]
 pub struct Failed;
 
 /// A latch of one of the two circuits, by its position there.
-#[derive(Clone, Copy, Debug, PartialEq, Eq)]
+#[derive(Clone, Copy, PartialEq, Eq)]
 pub struct Tag {
     pub side: Side,
     pub latch: u32,
@@ -41,7 +41,7 @@ pub enum PairAnswer {
 }
 
 /// The numbers of the inputs of both circuits, one for each input in its circuit's order.
-#[derive(Debug, Drop)]
+#[derive(Drop)]
 pub struct Orders {
     pub left: Ids,
     pub right: Ids,

@@ -11,7 +11,7 @@ use std::marker::Model;
 
 /// Rows of one byte for each fan-in, each byte `0`, `1` or `-`. With `on` the rows list where the value is 1,
 /// without it where the value is 0; a cover without rows has `on` true, so its value is 0 everywhere.
-#[derive(Debug, Drop)]
+#[derive(Drop)]
 pub struct Cover {
     width: u32,
     rows: Cubes,

@@ -11,16 +11,18 @@ use thiserror::Error;
 /// The bytes of one read.
 const PIECE: usize = 65_536;
 
-/// Why a file wasn't fetched.
+/// Why a file wasn't fetched whole.
 #[derive(Debug, Drop, Error)]
 pub enum FetchError {
-    /// A read of the path failed; its count of faults rose in the call, or stands at the last value of u64.
+    /// A read of the path was answered with `ShelfError::Failed`; the path's count of faults rose in the call by 1 at
+    /// least, or stands at the last value of u64.
     #[error("a read failed")]
     Failed,
-    /// More bytes are held at the path than the limit.
+    /// More bytes are held at the path than the limit of the call, which is a number of bytes.
     #[error("the file is too long")]
     TooLong,
-    /// Memory was wanted and couldn't be had.
+    /// Memory was wanted and couldn't be had: for the 65,536 bytes of one read, for the bytes of the file, or by the
+    /// shelf, which answered `ShelfError::NoMemory`.
     #[error("out of memory")]
     NoMemory,
 }

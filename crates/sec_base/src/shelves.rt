@@ -7,13 +7,15 @@ use std::io::{Read, Seek, SeekFrom};
 use std::rt::Files;
 use std::{fs, io};
 
-/// Why a read failed.
-#[derive(Clone, Copy, Debug, PartialEq, Eq)]
+/// Why a read of a path failed.
+#[derive(Clone, Copy, PartialEq, Eq)]
 pub enum ShelfError {
-    /// The outside failed: the file can't be opened, or its bytes can't be had. The path's count of faults has risen,
-    /// or stands at the last value of u64.
+    /// The outside failed: the file can't be opened, or its bytes can't be had; of real files, each `std::io::Error` of
+    /// another kind than `OutOfMemory`. The path's count of faults has risen by 1 at least, or stands at the last value
+    /// of u64.
     Failed,
-    /// Memory was wanted and couldn't be had. No fault is counted.
+    /// Memory was wanted and couldn't be had; of real files, an `std::io::Error` of the kind `OutOfMemory`. It comes
+    /// without a fault of the outside: real files count none for it.
     NoMemory,
 }
 

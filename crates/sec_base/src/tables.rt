@@ -12,7 +12,7 @@ use std::marker::Model;
 const FULL: usize = u32::MAX as usize;
 
 /// Names in the order in which they first came, each at the number of its place. A contract sees the list of names.
-#[derive(Debug, Drop)]
+#[derive(Drop)]
 pub struct NameTable {
     names: IndexSet<Vec<u8>>,
 }
@@ -147,7 +147,7 @@ impl NameTable {
 
 /// Pairs of numbers in the order in which they first came, each at the number of its place. A contract sees the
 /// list of pairs.
-#[derive(Debug, Drop)]
+#[derive(Drop)]
 pub struct PlaceTable {
     pairs: IndexSet<(u32, u32)>,
 }

@@ -1,2 +1,6 @@
 mod Numbers
 mod Parses
+mod Taken
+mod Leaves
+mod Known
+mod TakenWords

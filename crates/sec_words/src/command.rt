@@ -1,7 +1,7 @@
 //! The command `sec`, made with `clap`.
 
 ghost use Rattle.std.specs.Prelude.{◌≡◌, false, IfOk};
-ghost use Rattle.clap.specs.Words.{rule_of, app_of, with_rule, with_subcommand};
+ghost use Rattle.clap.specs.Words.{Shape, rule_of, app_of, with_rule, with_subcommand};
 ghost use Rattle.clap.specs.declared.builder.command.Command.TheViews.{out-Command};
 ghost use Rattle.sec_words.specs.Command.{place, option, option_with, flag, conflicts, number, check_app, graph_app, sim_app, replay_app, gen_app, top_app, sec_app};
 
@@ -119,21 +119,24 @@ fn top_command<'a>(alloc: Global) -> Command<'a>
         .subcommand_required(true)
 }
 
-/// The command with one subcommand more.
-fn with_command<'a>(command: Command<'a>, sub: Command<'a>) -> Result<Command<'a>, AllocError>
-    requires { (out-Command sub).has_globals ≡ false }
-    ensures { IfOk result (λ c. app_of c ≡ with_subcommand (app_of command.entry) (app_of sub.entry).top) }
+/// The command with one subcommand more, where that could be made.
+fn with_command<'a>(
+    command: Command<'a>,
+    sub: Result<Command<'a>, AllocError>,
+) -> Result<Command<'a>, AllocError>
+    requires { IfOk sub (λ s. (out-Command s).has_globals ≡ false) }
+    ensures { (shape : Shape) → IfOk sub.entry (λ s. (app_of s).top ≡ shape) → IfOk result (λ c. app_of c ≡ with_subcommand (app_of command.entry) shape) }
 {
-    command.subcommand(sub)
+    command.subcommand(sub?)
 }
 
 /// The command `sec` with its subcommands.
 pub(crate) fn sec_command<'a>(alloc: Global) -> Result<Command<'a>, AllocError>
     ensures { IfOk result (λ c. app_of c ≡ sec_app) }
 {
-    let command = with_command(top_command(alloc), check_command(alloc)?)?;
-    let command = with_command(command, graph_command(alloc)?)?;
-    let command = with_command(command, sim_command(alloc)?)?;
-    let command = with_command(command, replay_command(alloc)?)?;
-    with_command(command, gen_command(alloc)?)
+    let command = with_command(top_command(alloc), check_command(alloc))?;
+    let command = with_command(command, graph_command(alloc))?;
+    let command = with_command(command, sim_command(alloc))?;
+    let command = with_command(command, replay_command(alloc))?;
+    with_command(command, gen_command(alloc))
 }

@@ -17,7 +17,7 @@ use sec_base::{FilePath, NoMemory, Seq, Settings, Word};
 use std::alloc::{AllocError, Global};
 
 /// Why the words are no job.
-#[derive(Clone, Copy, Debug, PartialEq, Eq)]
+#[derive(Clone, Copy, PartialEq, Eq)]
 pub enum WordsError {
     /// `clap`'s definition for the command doesn't take the words, or the mode is neither `plain` nor `event`.
     Refused,

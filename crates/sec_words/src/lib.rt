@@ -6,8 +6,10 @@
 
 mod command;
 mod jobs;
+mod laws;
 mod task;
 
 pub use jobs::{WordsError, job};
+pub use laws::{taken_words_are_job, words_are_taken};
 pub use sec_base::Settings;
 pub use task::Task;

@@ -4,7 +4,7 @@ use circuit_theory::Mode;
 use sec_base::{FilePath, Settings, Word};
 
 /// What the words of a command line ask for: a job.
-#[derive(Debug, Drop)]
+#[derive(Drop)]
 pub enum Task {
     /// Compare the circuits of two files.
     Check {

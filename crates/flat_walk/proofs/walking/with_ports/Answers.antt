@@ -1,28 +1,37 @@
-use Rattle.std.proofs.Common.{ℕ, List, [], ◌++◌, map, length, subst, refl}
-use Rattle.flat_walk.specs.Within.{is_within}
-use Rattle.flat_walk.specs.State.{Keeps, AreNamed}
-use Rattle.flat_walk.proofs.Spelled.{keeps_on, keeps_within, list_all_weaker, within_more, named_kept}
+-- The names and the statements are those that were moved out.
+use Rattle.std.proofs.Common.{◌≡◌, ◌≤◌, ℕ, true, List, length, sum_by, sym, ◌∙◌, ap, subst}
+use Rattle.std.specs.List.{list_all}
+use Rattle.sec_base.specs.Table.{AreDistinct}
+use Rattle.flat_walk.specs.declared.flat.FlatStatement.{FlatStatement}
+use Rattle.flat_walk.specs.Within.{is_within, reads_as_kind, written_places}
+use Rattle.flat_walk.specs.State.{ArePortNumbers}
+use Rattle.flat_walk.proofs.Spelled.{keeps_within, list_all_weaker, within_more}
 use Rattle.flat_walk.proofs.Done.{ports_added, numbers_within}
 use Rattle.flat_walk.proofs.walking.with_ports.Goals as goal
 
 pub invariant_of-result : goal.invariant_of-result
 invariant_of-result c =
-    let last : Keeps c.numbers.new.table c.numbers-3.new.table = keeps_on c.numbers.new.table c.numbers-2.new.table c.numbers-3.new.table c.in_ok-clocks.ensures.keeps c.in_ok-outputs.ensures.keeps in
-    let all : Keeps c.args.walked.names c.numbers-3.new.table = keeps_on c.args.walked.names c.numbers.new.table c.numbers-3.new.table c.in_ok-inputs.ensures.keeps last in
+    let before : List (List ℕ) = c.args.walked.now.names in
+    let now : List (List ℕ) = c.replace.result in
+    let is : now ≡ c.port_numbers.new.names = c.replace.ensures.value in
+    let same : c.replace-2.result ≡ c.args.walked.now.statements = c.replace-2.ensures.value in
+    let ports : ArePortNumbers c.args.main.now before now c.in_ok-inputs.inputs c.in_ok-inputs.clocks c.in_ok-inputs.outputs =
+    subst (λ (t : List (List ℕ)). ArePortNumbers c.args.main.now before t c.in_ok-inputs.inputs c.in_ok-inputs.clocks c.in_ok-inputs.outputs) (sym is) c.in_ok-inputs.ensures in
     record {
-      distinct = c.keeps.ensures;
-      inputs_within = numbers_within c.numbers-3.new.table c.in_ok-inputs.inputs (map (λ name. [] ++ name) c.as_slice.result.now) (named_kept c.numbers.new.table c.numbers-3.new.table c.in_ok-inputs.inputs (map (λ name. [] ++ name) c.as_slice.result.now) last c.in_ok-inputs.ensures.named);
-      clocks_within = numbers_within c.numbers-3.new.table c.in_ok-clocks.clocks (map (λ name. [] ++ name) c.as_slice-2.result.now) (named_kept c.numbers-2.new.table c.numbers-3.new.table c.in_ok-clocks.clocks (map (λ name. [] ++ name) c.as_slice-2.result.now) c.in_ok-outputs.ensures.keeps c.in_ok-clocks.ensures.named);
-      outputs_within = numbers_within c.numbers-3.new.table c.in_ok-outputs.outputs (map (λ name. [] ++ name) c.as_slice-3.result.now) c.in_ok-outputs.ensures.named;
-      within = list_all_weaker (is_within (length c.args.walked.names)) (is_within (length c.numbers-3.new.table)) c.args.walked.statements (λ s h. within_more (length c.args.walked.names) (length c.numbers-3.new.table) (keeps_within c.args.walked.names c.numbers-3.new.table all) s h) c.requires.kept.within;
-      shaped = c.requires.shaped;
-      few = c.requires.few;
-      few_places = c.requires.few_places;
+      distinct = subst (λ (t : List (List ℕ)). AreDistinct t) (sym is) c.keeps.ensures;
+      inputs_within = numbers_within now c.in_ok-inputs.inputs c.args.main.now.inputs ports.of_inputs;
+      clocks_within = numbers_within now c.in_ok-inputs.clocks c.args.main.now.clocks ports.of_clocks;
+      outputs_within = numbers_within now c.in_ok-inputs.outputs c.args.main.now.outputs ports.of_outputs;
+      within = list_all_weaker (is_within (length before)) (is_within (length now)) c.replace-2.result (λ s h. within_more (length before) (length now) (keeps_within before now ports.keeps) s h)
+          (subst (λ (ss : List FlatStatement). list_all (is_within (length before)) ss ≡ true) (sym same) c.requires.kept.within);
+      shaped = ap (list_all reads_as_kind) same ∙ c.requires.shaped;
+      few = subst (λ (ss : List FlatStatement). length ss ≤ 400000) (sym same) c.requires.few;
+      few_places = subst (λ (ss : List FlatStatement). sum_by written_places ss ≤ 4000000) (sym same) c.requires.few_places;
     }
 
 pub returns : goal.returns
 returns c =
-    ports_added c.args.main.now c.args.walked _ c.numbers.new.table c.numbers-2.new.table c.requires.kept refl
-    c.in_ok-inputs.ensures.keeps (subst (λ (xs : List (List ℕ)). AreNamed c.numbers.new.table c.in_ok-inputs.inputs (map (λ name. [] ++ name) xs)) c.as_slice.ensures c.in_ok-inputs.ensures.named)
-    c.in_ok-clocks.ensures.keeps (subst (λ (xs : List (List ℕ)). AreNamed c.numbers-2.new.table c.in_ok-clocks.clocks (map (λ name. [] ++ name) xs)) c.as_slice-2.ensures c.in_ok-clocks.ensures.named)
-    c.in_ok-outputs.ensures.keeps (subst (λ (xs : List (List ℕ)). AreNamed c.numbers-3.new.table c.in_ok-outputs.outputs (map (λ name. [] ++ name) xs)) c.as_slice-3.ensures c.in_ok-outputs.ensures.named)
+    let before : List (List ℕ) = c.args.walked.now.names in
+    let ports : ArePortNumbers c.args.main.now before c.replace.result c.in_ok-inputs.inputs c.in_ok-inputs.clocks c.in_ok-inputs.outputs =
+    subst (λ (t : List (List ℕ)). ArePortNumbers c.args.main.now before t c.in_ok-inputs.inputs c.in_ok-inputs.clocks c.in_ok-inputs.outputs) (sym c.replace.ensures.value) c.in_ok-inputs.ensures in
+    ports_added c.args.main.now c.args.walked.now _ c.requires.kept c.replace-2.ensures.value ports

@@ -1,5 +1,5 @@
 -- Each pair's query is one of the graph, and its answer that of the pair.
-use Rattle.std.proofs.Common.{◌≡◌, ◌<◌, ◌∷◌, ◌++◌, Bool, List, [], length, take, slice_get, Option, Some, sym, subst, arith}
+use Rattle.std.proofs.Common.{◌≡◌, ◌<◌, ◌∷◌, ◌++◌, Bool, List, [], length, take, slice_get, Option, Some, refl, sym, subst, arith}
 use Rattle.sec_outcome.specs.declared.outcome.PairResult.{PairResult}
 use Rattle.sec_setup.specs.declared.pairing.SignalPair.{SignalPair}
 use Rattle.sec_setup.specs.Cuts.{is_cut}
@@ -98,6 +98,19 @@ settle-requires-clause-query c =
     let at : slice_get pairs i ≡ Some p = item_at pairs c.as_slice.result.now i p c.as_slice.ensures (subst (λ (ps : List SignalPair). i < length ps) (sym c.as_slice.ensures) c.requires.place) c.index-as_slice-i.is in
     is_query
     (asks_pair a b pairs i p at s.orders.left s.orders.right f c.requires.functions c.index.result.now c.index-2.result.now c.in_ok-query.query c.index.ensures c.index-2.ensures c.keeps-3.ensures.graph c.keeps-4.ensures c.keeps-3.ensures.values c.in_ok-query.ensures)
+
+pub settle-requires-clause-swept : goal.settle-requires-clause-swept
+settle-requires-clause-swept c =
+    let s = c.args.setup.now in
+    let pairs = s.pairs in
+    let f = c.args.functions.now in
+    let i = c.args.i in
+    let p : SignalPair = c.index-as_slice-i.result in
+    let at : slice_get pairs i ≡ Some p = item_at pairs c.as_slice.result.now i p c.as_slice.ensures (subst (λ (ps : List SignalPair). i < length ps) (sym c.as_slice.ensures) c.requires.place) c.index-as_slice-i.is in
+    let left = left_within s.left.now s.right.now pairs i p at s.orders.left s.orders.right f c.requires.functions in
+    let right = right_within s.left.now s.right.now pairs i p at s.orders.left s.orders.right f c.requires.functions in
+    c.requires.swept i c.index.result.now c.index-2.result.now c.in_ok-query.query (item_at f.left.items f.left.items i c.index.result.now refl left c.index.ensures)
+    (item_at f.right.items f.right.items i c.index-2.result.now refl right c.index-2.ensures) c.in_ok-query.ensures
 
 pub put_first-requires-clause-left : goal.put_first-requires-clause-left
 put_first-requires-clause-left c =

@@ -1,5 +1,5 @@
 use Rattle.std.proofs.Common.{◌≤◌}
-use Rattle.sat_search.specs.Trails.{OthersFalse}
+use Rattle.clause_watch.specs.Trails.{OthersFalse}
 use Rattle.sat_search.proofs.analysis.is_alone.Given as goal
 
 abbrev pub invariant-places : goal.invariant-places

@@ -1,7 +1,7 @@
 use Rattle.std.proofs.Common.{◌∙◌, length, arith}
 use Rattle.sat_search.specs.Uniques.{IsUnique, IsReasonStep}
-use Rattle.sat_search.specs.declared.places.Placed.{Placed}
-use Rattle.sat_search.proofs.Lessons.{on_ok}
+use Rattle.clause_watch.specs.declared.places.Placed.{Placed}
+use Rattle.clause_watch.proofs.Lessons.{on_ok}
 use Rattle.sat_search.proofs.Uniques.{literal_at, unique_step}
 use Rattle.sat_search.proofs.shortening.take_away.Goals as goal
 

@@ -1,0 +1,10 @@
+pub mod Following
+pub mod Index
+pub mod Keeping
+pub mod Lessons
+pub mod Lists
+pub mod Literals
+pub mod Loading
+pub mod Pieces
+pub mod Trails
+pub mod Visits

@@ -1,0 +1,9 @@
+pub mod Answers
+pub mod Flat
+pub mod Index
+pub mod Learning
+pub mod Range
+pub mod Rows
+pub mod Trails
+pub mod TwoWatches
+pub mod Watching

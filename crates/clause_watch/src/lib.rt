@@ -1,0 +1,23 @@
+//! Clauses that watch two of their literals, the trail of what was made true, and unit propagation.
+//!
+//! A clause is visited only where a literal that it watches became false (Moskewicz and others, Chaff;
+//! Een and Sorensson, MiniSat). That is enough: where all of the trail is propagated, no clause is false
+//! or forces anything.
+#![tactic(auto)]
+
+mod entry;
+mod learning;
+mod pair;
+mod places;
+mod store;
+mod trail;
+mod watched_clauses;
+mod watchers;
+mod watching;
+
+pub use entry::{Entry, Truth};
+pub use places::Placed;
+pub use store::Store;
+pub use trail::Trail;
+pub use watched_clauses::WatchedClauses;
+pub use watching::Watches;

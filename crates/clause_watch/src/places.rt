@@ -1,0 +1,10 @@
+//! Literals with their places on the trail.
+
+use proof_check::Literal;
+
+/// A literal of a clause, and the place at which it became false.
+#[derive(Clone, Copy, Debug)]
+pub struct Placed {
+    pub literal: Literal,
+    pub place: u32,
+}

@@ -1,0 +1,11 @@
+pub mod AlwaysPair
+pub mod AssumedDifference
+pub mod AssumedPair
+pub mod EventRuns
+pub mod ExposedPair
+pub mod HoldCells
+pub mod Opened
+pub mod Reached
+pub mod Separated
+pub mod SettledReader
+pub mod TwoClasses

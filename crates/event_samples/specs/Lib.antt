@@ -1,0 +1,6 @@
+pub mod Always
+pub mod Assumed
+pub mod Events
+pub mod Premises
+pub mod Reader
+pub mod Samples

@@ -1,0 +1,148 @@
+-- The worked texts are small designs' texts, and what can be done with them.
+use Rattle.std.proofs.Common.{◌≡◌, ℕ, true, List, [], ◌∷◌, filter, refl, sym, ap, ap₂, subst, arith, inl, inr}
+use Rattle.std.specs.Prelude.{codes}
+use Rattle.std.specs.List.{Contains}
+use Rattle.circuit_theory.specs.declared.Side.{Side}
+use Rattle.circuit_theory.specs.Names.{is_among}
+use Rattle.circuit_theory.specs.Depth.{HasCycle}
+use Rattle.circuit_theory.specs.Run.{NoneEnabled}
+use Rattle.circuit_theory.specs.Circuit.{Latch}
+use Rattle.circuit_theory.proofs.Lists.{Contains-head, Contains-tail, Contains-cases}
+use Rattle.blif_lines.specs.Lines.{cut_line, going_on}
+use Rattle.blif_read.specs.Fault.{fault_of}
+use Rattle.blif_read.specs.Heads.{head_of}
+use Rattle.flat_net.specs.View.{NetView, circuit_of}
+use Rattle.flatten.specs.DesignFaults.{IsFlatOf}
+use Rattle.blif_read.specs.declared.design.BlifModel.{BlifModel}
+use Rattle.exposure.specs.Common.{common_names}
+use Rattle.sec_setup.specs.Cycles.{AreBroken}
+use Rattle.sec_check.specs.Compared.{AreTooLarge}
+use Rattle.sec_setup.specs.Cuts.{IsChoice}
+use Rattle.sec_check.specs.Fitting.{IsCutOver}
+use Rattle.sec_files.specs.Loading.{Loads}
+use Rattle.design_rows.specs.Designs as design
+use Rattle.design_rows.specs.Small.{small_and, small_late, small_early, small_two, small_toggle, small_idle, IsSmall}
+use Rattle.design_rows.proofs.Examples.{on_and_is_small, off_and_is_small, late_is_small, early_is_small, hier_is_small, two_is_small, idle_is_small}
+use Rattle.design_rows.proofs.Toggle.{toggle_is_small}
+use Rattle.premise_rows.specs.Texts.{on_and, off_and, late, early, toggle, hier, two, idle}
+use Rattle.premise_rows.specs.Premises.{AndsAreComparable, RetimedAreComparable, HierarchyIsComparable, CyclicAreComparable, TextsAreAccepted, TextsCanBeUnfolded}
+use Rattle.premise_rows.proofs.Comparing.{Spells, accepted, net_is_small, match, comparable, unfolded, latch_in}
+
+pub on_and_spells : Spells on_and design.on_and small_and
+unfolding fault_of head_of cut_line going_on
+on_and_spells = record { short = omega arith; faultless = refl; models_are = refl; small = on_and_is_small }
+
+pub off_and_spells : Spells off_and design.off_and (record small_and { weight = 9 })
+unfolding fault_of head_of cut_line going_on
+off_and_spells = record { short = omega arith; faultless = refl; models_are = refl; small = off_and_is_small }
+
+late_spells : Spells late design.late small_late
+unfolding fault_of head_of cut_line going_on
+late_spells = record { short = omega arith; faultless = refl; models_are = refl; small = late_is_small }
+
+early_spells : Spells early design.early small_early
+unfolding fault_of head_of cut_line going_on
+early_spells = record { short = omega arith; faultless = refl; models_are = refl; small = early_is_small }
+
+hier_spells : Spells hier design.hier small_late
+unfolding fault_of head_of cut_line going_on
+hier_spells = record { short = omega arith; faultless = refl; models_are = refl; small = hier_is_small }
+
+pub two_spells : Spells two design.two small_two
+unfolding fault_of head_of cut_line going_on
+two_spells = record { short = omega arith; faultless = refl; models_are = refl; small = two_is_small }
+
+idle_spells : Spells idle design.idle small_idle
+unfolding fault_of head_of cut_line going_on
+idle_spells = record { short = omega arith; faultless = refl; models_are = refl; small = idle_is_small }
+
+toggle_spells : Spells toggle design.toggle small_toggle
+unfolding fault_of head_of cut_line going_on
+toggle_spells = record { short = omega arith; faultless = refl; models_are = refl; small = toggle_is_small.0 }
+
+pub ands_are_comparable : AndsAreComparable
+ands_are_comparable =
+    comparable on_and off_and design.on_and design.off_and small_and (record small_and { weight = 9 }) on_and_spells off_and_spells (λ own others. refl) refl refl (omega arith) (omega arith)
+
+pub retimed_are_comparable : RetimedAreComparable
+retimed_are_comparable = comparable late early design.late design.early small_late small_early late_spells early_spells (λ own others. refl) refl refl (omega arith) (omega arith)
+
+pub hierarchy_is_comparable : HierarchyIsComparable
+hierarchy_is_comparable = comparable hier early design.hier design.early small_late small_early hier_spells early_spells (λ own others. refl) refl refl (omega arith) (omega arith)
+
+-- the net of the circuit with a cycle, and another of it
+module _ (a b : NetView) (la : Loads toggle a) (lb : Loads toggle b) where
+  left : IsSmall small_toggle a
+  left = net_is_small toggle design.toggle small_toggle toggle_spells a la
+
+  right : IsSmall small_toggle b
+  right = net_is_small toggle design.toggle small_toggle toggle_spells b lb
+
+  cyclic : HasCycle (circuit_of a) NoneEnabled []
+  cyclic = toggle_is_small.1 a (subst (λ (ms : List BlifModel). IsFlatOf ms a) toggle_spells.models_are la.flat)
+
+  common_is : common_names (circuit_of a) (circuit_of b) ≡ codes "q" ∷ []
+  common_is = ap₂ (λ (own others : List (List ℕ)). filter (is_among others) own) left.latches right.latches
+
+  free : AreBroken a b true
+  free =
+      subst (λ (names : List (List ℕ)). (HasCycle (circuit_of a) NoneEnabled names → ⊥) × (HasCycle (circuit_of b) NoneEnabled names → ⊥)) (sym common_is) (left.acyclic [], right.acyclic [])
+
+  only_q : (name : List ℕ) (u next : ℕ) → Contains (circuit_of a).equations (Latch name u next) → codes "q" ≡ name
+  only_q name u next h =
+      elim (Contains-cases (codes "q") name [] (subst (λ (ns : List (List ℕ)). Contains ns name) left.latches (latch_in (circuit_of a).equations name u next h))) [
+        | inl same ↦ same
+        | inr none ↦ absurd (let l = none.1 in omega (arith, l))
+      ]
+
+  -- the one latch is cut open
+  one_name : (names : List (List ℕ)) → IsChoice a b true names → names ≡ codes "q" ∷ []
+  one_name [] choice = absurd (choice.minimal.left_free cyclic)
+  one_name (name ∷ []) choice =
+      let x = choice.minimal.common name (Contains-head name []) in
+      ap (λ (n : List ℕ). n ∷ []) (sym (only_q name x.0 x.1 x.4))
+  one_name (name ∷ other ∷ names) choice =
+      let x = choice.minimal.common other (Contains-tail name other (other ∷ names) (Contains-head other names)) in
+      let same : other ≡ codes "q" = sym (only_q other x.0 x.1 x.4) in
+      absurd (elim (choice.minimal.needed 0 (omega arith)) [
+        | inl h ↦ left.acyclic names (subst (λ (n : List ℕ). HasCycle (circuit_of a) NoneEnabled (n ∷ names)) same h)
+        | inr h ↦ right.acyclic names (subst (λ (n : List ℕ). HasCycle (circuit_of b) NoneEnabled (n ∷ names)) same h)
+      ])
+
+  light : (side : Side) → AreTooLarge a b true side → ⊥
+  light side (AreTooLarge.left {names = names} choice order over) =
+      let h = left.light 2000000 (subst (λ (ns : List (List ℕ)). IsCutOver ns (circuit_of a)) (one_name names choice) over) in
+      omega (arith, h)
+  light side (AreTooLarge.right {names = names} choice order fine over) =
+      let h = right.light 2000000 (subst (λ (ns : List (List ℕ)). IsCutOver ns (circuit_of b)) (one_name names choice) over) in
+      omega (arith, h)
+
+pub cyclic_are_comparable : CyclicAreComparable
+cyclic_are_comparable = record {
+  left = accepted toggle design.toggle small_toggle toggle_spells;
+  right = accepted toggle design.toggle small_toggle toggle_spells;
+  match = λ a b la lb. match small_toggle small_toggle a b (left a b la lb) (right a b la lb) (λ own others. refl);
+  broken = λ a b la lb. free a b la lb;
+  light = λ a b la lb. light a b la lb;
+}
+
+pub texts_are_accepted : TextsAreAccepted
+texts_are_accepted = (
+  accepted on_and design.on_and small_and on_and_spells,
+  accepted off_and design.off_and (record small_and { weight = 9 }) off_and_spells,
+  accepted late design.late small_late late_spells,
+  accepted early design.early small_early early_spells,
+  accepted toggle design.toggle small_toggle toggle_spells,
+  accepted hier design.hier small_late hier_spells,
+  accepted two design.two small_two two_spells,
+)
+
+pub texts_can_be_unfolded : TextsCanBeUnfolded
+texts_can_be_unfolded = (
+  unfolded on_and design.on_and small_and on_and_spells refl (omega arith),
+  unfolded late design.late small_late late_spells refl (omega arith),
+  unfolded early design.early small_early early_spells refl (omega arith),
+  unfolded hier design.hier small_late hier_spells refl (omega arith),
+  unfolded two design.two small_two two_spells refl (omega arith),
+  unfolded idle design.idle small_idle idle_spells refl (omega arith),
+)

@@ -1,0 +1,9 @@
+pub mod Comparing
+pub mod Examples
+pub mod NoLimit
+pub mod OneNets
+pub mod OneReport
+pub mod OneText
+pub mod OneTextRuns
+pub mod Ring
+pub mod Stimuli

@@ -1,0 +1,107 @@
+-- A run that compares a text with itself ends equal, or at want of memory.
+use Rattle.std.proofs.Common.{◌≡◌, ℕ, List, Option, Some, None, refl, sym, subst}
+use Rattle.std.specs.Prelude.{IfSome, IsSomeAnd, Ok}
+use Rattle.pair_decide.specs.declared.query.Proof.{Proof}
+use Rattle.flat_net.specs.View.{NetView}
+use Rattle.sec_words.specs.declared.task.Task.{Task}
+use Rattle.sec_words.specs.declared.task.Task.TheVariants as task
+use Rattle.sec_outcome.specs.declared.outcome.Outcome.{Outcome}
+use Rattle.sec_outcome.specs.declared.outcome.Verdict.{Verdict}
+use Rattle.sec_outcome.specs.declared.outcome.Verdict.TheVariants as verdict
+use Rattle.sec_check.specs.Compared.{Compared}
+use Rattle.sec_files.specs.Loading.{Loads}
+use Rattle.sec_run.specs.declared.finding.Finding.{Finding}
+use Rattle.sec_run.specs.declared.finding.Finding.TheVariants as finding
+use Rattle.sec_run.specs.declared.status.StatusName.{StatusName}
+use Rattle.sec_run.specs.declared.status.StatusName.TheVariants as status
+use Rattle.sec_run.specs.Answer.{Held, AreComparable, CanAnswer, EndsAs, IsAnswer, IsFinding, IsFoundOf, OfNets, WhereBuilt, status_of, verdict_status}
+use Rattle.sec_run.specs.Job.{Check, check_of, OfCheck}
+use Rattle.premise_rows.specs.OneText.{OfOneText, IsEqualAnswer}
+use Rattle.premise_rows.proofs.OneText.{one_text_is_equal}
+
+-- what is said of the text that both paths of the comparison hold
+abbrev pub CanMeetItself : Held → Check → Type 0
+CanMeetItself held check = OfOneText held check (λ x. AreComparable x x check.settings.expose)
+
+-- the text that both paths hold
+record IsHeld (held : Held) (check : Check) : Type 0 where
+  pub text : List ℕ
+  pub left_is : held check.left ≡ Some text
+  pub right_is : held check.right ≡ Some text
+  pub comparable : AreComparable text text check.settings.expose
+
+is_held : (held : Held) (check : Check) → CanMeetItself held check → IsHeld held check
+is_held held check h = by (held check.left) h (λ text e. e)
+  where
+    by : (o : Option (List ℕ)) → IsSomeAnd o (λ x. (held check.right ≡ Some x) × AreComparable x x check.settings.expose) → ((text : List ℕ) → o ≡ Some text → held check.left ≡ Some text) → IsHeld held check
+    by None k is = absurd k
+    by (Some text) k is = record { text = text; left_is = is text refl; right_is = k.0; comparable = k.1 }
+
+some_held : {X : Type 0} (o : Option X) (P : X → Type 0) (x : X) → o ≡ Some x → P x → IsSomeAnd o P
+some_held {X} o P x e h = let Q : Option X → Type 0 = λ p. IsSomeAnd p P in subst Q (sym e) h
+
+if_held : {X : Type 0} (o : Option X) (P : X → Type 0) (x : X) → o ≡ Some x → IfSome o P → P x
+if_held {X} o P x e h = let Q : Option X → Type 0 = λ p. IfSome p P in subst Q e h
+
+-- so both texts are told, and can be compared
+can_answer : (held : Held) (check : Check) → CanMeetItself held check → CanAnswer held check
+can_answer held check h =
+    let x = is_held held check h in
+    some_held (held check.left) (λ left. IsSomeAnd (held check.right) (λ right. AreComparable left right check.settings.expose)) x.text x.left_is
+    (some_held (held check.right) (λ right. AreComparable x.text right check.settings.expose) x.text x.right_is x.comparable)
+
+module _ (held : Held) (check : Check) (h : CanMeetItself held check) where
+  checked : (o : Outcome) → OfNets held check (λ a b. Compared a b check.settings (Ok o)) → o.verdict ≡ verdict.Equal
+  checked o found =
+      let x = is_held held check h in
+      let n = if_held (held check.right) (λ right. (a : NetView) × (b : NetView) × Loads x.text a × Loads right b × Compared a b check.settings (Ok o)) x.text x.right_is
+      (if_held (held check.left) (λ left. IfSome (held check.right) (λ right. (a : NetView) × (b : NetView) × Loads left a × Loads right b × Compared a b check.settings (Ok o))) x.text x.left_is found) in
+      one_text_is_equal x.text n.0 n.1 n.2 n.3 check.settings o n.4
+
+  found_equal : (f : Finding) → IsFoundOf held check f → IsAnswer (status_of f) → IsEqualAnswer (status_of f)
+  found_equal finding.Words found is = absurd found
+  found_equal (finding.Refused r) found is = absurd is
+  found_equal (finding.Cyclic side names) found is = absurd is
+  found_equal (finding.Unpaired side names) found is = absurd is
+  found_equal (finding.Checked o s) found is = subst (λ (v : Verdict). IsEqualAnswer (verdict_status v)) (sym (checked o found.1)) tt
+  found_equal (finding.Done report) found is = absurd found
+
+-- what is found of a job
+job_equal : (held : Held) (job : Option Task) (f : Finding) → OfCheck job (CanMeetItself held) → IsFinding held job f → IsAnswer (status_of f) → IsEqualAnswer (status_of f)
+job_equal held None f can found is = absurd can
+job_equal held (Some (task.Check a b settings)) f can found is = go (check_of (task.Check a b settings)) can found
+  where
+    go : (o : Option Check) → IsSomeAnd o (CanMeetItself held) → WhereBuilt f o (λ check. IsFoundOf held check f) → IsEqualAnswer (status_of f)
+    go None can h = absurd can
+    go (Some check) can h = found_equal held check can f h is
+job_equal held (Some (task.Graph a mode)) f can found is = absurd can
+job_equal held (Some (task.Sim a s mode power)) f can found is = absurd can
+job_equal held (Some (task.Replay a b s mode)) f can found is = absurd can
+job_equal held (Some (task.Gen seed regroup conflicts)) f can found is = absurd can
+
+-- a job over one text is one that can be answered
+pub can_be_answered : (held : Held) (job : Option Task) → OfCheck job (CanMeetItself held) → OfCheck job (CanAnswer held)
+can_be_answered held None can = absurd can
+can_be_answered held (Some (task.Check a b settings)) can = go (check_of (task.Check a b settings)) can
+  where
+    go : (o : Option Check) → IsSomeAnd o (CanMeetItself held) → IsSomeAnd o (CanAnswer held)
+    go None can = absurd can
+    go (Some check) can = can_answer held check can
+can_be_answered held (Some (task.Graph a mode)) can = absurd can
+can_be_answered held (Some (task.Sim a s mode power)) can = absurd can
+can_be_answered held (Some (task.Replay a b s mode)) can = absurd can
+can_be_answered held (Some (task.Gen seed regroup conflicts)) can = absurd can
+
+-- the run ends equal, or at want of memory
+pub ends_equal : (held : Held) (before now : Option (List ℕ)) (job : Option Task) (proofs : List Proof) (name : StatusName) → EndsAs before now held job proofs name → OfCheck job (CanMeetItself held) → IsAnswer name → IsEqualAnswer name
+ends_equal held before now job proofs status.Equal ends can is = tt
+ends_equal held before now job proofs status.NoMemory ends can is = tt
+ends_equal held before now job proofs status.Different ends can is = subst IsEqualAnswer ends.3 (job_equal held job ends.0 can ends.1 (subst IsAnswer (sym ends.3) is))
+ends_equal held before now job proofs status.NotShown ends can is = subst IsEqualAnswer ends.3 (job_equal held job ends.0 can ends.1 (subst IsAnswer (sym ends.3) is))
+ends_equal held before now job proofs status.Limit ends can is = subst IsEqualAnswer ends.3 (job_equal held job ends.0 can ends.1 (subst IsAnswer (sym ends.3) is))
+ends_equal held before now job proofs status.Refused ends can is = absurd is
+ends_equal held before now job proofs status.Words ends can is = absurd is
+ends_equal held before now job proofs status.ReadFault ends can is = absurd is
+ends_equal held before now job proofs status.WriteFault ends can is = absurd is
+ends_equal held before now job proofs status.Cyclic ends can is = absurd is
+ends_equal held before now job proofs status.Done ends can is = absurd is

@@ -1,0 +1,7 @@
+pub mod Texts
+pub mod Premises
+pub mod RuledOut
+pub mod Stimuli
+pub mod TextNets
+pub mod OneText
+pub mod OneReport

@@ -1,0 +1,38 @@
+-- What is answered where a text is compared with itself.
+use Rattle.std.specs.Prelude.{◌≡◌, ℕ, Bool, List, [], Some, IsSomeAnd}
+use Rattle.flat_net.specs.View.{NetView, circuit_of}
+use Rattle.sec_base.specs.declared.settings.Settings.{Settings}
+use Rattle.sec_outcome.specs.declared.outcome.Verdict.TheVariants as verdict
+use Rattle.sec_outcome.specs.declared.outcome.Outcome.{Outcome}
+use Rattle.sec_setup.specs.Cycles.{IsAcyclic}
+use Rattle.sec_check.specs.Compared.{IsCompared}
+use Rattle.sec_check.specs.Fitting.{IsCutOver}
+use Rattle.sec_files.specs.Loading.{IsAccepted, Loads}
+use Rattle.sec_run.specs.declared.status.StatusName.{StatusName}
+use Rattle.sec_run.specs.declared.status.StatusName.TheVariants as status
+use Rattle.sec_run.specs.Job.{Check}
+use Rattle.sec_run.specs.Answer.{Held, AreComparable}
+
+-- Two nets that one text loads as are equal wherever they are compared, however few conflicts are allowed.
+abbrev pub OneTextIsEqual : Type 0
+OneTextIsEqual = (text : List ℕ) (a b : NetView) → Loads text a → Loads text b → (settings : Settings) (o : Outcome) → IsCompared a b settings o → o.verdict ≡ verdict.Equal
+
+-- The text is accepted, no latch of its net lies on a cycle, and the unfoldings of its outputs weigh at most 2,000,000 together.
+pub record CanBeUnfolded (text : List ℕ) : Type 0 where
+  pub accepted : IsAccepted text
+  pub acyclic : (net : NetView) → Loads text net → IsAcyclic net
+  pub light : (net : NetView) → Loads text net → IsCutOver [] (circuit_of net) → ⊥
+
+-- Such a text can be compared with itself, whether latches may be cut open or not.
+abbrev pub UnfoldedIsComparable : Type 0
+UnfoldedIsComparable = (text : List ℕ) → CanBeUnfolded text → (expose : Bool) → AreComparable text text expose
+
+-- what is said of a text that is held at both paths
+abbrev pub OfOneText : Held → Check → (List ℕ → Type 0) → Type 0
+OfOneText held check P = IsSomeAnd (held check.left) (λ x. (held check.right ≡ Some x) × P x)
+
+-- equal, or want of memory
+abbrev pub IsEqualAnswer : StatusName → Type 0
+IsEqualAnswer status.Equal = Unit {0}
+IsEqualAnswer status.NoMemory = Unit {0}
+IsEqualAnswer other = ⊥

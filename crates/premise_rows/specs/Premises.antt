@@ -1,0 +1,36 @@
+-- Texts that meet the premises of what is promised of comparisons, latch graphs and simulations.
+use Rattle.std.specs.Prelude.{ℕ, ◌≤◌, Bool, true, List, length}
+use Rattle.flat_net.specs.View.{NetView}
+use Rattle.sec_setup.specs.Cuts.{IsChoice}
+use Rattle.sec_run.specs.Answer.{AreComparable}
+use Rattle.sec_files.specs.Loading.{IsAccepted, Loads}
+use Rattle.premise_rows.specs.OneText.{CanBeUnfolded}
+use Rattle.premise_rows.specs.Texts.{on_and, off_and, late, early, toggle, hier, two, idle, ring}
+
+-- two ands, whether latches may be cut open or not
+abbrev pub AndsAreComparable : Type 0
+AndsAreComparable = (expose : Bool) → AreComparable on_and off_and expose
+
+-- a circuit and the same retimed
+abbrev pub RetimedAreComparable : Type 0
+RetimedAreComparable = (expose : Bool) → AreComparable late early expose
+
+-- a hierarchical circuit and a flat one
+abbrev pub HierarchyIsComparable : Type 0
+HierarchyIsComparable = (expose : Bool) → AreComparable hier early expose
+
+-- a circuit with a cycle of latches and itself, where latches may be cut open
+abbrev pub CyclicAreComparable : Type 0
+CyclicAreComparable = AreComparable toggle toggle true
+
+-- all of them are accepted, as a latch graph asks for
+abbrev pub TextsAreAccepted : Type 0
+TextsAreAccepted = IsAccepted on_and × IsAccepted off_and × IsAccepted late × IsAccepted early × IsAccepted toggle × IsAccepted hier × IsAccepted two
+
+-- those without a cycle can be unfolded, and so be compared with themselves; among them is one whose latch feeds no output
+abbrev pub TextsCanBeUnfolded : Type 0
+TextsCanBeUnfolded = CanBeUnfolded on_and × CanBeUnfolded late × CanBeUnfolded early × CanBeUnfolded hier × CanBeUnfolded two × CanBeUnfolded idle
+
+-- of two latches that take over each other at most one is cut open
+abbrev pub RingIsCutOnce : Type 0
+RingIsCutOnce = (a b : NetView) → Loads ring a → Loads ring b → (names : List (List ℕ)) → IsChoice a b true names → length names ≤ 1

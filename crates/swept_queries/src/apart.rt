@@ -1,0 +1,61 @@
+//! Queries that a simulation tells apart.
+
+ghost use Rattle.std.specs.Prelude.{◌≡◌, ◌*◌, ◌/◌, ◌%◌, ◌<◌, ◌==◌, Bool, [], length, slice_index_or, IfSome};
+ghost use Rattle.lane_eval.specs.Blocks.{block_bit, turned};
+ghost use Rattle.swept_queries.specs.InStead.{AreWithin};
+ghost use Rattle.swept_queries.specs.Lanes.{TellsApart, lit_lane};
+
+use crate::sides::Sides;
+use aig::Lit;
+use lane_eval::SignatureTable;
+
+/// An assignment that meets the care and tells the sides apart, if there is one among those of the table.
+pub(crate) fn lane_apart(table: &SignatureTable, sides: &Sides) -> Option<u32>
+    requires { AreWithin table.now sides.now }
+    ensures { IfSome result (TellsApart table.now sides.now) }
+{
+    if !are_told_apart(table, sides) {
+        return None;
+    }
+    for k in 0..512u32 {
+        if lane_bit(table, sides.care, k)
+            && lane_bit(table, sides.left, k) != lane_bit(table, sides.right, k)
+        {
+            return Some(k);
+        }
+    }
+    None
+}
+
+/// Whether one of the assignments tells the sides apart. It is quick, and no clause says so.
+fn are_told_apart(table: &SignatureTable, sides: &Sides) -> bool
+    requires { AreWithin table.now sides.now }
+{
+    let left = table.block(sides.left.0 / 2);
+    let right = table.block(sides.right.0 / 2);
+    let care = table.block(sides.care.0 / 2);
+    let flip_sides = flipping((sides.left.0 ^ sides.right.0) % 2 == 1);
+    let flip_care = flipping(sides.care.0 % 2 == 1);
+    for i in 0..8 {
+        if (left[i] ^ right[i] ^ flip_sides) & (care[i] ^ flip_care) != 0 {
+            return true;
+        }
+    }
+    false
+}
+
+/// The word that complements one, or leaves it.
+fn flipping(flip: bool) -> u64 {
+    if flip { u64::MAX } else { 0 }
+}
+
+/// The literal's value under the assignment of this number.
+fn lane_bit(table: &SignatureTable, l: Lit, k: u32) -> bool
+    requires literal { l.0 < 2 * length table.now }
+    requires lane { k < 512 }
+    ensures { result ≡ lit_lane table.now l.0 k }
+{
+    let block = table.block(l.0 / 2);
+    let bit = (block[(k / 64) as usize] >> (k % 64)) % 2 == 1;
+    if l.0 % 2 == 1 { !bit } else { bit }
+}

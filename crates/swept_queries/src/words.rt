@@ -1,0 +1,53 @@
+//! Random words, eight for each variable: bit k of them is the variable's bit under assignment k.
+
+ghost use Rattle.std.specs.Prelude.{◌≡◌, ◌*◌, length, slice_index, IfOk};
+ghost use Rattle.lane_eval.specs.Signatures.{word_lane};
+ghost use Rattle.swept_queries.specs.Lanes.{lane_bits};
+
+use rand_core::{Rng, SeedableRng};
+use rand_xoshiro::Xoshiro256PlusPlus;
+use sec_base::{Bits, NoMemory};
+use std::alloc::Global;
+
+/// Eight words for each of so many variables, the same at each call.
+pub(crate) fn seeded_words(alloc: Global, variables: u32) -> Result<Vec<u64>, NoMemory>
+    ensures { IfOk result (λ words. length words.items ≡ 8 * variables) }
+{
+    let mut generator = Xoshiro256PlusPlus::seed_from_u64(1);
+    let mut words = Vec::new(alloc);
+    for _n in 0..8 * (variables as usize) {
+        words.push(generator.next_u64())?;
+    }
+    Ok(words)
+}
+
+/// The bits of these variables under the assignment of this number.
+pub(crate) fn bits_at(
+    alloc: Global,
+    words: &[u64],
+    vars: &[u32],
+    lane: u32,
+) -> Result<Bits, NoMemory>
+    ensures { IfOk result (λ bits. bits ≡ lane_bits words.now vars.now lane) }
+{
+    let mut bits = Bits::new(alloc);
+    for v in vars {
+        bits.push(bit_at(words, *v, lane))?;
+    }
+    Ok(bits)
+}
+
+/// The bit of the variable.
+fn bit_at(words: &[u64], v: u32, lane: u32) -> bool
+    ensures { result ≡ word_lane words.now lane v }
+{
+    let place = 8 * (v as usize) + (lane / 64) as usize;
+    (word_at(words, place) >> (lane % 64)) % 2 == 1
+}
+
+/// The word at the place, or 0 behind the last one.
+fn word_at(words: &[u64], place: usize) -> u64
+    ensures { result ≡ slice_index words.now place }
+{
+    if place < words.len() { words[place] } else { 0 }
+}
