@@ -1,8 +1,15 @@
--- Where a circuit is accepted, and a stimulus and a power word fit it, a run ends with the report, or at want of memory.
+-- Where a circuit can be reported on, and a stimulus and a power word fit it, a run ends with the report, or at want of memory, in the
+-- event mode also at the limit of a query.
 use Rattle.std.proofs.Common.{◌≡◌, ℕ, Bool, List, refl, sym, ◌∙◌, subst, ap, arith, Option, Some, None}
 use Rattle.std.specs.Prelude.{IsSomeAnd}
-use Rattle.std.proofs.lemmas.Option.{none-some}
+use Rattle.std.proofs.lemmas.Option.{none-some, same_Some}
+use Rattle.circuit_theory.specs.declared.Mode.{Mode}
+use Rattle.circuit_theory.specs.declared.Mode.TheVariants.{Plain, Event}
 use Rattle.circuit_theory.specs.declared.Side.TheVariants.{A, B}
+use Rattle.flat_net.specs.View.{NetView}
+use Rattle.latch_kinds.specs.declared.kinds.KindsError.TheVariants as kinds_error
+use Rattle.circuit_jobs.specs.Jobs.{IsUnknown}
+use Rattle.circuit_jobs.proofs.Ended.{large_or_light}
 use Rattle.pair_decide.specs.declared.query.Proof.{Proof}
 use Rattle.witness_report.specs.Form.{IsForm, HasNoHeader, IsBadRow}
 use Rattle.witness_report.proofs.Forms.{form_lines, one_form, no_bad_line}
@@ -16,10 +23,10 @@ use Rattle.sec_run.specs.declared.finding.Finding.{Finding}
 use Rattle.sec_run.specs.declared.finding.Finding.TheVariants as finding
 use Rattle.sec_run.specs.declared.status.StatusName.{StatusName}
 use Rattle.sec_run.specs.declared.status.StatusName.TheVariants as status
-use Rattle.sec_run.specs.Job.{Sim, graph_of, sim_of, OfGraph, OfSim}
+use Rattle.sec_run.specs.Job.{Graph, Sim, IfGraph, IfSim}
 use Rattle.sec_files.specs.Stimuli.{IsStimulus, HasBadHeader, HasBadRow}
-use Rattle.sec_run.specs.Reports.{IsCircuitRefusal, IsGraphFound, IsSimRefusal, IsSimFound, CanBeRun}
-use Rattle.sec_run.specs.Answer.{Held, WhereBuilt, IsFinding, CanSimulate, IsDone, EndsAs, status_of}
+use Rattle.sec_run.specs.Reports.{IsCircuitRefusal, IsGraphRefusal, IsGraphFound, IsSimRefusal, IsSimFound, CanBeTold, CanBeRun}
+use Rattle.sec_run.specs.Answer.{Held, IsFinding, CanTell, CanSimulate, IsReported, EndsAs, status_of}
 use Rattle.sec_run.proofs.Complete.{some_and, if_told}
 
 -- a form has a header and no bad row, and a text is the form of one stimulus alone
@@ -51,17 +58,40 @@ module _ (circuit : Option (List ℕ)) (x : List ℕ) (is : circuit ≡ Some x) 
   circuit_stands (refusal.BadRow line) h = h
   circuit_stands (refusal.Misfit m) h = h
 
-  graph_done : (f : Finding) → IsGraphFound circuit f → IsDone (status_of f)
-  graph_done finding.Words h = absurd h
-  graph_done (finding.Refused r) h = absurd (circuit_stands r h)
-  graph_done (finding.Cyclic side names) h = absurd h
-  graph_done (finding.Unpaired side names) h = absurd h
-  graph_done (finding.Checked o s) h = absurd h
-  graph_done (finding.Done report) h = tt
+-- in the plain mode no query of a latch has met the limit
+limit_reported : (mode : Mode) (n : NetView) (name : List ℕ) (proof : Proof) → IsUnknown mode n (kinds_error.Limit name proof) → IsReported mode status.Limit
+limit_reported Plain n name proof unknown = absurd unknown
+limit_reported Event n name proof unknown = refl
+
+-- a circuit that can be reported on is not refused
+module _ (mode : Mode) (circuit : Option (List ℕ)) (x : List ℕ) (is : circuit ≡ Some x) (can : CanBeTold mode x) where
+  graph_stands : (r : Refusal) → IsGraphRefusal mode circuit r → ⊥
+  graph_stands (refusal.TooLarge A) h =
+      let loads : Loads x h.net = if_told circuit (λ t. Loads t h.net) x is h.loads in
+      large_or_light mode h.net loads.flat.sound h.unknown (can.light h.net loads)
+  graph_stands (refusal.TooLarge B) h = h
+  graph_stands (refusal.TooLong side) h = circuit_stands circuit x is can.circuit (refusal.TooLong side) h
+  graph_stands (refusal.Text side line kind) h = circuit_stands circuit x is can.circuit (refusal.Text side line kind) h
+  graph_stands (refusal.Design side fault) h = circuit_stands circuit x is can.circuit (refusal.Design side fault) h
+  graph_stands refusal.NotBuilt h = h
+  graph_stands (refusal.Interface name) h = h
+  graph_stands refusal.StimulusTooLong h = h
+  graph_stands (refusal.BadHeader line) h = h
+  graph_stands (refusal.BadRow line) h = h
+  graph_stands (refusal.Misfit m) h = h
+
+  graph_reported : (f : Finding) → IsGraphFound mode circuit f → IsReported mode (status_of f)
+  graph_reported finding.Words h = absurd h
+  graph_reported (finding.Refused r) h = absurd (graph_stands r h)
+  graph_reported (finding.Cyclic side names) h = absurd h
+  graph_reported (finding.Unpaired side names) h = absurd h
+  graph_reported (finding.Checked o s) h = absurd h
+  graph_reported (finding.Done report) h = tt
+  graph_reported (finding.Undecided name proof) h = limit_reported mode h.net name proof h.unknown
 
 -- nor is a stimulus that fits it
-module _ (circuit stimulus power : Option (List ℕ)) (x y : List ℕ) (is : circuit ≡ Some x) (told : stimulus ≡ Some y) (can : CanBeRun x y power) where
-  run_stands : (r : Refusal) → IsSimRefusal circuit stimulus power r → ⊥
+module _ (mode : Mode) (circuit stimulus power : Option (List ℕ)) (x y : List ℕ) (is : circuit ≡ Some x) (told : stimulus ≡ Some y) (can : CanBeRun mode x y power) where
+  run_stands : (r : Refusal) → IsSimRefusal mode circuit stimulus power r → ⊥
   run_stands refusal.StimulusTooLong h = let long : IsTooLong y = if_told stimulus IsTooLong y told h.1 in omega (arith, can.stimulus.short)
   run_stands (refusal.BadHeader line) h = has_header y can.names can.rows can.stimulus.form (if_told stimulus (λ t. HasBadHeader t line) y told h.1).no_header
   run_stands (refusal.BadRow line) h = no_bad_row y can.names can.rows line can.stimulus.form (if_told stimulus (λ t. HasBadRow t line) y told h.1).bad_row
@@ -75,63 +105,60 @@ module _ (circuit stimulus power : Option (List ℕ)) (x y : List ℕ) (is : cir
   run_stands (refusal.Text side line kind) h = circuit_stands circuit x is can.circuit (refusal.Text side line kind) h
   run_stands (refusal.Design side fault) h = circuit_stands circuit x is can.circuit (refusal.Design side fault) h
   run_stands (refusal.Interface name) h = h
-  run_stands (refusal.TooLarge side) h = h
+  run_stands (refusal.TooLarge A) h =
+      let loads : Loads x h.net = if_told circuit (λ t. Loads t h.net) x is h.loads in
+      large_or_light mode h.net loads.flat.sound h.unknown (can.light h.net loads)
+  run_stands (refusal.TooLarge B) h = h
 
-  run_done : (f : Finding) → IsSimFound circuit stimulus power f → IsDone (status_of f)
-  run_done finding.Words h = absurd h
-  run_done (finding.Refused r) h = absurd (run_stands r h)
-  run_done (finding.Cyclic side names) h = absurd h
-  run_done (finding.Unpaired side names) h = absurd h
-  run_done (finding.Checked o s) h = absurd h
-  run_done (finding.Done report) h = tt
+  run_reported : (f : Finding) → IsSimFound mode circuit stimulus power f → IsReported mode (status_of f)
+  run_reported finding.Words h = absurd h
+  run_reported (finding.Refused r) h = absurd (run_stands r h)
+  run_reported (finding.Cyclic side names) h = absurd h
+  run_reported (finding.Unpaired side names) h = absurd h
+  run_reported (finding.Checked o s) h = absurd h
+  run_reported (finding.Done report) h = tt
+  run_reported (finding.Undecided name proof) h = limit_reported mode h.net name proof h.unknown
 
--- the finding of a job whose circuit is accepted
-graph_finding : (held : Held) (job : Option Task) → OfGraph job (λ path. IsSomeAnd (held path) IsAccepted) → (f : Finding) → IsFinding held job f → IsDone (status_of f)
-graph_finding held None can f found = absurd can
-graph_finding held (Some (task.Graph a mode)) can f found = go (graph_of (task.Graph a mode)) can found
-  where
-    go : (o : Option (List ℕ)) → IsSomeAnd o (λ path. IsSomeAnd (held path) IsAccepted) → WhereBuilt f o (λ path. IsGraphFound (held path) f) → IsDone (status_of f)
-    go None can h = absurd can
-    go (Some path) can h = let x = some_and (held path) IsAccepted can in graph_done (held path) x.0 x.1 x.2 f h
-graph_finding held (Some (task.Check a b settings)) can f found = absurd can
-graph_finding held (Some (task.Sim a s mode power)) can f found = absurd can
-graph_finding held (Some (task.Replay a b s mode)) can f found = absurd can
-graph_finding held (Some (task.Gen seed regroup conflicts)) can f found = absurd can
+-- so the run ends with the report, at the limit, or at want of memory
+ends_reported : (mode : Mode) (held : Held) (before now : Option (List ℕ)) (job : Option Task) (proofs : List Proof) (name : StatusName) → EndsAs before now held job proofs name →
+    (name ≡ status.ReadFault → ⊥) → (name ≡ status.WriteFault → ⊥) → ((f : Finding) → IsFinding held job f → IsReported mode (status_of f)) → IsReported mode name
+ends_reported mode held before now job proofs status.Done ends read write can = tt
+ends_reported mode held before now job proofs status.NoMemory ends read write can = tt
+ends_reported mode held before now job proofs status.ReadFault ends read write can = absurd (read refl)
+ends_reported mode held before now job proofs status.WriteFault ends read write can = absurd (write refl)
+ends_reported mode held before now job proofs status.Equal ends read write can = subst (IsReported mode) ends.3 (can ends.0 ends.1)
+ends_reported mode held before now job proofs status.Different ends read write can = subst (IsReported mode) ends.3 (can ends.0 ends.1)
+ends_reported mode held before now job proofs status.NotShown ends read write can = subst (IsReported mode) ends.3 (can ends.0 ends.1)
+ends_reported mode held before now job proofs status.Limit ends read write can = subst (IsReported mode) ends.3 (can ends.0 ends.1)
+ends_reported mode held before now job proofs status.Refused ends read write can = subst (IsReported mode) ends.3 (can ends.0 ends.1)
+ends_reported mode held before now job proofs status.Words ends read write can = subst (IsReported mode) ends.3 (can ends.0 ends.1)
+ends_reported mode held before now job proofs status.Cyclic ends read write can = subst (IsReported mode) ends.3 (can ends.0 ends.1)
 
-sim_finding : (held : Held) (job : Option Task) → OfSim job (CanSimulate held) → (f : Finding) → IsFinding held job f → IsDone (status_of f)
-sim_finding held None can f found = absurd can
-sim_finding held (Some (task.Sim a s mode power)) can f found = go (sim_of (task.Sim a s mode power)) can found
-  where
-    go : (o : Option Sim) → IsSomeAnd o (CanSimulate held) → WhereBuilt f o (λ sim. IsSimFound (held sim.circuit) (held sim.stimulus) sim.power f) → IsDone (status_of f)
-    go None can h = absurd can
-    go (Some sim) can h =
-        let x = some_and (held sim.circuit) (λ t. IsSomeAnd (held sim.stimulus) (λ y. CanBeRun t y sim.power)) can in
-        let y = some_and (held sim.stimulus) (λ t. CanBeRun x.0 t sim.power) x.2 in
-        run_done (held sim.circuit) (held sim.stimulus) sim.power x.0 y.0 x.1 y.1 y.2 f h
-sim_finding held (Some (task.Check a b settings)) can f found = absurd can
-sim_finding held (Some (task.Graph a mode)) can f found = absurd can
-sim_finding held (Some (task.Replay a b s mode)) can f found = absurd can
-sim_finding held (Some (task.Gen seed regroup conflicts)) can f found = absurd can
+pub graph_ends_reported : (held : Held) (before now : Option (List ℕ)) (job : Option Task) (proofs : List Proof) (name : StatusName) → EndsAs before now held job proofs name →
+    IfGraph job (λ graph. CanTell held graph → (name ≡ status.ReadFault → ⊥) → (name ≡ status.WriteFault → ⊥) → IsReported graph.mode name)
+graph_ends_reported held before now None proofs name ends graph e = absurd (none-some graph e)
+graph_ends_reported held before now (Some (task.Graph a mode)) proofs name ends graph e = λ can read write.
+    let own : Graph = record { circuit = a; mode = mode } in
+    let same : own ≡ graph = same_Some own graph e in
+    let x = some_and (held a) (CanBeTold mode) (subst (λ (g : Graph). CanTell held g) (sym same) can) in
+    subst (λ (g : Graph). IsReported g.mode name) same
+    (ends_reported mode held before now (Some (task.Graph a mode)) proofs name ends read write (λ f found. graph_reported mode (held a) x.0 x.1 x.2 f found))
+graph_ends_reported held before now (Some (task.Check a b settings)) proofs name ends graph e = absurd (none-some graph e)
+graph_ends_reported held before now (Some (task.Sim a s mode power)) proofs name ends graph e = absurd (none-some graph e)
+graph_ends_reported held before now (Some (task.Replay a b s mode)) proofs name ends graph e = absurd (none-some graph e)
+graph_ends_reported held before now (Some (task.Gen seed regroup conflicts)) proofs name ends graph e = absurd (none-some graph e)
 
--- so the run ends with the report, or at want of memory
-ends_done : (held : Held) (before now : Option (List ℕ)) (job : Option Task) (proofs : List Proof) (name : StatusName) → EndsAs before now held job proofs name →
-    (name ≡ status.ReadFault → ⊥) → (name ≡ status.WriteFault → ⊥) → ((f : Finding) → IsFinding held job f → IsDone (status_of f)) → IsDone name
-ends_done held before now job proofs status.Done ends read write can = tt
-ends_done held before now job proofs status.NoMemory ends read write can = tt
-ends_done held before now job proofs status.ReadFault ends read write can = absurd (read refl)
-ends_done held before now job proofs status.WriteFault ends read write can = absurd (write refl)
-ends_done held before now job proofs status.Equal ends read write can = subst IsDone ends.3 (can ends.0 ends.1)
-ends_done held before now job proofs status.Different ends read write can = subst IsDone ends.3 (can ends.0 ends.1)
-ends_done held before now job proofs status.NotShown ends read write can = subst IsDone ends.3 (can ends.0 ends.1)
-ends_done held before now job proofs status.Limit ends read write can = subst IsDone ends.3 (can ends.0 ends.1)
-ends_done held before now job proofs status.Refused ends read write can = subst IsDone ends.3 (can ends.0 ends.1)
-ends_done held before now job proofs status.Words ends read write can = subst IsDone ends.3 (can ends.0 ends.1)
-ends_done held before now job proofs status.Cyclic ends read write can = subst IsDone ends.3 (can ends.0 ends.1)
-
-pub graph_ends_done : (held : Held) (before now : Option (List ℕ)) (job : Option Task) (proofs : List Proof) (name : StatusName) → EndsAs before now held job proofs name →
-    OfGraph job (λ path. IsSomeAnd (held path) IsAccepted) → (name ≡ status.ReadFault → ⊥) → (name ≡ status.WriteFault → ⊥) → IsDone name
-graph_ends_done held before now job proofs name ends can read write = ends_done held before now job proofs name ends read write (graph_finding held job can)
-
-pub sim_ends_done : (held : Held) (before now : Option (List ℕ)) (job : Option Task) (proofs : List Proof) (name : StatusName) → EndsAs before now held job proofs name →
-    OfSim job (CanSimulate held) → (name ≡ status.ReadFault → ⊥) → (name ≡ status.WriteFault → ⊥) → IsDone name
-sim_ends_done held before now job proofs name ends can read write = ends_done held before now job proofs name ends read write (sim_finding held job can)
+pub sim_ends_reported : (held : Held) (before now : Option (List ℕ)) (job : Option Task) (proofs : List Proof) (name : StatusName) → EndsAs before now held job proofs name →
+    IfSim job (λ sim. CanSimulate held sim → (name ≡ status.ReadFault → ⊥) → (name ≡ status.WriteFault → ⊥) → IsReported sim.mode name)
+sim_ends_reported held before now None proofs name ends sim e = absurd (none-some sim e)
+sim_ends_reported held before now (Some (task.Sim a s mode power)) proofs name ends sim e = λ can read write.
+    let own : Sim = record { circuit = a; stimulus = s; mode = mode; power = power } in
+    let same : own ≡ sim = same_Some own sim e in
+    let x = some_and (held a) (λ t. IsSomeAnd (held s) (λ y. CanBeRun mode t y power)) (subst (λ (m : Sim). CanSimulate held m) (sym same) can) in
+    let y = some_and (held s) (λ t. CanBeRun mode x.0 t power) x.2 in
+    subst (λ (m : Sim). IsReported m.mode name) same
+    (ends_reported mode held before now (Some (task.Sim a s mode power)) proofs name ends read write (λ f found. run_reported mode (held a) (held s) power x.0 y.0 x.1 y.1 y.2 f found))
+sim_ends_reported held before now (Some (task.Check a b settings)) proofs name ends sim e = absurd (none-some sim e)
+sim_ends_reported held before now (Some (task.Graph a mode)) proofs name ends sim e = absurd (none-some sim e)
+sim_ends_reported held before now (Some (task.Replay a b s mode)) proofs name ends sim e = absurd (none-some sim e)
+sim_ends_reported held before now (Some (task.Gen seed regroup conflicts)) proofs name ends sim e = absurd (none-some sim e)

@@ -24,7 +24,7 @@ use Rattle.sec_run.specs.declared.finding.Stop.TheVariants as stop
 use Rattle.std.proofs.lemmas.Option.{none-some}
 use Rattle.sec_run.specs.declared.finding.Refusal.TheVariants as refusal
 use Rattle.sec_run.specs.declared.finding.Finding.TheVariants as finding
-use Rattle.sec_run.specs.Job.{Check, Sim, check_of, graph_of, sim_of}
+use Rattle.sec_run.specs.Job.{Check, Graph, Sim, check_of, graph_of, sim_of}
 use Rattle.sec_run.specs.Reports.{IsGraphFound, IsSimFound}
 use Rattle.sec_run.specs.Answer.{Held, ReadFailed, SimReadFailed, IsFoundOf, WhereBuilt}
 use Rattle.sec_run.specs.Ends.{load_end, compare_end, EndsBy, FoundOf, Found}
@@ -120,19 +120,20 @@ found_of_check held before now (task.Replay a b s mode) check r e h = absurd (no
 found_of_check held before now (task.Gen seed regroup conflicts) check r e h = absurd (none-some check e)
 
 -- what is found of a circuit is found of the job that asks for its latch graph
-pub found_of_graph : (held : Held) (before now : List ℕ → ℕ) (job : Task) (path : List ℕ) (r : Result Finding Stop) → graph_of job ≡ Some path → EndsBy (IsGraphFound (held path)) (Rose (before path) (now path)) r → Found held before now (Some job) r
-found_of_graph held before now (task.Graph a mode) path (Ok f) e h = subst (λ (o : Option (List ℕ)). WhereBuilt f o (λ p. IsGraphFound (held p) f)) (sym e) h
-found_of_graph held before now (task.Graph a mode) path (Err stop.ReadFault) e h = inr (inl (subst (λ (o : Option (List ℕ)). IsSomeAnd o (λ p. Rose (before p) (now p))) (sym e) h))
-found_of_graph held before now (task.Graph a mode) path (Err stop.NoMemory) e h = tt
-found_of_graph held before now (task.Check a b settings) path r e h = absurd (none-some path e)
-found_of_graph held before now (task.Sim a s mode power) path r e h = absurd (none-some path e)
-found_of_graph held before now (task.Replay a b s mode) path r e h = absurd (none-some path e)
-found_of_graph held before now (task.Gen seed regroup conflicts) path r e h = absurd (none-some path e)
+pub found_of_graph : (held : Held) (before now : List ℕ → ℕ) (job : Task) (graph : Graph) (r : Result Finding Stop) → graph_of job ≡ Some graph →
+    EndsBy (IsGraphFound graph.mode (held graph.circuit)) (Rose (before graph.circuit) (now graph.circuit)) r → Found held before now (Some job) r
+found_of_graph held before now (task.Graph a mode) graph (Ok f) e h = subst (λ (o : Option Graph). WhereBuilt f o (λ g. IsGraphFound g.mode (held g.circuit) f)) (sym e) h
+found_of_graph held before now (task.Graph a mode) graph (Err stop.ReadFault) e h = inr (inl (subst (λ (o : Option Graph). IsSomeAnd o (λ g. Rose (before g.circuit) (now g.circuit))) (sym e) h))
+found_of_graph held before now (task.Graph a mode) graph (Err stop.NoMemory) e h = tt
+found_of_graph held before now (task.Check a b settings) graph r e h = absurd (none-some graph e)
+found_of_graph held before now (task.Sim a s mode power) graph r e h = absurd (none-some graph e)
+found_of_graph held before now (task.Replay a b s mode) graph r e h = absurd (none-some graph e)
+found_of_graph held before now (task.Gen seed regroup conflicts) graph r e h = absurd (none-some graph e)
 
 -- what is found of a simulation is found of the job that asks for it
 pub found_of_sim : (held : Held) (before now : List ℕ → ℕ) (job : Task) (sim : Sim) (r : Result Finding Stop) → sim_of job ≡ Some sim →
-    EndsBy (IsSimFound (held sim.circuit) (held sim.stimulus) sim.power) (SimReadFailed held before now sim) r → Found held before now (Some job) r
-found_of_sim held before now (task.Sim a s mode power) sim (Ok f) e h = subst (λ (o : Option Sim). WhereBuilt f o (λ m. IsSimFound (held m.circuit) (held m.stimulus) m.power f)) (sym e) h
+    EndsBy (IsSimFound sim.mode (held sim.circuit) (held sim.stimulus) sim.power) (SimReadFailed held before now sim) r → Found held before now (Some job) r
+found_of_sim held before now (task.Sim a s mode power) sim (Ok f) e h = subst (λ (o : Option Sim). WhereBuilt f o (λ m. IsSimFound m.mode (held m.circuit) (held m.stimulus) m.power f)) (sym e) h
 found_of_sim held before now (task.Sim a s mode power) sim (Err stop.ReadFault) e h = inr (inr (subst (λ (o : Option Sim). IsSomeAnd o (SimReadFailed held before now)) (sym e) h))
 found_of_sim held before now (task.Sim a s mode power) sim (Err stop.NoMemory) e h = tt
 found_of_sim held before now (task.Check a b settings) sim r e h = absurd (none-some sim e)
@@ -143,8 +144,8 @@ found_of_sim held before now (task.Gen seed regroup conflicts) sim r e h = absur
 -- a job that isn't built is refused
 pub found_unbuilt : (held : Held) (before now : List ℕ → ℕ) (job : Task) → check_of job ≡ None → graph_of job ≡ None → sim_of job ≡ None → Found held before now (Some job) (Ok (finding.Refused refusal.NotBuilt))
 found_unbuilt held before now (task.Check a b settings) check graph sim = subst (λ (o : Option Check). WhereBuilt (finding.Refused refusal.NotBuilt) o (λ c. IsFoundOf held c (finding.Refused refusal.NotBuilt))) (sym check) refl
-found_unbuilt held before now (task.Graph a mode) check graph sim = subst (λ (o : Option (List ℕ)). WhereBuilt (finding.Refused refusal.NotBuilt) o (λ p. IsGraphFound (held p) (finding.Refused refusal.NotBuilt))) (sym graph) refl
-found_unbuilt held before now (task.Sim a s mode power) check graph sim = subst (λ (o : Option Sim). WhereBuilt (finding.Refused refusal.NotBuilt) o (λ m. IsSimFound (held m.circuit) (held m.stimulus) m.power (finding.Refused refusal.NotBuilt))) (sym sim) refl
+found_unbuilt held before now (task.Graph a mode) check graph sim = subst (λ (o : Option Graph). WhereBuilt (finding.Refused refusal.NotBuilt) o (λ g. IsGraphFound g.mode (held g.circuit) (finding.Refused refusal.NotBuilt))) (sym graph) refl
+found_unbuilt held before now (task.Sim a s mode power) check graph sim = subst (λ (o : Option Sim). WhereBuilt (finding.Refused refusal.NotBuilt) o (λ m. IsSimFound m.mode (held m.circuit) (held m.stimulus) m.power (finding.Refused refusal.NotBuilt))) (sym sim) refl
 found_unbuilt held before now (task.Replay a b s mode) check graph sim = refl
 found_unbuilt held before now (task.Gen seed regroup conflicts) check graph sim = refl
 

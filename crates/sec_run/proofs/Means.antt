@@ -1,6 +1,7 @@
 -- What the statuses equal, different, not shown and limit mean for the texts.
 use Rattle.std.proofs.Common.{◌≡◌, ℕ, List, refl, sym, ◌∙◌, subst, ap, inl, inr, ◌⊎◌, Option, Some, None}
 use Rattle.std.specs.Prelude.{IfSome, IsSomeAnd}
+use Rattle.circuit_theory.specs.declared.Mode.{Mode}
 use Rattle.sec_base.specs.Outside.{Takes}
 use Rattle.flat_net.specs.View.{NetView}
 use Rattle.pair_decide.specs.declared.query.Proof.{Proof}
@@ -19,10 +20,10 @@ use Rattle.sec_run.specs.declared.finding.Finding.{Finding}
 use Rattle.sec_run.specs.declared.finding.Finding.TheVariants as finding
 use Rattle.sec_run.specs.declared.status.StatusName.{StatusName}
 use Rattle.sec_run.specs.declared.status.StatusName.TheVariants as status
-use Rattle.sec_run.specs.Job.{Check, Sim, check_of, graph_of, sim_of, OfCheck}
+use Rattle.sec_run.specs.Job.{Check, Graph, Sim, check_of, graph_of, sim_of, OfCheck}
 use Rattle.sec_run.specs.Lines.{finding_text}
-use Rattle.sec_run.specs.Reports.{IsGraphFound, IsSimFound, TakesGraph, TakesRun}
-use Rattle.sec_run.specs.Answer.{Held, OfTexts, OfNets, IsFinding, IsFoundOf, WhereBuilt, TakesReport, EndsAs, TextsAgree, TextsDiffer, TextsNotShown, TextsUndecided, verdict_status, status_of}
+use Rattle.sec_run.specs.Reports.{IsGraphFound, IsSimFound, TakesGraph, TakesRun, TakesLimit}
+use Rattle.sec_run.specs.Answer.{Held, OfTexts, OfNets, IsFinding, IsFoundOf, WhereBuilt, TakesReport, TakesLimitOf, EndsAs, TextsAgree, TextsDiffer, TextsNotShown, TextsUndecided, verdict_status, status_of}
 use Rattle.sec_run.specs.Ends.{IsWrittenAs}
 use Rattle.sec_run.proofs.Texts.{texts_agree, texts_differ, texts_not_shown, texts_undecided}
 
@@ -39,44 +40,50 @@ neither : {X Y : Type 0} → (X → ⊥) → (Y → ⊥) → X ⊎ Y → ⊥
 neither f g (inl x) = f x
 neither f g (inr y) = g y
 
--- what is found of one circuit is a report or a refusal
-graph_status : (circuit : Option (List ℕ)) (f : Finding) → IsGraphFound circuit f → (status_of f ≡ status.Done) ⊎ (status_of f ≡ status.Refused)
-graph_status circuit finding.Words h = absurd h
-graph_status circuit (finding.Refused r) h = inr refl
-graph_status circuit (finding.Cyclic side names) h = absurd h
-graph_status circuit (finding.Unpaired side names) h = absurd h
-graph_status circuit (finding.Checked o s) h = absurd h
-graph_status circuit (finding.Done report) h = inl refl
+neither_of : {X Y Z : Type 0} → (X → ⊥) → (Y → ⊥) → (Z → ⊥) → X ⊎ (Y ⊎ Z) → ⊥
+neither_of f g h (inl x) = f x
+neither_of f g h (inr y) = neither g h y
 
-sim_status : (circuit stimulus power : Option (List ℕ)) (f : Finding) → IsSimFound circuit stimulus power f → (status_of f ≡ status.Done) ⊎ (status_of f ≡ status.Refused)
-sim_status circuit stimulus power finding.Words h = absurd h
-sim_status circuit stimulus power (finding.Refused r) h = inr refl
-sim_status circuit stimulus power (finding.Cyclic side names) h = absurd h
-sim_status circuit stimulus power (finding.Unpaired side names) h = absurd h
-sim_status circuit stimulus power (finding.Checked o s) h = absurd h
-sim_status circuit stimulus power (finding.Done report) h = inl refl
+-- what is found of one circuit is a report, a refusal, or that a query has met the limit
+graph_status : (mode : Mode) (circuit : Option (List ℕ)) (f : Finding) → IsGraphFound mode circuit f → (status_of f ≡ status.Done) ⊎ ((status_of f ≡ status.Refused) ⊎ (status_of f ≡ status.Limit))
+graph_status mode circuit finding.Words h = absurd h
+graph_status mode circuit (finding.Refused r) h = inr (inl refl)
+graph_status mode circuit (finding.Cyclic side names) h = absurd h
+graph_status mode circuit (finding.Unpaired side names) h = absurd h
+graph_status mode circuit (finding.Checked o s) h = absurd h
+graph_status mode circuit (finding.Done report) h = inl refl
+graph_status mode circuit (finding.Undecided name proof) h = inr (inr refl)
+
+sim_status : (mode : Mode) (circuit stimulus power : Option (List ℕ)) (f : Finding) → IsSimFound mode circuit stimulus power f → (status_of f ≡ status.Done) ⊎ ((status_of f ≡ status.Refused) ⊎ (status_of f ≡ status.Limit))
+sim_status mode circuit stimulus power finding.Words h = absurd h
+sim_status mode circuit stimulus power (finding.Refused r) h = inr (inl refl)
+sim_status mode circuit stimulus power (finding.Cyclic side names) h = absurd h
+sim_status mode circuit stimulus power (finding.Unpaired side names) h = absurd h
+sim_status mode circuit stimulus power (finding.Checked o s) h = absurd h
+sim_status mode circuit stimulus power (finding.Done report) h = inl refl
+sim_status mode circuit stimulus power (finding.Undecided name proof) h = inr (inr refl)
 
 -- what is said of the files of a finding that neither words, nor a refusal, nor a report on one circuit give
-of_check : (P : Check → Type 0) (held : Held) (job : Option Task) (f : Finding) → IsFinding held job f → (status_of f ≡ status.Words → ⊥) → (status_of f ≡ status.Refused → ⊥) → (status_of f ≡ status.Done → ⊥) →
+of_check : (P : Check → Type 0) (held : Held) (job : Option Task) (f : Finding) → IsFinding held job f → (status_of f ≡ status.Words → ⊥) → (status_of f ≡ status.Refused → ⊥) → (status_of f ≡ status.Done → ⊥) → (status_of f ≡ status.Limit → ⊥) →
     ((check : Check) → IsFoundOf held check f → P check) → OfCheck job P
-of_check P held None f found words refused done each = absurd (words (ap status_of found))
-of_check P held (Some (task.Check a b settings)) f found words refused done each = go (check_of (task.Check a b settings)) found
+of_check P held None f found words refused done limit each = absurd (words (ap status_of found))
+of_check P held (Some (task.Check a b settings)) f found words refused done limit each = go (check_of (task.Check a b settings)) found
   where
     go : (o : Option Check) → WhereBuilt f o (λ check. IsFoundOf held check f) → IsSomeAnd o P
     go None h = absurd (refused (ap status_of h))
     go (Some check) h = each check h
-of_check P held (Some (task.Graph a mode)) f found words refused done each = absurd (go (graph_of (task.Graph a mode)) found)
+of_check P held (Some (task.Graph a mode)) f found words refused done limit each = absurd (go (graph_of (task.Graph a mode)) found)
   where
-    go : (o : Option (List ℕ)) → WhereBuilt f o (λ path. IsGraphFound (held path) f) → ⊥
+    go : (o : Option Graph) → WhereBuilt f o (λ graph. IsGraphFound graph.mode (held graph.circuit) f) → ⊥
     go None h = refused (ap status_of h)
-    go (Some path) h = neither done refused (graph_status (held path) f h)
-of_check P held (Some (task.Sim a s mode power)) f found words refused done each = absurd (go (sim_of (task.Sim a s mode power)) found)
+    go (Some graph) h = neither_of done refused limit (graph_status graph.mode (held graph.circuit) f h)
+of_check P held (Some (task.Sim a s mode power)) f found words refused done limit each = absurd (go (sim_of (task.Sim a s mode power)) found)
   where
-    go : (o : Option Sim) → WhereBuilt f o (λ sim. IsSimFound (held sim.circuit) (held sim.stimulus) sim.power f) → ⊥
+    go : (o : Option Sim) → WhereBuilt f o (λ sim. IsSimFound sim.mode (held sim.circuit) (held sim.stimulus) sim.power f) → ⊥
     go None h = refused (ap status_of h)
-    go (Some sim) h = neither done refused (sim_status (held sim.circuit) (held sim.stimulus) sim.power f h)
-of_check P held (Some (task.Replay a b s mode)) f found words refused done each = absurd (refused (ap status_of found))
-of_check P held (Some (task.Gen seed regroup conflicts)) f found words refused done each = absurd (refused (ap status_of found))
+    go (Some sim) h = neither_of done refused limit (sim_status sim.mode (held sim.circuit) (held sim.stimulus) sim.power f h)
+of_check P held (Some (task.Replay a b s mode)) f found words refused done limit each = absurd (refused (ap status_of found))
+of_check P held (Some (task.Gen seed regroup conflicts)) f found words refused done limit each = absurd (refused (ap status_of found))
 
 equal_verdict : (v : Verdict) → verdict_status v ≡ status.Equal → v ≡ verdict.Equal
 equal_verdict verdict.Equal e = refl
@@ -113,6 +120,7 @@ equal_found held check before now (finding.Refused r) proofs h w = absurd (let e
 equal_found held check before now (finding.Cyclic side names) proofs h w = absurd (let e = w.1 in cc)
 equal_found held check before now (finding.Unpaired side names) proofs h w = absurd (let e = w.1 in cc)
 equal_found held check before now (finding.Done report) proofs h w = absurd h
+equal_found held check before now (finding.Undecided name proof) proofs h w = absurd h
 equal_found held check before now (finding.Checked o s) proofs h w =
     let v = equal_verdict o.verdict w.1 in
     over_nets held check _ (λ x y. TextsAgree x y check.settings.conflicts before now) (λ x y a b left right compared. texts_agree before now check.settings o (report_of before now o s check h.0 w.2) x y a b left right compared v) h.1
@@ -124,6 +132,7 @@ different_found held check before now (finding.Refused r) proofs h w = absurd (l
 different_found held check before now (finding.Cyclic side names) proofs h w = absurd (let e = w.1 in cc)
 different_found held check before now (finding.Unpaired side names) proofs h w = absurd (let e = w.1 in cc)
 different_found held check before now (finding.Done report) proofs h w = absurd h
+different_found held check before now (finding.Undecided name proof) proofs h w = absurd h
 different_found held check before now (finding.Checked o s) proofs h w =
     let v = different_verdict o.verdict w.1 in
     over_nets held check _ (λ x y. TextsDiffer x y check.settings.conflicts before now) (λ x y a b left right compared. texts_differ before now check.settings o (report_of before now o s check h.0 w.2) x y a b left right compared v.0 v.1) h.1
@@ -135,6 +144,7 @@ not_shown_found held check before now (finding.Refused r) proofs h w = absurd (l
 not_shown_found held check before now (finding.Cyclic side names) proofs h w = absurd (let e = w.1 in cc)
 not_shown_found held check before now (finding.Unpaired side names) proofs h w = absurd (let e = w.1 in cc)
 not_shown_found held check before now (finding.Done report) proofs h w = absurd h
+not_shown_found held check before now (finding.Undecided name proof) proofs h w = absurd h
 not_shown_found held check before now (finding.Checked o s) proofs h w =
     let v = not_shown_verdict o.verdict w.1 in
     over_nets held check _ (λ x y. TextsNotShown x y check.settings before now) (λ x y a b left right compared. texts_not_shown before now check.settings o (report_of before now o s check h.0 w.2) x y a b left right compared v.0 v.1) h.1
@@ -146,6 +156,7 @@ limit_found held check before now (finding.Refused r) proofs h w = absurd (let e
 limit_found held check before now (finding.Cyclic side names) proofs h w = absurd (let e = w.1 in cc)
 limit_found held check before now (finding.Unpaired side names) proofs h w = absurd (let e = w.1 in cc)
 limit_found held check before now (finding.Done report) proofs h w = absurd h
+limit_found held check before now (finding.Undecided name proof) proofs h w = absurd h
 limit_found held check before now (finding.Checked o s) proofs h w =
     let v = limit_verdict o.verdict w.1 in
     over_nets held check _ (λ x y. TextsUndecided x y check.settings proofs before now) (λ x y a b left right compared. texts_undecided before now check.settings o (report_of before now o s check h.0 w.2) x y a b left right compared proofs v.0 v.1 w.0) h.1
@@ -159,7 +170,7 @@ pub equal_means : (held : Held) (job : Option Task) (before now : Option (List �
     IsFinding held job f → IsWrittenAs before now f proofs name → name ≡ status.Equal → OfCheck job (λ check. OfTexts held check (λ x y. TextsAgree x y check.settings.conflicts before now))
 equal_means held job before now f proofs name found written e =
     let w = subst (IsWrittenAs before now f proofs) e written in
-    of_check (λ check. OfTexts held check (λ x y. TextsAgree x y check.settings.conflicts before now)) held job f found (other f status.Equal status.Words w.1 (λ q. cc)) (other f status.Equal status.Refused w.1 (λ q. cc)) (other f status.Equal status.Done w.1 (λ q. cc))
+    of_check (λ check. OfTexts held check (λ x y. TextsAgree x y check.settings.conflicts before now)) held job f found (other f status.Equal status.Words w.1 (λ q. cc)) (other f status.Equal status.Refused w.1 (λ q. cc)) (other f status.Equal status.Done w.1 (λ q. cc)) (other f status.Equal status.Limit w.1 (λ q. cc))
     (λ check h. equal_found held check before now f proofs h w)
 
 -- the status different
@@ -167,7 +178,7 @@ pub different_means : (held : Held) (job : Option Task) (before now : Option (Li
     IsFinding held job f → IsWrittenAs before now f proofs name → name ≡ status.Different → OfCheck job (λ check. OfTexts held check (λ x y. TextsDiffer x y check.settings.conflicts before now))
 different_means held job before now f proofs name found written e =
     let w = subst (IsWrittenAs before now f proofs) e written in
-    of_check (λ check. OfTexts held check (λ x y. TextsDiffer x y check.settings.conflicts before now)) held job f found (other f status.Different status.Words w.1 (λ q. cc)) (other f status.Different status.Refused w.1 (λ q. cc)) (other f status.Different status.Done w.1 (λ q. cc))
+    of_check (λ check. OfTexts held check (λ x y. TextsDiffer x y check.settings.conflicts before now)) held job f found (other f status.Different status.Words w.1 (λ q. cc)) (other f status.Different status.Refused w.1 (λ q. cc)) (other f status.Different status.Done w.1 (λ q. cc)) (other f status.Different status.Limit w.1 (λ q. cc))
     (λ check h. different_found held check before now f proofs h w)
 
 -- the status not shown
@@ -175,16 +186,46 @@ pub not_shown_means : (held : Held) (job : Option Task) (before now : Option (Li
     IsFinding held job f → IsWrittenAs before now f proofs name → name ≡ status.NotShown → OfCheck job (λ check. OfTexts held check (λ x y. TextsNotShown x y check.settings before now))
 not_shown_means held job before now f proofs name found written e =
     let w = subst (IsWrittenAs before now f proofs) e written in
-    of_check (λ check. OfTexts held check (λ x y. TextsNotShown x y check.settings before now)) held job f found (other f status.NotShown status.Words w.1 (λ q. cc)) (other f status.NotShown status.Refused w.1 (λ q. cc)) (other f status.NotShown status.Done w.1 (λ q. cc))
+    of_check (λ check. OfTexts held check (λ x y. TextsNotShown x y check.settings before now)) held job f found (other f status.NotShown status.Words w.1 (λ q. cc)) (other f status.NotShown status.Refused w.1 (λ q. cc)) (other f status.NotShown status.Done w.1 (λ q. cc)) (other f status.NotShown status.Limit w.1 (λ q. cc))
     (λ check h. not_shown_found held check before now f proofs h w)
+
+-- the limit of a query of one circuit
+graph_limit : (mode : Mode) (circuit before now : Option (List ℕ)) (f : Finding) (proofs : List Proof) → IsGraphFound mode circuit f → IsWrittenAs before now f proofs status.Limit → TakesLimit mode circuit proofs before now
+graph_limit mode circuit before now finding.Words proofs h w = absurd h
+graph_limit mode circuit before now (finding.Refused r) proofs h w = absurd (let e = w.1 in cc)
+graph_limit mode circuit before now (finding.Cyclic side names) proofs h w = absurd h
+graph_limit mode circuit before now (finding.Unpaired side names) proofs h w = absurd h
+graph_limit mode circuit before now (finding.Checked o s) proofs h w = absurd h
+graph_limit mode circuit before now (finding.Done report) proofs h w = absurd (let e = w.1 in cc)
+graph_limit mode circuit before now (finding.Undecided name proof) proofs h w = record { name = name; proof = proof; kept = w.0; shown = h; printed = w.2 }
+
+run_limit : (mode : Mode) (circuit stimulus power before now : Option (List ℕ)) (f : Finding) (proofs : List Proof) → IsSimFound mode circuit stimulus power f → IsWrittenAs before now f proofs status.Limit →
+    TakesLimit mode circuit proofs before now
+run_limit mode circuit stimulus power before now finding.Words proofs h w = absurd h
+run_limit mode circuit stimulus power before now (finding.Refused r) proofs h w = absurd (let e = w.1 in cc)
+run_limit mode circuit stimulus power before now (finding.Cyclic side names) proofs h w = absurd h
+run_limit mode circuit stimulus power before now (finding.Unpaired side names) proofs h w = absurd h
+run_limit mode circuit stimulus power before now (finding.Checked o s) proofs h w = absurd h
+run_limit mode circuit stimulus power before now (finding.Done report) proofs h w = absurd (let e = w.1 in cc)
+run_limit mode circuit stimulus power before now (finding.Undecided name proof) proofs h w =
+    record { name = name; proof = proof; kept = w.0; shown = record { net = h.net; loads = h.loads; unknown = h.unknown }; printed = w.2 }
+
+limit_of : (held : Held) (job : Option Task) (before now : Option (List ℕ)) (f : Finding) (proofs : List Proof) → IsFinding held job f → IsWrittenAs before now f proofs status.Limit → TakesLimitOf before now held job proofs
+limit_of held None before now f proofs found w = absurd (other f status.Limit status.Words w.1 (λ q. cc) (ap status_of found))
+limit_of held (Some (task.Check a b settings)) before now f proofs found w = inl (go (check_of (task.Check a b settings)) found)
+  where
+    go : (o : Option Check) → WhereBuilt f o (λ check. IsFoundOf held check f) → IsSomeAnd o (λ check. OfTexts held check (λ x y. TextsUndecided x y check.settings proofs before now))
+    go None h = absurd (other f status.Limit status.Refused w.1 (λ q. cc) (ap status_of h))
+    go (Some check) h = limit_found held check before now f proofs h w
+limit_of held (Some (task.Graph a mode)) before now f proofs found w = inr (inl (graph_limit mode (held a) before now f proofs found w))
+limit_of held (Some (task.Sim a s mode power)) before now f proofs found w = inr (inr (run_limit mode (held a) (held s) power before now f proofs found w))
+limit_of held (Some (task.Replay a b s mode)) before now f proofs found w = absurd (other f status.Limit status.Refused w.1 (λ q. cc) (ap status_of found))
+limit_of held (Some (task.Gen seed regroup conflicts)) before now f proofs found w = absurd (other f status.Limit status.Refused w.1 (λ q. cc) (ap status_of found))
 
 -- the status limit
 pub limit_means : (held : Held) (job : Option Task) (before now : Option (List ℕ)) (f : Finding) (proofs : List Proof) (name : StatusName) →
-    IsFinding held job f → IsWrittenAs before now f proofs name → name ≡ status.Limit → OfCheck job (λ check. OfTexts held check (λ x y. TextsUndecided x y check.settings proofs before now))
-limit_means held job before now f proofs name found written e =
-    let w = subst (IsWrittenAs before now f proofs) e written in
-    of_check (λ check. OfTexts held check (λ x y. TextsUndecided x y check.settings proofs before now)) held job f found (other f status.Limit status.Words w.1 (λ q. cc)) (other f status.Limit status.Refused w.1 (λ q. cc)) (other f status.Limit status.Done w.1 (λ q. cc))
-    (λ check h. limit_found held check before now f proofs h w)
+    IsFinding held job f → IsWrittenAs before now f proofs name → name ≡ status.Limit → TakesLimitOf before now held job proofs
+limit_means held job before now f proofs name found written e = limit_of held job before now f proofs found (subst (IsWrittenAs before now f proofs) e written)
 
 -- no verdict is a report on one circuit
 no_done_verdict : (v : Verdict) → verdict_status v ≡ status.Done → ⊥
@@ -200,22 +241,25 @@ no_done held check (finding.Cyclic side names) h e = cc
 no_done held check (finding.Unpaired side names) h e = cc
 no_done held check (finding.Checked o s) h e = no_done_verdict o.verdict e
 no_done held check (finding.Done report) h e = h
+no_done held check (finding.Undecided name proof) h e = h
 
-graph_taken : (circuit before now : Option (List ℕ)) (f : Finding) → IsGraphFound circuit f → status_of f ≡ status.Done → Takes before now (finding_text f) → TakesGraph circuit before now
-graph_taken circuit before now finding.Words h e taken = absurd h
-graph_taken circuit before now (finding.Refused r) h e taken = absurd (cc)
-graph_taken circuit before now (finding.Cyclic side names) h e taken = absurd h
-graph_taken circuit before now (finding.Unpaired side names) h e taken = absurd h
-graph_taken circuit before now (finding.Checked o s) h e taken = absurd h
-graph_taken circuit before now (finding.Done report) h e taken = (report, h, taken)
+graph_taken : (mode : Mode) (circuit before now : Option (List ℕ)) (f : Finding) → IsGraphFound mode circuit f → status_of f ≡ status.Done → Takes before now (finding_text f) → TakesGraph mode circuit before now
+graph_taken mode circuit before now finding.Words h e taken = absurd h
+graph_taken mode circuit before now (finding.Refused r) h e taken = absurd (cc)
+graph_taken mode circuit before now (finding.Cyclic side names) h e taken = absurd h
+graph_taken mode circuit before now (finding.Unpaired side names) h e taken = absurd h
+graph_taken mode circuit before now (finding.Checked o s) h e taken = absurd h
+graph_taken mode circuit before now (finding.Done report) h e taken = (report, h, taken)
+graph_taken mode circuit before now (finding.Undecided name proof) h e taken = absurd (cc)
 
-run_taken : (circuit stimulus power before now : Option (List ℕ)) (f : Finding) → IsSimFound circuit stimulus power f → status_of f ≡ status.Done → Takes before now (finding_text f) → TakesRun circuit stimulus power before now
-run_taken circuit stimulus power before now finding.Words h e taken = absurd h
-run_taken circuit stimulus power before now (finding.Refused r) h e taken = absurd (cc)
-run_taken circuit stimulus power before now (finding.Cyclic side names) h e taken = absurd h
-run_taken circuit stimulus power before now (finding.Unpaired side names) h e taken = absurd h
-run_taken circuit stimulus power before now (finding.Checked o s) h e taken = absurd h
-run_taken circuit stimulus power before now (finding.Done report) h e taken = (report, h, taken)
+run_taken : (mode : Mode) (circuit stimulus power before now : Option (List ℕ)) (f : Finding) → IsSimFound mode circuit stimulus power f → status_of f ≡ status.Done → Takes before now (finding_text f) → TakesRun mode circuit stimulus power before now
+run_taken mode circuit stimulus power before now finding.Words h e taken = absurd h
+run_taken mode circuit stimulus power before now (finding.Refused r) h e taken = absurd (cc)
+run_taken mode circuit stimulus power before now (finding.Cyclic side names) h e taken = absurd h
+run_taken mode circuit stimulus power before now (finding.Unpaired side names) h e taken = absurd h
+run_taken mode circuit stimulus power before now (finding.Checked o s) h e taken = absurd h
+run_taken mode circuit stimulus power before now (finding.Done report) h e taken = (report, h, taken)
+run_taken mode circuit stimulus power before now (finding.Undecided name proof) h e taken = absurd (cc)
 
 done_found : (held : Held) (job : Option Task) (before now : Option (List ℕ)) (f : Finding) → IsFinding held job f → status_of f ≡ status.Done → Takes before now (finding_text f) → TakesReport before now held job
 done_found held None before now f found e taken = absurd (other f status.Done status.Words e (λ q. cc) (ap status_of found))
@@ -224,16 +268,8 @@ done_found held (Some (task.Check a b settings)) before now f found e taken = ab
     go : (o : Option Check) → WhereBuilt f o (λ check. IsFoundOf held check f) → ⊥
     go None h = other f status.Done status.Refused e (λ q. cc) (ap status_of h)
     go (Some check) h = no_done held check f h e
-done_found held (Some (task.Graph a mode)) before now f found e taken = inl (go (graph_of (task.Graph a mode)) found)
-  where
-    go : (o : Option (List ℕ)) → WhereBuilt f o (λ path. IsGraphFound (held path) f) → IsSomeAnd o (λ path. TakesGraph (held path) before now)
-    go None h = absurd (other f status.Done status.Refused e (λ q. cc) (ap status_of h))
-    go (Some path) h = graph_taken (held path) before now f h e taken
-done_found held (Some (task.Sim a s mode power)) before now f found e taken = inr (go (sim_of (task.Sim a s mode power)) found)
-  where
-    go : (o : Option Sim) → WhereBuilt f o (λ sim. IsSimFound (held sim.circuit) (held sim.stimulus) sim.power f) → IsSomeAnd o (λ sim. TakesRun (held sim.circuit) (held sim.stimulus) sim.power before now)
-    go None h = absurd (other f status.Done status.Refused e (λ q. cc) (ap status_of h))
-    go (Some sim) h = run_taken (held sim.circuit) (held sim.stimulus) sim.power before now f h e taken
+done_found held (Some (task.Graph a mode)) before now f found e taken = inl (graph_taken mode (held a) before now f found e taken)
+done_found held (Some (task.Sim a s mode power)) before now f found e taken = inr (run_taken mode (held a) (held s) power before now f found e taken)
 done_found held (Some (task.Replay a b s mode)) before now f found e taken = absurd (other f status.Done status.Refused e (λ q. cc) (ap status_of found))
 done_found held (Some (task.Gen seed regroup conflicts)) before now f found e taken = absurd (other f status.Done status.Refused e (λ q. cc) (ap status_of found))
 

@@ -1,7 +1,7 @@
 -- What the parts of the work on one circuit find.
 use Rattle.std.proofs.Common.{◌≡◌, ℕ, Bool, List, Option, Some, None, Result, Ok, Err}
 use Rattle.std.specs.Prelude.{IfSome}
-use Rattle.circuit_theory.specs.declared.Side.TheVariants.{A}
+use Rattle.circuit_theory.specs.declared.Side.TheVariants.{A, B}
 use Rattle.sec_base.specs.declared.fetching.FetchError.TheVariants as fetch_error
 use Rattle.blif_read.specs.declared.error.ReadError.TheVariants as read_error
 use Rattle.flat_net.specs.View.{NetView}
@@ -9,13 +9,19 @@ use Rattle.flat_walk.specs.declared.error.FlatError.TheVariants as flat_error
 use Rattle.sec_files.specs.declared.loading.LoadError.{LoadError}
 use Rattle.sec_files.specs.declared.loading.LoadError.TheVariants as load_error
 use Rattle.sec_files.specs.Loading.{Loads, LoadFails}
+use Rattle.circuit_theory.specs.declared.Mode.{Mode}
+use Rattle.latch_kinds.specs.declared.kinds.KindsError.{KindsError}
+use Rattle.latch_kinds.specs.declared.kinds.KindsError.TheVariants as kinds_error
+use Rattle.circuit_jobs.specs.declared.runs.SimulateError.{SimulateError}
+use Rattle.circuit_jobs.specs.declared.runs.SimulateError.TheVariants as simulate_error
+use Rattle.circuit_jobs.specs.Jobs.{Tells, Simulates}
 use Rattle.sec_run.specs.declared.finding.Refusal.{Refusal}
 use Rattle.sec_run.specs.declared.finding.Refusal.TheVariants as refusal
 use Rattle.sec_run.specs.declared.finding.Finding.{Finding}
 use Rattle.sec_run.specs.declared.finding.Finding.TheVariants as finding
 use Rattle.sec_files.specs.Stimuli.{IsStimulus}
-use Rattle.sec_run.specs.Reports.{IsCircuitRefusal, IsRunFound, IsSimFound, IsSimRefusal}
-use Rattle.sec_run.specs.Ends.{load_end, EndsBy}
+use Rattle.sec_run.specs.Reports.{IsCircuitRefusal, IsGraphFound, IsGraphRefusal, IsSimFound, IsSimRefusal}
+use Rattle.sec_run.specs.Ends.{load_end, graph_end, sim_end, EndsBy}
 
 -- the circuit isn't loaded
 pub circuit_ends : (P : Finding → Type 0) (failed rose : Type 0) (circuit : Option (List ℕ)) (error : LoadError) → ((r : Refusal) → IsCircuitRefusal circuit r → P (finding.Refused r)) → (rose → failed) →
@@ -42,22 +48,49 @@ circuit_ends P failed rose circuit (load_error.Flat flat_error.TooMany) refuse f
 circuit_ends P failed rose circuit (load_error.Flat flat_error.LongName) refuse fail h = refuse (refusal.Design A flat_error.LongName) h
 circuit_ends P failed rose circuit (load_error.Flat flat_error.NoMemory) refuse fail h = tt
 
--- a refusal of the circuit is one of the simulation
-pub sim_circuit : (circuit stimulus power : Option (List ℕ)) (r : Refusal) → IsCircuitRefusal circuit r → IsSimRefusal circuit stimulus power r
-sim_circuit circuit stimulus power refusal.NotBuilt h = h
-sim_circuit circuit stimulus power (refusal.TooLong side) h = h
-sim_circuit circuit stimulus power (refusal.Text side line kind) h = h
-sim_circuit circuit stimulus power (refusal.Design side fault) h = h
-sim_circuit circuit stimulus power (refusal.Interface name) h = h
-sim_circuit circuit stimulus power (refusal.TooLarge side) h = h
-sim_circuit circuit stimulus power refusal.StimulusTooLong h = absurd h
-sim_circuit circuit stimulus power (refusal.BadHeader line) h = absurd h
-sim_circuit circuit stimulus power (refusal.BadRow line) h = absurd h
-sim_circuit circuit stimulus power (refusal.Misfit m) h = absurd h
+-- a refusal of the circuit is one of the report of its latch graph
+pub graph_circuit : (mode : Mode) (circuit : Option (List ℕ)) (r : Refusal) → IsCircuitRefusal circuit r → IsGraphRefusal mode circuit r
+graph_circuit mode circuit refusal.NotBuilt h = h
+graph_circuit mode circuit (refusal.TooLong side) h = h
+graph_circuit mode circuit (refusal.Text side line kind) h = h
+graph_circuit mode circuit (refusal.Design side fault) h = h
+graph_circuit mode circuit (refusal.Interface name) h = h
+graph_circuit mode circuit (refusal.TooLarge A) h = absurd h
+graph_circuit mode circuit (refusal.TooLarge B) h = h
+graph_circuit mode circuit refusal.StimulusTooLong h = h
+graph_circuit mode circuit (refusal.BadHeader line) h = h
+graph_circuit mode circuit (refusal.BadRow line) h = h
+graph_circuit mode circuit (refusal.Misfit m) h = h
+
+-- and one of the simulation
+pub sim_circuit : (mode : Mode) (circuit stimulus power : Option (List ℕ)) (r : Refusal) → IsCircuitRefusal circuit r → IsSimRefusal mode circuit stimulus power r
+sim_circuit mode circuit stimulus power refusal.NotBuilt h = h
+sim_circuit mode circuit stimulus power (refusal.TooLong side) h = h
+sim_circuit mode circuit stimulus power (refusal.Text side line kind) h = h
+sim_circuit mode circuit stimulus power (refusal.Design side fault) h = h
+sim_circuit mode circuit stimulus power (refusal.Interface name) h = h
+sim_circuit mode circuit stimulus power (refusal.TooLarge A) h = absurd h
+sim_circuit mode circuit stimulus power (refusal.TooLarge B) h = h
+sim_circuit mode circuit stimulus power refusal.StimulusTooLong h = absurd h
+sim_circuit mode circuit stimulus power (refusal.BadHeader line) h = absurd h
+sim_circuit mode circuit stimulus power (refusal.BadRow line) h = absurd h
+sim_circuit mode circuit stimulus power (refusal.Misfit m) h = absurd h
+
+-- the circuit is loaded, and its latch graph told
+pub graph_ends : (mode : Mode) (circuit : Option (List ℕ)) (failed : Type 0) (net : NetView) (r : Result (List ℕ) KindsError) → IfSome circuit (λ x. Loads x net) → Tells mode net r →
+    EndsBy (IsGraphFound mode circuit) failed (graph_end r)
+graph_ends mode circuit failed net (Ok report) loads tells = record { net = net; loads = loads; is_report = tells.0; light = tells.1 }
+graph_ends mode circuit failed net (Err kinds_error.TooLarge) loads tells = record { net = net; loads = loads; unknown = tells }
+graph_ends mode circuit failed net (Err (kinds_error.Limit name proof)) loads tells = record { net = net; loads = loads; unknown = tells }
+graph_ends mode circuit failed net (Err kinds_error.NoMemory) loads tells = tt
 
 -- both are loaded, and the circuit is run
-pub run_found : (circuit stimulus power : Option (List ℕ)) (net : NetView) (names : List (List ℕ)) (rows : List (List Bool)) (f : Finding) →
-    IfSome circuit (λ x. Loads x net) → IfSome stimulus (λ y. IsStimulus y names rows) → IsRunFound net names rows power f → IsSimFound circuit stimulus power f
-run_found circuit stimulus power net names rows (finding.Done report) loads spells run = record { net = net; names = names; rows = rows; loads = loads; spells = spells; fits = run.0; is_report = run.1 }
-run_found circuit stimulus power net names rows (finding.Refused (refusal.Misfit m)) loads spells run = record { net = net; names = names; rows = rows; loads = loads; spells = spells; is_first = run }
-run_found circuit stimulus power net names rows other loads spells run = absurd run
+pub run_ends : (mode : Mode) (circuit stimulus power : Option (List ℕ)) (failed : Type 0) (net : NetView) (names : List (List ℕ)) (rows : List (List Bool)) (r : Result (List ℕ) SimulateError) →
+    IfSome circuit (λ x. Loads x net) → IfSome stimulus (λ y. IsStimulus y names rows) → Simulates mode net names rows power r → EndsBy (IsSimFound mode circuit stimulus power) failed (sim_end r)
+run_ends mode circuit stimulus power failed net names rows (Ok report) loads spells run =
+    record { net = net; names = names; rows = rows; loads = loads; spells = spells; fits = run.0; is_report = run.1.0; light = run.1.1 }
+run_ends mode circuit stimulus power failed net names rows (Err (simulate_error.Misfit m)) loads spells run = record { net = net; names = names; rows = rows; loads = loads; spells = spells; is_first = run }
+run_ends mode circuit stimulus power failed net names rows (Err simulate_error.TooLarge) loads spells run = record { net = net; names = names; rows = rows; loads = loads; spells = spells; fits = run.0; unknown = run.1 }
+run_ends mode circuit stimulus power failed net names rows (Err (simulate_error.Limit name proof)) loads spells run =
+    record { net = net; names = names; rows = rows; loads = loads; spells = spells; fits = run.0; unknown = run.1 }
+run_ends mode circuit stimulus power failed net names rows (Err simulate_error.NoMemory) loads spells run = tt

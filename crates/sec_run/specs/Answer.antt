@@ -1,7 +1,8 @@
 -- What is true where a run ends as it does.
-use Rattle.std.specs.Prelude.{◌≡◌, ◌≢◌, ◌⊎◌, ℕ, Bool, true, List, [], Option, Some, None, Ok, Err, IfSome, IsSomeAnd, Contains}
+use Rattle.std.specs.Prelude.{◌≡◌, ◌≢◌, ◌⊎◌, ℕ, Bool, true, List, [], ◌∷◌, Option, Some, None, Ok, Err, IfSome, IsSomeAnd, Contains}
 use Rattle.std.specs.List.{filter_map}
-use Rattle.circuit_theory.specs.declared.Mode.TheVariants.{Plain}
+use Rattle.circuit_theory.specs.declared.Mode.{Mode}
+use Rattle.circuit_theory.specs.declared.Mode.TheVariants.{Plain, Event}
 use Rattle.circuit_theory.specs.declared.Side.{Side}
 use Rattle.circuit_theory.specs.declared.Side.TheVariants.{A, B}
 use Rattle.circuit_theory.specs.Circuit.{Circuit}
@@ -38,9 +39,9 @@ use Rattle.sec_run.specs.declared.finding.Finding.TheVariants as finding
 use Rattle.sec_run.specs.declared.status.Status.{Status}
 use Rattle.sec_run.specs.declared.status.StatusName.{StatusName}
 use Rattle.sec_run.specs.declared.status.StatusName.TheVariants as status
-use Rattle.sec_run.specs.Job.{Check, Sim, check_of, graph_of, sim_of, OfCheck, OfGraph, OfSim}
+use Rattle.sec_run.specs.Job.{Check, Graph, Sim, check_of, graph_of, sim_of, OfCheck, OfGraph, OfSim}
 use Rattle.sec_run.specs.Lines.{finding_text}
-use Rattle.sec_run.specs.Reports.{IsLoaded, IsGraphFound, IsSimFound, TakesGraph, TakesRun, CanBeRun}
+use Rattle.sec_run.specs.Reports.{IsLoaded, IsGraphFound, IsSimFound, TakesGraph, TakesRun, TakesLimit, CanBeTold, CanBeRun}
 
 -- the bytes that are held at a path, where they are told
 abbrev pub Held : Type 0
@@ -80,6 +81,7 @@ IsFoundOf held check (finding.Cyclic side names) = OfNets held check (λ a b. Co
 IsFoundOf held check (finding.Unpaired side names) = OfNets held check (λ a b. Compared a b check.settings (Err (compare_error.Unpaired side names)))
 IsFoundOf held check (finding.Checked o settings) = (settings ≡ check.settings) × OfNets held check (λ a b. Compared a b check.settings (Ok o))
 IsFoundOf held check (finding.Done report) = ⊥
+IsFoundOf held check (finding.Undecided name proof) = ⊥
 
 -- what is said of what a job asks for, where that is built; else the job is refused
 abbrev pub WhereBuilt : {X : Type 0} → Finding → Option X → (X → Type 0) → Type 0
@@ -89,8 +91,8 @@ WhereBuilt f (Some x) P = P x
 -- what is true of a job where this is found
 abbrev pub IsFoundOfJob : Held → Task → Finding → Type 0
 IsFoundOfJob held (task.Check a b settings) f = WhereBuilt f (check_of (task.Check a b settings)) (λ check. IsFoundOf held check f)
-IsFoundOfJob held (task.Graph a mode) f = WhereBuilt f (graph_of (task.Graph a mode)) (λ path. IsGraphFound (held path) f)
-IsFoundOfJob held (task.Sim a s mode power) f = WhereBuilt f (sim_of (task.Sim a s mode power)) (λ sim. IsSimFound (held sim.circuit) (held sim.stimulus) sim.power f)
+IsFoundOfJob held (task.Graph a mode) f = WhereBuilt f (graph_of (task.Graph a mode)) (λ graph. IsGraphFound graph.mode (held graph.circuit) f)
+IsFoundOfJob held (task.Sim a s mode power) f = WhereBuilt f (sim_of (task.Sim a s mode power)) (λ sim. IsSimFound sim.mode (held sim.circuit) (held sim.stimulus) sim.power f)
 IsFoundOfJob held (task.Replay a b s mode) f = f ≡ finding.Refused refusal.NotBuilt
 IsFoundOfJob held (task.Gen seed regroup conflicts) f = f ≡ finding.Refused refusal.NotBuilt
 
@@ -114,6 +116,7 @@ status_of (finding.Cyclic side names) = status.Cyclic
 status_of (finding.Unpaired side names) = status.Cyclic
 status_of (finding.Checked o settings) = verdict_status o.verdict
 status_of (finding.Done report) = status.Done
+status_of (finding.Undecided name proof) = status.Limit
 
 -- the proofs of the queries that met the limit, in the order of the pairs
 abbrev pub proofs_of : Finding → List Proof
@@ -123,6 +126,7 @@ proofs_of (finding.Cyclic side names) = []
 proofs_of (finding.Unpaired side names) = []
 proofs_of (finding.Checked o settings) = filter_map (λ (r : PairResult). r.proof) o.pairs
 proofs_of (finding.Done report) = []
+proofs_of (finding.Undecided name proof) = proof ∷ []
 
 -- a read of A's path failed, or, where A loads, a read of B's
 abbrev pub ReadFailed : Held → (List ℕ → ℕ) → (List ℕ → ℕ) → Check → Type 0
@@ -138,7 +142,7 @@ SimReadFailed held before now sim =
 -- a read of a path of the job failed, and all that comes before it had gone through
 abbrev pub JobReadFailed : Held → (List ℕ → ℕ) → (List ℕ → ℕ) → Option Task → Type 0
 JobReadFailed held before now job =
-    OfCheck job (ReadFailed held before now) ⊎ (OfGraph job (λ path. Rose (before path) (now path)) ⊎ OfSim job (SimReadFailed held before now))
+    OfCheck job (ReadFailed held before now) ⊎ (OfGraph job (λ graph. Rose (before graph.circuit) (now graph.circuit)) ⊎ OfSim job (SimReadFailed held before now))
 
 -- With a finding its whole report is taken, and the status has its proofs; at a write fault a front of the report; else nothing.
 abbrev pub EndsAs : Option (List ℕ) → Option (List ℕ) → Held → Option Task → List Proof → StatusName → Type 0
@@ -244,17 +248,28 @@ CanAnswer held check = IsSomeAnd (held check.left) (λ x. IsSomeAnd (held check.
 -- the job reports on one circuit, and its whole report is taken
 abbrev pub TakesReport : Option (List ℕ) → Option (List ℕ) → Held → Option Task → Type 0
 TakesReport before now held job =
-    OfGraph job (λ path. TakesGraph (held path) before now) ⊎ OfSim job (λ sim. TakesRun (held sim.circuit) (held sim.stimulus) sim.power before now)
+    OfGraph job (λ graph. TakesGraph graph.mode (held graph.circuit) before now) ⊎ OfSim job (λ sim. TakesRun sim.mode (held sim.circuit) (held sim.stimulus) sim.power before now)
+
+-- A query has met the limit: that of the pair that the report names, or that of the latch, where the job reports on one circuit.
+abbrev pub TakesLimitOf : Option (List ℕ) → Option (List ℕ) → Held → Option Task → List Proof → Type 0
+TakesLimitOf before now held job proofs =
+    OfCheck job (λ check. OfTexts held check (λ x y. TextsUndecided x y check.settings proofs before now))
+    ⊎ (OfGraph job (λ graph. TakesLimit graph.mode (held graph.circuit) proofs before now) ⊎ OfSim job (λ sim. TakesLimit sim.mode (held sim.circuit) proofs before now))
+
+-- the text is told, and the circuit can be reported on
+abbrev pub CanTell : Held → Graph → Type 0
+CanTell held graph = IsSomeAnd (held graph.circuit) (CanBeTold graph.mode)
 
 -- both texts are told, and the circuit can be run over the stimulus from the power word
 abbrev pub CanSimulate : Held → Sim → Type 0
-CanSimulate held sim = IsSomeAnd (held sim.circuit) (λ x. IsSomeAnd (held sim.stimulus) (λ y. CanBeRun x y sim.power))
+CanSimulate held sim = IsSomeAnd (held sim.circuit) (λ x. IsSomeAnd (held sim.stimulus) (λ y. CanBeRun sim.mode x y sim.power))
 
--- the report is done, or want of memory
-abbrev pub IsDone : StatusName → Type 0
-IsDone status.Done = Unit {0}
-IsDone status.NoMemory = Unit {0}
-IsDone other = ⊥
+-- the report on one circuit is done, or want of memory; in the event mode also a query has met the limit
+abbrev pub IsReported : Mode → StatusName → Type 0
+IsReported mode status.Done = Unit {0}
+IsReported mode status.NoMemory = Unit {0}
+IsReported mode status.Limit = mode ≡ Event
+IsReported mode other = ⊥
 
 -- a verdict, or want of memory
 abbrev pub IsAnswer : StatusName → Type 0

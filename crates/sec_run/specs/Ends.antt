@@ -1,6 +1,7 @@
 -- How the parts of a run end.
 use Rattle.std.specs.Prelude.{◌≡◌, ℕ, List, [], Option, Result, Ok, Err}
 use Rattle.circuit_theory.specs.declared.Side.{Side}
+use Rattle.circuit_theory.specs.declared.Side.TheVariants.{A}
 use Rattle.sec_base.specs.declared.fetching.FetchError.TheVariants as fetch_error
 use Rattle.sec_base.specs.Outside.{Takes, TakesFront}
 use Rattle.blif_read.specs.declared.error.ReadError.TheVariants as read_error
@@ -17,6 +18,10 @@ use Rattle.sec_files.specs.declared.loading.LoadError.TheVariants as load_error
 use Rattle.witness_report.specs.declared.error.StimError.TheVariants as stim_error
 use Rattle.sec_files.specs.declared.stimuli.StimulusError.{StimulusError}
 use Rattle.sec_files.specs.declared.stimuli.StimulusError.TheVariants as stimulus_error
+use Rattle.latch_kinds.specs.declared.kinds.KindsError.{KindsError}
+use Rattle.latch_kinds.specs.declared.kinds.KindsError.TheVariants as kinds_error
+use Rattle.circuit_jobs.specs.declared.runs.SimulateError.{SimulateError}
+use Rattle.circuit_jobs.specs.declared.runs.SimulateError.TheVariants as simulate_error
 use Rattle.sec_run.specs.declared.finding.Refusal.TheVariants as refusal
 use Rattle.sec_run.specs.declared.finding.Finding.{Finding}
 use Rattle.sec_run.specs.declared.finding.Finding.TheVariants as finding
@@ -60,6 +65,25 @@ stimulus_end (stimulus_error.Fetch fetch_error.NoMemory) = Err stop.NoMemory
 stimulus_end (stimulus_error.Read (stim_error.BadHeader line)) = Ok (finding.Refused (refusal.BadHeader line))
 stimulus_end (stimulus_error.Read (stim_error.BadRow line)) = Ok (finding.Refused (refusal.BadRow line))
 stimulus_end (stimulus_error.Read stim_error.NoMemory) = Err stop.NoMemory
+
+-- what is found where it isn't found out what a latch is
+abbrev pub kinds_end : KindsError → Result Finding Stop
+kinds_end kinds_error.TooLarge = Ok (finding.Refused (refusal.TooLarge A))
+kinds_end (kinds_error.Limit name proof) = Ok (finding.Undecided name proof)
+kinds_end kinds_error.NoMemory = Err stop.NoMemory
+
+-- what is found of a latch graph
+abbrev pub graph_end : Result (List ℕ) KindsError → Result Finding Stop
+graph_end (Ok report) = Ok (finding.Done report)
+graph_end (Err error) = kinds_end error
+
+-- what is found by a simulation
+abbrev pub sim_end : Result (List ℕ) SimulateError → Result Finding Stop
+sim_end (Ok report) = Ok (finding.Done report)
+sim_end (Err (simulate_error.Misfit m)) = Ok (finding.Refused (refusal.Misfit m))
+sim_end (Err simulate_error.TooLarge) = Ok (finding.Refused (refusal.TooLarge A))
+sim_end (Err (simulate_error.Limit name proof)) = Ok (finding.Undecided name proof)
+sim_end (Err simulate_error.NoMemory) = Err stop.NoMemory
 
 -- the work ends with a finding of this kind, or by a read that failed, or at want of memory
 abbrev pub EndsBy : (Finding → Type 0) → Type 0 → Result Finding Stop → Type 0

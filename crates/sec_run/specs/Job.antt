@@ -1,5 +1,5 @@
 -- What a job asks for.
-use Rattle.std.specs.Prelude.{ℕ, ◌≤◌, Bool, true, false, if◌then◌else◌, List, Option, Some, None, option_and_then, IsSomeAnd}
+use Rattle.std.specs.Prelude.{◌≡◌, ℕ, ◌≤◌, Bool, true, false, if◌then◌else◌, List, Option, Some, None, option_and_then, IsSomeAnd}
 use Rattle.circuit_theory.specs.declared.Mode.{Mode}
 use Rattle.circuit_theory.specs.declared.Mode.TheVariants.{Plain, Event}
 use Rattle.sec_base.specs.declared.settings.Settings.{Settings}
@@ -28,25 +28,31 @@ check_of (task.Sim a s mode power) = None
 check_of (task.Replay a b s mode) = None
 check_of (task.Gen seed regroup conflicts) = None
 
--- the path of the circuit whose latch graph is told, in the plain form
-abbrev pub graph_of : Task → Option (List ℕ)
+-- the path of a circuit whose latch graph is told, and the mode
+pub record Graph : Type 0 where
+  pub circuit : List ℕ
+  pub mode : Mode
+
+-- what is told of a circuit
+abbrev pub graph_of : Task → Option Graph
 graph_of (task.Check a b settings) = None
-graph_of (task.Graph a mode) = if is_plain mode then Some a else None
+graph_of (task.Graph a mode) = Some (record { circuit = a; mode = mode })
 graph_of (task.Sim a s mode power) = None
 graph_of (task.Replay a b s mode) = None
 graph_of (task.Gen seed regroup conflicts) = None
 
--- the paths of a circuit and of a stimulus for it, and the power word
+-- the paths of a circuit and of a stimulus for it, the mode, and the power word
 pub record Sim : Type 0 where
   pub circuit : List ℕ
   pub stimulus : List ℕ
+  pub mode : Mode
   pub power : Option (List ℕ)
 
--- what is simulated, in the plain form
+-- what is simulated
 abbrev pub sim_of : Task → Option Sim
 sim_of (task.Check a b settings) = None
 sim_of (task.Graph a mode) = None
-sim_of (task.Sim a s mode power) = if is_plain mode then Some (record { circuit = a; stimulus = s; power = power }) else None
+sim_of (task.Sim a s mode power) = Some (record { circuit = a; stimulus = s; mode = mode; power = power })
 sim_of (task.Replay a b s mode) = None
 sim_of (task.Gen seed regroup conflicts) = None
 
@@ -62,10 +68,18 @@ HasFewConflicts (task.Gen seed regroup conflicts) = conflicts ≤ 200000
 abbrev pub OfCheck : Option Task → (Check → Type 0) → Type 0
 OfCheck job P = IsSomeAnd (option_and_then check_of job) P
 
--- what is said of the path of the circuit whose latch graph the job asks for
-abbrev pub OfGraph : Option Task → (List ℕ → Type 0) → Type 0
+-- what is said of the circuit whose latch graph the job asks for
+abbrev pub OfGraph : Option Task → (Graph → Type 0) → Type 0
 OfGraph job P = IsSomeAnd (option_and_then graph_of job) P
 
 -- what is said of the simulation that the job asks for
 abbrev pub OfSim : Option Task → (Sim → Type 0) → Type 0
 OfSim job P = IsSomeAnd (option_and_then sim_of job) P
+
+-- what is said of such a circuit, if the job asks for one
+abbrev pub IfGraph : Option Task → (Graph → Type 0) → Type 0
+IfGraph job P = (graph : Graph) → option_and_then graph_of job ≡ Some graph → P graph
+
+-- what is said of a simulation, if the job asks for one
+abbrev pub IfSim : Option Task → (Sim → Type 0) → Type 0
+IfSim job P = (sim : Sim) → option_and_then sim_of job ≡ Some sim → P sim

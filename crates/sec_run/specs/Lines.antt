@@ -86,6 +86,10 @@ cycle_text side names = codes "cyclic " ++ side_word side ++ names_text names ++
 abbrev pub unpaired_text : Side → List (List ℕ) → List ℕ
 unpaired_text side names = codes "unpaired " ++ side_word side ++ names_text names ++ 10 ∷ []
 
+-- it isn't found out whether the circuit's latch of this name has a load enable
+abbrev pub undecided_text : List ℕ → List ℕ
+undecided_text name = codes "limit recover A:" ++ name ++ codes " conflicts 20000\n"
+
 -- the report of what was found
 abbrev pub finding_text : Finding → List ℕ
 finding_text finding.Words = words_text
@@ -94,3 +98,4 @@ finding_text (finding.Cyclic side names) = cycle_text side names
 finding_text (finding.Unpaired side names) = unpaired_text side names
 finding_text (finding.Checked outcome settings) = report_text settings.conflicts outcome
 finding_text (finding.Done report) = report
+finding_text (finding.Undecided name proof) = undecided_text name

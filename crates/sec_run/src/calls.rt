@@ -1,23 +1,23 @@
 //! The top call.
 
-ghost use Rattle.std.specs.Prelude.{◌≡◌, ◌≢◌, ◌≤◌, ℕ, List, [], Ok, IsErrOf, IsSomeAnd, IfOk, OnOk, map, string_bytes, Option, None, Some, option_and_then, option_to_list, ◌++◌};
+ghost use Rattle.std.specs.Prelude.{◌≡◌, ◌≢◌, ◌≤◌, ℕ, List, [], ◌∷◌, Ok, IsErrOf, IsSomeAnd, IfOk, OnOk, map, string_bytes, Option, None, Some, option_and_then, option_to_list, ◌++◌};
 ghost use Rattle.std.specs.List.{filter_map};
 ghost use Rattle.circuit_theory.specs.declared.Mode.TheVariants.{Plain};
 ghost use Rattle.sec_base.specs.Outside.{Rose, SameHeld, NoneFell};
 ghost use Rattle.sec_words.specs.Jobs.{job_of};
 ghost use Rattle.sec_outcome.specs.Report.{report_text};
-ghost use Rattle.sec_files.specs.Loading.{IsAccepted};
-ghost use Rattle.sec_run.specs.Job.{check_of, graph_of, sim_of, Check, HasFewConflicts, OfCheck, OfGraph, OfSim};
-ghost use Rattle.sec_run.specs.Answer.{IsFinding, IsTaken, JobReadFailed, OfTexts, TextsAgree, TextsDiffer, TextsNotShown, TextsUndecided, TakesReport, CanAnswer, CanSimulate, IsAnswer, IsDone, status_of, proofs_of};
+ghost use Rattle.sec_run.specs.Job.{check_of, graph_of, sim_of, Check, HasFewConflicts, OfCheck, OfGraph, OfSim, IfGraph, IfSim};
+ghost use Rattle.sec_run.specs.Answer.{IsFinding, IsTaken, JobReadFailed, OfTexts, TextsAgree, TextsDiffer, TextsNotShown, TakesLimitOf, TakesReport, CanAnswer, CanTell, CanSimulate, IsAnswer, IsReported, status_of, proofs_of};
 ghost use Rattle.sec_run.specs.Ends.{compare_end, FoundOf, Found, IsWritten};
-ghost use Rattle.sec_run.specs.Lines.{finding_text};
+ghost use Rattle.sec_run.specs.Lines.{finding_text, undecided_text};
 
 use crate::comparison::{Comparison, comparison_of};
 use crate::finding::{Finding, Refusal, Stop, load_end};
 use crate::reports::{graph_of, simulate, simulation_of, tell_graph};
 use crate::status::{Proofs, Status, StatusName};
-use crate::writing::{cycle_report, refusal_report, unpaired_report, words_report};
-use sec_base::{NoMemory, Shelf, Side, Sink, Text};
+use crate::writing::{cycle_report, refusal_report, undecided_text, unpaired_report, words_report};
+use pair_decide::Proof;
+use sec_base::{NoMemory, Shelf, Side, Sink, Text, Word};
 use sec_check::{
     CompareError, Outcome, PairResult, PairResults, Settings, Verdict, compare, report,
 };
@@ -70,7 +70,7 @@ fn find<S: Shelf>(alloc: Global, task: &Task, shelf: &mut S) -> Result<Finding, 
     ensures found { Found (S.held shelf.old) (S.faults shelf.old) (S.faults shelf.new) (Some task.now) result }
     ensures keeps { SameHeld (S.held shelf.old) (S.held shelf.new) }
     ensures served { OfCheck (Some task.now) (λ check. S.serves shelf.old check.left × S.serves shelf.old check.right) → IsErrOf result Stop.ReadFault → ⊥ }
-    ensures served_graph { OfGraph (Some task.now) (λ path. S.serves shelf.old path) → IsErrOf result Stop.ReadFault → ⊥ }
+    ensures served_graph { OfGraph (Some task.now) (λ graph. S.serves shelf.old graph.circuit) → IsErrOf result Stop.ReadFault → ⊥ }
     ensures served_sim { OfSim (Some task.now) (λ sim. S.serves shelf.old sim.circuit × S.serves shelf.old sim.stimulus) → IsErrOf result Stop.ReadFault → ⊥ }
     ensures idle { check_of task.now ≡ None → graph_of task.now ≡ None → sim_of task.now ≡ None → shelf.new ≡ shelf.old }
 {
@@ -85,12 +85,12 @@ fn find_report<S: Shelf>(alloc: Global, task: &Task, shelf: &mut S) -> Result<Fi
     requires { check_of task.now ≡ None }
     ensures found { Found (S.held shelf.old) (S.faults shelf.old) (S.faults shelf.new) (Some task.now) result }
     ensures keeps { SameHeld (S.held shelf.old) (S.held shelf.new) }
-    ensures served_graph { OfGraph (Some task.now) (λ path. S.serves shelf.old path) → IsErrOf result Stop.ReadFault → ⊥ }
+    ensures served_graph { OfGraph (Some task.now) (λ graph. S.serves shelf.old graph.circuit) → IsErrOf result Stop.ReadFault → ⊥ }
     ensures served_sim { OfSim (Some task.now) (λ sim. S.serves shelf.old sim.circuit × S.serves shelf.old sim.stimulus) → IsErrOf result Stop.ReadFault → ⊥ }
     ensures idle { graph_of task.now ≡ None → sim_of task.now ≡ None → shelf.new ≡ shelf.old }
 {
-    if let Some(path) = graph_of(task) {
-        return tell_graph(alloc, path, shelf);
+    if let Some(graph) = graph_of(task) {
+        return tell_graph(alloc, &graph, shelf);
     }
     match simulation_of(task) {
         Some(simulation) => simulate(alloc, &simulation, shelf),
@@ -118,6 +118,7 @@ fn status_of(finding: &Finding) -> StatusName
         Finding::Cyclic(_, _) | Finding::Unpaired(_, _) => StatusName::Cyclic,
         Finding::Checked(outcome, _) => verdict_status(&outcome.verdict),
         Finding::Done(_) => StatusName::Done,
+        Finding::Undecided(_, _) => StatusName::Limit,
     }
 }
 
@@ -175,6 +176,17 @@ fn without_proofs(alloc: Global, made: Result<Text, NoMemory>) -> Result<(Text, 
     }
 }
 
+/// The report of a latch of the circuit whose query met the limit, and the proof of that.
+fn undecided_report(alloc: Global, name: &Word, proof: Proof) -> Result<(Text, Proofs), NoMemory>
+    ensures text { IfOk result (λ made. made.0 ≡ undecided_text name.now) }
+    ensures proofs { IfOk result (λ made. made.1 ≡ proof ∷ []) }
+{
+    let mut proofs = Proofs::new(alloc);
+    proofs.push(proof)?;
+    let text = undecided_text(alloc, name)?;
+    Ok((text, proofs))
+}
+
 /// The report of what was found, and the proofs of the queries that met the limit, in the order in which they were decided.
 fn report_of(alloc: Global, finding: Finding) -> Result<(Text, Proofs), NoMemory>
     ensures text { IfOk result (λ made. made.0 ≡ finding_text finding) }
@@ -189,6 +201,7 @@ fn report_of(alloc: Global, finding: Finding) -> Result<(Text, Proofs), NoMemory
         }
         Finding::Checked(outcome, settings) => comparison_report(alloc, outcome, &settings),
         Finding::Done(text) => Ok((text, Proofs::new(alloc))),
+        Finding::Undecided(name, proof) => undecided_report(alloc, &name, proof),
     }
 }
 
@@ -225,18 +238,17 @@ pub fn run_job<S: Shelf, W: Sink>(alloc: Global, task: &Task, shelf: &mut S, out
         OfTexts (S.held shelf.old) check (λ x y. TextsDiffer x y check.settings.conflicts (W.taken out.old) (W.taken out.new))) }
     ensures not_shown { result.name ≡ StatusName.NotShown → OfCheck (Some task.now) (λ check.
         OfTexts (S.held shelf.old) check (λ x y. TextsNotShown x y check.settings (W.taken out.old) (W.taken out.new))) }
-    ensures limit { result.name ≡ StatusName.Limit → OfCheck (Some task.now) (λ check.
-        OfTexts (S.held shelf.old) check (λ x y. TextsUndecided x y check.settings result.proofs (W.taken out.old) (W.taken out.new))) }
+    ensures limit { result.name ≡ StatusName.Limit → TakesLimitOf (W.taken out.old) (W.taken out.new) (S.held shelf.old) (Some task.now) result.proofs }
     ensures done { result.name ≡ StatusName.Done → TakesReport (W.taken out.old) (W.taken out.new) (S.held shelf.old) (Some task.now) }
     ensures read_fault { result.name ≡ StatusName.ReadFault → JobReadFailed (S.held shelf.old) (S.faults shelf.old) (S.faults shelf.new) (Some task.now) }
     ensures write_fault { result.name ≡ StatusName.WriteFault → Rose (W.faults out.old) (W.faults out.new) }
     // Where no read and no write fails, two texts that can be compared are answered.
     ensures complete { OfCheck (Some task.now) (CanAnswer (S.held shelf.old)) → result.name ≢ StatusName.ReadFault → result.name ≢ StatusName.WriteFault → IsAnswer result.name }
     // So is a circuit that can be told or run.
-    ensures complete_graph { OfGraph (Some task.now) (λ path. IsSomeAnd (S.held shelf.old path) IsAccepted) → result.name ≢ StatusName.ReadFault → result.name ≢ StatusName.WriteFault → IsDone result.name }
-    ensures complete_sim { OfSim (Some task.now) (CanSimulate (S.held shelf.old)) → result.name ≢ StatusName.ReadFault → result.name ≢ StatusName.WriteFault → IsDone result.name }
+    ensures complete_graph { IfGraph (Some task.now) (λ graph. CanTell (S.held shelf.old) graph → result.name ≢ StatusName.ReadFault → result.name ≢ StatusName.WriteFault → IsReported graph.mode result.name) }
+    ensures complete_sim { IfSim (Some task.now) (λ sim. CanSimulate (S.held shelf.old) sim → result.name ≢ StatusName.ReadFault → result.name ≢ StatusName.WriteFault → IsReported sim.mode result.name) }
     ensures served { OfCheck (Some task.now) (λ check. S.serves shelf.old check.left × S.serves shelf.old check.right) → result.name ≢ StatusName.ReadFault }
-    ensures served_graph { OfGraph (Some task.now) (λ path. S.serves shelf.old path) → result.name ≢ StatusName.ReadFault }
+    ensures served_graph { OfGraph (Some task.now) (λ graph. S.serves shelf.old graph.circuit) → result.name ≢ StatusName.ReadFault }
     ensures served_sim { OfSim (Some task.now) (λ sim. S.serves shelf.old sim.circuit × S.serves shelf.old sim.stimulus) → result.name ≢ StatusName.ReadFault }
     ensures accepted { ((f : Finding) → IsFinding (S.held shelf.old) (Some task.now) f → W.accepts out.old (finding_text f)) → result.name ≢ StatusName.WriteFault }
     ensures keeps { SameHeld (S.held shelf.old) (S.held shelf.new) }
@@ -259,18 +271,17 @@ pub fn run<S: Shelf, W: Sink>(alloc: Global, words: &[String], shelf: &mut S, ou
         OfTexts (S.held shelf.old) check (λ x y. TextsDiffer x y check.settings.conflicts (W.taken out.old) (W.taken out.new))) }
     ensures not_shown { result.name ≡ StatusName.NotShown → OfCheck (job_of (map (λ w. string_bytes w) words.now)) (λ check.
         OfTexts (S.held shelf.old) check (λ x y. TextsNotShown x y check.settings (W.taken out.old) (W.taken out.new))) }
-    ensures limit { result.name ≡ StatusName.Limit → OfCheck (job_of (map (λ w. string_bytes w) words.now)) (λ check.
-        OfTexts (S.held shelf.old) check (λ x y. TextsUndecided x y check.settings result.proofs (W.taken out.old) (W.taken out.new))) }
+    ensures limit { result.name ≡ StatusName.Limit → TakesLimitOf (W.taken out.old) (W.taken out.new) (S.held shelf.old) (job_of (map (λ w. string_bytes w) words.now)) result.proofs }
     ensures done { result.name ≡ StatusName.Done → TakesReport (W.taken out.old) (W.taken out.new) (S.held shelf.old) (job_of (map (λ w. string_bytes w) words.now)) }
     ensures read_fault { result.name ≡ StatusName.ReadFault → JobReadFailed (S.held shelf.old) (S.faults shelf.old) (S.faults shelf.new) (job_of (map (λ w. string_bytes w) words.now)) }
     ensures write_fault { result.name ≡ StatusName.WriteFault → Rose (W.faults out.old) (W.faults out.new) }
     // Where no read and no write fails, two texts that can be compared are answered.
     ensures complete { OfCheck (job_of (map (λ w. string_bytes w) words.now)) (CanAnswer (S.held shelf.old)) → result.name ≢ StatusName.ReadFault → result.name ≢ StatusName.WriteFault → IsAnswer result.name }
     // So is a circuit that can be told or run.
-    ensures complete_graph { OfGraph (job_of (map (λ w. string_bytes w) words.now)) (λ path. IsSomeAnd (S.held shelf.old path) IsAccepted) → result.name ≢ StatusName.ReadFault → result.name ≢ StatusName.WriteFault → IsDone result.name }
-    ensures complete_sim { OfSim (job_of (map (λ w. string_bytes w) words.now)) (CanSimulate (S.held shelf.old)) → result.name ≢ StatusName.ReadFault → result.name ≢ StatusName.WriteFault → IsDone result.name }
+    ensures complete_graph { IfGraph (job_of (map (λ w. string_bytes w) words.now)) (λ graph. CanTell (S.held shelf.old) graph → result.name ≢ StatusName.ReadFault → result.name ≢ StatusName.WriteFault → IsReported graph.mode result.name) }
+    ensures complete_sim { IfSim (job_of (map (λ w. string_bytes w) words.now)) (λ sim. CanSimulate (S.held shelf.old) sim → result.name ≢ StatusName.ReadFault → result.name ≢ StatusName.WriteFault → IsReported sim.mode result.name) }
     ensures served { OfCheck (job_of (map (λ w. string_bytes w) words.now)) (λ check. S.serves shelf.old check.left × S.serves shelf.old check.right) → result.name ≢ StatusName.ReadFault }
-    ensures served_graph { OfGraph (job_of (map (λ w. string_bytes w) words.now)) (λ path. S.serves shelf.old path) → result.name ≢ StatusName.ReadFault }
+    ensures served_graph { OfGraph (job_of (map (λ w. string_bytes w) words.now)) (λ graph. S.serves shelf.old graph.circuit) → result.name ≢ StatusName.ReadFault }
     ensures served_sim { OfSim (job_of (map (λ w. string_bytes w) words.now)) (λ sim. S.serves shelf.old sim.circuit × S.serves shelf.old sim.stimulus) → result.name ≢ StatusName.ReadFault }
     ensures accepted { ((f : Finding) → IsFinding (S.held shelf.old) (job_of (map (λ w. string_bytes w) words.now)) f → W.accepts out.old (finding_text f)) → result.name ≢ StatusName.WriteFault }
     ensures keeps { SameHeld (S.held shelf.old) (S.held shelf.new) }

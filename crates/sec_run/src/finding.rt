@@ -4,6 +4,7 @@ ghost use Rattle.std.specs.Prelude.{◌≡◌};
 ghost use Rattle.sec_run.specs.Ends.{load_end};
 
 use blif_read::{ReadError, ReadKind};
+use pair_decide::Proof;
 use sec_base::{FetchError, Side, Text, Word, Words};
 use sec_check::{Outcome, Settings};
 use sec_files::{FlatError, LoadError};
@@ -23,7 +24,7 @@ pub enum Refusal {
     /// The first name that one circuit has and the other lacks.
     Interface(Word),
     /// The unfoldings of the circuit's outputs weigh more than 2,000,000 together, where latches are cut open those of the cut
-    /// circuit's.
+    /// circuit's; or a latch is in its own cone, and that cone weighs more.
     TooLarge(Side),
     /// The file of the stimulus has more than 16,777,216 bytes.
     StimulusTooLong,
@@ -50,6 +51,9 @@ pub enum Finding {
     Checked(Outcome, Settings),
     /// The report of one circuit.
     Done(Text),
+    /// The name of the circuit's latch of which it wasn't found out within the limit of conflicts whether it has a load enable, and
+    /// the proof of that.
+    Undecided(Word, Proof),
 }
 
 /// Why the work on the files ends without a report.

@@ -1,45 +1,49 @@
 //! The jobs that report on one circuit.
 
-ghost use Rattle.std.specs.Prelude.{◌≡◌, ◌^◌, ◌<◌, length, option_map, IfOk, IfSome, IfNone, IsErrOf, None, Option};
-ghost use Rattle.circuit_theory.specs.declared.Mode.TheVariants.{Plain};
-ghost use Rattle.graph_report.specs.Report.{IsGraphReport};
+ghost use Rattle.std.specs.Prelude.{◌≡◌, option_map, IfSome, IfNone, IsErrOf, None, Option};
 ghost use Rattle.sec_base.specs.Outside.{Rose, SameHeld};
 ghost use Rattle.sec_run.specs.Job.{Sim, graph_of, sim_of};
-ghost use Rattle.sec_run.specs.Reports.{IsGraphFound, IsSimFound, IsRunFound};
+ghost use Rattle.sec_run.specs.Reports.{IsGraphFound, IsSimFound};
 ghost use Rattle.sec_run.specs.Answer.{SimReadFailed};
-ghost use Rattle.sec_run.specs.Ends.{EndsBy, stimulus_end};
+ghost use Rattle.sec_run.specs.Ends.{EndsBy, stimulus_end, graph_end, sim_end};
 
 use crate::finding::{Finding, Refusal, Stop, load_end};
+use circuit_jobs::{KindsError, SimulateError, simulate as run_circuit, tell};
 use circuit_theory::Mode;
-use flat_net::Net;
-use graph_report::graph_report;
-use latch_cone::{all_plain, none_enabled};
-use sec_base::{FetchError, NoMemory, Shelf, Side, Text, Word};
+use sec_base::{FetchError, Shelf, Side, Text, Word};
 use sec_files::{StimulusError, load, load_stimulus};
 use sec_words::Task;
-use sim_report::{misfit_of, sim_report};
 use std::alloc::Global;
-use witness_report::{StimError, Stimulus};
+use witness_report::StimError;
 
-/// The paths of a circuit and of a stimulus for it, and the power word.
+/// The path of a circuit whose latch graph is told, and the mode.
+#[derive(Clone, Copy)]
+pub struct GraphJob<'a> {
+    pub circuit: &'a str,
+    pub mode: Mode,
+}
+
+/// The paths of a circuit and of a stimulus for it, the mode, and the power word.
 #[derive(Clone, Copy)]
 pub struct Simulation<'a> {
     pub circuit: &'a str,
     pub stimulus: &'a str,
+    pub mode: Mode,
     pub power: Option<&'a [u8]>,
 }
 
-/// The path of the circuit whose latch graph the job tells, in the plain form. None exactly where there is no such job.
-pub fn graph_of(task: &Task) -> Option<&str>
-    ensures { option_map (λ path. path.now) result ≡ graph_of task.now }
+/// What the job tells of a circuit. None exactly where there is no such job.
+pub fn graph_of(task: &Task) -> Option<GraphJob<'_>>
+    ensures some { IfSome result (λ g. graph_of task.now ≡ Option.Some (record { circuit = g.circuit.now; mode = g.mode })) }
+    ensures none { IfNone result (graph_of task.now ≡ None) }
 {
     let Task::Graph { a, mode } = task else {
         return None;
     };
-    match mode {
-        Mode::Plain => Some(a.as_str()),
-        Mode::Event => None,
-    }
+    Some(GraphJob {
+        circuit: a.as_str(),
+        mode: *mode,
+    })
 }
 
 /// The digits of the power word.
@@ -52,46 +56,50 @@ fn digits_of(power: &Option<Word>) -> Option<&[u8]>
     }
 }
 
-/// What the job simulates, in the plain form. None exactly where there is no such job.
+/// What the job simulates. None exactly where there is no such job.
 pub fn simulation_of(task: &Task) -> Option<Simulation<'_>>
-    ensures some { IfSome result (λ s. sim_of task.now ≡ Option.Some (record { circuit = s.circuit.now; stimulus = s.stimulus.now; power = option_map (λ digits. digits.now) s.power })) }
+    ensures some { IfSome result (λ s. sim_of task.now ≡ Option.Some (record { circuit = s.circuit.now; stimulus = s.stimulus.now; mode = s.mode; power = option_map (λ digits. digits.now) s.power })) }
     ensures none { IfNone result (sim_of task.now ≡ None) }
 {
     let Task::Sim { a, s, mode, power } = task else {
         return None;
     };
-    match mode {
-        Mode::Plain => Some(Simulation {
-            circuit: a.as_str(),
-            stimulus: s.as_str(),
-            power: digits_of(power),
-        }),
-        Mode::Event => None,
-    }
+    Some(Simulation {
+        circuit: a.as_str(),
+        stimulus: s.as_str(),
+        mode: *mode,
+        power: digits_of(power),
+    })
 }
 
 /// Loads the circuit and reports its latch graph.
-pub fn tell_graph<S: Shelf>(alloc: Global, path: &str, shelf: &mut S) -> Result<Finding, Stop>
-    ensures found { EndsBy (IsGraphFound (S.held shelf.old path.now)) (Rose (S.faults shelf.old path.now) (S.faults shelf.new path.now)) result }
+pub fn tell_graph<S: Shelf>(
+    alloc: Global,
+    graph: &GraphJob<'_>,
+    shelf: &mut S,
+) -> Result<Finding, Stop>
+    ensures found { EndsBy (IsGraphFound graph.now.mode (S.held shelf.old graph.now.circuit.now)) (Rose (S.faults shelf.old graph.now.circuit.now) (S.faults shelf.new graph.now.circuit.now)) result }
     ensures keeps { SameHeld (S.held shelf.old) (S.held shelf.new) }
-    ensures served { S.serves shelf.old path.now → IsErrOf result Stop.ReadFault → ⊥ }
+    ensures served { S.serves shelf.old graph.now.circuit.now → IsErrOf result Stop.ReadFault → ⊥ }
 {
-    let net = match load(alloc, shelf, path) {
+    let net = match load(alloc, shelf, graph.circuit) {
         Ok(net) => net,
         Err(error) => return load_end(Side::A, error),
     };
-    match plain_graph(alloc, &net) {
-        Ok(text) => Ok(Finding::Done(text)),
-        Err(NoMemory) => Err(Stop::NoMemory),
-    }
+    let told = tell(alloc, &net, graph.mode);
+    graph_end(told)
 }
 
-/// The report of the net's latch graph in the plain mode.
-fn plain_graph(alloc: Global, net: &Net) -> Result<Text, NoMemory>
-    ensures { IfOk result (IsGraphReport Plain net.now) }
+/// What is found of a latch graph.
+fn graph_end(told: Result<Text, KindsError>) -> Result<Finding, Stop>
+    ensures { result ≡ graph_end told }
 {
-    let kinds = all_plain(alloc, net)?;
-    graph_report(alloc, net, &kinds)
+    match told {
+        Ok(text) => Ok(Finding::Done(text)),
+        Err(KindsError::TooLarge) => Ok(Finding::Refused(Refusal::TooLarge(Side::A))),
+        Err(KindsError::Limit(name, proof)) => Ok(Finding::Undecided(name, proof)),
+        Err(KindsError::NoMemory) => Err(Stop::NoMemory),
+    }
 }
 
 /// What is found where the stimulus isn't loaded.
@@ -114,22 +122,17 @@ fn stimulus_end(error: StimulusError) -> Result<Finding, Stop>
     }
 }
 
-/// The report of the net's run over the stimulus in the plain mode, or what doesn't fit the net.
-fn plain_run(
-    alloc: Global,
-    net: &Net,
-    stimulus: &Stimulus,
-    power: Option<&[u8]>,
-) -> Result<Finding, NoMemory>
-    requires { length stimulus.now.rows < 2 ^ 32 }
-    ensures { IfOk result (IsRunFound net.now stimulus.now.names stimulus.now.rows (option_map (λ word. word.now) power.entry)) }
+/// What is found by a simulation.
+fn sim_end(simulated: Result<Text, SimulateError>) -> Result<Finding, Stop>
+    ensures { result ≡ sim_end simulated }
 {
-    if let Some(misfit) = misfit_of(alloc, net, stimulus, power)? {
-        return Ok(Finding::Refused(Refusal::Misfit(misfit)));
+    match simulated {
+        Ok(text) => Ok(Finding::Done(text)),
+        Err(SimulateError::Misfit(misfit)) => Ok(Finding::Refused(Refusal::Misfit(misfit))),
+        Err(SimulateError::TooLarge) => Ok(Finding::Refused(Refusal::TooLarge(Side::A))),
+        Err(SimulateError::Limit(name, proof)) => Ok(Finding::Undecided(name, proof)),
+        Err(SimulateError::NoMemory) => Err(Stop::NoMemory),
     }
-    let none = none_enabled(alloc, net)?;
-    let text = sim_report(alloc, net, stimulus, power, &none)?;
-    Ok(Finding::Done(text))
 }
 
 /// Loads the circuit, then the stimulus, and reports the circuit's run over it.
@@ -138,8 +141,8 @@ pub fn simulate<S: Shelf>(
     simulation: &Simulation<'_>,
     shelf: &mut S,
 ) -> Result<Finding, Stop>
-    ensures found { let sim : Sim = record { circuit = simulation.now.circuit.now; stimulus = simulation.now.stimulus.now; power = option_map (λ digits. digits.now) simulation.now.power } in
-        EndsBy (IsSimFound (S.held shelf.old sim.circuit) (S.held shelf.old sim.stimulus) sim.power) (SimReadFailed (S.held shelf.old) (S.faults shelf.old) (S.faults shelf.new) sim) result }
+    ensures found { let sim : Sim = record { circuit = simulation.now.circuit.now; stimulus = simulation.now.stimulus.now; mode = simulation.now.mode; power = option_map (λ digits. digits.now) simulation.now.power } in
+        EndsBy (IsSimFound sim.mode (S.held shelf.old sim.circuit) (S.held shelf.old sim.stimulus) sim.power) (SimReadFailed (S.held shelf.old) (S.faults shelf.old) (S.faults shelf.new) sim) result }
     ensures keeps { SameHeld (S.held shelf.old) (S.held shelf.new) }
     ensures served { S.serves shelf.old simulation.now.circuit.now → S.serves shelf.old simulation.now.stimulus.now → IsErrOf result Stop.ReadFault → ⊥ }
 {
@@ -151,8 +154,6 @@ pub fn simulate<S: Shelf>(
         Ok(stimulus) => stimulus,
         Err(error) => return stimulus_end(error),
     };
-    match plain_run(alloc, &net, &stimulus, simulation.power) {
-        Ok(finding) => Ok(finding),
-        Err(NoMemory) => Err(Stop::NoMemory),
-    }
+    let simulated = run_circuit(alloc, &net, &stimulus, simulation.power, simulation.mode);
+    sim_end(simulated)
 }

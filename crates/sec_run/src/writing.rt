@@ -3,11 +3,11 @@
 ghost use Rattle.std.specs.Prelude.{◌≡◌, ℕ, List, [], ◌∷◌, ◌++◌, codes, OnOk, IfOk};
 ghost use Rattle.std.specs.Fmt.{decimal};
 ghost use Rattle.sec_base.specs.Texts.{names_text};
-ghost use Rattle.sec_run.specs.Lines.{side_word, kind_text, design_fault_text, misfit_text, refusal_text, words_text, cycle_text, unpaired_text};
+ghost use Rattle.sec_run.specs.Lines.{side_word, kind_text, design_fault_text, misfit_text, refusal_text, words_text, cycle_text, undecided_text, unpaired_text};
 
 use crate::finding::Refusal;
 use blif_read::ReadKind;
-use sec_base::{NoMemory, Seq, Side, Text, Words, put, put_names, put_number};
+use sec_base::{NoMemory, Seq, Side, Text, Word, Words, put, put_names, put_number};
 use sec_files::FlatError;
 use sim_report::Misfit;
 use std::alloc::Global;
@@ -202,5 +202,15 @@ pub fn unpaired_report(alloc: Global, side: Side, names: &Words) -> Result<Text,
 {
     let mut text = Vec::new(alloc);
     put_cycle(&mut text, b"unpaired ", side, names)?;
+    Ok(Seq::from_vec(text))
+}
+
+/// The report that it isn't found out whether the circuit's latch of this name has a load enable.
+pub fn undecided_text(alloc: Global, name: &Word) -> Result<Text, NoMemory>
+    ensures { IfOk result (λ text. text ≡ undecided_text name.now) }
+{
+    let mut text = Vec::new(alloc);
+    put_behind(&mut text, b"limit recover A:", name.as_slice())?;
+    put(&mut text, b" conflicts 20000\n")?;
     Ok(Seq::from_vec(text))
 }

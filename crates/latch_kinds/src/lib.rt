@@ -1,0 +1,6 @@
+//! What each latch of a net is in a mode: whether it has a load enable.
+#![tactic(auto)]
+
+mod kinds;
+
+pub use kinds::{KindsError, LatchKinds, kinds_in};
