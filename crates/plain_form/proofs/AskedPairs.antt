@@ -13,7 +13,7 @@ use Rattle.swept_queries.specs.declared.sides.Known.TheVariants as what
 use Rattle.swept_queries.specs.declared.sweeping.SweptQueries.{SweptQueries}
 use Rattle.swept_queries.specs.InStead.{sides_of, MayBeWithin, AreSwept, IsTrueOf}
 use Rattle.swept_queries.proofs.Listed.{zip_left}
-use Rattle.sec_setup.specs.declared.pairing.SignalPair.{SignalPair}
+use Rattle.port_matching.specs.declared.pairing.SignalPair.{SignalPair}
 use Rattle.plain_form.specs.declared.unfolding.Functions.{Functions}
 use Rattle.plain_form.specs.Asked.{AreOfPairs, AskOf, MayAsk, ArePairSides, AreSweptPairs}
 use Rattle.plain_form.specs.Pairs.{IsFunctionOf}

@@ -20,9 +20,9 @@ use Rattle.cbf_unfold.proofs.Known.{unfolded_later}
 use Rattle.circuit_theory.specs.declared.Side.TheVariants.{A, B}
 use Rattle.plain_form.specs.declared.error.PlainError.{PlainError}
 use Rattle.plain_form.specs.declared.error.PlainError.TheVariants as refused
-use Rattle.sec_setup.specs.declared.pairing.SignalPair.{SignalPair}
+use Rattle.port_matching.specs.declared.pairing.SignalPair.{SignalPair}
 use Rattle.plain_form.specs.Pairs.{IsFunctionOf, AreLight, AreTooLarge, IsRefusalOf, Unfolds, left_signals, right_signals}
-use Rattle.plain_form.proofs.Assignments.{take_next}
+use Rattle.shift_variables.proofs.Assignments.{take_next}
 
 -- functions of the signals stay them while the graph and the table grow
 pub functions_later : {X : Type 0} (signal : X → ℕ) (n : NetView) (order : List ℕ) (g h : List Node) (places more : List (ℕ × ℕ)) → Grows g h → Adds (λ p. Unit {0}) places more → (xs : List X) (us : List Unfolded) →

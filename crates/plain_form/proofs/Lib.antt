@@ -1,9 +1,6 @@
-pub mod Assignments
-pub mod MergeLists
 pub mod Leaves
-pub mod Reading
 pub mod Growing
-pub mod Rows
+pub mod FirstMade
 pub mod AskedPairs
 pub mod Decided
 pub mod Results

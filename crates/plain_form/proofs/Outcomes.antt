@@ -18,14 +18,14 @@ use Rattle.sec_outcome.specs.declared.outcome.Verdict.{Verdict}
 use Rattle.sec_setup.specs.declared.setup.Setup.{Setup}
 use Rattle.plain_form.specs.declared.error.PlainError.{PlainError}
 use Rattle.plain_form.specs.declared.error.PlainError.TheVariants as refused
-use Rattle.sec_setup.specs.declared.pairing.SignalPair.{SignalPair}
+use Rattle.port_matching.specs.declared.pairing.SignalPair.{SignalPair}
 use Rattle.plain_form.specs.Formed.{IsLight, Formed}
 use Rattle.sec_setup.specs.Pairs.{outputs_of, places_of, ArePairsOf, NamedPair}
 use Rattle.sec_setup.specs.Setup.{AreColumns}
 use Rattle.plain_form.specs.Found.{HaveFound, IsLimitAt, IsLimitOr, IsVerdictOf}
 use Rattle.plain_form.specs.Outcome.{AnswerFits, PairFits, NoneIs, IsFirstLimit, VerdictFits}
 use Rattle.plain_form.specs.Pairs.{AreLight, AreTooLarge, Unfolds, left_signals, right_signals}
-use Rattle.plain_form.proofs.Assignments.{once_each}
+use Rattle.shift_variables.proofs.Assignments.{once_each}
 use Rattle.plain_form.proofs.Growing.{over_weaker, weight_same}
 use Rattle.plain_form.proofs.PairAt.{output_within}
 

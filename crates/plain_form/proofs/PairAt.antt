@@ -12,13 +12,13 @@ use Rattle.aig.specs.Graph.{IsGraph}
 use Rattle.aig.specs.Builds.{HasTreeValues}
 use Rattle.cbf_unfold.specs.declared.unfolder.Unfolded.{Unfolded}
 use Rattle.pair_decide.specs.declared.query.Query.{Query}
-use Rattle.sec_setup.specs.declared.pairing.SignalPair.{SignalPair}
+use Rattle.port_matching.specs.declared.pairing.SignalPair.{SignalPair}
 use Rattle.plain_form.specs.declared.unfolding.Functions.{Functions}
 use Rattle.sec_setup.specs.Pairs.{outputs_of, ArePairsOf}
 use Rattle.plain_form.specs.Pairs.{IsFunctionOf, AreFunctions}
 use Rattle.plain_form.specs.Variables.{AreInOrder, IsPairQuery}
 use Rattle.plain_form.proofs.PairQueries.{AsksPair, in_order}
-use Rattle.plain_form.proofs.Reading.{item_at}
+use Rattle.shift_variables.proofs.Reading.{item_at}
 
 -- a relation of two lists, at one place of both
 zip_at : {X Y : Type 0} (R : X → Y → Type 0) (xs : List X) (ys : List Y) → AllZip R xs ys → (i : ℕ) (x : X) (y : Y) → slice_get xs i ≡ Some x → slice_get ys i ≡ Some y → R x y

@@ -30,8 +30,8 @@ use Rattle.plain_form.specs.Limits.{HasValueOf}
 use Rattle.plain_form.specs.Pairs.{IsFunctionOf}
 use Rattle.plain_form.specs.Sequences.{bits_at}
 use Rattle.plain_form.specs.Variables.{variable_of, variables_of, GoesBefore, AreInOrder, IsMergeOf, IsPairQuery}
-use Rattle.plain_form.proofs.MergeLists.{shift_apart}
-use Rattle.plain_form.proofs.Assignments.{assigned_alike}
+use Rattle.shift_variables.proofs.MergeLists.{shift_apart}
+use Rattle.shift_variables.proofs.Assignments.{assigned_alike}
 
 -- the number of a variable in the table is that of the variable
 variable_is : (places : List (ℕ × ℕ)) (v : ℕ) (x : Variable ℕ) → IsNumberOf places v x → variable_of places v ≡ x

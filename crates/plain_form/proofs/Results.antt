@@ -22,7 +22,7 @@ use Rattle.swept_queries.proofs.Stand.{is_difference}
 use Rattle.witness_report.specs.declared.witness.PairName.{PairName}
 use Rattle.witness_report.specs.declared.witness.Witness.{Witness}
 use Rattle.sec_outcome.specs.declared.outcome.PairResult.{PairResult}
-use Rattle.sec_setup.specs.declared.pairing.SignalPair.{SignalPair}
+use Rattle.port_matching.specs.declared.pairing.SignalPair.{SignalPair}
 use Rattle.sec_setup.specs.Pairs.{places_of, NamedPair}
 use Rattle.plain_form.specs.Found.{IsResultOf, IsFirst, HaveFound}
 use Rattle.plain_form.specs.Outcome.{differing, PairFits, PairsFit, IsFirstOfAnswer, NoneIs}

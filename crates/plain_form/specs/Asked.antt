@@ -6,7 +6,7 @@ use Rattle.pair_decide.specs.declared.query.Query.{Query}
 use Rattle.swept_queries.specs.declared.sides.Sides.{Sides}
 use Rattle.swept_queries.specs.declared.sweeping.SweptQueries.{SweptQueries}
 use Rattle.swept_queries.specs.InStead.{IsKnown}
-use Rattle.sec_setup.specs.declared.pairing.SignalPair.{SignalPair}
+use Rattle.port_matching.specs.declared.pairing.SignalPair.{SignalPair}
 use Rattle.plain_form.specs.declared.unfolding.Functions.{Functions}
 use Rattle.plain_form.specs.Pairs.{AreFunctions}
 use Rattle.plain_form.specs.Variables.{IsPairQuery}

@@ -15,7 +15,7 @@ use Rattle.sec_outcome.specs.declared.outcome.Verdict.TheVariants as verdict
 use Rattle.sec_outcome.specs.declared.outcome.Why.TheVariants as why
 use Rattle.sec_outcome.specs.declared.outcome.LimitAt.{LimitAt}
 use Rattle.sec_outcome.specs.declared.outcome.LimitAt.TheVariants as limit_at
-use Rattle.sec_setup.specs.declared.pairing.SignalPair.{SignalPair}
+use Rattle.port_matching.specs.declared.pairing.SignalPair.{SignalPair}
 use Rattle.sec_setup.specs.declared.setup.Setup.{Setup}
 use Rattle.sec_setup.specs.Cuts.{is_cut}
 use Rattle.sec_setup.specs.Pairs.{places_of}

@@ -10,7 +10,6 @@ ghost use Rattle.plain_form.specs.Outcome.{differing};
 ghost use Rattle.plain_form.specs.Variables.{AreInOrder, IsPairQuery};
 
 use crate::asking::sweep_pairs;
-use crate::merging::merge_variables;
 use crate::pairing::{copy_name, pair_depth};
 use crate::unfolding::Functions;
 use crate::witness::put_first;
@@ -20,6 +19,7 @@ use pair_decide::{Decision, Proof, Query};
 use sec_base::{Bits, NoMemory, PairAnswer, PlaceTable};
 use sec_outcome::{PairName, PairResult, PairResults, Witness};
 use sec_setup::Setup;
+use shift_variables::merge_variables;
 use std::alloc::Global;
 use swept_queries::SweptQueries;
 

@@ -6,7 +6,6 @@ mod comparing;
 mod deciding;
 mod error;
 pub mod laws;
-mod merging;
 mod pairing;
 mod unfolding;
 mod verdict;

@@ -1,11 +1,6 @@
-pub mod Columns
 pub mod CutNets
-pub mod Interfaces
-pub mod NamedPairs
-pub mod Numbering
-pub mod Paired
+pub mod Mismatches
 pub mod SameEquations
 pub mod Setups
-pub mod Shared
 pub mod ToldCycles
 pub mod Uncut

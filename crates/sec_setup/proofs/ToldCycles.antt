@@ -17,7 +17,7 @@ use Rattle.latch_graph.specs.Graph.{GraphView, IsGraphIn, SkippedBy, marked_name
 use Rattle.latch_graph.proofs.Skipping.{mode_cycle, cycle_in_graph}
 use Rattle.sec_setup.specs.Cycles.{IsAcyclic}
 use Rattle.exposure.specs.Exposed.{IsToldCycle}
-use Rattle.sec_setup.proofs.Shared.{some_is}
+use Rattle.port_matching.proofs.Shared.{some_is}
 
 no_true : true ≡ false → ⊥
 no_true e = cc

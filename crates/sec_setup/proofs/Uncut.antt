@@ -12,7 +12,8 @@ use Rattle.flat_net.specs.Cut.{latch_at, exposed_names, stays, IsCut, IsCutCircu
 use Rattle.flat_net.specs.View.{NetView, circuit_of}
 use Rattle.exposure.specs.declared.exposing.Exposure.{Exposure}
 use Rattle.sec_setup.specs.Cycles.{IsAcyclic}
-use Rattle.sec_setup.specs.Cuts.{AreNamedAt, AreCutOpen, AreCutBy}
+use Rattle.port_matching.specs.Pairing.{AreNamedAt}
+use Rattle.sec_setup.specs.Cuts.{AreCutOpen, AreCutBy}
 use Rattle.sec_setup.specs.Choosing.{IsChosen}
 
 all_stay : (ls : List LatchAt) → filter (stays []) ls ≡ ls

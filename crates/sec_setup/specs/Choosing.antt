@@ -1,10 +1,8 @@
--- The choice of the latches that are cut open, and the numbers of the inputs of nets.
+-- The choice of the latches that are cut open.
 use Rattle.std.specs.Prelude.{◌≡◌, ℕ, Bool, true, false, List, [], Result, Ok, Err}
 use Rattle.circuit_theory.specs.declared.Mode.TheVariants.{Plain}
 use Rattle.circuit_theory.specs.declared.Side.TheVariants.{A, B}
-use Rattle.circuit_theory.specs.Interface.{AreNumbersOf}
-use Rattle.sec_base.specs.declared.basics.Orders.{Orders}
-use Rattle.flat_net.specs.View.{NetView, circuit_of, ports_of}
+use Rattle.flat_net.specs.View.{NetView, circuit_of}
 use Rattle.exposure.specs.Common.{common_names}
 use Rattle.exposure.specs.Exposed.{IsFreeWithout, IsToldCycle}
 use Rattle.exposure.specs.declared.exposing.Exposure.{Exposure}
@@ -29,8 +27,3 @@ Chosen a b expose (Err (refused.Unpaired A names)) = (expose ≡ true) × IsTold
 Chosen a b expose (Err (refused.Unpaired B names)) =
     (expose ≡ true) × IsFreeWithout Plain a (common_names (circuit_of a) (circuit_of b)) × IsToldCycle Plain b (common_names (circuit_of a) (circuit_of b)) names
 Chosen a b expose (Err refused.NoMemory) = Unit {0}
-
--- the numbers of the inputs of both nets, where the columns have their places as numbers
-pub record AreNumbered (a b : NetView) (columns : List (List ℕ)) (orders : Orders) : Type 0 where
-  pub left : AreNumbersOf (ports_of a).inputs columns orders.left orders.right
-  pub right : AreNumbersOf (ports_of b).inputs columns orders.right orders.left

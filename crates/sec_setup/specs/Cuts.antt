@@ -4,16 +4,10 @@ use Rattle.std.specs.List.{AllPairs}
 use Rattle.circuit_theory.specs.declared.Mode.TheVariants.{Plain}
 use Rattle.circuit_theory.specs.Agree.{IsMinimalCut}
 use Rattle.circuit_theory.specs.Interface.{shared_inputs}
-use Rattle.sec_base.specs.Table.{AreDistinct}
 use Rattle.flat_net.specs.Cut.{IsCut, IsCutCircuit, exposed_names}
 use Rattle.flat_net.specs.View.{NetView, circuit_of, ports_of}
 use Rattle.exposure.specs.declared.exposing.Exposure.{Exposure}
-
--- the latches at these positions have these names, and no position stands twice
-pub record AreNamedAt (n : NetView) (names : List (List ℕ)) (positions : List ℕ) : Type 0 where
-  pub within : All (λ j. j < length n.latches) positions
-  pub distinct : AreDistinct positions
-  pub named : exposed_names n positions ≡ names
+use Rattle.port_matching.specs.Pairing.{AreNamedAt}
 
 -- The names are a minimal cut, which has no name where no latch is to be cut open.
 pub record IsChoice (a b : NetView) (expose : Bool) (names : List (List ℕ)) : Type 0 where

@@ -5,15 +5,14 @@
 mod choosing;
 mod cycles;
 mod error;
+mod interfaces;
 mod nets;
-mod numbers;
-mod pairing;
 mod setup;
 
 pub use choosing::choose;
 pub use cycles::graph_of;
 pub use error::SetupError;
+pub use interfaces::{interface, shared_names};
 pub use nets::Nets;
-pub use numbers::{interface, shared_names};
-pub use pairing::{SignalPair, SignalPairs};
+pub use port_matching::{SignalPair, SignalPairs};
 pub use setup::{Setup, set_up};

@@ -5,17 +5,16 @@ ghost use Rattle.circuit_theory.specs.Interface.{shared_inputs};
 ghost use Rattle.sec_base.specs.Table.{AreDistinct};
 ghost use Rattle.flat_net.specs.Comparable.{IsComparable};
 ghost use Rattle.flat_net.specs.View.{ports_of};
-ghost use Rattle.sec_setup.specs.Choosing.{AreNumbered};
+ghost use Rattle.port_matching.specs.Numbered.{AreNumbered};
 ghost use Rattle.sec_setup.specs.Cuts.{is_cut, AreCutBy, AreCutOpen};
 ghost use Rattle.sec_setup.specs.Matching.{InterfacesMatch};
 ghost use Rattle.sec_setup.specs.Setup.{AreGraphed, IsSetupOf};
 
 use crate::nets::Nets;
-use crate::numbers::orders_of;
-use crate::pairing::{SignalPairs, pairs_of};
 use exposure::Exposure;
 use flat_net::Net;
 use latch_graph::LatchGraph;
+use port_matching::{SignalPairs, orders_of, pairs_of};
 use sec_base::{NameTable, NoMemory, Orders, Words};
 use std::alloc::Global;
 
@@ -74,7 +73,14 @@ pub fn set_up<'a>(
     b.keeps();
     cut.left.keeps();
     let numbering = number(alloc, a, b, cut, shared, exposure)?;
-    let pairs = pairs_of(alloc, a, b, exposure)?;
+    let pairs = pairs_of(
+        alloc,
+        a,
+        b,
+        &exposure.names,
+        &exposure.left,
+        &exposure.right,
+    )?;
     let exposed = exposure.names.copy()?;
     let Numbering { orders, columns } = numbering;
     Ok(Setup {

@@ -1,7 +1,7 @@
 -- The pairs' signals are those of the outputs.
 use Rattle.std.proofs.Common.{◌≡◌, ◌<◌, List, Err, length, sym, subst, rules}
 use Rattle.std.specs.List.{All}
-use Rattle.sec_setup.specs.declared.pairing.SignalPair.{SignalPair}
+use Rattle.port_matching.specs.declared.pairing.SignalPair.{SignalPair}
 use Rattle.plain_form.specs.Formed.{Formed}
 use Rattle.plain_form.specs.Pairs.{Unfolds, AreFunctions, AreLight, left_signals, right_signals}
 use Rattle.plain_form.proofs.Outcomes.{is_order, lefts_within, rights_within, left_light, right_light, refusal_formed}

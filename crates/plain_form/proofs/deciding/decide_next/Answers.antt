@@ -1,14 +1,14 @@
 -- Each pair's query is one of the graph, and its answer that of the pair.
 use Rattle.std.proofs.Common.{◌≡◌, ◌<◌, ◌∷◌, ◌++◌, Bool, List, [], length, take, slice_get, Option, Some, refl, sym, subst, arith}
 use Rattle.sec_outcome.specs.declared.outcome.PairResult.{PairResult}
-use Rattle.sec_setup.specs.declared.pairing.SignalPair.{SignalPair}
+use Rattle.port_matching.specs.declared.pairing.SignalPair.{SignalPair}
 use Rattle.sec_setup.specs.Cuts.{is_cut}
 use Rattle.plain_form.specs.Found.{IsResultOf, HaveFound}
-use Rattle.plain_form.proofs.Assignments.{take_next}
+use Rattle.shift_variables.proofs.Assignments.{take_next}
 use Rattle.plain_form.proofs.Decided.{pair_fits, is_sequence, is_witness}
 use Rattle.plain_form.proofs.PairAt.{left_within, right_within, left_shown, right_shown, left_variables, right_variables, asks_pair, output_within}
 use Rattle.plain_form.proofs.PairQueries.{is_query}
-use Rattle.plain_form.proofs.Reading.{item_at}
+use Rattle.shift_variables.proofs.Reading.{item_at}
 use Rattle.plain_form.proofs.Results.{found_more, is_differing}
 use Rattle.plain_form.proofs.deciding.decide_next.Goals as goal
 

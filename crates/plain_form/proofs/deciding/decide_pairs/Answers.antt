@@ -1,7 +1,7 @@
 -- Each pair is decided behind those before it.
 use Rattle.std.proofs.Common.{List, subst, arith}
 use Rattle.std.proofs.lemmas.List.{take_all}
-use Rattle.sec_setup.specs.declared.pairing.SignalPair.{SignalPair}
+use Rattle.port_matching.specs.declared.pairing.SignalPair.{SignalPair}
 use Rattle.plain_form.specs.Found.{HaveFoundIn}
 use Rattle.plain_form.proofs.deciding.decide_pairs.Goals as goal
 

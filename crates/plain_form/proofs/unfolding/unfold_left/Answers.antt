@@ -5,7 +5,7 @@ use Rattle.circuit_theory.proofs.Lists.{map-map}
 use Rattle.flat_net.specs.declared.signals.Signal.{Signal}
 use Rattle.cbf_unfold.proofs.Lists.{adds_none}
 use Rattle.cbf_unfold.specs.declared.unfolder.Unfolded.{Unfolded}
-use Rattle.sec_setup.specs.declared.pairing.SignalPair.{SignalPair}
+use Rattle.port_matching.specs.declared.pairing.SignalPair.{SignalPair}
 use Rattle.plain_form.specs.Pairs.{IsFunctionOf, AreLight, IsRefusalOf, left_signals}
 use Rattle.circuit_theory.specs.declared.Side.TheVariants.{A}
 use Rattle.plain_form.proofs.Growing.{numbers_of, within_from, zip_from_map}

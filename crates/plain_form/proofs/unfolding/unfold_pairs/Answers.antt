@@ -1,6 +1,6 @@
 -- A's functions stay while B is unfolded.
 use Rattle.std.proofs.Common.{◌≡◌, Err, refl, sym, subst, rules}
-use Rattle.sec_setup.specs.declared.pairing.SignalPair.{SignalPair}
+use Rattle.port_matching.specs.declared.pairing.SignalPair.{SignalPair}
 use Rattle.plain_form.specs.Pairs.{Unfolds, left_signals, right_signals}
 use Rattle.plain_form.proofs.Growing.{functions_later, refused_left, refused_right}
 use Rattle.plain_form.proofs.unfolding.unfold_pairs.Goals as goal

@@ -1,6 +1,6 @@
 -- The sequence is made where there was none.
 use Rattle.std.proofs.Common.{◌∙◌, sym}
-use Rattle.plain_form.proofs.Rows.{first_made}
+use Rattle.plain_form.proofs.FirstMade.{first_made}
 use Rattle.plain_form.proofs.witness.put_first.Goals as goal
 
 pub returns-in_ok-witness-in-Some : goal.returns-in_ok-witness-in-Some

@@ -1,0 +1,3 @@
+pub mod Numbered
+pub mod Pairing
+pub mod Pairs

@@ -1,0 +1,9 @@
+//! Inputs at shifts as variables, by their numbers in a table: the order of two lists as one, and the rows of the sequence that bits
+//! of them make.
+#![tactic(auto)]
+
+mod merging;
+mod rows;
+
+pub use merging::merge_variables;
+pub use rows::{bits_at, rows_of};
