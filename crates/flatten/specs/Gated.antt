@@ -16,7 +16,7 @@ use Rattle.flat_walk.specs.Flat.{name_at, statement_of, equation_in}
 use Rattle.flat_wires.specs.declared.source.Source.{Source}
 use Rattle.flat_wires.specs.declared.source.Source.TheVariants as source
 use Rattle.flat_wires.specs.Wired.{WiredView}
-use Rattle.flatten.specs.Built.{IsBuilt, AreCovers, unclocked, latch_outs}
+use Rattle.net_assembly.specs.Built.{IsBuilt, AreCovers, unclocked, latch_outs}
 use Rattle.flatten.specs.Graph.{IsSourceWithin, graph_of, is_gate_out}
 use Rattle.gate_order.specs.Order.{IsOrder}
 

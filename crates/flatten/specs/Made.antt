@@ -12,8 +12,8 @@ use Rattle.flat_walk.specs.declared.flat.FlatKind.TheVariants as kind
 use Rattle.flat_walk.specs.Flat.{name_at, first_of}
 use Rattle.flat_wires.specs.Wiring.{joined}
 use Rattle.flat_wires.specs.Wired.{WiredView}
-use Rattle.flatten.specs.Built.{unclocked}
-use Rattle.flatten.specs.Shown.{latch_data}
+use Rattle.net_assembly.specs.Built.{unclocked}
+use Rattle.net_assembly.specs.Shown.{latch_data}
 use Rattle.flatten.specs.Gated.{spot, HasSpot, gates_in, made_by, driver_of, net_equation}
 
 -- What the net shows and what its latches take over is driven at a signal of the net.

@@ -2,9 +2,9 @@
 
 ghost use Rattle.std.specs.Prelude.{true, ◌≡◌, ◌^◌, ◌+◌, ◌<◌, ◌≤◌, [], length, map, slice_get, slice_index_or, Some, All, IfOk, OnOk};
 ghost use Rattle.flat_walk.specs.Flat.{cover_at, view_of, IsShaped};
-ghost use Rattle.flatten.specs.Built.{IsBuilt, AreCovers};
+ghost use Rattle.net_assembly.specs.Built.{IsBuilt, AreCovers};
 ghost use Rattle.flatten.specs.Gated.{IsLaid, HasGates, IsRest, IsGrown, first_made};
-ghost use Rattle.flatten.specs.Shown.{with_outputs, latch_signals, latch_nexts, with_nexts};
+ghost use Rattle.net_assembly.specs.Shown.{with_outputs, latch_signals, latch_nexts, with_nexts};
 
 use crate::assemble::{Assembly, cover_copy};
 use blif_read::BlifModel;

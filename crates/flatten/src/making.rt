@@ -3,7 +3,7 @@
 ghost use Rattle.std.specs.Prelude.{◌≡◌, ◌<◌, [], length, All, IfOk, IfSome};
 ghost use Rattle.flat_net.specs.Makes.{empty_net};
 ghost use Rattle.flat_walk.specs.Flat.{view_of, IsShaped};
-ghost use Rattle.flatten.specs.Built.{IsBuilt, unclocked, with_inputs, with_latches};
+ghost use Rattle.net_assembly.specs.Built.{IsBuilt, unclocked, with_inputs, with_latches};
 ghost use Rattle.flatten.specs.Gated.{IsLaid, first_made};
 ghost use Rattle.flatten.specs.Made.{IsSpotted, IsMade};
 

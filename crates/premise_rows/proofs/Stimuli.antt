@@ -8,7 +8,7 @@ use Rattle.circuit_theory.specs.Interface.{first_missing, ◌or_else◌}
 use Rattle.circuit_theory.proofs.Lists.{Contains-cases}
 use Rattle.flat_net.specs.declared.parts.LatchAt.{LatchAt}
 use Rattle.flat_net.specs.View.{NetView}
-use Rattle.flatten.proofs.DistinctLists.{distinct_nil, distinct_cons}
+use Rattle.net_assembly.proofs.DistinctLists.{distinct_nil, distinct_cons}
 use Rattle.witness_report.specs.Form.{IsName, IsForm}
 use Rattle.witness_report.specs.Text.{stimulus_text}
 use Rattle.sim_report.specs.declared.refusal.Misfit.{Misfit}

@@ -1,5 +1,5 @@
 use Rattle.std.proofs.Common.{sym, ◌∙◌}
-use Rattle.flatten.proofs.NameOrder.{less_before, before_less}
+use Rattle.net_assembly.proofs.NameOrder.{less_before, before_less}
 use Rattle.flatten.proofs.loops.is_before.Goals as goal
 
 pub returns-in-Less-clause-yes : goal.returns-in-Less-clause-yes

@@ -1,5 +1,5 @@
 use Rattle.std.proofs.Common.{◌<◌, length, arith, refl}
-use Rattle.flatten.proofs.NameOrder.{least_moves, least_stays}
+use Rattle.net_assembly.proofs.NameOrder.{least_moves, least_stays}
 use Rattle.flatten.proofs.loops.least.Goals as goal
 use Rattle.flatten.proofs.loops.least.Goals.{then-is_before, else-is_before}
 

@@ -1,8 +1,8 @@
 use Rattle.std.proofs.Common.{◌≡◌, false, take, get_or, arith, sym, ◌∙◌, ap, subst}
 use Rattle.sec_base.specs.Table.{is_among}
 use Rattle.flat_net.specs.Makes.{with_input}
-use Rattle.flatten.specs.Built.{unclocked}
-use Rattle.flatten.proofs.Building.{input_at, input_within, name_in, input_fresh, inputs_take, room_for, new_name}
+use Rattle.net_assembly.specs.Built.{unclocked}
+use Rattle.net_assembly.proofs.Building.{input_at, input_within, name_in, input_fresh, inputs_take, room_for, new_name}
 use Rattle.flatten.proofs.assemble.Assembly.add_inputs.Goals as goal
 
 pub add_input-requires-clause-room : goal.add_input-requires-clause-room

@@ -1,5 +1,5 @@
 use Rattle.std.proofs.Common.{◌≡◌}
-use Rattle.flatten.proofs.Building.{HasInputs}
+use Rattle.net_assembly.proofs.Building.{HasInputs}
 use Rattle.flatten.proofs.assemble.Assembly.add_inputs.Given as goal
 
 abbrev pub invariant-loop-input : goal.invariant-loop-input

@@ -4,8 +4,8 @@ use Rattle.sec_base.specs.Table.{is_among}
 use Rattle.flat_walk.specs.declared.flat.FlatKind.{FlatKind}
 use Rattle.flat_net.specs.View.{NetView}
 use Rattle.flat_net.specs.Makes.{MakerView, with_latch}
-use Rattle.flatten.specs.Built.{latch_out, latch_outs, with_latch_of}
-use Rattle.flatten.proofs.Building.{statement_at, out_within, not_latch, name_in, latch_fresh, latches_pass, latches_take, room_for, new_name}
+use Rattle.net_assembly.specs.Built.{latch_out, latch_outs, with_latch_of}
+use Rattle.net_assembly.proofs.Building.{statement_at, out_within, not_latch, name_in, latch_fresh, latches_pass, latches_take, room_for, new_name}
 use Rattle.flatten.proofs.assemble.Assembly.add_latches.Goals as goal
 
 pub loop-statement-preserved-in_default : goal.loop-statement-preserved-in_default

@@ -1,6 +1,6 @@
 use Rattle.std.proofs.Common.{◌≡◌, ℕ, List}
-use Rattle.flatten.specs.Built.{CanTakeLatches}
-use Rattle.flatten.proofs.Building.{HasLatches}
+use Rattle.net_assembly.specs.Built.{CanTakeLatches}
+use Rattle.net_assembly.proofs.Building.{HasLatches}
 use Rattle.flatten.proofs.assemble.Assembly.add_latches.Given as goal
 
 abbrev pub invariant-loop-statement : goal.invariant-loop-statement

@@ -1,5 +1,5 @@
 use Rattle.std.proofs.Common.{◌≡◌, take}
-use Rattle.flatten.specs.Shown.{with_outputs}
+use Rattle.net_assembly.specs.Shown.{with_outputs}
 use Rattle.flatten.proofs.assemble.Assembly.add_outputs.Given as goal
 
 abbrev pub invariant-loop-output : goal.invariant-loop-output

@@ -1,4 +1,4 @@
-use Rattle.flatten.specs.Built.{unclocked, latch_outs}
+use Rattle.net_assembly.specs.Built.{unclocked, latch_outs}
 use Rattle.flatten.proofs.MadeNets.{distinct_front}
 use Rattle.flatten.proofs.assemble.Assembly.add_sources.Goals as goal
 

@@ -1,7 +1,7 @@
 use Rattle.std.proofs.Common.{◌<◌, ◌∙◌, ◌++◌, ◌∷◌, [], length, ap, arith}
 use Rattle.circuit_theory.specs.Cover.{Cover}
 use Rattle.flat_net.specs.Makes.{MakerView}
-use Rattle.flatten.proofs.CoverNumbers.{intern_new, intern_old, new_covers, same_covers, cover_there}
+use Rattle.net_assembly.proofs.CoverNumbers.{intern_new, intern_old, new_covers, same_covers, cover_there}
 use Rattle.flatten.proofs.assemble.Assembly.cover_number.Goals as goal
 
 pub returns-in_ok-cover-clause-cover : goal.returns-in_ok-cover-clause-cover

@@ -13,7 +13,7 @@ use Rattle.flat_walk.specs.declared.flat.FlatKind.{FlatKind}
 use Rattle.flat_walk.specs.Flat.{cover_at}
 use Rattle.flatten.specs.Graph.{quick_reads}
 use Rattle.flatten.specs.Gated.{first_made, gates_in}
-use Rattle.flatten.proofs.Building.{statement_at, name_in, room_for, new_name}
+use Rattle.net_assembly.proofs.Building.{statement_at, name_in, room_for, new_name}
 use Rattle.flatten.proofs.Gating.{source_within, number_low, read_low, covers_room, port_reads, gate_width, step_default, step_latch, step_joins, gate_fresh, fanins_low, code_gates, on_ok, some_and, some_and_from, same_gates}
 use Rattle.flatten.proofs.assemble.Assembly.place_number.Goals as goal
 

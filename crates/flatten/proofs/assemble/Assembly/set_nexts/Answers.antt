@@ -6,10 +6,10 @@ use Rattle.flat_net.specs.View.{NetView}
 use Rattle.flat_net.specs.Makes.{with_next}
 use Rattle.flat_walk.specs.declared.flat.FlatStatement.{FlatStatement}
 use Rattle.flat_walk.specs.declared.flat.FlatKind.{FlatKind}
-use Rattle.flatten.specs.Built.{latch_out}
-use Rattle.flatten.specs.Shown.{signal_at, latch_data, latch_nexts}
-use Rattle.flatten.proofs.Building.{statement_at, out_within}
-use Rattle.flatten.proofs.Nexts.{nexts_start, nexts_pass, nexts_take, no_data, read_within, first_is, latch_there, next_within, all_set, latch_count, take_whole, read_at}
+use Rattle.net_assembly.specs.Built.{latch_out}
+use Rattle.net_assembly.specs.Shown.{signal_at, latch_data, latch_nexts}
+use Rattle.net_assembly.proofs.Building.{statement_at, out_within}
+use Rattle.net_assembly.proofs.Nexts.{nexts_start, nexts_pass, nexts_take, no_data, read_within, first_is, latch_there, next_within, all_set, latch_count, take_whole, read_at}
 use Rattle.flatten.proofs.assemble.Assembly.set_nexts.Goals as goal
 
 pub loop-statement-init : goal.loop-statement-init

@@ -1,5 +1,5 @@
 use Rattle.std.proofs.Common.{◌≡◌}
-use Rattle.flatten.proofs.Nexts.{HasNexts}
+use Rattle.net_assembly.proofs.Nexts.{HasNexts}
 use Rattle.flatten.proofs.assemble.Assembly.set_nexts.Given as goal
 
 abbrev pub invariant-loop-statement : goal.invariant-loop-statement

@@ -16,7 +16,7 @@ use Rattle.blif_read.specs.Kept.{ports_distinct, written_names, names_in_model, 
 use Rattle.flat_walk.specs.declared.flat.Flat.{Flat}
 use Rattle.flat_walk.specs.Flat.{FlatDesign, name_at}
 use Rattle.flat_walk.specs.Walked.{IsWalked}
-use Rattle.flatten.proofs.DistinctLists.{distinct_nil, distinct_cons, distinct_named}
+use Rattle.net_assembly.proofs.DistinctLists.{distinct_nil, distinct_cons, distinct_named}
 
 neither : (x y : Bool) → (x || y) ≡ false → (x ≡ false) × (y ≡ false)
 neither true y h = absurd (true≢false h)

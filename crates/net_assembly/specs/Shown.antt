@@ -8,7 +8,7 @@ use Rattle.flat_walk.specs.declared.flat.FlatStatement.{FlatStatement}
 use Rattle.flat_walk.specs.declared.flat.FlatKind.{FlatKind}
 use Rattle.flat_walk.specs.declared.flat.FlatKind.TheVariants as kind
 use Rattle.flat_walk.specs.Flat.{name_at, first_of}
-use Rattle.flatten.specs.Built.{latch_outs}
+use Rattle.net_assembly.specs.Built.{latch_outs}
 
 -- the number as an output, on its signal
 abbrev pub shown_at : List (List ℕ) → List Signal → ℕ → Port

@@ -10,7 +10,7 @@ use Rattle.circuit_theory.specs.Run.{Marked, NoneEnabled}
 use Rattle.circuit_theory.specs.Flattened.{IsFlattened, Follows}
 use Rattle.circuit_theory.proofs.Lists.{map-map, map_same, Contains-map_from, All-from_each, of_at}
 use Rattle.circuit_theory.proofs.Numbers.{slice_get-map}
-use Rattle.flatten.specs.Assembled.{IsAssembled}
+use Rattle.net_assembly.specs.Assembled.{IsAssembled}
 
 some_is : {X : Type 0} (x y : X) → Some x ≡ Some y → x ≡ y
 some_is x y e = cc

@@ -1,0 +1,9 @@
+pub mod AssembledRuns
+pub mod NameOrder
+pub mod Building
+pub mod CoverNumbers
+pub mod Nexts
+pub mod FlatCircuits
+pub mod DistinctLists
+pub mod MainPorts
+pub mod ReadBy
