@@ -4,9 +4,8 @@ pub mod Leaves
 pub mod Reading
 pub mod Growing
 pub mod Rows
-pub mod AskedPairs
 pub mod Decided
-pub mod Results
+pub mod FirstPairs
 pub mod PairAt
 pub mod Outcomes
 pub mod PairQueries

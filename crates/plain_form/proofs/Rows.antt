@@ -20,7 +20,7 @@ use Rattle.pair_decide.specs.Queries.{assigned_to}
 use Rattle.witness_report.specs.declared.witness.PairName.{PairName}
 use Rattle.witness_report.specs.declared.witness.Witness.{Witness}
 use Rattle.plain_form.specs.Variables.{variable_of, variables_of, GoesBefore}
-use Rattle.plain_form.specs.Sequences.{bits_at, IsSequence, EndsShift, IsWitnessOf, IsFirstOf}
+use Rattle.plain_form.specs.Sequences.{bits_at, IsSequence, EndsShift, IsWitnessOf}
 use Rattle.plain_form.proofs.MergeLists.{pairs_drop}
 use Rattle.plain_form.proofs.Assignments.{length_take, assigned_in_shift, front_left_out, back_left_out}
 
@@ -217,12 +217,3 @@ pub rows_fit : (last : ℕ) (a : ℕ → ℕ → Bool) (count cycle cycles : ℕ
 rows_fit last a count cycle zero = All-nil (λ row. length row ≡ count)
 rows_fit last a count cycle (suc cycles) =
     All-cons (λ row. length row ≡ count) (sequence_row last a cycle 0 count) (sequence_rows_from last a count (suc cycle) cycles) (row_long last a cycle 0 count) (rows_fit last a count (suc cycle) cycles)
-
--- the first sequence is the one that was made
-pub first_made : (g : List Node) (places : List (ℕ × ℕ)) (q : Query) (name : PairName) (last : ℕ) (names : List (List ℕ)) (first : Option Witness) (bits : Option (List Bool)) (made : List Bool) (w : Witness) → is_some first ≡ false → bits ≡ Some made →
-    IsWitnessOf g places q made name last names w → IsFirstOf g places q name last names first bits (Some w)
-first_made g places q name last names None bits made w none is h = subst (λ (o : Option (List Bool)). IsFirstOf g places q name last names None o (Some w)) (sym is) (w, refl, h)
-first_made g places q name last names (Some v) bits made w none is h = absurd (no none)
-  where
-    no : true ≡ false → ⊥
-    no e = cc

@@ -3,13 +3,12 @@
 
 mod asking;
 mod comparing;
-mod deciding;
 mod error;
 pub mod laws;
 mod merging;
 mod pairing;
+mod showing;
 mod unfolding;
-mod verdict;
 mod witness;
 
 pub use comparing::{Findings, compare_plain};
