@@ -158,3 +158,8 @@ nothing-yet g conflicts d results different not_shown = record {
     first : (wanted : PairAnswer) (o : Option Difference) → o ≡ None → IsFirst g [] wanted d.results o
     first wanted o e =
         subst (IsFirst g [] wanted d.results) (sym e) (subst (NoneIs wanted) (sym results) (All-nil (λ (r : PairResult). r.answer ≢ wanted)))
+
+-- what is put looks at both differences alone
+pub put-alike : (decisive : Bool) (d : Option Difference) (results : List PairResult) (old new : Decided) → IsPut decisive d (record { results = results; different = old.different; not_shown = old.not_shown }) new → IsPut decisive d old new
+put-alike true d results old new put = put
+put-alike false d results old new put = put

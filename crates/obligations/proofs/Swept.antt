@@ -1,9 +1,10 @@
 -- What is swept stands for the queries.
-use Rattle.std.proofs.Common.{◌≡◌, ℕ, List, [], ◌∷◌, ◌++◌, length, take, slice_get, Option, Some, None, refl, sym, ◌∙◌, ap, subst, inl, inr, append_assoc}
+use Rattle.std.proofs.Common.{◌≡◌, ℕ, ◌+◌, List, [], ◌∷◌, ◌++◌, length, take, slice_get, Option, Some, None, refl, sym, ◌∙◌, ap, subst, inl, inr, append_assoc}
 use Rattle.std.specs.Prelude.{◌⊎◌}
 use Rattle.std.specs.List.{All, AllZip}
 use Rattle.std.proofs.lemmas.List.Elements.{All-nil, All-cons, All-head, All-tail}
 use Rattle.std.proofs.lemmas.Option.{same_Some}
+use Rattle.circuit_theory.proofs.Lists.{zip_length}
 use Rattle.aig.specs.declared.node.Node.{Node}
 use Rattle.pair_decide.specs.declared.query.Query.{Query}
 use Rattle.pair_decide.specs.Queries.{IsQuery}
@@ -13,8 +14,9 @@ use Rattle.swept_queries.specs.declared.sides.Known.TheVariants as what
 use Rattle.swept_queries.specs.declared.sweeping.SweptQueries.{SweptQueries}
 use Rattle.swept_queries.specs.InStead.{sides_of, AreWithin, MayBeWithin, AreSwept, IsTrueOf}
 use Rattle.swept_queries.proofs.Listed.{zip_left}
-use Rattle.obligations.specs.Asked.{MaySweep, HaveMore, AreKnown}
-use Rattle.obligations.proofs.Listed.{zip-append}
+use Rattle.obligations.specs.declared.obligation.Obligation.{Obligation}
+use Rattle.obligations.specs.Asked.{MaySweep, HaveMore, AreKnown, queries_of}
+use Rattle.obligations.proofs.Listed.{zip-append, queries-next}
 
 may-be-within : (g : List Node) (q : Query) (o : Option Sides) → IsQuery g q → MaySweep q o → MayBeWithin g o
 may-be-within g q None is may = tt
@@ -49,3 +51,13 @@ have-more queries q old new made o h may is = record {
   behind = is ∙ (ap (λ (xs : List (Option Sides)). xs ++ o ∷ []) h.behind ∙ append_assoc old h.more (o ∷ []));
   are = zip-append MaySweep queries (q ∷ []) h.more (o ∷ []) h.are (may, tt);
 }
+
+-- the queries of one obligation more
+pub sides-more : (asked : List Obligation) (i : ℕ) (o : Obligation) (old new : List (Option Sides)) → slice_get asked i ≡ Some o → AllZip MaySweep (queries_of (take i asked)) old → HaveMore o.queries old new → AllZip MaySweep (queries_of (take (i + 1) asked)) new
+sides-more asked i o old new at are h =
+    subst (AllZip MaySweep (queries_of (take (i + 1) asked))) (sym h.behind)
+    (subst (λ (qs : List Query). AllZip MaySweep qs (old ++ h.more)) (sym (queries-next asked i o at)) (zip-append MaySweep (queries_of (take i asked)) o.queries old h.more are h.are))
+
+-- none is more than all
+pub as-many : (queries : List Query) (sides : List (Option Sides)) → AllZip MaySweep queries sides → length queries ≡ length sides
+as-many queries sides may = zip_length MaySweep queries sides may
