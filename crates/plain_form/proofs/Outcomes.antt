@@ -1,7 +1,8 @@
 -- What is found fits, and each refusal has its cause.
-use Rattle.std.proofs.Common.{◌≡◌, ◌≢◌, ℕ, ◌<◌, List, map, length, Option, Some, None, Err, refl, sym, ◌∙◌, ap, subst}
+use Rattle.std.proofs.Common.{◌≡◌, ◌≢◌, ℕ, ◌<◌, List, [], ◌∷◌, map, length, Option, Some, None, Err, refl, sym, ◌∙◌, ap, subst}
 use Rattle.std.specs.List.{All, Contains}
-use Rattle.std.proofs.lemmas.Option.{same_Some}
+use Rattle.std.proofs.lemmas.List.Elements.{All-nil, All-cons}
+use Rattle.std.proofs.lemmas.Option.{same_Some, slice_get_within}
 use Rattle.circuit_theory.specs.declared.Side.TheVariants.{A, B}
 use Rattle.circuit_theory.proofs.Lists.{All-from_each, length-map}
 use Rattle.sec_base.specs.declared.basics.PairAnswer.{PairAnswer}
@@ -29,9 +30,11 @@ use Rattle.obligations.specs.Decided.{NoneIs, IsFirstOf, IsFirst, HaveDecided}
 use Rattle.obligations.specs.Verdict.{IsVerdictAt}
 use Rattle.plain_form.specs.declared.unfolding.Functions.{Functions}
 use Rattle.plain_form.specs.Asked.{AreAsked}
-use Rattle.plain_form.specs.Shown.{IsShown}
+use Rattle.plain_form.specs.Shown.{CanBeShown, IsShown}
 use Rattle.plain_form.specs.Outcome.{VerdictFits}
-use Rattle.plain_form.proofs.FirstPairs.{AreSound, ArePairsIn, first_pair}
+use Rattle.pair_decide.specs.Queries.{IsQuery}
+use Rattle.obligations.specs.Asked as obligations_are
+use Rattle.plain_form.proofs.FirstPairs.{AreSound, ArePairsIn, first_pair, showable, own_query}
 use Rattle.plain_form.specs.Pairs.{AreLight, AreTooLarge, Unfolds, left_signals, right_signals}
 use Rattle.plain_form.proofs.Assignments.{once_each}
 use Rattle.plain_form.proofs.Growing.{over_weaker, weight_same}
@@ -69,9 +72,9 @@ answer_left answer.NotShown d l n = absurd (n refl)
 answer_left answer.Limit d l n = absurd (l refl)
 
 -- the verdict at an obligation is that of the pairs
-pub verdict_fits : (s : Setup) (f : Functions) (h : AreSound s f) (pairs : List SignalPair) (asked : List Obligation) (conflicts : ℕ) (d : Decided) (at : VerdictAt) (v : Verdict) → ArePairsIn s pairs → AreAsked s f pairs asked → HaveDecided f.aig conflicts asked d →
-    IsVerdictAt d.different d.not_shown d.results at → IsShown f s.columns asked d.results at v → VerdictFits (circuit_of s.left.now) (circuit_of s.right.now) s.orders.left s.orders.right s.columns (map places_of pairs) d.results v
-verdict_fits s f h pairs asked conflicts d at v own are decided is shown = go at is shown
+pub verdict_fits : (s : Setup) (f : Functions) (h : AreSound s f) (pairs : List SignalPair) (asked : List Obligation) (conflicts : ℕ) (d : Decided) (y : VerdictAt) (v : Verdict) → ArePairsIn s pairs → AreAsked s f pairs asked → HaveDecided f.aig conflicts asked d →
+    IsVerdictAt d.different d.not_shown d.results y → IsShown f s.columns asked d.results y v → VerdictFits (circuit_of s.left.now) (circuit_of s.right.now) s.orders.left s.orders.right s.columns (map places_of pairs) d.results v
+verdict_fits s f h pairs asked conflicts d y v own are decided is shown = go y is shown
   where
     Fits : Verdict → Type 0
     Fits w = VerdictFits (circuit_of s.left.now) (circuit_of s.right.now) s.orders.left s.orders.right s.columns (map places_of pairs) d.results w
@@ -82,7 +85,7 @@ verdict_fits s f h pairs asked conflicts d at v own are decided is shown = go at
     first_of : (wanted : PairAnswer) (first : Option Difference) (x : Difference) → first ≡ Some x → IsFirst f.aig asked wanted d.results first → IsFirstOf f.aig asked wanted d.results x
     first_of wanted first x e k = subst (IsFirst f.aig asked wanted d.results) e k
 
-    go : (y : VerdictAt) → IsVerdictAt d.different d.not_shown d.results y → IsShown f s.columns asked d.results y v → Fits v
+    go : (x : VerdictAt) → IsVerdictAt d.different d.not_shown d.results x → IsShown f s.columns asked d.results x v → Fits v
     go at.Equal i k =
         let different = none_of answer.Different d.different i.0 decided.different in
         let unshown = none_of answer.NotShown d.not_shown i.2 decided.not_shown in
@@ -107,3 +110,24 @@ verdict_fits s f h pairs asked conflicts d at v own are decided is shown = go at
           i.1,
           first_pair s f h pairs asked own are conflicts d.results answer.NotShown x k.0 decided.results (first_of answer.NotShown d.not_shown x i.2 decided.not_shown) k.2,
         )
+
+-- what is asked of pairs are queries over the graph
+pub are_asked : (s : Setup) (f : Functions) (h : AreSound s f) (pairs : List SignalPair) (asked : List Obligation) → AreAsked s f pairs asked → obligations_are.AreAsked f.aig asked
+are_asked s f h [] [] are = All-nil (λ (o : Obligation). All (IsQuery f.aig) o.queries)
+are_asked s f h [] (o ∷ asked) are = absurd are
+are_asked s f h (p ∷ pairs) [] are = absurd are
+are_asked s f h (p ∷ pairs) (o ∷ asked) are =
+    All-cons (λ (x : Obligation). All (IsQuery f.aig) x.queries) o asked
+    (subst (All (IsQuery f.aig)) (sym are.0.queries_are.1) (All-cons (IsQuery f.aig) are.0.queries_are.0 [] (own_query s f h p o are.0) (All-nil (IsQuery f.aig))))
+    (are_asked s f h pairs asked are.1)
+
+-- the verdict can be shown
+pub can_be_shown : (s : Setup) (f : Functions) (h : AreSound s f) (pairs : List SignalPair) (asked : List Obligation) (conflicts : ℕ) (d : Decided) (y : VerdictAt) → ArePairsIn s pairs → AreAsked s f pairs asked → HaveDecided f.aig conflicts asked d →
+    IsVerdictAt d.different d.not_shown d.results y → CanBeShown f s.columns asked d.results y
+can_be_shown s f h pairs asked conflicts d y own are decided is = go y is
+  where
+    go : (x : VerdictAt) → IsVerdictAt d.different d.not_shown d.results x → CanBeShown f s.columns asked d.results x
+    go at.Equal i = tt
+    go (at.Different x) i = showable s f h pairs asked own are answer.Different d.results x (subst (IsFirst f.aig asked answer.Different d.results) i decided.different)
+    go (at.Limit place) i = slice_get_within d.results place i.1.result i.1.at
+    go (at.NotShown x) i = showable s f h pairs asked own are answer.NotShown d.results x (subst (IsFirst f.aig asked answer.NotShown d.results) i.2 decided.not_shown)
