@@ -1,8 +1,9 @@
 -- What the answer to a pair's query says of its result, and of its sequence.
-use Rattle.std.proofs.Common.{◌≡◌, ℕ, ◌<◌, ◌≤◌, max, Bool, true, false, List, length, get_or, Option, None, refl, sym, ◌∙◌, ap, subst, arith, inl, inr}
+use Rattle.std.proofs.Common.{◌≡◌, ℕ, zero, suc, ◌<◌, ◌≤◌, max, Bool, true, false, List, [], ◌∷◌, length, get_or, slice_get, Option, Some, None, refl, sym, ◌∙◌, ap, subst, arith, inl, inr}
+use Rattle.std.specs.Prelude.{not}
 use Rattle.std.specs.List.{All, Contains}
-use Rattle.std.proofs.lemmas.List.Elements.{All-map, All-contains}
-use Rattle.std.proofs.lemmas.Option.{slice_get-get_or}
+use Rattle.std.proofs.lemmas.List.Elements.{All-map, All-contains, All-head}
+use Rattle.std.proofs.lemmas.Option.{slice_get-get_or, none-some, same_Some}
 use Rattle.circuit_theory.specs.Circuit.{Circuit}
 use Rattle.circuit_theory.specs.Depth.{IsDepth}
 use Rattle.circuit_theory.specs.Fits.{IsPairDepth, IsWitness}
@@ -23,20 +24,22 @@ use Rattle.aig.proofs.Growth.{Builds-one}
 use Rattle.cbf_unfold.specs.declared.unfolder.Unfolded.{Unfolded}
 use Rattle.pair_decide.specs.declared.query.Query.{Query}
 use Rattle.pair_decide.specs.declared.query.Proof.{Proof}
-use Rattle.pair_decide.specs.declared.query.Decision.{Decision}
 use Rattle.pair_decide.specs.declared.query.Decision.TheVariants as decision
 use Rattle.pair_decide.specs.Queries.{IsSame, roots_of}
 use Rattle.pair_decide.specs.Answers.{IsDifference, IsAtLimit}
 use Rattle.swept_queries.specs.InStead.{IsInStead, DecidesInStead}
-use Rattle.swept_queries.proofs.Stand.{is_same, is_difference}
+use Rattle.sec_base.specs.declared.basics.PairAnswer.{PairAnswer}
+use Rattle.sec_base.specs.declared.basics.PairAnswer.TheVariants as answer
+use Rattle.obligations.specs.declared.obligation.Obligation.{Obligation}
+use Rattle.obligations.specs.Found.{Differ}
+use Rattle.obligations.specs.Decided.{AnswerIs, IsAnswered}
 use Rattle.witness_report.specs.declared.witness.PairName.{PairName}
 use Rattle.witness_report.specs.declared.witness.Witness.{Witness}
 use Rattle.sec_outcome.specs.declared.outcome.PairResult.{PairResult}
 use Rattle.sec_setup.specs.Pairs.{outputs_of}
 use Rattle.sec_setup.specs.Setup.{AreColumns}
-use Rattle.plain_form.specs.Found.{IsResultOf}
 use Rattle.plain_form.specs.Limits.{ReadOnly, IsUndecided}
-use Rattle.plain_form.specs.Outcome.{differing, HaveDifferentFunctions, AnswerFits, PairFits}
+use Rattle.plain_form.specs.Outcome.{HaveDifferentFunctions, AnswerFits, PairFits}
 use Rattle.plain_form.specs.Sequences.{bits_at, IsSequence, IsWitnessOf}
 use Rattle.plain_form.specs.Variables.{variable_of, variables_of}
 use Rattle.plain_form.proofs.Leaves.{leaf_shift, leaf_is_column}
@@ -119,22 +122,45 @@ module _ {a b : NetView} {left right : List ℕ} {g : List Node} {places : List 
     log = limit.fruitless;
   }
 
-  differs : (cut : Bool) (conflicts : ℕ) → HaveDifferentFunctions (circuit_of a) (circuit_of b) left right s t → AnswerFits (circuit_of a) (circuit_of b) left right cut conflicts s t (differing cut) None
-  differs false conflicts h = (refl, h)
-  differs true conflicts h = (refl, h)
-
-  -- the result has the answer of the query
-  pub pair_fits : (name : PairName) (cut : Bool) (conflicts size : ℕ) (d : Decision) (result : PairResult) (bits : Option (List Bool)) → DecidesInStead g q conflicts d → IsResultOf name size cut d result bits → IsPairDepth (circuit_of a) (circuit_of b) s t size →
-      PairFits (circuit_of a) (circuit_of b) left right cut conflicts (record { name = name; left = s; right = t }) result
-  pair_fits name cut conflicts size d result bits h is depth = go d h is
+  -- one of one query is that query
+  pub only-query : (queries : List Query) (i : ℕ) (r : Query) → queries ≡ q ∷ [] → slice_get queries i ≡ Some r → r ≡ q
+  only-query queries i r e at = go i (ap (λ (qs : List Query). slice_get qs i) (sym e) ∙ at)
     where
-      Fits : PairResult → Type 0
-      Fits r = PairFits (circuit_of a) (circuit_of b) left right cut conflicts (record { name = name; left = s; right = t }) r
+      go : (j : ℕ) → slice_get (q ∷ []) j ≡ Some r → r ≡ q
+      go zero h = sym (same_Some q r h)
+      go (suc j) h = absurd (none-some r h)
 
-      go : (e : Decision) → DecidesInStead g q conflicts e → IsResultOf name size cut e result bits → Fits result
-      go (decision.Same by) decided r = subst Fits (sym r.0) (record { name_is = refl; size_is = depth; answer_is = equal_functions (is_same decided) })
-      go (decision.Differs found) decided r = subst Fits (sym r.0) (record { name_is = refl; size_is = depth; answer_is = differs cut conflicts (different_functions found (is_difference decided)) })
-      go (decision.Limit proof) decided r = subst Fits (sym r.0) (record { name_is = refl; size_is = depth; answer_is = undecided conflicts proof decided.graph decided.asked decided.stands decided.decides })
+  open-cut : (c : Bool) → not c ≡ true → c ≡ false
+  open-cut false e = refl
+  open-cut true e = let z : false ≡ true = e in cc
+
+  closed-cut : (c : Bool) → not c ≡ false → c ≡ true
+  closed-cut true e = refl
+  closed-cut false e = let z : true ≡ false = e in cc
+
+  -- the result has the answer of the obligation
+  pub pair_fits : (name : PairName) (cut : Bool) (conflicts : ℕ) (o : Obligation) (result : PairResult) → o.name ≡ name → o.decisive ≡ not cut → o.queries ≡ q ∷ [] → IsPairDepth (circuit_of a) (circuit_of b) s t o.size → IsAnswered g conflicts o result →
+      PairFits (circuit_of a) (circuit_of b) left right cut conflicts (record { name = name; left = s; right = t }) result
+  pair_fits name cut conflicts o result named decisive queries depth is = record {
+    name_is = is.name_is ∙ named;
+    size_is = subst (IsPairDepth (circuit_of a) (circuit_of b) s t) (sym is.size_is) depth;
+    answer_is = go result.answer result.proof is.answer_is;
+  }
+    where
+      differ : Differ g o.queries → HaveDifferentFunctions (circuit_of a) (circuit_of b) left right s t
+      differ d = different_functions d.bits (subst (λ (r : Query). IsDifference g r d.bits) (only-query o.queries d.place d.is.query queries d.is.first.at) d.is.differs)
+
+      go : (y : PairAnswer) (proof : Option Proof) → AnswerIs g conflicts o y proof → AnswerFits (circuit_of a) (circuit_of b) left right cut conflicts s t y proof
+      go answer.Equal None h = equal_functions (All-head (IsSame g) q [] (subst (All (IsSame g)) queries h))
+      go answer.Equal (Some proof) h = absurd h
+      go answer.Different None h = (open-cut cut (sym decisive ∙ h.0), differ h.1)
+      go answer.Different (Some proof) h = absurd h
+      go answer.NotShown None h = (closed-cut cut (sym decisive ∙ h.0), differ h.1)
+      go answer.NotShown (Some proof) h = absurd h
+      go answer.Limit None h = absurd h
+      go answer.Limit (Some proof) h =
+          let d : DecidesInStead g q conflicts (decision.Limit proof) = subst (λ (r : Query). DecidesInStead g r conflicts (decision.Limit proof)) (only-query o.queries h.place h.query queries h.first.at) h.limit in
+          undecided conflicts proof d.graph d.asked d.stands d.decides
 
   -- the size is the greater depth of both trees
   module _ (sound_a : IsSound a) (sound_b : IsSound b) (last : ℕ) (depth : IsPairDepth (circuit_of a) (circuit_of b) s t last) where

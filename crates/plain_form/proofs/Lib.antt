@@ -1,9 +1,7 @@
 pub mod Leaves
 pub mod Growing
-pub mod FirstMade
-pub mod AskedPairs
 pub mod Decided
-pub mod Results
+pub mod FirstPairs
 pub mod PairAt
 pub mod Outcomes
 pub mod PairQueries

@@ -1,7 +1,8 @@
 -- What is found fits, and each refusal has its cause.
-use Rattle.std.proofs.Common.{◌≡◌, ◌≢◌, ℕ, ◌<◌, Bool, true, false, List, [], ◌∷◌, map, length, Option, Some, None, Err, refl, sym, ◌∙◌, subst, inl, inr}
-use Rattle.std.specs.List.{All, AllZip, Contains}
+use Rattle.std.proofs.Common.{◌≡◌, ◌≢◌, ℕ, ◌<◌, List, [], ◌∷◌, map, length, Option, Some, None, Err, refl, sym, ◌∙◌, ap, subst}
+use Rattle.std.specs.List.{All, Contains}
 use Rattle.std.proofs.lemmas.List.Elements.{All-nil, All-cons}
+use Rattle.std.proofs.lemmas.Option.{same_Some, slice_get_within}
 use Rattle.circuit_theory.specs.declared.Side.TheVariants.{A, B}
 use Rattle.circuit_theory.proofs.Lists.{All-from_each, length-map}
 use Rattle.sec_base.specs.declared.basics.PairAnswer.{PairAnswer}
@@ -10,9 +11,7 @@ use Rattle.flat_net.specs.declared.parts.Port.{Port}
 use Rattle.flat_net.specs.View.{NetView, circuit_of}
 use Rattle.flat_net.specs.Sound.{IsSound}
 use Rattle.cbf_unfold.specs.View.{IsOrderOf}
-use Rattle.pair_decide.specs.declared.query.Proof.{Proof}
-use Rattle.witness_report.specs.declared.witness.Witness.{Witness}
-use Rattle.sec_outcome.specs.declared.outcome.LimitAt.{LimitAt}
+use Rattle.sec_outcome.specs.declared.outcome.LimitAt.TheVariants as limit_at
 use Rattle.sec_outcome.specs.declared.outcome.PairResult.{PairResult}
 use Rattle.sec_outcome.specs.declared.outcome.Verdict.{Verdict}
 use Rattle.sec_setup.specs.declared.setup.Setup.{Setup}
@@ -20,10 +19,22 @@ use Rattle.plain_form.specs.declared.error.PlainError.{PlainError}
 use Rattle.plain_form.specs.declared.error.PlainError.TheVariants as refused
 use Rattle.port_matching.specs.declared.pairing.SignalPair.{SignalPair}
 use Rattle.plain_form.specs.Formed.{IsLight, Formed}
-use Rattle.sec_setup.specs.Pairs.{outputs_of, places_of, ArePairsOf, NamedPair}
+use Rattle.sec_setup.specs.Pairs.{outputs_of, places_of, ArePairsOf}
 use Rattle.sec_setup.specs.Setup.{AreColumns}
-use Rattle.plain_form.specs.Found.{HaveFound, IsLimitAt, IsLimitOr, IsVerdictOf}
-use Rattle.plain_form.specs.Outcome.{AnswerFits, PairFits, NoneIs, IsFirstLimit, VerdictFits}
+use Rattle.obligations.specs.declared.obligation.Obligation.{Obligation}
+use Rattle.obligations.specs.declared.obligation.Difference.{Difference}
+use Rattle.obligations.specs.declared.deciding.Decided.{Decided}
+use Rattle.obligations.specs.declared.verdict.VerdictAt.{VerdictAt}
+use Rattle.obligations.specs.declared.verdict.VerdictAt.TheVariants as at
+use Rattle.obligations.specs.Decided.{NoneIs, IsFirstOf, IsFirst, HaveDecided}
+use Rattle.obligations.specs.Verdict.{IsVerdictAt}
+use Rattle.plain_form.specs.declared.unfolding.Functions.{Functions}
+use Rattle.plain_form.specs.Asked.{AreAsked}
+use Rattle.plain_form.specs.Shown.{CanBeShown, IsShown}
+use Rattle.plain_form.specs.Outcome.{VerdictFits}
+use Rattle.pair_decide.specs.Queries.{IsQuery}
+use Rattle.obligations.specs.Asked as obligations_are
+use Rattle.plain_form.proofs.FirstPairs.{AreSound, ArePairsIn, first_pair, showable, own_query}
 use Rattle.plain_form.specs.Pairs.{AreLight, AreTooLarge, Unfolds, left_signals, right_signals}
 use Rattle.shift_variables.proofs.Assignments.{once_each}
 use Rattle.plain_form.proofs.Growing.{over_weaker, weight_same}
@@ -53,13 +64,6 @@ refusal_formed s conflicts paired (refused.TooLarge B) h =
     (left_light s.left.now s.right.now s.pairs paired h.0, over_weaker (circuit_of s.right.now) (right_signals s.pairs) (outputs_of s.right.now) 2000000 (λ n. (paired.right n).0) h.1)
 refusal_formed s conflicts paired refused.NoMemory h = tt
 
--- what each pair of a relation has
-each_right : {X Y : Type 0} (R : X → Y → Type 0) (F : Y → Type 0) → ((x : X) (y : Y) → R x y → F y) → (xs : List X) (ys : List Y) → AllZip R xs ys → All F ys
-each_right R F f [] [] h = All-nil F
-each_right R F f [] (y ∷ ys) h = absurd h
-each_right R F f (x ∷ xs) [] h = absurd h
-each_right R F f (x ∷ xs) (y ∷ ys) h = All-cons F y ys (f x y h.0) (each_right R F f xs ys h.1)
-
 -- the only answer left
 answer_left : (x : PairAnswer) → x ≢ answer.Different → x ≢ answer.Limit → x ≢ answer.NotShown → x ≡ answer.Equal
 answer_left answer.Equal d l n = refl
@@ -67,46 +71,63 @@ answer_left answer.Different d l n = absurd (d refl)
 answer_left answer.NotShown d l n = absurd (n refl)
 answer_left answer.Limit d l n = absurd (l refl)
 
-module _ (a b : NetView) (left right : List ℕ) (columns : List (List ℕ)) (conflicts : ℕ) (pairs : List SignalPair) (results : List PairResult) where
-  abbrev Answers : Bool → ℕ → ℕ → PairAnswer → Option Proof → Type 0
-  Answers cut p q x proof = AnswerFits (circuit_of a) (circuit_of b) left right cut conflicts p q x proof
+-- the verdict at an obligation is that of the pairs
+pub verdict_fits : (s : Setup) (f : Functions) (h : AreSound s f) (pairs : List SignalPair) (asked : List Obligation) (conflicts : ℕ) (d : Decided) (y : VerdictAt) (v : Verdict) → ArePairsIn s pairs → AreAsked s f pairs asked → HaveDecided f.aig conflicts asked d →
+    IsVerdictAt d.different d.not_shown d.results y → IsShown f s.columns asked d.results y v → VerdictFits (circuit_of s.left.now) (circuit_of s.right.now) s.orders.left s.orders.right s.columns (map places_of pairs) d.results v
+verdict_fits s f h pairs asked conflicts d y v own are decided is shown = go y is shown
+  where
+    Fits : Verdict → Type 0
+    Fits w = VerdictFits (circuit_of s.left.now) (circuit_of s.right.now) s.orders.left s.orders.right s.columns (map places_of pairs) d.results w
 
-  no_difference : (p q : ℕ) (proof : Option Proof) → Answers true p q answer.Different proof → ⊥
-  no_difference p q None h = let e : true ≡ false = h.0 in cc
-  no_difference p q (Some proof) h = h
+    none_of : (wanted : PairAnswer) (first : Option Difference) → first ≡ None → IsFirst f.aig asked wanted d.results first → NoneIs wanted d.results
+    none_of wanted first e k = subst (IsFirst f.aig asked wanted d.results) e k
 
-  nothing_unshown : (p q : ℕ) (proof : Option Proof) → Answers false p q answer.NotShown proof → ⊥
-  nothing_unshown p q None h = let e : false ≡ true = h.0 in cc
-  nothing_unshown p q (Some proof) h = h
+    first_of : (wanted : PairAnswer) (first : Option Difference) (x : Difference) → first ≡ Some x → IsFirst f.aig asked wanted d.results first → IsFirstOf f.aig asked wanted d.results x
+    first_of wanted first x e k = subst (IsFirst f.aig asked wanted d.results) e k
 
-  -- behind a cut nothing is different, and without one nothing is left unshown
-  none_different : (first : Option Witness) → HaveFound a b left right columns true conflicts pairs results first → NoneIs answer.Different results
-  none_different first found =
-      each_right (PairFits (circuit_of a) (circuit_of b) left right true conflicts) (λ (r : PairResult). r.answer ≢ answer.Different)
-      (λ (x : NamedPair ℕ ℕ) (r : PairResult) fits e. no_difference x.left x.right r.proof (subst (λ (y : PairAnswer). Answers true x.left x.right y r.proof) e fits.answer_is))
-      (map places_of pairs) results found.fit
+    go : (x : VerdictAt) → IsVerdictAt d.different d.not_shown d.results x → IsShown f s.columns asked d.results x v → Fits v
+    go at.Equal i k =
+        let different = none_of answer.Different d.different i.0 decided.different in
+        let unshown = none_of answer.NotShown d.not_shown i.2 decided.not_shown in
+        subst Fits (sym k) (λ j e inside. answer_left _ (different j e inside) (i.1 j e inside) (unshown j e inside))
+    go (at.Different x) i k =
+        subst Fits (sym k.1) (first_pair s f h pairs asked own are conflicts d.results answer.Different x k.0 decided.results (first_of answer.Different d.different x i decided.different) k.2)
+    go (at.Limit place) i k =
+        let l = i.1 in
+        let r : k.0 ≡ l.result = same_Some k.0 l.result (sym k.1 ∙ l.at) in
+        subst Fits (sym k.2) (record {
+          index = place;
+          result = l.result;
+          result_is = l.at;
+          limit = l.limit;
+          earlier = l.earlier;
+          no_difference = none_of answer.Different d.different i.0 decided.different;
+          at_is = ap (λ (x : PairResult). limit_at.Pair x.name) r;
+        })
+    go (at.NotShown x) i k =
+        subst Fits (sym k.1) (
+          none_of answer.Different d.different i.0 decided.different,
+          i.1,
+          first_pair s f h pairs asked own are conflicts d.results answer.NotShown x k.0 decided.results (first_of answer.NotShown d.not_shown x i.2 decided.not_shown) k.2,
+        )
 
-  none_unshown : (first : Option Witness) → HaveFound a b left right columns false conflicts pairs results first → NoneIs answer.NotShown results
-  none_unshown first found =
-      each_right (PairFits (circuit_of a) (circuit_of b) left right false conflicts) (λ (r : PairResult). r.answer ≢ answer.NotShown)
-      (λ (x : NamedPair ℕ ℕ) (r : PairResult) fits e. nothing_unshown x.left x.right r.proof (subst (λ (y : PairAnswer). Answers false x.left x.right y r.proof) e fits.answer_is))
-      (map places_of pairs) results found.fit
+-- what is asked of pairs are queries over the graph
+pub are_asked : (s : Setup) (f : Functions) (h : AreSound s f) (pairs : List SignalPair) (asked : List Obligation) → AreAsked s f pairs asked → obligations_are.AreAsked f.aig asked
+are_asked s f h [] [] are = All-nil (λ (o : Obligation). All (IsQuery f.aig) o.queries)
+are_asked s f h [] (o ∷ asked) are = absurd are
+are_asked s f h (p ∷ pairs) [] are = absurd are
+are_asked s f h (p ∷ pairs) (o ∷ asked) are =
+    All-cons (λ (x : Obligation). All (IsQuery f.aig) x.queries) o asked
+    (subst (All (IsQuery f.aig)) (sym are.0.queries_are.1) (All-cons (IsQuery f.aig) are.0.queries_are.0 [] (own_query s f h p o are.0) (All-nil (IsQuery f.aig))))
+    (are_asked s f h pairs asked are.1)
 
-  abbrev VerdictIs : Verdict → Type 0
-  VerdictIs v = VerdictFits (circuit_of a) (circuit_of b) left right columns (map places_of pairs) results v
-
-  first_limit : (at : LimitAt) → IsLimitAt results at → NoneIs answer.Different results → IsFirstLimit results at
-  first_limit at l none = record { index = l.index; result = l.result; result_is = l.result_is; limit = l.limit; earlier = l.earlier; no_difference = none; at_is = l.at_is }
-
-  limit_or : (other v : Verdict) → NoneIs answer.Different results → (NoneIs answer.Limit results → VerdictIs other) → IsLimitOr other results v → VerdictIs v
-  limit_or other v none fits (inl (e, unlimited)) = subst VerdictIs (sym e) (fits unlimited)
-  limit_or other v none fits (inr (at, e, l)) = subst VerdictIs (sym e) (first_limit at l none)
-
-  -- the verdict by the results and the first difference
-  pub verdict_fits : (cut : Bool) (first : Option Witness) (v : Verdict) → HaveFound a b left right columns cut conflicts pairs results first → IsVerdictOf first cut results v → VerdictIs v
-  verdict_fits false None v found h =
-      limit_or _ v found.first_is (λ unlimited k d inside. answer_left _ (found.first_is k d inside) (unlimited k d inside) (none_unshown None found k d inside)) h
-  verdict_fits true None v found h =
-      limit_or _ v (none_different None found) (λ unlimited k d inside. answer_left _ (none_different None found k d inside) (unlimited k d inside) (found.first_is k d inside)) h
-  verdict_fits false (Some w) v found h = subst VerdictIs (sym h) found.first_is
-  verdict_fits true (Some w) v found h = limit_or _ v (none_different (Some w) found) (λ unlimited. (none_different (Some w) found, unlimited, found.first_is)) h
+-- the verdict can be shown
+pub can_be_shown : (s : Setup) (f : Functions) (h : AreSound s f) (pairs : List SignalPair) (asked : List Obligation) (conflicts : ℕ) (d : Decided) (y : VerdictAt) → ArePairsIn s pairs → AreAsked s f pairs asked → HaveDecided f.aig conflicts asked d →
+    IsVerdictAt d.different d.not_shown d.results y → CanBeShown f s.columns asked d.results y
+can_be_shown s f h pairs asked conflicts d y own are decided is = go y is
+  where
+    go : (x : VerdictAt) → IsVerdictAt d.different d.not_shown d.results x → CanBeShown f s.columns asked d.results x
+    go at.Equal i = tt
+    go (at.Different x) i = showable s f h pairs asked own are answer.Different d.results x (subst (IsFirst f.aig asked answer.Different d.results) i decided.different)
+    go (at.Limit place) i = slice_get_within d.results place i.1.result i.1.at
+    go (at.NotShown x) i = showable s f h pairs asked own are answer.NotShown d.results x (subst (IsFirst f.aig asked answer.NotShown d.results) i.2 decided.not_shown)

@@ -4,20 +4,16 @@ use Rattle.std.specs.List.{AllZip, Contains}
 use Rattle.std.proofs.lemmas.List.Elements.{All-contains}
 use Rattle.std.proofs.lemmas.Option.{same_Some, slice_get_within}
 use Rattle.circuit_theory.proofs.Lists.{Contains-map, Contains-map_from, of_at, zip_right, zip_length}
-use Rattle.sec_base.specs.Table.{AreDistinct}
 use Rattle.flat_net.specs.declared.parts.Port.{Port}
 use Rattle.flat_net.specs.View.{NetView}
 use Rattle.flat_net.specs.Sound.{IsSound}
-use Rattle.aig.specs.Graph.{IsGraph}
-use Rattle.aig.specs.Builds.{HasTreeValues}
 use Rattle.cbf_unfold.specs.declared.unfolder.Unfolded.{Unfolded}
-use Rattle.pair_decide.specs.declared.query.Query.{Query}
 use Rattle.port_matching.specs.declared.pairing.SignalPair.{SignalPair}
 use Rattle.plain_form.specs.declared.unfolding.Functions.{Functions}
 use Rattle.sec_setup.specs.Pairs.{outputs_of, ArePairsOf}
 use Rattle.plain_form.specs.Pairs.{IsFunctionOf, AreFunctions}
-use Rattle.plain_form.specs.Variables.{AreInOrder, IsPairQuery}
-use Rattle.plain_form.proofs.PairQueries.{AsksPair, in_order}
+use Rattle.plain_form.specs.Variables.{AreInOrder}
+use Rattle.plain_form.proofs.PairQueries.{in_order}
 use Rattle.shift_variables.proofs.Reading.{item_at}
 
 -- a relation of two lists, at one place of both
@@ -51,10 +47,10 @@ module _ (a b : NetView) (pairs : List SignalPair) (i : ℕ) (p : SignalPair) (a
     pub right_within : i < length f.right.items
     right_within = let h = slice_get_within pairs i p at in let n = zip_length is_right pairs f.right.items are.right_are in omega (arith, h, n)
 
-    left_here : (l : Unfolded) → l ≡ get_or f.left.items i l → IsFunctionOf a left f.aig f.places p.left.0 l
+    pub left_here : (l : Unfolded) → l ≡ get_or f.left.items i l → IsFunctionOf a left f.aig f.places p.left.0 l
     left_here l e = zip_at is_left pairs f.left.items are.left_are i p l at (item_at f.left.items f.left.items i l refl left_within e)
 
-    right_here : (r : Unfolded) → r ≡ get_or f.right.items i r → IsFunctionOf b right f.aig f.places p.right.0 r
+    pub right_here : (r : Unfolded) → r ≡ get_or f.right.items i r → IsFunctionOf b right f.aig f.places p.right.0 r
     right_here r e = zip_at is_right pairs f.right.items are.right_are i p r at (item_at f.right.items f.right.items i r refl right_within e)
 
     pub left_variables : (l : Unfolded) → l ≡ get_or f.left.items i l → AreInOrder f.places l.vars
@@ -62,7 +58,3 @@ module _ (a b : NetView) (pairs : List SignalPair) (i : ℕ) (p : SignalPair) (a
 
     pub right_variables : (r : Unfolded) → r ≡ get_or f.right.items i r → AreInOrder f.places r.vars
     right_variables r e = in_order b right f.aig f.places p.right.0 r (right_here r e)
-
-    pub asks_pair : (l r : Unfolded) (q : Query) → l ≡ get_or f.left.items i l → r ≡ get_or f.right.items i r → IsGraph f.aig → AreDistinct f.places → HasTreeValues f.aig → IsPairQuery f.places l r q →
-        AsksPair a b left right f.aig f.places p.left.0 p.right.0 l r q
-    asks_pair l r q e_l e_r graph distinct values asks = record { graph = graph; distinct = distinct; values = values; left_is = left_here l e_l; right_is = right_here r e_r; asks = asks }

@@ -1,40 +1,37 @@
--- What is swept for the pairs of functions.
-use Rattle.std.specs.Prelude.{◌≡◌, ℕ, List, slice_get, Option, Some, None}
-use Rattle.flat_net.specs.View.{NetView}
+-- What is asked of pairs of signals.
+use Rattle.std.specs.Prelude.{◌≡◌, ℕ, Bool, not, List, [], ◌∷◌}
+use Rattle.std.specs.List.{AllZip}
+use Rattle.circuit_theory.specs.Fits.{IsPairDepth}
+use Rattle.flat_net.specs.View.{NetView, circuit_of}
 use Rattle.cbf_unfold.specs.declared.unfolder.Unfolded.{Unfolded}
 use Rattle.pair_decide.specs.declared.query.Query.{Query}
-use Rattle.swept_queries.specs.declared.sides.Sides.{Sides}
-use Rattle.swept_queries.specs.declared.sweeping.SweptQueries.{SweptQueries}
-use Rattle.swept_queries.specs.InStead.{IsKnown}
+use Rattle.obligations.specs.declared.obligation.Obligation.{Obligation}
 use Rattle.port_matching.specs.declared.pairing.SignalPair.{SignalPair}
+use Rattle.sec_setup.specs.declared.setup.Setup.{Setup}
+use Rattle.sec_setup.specs.Cuts.{is_cut}
 use Rattle.plain_form.specs.declared.unfolding.Functions.{Functions}
-use Rattle.plain_form.specs.Pairs.{AreFunctions}
+use Rattle.plain_form.specs.Pairs.{IsFunctionOf}
 use Rattle.plain_form.specs.Variables.{IsPairQuery}
 
--- these are the functions of some pairs
-pub record AreOfPairs (f : Functions) : Type 0 where
-  pub a : NetView
-  pub b : NetView
-  pub left : List ℕ
-  pub right : List ℕ
-  pub pairs : List SignalPair
-  pub are : AreFunctions a b left right pairs f
+-- one query: do the two functions agree always?
+abbrev pub IsOnlyQuery : List (ℕ × ℕ) → Unfolded → Unfolded → List Query → Type 0
+IsOnlyQuery places l r queries = (q : Query) × (queries ≡ q ∷ []) × IsPairQuery places l r q
 
--- whether both functions always agree is asked of these literals
-pub record AskOf (l r : Unfolded) (t : Sides) : Type 0 where
-  pub left : t.left ≡ l.lit
-  pub right : t.right ≡ r.lit
-  pub care : t.care.0 ≡ 1
+-- What is asked of a pair: its name, the greater of both depths, whether no latch is cut open, and the query of both functions.
+pub record IsAskedOf (a b : NetView) (left right : List ℕ) (f : Functions) (cut : Bool) (p : SignalPair) (o : Obligation) : Type 0 where
+  pub name_is : o.name ≡ p.name
+  pub size_is : IsPairDepth (circuit_of a) (circuit_of b) p.left.0 p.right.0 o.size
+  pub decisive_is : o.decisive ≡ not cut
+  pub left_function : Unfolded
+  pub right_function : Unfolded
+  pub left_is : IsFunctionOf a left f.aig f.places p.left.0 left_function
+  pub right_is : IsFunctionOf b right f.aig f.places p.right.0 right_function
+  pub queries_are : IsOnlyQuery f.places left_function right_function o.queries
 
--- nothing is asked, or that
-abbrev pub MayAsk : Unfolded → Unfolded → Option Sides → Type 0
-MayAsk l r None = Unit {0}
-MayAsk l r (Some t) = AskOf l r t
+-- the same of a pair of a setup
+abbrev pub AskedOf : Setup → Functions → SignalPair → Obligation → Type 0
+AskedOf s f p o = IsAskedOf s.left.now s.right.now s.orders.left s.orders.right f (is_cut s.exposed) p o
 
--- the same of each pair of functions, at its place
-abbrev pub ArePairSides : Functions → List (Option Sides) → Type 0
-ArePairSides f sides = (i : ℕ) (t : Sides) → slice_get sides i ≡ Some (Some t) → (l : Unfolded) × (r : Unfolded) × (slice_get f.left.items i ≡ Some l) × (slice_get f.right.items i ≡ Some r) × AskOf l r t
-
--- what is known at a place is true of the query of the pair there
-abbrev pub AreSweptPairs : Functions → SweptQueries → Type 0
-AreSweptPairs f s = (i : ℕ) (l r : Unfolded) (q : Query) → slice_get f.left.items i ≡ Some l → slice_get f.right.items i ≡ Some r → IsPairQuery f.places l r q → IsKnown f.aig s i q
+-- and of some of them, in order
+abbrev pub AreAsked : Setup → Functions → List SignalPair → List Obligation → Type 0
+AreAsked s f pairs asked = AllZip (AskedOf s f) pairs asked

@@ -5,5 +5,5 @@ pub mod Variables
 pub mod Pairs
 pub mod Sequences
 pub mod Asked
-pub mod Found
+pub mod Shown
 pub mod Laws

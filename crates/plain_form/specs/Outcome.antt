@@ -1,5 +1,5 @@
 -- What it means that what is found of some pairs fits two circuits, in the plain form.
-use Rattle.std.specs.Prelude.{◌≡◌, ◌≢◌, ℕ, ◌<◌, max, Bool, true, false, List, length, Option, Some, None, slice_get, fold}
+use Rattle.std.specs.Prelude.{◌≡◌, ◌≢◌, ℕ, ◌<◌, Bool, true, false, List, length, Option, Some, None, slice_get}
 use Rattle.std.specs.List.{All, AllZip}
 use Rattle.circuit_theory.specs.Circuit.{Circuit}
 use Rattle.circuit_theory.specs.Fits.{IsPairDepth, IsWitness}
@@ -16,6 +16,8 @@ use Rattle.sec_outcome.specs.declared.outcome.Why.TheVariants as why
 use Rattle.sec_outcome.specs.declared.outcome.LimitAt.{LimitAt}
 use Rattle.sec_outcome.specs.declared.outcome.LimitAt.TheVariants as limit_at
 use Rattle.sec_setup.specs.Pairs.{NamedPair}
+pub use Rattle.obligations.specs.Decided.{NoneIs}
+pub use Rattle.obligations.specs.Verdict.{greatest_size}
 use Rattle.plain_form.specs.Limits.{IsUndecided}
 use Rattle.plain_form.specs.declared.comparing.Findings.{Findings}
 
@@ -71,10 +73,6 @@ pub record IsFirstOfAnswer {P Q : Type 0} (a : Circuit P) (b : Circuit Q) (left 
   pub names_are : w.stimulus.names ≡ columns
   pub witness : IsWitness a b left right place.left place.right (length columns) w.stimulus.rows w.cycle w.left w.right
 
--- no result has this answer
-abbrev pub NoneIs : PairAnswer → List PairResult → Type 0
-NoneIs wanted results = All (λ (r : PairResult). r.answer ≢ wanted) results
-
 -- no pair is different, and this one is the first at its limit
 pub record IsFirstLimit (results : List PairResult) (at : LimitAt) : Type 0 where
   pub index : ℕ
@@ -92,10 +90,6 @@ VerdictFits a b left right columns pairs results (verdict.Different w) = IsFirst
 VerdictFits a b left right columns pairs results (verdict.Limit at) = IsFirstLimit results at
 VerdictFits a b left right columns pairs results (verdict.NotShown (why.Cut w)) =
     NoneIs answer.Different results × NoneIs answer.Limit results × IsFirstOfAnswer a b left right columns answer.NotShown pairs results w
-
--- the greatest size of the results
-abbrev pub greatest_size : List PairResult → ℕ
-greatest_size results = fold (λ n (r : PairResult). max n r.size) 0 results
 
 -- What is found of the pairs fits the circuits: one result for each in order, the greatest depth, and the verdict. The circuits are
 -- those that are unfolded, `left` and `right` the numbers of their inputs, and `columns` the names of the numbers.

@@ -11,6 +11,7 @@ use Rattle.cbf_unfold.specs.Unfolded.{IsUnfolded}
 use Rattle.plain_form.specs.declared.error.PlainError.{PlainError}
 use Rattle.plain_form.specs.declared.error.PlainError.TheVariants as refused
 use Rattle.port_matching.specs.declared.pairing.SignalPair.{SignalPair}
+use Rattle.sec_setup.specs.declared.setup.Setup.{Setup}
 use Rattle.plain_form.specs.declared.unfolding.Functions.{Functions}
 
 -- the unfoldings of these signals weigh at most 2,000,000 together
@@ -40,6 +41,10 @@ IsFunctionOf n order g places s u = IsUnfolded n order g places s u.lit.0 u.vars
 pub record AreFunctions (a b : NetView) (left right : List ℕ) (pairs : List SignalPair) (f : Functions) : Type 0 where
   pub left_are : AllZip (λ (p : SignalPair) u. IsFunctionOf a left f.aig f.places p.left.0 u) pairs f.left.items
   pub right_are : AllZip (λ (p : SignalPair) u. IsFunctionOf b right f.aig f.places p.right.0 u) pairs f.right.items
+
+-- those of each pair of a setup
+abbrev pub HaveFunctions : Setup → Functions → Type 0
+HaveFunctions s f = AreFunctions s.left.now s.right.now s.orders.left s.orders.right s.pairs f
 
 -- the functions of the pairs, or the first circuit whose outputs weigh too much
 abbrev pub Unfolds : NetView → NetView → List ℕ → List ℕ → List SignalPair → Result Functions PlainError → Type 0

@@ -1,5 +1,5 @@
 -- The sequence of a difference, by the bits of a query's variables.
-use Rattle.std.specs.Prelude.{◌≡◌, ℕ, Bool, List, length, Some, Option, None}
+use Rattle.std.specs.Prelude.{◌≡◌, ℕ, Bool, List, length}
 use Rattle.circuit_theory.specs.Sequence.{sequence_rows}
 use Rattle.aig.specs.declared.node.Node.{Node}
 use Rattle.aig.specs.Values.{value}
@@ -17,9 +17,3 @@ pub record IsWitnessOf (g : List Node) (places : List (ℕ × ℕ)) (q : Query) 
   pub right_is : w.right ≡ value g (assigned_to q.vars bits) q.right.0
   pub names_are : w.stimulus.names ≡ names
   pub rows_are : w.stimulus.rows ≡ sequence_rows last (bits_at places q.vars bits) (length names)
-
--- the sequence that there is already, or else that of the bits, if there are some
-abbrev pub IsFirstOf : List Node → List (ℕ × ℕ) → Query → PairName → ℕ → List (List ℕ) → Option Witness → Option (List Bool) → Option Witness → Type 0
-IsFirstOf g places q name last names (Some w) bits first = first ≡ Some w
-IsFirstOf g places q name last names None None first = first ≡ None
-IsFirstOf g places q name last names None (Some bits) first = (w : Witness) × (first ≡ Some w) × IsWitnessOf g places q bits name last names w

@@ -1,64 +1,91 @@
-//! What is tried and swept for the pairs, before they are decided.
+//! What the plain form asks of each pair.
 
-ghost use Rattle.std.specs.Prelude.{◌≤◌, IfOk};
-ghost use Rattle.plain_form.specs.Asked.{AreOfPairs, ArePairSides, AreSweptPairs, MayAsk};
+ghost use Rattle.std.specs.Prelude.{◌≡◌, ◌<◌, length, slice_get, Some, IfOk};
+ghost use Rattle.port_matching.specs.declared.pairing.SignalPair.{SignalPair};
+ghost use Rattle.sec_setup.specs.Setup.{IsSetup};
+ghost use Rattle.plain_form.specs.Asked.{AreAsked, AskedOf, IsOnlyQuery};
+ghost use Rattle.plain_form.specs.Pairs.{HaveFunctions};
+ghost use Rattle.plain_form.specs.Variables.{AreInOrder};
 
+use crate::pairing::pair_depth;
 use crate::unfolding::Functions;
 use aig::Lit;
 use cbf_unfold::Unfolded;
-use sec_base::NoMemory;
+use obligations::{Obligation, Queries, copy_name};
+use pair_decide::Query;
+use sec_base::{NoMemory, PlaceTable};
+use sec_setup::Setup;
+use shift_variables::merge_variables;
 use std::alloc::Global;
-use swept_queries::{Sides, SweptQueries, sweep_queries};
 
-/// The most variables of a pair that needs no search.
-const NARROW: usize = 16;
-
-/// Sweeps the graph for the pairs of functions that may need a search.
-pub(crate) fn sweep_pairs(
+/// What is asked of each pair, in order: whether both functions agree always. A difference shows that the circuits differ where no
+/// latch is cut open.
+pub(crate) fn ask(
     alloc: Global,
+    setup: &Setup<'_>,
     functions: &Functions,
-    conflicts: u32,
-) -> Result<SweptQueries, NoMemory>
-    requires { AreOfPairs functions.now }
-    ensures { IfOk result (AreSweptPairs functions.now) }
+) -> Result<Vec<Obligation>, NoMemory>
+    requires setup { IsSetup setup.now }
+    requires functions { HaveFunctions setup.now functions.now }
+    ensures { IfOk result (λ asked. AreAsked setup.now functions.now setup.now.pairs asked.items) }
 {
-    functions.aig.keeps();
-    let sides = pair_sides(alloc, functions)?;
-    let swept = sweep_queries(alloc, &functions.aig, sides.as_slice(), conflicts)?;
-    Ok(swept)
+    let mut asked = Vec::new(alloc);
+    for i in 0..setup.pairs.len() {
+        let obligation = obligation_of(alloc, setup, functions, i)?;
+        asked.push(obligation)?;
+    }
+    Ok(asked)
 }
 
-/// For each pair the literals of both functions, if they have many variables.
-fn pair_sides(alloc: Global, functions: &Functions) -> Result<Vec<Option<Sides>>, NoMemory>
-    ensures { IfOk result (λ sides. ArePairSides functions.now sides.items) }
+/// What is asked of the pair at a place.
+fn obligation_of(
+    alloc: Global,
+    setup: &Setup<'_>,
+    functions: &Functions,
+    i: usize,
+) -> Result<Obligation, NoMemory>
+    requires setup { IsSetup setup.now }
+    requires functions { HaveFunctions setup.now functions.now }
+    requires place { i < length setup.now.pairs }
+    ensures { IfOk result (λ o. (p : SignalPair) → slice_get setup.now.pairs i ≡ Some p → AskedOf setup.now functions.now p o) }
 {
-    let (left, right) = (functions.left.as_slice(), functions.right.as_slice());
-    let mut sides = Vec::new(alloc);
-    for i in 0..left.len().min(right.len()) {
-        sides.push(sides_of(&left[i], &right[i]))?;
-    }
-    Ok(sides)
-}
-
-/// The literals of two functions, if they have many variables together.
-fn sides_of(left: &Unfolded, right: &Unfolded) -> Option<Sides>
-    ensures { MayAsk left.now right.now result }
-{
-    if !are_wide(left.vars.as_slice(), right.vars.as_slice()) {
-        return None;
-    }
-    Some(Sides {
-        left: left.lit,
-        right: right.lit,
-        care: Lit(1),
+    setup.left.keeps();
+    setup.right.keeps();
+    let pair = &setup.pairs.as_slice()[i];
+    let size = pair_depth(setup, pair.left, pair.right);
+    let queries = queries_of(
+        alloc,
+        &functions.places,
+        &functions.left[i],
+        &functions.right[i],
+    )?;
+    let name = copy_name(&pair.name)?;
+    Ok(Obligation {
+        name,
+        size,
+        decisive: !setup.is_cut(),
+        queries,
     })
 }
 
-/// Whether there are many variables in one of the lists or the other.
-fn are_wide(left: &[u32], right: &[u32]) -> bool {
-    if left.len() > NARROW || right.len() > NARROW {
-        return true;
-    }
-    let others = right.iter().filter(|v| !left.contains(v)).count();
-    left.len() + others > NARROW
+/// Whether two functions always agree, as one query.
+fn queries_of(
+    alloc: Global,
+    places: &PlaceTable,
+    left: &Unfolded,
+    right: &Unfolded,
+) -> Result<Queries, NoMemory>
+    requires left { AreInOrder places.now left.now.vars }
+    requires right { AreInOrder places.now right.now.vars }
+    ensures { IfOk result (IsOnlyQuery places.now left.now right.now) }
+{
+    let vars = merge_variables(alloc, places, left.vars.as_slice(), right.vars.as_slice())?;
+    let mut queries = Queries::new(alloc);
+    queries.push(Query {
+        left: left.lit,
+        right: right.lit,
+        care: Lit(1),
+        vars,
+    })?;
+    Ok(queries)
 }

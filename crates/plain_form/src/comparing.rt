@@ -6,13 +6,14 @@ ghost use Rattle.sec_setup.specs.Cuts.{is_cut};
 ghost use Rattle.sec_setup.specs.Pairs.{places_of};
 ghost use Rattle.sec_setup.specs.Setup.{IsSetup};
 ghost use Rattle.plain_form.specs.Formed.{Formed};
-ghost use Rattle.plain_form.specs.Found.{HaveFunctions};
+ghost use Rattle.plain_form.specs.Pairs.{HaveFunctions};
 ghost use Rattle.plain_form.specs.Outcome.{FindingsFit};
 
-use crate::deciding::{Decided, decide_pairs};
+use crate::asking::ask;
 use crate::error::PlainError;
+use crate::showing::show;
 use crate::unfolding::{Functions, unfold_pairs};
-use crate::verdict::{greatest_size, verdict_of};
+use obligations::{Decided, decide_all, greatest_size, verdict_at};
 use sec_base::NoMemory;
 use sec_outcome::{PairResults, Verdict};
 use sec_setup::Setup;
@@ -67,8 +68,26 @@ fn findings_of(
     requires conflicts { conflicts ≤ 200000 }
     ensures { IfOk result (λ f. FindingsFit (circuit_of setup.now.left.now) (circuit_of setup.now.right.now) setup.now.orders.left setup.now.orders.right setup.now.columns (is_cut setup.now.exposed) conflicts (map places_of setup.now.pairs) f) }
 {
-    let Decided { results, first } = decide_pairs(alloc, setup, functions, conflicts)?;
-    let verdict = verdict_of(first, setup.is_cut(), results.as_slice())?;
+    setup.left.keeps();
+    setup.right.keeps();
+    functions.aig.keeps();
+    functions.places.keeps();
+    let asked = ask(alloc, setup, functions)?;
+    let decided = decide_all(alloc, &functions.aig, asked.as_slice(), conflicts)?;
+    let Decided {
+        results,
+        different,
+        not_shown,
+    } = decided;
+    let at = verdict_at(different, not_shown, results.as_slice());
+    let verdict = show(
+        alloc,
+        functions,
+        &setup.columns,
+        asked.as_slice(),
+        results.as_slice(),
+        at,
+    )?;
     let through = greatest_size(results.as_slice());
     Ok(Findings {
         pairs: results,

@@ -3,12 +3,11 @@
 
 mod asking;
 mod comparing;
-mod deciding;
 mod error;
 pub mod laws;
 mod pairing;
+mod showing;
 mod unfolding;
-mod verdict;
 mod witness;
 
 pub use comparing::{Findings, compare_plain};

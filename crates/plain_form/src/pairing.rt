@@ -1,6 +1,6 @@
-//! The depth and the name of a pair of signals.
+//! The depth of a pair of signals.
 
-ghost use Rattle.std.specs.Prelude.{◌≡◌, ◌<◌, length, IfOk};
+ghost use Rattle.std.specs.Prelude.{◌<◌, length};
 ghost use Rattle.circuit_theory.specs.declared.Mode.TheVariants.{Plain};
 ghost use Rattle.circuit_theory.specs.Depth.{IsDepth};
 ghost use Rattle.circuit_theory.specs.Fits.{IsPairDepth};
@@ -12,8 +12,6 @@ ghost use Rattle.sec_setup.specs.Setup.{IsSetup};
 
 use flat_net::{Net, Signal};
 use latch_graph::LatchGraph;
-use sec_base::NoMemory;
-use sec_outcome::PairName;
 use sec_setup::Setup;
 
 /// The greater depth of a signal of A and one of B.
@@ -40,14 +38,4 @@ fn depth_of(net: &Net, graph: &LatchGraph, s: Signal) -> u32
         unreachable!()
     };
     depth
-}
-
-/// A copy of a pair's name.
-pub(crate) fn copy_name(name: &PairName) -> Result<PairName, NoMemory>
-    ensures { IfOk result (λ made. made ≡ name.now) }
-{
-    match name {
-        PairName::Output(word) => Ok(PairName::Output(word.copy()?)),
-        PairName::Next(word) => Ok(PairName::Next(word.copy()?)),
-    }
 }

@@ -1,56 +1,25 @@
 //! The sequence of a difference.
 
-ghost use Rattle.std.specs.Prelude.{◌≡◌, ◌≢◌, ℕ, ◌*◌, ◌<◌, ◌≤◌, length, false, slice_index_or, All, IfOk, OnOk};
-ghost use Rattle.std.specs.Option.{ForSome};
+ghost use Rattle.std.specs.Prelude.{◌≡◌, ◌≢◌, ℕ, ◌*◌, ◌<◌, ◌≤◌, length, false, slice_index_or, All, IfOk};
 ghost use Rattle.std.specs.List.{AllPairs};
 ghost use Rattle.sec_base.specs.Table.{AreDistinct};
 ghost use Rattle.aig.specs.Graph.{vars_of};
 ghost use Rattle.aig.specs.Values.{value};
 ghost use Rattle.pair_decide.specs.Queries.{assigned_to};
-ghost use Rattle.plain_form.specs.Sequences.{IsSequence, IsWitnessOf, IsFirstOf};
+ghost use Rattle.plain_form.specs.Sequences.{IsSequence, IsWitnessOf};
 
-use crate::pairing::copy_name;
 use crate::unfolding::Functions;
 use aig::Aig;
+use obligations::copy_name;
 use pair_decide::Query;
 use sec_base::{Bits, NoMemory, PlaceTable, Words};
 use sec_outcome::{PairName, Stimulus, Witness};
 use shift_variables::{bits_at, rows_of};
 use std::alloc::Global;
 
-/// Makes the sequence of a pair of this name where bits make its sides differ, if there is no sequence yet.
-pub(crate) fn put_first(
-    alloc: Global,
-    functions: &Functions,
-    query: &Query,
-    first: &mut Option<Witness>,
-    bits: Option<Bits>,
-    name: &PairName,
-    last: u32,
-    names: &Words,
-) -> Result<(), NoMemory>
-    requires left { query.now.left.0 < 2 * length functions.now.aig }
-    requires right { query.now.right.0 < 2 * length functions.now.aig }
-    requires sequence { ForSome bits (λ bs. IsSequence functions.now.places query.now.vars bs last (length names.now)) }
-    requires distinct { AreDistinct names.now }
-    ensures { OnOk result (IsFirstOf functions.now.aig functions.now.places query.now name.now last names.now first.old bits first.new) }
-{
-    if first.is_some() {
-        return Ok(());
-    }
-    match bits {
-        None => Ok(()),
-        Some(bits) => {
-            let witness = witness_of(alloc, functions, query, &bits, name, last, names)?;
-            *first = Some(witness);
-            Ok(())
-        }
-    }
-}
-
 /// The sequence of a pair of this name that ends in the cycle `last`: the bit of an input at a shift stands so many cycles
 /// before the last one, at the input's place among the names, and all else is 0.
-fn witness_of(
+pub(crate) fn witness_of(
     alloc: Global,
     functions: &Functions,
     query: &Query,

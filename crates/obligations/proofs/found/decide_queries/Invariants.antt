@@ -1,0 +1,7 @@
+use Rattle.std.proofs.Common.{◌≡◌, ℕ, ◌<◌, slice_get, Some}
+use Rattle.pair_decide.specs.declared.query.Query.{Query}
+use Rattle.pair_decide.specs.Queries.{IsSame}
+use Rattle.obligations.proofs.found.decide_queries.Given as goal
+
+abbrev pub invariant-loop-i : goal.invariant-loop-i
+invariant-loop-i l = (k : ℕ) (q : Query) → k < l.i → slice_get l.queries k ≡ Some q → IsSame l.aig q

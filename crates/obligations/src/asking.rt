@@ -1,0 +1,66 @@
+//! What is tried and swept before the queries are decided.
+
+ghost use Rattle.std.specs.Prelude.{◌≡◌, ◌++◌, ◌<◌, ◌^◌, length, IfOk, OnOk};
+ghost use Rattle.std.specs.List.{AllZip};
+ghost use Rattle.obligations.specs.Asked.{AreAsked, AreKnown, MaySweep, queries_of, HaveMore};
+
+use crate::obligation::Obligation;
+use aig::Aig;
+use pair_decide::Query;
+use sec_base::NoMemory;
+use std::alloc::Global;
+use swept_queries::{Sides, SweptQueries, sweep_queries};
+
+/// The most variables of a query that needs no search.
+const NARROW: usize = 16;
+
+/// Sweeps the graph for the queries that may need a search.
+pub(crate) fn sweep_asked(
+    alloc: Global,
+    aig: &Aig,
+    asked: &[Obligation],
+    conflicts: u32,
+) -> Result<SweptQueries, NoMemory>
+    requires { AreAsked aig.now asked.now }
+    ensures known { IfOk result (λ swept. AreKnown aig.now swept (queries_of asked.now)) }
+    ensures few { OnOk result (length (queries_of asked.now) < 2 ^ 64) }
+{
+    let sides = all_sides(alloc, asked)?;
+    let swept = sweep_queries(alloc, aig, sides.as_slice(), conflicts)?;
+    Ok(swept)
+}
+
+/// For each query, in order, its literals if it has many variables.
+fn all_sides(alloc: Global, asked: &[Obligation]) -> Result<Vec<Option<Sides>>, NoMemory>
+    ensures { IfOk result (λ sides. AllZip MaySweep (queries_of asked.now) sides.items) }
+{
+    let mut sides = Vec::new(alloc);
+    for i in 0..asked.len() {
+        put_sides(&mut sides, asked[i].queries.as_slice())?;
+    }
+    Ok(sides)
+}
+
+/// Puts what may be swept for these queries behind the rest.
+fn put_sides(sides: &mut Vec<Option<Sides>>, queries: &[Query]) -> Result<(), NoMemory>
+    ensures { OnOk result (HaveMore queries.now sides.old.items sides.new.items) }
+{
+    for query in queries {
+        sides.push(sides_of(query))?;
+    }
+    Ok(())
+}
+
+/// The literals of a query that has many variables.
+fn sides_of(query: &Query) -> Option<Sides>
+    ensures { MaySweep query.now result }
+{
+    if query.vars.len() <= NARROW {
+        return None;
+    }
+    Some(Sides {
+        left: query.left,
+        right: query.right,
+        care: query.care,
+    })
+}

@@ -1,0 +1,61 @@
+//! What is found of the queries of one obligation.
+
+ghost use Rattle.std.specs.Prelude.{◌≡◌, ℕ, ◌+◌, ◌<◌, ◌≤◌, ◌^◌, length, slice_get, Some, IfOk, IfSome, MatchOption};
+ghost use Rattle.std.specs.List.{All};
+ghost use Rattle.aig.specs.declared.node.Node.{Node};
+ghost use Rattle.pair_decide.specs.declared.query.Query.{Query};
+ghost use Rattle.pair_decide.specs.Queries.{IsQuery};
+ghost use Rattle.swept_queries.specs.InStead.{IsKnown};
+ghost use Rattle.obligations.specs.Found.{IsFound, EndsAt};
+
+use aig::Aig;
+use pair_decide::{Decision, Proof, Query};
+use sec_base::{Bits, NoMemory};
+use std::alloc::Global;
+use swept_queries::SweptQueries;
+
+/// What is found of queries, which are decided up to the first whose sides don't agree.
+#[derive(Drop)]
+pub(crate) enum Found {
+    /// The sides of each agree.
+    Same,
+    /// Those of the query at this place differ under these bits of its variables.
+    Differs(usize, Bits),
+    /// The limit was met.
+    Limit(Proof),
+}
+
+/// Decides queries in order, the first of which stands at this place of all.
+pub(crate) fn decide_queries(
+    alloc: Global,
+    aig: &Aig,
+    queries: &[Query],
+    swept: &SweptQueries,
+    place: usize,
+    conflicts: u32,
+) -> Result<Found, NoMemory>
+    requires queries { All (IsQuery aig.now) queries.now }
+    requires known { (i : ℕ) (q : Query) → slice_get queries.now i ≡ Some q → IsKnown aig.now swept.now (place + i) q }
+    requires few { place + length queries.now < 2 ^ 64 }
+    requires conflicts { conflicts ≤ 200000 }
+    ensures { IfOk result (IsFound aig.now conflicts queries.now) }
+{
+    for i in 0..queries.len() {
+        let decision = swept.decide(alloc, aig, &queries[i], place + i, conflicts)?;
+        if let Some(found) = end_of(decision, i) {
+            return Ok(found);
+        }
+    }
+    Ok(Found::Same)
+}
+
+/// What ends the deciding of queries at this place, if its answer does.
+fn end_of(decision: Decision, place: usize) -> Option<Found>
+    ensures { EndsAt place decision result }
+{
+    match decision {
+        Decision::Same(_) => None,
+        Decision::Differs(bits) => Some(Found::Differs(place, bits)),
+        Decision::Limit(proof) => Some(Found::Limit(proof)),
+    }
+}

@@ -1,0 +1,1 @@
+-- The obligation and the query are those of the difference.
