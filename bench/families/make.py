@@ -133,7 +133,7 @@ def sorter(words, width, odd_even):
 def synthesise(folder, name, text):
     source, target = folder / f"{name}.v", folder / f"{name}.blif"
     source.write_text(text)
-    script = f"read_verilog {source}; synth -flatten -top top; abc -g AND,OR,XOR; opt_clean; write_blif {target}"
+    script = f"read_verilog {source}; synth -flatten -top top; abc -g AND,OR,XOR; opt_clean -purge; write_blif {target}"
     subprocess.run(["yosys", "-q", "-p", script], check=True)
     source.unlink()
 

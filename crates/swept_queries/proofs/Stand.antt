@@ -1,7 +1,8 @@
 -- Queries in the stead of others, and what their answers say of those.
 use Rattle.std.proofs.Common.{◌≡◌, ◌≢◌, ℕ, ◌+◌, ◌*◌, ◌<◌, ◌≤◌, ◌^◌, Bool, List, length, slice_get, Option, Some, refl, sym, ◌∙◌, ap, subst, inl, inr}
 use Rattle.std.specs.Prelude.{◌⊎◌}
-use Rattle.std.specs.List.{AllPairs, AllZip, Contains}
+use Rattle.std.specs.List.{All, AllPairs, AllZip, Contains}
+use Rattle.circuit_theory.proofs.Lists.{All-from_each, at_of}
 use Rattle.circuit_theory.specs.Query.{bits_of}
 use Rattle.aig.specs.declared.node.Lit.{Lit}
 use Rattle.aig.specs.declared.node.Node.{Node}
@@ -19,7 +20,7 @@ use Rattle.swept_queries.specs.declared.sides.Known.{Known}
 use Rattle.swept_queries.specs.declared.sides.Known.TheVariants as what
 use Rattle.swept_queries.specs.declared.sweeping.SweptKnown.{SweptKnown}
 use Rattle.swept_queries.specs.Roots.{roots_for, HasThree, IsMoved, AreMade}
-use Rattle.swept_queries.specs.InStead.{sides_of, IsKept, StandFor, Follows, IsMovedTo, IsTrueOf, AreTrueOf, ReadsOnly, IsInStead, DecidesInStead}
+use Rattle.swept_queries.specs.InStead.{sides_of, AreKnownWithin, IsKept, StandFor, Follows, IsMovedTo, IsTrueOf, AreTrueOf, ReadsOnly, IsInStead, DecidesInStead}
 use Rattle.swept_queries.proofs.Listed.{roots_for-at, zip_left}
 
 -- a query is in its own stead
@@ -93,6 +94,40 @@ true_of g words given asked m zip is i new here =
     go (what.Swept t) o there kept follows =
         inr (t, there ∙ ap Some kept.0, subst (IsTrueOf g t m.aig words) (sym follows.1) (record { apart = kept.1; values = follows.2 }))
     go (what.Apart k) o there kept follows = inr (kept.0, there ∙ ap Some kept.1, subst (IsTrueOf g kept.0 m.aig words) (sym follows) kept.2)
+
+-- what was moved is of the graph
+pub moved_within : (g : List Node) (known : List Known) (m : SweptKnown) → IsMovedTo g known m → All (AreKnownWithin m.aig) m.known.items
+moved_within g known m is = All-from_each (AreKnownWithin m.aig) m.known.items (λ new h. let k = at_of m.known.items new h in let f = is.follow k.0 new k.1 in go new f.0 f.2)
+  where
+    go : (new old : Known) → Follows g old m.aig new → AreKnownWithin m.aig new
+    go new what.Nothing follows = subst (AreKnownWithin m.aig) (sym follows) tt
+    go new (what.Swept t) follows = subst (AreKnownWithin m.aig) (sym follows.1) follows.2.within
+    go new (what.Apart k) follows = subst (AreKnownWithin m.aig) (sym follows) tt
+
+follows_trans : (g h k : List Node) (old mid new : Known) → Follows g old h mid → Follows h mid k new → Follows g old k new
+follows_trans g h k what.Nothing mid new e f = subst (λ (x : Known). Follows h x k new) e f
+follows_trans g h k (what.Swept t) mid new e f =
+    let u : Sides = e.0 in
+    let then : Follows h (what.Swept u) k new = subst (λ (x : Known). Follows h x k new) e.1 f in
+    let one = e.2 in
+    let two = then.2 in (
+      then.0,
+      then.1,
+      record {
+        within = two.within;
+        left = λ a. two.left a ∙ one.left a;
+        right = λ a. two.right a ∙ one.right a;
+        care = λ a. two.care a ∙ one.care a;
+      },
+    )
+follows_trans g h k (what.Apart n) mid new e f = subst (λ (x : Known). Follows h x k new) e f
+
+-- what is moved twice is moved
+pub moved_twice : (g : List Node) (known : List Known) (m n : SweptKnown) → IsMovedTo g known m → IsMovedTo m.aig m.known.items n → IsMovedTo g known n
+moved_twice g known m n one two = record {
+  vars = two.vars ∙ one.vars;
+  follow = λ i new here. let b = two.follow i new here in let a = one.follow i b.0 b.1 in (a.0, a.1, follows_trans g m.aig n.aig a.0 b.0 new a.2 b.2);
+}
 
 module _ {g : List Node} {q : Query} {h : List Node} {r : Query} (x : IsInStead g q h r) where
   same_from : IsSame h r → IsSame g q

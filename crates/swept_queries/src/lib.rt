@@ -1,6 +1,7 @@
 //! Queries over a graph, each decided over a swept graph where that helps: there nodes that are proved to agree are one.
 #![tactic(auto)]
 
+mod aiming;
 mod apart;
 mod asking;
 mod choosing;

@@ -1,23 +1,25 @@
 //! Sweeping the queries, and deciding them.
 
-ghost use Rattle.std.specs.Prelude.{◌≡◌, ◌*◌, ◌≤◌, List, length, All, IfOk};
+ghost use Rattle.std.specs.Prelude.{◌≡◌, ◌*◌, ◌<◌, ◌≤◌, List, length, All, IfOk};
 ghost use Rattle.aig.specs.declared.node.Node.{Node};
 ghost use Rattle.aig.specs.Graph.{vars_of};
 ghost use Rattle.pair_decide.specs.declared.query.Query.{Query};
 ghost use Rattle.pair_decide.specs.Queries.{IsQuery};
+ghost use Rattle.sweep.specs.Swept.{IsSwept};
 ghost use Rattle.swept_queries.specs.Lanes.{DiffersAt};
 ghost use Rattle.swept_queries.specs.InStead.{MayBeWithin, AreKnownWithin, IsMovedTo, AreSwept, IsKnown, IsTrueOf, StandFor, DecidesInStead, sides_of};
 
+use crate::aiming::{is_any_left, kept_lits, tried_lits};
 use crate::asking::query_in_stead;
 use crate::choosing::{chosen, is_any_open};
 use crate::roots::{known_after, roots_of};
 use crate::sides::{Known, Sides};
 use crate::words::{bits_at, seeded_words};
-use aig::Aig;
+use aig::{Aig, Lits};
 use pair_decide::{Decision, Query, decide};
 use sec_base::NoMemory;
 use std::alloc::Global;
-use sweep::sweep;
+use sweep::{Effort, Swept, sweep_across};
 
 /// The most variables of a query for which the least difference is wanted.
 const NARROW: usize = 16;
@@ -51,7 +53,7 @@ pub fn sweep_queries(
     }
     let words = seeded_words(alloc, aig.vars())?;
     let asked = chosen(alloc, aig, given, words.as_slice())?;
-    let swept = sweep_known(alloc, aig, asked.as_slice(), conflicts, words.as_slice())?;
+    let swept = sweep_twice(alloc, aig, asked.as_slice(), conflicts, words.as_slice())?;
     Ok(SweptQueries {
         aig: swept.aig,
         known: swept.known,
@@ -66,8 +68,9 @@ struct SweptKnown {
     known: Vec<Known>,
 }
 
-/// Sweeps the graph for the queries that are to be swept.
-fn sweep_known(
+/// Sweeps the graph for the queries that are to be swept: by small cuts alone, and then by searches too for those whose sides are
+/// still different literals. Where so few conflicts are allowed that there are no cuts, both times alike.
+fn sweep_twice(
     alloc: Global,
     aig: &Aig,
     known: &[Known],
@@ -78,14 +81,82 @@ fn sweep_known(
     requires words { length words.now ≡ 8 * vars_of aig.now }
     ensures { IfOk result (IsMovedTo aig.now known.now) }
 {
+    let cuts = Effort {
+        conflicts,
+        searches: conflicts < 20,
+    };
+    let first = sweep_known(alloc, aig, known, cuts, words)?;
+    if !is_any_left(first.known.as_slice()) {
+        return Ok(first);
+    }
+    sweep_again(alloc, &first, conflicts, words)
+}
+
+/// Sweeps what was swept once more, by searches.
+fn sweep_again(
+    alloc: Global,
+    first: &SweptKnown,
+    conflicts: u32,
+    words: &[u64],
+) -> Result<SweptKnown, NoMemory>
+    requires within { All (AreKnownWithin first.now.aig) first.now.known.items }
+    requires words { length words.now ≡ 8 * vars_of first.now.aig }
+    ensures { IfOk result (IsMovedTo first.now.aig first.now.known.items) }
+{
+    let searches = Effort {
+        conflicts,
+        searches: true,
+    };
+    sweep_known(alloc, &first.aig, first.known.as_slice(), searches, words)
+}
+
+/// Sweeps the graph for the queries that are to be swept. Nodes of the left sides are kept, and those of the others merged with them.
+fn sweep_known(
+    alloc: Global,
+    aig: &Aig,
+    known: &[Known],
+    effort: Effort,
+    words: &[u64],
+) -> Result<SweptKnown, NoMemory>
+    requires within { All (AreKnownWithin aig.now) known.now }
+    requires words { length words.now ≡ 8 * vars_of aig.now }
+    ensures { IfOk result (IsMovedTo aig.now known.now) }
+{
     aig.keeps();
     let roots = roots_of(alloc, known)?;
-    let swept = sweep(alloc, aig, &roots, conflicts, words)?;
+    let swept = sweep_open(alloc, aig, known, &roots, effort, words)?;
     let known = known_after(alloc, known, swept.lits.as_slice())?;
     Ok(SweptKnown {
         aig: swept.aig,
         known,
     })
+}
+
+/// The literals of these roots in a swept graph. What the open queries read is tried.
+fn sweep_open(
+    alloc: Global,
+    aig: &Aig,
+    known: &[Known],
+    roots: &Lits,
+    effort: Effort,
+    words: &[u64],
+) -> Result<Swept, NoMemory>
+    requires within { All (AreKnownWithin aig.now) known.now }
+    requires roots { All (λ l. l.0 < 2 * length aig.now) roots.now }
+    requires words { length words.now ≡ 8 * vars_of aig.now }
+    ensures { IfOk result (IsSwept aig.now roots.now) }
+{
+    let tried = tried_lits(alloc, known)?;
+    let kept = kept_lits(alloc, known)?;
+    sweep_across(
+        alloc,
+        aig,
+        roots,
+        tried.as_slice(),
+        kept.as_slice(),
+        effort,
+        words,
+    )
 }
 
 impl SweptQueries {

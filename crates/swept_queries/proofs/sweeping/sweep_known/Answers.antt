@@ -8,8 +8,8 @@ use Rattle.swept_queries.proofs.Listed.{roots_for-within, roots_for-length}
 use Rattle.swept_queries.proofs.Stand.{moved_to}
 use Rattle.swept_queries.proofs.sweeping.sweep_known.Goals as goal
 
-pub sweep-requires-clause-roots : goal.sweep-requires-clause-roots
-sweep-requires-clause-roots c =
+pub sweep_open-requires-clause-roots : goal.sweep_open-requires-clause-roots
+sweep_open-requires-clause-roots c =
     let some = slice_get_within c.args.aig.now 0 _ c.keeps.ensures.graph.constant in
     subst (All (λ (l : Lit). l.0 < 2 * length c.args.aig.now)) (sym c.in_ok-roots.ensures) (roots_for-within c.args.aig.now c.args.known.now some c.requires.within)
 

@@ -1,0 +1,95 @@
+//! Values of all nodes under 64 assignments that are near one that told nodes apart. No clause sees it.
+
+use crate::models::Model;
+use aig::{Lit, Node};
+use sec_base::NoMemory;
+use std::alloc::Global;
+
+/// The values of the variables and of the nodes under 64 assignments.
+#[derive(Drop)]
+pub(crate) struct Column {
+    inputs: Vec<u64>,
+    values: Vec<u64>,
+}
+
+impl Column {
+    /// The column for the variables, without nodes: in the first assignment the model's variables have its bits, in each other one
+    /// one or two of them are turned, and the rest is random.
+    pub(crate) fn new(
+        alloc: Global,
+        words: &[u64],
+        round: usize,
+        model: &Model,
+    ) -> Result<Column, NoMemory> {
+        let mut inputs = Vec::new(alloc);
+        for v in 0..words.len() / 8 {
+            inputs.push(random_word(words, v, round))?;
+        }
+        put_model(inputs.as_mut_slice(), model);
+        Ok(Column {
+            inputs,
+            values: Vec::new(alloc),
+        })
+    }
+
+    /// Puts the values of one more node behind the others'.
+    pub(crate) fn add(&mut self, node: Node) -> Result<u64, NoMemory> {
+        let value = match node {
+            Node::Constant => 0,
+            Node::Input(v) => word_at(self.inputs.as_slice(), v as usize),
+            Node::And(l, r) => self.value(l) & self.value(r),
+        };
+        self.values.push(value)?;
+        Ok(value)
+    }
+
+    fn value(&self, l: Lit) -> u64 {
+        let word = word_at(self.values.as_slice(), (l.0 / 2) as usize);
+        if l.0 % 2 == 1 { !word } else { word }
+    }
+}
+
+fn word_at(words: &[u64], at: usize) -> u64 {
+    match words.get(at) {
+        Some(word) => *word,
+        None => 0,
+    }
+}
+
+/// One of the variable's words, turned round a little.
+fn random_word(words: &[u64], v: usize, round: usize) -> u64 {
+    let word = word_at(words, v.saturating_mul(8).saturating_add(round % 8));
+    word.rotate_left((round / 8 % 64) as u32)
+}
+
+/// Gives the model's variables its bits, with one or two of them turned in each assignment but the first.
+fn put_model(inputs: &mut [u64], model: &Model) {
+    let vars = model.vars.as_slice();
+    let count = vars.len().min(model.bits.len());
+    for i in 0..count {
+        let v = vars[i] as usize;
+        if v < inputs.len() {
+            inputs[v] = if model.bits[i] { u64::MAX } else { 0 };
+        }
+    }
+    if count == 0 {
+        return;
+    }
+    for j in 1..64usize {
+        turn(inputs, vars, (j - 1) % count, j);
+        if j % 2 == 0 {
+            turn(inputs, vars, (j / 2 + 7 * j) % count, j);
+        }
+    }
+}
+
+/// Turns the bit of the variable at this place in one assignment.
+fn turn(inputs: &mut [u64], vars: &[u32], place: usize, assignment: usize) {
+    if let Some(v) = vars.get(place)
+        && (*v as usize) < inputs.len()
+        && assignment < 64
+    {
+        let v = *v as usize;
+        inputs[v] ^= 1u64 << (assignment as u32);
+    }
+}

@@ -1,0 +1,81 @@
+//! Which nodes a sweep tries: those of queries whose sides are still different literals.
+
+ghost use Rattle.std.specs.Prelude.{◌≡◌, ◌*◌, ◌<◌, List, length, All, IfOk, IfSome, OnOk};
+ghost use Rattle.aig.specs.declared.node.Node.{Node};
+ghost use Rattle.swept_queries.specs.declared.sides.Known.TheVariants as what;
+ghost use Rattle.swept_queries.specs.InStead.{AreKnownWithin};
+
+use crate::sides::{Known, Sides};
+use aig::Lit;
+use sec_base::NoMemory;
+use std::alloc::Global;
+
+/// Whether there is a query to be swept whose sides are different literals.
+pub(crate) fn is_any_left(known: &[Known]) -> bool {
+    for i in 0..known.len() {
+        if open_sides(known[i]).is_some() {
+            return true;
+        }
+    }
+    false
+}
+
+/// All literals of these queries.
+pub(crate) fn tried_lits(alloc: Global, known: &[Known]) -> Result<Vec<Lit>, NoMemory>
+    ensures { IfOk result (λ lits. (g : List Node) → All (AreKnownWithin g) known.now → All (λ l. l.0 < 2 * length g) lits.items) }
+{
+    let mut lits = Vec::new(alloc);
+    for i in 0..known.len() {
+        put_tried(&mut lits, known[i])?;
+    }
+    Ok(lits)
+}
+
+/// Their left sides.
+pub(crate) fn kept_lits(alloc: Global, known: &[Known]) -> Result<Vec<Lit>, NoMemory>
+    ensures { IfOk result (λ lits. (g : List Node) → All (AreKnownWithin g) known.now → All (λ l. l.0 < 2 * length g) lits.items) }
+{
+    let mut lits = Vec::new(alloc);
+    for i in 0..known.len() {
+        put_kept(&mut lits, known[i])?;
+    }
+    Ok(lits)
+}
+
+/// Puts the literals of the query, if it is one of these.
+fn put_tried(lits: &mut Vec<Lit>, known: Known) -> Result<(), NoMemory>
+    ensures { OnOk result ((g : List Node) → AreKnownWithin g known → All (λ l. l.0 < 2 * length g) lits.old.items → All (λ l. l.0 < 2 * length g) lits.new.items) }
+{
+    if let Some(sides) = open_sides(known) {
+        lits.push(sides.left)?;
+        lits.push(sides.right)?;
+        lits.push(sides.care)?;
+    }
+    Ok(())
+}
+
+/// Puts the left side of the query, if it is one of these.
+fn put_kept(lits: &mut Vec<Lit>, known: Known) -> Result<(), NoMemory>
+    ensures { OnOk result ((g : List Node) → AreKnownWithin g known → All (λ l. l.0 < 2 * length g) lits.old.items → All (λ l. l.0 < 2 * length g) lits.new.items) }
+{
+    if let Some(sides) = open_sides(known) {
+        lits.push(sides.left)?;
+    }
+    Ok(())
+}
+
+/// The literals of a query that is to be swept, if its sides are different ones.
+fn open_sides(known: Known) -> Option<Sides>
+    ensures { IfSome result (λ t. known ≡ what.Swept t) }
+{
+    match known {
+        Known::Swept(sides) => {
+            if sides.left == sides.right {
+                None
+            } else {
+                Some(sides)
+            }
+        }
+        _ => None,
+    }
+}
