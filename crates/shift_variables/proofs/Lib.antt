@@ -1,4 +1,4 @@
 pub mod Assignments
 pub mod MergeLists
 pub mod Reading
-pub mod Rows
+pub mod CycleRows

@@ -4,7 +4,7 @@ use Rattle.std.specs.List.{All}
 use Rattle.circuit_theory.specs.Sequence.{sequence_rows}
 use Rattle.sec_base.specs.Table.{AreDistinct}
 use Rattle.plain_form.specs.Sequences.{bits_at}
-use Rattle.shift_variables.proofs.Rows.{rows_fit}
+use Rattle.shift_variables.proofs.CycleRows.{rows_fit}
 use Rattle.plain_form.proofs.witness.witness_of.Goals as goal
 
 fits : (last count : ℕ) (a : ℕ → ℕ → Bool) (rows : List (List Bool)) (size : ℕ) → rows ≡ sequence_rows last a count → count ≡ size → All (λ (row : List Bool). length row ≡ size) rows

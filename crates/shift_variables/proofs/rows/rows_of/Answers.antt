@@ -2,7 +2,7 @@
 use Rattle.std.proofs.Common.{◌≡◌, ◌≤◌, ◌+◌, ◌∙◌, ℕ, suc, Bool, List, [], ◌∷◌, ◌++◌, sym, ap, arith, add-one}
 use Rattle.circuit_theory.specs.Sequence.{sequence_row, sequence_rows_from}
 use Rattle.shift_variables.specs.Sequences.{bits_at}
-use Rattle.shift_variables.proofs.Rows.{at_first, at_next, row_is, rows_more}
+use Rattle.shift_variables.proofs.CycleRows.{at_first, at_next, row_is, rows_more}
 use Rattle.shift_variables.proofs.rows.rows_of.Goals as goal
 
 pub loop-cycle-init : goal.loop-cycle-init

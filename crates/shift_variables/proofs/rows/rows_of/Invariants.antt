@@ -1,7 +1,7 @@
 use Rattle.std.proofs.Common.{◌≡◌}
 use Rattle.circuit_theory.specs.Sequence.{sequence_rows_from}
 use Rattle.shift_variables.specs.Sequences.{bits_at}
-use Rattle.shift_variables.proofs.Rows.{IsAtCycle}
+use Rattle.shift_variables.proofs.CycleRows.{IsAtCycle}
 use Rattle.shift_variables.proofs.rows.rows_of.Given as goal
 
 abbrev pub invariant-loop-cycle : goal.invariant-loop-cycle
