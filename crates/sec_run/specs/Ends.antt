@@ -1,5 +1,6 @@
 -- How the parts of a run end.
-use Rattle.std.specs.Prelude.{◌≡◌, ℕ, List, [], Option, Result, Ok, Err}
+use Rattle.std.specs.Prelude.{◌≡◌, ℕ, List, [], ◌∷◌, Option, Result, Ok, Err}
+use Rattle.circuit_theory.specs.declared.Mode.{Mode}
 use Rattle.circuit_theory.specs.declared.Side.{Side}
 use Rattle.circuit_theory.specs.declared.Side.TheVariants.{A}
 use Rattle.sec_base.specs.declared.fetching.FetchError.TheVariants as fetch_error
@@ -30,8 +31,10 @@ use Rattle.sec_run.specs.declared.finding.Stop.TheVariants as stop
 use Rattle.sec_run.specs.declared.status.Status.{Status}
 use Rattle.sec_run.specs.declared.status.StatusName.{StatusName}
 use Rattle.sec_run.specs.declared.status.StatusName.TheVariants as status
-use Rattle.sec_run.specs.Answer.{Held, IsFinding, IsFoundOf, ReadFailed, JobReadFailed, proofs_of, status_of}
-use Rattle.sec_run.specs.Job.{Check}
+use Rattle.sec_run.specs.Answer.{Held, IsFoundOf, IsCheckFound, IsFoundOfJob, proofs_of, status_of}
+use Rattle.sec_run.specs.Job.{Check, where_built, paths_of}
+use Rattle.sec_run.specs.Promises.{ReadFailed}
+use Rattle.sec_run.specs.Reports.{IsGraphFound, IsSimFound}
 use Rattle.sec_run.specs.Lines.{finding_text}
 
 -- what is found where the design of a side isn't flattened
@@ -91,17 +94,25 @@ EndsBy P failed (Ok f) = P f
 EndsBy P failed (Err stop.ReadFault) = failed
 EndsBy P failed (Err stop.NoMemory) = Unit {0}
 
--- the work on two files ends with a finding that is right, or by a read that failed, or at want of memory
+-- the work on two files that are compared ends with a finding that is right, or by a read that failed, or at want of memory
 abbrev pub FoundOf : Held → (List ℕ → ℕ) → (List ℕ → ℕ) → Check → Result Finding Stop → Type 0
-FoundOf held before now check (Ok f) = IsFoundOf held check f
-FoundOf held before now check (Err stop.ReadFault) = ReadFailed held before now check
-FoundOf held before now check (Err stop.NoMemory) = Unit {0}
+FoundOf held before now check r = EndsBy (IsFoundOf held check) (ReadFailed held before now (check.left ∷ check.right ∷ [])) r
 
--- the same of a job
-abbrev pub Found : Held → (List ℕ → ℕ) → (List ℕ → ℕ) → Option Task → Result Finding Stop → Type 0
-Found held before now job (Ok f) = IsFinding held job f
-Found held before now job (Err stop.ReadFault) = JobReadFailed held before now job
-Found held before now job (Err stop.NoMemory) = Unit {0}
+-- so it is where the comparison may not be built
+abbrev pub CheckFound : Held → (List ℕ → ℕ) → (List ℕ → ℕ) → Check → Result Finding Stop → Type 0
+CheckFound held before now check r = EndsBy (IsCheckFound held check) (ReadFailed held before now (where_built check.settings.mode (check.left ∷ check.right ∷ []))) r
+
+-- the same of a latch graph
+abbrev pub GraphFound : Held → (List ℕ → ℕ) → (List ℕ → ℕ) → List ℕ → Mode → Result Finding Stop → Type 0
+GraphFound held before now circuit mode r = EndsBy (IsGraphFound mode (held circuit)) (ReadFailed held before now (circuit ∷ [])) r
+
+-- the same of a simulation
+abbrev pub SimFound : Held → (List ℕ → ℕ) → (List ℕ → ℕ) → List ℕ → List ℕ → Mode → Option (List ℕ) → Result Finding Stop → Type 0
+SimFound held before now circuit stimulus mode power r = EndsBy (IsSimFound mode (held circuit) (held stimulus) power) (ReadFailed held before now (circuit ∷ stimulus ∷ [])) r
+
+-- the same of any job
+abbrev pub Found : Held → (List ℕ → ℕ) → (List ℕ → ℕ) → Task → Result Finding Stop → Type 0
+Found held before now job r = EndsBy (IsFoundOfJob held job) (ReadFailed held before now (paths_of job)) r
 
 -- The report of a finding is taken whole, with the finding's status; or a front of it at a write fault; or nothing at want of memory.
 abbrev pub IsWrittenAs : Option (List ℕ) → Option (List ℕ) → Finding → List Proof → StatusName → Type 0

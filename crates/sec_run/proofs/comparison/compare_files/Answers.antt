@@ -7,7 +7,7 @@ use Rattle.sec_run.specs.declared.finding.Finding.{Finding}
 use Rattle.sec_run.specs.declared.finding.Stop.{Stop}
 use Rattle.sec_run.specs.declared.finding.Stop.TheVariants as stop
 use Rattle.sec_run.proofs.Finds.{left_ends, right_ends, nets_end, later_fails, no_fault_compared}
-use Rattle.sec_run.proofs.calls.check.Goals as goal
+use Rattle.sec_run.proofs.comparison.compare_files.Goals as goal
 
 pub returns-in-Err-clause-found : goal.returns-in-Err-clause-found
 returns-in-Err-clause-found g c =
