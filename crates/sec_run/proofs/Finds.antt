@@ -1,5 +1,5 @@
 -- What the parts of the work on the files find.
-use Rattle.std.proofs.Common.{◌≡◌, ℕ, ◌≤◌, List, [], ◌∷◌, refl, subst, arith, Option, Some, None, Result, Ok, Err}
+use Rattle.std.proofs.Common.{◌≡◌, ℕ, ◌≤◌, List, [], ◌∷◌, refl, sym, subst, arith, inl, inr, Option, Some, None, Result, Ok, Err}
 use Rattle.std.specs.Prelude.{IfSome, IsErrOf}
 use Rattle.std.proofs.lemmas.List.Elements.{All-nil, All-cons}
 use Rattle.circuit_theory.specs.declared.Side.TheVariants.{A, B}
@@ -22,7 +22,9 @@ use Rattle.sec_run.specs.Job.{Check}
 use Rattle.sec_run.specs.Reports.{IsLoaded}
 use Rattle.sec_run.specs.Answer.{Held}
 use Rattle.sec_run.specs.Promises.{ReadFailed}
-use Rattle.sec_run.specs.Ends.{load_end, compare_end, FoundOf}
+use Rattle.sec_run.specs.declared.finding.Finding.{Finding}
+use Rattle.sec_run.specs.declared.finding.Stop.{Stop}
+use Rattle.sec_run.specs.Ends.{load_end, compare_end, EndsBeside, FoundOf}
 
 -- what holds of something held, where it is told
 both_told : {X Y : Type 0} (o : Option X) (o' : Option Y) (F : X → Type 0) (G : Y → Type 0) (H : X → Y → Type 0) →
@@ -126,6 +128,16 @@ later_fails later held a b c (load_error.Fetch fetch_error.NoMemory) same grew h
 later_fails later held a b c (load_error.Read (read_error.At line kind)) same grew h = subst (λ (o : Option (List ℕ)). IfSome o (λ text. HasFault text line kind)) same h
 later_fails later held a b c (load_error.Read read_error.NoMemory) same grew h = tt
 later_fails later held a b c (load_error.Flat e) same grew h = subst (λ (o : Option (List ℕ)). FlattenFails o e) same h
+
+-- what is found beside A's net is found of both files; what is held and the faults of B's are those of a later time
+pub beside_ends : (held : Held) (before now : List ℕ → ℕ) (check : Check) (a : NetView) (later : Option (List ℕ)) (middle : ℕ) (r : Result Finding Stop) → IfSome (held check.left) (λ x. Loads x a) →
+    later ≡ held check.right → before check.right ≤ middle → EndsBeside later (Rose middle (now check.right)) a check.settings r → FoundOf held before now check r
+beside_ends held before now check a later middle r l same grew (inl h) =
+    subst (λ (e : Result Finding Stop). FoundOf held before now check e) (sym h.2)
+    (right_ends held before now check a h.0 l (later_fails later (held check.right) (before check.right) middle (now check.right) h.0 same grew h.1))
+beside_ends held before now check a later middle r l same grew (inr h) =
+    subst (λ (e : Result Finding Stop). FoundOf held before now check e) (sym h.4)
+    (nets_end held before now check a h.0 h.1 l (subst (λ (o : Option (List ℕ)). IfSome o (λ y. Loads y h.0)) same h.2) h.3)
 
 -- a comparison ends with no read fault
 pub no_fault_compared : (settings : Settings) (r : Result Outcome CompareError) → IsErrOf (compare_end settings r) stop.ReadFault → ⊥

@@ -1,19 +1,22 @@
 -- How the parts of a run end.
-use Rattle.std.specs.Prelude.{◌≡◌, ℕ, List, [], ◌∷◌, Option, Result, Ok, Err}
+use Rattle.std.specs.Prelude.{◌≡◌, ◌⊎◌, ℕ, List, [], ◌∷◌, Option, Result, Ok, Err, IfSome}
 use Rattle.circuit_theory.specs.declared.Mode.{Mode}
 use Rattle.circuit_theory.specs.declared.Side.{Side}
-use Rattle.circuit_theory.specs.declared.Side.TheVariants.{A}
+use Rattle.circuit_theory.specs.declared.Side.TheVariants.{A, B}
 use Rattle.sec_base.specs.declared.fetching.FetchError.TheVariants as fetch_error
 use Rattle.sec_base.specs.Outside.{Takes, TakesFront}
 use Rattle.blif_read.specs.declared.error.ReadError.TheVariants as read_error
 use Rattle.flat_walk.specs.declared.error.FlatError.{FlatError}
 use Rattle.flat_walk.specs.declared.error.FlatError.TheVariants as flat_error
+use Rattle.flat_net.specs.View.{NetView}
 use Rattle.pair_decide.specs.declared.query.Proof.{Proof}
 use Rattle.sec_base.specs.declared.settings.Settings.{Settings}
 use Rattle.sec_words.specs.declared.task.Task.{Task}
 use Rattle.sec_outcome.specs.declared.outcome.Outcome.{Outcome}
 use Rattle.sec_check.specs.declared.error.CompareError.{CompareError}
 use Rattle.sec_check.specs.declared.error.CompareError.TheVariants as compare_error
+use Rattle.sec_check.specs.Compared.{Compared}
+use Rattle.sec_files.specs.Loading.{Loads, LoadFails}
 use Rattle.sec_files.specs.declared.loading.LoadError.{LoadError}
 use Rattle.sec_files.specs.declared.loading.LoadError.TheVariants as load_error
 use Rattle.witness_report.specs.declared.error.StimError.TheVariants as stim_error
@@ -102,7 +105,14 @@ FoundOf held before now check r = EndsBy (IsFoundOf held check) (ReadFailed held
 abbrev pub CheckFound : Held → (List ℕ → ℕ) → (List ℕ → ℕ) → Check → Result Finding Stop → Type 0
 CheckFound held before now check r = EndsBy (IsCheckFound held check) (ReadFailed held before now (where_built check.settings.mode (check.left ∷ check.right ∷ []))) r
 
--- the same of a latch graph
+-- How the work on B's file ends beside A's net: B isn't loaded, by what is held of it and whether a read of it failed; or both are
+-- compared.
+abbrev pub EndsBeside : Option (List ℕ) → Type 0 → NetView → Settings → Result Finding Stop → Type 0
+EndsBeside text rose a settings r =
+    ((error : LoadError) × LoadFails text rose error × (r ≡ load_end B error))
+    ⊎ ((b : NetView) × (compared : Result Outcome CompareError) × IfSome text (λ y. Loads y b) × Compared a b settings compared × (r ≡ compare_end settings compared))
+
+-- the work on a latch graph ends with a finding that is right, or by a read that failed, or at want of memory
 abbrev pub GraphFound : Held → (List ℕ → ℕ) → (List ℕ → ℕ) → List ℕ → Mode → Result Finding Stop → Type 0
 GraphFound held before now circuit mode r = EndsBy (IsGraphFound mode (held circuit)) (ReadFailed held before now (circuit ∷ [])) r
 

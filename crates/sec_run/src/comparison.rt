@@ -3,12 +3,14 @@
 ghost use Rattle.std.specs.Prelude.{◌≡◌, ◌≤◌, ◌∷◌, [], IsErrOf};
 ghost use Rattle.std.specs.List.{All};
 ghost use Rattle.circuit_theory.specs.declared.Mode.TheVariants.{Plain};
-ghost use Rattle.sec_base.specs.Outside.{SameHeld};
+ghost use Rattle.sec_base.specs.Outside.{Rose, SameHeld};
+ghost use Rattle.flat_net.specs.Comparable.{IsComparable};
 ghost use Rattle.sec_run.specs.Job.{Check, where_built};
-ghost use Rattle.sec_run.specs.Ends.{compare_end, CheckFound, FoundOf};
+ghost use Rattle.sec_run.specs.Ends.{compare_end, CheckFound, EndsBeside, FoundOf};
 
 use crate::finding::{Finding, Refusal, Stop, load_end};
 use circuit_theory::Mode;
+use flat_net::Net;
 use sec_base::{Shelf, Side};
 use sec_check::{CompareError, Outcome, Settings, compare};
 use sec_files::load;
@@ -54,16 +56,34 @@ fn compare_files<S: Shelf>(
     ensures keeps { SameHeld (S.held shelf.old) (S.held shelf.new) }
     ensures served { S.serves shelf.old comparison.now.left.now → S.serves shelf.old comparison.now.right.now → IsErrOf result Stop.ReadFault → ⊥ }
 {
-    let a = match load(alloc, shelf, comparison.left) {
-        Ok(net) => net,
-        Err(error) => return load_end(Side::A, error),
-    };
-    let b = match load(alloc, shelf, comparison.right) {
-        Ok(net) => net,
-        Err(error) => return load_end(Side::B, error),
-    };
-    let compared = compare(alloc, &a, &b, &comparison.settings);
-    compare_end(comparison.settings, compared)
+    match load(alloc, shelf, comparison.left) {
+        Ok(a) => compare_with(alloc, &a, comparison, shelf),
+        Err(error) => load_end(Side::A, error),
+    }
+}
+
+/// Loads B and compares A with it.
+fn compare_with<S: Shelf>(
+    alloc: Global,
+    a: &Net,
+    comparison: &Comparison<'_>,
+    shelf: &mut S,
+) -> Result<Finding, Stop>
+    requires plain { comparison.now.settings.mode ≡ Plain }
+    requires conflicts { comparison.now.settings.conflicts ≤ 200000 }
+    requires left { IsComparable a.now }
+    ensures found { let path = comparison.now.right.now in
+        EndsBeside (S.held shelf.old path) (Rose (S.faults shelf.old path) (S.faults shelf.new path)) a.now comparison.now.settings result }
+    ensures keeps { SameHeld (S.held shelf.old) (S.held shelf.new) }
+    ensures served { S.serves shelf.old comparison.now.right.now → IsErrOf result Stop.ReadFault → ⊥ }
+{
+    match load(alloc, shelf, comparison.right) {
+        Ok(b) => {
+            let compared = compare(alloc, a, &b, &comparison.settings);
+            compare_end(comparison.settings, compared)
+        }
+        Err(error) => load_end(Side::B, error),
+    }
 }
 
 /// What is found by a comparison.
