@@ -7,8 +7,8 @@ use Rattle.sec_files.specs.Stimuli.{IsStimulus}
 use Rattle.sec_run.specs.Promises.{ReadFailed}
 use Rattle.sec_run.specs.Reports.{IsSimFound}
 use Rattle.sec_run.specs.Ends.{SimFound}
-use Rattle.sec_run.proofs.Finds.{first_failed}
-use Rattle.sec_run.proofs.OneCircuit.{circuit_ends, sim_circuit, run_ends}
+use Rattle.sec_run.proofs.Finds.{first_failed, is_loaded}
+use Rattle.sec_run.proofs.OneCircuit.{circuit_ends, sim_circuit, run_ends, stimulus_ends}
 use Rattle.sec_run.proofs.reports.simulate.Goals as goal
 
 pub returns-in-Err-clause-found : goal.returns-in-Err-clause-found
@@ -23,6 +23,19 @@ returns-in-Err-clause-found g c =
     subst (λ (r : Result Finding Stop). SimFound held before now circuit stimulus mode power r) (sym c.load_end.ensures)
     (circuit_ends (IsSimFound mode (held circuit) (held stimulus) power) (ReadFailed held before now (circuit ∷ stimulus ∷ [])) (Rose (before circuit) (now circuit)) (held circuit) c.in-Err.error
     (sim_circuit mode (held circuit) (held stimulus) power) (first_failed held before now circuit (stimulus ∷ [])) c.in-Err.ensures.err)
+
+pub returns-in-Err-load_stimulus-clause-found : goal.returns-in-Err-load_stimulus-clause-found
+returns-in-Err-load_stimulus-clause-found g c =
+    let circuit = c.args.simulation.now.circuit.now in
+    let stimulus = c.args.simulation.now.stimulus.now in
+    let mode = c.args.simulation.now.mode in
+    let power = option_map (λ digits. digits.now) c.args.simulation.now.power in
+    let held = g.S.Shelf.held c.args.shelf.now in
+    let before = g.S.Shelf.faults c.args.shelf.now in
+    let now = g.S.Shelf.faults c.load_stimulus.new.shelf in
+    subst (λ (r : Result Finding Stop). SimFound held before now circuit stimulus mode power r) (sym c.stimulus_end.ensures)
+    (stimulus_ends held before now circuit stimulus mode power (g.S.Shelf.held c.load.new.shelf stimulus) (g.S.Shelf.faults c.load.new.shelf stimulus) c.in-Err-load_stimulus.error
+    (is_loaded (held circuit) c.in-Ok.net c.in-Ok.ensures.ok) (c.load.ensures.keeps stimulus) (c.load.ensures.later stimulus) c.in-Err-load_stimulus.ensures.err)
 
 pub returns-clause-found : goal.returns-clause-found
 returns-clause-found g c =
