@@ -1,6 +1,8 @@
 -- A run that compares a text with itself ends equal, or at want of memory.
 use Rattle.std.proofs.Common.{◌≡◌, ℕ, List, Option, Some, None, refl, sym, subst}
 use Rattle.std.specs.Prelude.{IfSome, IsSomeAnd, Ok}
+use Rattle.circuit_theory.specs.declared.Mode.{Mode}
+use Rattle.circuit_theory.specs.declared.Mode.TheVariants.{Plain, Event}
 use Rattle.pair_decide.specs.declared.query.Proof.{Proof}
 use Rattle.flat_net.specs.View.{NetView}
 use Rattle.sec_words.specs.declared.task.Task.{Task}
@@ -14,9 +16,11 @@ use Rattle.sec_run.specs.declared.finding.Finding.{Finding}
 use Rattle.sec_run.specs.declared.finding.Finding.TheVariants as finding
 use Rattle.sec_run.specs.declared.status.StatusName.{StatusName}
 use Rattle.sec_run.specs.declared.status.StatusName.TheVariants as status
-use Rattle.sec_run.specs.Answer.{Held, AreComparable, CanAnswer, EndsAs, IsAnswer, IsFinding, IsFoundOf, OfNets, WhereBuilt, status_of, verdict_status}
-use Rattle.sec_run.specs.Job.{Check, check_of, OfCheck}
-use Rattle.premise_rows.specs.OneText.{OfOneText, IsEqualAnswer}
+use Rattle.sec_run.specs.declared.finding.Refusal.TheVariants as refusal
+use Rattle.sec_run.specs.Answer.{Held, AreComparable, CanAnswer, EndsAs, IsAnswer, IsFinding, IsFoundOf, OfNets, status_of, verdict_status}
+use Rattle.sec_run.specs.Job.{Check, WhereBuilt}
+use Rattle.sec_run.specs.Promises.{EndsWith, IsComplete}
+use Rattle.premise_rows.specs.OneText.{OfCheck, OfOneText, IsEqualAnswer}
 use Rattle.premise_rows.proofs.OneText.{one_text_is_equal}
 
 -- what is said of the text that both paths of the comparison hold
@@ -68,30 +72,32 @@ module _ (held : Held) (check : Check) (h : CanMeetItself held check) where
   found_equal (finding.Undecided name proof) found is = absurd found
 
 -- what is found of a job
+check_equal : (held : Held) (check : Check) (f : Finding) (mode : Mode) → WhereBuilt mode (CanMeetItself held check) ⊥ → WhereBuilt mode (IsFoundOf held check f) (f ≡ finding.Refused refusal.NotBuilt) →
+    IsAnswer (status_of f) → IsEqualAnswer (status_of f)
+check_equal held check f Plain can found is = found_equal held check can f found is
+check_equal held check f Event can found is = absurd can
+
 job_equal : (held : Held) (job : Option Task) (f : Finding) → OfCheck job (CanMeetItself held) → IsFinding held job f → IsAnswer (status_of f) → IsEqualAnswer (status_of f)
 job_equal held None f can found is = absurd can
-job_equal held (Some (task.Check a b settings)) f can found is = go (check_of (task.Check a b settings)) can found
-  where
-    go : (o : Option Check) → IsSomeAnd o (CanMeetItself held) → WhereBuilt f o (λ check. IsFoundOf held check f) → IsEqualAnswer (status_of f)
-    go None can h = absurd can
-    go (Some check) can h = found_equal held check can f h is
+job_equal held (Some (task.Check a b settings)) f can found is = check_equal held (record { left = a; right = b; settings = settings }) f settings.mode can found is
 job_equal held (Some (task.Graph a mode)) f can found is = absurd can
 job_equal held (Some (task.Sim a s mode power)) f can found is = absurd can
 job_equal held (Some (task.Replay a b s mode)) f can found is = absurd can
 job_equal held (Some (task.Gen seed regroup conflicts)) f can found is = absurd can
 
--- a job over one text is one that can be answered
-pub can_be_answered : (held : Held) (job : Option Task) → OfCheck job (CanMeetItself held) → OfCheck job (CanAnswer held)
-can_be_answered held None can = absurd can
-can_be_answered held (Some (task.Check a b settings)) can = go (check_of (task.Check a b settings)) can
-  where
-    go : (o : Option Check) → IsSomeAnd o (CanMeetItself held) → IsSomeAnd o (CanAnswer held)
-    go None can = absurd can
-    go (Some check) can = can_answer held check can
-can_be_answered held (Some (task.Graph a mode)) can = absurd can
-can_be_answered held (Some (task.Sim a s mode power)) can = absurd can
-can_be_answered held (Some (task.Replay a b s mode)) can = absurd can
-can_be_answered held (Some (task.Gen seed regroup conflicts)) can = absurd can
+-- a job over one text is one that is answered
+check_answered : (held : Held) (check : Check) (name : StatusName) (mode : Mode) → WhereBuilt mode (CanMeetItself held check) ⊥ →
+    WhereBuilt mode (CanAnswer held check → IsAnswer name) (EndsWith status.Refused name) → IsAnswer name
+check_answered held check name Plain can complete = complete (can_answer held check can)
+check_answered held check name Event can complete = absurd can
+
+pub is_answered : (held : Held) (job : Option Task) (name : StatusName) → OfCheck job (CanMeetItself held) → IsComplete held job name → IsAnswer name
+is_answered held None name can complete = absurd can
+is_answered held (Some (task.Check a b settings)) name can complete = check_answered held (record { left = a; right = b; settings = settings }) name settings.mode can complete
+is_answered held (Some (task.Graph a mode)) name can complete = absurd can
+is_answered held (Some (task.Sim a s mode power)) name can complete = absurd can
+is_answered held (Some (task.Replay a b s mode)) name can complete = absurd can
+is_answered held (Some (task.Gen seed regroup conflicts)) name can complete = absurd can
 
 -- the run ends equal, or at want of memory
 pub ends_equal : (held : Held) (before now : Option (List ℕ)) (job : Option Task) (proofs : List Proof) (name : StatusName) → EndsAs before now held job proofs name → OfCheck job (CanMeetItself held) → IsAnswer name → IsEqualAnswer name

@@ -1,5 +1,5 @@
 -- What is answered where a text is compared with itself.
-use Rattle.std.specs.Prelude.{◌≡◌, ℕ, Bool, List, [], Some, IsSomeAnd}
+use Rattle.std.specs.Prelude.{◌≡◌, ℕ, Bool, List, [], Option, Some, None, IsSomeAnd}
 use Rattle.flat_net.specs.View.{NetView, circuit_of}
 use Rattle.sec_base.specs.declared.settings.Settings.{Settings}
 use Rattle.sec_outcome.specs.declared.outcome.Verdict.TheVariants as verdict
@@ -10,7 +10,9 @@ use Rattle.sec_check.specs.Fitting.{IsCutOver}
 use Rattle.sec_files.specs.Loading.{IsAccepted, Loads}
 use Rattle.sec_run.specs.declared.status.StatusName.{StatusName}
 use Rattle.sec_run.specs.declared.status.StatusName.TheVariants as status
-use Rattle.sec_run.specs.Job.{Check}
+use Rattle.sec_words.specs.declared.task.Task.{Task}
+use Rattle.sec_words.specs.declared.task.Task.TheVariants as task
+use Rattle.sec_run.specs.Job.{Check, WhereBuilt}
 use Rattle.sec_run.specs.Answer.{Held, AreComparable}
 
 -- Two nets that one text loads as are equal wherever they are compared, however few conflicts are allowed.
@@ -26,6 +28,11 @@ pub record CanBeUnfolded (text : List ℕ) : Type 0 where
 -- Such a text can be compared with itself, whether latches may be cut open or not.
 abbrev pub UnfoldedIsComparable : Type 0
 UnfoldedIsComparable = (text : List ℕ) → CanBeUnfolded text → (expose : Bool) → AreComparable text text expose
+
+-- what is said of the comparison that the job asks for, where it is built
+abbrev pub OfCheck : Option Task → (Check → Type 0) → Type 0
+OfCheck (Some (task.Check a b settings)) P = WhereBuilt settings.mode (P (record { left = a; right = b; settings = settings })) ⊥
+OfCheck other P = ⊥
 
 -- what is said of a text that is held at both paths
 abbrev pub OfOneText : Held → Check → (List ℕ → Type 0) → Type 0

@@ -1,12 +1,9 @@
--- Where both texts are told and can be compared, a run ends with a verdict, or at want of memory.
+-- Where both texts are told and can be compared, what is found of them has the status of a verdict.
 use Rattle.std.proofs.Common.{◌≡◌, ℕ, List, [], refl, sym, ◌∙◌, subst, arith, Option, Some, None}
 use Rattle.std.specs.Prelude.{IfSome, IsSomeAnd}
 use Rattle.std.proofs.lemmas.Option.{none-some}
 use Rattle.circuit_theory.specs.declared.Side.{Side}
 use Rattle.circuit_theory.specs.declared.Side.TheVariants.{A, B}
-use Rattle.pair_decide.specs.declared.query.Proof.{Proof}
-use Rattle.sec_words.specs.declared.task.Task.{Task}
-use Rattle.sec_words.specs.declared.task.Task.TheVariants as task
 use Rattle.sec_files.specs.Loading.{IsAccepted, IsTooLong, HasFault, HasDesignFault}
 use Rattle.flat_net.specs.View.{circuit_of}
 use Rattle.exposure.specs.Common.{common_names}
@@ -17,10 +14,8 @@ use Rattle.sec_run.specs.declared.finding.Finding.{Finding}
 use Rattle.sec_run.specs.declared.finding.Finding.TheVariants as finding
 use Rattle.sec_outcome.specs.declared.outcome.Verdict.{Verdict}
 use Rattle.sec_outcome.specs.declared.outcome.Verdict.TheVariants as verdict
-use Rattle.sec_run.specs.declared.status.StatusName.{StatusName}
-use Rattle.sec_run.specs.declared.status.StatusName.TheVariants as status
-use Rattle.sec_run.specs.Job.{Check, check_of, OfCheck}
-use Rattle.sec_run.specs.Answer.{Held, OfTexts, IsRefusal, IsFoundOf, WhereBuilt, IsFinding, AreComparable, CanAnswer, IsAnswer, EndsAs, verdict_status, status_of}
+use Rattle.sec_run.specs.Job.{Check}
+use Rattle.sec_run.specs.Answer.{Held, OfTexts, IsRefusal, IsFoundOf, AreComparable, CanAnswer, IsAnswer, verdict_status, status_of}
 use Rattle.sec_run.proofs.ToldCycles.{is_not_free}
 
 -- the two texts that are told
@@ -108,30 +103,6 @@ module _ (held : Held) (check : Check) (told : AreTold held check) where
       go (verdict.NotShown reason) = tt
       go (verdict.Limit at) = tt
 
--- the finding of a job that can be answered
-job_verdict : (held : Held) (job : Option Task) (f : Finding) → OfCheck job (CanAnswer held) → IsFinding held job f → IsAnswer (status_of f)
-job_verdict held None f can found = absurd can
-job_verdict held (Some (task.Check a b settings)) f can found = go (check_of (task.Check a b settings)) can found
-  where
-    go : (o : Option Check) → IsSomeAnd o (CanAnswer held) → WhereBuilt f o (λ check. IsFoundOf held check f) → IsAnswer (status_of f)
-    go None can h = absurd can
-    go (Some check) can h = has_verdict held check (are_told held check can) f h
-job_verdict held (Some (task.Graph a mode)) f can found = absurd can
-job_verdict held (Some (task.Sim a s mode power)) f can found = absurd can
-job_verdict held (Some (task.Replay a b s mode)) f can found = absurd can
-job_verdict held (Some (task.Gen seed regroup conflicts)) f can found = absurd can
-
--- so the run ends with a verdict, or at want of memory
-pub ends_with_answer : (held : Held) (before now : Option (List ℕ)) (job : Option Task) (proofs : List Proof) (name : StatusName) → EndsAs before now held job proofs name →
-    (name ≡ status.ReadFault → ⊥) → (name ≡ status.WriteFault → ⊥) → OfCheck job (CanAnswer held) → IsAnswer name
-ends_with_answer held before now job proofs status.Equal ends read write can = tt
-ends_with_answer held before now job proofs status.Different ends read write can = tt
-ends_with_answer held before now job proofs status.NotShown ends read write can = tt
-ends_with_answer held before now job proofs status.Limit ends read write can = tt
-ends_with_answer held before now job proofs status.NoMemory ends read write can = tt
-ends_with_answer held before now job proofs status.ReadFault ends read write can = absurd (read refl)
-ends_with_answer held before now job proofs status.WriteFault ends read write can = absurd (write refl)
-ends_with_answer held before now job proofs status.Refused ends read write can = subst IsAnswer ends.3 (job_verdict held job ends.0 can ends.1)
-ends_with_answer held before now job proofs status.Words ends read write can = subst IsAnswer ends.3 (job_verdict held job ends.0 can ends.1)
-ends_with_answer held before now job proofs status.Cyclic ends read write can = subst IsAnswer ends.3 (job_verdict held job ends.0 can ends.1)
-ends_with_answer held before now job proofs status.Done ends read write can = subst IsAnswer ends.3 (job_verdict held job ends.0 can ends.1)
+-- two texts that are told and can be compared are answered
+pub check_answered : (held : Held) (check : Check) → CanAnswer held check → (f : Finding) → IsFoundOf held check f → IsAnswer (status_of f)
+check_answered held check can f found = has_verdict held check (are_told held check can) f found

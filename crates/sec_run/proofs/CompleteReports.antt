@@ -1,8 +1,8 @@
--- Where a circuit can be reported on, and a stimulus and a power word fit it, a run ends with the report, or at want of memory, in the
--- event mode also at the limit of a query.
+-- Where a circuit can be reported on, and a stimulus and a power word fit it, what is found is the report, in the event mode also the
+-- limit of a query.
 use Rattle.std.proofs.Common.{◌≡◌, ℕ, Bool, List, refl, sym, ◌∙◌, subst, ap, arith, Option, Some, None}
 use Rattle.std.specs.Prelude.{IsSomeAnd}
-use Rattle.std.proofs.lemmas.Option.{none-some, same_Some}
+use Rattle.std.proofs.lemmas.Option.{none-some}
 use Rattle.circuit_theory.specs.declared.Mode.{Mode}
 use Rattle.circuit_theory.specs.declared.Mode.TheVariants.{Plain, Event}
 use Rattle.circuit_theory.specs.declared.Side.TheVariants.{A, B}
@@ -14,19 +14,15 @@ use Rattle.pair_decide.specs.declared.query.Proof.{Proof}
 use Rattle.witness_report.specs.Form.{IsForm, HasNoHeader, IsBadRow}
 use Rattle.witness_report.proofs.Forms.{form_lines, one_form, no_bad_line}
 use Rattle.sim_report.specs.Checks.{first_misfit}
-use Rattle.sec_words.specs.declared.task.Task.{Task}
-use Rattle.sec_words.specs.declared.task.Task.TheVariants as task
 use Rattle.sec_files.specs.Loading.{IsAccepted, Loads, IsTooLong, HasFault, HasDesignFault}
 use Rattle.sec_run.specs.declared.finding.Refusal.{Refusal}
 use Rattle.sec_run.specs.declared.finding.Refusal.TheVariants as refusal
 use Rattle.sec_run.specs.declared.finding.Finding.{Finding}
 use Rattle.sec_run.specs.declared.finding.Finding.TheVariants as finding
-use Rattle.sec_run.specs.declared.status.StatusName.{StatusName}
 use Rattle.sec_run.specs.declared.status.StatusName.TheVariants as status
-use Rattle.sec_run.specs.Job.{Graph, Sim, IfGraph, IfSim}
 use Rattle.sec_files.specs.Stimuli.{IsStimulus, HasBadHeader, HasBadRow}
-use Rattle.sec_run.specs.Reports.{IsCircuitRefusal, IsGraphRefusal, IsGraphFound, IsSimRefusal, IsSimFound, CanBeTold, CanBeRun}
-use Rattle.sec_run.specs.Answer.{Held, IsFinding, CanTell, CanSimulate, IsReported, EndsAs, status_of}
+use Rattle.sec_run.specs.Reports.{IsCircuitRefusal, IsGraphRefusal, IsGraphFound, IsSimRefusal, IsSimFound, CanBeTold, CanBeRun, CanTell, CanSimulate}
+use Rattle.sec_run.specs.Answer.{IsReported, status_of}
 use Rattle.sec_run.proofs.Complete.{some_and, if_told}
 
 -- a form has a header and no bad row, and a text is the form of one stimulus alone
@@ -119,46 +115,12 @@ module _ (mode : Mode) (circuit stimulus power : Option (List ℕ)) (x y : List 
   run_reported (finding.Done report) h = tt
   run_reported (finding.Undecided name proof) h = limit_reported mode h.net name proof h.unknown
 
--- so the run ends with the report, at the limit, or at want of memory
-ends_reported : (mode : Mode) (held : Held) (before now : Option (List ℕ)) (job : Option Task) (proofs : List Proof) (name : StatusName) → EndsAs before now held job proofs name →
-    (name ≡ status.ReadFault → ⊥) → (name ≡ status.WriteFault → ⊥) → ((f : Finding) → IsFinding held job f → IsReported mode (status_of f)) → IsReported mode name
-ends_reported mode held before now job proofs status.Done ends read write can = tt
-ends_reported mode held before now job proofs status.NoMemory ends read write can = tt
-ends_reported mode held before now job proofs status.ReadFault ends read write can = absurd (read refl)
-ends_reported mode held before now job proofs status.WriteFault ends read write can = absurd (write refl)
-ends_reported mode held before now job proofs status.Equal ends read write can = subst (IsReported mode) ends.3 (can ends.0 ends.1)
-ends_reported mode held before now job proofs status.Different ends read write can = subst (IsReported mode) ends.3 (can ends.0 ends.1)
-ends_reported mode held before now job proofs status.NotShown ends read write can = subst (IsReported mode) ends.3 (can ends.0 ends.1)
-ends_reported mode held before now job proofs status.Limit ends read write can = subst (IsReported mode) ends.3 (can ends.0 ends.1)
-ends_reported mode held before now job proofs status.Refused ends read write can = subst (IsReported mode) ends.3 (can ends.0 ends.1)
-ends_reported mode held before now job proofs status.Words ends read write can = subst (IsReported mode) ends.3 (can ends.0 ends.1)
-ends_reported mode held before now job proofs status.Cyclic ends read write can = subst (IsReported mode) ends.3 (can ends.0 ends.1)
+-- so what is found has the status of the report, or of the limit
+pub graph_complete : (mode : Mode) (circuit : Option (List ℕ)) (f : Finding) → IsGraphFound mode circuit f → CanTell mode circuit → IsReported mode (status_of f)
+graph_complete mode circuit f found can = let x = some_and circuit (CanBeTold mode) can in graph_reported mode circuit x.0 x.1 x.2 f found
 
-pub graph_ends_reported : (held : Held) (before now : Option (List ℕ)) (job : Option Task) (proofs : List Proof) (name : StatusName) → EndsAs before now held job proofs name →
-    IfGraph job (λ graph. CanTell held graph → (name ≡ status.ReadFault → ⊥) → (name ≡ status.WriteFault → ⊥) → IsReported graph.mode name)
-graph_ends_reported held before now None proofs name ends graph e = absurd (none-some graph e)
-graph_ends_reported held before now (Some (task.Graph a mode)) proofs name ends graph e = λ can read write.
-    let own : Graph = record { circuit = a; mode = mode } in
-    let same : own ≡ graph = same_Some own graph e in
-    let x = some_and (held a) (CanBeTold mode) (subst (λ (g : Graph). CanTell held g) (sym same) can) in
-    subst (λ (g : Graph). IsReported g.mode name) same
-    (ends_reported mode held before now (Some (task.Graph a mode)) proofs name ends read write (λ f found. graph_reported mode (held a) x.0 x.1 x.2 f found))
-graph_ends_reported held before now (Some (task.Check a b settings)) proofs name ends graph e = absurd (none-some graph e)
-graph_ends_reported held before now (Some (task.Sim a s mode power)) proofs name ends graph e = absurd (none-some graph e)
-graph_ends_reported held before now (Some (task.Replay a b s mode)) proofs name ends graph e = absurd (none-some graph e)
-graph_ends_reported held before now (Some (task.Gen seed regroup conflicts)) proofs name ends graph e = absurd (none-some graph e)
-
-pub sim_ends_reported : (held : Held) (before now : Option (List ℕ)) (job : Option Task) (proofs : List Proof) (name : StatusName) → EndsAs before now held job proofs name →
-    IfSim job (λ sim. CanSimulate held sim → (name ≡ status.ReadFault → ⊥) → (name ≡ status.WriteFault → ⊥) → IsReported sim.mode name)
-sim_ends_reported held before now None proofs name ends sim e = absurd (none-some sim e)
-sim_ends_reported held before now (Some (task.Sim a s mode power)) proofs name ends sim e = λ can read write.
-    let own : Sim = record { circuit = a; stimulus = s; mode = mode; power = power } in
-    let same : own ≡ sim = same_Some own sim e in
-    let x = some_and (held a) (λ t. IsSomeAnd (held s) (λ y. CanBeRun mode t y power)) (subst (λ (m : Sim). CanSimulate held m) (sym same) can) in
-    let y = some_and (held s) (λ t. CanBeRun mode x.0 t power) x.2 in
-    subst (λ (m : Sim). IsReported m.mode name) same
-    (ends_reported mode held before now (Some (task.Sim a s mode power)) proofs name ends read write (λ f found. run_reported mode (held a) (held s) power x.0 y.0 x.1 y.1 y.2 f found))
-sim_ends_reported held before now (Some (task.Check a b settings)) proofs name ends sim e = absurd (none-some sim e)
-sim_ends_reported held before now (Some (task.Graph a mode)) proofs name ends sim e = absurd (none-some sim e)
-sim_ends_reported held before now (Some (task.Replay a b s mode)) proofs name ends sim e = absurd (none-some sim e)
-sim_ends_reported held before now (Some (task.Gen seed regroup conflicts)) proofs name ends sim e = absurd (none-some sim e)
+pub sim_complete : (mode : Mode) (circuit stimulus power : Option (List ℕ)) (f : Finding) → IsSimFound mode circuit stimulus power f → CanSimulate mode circuit stimulus power → IsReported mode (status_of f)
+sim_complete mode circuit stimulus power f found can =
+    let x = some_and circuit (λ t. IsSomeAnd stimulus (λ y. CanBeRun mode t y power)) can in
+    let y = some_and stimulus (λ t. CanBeRun mode x.0 t power) x.2 in
+    run_reported mode circuit stimulus power x.0 y.0 x.1 y.1 y.2 f found

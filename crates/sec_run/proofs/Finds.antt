@@ -1,6 +1,7 @@
 -- What the parts of the work on the files find.
-use Rattle.std.proofs.Common.{◌≡◌, ℕ, ◌≤◌, List, refl, sym, subst, arith, inl, inr, Option, Some, None, Result, Ok, Err}
-use Rattle.std.specs.Prelude.{IfSome, IsSomeAnd, IsErrOf}
+use Rattle.std.proofs.Common.{◌≡◌, ℕ, ◌≤◌, List, [], ◌∷◌, refl, sym, subst, arith, inl, inr, Option, Some, None, Result, Ok, Err}
+use Rattle.std.specs.Prelude.{IfSome, IsErrOf}
+use Rattle.std.proofs.lemmas.List.Elements.{All-nil, All-cons}
 use Rattle.circuit_theory.specs.declared.Side.TheVariants.{A, B}
 use Rattle.sec_base.specs.Outside.{Rose}
 use Rattle.sec_base.specs.declared.fetching.FetchError.TheVariants as fetch_error
@@ -9,8 +10,6 @@ use Rattle.flat_net.specs.View.{NetView}
 use Rattle.flat_walk.specs.declared.error.FlatError.{FlatError}
 use Rattle.flat_walk.specs.declared.error.FlatError.TheVariants as flat_error
 use Rattle.sec_base.specs.declared.settings.Settings.{Settings}
-use Rattle.sec_words.specs.declared.task.Task.{Task}
-use Rattle.sec_words.specs.declared.task.Task.TheVariants as task
 use Rattle.sec_outcome.specs.declared.outcome.Outcome.{Outcome}
 use Rattle.sec_check.specs.declared.error.CompareError.{CompareError}
 use Rattle.sec_check.specs.declared.error.CompareError.TheVariants as compare_error
@@ -18,16 +17,14 @@ use Rattle.sec_files.specs.declared.loading.LoadError.{LoadError}
 use Rattle.sec_files.specs.declared.loading.LoadError.TheVariants as load_error
 use Rattle.sec_check.specs.Compared.{Compared}
 use Rattle.sec_files.specs.Loading.{Loads, LoadFails, FlattenFails, IsTooLong, HasFault, HasDesignFault}
+use Rattle.sec_run.specs.declared.finding.Stop.TheVariants as stop
+use Rattle.sec_run.specs.Job.{Check}
+use Rattle.sec_run.specs.Reports.{IsLoaded}
+use Rattle.sec_run.specs.Answer.{Held}
+use Rattle.sec_run.specs.Promises.{ReadFailed}
 use Rattle.sec_run.specs.declared.finding.Finding.{Finding}
 use Rattle.sec_run.specs.declared.finding.Stop.{Stop}
-use Rattle.sec_run.specs.declared.finding.Stop.TheVariants as stop
-use Rattle.std.proofs.lemmas.Option.{none-some}
-use Rattle.sec_run.specs.declared.finding.Refusal.TheVariants as refusal
-use Rattle.sec_run.specs.declared.finding.Finding.TheVariants as finding
-use Rattle.sec_run.specs.Job.{Check, Graph, Sim, check_of, graph_of, sim_of}
-use Rattle.sec_run.specs.Reports.{IsGraphFound, IsSimFound}
-use Rattle.sec_run.specs.Answer.{Held, ReadFailed, SimReadFailed, IsFoundOf, WhereBuilt}
-use Rattle.sec_run.specs.Ends.{load_end, compare_end, EndsBy, FoundOf, Found}
+use Rattle.sec_run.specs.Ends.{load_end, compare_end, EndsBeside, FoundOf}
 
 -- what holds of something held, where it is told
 both_told : {X Y : Type 0} (o : Option X) (o' : Option Y) (F : X → Type 0) (G : Y → Type 0) (H : X → Y → Type 0) →
@@ -36,10 +33,24 @@ both_told None o' F G H f p q = tt
 both_told (Some x) None F G H f p q = tt
 both_told (Some x) (Some y) F G H f p q = f x y p q
 
+-- the first read failed
+pub first_failed : (held : Held) (before now : List ℕ → ℕ) (path : List ℕ) (paths : List (List ℕ)) → Rose (before path) (now path) → ReadFailed held before now (path ∷ paths)
+first_failed held before now path paths rose = record { fetch = 0; path = path; is_path = refl; rose = rose; loaded = All-nil (λ (earlier : List ℕ). IsLoaded (held earlier)) }
+
+-- the first circuit is loaded, and the read behind it failed
+pub second_failed : (held : Held) (before now : List ℕ → ℕ) (first path : List ℕ) (paths : List (List ℕ)) → IsLoaded (held first) → Rose (before path) (now path) → ReadFailed held before now (first ∷ path ∷ paths)
+second_failed held before now first path paths loaded rose =
+    let P : List ℕ → Type 0 = λ earlier. IsLoaded (held earlier) in
+    record { fetch = 1; path = path; is_path = refl; rose = rose; loaded = All-cons P first [] loaded (All-nil P) }
+
+pub is_loaded : (circuit : Option (List ℕ)) (net : NetView) → IfSome circuit (λ x. Loads x net) → IsLoaded circuit
+is_loaded None net l = tt
+is_loaded (Some x) net l = (net, l)
+
 -- A's file isn't loaded
 pub left_ends : (held : Held) (before now : List ℕ → ℕ) (check : Check) (error : LoadError) →
     LoadFails (held check.left) (Rose (before check.left) (now check.left)) error → FoundOf held before now check (load_end A error)
-left_ends held before now check (load_error.Fetch fetch_error.Failed) h = inl h
+left_ends held before now check (load_error.Fetch fetch_error.Failed) h = first_failed held before now check.left (check.right ∷ []) h
 left_ends held before now check (load_error.Fetch fetch_error.TooLong) h = h
 left_ends held before now check (load_error.Fetch fetch_error.NoMemory) h = tt
 left_ends held before now check (load_error.Read (read_error.At line kind)) h = h
@@ -73,11 +84,7 @@ faulty held check net e l h = both_told (held check.left) (held check.right) _ _
 pub right_ends : (held : Held) (before now : List ℕ → ℕ) (check : Check) (net : NetView) (error : LoadError) →
     IfSome (held check.left) (λ x. Loads x net) → LoadFails (held check.right) (Rose (before check.right) (now check.right)) error →
     FoundOf held before now check (load_end B error)
-right_ends held before now check net (load_error.Fetch fetch_error.Failed) l h = inr (h, loaded (held check.left) l)
-  where
-    loaded : (o : Option (List ℕ)) → IfSome o (λ x. Loads x net) → IfSome o (λ x. (n : NetView) × Loads x n)
-    loaded None l = tt
-    loaded (Some x) l = (net, l)
+right_ends held before now check net (load_error.Fetch fetch_error.Failed) l h = second_failed held before now check.left check.right [] (is_loaded (held check.left) net l) h
 right_ends held before now check net (load_error.Fetch fetch_error.TooLong) l h = both_told (held check.left) (held check.right) _ _ _ (λ x y. with_net net IsTooLong y) l h
 right_ends held before now check net (load_error.Fetch fetch_error.NoMemory) l h = tt
 right_ends held before now check net (load_error.Read (read_error.At line kind)) l h = both_told (held check.left) (held check.right) _ _ _ (λ x y. with_net net (λ text. HasFault text line kind) y) l h
@@ -109,46 +116,6 @@ nets_end held before now check a b (Err (compare_error.Unpaired side names)) l m
 nets_end held before now check a b (Err (compare_error.TooLarge side)) l m c = both_told (held check.left) (held check.right) _ _ _ (λ x y p q. (a, b, p, q, c)) l m
 nets_end held before now check a b (Err compare_error.NoMemory) l m c = tt
 
--- what is found of the files is found of the job that compares them
-pub found_of_check : (held : Held) (before now : List ℕ → ℕ) (job : Task) (check : Check) (r : Result Finding Stop) → check_of job ≡ Some check → FoundOf held before now check r → Found held before now (Some job) r
-found_of_check held before now (task.Check a b settings) check (Ok f) e h = subst (λ (o : Option Check). WhereBuilt f o (λ c. IsFoundOf held c f)) (sym e) h
-found_of_check held before now (task.Check a b settings) check (Err stop.ReadFault) e h = inl (subst (λ (o : Option Check). IsSomeAnd o (ReadFailed held before now)) (sym e) h)
-found_of_check held before now (task.Check a b settings) check (Err stop.NoMemory) e h = tt
-found_of_check held before now (task.Graph a mode) check r e h = absurd (none-some check e)
-found_of_check held before now (task.Sim a s mode power) check r e h = absurd (none-some check e)
-found_of_check held before now (task.Replay a b s mode) check r e h = absurd (none-some check e)
-found_of_check held before now (task.Gen seed regroup conflicts) check r e h = absurd (none-some check e)
-
--- what is found of a circuit is found of the job that asks for its latch graph
-pub found_of_graph : (held : Held) (before now : List ℕ → ℕ) (job : Task) (graph : Graph) (r : Result Finding Stop) → graph_of job ≡ Some graph →
-    EndsBy (IsGraphFound graph.mode (held graph.circuit)) (Rose (before graph.circuit) (now graph.circuit)) r → Found held before now (Some job) r
-found_of_graph held before now (task.Graph a mode) graph (Ok f) e h = subst (λ (o : Option Graph). WhereBuilt f o (λ g. IsGraphFound g.mode (held g.circuit) f)) (sym e) h
-found_of_graph held before now (task.Graph a mode) graph (Err stop.ReadFault) e h = inr (inl (subst (λ (o : Option Graph). IsSomeAnd o (λ g. Rose (before g.circuit) (now g.circuit))) (sym e) h))
-found_of_graph held before now (task.Graph a mode) graph (Err stop.NoMemory) e h = tt
-found_of_graph held before now (task.Check a b settings) graph r e h = absurd (none-some graph e)
-found_of_graph held before now (task.Sim a s mode power) graph r e h = absurd (none-some graph e)
-found_of_graph held before now (task.Replay a b s mode) graph r e h = absurd (none-some graph e)
-found_of_graph held before now (task.Gen seed regroup conflicts) graph r e h = absurd (none-some graph e)
-
--- what is found of a simulation is found of the job that asks for it
-pub found_of_sim : (held : Held) (before now : List ℕ → ℕ) (job : Task) (sim : Sim) (r : Result Finding Stop) → sim_of job ≡ Some sim →
-    EndsBy (IsSimFound sim.mode (held sim.circuit) (held sim.stimulus) sim.power) (SimReadFailed held before now sim) r → Found held before now (Some job) r
-found_of_sim held before now (task.Sim a s mode power) sim (Ok f) e h = subst (λ (o : Option Sim). WhereBuilt f o (λ m. IsSimFound m.mode (held m.circuit) (held m.stimulus) m.power f)) (sym e) h
-found_of_sim held before now (task.Sim a s mode power) sim (Err stop.ReadFault) e h = inr (inr (subst (λ (o : Option Sim). IsSomeAnd o (SimReadFailed held before now)) (sym e) h))
-found_of_sim held before now (task.Sim a s mode power) sim (Err stop.NoMemory) e h = tt
-found_of_sim held before now (task.Check a b settings) sim r e h = absurd (none-some sim e)
-found_of_sim held before now (task.Graph a mode) sim r e h = absurd (none-some sim e)
-found_of_sim held before now (task.Replay a b s mode) sim r e h = absurd (none-some sim e)
-found_of_sim held before now (task.Gen seed regroup conflicts) sim r e h = absurd (none-some sim e)
-
--- a job that isn't built is refused
-pub found_unbuilt : (held : Held) (before now : List ℕ → ℕ) (job : Task) → check_of job ≡ None → graph_of job ≡ None → sim_of job ≡ None → Found held before now (Some job) (Ok (finding.Refused refusal.NotBuilt))
-found_unbuilt held before now (task.Check a b settings) check graph sim = subst (λ (o : Option Check). WhereBuilt (finding.Refused refusal.NotBuilt) o (λ c. IsFoundOf held c (finding.Refused refusal.NotBuilt))) (sym check) refl
-found_unbuilt held before now (task.Graph a mode) check graph sim = subst (λ (o : Option Graph). WhereBuilt (finding.Refused refusal.NotBuilt) o (λ g. IsGraphFound g.mode (held g.circuit) (finding.Refused refusal.NotBuilt))) (sym graph) refl
-found_unbuilt held before now (task.Sim a s mode power) check graph sim = subst (λ (o : Option Sim). WhereBuilt (finding.Refused refusal.NotBuilt) o (λ m. IsSimFound m.mode (held m.circuit) (held m.stimulus) m.power (finding.Refused refusal.NotBuilt))) (sym sim) refl
-found_unbuilt held before now (task.Replay a b s mode) check graph sim = refl
-found_unbuilt held before now (task.Gen seed regroup conflicts) check graph sim = refl
-
 -- a count that rose from a later value rose from an earlier one
 pub rose_before : (a b c : ℕ) → a ≤ b → Rose b c → Rose a c
 rose_before a b c h r = omega arith
@@ -161,6 +128,16 @@ later_fails later held a b c (load_error.Fetch fetch_error.NoMemory) same grew h
 later_fails later held a b c (load_error.Read (read_error.At line kind)) same grew h = subst (λ (o : Option (List ℕ)). IfSome o (λ text. HasFault text line kind)) same h
 later_fails later held a b c (load_error.Read read_error.NoMemory) same grew h = tt
 later_fails later held a b c (load_error.Flat e) same grew h = subst (λ (o : Option (List ℕ)). FlattenFails o e) same h
+
+-- what is found beside A's net is found of both files; what is held and the faults of B's are those of a later time
+pub beside_ends : (held : Held) (before now : List ℕ → ℕ) (check : Check) (a : NetView) (later : Option (List ℕ)) (middle : ℕ) (r : Result Finding Stop) → IfSome (held check.left) (λ x. Loads x a) →
+    later ≡ held check.right → before check.right ≤ middle → EndsBeside later (Rose middle (now check.right)) a check.settings r → FoundOf held before now check r
+beside_ends held before now check a later middle r l same grew (inl h) =
+    subst (λ (e : Result Finding Stop). FoundOf held before now check e) (sym h.2)
+    (right_ends held before now check a h.0 l (later_fails later (held check.right) (before check.right) middle (now check.right) h.0 same grew h.1))
+beside_ends held before now check a later middle r l same grew (inr h) =
+    subst (λ (e : Result Finding Stop). FoundOf held before now check e) (sym h.4)
+    (nets_end held before now check a h.0 h.1 l (subst (λ (o : Option (List ℕ)). IfSome o (λ y. Loads y h.0)) same h.2) h.3)
 
 -- a comparison ends with no read fault
 pub no_fault_compared : (settings : Settings) (r : Result Outcome CompareError) → IsErrOf (compare_end settings r) stop.ReadFault → ⊥

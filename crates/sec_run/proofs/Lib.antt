@@ -5,5 +5,6 @@ pub mod Finds
 pub mod Fitted
 pub mod Means
 pub mod OneCircuit
+pub mod Promises
 pub mod Texts
 pub mod ToldCycles

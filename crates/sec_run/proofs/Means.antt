@@ -1,13 +1,12 @@
 -- What the statuses equal, different, not shown and limit mean for the texts.
 use Rattle.std.proofs.Common.{◌≡◌, ℕ, List, refl, sym, ◌∙◌, subst, ap, inl, inr, ◌⊎◌, Option, Some, None}
-use Rattle.std.specs.Prelude.{IfSome, IsSomeAnd}
+use Rattle.std.specs.Prelude.{IfSome}
 use Rattle.circuit_theory.specs.declared.Mode.{Mode}
 use Rattle.sec_base.specs.Outside.{Takes}
 use Rattle.flat_net.specs.View.{NetView}
 use Rattle.pair_decide.specs.declared.query.Proof.{Proof}
 use Rattle.witness_report.specs.declared.witness.Witness.{Witness}
 use Rattle.sec_words.specs.declared.task.Task.{Task}
-use Rattle.sec_words.specs.declared.task.Task.TheVariants as task
 use Rattle.sec_base.specs.declared.settings.Settings.{Settings}
 use Rattle.sec_outcome.specs.declared.outcome.LimitAt.{LimitAt}
 use Rattle.sec_outcome.specs.declared.outcome.Outcome.{Outcome}
@@ -20,10 +19,11 @@ use Rattle.sec_run.specs.declared.finding.Finding.{Finding}
 use Rattle.sec_run.specs.declared.finding.Finding.TheVariants as finding
 use Rattle.sec_run.specs.declared.status.StatusName.{StatusName}
 use Rattle.sec_run.specs.declared.status.StatusName.TheVariants as status
-use Rattle.sec_run.specs.Job.{Check, Graph, Sim, check_of, graph_of, sim_of, OfCheck}
+use Rattle.sec_run.specs.Job.{Check}
 use Rattle.sec_run.specs.Lines.{finding_text}
 use Rattle.sec_run.specs.Reports.{IsGraphFound, IsSimFound, TakesGraph, TakesRun, TakesLimit}
-use Rattle.sec_run.specs.Answer.{Held, OfTexts, OfNets, IsFinding, IsFoundOf, WhereBuilt, TakesReport, TakesLimitOf, EndsAs, TextsAgree, TextsDiffer, TextsNotShown, TextsUndecided, verdict_status, status_of}
+use Rattle.sec_run.specs.Promises.{CheckMeans, ReportMeans, SaysNothing}
+use Rattle.sec_run.specs.Answer.{Held, OfTexts, OfNets, IsFinding, IsFoundOf, EndsAs, TextsAgree, TextsDiffer, TextsNotShown, TextsUndecided, verdict_status, status_of}
 use Rattle.sec_run.specs.Ends.{IsWrittenAs}
 use Rattle.sec_run.proofs.Texts.{texts_agree, texts_differ, texts_not_shown, texts_undecided}
 
@@ -62,28 +62,6 @@ sim_status mode circuit stimulus power (finding.Unpaired side names) h = absurd 
 sim_status mode circuit stimulus power (finding.Checked o s) h = absurd h
 sim_status mode circuit stimulus power (finding.Done report) h = inl refl
 sim_status mode circuit stimulus power (finding.Undecided name proof) h = inr (inr refl)
-
--- what is said of the files of a finding that neither words, nor a refusal, nor a report on one circuit give
-of_check : (P : Check → Type 0) (held : Held) (job : Option Task) (f : Finding) → IsFinding held job f → (status_of f ≡ status.Words → ⊥) → (status_of f ≡ status.Refused → ⊥) → (status_of f ≡ status.Done → ⊥) → (status_of f ≡ status.Limit → ⊥) →
-    ((check : Check) → IsFoundOf held check f → P check) → OfCheck job P
-of_check P held None f found words refused done limit each = absurd (words (ap status_of found))
-of_check P held (Some (task.Check a b settings)) f found words refused done limit each = go (check_of (task.Check a b settings)) found
-  where
-    go : (o : Option Check) → WhereBuilt f o (λ check. IsFoundOf held check f) → IsSomeAnd o P
-    go None h = absurd (refused (ap status_of h))
-    go (Some check) h = each check h
-of_check P held (Some (task.Graph a mode)) f found words refused done limit each = absurd (go (graph_of (task.Graph a mode)) found)
-  where
-    go : (o : Option Graph) → WhereBuilt f o (λ graph. IsGraphFound graph.mode (held graph.circuit) f) → ⊥
-    go None h = refused (ap status_of h)
-    go (Some graph) h = neither_of done refused limit (graph_status graph.mode (held graph.circuit) f h)
-of_check P held (Some (task.Sim a s mode power)) f found words refused done limit each = absurd (go (sim_of (task.Sim a s mode power)) found)
-  where
-    go : (o : Option Sim) → WhereBuilt f o (λ sim. IsSimFound sim.mode (held sim.circuit) (held sim.stimulus) sim.power f) → ⊥
-    go None h = refused (ap status_of h)
-    go (Some sim) h = neither_of done refused limit (sim_status sim.mode (held sim.circuit) (held sim.stimulus) sim.power f h)
-of_check P held (Some (task.Replay a b s mode)) f found words refused done limit each = absurd (refused (ap status_of found))
-of_check P held (Some (task.Gen seed regroup conflicts)) f found words refused done limit each = absurd (refused (ap status_of found))
 
 equal_verdict : (v : Verdict) → verdict_status v ≡ status.Equal → v ≡ verdict.Equal
 equal_verdict verdict.Equal e = refl
@@ -165,30 +143,6 @@ limit_found held check before now (finding.Checked o s) proofs h w =
 other : (f : Finding) (name another : StatusName) → status_of f ≡ name → (another ≡ name → ⊥) → status_of f ≡ another → ⊥
 other f name another e apart is = apart (sym is ∙ e)
 
--- the status equal
-pub equal_means : (held : Held) (job : Option Task) (before now : Option (List ℕ)) (f : Finding) (proofs : List Proof) (name : StatusName) →
-    IsFinding held job f → IsWrittenAs before now f proofs name → name ≡ status.Equal → OfCheck job (λ check. OfTexts held check (λ x y. TextsAgree x y check.settings.conflicts before now))
-equal_means held job before now f proofs name found written e =
-    let w = subst (IsWrittenAs before now f proofs) e written in
-    of_check (λ check. OfTexts held check (λ x y. TextsAgree x y check.settings.conflicts before now)) held job f found (other f status.Equal status.Words w.1 (λ q. cc)) (other f status.Equal status.Refused w.1 (λ q. cc)) (other f status.Equal status.Done w.1 (λ q. cc)) (other f status.Equal status.Limit w.1 (λ q. cc))
-    (λ check h. equal_found held check before now f proofs h w)
-
--- the status different
-pub different_means : (held : Held) (job : Option Task) (before now : Option (List ℕ)) (f : Finding) (proofs : List Proof) (name : StatusName) →
-    IsFinding held job f → IsWrittenAs before now f proofs name → name ≡ status.Different → OfCheck job (λ check. OfTexts held check (λ x y. TextsDiffer x y check.settings.conflicts before now))
-different_means held job before now f proofs name found written e =
-    let w = subst (IsWrittenAs before now f proofs) e written in
-    of_check (λ check. OfTexts held check (λ x y. TextsDiffer x y check.settings.conflicts before now)) held job f found (other f status.Different status.Words w.1 (λ q. cc)) (other f status.Different status.Refused w.1 (λ q. cc)) (other f status.Different status.Done w.1 (λ q. cc)) (other f status.Different status.Limit w.1 (λ q. cc))
-    (λ check h. different_found held check before now f proofs h w)
-
--- the status not shown
-pub not_shown_means : (held : Held) (job : Option Task) (before now : Option (List ℕ)) (f : Finding) (proofs : List Proof) (name : StatusName) →
-    IsFinding held job f → IsWrittenAs before now f proofs name → name ≡ status.NotShown → OfCheck job (λ check. OfTexts held check (λ x y. TextsNotShown x y check.settings before now))
-not_shown_means held job before now f proofs name found written e =
-    let w = subst (IsWrittenAs before now f proofs) e written in
-    of_check (λ check. OfTexts held check (λ x y. TextsNotShown x y check.settings before now)) held job f found (other f status.NotShown status.Words w.1 (λ q. cc)) (other f status.NotShown status.Refused w.1 (λ q. cc)) (other f status.NotShown status.Done w.1 (λ q. cc)) (other f status.NotShown status.Limit w.1 (λ q. cc))
-    (λ check h. not_shown_found held check before now f proofs h w)
-
 -- the limit of a query of one circuit
 graph_limit : (mode : Mode) (circuit before now : Option (List ℕ)) (f : Finding) (proofs : List Proof) → IsGraphFound mode circuit f → IsWrittenAs before now f proofs status.Limit → TakesLimit mode circuit proofs before now
 graph_limit mode circuit before now finding.Words proofs h w = absurd h
@@ -209,23 +163,6 @@ run_limit mode circuit stimulus power before now (finding.Checked o s) proofs h 
 run_limit mode circuit stimulus power before now (finding.Done report) proofs h w = absurd (let e = w.1 in cc)
 run_limit mode circuit stimulus power before now (finding.Undecided name proof) proofs h w =
     record { name = name; proof = proof; kept = w.0; shown = record { net = h.net; loads = h.loads; unknown = h.unknown }; printed = w.2 }
-
-limit_of : (held : Held) (job : Option Task) (before now : Option (List ℕ)) (f : Finding) (proofs : List Proof) → IsFinding held job f → IsWrittenAs before now f proofs status.Limit → TakesLimitOf before now held job proofs
-limit_of held None before now f proofs found w = absurd (other f status.Limit status.Words w.1 (λ q. cc) (ap status_of found))
-limit_of held (Some (task.Check a b settings)) before now f proofs found w = inl (go (check_of (task.Check a b settings)) found)
-  where
-    go : (o : Option Check) → WhereBuilt f o (λ check. IsFoundOf held check f) → IsSomeAnd o (λ check. OfTexts held check (λ x y. TextsUndecided x y check.settings proofs before now))
-    go None h = absurd (other f status.Limit status.Refused w.1 (λ q. cc) (ap status_of h))
-    go (Some check) h = limit_found held check before now f proofs h w
-limit_of held (Some (task.Graph a mode)) before now f proofs found w = inr (inl (graph_limit mode (held a) before now f proofs found w))
-limit_of held (Some (task.Sim a s mode power)) before now f proofs found w = inr (inr (run_limit mode (held a) (held s) power before now f proofs found w))
-limit_of held (Some (task.Replay a b s mode)) before now f proofs found w = absurd (other f status.Limit status.Refused w.1 (λ q. cc) (ap status_of found))
-limit_of held (Some (task.Gen seed regroup conflicts)) before now f proofs found w = absurd (other f status.Limit status.Refused w.1 (λ q. cc) (ap status_of found))
-
--- the status limit
-pub limit_means : (held : Held) (job : Option Task) (before now : Option (List ℕ)) (f : Finding) (proofs : List Proof) (name : StatusName) →
-    IsFinding held job f → IsWrittenAs before now f proofs name → name ≡ status.Limit → TakesLimitOf before now held job proofs
-limit_means held job before now f proofs name found written e = limit_of held job before now f proofs found (subst (IsWrittenAs before now f proofs) e written)
 
 -- no verdict is a report on one circuit
 no_done_verdict : (v : Verdict) → verdict_status v ≡ status.Done → ⊥
@@ -261,24 +198,64 @@ run_taken mode circuit stimulus power before now (finding.Checked o s) h e taken
 run_taken mode circuit stimulus power before now (finding.Done report) h e taken = (report, h, taken)
 run_taken mode circuit stimulus power before now (finding.Undecided name proof) h e taken = absurd (cc)
 
-done_found : (held : Held) (job : Option Task) (before now : Option (List ℕ)) (f : Finding) → IsFinding held job f → status_of f ≡ status.Done → Takes before now (finding_text f) → TakesReport before now held job
-done_found held None before now f found e taken = absurd (other f status.Done status.Words e (λ q. cc) (ap status_of found))
-done_found held (Some (task.Check a b settings)) before now f found e taken = absurd (go (check_of (task.Check a b settings)) found)
-  where
-    go : (o : Option Check) → WhereBuilt f o (λ check. IsFoundOf held check f) → ⊥
-    go None h = other f status.Done status.Refused e (λ q. cc) (ap status_of h)
-    go (Some check) h = no_done held check f h e
-done_found held (Some (task.Graph a mode)) before now f found e taken = inl (graph_taken mode (held a) before now f found e taken)
-done_found held (Some (task.Sim a s mode power)) before now f found e taken = inr (run_taken mode (held a) (held s) power before now f found e taken)
-done_found held (Some (task.Replay a b s mode)) before now f found e taken = absurd (other f status.Done status.Refused e (λ q. cc) (ap status_of found))
-done_found held (Some (task.Gen seed regroup conflicts)) before now f found e taken = absurd (other f status.Done status.Refused e (λ q. cc) (ap status_of found))
+-- what the status means of two texts that are compared
+pub check_means : (held : Held) (check : Check) (before now : Option (List ℕ)) (f : Finding) (proofs : List Proof) (name : StatusName) →
+    IsFoundOf held check f → IsWrittenAs before now f proofs name → CheckMeans held check before now proofs name
+check_means held check before now f proofs status.Equal found w = equal_found held check before now f proofs found w
+check_means held check before now f proofs status.Different found w = different_found held check before now f proofs found w
+check_means held check before now f proofs status.NotShown found w = not_shown_found held check before now f proofs found w
+check_means held check before now f proofs status.Limit found w = limit_found held check before now f proofs found w
+check_means held check before now f proofs status.Done found w = no_done held check f found w.1
+check_means held check before now f proofs status.Refused found w = tt
+check_means held check before now f proofs status.Words found w = tt
+check_means held check before now f proofs status.ReadFault found w = tt
+check_means held check before now f proofs status.WriteFault found w = tt
+check_means held check before now f proofs status.NoMemory found w = tt
+check_means held check before now f proofs status.Cyclic found w = tt
 
--- the status done
-pub done_means : (held : Held) (job : Option Task) (before now : Option (List ℕ)) (f : Finding) (proofs : List Proof) (name : StatusName) →
-    IsFinding held job f → IsWrittenAs before now f proofs name → name ≡ status.Done → TakesReport before now held job
-done_means held job before now f proofs name found written e =
-    let w = subst (IsWrittenAs before now f proofs) e written in
-    done_found held job before now f found w.1 w.2
+-- what the status of a report means
+report_means : (report limit : Type 0) (before now : Option (List ℕ)) (f : Finding) (proofs : List Proof) (name : StatusName) →
+    (status_of f ≡ status.Done) ⊎ ((status_of f ≡ status.Refused) ⊎ (status_of f ≡ status.Limit)) →
+    (status_of f ≡ status.Done → Takes before now (finding_text f) → report) → (IsWrittenAs before now f proofs status.Limit → limit) → IsWrittenAs before now f proofs name → ReportMeans report limit name
+report_means report limit before now f proofs status.Equal is done undecided w = neither_of (other f status.Equal status.Done w.1 (λ q. cc)) (other f status.Equal status.Refused w.1 (λ q. cc)) (other f status.Equal status.Limit w.1 (λ q. cc)) is
+report_means report limit before now f proofs status.Different is done undecided w =
+    neither_of (other f status.Different status.Done w.1 (λ q. cc)) (other f status.Different status.Refused w.1 (λ q. cc)) (other f status.Different status.Limit w.1 (λ q. cc)) is
+report_means report limit before now f proofs status.NotShown is done undecided w =
+    neither_of (other f status.NotShown status.Done w.1 (λ q. cc)) (other f status.NotShown status.Refused w.1 (λ q. cc)) (other f status.NotShown status.Limit w.1 (λ q. cc)) is
+report_means report limit before now f proofs status.Limit is done undecided w = undecided w
+report_means report limit before now f proofs status.Done is done undecided w = done w.1 w.2
+report_means report limit before now f proofs status.Refused is done undecided w = tt
+report_means report limit before now f proofs status.Words is done undecided w = tt
+report_means report limit before now f proofs status.ReadFault is done undecided w = tt
+report_means report limit before now f proofs status.WriteFault is done undecided w = tt
+report_means report limit before now f proofs status.NoMemory is done undecided w = tt
+report_means report limit before now f proofs status.Cyclic is done undecided w = tt
+
+pub graph_means : (mode : Mode) (circuit before now : Option (List ℕ)) (f : Finding) (proofs : List Proof) (name : StatusName) →
+    IsGraphFound mode circuit f → IsWrittenAs before now f proofs name → ReportMeans (TakesGraph mode circuit before now) (TakesLimit mode circuit proofs before now) name
+graph_means mode circuit before now f proofs name found w =
+    report_means (TakesGraph mode circuit before now) (TakesLimit mode circuit proofs before now) before now f proofs name (graph_status mode circuit f found)
+    (graph_taken mode circuit before now f found) (graph_limit mode circuit before now f proofs found) w
+
+pub sim_means : (mode : Mode) (circuit stimulus power before now : Option (List ℕ)) (f : Finding) (proofs : List Proof) (name : StatusName) →
+    IsSimFound mode circuit stimulus power f → IsWrittenAs before now f proofs name → ReportMeans (TakesRun mode circuit stimulus power before now) (TakesLimit mode circuit proofs before now) name
+sim_means mode circuit stimulus power before now f proofs name found w =
+    report_means (TakesRun mode circuit stimulus power before now) (TakesLimit mode circuit proofs before now) before now f proofs name (sim_status mode circuit stimulus power f found)
+    (run_taken mode circuit stimulus power before now f found) (run_limit mode circuit stimulus power before now f proofs found) w
+
+-- a job that isn't built, and words that are no job, say nothing
+pub says_nothing : (before now : Option (List ℕ)) (f : Finding) (proofs : List Proof) (name : StatusName) → SaysNothing (status_of f) → IsWrittenAs before now f proofs name → SaysNothing name
+says_nothing before now f proofs status.Equal h w = subst SaysNothing w.1 h
+says_nothing before now f proofs status.Different h w = subst SaysNothing w.1 h
+says_nothing before now f proofs status.NotShown h w = subst SaysNothing w.1 h
+says_nothing before now f proofs status.Limit h w = subst SaysNothing w.1 h
+says_nothing before now f proofs status.Done h w = subst SaysNothing w.1 h
+says_nothing before now f proofs status.Refused h w = tt
+says_nothing before now f proofs status.Words h w = tt
+says_nothing before now f proofs status.ReadFault h w = tt
+says_nothing before now f proofs status.WriteFault h w = tt
+says_nothing before now f proofs status.NoMemory h w = tt
+says_nothing before now f proofs status.Cyclic h w = tt
 
 -- how a run ends with a written finding
 pub written_ends : (held : Held) (job : Option Task) (before now : Option (List ℕ)) (f : Finding) (proofs : List Proof) (name : StatusName) →

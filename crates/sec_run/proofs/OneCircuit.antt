@@ -1,5 +1,5 @@
 -- What the parts of the work on one circuit find.
-use Rattle.std.proofs.Common.{◌≡◌, ℕ, Bool, List, Option, Some, None, Result, Ok, Err}
+use Rattle.std.proofs.Common.{◌≡◌, ℕ, ◌≤◌, Bool, List, [], subst, Option, Some, None, Result, Ok, Err}
 use Rattle.std.specs.Prelude.{IfSome}
 use Rattle.circuit_theory.specs.declared.Side.TheVariants.{A, B}
 use Rattle.sec_base.specs.declared.fetching.FetchError.TheVariants as fetch_error
@@ -8,7 +8,11 @@ use Rattle.flat_net.specs.View.{NetView}
 use Rattle.flat_walk.specs.declared.error.FlatError.TheVariants as flat_error
 use Rattle.sec_files.specs.declared.loading.LoadError.{LoadError}
 use Rattle.sec_files.specs.declared.loading.LoadError.TheVariants as load_error
-use Rattle.sec_files.specs.Loading.{Loads, LoadFails}
+use Rattle.sec_base.specs.Outside.{Rose}
+use Rattle.witness_report.specs.declared.error.StimError.TheVariants as stim_error
+use Rattle.sec_files.specs.declared.stimuli.StimulusError.{StimulusError}
+use Rattle.sec_files.specs.declared.stimuli.StimulusError.TheVariants as stimulus_error
+use Rattle.sec_files.specs.Loading.{Loads, LoadFails, IsTooLong}
 use Rattle.circuit_theory.specs.declared.Mode.{Mode}
 use Rattle.latch_kinds.specs.declared.kinds.KindsError.{KindsError}
 use Rattle.latch_kinds.specs.declared.kinds.KindsError.TheVariants as kinds_error
@@ -19,9 +23,11 @@ use Rattle.sec_run.specs.declared.finding.Refusal.{Refusal}
 use Rattle.sec_run.specs.declared.finding.Refusal.TheVariants as refusal
 use Rattle.sec_run.specs.declared.finding.Finding.{Finding}
 use Rattle.sec_run.specs.declared.finding.Finding.TheVariants as finding
-use Rattle.sec_files.specs.Stimuli.{IsStimulus}
-use Rattle.sec_run.specs.Reports.{IsCircuitRefusal, IsGraphFound, IsGraphRefusal, IsSimFound, IsSimRefusal}
-use Rattle.sec_run.specs.Ends.{load_end, graph_end, sim_end, EndsBy}
+use Rattle.sec_files.specs.Stimuli.{IsStimulus, HasBadHeader, HasBadRow, StimulusFails}
+use Rattle.sec_run.specs.Reports.{IsLoaded, IsCircuitRefusal, IsGraphFound, IsGraphRefusal, IsSimFound, IsSimRefusal}
+use Rattle.sec_run.specs.Answer.{Held}
+use Rattle.sec_run.specs.Ends.{load_end, stimulus_end, graph_end, sim_end, EndsBy, SimFound}
+use Rattle.sec_run.proofs.Finds.{second_failed, rose_before}
 
 -- the circuit isn't loaded
 pub circuit_ends : (P : Finding → Type 0) (failed rose : Type 0) (circuit : Option (List ℕ)) (error : LoadError) → ((r : Refusal) → IsCircuitRefusal circuit r → P (finding.Refused r)) → (rose → failed) →
@@ -94,3 +100,14 @@ run_ends mode circuit stimulus power failed net names rows (Err simulate_error.T
 run_ends mode circuit stimulus power failed net names rows (Err (simulate_error.Limit name proof)) loads spells run =
     record { net = net; names = names; rows = rows; loads = loads; spells = spells; fits = run.0; unknown = run.1 }
 run_ends mode circuit stimulus power failed net names rows (Err simulate_error.NoMemory) loads spells run = tt
+
+-- the circuit is loaded, and the stimulus isn't; what is held of it and its faults are those of a later time
+pub stimulus_ends : (held : Held) (before now : List ℕ → ℕ) (circuit stimulus : List ℕ) (mode : Mode) (power later : Option (List ℕ)) (middle : ℕ) (error : StimulusError) → IsLoaded (held circuit) →
+    later ≡ held stimulus → before stimulus ≤ middle → StimulusFails later (Rose middle (now stimulus)) error → SimFound held before now circuit stimulus mode power (stimulus_end error)
+stimulus_ends held before now circuit stimulus mode power later middle (stimulus_error.Fetch fetch_error.Failed) loaded same grew h =
+    second_failed held before now circuit stimulus [] loaded (rose_before (before stimulus) middle (now stimulus) grew h)
+stimulus_ends held before now circuit stimulus mode power later middle (stimulus_error.Fetch fetch_error.TooLong) loaded same grew h = (loaded, subst (λ (o : Option (List ℕ)). IfSome o IsTooLong) same h)
+stimulus_ends held before now circuit stimulus mode power later middle (stimulus_error.Fetch fetch_error.NoMemory) loaded same grew h = tt
+stimulus_ends held before now circuit stimulus mode power later middle (stimulus_error.Read (stim_error.BadHeader line)) loaded same grew h = (loaded, subst (λ (o : Option (List ℕ)). IfSome o (λ y. HasBadHeader y line)) same h)
+stimulus_ends held before now circuit stimulus mode power later middle (stimulus_error.Read (stim_error.BadRow line)) loaded same grew h = (loaded, subst (λ (o : Option (List ℕ)). IfSome o (λ y. HasBadRow y line)) same h)
+stimulus_ends held before now circuit stimulus mode power later middle (stimulus_error.Read stim_error.NoMemory) loaded same grew h = tt

@@ -1,5 +1,5 @@
 -- What is true where a run ends as it does.
-use Rattle.std.specs.Prelude.{◌≡◌, ◌≢◌, ◌⊎◌, ℕ, Bool, true, List, [], ◌∷◌, Option, Some, None, Ok, Err, IfSome, IsSomeAnd, Contains}
+use Rattle.std.specs.Prelude.{◌≡◌, ◌≢◌, ℕ, Bool, true, List, [], ◌∷◌, Option, Some, None, Ok, Err, IfSome, IsSomeAnd, Contains}
 use Rattle.std.specs.List.{filter_map}
 use Rattle.circuit_theory.specs.declared.Mode.{Mode}
 use Rattle.circuit_theory.specs.declared.Mode.TheVariants.{Plain, Event}
@@ -8,7 +8,7 @@ use Rattle.circuit_theory.specs.declared.Side.TheVariants.{A, B}
 use Rattle.circuit_theory.specs.Circuit.{Circuit}
 use Rattle.circuit_theory.specs.Agree.{Agree, IsMinimalCut}
 use Rattle.circuit_theory.specs.Interface.{AreNumbersOf}
-use Rattle.sec_base.specs.Outside.{Rose, Takes, TakesFront}
+use Rattle.sec_base.specs.Outside.{Takes, TakesFront}
 use Rattle.blif_read.specs.Design.{Place}
 use Rattle.flat_net.specs.View.{NetView, circuit_of, ports_of}
 use Rattle.pair_decide.specs.declared.query.Proof.{Proof}
@@ -39,9 +39,9 @@ use Rattle.sec_run.specs.declared.finding.Finding.TheVariants as finding
 use Rattle.sec_run.specs.declared.status.Status.{Status}
 use Rattle.sec_run.specs.declared.status.StatusName.{StatusName}
 use Rattle.sec_run.specs.declared.status.StatusName.TheVariants as status
-use Rattle.sec_run.specs.Job.{Check, Graph, Sim, check_of, graph_of, sim_of, OfCheck, OfGraph, OfSim}
+use Rattle.sec_run.specs.Job.{Check, WhereBuilt}
 use Rattle.sec_run.specs.Lines.{finding_text}
-use Rattle.sec_run.specs.Reports.{IsLoaded, IsGraphFound, IsSimFound, TakesGraph, TakesRun, TakesLimit, CanBeTold, CanBeRun}
+use Rattle.sec_run.specs.Reports.{IsGraphFound, IsSimFound}
 
 -- the bytes that are held at a path, where they are told
 abbrev pub Held : Type 0
@@ -83,16 +83,15 @@ IsFoundOf held check (finding.Checked o settings) = (settings ≡ check.settings
 IsFoundOf held check (finding.Done report) = ⊥
 IsFoundOf held check (finding.Undecided name proof) = ⊥
 
--- what is said of what a job asks for, where that is built; else the job is refused
-abbrev pub WhereBuilt : {X : Type 0} → Finding → Option X → (X → Type 0) → Type 0
-WhereBuilt f None P = f ≡ finding.Refused refusal.NotBuilt
-WhereBuilt f (Some x) P = P x
+-- what is found of a comparison: what is true of its files, or, where it isn't built, that
+abbrev pub IsCheckFound : Held → Check → Finding → Type 0
+IsCheckFound held check f = WhereBuilt check.settings.mode (IsFoundOf held check f) (f ≡ finding.Refused refusal.NotBuilt)
 
 -- what is true of a job where this is found
 abbrev pub IsFoundOfJob : Held → Task → Finding → Type 0
-IsFoundOfJob held (task.Check a b settings) f = WhereBuilt f (check_of (task.Check a b settings)) (λ check. IsFoundOf held check f)
-IsFoundOfJob held (task.Graph a mode) f = WhereBuilt f (graph_of (task.Graph a mode)) (λ graph. IsGraphFound graph.mode (held graph.circuit) f)
-IsFoundOfJob held (task.Sim a s mode power) f = WhereBuilt f (sim_of (task.Sim a s mode power)) (λ sim. IsSimFound sim.mode (held sim.circuit) (held sim.stimulus) sim.power f)
+IsFoundOfJob held (task.Check a b settings) f = IsCheckFound held (record { left = a; right = b; settings = settings }) f
+IsFoundOfJob held (task.Graph a mode) f = IsGraphFound mode (held a) f
+IsFoundOfJob held (task.Sim a s mode power) f = IsSimFound mode (held a) (held s) power f
 IsFoundOfJob held (task.Replay a b s mode) f = f ≡ finding.Refused refusal.NotBuilt
 IsFoundOfJob held (task.Gen seed regroup conflicts) f = f ≡ finding.Refused refusal.NotBuilt
 
@@ -127,22 +126,6 @@ proofs_of (finding.Unpaired side names) = []
 proofs_of (finding.Checked o settings) = filter_map (λ (r : PairResult). r.proof) o.pairs
 proofs_of (finding.Done report) = []
 proofs_of (finding.Undecided name proof) = proof ∷ []
-
--- a read of A's path failed, or, where A loads, a read of B's
-abbrev pub ReadFailed : Held → (List ℕ → ℕ) → (List ℕ → ℕ) → Check → Type 0
-ReadFailed held before now check =
-    Rose (before check.left) (now check.left)
-    ⊎ (Rose (before check.right) (now check.right) × IfSome (held check.left) (λ x. (net : NetView) × Loads x net))
-
--- a read of the circuit's path failed, or, where it loads, a read of the stimulus's
-abbrev pub SimReadFailed : Held → (List ℕ → ℕ) → (List ℕ → ℕ) → Sim → Type 0
-SimReadFailed held before now sim =
-    Rose (before sim.circuit) (now sim.circuit) ⊎ (Rose (before sim.stimulus) (now sim.stimulus) × IsLoaded (held sim.circuit))
-
--- a read of a path of the job failed, and all that comes before it had gone through
-abbrev pub JobReadFailed : Held → (List ℕ → ℕ) → (List ℕ → ℕ) → Option Task → Type 0
-JobReadFailed held before now job =
-    OfCheck job (ReadFailed held before now) ⊎ (OfGraph job (λ graph. Rose (before graph.circuit) (now graph.circuit)) ⊎ OfSim job (SimReadFailed held before now))
 
 -- With a finding its whole report is taken, and the status has its proofs; at a write fault a front of the report; else nothing.
 abbrev pub EndsAs : Option (List ℕ) → Option (List ℕ) → Held → Option Task → List Proof → StatusName → Type 0
@@ -244,25 +227,6 @@ pub record AreComparable (x y : List ℕ) (expose : Bool) : Type 0 where
 -- both texts are told and can be compared
 abbrev pub CanAnswer : Held → Check → Type 0
 CanAnswer held check = IsSomeAnd (held check.left) (λ x. IsSomeAnd (held check.right) (λ y. AreComparable x y check.settings.expose))
-
--- the job reports on one circuit, and its whole report is taken
-abbrev pub TakesReport : Option (List ℕ) → Option (List ℕ) → Held → Option Task → Type 0
-TakesReport before now held job =
-    OfGraph job (λ graph. TakesGraph graph.mode (held graph.circuit) before now) ⊎ OfSim job (λ sim. TakesRun sim.mode (held sim.circuit) (held sim.stimulus) sim.power before now)
-
--- A query has met the limit: that of the pair that the report names, or that of the latch, where the job reports on one circuit.
-abbrev pub TakesLimitOf : Option (List ℕ) → Option (List ℕ) → Held → Option Task → List Proof → Type 0
-TakesLimitOf before now held job proofs =
-    OfCheck job (λ check. OfTexts held check (λ x y. TextsUndecided x y check.settings proofs before now))
-    ⊎ (OfGraph job (λ graph. TakesLimit graph.mode (held graph.circuit) proofs before now) ⊎ OfSim job (λ sim. TakesLimit sim.mode (held sim.circuit) proofs before now))
-
--- the text is told, and the circuit can be reported on
-abbrev pub CanTell : Held → Graph → Type 0
-CanTell held graph = IsSomeAnd (held graph.circuit) (CanBeTold graph.mode)
-
--- both texts are told, and the circuit can be run over the stimulus from the power word
-abbrev pub CanSimulate : Held → Sim → Type 0
-CanSimulate held sim = IsSomeAnd (held sim.circuit) (λ x. IsSomeAnd (held sim.stimulus) (λ y. CanBeRun sim.mode x y sim.power))
 
 -- the report on one circuit is done, or want of memory; in the event mode also a query has met the limit
 abbrev pub IsReported : Mode → StatusName → Type 0

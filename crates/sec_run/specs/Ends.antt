@@ -1,18 +1,22 @@
 -- How the parts of a run end.
-use Rattle.std.specs.Prelude.{◌≡◌, ℕ, List, [], Option, Result, Ok, Err}
+use Rattle.std.specs.Prelude.{◌≡◌, ◌⊎◌, ℕ, List, [], ◌∷◌, Option, Result, Ok, Err, IfSome}
+use Rattle.circuit_theory.specs.declared.Mode.{Mode}
 use Rattle.circuit_theory.specs.declared.Side.{Side}
-use Rattle.circuit_theory.specs.declared.Side.TheVariants.{A}
+use Rattle.circuit_theory.specs.declared.Side.TheVariants.{A, B}
 use Rattle.sec_base.specs.declared.fetching.FetchError.TheVariants as fetch_error
 use Rattle.sec_base.specs.Outside.{Takes, TakesFront}
 use Rattle.blif_read.specs.declared.error.ReadError.TheVariants as read_error
 use Rattle.flat_walk.specs.declared.error.FlatError.{FlatError}
 use Rattle.flat_walk.specs.declared.error.FlatError.TheVariants as flat_error
+use Rattle.flat_net.specs.View.{NetView}
 use Rattle.pair_decide.specs.declared.query.Proof.{Proof}
 use Rattle.sec_base.specs.declared.settings.Settings.{Settings}
 use Rattle.sec_words.specs.declared.task.Task.{Task}
 use Rattle.sec_outcome.specs.declared.outcome.Outcome.{Outcome}
 use Rattle.sec_check.specs.declared.error.CompareError.{CompareError}
 use Rattle.sec_check.specs.declared.error.CompareError.TheVariants as compare_error
+use Rattle.sec_check.specs.Compared.{Compared}
+use Rattle.sec_files.specs.Loading.{Loads, LoadFails}
 use Rattle.sec_files.specs.declared.loading.LoadError.{LoadError}
 use Rattle.sec_files.specs.declared.loading.LoadError.TheVariants as load_error
 use Rattle.witness_report.specs.declared.error.StimError.TheVariants as stim_error
@@ -30,8 +34,10 @@ use Rattle.sec_run.specs.declared.finding.Stop.TheVariants as stop
 use Rattle.sec_run.specs.declared.status.Status.{Status}
 use Rattle.sec_run.specs.declared.status.StatusName.{StatusName}
 use Rattle.sec_run.specs.declared.status.StatusName.TheVariants as status
-use Rattle.sec_run.specs.Answer.{Held, IsFinding, IsFoundOf, ReadFailed, JobReadFailed, proofs_of, status_of}
-use Rattle.sec_run.specs.Job.{Check}
+use Rattle.sec_run.specs.Answer.{Held, IsFoundOf, IsCheckFound, IsFoundOfJob, proofs_of, status_of}
+use Rattle.sec_run.specs.Job.{Check, where_built, paths_of}
+use Rattle.sec_run.specs.Promises.{ReadFailed}
+use Rattle.sec_run.specs.Reports.{IsGraphFound, IsSimFound}
 use Rattle.sec_run.specs.Lines.{finding_text}
 
 -- what is found where the design of a side isn't flattened
@@ -91,17 +97,32 @@ EndsBy P failed (Ok f) = P f
 EndsBy P failed (Err stop.ReadFault) = failed
 EndsBy P failed (Err stop.NoMemory) = Unit {0}
 
--- the work on two files ends with a finding that is right, or by a read that failed, or at want of memory
+-- the work on two files that are compared ends with a finding that is right, or by a read that failed, or at want of memory
 abbrev pub FoundOf : Held → (List ℕ → ℕ) → (List ℕ → ℕ) → Check → Result Finding Stop → Type 0
-FoundOf held before now check (Ok f) = IsFoundOf held check f
-FoundOf held before now check (Err stop.ReadFault) = ReadFailed held before now check
-FoundOf held before now check (Err stop.NoMemory) = Unit {0}
+FoundOf held before now check r = EndsBy (IsFoundOf held check) (ReadFailed held before now (check.left ∷ check.right ∷ [])) r
 
--- the same of a job
-abbrev pub Found : Held → (List ℕ → ℕ) → (List ℕ → ℕ) → Option Task → Result Finding Stop → Type 0
-Found held before now job (Ok f) = IsFinding held job f
-Found held before now job (Err stop.ReadFault) = JobReadFailed held before now job
-Found held before now job (Err stop.NoMemory) = Unit {0}
+-- so it is where the comparison may not be built
+abbrev pub CheckFound : Held → (List ℕ → ℕ) → (List ℕ → ℕ) → Check → Result Finding Stop → Type 0
+CheckFound held before now check r = EndsBy (IsCheckFound held check) (ReadFailed held before now (where_built check.settings.mode (check.left ∷ check.right ∷ []))) r
+
+-- How the work on B's file ends beside A's net: B isn't loaded, by what is held of it and whether a read of it failed; or both are
+-- compared.
+abbrev pub EndsBeside : Option (List ℕ) → Type 0 → NetView → Settings → Result Finding Stop → Type 0
+EndsBeside text rose a settings r =
+    ((error : LoadError) × LoadFails text rose error × (r ≡ load_end B error))
+    ⊎ ((b : NetView) × (compared : Result Outcome CompareError) × IfSome text (λ y. Loads y b) × Compared a b settings compared × (r ≡ compare_end settings compared))
+
+-- the work on a latch graph ends with a finding that is right, or by a read that failed, or at want of memory
+abbrev pub GraphFound : Held → (List ℕ → ℕ) → (List ℕ → ℕ) → List ℕ → Mode → Result Finding Stop → Type 0
+GraphFound held before now circuit mode r = EndsBy (IsGraphFound mode (held circuit)) (ReadFailed held before now (circuit ∷ [])) r
+
+-- the same of a simulation
+abbrev pub SimFound : Held → (List ℕ → ℕ) → (List ℕ → ℕ) → List ℕ → List ℕ → Mode → Option (List ℕ) → Result Finding Stop → Type 0
+SimFound held before now circuit stimulus mode power r = EndsBy (IsSimFound mode (held circuit) (held stimulus) power) (ReadFailed held before now (circuit ∷ stimulus ∷ [])) r
+
+-- the same of any job
+abbrev pub Found : Held → (List ℕ → ℕ) → (List ℕ → ℕ) → Task → Result Finding Stop → Type 0
+Found held before now job r = EndsBy (IsFoundOfJob held job) (ReadFailed held before now (paths_of job)) r
 
 -- The report of a finding is taken whole, with the finding's status; or a front of it at a write fault; or nothing at want of memory.
 abbrev pub IsWrittenAs : Option (List ℕ) → Option (List ℕ) → Finding → List Proof → StatusName → Type 0

@@ -1,5 +1,5 @@
 -- What is true where a report on one circuit ends as it does. A text is given where it is told.
-use Rattle.std.specs.Prelude.{◌≡◌, ℕ, Bool, List, [], ◌∷◌, Option, Some, None, IfSome}
+use Rattle.std.specs.Prelude.{◌≡◌, ℕ, Bool, List, [], ◌∷◌, Option, Some, None, IfSome, IsSomeAnd}
 use Rattle.circuit_theory.specs.declared.Mode.{Mode}
 use Rattle.circuit_theory.specs.declared.Side.TheVariants.{A}
 use Rattle.sec_base.specs.Outside.{Takes}
@@ -133,3 +133,11 @@ pub record CanBeRun (mode : Mode) (x y : List ℕ) (power : Option (List ℕ)) :
   pub stimulus : IsStimulus y names rows
   pub fits : (net : NetView) → Loads x net → first_misfit net names power ≡ None
   pub light : (net : NetView) → Loads x net → AreLightIn mode net
+
+-- the text is told, and the circuit can be reported on
+abbrev pub CanTell : Mode → Option (List ℕ) → Type 0
+CanTell mode circuit = IsSomeAnd circuit (CanBeTold mode)
+
+-- both texts are told, and the circuit can be run over the stimulus from the power word
+abbrev pub CanSimulate : Mode → Option (List ℕ) → Option (List ℕ) → Option (List ℕ) → Type 0
+CanSimulate mode circuit stimulus power = IsSomeAnd circuit (λ x. IsSomeAnd stimulus (λ y. CanBeRun mode x y power))

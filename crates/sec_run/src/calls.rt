@@ -1,100 +1,65 @@
 //! The top call.
 
-ghost use Rattle.std.specs.Prelude.{◌≡◌, ◌≢◌, ◌≤◌, ℕ, List, [], ◌∷◌, Ok, IsErrOf, IsSomeAnd, IfOk, OnOk, map, string_bytes, Option, None, Some, option_and_then, option_to_list, ◌++◌};
-ghost use Rattle.std.specs.List.{filter_map};
-ghost use Rattle.circuit_theory.specs.declared.Mode.TheVariants.{Plain};
-ghost use Rattle.sec_base.specs.Outside.{Rose, SameHeld, NoneFell};
+ghost use Rattle.std.specs.Prelude.{◌≡◌, ◌≢◌, [], ◌∷◌, Ok, IsErrOf, IfOk, OnOk, map, string_bytes, option_map, Some, option_to_list, ◌++◌};
+ghost use Rattle.std.specs.List.{All, filter_map};
+ghost use Rattle.sec_base.specs.Outside.{Rose, SameHeld};
 ghost use Rattle.sec_words.specs.Jobs.{job_of};
 ghost use Rattle.sec_outcome.specs.Report.{report_text};
-ghost use Rattle.sec_run.specs.Job.{check_of, graph_of, sim_of, Check, HasFewConflicts, OfCheck, OfGraph, OfSim, IfGraph, IfSim};
-ghost use Rattle.sec_run.specs.Answer.{IsFinding, IsTaken, JobReadFailed, OfTexts, TextsAgree, TextsDiffer, TextsNotShown, TakesLimitOf, TakesReport, CanAnswer, CanTell, CanSimulate, IsAnswer, IsReported, status_of, proofs_of};
-ghost use Rattle.sec_run.specs.Ends.{compare_end, FoundOf, Found, IsWritten};
+ghost use Rattle.sec_run.specs.Job.{paths_of, paths_in, HasFewConflicts};
+ghost use Rattle.sec_run.specs.Answer.{IsFinding, IsTaken, status_of, proofs_of};
+ghost use Rattle.sec_run.specs.Ends.{Found, IsWritten};
 ghost use Rattle.sec_run.specs.Lines.{finding_text, undecided_text};
+ghost use Rattle.sec_run.specs.Promises.{ReadFailed, Means, IsComplete};
 
-use crate::comparison::{Comparison, comparison_of};
-use crate::finding::{Finding, Refusal, Stop, load_end};
-use crate::reports::{graph_of, simulate, simulation_of, tell_graph};
+use crate::comparison::{Comparison, check};
+use crate::finding::{Finding, Refusal, Stop};
+use crate::reports::{Simulation, simulate, tell_graph};
 use crate::status::{Proofs, Status, StatusName};
 use crate::writing::{cycle_report, refusal_report, undecided_text, unpaired_report, words_report};
 use pair_decide::Proof;
-use sec_base::{NoMemory, Shelf, Side, Sink, Text, Word};
-use sec_check::{
-    CompareError, Outcome, PairResult, PairResults, Settings, Verdict, compare, report,
-};
-use sec_files::load;
+use sec_base::{NoMemory, Shelf, Sink, Text, Word};
+use sec_check::{Outcome, PairResult, PairResults, Settings, Verdict, report};
 use sec_words::{Task, WordsError, job};
 use std::alloc::Global;
-
-/// What is found by a comparison.
-fn compare_end(settings: Settings, compared: Result<Outcome, CompareError>) -> Result<Finding, Stop>
-    ensures { result ≡ compare_end settings compared }
-{
-    match compared {
-        Ok(outcome) => Ok(Finding::Checked(outcome, settings)),
-        Err(CompareError::Interface(name)) => Ok(Finding::Refused(Refusal::Interface(name))),
-        Err(CompareError::Cyclic(side, names)) => Ok(Finding::Cyclic(side, names)),
-        Err(CompareError::Unpaired(side, names)) => Ok(Finding::Unpaired(side, names)),
-        Err(CompareError::TooLarge(side)) => Ok(Finding::Refused(Refusal::TooLarge(side))),
-        Err(CompareError::NoMemory) => Err(Stop::NoMemory),
-    }
-}
-
-/// Loads both circuits, A first, and compares them.
-fn check<S: Shelf>(
-    alloc: Global,
-    comparison: &Comparison<'_>,
-    shelf: &mut S,
-) -> Result<Finding, Stop>
-    requires plain { comparison.now.settings.mode ≡ Plain }
-    requires conflicts { comparison.now.settings.conflicts ≤ 200000 }
-    ensures found { let check : Check = record { left = comparison.now.left.now; right = comparison.now.right.now; settings = comparison.now.settings } in
-        FoundOf (S.held shelf.old) (S.faults shelf.old) (S.faults shelf.new) check result }
-    ensures keeps { SameHeld (S.held shelf.old) (S.held shelf.new) }
-    ensures served { S.serves shelf.old comparison.now.left.now → S.serves shelf.old comparison.now.right.now → IsErrOf result Stop.ReadFault → ⊥ }
-{
-    let a = match load(alloc, shelf, comparison.left) {
-        Ok(net) => net,
-        Err(error) => return load_end(Side::A, error),
-    };
-    let b = match load(alloc, shelf, comparison.right) {
-        Ok(net) => net,
-        Err(error) => return load_end(Side::B, error),
-    };
-    let compared = compare(alloc, &a, &b, &comparison.settings);
-    compare_end(comparison.settings, compared)
-}
 
 /// Finds what the job asks for.
 fn find<S: Shelf>(alloc: Global, task: &Task, shelf: &mut S) -> Result<Finding, Stop>
     requires { HasFewConflicts task.now }
-    ensures found { Found (S.held shelf.old) (S.faults shelf.old) (S.faults shelf.new) (Some task.now) result }
+    ensures found { Found (S.held shelf.old) (S.faults shelf.old) (S.faults shelf.new) task.now result }
     ensures keeps { SameHeld (S.held shelf.old) (S.held shelf.new) }
-    ensures served { OfCheck (Some task.now) (λ check. S.serves shelf.old check.left × S.serves shelf.old check.right) → IsErrOf result Stop.ReadFault → ⊥ }
-    ensures served_graph { OfGraph (Some task.now) (λ graph. S.serves shelf.old graph.circuit) → IsErrOf result Stop.ReadFault → ⊥ }
-    ensures served_sim { OfSim (Some task.now) (λ sim. S.serves shelf.old sim.circuit × S.serves shelf.old sim.stimulus) → IsErrOf result Stop.ReadFault → ⊥ }
-    ensures idle { check_of task.now ≡ None → graph_of task.now ≡ None → sim_of task.now ≡ None → shelf.new ≡ shelf.old }
+    ensures served { All (S.serves shelf.old) (paths_of task.now) → IsErrOf result Stop.ReadFault → ⊥ }
+    ensures idle { paths_of task.now ≡ [] → shelf.new ≡ shelf.old }
 {
-    match comparison_of(task) {
-        Some(comparison) => check(alloc, &comparison, shelf),
-        None => find_report(alloc, task, shelf),
+    match task {
+        Task::Check { a, b, settings } => {
+            let comparison = Comparison {
+                left: a.as_str(),
+                right: b.as_str(),
+                settings: *settings,
+            };
+            check(alloc, &comparison, shelf)
+        }
+        Task::Graph { a, mode } => tell_graph(alloc, a.as_str(), *mode, shelf),
+        Task::Sim { a, s, mode, power } => {
+            let simulation = Simulation {
+                circuit: a.as_str(),
+                stimulus: s.as_str(),
+                mode: *mode,
+                power: digits_of(power),
+            };
+            simulate(alloc, &simulation, shelf)
+        }
+        Task::Replay { .. } | Task::Gen { .. } => Ok(Finding::Refused(Refusal::NotBuilt)),
     }
 }
 
-/// Finds what a job asks for that compares nothing.
-fn find_report<S: Shelf>(alloc: Global, task: &Task, shelf: &mut S) -> Result<Finding, Stop>
-    requires { check_of task.now ≡ None }
-    ensures found { Found (S.held shelf.old) (S.faults shelf.old) (S.faults shelf.new) (Some task.now) result }
-    ensures keeps { SameHeld (S.held shelf.old) (S.held shelf.new) }
-    ensures served_graph { OfGraph (Some task.now) (λ graph. S.serves shelf.old graph.circuit) → IsErrOf result Stop.ReadFault → ⊥ }
-    ensures served_sim { OfSim (Some task.now) (λ sim. S.serves shelf.old sim.circuit × S.serves shelf.old sim.stimulus) → IsErrOf result Stop.ReadFault → ⊥ }
-    ensures idle { graph_of task.now ≡ None → sim_of task.now ≡ None → shelf.new ≡ shelf.old }
+/// The digits of the power word.
+fn digits_of(power: &Option<Word>) -> Option<&[u8]>
+    ensures { option_map (λ digits. digits.now) result ≡ power.now }
 {
-    if let Some(graph) = graph_of(task) {
-        return tell_graph(alloc, &graph, shelf);
-    }
-    match simulation_of(task) {
-        Some(simulation) => simulate(alloc, &simulation, shelf),
-        None => Ok(Finding::Refused(Refusal::NotBuilt)),
+    match power {
+        Some(word) => Some(word.as_slice()),
+        None => None,
     }
 }
 
@@ -232,27 +197,16 @@ fn finish<W: Sink>(alloc: Global, finding: Finding, out: &mut W) -> Status
 pub fn run_job<S: Shelf, W: Sink>(alloc: Global, task: &Task, shelf: &mut S, out: &mut W) -> Status
     requires { HasFewConflicts task.now }
     ensures taken { IsTaken (W.taken out.old) (W.taken out.new) (S.held shelf.old) (Some task.now) result }
-    ensures equal { result.name ≡ StatusName.Equal → OfCheck (Some task.now) (λ check.
-        OfTexts (S.held shelf.old) check (λ x y. TextsAgree x y check.settings.conflicts (W.taken out.old) (W.taken out.new))) }
-    ensures different { result.name ≡ StatusName.Different → OfCheck (Some task.now) (λ check.
-        OfTexts (S.held shelf.old) check (λ x y. TextsDiffer x y check.settings.conflicts (W.taken out.old) (W.taken out.new))) }
-    ensures not_shown { result.name ≡ StatusName.NotShown → OfCheck (Some task.now) (λ check.
-        OfTexts (S.held shelf.old) check (λ x y. TextsNotShown x y check.settings (W.taken out.old) (W.taken out.new))) }
-    ensures limit { result.name ≡ StatusName.Limit → TakesLimitOf (W.taken out.old) (W.taken out.new) (S.held shelf.old) (Some task.now) result.proofs }
-    ensures done { result.name ≡ StatusName.Done → TakesReport (W.taken out.old) (W.taken out.new) (S.held shelf.old) (Some task.now) }
-    ensures read_fault { result.name ≡ StatusName.ReadFault → JobReadFailed (S.held shelf.old) (S.faults shelf.old) (S.faults shelf.new) (Some task.now) }
+    // What the status says of what is held.
+    ensures means { Means (S.held shelf.old) (Some task.now) (W.taken out.old) (W.taken out.new) result.proofs result.name }
+    ensures read_fault { result.name ≡ StatusName.ReadFault → ReadFailed (S.held shelf.old) (S.faults shelf.old) (S.faults shelf.new) (paths_of task.now) }
     ensures write_fault { result.name ≡ StatusName.WriteFault → Rose (W.faults out.old) (W.faults out.new) }
-    // Where no read and no write fails, two texts that can be compared are answered.
-    ensures complete { OfCheck (Some task.now) (CanAnswer (S.held shelf.old)) → result.name ≢ StatusName.ReadFault → result.name ≢ StatusName.WriteFault → IsAnswer result.name }
-    // So is a circuit that can be told or run.
-    ensures complete_graph { IfGraph (Some task.now) (λ graph. CanTell (S.held shelf.old) graph → result.name ≢ StatusName.ReadFault → result.name ≢ StatusName.WriteFault → IsReported graph.mode result.name) }
-    ensures complete_sim { IfSim (Some task.now) (λ sim. CanSimulate (S.held shelf.old) sim → result.name ≢ StatusName.ReadFault → result.name ≢ StatusName.WriteFault → IsReported sim.mode result.name) }
-    ensures served { OfCheck (Some task.now) (λ check. S.serves shelf.old check.left × S.serves shelf.old check.right) → result.name ≢ StatusName.ReadFault }
-    ensures served_graph { OfGraph (Some task.now) (λ graph. S.serves shelf.old graph.circuit) → result.name ≢ StatusName.ReadFault }
-    ensures served_sim { OfSim (Some task.now) (λ sim. S.serves shelf.old sim.circuit × S.serves shelf.old sim.stimulus) → result.name ≢ StatusName.ReadFault }
+    // Where no read and no write fails, what can be done is done.
+    ensures complete { result.name ≢ StatusName.ReadFault → result.name ≢ StatusName.WriteFault → IsComplete (S.held shelf.old) (Some task.now) result.name }
+    ensures served { All (S.serves shelf.old) (paths_of task.now) → result.name ≢ StatusName.ReadFault }
     ensures accepted { ((f : Finding) → IsFinding (S.held shelf.old) (Some task.now) f → W.accepts out.old (finding_text f)) → result.name ≢ StatusName.WriteFault }
     ensures keeps { SameHeld (S.held shelf.old) (S.held shelf.new) }
-    ensures idle { check_of task.now ≡ None → graph_of task.now ≡ None → sim_of task.now ≡ None → shelf.new ≡ shelf.old }
+    ensures idle { paths_of task.now ≡ [] → shelf.new ≡ shelf.old }
 {
     match find(alloc, task, shelf) {
         Ok(finding) => finish(alloc, finding, out),
@@ -265,28 +219,16 @@ pub fn run_job<S: Shelf, W: Sink>(alloc: Global, task: &Task, shelf: &mut S, out
 /// no job; all else is as `run_job` says.
 pub fn run<S: Shelf, W: Sink>(alloc: Global, words: &[String], shelf: &mut S, out: &mut W) -> Status
     ensures taken { IsTaken (W.taken out.old) (W.taken out.new) (S.held shelf.old) (job_of (map (λ w. string_bytes w) words.now)) result }
-    ensures equal { result.name ≡ StatusName.Equal → OfCheck (job_of (map (λ w. string_bytes w) words.now)) (λ check.
-        OfTexts (S.held shelf.old) check (λ x y. TextsAgree x y check.settings.conflicts (W.taken out.old) (W.taken out.new))) }
-    ensures different { result.name ≡ StatusName.Different → OfCheck (job_of (map (λ w. string_bytes w) words.now)) (λ check.
-        OfTexts (S.held shelf.old) check (λ x y. TextsDiffer x y check.settings.conflicts (W.taken out.old) (W.taken out.new))) }
-    ensures not_shown { result.name ≡ StatusName.NotShown → OfCheck (job_of (map (λ w. string_bytes w) words.now)) (λ check.
-        OfTexts (S.held shelf.old) check (λ x y. TextsNotShown x y check.settings (W.taken out.old) (W.taken out.new))) }
-    ensures limit { result.name ≡ StatusName.Limit → TakesLimitOf (W.taken out.old) (W.taken out.new) (S.held shelf.old) (job_of (map (λ w. string_bytes w) words.now)) result.proofs }
-    ensures done { result.name ≡ StatusName.Done → TakesReport (W.taken out.old) (W.taken out.new) (S.held shelf.old) (job_of (map (λ w. string_bytes w) words.now)) }
-    ensures read_fault { result.name ≡ StatusName.ReadFault → JobReadFailed (S.held shelf.old) (S.faults shelf.old) (S.faults shelf.new) (job_of (map (λ w. string_bytes w) words.now)) }
+    // What the status says of what is held.
+    ensures means { Means (S.held shelf.old) (job_of (map (λ w. string_bytes w) words.now)) (W.taken out.old) (W.taken out.new) result.proofs result.name }
+    ensures read_fault { result.name ≡ StatusName.ReadFault → ReadFailed (S.held shelf.old) (S.faults shelf.old) (S.faults shelf.new) (paths_in (job_of (map (λ w. string_bytes w) words.now))) }
     ensures write_fault { result.name ≡ StatusName.WriteFault → Rose (W.faults out.old) (W.faults out.new) }
-    // Where no read and no write fails, two texts that can be compared are answered.
-    ensures complete { OfCheck (job_of (map (λ w. string_bytes w) words.now)) (CanAnswer (S.held shelf.old)) → result.name ≢ StatusName.ReadFault → result.name ≢ StatusName.WriteFault → IsAnswer result.name }
-    // So is a circuit that can be told or run.
-    ensures complete_graph { IfGraph (job_of (map (λ w. string_bytes w) words.now)) (λ graph. CanTell (S.held shelf.old) graph → result.name ≢ StatusName.ReadFault → result.name ≢ StatusName.WriteFault → IsReported graph.mode result.name) }
-    ensures complete_sim { IfSim (job_of (map (λ w. string_bytes w) words.now)) (λ sim. CanSimulate (S.held shelf.old) sim → result.name ≢ StatusName.ReadFault → result.name ≢ StatusName.WriteFault → IsReported sim.mode result.name) }
-    ensures served { OfCheck (job_of (map (λ w. string_bytes w) words.now)) (λ check. S.serves shelf.old check.left × S.serves shelf.old check.right) → result.name ≢ StatusName.ReadFault }
-    ensures served_graph { OfGraph (job_of (map (λ w. string_bytes w) words.now)) (λ graph. S.serves shelf.old graph.circuit) → result.name ≢ StatusName.ReadFault }
-    ensures served_sim { OfSim (job_of (map (λ w. string_bytes w) words.now)) (λ sim. S.serves shelf.old sim.circuit × S.serves shelf.old sim.stimulus) → result.name ≢ StatusName.ReadFault }
+    // Where no read and no write fails, what can be done is done.
+    ensures complete { result.name ≢ StatusName.ReadFault → result.name ≢ StatusName.WriteFault → IsComplete (S.held shelf.old) (job_of (map (λ w. string_bytes w) words.now)) result.name }
+    ensures served { All (S.serves shelf.old) (paths_in (job_of (map (λ w. string_bytes w) words.now))) → result.name ≢ StatusName.ReadFault }
     ensures accepted { ((f : Finding) → IsFinding (S.held shelf.old) (job_of (map (λ w. string_bytes w) words.now)) f → W.accepts out.old (finding_text f)) → result.name ≢ StatusName.WriteFault }
     ensures keeps { SameHeld (S.held shelf.old) (S.held shelf.new) }
-    ensures idle { option_and_then check_of (job_of (map (λ w. string_bytes w) words.now)) ≡ None → option_and_then graph_of (job_of (map (λ w. string_bytes w) words.now)) ≡ None
-        → option_and_then sim_of (job_of (map (λ w. string_bytes w) words.now)) ≡ None → shelf.new ≡ shelf.old }
+    ensures idle { paths_in (job_of (map (λ w. string_bytes w) words.now)) ≡ [] → shelf.new ≡ shelf.old }
 {
     match job(alloc, words) {
         Ok(task) => run_job(alloc, &task, shelf, out),
