@@ -21,13 +21,14 @@ use Rattle.net_alike.proofs.Cutting.{filter_in, kept_moved, firsts, seconds, row
 use Rattle.flatten.specs.DesignFaults.{IsClocked}
 use Rattle.flatten.proofs.OneNets.{single_driven}
 use Rattle.design_laws.specs.Laws.{ClosedCutsBound}
+use Rattle.design_laws.proofs.FlatParts.{FlatDesign}
 
 module _ {P : Type 0} (names : List (List ℕ)) (d : Circuit P) (net : Circuit ℕ) (size : ℕ) (clocked : P → Type 0) (o : ℕ → P) (s : P → ℕ) (flat : IsFlatCircuit d net size clocked o s) where
   abbrev kept : Equation P → Bool
   kept e = is_kept names e
 
   -- ports stay
-  follows : {p q : P} → Follows d p q → Follows (cut names d) p q
+  pub follows : {p q : P} → Follows d p q → Follows (cut names d) p q
   unfolding cut
   follows Follows.here = Follows.here
   follows (Follows.there {p = p} {from = from} h rest) = Follows.there (filter_in kept d.equations (Port p from) h refl) (follows rest)
@@ -101,6 +102,16 @@ module _ {P : Type 0} (names : List (List ℕ)) (d : Circuit P) (net : Circuit �
     started = flat.started;
     placed = λ p h free. signal_of p (flat.placed p (place_uncut names d p h) free);
   }
+
+-- the flat circuit of a design is cut as the design is
+abbrev pub cut_design : {P : Type 0} {d : Circuit P} {net : Circuit ℕ} {clocked : P → Type 0} (names : List (List ℕ)) → FlatDesign d net clocked → FlatDesign (cut names d) (cut names net) clocked
+cut_design {P} {d} {net} {clocked} names f = record {
+  size = f.size;
+  origin = f.origin;
+  signal = f.signal;
+  single = cut_single names d f.single;
+  circuit = cut_flat names d net f.size clocked f.origin f.signal f.circuit;
+}
 
 pub closed_cuts_bound : ClosedCutsBound
 closed_cuts_bound models net names spots f closed cap over =

@@ -2,3 +2,4 @@ pub mod Places
 pub mod Tested
 pub mod Examples
 pub mod Toggle
+pub mod Nested

@@ -74,3 +74,24 @@ hier = record {
   clocks = [];
   statements = Names 10 (codes "u" ∷ codes "v" ∷ []) (codes "w") and_cover ∷ [];
 } ∷ []
+
+-- one of two inputs, but not both
+abbrev pub xor_cover : Cover
+xor_cover = record { width = 2; rows = codes "10" ∷ codes "01" ∷ []; on = true }
+
+-- a latch inside of an instance, which turns where the input is 1, and a latch behind the instance
+abbrev pub nested : List BlifModel
+nested = record {
+  name = codes "top";
+  inputs = codes "a" ∷ [];
+  outputs = codes "y" ∷ [];
+  clocks = [];
+  statements = Subckt 4 (codes "cell") (record { formal = codes "i"; actual = codes "a" } ∷ record { formal = codes "o"; actual = codes "m" } ∷ []) ∷ Latch 5 (codes "m") (codes "y") None None init.Unknown ∷ [];
+} ∷ record {
+  name = codes "cell";
+  inputs = codes "i" ∷ [];
+  outputs = codes "o" ∷ [];
+  clocks = [];
+  statements =
+      Names 10 (codes "i" ∷ codes "q" ∷ []) (codes "n") xor_cover ∷ Latch 13 (codes "n") (codes "q") None None init.Unknown ∷ Names 14 (codes "q" ∷ []) (codes "o") same_cover ∷ [];
+} ∷ []

@@ -8,7 +8,7 @@ use Rattle.circuit_theory.specs.Sizes.{IsOver}
 use Rattle.blif_read.specs.declared.design.BlifModel.{BlifModel}
 use Rattle.flat_net.specs.View.{NetView, circuit_of, ports_of}
 use Rattle.flatten.specs.DesignFaults.{IsSoundDesign, IsFlatOf}
-use Rattle.design_rows.specs.Designs.{on_and, off_and, late, early, toggle, two, idle, ring, hier}
+use Rattle.design_rows.specs.Designs.{on_and, off_and, late, early, toggle, two, idle, ring, hier, nested}
 
 -- the names of the ports and latches, which latches are to be cut open, and what the unfolding of the rest weighs
 pub record Small : Type 0 where
@@ -83,3 +83,10 @@ small_toggle = record { inputs = []; outputs = codes "y" ∷ []; latches = codes
 -- its latch lies on a cycle while it isn't cut open
 abbrev pub ToggleIsSmall : Type 0
 ToggleIsSmall = AreSmall toggle small_toggle × ((net : NetView) → IsFlatOf toggle net → HasCycle (circuit_of net) NoneEnabled [])
+
+abbrev pub small_nested : Small
+small_nested = record { inputs = codes "a" ∷ []; outputs = codes "y" ∷ []; latches = codes "cell#0#q" ∷ codes "y" ∷ []; removed = codes "cell#0#q" ∷ []; weight = 14 }
+
+-- the latch inside of the instance breaks the one cycle
+abbrev pub NestedIsSmall : Type 0
+NestedIsSmall = AreSmall nested small_nested

@@ -7,3 +7,4 @@ pub mod OneText
 pub mod OneTextRuns
 pub mod Ring
 pub mod Stimuli
+pub mod Nested

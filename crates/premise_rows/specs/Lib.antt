@@ -5,3 +5,4 @@ pub mod Stimuli
 pub mod TextNets
 pub mod OneText
 pub mod OneReport
+pub mod CutOpen

@@ -37,6 +37,10 @@ idle = codes ".model m\n.inputs a\n.outputs y\n.latch a q\n.names a y\n1 1\n.end
 abbrev pub ring : List ℕ
 ring = codes ".model m\n.outputs y\n.latch q p\n.latch p q\n.names p y\n1 1\n.end\n"
 
+-- a latch inside of an instance, which turns where the input is 1, and a latch behind the instance
+abbrev pub nested : List ℕ
+nested = codes ".model top\n.inputs a\n.outputs y\n.subckt cell i=a o=m\n.latch m y\n.end\n.model cell\n.inputs i\n.outputs o\n.names i q n\n10 1\n01 1\n.latch n q\n.names q o\n1 1\n.end\n"
+
 -- a stimulus of one input and three cycles
 abbrev pub three_cycles : List ℕ
 three_cycles = codes "inputs a\n1\n0\n0\n"

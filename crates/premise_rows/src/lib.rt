@@ -7,6 +7,7 @@ ghost use Rattle.sec_run.specs.Answer.{AreComparable};
 ghost use Rattle.premise_rows.specs.OneText.{OneTextIsEqual, UnfoldedIsComparable, OfCheck, OfOneText, IsEqualAnswer};
 ghost use Rattle.premise_rows.specs.OneReport.{GraphReportsAreOne, SimReportsAreOne};
 ghost use Rattle.premise_rows.specs.Premises.{AndsAreComparable, RetimedAreComparable, HierarchyIsComparable, CyclicAreComparable, TextsAreAccepted, TextsCanBeUnfolded, RingIsCutOnce};
+ghost use Rattle.premise_rows.specs.CutOpen.{NestedIsCutOpen};
 ghost use Rattle.premise_rows.specs.RuledOut.{AndsMeetNoLimit};
 ghost use Rattle.premise_rows.specs.Stimuli.{TwoCanBeRun};
 ghost use Rattle.premise_rows.specs.TextNets.{TextNetsAreOne, ToldCyclesAreOne, OneNetIsEnough};
@@ -48,6 +49,11 @@ pub fn texts_can_be_unfolded()
 /// Of two latches that take over each other at most one is cut open.
 pub fn ring_is_cut_once()
     ensures { RingIsCutOnce }
+{}
+
+/// A latch inside of an instance is a minimal cut; two runs meet what agreement onward asks for, and each sequence is obeyed.
+pub fn nested_is_cut_open()
+    ensures { NestedIsCutOpen }
 {}
 
 /// No limit is told of two `and`s.

@@ -1,3 +1,4 @@
+pub mod CutDesigns
 pub mod DesignLatches
 pub mod DesignPlaces
 pub mod Designs

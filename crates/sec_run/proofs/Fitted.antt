@@ -1,9 +1,11 @@
 -- What stands behind the results of an outcome that fits.
 use Rattle.std.proofs.Common.{◌≡◌, ◌≢◌, ℕ, zero, suc, Bool, true, false, List, [], ◌∷◌, refl, sym, ◌∙◌, subst, ap, arith, inl, inr, ◌⊎◌, Option, Some, None, slice_get}
 use Rattle.std.specs.List.{AllZip, Contains, filter_map}
+use Rattle.std.proofs.lemmas.List.Elements.{Contains-append_cases}
 use Rattle.std.proofs.lemmas.Option.{none-some}
-use Rattle.circuit_theory.specs.Circuit.{Circuit}
-use Rattle.circuit_theory.proofs.Lists.{Contains-head, Contains-tail, Contains-cases}
+use Rattle.circuit_theory.specs.Agree.{place_named, latch_named, second_of_pair}
+use Rattle.circuit_theory.specs.Circuit.{Circuit, Named}
+use Rattle.circuit_theory.proofs.Lists.{Contains-head, Contains-tail, Contains-cases, filter_map-from}
 use Rattle.sec_base.specs.declared.basics.PairAnswer.{PairAnswer}
 use Rattle.sec_base.specs.declared.basics.PairAnswer.TheVariants as answer
 use Rattle.pair_decide.specs.declared.query.Proof.{Proof}
@@ -11,6 +13,8 @@ use Rattle.sec_outcome.specs.declared.outcome.PairResult.{PairResult}
 use Rattle.plain_form.specs.Limits.{IsUndecided}
 use Rattle.plain_form.specs.Outcome.{AnswerFits}
 use Rattle.sec_setup.specs.Cuts.{is_cut}
+use Rattle.sec_setup.specs.Pairs.{NamedPair, pair_called, named_pairs}
+use Rattle.witness_report.specs.declared.witness.PairName.TheVariants as pair
 
 some_is : {X : Type 0} {x y : X} → Some x ≡ Some y → x ≡ y
 some_is q = cc
@@ -85,3 +89,36 @@ kept_proof (s ∷ results) r proof h e = go s.proof refl (Contains-cases s r res
         one : Some x ≡ Some proof → x ≡ proof
         one z = cc
     go (Some x) q (inr k) later = rw q (Contains-tail x proof (filter_map (λ (t : PairResult). t.proof) results) (later k))
+
+-- the places of a pair that is called something else than what a latch takes over
+not_next : {P Q : Type 0} (shown name : List ℕ) (p : Option P) (q : Option Q) (n : NamedPair P Q) → pair_called (pair.Output shown) p q ≡ Some n → n.name ≡ pair.Next name → ⊥
+not_next {P} {Q} shown name None q n e is = absurd (none-some n e)
+not_next {P} {Q} shown name (Some p) None n e is = absurd (none-some n e)
+not_next {P} {Q} shown name (Some p) (Some q) n e is = no (ap (λ (m : NamedPair P Q). m.name) (some_is e) ∙ is)
+  where
+    no : pair.Output shown ≡ pair.Next name → ⊥
+    no z = cc
+
+-- the name of a pair that is called what the latches of a name take over
+is_next : {P Q : Type 0} (own name : List ℕ) (p : Option P) (q : Option Q) (n : NamedPair P Q) → pair_called (pair.Next own) p q ≡ Some n → n.name ≡ pair.Next name → own ≡ name
+is_next {P} {Q} own name None q n e is = absurd (none-some n e)
+is_next {P} {Q} own name (Some p) None n e is = absurd (none-some n e)
+is_next {P} {Q} own name (Some p) (Some q) n e is = one (ap (λ (m : NamedPair P Q). m.name) (some_is e) ∙ is)
+  where
+    one : pair.Next own ≡ pair.Next name → own ≡ name
+    one z = cc
+
+-- what two latches of one name take over is a pair where the name is among the exposed ones
+pub next_among : {P Q : Type 0} (exposed : List (List ℕ)) (a : Circuit P) (b : Circuit Q) (n : NamedPair P Q) → Contains (named_pairs exposed a b) n → (name : List ℕ) → n.name ≡ pair.Next name → Contains exposed name
+next_among {P} {Q} exposed a b n h name is =
+    by (Contains-append_cases (filter_map (λ (o : Named P). pair_called (pair.Output o.name) (Some o.place) (place_named b.outputs o.name)) a.outputs)
+    (filter_map (λ (m : List ℕ). pair_called (pair.Next m) (second_of_pair (latch_named a.equations m)) (second_of_pair (latch_named b.equations m))) exposed) n h)
+  where
+    by : Contains (filter_map (λ (o : Named P). pair_called (pair.Output o.name) (Some o.place) (place_named b.outputs o.name)) a.outputs) n
+        ⊎ Contains (filter_map (λ (m : List ℕ). pair_called (pair.Next m) (second_of_pair (latch_named a.equations m)) (second_of_pair (latch_named b.equations m))) exposed) n → Contains exposed name
+    by (inl k) =
+        let o = filter_map-from (λ (o : Named P). pair_called (pair.Output o.name) (Some o.place) (place_named b.outputs o.name)) a.outputs n k in
+        absurd (not_next o.0.name name (Some o.0.place) (place_named b.outputs o.0.name) n o.2 is)
+    by (inr k) =
+        let m = filter_map-from (λ (m : List ℕ). pair_called (pair.Next m) (second_of_pair (latch_named a.equations m)) (second_of_pair (latch_named b.equations m))) exposed n k in
+        subst (Contains exposed) (is_next m.0 name (second_of_pair (latch_named a.equations m.0)) (second_of_pair (latch_named b.equations m.0)) n m.2 is) m.1

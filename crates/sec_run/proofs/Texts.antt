@@ -22,11 +22,12 @@ use Rattle.sec_setup.specs.Cuts.{columns_of, is_cut}
 use Rattle.sec_files.specs.Loading.{Loads}
 use Rattle.blif_read.specs.Design.{circuit_of_design}
 use Rattle.blif_read.specs.Reading.{spelled}
+use Rattle.sec_files.proofs.CutDesigns.{texts_minimal, texts_onward, texts_cuts_differ}
 use Rattle.sec_files.proofs.Designs.{agree_of_nets, shown_of_nets}
 use Rattle.sec_files.proofs.DesignPlaces.{texts_agree_from}
 use Rattle.sec_files.proofs.Loaded.{spelled_circuit}
 use Rattle.sec_run.specs.Answer.{TextsAgree, TextsDiffer, TextsNotShown, TextsUndecided}
-use Rattle.sec_run.proofs.Fitted.{beside, uncut_answer, cut_answer, limit_answer, no_names, some_names, were_exposed, kept_proof}
+use Rattle.sec_run.proofs.Fitted.{beside, uncut_answer, cut_answer, limit_answer, no_names, some_names, were_exposed, kept_proof, next_among}
 
 module _ (before now : Option (List ℕ)) (settings : Settings) (o : Outcome) (taken : Takes before now (report_text settings.conflicts o)) (x y : List ℕ) (a b : NetView) (left : Loads x a) (right : Loads y b)
     (compared : IsCompared a b settings o) where
@@ -48,6 +49,8 @@ module _ (before now : Option (List ℕ)) (settings : Settings) (o : Outcome) (t
         outcome = o;
         is_verdict = e;
         printed = taken;
+        minimal = texts_minimal x y a b left right o.exposed compared.fits.exposed.minimal;
+        onward = texts_onward x y a b left right o.exposed equal.onward;
         from = texts_agree_from x y a b left.accepted.short right.accepted.short left.flat right.flat compared.left_sound compared.right_sound o.through o.exposed equal.from;
         equal = equal;
       }
@@ -91,6 +94,12 @@ module _ (before now : Option (List ℕ)) (settings : Settings) (o : Outcome) (t
       let n = pair_of first.index first.result first.result_is in
       let exposed = some_names o.exposed (cut_answer _ _ _ _ _ _ _ _ first.result.answer first.result.proof n.2.answer_is first.answered) in
       record {
+        left_clock = a.clock;
+        right_clock = b.clock;
+        left = circuit_of_design (spelled x) a.clock;
+        right = circuit_of_design (spelled y) b.clock;
+        left_spelled = spelled_circuit x a left;
+        right_spelled = spelled_circuit y b right;
         left_net = a;
         right_net = b;
         left_loads = left;
@@ -101,8 +110,12 @@ module _ (before now : Option (List ℕ)) (settings : Settings) (o : Outcome) (t
         printed = taken;
         exposes = were_exposed settings.expose o.exposed compared.fits.exposed.closed exposed;
         exposed = exposed;
-        minimal = compared.fits.exposed.minimal;
-        shown = compared.not_shown w e;
+        minimal = texts_minimal x y a b left right o.exposed compared.fits.exposed.minimal;
+        columns = first.names_are;
+        next_exposed = λ name is. next_among o.exposed (circuit_of a) (circuit_of b) first.place (of_at pairs first.index first.place first.place_is) name (sym first.named ∙ is);
+        shown = texts_cuts_differ x y a b left right o.exposed w (compared.not_shown w e);
+        nets_minimal = compared.fits.exposed.minimal;
+        nets_shown = compared.not_shown w e;
       }
 
   pub texts_undecided : (proofs : List Proof) (at : LimitAt) → o.verdict ≡ verdict.Limit at → proofs ≡ filter_map (λ (r : PairResult). r.proof) o.pairs → TextsUndecided x y settings proofs before now

@@ -6,12 +6,13 @@ use Rattle.circuit_theory.specs.declared.Mode.TheVariants.{Plain, Event}
 use Rattle.circuit_theory.specs.declared.Side.{Side}
 use Rattle.circuit_theory.specs.declared.Side.TheVariants.{A, B}
 use Rattle.circuit_theory.specs.Circuit.{Circuit}
-use Rattle.circuit_theory.specs.Agree.{Agree, IsMinimalCut}
+use Rattle.circuit_theory.specs.Agree.{Agree, AgreeOnward, IsMinimalCut}
 use Rattle.circuit_theory.specs.Interface.{AreNumbersOf}
 use Rattle.sec_base.specs.Outside.{Takes, TakesFront}
 use Rattle.blif_read.specs.Design.{Place}
 use Rattle.flat_net.specs.View.{NetView, circuit_of, ports_of}
 use Rattle.pair_decide.specs.declared.query.Proof.{Proof}
+use Rattle.witness_report.specs.declared.witness.PairName.TheVariants as pair
 use Rattle.witness_report.specs.declared.witness.Witness.{Witness}
 use Rattle.sec_base.specs.declared.settings.Settings.{Settings}
 use Rattle.sec_words.specs.declared.task.Task.{Task}
@@ -137,9 +138,9 @@ EndsAs before now held job proofs name = (f : Finding) × IsFinding held job f �
 abbrev pub IsTaken : Option (List ℕ) → Option (List ℕ) → Held → Option Task → Status → Type 0
 IsTaken before now held job s = EndsAs before now held job s.proofs s.name
 
--- The circuits that the two texts spell agree; and in any two runs of theirs with equal inputs in which the exposed latches that are
--- printed are equal from the start up to the printed cycle, these are equal for ever, and the outputs from that cycle on. The flat nets
--- that the texts load as agree onward over the printed names.
+-- The circuits that the two texts spell agree, and agree onward over the exposed latches that are printed, which are a minimal cut of
+-- them; so in any two runs of theirs with equal inputs in which these are equal from the start up to the printed cycle, they are equal
+-- for ever, and the outputs from that cycle on. The same is said of the flat nets that the texts load as.
 pub record TextsAgree (x y : List ℕ) (conflicts : ℕ) (before now : Option (List ℕ)) : Type 0 where
   pub left_clock : Option (List ℕ)
   pub right_clock : Option (List ℕ)
@@ -155,6 +156,8 @@ pub record TextsAgree (x y : List ℕ) (conflicts : ℕ) (before now : Option (L
   pub outcome : Outcome
   pub is_verdict : outcome.verdict ≡ verdict.Equal
   pub printed : Takes before now (report_text conflicts outcome)
+  pub minimal : IsMinimalCut Plain left right outcome.exposed
+  pub onward : AgreeOnward Plain outcome.exposed left right
   pub from : AgreeFrom outcome.through outcome.exposed left right
   pub equal : AreEqual left_net right_net outcome
 
@@ -174,9 +177,17 @@ pub record TextsDiffer (x y : List ℕ) (conflicts : ℕ) (before now : Option (
   pub printed : Takes before now (report_text conflicts outcome)
   pub shown : MakesDiffer left right witness
 
--- Latches were to be cut open, and the exposed ones that are printed are some: a minimal cut of the two flat nets that the texts load
--- as. With these cut out the nets differ in all runs over the sequence that is printed, which is over inputs and exposed latches.
+-- Latches were to be cut open, and the exposed ones that are printed are some: a minimal cut of the circuits that the two texts spell.
+-- With these cut out the circuits differ in all runs over the sequence that is printed, which is over the shared inputs and the exposed
+-- latches: in a pair of outputs, or in what two exposed latches of one name take over. The same is said of the flat nets that the texts
+-- load as.
 pub record TextsNotShown (x y : List ℕ) (settings : Settings) (before now : Option (List ℕ)) : Type 0 where
+  pub left_clock : Option (List ℕ)
+  pub right_clock : Option (List ℕ)
+  pub left : Circuit Place
+  pub right : Circuit Place
+  pub left_spelled : SpellsCircuit x left_clock left
+  pub right_spelled : SpellsCircuit y right_clock right
   pub left_net : NetView
   pub right_net : NetView
   pub left_loads : Loads x left_net
@@ -187,8 +198,12 @@ pub record TextsNotShown (x y : List ℕ) (settings : Settings) (before now : Op
   pub printed : Takes before now (report_text settings.conflicts outcome)
   pub exposes : settings.expose ≡ true
   pub exposed : outcome.exposed ≢ []
-  pub minimal : IsMinimalCut Plain (circuit_of left_net) (circuit_of right_net) outcome.exposed
-  pub shown : MakesCutsDiffer outcome.exposed (circuit_of left_net) (circuit_of right_net) witness
+  pub minimal : IsMinimalCut Plain left right outcome.exposed
+  pub columns : witness.stimulus.names ≡ columns_of left_net right_net outcome.exposed
+  pub next_exposed : (name : List ℕ) → witness.pair ≡ pair.Next name → Contains outcome.exposed name
+  pub shown : MakesCutsDiffer outcome.exposed left right witness
+  pub nets_minimal : IsMinimalCut Plain (circuit_of left_net) (circuit_of right_net) outcome.exposed
+  pub nets_shown : MakesCutsDiffer outcome.exposed (circuit_of left_net) (circuit_of right_net) witness
 
 -- The report names a pair of the two texts' nets, outputs or what exposed latches take over, whose query over the nets with the exposed
 -- latches cut out has more than 16 variables and met the limit, which one of the proofs shows: its clauses, and a log of exactly as
