@@ -1,4 +1,8 @@
 pub mod Comparing
+pub mod ConeWeights
+pub mod Unate
+pub mod OneLatch
+pub mod Enables
 pub mod Examples
 pub mod NoLimit
 pub mod OneNets

@@ -10,6 +10,7 @@ ghost use Rattle.premise_rows.specs.Premises.{AndsAreComparable, RetimedAreCompa
 ghost use Rattle.premise_rows.specs.CutOpen.{NestedIsCutOpen};
 ghost use Rattle.premise_rows.specs.RuledOut.{AndsMeetNoLimit};
 ghost use Rattle.premise_rows.specs.Stimuli.{TwoCanBeRun};
+ghost use Rattle.premise_rows.specs.Enables.{EnablesMeetPremises};
 ghost use Rattle.premise_rows.specs.TextNets.{TextNetsAreOne, ToldCyclesAreOne, OneNetIsEnough};
 
 use sec_base::{Shelf, Sink};
@@ -64,6 +65,11 @@ pub fn ands_meet_no_limit()
 /// Two latches in a row can be run over a stimulus, from a power word and without one.
 pub fn two_can_be_run()
     ensures { TwoCanBeRun }
+{}
+
+/// In the event mode a latch behind an enable can be told as enabled and run, and one that toggles can be told as not unate.
+pub fn enables_meet_premises()
+    ensures { EnablesMeetPremises }
 {}
 
 /// A text loads as one net, up to the numbers of its signals.
