@@ -1,15 +1,14 @@
 -- A table that holds what a start reaches at the root, and all that its members pass on, holds exactly what the start reaches.
-use Rattle.std.proofs.Common.{◌≡◌, ◌≢◌, ◌∙◌, ◌+◌, ◌<◌, ◌≤◌, ℕ, List, [], ◌∷◌, ◌++◌, length, slice_get, Option, Some, None, refl, sym, ap, subst, arith, inl, inr}
+use Rattle.std.proofs.Common.{◌≡◌, ◌∙◌, ◌+◌, ◌<◌, ◌≤◌, ℕ, List, [], ◌∷◌, ◌++◌, length, slice_get, Some, None, sym, ap, subst, arith, inl, inr}
 use Rattle.std.specs.Prelude.{◌⊎◌}
 use Rattle.std.specs.List.{All, Contains}
 use Rattle.std.proofs.lemmas.Bool.{cases_lt}
-use Rattle.std.proofs.lemmas.List.Elements.{All-nil, All-append, All-weaker}
+use Rattle.std.proofs.lemmas.List.Elements.{All-append, All-weaker}
 use Rattle.std.proofs.lemmas.Option.{slice_get_within}
-use Rattle.circuit_theory.specs.Circuit.{IsLatch, Reaches}
-use Rattle.circuit_theory.specs.Depth.{LatchesHaveDepths}
-use Rattle.circuit_theory.proofs.Lists.{at_of, of_at, All-from_each}
-use Rattle.event_theory.specs.Frame.{ConeOthers, ReachedAt}
-use Rattle.event_theory.specs.EventSizes.{Start, IsOther as is_not_left_out}
+use Rattle.circuit_theory.specs.Circuit.{IsLatch}
+use Rattle.circuit_theory.proofs.Lists.{at_of, All-from_each}
+use Rattle.event_theory.specs.Frame.{ReachedAt}
+use Rattle.event_theory.specs.EventSizes.{Start}
 use Rattle.flat_net.specs.declared.signals.Signal.{Signal}
 use Rattle.flat_net.specs.declared.parts.LatchAt.{LatchAt}
 use Rattle.flat_net.specs.View.{circuit_of}
@@ -17,14 +16,14 @@ use Rattle.flat_net.specs.Sound.{IsSound}
 use Rattle.flat_net.proofs.Growth.{slice_get-append}
 use Rattle.flat_net.proofs.Nets.{some_at, latch_stands}
 use Rattle.flat_net.proofs.Places.{one_at, All-at}
-use Rattle.latch_cone.specs.Cones.{IsOther, AreOthers, AreReached}
+use Rattle.latch_cone.specs.Cones.{AreOthers, AreReached}
 use Rattle.edbf_unfold.specs.Adds.{Adds}
 use Rattle.edbf_unfold.specs.Nodes.{EventGraphView, IsChild, IsTree, path_of, GrowsEvents}
-use Rattle.edbf_unfold.specs.Reach.{IsBegun, IsReachedPlace, IsPassedOn, IsListedAt, AreReachedPlaces}
+use Rattle.edbf_unfold.specs.Reach.{IsBegun, IsReachedPlace, IsPassedOn, IsListedAt}
 use Rattle.edbf_unfold.specs.View.{EventCircuitView, side_of, Enabled}
 use Rattle.edbf_unfold.proofs.Drivers.{latch_of_equation, latch_out}
 use Rattle.edbf_unfold.proofs.Latches.{IsRootLatch}
-use Rattle.edbf_unfold.proofs.Lists.{adds_contains, adds_at, adds_weaker}
+use Rattle.edbf_unfold.proofs.Lists.{adds_contains, adds_at}
 use Rattle.edbf_unfold.proofs.Opening.{children_more}
 use Rattle.edbf_unfold.proofs.Paths.{path_grows, child_path}
 
@@ -115,9 +114,9 @@ module _ (e : EventCircuitView) (children table : List (ℕ × ℕ)) where
   signal_begun s keys empty is seen adds =
       added_all (IsRootLatch e.net keys) (IsReachedPlace e children (record { place = s; left_out = None })) empty table is
       (λ q h.
-        let i = at_of keys q.1 h.1 in
-        subst (λ (n : ℕ). IsReachedPlace e children (record { place = s; left_out = None }) (n, q.1)) (sym h.0)
-        (root_reached e children (record { place = s; left_out = None }) q.1 h.2 ((h.2.0, h.2.1, h.2.2, seen.some.each i.0 q.1 i.1), tt)))
+      let i = at_of keys q.1 h.1 in
+      subst (λ (n : ℕ). IsReachedPlace e children (record { place = s; left_out = None }) (n, q.1)) (sym h.0)
+      (root_reached e children (record { place = s; left_out = None }) q.1 h.2 ((h.2.0, h.2.1, h.2.2, seen.some.each i.0 q.1 i.1), tt)))
       adds
 
   pub signal_roots : (s : ℕ) (keys : List ℕ) → AreReached e.net s keys → ((v : ℕ) (name : List ℕ) (next : ℕ) → Contains keys v → IsLatch (circuit_of e.net) name v next → Contains table (0, v)) →

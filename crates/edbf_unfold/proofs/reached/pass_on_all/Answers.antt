@@ -1,5 +1,5 @@
 -- Each place of the table is passed on in its turn.
-use Rattle.std.proofs.Common.{◌≡◌, ◌∙◌, ◌+◌, ◌-◌, ◌<◌, ◌≤◌, ℕ, length, refl, ap, arith}
+use Rattle.std.proofs.Common.{◌≡◌, ◌∙◌, ◌+◌, ◌-◌, ◌<◌, ℕ, refl, ap, arith}
 use Rattle.flat_net.proofs.Places.{All-at}
 use Rattle.edbf_unfold.specs.Nodes.{EventGraphView}
 use Rattle.edbf_unfold.specs.Reach.{IsReachedPlace}

@@ -1,5 +1,5 @@
 -- The latches of the signal's cone are begun at the root.
-use Rattle.std.proofs.Common.{◌≡◌, ◌<◌, ◌≤◌, ℕ, List, length, None, sym, ap, subst, arith}
+use Rattle.std.proofs.Common.{◌≡◌, ◌<◌, ℕ, List, length, None, sym, ap, subst, arith}
 use Rattle.flat_net.specs.View.{NetView, circuit_of}
 use Rattle.circuit_theory.specs.Circuit.{IsLatch}
 use Rattle.std.specs.List.{Contains}
@@ -26,8 +26,8 @@ pub pass_on_all-requires-clause-reached : goal.pass_on_all-requires-clause-reach
 pass_on_all-requires-clause-reached c = (
   record { place = c.args.s.0; left_out = None },
   signal_begun c.args.circuit.now c.args.events.now.children c.put_latches.new.table c.args.s.0 c.in_ok-seen.seen.keys c.new-table.result c.new-table.ensures
-  (subst (λ (n : NetView). AreReached n c.args.s.0 c.in_ok-seen.seen.keys) c.net-net.ensures c.in_ok-seen.ensures)
-  (subst (λ (n : NetView). Adds (IsRootLatch n c.in_ok-seen.seen.keys) c.new-table.result c.put_latches.new.table) c.net-net.ensures c.put_latches.ensures.adds),
+      (subst (λ (n : NetView). AreReached n c.args.s.0 c.in_ok-seen.seen.keys) c.net-net.ensures c.in_ok-seen.ensures)
+      (subst (λ (n : NetView). Adds (IsRootLatch n c.in_ok-seen.seen.keys) c.new-table.result c.put_latches.new.table) c.net-net.ensures c.put_latches.ensures.adds),
 )
 
 pub returns-clause-reached : goal.returns-clause-reached

@@ -1,5 +1,5 @@
 -- The other latches of the latch's cone are begun at the root.
-use Rattle.std.proofs.Common.{◌≡◌, ◌∙◌, ◌<◌, ◌≤◌, ℕ, List, length, slice_get, Some, sym, ap, subst, arith}
+use Rattle.std.proofs.Common.{◌≡◌, ◌∙◌, ◌<◌, ℕ, List, length, slice_get, Some, sym, ap, subst, arith}
 use Rattle.std.specs.List.{All, Contains}
 use Rattle.flat_net.specs.declared.parts.LatchAt.{LatchAt}
 use Rattle.flat_net.specs.declared.signals.Signal.{Signal}
@@ -26,11 +26,10 @@ pass_on_all-requires-clause-few c = c.in_ok-put_all.ensures.few
 
 pub pass_on_all-requires-clause-reached : goal.pass_on_all-requires-clause-reached
 pass_on_all-requires-clause-reached c =
-    let l = some_at c.args.circuit.now.net.latches c.args.j c.requires.latch in
-    (
+    let l = some_at c.args.circuit.now.net.latches c.args.j c.requires.latch in (
       record { place = l.0.next.0; left_out = Some l.0.out.0 },
       others_begun c.args.circuit.now c.args.events.now.children c.put_all.new.table c.keeps.ensures.sound l.0 c.in_ok-others.others (are_others _ _ c.net-net.ensures c.args.j c.in_ok-others.others c.in_ok-others.ensures l.0 l.1) c.new-table.result c.new-table.ensures
-      (subst (λ (fs : List Signal). Adds (λ (q : ℕ × ℕ). (f : Signal) × Contains fs f × ((0, f.0) ≡ q)) c.new-table.result c.put_all.new.table) c.as_slice.ensures c.put_all.ensures.adds),
+          (subst (λ (fs : List Signal). Adds (λ (q : ℕ × ℕ). (f : Signal) × Contains fs f × ((0, f.0) ≡ q)) c.new-table.result c.put_all.new.table) c.as_slice.ensures c.put_all.ensures.adds),
     )
 
 pub returns-clause-reached : goal.returns-clause-reached
