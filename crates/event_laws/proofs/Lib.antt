@@ -15,6 +15,7 @@ pub mod ExposedNames
 pub mod FrameExist
 pub mod FrameValues
 pub mod OneClassMap
+pub mod ClassSteps
 pub mod ReachedLatches
 pub mod Separations
 pub mod SettledEvents

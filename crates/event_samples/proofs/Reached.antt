@@ -14,10 +14,12 @@ use Rattle.circuit_theory.proofs.Lists.{only}
 use Rattle.circuit_laws.proofs.NetLaws.{net_determined}
 use Rattle.circuit_laws.proofs.Parts.{determined_up, reaches_from}
 use Rattle.circuit_laws.proofs.JoinedParts.{left_part, replace_left, joined_same, left_is_not_right}
+use Rattle.event_laws.specs.ClassSteps.{IsFirstFit}
+use Rattle.event_laws.proofs.ClassSteps.{class_map_goes_on_in_nets}
 use Rattle.event_laws.proofs.FrameExist.{frame_values_exist_in_nets}
 use Rattle.event_laws.proofs.ReachedLatches.{closed_lists_are_reached}
 use Rattle.event_samples.specs.Samples.{numbers, class_of}
-use Rattle.event_samples.specs.Events.{FramesHaveValues, HasMapsSoFar, HasReachedList, start_y, reached_y}
+use Rattle.event_samples.specs.Events.{FramesHaveValues, HasMapsSoFar, HasFirstFit, HasReachedList, start_y, reached_y}
 use Rattle.circuit_samples.proofs.Each.{each_at, each_latch}
 use Rattle.event_samples.proofs.HoldCells.{no_others}
 use Rattle.event_samples.proofs.TwoClasses.{left_side, right_side, whole, side, left_net, right_net, single, number_once, all_hold, depths, latch_order, class_map, order, left_q_latch, left_r_latch, left_y_reads}
@@ -35,6 +37,18 @@ so_far taken rest e = record {
 
 pub maps_so_far : HasMapsSoFar
 maps_so_far = (so_far (Left 3 ∷ []) (Left 5 ∷ Right 3 ∷ Right 5 ∷ []) refl, so_far (Left 3 ∷ Left 5 ∷ []) (Right 3 ∷ Right 5 ∷ []) refl)
+
+-- the class of the second latch is its first fit beside the first one, so the map goes on
+fit : IsFirstFit side (Left 3 ∷ []) (Left 5) (class_of (Left 5))
+fit =
+    let first = class_map.each (Left 3 ∷ []) (Right 3 ∷ Right 5 ∷ []) (Left 5) refl in
+    record { not_past_next = first.not_past_next; joins = first.joins; not_earlier = first.not_earlier }
+
+pub first_fit : HasFirstFit
+first_fit = (
+  fit,
+  (class_map_goes_on_in_nets left_side right_side 11 11 numbers numbers class_of left_net right_net depths).1 class_of (Left 3 ∷ []) (Right 3 ∷ Right 5 ∷ []) (Left 5) (so_far (Left 3 ∷ []) (Left 5 ∷ Right 3 ∷ Right 5 ∷ []) refl) fit (λ u other. refl),
+)
 
 At : LatchAtNode (Either ℕ ℕ) → Type 0
 At = Contains reached_y
