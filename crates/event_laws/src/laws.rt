@@ -1,7 +1,7 @@
 //! The laws of the event form. None of these functions does anything: each contract is a law that is proved for all flat nets, by the
 //! same definitions that the contracts of the working calls cite.
 
-ghost use Rattle.event_laws.specs.ClassSteps.{ClassMapGoesOn};
+ghost use Rattle.event_laws.specs.ClassSteps.{ClassMapGoesOn, TwinsFitOneClass};
 ghost use Rattle.event_laws.specs.Laws.{EventFunctionsAgree, ExposedEventFunctionsAgree, SettledHasEvents, EventsAreCommon, EventWitnessMakesDiffer, SidesAreParts, CutIsNet, TreesAreFrameValues, ClassesAreOne, DifferencesAreShown, EventDifferenceIsWitness, ExposedEventsAreCommon, ClassesSoFarAreOne, ReachedAreListed, ClosedListsAreReached, ExposedNamesAreApart, FrameValuesExist, SeparationsAreOne, FoundersAreApart, SidesUnfoldAsParts};
 
 /// Where the event functions of each pair of outputs agree in each frame with care for both, the two circuits agree in the event mode
@@ -82,6 +82,11 @@ pub fn classes_so_far_are_one()
 /// class that fits.
 pub fn class_map_goes_on()
     ensures { ClassMapGoesOn }
+{}
+
+/// A latch whose enable and care are those of one that was taken before joins its class, and needs no comparison with other members.
+pub fn twins_fit_one_class()
+    ensures { TwinsFitOneClass }
 {}
 
 /// The latches that event unfoldings reach, each at its event nodes, are a finite list.
