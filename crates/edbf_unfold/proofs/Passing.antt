@@ -7,7 +7,8 @@ use Rattle.circuit_theory.specs.Circuit.{IsLatch, Reaches}
 use Rattle.circuit_theory.specs.Depth.{LatchesHaveDepths}
 use Rattle.circuit_theory.proofs.Lists.{at_of, of_at}
 use Rattle.circuit_theory.proofs.Sums.{same_or_not}
-use Rattle.event_theory.specs.Frame.{ConeLatches, ConeOthers, ReachedAt}
+use Rattle.event_theory.specs.Frame.{ConeOthers, ReachedAt}
+use Rattle.event_theory.specs.EventSizes.{Start}
 use Rattle.event_laws.proofs.EventAgreement.{rank, rank_falls}
 use Rattle.flat_net.specs.declared.parts.Driver.TheVariants as driver
 use Rattle.flat_net.specs.declared.parts.LatchAt.{LatchAt}
@@ -17,7 +18,7 @@ use Rattle.flat_net.specs.View.{circuit_of}
 use Rattle.flat_net.proofs.Nets.{sound_is_net, latch_stands}
 use Rattle.latch_cone.specs.Cones.{IsOther, AreOthers}
 use Rattle.edbf_unfold.specs.Nodes.{IsChild, IsTree}
-use Rattle.edbf_unfold.specs.Reach.{IsReachedPlace, IsPassedOn}
+use Rattle.edbf_unfold.specs.Reach.{IsBegun, IsReachedPlace, IsPassedOn}
 use Rattle.edbf_unfold.specs.View.{EventCircuitView, side_of, Enabled}
 use Rattle.edbf_unfold.proofs.Drivers.{latch_of_equation, latch_out, latch_next, latch_equation_stands}
 use Rattle.edbf_unfold.proofs.Paths.{child_path}
@@ -61,12 +62,12 @@ module _ (e : EventCircuitView) (sound : IsSound e.net) (depths : LatchesHaveDep
         let r = are.reached here.0 f here.1 in
         (l.name, l.next.0, latch_equation_stands e.net sound p j drives l at, (o.latch.name, o.latch.next.0, subst (λ s. IsLatch (circuit_of e.net) o.latch.name s o.latch.next.0) o.out (latch_stands e.net o.position o.latch o.here), r), λ en same. o.apart (same ∙ sym out))
 
-    pub place_reached : (children : List (ℕ × ℕ)) → IsTree children → (s node k child : ℕ) → IsChild children node k child → (side_of e).class l.out.0 ≡ k → IsReachedPlace e children s (node, p) →
+    pub place_reached : (children : List (ℕ × ℕ)) → IsTree children → (s : Start ℕ) (node k child : ℕ) → IsChild children node k child → (side_of e).class l.out.0 ≡ k → IsReachedPlace e children s (node, p) →
         (q : ℕ × ℕ) → ((f : Signal) × Contains others f × ((child, f.0) ≡ q)) → IsReachedPlace e children s q
     place_reached children tree s node k child is class from q x =
         let cone = cone_of x.0 x.1 in
         subst (IsReachedPlace e children s) x.2 (record {
           node = omega (arith, is.1, slice_get_within children is.0 _ is.2);
           latch = (cone.3.0, cone.3.1, cone.3.2);
-          reached = subst (λ path. ReachedAt (side_of e) (Enabled e) (ConeLatches (circuit_of e.net) s) path x.0.0) (sym (child_path children tree node k child is)) (p, from.reached, ap (side_of e).class (sym out) ∙ class, cone);
+          reached = subst (λ path. ReachedAt (side_of e) (Enabled e) (IsBegun (circuit_of e.net) s) path x.0.0) (sym (child_path children tree node k child is)) (p, from.reached, ap (side_of e).class (sym out) ∙ class, cone);
         })

@@ -40,7 +40,7 @@ fold_low : {X : Type 0} (g : X → ℕ) (n : ℕ) (xs : List X) → n ≤ fold (
 fold_low g n [] = omega arith
 fold_low g n (x ∷ xs) = let h = fold_low g (max n (g x)) xs in omega arith
 
-fold_each : {X : Type 0} (g : X → ℕ) (n : ℕ) (xs : List X) (u : X) → Contains xs u → g u ≤ fold (λ m u. max m (g u)) n xs
+pub fold_each : {X : Type 0} (g : X → ℕ) (n : ℕ) (xs : List X) (u : X) → Contains xs u → g u ≤ fold (λ m u. max m (g u)) n xs
 fold_each g n [] u h = absurd (omega (arith, h.1))
 fold_each {X} g n (x ∷ xs) u h = go (Contains-cases x u xs h) (λ k. fold_each g (max n (g x)) xs u k)
   where

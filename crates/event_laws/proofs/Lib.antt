@@ -15,6 +15,8 @@ pub mod ExposedNames
 pub mod FrameExist
 pub mod FrameValues
 pub mod OneClassMap
+pub mod ClassSteps
+pub mod Twins
 pub mod ReachedLatches
 pub mod Separations
 pub mod SettledEvents

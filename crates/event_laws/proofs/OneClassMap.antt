@@ -60,20 +60,20 @@ sorted_once {X} same R (x ∷ xs) (y ∷ ys) apart px py to back =
                 absurd (apart x x (Contains-head x xs) (Contains-head x xs) r r)
 
 module _ {P : Type 0} (c : Circuit P) (single : IsSingleDriven c) (same : (p q : P) → (p ≡ q) ⊎ (p ≢ q)) (depths : LatchesHaveDepths c (IsEnabled c)) (o : List ℕ) where
-  abbrev On : P → Type 0
+  abbrev pub On : P → Type 0
   On = IsEnabled c
 
-  abbrev side : (P → ℕ) → EventSide P
+  abbrev pub side : (P → ℕ) → EventSide P
   side f = record { circuit = c; order = o; class = f }
 
-  abbrev rank_of : P → ℕ
+  abbrev pub rank_of : P → ℕ
   rank_of = rank c single same depths
 
   falls : (u w : P) → ConeOthers c On u w → rank_of w < rank_of u
   falls = rank_falls c single same depths
 
   -- one class for each latch of a rank below R
-  abbrev Agrees : ℕ → (P → ℕ) → (P → ℕ) → Type 0
+  abbrev pub Agrees : ℕ → (P → ℕ) → (P → ℕ) → Type 0
   Agrees R f g = (name : List ℕ) (w next : P) → IsLatch c name w next → rank_of w < R → f w ≡ g w
 
   module _ (R : ℕ) (f g : P → ℕ) (agree : Agrees R f g) where
@@ -101,7 +101,7 @@ module _ {P : Type 0} (c : Circuit P) (single : IsSingleDriven c) (same : (p q :
       all_to EventUnfoldsAll.none low = EventUnfoldsAll.none
       all_to (EventUnfoldsAll.more {p = p} {ps = ps} one rest) low = EventUnfoldsAll.more (unfolds_to one (low p (Contains-head p ps))) (all_to rest (λ q m. low q (Contains-tail p q ps m)))
 
-    enable_to : (bits : ℕ → List ℕ → Bool) (u : P) (node : List ℕ) (bit : Bool) → rank_of u ≤ R → IsEnable (side f) On bits u node bit → IsEnable (side g) On bits u node bit
+    pub enable_to : (bits : ℕ → List ℕ → Bool) (u : P) (node : List ℕ) (bit : Bool) → rank_of u ≤ R → IsEnable (side f) On bits u node bit → IsEnable (side g) On bits u node bit
     enable_to bits u node bit low (IsEnable.always off e) = IsEnable.always off e
     enable_to bits u node bit low (IsEnable.own {name = name} {next = next} on latch low_is high_is e) = IsEnable.own on latch (unfolds_to low_is below) (unfolds_to high_is below) e
       where
@@ -130,14 +130,14 @@ module _ {P : Type 0} (c : Circuit P) (single : IsSingleDriven c) (same : (p q :
         let l = back.1 in
         enable_to R f g agree bits v (g v ∷ node) true (omega (arith, back.2)) (subst (λ k. IsEnable (side f) On bits v (k ∷ node) true) (agree l.0 v l.1 l.2 back.2) (care node v back.0))
 
-    enable_care : (bits : ℕ → List ℕ → Bool) (u : P) → rank_of u ≤ R → EnableCare (side f) bits u → EnableCare (side g) bits u
+    pub enable_care : (bits : ℕ → List ℕ → Bool) (u : P) → rank_of u ≤ R → EnableCare (side f) bits u → EnableCare (side g) bits u
     enable_care bits u low care = care_to (ConeOthers c On u) first bits care
       where
         first : (w : P) → ConeOthers c On u w → ((name : List ℕ) × (next : P) × IsLatch c name w next) × (rank_of w < R)
         first w k = let cone = k.3 in let down = falls u w k in ((cone.0, cone.1, cone.2), omega (arith, down, low))
 
     -- a frame in which two enables differ, and one in which an enable is 0
-    differ_to : (u v : P) → rank_of u ≤ R → rank_of v ≤ R → EnablesDiffer (side f) u v → EnablesDiffer (side g) u v
+    pub differ_to : (u v : P) → rank_of u ≤ R → rank_of v ≤ R → EnablesDiffer (side f) u v → EnablesDiffer (side g) u v
     differ_to u v low low' d = record {
       bits = d.bits;
       left = d.left;
@@ -149,7 +149,7 @@ module _ {P : Type 0} (c : Circuit P) (single : IsSingleDriven c) (same : (p q :
       differ = d.differ;
     }
 
-    off_to : (u : P) → rank_of u ≤ R → SometimesOff (side f) u → SometimesOff (side g) u
+    pub off_to : (u : P) → rank_of u ≤ R → SometimesOff (side f) u → SometimesOff (side g) u
     off_to u low d = record { bits = d.bits; care = enable_care d.bits u low d.care; off = enable_to R f g agree d.bits u [] false low d.off }
 
   -- the lower of two classes can't be the first that fits
@@ -166,18 +166,18 @@ module _ {P : Type 0} (c : Circuit P) (single : IsSingleDriven c) (same : (p q :
           let x = differ_to (rank_of v) g f agree d.0 v (low d.0 d.1) (omega arith) d.3 in
           x.differ (equal d.0 d.1 (members d.0 d.1 ∙ d.2) x.bits x.left x.right x.left_care x.right_care x.left_is x.right_is)
 
-  fold_same : (f g : P → ℕ) (n : ℕ) (xs : List P) → ((u : P) → Contains xs u → f u ≡ g u) → fold (λ m u. max m (f u)) n xs ≡ fold (λ m u. max m (g u)) n xs
+  pub fold_same : (f g : P → ℕ) (n : ℕ) (xs : List P) → ((u : P) → Contains xs u → f u ≡ g u) → fold (λ m u. max m (f u)) n xs ≡ fold (λ m u. max m (g u)) n xs
   fold_same f g n [] h = refl
   fold_same f g n (x ∷ xs) h = fold_same f g (max n (f x)) xs (λ u k. h u (Contains-tail x u xs k)) ∙ ap (λ m. fold (λ m u. max m (g u)) (max n m) xs) (h x (Contains-head x xs))
 
   -- earlier in the order is no deeper
-  abbrev Before : P → P → Type 0
+  abbrev pub Before : P → P → Type 0
   Before u v = (d e i j : ℕ) → IsDepth c On u d → IsDepth c On v e → slice_get (latches_of c) i ≡ Some u → slice_get (latches_of c) j ≡ Some v → (d < e) ⊎ ((d ≡ e) × (i < j))
 
-  place_of : (u : P) → On u → (i : ℕ) × (slice_get (latches_of c) i ≡ Some u)
+  pub place_of : (u : P) → On u → (i : ℕ) × (slice_get (latches_of c) i ≡ Some u)
   place_of u en = at_of (latches_of c) u (filter_map-has latch_place c.equations (Latch en.name u en.next) u en.latch refl)
 
-  depth_of : (u : P) → On u → IsDepth c On u (rank_of u)
+  pub depth_of : (u : P) → On u → IsDepth c On u (rank_of u)
   depth_of u en = rank_is c single same depths en.name u en.next en.latch
 
   -- two class maps that both give their classes to the latches taken so far, which stand first in the order

@@ -1,6 +1,7 @@
 //! The laws of the event form. None of these functions does anything: each contract is a law that is proved for all flat nets, by the
 //! same definitions that the contracts of the working calls cite.
 
+ghost use Rattle.event_laws.specs.ClassSteps.{ClassMapGoesOn, TwinsFitOneClass};
 ghost use Rattle.event_laws.specs.Laws.{EventFunctionsAgree, ExposedEventFunctionsAgree, SettledHasEvents, EventsAreCommon, EventWitnessMakesDiffer, SidesAreParts, CutIsNet, TreesAreFrameValues, ClassesAreOne, DifferencesAreShown, EventDifferenceIsWitness, ExposedEventsAreCommon, ClassesSoFarAreOne, ReachedAreListed, ClosedListsAreReached, ExposedNamesAreApart, FrameValuesExist, SeparationsAreOne, FoundersAreApart, SidesUnfoldAsParts};
 
 /// Where the event functions of each pair of outputs agree in each frame with care for both, the two circuits agree in the event mode
@@ -75,6 +76,17 @@ pub fn exposed_events_are_common()
 /// Two class maps of one pair of circuits give the same classes as far as both go.
 pub fn classes_so_far_are_one()
     ensures { ClassesSoFarAreOne }
+{}
+
+/// A class map is made latch by latch: it begins where the plain latches are of class 0, and goes on where the next latch is given the first
+/// class that fits.
+pub fn class_map_goes_on()
+    ensures { ClassMapGoesOn }
+{}
+
+/// A latch whose enable and care are those of one that was taken before joins its class, and needs no comparison with other members.
+pub fn twins_fit_one_class()
+    ensures { TwinsFitOneClass }
 {}
 
 /// The latches that event unfoldings reach, each at its event nodes, are a finite list.

@@ -5,7 +5,7 @@ use Rattle.std.specs.List.{Contains}
 use Rattle.circuit_theory.specs.Circuit.{IsLatch, Reads, Reaches}
 use Rattle.circuit_theory.specs.Run.{IsEnabled, IsDetermined}
 use Rattle.circuit_theory.specs.Joined.{Either, Left, Right}
-use Rattle.event_theory.specs.Frame.{ReachedAt}
+use Rattle.event_theory.specs.Frame.{ReachedAt, IsEnable}
 use Rattle.event_theory.specs.Classes.{IsLatchOrder}
 use Rattle.event_theory.specs.EventSizes.{Start}
 use Rattle.event_theory.specs.EventTotals.{StartLatches, IsMapSoFar}
@@ -14,13 +14,16 @@ use Rattle.circuit_theory.proofs.Lists.{only}
 use Rattle.circuit_laws.proofs.NetLaws.{net_determined}
 use Rattle.circuit_laws.proofs.Parts.{determined_up, reaches_from}
 use Rattle.circuit_laws.proofs.JoinedParts.{left_part, replace_left, joined_same, left_is_not_right}
+use Rattle.event_laws.specs.ClassSteps.{IsFirstFit, HaveTwinEnables}
+use Rattle.event_laws.proofs.ClassSteps.{class_map_goes_on_in_nets}
+use Rattle.event_laws.proofs.Twins.{twins_fit_in_nets}
 use Rattle.event_laws.proofs.FrameExist.{frame_values_exist_in_nets}
 use Rattle.event_laws.proofs.ReachedLatches.{closed_lists_are_reached}
 use Rattle.event_samples.specs.Samples.{numbers, class_of}
-use Rattle.event_samples.specs.Events.{FramesHaveValues, HasMapsSoFar, HasReachedList, start_y, reached_y}
+use Rattle.event_samples.specs.Events.{FramesHaveValues, HasMapsSoFar, HasFirstFit, HasTwin, HasReachedList, start_y, reached_y}
 use Rattle.circuit_samples.proofs.Each.{each_at, each_latch}
-use Rattle.event_samples.proofs.HoldCells.{no_others}
-use Rattle.event_samples.proofs.TwoClasses.{left_side, right_side, whole, side, left_net, right_net, single, number_once, all_hold, depths, latch_order, class_map, order, left_q_latch, left_r_latch, left_y_reads}
+use Rattle.event_samples.proofs.HoldCells.{no_others, hold_enable, hold_enable_is, enable_care}
+use Rattle.event_samples.proofs.TwoClasses.{left_side, right_side, whole, side, left_net, right_net, single, number_once, all_hold, depths, latch_order, class_map, order, left_q, right_q, right_q_latch, left_q_latch, left_r_latch, left_y_reads}
 
 pub frames_have_values : FramesHaveValues
 frames_have_values bits = frame_values_exist_in_nets left_side right_side 11 11 numbers numbers class_of left_net right_net refl refl depths bits
@@ -35,6 +38,36 @@ so_far taken rest e = record {
 
 pub maps_so_far : HasMapsSoFar
 maps_so_far = (so_far (Left 3 ∷ []) (Left 5 ∷ Right 3 ∷ Right 5 ∷ []) refl, so_far (Left 3 ∷ Left 5 ∷ []) (Right 3 ∷ Right 5 ∷ []) refl)
+
+-- the class of the second latch is its first fit beside the first one, so the map goes on
+fit : IsFirstFit side (Left 3 ∷ []) (Left 5) (class_of (Left 5))
+fit =
+    let first = class_map.each (Left 3 ∷ []) (Right 3 ∷ Right 5 ∷ []) (Left 5) refl in
+    record { not_past_next = first.not_past_next; joins = first.joins; not_earlier = first.not_earlier }
+
+pub first_fit : HasFirstFit
+first_fit = (
+  fit,
+  (class_map_goes_on_in_nets left_side right_side 11 11 numbers numbers class_of left_net right_net depths).1 class_of (Left 3 ∷ []) (Right 3 ∷ Right 5 ∷ []) (Left 5) (so_far (Left 3 ∷ []) (Left 5 ∷ Right 3 ∷ Right 5 ∷ []) refl) fit (λ u other. refl),
+)
+
+-- q of both circuits is loaded by the first input, and its enable needs no care
+twins : HaveTwinEnables side (Right 3) (Left 3)
+twins = record {
+  care_to = λ bits care. enable_care side joined_same single number_once all_hold bits (Left 3);
+  care_back = λ bits care. enable_care side joined_same single number_once all_hold bits (Right 3);
+  to = λ bits x care at. subst (IsEnable side (IsEnabled whole) bits (Left 3) []) (sym (hold_enable_is side joined_same single number_once (codes "q") (Right 3) (Right 4) right_q_latch right_q bits [] x at))
+      (hold_enable side joined_same single number_once (codes "q") (Left 3) (Left 4) left_q_latch left_q bits []);
+  back = λ bits x care at. subst (IsEnable side (IsEnabled whole) bits (Right 3) []) (sym (hold_enable_is side joined_same single number_once (codes "q") (Left 3) (Left 4) left_q_latch left_q bits [] x at))
+      (hold_enable side joined_same single number_once (codes "q") (Right 3) (Right 4) right_q_latch right_q bits []);
+}
+
+pub twin_fits : HasTwin
+twin_fits = (
+  twins,
+  twins_fit_in_nets left_side right_side 11 11 numbers numbers class_of left_net right_net refl (Left 3 ∷ Left 5 ∷ []) (Right 3 ∷ Right 5 ∷ []) (Right 3) (Left 3) (so_far (Left 3 ∷ Left 5 ∷ []) (Right 3 ∷ Right 5 ∷ []) refl)
+      (0, omega arith, refl) twins,
+)
 
 At : LatchAtNode (Either ℕ ℕ) → Type 0
 At = Contains reached_y

@@ -13,6 +13,7 @@ use Rattle.event_theory.specs.EventFits.{side_by_side}
 use Rattle.event_theory.specs.EventSizes.{Start}
 use Rattle.event_theory.specs.EventTotals.{StartLatches, IsMapSoFar}
 use Rattle.event_theory.specs.Reached.{LatchAtNode, AreReached, IsClosed}
+use Rattle.event_laws.specs.ClassSteps.{IsFirstFit, HaveTwinEnables}
 use Rattle.event_samples.specs.Samples.{before, behind, exposed, numbers, class_of, opened_both, opened_side}
 
 -- two classes besides `always`
@@ -54,6 +55,14 @@ FramesHaveValues = (bits : ℕ → List ℕ → Bool) → (w : List ℕ → Eith
 -- the class map when one latch is taken, and when two are
 abbrev pub HasMapsSoFar : Type 0
 HasMapsSoFar = IsMapSoFar opened_side (Left 3 ∷ []) (Left 5 ∷ Right 3 ∷ Right 5 ∷ []) × IsMapSoFar opened_side ((Left 3 ∷ []) ++ (Left 5 ∷ [])) (Right 3 ∷ Right 5 ∷ [])
+
+-- the next latch is given its first fit
+abbrev pub HasFirstFit : Type 0
+HasFirstFit = IsFirstFit opened_side (Left 3 ∷ []) (Left 5) (class_of (Left 5)) × IsMapSoFar opened_side ((Left 3 ∷ []) ++ (Left 5 ∷ [])) (Right 3 ∷ Right 5 ∷ [])
+
+-- the second circuit's q has the enable and the care of the first one's, and so its class
+abbrev pub HasTwin : Type 0
+HasTwin = HaveTwinEnables opened_side (Right 3) (Left 3) × IsFirstFit opened_side (Left 3 ∷ Left 5 ∷ []) (Right 3) (class_of (Left 3))
 
 -- the unfolding of y of the first circuit
 abbrev pub start_y : List (Start (Either ℕ ℕ))

@@ -18,7 +18,7 @@ ghost use Rattle.event_samples.specs.Always.{always_loads, nothing, always_both,
 ghost use Rattle.event_samples.specs.Samples.{before, behind, cleared, exposed, opened_before, opened_behind, opened_cleared, opened_side, numbers, class_of};
 ghost use Rattle.event_samples.specs.Assumed.{a_is_one, PairsAreEqualUnder};
 ghost use Rattle.event_samples.specs.Premises.{AreEventSides, AreExposedSides, PairsAreEqual};
-ghost use Rattle.event_samples.specs.Events.{HasTwoClasses, HasSettledPair, HasExposedSettledPair, FramesHaveValues, HasMapsSoFar, HasReachedList, root_variable, opened_order};
+ghost use Rattle.event_samples.specs.Events.{HasTwoClasses, HasSettledPair, HasExposedSettledPair, FramesHaveValues, HasMapsSoFar, HasFirstFit, HasTwin, HasReachedList, root_variable, opened_order};
 
 /// Two circuits with two load enables: one loads a complement, the other complements what it has loaded. There are two classes besides
 /// `always`, the outputs have equal event functions, and the circuits agree.
@@ -57,6 +57,16 @@ pub fn frames_have_values()
 /// A class map that is partly made, and one that goes on from it.
 pub fn maps_so_far()
     ensures { HasMapsSoFar }
+{}
+
+/// A class map goes on: the next latch is given the first class that fits.
+pub fn first_fit()
+    ensures { HasFirstFit }
+{}
+
+/// A latch of the second circuit joins the class of its like in the first.
+pub fn twin_fits()
+    ensures { HasTwin }
 {}
 
 /// A closed list of the latches that an output reaches.

@@ -6,14 +6,11 @@ use Rattle.edbf_unfold.proofs.reached.put_all.Goals as goal
 pub returns-in_err-put-clause-adds : goal.returns-in_err-put-clause-adds
 returns-in_err-put-clause-adds c = fanin_adds c.args.latches.now c.args.node c.loop-latch.latch-index _ _ _ _ c.loop-latch-test.true c.loop-latch.invariant.adds c.put.ensures.adds
 
-pub returns-in_err-put-clause-few : goal.returns-in_err-put-clause-few
-returns-in_err-put-clause-few c = λ h. c.put.ensures.few (c.loop-latch.invariant.few h)
-
 pub loop-latch-preserved : goal.loop-latch-preserved
 loop-latch-preserved c = record {
   adds = fanin_adds c.args.latches.now c.args.node c.loop-latch.latch-index _ _ _ _ c.loop-latch-test.true c.loop-latch.invariant.adds c.put.ensures.adds;
   all = fanin_all c.args.latches.now c.args.node c.loop-latch.latch-index _ _ _ c.loop-latch-test.true c.loop-latch.invariant.all c.put.ensures.adds c.in_ok-put.ensures.here;
-  few = λ h. c.put.ensures.few (c.loop-latch.invariant.few h);
+  few = c.in_ok-put.ensures.few;
 }
 
 pub returns-clause-all : goal.returns-clause-all

@@ -8,5 +8,5 @@ abbrev pub invariant-loop-latch : goal.invariant-loop-latch
 invariant-loop-latch l = record {
   adds : Adds (λ (q : ℕ × ℕ). (f : Signal) × Contains l.latches f × ((l.node, f.0) ≡ q)) l.initial.table l.table;
   all : All (λ (f : Signal). Contains l.table (l.node, f.0)) (take l.latch-index l.latches);
-  few : length l.initial.table ≤ l.cap → length l.table ≤ l.cap;
+  few : length l.table ≤ l.cap;
 }

@@ -13,7 +13,7 @@ loop-at-preserved c = elim c.match-driver.branch [
   | in-Latch+in_ok-put w ↦ rw w.table-is record {
     adds = root_adds c.args.net.now c.keeps.ensures.sound c.args.signals.now.keys _ _ _ c.loop-at.at _ _ c.index-signal.ensures (c.driver.ensures ∙ ap Some w.in-Latch.is) c.loop-at.invariant.adds w.put.ensures.adds;
     all = root_more c.args.net.now c.args.signals.now.keys _ _ c.loop-at.at _ c.index-signal.ensures c.loop-at.invariant.all w.put.ensures.adds w.in_ok-put.ensures.here;
-    few = λ h. w.put.ensures.few (c.loop-at.invariant.few h);
+    few = w.in_ok-put.ensures.few;
   }
   | in_default w ↦ rw w.table-is record {
     adds = c.loop-at.invariant.adds;
