@@ -6,13 +6,13 @@ use std::alloc::Global;
 
 /// Variables and their bits.
 #[derive(Drop)]
-pub(crate) struct Model {
+pub struct Model {
     pub vars: Vec<u32>,
     pub bits: Vec<bool>,
 }
 
 /// The bits of those of these nodes that are a variable's.
-pub(crate) fn model_of(
+pub fn model_of(
     alloc: Global,
     graph: &Aig,
     numbers: &[u32],

@@ -1,0 +1,13 @@
+//! Which nodes of an and-inverter graph may agree, and which nodes round two literals are looked at to prove it. What is handed out here
+//! is a guess: no clause sees it, and what is merged is proved in `sweep`.
+#![tactic(auto)]
+
+mod columns;
+mod first_nodes;
+mod hints;
+mod models;
+mod windows;
+
+pub use hints::Hints;
+pub use models::{Model, model_of};
+pub use windows::{cut_of, small_cone_of, window_of};
