@@ -12,14 +12,19 @@ use Rattle.sec_outcome.specs.declared.outcome.Verdict.{Verdict}
 use Rattle.sec_outcome.specs.declared.outcome.Verdict.TheVariants as verdict
 use Rattle.sec_check.specs.Compared.{Compared}
 use Rattle.sec_files.specs.Loading.{Loads}
-use Rattle.sec_run.specs.declared.finding.Finding.{Finding}
-use Rattle.sec_run.specs.declared.finding.Finding.TheVariants as finding
-use Rattle.sec_run.specs.declared.status.StatusName.{StatusName}
-use Rattle.sec_run.specs.declared.status.StatusName.TheVariants as status
-use Rattle.sec_run.specs.declared.finding.Refusal.TheVariants as refusal
-use Rattle.sec_run.specs.Answer.{Held, AreComparable, CanAnswer, EndsAs, IsAnswer, IsFinding, IsFoundOf, OfNets, status_of, verdict_status}
-use Rattle.sec_run.specs.Job.{Check, WhereBuilt}
-use Rattle.sec_run.specs.Promises.{EndsWith, IsComplete}
+use Rattle.job_base.specs.declared.finding.Finding.{Finding}
+use Rattle.job_base.specs.declared.finding.Finding.TheVariants as finding
+use Rattle.job_base.specs.declared.status.StatusName.{StatusName}
+use Rattle.job_base.specs.declared.status.StatusName.TheVariants as status
+use Rattle.job_base.specs.declared.finding.Refusal.TheVariants as refusal
+use Rattle.job_files.specs.Reading.{Held}
+use Rattle.job_check.specs.Answer.{AreComparable, CanAnswer, IsAnswer}
+use Rattle.sec_run.specs.Answer.{EndsAs, IsFinding}
+use Rattle.job_check.specs.Found.{IsFoundOf, OfNets}
+use Rattle.job_base.specs.Written.{status_of, verdict_status}
+use Rattle.job_check.specs.Check.{Check, WhereBuilt}
+use Rattle.job_base.specs.Meaning.{EndsWith}
+use Rattle.sec_run.specs.Promises.{IsComplete}
 use Rattle.premise_rows.specs.OneText.{OfCheck, OfOneText, IsEqualAnswer}
 use Rattle.premise_rows.proofs.OneText.{one_text_is_equal}
 

@@ -10,7 +10,7 @@ use Rattle.latch_cone.specs.declared.kinds.LatchKind.{LatchKind}
 use Rattle.latch_cone.specs.declared.kinds.LatchKind.TheVariants as kind
 use Rattle.latch_cone.specs.Kinds.{AreKindsIn}
 use Rattle.sec_files.specs.Loading.{Loads}
-use Rattle.sec_run.specs.Reports.{CanBeTold, CanBeRun}
+use Rattle.job_circuit.specs.Reports.{CanBeTold, CanBeRun}
 use Rattle.design_rows.specs.Designs.{one_model}
 use Rattle.premise_rows.specs.Texts.{toggle}
 

@@ -8,12 +8,13 @@ use Rattle.sec_setup.specs.Cycles.{IsAcyclic}
 use Rattle.sec_check.specs.Compared.{IsCompared}
 use Rattle.sec_check.specs.Fitting.{IsCutOver}
 use Rattle.sec_files.specs.Loading.{IsAccepted, Loads}
-use Rattle.sec_run.specs.declared.status.StatusName.{StatusName}
-use Rattle.sec_run.specs.declared.status.StatusName.TheVariants as status
+use Rattle.job_base.specs.declared.status.StatusName.{StatusName}
+use Rattle.job_base.specs.declared.status.StatusName.TheVariants as status
 use Rattle.sec_words.specs.declared.task.Task.{Task}
 use Rattle.sec_words.specs.declared.task.Task.TheVariants as task
-use Rattle.sec_run.specs.Job.{Check, WhereBuilt}
-use Rattle.sec_run.specs.Answer.{Held, AreComparable}
+use Rattle.job_check.specs.Check.{Check, WhereBuilt}
+use Rattle.job_files.specs.Reading.{Held}
+use Rattle.job_check.specs.Answer.{AreComparable}
 
 -- Two nets that one text loads as are equal wherever they are compared, however few conflicts are allowed.
 abbrev pub OneTextIsEqual : Type 0

@@ -1,7 +1,7 @@
 -- A stimulus and power words that fit a circuit, in the plain mode.
 use Rattle.std.specs.Prelude.{Some, None, codes}
 use Rattle.circuit_theory.specs.declared.Mode.TheVariants.{Plain}
-use Rattle.sec_run.specs.Reports.{CanBeRun}
+use Rattle.job_circuit.specs.Reports.{CanBeRun}
 use Rattle.premise_rows.specs.Texts.{two, three_cycles}
 
 -- two latches in a row, without a power word and with one

@@ -3,7 +3,7 @@
 
 ghost use Rattle.std.specs.Prelude.{◌≢◌, map, string_bytes};
 ghost use Rattle.sec_words.specs.Jobs.{job_of};
-ghost use Rattle.sec_run.specs.Answer.{AreComparable};
+ghost use Rattle.job_check.specs.Answer.{AreComparable};
 ghost use Rattle.premise_rows.specs.OneText.{OneTextIsEqual, UnfoldedIsComparable, OfCheck, OfOneText, IsEqualAnswer};
 ghost use Rattle.premise_rows.specs.OneReport.{GraphReportsAreOne, SimReportsAreOne};
 ghost use Rattle.premise_rows.specs.Premises.{AndsAreComparable, RetimedAreComparable, HierarchyIsComparable, CyclicAreComparable, TextsAreAccepted, TextsCanBeUnfolded, RingIsCutOnce};

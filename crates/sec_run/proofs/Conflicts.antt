@@ -1,11 +1,11 @@
 -- A job of the words allows at most 200,000 conflicts.
-use Rattle.std.proofs.Common.{◌≡◌, ℕ, ◌≤◌, length, Bool, true, false, cond, List, refl, subst, inl, inr, ◌⊎◌, Option, Some, None}
 use Rattle.std.specs.Prelude.{◌==◌, option_and_then, option_map, codes, bytes_eq}
 use Rattle.std.specs.Str.Parse.{digits_value, without_leading_plus}
-use Rattle.circuit_theory.specs.declared.Mode.{Mode}
 use Rattle.clap.specs.Words.{Row, Text, fault_of, first_of, subcommand_of}
 use Rattle.clap.specs.ValueTests.{accepts}
+use Rattle.std.proofs.Common.{◌≡◌, ℕ, ◌≤◌, length, Bool, true, false, cond, List, refl, subst, inl, inr, ◌⊎◌, Option, Some, None}
 use Rattle.clap.proofs.ValueTestLemmas.{accepts-Accepts}
+use Rattle.circuit_theory.specs.declared.Mode.{Mode}
 use Rattle.sec_base.specs.declared.settings.Settings.{Settings}
 use Rattle.sec_words.specs.declared.task.Task.{Task}
 use Rattle.sec_words.specs.declared.task.Task.TheVariants as task

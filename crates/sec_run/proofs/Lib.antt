@@ -1,10 +1,3 @@
-pub mod Complete
-pub mod CompleteReports
 pub mod Conflicts
-pub mod Finds
-pub mod Fitted
 pub mod Means
-pub mod OneCircuit
 pub mod Promises
-pub mod Texts
-pub mod ToldCycles

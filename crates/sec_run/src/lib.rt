@@ -2,11 +2,6 @@
 #![tactic(auto)]
 
 mod calls;
-mod comparison;
-mod finding;
-mod reports;
-mod status;
-mod writing;
 
 pub use calls::{run, run_job};
-pub use status::{Proofs, Status, StatusName};
+pub use job_base::{Proofs, Status, StatusName};

@@ -1,13 +1,15 @@
-use Rattle.std.proofs.Common.{◌≡◌, ℕ, List, [], sym, subst, ap, refl, Option, None, Err}
 use Rattle.std.specs.List.{All}
+use Rattle.std.proofs.Common.{◌≡◌, [], sym, subst, ap, refl, Option, None, Err}
 use Rattle.sec_words.specs.declared.task.Task.{Task}
-use Rattle.sec_run.specs.declared.finding.Finding.TheVariants as finding
+use Rattle.job_base.specs.declared.finding.Finding.TheVariants as finding
+use Rattle.job_base.proofs.Meaning.{no_read_fault}
+use Rattle.job_files.specs.Reading.{ReadFailed}
 use Rattle.sec_run.specs.Answer.{IsTaken, IsFinding}
 use Rattle.sec_run.specs.Job.{paths_in}
-use Rattle.sec_run.specs.Promises.{ReadFailed, Means, IsComplete}
+use Rattle.sec_run.specs.Promises.{Means, IsComplete}
 use Rattle.sec_run.proofs.Conflicts.{few_conflicts}
 use Rattle.sec_run.proofs.Means.{written_ends}
-use Rattle.sec_run.proofs.Promises.{means, memory_means, written_is_complete, memory_is_complete, no_read_fault}
+use Rattle.sec_run.proofs.Promises.{means, memory_means, written_is_complete, memory_is_complete}
 use Rattle.sec_run.proofs.calls.run.Goals as goal
 
 pub run_job-requires : goal.run_job-requires

@@ -1,7 +1,5 @@
-use Rattle.std.proofs.Common.{List, ℕ, sym, subst, Some}
-use Rattle.sec_run.specs.declared.status.StatusName.{StatusName}
+use Rattle.std.proofs.Common.{sym, subst, Some}
 use Rattle.sec_run.specs.Promises.{Means, IsComplete}
-use Rattle.sec_run.proofs.Means.{written_ends}
 use Rattle.sec_run.proofs.Promises.{means, memory_means, fault_means, written_is_complete, memory_is_complete}
 use Rattle.sec_run.proofs.calls.run_job.Goals as goal
 

@@ -1,0 +1,5 @@
+pub mod Ends
+pub mod Lines
+pub mod Meaning
+pub mod Status
+pub mod Written

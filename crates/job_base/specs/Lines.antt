@@ -1,0 +1,101 @@
+-- The text that a run writes.
+use Rattle.std.specs.Prelude.{ℕ, List, [], ◌∷◌, ◌++◌, codes}
+use Rattle.std.specs.Fmt.{decimal}
+use Rattle.circuit_theory.specs.declared.Side.{Side}
+use Rattle.circuit_theory.specs.declared.Side.TheVariants.{A, B}
+use Rattle.sec_base.specs.Texts.{names_text}
+use Rattle.blif_read.specs.declared.error.ReadKind.{ReadKind}
+use Rattle.blif_read.specs.declared.error.ReadKind.TheVariants as kind
+use Rattle.sim_report.specs.declared.refusal.Misfit.{Misfit}
+use Rattle.sim_report.specs.declared.refusal.Misfit.TheVariants as misfit
+use Rattle.flat_walk.specs.declared.error.FlatError.{FlatError}
+use Rattle.flat_walk.specs.declared.error.FlatError.TheVariants as flat
+use Rattle.sec_outcome.specs.Report.{report_text}
+use Rattle.job_base.specs.declared.finding.Refusal.{Refusal}
+use Rattle.job_base.specs.declared.finding.Refusal.TheVariants as refusal
+use Rattle.job_base.specs.declared.finding.Finding.{Finding}
+use Rattle.job_base.specs.declared.finding.Finding.TheVariants as finding
+
+abbrev pub side_word : Side → List ℕ
+side_word A = codes "A"
+side_word B = codes "B"
+
+-- the kind of a faulty line; an unsupported word stands behind it
+abbrev pub kind_text : ReadKind → List ℕ
+kind_text (kind.Unsupported word) = codes "Unsupported " ++ word
+kind_text kind.UnknownWord = codes "UnknownWord"
+kind_text kind.NoModel = codes "NoModel"
+kind_text kind.BadCount = codes "BadCount"
+kind_text kind.BadRow = codes "BadRow"
+kind_text kind.MixedCover = codes "MixedCover"
+kind_text kind.BadLatchType = codes "BadLatchType"
+kind_text kind.BadInit = codes "BadInit"
+kind_text kind.BadPair = codes "BadPair"
+kind_text kind.DuplicateModel = codes "DuplicateModel"
+kind_text kind.DuplicatePort = codes "DuplicatePort"
+kind_text kind.NameTooLong = codes "NameTooLong"
+kind_text kind.StrayRow = codes "StrayRow"
+kind_text kind.ControlByte = codes "ControlByte"
+
+-- the kind of a design's fault, with the names that it has
+abbrev pub design_fault_text : FlatError → List ℕ
+design_fault_text (flat.UnknownModel name) = codes "UnknownModel " ++ name
+design_fault_text (flat.Recursive name) = codes "Recursive " ++ name
+design_fault_text (flat.UnknownFormal name) = codes "UnknownFormal " ++ name
+design_fault_text (flat.FormalTwice name) = codes "FormalTwice " ++ name
+design_fault_text (flat.OpenInput name) = codes "OpenInput " ++ name
+design_fault_text (flat.TwoDrivers name) = codes "TwoDrivers " ++ name
+design_fault_text (flat.Undriven name) = codes "Undriven " ++ name
+design_fault_text (flat.TwoClocks name) = codes "TwoClocks " ++ name
+design_fault_text (flat.TwoEdges name) = codes "TwoEdges " ++ name
+design_fault_text (flat.GatedClock name) = codes "GatedClock " ++ name
+design_fault_text (flat.ClockRead name) = codes "ClockRead " ++ name
+design_fault_text (flat.Loop names) = codes "Loop" ++ names_text names
+design_fault_text (flat.TooDeep name) = codes "TooDeep " ++ name
+design_fault_text flat.TooMany = codes "TooMany"
+design_fault_text flat.LongName = codes "LongName"
+design_fault_text flat.NoMemory = codes "NoMemory"
+
+-- what doesn't fit a circuit
+abbrev pub misfit_text : Misfit → List ℕ
+misfit_text (misfit.Unknown name) = codes "refused S Unknown " ++ name ++ 10 ∷ []
+misfit_text (misfit.Missing name) = codes "refused S Missing " ++ name ++ 10 ∷ []
+misfit_text misfit.Power = codes "refused Power" ++ 10 ∷ []
+
+abbrev pub refusal_text : Refusal → List ℕ
+refusal_text refusal.NotBuilt = codes "refused NotYet" ++ 10 ∷ []
+refusal_text (refusal.TooLong side) = codes "refused " ++ side_word side ++ codes " TooLong" ++ 10 ∷ []
+refusal_text (refusal.Text side line k) = codes "refused " ++ side_word side ++ codes " line " ++ decimal line ++ 32 ∷ [] ++ kind_text k ++ 10 ∷ []
+refusal_text (refusal.Design side fault) = codes "refused " ++ side_word side ++ 32 ∷ [] ++ design_fault_text fault ++ 10 ∷ []
+refusal_text (refusal.Interface name) = codes "refused Interface " ++ name ++ 10 ∷ []
+refusal_text (refusal.TooLarge side) = codes "refused " ++ side_word side ++ codes " TooLarge" ++ 10 ∷ []
+refusal_text refusal.StimulusTooLong = codes "refused S TooLong" ++ 10 ∷ []
+refusal_text (refusal.BadHeader line) = codes "refused S line " ++ decimal line ++ codes " BadHeader" ++ 10 ∷ []
+refusal_text (refusal.BadRow line) = codes "refused S line " ++ decimal line ++ codes " BadRow" ++ 10 ∷ []
+refusal_text (refusal.Misfit m) = misfit_text m
+
+-- the words are no job
+abbrev pub words_text : List ℕ
+words_text = codes "words refused" ++ 10 ∷ []
+
+-- a cycle of the circuit's latch graph
+abbrev pub cycle_text : Side → List (List ℕ) → List ℕ
+cycle_text side names = codes "cyclic " ++ side_word side ++ names_text names ++ 10 ∷ []
+
+-- a cycle of the circuit's latch graph that no latch breaks that both circuits name
+abbrev pub unpaired_text : Side → List (List ℕ) → List ℕ
+unpaired_text side names = codes "unpaired " ++ side_word side ++ names_text names ++ 10 ∷ []
+
+-- it isn't found out whether the circuit's latch of this name has a load enable
+abbrev pub undecided_text : List ℕ → List ℕ
+undecided_text name = codes "limit recover A:" ++ name ++ codes " conflicts 20000\n"
+
+-- the report of what was found
+abbrev pub finding_text : Finding → List ℕ
+finding_text finding.Words = words_text
+finding_text (finding.Refused r) = refusal_text r
+finding_text (finding.Cyclic side names) = cycle_text side names
+finding_text (finding.Unpaired side names) = unpaired_text side names
+finding_text (finding.Checked outcome settings) = report_text settings.conflicts outcome
+finding_text (finding.Done report) = report
+finding_text (finding.Undecided name proof) = undecided_text name

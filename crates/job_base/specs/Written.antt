@@ -1,0 +1,51 @@
+-- What is written of a finding, and with which status and proofs.
+use Rattle.std.specs.Prelude.{◌≡◌, ℕ, List, [], ◌∷◌, Option}
+use Rattle.std.specs.List.{filter_map}
+use Rattle.sec_base.specs.Outside.{Takes, TakesFront}
+use Rattle.pair_decide.specs.declared.query.Proof.{Proof}
+use Rattle.sec_outcome.specs.declared.outcome.PairResult.{PairResult}
+use Rattle.sec_outcome.specs.declared.outcome.Verdict.{Verdict}
+use Rattle.sec_outcome.specs.declared.outcome.Verdict.TheVariants as verdict
+use Rattle.job_base.specs.declared.finding.Finding.{Finding}
+use Rattle.job_base.specs.declared.finding.Finding.TheVariants as finding
+use Rattle.job_base.specs.declared.status.Status.{Status}
+use Rattle.job_base.specs.declared.status.StatusName.{StatusName}
+use Rattle.job_base.specs.declared.status.StatusName.TheVariants as status
+use Rattle.job_base.specs.Lines.{finding_text}
+
+-- the status of a verdict
+abbrev pub verdict_status : Verdict → StatusName
+verdict_status verdict.Equal = status.Equal
+verdict_status (verdict.Different w) = status.Different
+verdict_status (verdict.NotShown reason) = status.NotShown
+verdict_status (verdict.Limit at) = status.Limit
+
+-- the status of a finding
+abbrev pub status_of : Finding → StatusName
+status_of finding.Words = status.Words
+status_of (finding.Refused r) = status.Refused
+status_of (finding.Cyclic side names) = status.Cyclic
+status_of (finding.Unpaired side names) = status.Cyclic
+status_of (finding.Checked o settings) = verdict_status o.verdict
+status_of (finding.Done report) = status.Done
+status_of (finding.Undecided name proof) = status.Limit
+
+-- the proofs of the queries that met the limit, in the order of the pairs
+abbrev pub proofs_of : Finding → List Proof
+proofs_of finding.Words = []
+proofs_of (finding.Refused r) = []
+proofs_of (finding.Cyclic side names) = []
+proofs_of (finding.Unpaired side names) = []
+proofs_of (finding.Checked o settings) = filter_map (λ (r : PairResult). r.proof) o.pairs
+proofs_of (finding.Done report) = []
+proofs_of (finding.Undecided name proof) = proof ∷ []
+
+-- The report of a finding is taken whole, with the finding's status; or a front of it at a write fault; or nothing at want of memory.
+abbrev pub IsWrittenAs : Option (List ℕ) → Option (List ℕ) → Finding → List Proof → StatusName → Type 0
+IsWrittenAs before now f proofs status.ReadFault = ⊥
+IsWrittenAs before now f proofs status.NoMemory = (now ≡ before) × (proofs ≡ [])
+IsWrittenAs before now f proofs status.WriteFault = (proofs ≡ proofs_of f) × TakesFront before now (finding_text f)
+IsWrittenAs before now f proofs name = (proofs ≡ proofs_of f) × (status_of f ≡ name) × Takes before now (finding_text f)
+
+abbrev pub IsWritten : Option (List ℕ) → Option (List ℕ) → Finding → Status → Type 0
+IsWritten before now f s = IsWrittenAs before now f s.proofs s.name

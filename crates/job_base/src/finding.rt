@@ -1,0 +1,61 @@
+//! What a run finds and reports.
+
+use blif_read::ReadKind;
+use flat_walk::FlatError;
+use pair_decide::Proof;
+use sec_base::{Side, Text, Word, Words};
+use sec_outcome::{Outcome, Settings};
+use sim_report::Misfit;
+
+/// Why a job ends without an answer.
+#[derive(Drop)]
+pub enum Refusal {
+    /// No such job is built yet.
+    NotBuilt,
+    /// The file has more than 16,777,216 bytes.
+    TooLong(Side),
+    /// The first faulty line of a text, and what is wrong with it.
+    Text(Side, u32, ReadKind),
+    /// The first fault of a design.
+    Design(Side, FlatError),
+    /// The first name that one circuit has and the other lacks.
+    Interface(Word),
+    /// The unfoldings of the circuit's outputs weigh more than 2,000,000 together, where latches are cut open those of the cut
+    /// circuit's; or a latch is in its own cone, and that cone weighs more.
+    TooLarge(Side),
+    /// The file of the stimulus has more than 16,777,216 bytes.
+    StimulusTooLong,
+    /// The line of the stimulus, its first one, is no header.
+    BadHeader(u32),
+    /// The first line of the stimulus that is no row.
+    BadRow(u32),
+    /// What doesn't fit the circuit.
+    Misfit(Misfit),
+}
+
+/// What a report can be made of.
+#[derive(Drop)]
+pub enum Finding {
+    /// The words are no job.
+    Words,
+    Refused(Refusal),
+    /// The names of the latches of a cycle of the circuit's latch graph, beginning with the least.
+    Cyclic(Side, Words),
+    /// The names of the latches of a cycle of the circuit's latch graph that no latch breaks that both circuits have under one name,
+    /// in the same form.
+    Unpaired(Side, Words),
+    /// The outcome of a comparison that was made with these settings.
+    Checked(Outcome, Settings),
+    /// The report of one circuit.
+    Done(Text),
+    /// The name of the circuit's latch of which it wasn't found out within the limit of conflicts whether it has a load enable, and
+    /// the proof of that.
+    Undecided(Word, Proof),
+}
+
+/// Why the work on the files ends without a report.
+#[derive(Clone, Copy, PartialEq, Eq)]
+pub enum Stop {
+    ReadFault,
+    NoMemory,
+}

@@ -1,0 +1,11 @@
+//! What a job finds, how it ends, and the report that is written of it.
+#![tactic(auto)]
+
+mod finding;
+mod finishing;
+mod status;
+mod writing;
+
+pub use finding::{Finding, Refusal, Stop};
+pub use finishing::finish;
+pub use status::{Proofs, Status, StatusName};

@@ -1,0 +1,78 @@
+//! How a run ends.
+
+ghost use Rattle.std.specs.Prelude.{◌≡◌, []};
+ghost use Rattle.job_base.specs.Status.{code_of};
+
+use pair_decide::Proof;
+use sec_base::Seq;
+use std::alloc::Global;
+
+/// The proofs of queries that met the limit of conflicts, in the order in which the queries were decided.
+pub type Proofs = Seq<Proof>;
+
+/// The name of the way in which a run ends.
+#[derive(Clone, Copy, PartialEq, Eq)]
+pub enum StatusName {
+    /// The circuits agree.
+    Equal,
+    /// A printed sequence makes an output differ.
+    Different,
+    /// Latches were cut open, and a printed sequence makes a pair of the cut circuits differ.
+    NotShown,
+    /// A query wasn't decided within the number of conflicts.
+    Limit,
+    /// A text, an interface or a size is refused, or the job isn't built.
+    Refused,
+    /// The words are no job.
+    Words,
+    /// A read failed; nothing is written.
+    ReadFault,
+    /// The write failed; a front of the report is written.
+    WriteFault,
+    /// Memory was wanted and couldn't be had; nothing is written.
+    NoMemory,
+    /// A latch graph has a cycle, or one that no latch breaks that both circuits name where latches may be cut open.
+    Cyclic,
+    /// The report of one circuit is written.
+    Done,
+}
+
+/// How a run ended.
+#[derive(Drop)]
+pub struct Status {
+    pub name: StatusName,
+    /// One proof for each query that met the limit; with `WriteFault` those of the finished report.
+    pub proofs: Proofs,
+}
+
+impl Status {
+    /// The status of this name, without proofs.
+    pub fn bare(alloc: Global, name: StatusName) -> Status
+        ensures name { result.name ≡ name }
+        ensures proofs { result.proofs ≡ [] }
+    {
+        Status {
+            name,
+            proofs: Proofs::new(alloc),
+        }
+    }
+
+    /// The exit status of the program.
+    pub fn code(&self) -> u8
+        ensures { result ≡ code_of self.now.name }
+    {
+        match self.name {
+            StatusName::Equal => 0,
+            StatusName::Different => 1,
+            StatusName::NotShown => 2,
+            StatusName::Limit => 3,
+            StatusName::Refused => 4,
+            StatusName::Words => 5,
+            StatusName::ReadFault => 6,
+            StatusName::WriteFault => 7,
+            StatusName::NoMemory => 8,
+            StatusName::Cyclic => 9,
+            StatusName::Done => 0,
+        }
+    }
+}

@@ -1,0 +1,105 @@
+-- Where both texts are told and can be compared, what is found of them has the status of a verdict.
+use Rattle.std.specs.Prelude.{IfSome, IsSomeAnd}
+use Rattle.std.proofs.Common.{◌≡◌, ℕ, List, [], sym, ◌∙◌, subst, arith, Some, None}
+use Rattle.std.proofs.lemmas.Option.{none-some}
+use Rattle.circuit_theory.specs.declared.Side.{Side}
+use Rattle.circuit_theory.specs.declared.Side.TheVariants.{A, B}
+use Rattle.flat_net.specs.View.{circuit_of}
+use Rattle.sec_outcome.specs.declared.outcome.Verdict.{Verdict}
+use Rattle.sec_outcome.specs.declared.outcome.Verdict.TheVariants as verdict
+use Rattle.job_base.specs.declared.finding.Refusal.{Refusal}
+use Rattle.job_base.specs.declared.finding.Refusal.TheVariants as refusal
+use Rattle.job_base.specs.declared.finding.Finding.{Finding}
+use Rattle.job_base.specs.declared.finding.Finding.TheVariants as finding
+use Rattle.job_base.specs.Written.{verdict_status, status_of}
+use Rattle.exposure.specs.Common.{common_names}
+use Rattle.sec_setup.specs.Cycles.{AreBroken}
+use Rattle.sec_files.specs.Loading.{IsAccepted, IsTooLong, HasFault, HasDesignFault}
+use Rattle.job_files.specs.Reading.{Held}
+use Rattle.job_files.proofs.Reading.{some_and, if_told}
+use Rattle.job_check.specs.Check.{Check}
+use Rattle.job_check.specs.Found.{OfTexts, IsRefusal, IsFoundOf}
+use Rattle.job_check.specs.Answer.{AreComparable, CanAnswer, IsAnswer}
+use Rattle.job_check.proofs.ToldCycles.{is_not_free}
+
+-- the two texts that are told
+record AreTold (held : Held) (check : Check) : Type 0 where
+  pub left : List ℕ
+  pub right : List ℕ
+  pub left_is : held check.left ≡ Some left
+  pub right_is : held check.right ≡ Some right
+  pub comparable : AreComparable left right check.settings.expose
+
+are_told : (held : Held) (check : Check) → CanAnswer held check → AreTold held check
+are_told held check h =
+    let left = some_and (held check.left) (λ x. IsSomeAnd (held check.right) (λ y. AreComparable x y check.settings.expose)) h in
+    let right = some_and (held check.right) (λ y. AreComparable left.0 y check.settings.expose) left.2 in
+    record { left = left.0; right = right.0; left_is = left.1; right_is = right.1; comparable = right.2 }
+
+module _ (held : Held) (check : Check) (told : AreTold held check) where
+  of_left : (P : List ℕ → Type 0) → IfSome (held check.left) P → P told.left
+  of_left P h = if_told (held check.left) P told.left told.left_is h
+
+  of_texts : (P : List ℕ → List ℕ → Type 0) → OfTexts held check P → P told.left told.right
+  of_texts P h = if_told (held check.right) (λ y. P told.left y) told.right told.right_is (if_told (held check.left) (λ x. IfSome (held check.right) (λ y. P x y)) told.left told.left_is h)
+
+  too_long : (x : List ℕ) → IsAccepted x → IsTooLong x → ⊥
+  too_long x accepted h = omega (arith, accepted.short)
+
+  no_fault : {X : Type 0} (x : X) → None ≡ Some x → ⊥
+  no_fault x e = none-some x e
+
+  no_refusal : (r : Refusal) → IsRefusal held check r → ⊥
+  no_refusal refusal.NotBuilt h = h
+  no_refusal (refusal.TooLong A) h = too_long told.left told.comparable.left (of_left IsTooLong h)
+  no_refusal (refusal.TooLong B) h = too_long told.right told.comparable.right (of_texts _ h).2
+  no_refusal (refusal.Text A line kind) h = no_fault _ (sym told.comparable.left.faultless ∙ (of_left (λ x. HasFault x line kind) h).1)
+  no_refusal (refusal.Text B line kind) h = no_fault _ (sym told.comparable.right.faultless ∙ (of_texts _ h).2.1)
+  no_refusal (refusal.Design A fault) h = told.comparable.left.sound fault (of_left (λ x. HasDesignFault x fault) h).2
+  no_refusal (refusal.Design B fault) h = told.comparable.right.sound fault (of_texts _ h).2.2
+  no_refusal (refusal.Interface name) h = let n = of_texts _ h in no_fault _ (sym (told.comparable.match n.0 n.1 n.2 n.3) ∙ n.4)
+  no_refusal (refusal.TooLarge side) h = let n = of_texts _ h in told.comparable.light n.0 n.1 n.2 n.3 side n.4.2
+  no_refusal refusal.StimulusTooLong h = h
+  no_refusal (refusal.BadHeader line) h = h
+  no_refusal (refusal.BadRow line) h = h
+  no_refusal (refusal.Misfit m) h = h
+
+  no_cycle : (side : Side) (names : List (List ℕ)) → IsFoundOf held check (finding.Cyclic side names) → ⊥
+  no_cycle A names h =
+      let n = of_texts _ h in
+      let free = subst (AreBroken n.0 n.1) n.4.1 (told.comparable.broken n.0 n.1 n.2 n.3) in
+      is_not_free n.0 [] names n.4.2 free.0
+  no_cycle B names h =
+      let n = of_texts _ h in
+      let free = subst (AreBroken n.0 n.1) n.4.1 (told.comparable.broken n.0 n.1 n.2 n.3) in
+      is_not_free n.1 [] names n.4.3 free.1
+
+  no_unpaired : (side : Side) (names : List (List ℕ)) → IsFoundOf held check (finding.Unpaired side names) → ⊥
+  no_unpaired A names h =
+      let n = of_texts _ h in
+      let free = subst (AreBroken n.0 n.1) n.4.1 (told.comparable.broken n.0 n.1 n.2 n.3) in
+      is_not_free n.0 (common_names (circuit_of n.0) (circuit_of n.1)) names n.4.2 free.0
+  no_unpaired B names h =
+      let n = of_texts _ h in
+      let free = subst (AreBroken n.0 n.1) n.4.1 (told.comparable.broken n.0 n.1 n.2 n.3) in
+      is_not_free n.1 (common_names (circuit_of n.0) (circuit_of n.1)) names n.4.3 free.1
+
+  -- a finding of them has the status of a verdict
+  has_verdict : (f : Finding) → IsFoundOf held check f → IsAnswer (status_of f)
+  has_verdict finding.Words h = h
+  has_verdict (finding.Refused r) h = no_refusal r h
+  has_verdict (finding.Cyclic side names) h = no_cycle side names h
+  has_verdict (finding.Unpaired side names) h = no_unpaired side names h
+  has_verdict (finding.Done report) h = absurd h
+  has_verdict (finding.Undecided name proof) h = absurd h
+  has_verdict (finding.Checked o s) h = go o.verdict
+    where
+      go : (v : Verdict) → IsAnswer (verdict_status v)
+      go verdict.Equal = tt
+      go (verdict.Different w) = tt
+      go (verdict.NotShown reason) = tt
+      go (verdict.Limit at) = tt
+
+-- two texts that are told and can be compared are answered
+pub check_answered : (held : Held) (check : Check) → CanAnswer held check → (f : Finding) → IsFoundOf held check f → IsAnswer (status_of f)
+check_answered held check can f found = has_verdict held check (are_told held check can) f found

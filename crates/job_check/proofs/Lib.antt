@@ -1,0 +1,7 @@
+pub mod Complete
+pub mod Finds
+pub mod Fitted
+pub mod Means
+pub mod Promises
+pub mod Texts
+pub mod ToldCycles

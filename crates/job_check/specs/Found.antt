@@ -1,0 +1,54 @@
+-- What is true of the files of a comparison where it finds what it does.
+use Rattle.std.specs.Prelude.{◌≡◌, ℕ, List, Ok, Err, IfSome}
+use Rattle.circuit_theory.specs.declared.Side.{Side}
+use Rattle.circuit_theory.specs.declared.Side.TheVariants.{A, B}
+use Rattle.flat_net.specs.View.{NetView}
+use Rattle.job_base.specs.declared.finding.Refusal.{Refusal}
+use Rattle.job_base.specs.declared.finding.Refusal.TheVariants as refusal
+use Rattle.job_base.specs.declared.finding.Finding.{Finding}
+use Rattle.job_base.specs.declared.finding.Finding.TheVariants as finding
+use Rattle.sec_check.specs.declared.error.CompareError.TheVariants as compare_error
+use Rattle.sec_check.specs.Compared.{Compared}
+use Rattle.sec_files.specs.Loading.{Loads, IsTooLong, HasFault, HasDesignFault}
+use Rattle.job_files.specs.Reading.{Held}
+use Rattle.job_check.specs.Check.{Check, WhereBuilt}
+
+-- what is said of the two texts that are compared, where both are told
+abbrev pub OfTexts : Held → Check → (List ℕ → List ℕ → Type 0) → Type 0
+OfTexts held check P = IfSome (held check.left) (λ x. IfSome (held check.right) (λ y. P x y))
+
+-- what is said of the text of a side; B is looked at only where A loads
+abbrev pub OfSide : Held → Check → Side → (List ℕ → Type 0) → Type 0
+OfSide held check A P = IfSome (held check.left) P
+OfSide held check B P = OfTexts held check (λ x y. (net : NetView) × Loads x net × P y)
+
+-- what is said of the two nets that the texts load as
+abbrev pub OfNets : Held → Check → (NetView → NetView → Type 0) → Type 0
+OfNets held check P = OfTexts held check (λ x y. (a : NetView) × (b : NetView) × Loads x a × Loads y b × P a b)
+
+-- why a comparison is refused; the first cause in the order of the work
+abbrev pub IsRefusal : Held → Check → Refusal → Type 0
+IsRefusal held check refusal.NotBuilt = ⊥
+IsRefusal held check (refusal.TooLong side) = OfSide held check side IsTooLong
+IsRefusal held check (refusal.Text side line kind) = OfSide held check side (λ x. HasFault x line kind)
+IsRefusal held check (refusal.Design side fault) = OfSide held check side (λ x. HasDesignFault x fault)
+IsRefusal held check (refusal.Interface name) = OfNets held check (λ a b. Compared a b check.settings (Err (compare_error.Interface name)))
+IsRefusal held check (refusal.TooLarge side) = OfNets held check (λ a b. Compared a b check.settings (Err (compare_error.TooLarge side)))
+IsRefusal held check refusal.StimulusTooLong = ⊥
+IsRefusal held check (refusal.BadHeader line) = ⊥
+IsRefusal held check (refusal.BadRow line) = ⊥
+IsRefusal held check (refusal.Misfit m) = ⊥
+
+-- what is true of the files where this is found of them
+abbrev pub IsFoundOf : Held → Check → Finding → Type 0
+IsFoundOf held check finding.Words = ⊥
+IsFoundOf held check (finding.Refused r) = IsRefusal held check r
+IsFoundOf held check (finding.Cyclic side names) = OfNets held check (λ a b. Compared a b check.settings (Err (compare_error.Cyclic side names)))
+IsFoundOf held check (finding.Unpaired side names) = OfNets held check (λ a b. Compared a b check.settings (Err (compare_error.Unpaired side names)))
+IsFoundOf held check (finding.Checked o settings) = (settings ≡ check.settings) × OfNets held check (λ a b. Compared a b check.settings (Ok o))
+IsFoundOf held check (finding.Done report) = ⊥
+IsFoundOf held check (finding.Undecided name proof) = ⊥
+
+-- what is found of a comparison: what is true of its files, or, where it isn't built, that
+abbrev pub IsCheckFound : Held → Check → Finding → Type 0
+IsCheckFound held check f = WhereBuilt check.settings.mode (IsFoundOf held check f) (f ≡ finding.Refused refusal.NotBuilt)

@@ -1,0 +1,4 @@
+pub mod Answer
+pub mod Check
+pub mod Ends
+pub mod Found

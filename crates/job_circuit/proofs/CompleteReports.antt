@@ -1,0 +1,126 @@
+-- Where a circuit can be reported on, and a stimulus and a power word fit it, what is found is the report, in the event mode also the
+-- limit of a query.
+use Rattle.std.specs.Prelude.{IsSomeAnd}
+use Rattle.std.proofs.Common.{◌≡◌, ℕ, Bool, List, refl, sym, ◌∙◌, ap, arith, Option, Some}
+use Rattle.std.proofs.lemmas.Option.{none-some}
+use Rattle.circuit_theory.specs.declared.Mode.{Mode}
+use Rattle.circuit_theory.specs.declared.Mode.TheVariants.{Plain, Event}
+use Rattle.circuit_theory.specs.declared.Side.TheVariants.{A, B}
+use Rattle.witness_report.specs.Form.{IsForm, HasNoHeader, IsBadRow}
+use Rattle.witness_report.proofs.Forms.{form_lines, one_form, no_bad_line}
+use Rattle.flat_net.specs.View.{NetView}
+use Rattle.sim_report.specs.Checks.{first_misfit}
+use Rattle.pair_decide.specs.declared.query.Proof.{Proof}
+use Rattle.job_base.specs.declared.finding.Refusal.{Refusal}
+use Rattle.job_base.specs.declared.finding.Refusal.TheVariants as refusal
+use Rattle.job_base.specs.declared.finding.Finding.{Finding}
+use Rattle.job_base.specs.declared.finding.Finding.TheVariants as finding
+use Rattle.job_base.specs.declared.status.StatusName.TheVariants as status
+use Rattle.job_base.specs.Written.{status_of}
+use Rattle.latch_kinds.specs.declared.kinds.KindsError.TheVariants as kinds_error
+use Rattle.circuit_jobs.specs.Jobs.{IsUnknown}
+use Rattle.circuit_jobs.proofs.Ended.{large_or_light}
+use Rattle.sec_files.specs.Loading.{IsAccepted, Loads, IsTooLong, HasFault, HasDesignFault}
+use Rattle.sec_files.specs.Stimuli.{IsStimulus, HasBadHeader, HasBadRow}
+use Rattle.job_files.proofs.Reading.{some_and, if_told}
+use Rattle.job_circuit.specs.Reports.{IsCircuitRefusal, IsGraphRefusal, IsGraphFound, IsSimRefusal, IsSimFound, CanBeTold, CanBeRun, IsReported, IsGraphComplete, IsSimComplete}
+
+-- a form has a header and no bad row, and a text is the form of one stimulus alone
+has_header : (text : List ℕ) (names : List (List ℕ)) (rows : List (List Bool)) → IsForm text names rows → HasNoHeader text → ⊥
+has_header text names rows form none = none names _ form.names_are (form_lines names rows form.names_are text form.spelled)
+
+no_bad_row : (text : List ℕ) (names : List (List ℕ)) (rows : List (List Bool)) (line : ℕ) → IsForm text names rows → IsBadRow text line → ⊥
+no_bad_row text names rows line form bad =
+    no_bad_line text bad.names names _ rows line bad.names_are bad.lines form (record { rows = bad.rows; line = bad.line; more = bad.more; lines_are = refl; rows_are = bad.rows_are; faulty = bad.faulty; place = bad.place })
+
+same_names : (text : List ℕ) (names others : List (List ℕ)) (rows more : List (List Bool)) → IsForm text names rows → IsForm text others more → names ≡ others
+same_names text names others rows more form another =
+    let one = one_form text names others rows more form.names_are form.rows_are (form_lines names rows form.names_are text form.spelled) another in one.0
+
+-- an accepted circuit is not refused
+module _ (circuit : Option (List ℕ)) (x : List ℕ) (is : circuit ≡ Some x) (accepted : IsAccepted x) where
+  circuit_stands : (r : Refusal) → IsCircuitRefusal circuit r → ⊥
+  circuit_stands (refusal.TooLong A) h = let long : IsTooLong x = if_told circuit IsTooLong x is h in omega (arith, accepted.short)
+  circuit_stands (refusal.TooLong B) h = h
+  circuit_stands (refusal.Text A line kind) h = none-some _ (sym accepted.faultless ∙ (if_told circuit (λ t. HasFault t line kind) x is h).1)
+  circuit_stands (refusal.Text B line kind) h = h
+  circuit_stands (refusal.Design A fault) h = accepted.sound fault (if_told circuit (λ t. HasDesignFault t fault) x is h).2
+  circuit_stands (refusal.Design B fault) h = h
+  circuit_stands refusal.NotBuilt h = h
+  circuit_stands (refusal.Interface name) h = h
+  circuit_stands (refusal.TooLarge side) h = h
+  circuit_stands refusal.StimulusTooLong h = h
+  circuit_stands (refusal.BadHeader line) h = h
+  circuit_stands (refusal.BadRow line) h = h
+  circuit_stands (refusal.Misfit m) h = h
+
+-- in the plain mode no query of a latch has met the limit
+limit_reported : (mode : Mode) (n : NetView) (name : List ℕ) (proof : Proof) → IsUnknown mode n (kinds_error.Limit name proof) → IsReported mode status.Limit
+limit_reported Plain n name proof unknown = absurd unknown
+limit_reported Event n name proof unknown = refl
+
+-- a circuit that can be reported on is not refused
+module _ (mode : Mode) (circuit : Option (List ℕ)) (x : List ℕ) (is : circuit ≡ Some x) (can : CanBeTold mode x) where
+  graph_stands : (r : Refusal) → IsGraphRefusal mode circuit r → ⊥
+  graph_stands (refusal.TooLarge A) h =
+      let loads : Loads x h.net = if_told circuit (λ t. Loads t h.net) x is h.loads in
+      large_or_light mode h.net loads.flat.sound h.unknown (can.light h.net loads)
+  graph_stands (refusal.TooLarge B) h = h
+  graph_stands (refusal.TooLong side) h = circuit_stands circuit x is can.circuit (refusal.TooLong side) h
+  graph_stands (refusal.Text side line kind) h = circuit_stands circuit x is can.circuit (refusal.Text side line kind) h
+  graph_stands (refusal.Design side fault) h = circuit_stands circuit x is can.circuit (refusal.Design side fault) h
+  graph_stands refusal.NotBuilt h = h
+  graph_stands (refusal.Interface name) h = h
+  graph_stands refusal.StimulusTooLong h = h
+  graph_stands (refusal.BadHeader line) h = h
+  graph_stands (refusal.BadRow line) h = h
+  graph_stands (refusal.Misfit m) h = h
+
+  graph_reported : (f : Finding) → IsGraphFound mode circuit f → IsReported mode (status_of f)
+  graph_reported finding.Words h = absurd h
+  graph_reported (finding.Refused r) h = absurd (graph_stands r h)
+  graph_reported (finding.Cyclic side names) h = absurd h
+  graph_reported (finding.Unpaired side names) h = absurd h
+  graph_reported (finding.Checked o s) h = absurd h
+  graph_reported (finding.Done report) h = tt
+  graph_reported (finding.Undecided name proof) h = limit_reported mode h.net name proof h.unknown
+
+-- nor is a stimulus that fits it
+module _ (mode : Mode) (circuit stimulus power : Option (List ℕ)) (x y : List ℕ) (is : circuit ≡ Some x) (told : stimulus ≡ Some y) (can : CanBeRun mode x y power) where
+  run_stands : (r : Refusal) → IsSimRefusal mode circuit stimulus power r → ⊥
+  run_stands refusal.StimulusTooLong h = let long : IsTooLong y = if_told stimulus IsTooLong y told h.1 in omega (arith, can.stimulus.short)
+  run_stands (refusal.BadHeader line) h = has_header y can.names can.rows can.stimulus.form (if_told stimulus (λ t. HasBadHeader t line) y told h.1).no_header
+  run_stands (refusal.BadRow line) h = no_bad_row y can.names can.rows line can.stimulus.form (if_told stimulus (λ t. HasBadRow t line) y told h.1).bad_row
+  run_stands (refusal.Misfit m) h =
+      let loads : Loads x h.net = if_told circuit (λ t. Loads t h.net) x is h.loads in
+      let spells : IsStimulus y h.names h.rows = if_told stimulus (λ t. IsStimulus t h.names h.rows) y told h.spells in
+      let same : can.names ≡ h.names = same_names y can.names h.names can.rows h.rows can.stimulus.form spells.form in
+      none-some m (sym (can.fits h.net loads) ∙ (ap (λ (names : List (List ℕ)). first_misfit h.net names power) same ∙ h.is_first))
+  run_stands refusal.NotBuilt h = h
+  run_stands (refusal.TooLong side) h = circuit_stands circuit x is can.circuit (refusal.TooLong side) h
+  run_stands (refusal.Text side line kind) h = circuit_stands circuit x is can.circuit (refusal.Text side line kind) h
+  run_stands (refusal.Design side fault) h = circuit_stands circuit x is can.circuit (refusal.Design side fault) h
+  run_stands (refusal.Interface name) h = h
+  run_stands (refusal.TooLarge A) h =
+      let loads : Loads x h.net = if_told circuit (λ t. Loads t h.net) x is h.loads in
+      large_or_light mode h.net loads.flat.sound h.unknown (can.light h.net loads)
+  run_stands (refusal.TooLarge B) h = h
+
+  run_reported : (f : Finding) → IsSimFound mode circuit stimulus power f → IsReported mode (status_of f)
+  run_reported finding.Words h = absurd h
+  run_reported (finding.Refused r) h = absurd (run_stands r h)
+  run_reported (finding.Cyclic side names) h = absurd h
+  run_reported (finding.Unpaired side names) h = absurd h
+  run_reported (finding.Checked o s) h = absurd h
+  run_reported (finding.Done report) h = tt
+  run_reported (finding.Undecided name proof) h = limit_reported mode h.net name proof h.unknown
+
+-- so what is found has the status of the report, or of the limit
+pub graph_complete : (mode : Mode) (circuit : Option (List ℕ)) (f : Finding) → IsGraphFound mode circuit f → IsGraphComplete mode circuit (status_of f)
+graph_complete mode circuit f found can = let x = some_and circuit (CanBeTold mode) can in graph_reported mode circuit x.0 x.1 x.2 f found
+
+pub sim_complete : (mode : Mode) (circuit stimulus power : Option (List ℕ)) (f : Finding) → IsSimFound mode circuit stimulus power f → IsSimComplete mode circuit stimulus power (status_of f)
+sim_complete mode circuit stimulus power f found can =
+    let x = some_and circuit (λ t. IsSomeAnd stimulus (λ y. CanBeRun mode t y power)) can in
+    let y = some_and stimulus (λ t. CanBeRun mode x.0 t power) x.2 in
+    run_reported mode circuit stimulus power x.0 y.0 x.1 y.1 y.2 f found

@@ -1,0 +1,3 @@
+pub mod CompleteReports
+pub mod Means
+pub mod OneCircuit

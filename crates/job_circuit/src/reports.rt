@@ -1,0 +1,88 @@
+//! The jobs that report on one circuit.
+
+ghost use Rattle.std.specs.Prelude.{◌≡◌, option_map, IsErrOf};
+ghost use Rattle.sec_base.specs.Outside.{SameHeld};
+ghost use Rattle.job_circuit.specs.Ends.{GraphFound, SimFound, graph_end, sim_end};
+
+use circuit_jobs::{KindsError, SimulateError, simulate as run_circuit, tell};
+use circuit_theory::Mode;
+use job_base::{Finding, Refusal, Stop};
+use job_files::{load_end, stimulus_end};
+use sec_base::{Shelf, Side, Text};
+use sec_files::{load, load_stimulus};
+use std::alloc::Global;
+
+/// The paths of a circuit and of a stimulus for it, the mode, and the power word.
+#[derive(Clone, Copy)]
+pub struct Simulation<'a> {
+    pub circuit: &'a str,
+    pub stimulus: &'a str,
+    pub mode: Mode,
+    pub power: Option<&'a [u8]>,
+}
+
+/// Loads the circuit and reports its latch graph.
+pub fn tell_graph<S: Shelf>(
+    alloc: Global,
+    circuit: &str,
+    mode: Mode,
+    shelf: &mut S,
+) -> Result<Finding, Stop>
+    ensures found { GraphFound (S.held shelf.old) (S.faults shelf.old) (S.faults shelf.new) circuit.now mode result }
+    ensures keeps { SameHeld (S.held shelf.old) (S.held shelf.new) }
+    ensures served { S.serves shelf.old circuit.now → IsErrOf result Stop.ReadFault → ⊥ }
+{
+    let net = match load(alloc, shelf, circuit) {
+        Ok(net) => net,
+        Err(error) => return load_end(Side::A, error),
+    };
+    let told = tell(alloc, &net, mode);
+    graph_end(told)
+}
+
+/// What is found of a latch graph.
+fn graph_end(told: Result<Text, KindsError>) -> Result<Finding, Stop>
+    ensures { result ≡ graph_end told }
+{
+    match told {
+        Ok(text) => Ok(Finding::Done(text)),
+        Err(KindsError::TooLarge) => Ok(Finding::Refused(Refusal::TooLarge(Side::A))),
+        Err(KindsError::Limit(name, proof)) => Ok(Finding::Undecided(name, proof)),
+        Err(KindsError::NoMemory) => Err(Stop::NoMemory),
+    }
+}
+
+/// What is found by a simulation.
+fn sim_end(simulated: Result<Text, SimulateError>) -> Result<Finding, Stop>
+    ensures { result ≡ sim_end simulated }
+{
+    match simulated {
+        Ok(text) => Ok(Finding::Done(text)),
+        Err(SimulateError::Misfit(misfit)) => Ok(Finding::Refused(Refusal::Misfit(misfit))),
+        Err(SimulateError::TooLarge) => Ok(Finding::Refused(Refusal::TooLarge(Side::A))),
+        Err(SimulateError::Limit(name, proof)) => Ok(Finding::Undecided(name, proof)),
+        Err(SimulateError::NoMemory) => Err(Stop::NoMemory),
+    }
+}
+
+/// Loads the circuit, then the stimulus, and reports the circuit's run over it.
+pub fn simulate<S: Shelf>(
+    alloc: Global,
+    simulation: &Simulation<'_>,
+    shelf: &mut S,
+) -> Result<Finding, Stop>
+    ensures found { SimFound (S.held shelf.old) (S.faults shelf.old) (S.faults shelf.new) simulation.now.circuit.now simulation.now.stimulus.now simulation.now.mode (option_map (λ digits. digits.now) simulation.now.power) result }
+    ensures keeps { SameHeld (S.held shelf.old) (S.held shelf.new) }
+    ensures served { S.serves shelf.old simulation.now.circuit.now → S.serves shelf.old simulation.now.stimulus.now → IsErrOf result Stop.ReadFault → ⊥ }
+{
+    let net = match load(alloc, shelf, simulation.circuit) {
+        Ok(net) => net,
+        Err(error) => return load_end(Side::A, error),
+    };
+    let stimulus = match load_stimulus(alloc, shelf, simulation.stimulus) {
+        Ok(stimulus) => stimulus,
+        Err(error) => return stimulus_end(error),
+    };
+    let simulated = run_circuit(alloc, &net, &stimulus, simulation.power, simulation.mode);
+    sim_end(simulated)
+}
