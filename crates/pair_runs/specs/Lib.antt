@@ -1,0 +1,5 @@
+pub mod Feeding
+pub mod Feeds
+pub mod Listing
+pub mod Outputs
+pub mod Showing

@@ -1,0 +1,4 @@
+pub mod Header
+pub mod Opening
+pub mod Pairs
+pub mod Replay

@@ -1,0 +1,13 @@
+//! The differences that two circuits show on a stimulus. Each latch that the stimulus names is cut open in both: it takes its values
+//! from the stimulus, and what it takes over is compared as the outputs are.
+#![tactic(auto)]
+
+mod differences;
+mod header;
+mod opening;
+mod pairing;
+mod replaying;
+
+pub use differences::{ReplayError, Replayed};
+pub use pair_runs::{Difference, Differences};
+pub use replaying::replay;

@@ -1,0 +1,6 @@
+//! The report of a replay.
+#![tactic(auto)]
+
+mod report;
+
+pub use report::replay_report;
