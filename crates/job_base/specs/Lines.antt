@@ -11,6 +11,10 @@ use Rattle.sim_report.specs.declared.refusal.Misfit.TheVariants as misfit
 use Rattle.flat_walk.specs.declared.error.FlatError.{FlatError}
 use Rattle.flat_walk.specs.declared.error.FlatError.TheVariants as flat
 use Rattle.sec_outcome.specs.Report.{report_text}
+use Rattle.job_base.specs.declared.finding.File.{File}
+use Rattle.job_base.specs.declared.finding.File.TheVariants as file
+use Rattle.job_base.specs.declared.finding.LineFault.{LineFault}
+use Rattle.job_base.specs.declared.finding.LineFault.TheVariants as line_fault
 use Rattle.job_base.specs.declared.finding.Refusal.{Refusal}
 use Rattle.job_base.specs.declared.finding.Refusal.TheVariants as refusal
 use Rattle.job_base.specs.declared.finding.Finding.{Finding}
@@ -19,6 +23,11 @@ use Rattle.job_base.specs.declared.finding.Finding.TheVariants as finding
 abbrev pub side_word : Side → List ℕ
 side_word A = codes "A"
 side_word B = codes "B"
+
+abbrev pub file_word : File → List ℕ
+file_word file.A = codes "A"
+file_word file.B = codes "B"
+file_word file.S = codes "S"
 
 -- the kind of a faulty line; an unsupported word stands behind it
 abbrev pub kind_text : ReadKind → List ℕ
@@ -36,6 +45,12 @@ kind_text kind.DuplicatePort = codes "DuplicatePort"
 kind_text kind.NameTooLong = codes "NameTooLong"
 kind_text kind.StrayRow = codes "StrayRow"
 kind_text kind.ControlByte = codes "ControlByte"
+
+-- what is wrong with a line
+abbrev pub line_fault_text : LineFault → List ℕ
+line_fault_text (line_fault.Circuit k) = kind_text k
+line_fault_text line_fault.BadHeader = codes "BadHeader"
+line_fault_text line_fault.BadRow = codes "BadRow"
 
 -- the kind of a design's fault, with the names that it has
 abbrev pub design_fault_text : FlatError → List ℕ
@@ -64,14 +79,11 @@ misfit_text misfit.Power = codes "refused Power" ++ 10 ∷ []
 
 abbrev pub refusal_text : Refusal → List ℕ
 refusal_text refusal.NotBuilt = codes "refused NotYet" ++ 10 ∷ []
-refusal_text (refusal.TooLong side) = codes "refused " ++ side_word side ++ codes " TooLong" ++ 10 ∷ []
-refusal_text (refusal.Text side line k) = codes "refused " ++ side_word side ++ codes " line " ++ decimal line ++ 32 ∷ [] ++ kind_text k ++ 10 ∷ []
-refusal_text (refusal.Design side fault) = codes "refused " ++ side_word side ++ 32 ∷ [] ++ design_fault_text fault ++ 10 ∷ []
+refusal_text (refusal.TooLong f) = codes "refused " ++ file_word f ++ codes " TooLong" ++ 10 ∷ []
+refusal_text (refusal.Text f line fault) = codes "refused " ++ file_word f ++ codes " line " ++ decimal line ++ 32 ∷ [] ++ line_fault_text fault ++ 10 ∷ []
+refusal_text (refusal.Design f fault) = codes "refused " ++ file_word f ++ 32 ∷ [] ++ design_fault_text fault ++ 10 ∷ []
 refusal_text (refusal.Interface name) = codes "refused Interface " ++ name ++ 10 ∷ []
 refusal_text (refusal.TooLarge side) = codes "refused " ++ side_word side ++ codes " TooLarge" ++ 10 ∷ []
-refusal_text refusal.StimulusTooLong = codes "refused S TooLong" ++ 10 ∷ []
-refusal_text (refusal.BadHeader line) = codes "refused S line " ++ decimal line ++ codes " BadHeader" ++ 10 ∷ []
-refusal_text (refusal.BadRow line) = codes "refused S line " ++ decimal line ++ codes " BadRow" ++ 10 ∷ []
 refusal_text (refusal.Misfit m) = misfit_text m
 
 -- the words are no job

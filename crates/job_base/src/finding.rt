@@ -7,28 +7,44 @@ use sec_base::{Side, Text, Word, Words};
 use sec_outcome::{Outcome, Settings};
 use sim_report::Misfit;
 
+/// A file of a job, by what it is.
+#[derive(Clone, Copy)]
+pub enum File {
+    /// The first circuit, or the only one.
+    A,
+    /// The second circuit.
+    B,
+    /// The stimulus.
+    S,
+}
+
+/// What is wrong with a line of a file.
+#[derive(Drop)]
+pub enum LineFault {
+    /// A line of a circuit.
+    Circuit(ReadKind),
+    /// The first line of a stimulus is no header.
+    BadHeader,
+    /// A line of a stimulus is no row.
+    BadRow,
+}
+
 /// Why a job ends without an answer.
 #[derive(Drop)]
 pub enum Refusal {
     /// No such job is built yet.
     NotBuilt,
     /// The file has more than 16,777,216 bytes.
-    TooLong(Side),
+    TooLong(File),
     /// The first faulty line of a text, and what is wrong with it.
-    Text(Side, u32, ReadKind),
+    Text(File, u32, LineFault),
     /// The first fault of a design.
-    Design(Side, FlatError),
+    Design(File, FlatError),
     /// The first name that one circuit has and the other lacks.
     Interface(Word),
     /// The unfoldings of the circuit's outputs weigh more than 2,000,000 together, where latches are cut open those of the cut
     /// circuit's; or a latch is in its own cone, and that cone weighs more.
     TooLarge(Side),
-    /// The file of the stimulus has more than 16,777,216 bytes.
-    StimulusTooLong,
-    /// The line of the stimulus, its first one, is no header.
-    BadHeader(u32),
-    /// The first line of the stimulus that is no row.
-    BadRow(u32),
     /// What doesn't fit the circuit.
     Misfit(Misfit),
 }

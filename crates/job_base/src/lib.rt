@@ -6,6 +6,6 @@ mod finishing;
 mod status;
 mod writing;
 
-pub use finding::{Finding, Refusal, Stop};
+pub use finding::{File, Finding, LineFault, Refusal, Stop};
 pub use finishing::finish;
 pub use status::{Proofs, Status, StatusName};

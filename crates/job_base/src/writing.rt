@@ -3,9 +3,9 @@
 ghost use Rattle.std.specs.Prelude.{◌≡◌, [], ◌∷◌, ◌++◌, codes, OnOk, IfOk};
 ghost use Rattle.std.specs.Fmt.{decimal};
 ghost use Rattle.sec_base.specs.Texts.{names_text};
-ghost use Rattle.job_base.specs.Lines.{side_word, kind_text, design_fault_text, misfit_text, refusal_text, words_text, cycle_text, undecided_text, unpaired_text};
+ghost use Rattle.job_base.specs.Lines.{side_word, file_word, kind_text, line_fault_text, design_fault_text, misfit_text, refusal_text, words_text, cycle_text, undecided_text, unpaired_text};
 
-use crate::finding::Refusal;
+use crate::finding::{File, LineFault, Refusal};
 use blif_read::ReadKind;
 use flat_walk::FlatError;
 use sec_base::{NoMemory, Seq, Side, Text, Word, Words, put, put_names, put_number};
@@ -65,20 +65,47 @@ fn put_side(text: &mut Vec<u8>, side: Side) -> Result<(), NoMemory>
     put(text, side_word(side).as_bytes())
 }
 
+fn file_word(file: File) -> &'static str
+    ensures { result.now ≡ file_word file }
+{
+    match file {
+        File::A => "A",
+        File::B => "B",
+        File::S => "S",
+    }
+}
+
+fn put_file(text: &mut Vec<u8>, file: File) -> Result<(), NoMemory>
+    ensures { OnOk result (text.new.items ≡ text.old.items ++ codes "refused " ++ file_word file) }
+{
+    put(text, b"refused ")?;
+    put(text, file_word(file).as_bytes())
+}
+
+fn put_line_fault(text: &mut Vec<u8>, fault: &LineFault) -> Result<(), NoMemory>
+    ensures { OnOk result (text.new.items ≡ text.old.items ++ line_fault_text fault.now) }
+{
+    match fault {
+        LineFault::Circuit(kind) => put_kind(text, kind),
+        LineFault::BadHeader => put(text, b"BadHeader"),
+        LineFault::BadRow => put(text, b"BadRow"),
+    }
+}
+
 fn put_fault(
     alloc: Global,
     text: &mut Vec<u8>,
-    side: Side,
+    file: File,
     line: u32,
-    kind: &ReadKind,
+    fault: &LineFault,
 ) -> Result<(), NoMemory>
-    ensures { OnOk result (text.new.items ≡ text.old.items ++ (codes "refused " ++ side_word side ++ codes " line " ++ decimal line ++ 32 ∷ [] ++ kind_text kind.now ++ 10 ∷ [])) }
+    ensures { OnOk result (text.new.items ≡ text.old.items ++ (codes "refused " ++ file_word file ++ codes " line " ++ decimal line ++ 32 ∷ [] ++ line_fault_text fault.now ++ 10 ∷ [])) }
 {
-    put_side(text, side)?;
+    put_file(text, file)?;
     put(text, b" line ")?;
     put_number(alloc, text, u64::from(line))?;
     put(text, b" ")?;
-    put_kind(text, kind)?;
+    put_line_fault(text, fault)?;
     put(text, b"\n")
 }
 
@@ -108,20 +135,6 @@ fn put_design_fault(text: &mut Vec<u8>, fault: &FlatError) -> Result<(), NoMemor
     }
 }
 
-/// Puts the line of a stimulus's fault, which ends with the kind.
-fn put_stimulus_fault(
-    alloc: Global,
-    text: &mut Vec<u8>,
-    line: u32,
-    kind: &[u8],
-) -> Result<(), NoMemory>
-    ensures { OnOk result (text.new.items ≡ text.old.items ++ codes "refused S line " ++ decimal line ++ kind.now) }
-{
-    put(text, b"refused S line ")?;
-    put_number(alloc, text, u64::from(line))?;
-    put(text, kind)
-}
-
 fn put_misfit(text: &mut Vec<u8>, misfit: &Misfit) -> Result<(), NoMemory>
     ensures { OnOk result (text.new.items ≡ text.old.items ++ misfit_text misfit.now) }
 {
@@ -137,13 +150,13 @@ fn put_refusal(alloc: Global, text: &mut Vec<u8>, refusal: &Refusal) -> Result<(
 {
     match refusal {
         Refusal::NotBuilt => put(text, b"refused NotYet\n"),
-        Refusal::TooLong(side) => {
-            put_side(text, *side)?;
+        Refusal::TooLong(file) => {
+            put_file(text, *file)?;
             put(text, b" TooLong\n")
         }
-        Refusal::Text(side, line, kind) => put_fault(alloc, text, *side, *line, kind),
-        Refusal::Design(side, fault) => {
-            put_side(text, *side)?;
+        Refusal::Text(file, line, fault) => put_fault(alloc, text, *file, *line, fault),
+        Refusal::Design(file, fault) => {
+            put_file(text, *file)?;
             put(text, b" ")?;
             put_design_fault(text, fault)?;
             put(text, b"\n")
@@ -153,9 +166,6 @@ fn put_refusal(alloc: Global, text: &mut Vec<u8>, refusal: &Refusal) -> Result<(
             put_side(text, *side)?;
             put(text, b" TooLarge\n")
         }
-        Refusal::StimulusTooLong => put(text, b"refused S TooLong\n"),
-        Refusal::BadHeader(line) => put_stimulus_fault(alloc, text, *line, b" BadHeader\n"),
-        Refusal::BadRow(line) => put_stimulus_fault(alloc, text, *line, b" BadRow\n"),
         Refusal::Misfit(misfit) => put_misfit(text, misfit),
     }
 }

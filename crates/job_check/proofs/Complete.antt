@@ -7,6 +7,8 @@ use Rattle.circuit_theory.specs.declared.Side.TheVariants.{A, B}
 use Rattle.flat_net.specs.View.{circuit_of}
 use Rattle.sec_outcome.specs.declared.outcome.Verdict.{Verdict}
 use Rattle.sec_outcome.specs.declared.outcome.Verdict.TheVariants as verdict
+use Rattle.job_base.specs.declared.finding.File.TheVariants as file
+use Rattle.job_base.specs.declared.finding.LineFault.TheVariants as line_fault
 use Rattle.job_base.specs.declared.finding.Refusal.{Refusal}
 use Rattle.job_base.specs.declared.finding.Refusal.TheVariants as refusal
 use Rattle.job_base.specs.declared.finding.Finding.{Finding}
@@ -51,17 +53,19 @@ module _ (held : Held) (check : Check) (told : AreTold held check) where
 
   no_refusal : (r : Refusal) → IsRefusal held check r → ⊥
   no_refusal refusal.NotBuilt h = h
-  no_refusal (refusal.TooLong A) h = too_long told.left told.comparable.left (of_left IsTooLong h)
-  no_refusal (refusal.TooLong B) h = too_long told.right told.comparable.right (of_texts _ h).2
-  no_refusal (refusal.Text A line kind) h = no_fault _ (sym told.comparable.left.faultless ∙ (of_left (λ x. HasFault x line kind) h).1)
-  no_refusal (refusal.Text B line kind) h = no_fault _ (sym told.comparable.right.faultless ∙ (of_texts _ h).2.1)
-  no_refusal (refusal.Design A fault) h = told.comparable.left.sound fault (of_left (λ x. HasDesignFault x fault) h).2
-  no_refusal (refusal.Design B fault) h = told.comparable.right.sound fault (of_texts _ h).2.2
+  no_refusal (refusal.TooLong file.A) h = too_long told.left told.comparable.left (of_left IsTooLong h)
+  no_refusal (refusal.TooLong file.B) h = too_long told.right told.comparable.right (of_texts _ h).2
+  no_refusal (refusal.TooLong file.S) h = h
+  no_refusal (refusal.Text file.A line (line_fault.Circuit kind)) h = no_fault _ (sym told.comparable.left.faultless ∙ (of_left (λ x. HasFault x line kind) h).1)
+  no_refusal (refusal.Text file.B line (line_fault.Circuit kind)) h = no_fault _ (sym told.comparable.right.faultless ∙ (of_texts _ h).2.1)
+  no_refusal (refusal.Text file.S line (line_fault.Circuit kind)) h = h
+  no_refusal (refusal.Text f line line_fault.BadHeader) h = h
+  no_refusal (refusal.Text f line line_fault.BadRow) h = h
+  no_refusal (refusal.Design file.A fault) h = told.comparable.left.sound fault (of_left (λ x. HasDesignFault x fault) h).2
+  no_refusal (refusal.Design file.B fault) h = told.comparable.right.sound fault (of_texts _ h).2.2
+  no_refusal (refusal.Design file.S fault) h = h
   no_refusal (refusal.Interface name) h = let n = of_texts _ h in no_fault _ (sym (told.comparable.match n.0 n.1 n.2 n.3) ∙ n.4)
   no_refusal (refusal.TooLarge side) h = let n = of_texts _ h in told.comparable.light n.0 n.1 n.2 n.3 side n.4.2
-  no_refusal refusal.StimulusTooLong h = h
-  no_refusal (refusal.BadHeader line) h = h
-  no_refusal (refusal.BadRow line) h = h
   no_refusal (refusal.Misfit m) h = h
 
   no_cycle : (side : Side) (names : List (List ℕ)) → IsFoundOf held check (finding.Cyclic side names) → ⊥

@@ -1,7 +1,6 @@
 -- What the parts of the work on the files find.
 use Rattle.std.specs.Prelude.{IfSome, IsErrOf}
 use Rattle.std.proofs.Common.{◌≡◌, ℕ, ◌≤◌, List, [], ◌∷◌, refl, sym, subst, inl, inr, Option, Some, None, Result, Ok, Err}
-use Rattle.circuit_theory.specs.declared.Side.TheVariants.{A, B}
 use Rattle.sec_base.specs.Outside.{Rose}
 use Rattle.sec_base.specs.declared.fetching.FetchError.TheVariants as fetch_error
 use Rattle.sec_base.specs.declared.settings.Settings.{Settings}
@@ -10,6 +9,7 @@ use Rattle.blif_read.specs.declared.error.ReadError.TheVariants as read_error
 use Rattle.flat_walk.specs.declared.error.FlatError.{FlatError}
 use Rattle.flat_walk.specs.declared.error.FlatError.TheVariants as flat_error
 use Rattle.sec_outcome.specs.declared.outcome.Outcome.{Outcome}
+use Rattle.job_base.specs.declared.finding.File.TheVariants as file
 use Rattle.job_base.specs.declared.finding.Stop.TheVariants as stop
 use Rattle.job_base.specs.declared.finding.Finding.{Finding}
 use Rattle.job_base.specs.declared.finding.Stop.{Stop}
@@ -34,7 +34,7 @@ both_told (Some x) (Some y) F G H f p q = f x y p q
 
 -- A's file isn't loaded
 pub left_ends : (held : Held) (before now : List ℕ → ℕ) (check : Check) (error : LoadError) →
-    LoadFails (held check.left) (Rose (before check.left) (now check.left)) error → FoundOf held before now check (load_end A error)
+    LoadFails (held check.left) (Rose (before check.left) (now check.left)) error → FoundOf held before now check (load_end file.A error)
 left_ends held before now check (load_error.Fetch fetch_error.Failed) h = first_failed held before now check.left (check.right ∷ []) h
 left_ends held before now check (load_error.Fetch fetch_error.TooLong) h = h
 left_ends held before now check (load_error.Fetch fetch_error.NoMemory) h = tt
@@ -68,7 +68,7 @@ faulty held check net e l h = both_told (held check.left) (held check.right) _ _
 -- A's file is loaded, B's isn't
 pub right_ends : (held : Held) (before now : List ℕ → ℕ) (check : Check) (net : NetView) (error : LoadError) →
     IfSome (held check.left) (λ x. Loads x net) → LoadFails (held check.right) (Rose (before check.right) (now check.right)) error →
-    FoundOf held before now check (load_end B error)
+    FoundOf held before now check (load_end file.B error)
 right_ends held before now check net (load_error.Fetch fetch_error.Failed) l h = second_failed held before now check.left check.right [] (is_loaded (held check.left) net l) h
 right_ends held before now check net (load_error.Fetch fetch_error.TooLong) l h = both_told (held check.left) (held check.right) _ _ _ (λ x y. with_net net IsTooLong y) l h
 right_ends held before now check net (load_error.Fetch fetch_error.NoMemory) l h = tt

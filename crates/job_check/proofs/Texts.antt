@@ -41,7 +41,6 @@ module _ (before now : Option (List ℕ)) (settings : Settings) (o : Outcome) (t
         right = circuit_of_design (spelled y) b.clock;
         left_spelled = spelled_circuit x a left;
         right_spelled = spelled_circuit y b right;
-        agree = agree_of_nets left.flat.flattened right.flat.flattened equal.agree;
         left_net = a;
         right_net = b;
         left_loads = left;
@@ -50,9 +49,12 @@ module _ (before now : Option (List ℕ)) (settings : Settings) (o : Outcome) (t
         is_verdict = e;
         printed = taken;
         minimal = texts_minimal x y a b left right o.exposed compared.fits.exposed.minimal;
-        onward = texts_onward x y a b left right o.exposed equal.onward;
-        from = texts_agree_from x y a b left.accepted.short right.accepted.short left.flat right.flat compared.left_sound compared.right_sound o.through o.exposed equal.from;
-        equal = equal;
+        says = record {
+          agree = agree_of_nets left.flat.flattened right.flat.flattened equal.agree;
+          onward = texts_onward x y a b left right o.exposed equal.onward;
+          from = texts_agree_from x y a b left.accepted.short right.accepted.short left.flat right.flat compared.left_sound compared.right_sound o.through o.exposed equal.from;
+        };
+        nets_say = equal;
       }
 
   abbrev pairs : List (NamedPair ℕ ℕ)
@@ -84,7 +86,7 @@ module _ (before now : Option (List ℕ)) (settings : Settings) (o : Outcome) (t
         is_verdict = e;
         uncut = no_names o.exposed (uncut_answer _ _ _ _ _ _ _ _ first.result.answer first.result.proof n.2.answer_is first.answered);
         printed = taken;
-        shown = shown_of_nets left.flat.flattened right.flat.flattened (compared.different w e);
+        says = shown_of_nets left.flat.flattened right.flat.flattened (compared.different w e);
       }
 
   pub texts_not_shown : (w : Witness) → o.verdict ≡ verdict.NotShown (why.Cut w) → TextsNotShown x y settings before now
@@ -113,9 +115,9 @@ module _ (before now : Option (List ℕ)) (settings : Settings) (o : Outcome) (t
         minimal = texts_minimal x y a b left right o.exposed compared.fits.exposed.minimal;
         columns = first.names_are;
         next_exposed = λ name is. next_among o.exposed (circuit_of a) (circuit_of b) first.place (of_at pairs first.index first.place first.place_is) name (sym first.named ∙ is);
-        shown = texts_cuts_differ x y a b left right o.exposed w (compared.not_shown w e);
+        says = texts_cuts_differ x y a b left right o.exposed w (compared.not_shown w e);
         nets_minimal = compared.fits.exposed.minimal;
-        nets_shown = compared.not_shown w e;
+        nets_say = compared.not_shown w e;
       }
 
   pub texts_undecided : (proofs : List Proof) (at : LimitAt) → o.verdict ≡ verdict.Limit at → proofs ≡ filter_map (λ (r : PairResult). r.proof) o.pairs → TextsUndecided x y settings proofs before now

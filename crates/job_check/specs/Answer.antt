@@ -3,13 +3,12 @@ use Rattle.std.specs.Prelude.{◌≡◌, ◌≢◌, ℕ, Bool, true, List, [], O
 use Rattle.circuit_theory.specs.declared.Mode.TheVariants.{Plain}
 use Rattle.circuit_theory.specs.declared.Side.{Side}
 use Rattle.circuit_theory.specs.Circuit.{Circuit}
-use Rattle.circuit_theory.specs.Agree.{Agree, AgreeOnward, IsMinimalCut}
+use Rattle.circuit_theory.specs.Agree.{IsMinimalCut}
 use Rattle.circuit_theory.specs.Interface.{AreNumbersOf}
 use Rattle.sec_base.specs.Outside.{Takes}
 use Rattle.sec_base.specs.declared.settings.Settings.{Settings}
 use Rattle.witness_report.specs.declared.witness.PairName.TheVariants as pair
 use Rattle.witness_report.specs.declared.witness.Witness.{Witness}
-use Rattle.witness_report.specs.Shown.{MakesDiffer, MakesCutsDiffer, AgreeFrom}
 use Rattle.flat_net.specs.View.{NetView, circuit_of, ports_of}
 use Rattle.blif_read.specs.Design.{Place}
 use Rattle.pair_decide.specs.declared.query.Proof.{Proof}
@@ -26,7 +25,8 @@ use Rattle.sec_setup.specs.Matching.{InterfacesMatch}
 use Rattle.sec_setup.specs.Cycles.{AreBroken}
 use Rattle.sec_setup.specs.Cuts.{IsChoice, AreCutAt, columns_of}
 use Rattle.plain_form.specs.Limits.{IsUndecided}
-use Rattle.sec_check.specs.Compared.{AreEqual, AreTooLarge}
+use Rattle.sec_check.specs.Says.{SaysEqual, SaysDifferent, SaysNotShown}
+use Rattle.sec_check.specs.Compared.{AreTooLarge}
 use Rattle.sec_files.specs.Loading.{IsAccepted, Loads, SpellsCircuit}
 use Rattle.job_files.specs.Reading.{Held}
 use Rattle.job_check.specs.Check.{Check, WhereBuilt}
@@ -42,7 +42,6 @@ pub record TextsAgree (x y : List ℕ) (conflicts : ℕ) (before now : Option (L
   pub right : Circuit Place
   pub left_spelled : SpellsCircuit x left_clock left
   pub right_spelled : SpellsCircuit y right_clock right
-  pub agree : Agree Plain left right
   pub left_net : NetView
   pub right_net : NetView
   pub left_loads : Loads x left_net
@@ -51,9 +50,8 @@ pub record TextsAgree (x y : List ℕ) (conflicts : ℕ) (before now : Option (L
   pub is_verdict : outcome.verdict ≡ verdict.Equal
   pub printed : Takes before now (report_text conflicts outcome)
   pub minimal : IsMinimalCut Plain left right outcome.exposed
-  pub onward : AgreeOnward Plain outcome.exposed left right
-  pub from : AgreeFrom outcome.through outcome.exposed left right
-  pub equal : AreEqual left_net right_net outcome
+  pub says : SaysEqual Plain outcome left right
+  pub nets_say : SaysEqual Plain outcome (circuit_of left_net) (circuit_of right_net)
 
 -- The circuits that the two texts spell differ in all runs over the sequence that is printed behind what was written before. No latch
 -- is cut open.
@@ -69,7 +67,7 @@ pub record TextsDiffer (x y : List ℕ) (conflicts : ℕ) (before now : Option (
   pub is_verdict : outcome.verdict ≡ verdict.Different witness
   pub uncut : outcome.exposed ≡ []
   pub printed : Takes before now (report_text conflicts outcome)
-  pub shown : MakesDiffer left right witness
+  pub says : SaysDifferent Plain witness left right
 
 -- Latches were to be cut open, and the exposed ones that are printed are some: a minimal cut of the circuits that the two texts spell.
 -- With these cut out the circuits differ in all runs over the sequence that is printed, which is over the shared inputs and the exposed
@@ -95,9 +93,9 @@ pub record TextsNotShown (x y : List ℕ) (settings : Settings) (before now : Op
   pub minimal : IsMinimalCut Plain left right outcome.exposed
   pub columns : witness.stimulus.names ≡ columns_of left_net right_net outcome.exposed
   pub next_exposed : (name : List ℕ) → witness.pair ≡ pair.Next name → Contains outcome.exposed name
-  pub shown : MakesCutsDiffer outcome.exposed left right witness
+  pub says : SaysNotShown Plain outcome.exposed witness left right
   pub nets_minimal : IsMinimalCut Plain (circuit_of left_net) (circuit_of right_net) outcome.exposed
-  pub nets_shown : MakesCutsDiffer outcome.exposed (circuit_of left_net) (circuit_of right_net) witness
+  pub nets_say : SaysNotShown Plain outcome.exposed witness (circuit_of left_net) (circuit_of right_net)
 
 -- The report names a pair of the two texts' nets, outputs or what exposed latches take over, whose query over the nets with the exposed
 -- latches cut out has more than 16 variables and met the limit, which one of the proofs shows: its clauses, and a log of exactly as

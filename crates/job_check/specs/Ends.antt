@@ -1,10 +1,10 @@
 -- How the work of a comparison ends.
 use Rattle.std.specs.Prelude.{◌≡◌, ◌⊎◌, ℕ, List, [], ◌∷◌, Option, Result, Ok, Err, IfSome}
-use Rattle.circuit_theory.specs.declared.Side.TheVariants.{B}
 use Rattle.sec_base.specs.declared.settings.Settings.{Settings}
 use Rattle.flat_net.specs.View.{NetView}
 use Rattle.sec_outcome.specs.declared.outcome.Outcome.{Outcome}
 use Rattle.job_base.specs.Ends.{EndsBy}
+use Rattle.job_base.specs.declared.finding.File.TheVariants as file
 use Rattle.job_base.specs.declared.finding.Refusal.TheVariants as refusal
 use Rattle.job_base.specs.declared.finding.Finding.{Finding}
 use Rattle.job_base.specs.declared.finding.Finding.TheVariants as finding
@@ -41,5 +41,5 @@ CheckFound held before now check r = EndsBy (IsCheckFound held check) (ReadFaile
 -- compared.
 abbrev pub EndsBeside : Option (List ℕ) → Type 0 → NetView → Settings → Result Finding Stop → Type 0
 EndsBeside text rose a settings r =
-    ((error : LoadError) × LoadFails text rose error × (r ≡ load_end B error))
+    ((error : LoadError) × LoadFails text rose error × (r ≡ load_end file.B error))
     ⊎ ((b : NetView) × (compared : Result Outcome CompareError) × IfSome text (λ y. Loads y b) × Compared a b settings compared × (r ≡ compare_end settings compared))

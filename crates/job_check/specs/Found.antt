@@ -1,8 +1,9 @@
 -- What is true of the files of a comparison where it finds what it does.
 use Rattle.std.specs.Prelude.{◌≡◌, ℕ, List, Ok, Err, IfSome}
-use Rattle.circuit_theory.specs.declared.Side.{Side}
-use Rattle.circuit_theory.specs.declared.Side.TheVariants.{A, B}
 use Rattle.flat_net.specs.View.{NetView}
+use Rattle.job_base.specs.declared.finding.File.{File}
+use Rattle.job_base.specs.declared.finding.File.TheVariants as file
+use Rattle.job_base.specs.declared.finding.LineFault.TheVariants as line_fault
 use Rattle.job_base.specs.declared.finding.Refusal.{Refusal}
 use Rattle.job_base.specs.declared.finding.Refusal.TheVariants as refusal
 use Rattle.job_base.specs.declared.finding.Finding.{Finding}
@@ -17,10 +18,11 @@ use Rattle.job_check.specs.Check.{Check, WhereBuilt}
 abbrev pub OfTexts : Held → Check → (List ℕ → List ℕ → Type 0) → Type 0
 OfTexts held check P = IfSome (held check.left) (λ x. IfSome (held check.right) (λ y. P x y))
 
--- what is said of the text of a side; B is looked at only where A loads
-abbrev pub OfSide : Held → Check → Side → (List ℕ → Type 0) → Type 0
-OfSide held check A P = IfSome (held check.left) P
-OfSide held check B P = OfTexts held check (λ x y. (net : NetView) × Loads x net × P y)
+-- what is said of the text of a file; B is looked at only where A loads, and there is no stimulus
+abbrev pub OfFile : Held → Check → File → (List ℕ → Type 0) → Type 0
+OfFile held check file.A P = IfSome (held check.left) P
+OfFile held check file.B P = OfTexts held check (λ x y. (net : NetView) × Loads x net × P y)
+OfFile held check file.S P = ⊥
 
 -- what is said of the two nets that the texts load as
 abbrev pub OfNets : Held → Check → (NetView → NetView → Type 0) → Type 0
@@ -29,14 +31,13 @@ OfNets held check P = OfTexts held check (λ x y. (a : NetView) × (b : NetView)
 -- why a comparison is refused; the first cause in the order of the work
 abbrev pub IsRefusal : Held → Check → Refusal → Type 0
 IsRefusal held check refusal.NotBuilt = ⊥
-IsRefusal held check (refusal.TooLong side) = OfSide held check side IsTooLong
-IsRefusal held check (refusal.Text side line kind) = OfSide held check side (λ x. HasFault x line kind)
-IsRefusal held check (refusal.Design side fault) = OfSide held check side (λ x. HasDesignFault x fault)
+IsRefusal held check (refusal.TooLong f) = OfFile held check f IsTooLong
+IsRefusal held check (refusal.Text f line (line_fault.Circuit kind)) = OfFile held check f (λ x. HasFault x line kind)
+IsRefusal held check (refusal.Text f line line_fault.BadHeader) = ⊥
+IsRefusal held check (refusal.Text f line line_fault.BadRow) = ⊥
+IsRefusal held check (refusal.Design f fault) = OfFile held check f (λ x. HasDesignFault x fault)
 IsRefusal held check (refusal.Interface name) = OfNets held check (λ a b. Compared a b check.settings (Err (compare_error.Interface name)))
 IsRefusal held check (refusal.TooLarge side) = OfNets held check (λ a b. Compared a b check.settings (Err (compare_error.TooLarge side)))
-IsRefusal held check refusal.StimulusTooLong = ⊥
-IsRefusal held check (refusal.BadHeader line) = ⊥
-IsRefusal held check (refusal.BadRow line) = ⊥
 IsRefusal held check (refusal.Misfit m) = ⊥
 
 -- what is true of the files where this is found of them

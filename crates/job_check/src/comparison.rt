@@ -10,9 +10,9 @@ ghost use Rattle.job_check.specs.Ends.{compare_end, CheckFound, EndsBeside, Foun
 
 use circuit_theory::Mode;
 use flat_net::Net;
-use job_base::{Finding, Refusal, Stop};
+use job_base::{File, Finding, Refusal, Stop};
 use job_files::load_end;
-use sec_base::{Shelf, Side};
+use sec_base::Shelf;
 use sec_check::{CompareError, Outcome, Settings, compare};
 use sec_files::load;
 use std::alloc::Global;
@@ -59,7 +59,7 @@ fn compare_files<S: Shelf>(
 {
     match load(alloc, shelf, comparison.left) {
         Ok(a) => compare_with(alloc, &a, comparison, shelf),
-        Err(error) => load_end(Side::A, error),
+        Err(error) => load_end(File::A, error),
     }
 }
 
@@ -83,7 +83,7 @@ fn compare_with<S: Shelf>(
             let compared = compare(alloc, a, &b, &comparison.settings);
             compare_end(comparison.settings, compared)
         }
-        Err(error) => load_end(Side::B, error),
+        Err(error) => load_end(File::B, error),
     }
 }
 

@@ -11,6 +11,8 @@ use Rattle.witness_report.proofs.Forms.{form_lines, one_form, no_bad_line}
 use Rattle.flat_net.specs.View.{NetView}
 use Rattle.sim_report.specs.Checks.{first_misfit}
 use Rattle.pair_decide.specs.declared.query.Proof.{Proof}
+use Rattle.job_base.specs.declared.finding.File.TheVariants as file
+use Rattle.job_base.specs.declared.finding.LineFault.TheVariants as line_fault
 use Rattle.job_base.specs.declared.finding.Refusal.{Refusal}
 use Rattle.job_base.specs.declared.finding.Refusal.TheVariants as refusal
 use Rattle.job_base.specs.declared.finding.Finding.{Finding}
@@ -40,18 +42,20 @@ same_names text names others rows more form another =
 -- an accepted circuit is not refused
 module _ (circuit : Option (List ℕ)) (x : List ℕ) (is : circuit ≡ Some x) (accepted : IsAccepted x) where
   circuit_stands : (r : Refusal) → IsCircuitRefusal circuit r → ⊥
-  circuit_stands (refusal.TooLong A) h = let long : IsTooLong x = if_told circuit IsTooLong x is h in omega (arith, accepted.short)
-  circuit_stands (refusal.TooLong B) h = h
-  circuit_stands (refusal.Text A line kind) h = none-some _ (sym accepted.faultless ∙ (if_told circuit (λ t. HasFault t line kind) x is h).1)
-  circuit_stands (refusal.Text B line kind) h = h
-  circuit_stands (refusal.Design A fault) h = accepted.sound fault (if_told circuit (λ t. HasDesignFault t fault) x is h).2
-  circuit_stands (refusal.Design B fault) h = h
+  circuit_stands (refusal.TooLong file.A) h = let long : IsTooLong x = if_told circuit IsTooLong x is h in omega (arith, accepted.short)
+  circuit_stands (refusal.TooLong file.B) h = h
+  circuit_stands (refusal.TooLong file.S) h = h
+  circuit_stands (refusal.Text file.A line (line_fault.Circuit kind)) h = none-some _ (sym accepted.faultless ∙ (if_told circuit (λ t. HasFault t line kind) x is h).1)
+  circuit_stands (refusal.Text file.A line line_fault.BadHeader) h = h
+  circuit_stands (refusal.Text file.A line line_fault.BadRow) h = h
+  circuit_stands (refusal.Text file.B line fault) h = h
+  circuit_stands (refusal.Text file.S line fault) h = h
+  circuit_stands (refusal.Design file.A fault) h = accepted.sound fault (if_told circuit (λ t. HasDesignFault t fault) x is h).2
+  circuit_stands (refusal.Design file.B fault) h = h
+  circuit_stands (refusal.Design file.S fault) h = h
   circuit_stands refusal.NotBuilt h = h
   circuit_stands (refusal.Interface name) h = h
   circuit_stands (refusal.TooLarge side) h = h
-  circuit_stands refusal.StimulusTooLong h = h
-  circuit_stands (refusal.BadHeader line) h = h
-  circuit_stands (refusal.BadRow line) h = h
   circuit_stands (refusal.Misfit m) h = h
 
 -- in the plain mode no query of a latch has met the limit
@@ -66,14 +70,11 @@ module _ (mode : Mode) (circuit : Option (List ℕ)) (x : List ℕ) (is : circui
       let loads : Loads x h.net = if_told circuit (λ t. Loads t h.net) x is h.loads in
       large_or_light mode h.net loads.flat.sound h.unknown (can.light h.net loads)
   graph_stands (refusal.TooLarge B) h = h
-  graph_stands (refusal.TooLong side) h = circuit_stands circuit x is can.circuit (refusal.TooLong side) h
-  graph_stands (refusal.Text side line kind) h = circuit_stands circuit x is can.circuit (refusal.Text side line kind) h
-  graph_stands (refusal.Design side fault) h = circuit_stands circuit x is can.circuit (refusal.Design side fault) h
+  graph_stands (refusal.TooLong f) h = circuit_stands circuit x is can.circuit (refusal.TooLong f) h
+  graph_stands (refusal.Text f line fault) h = circuit_stands circuit x is can.circuit (refusal.Text f line fault) h
+  graph_stands (refusal.Design f fault) h = circuit_stands circuit x is can.circuit (refusal.Design f fault) h
   graph_stands refusal.NotBuilt h = h
   graph_stands (refusal.Interface name) h = h
-  graph_stands refusal.StimulusTooLong h = h
-  graph_stands (refusal.BadHeader line) h = h
-  graph_stands (refusal.BadRow line) h = h
   graph_stands (refusal.Misfit m) h = h
 
   graph_reported : (f : Finding) → IsGraphFound mode circuit f → IsReported mode (status_of f)
@@ -88,18 +89,21 @@ module _ (mode : Mode) (circuit : Option (List ℕ)) (x : List ℕ) (is : circui
 -- nor is a stimulus that fits it
 module _ (mode : Mode) (circuit stimulus power : Option (List ℕ)) (x y : List ℕ) (is : circuit ≡ Some x) (told : stimulus ≡ Some y) (can : CanBeRun mode x y power) where
   run_stands : (r : Refusal) → IsSimRefusal mode circuit stimulus power r → ⊥
-  run_stands refusal.StimulusTooLong h = let long : IsTooLong y = if_told stimulus IsTooLong y told h.1 in omega (arith, can.stimulus.short)
-  run_stands (refusal.BadHeader line) h = has_header y can.names can.rows can.stimulus.form (if_told stimulus (λ t. HasBadHeader t line) y told h.1).no_header
-  run_stands (refusal.BadRow line) h = no_bad_row y can.names can.rows line can.stimulus.form (if_told stimulus (λ t. HasBadRow t line) y told h.1).bad_row
+  run_stands (refusal.TooLong file.S) h = let long : IsTooLong y = if_told stimulus IsTooLong y told h.1 in omega (arith, can.stimulus.short)
+  run_stands (refusal.Text file.S line line_fault.BadHeader) h = has_header y can.names can.rows can.stimulus.form (if_told stimulus (λ t. HasBadHeader t line) y told h.1).no_header
+  run_stands (refusal.Text file.S line line_fault.BadRow) h = no_bad_row y can.names can.rows line can.stimulus.form (if_told stimulus (λ t. HasBadRow t line) y told h.1).bad_row
   run_stands (refusal.Misfit m) h =
       let loads : Loads x h.net = if_told circuit (λ t. Loads t h.net) x is h.loads in
       let spells : IsStimulus y h.names h.rows = if_told stimulus (λ t. IsStimulus t h.names h.rows) y told h.spells in
       let same : can.names ≡ h.names = same_names y can.names h.names can.rows h.rows can.stimulus.form spells.form in
       none-some m (sym (can.fits h.net loads) ∙ (ap (λ (names : List (List ℕ)). first_misfit h.net names power) same ∙ h.is_first))
   run_stands refusal.NotBuilt h = h
-  run_stands (refusal.TooLong side) h = circuit_stands circuit x is can.circuit (refusal.TooLong side) h
-  run_stands (refusal.Text side line kind) h = circuit_stands circuit x is can.circuit (refusal.Text side line kind) h
-  run_stands (refusal.Design side fault) h = circuit_stands circuit x is can.circuit (refusal.Design side fault) h
+  run_stands (refusal.TooLong file.A) h = circuit_stands circuit x is can.circuit (refusal.TooLong file.A) h
+  run_stands (refusal.TooLong file.B) h = circuit_stands circuit x is can.circuit (refusal.TooLong file.B) h
+  run_stands (refusal.Text file.A line fault) h = circuit_stands circuit x is can.circuit (refusal.Text file.A line fault) h
+  run_stands (refusal.Text file.B line fault) h = circuit_stands circuit x is can.circuit (refusal.Text file.B line fault) h
+  run_stands (refusal.Text file.S line (line_fault.Circuit kind)) h = circuit_stands circuit x is can.circuit (refusal.Text file.S line (line_fault.Circuit kind)) h
+  run_stands (refusal.Design f fault) h = circuit_stands circuit x is can.circuit (refusal.Design f fault) h
   run_stands (refusal.Interface name) h = h
   run_stands (refusal.TooLarge A) h =
       let loads : Loads x h.net = if_told circuit (λ t. Loads t h.net) x is h.loads in

@@ -9,6 +9,8 @@ use Rattle.witness_report.specs.declared.error.StimError.TheVariants as stim_err
 use Rattle.flat_net.specs.View.{NetView}
 use Rattle.blif_read.specs.declared.error.ReadError.TheVariants as read_error
 use Rattle.flat_walk.specs.declared.error.FlatError.TheVariants as flat_error
+use Rattle.job_base.specs.declared.finding.File.TheVariants as file
+use Rattle.job_base.specs.declared.finding.LineFault.TheVariants as line_fault
 use Rattle.job_base.specs.declared.finding.Refusal.{Refusal}
 use Rattle.job_base.specs.declared.finding.Refusal.TheVariants as refusal
 use Rattle.job_base.specs.declared.finding.Finding.{Finding}
@@ -33,55 +35,53 @@ use Rattle.job_circuit.specs.Ends.{graph_end, sim_end, SimFound}
 
 -- the circuit isn't loaded
 pub circuit_ends : (P : Finding → Type 0) (failed rose : Type 0) (circuit : Option (List ℕ)) (error : LoadError) → ((r : Refusal) → IsCircuitRefusal circuit r → P (finding.Refused r)) → (rose → failed) →
-    LoadFails circuit rose error → EndsBy P failed (load_end A error)
+    LoadFails circuit rose error → EndsBy P failed (load_end file.A error)
 circuit_ends P failed rose circuit (load_error.Fetch fetch_error.Failed) refuse fail h = fail h
-circuit_ends P failed rose circuit (load_error.Fetch fetch_error.TooLong) refuse fail h = refuse (refusal.TooLong A) h
+circuit_ends P failed rose circuit (load_error.Fetch fetch_error.TooLong) refuse fail h = refuse (refusal.TooLong file.A) h
 circuit_ends P failed rose circuit (load_error.Fetch fetch_error.NoMemory) refuse fail h = tt
-circuit_ends P failed rose circuit (load_error.Read (read_error.At line kind)) refuse fail h = refuse (refusal.Text A line kind) h
+circuit_ends P failed rose circuit (load_error.Read (read_error.At line kind)) refuse fail h = refuse (refusal.Text file.A line (line_fault.Circuit kind)) h
 circuit_ends P failed rose circuit (load_error.Read read_error.NoMemory) refuse fail h = tt
-circuit_ends P failed rose circuit (load_error.Flat (flat_error.UnknownModel x)) refuse fail h = refuse (refusal.Design A (flat_error.UnknownModel x)) h
-circuit_ends P failed rose circuit (load_error.Flat (flat_error.Recursive x)) refuse fail h = refuse (refusal.Design A (flat_error.Recursive x)) h
-circuit_ends P failed rose circuit (load_error.Flat (flat_error.UnknownFormal x)) refuse fail h = refuse (refusal.Design A (flat_error.UnknownFormal x)) h
-circuit_ends P failed rose circuit (load_error.Flat (flat_error.FormalTwice x)) refuse fail h = refuse (refusal.Design A (flat_error.FormalTwice x)) h
-circuit_ends P failed rose circuit (load_error.Flat (flat_error.OpenInput x)) refuse fail h = refuse (refusal.Design A (flat_error.OpenInput x)) h
-circuit_ends P failed rose circuit (load_error.Flat (flat_error.TwoDrivers x)) refuse fail h = refuse (refusal.Design A (flat_error.TwoDrivers x)) h
-circuit_ends P failed rose circuit (load_error.Flat (flat_error.Undriven x)) refuse fail h = refuse (refusal.Design A (flat_error.Undriven x)) h
-circuit_ends P failed rose circuit (load_error.Flat (flat_error.TwoClocks x)) refuse fail h = refuse (refusal.Design A (flat_error.TwoClocks x)) h
-circuit_ends P failed rose circuit (load_error.Flat (flat_error.TwoEdges x)) refuse fail h = refuse (refusal.Design A (flat_error.TwoEdges x)) h
-circuit_ends P failed rose circuit (load_error.Flat (flat_error.GatedClock x)) refuse fail h = refuse (refusal.Design A (flat_error.GatedClock x)) h
-circuit_ends P failed rose circuit (load_error.Flat (flat_error.ClockRead x)) refuse fail h = refuse (refusal.Design A (flat_error.ClockRead x)) h
-circuit_ends P failed rose circuit (load_error.Flat (flat_error.Loop x)) refuse fail h = refuse (refusal.Design A (flat_error.Loop x)) h
-circuit_ends P failed rose circuit (load_error.Flat (flat_error.TooDeep x)) refuse fail h = refuse (refusal.Design A (flat_error.TooDeep x)) h
-circuit_ends P failed rose circuit (load_error.Flat flat_error.TooMany) refuse fail h = refuse (refusal.Design A flat_error.TooMany) h
-circuit_ends P failed rose circuit (load_error.Flat flat_error.LongName) refuse fail h = refuse (refusal.Design A flat_error.LongName) h
+circuit_ends P failed rose circuit (load_error.Flat (flat_error.UnknownModel x)) refuse fail h = refuse (refusal.Design file.A (flat_error.UnknownModel x)) h
+circuit_ends P failed rose circuit (load_error.Flat (flat_error.Recursive x)) refuse fail h = refuse (refusal.Design file.A (flat_error.Recursive x)) h
+circuit_ends P failed rose circuit (load_error.Flat (flat_error.UnknownFormal x)) refuse fail h = refuse (refusal.Design file.A (flat_error.UnknownFormal x)) h
+circuit_ends P failed rose circuit (load_error.Flat (flat_error.FormalTwice x)) refuse fail h = refuse (refusal.Design file.A (flat_error.FormalTwice x)) h
+circuit_ends P failed rose circuit (load_error.Flat (flat_error.OpenInput x)) refuse fail h = refuse (refusal.Design file.A (flat_error.OpenInput x)) h
+circuit_ends P failed rose circuit (load_error.Flat (flat_error.TwoDrivers x)) refuse fail h = refuse (refusal.Design file.A (flat_error.TwoDrivers x)) h
+circuit_ends P failed rose circuit (load_error.Flat (flat_error.Undriven x)) refuse fail h = refuse (refusal.Design file.A (flat_error.Undriven x)) h
+circuit_ends P failed rose circuit (load_error.Flat (flat_error.TwoClocks x)) refuse fail h = refuse (refusal.Design file.A (flat_error.TwoClocks x)) h
+circuit_ends P failed rose circuit (load_error.Flat (flat_error.TwoEdges x)) refuse fail h = refuse (refusal.Design file.A (flat_error.TwoEdges x)) h
+circuit_ends P failed rose circuit (load_error.Flat (flat_error.GatedClock x)) refuse fail h = refuse (refusal.Design file.A (flat_error.GatedClock x)) h
+circuit_ends P failed rose circuit (load_error.Flat (flat_error.ClockRead x)) refuse fail h = refuse (refusal.Design file.A (flat_error.ClockRead x)) h
+circuit_ends P failed rose circuit (load_error.Flat (flat_error.Loop x)) refuse fail h = refuse (refusal.Design file.A (flat_error.Loop x)) h
+circuit_ends P failed rose circuit (load_error.Flat (flat_error.TooDeep x)) refuse fail h = refuse (refusal.Design file.A (flat_error.TooDeep x)) h
+circuit_ends P failed rose circuit (load_error.Flat flat_error.TooMany) refuse fail h = refuse (refusal.Design file.A flat_error.TooMany) h
+circuit_ends P failed rose circuit (load_error.Flat flat_error.LongName) refuse fail h = refuse (refusal.Design file.A flat_error.LongName) h
 circuit_ends P failed rose circuit (load_error.Flat flat_error.NoMemory) refuse fail h = tt
 
 -- a refusal of the circuit is one of the report of its latch graph
 pub graph_circuit : (mode : Mode) (circuit : Option (List ℕ)) (r : Refusal) → IsCircuitRefusal circuit r → IsGraphRefusal mode circuit r
 graph_circuit mode circuit refusal.NotBuilt h = h
-graph_circuit mode circuit (refusal.TooLong side) h = h
-graph_circuit mode circuit (refusal.Text side line kind) h = h
-graph_circuit mode circuit (refusal.Design side fault) h = h
+graph_circuit mode circuit (refusal.TooLong f) h = h
+graph_circuit mode circuit (refusal.Text f line fault) h = h
+graph_circuit mode circuit (refusal.Design f fault) h = h
 graph_circuit mode circuit (refusal.Interface name) h = h
 graph_circuit mode circuit (refusal.TooLarge A) h = absurd h
 graph_circuit mode circuit (refusal.TooLarge B) h = h
-graph_circuit mode circuit refusal.StimulusTooLong h = h
-graph_circuit mode circuit (refusal.BadHeader line) h = h
-graph_circuit mode circuit (refusal.BadRow line) h = h
 graph_circuit mode circuit (refusal.Misfit m) h = h
 
 -- and one of the simulation
 pub sim_circuit : (mode : Mode) (circuit stimulus power : Option (List ℕ)) (r : Refusal) → IsCircuitRefusal circuit r → IsSimRefusal mode circuit stimulus power r
 sim_circuit mode circuit stimulus power refusal.NotBuilt h = h
-sim_circuit mode circuit stimulus power (refusal.TooLong side) h = h
-sim_circuit mode circuit stimulus power (refusal.Text side line kind) h = h
-sim_circuit mode circuit stimulus power (refusal.Design side fault) h = h
+sim_circuit mode circuit stimulus power (refusal.TooLong file.A) h = h
+sim_circuit mode circuit stimulus power (refusal.TooLong file.B) h = h
+sim_circuit mode circuit stimulus power (refusal.TooLong file.S) h = absurd h
+sim_circuit mode circuit stimulus power (refusal.Text file.A line fault) h = h
+sim_circuit mode circuit stimulus power (refusal.Text file.B line fault) h = h
+sim_circuit mode circuit stimulus power (refusal.Text file.S line fault) h = absurd h
+sim_circuit mode circuit stimulus power (refusal.Design f fault) h = h
 sim_circuit mode circuit stimulus power (refusal.Interface name) h = h
 sim_circuit mode circuit stimulus power (refusal.TooLarge A) h = absurd h
 sim_circuit mode circuit stimulus power (refusal.TooLarge B) h = h
-sim_circuit mode circuit stimulus power refusal.StimulusTooLong h = absurd h
-sim_circuit mode circuit stimulus power (refusal.BadHeader line) h = absurd h
-sim_circuit mode circuit stimulus power (refusal.BadRow line) h = absurd h
 sim_circuit mode circuit stimulus power (refusal.Misfit m) h = absurd h
 
 -- the circuit is loaded, and its latch graph told

@@ -14,6 +14,8 @@ use Rattle.job_base.specs.declared.status.StatusName.{StatusName}
 use Rattle.job_base.specs.declared.status.StatusName.TheVariants as status
 use Rattle.job_base.specs.Lines.{undecided_text}
 use Rattle.job_base.specs.Meaning.{ReportMeans}
+use Rattle.job_base.specs.declared.finding.File.TheVariants as file
+use Rattle.job_base.specs.declared.finding.LineFault.TheVariants as line_fault
 use Rattle.job_base.specs.declared.finding.Refusal.{Refusal}
 use Rattle.job_base.specs.declared.finding.Refusal.TheVariants as refusal
 use Rattle.job_base.specs.declared.finding.Finding.{Finding}
@@ -35,9 +37,9 @@ sim_paths circuit stimulus = circuit ∷ stimulus ∷ []
 
 -- why the circuit is refused; its name is A
 abbrev pub IsCircuitRefusal : Option (List ℕ) → Refusal → Type 0
-IsCircuitRefusal circuit (refusal.TooLong A) = IfSome circuit IsTooLong
-IsCircuitRefusal circuit (refusal.Text A line kind) = IfSome circuit (λ x. HasFault x line kind)
-IsCircuitRefusal circuit (refusal.Design A fault) = IfSome circuit (λ x. HasDesignFault x fault)
+IsCircuitRefusal circuit (refusal.TooLong file.A) = IfSome circuit IsTooLong
+IsCircuitRefusal circuit (refusal.Text file.A line (line_fault.Circuit kind)) = IfSome circuit (λ x. HasFault x line kind)
+IsCircuitRefusal circuit (refusal.Design file.A fault) = IfSome circuit (λ x. HasDesignFault x fault)
 IsCircuitRefusal circuit other = ⊥
 
 -- the report is that of the latch graph of the net that the circuit's text loads as
@@ -98,9 +100,9 @@ pub record HasUnknownRun (mode : Mode) (circuit stimulus power : Option (List �
 
 -- why a simulation is refused; the first cause in the order of the work
 abbrev pub IsSimRefusal : Mode → Option (List ℕ) → Option (List ℕ) → Option (List ℕ) → Refusal → Type 0
-IsSimRefusal mode circuit stimulus power refusal.StimulusTooLong = IsLoaded circuit × IfSome stimulus IsTooLong
-IsSimRefusal mode circuit stimulus power (refusal.BadHeader line) = IsLoaded circuit × IfSome stimulus (λ y. HasBadHeader y line)
-IsSimRefusal mode circuit stimulus power (refusal.BadRow line) = IsLoaded circuit × IfSome stimulus (λ y. HasBadRow y line)
+IsSimRefusal mode circuit stimulus power (refusal.TooLong file.S) = IsLoaded circuit × IfSome stimulus IsTooLong
+IsSimRefusal mode circuit stimulus power (refusal.Text file.S line line_fault.BadHeader) = IsLoaded circuit × IfSome stimulus (λ y. HasBadHeader y line)
+IsSimRefusal mode circuit stimulus power (refusal.Text file.S line line_fault.BadRow) = IsLoaded circuit × IfSome stimulus (λ y. HasBadRow y line)
 IsSimRefusal mode circuit stimulus power (refusal.Misfit m) = HasMisfit circuit stimulus power m
 IsSimRefusal mode circuit stimulus power (refusal.TooLarge A) = HasUnknownRun mode circuit stimulus power kinds_error.TooLarge
 IsSimRefusal mode circuit stimulus power other = IsCircuitRefusal circuit other

@@ -6,7 +6,7 @@ ghost use Rattle.job_circuit.specs.Ends.{GraphFound, SimFound, graph_end, sim_en
 
 use circuit_jobs::{KindsError, SimulateError, simulate as run_circuit, tell};
 use circuit_theory::Mode;
-use job_base::{Finding, Refusal, Stop};
+use job_base::{File, Finding, Refusal, Stop};
 use job_files::{load_end, stimulus_end};
 use sec_base::{Shelf, Side, Text};
 use sec_files::{load, load_stimulus};
@@ -34,7 +34,7 @@ pub fn tell_graph<S: Shelf>(
 {
     let net = match load(alloc, shelf, circuit) {
         Ok(net) => net,
-        Err(error) => return load_end(Side::A, error),
+        Err(error) => return load_end(File::A, error),
     };
     let told = tell(alloc, &net, mode);
     graph_end(told)
@@ -77,7 +77,7 @@ pub fn simulate<S: Shelf>(
 {
     let net = match load(alloc, shelf, simulation.circuit) {
         Ok(net) => net,
-        Err(error) => return load_end(Side::A, error),
+        Err(error) => return load_end(File::A, error),
     };
     let stimulus = match load_stimulus(alloc, shelf, simulation.stimulus) {
         Ok(stimulus) => stimulus,

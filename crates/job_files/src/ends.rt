@@ -4,25 +4,26 @@ ghost use Rattle.std.specs.Prelude.{◌≡◌};
 ghost use Rattle.job_files.specs.Ends.{load_end, stimulus_end};
 
 use blif_read::ReadError;
-use job_base::{Finding, Refusal, Stop};
-use sec_base::{FetchError, Side};
+use job_base::{File, Finding, LineFault, Refusal, Stop};
+use sec_base::FetchError;
 use sec_files::{FlatError, LoadError, StimulusError};
 use witness_report::StimError;
 
-/// What is found where the file of a side isn't loaded.
-pub fn load_end(side: Side, error: LoadError) -> Result<Finding, Stop>
-    ensures { result ≡ load_end side error }
+/// What is found where the file of a circuit isn't loaded.
+pub fn load_end(file: File, error: LoadError) -> Result<Finding, Stop>
+    ensures { result ≡ load_end file error }
 {
     match error {
         LoadError::Fetch(FetchError::Failed) => Err(Stop::ReadFault),
-        LoadError::Fetch(FetchError::TooLong) => Ok(Finding::Refused(Refusal::TooLong(side))),
+        LoadError::Fetch(FetchError::TooLong) => Ok(Finding::Refused(Refusal::TooLong(file))),
         LoadError::Fetch(FetchError::NoMemory) => Err(Stop::NoMemory),
         LoadError::Read(ReadError::At { line, kind }) => {
-            Ok(Finding::Refused(Refusal::Text(side, line, kind)))
+            let fault = LineFault::Circuit(kind);
+            Ok(Finding::Refused(Refusal::Text(file, line, fault)))
         }
         LoadError::Read(ReadError::NoMemory) => Err(Stop::NoMemory),
         LoadError::Flat(FlatError::NoMemory) => Err(Stop::NoMemory),
-        LoadError::Flat(fault) => Ok(Finding::Refused(Refusal::Design(side, fault))),
+        LoadError::Flat(fault) => Ok(Finding::Refused(Refusal::Design(file, fault))),
     }
 }
 
@@ -33,14 +34,16 @@ pub fn stimulus_end(error: StimulusError) -> Result<Finding, Stop>
     match error {
         StimulusError::Fetch(FetchError::Failed) => Err(Stop::ReadFault),
         StimulusError::Fetch(FetchError::TooLong) => {
-            Ok(Finding::Refused(Refusal::StimulusTooLong))
+            Ok(Finding::Refused(Refusal::TooLong(File::S)))
         }
         StimulusError::Fetch(FetchError::NoMemory) => Err(Stop::NoMemory),
         StimulusError::Read(StimError::BadHeader { line }) => {
-            Ok(Finding::Refused(Refusal::BadHeader(line)))
+            let fault = LineFault::BadHeader;
+            Ok(Finding::Refused(Refusal::Text(File::S, line, fault)))
         }
         StimulusError::Read(StimError::BadRow { line }) => {
-            Ok(Finding::Refused(Refusal::BadRow(line)))
+            let fault = LineFault::BadRow;
+            Ok(Finding::Refused(Refusal::Text(File::S, line, fault)))
         }
         StimulusError::Read(StimError::NoMemory) => Err(Stop::NoMemory),
     }

@@ -33,7 +33,7 @@ use Rattle.sec_outcome.specs.declared.outcome.Why.TheVariants as why
 use Rattle.sec_outcome.specs.declared.outcome.Outcome.{Outcome}
 use Rattle.plain_form.specs.Outcome.{AnswerFits, PairFits, IsFirstOfAnswer, NoneIs, VerdictFits}
 use Rattle.sec_setup.specs.Pairs.{NamedPair, named_pairs}
-use Rattle.sec_check.specs.Compared.{AreEqual}
+use Rattle.sec_check.specs.Says.{AreEqual}
 use Rattle.sec_check.specs.Fitting.{OutcomeFits}
 use Rattle.sec_setup.specs.Cuts.{columns_of, is_cut}
 use Rattle.witness_report.specs.Shown.{Obeys, ArePlacesOf, MakesDiffer, MakesCutsDiffer, AgreeFrom}
@@ -151,7 +151,7 @@ module _ (a b : NetView) (expose : Bool) (conflicts : ℕ) (o : Outcome) (fits :
       agree_from n left right alike below start = circuits_agree.1 n left right alike o.through below (λ p q is_pair. pair_settled left right p q (pair_result p q is_pair)) start
 
     -- an equal outcome says that the circuits agree
-    pub they_are_equal : o.verdict ≡ verdict.Equal → AreEqual a b o
+    pub they_are_equal : o.verdict ≡ verdict.Equal → AreEqual (circuit_of a) (circuit_of b) o
     they_are_equal equal = record { agree = (circuits_agree equal).0; onward = (circuits_agree equal).1; from = agree_from equal }
 
     -- the first pair of an answer, with its sequence

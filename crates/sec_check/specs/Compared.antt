@@ -3,12 +3,10 @@ use Rattle.std.specs.Prelude.{◌≡◌, ℕ, Bool, true, false, List, [], Some,
 use Rattle.circuit_theory.specs.declared.Mode.TheVariants.{Plain}
 use Rattle.circuit_theory.specs.declared.Side.{Side}
 use Rattle.circuit_theory.specs.declared.Side.TheVariants.{A, B}
-use Rattle.circuit_theory.specs.Agree.{Agree, AgreeOnward}
 use Rattle.circuit_theory.specs.Interface.{first_mismatch}
 use Rattle.flat_net.specs.Sound.{IsSound}
 use Rattle.flat_net.specs.View.{NetView, circuit_of, ports_of}
 use Rattle.witness_report.specs.declared.witness.Witness.{Witness}
-use Rattle.witness_report.specs.Shown.{MakesDiffer, MakesCutsDiffer, AgreeFrom}
 use Rattle.sec_base.specs.declared.settings.Settings.{Settings}
 use Rattle.sec_outcome.specs.declared.outcome.Verdict.TheVariants as verdict
 use Rattle.sec_outcome.specs.declared.outcome.Why.TheVariants as why
@@ -24,13 +22,7 @@ use Rattle.plain_form.specs.Formed.{IsLight}
 use Rattle.sec_check.specs.declared.error.CompareError.{CompareError}
 use Rattle.sec_check.specs.declared.error.CompareError.TheVariants as refused
 use Rattle.sec_check.specs.Fitting.{IsCutOver, IsCutLight, OutcomeFits}
-
--- What equal says: the circuits agree, and agree onward; so where the exposed latches are equal from the start up to the printed cycle,
--- they are equal for ever, and the outputs from that cycle on.
-pub record AreEqual (a b : NetView) (o : Outcome) : Type 0 where
-  pub agree : Agree Plain (circuit_of a) (circuit_of b)
-  pub onward : AgreeOnward Plain o.exposed (circuit_of a) (circuit_of b)
-  pub from : AgreeFrom o.through o.exposed (circuit_of a) (circuit_of b)
+use Rattle.sec_check.specs.Says.{SaysEqual, SaysDifferent, SaysNotShown}
 
 -- The interfaces match, the outcome fits the circuits, and both unfoldings are light. Equal, different and not shown say what they
 -- say of the circuits. Both nets keep what each net keeps.
@@ -41,9 +33,9 @@ pub record IsCompared (a b : NetView) (settings : Settings) (o : Outcome) : Type
   pub fits : OutcomeFits a b settings.expose settings.conflicts o
   pub left_light : IsLight fits.left_cut
   pub right_light : IsLight fits.right_cut
-  pub equal : o.verdict ≡ verdict.Equal → AreEqual a b o
-  pub different : (w : Witness) → o.verdict ≡ verdict.Different w → MakesDiffer (circuit_of a) (circuit_of b) w
-  pub not_shown : (w : Witness) → o.verdict ≡ verdict.NotShown (why.Cut w) → MakesCutsDiffer o.exposed (circuit_of a) (circuit_of b) w
+  pub equal : o.verdict ≡ verdict.Equal → SaysEqual Plain o (circuit_of a) (circuit_of b)
+  pub different : (w : Witness) → o.verdict ≡ verdict.Different w → SaysDifferent Plain w (circuit_of a) (circuit_of b)
+  pub not_shown : (w : Witness) → o.verdict ≡ verdict.NotShown (why.Cut w) → SaysNotShown Plain o.exposed w (circuit_of a) (circuit_of b)
 
 -- With the latches of a choice of names cut out, which stand in A's order, a circuit of one of the sides is too large: A, or else B.
 pub data AreTooLarge (a b : NetView) (expose : Bool) : Side → Type 0 where
