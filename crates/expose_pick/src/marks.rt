@@ -1,6 +1,6 @@
 //! What is known of the signals of a graph while its latches are tried.
 
-ghost use Rattle.std.specs.Prelude.{◌≡◌, ◌≢◌, ℕ, ◌<◌, All, true, false, length, slice_get, Some, IfOk, IfSome, IfNone};
+ghost use Rattle.std.specs.Prelude.{◌≡◌, ◌≢◌, ℕ, ◌<◌, All, true, false, length, slice_get, Some, IfOk};
 ghost use Rattle.flat_net.specs.declared.parts.LatchAt.{LatchAt};
 ghost use Rattle.latch_graph.specs.declared.nodes.Node.{Node};
 ghost use Rattle.latch_graph.specs.Graph.{AreNodes};

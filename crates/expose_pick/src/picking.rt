@@ -1,6 +1,6 @@
 //! The choice of the latches that are exposed.
 
-ghost use Rattle.std.specs.Prelude.{◌≡◌, ◌≢◌, ◌<◌, All, length, IfOk, OnOk, IfErr};
+ghost use Rattle.std.specs.Prelude.{◌≢◌, ◌<◌, All, length, IfOk, OnOk, IfErr};
 ghost use Rattle.std.specs.List.{AllPairs};
 ghost use Rattle.expose_pick.specs.Chosen.{IsFree, IsMinimalChoice, lefts, rights};
 ghost use Rattle.expose_pick.specs.Refused.{Refuses};

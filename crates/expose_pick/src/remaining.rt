@@ -1,6 +1,6 @@
 //! Cycles that are left without all common latches.
 
-ghost use Rattle.std.specs.Prelude.{◌≡◌, ◌<◌, ℕ, Bool, true, false, All, Contains, length, slice_get, Some, IfOk, IfSome, IfNone};
+ghost use Rattle.std.specs.Prelude.{◌≡◌, ◌<◌, ℕ, Bool, true, false, All, length, slice_get, Some, IfOk, IfSome, IfNone};
 ghost use Rattle.expose_pick.specs.Chosen.{IsFree, IsLeft};
 ghost use Rattle.expose_pick.specs.Marks.{AreBits};
 

@@ -1,10 +1,10 @@
 //! One latch after the other is put back, where that closes no cycle.
 
-ghost use Rattle.std.specs.Prelude.{◌≡◌, ℕ, ◌+◌, ◌<◌, ◌⊎◌, [], ◌∷◌, ◌++◌, true, false, All, length, slice_get, slice_set, slice_index_or, Some, OnOk, IfOk, if◌then◌else◌};
+ghost use Rattle.std.specs.Prelude.{◌≡◌, ◌+◌, ◌<◌, [], ◌∷◌, ◌++◌, true, false, All, length, slice_get, slice_set, slice_index_or, Some, OnOk, IfOk, if◌then◌else◌};
 ghost use Rattle.sec_base.specs.Table.{AreDistinct};
 ghost use Rattle.expose_pick.specs.declared.marks.Mark.{Mark};
 ghost use Rattle.expose_pick.specs.Chosen.{IsFree, IsMinimalChoice};
-ghost use Rattle.expose_pick.specs.Readers.{AreReaders, WayBack};
+ghost use Rattle.expose_pick.specs.Readers.{WayBack};
 ghost use Rattle.expose_pick.specs.Marks.{AreMarks, IsPutBack, IsBlocked, signal_of};
 ghost use Rattle.expose_pick.specs.Trying.{IsField, AreTried};
 

@@ -1,6 +1,6 @@
 -- What a settled table says of the net: depths, and that there is none.
-use Rattle.std.proofs.Common.{◌≡◌, ◌≢◌, ℕ, zero, suc, ◌+◌, ◌<◌, ◌≤◌, Bool, true, false, List, [], ◌∷◌, length, map, Option, Some, None, refl, sym, ◌∙◌, ap, subst, arith, inl, inr}
-use Rattle.std.specs.Prelude.{◌⊎◌, slice_get, IfSome, IfNone}
+use Rattle.std.proofs.Common.{◌≡◌, ◌≢◌, ℕ, zero, suc, ◌+◌, ◌<◌, Bool, true, false, List, [], ◌∷◌, length, map, Option, Some, None, refl, sym, ◌∙◌, ap, subst, arith, inl, inr}
+use Rattle.std.specs.Prelude.{◌⊎◌, slice_get}
 use Rattle.std.specs.List.{Contains}
 use Rattle.flat_net.specs.declared.signals.Signal.{Signal}
 use Rattle.flat_net.specs.declared.parts.Gate.{Gate}
@@ -12,18 +12,16 @@ use Rattle.flat_net.specs.Sound.{Drives}
 use Rattle.flat_net.proofs.Places.{one_at, All-at}
 use Rattle.flat_net.proofs.Nets.{some_at, gate_stands, latch_stands, input_stands, sound_is_net, OfGate, OfLatch, equation_from}
 use Rattle.circuit_theory.specs.Circuit.{Gate as gate_equation, Latch as latch_equation, IsInput, IsLatch, IsSource, Reads, Reaches}
-use Rattle.circuit_theory.specs.Depth.{LatchReads, LatchChain, ChainFrom}
+use Rattle.circuit_theory.specs.Depth.{LatchChain, ChainFrom}
 use Rattle.circuit_theory.specs.Net.{IsNet}
-use Rattle.circuit_theory.proofs.Lists.{Contains-head, Contains-tail, Contains-cases, Contains-map, at_of, of_at}
-use Rattle.latch_cone.specs.Cones.{IsOther, AreOthers, IsMarkedBy}
+use Rattle.circuit_theory.proofs.Lists.{Contains-map, of_at}
 use Rattle.latch_cone.proofs.Walks.{source_stays}
 use Rattle.latch_graph.specs.declared.nodes.Node.{Node}
 use Rattle.latch_graph.specs.declared.settling.State.{State}
 use Rattle.latch_graph.specs.declared.settling.State.TheVariants.{New, Open, Known, Endless, Removed}
 use Rattle.std.proofs.lemmas.Option.{slice_get_within}
-use Rattle.latch_graph.proofs.Tables.{one_depth}
 use Rattle.latch_graph.specs.Graph.{GraphView, IsNodeOf, IsGraphOf, AreNodes, AreTaken, SkippedBy}
-use Rattle.latch_graph.specs.Settling.{HasDepth, IsDepthOf, ReadsEndless, IsTable, IsSettled, depth_of, step_of}
+use Rattle.latch_graph.specs.Settling.{HasDepth, IsDepthOf, ReadsEndless, IsTable, depth_of, step_of}
 
 -- What drives a signal of the net, with its node.
 pub data Driven (n : NetView) (bits : List Bool) (s : ℕ) (node : Node) : Type 0 where

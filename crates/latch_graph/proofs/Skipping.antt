@@ -1,5 +1,5 @@
 -- Cycles and depths depend on nothing but which latches' self-edges are left out.
-use Rattle.std.proofs.Common.{◌≡◌, ◌<◌, ℕ, Bool, true, false, List, length, refl, sym, ap, subst, arith, inl, inr}
+use Rattle.std.proofs.Common.{◌≡◌, ℕ, Bool, true, false, List, refl, sym, subst, arith, inl, inr}
 use Rattle.std.specs.Prelude.{◌⊎◌, slice_get, Some}
 use Rattle.flat_net.specs.declared.parts.LatchAt.{LatchAt}
 use Rattle.flat_net.specs.View.{NetView, circuit_of}
@@ -11,7 +11,7 @@ use Rattle.std.proofs.lemmas.Option.{slice_get_within}
 use Rattle.flat_net.proofs.Nets.{OfGate, OfLatch, equation_from, some_at}
 use Rattle.circuit_theory.specs.Depth.{LatchReads, LatchPath, LatchChain, ChainFrom, HasCycle, IsCycle, IsDepth, HasNoDepth}
 use Rattle.latch_graph.specs.Graph.{GraphView, IsGraphOf, IsGraphIn, IsPlainGraphOf, SkippedBy}
-use Rattle.latch_cone.specs.Cones.{IsMarkedBy, MarksEnabled}
+use Rattle.latch_cone.specs.Cones.{MarksEnabled}
 
 -- what is left out by the second is left out by the first, where it is a latch
 pub record IsLessLeftOut {P : Type 0} (c : Circuit P) (more less : P → Type 0) : Type 0 where

@@ -1,19 +1,15 @@
 -- What a settled table tells of a signal: its depth, or that it has none.
-use Rattle.std.proofs.Common.{◌≡◌, ◌≢◌, ℕ, suc, ◌+◌, ◌<◌, ◌≤◌, Bool, true, false, List, [], ◌∷◌, length, Option, Some, None, refl, sym, ◌∙◌, ap, subst, arith, inl, inr}
-use Rattle.std.specs.Prelude.{◌⊎◌, slice_get, IfSome, IfNone}
+use Rattle.std.proofs.Common.{◌≡◌, ℕ, ◌≤◌, true, List, [], ◌∷◌, Option, Some, None, refl, ◌∙◌, ap, arith, inl, inr}
+use Rattle.std.specs.Prelude.{slice_get, IfSome, IfNone}
 use Rattle.std.specs.List.{Contains}
 use Rattle.std.proofs.lemmas.Option.{slice_get_within}
 use Rattle.flat_net.specs.declared.parts.LatchAt.{LatchAt}
 use Rattle.flat_net.specs.View.{NetView, circuit_of}
-use Rattle.circuit_theory.specs.Circuit.{Circuit, IsLatch}
-use Rattle.circuit_theory.specs.Run.{NoneEnabled}
-use Rattle.circuit_theory.specs.Depth.{LatchReads, LatchPath, LatchChain, ChainFrom, HasCycle, IsCycle, IsDepth, HasNoDepth}
-use Rattle.latch_graph.specs.declared.nodes.Node.{Node}
+use Rattle.circuit_theory.specs.Depth.{LatchReads, LatchChain, ChainFrom, IsDepth, HasNoDepth}
 use Rattle.latch_graph.specs.declared.settling.State.{State}
 use Rattle.latch_graph.specs.declared.settling.State.TheVariants.{New, Open, Known, Endless, Removed}
-use Rattle.latch_graph.specs.Graph.{GraphView, IsGraphOf, SkippedBy, NoneSet, marked_names}
-use Rattle.latch_cone.specs.Cones.{IsMarkedBy}
-use Rattle.latch_graph.specs.Settling.{HasDepth, IsSettled, depth_of}
+use Rattle.latch_graph.specs.Graph.{GraphView, IsGraphOf, SkippedBy, marked_names}
+use Rattle.latch_graph.specs.Settling.{HasDepth, IsSettled}
 use Rattle.latch_graph.proofs.Depths.{endless, known_chain}
 use Rattle.latch_graph.proofs.Turns.{IsWithout, reach_lower, edge_lower, latch_deep}
 

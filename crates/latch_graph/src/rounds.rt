@@ -12,7 +12,7 @@ ghost use Rattle.latch_graph.specs.declared.settling.State.{State};
 ghost use Rattle.latch_graph.specs.Graph.{AreNodes, IsGraphOf, marked_names, signals_at};
 ghost use Rattle.latch_cone.specs.Cones.{IsMarkedBy};
 ghost use Rattle.latch_graph.specs.Settling.{IsSettled};
-ghost use Rattle.latch_graph.specs.Rounds.{latch_in, IsEndless, TakesOver, IsTrail, IsRound, IsLeast, IsTurned, IsTurnedRound, StandsBack, AreRemoved};
+ghost use Rattle.latch_graph.specs.Rounds.{latch_in, IsEndless, TakesOver, IsRound, IsLeast, IsTurned, IsTurnedRound, AreRemoved};
 
 use crate::nodes::Node;
 use crate::settling::{State, all_new, settled_from};

@@ -1,4 +1,4 @@
-use Rattle.std.proofs.Common.{◌≡◌, ◌∙◌, List, Bool, map, length, ap, subst, sym}
+use Rattle.std.proofs.Common.{◌≡◌, ◌∙◌, map, subst, sym}
 use Rattle.latch_cone.specs.Cones.{MarksEnabled}
 use Rattle.latch_cone.specs.Kinds.{is_enabled}
 use Rattle.latch_cone.proofs.EnabledKinds.{kinds_marked, whole}

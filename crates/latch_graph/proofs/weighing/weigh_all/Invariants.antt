@@ -1,7 +1,7 @@
 use Rattle.std.proofs.Common.{◌≡◌, ◌<◌, ◌≤◌, ◌-◌, ℕ, map, Some, slice_get}
 use Rattle.std.specs.List.{Contains}
 use Rattle.latch_graph.specs.Weight.{AreMet, AreReadsThere}
-use Rattle.latch_graph.proofs.weighing.weigh.Given as goal
+use Rattle.latch_graph.proofs.weighing.weigh_all.Given as goal
 
 abbrev pub invariant-loop-at : goal.invariant-loop-at
 invariant-loop-at l = record {
