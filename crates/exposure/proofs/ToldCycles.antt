@@ -1,11 +1,12 @@
 -- The cycle that is told, by the names of its latches.
-use Rattle.std.proofs.Common.{◌≡◌, ◌<◌, ℕ, List, [], ◌∷◌, length, sym, subst}
+use Rattle.std.proofs.Common.{◌≡◌, ◌<◌, ℕ, List, [], ◌∷◌, length, Err, sym, subst}
 use Rattle.std.specs.List.{All, AllZip}
 use Rattle.std.proofs.lemmas.List.Elements.{All-head, All-tail}
 use Rattle.std.proofs.lemmas.Option.{slice_get-get_or}
 use Rattle.circuit_theory.specs.Circuit.{IsLatch}
 use Rattle.circuit_theory.specs.Depth.{IsCycle, BeginsWithLeast}
 use Rattle.circuit_theory.specs.declared.Mode.{Mode}
+use Rattle.circuit_theory.specs.declared.Side.TheVariants.{A, B}
 use Rattle.circuit_theory.specs.Agree.{EnabledIn}
 use Rattle.flat_net.specs.declared.parts.LatchAt.{LatchAt}
 use Rattle.flat_net.specs.View.{NetView, circuit_of}
@@ -14,7 +15,10 @@ use Rattle.flat_net.proofs.Nets.{latch_stands}
 use Rattle.latch_graph.specs.Graph.{GraphView, IsGraphIn, signals_at}
 use Rattle.latch_graph.proofs.Skipping.{mode_cycle}
 use Rattle.expose_pick.specs.Chosen.{IsLeft, names_at}
-use Rattle.exposure.specs.Exposed.{IsToldCycle}
+use Rattle.exposure.specs.Common.{common_names}
+use Rattle.exposure.specs.Exposed.{Exposes, IsFreeWithout, IsToldCycle, TellsCycle}
+use Rattle.exposure.specs.declared.exposing.ExposeError.{ExposeError}
+use Rattle.exposure.specs.declared.exposing.ExposeError.TheVariants as refused
 
 -- the names of latches beside their signals
 names_beside : (n : NetView) (positions : List ℕ) → All (λ j. j < length n.latches) positions →
@@ -40,3 +44,23 @@ module _ (mode : Mode) (n : NetView) (g : GraphView) (is : IsGraphIn mode n g) (
     least = subst (λ (ls : List LatchAt). BeginsWithLeast (circuit_of n) (signals_at ls ids)) is.graph.latches (left.least n is.graph);
     named = names_beside n ids ids_within;
   })
+
+-- what is told of A's cycle
+pub tells_left : (mode : Mode) (a b : NetView) (cycle : List ℕ) (error : ExposeError) → TellsCycle a A cycle error →
+    ((names : List (List ℕ)) → names ≡ exposed_names a cycle → IsToldCycle mode a (common_names (circuit_of a) (circuit_of b)) names) → Exposes mode a b (Err error)
+tells_left mode a b cycle (refused.Unpaired A names) tells cycle_is = cycle_is names tells.1
+tells_left mode a b cycle (refused.Unpaired B names) tells cycle_is = absurd (no tells.0)
+  where
+    no : B ≡ A → ⊥
+    no e = cc
+tells_left mode a b cycle refused.NoMemory tells cycle_is = tt
+
+-- and of B's, where A has none
+pub tells_right : (mode : Mode) (a b : NetView) (cycle : List ℕ) (error : ExposeError) → TellsCycle b B cycle error → IsFreeWithout mode a (common_names (circuit_of a) (circuit_of b)) →
+    ((names : List (List ℕ)) → names ≡ exposed_names b cycle → IsToldCycle mode b (common_names (circuit_of a) (circuit_of b)) names) → Exposes mode a b (Err error)
+tells_right mode a b cycle (refused.Unpaired A names) tells free cycle_is = absurd (no tells.0)
+  where
+    no : A ≡ B → ⊥
+    no e = cc
+tells_right mode a b cycle (refused.Unpaired B names) tells free cycle_is = (free, cycle_is names tells.1)
+tells_right mode a b cycle refused.NoMemory tells free cycle_is = tt

@@ -2,6 +2,7 @@
 use Rattle.std.specs.Prelude.{◌≡◌, ℕ, ◌<◌, List, length, Result, Ok, Err}
 use Rattle.std.specs.List.{All, AllPairs, AllZip}
 use Rattle.circuit_theory.specs.declared.Mode.{Mode}
+use Rattle.circuit_theory.specs.declared.Side.{Side}
 use Rattle.circuit_theory.specs.declared.Side.TheVariants.{A, B}
 use Rattle.circuit_theory.specs.Agree.{EnabledIn, IsMinimalCut}
 use Rattle.circuit_theory.specs.Circuit.{IsLatch}
@@ -46,3 +47,8 @@ Exposes mode a b (Err (refused.Unpaired A names)) = IsToldCycle mode a (common_n
 Exposes mode a b (Err (refused.Unpaired B names)) =
     IsFreeWithout mode a (common_names (circuit_of a) (circuit_of b)) × IsToldCycle mode b (common_names (circuit_of a) (circuit_of b)) names
 Exposes mode a b (Err refused.NoMemory) = Unit {0}
+
+-- what is told is the cycle at these positions, of this circuit
+abbrev pub TellsCycle : NetView → Side → List ℕ → ExposeError → Type 0
+TellsCycle n side cycle (refused.Unpaired told names) = (told ≡ side) × (names ≡ exposed_names n cycle)
+TellsCycle n side cycle refused.NoMemory = Unit {0}

@@ -5,7 +5,7 @@ ghost use Rattle.flat_net.specs.Cut.{exposed_names};
 ghost use Rattle.circuit_theory.specs.declared.Mode.{Mode};
 ghost use Rattle.latch_graph.specs.Graph.{IsGraphOf, IsGraphIn};
 ghost use Rattle.expose_pick.specs.Chosen.{at_places, lefts, rights};
-ghost use Rattle.exposure.specs.Exposed.{Exposes};
+ghost use Rattle.exposure.specs.Exposed.{Exposes, TellsCycle};
 
 use crate::pairing::common_pairs;
 use expose_pick::{LatchPair, PickError, chosen_is_minimal_cut, pick};
@@ -66,14 +66,25 @@ pub fn expose(
                 side: Side::A,
                 cycle,
             },
-        ) => Err(ExposeError::Unpaired(Side::A, names_at(alloc, a, cycle.as_slice())?)),
+        ) => Err(unpaired(alloc, a, Side::A, cycle.as_slice())),
         Err(
             PickError::Unpaired {
                 side: Side::B,
                 cycle,
             },
-        ) => Err(ExposeError::Unpaired(Side::B, names_at(alloc, b, cycle.as_slice())?)),
+        ) => Err(unpaired(alloc, b, Side::B, cycle.as_slice())),
         Err(PickError::NoMemory) => Err(ExposeError::NoMemory),
+    }
+}
+
+/// The refusal of a cycle of this circuit's latches, by the positions of those.
+fn unpaired(alloc: Global, net: &Net, side: Side, cycle: &[u32]) -> ExposeError
+    requires { All (λ j. j < length net.now.latches) cycle.now }
+    ensures { TellsCycle net.now side cycle.now result }
+{
+    match names_at(alloc, net, cycle) {
+        Ok(names) => ExposeError::Unpaired(side, names),
+        Err(_) => ExposeError::NoMemory,
     }
 }
 

@@ -11,7 +11,7 @@ use Rattle.expose_pick.specs.declared.pairs.LatchPair.{LatchPair}
 use Rattle.expose_pick.specs.Chosen.{lefts, rights, at_places}
 use Rattle.expose_pick.specs.Refused.{Refuses}
 use Rattle.exposure.proofs.Exposures.{right_once, left_common, right_common, left_free, exposed}
-use Rattle.exposure.proofs.ToldCycles.{told_cycle}
+use Rattle.exposure.proofs.ToldCycles.{told_cycle, tells_left, tells_right}
 use Rattle.exposure.proofs.exposing.expose.Goals as goal
 
 pub pick-requires-clause-right_once : goal.pick-requires-clause-right_once
@@ -45,9 +45,10 @@ returns-in-Err-Unpaired-A-default c = λ mode in_a in_b.
     let pairs = c.in_ok-common.common in
     let arm = c.in-Err-Unpaired-A-default in
     let refused = refuses ga gb (lefts pairs) (rights pairs) arm.field-0 arm.field-0-0 A arm.cycle arm.field-0-is arm.field-0-0-is arm.ensures.unpaired in
-    told_cycle mode a ga in_a (lefts pairs) arm.cycle refused (common_names (circuit_of a) (circuit_of b)) c.in_ok-names_at-in-Err-Unpaired-A-default.field-0
-    (left_common a b ga gb c.requires.left_graph c.requires.right_graph pairs c.in_ok-common.ensures)
-    (c.in_ok-names_at-in-Err-Unpaired-A-default.ensures ∙ ap (exposed_names a) c.as_slice-in-Err-Unpaired-A-default.ensures)
+    tells_left mode a b c.as_slice-in-Err-Unpaired-A-default.result.now c.unpaired.result c.unpaired.ensures
+    (λ names is.
+    told_cycle mode a ga in_a (lefts pairs) arm.cycle refused (common_names (circuit_of a) (circuit_of b)) names
+    (left_common a b ga gb c.requires.left_graph c.requires.right_graph pairs c.in_ok-common.ensures) (is ∙ ap (exposed_names a) c.as_slice-in-Err-Unpaired-A-default.ensures))
 
 pub returns-in-Err-Unpaired-B-default : goal.returns-in-Err-Unpaired-B-default
 returns-in-Err-Unpaired-B-default c = λ mode in_a in_b.
@@ -57,9 +58,9 @@ returns-in-Err-Unpaired-B-default c = λ mode in_a in_b.
     let gb = c.args.right.now in
     let pairs = c.in_ok-common.common in
     let arm = c.in-Err-Unpaired-B-default in
-    let refused = refuses ga gb (lefts pairs) (rights pairs) arm.field-0 arm.field-0-0 B arm.cycle arm.field-0-is arm.field-0-0-is arm.ensures.unpaired in (
-      left_free a b ga gb c.requires.left_graph c.requires.right_graph pairs c.in_ok-common.ensures mode in_a refused.0,
-      told_cycle mode b gb in_b (rights pairs) arm.cycle refused.1 (common_names (circuit_of a) (circuit_of b)) c.in_ok-names_at-in-Err-Unpaired-B-default.field-0
-          (right_common a b ga gb c.requires.left_graph c.requires.right_graph pairs c.in_ok-common.ensures)
-          (c.in_ok-names_at-in-Err-Unpaired-B-default.ensures ∙ ap (exposed_names b) c.as_slice-in-Err-Unpaired-B-default.ensures),
-    )
+    let refused = refuses ga gb (lefts pairs) (rights pairs) arm.field-0 arm.field-0-0 B arm.cycle arm.field-0-is arm.field-0-0-is arm.ensures.unpaired in
+    tells_right mode a b c.as_slice-in-Err-Unpaired-B-default.result.now c.unpaired-in-Err-Unpaired-B-default.result c.unpaired-in-Err-Unpaired-B-default.ensures
+    (left_free a b ga gb c.requires.left_graph c.requires.right_graph pairs c.in_ok-common.ensures mode in_a refused.0)
+    (λ names is.
+    told_cycle mode b gb in_b (rights pairs) arm.cycle refused.1 (common_names (circuit_of a) (circuit_of b)) names
+    (right_common a b ga gb c.requires.left_graph c.requires.right_graph pairs c.in_ok-common.ensures) (is ∙ ap (exposed_names b) c.as_slice-in-Err-Unpaired-B-default.ensures))
