@@ -5,5 +5,6 @@ pub mod CoverMeaning
 pub mod Insert
 pub mod Folds
 pub mod Bits
-pub mod Cones
+pub mod ConeWalks
 pub mod Parts
+pub mod Placing

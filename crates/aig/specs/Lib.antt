@@ -3,3 +3,4 @@ pub mod Values
 pub mod Rules
 pub mod Builds
 pub mod Cone
+pub mod Cones

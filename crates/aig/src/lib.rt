@@ -2,11 +2,13 @@
 #![tactic(auto)]
 
 mod cone;
+mod cone_graph;
 mod covers;
 mod graph;
 mod node;
 mod values;
 
+pub use cone_graph::{Cones, Nodes, cones_of};
 pub use graph::Aig;
 pub use node::{Lit, Lits, Node};
 pub use values::node_bits;

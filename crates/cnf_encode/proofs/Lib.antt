@@ -1,4 +1,3 @@
-pub mod Placing
 pub mod Added
 pub mod Meeting
 pub mod Places

@@ -11,8 +11,8 @@ use Rattle.aig.specs.Graph.{IsGraph}
 use Rattle.aig.specs.Values.{value}
 use Rattle.aig.specs.Cone.{IsPlacedLit, IsPlacedNode}
 use Rattle.aig.proofs.Parts.{stands_once}
-use Rattle.cnf_encode.specs.declared.cones.Cones.{Cones}
-use Rattle.cnf_encode.specs.Cones.{AreConesOf}
+use Rattle.aig.specs.declared.cone_graph.Cones.{Cones}
+use Rattle.aig.specs.Cones.{AreConesOf}
 use Rattle.cnf_encode.specs.Encoding.{literal_of, part_clauses, query_clauses, AreClausesOf, ShowsDifference}
 use Rattle.cnf_encode.proofs.Meeting.{NodeHolds, met-from, met-to, met-front, met-back, met-both, part-from, part-to, query-from, query-to}
 use Rattle.cnf_encode.proofs.Places.{var_bit, var_bit-at, same-lit, places-held, node-meets}

@@ -5,8 +5,7 @@ ghost use Rattle.aig.specs.Graph.{IsAbove, IsOrdered};
 ghost use Rattle.cnf_encode.specs.Encoding.{literal_of, node_clauses, and_clauses, part_clauses, query_clauses, Adds, IsEncoding, MeansDifference, IsSmall};
 
 use crate::cnf::Cnf;
-use crate::cones::cones_of;
-use aig::{Aig, Lit, Node};
+use aig::{Aig, Lit, Node, cones_of};
 use proof_check::{Clause, ClauseError, Clauses, Literal, Literals};
 use sec_base::{NoMemory, Seq};
 use std::alloc::Global;

@@ -2,9 +2,7 @@
 #![tactic(auto)]
 
 mod cnf;
-mod cones;
 mod encoding;
 
 pub use cnf::Cnf;
-pub use cones::{Cones, Nodes, cones_of};
 pub use encoding::encode;

@@ -2,7 +2,6 @@
 #![tactic(auto)]
 
 mod blocks;
-mod cones;
 mod evaluation;
 mod renaming;
 mod signing;

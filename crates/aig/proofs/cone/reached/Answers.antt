@@ -4,7 +4,7 @@ use Rattle.circuit_theory.proofs.Lists.{Contains-map, of_at}
 use Rattle.aig.specs.declared.node.Lit.{Lit}
 use Rattle.aig.specs.declared.node.Node.{Node}
 use Rattle.aig.specs.Cone.{IsReached, IsSeen, with_number}
-use Rattle.aig.proofs.Cones.{seen-none, seen-number, walk-begun, with_number-has, with_number-keeps}
+use Rattle.aig.proofs.ConeWalks.{seen-none, seen-number, walk-begun, with_number-has, with_number-keeps}
 use Rattle.aig.proofs.cone.reached.Goals as goal
 
 pub loop-i-init : goal.loop-i-init

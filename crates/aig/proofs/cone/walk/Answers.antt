@@ -2,7 +2,7 @@ use Rattle.std.proofs.Common.{◌≡◌, ◌≤◌, ℕ, length, get_or, subst, 
 use Rattle.std.proofs.lemmas.Option.{slice_get-get_or}
 use Rattle.aig.specs.declared.node.Node.TheVariants.{Constant}
 use Rattle.aig.specs.Cone.{IsWalk}
-use Rattle.aig.proofs.Cones.{walk-step, few-below}
+use Rattle.aig.proofs.ConeWalks.{walk-step, few-below}
 use Rattle.aig.proofs.cone.walk.Goals as goal
 
 pub bounds-nodes-number : goal.bounds-nodes-number

@@ -1,7 +1,7 @@
 use Rattle.std.proofs.Common.{◌≡◌, List, [], ◌++◌, length, ap, subst, ◌∙◌}
 use Rattle.proof_check.specs.Literals.{Literal}
 use Rattle.aig.specs.declared.node.Node.{Node}
-use Rattle.cnf_encode.specs.declared.cones.Cones.{Cones}
+use Rattle.aig.specs.declared.cone_graph.Cones.{Cones}
 use Rattle.cnf_encode.specs.Encoding.{part_clauses, query_clauses, AreClausesOf, Adds}
 use Rattle.cnf_encode.proofs.Added.{Adds-join, Adds-all}
 use Rattle.cnf_encode.proofs.Shown.{shown-exactly}

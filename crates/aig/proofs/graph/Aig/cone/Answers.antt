@@ -2,7 +2,7 @@ use Rattle.std.proofs.Common.{◌<◌, ◌*◌, List, length, map, All, sym, sub
 use Rattle.aig.specs.declared.node.Lit.{Lit}
 use Rattle.aig.specs.declared.node.Node.{Node}
 use Rattle.aig.specs.Cone.{IsConeOf, IsClosed}
-use Rattle.aig.proofs.Cones.{cone-made}
+use Rattle.aig.proofs.ConeWalks.{cone-made}
 use Rattle.aig.proofs.graph.Aig.cone.Goals as goal
 
 pub reached-requires-clause-within : goal.reached-requires-clause-within
