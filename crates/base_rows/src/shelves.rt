@@ -98,7 +98,9 @@ pub(crate) fn show_files(rt: &HostRuntime, words: &[u8]) {
     let mut rest = words;
     for _ in 0..words.len() {
         let (word, later) = split_at(b' ', rest);
+        if !word.is_empty() {
+            show_fetch(rt, &mut shelf, word);
+        }
         rest = later;
-        show_fetch(rt, &mut shelf, word);
     }
 }

@@ -72,8 +72,10 @@ pub(crate) fn show_names(rt: &HostRuntime, words: &[u8]) {
     let mut rest = words;
     for _ in 0..words.len() {
         let (word, later) = split_at(b' ', rest);
+        if !word.is_empty() {
+            show_named(rt, &mut table, word);
+        }
         rest = later;
-        show_named(rt, &mut table, word);
     }
     show_all_names(rt, &table);
     show_copied(rt, &table);
