@@ -2,11 +2,9 @@
 
 ghost use Rattle.std.specs.Prelude.{◌<◌, length};
 
-use crate::faults::show_fault;
-use crate::nets::show_net;
+use crate::nets::{flattened, show_net};
 use blif_read::Design;
 use flat_net::Net;
-use flatten::flatten;
 use row_text::{show, show_bit, show_count};
 use sec_base::{Ids, NoMemory};
 use std::alloc::Global;
@@ -96,8 +94,7 @@ fn show_cut(rt: &HostRuntime, net: &Net) {
 
 /// Shows the design's net, what is found in it, and the net without its first latch.
 pub(crate) fn show_cuts(rt: &HostRuntime, design: &Design) {
-    match flatten(rt.alloc(), design) {
-        Ok(net) => show_cut(rt, &net),
-        Err(error) => show_fault(rt, &error),
+    if let Some(net) = flattened(rt, design) {
+        show_cut(rt, &net);
     }
 }

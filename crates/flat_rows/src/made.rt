@@ -37,12 +37,11 @@ fn show_held(rt: &HostRuntime, maker: &NetMaker) {
 
 /// A net that passes its input on; shows what is found while it is made.
 fn made(rt: &HostRuntime) -> Result<Net, NoMemory> {
-    let clock = Seq::from_vec(b"clk".to_vec(rt.alloc())?);
     let mut maker = NetMaker::new(rt.alloc());
     let a = maker.input(b"a")?;
     show_held(rt, &maker);
     maker.output(b"y", a)?;
-    maker.set_clock(clock);
+    maker.set_clock(Seq::from_vec(b"clk".to_vec(rt.alloc())?));
     Ok(maker.finish())
 }
 

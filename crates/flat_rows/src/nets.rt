@@ -40,10 +40,20 @@ pub(crate) fn show_net(rt: &HostRuntime, net: &Net) {
     }
 }
 
+/// The design's net; where it has none, the fault is shown.
+pub(crate) fn flattened(rt: &HostRuntime, design: &Design) -> Option<Net> {
+    match flatten(rt.alloc(), design) {
+        Ok(net) => Some(net),
+        Err(error) => {
+            show_fault(rt, &error);
+            None
+        }
+    }
+}
+
 /// Shows the design's net, or its fault.
 pub(crate) fn show_flattened(rt: &HostRuntime, design: &Design) {
-    match flatten(rt.alloc(), design) {
-        Ok(net) => show_net(rt, &net),
-        Err(error) => show_fault(rt, &error),
+    if let Some(net) = flattened(rt, design) {
+        show_net(rt, &net);
     }
 }

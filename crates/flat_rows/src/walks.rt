@@ -30,11 +30,21 @@ fn show_statements(rt: &HostRuntime, flat: &Flat) {
     }
 }
 
+/// The flat statements of the design; where the walk has a fault, it is shown.
+fn walked(rt: &HostRuntime, design: &Design) -> Option<Flat> {
+    match walk(rt.alloc(), design) {
+        Ok(flat) => Some(flat),
+        Err(error) => {
+            show_fault(rt, &error);
+            None
+        }
+    }
+}
+
 /// Shows the signals that the flat statements drive, or the walk's fault.
 pub(crate) fn show_walk(rt: &HostRuntime, design: &Design) {
-    match walk(rt.alloc(), design) {
-        Ok(flat) => show_statements(rt, &flat),
-        Err(error) => show_fault(rt, &error),
+    if let Some(flat) = walked(rt, design) {
+        show_statements(rt, &flat);
     }
 }
 
@@ -46,10 +56,9 @@ fn show_wire_fault(rt: &HostRuntime, flat: &Flat) {
     }
 }
 
-/// Shows the fault of drivers and clocks.
+/// Shows the fault of drivers and clocks, or the walk's.
 pub(crate) fn show_wires(rt: &HostRuntime, design: &Design) {
-    match walk(rt.alloc(), design) {
-        Ok(flat) => show_wire_fault(rt, &flat),
-        Err(_) => show(rt, b" no walk"),
+    if let Some(flat) = walked(rt, design) {
+        show_wire_fault(rt, &flat);
     }
 }
