@@ -9,19 +9,15 @@
 //! `files`: `w<n` fetches the real file w of at most n bytes.
 #![tactic(auto)]
 
-mod rows;
 mod shelves;
 mod sinks;
 mod tables;
 
-use rows::{Row, row_of};
-use sec_base::{FileShelf, MAX_FILE_BYTES, NoMemory, Sink, StdSink, fetch, put};
-use shelves::{put_files, put_shelf};
-use sinks::put_sink;
-use std::alloc::Global;
-use std::process::ExitCode;
-use std::rt::{Files, HostRuntime};
-use tables::{put_names, put_places};
+use row_text::{file_of, show, split_at};
+use shelves::{show_files, show_shelf};
+use sinks::show_sink;
+use std::rt::HostRuntime;
+use tables::{show_names, show_places};
 
 /// What the rows of a file tell of.
 #[derive(Clone, Copy)]
@@ -33,62 +29,47 @@ enum Asked {
     Files,
 }
 
-fn put_told<R: Files>(
-    rt: &R,
-    alloc: Global,
-    out: &mut Vec<u8>,
-    asked: Asked,
-    words: &[&[u8]],
-) -> Result<(), NoMemory> {
+fn show_told(rt: &HostRuntime, asked: Asked, words: &[u8]) {
     match asked {
-        Asked::Names => put_names(alloc, out, words),
-        Asked::Places => put_places(alloc, out, words),
-        Asked::Shelves => put_shelf(alloc, out, words),
-        Asked::Sinks => put_sink(alloc, out, words),
-        Asked::Files => put_files(rt, alloc, out, words),
+        Asked::Names => show_names(rt, words),
+        Asked::Places => show_places(rt, words),
+        Asked::Shelves => show_shelf(rt, words),
+        Asked::Sinks => show_sink(rt, words),
+        Asked::Files => show_files(rt, words),
     }
 }
 
-fn put_rows<R: Files>(
-    rt: &R,
-    alloc: Global,
-    out: &mut Vec<u8>,
-    rows: &[u8],
-    asked: Asked,
-) -> Result<(), NoMemory> {
-    for row in rows.split(|byte| *byte == b'\n') {
-        if row.is_empty() {
-            continue;
-        }
-        let Row { name, words } = row_of(alloc, row)?;
-        put(out, name)?;
-        put(out, b":")?;
-        put_told(rt, alloc, out, asked, words.as_slice())?;
-        put(out, b"\n")?;
-    }
-    Ok(())
+fn show_row(rt: &HostRuntime, asked: Asked, row: &[u8]) {
+    let (name, words) = split_at(b'\t', row);
+    show(rt, name);
+    show(rt, b":");
+    show_told(rt, asked, words);
+    show(rt, b"\n");
 }
 
-fn main(rt: HostRuntime) -> ExitCode {
-    let alloc = rt.alloc();
-    let mut shelf = FileShelf::new(&rt);
-    let mut out = Vec::new(alloc);
-    for (path, asked) in [
-        ("names", Asked::Names),
-        ("places", Asked::Places),
-        ("shelves", Asked::Shelves),
-        ("sinks", Asked::Sinks),
-        ("files", Asked::Files),
-    ] {
-        let Ok(rows) = fetch(alloc, &mut shelf, path, MAX_FILE_BYTES) else {
-            return ExitCode::from(1);
-        };
-        if put_rows(&rt, alloc, &mut out, rows.as_slice(), asked).is_err() {
-            return ExitCode::from(2);
+/// Shows what each row tells, one on a line.
+fn show_rows(rt: &HostRuntime, asked: Asked, rows: &[u8]) {
+    let mut rest = rows;
+    for _ in 0..rows.len() {
+        let (row, later) = split_at(b'\n', rest);
+        if !row.is_empty() {
+            show_row(rt, asked, row);
         }
+        rest = later;
     }
-    if StdSink::new(&rt).write(out.as_slice()).is_err() {
-        return ExitCode::from(3);
+}
+
+fn show_file(rt: &HostRuntime, asked: Asked, path: &str) {
+    match file_of(rt, path) {
+        Some(rows) => show_rows(rt, asked, rows.as_slice()),
+        None => show(rt, b"no rows\n"),
     }
-    ExitCode::from(0)
+}
+
+fn main(rt: HostRuntime) {
+    show_file(&rt, Asked::Names, "names");
+    show_file(&rt, Asked::Places, "places");
+    show_file(&rt, Asked::Shelves, "shelves");
+    show_file(&rt, Asked::Sinks, "sinks");
+    show_file(&rt, Asked::Files, "files");
 }

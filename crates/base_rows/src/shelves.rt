@@ -1,83 +1,106 @@
 //! Shelves in memory, and real files.
 
-use crate::rows::{number_of, split_at};
-use sec_base::{
-    Duplicate, FetchError, FilePath, FileShelf, FileText, Ids, MemShelf, NoMemory, Shelf, fetch,
-    put, put_number,
-};
-use std::alloc::Global;
-use std::rt::Files;
+use row_text::{number_of, show, show_count, split_at};
+use sec_base::{Duplicate, FetchError, FilePath, FileShelf, FileText, Ids, MemShelf, Shelf, fetch};
+use std::rt::HostRuntime;
 use std::str;
 
-fn put_fetched(
-    alloc: Global,
-    out: &mut Vec<u8>,
-    fetched: Result<FileText, FetchError>,
-) -> Result<(), NoMemory> {
-    put(out, b" ")?;
+fn word_of(error: &FetchError) -> &'static [u8] {
+    match error {
+        FetchError::Failed => b" failed",
+        FetchError::TooLong => b" too-long",
+        FetchError::NoMemory => b" no-memory",
+    }
+}
+
+fn show_fetched(rt: &HostRuntime, fetched: &Result<FileText, FetchError>) {
     match fetched {
-        Ok(text) => put_number(alloc, out, text.len() as u64),
-        Err(FetchError::Failed) => put(out, b"failed"),
-        Err(FetchError::TooLong) => put(out, b"too-long"),
-        Err(FetchError::NoMemory) => Err(NoMemory),
+        Ok(text) => show_count(rt, text.len() as u64),
+        Err(error) => show(rt, word_of(error)),
+    }
+}
+
+fn size_of(digits: &[u8]) -> u32 {
+    match number_of(digits) {
+        Some(number) => (number % 1_000_000) as u32,
+        None => 0,
     }
 }
 
 /// A copy of the path that these bytes spell.
-fn path_of(alloc: Global, bytes: &[u8]) -> Result<FilePath, NoMemory> {
-    let path = FilePath::from_str(alloc, str::from_utf8(bytes).unwrap_or("?"))?;
-    path.duplicate(alloc)
+fn path_of(rt: &HostRuntime, bytes: &[u8]) -> Option<FilePath> {
+    let path = FilePath::from_str(rt.alloc(), str::from_utf8(bytes).unwrap_or("?")).ok()?;
+    path.duplicate(rt.alloc()).ok()
 }
 
-fn put_fetch<S: Shelf>(
-    alloc: Global,
-    out: &mut Vec<u8>,
-    shelf: &mut S,
-    word: &[u8],
-) -> Result<(), NoMemory> {
+/// Shows what the shelf gives for a word `w<n`.
+fn show_fetch<S: Shelf>(rt: &HostRuntime, shelf: &mut S, word: &[u8]) {
     let (name, limit) = split_at(b'<', word);
-    let path = path_of(alloc, name)?;
-    let fetched = fetch(alloc, shelf, path.as_str(), number_of(limit));
-    put_fetched(alloc, out, fetched)
+    match path_of(rt, name) {
+        Some(path) => show_fetched(rt, &fetch(rt.alloc(), shelf, path.as_str(), size_of(limit))),
+        None => show(rt, b" no-memory"),
+    }
+}
+
+fn has_put(rt: &HostRuntime, shelf: &mut MemShelf, path: &str, size: usize) -> bool {
+    match vec![in rt.alloc(); 7u8; size] {
+        Ok(bytes) => shelf.put(rt.alloc(), path, bytes.as_slice()).is_ok(),
+        Err(_) => false,
+    }
 }
 
 /// Puts the file of a word `w=n` on the shelf: n bytes.
-fn put_file(alloc: Global, shelf: &mut MemShelf, word: &[u8]) -> Result<(), NoMemory> {
+fn put_file(rt: &HostRuntime, shelf: &mut MemShelf, word: &[u8]) {
     let (name, size) = split_at(b'=', word);
-    let path = path_of(alloc, name)?;
-    let bytes = vec![in alloc; 7u8; number_of(size) as usize]?;
-    shelf.put(alloc, path.as_str(), bytes.as_slice())
+    let is_put = match path_of(rt, name) {
+        Some(path) => has_put(rt, shelf, path.as_str(), size_of(size) as usize),
+        None => false,
+    };
+    if !is_put {
+        show(rt, b" not-put");
+    }
 }
 
-/// Puts what the shelf of these words gives.
-pub(crate) fn put_shelf(alloc: Global, out: &mut Vec<u8>, words: &[&[u8]]) -> Result<(), NoMemory> {
-    let mut fails = Ids::new(alloc);
-    for word in words {
+/// The reads that the words `!n` have fail.
+fn fails_of(rt: &HostRuntime, words: &[u8]) -> Ids {
+    let mut fails = Ids::new(rt.alloc());
+    let mut rest = words;
+    for _ in 0..words.len() {
+        let (word, later) = split_at(b' ', rest);
+        rest = later;
         if let [b'!', digits @ ..] = word {
-            fails.push(number_of(digits))?;
+            if fails.push(size_of(digits)).is_err() {
+                show(rt, b" no-memory");
+            }
         }
     }
-    let mut shelf = MemShelf::new(alloc, fails);
-    for word in words {
-        if word.contains(&b'=') {
-            put_file(alloc, &mut shelf, word)?;
-        } else if word.contains(&b'<') {
-            put_fetch(alloc, out, &mut shelf, word)?;
-        }
-    }
-    Ok(())
+    fails
 }
 
-/// Puts what the real files of these words give.
-pub(crate) fn put_files<R: Files>(
-    rt: &R,
-    alloc: Global,
-    out: &mut Vec<u8>,
-    words: &[&[u8]],
-) -> Result<(), NoMemory> {
-    let mut shelf = FileShelf::new(rt);
-    for word in words {
-        put_fetch(alloc, out, &mut shelf, word)?;
+/// Shows what the shelf of these words gives.
+pub(crate) fn show_shelf(rt: &HostRuntime, words: &[u8]) {
+    let mut shelf = MemShelf::new(rt.alloc(), fails_of(rt, words));
+    let mut rest = words;
+    for _ in 0..words.len() {
+        let (word, later) = split_at(b' ', rest);
+        rest = later;
+        if word.contains(&b'=') {
+            put_file(rt, &mut shelf, word);
+        } else if word.contains(&b'<') {
+            show_fetch(rt, &mut shelf, word);
+        }
     }
-    Ok(())
+}
+
+/// Shows what the real files of these words give.
+pub(crate) fn show_files(rt: &HostRuntime, words: &[u8]) {
+    let mut shelf = FileShelf::new(rt);
+    let mut rest = words;
+    for _ in 0..words.len() {
+        let (word, later) = split_at(b' ', rest);
+        if !word.is_empty() {
+            show_fetch(rt, &mut shelf, word);
+        }
+        rest = later;
+    }
 }

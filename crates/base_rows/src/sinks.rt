@@ -1,27 +1,59 @@
 //! Sinks in memory.
 
-use crate::rows::number_of;
-use sec_base::{MemSink, NoMemory, Sink, put};
-use std::alloc::Global;
+use row_text::{number_of, show, split_at};
+use sec_base::{MemSink, Sink};
+use std::rt::HostRuntime;
 
-/// Puts what a sink of the row takes, and whether it fails.
-pub(crate) fn put_sink(alloc: Global, out: &mut Vec<u8>, words: &[&[u8]]) -> Result<(), NoMemory> {
-    let [room, fail_at, keep, piece] = words else {
-        return put(out, b" no sink");
-    };
-    let told = number_of(fail_at);
-    let fail_at = if told == 0 { None } else { Some(told) };
-    let mut sink = MemSink::new(
-        alloc,
-        number_of(room) as usize,
-        fail_at,
-        number_of(keep) as usize,
-    )?;
-    let written = sink.write(piece);
-    put(out, b" takes ")?;
-    put(out, sink.taken())?;
-    if written.is_err() {
-        put(out, b" and fails")?;
+/// What a sink of a row is made of.
+#[derive(Clone, Copy)]
+struct Made {
+    room: u32,
+    fail_at: Option<u32>,
+    keep: u32,
+}
+
+fn small(digits: &[u8]) -> u32 {
+    match number_of(digits) {
+        Some(number) => (number % 1_000) as u32,
+        None => 0,
     }
-    Ok(())
+}
+
+/// Shows what the sink takes, and whether it fails.
+fn show_written(rt: &HostRuntime, sink: &mut MemSink, piece: &[u8]) {
+    let is_written = sink.write(piece).is_ok();
+    show(rt, b" takes ");
+    show(rt, sink.taken());
+    if !is_written {
+        show(rt, b" and fails");
+    }
+}
+
+fn show_made(rt: &HostRuntime, made: Made, piece: &[u8]) {
+    match MemSink::new(
+        rt.alloc(),
+        made.room as usize,
+        made.fail_at,
+        made.keep as usize,
+    ) {
+        Ok(mut sink) => show_written(rt, &mut sink, piece),
+        Err(_) => show(rt, b" no memory"),
+    }
+}
+
+/// Shows what a sink of these words takes, and whether it fails.
+pub(crate) fn show_sink(rt: &HostRuntime, words: &[u8]) {
+    let (room, words) = split_at(b' ', words);
+    let (fail_at, words) = split_at(b' ', words);
+    let (keep, piece) = split_at(b' ', words);
+    let fail_at = match small(fail_at) {
+        0 => None,
+        number => Some(number),
+    };
+    let made = Made {
+        room: small(room),
+        fail_at,
+        keep: small(keep),
+    };
+    show_made(rt, made, piece);
 }

@@ -1,114 +1,161 @@
 //! Tables of names and of pairs.
 
-use crate::rows::number_of;
-use sec_base::{Duplicate, Ids, NameTable, NoMemory, Orders, PlaceTable, put, put_number};
-use std::alloc::Global;
+use row_text::{show, show_count, show_word, split_at};
+use sec_base::{Duplicate, Ids, NameTable, Orders, PlaceTable, Words};
+use std::rt::HostRuntime;
 
-fn put_found(
-    alloc: Global,
-    out: &mut Vec<u8>,
-    table: &NameTable,
-    name: &[u8],
-) -> Result<(), NoMemory> {
+fn show_found(rt: &HostRuntime, table: &NameTable, name: &[u8]) {
     match table.find(name) {
-        Some(id) => put_number(alloc, out, u64::from(id))?,
-        None => put(out, b"none")?,
+        Some(id) => show_count(rt, u64::from(id)),
+        None => show(rt, b" none"),
     }
     if table.has(name) {
-        put(out, b" held")?;
+        show(rt, b" held");
     }
-    Ok(())
 }
 
-fn put_named(
-    alloc: Global,
-    out: &mut Vec<u8>,
-    table: &mut NameTable,
-    word: &[u8],
-) -> Result<(), NoMemory> {
-    put(out, b" ")?;
+fn show_added(rt: &HostRuntime, table: &mut NameTable, name: &[u8]) {
+    match table.add(rt.alloc(), name) {
+        Ok(true) => show(rt, b" new"),
+        Ok(false) => show(rt, b" known"),
+        Err(_) => show(rt, b" no-memory"),
+    }
+}
+
+fn show_numbered(rt: &HostRuntime, table: &mut NameTable, name: &[u8]) {
+    if table.len() == u32::MAX {
+        return show(rt, b" full");
+    }
+    match table.intern(rt.alloc(), name) {
+        Ok(id) => show_count(rt, u64::from(id)),
+        Err(_) => show(rt, b" no-memory"),
+    }
+}
+
+fn show_named(rt: &HostRuntime, table: &mut NameTable, word: &[u8]) {
     match word {
-        [b'+', name @ ..] => put(
-            out,
-            if table.add(alloc, name)? {
-                b"new".as_slice()
-            } else {
-                b"known".as_slice()
-            },
-        ),
-        [b'=', name @ ..] if table.len() < u32::MAX - 1 => {
-            let id = table.intern(alloc, name)?;
-            put_number(alloc, out, u64::from(id))
-        }
-        [b'?', name @ ..] => put_found(alloc, out, table, name),
-        _ => put(out, b"?"),
+        [b'+', name @ ..] => show_added(rt, table, name),
+        [b'=', name @ ..] => show_numbered(rt, table, name),
+        [b'?', name @ ..] => show_found(rt, table, name),
+        _ => show(rt, b" ?"),
     }
 }
 
-/// Puts what each word tells of a table of names, and then the names.
-pub(crate) fn put_names(alloc: Global, out: &mut Vec<u8>, words: &[&[u8]]) -> Result<(), NoMemory> {
-    let mut table = NameTable::new(alloc);
-    for word in words {
-        put_named(alloc, out, &mut table, word)?;
-    }
-    put(out, b", names")?;
+fn show_all_names(rt: &HostRuntime, table: &NameTable) {
+    show(rt, b", names");
     for id in 0..table.len() {
-        put(out, b" ")?;
-        put(out, table.name(id))?;
+        show_word(rt, table.name(id));
     }
-    put(out, b", copied")?;
-    let copy = table.copy(alloc)?;
-    sec_base::put_names(out, &copy.into_words(alloc)?)
 }
 
-fn put_ids(alloc: Global, out: &mut Vec<u8>, ids: &Ids) -> Result<(), NoMemory> {
-    for id in ids.as_slice() {
-        put(out, b" ")?;
-        put_number(alloc, out, u64::from(*id))?;
+fn show_words(rt: &HostRuntime, words: &Words) {
+    for word in words.as_slice() {
+        show_word(rt, word.as_slice());
     }
-    Ok(())
 }
 
-/// Puts a copy of two lists: the first and the second numbers of the pairs.
-fn put_copied(alloc: Global, out: &mut Vec<u8>, table: &PlaceTable) -> Result<(), NoMemory> {
-    let mut orders = Orders {
-        left: Ids::new(alloc),
-        right: Ids::new(alloc),
-    };
-    for number in 0..table.len() {
-        let (first, second) = table.pair(number);
-        orders.left.push(first)?;
-        orders.right.push(second)?;
-    }
-    let copy = orders.duplicate(alloc)?;
-    put(out, b", copied")?;
-    put_ids(alloc, out, &copy.left)?;
-    put(out, b" and")?;
-    put_ids(alloc, out, &copy.right)
+fn copied(rt: &HostRuntime, table: &NameTable) -> Option<Words> {
+    table.copy(rt.alloc()).ok()?.into_words(rt.alloc()).ok()
 }
 
-/// Puts the number of each pair, then the pairs, and then a copy of the lists of their numbers.
-pub(crate) fn put_places(
-    alloc: Global,
-    out: &mut Vec<u8>,
-    words: &[&[u8]],
-) -> Result<(), NoMemory> {
-    let mut table = PlaceTable::new(alloc);
-    for word in words {
-        if let [first, second] = word {
-            if table.len() < u32::MAX - 1 {
-                let number = table.intern(number_of(&[*first]), number_of(&[*second]))?;
-                put(out, b" ")?;
-                put_number(alloc, out, u64::from(number))?;
-            }
+fn show_copied(rt: &HostRuntime, table: &NameTable) {
+    show(rt, b", copied");
+    match copied(rt, table) {
+        Some(words) => show_words(rt, &words),
+        None => show(rt, b" no-memory"),
+    }
+}
+
+/// Shows what each word tells of a table of names, and then the names.
+pub(crate) fn show_names(rt: &HostRuntime, words: &[u8]) {
+    let mut table = NameTable::new(rt.alloc());
+    let mut rest = words;
+    for _ in 0..words.len() {
+        let (word, later) = split_at(b' ', rest);
+        if !word.is_empty() {
+            show_named(rt, &mut table, word);
         }
+        rest = later;
     }
-    put(out, b", pairs")?;
+    show_all_names(rt, &table);
+    show_copied(rt, &table);
+}
+
+fn show_ids(rt: &HostRuntime, ids: &Ids) {
+    for id in ids.as_slice() {
+        show_count(rt, u64::from(*id));
+    }
+}
+
+/// The first and the second numbers of the pairs.
+fn orders_of(rt: &HostRuntime, table: &PlaceTable) -> Option<Orders> {
+    let mut left = Ids::new(rt.alloc());
+    let mut right = Ids::new(rt.alloc());
     for number in 0..table.len() {
         let (first, second) = table.pair(number);
-        put(out, b" ")?;
-        put_number(alloc, out, u64::from(first))?;
-        put_number(alloc, out, u64::from(second))?;
+        left.push(first).ok()?;
+        right.push(second).ok()?;
     }
-    put_copied(alloc, out, &table)
+    Some(Orders { left, right })
+}
+
+/// Shows a copy of two lists.
+fn show_orders(rt: &HostRuntime, orders: &Orders) {
+    match orders.duplicate(rt.alloc()) {
+        Ok(copy) => {
+            show_ids(rt, &copy.left);
+            show(rt, b" and");
+            show_ids(rt, &copy.right);
+        }
+        Err(_) => show(rt, b" no-memory"),
+    }
+}
+
+/// Shows a copy of the lists of the first and the second numbers of the pairs.
+fn show_lists(rt: &HostRuntime, table: &PlaceTable) {
+    show(rt, b", copied");
+    match orders_of(rt, table) {
+        Some(orders) => show_orders(rt, &orders),
+        None => show(rt, b" no-memory"),
+    }
+}
+
+fn digit_value(digit: u8) -> u32 {
+    u32::from(digit.saturating_sub(b'0'))
+}
+
+/// Shows the number of the pair of digits.
+fn show_pair_number(rt: &HostRuntime, table: &mut PlaceTable, word: &[u8]) {
+    let [first, second] = word else {
+        return;
+    };
+    if table.len() == u32::MAX {
+        return show(rt, b" full");
+    }
+    match table.intern(digit_value(*first), digit_value(*second)) {
+        Ok(number) => show_count(rt, u64::from(number)),
+        Err(_) => show(rt, b" no-memory"),
+    }
+}
+
+fn show_pairs(rt: &HostRuntime, table: &PlaceTable) {
+    show(rt, b", pairs");
+    for number in 0..table.len() {
+        let (first, second) = table.pair(number);
+        show_count(rt, u64::from(first));
+        row_text::show_number(rt, u64::from(second));
+    }
+}
+
+/// Shows the number of each pair, then the pairs, and then a copy of the lists of their numbers.
+pub(crate) fn show_places(rt: &HostRuntime, words: &[u8]) {
+    let mut table = PlaceTable::new(rt.alloc());
+    let mut rest = words;
+    for _ in 0..words.len() {
+        let (word, later) = split_at(b' ', rest);
+        rest = later;
+        show_pair_number(rt, &mut table, word);
+    }
+    show_pairs(rt, &table);
+    show_lists(rt, &table);
 }

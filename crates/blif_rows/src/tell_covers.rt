@@ -2,9 +2,11 @@
 
 ghost use Rattle.std.specs.Prelude.{◌≡◌, ◌≤◌, length, vec_len, IfOk};
 
-use blif_read::{Design, Statement, read_design};
-use sec_base::{Cover, NoMemory, digit_of, put};
+use blif_read::{BlifModel, Design, Statement, read_design};
+use row_text::{show, show_bit};
+use sec_base::{Cover, NoMemory};
 use std::alloc::Global;
+use std::rt::HostRuntime;
 
 /// The bits of a number, the highest first.
 fn bits_of(alloc: Global, number: u32, width: usize) -> Result<Vec<bool>, NoMemory>
@@ -20,46 +22,64 @@ fn bits_of(alloc: Global, number: u32, width: usize) -> Result<Vec<bool>, NoMemo
     Ok(bits)
 }
 
-/// Puts the values of the cover and of a copy of it, where there are few fan-ins.
-fn put_values(alloc: Global, told: &mut Vec<u8>, cover: &Cover) -> Result<(), NoMemory> {
+/// Shows the value of the cover under the bits, and whether the copy has another.
+fn show_value(rt: &HostRuntime, cover: &Cover, copy: &Cover, bits: &[bool])
+    requires cover { length bits.now ≡ cover.now.width }
+    requires copy { copy.now ≡ cover.now }
+{
+    let value = cover.value(bits);
+    show_bit(rt, value);
+    if copy.value(bits) != value {
+        show(rt, b" and the copy another");
+    }
+}
+
+/// Shows the values of the cover and of a copy of it.
+fn show_values(rt: &HostRuntime, cover: &Cover, copy: &Cover)
+    requires width { cover.now.width ≤ 8 }
+    requires copy { copy.now ≡ cover.now }
+{
     let width = cover.width();
-    if width > 8 {
-        return put(told, b"wide");
-    }
-    let copy = cover.copy()?;
-    if !told.is_empty() {
-        put(told, b" ")?;
-    }
+    show(rt, b" ");
     for number in 0..1u32 << width {
-        let bits = bits_of(alloc, number, width as usize)?;
-        let value = cover.value(bits.as_slice());
-        told.push(digit_of(value))?;
-        if copy.value(bits.as_slice()) != value {
-            put(told, b" and the copy another")?;
+        match bits_of(rt.alloc(), number, width as usize) {
+            Ok(bits) => show_value(rt, cover, copy, bits.as_slice()),
+            Err(_) => show(rt, b" no-memory"),
         }
     }
-    Ok(())
 }
 
-fn put_design(alloc: Global, told: &mut Vec<u8>, design: &Design) -> Result<(), NoMemory> {
+/// Shows the values of the cover and of a copy of it, where there are few fan-ins.
+fn show_cover(rt: &HostRuntime, cover: &Cover) {
+    if cover.width() > 8 {
+        return show(rt, b" wide");
+    }
+    match cover.copy() {
+        Ok(copy) => show_values(rt, cover, &copy),
+        Err(_) => show(rt, b" no-memory"),
+    }
+}
+
+fn show_model(rt: &HostRuntime, model: &BlifModel) {
+    for statement in model.statements.as_slice() {
+        if let Statement::Names { cover, .. } = statement {
+            show_cover(rt, cover);
+        }
+    }
+}
+
+fn show_design(rt: &HostRuntime, design: &Design) {
     for model in design.models.as_slice() {
-        for statement in model.statements.as_slice() {
-            if let Statement::Names { cover, .. } = statement {
-                put_values(alloc, told, cover)?;
-            }
-        }
+        show_model(rt, model);
     }
-    Ok(())
 }
 
-/// The values of each cover of the text, over all bits of its fan-ins, of which the first counts most.
-pub(crate) fn covers_told(alloc: Global, text: &[u8]) -> Result<Vec<u8>, NoMemory>
+/// Shows the values of each cover of the text, over all bits of its fan-ins, of which the first counts most.
+pub(crate) fn show_covers(rt: &HostRuntime, text: &[u8])
     requires { length text.now ≤ 16777216 }
 {
-    let mut told = Vec::new(alloc);
-    match read_design(alloc, text) {
-        Ok(design) => put_design(alloc, &mut told, &design)?,
-        Err(_) => put(&mut told, b"no design")?,
+    match read_design(rt.alloc(), text) {
+        Ok(design) => show_design(rt, &design),
+        Err(_) => show(rt, b" no design"),
     }
-    Ok(told)
 }

@@ -2,89 +2,131 @@
 
 ghost use Rattle.std.specs.Prelude.{◌≤◌, length};
 
-use blif_read::{BlifModel, Design, ReadError, ReadKind, Statement, read_design};
-use sec_base::{Edge, Init, NoMemory, Word, Words};
-use std::alloc::Global;
+use blif_read::{BlifModel, Design, Pair, ReadError, ReadKind, Statement, read_design};
+use row_text::{show, show_byte, show_count, show_number, show_word};
+use sec_base::{Cover, Edge, Init, Word, Words};
+use std::rt::HostRuntime;
 
-pub(crate) fn put(text: &mut Vec<u8>, word: &[u8]) -> Result<(), NoMemory> {
-    if !text.is_empty() {
-        text.push(b' ')?;
+fn hex_digit(value: u8) -> u8 {
+    if value < 10 {
+        b'0' + value
+    } else {
+        b'a' + value % 16 - 10
     }
-    text.extend_from_slice(word)?;
-    Ok(())
 }
 
-fn put_all(text: &mut Vec<u8>, words: &Words) -> Result<(), NoMemory> {
-    for word in words.as_slice() {
-        put(text, word.as_slice())?;
+fn show_marked_byte(rt: &HostRuntime, byte: u8) {
+    if byte < 32 || 127 <= byte || byte == b'<' || byte == b'>' {
+        show(
+            rt,
+            &[b'<', hex_digit(byte / 16), hex_digit(byte % 16), b'>'],
+        );
+    } else {
+        show_byte(rt, byte);
     }
-    Ok(())
 }
 
-fn put_number(alloc: Global, text: &mut Vec<u8>, word: &str, number: u32) -> Result<(), NoMemory> {
-    put(text, word.as_bytes())?;
-    text.extend_from_slice(number.to_string(alloc)?.as_bytes())?;
-    Ok(())
+/// Shows the bytes, with marks for those that can't be seen.
+pub(crate) fn show_marked(rt: &HostRuntime, bytes: &[u8]) {
+    for byte in bytes {
+        show_marked_byte(rt, *byte);
+    }
 }
 
-fn put_row(text: &mut Vec<u8>, row: &Word) -> Result<(), NoMemory> {
-    put(text, if row.len() == 0 { b"-" } else { row.as_slice() })
+/// Shows a blank and the name.
+fn show_name(rt: &HostRuntime, name: &[u8]) {
+    show(rt, b" ");
+    show_marked(rt, name);
 }
 
-fn word_of_init(init: Init) -> &'static str {
+/// Shows a blank, and the word with the number right behind it.
+fn show_at(rt: &HostRuntime, word: &[u8], number: u64) {
+    show_word(rt, word);
+    show_number(rt, number);
+}
+
+fn show_names(rt: &HostRuntime, names: &Words) {
+    for name in names.as_slice() {
+        show_name(rt, name.as_slice());
+    }
+}
+
+/// The word of an initial value.
+fn word_of_init(init: Init) -> &'static [u8] {
     match init {
-        Init::Zero => "zero",
-        Init::One => "one",
-        Init::DontCare => "either",
-        Init::Unknown => "unknown",
+        Init::Zero => b"zero",
+        Init::One => b"one",
+        Init::DontCare => b"either",
+        Init::Unknown => b"unknown",
     }
 }
 
-fn put_latch(
-    text: &mut Vec<u8>,
-    input: &Word,
-    output: &Word,
-    edge: Option<Edge>,
-    control: Option<&Word>,
-    init: Init,
-) -> Result<(), NoMemory> {
-    put(text, input.as_slice())?;
-    put(text, output.as_slice())?;
+fn word_of_edge(edge: Edge) -> &'static [u8] {
     match edge {
-        Some(Edge::Rising) => put(text, b"rising")?,
-        Some(Edge::Falling) => put(text, b"falling")?,
-        None => {}
+        Edge::Rising => b"rising",
+        Edge::Falling => b"falling",
     }
-    if let Some(control) = control {
-        put(text, control.as_slice())?;
-    }
-    put(text, word_of_init(init).as_bytes())
 }
 
-fn put_statement(alloc: Global, text: &mut Vec<u8>, statement: &Statement) -> Result<(), NoMemory> {
+fn show_row(rt: &HostRuntime, row: &[u8]) {
+    show_word(rt, if row.is_empty() { b"-" } else { row });
+}
+
+fn show_cover(rt: &HostRuntime, cover: &Cover) {
+    show_count(rt, u64::from(cover.width()));
+    show_word(rt, if cover.on() { b"on" } else { b"off" });
+    for row in cover.rows() {
+        show_row(rt, row.as_slice());
+    }
+}
+
+fn show_gate(rt: &HostRuntime, line: u32, fanins: &Words, out: &Word, cover: &Cover) {
+    show_at(rt, b"names@", u64::from(line));
+    show_names(rt, fanins);
+    show_name(rt, out.as_slice());
+    show_cover(rt, cover);
+}
+
+fn show_edge(rt: &HostRuntime, edge: Option<Edge>) {
+    if let Some(edge) = edge {
+        show_word(rt, word_of_edge(edge));
+    }
+}
+
+fn show_control(rt: &HostRuntime, control: Option<&Word>) {
+    if let Some(control) = control {
+        show_name(rt, control.as_slice());
+    }
+}
+
+fn show_pair(rt: &HostRuntime, pair: &Pair) {
+    show_name(rt, pair.formal.as_slice());
+    show(rt, b" =");
+    show_name(rt, pair.actual.as_slice());
+}
+
+fn show_instance(rt: &HostRuntime, line: u32, model: &Word, pairs: &[Pair]) {
+    show_at(rt, b"subckt@", u64::from(line));
+    show_name(rt, model.as_slice());
+    for pair in pairs {
+        show_pair(rt, pair);
+    }
+}
+
+fn show_latch_names(rt: &HostRuntime, line: u32, input: &Word, output: &Word) {
+    show_at(rt, b"latch@", u64::from(line));
+    show_name(rt, input.as_slice());
+    show_name(rt, output.as_slice());
+}
+
+fn show_statement(rt: &HostRuntime, statement: &Statement) {
     match statement {
         Statement::Names {
             line,
             fanins,
             out,
             cover,
-        } => {
-            put_number(alloc, text, "names@", *line)?;
-            put_all(text, fanins)?;
-            put(text, out.as_slice())?;
-            put_number(alloc, text, "", cover.width())?;
-            put(
-                text,
-                if cover.on() {
-                    b"on".as_slice()
-                } else {
-                    b"off".as_slice()
-                },
-            )?;
-            for row in cover.rows() {
-                put_row(text, row)?;
-            }
-        }
+        } => show_gate(rt, *line, fanins, out, cover),
         Statement::Latch {
             line,
             input,
@@ -93,87 +135,81 @@ fn put_statement(alloc: Global, text: &mut Vec<u8>, statement: &Statement) -> Re
             control,
             init,
         } => {
-            put_number(alloc, text, "latch@", *line)?;
-            put_latch(text, input, output, *edge, control.as_ref(), *init)?;
+            show_latch_names(rt, *line, input, output);
+            show_edge(rt, *edge);
+            show_control(rt, control.as_ref());
+            show_word(rt, word_of_init(*init));
         }
         Statement::Subckt { line, model, pairs } => {
-            put_number(alloc, text, "subckt@", *line)?;
-            put(text, model.as_slice())?;
-            for pair in pairs.as_slice() {
-                put(text, pair.formal.as_slice())?;
-                put(text, b"=")?;
-                put(text, pair.actual.as_slice())?;
-            }
+            show_instance(rt, *line, model, pairs.as_slice())
         }
     }
-    Ok(())
 }
 
-fn put_model(alloc: Global, text: &mut Vec<u8>, model: &BlifModel) -> Result<(), NoMemory> {
-    put(text, b"model")?;
-    put(text, model.name.as_slice())?;
-    put(text, b"inputs")?;
-    put_all(text, &model.inputs)?;
-    put(text, b"outputs")?;
-    put_all(text, &model.outputs)?;
+fn show_ports(rt: &HostRuntime, model: &BlifModel) {
+    show(rt, b" model");
+    show_name(rt, model.name.as_slice());
+    show(rt, b" inputs");
+    show_names(rt, &model.inputs);
+    show(rt, b" outputs");
+    show_names(rt, &model.outputs);
     if model.clocks.len() > 0 {
-        put(text, b"clocks")?;
-        put_all(text, &model.clocks)?;
-    }
-    for statement in model.statements.as_slice() {
-        put_statement(alloc, text, statement)?;
-    }
-    Ok(())
-}
-
-fn put_design(alloc: Global, text: &mut Vec<u8>, design: &Design) -> Result<(), NoMemory> {
-    for model in design.models.as_slice() {
-        put_model(alloc, text, model)?;
-    }
-    Ok(())
-}
-
-fn word_of_kind(kind: &ReadKind) -> &'static str {
-    match kind {
-        ReadKind::Unsupported(_) => "Unsupported",
-        ReadKind::UnknownWord => "UnknownWord",
-        ReadKind::NoModel => "NoModel",
-        ReadKind::BadCount => "BadCount",
-        ReadKind::BadRow => "BadRow",
-        ReadKind::MixedCover => "MixedCover",
-        ReadKind::BadLatchType => "BadLatchType",
-        ReadKind::BadInit => "BadInit",
-        ReadKind::BadPair => "BadPair",
-        ReadKind::DuplicateModel => "DuplicateModel",
-        ReadKind::DuplicatePort => "DuplicatePort",
-        ReadKind::NameTooLong => "NameTooLong",
-        ReadKind::StrayRow => "StrayRow",
-        ReadKind::ControlByte => "ControlByte",
+        show(rt, b" clocks");
+        show_names(rt, &model.clocks);
     }
 }
 
-fn put_error(alloc: Global, text: &mut Vec<u8>, error: &ReadError) -> Result<(), NoMemory> {
-    match error {
-        ReadError::NoMemory => put(text, b"NoMemory"),
-        ReadError::At { line, kind } => {
-            put_number(alloc, text, "", *line)?;
-            put(text, word_of_kind(kind).as_bytes())?;
-            if let ReadKind::Unsupported(word) = kind {
-                put(text, word.as_slice())?;
-            }
-            Ok(())
+fn show_models(rt: &HostRuntime, models: &[BlifModel]) {
+    for model in models {
+        show_ports(rt, model);
+        for statement in model.statements.as_slice() {
+            show_statement(rt, statement);
         }
     }
 }
 
-/// The design or the fault of a text.
-pub(crate) fn told(alloc: Global, bytes: &[u8]) -> Result<Vec<u8>, NoMemory>
+fn word_of_kind(kind: &ReadKind) -> &'static [u8] {
+    match kind {
+        ReadKind::Unsupported(_) => b"Unsupported",
+        ReadKind::UnknownWord => b"UnknownWord",
+        ReadKind::NoModel => b"NoModel",
+        ReadKind::BadCount => b"BadCount",
+        ReadKind::BadRow => b"BadRow",
+        ReadKind::MixedCover => b"MixedCover",
+        ReadKind::BadLatchType => b"BadLatchType",
+        ReadKind::BadInit => b"BadInit",
+        ReadKind::BadPair => b"BadPair",
+        ReadKind::DuplicateModel => b"DuplicateModel",
+        ReadKind::DuplicatePort => b"DuplicatePort",
+        ReadKind::NameTooLong => b"NameTooLong",
+        ReadKind::StrayRow => b"StrayRow",
+        ReadKind::ControlByte => b"ControlByte",
+    }
+}
+
+fn show_kind(rt: &HostRuntime, kind: &ReadKind) {
+    show_word(rt, word_of_kind(kind));
+    if let ReadKind::Unsupported(word) = kind {
+        show_name(rt, word.as_slice());
+    }
+}
+
+fn show_error(rt: &HostRuntime, error: &ReadError) {
+    match error {
+        ReadError::NoMemory => show(rt, b" no-memory"),
+        ReadError::At { line, kind } => {
+            show_count(rt, u64::from(*line));
+            show_kind(rt, kind);
+        }
+    }
+}
+
+/// Shows the design or the fault of a text.
+pub(crate) fn show_design(rt: &HostRuntime, bytes: &[u8])
     requires { length bytes.now ≤ 16777216 }
 {
-    let mut told = Vec::new(alloc);
-    match read_design(alloc, bytes) {
-        Ok(design) => put_design(alloc, &mut told, &design)?,
-        Err(error) => put_error(alloc, &mut told, &error)?,
+    match read_design(rt.alloc(), bytes) {
+        Ok(design) => show_models(rt, design.models.as_slice()),
+        Err(error) => show_error(rt, &error),
     }
-    Ok(told)
 }

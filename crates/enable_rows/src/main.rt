@@ -4,34 +4,24 @@
 
 mod told;
 
-use sec_base::{FileShelf, NoMemory, fetch};
-use std::alloc::Global;
-use std::process::ExitCode;
+use row_text::{file_of, show, split_at};
 use std::rt::HostRuntime;
-use told::put_row;
+use told::show_row;
 
-/// What is told of each row, in order.
-fn tell_all(alloc: Global, rows: &[u8]) -> Result<Vec<u8>, NoMemory> {
-    let mut out = Vec::new(alloc);
-    for row in rows.split(|byte| *byte == b'\n') {
+fn show_rows(rt: &HostRuntime, rows: &[u8]) {
+    let mut rest = rows;
+    for _ in 0..rows.len() {
+        let (row, later) = split_at(b'\n', rest);
         if !row.is_empty() {
-            put_row(alloc, &mut out, row)?;
+            show_row(rt, row);
         }
+        rest = later;
     }
-    Ok(out)
 }
 
-fn main(rt: HostRuntime) -> ExitCode {
-    let alloc = rt.alloc();
-    let mut shelf = FileShelf::new(&rt);
-    let Ok(rows) = fetch(alloc, &mut shelf, "rows", 16_777_216) else {
-        return ExitCode::from(1);
-    };
-    let Ok(out) = tell_all(alloc, rows.as_slice()) else {
-        return ExitCode::from(2);
-    };
-    if rt.write_all(out.as_slice()).is_err() {
-        return ExitCode::from(3);
+fn main(rt: HostRuntime) {
+    match file_of(&rt, "rows") {
+        Some(rows) => show_rows(&rt, rows.as_slice()),
+        None => show(&rt, b"no rows\n"),
     }
-    ExitCode::from(0)
 }

@@ -2,130 +2,130 @@
 
 ghost use Rattle.std.specs.Prelude.{◌<◌, ◌≤◌, length};
 
-use blif_read::read_design;
+use blif_read::{Design, read_design};
 use flat_net::Net;
 use flatten::flatten;
-use sec_base::{Bits, NoMemory, put, put_number};
-use std::alloc::Global;
-use unate_enable::{RecoverError, Recovery, cone, recover};
+use row_text::{show, show_count, show_word, text_of};
+use sec_base::{Bits, Ids, MAX_FILE_BYTES};
+use std::rt::HostRuntime;
+use unate_enable::{LatchCone, RecoverError, Recovery, cone, recover};
 
-/// Puts a word behind a blank.
-fn put_word(text: &mut Vec<u8>, word: &[u8]) -> Result<(), NoMemory> {
-    put(text, b" ")?;
-    put(text, word)
+/// Shows the netlist, and then a line of the cone of each latch and two of its enable.
+pub(crate) fn show_row(rt: &HostRuntime, row: &[u8]) {
+    show(rt, row);
+    show(rt, b"\n");
+    let text = text_of(rt.alloc(), row, b"");
+    show_text(rt, text.bytes());
 }
 
-/// Puts the netlist, and then a line of the cone of each latch and two of its enable.
-pub(crate) fn put_row(alloc: Global, text: &mut Vec<u8>, row: &[u8]) -> Result<(), NoMemory> {
-    put(text, row)?;
-    put(text, b"\n")?;
-    match net_of(alloc, row)? {
-        Some(net) => put_latches(alloc, text, &net),
-        None => put(text, b"no net\n"),
+fn show_text(rt: &HostRuntime, text: &[u8]) {
+    if text.len() > MAX_FILE_BYTES as usize {
+        return show(rt, b"too long\n");
+    }
+    match read_design(rt.alloc(), text) {
+        Ok(design) => show_design(rt, &design),
+        Err(_) => show(rt, b"no design\n"),
     }
 }
 
-/// The flat net of a row, if it is a design without a fault.
-fn net_of(alloc: Global, row: &[u8]) -> Result<Option<Net>, NoMemory> {
-    let mut lines = Vec::from_slice(alloc, row)?;
-    for byte in lines.iter_mut() {
-        if *byte == b'|' {
-            *byte = b'\n';
+fn show_design(rt: &HostRuntime, design: &Design) {
+    match flatten(rt.alloc(), design) {
+        Ok(net) => show_latches(rt, &net),
+        Err(_) => show(rt, b"no net\n"),
+    }
+}
+
+fn show_latches(rt: &HostRuntime, net: &Net) {
+    for place in 0..net.latches().len() {
+        if let Ok(latch) = u32::try_from(place) {
+            show_cone(rt, net, latch);
+            show_enable(rt, net, latch, 0);
+            show_enable(rt, net, latch, 20_000);
         }
     }
-    if lines.len() > 16_777_216 {
-        return Ok(None);
-    }
-    let Ok(design) = read_design(alloc, lines.as_slice()) else {
-        return Ok(None);
-    };
-    Ok(flatten(alloc, &design).ok())
 }
 
-fn put_latches(alloc: Global, text: &mut Vec<u8>, net: &Net) -> Result<(), NoMemory> {
-    for (place, _) in net.latches().iter().enumerate() {
-        let Ok(latch) = u32::try_from(place) else {
-            break;
-        };
-        put_latch(alloc, text, net, latch)?;
-    }
-    Ok(())
-}
-
-/// Puts the latch's cone, and what is found out about it without conflicts and with 20,000.
-fn put_latch(alloc: Global, text: &mut Vec<u8>, net: &Net, latch: u32) -> Result<(), NoMemory>
-    requires { latch < length net.now.latches }
-{
-    put_cone(alloc, text, net, latch)?;
-    put_enable(alloc, text, net, latch, 0)?;
-    put_enable(alloc, text, net, latch, 20_000)
-}
-
-/// Puts the names of the inputs and of the other latches of the latch's cone.
-fn put_cone(alloc: Global, text: &mut Vec<u8>, net: &Net, latch: u32) -> Result<(), NoMemory>
-    requires { latch < length net.now.latches }
-{
-    let cone = cone(alloc, net, latch)?;
-    put(text, net.latches()[latch as usize].name.as_slice())?;
-    put(text, b" inputs")?;
-    for i in cone.inputs.as_slice() {
+/// Shows the names of the inputs of these numbers.
+fn show_inputs(rt: &HostRuntime, net: &Net, inputs: &Ids) {
+    show(rt, b" inputs");
+    for i in inputs.as_slice() {
         if let Some(input) = net.inputs().get(*i as usize) {
-            put_word(text, input.name.as_slice())?;
+            show_word(rt, input.name.as_slice());
         }
     }
-    put(text, b" latches")?;
-    for j in cone.latches.as_slice() {
-        if let Some(other) = net.latches().get(*j as usize) {
-            put_word(text, other.name.as_slice())?;
-        }
-    }
-    put(text, b"\n")
 }
 
-/// Puts what is found out about the latch.
-fn put_enable(
-    alloc: Global,
-    text: &mut Vec<u8>,
-    net: &Net,
-    latch: u32,
-    conflicts: u32,
-) -> Result<(), NoMemory>
+/// Shows the names of the latches of these numbers.
+fn show_others(rt: &HostRuntime, net: &Net, latches: &Ids) {
+    show(rt, b" latches");
+    for j in latches.as_slice() {
+        if let Some(other) = net.latches().get(*j as usize) {
+            show_word(rt, other.name.as_slice());
+        }
+    }
+}
+
+/// Shows the names of the inputs and of the other latches of the cone.
+fn show_found(rt: &HostRuntime, net: &Net, found: &LatchCone) {
+    show_inputs(rt, net, &found.inputs);
+    show_others(rt, net, &found.latches);
+}
+
+/// Shows the name of the latch.
+fn show_name(rt: &HostRuntime, net: &Net, latch: u32)
+    requires { latch < length net.now.latches }
+{
+    show(rt, net.latches()[latch as usize].name.as_slice());
+}
+
+/// Shows the names of the inputs and of the other latches of the latch's cone.
+fn show_cone(rt: &HostRuntime, net: &Net, latch: u32)
+    requires { latch < length net.now.latches }
+{
+    show_name(rt, net, latch);
+    match cone(rt.alloc(), net, latch) {
+        Ok(found) => show_found(rt, net, &found),
+        Err(_) => show(rt, b" no memory"),
+    }
+    show(rt, b"\n");
+}
+
+/// Shows what is found out about the latch.
+fn show_enable(rt: &HostRuntime, net: &Net, latch: u32, conflicts: u32)
     requires latch { latch < length net.now.latches }
     requires conflicts { conflicts ≤ 200000 }
 {
-    put(text, net.latches()[latch as usize].name.as_slice())?;
-    put(text, b" conflicts ")?;
-    put_number(alloc, text, conflicts as u64)?;
-    put_answer(alloc, text, &recover(alloc, net, latch, conflicts))?;
-    put(text, b"\n")
+    show_name(rt, net, latch);
+    show(rt, b" conflicts");
+    show_count(rt, u64::from(conflicts));
+    show_answer(rt, &recover(rt.alloc(), net, latch, conflicts));
+    show(rt, b"\n");
 }
 
-fn put_answer(
-    alloc: Global,
-    text: &mut Vec<u8>,
-    answer: &Result<Recovery, RecoverError>,
-) -> Result<(), NoMemory> {
+fn show_answer(rt: &HostRuntime, answer: &Result<Recovery, RecoverError>) {
     match answer {
-        Ok(Recovery::Plain) => put(text, b" plain"),
-        Ok(Recovery::Enabled) => put(text, b" enabled"),
-        Ok(Recovery::NotUnate(bits)) => put_bits(text, bits),
-        Ok(Recovery::Limit(proof)) => put_chains(alloc, text, proof.log.len()),
-        Err(RecoverError::TooLarge) => put(text, b" too large"),
-        Err(RecoverError::NoMemory) => put(text, b" no memory"),
+        Ok(recovery) => show_recovery(rt, recovery),
+        Err(RecoverError::TooLarge) => show(rt, b" too large"),
+        Err(RecoverError::NoMemory) => show(rt, b" no memory"),
     }
 }
 
-/// Puts the values with which the latch falls.
-fn put_bits(text: &mut Vec<u8>, bits: &Bits) -> Result<(), NoMemory> {
-    put(text, b" not-unate")?;
+fn show_recovery(rt: &HostRuntime, recovery: &Recovery) {
+    match recovery {
+        Recovery::Plain => show(rt, b" plain"),
+        Recovery::Enabled => show(rt, b" enabled"),
+        Recovery::NotUnate(bits) => show_bits(rt, bits),
+        Recovery::Limit(proof) => {
+            show(rt, b" limit with chains");
+            show_count(rt, proof.log.len() as u64);
+        }
+    }
+}
+
+/// Shows the values with which the latch falls.
+fn show_bits(rt: &HostRuntime, bits: &Bits) {
+    show(rt, b" not-unate");
     for bit in bits.as_slice() {
-        put_word(text, if *bit { b"1" } else { b"0" })?;
+        show(rt, if *bit { b" 1" } else { b" 0" });
     }
-    Ok(())
-}
-
-/// Puts the number of chains of the proof at a limit.
-fn put_chains(alloc: Global, text: &mut Vec<u8>, chains: usize) -> Result<(), NoMemory> {
-    put(text, b" limit with chains ")?;
-    put_number(alloc, text, chains as u64)
 }

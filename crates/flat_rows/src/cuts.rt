@@ -2,42 +2,50 @@
 
 ghost use Rattle.std.specs.Prelude.{◌<◌, length};
 
-use crate::nets::{put_fault, put_net};
+use crate::nets::{flattened, show_net};
 use blif_read::Design;
 use flat_net::Net;
-use flatten::flatten;
-use sec_base::{Ids, NoMemory, digit_of, put, put_number, unset_bits};
+use row_text::{show, show_bit, show_count};
+use sec_base::{Ids, NoMemory};
 use std::alloc::Global;
+use std::rt::HostRuntime;
 
-/// Puts the place at which each latch is found by its name.
-fn put_places(alloc: Global, out: &mut Vec<u8>, net: &Net) -> Result<(), NoMemory> {
-    if net.latches().is_empty() {
-        return Ok(());
+fn show_place(rt: &HostRuntime, place: Option<u32>) {
+    match place {
+        Some(place) => show_count(rt, u64::from(place)),
+        None => show(rt, b" none"),
     }
-    put(out, b" named")?;
-    for latch in net.latches() {
-        put(out, b" ")?;
-        match net.latch_named(latch.name.as_slice()) {
-            Some(place) => put_number(alloc, out, u64::from(place))?,
-            None => put(out, b"none")?,
-        }
-    }
-    Ok(())
 }
 
-/// Puts the value of each gate where all signals are 0, and where all are 1.
-fn put_values(alloc: Global, out: &mut Vec<u8>, net: &Net) -> Result<(), NoMemory> {
-    let low = unset_bits(alloc, net.size() as usize)?;
-    let high = vec![in alloc; true; net.size() as usize]?;
-    for (place, _) in net.gates().iter().enumerate() {
-        let Ok(gate) = u32::try_from(place) else {
-            break;
-        };
-        put(out, b" values ")?;
-        out.push(digit_of(net.eval_gate(gate, low.as_slice())))?;
-        out.push(digit_of(net.eval_gate(gate, high.as_slice())))?;
+/// Shows the place at which each latch is found by its name.
+fn show_places(rt: &HostRuntime, net: &Net) {
+    if !net.latches().is_empty() {
+        show(rt, b" named");
     }
-    Ok(())
+    for latch in net.latches() {
+        show_place(rt, net.latch_named(latch.name.as_slice()));
+    }
+}
+
+/// Shows the value of the gate where all signals have the bit.
+fn show_gate(rt: &HostRuntime, net: &Net, gate: u32, bit: bool)
+    requires { gate < length net.now.gates }
+{
+    match vec![in rt.alloc(); bit; net.size() as usize] {
+        Ok(bits) => show_bit(rt, net.eval_gate(gate, bits.as_slice())),
+        Err(_) => show(rt, b" no memory"),
+    }
+}
+
+/// Shows the value of each gate where all signals are 0, and where all are 1.
+fn show_values(rt: &HostRuntime, net: &Net) {
+    for place in 0..net.gates().len() {
+        if let Ok(gate) = u32::try_from(place) {
+            show(rt, b" values ");
+            show_gate(rt, net, gate, false);
+            show_gate(rt, net, gate, true);
+        }
+    }
 }
 
 /// The net without its first latch.
@@ -49,41 +57,44 @@ fn cut_first(alloc: Global, net: &Net) -> Result<Net, NoMemory>
     net.cut(alloc, &exposed)
 }
 
-/// Puts for each input whether it is read.
-fn put_reads(out: &mut Vec<u8>, net: &Net) -> Result<(), NoMemory> {
-    put(out, b" read ")?;
-    for (place, _) in net.inputs().iter().enumerate() {
-        let Ok(input) = u32::try_from(place) else {
-            break;
-        };
-        out.push(digit_of(net.input_read(input)))?;
+/// Shows for each input whether it is read.
+fn show_reads(rt: &HostRuntime, net: &Net) {
+    show(rt, b" read ");
+    for place in 0..net.inputs().len() {
+        if let Ok(input) = u32::try_from(place) {
+            show_bit(rt, net.input_read(input));
+        }
     }
-    Ok(())
 }
 
-/// Puts the net without its first latch, and for each of its inputs whether it is read.
-fn put_without_first(alloc: Global, out: &mut Vec<u8>, net: &Net) -> Result<(), NoMemory> {
+fn show_rest(rt: &HostRuntime, rest: &Net) {
+    show(rt, b", cut");
+    show_net(rt, rest);
+    show_reads(rt, rest);
+}
+
+/// Shows the net without its first latch, and for each of its inputs whether it is read.
+fn show_without_first(rt: &HostRuntime, net: &Net) {
     if net.latches().is_empty() {
-        return Ok(());
+        return;
     }
-    let cut = cut_first(alloc, net)?;
-    put(out, b", cut")?;
-    put_net(out, &cut)?;
-    put_reads(out, &cut)
+    match cut_first(rt.alloc(), net) {
+        Ok(rest) => show_rest(rt, &rest),
+        Err(_) => show(rt, b" no memory"),
+    }
 }
 
-/// Puts the net, what is found in it, and the net without its first latch.
-fn put_told(alloc: Global, out: &mut Vec<u8>, net: &Net) -> Result<(), NoMemory> {
-    put_net(out, net)?;
-    put_places(alloc, out, net)?;
-    put_values(alloc, out, net)?;
-    put_without_first(alloc, out, net)
+/// Shows the net, what is found in it, and the net without its first latch.
+fn show_cut(rt: &HostRuntime, net: &Net) {
+    show_net(rt, net);
+    show_places(rt, net);
+    show_values(rt, net);
+    show_without_first(rt, net);
 }
 
-/// Puts the design's net, what is found in it, and the net without its first latch.
-pub(crate) fn put_cut(alloc: Global, out: &mut Vec<u8>, design: &Design) -> Result<(), NoMemory> {
-    match flatten(alloc, design) {
-        Ok(net) => put_told(alloc, out, &net),
-        Err(error) => put_fault(out, &error),
+/// Shows the design's net, what is found in it, and the net without its first latch.
+pub(crate) fn show_cuts(rt: &HostRuntime, design: &Design) {
+    if let Some(net) = flattened(rt, design) {
+        show_cut(rt, &net);
     }
 }

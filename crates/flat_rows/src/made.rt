@@ -1,54 +1,56 @@
 //! A net that is made by hand.
 
-use crate::nets::put_net;
+use crate::nets::show_net;
 use flat_net::{Net, NetMaker};
-use sec_base::{NoMemory, Seq, put, put_number};
-use std::alloc::Global;
+use row_text::{show, show_count};
+use sec_base::{NoMemory, Seq};
+use std::rt::HostRuntime;
 
-/// Puts the net, the number of its signals, and whether one of its latches has the input's name.
-fn put_found(alloc: Global, out: &mut Vec<u8>, net: &Net) -> Result<(), NoMemory> {
-    put_net(out, net)?;
-    put(out, b" size ")?;
-    put_number(alloc, out, u64::from(net.size()))?;
-    put(
-        out,
-        if net.latch_named(b"a").is_some() {
-            b", a latch a"
+/// Shows the net, the number of its signals, and whether one of its latches has the input's name.
+fn show_found(rt: &HostRuntime, net: &Net) {
+    show(rt, b",");
+    show_net(rt, net);
+    show(rt, b" size");
+    show_count(rt, u64::from(net.size()));
+    let is_latch = net.latch_named(b"a").is_some();
+    show(
+        rt,
+        if is_latch {
+            b", a latch a".as_slice()
         } else {
-            b", no latch a"
+            b", no latch a".as_slice()
         },
-    )
+    );
 }
 
-/// Puts whether the maker holds two names, and the place of the first.
-fn put_held(alloc: Global, out: &mut Vec<u8>, maker: &NetMaker) -> Result<(), NoMemory> {
+/// Shows whether the maker holds two names, and the place of the first.
+fn show_held(rt: &HostRuntime, maker: &NetMaker) {
     let a = maker.has(b"a");
     let b = maker.has(b"b");
-    put(out, if a { b" holds a," } else { b" not a," })?;
-    put(out, if b { b" holds b," } else { b" not b," })?;
+    show(rt, if a { b" holds a," } else { b" not a," });
+    show(rt, if b { b" holds b," } else { b" not b," });
     if let Some(found) = maker.find(b"a") {
-        put(out, b" finds ")?;
-        put_number(alloc, out, u64::from(found.0))?;
+        show(rt, b" finds");
+        show_count(rt, u64::from(found.0));
     }
-    Ok(())
 }
 
-/// A net that passes its input on; puts what is found while it is made.
-fn made(alloc: Global, out: &mut Vec<u8>) -> Result<Net, NoMemory> {
-    let clock = Seq::from_vec(b"clk".to_vec(alloc)?);
-    let mut maker = NetMaker::new(alloc);
+/// A net that passes its input on; shows what is found while it is made.
+fn made(rt: &HostRuntime) -> Result<Net, NoMemory> {
+    let mut maker = NetMaker::new(rt.alloc());
     let a = maker.input(b"a")?;
-    put_held(alloc, out, &maker)?;
+    show_held(rt, &maker);
     maker.output(b"y", a)?;
-    maker.set_clock(clock);
+    maker.set_clock(Seq::from_vec(b"clk".to_vec(rt.alloc())?));
     Ok(maker.finish())
 }
 
-/// Puts a net that passes its input on, and what is found while it is made.
-pub(crate) fn put_made(alloc: Global, out: &mut Vec<u8>) -> Result<(), NoMemory> {
-    put(out, b"by hand:")?;
-    let net = made(alloc, out)?;
-    put(out, b",")?;
-    put_found(alloc, out, &net)?;
-    put(out, b"\n")
+/// Shows a net that passes its input on, and what is found while it is made.
+pub(crate) fn show_made(rt: &HostRuntime) {
+    show(rt, b"by hand:");
+    match made(rt) {
+        Ok(net) => show_found(rt, &net),
+        Err(_) => show(rt, b" no memory"),
+    }
+    show(rt, b"\n");
 }

@@ -8,23 +8,19 @@
 #![tactic(auto)]
 
 mod cuts;
+mod faults;
 mod made;
 mod nets;
-mod texts;
 mod walks;
 
-ghost use Rattle.std.specs.Prelude.{◌≤◌, length};
-
 use blif_read::{Design, read_design};
-use cuts::put_cut;
-use made::put_made;
-use nets::put_flattened;
-use sec_base::{FileShelf, MAX_FILE_BYTES, NoMemory, fetch, put};
-use std::alloc::Global;
-use std::process::ExitCode;
+use cuts::show_cuts;
+use made::show_made;
+use nets::show_flattened;
+use row_text::{file_of, show, split_at, text_of};
+use sec_base::MAX_FILE_BYTES;
 use std::rt::HostRuntime;
-use texts::{Row, row_of};
-use walks::{put_walk, put_wires};
+use walks::{show_walk, show_wires};
 
 /// What a row's design is asked for.
 #[derive(Clone, Copy)]
@@ -35,67 +31,57 @@ enum Asked {
     Cut,
 }
 
-fn put_asked(
-    alloc: Global,
-    out: &mut Vec<u8>,
-    asked: Asked,
-    design: &Design,
-) -> Result<(), NoMemory> {
+fn show_asked(rt: &HostRuntime, asked: Asked, design: &Design) {
     match asked {
-        Asked::Walk => put_walk(alloc, out, design),
-        Asked::Wires => put_wires(alloc, out, design),
-        Asked::Net => put_flattened(alloc, out, design),
-        Asked::Cut => put_cut(alloc, out, design),
+        Asked::Walk => show_walk(rt, design),
+        Asked::Wires => show_wires(rt, design),
+        Asked::Net => show_flattened(rt, design),
+        Asked::Cut => show_cuts(rt, design),
     }
 }
 
-fn put_told(alloc: Global, out: &mut Vec<u8>, asked: Asked, text: &[u8]) -> Result<(), NoMemory> {
+fn show_told(rt: &HostRuntime, asked: Asked, text: &[u8]) {
     if text.len() > MAX_FILE_BYTES as usize {
-        return put(out, b" too long");
+        return show(rt, b" too long");
     }
-    match read_design(alloc, text) {
-        Ok(design) => put_asked(alloc, out, asked, &design),
-        Err(_) => put(out, b" no design"),
+    match read_design(rt.alloc(), text) {
+        Ok(design) => show_asked(rt, asked, &design),
+        Err(_) => show(rt, b" no design"),
     }
 }
 
-/// What each row of the file tells, one on a line.
-fn put_rows(alloc: Global, out: &mut Vec<u8>, rows: &[u8], asked: Asked) -> Result<(), NoMemory> {
-    for row in rows.split(|byte| *byte == b'\n') {
-        if row.is_empty() {
-            continue;
-        }
-        let Row { name, text } = row_of(alloc, row)?;
-        put(out, name)?;
-        put(out, b":")?;
-        put_told(alloc, out, asked, text.as_slice())?;
-        put(out, b"\n")?;
-    }
-    Ok(())
+fn show_row(rt: &HostRuntime, asked: Asked, row: &[u8]) {
+    let (name, marks) = split_at(b'\t', row);
+    let text = text_of(rt.alloc(), marks, &[b'x'; 4_093]);
+    show(rt, name);
+    show(rt, b":");
+    show_told(rt, asked, text.bytes());
+    show(rt, b"\n");
 }
 
-fn main(rt: HostRuntime) -> ExitCode {
-    let alloc = rt.alloc();
-    let mut shelf = FileShelf::new(&rt);
-    let mut out = Vec::new(alloc);
-    for (path, asked) in [
-        ("walks", Asked::Walk),
-        ("wires", Asked::Wires),
-        ("nets", Asked::Net),
-        ("cuts", Asked::Cut),
-    ] {
-        let Ok(rows) = fetch(alloc, &mut shelf, path, MAX_FILE_BYTES) else {
-            return ExitCode::from(1);
-        };
-        if put_rows(alloc, &mut out, rows.as_slice(), asked).is_err() {
-            return ExitCode::from(2);
+/// Shows what each row tells, one on a line.
+fn show_rows(rt: &HostRuntime, asked: Asked, rows: &[u8]) {
+    let mut rest = rows;
+    for _ in 0..rows.len() {
+        let (row, later) = split_at(b'\n', rest);
+        if !row.is_empty() {
+            show_row(rt, asked, row);
         }
+        rest = later;
     }
-    if put_made(alloc, &mut out).is_err() {
-        return ExitCode::from(2);
+}
+
+fn show_file(rt: &HostRuntime, asked: Asked, path: &str) {
+    match file_of(rt, path) {
+        Some(rows) => show_rows(rt, asked, rows.as_slice()),
+        None => show(rt, b"no rows\n"),
     }
-    if rt.write_all(out.as_slice()).is_err() {
-        return ExitCode::from(3);
-    }
-    ExitCode::from(0)
+}
+
+fn main(rt: HostRuntime) {
+    show_file(&rt, Asked::Walk, "walks");
+    show_file(&rt, Asked::Wires, "wires");
+    show_file(&rt, Asked::Net, "nets");
+    show_file(&rt, Asked::Cut, "cuts");
+    show_made(&rt);
 }

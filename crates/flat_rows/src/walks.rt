@@ -1,51 +1,64 @@
 //! Walks over designs, and the faults of their drivers and clocks.
 
-use crate::nets::put_fault;
+use crate::faults::show_fault;
 use blif_read::Design;
-use flat_walk::{Flat, FlatKind, walk};
+use flat_walk::{Flat, FlatKind, FlatStatement, walk};
 use flat_wires::wire;
-use sec_base::{NoMemory, put};
-use std::alloc::Global;
+use row_text::show;
+use std::rt::HostRuntime;
 
-fn put_statements(out: &mut Vec<u8>, flat: &Flat) -> Result<(), NoMemory> {
-    put(out, b" ")?;
+fn word_of(kind: &FlatKind) -> &'static [u8] {
+    match kind {
+        FlatKind::Gate { .. } => b"g ",
+        FlatKind::Latch { .. } => b"l ",
+        FlatKind::Port => b"p ",
+    }
+}
+
+fn show_statement(rt: &HostRuntime, flat: &Flat, statement: &FlatStatement) {
+    show(rt, word_of(&statement.kind));
+    if statement.out < flat.names.len() {
+        show(rt, flat.name(statement.out));
+    }
+    show(rt, b",");
+}
+
+fn show_statements(rt: &HostRuntime, flat: &Flat) {
+    show(rt, b" ");
     for statement in flat.statements.as_slice() {
-        put(
-            out,
-            match statement.kind {
-                FlatKind::Gate { .. } => b"g ",
-                FlatKind::Latch { .. } => b"l ",
-                FlatKind::Port => b"p ",
-            },
-        )?;
-        if statement.out < flat.names.len() {
-            put(out, flat.name(statement.out))?;
+        show_statement(rt, flat, statement);
+    }
+}
+
+/// The flat statements of the design; where the walk has a fault, it is shown.
+fn walked(rt: &HostRuntime, design: &Design) -> Option<Flat> {
+    match walk(rt.alloc(), design) {
+        Ok(flat) => Some(flat),
+        Err(error) => {
+            show_fault(rt, &error);
+            None
         }
-        put(out, b",")?;
-    }
-    Ok(())
-}
-
-/// Puts the signals that the flat statements drive, or the walk's fault.
-pub(crate) fn put_walk(alloc: Global, out: &mut Vec<u8>, design: &Design) -> Result<(), NoMemory> {
-    match walk(alloc, design) {
-        Ok(flat) => put_statements(out, &flat),
-        Err(error) => put_fault(out, &error),
     }
 }
 
-/// Puts the fault of the walk's drivers and clocks.
-fn put_wire_fault(alloc: Global, out: &mut Vec<u8>, flat: &Flat) -> Result<(), NoMemory> {
-    match wire(alloc, flat) {
-        Ok(_) => put(out, b" none"),
-        Err(error) => put_fault(out, &error),
+/// Shows the signals that the flat statements drive, or the walk's fault.
+pub(crate) fn show_walk(rt: &HostRuntime, design: &Design) {
+    if let Some(flat) = walked(rt, design) {
+        show_statements(rt, &flat);
     }
 }
 
-/// Puts the fault of drivers and clocks.
-pub(crate) fn put_wires(alloc: Global, out: &mut Vec<u8>, design: &Design) -> Result<(), NoMemory> {
-    match walk(alloc, design) {
-        Ok(flat) => put_wire_fault(alloc, out, &flat),
-        Err(_) => put(out, b" no walk"),
+/// Shows the fault of the walk's drivers and clocks.
+fn show_wire_fault(rt: &HostRuntime, flat: &Flat) {
+    match wire(rt.alloc(), flat) {
+        Ok(_) => show(rt, b" none"),
+        Err(error) => show_fault(rt, &error),
+    }
+}
+
+/// Shows the fault of drivers and clocks, or the walk's.
+pub(crate) fn show_wires(rt: &HostRuntime, design: &Design) {
+    if let Some(flat) = walked(rt, design) {
+        show_wire_fault(rt, &flat);
     }
 }

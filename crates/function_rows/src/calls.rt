@@ -1,15 +1,16 @@
-//! The calls of rows on a graph.
+//! The calls of rows on a graph. Each says whether the words are some of its own.
 
-ghost use Rattle.std.specs.Prelude.{◌*◌, ◌<◌, length};
+ghost use Rattle.std.specs.Prelude.{◌*◌, ◌<◌, length, IfSome};
+ghost use Rattle.aig.specs.Cone.{IsClosed};
 
-use crate::decisions::{put_clauses, put_decision, put_swept, put_table};
+use crate::decisions::{show_clauses, show_decision, show_table};
+use crate::lanes::{show_and_block, show_signatures};
 use crate::sketch::Sketch;
-use crate::words::{number_of, put_bit, put_word};
-use aig::{Lit, Node};
-use lane_eval::{and_block, signatures};
-use sec_base::{NoMemory, put, put_number};
-use std::alloc::Global;
-use std::simd::u64x8;
+use crate::sweeps::show_swept;
+use aig::{Aig, Lit, Node};
+use row_text::{show, show_count, show_number};
+use std::alloc::{AllocError, Global};
+use std::rt::HostRuntime;
 
 /// What a row calls.
 #[derive(Clone, Copy)]
@@ -50,186 +51,137 @@ fn asked_of(name: &[u8]) -> Option<Asked> {
     None
 }
 
-/// Puts the answer of the call that the words spell. False where they spell none on this graph.
-pub(crate) fn call(
-    alloc: Global,
-    sketch: &Sketch,
-    words: &[&[u8]],
-    out: &mut Vec<u8>,
-) -> Result<bool, NoMemory> {
-    let Some((name, given)) = words.split_first() else {
-        return Ok(false);
+/// Shows the answer of the call that the words spell. False where they spell none on this graph.
+pub(crate) fn show_call(rt: &HostRuntime, sketch: &Sketch, words: &[&[u8]]) -> bool {
+    let [name, given @ ..] = words else {
+        return false;
     };
     match asked_of(name) {
-        Some(asked) => put_answer(alloc, sketch, asked, given, out),
-        None => Ok(false),
+        Some(asked) => show_asked(rt, sketch, asked, given),
+        None => false,
     }
 }
 
-fn put_answer(
-    alloc: Global,
-    sketch: &Sketch,
-    asked: Asked,
-    given: &[&[u8]],
-    out: &mut Vec<u8>,
-) -> Result<bool, NoMemory> {
+fn show_asked(rt: &HostRuntime, sketch: &Sketch, asked: Asked, given: &[&[u8]]) -> bool {
     match asked {
-        Asked::Literals => put_literals(alloc, sketch, out),
-        Asked::Size => put_size(alloc, sketch, out),
-        Asked::Cone => put_cone(alloc, sketch, given, out),
-        Asked::Value => put_value(alloc, sketch, given, out),
-        Asked::Table => put_table(alloc, sketch, given, out),
-        Asked::Signatures => put_signatures(alloc, sketch, given, out),
-        Asked::AndBlock => put_and_block(alloc, given, out),
-        Asked::Encode => put_clauses(alloc, sketch, given, out),
-        Asked::Decide => put_decision(alloc, sketch, given, out),
-        Asked::Sweep => put_swept(alloc, sketch, given, out),
+        Asked::Literals => show_literals(rt, sketch),
+        Asked::Size => show_size(rt, &sketch.graph),
+        Asked::Cone => show_cone(rt, sketch, given),
+        Asked::Value => show_value(rt, sketch, given),
+        Asked::Table => show_table(rt, sketch, given),
+        Asked::Signatures => show_signatures(rt, &sketch.graph, given),
+        Asked::AndBlock => show_and_block(rt, given),
+        Asked::Encode => show_clauses(rt, sketch, given),
+        Asked::Decide => show_decision(rt, sketch, given),
+        Asked::Sweep => show_swept(rt, sketch, given),
     }
 }
 
-/// Puts the literals that the definitions gave.
-fn put_literals(alloc: Global, sketch: &Sketch, out: &mut Vec<u8>) -> Result<bool, NoMemory> {
+/// The literal that the word at the place names.
+pub(crate) fn literal_at(sketch: &Sketch, given: &[&[u8]], place: usize) -> Option<Lit>
+    ensures { IfSome result (λ l. l.0 < 2 * length sketch.now.graph) }
+{
+    sketch.literal(given.get(place)?)
+}
+
+/// Shows the literals that the definitions gave.
+fn show_literals(rt: &HostRuntime, sketch: &Sketch) -> bool {
     for lit in sketch.made.iter() {
-        put_word(alloc, out, u64::from(*lit))?;
+        show_count(rt, u64::from(*lit));
     }
-    Ok(true)
+    true
 }
 
-/// Puts the numbers of nodes and of variables.
-fn put_size(alloc: Global, sketch: &Sketch, out: &mut Vec<u8>) -> Result<bool, NoMemory> {
-    put_word(alloc, out, u64::from(sketch.graph.size()))?;
-    put(out, b" nodes")?;
-    put_word(alloc, out, u64::from(sketch.graph.vars()))?;
-    put(out, b" variables")?;
-    Ok(true)
+/// Shows the numbers of nodes and of variables.
+fn show_size(rt: &HostRuntime, graph: &Aig) -> bool {
+    show_count(rt, u64::from(graph.size()));
+    show(rt, b" nodes");
+    show_count(rt, u64::from(graph.vars()));
+    show(rt, b" variables");
+    true
 }
 
-/// Puts the nodes of the cone of a literal, and the cone as a graph of its own.
-fn put_cone(
-    alloc: Global,
-    sketch: &Sketch,
-    given: &[&[u8]],
-    out: &mut Vec<u8>,
-) -> Result<bool, NoMemory> {
-    let Some(lit) = given.first().and_then(|word| sketch.literal(word)) else {
-        return Ok(false);
+/// Shows the nodes of the cone of a literal, and the cone as a graph of its own.
+fn show_cone(rt: &HostRuntime, sketch: &Sketch, given: &[&[u8]]) -> bool {
+    let Some(lit) = literal_at(sketch, given, 0) else {
+        return false;
     };
-    let cone = sketch.graph.cone(alloc, &[lit])?;
-    for node in cone.as_slice() {
-        put_word(alloc, out, u64::from(*node))?;
+    match sketch.graph.cone(rt.alloc(), &[lit]) {
+        Ok(cone) => show_part(rt, &sketch.graph, cone.as_slice()),
+        Err(_) => false,
     }
-    put(out, b" are")?;
-    let part = sketch.graph.part(alloc, cone.as_slice())?;
-    for node in part.as_slice() {
-        put_node(alloc, *node, out)?;
-    }
-    Ok(true)
 }
 
-fn put_node(alloc: Global, node: Node, out: &mut Vec<u8>) -> Result<(), NoMemory> {
+fn show_part(rt: &HostRuntime, graph: &Aig, cone: &[u32]) -> bool
+    requires { IsClosed graph.now cone.now }
+{
+    for node in cone {
+        show_count(rt, u64::from(*node));
+    }
+    show(rt, b" are");
+    match graph.part(rt.alloc(), cone) {
+        Ok(part) => show_nodes(rt, part.as_slice()),
+        Err(_) => false,
+    }
+}
+
+fn show_nodes(rt: &HostRuntime, nodes: &[Node]) -> bool {
+    for node in nodes {
+        show_node(rt, *node);
+    }
+    true
+}
+
+fn show_node(rt: &HostRuntime, node: Node) {
     match node {
-        Node::Constant => put(out, b" 0"),
+        Node::Constant => show(rt, b" 0"),
         Node::Input(variable) => {
-            put(out, b" x")?;
-            put_number(alloc, out, u64::from(variable))
+            show(rt, b" x");
+            show_number(rt, u64::from(variable));
         }
         Node::And(l, r) => {
-            put_word(alloc, out, u64::from(l.0))?;
-            put(out, b"&")?;
-            put_number(alloc, out, u64::from(r.0))
+            show_count(rt, u64::from(l.0));
+            show(rt, b"&");
+            show_number(rt, u64::from(r.0));
         }
     }
 }
 
-/// Puts the value of a literal under the bits of all variables.
-fn put_value(
-    alloc: Global,
-    sketch: &Sketch,
-    given: &[&[u8]],
-    out: &mut Vec<u8>,
-) -> Result<bool, NoMemory> {
-    let (Some(word), Some(bits)) = (given.first(), given.get(1)) else {
-        return Ok(false);
-    };
-    let Some(lit) = sketch.literal(word) else {
-        return Ok(false);
-    };
-    let bits: Vec<bool> = bits.iter().map(|byte| *byte == b'1').collect(alloc)?;
-    value_of(alloc, sketch, lit, bits.as_slice(), out)
+fn bits_of(alloc: Global, digits: &[u8]) -> Result<Vec<bool>, AllocError> {
+    let mut bits = Vec::new(alloc);
+    for digit in digits {
+        bits.push(*digit == b'1')?;
+    }
+    Ok(bits)
 }
 
-/// Puts a blank and the value of the literal. False where the bits aren't those of all variables.
-pub(crate) fn value_of(
-    alloc: Global,
-    sketch: &Sketch,
-    lit: Lit,
-    bits: &[bool],
-    out: &mut Vec<u8>,
-) -> Result<bool, NoMemory>
-    requires { lit.0 < 2 * length sketch.now.graph }
+/// Shows the value of a literal under the bits of all variables.
+fn show_value(rt: &HostRuntime, sketch: &Sketch, given: &[&[u8]]) -> bool {
+    let Some(lit) = literal_at(sketch, given, 0) else {
+        return false;
+    };
+    let Some(digits) = given.get(1) else {
+        return false;
+    };
+    match bits_of(rt.alloc(), digits) {
+        Ok(bits) => show_value_under(rt, &sketch.graph, lit, bits.as_slice()),
+        Err(_) => false,
+    }
+}
+
+/// Shows a blank and the value of the literal. False where the bits aren't those of all variables.
+pub(crate) fn show_value_under(rt: &HostRuntime, graph: &Aig, lit: Lit, bits: &[bool]) -> bool
+    requires { lit.0 < 2 * length graph.now }
 {
-    let graph = &sketch.graph;
     if bits.len() != graph.vars() as usize {
-        return Ok(false);
+        return false;
     }
-    let mut scratch = vec![in alloc; false; graph.size() as usize]?;
-    put_bit(out, graph.value(lit, bits, scratch.as_mut_slice()))?;
-    Ok(true)
-}
-
-/// Puts the words of each node's block, eight words being given for each variable.
-fn put_signatures(
-    alloc: Global,
-    sketch: &Sketch,
-    given: &[&[u8]],
-    out: &mut Vec<u8>,
-) -> Result<bool, NoMemory> {
-    let Some(words) = numbers_of(alloc, given)? else {
-        return Ok(false);
-    };
-    let graph = &sketch.graph;
-    if words.len() != 8 * (graph.vars() as usize) {
-        return Ok(false);
+    match vec![in rt.alloc(); false; graph.size() as usize] {
+        Ok(mut scratch) => {
+            let value = graph.value(lit, bits, scratch.as_mut_slice());
+            show(rt, if value { b" 1" } else { b" 0" });
+            true
+        }
+        Err(_) => false,
     }
-    let table = signatures(alloc, graph, words.as_slice())?;
-    for node in 0..graph.size() {
-        put(out, b" (")?;
-        put_block(alloc, table.block(node), out)?;
-        put(out, b" )")?;
-    }
-    Ok(true)
-}
-
-/// The numbers that words spell.
-fn numbers_of(alloc: Global, words: &[&[u8]]) -> Result<Option<Vec<u64>>, NoMemory> {
-    let mut numbers = Vec::new(alloc);
-    for word in words {
-        let Some(number) = number_of(word) else {
-            return Ok(None);
-        };
-        numbers.push(number)?;
-    }
-    Ok(Some(numbers))
-}
-
-fn put_block(alloc: Global, words: [u64; 8], out: &mut Vec<u8>) -> Result<(), NoMemory> {
-    for word in words {
-        put_word(alloc, out, word)?;
-    }
-    Ok(())
-}
-
-/// Puts the and of two blocks of eight words each, behind two bits that say which of them is complemented.
-fn put_and_block(alloc: Global, given: &[&[u8]], out: &mut Vec<u8>) -> Result<bool, NoMemory> {
-    let Some(numbers) = numbers_of(alloc, given)? else {
-        return Ok(false);
-    };
-    if numbers.len() != 18 {
-        return Ok(false);
-    }
-    let l = u64x8::from_slice(&numbers[2..10]);
-    let r = u64x8::from_slice(&numbers[10..18]);
-    let both = and_block(l, r, numbers[0] == 1, numbers[1] == 1);
-    put_block(alloc, both.to_array(), out)?;
-    Ok(true)
 }

@@ -1,20 +1,20 @@
 //! Calls on two sides and a care: tables, clauses and decisions.
 
-ghost use Rattle.std.specs.Prelude.{◌≡◌, ◌≢◌, ℕ, ◌*◌, ◌<◌, ◌≤◌, List, length, All, IfOk, IfSome};
+ghost use Rattle.std.specs.Prelude.{◌≡◌, ◌≢◌, ℕ, ◌*◌, ◌<◌, ◌≤◌, List, length, IfOk, IfSome};
 ghost use Rattle.std.specs.List.{AllPairs};
 ghost use Rattle.lane_eval.specs.Tables.{Covers};
 
-use crate::calls::value_of;
+use crate::calls::{literal_at, show_value_under};
 use crate::sketch::Sketch;
-use crate::words::{number_of, put_bit, put_word};
-use aig::{Aig, Lit, Lits};
+use aig::{Aig, Lit};
 use cnf_encode::{Cnf, encode};
 use lane_eval::table_differs;
 use pair_decide::{Decision, Query, SameBy, decide};
 use proof_check::Literal;
-use sec_base::{Ids, NoMemory, put, put_number};
+use row_text::{number_of, show, show_count, show_number};
+use sec_base::{Ids, NoMemory};
 use std::alloc::Global;
-use sweep::{Swept, sweep};
+use std::rt::HostRuntime;
 
 /// Two sides and a care.
 #[derive(Clone, Copy)]
@@ -30,9 +30,9 @@ fn sides_of(sketch: &Sketch, given: &[&[u8]]) -> Option<Sides>
     ensures right { IfSome result (λ s. s.right.0 < 2 * length sketch.now.graph) }
     ensures care { IfSome result (λ s. s.care.0 < 2 * length sketch.now.graph) }
 {
-    let left = sketch.literal(given.first()?)?;
-    let right = sketch.literal(given.get(1)?)?;
-    let care = sketch.literal(given.get(2)?)?;
+    let left = literal_at(sketch, given, 0)?;
+    let right = literal_at(sketch, given, 1)?;
+    let care = literal_at(sketch, given, 2)?;
     Some(Sides { left, right, care })
 }
 
@@ -48,67 +48,81 @@ fn all_vars(alloc: Global, graph: &Aig) -> Result<Ids, NoMemory>
     Ok(vars)
 }
 
-/// Puts the least assignment of all variables that tells the sides apart.
-pub(crate) fn put_table(
-    alloc: Global,
-    sketch: &Sketch,
-    given: &[&[u8]],
-    out: &mut Vec<u8>,
-) -> Result<bool, NoMemory> {
-    let Some(sides) = sides_of(sketch, given) else {
-        return Ok(false);
-    };
-    let vars = all_vars(alloc, &sketch.graph)?;
+/// Shows the least assignment of the variables that tells the sides apart.
+fn show_least(rt: &HostRuntime, graph: &Aig, sides: Sides, vars: &Ids) -> bool
+    requires left { sides.left.0 < 2 * length graph.now }
+    requires right { sides.right.0 < 2 * length graph.now }
+    requires care { sides.care.0 < 2 * length graph.now }
+    requires distinct { AllPairs (λ u v. u ≢ v) vars.now }
+    requires covers { (roots : List ℕ) → Covers graph.now roots vars.now }
+{
     if vars.len() > 16 {
-        return Ok(false);
+        return false;
     }
-    let Sides { left, right, care } = sides;
-    match table_differs(alloc, &sketch.graph, left, right, care, &vars)? {
-        Some(number) => put_word(alloc, out, u64::from(number))?,
-        None => put(out, b" none")?,
+    match table_differs(rt.alloc(), graph, sides.left, sides.right, sides.care, vars) {
+        Ok(Some(number)) => show_count(rt, u64::from(number)),
+        Ok(None) => show(rt, b" none"),
+        Err(_) => show(rt, b" no memory"),
     }
-    Ok(true)
+    true
 }
 
-/// Puts the nodes and the clauses of the query.
-pub(crate) fn put_clauses(
-    alloc: Global,
-    sketch: &Sketch,
-    given: &[&[u8]],
-    out: &mut Vec<u8>,
-) -> Result<bool, NoMemory> {
+/// Shows the least assignment of all variables that tells the sides apart.
+pub(crate) fn show_table(rt: &HostRuntime, sketch: &Sketch, given: &[&[u8]]) -> bool {
     let Some(sides) = sides_of(sketch, given) else {
-        return Ok(false);
+        return false;
     };
-    let cnf = encode(alloc, &sketch.graph, sides.left, sides.right, sides.care)?;
-    put_cnf(alloc, &cnf, out)?;
-    Ok(true)
+    match all_vars(rt.alloc(), &sketch.graph) {
+        Ok(vars) => show_least(rt, &sketch.graph, sides, &vars),
+        Err(_) => false,
+    }
 }
 
-fn put_cnf(alloc: Global, cnf: &Cnf, out: &mut Vec<u8>) -> Result<(), NoMemory> {
-    put_word(alloc, out, u64::from(cnf.variables))?;
-    put(out, b" variables of")?;
+fn show_literal(rt: &HostRuntime, literal: Literal) {
+    show(rt, if literal.is_positive() { b" " } else { b" -" });
+    show_number(rt, u64::from(literal.variable()));
+}
+
+/// Shows the literals of a clause.
+fn show_literals(rt: &HostRuntime, literals: &[Literal]) {
+    show(rt, b" (");
+    for literal in literals {
+        show_literal(rt, *literal);
+    }
+    show(rt, b" )");
+}
+
+fn show_cnf(rt: &HostRuntime, cnf: &Cnf) {
+    show_count(rt, u64::from(cnf.variables));
+    show(rt, b" variables of");
     for node in cnf.nodes.as_slice() {
-        put_word(alloc, out, u64::from(*node))?;
+        show_count(rt, u64::from(*node));
     }
     for clause in cnf.clauses.as_slice() {
-        put_literals(alloc, clause.as_slice(), out)?;
+        show_literals(rt, clause.as_slice());
     }
-    Ok(())
 }
 
-/// Puts the literals of a clause.
-fn put_literals(alloc: Global, literals: &[Literal], out: &mut Vec<u8>) -> Result<(), NoMemory> {
-    put(out, b" (")?;
-    for literal in literals {
-        put(out, if literal.is_positive() { b" " } else { b" -" })?;
-        put_number(alloc, out, u64::from(literal.variable()))?;
+/// Shows the nodes and the clauses of the query.
+pub(crate) fn show_clauses(rt: &HostRuntime, sketch: &Sketch, given: &[&[u8]]) -> bool {
+    let Some(sides) = sides_of(sketch, given) else {
+        return false;
+    };
+    match encode(
+        rt.alloc(),
+        &sketch.graph,
+        sides.left,
+        sides.right,
+        sides.care,
+    ) {
+        Ok(cnf) => show_cnf(rt, &cnf),
+        Err(_) => show(rt, b" no memory"),
     }
-    put(out, b" )")
+    true
 }
 
 /// The number of conflicts that the word at a place spells.
-fn conflicts_at(given: &[&[u8]], place: usize) -> Option<u32>
+pub(crate) fn conflicts_at(given: &[&[u8]], place: usize) -> Option<u32>
     ensures { IfSome result (λ conflicts. conflicts ≤ 200000) }
 {
     let conflicts = number_of(given.get(place)?)?;
@@ -122,147 +136,81 @@ fn conflicts_at(given: &[&[u8]], place: usize) -> Option<u32>
 /// The decision of the query over all variables.
 fn decision_of(
     alloc: Global,
-    sketch: &Sketch,
+    graph: &Aig,
     sides: Sides,
     conflicts: u32,
 ) -> Result<Decision, NoMemory>
-    requires left { sides.left.0 < 2 * length sketch.now.graph }
-    requires right { sides.right.0 < 2 * length sketch.now.graph }
-    requires care { sides.care.0 < 2 * length sketch.now.graph }
+    requires left { sides.left.0 < 2 * length graph.now }
+    requires right { sides.right.0 < 2 * length graph.now }
+    requires care { sides.care.0 < 2 * length graph.now }
     requires conflicts { conflicts ≤ 200000 }
 {
-    let Sides { left, right, care } = sides;
-    let vars = all_vars(alloc, &sketch.graph)?;
+    let vars = all_vars(alloc, graph)?;
     let query = Query {
-        left,
-        right,
-        care,
+        left: sides.left,
+        right: sides.right,
+        care: sides.care,
         vars,
     };
-    decide(alloc, &sketch.graph, &query, conflicts)
+    decide(alloc, graph, &query, conflicts)
 }
 
-/// Puts the decision of the query over all variables, with at most so many conflicts as the fourth word says.
-pub(crate) fn put_decision(
-    alloc: Global,
-    sketch: &Sketch,
-    given: &[&[u8]],
-    out: &mut Vec<u8>,
-) -> Result<bool, NoMemory> {
-    let Some(sides) = sides_of(sketch, given) else {
-        return Ok(false);
-    };
-    let Some(conflicts) = conflicts_at(given, 3) else {
-        return Ok(false);
-    };
-    match decision_of(alloc, sketch, sides, conflicts)? {
-        Decision::Same(by) => put_same(&by, out),
-        Decision::Differs(bits) => put_difference(alloc, sketch, sides, bits.as_slice(), out),
-        Decision::Limit(proof) => put_limit(alloc, proof.log.len(), out),
-    }
-}
-
-fn put_same(by: &SameBy, out: &mut Vec<u8>) -> Result<bool, NoMemory> {
+fn show_same(rt: &HostRuntime, by: &SameBy) {
     match by {
-        SameBy::Literal => put(out, b" same by the literal")?,
-        SameBy::Table => put(out, b" same by the table")?,
-        SameBy::Refuted(_) => put(out, b" same by a refutation")?,
+        SameBy::Literal => show(rt, b" same by the literal"),
+        SameBy::Table => show(rt, b" same by the table"),
+        SameBy::Refuted(_) => show(rt, b" same by a refutation"),
     }
-    Ok(true)
 }
 
-fn put_limit(alloc: Global, chains: usize, out: &mut Vec<u8>) -> Result<bool, NoMemory> {
-    put(out, b" limit, chains")?;
-    put_word(alloc, out, chains as u64)?;
-    Ok(true)
-}
-
-/// Puts the bits of a difference, where they are few, and the values of both sides and of the care under them.
-fn put_difference(
-    alloc: Global,
-    sketch: &Sketch,
-    sides: Sides,
-    bits: &[bool],
-    out: &mut Vec<u8>,
-) -> Result<bool, NoMemory>
-    requires left { sides.left.0 < 2 * length sketch.now.graph }
-    requires right { sides.right.0 < 2 * length sketch.now.graph }
-    requires care { sides.care.0 < 2 * length sketch.now.graph }
-{
-    put(out, b" differs")?;
+fn show_bits(rt: &HostRuntime, bits: &[bool]) {
     if bits.len() <= 16 {
         for bit in bits {
-            put_bit(out, *bit)?;
+            show(rt, if *bit { b" 1" } else { b" 0" });
         }
     }
-    put(out, b" with the values")?;
-    let left = value_of(alloc, sketch, sides.left, bits, out)?;
-    let right = value_of(alloc, sketch, sides.right, bits, out)?;
-    let care = value_of(alloc, sketch, sides.care, bits, out)?;
-    Ok(left && right && care)
 }
 
-/// Puts whether a sweep with at most so many conflicts as the third word says gives both sides one literal.
-pub(crate) fn put_swept(
-    alloc: Global,
-    sketch: &Sketch,
-    given: &[&[u8]],
-    out: &mut Vec<u8>,
-) -> Result<bool, NoMemory> {
-    let (Some(first), Some(second)) = (given.first(), given.get(1)) else {
-        return Ok(false);
-    };
-    let (Some(left), Some(right)) = (sketch.literal(first), sketch.literal(second)) else {
-        return Ok(false);
-    };
-    let Some(conflicts) = conflicts_at(given, 2) else {
-        return Ok(false);
-    };
-    if are_merged(alloc, &sketch.graph, left, right, conflicts)? {
-        put(out, b" one literal")?;
-    } else {
-        put(out, b" two literals")?;
+/// Shows the bits of a difference, where they are few, and the values of both sides and of the care under them.
+fn show_difference(rt: &HostRuntime, graph: &Aig, sides: Sides, bits: &[bool]) -> bool
+    requires left { sides.left.0 < 2 * length graph.now }
+    requires right { sides.right.0 < 2 * length graph.now }
+    requires care { sides.care.0 < 2 * length graph.now }
+{
+    show(rt, b" differs");
+    show_bits(rt, bits);
+    show(rt, b" with the values");
+    show_value_under(rt, graph, sides.left, bits)
+        && show_value_under(rt, graph, sides.right, bits)
+        && show_value_under(rt, graph, sides.care, bits)
+}
+
+fn show_decided(rt: &HostRuntime, graph: &Aig, sides: Sides, decision: &Decision) -> bool
+    requires left { sides.left.0 < 2 * length graph.now }
+    requires right { sides.right.0 < 2 * length graph.now }
+    requires care { sides.care.0 < 2 * length graph.now }
+{
+    match decision {
+        Decision::Same(by) => show_same(rt, by),
+        Decision::Differs(bits) => return show_difference(rt, graph, sides, bits.as_slice()),
+        Decision::Limit(proof) => {
+            show(rt, b" limit, chains");
+            show_count(rt, proof.log.len() as u64);
+        }
     }
-    Ok(true)
+    true
 }
 
-/// Whether a sweep gives both sides one literal.
-fn are_merged(
-    alloc: Global,
-    graph: &Aig,
-    left: Lit,
-    right: Lit,
-    conflicts: u32,
-) -> Result<bool, NoMemory>
-    requires left { left.0 < 2 * length graph.now }
-    requires right { right.0 < 2 * length graph.now }
-{
-    let mut roots = Lits::new(alloc);
-    roots.push(left)?;
-    roots.push(right)?;
-    let swept = sweep_of(alloc, graph, &roots, conflicts)?;
-    let lits = swept.lits.as_slice();
-    Ok(lits.first() == lits.get(1))
-}
-
-/// The sweep with 512 assignments that a generator gives.
-fn sweep_of(alloc: Global, graph: &Aig, roots: &Lits, conflicts: u32) -> Result<Swept, NoMemory>
-    requires { All (λ l. l.0 < 2 * length graph.now) roots.now }
-{
-    let mut words = vec![in alloc; 0; 8 * (graph.vars() as usize)]?;
-    fill(words.as_mut_slice());
-    sweep(alloc, graph, roots, conflicts, words.as_slice())
-}
-
-/// Fills the words by Marsaglia's xorshift ("Xorshift RNGs").
-fn fill(words: &mut [u64])
-    ensures { length words.new ≡ length words.old }
-{
-    let mut state: u64 = 88_172_645_463_325_252;
-    for word in words.iter_mut() {
-        state ^= state << 13;
-        state ^= state >> 7;
-        state ^= state << 17;
-        *word = state;
+/// Shows the decision of the query over all variables, with at most so many conflicts as the fourth word says.
+pub(crate) fn show_decision(rt: &HostRuntime, sketch: &Sketch, given: &[&[u8]]) -> bool {
+    let Some(sides) = sides_of(sketch, given) else {
+        return false;
+    };
+    let Some(conflicts) = conflicts_at(given, 3) else {
+        return false;
+    };
+    match decision_of(rt.alloc(), &sketch.graph, sides, conflicts) {
+        Ok(decision) => show_decided(rt, &sketch.graph, sides, &decision),
+        Err(_) => false,
     }
 }

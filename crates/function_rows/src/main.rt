@@ -5,26 +5,52 @@
 
 mod calls;
 mod decisions;
-mod rows;
+mod lanes;
 mod sketch;
-mod words;
+mod sweeps;
 
-use rows::tell_all;
-use sec_base::{FileShelf, fetch};
-use std::process::ExitCode;
+use calls::show_call;
+use row_text::{file_of, show, split_at, words_of};
+use sketch::{Sketch, sketched};
 use std::rt::HostRuntime;
 
-fn main(rt: HostRuntime) -> ExitCode {
-    let alloc = rt.alloc();
-    let mut shelf = FileShelf::new(&rt);
-    let Ok(rows) = fetch(alloc, &mut shelf, "rows", 1_000_000) else {
-        return ExitCode::from(1);
+/// Shows what the call of the words answers on the graph.
+fn show_answer(rt: &HostRuntime, sketch: &Sketch, words: &[u8]) {
+    let is_row = match words_of(rt.alloc(), words) {
+        Ok(words) => show_call(rt, sketch, words.as_slice()),
+        Err(_) => false,
     };
-    let Ok(out) = tell_all(alloc, rows.as_slice()) else {
-        return ExitCode::from(2);
-    };
-    if rt.write_all(out.as_slice()).is_err() {
-        return ExitCode::from(3);
+    if !is_row {
+        show(rt, b" not a row");
     }
-    ExitCode::from(0)
+}
+
+fn show_row(rt: &HostRuntime, row: &[u8]) {
+    let (name, rest) = split_at(b':', row);
+    let (definitions, words) = split_at(b':', rest);
+    show(rt, name);
+    show(rt, b":");
+    match sketched(rt.alloc(), definitions) {
+        Some(sketch) => show_answer(rt, &sketch, words),
+        None => show(rt, b" not a row"),
+    }
+    show(rt, b"\n");
+}
+
+fn show_rows(rt: &HostRuntime, rows: &[u8]) {
+    let mut rest = rows;
+    for _ in 0..rows.len() {
+        let (row, later) = split_at(b'\n', rest);
+        if !row.is_empty() {
+            show_row(rt, row);
+        }
+        rest = later;
+    }
+}
+
+fn main(rt: HostRuntime) {
+    match file_of(&rt, "rows") {
+        Some(rows) => show_rows(&rt, rows.as_slice()),
+        None => show(&rt, b"no rows\n"),
+    }
 }

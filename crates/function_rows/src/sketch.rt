@@ -3,8 +3,8 @@
 ghost use Rattle.std.specs.Prelude.{◌≡◌, ◌*◌, ◌<◌, ◌≤◌, length, IfOk, IfSome, IsTrue};
 ghost use Rattle.sec_base.specs.Cover.{IsCube, IsPlace};
 
-use crate::words::number_of;
 use aig::{Aig, Lit};
+use row_text::{number_of, split_at};
 use sec_base::{Cover, NoMemory, Seq, Word};
 use std::alloc::Global;
 
@@ -20,7 +20,7 @@ pub(crate) struct Sketch {
 
 impl Sketch {
     /// The graph of the constant.
-    pub(crate) fn new(alloc: Global) -> Result<Sketch, NoMemory> {
+    fn new(alloc: Global) -> Result<Sketch, NoMemory> {
         let graph = Aig::new(alloc)?;
         let made = Vec::new(alloc);
         Ok(Sketch { graph, made })
@@ -53,135 +53,125 @@ impl Sketch {
 
     /// Adds what a word defines: `vN` the first N variables; `upN`, `downN` or `noneN` the and of these, from the first on, from
     /// the last on, or of their complements; `L&R` and `L|R` an and and an or; `on-ROW,ROW` and `off-ROW,ROW` a cover of the
-    /// first two variables. False where that can't be.
-    pub(crate) fn define(&mut self, alloc: Global, word: &[u8]) -> Result<bool, NoMemory> {
+    /// first two variables. None where that can't be.
+    fn define(&mut self, alloc: Global, word: &[u8]) -> Option<()> {
         if let Some(digits) = word.strip_prefix(b"v".as_slice()) {
             return self.define_variables(digits);
         }
-        let made = if let Some(digits) = word.strip_prefix(b"up".as_slice()) {
-            self.and_up(digits, false)?
-        } else if let Some(digits) = word.strip_prefix(b"none".as_slice()) {
-            self.and_up(digits, true)?
-        } else if let Some(digits) = word.strip_prefix(b"down".as_slice()) {
-            self.and_down(digits)?
-        } else if let Some(rows) = word.strip_prefix(b"on-".as_slice()) {
-            self.cover_of(alloc, rows, true)?
-        } else if let Some(rows) = word.strip_prefix(b"off-".as_slice()) {
-            self.cover_of(alloc, rows, false)?
-        } else {
-            self.gate(word)?
-        };
-        let Some(lit) = made else {
-            return Ok(false);
-        };
-        self.made.push(lit.0)?;
-        Ok(true)
+        let lit = self.literal_by(alloc, word)?;
+        self.made.push(lit.0).ok()
     }
 
-    fn define_variables(&mut self, digits: &[u8]) -> Result<bool, NoMemory> {
-        let Some(count) = count_of(digits) else {
-            return Ok(false);
-        };
-        for variable in 0..count {
+    /// The literal that a word defines.
+    fn literal_by(&mut self, alloc: Global, word: &[u8]) -> Option<Lit> {
+        if let Some(digits) = word.strip_prefix(b"up".as_slice()) {
+            self.and_up(digits, false)
+        } else if let Some(digits) = word.strip_prefix(b"none".as_slice()) {
+            self.and_up(digits, true)
+        } else if let Some(digits) = word.strip_prefix(b"down".as_slice()) {
+            self.and_down(digits)
+        } else if let Some(rows) = word.strip_prefix(b"on-".as_slice()) {
+            self.cover_of(alloc, rows, true)
+        } else if let Some(rows) = word.strip_prefix(b"off-".as_slice()) {
+            self.cover_of(alloc, rows, false)
+        } else {
+            self.gate(word)
+        }
+    }
+
+    fn define_variables(&mut self, digits: &[u8]) -> Option<()> {
+        for variable in 0..count_of(digits)? {
             if self.graph.size() < NODES {
-                self.graph.input(variable)?;
+                self.graph.input(variable).ok()?;
             }
         }
-        Ok(true)
+        Some(())
     }
 
     /// The and or the or that a word spells.
-    fn gate(&mut self, word: &[u8]) -> Result<Option<Lit>, NoMemory> {
-        let Some(at) = word.iter().position(|byte| *byte == b'&' || *byte == b'|') else {
-            return Ok(None);
-        };
-        let (Some(l), Some(r)) = (self.literal(&word[..at]), self.literal(&word[at + 1..])) else {
-            return Ok(None);
-        };
+    fn gate(&mut self, word: &[u8]) -> Option<Lit> {
+        let at = word.iter().position(|byte| *byte == b'&' || *byte == b'|')?;
+        let l = self.literal(&word[..at])?;
+        let r = self.literal(&word[at + 1..])?;
         if word[at] == b'&' {
             return self.and_of(l, r);
         }
         let neither = self.and_of(Aig::not(l), Aig::not(r))?;
-        Ok(neither.map(Aig::not))
+        Some(Aig::not(neither))
     }
 
     /// The and, or None where the graph has no room or isn't the literals'.
-    fn and_of(&mut self, l: Lit, r: Lit) -> Result<Option<Lit>, NoMemory> {
+    fn and_of(&mut self, l: Lit, r: Lit) -> Option<Lit> {
         let size = self.graph.size();
         if size >= NODES || l.0 >= 2 * size || r.0 >= 2 * size {
-            return Ok(None);
+            return None;
         }
-        let made = self.graph.and(l, r)?;
-        Ok(Some(made))
+        self.graph.and(l, r).ok()
     }
 
     /// The and of so many variables, from the first on, or of their complements.
-    fn and_up(&mut self, digits: &[u8], negated: bool) -> Result<Option<Lit>, NoMemory> {
-        let Some(count) = count_of(digits) else {
-            return Ok(None);
-        };
-        let mut all = Some(Lit(1));
-        for variable in 0..count {
+    fn and_up(&mut self, digits: &[u8], negated: bool) -> Option<Lit> {
+        let mut all = Lit(1);
+        for variable in 0..count_of(digits)? {
             all = self.and_variable(all, variable, negated)?;
         }
-        Ok(all)
+        Some(all)
     }
 
     /// The and of so many variables, from the last on.
-    fn and_down(&mut self, digits: &[u8]) -> Result<Option<Lit>, NoMemory> {
-        let Some(count) = count_of(digits) else {
-            return Ok(None);
-        };
-        let mut all = Some(Lit(1));
+    fn and_down(&mut self, digits: &[u8]) -> Option<Lit> {
+        let count = count_of(digits)?;
+        let mut all = Lit(1);
         for behind in 0..count {
             all = self.and_variable(all, count - 1 - behind, false)?;
         }
-        Ok(all)
+        Some(all)
     }
 
-    fn and_variable(
-        &mut self,
-        all: Option<Lit>,
-        variable: u32,
-        negated: bool,
-    ) -> Result<Option<Lit>, NoMemory>
+    fn and_variable(&mut self, all: Lit, variable: u32, negated: bool) -> Option<Lit>
         requires { variable < 100 }
     {
-        match all {
-            Some(lit) => self.and_of(lit, Lit(2 * variable + 2 + u32::from(negated))),
-            None => Ok(None),
-        }
+        self.and_of(all, Lit(2 * variable + 2 + u32::from(negated)))
     }
 
     /// The literal of the cover of the first two variables that has the two rows that a comma parts.
-    fn cover_of(&mut self, alloc: Global, rows: &[u8], on: bool) -> Result<Option<Lit>, NoMemory> {
+    fn cover_of(&mut self, alloc: Global, rows: &[u8], on: bool) -> Option<Lit> {
         if rows.len() != 5 || !is_row(&rows[..2]) || !is_row(&rows[3..]) {
-            return Ok(None);
+            return None;
         }
-        self.cover_by(alloc, &rows[..2], &rows[3..], on)
-    }
-
-    fn cover_by(
-        &mut self,
-        alloc: Global,
-        first: &[u8],
-        second: &[u8],
-        on: bool,
-    ) -> Result<Option<Lit>, NoMemory>
-        requires first { IsCube 2 first.now }
-        requires second { IsCube 2 second.now }
-    {
-        let mut rows = Seq::new(alloc);
-        rows.push(row_of(alloc, first)?)?;
-        rows.push(row_of(alloc, second)?)?;
-        let cover = Cover::from_rows(2, rows, on);
+        let cover = cover_by(alloc, &rows[..2], &rows[3..], on).ok()?;
         let size = self.graph.size();
         if size < 3 || size > NODES {
-            return Ok(None);
+            return None;
         }
-        let made = self.graph.cover(&cover, &[Lit(2), Lit(4)])?;
-        Ok(Some(made))
+        self.graph.cover(&cover, &[Lit(2), Lit(4)]).ok()
     }
+}
+
+/// The graph of the definitions, or None where one isn't of its graph.
+pub(crate) fn sketched(alloc: Global, definitions: &[u8]) -> Option<Sketch> {
+    let mut sketch = Sketch::new(alloc).ok()?;
+    let mut rest = definitions;
+    for _ in 0..definitions.len() {
+        let (word, later) = split_at(b' ', rest);
+        rest = later;
+        if !word.is_empty() {
+            sketch.define(alloc, word)?;
+        }
+    }
+    Some(sketch)
+}
+
+fn cover_by(alloc: Global, first: &[u8], second: &[u8], on: bool) -> Result<Cover, NoMemory>
+    requires first { IsCube 2 first.now }
+    requires second { IsCube 2 second.now }
+    ensures width { IfOk result (λ cover. cover.width ≡ 2) }
+    ensures rows { IfOk result (λ cover. length cover.rows ≡ 2) }
+{
+    let mut rows = Seq::new(alloc);
+    rows.push(row_of(alloc, first)?)?;
+    rows.push(row_of(alloc, second)?)?;
+    Ok(Cover::from_rows(2, rows, on))
 }
 
 fn row_of(alloc: Global, row: &[u8]) -> Result<Word, NoMemory>

@@ -1,100 +1,102 @@
-//! Rows on clauses, resolution and logs.
+//! Rows on clauses and logs.
 
+ghost use Rattle.std.specs.Prelude.{◌≤◌, length};
+
+use crate::MANY;
 use crate::parsing::{literals_of, log_of};
-use crate::writing::{put_count, put_error, put_literals};
-use proof_check::{Clause, ClauseError, Clauses, Outcome, Resolver, check_chains, check_log};
-use sec_base::{Duplicate, NoMemory, put};
-use std::alloc::Global;
+use crate::writing::{show_counted, show_error, show_literals};
+use proof_check::{Clause, ClauseError, Clauses, Literals, Log, check_chains, check_log};
+use row_text::show;
+use sec_base::Duplicate;
+use std::rt::HostRuntime;
 
-/// How many clauses and chains a row has at most.
-const MANY: usize = 1_000_000;
-
-/// The clause of literals, by an equal one, with its length.
-pub(crate) fn put_clause(alloc: Global, out: &mut Vec<u8>, text: &str) -> Result<(), NoMemory> {
-    let literals = literals_of(alloc, text)?;
-    match Clause::new(alloc, &literals) {
-        Ok(clause) => {
-            let copy = clause.copy()?;
-            put_literals(alloc, out, copy.as_slice())?;
-            put(out, b", ")?;
-            put_count(alloc, out, copy.len(), b" literals")
+fn show_copy(rt: &HostRuntime, clause: &Clause) {
+    match clause.copy() {
+        Ok(copy) => {
+            show_literals(rt, copy.as_slice());
+            show(rt, b", ");
+            show_counted(rt, copy.len(), b" literals");
         }
-        Err(ClauseError::Tautology) => put(out, b"a tautology"),
-        Err(ClauseError::NoMemory) => Err(NoMemory),
+        Err(_) => show(rt, b"no memory"),
     }
 }
 
-/// What the checker says of a log that is to be a refutation.
-pub(crate) fn put_checked(
-    alloc: Global,
-    out: &mut Vec<u8>,
-    clauses: &Clauses,
-    text: &str,
-) -> Result<(), NoMemory> {
-    let log = log_of(alloc, text)?;
-    if clauses.len() > MANY || log.len() > MANY {
-        return put(out, b"too many");
-    }
-    match check_log(alloc, clauses, &log) {
-        Ok(checked) => put_count(alloc, out, checked.chains as usize, b" chains hold"),
-        Err(error) => put_error(alloc, out, error),
+fn show_made(rt: &HostRuntime, literals: &Literals) {
+    match Clause::new(rt.alloc(), literals) {
+        Ok(clause) => show_copy(rt, &clause),
+        Err(ClauseError::Tautology) => show(rt, b"a tautology"),
+        Err(ClauseError::NoMemory) => show(rt, b"no memory"),
     }
 }
 
-/// The clauses that a log derives, read from copies of the clauses and of the log.
-pub(crate) fn put_derived(
-    alloc: Global,
-    out: &mut Vec<u8>,
-    clauses: &Clauses,
-    text: &str,
-) -> Result<(), NoMemory> {
-    let log = log_of(alloc, text)?.duplicate(alloc)?;
-    let given = clauses.duplicate(alloc)?;
-    if given.len() > MANY || log.len() > MANY {
-        return put(out, b"too many");
-    }
-    match check_chains(alloc, &given, &log) {
-        Ok(derived) => put_all(alloc, out, &derived),
-        Err(error) => put_error(alloc, out, error),
+/// Shows the clause of literals, by an equal one, with its length.
+pub(crate) fn show_clause(rt: &HostRuntime, text: &[u8]) {
+    match literals_of(rt.alloc(), text) {
+        Ok(literals) => show_made(rt, &literals),
+        Err(_) => show(rt, b"no memory"),
     }
 }
 
-fn put_all(alloc: Global, out: &mut Vec<u8>, clauses: &Clauses) -> Result<(), NoMemory> {
-    put_count(alloc, out, clauses.len(), b" derived")?;
+fn show_check(rt: &HostRuntime, clauses: &Clauses, log: &Log)
+    requires { length clauses.now ≤ 1000000 }
+{
+    if log.len() > MANY {
+        return show(rt, b"too many");
+    }
+    match check_log(rt.alloc(), clauses, log) {
+        Ok(checked) => show_counted(rt, checked.chains as usize, b" chains hold"),
+        Err(error) => show_error(rt, error),
+    }
+}
+
+/// Shows what the checker says of a log that is to be a refutation.
+pub(crate) fn show_checked(rt: &HostRuntime, clauses: &Clauses, text: &[u8])
+    requires { length clauses.now ≤ 1000000 }
+{
+    match log_of(rt.alloc(), text) {
+        Ok(log) => show_check(rt, clauses, &log),
+        Err(_) => show(rt, b"no memory"),
+    }
+}
+
+fn show_all(rt: &HostRuntime, clauses: &Clauses) {
+    show_counted(rt, clauses.len(), b" derived");
     for clause in clauses.as_slice() {
-        put(out, b", ")?;
-        put_literals(alloc, out, clause.as_slice())?;
-    }
-    Ok(())
-}
-
-fn word_of_outcome(outcome: Outcome) -> &'static str {
-    match outcome {
-        Outcome::Derived => "derived, ",
-        Outcome::NoPivot => "no such pivot, ",
-        Outcome::Clashes => "a tautology, ",
+        show(rt, b", ");
+        show_literals(rt, clause.as_slice());
     }
 }
 
-/// What a resolver makes of the first clause, by pairs of a pivot and a clause's number.
-pub(crate) fn put_resolved(
-    alloc: Global,
-    out: &mut Vec<u8>,
-    clauses: &Clauses,
-    pairs: &[u32],
-) -> Result<(), NoMemory> {
-    let mut resolver = Resolver::new(alloc);
-    if let Some(first) = clauses.as_slice().first() {
-        resolver.start(first.as_slice())?;
+fn show_chains(rt: &HostRuntime, clauses: &Clauses, log: &Log) {
+    if clauses.len() > MANY || log.len() > MANY {
+        return show(rt, b"too many");
     }
-    for pair in pairs.chunks_exact(2) {
-        let [pivot, number] = pair else {
-            return Ok(());
-        };
-        if let Some(other) = clauses.as_slice().get(*number as usize) {
-            let outcome = resolver.resolve(other.as_slice(), *pivot)?;
-            put(out, word_of_outcome(outcome).as_bytes())?;
-        }
+    match check_chains(rt.alloc(), clauses, log) {
+        Ok(derived) => show_all(rt, &derived),
+        Err(error) => show_error(rt, error),
     }
-    put_literals(alloc, out, resolver.clause()?.as_slice())
+}
+
+/// The clauses that the log derives from a copy of the clauses.
+fn show_from_copy(rt: &HostRuntime, clauses: &Clauses, log: &Log) {
+    match clauses.duplicate(rt.alloc()) {
+        Ok(copy) => show_chains(rt, &copy, log),
+        Err(_) => show(rt, b"no memory"),
+    }
+}
+
+/// The clauses that a copy of the log derives from a copy of the clauses.
+fn show_by_copy(rt: &HostRuntime, clauses: &Clauses, log: &Log) {
+    match log.duplicate(rt.alloc()) {
+        Ok(copy) => show_from_copy(rt, clauses, &copy),
+        Err(_) => show(rt, b"no memory"),
+    }
+}
+
+/// Shows the clauses that a log derives, read from copies of the clauses and of the log.
+pub(crate) fn show_derived(rt: &HostRuntime, clauses: &Clauses, text: &[u8]) {
+    match log_of(rt.alloc(), text) {
+        Ok(log) => show_by_copy(rt, clauses, &log),
+        Err(_) => show(rt, b"no memory"),
+    }
 }

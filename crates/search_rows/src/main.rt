@@ -5,69 +5,97 @@
 
 mod checking;
 mod parsing;
+mod resolving;
 mod searching;
 mod writing;
 
-use checking::{put_checked, put_clause, put_derived, put_resolved};
+ghost use Rattle.std.specs.Prelude.{◌≤◌, length};
+
+use checking::{show_checked, show_clause, show_derived};
 use parsing::{clauses_of, numbers_of};
-use searching::{put_found, put_solved};
-use sec_base::{FileShelf, NoMemory, fetch, put};
-use std::alloc::Global;
-use std::process::ExitCode;
+use proof_check::Clauses;
+use resolving::show_resolved;
+use row_text::{file_of, show, split_at};
+use searching::show_searched;
 use std::rt::HostRuntime;
 
-/// What the row comes to.
-fn put_row(alloc: Global, out: &mut Vec<u8>, row: &str) -> Result<(), NoMemory> {
-    let Some((kind, named)) = row.split_once(';') else {
-        return put(out, b"no row");
-    };
-    let Some((name, about)) = named.split_once(';') else {
-        return put(out, b"no row");
-    };
-    let Some((formula, more)) = about.split_once(';') else {
-        return put(out, b"no row");
-    };
-    put(out, name.as_bytes())?;
-    put(out, b": ")?;
-    if kind == "clause" {
-        return put_clause(alloc, out, formula);
-    }
-    let clauses = clauses_of(alloc, formula)?;
-    let numbers = numbers_of(alloc, more)?;
-    match kind {
-        "log" => put_checked(alloc, out, &clauses, more),
-        "chains" => put_derived(alloc, out, &clauses, more),
-        "resolve" => put_resolved(alloc, out, &clauses, numbers.as_slice()),
-        "search" => put_found(alloc, out, &clauses, numbers.as_slice()),
-        "solve" => put_solved(alloc, out, &clauses, numbers.as_slice()),
-        _ => put(out, b"no kind"),
+/// How many clauses and chains a row has at most.
+const MANY: usize = 1_000_000;
+
+/// Shows what the numbers, behind clauses, come to.
+fn show_numbers(rt: &HostRuntime, kind: &[u8], clauses: &Clauses, numbers: &[u32])
+    requires { length clauses.now ≤ 1000000 }
+{
+    if kind == b"resolve".as_slice() {
+        show_resolved(rt, clauses, numbers);
+    } else if kind == b"search".as_slice() {
+        show_searched(rt, clauses, numbers, false);
+    } else if kind == b"solve".as_slice() {
+        show_searched(rt, clauses, numbers, true);
+    } else {
+        show(rt, b"no kind");
     }
 }
 
-/// What all rows come to, each on a line.
-fn put_rows(alloc: Global, rows: &str) -> Result<Vec<u8>, NoMemory> {
-    let mut out = Vec::new(alloc);
-    for row in rows.lines() {
-        put_row(alloc, &mut out, row)?;
-        put(&mut out, b"\n")?;
+/// Shows what a log or numbers, behind clauses, come to.
+fn show_more(rt: &HostRuntime, kind: &[u8], clauses: &Clauses, more: &[u8])
+    requires { length clauses.now ≤ 1000000 }
+{
+    if kind == b"log".as_slice() {
+        return show_checked(rt, clauses, more);
     }
-    Ok(out)
+    if kind == b"chains".as_slice() {
+        return show_derived(rt, clauses, more);
+    }
+    match numbers_of(rt.alloc(), more) {
+        Ok(numbers) => show_numbers(rt, kind, clauses, numbers.as_slice()),
+        Err(_) => show(rt, b"no memory"),
+    }
 }
 
-fn main(rt: HostRuntime) -> ExitCode {
-    let alloc = rt.alloc();
-    let mut shelf = FileShelf::new(&rt);
-    let Ok(bytes) = fetch(alloc, &mut shelf, "rows", 16_777_216) else {
-        return ExitCode::from(1);
-    };
-    let Ok(rows) = std::str::from_utf8(bytes.as_slice()) else {
-        return ExitCode::from(2);
-    };
-    let Ok(out) = put_rows(alloc, rows) else {
-        return ExitCode::from(3);
-    };
-    if rt.write_all(out.as_slice()).is_err() {
-        return ExitCode::from(4);
+fn show_formula(rt: &HostRuntime, kind: &[u8], clauses: &Clauses, more: &[u8]) {
+    if clauses.len() > MANY {
+        show(rt, b"too many");
+    } else {
+        show_more(rt, kind, clauses, more);
     }
-    ExitCode::from(0)
+}
+
+fn show_kind(rt: &HostRuntime, kind: &[u8], formula: &[u8], more: &[u8]) {
+    if kind == b"clause".as_slice() {
+        return show_clause(rt, formula);
+    }
+    match clauses_of(rt.alloc(), formula) {
+        Ok(clauses) => show_formula(rt, kind, &clauses, more),
+        Err(_) => show(rt, b"no memory"),
+    }
+}
+
+/// Shows what the row comes to.
+fn show_row(rt: &HostRuntime, row: &[u8]) {
+    let (kind, named) = split_at(b';', row);
+    let (name, about) = split_at(b';', named);
+    let (formula, more) = split_at(b';', about);
+    show(rt, name);
+    show(rt, b": ");
+    show_kind(rt, kind, formula, more);
+    show(rt, b"\n");
+}
+
+fn show_rows(rt: &HostRuntime, rows: &[u8]) {
+    let mut rest = rows;
+    for _ in 0..rows.len() {
+        let (row, later) = split_at(b'\n', rest);
+        if !row.is_empty() {
+            show_row(rt, row);
+        }
+        rest = later;
+    }
+}
+
+fn main(rt: HostRuntime) {
+    match file_of(&rt, "rows") {
+        Some(rows) => show_rows(&rt, rows.as_slice()),
+        None => show(&rt, b"no rows\n"),
+    }
 }

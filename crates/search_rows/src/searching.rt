@@ -1,14 +1,16 @@
 //! Rows on the search. What it finds is checked here once more: a model against each clause, and a
 //! log by the checker.
 
-use crate::writing::put_count;
-use proof_check::{Clause, Clauses, Log, check_chains, check_log};
-use sat_search::{Found, in_range, search};
-use sec_base::{Bits, NoMemory, put};
-use std::alloc::Global;
+ghost use Rattle.std.specs.Prelude.{◌≤◌, length};
 
-/// How many clauses, variables and chains a row has at most.
-const MANY: usize = 1_000_000;
+use crate::MANY;
+use crate::writing::show_counted;
+use proof_check::{Clause, Clauses, Log, check_chains, check_log};
+use row_text::{show, show_bit};
+use sat_search::{Found, in_range, search};
+use sec_base::Bits;
+use std::alloc::Global;
+use std::rt::HostRuntime;
 
 /// Whether a literal of the clause is true.
 fn is_met(bits: &Bits, clause: &Clause) -> bool {
@@ -31,81 +33,89 @@ fn are_met(bits: &Bits, clauses: &Clauses) -> bool {
     true
 }
 
-fn refutes(alloc: Global, clauses: &Clauses, log: &Log) -> bool {
-    clauses.len() <= MANY && log.len() <= MANY && check_log(alloc, clauses, log).is_ok()
+fn refutes(alloc: Global, clauses: &Clauses, log: &Log) -> bool
+    requires { length clauses.now ≤ 1000000 }
+{
+    log.len() <= MANY && check_log(alloc, clauses, log).is_ok()
 }
 
-fn derives(alloc: Global, clauses: &Clauses, log: &Log) -> bool {
-    clauses.len() <= MANY && log.len() <= MANY && check_chains(alloc, clauses, log).is_ok()
+fn derives(alloc: Global, clauses: &Clauses, log: &Log) -> bool
+    requires { length clauses.now ≤ 1000000 }
+{
+    log.len() <= MANY && check_chains(alloc, clauses, log).is_ok()
 }
 
-/// What is found, where the row is one that a search takes.
-fn found_of(alloc: Global, clauses: &Clauses, numbers: &[u32]) -> Result<Option<Found>, NoMemory> {
-    let [variables, conflicts] = numbers else {
-        return Ok(None);
-    };
-    let (variables, conflicts) = (*variables, *conflicts);
-    if clauses.len() > MANY || variables as usize > MANY || !in_range(clauses, variables) {
-        return Ok(None);
-    }
-    Ok(Some(search(alloc, clauses, variables, conflicts)?))
+fn show_holds(rt: &HostRuntime, holds: bool) {
+    show(
+        rt,
+        if holds {
+            b", holds".as_slice()
+        } else {
+            b", doesn't hold".as_slice()
+        },
+    );
 }
 
-/// What is found, with the bits of a model or the number of chains.
-pub(crate) fn put_found(
-    alloc: Global,
-    out: &mut Vec<u8>,
-    clauses: &Clauses,
-    numbers: &[u32],
-) -> Result<(), NoMemory> {
-    match found_of(alloc, clauses, numbers)? {
-        Some(Found::Model(bits)) => {
-            put(out, b"model ")?;
-            put_bits(out, &bits)?;
-            put_holds(out, are_met(&bits, clauses))
-        }
-        Some(Found::Refuted(log)) => {
-            put(out, b"refuted, ")?;
-            put_count(alloc, out, log.len(), b" chains")?;
-            put_holds(out, refutes(alloc, clauses, &log))
-        }
-        Some(Found::Limit(log)) => {
-            put(out, b"limit, ")?;
-            put_count(alloc, out, log.len(), b" chains")?;
-            put_holds(out, derives(alloc, clauses, &log))
-        }
-        None => put(out, b"out of range"),
-    }
-}
-
-/// What is found, in a word.
-pub(crate) fn put_solved(
-    alloc: Global,
-    out: &mut Vec<u8>,
-    clauses: &Clauses,
-    numbers: &[u32],
-) -> Result<(), NoMemory> {
-    match found_of(alloc, clauses, numbers)? {
-        Some(Found::Model(bits)) => {
-            put(out, b"model")?;
-            put_holds(out, are_met(&bits, clauses))
-        }
-        Some(Found::Refuted(log)) => {
-            put(out, b"refuted")?;
-            put_holds(out, refutes(alloc, clauses, &log))
-        }
-        Some(Found::Limit(_)) => put(out, b"limit"),
-        None => put(out, b"out of range"),
-    }
-}
-
-fn put_bits(out: &mut Vec<u8>, bits: &Bits) -> Result<(), NoMemory> {
+fn show_model(rt: &HostRuntime, bits: &Bits) {
+    show(rt, b" ");
     for bit in bits.as_slice() {
-        put(out, if *bit { b"1" } else { b"0" })?;
+        show_bit(rt, *bit);
     }
-    Ok(())
 }
 
-fn put_holds(out: &mut Vec<u8>, holds: bool) -> Result<(), NoMemory> {
-    put(out, if holds { b", holds" } else { b", doesn't hold" })
+fn show_chains(rt: &HostRuntime, log: &Log) {
+    show(rt, b", ");
+    show_counted(rt, log.len(), b" chains");
+}
+
+/// Shows what is found, in a word where it is brief, and else with the bits of a model or the number of chains. What a brief limit
+/// derives isn't looked at.
+fn show_found(rt: &HostRuntime, clauses: &Clauses, found: &Found, is_brief: bool)
+    requires { length clauses.now ≤ 1000000 }
+{
+    match found {
+        Found::Model(bits) => {
+            show(rt, b"model");
+            if !is_brief {
+                show_model(rt, bits);
+            }
+            show_holds(rt, are_met(bits, clauses));
+        }
+        Found::Refuted(log) => {
+            show(rt, b"refuted");
+            if !is_brief {
+                show_chains(rt, log);
+            }
+            show_holds(rt, refutes(rt.alloc(), clauses, log));
+        }
+        Found::Limit(log) => {
+            show(rt, b"limit");
+            if !is_brief {
+                show_chains(rt, log);
+                show_holds(rt, derives(rt.alloc(), clauses, log));
+            }
+        }
+    }
+}
+
+fn show_search(rt: &HostRuntime, clauses: &Clauses, variables: u32, conflicts: u32, is_brief: bool)
+    requires { length clauses.now ≤ 1000000 }
+{
+    if variables > 1_000_000 || !in_range(clauses, variables) {
+        return show(rt, b"out of range");
+    }
+    match search(rt.alloc(), clauses, variables, conflicts) {
+        Ok(found) => show_found(rt, clauses, &found, is_brief),
+        Err(_) => show(rt, b"no memory"),
+    }
+}
+
+/// Shows what a search of so many variables finds, with at most so many conflicts.
+pub(crate) fn show_searched(rt: &HostRuntime, clauses: &Clauses, numbers: &[u32], is_brief: bool)
+    requires { length clauses.now ≤ 1000000 }
+{
+    match numbers {
+        [variables, conflicts] => show_search(rt, clauses, *variables, *conflicts, is_brief),
+        _ => show(rt, b"out of range"),
+    }
 }

@@ -1,58 +1,49 @@
 //! Clauses and faults, in words.
 
 use proof_check::{ChainKind, Literal, ProofError};
-use sec_base::{NoMemory, put, put_number};
-use std::alloc::Global;
+use row_text::{show, show_number};
+use std::rt::HostRuntime;
 
-/// A clause as in DIMACS.
-pub(crate) fn put_literals(
-    alloc: Global,
-    out: &mut Vec<u8>,
-    literals: &[Literal],
-) -> Result<(), NoMemory> {
+fn show_literal(rt: &HostRuntime, literal: Literal) {
+    if !literal.is_positive() {
+        show(rt, b"-");
+    }
+    show_number(rt, u64::from(literal.variable()));
+    show(rt, b" ");
+}
+
+/// Shows a clause as in DIMACS.
+pub(crate) fn show_literals(rt: &HostRuntime, literals: &[Literal]) {
     for literal in literals {
-        if !literal.is_positive() {
-            put(out, b"-")?;
-        }
-        put_number(alloc, out, literal.variable() as u64)?;
-        put(out, b" ")?;
+        show_literal(rt, *literal);
     }
-    put(out, b"0")
+    show(rt, b"0");
 }
 
-/// A number, and what is counted.
-pub(crate) fn put_count(
-    alloc: Global,
-    out: &mut Vec<u8>,
-    number: usize,
-    what: &[u8],
-) -> Result<(), NoMemory> {
-    put_number(alloc, out, number as u64)?;
-    put(out, what)
+/// Shows a number, and what is counted.
+pub(crate) fn show_counted(rt: &HostRuntime, number: usize, what: &[u8]) {
+    show_number(rt, number as u64);
+    show(rt, what);
 }
 
-fn word_of_kind(kind: ChainKind) -> &'static str {
+fn word_of_kind(kind: ChainKind) -> &'static [u8] {
     match kind {
-        ChainKind::NoClause => "no such clause",
-        ChainKind::NoPivot => "no such pivot",
-        ChainKind::Tautology => "a tautology",
-        ChainKind::NotEmpty => "no empty clause",
+        ChainKind::NoClause => b"no such clause",
+        ChainKind::NoPivot => b"no such pivot",
+        ChainKind::Tautology => b"a tautology",
+        ChainKind::NotEmpty => b"no empty clause",
     }
 }
 
-/// Where a log breaks, and why.
-pub(crate) fn put_error(
-    alloc: Global,
-    out: &mut Vec<u8>,
-    error: ProofError,
-) -> Result<(), NoMemory> {
+/// Shows where a log breaks, and why.
+pub(crate) fn show_error(rt: &HostRuntime, error: ProofError) {
     match error {
         ProofError::Chain { at, kind } => {
-            put(out, b"broken at ")?;
-            put_number(alloc, out, at as u64)?;
-            put(out, b", ")?;
-            put(out, word_of_kind(kind).as_bytes())
+            show(rt, b"broken at ");
+            show_number(rt, u64::from(at));
+            show(rt, b", ");
+            show(rt, word_of_kind(kind));
         }
-        ProofError::NoMemory => put(out, b"no memory"),
+        ProofError::NoMemory => show(rt, b"no memory"),
     }
 }
