@@ -13,7 +13,7 @@ use Rattle.flat_net.proofs.Nets.{some_at}
 use Rattle.pair_runs.specs.declared.showing.Shown.{Shown}
 use Rattle.pair_runs.specs.Listing.{differ, is_difference, differences_from}
 use Rattle.pair_runs.proofs.Listed.{IsOf, IsIn, IsAmong, found_is, is_found, found_in_order}
-use Rattle.replay.proofs.Tests.{no_true_false, and_both, both_and}
+use Rattle.replay_header.proofs.Tests.{no_true_false, and_both, both_and}
 
 -- two bits differ exactly where the test says so
 differ_is : (l r : Bool) → differ l r ≡ true → l ≢ r
