@@ -16,7 +16,7 @@ use Rattle.port_matching.specs.Pairing.{AreNamedAt}
 use Rattle.pair_runs.proofs.Places.{pushed_at}
 use Rattle.name_tables.specs.Names.{latch_names}
 use Rattle.name_tables.proofs.Names.{latches_distinct, latch_name_at}
-use Rattle.cut_sides.specs.Opening.{HasBit, AreBitsOf}
+use Rattle.cut_sides.specs.Opening.{HasBit}
 
 -- the positions of the first so many names
 pub record AreFirst (n : NetView) (names : List (List ℕ)) (count : ℕ) (positions : List ℕ) : Type 0 where

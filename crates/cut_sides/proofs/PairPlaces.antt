@@ -1,5 +1,5 @@
 -- The pairs as places of the cut nets' outputs are those that the names give.
-use Rattle.std.proofs.Common.{◌≡◌, ℕ, zero, suc, ◌+◌, ◌<◌, ◌≤◌, Bool, List, [], ◌∷◌, ◌++◌, map, length, get_or, slice_get, Some, refl, sym, ◌∙◌, ap, subst, arith, inl, inr, ◌⊎◌, length-append}
+use Rattle.std.proofs.Common.{◌≡◌, ℕ, suc, ◌+◌, ◌<◌, List, [], ◌∷◌, map, length, slice_get, Some, refl, sym, ◌∙◌, ap, subst, arith, inl, inr, ◌⊎◌}
 use Rattle.std.specs.List.{AllZip}
 use Rattle.std.proofs.lemmas.List.{map-append}
 use Rattle.std.proofs.lemmas.Option.{slice_get_within, get_or_from_slice_get, same_Some}
@@ -7,24 +7,22 @@ use Rattle.circuit_theory.specs.Net.{HasDistinctNames}
 use Rattle.circuit_theory.proofs.Lists.{length-map, map-map, map_at}
 use Rattle.circuit_theory.proofs.Numbers.{slice_get-map}
 use Rattle.flat_net.specs.declared.parts.Port.{Port}
-use Rattle.flat_net.specs.declared.signals.Signal.{Signal}
 use Rattle.flat_net.specs.Cut.{IsCut, latch_at, as_output}
 use Rattle.flat_net.specs.Sound.{IsSound}
 use Rattle.flat_net.specs.View.{NetView, circuit_of}
 use Rattle.flat_net.proofs.CutNets.{slice_get-append_cases, slice_get-append_right}
 use Rattle.flat_net.proofs.Nets.{some_at}
 use Rattle.cycle_sim.proofs.Lists.{map_is, append_left}
-use Rattle.witness_report.specs.declared.witness.PairName.{PairName}
 use Rattle.witness_report.specs.declared.witness.PairName.TheVariants as pair
 use Rattle.port_matching.specs.declared.pairing.SignalPair.{SignalPair}
 use Rattle.port_matching.specs.Pairing.{AreNamedAt}
-use Rattle.port_matching.specs.Pairing.{IsOutputPair, AreNextPairs, ArePairs}
-use Rattle.sec_setup.specs.Pairs.{NamedPair, named_pairs, places_of}
+use Rattle.port_matching.specs.Pairing.{IsOutputPair, ArePairs}
+use Rattle.sec_setup.specs.Pairs.{named_pairs, places_of}
 use Rattle.port_matching.proofs.NamedPairs.{pairs_named}
 use Rattle.pair_runs.specs.declared.differences.OutputPair.{OutputPair}
 use Rattle.pair_runs.specs.Outputs.{no_port, output_at}
 use Rattle.pair_runs.specs.Showing.{ArePlacesOf}
-use Rattle.cut_sides.specs.Pairs.{IsNextAt, ArePairsAt, named_places}
+use Rattle.cut_sides.specs.Pairs.{ArePairsAt, named_places}
 
 -- lists of one length whose items stand in a relation, place by place
 zip_each : {X Y : Type 0} (R : X → Y → Type 0) (xs : List X) (ys : List Y) → length ys ≡ length xs → ((i : ℕ) (x : X) (y : Y) → slice_get xs i ≡ Some x → slice_get ys i ≡ Some y → R x y) → AllZip R xs ys

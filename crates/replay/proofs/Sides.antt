@@ -1,8 +1,8 @@
 -- One circuit of a replay: what its cut net's run shows holds of every run of the cut circuit over the stimulus.
-use Rattle.std.proofs.Common.{◌≡◌, ◌↔◌, ℕ, ◌<◌, Bool, true, false, List, map, length, slice_get, Option, Some, sym, ◌∙◌, ap, subst}
+use Rattle.std.proofs.Common.{◌≡◌, ◌↔◌, ℕ, Bool, true, false, List, map, length, slice_get, Option, Some, sym, subst}
 use Rattle.std.specs.List.{All, Contains}
 use Rattle.circuit_theory.specs.declared.Mode.{Mode}
-use Rattle.circuit_theory.specs.Circuit.{Circuit, IsLatch}
+use Rattle.circuit_theory.specs.Circuit.{IsLatch}
 use Rattle.circuit_theory.specs.Run.{Marked}
 use Rattle.circuit_theory.specs.Net.{HasDistinctNames}
 use Rattle.circuit_theory.specs.Agree.{cut, EnabledIn, IsSettled}

@@ -1,10 +1,9 @@
-use Rattle.std.proofs.Common.{◌≡◌, ◌∙◌, List, ℕ, length, slice_get, arith, refl}
-use Rattle.std.proofs.lemmas.List.Elements.{All-nil}
+use Rattle.std.proofs.Common.{arith}
 use Rattle.flat_net.proofs.Places.{All-at}
 use Rattle.std.specs.List.{Contains}
 use Rattle.sec_base.proofs.TableLemmas.{take-push}
 use Rattle.name_tables.specs.Names.{latch_names}
-use Rattle.cut_sides.proofs.Opened.{AreFirst, no_latch_absent, position_more, named_at}
+use Rattle.cut_sides.proofs.Opened.{no_latch_absent, position_more, named_at}
 use Rattle.cut_sides.proofs.opening.positions_of.Goals as goal
 
 pub unreachable-requires : goal.unreachable-requires

@@ -1,7 +1,6 @@
 -- The table has the output's name, at the place of B's output of that name.
-use Rattle.std.proofs.Common.{◌≡◌, ◌<◌, ◌∙◌, List, ℕ, length, slice_get, Some, refl, sym, ap, subst}
+use Rattle.std.proofs.Common.{◌≡◌, ◌∙◌, List, ℕ, slice_get, Some, refl, sym, ap, subst}
 use Rattle.std.specs.List.{Contains}
-use Rattle.flat_net.specs.declared.parts.Port.{Port}
 use Rattle.flat_net.proofs.Nets.{some_at}
 use Rattle.witness_report.specs.declared.witness.PairName.TheVariants as pair_name
 use Rattle.port_matching.proofs.Paired.{place_named-at, port_within}

@@ -1,5 +1,4 @@
-use Rattle.std.proofs.Common.{List, Bool, ℕ, sym, subst}
-use Rattle.pair_runs.specs.declared.differences.Difference.{Difference}
+use Rattle.std.proofs.Common.{List, sym, subst}
 use Rattle.pair_runs.specs.declared.differences.OutputPair.{OutputPair}
 use Rattle.pair_runs.specs.Feeds.{AreFound}
 use Rattle.pair_runs.specs.Showing.{ArePlacesOf}
