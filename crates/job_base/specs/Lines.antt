@@ -11,6 +11,7 @@ use Rattle.sim_report.specs.declared.refusal.Misfit.TheVariants as misfit
 use Rattle.flat_walk.specs.declared.error.FlatError.{FlatError}
 use Rattle.flat_walk.specs.declared.error.FlatError.TheVariants as flat
 use Rattle.sec_outcome.specs.Report.{report_text}
+use Rattle.replay_report.specs.Report.{replay_text}
 use Rattle.job_base.specs.declared.finding.File.{File}
 use Rattle.job_base.specs.declared.finding.File.TheVariants as file
 use Rattle.job_base.specs.declared.finding.LineFault.{LineFault}
@@ -99,8 +100,8 @@ abbrev pub unpaired_text : Side → List (List ℕ) → List ℕ
 unpaired_text side names = codes "unpaired " ++ side_word side ++ names_text names ++ 10 ∷ []
 
 -- it isn't found out whether the circuit's latch of this name has a load enable
-abbrev pub undecided_text : List ℕ → List ℕ
-undecided_text name = codes "limit recover A:" ++ name ++ codes " conflicts 20000\n"
+abbrev pub undecided_text : Side → List ℕ → List ℕ
+undecided_text side name = codes "limit recover " ++ side_word side ++ codes ":" ++ name ++ codes " conflicts 20000\n"
 
 -- the report of what was found
 abbrev pub finding_text : Finding → List ℕ
@@ -110,4 +111,5 @@ finding_text (finding.Cyclic side names) = cycle_text side names
 finding_text (finding.Unpaired side names) = unpaired_text side names
 finding_text (finding.Checked outcome settings) = report_text settings.conflicts outcome
 finding_text (finding.Done report) = report
-finding_text (finding.Undecided name proof) = undecided_text name
+finding_text (finding.Replayed differences) = replay_text differences
+finding_text (finding.Undecided side name proof) = undecided_text side name

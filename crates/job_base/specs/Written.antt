@@ -3,6 +3,7 @@ use Rattle.std.specs.Prelude.{◌≡◌, ℕ, List, [], ◌∷◌, Option}
 use Rattle.std.specs.List.{filter_map}
 use Rattle.sec_base.specs.Outside.{Takes, TakesFront}
 use Rattle.pair_decide.specs.declared.query.Proof.{Proof}
+use Rattle.pair_runs.specs.declared.differences.Difference.{Difference}
 use Rattle.sec_outcome.specs.declared.outcome.PairResult.{PairResult}
 use Rattle.sec_outcome.specs.declared.outcome.Verdict.{Verdict}
 use Rattle.sec_outcome.specs.declared.outcome.Verdict.TheVariants as verdict
@@ -20,6 +21,11 @@ verdict_status (verdict.Different w) = status.Different
 verdict_status (verdict.NotShown reason) = status.NotShown
 verdict_status (verdict.Limit at) = status.Limit
 
+-- the status of a replay with these differences
+abbrev pub replay_status : List Difference → StatusName
+replay_status [] = status.Equal
+replay_status (d ∷ more) = status.Different
+
 -- the status of a finding
 abbrev pub status_of : Finding → StatusName
 status_of finding.Words = status.Words
@@ -28,7 +34,8 @@ status_of (finding.Cyclic side names) = status.Cyclic
 status_of (finding.Unpaired side names) = status.Cyclic
 status_of (finding.Checked o settings) = verdict_status o.verdict
 status_of (finding.Done report) = status.Done
-status_of (finding.Undecided name proof) = status.Limit
+status_of (finding.Replayed differences) = replay_status differences
+status_of (finding.Undecided side name proof) = status.Limit
 
 -- the proofs of the queries that met the limit, in the order of the pairs
 abbrev pub proofs_of : Finding → List Proof
@@ -38,7 +45,8 @@ proofs_of (finding.Cyclic side names) = []
 proofs_of (finding.Unpaired side names) = []
 proofs_of (finding.Checked o settings) = filter_map (λ (r : PairResult). r.proof) o.pairs
 proofs_of (finding.Done report) = []
-proofs_of (finding.Undecided name proof) = proof ∷ []
+proofs_of (finding.Replayed differences) = []
+proofs_of (finding.Undecided side name proof) = proof ∷ []
 
 -- The report of a finding is taken whole, with the finding's status; or a front of it at a write fault; or nothing at want of memory.
 abbrev pub IsWrittenAs : Option (List ℕ) → Option (List ℕ) → Finding → List Proof → StatusName → Type 0

@@ -3,6 +3,7 @@
 use blif_read::ReadKind;
 use flat_walk::FlatError;
 use pair_decide::Proof;
+use pair_runs::Differences;
 use sec_base::{Side, Text, Word, Words};
 use sec_outcome::{Outcome, Settings};
 use sim_report::Misfit;
@@ -64,9 +65,11 @@ pub enum Finding {
     Checked(Outcome, Settings),
     /// The report of one circuit.
     Done(Text),
-    /// The name of the circuit's latch of which it wasn't found out within the limit of conflicts whether it has a load enable, and
-    /// the proof of that.
-    Undecided(Word, Proof),
+    /// The differences of two circuits that were run on one stimulus.
+    Replayed(Differences),
+    /// The circuit and the name of its latch of which it wasn't found out within the limit of conflicts whether it has a load enable,
+    /// and the proof of that.
+    Undecided(Side, Word, Proof),
 }
 
 /// Why the work on the files ends without a report.

@@ -11,7 +11,9 @@ use crate::finding::Finding;
 use crate::status::{Proofs, Status, StatusName};
 use crate::writing::{cycle_report, refusal_report, undecided_text, unpaired_report, words_report};
 use pair_decide::Proof;
-use sec_base::{NoMemory, Sink, Text, Word};
+use pair_runs::Differences;
+use replay_report::replay_report;
+use sec_base::{NoMemory, Side, Sink, Text, Word};
 use sec_outcome::{Outcome, PairResult, PairResults, Settings, Verdict, report};
 use std::alloc::Global;
 
@@ -26,6 +28,17 @@ fn verdict_status(verdict: &Verdict) -> StatusName
     }
 }
 
+/// Whether there are differences, as a status.
+#[tactic(auto, using(crate::proofs::Replays::none_status, crate::proofs::Replays::some_status))]
+fn replay_status(differences: &Differences) -> StatusName
+    ensures { result ≡ Rattle.job_base.specs.Written.replay_status differences.now }
+{
+    if differences.len() == 0 {
+        return StatusName::Equal;
+    }
+    StatusName::Different
+}
+
 fn status_of(finding: &Finding) -> StatusName
     ensures { result ≡ status_of finding.now }
 {
@@ -35,7 +48,8 @@ fn status_of(finding: &Finding) -> StatusName
         Finding::Cyclic(_, _) | Finding::Unpaired(_, _) => StatusName::Cyclic,
         Finding::Checked(outcome, _) => verdict_status(&outcome.verdict),
         Finding::Done(_) => StatusName::Done,
-        Finding::Undecided(_, _) => StatusName::Limit,
+        Finding::Replayed(differences) => replay_status(differences),
+        Finding::Undecided(_, _, _) => StatusName::Limit,
     }
 }
 
@@ -94,13 +108,18 @@ fn without_proofs(alloc: Global, made: Result<Text, NoMemory>) -> Result<(Text, 
 }
 
 /// The report of a latch of the circuit whose query met the limit, and the proof of that.
-fn undecided_report(alloc: Global, name: &Word, proof: Proof) -> Result<(Text, Proofs), NoMemory>
-    ensures text { IfOk result (λ made. made.0 ≡ undecided_text name.now) }
+fn undecided_report(
+    alloc: Global,
+    side: Side,
+    name: &Word,
+    proof: Proof,
+) -> Result<(Text, Proofs), NoMemory>
+    ensures text { IfOk result (λ made. made.0 ≡ undecided_text side name.now) }
     ensures proofs { IfOk result (λ made. made.1 ≡ proof ∷ []) }
 {
     let mut proofs = Proofs::new(alloc);
     proofs.push(proof)?;
-    let text = undecided_text(alloc, name)?;
+    let text = undecided_text(alloc, side, name)?;
     Ok((text, proofs))
 }
 
@@ -118,7 +137,10 @@ fn report_of(alloc: Global, finding: Finding) -> Result<(Text, Proofs), NoMemory
         }
         Finding::Checked(outcome, settings) => comparison_report(alloc, outcome, &settings),
         Finding::Done(text) => Ok((text, Proofs::new(alloc))),
-        Finding::Undecided(name, proof) => undecided_report(alloc, &name, proof),
+        Finding::Replayed(differences) => {
+            without_proofs(alloc, replay_report(alloc, &differences))
+        }
+        Finding::Undecided(side, name, proof) => undecided_report(alloc, side, &name, proof),
     }
 }
 

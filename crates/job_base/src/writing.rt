@@ -216,11 +216,12 @@ pub fn unpaired_report(alloc: Global, side: Side, names: &Words) -> Result<Text,
 }
 
 /// The report that it isn't found out whether the circuit's latch of this name has a load enable.
-pub fn undecided_text(alloc: Global, name: &Word) -> Result<Text, NoMemory>
-    ensures { IfOk result (λ text. text ≡ undecided_text name.now) }
+pub fn undecided_text(alloc: Global, side: Side, name: &Word) -> Result<Text, NoMemory>
+    ensures { IfOk result (λ text. text ≡ undecided_text side name.now) }
 {
     let mut text = Vec::new(alloc);
-    put_behind(&mut text, b"limit recover A:", name.as_slice())?;
+    put_behind(&mut text, b"limit recover ", side_word(side).as_bytes())?;
+    put_behind(&mut text, b":", name.as_slice())?;
     put(&mut text, b" conflicts 20000\n")?;
     Ok(Seq::from_vec(text))
 }

@@ -18,10 +18,11 @@ use Rattle.sec_check.specs.declared.error.CompareError.TheVariants as compare_er
 use Rattle.sec_check.specs.Compared.{Compared}
 use Rattle.sec_files.specs.declared.loading.LoadError.{LoadError}
 use Rattle.sec_files.specs.declared.loading.LoadError.TheVariants as load_error
-use Rattle.sec_files.specs.Loading.{Loads, LoadFails, FlattenFails, IsTooLong, HasFault, HasDesignFault}
+use Rattle.sec_files.specs.Loading.{Loads, LoadFails, IsTooLong, HasFault, HasDesignFault}
 use Rattle.job_files.specs.Reading.{Held}
 use Rattle.job_files.specs.Ends.{load_end}
-use Rattle.job_files.proofs.Reading.{first_failed, second_failed, is_loaded, rose_before}
+use Rattle.job_files.proofs.Loading.{later_fails}
+use Rattle.job_files.proofs.Reading.{first_failed, second_failed, is_loaded}
 use Rattle.job_check.specs.Check.{Check}
 use Rattle.job_check.specs.Ends.{compare_end, EndsBeside, FoundOf}
 
@@ -100,15 +101,6 @@ nets_end held before now check a b (Err (compare_error.Cyclic side names)) l m c
 nets_end held before now check a b (Err (compare_error.Unpaired side names)) l m c = both_told (held check.left) (held check.right) _ _ _ (λ x y p q. (a, b, p, q, c)) l m
 nets_end held before now check a b (Err (compare_error.TooLarge side)) l m c = both_told (held check.left) (held check.right) _ _ _ (λ x y p q. (a, b, p, q, c)) l m
 nets_end held before now check a b (Err compare_error.NoMemory) l m c = tt
-
--- a load that failed later failed by what was held before
-pub later_fails : (later held : Option (List ℕ)) (a b c : ℕ) (error : LoadError) → later ≡ held → a ≤ b → LoadFails later (Rose b c) error → LoadFails held (Rose a c) error
-later_fails later held a b c (load_error.Fetch fetch_error.Failed) same grew h = rose_before a b c grew h
-later_fails later held a b c (load_error.Fetch fetch_error.TooLong) same grew h = subst (λ (o : Option (List ℕ)). IfSome o IsTooLong) same h
-later_fails later held a b c (load_error.Fetch fetch_error.NoMemory) same grew h = tt
-later_fails later held a b c (load_error.Read (read_error.At line kind)) same grew h = subst (λ (o : Option (List ℕ)). IfSome o (λ text. HasFault text line kind)) same h
-later_fails later held a b c (load_error.Read read_error.NoMemory) same grew h = tt
-later_fails later held a b c (load_error.Flat e) same grew h = subst (λ (o : Option (List ℕ)). FlattenFails o e) same h
 
 -- what is found beside A's net is found of both files; what is held and the faults of B's are those of a later time
 pub beside_ends : (held : Held) (before now : List ℕ → ℕ) (check : Check) (a : NetView) (later : Option (List ℕ)) (middle : ℕ) (r : Result Finding Stop) → IfSome (held check.left) (λ x. Loads x a) →

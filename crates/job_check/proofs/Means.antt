@@ -68,7 +68,8 @@ equal_found held check before now (finding.Refused r) proofs h w = absurd (let e
 equal_found held check before now (finding.Cyclic side names) proofs h w = absurd (let e = w.1 in cc)
 equal_found held check before now (finding.Unpaired side names) proofs h w = absurd (let e = w.1 in cc)
 equal_found held check before now (finding.Done report) proofs h w = absurd h
-equal_found held check before now (finding.Undecided name proof) proofs h w = absurd h
+equal_found held check before now (finding.Replayed differences) proofs h w = absurd h
+equal_found held check before now (finding.Undecided side name proof) proofs h w = absurd h
 equal_found held check before now (finding.Checked o s) proofs h w =
     let v = equal_verdict o.verdict w.1 in
     over_nets held check _ (λ x y. TextsAgree x y check.settings.conflicts before now) (λ x y a b left right compared. texts_agree before now check.settings o (report_of before now o s check h.0 w.2) x y a b left right compared v) h.1
@@ -80,7 +81,8 @@ different_found held check before now (finding.Refused r) proofs h w = absurd (l
 different_found held check before now (finding.Cyclic side names) proofs h w = absurd (let e = w.1 in cc)
 different_found held check before now (finding.Unpaired side names) proofs h w = absurd (let e = w.1 in cc)
 different_found held check before now (finding.Done report) proofs h w = absurd h
-different_found held check before now (finding.Undecided name proof) proofs h w = absurd h
+different_found held check before now (finding.Replayed differences) proofs h w = absurd h
+different_found held check before now (finding.Undecided side name proof) proofs h w = absurd h
 different_found held check before now (finding.Checked o s) proofs h w =
     let v = different_verdict o.verdict w.1 in
     over_nets held check _ (λ x y. TextsDiffer x y check.settings.conflicts before now) (λ x y a b left right compared. texts_differ before now check.settings o (report_of before now o s check h.0 w.2) x y a b left right compared v.0 v.1) h.1
@@ -92,7 +94,8 @@ not_shown_found held check before now (finding.Refused r) proofs h w = absurd (l
 not_shown_found held check before now (finding.Cyclic side names) proofs h w = absurd (let e = w.1 in cc)
 not_shown_found held check before now (finding.Unpaired side names) proofs h w = absurd (let e = w.1 in cc)
 not_shown_found held check before now (finding.Done report) proofs h w = absurd h
-not_shown_found held check before now (finding.Undecided name proof) proofs h w = absurd h
+not_shown_found held check before now (finding.Replayed differences) proofs h w = absurd h
+not_shown_found held check before now (finding.Undecided side name proof) proofs h w = absurd h
 not_shown_found held check before now (finding.Checked o s) proofs h w =
     let v = not_shown_verdict o.verdict w.1 in
     over_nets held check _ (λ x y. TextsNotShown x y check.settings before now) (λ x y a b left right compared. texts_not_shown before now check.settings o (report_of before now o s check h.0 w.2) x y a b left right compared v.0 v.1) h.1
@@ -104,7 +107,8 @@ limit_found held check before now (finding.Refused r) proofs h w = absurd (let e
 limit_found held check before now (finding.Cyclic side names) proofs h w = absurd (let e = w.1 in cc)
 limit_found held check before now (finding.Unpaired side names) proofs h w = absurd (let e = w.1 in cc)
 limit_found held check before now (finding.Done report) proofs h w = absurd h
-limit_found held check before now (finding.Undecided name proof) proofs h w = absurd h
+limit_found held check before now (finding.Replayed differences) proofs h w = absurd h
+limit_found held check before now (finding.Undecided side name proof) proofs h w = absurd h
 limit_found held check before now (finding.Checked o s) proofs h w =
     let v = limit_verdict o.verdict w.1 in
     over_nets held check _ (λ x y. TextsUndecided x y check.settings proofs before now) (λ x y a b left right compared. texts_undecided before now check.settings o (report_of before now o s check h.0 w.2) x y a b left right compared proofs v.0 v.1 w.0) h.1
@@ -123,7 +127,8 @@ no_done held check (finding.Cyclic side names) h e = cc
 no_done held check (finding.Unpaired side names) h e = cc
 no_done held check (finding.Checked o s) h e = no_done_verdict o.verdict e
 no_done held check (finding.Done report) h e = h
-no_done held check (finding.Undecided name proof) h e = h
+no_done held check (finding.Replayed differences) h e = h
+no_done held check (finding.Undecided side name proof) h e = h
 
 -- what the status means of two texts that are compared
 pub check_means : (held : Held) (check : Check) (before now : Option (List ℕ)) (f : Finding) (proofs : List Proof) (name : StatusName) →

@@ -48,7 +48,8 @@ IsFoundOf held check (finding.Cyclic side names) = OfNets held check (λ a b. Co
 IsFoundOf held check (finding.Unpaired side names) = OfNets held check (λ a b. Compared a b check.settings (Err (compare_error.Unpaired side names)))
 IsFoundOf held check (finding.Checked o settings) = (settings ≡ check.settings) × OfNets held check (λ a b. Compared a b check.settings (Ok o))
 IsFoundOf held check (finding.Done report) = ⊥
-IsFoundOf held check (finding.Undecided name proof) = ⊥
+IsFoundOf held check (finding.Replayed differences) = ⊥
+IsFoundOf held check (finding.Undecided side name proof) = ⊥
 
 -- what is found of a comparison: what is true of its files, or, where it isn't built, that
 abbrev pub IsCheckFound : Held → Check → Finding → Type 0

@@ -1,13 +1,11 @@
 -- Where a circuit can be reported on, and a stimulus and a power word fit it, what is found is the report, in the event mode also the
 -- limit of a query.
 use Rattle.std.specs.Prelude.{IsSomeAnd}
-use Rattle.std.proofs.Common.{◌≡◌, ℕ, Bool, List, refl, sym, ◌∙◌, ap, arith, Option, Some}
+use Rattle.std.proofs.Common.{◌≡◌, ℕ, List, refl, sym, ◌∙◌, ap, arith, Option, Some}
 use Rattle.std.proofs.lemmas.Option.{none-some}
 use Rattle.circuit_theory.specs.declared.Mode.{Mode}
 use Rattle.circuit_theory.specs.declared.Mode.TheVariants.{Plain, Event}
 use Rattle.circuit_theory.specs.declared.Side.TheVariants.{A, B}
-use Rattle.witness_report.specs.Form.{IsForm, HasNoHeader, IsBadRow}
-use Rattle.witness_report.proofs.Forms.{form_lines, one_form, no_bad_line}
 use Rattle.flat_net.specs.View.{NetView}
 use Rattle.sim_report.specs.Checks.{first_misfit}
 use Rattle.pair_decide.specs.declared.query.Proof.{Proof}
@@ -24,20 +22,9 @@ use Rattle.circuit_jobs.specs.Jobs.{IsUnknown}
 use Rattle.circuit_jobs.proofs.Ended.{large_or_light}
 use Rattle.sec_files.specs.Loading.{IsAccepted, Loads, IsTooLong, HasFault, HasDesignFault}
 use Rattle.sec_files.specs.Stimuli.{IsStimulus, HasBadHeader, HasBadRow}
+use Rattle.job_files.proofs.Accepted.{has_header, no_bad_row, same_names}
 use Rattle.job_files.proofs.Reading.{some_and, if_told}
 use Rattle.job_circuit.specs.Reports.{IsCircuitRefusal, IsGraphRefusal, IsGraphFound, IsSimRefusal, IsSimFound, CanBeTold, CanBeRun, IsReported, IsGraphComplete, IsSimComplete}
-
--- a form has a header and no bad row, and a text is the form of one stimulus alone
-has_header : (text : List ℕ) (names : List (List ℕ)) (rows : List (List Bool)) → IsForm text names rows → HasNoHeader text → ⊥
-has_header text names rows form none = none names _ form.names_are (form_lines names rows form.names_are text form.spelled)
-
-no_bad_row : (text : List ℕ) (names : List (List ℕ)) (rows : List (List Bool)) (line : ℕ) → IsForm text names rows → IsBadRow text line → ⊥
-no_bad_row text names rows line form bad =
-    no_bad_line text bad.names names _ rows line bad.names_are bad.lines form (record { rows = bad.rows; line = bad.line; more = bad.more; lines_are = refl; rows_are = bad.rows_are; faulty = bad.faulty; place = bad.place })
-
-same_names : (text : List ℕ) (names others : List (List ℕ)) (rows more : List (List Bool)) → IsForm text names rows → IsForm text others more → names ≡ others
-same_names text names others rows more form another =
-    let one = one_form text names others rows more form.names_are form.rows_are (form_lines names rows form.names_are text form.spelled) another in one.0
 
 -- an accepted circuit is not refused
 module _ (circuit : Option (List ℕ)) (x : List ℕ) (is : circuit ≡ Some x) (accepted : IsAccepted x) where
@@ -84,7 +71,9 @@ module _ (mode : Mode) (circuit : Option (List ℕ)) (x : List ℕ) (is : circui
   graph_reported (finding.Unpaired side names) h = absurd h
   graph_reported (finding.Checked o s) h = absurd h
   graph_reported (finding.Done report) h = tt
-  graph_reported (finding.Undecided name proof) h = limit_reported mode h.net name proof h.unknown
+  graph_reported (finding.Replayed differences) h = absurd h
+  graph_reported (finding.Undecided A name proof) h = limit_reported mode h.net name proof h.unknown
+  graph_reported (finding.Undecided B name proof) h = absurd h
 
 -- nor is a stimulus that fits it
 module _ (mode : Mode) (circuit stimulus power : Option (List ℕ)) (x y : List ℕ) (is : circuit ≡ Some x) (told : stimulus ≡ Some y) (can : CanBeRun mode x y power) where
@@ -117,7 +106,9 @@ module _ (mode : Mode) (circuit stimulus power : Option (List ℕ)) (x y : List 
   run_reported (finding.Unpaired side names) h = absurd h
   run_reported (finding.Checked o s) h = absurd h
   run_reported (finding.Done report) h = tt
-  run_reported (finding.Undecided name proof) h = limit_reported mode h.net name proof h.unknown
+  run_reported (finding.Replayed differences) h = absurd h
+  run_reported (finding.Undecided A name proof) h = limit_reported mode h.net name proof h.unknown
+  run_reported (finding.Undecided B name proof) h = absurd h
 
 -- so what is found has the status of the report, or of the limit
 pub graph_complete : (mode : Mode) (circuit : Option (List ℕ)) (f : Finding) → IsGraphFound mode circuit f → IsGraphComplete mode circuit (status_of f)

@@ -18,7 +18,7 @@ use Rattle.job_circuit.specs.Reports.{graph_paths, sim_paths, IsGraphFound, IsSi
 -- what is found where it isn't found out what a latch is
 abbrev pub kinds_end : KindsError → Result Finding Stop
 kinds_end kinds_error.TooLarge = Ok (finding.Refused (refusal.TooLarge A))
-kinds_end (kinds_error.Limit name proof) = Ok (finding.Undecided name proof)
+kinds_end (kinds_error.Limit name proof) = Ok (finding.Undecided A name proof)
 kinds_end kinds_error.NoMemory = Err stop.NoMemory
 
 -- what is found of a latch graph
@@ -31,7 +31,7 @@ abbrev pub sim_end : Result (List ℕ) SimulateError → Result Finding Stop
 sim_end (Ok report) = Ok (finding.Done report)
 sim_end (Err (simulate_error.Misfit m)) = Ok (finding.Refused (refusal.Misfit m))
 sim_end (Err simulate_error.TooLarge) = Ok (finding.Refused (refusal.TooLarge A))
-sim_end (Err (simulate_error.Limit name proof)) = Ok (finding.Undecided name proof)
+sim_end (Err (simulate_error.Limit name proof)) = Ok (finding.Undecided A name proof)
 sim_end (Err simulate_error.NoMemory) = Err stop.NoMemory
 
 -- the work on a latch graph ends with a finding that is right, or by a read that failed, or at want of memory

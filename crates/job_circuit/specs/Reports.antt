@@ -64,7 +64,7 @@ IsGraphRefusal mode circuit other = IsCircuitRefusal circuit other
 abbrev pub IsGraphFound : Mode → Option (List ℕ) → Finding → Type 0
 IsGraphFound mode circuit (finding.Done report) = ReportsGraph mode circuit report
 IsGraphFound mode circuit (finding.Refused r) = IsGraphRefusal mode circuit r
-IsGraphFound mode circuit (finding.Undecided name proof) = HasUnknown mode circuit (kinds_error.Limit name proof)
+IsGraphFound mode circuit (finding.Undecided A name proof) = HasUnknown mode circuit (kinds_error.Limit name proof)
 IsGraphFound mode circuit other = ⊥
 
 -- the report is that of the run of the net that the circuit's text loads as, over the stimulus that the other text spells, from the
@@ -111,7 +111,7 @@ IsSimRefusal mode circuit stimulus power other = IsCircuitRefusal circuit other
 abbrev pub IsSimFound : Mode → Option (List ℕ) → Option (List ℕ) → Option (List ℕ) → Finding → Type 0
 IsSimFound mode circuit stimulus power (finding.Done report) = ReportsRun mode circuit stimulus power report
 IsSimFound mode circuit stimulus power (finding.Refused r) = IsSimRefusal mode circuit stimulus power r
-IsSimFound mode circuit stimulus power (finding.Undecided name proof) = HasUnknownRun mode circuit stimulus power (kinds_error.Limit name proof)
+IsSimFound mode circuit stimulus power (finding.Undecided A name proof) = HasUnknownRun mode circuit stimulus power (kinds_error.Limit name proof)
 IsSimFound mode circuit stimulus power other = ⊥
 
 -- the whole report of the latch graph is taken
@@ -128,7 +128,7 @@ pub record TakesLimit (mode : Mode) (circuit : Option (List ℕ)) (proofs : List
   pub proof : Proof
   pub kept : proofs ≡ proof ∷ []
   pub shown : HasUnknown mode circuit (kinds_error.Limit name proof)
-  pub printed : Takes before now (undecided_text name)
+  pub printed : Takes before now (undecided_text A name)
 
 -- the circuit's text is accepted, and it can be found out what its latches are
 pub record CanBeTold (mode : Mode) (x : List ℕ) : Type 0 where

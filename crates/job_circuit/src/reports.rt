@@ -47,7 +47,7 @@ fn graph_end(told: Result<Text, KindsError>) -> Result<Finding, Stop>
     match told {
         Ok(text) => Ok(Finding::Done(text)),
         Err(KindsError::TooLarge) => Ok(Finding::Refused(Refusal::TooLarge(Side::A))),
-        Err(KindsError::Limit(name, proof)) => Ok(Finding::Undecided(name, proof)),
+        Err(KindsError::Limit(name, proof)) => Ok(Finding::Undecided(Side::A, name, proof)),
         Err(KindsError::NoMemory) => Err(Stop::NoMemory),
     }
 }
@@ -60,7 +60,7 @@ fn sim_end(simulated: Result<Text, SimulateError>) -> Result<Finding, Stop>
         Ok(text) => Ok(Finding::Done(text)),
         Err(SimulateError::Misfit(misfit)) => Ok(Finding::Refused(Refusal::Misfit(misfit))),
         Err(SimulateError::TooLarge) => Ok(Finding::Refused(Refusal::TooLarge(Side::A))),
-        Err(SimulateError::Limit(name, proof)) => Ok(Finding::Undecided(name, proof)),
+        Err(SimulateError::Limit(name, proof)) => Ok(Finding::Undecided(Side::A, name, proof)),
         Err(SimulateError::NoMemory) => Err(Stop::NoMemory),
     }
 }

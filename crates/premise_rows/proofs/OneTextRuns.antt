@@ -74,7 +74,8 @@ module _ (held : Held) (check : Check) (h : CanMeetItself held check) where
   found_equal (finding.Unpaired side names) found is = absurd is
   found_equal (finding.Checked o s) found is = subst (λ (v : Verdict). IsEqualAnswer (verdict_status v)) (sym (checked o found.1)) tt
   found_equal (finding.Done report) found is = absurd found
-  found_equal (finding.Undecided name proof) found is = absurd found
+  found_equal (finding.Replayed differences) found is = absurd found
+  found_equal (finding.Undecided side name proof) found is = absurd found
 
 -- what is found of a job
 check_equal : (held : Held) (check : Check) (f : Finding) (mode : Mode) → WhereBuilt mode (CanMeetItself held check) ⊥ → WhereBuilt mode (IsFoundOf held check f) (f ≡ finding.Refused refusal.NotBuilt) →

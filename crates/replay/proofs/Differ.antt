@@ -1,19 +1,16 @@
 -- The differences that are found are those of every two runs over the stimulus.
-use Rattle.std.proofs.Common.{◌≡◌, ◌≢◌, ◌↔◌, ℕ, ◌+◌, ◌<◌, Bool, true, false, cond, List, [], ◌++◌, map, length, slice_get, get_or, Some, refl, sym, ◌∙◌, ap, subst, arith}
-use Rattle.std.specs.Prelude.{◌&&◌, not}
-use Rattle.std.specs.List.{Contains}
-use Rattle.std.proofs.lemmas.Option.{slice_get_within, slice_get-get_or, same_Some}
+use Rattle.std.proofs.Common.{◌≡◌, ◌≢◌, ◌↔◌, ℕ, ◌<◌, Bool, true, false, List, length, slice_get, Some, refl, sym, ◌∙◌, ap, subst, arith}
+use Rattle.std.specs.Prelude.{◌&&◌}
+use Rattle.std.proofs.lemmas.Option.{slice_get_within}
 use Rattle.circuit_theory.specs.declared.Mode.{Mode}
 use Rattle.circuit_theory.specs.Circuit.{Circuit}
 use Rattle.circuit_theory.specs.Agree.{PairAt, IsSettled}
 use Rattle.circuit_theory.specs.Replay.{Difference, AreDifferences}
-use Rattle.circuit_theory.proofs.Lists.{length-map, map_at}
-use Rattle.circuit_theory.proofs.Numbers.{slice_get-map}
 use Rattle.flat_net.proofs.Nets.{some_at}
 use Rattle.pair_runs.specs.declared.showing.Shown.{Shown}
-use Rattle.pair_runs.specs.Listing.{differ, is_difference, differences_from}
-use Rattle.pair_runs.proofs.Listed.{IsOf, IsIn, IsAmong, found_is, is_found, found_in_order}
-use Rattle.replay.proofs.Tests.{no_true_false, and_both, both_and}
+use Rattle.pair_runs.specs.Listing.{differ, differences_from}
+use Rattle.pair_runs.proofs.Listed.{IsAmong, found_is, is_found, found_in_order}
+use Rattle.replay_header.proofs.Tests.{no_true_false, and_both, both_and}
 
 -- two bits differ exactly where the test says so
 differ_is : (l r : Bool) → differ l r ≡ true → l ≢ r

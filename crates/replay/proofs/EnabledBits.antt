@@ -1,19 +1,18 @@
 -- The bits of the latches that are left in a cut net mark those that count as enabled in the cut circuit.
-use Rattle.std.proofs.Common.{◌≡◌, ℕ, ◌<◌, Bool, true, false, List, length, slice_get, Some, refl, sym, ◌∙◌, ap, subst, arith, inl, inr, ◌⊎◌}
-use Rattle.std.proofs.lemmas.Option.{slice_get_within, same_Some}
+use Rattle.std.proofs.Common.{◌≡◌, ℕ, Bool, true, List, slice_get, Some, sym, ◌∙◌, subst, arith, inl, inr, ◌⊎◌}
+use Rattle.std.proofs.lemmas.Option.{slice_get_within}
 use Rattle.circuit_theory.specs.declared.Mode.{Mode}
 use Rattle.circuit_theory.specs.declared.Mode.TheVariants.{Plain, Event}
-use Rattle.circuit_theory.specs.Circuit.{Circuit, Latch as latch_equation, IsLatch}
+use Rattle.circuit_theory.specs.Circuit.{Latch as latch_equation, IsLatch}
 use Rattle.circuit_theory.specs.Net.{HasDistinctNames}
 use Rattle.circuit_theory.specs.Agree.{cut, EnabledIn}
 use Rattle.event_laws.proofs.CutParts.{enabled_uncut, enabled_cut}
 use Rattle.flat_net.specs.declared.parts.LatchAt.{LatchAt}
-use Rattle.flat_net.specs.Cut.{IsCutCircuit}
 use Rattle.flat_net.specs.Sound.{IsSound}
 use Rattle.flat_net.specs.View.{NetView, circuit_of, equation_of_latch}
 use Rattle.flat_net.proofs.Nets.{some_at, equation_from, OfGate, OfLatch, sound_is_net}
 use Rattle.latch_cone.specs.Cones.{IsMarkedBy, MarksEnabled}
-use Rattle.replay.specs.Opening.{HasBit, AreBitsOf}
+use Rattle.cut_sides.specs.Opening.{AreBitsOf}
 use Rattle.replay.proofs.FreeInputs.{no_gate_latch}
 use Rattle.replay.proofs.FreeMarks.{AreOne, one_equation}
 

@@ -1,14 +1,10 @@
 -- The differences where the header fits, by the table of its names and that of the opened latches.
-use Rattle.std.proofs.Common.{◌≡◌, ◌∙◌, ◌≤◌, ◌^◌, ℕ, suc, Bool, true, false, cond, List, [], ◌∷◌, Result, Ok, Err, length, sym, ap, subst, arith}
+use Rattle.std.proofs.Common.{◌≡◌, ◌∙◌, ℕ, Bool, List, [], Result, Ok, Err, length, sym, ap, subst}
 use Rattle.std.specs.Prelude.{IfOk}
-use Rattle.std.specs.List.{All, Contains, filter}
-use Rattle.circuit_theory.proofs.Lists.{Contains-filter, length-map}
+use Rattle.std.specs.List.{All}
 use Rattle.circuit_theory.specs.declared.Mode.{Mode}
 use Rattle.circuit_theory.specs.Net.{HasDistinctNames}
 use Rattle.sec_base.specs.Table.{AreDistinct}
-use Rattle.flat_net.specs.declared.parts.LatchAt.{LatchAt}
-use Rattle.flat_net.specs.Cut.{IsCut, exposed_names, stays}
-use Rattle.flat_net.specs.Comparable.{IsComparable}
 use Rattle.flat_net.specs.Sound.{IsSound}
 use Rattle.flat_net.specs.View.{NetView, circuit_of}
 use Rattle.latch_cone.specs.Cones.{MarksEnabled}
@@ -17,12 +13,13 @@ use Rattle.pair_runs.specs.declared.differences.Difference.{Difference}
 use Rattle.pair_runs.specs.declared.differences.OutputPair.{OutputPair}
 use Rattle.pair_runs.specs.Feeds.{AreFound}
 use Rattle.pair_runs.specs.Showing.{ArePlacesOf}
-use Rattle.replay.specs.Header.{FitsBoth, opened, is_opened, latch_names}
-use Rattle.replay.specs.Pairs.{ArePairsAt}
-use Rattle.replay.specs.Replay.{IsCutSide, IsReplay, AreNamesOf}
+use Rattle.replay_header.specs.Header.{FitsBoth, opened}
+use Rattle.cut_sides.specs.Pairs.{ArePairsAt}
+use Rattle.cut_sides.specs.Opening.{IsCutSide, AreNamesOf}
+use Rattle.replay.specs.Replay.{IsReplay}
 use Rattle.replay.proofs.Names.{opened_latches}
-use Rattle.replay.proofs.PairPlaces.{outputs_there}
-use Rattle.replay.proofs.Uncut.{uncut_side}
+use Rattle.cut_sides.proofs.PairPlaces.{outputs_there}
+use Rattle.cut_sides.proofs.Uncut.{uncut_side}
 use Rattle.replay.proofs.Whole.{is_replay}
 
 pub if_ok : {X E : Type 0} {P Q : X → Type 0} (r : Result X E) → ((x : X) → P x → Q x) → IfOk r P → IfOk r Q
@@ -46,10 +43,7 @@ names_of_left a b header names fits is = subst (AreNamesOf a) (sym is) (opened_l
 pub names_of_right : (a b : NetView) (header names : List (List ℕ)) → FitsBoth a b header → names ≡ opened a b header → AreNamesOf b names
 names_of_right a b header names fits is = subst (AreNamesOf b) (sym is) (opened_latches a b header fits).1
 
--- the latches that are left are the net's
-pub left_in : (n m : NetView) (positions : List ℕ) → IsCut n m positions → (l : LatchAt) → Contains m.latches l → Contains n.latches l
-left_in n m positions parts l h = Contains-filter (stays (exposed_names n positions)) n.latches l (subst (λ (ls : List LatchAt). Contains ls l) parts.latches h)
-
+-- the differences of the cut nets are those of the replay
 pub fitting : (mode : Mode) (a b : NetView) → IsSound a → IsSound b → HasDistinctNames (circuit_of a) → HasDistinctNames (circuit_of b) → (header table names : List (List ℕ)) (rows : List (List Bool)) → All (λ row. length row ≡ length header) rows → AreDistinct header →
     InterfacesMatch a b → table ≡ header → FitsBoth a b table → names ≡ opened a b table → (enabled_a enabled_b : List Bool) → MarksEnabled mode a enabled_a → MarksEnabled mode b enabled_b →
     (m k : NetView) → IsSound m → IsSound k → (bits_m bits_k : List Bool) → IsCutSide a enabled_a names m bits_m → IsCutSide b enabled_b names k bits_k → (pairs : List OutputPair) → ArePairsAt a b names pairs →
@@ -60,20 +54,3 @@ fitting mode a b sa sb na nb header table names rows wide once matches same fits
   where
     e : names ≡ opened a b header
     e = named ∙ ap (opened a b) same
-
--- no more names are opened than there are latches
-filter_short : {X : Type 0} (test : X → Bool) (xs : List X) → length (filter test xs) ≤ length xs
-filter_short test [] = omega arith
-filter_short test (x ∷ xs) = go (test x) (filter_short test xs)
-  where
-    go : (b : Bool) → length (filter test xs) ≤ length xs → length (cond b (x ∷ filter test xs) (filter test xs)) ≤ suc (length xs)
-    go true h = omega arith
-    go false h = omega arith
-
-pub few_names : (a b : NetView) (table names : List (List ℕ)) → IsComparable a → names ≡ opened a b table → length names ≤ 2 ^ 27
-few_names a b table names comparable is =
-    let short = filter_short (is_opened a b table) (latch_names a) in
-    let count = length-map (λ (l : LatchAt). l.name) a.latches in
-    let e = ap length is in
-    let few = comparable.few in
-    omega (arith, short, count, e, few)

@@ -1,12 +1,12 @@
 -- The inputs of a cut net that a header doesn't name are read by nothing, so that a run over the header's rows is, but for them, the
 -- run in which they are 0.
-use Rattle.std.proofs.Common.{◌≡◌, ℕ, ◌<◌, Bool, true, false, List, [], ◌∷◌, ◌++◌, map, length, get_or, slice_get, Option, Some, None, refl, sym, ◌∙◌, ap, subst, arith, inl, inr, ◌⊎◌}
-use Rattle.std.specs.Prelude.{◌&&◌, ◌||◌, ◌==◌, not}
+use Rattle.std.proofs.Common.{◌≡◌, ℕ, ◌<◌, Bool, true, false, List, map, length, get_or, slice_get, Option, Some, None, refl, sym, ◌∙◌, ap, subst, arith, inl, inr, ◌⊎◌}
+use Rattle.std.specs.Prelude.{◌&&◌, ◌==◌, not}
 use Rattle.std.specs.List.{All, Contains, list_any}
 use Rattle.std.proofs.lemmas.List.{length-replicate}
 use Rattle.std.proofs.lemmas.List.Elements.{Contains-append_cases}
-use Rattle.std.proofs.lemmas.Option.{slice_get_within, slice_get-get_or, same_Some}
-use Rattle.circuit_theory.specs.Circuit.{Circuit, Equation, Gate as gate_equation, Latch as latch_equation, Port as port_equation, IsInput, IsLatch, Reads, out_of}
+use Rattle.std.proofs.lemmas.Option.{slice_get_within, slice_get-get_or}
+use Rattle.circuit_theory.specs.Circuit.{Circuit, Gate as gate_equation, Latch as latch_equation, Port as port_equation, IsInput, Reads, out_of}
 use Rattle.circuit_theory.specs.Cover.{Cover}
 use Rattle.circuit_theory.specs.Run.{IsRun}
 use Rattle.circuit_theory.specs.Names.{is_among}
@@ -30,7 +30,7 @@ use Rattle.pair_runs.specs.Feeding.{IsColumn, AreColumns, bit_of, reordered}
 use Rattle.pair_runs.specs.Feeds.{zeros}
 use Rattle.replay.specs.Replay.{IsReplayRun}
 use Rattle.replay.proofs.FreeMarks.{AreUnread, mixed, mixed_is, mixed_free, run_mixed, AreOne, one_back, one_equation, one_input, one_run}
-use Rattle.replay.proofs.Tests.{no_true_false, any_is, is_any, and_both, both_and, or_left, or_right, not_true}
+use Rattle.replay_header.proofs.Tests.{no_true_false, any_is, is_any, and_both, both_and, or_left, or_right, not_true}
 
 -- the place is that of an input that the header doesn't name
 abbrev pub is_free : List (List ℕ) → NetView → ℕ → Bool

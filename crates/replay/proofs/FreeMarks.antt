@@ -1,9 +1,9 @@
 -- Inputs that nothing reads have no effect on what is settled, and initial values have none.
-use Rattle.std.proofs.Common.{◌≡◌, ◌≢◌, ℕ, suc, ◌+◌, ◌<◌, Bool, true, false, cond, List, map, refl, sym, ◌∙◌, ap, subst, inl, inr, ◌⊎◌}
+use Rattle.std.proofs.Common.{◌≡◌, ◌≢◌, ℕ, ◌+◌, Bool, true, false, cond, List, refl, sym, ◌∙◌, ap, subst, inl, inr}
 use Rattle.std.specs.List.{All, Contains}
 use Rattle.std.proofs.lemmas.List.Elements.{All-contains}
-use Rattle.circuit_theory.specs.Cover.{Cover, cover_value}
-use Rattle.circuit_theory.specs.Circuit.{Circuit, Equation, Gate, Latch, Port, Named, IsInput, IsLatch, IsSource, Reads, Reaches, InCone, Holds, Carries, Meets, out_of}
+use Rattle.circuit_theory.specs.Cover.{cover_value}
+use Rattle.circuit_theory.specs.Circuit.{Circuit, Equation, Gate, Latch, Port, Named, IsLatch, IsSource, Reads, Reaches, InCone, Holds, Carries, Meets, out_of}
 use Rattle.circuit_theory.specs.Run.{IsRun, ExtendsWith, Loads, Marked, IsEnabled}
 use Rattle.circuit_theory.proofs.Lists.{map_same, All-from_each}
 

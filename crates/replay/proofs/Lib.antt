@@ -5,9 +5,5 @@ pub mod Fitting
 pub mod FreeInputs
 pub mod FreeMarks
 pub mod Names
-pub mod Opened
-pub mod PairPlaces
 pub mod Sides
-pub mod Tests
-pub mod Uncut
 pub mod Whole

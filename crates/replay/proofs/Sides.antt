@@ -1,8 +1,8 @@
 -- One circuit of a replay: what its cut net's run shows holds of every run of the cut circuit over the stimulus.
-use Rattle.std.proofs.Common.{◌≡◌, ◌↔◌, ℕ, ◌<◌, Bool, true, false, List, map, length, slice_get, Option, Some, sym, ◌∙◌, ap, subst}
+use Rattle.std.proofs.Common.{◌≡◌, ◌↔◌, ℕ, Bool, true, false, List, map, length, slice_get, Option, Some, sym, subst}
 use Rattle.std.specs.List.{All, Contains}
 use Rattle.circuit_theory.specs.declared.Mode.{Mode}
-use Rattle.circuit_theory.specs.Circuit.{Circuit, IsLatch}
+use Rattle.circuit_theory.specs.Circuit.{IsLatch}
 use Rattle.circuit_theory.specs.Run.{Marked}
 use Rattle.circuit_theory.specs.Net.{HasDistinctNames}
 use Rattle.circuit_theory.specs.Agree.{cut, EnabledIn, IsSettled}
@@ -15,7 +15,8 @@ use Rattle.cycle_sim.specs.Runs.{IsRunFrom}
 use Rattle.cycle_sim.specs.View.{IsMark}
 use Rattle.pair_runs.specs.Feeding.{AreColumns, reordered}
 use Rattle.pair_runs.specs.Feeds.{zeros}
-use Rattle.replay.specs.Replay.{IsReplayRun, IsCutSide}
+use Rattle.cut_sides.specs.Opening.{IsCutSide}
+use Rattle.replay.specs.Replay.{IsReplayRun}
 use Rattle.replay.proofs.EnabledBits.{enabled_marked, marked_enabled}
 use Rattle.replay.proofs.FreeInputs.{is_free, unread, freed, freed_run, output_not_free}
 use Rattle.replay.proofs.FreeMarks.{AreUnread, AreOne, one_back, one_equation, mixed_is, marks_free, unread_back}

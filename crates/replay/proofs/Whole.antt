@@ -1,20 +1,16 @@
 -- The differences of the cut nets are those of the circuits.
-use Rattle.std.proofs.Common.{◌≡◌, ℕ, ◌<◌, Bool, List, [], ◌++◌, map, length, slice_get, get_or, Option, Some, sym, ◌∙◌, ap, subst, arith}
-use Rattle.std.specs.List.{All, Contains}
-use Rattle.std.proofs.lemmas.Option.{get_or_from_slice_get, slice_get_within}
+use Rattle.std.proofs.Common.{◌≡◌, ℕ, ◌<◌, Bool, List, map, length, slice_get, Some, sym, ◌∙◌, ap, subst}
+use Rattle.std.specs.List.{All}
+use Rattle.std.proofs.lemmas.Option.{get_or_from_slice_get}
 use Rattle.circuit_theory.specs.declared.Mode.{Mode}
 use Rattle.circuit_theory.specs.Agree.{cut, PairAt}
 use Rattle.circuit_theory.specs.Net.{HasDistinctNames}
-use Rattle.circuit_theory.specs.Replay.{Difference as PlacedDifference}
 use Rattle.circuit_theory.proofs.Lists.{length-map, map-map, map_at}
-use Rattle.circuit_theory.proofs.Numbers.{slice_get-map}
 use Rattle.sec_base.specs.Table.{AreDistinct}
-use Rattle.flat_net.specs.declared.parts.Port.{Port}
 use Rattle.flat_net.specs.Sound.{IsSound}
 use Rattle.flat_net.specs.View.{NetView, circuit_of}
 use Rattle.flat_net.proofs.Nets.{some_at}
 use Rattle.latch_cone.specs.Cones.{MarksEnabled}
-use Rattle.witness_report.specs.declared.witness.PairName.{PairName}
 use Rattle.sec_setup.specs.Matching.{InterfacesMatch}
 use Rattle.sec_setup.specs.Pairs.{NamedPair, named_pairs}
 use Rattle.pair_runs.specs.declared.differences.Difference.{Difference}
@@ -24,13 +20,15 @@ use Rattle.pair_runs.specs.Feeds.{AreFound, IsShownAt}
 use Rattle.pair_runs.specs.Listing.{differences_from}
 use Rattle.pair_runs.specs.Outputs.{no_port, output_at}
 use Rattle.pair_runs.specs.Showing.{ArePlacesOf, called, names_of}
-use Rattle.replay.specs.Header.{FitsBoth, opened}
-use Rattle.replay.specs.Pairs.{ArePairsAt, named_places}
-use Rattle.replay.specs.Replay.{IsReplayRun, IsCutSide, IsReplay, AreReplayed, places_of}
+use Rattle.replay_header.specs.Header.{FitsBoth, opened}
+use Rattle.cut_sides.specs.Pairs.{ArePairsAt, named_places}
+use Rattle.cut_sides.specs.Opening.{IsCutSide}
+use Rattle.replay.specs.Replay.{IsReplayRun, IsReplay, places_of}
 use Rattle.replay.proofs.Existing.{run_over}
 use Rattle.replay.proofs.Differ.{IsRight, AreRight, are_differences}
-use Rattle.replay.proofs.Names.{left_unread, right_unread, opened_in_header}
-use Rattle.replay.proofs.PairPlaces.{places_named, outputs_there}
+use Rattle.replay_header.proofs.Names.{opened_in_header}
+use Rattle.replay.proofs.Names.{left_unread, right_unread}
+use Rattle.cut_sides.proofs.PairPlaces.{places_named, outputs_there}
 use Rattle.replay.proofs.Sides.{one_cut, simulated, simulated_run, value_is, mark_is}
 
 module _ (mode : Mode) (a b : NetView) (sound_a : IsSound a) (sound_b : IsSound b) (distinct_a : HasDistinctNames (circuit_of a)) (distinct_b : HasDistinctNames (circuit_of b))

@@ -1,4 +1,1 @@
-pub mod Header
-pub mod Opening
-pub mod Pairs
 pub mod Replay

@@ -1,25 +1,23 @@
 -- The differences of two circuits on a stimulus.
-use Rattle.std.specs.Prelude.{◌≡◌, ◌<◌, ◌^◌, ℕ, Bool, false, List, map, length, slice_get, Some, None, Result, Ok, Err, IfOk}
-use Rattle.std.specs.List.{All, Contains}
+use Rattle.std.specs.Prelude.{◌≡◌, ◌<◌, ◌^◌, ℕ, Bool, false, List, map, length, slice_get, Some, Result, Ok, Err, IfOk}
+use Rattle.std.specs.List.{Contains}
 use Rattle.circuit_theory.specs.declared.Mode.{Mode}
 use Rattle.circuit_theory.specs.Circuit.{Circuit, IsLatch}
 use Rattle.circuit_theory.specs.Run.{IsRun}
 use Rattle.circuit_theory.specs.Agree.{cut, PairAt}
 use Rattle.circuit_theory.specs.Replay.{AreDifferences, Difference as PlacedDifference}
 use Rattle.flat_net.specs.View.{NetView, circuit_of}
-use Rattle.flat_net.specs.Comparable.{IsComparable}
+use Rattle.flat_net.specs.declared.parts.Port.{Port}
 use Rattle.latch_cone.specs.Cones.{MarksEnabled}
+use Rattle.sec_base.specs.Table.{AreDistinct}
 use Rattle.sec_base.specs.declared.list.NoMemory.{NoMemory}
 use Rattle.sec_setup.specs.Matching.{InterfacesMatch}
-use Rattle.flat_net.specs.Cut.{IsCut, IsCutCircuit}
-use Rattle.port_matching.specs.Pairing.{AreNamedAt}
 use Rattle.sec_setup.specs.Pairs.{NamedPair, named_pairs}
 use Rattle.pair_runs.specs.declared.differences.Difference.{Difference}
 use Rattle.replay.specs.declared.differences.Replayed.{Replayed}
-use Rattle.replay.specs.declared.differences.ReplayError.{ReplayError}
-use Rattle.replay.specs.declared.differences.ReplayError.TheVariants as refused
-use Rattle.replay.specs.Header.{FitsBoth, MisfitIs, latch_names, opened}
-use Rattle.replay.specs.Opening.{AreBitsOf}
+use Rattle.replay_header.specs.declared.error.ReplayError.{ReplayError}
+use Rattle.replay_header.specs.declared.error.ReplayError.TheVariants as refused
+use Rattle.replay_header.specs.Header.{FitsBoth, FitsOr, opened}
 use Rattle.pair_runs.specs.Showing.{called}
 
 -- A run over a stimulus, with one cycle for each row: each input that the header names has in each cycle the bit that stands under
@@ -52,25 +50,12 @@ IsReplay mode a b header rows differences = AreReplayed mode (opened a b header)
 abbrev pub Replays : Mode → NetView → NetView → List (List ℕ) → List (List Bool) → Result Replayed ReplayError → Type 0
 Replays mode a b header rows (Ok replayed) = FitsBoth a b header × IsReplay mode a b header rows replayed.differences
 Replays mode a b header rows (Err refused.NoMemory) = Unit {0}
-Replays mode a b header rows (Err (refused.Unknown name)) = MisfitIs a b header (Some (refused.Unknown name))
-Replays mode a b header rows (Err (refused.Missing name)) = MisfitIs a b header (Some (refused.Missing name))
-
--- each name is that of a latch of the net
-abbrev pub AreNamesOf : NetView → List (List ℕ) → Type 0
-AreNamesOf n names = All (Contains (latch_names n)) names
-
--- the net with the latches of these names cut out, and the bits of the others
-pub record IsCutSide (n : NetView) (enabled : List Bool) (names : List (List ℕ)) (m : NetView) (bits : List Bool) : Type 0 where
-  pub positions : List ℕ
-  pub named : AreNamedAt n names positions
-  pub parts : IsCut n m positions
-  pub circuit : IsCutCircuit names (circuit_of n) (circuit_of m)
-  pub bits_are : AreBitsOf n enabled m bits
+Replays mode a b header rows (Err (refused.Unknown name)) = FitsOr a b header (Err (refused.Unknown name))
+Replays mode a b header rows (Err (refused.Missing name)) = FitsOr a b header (Err (refused.Missing name))
 
 -- the header, of which this is the table, fits both nets, and these are the names of the latches that are cut open
 pub record IsFitting (a b : NetView) (enabled_a enabled_b : List Bool) (table names header : List (List ℕ)) (rows : List (List Bool)) : Type 0 where
-  pub left : IsComparable a
-  pub right : IsComparable b
+  pub distinct : AreDistinct (map (λ (p : Port). p.name) b.outputs)
   pub matches : InterfacesMatch a b
   pub left_bits : length enabled_a ≡ length a.latches
   pub right_bits : length enabled_b ≡ length b.latches

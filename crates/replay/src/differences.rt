@@ -1,7 +1,6 @@
-//! What a replay finds, and why there is none.
+//! What a replay finds.
 
 use pair_runs::Differences;
-use sec_base::{NoMemory, Word};
 
 /// What two circuits show on a stimulus.
 #[derive(Drop)]
@@ -9,26 +8,4 @@ pub struct Replayed {
     /// All differences, by cycle and then by pair: the outputs in the first circuit's order, then what the latches that are cut open
     /// take over, in the first circuit's order of latches.
     pub differences: Differences,
-}
-
-/// Why two circuits aren't run on a stimulus.
-#[derive(Drop)]
-pub enum ReplayError {
-    /// The first name of the stimulus that is neither an input of one of the circuits nor a latch of both.
-    Unknown(Word),
-    /// The first input that both circuits have, in the first one's order, that the stimulus lacks.
-    Missing(Word),
-    /// Memory was wanted and couldn't be had.
-    NoMemory,
-}
-
-impl From<NoMemory> for ReplayError {
-    ghost use Rattle.std.specs.Prelude.{◌≡◌};
-    ghost use Rattle.replay.specs.declared.differences.ReplayError.TheVariants.{NoMemory};
-
-    ghost from_gives = { λ _ e. e ≡ NoMemory };
-
-    fn from(_error: NoMemory) -> ReplayError {
-        ReplayError::NoMemory
-    }
 }

@@ -3,11 +3,9 @@
 #![tactic(auto)]
 
 mod differences;
-mod header;
-mod opening;
-mod pairing;
 mod replaying;
 
-pub use differences::{ReplayError, Replayed};
+pub use differences::Replayed;
 pub use pair_runs::{Difference, Differences};
+pub use replay_header::ReplayError;
 pub use replaying::replay;

@@ -1,18 +1,18 @@
 //! The replay of a stimulus on two circuits.
 
-ghost use Rattle.std.specs.Prelude.{◌≡◌, ◌^◌, ◌<◌, length, IfOk};
+ghost use Rattle.std.specs.Prelude.{◌≡◌, ◌^◌, ◌<◌, map, length};
 ghost use Rattle.circuit_theory.specs.declared.Mode.{Mode};
-ghost use Rattle.flat_net.specs.Comparable.{IsComparable};
+ghost use Rattle.sec_base.specs.Table.{AreDistinct};
 ghost use Rattle.latch_cone.specs.Cones.{MarksEnabled};
 ghost use Rattle.sec_setup.specs.Matching.{InterfacesMatch};
-ghost use Rattle.replay.specs.Replay.{Replays, IsCutSide, AreNamesOf, IsFitting, FindsReplay};
+ghost use Rattle.replay.specs.Replay.{Replays, IsFitting, FindsReplay};
 
-use crate::differences::{ReplayError, Replayed};
-use crate::header::{InputNames, misfit_of, table_of_names};
-use crate::opening::{bits_left, opened_names, positions_of};
-use crate::pairing::pairs_of;
+use crate::differences::Replayed;
+use cut_sides::{cut_side, pairs_of};
 use flat_net::Net;
+use name_tables::table_of_names;
 use pair_runs::{Differences, Side, run_pairs};
+use replay_header::{ReplayError, opened_by};
 use sec_base::{Bits, NameTable, NoMemory};
 use std::alloc::Global;
 use witness_report::Stimulus;
@@ -22,7 +22,8 @@ use witness_report::Stimulus;
 /// open: each takes its values from the stimulus, and what it takes over is compared behind the outputs. The latches whose bits are
 /// set count as enabled; the differences are those of each mode whose enabled latches are exactly these. First a name is refused
 /// that is neither an input of one of the circuits nor a latch of both, then an input of both that the stimulus lacks. An input that
-/// isn't shared is read by nothing and has no effect.
+/// isn't shared is read by nothing and has no effect. The outputs of the second circuit have distinct names. Circuits with 2^32
+/// outputs or more, the cut latches among them, answer want of memory.
 pub fn replay(
     alloc: Global,
     a: &Net,
@@ -31,8 +32,7 @@ pub fn replay(
     enabled_b: &Bits,
     stimulus: &Stimulus,
 ) -> Result<Replayed, ReplayError>
-    requires left { IsComparable a.now }
-    requires right { IsComparable b.now }
+    requires distinct { AreDistinct (map (λ p. p.name) b.now.outputs) }
     requires matches { InterfacesMatch a.now b.now }
     requires left_bits { length enabled_a.now ≡ length a.now.latches }
     requires right_bits { length enabled_b.now ≡ length b.now.latches }
@@ -40,11 +40,7 @@ pub fn replay(
     ensures { (mode : Mode) → MarksEnabled mode a.now enabled_a.now → MarksEnabled mode b.now enabled_b.now → Replays mode a.now b.now stimulus.now.names stimulus.now.rows result }
 {
     let header = table_of_names(alloc, &stimulus.names)?;
-    let inputs = InputNames::new(alloc, a, b)?;
-    if let Some(error) = misfit_of(alloc, a, b, &inputs, &header)? {
-        return Err(error);
-    }
-    let names = opened_names(alloc, a, b, &inputs, &header)?;
+    let names = opened_by(alloc, a, b, &header)?;
     let left = Side {
         net: a,
         enabled: enabled_a,
@@ -123,36 +119,4 @@ fn replay_cut(
         header,
         stimulus,
     )
-}
-
-/// A circuit in which latches are cut open.
-#[derive(Drop)]
-struct CutSide {
-    net: Net,
-    enabled: Bits,
-}
-
-impl CutSide {
-    fn side(&self) -> Side<'_>
-        ensures net { result.net.now ≡ self.now.net }
-        ensures bits { result.enabled.now ≡ self.now.enabled }
-    {
-        Side {
-            net: &self.net,
-            enabled: &self.enabled,
-        }
-    }
-}
-
-/// The circuit in which the latches of these names are cut open.
-fn cut_side(alloc: Global, side: &Side<'_>, names: &NameTable) -> Result<CutSide, NoMemory>
-    requires bits { length side.now.enabled.now ≡ length side.now.net.now.latches }
-    requires names { AreNamesOf side.now.net.now names.now }
-    ensures { IfOk result (λ c. IsCutSide side.now.net.now side.now.enabled.now names.now c.net c.enabled) }
-{
-    side.net.keeps();
-    let positions = positions_of(alloc, side.net, names)?;
-    let net = side.net.cut(alloc, &positions)?;
-    let enabled = bits_left(alloc, side.net, side.enabled, &net)?;
-    Ok(CutSide { net, enabled })
 }

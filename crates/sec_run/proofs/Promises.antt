@@ -12,6 +12,8 @@ use Rattle.job_base.proofs.Meaning.{says_nothing, unbuilt_means, by_finding}
 use Rattle.job_files.specs.Reading.{Held}
 use Rattle.job_circuit.proofs.Means.{graph_means, sim_means}
 use Rattle.job_circuit.proofs.CompleteReports.{graph_complete, sim_complete}
+use Rattle.job_replay.proofs.Means.{replay_means}
+use Rattle.job_replay.proofs.CompleteReplays.{replay_complete}
 use Rattle.job_check.specs.Check.{Check}
 use Rattle.job_check.proofs.Promises.{check_says, silent_check, failed_check, check_complete, memory_check}
 use Rattle.sec_run.specs.Answer.{IsFinding}
@@ -24,7 +26,7 @@ means held None before now f proofs name found w = says_nothing before now f pro
 means held (Some (task.Check a b settings)) before now f proofs name found w = check_says held (record { left = a; right = b; settings = settings }) before now f proofs name found w
 means held (Some (task.Graph a mode)) before now f proofs name found w = graph_means mode (held a) before now f proofs name found w
 means held (Some (task.Sim a s mode power)) before now f proofs name found w = sim_means mode (held a) (held s) power before now f proofs name found w
-means held (Some (task.Replay a b s mode)) before now f proofs name found w = unbuilt_means before now f proofs name found w
+means held (Some (task.Replay a b s mode)) before now f proofs name found w = replay_means mode (held a) (held b) (held s) before now f proofs name found w
 means held (Some (task.Gen seed regroup conflicts)) before now f proofs name found w = unbuilt_means before now f proofs name found w
 
 -- a run that ends before it has found anything says nothing
@@ -50,7 +52,7 @@ is_complete held None f found = inl (ap status_of found)
 is_complete held (Some (task.Check a b settings)) f found = check_complete held (record { left = a; right = b; settings = settings }) f found
 is_complete held (Some (task.Graph a mode)) f found = graph_complete mode (held a) f found
 is_complete held (Some (task.Sim a s mode power)) f found = sim_complete mode (held a) (held s) power f found
-is_complete held (Some (task.Replay a b s mode)) f found = inl (ap status_of found)
+is_complete held (Some (task.Replay a b s mode)) f found = replay_complete mode (held a) (held b) (held s) f found
 is_complete held (Some (task.Gen seed regroup conflicts)) f found = inl (ap status_of found)
 
 -- so is one that ends at want of memory
@@ -59,7 +61,7 @@ memory_is_complete held None = inr refl
 memory_is_complete held (Some (task.Check a b settings)) = memory_check held (record { left = a; right = b; settings = settings })
 memory_is_complete held (Some (task.Graph a mode)) = λ can. tt
 memory_is_complete held (Some (task.Sim a s mode power)) = λ can. tt
-memory_is_complete held (Some (task.Replay a b s mode)) = inr refl
+memory_is_complete held (Some (task.Replay a b s mode)) = λ can. tt
 memory_is_complete held (Some (task.Gen seed regroup conflicts)) = inr refl
 
 -- so a run is complete that ends with a finding, or at want of memory

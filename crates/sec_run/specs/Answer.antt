@@ -14,6 +14,7 @@ use Rattle.job_base.specs.declared.status.StatusName.TheVariants as status
 use Rattle.job_base.specs.Lines.{finding_text}
 use Rattle.job_files.specs.Reading.{Held}
 use Rattle.job_circuit.specs.Reports.{IsGraphFound, IsSimFound}
+use Rattle.job_replay.specs.Replays.{IsReplayFound}
 use Rattle.job_check.specs.Check.{Check}
 use Rattle.job_check.specs.Found.{IsCheckFound}
 
@@ -22,7 +23,7 @@ abbrev pub IsFoundOfJob : Held → Task → Finding → Type 0
 IsFoundOfJob held (task.Check a b settings) f = IsCheckFound held (record { left = a; right = b; settings = settings }) f
 IsFoundOfJob held (task.Graph a mode) f = IsGraphFound mode (held a) f
 IsFoundOfJob held (task.Sim a s mode power) f = IsSimFound mode (held a) (held s) power f
-IsFoundOfJob held (task.Replay a b s mode) f = f ≡ finding.Refused refusal.NotBuilt
+IsFoundOfJob held (task.Replay a b s mode) f = IsReplayFound mode (held a) (held b) (held s) f
 IsFoundOfJob held (task.Gen seed regroup conflicts) f = f ≡ finding.Refused refusal.NotBuilt
 
 -- what is found: that the words are no job, or what is true of the job

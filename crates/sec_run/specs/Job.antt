@@ -3,6 +3,7 @@ use Rattle.std.specs.Prelude.{ℕ, ◌≤◌, List, [], Option, Some, None}
 use Rattle.sec_words.specs.declared.task.Task.{Task}
 use Rattle.sec_words.specs.declared.task.Task.TheVariants as task
 use Rattle.job_circuit.specs.Reports.{graph_paths, sim_paths}
+use Rattle.job_replay.specs.Replays.{replay_paths}
 use Rattle.job_check.specs.Check.{Check, check_paths}
 
 -- the paths that a job reads, in the order of their fetches; none where it isn't built
@@ -10,7 +11,7 @@ abbrev pub paths_of : Task → List (List ℕ)
 paths_of (task.Check a b settings) = check_paths (record { left = a; right = b; settings = settings })
 paths_of (task.Graph a mode) = graph_paths a
 paths_of (task.Sim a s mode power) = sim_paths a s
-paths_of (task.Replay a b s mode) = []
+paths_of (task.Replay a b s mode) = replay_paths a b s
 paths_of (task.Gen seed regroup conflicts) = []
 
 -- none where the words are no job

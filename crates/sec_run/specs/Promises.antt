@@ -8,6 +8,7 @@ use Rattle.job_base.specs.declared.status.StatusName.{StatusName}
 use Rattle.job_base.specs.declared.status.StatusName.TheVariants as status
 use Rattle.job_files.specs.Reading.{Held}
 use Rattle.job_circuit.specs.Reports.{GraphMeans, SimMeans, IsGraphComplete, IsSimComplete}
+use Rattle.job_replay.specs.Replays.{ReplayMeans, IsReplayComplete}
 use Rattle.job_check.specs.Check.{Check}
 use Rattle.job_check.specs.Answer.{CheckSays, IsCheckComplete}
 
@@ -17,7 +18,7 @@ Means held None before now proofs name = SaysNothing name
 Means held (Some (task.Check a b settings)) before now proofs name = CheckSays held (record { left = a; right = b; settings = settings }) before now proofs name
 Means held (Some (task.Graph a mode)) before now proofs name = GraphMeans mode (held a) before now proofs name
 Means held (Some (task.Sim a s mode power)) before now proofs name = SimMeans mode (held a) (held s) power before now proofs name
-Means held (Some (task.Replay a b s mode)) before now proofs name = SaysNothing name
+Means held (Some (task.Replay a b s mode)) before now proofs name = ReplayMeans mode (held a) (held b) (held s) before now proofs name
 Means held (Some (task.Gen seed regroup conflicts)) before now proofs name = SaysNothing name
 
 -- Where the job can be done, it ends so, if no read and no write fails: words that are no job are told, and so is a job that isn't built.
@@ -26,5 +27,5 @@ IsComplete held None name = EndsWith status.Words name
 IsComplete held (Some (task.Check a b settings)) name = IsCheckComplete held (record { left = a; right = b; settings = settings }) name
 IsComplete held (Some (task.Graph a mode)) name = IsGraphComplete mode (held a) name
 IsComplete held (Some (task.Sim a s mode power)) name = IsSimComplete mode (held a) (held s) power name
-IsComplete held (Some (task.Replay a b s mode)) name = EndsWith status.Refused name
+IsComplete held (Some (task.Replay a b s mode)) name = IsReplayComplete mode (held a) (held b) (held s) name
 IsComplete held (Some (task.Gen seed regroup conflicts)) name = EndsWith status.Refused name

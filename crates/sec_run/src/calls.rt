@@ -14,6 +14,7 @@ ghost use Rattle.sec_run.specs.Promises.{Means, IsComplete};
 use job_base::{Finding, Refusal, Status, StatusName, Stop, finish};
 use job_check::{Comparison, check};
 use job_circuit::{Simulation, simulate, tell_graph};
+use job_replay::{Replay, replay_files};
 use sec_base::{Shelf, Sink, Word};
 use sec_words::{Task, WordsError, job};
 use std::alloc::Global;
@@ -45,7 +46,16 @@ fn find<S: Shelf>(alloc: Global, task: &Task, shelf: &mut S) -> Result<Finding, 
             };
             simulate(alloc, &simulation, shelf)
         }
-        Task::Replay { .. } | Task::Gen { .. } => Ok(Finding::Refused(Refusal::NotBuilt)),
+        Task::Replay { a, b, s, mode } => {
+            let replay = Replay {
+                left: a.as_str(),
+                right: b.as_str(),
+                stimulus: s.as_str(),
+                mode: *mode,
+            };
+            replay_files(alloc, &replay, shelf)
+        }
+        Task::Gen { .. } => Ok(Finding::Refused(Refusal::NotBuilt)),
     }
 }
 

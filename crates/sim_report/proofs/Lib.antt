@@ -1,4 +1,3 @@
-pub mod Names
 pub mod Places
 pub mod Lines
 pub mod Runs

@@ -18,13 +18,14 @@ use Rattle.cycle_sim.specs.Runs.{IsRunFrom}
 use Rattle.cycle_sim.proofs.Lists.{map_at, map_is}
 use Rattle.sim_report.specs.declared.refusal.Misfit.{Misfit}
 use Rattle.sim_report.specs.declared.refusal.Misfit.TheVariants as misfit
-use Rattle.sim_report.specs.Checks.{input_names, is_power, power_of, named_misfit, first_misfit}
+use Rattle.sim_report.specs.Checks.{is_power, power_of, named_misfit, first_misfit}
+use Rattle.name_tables.specs.Names.{input_names}
 use Rattle.sim_report.specs.Report.{cycle_lines, IsSimulated, IsSimReport}
 use Rattle.sim_report.specs.Cycles.{AreColumns, PutsCycles, reordered}
 use Rattle.latch_cone.specs.Cones.{MarksEnabled}
 use Rattle.circuit_theory.specs.declared.Mode.{Mode}
 use Rattle.sim_report.proofs.Lines.{shown_in_mode}
-use Rattle.sim_report.proofs.Names.{missing_none}
+use Rattle.name_tables.proofs.Names.{missing_none}
 
 -- the columns of a stimulus whose rows have one bit for each name
 module _ (n : NetView) (names : List (List ℕ)) (rows : List (List Bool)) (columns : List ℕ) (are : AreColumns n names columns) (wide : All (λ row. length row ≡ length names) rows) where

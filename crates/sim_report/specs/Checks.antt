@@ -2,14 +2,10 @@
 use Rattle.std.specs.Prelude.{ℕ, ◌==◌, ◌&&◌, ◌||◌, Bool, true, false, if◌then◌else◌, List, map, length, replicate, Option, Some, None}
 use Rattle.std.specs.List.{list_all}
 use Rattle.circuit_theory.specs.Interface.{first_missing, ◌or_else◌}
-use Rattle.flat_net.specs.declared.parts.Port.{Port}
 use Rattle.flat_net.specs.View.{NetView}
+use Rattle.name_tables.specs.Names.{input_names}
 use Rattle.sim_report.specs.declared.refusal.Misfit.{Misfit}
 use Rattle.sim_report.specs.declared.refusal.Misfit.TheVariants as misfit
-
--- the names of the inputs, in the net's order
-abbrev pub input_names : NetView → List (List ℕ)
-input_names n = map (λ (p : Port). p.name) n.inputs
 
 -- each digit is `0` or `1`, and there is one for each latch
 abbrev pub is_power_word : NetView → List ℕ → Bool

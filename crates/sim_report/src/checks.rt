@@ -2,51 +2,13 @@
 
 ghost use Rattle.std.specs.Prelude.{◌≡◌, ◌==◌, ◌||◌, length, map, option_map, IfOk};
 ghost use Rattle.std.specs.List.{list_all};
-ghost use Rattle.circuit_theory.specs.Interface.{first_missing};
-ghost use Rattle.sec_base.specs.Table.{AreDistinct};
-ghost use Rattle.sim_report.specs.Checks.{input_names, is_power_word, is_power, power_of, first_misfit};
+ghost use Rattle.sim_report.specs.Checks.{is_power_word, is_power, power_of, first_misfit};
 
 use crate::refusal::Misfit;
 use flat_net::Net;
-use sec_base::{Bits, NameTable, NoMemory, Seq, Word, Words};
+use name_tables::{first_missing, table_of_inputs, word_of};
+use sec_base::{Bits, NameTable, NoMemory, Seq};
 use std::alloc::Global;
-
-/// The first of the names that isn't among the others.
-fn first_missing<'a>(names: &'a NameTable, others: &NameTable) -> Option<&'a [u8]>
-    ensures { option_map (λ name. name.now) result ≡ first_missing names.now others.now }
-{
-    for id in 0..names.len() {
-        let name = names.name(id);
-        if !others.has(name) {
-            return Some(name);
-        }
-    }
-    None
-}
-
-/// The table of the names, each at its place.
-pub(crate) fn table_of_names(alloc: Global, names: &Words) -> Result<NameTable, NoMemory>
-    requires { AreDistinct names.now }
-    ensures { IfOk result (λ table. table ≡ names.now) }
-{
-    let mut table = NameTable::new(alloc);
-    for name in names.as_slice() {
-        table.add(alloc, name.as_slice())?;
-    }
-    Ok(table)
-}
-
-/// The table of the inputs' names, each at its place.
-fn table_of_inputs(alloc: Global, net: &Net) -> Result<NameTable, NoMemory>
-    ensures { IfOk result (λ table. table ≡ input_names net.now) }
-{
-    net.keeps();
-    let mut table = NameTable::new(alloc);
-    for port in net.inputs() {
-        table.add(alloc, port.name.as_slice())?;
-    }
-    Ok(table)
-}
 
 fn is_digit(digit: u8) -> bool
     ensures { result ≡ ((digit == 48) || (digit == 49)) }
@@ -99,12 +61,6 @@ fn bits_of(alloc: Global, digits: &[u8]) -> Result<Bits, NoMemory>
         bits.push(*digit == b'1')?;
     }
     Ok(bits)
-}
-
-fn word_of(alloc: Global, name: &[u8]) -> Result<Word, NoMemory>
-    ensures { IfOk result (λ word. word ≡ name.now) }
-{
-    Ok(Seq::from_vec(name.to_vec(alloc)?))
 }
 
 /// The first that doesn't fit: a name of the header that is no input, an input that the header lacks, the power word.

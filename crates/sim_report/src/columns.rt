@@ -2,7 +2,7 @@
 
 ghost use Rattle.std.specs.Prelude.{◌≡◌, ◌<◌, None, All, length, IfOk};
 ghost use Rattle.circuit_theory.specs.Interface.{first_missing};
-ghost use Rattle.sim_report.specs.Checks.{input_names};
+ghost use Rattle.name_tables.specs.Names.{input_names};
 ghost use Rattle.sim_report.specs.Cycles.{AreColumns, reordered};
 
 use flat_net::Net;

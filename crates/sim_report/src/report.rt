@@ -6,12 +6,13 @@ ghost use Rattle.latch_cone.specs.Cones.{MarksEnabled};
 ghost use Rattle.sim_report.specs.Checks.{first_misfit};
 ghost use Rattle.sim_report.specs.Report.{IsSimReport};
 
-use crate::checks::{first_misfit, power_of, table_of_names};
+use crate::checks::{first_misfit, power_of};
 use crate::columns::columns_of;
 use crate::cycles::put_cycles;
 use crate::refusal::Misfit;
 use crate::writing::put_ports;
 use flat_net::Net;
+use name_tables::table_of_names;
 use sec_base::{Bits, NameTable, NoMemory, Seq, Text, put};
 use std::alloc::Global;
 use witness_report::Stimulus;

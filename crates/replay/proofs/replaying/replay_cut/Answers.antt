@@ -1,14 +1,10 @@
-use Rattle.std.proofs.Common.{◌≡◌, ◌∙◌, List, Bool, ℕ, length, sym, ap, subst}
+use Rattle.std.proofs.Common.{◌∙◌, List, Bool, length, sym, ap, subst}
 use Rattle.flat_net.specs.View.{NetView}
-use Rattle.pair_runs.specs.declared.differences.Difference.{Difference}
 use Rattle.pair_runs.specs.declared.differences.OutputPair.{OutputPair}
 use Rattle.pair_runs.specs.Feeds.{AreFound}
 use Rattle.pair_runs.specs.Showing.{ArePlacesOf}
-use Rattle.replay.proofs.Fitting.{if_ok, places_of_sides, names_of_left, names_of_right, few_names, fitting}
+use Rattle.replay.proofs.Fitting.{if_ok, places_of_sides, names_of_left, names_of_right, fitting}
 use Rattle.replay.proofs.replaying.replay_cut.Goals as goal
-
-pub pairs_of-requires-clause-few : goal.pairs_of-requires-clause-few
-pairs_of-requires-clause-few c = few_names c.args.a.now.net.now c.args.b.now.net.now c.args.header.now c.args.names.now c.requires.left c.requires.named
 
 pub cut_side-requires-clause-names : goal.cut_side-requires-clause-names
 cut_side-requires-clause-names c = names_of_left c.args.a.now.net.now c.args.b.now.net.now c.args.header.now c.args.names.now c.requires.fits c.requires.named

@@ -1,14 +1,10 @@
-use Rattle.std.proofs.Common.{List, Bool, ℕ, sym, subst}
-use Rattle.pair_runs.specs.declared.differences.Difference.{Difference}
+use Rattle.std.proofs.Common.{List, sym, subst}
 use Rattle.pair_runs.specs.declared.differences.OutputPair.{OutputPair}
 use Rattle.pair_runs.specs.Feeds.{AreFound}
 use Rattle.pair_runs.specs.Showing.{ArePlacesOf}
 use Rattle.sec_setup.proofs.Uncut.{no_names}
-use Rattle.replay.proofs.Fitting.{if_ok, places_of_sides, as_it_is, few_names, fitting}
+use Rattle.replay.proofs.Fitting.{if_ok, places_of_sides, as_it_is, fitting}
 use Rattle.replay.proofs.replaying.replay_whole.Goals as goal
-
-pub pairs_of-requires-clause-few : goal.pairs_of-requires-clause-few
-pairs_of-requires-clause-few c = few_names c.args.a.now.net.now c.args.b.now.net.now c.args.header.now c.args.names.now c.requires.fitting.left c.requires.fitting.named
 
 pub run_pairs-requires-clause-places : goal.run_pairs-requires-clause-places
 run_pairs-requires-clause-places c =

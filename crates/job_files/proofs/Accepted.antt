@@ -1,0 +1,45 @@
+-- Texts that are accepted, and texts that spell a stimulus, are not refused.
+use Rattle.std.specs.Prelude.{IfSome}
+use Rattle.std.proofs.Common.{◌≡◌, ℕ, Bool, List, refl, sym, ◌∙◌, arith, Option, Some}
+use Rattle.std.proofs.lemmas.Option.{none-some}
+use Rattle.blif_read.specs.declared.error.ReadKind.{ReadKind}
+use Rattle.flat_walk.specs.declared.error.FlatError.{FlatError}
+use Rattle.witness_report.specs.Form.{IsForm, HasNoHeader, IsBadRow}
+use Rattle.witness_report.proofs.Forms.{form_lines, one_form, no_bad_line}
+use Rattle.sec_files.specs.Loading.{IsAccepted, IsTooLong, HasFault, HasDesignFault}
+use Rattle.sec_files.specs.Stimuli.{IsStimulus, HasBadHeader, HasBadRow}
+use Rattle.job_files.proofs.Reading.{if_told}
+
+-- a form has a header and no bad row, and a text is the form of one stimulus alone
+pub has_header : (text : List ℕ) (names : List (List ℕ)) (rows : List (List Bool)) → IsForm text names rows → HasNoHeader text → ⊥
+has_header text names rows form none = none names _ form.names_are (form_lines names rows form.names_are text form.spelled)
+
+pub no_bad_row : (text : List ℕ) (names : List (List ℕ)) (rows : List (List Bool)) (line : ℕ) → IsForm text names rows → IsBadRow text line → ⊥
+no_bad_row text names rows line form bad =
+    no_bad_line text bad.names names _ rows line bad.names_are bad.lines form (record { rows = bad.rows; line = bad.line; more = bad.more; lines_are = refl; rows_are = bad.rows_are; faulty = bad.faulty; place = bad.place })
+
+pub same_names : (text : List ℕ) (names others : List (List ℕ)) (rows more : List (List Bool)) → IsForm text names rows → IsForm text others more → names ≡ others
+same_names text names others rows more form another =
+    let one = one_form text names others rows more form.names_are form.rows_are (form_lines names rows form.names_are text form.spelled) another in one.0
+
+-- an accepted circuit is not refused
+module _ (text : Option (List ℕ)) (x : List ℕ) (is : text ≡ Some x) (accepted : IsAccepted x) where
+  pub not_long : IfSome text IsTooLong → ⊥
+  not_long h = let long : IsTooLong x = if_told text IsTooLong x is h in omega (arith, accepted.short)
+
+  pub not_faulty : (line : ℕ) (kind : ReadKind) → IfSome text (λ t. HasFault t line kind) → ⊥
+  not_faulty line kind h = none-some _ (sym accepted.faultless ∙ (if_told text (λ t. HasFault t line kind) x is h).1)
+
+  pub not_unsound : (fault : FlatError) → IfSome text (λ t. HasDesignFault t fault) → ⊥
+  not_unsound fault h = accepted.sound fault (if_told text (λ t. HasDesignFault t fault) x is h).2
+
+-- nor is a stimulus
+module _ (text : Option (List ℕ)) (z : List ℕ) (told : text ≡ Some z) (names : List (List ℕ)) (rows : List (List Bool)) (stimulus : IsStimulus z names rows) where
+  pub no_long_stimulus : IfSome text IsTooLong → ⊥
+  no_long_stimulus h = let long : IsTooLong z = if_told text IsTooLong z told h in omega (arith, stimulus.short)
+
+  pub not_headless : (line : ℕ) → IfSome text (λ t. HasBadHeader t line) → ⊥
+  not_headless line h = has_header z names rows stimulus.form (if_told text (λ t. HasBadHeader t line) z told h).no_header
+
+  pub no_row_refused : (line : ℕ) → IfSome text (λ t. HasBadRow t line) → ⊥
+  no_row_refused line h = no_bad_row z names rows line stimulus.form (if_told text (λ t. HasBadRow t line) z told h).bad_row

@@ -1,0 +1,3 @@
+pub mod CompleteReplays
+pub mod Means
+pub mod TwoCircuits

@@ -1,6 +1,0 @@
-use Rattle.std.proofs.Common.{◌≡◌, take}
-use Rattle.sim_report.specs.Checks.{input_names}
-use Rattle.sim_report.proofs.checks.table_of_inputs.Given as goal
-
-abbrev pub invariant-loop-port : goal.invariant-loop-port
-invariant-loop-port l = l.table ≡ take l.port-index (input_names l.net)
