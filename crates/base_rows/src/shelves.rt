@@ -49,6 +49,14 @@ fn put_file(alloc: Global, shelf: &mut MemShelf, word: &[u8]) -> Result<(), NoMe
     shelf.put(alloc, path.as_str(), bytes.as_slice())
 }
 
+/// Lets each later read give so many bytes at most, where that is a number above 0.
+fn let_most(shelf: &mut MemShelf, digits: &[u8]) {
+    let most = number_of(digits);
+    if most > 0 {
+        shelf.set_most(most);
+    }
+}
+
 /// Puts what the shelf of these words gives.
 pub(crate) fn put_shelf(alloc: Global, out: &mut Vec<u8>, words: &[&[u8]]) -> Result<(), NoMemory> {
     let mut fails = Ids::new(alloc);
@@ -59,7 +67,9 @@ pub(crate) fn put_shelf(alloc: Global, out: &mut Vec<u8>, words: &[&[u8]]) -> Re
     }
     let mut shelf = MemShelf::new(alloc, fails);
     for word in words {
-        if word.contains(&b'=') {
+        if let [b'~', digits @ ..] = word {
+            let_most(&mut shelf, digits);
+        } else if word.contains(&b'=') {
             put_file(alloc, &mut shelf, word)?;
         } else if word.contains(&b'<') {
             put_fetch(alloc, out, &mut shelf, word)?;
