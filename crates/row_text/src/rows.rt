@@ -20,10 +20,13 @@ pub fn split_at(mark: u8, bytes: &[u8]) -> (&[u8], &[u8]) {
 /// The words of the text, which blanks part.
 pub fn words_of(alloc: Global, text: &[u8]) -> Result<Vec<&[u8]>, NoMemory> {
     let mut words = Vec::new(alloc);
-    for word in text.split(|byte| *byte == b' ') {
+    let mut rest = text;
+    for _ in 0..text.len() {
+        let (word, later) = split_at(b' ', rest);
         if !word.is_empty() {
             words.push(word)?;
         }
+        rest = later;
     }
     Ok(words)
 }
