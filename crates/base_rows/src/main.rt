@@ -4,7 +4,8 @@
 //! `names`: `+w` adds the name w, `=w` numbers it, `?w` looks it up; behind stand the names in their order.
 //! `places`: `pq` numbers the pair of the digits p and q; behind stand the pairs in their order, and a copy of the
 //! lists of their first and second digits.
-//! `shelves`: `!n` has read n fail, `w=n` puts a file w of n bytes, and behind these `w<n` fetches w of at most n bytes.
+//! `shelves`: `!n` has read n fail, `w=n` puts a file w of n bytes, `~n` lets each later read give n bytes at most, and behind these
+//! `w<n` fetches w of at most n bytes.
 //! `sinks`: the room, the write that fails or 0, what it keeps, and the piece that is written.
 //! `files`: `w<n` fetches the real file w of at most n bytes.
 #![tactic(auto)]

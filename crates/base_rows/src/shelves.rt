@@ -61,6 +61,14 @@ fn put_file(rt: &HostRuntime, shelf: &mut MemShelf, word: &[u8]) {
     }
 }
 
+/// Lets each later read give so many bytes at most, where that is a number above 0.
+fn let_most(shelf: &mut MemShelf, digits: &[u8]) {
+    let most = size_of(digits);
+    if most > 0 {
+        shelf.set_most(most);
+    }
+}
+
 /// The reads that the words `!n` have fail.
 fn fails_of(rt: &HostRuntime, words: &[u8]) -> Ids {
     let mut fails = Ids::new(rt.alloc());
@@ -84,7 +92,9 @@ pub(crate) fn show_shelf(rt: &HostRuntime, words: &[u8]) {
     for _ in 0..words.len() {
         let (word, later) = split_at(b' ', rest);
         rest = later;
-        if word.contains(&b'=') {
+        if let [b'~', digits @ ..] = word {
+            let_most(&mut shelf, digits);
+        } else if word.contains(&b'=') {
             put_file(rt, &mut shelf, word);
         } else if word.contains(&b'<') {
             show_fetch(rt, &mut shelf, word);

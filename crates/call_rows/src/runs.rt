@@ -1,19 +1,14 @@
 //! Runs of a circuit whose latches power up with 1.
 
-ghost use Rattle.std.specs.Prelude.{◌≡◌, ◌<◌, false, length, replicate, IfOk};
+ghost use Rattle.std.specs.Prelude.{◌≡◌, ◌<◌, IfOk};
 
-use crate::fault::Fault;
+use crate::circuits::net_of;
 use cycle_sim::{MarkedSim, Power};
 use flat_net::Net;
-use sec_base::{Bits, NoMemory, Seq, Shelf, put};
-use sec_files::load;
+use latch_cone::none_enabled;
+use row_text::Telling;
+use sec_base::{NoMemory, Shelf};
 use std::alloc::Global;
-
-fn unset(alloc: Global, count: usize) -> Result<Bits, NoMemory>
-    ensures { IfOk result (λ bits. bits ≡ replicate count false) }
-{
-    Ok(Seq::from_vec(vec![in alloc; false; count]?))
-}
 
 /// The bits of a row of digits.
 fn bits_of(alloc: Global, digits: &str) -> Result<Vec<bool>, NoMemory> {
@@ -24,69 +19,68 @@ fn bits_of(alloc: Global, digits: &str) -> Result<Vec<bool>, NoMemory> {
     Ok(bits)
 }
 
-fn put_bit(told: &mut Vec<u8>, bit: bool) -> Result<(), NoMemory> {
-    put(told, if bit { b"1" } else { b"0" })
-}
-
 /// Puts the values and the marks of the outputs in each cycle of the run.
-pub fn put_run<S: Shelf>(
-    alloc: Global,
-    data: &mut S,
-    told: &mut Vec<u8>,
-    words: &str,
-) -> Result<(), Fault> {
-    let (path, rows) = words.split_once(' ').ok_or(Fault::Row)?;
-    let net = load(alloc, data, path)?;
-    put_cycles(alloc, told, &net, rows)
+pub fn put_run<S: Shelf>(out: &mut Telling, data: &mut S, words: &str) {
+    let (path, rows) = words.split_once(' ').unwrap_or((words, ""));
+    match net_of(out, data, path) {
+        Some(net) => put_cycles(out, &net, rows),
+        None => out.lose(),
+    }
 }
 
-fn put_cycles(alloc: Global, told: &mut Vec<u8>, net: &Net, rows: &str) -> Result<(), Fault> {
-    let enabled = unset(alloc, net.latches().len())?;
-    let mut marked = MarkedSim::new(alloc, net, &Power::Ones, &enabled)?;
+/// The net with each latch at 1, none of them enabled.
+fn at_ones(alloc: Global, net: &Net) -> Result<MarkedSim<'_>, NoMemory>
+    ensures { IfOk result (λ marked. marked.sim.net ≡ net.now) }
+{
+    let enabled = none_enabled(alloc, net)?;
+    MarkedSim::new(alloc, net, &Power::Ones, &enabled)
+}
+
+fn put_cycles(out: &mut Telling, net: &Net, rows: &str) {
+    let Ok(mut marked) = at_ones(out.alloc(), net) else {
+        out.lose();
+        return;
+    };
     for row in rows.split_whitespace() {
-        put_cycle(alloc, told, net, &mut marked, row)?;
+        put_cycle(out, net, &mut marked, row);
     }
-    Ok(())
 }
 
 /// Takes one cycle over the row, and puts the values and the marks of the outputs in it.
-fn put_cycle(
-    alloc: Global,
-    told: &mut Vec<u8>,
-    net: &Net,
-    marked: &mut MarkedSim<'_>,
-    row: &str,
-) -> Result<(), Fault>
+fn put_cycle(out: &mut Telling, net: &Net, marked: &mut MarkedSim<'_>, row: &str)
     requires { marked.old.sim.net ≡ net.now }
     ensures { marked.new.sim.net ≡ marked.old.sim.net }
 {
-    let inputs = bits_of(alloc, row)?;
+    let Ok(inputs) = bits_of(out.alloc(), row) else {
+        out.lose();
+        return;
+    };
     if inputs.len() != net.inputs().len() || marked.cycles() > 1_000 {
-        return Err(Fault::Row);
+        out.lose();
+        return;
     }
     marked.step(inputs.as_slice());
-    put_outputs(told, net, marked)?;
-    Ok(())
+    put_outputs(out, net, marked);
 }
 
 /// Puts the values and the marks of the outputs in the latest cycle.
-fn put_outputs(told: &mut Vec<u8>, net: &Net, marked: &MarkedSim<'_>) -> Result<(), NoMemory>
+fn put_outputs(out: &mut Telling, net: &Net, marked: &MarkedSim<'_>)
     requires net { marked.now.sim.net ≡ net.now }
     requires begun { 0 < marked.now.sim.cycles }
 {
-    put(told, b"values ")?;
+    out.put(b"values");
     for (place, _) in net.outputs().iter().enumerate() {
         let Ok(output) = u32::try_from(place) else {
             break;
         };
-        put_bit(told, marked.output(output))?;
+        out.put_bit(marked.output(output));
     }
-    put(told, b" marks ")?;
+    out.put(b" marks");
     for (place, _) in net.outputs().iter().enumerate() {
         let Ok(output) = u32::try_from(place) else {
             break;
         };
-        put_bit(told, marked.mark(output))?;
+        out.put_bit(marked.mark(output));
     }
-    put(told, b"\n")
+    out.put(b"\n");
 }

@@ -1,80 +1,46 @@
-//! One run, with a read that fails or a write that is cut short.
+//! Runs with a read that fails, or a write that is cut short.
 
-use crate::fault::Fault;
-use crate::files::{Files, shelf_of};
-use crate::running::{ROOM, put_status};
-use sec_base::{MemSink, put, put_number};
-use sec_run::run;
-use std::alloc::Global;
+use crate::files::shelf_of;
+use crate::running::{put_run, put_short_write};
+use row_text::Telling;
+use sec_base::Shelf;
 
-/// Runs the words with each of the first five reads failing, and puts what is reported. Each file takes two reads, the second of
-/// which gives nothing.
-pub fn put_failing_reads(
-    alloc: Global,
-    told: &mut Vec<u8>,
-    words: &[String],
-    files: &Files,
-) -> Result<(), Fault> {
-    for fail in 1u32..6 {
-        put(told, b"read ")?;
-        put_number(alloc, told, fail as u64)?;
-        put(told, b" fails\n")?;
-        put_failing_read(alloc, told, words, files, fail)?;
+/// The exit status of a read fault.
+const READ_FAULT: u8 = 6;
+
+/// Runs the words with each of the first seven reads failing. Each file takes two reads, the second of which gives nothing.
+pub fn put_failing_reads<S: Shelf>(out: &mut Telling, data: &mut S, words: &[String], files: &str) {
+    for fails in 1u32..8 {
+        put_failing_read(out, data, words, files, fails);
     }
-    Ok(())
 }
 
-fn put_failing_read(
-    alloc: Global,
-    told: &mut Vec<u8>,
+/// Runs the words with this read failing, and where that ends the run, once more over the same shelf.
+fn put_failing_read<S: Shelf>(
+    out: &mut Telling,
+    data: &mut S,
     words: &[String],
-    files: &Files,
-    fail: u32,
-) -> Result<(), Fault> {
-    let mut shelf = shelf_of(alloc, files, fail)?;
-    let mut out = MemSink::new(alloc, ROOM, None, 0)?;
-    let status = run(alloc, words, &mut shelf, &mut out);
-    put(told, out.taken())?;
-    put_status(alloc, told, &status)
-}
-
-/// Runs the words with a write that takes each number of bytes from none on, as long as that is less than the report, and puts what
-/// is taken.
-pub fn put_short_writes(
-    alloc: Global,
-    told: &mut Vec<u8>,
-    words: &[String],
-    files: &Files,
-) -> Result<(), Fault> {
-    for keep in 0..report_length(alloc, words, files)? {
-        put(told, b"the write takes ")?;
-        put_number(alloc, told, keep as u64)?;
-        put(told, b"\n")?;
-        put_short_write(alloc, told, words, files, keep)?;
+    files: &str,
+    fails: u32,
+) {
+    out.put(b"read");
+    out.put_count(u64::from(fails));
+    out.put(b" fails\n");
+    let mut shelf = shelf_of(out, data, files, fails);
+    if put_run(out, words, &mut shelf).code == READ_FAULT {
+        out.put(b"once more\n");
+        put_run(out, words, &mut shelf);
     }
-    put(told, b"\n")?;
-    Ok(())
 }
 
-/// How long the whole report is.
-fn report_length(alloc: Global, words: &[String], files: &Files) -> Result<usize, Fault> {
-    let mut shelf = shelf_of(alloc, files, 0)?;
-    let mut out = MemSink::new(alloc, ROOM, None, 0)?;
-    let _status = run(alloc, words, &mut shelf, &mut out);
-    Ok(out.taken().len())
-}
-
-fn put_short_write(
-    alloc: Global,
-    told: &mut Vec<u8>,
-    words: &[String],
-    files: &Files,
-    keep: usize,
-) -> Result<(), Fault> {
-    let mut shelf = shelf_of(alloc, files, 0)?;
-    let mut out = MemSink::new(alloc, ROOM, Some(1), keep)?;
-    let status = run(alloc, words, &mut shelf, &mut out);
-    put(told, out.taken())?;
-    put(told, b"|\n")?;
-    put_status(alloc, told, &status)
+/// Runs the words, and then with a write that takes each number of bytes from none on, as long as that is less than the report.
+pub fn put_short_writes<S: Shelf>(out: &mut Telling, data: &mut S, words: &[String], files: &str) {
+    let mut shelf = shelf_of(out, data, files, 0);
+    let whole = put_run(out, words, &mut shelf).taken;
+    for keep in 0..whole {
+        out.put(b"the write takes");
+        out.put_count(keep as u64);
+        out.put(b"\n");
+        put_short_write(out, words, &mut shelf, keep);
+    }
 }

@@ -1,82 +1,78 @@
 //! The files of a row.
 
-use crate::fault::Fault;
-use sec_base::{Ids, MemShelf, NoMemory, Shelf, fetch, put};
-use std::alloc::Global;
+use row_text::{Telling, number_of};
+use sec_base::{Ids, MemShelf, Shelf};
 
-/// What a run finds in its files.
-#[derive(Drop)]
-pub struct Files {
-    a: Vec<u8>,
-    b: Vec<u8>,
-}
+/// The paths of a row's files, in their order.
+const PATHS: [&str; 4] = ["a", "b", "s", "c"];
 
-/// The files of a row; one that isn't told is empty.
-pub fn files_of<S: Shelf>(alloc: Global, data: &mut S, told: &str) -> Result<Files, Fault> {
-    let mut told = told.split_whitespace();
-    let a = text_of(alloc, data, told.next().unwrap_or("-"))?;
-    let b = text_of(alloc, data, told.next().unwrap_or("-"))?;
-    Ok(Files { a, b })
-}
-
-/// A shelf with the files under `a` and `b`; the read of this number fails, and none where it is 0.
-pub fn shelf_of(alloc: Global, files: &Files, fail: u32) -> Result<MemShelf, NoMemory> {
-    let mut fails = Ids::new(alloc);
-    fails.push(fail)?;
-    let mut shelf = MemShelf::new(alloc, fails);
-    shelf.put(alloc, "a", files.a.as_slice())?;
-    shelf.put(alloc, "b", files.b.as_slice())?;
-    Ok(shelf)
-}
-
-/// The text that is told: its parts, one behind the other.
-fn text_of<S: Shelf>(alloc: Global, data: &mut S, file: &str) -> Result<Vec<u8>, Fault> {
-    let mut text = Vec::new(alloc);
-    for part in file.split('+') {
-        put_part(alloc, data, &mut text, part)?;
+/// A shelf with the files of a row; the read of this number fails, and none where it is 0.
+pub fn shelf_of<S: Shelf>(out: &mut Telling, data: &mut S, files: &str, fails: u32) -> MemShelf {
+    let mut numbers = Ids::new(out.alloc());
+    if numbers.push(fails).is_err() {
+        out.lose();
     }
-    Ok(text)
+    let mut shelf = MemShelf::new(out.alloc(), numbers);
+    for (place, file) in files.split_whitespace().enumerate() {
+        match PATHS.get(place) {
+            Some(path) => put_file(out, data, &mut shelf, path, file),
+            None => out.lose(),
+        }
+    }
+    shelf
+}
+
+/// Puts the text that is told under the path: its parts, one behind the other.
+fn put_file<S: Shelf>(
+    out: &mut Telling,
+    data: &mut S,
+    shelf: &mut MemShelf,
+    path: &str,
+    file: &str,
+) {
+    let mut text = Telling::new(out.alloc());
+    for part in file.split('+') {
+        put_part(&mut text, data, part);
+    }
+    out.rest_on(&text);
+    if shelf.put(out.alloc(), path, text.bytes()).is_err() {
+        out.lose();
+    }
 }
 
 /// Puts the file so often, or so many bytes of it.
-fn put_part<S: Shelf>(
-    alloc: Global,
-    data: &mut S,
-    text: &mut Vec<u8>,
-    part: &str,
-) -> Result<(), Fault> {
+fn put_part<S: Shelf>(text: &mut Telling, data: &mut S, part: &str) {
     if part == "-" {
-        return Ok(());
+        return;
     }
     if let Some((path, count)) = part.split_once('*') {
-        return put_times(alloc, data, text, path, number(count)?);
+        put_times(text, data, path, number_of(count.as_bytes()));
+        return;
     }
     if let Some((path, count)) = part.split_once(':') {
-        let file = fetch(alloc, data, path, 1_000_000)?;
-        let count = (number(count)? as usize).min(file.len());
-        put(text, &file.as_slice()[..count])?;
-        return Ok(());
+        put_front(text, data, path, number_of(count.as_bytes()));
+        return;
     }
-    put_times(alloc, data, text, part, 1)
+    put_times(text, data, part, Some(1));
 }
 
-fn number(digits: &str) -> Result<u32, Fault> {
-    match digits.parse() {
-        Ok(number) => Ok(number),
-        Err(_) => Err(Fault::Row),
-    }
-}
-
-fn put_times<S: Shelf>(
-    alloc: Global,
-    data: &mut S,
-    text: &mut Vec<u8>,
-    path: &str,
-    count: u32,
-) -> Result<(), Fault> {
-    let file = fetch(alloc, data, path, 1_000_000)?;
+fn put_times<S: Shelf>(text: &mut Telling, data: &mut S, path: &str, count: Option<u64>) {
+    let Some(file) = text.file(data, path) else {
+        return;
+    };
+    let Some(count) = count else {
+        text.lose();
+        return;
+    };
     for _ in 0..count {
-        put(text, file.as_slice())?;
+        text.put(file.as_slice());
     }
-    Ok(())
+}
+
+fn put_front<S: Shelf>(text: &mut Telling, data: &mut S, path: &str, count: Option<u64>) {
+    let Some(file) = text.file(data, path) else {
+        return;
+    };
+    let front = file.as_slice().get(..count.unwrap_or(0) as usize);
+    text.put(front.unwrap_or(&[]));
 }

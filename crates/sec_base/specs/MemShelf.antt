@@ -12,6 +12,10 @@ held_by shelf path = option_map (λ f. f.bytes) (get_by_text shelf.files path)
 abbrev pub faults_of : MemShelf → List ℕ → ℕ
 faults_of shelf path = option_map_or (λ f. f.faults) (get_by_text shelf.files path) shelf.absent_faults
 
+-- how many bytes a read gives at most
+abbrev pub most_of : MemShelf → ℕ
+most_of shelf = shelf.more + 1
+
 -- the number of the next read, from 1; it stays at the last value of its type
 abbrev pub next_call : MemShelf → ℕ
 next_call shelf = min (shelf.calls + 1) (2 ^ 64 - 1)

@@ -1,8 +1,8 @@
 //! A shelf in memory.
 
-ghost use Rattle.std.specs.Prelude.{◌≡◌, ◌≢◌, ◌≤◌, ◌↔◌, ℕ, List, length, Some, IsTrue, IsSome, Contains, IsErrOf, IsOk, IfOk, IfSome, OnOk, OnErr};
+ghost use Rattle.std.specs.Prelude.{◌≡◌, ◌≢◌, ◌+◌, ◌^◌, ◌<◌, ◌≤◌, ◌↔◌, ℕ, List, length, Some, IsTrue, IsSome, Contains, IsErrOf, IsOk, IfOk, IfSome, OnOk, OnErr};
 ghost use Rattle.sec_base.specs.Outside.{Rose, SameHeld, NoneFell, Gives};
-ghost use Rattle.sec_base.specs.MemShelf.{held_by, faults_of, next_call, IsServed, IsServing};
+ghost use Rattle.sec_base.specs.MemShelf.{held_by, faults_of, most_of, next_call, IsServed, IsServing};
 
 use crate::list::{FileText, Ids, NoMemory, Seq};
 use crate::shelves::{Shelf, ShelfError};
@@ -17,29 +17,41 @@ pub struct HeldFile {
 }
 
 /// Files in memory. The reads whose numbers are told, counted from 1, fail, and so does each read of a path that
-/// isn't held. All paths that aren't held share one count of faults.
+/// isn't held. All paths that aren't held share one count of faults. A read gives one byte and `more` besides at most.
 #[derive(Drop)]
 pub struct MemShelf {
     pub files: BTreeMap<String, HeldFile>,
     pub fails: Ids,
     pub calls: u64,
     pub absent_faults: u64,
+    pub more: usize,
 }
 
 impl MemShelf {
-    /// The shelf that holds no file. It takes no memory.
+    /// The shelf that holds no file. Its reads give as much as there is room for. It takes no memory.
     pub fn new(alloc: Global, fails: Ids) -> MemShelf
         ensures held { (path : List ℕ) → held_by result path ≡ None }
         ensures faults { (path : List ℕ) → faults_of result path ≡ 0 }
         ensures fails { result.fails ≡ fails }
         ensures calls { result.calls ≡ 0 }
+        ensures most { most_of result ≡ 2 ^ 64 }
     {
         MemShelf {
             files: BTreeMap::new(alloc),
             fails,
             calls: 0,
             absent_faults: 0,
+            more: usize::MAX,
         }
+    }
+
+    /// Lets each later read give at most so many bytes. It takes no memory.
+    pub fn set_most(&mut self, most: u32)
+        requires { 0 < most }
+        ensures most { most_of self.new ≡ most }
+        ensures same { self.new ≡ record self.old { more = self.new.more } }
+    {
+        self.more = most as usize - 1;
     }
 
     /// Adds a file, or replaces it. A new file's count of faults starts at the count that the paths that aren't
@@ -51,6 +63,7 @@ impl MemShelf {
         ensures err { OnErr result (SameHeld (held_by self.old) (held_by self.new)) }
         ensures fails { self.new.fails ≡ self.old.fails }
         ensures calls { self.new.calls ≡ self.old.calls }
+        ensures more { self.new.more ≡ self.old.more }
     {
         let text = bytes.to_vec(alloc)?;
         let faults = self.faults_at(path);
@@ -90,6 +103,7 @@ impl MemShelf {
         ensures others { (other : List ℕ) → other ≢ path.now → IsSome (held_by self.old other) → faults_of self.new other ≡ faults_of self.old other }
         ensures fails { self.new.fails ≡ self.old.fails }
         ensures calls { self.new.calls ≡ self.old.calls }
+        ensures more { self.new.more ≡ self.old.more }
     {
         match self.files.get_mut(path) {
             Some(file) => file.faults = one_more(file.faults),
@@ -117,20 +131,22 @@ impl Shelf for MemShelf {
         ensures served { IsServing self.old path.now → IsErrOf result ShelfError.Failed → ⊥ }
         ensures serving { (other : List ℕ) → IsServing self.old other → IsServing self.new other }
 
-        // It reads exactly where the path is held and the call isn't told to fail.
+        // It reads exactly where the path is held and the call isn't told to fail, and never more than it is let.
         ensures read { IsOk result ↔ IsServed self.old path.now }
+        ensures most { IfOk result (λ count. count ≤ most_of self.old) }
         ensures failed { OnErr result (result ≡ Err ShelfError.Failed) }
         ensures counts { OnOk result ((other : List ℕ) → faults_of self.new other ≡ faults_of self.old other) }
         ensures others { (other : List ℕ) → other ≢ path.now → IsSome (held_by self.old other) → faults_of self.new other ≡ faults_of self.old other }
         ensures calls { self.new.calls ≡ next_call self.old }
         ensures fails { self.new.fails ≡ self.old.fails }
+        ensures more { self.new.more ≡ self.old.more }
     {
         if self.next_call_fails() {
             self.count_fault(path);
             return Err(ShelfError::Failed);
         }
         match self.files.get(path) {
-            Some(file) => Ok(read_piece(file.bytes.as_slice(), from, room)),
+            Some(file) => Ok(read_piece(file.bytes.as_slice(), from, room, self.more)),
             None => {
                 self.count_fault(path);
                 Err(ShelfError::Failed)
@@ -146,13 +162,15 @@ fn one_more(count: u64) -> u64
     count.saturating_add(1)
 }
 
-fn read_piece(bytes: &[u8], from: u64, room: &mut [u8]) -> usize
+/// Puts what is there into the room, from the place on: one byte and so many more at most.
+fn read_piece(bytes: &[u8], from: u64, room: &mut [u8], more: usize) -> usize
     ensures bound { result ≤ length room.new }
     ensures gives { Gives bytes.now from result room.new }
+    ensures most { result ≤ more + 1 }
 {
     let start = bytes.len().min(from as usize);
     let rest = &bytes[start..];
-    let count = rest.len().min(room.len());
+    let count = rest.len().min(room.len()).min(more.saturating_add(1));
     room[..count].copy_from_slice(&rest[..count]);
     count
 }
