@@ -1,5 +1,5 @@
 -- A circuit of a pair that grows by one cell.
-use Rattle.std.proofs.Common.{◌≡◌, ◌+◌, ◌*◌, ◌/◌, ◌%◌, ◌^◌, ◌<◌, ◌≤◌, ◌∙◌, ℕ, zero, suc, Bool, true, false, List, [], ◌∷◌, ◌++◌, length, slice_get, Option, Some, None, refl, sym, ap, ap₂, subst, arith, inl, inr}
+use Rattle.std.proofs.Common.{◌≡◌, ◌+◌, ◌*◌, ◌/◌, ◌%◌, ◌^◌, ◌<◌, ◌∙◌, ℕ, Bool, false, List, [], ◌∷◌, ◌++◌, length, slice_get, Option, Some, refl, sym, ap, ap₂, subst, arith, inl, inr}
 use Rattle.std.specs.List.{All, Contains}
 use Rattle.std.specs.Prelude.{◌⊎◌, IsSomeAnd, slice_index}
 use Rattle.std.proofs.lemmas.List.{length-append}
@@ -13,15 +13,13 @@ use Rattle.flat_net.specs.declared.parts.Port.{Port}
 use Rattle.flat_net.specs.declared.parts.Gate.{Gate}
 use Rattle.flat_net.specs.declared.parts.LatchAt.{LatchAt}
 use Rattle.flat_net.specs.declared.parts.Driver.TheVariants as driver
-use Rattle.flat_net.specs.View.{NetView}
-use Rattle.flat_net.specs.Makes.{MakerView, empty_net, with_input, with_latch, with_gate, with_cover}
+use Rattle.flat_net.specs.Makes.{MakerView, empty_net, with_input, with_latch, with_gate}
 use Rattle.pair_gen.specs.declared.cells.Cell.{Cell}
 use Rattle.pair_gen.specs.declared.cells.Cell.TheVariants as cell
-use Rattle.pair_gen.specs.declared.kinds.Kind.{Kind}
 use Rattle.pair_gen.specs.Kinds.{kind_of, rows_of}
 use Rattle.pair_gen.specs.Cells.{name_of, column_of, second_of}
 use Rattle.pair_gen.specs.Twins.{is_regrouped}
-use Rattle.pair_gen.specs.Sketch.{IsSketch, first_of, latch_cell, gate_cell, cell_at, number_of, signal_of, input_at, latch_at, gate_of, gate_at, cover_number, covers_of}
+use Rattle.pair_gen.specs.Sketch.{IsSketch, latch_cell, gate_cell, cell_at, number_of, signal_of, input_at, latch_at, gate_at, covers_of}
 use Rattle.pair_gen.proofs.Firsts.{first_of-none, push_more}
 use Rattle.pair_gen.proofs.Numbers.{cell_at-input, cell_at-latch, cell_at-gate, gate_whole, latch_whole, column_below}
 use Rattle.pair_gen.proofs.Naming.{fresh}

@@ -1,5 +1,5 @@
 -- Cells of one name are one cell.
-use Rattle.std.proofs.Common.{◌≡◌, ℕ, ◌+◌, ◌/◌, ◌%◌, ◌^◌, ◌<◌, nat_lt, ◌==◌, ◌&&◌, not, Bool, true, false, true≢false, if◌then◌else◌, List, [], ◌∷◌, ◌++◌, decimal, refl, sym, ◌∙◌, ap, ap₂, subst, arith, zero, suc, ne_eqb, append_assoc, length, slice_get, Some}
+use Rattle.std.proofs.Common.{◌≡◌, ℕ, ◌+◌, ◌/◌, ◌%◌, ◌<◌, ◌==◌, ◌&&◌, not, Bool, true, false, true≢false, if◌then◌else◌, List, [], ◌∷◌, ◌++◌, decimal, refl, sym, ◌∙◌, ap, ap₂, arith, zero, suc, ne_eqb, append_assoc, length, slice_get, Some}
 use Rattle.std.specs.List.{list_all}
 use Rattle.std.specs.Fmt.{digits, digits_onto, digit_glyph}
 use Rattle.std.proofs.lemmas.Bool.{and_parts, lt-ltb}
@@ -7,11 +7,11 @@ use Rattle.std.proofs.lemmas.Fmt.{decimal_injective}
 use Rattle.std.proofs.lemmas.Option.{slice_get_within, same_Some}
 use Rattle.circuit_theory.specs.declared.Side.{Side}
 use Rattle.circuit_theory.specs.declared.Side.TheVariants.{A, B}
-use Rattle.sec_base.specs.Table.{is_among, AreDistinct}
+use Rattle.sec_base.specs.Table.{is_among}
 use Rattle.sec_base.proofs.TableLemmas.{is_among-at}
 use Rattle.pair_gen.specs.declared.cells.Cell.{Cell}
 use Rattle.pair_gen.specs.declared.cells.Cell.TheVariants.{Input, Latch, Gate}
-use Rattle.pair_gen.specs.Cells.{latch_letter, name_of, output_name}
+use Rattle.pair_gen.specs.Cells.{name_of, output_name}
 use Rattle.pair_gen.specs.Sketch.{cell_at, number_of, first_of}
 use Rattle.pair_gen.proofs.Firsts.{length-first_of, first_of-at}
 use Rattle.pair_gen.proofs.Numbers.{IsPlaced, of_cell}

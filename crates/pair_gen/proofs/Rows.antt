@@ -1,7 +1,7 @@
 -- The rows of a kind, by their number, and what they spell.
-use Rattle.std.proofs.Common.{◌≡◌, ◌+◌, ◌<◌, ◌∙◌, ℕ, zero, suc, Bool, true, false, List, [], ◌∷◌, length, slice_get, Some, refl, sym, ap, subst, arith, inl, inr}
+use Rattle.std.proofs.Common.{◌≡◌, ℕ, Bool, true, false, slice_get, Some, refl}
 use Rattle.std.specs.Prelude.{◌&&◌, ◌==◌}
-use Rattle.circuit_theory.specs.Cover.{Cover, cover_value}
+use Rattle.circuit_theory.specs.Cover.{cover_value}
 use Rattle.circuit_theory.specs.declared.Side.{Side}
 use Rattle.circuit_theory.specs.declared.Side.TheVariants.{A, B}
 use Rattle.pair_gen.specs.declared.kinds.Kind.{Kind}

@@ -1,8 +1,7 @@
 -- Outputs that are shown, one after the other.
-use Rattle.std.proofs.Common.{◌≡◌, ◌+◌, ◌∙◌, ℕ, List, [], refl, sym, ap, length}
+use Rattle.std.proofs.Common.{◌≡◌, ◌+◌, ◌∙◌, ℕ, List, [], sym, ap, length}
 use Rattle.circuit_theory.specs.declared.Side.{Side}
 use Rattle.flat_net.specs.declared.parts.Port.{Port}
-use Rattle.flat_net.specs.View.{NetView}
 use Rattle.flat_net.specs.Makes.{MakerView, with_output}
 use Rattle.pair_gen.specs.Cells.{output_name, shown_by}
 use Rattle.pair_gen.specs.Sketch.{first_of, output_at, signal_of}

@@ -1,8 +1,8 @@
 -- Latches that are tied to what they take over, one after the other.
-use Rattle.std.proofs.Common.{◌≡◌, ◌≢◌, ◌+◌, ◌/◌, ◌%◌, ◌<◌, ◌≤◌, ◌∙◌, ℕ, zero, suc, Bool, true, false, List, [], ◌∷◌, ◌++◌, length, slice_get, slice_set, Option, Some, refl, sym, ap, ap₂, subst, arith, inl, inr}
+use Rattle.std.proofs.Common.{◌≡◌, ◌≢◌, ◌+◌, ◌/◌, ◌%◌, ◌<◌, ◌∙◌, ℕ, zero, suc, Bool, true, false, List, [], ◌∷◌, length, slice_get, slice_set, Option, Some, refl, sym, ap, subst, arith, inl, inr}
 use Rattle.std.specs.Prelude.{◌⊎◌, nat_lt, IsSomeAnd}
-use Rattle.std.specs.List.{All, Contains}
-use Rattle.std.proofs.lemmas.Bool.{cases_order, lt-ltb, le-ltb, ltb-true, ltb-false}
+use Rattle.std.specs.List.{All}
+use Rattle.std.proofs.lemmas.Bool.{cases_order, lt-ltb, le-ltb}
 use Rattle.std.proofs.lemmas.List.{length-set}
 use Rattle.std.proofs.lemmas.Option.{none-some, same_Some, slice_get_within}
 use Rattle.circuit_theory.proofs.Lists.{All-from_each, at_of}
@@ -14,7 +14,7 @@ use Rattle.flat_net.specs.View.{NetView}
 use Rattle.flat_net.specs.Makes.{MakerView, with_next, next_set}
 use Rattle.flat_net.proofs.NextSet.{next_set-is, length-next_set}
 use Rattle.pair_gen.specs.Cells.{data_of}
-use Rattle.pair_gen.specs.Sketch.{IsSketch, IsTied, first_of, latch_at, latch_cell, signal_of}
+use Rattle.pair_gen.specs.Sketch.{IsSketch, IsTied, latch_at, latch_cell, signal_of}
 use Rattle.pair_gen.proofs.Firsts.{at_first, length-first_of}
 
 slice_get-set_same : {X : Type 0} (xs : List X) (i : ℕ) (y x : X) → slice_get xs i ≡ Some x → slice_get (slice_set xs i y) i ≡ Some y

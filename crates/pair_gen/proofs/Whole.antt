@@ -1,27 +1,23 @@
 -- The whole circuit of a pair.
-use Rattle.std.proofs.Common.{◌≡◌, ◌+◌, ◌*◌, ◌/◌, ◌%◌, ◌^◌, ◌<◌, ◌≤◌, ◌∙◌, ℕ, zero, suc, Bool, true, false, List, [], ◌∷◌, length, map, slice_get, Some, None, refl, sym, ap, ap₂, subst, arith}
-use Rattle.std.specs.Prelude.{slice_index, nat_lt}
+use Rattle.std.proofs.Common.{◌≡◌, ◌+◌, ◌*◌, ◌/◌, ◌%◌, ◌<◌, ◌∙◌, ℕ, Bool, true, List, length, map, slice_get, Some, refl, sym, ap, ap₂, arith}
+use Rattle.std.specs.Prelude.{slice_index}
 use Rattle.std.proofs.lemmas.Bool.{lt-ltb}
-use Rattle.std.proofs.lemmas.List.{length-map}
 use Rattle.std.proofs.lemmas.Option.{slice_get_within, same_Some}
 use Rattle.circuit_theory.specs.Cover.{Cover}
 use Rattle.circuit_theory.specs.declared.Side.{Side}
 use Rattle.sec_base.specs.Table.{AreDistinct}
 use Rattle.sec_base.proofs.TableLemmas.{key_at}
-use Rattle.sec_base.specs.declared.basics.Init.TheVariants as init
-use Rattle.flat_net.specs.declared.signals.Signal.{Signal}
 use Rattle.flat_net.specs.declared.parts.Port.{Port}
-use Rattle.flat_net.specs.declared.parts.Gate.{Gate}
 use Rattle.flat_net.specs.declared.parts.LatchAt.{LatchAt}
 use Rattle.flat_net.specs.View.{NetView}
 use Rattle.flat_net.specs.Makes.{MakerView}
 use Rattle.flat_net.specs.Comparable.{IsComparable}
 use Rattle.pair_gen.specs.declared.cells.Cell.{Cell}
 use Rattle.pair_gen.specs.declared.cells.Cell.TheVariants as cell
-use Rattle.pair_gen.specs.Kinds.{kind_of, rows_of}
+use Rattle.pair_gen.specs.Kinds.{kind_of}
 use Rattle.pair_gen.specs.Cells.{name_of, output_name, column_of, data_of, shown_by, second_of}
-use Rattle.pair_gen.specs.Twins.{place_of, is_regrouped, IsOf, HasInput, HasOutput, HasLatch, HasGate, IsTwin}
-use Rattle.pair_gen.specs.Sketch.{IsSketch, IsTied, first_of, latch_cell, cell_at, number_of, signal_of, input_at, output_at, latch_at, gate_of, gate_at, covers_of}
+use Rattle.pair_gen.specs.Twins.{place_of, IsOf, HasInput, HasOutput, HasLatch, HasGate, IsTwin}
+use Rattle.pair_gen.specs.Sketch.{IsSketch, IsTied, first_of, cell_at, number_of, signal_of, input_at, output_at, latch_at, gate_of, gate_at, covers_of}
 use Rattle.pair_gen.proofs.Firsts.{at_first, length-first_of}
 use Rattle.pair_gen.proofs.Naming.{same_output}
 use Rattle.pair_gen.proofs.Numbers.{IsPlaced, cell_at-number, number_within, column_placed, data_placed, shown_placed, stage_of_place, layer_of_place, column_of_place, place_within, latch_stage, latch_column, latch_within}

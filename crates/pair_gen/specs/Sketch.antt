@@ -1,5 +1,5 @@
 -- A circuit of a generated pair while it is made: the inputs have the first signals, then the latches, then the gates.
-use Rattle.std.specs.Prelude.{◌≡◌, ℕ, ◌+◌, ◌-◌, ◌*◌, ◌/◌, ◌%◌, ◌<◌, nat_lt, Bool, true, false, if◌then◌else◌, List, [], ◌∷◌, ◌++◌, map, length, slice_get, slice_index, Some, None}
+use Rattle.std.specs.Prelude.{◌≡◌, ℕ, ◌+◌, ◌-◌, ◌*◌, ◌/◌, ◌%◌, ◌<◌, nat_lt, Bool, true, false, if◌then◌else◌, List, [], ◌∷◌, map, length, slice_get, slice_index, Some, None}
 use Rattle.std.specs.List.{range_with_len}
 use Rattle.circuit_theory.specs.Cover.{Cover}
 use Rattle.circuit_theory.specs.declared.Side.{Side}
@@ -8,7 +8,6 @@ use Rattle.flat_net.specs.declared.signals.Signal.{Signal}
 use Rattle.flat_net.specs.declared.parts.Port.{Port}
 use Rattle.flat_net.specs.declared.parts.Gate.{Gate}
 use Rattle.flat_net.specs.declared.parts.LatchAt.{LatchAt}
-use Rattle.flat_net.specs.View.{NetView}
 use Rattle.flat_net.specs.Makes.{MakerView}
 use Rattle.pair_gen.specs.declared.cells.Cell.{Cell}
 use Rattle.pair_gen.specs.declared.cells.Cell.TheVariants as cell

@@ -1,4 +1,4 @@
-use Rattle.std.proofs.Common.{◌≡◌, ◌∙◌, length, ap}
+use Rattle.std.proofs.Common.{◌∙◌, length, ap}
 use Rattle.pair_gen.proofs.Draws.{words_count}
 use Rattle.pair_gen.proofs.drawing.generate.Goals as goal
 

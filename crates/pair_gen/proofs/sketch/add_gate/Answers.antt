@@ -1,11 +1,9 @@
-use Rattle.std.proofs.Common.{◌≡◌, ◌+◌, ◌/◌, ◌%◌, ◌*◌, ◌^◌, ◌<◌, ◌≤◌, ◌∙◌, ℕ, Bool, List, [], ◌∷◌, sym, ap, ap₂, subst, arith}
-use Rattle.std.specs.Prelude.{slice_index}
-use Rattle.flat_net.specs.declared.signals.Signal.{Signal}
+use Rattle.std.proofs.Common.{◌+◌, ◌/◌, ◌%◌, ◌^◌, ◌<◌, ◌∙◌, Bool, [], ◌∷◌, sym, ap, ap₂, subst, arith}
 use Rattle.flat_net.specs.Makes.{MakerView}
 use Rattle.pair_gen.specs.declared.cells.Cell.{Cell}
 use Rattle.pair_gen.specs.declared.kinds.Kind.{Kind}
-use Rattle.pair_gen.specs.Cells.{column_of, second_of}
-use Rattle.pair_gen.specs.Sketch.{IsSketch, gate_cell, gate_at, signal_of, number_of, cover_number, covers_of}
+use Rattle.pair_gen.specs.Cells.{column_of}
+use Rattle.pair_gen.specs.Sketch.{IsSketch, gate_cell, signal_of, number_of, cover_number, covers_of}
 use Rattle.pair_gen.proofs.Drawn.{room_for, name_new, gate_more, reads_within, rows_fit}
 use Rattle.pair_gen.proofs.Numbers.{cell_at-gate, column_small}
 use Rattle.pair_gen.proofs.sketch.add_gate.Goals as goal

@@ -1,4 +1,4 @@
-use Rattle.std.proofs.Common.{◌≡◌, ◌+◌, ◌∙◌, ℕ, [], sym, ap, subst, arith}
+use Rattle.std.proofs.Common.{◌≡◌, ◌+◌, ◌∙◌, [], sym, ap, subst, arith}
 use Rattle.flat_net.specs.Makes.{MakerView}
 use Rattle.pair_gen.specs.declared.cells.Cell.TheVariants as cell
 use Rattle.pair_gen.specs.Sketch.{IsSketch, cell_at}

@@ -1,4 +1,4 @@
-use Rattle.std.proofs.Common.{◌≡◌, ◌+◌, ◌∙◌, ℕ, [], sym, ap, subst, arith}
+use Rattle.std.proofs.Common.{◌+◌, ◌∙◌, [], sym, subst, arith}
 use Rattle.flat_net.specs.Makes.{MakerView}
 use Rattle.pair_gen.specs.Sketch.{IsSketch, latch_cell}
 use Rattle.pair_gen.proofs.Drawn.{room_for, name_new, latch_more}

@@ -1,5 +1,4 @@
 use Rattle.std.proofs.Common.{◌≡◌}
-use Rattle.flat_net.specs.View.{NetView}
 use Rattle.flat_net.specs.Makes.{MakerView}
 use Rattle.pair_gen.specs.Sketch.{first_of, output_at}
 use Rattle.pair_gen.proofs.sketch.add_outputs.Given as goal
