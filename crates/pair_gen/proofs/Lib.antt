@@ -1,0 +1,9 @@
+pub mod Firsts
+pub mod Naming
+pub mod Numbers
+pub mod Rows
+pub mod Drawn
+pub mod Tying
+pub mod Whole
+pub mod Draws
+pub mod Showing
