@@ -57,8 +57,9 @@ impl Budget {
     /// After a failure the next search has half as many conflicts, after a success that was dear twice as many.
     pub(crate) fn note(&mut self, tried: &Tried, conflicts: u32) {
         match tried {
-            Tried::Same(spent) => {
-                if *spent > self.next / 4 {
+            Tried::Same(cost) => {
+                self.left = self.left.saturating_sub(cost.table);
+                if cost.conflicts > self.next / 4 {
                     self.next = self.next.saturating_mul(2).min(self.each);
                 }
             }
