@@ -1,4 +1,4 @@
-//! Values of a graph's nodes under 512 assignments at once, and tables of all assignments of at most 16 variables.
+//! Values of a graph's nodes under 512 assignments at once, and tables of all assignments of at most 24 variables.
 #![tactic(auto)]
 
 mod blocks;

@@ -1,0 +1,4 @@
+pub mod Listed
+pub mod Classes
+pub mod Assigned
+pub mod Led

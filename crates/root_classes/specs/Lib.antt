@@ -1,0 +1,5 @@
+pub mod Agreeing
+pub mod Inputs
+pub mod Leads
+pub mod Rows
+pub mod Splits
