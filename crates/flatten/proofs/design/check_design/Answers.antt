@@ -1,16 +1,7 @@
 use Rattle.std.proofs.lemmas.Result.{err_from_is_err_and}
-use Rattle.flatten.proofs.Faulted.{wire_fault, loop_fault, is_sound}
 use Rattle.flatten.proofs.design.check_design.Goals as goal
 
-pub returns-in_err-wired-clause-err : goal.returns-in_err-wired-clause-err
-returns-in_err-wired-clause-err c =
-    let p = err_from_is_err_and c.from_residual-in_err-wired.result c.from_residual-in_err-wired.ensures.1 in
-    rw (p.1, p.2) (λ some. wire_fault c.args.design.now.models c.in_ok-flat.flat c.in_ok-flat.ensures.ok c.in_err-wired.field-0.0 some c.in_err-wired.ensures.err)
-
-pub returns-in_err-order-clause-err : goal.returns-in_err-order-clause-err
-returns-in_err-order-clause-err c =
-    let p = err_from_is_err_and c.from_residual-in_err-order.result c.from_residual-in_err-order.ensures.1 in
-    rw (p.1, p.2) (λ some. loop_fault c.args.design.now.models c.in_ok-flat.flat c.in_ok-flat.ensures.ok c.in_ok-wired.ensures.faultless c.in_err-order.field-0.0 (c.in_err-order.ensures.err some c.args.design.now.models))
-
-pub returns-clause-sound : goal.returns-clause-sound
-returns-clause-sound c = is_sound c.args.design.now.models c.in_ok-flat.flat c.in_ok-flat.ensures.ok c.in_ok-wired.ensures.faultless c.in_ok-order.ensures.no_loop
+pub returns-in_err-ordered-clause-err : goal.returns-in_err-ordered-clause-err
+returns-in_err-ordered-clause-err c =
+    let p = err_from_is_err_and c.from_residual-in_err-ordered.result c.from_residual-in_err-ordered.ensures.1 in
+    rw (p.1, p.2) c.in_err-ordered.ensures.err
