@@ -13,7 +13,7 @@ use std::alloc::Global;
 pub type Nodes = Seq<Node>;
 
 /// The cones of three literals as a graph of its own.
-#[derive(Debug, Drop)]
+#[derive(Drop)]
 pub struct Cones {
     /// The numbers in the whole graph of the cones' nodes, increasing.
     pub nodes: Ids,

@@ -23,7 +23,7 @@ use std::marker::Model;
 /// but no edge from a skipped latch to itself. The edges aren't written out; they are ways through the signals, and a
 /// skipped latch reads the other latches of its cone at once. A contract sees what each signal reads, the latches, and
 /// which of them are skipped.
-#[derive(Debug, Drop)]
+#[derive(Drop)]
 pub struct LatchGraph {
     nodes: Vec<Node>,
     latches: Vec<LatchAt>,

@@ -12,7 +12,7 @@ use sec_base::NoMemory;
 use std::alloc::Global;
 
 /// What is known of a signal's depth.
-#[derive(Clone, Copy, Debug, PartialEq, Eq)]
+#[derive(Clone, Copy, PartialEq, Eq)]
 pub enum State {
     /// Not looked at yet.
     New,
@@ -26,7 +26,7 @@ pub enum State {
 }
 
 /// A place on the way: a signal, with how many of the signals that it reads have their depths.
-#[derive(Clone, Copy, Debug, PartialEq, Eq)]
+#[derive(Clone, Copy, PartialEq, Eq)]
 pub struct Step {
     pub signal: u32,
     pub read: usize,
