@@ -16,7 +16,7 @@ use std::alloc::Global;
 use witness_report::Stimulus;
 
 /// Why there is no report of a run.
-#[derive(Debug, Drop)]
+#[derive(Drop)]
 pub enum SimulateError {
     /// The stimulus or the power word doesn't fit the circuit.
     Misfit(Misfit),

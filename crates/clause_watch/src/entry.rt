@@ -3,7 +3,7 @@
 use proof_check::Literal;
 
 /// A literal that was made true.
-#[derive(Clone, Copy, Debug)]
+#[derive(Clone, Copy)]
 pub struct Entry {
     pub literal: Literal,
     /// The number of the clause that forced it, or none for a decision.
@@ -11,14 +11,14 @@ pub struct Entry {
 }
 
 /// Where a variable stands on the trail, and with which sign.
-#[derive(Clone, Copy, Debug)]
+#[derive(Clone, Copy)]
 pub(crate) struct Mark {
     pub(crate) place: u32,
     pub(crate) is_positive: bool,
 }
 
 /// What a trail makes of a literal.
-#[derive(Clone, Copy, Debug)]
+#[derive(Clone, Copy)]
 pub enum Truth {
     True,
     False,

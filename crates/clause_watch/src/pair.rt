@@ -10,14 +10,14 @@ use crate::trail::Trail;
 use proof_check::Literal;
 
 /// The two literals that a clause watches. Those of a clause of fewer literals mean nothing.
-#[derive(Clone, Copy, Debug)]
+#[derive(Clone, Copy)]
 pub struct Pair {
     pub first: Literal,
     pub second: Literal,
 }
 
 /// What became of a clause that was visited.
-#[derive(Clone, Copy, Debug)]
+#[derive(Clone, Copy)]
 pub(crate) enum Visit {
     /// It goes on to watch the literal.
     Stays,

@@ -3,7 +3,7 @@
 use proof_check::Literal;
 
 /// A literal of a clause, and the place at which it became false.
-#[derive(Clone, Copy, Debug)]
+#[derive(Clone, Copy)]
 pub struct Placed {
     pub literal: Literal,
     pub place: u32,

@@ -4,7 +4,7 @@ use proof_check::Clauses;
 use sec_base::Ids;
 
 /// Clauses over the nodes of a graph: variable k, from 1 on, stands for node `nodes[k - 1]`.
-#[derive(Debug, Drop)]
+#[derive(Drop)]
 pub struct Cnf {
     pub clauses: Clauses,
     pub variables: u32,

@@ -3,7 +3,7 @@
 use sec_base::Bits;
 
 /// The values of a net's latches at power-up.
-#[derive(Debug, Drop)]
+#[derive(Drop)]
 pub enum Power {
     /// Each latch starts with 0.
     Zeros,

@@ -12,7 +12,7 @@ use std::alloc::Global;
 use std::marker::Model;
 
 /// The latch that is read as a constant.
-#[derive(Clone, Copy, Debug, PartialEq, Eq, Hash)]
+#[derive(Clone, Copy, PartialEq, Eq, Hash)]
 pub(crate) enum Put {
     /// No latch.
     Free,
@@ -35,14 +35,14 @@ pub(crate) fn constant(put: Put, signal: u32) -> Option<Lit>
 }
 
 /// An event node by its number, and the latch that is put there.
-#[derive(Clone, Copy, Debug, PartialEq, Eq, Hash)]
+#[derive(Clone, Copy, PartialEq, Eq, Hash)]
 pub(crate) struct Frame {
     pub(crate) node: u32,
     pub(crate) put: Put,
 }
 
 /// A signal that is to be unfolded in a frame. Steps go by rank and then by signal: what is read comes before.
-#[derive(Clone, Copy, Debug, PartialEq, Eq, PartialOrd, Ord)]
+#[derive(Clone, Copy, PartialEq, Eq, PartialOrd, Ord)]
 pub(crate) struct Step {
     /// The lower, the later the event node was made.
     pub(crate) rank: u32,

@@ -3,7 +3,7 @@
 use sec_base::{Ids, NoMemory, Side};
 
 /// Why no latches are picked.
-#[derive(Debug, Drop)]
+#[derive(Drop)]
 pub enum PickError {
     /// A cycle of this circuit is left without all common latches, by the positions of its latches: each is read by the
     /// next, the last by the first, and no latch of the cycle has a name before the first one's in byte order.

@@ -12,7 +12,7 @@ use sec_base::NoMemory;
 use std::alloc::Global;
 
 /// Which way a walk goes.
-#[derive(Clone, Copy, Debug, PartialEq, Eq)]
+#[derive(Clone, Copy, PartialEq, Eq)]
 pub enum Direction {
     /// From a signal to those that it reads.
     Back,
@@ -33,7 +33,7 @@ impl Direction {
 }
 
 /// What is known of a signal while latches are tried.
-#[derive(Clone, Copy, Debug, PartialEq, Eq)]
+#[derive(Clone, Copy, PartialEq, Eq)]
 pub enum Mark {
     /// A latch that is taken out.
     Out,

@@ -7,7 +7,7 @@ use sec_base::{Duplicate, NoMemory, Seq};
 use std::alloc::Global;
 
 /// A latch of the first circuit and one of the second, by their positions there.
-#[derive(Clone, Copy, Debug, PartialEq, Eq)]
+#[derive(Clone, Copy, PartialEq, Eq)]
 pub struct LatchPair {
     pub left: u32,
     pub right: u32,

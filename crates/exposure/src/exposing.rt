@@ -15,7 +15,7 @@ use sec_base::{Ids, NoMemory, Side, Words};
 use std::alloc::Global;
 
 /// The latches that are exposed, in A's order: their names, and their positions in both circuits.
-#[derive(Debug, Drop)]
+#[derive(Drop)]
 pub struct Exposure {
     pub names: Words,
     pub left: Ids,
@@ -23,7 +23,7 @@ pub struct Exposure {
 }
 
 /// Why no latches are exposed.
-#[derive(Debug, Drop)]
+#[derive(Drop)]
 pub enum ExposeError {
     /// A cycle of this circuit's latches that no common latch breaks, by their names: each is read by the next, the last by
     /// the first, beginning with the least in byte order; A first.

@@ -20,7 +20,7 @@ pub struct Gate {
 }
 
 /// A latch: its signal has in the next cycle the value that `next` has now.
-#[derive(Debug, Drop)]
+#[derive(Drop)]
 pub struct LatchAt {
     pub name: Word,
     pub next: Signal,

@@ -8,7 +8,7 @@ use std::alloc::Global;
 use std::marker::Model;
 
 /// A signal of a net, by its number.
-#[derive(Clone, Copy, Debug, PartialEq, Eq, Default)]
+#[derive(Clone, Copy, PartialEq, Eq, Default)]
 pub struct Signal(pub u32);
 
 impl Duplicate for Signal {
@@ -18,7 +18,7 @@ impl Duplicate for Signal {
 }
 
 /// A list of signals, of which up to four take no memory of their own. A contract sees it as the list.
-#[derive(Debug, Drop)]
+#[derive(Drop)]
 pub struct Signals {
     items: SmallVec<Signal, 4>,
 }

@@ -12,7 +12,7 @@ use sec_base::{Bits, NoMemory, Seq};
 use std::alloc::Global;
 
 /// What a latch is, by the cone of what it takes over.
-#[derive(Clone, Copy, Debug, PartialEq, Eq)]
+#[derive(Clone, Copy, PartialEq, Eq)]
 pub enum LatchKind {
     /// The latch isn't in the cone. In the plain mode each latch counts as one of these.
     Plain,

@@ -15,7 +15,7 @@ use sec_base::{Ids, NoMemory, Seq};
 use std::alloc::Global;
 
 /// The parts of the cone of what a latch takes over.
-#[derive(Debug, Drop)]
+#[derive(Drop)]
 pub struct ConeParts {
     /// The signals of the other latches.
     pub others: Signals,

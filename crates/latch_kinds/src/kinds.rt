@@ -18,7 +18,7 @@ use unate_enable::{RecoverError, Recovery, recover};
 pub type LatchKinds = Seq<LatchKind>;
 
 /// Why the kinds of a net's latches aren't known.
-#[derive(Debug, Drop)]
+#[derive(Drop)]
 pub enum KindsError {
     /// A latch is in its own cone, and that cone weighs more than 2,000,000.
     TooLarge,

@@ -5,7 +5,7 @@ ghost use Rattle.std.specs.Prelude.{◌≤◌};
 use crate::asking::Tried;
 
 /// How nodes are proved to agree.
-#[derive(Clone, Copy, Debug)]
+#[derive(Clone, Copy)]
 pub struct Effort {
     /// The most conflicts of all searches that fail. A twentieth of it is the most for each.
     pub conflicts: u32,

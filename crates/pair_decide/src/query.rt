@@ -6,7 +6,7 @@ use proof_check::Log;
 use sec_base::{Bits, Ids};
 
 /// Whether `left` and `right` agree wherever `care` holds.
-#[derive(Debug, Drop)]
+#[derive(Drop)]
 pub struct Query {
     pub left: Lit,
     pub right: Lit,
@@ -16,14 +16,14 @@ pub struct Query {
 }
 
 /// The clauses of a query, and a log of resolution chains over them.
-#[derive(Debug, Drop)]
+#[derive(Drop)]
 pub struct Proof {
     pub cnf: Cnf,
     pub log: Log,
 }
 
 /// Why the sides of a query are the same.
-#[derive(Debug, Drop)]
+#[derive(Drop)]
 pub enum SameBy {
     /// They are one literal, or the care is the literal 0.
     Literal,
@@ -34,7 +34,7 @@ pub enum SameBy {
 }
 
 /// The answer to a query.
-#[derive(Debug, Drop)]
+#[derive(Drop)]
 pub enum Decision {
     Same(SameBy),
     /// A bit for each variable, under which the care holds and the sides differ. For at most 16 variables it is the least

@@ -14,7 +14,7 @@ use std::alloc::Global;
 const DEPTH: u32 = 30;
 
 /// Why a variable has its value.
-#[derive(Clone, Copy, Debug)]
+#[derive(Clone, Copy)]
 struct Reason {
     /// Where it stands on the trail.
     place: u32,

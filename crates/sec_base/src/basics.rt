@@ -12,7 +12,7 @@ pub enum Edge {
 }
 
 /// The initial value of a latch, as the BLIF digits `0`, `1`, `2` and `3` say.
-#[derive(Clone, Copy, Debug, PartialEq, Eq)]
+#[derive(Clone, Copy, PartialEq, Eq)]
 pub enum Init {
     Zero,
     One,
@@ -32,7 +32,7 @@ pub struct Tag {
 }
 
 /// What a comparison says of one pair of signals.
-#[derive(Clone, Copy, Debug, PartialEq, Eq)]
+#[derive(Clone, Copy, PartialEq, Eq)]
 pub enum PairAnswer {
     Equal,
     Different,

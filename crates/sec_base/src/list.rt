@@ -28,7 +28,7 @@ pub trait Duplicate: Drop {
 }
 
 /// A list that grows at its end. A contract sees it as the list of its items.
-#[derive(Debug, Drop)]
+#[derive(Drop)]
 pub struct Seq<T> {
     items: Vec<T>,
 }

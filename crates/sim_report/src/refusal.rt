@@ -3,7 +3,7 @@
 use sec_base::Word;
 
 /// What doesn't fit.
-#[derive(Debug, Drop)]
+#[derive(Drop)]
 pub enum Misfit {
     /// The first name of the stimulus that is no input of the circuit.
     Unknown(Word),

@@ -3,7 +3,7 @@
 use aig::Lit;
 
 /// The literals of a query: both sides and the care.
-#[derive(Clone, Copy, Debug)]
+#[derive(Clone, Copy)]
 pub struct Sides {
     pub left: Lit,
     pub right: Lit,
@@ -11,7 +11,7 @@ pub struct Sides {
 }
 
 /// What is known of a query before it is decided.
-#[derive(Clone, Copy, Debug)]
+#[derive(Clone, Copy)]
 pub enum Known {
     Nothing,
     /// Its literals in the swept graph.

@@ -23,7 +23,7 @@ use sec_base::{Bits, Ids, NoMemory};
 use std::alloc::Global;
 
 /// What is found out about a latch.
-#[derive(Debug, Drop)]
+#[derive(Drop)]
 pub enum Recovery {
     /// The latch isn't in the cone of what it takes over.
     Plain,
@@ -36,7 +36,7 @@ pub enum Recovery {
 }
 
 /// Why nothing is found out about a latch.
-#[derive(Clone, Copy, Debug, PartialEq, Eq)]
+#[derive(Clone, Copy, PartialEq, Eq)]
 pub enum RecoverError {
     /// The latch is in its own cone, which weighs more than 2,000,000.
     TooLarge,

@@ -6,7 +6,7 @@ ghost use Rattle.sec_base.specs.Table.{AreDistinct};
 use sec_base::{BitRows, Words};
 
 /// Values of named inputs, cycle by cycle.
-#[derive(Debug, Drop)]
+#[derive(Drop)]
 pub struct Stimulus {
     /// The names of the inputs, all distinct.
     pub names: Words,

@@ -4,7 +4,7 @@ use crate::stimulus::Stimulus;
 use sec_base::Word;
 
 /// A pair of signals that is compared, by its name.
-#[derive(Debug, Drop)]
+#[derive(Drop)]
 pub enum PairName {
     /// The outputs of this name.
     Output(Word),
@@ -13,7 +13,7 @@ pub enum PairName {
 }
 
 /// An input sequence that makes a pair differ.
-#[derive(Debug, Drop)]
+#[derive(Drop)]
 pub struct Witness {
     pub pair: PairName,
     /// The cycle, from 0, in which the pair differs.
