@@ -20,6 +20,13 @@ verdict_status (verdict.Different w) = status.Different
 verdict_status (verdict.NotShown reason) = status.NotShown
 verdict_status (verdict.Limit at) = status.Limit
 
+-- the status of a verdict on a generated pair: an equal one is done
+abbrev pub generated_status : Verdict → StatusName
+generated_status verdict.Equal = status.Done
+generated_status (verdict.Different w) = status.Different
+generated_status (verdict.NotShown reason) = status.NotShown
+generated_status (verdict.Limit at) = status.Limit
+
 -- the status of a finding
 abbrev pub status_of : Finding → StatusName
 status_of finding.Words = status.Words
@@ -28,6 +35,7 @@ status_of (finding.Cyclic side names) = status.Cyclic
 status_of (finding.Unpaired side names) = status.Cyclic
 status_of (finding.Checked o settings) = verdict_status o.verdict
 status_of (finding.Done report) = status.Done
+status_of (finding.Generated o report) = generated_status o.verdict
 status_of (finding.Undecided name proof) = status.Limit
 
 -- the proofs of the queries that met the limit, in the order of the pairs
@@ -38,6 +46,7 @@ proofs_of (finding.Cyclic side names) = []
 proofs_of (finding.Unpaired side names) = []
 proofs_of (finding.Checked o settings) = filter_map (λ (r : PairResult). r.proof) o.pairs
 proofs_of (finding.Done report) = []
+proofs_of (finding.Generated o report) = filter_map (λ (r : PairResult). r.proof) o.pairs
 proofs_of (finding.Undecided name proof) = proof ∷ []
 
 -- The report of a finding is taken whole, with the finding's status; or a front of it at a write fault; or nothing at want of memory.

@@ -64,6 +64,8 @@ pub enum Finding {
     Checked(Outcome, Settings),
     /// The report of one circuit.
     Done(Text),
+    /// The outcome of the comparison of a generated pair, and its report.
+    Generated(Outcome, Text),
     /// The name of the circuit's latch of which it wasn't found out within the limit of conflicts whether it has a load enable, and
     /// the proof of that.
     Undecided(Word, Proof),

@@ -68,6 +68,7 @@ equal_found held check before now (finding.Refused r) proofs h w = absurd (let e
 equal_found held check before now (finding.Cyclic side names) proofs h w = absurd (let e = w.1 in cc)
 equal_found held check before now (finding.Unpaired side names) proofs h w = absurd (let e = w.1 in cc)
 equal_found held check before now (finding.Done report) proofs h w = absurd h
+equal_found held check before now (finding.Generated o report) proofs h w = absurd h
 equal_found held check before now (finding.Undecided name proof) proofs h w = absurd h
 equal_found held check before now (finding.Checked o s) proofs h w =
     let v = equal_verdict o.verdict w.1 in
@@ -80,6 +81,7 @@ different_found held check before now (finding.Refused r) proofs h w = absurd (l
 different_found held check before now (finding.Cyclic side names) proofs h w = absurd (let e = w.1 in cc)
 different_found held check before now (finding.Unpaired side names) proofs h w = absurd (let e = w.1 in cc)
 different_found held check before now (finding.Done report) proofs h w = absurd h
+different_found held check before now (finding.Generated o report) proofs h w = absurd h
 different_found held check before now (finding.Undecided name proof) proofs h w = absurd h
 different_found held check before now (finding.Checked o s) proofs h w =
     let v = different_verdict o.verdict w.1 in
@@ -92,6 +94,7 @@ not_shown_found held check before now (finding.Refused r) proofs h w = absurd (l
 not_shown_found held check before now (finding.Cyclic side names) proofs h w = absurd (let e = w.1 in cc)
 not_shown_found held check before now (finding.Unpaired side names) proofs h w = absurd (let e = w.1 in cc)
 not_shown_found held check before now (finding.Done report) proofs h w = absurd h
+not_shown_found held check before now (finding.Generated o report) proofs h w = absurd h
 not_shown_found held check before now (finding.Undecided name proof) proofs h w = absurd h
 not_shown_found held check before now (finding.Checked o s) proofs h w =
     let v = not_shown_verdict o.verdict w.1 in
@@ -104,6 +107,7 @@ limit_found held check before now (finding.Refused r) proofs h w = absurd (let e
 limit_found held check before now (finding.Cyclic side names) proofs h w = absurd (let e = w.1 in cc)
 limit_found held check before now (finding.Unpaired side names) proofs h w = absurd (let e = w.1 in cc)
 limit_found held check before now (finding.Done report) proofs h w = absurd h
+limit_found held check before now (finding.Generated o report) proofs h w = absurd h
 limit_found held check before now (finding.Undecided name proof) proofs h w = absurd h
 limit_found held check before now (finding.Checked o s) proofs h w =
     let v = limit_verdict o.verdict w.1 in
@@ -123,6 +127,7 @@ no_done held check (finding.Cyclic side names) h e = cc
 no_done held check (finding.Unpaired side names) h e = cc
 no_done held check (finding.Checked o s) h e = no_done_verdict o.verdict e
 no_done held check (finding.Done report) h e = h
+no_done held check (finding.Generated o report) h e = h
 no_done held check (finding.Undecided name proof) h e = h
 
 -- what the status means of two texts that are compared

@@ -84,6 +84,7 @@ module _ (mode : Mode) (circuit : Option (List ℕ)) (x : List ℕ) (is : circui
   graph_reported (finding.Unpaired side names) h = absurd h
   graph_reported (finding.Checked o s) h = absurd h
   graph_reported (finding.Done report) h = tt
+  graph_reported (finding.Generated o report) h = absurd h
   graph_reported (finding.Undecided name proof) h = limit_reported mode h.net name proof h.unknown
 
 -- nor is a stimulus that fits it
@@ -117,6 +118,7 @@ module _ (mode : Mode) (circuit stimulus power : Option (List ℕ)) (x y : List 
   run_reported (finding.Unpaired side names) h = absurd h
   run_reported (finding.Checked o s) h = absurd h
   run_reported (finding.Done report) h = tt
+  run_reported (finding.Generated o report) h = absurd h
   run_reported (finding.Undecided name proof) h = limit_reported mode h.net name proof h.unknown
 
 -- so what is found has the status of the report, or of the limit

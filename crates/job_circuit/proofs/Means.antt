@@ -20,6 +20,7 @@ graph_status mode circuit (finding.Cyclic side names) h = absurd h
 graph_status mode circuit (finding.Unpaired side names) h = absurd h
 graph_status mode circuit (finding.Checked o s) h = absurd h
 graph_status mode circuit (finding.Done report) h = inl refl
+graph_status mode circuit (finding.Generated o report) h = absurd h
 graph_status mode circuit (finding.Undecided name proof) h = inr (inr refl)
 
 sim_status : (mode : Mode) (circuit stimulus power : Option (List ℕ)) (f : Finding) → IsSimFound mode circuit stimulus power f → (status_of f ≡ status.Done) ⊎ ((status_of f ≡ status.Refused) ⊎ (status_of f ≡ status.Limit))
@@ -29,6 +30,7 @@ sim_status mode circuit stimulus power (finding.Cyclic side names) h = absurd h
 sim_status mode circuit stimulus power (finding.Unpaired side names) h = absurd h
 sim_status mode circuit stimulus power (finding.Checked o s) h = absurd h
 sim_status mode circuit stimulus power (finding.Done report) h = inl refl
+sim_status mode circuit stimulus power (finding.Generated o report) h = absurd h
 sim_status mode circuit stimulus power (finding.Undecided name proof) h = inr (inr refl)
 
 -- the limit of a query of one circuit
@@ -39,6 +41,7 @@ graph_limit mode circuit before now (finding.Cyclic side names) proofs h w = abs
 graph_limit mode circuit before now (finding.Unpaired side names) proofs h w = absurd h
 graph_limit mode circuit before now (finding.Checked o s) proofs h w = absurd h
 graph_limit mode circuit before now (finding.Done report) proofs h w = absurd (let e = w.1 in cc)
+graph_limit mode circuit before now (finding.Generated o report) proofs h w = absurd h
 graph_limit mode circuit before now (finding.Undecided name proof) proofs h w = record { name = name; proof = proof; kept = w.0; shown = h; printed = w.2 }
 
 run_limit : (mode : Mode) (circuit stimulus power before now : Option (List ℕ)) (f : Finding) (proofs : List Proof) → IsSimFound mode circuit stimulus power f → IsWrittenAs before now f proofs status.Limit →
@@ -49,6 +52,7 @@ run_limit mode circuit stimulus power before now (finding.Cyclic side names) pro
 run_limit mode circuit stimulus power before now (finding.Unpaired side names) proofs h w = absurd h
 run_limit mode circuit stimulus power before now (finding.Checked o s) proofs h w = absurd h
 run_limit mode circuit stimulus power before now (finding.Done report) proofs h w = absurd (let e = w.1 in cc)
+run_limit mode circuit stimulus power before now (finding.Generated o report) proofs h w = absurd h
 run_limit mode circuit stimulus power before now (finding.Undecided name proof) proofs h w =
     record { name = name; proof = proof; kept = w.0; shown = record { net = h.net; loads = h.loads; unknown = h.unknown }; printed = w.2 }
 
@@ -59,6 +63,7 @@ graph_taken mode circuit before now (finding.Cyclic side names) h e taken = absu
 graph_taken mode circuit before now (finding.Unpaired side names) h e taken = absurd h
 graph_taken mode circuit before now (finding.Checked o s) h e taken = absurd h
 graph_taken mode circuit before now (finding.Done report) h e taken = (report, h, taken)
+graph_taken mode circuit before now (finding.Generated o report) h e taken = absurd h
 graph_taken mode circuit before now (finding.Undecided name proof) h e taken = absurd (cc)
 
 run_taken : (mode : Mode) (circuit stimulus power before now : Option (List ℕ)) (f : Finding) → IsSimFound mode circuit stimulus power f → status_of f ≡ status.Done → Takes before now (finding_text f) → TakesRun mode circuit stimulus power before now
@@ -68,6 +73,7 @@ run_taken mode circuit stimulus power before now (finding.Cyclic side names) h e
 run_taken mode circuit stimulus power before now (finding.Unpaired side names) h e taken = absurd h
 run_taken mode circuit stimulus power before now (finding.Checked o s) h e taken = absurd h
 run_taken mode circuit stimulus power before now (finding.Done report) h e taken = (report, h, taken)
+run_taken mode circuit stimulus power before now (finding.Generated o report) h e taken = absurd h
 run_taken mode circuit stimulus power before now (finding.Undecided name proof) h e taken = absurd (cc)
 
 pub graph_means : (mode : Mode) (circuit before now : Option (List ℕ)) (f : Finding) (proofs : List Proof) (name : StatusName) →
