@@ -10,6 +10,7 @@ use Rattle.job_files.specs.Reading.{Held}
 use Rattle.job_circuit.specs.Reports.{GraphMeans, SimMeans, IsGraphComplete, IsSimComplete}
 use Rattle.job_check.specs.Check.{Check}
 use Rattle.job_check.specs.Answer.{CheckSays, IsCheckComplete}
+use Rattle.job_gen.specs.Answer.{GenMeans, IsGenAnswer}
 
 -- What the status says of the job, with the proofs that the run ends with and what was written before and is now.
 abbrev pub Means : Held → Option Task → Option (List ℕ) → Option (List ℕ) → List Proof → StatusName → Type 0
@@ -18,7 +19,7 @@ Means held (Some (task.Check a b settings)) before now proofs name = CheckSays h
 Means held (Some (task.Graph a mode)) before now proofs name = GraphMeans mode (held a) before now proofs name
 Means held (Some (task.Sim a s mode power)) before now proofs name = SimMeans mode (held a) (held s) power before now proofs name
 Means held (Some (task.Replay a b s mode)) before now proofs name = SaysNothing name
-Means held (Some (task.Gen seed regroup conflicts)) before now proofs name = SaysNothing name
+Means held (Some (task.Gen seed regroup conflicts)) before now proofs name = GenMeans (record { seed = seed; regroup = regroup; conflicts = conflicts }) before now proofs name
 
 -- Where the job can be done, it ends so, if no read and no write fails: words that are no job are told, and so is a job that isn't built.
 abbrev pub IsComplete : Held → Option Task → StatusName → Type 0
@@ -27,4 +28,4 @@ IsComplete held (Some (task.Check a b settings)) name = IsCheckComplete held (re
 IsComplete held (Some (task.Graph a mode)) name = IsGraphComplete mode (held a) name
 IsComplete held (Some (task.Sim a s mode power)) name = IsSimComplete mode (held a) (held s) power name
 IsComplete held (Some (task.Replay a b s mode)) name = EndsWith status.Refused name
-IsComplete held (Some (task.Gen seed regroup conflicts)) name = EndsWith status.Refused name
+IsComplete held (Some (task.Gen seed regroup conflicts)) name = IsGenAnswer name

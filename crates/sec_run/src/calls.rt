@@ -14,6 +14,7 @@ ghost use Rattle.sec_run.specs.Promises.{Means, IsComplete};
 use job_base::{Finding, Refusal, Status, StatusName, Stop, finish};
 use job_check::{Comparison, check};
 use job_circuit::{Simulation, simulate, tell_graph};
+use job_gen::{Generation, compare_generated};
 use sec_base::{Shelf, Sink, Word};
 use sec_words::{Task, WordsError, job};
 use std::alloc::Global;
@@ -45,7 +46,19 @@ fn find<S: Shelf>(alloc: Global, task: &Task, shelf: &mut S) -> Result<Finding, 
             };
             simulate(alloc, &simulation, shelf)
         }
-        Task::Replay { .. } | Task::Gen { .. } => Ok(Finding::Refused(Refusal::NotBuilt)),
+        Task::Replay { .. } => Ok(Finding::Refused(Refusal::NotBuilt)),
+        Task::Gen {
+            seed,
+            regroup,
+            conflicts,
+        } => {
+            let generation = Generation {
+                seed: *seed,
+                regroup: *regroup,
+                conflicts: *conflicts,
+            };
+            compare_generated(alloc, &generation)
+        }
     }
 }
 
