@@ -111,5 +111,6 @@ finding_text (finding.Cyclic side names) = cycle_text side names
 finding_text (finding.Unpaired side names) = unpaired_text side names
 finding_text (finding.Checked outcome settings) = report_text settings.conflicts outcome
 finding_text (finding.Done report) = report
+finding_text (finding.Generated outcome report) = report
 finding_text (finding.Replayed differences) = replay_text differences
 finding_text (finding.Undecided side name proof) = undecided_text side name

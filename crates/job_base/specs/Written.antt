@@ -26,6 +26,13 @@ abbrev pub replay_status : List Difference → StatusName
 replay_status [] = status.Equal
 replay_status (d ∷ more) = status.Different
 
+-- the status of a verdict on a generated pair: an equal one is done
+abbrev pub generated_status : Verdict → StatusName
+generated_status verdict.Equal = status.Done
+generated_status (verdict.Different w) = status.Different
+generated_status (verdict.NotShown reason) = status.NotShown
+generated_status (verdict.Limit at) = status.Limit
+
 -- the status of a finding
 abbrev pub status_of : Finding → StatusName
 status_of finding.Words = status.Words
@@ -34,6 +41,7 @@ status_of (finding.Cyclic side names) = status.Cyclic
 status_of (finding.Unpaired side names) = status.Cyclic
 status_of (finding.Checked o settings) = verdict_status o.verdict
 status_of (finding.Done report) = status.Done
+status_of (finding.Generated o report) = generated_status o.verdict
 status_of (finding.Replayed differences) = replay_status differences
 status_of (finding.Undecided side name proof) = status.Limit
 
@@ -45,6 +53,7 @@ proofs_of (finding.Cyclic side names) = []
 proofs_of (finding.Unpaired side names) = []
 proofs_of (finding.Checked o settings) = filter_map (λ (r : PairResult). r.proof) o.pairs
 proofs_of (finding.Done report) = []
+proofs_of (finding.Generated o report) = filter_map (λ (r : PairResult). r.proof) o.pairs
 proofs_of (finding.Replayed differences) = []
 proofs_of (finding.Undecided side name proof) = proof ∷ []
 

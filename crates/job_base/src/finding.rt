@@ -65,6 +65,8 @@ pub enum Finding {
     Checked(Outcome, Settings),
     /// The report of one circuit.
     Done(Text),
+    /// The outcome of the comparison of a generated pair, and its report.
+    Generated(Outcome, Text),
     /// The differences of two circuits that were run on one stimulus.
     Replayed(Differences),
     /// The circuit and the name of its latch of which it wasn't found out within the limit of conflicts whether it has a load enable,

@@ -5,7 +5,7 @@ ghost use Rattle.std.specs.List.{filter_map};
 ghost use Rattle.sec_base.specs.Outside.{Rose};
 ghost use Rattle.sec_outcome.specs.Report.{report_text};
 ghost use Rattle.job_base.specs.Lines.{finding_text, undecided_text};
-ghost use Rattle.job_base.specs.Written.{status_of, proofs_of, IsWritten};
+ghost use Rattle.job_base.specs.Written.{status_of, generated_status, proofs_of, IsWritten};
 
 use crate::finding::Finding;
 use crate::status::{Proofs, Status, StatusName};
@@ -39,6 +39,16 @@ fn replay_status(differences: &Differences) -> StatusName
     StatusName::Different
 }
 
+/// The status of a verdict on a generated pair: an equal one is done.
+fn generated_status(verdict: &Verdict) -> StatusName
+    ensures { result ≡ generated_status verdict.now }
+{
+    match verdict {
+        Verdict::Equal => StatusName::Done,
+        _ => verdict_status(verdict),
+    }
+}
+
 fn status_of(finding: &Finding) -> StatusName
     ensures { result ≡ status_of finding.now }
 {
@@ -48,6 +58,7 @@ fn status_of(finding: &Finding) -> StatusName
         Finding::Cyclic(_, _) | Finding::Unpaired(_, _) => StatusName::Cyclic,
         Finding::Checked(outcome, _) => verdict_status(&outcome.verdict),
         Finding::Done(_) => StatusName::Done,
+        Finding::Generated(outcome, _) => generated_status(&outcome.verdict),
         Finding::Replayed(differences) => replay_status(differences),
         Finding::Undecided(_, _, _) => StatusName::Limit,
     }
@@ -137,6 +148,7 @@ fn report_of(alloc: Global, finding: Finding) -> Result<(Text, Proofs), NoMemory
         }
         Finding::Checked(outcome, settings) => comparison_report(alloc, outcome, &settings),
         Finding::Done(text) => Ok((text, Proofs::new(alloc))),
+        Finding::Generated(outcome, text) => Ok((text, proofs_of(alloc, outcome)?)),
         Finding::Replayed(differences) => {
             without_proofs(alloc, replay_report(alloc, &differences))
         }

@@ -95,6 +95,7 @@ module _ (held : Held) (check : Check) (told : AreTold held check) where
   has_verdict (finding.Cyclic side names) h = no_cycle side names h
   has_verdict (finding.Unpaired side names) h = no_unpaired side names h
   has_verdict (finding.Done report) h = absurd h
+  has_verdict (finding.Generated o report) h = absurd h
   has_verdict (finding.Replayed differences) h = absurd h
   has_verdict (finding.Undecided side name proof) h = absurd h
   has_verdict (finding.Checked o s) h = go o.verdict

@@ -68,6 +68,7 @@ equal_found held check before now (finding.Refused r) proofs h w = absurd (let e
 equal_found held check before now (finding.Cyclic side names) proofs h w = absurd (let e = w.1 in cc)
 equal_found held check before now (finding.Unpaired side names) proofs h w = absurd (let e = w.1 in cc)
 equal_found held check before now (finding.Done report) proofs h w = absurd h
+equal_found held check before now (finding.Generated o report) proofs h w = absurd h
 equal_found held check before now (finding.Replayed differences) proofs h w = absurd h
 equal_found held check before now (finding.Undecided side name proof) proofs h w = absurd h
 equal_found held check before now (finding.Checked o s) proofs h w =
@@ -81,6 +82,7 @@ different_found held check before now (finding.Refused r) proofs h w = absurd (l
 different_found held check before now (finding.Cyclic side names) proofs h w = absurd (let e = w.1 in cc)
 different_found held check before now (finding.Unpaired side names) proofs h w = absurd (let e = w.1 in cc)
 different_found held check before now (finding.Done report) proofs h w = absurd h
+different_found held check before now (finding.Generated o report) proofs h w = absurd h
 different_found held check before now (finding.Replayed differences) proofs h w = absurd h
 different_found held check before now (finding.Undecided side name proof) proofs h w = absurd h
 different_found held check before now (finding.Checked o s) proofs h w =
@@ -94,6 +96,7 @@ not_shown_found held check before now (finding.Refused r) proofs h w = absurd (l
 not_shown_found held check before now (finding.Cyclic side names) proofs h w = absurd (let e = w.1 in cc)
 not_shown_found held check before now (finding.Unpaired side names) proofs h w = absurd (let e = w.1 in cc)
 not_shown_found held check before now (finding.Done report) proofs h w = absurd h
+not_shown_found held check before now (finding.Generated o report) proofs h w = absurd h
 not_shown_found held check before now (finding.Replayed differences) proofs h w = absurd h
 not_shown_found held check before now (finding.Undecided side name proof) proofs h w = absurd h
 not_shown_found held check before now (finding.Checked o s) proofs h w =
@@ -107,6 +110,7 @@ limit_found held check before now (finding.Refused r) proofs h w = absurd (let e
 limit_found held check before now (finding.Cyclic side names) proofs h w = absurd (let e = w.1 in cc)
 limit_found held check before now (finding.Unpaired side names) proofs h w = absurd (let e = w.1 in cc)
 limit_found held check before now (finding.Done report) proofs h w = absurd h
+limit_found held check before now (finding.Generated o report) proofs h w = absurd h
 limit_found held check before now (finding.Replayed differences) proofs h w = absurd h
 limit_found held check before now (finding.Undecided side name proof) proofs h w = absurd h
 limit_found held check before now (finding.Checked o s) proofs h w =
@@ -127,6 +131,7 @@ no_done held check (finding.Cyclic side names) h e = cc
 no_done held check (finding.Unpaired side names) h e = cc
 no_done held check (finding.Checked o s) h e = no_done_verdict o.verdict e
 no_done held check (finding.Done report) h e = h
+no_done held check (finding.Generated o report) h e = h
 no_done held check (finding.Replayed differences) h e = h
 no_done held check (finding.Undecided side name proof) h e = h
 

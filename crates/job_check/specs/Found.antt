@@ -48,6 +48,7 @@ IsFoundOf held check (finding.Cyclic side names) = OfNets held check (λ a b. Co
 IsFoundOf held check (finding.Unpaired side names) = OfNets held check (λ a b. Compared a b check.settings (Err (compare_error.Unpaired side names)))
 IsFoundOf held check (finding.Checked o settings) = (settings ≡ check.settings) × OfNets held check (λ a b. Compared a b check.settings (Ok o))
 IsFoundOf held check (finding.Done report) = ⊥
+IsFoundOf held check (finding.Generated o report) = ⊥
 IsFoundOf held check (finding.Replayed differences) = ⊥
 IsFoundOf held check (finding.Undecided side name proof) = ⊥
 

@@ -71,6 +71,7 @@ module _ (mode : Mode) (circuit : Option (List ℕ)) (x : List ℕ) (is : circui
   graph_reported (finding.Unpaired side names) h = absurd h
   graph_reported (finding.Checked o s) h = absurd h
   graph_reported (finding.Done report) h = tt
+  graph_reported (finding.Generated o report) h = absurd h
   graph_reported (finding.Replayed differences) h = absurd h
   graph_reported (finding.Undecided A name proof) h = limit_reported mode h.net name proof h.unknown
   graph_reported (finding.Undecided B name proof) h = absurd h
@@ -106,6 +107,7 @@ module _ (mode : Mode) (circuit stimulus power : Option (List ℕ)) (x y : List 
   run_reported (finding.Unpaired side names) h = absurd h
   run_reported (finding.Checked o s) h = absurd h
   run_reported (finding.Done report) h = tt
+  run_reported (finding.Generated o report) h = absurd h
   run_reported (finding.Replayed differences) h = absurd h
   run_reported (finding.Undecided A name proof) h = limit_reported mode h.net name proof h.unknown
   run_reported (finding.Undecided B name proof) h = absurd h

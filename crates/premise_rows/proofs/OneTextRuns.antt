@@ -74,6 +74,7 @@ module _ (held : Held) (check : Check) (h : CanMeetItself held check) where
   found_equal (finding.Unpaired side names) found is = absurd is
   found_equal (finding.Checked o s) found is = subst (λ (v : Verdict). IsEqualAnswer (verdict_status v)) (sym (checked o found.1)) tt
   found_equal (finding.Done report) found is = absurd found
+  found_equal (finding.Generated o report) found is = absurd found
   found_equal (finding.Replayed differences) found is = absurd found
   found_equal (finding.Undecided side name proof) found is = absurd found
 

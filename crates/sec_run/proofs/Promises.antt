@@ -8,7 +8,7 @@ use Rattle.job_base.specs.declared.status.StatusName.{StatusName}
 use Rattle.job_base.specs.declared.status.StatusName.TheVariants as status
 use Rattle.job_base.specs.Written.{status_of, IsWrittenAs}
 use Rattle.job_base.specs.Meaning.{SaysNothing}
-use Rattle.job_base.proofs.Meaning.{says_nothing, unbuilt_means, by_finding}
+use Rattle.job_base.proofs.Meaning.{says_nothing, by_finding}
 use Rattle.job_files.specs.Reading.{Held}
 use Rattle.job_circuit.proofs.Means.{graph_means, sim_means}
 use Rattle.job_circuit.proofs.CompleteReports.{graph_complete, sim_complete}
@@ -16,6 +16,7 @@ use Rattle.job_replay.proofs.Means.{replay_means}
 use Rattle.job_replay.proofs.CompleteReplays.{replay_complete}
 use Rattle.job_check.specs.Check.{Check}
 use Rattle.job_check.proofs.Promises.{check_says, silent_check, failed_check, check_complete, memory_check}
+use Rattle.job_gen.proofs.Means.{gen_means, gen_complete}
 use Rattle.sec_run.specs.Answer.{IsFinding}
 use Rattle.sec_run.specs.Promises.{Means, IsComplete}
 
@@ -27,7 +28,7 @@ means held (Some (task.Check a b settings)) before now f proofs name found w = c
 means held (Some (task.Graph a mode)) before now f proofs name found w = graph_means mode (held a) before now f proofs name found w
 means held (Some (task.Sim a s mode power)) before now f proofs name found w = sim_means mode (held a) (held s) power before now f proofs name found w
 means held (Some (task.Replay a b s mode)) before now f proofs name found w = replay_means mode (held a) (held b) (held s) before now f proofs name found w
-means held (Some (task.Gen seed regroup conflicts)) before now f proofs name found w = unbuilt_means before now f proofs name found w
+means held (Some (task.Gen seed regroup conflicts)) before now f proofs name found w = gen_means (record { seed = seed; regroup = regroup; conflicts = conflicts }) before now f proofs name found w
 
 -- a run that ends before it has found anything says nothing
 pub memory_means : (held : Held) (job : Option Task) (before now : Option (List ℕ)) (proofs : List Proof) → Means held job before now proofs status.NoMemory
@@ -53,7 +54,7 @@ is_complete held (Some (task.Check a b settings)) f found = check_complete held 
 is_complete held (Some (task.Graph a mode)) f found = graph_complete mode (held a) f found
 is_complete held (Some (task.Sim a s mode power)) f found = sim_complete mode (held a) (held s) power f found
 is_complete held (Some (task.Replay a b s mode)) f found = replay_complete mode (held a) (held b) (held s) f found
-is_complete held (Some (task.Gen seed regroup conflicts)) f found = inl (ap status_of found)
+is_complete held (Some (task.Gen seed regroup conflicts)) f found = gen_complete (record { seed = seed; regroup = regroup; conflicts = conflicts }) f found
 
 -- so is one that ends at want of memory
 pub memory_is_complete : (held : Held) (job : Option Task) → IsComplete held job status.NoMemory
@@ -62,7 +63,7 @@ memory_is_complete held (Some (task.Check a b settings)) = memory_check held (re
 memory_is_complete held (Some (task.Graph a mode)) = λ can. tt
 memory_is_complete held (Some (task.Sim a s mode power)) = λ can. tt
 memory_is_complete held (Some (task.Replay a b s mode)) = λ can. tt
-memory_is_complete held (Some (task.Gen seed regroup conflicts)) = inr refl
+memory_is_complete held (Some (task.Gen seed regroup conflicts)) = tt
 
 -- so a run is complete that ends with a finding, or at want of memory
 pub written_is_complete : (held : Held) (job : Option Task) (before now : Option (List ℕ)) (f : Finding) (proofs : List Proof) (name : StatusName) →

@@ -17,6 +17,7 @@ use Rattle.job_circuit.specs.Reports.{IsGraphFound, IsSimFound}
 use Rattle.job_replay.specs.Replays.{IsReplayFound}
 use Rattle.job_check.specs.Check.{Check}
 use Rattle.job_check.specs.Found.{IsCheckFound}
+use Rattle.job_gen.specs.Found.{IsGenFound}
 
 -- what is true of a job where this is found
 abbrev pub IsFoundOfJob : Held → Task → Finding → Type 0
@@ -24,7 +25,7 @@ IsFoundOfJob held (task.Check a b settings) f = IsCheckFound held (record { left
 IsFoundOfJob held (task.Graph a mode) f = IsGraphFound mode (held a) f
 IsFoundOfJob held (task.Sim a s mode power) f = IsSimFound mode (held a) (held s) power f
 IsFoundOfJob held (task.Replay a b s mode) f = IsReplayFound mode (held a) (held b) (held s) f
-IsFoundOfJob held (task.Gen seed regroup conflicts) f = f ≡ finding.Refused refusal.NotBuilt
+IsFoundOfJob held (task.Gen seed regroup conflicts) f = IsGenFound (record { seed = seed; regroup = regroup; conflicts = conflicts }) f
 
 -- what is found: that the words are no job, or what is true of the job
 abbrev pub IsFinding : Held → Option Task → Finding → Type 0

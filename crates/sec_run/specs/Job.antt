@@ -6,7 +6,7 @@ use Rattle.job_circuit.specs.Reports.{graph_paths, sim_paths}
 use Rattle.job_replay.specs.Replays.{replay_paths}
 use Rattle.job_check.specs.Check.{Check, check_paths}
 
--- the paths that a job reads, in the order of their fetches; none where it isn't built
+-- the paths that a job reads, in the order of their fetches; none where it makes its circuits itself
 abbrev pub paths_of : Task → List (List ℕ)
 paths_of (task.Check a b settings) = check_paths (record { left = a; right = b; settings = settings })
 paths_of (task.Graph a mode) = graph_paths a

@@ -11,6 +11,7 @@ use Rattle.job_circuit.specs.Reports.{GraphMeans, SimMeans, IsGraphComplete, IsS
 use Rattle.job_replay.specs.Replays.{ReplayMeans, IsReplayComplete}
 use Rattle.job_check.specs.Check.{Check}
 use Rattle.job_check.specs.Answer.{CheckSays, IsCheckComplete}
+use Rattle.job_gen.specs.Answer.{GenMeans, IsGenAnswer}
 
 -- What the status says of the job, with the proofs that the run ends with and what was written before and is now.
 abbrev pub Means : Held → Option Task → Option (List ℕ) → Option (List ℕ) → List Proof → StatusName → Type 0
@@ -19,13 +20,13 @@ Means held (Some (task.Check a b settings)) before now proofs name = CheckSays h
 Means held (Some (task.Graph a mode)) before now proofs name = GraphMeans mode (held a) before now proofs name
 Means held (Some (task.Sim a s mode power)) before now proofs name = SimMeans mode (held a) (held s) power before now proofs name
 Means held (Some (task.Replay a b s mode)) before now proofs name = ReplayMeans mode (held a) (held b) (held s) before now proofs name
-Means held (Some (task.Gen seed regroup conflicts)) before now proofs name = SaysNothing name
+Means held (Some (task.Gen seed regroup conflicts)) before now proofs name = GenMeans (record { seed = seed; regroup = regroup; conflicts = conflicts }) before now proofs name
 
--- Where the job can be done, it ends so, if no read and no write fails: words that are no job are told, and so is a job that isn't built.
+-- Where the job can be done, it ends so, if no read and no write fails; words that are no job are told.
 abbrev pub IsComplete : Held → Option Task → StatusName → Type 0
 IsComplete held None name = EndsWith status.Words name
 IsComplete held (Some (task.Check a b settings)) name = IsCheckComplete held (record { left = a; right = b; settings = settings }) name
 IsComplete held (Some (task.Graph a mode)) name = IsGraphComplete mode (held a) name
 IsComplete held (Some (task.Sim a s mode power)) name = IsSimComplete mode (held a) (held s) power name
 IsComplete held (Some (task.Replay a b s mode)) name = IsReplayComplete mode (held a) (held b) (held s) name
-IsComplete held (Some (task.Gen seed regroup conflicts)) name = EndsWith status.Refused name
+IsComplete held (Some (task.Gen seed regroup conflicts)) name = IsGenAnswer name

@@ -11,9 +11,10 @@ ghost use Rattle.sec_run.specs.Answer.{IsFinding, IsTaken};
 ghost use Rattle.sec_run.specs.Ends.{Found};
 ghost use Rattle.sec_run.specs.Promises.{Means, IsComplete};
 
-use job_base::{Finding, Refusal, Status, StatusName, Stop, finish};
+use job_base::{Finding, Status, StatusName, Stop, finish};
 use job_check::{Comparison, check};
 use job_circuit::{Simulation, simulate, tell_graph};
+use job_gen::{Generation, compare_generated};
 use job_replay::{Replay, replay_files};
 use sec_base::{Shelf, Sink, Word};
 use sec_words::{Task, WordsError, job};
@@ -55,7 +56,18 @@ fn find<S: Shelf>(alloc: Global, task: &Task, shelf: &mut S) -> Result<Finding, 
             };
             replay_files(alloc, &replay, shelf)
         }
-        Task::Gen { .. } => Ok(Finding::Refused(Refusal::NotBuilt)),
+        Task::Gen {
+            seed,
+            regroup,
+            conflicts,
+        } => {
+            let generation = Generation {
+                seed: *seed,
+                regroup: *regroup,
+                conflicts: *conflicts,
+            };
+            compare_generated(alloc, &generation)
+        }
     }
 }
 

@@ -1,0 +1,21 @@
+use Rattle.std.proofs.Common.{◌≡◌, false, subst, Result}
+use Rattle.circuit_theory.specs.declared.Side.TheVariants.{A, B}
+use Rattle.pair_gen.specs.Words.{words_of}
+use Rattle.pair_gen.proofs.Whole.{twin_comparable}
+use Rattle.sec_outcome.specs.declared.outcome.Outcome.{Outcome}
+use Rattle.sec_check.specs.declared.error.CompareError.{CompareError}
+use Rattle.sec_check.specs.Compared.{Compared}
+use Rattle.job_gen.specs.Found.{settings_of}
+use Rattle.job_gen.proofs.Never.{never_refused}
+use Rattle.job_gen.proofs.generation.compare_twins.Goals as goal
+
+pub compare-requires-clause-left : goal.compare-requires-clause-left
+compare-requires-clause-left c = twin_comparable A false (words_of c.args.generation.now.seed) c.args.twins.now.a c.requires.twins.left
+
+pub compare-requires-clause-right : goal.compare-requires-clause-right
+compare-requires-clause-right c = twin_comparable B c.args.generation.now.regroup (words_of c.args.generation.now.seed) c.args.twins.now.b c.requires.twins.right
+
+pub stop_of-requires : goal.stop_of-requires
+stop_of-requires c =
+    never_refused c.args.generation.now c.args.twins.now.a c.args.twins.now.b c.requires.twins c.keeps.ensures.sound c.keeps-2.ensures.sound c.in-Err.error
+    (subst (λ (r : Result Outcome CompareError). Compared c.args.twins.now.a c.args.twins.now.b (settings_of c.args.generation.now) r) c.in-Err.is c.compare.ensures)
