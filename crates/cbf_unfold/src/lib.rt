@@ -5,8 +5,8 @@
 mod error;
 mod laws;
 mod memo;
-mod reaching;
-mod reading;
+mod reached_places;
+mod reads;
 mod unfolder;
 mod variables;
 

@@ -4,7 +4,7 @@ ghost use Rattle.std.specs.Prelude.{◌≡◌, ◌≢◌, ℕ, List, [], ◌∷�
 ghost use Rattle.std.specs.List.{AllPairs};
 ghost use Rattle.aig.specs.declared.node.Lit.{Lit};
 
-use crate::reaching::Place;
+use crate::reached_places::Place;
 use aig::Lit;
 use indexmap::IndexMap;
 use sec_base::NoMemory;

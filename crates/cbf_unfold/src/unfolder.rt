@@ -12,12 +12,12 @@ ghost use Rattle.cbf_unfold.specs.Places.{PlaceBefore};
 ghost use Rattle.cbf_unfold.specs.Building.{IsMet, IsLater, AreNumbered};
 ghost use Rattle.cbf_unfold.specs.declared.error.UnfoldError.TheVariants as unfold_error;
 
-mod building;
 mod literals;
+mod places;
 
 use crate::error::UnfoldError;
 use crate::memo::Memo;
-use crate::reaching::{Place, reach};
+use crate::reached_places::{Place, reach};
 use crate::variables::{inputs_of, numbers_of};
 use aig::{Aig, Lit};
 use flat_net::{Net, Signal};

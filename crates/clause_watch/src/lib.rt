@@ -5,19 +5,19 @@
 //! or forces anything.
 #![tactic(auto)]
 
+mod clause_db;
+mod clauses;
 mod entry;
-mod learning;
 mod pair;
 mod places;
-mod store;
+mod propagation;
 mod trail;
 mod watched_clauses;
 mod watchers;
-mod watching;
 
+pub use clause_db::ClauseDb;
 pub use entry::{Entry, Truth};
 pub use places::Placed;
-pub use store::Store;
+pub use propagation::Watches;
 pub use trail::Trail;
 pub use watched_clauses::WatchedClauses;
-pub use watching::Watches;

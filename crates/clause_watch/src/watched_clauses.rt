@@ -7,8 +7,8 @@ ghost use Rattle.clause_watch.specs.Range.{InRange};
 ghost use Rattle.clause_watch.specs.Rows.{row, row_of, IsPut};
 ghost use Rattle.clause_watch.specs.TwoWatches.{IsWatch, AreOwn, IsNamed, KeepsWatches, IsPushed, IsRewatched};
 
+use crate::clause_db::ClauseDb;
 use crate::pair::Pair;
-use crate::store::Store;
 use crate::watchers::{Watcher, Watchers};
 use proof_check::{Clauses, Literal};
 use sec_base::NoMemory;
@@ -20,7 +20,7 @@ use std::marker::Model;
 /// and nothing else stands in the rows. A contract sees the clauses, the pairs and the rows.
 #[derive(Drop)]
 pub struct WatchedClauses {
-    store: Store,
+    store: ClauseDb,
     /// What each clause watches. The pair of a clause of fewer literals means nothing.
     pairs: Vec<Pair>,
     /// For each literal the clauses that watch it.
@@ -46,7 +46,7 @@ impl WatchedClauses {
         ensures kept { IfOk result (λ made. KeepsWatches made.known made.pairs made.rows) }
     {
         Ok(WatchedClauses {
-            store: Store::empty(alloc)?,
+            store: ClauseDb::empty(alloc)?,
             pairs: Vec::new(alloc),
             watchers: Watchers::new(alloc, variables)?,
         })
@@ -73,7 +73,7 @@ impl WatchedClauses {
     }
 
     /// The clauses alone.
-    pub fn store(&self) -> &Store
+    pub fn store(&self) -> &ClauseDb
         ensures { result.now ≡ self.now.known }
     {
         &self.store
@@ -189,7 +189,7 @@ impl WatchedClauses {
 
 /// Puts a clause and its pair last, or after `NoMemory` neither.
 fn push_both(
-    store: &mut Store,
+    store: &mut ClauseDb,
     pairs: &mut Vec<Pair>,
     clause: &[Literal],
     pair: &Pair,

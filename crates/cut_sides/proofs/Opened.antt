@@ -12,7 +12,7 @@ use Rattle.flat_net.specs.Cut.{latch_at, no_latch, exposed_names}
 use Rattle.flat_net.specs.Sound.{IsSound}
 use Rattle.flat_net.specs.View.{NetView}
 use Rattle.flat_net.proofs.Places.{All-at}
-use Rattle.port_matching.specs.Pairing.{AreNamedAt}
+use Rattle.interface.specs.Pairing.{AreNamedAt}
 use Rattle.pair_runs.proofs.Places.{pushed_at}
 use Rattle.name_tables.specs.Names.{latch_names}
 use Rattle.name_tables.proofs.Names.{latches_distinct, latch_name_at}

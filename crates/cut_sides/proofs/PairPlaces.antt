@@ -14,11 +14,11 @@ use Rattle.flat_net.proofs.CutNets.{slice_get-append_cases, slice_get-append_rig
 use Rattle.flat_net.proofs.Nets.{some_at}
 use Rattle.cycle_sim.proofs.Lists.{map_is, append_left}
 use Rattle.witness_report.specs.declared.witness.PairName.TheVariants as pair
-use Rattle.port_matching.specs.declared.pairing.SignalPair.{SignalPair}
-use Rattle.port_matching.specs.Pairing.{AreNamedAt}
-use Rattle.port_matching.specs.Pairing.{IsOutputPair, ArePairs}
+use Rattle.interface.specs.declared.pairs.SignalPair.{SignalPair}
+use Rattle.interface.specs.Pairing.{AreNamedAt}
+use Rattle.interface.specs.Pairing.{IsOutputPair, ArePairs}
 use Rattle.sec_setup.specs.Pairs.{named_pairs, places_of}
-use Rattle.port_matching.proofs.NamedPairs.{pairs_named}
+use Rattle.interface.proofs.NamedPairs.{pairs_named}
 use Rattle.pair_runs.specs.declared.differences.OutputPair.{OutputPair}
 use Rattle.pair_runs.specs.Outputs.{no_port, output_at}
 use Rattle.pair_runs.specs.Showing.{ArePlacesOf}

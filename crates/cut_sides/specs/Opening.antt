@@ -4,7 +4,7 @@ use Rattle.std.specs.List.{All, Contains}
 use Rattle.flat_net.specs.Cut.{IsCut, IsCutCircuit}
 use Rattle.flat_net.specs.declared.parts.LatchAt.{LatchAt}
 use Rattle.flat_net.specs.View.{NetView, circuit_of}
-use Rattle.port_matching.specs.Pairing.{AreNamedAt}
+use Rattle.interface.specs.Pairing.{AreNamedAt}
 use Rattle.name_tables.specs.Names.{latch_names}
 
 -- the latch is one of the net's, and this is its bit

@@ -2,9 +2,9 @@
 //! outputs by their places.
 #![tactic(auto)]
 
-mod opening;
-mod pairing;
+mod opened_latches;
+mod pairs;
 mod sides;
 
-pub use pairing::pairs_of;
+pub use pairs::pairs_of;
 pub use sides::{CutSide, cut_side};

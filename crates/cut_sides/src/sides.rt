@@ -3,7 +3,7 @@
 ghost use Rattle.std.specs.Prelude.{◌≡◌, length, IfOk};
 ghost use Rattle.cut_sides.specs.Opening.{AreNamesOf, IsCutSide};
 
-use crate::opening::{bits_left, positions_of};
+use crate::opened_latches::{bits_left, positions_of};
 use flat_net::Net;
 use pair_runs::Side;
 use sec_base::{Bits, NameTable, NoMemory};

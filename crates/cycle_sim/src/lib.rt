@@ -1,15 +1,15 @@
 //! Simulation of a flat net cycle by cycle: the run from a power-up, and which signals are settled.
 #![tactic(auto)]
 
+mod cycle_marks;
 mod cycles;
+mod flip;
 mod laws;
-mod loading;
+mod load;
 mod marked;
-mod marking;
 mod next_marks;
 mod power;
 mod sim;
-mod turning;
 
 pub use laws::has_run;
 pub use marked::MarkedSim;

@@ -9,7 +9,7 @@ ghost use Rattle.cycle_sim.specs.Runs.{power_bits, FitsLatches};
 ghost use Rattle.cycle_sim.specs.View.{HasMarkedRun, IsLatest, IsLatestMark};
 ghost use Rattle.cycle_sim.specs.Steps.{AreConesKept};
 
-use crate::marking::mark;
+use crate::cycle_marks::mark;
 use crate::next_marks::mark_ahead;
 use crate::power::Power;
 use crate::sim::Sim;

@@ -7,7 +7,7 @@ ghost use Rattle.flat_net.specs.View.{circuit_of};
 ghost use Rattle.cycle_sim.specs.View.{IsMark};
 ghost use Rattle.cycle_sim.specs.Steps.{HasValues, AreMarks, AreMarksAhead, AreConesKept};
 
-use crate::loading::held_next;
+use crate::load::held_next;
 use flat_net::Net;
 use latch_cone::ConeParts;
 

@@ -9,12 +9,12 @@ use Rattle.circuit_theory.specs.Names.{is_among}
 use Rattle.circuit_theory.proofs.Lists.{of_at}
 use Rattle.circuit_theory.proofs.Numbers.{is_among-sound, is_among-complete}
 use Rattle.blif_read.specs.declared.design.BlifModel.{BlifModel}
-use Rattle.flat_walk.specs.declared.error.FlatError.{FlatError}
-use Rattle.flat_walk.specs.declared.error.FlatError.TheVariants as fault
-use Rattle.flat_walk.specs.Flat.{FlatDesign, FlatOf, Kind, gate, latch, port, flat_design_of}
-use Rattle.flat_walk.specs.Walking.{design_walk_fault}
-use Rattle.flat_wires.specs.Wiring.{Wiring, TypedLatch, wiring_of}
-use Rattle.flat_wires.specs.Faults.{DrivesAgain, IsClockNet, IsWireFault, driven, clock_signals}
+use Rattle.elaborate.specs.declared.error.FlatError.{FlatError}
+use Rattle.elaborate.specs.declared.error.FlatError.TheVariants as fault
+use Rattle.elaborate.specs.Flat.{FlatDesign, FlatOf, Kind, gate, latch, port, flat_design_of}
+use Rattle.elaborate.specs.Walking.{design_walk_fault}
+use Rattle.connectivity.specs.Wiring.{Wiring, TypedLatch, wiring_of}
+use Rattle.connectivity.specs.Faults.{DrivesAgain, IsClockNet, IsWireFault, driven, clock_signals}
 use Rattle.flatten.specs.DesignFaults.{DesignFault, IsSoundDesign, IsLoopFault}
 use Rattle.flatten.specs.Loops.{IsQuick, ReadsFrom, IsCycle}
 use Rattle.net_alike.proofs.Testing.{all_in}

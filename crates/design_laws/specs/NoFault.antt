@@ -3,10 +3,10 @@ use Rattle.std.specs.Prelude.{ℕ, nat_lt, ◌+◌, ◌&&◌, not, Bool, true, f
 use Rattle.std.specs.List.{list_all}
 use Rattle.circuit_theory.specs.Names.{same_name, is_among}
 use Rattle.blif_read.specs.declared.design.BlifModel.{BlifModel}
-use Rattle.flat_walk.specs.Flat.{FlatDesign, FlatOf, Kind, gate, latch, port, flat_design_of}
-use Rattle.flat_walk.specs.Walking.{design_walk_fault}
-use Rattle.flat_wires.specs.Wiring.{Wiring, wiring_of}
-use Rattle.flat_wires.specs.Faults.{driven, clock_signals}
+use Rattle.elaborate.specs.Flat.{FlatDesign, FlatOf, Kind, gate, latch, port, flat_design_of}
+use Rattle.elaborate.specs.Walking.{design_walk_fault}
+use Rattle.connectivity.specs.Wiring.{Wiring, wiring_of}
+use Rattle.connectivity.specs.Faults.{driven, clock_signals}
 
 -- the name's place in the order, counted from 1; 0 for a name that isn't there
 abbrev pub rank_from : ℕ → List (List ℕ) → List ℕ → ℕ

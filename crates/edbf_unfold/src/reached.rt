@@ -16,7 +16,7 @@ use crate::circuit::EventCircuit;
 use crate::error::EventUnfoldError;
 use crate::events::EventGraph;
 use crate::memo::Place;
-use crate::reading::add;
+use crate::net_parts::add;
 use flat_net::{Driver, Net, Signal};
 use indexmap::IndexSet;
 use latch_cone::{other_latches, reached};

@@ -2,17 +2,17 @@
 //! feedback are compared.
 #![tactic(auto)]
 
+mod choice;
 mod error;
 mod laws;
 mod marks;
 mod pairs;
-mod picking;
 mod readers;
-mod remaining;
-mod trying;
-mod walking;
+mod remaining_cycle;
+mod trial;
+mod walk;
 
+pub use choice::pick;
 pub use error::PickError;
 pub use laws::{chosen_is_minimal_cut, refused_has_no_cut};
 pub use pairs::{LatchPair, LatchPairs};
-pub use picking::pick;

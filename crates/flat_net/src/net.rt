@@ -9,12 +9,12 @@ ghost use Rattle.circuit_theory.specs.Net.{IsNet, HasDistinctNames};
 ghost use Rattle.flat_net.specs.View.{NetView, cover_of, circuit_of, is_read};
 ghost use Rattle.flat_net.specs.Sound.{IsSound, IsInOrder};
 
-mod cutting;
-mod making;
+mod cut;
+mod growth;
 
 use crate::parts::{Driver, Gate, LatchAt, Port};
 use crate::signals::Signal;
-pub(crate) use making::push_within;
+pub(crate) use growth::push_within;
 use sec_base::{Cover, NameTable, Word, place_matches};
 use std::marker::Model;
 

@@ -2,8 +2,8 @@
 
 use crate::faults::show_fault;
 use blif_read::Design;
-use flat_walk::{Flat, FlatKind, FlatStatement, walk};
-use flat_wires::wire;
+use connectivity::wire;
+use elaborate::{Flat, FlatKind, FlatStatement, walk};
 use row_text::show;
 use std::rt::HostRuntime;
 

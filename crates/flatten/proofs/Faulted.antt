@@ -2,13 +2,13 @@
 use Rattle.std.proofs.Common.{◌≢◌, ℕ, List, sym, ◌∙◌, subst}
 use Rattle.std.proofs.lemmas.Option.{none-some}
 use Rattle.blif_read.specs.declared.design.BlifModel.{BlifModel}
-use Rattle.flat_walk.specs.declared.flat.Flat.{Flat}
-use Rattle.flat_walk.specs.declared.error.FlatError.{FlatError}
-use Rattle.flat_walk.specs.declared.error.FlatError.TheVariants as fault
-use Rattle.flat_walk.specs.Flat.{FlatDesign, named, name_at, view_of, flat_design_of}
-use Rattle.flat_walk.specs.Walked.{IsWalked}
-use Rattle.flat_wires.specs.Faults.{IsWireFault}
-use Rattle.flat_wires.specs.Wired.{IsTold, IsFaultless}
+use Rattle.elaborate.specs.declared.flat.Flat.{Flat}
+use Rattle.elaborate.specs.declared.error.FlatError.{FlatError}
+use Rattle.elaborate.specs.declared.error.FlatError.TheVariants as fault
+use Rattle.elaborate.specs.Flat.{FlatDesign, named, name_at, view_of, flat_design_of}
+use Rattle.elaborate.specs.Walked.{IsWalked}
+use Rattle.connectivity.specs.Faults.{IsWireFault}
+use Rattle.connectivity.specs.Wired.{IsTold, IsFaultless}
 use Rattle.flatten.specs.Loops.{IsLoop}
 use Rattle.flatten.specs.DesignFaults.{IsLoopFault, DesignFault, IsSoundDesign}
 

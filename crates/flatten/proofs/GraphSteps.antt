@@ -2,8 +2,8 @@
 use Rattle.std.proofs.Common.{◌≡◌, ◌+◌, ◌∙◌, ℕ, List, [], ◌∷◌, ◌++◌, map, take, slice_get, Some, sym, ap}
 use Rattle.std.proofs.lemmas.List.{map-append}
 use Rattle.sec_base.proofs.TableLemmas.{take-push}
-use Rattle.flat_walk.specs.declared.flat.FlatStatement.{FlatStatement}
-use Rattle.flat_wires.specs.declared.source.Source.{Source}
+use Rattle.elaborate.specs.declared.flat.FlatStatement.{FlatStatement}
+use Rattle.connectivity.specs.declared.source.Source.{Source}
 use Rattle.flatten.specs.Graph.{source_reads}
 
 pub graph_step : (statements : List FlatStatement) (sources : List Source) (n : ℕ) (source : Source) (graph after : List (List ℕ)) (reads : List ℕ) → slice_get sources n ≡ Some source →

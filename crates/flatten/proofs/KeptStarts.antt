@@ -17,15 +17,15 @@ use Rattle.blif_read.specs.Kept.{is_plain, written_names, covers_fit}
 use Rattle.flat_net.specs.declared.parts.LatchAt.{LatchAt}
 use Rattle.flat_net.specs.View.{NetView, circuit_of}
 use Rattle.flat_net.specs.View.{start_of as net_start}
-use Rattle.flat_walk.specs.declared.flat.Flat.{Flat}
-use Rattle.flat_walk.specs.declared.flat.FlatStatement.{FlatStatement}
-use Rattle.flat_walk.specs.declared.flat.FlatKind.{FlatKind}
-use Rattle.flat_walk.specs.declared.flat.FlatKind.TheVariants as kind
-use Rattle.flat_walk.specs.Flat.{FlatDesign, FlatOf, Kind, gate, latch, port, named_kind, named_statement, flat_port, flat_of, name_at, kind_of, statement_of, start_from, start_by}
-use Rattle.flat_walk.specs.Walked.{IsWalked}
-use Rattle.flat_walk.proofs.Numbered.{origin_in}
-use Rattle.flat_wires.specs.Wiring.{joined, wires_of}
-use Rattle.flat_wires.specs.Wired.{WiredView, IsWired}
+use Rattle.elaborate.specs.declared.flat.Flat.{Flat}
+use Rattle.elaborate.specs.declared.flat.FlatStatement.{FlatStatement}
+use Rattle.elaborate.specs.declared.flat.FlatKind.{FlatKind}
+use Rattle.elaborate.specs.declared.flat.FlatKind.TheVariants as kind
+use Rattle.elaborate.specs.Flat.{FlatDesign, FlatOf, Kind, gate, latch, port, named_kind, named_statement, flat_port, flat_of, name_at, kind_of, statement_of, start_from, start_by}
+use Rattle.elaborate.specs.Walked.{IsWalked}
+use Rattle.elaborate.proofs.Numbered.{origin_in}
+use Rattle.connectivity.specs.Wiring.{joined, wires_of}
+use Rattle.connectivity.specs.Wired.{WiredView, IsWired}
 use Rattle.flatten.specs.Clocked.{numbered_circuit, number_at}
 use Rattle.flatten.specs.Gated.{made_by, spot}
 use Rattle.flatten.specs.Graph.{graph_of}

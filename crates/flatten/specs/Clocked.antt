@@ -3,9 +3,9 @@ use Rattle.std.specs.Prelude.{◌≡◌, ℕ, List, Option, Some, slice_index_or
 use Rattle.circuit_theory.specs.Circuit.{Circuit}
 use Rattle.circuit_theory.specs.Flattened.{Follows}
 use Rattle.blif_read.specs.declared.design.BlifModel.{BlifModel}
-use Rattle.flat_walk.specs.declared.flat.Flat.{Flat}
-use Rattle.flat_walk.specs.Flat.{view_of, circuit_of_flat}
-use Rattle.flat_wires.specs.Wired.{WiredView}
+use Rattle.elaborate.specs.declared.flat.Flat.{Flat}
+use Rattle.elaborate.specs.Flat.{view_of, circuit_of_flat}
+use Rattle.connectivity.specs.Wired.{WiredView}
 use Rattle.flatten.specs.Gated.{made_by}
 
 -- the circuit of the numbered statements, without the clock among its inputs

@@ -9,13 +9,13 @@ use Rattle.flat_net.specs.declared.signals.Signal.{Signal}
 use Rattle.flat_net.specs.declared.parts.Gate.{Gate}
 use Rattle.flat_net.specs.View.{NetView, equation_of_gate}
 use Rattle.flat_net.specs.Makes.{MakerView}
-use Rattle.flat_walk.specs.declared.flat.Flat.{Flat}
-use Rattle.flat_walk.specs.declared.flat.FlatStatement.{FlatStatement}
-use Rattle.flat_walk.specs.declared.flat.FlatKind.TheVariants as kind
-use Rattle.flat_walk.specs.Flat.{name_at, statement_of, equation_in}
-use Rattle.flat_wires.specs.declared.source.Source.{Source}
-use Rattle.flat_wires.specs.declared.source.Source.TheVariants as source
-use Rattle.flat_wires.specs.Wired.{WiredView}
+use Rattle.elaborate.specs.declared.flat.Flat.{Flat}
+use Rattle.elaborate.specs.declared.flat.FlatStatement.{FlatStatement}
+use Rattle.elaborate.specs.declared.flat.FlatKind.TheVariants as kind
+use Rattle.elaborate.specs.Flat.{name_at, statement_of, equation_in}
+use Rattle.connectivity.specs.declared.source.Source.{Source}
+use Rattle.connectivity.specs.declared.source.Source.TheVariants as source
+use Rattle.connectivity.specs.Wired.{WiredView}
 use Rattle.net_assembly.specs.Built.{IsBuilt, AreCovers, unclocked, latch_outs}
 use Rattle.flatten.specs.Graph.{IsSourceWithin, graph_of, is_gate_out}
 use Rattle.gate_order.specs.Order.{IsOrder}

@@ -1,10 +1,10 @@
 -- What each numbered signal reads in the cycle in which it has its value.
 use Rattle.std.specs.Prelude.{ℕ, ◌<◌, Bool, true, false, List, [], map, Option, Some, None, slice_get}
-use Rattle.flat_walk.specs.declared.flat.FlatStatement.{FlatStatement}
-use Rattle.flat_walk.specs.declared.flat.FlatKind.{FlatKind}
-use Rattle.flat_walk.specs.declared.flat.FlatKind.TheVariants as kind
-use Rattle.flat_wires.specs.declared.source.Source.{Source}
-use Rattle.flat_wires.specs.declared.source.Source.TheVariants as source
+use Rattle.elaborate.specs.declared.flat.FlatStatement.{FlatStatement}
+use Rattle.elaborate.specs.declared.flat.FlatKind.{FlatKind}
+use Rattle.elaborate.specs.declared.flat.FlatKind.TheVariants as kind
+use Rattle.connectivity.specs.declared.source.Source.{Source}
+use Rattle.connectivity.specs.declared.source.Source.TheVariants as source
 
 -- the source is an input, nothing, or one of so many statements
 abbrev pub IsSourceWithin : ℕ → Source → Type 0

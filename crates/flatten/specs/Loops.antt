@@ -3,7 +3,7 @@ use Rattle.std.specs.Prelude.{◌≡◌, ◌⊎◌, ℕ, suc, ◌-◌, ◌<◌, 
 use Rattle.std.specs.List.{All, Contains, filter}
 use Rattle.circuit_theory.specs.Names.{ListBefore}
 use Rattle.sec_base.specs.Table.{AreDistinct}
-use Rattle.flat_walk.specs.Flat.{FlatDesign, FlatOf, Kind, gate, latch, port, name_at}
+use Rattle.elaborate.specs.Flat.{FlatDesign, FlatOf, Kind, gate, latch, port, name_at}
 
 -- a gate or a port has its value in the cycle in which it reads
 abbrev pub IsQuick : {P : Type 0} → Kind P → Type 0

@@ -5,13 +5,13 @@ use Rattle.blif_read.specs.declared.design.BlifModel.{BlifModel}
 use Rattle.flat_net.specs.declared.parts.Port.{Port}
 use Rattle.flat_net.specs.declared.parts.LatchAt.{LatchAt}
 use Rattle.flat_net.specs.View.{NetView, equation_of_gate}
-use Rattle.flat_walk.specs.declared.flat.Flat.{Flat}
-use Rattle.flat_walk.specs.declared.flat.FlatStatement.{FlatStatement}
-use Rattle.flat_walk.specs.declared.flat.FlatKind.{FlatKind}
-use Rattle.flat_walk.specs.declared.flat.FlatKind.TheVariants as kind
-use Rattle.flat_walk.specs.Flat.{name_at, first_of}
-use Rattle.flat_wires.specs.Wiring.{joined}
-use Rattle.flat_wires.specs.Wired.{WiredView}
+use Rattle.elaborate.specs.declared.flat.Flat.{Flat}
+use Rattle.elaborate.specs.declared.flat.FlatStatement.{FlatStatement}
+use Rattle.elaborate.specs.declared.flat.FlatKind.{FlatKind}
+use Rattle.elaborate.specs.declared.flat.FlatKind.TheVariants as kind
+use Rattle.elaborate.specs.Flat.{name_at, first_of}
+use Rattle.connectivity.specs.Wiring.{joined}
+use Rattle.connectivity.specs.Wired.{WiredView}
 use Rattle.net_assembly.specs.Built.{unclocked}
 use Rattle.net_assembly.specs.Shown.{latch_data}
 use Rattle.flatten.specs.Gated.{spot, HasSpot, gates_in, made_by, driver_of, net_equation}

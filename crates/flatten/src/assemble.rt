@@ -2,13 +2,13 @@
 
 ghost use Rattle.std.specs.Prelude.{◌≡◌, ◌^◌, ◌+◌, ◌<◌, ℕ, List, [], ◌∷◌, ◌++◌, false, true, length, replicate, slice_get, slice_set, slice_index_or, option_map, Some, None, All, IfOk, IfSome, OnOk, IsSomeAnd};
 ghost use Rattle.sec_base.specs.Table.{is_among, AreDistinct};
-ghost use Rattle.flat_walk.specs.Flat.{cover_at, is_number, name_at};
+ghost use Rattle.elaborate.specs.Flat.{cover_at, is_number, name_at};
 ghost use Rattle.net_assembly.specs.Built.{IsBuilt, CanTakeLatches, unclocked, with_inputs, latch_outs, with_latches};
 ghost use Rattle.flat_net.specs.Makes.{empty_net, new_signal, with_input, with_latch, with_gate, with_output, with_next};
 
 use blif_read::{BlifModel, Statement};
+use elaborate::{Flat, FlatKind};
 use flat_net::{Net, NetMaker, Signal, Signals};
-use flat_walk::{Flat, FlatKind};
 use sec_base::{Cover, Init, NoMemory, PlaceTable, Seq};
 use std::alloc::Global;
 use std::mem;

@@ -1,16 +1,16 @@
 //! The gates of the net of a sound flat design.
 
 ghost use Rattle.std.specs.Prelude.{true, ◌≡◌, ◌^◌, ◌+◌, ◌<◌, ◌≤◌, [], length, map, slice_get, slice_index_or, Some, All, IfOk, OnOk};
-ghost use Rattle.flat_walk.specs.Flat.{cover_at, view_of, IsShaped};
+ghost use Rattle.elaborate.specs.Flat.{cover_at, view_of, IsShaped};
 ghost use Rattle.net_assembly.specs.Built.{IsBuilt, AreCovers};
 ghost use Rattle.flatten.specs.Gated.{IsLaid, HasGates, IsRest, IsGrown, first_made};
 ghost use Rattle.net_assembly.specs.Shown.{with_outputs, latch_signals, latch_nexts, with_nexts};
 
 use crate::assemble::{Assembly, cover_copy};
 use blif_read::BlifModel;
+use connectivity::{Source, Wired};
+use elaborate::{Flat, FlatKind, FlatStatement};
 use flat_net::{Signal, Signals};
-use flat_walk::{Flat, FlatKind, FlatStatement};
-use flat_wires::{Source, Wired};
 use sec_base::NoMemory;
 use std::alloc::Global;
 

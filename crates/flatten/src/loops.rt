@@ -3,18 +3,18 @@
 ghost use Rattle.std.specs.Prelude.{◌≡◌, ◌<◌, ◌^◌, ◌++◌, ◌≢◌, ℕ, true, false, [], length, map, take, drop, slice_index_or, slice_get, All, IfOk, IfErr, OnOk};
 ghost use Rattle.std.specs.List.{filter};
 ghost use Rattle.circuit_theory.specs.Names.{ListBefore};
-ghost use Rattle.flat_walk.specs.Flat.{name_at};
+ghost use Rattle.elaborate.specs.Flat.{name_at};
 ghost use Rattle.flatten.specs.Graph.{IsSourceWithin, source_reads, is_gate_source, is_gate_out, graph_of};
-ghost use Rattle.flat_walk.specs.Flat.{named, view_of};
-ghost use Rattle.flat_walk.specs.declared.error.FlatError.TheVariants as fault;
-ghost use Rattle.flat_wires.specs.Wired.{IsWired};
-ghost use Rattle.flat_wires.specs.Wiring.{wires_of};
+ghost use Rattle.elaborate.specs.Flat.{named, view_of};
+ghost use Rattle.elaborate.specs.declared.error.FlatError.TheVariants as fault;
+ghost use Rattle.connectivity.specs.Wired.{IsWired};
+ghost use Rattle.connectivity.specs.Wiring.{wires_of};
 ghost use Rattle.flatten.specs.DesignFaults.{IsLoopFault};
 ghost use Rattle.flatten.specs.Loops.{IsLoop, IsNamedTurn, AreLoopNames};
 ghost use Rattle.gate_order.specs.Order.{IsOrder};
 
-use flat_walk::{Flat, FlatError, FlatKind};
-use flat_wires::{Source, Wired};
+use connectivity::{Source, Wired};
+use elaborate::{Flat, FlatError, FlatKind};
 use gate_order::{Found, order_of};
 use sec_base::{Ids, NoMemory, Seq, Words};
 use std::alloc::Global;

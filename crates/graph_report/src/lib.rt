@@ -2,6 +2,6 @@
 #![tactic(auto)]
 
 mod report;
-mod writing;
+mod text;
 
 pub use report::graph_report;

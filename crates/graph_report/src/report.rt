@@ -8,7 +8,7 @@ ghost use Rattle.latch_graph.specs.Graph.{IsGraphOf, IsGraphIn};
 ghost use Rattle.graph_report.specs.Report.{IsFound, IsGraphReport};
 ghost use Rattle.graph_report.specs.Puts.{PutsLatches, PutsOutputs, PutsCycle};
 
-use crate::writing::{put_counts, put_latch, put_names, put_output};
+use crate::text::{put_counts, put_latch, put_names, put_output};
 use flat_net::Net;
 use latch_cone::{LatchKind, enabled_among};
 use latch_graph::LatchGraph;

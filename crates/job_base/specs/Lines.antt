@@ -8,9 +8,9 @@ use Rattle.blif_read.specs.declared.error.ReadKind.{ReadKind}
 use Rattle.blif_read.specs.declared.error.ReadKind.TheVariants as kind
 use Rattle.sim_report.specs.declared.refusal.Misfit.{Misfit}
 use Rattle.sim_report.specs.declared.refusal.Misfit.TheVariants as misfit
-use Rattle.flat_walk.specs.declared.error.FlatError.{FlatError}
-use Rattle.flat_walk.specs.declared.error.FlatError.TheVariants as flat
-use Rattle.sec_outcome.specs.Report.{report_text}
+use Rattle.elaborate.specs.declared.error.FlatError.{FlatError}
+use Rattle.elaborate.specs.declared.error.FlatError.TheVariants as flat
+use Rattle.outcome.specs.Report.{report_text}
 use Rattle.replay_report.specs.Report.{replay_text}
 use Rattle.job_base.specs.declared.finding.File.{File}
 use Rattle.job_base.specs.declared.finding.File.TheVariants as file

@@ -4,9 +4,9 @@ use Rattle.std.specs.List.{filter_map}
 use Rattle.sec_base.specs.Outside.{Takes, TakesFront}
 use Rattle.pair_decide.specs.declared.query.Proof.{Proof}
 use Rattle.pair_runs.specs.declared.differences.Difference.{Difference}
-use Rattle.sec_outcome.specs.declared.outcome.PairResult.{PairResult}
-use Rattle.sec_outcome.specs.declared.outcome.Verdict.{Verdict}
-use Rattle.sec_outcome.specs.declared.outcome.Verdict.TheVariants as verdict
+use Rattle.outcome.specs.declared.verdict.PairResult.{PairResult}
+use Rattle.outcome.specs.declared.verdict.Verdict.{Verdict}
+use Rattle.outcome.specs.declared.verdict.Verdict.TheVariants as verdict
 use Rattle.job_base.specs.declared.finding.Finding.{Finding}
 use Rattle.job_base.specs.declared.finding.Finding.TheVariants as finding
 use Rattle.job_base.specs.declared.status.Status.{Status}

@@ -1,11 +1,11 @@
 //! What a run finds and reports.
 
 use blif_read::ReadKind;
-use flat_walk::FlatError;
+use elaborate::FlatError;
+use outcome::{Outcome, Settings};
 use pair_decide::Proof;
 use pair_runs::Differences;
 use sec_base::{Side, Text, Word, Words};
-use sec_outcome::{Outcome, Settings};
 use sim_report::Misfit;
 
 /// A file of a job, by what it is.

@@ -1,11 +1,11 @@
 //! What a job finds, how it ends, and the report that is written of it.
 #![tactic(auto)]
 
+mod end;
 mod finding;
-mod finishing;
 mod status;
-mod writing;
+mod text;
 
+pub use end::finish;
 pub use finding::{File, Finding, LineFault, Refusal, Stop};
-pub use finishing::finish;
 pub use status::{Proofs, Status, StatusName};

@@ -2,13 +2,13 @@
 use Rattle.std.specs.Prelude.{IfSome, IsErrOf}
 use Rattle.std.proofs.Common.{◌≡◌, ℕ, ◌≤◌, List, [], ◌∷◌, refl, sym, subst, inl, inr, Option, Some, None, Result, Ok, Err}
 use Rattle.sec_base.specs.Outside.{Rose}
-use Rattle.sec_base.specs.declared.fetching.FetchError.TheVariants as fetch_error
+use Rattle.sec_base.specs.declared.whole_file.FetchError.TheVariants as fetch_error
 use Rattle.sec_base.specs.declared.settings.Settings.{Settings}
 use Rattle.flat_net.specs.View.{NetView}
 use Rattle.blif_read.specs.declared.error.ReadError.TheVariants as read_error
-use Rattle.flat_walk.specs.declared.error.FlatError.{FlatError}
-use Rattle.flat_walk.specs.declared.error.FlatError.TheVariants as flat_error
-use Rattle.sec_outcome.specs.declared.outcome.Outcome.{Outcome}
+use Rattle.elaborate.specs.declared.error.FlatError.{FlatError}
+use Rattle.elaborate.specs.declared.error.FlatError.TheVariants as flat_error
+use Rattle.outcome.specs.declared.verdict.Outcome.{Outcome}
 use Rattle.job_base.specs.declared.finding.File.TheVariants as file
 use Rattle.job_base.specs.declared.finding.Stop.TheVariants as stop
 use Rattle.job_base.specs.declared.finding.Finding.{Finding}
@@ -16,8 +16,8 @@ use Rattle.job_base.specs.declared.finding.Stop.{Stop}
 use Rattle.sec_check.specs.declared.error.CompareError.{CompareError}
 use Rattle.sec_check.specs.declared.error.CompareError.TheVariants as compare_error
 use Rattle.sec_check.specs.Compared.{Compared}
-use Rattle.sec_files.specs.declared.loading.LoadError.{LoadError}
-use Rattle.sec_files.specs.declared.loading.LoadError.TheVariants as load_error
+use Rattle.sec_files.specs.declared.loader.LoadError.{LoadError}
+use Rattle.sec_files.specs.declared.loader.LoadError.TheVariants as load_error
 use Rattle.sec_files.specs.Loading.{Loads, LoadFails, IsTooLong, HasFault, HasDesignFault}
 use Rattle.job_files.specs.Reading.{Held}
 use Rattle.job_files.specs.Ends.{load_end}

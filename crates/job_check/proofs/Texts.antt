@@ -9,14 +9,14 @@ use Rattle.flat_net.specs.View.{NetView, circuit_of}
 use Rattle.blif_read.specs.Design.{circuit_of_design}
 use Rattle.blif_read.specs.Reading.{spelled}
 use Rattle.pair_decide.specs.declared.query.Proof.{Proof}
-use Rattle.sec_outcome.specs.declared.outcome.PairResult.{PairResult}
-use Rattle.sec_outcome.specs.declared.outcome.LimitAt.{LimitAt}
-use Rattle.sec_outcome.specs.declared.outcome.LimitAt.TheVariants as limit_at
-use Rattle.sec_outcome.specs.declared.outcome.Outcome.{Outcome}
-use Rattle.sec_outcome.specs.declared.outcome.Verdict.{Verdict}
-use Rattle.sec_outcome.specs.declared.outcome.Verdict.TheVariants as verdict
-use Rattle.sec_outcome.specs.declared.outcome.Why.TheVariants as why
-use Rattle.sec_outcome.specs.Report.{report_text}
+use Rattle.outcome.specs.declared.verdict.PairResult.{PairResult}
+use Rattle.outcome.specs.declared.verdict.LimitAt.{LimitAt}
+use Rattle.outcome.specs.declared.verdict.LimitAt.TheVariants as limit_at
+use Rattle.outcome.specs.declared.verdict.Outcome.{Outcome}
+use Rattle.outcome.specs.declared.verdict.Verdict.{Verdict}
+use Rattle.outcome.specs.declared.verdict.Verdict.TheVariants as verdict
+use Rattle.outcome.specs.declared.verdict.Why.TheVariants as why
+use Rattle.outcome.specs.Report.{report_text}
 use Rattle.sec_setup.specs.Pairs.{NamedPair, named_pairs}
 use Rattle.sec_setup.specs.Cuts.{columns_of, is_cut}
 use Rattle.plain_form.specs.Outcome.{PairFits, VerdictFits, IsFirstLimit}

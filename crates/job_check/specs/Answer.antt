@@ -12,11 +12,11 @@ use Rattle.witness_report.specs.declared.witness.Witness.{Witness}
 use Rattle.flat_net.specs.View.{NetView, circuit_of, ports_of}
 use Rattle.blif_read.specs.Design.{Place}
 use Rattle.pair_decide.specs.declared.query.Proof.{Proof}
-use Rattle.sec_outcome.specs.declared.outcome.LimitAt.TheVariants as limit_at
-use Rattle.sec_outcome.specs.declared.outcome.Verdict.TheVariants as verdict
-use Rattle.sec_outcome.specs.declared.outcome.Why.TheVariants as why
-use Rattle.sec_outcome.specs.declared.outcome.Outcome.{Outcome}
-use Rattle.sec_outcome.specs.Report.{report_text}
+use Rattle.outcome.specs.declared.verdict.LimitAt.TheVariants as limit_at
+use Rattle.outcome.specs.declared.verdict.Verdict.TheVariants as verdict
+use Rattle.outcome.specs.declared.verdict.Why.TheVariants as why
+use Rattle.outcome.specs.declared.verdict.Outcome.{Outcome}
+use Rattle.outcome.specs.Report.{report_text}
 use Rattle.job_base.specs.declared.status.StatusName.{StatusName}
 use Rattle.job_base.specs.declared.status.StatusName.TheVariants as status
 use Rattle.job_base.specs.Meaning.{SaysNothing, EndsWith}

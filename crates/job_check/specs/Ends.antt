@@ -2,7 +2,7 @@
 use Rattle.std.specs.Prelude.{◌≡◌, ◌⊎◌, ℕ, List, [], ◌∷◌, Option, Result, Ok, Err, IfSome}
 use Rattle.sec_base.specs.declared.settings.Settings.{Settings}
 use Rattle.flat_net.specs.View.{NetView}
-use Rattle.sec_outcome.specs.declared.outcome.Outcome.{Outcome}
+use Rattle.outcome.specs.declared.verdict.Outcome.{Outcome}
 use Rattle.job_base.specs.Ends.{EndsBy}
 use Rattle.job_base.specs.declared.finding.File.TheVariants as file
 use Rattle.job_base.specs.declared.finding.Refusal.TheVariants as refusal
@@ -14,7 +14,7 @@ use Rattle.sec_check.specs.declared.error.CompareError.{CompareError}
 use Rattle.sec_check.specs.declared.error.CompareError.TheVariants as compare_error
 use Rattle.sec_check.specs.Compared.{Compared}
 use Rattle.sec_files.specs.Loading.{Loads, LoadFails}
-use Rattle.sec_files.specs.declared.loading.LoadError.{LoadError}
+use Rattle.sec_files.specs.declared.loader.LoadError.{LoadError}
 use Rattle.job_files.specs.Ends.{load_end}
 use Rattle.job_files.specs.Reading.{Held, ReadFailed}
 use Rattle.job_check.specs.Found.{IsFoundOf, IsCheckFound}

@@ -3,12 +3,12 @@ use Rattle.std.specs.Prelude.{IfSome}
 use Rattle.std.proofs.Common.{◌≡◌, ℕ, ◌≤◌, Bool, List, [], subst, Option, Result, Ok, Err}
 use Rattle.circuit_theory.specs.declared.Side.TheVariants.{A, B}
 use Rattle.circuit_theory.specs.declared.Mode.{Mode}
-use Rattle.sec_base.specs.declared.fetching.FetchError.TheVariants as fetch_error
+use Rattle.sec_base.specs.declared.whole_file.FetchError.TheVariants as fetch_error
 use Rattle.sec_base.specs.Outside.{Rose}
 use Rattle.witness_report.specs.declared.error.StimError.TheVariants as stim_error
 use Rattle.flat_net.specs.View.{NetView}
 use Rattle.blif_read.specs.declared.error.ReadError.TheVariants as read_error
-use Rattle.flat_walk.specs.declared.error.FlatError.TheVariants as flat_error
+use Rattle.elaborate.specs.declared.error.FlatError.TheVariants as flat_error
 use Rattle.job_base.specs.declared.finding.File.TheVariants as file
 use Rattle.job_base.specs.declared.finding.LineFault.TheVariants as line_fault
 use Rattle.job_base.specs.declared.finding.Refusal.{Refusal}
@@ -21,8 +21,8 @@ use Rattle.latch_kinds.specs.declared.kinds.KindsError.TheVariants as kinds_erro
 use Rattle.circuit_jobs.specs.declared.runs.SimulateError.{SimulateError}
 use Rattle.circuit_jobs.specs.declared.runs.SimulateError.TheVariants as simulate_error
 use Rattle.circuit_jobs.specs.Jobs.{Tells, Simulates}
-use Rattle.sec_files.specs.declared.loading.LoadError.{LoadError}
-use Rattle.sec_files.specs.declared.loading.LoadError.TheVariants as load_error
+use Rattle.sec_files.specs.declared.loader.LoadError.{LoadError}
+use Rattle.sec_files.specs.declared.loader.LoadError.TheVariants as load_error
 use Rattle.sec_files.specs.declared.stimuli.StimulusError.{StimulusError}
 use Rattle.sec_files.specs.declared.stimuli.StimulusError.TheVariants as stimulus_error
 use Rattle.sec_files.specs.Loading.{Loads, LoadFails, IsTooLong}

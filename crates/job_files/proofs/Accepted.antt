@@ -3,7 +3,7 @@ use Rattle.std.specs.Prelude.{IfSome}
 use Rattle.std.proofs.Common.{◌≡◌, ℕ, Bool, List, refl, sym, ◌∙◌, arith, Option, Some}
 use Rattle.std.proofs.lemmas.Option.{none-some}
 use Rattle.blif_read.specs.declared.error.ReadKind.{ReadKind}
-use Rattle.flat_walk.specs.declared.error.FlatError.{FlatError}
+use Rattle.elaborate.specs.declared.error.FlatError.{FlatError}
 use Rattle.witness_report.specs.Form.{IsForm, HasNoHeader, IsBadRow}
 use Rattle.witness_report.proofs.Forms.{form_lines, one_form, no_bad_line}
 use Rattle.sec_files.specs.Loading.{IsAccepted, IsTooLong, HasFault, HasDesignFault}

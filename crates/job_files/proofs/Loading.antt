@@ -2,12 +2,12 @@
 use Rattle.std.specs.Prelude.{IfSome}
 use Rattle.std.proofs.Common.{◌≡◌, ℕ, ◌≤◌, List, subst, Option}
 use Rattle.sec_base.specs.Outside.{Rose}
-use Rattle.sec_base.specs.declared.fetching.FetchError.TheVariants as fetch_error
+use Rattle.sec_base.specs.declared.whole_file.FetchError.TheVariants as fetch_error
 use Rattle.witness_report.specs.declared.error.StimError.TheVariants as stim_error
 use Rattle.blif_read.specs.declared.error.ReadError.TheVariants as read_error
 use Rattle.blif_read.specs.declared.error.ReadKind.{ReadKind}
-use Rattle.flat_walk.specs.declared.error.FlatError.{FlatError}
-use Rattle.flat_walk.specs.declared.error.FlatError.TheVariants as flat_error
+use Rattle.elaborate.specs.declared.error.FlatError.{FlatError}
+use Rattle.elaborate.specs.declared.error.FlatError.TheVariants as flat_error
 use Rattle.job_base.specs.declared.finding.File.{File}
 use Rattle.job_base.specs.declared.finding.File.TheVariants as file
 use Rattle.job_base.specs.declared.finding.LineFault.TheVariants as line_fault
@@ -15,8 +15,8 @@ use Rattle.job_base.specs.declared.finding.Refusal.TheVariants as refusal
 use Rattle.job_base.specs.declared.finding.Finding.{Finding}
 use Rattle.job_base.specs.declared.finding.Finding.TheVariants as finding
 use Rattle.job_base.specs.Ends.{EndsBy}
-use Rattle.sec_files.specs.declared.loading.LoadError.{LoadError}
-use Rattle.sec_files.specs.declared.loading.LoadError.TheVariants as load_error
+use Rattle.sec_files.specs.declared.loader.LoadError.{LoadError}
+use Rattle.sec_files.specs.declared.loader.LoadError.TheVariants as load_error
 use Rattle.sec_files.specs.declared.stimuli.StimulusError.{StimulusError}
 use Rattle.sec_files.specs.declared.stimuli.StimulusError.TheVariants as stimulus_error
 use Rattle.sec_files.specs.Loading.{LoadFails, FlattenFails, IsTooLong, HasFault, HasDesignFault}

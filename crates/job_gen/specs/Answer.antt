@@ -7,10 +7,10 @@ use Rattle.sec_base.specs.Outside.{Takes}
 use Rattle.flat_net.specs.View.{NetView, circuit_of, ports_of}
 use Rattle.witness_report.specs.declared.witness.Witness.{Witness}
 use Rattle.pair_decide.specs.declared.query.Proof.{Proof}
-use Rattle.sec_outcome.specs.declared.outcome.Outcome.{Outcome}
-use Rattle.sec_outcome.specs.declared.outcome.Verdict.{Verdict}
-use Rattle.sec_outcome.specs.declared.outcome.Verdict.TheVariants as verdict
-use Rattle.sec_outcome.specs.declared.outcome.LimitAt.TheVariants as limit_at
+use Rattle.outcome.specs.declared.verdict.Outcome.{Outcome}
+use Rattle.outcome.specs.declared.verdict.Verdict.{Verdict}
+use Rattle.outcome.specs.declared.verdict.Verdict.TheVariants as verdict
+use Rattle.outcome.specs.declared.verdict.LimitAt.TheVariants as limit_at
 use Rattle.sec_setup.specs.Cuts.{AreCutAt, columns_of}
 use Rattle.sec_setup.specs.Pairs.{NamedPair, named_pairs}
 use Rattle.plain_form.specs.Limits.{IsUndecided}

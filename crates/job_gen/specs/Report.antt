@@ -2,8 +2,8 @@
 use Rattle.std.specs.Prelude.{ℕ, List, [], ◌∷◌, ◌++◌, length, codes, if◌then◌else◌}
 use Rattle.std.specs.Fmt.{decimal}
 use Rattle.flat_net.specs.View.{NetView}
-use Rattle.sec_outcome.specs.declared.outcome.Verdict.{Verdict}
-use Rattle.sec_outcome.specs.declared.outcome.Verdict.TheVariants as verdict
+use Rattle.outcome.specs.declared.verdict.Verdict.{Verdict}
+use Rattle.outcome.specs.declared.verdict.Verdict.TheVariants as verdict
 use Rattle.job_gen.specs.declared.generation.Generation.{Generation}
 
 -- the line of the number

@@ -5,9 +5,9 @@ ghost use Rattle.std.specs.Fmt.{decimal};
 ghost use Rattle.job_gen.specs.Report.{gen_text, title_text, verdict_word};
 
 use crate::generation::Generation;
+use outcome::Verdict;
 use pair_gen::Twins;
 use sec_base::{NoMemory, Seq, Text, put, put_number};
-use sec_outcome::Verdict;
 use std::alloc::Global;
 
 /// The report: the number, how many inputs, outputs, gates and latches there are, and the verdict.

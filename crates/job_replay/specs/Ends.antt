@@ -7,7 +7,7 @@ use Rattle.pair_runs.specs.declared.differences.Difference.{Difference}
 use Rattle.replay_modes.specs.declared.fault.ReplayFault.{ReplayFault}
 use Rattle.replay_modes.specs.declared.fault.ReplayFault.TheVariants as fault
 use Rattle.replay_modes.specs.Modes.{ReplaysIn}
-use Rattle.sec_files.specs.declared.loading.LoadError.{LoadError}
+use Rattle.sec_files.specs.declared.loader.LoadError.{LoadError}
 use Rattle.sec_files.specs.declared.stimuli.StimulusError.{StimulusError}
 use Rattle.sec_files.specs.Loading.{Loads, LoadFails}
 use Rattle.sec_files.specs.Stimuli.{IsStimulus, StimulusFails}

@@ -3,12 +3,12 @@
 
 mod blocks;
 mod evaluation;
-mod renaming;
-mod signing;
+mod places;
+mod signature_table;
 mod table;
 mod variables;
 
 pub use blocks::and_block;
-pub use signing::{SignatureTable, signatures};
+pub use signature_table::{SignatureTable, signatures};
 pub use table::table_differs;
 pub use variables::variable_block;

@@ -13,8 +13,8 @@ use Rattle.circuit_theory.specs.Circuit.{Circuit, IsSource, Reads, Reaches}
 use Rattle.circuit_theory.specs.Names.{ListBefore}
 use Rattle.circuit_theory.proofs.Sums.{same_or_not}
 use Rattle.latch_graph.specs.declared.nodes.Node.{Node}
-use Rattle.latch_graph.specs.declared.settling.State.{State}
-use Rattle.latch_graph.specs.declared.settling.State.TheVariants.{New, Endless, Removed}
+use Rattle.latch_graph.specs.declared.states.State.{State}
+use Rattle.latch_graph.specs.declared.states.State.TheVariants.{New, Endless, Removed}
 use Rattle.latch_graph.specs.Graph.{GraphView, IsGraphOf, AreNodes}
 use Rattle.latch_cone.specs.Cones.{IsMarkedBy}
 use Rattle.latch_graph.specs.Settling.{ReadsEndless, IsTable, SameRemoved}

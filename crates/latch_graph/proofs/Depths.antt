@@ -17,8 +17,8 @@ use Rattle.circuit_theory.specs.Net.{IsNet}
 use Rattle.circuit_theory.proofs.Lists.{Contains-map, of_at}
 use Rattle.latch_cone.proofs.Walks.{source_stays}
 use Rattle.latch_graph.specs.declared.nodes.Node.{Node}
-use Rattle.latch_graph.specs.declared.settling.State.{State}
-use Rattle.latch_graph.specs.declared.settling.State.TheVariants.{New, Open, Known, Endless, Removed}
+use Rattle.latch_graph.specs.declared.states.State.{State}
+use Rattle.latch_graph.specs.declared.states.State.TheVariants.{New, Open, Known, Endless, Removed}
 use Rattle.std.proofs.lemmas.Option.{slice_get_within}
 use Rattle.latch_graph.specs.Graph.{GraphView, IsNodeOf, IsGraphOf, AreNodes, AreTaken, SkippedBy}
 use Rattle.latch_graph.specs.Settling.{HasDepth, IsDepthOf, ReadsEndless, IsTable, depth_of, step_of}

@@ -6,8 +6,8 @@ use Rattle.std.proofs.lemmas.Option.{slice_get_within}
 use Rattle.flat_net.specs.declared.parts.LatchAt.{LatchAt}
 use Rattle.flat_net.specs.View.{NetView, circuit_of}
 use Rattle.circuit_theory.specs.Depth.{LatchReads, LatchChain, ChainFrom, IsDepth, HasNoDepth}
-use Rattle.latch_graph.specs.declared.settling.State.{State}
-use Rattle.latch_graph.specs.declared.settling.State.TheVariants.{New, Open, Known, Endless, Removed}
+use Rattle.latch_graph.specs.declared.states.State.{State}
+use Rattle.latch_graph.specs.declared.states.State.TheVariants.{New, Open, Known, Endless, Removed}
 use Rattle.latch_graph.specs.Graph.{GraphView, IsGraphOf, SkippedBy, marked_names}
 use Rattle.latch_graph.specs.Settling.{HasDepth, IsSettled}
 use Rattle.latch_graph.proofs.Depths.{endless, known_chain}

@@ -12,7 +12,7 @@ use Rattle.circuit_theory.specs.Depth.{after_in_round}
 use Rattle.circuit_theory.proofs.Sums.{same_or_not}
 use Rattle.circuit_theory.proofs.Inputs.{test_same, test_refl}
 use Rattle.latch_graph.specs.declared.nodes.Node.{Node}
-use Rattle.latch_graph.specs.declared.settling.State.{State}
+use Rattle.latch_graph.specs.declared.states.State.{State}
 use Rattle.latch_graph.specs.Rounds.{IsEndless, TakesOver, IsTrail, IsRound}
 use Rattle.latch_graph.proofs.Tables.{set_same, set_other, set_cases}
 

@@ -18,8 +18,8 @@ use Rattle.circuit_theory.specs.Net.{IsNet, IsWithin}
 use Rattle.circuit_theory.proofs.Lists.{Contains-head, Contains-tail, Contains-cases, Contains-map_from, at_of, map_at, length-map}
 use Rattle.circuit_theory.proofs.Sums.{same_or_not}
 use Rattle.latch_graph.specs.declared.nodes.Node.{Node}
-use Rattle.latch_graph.specs.declared.settling.State.{State}
-use Rattle.latch_graph.specs.declared.settling.State.TheVariants.{New, Open, Known, Endless, Removed}
+use Rattle.latch_graph.specs.declared.states.State.{State}
+use Rattle.latch_graph.specs.declared.states.State.TheVariants.{New, Open, Known, Endless, Removed}
 use Rattle.latch_graph.specs.Graph.{GraphView, IsGraphOf, marked_names, signals_at}
 use Rattle.latch_cone.specs.Cones.{IsMarkedBy}
 use Rattle.latch_graph.specs.Settling.{HasDepth, IsDepthOf, IsSettled, depth_of, step_of}

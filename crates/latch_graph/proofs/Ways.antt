@@ -11,9 +11,9 @@ use Rattle.flat_net.proofs.Growth.{slice_get-append, slice_get-push, slice_get-p
 use Rattle.flat_net.specs.declared.signals.Signal.{Signal}
 use Rattle.circuit_theory.proofs.Sums.{same_or_not}
 use Rattle.latch_graph.specs.declared.nodes.Node.{Node}
-use Rattle.latch_graph.specs.declared.settling.State.{State}
-use Rattle.latch_graph.specs.declared.settling.State.TheVariants.{New, Open, Known, Endless, Removed}
-use Rattle.latch_graph.specs.declared.settling.Step.{Step}
+use Rattle.latch_graph.specs.declared.states.State.{State}
+use Rattle.latch_graph.specs.declared.states.State.TheVariants.{New, Open, Known, Endless, Removed}
+use Rattle.latch_graph.specs.declared.states.Step.{Step}
 use Rattle.latch_graph.specs.Settling.{HasDepth, IsGreatest, IsDepthOf, ReadsEndless, IsRight, IsTable, IsStep, IsWay, Leads, IsLater, IsGivenUp, IsFirst, IsFinal, IsSettled, depth_of, step_of, is_new, new_count}
 use Rattle.latch_graph.proofs.Tables.{set_same, set_other, set_cases, new_count-set, Keeps, keeps_right, set_keeps}
 

@@ -2,8 +2,8 @@
 use Rattle.std.specs.Prelude.{◌≡◌, ℕ, List, slice_get, Some}
 use Rattle.flat_net.specs.declared.parts.LatchAt.{LatchAt}
 use Rattle.latch_graph.specs.declared.nodes.Node.{Node}
-use Rattle.latch_graph.specs.declared.settling.State.{State}
-use Rattle.latch_graph.specs.declared.settling.State.TheVariants.{Removed}
+use Rattle.latch_graph.specs.declared.states.State.{State}
+use Rattle.latch_graph.specs.declared.states.State.TheVariants.{Removed}
 use Rattle.latch_graph.specs.Graph.{AreNodes}
 use Rattle.latch_graph.specs.Settling.{IsSettled}
 

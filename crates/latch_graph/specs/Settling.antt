@@ -3,9 +3,9 @@ use Rattle.std.specs.Prelude.{◌≡◌, ℕ, ◌+◌, ◌<◌, ◌≤◌, ◌�
 use Rattle.std.specs.List.{sum_by}
 use Rattle.flat_net.specs.declared.signals.Signal.{Signal}
 use Rattle.latch_graph.specs.declared.nodes.Node.{Node}
-use Rattle.latch_graph.specs.declared.settling.State.{State}
-use Rattle.latch_graph.specs.declared.settling.State.TheVariants.{New, Open, Known, Endless, Removed}
-use Rattle.latch_graph.specs.declared.settling.Step.{Step}
+use Rattle.latch_graph.specs.declared.states.State.{State}
+use Rattle.latch_graph.specs.declared.states.State.TheVariants.{New, Open, Known, Endless, Removed}
+use Rattle.latch_graph.specs.declared.states.Step.{Step}
 
 -- the depth that a state tells; a removed latch is as an input
 abbrev pub depth_of : State → Option ℕ

@@ -11,8 +11,8 @@ use Rattle.flat_net.specs.declared.parts.Driver.TheVariants as driver
 use Rattle.latch_graph.specs.declared.nodes.Node.{Node}
 use Rattle.latch_graph.specs.Settling.{step_of}
 use Rattle.flat_net.specs.View.{NetView, circuit_of, cover_of}
-use Rattle.latch_graph.specs.declared.weighing.Weight.{Weight}
-use Rattle.latch_graph.specs.declared.weighing.Weight.TheVariants.{Within, Over}
+use Rattle.latch_graph.specs.declared.weight.Weight.{Weight}
+use Rattle.latch_graph.specs.declared.weight.Weight.TheVariants.{Within, Over}
 
 -- the weight of the unfoldings of these outputs is the number, or above the cap
 abbrev pub Weighs : Circuit ℕ → List ℕ → ℕ → Weight → Type 0

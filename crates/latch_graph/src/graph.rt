@@ -12,8 +12,8 @@ ghost use Rattle.latch_graph.specs.Weight.{Weighs};
 
 use crate::nodes::{Node, copy_latches, nodes_of};
 use crate::rounds::find_cycle;
-use crate::settling::{State, all_new, settled_from};
-use crate::weighing::{Weight, weigh};
+use crate::states::{State, all_new, settled_from};
+use crate::weight::{Weight, weigh};
 use flat_net::{LatchAt, Net, Signal, Signals};
 use sec_base::{Bits, Ids, NoMemory};
 use std::alloc::Global;

@@ -4,10 +4,10 @@
 mod graph;
 mod nodes;
 mod rounds;
-mod settling;
-mod weighing;
+mod states;
+mod weight;
 
 pub use graph::LatchGraph;
 pub use nodes::Node;
-pub use settling::{State, Step};
-pub use weighing::Weight;
+pub use states::{State, Step};
+pub use weight::Weight;

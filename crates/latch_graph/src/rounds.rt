@@ -8,14 +8,14 @@ ghost use Rattle.flat_net.specs.declared.signals.Signal.{Signal};
 ghost use Rattle.flat_net.specs.declared.parts.LatchAt.{LatchAt};
 ghost use Rattle.flat_net.specs.View.{NetView, circuit_of};
 ghost use Rattle.latch_graph.specs.declared.nodes.Node.{Node};
-ghost use Rattle.latch_graph.specs.declared.settling.State.{State};
+ghost use Rattle.latch_graph.specs.declared.states.State.{State};
 ghost use Rattle.latch_graph.specs.Graph.{AreNodes, IsGraphOf, marked_names, signals_at};
 ghost use Rattle.latch_cone.specs.Cones.{IsMarkedBy};
 ghost use Rattle.latch_graph.specs.Settling.{IsSettled};
 ghost use Rattle.latch_graph.specs.Rounds.{latch_in, IsEndless, TakesOver, IsRound, IsLeast, IsTurned, IsTurnedRound, AreRemoved};
 
 use crate::nodes::Node;
-use crate::settling::{State, all_new, settled_from};
+use crate::states::{State, all_new, settled_from};
 use flat_net::LatchAt;
 use sec_base::{Ids, NoMemory, Seq};
 use std::alloc::Global;

@@ -13,9 +13,9 @@ use Rattle.blif_read.specs.declared.design.BlifModel.{BlifModel}
 use Rattle.blif_read.specs.Design.{top, name_of, main_inputs, main_outputs}
 use Rattle.blif_read.specs.Fault.{repeats}
 use Rattle.blif_read.specs.Kept.{ports_distinct, written_names, names_in_model, names_in_all}
-use Rattle.flat_walk.specs.declared.flat.Flat.{Flat}
-use Rattle.flat_walk.specs.Flat.{FlatDesign, name_at}
-use Rattle.flat_walk.specs.Walked.{IsWalked}
+use Rattle.elaborate.specs.declared.flat.Flat.{Flat}
+use Rattle.elaborate.specs.Flat.{FlatDesign, name_at}
+use Rattle.elaborate.specs.Walked.{IsWalked}
 use Rattle.net_assembly.proofs.DistinctLists.{distinct_nil, distinct_cons, distinct_named}
 
 neither : (x y : Bool) → (x || y) ≡ false → (x ≡ false) × (y ≡ false)

@@ -6,12 +6,12 @@ use Rattle.sec_base.specs.Table.{AreDistinct}
 use Rattle.blif_read.specs.declared.design.BlifModel.{BlifModel}
 use Rattle.flat_net.specs.declared.signals.Signal.{Signal}
 use Rattle.flat_net.specs.Makes.{with_input, with_latch}
-use Rattle.flat_walk.specs.declared.flat.Flat.{Flat}
-use Rattle.flat_walk.specs.declared.flat.FlatStatement.{FlatStatement}
-use Rattle.flat_walk.specs.declared.flat.FlatKind.{FlatKind}
-use Rattle.flat_walk.specs.declared.flat.FlatKind.TheVariants as kind
+use Rattle.elaborate.specs.declared.flat.Flat.{Flat}
+use Rattle.elaborate.specs.declared.flat.FlatStatement.{FlatStatement}
+use Rattle.elaborate.specs.declared.flat.FlatKind.{FlatKind}
+use Rattle.elaborate.specs.declared.flat.FlatKind.TheVariants as kind
 use Rattle.flat_net.specs.View.{NetView}
-use Rattle.flat_walk.specs.Flat.{name_at, cover_at, is_number}
+use Rattle.elaborate.specs.Flat.{name_at, cover_at, is_number}
 
 -- The net's signals are driven at these distinct numbers and have their names, and each of the numbers has its signal.
 pub record IsBuilt (names : List (List ℕ)) (made : List ℕ) (net : NetView) (signals : List Signal) : Type 0 where

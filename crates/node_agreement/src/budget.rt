@@ -2,7 +2,7 @@
 
 ghost use Rattle.std.specs.Prelude.{◌≤◌};
 
-use crate::asking::Tried;
+use crate::question::Tried;
 
 /// How nodes are proved to agree.
 #[derive(Clone, Copy)]

@@ -2,13 +2,13 @@
 //! tables and by searches, within a budget. What is answered holds under every assignment.
 #![tactic(auto)]
 
-mod asking;
 mod budget;
-mod proving;
+mod proof;
+mod question;
 mod signs;
 mod small;
-mod tabling;
+mod table;
 
 pub use budget::{Budget, Effort};
-pub use proving::{Proved, prove};
+pub use proof::{Proved, prove};
 pub use signs::{signed, zero};

@@ -12,10 +12,10 @@ use Rattle.aig.proofs.Growth.{slice_get-append}
 use Rattle.aig.proofs.Insert.{push-cases}
 use Rattle.swept_queries.proofs.Listed.{All-at}
 use Rattle.witness_report.specs.declared.witness.PairName.{PairName}
-use Rattle.sec_outcome.specs.declared.outcome.PairResult.{PairResult}
+use Rattle.outcome.specs.declared.verdict.PairResult.{PairResult}
 use Rattle.obligations.specs.declared.obligation.Obligation.{Obligation}
 use Rattle.obligations.specs.declared.obligation.Difference.{Difference}
-use Rattle.obligations.specs.declared.deciding.Decided.{Decided}
+use Rattle.obligations.specs.declared.decision.Decided.{Decided}
 use Rattle.obligations.specs.declared.found.Found.{Found}
 use Rattle.obligations.specs.declared.found.Found.TheVariants as found
 use Rattle.obligations.specs.Found.{IsFound, IsDifferenceOf, differing}

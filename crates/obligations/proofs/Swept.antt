@@ -11,7 +11,7 @@ use Rattle.pair_decide.specs.Queries.{IsQuery}
 use Rattle.swept_queries.specs.declared.sides.Sides.{Sides}
 use Rattle.swept_queries.specs.declared.sides.Known.{Known}
 use Rattle.swept_queries.specs.declared.sides.Known.TheVariants as what
-use Rattle.swept_queries.specs.declared.sweeping.SweptQueries.{SweptQueries}
+use Rattle.swept_queries.specs.declared.queries.SweptQueries.{SweptQueries}
 use Rattle.swept_queries.specs.InStead.{sides_of, AreWithin, MayBeWithin, AreSwept, IsTrueOf}
 use Rattle.swept_queries.proofs.Listed.{zip_left}
 use Rattle.obligations.specs.declared.obligation.Obligation.{Obligation}

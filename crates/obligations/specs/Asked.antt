@@ -5,7 +5,7 @@ use Rattle.aig.specs.declared.node.Node.{Node}
 use Rattle.pair_decide.specs.declared.query.Query.{Query}
 use Rattle.pair_decide.specs.Queries.{IsQuery}
 use Rattle.swept_queries.specs.declared.sides.Sides.{Sides}
-use Rattle.swept_queries.specs.declared.sweeping.SweptQueries.{SweptQueries}
+use Rattle.swept_queries.specs.declared.queries.SweptQueries.{SweptQueries}
 use Rattle.swept_queries.specs.InStead.{sides_of, IsKnown}
 use Rattle.obligations.specs.declared.obligation.Obligation.{Obligation}
 

@@ -7,10 +7,10 @@ use Rattle.sec_base.specs.declared.basics.PairAnswer.TheVariants as answer
 use Rattle.witness_report.specs.declared.witness.PairName.{PairName}
 use Rattle.pair_decide.specs.declared.query.Proof.{Proof}
 use Rattle.pair_decide.specs.Queries.{IsSame}
-use Rattle.sec_outcome.specs.declared.outcome.PairResult.{PairResult}
+use Rattle.outcome.specs.declared.verdict.PairResult.{PairResult}
 use Rattle.obligations.specs.declared.obligation.Obligation.{Obligation}
 use Rattle.obligations.specs.declared.obligation.Difference.{Difference}
-use Rattle.obligations.specs.declared.deciding.Decided.{Decided}
+use Rattle.obligations.specs.declared.decision.Decided.{Decided}
 use Rattle.obligations.specs.declared.found.Found.{Found}
 use Rattle.obligations.specs.declared.found.Found.TheVariants as found
 use Rattle.obligations.specs.Found.{IsDifferenceOf, Differ, IsLimitOf, differing}

@@ -1,8 +1,8 @@
 //! What is asked, and where it is found to differ.
 
+use outcome::PairName;
 use pair_decide::Query;
 use sec_base::{Bits, Seq};
-use sec_outcome::PairName;
 
 /// Queries over one graph, in order.
 pub type Queries = Seq<Query>;

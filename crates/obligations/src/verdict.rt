@@ -1,12 +1,12 @@
 //! Which obligation gives the verdict.
 
 ghost use Rattle.std.specs.Prelude.{◌≡◌, List, IfOk};
-ghost use Rattle.sec_outcome.specs.declared.outcome.PairResult.{PairResult};
+ghost use Rattle.outcome.specs.declared.verdict.PairResult.{PairResult};
 ghost use Rattle.obligations.specs.Verdict.{IsVerdictAt, IsFirstLimit, greatest_size};
 
 use crate::obligation::Difference;
+use outcome::PairResult;
 use sec_base::PairAnswer;
-use sec_outcome::PairResult;
 
 /// The verdict, and the obligation that gives it.
 #[derive(Drop)]

@@ -2,11 +2,11 @@
 #![tactic(auto)]
 
 mod cells;
-mod drawing;
 mod kinds;
 mod sketch;
+mod twins;
 mod words;
 
 pub use cells::Cell;
-pub use drawing::{Twins, generate};
 pub use kinds::{Kind, rows_spell_functions};
+pub use twins::{Twins, generate};

@@ -12,7 +12,7 @@ use Rattle.sec_base.proofs.TableLemmas.{take-push}
 use Rattle.cycle_sim.specs.View.{HasMarkedRun}
 use Rattle.pair_runs.specs.declared.differences.Difference.{Difference}
 use Rattle.pair_runs.specs.declared.differences.OutputPair.{OutputPair}
-use Rattle.pair_runs.specs.declared.feeding.Feed.{Feed}
+use Rattle.pair_runs.specs.declared.feed.Feed.{Feed}
 use Rattle.pair_runs.specs.Feeding.{IsColumn, AreColumns, IsWithin, reordered}
 use Rattle.pair_runs.specs.Feeds.{Fed, fed, zeros, IsFresh, CanStep, IsReady, PutsCycles, AreFound}
 use Rattle.pair_runs.specs.Showing.{ArePlacesOf}

@@ -9,7 +9,7 @@ use Rattle.circuit_theory.specs.Replay.{Difference, IsBefore}
 use Rattle.circuit_theory.proofs.Lists.{Contains-head, Contains-tail, Contains-cases, All-from_each}
 use Rattle.circuit_theory.proofs.Sums.{AllPairs-head, AllPairs-tail}
 use Rattle.pair_runs.specs.Listing.{differ, is_difference, differences_in, differences_from}
-use Rattle.pair_runs.specs.declared.showing.Shown.{Shown}
+use Rattle.pair_runs.specs.declared.shown.Shown.{Shown}
 
 -- two lists in order, of which the first stands before the second
 pairs_append : {X : Type 0} (R : X → X → Type 0) (xs ys : List X) → AllPairs R xs → AllPairs R ys → ((x y : X) → Contains xs x → Contains ys y → R x y) → AllPairs R (xs ++ ys)

@@ -9,7 +9,7 @@ use Rattle.witness_report.specs.declared.witness.PairName.{PairName}
 use Rattle.witness_report.specs.declared.witness.PairName.TheVariants as pair
 use Rattle.pair_runs.specs.declared.differences.Difference.{Difference}
 use Rattle.pair_runs.specs.declared.differences.OutputPair.{OutputPair}
-use Rattle.pair_runs.specs.declared.showing.Shown.{Shown}
+use Rattle.pair_runs.specs.declared.shown.Shown.{Shown}
 use Rattle.pair_runs.specs.Listing.{is_difference, differences_in}
 use Rattle.pair_runs.specs.Showing.{IsShown, as_pair, called, names_of, PutsSome}
 use Rattle.pair_runs.proofs.Listed.{in_more}

@@ -13,8 +13,8 @@ use Rattle.cycle_sim.proofs.Runs.{shorter}
 use Rattle.witness_report.specs.declared.witness.PairName.{PairName}
 use Rattle.pair_runs.specs.declared.differences.Difference.{Difference}
 use Rattle.pair_runs.specs.declared.differences.OutputPair.{OutputPair}
-use Rattle.pair_runs.specs.declared.feeding.Feed.{Feed}
-use Rattle.pair_runs.specs.declared.showing.Shown.{Shown}
+use Rattle.pair_runs.specs.declared.feed.Feed.{Feed}
+use Rattle.pair_runs.specs.declared.shown.Shown.{Shown}
 use Rattle.pair_runs.specs.Outputs.{no_port, output_at}
 use Rattle.pair_runs.specs.Feeding.{reordered}
 use Rattle.pair_runs.specs.Feeds.{Fed, fed, zeros, Steps, IsRunOf, IsShownAt, AreShownAt, PutsCycles}

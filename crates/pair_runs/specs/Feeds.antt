@@ -5,9 +5,9 @@ use Rattle.flat_net.specs.View.{NetView}
 use Rattle.cycle_sim.specs.Runs.{IsRunFrom}
 use Rattle.cycle_sim.specs.View.{HasMarkedRun, IsMark}
 use Rattle.pair_runs.specs.declared.differences.Difference.{Difference}
-use Rattle.pair_runs.specs.declared.feeding.Feed.{Feed}
+use Rattle.pair_runs.specs.declared.feed.Feed.{Feed}
 use Rattle.pair_runs.specs.declared.differences.OutputPair.{OutputPair}
-use Rattle.pair_runs.specs.declared.showing.Shown.{Shown}
+use Rattle.pair_runs.specs.declared.shown.Shown.{Shown}
 use Rattle.pair_runs.specs.Feeding.{AreColumns, IsWithin, reordered}
 use Rattle.pair_runs.specs.Listing.{differences_from}
 use Rattle.pair_runs.specs.Outputs.{output_at}

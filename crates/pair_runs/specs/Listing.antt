@@ -1,7 +1,7 @@
 -- The differences among what the cycles show of the pairs.
 use Rattle.std.specs.Prelude.{ℕ, ◌+◌, Bool, true, false, not, ◌&&◌, List, [], ◌∷◌, ◌++◌, if◌then◌else◌}
 use Rattle.circuit_theory.specs.Replay.{Difference}
-use Rattle.pair_runs.specs.declared.showing.Shown.{Shown}
+use Rattle.pair_runs.specs.declared.shown.Shown.{Shown}
 
 -- the two bits aren't one
 abbrev pub differ : Bool → Bool → Bool

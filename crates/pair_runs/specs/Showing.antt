@@ -7,7 +7,7 @@ use Rattle.witness_report.specs.declared.witness.PairName.{PairName}
 use Rattle.witness_report.specs.declared.witness.PairName.TheVariants as pair
 use Rattle.pair_runs.specs.declared.differences.Difference.{Difference}
 use Rattle.pair_runs.specs.declared.differences.OutputPair.{OutputPair}
-use Rattle.pair_runs.specs.declared.showing.Shown.{Shown}
+use Rattle.pair_runs.specs.declared.shown.Shown.{Shown}
 use Rattle.pair_runs.specs.Listing.{is_difference, differences_in}
 
 -- the values and the marks of the pair in the latest cycle

@@ -2,10 +2,10 @@
 #![tactic(auto)]
 
 mod differences;
-mod feeding;
-mod running;
-mod showing;
+mod feed;
+mod run;
+mod shown;
 
 pub use differences::{Difference, Differences, OutputPair};
-pub use running::{Side, run_pairs};
-pub use showing::Shown;
+pub use run::{Side, run_pairs};
+pub use shown::Shown;

@@ -35,7 +35,7 @@ use Rattle.obligations.specs.Found.{Differ}
 use Rattle.obligations.specs.Decided.{AnswerIs, IsAnswered}
 use Rattle.witness_report.specs.declared.witness.PairName.{PairName}
 use Rattle.witness_report.specs.declared.witness.Witness.{Witness}
-use Rattle.sec_outcome.specs.declared.outcome.PairResult.{PairResult}
+use Rattle.outcome.specs.declared.verdict.PairResult.{PairResult}
 use Rattle.sec_setup.specs.Pairs.{outputs_of}
 use Rattle.sec_setup.specs.Setup.{AreColumns}
 use Rattle.plain_form.specs.Limits.{ReadOnly, IsUndecided}

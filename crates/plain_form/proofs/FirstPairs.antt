@@ -15,16 +15,16 @@ use Rattle.pair_decide.specs.Queries.{IsQuery}
 use Rattle.pair_decide.specs.Answers.{IsDifference}
 use Rattle.swept_queries.proofs.Listed.{zip_left}
 use Rattle.witness_report.specs.declared.witness.Witness.{Witness}
-use Rattle.sec_outcome.specs.declared.outcome.PairResult.{PairResult}
+use Rattle.outcome.specs.declared.verdict.PairResult.{PairResult}
 use Rattle.obligations.specs.declared.obligation.Obligation.{Obligation}
 use Rattle.obligations.specs.declared.obligation.Difference.{Difference}
 use Rattle.obligations.specs.Decided.{IsAnswered, IsFirstOf}
-use Rattle.port_matching.specs.declared.pairing.SignalPair.{SignalPair}
+use Rattle.interface.specs.declared.pairs.SignalPair.{SignalPair}
 use Rattle.sec_setup.specs.declared.setup.Setup.{Setup}
 use Rattle.sec_setup.specs.Cuts.{is_cut}
 use Rattle.sec_setup.specs.Pairs.{outputs_of, places_of, NamedPair}
 use Rattle.sec_setup.specs.Setup.{IsSetup}
-use Rattle.plain_form.specs.declared.unfolding.Functions.{Functions}
+use Rattle.plain_form.specs.declared.functions.Functions.{Functions}
 use Rattle.plain_form.specs.Asked.{AskedOf, AreAsked}
 use Rattle.plain_form.specs.Outcome.{PairFits, PairsFit, IsFirstOfAnswer}
 use Rattle.plain_form.specs.Sequences.{IsSequence, IsWitnessOf}

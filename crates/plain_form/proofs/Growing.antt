@@ -20,7 +20,7 @@ use Rattle.cbf_unfold.proofs.Known.{unfolded_later}
 use Rattle.circuit_theory.specs.declared.Side.TheVariants.{A, B}
 use Rattle.plain_form.specs.declared.error.PlainError.{PlainError}
 use Rattle.plain_form.specs.declared.error.PlainError.TheVariants as refused
-use Rattle.port_matching.specs.declared.pairing.SignalPair.{SignalPair}
+use Rattle.interface.specs.declared.pairs.SignalPair.{SignalPair}
 use Rattle.plain_form.specs.Pairs.{IsFunctionOf, AreLight, AreTooLarge, IsRefusalOf, Unfolds, left_signals, right_signals}
 use Rattle.shift_variables.proofs.Assignments.{take_next}
 

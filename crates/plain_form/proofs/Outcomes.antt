@@ -11,24 +11,24 @@ use Rattle.flat_net.specs.declared.parts.Port.{Port}
 use Rattle.flat_net.specs.View.{NetView, circuit_of}
 use Rattle.flat_net.specs.Sound.{IsSound}
 use Rattle.cbf_unfold.specs.View.{IsOrderOf}
-use Rattle.sec_outcome.specs.declared.outcome.LimitAt.TheVariants as limit_at
-use Rattle.sec_outcome.specs.declared.outcome.PairResult.{PairResult}
-use Rattle.sec_outcome.specs.declared.outcome.Verdict.{Verdict}
+use Rattle.outcome.specs.declared.verdict.LimitAt.TheVariants as limit_at
+use Rattle.outcome.specs.declared.verdict.PairResult.{PairResult}
+use Rattle.outcome.specs.declared.verdict.Verdict.{Verdict}
 use Rattle.sec_setup.specs.declared.setup.Setup.{Setup}
 use Rattle.plain_form.specs.declared.error.PlainError.{PlainError}
 use Rattle.plain_form.specs.declared.error.PlainError.TheVariants as refused
-use Rattle.port_matching.specs.declared.pairing.SignalPair.{SignalPair}
+use Rattle.interface.specs.declared.pairs.SignalPair.{SignalPair}
 use Rattle.plain_form.specs.Formed.{IsLight, Formed}
 use Rattle.sec_setup.specs.Pairs.{outputs_of, places_of, ArePairsOf}
 use Rattle.sec_setup.specs.Setup.{AreColumns}
 use Rattle.obligations.specs.declared.obligation.Obligation.{Obligation}
 use Rattle.obligations.specs.declared.obligation.Difference.{Difference}
-use Rattle.obligations.specs.declared.deciding.Decided.{Decided}
+use Rattle.obligations.specs.declared.decision.Decided.{Decided}
 use Rattle.obligations.specs.declared.verdict.VerdictAt.{VerdictAt}
 use Rattle.obligations.specs.declared.verdict.VerdictAt.TheVariants as at
 use Rattle.obligations.specs.Decided.{NoneIs, IsFirstOf, IsFirst, HaveDecided}
 use Rattle.obligations.specs.Verdict.{IsVerdictAt}
-use Rattle.plain_form.specs.declared.unfolding.Functions.{Functions}
+use Rattle.plain_form.specs.declared.functions.Functions.{Functions}
 use Rattle.plain_form.specs.Asked.{AreAsked}
 use Rattle.plain_form.specs.Shown.{CanBeShown, IsShown}
 use Rattle.plain_form.specs.Outcome.{VerdictFits}

@@ -8,8 +8,8 @@ use Rattle.flat_net.specs.declared.parts.Port.{Port}
 use Rattle.flat_net.specs.View.{NetView}
 use Rattle.flat_net.specs.Sound.{IsSound}
 use Rattle.cbf_unfold.specs.declared.unfolder.Unfolded.{Unfolded}
-use Rattle.port_matching.specs.declared.pairing.SignalPair.{SignalPair}
-use Rattle.plain_form.specs.declared.unfolding.Functions.{Functions}
+use Rattle.interface.specs.declared.pairs.SignalPair.{SignalPair}
+use Rattle.plain_form.specs.declared.functions.Functions.{Functions}
 use Rattle.sec_setup.specs.Pairs.{outputs_of, ArePairsOf}
 use Rattle.plain_form.specs.Pairs.{IsFunctionOf, AreFunctions}
 use Rattle.plain_form.specs.Variables.{AreInOrder}

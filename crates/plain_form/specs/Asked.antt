@@ -6,10 +6,10 @@ use Rattle.flat_net.specs.View.{NetView, circuit_of}
 use Rattle.cbf_unfold.specs.declared.unfolder.Unfolded.{Unfolded}
 use Rattle.pair_decide.specs.declared.query.Query.{Query}
 use Rattle.obligations.specs.declared.obligation.Obligation.{Obligation}
-use Rattle.port_matching.specs.declared.pairing.SignalPair.{SignalPair}
+use Rattle.interface.specs.declared.pairs.SignalPair.{SignalPair}
 use Rattle.sec_setup.specs.declared.setup.Setup.{Setup}
 use Rattle.sec_setup.specs.Cuts.{is_cut}
-use Rattle.plain_form.specs.declared.unfolding.Functions.{Functions}
+use Rattle.plain_form.specs.declared.functions.Functions.{Functions}
 use Rattle.plain_form.specs.Pairs.{IsFunctionOf}
 use Rattle.plain_form.specs.Variables.{IsPairQuery}
 

@@ -6,7 +6,7 @@ use Rattle.flat_net.specs.View.{NetView, circuit_of}
 use Rattle.sec_setup.specs.declared.setup.Setup.{Setup}
 use Rattle.sec_setup.specs.Cuts.{is_cut}
 use Rattle.sec_setup.specs.Pairs.{outputs_of, places_of}
-use Rattle.plain_form.specs.declared.comparing.Findings.{Findings}
+use Rattle.plain_form.specs.declared.comparison.Findings.{Findings}
 use Rattle.plain_form.specs.declared.error.PlainError.{PlainError}
 use Rattle.plain_form.specs.declared.error.PlainError.TheVariants as refused
 use Rattle.plain_form.specs.Outcome.{FindingsFit}

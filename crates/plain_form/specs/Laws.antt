@@ -3,9 +3,9 @@ use Rattle.std.specs.Prelude.{◌≡◌, ℕ, Bool, List}
 use Rattle.std.specs.List.{Contains}
 use Rattle.circuit_theory.specs.Circuit.{Circuit}
 use Rattle.circuit_theory.specs.Tree.{Tree, Unfolds}
-use Rattle.sec_outcome.specs.declared.outcome.LimitAt.{LimitAt}
-use Rattle.sec_outcome.specs.declared.outcome.Verdict.TheVariants as verdict
-use Rattle.plain_form.specs.declared.comparing.Findings.{Findings}
+use Rattle.outcome.specs.declared.verdict.LimitAt.{LimitAt}
+use Rattle.outcome.specs.declared.verdict.Verdict.TheVariants as verdict
+use Rattle.plain_form.specs.declared.comparison.Findings.{Findings}
 use Rattle.plain_form.specs.Outcome.{FindingsFit}
 use Rattle.sec_setup.specs.Pairs.{NamedPair}
 

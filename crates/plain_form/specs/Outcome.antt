@@ -9,17 +9,17 @@ use Rattle.sec_base.specs.declared.basics.PairAnswer.{PairAnswer}
 use Rattle.sec_base.specs.declared.basics.PairAnswer.TheVariants as answer
 use Rattle.pair_decide.specs.declared.query.Proof.{Proof}
 use Rattle.witness_report.specs.declared.witness.Witness.{Witness}
-use Rattle.sec_outcome.specs.declared.outcome.PairResult.{PairResult}
-use Rattle.sec_outcome.specs.declared.outcome.Verdict.{Verdict}
-use Rattle.sec_outcome.specs.declared.outcome.Verdict.TheVariants as verdict
-use Rattle.sec_outcome.specs.declared.outcome.Why.TheVariants as why
-use Rattle.sec_outcome.specs.declared.outcome.LimitAt.{LimitAt}
-use Rattle.sec_outcome.specs.declared.outcome.LimitAt.TheVariants as limit_at
+use Rattle.outcome.specs.declared.verdict.PairResult.{PairResult}
+use Rattle.outcome.specs.declared.verdict.Verdict.{Verdict}
+use Rattle.outcome.specs.declared.verdict.Verdict.TheVariants as verdict
+use Rattle.outcome.specs.declared.verdict.Why.TheVariants as why
+use Rattle.outcome.specs.declared.verdict.LimitAt.{LimitAt}
+use Rattle.outcome.specs.declared.verdict.LimitAt.TheVariants as limit_at
 use Rattle.sec_setup.specs.Pairs.{NamedPair}
 pub use Rattle.obligations.specs.Decided.{NoneIs}
 pub use Rattle.obligations.specs.Verdict.{greatest_size}
 use Rattle.plain_form.specs.Limits.{IsUndecided}
-use Rattle.plain_form.specs.declared.comparing.Findings.{Findings}
+use Rattle.plain_form.specs.declared.comparison.Findings.{Findings}
 
 -- both sides of a pair unfold, to functions that some assignment makes differ
 pub record HaveDifferentFunctions {P Q : Type 0} (a : Circuit P) (b : Circuit Q) (left right : List ℕ) (p : P) (q : Q) : Type 0 where

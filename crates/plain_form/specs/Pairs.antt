@@ -10,9 +10,9 @@ use Rattle.cbf_unfold.specs.declared.unfolder.Unfolded.{Unfolded}
 use Rattle.cbf_unfold.specs.Unfolded.{IsUnfolded}
 use Rattle.plain_form.specs.declared.error.PlainError.{PlainError}
 use Rattle.plain_form.specs.declared.error.PlainError.TheVariants as refused
-use Rattle.port_matching.specs.declared.pairing.SignalPair.{SignalPair}
+use Rattle.interface.specs.declared.pairs.SignalPair.{SignalPair}
 use Rattle.sec_setup.specs.declared.setup.Setup.{Setup}
-use Rattle.plain_form.specs.declared.unfolding.Functions.{Functions}
+use Rattle.plain_form.specs.declared.functions.Functions.{Functions}
 
 -- the unfoldings of these signals weigh at most 2,000,000 together
 abbrev pub AreLight : NetView → List ℕ → Type 0

@@ -1,14 +1,14 @@
 //! The plain form: pairs of signals of two circuits without cycles of latches, as functions of the inputs at earlier cycles.
 #![tactic(auto)]
 
-mod asking;
-mod comparing;
+mod comparison;
+mod depth;
 mod error;
+mod functions;
 pub mod laws;
-mod pairing;
-mod showing;
-mod unfolding;
+mod questions;
+mod shown;
 mod witness;
 
-pub use comparing::{Findings, compare_plain};
+pub use comparison::{Findings, compare_plain};
 pub use error::PlainError;

@@ -8,12 +8,12 @@ ghost use Rattle.aig.specs.Values.{value};
 ghost use Rattle.pair_decide.specs.Queries.{assigned_to};
 ghost use Rattle.plain_form.specs.Sequences.{IsSequence, IsWitnessOf};
 
-use crate::unfolding::Functions;
+use crate::functions::Functions;
 use aig::Aig;
 use obligations::copy_name;
+use outcome::{PairName, Stimulus, Witness};
 use pair_decide::Query;
 use sec_base::{Bits, NoMemory, PlaceTable, Words};
-use sec_outcome::{PairName, Stimulus, Witness};
 use shift_variables::{bits_at, rows_of};
 use std::alloc::Global;
 

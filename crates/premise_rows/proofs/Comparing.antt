@@ -13,7 +13,7 @@ use Rattle.blif_read.specs.declared.design.BlifModel.{BlifModel}
 use Rattle.blif_read.specs.Reading.{first_fault, spelled}
 use Rattle.flat_net.specs.View.{NetView, circuit_of, ports_of}
 use Rattle.flatten.specs.DesignFaults.{IsSoundDesign, IsFlatOf}
-use Rattle.exposure.specs.Common.{common_names}
+use Rattle.cut_points.specs.Common.{common_names}
 use Rattle.job_check.specs.Answer.{AreComparable}
 use Rattle.sec_setup.specs.Matching.{InterfacesMatch}
 use Rattle.sec_setup.specs.Cycles.{AreBroken}

@@ -14,7 +14,7 @@ use Rattle.blif_read.specs.Heads.{head_of}
 use Rattle.flat_net.specs.View.{NetView, circuit_of}
 use Rattle.flatten.specs.DesignFaults.{IsFlatOf}
 use Rattle.blif_read.specs.declared.design.BlifModel.{BlifModel}
-use Rattle.exposure.specs.Common.{common_names}
+use Rattle.cut_points.specs.Common.{common_names}
 use Rattle.sec_setup.specs.Cycles.{AreBroken}
 use Rattle.sec_check.specs.Compared.{AreTooLarge}
 use Rattle.sec_setup.specs.Cuts.{IsChoice}

@@ -23,8 +23,8 @@ use Rattle.flat_net.specs.View.{NetView, circuit_of}
 use Rattle.net_alike.specs.Renumbered.{latch_rows, AreRenumbered}
 use Rattle.net_alike.proofs.Carrying.{pairs_map, edge, forth, turned, cycle_carried, over_carried, weight_carried}
 use Rattle.net_alike.proofs.Cutting.{cut_carried, minimal_cuts_are_carried}
-use Rattle.exposure.specs.Common.{common_names}
-use Rattle.exposure.specs.Exposed.{IsToldCycle}
+use Rattle.cut_points.specs.Common.{common_names}
+use Rattle.cut_points.specs.Exposed.{IsToldCycle}
 use Rattle.design_laws.proofs.KeptNames.{latch_names_are}
 use Rattle.sec_setup.specs.Cycles.{AreBroken}
 use Rattle.sec_check.specs.Compared.{AreTooLarge}

@@ -39,13 +39,13 @@ use Rattle.design_laws.proofs.KeptNames.{names_are_kept}
 use Rattle.sec_base.specs.declared.basics.PairAnswer.{PairAnswer}
 use Rattle.sec_base.specs.declared.basics.PairAnswer.TheVariants as answer
 use Rattle.expose_pick.proofs.Removed.{cycle_fewer}
-use Rattle.exposure.specs.Common.{common_names}
+use Rattle.cut_points.specs.Common.{common_names}
 use Rattle.pair_decide.specs.declared.query.Proof.{Proof}
-use Rattle.sec_outcome.specs.declared.outcome.PairResult.{PairResult}
-use Rattle.sec_outcome.specs.declared.outcome.Verdict.{Verdict}
-use Rattle.sec_outcome.specs.declared.outcome.Verdict.TheVariants as verdict
-use Rattle.sec_outcome.specs.declared.outcome.Why.TheVariants as why
-use Rattle.sec_outcome.specs.declared.outcome.Outcome.{Outcome}
+use Rattle.outcome.specs.declared.verdict.PairResult.{PairResult}
+use Rattle.outcome.specs.declared.verdict.Verdict.{Verdict}
+use Rattle.outcome.specs.declared.verdict.Verdict.TheVariants as verdict
+use Rattle.outcome.specs.declared.verdict.Why.TheVariants as why
+use Rattle.outcome.specs.declared.verdict.Outcome.{Outcome}
 use Rattle.sec_base.specs.declared.settings.Settings.{Settings}
 use Rattle.plain_form.specs.Laws.{HaveOneTree}
 use Rattle.sec_setup.specs.Pairs.{NamedPair, named_pairs}

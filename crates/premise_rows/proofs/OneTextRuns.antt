@@ -5,11 +5,11 @@ use Rattle.circuit_theory.specs.declared.Mode.{Mode}
 use Rattle.circuit_theory.specs.declared.Mode.TheVariants.{Plain, Event}
 use Rattle.pair_decide.specs.declared.query.Proof.{Proof}
 use Rattle.flat_net.specs.View.{NetView}
-use Rattle.sec_words.specs.declared.task.Task.{Task}
-use Rattle.sec_words.specs.declared.task.Task.TheVariants as task
-use Rattle.sec_outcome.specs.declared.outcome.Outcome.{Outcome}
-use Rattle.sec_outcome.specs.declared.outcome.Verdict.{Verdict}
-use Rattle.sec_outcome.specs.declared.outcome.Verdict.TheVariants as verdict
+use Rattle.command_line.specs.declared.task.Task.{Task}
+use Rattle.command_line.specs.declared.task.Task.TheVariants as task
+use Rattle.outcome.specs.declared.verdict.Outcome.{Outcome}
+use Rattle.outcome.specs.declared.verdict.Verdict.{Verdict}
+use Rattle.outcome.specs.declared.verdict.Verdict.TheVariants as verdict
 use Rattle.sec_check.specs.Compared.{Compared}
 use Rattle.sec_files.specs.Loading.{Loads}
 use Rattle.job_base.specs.declared.finding.Finding.{Finding}

@@ -4,7 +4,7 @@ use Rattle.circuit_theory.specs.declared.Mode.TheVariants.{Plain}
 use Rattle.circuit_theory.specs.declared.Side.{Side}
 use Rattle.flat_net.specs.View.{NetView}
 use Rattle.flatten.specs.OneNet.{AreOneNet}
-use Rattle.exposure.specs.Exposed.{IsToldCycle}
+use Rattle.cut_points.specs.Exposed.{IsToldCycle}
 use Rattle.sec_setup.specs.Matching.{InterfacesMatch}
 use Rattle.sec_setup.specs.Cycles.{AreBroken}
 use Rattle.sec_check.specs.Compared.{AreTooLarge}

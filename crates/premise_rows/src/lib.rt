@@ -2,7 +2,7 @@
 #![tactic(auto)]
 
 ghost use Rattle.std.specs.Prelude.{◌≢◌, map, string_bytes};
-ghost use Rattle.sec_words.specs.Jobs.{job_of};
+ghost use Rattle.command_line.specs.Jobs.{job_of};
 ghost use Rattle.job_check.specs.Answer.{AreComparable};
 ghost use Rattle.premise_rows.specs.OneText.{OneTextIsEqual, UnfoldedIsComparable, OfCheck, OfOneText, IsEqualAnswer};
 ghost use Rattle.premise_rows.specs.OneReport.{GraphReportsAreOne, SimReportsAreOne};

@@ -7,7 +7,7 @@ use Rattle.circuit_theory.specs.Circuit.{Circuit}
 use Rattle.circuit_theory.specs.Agree.{PairAt, IsSettled}
 use Rattle.circuit_theory.specs.Replay.{Difference, AreDifferences}
 use Rattle.flat_net.proofs.Nets.{some_at}
-use Rattle.pair_runs.specs.declared.showing.Shown.{Shown}
+use Rattle.pair_runs.specs.declared.shown.Shown.{Shown}
 use Rattle.pair_runs.specs.Listing.{differ, differences_from}
 use Rattle.pair_runs.proofs.Listed.{IsAmong, found_is, is_found, found_in_order}
 use Rattle.replay_header.proofs.Tests.{no_true_false, and_both, both_and}

@@ -8,9 +8,9 @@ use Rattle.flat_net.specs.declared.parts.Port.{Port}
 use Rattle.flat_net.specs.Sound.{IsSound}
 use Rattle.flat_net.specs.View.{NetView, ports_of, is_read}
 use Rattle.sec_setup.specs.Matching.{InterfacesMatch}
-use Rattle.port_matching.proofs.Columns.{read_stays}
-use Rattle.port_matching.proofs.Interfaces.{input_read_by_name}
-use Rattle.port_matching.proofs.Shared.{are_matched, missing_none}
+use Rattle.interface.proofs.Columns.{read_stays}
+use Rattle.interface.proofs.Interfaces.{input_read_by_name}
+use Rattle.interface.proofs.Shared.{are_matched, missing_none}
 use Rattle.name_tables.specs.Names.{latch_names}
 use Rattle.replay_header.specs.Header.{opened, FitsBoth}
 use Rattle.replay_header.proofs.Names.{opened_of_both}

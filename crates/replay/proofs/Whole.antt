@@ -15,7 +15,7 @@ use Rattle.sec_setup.specs.Matching.{InterfacesMatch}
 use Rattle.sec_setup.specs.Pairs.{NamedPair, named_pairs}
 use Rattle.pair_runs.specs.declared.differences.Difference.{Difference}
 use Rattle.pair_runs.specs.declared.differences.OutputPair.{OutputPair}
-use Rattle.pair_runs.specs.declared.showing.Shown.{Shown}
+use Rattle.pair_runs.specs.declared.shown.Shown.{Shown}
 use Rattle.pair_runs.specs.Feeds.{AreFound, IsShownAt}
 use Rattle.pair_runs.specs.Listing.{differences_from}
 use Rattle.pair_runs.specs.Outputs.{no_port, output_at}

@@ -3,9 +3,9 @@
 #![tactic(auto)]
 
 mod differences;
-mod replaying;
+mod two_circuits;
 
 pub use differences::Replayed;
 pub use pair_runs::{Difference, Differences};
 pub use replay_header::ReplayError;
-pub use replaying::replay;
+pub use two_circuits::replay;

@@ -7,8 +7,8 @@ ghost use Rattle.replay_header.specs.Header.{is_known, first_unknown, FitsOr};
 
 use crate::error::ReplayError;
 use flat_net::Net;
+use interface::inputs_beside;
 use name_tables::{first_missing, table_of_inputs, word_of};
-use port_matching::inputs_beside;
 use sec_base::{NameTable, NoMemory};
 use std::alloc::Global;
 

@@ -3,7 +3,7 @@
 
 mod error;
 mod header;
-mod opening;
+mod opened_latches;
 
 pub use error::ReplayError;
-pub use opening::opened_by;
+pub use opened_latches::opened_by;

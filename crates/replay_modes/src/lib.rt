@@ -2,7 +2,7 @@
 #![tactic(auto)]
 
 mod fault;
-mod replaying;
+mod modes;
 
 pub use fault::ReplayFault;
-pub use replaying::replay_in;
+pub use modes::replay_in;

@@ -4,7 +4,7 @@
 mod inputs;
 mod leads;
 mod narrow;
-mod splitting;
+mod partition;
 
 pub use inputs::variables;
 pub use leads::leads_of;

@@ -10,7 +10,7 @@ ghost use Rattle.root_classes.specs.Splits.{AgreeSoFar};
 ghost use Rattle.root_classes.specs.Rows.{row_of, HasBits};
 ghost use Rattle.root_classes.specs.Leads.{AreLeads};
 
-use crate::splitting::refine;
+use crate::partition::refine;
 use aig::{Aig, Lit, Node, node_bits};
 use sec_base::NoMemory;
 use std::alloc::Global;

@@ -7,14 +7,14 @@
 //! write that is shorter than the report. A row that begins with `#` is a remark.
 #![tactic(auto)]
 
-mod failing;
+mod failures;
 mod files;
-mod running;
+mod one_run;
 
-use failing::{put_failing_reads, put_short_writes};
+use failures::{put_failing_reads, put_short_writes};
 use files::shelf_of;
+use one_run::{put_run, put_slow_run, words_of};
 use row_text::Telling;
-use running::{put_run, put_slow_run, words_of};
 use sec_base::{FileShelf, MAX_FILE_BYTES, Shelf, fetch};
 use std::process::ExitCode;
 use std::rt::HostRuntime;

@@ -4,9 +4,9 @@ use Rattle.std.specs.Prelude.{IfOk}
 use Rattle.proof_check.specs.Literals.{Literal}
 use Rattle.sec_base.specs.declared.list.NoMemory.{NoMemory}
 use Rattle.sat_search.specs.Turning.{IsRunning, IsTurned}
-use Rattle.sat_search.specs.declared.turning.SearchState.{SearchState}
-use Rattle.sat_search.specs.declared.turning.Turn.{Turn}
-use Rattle.sat_search.specs.declared.turning.Turn.TheVariants.{Goes, Model, Refuted, Limit}
+use Rattle.sat_search.specs.declared.search_state.SearchState.{SearchState}
+use Rattle.sat_search.specs.declared.search_state.Turn.{Turn}
+use Rattle.sat_search.specs.declared.search_state.Turn.TheVariants.{Goes, Model, Refuted, Limit}
 
 -- a turn that begins after propagation leaves less work than before it
 pub turned_from : (clauses : List (List Literal)) (variables conflicts : ℕ) (old mid new : SearchState) (turn : Turn) → mid.log ≡ old.log → length old.trail.entries ≤ length mid.trail.entries → IsTurned clauses variables conflicts mid new turn → IsTurned clauses variables conflicts old new turn

@@ -6,9 +6,9 @@ use Rattle.clause_watch.specs.Watching.{IsWatched}
 use Rattle.clause_watch.specs.Learning.{IsLoading}
 use Rattle.sat_search.specs.Running.{IsSearching}
 use Rattle.sat_search.specs.declared.outcome.Found.TheVariants as found
-use Rattle.sat_search.specs.declared.turning.SearchState.{SearchState}
-use Rattle.sat_search.specs.declared.turning.Turn.{Turn}
-use Rattle.sat_search.specs.declared.turning.Turn.TheVariants.{Goes, Model, Refuted, Limit}
+use Rattle.sat_search.specs.declared.search_state.SearchState.{SearchState}
+use Rattle.sat_search.specs.declared.search_state.Turn.{Turn}
+use Rattle.sat_search.specs.declared.search_state.Turn.TheVariants.{Goes, Model, Refuted, Limit}
 
 -- the given clauses are there, and nothing was done with them
 pub record IsNewState (s : SearchState) : Type 0 where

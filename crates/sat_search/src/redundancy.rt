@@ -5,7 +5,7 @@
 ghost use Rattle.std.specs.Prelude.{◌<◌, ◌≤◌, length, IfSome};
 
 use crate::analysis::first_decision;
-use clause_watch::{Store, Trail};
+use clause_watch::{ClauseDb, Trail};
 use proof_check::Resolver;
 use sec_base::NoMemory;
 use std::alloc::Global;
@@ -77,7 +77,7 @@ impl Redundancy {
     /// Follows the reasons of the clause's literals.
     fn follow_all(
         &mut self,
-        store: &Store,
+        store: &ClauseDb,
         trail: &Trail,
         resolver: &Resolver,
     ) -> Result<(), NoMemory> {
@@ -93,7 +93,7 @@ impl Redundancy {
     /// reasons of at most so many steps.
     fn follows(
         &mut self,
-        store: &Store,
+        store: &ClauseDb,
         trail: &Trail,
         variable: u32,
         depth: u32,
@@ -121,7 +121,7 @@ impl Redundancy {
 
     /// The reason of a variable, where it became false before the last decision, and not before all
     /// that was decided for the clause.
-    fn reason(&self, store: &Store, trail: &Trail, variable: u32) -> Option<Reason>
+    fn reason(&self, store: &ClauseDb, trail: &Trail, variable: u32) -> Option<Reason>
         ensures { IfSome result (λ reason. reason.clause < length store.now) }
     {
         let place = place_of(trail, variable)?;
@@ -163,7 +163,7 @@ fn place_of(trail: &Trail, variable: u32) -> Option<u32>
 /// that they follow from, the least first.
 pub(crate) fn redundant_places(
     alloc: Global,
-    store: &Store,
+    store: &ClauseDb,
     trail: &Trail,
     resolver: &Resolver,
     decision: u32,

@@ -3,20 +3,20 @@
 //! the variables and the conflicts of a search.
 #![tactic(auto)]
 
-mod checking;
-mod parsing;
-mod resolving;
-mod searching;
-mod writing;
+mod checks;
+mod resolution;
+mod row_parts;
+mod searches;
+mod words;
 
 ghost use Rattle.std.specs.Prelude.{◌≤◌, length};
 
-use checking::{show_checked, show_clause, show_derived};
-use parsing::{clauses_of, numbers_of};
+use checks::{show_checked, show_clause, show_derived};
 use proof_check::Clauses;
-use resolving::show_resolved;
+use resolution::show_resolved;
+use row_parts::{clauses_of, numbers_of};
 use row_text::{file_of, show, split_at};
-use searching::show_searched;
+use searches::show_searched;
 use std::rt::HostRuntime;
 
 /// How many clauses and chains a row has at most.

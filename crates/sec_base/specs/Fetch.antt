@@ -1,8 +1,8 @@
 -- The error of a fetch.
 use Rattle.sec_base.specs.declared.shelves.ShelfError.{ShelfError}
 use Rattle.sec_base.specs.declared.shelves.ShelfError.TheVariants as shelf_error
-use Rattle.sec_base.specs.declared.fetching.FetchError.{FetchError}
-use Rattle.sec_base.specs.declared.fetching.FetchError.TheVariants as fetch_error
+use Rattle.sec_base.specs.declared.whole_file.FetchError.{FetchError}
+use Rattle.sec_base.specs.declared.whole_file.FetchError.TheVariants as fetch_error
 
 -- what a failed read makes of the fetch
 abbrev pub fetch_error_of : ShelfError → FetchError

@@ -3,7 +3,6 @@
 
 mod basics;
 mod covers;
-mod fetching;
 mod file_path;
 mod limits;
 mod list;
@@ -14,11 +13,11 @@ mod shelves;
 mod sinks;
 mod tables;
 mod texts;
+mod whole_file;
 
 pub use basics::{Edge, Failed, Init, Orders, PairAnswer, Tag};
 pub use circuit_theory::Side;
 pub use covers::{Cover, place_matches};
-pub use fetching::{FetchError, fetch};
 pub use file_path::FilePath;
 pub use limits::{
     DEFAULT_CONFLICTS, MAX_CONFLICTS, MAX_ENABLED_LATCHES, MAX_EVENT_CLASSES, MAX_EVENT_NODES,
@@ -35,3 +34,4 @@ pub use shelves::{FileShelf, Shelf, ShelfError};
 pub use sinks::{Sink, StdSink};
 pub use tables::{NameTable, PlaceTable};
 pub use texts::{digit_of, put, put_digits, put_names, put_number};
+pub use whole_file::{FetchError, fetch};

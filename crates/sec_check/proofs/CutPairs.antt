@@ -24,7 +24,7 @@ use Rattle.sec_base.specs.declared.basics.PairAnswer.TheVariants as answer
 use Rattle.pair_decide.specs.declared.query.Proof.{Proof}
 use Rattle.witness_report.specs.declared.witness.PairName.{PairName}
 use Rattle.witness_report.specs.declared.witness.PairName.TheVariants as pair
-use Rattle.sec_outcome.specs.declared.outcome.PairResult.{PairResult}
+use Rattle.outcome.specs.declared.verdict.PairResult.{PairResult}
 use Rattle.plain_form.specs.Outcome.{AnswerFits, PairFits, PairsFit, greatest_size}
 use Rattle.sec_setup.specs.Pairs.{NamedPair, pair_called, named_pairs}
 use Rattle.witness_report.specs.Shown.{ArePlacesOf}

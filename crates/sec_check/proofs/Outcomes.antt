@@ -6,16 +6,16 @@ use Rattle.circuit_theory.specs.Interface.{AreNumbersOf}
 use Rattle.flat_net.specs.Comparable.{IsComparable}
 use Rattle.flat_net.specs.Sound.{IsSound}
 use Rattle.flat_net.specs.View.{NetView, circuit_of, ports_of}
-use Rattle.exposure.specs.declared.exposing.Exposure.{Exposure}
+use Rattle.cut_points.specs.declared.exposed.Exposure.{Exposure}
 use Rattle.sec_base.specs.declared.settings.Settings.{Settings}
-use Rattle.sec_outcome.specs.declared.outcome.Outcome.{Outcome}
+use Rattle.outcome.specs.declared.verdict.Outcome.{Outcome}
 use Rattle.sec_setup.specs.declared.setup.Setup.{Setup}
 use Rattle.sec_setup.specs.Choosing.{IsChosen}
 use Rattle.sec_setup.specs.Cuts.{IsChoice, StandInOrder, columns_of, is_cut}
 use Rattle.sec_setup.specs.Matching.{InterfacesMatch}
 use Rattle.sec_setup.specs.Pairs.{NamedPair, named_pairs}
 use Rattle.sec_setup.specs.Setup.{IsSetupOf}
-use Rattle.plain_form.specs.declared.comparing.Findings.{Findings}
+use Rattle.plain_form.specs.declared.comparison.Findings.{Findings}
 use Rattle.plain_form.specs.declared.error.PlainError.TheVariants as plain_error
 use Rattle.plain_form.specs.Formed.{AreFound, Formed}
 use Rattle.plain_form.specs.Outcome.{FindingsFit}

@@ -8,11 +8,11 @@ use Rattle.flat_net.specs.Sound.{IsSound}
 use Rattle.flat_net.specs.View.{NetView, circuit_of, ports_of}
 use Rattle.witness_report.specs.declared.witness.Witness.{Witness}
 use Rattle.sec_base.specs.declared.settings.Settings.{Settings}
-use Rattle.sec_outcome.specs.declared.outcome.Verdict.TheVariants as verdict
-use Rattle.sec_outcome.specs.declared.outcome.Why.TheVariants as why
-use Rattle.sec_outcome.specs.declared.outcome.Outcome.{Outcome}
-use Rattle.exposure.specs.Common.{common_names}
-use Rattle.exposure.specs.Exposed.{IsFreeWithout, IsToldCycle}
+use Rattle.outcome.specs.declared.verdict.Verdict.TheVariants as verdict
+use Rattle.outcome.specs.declared.verdict.Why.TheVariants as why
+use Rattle.outcome.specs.declared.verdict.Outcome.{Outcome}
+use Rattle.cut_points.specs.Common.{common_names}
+use Rattle.cut_points.specs.Exposed.{IsFreeWithout, IsToldCycle}
 use Rattle.sec_setup.specs.declared.error.SetupError.{SetupError}
 use Rattle.sec_setup.specs.declared.error.SetupError.TheVariants as unset
 use Rattle.sec_setup.specs.Cuts.{IsChoice, StandInOrder}

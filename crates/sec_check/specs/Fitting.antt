@@ -5,7 +5,7 @@ use Rattle.circuit_theory.specs.Circuit.{Circuit}
 use Rattle.circuit_theory.specs.Interface.{shared_inputs, AreNumbersOf}
 use Rattle.circuit_theory.specs.Sizes.{IsWeight, IsOver}
 use Rattle.flat_net.specs.View.{NetView, circuit_of, ports_of}
-use Rattle.sec_outcome.specs.declared.outcome.Outcome.{Outcome}
+use Rattle.outcome.specs.declared.verdict.Outcome.{Outcome}
 use Rattle.sec_setup.specs.Cuts.{IsChoice, AreCutAt, columns_of, is_cut}
 use Rattle.sec_setup.specs.Pairs.{named_pairs}
 use Rattle.plain_form.specs.Outcome.{PairsFit, VerdictFits, greatest_size}

@@ -6,7 +6,7 @@ use Rattle.circuit_theory.specs.Circuit.{Circuit}
 use Rattle.circuit_theory.specs.Agree.{Agree, AgreeOnward}
 use Rattle.witness_report.specs.declared.witness.Witness.{Witness}
 use Rattle.witness_report.specs.Shown.{MakesDiffer, MakesCutsDiffer, AgreeFrom}
-use Rattle.sec_outcome.specs.declared.outcome.Outcome.{Outcome}
+use Rattle.outcome.specs.declared.verdict.Outcome.{Outcome}
 
 -- The circuits agree, and agree onward over the exposed latches; so where these are equal from the start up to the printed cycle, they
 -- are equal for ever, and the outputs from that cycle on.

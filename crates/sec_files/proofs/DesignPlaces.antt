@@ -18,9 +18,9 @@ use Rattle.blif_read.specs.Reading.{spelled}
 use Rattle.blif_read.proofs.Count.{spelled_few}
 use Rattle.blif_read.proofs.Each.{Each}
 use Rattle.blif_read.proofs.Plain.{spelled_plain, spelled_fit}
-use Rattle.flat_walk.specs.Flat.{flat_port}
-use Rattle.flat_walk.proofs.Items.{IsPlainPlace, IsGood, IsGoodItem, IsGoodModel, good_models, good_walk, plain_top}
-use Rattle.flat_walk.proofs.Names.{same_place}
+use Rattle.elaborate.specs.Flat.{flat_port}
+use Rattle.elaborate.proofs.Items.{IsPlainPlace, IsGood, IsGoodItem, IsGoodModel, good_models, good_walk, plain_top}
+use Rattle.elaborate.proofs.Names.{same_place}
 use Rattle.flat_net.specs.declared.parts.Gate.{Gate as NetGate}
 use Rattle.flat_net.specs.View.{NetView, circuit_of, equation_of_gate}
 use Rattle.flat_net.specs.Sound.{IsSound}

@@ -6,8 +6,8 @@ use Rattle.blif_read.specs.Design.{circuit_of_design}
 use Rattle.blif_read.specs.Reading.{first_fault, spelled}
 use Rattle.flat_net.specs.Comparable.{IsComparable}
 use Rattle.flat_net.specs.View.{NetView}
-use Rattle.flat_walk.specs.declared.error.FlatError.{FlatError}
-use Rattle.flat_walk.specs.declared.error.FlatError.TheVariants as fault
+use Rattle.elaborate.specs.declared.error.FlatError.{FlatError}
+use Rattle.elaborate.specs.declared.error.FlatError.TheVariants as fault
 use Rattle.flatten.specs.DesignFaults.{DesignFault, IsSoundDesign, IsFlatOf}
 use Rattle.sec_files.specs.Loading.{Loads, SpellsCircuit, HasDesignFault, FlattenFails}
 

@@ -5,13 +5,13 @@ use Rattle.blif_read.specs.declared.error.ReadKind.{ReadKind}
 use Rattle.blif_read.specs.Design.{Place, circuit_of_design, IsClock}
 use Rattle.blif_read.specs.Reading.{first_fault, spelled}
 use Rattle.flat_net.specs.View.{NetView}
-use Rattle.flat_walk.specs.declared.error.FlatError.{FlatError}
-use Rattle.flat_walk.specs.declared.error.FlatError.TheVariants as flat_error
+use Rattle.elaborate.specs.declared.error.FlatError.{FlatError}
+use Rattle.elaborate.specs.declared.error.FlatError.TheVariants as flat_error
 use Rattle.flatten.specs.DesignFaults.{DesignFault, IsSoundDesign, IsFlatOf}
-use Rattle.sec_base.specs.declared.fetching.FetchError.TheVariants as fetch_error
+use Rattle.sec_base.specs.declared.whole_file.FetchError.TheVariants as fetch_error
 use Rattle.blif_read.specs.declared.error.ReadError.TheVariants as read_error
-use Rattle.sec_files.specs.declared.loading.LoadError.{LoadError}
-use Rattle.sec_files.specs.declared.loading.LoadError.TheVariants as load_error
+use Rattle.sec_files.specs.declared.loader.LoadError.{LoadError}
+use Rattle.sec_files.specs.declared.loader.LoadError.TheVariants as load_error
 
 -- the text spells this circuit: it has no faulty line, and its clock net is this one
 pub record SpellsCircuit (text : List ℕ) (clock : Option (List ℕ)) (d : Circuit Place) : Type 0 where

@@ -1,11 +1,11 @@
 //! Loading files: circuits as flat nets, and stimuli.
 #![tactic(auto)]
 
-mod loading;
+mod loader;
 mod stimuli;
 
 pub use flatten::FlatError;
-pub use loading::{LoadError, load};
+pub use loader::{LoadError, load};
 pub use stimuli::{StimulusError, load_stimulus};
 
 /// The most bytes that a file may have.

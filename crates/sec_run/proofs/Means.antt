@@ -1,6 +1,6 @@
 -- How a run ends with a written finding.
 use Rattle.std.proofs.Common.{ℕ, List, Option}
-use Rattle.sec_words.specs.declared.task.Task.{Task}
+use Rattle.command_line.specs.declared.task.Task.{Task}
 use Rattle.pair_decide.specs.declared.query.Proof.{Proof}
 use Rattle.job_base.specs.declared.finding.Finding.{Finding}
 use Rattle.job_base.specs.declared.status.StatusName.{StatusName}

@@ -1,8 +1,8 @@
 -- What is true where a run ends as it does.
 use Rattle.std.specs.Prelude.{◌≡◌, ℕ, List, [], Option, Some, None}
 use Rattle.sec_base.specs.Outside.{Takes, TakesFront}
-use Rattle.sec_words.specs.declared.task.Task.{Task}
-use Rattle.sec_words.specs.declared.task.Task.TheVariants as task
+use Rattle.command_line.specs.declared.task.Task.{Task}
+use Rattle.command_line.specs.declared.task.Task.TheVariants as task
 use Rattle.pair_decide.specs.declared.query.Proof.{Proof}
 use Rattle.job_base.specs.Written.{status_of, proofs_of}
 use Rattle.job_base.specs.declared.finding.Refusal.TheVariants as refusal

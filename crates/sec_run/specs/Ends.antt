@@ -1,6 +1,6 @@
 -- How the work on a job ends.
 use Rattle.std.specs.Prelude.{ℕ, List, Result}
-use Rattle.sec_words.specs.declared.task.Task.{Task}
+use Rattle.command_line.specs.declared.task.Task.{Task}
 use Rattle.job_base.specs.Ends.{EndsBy}
 use Rattle.job_base.specs.declared.finding.Finding.{Finding}
 use Rattle.job_base.specs.declared.finding.Stop.{Stop}

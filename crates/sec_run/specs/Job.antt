@@ -1,7 +1,7 @@
 -- What a job asks for.
 use Rattle.std.specs.Prelude.{ℕ, ◌≤◌, List, [], Option, Some, None}
-use Rattle.sec_words.specs.declared.task.Task.{Task}
-use Rattle.sec_words.specs.declared.task.Task.TheVariants as task
+use Rattle.command_line.specs.declared.task.Task.{Task}
+use Rattle.command_line.specs.declared.task.Task.TheVariants as task
 use Rattle.job_circuit.specs.Reports.{graph_paths, sim_paths}
 use Rattle.job_replay.specs.Replays.{replay_paths}
 use Rattle.job_check.specs.Check.{Check, check_paths}

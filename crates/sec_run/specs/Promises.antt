@@ -1,7 +1,7 @@
 -- What a run promises of its job. Each definition has a case for each job, or follows from the paths that the job reads.
 use Rattle.std.specs.Prelude.{ℕ, List, Option, Some, None}
-use Rattle.sec_words.specs.declared.task.Task.{Task}
-use Rattle.sec_words.specs.declared.task.Task.TheVariants as task
+use Rattle.command_line.specs.declared.task.Task.{Task}
+use Rattle.command_line.specs.declared.task.Task.TheVariants as task
 use Rattle.pair_decide.specs.declared.query.Proof.{Proof}
 use Rattle.job_base.specs.Meaning.{SaysNothing, EndsWith}
 use Rattle.job_base.specs.declared.status.StatusName.{StatusName}

@@ -3,7 +3,7 @@
 ghost use Rattle.std.specs.Prelude.{◌≡◌, ◌≢◌, [], Ok, IsErrOf, map, string_bytes, option_map, Some};
 ghost use Rattle.std.specs.List.{All};
 ghost use Rattle.sec_base.specs.Outside.{Rose, SameHeld};
-ghost use Rattle.sec_words.specs.Jobs.{job_of};
+ghost use Rattle.command_line.specs.Jobs.{job_of};
 ghost use Rattle.job_base.specs.Lines.{finding_text};
 ghost use Rattle.job_files.specs.Reading.{ReadFailed};
 ghost use Rattle.sec_run.specs.Job.{paths_of, paths_in, HasFewConflicts};
@@ -11,13 +11,13 @@ ghost use Rattle.sec_run.specs.Answer.{IsFinding, IsTaken};
 ghost use Rattle.sec_run.specs.Ends.{Found};
 ghost use Rattle.sec_run.specs.Promises.{Means, IsComplete};
 
+use command_line::{Task, WordsError, job};
 use job_base::{Finding, Status, StatusName, Stop, finish};
 use job_check::{Comparison, check};
 use job_circuit::{Simulation, simulate, tell_graph};
 use job_gen::{Generation, compare_generated};
 use job_replay::{Replay, replay_files};
 use sec_base::{Shelf, Sink, Word};
-use sec_words::{Task, WordsError, job};
 use std::alloc::Global;
 
 /// Finds what the job asks for.

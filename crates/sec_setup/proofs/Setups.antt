@@ -7,15 +7,15 @@ use Rattle.sec_base.specs.declared.basics.Orders.{Orders}
 use Rattle.flat_net.specs.Comparable.{IsComparable}
 use Rattle.flat_net.specs.Sound.{IsSound}
 use Rattle.flat_net.specs.View.{NetView, circuit_of, ports_of}
-use Rattle.exposure.specs.declared.exposing.Exposure.{Exposure}
-use Rattle.port_matching.specs.declared.pairing.SignalPair.{SignalPair}
-use Rattle.port_matching.specs.Numbered.{AreNumbered}
+use Rattle.cut_points.specs.declared.exposed.Exposure.{Exposure}
+use Rattle.interface.specs.declared.pairs.SignalPair.{SignalPair}
+use Rattle.interface.specs.Numbered.{AreNumbered}
 use Rattle.sec_setup.specs.Cuts.{AreCutOpen, AreCutBy, AreCutAt, columns_of, is_cut}
 use Rattle.sec_setup.specs.Matching.{InterfacesMatch}
 use Rattle.sec_setup.specs.Setup.{AreColumns}
-use Rattle.port_matching.proofs.Columns.{cut_few, left_read, names_few, right_read}
-use Rattle.port_matching.proofs.Numbering.{few_shared}
-use Rattle.port_matching.proofs.Shared.{are_matched}
+use Rattle.interface.proofs.Columns.{cut_few, left_read, names_few, right_read}
+use Rattle.interface.proofs.Numbering.{few_shared}
+use Rattle.interface.proofs.Shared.{are_matched}
 
 module _ (a b m k : NetView) (e : Exposure) (chosen : AreCutOpen a b e) (cut : AreCutBy a b e m k) where
   -- the nets are cut at the chosen names

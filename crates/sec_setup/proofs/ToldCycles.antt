@@ -16,8 +16,8 @@ use Rattle.flat_net.proofs.Nets.{latch_stands, some_at}
 use Rattle.latch_graph.specs.Graph.{GraphView, IsGraphIn, SkippedBy, marked_names, signals_at}
 use Rattle.latch_graph.proofs.Skipping.{mode_cycle, cycle_in_graph}
 use Rattle.sec_setup.specs.Cycles.{IsAcyclic}
-use Rattle.exposure.specs.Exposed.{IsToldCycle}
-use Rattle.port_matching.proofs.Shared.{some_is}
+use Rattle.cut_points.specs.Exposed.{IsToldCycle}
+use Rattle.interface.proofs.Shared.{some_is}
 
 no_true : true ≡ false → ⊥
 no_true e = cc

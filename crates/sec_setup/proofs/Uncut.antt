@@ -10,9 +10,9 @@ use Rattle.sec_base.specs.Table.{AreDistinct}
 use Rattle.flat_net.specs.declared.parts.LatchAt.{LatchAt}
 use Rattle.flat_net.specs.Cut.{latch_at, exposed_names, stays, IsCut, IsCutCircuit}
 use Rattle.flat_net.specs.View.{NetView, circuit_of}
-use Rattle.exposure.specs.declared.exposing.Exposure.{Exposure}
+use Rattle.cut_points.specs.declared.exposed.Exposure.{Exposure}
 use Rattle.sec_setup.specs.Cycles.{IsAcyclic}
-use Rattle.port_matching.specs.Pairing.{AreNamedAt}
+use Rattle.interface.specs.Pairing.{AreNamedAt}
 use Rattle.sec_setup.specs.Cuts.{AreCutOpen, AreCutBy}
 use Rattle.sec_setup.specs.Choosing.{IsChosen}
 

@@ -6,8 +6,8 @@ use Rattle.circuit_theory.specs.Agree.{IsMinimalCut}
 use Rattle.circuit_theory.specs.Interface.{shared_inputs}
 use Rattle.flat_net.specs.Cut.{IsCut, IsCutCircuit, exposed_names}
 use Rattle.flat_net.specs.View.{NetView, circuit_of, ports_of}
-use Rattle.exposure.specs.declared.exposing.Exposure.{Exposure}
-use Rattle.port_matching.specs.Pairing.{AreNamedAt}
+use Rattle.cut_points.specs.declared.exposed.Exposure.{Exposure}
+use Rattle.interface.specs.Pairing.{AreNamedAt}
 
 -- The names are a minimal cut, which has no name where no latch is to be cut open.
 pub record IsChoice (a b : NetView) (expose : Bool) (names : List (List ℕ)) : Type 0 where

@@ -4,8 +4,8 @@ use Rattle.circuit_theory.specs.declared.Mode.TheVariants.{Plain}
 use Rattle.circuit_theory.specs.Depth.{HasCycle}
 use Rattle.circuit_theory.specs.Run.{NoneEnabled}
 use Rattle.flat_net.specs.View.{NetView, circuit_of}
-use Rattle.exposure.specs.Common.{common_names}
-use Rattle.exposure.specs.Exposed.{IsFreeWithout, IsToldCycle}
+use Rattle.cut_points.specs.Common.{common_names}
+use Rattle.cut_points.specs.Exposed.{IsFreeWithout, IsToldCycle}
 
 -- no cycle is in the latch graph
 abbrev pub IsAcyclic : NetView → Type 0

@@ -10,7 +10,7 @@ use Rattle.sec_setup.specs.declared.nets.Nets.{Nets}
 use Rattle.sec_setup.specs.declared.setup.Setup.{Setup}
 use Rattle.sec_setup.specs.Cuts.{AreCutAt, columns_of}
 use Rattle.sec_setup.specs.Cycles.{IsAcyclic}
-use Rattle.port_matching.specs.Pairs.{ArePairsOf, named_pairs, places_of}
+use Rattle.interface.specs.Pairs.{ArePairsOf, named_pairs, places_of}
 
 -- the graphs are those of the nets
 pub record AreGraphed (n : Nets) : Type 0 where

@@ -8,7 +8,7 @@ ghost use Rattle.sec_setup.specs.Matching.{InterfaceFails, RefusesName};
 
 use crate::error::SetupError;
 use flat_net::Net;
-use port_matching::{first_mismatch, inputs_beside, orders_of, output_names};
+use interface::{first_mismatch, inputs_beside, orders_of, output_names};
 use sec_base::{NameTable, Orders, Seq};
 use std::alloc::Global;
 

@@ -2,17 +2,17 @@
 //! the pairs of their signals. It knows no form of comparing.
 #![tactic(auto)]
 
-mod choosing;
+mod choice;
 mod cycles;
 mod error;
 mod interfaces;
 mod nets;
 mod setup;
 
-pub use choosing::choose;
+pub use choice::choose;
 pub use cycles::graph_of;
 pub use error::SetupError;
+pub use interface::{SignalPair, SignalPairs};
 pub use interfaces::{interface, shared_names};
 pub use nets::Nets;
-pub use port_matching::{SignalPair, SignalPairs};
 pub use setup::{Setup, set_up};

@@ -5,16 +5,16 @@ ghost use Rattle.circuit_theory.specs.Interface.{shared_inputs};
 ghost use Rattle.sec_base.specs.Table.{AreDistinct};
 ghost use Rattle.flat_net.specs.Comparable.{IsComparable};
 ghost use Rattle.flat_net.specs.View.{ports_of};
-ghost use Rattle.port_matching.specs.Numbered.{AreNumbered};
+ghost use Rattle.interface.specs.Numbered.{AreNumbered};
 ghost use Rattle.sec_setup.specs.Cuts.{is_cut, AreCutBy, AreCutOpen};
 ghost use Rattle.sec_setup.specs.Matching.{InterfacesMatch};
 ghost use Rattle.sec_setup.specs.Setup.{AreGraphed, IsSetupOf};
 
 use crate::nets::Nets;
-use exposure::Exposure;
+use cut_points::Exposure;
 use flat_net::Net;
+use interface::{SignalPairs, orders_of, pairs_of};
 use latch_graph::LatchGraph;
-use port_matching::{SignalPairs, orders_of, pairs_of};
 use sec_base::{NameTable, NoMemory, Orders, Words};
 use std::alloc::Global;
 

@@ -2,8 +2,8 @@
 //! of them make.
 #![tactic(auto)]
 
-mod merging;
+mod merge;
 mod rows;
 
-pub use merging::merge_variables;
+pub use merge::merge_variables;
 pub use rows::{bits_at, rows_of};

@@ -5,7 +5,7 @@ ghost use Rattle.cycle_sim.specs.View.{HasMarkedRun};
 ghost use Rattle.sim_report.specs.Cycles.{AreLatest, AreMarks, PutsLatest, PutsCycles, reordered};
 
 use crate::columns::reorder;
-use crate::writing::put_cycle;
+use crate::text::put_cycle;
 use cycle_sim::{MarkedSim, Power};
 use flat_net::Net;
 use sec_base::{Bits, NoMemory};

@@ -7,7 +7,7 @@ mod cycles;
 mod laws;
 mod refusal;
 mod report;
-mod writing;
+mod text;
 
 pub use laws::has_simulation;
 pub use refusal::Misfit;

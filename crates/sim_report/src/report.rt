@@ -10,7 +10,7 @@ use crate::checks::{first_misfit, power_of};
 use crate::columns::columns_of;
 use crate::cycles::put_cycles;
 use crate::refusal::Misfit;
-use crate::writing::put_ports;
+use crate::text::put_ports;
 use flat_net::Net;
 use name_tables::table_of_names;
 use sec_base::{Bits, NameTable, NoMemory, Seq, Text, put};

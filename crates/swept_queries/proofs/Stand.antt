@@ -13,12 +13,12 @@ use Rattle.pair_decide.specs.declared.query.SameBy.TheVariants as same
 use Rattle.pair_decide.specs.declared.query.Decision.TheVariants as decision
 use Rattle.pair_decide.specs.Queries.{IsQuery, IsSame, IsLeast, Distinguishes, assigned_to, numbered}
 use Rattle.pair_decide.specs.Answers.{Decides, IsDifference}
-use Rattle.sweep.specs.declared.sweeping.Swept.{Swept}
+use Rattle.sweep.specs.declared.graph.Swept.{Swept}
 use Rattle.sweep.specs.Swept.{IsSwept}
 use Rattle.swept_queries.specs.declared.sides.Sides.{Sides}
 use Rattle.swept_queries.specs.declared.sides.Known.{Known}
 use Rattle.swept_queries.specs.declared.sides.Known.TheVariants as what
-use Rattle.swept_queries.specs.declared.sweeping.SweptKnown.{SweptKnown}
+use Rattle.swept_queries.specs.declared.queries.SweptKnown.{SweptKnown}
 use Rattle.swept_queries.specs.Roots.{roots_for, HasThree, IsMoved, AreMade}
 use Rattle.swept_queries.specs.InStead.{sides_of, AreKnownWithin, IsKept, StandFor, Follows, IsMovedTo, IsTrueOf, AreTrueOf, ReadsOnly, IsInStead, DecidesInStead}
 use Rattle.swept_queries.proofs.Listed.{roots_for-at, zip_left}

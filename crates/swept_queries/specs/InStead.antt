@@ -15,8 +15,8 @@ use Rattle.swept_queries.specs.declared.sides.Sides.{Sides}
 use Rattle.swept_queries.specs.declared.sides.Known.{Known}
 use Rattle.swept_queries.specs.declared.sides.Known.TheVariants.{Nothing, Swept, Apart}
 use Rattle.swept_queries.specs.Lanes.{TellsApart, DiffersAt}
-use Rattle.swept_queries.specs.declared.sweeping.SweptQueries.{SweptQueries}
-use Rattle.swept_queries.specs.declared.sweeping.SweptKnown.{SweptKnown}
+use Rattle.swept_queries.specs.declared.queries.SweptQueries.{SweptQueries}
+use Rattle.swept_queries.specs.declared.queries.SweptKnown.{SweptKnown}
 
 -- the literals of a query
 abbrev pub sides_of : Query → Sides

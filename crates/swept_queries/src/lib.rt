@@ -1,14 +1,14 @@
 //! Queries over a graph, each decided over a swept graph where that helps: there nodes that are proved to agree are one.
 #![tactic(auto)]
 
-mod aiming;
 mod apart;
-mod asking;
-mod choosing;
+mod choice;
+mod queries;
+mod query;
 mod roots;
 mod sides;
-mod sweeping;
+mod targets;
 mod words;
 
+pub use queries::{SweptQueries, sweep_queries};
 pub use sides::Sides;
-pub use sweeping::{SweptQueries, sweep_queries};

@@ -5,13 +5,13 @@
 //! value.
 #![tactic(auto)]
 
-mod building;
+mod cone_literals;
 mod laws;
-mod reading;
+mod reached_signals;
+mod reads;
 mod recovery;
 mod sources;
 mod support;
-mod walking;
 
 pub use laws::cones_are_one;
 pub use recovery::{RecoverError, Recovery, recover};

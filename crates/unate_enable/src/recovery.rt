@@ -12,10 +12,10 @@ ghost use Rattle.unate_enable.specs.Building.{AreClosed};
 ghost use Rattle.unate_enable.specs.Recovery.{IsRecovery, IsTooLarge, IsAnswer, IsQueryOf, recovery_of};
 ghost use Rattle.unate_enable.specs.declared.recovery.RecoverError.TheVariants as recover_error;
 
-use crate::building::lit_with;
-use crate::reading::{are_light, latch_of};
+use crate::cone_literals::lit_with;
+use crate::reached_signals::reached;
+use crate::reads::{are_light, latch_of};
 use crate::sources::{cone_among, places};
-use crate::walking::reached;
 use aig::Aig;
 use flat_net::{Net, Signal};
 use pair_decide::{Decision, Proof, Query, decide};

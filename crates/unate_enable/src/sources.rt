@@ -6,7 +6,7 @@ ghost use Rattle.unate_enable.specs.Walks.{AreReached};
 ghost use Rattle.unate_enable.specs.Cones.{IsConeOfLatch, data_of_latch, input_at, places_of};
 ghost use Rattle.unate_enable.specs.Among.{AreNumbersAmong, IsInputAt, IsOtherLatchAt};
 
-use crate::reading::latch_of;
+use crate::reads::latch_of;
 use crate::support::LatchCone;
 use flat_net::{Driver, Net, Port, Signal};
 use sec_base::{Ids, NoMemory};

@@ -4,15 +4,15 @@
 mod error;
 mod laws;
 mod pieces;
-mod reading;
+mod reader;
 mod rows;
 mod stimulus;
 mod witness;
-mod writing;
+mod writer;
 
 pub use error::StimError;
 pub use laws::reads_back;
-pub use reading::read_stimulus;
+pub use reader::read_stimulus;
 pub use stimulus::Stimulus;
 pub use witness::{PairName, Witness};
-pub use writing::write_stimulus;
+pub use writer::write_stimulus;

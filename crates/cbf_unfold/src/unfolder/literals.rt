@@ -9,8 +9,8 @@ ghost use Rattle.cbf_unfold.specs.Unfolded.{IsKnown};
 ghost use Rattle.cbf_unfold.specs.Building.{AreKnown, IsMet, IsReady, HasGrown, IsInputLit, IsGateLit};
 
 use super::Unfolder;
-use crate::reaching::Place;
-use crate::reading::{gate_of, latch_of};
+use crate::reached_places::Place;
+use crate::reads::{gate_of, latch_of};
 use aig::{Aig, Lit};
 use flat_net::{Driver, Signal};
 use sec_base::{NoMemory, PlaceTable};

@@ -1,5 +1,5 @@
 use Rattle.std.specs.Prelude.{map, string_bytes}
-use Rattle.sec_words.specs.Jobs.{job_of}
+use Rattle.command_line.specs.Jobs.{job_of}
 use Rattle.premise_rows.proofs.OneTextRuns.{is_answered, ends_equal}
 use Rattle.premise_rows.proofs.run_on_one_text.Goals as goal
 

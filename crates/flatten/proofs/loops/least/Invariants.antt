@@ -1,6 +1,6 @@
 use Rattle.std.proofs.Common.{ℕ, ◌<◌, length, slice_index_or}
 use Rattle.circuit_theory.specs.Names.{ListBefore}
-use Rattle.flat_walk.specs.Flat.{name_at}
+use Rattle.elaborate.specs.Flat.{name_at}
 use Rattle.flatten.proofs.loops.least.Given as goal
 
 abbrev pub invariant-loop-place : goal.invariant-loop-place

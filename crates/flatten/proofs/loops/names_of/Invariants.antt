@@ -1,5 +1,5 @@
 use Rattle.std.proofs.Common.{◌≡◌, map, take}
-use Rattle.flat_walk.specs.Flat.{name_at}
+use Rattle.elaborate.specs.Flat.{name_at}
 use Rattle.flatten.proofs.loops.names_of.Given as goal
 
 abbrev pub invariant-loop-number : goal.invariant-loop-number

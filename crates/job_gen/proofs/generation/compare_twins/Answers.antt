@@ -2,7 +2,7 @@ use Rattle.std.proofs.Common.{◌≡◌, false, subst, Result}
 use Rattle.circuit_theory.specs.declared.Side.TheVariants.{A, B}
 use Rattle.pair_gen.specs.Words.{words_of}
 use Rattle.pair_gen.proofs.Whole.{twin_comparable}
-use Rattle.sec_outcome.specs.declared.outcome.Outcome.{Outcome}
+use Rattle.outcome.specs.declared.verdict.Outcome.{Outcome}
 use Rattle.sec_check.specs.declared.error.CompareError.{CompareError}
 use Rattle.sec_check.specs.Compared.{Compared}
 use Rattle.job_gen.specs.Found.{settings_of}

@@ -1,6 +1,6 @@
 use Rattle.std.proofs.Common.{◌≡◌, ◌<◌, ℕ, slice_get, Some}
 use Rattle.flat_net.specs.declared.signals.Signal.{Signal}
-use Rattle.latch_graph.specs.declared.settling.State.TheVariants.{Endless}
+use Rattle.latch_graph.specs.declared.states.State.TheVariants.{Endless}
 use Rattle.latch_graph.proofs.rounds.endless_read.Given as goal
 
 abbrev pub invariant-loop-k : goal.invariant-loop-k

@@ -1,7 +1,7 @@
 use Rattle.std.proofs.Common.{◌≡◌, ◌<◌, ℕ, slice_get, Some}
 use Rattle.std.specs.Prelude.{◌≢◌}
 use Rattle.sec_base.specs.declared.basics.PairAnswer.TheVariants as answer
-use Rattle.sec_outcome.specs.declared.outcome.PairResult.{PairResult}
+use Rattle.outcome.specs.declared.verdict.PairResult.{PairResult}
 use Rattle.obligations.proofs.verdict.first_limit.Given as goal
 
 abbrev pub invariant-loop-i : goal.invariant-loop-i

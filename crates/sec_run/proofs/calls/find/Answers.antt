@@ -1,5 +1,5 @@
 use Rattle.std.proofs.Common.{[], sym, subst}
-use Rattle.sec_words.specs.declared.task.Task.{Task}
+use Rattle.command_line.specs.declared.task.Task.{Task}
 use Rattle.job_base.specs.Ends.{EndsBy}
 use Rattle.job_files.specs.Reading.{ReadFailed}
 use Rattle.job_gen.proofs.Means.{gen_ends}

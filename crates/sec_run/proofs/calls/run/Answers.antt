@@ -1,6 +1,6 @@
 use Rattle.std.specs.List.{All}
 use Rattle.std.proofs.Common.{◌≡◌, [], sym, subst, ap, refl, Option, None, Err}
-use Rattle.sec_words.specs.declared.task.Task.{Task}
+use Rattle.command_line.specs.declared.task.Task.{Task}
 use Rattle.job_base.specs.declared.finding.Finding.TheVariants as finding
 use Rattle.job_base.proofs.Meaning.{no_read_fault}
 use Rattle.job_files.specs.Reading.{ReadFailed}

@@ -1,7 +1,7 @@
 -- No column stands twice, and there are numbers enough.
 use Rattle.std.proofs.Common.{◌∙◌, List, ℕ, sym, subst}
-use Rattle.port_matching.specs.Numbered.{AreNumbered}
-use Rattle.port_matching.proofs.Columns.{columns_once}
+use Rattle.interface.specs.Numbered.{AreNumbered}
+use Rattle.interface.proofs.Columns.{columns_once}
 use Rattle.sec_setup.proofs.Setups.{few_numbers}
 use Rattle.sec_setup.proofs.setup.number.Goals as goal
 

@@ -3,12 +3,12 @@ use Rattle.std.proofs.Common.{◌≡◌, ◌∙◌, List, ℕ, length, sym, ap, 
 use Rattle.sec_base.specs.Table.{AreDistinct}
 use Rattle.flat_net.specs.View.{circuit_of, ports_of}
 use Rattle.sec_setup.specs.Cuts.{AreCutAt, columns_of}
-use Rattle.port_matching.specs.Pairs.{named_pairs}
-use Rattle.port_matching.proofs.Columns.{columns_once}
+use Rattle.interface.specs.Pairs.{named_pairs}
+use Rattle.interface.proofs.Columns.{columns_once}
 use Rattle.sec_setup.proofs.CutNets.{cut_acyclic}
-use Rattle.port_matching.proofs.NamedPairs.{pairs_named, pairs_cut}
+use Rattle.interface.proofs.NamedPairs.{pairs_named, pairs_cut}
 use Rattle.sec_setup.proofs.Setups.{cut_at, all_columns, left_columns, right_columns}
-use Rattle.port_matching.proofs.Shared.{are_matched}
+use Rattle.interface.proofs.Shared.{are_matched}
 use Rattle.sec_setup.proofs.setup.set_up.Goals as goal
 
 pub returns-clause-setup : goal.returns-clause-setup

@@ -1,7 +1,7 @@
 use Rattle.std.proofs.Common.{◌≡◌, ◌++◌, false, length, take, arith, sym, ◌∙◌, ap, subst}
 use Rattle.std.proofs.lemmas.List.{length-append}
 use Rattle.sec_base.specs.Table.{is_among}
-use Rattle.flat_walk.specs.declared.flat.FlatKind.{FlatKind}
+use Rattle.elaborate.specs.declared.flat.FlatKind.{FlatKind}
 use Rattle.flat_net.specs.View.{NetView}
 use Rattle.flat_net.specs.Makes.{MakerView, with_latch}
 use Rattle.net_assembly.specs.Built.{latch_out, latch_outs, with_latch_of}

@@ -2,7 +2,7 @@ use Rattle.std.proofs.Common.{◌≡◌}
 use Rattle.std.specs.Prelude.{option_map}
 use Rattle.std.proofs.lemmas.Result.{IfOk-weaker}
 use Rattle.flat_net.specs.View.{NetView}
-use Rattle.flat_walk.specs.Flat.{name_at}
+use Rattle.elaborate.specs.Flat.{name_at}
 use Rattle.flatten.specs.Made.{IsMade}
 use Rattle.flatten.proofs.MadeNets.{order_within, begun_gates, begun_covers, outputs_within, shown_outs, shown_nexts, last_clock, last_made}
 use Rattle.flatten.proofs.assemble.Assembly.complete.Goals as goal

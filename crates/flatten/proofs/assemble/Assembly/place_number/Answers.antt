@@ -8,9 +8,9 @@ use Rattle.circuit_theory.proofs.Lists.{All-from_each, of_at}
 use Rattle.sec_base.specs.Table.{is_among}
 use Rattle.flat_net.specs.declared.signals.Signal.{Signal}
 use Rattle.flat_net.specs.Makes.{MakerView}
-use Rattle.flat_walk.specs.declared.flat.FlatStatement.{FlatStatement}
-use Rattle.flat_walk.specs.declared.flat.FlatKind.{FlatKind}
-use Rattle.flat_walk.specs.Flat.{cover_at}
+use Rattle.elaborate.specs.declared.flat.FlatStatement.{FlatStatement}
+use Rattle.elaborate.specs.declared.flat.FlatKind.{FlatKind}
+use Rattle.elaborate.specs.Flat.{cover_at}
 use Rattle.flatten.specs.Graph.{quick_reads}
 use Rattle.flatten.specs.Gated.{first_made, gates_in}
 use Rattle.net_assembly.proofs.Building.{statement_at, name_in, room_for, new_name}

@@ -4,8 +4,8 @@ use Rattle.std.proofs.lemmas.Option.{slice_get_within}
 use Rattle.flat_net.specs.declared.signals.Signal.{Signal}
 use Rattle.flat_net.specs.View.{NetView}
 use Rattle.flat_net.specs.Makes.{with_next}
-use Rattle.flat_walk.specs.declared.flat.FlatStatement.{FlatStatement}
-use Rattle.flat_walk.specs.declared.flat.FlatKind.{FlatKind}
+use Rattle.elaborate.specs.declared.flat.FlatStatement.{FlatStatement}
+use Rattle.elaborate.specs.declared.flat.FlatKind.{FlatKind}
 use Rattle.net_assembly.specs.Built.{latch_out}
 use Rattle.net_assembly.specs.Shown.{signal_at, latch_data, latch_nexts}
 use Rattle.net_assembly.proofs.Building.{statement_at, out_within}

@@ -3,7 +3,7 @@ use Rattle.latch_cone.specs.Cones.{MarksEnabled}
 use Rattle.flat_net.specs.declared.parts.LatchAt.{LatchAt}
 use Rattle.flat_net.specs.declared.parts.Driver.{Driver}
 use Rattle.latch_graph.specs.declared.nodes.Node.{Node}
-use Rattle.latch_graph.specs.declared.settling.State.TheVariants.{New, Removed}
+use Rattle.latch_graph.specs.declared.states.State.TheVariants.{New, Removed}
 use Rattle.latch_graph.specs.Graph.{GraphView, IsGraphOf, IsNodeOf, AreNodes}
 use Rattle.latch_graph.specs.Settling.{IsSettled}
 use Rattle.latch_graph.proofs.Depths.{kept_nodes}

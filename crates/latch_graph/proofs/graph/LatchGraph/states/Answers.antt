@@ -1,6 +1,6 @@
 use Rattle.std.proofs.Common.{◌≡◌, ℕ, List, Some, slice_get, subst, sym}
-use Rattle.latch_graph.specs.declared.settling.State.{State}
-use Rattle.latch_graph.specs.declared.settling.State.TheVariants.{Removed}
+use Rattle.latch_graph.specs.declared.states.State.{State}
+use Rattle.latch_graph.specs.declared.states.State.TheVariants.{Removed}
 use Rattle.latch_graph.specs.Graph.{GraphView}
 use Rattle.latch_graph.specs.Settling.{IsSettled}
 use Rattle.latch_graph.proofs.graph.LatchGraph.states.Goals as goal

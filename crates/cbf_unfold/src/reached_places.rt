@@ -1,0 +1,72 @@
+//! The places that an unfolding visits.
+
+ghost use Rattle.std.specs.Prelude.{◌≡◌, ℕ, ◌<◌, ◌≤◌, [], ◌∷◌, length, IfOk};
+ghost use Rattle.circuit_theory.specs.Sizes.{IsOver};
+ghost use Rattle.flat_net.specs.View.{circuit_of};
+ghost use Rattle.cbf_unfold.specs.Reach.{AreVisited, IsReach};
+ghost use Rattle.cbf_unfold.specs.declared.error.UnfoldError.TheVariants as unfold_error;
+
+use crate::error::UnfoldError;
+use crate::reads::{add, add_read, weigh};
+use flat_net::{Net, Signal};
+use sec_base::{NoMemory, PlaceTable};
+use std::alloc::Global;
+
+/// A cycle, and a signal's number.
+pub(crate) type Place = (u32, u32);
+
+/// The places that the unfolding of the signal visits, in an order of evaluation. The signal stands in the cycle `cap`.
+/// `TooLarge` comes only where they weigh more than the cap.
+pub(crate) fn reach(
+    alloc: Global,
+    net: &Net,
+    s: Signal,
+    cap: u32,
+) -> Result<Vec<Place>, UnfoldError>
+    requires signal { s.0 < length net.now.drivers }
+    requires small { cap ≤ 2000000 }
+    ensures reach { IfOk result (λ r. IsReach (circuit_of net.now) (length net.now.drivers) s.0 cap r.items) }
+    ensures over { result ≡ Err unfold_error.TooLarge → IsOver (circuit_of net.now) (s.0 ∷ []) cap }
+{
+    let table = visited(alloc, net, s, cap)?;
+    table.keeps();
+    let mut places = listed(alloc, &table)?;
+    places.sort()?;
+    Ok(places)
+}
+
+/// The places that are visited, each before those that it reads.
+fn visited(alloc: Global, net: &Net, s: Signal, cap: u32) -> Result<PlaceTable, UnfoldError>
+    requires signal { s.0 < length net.now.drivers }
+    requires small { cap ≤ 2000000 }
+    ensures visited { IfOk result (λ table. AreVisited (circuit_of net.now) (length net.now.drivers) s.0 cap table) }
+    ensures over { result ≡ Err unfold_error.TooLarge → IsOver (circuit_of net.now) (s.0 ∷ []) cap }
+{
+    net.keeps();
+    let mut table = PlaceTable::new(alloc);
+    add(&mut table, cap, s)?;
+    let mut at = 0;
+    let mut weight = 0;
+    while at < table.len() {
+        let (cycle, signal) = table.pair(at);
+        let Some(more) = weigh(net, Signal(signal), cap - weight) else {
+            table.keeps();
+            return Err(UnfoldError::TooLarge);
+        };
+        add_read(net, &mut table, cycle, Signal(signal))?;
+        weight += more;
+        at += 1;
+    }
+    Ok(table)
+}
+
+/// The table's places as a list.
+fn listed(alloc: Global, table: &PlaceTable) -> Result<Vec<Place>, NoMemory>
+    ensures { IfOk result (λ places. places.items ≡ table.now) }
+{
+    let mut places = Vec::with_capacity(alloc, table.len() as usize)?;
+    for number in 0..table.len() {
+        places.push(table.pair(number))?;
+    }
+    Ok(places)
+}

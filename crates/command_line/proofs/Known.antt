@@ -1,0 +1,233 @@
+-- Words that `clap` takes, with a mode that is known, are a job.
+use Rattle.std.proofs.Common.{◌≡◌, ◌&&◌, ◌||◌, not, Bool, cond, true, false, List, [], ◌∷◌, length, Option, Some, None, is_some, refl, sym, ap, subst, ◌∙◌, arith, true≢false, codes}
+use Rattle.std.specs.Prelude.{⊤, ◌==◌, find, option_map, option_and_then, IfSome}
+use Rattle.std.specs.List.{list_any}
+use Rattle.std.specs.Option.{option_map_or}
+use Rattle.std.specs.Str.{bytes_eq}
+use Rattle.std.specs.Str.Parse.{digits_value, without_leading_plus}
+use Rattle.std.proofs.lemmas.Slice.Eq.{bytes_eq-Decides}
+use Rattle.circuit_theory.specs.declared.Mode.{Mode}
+use Rattle.clap.specs.Facts.{explicit_source}
+use Rattle.clap.specs.Takes.{is_given}
+use Rattle.clap.specs.Kinds.{Kinds, or_else, value_kinds}
+use Rattle.clap.specs.Faults.{check_fault, defaults_fault, entered_fault, fault_of, level_fault, settle_fault, walk_fault}
+use Rattle.clap.specs.ValueTests.{accepts}
+use Rattle.clap.specs.Walk.{Row, Rule, Text, Walk, answers_to, finished, first_of, nothing_held, rows_after, settled, walk, walk_from}
+use Rattle.clap.specs.Simple.{App, Shape, built, built_leaf, entered, help_shape, inherited, label_of, marked_built, names_of, rows_at, subcommand_of, with_leaf_noted}
+use Rattle.clap.specs.declared.builder.value_parser.ValueParser.{ValueParser}
+use Rattle.command_line.specs.Command.{sec_app, check_app, graph_app, sim_app, replay_app, gen_app, most_conflicts, any_number}
+use Rattle.command_line.specs.Jobs.{check_in, conflicts_in, gen_in, graph_in, job_of, mode_in, number_of, replay_in, sim_in, task_in}
+use Rattle.command_line.specs.Known.{HasKnownMode, mode_known}
+use Rattle.command_line.proofs.Taken.{else_first, else_next, EachRule, IsNotHelp, IsOwn, no_help_walk}
+use Rattle.command_line.proofs.Leaves.{IsRead, first_good, leaf_read, second_check}
+
+-- a number that the parser takes
+number_known : (p : ValueParser) (w : Text) → value_kinds false p w ≡ [] → number_of p w ≡ Some (digits_value 10 (without_leading_plus w))
+number_known p w e = by (accepts false p w) refl
+  where
+    by : (b : Bool) → accepts false p w ≡ b → number_of p w ≡ Some (digits_value 10 (without_leading_plus w))
+    by true is = rw is refl
+    by false is = absurd (let none : value_kinds false p w ≡ [] = e in cc)
+
+-- what stands of each subcommand makes its task
+check_job : (rows : List Row) (a b n : Text) → first_of (codes "a") rows ≡ Some a → first_of (codes "b") rows ≡ Some b → first_of (codes "conflicts") rows ≡ Some n → value_kinds false most_conflicts n ≡ [] → is_some (mode_in rows) ≡ true → is_some (check_in rows) ≡ true
+check_job rows a b n ea eb en passes mode = by (mode_in rows) refl mode
+  where
+    conflicts : conflicts_in rows ≡ Some (digits_value 10 (without_leading_plus n))
+    conflicts = ap (option_and_then (number_of most_conflicts)) en ∙ number_known most_conflicts n passes
+
+    by : (m : Option Mode) → mode_in rows ≡ m → is_some m ≡ true → is_some (check_in rows) ≡ true
+    by None e h = absurd (true≢false (sym h))
+    by (Some m) e h = rw (ea, eb, e, conflicts) refl
+
+graph_job : (rows : List Row) (a : Text) → first_of (codes "a") rows ≡ Some a → is_some (mode_in rows) ≡ true → is_some (graph_in rows) ≡ true
+graph_job rows a ea mode = by (mode_in rows) refl mode
+  where
+    by : (m : Option Mode) → mode_in rows ≡ m → is_some m ≡ true → is_some (graph_in rows) ≡ true
+    by None e h = absurd (true≢false (sym h))
+    by (Some m) e h = rw (ea, e) refl
+
+sim_job : (rows : List Row) (a s : Text) → first_of (codes "a") rows ≡ Some a → first_of (codes "s") rows ≡ Some s → is_some (mode_in rows) ≡ true → is_some (sim_in rows) ≡ true
+sim_job rows a s ea es mode = by (mode_in rows) refl mode
+  where
+    by : (m : Option Mode) → mode_in rows ≡ m → is_some m ≡ true → is_some (sim_in rows) ≡ true
+    by None e h = absurd (true≢false (sym h))
+    by (Some m) e h = rw (ea, es, e) refl
+
+replay_job : (rows : List Row) (a b s : Text) → first_of (codes "a") rows ≡ Some a → first_of (codes "b") rows ≡ Some b → first_of (codes "s") rows ≡ Some s → is_some (mode_in rows) ≡ true → is_some (replay_in rows) ≡ true
+replay_job rows a b s ea eb es mode = by (mode_in rows) refl mode
+  where
+    by : (m : Option Mode) → mode_in rows ≡ m → is_some m ≡ true → is_some (replay_in rows) ≡ true
+    by None e h = absurd (true≢false (sym h))
+    by (Some m) e h = rw (ea, eb, es, e) refl
+
+gen_job : (rows : List Row) (n k : Text) → first_of (codes "n") rows ≡ Some n → value_kinds false any_number n ≡ [] → first_of (codes "conflicts") rows ≡ Some k → value_kinds false most_conflicts k ≡ [] → is_some (gen_in rows) ≡ true
+gen_job rows n k en seeds ek passes = rw (en, number_known any_number n seeds, conflicts) refl
+  where
+    conflicts : conflicts_in rows ≡ Some (digits_value 10 (without_leading_plus k))
+    conflicts = ap (option_and_then (number_of most_conflicts)) ek ∙ number_known most_conflicts k passes
+
+-- the subcommands as they are built
+abbrev part : Shape → Shape
+part s = built_leaf (inherited (with_leaf_noted (marked_built sec_app.top)) s)
+
+-- where a subcommand's words have no fault, and its mode is known, they make a task
+abbrev IsJob : Shape → Type 0
+IsJob s = (words : List Text) → level_fault s [] nothing_held words false [] ≡ [] → bytes_eq s.name (codes "help") ≡ false → mode_known s.name (rows_after s.rules [] words) ≡ true → is_some (task_in s.name (rows_after s.rules [] words)) ≡ true
+
+check_own : EachRule (IsOwn (part check_app.top).rules) (part check_app.top).rules
+check_own = ((refl, omega arith), ((refl, omega arith), ((refl, omega arith), ((refl, omega arith), ((refl, omega arith), ((refl, tt), tt))))))
+
+check_is : IsJob (part check_app.top)
+check_is words e help known =
+    let c : List Rule = (part check_app.top).rules in
+    let rows : List Row = rows_after c [] words in
+    let read : IsRead (part check_app.top) rows = leaf_read (part check_app.top) check_own refl words e in
+    let a = first_good c (codes "a") _ rows refl read.good (read.required (codes "a") _ refl refl) in
+    let b = first_good c (codes "b") _ rows refl read.good (read.required (codes "b") _ refl refl) in
+    let n = first_good c (codes "conflicts") _ rows refl read.good (read.defaulted (codes "conflicts") _ (codes "20000") [] refl refl) in
+    check_job rows a.0 b.0 n.0 a.1 b.1 n.1 n.2 known
+
+graph_own : EachRule (IsOwn (part graph_app.top).rules) (part graph_app.top).rules
+graph_own = ((refl, omega arith), ((refl, omega arith), ((refl, tt), tt)))
+
+graph_is : IsJob (part graph_app.top)
+graph_is words e help known =
+    let c : List Rule = (part graph_app.top).rules in
+    let rows : List Row = rows_after c [] words in
+    let read : IsRead (part graph_app.top) rows = leaf_read (part graph_app.top) graph_own refl words e in
+    let a = first_good c (codes "a") _ rows refl read.good (read.required (codes "a") _ refl refl) in
+    graph_job rows a.0 a.1 known
+
+sim_own : EachRule (IsOwn (part sim_app.top).rules) (part sim_app.top).rules
+sim_own = ((refl, omega arith), ((refl, omega arith), ((refl, omega arith), ((refl, omega arith), ((refl, tt), tt)))))
+
+sim_is : IsJob (part sim_app.top)
+sim_is words e help known =
+    let c : List Rule = (part sim_app.top).rules in
+    let rows : List Row = rows_after c [] words in
+    let read : IsRead (part sim_app.top) rows = leaf_read (part sim_app.top) sim_own refl words e in
+    let a = first_good c (codes "a") _ rows refl read.good (read.required (codes "a") _ refl refl) in
+    let s = first_good c (codes "s") _ rows refl read.good (read.required (codes "s") _ refl refl) in
+    sim_job rows a.0 s.0 a.1 s.1 known
+
+replay_own : EachRule (IsOwn (part replay_app.top).rules) (part replay_app.top).rules
+replay_own = ((refl, omega arith), ((refl, omega arith), ((refl, omega arith), ((refl, omega arith), ((refl, tt), tt)))))
+
+replay_is : IsJob (part replay_app.top)
+replay_is words e help known =
+    let c : List Rule = (part replay_app.top).rules in
+    let rows : List Row = rows_after c [] words in
+    let read : IsRead (part replay_app.top) rows = leaf_read (part replay_app.top) replay_own refl words e in
+    let a = first_good c (codes "a") _ rows refl read.good (read.required (codes "a") _ refl refl) in
+    let b = first_good c (codes "b") _ rows refl read.good (read.required (codes "b") _ refl refl) in
+    let s = first_good c (codes "s") _ rows refl read.good (read.required (codes "s") _ refl refl) in
+    replay_job rows a.0 b.0 s.0 a.1 b.1 s.1 known
+
+gen_own : EachRule (IsOwn (part gen_app.top).rules) (part gen_app.top).rules
+gen_own = ((refl, omega arith), ((refl, omega arith), ((refl, omega arith), ((refl, tt), tt))))
+
+gen_is : IsJob (part gen_app.top)
+gen_is words e help known =
+    let c : List Rule = (part gen_app.top).rules in
+    let rows : List Row = rows_after c [] words in
+    let read : IsRead (part gen_app.top) rows = leaf_read (part gen_app.top) gen_own refl words e in
+    let n = first_good c (codes "n") _ rows refl read.good (read.required (codes "n") _ refl refl) in
+    let k = first_good c (codes "conflicts") _ rows refl read.good (read.defaulted (codes "conflicts") _ (codes "20000") [] refl refl) in
+    gen_job rows n.0 k.0 n.1 n.2 k.1 k.2
+
+help_is : IsJob (built_leaf help_shape)
+help_is words e help known = absurd (true≢false help)
+
+abbrev EachShape : (Shape → Type 0) → List Shape → Type 0
+EachShape P [] = ⊤
+EachShape P (s ∷ rest) = P s × EachShape P rest
+
+shape_found : (P : Shape → Type 0) (test : Shape → Bool) (xs : List Shape) (s : Shape) → EachShape P xs → find test xs ≡ Some s → P s
+shape_found P test [] s each h = absurd (cc)
+shape_found P test (x ∷ xs) s each h = by (test x) refl (λ later. shape_found P test xs s each.1 later)
+  where
+    by : (b : Bool) → test x ≡ b → (find test xs ≡ Some s → P s) → P s
+    by true e rest = (let same : Some x ≡ Some s = sym (ap (λ b. cond b (Some x) (find test xs)) e) ∙ h in let one : x ≡ s = cc in subst P one each.0)
+    by false e rest = rest (sym (ap (λ b. cond b (Some x) (find test xs)) e) ∙ h)
+
+-- a subcommand that is named, and isn't `help`, isn't the one for help
+abbrev IsNamed : Shape → Type 0
+IsNamed s = (name : Text) → answers_to name (label_of s) ≡ true → s.name ≡ name
+
+named_alone : (s : Shape) → s.aliases ≡ [] → IsNamed s
+named_alone s none name h = (bytes_eq-Decides s.name name).0 (by (bytes_eq s.name name) (subst (λ (xs : List Text). (bytes_eq s.name name || list_any (λ alias. bytes_eq alias name) xs) ≡ true) none h))
+  where
+    by : (b : Bool) → (b || false) ≡ true → b ≡ true
+    by true k = refl
+    by false k = k
+
+find_passes : (test : Shape → Bool) (xs : List Shape) (s : Shape) → find test xs ≡ Some s → test s ≡ true
+find_passes test [] s h = absurd (cc)
+find_passes test (x ∷ xs) s h = by (test x) refl (λ later. find_passes test xs s later)
+  where
+    by : (b : Bool) → test x ≡ b → (find test xs ≡ Some s → test s ≡ true) → test s ≡ true
+    by true e rest = (let same : Some x ≡ Some s = sym (ap (λ b. cond b (Some x) (find test xs)) e) ∙ h in let one : x ≡ s = cc in subst (λ y. test y ≡ true) one e)
+    by false e rest = rest (sym (ap (λ b. cond b (Some x) (find test xs)) e) ∙ h)
+
+subs_jobs : EachShape IsJob (built sec_app).subs
+subs_jobs = (check_is, (graph_is, (sim_is, (replay_is, (gen_is, (help_is, tt))))))
+
+subs_named : EachShape IsNamed (built sec_app).subs
+subs_named = (named_alone (part check_app.top) refl, (named_alone (part graph_app.top) refl, (named_alone (part sim_app.top) refl, (named_alone (part replay_app.top) refl, (named_alone (part gen_app.top) refl, (named_alone (built_leaf help_shape) refl, tt))))))
+
+-- the subcommand at which the walk stopped
+stopped_job : (stop : Option (Text × List Text)) → IsNotHelp stop → entered_fault (built sec_app) stop ≡ [] → is_some (entered (built sec_app) stop) ≡ true → IfSome (entered (built sec_app) stop) (λ met. mode_known met.0 met.1 ≡ true)
+    → is_some (option_and_then (λ met. task_in met.0 met.1) (entered (built sec_app) stop)) ≡ true
+stopped_job None not_help e some known = absurd (true≢false (sym some))
+stopped_job (Some p) not_help e some known = by (find (λ s. answers_to p.0 (label_of s)) (built sec_app).subs) refl e some known
+  where
+    by : (o : Option Shape) → find (λ s. answers_to p.0 (label_of s)) (built sec_app).subs ≡ o → option_map_or (λ s. level_fault s [] nothing_held p.1 false []) o [] ≡ [] → is_some (option_map (λ s. rows_at s p.1) o) ≡ true
+        → IfSome (option_map (λ s. rows_at s p.1) o) (λ met. mode_known met.0 met.1 ≡ true) → is_some (option_and_then (λ met. task_in met.0 met.1) (option_map (λ s. rows_at s p.1) o)) ≡ true
+    by None is k h m = absurd (true≢false (sym h))
+    by (Some s) is k h m =
+        let test : Shape → Bool = λ x. answers_to p.0 (label_of x) in
+        let name : s.name ≡ p.0 = shape_found IsNamed test (built sec_app).subs s subs_named is p.0 (find_passes test (built sec_app).subs s is) in
+        shape_found IsJob test (built sec_app).subs s subs_jobs is p.1 k (subst (λ (x : Text). bytes_eq x (codes "help") ≡ false) (sym name) not_help) m
+
+-- the command as it is built, where the walk over the words ends, and the faults behind it
+abbrev whole : App
+whole = built sec_app
+
+abbrev whole_end : List Text → Walk
+whole_end words = walk whole.top.rules (names_of whole) nothing_held words
+
+abbrev whole_settle : List Text → Kinds
+whole_settle words = settle_fault whole.top.rules whole.top.args_override_self (whole_end words).held
+
+abbrev whole_default : List Text → Kinds
+whole_default words = defaults_fault (settled whole.top.rules (whole_end words).held).rows whole.top.rules
+
+abbrev whole_check : List Text → Kinds
+whole_check words = check_fault whole.top (finished whole.top.rules (whole_end words).held) (is_some (entered whole (whole_end words).stopped))
+
+pub taken_job : (words : List Text) → fault_of sec_app words ≡ [] → HasKnownMode words → is_some (job_of words) ≡ true
+taken_job words e known = ap (λ (ks : Kinds). is_some (cond (length ks == 0) (option_and_then (λ met. task_in met.0 met.1) (subcommand_of sec_app words)) None)) e ∙ stopped_job (whole_end words).stopped not_help below has known
+  where
+    walks : walk_fault whole.top (names_of whole) (walk_from nothing_held) words ≡ []
+    walks = else_first (walk_fault whole.top (names_of whole) (walk_from nothing_held) words) (or_else (entered_fault whole (whole_end words).stopped) (or_else (whole_settle words) (or_else (whole_default words) (whole_check words)))) e
+
+    after : or_else (entered_fault whole (whole_end words).stopped) (or_else (whole_settle words) (or_else (whole_default words) (whole_check words))) ≡ []
+    after = else_next (walk_fault whole.top (names_of whole) (walk_from nothing_held) words) (or_else (entered_fault whole (whole_end words).stopped) (or_else (whole_settle words) (or_else (whole_default words) (whole_check words)))) e
+
+    below : entered_fault whole (whole_end words).stopped ≡ []
+    below = else_first (entered_fault whole (whole_end words).stopped) (or_else (whole_settle words) (or_else (whole_default words) (whole_check words))) after
+
+    checks : (whole_check words) ≡ []
+    checks = else_next (whole_default words) (whole_check words) (else_next (whole_settle words) (or_else (whole_default words) (whole_check words)) (else_next (entered_fault whole (whole_end words).stopped) (or_else (whole_settle words) (or_else (whole_default words) (whole_check words))) after))
+
+    has : is_some (entered whole (whole_end words).stopped) ≡ true
+    has = by (is_some (entered whole (whole_end words).stopped)) (second_check (not (is_some (entered whole (whole_end words).stopped)) && (whole.top.arg_required_else_help && not (list_any (λ r. explicit_source r.source) (finished whole.top.rules (whole_end words).held)))) (not (is_some (entered whole (whole_end words).stopped)) && whole.top.subcommand_required)
+        (not (whole.top.subcommand_negates_reqs && is_some (entered whole (whole_end words).stopped)) && list_any (λ x. x.required && not (is_given x.id (finished whole.top.rules (whole_end words).held))) whole.top.rules) checks)
+      where
+        by : (b : Bool) → (not b && true) ≡ false → b ≡ true
+        by true k = refl
+        by false k = absurd (true≢false k)
+
+    not_help : IsNotHelp (whole_end words).stopped
+    not_help = no_help_walk whole.top (names_of whole) refl words (walk_from nothing_held) walks tt

@@ -1,0 +1,28 @@
+-- Words that are written out, computed.
+use Rattle.std.proofs.Common.{refl}
+use Rattle.clap.proofs.OnLiterals.{clap_on_literals}
+use Rattle.command_line.specs.Known.{CheckIsTaken, GraphIsTaken, SimIsTaken, ReplayIsTaken, GenIsTaken, OtherModeIsNoJob}
+
+pub check_is_taken : CheckIsTaken
+unfolding clap_on_literals
+check_is_taken = (refl, refl)
+
+pub graph_is_taken : GraphIsTaken
+unfolding clap_on_literals
+graph_is_taken = (refl, refl)
+
+pub sim_is_taken : SimIsTaken
+unfolding clap_on_literals
+sim_is_taken = (refl, refl)
+
+pub replay_is_taken : ReplayIsTaken
+unfolding clap_on_literals
+replay_is_taken = (refl, refl)
+
+pub gen_is_taken : GenIsTaken
+unfolding clap_on_literals
+gen_is_taken = (refl, refl)
+
+pub other_is_no_job : OtherModeIsNoJob
+unfolding clap_on_literals
+other_is_no_job = (refl, refl)

@@ -1,0 +1,73 @@
+-- The job of a command line.
+use Rattle.std.specs.Prelude.{ℕ, ◌==◌, Bool, false, if◌then◌else◌, List, length, Option, Some, None, codes, bytes_eq, option_and_then, option_map}
+use Rattle.std.specs.Str.Parse.{digits_value, without_leading_plus}
+use Rattle.circuit_theory.specs.declared.Mode.{Mode}
+use Rattle.circuit_theory.specs.declared.Mode.TheVariants.{Plain, Event}
+use Rattle.clap.specs.Words.{Row, Text, fault_of, first_of, subcommand_of}
+use Rattle.clap.specs.ValueTests.{accepts}
+use Rattle.clap.specs.declared.builder.value_parser.ValueParser.{ValueParser}
+use Rattle.command_line.specs.Command.{sec_app, most_conflicts, any_number}
+use Rattle.sec_base.specs.declared.settings.Settings.{Settings}
+use Rattle.command_line.specs.declared.task.Task.{Task}
+use Rattle.command_line.specs.declared.task.Task.TheVariants as task
+
+-- the mode of the word
+abbrev pub mode_of : Text → Option Mode
+mode_of word = if bytes_eq word (codes "plain") then Some Plain else if bytes_eq word (codes "event") then Some Event else None
+
+-- the number that the word spells, where the parser takes it
+abbrev pub number_of : ValueParser → Text → Option ℕ
+number_of parser word = if accepts false parser word then Some (digits_value 10 (without_leading_plus word)) else None
+
+-- the flag is given
+abbrev pub is_set : Text → List Row → Bool
+is_set id rows = given (first_of id rows)
+  where
+    given : Option Text → Bool
+    given None = false
+    given (Some value) = bytes_eq value (codes "true")
+
+abbrev pub mode_in : List Row → Option Mode
+mode_in rows = option_and_then mode_of (first_of (codes "mode") rows)
+
+abbrev pub conflicts_in : List Row → Option ℕ
+conflicts_in rows = option_and_then (number_of most_conflicts) (first_of (codes "conflicts") rows)
+
+-- the word that must stand under the id, and what is made of it
+abbrev pub with_word : {X : Type 0} → Text → List Row → (Text → Option X) → Option X
+with_word id rows make = option_and_then make (first_of id rows)
+
+abbrev pub settings_in : List Row → Option Settings
+settings_in rows =
+    option_and_then (λ mode. option_map (λ conflicts. record { mode = mode; expose = is_set (codes "expose") rows; conflicts = conflicts }) (conflicts_in rows)) (mode_in rows)
+
+abbrev pub check_in : List Row → Option Task
+check_in rows = with_word (codes "a") rows (λ a. with_word (codes "b") rows (λ b. option_map (λ settings. task.Check a b settings) (settings_in rows)))
+
+abbrev pub graph_in : List Row → Option Task
+graph_in rows = with_word (codes "a") rows (λ a. option_map (λ mode. task.Graph a mode) (mode_in rows))
+
+abbrev pub sim_in : List Row → Option Task
+sim_in rows = with_word (codes "a") rows (λ a. with_word (codes "s") rows (λ s. option_map (λ mode. task.Sim a s mode (first_of (codes "power") rows)) (mode_in rows)))
+
+abbrev pub replay_in : List Row → Option Task
+replay_in rows =
+    with_word (codes "a") rows (λ a. with_word (codes "b") rows (λ b. with_word (codes "s") rows (λ s. option_map (λ mode. task.Replay a b s mode) (mode_in rows))))
+
+abbrev pub gen_in : List Row → Option Task
+gen_in rows =
+    with_word (codes "n") rows (λ n. option_and_then (λ seed. option_map (λ conflicts. task.Gen seed (is_set (codes "regroup") rows) conflicts) (conflicts_in rows)) (number_of any_number n))
+
+-- the task of a subcommand's matches
+abbrev pub task_in : Text → List Row → Option Task
+task_in name rows =
+    if bytes_eq name (codes "check") then check_in rows
+    else if bytes_eq name (codes "graph") then graph_in rows
+    else if bytes_eq name (codes "sim") then sim_in rows
+    else if bytes_eq name (codes "replay") then replay_in rows
+    else if bytes_eq name (codes "gen") then gen_in rows
+    else None
+
+-- The job of the words: where `clap`'s own definition for the command takes them, and the mode is known.
+abbrev pub job_of : List Text → Option Task
+job_of words = if length (fault_of sec_app words) == 0 then option_and_then (λ met. task_in met.0 met.1) (subcommand_of sec_app words) else None

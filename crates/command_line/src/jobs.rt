@@ -1,0 +1,283 @@
+//! From the words to the job.
+
+ghost use Rattle.std.specs.Prelude.{◌≡◌, map, string_bytes, option_map, IfOk, IfSome, IfNone, IsErrOf, None, Some, Option, option_and_then, []};
+ghost use Rattle.std.specs.Str.Parse.{digits_value, without_leading_plus};
+ghost use Rattle.clap.specs.Words.{fault_of, first_of, found_of, rows_of, subcommand_of, subcommand_rows_of, IsUnsignedIn};
+ghost use Rattle.clap.specs.ValueTests.{accepts};
+ghost use Rattle.clap.specs.declared.builder.value_parser.ValueParser.TheVariants as parser;
+ghost use Rattle.command_line.specs.Command.{sec_app};
+ghost use Rattle.command_line.specs.Jobs.{job_of, task_in, check_in, graph_in, sim_in, replay_in, gen_in, mode_of, mode_in, is_set, number_of, conflicts_in, settings_in};
+
+use crate::command::sec_command;
+use crate::task::Task;
+use circuit_theory::Mode;
+use clap::ArgMatches;
+use clap::error::ErrorKind;
+use sec_base::{FilePath, NoMemory, Seq, Settings, Word};
+use std::alloc::{AllocError, Global};
+
+/// Why the words are no job.
+#[derive(Clone, Copy, PartialEq, Eq)]
+pub enum WordsError {
+    /// `clap`'s definition for the command doesn't take the words, or the mode is neither `plain` nor `event`.
+    Refused,
+    /// Memory was wanted and couldn't be had.
+    NoMemory,
+}
+
+/// The value under the id, the first where there are more.
+fn word<'a>(matches: &ArgMatches<'a>, id: &str) -> Option<&'a str>
+    ensures { option_map (λ t. t.now) result ≡ first_of id.now (rows_of (found_of matches.now)) }
+{
+    matches.get_str(id)
+}
+
+impl From<AllocError> for WordsError {
+    ghost use Rattle.command_line.specs.declared.jobs.WordsError.TheVariants.{NoMemory};
+
+    ghost from_gives = { λ _ e. e ≡ NoMemory };
+
+    fn from(_error: AllocError) -> WordsError {
+        WordsError::NoMemory
+    }
+}
+
+impl From<NoMemory> for WordsError {
+    ghost use Rattle.command_line.specs.declared.jobs.WordsError.TheVariants.{NoMemory};
+
+    ghost from_gives = { λ _ e. e ≡ NoMemory };
+
+    fn from(_error: NoMemory) -> WordsError {
+        WordsError::NoMemory
+    }
+}
+
+/// The mode of the word.
+fn mode_of(word: &str) -> Option<Mode>
+    ensures { result ≡ mode_of word.now }
+{
+    if word == "plain" {
+        Some(Mode::Plain)
+    } else if word == "event" {
+        Some(Mode::Event)
+    } else {
+        None
+    }
+}
+
+/// The number that the word spells, where it lies in the bounds.
+fn number_between(low: u64, high: u64, word: &str) -> Option<u64>
+    ensures some { IfSome result (λ n. (IsUnsignedIn low high word.now) × (digits_value 10 (without_leading_plus word.now) ≡ n)) }
+    ensures none { IfNone result (IsUnsignedIn low high word.now → ⊥) }
+{
+    match word.parse::<u64>() {
+        Ok(number) => {
+            if low <= number && number <= high {
+                Some(number)
+            } else {
+                None
+            }
+        }
+        Err(_) => None,
+    }
+}
+
+/// The same, as the parser of an option takes it.
+fn number_of(low: u64, high: u64, word: &str) -> Option<u64>
+    ensures { result ≡ number_of (parser.Unsigned low high) word.now }
+{
+    number_between(low, high, word)
+}
+
+fn is_set(matches: &ArgMatches<'_>, id: &str) -> bool
+    ensures { result ≡ is_set id.now (rows_of (found_of matches.now)) }
+{
+    match word(matches, id) {
+        Some(value) => value == "true",
+        None => false,
+    }
+}
+
+fn mode_in(matches: &ArgMatches<'_>) -> Option<Mode>
+    ensures { result ≡ mode_in (rows_of (found_of matches.now)) }
+{
+    match word(matches, "mode") {
+        Some(mode) => mode_of(mode),
+        None => None,
+    }
+}
+
+fn conflicts_in(matches: &ArgMatches<'_>) -> Option<u32>
+    ensures { result ≡ conflicts_in (rows_of (found_of matches.now)) }
+{
+    let number = number_of(0, 200_000, word(matches, "conflicts")?)?;
+    Some(number as u32)
+}
+
+fn settings_in(matches: &ArgMatches<'_>) -> Option<Settings>
+    ensures { result ≡ settings_in (rows_of (found_of matches.now)) }
+{
+    let mode = mode_in(matches)?;
+    let conflicts = conflicts_in(matches)?;
+    Some(Settings {
+        mode,
+        expose: is_set(matches, "expose"),
+        conflicts,
+    })
+}
+
+fn check_in(alloc: Global, matches: &ArgMatches<'_>) -> Result<Option<Task>, NoMemory>
+    ensures { IfOk result (λ task. task ≡ check_in (rows_of (found_of matches.now))) }
+{
+    let Some(a) = word(matches, "a") else {
+        return Ok(None);
+    };
+    let Some(b) = word(matches, "b") else {
+        return Ok(None);
+    };
+    let Some(settings) = settings_in(matches) else {
+        return Ok(None);
+    };
+    Ok(Some(Task::Check {
+        a: FilePath::from_str(alloc, a)?,
+        b: FilePath::from_str(alloc, b)?,
+        settings,
+    }))
+}
+
+fn graph_in(alloc: Global, matches: &ArgMatches<'_>) -> Result<Option<Task>, NoMemory>
+    ensures { IfOk result (λ task. task ≡ graph_in (rows_of (found_of matches.now))) }
+{
+    let Some(a) = word(matches, "a") else {
+        return Ok(None);
+    };
+    let Some(mode) = mode_in(matches) else {
+        return Ok(None);
+    };
+    Ok(Some(Task::Graph {
+        a: FilePath::from_str(alloc, a)?,
+        mode,
+    }))
+}
+
+/// The word, where there is one, as a list of bytes.
+fn copied(alloc: Global, word: Option<&str>) -> Result<Option<Word>, NoMemory>
+    ensures { IfOk result (λ copy. copy ≡ option_map (λ w. w.now) word.entry) }
+{
+    match word {
+        Some(word) => Ok(Some(Seq::from_vec(word.as_bytes().to_vec(alloc)?))),
+        None => Ok(None),
+    }
+}
+
+fn sim_in(alloc: Global, matches: &ArgMatches<'_>) -> Result<Option<Task>, NoMemory>
+    ensures { IfOk result (λ task. task ≡ sim_in (rows_of (found_of matches.now))) }
+{
+    let Some(a) = word(matches, "a") else {
+        return Ok(None);
+    };
+    let Some(s) = word(matches, "s") else {
+        return Ok(None);
+    };
+    let Some(mode) = mode_in(matches) else {
+        return Ok(None);
+    };
+    Ok(Some(Task::Sim {
+        a: FilePath::from_str(alloc, a)?,
+        s: FilePath::from_str(alloc, s)?,
+        mode,
+        power: copied(alloc, word(matches, "power"))?,
+    }))
+}
+
+fn replay_in(alloc: Global, matches: &ArgMatches<'_>) -> Result<Option<Task>, NoMemory>
+    ensures { IfOk result (λ task. task ≡ replay_in (rows_of (found_of matches.now))) }
+{
+    let Some(a) = word(matches, "a") else {
+        return Ok(None);
+    };
+    let Some(b) = word(matches, "b") else {
+        return Ok(None);
+    };
+    let Some(s) = word(matches, "s") else {
+        return Ok(None);
+    };
+    let Some(mode) = mode_in(matches) else {
+        return Ok(None);
+    };
+    Ok(Some(Task::Replay {
+        a: FilePath::from_str(alloc, a)?,
+        b: FilePath::from_str(alloc, b)?,
+        s: FilePath::from_str(alloc, s)?,
+        mode,
+    }))
+}
+
+fn gen_in(matches: &ArgMatches<'_>) -> Option<Task>
+    ensures { result ≡ gen_in (rows_of (found_of matches.now)) }
+{
+    let seed = number_of(0, u64::MAX, word(matches, "n")?)?;
+    let conflicts = conflicts_in(matches)?;
+    Some(Task::Gen {
+        seed,
+        regroup: is_set(matches, "regroup"),
+        conflicts,
+    })
+}
+
+/// The task of a subcommand's matches.
+fn task_in(alloc: Global, name: &str, matches: &ArgMatches<'_>) -> Result<Option<Task>, NoMemory>
+    ensures { IfOk result (λ task. task ≡ task_in name.now (rows_of (found_of matches.now))) }
+{
+    if name == "check" {
+        check_in(alloc, matches)
+    } else if name == "graph" {
+        graph_in(alloc, matches)
+    } else if name == "sim" {
+        sim_in(alloc, matches)
+    } else if name == "replay" {
+        replay_in(alloc, matches)
+    } else if name == "gen" {
+        Ok(gen_in(matches))
+    } else {
+        Ok(None)
+    }
+}
+
+/// The task of the subcommand that was met.
+fn task_of(alloc: Global, matches: &ArgMatches<'_>) -> Result<Option<Task>, NoMemory>
+    ensures { IfOk result (λ task. task ≡ option_and_then (λ met. task_in met.0 met.1) (subcommand_rows_of matches.now)) }
+{
+    match matches.subcommand() {
+        Some((name, inner)) => task_in(alloc, name, inner),
+        None => Ok(None),
+    }
+}
+
+/// The matches of the words, or why `clap` doesn't take them.
+fn matches_of<'a>(alloc: Global, words: &'a [String]) -> Result<ArgMatches<'a>, WordsError>
+    ensures taken { IfOk result (λ m. (fault_of sec_app (map (λ w. string_bytes w) words.now) ≡ []) × (subcommand_rows_of m ≡ subcommand_of sec_app (map (λ w. string_bytes w) words.now))) }
+    ensures refused { IsErrOf result WordsError.Refused → fault_of sec_app (map (λ w. string_bytes w) words.now) ≡ [] → ⊥ }
+{
+    let command = sec_command(alloc)?;
+    match command.try_get_matches_from(words) {
+        Ok(matches) => Ok(matches),
+        Err(error) => match error.kind() {
+            ErrorKind::OutOfMemory => Err(WordsError::NoMemory),
+            _ => Err(WordsError::Refused),
+        },
+    }
+}
+
+/// The job of the words behind the program's name. `Refused` comes exactly where `clap`'s definition for the command
+/// doesn't take them, or the mode is neither `plain` nor `event`.
+pub fn job(alloc: Global, words: &[String]) -> Result<Task, WordsError>
+    ensures job { IfOk result (λ task. job_of (map (λ w. string_bytes w) words.now) ≡ Some task) }
+    ensures refused { IsErrOf result WordsError.Refused → job_of (map (λ w. string_bytes w) words.now) ≡ None }
+{
+    let matches = matches_of(alloc, words)?;
+    match task_of(alloc, &matches)? {
+        Some(task) => Ok(task),
+        None => Err(WordsError::Refused),
+    }
+}

@@ -1,0 +1,9 @@
+use Rattle.std.proofs.Common.{◌≡◌, take}
+use Rattle.expose_pick.specs.Chosen.{at_places, lefts, rights}
+use Rattle.cut_points.proofs.exposed.exposure_at.Given as goal
+
+abbrev pub invariant-loop-place : goal.invariant-loop-place
+invariant-loop-place l = record {
+  left : l.left ≡ at_places (lefts l.common) (take l.place-index l.places);
+  right : l.right ≡ at_places (rights l.common) (take l.place-index l.places);
+}

@@ -1,0 +1,8 @@
+//! From two circuits to the latches that are exposed: latches that both have under one name, without which no cycle is
+//! left, and none of which could stay.
+#![tactic(auto)]
+
+mod common_latches;
+mod exposed;
+
+pub use exposed::{ExposeError, Exposure, expose};

@@ -1,0 +1,5 @@
+use Rattle.expose_pick.specs.Marks.{AreBits}
+use Rattle.expose_pick.proofs.remaining_cycle.set_all.Given as goal
+
+abbrev pub invariant-loop-i : goal.invariant-loop-i
+invariant-loop-i l = AreBits l.bits l.positions l.i

@@ -1,0 +1,50 @@
+//! The choice of the latches that are exposed.
+
+ghost use Rattle.std.specs.Prelude.{◌≢◌, ◌<◌, All, length, IfOk, OnOk, IfErr};
+ghost use Rattle.std.specs.List.{AllPairs};
+ghost use Rattle.expose_pick.specs.Chosen.{IsFree, IsMinimalChoice, lefts, rights};
+ghost use Rattle.expose_pick.specs.Refused.{Refuses};
+
+use crate::error::PickError;
+use crate::pairs::{LatchPairs, lefts_of, rights_of};
+use crate::remaining_cycle::cycle_left;
+use crate::trial::chosen;
+use latch_graph::LatchGraph;
+use sec_base::{Ids, Side};
+use std::alloc::Global;
+
+/// The places of pairs whose latches are a minimal cut, in increasing order: no cycle is left in either graph without
+/// these latches, and without one of them fewer there is a cycle in one of the graphs. `Unpaired` comes exactly where a
+/// cycle is left without the latches of all pairs, the first graph's before the second's. No latch stands in two pairs.
+pub fn pick(
+    alloc: Global,
+    a: &LatchGraph,
+    b: &LatchGraph,
+    common: &LatchPairs,
+) -> Result<Ids, PickError>
+    requires left { All (λ p. p.left < length a.now.latches) common.now }
+    requires right { All (λ p. p.right < length b.now.latches) common.now }
+    requires left_once { AllPairs (λ p q. p.left ≢ q.left) common.now }
+    requires right_once { AllPairs (λ p q. p.right ≢ q.right) common.now }
+    ensures minimal { IfOk result (IsMinimalChoice a.now b.now (lefts common.now) (rights common.now)) }
+    ensures left_paired { OnOk result (IsFree a.now (lefts common.now)) }
+    ensures right_paired { OnOk result (IsFree b.now (rights common.now)) }
+    ensures unpaired { IfErr result (Refuses a.now b.now (lefts common.now) (rights common.now)) }
+{
+    let left = lefts_of(alloc, common.as_slice())?;
+    let right = rights_of(alloc, common.as_slice())?;
+    if let Some(cycle) = cycle_left(alloc, a, left.as_slice())? {
+        return Err(PickError::Unpaired {
+            side: Side::A,
+            cycle,
+        });
+    }
+    if let Some(cycle) = cycle_left(alloc, b, right.as_slice())? {
+        return Err(PickError::Unpaired {
+            side: Side::B,
+            cycle,
+        });
+    }
+    let places = chosen(alloc, a, b, left.as_slice(), right.as_slice())?;
+    Ok(places)
+}

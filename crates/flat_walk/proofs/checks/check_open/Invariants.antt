@@ -1,6 +1,0 @@
-use Rattle.std.proofs.Common.{◌≡◌, drop}
-use Rattle.flat_walk.specs.Walking.{first_outside}
-use Rattle.flat_walk.proofs.checks.check_open.Given as goal
-
-abbrev pub invariant-loop-name : goal.invariant-loop-name
-invariant-loop-name l = first_outside l.seen l.names ≡ first_outside l.seen (drop l.name-index l.names)

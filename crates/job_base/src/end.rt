@@ -1,0 +1,176 @@
+//! The report of what was found, and its status.
+
+ghost use Rattle.std.specs.Prelude.{◌≡◌, ◌≢◌, [], ◌∷◌, Ok, IfOk, OnOk, option_to_list, ◌++◌};
+ghost use Rattle.std.specs.List.{filter_map};
+ghost use Rattle.sec_base.specs.Outside.{Rose};
+ghost use Rattle.outcome.specs.Report.{report_text};
+ghost use Rattle.job_base.specs.Lines.{finding_text, undecided_text};
+ghost use Rattle.job_base.specs.Written.{status_of, generated_status, proofs_of, IsWritten};
+
+use crate::finding::Finding;
+use crate::status::{Proofs, Status, StatusName};
+use crate::text::{cycle_report, refusal_report, undecided_text, unpaired_report, words_report};
+use outcome::{Outcome, PairResult, PairResults, Settings, Verdict, report};
+use pair_decide::Proof;
+use pair_runs::Differences;
+use replay_report::replay_report;
+use sec_base::{NoMemory, Side, Sink, Text, Word};
+use std::alloc::Global;
+
+fn verdict_status(verdict: &Verdict) -> StatusName
+    ensures { result ≡ Rattle.job_base.specs.Written.verdict_status verdict.now }
+{
+    match verdict {
+        Verdict::Equal => StatusName::Equal,
+        Verdict::Different(_) => StatusName::Different,
+        Verdict::NotShown(_) => StatusName::NotShown,
+        Verdict::Limit(_) => StatusName::Limit,
+    }
+}
+
+/// Whether there are differences, as a status.
+#[tactic(auto, using(crate::proofs::Replays::none_status, crate::proofs::Replays::some_status))]
+fn replay_status(differences: &Differences) -> StatusName
+    ensures { result ≡ Rattle.job_base.specs.Written.replay_status differences.now }
+{
+    if differences.len() == 0 {
+        return StatusName::Equal;
+    }
+    StatusName::Different
+}
+
+/// The status of a verdict on a generated pair: an equal one is done.
+fn generated_status(verdict: &Verdict) -> StatusName
+    ensures { result ≡ generated_status verdict.now }
+{
+    match verdict {
+        Verdict::Equal => StatusName::Done,
+        _ => verdict_status(verdict),
+    }
+}
+
+fn status_of(finding: &Finding) -> StatusName
+    ensures { result ≡ status_of finding.now }
+{
+    match finding {
+        Finding::Words => StatusName::Words,
+        Finding::Refused(_) => StatusName::Refused,
+        Finding::Cyclic(_, _) | Finding::Unpaired(_, _) => StatusName::Cyclic,
+        Finding::Checked(outcome, _) => verdict_status(&outcome.verdict),
+        Finding::Done(_) => StatusName::Done,
+        Finding::Generated(outcome, _) => generated_status(&outcome.verdict),
+        Finding::Replayed(differences) => replay_status(differences),
+        Finding::Undecided(_, _, _) => StatusName::Limit,
+    }
+}
+
+/// Puts the pair's proof behind the others, where it has one.
+fn keep_proof(proofs: &mut Proofs, pair: PairResult) -> Result<(), NoMemory>
+    ensures { OnOk result (proofs.new ≡ proofs.old ++ option_to_list pair.proof) }
+{
+    let PairResult { proof, .. } = pair;
+    match proof {
+        Some(proof) => proofs.push(proof),
+        None => Ok(()),
+    }
+}
+
+/// The proofs of the pairs that met the limit, in their order.
+fn proofs_in(alloc: Global, pairs: PairResults) -> Result<Proofs, NoMemory>
+    ensures { IfOk result (λ proofs. proofs ≡ filter_map (λ pair. pair.proof) pairs) }
+{
+    let mut proofs = Proofs::new(alloc);
+    for pair in pairs.into_vec() {
+        keep_proof(&mut proofs, pair)?;
+    }
+    Ok(proofs)
+}
+
+/// The proofs of the pairs of an outcome.
+fn proofs_of(alloc: Global, outcome: Outcome) -> Result<Proofs, NoMemory>
+    ensures { IfOk result (λ proofs. proofs ≡ filter_map (λ pair. pair.proof) outcome.pairs) }
+{
+    proofs_in(alloc, outcome.pairs)
+}
+
+/// The report of a comparison, and the proofs of the pairs that met the limit.
+fn comparison_report(
+    alloc: Global,
+    outcome: Outcome,
+    settings: &Settings,
+) -> Result<(Text, Proofs), NoMemory>
+    ensures text { IfOk result (λ made. made.0 ≡ report_text settings.now.conflicts outcome) }
+    ensures proofs { IfOk result (λ made. made.1 ≡ filter_map (λ pair. pair.proof) outcome.pairs) }
+{
+    let text = report(alloc, &outcome, settings)?;
+    let proofs = proofs_of(alloc, outcome)?;
+    Ok((text, proofs))
+}
+
+/// The report, if it could be made, of a finding without proofs.
+fn without_proofs(alloc: Global, made: Result<Text, NoMemory>) -> Result<(Text, Proofs), NoMemory>
+    ensures text { IfOk result (λ r. made ≡ Ok r.0) }
+    ensures proofs { IfOk result (λ r. r.1 ≡ []) }
+{
+    match made {
+        Ok(text) => Ok((text, Proofs::new(alloc))),
+        Err(NoMemory) => Err(NoMemory),
+    }
+}
+
+/// The report of a latch of the circuit whose query met the limit, and the proof of that.
+fn undecided_report(
+    alloc: Global,
+    side: Side,
+    name: &Word,
+    proof: Proof,
+) -> Result<(Text, Proofs), NoMemory>
+    ensures text { IfOk result (λ made. made.0 ≡ undecided_text side name.now) }
+    ensures proofs { IfOk result (λ made. made.1 ≡ proof ∷ []) }
+{
+    let mut proofs = Proofs::new(alloc);
+    proofs.push(proof)?;
+    let text = undecided_text(alloc, side, name)?;
+    Ok((text, proofs))
+}
+
+/// The report of what was found, and the proofs of the queries that met the limit, in the order in which they were decided.
+fn report_of(alloc: Global, finding: Finding) -> Result<(Text, Proofs), NoMemory>
+    ensures text { IfOk result (λ made. made.0 ≡ finding_text finding) }
+    ensures proofs { IfOk result (λ made. made.1 ≡ proofs_of finding) }
+{
+    match finding {
+        Finding::Words => without_proofs(alloc, words_report(alloc)),
+        Finding::Refused(refusal) => without_proofs(alloc, refusal_report(alloc, &refusal)),
+        Finding::Cyclic(side, names) => without_proofs(alloc, cycle_report(alloc, side, &names)),
+        Finding::Unpaired(side, names) => {
+            without_proofs(alloc, unpaired_report(alloc, side, &names))
+        }
+        Finding::Checked(outcome, settings) => comparison_report(alloc, outcome, &settings),
+        Finding::Done(text) => Ok((text, Proofs::new(alloc))),
+        Finding::Generated(outcome, text) => Ok((text, proofs_of(alloc, outcome)?)),
+        Finding::Replayed(differences) => {
+            without_proofs(alloc, replay_report(alloc, &differences))
+        }
+        Finding::Undecided(side, name, proof) => undecided_report(alloc, side, &name, proof),
+    }
+}
+
+/// Writes the report of what was found, by one write.
+pub fn finish<W: Sink>(alloc: Global, finding: Finding, out: &mut W) -> Status
+    ensures written { IsWritten (W.taken out.old) (W.taken out.new) finding result }
+    ensures fault { result.name ≡ StatusName.WriteFault → Rose (W.faults out.old) (W.faults out.new) }
+    ensures accepted { W.accepts out.old (finding_text finding) → result.name ≢ StatusName.WriteFault }
+{
+    let name = status_of(&finding);
+    let Ok((text, proofs)) = report_of(alloc, finding) else {
+        return Status::bare(alloc, StatusName::NoMemory);
+    };
+    match out.write(text.as_slice()) {
+        Ok(()) => Status { name, proofs },
+        Err(_) => Status {
+            name: StatusName::WriteFault,
+            proofs,
+        },
+    }
+}

@@ -1,0 +1,227 @@
+//! The text that a run writes.
+
+ghost use Rattle.std.specs.Prelude.{◌≡◌, [], ◌∷◌, ◌++◌, codes, OnOk, IfOk};
+ghost use Rattle.std.specs.Fmt.{decimal};
+ghost use Rattle.sec_base.specs.Texts.{names_text};
+ghost use Rattle.job_base.specs.Lines.{side_word, file_word, kind_text, line_fault_text, design_fault_text, misfit_text, refusal_text, words_text, cycle_text, undecided_text, unpaired_text};
+
+use crate::finding::{File, LineFault, Refusal};
+use blif_read::ReadKind;
+use elaborate::FlatError;
+use sec_base::{NoMemory, Seq, Side, Text, Word, Words, put, put_names, put_number};
+use sim_report::Misfit;
+use std::alloc::Global;
+
+/// Puts the word behind what stands before it in the line.
+fn put_behind(text: &mut Vec<u8>, front: &[u8], word: &[u8]) -> Result<(), NoMemory>
+    ensures { OnOk result (text.new.items ≡ text.old.items ++ (front.now ++ word.now)) }
+{
+    put(text, front)?;
+    put(text, word)
+}
+
+/// Puts the line of the word behind what stands before it.
+fn put_line(text: &mut Vec<u8>, front: &[u8], word: &[u8]) -> Result<(), NoMemory>
+    ensures { OnOk result (text.new.items ≡ text.old.items ++ (front.now ++ word.now ++ 10 ∷ [])) }
+{
+    put_behind(text, front, word)?;
+    put(text, b"\n")
+}
+
+fn side_word(side: Side) -> &'static str
+    ensures { result.now ≡ side_word side }
+{
+    match side {
+        Side::A => "A",
+        Side::B => "B",
+    }
+}
+
+fn put_kind(text: &mut Vec<u8>, kind: &ReadKind) -> Result<(), NoMemory>
+    ensures { OnOk result (text.new.items ≡ text.old.items ++ kind_text kind.now) }
+{
+    match kind {
+        ReadKind::Unsupported(word) => put_behind(text, b"Unsupported ", word.as_slice()),
+        ReadKind::UnknownWord => put(text, b"UnknownWord"),
+        ReadKind::NoModel => put(text, b"NoModel"),
+        ReadKind::BadCount => put(text, b"BadCount"),
+        ReadKind::BadRow => put(text, b"BadRow"),
+        ReadKind::MixedCover => put(text, b"MixedCover"),
+        ReadKind::BadLatchType => put(text, b"BadLatchType"),
+        ReadKind::BadInit => put(text, b"BadInit"),
+        ReadKind::BadPair => put(text, b"BadPair"),
+        ReadKind::DuplicateModel => put(text, b"DuplicateModel"),
+        ReadKind::DuplicatePort => put(text, b"DuplicatePort"),
+        ReadKind::NameTooLong => put(text, b"NameTooLong"),
+        ReadKind::StrayRow => put(text, b"StrayRow"),
+        ReadKind::ControlByte => put(text, b"ControlByte"),
+    }
+}
+
+fn put_side(text: &mut Vec<u8>, side: Side) -> Result<(), NoMemory>
+    ensures { OnOk result (text.new.items ≡ text.old.items ++ codes "refused " ++ side_word side) }
+{
+    put(text, b"refused ")?;
+    put(text, side_word(side).as_bytes())
+}
+
+fn file_word(file: File) -> &'static str
+    ensures { result.now ≡ file_word file }
+{
+    match file {
+        File::A => "A",
+        File::B => "B",
+        File::S => "S",
+    }
+}
+
+fn put_file(text: &mut Vec<u8>, file: File) -> Result<(), NoMemory>
+    ensures { OnOk result (text.new.items ≡ text.old.items ++ codes "refused " ++ file_word file) }
+{
+    put(text, b"refused ")?;
+    put(text, file_word(file).as_bytes())
+}
+
+fn put_line_fault(text: &mut Vec<u8>, fault: &LineFault) -> Result<(), NoMemory>
+    ensures { OnOk result (text.new.items ≡ text.old.items ++ line_fault_text fault.now) }
+{
+    match fault {
+        LineFault::Circuit(kind) => put_kind(text, kind),
+        LineFault::BadHeader => put(text, b"BadHeader"),
+        LineFault::BadRow => put(text, b"BadRow"),
+    }
+}
+
+fn put_fault(
+    alloc: Global,
+    text: &mut Vec<u8>,
+    file: File,
+    line: u32,
+    fault: &LineFault,
+) -> Result<(), NoMemory>
+    ensures { OnOk result (text.new.items ≡ text.old.items ++ (codes "refused " ++ file_word file ++ codes " line " ++ decimal line ++ 32 ∷ [] ++ line_fault_text fault.now ++ 10 ∷ [])) }
+{
+    put_file(text, file)?;
+    put(text, b" line ")?;
+    put_number(alloc, text, u64::from(line))?;
+    put(text, b" ")?;
+    put_line_fault(text, fault)?;
+    put(text, b"\n")
+}
+
+fn put_design_fault(text: &mut Vec<u8>, fault: &FlatError) -> Result<(), NoMemory>
+    ensures { OnOk result (text.new.items ≡ text.old.items ++ design_fault_text fault.now) }
+{
+    match fault {
+        FlatError::UnknownModel(name) => put_behind(text, b"UnknownModel ", name.as_slice()),
+        FlatError::Recursive(name) => put_behind(text, b"Recursive ", name.as_slice()),
+        FlatError::UnknownFormal(name) => put_behind(text, b"UnknownFormal ", name.as_slice()),
+        FlatError::FormalTwice(name) => put_behind(text, b"FormalTwice ", name.as_slice()),
+        FlatError::OpenInput(name) => put_behind(text, b"OpenInput ", name.as_slice()),
+        FlatError::TwoDrivers(name) => put_behind(text, b"TwoDrivers ", name.as_slice()),
+        FlatError::Undriven(name) => put_behind(text, b"Undriven ", name.as_slice()),
+        FlatError::TwoClocks(name) => put_behind(text, b"TwoClocks ", name.as_slice()),
+        FlatError::TwoEdges(name) => put_behind(text, b"TwoEdges ", name.as_slice()),
+        FlatError::GatedClock(name) => put_behind(text, b"GatedClock ", name.as_slice()),
+        FlatError::ClockRead(name) => put_behind(text, b"ClockRead ", name.as_slice()),
+        FlatError::Loop(names) => {
+            put(text, b"Loop")?;
+            put_names(text, names)
+        }
+        FlatError::TooDeep(name) => put_behind(text, b"TooDeep ", name.as_slice()),
+        FlatError::TooMany => put(text, b"TooMany"),
+        FlatError::LongName => put(text, b"LongName"),
+        FlatError::NoMemory => put(text, b"NoMemory"),
+    }
+}
+
+fn put_misfit(text: &mut Vec<u8>, misfit: &Misfit) -> Result<(), NoMemory>
+    ensures { OnOk result (text.new.items ≡ text.old.items ++ misfit_text misfit.now) }
+{
+    match misfit {
+        Misfit::Unknown(name) => put_line(text, b"refused S Unknown ", name.as_slice()),
+        Misfit::Missing(name) => put_line(text, b"refused S Missing ", name.as_slice()),
+        Misfit::Power => put(text, b"refused Power\n"),
+    }
+}
+
+fn put_refusal(alloc: Global, text: &mut Vec<u8>, refusal: &Refusal) -> Result<(), NoMemory>
+    ensures { OnOk result (text.new.items ≡ text.old.items ++ refusal_text refusal.now) }
+{
+    match refusal {
+        Refusal::NotBuilt => put(text, b"refused NotYet\n"),
+        Refusal::TooLong(file) => {
+            put_file(text, *file)?;
+            put(text, b" TooLong\n")
+        }
+        Refusal::Text(file, line, fault) => put_fault(alloc, text, *file, *line, fault),
+        Refusal::Design(file, fault) => {
+            put_file(text, *file)?;
+            put(text, b" ")?;
+            put_design_fault(text, fault)?;
+            put(text, b"\n")
+        }
+        Refusal::Interface(name) => put_line(text, b"refused Interface ", name.as_slice()),
+        Refusal::TooLarge(side) => {
+            put_side(text, *side)?;
+            put(text, b" TooLarge\n")
+        }
+        Refusal::Misfit(misfit) => put_misfit(text, misfit),
+    }
+}
+
+/// The report that the words are no job.
+pub fn words_report(alloc: Global) -> Result<Text, NoMemory>
+    ensures { IfOk result (λ text. text ≡ words_text) }
+{
+    let mut text = Vec::new(alloc);
+    put(&mut text, b"words refused\n")?;
+    Ok(Seq::from_vec(text))
+}
+
+/// The report of a refusal.
+pub fn refusal_report(alloc: Global, refusal: &Refusal) -> Result<Text, NoMemory>
+    ensures { IfOk result (λ text. text ≡ refusal_text refusal.now) }
+{
+    let mut text = Vec::new(alloc);
+    put_refusal(alloc, &mut text, refusal)?;
+    Ok(Seq::from_vec(text))
+}
+
+/// Puts the line of the latches of a cycle of a side's latch graph behind what stands before the side.
+fn put_cycle(text: &mut Vec<u8>, front: &[u8], side: Side, names: &Words) -> Result<(), NoMemory>
+    ensures { OnOk result (text.new.items ≡ text.old.items ++ (front.now ++ side_word side ++ names_text names.now ++ 10 ∷ [])) }
+{
+    put_behind(text, front, side_word(side).as_bytes())?;
+    put_names(text, names)?;
+    put(text, b"\n")
+}
+
+/// The report of a cycle of a side's latch graph.
+pub fn cycle_report(alloc: Global, side: Side, names: &Words) -> Result<Text, NoMemory>
+    ensures { IfOk result (λ text. text ≡ cycle_text side names.now) }
+{
+    let mut text = Vec::new(alloc);
+    put_cycle(&mut text, b"cyclic ", side, names)?;
+    Ok(Seq::from_vec(text))
+}
+
+/// The report of a cycle of a side's latch graph that no latch breaks that both circuits name.
+pub fn unpaired_report(alloc: Global, side: Side, names: &Words) -> Result<Text, NoMemory>
+    ensures { IfOk result (λ text. text ≡ unpaired_text side names.now) }
+{
+    let mut text = Vec::new(alloc);
+    put_cycle(&mut text, b"unpaired ", side, names)?;
+    Ok(Seq::from_vec(text))
+}
+
+/// The report that it isn't found out whether the circuit's latch of this name has a load enable.
+pub fn undecided_text(alloc: Global, side: Side, name: &Word) -> Result<Text, NoMemory>
+    ensures { IfOk result (λ text. text ≡ undecided_text side name.now) }
+{
+    let mut text = Vec::new(alloc);
+    put_behind(&mut text, b"limit recover ", side_word(side).as_bytes())?;
+    put_behind(&mut text, b":", name.as_slice())?;
+    put(&mut text, b" conflicts 20000\n")?;
+    Ok(Seq::from_vec(text))
+}

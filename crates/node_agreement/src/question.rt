@@ -1,0 +1,147 @@
+//! Whether two literals of a small graph agree under all assignments: by a table, or by a search.
+
+ghost use Rattle.std.specs.Prelude.{◌≡◌, ◌*◌, ◌<◌, ◌≤◌, length, IfOk};
+ghost use Rattle.root_classes.specs.Agreeing.{Agree};
+ghost use Rattle.root_classes.specs.Inputs.{inputs_of};
+ghost use Rattle.pair_decide.specs.declared.query.SameBy.{SameBy};
+ghost use Rattle.pair_decide.specs.declared.query.Decision.TheVariants as answer;
+ghost use Rattle.node_agreement.specs.declared.question.Cost.{Cost};
+ghost use Rattle.node_agreement.specs.declared.question.Tried.TheVariants as tried;
+
+use crate::table::{ask_table, is_light};
+use aig::{Aig, Lit};
+use pair_decide::{Decision, Query, SameBy, decide};
+use root_classes::variables;
+use sec_base::{Bits, Ids, NoMemory};
+use std::alloc::Global;
+
+/// The most variables of a query that needs no search.
+const NARROW: usize = 16;
+
+/// The most conflicts of a search that a table may follow.
+const SHORT: u32 = 100;
+
+/// What a proof took.
+#[derive(Clone, Copy, Debug)]
+pub(crate) struct Cost {
+    /// The conflicts of a search.
+    pub conflicts: u32,
+    /// How many conflicts a table was worth.
+    pub table: u32,
+}
+
+/// What came of an attempt over a small graph.
+#[derive(Drop)]
+pub(crate) enum Tried {
+    /// They agree, and that took so much.
+    Same(Cost),
+    /// They differ where these variables of the small graph have these bits.
+    Differs(Ids, Bits),
+    /// The limit of conflicts was met.
+    Limit,
+    /// It wasn't tried.
+    Open,
+}
+
+/// Tries to prove that two literals agree over all variables of the graph. Where a table of up to 24 variables takes no longer than so
+/// many conflicts, it follows a short search.
+pub(crate) fn ask(
+    alloc: Global,
+    graph: &Aig,
+    left: Lit,
+    right: Lit,
+    conflicts: u32,
+) -> Result<Tried, NoMemory>
+    requires left { left.0 < 2 * length graph.now }
+    requires right { right.0 < 2 * length graph.now }
+    requires conflicts { conflicts ≤ 200000 }
+    ensures { IfOk result (λ t. (cost : Cost) → t ≡ tried.Same cost → Agree graph.now left.0 right.0) }
+{
+    let vars = variables(alloc, graph)?;
+    let light = is_light(graph.size(), vars.len(), conflicts);
+    let most = most_conflicts(conflicts, light);
+    match ask_search(alloc, graph, left, right, vars, most)? {
+        Tried::Limit => ask_further(alloc, graph, left, right, light),
+        other => Ok(other),
+    }
+}
+
+/// The most conflicts of the search.
+fn most_conflicts(conflicts: u32, light: bool) -> u32
+    ensures { result ≤ conflicts }
+{
+    if light {
+        conflicts.min(SHORT)
+    } else {
+        conflicts
+    }
+}
+
+/// Tries the table, if it is a light one.
+fn ask_further(
+    alloc: Global,
+    graph: &Aig,
+    left: Lit,
+    right: Lit,
+    light: bool,
+) -> Result<Tried, NoMemory>
+    requires left { left.0 < 2 * length graph.now }
+    requires right { right.0 < 2 * length graph.now }
+    ensures { IfOk result (λ t. (cost : Cost) → t ≡ tried.Same cost → Agree graph.now left.0 right.0) }
+{
+    if !light {
+        return Ok(Tried::Limit);
+    }
+    ask_table(alloc, graph, left, right)
+}
+
+/// Tries it by a table where the variables are at most 16, and else by a search, if that may have conflicts.
+fn ask_search(
+    alloc: Global,
+    graph: &Aig,
+    left: Lit,
+    right: Lit,
+    vars: Ids,
+    conflicts: u32,
+) -> Result<Tried, NoMemory>
+    requires left { left.0 < 2 * length graph.now }
+    requires right { right.0 < 2 * length graph.now }
+    requires vars { vars ≡ inputs_of graph.now }
+    requires conflicts { conflicts ≤ 200000 }
+    ensures { IfOk result (λ t. (cost : Cost) → t ≡ tried.Same cost → Agree graph.now left.0 right.0) }
+{
+    graph.keeps();
+    if vars.len() > NARROW && conflicts == 0 {
+        return Ok(Tried::Open);
+    }
+    let query = Query {
+        left,
+        right,
+        care: Lit(1),
+        vars,
+    };
+    let decision = decide(alloc, graph, &query, conflicts)?;
+    Ok(outcome_of(decision, query.vars))
+}
+
+fn outcome_of(decision: Decision, vars: Ids) -> Tried
+    ensures { (cost : Cost) → result ≡ tried.Same cost → (why : SameBy) × (decision ≡ answer.Same why) }
+{
+    match decision {
+        Decision::Same(why) => Tried::Same(spent(&why)),
+        Decision::Differs(bits) => Tried::Differs(vars, bits),
+        Decision::Limit(_) => Tried::Limit,
+    }
+}
+
+/// What the answer took.
+fn spent(why: &SameBy) -> Cost {
+    let conflicts = match why {
+        SameBy::Refuted(proof) => proof.log.len().min(200_000) as u32,
+        _ => 0,
+    };
+    Cost {
+        conflicts,
+        table: 0,
+    }
+}

@@ -1,0 +1,88 @@
+//! Whether two literals of a small graph agree, by a table of up to 24 variables.
+
+ghost use Rattle.std.specs.Prelude.{◌≡◌, ◌*◌, ◌<◌, ◌≤◌, None, length, IfOk};
+ghost use Rattle.root_classes.specs.Agreeing.{Agree};
+ghost use Rattle.root_classes.specs.Inputs.{inputs_of};
+ghost use Rattle.node_agreement.specs.declared.question.Cost.{Cost};
+ghost use Rattle.node_agreement.specs.declared.question.Tried.TheVariants as tried;
+
+use crate::question::{Cost, Tried};
+use aig::{Aig, Lit};
+use lane_eval::table_differs;
+use root_classes::variables;
+use sec_base::{Bits, Ids, NoMemory};
+use std::alloc::Global;
+
+/// The most variables of a query that needs no search.
+const NARROW: usize = 16;
+
+/// The most variables of a table.
+const WIDE: usize = 24;
+
+/// Whether a table over so many nodes and variables, too many for a query without a search, takes no longer than so many conflicts, roughly.
+pub(crate) fn is_light(nodes: u32, vars: usize, conflicts: u32) -> bool {
+    NARROW < vars && vars <= WIDE && table_worth(nodes, vars) <= conflicts
+}
+
+/// How many conflicts take the time of a table over so many nodes and variables, roughly.
+fn table_worth(nodes: u32, vars: usize) -> u32 {
+    let assignments = 1u64 << (vars.min(WIDE) as u32);
+    (u64::from(nodes).saturating_mul(assignments) >> 23).min(200_000) as u32
+}
+
+/// Tries all assignments of the graph's variables, if these are at most 24.
+pub(crate) fn ask_table(
+    alloc: Global,
+    graph: &Aig,
+    left: Lit,
+    right: Lit,
+) -> Result<Tried, NoMemory>
+    requires left { left.0 < 2 * length graph.now }
+    requires right { right.0 < 2 * length graph.now }
+    ensures { IfOk result (λ t. (cost : Cost) → t ≡ tried.Same cost → Agree graph.now left.0 right.0) }
+{
+    let vars = variables(alloc, graph)?;
+    if vars.len() > WIDE {
+        return Ok(Tried::Open);
+    }
+    match differing(alloc, graph, left, right, &vars)? {
+        None => Ok(Tried::Same(Cost {
+            conflicts: 0,
+            table: table_worth(graph.size(), vars.len()),
+        })),
+        Some(number) => {
+            let bits = low_bits(alloc, vars.len(), number)?;
+            Ok(Tried::Differs(vars, bits))
+        }
+    }
+}
+
+/// The number of an assignment of these variables, which are all of the graph's, under which the literals differ.
+fn differing(
+    alloc: Global,
+    graph: &Aig,
+    left: Lit,
+    right: Lit,
+    vars: &Ids,
+) -> Result<Option<u32>, NoMemory>
+    requires left { left.0 < 2 * length graph.now }
+    requires right { right.0 < 2 * length graph.now }
+    requires vars { vars.now ≡ inputs_of graph.now }
+    requires few { length vars.now ≤ 24 }
+    ensures { IfOk result (λ found. found ≡ None → Agree graph.now left.0 right.0) }
+{
+    graph.keeps();
+    let found = table_differs(alloc, graph, left, right, Lit(1), vars)?;
+    Ok(found)
+}
+
+/// So many of the number's low bits, the lowest first.
+fn low_bits(alloc: Global, count: usize, number: u32) -> Result<Bits, NoMemory> {
+    let mut bits = Bits::new(alloc);
+    let mut rest = number;
+    for _k in 0..count {
+        bits.push(rest % 2 == 1)?;
+        rest /= 2;
+    }
+    Ok(bits)
+}

@@ -1,0 +1,11 @@
+//! What a comparison finds, and its report as text.
+#![tactic(auto)]
+
+mod text;
+mod verdict;
+
+pub use pair_decide::Proof;
+pub use sec_base::Settings;
+pub use text::report;
+pub use verdict::{LimitAt, Outcome, PairResult, PairResults, Verdict, Why};
+pub use witness_report::{PairName, Stimulus, Witness};

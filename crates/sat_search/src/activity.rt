@@ -1,0 +1,327 @@
+//! Which variable is decided next: no contract speaks of it but that it is free.
+
+ghost use Rattle.std.specs.Prelude.{◌-◌, ◌<◌, ◌≤◌, ◌^◌, length};
+ghost use Rattle.sat_search.specs.Answers.{IsChoice, IsFreeOne, IsFirstFree};
+
+use crate::lesson::Learnt;
+use clause_watch::Trail;
+use proof_check::Literal;
+use sec_base::NoMemory;
+use std::alloc::Global;
+
+/// How much more a conflict counts than the one before it.
+const GROWTH: f64 = 1.05;
+
+/// Scores are made smaller where the next one would pass this.
+const TOP: f64 = 1e100;
+
+/// How many levels a heap has at most.
+const LEVELS: u32 = 64;
+
+/// How many conflicts come before the first restart.
+const UNIT: u32 = 1000;
+
+/// Scores of variables by the conflicts in which they took part, the late ones counting most, and
+/// the last sign of each. Variable k + 1 has number k here.
+#[derive(Drop)]
+pub(crate) struct Activity {
+    scores: Vec<f64>,
+    signs: Vec<bool>,
+    /// All variables. The first ones are a heap by their scores, and each free one is among them.
+    heap: Vec<u32>,
+    /// Where each variable stands there.
+    places: Vec<usize>,
+    /// How many are in the heap.
+    size: usize,
+    step: f64,
+    /// How many conflicts are left before the next restart.
+    left: u32,
+    /// Which restart that is, and for how many units of conflicts it waits (Luby, Sinclair and
+    /// Zuckerman; by Knuth's rule).
+    restart: u32,
+    units: u32,
+}
+
+impl Activity {
+    /// All variables alike.
+    pub(crate) fn new(alloc: Global, variables: u32) -> Result<Activity, NoMemory> {
+        let mut scores = Vec::new(alloc);
+        let mut signs = Vec::new(alloc);
+        let mut heap = Vec::new(alloc);
+        let mut places = Vec::new(alloc);
+        for index in 0..variables {
+            scores.push(0.0)?;
+            signs.push(false)?;
+            heap.push(index)?;
+            places.push(index as usize)?;
+        }
+        Ok(Activity {
+            scores,
+            signs,
+            heap,
+            places,
+            size: variables as usize,
+            step: 1.0,
+            left: UNIT,
+            restart: 1,
+            units: 1,
+        })
+    }
+
+    /// The free variable of the greatest score, with its last sign.
+    pub(crate) fn choose(&mut self, trail: &Trail) -> Option<Literal>
+        ensures { IsChoice trail.now result }
+    {
+        if let Some(variable) = self.take_free(trail) {
+            return Some(Literal::new(variable, self.sign(variable)));
+        }
+        match first_free(trail) {
+            Some(variable) => Some(Literal::new(variable, self.sign(variable))),
+            None => None,
+        }
+    }
+
+    /// Takes variables from the heap up to a free one.
+    fn take_free(&mut self, trail: &Trail) -> Option<u32>
+        ensures free { IsFreeOne trail.now result }
+        ensures small { trail.now.variables ≤ 2 ^ 30 }
+    {
+        let variables = trail.variables();
+        for _turn in 0..variables {
+            if self.size == 0 {
+                return None;
+            }
+            let index = self.take_top();
+            if index < variables {
+                if let None = trail.place(index + 1) {
+                    return Some(index + 1);
+                }
+            }
+        }
+        None
+    }
+
+    /// Counts the conflict for the variables of the learnt clause and of its chain, and keeps the
+    /// signs of the entries that will be cut.
+    pub(crate) fn learn(&mut self, trail: &Trail, learnt: &Learnt)
+        requires { learnt.now.keep ≤ length trail.now.entries }
+    {
+        for literal in learnt.clause.as_slice() {
+            self.bump(literal.variable());
+        }
+        for step in learnt.chain.steps.as_slice() {
+            self.bump(step.pivot);
+        }
+        self.step = self.step * GROWTH;
+        if self.step > TOP {
+            self.shrink();
+        }
+        self.release(trail, learnt.keep);
+    }
+
+    /// Takes back the variables of the entries from a place on, which will be cut, and keeps their
+    /// signs.
+    pub(crate) fn release(&mut self, trail: &Trail, keep: u32)
+        requires { keep ≤ length trail.now.entries }
+    {
+        for place in keep..trail.len() {
+            let literal = trail.entry(place).literal;
+            self.keep_sign(literal);
+            self.put_back(literal.variable());
+        }
+    }
+
+    /// Counts a conflict, and tells whether it is time to begin again.
+    pub(crate) fn is_due(&mut self) -> bool {
+        if self.left > 1 {
+            self.left -= 1;
+            return false;
+        }
+        if lowest_bit(self.restart) == self.units {
+            self.restart = self.restart.wrapping_add(1);
+            self.units = 1;
+        } else {
+            self.units = self.units.wrapping_mul(2);
+        }
+        self.left = self.units.wrapping_mul(UNIT);
+        true
+    }
+
+    /// Makes all scores smaller alike.
+    fn shrink(&mut self) {
+        for score in self.scores.iter_mut() {
+            *score = *score / TOP;
+        }
+        self.step = self.step / TOP;
+    }
+
+    fn bump(&mut self, variable: u32) {
+        let index = variable as usize;
+        if 0 < index && index <= self.scores.len() {
+            self.scores[index - 1] = self.scores[index - 1] + self.step;
+            let place = self.place(index - 1);
+            if place < self.size {
+                self.rise(place);
+            }
+        }
+    }
+
+    fn keep_sign(&mut self, literal: Literal) {
+        let index = literal.variable() as usize;
+        if index <= self.signs.len() {
+            self.signs[index - 1] = literal.is_positive();
+        }
+    }
+
+    /// Puts a variable into the heap, where it isn't there.
+    fn put_back(&mut self, variable: u32)
+        requires { 0 < variable }
+    {
+        let place = self.place(variable as usize - 1);
+        let last = self.size;
+        if last <= place && last < self.heap.len() {
+            self.exchange(place, last);
+            self.size = last + 1;
+            self.rise(last);
+        }
+    }
+
+    /// Takes the first variable from the heap.
+    fn take_top(&mut self) -> u32 {
+        let top = self.at(0);
+        if 0 < self.size {
+            let last = self.size - 1;
+            self.exchange(0, last);
+            self.size = last;
+            self.sink();
+        }
+        top
+    }
+
+    /// Lets the variable at a place rise to where none of a lower score stands above it.
+    fn rise(&mut self, from: usize) {
+        let index = self.at(from);
+        let score = self.score(index);
+        let mut place = from;
+        for _level in 0..LEVELS {
+            if place == 0 {
+                break;
+            }
+            let above = (place - 1) / 2;
+            let parent = self.at(above);
+            if self.score(parent) >= score {
+                break;
+            }
+            self.set(place, parent);
+            place = above;
+        }
+        self.set(place, index);
+    }
+
+    /// Lets the first variable sink to where none of a greater score stands below it.
+    fn sink(&mut self) {
+        let index = self.at(0);
+        let score = self.score(index);
+        let mut place = 0;
+        for _level in 0..LEVELS {
+            if place >= self.size / 2 {
+                break;
+            }
+            let below = self.greater_child(place);
+            let child = self.at(below);
+            if self.score(child) <= score {
+                break;
+            }
+            self.set(place, child);
+            place = below;
+        }
+        self.set(place, index);
+    }
+
+    /// That of the two places below this one which has the greater score.
+    fn greater_child(&self, place: usize) -> usize
+        requires { place < 2 ^ 63 - 1 }
+    {
+        let left = 2 * place + 1;
+        if left + 1 < self.size && self.is_before(left + 1, left) {
+            left + 1
+        } else {
+            left
+        }
+    }
+
+    /// Whether the variable at the first place may stand above the other.
+    fn is_before(&self, first: usize, second: usize) -> bool {
+        self.score(self.at(first)) >= self.score(self.at(second))
+    }
+
+    /// Exchanges the variables at two places.
+    fn exchange(&mut self, first: usize, second: usize) {
+        let left = self.at(first);
+        let right = self.at(second);
+        self.set(first, right);
+        self.set(second, left);
+    }
+
+    fn set(&mut self, place: usize, index: u32) {
+        if place < self.heap.len() {
+            self.heap[place] = index;
+        }
+        if (index as usize) < self.places.len() {
+            self.places[index as usize] = place;
+        }
+    }
+
+    fn at(&self, place: usize) -> u32 {
+        match self.heap.get(place) {
+            Some(index) => *index,
+            None => 0,
+        }
+    }
+
+    fn place(&self, index: usize) -> usize {
+        match self.places.get(index) {
+            Some(place) => *place,
+            None => 0,
+        }
+    }
+
+    fn score(&self, index: u32) -> f64 {
+        match self.scores.get(index as usize) {
+            Some(score) => *score,
+            None => 0.0,
+        }
+    }
+
+    fn sign(&self, variable: u32) -> bool
+        requires { 0 < variable }
+    {
+        match self.signs.get(variable as usize - 1) {
+            Some(sign) => *sign,
+            None => false,
+        }
+    }
+}
+
+/// The lowest bit of a number that is set.
+fn lowest_bit(number: u32) -> u32 {
+    if number == 0 {
+        0
+    } else {
+        number ^ (number & (number - 1))
+    }
+}
+
+/// The first free variable.
+fn first_free(trail: &Trail) -> Option<u32>
+    ensures free { IsFirstFree trail.now result }
+    ensures small { trail.now.variables ≤ 2 ^ 30 }
+{
+    for index in 0..trail.variables() {
+        match trail.place(index + 1) {
+            Some(_) => {}
+            None => return Some(index + 1),
+        }
+    }
+    None
+}

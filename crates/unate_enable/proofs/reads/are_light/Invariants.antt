@@ -1,0 +1,10 @@
+use Rattle.std.proofs.Common.{◌≡◌, ◌≤◌, take}
+use Rattle.std.specs.List.{sum_by}
+use Rattle.unate_enable.specs.Weighing.{weight_at}
+use Rattle.unate_enable.proofs.reads.are_light.Given as goal
+
+abbrev pub invariant-loop-s : goal.invariant-loop-s
+invariant-loop-s l = record {
+  counted : l.total ≡ sum_by (weight_at l.net) (take l.s-index l.signals);
+  small : l.total ≤ 2000000;
+}

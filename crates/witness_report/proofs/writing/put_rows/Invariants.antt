@@ -1,7 +1,0 @@
-use Rattle.std.specs.Prelude.{◌≡◌, ◌++◌, take}
-use Rattle.std.specs.List.{flat_map}
-use Rattle.witness_report.specs.Text.{row_line}
-use Rattle.witness_report.proofs.writing.put_rows.Given as goal
-
-abbrev pub invariant-loop-row : goal.invariant-loop-row
-invariant-loop-row l = l.text.items ≡ l.initial.text.items ++ flat_map row_line (take l.row-index l.rows)
