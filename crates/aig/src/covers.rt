@@ -30,7 +30,7 @@ impl Aig {
         cover.keeps();
         self.keeps();
         let rows = cover.rows();
-        let mut lit = Lit(0);
+        let mut lit = Lit::FALSE;
         for i in 0..rows.len() {
             let next = self.row(lit, rows[i].as_slice(), fanins)?;
             lit = next;
@@ -70,7 +70,7 @@ impl Aig {
         ensures few { length self.new ≤ length self.old + length places.now }
         ensures vars { vars_of self.new ≡ vars_of self.old }
     {
-        let mut lit = Lit(1);
+        let mut lit = Lit::TRUE;
         for i in 0..places.len() {
             let next = self.place(lit, places[i], fanins[i])?;
             lit = next;
@@ -115,6 +115,6 @@ fn place_lit(place: u8, fanin: Lit) -> Option<Lit>
         b'-' => None,
         b'1' => Some(fanin),
         b'0' => Some(Aig::not(fanin)),
-        _ => Some(Lit(0)),
+        _ => Some(Lit::FALSE),
     }
 }

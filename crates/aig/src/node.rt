@@ -8,6 +8,14 @@ use std::alloc::Global;
 #[derive(Clone, Copy, PartialEq, Eq, Hash)]
 pub struct Lit(pub u32);
 
+impl Lit {
+    /// The constant 0.
+    pub const FALSE: Lit = Lit(0);
+
+    /// The constant 1.
+    pub const TRUE: Lit = Lit(1);
+}
+
 impl Duplicate for Lit {
     fn duplicate(&self, _alloc: Global) -> Result<Lit, NoMemory> {
         Ok(*self)

@@ -111,7 +111,7 @@ impl Sketch {
 
     /// The and of so many variables, from the first on, or of their complements.
     fn and_up(&mut self, digits: &[u8], negated: bool) -> Option<Lit> {
-        let mut all = Lit(1);
+        let mut all = Lit::TRUE;
         for variable in 0..count_of(digits)? {
             all = self.and_variable(all, variable, negated)?;
         }
@@ -121,7 +121,7 @@ impl Sketch {
     /// The and of so many variables, from the last on.
     fn and_down(&mut self, digits: &[u8]) -> Option<Lit> {
         let count = count_of(digits)?;
-        let mut all = Lit(1);
+        let mut all = Lit::TRUE;
         for behind in 0..count {
             all = self.and_variable(all, count - 1 - behind, false)?;
         }

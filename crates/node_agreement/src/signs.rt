@@ -21,5 +21,5 @@ pub fn zero(graph: &Aig) -> Lit
     ensures value { (a : ℕ → Bool) → value graph.now a result.0 ≡ false }
 {
     graph.keeps();
-    Lit(0)
+    Lit::FALSE
 }

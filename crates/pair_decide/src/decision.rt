@@ -35,5 +35,5 @@ pub fn decide(alloc: Global, aig: &Aig, query: &Query, conflicts: u32) -> Result
 fn is_trivial(query: &Query) -> bool
     ensures { IsTrue result ↔ IsTrivial query.now }
 {
-    query.left == query.right || query.care == Lit(0)
+    query.left == query.right || query.care == Lit::FALSE
 }

@@ -84,7 +84,7 @@ fn queries_of(
     queries.push(Query {
         left: left.lit,
         right: right.lit,
-        care: Lit(1),
+        care: Lit::TRUE,
         vars,
     })?;
     Ok(queries)

@@ -83,7 +83,7 @@ fn begun(alloc: Global, old: &Aig, effort: Effort, words: &[u64]) -> Result<Grow
     let graph = Aig::new(alloc)?;
     graph.keeps();
     let mut map = Vec::new(alloc);
-    map.push(Lit(0))?;
+    map.push(Lit::FALSE)?;
     let mut growth = Growth {
         graph,
         map,

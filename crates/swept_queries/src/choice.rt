@@ -67,5 +67,5 @@ fn chosen_of(table: &SignatureTable, given: Option<Sides>) -> Known
 fn is_trivial(sides: &Sides) -> bool
     ensures { IsTrue result ↔ IsTrivial sides.now }
 {
-    sides.left == sides.right || sides.care == Lit(0)
+    sides.left == sides.right || sides.care == Lit::FALSE
 }

@@ -37,9 +37,9 @@ fn sides_or_zero(known: Known) -> Sides
     match known {
         Known::Swept(sides) => sides,
         _ => Sides {
-            left: Lit(0),
-            right: Lit(0),
-            care: Lit(0),
+            left: Lit::FALSE,
+            right: Lit::FALSE,
+            care: Lit::FALSE,
         },
     }
 }

@@ -169,7 +169,7 @@ fn lit_of(known: &IndexMap<u32, Lit>, s: Signal) -> Lit
 fn constant(bit: bool) -> Lit
     ensures { result.0 ≡ (if bit then 1 else 0) }
 {
-    if bit { Lit(1) } else { Lit(0) }
+    if bit { Lit::TRUE } else { Lit::FALSE }
 }
 
 /// Puts the signal's literal.
