@@ -51,7 +51,7 @@ fn reached(alloc: Global, nodes: &[Node], roots: &[Lit]) -> Result<IndexSet<u32>
 {
     let mut seen = IndexSet::new(alloc);
     for i in 0..roots.len() {
-        see(&mut seen, roots[i].0 / 2)?;
+        see(&mut seen, roots[i].node())?;
     }
     walk(nodes, &mut seen)?;
     Ok(seen)
@@ -78,8 +78,8 @@ fn see_operands(seen: &mut IndexSet<u32>, node: Node) -> Result<(), NoMemory>
 {
     match node {
         Node::And(l, r) => {
-            see(seen, l.0 / 2)?;
-            see(seen, r.0 / 2)
+            see(seen, l.node())?;
+            see(seen, r.node())
         }
         _ => Ok(()),
     }
@@ -113,7 +113,7 @@ fn placed_lit(cone: &[u32], l: Lit) -> Lit
     requires there { Contains cone.now (l.0 / 2) }
     ensures { IsPlacedLit cone.now l.0 result.0 }
 {
-    match cone.binary_search(&(l.0 / 2)) {
+    match cone.binary_search(&l.node()) {
         Ok(k) => Lit(2 * (k as u32) + l.0 % 2),
         Err(_) => l,
     }

@@ -1,5 +1,7 @@
 //! Literals and nodes.
 
+ghost use Rattle.std.specs.Prelude.{◌≡◌, ◌/◌, ◌%◌, IsTrue, ◌↔◌};
+
 use sec_base::{Duplicate, NoMemory, Seq};
 use std::alloc::Global;
 
@@ -14,6 +16,20 @@ impl Lit {
 
     /// The constant 1.
     pub const TRUE: Lit = Lit(1);
+
+    /// The number of the literal's node.
+    pub fn node(self) -> u32
+        ensures { result ≡ self.0 / 2 }
+    {
+        self.0 / 2
+    }
+
+    /// Whether the literal stands for its node's complement.
+    pub fn is_complement(self) -> bool
+        ensures { IsTrue result ↔ self.0 % 2 ≡ 1 }
+    {
+        self.0 % 2 == 1
+    }
 }
 
 impl Duplicate for Lit {

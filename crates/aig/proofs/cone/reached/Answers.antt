@@ -35,7 +35,7 @@ loop-i-preserved c =
     let l = get_or c.args.roots.now c.loop-i.i (record { 0 = 0 }) in
     let here = slice_get-get_or c.args.roots.now c.loop-i.i (record { 0 = 0 }) c.loop-i-test.true in
     let small : (get_or c.args.roots.now c.loop-i.i (record { 0 = 0 })).0 < 2 * length g = c.requires.within c.loop-i.i (record { 0 = 0 }) c.loop-i-test.true in
-    let step = root-step g c.args.roots.now c.loop-i.seen.keys c.see.new.seen.keys c.loop-i.i l here small c.in_ok-see.ensures c.loop-i.invariant.sound c.loop-i.invariant.rooted in
+    let step = root-step g c.args.roots.now c.loop-i.seen.keys c.see.new.seen.keys c.loop-i.i l here small (c.in_ok-see.ensures ∙ ap (with_number c.loop-i.seen.keys) c.node.ensures) c.loop-i.invariant.sound c.loop-i.invariant.rooted in
     record { sound = step.0; rooted = step.1 }
 
 pub walk-requires-clause-begun : goal.walk-requires-clause-begun
