@@ -113,5 +113,5 @@ fn literal_of(l: Lit) -> Literal
     requires { l.0 / 2 < 2 ^ 30 }
     ensures { result ≡ literal_of l.0 }
 {
-    Literal::new(l.0 / 2 + 1, l.0 % 2 == 0)
+    Literal::new(l.node() + 1, !l.is_complement())
 }
