@@ -44,8 +44,8 @@ impl Column {
     }
 
     fn value(&self, l: Lit) -> u64 {
-        let word = word_at(self.values.as_slice(), (l.0 / 2) as usize);
-        if l.0 % 2 == 1 { !word } else { word }
+        let word = word_at(self.values.as_slice(), l.node() as usize);
+        if l.is_complement() { !word } else { word }
     }
 }
 
