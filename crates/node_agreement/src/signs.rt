@@ -12,7 +12,7 @@ pub fn signed(y: Lit, l: Lit) -> Lit
     ensures is { result.0 ≡ signed_lit y.0 l.0 }
     ensures stands { (with : (ℕ → Bool) → ℕ → Bool) (g h : List Node) → StandsFor with g h (2 * (l.0 / 2)) y.0 → StandsFor with g h l.0 result.0 }
 {
-    if l.0 % 2 == 0 { y } else { Aig::not(y) }
+    if l.is_complement() { Aig::not(y) } else { y }
 }
 
 /// The literal 0.

@@ -83,9 +83,10 @@ fn put_node(
 pub(crate) fn find(numbers: &[u32], lits: &[Lit], l: Lit) -> Option<Lit>
     ensures { IfSome result (λ y. (g small : List Node) → AreLocal g numbers.now small lits.now → StandsFor (by_nodes g) g small l.0 y.0) }
 {
-    match numbers.binary_search(&(l.0 / 2)) {
+    let node = l.node();
+    match numbers.binary_search(&node) {
         Ok(p) => {
-            if p < lits.len() && p < numbers.len() && numbers[p] == l.0 / 2 {
+            if p < lits.len() && p < numbers.len() && numbers[p] == node {
                 Some(signed(lits[p], l))
             } else {
                 None

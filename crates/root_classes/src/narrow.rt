@@ -128,6 +128,6 @@ fn lit_bit(bits: &[bool], l: Lit) -> bool
     requires { l.0 < 2 * length bits.now }
     ensures { result ≡ meaning.lit_bit bits.now l.0 }
 {
-    let bit = bits[(l.0 / 2) as usize];
-    if l.0 % 2 == 0 { bit } else { !bit }
+    let bit = bits[l.node() as usize];
+    if l.is_complement() { !bit } else { bit }
 }

@@ -127,7 +127,7 @@ impl Growth {
         ensures chosen { OnOk result (AreChosen self.new.graph self.new.chosen.items) }
         ensures stands { IfOk result (λ y. StandsFor plainly self.new.graph self.new.graph x.0 y.0) }
     {
-        self.note(alloc, x.0 / 2, words, role)?;
+        self.note(alloc, x.node(), words, role)?;
         Ok(follow(self.chosen.as_slice(), x))
     }
 
