@@ -31,11 +31,11 @@ pub(crate) fn lane_apart(table: &SignatureTable, sides: &Sides) -> Option<u32>
 fn are_told_apart(table: &SignatureTable, sides: &Sides) -> bool
     requires { AreWithin table.now sides.now }
 {
-    let left = table.block(sides.left.0 / 2);
-    let right = table.block(sides.right.0 / 2);
-    let care = table.block(sides.care.0 / 2);
+    let left = table.block(sides.left.node());
+    let right = table.block(sides.right.node());
+    let care = table.block(sides.care.node());
     let flip_sides = flipping((sides.left.0 ^ sides.right.0) % 2 == 1);
-    let flip_care = flipping(sides.care.0 % 2 == 1);
+    let flip_care = flipping(sides.care.is_complement());
     for i in 0..8 {
         if (left[i] ^ right[i] ^ flip_sides) & (care[i] ^ flip_care) != 0 {
             return true;
@@ -55,7 +55,7 @@ fn lane_bit(table: &SignatureTable, l: Lit, k: u32) -> bool
     requires lane { k < 512 }
     ensures { result ≡ lit_lane table.now l.0 k }
 {
-    let block = table.block(l.0 / 2);
+    let block = table.block(l.node());
     let bit = (block[(k / 64) as usize] >> (k % 64)) % 2 == 1;
-    if l.0 % 2 == 1 { !bit } else { bit }
+    if l.is_complement() { !bit } else { bit }
 }
