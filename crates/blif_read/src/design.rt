@@ -2,6 +2,7 @@
 
 ghost use Rattle.std.specs.Prelude.{◌≡◌, ◌<◌, ◌≤◌, [], true, false, not, length};
 ghost use Rattle.std.specs.List.{list_all};
+ghost use Rattle.sec_base.specs.declared.limits.TheConstants.{MAX_FILE_BYTES};
 ghost use Rattle.blif_read.specs.Kept.{is_plain, covers_fit, written_names, model_names, ports_distinct};
 ghost use Rattle.blif_read.specs.Fault.{repeats};
 ghost use Rattle.blif_lines.specs.Lines.{is_empty};
@@ -79,5 +80,5 @@ pub struct Design {
     /// No name is empty.
     ghost named: { list_all (λ n. not (is_empty n)) (written_names models) ≡ true },
     /// No more names are written than a text has bytes at most.
-    ghost few: { length (written_names models) ≤ 16777216 },
+    ghost few: { length (written_names models) ≤ MAX_FILE_BYTES },
 }

@@ -16,7 +16,7 @@ use crate::names::word_of;
 use crate::open_model::OpenModel;
 use crate::stop::{Stop, fault};
 use blif_lines::{Lines, RawLine, tokens_of};
-use sec_base::{NameTable, NoMemory, Seq, Word};
+use sec_base::{MAX_FILE_BYTES, NameTable, NoMemory, Seq, Word};
 use std::alloc::Global;
 use std::mem;
 
@@ -169,7 +169,7 @@ impl Reader {
 
     /// Takes a line, which may have no tokens.
     fn take_line(&mut self, alloc: Global, line: &RawLine) -> Result<(), ReadError>
-        requires { length line.now.bytes ≤ 16777216 }
+        requires { length line.now.bytes ≤ MAX_FILE_BYTES }
         ensures { (before : List Line) → Means self.old before → TookLine line.now.number (tokens_of line.now.bytes) before self.new result }
     {
         let Ok(tokens) = tokens_of(alloc, line.bytes.as_slice()) else {
@@ -187,7 +187,7 @@ impl Reader {
     /// Takes the lines of a text.
     fn take_lines(&mut self, alloc: Global, text: &[u8]) -> Result<(), ReadError>
         requires begun { Means self.old [] }
-        requires short { length text.now ≤ 16777216 }
+        requires short { length text.now ≤ MAX_FILE_BYTES }
         ensures { TookLines text.now self.new result }
     {
         let mut lines = Lines::new(text);
@@ -200,7 +200,7 @@ impl Reader {
     /// The models of a text, or its first faulty line.
     fn read(&mut self, alloc: Global, text: &[u8]) -> Result<BlifModels, ReadError>
         requires begun { Means self.old [] }
-        requires short { length text.now ≤ 16777216 }
+        requires short { length text.now ≤ MAX_FILE_BYTES }
         ensures { ReadModels text.now result }
     {
         self.take_lines(alloc, text)?;
@@ -228,7 +228,7 @@ fn at_line(line: u32, stop: Stop) -> ReadError
 
 /// The models of a text, or its first faulty line.
 fn read_models(alloc: Global, text: &[u8]) -> Result<BlifModels, ReadError>
-    requires { length text.now ≤ 16777216 }
+    requires { length text.now ≤ MAX_FILE_BYTES }
     ensures { ReadModels text.now result }
 {
     let mut reader = Reader::new(alloc);
@@ -239,7 +239,7 @@ fn read_models(alloc: Global, text: &[u8]) -> Result<BlifModels, ReadError>
 /// it. A text has at most 16,777,216 bytes. Where memory was wanted and could not be had, the answer
 /// is `NoMemory`.
 pub fn read_design(alloc: Global, text: &[u8]) -> Result<Design, ReadError>
-    requires { length text.now ≤ 16777216 }
+    requires { length text.now ≤ MAX_FILE_BYTES }
     ensures { Reads text.now result }
 {
     let models = read_models(alloc, text)?;

@@ -5,6 +5,7 @@ use Rattle.std.specs.List.{AllZip, sum_by}
 use Rattle.circuit_theory.specs.Tree.{Tree, Unfolds}
 use Rattle.circuit_theory.specs.Query.{Variable, AreVariables, ShiftBefore}
 use Rattle.circuit_theory.specs.Sizes.{Visits, IsWeight}
+use Rattle.sec_base.specs.declared.limits.TheConstants.{MAX_WEIGHT}
 use Rattle.flat_net.specs.View.{NetView, circuit_of}
 use Rattle.aig.specs.declared.node.Lit.{Lit}
 use Rattle.aig.specs.declared.node.Node.{Node}
@@ -50,5 +51,5 @@ pub record Fits (u : UnfolderView) (g : List Node) (places : List (ℕ × ℕ)) 
   pub holds : Holds u g places
   pub met : (s q j : ℕ) → Contains u.done s → Visits (circuit_of u.net) s 0 q j → (j ≤ u.cap) × ((x : Lit) × Contains u.memo ((u.cap - j, q), x))
   pub weighs : IsWeight (circuit_of u.net) u.done u.weight
-  pub limit : u.cap ≡ 2000000
-  pub small : u.weight ≤ 2000000
+  pub limit : u.cap ≡ MAX_WEIGHT
+  pub small : u.weight ≤ MAX_WEIGHT

@@ -1,5 +1,6 @@
 -- What a contract sees of an unfolder.
 use Rattle.std.specs.Prelude.{◌≡◌, ℕ, ◌≤◌, List, length}
+use Rattle.sec_base.specs.declared.limits.TheConstants.{MAX_WEIGHT}
 use Rattle.sec_base.specs.Table.{AreDistinct}
 use Rattle.flat_net.specs.View.{NetView}
 use Rattle.aig.specs.declared.node.Lit.{Lit}
@@ -25,7 +26,7 @@ pub record IsOrderOf (n : NetView) (order : List ℕ) : Type 0 where
 -- what each unfolder keeps
 pub record IsUnfolder (u : UnfolderView) : Type 0 where
   pub order : IsOrderOf u.net u.order
-  pub cap : u.cap ≤ 2000000
+  pub cap : u.cap ≤ MAX_WEIGHT
 
 -- it unfolds the same net, with the same numbers and the same limit
 pub record IsSameUnfolder (old new : UnfolderView) : Type 0 where

@@ -9,7 +9,7 @@ ghost use Rattle.cbf_unfold.specs.declared.error.UnfoldError.TheVariants as unfo
 use crate::error::UnfoldError;
 use crate::reads::{add, add_read, weigh};
 use flat_net::{Net, Signal};
-use sec_base::{NoMemory, PlaceTable};
+use sec_base::{MAX_WEIGHT, NoMemory, PlaceTable};
 use std::alloc::Global;
 
 /// A cycle, and a signal's number.
@@ -24,7 +24,7 @@ pub(crate) fn reach(
     cap: u32,
 ) -> Result<Vec<Place>, UnfoldError>
     requires signal { s.0 < length net.now.drivers }
-    requires small { cap ≤ 2000000 }
+    requires small { cap ≤ MAX_WEIGHT }
     ensures reach { IfOk result (λ r. IsReach (circuit_of net.now) (length net.now.drivers) s.0 cap r.items) }
     ensures over { result ≡ Err unfold_error.TooLarge → IsOver (circuit_of net.now) (s.0 ∷ []) cap }
 {
@@ -38,7 +38,7 @@ pub(crate) fn reach(
 /// The places that are visited, each before those that it reads.
 fn visited(alloc: Global, net: &Net, s: Signal, cap: u32) -> Result<PlaceTable, UnfoldError>
     requires signal { s.0 < length net.now.drivers }
-    requires small { cap ≤ 2000000 }
+    requires small { cap ≤ MAX_WEIGHT }
     ensures visited { IfOk result (λ table. AreVisited (circuit_of net.now) (length net.now.drivers) s.0 cap table) }
     ensures over { result ≡ Err unfold_error.TooLarge → IsOver (circuit_of net.now) (s.0 ∷ []) cap }
 {

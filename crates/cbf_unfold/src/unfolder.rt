@@ -22,7 +22,7 @@ use crate::variables::{inputs_of, numbers_of};
 use aig::{Aig, Lit};
 use flat_net::{Net, Signal};
 use latch_graph::LatchGraph;
-use sec_base::{Ids, NoMemory, PlaceTable};
+use sec_base::{Ids, MAX_WEIGHT, NoMemory, PlaceTable};
 use std::alloc::Global;
 use std::marker::Model;
 
@@ -113,7 +113,7 @@ impl<'a> Unfolder<'a> {
         ensures unfolded { IfOk result (λ r. IsUnfolded self.new.net self.new.order aig.new places.new s.0 r.lit.0 r.vars) }
         ensures fits { OnOk result (Fits self.new aig.new places.new) }
         ensures done { OnOk result (self.new.done ≡ self.old.done ++ s.0 ∷ []) }
-        ensures over { result ≡ Err unfold_error.TooLarge → IsOver (circuit_of self.old.net) (self.old.done ++ s.0 ∷ []) 2000000 }
+        ensures over { result ≡ Err unfold_error.TooLarge → IsOver (circuit_of self.old.net) (self.old.done ++ s.0 ∷ []) MAX_WEIGHT }
         ensures later { IsLater self.old self.new aig.old aig.new places.old places.new }
     {
         let net = self.net();

@@ -2,6 +2,7 @@
 use Rattle.std.specs.Prelude.{◌≡◌, ℕ, Bool, List, Option, Some, None, Result, Ok, Err}
 use Rattle.circuit_theory.specs.declared.Mode.{Mode}
 use Rattle.circuit_theory.specs.declared.Mode.TheVariants.{Plain, Event}
+use Rattle.sec_base.specs.declared.limits.TheConstants.{DEFAULT_CONFLICTS}
 use Rattle.flat_net.specs.View.{NetView}
 use Rattle.pair_decide.specs.declared.query.Proof.{Proof}
 use Rattle.graph_report.specs.Report.{IsGraphReport}
@@ -20,7 +21,7 @@ AreLightIn Event n = AreLight n
 
 -- it isn't known what a latch is, for this reason
 abbrev pub IsUnknown : Mode → NetView → KindsError → Type 0
-IsUnknown mode n error = FoundIn mode n 20000 (Err error)
+IsUnknown mode n error = FoundIn mode n DEFAULT_CONFLICTS (Err error)
 
 -- the report of the latch graph, or why there is none
 abbrev pub Tells : Mode → NetView → Result (List ℕ) KindsError → Type 0

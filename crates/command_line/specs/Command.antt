@@ -1,5 +1,6 @@
 -- The command line as a value of `clap`'s own terms.
 use Rattle.std.specs.Prelude.{◌-◌, ◌^◌, true, [], ◌∷◌, Some, codes}
+use Rattle.sec_base.specs.declared.limits.TheConstants.{MAX_CONFLICTS}
 use Rattle.clap.specs.Words.{App, Rule, Text, new_app, new_rule, with_rule, with_subcommand}
 use Rattle.clap.specs.Simple.{new_shape}
 use Rattle.clap.specs.declared.builder.action.ArgAction.TheVariants.{SetTrue}
@@ -23,7 +24,7 @@ flag id = record (new_rule id) { long = Some id; action = Some SetTrue }
 
 -- the conflicts of one query, 0 to 200000, and 20000 where they aren't given
 abbrev pub most_conflicts : ValueParser
-most_conflicts = parser.Unsigned 0 200000
+most_conflicts = parser.Unsigned 0 MAX_CONFLICTS
 
 abbrev pub conflicts : Rule
 conflicts = record (option_with (codes "conflicts") (codes "20000")) { parser = Some most_conflicts }

@@ -93,7 +93,7 @@ fn show_cone(rt: &HostRuntime, net: &Net, latch: u32)
 /// Shows what is found out about the latch.
 fn show_enable(rt: &HostRuntime, net: &Net, latch: u32, conflicts: u32)
     requires latch { latch < length net.now.latches }
-    requires conflicts { conflicts ≤ 200000 }
+    requires conflicts { conflicts ≤ MAX_CONFLICTS }
 {
     show_name(rt, net, latch);
     show(rt, b" conflicts");

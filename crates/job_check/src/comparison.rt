@@ -12,7 +12,7 @@ use circuit_theory::Mode;
 use flat_net::Net;
 use job_base::{File, Finding, Refusal, Stop};
 use job_files::load_end;
-use sec_base::Shelf;
+use sec_base::{MAX_CONFLICTS, Shelf};
 use sec_check::{CompareError, Outcome, Settings, compare};
 use sec_files::load;
 use std::alloc::Global;
@@ -31,7 +31,7 @@ pub fn check<S: Shelf>(
     comparison: &Comparison<'_>,
     shelf: &mut S,
 ) -> Result<Finding, Stop>
-    requires { comparison.now.settings.conflicts ≤ 200000 }
+    requires { comparison.now.settings.conflicts ≤ MAX_CONFLICTS }
     ensures found { let check : Check = record { left = comparison.now.left.now; right = comparison.now.right.now; settings = comparison.now.settings } in
         CheckFound (S.held shelf.old) (S.faults shelf.old) (S.faults shelf.new) check result }
     ensures keeps { SameHeld (S.held shelf.old) (S.held shelf.new) }
@@ -51,7 +51,7 @@ fn compare_files<S: Shelf>(
     shelf: &mut S,
 ) -> Result<Finding, Stop>
     requires plain { comparison.now.settings.mode ≡ Plain }
-    requires conflicts { comparison.now.settings.conflicts ≤ 200000 }
+    requires conflicts { comparison.now.settings.conflicts ≤ MAX_CONFLICTS }
     ensures found { let check : Check = record { left = comparison.now.left.now; right = comparison.now.right.now; settings = comparison.now.settings } in
         FoundOf (S.held shelf.old) (S.faults shelf.old) (S.faults shelf.new) check result }
     ensures keeps { SameHeld (S.held shelf.old) (S.held shelf.new) }
@@ -71,7 +71,7 @@ fn compare_with<S: Shelf>(
     shelf: &mut S,
 ) -> Result<Finding, Stop>
     requires plain { comparison.now.settings.mode ≡ Plain }
-    requires conflicts { comparison.now.settings.conflicts ≤ 200000 }
+    requires conflicts { comparison.now.settings.conflicts ≤ MAX_CONFLICTS }
     requires left { IsComparable a.now }
     ensures found { let path = comparison.now.right.now in
         EndsBeside (S.held shelf.old path) (Rose (S.faults shelf.old path) (S.faults shelf.new path)) a.now comparison.now.settings result }

@@ -10,7 +10,7 @@ use circuit_theory::Mode;
 use flat_net::Net;
 use latch_cone::{LatchKind, all_plain};
 use pair_decide::Proof;
-use sec_base::{NoMemory, Seq, Word};
+use sec_base::{MAX_CONFLICTS, NoMemory, Seq, Word};
 use std::alloc::Global;
 use unate_enable::{RecoverError, Recovery, recover};
 
@@ -47,7 +47,7 @@ pub fn kinds_in(
     mode: Mode,
     conflicts: u32,
 ) -> Result<LatchKinds, KindsError>
-    requires { conflicts ≤ 200000 }
+    requires { conflicts ≤ MAX_CONFLICTS }
     ensures { FoundIn mode net.now conflicts result }
 {
     match mode {
@@ -65,7 +65,7 @@ fn plain_kinds(alloc: Global, net: &Net) -> Result<LatchKinds, NoMemory>
 
 /// Finds out what each latch is.
 fn recovered(alloc: Global, net: &Net, conflicts: u32) -> Result<LatchKinds, KindsError>
-    requires { conflicts ≤ 200000 }
+    requires { conflicts ≤ MAX_CONFLICTS }
     ensures { AreFound net.now conflicts result }
 {
     net.keeps();
@@ -80,7 +80,7 @@ fn recovered(alloc: Global, net: &Net, conflicts: u32) -> Result<LatchKinds, Kin
 /// Finds out what a latch is.
 fn kind_of(alloc: Global, net: &Net, latch: u32, conflicts: u32) -> Result<LatchKind, KindsError>
     requires latch { latch < length net.now.latches }
-    requires conflicts { conflicts ≤ 200000 }
+    requires conflicts { conflicts ≤ MAX_CONFLICTS }
     ensures { FoundAt net.now latch conflicts result }
 {
     match recover(alloc, net, latch, conflicts) {

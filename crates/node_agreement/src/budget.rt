@@ -49,7 +49,7 @@ impl Budget {
 
     /// The conflicts for one search.
     pub(crate) fn conflicts(&self) -> u32
-        ensures { result ≤ 200000 }
+        ensures { result ≤ MAX_CONFLICTS }
     {
         self.next.min(self.left).min(200_000)
     }

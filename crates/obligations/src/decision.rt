@@ -12,7 +12,7 @@ use crate::sides::sweep_asked;
 use aig::Aig;
 use outcome::{PairName, PairResult, PairResults};
 use pair_decide::Proof;
-use sec_base::{NoMemory, PairAnswer};
+use sec_base::{MAX_CONFLICTS, NoMemory, PairAnswer};
 use std::alloc::Global;
 use swept_queries::SweptQueries;
 
@@ -36,7 +36,7 @@ pub fn decide_all(
     conflicts: u32,
 ) -> Result<Decided, NoMemory>
     requires asked { AreAsked aig.now asked.now }
-    requires conflicts { conflicts ≤ 200000 }
+    requires conflicts { conflicts ≤ MAX_CONFLICTS }
     ensures { IfOk result (HaveDecided aig.now conflicts asked.now) }
 {
     let swept = sweep_asked(alloc, aig, asked, conflicts)?;
@@ -69,7 +69,7 @@ fn decide_next(
     requires few { length (queries_of asked.now) < 2 ^ 64 }
     requires within { i < length asked.now }
     requires place { place ≡ length (queries_of (take i asked.now)) }
-    requires conflicts { conflicts ≤ 200000 }
+    requires conflicts { conflicts ≤ MAX_CONFLICTS }
     ensures { OnOk result (HaveDecided aig.now conflicts (take i asked.now) decided.old → HaveDecided aig.now conflicts (take (i + 1) asked.now) decided.new) }
 {
     let obligation = &asked[i];

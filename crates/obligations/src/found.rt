@@ -10,7 +10,7 @@ ghost use Rattle.obligations.specs.Found.{IsFound, EndsAt};
 
 use aig::Aig;
 use pair_decide::{Decision, Proof, Query};
-use sec_base::{Bits, NoMemory};
+use sec_base::{Bits, MAX_CONFLICTS, NoMemory};
 use std::alloc::Global;
 use swept_queries::SweptQueries;
 
@@ -37,7 +37,7 @@ pub(crate) fn decide_queries(
     requires queries { All (IsQuery aig.now) queries.now }
     requires known { (i : ℕ) (q : Query) → slice_get queries.now i ≡ Some q → IsKnown aig.now swept.now (place + i) q }
     requires few { place + length queries.now < 2 ^ 64 }
-    requires conflicts { conflicts ≤ 200000 }
+    requires conflicts { conflicts ≤ MAX_CONFLICTS }
     ensures { IfOk result (IsFound aig.now conflicts queries.now) }
 {
     for i in 0..queries.len() {

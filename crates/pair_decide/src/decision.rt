@@ -8,7 +8,7 @@ use crate::query::{Decision, Query, SameBy};
 use crate::search::decide_by_search;
 use crate::table::decide_by_table;
 use aig::{Aig, Lit};
-use sec_base::NoMemory;
+use sec_base::{MAX_CONFLICTS, NoMemory};
 use std::alloc::Global;
 
 /// The most variables of a query that is decided by trying all assignments.
@@ -18,7 +18,7 @@ const NARROW: usize = 16;
 /// assignments of at most 16 variables are tried; above that the search may log at most so many chains.
 pub fn decide(alloc: Global, aig: &Aig, query: &Query, conflicts: u32) -> Result<Decision, NoMemory>
     requires query { IsQuery aig.now query.now }
-    requires conflicts { conflicts ≤ 200000 }
+    requires conflicts { conflicts ≤ MAX_CONFLICTS }
     ensures { IfOk result (Decides aig.now query.now conflicts) }
 {
     if is_trivial(query) {

@@ -12,7 +12,7 @@ use aig::Aig;
 use cnf_encode::encode;
 use proof_check::{Clauses, Log, ProofError, check_log};
 use sat_search::{Found, search};
-use sec_base::NoMemory;
+use sec_base::{MAX_CONFLICTS, NoMemory};
 use std::alloc::Global;
 
 /// Decides a query of more than 16 variables whose sides are different literals.
@@ -24,7 +24,7 @@ pub(crate) fn decide_by_search(
 ) -> Result<Decision, NoMemory>
     requires query { IsQuery aig.now query.now }
     requires wide { IsWide query.now }
-    requires conflicts { conflicts ≤ 200000 }
+    requires conflicts { conflicts ≤ MAX_CONFLICTS }
     ensures { IfOk result (Decides aig.now query.now conflicts) }
 {
     aig.keeps();

@@ -4,6 +4,7 @@ use Rattle.std.specs.List.{AllZip}
 use Rattle.circuit_theory.specs.declared.Side.{Side}
 use Rattle.circuit_theory.specs.declared.Side.TheVariants.{A, B}
 use Rattle.circuit_theory.specs.Sizes.{IsWeight, IsOver}
+use Rattle.sec_base.specs.declared.limits.TheConstants.{MAX_WEIGHT}
 use Rattle.flat_net.specs.View.{NetView, circuit_of}
 use Rattle.aig.specs.declared.node.Node.{Node}
 use Rattle.cbf_unfold.specs.declared.unfolder.Unfolded.{Unfolded}
@@ -16,11 +17,11 @@ use Rattle.plain_form.specs.declared.functions.Functions.{Functions}
 
 -- the unfoldings of these signals weigh at most 2,000,000 together
 abbrev pub AreLight : NetView → List ℕ → Type 0
-AreLight n signals = (w : ℕ) × IsWeight (circuit_of n) signals w × (w ≤ 2000000)
+AreLight n signals = (w : ℕ) × IsWeight (circuit_of n) signals w × (w ≤ MAX_WEIGHT)
 
 -- or more
 abbrev pub AreTooLarge : NetView → List ℕ → Type 0
-AreTooLarge n signals = IsOver (circuit_of n) signals 2000000
+AreTooLarge n signals = IsOver (circuit_of n) signals MAX_WEIGHT
 
 -- the circuit of this side is refused because its signals weigh too much, or memory was wanted
 abbrev pub IsRefusalOf : Side → NetView → List ℕ → PlainError → Type 0

@@ -15,7 +15,7 @@ use crate::questions::ask;
 use crate::shown::show;
 use obligations::{Decided, decide_all, greatest_size, verdict_at};
 use outcome::{PairResults, Verdict};
-use sec_base::NoMemory;
+use sec_base::{MAX_CONFLICTS, NoMemory};
 use sec_setup::Setup;
 use std::alloc::Global;
 
@@ -38,7 +38,7 @@ pub fn compare_plain(
     conflicts: u32,
 ) -> Result<Findings, PlainError>
     requires setup { IsSetup setup.now }
-    requires conflicts { conflicts ≤ 200000 }
+    requires conflicts { conflicts ≤ MAX_CONFLICTS }
     ensures { Formed setup.now conflicts result }
 {
     setup.left.keeps();
@@ -65,7 +65,7 @@ fn findings_of(
 ) -> Result<Findings, NoMemory>
     requires setup { IsSetup setup.now }
     requires functions { HaveFunctions setup.now functions.now }
-    requires conflicts { conflicts ≤ 200000 }
+    requires conflicts { conflicts ≤ MAX_CONFLICTS }
     ensures { IfOk result (λ f. FindingsFit (circuit_of setup.now.left.now) (circuit_of setup.now.right.now) setup.now.orders.left setup.now.orders.right setup.now.columns (is_cut setup.now.exposed) conflicts (map places_of setup.now.pairs) f) }
 {
     setup.left.keeps();

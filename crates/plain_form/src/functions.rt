@@ -15,7 +15,7 @@ use aig::Aig;
 use cbf_unfold::{UnfoldError, Unfolded, Unfolder};
 use flat_net::{Net, Signal};
 use latch_graph::LatchGraph;
-use sec_base::{Ids, NoMemory, Orders, PlaceTable, Side};
+use sec_base::{Ids, MAX_WEIGHT, NoMemory, Orders, PlaceTable, Side};
 use sec_setup::SignalPair;
 use std::alloc::Global;
 
@@ -75,8 +75,8 @@ fn unfold_left(
     ensures refused { IfErr result (IsRefusalOf A net.now (left_signals pairs.now)) }
     ensures grows { Grows aig.old aig.new }
     ensures adds { Adds (λ p. Unit {0}) places.old places.new }
-    ensures nodes { length aig.new ≤ length aig.old + 2000000 }
-    ensures entries { length places.new ≤ length places.old + 2000000 }
+    ensures nodes { length aig.new ≤ length aig.old + MAX_WEIGHT }
+    ensures entries { length places.new ≤ length places.old + MAX_WEIGHT }
 {
     let signals = left_signals(alloc, pairs)?;
     let given = signals.as_slice();
@@ -103,8 +103,8 @@ fn unfold_right(
     ensures refused { IfErr result (IsRefusalOf B net.now (right_signals pairs.now)) }
     ensures grows { Grows aig.old aig.new }
     ensures adds { Adds (λ p. Unit {0}) places.old places.new }
-    ensures nodes { length aig.new ≤ length aig.old + 2000000 }
-    ensures entries { length places.new ≤ length places.old + 2000000 }
+    ensures nodes { length aig.new ≤ length aig.old + MAX_WEIGHT }
+    ensures entries { length places.new ≤ length places.old + MAX_WEIGHT }
 {
     let signals = right_signals(alloc, pairs)?;
     let given = signals.as_slice();
@@ -146,8 +146,8 @@ fn unfold_side(
     ensures refused { IfErr result (IsRefusalOf side net.now (map (λ s. s.0) signals.now)) }
     ensures grows { Grows aig.old aig.new }
     ensures adds { Adds (λ p. Unit {0}) places.old places.new }
-    ensures nodes { length aig.new ≤ length aig.old + 2000000 }
-    ensures entries { length places.new ≤ length places.old + 2000000 }
+    ensures nodes { length aig.new ≤ length aig.old + MAX_WEIGHT }
+    ensures entries { length places.new ≤ length places.old + MAX_WEIGHT }
 {
     match unfold_signals(alloc, net, graph, order, aig, places, signals) {
         Ok(unfolded) => Ok(unfolded),
@@ -175,8 +175,8 @@ fn unfold_signals(
     ensures over { result ≡ Err unfold_error.TooLarge → AreTooLarge net.now (map (λ s. s.0) signals.now) }
     ensures grows { Grows aig.old aig.new }
     ensures adds { Adds (λ p. Unit {0}) places.old places.new }
-    ensures nodes { length aig.new ≤ length aig.old + 2000000 }
-    ensures entries { length places.new ≤ length places.old + 2000000 }
+    ensures nodes { length aig.new ≤ length aig.old + MAX_WEIGHT }
+    ensures entries { length places.new ≤ length places.old + MAX_WEIGHT }
 {
     let mut unfolder = Unfolder::new(alloc, net, graph, order)?;
     unfold_all(alloc, &mut unfolder, aig, places, signals)
@@ -200,8 +200,8 @@ fn unfold_all(
     ensures over { result ≡ Err unfold_error.TooLarge → AreTooLarge unfolder.old.net (map (λ s. s.0) signals.now) }
     ensures grows { Grows aig.old aig.new }
     ensures adds { Adds (λ p. Unit {0}) places.old places.new }
-    ensures nodes { length aig.new ≤ length aig.old + 2000000 }
-    ensures entries { length places.new ≤ length places.old + 2000000 }
+    ensures nodes { length aig.new ≤ length aig.old + MAX_WEIGHT }
+    ensures entries { length places.new ≤ length places.old + MAX_WEIGHT }
 {
     let mut unfolded = Vec::new(alloc);
     for s in signals {

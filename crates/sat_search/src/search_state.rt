@@ -16,7 +16,7 @@ use crate::analysis::{analyse, first_decision};
 use crate::lesson::{Learnt, Lesson};
 use clause_watch::{Trail, Watches};
 use proof_check::{Clauses, Log, Resolver};
-use sec_base::{Bits, NoMemory, Seq};
+use sec_base::{Bits, MAX_CONFLICTS, NoMemory, Seq};
 use std::alloc::Global;
 use std::mem;
 
@@ -52,7 +52,7 @@ impl SearchState {
         variables: u32,
     ) -> Result<SearchState, NoMemory>
         requires variables { variables ≤ 2 ^ 30 }
-        requires numbers { length clauses.now < 2 ^ 32 - 200000 }
+        requires numbers { length clauses.now < 2 ^ 32 - MAX_CONFLICTS }
         requires range { InRange variables clauses.now }
         ensures known { IfOk result (λ state. state.watches.clauses.known ≡ clauses.now) }
         ensures variables { IfOk result (λ state. state.trail.variables ≡ variables) }

@@ -14,7 +14,7 @@ use crate::outcome::Found;
 use crate::search_state::{SearchState, Turn};
 use clause_watch::{ClauseDb, Trail};
 use proof_check::{Clauses, Resolver};
-use sec_base::{NoMemory, Seq};
+use sec_base::{MAX_CONFLICTS, NoMemory, Seq};
 use std::alloc::Global;
 
 /// Looks for values that meet all clauses, for at most so many conflicts. `Model` has values that
@@ -29,7 +29,7 @@ pub fn search(
     conflicts: u32,
 ) -> Result<Found, NoMemory>
     requires variables { variables ≤ 2 ^ 30 }
-    requires numbers { length clauses.now < 2 ^ 32 - 200000 }
+    requires numbers { length clauses.now < 2 ^ 32 - MAX_CONFLICTS }
     requires range { InRange variables clauses.now }
     ensures { IfOk result (IsFound clauses.now variables conflicts) }
 {

@@ -4,6 +4,7 @@ use Rattle.circuit_theory.specs.Agree.{cut}
 use Rattle.circuit_theory.specs.Circuit.{Circuit}
 use Rattle.circuit_theory.specs.Interface.{shared_inputs, AreNumbersOf}
 use Rattle.circuit_theory.specs.Sizes.{IsWeight, IsOver}
+use Rattle.sec_base.specs.declared.limits.TheConstants.{MAX_WEIGHT}
 use Rattle.flat_net.specs.View.{NetView, circuit_of, ports_of}
 use Rattle.outcome.specs.declared.verdict.Outcome.{Outcome}
 use Rattle.sec_setup.specs.Cuts.{IsChoice, AreCutAt, columns_of, is_cut}
@@ -16,11 +17,11 @@ cut_outputs names c = map (λ o. o.place) (cut names c).outputs
 
 -- the unfoldings of all these outputs weigh more than 2,000,000 together
 abbrev pub IsCutOver : {P : Type 0} → List (List ℕ) → Circuit P → Type 0
-IsCutOver names c = IsOver (cut names c) (cut_outputs names c) 2000000
+IsCutOver names c = IsOver (cut names c) (cut_outputs names c) MAX_WEIGHT
 
 -- or at most that
 abbrev pub IsCutLight : {P : Type 0} → List (List ℕ) → Circuit P → Type 0
-IsCutLight names c = (w : ℕ) × IsWeight (cut names c) (cut_outputs names c) w × (w ≤ 2000000)
+IsCutLight names c = (w : ℕ) × IsWeight (cut names c) (cut_outputs names c) w × (w ≤ MAX_WEIGHT)
 
 -- The outcome fits the circuits: the counts, the exposed names, the pairs in order with their answers over both circuits as they
 -- are cut, and the verdict.

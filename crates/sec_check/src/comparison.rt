@@ -16,7 +16,7 @@ use cut_points::Exposure;
 use flat_net::Net;
 use outcome::{Outcome, Settings};
 use plain_form::{Findings, PlainError, compare_plain};
-use sec_base::{NameTable, NoMemory};
+use sec_base::{MAX_CONFLICTS, NameTable, NoMemory};
 use sec_setup::{Nets, Setup, choose, graph_of, set_up, shared_names};
 use std::alloc::Global;
 
@@ -31,7 +31,7 @@ pub fn compare(
     settings: &Settings,
 ) -> Result<Outcome, CompareError>
     requires plain { settings.now.mode ≡ Plain }
-    requires conflicts { settings.now.conflicts ≤ 200000 }
+    requires conflicts { settings.now.conflicts ≤ MAX_CONFLICTS }
     requires left { IsComparable a.now }
     requires right { IsComparable b.now }
     ensures { Compared a.now b.now settings.now result }
@@ -55,7 +55,7 @@ fn compare_matching(
     shared: &NameTable,
     settings: &Settings,
 ) -> Result<Outcome, CompareError>
-    requires conflicts { settings.now.conflicts ≤ 200000 }
+    requires conflicts { settings.now.conflicts ≤ MAX_CONFLICTS }
     requires left { IsComparable nets.now.left.now }
     requires right { IsComparable nets.now.right.now }
     requires graphs { AreGraphed nets.now }
@@ -80,7 +80,7 @@ fn compare_exposed(
     exposure: &Exposure,
     settings: &Settings,
 ) -> Result<Outcome, CompareError>
-    requires conflicts { settings.now.conflicts ≤ 200000 }
+    requires conflicts { settings.now.conflicts ≤ MAX_CONFLICTS }
     requires left { IsComparable nets.now.left.now }
     requires right { IsComparable nets.now.right.now }
     requires matches { InterfacesMatch nets.now.left.now nets.now.right.now }
@@ -123,7 +123,7 @@ fn compare_cut(
     exposure: &Exposure,
     settings: &Settings,
 ) -> Result<Outcome, CompareError>
-    requires conflicts { settings.now.conflicts ≤ 200000 }
+    requires conflicts { settings.now.conflicts ≤ MAX_CONFLICTS }
     requires left { IsComparable nets.now.left.now }
     requires right { IsComparable nets.now.right.now }
     requires matches { InterfacesMatch nets.now.left.now nets.now.right.now }
@@ -155,7 +155,7 @@ fn compare_nets(
     exposure: &Exposure,
     settings: &Settings,
 ) -> Result<Outcome, CompareError>
-    requires conflicts { settings.now.conflicts ≤ 200000 }
+    requires conflicts { settings.now.conflicts ≤ MAX_CONFLICTS }
     requires left { IsComparable a.now }
     requires right { IsComparable b.now }
     requires matches { InterfacesMatch a.now b.now }

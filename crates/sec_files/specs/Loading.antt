@@ -1,6 +1,7 @@
 -- What a text loads as, and why it is refused.
 use Rattle.std.specs.Prelude.{◌≡◌, ℕ, ◌<◌, ◌≤◌, List, length, Option, Some, None, IfSome}
 use Rattle.circuit_theory.specs.Circuit.{Circuit}
+use Rattle.sec_base.specs.declared.limits.TheConstants.{MAX_FILE_BYTES}
 use Rattle.blif_read.specs.declared.error.ReadKind.{ReadKind}
 use Rattle.blif_read.specs.Design.{Place, circuit_of_design, IsClock}
 use Rattle.blif_read.specs.Reading.{first_fault, spelled}
@@ -21,7 +22,7 @@ pub record SpellsCircuit (text : List ℕ) (clock : Option (List ℕ)) (d : Circ
 
 -- the text, of at most 16,777,216 bytes, has no faulty line and spells a design without a fault
 pub record IsAccepted (text : List ℕ) : Type 0 where
-  pub short : length text ≤ 16777216
+  pub short : length text ≤ MAX_FILE_BYTES
   pub faultless : first_fault text ≡ None
   pub sound : IsSoundDesign (spelled text)
 
@@ -32,15 +33,15 @@ pub record Loads (text : List ℕ) (net : NetView) : Type 0 where
 
 -- the text is too long
 abbrev pub IsTooLong : List ℕ → Type 0
-IsTooLong text = 16777216 < length text
+IsTooLong text = MAX_FILE_BYTES < length text
 
 -- the text, of at most 16,777,216 bytes, has its first faulty line here
 abbrev pub HasFault : List ℕ → ℕ → ReadKind → Type 0
-HasFault text line kind = (length text ≤ 16777216) × (first_fault text ≡ Some (record { line = line; kind = kind }))
+HasFault text line kind = (length text ≤ MAX_FILE_BYTES) × (first_fault text ≡ Some (record { line = line; kind = kind }))
 
 -- the text, of at most 16,777,216 bytes, spells a design whose first fault is this one
 abbrev pub HasDesignFault : List ℕ → FlatError → Type 0
-HasDesignFault text e = (length text ≤ 16777216) × (first_fault text ≡ None) × DesignFault (spelled text) e
+HasDesignFault text e = (length text ≤ MAX_FILE_BYTES) × (first_fault text ≡ None) × DesignFault (spelled text) e
 
 -- the same of what is held, where that is told; nothing is said of want of memory
 abbrev pub FlattenFails : Option (List ℕ) → FlatError → Type 0

@@ -9,7 +9,7 @@ use crate::LONGEST;
 use blif_read::{ReadError, read_design};
 use flat_net::Net;
 use flatten::{FlatError, flatten};
-use sec_base::{FetchError, Shelf, fetch};
+use sec_base::{FetchError, MAX_FILE_BYTES, Shelf, fetch};
 use std::alloc::Global;
 
 /// Why a file isn't loaded.
@@ -39,7 +39,7 @@ pub fn load<S: Shelf>(alloc: Global, shelf: &mut S, path: &str) -> Result<Net, L
 
 /// The net of a text.
 fn read_and_flatten(alloc: Global, text: &[u8]) -> Result<Net, LoadError>
-    requires { length text.now ≤ 16777216 }
+    requires { length text.now ≤ MAX_FILE_BYTES }
     ensures ok { IfOk result (λ net. Loads text.now net) }
     ensures comparable { IfOk result IsComparable }
     ensures err { IfErr result (LoadFails (Some text.now) ⊥) }

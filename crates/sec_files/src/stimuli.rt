@@ -5,7 +5,7 @@ ghost use Rattle.sec_base.specs.Outside.{Rose, SameHeld};
 ghost use Rattle.sec_files.specs.Stimuli.{IsStimulus, StimulusFails};
 
 use crate::LONGEST;
-use sec_base::{FetchError, Shelf, fetch};
+use sec_base::{FetchError, MAX_FILE_BYTES, Shelf, fetch};
 use std::alloc::Global;
 use witness_report::{StimError, Stimulus, read_stimulus};
 
@@ -37,7 +37,7 @@ pub fn load_stimulus<S: Shelf>(
 
 /// Reads a text as a stimulus.
 fn read_text(alloc: Global, text: &[u8]) -> Result<Stimulus, StimulusError>
-    requires { length text.now ≤ 16777216 }
+    requires { length text.now ≤ MAX_FILE_BYTES }
     ensures ok { IfOk result (λ s. IsStimulus text.now s.names s.rows) }
     ensures few { IfOk result (λ s. length s.rows < 2 ^ 32) }
     ensures err { IfErr result (StimulusFails (Some text.now) ⊥) }

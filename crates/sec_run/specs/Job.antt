@@ -1,5 +1,6 @@
 -- What a job asks for.
 use Rattle.std.specs.Prelude.{ℕ, ◌≤◌, List, [], Option, Some, None}
+use Rattle.sec_base.specs.declared.limits.TheConstants.{MAX_CONFLICTS}
 use Rattle.command_line.specs.declared.task.Task.{Task}
 use Rattle.command_line.specs.declared.task.Task.TheVariants as task
 use Rattle.job_circuit.specs.Reports.{graph_paths, sim_paths}
@@ -21,8 +22,8 @@ paths_in (Some job) = paths_of job
 
 -- at most 200,000 conflicts are allowed for a query
 abbrev pub HasFewConflicts : Task → Type 0
-HasFewConflicts (task.Check a b settings) = settings.conflicts ≤ 200000
+HasFewConflicts (task.Check a b settings) = settings.conflicts ≤ MAX_CONFLICTS
 HasFewConflicts (task.Graph a mode) = Unit {0}
 HasFewConflicts (task.Sim a s mode power) = Unit {0}
 HasFewConflicts (task.Replay a b s mode) = Unit {0}
-HasFewConflicts (task.Gen seed regroup conflicts) = conflicts ≤ 200000
+HasFewConflicts (task.Gen seed regroup conflicts) = conflicts ≤ MAX_CONFLICTS

@@ -17,7 +17,7 @@ use crate::targets::{is_any_left, kept_lits, tried_lits};
 use crate::words::{bits_at, seeded_words};
 use aig::{Aig, Lits};
 use pair_decide::{Decision, Query, decide};
-use sec_base::NoMemory;
+use sec_base::{MAX_CONFLICTS, NoMemory};
 use std::alloc::Global;
 use sweep::{Effort, Swept, sweep_across};
 
@@ -172,7 +172,7 @@ impl SweptQueries {
     ) -> Result<Decision, NoMemory>
         requires query { IsQuery aig.now query.now }
         requires known { IsKnown aig.now self.now place query.now }
-        requires conflicts { conflicts ≤ 200000 }
+        requires conflicts { conflicts ≤ MAX_CONFLICTS }
         ensures { IfOk result (DecidesInStead aig.now query.now conflicts) }
     {
         match self.known_at(place) {
@@ -204,7 +204,7 @@ impl SweptQueries {
     ) -> Result<Decision, NoMemory>
         requires query { IsQuery aig.now query.now }
         requires stand { StandFor aig.now (sides_of query.now) self.now.aig sides.now }
-        requires conflicts { conflicts ≤ 200000 }
+        requires conflicts { conflicts ≤ MAX_CONFLICTS }
         ensures { IfOk result (DecidesInStead aig.now query.now conflicts) }
     {
         match query_in_stead(alloc, &self.aig, sides, query)? {
@@ -224,7 +224,7 @@ impl SweptQueries {
     ) -> Result<Decision, NoMemory>
         requires query { IsQuery aig.now query.now }
         requires apart { DiffersAt aig.now self.now.words.items (sides_of query.now) lane }
-        requires conflicts { conflicts ≤ 200000 }
+        requires conflicts { conflicts ≤ MAX_CONFLICTS }
         ensures { IfOk result (DecidesInStead aig.now query.now conflicts) }
     {
         aig.keeps();
@@ -245,7 +245,7 @@ fn decide_itself(
     conflicts: u32,
 ) -> Result<Decision, NoMemory>
     requires query { IsQuery aig.now query.now }
-    requires conflicts { conflicts ≤ 200000 }
+    requires conflicts { conflicts ≤ MAX_CONFLICTS }
     ensures { IfOk result (DecidesInStead aig.now query.now conflicts) }
 {
     aig.keeps();

@@ -3,6 +3,7 @@ use Rattle.std.specs.Prelude.{◌≡◌, ◌↔◌, ℕ, ◌*◌, ◌<◌, ◌�
 use Rattle.circuit_theory.specs.Circuit.{Circuit, Meets, InCone}
 use Rattle.circuit_theory.specs.Run.{ExtendsWith, Loads, IsEnabled}
 use Rattle.circuit_theory.specs.Sizes.{IsConeWeight, IsConeOver}
+use Rattle.sec_base.specs.declared.limits.TheConstants.{MAX_WEIGHT}
 use Rattle.flat_net.specs.View.{NetView, circuit_of}
 use Rattle.aig.specs.declared.node.Node.{Node}
 use Rattle.aig.specs.Graph.{IsGraph}
@@ -85,7 +86,7 @@ pub record IsUndecided (n : NetView) (j conflicts : ℕ) (proof : Proof) : Type 
 pub record IsLight (n : NetView) (j : ℕ) : Type 0 where
   pub weight : ℕ
   pub weight_is : IsConeWeight (circuit_of n) (data_of_latch n j) weight
-  pub within : weight ≤ 2000000
+  pub within : weight ≤ MAX_WEIGHT
 
 -- it has a self-edge, and its cone isn't too large
 abbrev pub IsAsked : NetView → ℕ → Type 0
@@ -113,4 +114,4 @@ IsRecovery n j conflicts (recovery.Limit proof) = IsAsked n j × IsUndecided n j
 
 -- it has a self-edge, and its cone is too large
 abbrev pub IsTooLarge : NetView → ℕ → Type 0
-IsTooLarge n j = HasSelfEdge n j × IsConeOver (circuit_of n) (data_of_latch n j) 2000000
+IsTooLarge n j = HasSelfEdge n j × IsConeOver (circuit_of n) (data_of_latch n j) MAX_WEIGHT

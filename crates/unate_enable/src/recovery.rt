@@ -19,7 +19,7 @@ use crate::sources::{cone_among, places};
 use aig::Aig;
 use flat_net::{Net, Signal};
 use pair_decide::{Decision, Proof, Query, decide};
-use sec_base::{Bits, Ids, NoMemory};
+use sec_base::{Bits, Ids, MAX_CONFLICTS, MAX_WEIGHT, NoMemory};
 use std::alloc::Global;
 
 /// What is found out about a latch.
@@ -63,7 +63,7 @@ pub fn recover(
     conflicts: u32,
 ) -> Result<Recovery, RecoverError>
     requires latch { latch < length net.now.latches }
-    requires conflicts { conflicts ≤ 200000 }
+    requires conflicts { conflicts ≤ MAX_CONFLICTS }
     ensures recovery { IfOk result (IsRecovery net.now latch conflicts) }
     ensures large { result ≡ Err recover_error.TooLarge → IsTooLarge net.now latch }
 {
@@ -95,10 +95,10 @@ fn ask(
     conflicts: u32,
 ) -> Result<Recovery, NoMemory>
     requires latch { latch < length net.now.latches }
-    requires conflicts { conflicts ≤ 200000 }
+    requires conflicts { conflicts ≤ MAX_CONFLICTS }
     requires reached { AreReached (circuit_of net.now) (length net.now.drivers) (data_of_latch net.now latch) signals.now }
     requires own { Contains signals.now (out_of_latch net.now latch) }
-    requires light { sum_by (weight_at net.now) signals.now ≤ 2000000 }
+    requires light { sum_by (weight_at net.now) signals.now ≤ MAX_WEIGHT }
     ensures { IfOk result (IsAnswer net.now latch conflicts) }
 {
     net.keeps();
@@ -117,10 +117,10 @@ fn ask_over(
     conflicts: u32,
 ) -> Result<Recovery, NoMemory>
     requires latch { latch < length net.now.latches }
-    requires conflicts { conflicts ≤ 200000 }
+    requires conflicts { conflicts ≤ MAX_CONFLICTS }
     requires reached { AreReached (circuit_of net.now) (length net.now.drivers) (data_of_latch net.now latch) signals.now }
     requires own { Contains signals.now (out_of_latch net.now latch) }
-    requires light { sum_by (weight_at net.now) signals.now ≤ 2000000 }
+    requires light { sum_by (weight_at net.now) signals.now ≤ MAX_WEIGHT }
     requires places { (cone : LatchCone) × IsConeOfLatch net.now latch cone × (places.now ≡ places_of net.now cone) }
     ensures { IfOk result (IsAnswer net.now latch conflicts) }
 {
@@ -155,8 +155,8 @@ fn query_of(
     requires latch { latch < length net.now.latches }
     requires reached { AreReached (circuit_of net.now) (length net.now.drivers) (data_of_latch net.now latch) signals.now }
     requires closed { AreClosed (circuit_of net.now) (out_of_latch net.now latch) places.now signals.now }
-    requires few { length places.now ≤ 2000000 }
-    requires light { sum_by (weight_at net.now) signals.now ≤ 2000000 }
+    requires few { length places.now ≤ MAX_WEIGHT }
+    requires light { sum_by (weight_at net.now) signals.now ≤ MAX_WEIGHT }
     requires small { length aig.old ≤ 1 }
     requires empty { vars_of aig.old ≡ 0 }
     ensures { IfOk result (IsQueryOf net.now latch places.now aig.new) }
