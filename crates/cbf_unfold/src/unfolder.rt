@@ -26,9 +26,6 @@ use sec_base::{Ids, MAX_WEIGHT, NoMemory, PlaceTable};
 use std::alloc::Global;
 use std::marker::Model;
 
-/// The most that the places of one unfolder weigh together.
-const LIMIT: u32 = 2_000_000;
-
 /// A signal as a function of inputs at earlier cycles.
 #[derive(Drop)]
 pub struct Unfolded {
@@ -83,7 +80,7 @@ impl<'a> Unfolder<'a> {
         Ok(Unfolder {
             net,
             order: order.copy()?,
-            cap: LIMIT,
+            cap: MAX_WEIGHT,
             done: Ids::new(alloc),
             memo: Memo::new(alloc),
             weight: 0,

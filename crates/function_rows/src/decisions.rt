@@ -126,7 +126,7 @@ pub(crate) fn conflicts_at(given: &[&[u8]], place: usize) -> Option<u32>
     ensures { IfSome result (λ conflicts. conflicts ≤ 200000) }
 {
     let conflicts = number_of(given.get(place)?)?;
-    if conflicts <= 200_000 {
+    if conflicts <= u64::from(MAX_CONFLICTS) {
         Some(conflicts as u32)
     } else {
         None

@@ -51,7 +51,7 @@ impl Budget {
     pub(crate) fn conflicts(&self) -> u32
         ensures { result ≤ MAX_CONFLICTS }
     {
-        self.next.min(self.left).min(200_000)
+        self.next.min(self.left).min(MAX_CONFLICTS)
     }
 
     /// After a failure the next search has half as many conflicts, after a success that was dear twice as many.

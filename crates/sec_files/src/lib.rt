@@ -7,6 +7,3 @@ mod stimuli;
 pub use flatten::FlatError;
 pub use loader::{LoadError, load};
 pub use stimuli::{StimulusError, load_stimulus};
-
-/// The most bytes that a file may have.
-const LONGEST: u32 = 16_777_216;

@@ -5,7 +5,6 @@ ghost use Rattle.sec_base.specs.Outside.{Rose, SameHeld, NoneFell};
 ghost use Rattle.flat_net.specs.Comparable.{IsComparable};
 ghost use Rattle.sec_files.specs.Loading.{Loads, LoadFails};
 
-use crate::LONGEST;
 use blif_read::{ReadError, read_design};
 use flat_net::Net;
 use flatten::{FlatError, flatten};
@@ -30,7 +29,7 @@ pub fn load<S: Shelf>(alloc: Global, shelf: &mut S, path: &str) -> Result<Net, L
     ensures served { S.serves shelf.old path.now → IsErrOf result (LoadError.Fetch FetchError.Failed) → ⊥ }
     ensures serving { (other : List ℕ) → S.serves shelf.old other → S.serves shelf.new other }
 {
-    let text = match fetch(alloc, shelf, path, LONGEST) {
+    let text = match fetch(alloc, shelf, path, MAX_FILE_BYTES) {
         Ok(text) => text,
         Err(error) => return Err(LoadError::Fetch(error)),
     };

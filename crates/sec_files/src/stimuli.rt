@@ -4,7 +4,6 @@ ghost use Rattle.std.specs.Prelude.{◌<◌, ◌≤◌, ◌^◌, length, IfOk, I
 ghost use Rattle.sec_base.specs.Outside.{Rose, SameHeld};
 ghost use Rattle.sec_files.specs.Stimuli.{IsStimulus, StimulusFails};
 
-use crate::LONGEST;
 use sec_base::{FetchError, MAX_FILE_BYTES, Shelf, fetch};
 use std::alloc::Global;
 use witness_report::{StimError, Stimulus, read_stimulus};
@@ -28,7 +27,7 @@ pub fn load_stimulus<S: Shelf>(
     ensures keeps { SameHeld (S.held shelf.old) (S.held shelf.new) }
     ensures served { S.serves shelf.old path.now → IsErrOf result (StimulusError.Fetch FetchError.Failed) → ⊥ }
 {
-    let text = match fetch(alloc, shelf, path, LONGEST) {
+    let text = match fetch(alloc, shelf, path, MAX_FILE_BYTES) {
         Ok(text) => text,
         Err(error) => return Err(StimulusError::Fetch(error)),
     };
