@@ -2,6 +2,7 @@
 use Rattle.std.specs.Prelude.{ℕ, ◌==◌, nat_lt, ◌&&◌, ◌||◌, not, Bool, true, false, List, [], ◌∷◌, ◌++◌, length, Option, Some, None, codes}
 use Rattle.std.specs.List.{list_any, list_all, before_first, after_first}
 use Rattle.circuit_theory.specs.Interface.{◌or_else◌}
+use Rattle.sec_base.specs.declared.limits.TheConstants.{MAX_NAME_BYTES}
 use Rattle.blif_lines.specs.Lines.{is_empty}
 use Rattle.sec_base.specs.Table.{is_among}
 use Rattle.blif_read.specs.declared.head.Head.{Head}
@@ -22,7 +23,7 @@ is_control b = nat_lt b 32 || (b == 127)
 
 -- more than 4,096 bytes
 abbrev pub is_long : List ℕ → Bool
-is_long name = nat_lt 4096 (length name)
+is_long name = nat_lt MAX_NAME_BYTES (length name)
 
 abbrev pub unless_end : Head → List Line → List Line
 unless_end head.End block = []

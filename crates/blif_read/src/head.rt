@@ -7,9 +7,7 @@ ghost use Rattle.sec_base.specs.Table.{is_among};
 ghost use Rattle.blif_read.specs.Fault.{is_control, is_long, is_model_head, gate};
 
 use crate::error::ReadKind;
-
-/// The most bytes of a name.
-const NAME_BYTES: usize = 4096;
+use sec_base::MAX_NAME_BYTES;
 
 /// What the first token of a line says the line is.
 #[derive(Clone, Copy, PartialEq, Eq)]
@@ -159,7 +157,7 @@ pub(crate) fn any_control(tokens: &[&[u8]]) -> bool
 fn is_long(name: &[u8]) -> bool
     ensures { result ≡ is_long name.now }
 {
-    name.len() > NAME_BYTES
+    name.len() > MAX_NAME_BYTES
 }
 
 fn any_long(names: &[&[u8]]) -> bool

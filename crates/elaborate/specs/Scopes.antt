@@ -2,6 +2,7 @@
 use Rattle.std.specs.Prelude.{◌≡◌, ℕ, ◌-◌, ◌<◌, ◌&&◌, nat_lt, ◌+◌, Bool, All, List, [], ◌∷◌, ◌++◌, map, length, Option, Some, None, slice_get}
 use Rattle.std.specs.Fmt.{decimal}
 use Rattle.std.specs.List.{list_any}
+use Rattle.sec_base.specs.declared.limits.TheConstants.{MAX_NAME_BYTES}
 use Rattle.sec_base.specs.Table.{is_among}
 use Rattle.blif_read.specs.declared.design.BlifModel.{BlifModel}
 use Rattle.blif_read.specs.declared.design.Statement.{Statement}
@@ -52,7 +53,7 @@ GoesInside models scope k (Subckt line name pairs) inside = (inner : Scope) × (
 
 -- a name behind so many bytes has more than 4,096 bytes
 abbrev pub is_long_behind : ℕ → List ℕ → Bool
-is_long_behind prefix name = nat_lt 4096 (prefix + length name)
+is_long_behind prefix name = nat_lt MAX_NAME_BYTES (prefix + length name)
 
 -- so much room, which is one more than the longest name, or 0 without a name, is too much behind so many bytes
 abbrev pub exceeds : ℕ → ℕ → Bool

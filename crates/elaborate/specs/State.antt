@@ -2,6 +2,7 @@
 use Rattle.std.specs.Prelude.{◌≡◌, ℕ, ◌+◌, ◌≤◌, Bool, true, false, List, [], ◌∷◌, ◌++◌, map, length, Option, Some, Ok, slice_get}
 use Rattle.std.specs.List.{list_all}
 use Rattle.circuit_theory.specs.Interface.{◌or_else◌}
+use Rattle.sec_base.specs.declared.limits.TheConstants.{MAX_PLACES, MAX_STATEMENTS}
 use Rattle.sec_base.specs.Table.{is_among}
 use Rattle.blif_read.specs.declared.design.BlifModel.{BlifModel}
 use Rattle.blif_read.specs.declared.design.Pair.{Pair}
@@ -35,8 +36,8 @@ state models w = record { count = w.count; places = w.places; spelled = spelled_
 -- each number is one of a name, and not too much was counted
 pub record IsKept (w : Walked) : Type 0 where
   pub within : list_all (is_within (length w.names)) w.statements ≡ true
-  pub few : w.count ≤ 400000
-  pub few_places : w.places ≤ 4000000
+  pub few : w.count ≤ MAX_STATEMENTS
+  pub few_places : w.places ≤ MAX_PLACES
 
 -- flat statements go last
 abbrev pub with_flats : Sofar → List (FlatOf (List ℕ)) → Sofar

@@ -2,6 +2,7 @@
 use Rattle.std.specs.Prelude.{◌≡◌, ℕ, ◌+◌, ◌*◌, nat_lt, nat_le, ◌||◌, not, Bool, true, false, List, [], ◌∷◌, ◌++◌, map, length, Option, Some, None, codes, refl}
 use Rattle.std.specs.List.{list_any, find}
 use Rattle.circuit_theory.specs.Interface.{◌or_else◌}
+use Rattle.sec_base.specs.declared.limits.TheConstants.{MAX_NAME_BYTES, MAX_PLACES, MAX_STATEMENTS}
 use Rattle.sec_base.specs.Table.{is_among}
 use Rattle.blif_read.specs.declared.design.BlifModel.{BlifModel}
 use Rattle.blif_read.specs.declared.design.Pair.{Pair}
@@ -35,7 +36,7 @@ places_in (Pairing outer inner m pair) = 0
 
 -- more than 400,000 statements or 4,000,000 places
 abbrev pub is_too_many : ℕ → ℕ → Bool
-is_too_many statements places = nat_lt 400000 statements || nat_lt 4000000 places
+is_too_many statements places = nat_lt MAX_STATEMENTS statements || nat_lt MAX_PLACES places
 
 -- inputs, clocks and outputs
 abbrev pub formals_of : BlifModel → List (List ℕ)
@@ -59,7 +60,7 @@ ports_fault m pairs = pairs_fault (is_among (formals_of m)) [] pairs or_else nam
 
 -- the flat name has more than 4,096 bytes
 abbrev pub is_long_at : List Inside → List ℕ → Bool
-is_long_at path name = nat_lt 4096 (length (flat_name path name))
+is_long_at path name = nat_lt MAX_NAME_BYTES (length (flat_name path name))
 
 -- an actual's flat name is long, or that of a formal of the model, also of one without a pair
 abbrev pub has_long : List Inside → List Inside → BlifModel → List Pair → Bool

@@ -2,6 +2,7 @@
 
 ghost use Rattle.std.specs.Prelude.{◌≡◌, ◌<◌, ◌≤◌, length, slice_get, true, Some, All};
 ghost use Rattle.std.specs.List.{list_all, sum_by};
+ghost use Rattle.sec_base.specs.declared.limits.TheConstants.{MAX_PLACES, MAX_STATEMENTS};
 ghost use Rattle.sec_base.specs.Table.{AreDistinct};
 ghost use Rattle.elaborate.specs.Within.{is_within, reads_as_kind, written_places};
 
@@ -66,8 +67,8 @@ pub struct Flat {
     /// A latch reads one signal, and so does a port.
     ghost shaped: { list_all reads_as_kind statements ≡ true },
     /// There are at most 400,000 statements, and they write 4,000,000 names at most.
-    ghost few: { length statements ≤ 400000 },
-    ghost few_places: { sum_by written_places statements ≤ 4000000 },
+    ghost few: { length statements ≤ MAX_STATEMENTS },
+    ghost few_places: { sum_by written_places statements ≤ MAX_PLACES },
 }
 
 impl Flat {

@@ -21,7 +21,7 @@ use crate::scope::Scope;
 use crate::tables::{Tables, tables_of};
 use crate::walked::Walked;
 use blif_read::{BlifModel, Design, Pair, Statement};
-use sec_base::{Ids, NameTable, NoMemory, Seq, Word};
+use sec_base::{Ids, MAX_PLACES, MAX_STATEMENTS, NameTable, NoMemory, Seq, Word};
 use std::alloc::Global;
 use std::mem;
 
@@ -172,8 +172,8 @@ fn port_numbers(
 fn with_ports(alloc: Global, walked: &mut Walked, main: &BlifModel) -> Result<Flat, NoMemory>
     requires kept { IsKept walked.old }
     requires shaped { list_all reads_as_kind walked.old.statements ≡ true }
-    requires few { length walked.old.statements ≤ 400000 }
-    requires few_places { sum_by written_places walked.old.statements ≤ 4000000 }
+    requires few { length walked.old.statements ≤ MAX_STATEMENTS }
+    requires few_places { sum_by written_places walked.old.statements ≤ MAX_PLACES }
     ensures { IfOk result (IsWithPorts main.now walked.old) }
 {
     let (inputs, clocks, outputs) = port_numbers(alloc, &mut walked.names, main)?;
