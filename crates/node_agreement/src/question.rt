@@ -117,7 +117,7 @@ fn ask_search(
     let query = Query {
         left,
         right,
-        care: Lit(1),
+        care: Lit::TRUE,
         vars,
     };
     let decision = decide(alloc, graph, &query, conflicts)?;

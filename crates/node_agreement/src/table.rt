@@ -72,7 +72,7 @@ fn differing(
     ensures { IfOk result (λ found. found ≡ None → Agree graph.now left.0 right.0) }
 {
     graph.keeps();
-    let found = table_differs(alloc, graph, left, right, Lit(1), vars)?;
+    let found = table_differs(alloc, graph, left, right, Lit::TRUE, vars)?;
     Ok(found)
 }
 

@@ -1,4 +1,4 @@
-use Rattle.std.proofs.Common.{◌/◌}
+use Rattle.std.proofs.Common.{◌/◌, ◌∙◌}
 use Rattle.node_agreement.specs.Standing.{by_nodes}
 use Rattle.node_agreement.proofs.Stood.{local-at}
 use Rattle.node_agreement.proofs.small.find.Goals as goal
