@@ -1,11 +1,10 @@
 -- No place of a variable has two numbers, since no two event nodes have one path; so one tree has one literal, with the tree's value.
-use Rattle.std.proofs.Common.{◌≡◌, ◌∙◌, ◌+◌, ◌<◌, ◌≤◌, ℕ, zero, suc, Bool, true, false, List, [], ◌∷◌, length, slice_get, Some, refl, sym, ap, subst, arith}
+use Rattle.std.proofs.Common.{◌≡◌, ◌∙◌, ◌≤◌, ℕ, Bool, true, false, List, length, slice_get, Some, refl, sym, ap, subst}
 use Rattle.std.specs.Prelude.{◌||◌, ◌&&◌, not}
 use Rattle.circuit_theory.specs.Tree.{Tree, tree_value}
 use Rattle.circuit_theory.proofs.Lists.{map_at}
 use Rattle.event_theory.specs.Frame.{IsEnable}
 use Rattle.sec_base.specs.Table.{AreDistinct}
-use Rattle.flat_net.proofs.Nets.{some_at}
 use Rattle.flat_net.proofs.Places.{All-at}
 use Rattle.aig.specs.Builds.{Builds}
 use Rattle.aig.specs.Graph.{flip}
@@ -14,44 +13,11 @@ use Rattle.aig.specs.Rules.{IsAndOf}
 use Rattle.aig.proofs.Growth.{Builds-one, IsAndOf-one}
 use Rattle.aig.proofs.Meaning.{value-flip}
 use Rattle.aig.proofs.CoverMeaning.{value-and, value-tree}
-use Rattle.edbf_unfold.specs.Nodes.{path_of, IsTree, EventGraphView, named_places, IsEventGraph}
+use Rattle.event_nodes.specs.Nodes.{path_of, EventGraphView, named_places, IsEventGraph}
 use Rattle.edbf_unfold.specs.Laws.{EqualEventTreesOneLiteral, EqualEnablesOneLiteral, LiteralIsTree, EnableLiteralIsEnable, KnownLater}
-use Rattle.edbf_unfold.proofs.Paths.{path_grows, child_path}
-use Rattle.edbf_unfold.proofs.Drivers.{latch_equation_stands}
+use Rattle.event_nodes.proofs.OnePath.{one_node}
+use Rattle.event_nodes.proofs.Drivers.{latch_equation_stands}
 use Rattle.edbf_unfold.proofs.Known.{known_at_later}
-
-module _ (es : List (ℕ × ℕ)) (tree : IsTree es) (once : AreDistinct es) where
-  root_is : path_of es 0 ≡ []
-  root_is = path_grows [] es 0 (omega arith)
-
-  -- an entry's path: one step more than its parent's
-  below_root : (n : ℕ) → n < length es → (e : ℕ × ℕ) × (slice_get es n ≡ Some e) × (path_of es (suc n) ≡ e.1 ∷ path_of es e.0) × (e.0 ≤ n)
-  below_root n inside =
-      let e = some_at es n inside in
-      let at_next : suc n ≡ n + 1 = omega arith in
-      (e.0, e.1, child_path es tree e.0.0 e.0.1 (suc n) (n, at_next, e.1), tree n e.0.0 e.0.1 e.1)
-
-  same_path : (R n m : ℕ) → n < R → n ≤ length es → m ≤ length es → path_of es n ≡ path_of es m → n ≡ m
-  same_path zero n m low inside also e = absurd (omega arith)
-  same_path (suc R) zero zero low inside also e = refl
-  same_path (suc R) zero (suc m) low inside also e = absurd (wrong (sym root_is ∙ (e ∙ (below_root m (omega arith)).2)))
-    where
-      wrong : [] ≡ (below_root m (omega arith)).0.1 ∷ path_of es (below_root m (omega arith)).0.0 → ⊥
-      wrong q = cc
-  same_path (suc R) (suc n) zero low inside also e = absurd (wrong (sym root_is ∙ (sym e ∙ (below_root n (omega arith)).2)))
-    where
-      wrong : [] ≡ (below_root n (omega arith)).0.1 ∷ path_of es (below_root n (omega arith)).0.0 → ⊥
-      wrong q = cc
-  same_path (suc R) (suc n) (suc m) low inside also e =
-      let x = below_root n (omega arith) in
-      let y = below_root m (omega arith) in
-      let step = first x.0.1 y.0.1 (path_of es x.0.0) (path_of es y.0.0) (sym x.2 ∙ (e ∙ y.2)) in
-      let up = same_path R x.0.0 y.0.0 (omega (arith, x.3, low)) (omega (arith, x.3, inside)) (omega (arith, y.3, also)) step.1 in
-      let entry : x.0 ≡ y.0 = λ i. (up i, step.0 i) in
-      ap suc (once n m x.0 x.1 (subst (λ (p : ℕ × ℕ). slice_get es m ≡ Some p) (sym entry) y.1))
-    where
-      first : (a b : ℕ) (ps qs : List ℕ) → a ∷ ps ≡ b ∷ qs → (a ≡ b) × (ps ≡ qs)
-      first a b ps qs q = (cc, cc)
 
 -- the variables' places by paths are distinct
 pub named_distinct : (w : EventGraphView) → IsEventGraph w → AreDistinct (named_places w)
@@ -63,7 +29,7 @@ named_distinct w is i j x first second =
     let at_p = All-at (λ (r : ℕ × ℕ). r.1 ≤ length w.children) w.places i p.0 p.1 is.placed in
     let at_q = All-at (λ (r : ℕ × ℕ). r.1 ≤ length w.children) w.places j q.0 q.1 is.placed in
     let input : p.0.0 ≡ q.0.0 = ap (λ (r : ℕ × List ℕ). r.0) both in
-    let node : p.0.1 ≡ q.0.1 = same_path w.children is.is_tree is.once (suc p.0.1) p.0.1 q.0.1 (omega arith) at_p at_q (ap (λ (r : ℕ × List ℕ). r.1) both) in
+    let node : p.0.1 ≡ q.0.1 = one_node w.children is.is_tree is.once p.0.1 q.0.1 at_p at_q (ap (λ (r : ℕ × List ℕ). r.1) both) in
     let same : p.0 ≡ q.0 = λ k. (input k, node k) in
     is.place_once i j p.0 p.1 (subst (λ (r : ℕ × ℕ). slice_get w.places j ≡ Some r) (sym same) q.1)
 
@@ -72,7 +38,7 @@ one_literal e f w put other p q path way x y is k l same =
     Builds-one w.graph is.is_graph (named_places w) (named_distinct w is) k.tree x y k.builds (subst (λ (t : Tree (List ℕ)). Builds w.graph (named_places w) t y) (sym same) l.builds)
 
 pub one_enable_literal : EqualEnablesOneLiteral
-one_enable_literal e f w node other l m x y is k n low high =
+one_enable_literal e f w path other l m x y is k n low high =
     let f0 = one_literal e f w _ _ _ _ _ _ k.f0 n.f0 is k.low n.low low in
     let f1 = one_literal e f w _ _ _ _ _ _ k.f1 n.f1 is k.high n.high high in
     let both : k.both ≡ n.both = IsAndOf-one w.graph is.is_graph (flip k.f0) k.f1 k.both n.both k.and_is (subst (λ (a : ℕ). IsAndOf w.graph (flip a) k.f1 n.both) (sym f0) (subst (λ (b : ℕ). IsAndOf w.graph (flip n.f0) b n.both) (sym f1) n.and_is)) in
@@ -87,7 +53,7 @@ or_not true c = refl
 or_not false c = refl
 
 pub enable_value : EnableLiteralIsEnable
-enable_value e w node j l x sound is at on k bits a fits =
+enable_value e w path j l x sound is at on k bits a fits =
     IsEnable.own {name = l.name} {next = l.next.0} {low = k.low.tree} {high = k.high.tree} on (latch_equation_stands e.net sound l.out.0 j (sound.latches j l at).owner l at) k.low.unfolds k.high.unfolds
     (ap (λ b. b || not (tree_value bits k.high.tree)) (sym low) ∙ (ap (λ b. value w.graph a k.f0 || not b) (sym high) ∙ (sym (or_not (value w.graph a k.f0) (value w.graph a k.f1)) ∙ sym whole)))
   where

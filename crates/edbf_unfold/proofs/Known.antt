@@ -19,10 +19,10 @@ use Rattle.aig.proofs.Growth.{Grows-length, Builds-grows}
 use Rattle.edbf_unfold.specs.declared.frames.Frame.{Frame}
 use Rattle.edbf_unfold.specs.declared.frames.Put.{Put}
 use Rattle.edbf_unfold.specs.declared.frames.Put.TheVariants.{Free, Low, High}
-use Rattle.edbf_unfold.specs.Nodes.{EventGraphView, path_of, named_places, IsEventGraph, GrowsEvents}
-use Rattle.edbf_unfold.specs.View.{EventCircuitView, side_of, Enabled}
+use Rattle.event_nodes.specs.Nodes.{EventGraphView, path_of, named_places, IsEventGraph, GrowsEvents}
+use Rattle.event_nodes.specs.View.{EventCircuitView, side_of, Enabled}
 use Rattle.edbf_unfold.specs.Known.{put_of, IsKnownAt, IsKnownIn, IsOnward}
-use Rattle.edbf_unfold.proofs.Paths.{path_grows, child_path, named_grows}
+use Rattle.event_nodes.proofs.Paths.{path_grows, child_path, named_grows}
 
 pub builds_later : (w v : EventGraphView) → IsEventGraph w → GrowsEvents w v → (tree : Tree (List ℕ)) (x : ℕ) → Builds w.graph (named_places w) tree x → Builds v.graph (named_places v) tree x
 builds_later w v is grows tree x builds =

@@ -26,12 +26,13 @@ use Rattle.aig.specs.Rules.{IsCoverOf, cover_room}
 use Rattle.edbf_unfold.specs.declared.frames.Frame.{Frame}
 use Rattle.edbf_unfold.specs.declared.frames.Put.TheVariants.{Low, High}
 use Rattle.edbf_unfold.specs.declared.frames.Step.{Step}
-use Rattle.edbf_unfold.specs.Nodes.{EventGraphView, IsEventGraph, GrowsEvents}
-use Rattle.edbf_unfold.specs.View.{EventCircuitView, IsEventCircuit}
-use Rattle.edbf_unfold.specs.Known.{EventUnfolderView, put_of, IsKnownIn, AreKnown, IsMet, IsReady, HasGrown, IsInputLit, IsGateLit, gate_weight}
-use Rattle.edbf_unfold.proofs.Drivers.{driven_gate, gate_equation_stands, gate_reads_to, latch_equation_stands}
+use Rattle.event_nodes.specs.Nodes.{EventGraphView, IsEventGraph, GrowsEvents}
+use Rattle.event_nodes.specs.View.{EventCircuitView, IsEventCircuit}
+use Rattle.edbf_unfold.specs.Known.{EventUnfolderView, put_of, IsKnownIn, AreKnown, IsMet, IsReady, HasGrown, IsInputLit, IsGateLit}
+use Rattle.event_nodes.specs.Weights.{gate_weight}
+use Rattle.event_nodes.proofs.Drivers.{driven_gate, gate_equation_stands, gate_reads_to, latch_equation_stands}
 use Rattle.edbf_unfold.proofs.Known.{known_later, known_input, known_low, known_high, known_onward, known_gate}
-use Rattle.edbf_unfold.proofs.Growing.{grows_refl}
+use Rattle.event_nodes.proofs.Growing.{grows_refl}
 
 -- a pair of lists with one element more each
 pub zip_more_left : {X Y : Type 0} (R : X → Y → Type 0) (xs : List X) (ys : List Y) (i : ℕ) (d : X) (y : Y) → i < length xs → AllZip R (take i xs) ys → R (get_or xs i d) y → AllZip R (take (i + 1) xs) (ys ++ y ∷ [])

@@ -1,15 +1,12 @@
 -- When the literal of a signal at a node is right.
-use Rattle.std.specs.Prelude.{◌≡◌, ◌⊎◌, ℕ, ◌+◌, ◌*◌, ◌^◌, ◌<◌, ◌≤◌, max, Bool, true, false, List, length, map, Option, Some, None, slice_get, Contains}
+use Rattle.std.specs.Prelude.{◌≡◌, ◌⊎◌, ℕ, ◌+◌, ◌*◌, ◌^◌, ◌<◌, ◌≤◌, Bool, true, false, List, length, map, Option, Some, None, slice_get, Contains}
 use Rattle.std.specs.List.{AllZip}
-use Rattle.circuit_theory.specs.Cover.{Cover}
 use Rattle.circuit_theory.specs.Tree.{Tree}
 use Rattle.circuit_theory.specs.Circuit.{IsLatch, Reads}
 use Rattle.event_theory.specs.Frame.{EventUnfolds, NotPut}
 use Rattle.flat_net.specs.declared.parts.Gate.{Gate}
 use Rattle.flat_net.specs.declared.parts.LatchAt.{LatchAt}
-use Rattle.flat_net.specs.declared.parts.Driver.{Driver}
-use Rattle.flat_net.specs.declared.parts.Driver.TheVariants as driver
-use Rattle.flat_net.specs.View.{NetView, circuit_of, cover_of}
+use Rattle.flat_net.specs.View.{circuit_of, cover_of}
 use Rattle.aig.specs.declared.node.Lit.{Lit}
 use Rattle.aig.specs.declared.node.Node.{Node}
 use Rattle.aig.specs.declared.node.Node.TheVariants.{Input}
@@ -20,9 +17,9 @@ use Rattle.edbf_unfold.specs.declared.frames.Frame.{Frame}
 use Rattle.edbf_unfold.specs.declared.frames.Put.{Put}
 use Rattle.edbf_unfold.specs.declared.frames.Put.TheVariants.{Free, Low, High}
 use Rattle.edbf_unfold.specs.declared.frames.Step.{Step}
-use Rattle.edbf_unfold.specs.Adds.{Adds}
-use Rattle.edbf_unfold.specs.Nodes.{EventGraphView, IsChild, path_of, named_places, GrowsEvents}
-use Rattle.edbf_unfold.specs.View.{EventCircuitView, side_of, Enabled}
+use Rattle.event_nodes.specs.Adds.{Adds}
+use Rattle.event_nodes.specs.Nodes.{EventGraphView, IsChild, path_of, named_places, GrowsEvents}
+use Rattle.event_nodes.specs.View.{EventCircuitView, side_of, Enabled}
 
 -- the latch that is read as a constant, with the bit
 abbrev pub put_of : Put → Option (ℕ × Bool)
@@ -41,13 +38,13 @@ pub record IsKnownAt (e : EventCircuitView) (w : EventGraphView) (put : Option (
 abbrev pub IsKnownIn : EventCircuitView → EventGraphView → Frame → ℕ → ℕ → Type 0
 IsKnownIn e w f p lit = IsKnownAt e w (put_of f.put) p (path_of w.children f.node) lit
 
--- the literal is that of the latch's enable at the node: the function with the latch at 0, or not that with it at 1
-pub record IsEnableLit (e : EventCircuitView) (w : EventGraphView) (node : ℕ) (l : LatchAt) (lit : ℕ) : Type 0 where
+-- the literal is that of the latch's enable at the path: the function with the latch at 0, or not that with it at 1
+pub record IsEnableLit (e : EventCircuitView) (w : EventGraphView) (path : List ℕ) (l : LatchAt) (lit : ℕ) : Type 0 where
   pub f0 : ℕ
   pub f1 : ℕ
   pub both : ℕ
-  pub low : IsKnownIn e w (record { node = node; put = Low l.out.0 }) l.next.0 f0
-  pub high : IsKnownIn e w (record { node = node; put = High l.out.0 }) l.next.0 f1
+  pub low : IsKnownAt e w (Some (l.out.0, false)) l.next.0 path f0
+  pub high : IsKnownAt e w (Some (l.out.0, true)) l.next.0 path f1
   pub and_is : IsAndOf w.graph (flip f0) f1 both
   pub lit_is : lit ≡ flip both
   pub within : lit < 2 * length w.graph
@@ -65,6 +62,10 @@ pub record IsOnward (e : EventCircuitView) (children : List (ℕ × ℕ)) (u : �
   pub child : IsChild children f.node ((side_of e).class u) g.node
   pub own : IsOwnPut e u g.put
 
+-- h is the frame beside it with the latch as 1
+abbrev pub IsHighOnward : EventCircuitView → List (ℕ × ℕ) → ℕ → Frame → Frame → Type 0
+IsHighOnward e children u f h = IsChild children f.node ((side_of e).class u) h.node × (h.put ≡ High u)
+
 -- what a contract sees of an unfolder
 pub record EventUnfolderView : Type 0 where
   pub circuit : EventCircuitView
@@ -78,7 +79,7 @@ abbrev pub IsMet : List ((ℕ × ℕ) × Lit) → ℕ × ℕ → Type 0
 IsMet memo p = (x : Lit) × Contains memo (p, x)
 
 -- The step can be done, where Met says which places have been met: what its signal reads in its frame has been met, and so has what
--- its latch takes over in the frame onward.
+-- its latch takes over in the frame onward, and in the frame beside it if the latch is enabled.
 pub record IsReadyBy (e : EventCircuitView) (frames : List Frame) (children : List (ℕ × ℕ)) (Met : ℕ × ℕ → Type 0) (step : Step) : Type 0 where
   pub frame : Frame
   pub at : slice_get frames step.frame ≡ Some frame
@@ -87,6 +88,8 @@ pub record IsReadyBy (e : EventCircuitView) (frames : List Frame) (children : Li
   pub reads : (q : ℕ) → Reads (circuit_of e.net) step.signal q → Met (step.frame, q)
   pub onward : (name : List ℕ) (next : ℕ) → IsLatch (circuit_of e.net) name step.signal next → NotPut (put_of frame.put) step.signal →
       (g : Frame) × (slice_get frames step.onward ≡ Some g) × IsOnward e children step.signal frame g × Met (step.onward, next)
+  pub high : (name : List ℕ) (next : ℕ) → IsLatch (circuit_of e.net) name step.signal next → NotPut (put_of frame.put) step.signal → Enabled e step.signal →
+      (h : Frame) × (slice_get frames step.high ≡ Some h) × IsHighOnward e children step.signal frame h × Met (step.high, next)
 
 abbrev pub IsReady : EventUnfolderView → EventGraphView → Step → Type 0
 IsReady u w step = IsReadyBy u.circuit u.frames w.children (IsMet u.memo) step
@@ -113,19 +116,19 @@ pub record IsLater (u v : EventUnfolderView) (w x : EventGraphView) (room : ℕ)
   pub memo : Adds (λ e. Unit {0}) u.memo v.memo
   pub grown : HasGrown w x room
 
--- the same unfolder after a signal more was unfolded: at most so many places, each a frame and an event node more, and so much graph
+-- the same unfolder after a signal more was unfolded: so much graph more at most
 pub record HasUnfolded (u v : EventUnfolderView) (w x : EventGraphView) (room : ℕ) : Type 0 where
   pub circuit : v.circuit ≡ u.circuit
   pub grows : GrowsEvents w x
-  pub frames : length v.frames ≤ length u.frames + room + 1
-  pub children : length x.children ≤ length w.children + room
+  pub frames : Adds (λ f. Unit {0}) u.frames v.frames
+  pub few_frames : length v.frames ≤ length u.frames + 2 * room + 1
+  pub memo : Adds (λ e. Unit {0}) u.memo v.memo
   pub nodes : length x.graph ≤ length w.graph + room
   pub places : length x.places ≤ length w.places + room
 
 -- there is room for so many places more
 pub record HasRoomFor (u : EventUnfolderView) (w : EventGraphView) (room : ℕ) : Type 0 where
-  pub frames : length u.frames + room + 2 < 2 ^ 32
-  pub children : length w.children + room + 2 < 2 ^ 32
+  pub frames : length u.frames + 2 * room + 4 < 2 ^ 32
   pub nodes : length w.graph + room < 2 ^ 30
   pub places : length w.places + room < 2 ^ 31
 
@@ -146,19 +149,3 @@ pub record IsGateLit (u : EventUnfolderView) (frame j : ℕ) (g : List Node) (x 
   pub each : AllZip (λ f y. Contains u.memo ((frame, f.0), y)) gate.fanins lits
   pub is : IsCoverOf g (cover_of u.circuit.net.covers gate) (map (λ y. y.0) lits) x
   pub within : x < 2 * length g
-
--- a gate counts 1 + rows * (fan-ins + 1), where a cover without rows has one
-abbrev pub gate_weight : List Cover → Option Gate → ℕ
-gate_weight covers None = 1
-gate_weight covers (Some g) = 1 + max 1 (length (cover_of covers g).rows) * (length g.fanins + 1)
-
--- an input or latch counts 1
-abbrev pub driver_weight : NetView → Option Driver → ℕ
-driver_weight n None = 1
-driver_weight n (Some (driver.Input i)) = 1
-driver_weight n (Some (driver.Gate j)) = gate_weight n.covers (slice_get n.gates j)
-driver_weight n (Some (driver.Latch j)) = 1
-
--- what a signal of the net counts
-abbrev pub weight_at : NetView → ℕ → ℕ
-weight_at n s = driver_weight n (slice_get n.drivers s)

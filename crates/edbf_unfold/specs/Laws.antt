@@ -1,13 +1,16 @@
 -- What follows for the literals of event trees.
-use Rattle.std.specs.Prelude.{◌≡◌, ℕ, Bool, List, Option, Some, slice_get}
+use Rattle.std.specs.Prelude.{◌≡◌, ◌↔◌, ℕ, Bool, true, List, Option, Some, None, slice_get}
 use Rattle.circuit_theory.specs.Tree.{tree_value}
-use Rattle.event_theory.specs.Frame.{IsEnable}
+use Rattle.event_theory.specs.Frame.{IsEnable, ConeLatches, HasCare}
+use Rattle.event_theory.specs.Classes.{EnableCare}
 use Rattle.flat_net.specs.declared.parts.LatchAt.{LatchAt}
 use Rattle.flat_net.specs.Sound.{IsSound}
+use Rattle.flat_net.specs.View.{circuit_of}
 use Rattle.aig.specs.Values.{value}
-use Rattle.edbf_unfold.specs.Nodes.{EventGraphView, IsEventGraph, GrowsEvents, named_places, path_of}
-use Rattle.edbf_unfold.specs.View.{EventCircuitView, side_of, Enabled}
+use Rattle.event_nodes.specs.Nodes.{EventGraphView, IsEventGraph, GrowsEvents, named_places}
+use Rattle.event_nodes.specs.View.{EventCircuitView, IsEventCircuit, side_of, Enabled}
 use Rattle.edbf_unfold.specs.Known.{IsKnownAt, IsEnableLit}
+use Rattle.edbf_unfold.specs.Care.{IsCareLit}
 
 -- the assignment of the variables is the frame's
 abbrev pub TakesFrame : EventGraphView → (ℕ → List ℕ → Bool) → (ℕ → Bool) → Type 0
@@ -20,17 +23,24 @@ EqualEventTreesOneLiteral = (e f : EventCircuitView) (w : EventGraphView) (put o
 
 -- So have enables whose two functions have equal trees.
 abbrev pub EqualEnablesOneLiteral : Type 0
-EqualEnablesOneLiteral = (e f : EventCircuitView) (w : EventGraphView) (node other : ℕ) (l m : LatchAt) (x y : ℕ) → IsEventGraph w → (k : IsEnableLit e w node l x) (n : IsEnableLit f w other m y) → k.low.tree ≡ n.low.tree → k.high.tree ≡ n.high.tree → x ≡ y
+EqualEnablesOneLiteral = (e f : EventCircuitView) (w : EventGraphView) (path other : List ℕ) (l m : LatchAt) (x y : ℕ) → IsEventGraph w → (k : IsEnableLit e w path l x) (n : IsEnableLit f w other m y) → k.low.tree ≡ n.low.tree → k.high.tree ≡ n.high.tree → x ≡ y
 
 -- The literal has in each frame the value of its tree.
 abbrev pub LiteralIsTree : Type 0
 LiteralIsTree = (e : EventCircuitView) (w : EventGraphView) (put : Option (ℕ × Bool)) (p : ℕ) (path : List ℕ) (x : ℕ) → IsEventGraph w → (k : IsKnownAt e w put p path x) → (bits : ℕ → List ℕ → Bool) (a : ℕ → Bool) → TakesFrame w bits a →
     value w.graph a x ≡ tree_value bits k.tree
 
--- The literal of an enabled latch's enable has in each frame the enable's value at its node.
+-- The literal of an enabled latch's enable has in each frame the enable's value at its path.
 abbrev pub EnableLiteralIsEnable : Type 0
-EnableLiteralIsEnable = (e : EventCircuitView) (w : EventGraphView) (node j : ℕ) (l : LatchAt) (x : ℕ) → IsSound e.net → IsEventGraph w → slice_get e.net.latches j ≡ Some l → Enabled e l.out.0 → IsEnableLit e w node l x →
-    (bits : ℕ → List ℕ → Bool) (a : ℕ → Bool) → TakesFrame w bits a → IsEnable (side_of e) (Enabled e) bits l.out.0 (path_of w.children node) (value w.graph a x)
+EnableLiteralIsEnable = (e : EventCircuitView) (w : EventGraphView) (path : List ℕ) (j : ℕ) (l : LatchAt) (x : ℕ) → IsSound e.net → IsEventGraph w → slice_get e.net.latches j ≡ Some l → Enabled e l.out.0 → IsEnableLit e w path l x →
+    (bits : ℕ → List ℕ → Bool) (a : ℕ → Bool) → TakesFrame w bits a → IsEnable (side_of e) (Enabled e) bits l.out.0 path (value w.graph a x)
+
+-- The literal of the care of what a signal reaches is 1 in exactly the frames with care for the signal, and that of the care of what an
+-- enabled latch takes over, the latch left out, in exactly those with care for the latch's enable.
+abbrev pub CareLiteralIsCare : Type 0
+CareLiteralIsCare = (e : EventCircuitView) (w : EventGraphView) (lit : ℕ) → IsSound e.net → IsEventCircuit e → IsEventGraph w → (bits : ℕ → List ℕ → Bool) (a : ℕ → Bool) → TakesFrame w bits a →
+    ((s : ℕ) → IsCareLit e w (record { place = s; left_out = None }) lit → (value w.graph a lit ≡ true) ↔ HasCare (side_of e) (Enabled e) (ConeLatches (circuit_of e.net) s) bits)
+    × ((j : ℕ) (l : LatchAt) → slice_get e.net.latches j ≡ Some l → Enabled e l.out.0 → IsCareLit e w (record { place = l.next.0; left_out = Some l.out.0 }) lit → (value w.graph a lit ≡ true) ↔ EnableCare (side_of e) bits l.out.0)
 
 -- A literal goes on to be right while the event graph grows.
 abbrev pub KnownLater : Type 0

@@ -29,20 +29,8 @@ pub(crate) fn constant(put: Put, signal: u32) -> Option<Lit>
 {
     match put {
         Put::Free => None,
-        Put::Low(latch) => {
-            if latch == signal {
-                Some(Lit::FALSE)
-            } else {
-                None
-            }
-        }
-        Put::High(latch) => {
-            if latch == signal {
-                Some(Lit::TRUE)
-            } else {
-                None
-            }
-        }
+        Put::Low(latch) => { if latch == signal { Some(Lit::FALSE) } else { None } }
+        Put::High(latch) => { if latch == signal { Some(Lit::TRUE) } else { None } }
     }
 }
 
@@ -63,6 +51,16 @@ pub(crate) struct Step {
     pub(crate) frame: u32,
     /// The number of the frame in which the signal's latch takes over its data, if it is one that isn't put.
     pub(crate) onward: u32,
+    /// That of the frame beside it with the latch as 1, if the latch is enabled.
+    pub(crate) high: u32,
+}
+
+/// The frames in which a place goes on, by their numbers: where its latch takes over its data, and, if that is an enabled one, the frame
+/// beside it with the latch as 1. At other places they say nothing.
+#[derive(Clone, Copy)]
+pub(crate) struct Ways {
+    pub(crate) onward: u32,
+    pub(crate) high: u32,
 }
 
 /// Frames in the order in which they first came. A contract sees the list.

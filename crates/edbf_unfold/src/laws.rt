@@ -1,6 +1,6 @@
 //! What follows for the literals of event trees. None of these functions does anything: each contract is a law.
 
-ghost use Rattle.edbf_unfold.specs.Laws.{EqualEventTreesOneLiteral, EqualEnablesOneLiteral, LiteralIsTree, EnableLiteralIsEnable, KnownLater};
+ghost use Rattle.edbf_unfold.specs.Laws.{EqualEventTreesOneLiteral, EqualEnablesOneLiteral, LiteralIsTree, EnableLiteralIsEnable, CareLiteralIsCare, KnownLater};
 
 /// Equal trees have one literal in one event graph, whichever circuits they are of.
 pub fn equal_event_trees_one_literal()
@@ -20,6 +20,11 @@ pub fn literal_is_tree()
 /// In each frame the literal of a latch's enable has the enable's value at its node.
 pub fn enable_literal_is_enable()
     ensures { EnableLiteralIsEnable }
+{}
+
+/// In each frame the literal of a care is 1 exactly where the frame has care: for a signal, and for the enable of an enabled latch.
+pub fn care_literal_is_care()
+    ensures { CareLiteralIsCare }
 {}
 
 /// A literal goes on to be right while the event graph grows.

@@ -8,14 +8,14 @@ use Rattle.edbf_unfold.proofs.Planning.{steps_none, steps_more}
 use Rattle.edbf_unfold.proofs.plan.steps_of.Goals as goal
 
 pub loop-number-init : goal.loop-number-init
-loop-number-init c = steps_none c.args.frames.now c.args.nodes c.args.table.now c.args.onward.now c.in_ok-steps.steps.items c.in_ok-steps.ensures.items
+loop-number-init c = steps_none c.args.frames.now c.args.nodes c.args.table.now c.args.ways.now c.in_ok-steps.steps.items c.in_ok-steps.ensures.items
 
 pub step_of-requires : goal.step_of-requires
 step_of-requires c = record { seen = All-at (λ (p : ℕ × ℕ). (f : Frame) × (slice_get c.args.frames.now p.0 ≡ Some f) × (f.node ≤ c.args.nodes)) c.args.table.now c.loop-number.number c.pair-place.result c.pair-place.ensures c.requires.seen }
 
 pub loop-number-preserved : goal.loop-number-preserved
 loop-number-preserved c =
-    steps_more c.args.frames.now c.args.nodes c.args.table.now c.args.onward.now c.loop-number.steps.items c.push.new.self.items c.loop-number.number c.pair-place.result c.step_of.result c.loop-number.invariant
+    steps_more c.args.frames.now c.args.nodes c.args.table.now c.args.ways.now c.loop-number.steps.items c.push.new.self.items c.loop-number.number c.pair-place.result c.step_of.result _ c.loop-number.invariant
     c.pair-place.ensures c.step_of.ensures c.in_ok-push.ensures.items
 
 pub returns : goal.returns

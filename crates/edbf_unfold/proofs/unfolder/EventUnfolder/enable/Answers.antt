@@ -1,14 +1,23 @@
--- Both functions of the latch are unfolded under it, the first one's literal stays while the second is.
-use Rattle.std.proofs.Common.{◌≡◌, ◌∙◌, length, slice_get, Some, sym, subst, arith}
+-- Both functions of the latch are unfolded under it, and the care is that of what the first one's walk met.
+use Rattle.std.proofs.Common.{◌≡◌, ◌∙◌, ◌+◌, ◌*◌, ℕ, List, [], length, slice_get, Some, refl, sym, ap, subst, arith}
 use Rattle.flat_net.specs.declared.parts.LatchAt.{LatchAt}
+use Rattle.flat_net.specs.Sound.{IsSound}
 use Rattle.flat_net.specs.View.{NetView}
 use Rattle.flat_net.proofs.Places.{one_at}
-use Rattle.edbf_unfold.specs.View.{EventCircuitView}
+use Rattle.event_nodes.specs.View.{EventCircuitView, IsEventCircuit}
+use Rattle.event_nodes.specs.Visited.{IsWeighed}
+use Rattle.event_nodes.proofs.Growing.{grows_trans}
+use Rattle.event_nodes.proofs.Lists.{adds_trans}
+use Rattle.edbf_unfold.specs.declared.frames.Put.TheVariants.{Low}
+use Rattle.edbf_unfold.specs.declared.frames.Ways.{Ways}
+use Rattle.edbf_unfold.specs.Care.{IsCareLit}
 use Rattle.edbf_unfold.specs.Known.{IsEnableLit}
+use Rattle.edbf_unfold.specs.Walk.{IsCounting, HasCountedStart, AreMetOn, enable_start}
+use Rattle.edbf_unfold.proofs.Caring.{enable_later}
+use Rattle.edbf_unfold.proofs.Exact.{counting_trans}
+use Rattle.edbf_unfold.proofs.Finishing.{unfolded_more, unfolded_trans, counting_same, finished_care, finished_count}
 use Rattle.edbf_unfold.proofs.Going.{are_known_later}
-use Rattle.edbf_unfold.proofs.Known.{known_at_later}
-use Rattle.edbf_unfold.proofs.Opening.{children_more}
-use Rattle.edbf_unfold.proofs.Rooted.{next_within, enable_lit}
+use Rattle.edbf_unfold.proofs.Rooted.{next_within, enable_lit, walked_later, walked_met}
 use Rattle.edbf_unfold.proofs.unfolder.EventUnfolder.enable.Goals as goal
 
 pub unfold_in-requires-clause-signal : goal.unfold_in-requires-clause-signal
@@ -16,24 +25,103 @@ unfold_in-requires-clause-signal c = next_within c.args.self.now.circuit c.circu
 
 pub unfold_in-requires-2-clause-signal : goal.unfold_in-requires-2-clause-signal
 unfold_in-requires-2-clause-signal c =
-    next_within c.unfold_in.new.self.circuit c.circuit-circuit.result.now c.net.result.now c.args.j c.latch_of-latch.result.now (c.circuit-circuit.ensures ∙ sym c.in_ok-low.ensures.unfolded.circuit) c.net.ensures c.keeps.ensures.sound c.latch_of-latch.ensures
+    next_within c.unfold_in.new.self.circuit c.circuit-circuit.result.now c.net.result.now c.args.j c.latch_of-latch.result.now (c.circuit-circuit.ensures ∙ sym c.in_ok-low.ensures.unfolded.0.circuit) c.net.ensures c.keeps.ensures.sound c.latch_of-latch.ensures
 
-pub and-requires-clause-left : goal.and-requires-clause-left
-and-requires-clause-left c =
-    let k = known_at_later _ c.unfold_in.new.events c.unfold_in-2.new.events c.keeps-2.ensures.events c.in_ok-high.ensures.unfolded.grows _ _ _ c.in_ok-low.low.0 c.in_ok-low.ensures.here in
-    c.not.ensures.within (length c.unfold_in-2.new.events.graph) k.within
+pub returns-in_err-low-clause-counting : goal.returns-in_err-low-clause-counting
+returns-in_err-low-clause-counting c = λ l at.
+    let same : c.latch_of-latch.result.now ≡ l = one_at c.args.self.now.circuit.net.latches c.args.j c.latch_of-latch.result.now l (subst (λ (n : NetView). slice_get n.latches c.args.j ≡ Some c.latch_of-latch.result.now) (c.net.ensures ∙ ap (λ (e : EventCircuitView). e.net) c.circuit-circuit.ensures) c.latch_of-latch.ensures) at in
+    c.unfold_in.ensures.counting (enable_start l) (ap (λ (k : LatchAt). k.next.0) (sym same), ap (λ (k : LatchAt). Some k.out.0) (sym same))
+
+pub returns-in_err-high-clause-counting : goal.returns-in_err-high-clause-counting
+returns-in_err-high-clause-counting c = λ l at.
+    let same : c.latch_of-latch.result.now ≡ l = one_at c.args.self.now.circuit.net.latches c.args.j c.latch_of-latch.result.now l (subst (λ (n : NetView). slice_get n.latches c.args.j ≡ Some c.latch_of-latch.result.now) (c.net.ensures ∙ ap (λ (e : EventCircuitView). e.net) c.circuit-circuit.ensures) c.latch_of-latch.ensures) at in
+    counting_trans c.args.self.now.circuit (enable_start l) c.args.events.now.children c.unfold_in.new.events.children c.unfold_in-2.new.events.children c.args.counter.now c.unfold_in.new.counter c.unfold_in-2.new.counter c.keeps-2.ensures.events.is_tree
+    (c.unfold_in.ensures.counting (enable_start l) (ap (λ (k : LatchAt). k.next.0) (sym same), ap (λ (k : LatchAt). Some k.out.0) (sym same)))
+    (subst (λ (e : EventCircuitView). IsCounting e (enable_start l) c.unfold_in.new.events.children c.unfold_in-2.new.events.children c.unfold_in.new.counter c.unfold_in-2.new.counter) c.in_ok-low.ensures.unfolded.0.circuit
+    (c.unfold_in-2.ensures.counting (enable_start l) (ap (λ (k : LatchAt). k.next.0) (sym same), ap (λ (k : LatchAt). Some k.out.0) (sym same))))
+
+pub returns-in_err-value-clause-counting : goal.returns-in_err-value-clause-counting
+returns-in_err-value-clause-counting c = λ l at.
+    let same : c.latch_of-latch.result.now ≡ l = one_at c.args.self.now.circuit.net.latches c.args.j c.latch_of-latch.result.now l (subst (λ (n : NetView). slice_get n.latches c.args.j ≡ Some c.latch_of-latch.result.now) (c.net.ensures ∙ ap (λ (e : EventCircuitView). e.net) c.circuit-circuit.ensures) c.latch_of-latch.ensures) at in
+    counting_same c.args.self.now.circuit (enable_start l) c.args.events.now.children c.unfold_in-2.new.events.children c.enable_of.new.events.children c.args.counter.now c.unfold_in-2.new.counter c.enable_of.ensures.grown.children
+    (counting_trans c.args.self.now.circuit (enable_start l) c.args.events.now.children c.unfold_in.new.events.children c.unfold_in-2.new.events.children c.args.counter.now c.unfold_in.new.counter c.unfold_in-2.new.counter c.keeps-2.ensures.events.is_tree
+    (c.unfold_in.ensures.counting (enable_start l) (ap (λ (k : LatchAt). k.next.0) (sym same), ap (λ (k : LatchAt). Some k.out.0) (sym same)))
+    (subst (λ (e : EventCircuitView). IsCounting e (enable_start l) c.unfold_in.new.events.children c.unfold_in-2.new.events.children c.unfold_in.new.counter c.unfold_in-2.new.counter) c.in_ok-low.ensures.unfolded.0.circuit
+    (c.unfold_in-2.ensures.counting (enable_start l) (ap (λ (k : LatchAt). k.next.0) (sym same), ap (λ (k : LatchAt). Some k.out.0) (sym same)))))
+
+pub care_of-requires-clause-known : goal.care_of-requires-clause-known
+care_of-requires-clause-known c =
+    are_known_later c.unfold_in-2.new.self.circuit c.unfold_in-2.new.events c.enable_of.new.events c.unfold_in-2.new.self.frames c.unfold_in-2.new.self.memo c.keeps-3.ensures.events c.enable_of.ensures.grown.grows c.in_ok-high.ensures.known
+
+pub care_of-requires-clause-met : goal.care_of-requires-clause-met
+care_of-requires-clause-met c =
+    let walked = walked_later c.unfold_in.new.self c.unfold_in-2.new.self c.unfold_in.new.events c.enable_of.new.events _ c.latch_of-latch.result.now.next.0 c.unfold_in.new.counter.places c.unfold_in-2.new.counter.places c.args.room c.in_ok-low.low.table c.in_ok-low.low.ways.items
+    c.in_ok-high.ensures.unfolded.0.circuit (grows_trans c.unfold_in.new.events c.unfold_in-2.new.events c.enable_of.new.events c.in_ok-high.ensures.unfolded.0.grows c.enable_of.ensures.grown.grows) c.in_ok-high.ensures.unfolded.0.frames c.in_ok-high.ensures.unfolded.0.memo
+    c.in_ok-high.ensures.unfolded.1.more c.in_ok-low.ensures.walked in
+    subst (λ (ws : List Ways). AreMetOn c.unfold_in-2.new.self c.enable_of.new.events.children c.in_ok-low.low.table ws) (sym c.as_slice.ensures.value)
+    (walked_met c.unfold_in-2.new.self c.enable_of.new.events _ c.latch_of-latch.result.now.next.0 _ c.args.room c.in_ok-low.low.table c.in_ok-low.low.ways.items walked)
+
+pub returns-in_err-care-clause-counting : goal.returns-in_err-care-clause-counting
+returns-in_err-care-clause-counting c = λ l at.
+    let same : c.latch_of-latch.result.now ≡ l = one_at c.args.self.now.circuit.net.latches c.args.j c.latch_of-latch.result.now l (subst (λ (n : NetView). slice_get n.latches c.args.j ≡ Some c.latch_of-latch.result.now) (c.net.ensures ∙ ap (λ (e : EventCircuitView). e.net) c.circuit-circuit.ensures) c.latch_of-latch.ensures) at in
+    counting_same c.args.self.now.circuit (enable_start l) c.args.events.now.children c.unfold_in-2.new.events.children c.care_of.new.events.children c.args.counter.now c.unfold_in-2.new.counter (c.care_of.ensures.grown.children ∙ c.enable_of.ensures.grown.children)
+    (counting_trans c.args.self.now.circuit (enable_start l) c.args.events.now.children c.unfold_in.new.events.children c.unfold_in-2.new.events.children c.args.counter.now c.unfold_in.new.counter c.unfold_in-2.new.counter c.keeps-2.ensures.events.is_tree
+    (c.unfold_in.ensures.counting (enable_start l) (ap (λ (k : LatchAt). k.next.0) (sym same), ap (λ (k : LatchAt). Some k.out.0) (sym same)))
+    (subst (λ (e : EventCircuitView). IsCounting e (enable_start l) c.unfold_in.new.events.children c.unfold_in-2.new.events.children c.unfold_in.new.counter c.unfold_in-2.new.counter) c.in_ok-low.ensures.unfolded.0.circuit
+    (c.unfold_in-2.ensures.counting (enable_start l) (ap (λ (k : LatchAt). k.next.0) (sym same), ap (λ (k : LatchAt). Some k.out.0) (sym same)))))
+
+pub returns-clause-counting : goal.returns-clause-counting
+returns-clause-counting c = λ l at.
+    let same : c.latch_of-latch.result.now ≡ l = one_at c.args.self.now.circuit.net.latches c.args.j c.latch_of-latch.result.now l (subst (λ (n : NetView). slice_get n.latches c.args.j ≡ Some c.latch_of-latch.result.now) (c.net.ensures ∙ ap (λ (e : EventCircuitView). e.net) c.circuit-circuit.ensures) c.latch_of-latch.ensures) at in
+    counting_same c.args.self.now.circuit (enable_start l) c.args.events.now.children c.unfold_in-2.new.events.children c.care_of.new.events.children c.args.counter.now c.unfold_in-2.new.counter (c.care_of.ensures.grown.children ∙ c.enable_of.ensures.grown.children)
+    (counting_trans c.args.self.now.circuit (enable_start l) c.args.events.now.children c.unfold_in.new.events.children c.unfold_in-2.new.events.children c.args.counter.now c.unfold_in.new.counter c.unfold_in-2.new.counter c.keeps-2.ensures.events.is_tree
+    (c.unfold_in.ensures.counting (enable_start l) (ap (λ (k : LatchAt). k.next.0) (sym same), ap (λ (k : LatchAt). Some k.out.0) (sym same)))
+    (subst (λ (e : EventCircuitView). IsCounting e (enable_start l) c.unfold_in.new.events.children c.unfold_in-2.new.events.children c.unfold_in.new.counter c.unfold_in-2.new.counter) c.in_ok-low.ensures.unfolded.0.circuit
+    (c.unfold_in-2.ensures.counting (enable_start l) (ap (λ (k : LatchAt). k.next.0) (sym same), ap (λ (k : LatchAt). Some k.out.0) (sym same)))))
 
 pub returns-clause-known : goal.returns-clause-known
 returns-clause-known c =
-    are_known_later c.unfold_in-2.new.self.circuit c.unfold_in-2.new.events c.and.new.self c.unfold_in-2.new.self.frames c.unfold_in-2.new.self.memo c.keeps-3.ensures.events c.in_ok-both.ensures.grows c.in_ok-high.ensures.known
+    are_known_later c.unfold_in-2.new.self.circuit c.unfold_in-2.new.events c.care_of.new.events c.unfold_in-2.new.self.frames c.unfold_in-2.new.self.memo c.keeps-3.ensures.events
+    (grows_trans c.unfold_in-2.new.events c.enable_of.new.events c.care_of.new.events c.enable_of.ensures.grown.grows c.care_of.ensures.grown.grows) c.in_ok-high.ensures.known
 
 pub returns-clause-here : goal.returns-clause-here
 returns-clause-here c = λ l at.
-    let now : c.circuit-circuit.result.now ≡ c.unfold_in-2.new.self.circuit = c.circuit-circuit.ensures ∙ (sym c.in_ok-low.ensures.unfolded.circuit ∙ sym c.in_ok-high.ensures.unfolded.circuit) in
-    let same : c.latch_of-latch.result.now ≡ l =
-    one_at c.unfold_in-2.new.self.circuit.net.latches c.args.j c.latch_of-latch.result.now l
+    let now : c.circuit-circuit.result.now ≡ c.unfold_in-2.new.self.circuit = c.circuit-circuit.ensures ∙ (sym c.in_ok-low.ensures.unfolded.0.circuit ∙ sym c.in_ok-high.ensures.unfolded.0.circuit) in
+    let same : c.latch_of-latch.result.now ≡ l = one_at c.unfold_in-2.new.self.circuit.net.latches c.args.j c.latch_of-latch.result.now l
     (subst (λ (e : EventCircuitView). slice_get e.net.latches c.args.j ≡ Some c.latch_of-latch.result.now) now (subst (λ (n : NetView). slice_get n.latches c.args.j ≡ Some c.latch_of-latch.result.now) c.net.ensures c.latch_of-latch.ensures)) at in
-    subst (λ (k : LatchAt). IsEnableLit c.unfold_in-2.new.self.circuit c.and.new.self c.args.node k c.not-2.result.0) same
-    (enable_lit c.unfold_in.new.self.circuit c.unfold_in-2.new.self.circuit c.in_ok-high.ensures.unfolded.circuit c.unfold_in.new.events c.unfold_in-2.new.events c.and.new.self c.keeps-2.ensures.events c.keeps-3.ensures.events
-    c.in_ok-high.ensures.unfolded.grows c.in_ok-both.ensures.grows c.args.node (let k = children_more c.args.events.now c.unfold_in.new.events c.in_ok-low.ensures.unfolded.grows in omega (arith, k, c.requires.node)) c.latch_of-latch.result.now c.in_ok-low.low.0 c.in_ok-high.high.0 c.not.result.0 c.in_ok-both.both.0 c.not-2.result.0 c.in_ok-low.ensures.here c.in_ok-high.ensures.here c.not.ensures.literal
-    c.in_ok-both.ensures.here c.not-2.ensures.literal (c.not-2.ensures.within (length c.and.new.self.graph) c.in_ok-both.ensures.within))
+    let walked = walked_later c.unfold_in.new.self c.unfold_in-2.new.self c.unfold_in.new.events c.enable_of.new.events _ c.latch_of-latch.result.now.next.0 c.unfold_in.new.counter.places c.unfold_in-2.new.counter.places c.args.room c.in_ok-low.low.table c.in_ok-low.low.ways.items
+    c.in_ok-high.ensures.unfolded.0.circuit (grows_trans c.unfold_in.new.events c.unfold_in-2.new.events c.enable_of.new.events c.in_ok-high.ensures.unfolded.0.grows c.enable_of.ensures.grown.grows) c.in_ok-high.ensures.unfolded.0.frames c.in_ok-high.ensures.unfolded.0.memo
+    c.in_ok-high.ensures.unfolded.1.more c.in_ok-low.ensures.walked in
+    let v = c.in_ok-value.ensures.here in
+    subst (λ (k : LatchAt). IsEnableLit c.unfold_in-2.new.self.circuit c.care_of.new.events [] k c.in_ok-value.value.0 × IsCareLit c.unfold_in-2.new.self.circuit c.care_of.new.events (enable_start k) c.in_ok-care.care.0) same (
+      enable_later c.unfold_in-2.new.self.circuit c.enable_of.new.events c.care_of.new.events c.keeps-4.ensures.events c.care_of.ensures.grown.grows [] c.latch_of-latch.result.now c.in_ok-value.value.0
+          (enable_lit c.unfold_in.new.self.circuit c.unfold_in-2.new.self.circuit c.in_ok-high.ensures.unfolded.0.circuit c.unfold_in.new.events c.unfold_in-2.new.events c.enable_of.new.events c.keeps-2.ensures.events c.keeps-3.ensures.events
+          c.in_ok-high.ensures.unfolded.0.grows c.enable_of.ensures.grown.grows c.latch_of-latch.result.now c.in_ok-low.low.lit.0 c.in_ok-high.high.lit.0 v.0 c.in_ok-value.value.0 c.in_ok-low.ensures.here c.in_ok-high.ensures.here v.1 v.2 c.in_ok-value.ensures.within),
+      finished_care c.unfold_in-2.new.self c.enable_of.new.events c.care_of.new.events (subst (λ (e : EventCircuitView). IsSound e.net) now c.keeps.ensures.sound) (subst IsEventCircuit now c.keeps.ensures.circuit) c.keeps-5.ensures.events c.care_of.ensures.grown.grows
+          (record { node = 0; put = Low c.latch_of-latch.result.now.out.0 }) refl c.latch_of-latch.result.now.next.0 c.unfold_in-2.new.counter.places c.args.room c.in_ok-low.low.table c.in_ok-low.low.ways.items walked (enable_start c.latch_of-latch.result.now) (refl, refl) c.in_ok-care.care.0 c.in_ok-care.ensures.here,
+    )
+
+pub returns-clause-unfolded : goal.returns-clause-unfolded
+returns-clause-unfolded c =
+    unfolded_more c.args.self.now c.unfold_in-2.new.self c.args.events.now c.enable_of.new.events c.care_of.new.events (2 * c.args.room + 2) _ _
+    (unfolded_more c.args.self.now c.unfold_in-2.new.self c.args.events.now c.unfold_in-2.new.events c.enable_of.new.events (2 * c.args.room + 1) 1 (2 * c.args.room + 2)
+    (unfolded_trans c.args.self.now c.unfold_in.new.self c.unfold_in-2.new.self c.args.events.now c.unfold_in.new.events c.unfold_in-2.new.events c.args.room c.args.room (2 * c.args.room + 1) c.in_ok-low.ensures.unfolded.0 c.in_ok-high.ensures.unfolded.0 (omega arith))
+    c.enable_of.ensures.grown (omega arith)) c.care_of.ensures.grown (omega (arith, c.in_ok-low.ensures.walked.few))
+
+pub returns-clause-counted : goal.returns-clause-counted
+returns-clause-counted c = λ l at.
+    let same : c.latch_of-latch.result.now ≡ l = one_at c.args.self.now.circuit.net.latches c.args.j c.latch_of-latch.result.now l (subst (λ (n : NetView). slice_get n.latches c.args.j ≡ Some c.latch_of-latch.result.now) (c.net.ensures ∙ ap (λ (e : EventCircuitView). e.net) c.circuit-circuit.ensures) c.latch_of-latch.ensures) at in
+    let now : c.circuit-circuit.result.now ≡ c.unfold_in-2.new.self.circuit = c.circuit-circuit.ensures ∙ (sym c.in_ok-low.ensures.unfolded.0.circuit ∙ sym c.in_ok-high.ensures.unfolded.0.circuit) in
+    let walked = walked_later c.unfold_in.new.self c.unfold_in-2.new.self c.unfold_in.new.events c.enable_of.new.events _ c.latch_of-latch.result.now.next.0 c.unfold_in.new.counter.places c.unfold_in-2.new.counter.places c.args.room c.in_ok-low.low.table c.in_ok-low.low.ways.items
+    c.in_ok-high.ensures.unfolded.0.circuit (grows_trans c.unfold_in.new.events c.unfold_in-2.new.events c.enable_of.new.events c.in_ok-high.ensures.unfolded.0.grows c.enable_of.ensures.grown.grows) c.in_ok-high.ensures.unfolded.0.frames c.in_ok-high.ensures.unfolded.0.memo
+    c.in_ok-high.ensures.unfolded.1.more c.in_ok-low.ensures.walked in
+    let on = c.in_ok-high.ensures.unfolded.1 in
+    subst (λ (k : LatchAt). HasCountedStart c.args.self.now.circuit (enable_start k) c.care_of.new.events.children c.args.counter.now c.unfold_in-2.new.counter) same
+    (finished_count c.unfold_in-2.new.self c.enable_of.new.events c.care_of.new.events (subst (λ (e : EventCircuitView). IsSound e.net) now c.keeps.ensures.sound) (subst IsEventCircuit now c.keeps.ensures.circuit) c.keeps-5.ensures.events c.care_of.ensures.grown.grows
+    (record { node = 0; put = Low c.latch_of-latch.result.now.out.0 }) refl c.latch_of-latch.result.now.next.0 c.unfold_in-2.new.counter.places c.args.room c.in_ok-low.low.table c.in_ok-low.low.ways.items walked (enable_start c.latch_of-latch.result.now) (refl, refl)
+    c.args.self.now.circuit (c.in_ok-high.ensures.unfolded.0.circuit ∙ c.in_ok-low.ensures.unfolded.0.circuit) c.args.counter.now c.unfold_in-2.new.counter refl (sym c.care_of.ensures.grown.children)
+    (record {
+      weighed = subst (λ (e : EventCircuitView). IsWeighed e.net c.unfold_in-2.new.counter) c.in_ok-low.ensures.unfolded.0.circuit on.weighed;
+      few = omega (arith, on.few, ap length c.enable_of.ensures.grown.children);
+      more = adds_trans (λ (q : ℕ × ℕ). Unit {0}) c.args.counter.now.places c.unfold_in.new.counter.places c.unfold_in-2.new.counter.places c.in_ok-low.ensures.unfolded.1.more on.more;
+    }))

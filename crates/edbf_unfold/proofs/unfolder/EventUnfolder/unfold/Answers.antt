@@ -1,9 +1,74 @@
--- The root's path is empty.
-use Rattle.std.proofs.Common.{ℕ, List, None, subst, IfOk}
-use Rattle.edbf_unfold.specs.Known.{IsKnownAt}
-use Rattle.edbf_unfold.proofs.Rooted.{root_path}
+-- The value and the care of what the walk met.
+use Rattle.std.proofs.Common.{◌≡◌, ◌∙◌, List, length, slice_get, Some, None, refl, sym, ap, subst, arith}
+use Rattle.flat_net.specs.Sound.{IsSound}
+use Rattle.event_nodes.specs.View.{EventCircuitView, IsEventCircuit}
+use Rattle.edbf_unfold.specs.declared.frames.Put.TheVariants.{Free}
+use Rattle.edbf_unfold.specs.declared.frames.Ways.{Ways}
+use Rattle.edbf_unfold.specs.Reached.{AreNodesOf}
+use Rattle.edbf_unfold.specs.Walk.{AreMetOn}
+use Rattle.edbf_unfold.proofs.Finishing.{root_later, unfolded_more, counting_same, finished_care, finished_count, finished_reach, onward_at, framed_at}
+use Rattle.edbf_unfold.proofs.Going.{are_known_later}
+use Rattle.edbf_unfold.proofs.Rooted.{walked_met}
 use Rattle.edbf_unfold.proofs.unfolder.EventUnfolder.unfold.Goals as goal
+
+pub returns-in_err-unfolding-clause-counting : goal.returns-in_err-unfolding-clause-counting
+returns-in_err-unfolding-clause-counting c = c.unfold_in.ensures.counting (record { place = c.args.s.0; left_out = None }) (refl, refl)
+
+pub care_of-requires-clause-met : goal.care_of-requires-clause-met
+care_of-requires-clause-met c =
+    subst (λ (ws : List Ways). AreMetOn c.unfold_in.new.self c.unfold_in.new.events.children c.in_ok-unfolding.unfolding.table ws) (sym c.as_slice.ensures.value)
+    (walked_met c.unfold_in.new.self c.unfold_in.new.events _ c.args.s.0 _ c.args.room c.in_ok-unfolding.unfolding.table c.in_ok-unfolding.unfolding.ways.items c.in_ok-unfolding.ensures.walked)
+
+pub returns-in_err-care-clause-counting : goal.returns-in_err-care-clause-counting
+returns-in_err-care-clause-counting c =
+    counting_same c.args.self.now.circuit (record { place = c.args.s.0; left_out = None }) c.args.events.now.children c.unfold_in.new.events.children c.care_of.new.events.children c.args.counter.now c.unfold_in.new.counter c.care_of.ensures.grown.children
+    (c.unfold_in.ensures.counting (record { place = c.args.s.0; left_out = None }) (refl, refl))
+
+pub returns-clause-counting : goal.returns-clause-counting
+returns-clause-counting c =
+    counting_same c.args.self.now.circuit (record { place = c.args.s.0; left_out = None }) c.args.events.now.children c.unfold_in.new.events.children c.care_of.new.events.children c.args.counter.now c.unfold_in.new.counter c.care_of.ensures.grown.children
+    (c.unfold_in.ensures.counting (record { place = c.args.s.0; left_out = None }) (refl, refl))
+
+pub returns-clause-known : goal.returns-clause-known
+returns-clause-known c =
+    are_known_later c.unfold_in.new.self.circuit c.unfold_in.new.events c.care_of.new.events c.unfold_in.new.self.frames c.unfold_in.new.self.memo c.keeps-2.ensures.events c.care_of.ensures.grown.grows c.in_ok-unfolding.ensures.known
 
 pub returns-clause-here : goal.returns-clause-here
 returns-clause-here c =
-    subst (λ (path : List ℕ). IfOk c.unfold_in.result (λ x. IsKnownAt c.unfold_in.new.self.circuit c.unfold_in.new.events None c.args.s.0 path x.0)) (root_path c.unfold_in.new.events.children) c.unfold_in.ensures.here
+    let same : c.circuit-circuit.result.now ≡ c.unfold_in.new.self.circuit = c.circuit-circuit.ensures ∙ sym c.in_ok-unfolding.ensures.unfolded.0.circuit in (
+      root_later c.unfold_in.new.self.circuit c.unfold_in.new.events c.care_of.new.events c.keeps-2.ensures.events c.care_of.ensures.grown.grows c.args.s.0 c.in_ok-unfolding.unfolding.lit.0 c.in_ok-unfolding.ensures.here,
+      finished_care c.unfold_in.new.self c.unfold_in.new.events c.care_of.new.events (subst (λ (e : EventCircuitView). IsSound e.net) same c.keeps.ensures.sound) (subst IsEventCircuit same c.keeps.ensures.circuit) c.keeps-3.ensures.events c.care_of.ensures.grown.grows (record { node = 0; put = Free }) refl c.args.s.0 _
+          c.args.room c.in_ok-unfolding.unfolding.table c.in_ok-unfolding.unfolding.ways.items c.in_ok-unfolding.ensures.walked (record { place = c.args.s.0; left_out = None }) (refl, refl) c.in_ok-care.care.0 c.in_ok-care.ensures.here,
+    )
+
+pub returns-clause-unfolded : goal.returns-clause-unfolded
+returns-clause-unfolded c =
+    unfolded_more c.args.self.now c.unfold_in.new.self c.args.events.now c.unfold_in.new.events c.care_of.new.events c.args.room _ _ c.in_ok-unfolding.ensures.unfolded.0 c.care_of.ensures.grown (omega (arith, c.in_ok-unfolding.ensures.walked.few))
+
+pub returns-clause-counted : goal.returns-clause-counted
+returns-clause-counted c =
+    let same : c.circuit-circuit.result.now ≡ c.unfold_in.new.self.circuit = c.circuit-circuit.ensures ∙ sym c.in_ok-unfolding.ensures.unfolded.0.circuit in
+    finished_count c.unfold_in.new.self c.unfold_in.new.events c.care_of.new.events (subst (λ (e : EventCircuitView). IsSound e.net) same c.keeps.ensures.sound) (subst IsEventCircuit same c.keeps.ensures.circuit) c.keeps-3.ensures.events c.care_of.ensures.grown.grows (record { node = 0; put = Free }) refl c.args.s.0 _
+    c.args.room c.in_ok-unfolding.unfolding.table c.in_ok-unfolding.unfolding.ways.items c.in_ok-unfolding.ensures.walked (record { place = c.args.s.0; left_out = None }) (refl, refl) c.args.self.now.circuit c.in_ok-unfolding.ensures.unfolded.0.circuit c.args.counter.now c.unfold_in.new.counter refl
+    (sym c.care_of.ensures.grown.children) c.in_ok-unfolding.ensures.unfolded.1
+
+pub nodes_of-requires-clause-each : goal.nodes_of-requires-clause-each
+nodes_of-requires-clause-each c = ap length c.as_slice-2.ensures.value ∙ c.in_ok-unfolding.ensures.walked.each
+
+pub nodes_of-requires-clause-on : goal.nodes_of-requires-clause-on
+nodes_of-requires-clause-on c = λ i p g at over. onward_at c.unfold_in.new.self c.unfold_in.new.events _ c.args.s.0 _ c.args.room c.in_ok-unfolding.unfolding.table c.in_ok-unfolding.unfolding.ways.items c.in_ok-unfolding.ensures.walked i p g at (subst (λ (ws : List Ways). slice_get ws i ≡ Some g) c.as_slice-2.ensures.value over)
+
+pub only_always-requires : goal.only_always-requires
+only_always-requires c = λ i p at. framed_at c.unfold_in.new.self c.unfold_in.new.events _ c.args.s.0 _ c.args.room c.in_ok-unfolding.unfolding.table c.in_ok-unfolding.unfolding.ways.items c.in_ok-unfolding.ensures.walked i p at
+
+pub returns-in_err-nodes-clause-counting : goal.returns-in_err-nodes-clause-counting
+returns-in_err-nodes-clause-counting c =
+    counting_same c.args.self.now.circuit (record { place = c.args.s.0; left_out = None }) c.args.events.now.children c.unfold_in.new.events.children c.care_of.new.events.children c.args.counter.now c.unfold_in.new.counter c.care_of.ensures.grown.children
+    (c.unfold_in.ensures.counting (record { place = c.args.s.0; left_out = None }) (refl, refl))
+
+pub returns-clause-reach : goal.returns-clause-reach
+returns-clause-reach c =
+    let same : c.circuit-circuit.result.now ≡ c.unfold_in.new.self.circuit = c.circuit-circuit.ensures ∙ sym c.in_ok-unfolding.ensures.unfolded.0.circuit in
+    finished_reach c.unfold_in.new.self c.unfold_in.new.events c.care_of.new.events (subst (λ (e : EventCircuitView). IsSound e.net) same c.keeps.ensures.sound) (subst IsEventCircuit same c.keeps.ensures.circuit) c.keeps-3.ensures.events c.care_of.ensures.grown.grows (record { node = 0; put = Free }) refl c.args.s.0 _
+    c.args.room c.in_ok-unfolding.unfolding.table c.in_ok-unfolding.unfolding.ways.items c.in_ok-unfolding.ensures.walked (record { place = c.args.s.0; left_out = None }) (refl, refl) c.in_ok-nodes.nodes c.only_always.result
+    (subst (λ (ws : List Ways). AreNodesOf c.unfold_in.new.self.circuit c.unfold_in.new.self.frames c.in_ok-unfolding.unfolding.table ws c.in_ok-nodes.nodes) c.as_slice-2.ensures.value c.in_ok-nodes.ensures) c.only_always.ensures.yes c.only_always.ensures.no

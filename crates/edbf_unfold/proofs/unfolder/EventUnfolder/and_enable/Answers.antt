@@ -1,0 +1,46 @@
+-- The enable, and the and with it.
+use Rattle.std.proofs.Common.{ℕ, subst, arith}
+use Rattle.aig.specs.Graph.{flip}
+use Rattle.aig.specs.Rules.{IsAndOf}
+use Rattle.aig.proofs.Growth.{Grows-length, IsAndOf-grows}
+use Rattle.edbf_unfold.proofs.Lits.{cover_grown}
+use Rattle.edbf_unfold.proofs.Going.{grown_trans, grown_within}
+use Rattle.edbf_unfold.proofs.unfolder.EventUnfolder.and_enable.Goals as goal
+
+pub enable_of-requires-clause-low : goal.enable_of-requires-clause-low
+enable_of-requires-clause-low c = c.requires.within _ _ c.met-f0.ensures
+
+pub enable_of-requires-clause-high : goal.enable_of-requires-clause-high
+enable_of-requires-clause-high c = c.requires.within _ _ c.met-f1.ensures
+
+pub and-requires-clause-left : goal.and-requires-clause-left
+and-requires-clause-left c = let more = Grows-length _ _ c.enable_of.ensures.grown.grows.graph in omega (arith, c.requires.care, more)
+
+pub and-requires-clause-room : goal.and-requires-clause-room
+and-requires-clause-room c = omega (arith, c.requires.room, c.enable_of.ensures.grown.nodes)
+
+pub returns-in_err-enable-clause-grown : goal.returns-in_err-enable-clause-grown
+returns-in_err-enable-clause-grown c = grown_within c.args.events.now c.enable_of.new.events 1 2 c.enable_of.ensures.grown (omega arith)
+
+pub returns-in_err-lit-clause-grown : goal.returns-in_err-lit-clause-grown
+returns-in_err-lit-clause-grown c =
+    grown_trans c.args.events.now c.enable_of.new.events c.and.new.self 1 1 2 c.enable_of.ensures.grown (cover_grown c.enable_of.new.events c.and.new.self 1 1 c.and.ensures.grows c.and.ensures.same c.and.ensures.few (omega arith)) (omega arith)
+
+pub returns-clause-here : goal.returns-clause-here
+returns-clause-here c =
+    let e = c.in_ok-enable.ensures.here in
+    let more = Grows-length _ _ c.and.ensures.grows.graph in
+    record {
+      f0 = c.met-f0.result;
+      f1 = c.met-f1.result;
+      both = e.0;
+      low_met = c.met-f0.ensures;
+      high_met = c.met-f1.ensures;
+      both_is = IsAndOf-grows c.enable_of.new.events.graph c.and.new.self.graph c.and.ensures.grows.graph (flip c.met-f0.result.0) c.met-f1.result.0 e.0 e.1;
+      both_within = omega (arith, c.in_ok-enable.ensures.within, more, e.2);
+      is = subst (λ (k : ℕ). IsAndOf c.and.new.self.graph c.args.care.0 k c.in_ok-lit.lit.0) e.2 c.in_ok-lit.ensures.here;
+    }
+
+pub returns-clause-grown : goal.returns-clause-grown
+returns-clause-grown c =
+    grown_trans c.args.events.now c.enable_of.new.events c.and.new.self 1 1 2 c.enable_of.ensures.grown (cover_grown c.enable_of.new.events c.and.new.self 1 1 c.and.ensures.grows c.and.ensures.same c.and.ensures.few (omega arith)) (omega arith)

@@ -1,0 +1,16 @@
+pub mod Drivers
+pub mod PairTest
+pub mod Growing
+pub mod Latches
+pub mod Lists
+pub mod Passing
+pub mod Paths
+pub mod Reaching
+pub mod ReadPlaces
+pub mod Table
+pub mod Weighing
+pub mod Visits
+pub mod Bits
+pub mod OnePath
+pub mod Totals
+pub mod Counting

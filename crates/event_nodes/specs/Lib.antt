@@ -1,0 +1,7 @@
+pub mod Adds
+pub mod Nodes
+pub mod View
+pub mod Weights
+pub mod Reach
+pub mod Visited
+pub mod Laws
