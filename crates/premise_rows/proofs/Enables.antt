@@ -89,7 +89,7 @@ held_no_clock : clock_places held_design ≡ []
 unfolding walk
 held_no_clock = refl
 
-abbrev small_held : Small
+abbrev pub small_held : Small
 small_held = record { inputs = codes "d" ∷ codes "en" ∷ []; outputs = codes "q" ∷ []; latches = codes "q" ∷ []; removed = codes "q" ∷ []; weight = 12 }
 
 -- with the latch cut open: it, the gate and both inputs, now
@@ -104,7 +104,7 @@ held_sound : has_no_fault (codes "n" ∷ []) held_design ≡ true
 unfolding walk
 held_sound = refl
 
-held_spells : Spells held held_design small_held
+pub held_spells : Spells held held_design small_held
 unfolding fault_of head_of cut_line going_on
 held_spells = record {
   short = omega arith;
@@ -208,7 +208,7 @@ held_is_enabled net l =
     kinds_are held_design held_circuit (codes "q") Q N (Q ∷ D ∷ EN ∷ []) mux_cover held_is_one net f
     (one_counted small_held net (net_is_small held held_design small_held held_spells net l) refl) kind.Enabled (held_kind net f)
 
-held_is_light : (net : NetView) → Loads held net → AreLight net
+pub held_is_light : (net : NetView) → Loads held net → AreLight net
 held_is_light net l = is_light held_design held_circuit (codes "q") Q N (Q ∷ D ∷ EN ∷ []) mux_cover held_is_one net (flat_of held held_design small_held held_spells net l)
 
 -- the latch that toggles, written out
@@ -359,14 +359,14 @@ toggle_is_not_unate net l =
     kinds_are design.toggle toggle_circuit (codes "q") Q N (Q ∷ []) not_cover toggle_is_one net f
     (one_counted small_toggle net (net_is_small toggle design.toggle small_toggle toggle_spells net l) refl) kind.NotUnate (toggle_kind net f)
 
-toggle_is_light : (net : NetView) → Loads toggle net → AreLight net
+pub toggle_is_light : (net : NetView) → Loads toggle net → AreLight net
 toggle_is_light net l = is_light design.toggle toggle_circuit (codes "q") Q N (Q ∷ []) not_cover toggle_is_one net (flat_of toggle design.toggle small_toggle toggle_spells net l)
 
 -- the stimulus
-abbrev names : List (List ℕ)
+abbrev pub names : List (List ℕ)
 names = codes "d" ∷ codes "en" ∷ []
 
-abbrev rows : List (List Bool)
+abbrev pub rows : List (List Bool)
 rows = (true ∷ true ∷ []) ∷ (false ∷ false ∷ []) ∷ []
 
 abbrev is_plain_byte : ℕ → Bool
@@ -398,7 +398,7 @@ form = record {
   spelled = inl refl;
 }
 
-stimulus : IsStimulus two_cycles names rows
+pub stimulus : IsStimulus two_cycles names rows
 stimulus = record { short = omega arith; form = form }
 
 -- the first misfit, by what it looks at

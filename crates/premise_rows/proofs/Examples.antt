@@ -36,11 +36,11 @@ pub off_and_spells : Spells off_and design.off_and (record small_and { weight = 
 unfolding fault_of head_of cut_line going_on
 off_and_spells = record { short = omega arith; faultless = refl; models_are = refl; small = off_and_is_small }
 
-late_spells : Spells late design.late small_late
+pub late_spells : Spells late design.late small_late
 unfolding fault_of head_of cut_line going_on
 late_spells = record { short = omega arith; faultless = refl; models_are = refl; small = late_is_small }
 
-early_spells : Spells early design.early small_early
+pub early_spells : Spells early design.early small_early
 unfolding fault_of head_of cut_line going_on
 early_spells = record { short = omega arith; faultless = refl; models_are = refl; small = early_is_small }
 
@@ -56,7 +56,7 @@ idle_spells : Spells idle design.idle small_idle
 unfolding fault_of head_of cut_line going_on
 idle_spells = record { short = omega arith; faultless = refl; models_are = refl; small = idle_is_small }
 
-toggle_spells : Spells toggle design.toggle small_toggle
+pub toggle_spells : Spells toggle design.toggle small_toggle
 unfolding fault_of head_of cut_line going_on
 toggle_spells = record { short = omega arith; faultless = refl; models_are = refl; small = toggle_is_small.0 }
 

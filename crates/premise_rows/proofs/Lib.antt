@@ -12,3 +12,4 @@ pub mod OneTextRuns
 pub mod Ring
 pub mod Stimuli
 pub mod Nested
+pub mod Replays

@@ -22,10 +22,10 @@ use Rattle.premise_rows.specs.Texts.{two, three_cycles}
 use Rattle.premise_rows.proofs.Comparing.{accepted, net_is_small}
 use Rattle.premise_rows.proofs.Examples.{two_spells}
 
-abbrev names : List (List ℕ)
+abbrev pub names : List (List ℕ)
 names = codes "a" ∷ []
 
-abbrev rows : List (List Bool)
+abbrev pub rows : List (List Bool)
 rows = (true ∷ []) ∷ (false ∷ []) ∷ (false ∷ []) ∷ []
 
 only_a : (k : ℕ) → Contains (codes "a") k → 97 ≡ k
@@ -61,7 +61,7 @@ module _ (net : NetView) (own : IsSmall small_two net) where
   fits_power : first_misfit net names (Some (codes "10")) ≡ None
   fits_power = ap₂ misfit_of own.inputs good_power
 
-stimulus : IsStimulus three_cycles names rows
+pub stimulus : IsStimulus three_cycles names rows
 stimulus = record { short = omega arith; form = form }
 
 pub two_can_be_run : TwoCanBeRun

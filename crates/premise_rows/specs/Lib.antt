@@ -7,3 +7,4 @@ pub mod TextNets
 pub mod OneText
 pub mod OneReport
 pub mod CutOpen
+pub mod Replays

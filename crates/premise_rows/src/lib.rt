@@ -11,6 +11,7 @@ ghost use Rattle.premise_rows.specs.CutOpen.{NestedIsCutOpen};
 ghost use Rattle.premise_rows.specs.RuledOut.{AndsMeetNoLimit};
 ghost use Rattle.premise_rows.specs.Stimuli.{TwoCanBeRun};
 ghost use Rattle.premise_rows.specs.Enables.{EnablesMeetPremises};
+ghost use Rattle.premise_rows.specs.Replays.{ReplaysMeetPremises};
 ghost use Rattle.premise_rows.specs.TextNets.{TextNetsAreOne, ToldCyclesAreOne, OneNetIsEnough};
 
 use sec_base::{Shelf, Sink};
@@ -70,6 +71,11 @@ pub fn two_can_be_run()
 /// In the event mode a latch behind an enable can be told as enabled and run, and one that toggles can be told as not unate.
 pub fn enables_meet_premises()
     ensures { EnablesMeetPremises }
+{}
+
+/// Two circuits can be replayed on a stimulus, in both modes, as they are and with a latch cut open.
+pub fn replays_meet_premises()
+    ensures { ReplaysMeetPremises }
 {}
 
 /// A text loads as one net, up to the numbers of its signals.
