@@ -6,7 +6,7 @@ use blif_read::{Design, read_design};
 use flat_net::Net;
 use flatten::flatten;
 use row_text::{show, show_count, show_word, text_of};
-use sec_base::{Bits, Ids, MAX_FILE_BYTES};
+use sec_base::{Bits, Ids, MAX_CONFLICTS, MAX_FILE_BYTES};
 use std::rt::HostRuntime;
 use unate_enable::{LatchCone, RecoverError, Recovery, cone, recover};
 

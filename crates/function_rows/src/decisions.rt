@@ -12,7 +12,7 @@ use lane_eval::table_differs;
 use pair_decide::{Decision, Query, SameBy, decide};
 use proof_check::Literal;
 use row_text::{number_of, show, show_count, show_number};
-use sec_base::{Ids, NoMemory};
+use sec_base::{Ids, MAX_CONFLICTS, NoMemory};
 use std::alloc::Global;
 use std::rt::HostRuntime;
 
