@@ -29,8 +29,20 @@ pub(crate) fn constant(put: Put, signal: u32) -> Option<Lit>
 {
     match put {
         Put::Free => None,
-        Put::Low(latch) => { if latch == signal { Some(Lit::FALSE) } else { None } }
-        Put::High(latch) => { if latch == signal { Some(Lit::TRUE) } else { None } }
+        Put::Low(latch) => {
+            if latch == signal {
+                Some(Lit::FALSE)
+            } else {
+                None
+            }
+        }
+        Put::High(latch) => {
+            if latch == signal {
+                Some(Lit::TRUE)
+            } else {
+                None
+            }
+        }
     }
 }
 
