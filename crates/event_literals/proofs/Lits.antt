@@ -1,5 +1,5 @@
 -- The literal of a step, by what drives its signal.
-use Rattle.std.proofs.Common.{◌≡◌, ◌∙◌, ◌+◌, ◌*◌, ◌<◌, ◌≤◌, max, ℕ, List, [], ◌∷◌, ◌++◌, length, map, take, get_or, slice_get, Some, Result, Ok, Err, IfOk, IfSome, refl, sym, ap, subst, arith, inl, inr}
+use Rattle.std.proofs.Common.{◌≡◌, ◌+◌, ◌*◌, ◌<◌, ◌≤◌, max, ℕ, List, [], ◌∷◌, ◌++◌, length, map, take, get_or, slice_get, Some, Result, Ok, Err, IfOk, IfSome, refl, sym, ap, subst, arith, inl, inr}
 use Rattle.std.specs.Prelude.{◌⊎◌}
 use Rattle.std.specs.List.{All, AllZip, Contains}
 use Rattle.std.proofs.lemmas.List.{take_more}
@@ -13,9 +13,8 @@ use Rattle.circuit_theory.proofs.Numbers.{at_beside, slice_get-map}
 use Rattle.flat_net.specs.declared.signals.Signal.{Signal}
 use Rattle.flat_net.specs.declared.parts.Gate.{Gate}
 use Rattle.flat_net.specs.declared.parts.LatchAt.{LatchAt}
-use Rattle.flat_net.specs.declared.parts.Driver.{Driver}
 use Rattle.flat_net.specs.declared.parts.Driver.TheVariants as driver
-use Rattle.flat_net.specs.View.{NetView, named, circuit_of, cover_of}
+use Rattle.flat_net.specs.View.{named, circuit_of, cover_of}
 use Rattle.flat_net.specs.Sound.{IsSound}
 use Rattle.flat_net.proofs.Places.{one_at}
 use Rattle.aig.specs.declared.node.Lit.{Lit}
@@ -27,7 +26,7 @@ use Rattle.event_walk.specs.declared.frames.Frame.{Frame}
 use Rattle.event_walk.specs.declared.frames.Put.TheVariants.{Low, High}
 use Rattle.event_walk.specs.declared.frames.Step.{Step}
 use Rattle.event_nodes.specs.Nodes.{EventGraphView, IsEventGraph, GrowsEvents}
-use Rattle.event_nodes.specs.View.{EventCircuitView, IsEventCircuit}
+use Rattle.event_nodes.specs.View.{EventCircuitView}
 use Rattle.event_literals.specs.Known.{EventUnfolderView, IsKnownIn, AreKnown, IsMet, IsReady, HasGrown, IsInputLit, IsGateLit}
 use Rattle.event_walk.specs.Ready.{put_of}
 use Rattle.event_nodes.specs.Weights.{gate_weight}

@@ -1,11 +1,10 @@
 -- A signal is unfolded from a frame at the root.
-use Rattle.std.proofs.Common.{◌≡◌, ◌∙◌, ◌*◌, ◌<◌, ◌≤◌, ℕ, true, false, List, [], ◌∷◌, ◌++◌, length, slice_get, Option, Some, refl, sym, ap, subst, arith, inl, inr}
+use Rattle.std.proofs.Common.{◌≡◌, ◌∙◌, ◌*◌, ◌<◌, ◌≤◌, ℕ, true, false, List, [], ◌∷◌, ◌++◌, length, slice_get, Some, refl, sym, ap, subst, arith, inl, inr}
 use Rattle.std.specs.Prelude.{◌⊎◌}
 use Rattle.std.specs.List.{All, Contains}
 use Rattle.std.proofs.lemmas.List.Elements.{All-weaker}
 use Rattle.std.proofs.lemmas.Option.{slice_get_within}
-use Rattle.circuit_theory.proofs.Lists.{Contains-head, at_of}
-use Rattle.event_theory.specs.EventSizes.{Start, EventVisits}
+use Rattle.circuit_theory.proofs.Lists.{at_of}
 use Rattle.flat_net.specs.declared.parts.LatchAt.{LatchAt}
 use Rattle.flat_net.specs.Sound.{IsSound}
 use Rattle.flat_net.specs.View.{NetView}
@@ -15,19 +14,18 @@ use Rattle.aig.specs.declared.node.Lit.{Lit}
 use Rattle.aig.specs.Graph.{flip}
 use Rattle.aig.specs.Rules.{IsAndOf}
 use Rattle.event_nodes.specs.Adds.{Adds}
-use Rattle.event_nodes.specs.Nodes.{EventGraphView, IsEventGraph, GrowsEvents, path_of}
-use Rattle.event_nodes.specs.View.{EventCircuitView, side_of, Enabled}
+use Rattle.event_nodes.specs.Nodes.{EventGraphView, IsEventGraph, GrowsEvents}
+use Rattle.event_nodes.specs.View.{EventCircuitView}
 use Rattle.event_nodes.specs.Visited.{CounterView}
 use Rattle.event_nodes.proofs.Growing.{grows_refl, grows_trans}
 use Rattle.event_nodes.proofs.Lists.{adds_none, adds_trans, adds_at, adds_contains}
-use Rattle.event_nodes.proofs.Paths.{path_grows}
 use Rattle.event_walk.specs.declared.frames.Frame.{Frame}
 use Rattle.event_walk.specs.declared.frames.Put.TheVariants.{Low, High}
 use Rattle.event_walk.specs.declared.frames.Step.{Step}
 use Rattle.event_walk.specs.declared.frames.Ways.{Ways}
 use Rattle.event_literals.specs.Known.{EventUnfolderView, unfolder_of, walker_of, IsKnownAt, IsKnownIn, IsEnableLit, AreKnown, HasUnfolded, IsMet, IsLater}
 use Rattle.event_walk.specs.Plan.{IsPlanOf}
-use Rattle.event_walk.specs.Walk.{IsExpanded, IsVisitedPlace, IsOpened, IsWalk, IsCounted, IsExact, IsRootOf, out_of}
+use Rattle.event_walk.specs.Walk.{IsExpanded, IsVisitedPlace, IsOpened, IsWalk, IsCounted, IsExact}
 use Rattle.event_walk.specs.Ready.{EventWalkerView}
 use Rattle.event_literals.specs.Built.{IsWalked, AreMetOn}
 use Rattle.event_walk.proofs.InFrames.{interned_frame}

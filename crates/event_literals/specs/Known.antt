@@ -1,12 +1,11 @@
 -- When the literal of a signal at a node is right.
-use Rattle.std.specs.Prelude.{◌≡◌, ◌⊎◌, ℕ, ◌+◌, ◌*◌, ◌^◌, ◌<◌, ◌≤◌, Bool, true, false, List, length, map, Option, Some, None, slice_get, Contains}
+use Rattle.std.specs.Prelude.{◌≡◌, ℕ, ◌+◌, ◌*◌, ◌^◌, ◌<◌, ◌≤◌, Bool, true, false, List, length, map, Option, Some, slice_get, Contains}
 use Rattle.std.specs.List.{AllZip}
 use Rattle.circuit_theory.specs.Tree.{Tree}
-use Rattle.circuit_theory.specs.Circuit.{IsLatch, Reads}
-use Rattle.event_theory.specs.Frame.{EventUnfolds, NotPut}
+use Rattle.event_theory.specs.Frame.{EventUnfolds}
 use Rattle.flat_net.specs.declared.parts.Gate.{Gate}
 use Rattle.flat_net.specs.declared.parts.LatchAt.{LatchAt}
-use Rattle.flat_net.specs.View.{circuit_of, cover_of}
+use Rattle.flat_net.specs.View.{cover_of}
 use Rattle.aig.specs.declared.node.Lit.{Lit}
 use Rattle.aig.specs.declared.node.Node.{Node}
 use Rattle.aig.specs.declared.node.Node.TheVariants.{Input}
@@ -17,7 +16,7 @@ use Rattle.event_walk.specs.declared.frames.Frame.{Frame}
 use Rattle.event_walk.specs.declared.frames.Step.{Step}
 use Rattle.event_walk.specs.Ready.{EventWalkerView, IsReadyBy, put_of}
 use Rattle.event_nodes.specs.Adds.{Adds}
-use Rattle.event_nodes.specs.Nodes.{EventGraphView, IsChild, path_of, named_places, GrowsEvents}
+use Rattle.event_nodes.specs.Nodes.{EventGraphView, path_of, named_places, GrowsEvents}
 use Rattle.event_nodes.specs.View.{EventCircuitView, side_of, Enabled}
 
 -- the literal is that of the signal's tree at the path, under the latch that is put

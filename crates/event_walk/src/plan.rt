@@ -1,6 +1,6 @@
 //! The order in which the places of a walk are unfolded.
 
-ghost use Rattle.std.specs.Prelude.{◌≡◌, ℕ, List, ◌≤◌, ◌<◌, ◌^◌, length, slice_get, Some, All, IfOk};
+ghost use Rattle.std.specs.Prelude.{◌≡◌, ℕ, List, ◌≤◌, ◌<◌, length, slice_get, Some, All, IfOk};
 ghost use Rattle.flat_net.specs.Sound.{IsSound};
 ghost use Rattle.event_walk.specs.declared.frames.Frame.{Frame};
 ghost use Rattle.event_nodes.specs.Nodes.{IsTree};

@@ -7,14 +7,14 @@ ghost use Rattle.event_theory.specs.Frame.{NotPut};
 ghost use Rattle.flat_net.specs.declared.parts.Driver.TheVariants as driver;
 ghost use Rattle.event_nodes.specs.declared.error.EventUnfoldError.TheVariants as unfold_error;
 ghost use Rattle.event_nodes.specs.Adds.{Adds};
-ghost use Rattle.event_nodes.specs.Nodes.{GrowsEvents, IsTree};
+ghost use Rattle.event_nodes.specs.Nodes.{IsTree};
 ghost use Rattle.event_nodes.specs.View.{EventCircuitView};
 ghost use Rattle.event_walk.specs.Plan.{AreExpanded, IsPlanOf};
-ghost use Rattle.event_nodes.specs.Visited.{IsWeighed, IsVisitedPair, AreNodesFrom, places_weight};
+ghost use Rattle.event_nodes.specs.Visited.{IsWeighed, places_weight};
 ghost use Rattle.event_nodes.specs.Weights.{weight_at};
 ghost use Rattle.event_walk.specs.declared.frames.Frame.{Frame};
 ghost use Rattle.event_walk.specs.Ready.{put_of};
-ghost use Rattle.event_walk.specs.Walk.{IsSeen, IsExpanded, IsVisitedPlace, IsOpened, IsWalk, IsCounting, IsExact, IsStep, IsRefused};
+ghost use Rattle.event_walk.specs.Walk.{IsSeen, IsExpanded, IsVisitedPlace, IsWalk, IsCounting, IsExact, IsStep, IsRefused};
 
 use crate::entering::enter_latch;
 use crate::frames::{Frame, Frames, Step, Ways, constant};

@@ -1,6 +1,6 @@
 //! The care of an event function.
 
-ghost use Rattle.std.specs.Prelude.{◌≡◌, ℕ, ◌+◌, ◌*◌, ◌^◌, ◌<◌, ◌≤◌, length, slice_get, Some, All, Contains, IfOk};
+ghost use Rattle.std.specs.Prelude.{◌≡◌, ℕ, ◌+◌, ◌*◌, ◌^◌, ◌<◌, length, slice_get, Some, Contains, IfOk};
 ghost use Rattle.event_theory.specs.Frame.{NotPut};
 ghost use Rattle.flat_net.specs.declared.parts.Driver.TheVariants as driver;
 ghost use Rattle.aig.specs.Graph.{flip};
@@ -9,7 +9,6 @@ ghost use Rattle.aig.specs.declared.node.Lit.{Lit};
 ghost use Rattle.event_walk.specs.declared.frames.Ways.{Ways};
 ghost use Rattle.event_literals.specs.Known.{AreKnown, HasGrown, IsMet};
 ghost use Rattle.event_walk.specs.Ready.{IsReadyBy, put_of};
-ghost use Rattle.event_walk.specs.Walk.{IsSeen};
 ghost use Rattle.event_literals.specs.Built.{AreMetOn};
 ghost use Rattle.edbf_unfold.specs.Care.{IsWithEnable, IsAndEnable, IsCareOf};
 

@@ -1,6 +1,6 @@
 //! What an unfolding reaches.
 
-ghost use Rattle.std.specs.Prelude.{◌≡◌, ℕ, ◌+◌, ◌^◌, ◌<◌, ◌≤◌, ◌++◌, ◌∷◌, [], true, false, length, slice_get, Some, All, Contains, IfSome, IfNone, IfOk, OnOk};
+ghost use Rattle.std.specs.Prelude.{◌≡◌, ℕ, ◌<◌, true, false, length, slice_get, Some, IfSome, IfNone, IfOk, OnOk};
 ghost use Rattle.flat_net.specs.declared.parts.Driver.TheVariants as driver;
 ghost use Rattle.event_nodes.specs.View.{side_of};
 ghost use Rattle.event_walk.specs.declared.frames.Frame.{Frame};
