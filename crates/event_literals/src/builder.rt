@@ -110,7 +110,9 @@ impl<'a> EventBuilder<'a> {
         let circuit = self.walker.circuit();
         circuit.keeps();
         events.keeps();
-        let plan = self.walker.plan(alloc, events.nodes(), &table, ways.as_slice())?;
+        let plan = self
+            .walker
+            .plan(alloc, events.nodes(), &table, ways.as_slice())?;
         self.build(alloc, events, plan.as_slice())?;
         Ok(Unfolding {
             lit: self.met(root),

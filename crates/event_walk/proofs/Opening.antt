@@ -44,7 +44,7 @@ opened_one i u same w x grows is frames adds few =
     subst (λ (k : EventWalkerView). IsOpened k (record { circuit = i.circuit; frames = frames }) w x 1) same
     (record {
       circuit = refl;
-          frames = adds;
+      frames = adds;
       grows = grows;
       graph = ap (λ (y : EventGraphView). y.graph) is;
       places = ap (λ (y : EventGraphView). y.places) is;
