@@ -1,7 +1,6 @@
 -- The node where an open latch takes over its data.
-use Rattle.std.proofs.Common.{◌<◌, length, refl, sym, subst, inl, inr}
+use Rattle.std.proofs.Common.{refl, inl, inr}
 use Rattle.std.proofs.lemmas.Option.{slice_get_within}
-use Rattle.event_literals.specs.Known.{EventUnfolderView}
 use Rattle.edbf_unfold.proofs.unfolder.EventUnfolder.put_node.Goals as goal
 
 pub open_latch-requires-clause-framed : goal.open_latch-requires-clause-framed
@@ -13,7 +12,7 @@ open_latch-requires-clause-signal c = c.requires.signal
 pub frame-requires : goal.frame-requires
 frame-requires c =
     let f = c.requires.onward c.in-Some.ensures.here.1 in
-    subst (λ (u : EventUnfolderView). c.args.ways.onward < length u.frames) (sym c.self.view_is) (slice_get_within c.args.self.now.frames c.args.ways.onward f.0 f.1)
+    slice_get_within c.args.self.now.frames c.args.ways.onward f.0 f.1
 
 pub returns-in_ok-push-in-Some : goal.returns-in_ok-push-in-Some
 returns-in_ok-push-in-Some c = inr (c.in-Some.ensures.here.1, (c.frame.result, c.frame.ensures, c.in_ok-push-in-Some.ensures.items))
