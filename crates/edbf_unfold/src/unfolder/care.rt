@@ -13,9 +13,9 @@ ghost use Rattle.event_literals.specs.Built.{AreMetOn};
 ghost use Rattle.edbf_unfold.specs.Care.{IsWithEnable, IsAndEnable, IsCareOf};
 
 use super::EventUnfolder;
-use event_walk::{Frame, Ways, constant};
 use aig::{Aig, Lit};
 use event_nodes::{EventGraph, Place, latch_of};
+use event_walk::{Frame, Ways, constant};
 use flat_net::{Driver, Signal};
 use sec_base::{NoMemory, PlaceTable};
 

@@ -8,8 +8,8 @@ ghost use Rattle.event_walk.specs.declared.frames.Ways.{Ways};
 ghost use Rattle.edbf_unfold.specs.Reached.{IsOpenPlace, IsOnwardAt, IsNodePut, AreNodesOf};
 
 use super::EventUnfolder;
-use event_walk::{Ways, constant};
 use event_nodes::Place;
+use event_walk::{Ways, constant};
 use flat_net::{Driver, Signal};
 use sec_base::{Ids, NoMemory, PlaceTable, Seq};
 use std::alloc::Global;
