@@ -18,14 +18,15 @@ use Rattle.aig.proofs.Growth.{Grows-length, IsAndOf-grows}
 use Rattle.event_nodes.specs.Nodes.{EventGraphView, IsEventGraph, GrowsEvents, IsChild, path_of}
 use Rattle.event_nodes.specs.View.{EventCircuitView, side_of, Enabled}
 use Rattle.event_nodes.proofs.Paths.{child_path}
-use Rattle.edbf_unfold.specs.declared.frames.Frame.{Frame}
-use Rattle.edbf_unfold.specs.declared.frames.Put.{Put}
-use Rattle.edbf_unfold.specs.declared.frames.Put.TheVariants.{Free, Low, High}
-use Rattle.edbf_unfold.specs.declared.frames.Step.{Step}
-use Rattle.edbf_unfold.specs.Known.{put_of, IsKnownAt, IsEnableLit, AreKnown, IsMet, IsReadyBy}
+use Rattle.event_walk.specs.declared.frames.Frame.{Frame}
+use Rattle.event_walk.specs.declared.frames.Put.{Put}
+use Rattle.event_walk.specs.declared.frames.Put.TheVariants.{Free, Low, High}
+use Rattle.event_walk.specs.declared.frames.Step.{Step}
+use Rattle.event_walk.specs.Ready.{put_of, IsReadyBy}
+use Rattle.event_literals.specs.Known.{IsKnownAt, IsEnableLit, AreKnown, IsMet}
 use Rattle.edbf_unfold.specs.Care.{IsEnableOnward, IsHeldPlace, IsPlaceEnable, IsAndOfAll, IsCareOf, IsWithEnable, IsAndEnable}
-use Rattle.edbf_unfold.proofs.Known.{known_at_later}
-use Rattle.edbf_unfold.proofs.Lits.{entry_known}
+use Rattle.event_literals.proofs.Known.{known_at_later}
+use Rattle.event_literals.proofs.Lits.{entry_known}
 
 module _ (e : EventCircuitView) (w v : EventGraphView) (is : IsEventGraph w) (grows : GrowsEvents w v) where
   -- an enable's literal stays

@@ -21,14 +21,16 @@ use Rattle.event_nodes.proofs.Bits.{kind_of}
 use Rattle.event_nodes.proofs.OnePath.{one_node}
 use Rattle.event_nodes.proofs.Paths.{child_path, path_grows}
 use Rattle.event_nodes.proofs.Visits.{visited_reached, reached_visited}
-use Rattle.edbf_unfold.specs.declared.frames.Frame.{Frame}
-use Rattle.edbf_unfold.specs.declared.frames.Put.{Put}
-use Rattle.edbf_unfold.specs.declared.frames.Put.TheVariants.{Free, Low, High}
-use Rattle.edbf_unfold.specs.declared.frames.Ways.{Ways}
+use Rattle.event_walk.specs.declared.frames.Frame.{Frame}
+use Rattle.event_walk.specs.declared.frames.Put.{Put}
+use Rattle.event_walk.specs.declared.frames.Put.TheVariants.{Free, Low, High}
+use Rattle.event_walk.specs.declared.frames.Ways.{Ways}
 use Rattle.edbf_unfold.specs.Care.{IsEnableOnward, IsPlaceEnable, IsCareOf, IsCareLit}
-use Rattle.edbf_unfold.specs.Known.{EventUnfolderView, put_of}
+use Rattle.event_literals.specs.Known.{EventUnfolderView}
+use Rattle.event_walk.specs.Ready.{put_of}
 use Rattle.edbf_unfold.specs.Reached.{IsOpenPlace, AreNodesOf, IsReachOf}
-use Rattle.edbf_unfold.specs.Walk.{IsExpanded, IsVisitedPlace, IsRootOf, IsWalked, out_of}
+use Rattle.event_walk.specs.Walk.{IsExpanded, IsVisitedPlace, IsRootOf, out_of}
+use Rattle.event_literals.specs.Built.{IsWalked}
 
 -- what isn't read as a constant in the frame
 other_free : (put : Put) (q : ℕ) → IsOther (out_of put) q → NotPut (put_of put) q

@@ -17,7 +17,7 @@ use Rattle.event_nodes.specs.Nodes.{path_of, EventGraphView, named_places, IsEve
 use Rattle.edbf_unfold.specs.Laws.{EqualEventTreesOneLiteral, EqualEnablesOneLiteral, LiteralIsTree, EnableLiteralIsEnable, KnownLater}
 use Rattle.event_nodes.proofs.OnePath.{one_node}
 use Rattle.event_nodes.proofs.Drivers.{latch_equation_stands}
-use Rattle.edbf_unfold.proofs.Known.{known_at_later}
+use Rattle.event_literals.proofs.Known.{known_at_later}
 
 -- the variables' places by paths are distinct
 pub named_distinct : (w : EventGraphView) → IsEventGraph w → AreDistinct (named_places w)

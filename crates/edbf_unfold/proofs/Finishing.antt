@@ -12,16 +12,19 @@ use Rattle.event_nodes.specs.View.{EventCircuitView, IsEventCircuit, side_of}
 use Rattle.event_nodes.specs.Visited.{CounterView, HoldsVisits, HoldsNodes}
 use Rattle.event_nodes.proofs.Growing.{grows_trans}
 use Rattle.event_nodes.proofs.Lists.{adds_none, adds_trans}
-use Rattle.edbf_unfold.specs.declared.frames.Frame.{Frame}
-use Rattle.edbf_unfold.specs.declared.frames.Put.TheVariants.{Free}
-use Rattle.edbf_unfold.specs.declared.frames.Ways.{Ways}
+use Rattle.event_walk.specs.declared.frames.Frame.{Frame}
+use Rattle.event_walk.specs.declared.frames.Put.TheVariants.{Free}
+use Rattle.event_walk.specs.declared.frames.Ways.{Ways}
 use Rattle.edbf_unfold.specs.Care.{IsCareOf, IsCareLit}
-use Rattle.edbf_unfold.specs.Known.{EventUnfolderView, IsKnownAt, IsKnownIn, HasUnfolded, HasGrown, put_of}
+use Rattle.event_literals.specs.Known.{EventUnfolderView, IsKnownAt, IsKnownIn, HasUnfolded, HasGrown}
+use Rattle.event_walk.specs.Ready.{put_of}
 use Rattle.edbf_unfold.specs.Reached.{IsOpenPlace, IsOnwardAt, AreNodesOf, IsReachOf}
-use Rattle.edbf_unfold.specs.Walk.{IsRootOf, IsWalked, IsCounting, IsCountedOn, HasCountedStart}
+use Rattle.event_walk.specs.Walk.{IsRootOf, IsCounting, IsCountedOn, HasCountedStart}
+use Rattle.event_literals.specs.Built.{IsWalked}
 use Rattle.edbf_unfold.proofs.Covering.{care_lit, holds_visits, holds_nodes, reach_of}
-use Rattle.edbf_unfold.proofs.Known.{known_at_later}
-use Rattle.edbf_unfold.proofs.Rooted.{root_path, walked_later}
+use Rattle.event_literals.proofs.Known.{known_at_later}
+use Rattle.event_walk.proofs.Rooting.{root_path}
+use Rattle.event_literals.proofs.Rooted.{walked_later}
 
 -- the literal at the root, while the graph grows
 pub root_later : (e : EventCircuitView) (w v : EventGraphView) → IsEventGraph w → GrowsEvents w v → (s x : ℕ) → IsKnownIn e w (record { node = 0; put = Free }) s x → IsKnownAt e v None s [] x

@@ -12,8 +12,9 @@ use Rattle.aig.specs.Rules.{IsAndOf}
 use Rattle.event_nodes.specs.Nodes.{EventGraphView, path_of}
 use Rattle.event_nodes.specs.Reach.{IsBegun}
 use Rattle.event_nodes.specs.View.{EventCircuitView, side_of, Enabled}
-use Rattle.edbf_unfold.specs.declared.frames.Frame.{Frame}
-use Rattle.edbf_unfold.specs.Known.{IsEnableLit, put_of}
+use Rattle.event_walk.specs.declared.frames.Frame.{Frame}
+use Rattle.event_literals.specs.Known.{IsEnableLit}
+use Rattle.event_walk.specs.Ready.{put_of}
 
 -- the literal is that of the enable of the latch, an enabled one, at the child of the node by its class
 pub record IsEnableOnward (e : EventCircuitView) (w : EventGraphView) (node : List ℕ) (v lit : ℕ) : Type 0 where

@@ -9,7 +9,7 @@ use Rattle.flat_net.specs.View.{circuit_of}
 use Rattle.aig.specs.Values.{value}
 use Rattle.event_nodes.specs.Nodes.{EventGraphView, IsEventGraph, GrowsEvents, named_places}
 use Rattle.event_nodes.specs.View.{EventCircuitView, IsEventCircuit, side_of, Enabled}
-use Rattle.edbf_unfold.specs.Known.{IsKnownAt, IsEnableLit}
+use Rattle.event_literals.specs.Known.{IsKnownAt, IsEnableLit}
 use Rattle.edbf_unfold.specs.Care.{IsCareLit}
 
 -- the assignment of the variables is the frame's

@@ -7,9 +7,9 @@ use Rattle.event_theory.specs.EventTotals.{StartLatches}
 use Rattle.flat_net.specs.View.{circuit_of}
 use Rattle.event_nodes.specs.Nodes.{path_of}
 use Rattle.event_nodes.specs.View.{EventCircuitView, side_of, Enabled}
-use Rattle.edbf_unfold.specs.declared.frames.Frame.{Frame}
-use Rattle.edbf_unfold.specs.declared.frames.Ways.{Ways}
-use Rattle.edbf_unfold.specs.Known.{put_of}
+use Rattle.event_walk.specs.declared.frames.Frame.{Frame}
+use Rattle.event_walk.specs.declared.frames.Ways.{Ways}
+use Rattle.event_walk.specs.Ready.{put_of}
 
 -- a latch drives the place's signal, and isn't the one that is read as a constant in the frame
 pub record IsOpenPlace (e : EventCircuitView) (frames : List Frame) (p : ℕ × ℕ) : Type 0 where

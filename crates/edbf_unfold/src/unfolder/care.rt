@@ -1,20 +1,21 @@
 //! The care of an event function.
 
-ghost use Rattle.std.specs.Prelude.{◌≡◌, ℕ, ◌+◌, ◌*◌, ◌^◌, ◌<◌, ◌≤◌, length, slice_get, Some, All, Contains, IfOk};
+ghost use Rattle.std.specs.Prelude.{◌≡◌, ℕ, ◌+◌, ◌*◌, ◌^◌, ◌<◌, length, slice_get, Some, Contains, IfOk};
 ghost use Rattle.event_theory.specs.Frame.{NotPut};
 ghost use Rattle.flat_net.specs.declared.parts.Driver.TheVariants as driver;
 ghost use Rattle.aig.specs.Graph.{flip};
 ghost use Rattle.aig.specs.Rules.{IsAndOf};
 ghost use Rattle.aig.specs.declared.node.Lit.{Lit};
-ghost use Rattle.edbf_unfold.specs.declared.frames.Ways.{Ways};
-ghost use Rattle.edbf_unfold.specs.Known.{AreKnown, HasGrown, IsMet, IsReadyBy, put_of};
-ghost use Rattle.edbf_unfold.specs.Walk.{IsSeen, AreMetOn};
+ghost use Rattle.event_walk.specs.declared.frames.Ways.{Ways};
+ghost use Rattle.event_literals.specs.Known.{AreKnown, HasGrown, IsMet};
+ghost use Rattle.event_walk.specs.Ready.{IsReadyBy, put_of};
+ghost use Rattle.event_literals.specs.Built.{AreMetOn};
 ghost use Rattle.edbf_unfold.specs.Care.{IsWithEnable, IsAndEnable, IsCareOf};
 
 use super::EventUnfolder;
-use crate::frames::{Frame, Ways, constant};
 use aig::{Aig, Lit};
 use event_nodes::{EventGraph, Place, latch_of};
+use event_walk::{Frame, Ways, constant};
 use flat_net::{Driver, Signal};
 use sec_base::{NoMemory, PlaceTable};
 
@@ -97,7 +98,7 @@ impl<'a> EventUnfolder<'a> {
         ensures here { IfOk result (λ x. IsWithEnable self.now.circuit events.new self.now.frames care.0 place x.0) }
         ensures grown { HasGrown events.old events.new 2 }
     {
-        let frame = self.frames.frame(place.0);
+        let frame = self.frame(place.0);
         match constant(frame.put, place.1) {
             Some(_) => Ok(care),
             None => self.with_free(events, care, place, ways, j, frame),

@@ -1,15 +1,15 @@
 //! What an unfolding reaches.
 
-ghost use Rattle.std.specs.Prelude.{◌≡◌, ℕ, ◌+◌, ◌^◌, ◌<◌, ◌≤◌, ◌++◌, ◌∷◌, [], true, false, length, slice_get, Some, All, Contains, IfSome, IfNone, IfOk, OnOk};
+ghost use Rattle.std.specs.Prelude.{◌≡◌, ℕ, ◌<◌, true, false, length, slice_get, Some, IfSome, IfNone, IfOk, OnOk};
 ghost use Rattle.flat_net.specs.declared.parts.Driver.TheVariants as driver;
 ghost use Rattle.event_nodes.specs.View.{side_of};
-ghost use Rattle.edbf_unfold.specs.declared.frames.Frame.{Frame};
-ghost use Rattle.edbf_unfold.specs.declared.frames.Ways.{Ways};
+ghost use Rattle.event_walk.specs.declared.frames.Frame.{Frame};
+ghost use Rattle.event_walk.specs.declared.frames.Ways.{Ways};
 ghost use Rattle.edbf_unfold.specs.Reached.{IsOpenPlace, IsOnwardAt, IsNodePut, AreNodesOf};
 
 use super::EventUnfolder;
-use crate::frames::{Ways, constant};
 use event_nodes::Place;
+use event_walk::{Ways, constant};
 use flat_net::{Driver, Signal};
 use sec_base::{Ids, NoMemory, PlaceTable, Seq};
 use std::alloc::Global;
@@ -39,7 +39,7 @@ impl<'a> EventUnfolder<'a> {
     {
         let circuit = self.circuit();
         circuit.keeps();
-        let frame = self.frames.frame(place.0);
+        let frame = self.frame(place.0);
         match constant(frame.put, place.1) {
             Some(_) => None,
             None => Some(j),
@@ -104,7 +104,7 @@ impl<'a> EventUnfolder<'a> {
     {
         match self.open_latch(place) {
             Some(_) => {
-                nodes.push(self.frames.frame(ways.onward).node)?;
+                nodes.push(self.frame(ways.onward).node)?;
                 Ok(())
             }
             None => Ok(()),

@@ -3,8 +3,8 @@ use Rattle.std.proofs.Common.{ℕ, subst, arith}
 use Rattle.aig.specs.Graph.{flip}
 use Rattle.aig.specs.Rules.{IsAndOf}
 use Rattle.aig.proofs.Growth.{Grows-length, IsAndOf-grows}
-use Rattle.edbf_unfold.proofs.Lits.{cover_grown}
-use Rattle.edbf_unfold.proofs.Going.{grown_trans, grown_within}
+use Rattle.event_literals.proofs.Lits.{cover_grown}
+use Rattle.event_literals.proofs.Going.{grown_trans, grown_within}
 use Rattle.edbf_unfold.proofs.unfolder.EventUnfolder.and_enable.Goals as goal
 
 pub enable_of-requires-clause-low : goal.enable_of-requires-clause-low

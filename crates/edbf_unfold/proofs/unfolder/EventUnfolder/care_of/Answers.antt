@@ -2,12 +2,13 @@
 use Rattle.std.proofs.Common.{◌+◌, ◌*◌, ◌≤◌, ℕ, List, length, get_or, sym, subst, arith}
 use Rattle.std.proofs.lemmas.List.{take_all}
 use Rattle.std.proofs.lemmas.Option.{slice_get_within, slice_get-get_or}
-use Rattle.edbf_unfold.specs.declared.frames.Ways.{Ways}
+use Rattle.event_walk.specs.declared.frames.Ways.{Ways}
 use Rattle.edbf_unfold.specs.Care.{IsCareOf}
-use Rattle.edbf_unfold.specs.Known.{IsMet, IsReadyBy}
+use Rattle.event_literals.specs.Known.{IsMet}
+use Rattle.event_walk.specs.Ready.{IsReadyBy}
 use Rattle.edbf_unfold.proofs.Caring.{care_none, care_next}
-use Rattle.edbf_unfold.proofs.Going.{are_known_later, grown_trans}
-use Rattle.edbf_unfold.proofs.Lits.{grown_none}
+use Rattle.event_literals.proofs.Going.{are_known_later, grown_trans}
+use Rattle.event_literals.proofs.Lits.{grown_none}
 use Rattle.edbf_unfold.proofs.unfolder.EventUnfolder.care_of.Goals as goal
 
 pub loop-number-init : goal.loop-number-init

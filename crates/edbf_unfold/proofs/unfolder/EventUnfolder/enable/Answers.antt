@@ -8,16 +8,17 @@ use Rattle.event_nodes.specs.View.{EventCircuitView, IsEventCircuit}
 use Rattle.event_nodes.specs.Visited.{IsWeighed}
 use Rattle.event_nodes.proofs.Growing.{grows_trans}
 use Rattle.event_nodes.proofs.Lists.{adds_trans}
-use Rattle.edbf_unfold.specs.declared.frames.Put.TheVariants.{Low}
-use Rattle.edbf_unfold.specs.declared.frames.Ways.{Ways}
+use Rattle.event_walk.specs.declared.frames.Put.TheVariants.{Low}
+use Rattle.event_walk.specs.declared.frames.Ways.{Ways}
 use Rattle.edbf_unfold.specs.Care.{IsCareLit}
-use Rattle.edbf_unfold.specs.Known.{IsEnableLit}
-use Rattle.edbf_unfold.specs.Walk.{IsCounting, HasCountedStart, AreMetOn, enable_start}
+use Rattle.event_literals.specs.Known.{IsEnableLit}
+use Rattle.event_walk.specs.Walk.{IsCounting, HasCountedStart, enable_start}
+use Rattle.event_literals.specs.Built.{AreMetOn}
 use Rattle.edbf_unfold.proofs.Caring.{enable_later}
-use Rattle.edbf_unfold.proofs.Exact.{counting_trans}
+use Rattle.event_walk.proofs.Exact.{counting_trans}
 use Rattle.edbf_unfold.proofs.Finishing.{unfolded_more, unfolded_trans, counting_same, finished_care, finished_count}
-use Rattle.edbf_unfold.proofs.Going.{are_known_later}
-use Rattle.edbf_unfold.proofs.Rooted.{next_within, enable_lit, walked_later, walked_met}
+use Rattle.event_literals.proofs.Going.{are_known_later}
+use Rattle.event_literals.proofs.Rooted.{next_within, enable_lit, walked_later, walked_met}
 use Rattle.edbf_unfold.proofs.unfolder.EventUnfolder.enable.Goals as goal
 
 pub unfold_in-requires-clause-signal : goal.unfold_in-requires-clause-signal

@@ -1,8 +1,6 @@
 -- The node where an open latch takes over its data.
-use Rattle.std.proofs.Common.{◌<◌, length, refl, sym, subst, inl, inr}
+use Rattle.std.proofs.Common.{refl, inl, inr}
 use Rattle.std.proofs.lemmas.Option.{slice_get_within}
-use Rattle.edbf_unfold.specs.Known.{EventUnfolderView}
-use Rattle.edbf_unfold.proofs.Lits.{frame_of_view}
 use Rattle.edbf_unfold.proofs.unfolder.EventUnfolder.put_node.Goals as goal
 
 pub open_latch-requires-clause-framed : goal.open_latch-requires-clause-framed
@@ -14,10 +12,10 @@ open_latch-requires-clause-signal c = c.requires.signal
 pub frame-requires : goal.frame-requires
 frame-requires c =
     let f = c.requires.onward c.in-Some.ensures.here.1 in
-    subst (λ (u : EventUnfolderView). c.args.ways.onward < length u.frames) (sym c.self.view_is) (slice_get_within c.args.self.now.frames c.args.ways.onward f.0 f.1)
+    slice_get_within c.args.self.now.frames c.args.ways.onward f.0 f.1
 
 pub returns-in_ok-push-in-Some : goal.returns-in_ok-push-in-Some
-returns-in_ok-push-in-Some c = inr (c.in-Some.ensures.here.1, (c.frame.result, frame_of_view c.args.self.now _ c.self.view_is c.args.ways.onward c.frame.result c.frame.ensures, c.in_ok-push-in-Some.ensures.items))
+returns-in_ok-push-in-Some c = inr (c.in-Some.ensures.here.1, (c.frame.result, c.frame.ensures, c.in_ok-push-in-Some.ensures.items))
 
 pub returns-in-None : goal.returns-in-None
 returns-in-None c = inl (c.in-None.ensures.none, refl)

@@ -2,13 +2,13 @@
 use Rattle.std.proofs.Common.{◌≡◌, ◌∙◌, List, length, slice_get, Some, None, refl, sym, ap, subst, arith}
 use Rattle.flat_net.specs.Sound.{IsSound}
 use Rattle.event_nodes.specs.View.{EventCircuitView, IsEventCircuit}
-use Rattle.edbf_unfold.specs.declared.frames.Put.TheVariants.{Free}
-use Rattle.edbf_unfold.specs.declared.frames.Ways.{Ways}
+use Rattle.event_walk.specs.declared.frames.Put.TheVariants.{Free}
+use Rattle.event_walk.specs.declared.frames.Ways.{Ways}
 use Rattle.edbf_unfold.specs.Reached.{AreNodesOf}
-use Rattle.edbf_unfold.specs.Walk.{AreMetOn}
+use Rattle.event_literals.specs.Built.{AreMetOn}
 use Rattle.edbf_unfold.proofs.Finishing.{root_later, unfolded_more, counting_same, finished_care, finished_count, finished_reach, onward_at, framed_at}
-use Rattle.edbf_unfold.proofs.Going.{are_known_later}
-use Rattle.edbf_unfold.proofs.Rooted.{walked_met}
+use Rattle.event_literals.proofs.Going.{are_known_later}
+use Rattle.event_literals.proofs.Rooted.{walked_met}
 use Rattle.edbf_unfold.proofs.unfolder.EventUnfolder.unfold.Goals as goal
 
 pub returns-in_err-unfolding-clause-counting : goal.returns-in_err-unfolding-clause-counting

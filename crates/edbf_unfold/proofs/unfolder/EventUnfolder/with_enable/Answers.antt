@@ -6,18 +6,18 @@ use Rattle.flat_net.proofs.Places.{one_at}
 use Rattle.event_nodes.specs.View.{EventCircuitView}
 use Rattle.event_nodes.proofs.Drivers.{latch_of_equation}
 use Rattle.edbf_unfold.proofs.Caring.{with_none}
-use Rattle.edbf_unfold.proofs.Lits.{drives_of, sound_of}
+use Rattle.event_walk.proofs.Lent.{drives_of, sound_of}
 use Rattle.edbf_unfold.proofs.unfolder.EventUnfolder.with_enable.Goals as goal
 
 pub with_latch-requires-clause-latch : goal.with_latch-requires-clause-latch
 with_latch-requires-clause-latch c =
-    drives_of c.args.self.now c.circuit-circuit.result.now c.circuit-circuit.ensures c.net.result.now c.net.ensures c.args.place.1 c.driver.result (driver.Latch c.in-Latch.j) c.driver.ensures c.in-Latch.is
+    drives_of c.args.self.now.circuit c.circuit-circuit.result.now c.circuit-circuit.ensures c.net.result.now c.net.ensures c.args.place.1 c.driver.result (driver.Latch c.in-Latch.j) c.driver.ensures c.in-Latch.is
 
 pub returns-in_default-clause-here : goal.returns-in_default-clause-here
 returns-in_default-clause-here c =
     with_none c.args.self.now.circuit c.args.events.now c.args.self.now.frames c.args.care.0 c.args.place c.requires.care
     (λ held.
-    let sound = sound_of c.args.self.now c.circuit-circuit.result.now c.circuit-circuit.ensures c.keeps.ensures.sound in
+    let sound = sound_of c.args.self.now.circuit c.circuit-circuit.result.now c.circuit-circuit.ensures c.keeps.ensures.sound in
     let on = held.enabled in
     let o = latch_of_equation c.args.self.now.circuit.net sound on.name c.args.place.1 on.next on.latch in
     c.in_default.not-Latch o.j (one_at c.args.self.now.circuit.net.drivers c.args.place.1 c.driver.result (driver.Latch o.j) (subst (λ (n : NetView). slice_get n.drivers c.args.place.1 ≡ Some c.driver.result) (c.net.ensures ∙ ap (λ (e : EventCircuitView). e.net) c.circuit-circuit.ensures) c.driver.ensures) o.owner))

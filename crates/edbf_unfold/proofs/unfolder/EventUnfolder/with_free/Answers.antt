@@ -4,17 +4,17 @@ use Rattle.std.proofs.lemmas.Option.{slice_get_within}
 use Rattle.flat_net.specs.View.{NetView}
 use Rattle.event_nodes.specs.View.{EventCircuitView, Enabled}
 use Rattle.event_nodes.proofs.Drivers.{driven_latch, latch_out, latch_equation_stands}
-use Rattle.edbf_unfold.specs.declared.frames.Step.{Step}
+use Rattle.event_walk.specs.declared.frames.Step.{Step}
 use Rattle.edbf_unfold.proofs.Caring.{with_none, with_own, low_met, high_met}
-use Rattle.edbf_unfold.proofs.Going.{are_known_later}
-use Rattle.edbf_unfold.proofs.Lits.{sound_of, latch_of_lent}
+use Rattle.event_literals.proofs.Going.{are_known_later}
+use Rattle.event_walk.proofs.Lent.{sound_of, latch_of_lent}
 use Rattle.edbf_unfold.proofs.unfolder.EventUnfolder.with_free.Goals as goal
 
 pub is_enabled-requires : goal.is_enabled-requires
 is_enabled-requires c =
     let u = c.args.self.now in
     let lent = c.circuit-circuit.result.now in
-    let sound = sound_of u lent c.circuit-circuit.ensures c.keeps.ensures.sound in
+    let sound = sound_of u.circuit lent c.circuit-circuit.ensures c.keeps.ensures.sound in
     let l = driven_latch u.circuit.net sound c.args.place.1 c.args.j c.requires.latch in
     subst (λ (e : EventCircuitView). c.args.j < length e.net.latches) (sym c.circuit-circuit.ensures) (slice_get_within u.circuit.net.latches c.args.j l.0 l.1)
 
@@ -22,7 +22,7 @@ pub latch_of-requires : goal.latch_of-requires
 latch_of-requires c =
     let u = c.args.self.now in
     let lent = c.circuit-circuit.result.now in
-    let sound = sound_of u lent c.circuit-circuit.ensures c.keeps.ensures.sound in
+    let sound = sound_of u.circuit lent c.circuit-circuit.ensures c.keeps.ensures.sound in
     let l = driven_latch u.circuit.net sound c.args.place.1 c.args.j c.requires.latch in
     subst (λ (n : NetView). c.args.j < length n.latches) (sym (c.net.ensures ∙ ap (λ (e : EventCircuitView). e.net) c.circuit-circuit.ensures)) (slice_get_within u.circuit.net.latches c.args.j l.0 l.1)
 
@@ -33,10 +33,10 @@ pub and_enable-requires-clause-low : goal.and_enable-requires-clause-low
 and_enable-requires-clause-low c =
     let u = c.args.self.now in
     let lent = c.circuit-circuit.result.now in
-    let sound = sound_of u lent c.circuit-circuit.ensures c.keeps.ensures.sound in
+    let sound = sound_of u.circuit lent c.circuit-circuit.ensures c.keeps.ensures.sound in
     let l = driven_latch u.circuit.net sound c.args.place.1 c.args.j c.requires.latch in
     let m = c.latch_of.result.now in
-    let on_m : slice_get u.circuit.net.latches c.args.j ≡ Some m = latch_of_lent u lent c.circuit-circuit.ensures c.net.result.now c.net.ensures c.args.j m c.latch_of.ensures in
+    let on_m : slice_get u.circuit.net.latches c.args.j ≡ Some m = latch_of_lent u.circuit lent c.circuit-circuit.ensures c.net.result.now c.net.ensures c.args.j m c.latch_of.ensures in
     let latch = latch_equation_stands u.circuit.net sound c.args.place.1 c.args.j c.requires.latch m on_m in
     let out : m.out.0 ≡ c.args.place.1 = latch_out u.circuit.net sound c.args.place.1 c.args.j c.requires.latch m on_m in
     let enabled : Enabled u.circuit c.args.place.1 = subst (Enabled u.circuit) out (subst (λ (e : EventCircuitView). Enabled e m.out.0) c.circuit-circuit.ensures
@@ -48,10 +48,10 @@ pub and_enable-requires-clause-high : goal.and_enable-requires-clause-high
 and_enable-requires-clause-high c =
     let u = c.args.self.now in
     let lent = c.circuit-circuit.result.now in
-    let sound = sound_of u lent c.circuit-circuit.ensures c.keeps.ensures.sound in
+    let sound = sound_of u.circuit lent c.circuit-circuit.ensures c.keeps.ensures.sound in
     let l = driven_latch u.circuit.net sound c.args.place.1 c.args.j c.requires.latch in
     let m = c.latch_of.result.now in
-    let on_m : slice_get u.circuit.net.latches c.args.j ≡ Some m = latch_of_lent u lent c.circuit-circuit.ensures c.net.result.now c.net.ensures c.args.j m c.latch_of.ensures in
+    let on_m : slice_get u.circuit.net.latches c.args.j ≡ Some m = latch_of_lent u.circuit lent c.circuit-circuit.ensures c.net.result.now c.net.ensures c.args.j m c.latch_of.ensures in
     let latch = latch_equation_stands u.circuit.net sound c.args.place.1 c.args.j c.requires.latch m on_m in
     let out : m.out.0 ≡ c.args.place.1 = latch_out u.circuit.net sound c.args.place.1 c.args.j c.requires.latch m on_m in
     let enabled : Enabled u.circuit c.args.place.1 = subst (Enabled u.circuit) out (subst (λ (e : EventCircuitView). Enabled e m.out.0) c.circuit-circuit.ensures
@@ -63,10 +63,10 @@ pub returns-in_ok-lit-clause-here : goal.returns-in_ok-lit-clause-here
 returns-in_ok-lit-clause-here c =
     let u = c.args.self.now in
     let lent = c.circuit-circuit.result.now in
-    let sound = sound_of u lent c.circuit-circuit.ensures c.keeps.ensures.sound in
+    let sound = sound_of u.circuit lent c.circuit-circuit.ensures c.keeps.ensures.sound in
     let l = driven_latch u.circuit.net sound c.args.place.1 c.args.j c.requires.latch in
     let m = c.latch_of.result.now in
-    let on_m : slice_get u.circuit.net.latches c.args.j ≡ Some m = latch_of_lent u lent c.circuit-circuit.ensures c.net.result.now c.net.ensures c.args.j m c.latch_of.ensures in
+    let on_m : slice_get u.circuit.net.latches c.args.j ≡ Some m = latch_of_lent u.circuit lent c.circuit-circuit.ensures c.net.result.now c.net.ensures c.args.j m c.latch_of.ensures in
     let latch = latch_equation_stands u.circuit.net sound c.args.place.1 c.args.j c.requires.latch m on_m in
     let out : m.out.0 ≡ c.args.place.1 = latch_out u.circuit.net sound c.args.place.1 c.args.j c.requires.latch m on_m in
     let enabled : Enabled u.circuit c.args.place.1 = subst (Enabled u.circuit) out (subst (λ (e : EventCircuitView). Enabled e m.out.0) c.circuit-circuit.ensures
@@ -80,7 +80,7 @@ pub returns-else-is_enabled-clause-here : goal.returns-else-is_enabled-clause-he
 returns-else-is_enabled-clause-here c =
     let u = c.args.self.now in
     let lent = c.circuit-circuit.result.now in
-    let sound = sound_of u lent c.circuit-circuit.ensures c.keeps.ensures.sound in
+    let sound = sound_of u.circuit lent c.circuit-circuit.ensures c.keeps.ensures.sound in
     let l = driven_latch u.circuit.net sound c.args.place.1 c.args.j c.requires.latch in
     with_none u.circuit c.args.events.now u.frames c.args.care.0 c.args.place c.requires.care
     (λ held. c.is_enabled.ensures.no l.0 (subst (λ (e : EventCircuitView). slice_get e.net.latches c.args.j ≡ Some l.0) (sym c.circuit-circuit.ensures) l.1) c.if-is_enabled.false

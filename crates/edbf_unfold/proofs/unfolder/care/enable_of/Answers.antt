@@ -1,7 +1,7 @@
 -- Not both not the one and the other.
 use Rattle.std.proofs.Common.{length, subst, arith}
 use Rattle.aig.specs.Rules.{IsAndOf}
-use Rattle.edbf_unfold.proofs.Lits.{cover_grown}
+use Rattle.event_literals.proofs.Lits.{cover_grown}
 use Rattle.edbf_unfold.proofs.unfolder.care.enable_of.Goals as goal
 
 pub and-requires-clause-left : goal.and-requires-clause-left

@@ -1,0 +1,8 @@
+//! The literals of signals in frames: each place that an event unfolding visits as a literal of the graph over inputs at event nodes
+//! (for the event-driven Boolean functions of Ranjan, Singhal, Somenzi and Brayton, DATE 1999).
+#![tactic(auto)]
+
+mod builder;
+mod memo;
+
+pub use builder::{EventBuilder, Unfolding};

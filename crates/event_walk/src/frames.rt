@@ -1,0 +1,125 @@
+//! Frames: an event node, and the latch that is read as a constant there.
+
+ghost use Rattle.std.specs.Prelude.{◌≡◌, ◌⊎◌, ◌+◌, ◌^◌, ◌<◌, List, [], ◌∷◌, ◌++◌, length, slice_get, Some, Contains, IfSome, IfNone, IfOk, OnOk, OnErr};
+ghost use Rattle.event_theory.specs.Frame.{NotPut};
+ghost use Rattle.event_walk.specs.declared.frames.Put.TheVariants.{Low, High};
+ghost use Rattle.event_walk.specs.Ready.{put_of};
+
+use aig::Lit;
+use indexmap::IndexSet;
+use sec_base::NoMemory;
+use std::alloc::Global;
+use std::marker::Model;
+
+/// The latch that is read as a constant.
+#[derive(Clone, Copy, PartialEq, Eq, Hash)]
+pub enum Put {
+    /// No latch.
+    Free,
+    /// The latch that drives this signal, as 0.
+    Low(u32),
+    /// The same as 1.
+    High(u32),
+}
+
+/// The constant that the latch at this signal is read as; None exactly where it isn't put.
+pub fn constant(put: Put, signal: u32) -> Option<Lit>
+    ensures here { IfSome result (λ x. ((put ≡ Low signal) × (x.0 ≡ 0)) ⊎ ((put ≡ High signal) × (x.0 ≡ 1))) }
+    ensures free { IfNone result (NotPut (put_of put) signal) }
+{
+    match put {
+        Put::Free => None,
+        Put::Low(latch) => {
+            if latch == signal {
+                Some(Lit::FALSE)
+            } else {
+                None
+            }
+        }
+        Put::High(latch) => {
+            if latch == signal {
+                Some(Lit::TRUE)
+            } else {
+                None
+            }
+        }
+    }
+}
+
+/// An event node by its number, and the latch that is put there.
+#[derive(Clone, Copy, PartialEq, Eq, Hash)]
+pub struct Frame {
+    pub node: u32,
+    pub put: Put,
+}
+
+/// A signal that is to be unfolded in a frame. Steps go by rank and then by signal: what is read comes before.
+#[derive(Clone, Copy, PartialEq, Eq, PartialOrd, Ord)]
+pub struct Step {
+    /// The lower, the later the event node was made.
+    pub rank: u32,
+    pub signal: u32,
+    /// The number of the frame.
+    pub frame: u32,
+    /// The number of the frame in which the signal's latch takes over its data, if it is one that isn't put.
+    pub onward: u32,
+    /// That of the frame beside it with the latch as 1, if the latch is enabled.
+    pub high: u32,
+}
+
+/// The frames in which a place goes on, by their numbers: where its latch takes over its data, and, if that is an enabled one, the frame
+/// beside it with the latch as 1. At other places they say nothing.
+#[derive(Clone, Copy)]
+pub struct Ways {
+    pub onward: u32,
+    pub high: u32,
+}
+
+/// Frames in the order in which they first came. A contract sees the list.
+#[derive(Drop)]
+pub(crate) struct Frames {
+    frames: IndexSet<Frame>,
+}
+
+impl Model for Frames {
+    ghost use Rattle.std.specs.Prelude.{List, length, ◌<◌, ◌^◌};
+    ghost use Rattle.event_walk.specs.declared.frames.Frame.{Frame};
+
+    ghost Value = { List Frame };
+
+    ghost view = { λ t. t.frames.keys };
+
+    ghost invariant = { λ t. length t.frames.keys < 2 ^ 32 };
+}
+
+impl Frames {
+    /// Without frames. It takes no memory.
+    pub(crate) fn new(alloc: Global) -> Frames
+        ensures { result ≡ [] }
+    {
+        Frames {
+            frames: IndexSet::new(alloc),
+        }
+    }
+
+    /// The frame's number. A new frame goes last. After `NoMemory` nothing has changed.
+    pub(crate) fn intern(&mut self, frame: Frame) -> Result<u32, NoMemory>
+        requires { length self.old + 1 < 2 ^ 32 }
+        ensures here { IfOk result (λ id. slice_get self.new id ≡ Some frame) }
+        ensures known { OnOk result (Contains self.old frame → self.new ≡ self.old) }
+        ensures added { OnOk result ((Contains self.old frame → ⊥) → self.new ≡ self.old ++ frame ∷ []) }
+        ensures grown { OnOk result ((self.new ≡ self.old) ⊎ (self.new ≡ self.old ++ frame ∷ [])) }
+        ensures err { OnErr result (self.new ≡ self.old) }
+    {
+        let (id, _) = self.frames.insert_full(frame)?;
+        Ok(id as u32)
+    }
+
+    /// The frame with this number.
+    pub(crate) fn frame(&self, id: u32) -> Frame
+        requires { id < length self.now }
+        ensures { slice_get self.now id ≡ Some result }
+    {
+        self.frames[id as usize]
+    }
+}

@@ -1,0 +1,11 @@
+//! The walk of an event unfolding: which places, a signal in a frame, the unfolding of a signal visits, what they weigh, and an order
+//! in which their functions can be made (for the event-driven Boolean functions of Ranjan, Singhal, Somenzi and Brayton, DATE 1999).
+#![tactic(auto)]
+
+mod entering;
+mod frames;
+mod plan;
+mod walker;
+
+pub use frames::{Frame, Put, Step, Ways, constant};
+pub use walker::EventWalker;
