@@ -75,7 +75,7 @@ impl SortedNames {
         ensures err { OnErr result (self.new ≡ self.old) }
     {
         let number = self.names.len() as u32;
-        let key = name.clone()?;
+        let key = name.as_slice().to_vec(*self.names.allocator())?;
         self.names.reserve(1)?;
         self.numbers.insert(key, number)?;
         put_last(&mut self.names, name);

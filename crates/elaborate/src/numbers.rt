@@ -18,12 +18,7 @@ pub(crate) fn number(
 {
     let mut flat = prefix.to_vec(alloc)?;
     put(&mut flat, name)?;
-    if let Some(number) = table.find(flat.as_slice()) {
-        return Ok(number);
-    }
-    let number = table.len();
-    table.add(alloc, flat.as_slice())?;
-    Ok(number)
+    table.intern_owned(flat)
 }
 
 /// The numbers of the names behind the prefix.
