@@ -129,24 +129,6 @@ impl NameTable {
         Ok(true)
     }
 
-    /// The number of a name that the table takes as it is, where it is new; it goes last then. A table that has 2^32 - 1 names has
-    /// no room for more, and answers `NoMemory`, as where memory was wanted; then nothing has changed.
-    pub fn intern_owned(&mut self, name: Vec<u8>) -> Result<u32, NoMemory>
-        ensures here { IfOk result (λ id. slice_get self.new id ≡ Some name.items) }
-        ensures ok { OnOk result (self.new ≡ (if is_among self.old name.items then self.old else self.old ++ name.items ∷ [])) }
-        ensures err { OnErr result (self.new ≡ self.old) }
-    {
-        if let Some(id) = self.find(name.as_slice()) {
-            return Ok(id);
-        }
-        let id = self.len();
-        if id as usize >= FULL {
-            return Err(NoMemory);
-        }
-        self.put(name)?;
-        Ok(id)
-    }
-
     fn put(&mut self, name: Vec<u8>) -> Result<(), NoMemory>
         requires new { is_among self.old name.items ≡ false }
         requires room { length self.old + 1 < 2 ^ 32 }

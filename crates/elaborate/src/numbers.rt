@@ -18,7 +18,12 @@ pub(crate) fn number(
 {
     let mut flat = prefix.to_vec(alloc)?;
     put(&mut flat, name)?;
-    table.intern_owned(flat)
+    if let Some(number) = table.find(flat.as_slice()) {
+        return Ok(number);
+    }
+    let number = table.len();
+    table.add(alloc, flat.as_slice())?;
+    Ok(number)
 }
 
 /// The numbers of the names behind the prefix.

@@ -20,11 +20,12 @@ invariant_of-self-2 c =
     let new : is_among names c.args.name.items ≡ false = ap (λ ns. is_among ns c.args.name.items) c.self.view_is ∙ c.requires.new in
     let wide : length names + 1 < 2 ^ 32 = subst (λ ns. length ns + 1 < 2 ^ 32) (sym c.self.view_is) c.requires.room in
     let longer : length c.put_last.new.names.items ≡ length c.self.inside.names.items + 1 = ap length grown ∙ length-append c.self.inside.names.items (c.args.name ∷ []) in
-    let number : c.number ≡ length names = omega (arith, length-map (λ v. v.items) c.self.inside.names.items) in
+    let count : c.len-number.result ≡ length c.self.inside.names.items = search rules in
+    let number : c.len-number.result ≡ length names = count ∙ sym (length-map (λ v. v.items) c.self.inside.names.items) in
     let before : List ℕ → Option ℕ = λ q. get_by (λ k. slice_cmp nat_cmp q k.items) c.self.inside.numbers in
     let told : (q : List ℕ) → get_by (λ k. slice_cmp nat_cmp q k.items) c.insert.new.self ≡ cond (bytes_eq c.args.name.items q) (Some (length names)) (before q) =
     λ q. c.in_ok-insert.ensures.updates.0 (record c.in_ok-key.key { items = q })
-        ∙ ap (λ b. cond b (Some c.number) (before q)) (is_eq-slice_cmp c.in_ok-key.key.items q ∙ ap (λ xs. bytes_eq xs q) same)
+        ∙ ap (λ b. cond b (Some c.len-number.result) (before q)) (is_eq-slice_cmp c.in_ok-key.key.items q ∙ ap (λ xs. bytes_eq xs q) same)
         ∙ ap (λ n. cond (bytes_eq c.args.name.items q) (Some n) (before q)) number in (
       omega (arith, wide, longer, length-map (λ v. v.items) c.self.inside.names.items),
       subst (λ ns. AreNumbered ns _) (sym seen) (numbered-push names c.args.name.items _ _ c.self.invariant.1 new told),
