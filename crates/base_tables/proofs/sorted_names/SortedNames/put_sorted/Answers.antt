@@ -5,9 +5,9 @@ use Rattle.std.specs.Cmp.Lexicographic.{slice_cmp}
 use Rattle.std.specs.Ordering.{nat_cmp}
 use Rattle.std.specs.Str.{bytes_eq}
 use Rattle.std.proofs.lemmas.List.{map-append, length-map}
-use Rattle.std.proofs.lemmas.Map.Text.{is_eq-slice_cmp}
 use Rattle.base_tables.specs.Table.{is_among, AreNumbered}
 use Rattle.base_tables.proofs.Appended.{numbered-push}
+use Rattle.base_tables.proofs.Ordered.{updates_at}
 use Rattle.base_tables.proofs.sorted_names.SortedNames.put_sorted.Goals as goal
 
 pub invariant_of-self-2 : goal.invariant_of-self-2
@@ -21,12 +21,13 @@ invariant_of-self-2 c =
     let wide : length names + 1 < 2 ^ 32 = subst (λ ns. length ns + 1 < 2 ^ 32) (sym c.self.view_is) c.requires.room in
     let longer : length c.put_last.new.names.items ≡ length c.self.inside.names.items + 1 = ap length grown ∙ length-append c.self.inside.names.items (c.args.name ∷ []) in
     let count : c.len-number.result ≡ length c.self.inside.names.items = search rules in
-    let number : c.len-number.result ≡ length names = count ∙ sym (length-map (λ v. v.items) c.self.inside.names.items) in
+    let number : c.len-number.result ≡ length names = count ∙ sym (length-map c.self.inside.names.items (λ v. v.items)) in
     let before : List ℕ → Option ℕ = λ q. get_by (λ k. slice_cmp nat_cmp q k.items) c.self.inside.numbers in
-    let told : (q : List ℕ) → get_by (λ k. slice_cmp nat_cmp q k.items) c.insert.new.self ≡ cond (bytes_eq c.args.name.items q) (Some (length names)) (before q) =
-    λ q. c.in_ok-insert.ensures.updates.0 (record c.in_ok-key.key { items = q })
-        ∙ ap (λ b. cond b (Some c.len-number.result) (before q)) (is_eq-slice_cmp c.in_ok-key.key.items q ∙ ap (λ xs. bytes_eq xs q) same)
-        ∙ ap (λ n. cond (bytes_eq c.args.name.items q) (Some n) (before q)) number in (
-      omega (arith, wide, longer, length-map (λ v. v.items) c.self.inside.names.items),
-      subst (λ ns. AreNumbered ns _) (sym seen) (numbered-push names c.args.name.items _ _ c.self.invariant.1 new told),
+    let after : List ℕ → Option ℕ = λ q. get_by (λ k. slice_cmp nat_cmp q k.items) c.insert.new.self in
+    let told : (q : List ℕ) → after q ≡ cond (bytes_eq c.args.name.items q) (Some (length names)) (before q) =
+    λ q. updates_at (λ v. v.items) c.in_ok-key.key.items c.self.inside.numbers c.insert.new.self (Some c.len-number.result) c.in_ok-insert.ensures.updates q
+    ∙ ap (λ xs. cond (bytes_eq xs q) (Some c.len-number.result) (before q)) same
+    ∙ ap (λ n. cond (bytes_eq c.args.name.items q) (Some n) (before q)) number in (
+      omega (arith, wide, longer, length-map c.self.inside.names.items (λ v. v.items)),
+      subst (λ ns. AreNumbered ns after) (sym seen) (numbered-push names c.args.name.items before after c.self.invariant.1 new told),
     )
