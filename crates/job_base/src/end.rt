@@ -1,6 +1,6 @@
 //! The report of what was found, and its status.
 
-ghost use Rattle.std.specs.Prelude.{◌≡◌, ◌≢◌, [], ◌∷◌, Ok, IfOk, OnOk, option_to_list, ◌++◌};
+ghost use Rattle.std.specs.Prelude.{◌≡◌, ◌≢◌, ◌≤◌, [], ◌∷◌, Ok, IfOk, OnOk, option_to_list, ◌++◌};
 ghost use Rattle.std.specs.List.{filter_map};
 ghost use Rattle.sec_base.specs.Outside.{Rose};
 ghost use Rattle.outcome.specs.Report.{report_text};
@@ -160,6 +160,7 @@ fn report_of(alloc: Global, finding: Finding) -> Result<(Text, Proofs), NoMemory
 pub fn finish<W: Sink>(alloc: Global, finding: Finding, out: &mut W) -> Status
     ensures written { IsWritten (W.taken out.old) (W.taken out.new) finding result }
     ensures fault { result.name ≡ StatusName.WriteFault → Rose (W.faults out.old) (W.faults out.new) }
+    ensures later { W.faults out.old ≤ W.faults out.new }
     ensures accepted { W.accepts out.old (finding_text finding) → result.name ≢ StatusName.WriteFault }
 {
     let name = status_of(&finding);

@@ -2,7 +2,7 @@
 use Rattle.std.specs.Prelude.{IfSome, IsErrOf}
 use Rattle.std.proofs.Common.{◌≡◌, ℕ, ◌≤◌, List, [], ◌∷◌, refl, sym, subst, inl, inr, Option, Some, None, Result, Ok, Err}
 use Rattle.sec_base.specs.Outside.{Rose}
-use Rattle.sec_base.specs.declared.whole_file.FetchError.TheVariants as fetch_error
+use Rattle.sec_base.specs.FetchError.TheVariants as fetch_error
 use Rattle.sec_base.specs.declared.settings.Settings.{Settings}
 use Rattle.flat_net.specs.View.{NetView}
 use Rattle.blif_read.specs.declared.error.ReadError.TheVariants as read_error

@@ -3,7 +3,7 @@
 ghost use Rattle.std.specs.Prelude.{◌≡◌, ◌≤◌, ◌∷◌, [], IsErrOf};
 ghost use Rattle.std.specs.List.{All};
 ghost use Rattle.circuit_theory.specs.declared.Mode.TheVariants.{Plain};
-ghost use Rattle.sec_base.specs.Outside.{Rose, SameHeld};
+ghost use Rattle.sec_base.specs.Outside.{Rose, SameHeld, NoneFell};
 ghost use Rattle.flat_net.specs.Comparable.{IsComparable};
 ghost use Rattle.job_check.specs.Check.{Check, where_built};
 ghost use Rattle.job_check.specs.Ends.{compare_end, CheckFound, EndsBeside, FoundOf};
@@ -35,6 +35,7 @@ pub fn check<S: Shelf>(
     ensures found { let check : Check = record { left = comparison.now.left.now; right = comparison.now.right.now; settings = comparison.now.settings } in
         CheckFound (S.held shelf.old) (S.faults shelf.old) (S.faults shelf.new) check result }
     ensures keeps { SameHeld (S.held shelf.old) (S.held shelf.new) }
+    ensures later { NoneFell (S.faults shelf.old) (S.faults shelf.new) }
     ensures served { All (S.serves shelf.old) (where_built comparison.now.settings.mode (comparison.now.left.now ∷ comparison.now.right.now ∷ [])) → IsErrOf result Stop.ReadFault → ⊥ }
     ensures idle { where_built comparison.now.settings.mode (comparison.now.left.now ∷ comparison.now.right.now ∷ []) ≡ [] → shelf.new ≡ shelf.old }
 {
@@ -55,6 +56,7 @@ fn compare_files<S: Shelf>(
     ensures found { let check : Check = record { left = comparison.now.left.now; right = comparison.now.right.now; settings = comparison.now.settings } in
         FoundOf (S.held shelf.old) (S.faults shelf.old) (S.faults shelf.new) check result }
     ensures keeps { SameHeld (S.held shelf.old) (S.held shelf.new) }
+    ensures later { NoneFell (S.faults shelf.old) (S.faults shelf.new) }
     ensures served { S.serves shelf.old comparison.now.left.now → S.serves shelf.old comparison.now.right.now → IsErrOf result Stop.ReadFault → ⊥ }
 {
     match load(alloc, shelf, comparison.left) {
@@ -76,6 +78,7 @@ fn compare_with<S: Shelf>(
     ensures found { let path = comparison.now.right.now in
         EndsBeside (S.held shelf.old path) (Rose (S.faults shelf.old path) (S.faults shelf.new path)) a.now comparison.now.settings result }
     ensures keeps { SameHeld (S.held shelf.old) (S.held shelf.new) }
+    ensures later { NoneFell (S.faults shelf.old) (S.faults shelf.new) }
     ensures served { S.serves shelf.old comparison.now.right.now → IsErrOf result Stop.ReadFault → ⊥ }
 {
     match load(alloc, shelf, comparison.right) {

@@ -3,7 +3,7 @@ use Rattle.std.specs.Prelude.{IfSome}
 use Rattle.std.proofs.Common.{◌≡◌, ℕ, ◌≤◌, Bool, List, [], subst, Option, Result, Ok, Err}
 use Rattle.circuit_theory.specs.declared.Side.TheVariants.{A, B}
 use Rattle.circuit_theory.specs.declared.Mode.{Mode}
-use Rattle.sec_base.specs.declared.whole_file.FetchError.TheVariants as fetch_error
+use Rattle.sec_base.specs.FetchError.TheVariants as fetch_error
 use Rattle.sec_base.specs.Outside.{Rose}
 use Rattle.witness_report.specs.declared.error.StimError.TheVariants as stim_error
 use Rattle.flat_net.specs.View.{NetView}

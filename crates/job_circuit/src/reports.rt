@@ -1,7 +1,7 @@
 //! The jobs that report on one circuit.
 
 ghost use Rattle.std.specs.Prelude.{◌≡◌, option_map, IsErrOf};
-ghost use Rattle.sec_base.specs.Outside.{SameHeld};
+ghost use Rattle.sec_base.specs.Outside.{SameHeld, NoneFell};
 ghost use Rattle.job_circuit.specs.Ends.{GraphFound, SimFound, graph_end, sim_end};
 
 use circuit_jobs::{KindsError, SimulateError, simulate as run_circuit, tell};
@@ -30,6 +30,7 @@ pub fn tell_graph<S: Shelf>(
 ) -> Result<Finding, Stop>
     ensures found { GraphFound (S.held shelf.old) (S.faults shelf.old) (S.faults shelf.new) circuit.now mode result }
     ensures keeps { SameHeld (S.held shelf.old) (S.held shelf.new) }
+    ensures later { NoneFell (S.faults shelf.old) (S.faults shelf.new) }
     ensures served { S.serves shelf.old circuit.now → IsErrOf result Stop.ReadFault → ⊥ }
 {
     let net = match load(alloc, shelf, circuit) {
@@ -73,6 +74,7 @@ pub fn simulate<S: Shelf>(
 ) -> Result<Finding, Stop>
     ensures found { SimFound (S.held shelf.old) (S.faults shelf.old) (S.faults shelf.new) simulation.now.circuit.now simulation.now.stimulus.now simulation.now.mode (option_map (λ digits. digits.now) simulation.now.power) result }
     ensures keeps { SameHeld (S.held shelf.old) (S.held shelf.new) }
+    ensures later { NoneFell (S.faults shelf.old) (S.faults shelf.new) }
     ensures served { S.serves shelf.old simulation.now.circuit.now → S.serves shelf.old simulation.now.stimulus.now → IsErrOf result Stop.ReadFault → ⊥ }
 {
     let net = match load(alloc, shelf, simulation.circuit) {

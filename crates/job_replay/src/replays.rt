@@ -1,7 +1,7 @@
 //! The job that runs two circuits on one stimulus.
 
 ghost use Rattle.std.specs.Prelude.{◌≡◌, IsErrOf};
-ghost use Rattle.sec_base.specs.Outside.{Rose, SameHeld};
+ghost use Rattle.sec_base.specs.Outside.{Rose, SameHeld, NoneFell};
 ghost use Rattle.flat_net.specs.Comparable.{IsComparable};
 ghost use Rattle.job_replay.specs.Ends.{ReplayJob, replay_end, EndsOver, EndsWithBoth, ReplayFound};
 
@@ -34,6 +34,7 @@ pub fn replay_files<S: Shelf>(
     ensures found { let job : ReplayJob = record { left = replay.now.left.now; right = replay.now.right.now; stimulus = replay.now.stimulus.now; mode = replay.now.mode } in
         ReplayFound (S.held shelf.old) (S.faults shelf.old) (S.faults shelf.new) job result }
     ensures keeps { SameHeld (S.held shelf.old) (S.held shelf.new) }
+    ensures later { NoneFell (S.faults shelf.old) (S.faults shelf.new) }
     ensures served { S.serves shelf.old replay.now.left.now → S.serves shelf.old replay.now.right.now → S.serves shelf.old replay.now.stimulus.now → IsErrOf result Stop.ReadFault → ⊥ }
 {
     match load(alloc, shelf, replay.left) {
@@ -53,6 +54,7 @@ fn replay_with<S: Shelf>(
     ensures found { let right = replay.now.right.now in let stimulus = replay.now.stimulus.now in
         EndsWithBoth replay.now.mode (S.held shelf.old right) (Rose (S.faults shelf.old right) (S.faults shelf.new right)) (S.held shelf.old stimulus) (Rose (S.faults shelf.old stimulus) (S.faults shelf.new stimulus)) a.now result }
     ensures keeps { SameHeld (S.held shelf.old) (S.held shelf.new) }
+    ensures later { NoneFell (S.faults shelf.old) (S.faults shelf.new) }
     ensures served { S.serves shelf.old replay.now.right.now → S.serves shelf.old replay.now.stimulus.now → IsErrOf result Stop.ReadFault → ⊥ }
 {
     match load(alloc, shelf, replay.right) {
@@ -74,6 +76,7 @@ fn replay_over<S: Shelf>(
     ensures found { let path = replay.now.stimulus.now in
         EndsOver replay.now.mode (S.held shelf.old path) (Rose (S.faults shelf.old path) (S.faults shelf.new path)) a.now b.now result }
     ensures keeps { SameHeld (S.held shelf.old) (S.held shelf.new) }
+    ensures later { NoneFell (S.faults shelf.old) (S.faults shelf.new) }
     ensures served { S.serves shelf.old replay.now.stimulus.now → IsErrOf result Stop.ReadFault → ⊥ }
 {
     match load_stimulus(alloc, shelf, replay.stimulus) {

@@ -1,7 +1,9 @@
 pub mod Cover
-pub mod Table
-pub mod Outside
-pub mod Fetch
-pub mod MemShelf
-pub mod MemSink
 pub mod Texts
+pub use Rattle.base_tables.specs.Table
+pub use Rattle.base_shelves.specs.Outside
+pub use Rattle.base_shelves.specs.Fetch
+pub use Rattle.base_shelves.specs.MemShelf
+pub use Rattle.base_shelves.specs.MemSink
+pub use Rattle.base_shelves.specs.declared.whole_file.FetchError
+pub use Rattle.base_lists.specs.declared.list.NoMemory

@@ -1,6 +1,6 @@
 //! Small types that several crates share.
 
-use crate::list::{Duplicate, Ids, NoMemory};
+use base_lists::{Duplicate, Ids, NoMemory};
 use circuit_theory::Side;
 use std::alloc::Global;
 
@@ -19,10 +19,6 @@ pub enum Init {
     DontCare,
     Unknown,
 }
-
-/// A read or a write of the outside failed.
-#[derive(Clone, Copy, PartialEq, Eq)]
-pub struct Failed;
 
 /// A latch of one of the two circuits, by its position there.
 #[derive(Clone, Copy, PartialEq, Eq)]
@@ -45,12 +41,6 @@ pub enum PairAnswer {
 pub struct Orders {
     pub left: Ids,
     pub right: Ids,
-}
-
-impl Duplicate for Side {
-    fn duplicate(&self, _alloc: Global) -> Result<Side, NoMemory> {
-        Ok(*self)
-    }
 }
 
 impl Duplicate for Edge {

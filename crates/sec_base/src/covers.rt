@@ -5,7 +5,7 @@ ghost use Rattle.circuit_theory.specs.Cover.{cover_value, row_matches, place_mat
 ghost use Rattle.std.specs.List.{list_all, list_any, zip};
 ghost use Rattle.sec_base.specs.Cover.{IsCube, IsCoverSound};
 
-use crate::list::{Cubes, Duplicate, NoMemory, Seq, Word};
+use base_lists::{Cubes, Duplicate, NoMemory, Seq, Word};
 use std::alloc::Global;
 use std::marker::Model;
 

@@ -9,7 +9,7 @@ use Rattle.flat_net.specs.View.{NetView}
 use Rattle.elaborate.specs.declared.error.FlatError.{FlatError}
 use Rattle.elaborate.specs.declared.error.FlatError.TheVariants as flat_error
 use Rattle.flatten.specs.DesignFaults.{DesignFault, IsSoundDesign, IsFlatOf}
-use Rattle.sec_base.specs.declared.whole_file.FetchError.TheVariants as fetch_error
+use Rattle.sec_base.specs.FetchError.TheVariants as fetch_error
 use Rattle.blif_read.specs.declared.error.ReadError.TheVariants as read_error
 use Rattle.sec_files.specs.declared.loader.LoadError.{LoadError}
 use Rattle.sec_files.specs.declared.loader.LoadError.TheVariants as load_error

@@ -1,7 +1,7 @@
 //! From the bytes of a file to a stimulus.
 
 ghost use Rattle.std.specs.Prelude.{◌<◌, ◌≤◌, ◌^◌, length, IfOk, IfErr, IfSome, IsErrOf, Some};
-ghost use Rattle.sec_base.specs.Outside.{Rose, SameHeld};
+ghost use Rattle.sec_base.specs.Outside.{Rose, SameHeld, NoneFell};
 ghost use Rattle.sec_files.specs.Stimuli.{IsStimulus, StimulusFails};
 
 use sec_base::{FetchError, MAX_FILE_BYTES, Shelf, fetch};
@@ -25,6 +25,7 @@ pub fn load_stimulus<S: Shelf>(
     ensures few { IfOk result (λ s. length s.rows < 2 ^ 32) }
     ensures err { IfErr result (StimulusFails (S.held shelf.old path.now) (Rose (S.faults shelf.old path.now) (S.faults shelf.new path.now))) }
     ensures keeps { SameHeld (S.held shelf.old) (S.held shelf.new) }
+    ensures later { NoneFell (S.faults shelf.old) (S.faults shelf.new) }
     ensures served { S.serves shelf.old path.now → IsErrOf result (StimulusError.Fetch FetchError.Failed) → ⊥ }
 {
     let text = match fetch(alloc, shelf, path, MAX_FILE_BYTES) {

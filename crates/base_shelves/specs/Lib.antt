@@ -1,0 +1,4 @@
+pub mod Outside
+pub mod Fetch
+pub mod MemShelf
+pub mod MemSink

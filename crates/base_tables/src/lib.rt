@@ -1,0 +1,9 @@
+//! Tables that number names, and pairs of numbers, in the order in which they first come.
+#![tactic(auto)]
+
+mod crowds;
+mod hashed_names;
+mod sorted_names;
+mod tables;
+
+pub use tables::{NameTable, PlaceTable};

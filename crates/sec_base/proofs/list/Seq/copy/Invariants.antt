@@ -1,5 +1,0 @@
-use Rattle.std.specs.Prelude.{◌≡◌, take}
-use Rattle.sec_base.proofs.list.Seq.copy.Given as goal
-
-abbrev pub invariant-loop-item : goal.invariant-loop-item
-invariant-loop-item g l = l.made ≡ take l.item-index l.item-items
