@@ -71,7 +71,8 @@ fn check_command<'a>(alloc: Global) -> Result<Command<'a>, AllocError>
     let command = with_arg(command, place(alloc, "b"))?;
     let command = with_arg(command, option_with(alloc, "mode", "plain"))?;
     let command = with_arg(command, flag(alloc, "expose"))?;
-    with_arg(command, conflicts(alloc))
+    let command = with_arg(command, conflicts(alloc))?;
+    with_arg(command, flag(alloc, "reset"))
 }
 
 fn graph_command<'a>(alloc: Global) -> Result<Command<'a>, AllocError>
@@ -89,7 +90,8 @@ fn sim_command<'a>(alloc: Global) -> Result<Command<'a>, AllocError>
     let command = with_arg(command, place(alloc, "a"))?;
     let command = with_arg(command, place(alloc, "s"))?;
     let command = with_arg(command, option_with(alloc, "mode", "plain"))?;
-    with_arg(command, option(alloc, "power"))
+    let command = with_arg(command, option(alloc, "power"))?;
+    with_arg(command, flag(alloc, "reset"))
 }
 
 fn replay_command<'a>(alloc: Global) -> Result<Command<'a>, AllocError>

@@ -9,4 +9,5 @@ returns c =
     let app-1 = c.in_ok-command.ensures.0 ∙ ap₂ with_rule c.new-command.ensures.app c.place.ensures.rule in
     let app-2 = c.in_ok-command-2.ensures.0 ∙ ap₂ with_rule app-1 c.place-2.ensures.rule in
     let app-3 = c.in_ok-command-3.ensures.0 ∙ ap₂ with_rule app-2 c.option_with.ensures.rule in
-    IfOk-weaker c.with_arg-4.result _ _ (λ m h. (h.0 ∙ ap₂ with_rule app-3 c.option.ensures.rule, h.1)) c.with_arg-4.ensures
+    let app-4 = c.in_ok-command-4.ensures.0 ∙ ap₂ with_rule app-3 c.option.ensures.rule in
+    IfOk-weaker c.with_arg-5.result _ _ (λ m h. (h.0 ∙ ap₂ with_rule app-4 c.flag.ensures.rule, h.1)) c.with_arg-5.ensures
