@@ -10,6 +10,8 @@ use Rattle.sec_base.specs.declared.basics.Init.{Init}
 use Rattle.sec_base.specs.declared.basics.Init.TheVariants as init
 use Rattle.sec_base.proofs.TableLemmas.{take-push}
 use Rattle.flat_net.specs.declared.parts.LatchAt.{LatchAt}
+use Rattle.flat_net.specs.declared.parts.Driver.TheVariants as driver
+use Rattle.flat_net.specs.Sound.{IsSound}
 use Rattle.flat_net.specs.View.{NetView, circuit_of, start_of}
 use Rattle.cycle_sim.specs.Runs.{initial_or, reset_bits, IsRunFrom}
 use Rattle.cycle_sim.proofs.Lists.{map_at}
@@ -51,7 +53,7 @@ start_is p init.One s e = let is = same_Some _ s e in (ap (λ (t : Started ℕ).
 start_is p init.DontCare s e = absurd (none-some s e)
 start_is p init.Unknown s e = absurd (none-some s e)
 
-filter_map-has : {X Y : Type 0} (f : X → Option Y) (xs : List X) (x : X) (y : Y) → Contains xs x → f x ≡ Some y → Contains (filter_map f xs) y
+pub filter_map-has : {X Y : Type 0} (f : X → Option Y) (xs : List X) (x : X) (y : Y) → Contains xs x → f x ≡ Some y → Contains (filter_map f xs) y
 filter_map-has f [] x y h e = absurd (omega (arith, h.1))
 filter_map-has {X} {Y} f (z ∷ xs) x y h e = go (f z) refl (Contains-cases z x xs h) (λ k. filter_map-has f xs x y k e)
   where
@@ -73,6 +75,35 @@ fixed (l ∷ latches) v h = ap₂ (λ (bit : Bool) (bits : List Bool). bit ∷ b
     own init.One k = sym (k (record { place = l.out.0; bit = true }) refl)
     own init.DontCare k = refl
     own init.Unknown k = refl
+
+-- the latches have one bit where their initial values are of one effect
+pub same_reset_bits : (ls ms : List LatchAt) → length ls ≡ length ms →
+    ((j : ℕ) (l m : LatchAt) → slice_get ls j ≡ Some l → slice_get ms j ≡ Some m → (bit : Bool) → initial_or l.init bit ≡ initial_or m.init bit) →
+    (bits : List Bool) → reset_bits ls bits ≡ reset_bits ms bits
+same_reset_bits [] [] e h bits = refl
+same_reset_bits [] (m ∷ ms) e h bits = absurd (omega (arith, e))
+same_reset_bits (l ∷ ls) [] e h bits = absurd (omega (arith, e))
+same_reset_bits (l ∷ ls) (m ∷ ms) e h [] = refl
+same_reset_bits (l ∷ ls) (m ∷ ms) e h (bit ∷ bits) =
+    ap₂ (λ (x : Bool) (xs : List Bool). x ∷ xs) (h zero l m refl refl bit) (same_reset_bits ls ms (omega (arith, e)) (λ j p q at at'. h (suc j) p q at at') bits)
+
+module _ (n : NetView) (sound : IsSound n) where
+  -- a latch has its initial value among those of the circuit
+  pub has_start : (l : LatchAt) → Contains n.latches l → (s : Started ℕ) → start_of l.out.0 l.init ≡ Some s → Contains (circuit_of n).starts s
+  has_start l c s e = filter_map-has (λ (m : LatchAt). start_of m.out.0 m.init) n.latches l s c e
+
+  -- and no other is there for its place
+  pub start_there : (j : ℕ) (l : LatchAt) → slice_get n.latches j ≡ Some l → (start : Bool) → Contains (circuit_of n).starts (record { place = l.out.0; bit = start }) → (bit : Bool) → initial_or l.init bit ≡ start
+  start_there j l at start h bit =
+      let f = filter_map-from (λ (m : LatchAt). start_of m.out.0 m.init) n.latches (record { place = l.out.0; bit = start }) h in
+      let own = at_of n.latches f.0 f.1 in
+      let is = start_is f.0.out.0 f.0.init (record { place = l.out.0; bit = start }) f.2 in
+      let place : own.0 ≡ j = index own.0 (same_Some _ _ (sym (sound.latches own.0 f.0 own.1).owner ∙ (ap (slice_get n.drivers) is.0 ∙ (sound.latches j l at).owner))) in
+      let one : f.0 ≡ l = same_Some f.0 l (sym own.1 ∙ (ap (slice_get n.latches) place ∙ at)) in
+      subst (λ (m : LatchAt). initial_or m.init bit ≡ start) one (is.1 bit)
+    where
+      index : (i : ℕ) → driver.Latch i ≡ driver.Latch j → i ≡ j
+      index i e = cc
 
 module _ (n : NetView) (rows : List (List Bool)) (run : ℕ → ℕ → Bool) where
   pub from_initial_values : (free : List Bool) → length free ≡ length n.latches → IsRunFrom n (reset_bits n.latches free) rows run → IsResetRun (circuit_of n) (length rows) run
