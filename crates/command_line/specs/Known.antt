@@ -2,7 +2,7 @@
 use Rattle.std.specs.Prelude.{◌≡◌, ◌||◌, Bool, true, [], ◌∷◌, List, None, Some, is_some, codes, bytes_eq, IfSome}
 use Rattle.circuit_theory.specs.declared.Mode.TheVariants.{Plain}
 use Rattle.clap.specs.Words.{Row, Text, fault_of, subcommand_of}
-use Rattle.command_line.specs.Command.{sec_app}
+use Rattle.command_words.specs.Command.{sec_app}
 use Rattle.command_line.specs.Jobs.{job_of, mode_in}
 use Rattle.command_line.specs.declared.task.Task.TheVariants as task
 

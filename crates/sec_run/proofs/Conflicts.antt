@@ -9,7 +9,7 @@ use Rattle.circuit_theory.specs.declared.Mode.{Mode}
 use Rattle.sec_base.specs.declared.settings.Settings.{Settings}
 use Rattle.command_line.specs.declared.task.Task.{Task}
 use Rattle.command_line.specs.declared.task.Task.TheVariants as task
-use Rattle.command_line.specs.Command.{sec_app, most_conflicts, any_number}
+use Rattle.command_words.specs.Command.{sec_app, most_conflicts, any_number}
 use Rattle.command_line.specs.Jobs.{job_of, task_in, check_in, graph_in, sim_in, replay_in, gen_in, settings_in, conflicts_in, mode_in, number_of, is_set, with_word}
 use Rattle.sec_run.specs.Job.{HasFewConflicts}
 

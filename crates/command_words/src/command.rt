@@ -3,7 +3,7 @@
 ghost use Rattle.std.specs.Prelude.{◌≡◌, false, IfOk};
 ghost use Rattle.clap.specs.Words.{Shape, rule_of, app_of, with_rule, with_subcommand};
 ghost use Rattle.clap.specs.declared.builder.command.Command.TheViews.{out-Command};
-ghost use Rattle.command_line.specs.Command.{place, option, option_with, flag, conflicts, number, check_app, graph_app, sim_app, replay_app, gen_app, top_app, sec_app};
+ghost use Rattle.command_words.specs.Command.{place, option, option_with, flag, conflicts, number, check_app, graph_app, sim_app, replay_app, gen_app, top_app, sec_app};
 
 use clap::builder::ValueParser;
 use clap::{Arg, ArgAction, Command};
@@ -133,7 +133,7 @@ fn with_command<'a>(
 }
 
 /// The command `sec` with its subcommands.
-pub(crate) fn sec_command<'a>(alloc: Global) -> Result<Command<'a>, AllocError>
+pub fn sec_command<'a>(alloc: Global) -> Result<Command<'a>, AllocError>
     ensures { IfOk result (λ c. app_of c ≡ sec_app) }
 {
     let command = with_command(top_command(alloc), check_command(alloc))?;
