@@ -8,7 +8,6 @@ ghost use Rattle.clap.specs.declared.builder.value_parser.ValueParser.TheVariant
 ghost use Rattle.command_words.specs.Command.{sec_app};
 ghost use Rattle.command_line.specs.Jobs.{job_of, task_in, check_in, graph_in, sim_in, replay_in, gen_in, mode_of, mode_in, refuses_reset, is_set, number_of, conflicts_in, settings_in};
 
-
 use crate::task::Task;
 use circuit_theory::Mode;
 use clap::ArgMatches;
