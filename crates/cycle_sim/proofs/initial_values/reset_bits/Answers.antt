@@ -1,5 +1,5 @@
 -- One latch more has its bit.
-use Rattle.std.proofs.Common.{◌≡◌, ◌∙◌, ◌∷◌, [], ◌++◌, List, Bool, length, slice_get, get_or, Some, ap, arith, refl}
+use Rattle.std.proofs.Common.{◌∙◌, ◌∷◌, [], ◌++◌, List, Bool, false, get_or, ap, arith, refl}
 use Rattle.std.proofs.lemmas.Option.{slice_get-get_or}
 use Rattle.cycle_sim.specs.Runs.{initial_or}
 use Rattle.cycle_sim.proofs.Lists.{item_at}
