@@ -19,7 +19,7 @@ use Rattle.design_laws.proofs.NoFaults.{tested_is_sound}
 use Rattle.design_rows.specs.Designs.{one_model}
 use Rattle.cycle_sim.specs.Runs.{initial_or, reset_bits}
 use Rattle.sim_report.specs.Checks.{power_of}
-use Rattle.sec_files.specs.Loading.{IsAccepted, Loads}
+use Rattle.sec_files.specs.Loading.{Loads}
 use Rattle.premise_rows.specs.Started.{StartedPowersUp}
 use Rattle.premise_rows.specs.Texts.{started}
 

@@ -19,7 +19,7 @@ use Rattle.cycle_sim.proofs.Lists.{map_at, map_is}
 use Rattle.cycle_sim.proofs.Starts.{length-reset_bits}
 use Rattle.sim_report.specs.declared.refusal.Misfit.{Misfit}
 use Rattle.sim_report.specs.declared.refusal.Misfit.TheVariants as misfit
-use Rattle.sim_report.specs.Checks.{is_power, word_bits, start_bits, power_of, named_misfit, first_misfit}
+use Rattle.sim_report.specs.Checks.{is_power, word_bits, power_of, named_misfit, first_misfit}
 use Rattle.name_tables.specs.Names.{input_names}
 use Rattle.sim_report.specs.Report.{cycle_lines, IsSimulated, IsSimReport}
 use Rattle.sim_report.specs.Cycles.{AreColumns, PutsCycles, reordered}
