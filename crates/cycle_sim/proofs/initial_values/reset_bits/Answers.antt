@@ -10,9 +10,9 @@ pub loop-j-preserved : goal.loop-j-preserved
 loop-j-preserved c =
     let latches = c.args.latches.now in
     let free = c.args.free.now in
-    let at = item_at latches latches c.loop-j.j c.latch-item.result refl c.loop-j-test.true c.latch-item.is in
+    let at = item_at latches latches c.loop-j.j c.index-latches-j.result refl c.loop-j-test.true c.index-latches-j.is in
     let bit = slice_get-get_or free c.loop-j.j false (omega (arith, c.loop-j-test.true, c.requires)) in
     c.in_ok-push.ensures.items
     ∙ (ap (λ (b : Bool). c.loop-j.bits.items ++ b ∷ []) c.initial_or.ensures
-    ∙ (ap (λ (bs : List Bool). bs ++ initial_or c.latch-item.result.init (get_or free c.loop-j.j false) ∷ []) c.loop-j.invariant
-    ∙ reset_push latches free c.loop-j.j c.latch-item.result (get_or free c.loop-j.j false) at bit))
+    ∙ (ap (λ (bs : List Bool). bs ++ initial_or c.index-latches-j.result.init (get_or free c.loop-j.j false) ∷ []) c.loop-j.invariant
+    ∙ reset_push latches free c.loop-j.j c.index-latches-j.result (get_or free c.loop-j.j false) at bit))
