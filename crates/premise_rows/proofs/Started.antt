@@ -1,5 +1,5 @@
 -- Three latches with initial values, from their text.
-use Rattle.std.proofs.Common.{◌≡◌, ◌∙◌, ℕ, Bool, true, false, List, [], ◌∷◌, map, length, replicate, Some, None, refl, sym, ap, subst, arith}
+use Rattle.std.proofs.Common.{◌≡◌, ◌∙◌, ◌≤◌, ℕ, Bool, true, false, List, [], ◌∷◌, map, length, replicate, Some, None, refl, sym, ap, subst, arith}
 use Rattle.std.specs.Prelude.{codes}
 use Rattle.std.proofs.lemmas.List.{length-map}
 use Rattle.sec_base.specs.declared.basics.Init.{Init}
@@ -23,25 +23,28 @@ use Rattle.sec_files.specs.Loading.{Loads}
 use Rattle.premise_rows.specs.Started.{StartedPowersUp}
 use Rattle.premise_rows.specs.Texts.{started}
 
-started_design : List BlifModel
+abbrev started_design : List BlifModel
 started_design =
     one_model (codes "a" ∷ []) (codes "p" ∷ codes "q" ∷ codes "r" ∷ [])
     (Latch 4 (codes "a") (codes "p") None None init.One ∷ Latch 5 (codes "a") (codes "q") None None init.Zero ∷ Latch 6 (codes "a") (codes "r") None None init.DontCare ∷ [])
+
+short : length started ≤ 16777216
+short = omega arith
 
 faultless : first_fault started ≡ None
 unfolding fault_of head_of cut_line going_on
 faultless = refl
 
 spells : spelled started ≡ started_design
-unfolding fault_of head_of cut_line going_on started_design
+unfolding fault_of head_of cut_line going_on
 spells = refl
 
 sound : has_no_fault [] started_design ≡ true
-unfolding walk started_design
+unfolding walk
 sound = refl
 
 initial_values : inits_of started_design ≡ init.One ∷ init.Zero ∷ init.DontCare ∷ []
-unfolding walk started_design
+unfolding walk
 initial_values = refl
 
 -- the bits by the initial values alone
@@ -74,7 +77,7 @@ module _ (net : NetView) (loads : Loads started net) where
 
 pub started_powers_up : StartedPowersUp
 started_powers_up = record {
-  accepted = record { short = omega arith; faultless = faultless; sound = subst IsSoundDesign (sym spells) (tested_is_sound [] started_design sound) };
+  accepted = record { short = short; faultless = faultless; sound = subst IsSoundDesign (sym spells) (tested_is_sound [] started_design sound) };
   without_word = without;
   with_word = with_word;
 }
