@@ -32,18 +32,18 @@ pub memory_wanted : (mode : Mode) (n : NetView) → IsUnknown mode n kinds_error
 memory_wanted Plain n = tt
 memory_wanted Event n = tt
 
-pub kinds_unknown : (mode : Mode) (n : NetView) (names : List (List ℕ)) (rows : List (List Bool)) (power : Option (List ℕ)) (error : KindsError) → IsUnknown mode n error → Runs mode n names rows power (Err (simulate_error error))
-kinds_unknown mode n names rows power kinds_error.TooLarge unknown = unknown
-kinds_unknown mode n names rows power (kinds_error.Limit name proof) unknown = unknown
-kinds_unknown mode n names rows power kinds_error.NoMemory unknown = tt
+pub kinds_unknown : (mode : Mode) (n : NetView) (names : List (List ℕ)) (rows : List (List Bool)) (power : Option (List ℕ)) (reset : Bool) (error : KindsError) → IsUnknown mode n error → Runs mode n names rows power reset (Err (simulate_error error))
+kinds_unknown mode n names rows power reset kinds_error.TooLarge unknown = unknown
+kinds_unknown mode n names rows power reset (kinds_error.Limit name proof) unknown = unknown
+kinds_unknown mode n names rows power reset kinds_error.NoMemory unknown = tt
 
 -- a run where all fits
-pub run_simulates : (mode : Mode) (n : NetView) (names : List (List ℕ)) (rows : List (List Bool)) (power : Option (List ℕ)) (found : Result (List ℕ) SimulateError) → first_misfit n names power ≡ None → Runs mode n names rows power found → Simulates mode n names rows power found
-run_simulates mode n names rows power (Ok report) fits runs = (fits, runs)
-run_simulates mode n names rows power (Err (refused.Misfit m)) fits runs = absurd runs
-run_simulates mode n names rows power (Err refused.TooLarge) fits runs = (fits, runs)
-run_simulates mode n names rows power (Err (refused.Limit name proof)) fits runs = (fits, runs)
-run_simulates mode n names rows power (Err refused.NoMemory) fits runs = tt
+pub run_simulates : (mode : Mode) (n : NetView) (names : List (List ℕ)) (rows : List (List Bool)) (power : Option (List ℕ)) (reset : Bool) (found : Result (List ℕ) SimulateError) → first_misfit n names power ≡ None → Runs mode n names rows power reset found → Simulates mode n names rows power reset found
+run_simulates mode n names rows power reset (Ok report) fits runs = (fits, runs)
+run_simulates mode n names rows power reset (Err (refused.Misfit m)) fits runs = absurd runs
+run_simulates mode n names rows power reset (Err refused.TooLarge) fits runs = (fits, runs)
+run_simulates mode n names rows power reset (Err (refused.Limit name proof)) fits runs = (fits, runs)
+run_simulates mode n names rows power reset (Err refused.NoMemory) fits runs = tt
 
 -- a cone that is too large isn't light
 pub large_or_light : (mode : Mode) (n : NetView) → IsSound n → IsUnknown mode n kinds_error.TooLarge → AreLightIn mode n → ⊥

@@ -34,17 +34,17 @@ simulate_error (kinds_error.Limit name proof) = refused.Limit name proof
 simulate_error kinds_error.NoMemory = refused.NoMemory
 
 -- the report of a run over a stimulus that fits, or why there is none
-abbrev pub Runs : Mode → NetView → List (List ℕ) → List (List Bool) → Option (List ℕ) → Result (List ℕ) SimulateError → Type 0
-Runs mode n names rows power (Ok report) = IsSimReport mode n names rows power report × AreLightIn mode n
-Runs mode n names rows power (Err (refused.Misfit m)) = ⊥
-Runs mode n names rows power (Err refused.TooLarge) = IsUnknown mode n kinds_error.TooLarge
-Runs mode n names rows power (Err (refused.Limit name proof)) = IsUnknown mode n (kinds_error.Limit name proof)
-Runs mode n names rows power (Err refused.NoMemory) = Unit {0}
+abbrev pub Runs : Mode → NetView → List (List ℕ) → List (List Bool) → Option (List ℕ) → Bool → Result (List ℕ) SimulateError → Type 0
+Runs mode n names rows power reset (Ok report) = IsSimReport mode n names rows power reset report × AreLightIn mode n
+Runs mode n names rows power reset (Err (refused.Misfit m)) = ⊥
+Runs mode n names rows power reset (Err refused.TooLarge) = IsUnknown mode n kinds_error.TooLarge
+Runs mode n names rows power reset (Err (refused.Limit name proof)) = IsUnknown mode n (kinds_error.Limit name proof)
+Runs mode n names rows power reset (Err refused.NoMemory) = Unit {0}
 
 -- the same over any stimulus, where the first that doesn't fit is refused first
-abbrev pub Simulates : Mode → NetView → List (List ℕ) → List (List Bool) → Option (List ℕ) → Result (List ℕ) SimulateError → Type 0
-Simulates mode n names rows power (Ok report) = (first_misfit n names power ≡ None) × Runs mode n names rows power (Ok report)
-Simulates mode n names rows power (Err (refused.Misfit m)) = first_misfit n names power ≡ Some m
-Simulates mode n names rows power (Err refused.TooLarge) = (first_misfit n names power ≡ None) × Runs mode n names rows power (Err refused.TooLarge)
-Simulates mode n names rows power (Err (refused.Limit name proof)) = (first_misfit n names power ≡ None) × Runs mode n names rows power (Err (refused.Limit name proof))
-Simulates mode n names rows power (Err refused.NoMemory) = Unit {0}
+abbrev pub Simulates : Mode → NetView → List (List ℕ) → List (List Bool) → Option (List ℕ) → Bool → Result (List ℕ) SimulateError → Type 0
+Simulates mode n names rows power reset (Ok report) = (first_misfit n names power ≡ None) × Runs mode n names rows power reset (Ok report)
+Simulates mode n names rows power reset (Err (refused.Misfit m)) = first_misfit n names power ≡ Some m
+Simulates mode n names rows power reset (Err refused.TooLarge) = (first_misfit n names power ≡ None) × Runs mode n names rows power reset (Err refused.TooLarge)
+Simulates mode n names rows power reset (Err (refused.Limit name proof)) = (first_misfit n names power ≡ None) × Runs mode n names rows power reset (Err (refused.Limit name proof))
+Simulates mode n names rows power reset (Err refused.NoMemory) = Unit {0}

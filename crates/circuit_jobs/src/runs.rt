@@ -54,22 +54,23 @@ impl From<KindsError> for SimulateError {
     }
 }
 
-/// The report of the net's run over the stimulus in the mode, from the power word. First what doesn't fit is refused, and last
-/// it is found out what the latches are.
+/// The report of the net's run over the stimulus in the mode, from the power word, with `reset` from the initial values before it.
+/// First what doesn't fit is refused, and last it is found out what the latches are.
 pub fn simulate(
     alloc: Global,
     net: &Net,
     stimulus: &Stimulus,
     power: Option<&[u8]>,
+    reset: bool,
     mode: Mode,
 ) -> Result<Text, SimulateError>
     requires { length stimulus.now.rows < 2 ^ 32 }
-    ensures { Simulates mode net.now stimulus.now.names stimulus.now.rows (option_map (λ word. word.now) power.entry) result }
+    ensures { Simulates mode net.now stimulus.now.names stimulus.now.rows (option_map (λ word. word.now) power.entry) reset result }
 {
     if let Some(misfit) = misfit_of(alloc, net, stimulus, power)? {
         return Err(SimulateError::Misfit(misfit));
     }
-    run(alloc, net, stimulus, power, mode)
+    run(alloc, net, stimulus, power, reset, mode)
 }
 
 /// The same, where all fits.
@@ -78,13 +79,14 @@ fn run(
     net: &Net,
     stimulus: &Stimulus,
     power: Option<&[u8]>,
+    reset: bool,
     mode: Mode,
 ) -> Result<Text, SimulateError>
     requires few { length stimulus.now.rows < 2 ^ 32 }
     requires fits { first_misfit net.now stimulus.now.names (option_map (λ word. word.now) power) ≡ None }
-    ensures { Runs mode net.now stimulus.now.names stimulus.now.rows (option_map (λ word. word.now) power.entry) result }
+    ensures { Runs mode net.now stimulus.now.names stimulus.now.rows (option_map (λ word. word.now) power.entry) reset result }
 {
     let kinds = kinds_in(alloc, net, mode, CONFLICTS)?;
     let enabled = enabled_among(alloc, kinds.as_slice())?;
-    Ok(sim_report(alloc, net, stimulus, power, &enabled)?)
+    Ok(sim_report(alloc, net, stimulus, power, reset, &enabled)?)
 }

@@ -1,4 +1,4 @@
--- Words that `clap` takes, with a mode that is known, are a job.
+-- Words that `clap` takes, with a mode that fits, are a job.
 use Rattle.std.proofs.Common.{◌≡◌, ◌&&◌, ◌||◌, not, Bool, cond, true, false, List, [], ◌∷◌, length, Option, Some, None, is_some, refl, sym, ap, subst, ◌∙◌, arith, true≢false, codes}
 use Rattle.std.specs.Prelude.{⊤, ◌==◌, find, option_map, option_and_then, IfSome}
 use Rattle.std.specs.List.{list_any}
@@ -15,9 +15,9 @@ use Rattle.clap.specs.ValueTests.{accepts}
 use Rattle.clap.specs.Walk.{Row, Rule, Text, Walk, answers_to, finished, first_of, nothing_held, rows_after, settled, walk, walk_from}
 use Rattle.clap.specs.Simple.{App, Shape, built, built_leaf, entered, help_shape, inherited, label_of, marked_built, names_of, rows_at, subcommand_of, with_leaf_noted}
 use Rattle.clap.specs.declared.builder.value_parser.ValueParser.{ValueParser}
-use Rattle.command_line.specs.Command.{sec_app, check_app, graph_app, sim_app, replay_app, gen_app, most_conflicts, any_number}
+use Rattle.command_words.specs.Command.{sec_app, check_app, graph_app, sim_app, replay_app, gen_app, most_conflicts, any_number}
 use Rattle.command_line.specs.Jobs.{check_in, conflicts_in, gen_in, graph_in, job_of, mode_in, number_of, replay_in, sim_in, task_in}
-use Rattle.command_line.specs.Known.{HasKnownMode, mode_known}
+use Rattle.command_line.specs.Known.{HasFitMode, mode_fits}
 use Rattle.command_line.proofs.Taken.{else_first, else_next, EachRule, IsNotHelp, IsOwn, no_help_walk}
 use Rattle.command_line.proofs.Leaves.{IsRead, first_good, leaf_read, second_check}
 
@@ -71,12 +71,12 @@ gen_job rows n k en seeds ek passes = rw (en, number_known any_number n seeds, c
 abbrev part : Shape → Shape
 part s = built_leaf (inherited (with_leaf_noted (marked_built sec_app.top)) s)
 
--- where a subcommand's words have no fault, and its mode is known, they make a task
+-- where a subcommand's words have no fault, and its mode fits, they make a task
 abbrev IsJob : Shape → Type 0
-IsJob s = (words : List Text) → level_fault s [] nothing_held words false [] ≡ [] → bytes_eq s.name (codes "help") ≡ false → mode_known s.name (rows_after s.rules [] words) ≡ true → is_some (task_in s.name (rows_after s.rules [] words)) ≡ true
+IsJob s = (words : List Text) → level_fault s [] nothing_held words false [] ≡ [] → bytes_eq s.name (codes "help") ≡ false → mode_fits s.name (rows_after s.rules [] words) ≡ true → is_some (task_in s.name (rows_after s.rules [] words)) ≡ true
 
 check_own : EachRule (IsOwn (part check_app.top).rules) (part check_app.top).rules
-check_own = ((refl, omega arith), ((refl, omega arith), ((refl, omega arith), ((refl, omega arith), ((refl, omega arith), ((refl, tt), tt))))))
+check_own = ((refl, omega arith), ((refl, omega arith), ((refl, omega arith), ((refl, omega arith), ((refl, omega arith), ((refl, omega arith), ((refl, tt), tt)))))))
 
 check_is : IsJob (part check_app.top)
 check_is words e help known =
@@ -100,7 +100,7 @@ graph_is words e help known =
     graph_job rows a.0 a.1 known
 
 sim_own : EachRule (IsOwn (part sim_app.top).rules) (part sim_app.top).rules
-sim_own = ((refl, omega arith), ((refl, omega arith), ((refl, omega arith), ((refl, omega arith), ((refl, tt), tt)))))
+sim_own = ((refl, omega arith), ((refl, omega arith), ((refl, omega arith), ((refl, omega arith), ((refl, omega arith), ((refl, tt), tt))))))
 
 sim_is : IsJob (part sim_app.top)
 sim_is words e help known =
@@ -177,13 +177,13 @@ subs_named : EachShape IsNamed (built sec_app).subs
 subs_named = (named_alone (part check_app.top) refl, (named_alone (part graph_app.top) refl, (named_alone (part sim_app.top) refl, (named_alone (part replay_app.top) refl, (named_alone (part gen_app.top) refl, (named_alone (built_leaf help_shape) refl, tt))))))
 
 -- the subcommand at which the walk stopped
-stopped_job : (stop : Option (Text × List Text)) → IsNotHelp stop → entered_fault (built sec_app) stop ≡ [] → is_some (entered (built sec_app) stop) ≡ true → IfSome (entered (built sec_app) stop) (λ met. mode_known met.0 met.1 ≡ true)
+stopped_job : (stop : Option (Text × List Text)) → IsNotHelp stop → entered_fault (built sec_app) stop ≡ [] → is_some (entered (built sec_app) stop) ≡ true → IfSome (entered (built sec_app) stop) (λ met. mode_fits met.0 met.1 ≡ true)
     → is_some (option_and_then (λ met. task_in met.0 met.1) (entered (built sec_app) stop)) ≡ true
 stopped_job None not_help e some known = absurd (true≢false (sym some))
 stopped_job (Some p) not_help e some known = by (find (λ s. answers_to p.0 (label_of s)) (built sec_app).subs) refl e some known
   where
     by : (o : Option Shape) → find (λ s. answers_to p.0 (label_of s)) (built sec_app).subs ≡ o → option_map_or (λ s. level_fault s [] nothing_held p.1 false []) o [] ≡ [] → is_some (option_map (λ s. rows_at s p.1) o) ≡ true
-        → IfSome (option_map (λ s. rows_at s p.1) o) (λ met. mode_known met.0 met.1 ≡ true) → is_some (option_and_then (λ met. task_in met.0 met.1) (option_map (λ s. rows_at s p.1) o)) ≡ true
+        → IfSome (option_map (λ s. rows_at s p.1) o) (λ met. mode_fits met.0 met.1 ≡ true) → is_some (option_and_then (λ met. task_in met.0 met.1) (option_map (λ s. rows_at s p.1) o)) ≡ true
     by None is k h m = absurd (true≢false (sym h))
     by (Some s) is k h m =
         let test : Shape → Bool = λ x. answers_to p.0 (label_of x) in
@@ -206,7 +206,7 @@ whole_default words = defaults_fault (settled whole.top.rules (whole_end words).
 abbrev whole_check : List Text → Kinds
 whole_check words = check_fault whole.top (finished whole.top.rules (whole_end words).held) (is_some (entered whole (whole_end words).stopped))
 
-pub taken_job : (words : List Text) → fault_of sec_app words ≡ [] → HasKnownMode words → is_some (job_of words) ≡ true
+pub taken_job : (words : List Text) → fault_of sec_app words ≡ [] → HasFitMode words → is_some (job_of words) ≡ true
 taken_job words e known = ap (λ (ks : Kinds). is_some (cond (length ks == 0) (option_and_then (λ met. task_in met.0 met.1) (subcommand_of sec_app words)) None)) e ∙ stopped_job (whole_end words).stopped not_help below has known
   where
     walks : walk_fault whole.top (names_of whole) (walk_from nothing_held) words ≡ []

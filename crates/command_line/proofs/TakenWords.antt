@@ -1,7 +1,7 @@
 -- Words that are written out, computed.
 use Rattle.std.proofs.Common.{refl}
 use Rattle.clap.proofs.OnLiterals.{clap_on_literals}
-use Rattle.command_line.specs.Known.{CheckIsTaken, GraphIsTaken, SimIsTaken, ReplayIsTaken, GenIsTaken, OtherModeIsNoJob}
+use Rattle.command_line.specs.Known.{CheckIsTaken, GraphIsTaken, SimIsTaken, ReplayIsTaken, GenIsTaken, ResetIsTaken, OtherModeIsNoJob, ResetIsNoJob}
 
 pub check_is_taken : CheckIsTaken
 unfolding clap_on_literals
@@ -23,6 +23,14 @@ pub gen_is_taken : GenIsTaken
 unfolding clap_on_literals
 gen_is_taken = (refl, refl)
 
+pub reset_is_taken : ResetIsTaken
+unfolding clap_on_literals
+reset_is_taken = ((refl, refl), refl)
+
 pub other_is_no_job : OtherModeIsNoJob
 unfolding clap_on_literals
 other_is_no_job = (refl, refl)
+
+pub reset_is_no_job : ResetIsNoJob
+unfolding clap_on_literals
+reset_is_no_job = ((refl, refl), (refl, refl), (refl, refl))

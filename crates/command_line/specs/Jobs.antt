@@ -1,12 +1,12 @@
 -- The job of a command line.
-use Rattle.std.specs.Prelude.{ℕ, ◌==◌, Bool, false, if◌then◌else◌, List, length, Option, Some, None, codes, bytes_eq, option_and_then, option_map}
+use Rattle.std.specs.Prelude.{ℕ, ◌==◌, ◌&&◌, Bool, true, false, if◌then◌else◌, List, length, Option, Some, None, codes, bytes_eq, option_and_then, option_map}
 use Rattle.std.specs.Str.Parse.{digits_value, without_leading_plus}
 use Rattle.circuit_theory.specs.declared.Mode.{Mode}
 use Rattle.circuit_theory.specs.declared.Mode.TheVariants.{Plain, Event}
 use Rattle.clap.specs.Words.{Row, Text, fault_of, first_of, subcommand_of}
 use Rattle.clap.specs.ValueTests.{accepts}
 use Rattle.clap.specs.declared.builder.value_parser.ValueParser.{ValueParser}
-use Rattle.command_line.specs.Command.{sec_app, most_conflicts, any_number}
+use Rattle.command_words.specs.Command.{sec_app, most_conflicts, any_number}
 use Rattle.sec_base.specs.declared.settings.Settings.{Settings}
 use Rattle.command_line.specs.declared.task.Task.{Task}
 use Rattle.command_line.specs.declared.task.Task.TheVariants as task
@@ -27,8 +27,14 @@ is_set id rows = given (first_of id rows)
     given None = false
     given (Some value) = bytes_eq value (codes "true")
 
+-- `--reset` can't stand beside the mode `event`, nor beside `--expose`
+abbrev pub refuses_reset : List Row → Mode → Bool
+refuses_reset rows Plain = is_set (codes "expose") rows
+refuses_reset rows Event = true
+
+-- the mode that the words name, unless `--reset` stands beside what refuses it
 abbrev pub mode_in : List Row → Option Mode
-mode_in rows = option_and_then mode_of (first_of (codes "mode") rows)
+mode_in rows = option_and_then (λ mode. if is_set (codes "reset") rows && refuses_reset rows mode then None else Some mode) (option_and_then mode_of (first_of (codes "mode") rows))
 
 abbrev pub conflicts_in : List Row → Option ℕ
 conflicts_in rows = option_and_then (number_of most_conflicts) (first_of (codes "conflicts") rows)
@@ -39,7 +45,7 @@ with_word id rows make = option_and_then make (first_of id rows)
 
 abbrev pub settings_in : List Row → Option Settings
 settings_in rows =
-    option_and_then (λ mode. option_map (λ conflicts. record { mode = mode; expose = is_set (codes "expose") rows; conflicts = conflicts }) (conflicts_in rows)) (mode_in rows)
+    option_and_then (λ mode. option_map (λ conflicts. record { mode = mode; expose = is_set (codes "expose") rows; conflicts = conflicts; reset = is_set (codes "reset") rows }) (conflicts_in rows)) (mode_in rows)
 
 abbrev pub check_in : List Row → Option Task
 check_in rows = with_word (codes "a") rows (λ a. with_word (codes "b") rows (λ b. option_map (λ settings. task.Check a b settings) (settings_in rows)))
@@ -48,7 +54,7 @@ abbrev pub graph_in : List Row → Option Task
 graph_in rows = with_word (codes "a") rows (λ a. option_map (λ mode. task.Graph a mode) (mode_in rows))
 
 abbrev pub sim_in : List Row → Option Task
-sim_in rows = with_word (codes "a") rows (λ a. with_word (codes "s") rows (λ s. option_map (λ mode. task.Sim a s mode (first_of (codes "power") rows)) (mode_in rows)))
+sim_in rows = with_word (codes "a") rows (λ a. with_word (codes "s") rows (λ s. option_map (λ mode. task.Sim a s mode (first_of (codes "power") rows) (is_set (codes "reset") rows)) (mode_in rows)))
 
 abbrev pub replay_in : List Row → Option Task
 replay_in rows =
@@ -68,6 +74,6 @@ task_in name rows =
     else if bytes_eq name (codes "gen") then gen_in rows
     else None
 
--- The job of the words: where `clap`'s own definition for the command takes them, and the mode is known.
+-- The job of the words: where `clap`'s own definition for the command takes them, the mode is known, and nothing refuses `--reset`.
 abbrev pub job_of : List Text → Option Task
 job_of words = if length (fault_of sec_app words) == 0 then option_and_then (λ met. task_in met.0 met.1) (subcommand_of sec_app words) else None

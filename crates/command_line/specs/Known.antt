@@ -1,24 +1,26 @@
--- Words that `clap` takes, with a mode that is known.
-use Rattle.std.specs.Prelude.{◌≡◌, ◌||◌, Bool, true, [], ◌∷◌, List, None, is_some, codes, bytes_eq, IfSome}
+-- Words that `clap` takes, with a mode that is known and nothing that refuses `--reset`.
+use Rattle.std.specs.Prelude.{◌≡◌, ◌||◌, Bool, true, [], ◌∷◌, List, None, Some, is_some, codes, bytes_eq, IfSome}
+use Rattle.circuit_theory.specs.declared.Mode.TheVariants.{Plain}
 use Rattle.clap.specs.Words.{Row, Text, fault_of, subcommand_of}
-use Rattle.command_line.specs.Command.{sec_app}
+use Rattle.command_words.specs.Command.{sec_app}
 use Rattle.command_line.specs.Jobs.{job_of, mode_in}
+use Rattle.command_line.specs.declared.task.Task.TheVariants as task
 
--- the mode among the subcommand's matches is one of the two; `gen` has none
-abbrev pub mode_known : Text → List Row → Bool
-mode_known name rows = bytes_eq name (codes "gen") || is_some (mode_in rows)
+-- the mode among the subcommand's matches is one of the two, and `--reset` may stand beside it; `gen` has none
+abbrev pub mode_fits : Text → List Row → Bool
+mode_fits name rows = bytes_eq name (codes "gen") || is_some (mode_in rows)
 
--- the mode of the subcommand that the words name is one of the two
-abbrev pub HasKnownMode : List Text → Type 0
-HasKnownMode words = IfSome (subcommand_of sec_app words) (λ met. mode_known met.0 met.1 ≡ true)
+-- the mode of the subcommand that the words name is one of the two, and nothing refuses `--reset`
+abbrev pub HasFitMode : List Text → Type 0
+HasFitMode words = IfSome (subcommand_of sec_app words) (λ met. mode_fits met.0 met.1 ≡ true)
 
--- words that `clap`'s definition for the command takes, with a mode that is known, are a job
+-- words that `clap`'s definition for the command takes, with a mode that fits, are a job
 abbrev pub TakenWordsAreJob : Type 0
-TakenWordsAreJob = (words : List Text) → fault_of sec_app words ≡ [] → HasKnownMode words → is_some (job_of words) ≡ true
+TakenWordsAreJob = (words : List Text) → fault_of sec_app words ≡ [] → HasFitMode words → is_some (job_of words) ≡ true
 
--- words that are taken, with a mode that is known
+-- words that are taken, with a mode that fits
 abbrev pub AreTaken : List Text → Type 0
-AreTaken words = (fault_of sec_app words ≡ []) × HasKnownMode words
+AreTaken words = (fault_of sec_app words ≡ []) × HasFitMode words
 
 -- words of each subcommand that are such
 abbrev pub CheckIsTaken : Type 0
@@ -36,8 +38,23 @@ ReplayIsTaken = AreTaken (codes "replay" ∷ codes "a" ∷ codes "b" ∷ codes "
 abbrev pub GenIsTaken : Type 0
 GenIsTaken = AreTaken (codes "gen" ∷ codes "7" ∷ codes "--conflicts" ∷ codes "0" ∷ [])
 
--- words that are taken and no job, since their mode isn't known
+-- words with `--reset`, and what they ask for
+abbrev pub ResetIsTaken : Type 0
+ResetIsTaken =
+    AreTaken (codes "check" ∷ codes "a" ∷ codes "b" ∷ codes "--reset" ∷ [])
+    × (job_of (codes "sim" ∷ codes "a" ∷ codes "s" ∷ codes "--reset" ∷ []) ≡ Some (task.Sim (codes "a") (codes "s") Plain None true))
+
+-- words that are taken and no job
+abbrev pub AreNoJob : List Text → Type 0
+AreNoJob words = (fault_of sec_app words ≡ []) × (job_of words ≡ None)
+
+-- since their mode isn't known
 abbrev pub OtherModeIsNoJob : Type 0
-OtherModeIsNoJob =
-    (fault_of sec_app (codes "check" ∷ codes "a" ∷ codes "b" ∷ codes "--mode" ∷ codes "other" ∷ []) ≡ [])
-    × (job_of (codes "check" ∷ codes "a" ∷ codes "b" ∷ codes "--mode" ∷ codes "other" ∷ []) ≡ None)
+OtherModeIsNoJob = AreNoJob (codes "check" ∷ codes "a" ∷ codes "b" ∷ codes "--mode" ∷ codes "other" ∷ [])
+
+-- since `--reset` stands with `--expose`, or with the mode `event`
+abbrev pub ResetIsNoJob : Type 0
+ResetIsNoJob =
+    AreNoJob (codes "check" ∷ codes "a" ∷ codes "b" ∷ codes "--reset" ∷ codes "--expose" ∷ [])
+    × AreNoJob (codes "check" ∷ codes "a" ∷ codes "b" ∷ codes "--mode" ∷ codes "event" ∷ codes "--reset" ∷ [])
+    × AreNoJob (codes "sim" ∷ codes "a" ∷ codes "s" ∷ codes "--mode" ∷ codes "event" ∷ codes "--reset" ∷ [])

@@ -5,21 +5,22 @@ ghost use Rattle.std.specs.Str.Parse.{digits_value, without_leading_plus};
 ghost use Rattle.clap.specs.Words.{fault_of, first_of, found_of, rows_of, subcommand_of, subcommand_rows_of, IsUnsignedIn};
 ghost use Rattle.clap.specs.ValueTests.{accepts};
 ghost use Rattle.clap.specs.declared.builder.value_parser.ValueParser.TheVariants as parser;
-ghost use Rattle.command_line.specs.Command.{sec_app};
-ghost use Rattle.command_line.specs.Jobs.{job_of, task_in, check_in, graph_in, sim_in, replay_in, gen_in, mode_of, mode_in, is_set, number_of, conflicts_in, settings_in};
+ghost use Rattle.command_words.specs.Command.{sec_app};
+ghost use Rattle.command_line.specs.Jobs.{job_of, task_in, check_in, graph_in, sim_in, replay_in, gen_in, mode_of, mode_in, refuses_reset, is_set, number_of, conflicts_in, settings_in};
 
-use crate::command::sec_command;
 use crate::task::Task;
 use circuit_theory::Mode;
 use clap::ArgMatches;
 use clap::error::ErrorKind;
+use command_words::sec_command;
 use sec_base::{FilePath, NoMemory, Seq, Settings, Word};
 use std::alloc::{AllocError, Global};
 
 /// Why the words are no job.
 #[derive(Clone, Copy, PartialEq, Eq)]
 pub enum WordsError {
-    /// `clap`'s definition for the command doesn't take the words, or the mode is neither `plain` nor `event`.
+    /// `clap`'s definition for the command doesn't take the words, the mode is neither `plain` nor `event`, or `--reset` stands
+    /// with `event` or with `--expose`.
     Refused,
     /// Memory was wanted and couldn't be had.
     NoMemory,
@@ -98,13 +99,25 @@ fn is_set(matches: &ArgMatches<'_>, id: &str) -> bool
     }
 }
 
+/// Whether `--reset` can't stand beside the mode and the other words.
+fn refuses_reset(matches: &ArgMatches<'_>, mode: Mode) -> bool
+    ensures { result ≡ refuses_reset (rows_of (found_of matches.now)) mode }
+{
+    match mode {
+        Mode::Plain => is_set(matches, "expose"),
+        Mode::Event => true,
+    }
+}
+
+/// The mode that the words name, unless `--reset` stands beside what refuses it.
 fn mode_in(matches: &ArgMatches<'_>) -> Option<Mode>
     ensures { result ≡ mode_in (rows_of (found_of matches.now)) }
 {
-    match word(matches, "mode") {
-        Some(mode) => mode_of(mode),
-        None => None,
+    let mode = mode_of(word(matches, "mode")?)?;
+    if is_set(matches, "reset") && refuses_reset(matches, mode) {
+        return None;
     }
+    Some(mode)
 }
 
 fn conflicts_in(matches: &ArgMatches<'_>) -> Option<u32>
@@ -123,6 +136,7 @@ fn settings_in(matches: &ArgMatches<'_>) -> Option<Settings>
         mode,
         expose: is_set(matches, "expose"),
         conflicts,
+        reset: is_set(matches, "reset"),
     })
 }
 
@@ -187,6 +201,7 @@ fn sim_in(alloc: Global, matches: &ArgMatches<'_>) -> Result<Option<Task>, NoMem
         s: FilePath::from_str(alloc, s)?,
         mode,
         power: copied(alloc, word(matches, "power"))?,
+        reset: is_set(matches, "reset"),
     }))
 }
 
@@ -270,7 +285,7 @@ fn matches_of<'a>(alloc: Global, words: &'a [String]) -> Result<ArgMatches<'a>, 
 }
 
 /// The job of the words behind the program's name. `Refused` comes exactly where `clap`'s definition for the command
-/// doesn't take them, or the mode is neither `plain` nor `event`.
+/// doesn't take them, the mode is neither `plain` nor `event`, or `--reset` stands with `event` or with `--expose`.
 pub fn job(alloc: Global, words: &[String]) -> Result<Task, WordsError>
     ensures job { IfOk result (λ task. job_of (map (λ w. string_bytes w) words.now) ≡ Some task) }
     ensures refused { IsErrOf result WordsError.Refused → job_of (map (λ w. string_bytes w) words.now) ≡ None }

@@ -4,7 +4,6 @@
 //! definition for this command.
 #![tactic(auto)]
 
-mod command;
 mod jobs;
 mod laws;
 mod task;

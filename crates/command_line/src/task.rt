@@ -17,12 +17,14 @@ pub enum Task {
         a: FilePath,
         mode: Mode,
     },
-    /// Run a circuit on a stimulus. `power` has a digit for each latch; without it all power up with 0.
+    /// Run a circuit on a stimulus. `power` has a digit for each latch; without it all power up with 0. With `reset` each latch
+    /// with the initial value 0 or 1 powers up with that, whatever its digit is.
     Sim {
         a: FilePath,
         s: FilePath,
         mode: Mode,
         power: Option<Word>,
+        reset: bool,
     },
     /// Run two circuits on a stimulus and print where they differ.
     Replay {

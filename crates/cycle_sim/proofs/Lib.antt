@@ -6,3 +6,4 @@ pub mod Runs
 pub mod SomeGates
 pub mod Turned
 pub mod Modes
+pub mod Starts

@@ -4,6 +4,7 @@
 mod cycle_marks;
 mod cycles;
 mod flip;
+mod initial_values;
 mod laws;
 mod load;
 mod marked;
@@ -11,7 +12,7 @@ mod next_marks;
 mod power;
 mod sim;
 
-pub use laws::has_run;
+pub use laws::{has_run, resets};
 pub use marked::MarkedSim;
 pub use power::Power;
 pub use sim::Sim;

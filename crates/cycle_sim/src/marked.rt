@@ -5,11 +5,12 @@ ghost use Rattle.flat_net.specs.declared.signals.Signal.{Signal};
 ghost use Rattle.flat_net.specs.declared.parts.LatchAt.{LatchAt};
 ghost use Rattle.latch_cone.specs.Cones.{AreOthers};
 ghost use Rattle.latch_cone.specs.Parts.{AreConeGates};
-ghost use Rattle.cycle_sim.specs.Runs.{power_bits, FitsLatches};
+ghost use Rattle.cycle_sim.specs.Runs.{power_bits, reset_bits, FitsLatches};
 ghost use Rattle.cycle_sim.specs.View.{HasMarkedRun, IsLatest, IsLatestMark};
 ghost use Rattle.cycle_sim.specs.Steps.{AreConesKept};
 
 use crate::cycle_marks::mark;
+use crate::initial_values::reset_power;
 use crate::next_marks::mark_ahead;
 use crate::power::Power;
 use crate::sim::Sim;
@@ -76,6 +77,25 @@ impl<'a> MarkedSim<'a> {
             marks: cleared(alloc, net.size() as usize)?,
             marks_ahead: cleared(alloc, net.latches().len())?,
         })
+    }
+
+    /// The same, where each latch powers up with its initial value 0 or 1, and with its bit of `free` where it has none. Initial
+    /// values settle nothing.
+    pub fn reset(
+        alloc: Global,
+        net: &'a Net,
+        free: &Bits,
+        enabled: &Bits,
+    ) -> Result<MarkedSim<'a>, NoMemory>
+        requires free { length free.now ≡ length net.now.latches }
+        requires enabled { length enabled.now ≡ length net.now.latches }
+        ensures net { IfOk result (λ marked. marked.sim.net ≡ net.now) }
+        ensures enabled { IfOk result (λ marked. marked.enabled ≡ enabled.now) }
+        ensures cycles { IfOk result (λ marked. marked.sim.cycles ≡ 0) }
+        ensures run { IfOk result (λ marked. HasMarkedRun marked (reset_bits net.now.latches free.now) []) }
+    {
+        let power = reset_power(alloc, net, free)?;
+        MarkedSim::new(alloc, net, &power, enabled)
     }
 
     /// Computes the next cycle of the run and its marks, from one bit for each input, in the net's order. It takes no

@@ -1,13 +1,14 @@
 //! A net's run, cycle by cycle.
 
 ghost use Rattle.std.specs.Prelude.{◌≡◌, ◌+◌, ◌-◌, ◌^◌, ◌<◌, ℕ, Bool, List, [], ◌∷◌, ◌++◌, length, slice_get, IfOk, IfSome};
-ghost use Rattle.cycle_sim.specs.Runs.{power_bits, FitsLatches};
+ghost use Rattle.cycle_sim.specs.Runs.{power_bits, reset_bits, FitsLatches};
 ghost use Rattle.cycle_sim.specs.View.{SimView, HasRun, IsLatest};
 
 use crate::cycles::{compute, take_over};
+use crate::initial_values::reset_power;
 use crate::power::Power;
 use flat_net::Net;
-use sec_base::NoMemory;
+use sec_base::{Bits, NoMemory};
 use std::alloc::Global;
 use std::marker::Model;
 
@@ -45,6 +46,18 @@ impl<'a> Sim<'a> {
             values: vec![in alloc; false; net.size() as usize]?,
             ahead: powered_up(alloc, net.latches().len(), power)?,
         })
+    }
+
+    /// The net before its first cycle, where each latch powers up with its initial value 0 or 1, and with its bit of `free`
+    /// where it has none.
+    pub fn reset(alloc: Global, net: &'a Net, free: &Bits) -> Result<Sim<'a>, NoMemory>
+        requires { length free.now ≡ length net.now.latches }
+        ensures net { IfOk result (λ sim. sim.net ≡ net.now) }
+        ensures cycles { IfOk result (λ sim. sim.cycles ≡ 0) }
+        ensures run { IfOk result (λ sim. HasRun sim (reset_bits net.now.latches free.now) []) }
+    {
+        let power = reset_power(alloc, net, free)?;
+        Sim::new(alloc, net, &power)
     }
 
     /// Computes the next cycle of the run, from one bit for each input, in the net's order. It takes no memory.

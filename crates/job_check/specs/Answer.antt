@@ -160,8 +160,8 @@ CheckMeans held check before now proofs other = Unit {0}
 
 -- what the status of a comparison says, whether it is built or not
 abbrev pub CheckSays : Held → Check → Option (List ℕ) → Option (List ℕ) → List Proof → StatusName → Type 0
-CheckSays held check before now proofs name = WhereBuilt check.settings.mode (CheckMeans held check before now proofs name) (SaysNothing name)
+CheckSays held check before now proofs name = WhereBuilt check.settings.mode check.settings.reset (CheckMeans held check before now proofs name) (SaysNothing name)
 
 -- A comparison that can be made is answered, if no read and no write fails; one that isn't built is told so.
 abbrev pub IsCheckComplete : Held → Check → StatusName → Type 0
-IsCheckComplete held check name = WhereBuilt check.settings.mode (CanAnswer held check → IsAnswer name) (EndsWith status.Refused name)
+IsCheckComplete held check name = WhereBuilt check.settings.mode check.settings.reset (CanAnswer held check → IsAnswer name) (EndsWith status.Refused name)

@@ -1,7 +1,7 @@
 -- Where a circuit can be reported on, and a stimulus and a power word fit it, what is found is the report, in the event mode also the
 -- limit of a query.
 use Rattle.std.specs.Prelude.{IsSomeAnd}
-use Rattle.std.proofs.Common.{◌≡◌, ℕ, List, refl, sym, ◌∙◌, ap, arith, Option, Some}
+use Rattle.std.proofs.Common.{◌≡◌, ℕ, Bool, List, refl, sym, ◌∙◌, ap, arith, Option, Some}
 use Rattle.std.proofs.lemmas.Option.{none-some}
 use Rattle.circuit_theory.specs.declared.Mode.{Mode}
 use Rattle.circuit_theory.specs.declared.Mode.TheVariants.{Plain, Event}
@@ -77,7 +77,7 @@ module _ (mode : Mode) (circuit : Option (List ℕ)) (x : List ℕ) (is : circui
   graph_reported (finding.Undecided B name proof) h = absurd h
 
 -- nor is a stimulus that fits it
-module _ (mode : Mode) (circuit stimulus power : Option (List ℕ)) (x y : List ℕ) (is : circuit ≡ Some x) (told : stimulus ≡ Some y) (can : CanBeRun mode x y power) where
+module _ (mode : Mode) (circuit stimulus power : Option (List ℕ)) (reset : Bool) (x y : List ℕ) (is : circuit ≡ Some x) (told : stimulus ≡ Some y) (can : CanBeRun mode x y power) where
   run_stands : (r : Refusal) → IsSimRefusal mode circuit stimulus power r → ⊥
   run_stands (refusal.TooLong file.S) h = let long : IsTooLong y = if_told stimulus IsTooLong y told h.1 in omega (arith, can.stimulus.short)
   run_stands (refusal.Text file.S line line_fault.BadHeader) h = has_header y can.names can.rows can.stimulus.form (if_told stimulus (λ t. HasBadHeader t line) y told h.1).no_header
@@ -100,7 +100,7 @@ module _ (mode : Mode) (circuit stimulus power : Option (List ℕ)) (x y : List 
       large_or_light mode h.net loads.flat.sound h.unknown (can.light h.net loads)
   run_stands (refusal.TooLarge B) h = h
 
-  run_reported : (f : Finding) → IsSimFound mode circuit stimulus power f → IsReported mode (status_of f)
+  run_reported : (f : Finding) → IsSimFound mode circuit stimulus power reset f → IsReported mode (status_of f)
   run_reported finding.Words h = absurd h
   run_reported (finding.Refused r) h = absurd (run_stands r h)
   run_reported (finding.Cyclic side names) h = absurd h
@@ -116,8 +116,8 @@ module _ (mode : Mode) (circuit stimulus power : Option (List ℕ)) (x y : List 
 pub graph_complete : (mode : Mode) (circuit : Option (List ℕ)) (f : Finding) → IsGraphFound mode circuit f → IsGraphComplete mode circuit (status_of f)
 graph_complete mode circuit f found can = let x = some_and circuit (CanBeTold mode) can in graph_reported mode circuit x.0 x.1 x.2 f found
 
-pub sim_complete : (mode : Mode) (circuit stimulus power : Option (List ℕ)) (f : Finding) → IsSimFound mode circuit stimulus power f → IsSimComplete mode circuit stimulus power (status_of f)
-sim_complete mode circuit stimulus power f found can =
+pub sim_complete : (mode : Mode) (circuit stimulus power : Option (List ℕ)) (reset : Bool) (f : Finding) → IsSimFound mode circuit stimulus power reset f → IsSimComplete mode circuit stimulus power (status_of f)
+sim_complete mode circuit stimulus power reset f found can =
     let x = some_and circuit (λ t. IsSomeAnd stimulus (λ y. CanBeRun mode t y power)) can in
     let y = some_and stimulus (λ t. CanBeRun mode x.0 t power) x.2 in
-    run_reported mode circuit stimulus power x.0 y.0 x.1 y.1 y.2 f found
+    run_reported mode circuit stimulus power reset x.0 y.0 x.1 y.1 y.2 f found

@@ -1,5 +1,5 @@
 -- What the status of a report on one circuit means.
-use Rattle.std.proofs.Common.{◌≡◌, ℕ, List, refl, inl, inr, ◌⊎◌, Option}
+use Rattle.std.proofs.Common.{◌≡◌, ℕ, Bool, List, refl, inl, inr, ◌⊎◌, Option}
 use Rattle.circuit_theory.specs.declared.Mode.{Mode}
 use Rattle.circuit_theory.specs.declared.Side.TheVariants.{A, B}
 use Rattle.sec_base.specs.Outside.{Takes}
@@ -26,17 +26,17 @@ graph_status mode circuit (finding.Replayed differences) h = absurd h
 graph_status mode circuit (finding.Undecided A name proof) h = inr (inr refl)
 graph_status mode circuit (finding.Undecided B name proof) h = absurd h
 
-sim_status : (mode : Mode) (circuit stimulus power : Option (List ℕ)) (f : Finding) → IsSimFound mode circuit stimulus power f → (status_of f ≡ status.Done) ⊎ ((status_of f ≡ status.Refused) ⊎ (status_of f ≡ status.Limit))
-sim_status mode circuit stimulus power finding.Words h = absurd h
-sim_status mode circuit stimulus power (finding.Refused r) h = inr (inl refl)
-sim_status mode circuit stimulus power (finding.Cyclic side names) h = absurd h
-sim_status mode circuit stimulus power (finding.Unpaired side names) h = absurd h
-sim_status mode circuit stimulus power (finding.Checked o s) h = absurd h
-sim_status mode circuit stimulus power (finding.Done report) h = inl refl
-sim_status mode circuit stimulus power (finding.Generated o report) h = absurd h
-sim_status mode circuit stimulus power (finding.Replayed differences) h = absurd h
-sim_status mode circuit stimulus power (finding.Undecided A name proof) h = inr (inr refl)
-sim_status mode circuit stimulus power (finding.Undecided B name proof) h = absurd h
+sim_status : (mode : Mode) (circuit stimulus power : Option (List ℕ)) (reset : Bool) (f : Finding) → IsSimFound mode circuit stimulus power reset f → (status_of f ≡ status.Done) ⊎ ((status_of f ≡ status.Refused) ⊎ (status_of f ≡ status.Limit))
+sim_status mode circuit stimulus power reset finding.Words h = absurd h
+sim_status mode circuit stimulus power reset (finding.Refused r) h = inr (inl refl)
+sim_status mode circuit stimulus power reset (finding.Cyclic side names) h = absurd h
+sim_status mode circuit stimulus power reset (finding.Unpaired side names) h = absurd h
+sim_status mode circuit stimulus power reset (finding.Checked o s) h = absurd h
+sim_status mode circuit stimulus power reset (finding.Done report) h = inl refl
+sim_status mode circuit stimulus power reset (finding.Generated o report) h = absurd h
+sim_status mode circuit stimulus power reset (finding.Replayed differences) h = absurd h
+sim_status mode circuit stimulus power reset (finding.Undecided A name proof) h = inr (inr refl)
+sim_status mode circuit stimulus power reset (finding.Undecided B name proof) h = absurd h
 
 -- the limit of a query of one circuit
 graph_limit : (mode : Mode) (circuit before now : Option (List ℕ)) (f : Finding) (proofs : List Proof) → IsGraphFound mode circuit f → IsWrittenAs before now f proofs status.Limit → TakesLimit mode circuit proofs before now
@@ -51,19 +51,19 @@ graph_limit mode circuit before now (finding.Replayed differences) proofs h w = 
 graph_limit mode circuit before now (finding.Undecided A name proof) proofs h w = record { name = name; proof = proof; kept = w.0; shown = h; printed = w.2 }
 graph_limit mode circuit before now (finding.Undecided B name proof) proofs h w = absurd h
 
-run_limit : (mode : Mode) (circuit stimulus power before now : Option (List ℕ)) (f : Finding) (proofs : List Proof) → IsSimFound mode circuit stimulus power f → IsWrittenAs before now f proofs status.Limit →
+run_limit : (mode : Mode) (circuit stimulus power : Option (List ℕ)) (reset : Bool) (before now : Option (List ℕ)) (f : Finding) (proofs : List Proof) → IsSimFound mode circuit stimulus power reset f → IsWrittenAs before now f proofs status.Limit →
     TakesLimit mode circuit proofs before now
-run_limit mode circuit stimulus power before now finding.Words proofs h w = absurd h
-run_limit mode circuit stimulus power before now (finding.Refused r) proofs h w = absurd (let e = w.1 in cc)
-run_limit mode circuit stimulus power before now (finding.Cyclic side names) proofs h w = absurd h
-run_limit mode circuit stimulus power before now (finding.Unpaired side names) proofs h w = absurd h
-run_limit mode circuit stimulus power before now (finding.Checked o s) proofs h w = absurd h
-run_limit mode circuit stimulus power before now (finding.Done report) proofs h w = absurd (let e = w.1 in cc)
-run_limit mode circuit stimulus power before now (finding.Generated o report) proofs h w = absurd h
-run_limit mode circuit stimulus power before now (finding.Replayed differences) proofs h w = absurd h
-run_limit mode circuit stimulus power before now (finding.Undecided A name proof) proofs h w =
+run_limit mode circuit stimulus power reset before now finding.Words proofs h w = absurd h
+run_limit mode circuit stimulus power reset before now (finding.Refused r) proofs h w = absurd (let e = w.1 in cc)
+run_limit mode circuit stimulus power reset before now (finding.Cyclic side names) proofs h w = absurd h
+run_limit mode circuit stimulus power reset before now (finding.Unpaired side names) proofs h w = absurd h
+run_limit mode circuit stimulus power reset before now (finding.Checked o s) proofs h w = absurd h
+run_limit mode circuit stimulus power reset before now (finding.Done report) proofs h w = absurd (let e = w.1 in cc)
+run_limit mode circuit stimulus power reset before now (finding.Generated o report) proofs h w = absurd h
+run_limit mode circuit stimulus power reset before now (finding.Replayed differences) proofs h w = absurd h
+run_limit mode circuit stimulus power reset before now (finding.Undecided A name proof) proofs h w =
     record { name = name; proof = proof; kept = w.0; shown = record { net = h.net; loads = h.loads; unknown = h.unknown }; printed = w.2 }
-run_limit mode circuit stimulus power before now (finding.Undecided B name proof) proofs h w = absurd h
+run_limit mode circuit stimulus power reset before now (finding.Undecided B name proof) proofs h w = absurd h
 
 graph_taken : (mode : Mode) (circuit before now : Option (List ℕ)) (f : Finding) → IsGraphFound mode circuit f → status_of f ≡ status.Done → Takes before now (finding_text f) → TakesGraph mode circuit before now
 graph_taken mode circuit before now finding.Words h e taken = absurd h
@@ -77,17 +77,17 @@ graph_taken mode circuit before now (finding.Replayed differences) h e taken = a
 graph_taken mode circuit before now (finding.Undecided A name proof) h e taken = absurd (cc)
 graph_taken mode circuit before now (finding.Undecided B name proof) h e taken = absurd h
 
-run_taken : (mode : Mode) (circuit stimulus power before now : Option (List ℕ)) (f : Finding) → IsSimFound mode circuit stimulus power f → status_of f ≡ status.Done → Takes before now (finding_text f) → TakesRun mode circuit stimulus power before now
-run_taken mode circuit stimulus power before now finding.Words h e taken = absurd h
-run_taken mode circuit stimulus power before now (finding.Refused r) h e taken = absurd (cc)
-run_taken mode circuit stimulus power before now (finding.Cyclic side names) h e taken = absurd h
-run_taken mode circuit stimulus power before now (finding.Unpaired side names) h e taken = absurd h
-run_taken mode circuit stimulus power before now (finding.Checked o s) h e taken = absurd h
-run_taken mode circuit stimulus power before now (finding.Done report) h e taken = (report, h, taken)
-run_taken mode circuit stimulus power before now (finding.Generated o report) h e taken = absurd h
-run_taken mode circuit stimulus power before now (finding.Replayed differences) h e taken = absurd h
-run_taken mode circuit stimulus power before now (finding.Undecided A name proof) h e taken = absurd (cc)
-run_taken mode circuit stimulus power before now (finding.Undecided B name proof) h e taken = absurd h
+run_taken : (mode : Mode) (circuit stimulus power : Option (List ℕ)) (reset : Bool) (before now : Option (List ℕ)) (f : Finding) → IsSimFound mode circuit stimulus power reset f → status_of f ≡ status.Done → Takes before now (finding_text f) → TakesRun mode circuit stimulus power reset before now
+run_taken mode circuit stimulus power reset before now finding.Words h e taken = absurd h
+run_taken mode circuit stimulus power reset before now (finding.Refused r) h e taken = absurd (cc)
+run_taken mode circuit stimulus power reset before now (finding.Cyclic side names) h e taken = absurd h
+run_taken mode circuit stimulus power reset before now (finding.Unpaired side names) h e taken = absurd h
+run_taken mode circuit stimulus power reset before now (finding.Checked o s) h e taken = absurd h
+run_taken mode circuit stimulus power reset before now (finding.Done report) h e taken = (report, h, taken)
+run_taken mode circuit stimulus power reset before now (finding.Generated o report) h e taken = absurd h
+run_taken mode circuit stimulus power reset before now (finding.Replayed differences) h e taken = absurd h
+run_taken mode circuit stimulus power reset before now (finding.Undecided A name proof) h e taken = absurd (cc)
+run_taken mode circuit stimulus power reset before now (finding.Undecided B name proof) h e taken = absurd h
 
 pub graph_means : (mode : Mode) (circuit before now : Option (List ℕ)) (f : Finding) (proofs : List Proof) (name : StatusName) →
     IsGraphFound mode circuit f → IsWrittenAs before now f proofs name → GraphMeans mode circuit before now proofs name
@@ -95,8 +95,8 @@ graph_means mode circuit before now f proofs name found w =
     report_means (TakesGraph mode circuit before now) (TakesLimit mode circuit proofs before now) before now f proofs name (graph_status mode circuit f found)
     (graph_taken mode circuit before now f found) (graph_limit mode circuit before now f proofs found) w
 
-pub sim_means : (mode : Mode) (circuit stimulus power before now : Option (List ℕ)) (f : Finding) (proofs : List Proof) (name : StatusName) →
-    IsSimFound mode circuit stimulus power f → IsWrittenAs before now f proofs name → SimMeans mode circuit stimulus power before now proofs name
-sim_means mode circuit stimulus power before now f proofs name found w =
-    report_means (TakesRun mode circuit stimulus power before now) (TakesLimit mode circuit proofs before now) before now f proofs name (sim_status mode circuit stimulus power f found)
-    (run_taken mode circuit stimulus power before now f found) (run_limit mode circuit stimulus power before now f proofs found) w
+pub sim_means : (mode : Mode) (circuit stimulus power : Option (List ℕ)) (reset : Bool) (before now : Option (List ℕ)) (f : Finding) (proofs : List Proof) (name : StatusName) →
+    IsSimFound mode circuit stimulus power reset f → IsWrittenAs before now f proofs name → SimMeans mode circuit stimulus power reset before now proofs name
+sim_means mode circuit stimulus power reset before now f proofs name found w =
+    report_means (TakesRun mode circuit stimulus power reset before now) (TakesLimit mode circuit proofs before now) before now f proofs name (sim_status mode circuit stimulus power reset f found)
+    (run_taken mode circuit stimulus power reset before now f found) (run_limit mode circuit stimulus power reset before now f proofs found) w

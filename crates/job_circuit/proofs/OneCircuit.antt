@@ -93,23 +93,23 @@ graph_ends mode circuit failed net (Err (kinds_error.Limit name proof)) loads te
 graph_ends mode circuit failed net (Err kinds_error.NoMemory) loads tells = tt
 
 -- both are loaded, and the circuit is run
-pub run_ends : (mode : Mode) (circuit stimulus power : Option (List ℕ)) (failed : Type 0) (net : NetView) (names : List (List ℕ)) (rows : List (List Bool)) (r : Result (List ℕ) SimulateError) →
-    IfSome circuit (λ x. Loads x net) → IfSome stimulus (λ y. IsStimulus y names rows) → Simulates mode net names rows power r → EndsBy (IsSimFound mode circuit stimulus power) failed (sim_end r)
-run_ends mode circuit stimulus power failed net names rows (Ok report) loads spells run =
+pub run_ends : (mode : Mode) (circuit stimulus power : Option (List ℕ)) (reset : Bool) (failed : Type 0) (net : NetView) (names : List (List ℕ)) (rows : List (List Bool)) (r : Result (List ℕ) SimulateError) →
+    IfSome circuit (λ x. Loads x net) → IfSome stimulus (λ y. IsStimulus y names rows) → Simulates mode net names rows power reset r → EndsBy (IsSimFound mode circuit stimulus power reset) failed (sim_end r)
+run_ends mode circuit stimulus power reset failed net names rows (Ok report) loads spells run =
     record { net = net; names = names; rows = rows; loads = loads; spells = spells; fits = run.0; is_report = run.1.0; light = run.1.1 }
-run_ends mode circuit stimulus power failed net names rows (Err (simulate_error.Misfit m)) loads spells run = record { net = net; names = names; rows = rows; loads = loads; spells = spells; is_first = run }
-run_ends mode circuit stimulus power failed net names rows (Err simulate_error.TooLarge) loads spells run = record { net = net; names = names; rows = rows; loads = loads; spells = spells; fits = run.0; unknown = run.1 }
-run_ends mode circuit stimulus power failed net names rows (Err (simulate_error.Limit name proof)) loads spells run =
+run_ends mode circuit stimulus power reset failed net names rows (Err (simulate_error.Misfit m)) loads spells run = record { net = net; names = names; rows = rows; loads = loads; spells = spells; is_first = run }
+run_ends mode circuit stimulus power reset failed net names rows (Err simulate_error.TooLarge) loads spells run = record { net = net; names = names; rows = rows; loads = loads; spells = spells; fits = run.0; unknown = run.1 }
+run_ends mode circuit stimulus power reset failed net names rows (Err (simulate_error.Limit name proof)) loads spells run =
     record { net = net; names = names; rows = rows; loads = loads; spells = spells; fits = run.0; unknown = run.1 }
-run_ends mode circuit stimulus power failed net names rows (Err simulate_error.NoMemory) loads spells run = tt
+run_ends mode circuit stimulus power reset failed net names rows (Err simulate_error.NoMemory) loads spells run = tt
 
 -- the circuit is loaded, and the stimulus isn't; what is held of it and its faults are those of a later time
-pub stimulus_ends : (held : Held) (before now : List ℕ → ℕ) (circuit stimulus : List ℕ) (mode : Mode) (power later : Option (List ℕ)) (middle : ℕ) (error : StimulusError) → IsLoaded (held circuit) →
-    later ≡ held stimulus → before stimulus ≤ middle → StimulusFails later (Rose middle (now stimulus)) error → SimFound held before now circuit stimulus mode power (stimulus_end error)
-stimulus_ends held before now circuit stimulus mode power later middle (stimulus_error.Fetch fetch_error.Failed) loaded same grew h =
+pub stimulus_ends : (held : Held) (before now : List ℕ → ℕ) (circuit stimulus : List ℕ) (mode : Mode) (power : Option (List ℕ)) (reset : Bool) (later : Option (List ℕ)) (middle : ℕ) (error : StimulusError) → IsLoaded (held circuit) →
+    later ≡ held stimulus → before stimulus ≤ middle → StimulusFails later (Rose middle (now stimulus)) error → SimFound held before now circuit stimulus mode power reset (stimulus_end error)
+stimulus_ends held before now circuit stimulus mode power reset later middle (stimulus_error.Fetch fetch_error.Failed) loaded same grew h =
     second_failed held before now circuit stimulus [] loaded (rose_before (before stimulus) middle (now stimulus) grew h)
-stimulus_ends held before now circuit stimulus mode power later middle (stimulus_error.Fetch fetch_error.TooLong) loaded same grew h = (loaded, subst (λ (o : Option (List ℕ)). IfSome o IsTooLong) same h)
-stimulus_ends held before now circuit stimulus mode power later middle (stimulus_error.Fetch fetch_error.NoMemory) loaded same grew h = tt
-stimulus_ends held before now circuit stimulus mode power later middle (stimulus_error.Read (stim_error.BadHeader line)) loaded same grew h = (loaded, subst (λ (o : Option (List ℕ)). IfSome o (λ y. HasBadHeader y line)) same h)
-stimulus_ends held before now circuit stimulus mode power later middle (stimulus_error.Read (stim_error.BadRow line)) loaded same grew h = (loaded, subst (λ (o : Option (List ℕ)). IfSome o (λ y. HasBadRow y line)) same h)
-stimulus_ends held before now circuit stimulus mode power later middle (stimulus_error.Read stim_error.NoMemory) loaded same grew h = tt
+stimulus_ends held before now circuit stimulus mode power reset later middle (stimulus_error.Fetch fetch_error.TooLong) loaded same grew h = (loaded, subst (λ (o : Option (List ℕ)). IfSome o IsTooLong) same h)
+stimulus_ends held before now circuit stimulus mode power reset later middle (stimulus_error.Fetch fetch_error.NoMemory) loaded same grew h = tt
+stimulus_ends held before now circuit stimulus mode power reset later middle (stimulus_error.Read (stim_error.BadHeader line)) loaded same grew h = (loaded, subst (λ (o : Option (List ℕ)). IfSome o (λ y. HasBadHeader y line)) same h)
+stimulus_ends held before now circuit stimulus mode power reset later middle (stimulus_error.Read (stim_error.BadRow line)) loaded same grew h = (loaded, subst (λ (o : Option (List ℕ)). IfSome o (λ y. HasBadRow y line)) same h)
+stimulus_ends held before now circuit stimulus mode power reset later middle (stimulus_error.Read stim_error.NoMemory) loaded same grew h = tt

@@ -1,5 +1,5 @@
 -- How the work on one circuit ends.
-use Rattle.std.specs.Prelude.{ℕ, List, Option, Result, Ok, Err}
+use Rattle.std.specs.Prelude.{ℕ, Bool, List, Option, Result, Ok, Err}
 use Rattle.circuit_theory.specs.declared.Mode.{Mode}
 use Rattle.circuit_theory.specs.declared.Side.TheVariants.{A}
 use Rattle.job_base.specs.Ends.{EndsBy}
@@ -39,5 +39,5 @@ abbrev pub GraphFound : Held → (List ℕ → ℕ) → (List ℕ → ℕ) → L
 GraphFound held before now circuit mode r = EndsBy (IsGraphFound mode (held circuit)) (ReadFailed held before now (graph_paths circuit)) r
 
 -- the same of a simulation
-abbrev pub SimFound : Held → (List ℕ → ℕ) → (List ℕ → ℕ) → List ℕ → List ℕ → Mode → Option (List ℕ) → Result Finding Stop → Type 0
-SimFound held before now circuit stimulus mode power r = EndsBy (IsSimFound mode (held circuit) (held stimulus) power) (ReadFailed held before now (sim_paths circuit stimulus)) r
+abbrev pub SimFound : Held → (List ℕ → ℕ) → (List ℕ → ℕ) → List ℕ → List ℕ → Mode → Option (List ℕ) → Bool → Result Finding Stop → Type 0
+SimFound held before now circuit stimulus mode power reset r = EndsBy (IsSimFound mode (held circuit) (held stimulus) power reset) (ReadFailed held before now (sim_paths circuit stimulus)) r

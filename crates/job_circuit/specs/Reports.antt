@@ -68,15 +68,15 @@ IsGraphFound mode circuit (finding.Undecided A name proof) = HasUnknown mode cir
 IsGraphFound mode circuit other = ⊥
 
 -- the report is that of the run of the net that the circuit's text loads as, over the stimulus that the other text spells, from the
--- power word; these fit the net
-pub record ReportsRun (mode : Mode) (circuit stimulus power : Option (List ℕ)) (report : List ℕ) : Type 0 where
+-- power word, with `reset` from the net's initial values before it; the stimulus and the power word fit the net
+pub record ReportsRun (mode : Mode) (circuit stimulus power : Option (List ℕ)) (reset : Bool) (report : List ℕ) : Type 0 where
   pub net : NetView
   pub names : List (List ℕ)
   pub rows : List (List Bool)
   pub loads : IfSome circuit (λ x. Loads x net)
   pub spells : IfSome stimulus (λ y. IsStimulus y names rows)
   pub fits : first_misfit net names power ≡ None
-  pub is_report : IsSimReport mode net names rows power report
+  pub is_report : IsSimReport mode net names rows power reset report
   pub light : AreLightIn mode net
 
 -- the first that doesn't fit the net that the circuit's text loads as, of the stimulus that the other text spells and the power word
@@ -108,19 +108,19 @@ IsSimRefusal mode circuit stimulus power (refusal.TooLarge A) = HasUnknownRun mo
 IsSimRefusal mode circuit stimulus power other = IsCircuitRefusal circuit other
 
 -- what is found where a simulation is asked for
-abbrev pub IsSimFound : Mode → Option (List ℕ) → Option (List ℕ) → Option (List ℕ) → Finding → Type 0
-IsSimFound mode circuit stimulus power (finding.Done report) = ReportsRun mode circuit stimulus power report
-IsSimFound mode circuit stimulus power (finding.Refused r) = IsSimRefusal mode circuit stimulus power r
-IsSimFound mode circuit stimulus power (finding.Undecided A name proof) = HasUnknownRun mode circuit stimulus power (kinds_error.Limit name proof)
-IsSimFound mode circuit stimulus power other = ⊥
+abbrev pub IsSimFound : Mode → Option (List ℕ) → Option (List ℕ) → Option (List ℕ) → Bool → Finding → Type 0
+IsSimFound mode circuit stimulus power reset (finding.Done report) = ReportsRun mode circuit stimulus power reset report
+IsSimFound mode circuit stimulus power reset (finding.Refused r) = IsSimRefusal mode circuit stimulus power r
+IsSimFound mode circuit stimulus power reset (finding.Undecided A name proof) = HasUnknownRun mode circuit stimulus power (kinds_error.Limit name proof)
+IsSimFound mode circuit stimulus power reset other = ⊥
 
 -- the whole report of the latch graph is taken
 abbrev pub TakesGraph : Mode → Option (List ℕ) → Option (List ℕ) → Option (List ℕ) → Type 0
 TakesGraph mode circuit before now = (report : List ℕ) × ReportsGraph mode circuit report × Takes before now report
 
 -- the whole report of the run is taken
-abbrev pub TakesRun : Mode → Option (List ℕ) → Option (List ℕ) → Option (List ℕ) → Option (List ℕ) → Option (List ℕ) → Type 0
-TakesRun mode circuit stimulus power before now = (report : List ℕ) × ReportsRun mode circuit stimulus power report × Takes before now report
+abbrev pub TakesRun : Mode → Option (List ℕ) → Option (List ℕ) → Option (List ℕ) → Bool → Option (List ℕ) → Option (List ℕ) → Type 0
+TakesRun mode circuit stimulus power reset before now = (report : List ℕ) × ReportsRun mode circuit stimulus power reset report × Takes before now report
 
 -- the report names a latch of the circuit, and the one proof shows that its query has met the limit
 pub record TakesLimit (mode : Mode) (circuit : Option (List ℕ)) (proofs : List Proof) (before now : Option (List ℕ)) : Type 0 where
@@ -165,8 +165,8 @@ abbrev pub GraphMeans : Mode → Option (List ℕ) → Option (List ℕ) → Opt
 GraphMeans mode circuit before now proofs name = ReportMeans (TakesGraph mode circuit before now) (TakesLimit mode circuit proofs before now) name
 
 -- what that of a simulation says
-abbrev pub SimMeans : Mode → Option (List ℕ) → Option (List ℕ) → Option (List ℕ) → Option (List ℕ) → Option (List ℕ) → List Proof → StatusName → Type 0
-SimMeans mode circuit stimulus power before now proofs name = ReportMeans (TakesRun mode circuit stimulus power before now) (TakesLimit mode circuit proofs before now) name
+abbrev pub SimMeans : Mode → Option (List ℕ) → Option (List ℕ) → Option (List ℕ) → Bool → Option (List ℕ) → Option (List ℕ) → List Proof → StatusName → Type 0
+SimMeans mode circuit stimulus power reset before now proofs name = ReportMeans (TakesRun mode circuit stimulus power reset before now) (TakesLimit mode circuit proofs before now) name
 
 -- where the latch graph can be told, it is, if no read and no write fails
 abbrev pub IsGraphComplete : Mode → Option (List ℕ) → StatusName → Type 0

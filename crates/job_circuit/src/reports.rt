@@ -12,13 +12,14 @@ use sec_base::{Shelf, Side, Text};
 use sec_files::{load, load_stimulus};
 use std::alloc::Global;
 
-/// The paths of a circuit and of a stimulus for it, the mode, and the power word.
+/// The paths of a circuit and of a stimulus for it, the mode, the power word, and whether initial values go before that.
 #[derive(Clone, Copy)]
 pub struct Simulation<'a> {
     pub circuit: &'a str,
     pub stimulus: &'a str,
     pub mode: Mode,
     pub power: Option<&'a [u8]>,
+    pub reset: bool,
 }
 
 /// Loads the circuit and reports its latch graph.
@@ -72,7 +73,7 @@ pub fn simulate<S: Shelf>(
     simulation: &Simulation<'_>,
     shelf: &mut S,
 ) -> Result<Finding, Stop>
-    ensures found { SimFound (S.held shelf.old) (S.faults shelf.old) (S.faults shelf.new) simulation.now.circuit.now simulation.now.stimulus.now simulation.now.mode (option_map (λ digits. digits.now) simulation.now.power) result }
+    ensures found { SimFound (S.held shelf.old) (S.faults shelf.old) (S.faults shelf.new) simulation.now.circuit.now simulation.now.stimulus.now simulation.now.mode (option_map (λ digits. digits.now) simulation.now.power) simulation.now.reset result }
     ensures keeps { SameHeld (S.held shelf.old) (S.held shelf.new) }
     ensures later { NoneFell (S.faults shelf.old) (S.faults shelf.new) }
     ensures served { S.serves shelf.old simulation.now.circuit.now → S.serves shelf.old simulation.now.stimulus.now → IsErrOf result Stop.ReadFault → ⊥ }
@@ -85,6 +86,13 @@ pub fn simulate<S: Shelf>(
         Ok(stimulus) => stimulus,
         Err(error) => return stimulus_end(error),
     };
-    let simulated = run_circuit(alloc, &net, &stimulus, simulation.power, simulation.mode);
+    let simulated = run_circuit(
+        alloc,
+        &net,
+        &stimulus,
+        simulation.power,
+        simulation.reset,
+        simulation.mode,
+    );
     sim_end(simulated)
 }

@@ -23,7 +23,7 @@ pub record AreTwins (g : Generation) (a b : NetView) : Type 0 where
 
 -- a pair is compared in the plain form, and no latch is cut open
 abbrev pub settings_of : Generation → Settings
-settings_of g = record { mode = Plain; expose = false; conflicts = g.conflicts }
+settings_of g = record { mode = Plain; expose = false; conflicts = g.conflicts; reset = false }
 
 -- the outcome is one of the pair of the number, and the report is its
 pub record IsOutcomeOf (g : Generation) (o : Outcome) (report : List ℕ) : Type 0 where

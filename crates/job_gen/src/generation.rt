@@ -46,6 +46,7 @@ fn compare_twins(alloc: Global, generation: &Generation, twins: &Twins) -> Resul
         mode: Mode::Plain,
         expose: false,
         conflicts: generation.conflicts,
+        reset: false,
     };
     twins.a.keeps();
     twins.b.keeps();

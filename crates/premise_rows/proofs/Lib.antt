@@ -13,3 +13,4 @@ pub mod Ring
 pub mod Stimuli
 pub mod Nested
 pub mod Replays
+pub mod Started

@@ -4,13 +4,14 @@ use Rattle.std.specs.Prelude.{Contains, MatchOption, codes, ◌↔◌}
 use Rattle.std.specs.Fmt.{decimal}
 use Rattle.std.specs.List.{flat_map}
 use Rattle.std.proofs.lemmas.List.{length-map}
+use Rattle.std.proofs.lemmas.Option.{same_Some}
 use Rattle.std.proofs.lemmas.List.Elements.{All-contains, Contains-append_right}
 use Rattle.circuit_theory.specs.declared.Mode.TheVariants.{Plain}
 use Rattle.circuit_theory.specs.Agree.{IsSettled}
-use Rattle.circuit_theory.specs.Circuit.{Equation, Gate, Latch, Port, Named}
+use Rattle.circuit_theory.specs.Circuit.{Equation, Gate, Latch, Port, Named, Started}
 use Rattle.circuit_theory.specs.Cover.{Cover}
 use Rattle.circuit_theory.specs.Depth.{IsDepth, HasNoDepth}
-use Rattle.circuit_theory.specs.Joined.{moved, moved_name}
+use Rattle.circuit_theory.specs.Joined.{moved, moved_name, moved_start}
 use Rattle.circuit_theory.specs.Places.{IsPlace}
 use Rattle.circuit_theory.specs.Run.{NoneEnabled}
 use Rattle.circuit_theory.proofs.Lists.{Contains-head, Contains-tail, Contains-map, Contains-map_from, map-map, map_at, of_at}
@@ -18,7 +19,10 @@ use Rattle.circuit_theory.proofs.Numbers.{slice_get-map}
 use Rattle.blif_read.specs.Reading.{spelled}
 use Rattle.flat_net.specs.declared.parts.Gate.{Gate as NetGate}
 use Rattle.flat_net.specs.declared.parts.LatchAt.{LatchAt}
-use Rattle.flat_net.specs.View.{NetView, named, equation_of_gate, equation_of_latch, circuit_of}
+use Rattle.flat_net.specs.Sound.{IsSound}
+use Rattle.flat_net.specs.View.{NetView, named, equation_of_gate, equation_of_latch, circuit_of, start_of}
+use Rattle.sec_base.specs.declared.basics.Init.{Init}
+use Rattle.sec_base.specs.declared.basics.Init.TheVariants as init
 use Rattle.net_alike.specs.Renumbered.{latch_rows, AreRenumbered}
 use Rattle.net_alike.proofs.Carrying.{depth_carried, no_depth_carried, run_carried, mark_carried}
 use Rattle.flatten.proofs.OneNets.{nets_are_one}
@@ -26,7 +30,9 @@ use Rattle.latch_cone.specs.declared.kinds.LatchKind.{LatchKind}
 use Rattle.latch_cone.specs.declared.kinds.LatchKind.TheVariants as kind
 use Rattle.latch_cone.specs.Kinds.{IsKindIn}
 use Rattle.graph_report.specs.Report.{Measured, IsMeasured, MeasuredLatch, IsMeasuredLatch, TellOf, latch_signal, latch_text, latch_line, output_text, output_line, counts_text, cycle_line, IsGraphReport}
-use Rattle.sim_report.specs.Checks.{power_of}
+use Rattle.cycle_sim.specs.Runs.{initial_or, reset_bits}
+use Rattle.cycle_sim.proofs.Starts.{same_reset_bits, has_start, start_there}
+use Rattle.sim_report.specs.Checks.{word_bits, power_of}
 use Rattle.sim_report.specs.Report.{Shown, sim_text, IsSimulated, IsShown, IsSimReport}
 use Rattle.sim_report.proofs.Reports.{one_report}
 use Rattle.premise_rows.specs.OneReport.{AreOneGraph, GraphReportsAreOne, SimReportsAreOne}
@@ -161,14 +167,61 @@ module _ (a b : NetView) (to back : ℕ → ℕ) (r : AreRenumbered (circuit_of 
         right_is = y.text_is;
       }
 
-  -- runs over a stimulus
-  module _ (names : List (List ℕ)) (rows : List (List Bool)) (power : Option (List ℕ)) where
-    same_power : power_of a power ≡ power_of b power
-    same_power = by power
+  -- an initial value of a latch has the effect of that of the latch where it goes
+  module _ (left_sound : IsSound a) (right_sound : IsSound b) where
+    same_initial : (j : ℕ) (l m : LatchAt) → slice_get a.latches j ≡ Some l → slice_get b.latches j ≡ Some m → (bit : Bool) → initial_or l.init bit ≡ initial_or m.init bit
+    same_initial j l m at at' bit = by l.init m.init refl refl
       where
-        by : (p : Option (List ℕ)) → power_of a p ≡ power_of b p
+        goes : to l.out.0 ≡ m.out.0
+        goes =
+            (let own = slice_get-map (moved_name to) (map latch_signal a.latches) j (latch_signal l) (slice_get-map latch_signal a.latches j l at) in
+            let other = slice_get-map latch_signal b.latches j m at' in
+            ap (λ (n : Named ℕ). n.place) (same_Some _ _ (sym own ∙ (ap (λ (ns : List (Named ℕ)). slice_get ns j) same_latches ∙ other))))
+
+        comes : back m.out.0 ≡ l.out.0
+        comes = ap back (sym goes) ∙ r.there_and_back l.out.0 (latch_place a l (of_at a.latches j l at))
+
+        there : (start : Bool) → start_of l.out.0 l.init ≡ Some (record { place = l.out.0; bit = start }) → initial_or m.init bit ≡ start
+        there start e =
+            start_there b right_sound j m at' start
+            (subst (λ (p : ℕ). Contains (circuit_of b).starts (record { place = p; bit = start })) goes
+            (subst (λ (ss : List (Started ℕ)). Contains ss (record { place = to l.out.0; bit = start })) r.starts
+            (Contains-map (moved_start to) (circuit_of a).starts (record { place = l.out.0; bit = start }) (has_start a left_sound l (of_at a.latches j l at) (record { place = l.out.0; bit = start }) e)))) bit
+
+        from : (start : Bool) → start_of m.out.0 m.init ≡ Some (record { place = m.out.0; bit = start }) → initial_or l.init bit ≡ start
+        from start e =
+            start_there a left_sound j l at start
+            (subst (λ (p : ℕ). Contains (circuit_of a).starts (record { place = p; bit = start })) comes
+            (subst (λ (ss : List (Started ℕ)). Contains ss (record { place = back m.out.0; bit = start })) r.starts_from
+            (Contains-map (moved_start back) (circuit_of b).starts (record { place = m.out.0; bit = start }) (has_start b right_sound m (of_at b.latches j m at') (record { place = m.out.0; bit = start }) e)))) bit
+
+        by : (i k : Init) → l.init ≡ i → m.init ≡ k → initial_or l.init bit ≡ initial_or m.init bit
+        by init.Zero k e e' = ap (λ (x : Init). initial_or x bit) e ∙ sym (there false (ap (start_of l.out.0) e))
+        by init.One k e e' = ap (λ (x : Init). initial_or x bit) e ∙ sym (there true (ap (start_of l.out.0) e))
+        by i init.Zero e e' = from false (ap (start_of m.out.0) e') ∙ sym (ap (λ (x : Init). initial_or x bit) e')
+        by i init.One e e' = from true (ap (start_of m.out.0) e') ∙ sym (ap (λ (x : Init). initial_or x bit) e')
+        by init.DontCare init.DontCare e e' = ap (λ (x : Init). initial_or x bit) (e ∙ sym e')
+        by init.DontCare init.Unknown e e' = ap (λ (x : Init). initial_or x bit) e ∙ sym (ap (λ (x : Init). initial_or x bit) e')
+        by init.Unknown init.DontCare e e' = ap (λ (x : Init). initial_or x bit) e ∙ sym (ap (λ (x : Init). initial_or x bit) e')
+        by init.Unknown init.Unknown e e' = ap (λ (x : Init). initial_or x bit) (e ∙ sym e')
+
+  -- runs over a stimulus
+  module _ (left_sound : IsSound a) (right_sound : IsSound b) (names : List (List ℕ)) (rows : List (List Bool)) (power : Option (List ℕ)) (reset : Bool) where
+    same_word : word_bits a power ≡ word_bits b power
+    same_word = by power
+      where
+        by : (p : Option (List ℕ)) → word_bits a p ≡ word_bits b p
         by None = ap (λ (n : ℕ). replicate n false) (count latch_signal latch_signal a.latches b.latches same_latches)
         by (Some word) = refl
+
+    same_power : power_of a power reset ≡ power_of b power reset
+    same_power = by reset
+      where
+        by : (x : Bool) → power_of a power x ≡ power_of b power x
+        by true =
+            same_reset_bits a.latches b.latches (count latch_signal latch_signal a.latches b.latches same_latches) (same_initial left_sound right_sound) (word_bits a power)
+            ∙ ap (reset_bits b.latches) same_word
+        by false = same_word
 
     -- the values at signals are those where they go
     values_there : {X Y : Type 0} (f : X → Named ℕ) (g : Y → Named ℕ) (xs : List X) (ys : List Y) → map (moved_name to) (map f xs) ≡ map g ys → (value : ℕ → Bool) →
@@ -177,7 +230,7 @@ module _ (a b : NetView) (to back : ℕ → ℕ) (r : AreRenumbered (circuit_of 
         sym (map-map (λ (n : Named ℕ). value n.place) (moved_name to) (map f xs) ∙ map-map (λ (n : Named ℕ). value (to n.place)) f xs)
         ∙ ap (map (λ (n : Named ℕ). value n.place)) same ∙ map-map (λ (n : Named ℕ). value n.place) g ys
 
-    simulated : (run : ℕ → ℕ → Bool) → IsSimulated b names rows (power_of b power) run → IsSimulated a names rows (power_of a power) (λ t p. run t (to p))
+    simulated : (run : ℕ → ℕ → Bool) → IsSimulated b names rows (power_of b power reset) run → IsSimulated a names rows (power_of a power reset) (λ t p. run t (to p))
     simulated run s = record {
       is_run = run_carried (circuit_of a) (circuit_of b) to back r (length rows) run s.is_run;
       powers_up = values_there latch_signal latch_signal a.latches b.latches same_latches (run 0) ∙ s.powers_up ∙ sym same_power;
@@ -202,7 +255,7 @@ module _ (a b : NetView) (to back : ℕ → ℕ) (r : AreRenumbered (circuit_of 
           subst (λ (p : ℕ). (mark ≡ true) ↔ IsSettled Plain (circuit_of b) run t p) place ((λ e. there.0 (same.0 e)), (λ m. same.1 (there.1 m))));
     }
 
-    report_there : (text : List ℕ) → IsSimReport Plain a names rows power text → IsSimReport Plain b names rows power text
+    report_there : (text : List ℕ) → IsSimReport Plain a names rows power reset text → IsSimReport Plain b names rows power reset text
     report_there text x = record {
       cycles = x.cycles;
       each = x.each;
@@ -215,6 +268,6 @@ pub graph_reports_are_one : GraphReportsAreOne
 graph_reports_are_one text a b la lb left right x y = let one = nets_are_one (spelled text) a b la.flat lb.flat in one_graph a b one.to one.back one.circuits left right x y
 
 pub sim_reports_are_one : SimReportsAreOne
-sim_reports_are_one text a b la lb stimulus names rows s power fits left right x y =
+sim_reports_are_one text a b la lb stimulus names rows s power fits reset left right x y =
     let one = nets_are_one (spelled text) a b la.flat lb.flat in
-    one_report b lb.flat.sound names rows s.form.names_are.distinct s.form.rows_are power fits Plain left right (report_there a b one.to one.back one.circuits names rows power left x) y
+    one_report b lb.flat.sound names rows s.form.names_are.distinct s.form.rows_are power reset fits Plain left right (report_there a b one.to one.back one.circuits la.flat.sound lb.flat.sound names rows power reset left x) y

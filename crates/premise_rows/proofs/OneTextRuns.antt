@@ -1,5 +1,5 @@
 -- A run that compares a text with itself ends equal, or at want of memory.
-use Rattle.std.proofs.Common.{◌≡◌, ℕ, List, Option, Some, None, refl, sym, subst}
+use Rattle.std.proofs.Common.{◌≡◌, ℕ, Bool, true, false, List, Option, Some, None, refl, sym, subst}
 use Rattle.std.specs.Prelude.{IfSome, IsSomeAnd, Ok}
 use Rattle.circuit_theory.specs.declared.Mode.{Mode}
 use Rattle.circuit_theory.specs.declared.Mode.TheVariants.{Plain, Event}
@@ -79,30 +79,32 @@ module _ (held : Held) (check : Check) (h : CanMeetItself held check) where
   found_equal (finding.Undecided side name proof) found is = absurd found
 
 -- what is found of a job
-check_equal : (held : Held) (check : Check) (f : Finding) (mode : Mode) → WhereBuilt mode (CanMeetItself held check) ⊥ → WhereBuilt mode (IsFoundOf held check f) (f ≡ finding.Refused refusal.NotBuilt) →
+check_equal : (held : Held) (check : Check) (f : Finding) (mode : Mode) (reset : Bool) → WhereBuilt mode reset (CanMeetItself held check) ⊥ → WhereBuilt mode reset (IsFoundOf held check f) (f ≡ finding.Refused refusal.NotBuilt) →
     IsAnswer (status_of f) → IsEqualAnswer (status_of f)
-check_equal held check f Plain can found is = found_equal held check can f found is
-check_equal held check f Event can found is = absurd can
+check_equal held check f Plain false can found is = found_equal held check can f found is
+check_equal held check f Plain true can found is = absurd can
+check_equal held check f Event reset can found is = absurd can
 
 job_equal : (held : Held) (job : Option Task) (f : Finding) → OfCheck job (CanMeetItself held) → IsFinding held job f → IsAnswer (status_of f) → IsEqualAnswer (status_of f)
 job_equal held None f can found is = absurd can
-job_equal held (Some (task.Check a b settings)) f can found is = check_equal held (record { left = a; right = b; settings = settings }) f settings.mode can found is
+job_equal held (Some (task.Check a b settings)) f can found is = check_equal held (record { left = a; right = b; settings = settings }) f settings.mode settings.reset can found is
 job_equal held (Some (task.Graph a mode)) f can found is = absurd can
-job_equal held (Some (task.Sim a s mode power)) f can found is = absurd can
+job_equal held (Some (task.Sim a s mode power reset)) f can found is = absurd can
 job_equal held (Some (task.Replay a b s mode)) f can found is = absurd can
 job_equal held (Some (task.Gen seed regroup conflicts)) f can found is = absurd can
 
 -- a job over one text is one that is answered
-check_answered : (held : Held) (check : Check) (name : StatusName) (mode : Mode) → WhereBuilt mode (CanMeetItself held check) ⊥ →
-    WhereBuilt mode (CanAnswer held check → IsAnswer name) (EndsWith status.Refused name) → IsAnswer name
-check_answered held check name Plain can complete = complete (can_answer held check can)
-check_answered held check name Event can complete = absurd can
+check_answered : (held : Held) (check : Check) (name : StatusName) (mode : Mode) (reset : Bool) → WhereBuilt mode reset (CanMeetItself held check) ⊥ →
+    WhereBuilt mode reset (CanAnswer held check → IsAnswer name) (EndsWith status.Refused name) → IsAnswer name
+check_answered held check name Plain false can complete = complete (can_answer held check can)
+check_answered held check name Plain true can complete = absurd can
+check_answered held check name Event reset can complete = absurd can
 
 pub is_answered : (held : Held) (job : Option Task) (name : StatusName) → OfCheck job (CanMeetItself held) → IsComplete held job name → IsAnswer name
 is_answered held None name can complete = absurd can
-is_answered held (Some (task.Check a b settings)) name can complete = check_answered held (record { left = a; right = b; settings = settings }) name settings.mode can complete
+is_answered held (Some (task.Check a b settings)) name can complete = check_answered held (record { left = a; right = b; settings = settings }) name settings.mode settings.reset can complete
 is_answered held (Some (task.Graph a mode)) name can complete = absurd can
-is_answered held (Some (task.Sim a s mode power)) name can complete = absurd can
+is_answered held (Some (task.Sim a s mode power reset)) name can complete = absurd can
 is_answered held (Some (task.Replay a b s mode)) name can complete = absurd can
 is_answered held (Some (task.Gen seed regroup conflicts)) name can complete = absurd can
 

@@ -8,3 +8,4 @@ pub mod OneText
 pub mod OneReport
 pub mod CutOpen
 pub mod Replays
+pub mod Started

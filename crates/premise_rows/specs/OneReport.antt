@@ -30,4 +30,4 @@ GraphReportsAreOne = (text : List ℕ) (a b : NetView) → Loads text a → Load
 abbrev pub SimReportsAreOne : Type 0
 SimReportsAreOne = (text : List ℕ) (a b : NetView) → Loads text a → Loads text b →
     (stimulus : List ℕ) (names : List (List ℕ)) (rows : List (List Bool)) → IsStimulus stimulus names rows → (power : Option (List ℕ)) → first_misfit b names power ≡ None →
-    (left right : List ℕ) → IsSimReport Plain a names rows power left → IsSimReport Plain b names rows power right → left ≡ right
+    (reset : Bool) (left right : List ℕ) → IsSimReport Plain a names rows power reset left → IsSimReport Plain b names rows power reset right → left ≡ right

@@ -32,7 +32,7 @@ UnfoldedIsComparable = (text : List ℕ) → CanBeUnfolded text → (expose : Bo
 
 -- what is said of the comparison that the job asks for, where it is built
 abbrev pub OfCheck : Option Task → (Check → Type 0) → Type 0
-OfCheck (Some (task.Check a b settings)) P = WhereBuilt settings.mode (P (record { left = a; right = b; settings = settings })) ⊥
+OfCheck (Some (task.Check a b settings)) P = WhereBuilt settings.mode settings.reset (P (record { left = a; right = b; settings = settings })) ⊥
 OfCheck other P = ⊥
 
 -- what is said of a text that is held at both paths

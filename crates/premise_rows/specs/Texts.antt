@@ -41,6 +41,10 @@ ring = codes ".model m\n.outputs y\n.latch q p\n.latch p q\n.names p y\n1 1\n.en
 abbrev pub nested : List ℕ
 nested = codes ".model top\n.inputs a\n.outputs y\n.subckt cell i=a o=m\n.latch m y\n.end\n.model cell\n.inputs i\n.outputs o\n.names i q n\n10 1\n01 1\n.latch n q\n.names q o\n1 1\n.end\n"
 
+-- three latches, of which the first starts with 1, the second with 0, and the third with either
+abbrev pub started : List ℕ
+started = codes ".model m\n.inputs a\n.outputs p q r\n.latch a p 1\n.latch a q 0\n.latch a r 2\n.end\n"
+
 -- a stimulus of one input and three cycles
 abbrev pub three_cycles : List ℕ
 three_cycles = codes "inputs a\n1\n0\n0\n"

@@ -10,6 +10,7 @@ ghost use Rattle.premise_rows.specs.Premises.{AndsAreComparable, RetimedAreCompa
 ghost use Rattle.premise_rows.specs.CutOpen.{NestedIsCutOpen};
 ghost use Rattle.premise_rows.specs.RuledOut.{AndsMeetNoLimit};
 ghost use Rattle.premise_rows.specs.Stimuli.{TwoCanBeRun};
+ghost use Rattle.premise_rows.specs.Started.{StartedPowersUp};
 ghost use Rattle.premise_rows.specs.Enables.{EnablesMeetPremises};
 ghost use Rattle.premise_rows.specs.Replays.{ReplaysMeetPremises};
 ghost use Rattle.premise_rows.specs.TextNets.{TextNetsAreOne, ToldCyclesAreOne, OneNetIsEnough};
@@ -66,6 +67,11 @@ pub fn ands_meet_no_limit()
 /// Two latches in a row can be run over a stimulus, from a power word and without one.
 pub fn two_can_be_run()
     ensures { TwoCanBeRun }
+{}
+
+/// Three latches power up with their initial values where they have them, and else with the power word.
+pub fn started_powers_up()
+    ensures { StartedPowersUp }
 {}
 
 /// In the event mode a latch behind an enable can be told as enabled and run, and one that toggles can be told as not unate.

@@ -1,6 +1,6 @@
 //! Comparing two circuits.
 
-ghost use Rattle.std.specs.Prelude.{◌≡◌, ◌≤◌, length, IfOk};
+ghost use Rattle.std.specs.Prelude.{◌≡◌, ◌≤◌, false, length, IfOk};
 ghost use Rattle.circuit_theory.specs.declared.Mode.TheVariants.{Plain};
 ghost use Rattle.circuit_theory.specs.Interface.{shared_inputs};
 ghost use Rattle.flat_net.specs.Comparable.{IsComparable};
@@ -31,6 +31,7 @@ pub fn compare(
     settings: &Settings,
 ) -> Result<Outcome, CompareError>
     requires plain { settings.now.mode ≡ Plain }
+    requires settling { settings.now.reset ≡ false }
     requires conflicts { settings.now.conflicts ≤ MAX_CONFLICTS }
     requires left { IsComparable a.now }
     requires right { IsComparable b.now }

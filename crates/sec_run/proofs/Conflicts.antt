@@ -9,7 +9,7 @@ use Rattle.circuit_theory.specs.declared.Mode.{Mode}
 use Rattle.sec_base.specs.declared.settings.Settings.{Settings}
 use Rattle.command_line.specs.declared.task.Task.{Task}
 use Rattle.command_line.specs.declared.task.Task.TheVariants as task
-use Rattle.command_line.specs.Command.{sec_app, most_conflicts, any_number}
+use Rattle.command_words.specs.Command.{sec_app, most_conflicts, any_number}
 use Rattle.command_line.specs.Jobs.{job_of, task_in, check_in, graph_in, sim_in, replay_in, gen_in, settings_in, conflicts_in, mode_in, number_of, is_set, with_word}
 use Rattle.sec_run.specs.Job.{HasFewConflicts}
 
@@ -41,7 +41,7 @@ few rows n e =
     subst (λ (k : ℕ). k ≤ 200000) (some_is number.1) (accepts-Accepts false most_conflicts word.0 number.0).3
 
 abbrev settings_of : List Row → Mode → ℕ → Settings
-settings_of rows mode conflicts = record { mode = mode; expose = is_set (codes "expose") rows; conflicts = conflicts }
+settings_of rows mode conflicts = record { mode = mode; expose = is_set (codes "expose") rows; conflicts = conflicts; reset = is_set (codes "reset") rows }
 
 few_settings : (rows : List Row) (s : Settings) → settings_in rows ≡ Some s → s.conflicts ≤ 200000
 few_settings rows s e =
@@ -66,10 +66,11 @@ few_graph rows job e =
 few_sim : (rows : List Row) (job : Task) → sim_in rows ≡ Some job → HasFewConflicts job
 few_sim rows job e =
     let power : Option Text = first_of (codes "power") rows in
-    let a = and_then_some (λ x. with_word (codes "s") rows (λ y. option_map (λ m. task.Sim x y m power) (mode_in rows))) (first_of (codes "a") rows) job e in
-    let s = and_then_some (λ y. option_map (λ m. task.Sim a.0 y m power) (mode_in rows)) (first_of (codes "s") rows) job a.2 in
-    let mode = map_some (λ m. task.Sim a.0 s.0 m power) (mode_in rows) job s.2 in
-    let few_here : HasFewConflicts (task.Sim a.0 s.0 mode.0 power) = tt in
+    let reset : Bool = is_set (codes "reset") rows in
+    let a = and_then_some (λ x. with_word (codes "s") rows (λ y. option_map (λ m. task.Sim x y m power reset) (mode_in rows))) (first_of (codes "a") rows) job e in
+    let s = and_then_some (λ y. option_map (λ m. task.Sim a.0 y m power reset) (mode_in rows)) (first_of (codes "s") rows) job a.2 in
+    let mode = map_some (λ m. task.Sim a.0 s.0 m power reset) (mode_in rows) job s.2 in
+    let few_here : HasFewConflicts (task.Sim a.0 s.0 mode.0 power reset) = tt in
     subst HasFewConflicts mode.2 few_here
 
 few_replay : (rows : List Row) (job : Task) → replay_in rows ≡ Some job → HasFewConflicts job

@@ -26,7 +26,7 @@ pub means : (held : Held) (job : Option Task) (before now : Option (List ℕ)) (
 means held None before now f proofs name found w = says_nothing before now f proofs name (subst (λ (g : Finding). SaysNothing (status_of g)) (sym found) tt) w
 means held (Some (task.Check a b settings)) before now f proofs name found w = check_says held (record { left = a; right = b; settings = settings }) before now f proofs name found w
 means held (Some (task.Graph a mode)) before now f proofs name found w = graph_means mode (held a) before now f proofs name found w
-means held (Some (task.Sim a s mode power)) before now f proofs name found w = sim_means mode (held a) (held s) power before now f proofs name found w
+means held (Some (task.Sim a s mode power reset)) before now f proofs name found w = sim_means mode (held a) (held s) power reset before now f proofs name found w
 means held (Some (task.Replay a b s mode)) before now f proofs name found w = replay_means mode (held a) (held b) (held s) before now f proofs name found w
 means held (Some (task.Gen seed regroup conflicts)) before now f proofs name found w = gen_means (record { seed = seed; regroup = regroup; conflicts = conflicts }) before now f proofs name found w
 
@@ -35,7 +35,7 @@ pub memory_means : (held : Held) (job : Option Task) (before now : Option (List 
 memory_means held None before now proofs = tt
 memory_means held (Some (task.Check a b settings)) before now proofs = silent_check held (record { left = a; right = b; settings = settings }) before now proofs
 memory_means held (Some (task.Graph a mode)) before now proofs = tt
-memory_means held (Some (task.Sim a s mode power)) before now proofs = tt
+memory_means held (Some (task.Sim a s mode power reset)) before now proofs = tt
 memory_means held (Some (task.Replay a b s mode)) before now proofs = tt
 memory_means held (Some (task.Gen seed regroup conflicts)) before now proofs = tt
 
@@ -43,7 +43,7 @@ pub fault_means : (held : Held) (job : Option Task) (before now : Option (List �
 fault_means held None before now proofs = tt
 fault_means held (Some (task.Check a b settings)) before now proofs = failed_check held (record { left = a; right = b; settings = settings }) before now proofs
 fault_means held (Some (task.Graph a mode)) before now proofs = tt
-fault_means held (Some (task.Sim a s mode power)) before now proofs = tt
+fault_means held (Some (task.Sim a s mode power reset)) before now proofs = tt
 fault_means held (Some (task.Replay a b s mode)) before now proofs = tt
 fault_means held (Some (task.Gen seed regroup conflicts)) before now proofs = tt
 
@@ -52,7 +52,7 @@ is_complete : (held : Held) (job : Option Task) (f : Finding) → IsFinding held
 is_complete held None f found = inl (ap status_of found)
 is_complete held (Some (task.Check a b settings)) f found = check_complete held (record { left = a; right = b; settings = settings }) f found
 is_complete held (Some (task.Graph a mode)) f found = graph_complete mode (held a) f found
-is_complete held (Some (task.Sim a s mode power)) f found = sim_complete mode (held a) (held s) power f found
+is_complete held (Some (task.Sim a s mode power reset)) f found = sim_complete mode (held a) (held s) power reset f found
 is_complete held (Some (task.Replay a b s mode)) f found = replay_complete mode (held a) (held b) (held s) f found
 is_complete held (Some (task.Gen seed regroup conflicts)) f found = gen_complete (record { seed = seed; regroup = regroup; conflicts = conflicts }) f found
 
@@ -61,7 +61,7 @@ pub memory_is_complete : (held : Held) (job : Option Task) → IsComplete held j
 memory_is_complete held None = inr refl
 memory_is_complete held (Some (task.Check a b settings)) = memory_check held (record { left = a; right = b; settings = settings })
 memory_is_complete held (Some (task.Graph a mode)) = λ can. tt
-memory_is_complete held (Some (task.Sim a s mode power)) = λ can. tt
+memory_is_complete held (Some (task.Sim a s mode power reset)) = λ can. tt
 memory_is_complete held (Some (task.Replay a b s mode)) = λ can. tt
 memory_is_complete held (Some (task.Gen seed regroup conflicts)) = tt
 

@@ -23,7 +23,7 @@ use Rattle.job_gen.specs.Found.{IsGenFound}
 abbrev pub IsFoundOfJob : Held → Task → Finding → Type 0
 IsFoundOfJob held (task.Check a b settings) f = IsCheckFound held (record { left = a; right = b; settings = settings }) f
 IsFoundOfJob held (task.Graph a mode) f = IsGraphFound mode (held a) f
-IsFoundOfJob held (task.Sim a s mode power) f = IsSimFound mode (held a) (held s) power f
+IsFoundOfJob held (task.Sim a s mode power reset) f = IsSimFound mode (held a) (held s) power reset f
 IsFoundOfJob held (task.Replay a b s mode) f = IsReplayFound mode (held a) (held b) (held s) f
 IsFoundOfJob held (task.Gen seed regroup conflicts) f = IsGenFound (record { seed = seed; regroup = regroup; conflicts = conflicts }) f
 

@@ -11,7 +11,7 @@ use Rattle.job_check.specs.Check.{Check, check_paths}
 abbrev pub paths_of : Task → List (List ℕ)
 paths_of (task.Check a b settings) = check_paths (record { left = a; right = b; settings = settings })
 paths_of (task.Graph a mode) = graph_paths a
-paths_of (task.Sim a s mode power) = sim_paths a s
+paths_of (task.Sim a s mode power reset) = sim_paths a s
 paths_of (task.Replay a b s mode) = replay_paths a b s
 paths_of (task.Gen seed regroup conflicts) = []
 
@@ -24,6 +24,6 @@ paths_in (Some job) = paths_of job
 abbrev pub HasFewConflicts : Task → Type 0
 HasFewConflicts (task.Check a b settings) = settings.conflicts ≤ MAX_CONFLICTS
 HasFewConflicts (task.Graph a mode) = Unit {0}
-HasFewConflicts (task.Sim a s mode power) = Unit {0}
+HasFewConflicts (task.Sim a s mode power reset) = Unit {0}
 HasFewConflicts (task.Replay a b s mode) = Unit {0}
 HasFewConflicts (task.Gen seed regroup conflicts) = conflicts ≤ MAX_CONFLICTS

@@ -18,7 +18,7 @@ abbrev pub Means : Held → Option Task → Option (List ℕ) → Option (List �
 Means held None before now proofs name = SaysNothing name
 Means held (Some (task.Check a b settings)) before now proofs name = CheckSays held (record { left = a; right = b; settings = settings }) before now proofs name
 Means held (Some (task.Graph a mode)) before now proofs name = GraphMeans mode (held a) before now proofs name
-Means held (Some (task.Sim a s mode power)) before now proofs name = SimMeans mode (held a) (held s) power before now proofs name
+Means held (Some (task.Sim a s mode power reset)) before now proofs name = SimMeans mode (held a) (held s) power reset before now proofs name
 Means held (Some (task.Replay a b s mode)) before now proofs name = ReplayMeans mode (held a) (held b) (held s) before now proofs name
 Means held (Some (task.Gen seed regroup conflicts)) before now proofs name = GenMeans (record { seed = seed; regroup = regroup; conflicts = conflicts }) before now proofs name
 
@@ -27,6 +27,6 @@ abbrev pub IsComplete : Held → Option Task → StatusName → Type 0
 IsComplete held None name = EndsWith status.Words name
 IsComplete held (Some (task.Check a b settings)) name = IsCheckComplete held (record { left = a; right = b; settings = settings }) name
 IsComplete held (Some (task.Graph a mode)) name = IsGraphComplete mode (held a) name
-IsComplete held (Some (task.Sim a s mode power)) name = IsSimComplete mode (held a) (held s) power name
+IsComplete held (Some (task.Sim a s mode power reset)) name = IsSimComplete mode (held a) (held s) power name
 IsComplete held (Some (task.Replay a b s mode)) name = IsReplayComplete mode (held a) (held b) (held s) name
 IsComplete held (Some (task.Gen seed regroup conflicts)) name = IsGenAnswer name

@@ -39,12 +39,19 @@ fn find<S: Shelf>(alloc: Global, task: &Task, shelf: &mut S) -> Result<Finding, 
             check(alloc, &comparison, shelf)
         }
         Task::Graph { a, mode } => tell_graph(alloc, a.as_str(), *mode, shelf),
-        Task::Sim { a, s, mode, power } => {
+        Task::Sim {
+            a,
+            s,
+            mode,
+            power,
+            reset,
+        } => {
             let simulation = Simulation {
                 circuit: a.as_str(),
                 stimulus: s.as_str(),
                 mode: *mode,
                 power: digits_of(power),
+                reset: *reset,
             };
             simulate(alloc, &simulation, shelf)
         }

@@ -8,14 +8,16 @@ use Rattle.sec_base.specs.Table.{AreDistinct}
 use Rattle.flat_net.specs.declared.parts.Port.{Port}
 use Rattle.circuit_theory.specs.declared.Mode.{Mode}
 use Rattle.circuit_theory.specs.Agree.{EnabledIn}
+use Rattle.circuit_theory.specs.Run.{IsResetRun}
 use Rattle.flat_net.specs.View.{NetView, circuit_of}
 use Rattle.flat_net.specs.Sound.{IsSound}
 use Rattle.flat_net.proofs.Nets.{some_at}
 use Rattle.cycle_sim.proofs.Runs.{run_exists, one_run}
-use Rattle.sim_report.specs.Checks.{power_of, first_misfit}
+use Rattle.cycle_sim.proofs.Starts.{from_initial_values}
+use Rattle.sim_report.specs.Checks.{word_bits, power_of, first_misfit}
 use Rattle.sim_report.specs.Report.{Shown, IsShown, sim_text, IsSimulated, IsSimReport}
 use Rattle.sim_report.specs.Cycles.{reordered}
-use Rattle.sim_report.proofs.Runs.{fed, simulated, no_misfit, length-power, has_columns}
+use Rattle.sim_report.proofs.Runs.{fed, simulated, no_misfit, length-word, length-power, has_columns}
 
 -- lists with one element at each place are one
 same_places : {X : Type 0} (xs ys : List X) → length xs ≡ length ys → ((i : ℕ) (x y : X) → slice_get xs i ≡ Some x → slice_get ys i ≡ Some y → x ≡ y) → xs ≡ ys
@@ -43,27 +45,36 @@ same_shown n enabled t run a b l r =
     (λ i x y at_x at_y. let w = slice_get_within a.marks i x at_x in let port = some_at n.outputs i (omega (arith, w, l.each)) in same_bits x y (l.marks i port.0 x port.1 at_x) (r.marks i port.0 y port.1 at_y)) in
     λ i. record { values = values i; marks = marks i }
 
-module _ (n : NetView) (sound : IsSound n) (names : List (List ℕ)) (rows : List (List Bool)) (distinct : AreDistinct names) (wide : All (λ row. length row ≡ length names) rows) (power : Option (List ℕ))
+module _ (n : NetView) (sound : IsSound n) (names : List (List ℕ)) (rows : List (List Bool)) (distinct : AreDistinct names) (wide : All (λ row. length row ≡ length names) rows) (power : Option (List ℕ)) (reset : Bool)
     (fits : first_misfit n names power ≡ None) where
-  pub simulation_exists : (run : ℕ → ℕ → Bool) × IsSimulated n names rows (power_of n power) run
+  pub simulation_exists : (run : ℕ → ℕ → Bool) × IsSimulated n names rows (power_of n power reset) run
   simulation_exists =
       let fitting = no_misfit n names power fits in
       let columns = has_columns n names fitting.complete in
       let width : All (λ row. length row ≡ length n.inputs) (map (reordered columns.0) rows) =
       All-map (λ (row : List Bool). length row ≡ length n.inputs) (reordered columns.0) rows (λ k d below. length-map columns.0 _ ∙ columns.1.each) in
-      let made = run_exists n sound (power_of n power) (map (reordered columns.0) rows) (length-power n power fitting.power_fits) width in
-      (made.0, simulated n names rows columns.0 columns.1 wide distinct (power_of n power) made.0 made.1)
+      let made = run_exists n sound (power_of n power reset) (map (reordered columns.0) rows) (length-power n power reset fitting.power_fits) width in
+      (made.0, simulated n names rows columns.0 columns.1 wide distinct (power_of n power reset) made.0 made.1)
 
-  pub one_simulation : (run other : ℕ → ℕ → Bool) → IsSimulated n names rows (power_of n power) run → IsSimulated n names rows (power_of n power) other →
+  pub one_simulation : (run other : ℕ → ℕ → Bool) → IsSimulated n names rows (power_of n power reset) run → IsSimulated n names rows (power_of n power reset) other →
       (t p : ℕ) → t < length rows → p < length n.drivers → other t p ≡ run t p
   one_simulation run other first second t p early within =
       let columns = has_columns n names (no_misfit n names power fits).complete in
-      one_run n sound (power_of n power) (map (reordered columns.0) rows) run other (fed n names rows columns.0 columns.1 wide (power_of n power) run first) (fed n names rows columns.0 columns.1 wide (power_of n power) other second)
+      one_run n sound (power_of n power reset) (map (reordered columns.0) rows) run other (fed n names rows columns.0 columns.1 wide (power_of n power reset) run first) (fed n names rows columns.0 columns.1 wide (power_of n power reset) other second)
       t p (subst (λ k. t < k) (sym (length-map rows (reordered columns.0))) early) within
 
-  pub one_report : (mode : Mode) (text other : List ℕ) → IsSimReport mode n names rows power text → IsSimReport mode n names rows power other → text ≡ other
+  pub one_report : (mode : Mode) (text other : List ℕ) → IsSimReport mode n names rows power reset text → IsSimReport mode n names rows power reset other → text ≡ other
   one_report mode text other first second =
       let run = simulation_exists in
       let cycles : first.cycles ≡ second.cycles =
       same_places first.cycles second.cycles (first.each ∙ sym second.each) (λ t a b at_a at_b. same_shown n (EnabledIn mode (circuit_of n)) t run.0 a b (first.shown run.0 run.1 t a at_a) (second.shown run.0 run.1 t b at_b)) in
       first.text_is ∙ (ap (sim_text (map (λ (p : Port). p.name) n.outputs)) cycles ∙ sym second.text_is)
+
+-- with `reset` it is a run from the initial values
+pub simulated_resets : (n : NetView) (names : List (List ℕ)) (rows : List (List Bool)) → All (λ row. length row ≡ length names) rows → (power : Option (List ℕ)) → first_misfit n names power ≡ None →
+    (run : ℕ → ℕ → Bool) → IsSimulated n names rows (power_of n power true) run → IsResetRun (circuit_of n) (length rows) run
+simulated_resets n names rows wide power fits run s =
+    let fitting = no_misfit n names power fits in
+    let columns = has_columns n names fitting.complete in
+    subst (λ (k : ℕ). IsResetRun (circuit_of n) k run) (length-map rows (reordered columns.0))
+    (from_initial_values n (map (reordered columns.0) rows) run (word_bits n power) (length-word n power fitting.power_fits) (fed n names rows columns.0 columns.1 wide (power_of n power true) run s))

@@ -16,9 +16,10 @@ use Rattle.flat_net.proofs.Places.{All-at}
 use Rattle.witness_report.specs.Text.{names_text}
 use Rattle.cycle_sim.specs.Runs.{IsRunFrom}
 use Rattle.cycle_sim.proofs.Lists.{map_at, map_is}
+use Rattle.cycle_sim.proofs.Starts.{length-reset_bits}
 use Rattle.sim_report.specs.declared.refusal.Misfit.{Misfit}
 use Rattle.sim_report.specs.declared.refusal.Misfit.TheVariants as misfit
-use Rattle.sim_report.specs.Checks.{is_power, power_of, named_misfit, first_misfit}
+use Rattle.sim_report.specs.Checks.{is_power, word_bits, power_of, named_misfit, first_misfit}
 use Rattle.name_tables.specs.Names.{input_names}
 use Rattle.sim_report.specs.Report.{cycle_lines, IsSimulated, IsSimReport}
 use Rattle.sim_report.specs.Cycles.{AreColumns, PutsCycles, reordered}
@@ -78,13 +79,13 @@ module _ (n : NetView) (names : List (List ℕ)) (rows : List (List Bool)) (colu
   columns_within t row below = λ k c here. column_within t (get_or rows t row) k (get_or columns k c) (slice_get-get_or rows t row below) (slice_get-get_or columns k c here)
 
   -- the lines behind the outputs' names are the report
-  pub report_is : (mode : Mode) (enabled : List Bool) → MarksEnabled mode n enabled → (power : Option (List ℕ)) (head text : List ℕ) → head ≡ codes "outputs" ++ names_text (map (λ (p : Port). p.name) n.outputs) ++ 10 ∷ [] →
-      PutsCycles n enabled (power_of n power) (map (reordered columns) rows) head text → IsSimReport mode n names rows power text
-  report_is mode enabled marks power head text begins put = record {
+  pub report_is : (mode : Mode) (enabled : List Bool) → MarksEnabled mode n enabled → (power : Option (List ℕ)) (reset : Bool) (head text : List ℕ) → head ≡ codes "outputs" ++ names_text (map (λ (p : Port). p.name) n.outputs) ++ 10 ∷ [] →
+      PutsCycles n enabled (power_of n power reset) (map (reordered columns) rows) head text → IsSimReport mode n names rows power reset text
+  report_is mode enabled marks power reset head text begins put = record {
     cycles = put.cycles;
     each = put.each ∙ length-map rows (reordered columns);
     text_is = put.text_is ∙ ap (λ (x : List ℕ). x ++ cycle_lines 0 put.cycles) begins;
-    shown = λ run s t shown at. shown_in_mode n mode enabled marks t run shown (put.shown run (fed (power_of n power) run s) t shown at);
+    shown = λ run s t shown at. shown_in_mode n mode enabled marks t run shown (put.shown run (fed (power_of n power reset) run s) t shown at);
   }
 
 -- neither is there
@@ -122,13 +123,17 @@ no_misfit n names power e =
     record { known = no_name misfit.Unknown _ first.0; complete = no_name misfit.Missing _ first.1; power_fits = no_power (is_power n power) last.1 }
 
 -- there is one bit for each latch
-pub length-power : (n : NetView) (power : Option (List ℕ)) → is_power n power ≡ true → length (power_of n power) ≡ length n.latches
-length-power n None e = length-replicate (length n.latches) false
-length-power n (Some word) e = length-map word (λ digit. digit == 49) ∙ eqb-true (length word) (length n.latches) (left _ _ e)
+pub length-word : (n : NetView) (power : Option (List ℕ)) → is_power n power ≡ true → length (word_bits n power) ≡ length n.latches
+length-word n None e = length-replicate (length n.latches) false
+length-word n (Some word) e = length-map word (λ digit. digit == 49) ∙ eqb-true (length word) (length n.latches) (left _ _ e)
   where
     left : (a b : Bool) → (a && b) ≡ true → a ≡ true
     left true b h = refl
     left false b h = h
+
+pub length-power : (n : NetView) (power : Option (List ℕ)) (reset : Bool) → is_power n power ≡ true → length (power_of n power reset) ≡ length n.latches
+length-power n power true e = length-reset_bits n.latches (word_bits n power) (length-word n power e)
+length-power n power false e = length-word n power e
 
 -- the columns of these inputs
 columns_of : (names : List (List ℕ)) (ports : List Port) → ((port : Port) → Contains ports port → Contains names port.name) →

@@ -4,6 +4,7 @@ use Rattle.std.specs.List.{list_all}
 use Rattle.circuit_theory.specs.Interface.{first_missing, ◌or_else◌}
 use Rattle.flat_net.specs.View.{NetView}
 use Rattle.name_tables.specs.Names.{input_names}
+use Rattle.cycle_sim.specs.Runs.{reset_bits}
 use Rattle.sim_report.specs.declared.refusal.Misfit.{Misfit}
 use Rattle.sim_report.specs.declared.refusal.Misfit.TheVariants as misfit
 
@@ -16,10 +17,19 @@ abbrev pub is_power : NetView → Option (List ℕ) → Bool
 is_power n None = true
 is_power n (Some word) = is_power_word n word
 
--- the latches' bits in cycle 0: those of the word, or 0
-abbrev pub power_of : NetView → Option (List ℕ) → List Bool
-power_of n None = replicate (length n.latches) false
-power_of n (Some word) = map (λ digit. digit == 49) word
+-- the latches' bits of the word, or 0
+abbrev pub word_bits : NetView → Option (List ℕ) → List Bool
+word_bits n None = replicate (length n.latches) false
+word_bits n (Some word) = map (λ digit. digit == 49) word
+
+-- the latches' bits in cycle 0 from these: with `reset` a latch has its initial value 0 or 1, if it has one
+abbrev pub start_bits : NetView → Bool → List Bool → List Bool
+start_bits n true bits = reset_bits n.latches bits
+start_bits n false bits = bits
+
+-- the latches' bits in cycle 0: those of the word, or 0; with `reset` an initial value 0 or 1 goes before them
+abbrev pub power_of : NetView → Option (List ℕ) → Bool → List Bool
+power_of n power reset = start_bits n reset (word_bits n power)
 
 -- a misfit by its name, if there is one
 abbrev pub named_misfit : (List ℕ → Misfit) → Option (List ℕ) → Option Misfit

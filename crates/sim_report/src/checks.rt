@@ -2,7 +2,7 @@
 
 ghost use Rattle.std.specs.Prelude.{◌≡◌, ◌==◌, ◌||◌, length, map, option_map, IfOk};
 ghost use Rattle.std.specs.List.{list_all};
-ghost use Rattle.sim_report.specs.Checks.{is_power_word, is_power, power_of, first_misfit};
+ghost use Rattle.sim_report.specs.Checks.{is_power_word, is_power, word_bits, first_misfit};
 
 use crate::refusal::Misfit;
 use flat_net::Net;
@@ -42,9 +42,9 @@ fn is_power(net: &Net, power: Option<&[u8]>) -> bool
     }
 }
 
-/// The bits of the latches in cycle 0: those of the power word, or 0.
-pub(crate) fn power_of(alloc: Global, net: &Net, power: Option<&[u8]>) -> Result<Bits, NoMemory>
-    ensures { IfOk result (λ bits. bits ≡ power_of net.now (option_map (λ word. word.now) power.entry)) }
+/// One bit for each latch: those of the power word, or 0.
+pub(crate) fn word_bits(alloc: Global, net: &Net, power: Option<&[u8]>) -> Result<Bits, NoMemory>
+    ensures { IfOk result (λ bits. bits ≡ word_bits net.now (option_map (λ word. word.now) power.entry)) }
 {
     match power {
         Some(word) => bits_of(alloc, word),

@@ -2,6 +2,7 @@
 
 ghost use Rattle.std.specs.Prelude.{◌≡◌, ◌+◌, ◌^◌, ◌<◌, ℕ, Bool, List, [], ◌∷◌, ◌++◌, length, map, All, IfOk, OnOk};
 ghost use Rattle.cycle_sim.specs.View.{HasMarkedRun};
+ghost use Rattle.sim_report.specs.Checks.{start_bits};
 ghost use Rattle.sim_report.specs.Cycles.{AreLatest, AreMarks, PutsLatest, PutsCycles, reordered};
 
 use crate::columns::reorder;
@@ -67,29 +68,58 @@ fn put_next(
     )
 }
 
+/// What the latches of a net power up with.
+#[derive(Drop)]
+pub(crate) struct PowerUp {
+    /// One bit for each latch.
+    pub(crate) bits: Bits,
+    /// Whether a latch has its initial value 0 or 1 in place of its bit, if it has one.
+    pub(crate) reset: bool,
+}
+
+/// The net before its first cycle, where the latches whose bits are set count as enabled.
+fn powered_up<'a>(
+    alloc: Global,
+    net: &'a Net,
+    power: PowerUp,
+    enabled: &Bits,
+) -> Result<MarkedSim<'a>, NoMemory>
+    requires power { length power.bits ≡ length net.now.latches }
+    requires enabled { length enabled.now ≡ length net.now.latches }
+    ensures net { IfOk result (λ sim. sim.sim.net ≡ net.now) }
+    ensures enabled { IfOk result (λ sim. sim.enabled ≡ enabled.now) }
+    ensures cycles { IfOk result (λ sim. sim.sim.cycles ≡ 0) }
+    ensures run { IfOk result (λ sim. HasMarkedRun sim (start_bits net.now power.reset power.bits) []) }
+{
+    if power.reset {
+        MarkedSim::reset(alloc, net, &power.bits, enabled)
+    } else {
+        MarkedSim::new(alloc, net, &Power::Given(power.bits), enabled)
+    }
+}
+
 /// Puts a line for each cycle of the net's run from the power-up, where the bits of its inputs stand in these columns of
 /// the rows, and the latches whose bits are set count as enabled. A net with 2^32 outputs or more answers `NoMemory`.
 pub(crate) fn put_cycles(
     alloc: Global,
     text: &mut Vec<u8>,
     net: &Net,
-    power: Bits,
+    power: PowerUp,
     enabled: &Bits,
     columns: &[u32],
     rows: &[Bits],
 ) -> Result<(), NoMemory>
-    requires power { length power ≡ length net.now.latches }
+    requires power { length power.bits ≡ length net.now.latches }
     requires enabled { length enabled.now ≡ length net.now.latches }
     requires columns { length columns.now ≡ length net.now.inputs }
     requires within { All (λ row. All (λ k. k < length row) columns.now) rows.now }
     requires few { length rows.now < 2 ^ 32 }
-    ensures { OnOk result (PutsCycles net.now enabled.now power (map (reordered columns.now) rows.now) text.old.items text.new.items) }
+    ensures { OnOk result (PutsCycles net.now enabled.now (start_bits net.now power.reset power.bits) (map (reordered columns.now) rows.now) text.old.items text.new.items) }
 {
     let Ok(outputs) = u32::try_from(net.outputs().len()) else {
         return Err(NoMemory);
     };
-    let power = Power::Given(power);
-    let mut sim = MarkedSim::new(alloc, net, &power, enabled)?;
+    let mut sim = powered_up(alloc, net, power, enabled)?;
     let mut bits = vec![in alloc; false; columns.len()]?;
     for row in rows {
         reorder(row.as_slice(), columns, &mut bits);

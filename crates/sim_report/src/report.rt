@@ -6,9 +6,9 @@ ghost use Rattle.latch_cone.specs.Cones.{MarksEnabled};
 ghost use Rattle.sim_report.specs.Checks.{first_misfit};
 ghost use Rattle.sim_report.specs.Report.{IsSimReport};
 
-use crate::checks::{first_misfit, power_of};
+use crate::checks::{first_misfit, word_bits};
 use crate::columns::columns_of;
-use crate::cycles::put_cycles;
+use crate::cycles::{PowerUp, put_cycles};
 use crate::refusal::Misfit;
 use crate::text::put_ports;
 use flat_net::Net;
@@ -33,22 +33,24 @@ pub fn misfit_of(
 
 /// The report of a net's run over a stimulus that fits it: a line `outputs` with their names, then for each cycle a line with the
 /// values of the outputs and their marks, each line ended by a line feed. The latches power up with the digits of the power word,
-/// in the net's order of latches, and with 0 where there is none. The latches whose bits are set count as enabled; the marks are
-/// those of each mode whose enabled latches are exactly these. A net with 2^32 outputs or more answers want of memory.
+/// in the net's order of latches, and with 0 where there is none; with `reset` those with the initial value 0 or 1 power up with
+/// that. The latches whose bits are set count as enabled; the marks are those of each mode whose enabled latches are exactly these.
+/// A net with 2^32 outputs or more answers want of memory.
 pub fn sim_report(
     alloc: Global,
     net: &Net,
     stimulus: &Stimulus,
     power: Option<&[u8]>,
+    reset: bool,
     enabled: &Bits,
 ) -> Result<Text, NoMemory>
     requires few { length stimulus.now.rows < 2 ^ 32 }
     requires enabled { length enabled.now ≡ length net.now.latches }
     requires fits { first_misfit net.now stimulus.now.names (option_map (λ word. word.now) power) ≡ None }
-    ensures { (mode : Mode) → MarksEnabled mode net.now enabled.now → IfOk result (λ text. IsSimReport mode net.now stimulus.now.names stimulus.now.rows (option_map (λ word. word.now) power.entry) text) }
+    ensures { (mode : Mode) → MarksEnabled mode net.now enabled.now → IfOk result (λ text. IsSimReport mode net.now stimulus.now.names stimulus.now.rows (option_map (λ word. word.now) power.entry) reset text) }
 {
     let names = table_of_names(alloc, &stimulus.names)?;
-    fitting_report(alloc, net, stimulus, &names, power, enabled)
+    fitting_report(alloc, net, stimulus, &names, power, reset, enabled)
 }
 
 /// The report. The table is that of the stimulus' names.
@@ -58,16 +60,17 @@ fn fitting_report(
     stimulus: &Stimulus,
     names: &NameTable,
     power: Option<&[u8]>,
+    reset: bool,
     enabled: &Bits,
 ) -> Result<Text, NoMemory>
     requires few { length stimulus.now.rows < 2 ^ 32 }
     requires table { names.now ≡ stimulus.now.names }
     requires enabled { length enabled.now ≡ length net.now.latches }
     requires fits { first_misfit net.now stimulus.now.names (option_map (λ word. word.now) power) ≡ None }
-    ensures { (mode : Mode) → MarksEnabled mode net.now enabled.now → IfOk result (λ text. IsSimReport mode net.now stimulus.now.names stimulus.now.rows (option_map (λ word. word.now) power.entry) text) }
+    ensures { (mode : Mode) → MarksEnabled mode net.now enabled.now → IfOk result (λ text. IsSimReport mode net.now stimulus.now.names stimulus.now.rows (option_map (λ word. word.now) power.entry) reset text) }
 {
     let columns = columns_of(alloc, net, names)?;
-    let bits = power_of(alloc, net, power)?;
+    let bits = word_bits(alloc, net, power)?;
     let mut text = Vec::new(alloc);
     put(&mut text, b"outputs")?;
     put_ports(&mut text, net.outputs())?;
@@ -76,7 +79,7 @@ fn fitting_report(
         alloc,
         &mut text,
         net,
-        bits,
+        PowerUp { bits, reset },
         enabled,
         columns.as_slice(),
         stimulus.rows.as_slice(),

@@ -5,6 +5,7 @@ use Rattle.std.proofs.lemmas.List.{with_items_is, map-append, length-map}
 use Rattle.sec_base.proofs.TableLemmas.{take-push}
 use Rattle.cycle_sim.specs.View.{HasMarkedRun}
 use Rattle.cycle_sim.proofs.Lists.{item_at}
+use Rattle.sim_report.specs.Checks.{start_bits}
 use Rattle.sim_report.specs.Cycles.{reordered}
 use Rattle.sim_report.proofs.Lines.{IsAt, at_more}
 use Rattle.sim_report.proofs.cycles.put_cycles.Goals as goal
@@ -12,6 +13,7 @@ use Rattle.sim_report.proofs.cycles.put_cycles.Goals as goal
 pub loop-row-preserved : goal.loop-row-preserved
 loop-row-preserved c =
     let n = c.args.net.now in
+    let power = start_bits n c.args.power.reset c.args.power.bits in
     let columns = c.args.columns.now in
     let rows = c.args.rows.now in
     let i = c.loop-row.row-index in
@@ -23,9 +25,9 @@ loop-row-preserved c =
     let fed : c.deref.result.now ≡ reordered columns row = c.deref.ensures.value ∙ (written ∙ bits) in
     let more : map (reordered columns) (take i rows) ++ reordered columns row ∷ [] ≡ map (reordered columns) (take (i + 1) rows) =
     sym (map-append (reordered columns) (take i rows) (row ∷ [])) ∙ ap (map (reordered columns)) (take-push rows i row at) in
-    let next = at_more n c.args.enabled.now c.args.power (map (reordered columns) (take i rows)) (reordered columns row) c.loop-row.sim c.put_next.new.sim c.args.text.now.items c.loop-row.text.items c.put_next.new.text.items
+    let next = at_more n c.args.enabled.now power (map (reordered columns) (take i rows)) (reordered columns row) c.loop-row.sim c.put_next.new.sim c.args.text.now.items c.loop-row.text.items c.put_next.new.text.items
     c.loop-row.invariant.0 c.put_next.ensures.net c.put_next.ensures.enabled
-    (λ power before h. subst (λ (r : List Bool). HasMarkedRun c.put_next.new.sim power (before ++ r ∷ [])) fed (c.put_next.ensures.run power before h)) c.in_ok-put_next.ensures.put in (
-      subst (λ (done : List (List Bool)). IsAt n c.args.enabled.now c.args.power done c.put_next.new.sim c.args.text.now.items c.put_next.new.text.items) more next,
+    (λ from before h. subst (λ (r : List Bool). HasMarkedRun c.put_next.new.sim from (before ++ r ∷ [])) fed (c.put_next.ensures.run from before h)) c.in_ok-put_next.ensures.put in (
+      subst (λ (done : List (List Bool)). IsAt n c.args.enabled.now power done c.put_next.new.sim c.args.text.now.items c.put_next.new.text.items) more next,
       ap length (written ∙ bits) ∙ length-map columns _,
     )

@@ -3,7 +3,7 @@
 ghost use Rattle.std.specs.Prelude.{◌≡◌, false, IfOk};
 ghost use Rattle.clap.specs.Words.{Shape, rule_of, app_of, with_rule, with_subcommand};
 ghost use Rattle.clap.specs.declared.builder.command.Command.TheViews.{out-Command};
-ghost use Rattle.command_line.specs.Command.{place, option, option_with, flag, conflicts, number, check_app, graph_app, sim_app, replay_app, gen_app, top_app, sec_app};
+ghost use Rattle.command_words.specs.Command.{place, option, option_with, flag, conflicts, number, check_app, graph_app, sim_app, replay_app, gen_app, top_app, sec_app};
 
 use clap::builder::ValueParser;
 use clap::{Arg, ArgAction, Command};
@@ -71,7 +71,8 @@ fn check_command<'a>(alloc: Global) -> Result<Command<'a>, AllocError>
     let command = with_arg(command, place(alloc, "b"))?;
     let command = with_arg(command, option_with(alloc, "mode", "plain"))?;
     let command = with_arg(command, flag(alloc, "expose"))?;
-    with_arg(command, conflicts(alloc))
+    let command = with_arg(command, conflicts(alloc))?;
+    with_arg(command, flag(alloc, "reset"))
 }
 
 fn graph_command<'a>(alloc: Global) -> Result<Command<'a>, AllocError>
@@ -89,7 +90,8 @@ fn sim_command<'a>(alloc: Global) -> Result<Command<'a>, AllocError>
     let command = with_arg(command, place(alloc, "a"))?;
     let command = with_arg(command, place(alloc, "s"))?;
     let command = with_arg(command, option_with(alloc, "mode", "plain"))?;
-    with_arg(command, option(alloc, "power"))
+    let command = with_arg(command, option(alloc, "power"))?;
+    with_arg(command, flag(alloc, "reset"))
 }
 
 fn replay_command<'a>(alloc: Global) -> Result<Command<'a>, AllocError>
@@ -131,7 +133,7 @@ fn with_command<'a>(
 }
 
 /// The command `sec` with its subcommands.
-pub(crate) fn sec_command<'a>(alloc: Global) -> Result<Command<'a>, AllocError>
+pub fn sec_command<'a>(alloc: Global) -> Result<Command<'a>, AllocError>
     ensures { IfOk result (λ c. app_of c ≡ sec_app) }
 {
     let command = with_command(top_command(alloc), check_command(alloc))?;

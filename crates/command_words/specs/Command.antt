@@ -41,13 +41,14 @@ mode = option_with (codes "mode") (codes "plain")
 
 abbrev pub check_app : App
 check_app =
-    with_rule (with_rule (with_rule (with_rule (with_rule (new_app (codes "check")) (place (codes "a"))) (place (codes "b"))) mode) (flag (codes "expose"))) conflicts
+    with_rule (with_rule (with_rule (with_rule (with_rule (with_rule (new_app (codes "check")) (place (codes "a"))) (place (codes "b"))) mode) (flag (codes "expose"))) conflicts)
+    (flag (codes "reset"))
 
 abbrev pub graph_app : App
 graph_app = with_rule (with_rule (new_app (codes "graph")) (place (codes "a"))) mode
 
 abbrev pub sim_app : App
-sim_app = with_rule (with_rule (with_rule (with_rule (new_app (codes "sim")) (place (codes "a"))) (place (codes "s"))) mode) (option (codes "power"))
+sim_app = with_rule (with_rule (with_rule (with_rule (with_rule (new_app (codes "sim")) (place (codes "a"))) (place (codes "s"))) mode) (option (codes "power"))) (flag (codes "reset"))
 
 abbrev pub replay_app : App
 replay_app = with_rule (with_rule (with_rule (with_rule (new_app (codes "replay")) (place (codes "a"))) (place (codes "b"))) (place (codes "s"))) mode

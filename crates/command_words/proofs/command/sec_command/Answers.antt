@@ -2,8 +2,8 @@
 use Rattle.std.proofs.Common.{ap, ◌∙◌}
 use Rattle.std.proofs.lemmas.Result.{IfOk-weaker}
 use Rattle.clap.specs.Words.{App, with_subcommand}
-use Rattle.command_line.specs.Command.{check_app, graph_app, sim_app, replay_app, gen_app}
-use Rattle.command_line.proofs.command.sec_command.Goals as goal
+use Rattle.command_words.specs.Command.{check_app, graph_app, sim_app, replay_app, gen_app}
+use Rattle.command_words.proofs.command.sec_command.Goals as goal
 
 pub returns : goal.returns
 returns c =
