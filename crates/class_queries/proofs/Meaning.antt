@@ -27,17 +27,21 @@ use Rattle.class_queries.proofs.BothCares.{left_enable_care, right_enable_care, 
 use Rattle.class_queries.proofs.Frames.{assignment_of, takes_frame, frame_by, frame_takes}
 
 -- each input has a number
-numbered : (e : EventCircuitView) → IsEventCircuit e → length e.order ≡ length (circuit_of e.net).inputs
+pub numbered : (e : EventCircuitView) → IsEventCircuit e → length e.order ≡ length (circuit_of e.net).inputs
 numbered e is = is.each_order ∙ sym (length-map named e.net.inputs)
 
 pub lits_are_functions : EnableLitsAreFunctions
 lits_are_functions a b w kept = (
   λ j l enable care at on lit cared. record {
+    enable_within = lit.within;
+    care_within = cared.within;
     enable_is = λ bits x fits. left_enable (circuit_of a.net) (circuit_of b.net) (length a.net.drivers) (length b.net.drivers) (sound_is_net a.net kept.left_sound) (sound_is_net b.net kept.right_sound) a.order b.order (numbered a kept.left) (class_map a b) bits l.out.0 [] (value w.graph x enable)
         (enable_value a w [] j l enable kept.left_sound kept.events at on lit bits x fits);
     care_is = λ bits x fits. through ((care_value a w care kept.left_sound kept.left kept.events bits x fits).1 j l at on cared) (left_enable_care (circuit_of a.net) (circuit_of b.net) (length a.net.drivers) (length b.net.drivers) (sound_is_net a.net kept.left_sound) (sound_is_net b.net kept.right_sound) a.order b.order (numbered a kept.left) (class_map a b) l.out.0 bits);
   },
   λ j l enable care at on lit cared. record {
+    enable_within = lit.within;
+    care_within = cared.within;
     enable_is = λ bits x fits. right_enable (circuit_of a.net) (circuit_of b.net) (length a.net.drivers) (length b.net.drivers) (sound_is_net a.net kept.left_sound) (sound_is_net b.net kept.right_sound) a.order b.order (numbered a kept.left) (class_map a b) bits l.out.0 [] (value w.graph x enable)
         (enable_value b w [] j l enable kept.right_sound kept.events at on lit bits x fits);
     care_is = λ bits x fits. through ((care_value b w care kept.right_sound kept.right kept.events bits x fits).1 j l at on cared) (right_enable_care (circuit_of a.net) (circuit_of b.net) (length a.net.drivers) (length b.net.drivers) (sound_is_net a.net kept.left_sound) (sound_is_net b.net kept.right_sound) a.order b.order (numbered a kept.left) (class_map a b) l.out.0 bits);

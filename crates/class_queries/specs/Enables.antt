@@ -1,5 +1,5 @@
 -- What literals say of the load enables of two circuits side by side.
-use Rattle.std.specs.Prelude.{◌≡◌, ◌↔◌, ℕ, Bool, true, List, [], ◌∷◌, slice_get, Some}
+use Rattle.std.specs.Prelude.{◌≡◌, ◌↔◌, ℕ, ◌*◌, ◌<◌, Bool, true, List, length}
 use Rattle.circuit_theory.specs.Joined.{Either, Left, Right}
 use Rattle.event_theory.specs.Frame.{EventSide}
 use Rattle.event_theory.specs.Classes.{EnableCare, EnableAtRoot}
@@ -23,6 +23,8 @@ both_of a b = side_by_side (circuit_of a.net) (circuit_of b.net) a.order b.order
 
 -- in each frame the first literal has the value of the latch's enable at the root, and the second is 1 exactly where the frame has care for it
 pub record IsEnableFunction {P : Type 0} (s : EventSide P) (w : EventGraphView) (u : P) (enable care : ℕ) : Type 0 where
+  pub enable_within : enable < 2 * length w.graph
+  pub care_within : care < 2 * length w.graph
   pub enable_is : (bits : ℕ → List ℕ → Bool) (a : ℕ → Bool) → TakesFrame w bits a → EnableAtRoot s bits u (value w.graph a enable)
   pub care_is : (bits : ℕ → List ℕ → Bool) (a : ℕ → Bool) → TakesFrame w bits a → (value w.graph a care ≡ true) ↔ EnableCare s bits u
 

@@ -5,13 +5,14 @@ use Rattle.circuit_theory.specs.Depth.{LatchesHaveDepths}
 use Rattle.circuit_theory.specs.Joined.{Either, Left, Right, joined}
 use Rattle.circuit_theory.specs.Net.{IsNet}
 use Rattle.circuit_theory.specs.Run.{IsEnabled}
+use Rattle.event_theory.specs.Frame.{EventSide}
 use Rattle.event_theory.specs.Classes.{EnablesEqual, EnablesDiffer, AlwaysEnabled, SometimesOff}
 use Rattle.event_theory.specs.EventFits.{side_by_side}
 use Rattle.event_theory.specs.EventTotals.{IsMapSoFar}
 use Rattle.event_laws.specs.ClassSteps.{HaveTwinEnables}
 use Rattle.flat_net.specs.declared.parts.LatchAt.{LatchAt}
 use Rattle.flat_net.specs.Sound.{IsSound}
-use Rattle.event_nodes.specs.Nodes.{EventGraphView, IsEventGraph}
+use Rattle.event_nodes.specs.Nodes.{EventGraphView, IsEventGraph, GrowsEvents}
 use Rattle.event_nodes.specs.View.{EventCircuitView, IsEventCircuit, Enabled}
 use Rattle.edbf_unfold.specs.Care.{IsCareLit}
 use Rattle.edbf_unfold.specs.Known.{IsEnableLit}
@@ -60,3 +61,7 @@ abbrev pub FunctionsStay : Type 0
 FunctionsStay = (a b : Circuit ℕ) (m n : ℕ) (left right : List ℕ) (f g : Either ℕ ℕ → ℕ) (taken rest : List (Either ℕ ℕ)) (v : Either ℕ ℕ) → IsNet a m → IsNet b n → LatchesHaveDepths (joined a b) (IsEnabled (joined a b)) →
     IsMapSoFar (side_by_side a b left right f) taken (v ∷ rest) → ((u : Either ℕ ℕ) → u ≢ v → f u ≡ g u) →
     (w : EventGraphView) (u : Either ℕ ℕ) (enable care : ℕ) → Contains (taken ++ v ∷ []) u → IsEnableFunction (side_by_side a b left right f) w u enable care → IsEnableFunction (side_by_side a b left right g) w u enable care
+
+-- It stays so while the event graph grows.
+abbrev pub FunctionsGrow : Type 0
+FunctionsGrow = (s : EventSide (Either ℕ ℕ)) (w x : EventGraphView) (u : Either ℕ ℕ) (enable care : ℕ) → IsEventGraph w → GrowsEvents w x → IsEnableFunction s w u enable care → IsEnableFunction s x u enable care

@@ -1,6 +1,6 @@
 //! The laws. None of these functions does anything: each contract is a law, by the definitions that the contracts of the working calls cite.
 
-ghost use Rattle.class_queries.specs.Laws.{EnableLitsAreFunctions, EqualLitsAreTwins, SameIsEqual, DifferenceTellsApart, SameIsAlways, DifferenceIsOff, FunctionsStay};
+ghost use Rattle.class_queries.specs.Laws.{EnableLitsAreFunctions, EqualLitsAreTwins, SameIsEqual, DifferenceTellsApart, SameIsAlways, DifferenceIsOff, FunctionsStay, FunctionsGrow};
 
 /// The literals of a latch's enable and of its care have in each frame their meaning where both circuits stand side by side.
 pub fn enable_lits_are_functions()
@@ -37,4 +37,9 @@ pub fn difference_is_off()
 /// they say of the enable of that latch itself.
 pub fn functions_stay()
     ensures { FunctionsStay }
+{}
+
+/// What literals say of an enable stays so while the event graph grows.
+pub fn functions_grow()
+    ensures { FunctionsGrow }
 {}

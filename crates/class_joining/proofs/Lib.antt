@@ -1,0 +1,4 @@
+pub mod Entries
+pub mod Classes
+pub mod Giving
+pub mod Tables
