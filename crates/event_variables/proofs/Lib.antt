@@ -1,0 +1,3 @@
+pub mod MergeLists
+pub mod Paths
+pub mod Reading
