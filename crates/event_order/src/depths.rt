@@ -1,8 +1,10 @@
 //! The depths of enabled latches.
 
-ghost use Rattle.std.specs.Prelude.{◌≡◌, ◌<◌, length, slice_get, Some, IfOk};
+ghost use Rattle.std.specs.Prelude.{◌≡◌, ◌<◌, true, length, slice_get, Some, IfOk};
 ghost use Rattle.std.specs.List.{AllZip};
 ghost use Rattle.circuit_theory.specs.declared.Mode.TheVariants.{Event};
+ghost use Rattle.circuit_theory.specs.Depth.{LatchesHaveDepths};
+ghost use Rattle.circuit_theory.specs.Run.{IsEnabled};
 ghost use Rattle.flat_net.specs.declared.parts.LatchAt.{LatchAt};
 ghost use Rattle.flat_net.specs.View.{circuit_of};
 ghost use Rattle.latch_graph.specs.Graph.{IsGraphIn};
@@ -13,6 +15,20 @@ use flat_net::Net;
 use latch_graph::LatchGraph;
 use sec_base::{Bits, NoMemory};
 use std::alloc::Global;
+
+/// Whether each latch has a depth: in the graph, which leaves out the self-edges of enabled latches, no latch leads back to a cycle.
+pub fn have_depths(net: &Net, graph: &LatchGraph) -> bool
+    requires { IsGraphIn Event net.now graph.now }
+    ensures { result ≡ true → LatchesHaveDepths (circuit_of net.now) (IsEnabled (circuit_of net.now)) }
+{
+    net.keeps();
+    for latch in net.latches() {
+        let Some(_) = graph.depth(latch.out) else {
+            return false;
+        };
+    }
+    true
+}
 
 /// For each latch its depth, if it is an enabled one.
 pub(crate) fn enabled_depths(

@@ -6,4 +6,5 @@ mod depths;
 mod tags;
 mod turns;
 
+pub use depths::have_depths;
 pub use tags::latch_order;
