@@ -1,15 +1,18 @@
 -- What a graph tells of the depth of an enabled latch.
-use Rattle.std.proofs.Common.{◌≡◌, ℕ, ◌+◌, ◌<◌, ◌≤◌, true, false, Bool, List, length, slice_get, get_or, Option, Some, None, IfSome, refl, sym, subst, arith, inl, inr}
+use Rattle.std.proofs.Common.{◌≡◌, ℕ, ◌+◌, ◌<◌, ◌≤◌, true, false, Bool, List, [], ◌∷◌, ◌++◌, length, take, slice_get, get_or, Option, Some, None, IfSome, refl, sym, ◌∙◌, ap, subst, arith, inl, inr}
 use Rattle.std.specs.Prelude.{◌⊎◌, IfNone}
+use Rattle.std.specs.List.{AllZip}
 use Rattle.std.proofs.lemmas.Bool.{cases_lt}
+use Rattle.std.proofs.lemmas.List.{take_more}
 use Rattle.std.proofs.lemmas.Option.{get_or_from_slice_get, slice_get_within}
+use Rattle.circuit_theory.proofs.Lists.{zip_push}
 use Rattle.circuit_theory.specs.declared.Mode.TheVariants.{Event}
 use Rattle.circuit_theory.specs.Circuit.{Latch as latch_equation}
 use Rattle.circuit_theory.specs.Depth.{IsDepth, HasNoDepth, LatchesHaveDepths}
 use Rattle.circuit_theory.specs.Run.{IsEnabled}
 use Rattle.flat_net.specs.declared.parts.LatchAt.{LatchAt}
 use Rattle.flat_net.specs.View.{NetView, circuit_of}
-use Rattle.flat_net.proofs.Nets.{OfGate, OfLatch, equation_from, latch_stands}
+use Rattle.flat_net.proofs.Nets.{OfGate, OfLatch, equation_from, latch_stands, some_at}
 use Rattle.flat_net.proofs.Places.{one_at}
 use Rattle.latch_graph.specs.Graph.{GraphView, IsGraphOf, IsGraphIn, SkippedBy}
 use Rattle.latch_graph.proofs.Skipping.{same_depth, no_depth_less, mode_as_skips, skips_as_mode}
@@ -69,3 +72,10 @@ module _ (n : NetView) (bits : List Bool) (marked : IsMarkedNet n bits) (j : ℕ
         let endless : HasNoDepth (circuit_of n) (IsEnabled (circuit_of n)) l.out.0 = no_depth_less (circuit_of n) (SkippedBy g) (IsEnabled (circuit_of n)) (mode_as_skips Event n g graph) l.out.0 (none n graph.graph) in
         let low : own.0 + 1 ≤ own.0 = own.1.greatest (own.0 + 1) (endless (own.0 + 1)) in
         λ on. omega (arith, low)
+
+-- one latch's depth more
+pub depths_more : (R : LatchAt → Option ℕ → Type 0) (ls : List LatchAt) (ds new : List (Option ℕ)) (j : ℕ) (d : Option ℕ) → j < length ls → AllZip R (take j ls) ds → ((l : LatchAt) → slice_get ls j ≡ Some l → R l d) → new ≡ ds ++ d ∷ [] → AllZip R (take (j + 1) ls) new
+depths_more R ls ds new j d within so is pushed =
+    let l = some_at ls j within in
+    let more : take (j + 1) ls ≡ take j ls ++ l.0 ∷ [] = take_more ls j l.0 within ∙ ap (λ (x : LatchAt). take j ls ++ x ∷ []) (get_or_from_slice_get ls j l.0 l.0 l.1) in
+    subst (λ (xs : List LatchAt). AllZip R xs new) (sym more) (subst (AllZip R (take j ls ++ l.0 ∷ [])) (sym pushed) (zip_push R (take j ls) ds l.0 d so (is l.0 l.1)))
