@@ -1,3 +1,4 @@
+pub mod Bounds
 pub mod Entries
 pub mod Classes
 pub mod Giving

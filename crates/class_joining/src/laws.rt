@@ -1,7 +1,22 @@
 //! How a class map goes on. None of these functions does anything: each contract is a law, by the definitions that the contracts of the
 //! working calls cite.
 
-ghost use Rattle.class_joining.specs.Laws.{ClassIsGiven, FoundClassFits, TableGoesOn, TableGrows};
+ghost use Rattle.class_joining.specs.Laws.{BothHaveDepths, ClassMapBegins, ClassMapEnds, ClassIsGiven, FoundClassFits, TableGoesOn, TableGrows};
+
+/// Side by side the latches of two circuits have depths where those of each have.
+pub fn both_have_depths()
+    ensures { BothHaveDepths }
+{}
+
+/// A class map begins where all latches are of class 0.
+pub fn class_map_begins()
+    ensures { ClassMapBegins }
+{}
+
+/// It is the class map where all enabled latches are taken.
+pub fn class_map_ends()
+    ensures { ClassMapEnds }
+{}
 
 /// Where the next latch is given its first fit, the class map goes on, and what is known of the enables of the latches that were taken
 /// stays.

@@ -3,6 +3,8 @@
 #![tactic(auto)]
 
 pub mod laws;
+mod order;
 mod table;
 
+pub use order::latches_in_order;
 pub use table::EnableTable;

@@ -72,14 +72,11 @@ module _ (a b : EventCircuitView) (w : EventGraphView) (kept : AreKept a b w) wh
 
   pub twins : (u v : Either ℕ ℕ) (enable care : ℕ) → IsEnableFunction s w u enable care → IsEnableFunction s w v enable care → HaveTwinEnables s v u
   twins u v enable care f g = record {
-    care_to = λ bits c. (f.care_is bits (x bits) (takes_frame w bits)).0 ((g.care_is bits (x bits) (takes_frame w bits)).1 c);
-    care_back = λ bits c. (g.care_is bits (x bits) (takes_frame w bits)).0 ((f.care_is bits (x bits) (takes_frame w bits)).1 c);
-    to = λ bits y c at. subst (EnableAtRoot s bits u) (one bits v _ y (g.enable_is bits (x bits) (takes_frame w bits)) at) (f.enable_is bits (x bits) (takes_frame w bits));
-    back = λ bits y c at. subst (EnableAtRoot s bits v) (one bits u _ y (f.enable_is bits (x bits) (takes_frame w bits)) at) (g.enable_is bits (x bits) (takes_frame w bits));
+    care_to = λ bits c. (f.care_is bits (assignment_of w bits) (takes_frame w bits)).0 ((g.care_is bits (assignment_of w bits) (takes_frame w bits)).1 c);
+    care_back = λ bits c. (g.care_is bits (assignment_of w bits) (takes_frame w bits)).0 ((f.care_is bits (assignment_of w bits) (takes_frame w bits)).1 c);
+    to = λ bits y c at. subst (EnableAtRoot s bits u) (one bits v _ y (g.enable_is bits (assignment_of w bits) (takes_frame w bits)) at) (f.enable_is bits (assignment_of w bits) (takes_frame w bits));
+    back = λ bits y c at. subst (EnableAtRoot s bits v) (one bits u _ y (f.enable_is bits (assignment_of w bits) (takes_frame w bits)) at) (g.enable_is bits (assignment_of w bits) (takes_frame w bits));
   }
-    where
-      abbrev x : (ℕ → List ℕ → Bool) → ℕ → Bool
-      x bits = assignment_of w bits
 
   pub equal : (u v : Either ℕ ℕ) (q : Query) → AsksEnables s w u v q → IsSame w.graph q → EnablesEqual s u v
   equal u v q asks same bits y z cu cv at_u at_v =

@@ -116,12 +116,12 @@ module _ (a b : NetView) (sound_a : IsSound a) (sound_b : IsSound b) where
   tag_stands : (n : ℕ) (t : Tag) → IsTagAt (length a.latches) n t → n < length places → IsTagOf a b t × (slice_get places n ≡ Some (place_of a b t))
   tag_stands n t (inl x) within =
       let l = some_at a.latches n x.0 in
-      subst (λ (z : Tag). IsTagOf a b z × (slice_get places n ≡ Some (place_of a b z))) (sym x.1) (x.0, left_at n l.0 l.1 ∙ ap (λ (m : LatchAt). Some (Left m.out.0)) (sym (get_or_from_slice_get a.latches n l.0 no_latch l.1)))
+      subst (λ (z : Tag). IsTagOf a b z × (slice_get places n ≡ Some (place_of a b z))) (sym x.1) (x.0, left_at n l.0 l.1 ∙ ap (λ (m : LatchAt). Some (left_place m)) (sym (get_or_from_slice_get a.latches n l.0 no_latch l.1)))
   tag_stands n t (inr x) within =
       let inside : x.0 < length b.latches = omega (arith, within, x.1, length-append (map left_place a.latches) (map right_place b.latches), length-map left_place a.latches, length-map right_place b.latches) in
       let l = some_at b.latches x.0 inside in
       subst (λ (z : Tag). IsTagOf a b z × (slice_get places n ≡ Some (place_of a b z))) (sym x.2)
-      (inside, ap (slice_get places) x.1 ∙ (right_at x.0 l.0 l.1 ∙ ap (λ (m : LatchAt). Some (Right m.out.0)) (sym (get_or_from_slice_get b.latches x.0 l.0 no_latch l.1))))
+      (inside, ap (slice_get places) x.1 ∙ (right_at x.0 l.0 l.1 ∙ ap (λ (m : LatchAt). Some (right_place m)) (sym (get_or_from_slice_get b.latches x.0 l.0 no_latch l.1))))
 
   parts : SidesAreParts
   parts = sides_are_parts_in_nets
@@ -227,11 +227,11 @@ module _ (a b : NetView) (sound_a : IsSound a) (sound_b : IsSound b) where
             let second : e ≡ y.0.depth = one_depth Both (IsEnabled Both) (place_of a b t) e y.0.depth is_e y.1.depth in
             let third : i ≡ x.0.number = one_place i x.0.number (place_of a b s) (subst (λ (ps : List (Either ℕ ℕ)). slice_get ps i ≡ Some (place_of a b s)) places_are is_i) x.1.stands in
             let fourth : j ≡ y.0.number = one_place j y.0.number (place_of a b t) (subst (λ (ps : List (Either ℕ ℕ)). slice_get ps j ≡ Some (place_of a b t)) places_are is_j) y.1.stands in
-            go first second third fourth (pair_at TurnBefore turns are.in_order m k x.0 y.0 below x.1.at y.1.at)
+            go x.0 y.0 first second third fourth (pair_at TurnBefore turns are.in_order m k x.0 y.0 below x.1.at y.1.at)
           where
-            go : {x y : Turn} → d ≡ x.depth → e ≡ y.depth → i ≡ x.number → j ≡ y.number → TurnBefore x y → (d < e) ⊎ ((d ≡ e) × (i < j))
-            go p q r w (inl h) = inl (omega (arith, p, q, h))
-            go p q r w (inr h) = inr (omega (arith, p, q, h.0), omega (arith, r, w, h.1))
+            go : (x y : Turn) → d ≡ x.depth → e ≡ y.depth → i ≡ x.number → j ≡ y.number → TurnBefore x y → (d < e) ⊎ ((d ≡ e) × (i < j))
+            go x y p q r w (inl h) = inl (omega (arith, p, q, h))
+            go x y p q r w (inr h) = inr (omega (arith, p, q, h.0), omega (arith, r, w, h.1))
 
         pub tags_ordered : IsLatchOrder (side_by_side (circuit_of a) (circuit_of b) left right class) (map (place_of a b) tags)
         tags_ordered = record { all = all; enabled = enabled; in_order = pairs_mapped (place_of a b) Before tags before }

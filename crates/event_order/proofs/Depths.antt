@@ -69,7 +69,7 @@ module _ (n : NetView) (bits : List Bool) (marked : IsMarkedNet n bits) (j : ℕ
     )
     told set None some none =
         let own = marked.depths l.name l.out.0 l.next.0 (latch_stands n j l at) in
-        let endless : HasNoDepth (circuit_of n) (IsEnabled (circuit_of n)) l.out.0 = no_depth_less (circuit_of n) (SkippedBy g) (IsEnabled (circuit_of n)) (mode_as_skips Event n g graph) l.out.0 (none n graph.graph) in
+        let endless : HasNoDepth (circuit_of n) (IsEnabled (circuit_of n)) l.out.0 = no_depth_less (circuit_of n) (SkippedBy g) (IsEnabled (circuit_of n)) (skips_as_mode Event n g graph) l.out.0 (none n graph.graph) in
         let low : own.0 + 1 ≤ own.0 = own.1.greatest (own.0 + 1) (endless (own.0 + 1)) in
         λ on. omega (arith, low)
 

@@ -65,7 +65,7 @@ turn_none depths count turns so here = record {
   rising = so.rising;
 }
   where
-    different : {d : ℕ} → Some None ≡ Some (Some d) → ⊥
+    different : {d : ℕ} → ◌≡◌ {A = Option (Option ℕ)} (Some None) (Some (Some d)) → ⊥
     different q = cc
 
     go : (n d : ℕ) → n < count + 1 → slice_get depths n ≡ Some (Some d) → (n < count) ⊎ (count ≤ n) → Contains turns (record { depth = d; number = n })

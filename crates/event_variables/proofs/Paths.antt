@@ -51,6 +51,19 @@ step_stands Equal p q c d long h = go (nat_cmp c d) (ranked c d _ refl)
         subst (λ (z : List ℕ). ListBefore (reverse (d ∷ z)) (reverse (c ∷ p))) h
         (subst (λ (xs : List ℕ). ListBefore xs (reverse (c ∷ p))) (sym (reverse_cons d p)) (subst (λ (ys : List ℕ). ListBefore (reverse p ++ d ∷ []) ys) (sym (reverse_cons c p)) (last_before (reverse p) d c l)))
 
+-- so many steps were counted, from the node up to here
+pub record HasCounted (children : List (ℕ × ℕ)) (node at steps : ℕ) : Type 0 where
+  pub made : at ≤ length children
+  pub counted : steps + length (path_of children at) ≡ length (path_of children node)
+  pub few : steps + at ≤ node
+
+-- two nodes were climbed to, where what is found so far decides unless their paths do
+pub record HasClimbed (children : List (ℕ × ℕ)) (m n left right : ℕ) (order : Ordering) : Type 0 where
+  pub left_made : left ≤ length children
+  pub right_made : right ≤ length children
+  pub one_length : length (path_of children left) ≡ length (path_of children right)
+  pub decides : (o : Ordering) → PathsStand (path_of children left) (path_of children right) o → PathsStand (path_of children m) (path_of children n) (ordering_then o order)
+
 module _ (children : List (ℕ × ℕ)) (tree : IsTree children) where
   pub root_path : path_of children 0 ≡ []
   root_path = path_grows [] children 0 (omega arith)
@@ -65,35 +78,22 @@ module _ (children : List (ℕ × ℕ)) (tree : IsTree children) where
       let within = slice_get_within children (n - 1) (parent, class) at in
       (omega (arith, low, some), omega (arith, low, within))
 
-  -- so many steps were counted, from the node up to here
-  pub record HasCounted (node at steps : ℕ) : Type 0 where
-    pub made : at ≤ length children
-    pub counted : steps + length (path_of children at) ≡ length (path_of children node)
-    pub few : steps + at ≤ node
-
-  pub counted_none : (node : ℕ) → node ≤ length children → HasCounted node node 0
+  pub counted_none : (node : ℕ) → node ≤ length children → HasCounted children node node 0
   counted_none node within = record { made = within; counted = omega arith; few = omega arith }
 
-  pub counted_more : (node at steps parent class : ℕ) → HasCounted node at steps → 0 < at → slice_get children (at - 1) ≡ Some (parent, class) → HasCounted node parent (steps + 1)
+  pub counted_more : (node at steps parent class : ℕ) → HasCounted children node at steps → 0 < at → slice_get children (at - 1) ≡ Some (parent, class) → HasCounted children node parent (steps + 1)
   counted_more node at steps parent class so some here =
       let low = parent_low at parent class some here in
       let long : length (path_of children at) ≡ suc (length (path_of children parent)) = ap length (parent_path at parent class some here) in
       record { made = low.1; counted = omega (arith, so.counted, long); few = omega (arith, so.few, low.0) }
 
-  pub counted_all : (node at steps : ℕ) → HasCounted node at steps → at ≤ 0 → steps ≡ length (path_of children node)
+  pub counted_all : (node at steps : ℕ) → HasCounted children node at steps → at ≤ 0 → steps ≡ length (path_of children node)
   counted_all node at steps so none =
       let e : at ≡ 0 = omega (arith, none) in
       let short : length (path_of children at) ≡ 0 = ap (λ (k : ℕ). length (path_of children k)) e ∙ ap length root_path in
       omega (arith, so.counted, short)
 
-  -- two nodes were climbed to, where what is found so far decides unless their paths do
-  pub record HasClimbed (m n left right : ℕ) (order : Ordering) : Type 0 where
-    pub left_made : left ≤ length children
-    pub right_made : right ≤ length children
-    pub one_length : length (path_of children left) ≡ length (path_of children right)
-    pub decides : (o : Ordering) → PathsStand (path_of children left) (path_of children right) o → PathsStand (path_of children m) (path_of children n) (ordering_then o order)
-
-  pub climbed_none : (m n : ℕ) → m ≤ length children → n ≤ length children → length (path_of children m) ≡ length (path_of children n) → HasClimbed m n m n Equal
+  pub climbed_none : (m n : ℕ) → m ≤ length children → n ≤ length children → length (path_of children m) ≡ length (path_of children n) → HasClimbed children m n m n Equal
   climbed_none m n left right long = record { left_made = left; right_made = right; one_length = long; decides = same }
     where
       same : (o : Ordering) → PathsStand (path_of children m) (path_of children n) o → PathsStand (path_of children m) (path_of children n) (ordering_then o Equal)
@@ -119,10 +119,10 @@ module _ (children : List (ℕ × ℕ)) (tree : IsTree children) where
       absurd (omega (arith, long, some, none))
   below_root (suc m) n within long apart = omega arith
 
-  pub left_below : (m n left right : ℕ) (order : Ordering) → HasClimbed m n left right order → left ≢ right → 0 < left
+  pub left_below : (m n left right : ℕ) (order : Ordering) → HasClimbed children m n left right order → left ≢ right → 0 < left
   left_below m n left right order so apart = below_root left right so.right_made so.one_length apart
 
-  pub right_below : (m n left right : ℕ) (order : Ordering) → HasClimbed m n left right order → left ≢ right → 0 < right
+  pub right_below : (m n left right : ℕ) (order : Ordering) → HasClimbed children m n left right order → left ≢ right → 0 < right
   right_below m n left right order so apart = below_root right left so.left_made (sym so.one_length) (λ e. apart (sym e))
 
   assoc : (o r s : Ordering) → ordering_then (ordering_then o r) s ≡ ordering_then o (ordering_then r s)
@@ -130,8 +130,8 @@ module _ (children : List (ℕ × ℕ)) (tree : IsTree children) where
   assoc Equal r s = refl
   assoc Greater r s = refl
 
-  pub climbed_more : (m n left right : ℕ) (order : Ordering) (lp lc rp rc : ℕ) → HasClimbed m n left right order → left ≢ right → slice_get children (left - 1) ≡ Some (lp, lc) → slice_get children (right - 1) ≡ Some (rp, rc) →
-      HasClimbed m n lp rp (ordering_then (nat_cmp lc rc) order)
+  pub climbed_more : (m n left right : ℕ) (order : Ordering) (lp lc rp rc : ℕ) → HasClimbed children m n left right order → left ≢ right → slice_get children (left - 1) ≡ Some (lp, lc) → slice_get children (right - 1) ≡ Some (rp, rc) →
+      HasClimbed children m n lp rp (ordering_then (nat_cmp lc rc) order)
   climbed_more m n left right order lp lc rp rc so apart at to =
       let left_some = left_below m n left right order so apart in
       let right_some = right_below m n left right order so apart in
@@ -150,7 +150,7 @@ module _ (children : List (ℕ × ℕ)) (tree : IsTree children) where
             (subst (λ (q : List ℕ). PathsStand (lc ∷ path_of children lp) q (ordering_then o (nat_cmp lc rc))) (sym right_is) (step_stands o (path_of children lp) (path_of children rp) lc rc long h))));
       }
 
-  pub climbed_all : (m n left right : ℕ) (order : Ordering) → HasClimbed m n left right order → left ≡ right → PathsStand (path_of children m) (path_of children n) order
+  pub climbed_all : (m n left right : ℕ) (order : Ordering) → HasClimbed children m n left right order → left ≡ right → PathsStand (path_of children m) (path_of children n) order
   climbed_all m n left right order so same = so.decides Equal (ap (path_of children) same)
 
   -- by length first
