@@ -1,5 +1,5 @@
 -- The latches of two circuits side by side, and the order of the enabled ones.
-use Rattle.std.proofs.Common.{◌≡◌, ◌≢◌, ◌∙◌, ◌+◌, ◌<◌, ◌≤◌, ℕ, List, [], ◌∷◌, ◌++◌, length, map, slice_get, Option, Some, None, refl, sym, ap, subst, arith, inl, inr}
+use Rattle.std.proofs.Common.{◌≡◌, ◌≢◌, ◌∙◌, ◌+◌, ◌^◌, ◌<◌, ◌≤◌, ℕ, List, [], ◌∷◌, ◌++◌, length, map, slice_get, Option, Some, None, refl, sym, ap, subst, arith, inl, inr}
 use Rattle.std.specs.Prelude.{◌⊎◌, MatchOption, Contains, All}
 use Rattle.std.specs.List.{AllPairs, AllZip, filter_map}
 use Rattle.std.proofs.lemmas.List.{length-append}
@@ -63,6 +63,17 @@ same_position n sound i j l m at to same = index (one_at n.drivers l.out.0 (driv
 
 one_depth : {P : Type 0} (c : Circuit P) (enabled : P → Type 0) (p : P) (d e : ℕ) → IsDepth c enabled p d → IsDepth c enabled p e → d ≡ e
 one_depth c enabled p d e x y = let low = y.greatest d x.reached in let high = x.greatest e y.reached in omega (arith, low, high)
+
+-- the places of turns among the latches of both
+pub numbers_low : (a b : NetView) → IsSound b → (ls rs : List (Option ℕ)) → AllZip (IsEnabledDepth (circuit_of a)) a.latches ls → AllZip (IsEnabledDepth (circuit_of b)) b.latches rs → (turns : List Turn) (read : List LatchAt) → read ≡ a.latches → AreTurns (ls ++ rs) turns →
+    All (λ (t : Turn). t.number < length read + 2 ^ 32) turns
+numbers_low a b sound ls rs left_are right_are turns read same are =
+    All-from_each (λ (t : Turn). t.number < length read + 2 ^ 32) turns (λ t h.
+    let w = slice_get_within (ls ++ rs) t.number (Some t.depth) (are.each t h) in
+    let p = zip_length (IsEnabledDepth (circuit_of a)) a.latches ls left_are in
+    let q = zip_length (IsEnabledDepth (circuit_of b)) b.latches rs right_are in
+    let e = ap length same in
+    omega (arith, w, p, q, e, length-append ls rs, sound.few_latches, sound.few))
 
 module _ (a b : NetView) (sound_a : IsSound a) (sound_b : IsSound b) where
   abbrev Both : Circuit (Either ℕ ℕ)

@@ -1,4 +1,4 @@
 pub mod Pairs
-pub mod Depths
+pub mod LatchDepths
 pub mod Sorting
 pub mod BothLatches

@@ -6,7 +6,7 @@ use Rattle.circuit_theory.specs.declared.Mode.TheVariants.{Event}
 use Rattle.flat_net.specs.declared.parts.LatchAt.{LatchAt}
 use Rattle.flat_net.specs.View.{circuit_of}
 use Rattle.event_order.specs.Turns.{IsEnabledDepth}
-use Rattle.event_order.proofs.Depths.{depths_more}
+use Rattle.event_order.proofs.LatchDepths.{zip_more}
 use Rattle.event_order.proofs.depths.enabled_depths.Goals as goal
 
 pub depth_at-requires : goal.depth_at-requires
@@ -18,7 +18,7 @@ depth_at-requires c = record {
 
 pub loop-j-preserved : goal.loop-j-preserved
 loop-j-preserved c =
-    depths_more (IsEnabledDepth (circuit_of c.args.net.now)) c.args.net.now.latches c.loop-j.depths.items c.push.new.self.items c.loop-j.j c.depth_at.result (omega (arith, c.loop-j-test.true, ap length c.latches-j-end.ensures)) c.loop-j.invariant c.depth_at.ensures
+    zip_more (IsEnabledDepth (circuit_of c.args.net.now)) c.args.net.now.latches c.loop-j.depths.items c.push.new.self.items c.loop-j.j c.depth_at.result (omega (arith, c.loop-j-test.true, ap length c.latches-j-end.ensures)) c.loop-j.invariant c.depth_at.ensures
     c.in_ok-push.ensures.items
 
 pub returns : goal.returns

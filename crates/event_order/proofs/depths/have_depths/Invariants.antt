@@ -1,4 +1,4 @@
-use Rattle.event_order.proofs.Depths.{HaveDepths}
+use Rattle.event_order.proofs.LatchDepths.{HaveDepths}
 use Rattle.event_order.proofs.depths.have_depths.Given as goal
 
 abbrev pub invariant-loop-latch : goal.invariant-loop-latch

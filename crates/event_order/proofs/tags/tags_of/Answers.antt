@@ -1,13 +1,19 @@
 -- One latch more.
 use Rattle.std.proofs.Common.{◌≡◌, ◌+◌, ℕ, List, sym, subst, take, get_or, arith}
 use Rattle.std.specs.List.{AllZip}
-use Rattle.std.proofs.lemmas.List.{take_all, take_more}
-use Rattle.std.proofs.lemmas.List.Elements.{All-get_or}
+use Rattle.std.proofs.lemmas.List.{take_all}
+use Rattle.std.proofs.lemmas.Option.{get_or_from_slice_get}
 use Rattle.sec_base.specs.declared.basics.Tag.{Tag}
-use Rattle.circuit_theory.proofs.Lists.{zip_push}
 use Rattle.event_order.specs.declared.turns.Turn.{Turn}
 use Rattle.event_order.specs.Turns.{IsTagAt}
+use Rattle.event_order.proofs.LatchDepths.{zip_more}
 use Rattle.event_order.proofs.tags.tags_of.Goals as goal
+
+pub loop-turn-preserved : goal.loop-turn-preserved
+loop-turn-preserved c =
+    let R : Turn → Tag → Type 0 = λ turn tag. IsTagAt c.args.first turn.number tag in
+    zip_more R c.args.turns.now c.loop-turn.tags.items c.push.new.self.items c.loop-turn.turn-index c.tag_at.result c.loop-turn-test.true c.loop-turn.invariant
+    (λ x at. subst (λ (z : Turn). IsTagAt c.args.first z.number c.tag_at.result) (get_or_from_slice_get c.args.turns.now c.loop-turn.turn-index x _ at) c.tag_at.ensures) c.in_ok-push.ensures.items
 
 pub returns : goal.returns
 returns c =

@@ -4,13 +4,15 @@ use Rattle.std.specs.Prelude.{◌⊎◌, IfNone}
 use Rattle.std.specs.List.{AllZip}
 use Rattle.std.proofs.lemmas.Bool.{cases_lt}
 use Rattle.std.proofs.lemmas.List.{take_more}
-use Rattle.std.proofs.lemmas.Option.{get_or_from_slice_get, slice_get_within}
+use Rattle.std.proofs.lemmas.Option.{get_or_from_slice_get, slice_get_within, slice_get-get_or}
 use Rattle.circuit_theory.proofs.Lists.{zip_push}
 use Rattle.circuit_theory.specs.declared.Mode.TheVariants.{Event}
 use Rattle.circuit_theory.specs.Circuit.{Latch as latch_equation}
 use Rattle.circuit_theory.specs.Depth.{IsDepth, HasNoDepth, LatchesHaveDepths}
 use Rattle.circuit_theory.specs.Run.{IsEnabled}
 use Rattle.flat_net.specs.declared.parts.LatchAt.{LatchAt}
+use Rattle.flat_net.specs.declared.parts.Driver.TheVariants as driver
+use Rattle.flat_net.specs.Sound.{IsSound}
 use Rattle.flat_net.specs.View.{NetView, circuit_of}
 use Rattle.flat_net.proofs.Nets.{OfGate, OfLatch, equation_from, latch_stands, some_at}
 use Rattle.flat_net.proofs.Places.{one_at}
@@ -73,9 +75,29 @@ module _ (n : NetView) (bits : List Bool) (marked : IsMarkedNet n bits) (j : ℕ
         let low : own.0 + 1 ≤ own.0 = own.1.greatest (own.0 + 1) (endless (own.0 + 1)) in
         λ on. omega (arith, low)
 
--- one latch's depth more
-pub depths_more : (R : LatchAt → Option ℕ → Type 0) (ls : List LatchAt) (ds new : List (Option ℕ)) (j : ℕ) (d : Option ℕ) → j < length ls → AllZip R (take j ls) ds → ((l : LatchAt) → slice_get ls j ≡ Some l → R l d) → new ≡ ds ++ d ∷ [] → AllZip R (take (j + 1) ls) new
-depths_more R ls ds new j d within so is pushed =
-    let l = some_at ls j within in
-    let more : take (j + 1) ls ≡ take j ls ++ l.0 ∷ [] = take_more ls j l.0 within ∙ ap (λ (x : LatchAt). take j ls ++ x ∷ []) (get_or_from_slice_get ls j l.0 l.0 l.1) in
-    subst (λ (xs : List LatchAt). AllZip R xs new) (sym more) (subst (AllZip R (take j ls ++ l.0 ∷ [])) (sym pushed) (zip_push R (take j ls) ds l.0 d so (is l.0 l.1)))
+-- one element more on both sides
+pub zip_more : {X Y : Type 0} (R : X → Y → Type 0) (xs : List X) (ys new : List Y) (j : ℕ) (y : Y) → j < length xs → AllZip R (take j xs) ys → ((x : X) → slice_get xs j ≡ Some x → R x y) → new ≡ ys ++ y ∷ [] → AllZip R (take (j + 1) xs) new
+zip_more {X} R xs ys new j y within so is pushed =
+    let x = some_at xs j within in
+    let more : take (j + 1) xs ≡ take j xs ++ x.0 ∷ [] = take_more xs j x.0 within ∙ ap (λ (z : X). take j xs ++ z ∷ []) (get_or_from_slice_get xs j x.0 x.0 x.1) in
+    subst (λ (zs : List X). AllZip R zs new) (sym more) (subst (AllZip R (take j xs ++ x.0 ∷ [])) (sym pushed) (zip_push R (take j xs) ys x.0 y so (is x.0 x.1)))
+
+-- the element that a loop or an index is at
+pub item_at : {X : Type 0} (xs ys : List X) (i : ℕ) (x : X) → ys ≡ xs → i < length ys → x ≡ get_or ys i x → slice_get xs i ≡ Some x
+item_at xs ys i x same h is = ap (λ zs. slice_get zs i) (sym same) ∙ (slice_get-get_or ys i x h ∙ ap Some (sym is))
+
+pub bit_at : (bits read : List Bool) (j : ℕ) (b : Bool) → read ≡ bits → j < length bits → get_or read j false ≡ b → slice_get bits j ≡ Some b
+bit_at bits read j b same h e = slice_get-get_or bits j false h ∙ ap Some (ap (λ (zs : List Bool). get_or zs j false) (sym same) ∙ e)
+
+-- a latch's signal has a node in the graph
+pub out_within : (n : NetView) → IsSound n → (g : GraphView) → IsGraphIn Event n g → (j : ℕ) (l : LatchAt) → slice_get n.latches j ≡ Some l → l.out.0 < length g.nodes
+out_within n sound g graph j l at = let w = slice_get_within n.drivers l.out.0 (driver.Latch j) (sound.latches j l at).owner in omega (arith, w, graph.graph.size)
+
+pub latch_read : (ls read : List LatchAt) (j : ℕ) (d : LatchAt) → read ≡ ls → j < length ls → slice_get ls j ≡ Some (get_or read j d)
+latch_read ls read j d same h = slice_get-get_or ls j d h ∙ ap (λ (zs : List LatchAt). Some (get_or zs j d)) (sym same)
+
+pub told_read : (n : NetView) (bits : List Bool) (marked : IsMarkedNet n bits) (j : ℕ) (l : LatchAt) (at : slice_get n.latches j ≡ Some l) (g : GraphView) (graph : IsGraphIn Event n g) (m : LatchAt) → slice_get n.latches j ≡ Some m →
+    slice_get bits j ≡ Some true → (depth : Option ℕ) → IfSome depth (λ d. (k : NetView) → IsGraphOf k g → IsDepth (circuit_of k) (SkippedBy g) m.out.0 d) →
+    IfNone depth ((k : NetView) → IsGraphOf k g → HasNoDepth (circuit_of k) (SkippedBy g) m.out.0) → IsEnabledDepth (circuit_of n) l depth
+told_read n bits marked j l at g graph m read set depth some none =
+    subst (λ (z : LatchAt). IsEnabledDepth (circuit_of n) z depth) (one_at n.latches j m l read at) (told n bits marked j m read g graph set depth some none)
