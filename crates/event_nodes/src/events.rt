@@ -8,8 +8,6 @@ ghost use Rattle.aig.specs.Builds.{HasOneLitAt, HasTreeValuesAt};
 ghost use Rattle.event_nodes.specs.Adds.{Adds};
 ghost use Rattle.event_nodes.specs.Nodes.{IsEventGraph, IsChild, GrowsEvents};
 
-mod parts;
-
 use aig::{Aig, Lit};
 use sec_base::{Cover, NoMemory, PlaceTable};
 use std::alloc::Global;

@@ -1,2 +1,0 @@
-pub mod Cones
-pub mod Queries

@@ -1,3 +1,0 @@
-pub mod MergeLists
-pub mod Paths
-pub mod Reading
