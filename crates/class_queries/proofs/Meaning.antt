@@ -120,8 +120,8 @@ module _ (a b : EventCircuitView) (w : EventGraphView) (kept : AreKept a b w) wh
       }
     where
       other : (c : Bool) → (c ≡ true → ⊥) → c ≡ false
-      other true no = absurd (no refl)
-      other false no = refl
+      other true wrong = absurd (wrong refl)
+      other false wrong = refl
 
 pub twins_law : EqualLitsAreTwins
 twins_law a b w kept u v enable care f g = twins a b w kept u v enable care f g

@@ -163,8 +163,7 @@ module _ (a b : NetView) (sound_a : IsSound a) (sound_b : IsSound b) where
             (d.0, slice_get-append ls rs n d.0 d.1, subst (λ (z : Either ℕ ℕ). IsDepthThere z d.0) x.2 (left_there x.0 d.0 d.2))
         go (inr x) =
             let d = zip_right (IsEnabledDepth (circuit_of b)) b.latches rs right_are x.0 x.1 x.3 in
-            let each : length a.latches ≡ length ls = zip_length (IsEnabledDepth (circuit_of a)) a.latches ls left_are in
-            (
+            let each : length a.latches ≡ length ls = zip_length (IsEnabledDepth (circuit_of a)) a.latches ls left_are in (
               d.0,
               ap (slice_get (ls ++ rs)) (x.2 ∙ ap (λ (m : ℕ). m + x.0) each) ∙ (slice_get-append_right ls rs x.0 ∙ d.1),
               subst (λ (z : Either ℕ ℕ). IsDepthThere z d.0) x.4 (right_there x.1 d.0 d.2),
