@@ -8,7 +8,7 @@ use Rattle.circuit_theory.specs.Run.{IsEnabled}
 use Rattle.circuit_laws.proofs.NetLaws.{net_value, net_value-extends}
 use Rattle.circuit_laws.proofs.Parts.{IsPart, latch_up, latch_from, reaches_up, reaches_from, enabled_up, enabled_from}
 use Rattle.circuit_laws.proofs.JoinedParts.{left_part, right_part, replace_left, replace_right, meets_both}
-use Rattle.event_theory.specs.Frame.{EventSide, ConeLatches, ConeOthers, ReachedAt, IsEnable, HasCare}
+use Rattle.event_theory.specs.Frame.{EventSide, ConeLatches, ConeOthers, ReachedAt, IsEnable}
 use Rattle.event_theory.specs.Classes.{EnableCare}
 use Rattle.event_theory.specs.EventFits.{side_by_side}
 use Rattle.event_laws.proofs.SideTrees.{sides_unfold_in_nets}

@@ -1,6 +1,6 @@
 -- Frames and assignments of the variables of an event graph.
-use Rattle.std.proofs.Common.{◌≡◌, ◌∙◌, ◌+◌, ℕ, zero, suc, Bool, true, false, cond, List, [], ◌∷◌, slice_get, Option, Some, None, refl, sym, ap, subst, arith, inl, inr}
-use Rattle.std.specs.Prelude.{◌==◌, ◌&&◌, ◌⊎◌}
+use Rattle.std.proofs.Common.{◌≡◌, ◌∙◌, ℕ, zero, suc, Bool, true, false, cond, List, [], ◌∷◌, slice_get, Option, Some, None, refl, sym, ap, subst, arith}
+use Rattle.std.specs.Prelude.{◌==◌, ◌&&◌}
 use Rattle.circuit_theory.specs.Names.{same_name}
 use Rattle.circuit_theory.proofs.Inputs.{test_same, test_refl, same_name-sound}
 use Rattle.circuit_theory.proofs.Numbers.{same_name-refl}

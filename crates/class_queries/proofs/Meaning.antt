@@ -1,7 +1,7 @@
 -- What literals, and queries of them, say of enables.
-use Rattle.std.proofs.Common.{◌≡◌, ◌≢◌, ◌∙◌, ℕ, Bool, true, false, List, [], ◌∷◌, length, Some, refl, sym, ap, subst, arith}
+use Rattle.std.proofs.Common.{◌≡◌, ◌∙◌, ℕ, Bool, true, false, List, [], length, refl, sym, ap, subst}
 use Rattle.std.specs.Prelude.{◌↔◌, ◌&&◌}
-use Rattle.circuit_theory.specs.Joined.{Either, Left, Right, joined}
+use Rattle.circuit_theory.specs.Joined.{Either}
 use Rattle.circuit_theory.specs.Run.{IsEnabled}
 use Rattle.circuit_theory.proofs.Lists.{length-map}
 use Rattle.circuit_laws.proofs.JoinedParts.{joined_single, joined_number_once}

@@ -1,10 +1,10 @@
 -- What literals say of enables looks at the classes of latches of lower rank alone.
-use Rattle.std.proofs.Common.{◌≡◌, ◌≢◌, ◌∙◌, ℕ, ◌<◌, ◌≤◌, Bool, true, slice_get, Some, List, [], ◌∷◌, ◌++◌, refl, sym, ap, subst, arith, inl, inr}
+use Rattle.std.proofs.Common.{◌≡◌, ◌≢◌, ℕ, ◌<◌, ◌≤◌, Bool, true, slice_get, Some, List, [], ◌∷◌, ◌++◌, sym, ap, subst, arith, inl, inr}
 use Rattle.std.specs.Prelude.{◌⊎◌, ◌↔◌, Contains}
 use Rattle.std.proofs.lemmas.List.Elements.{Contains-append_cases, Contains-append_left, Contains-append_right}
 use Rattle.circuit_theory.specs.Circuit.{Circuit, IsSingleDriven}
 use Rattle.circuit_theory.specs.Depth.{LatchesHaveDepths}
-use Rattle.circuit_theory.specs.Joined.{Either, joined}
+use Rattle.circuit_theory.specs.Joined.{joined}
 use Rattle.circuit_theory.specs.Run.{IsEnabled}
 use Rattle.circuit_theory.proofs.Lists.{Contains-head, only}
 use Rattle.circuit_laws.proofs.JoinedParts.{joined_same, joined_single}
@@ -12,12 +12,10 @@ use Rattle.event_theory.specs.EventTotals.{IsMapSoFar}
 use Rattle.event_laws.proofs.ClassSteps.{pairs_ahead}
 use Rattle.event_laws.proofs.OneClassMap.{side, rank_of, Agrees, Before, enable_to, enable_care, place_of, depth_of}
 use Rattle.flat_net.proofs.Growth.{slice_get-append}
-use Rattle.aig.specs.Values.{value}
 use Rattle.aig.proofs.Growth.{Grows-length}
 use Rattle.aig.proofs.Meaning.{value-grows}
-use Rattle.event_theory.specs.Frame.{EventSide}
 use Rattle.event_theory.specs.Classes.{EnableCare, EnableAtRoot}
-use Rattle.event_nodes.specs.Nodes.{EventGraphView, IsEventGraph, GrowsEvents, named_places}
+use Rattle.event_nodes.specs.Nodes.{EventGraphView, named_places}
 use Rattle.event_nodes.proofs.Paths.{named_grows}
 use Rattle.edbf_unfold.specs.Laws.{TakesFrame}
 use Rattle.class_queries.specs.Enables.{IsEnableFunction}

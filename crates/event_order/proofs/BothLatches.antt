@@ -1,16 +1,14 @@
 -- The latches of two circuits side by side, and the order of the enabled ones.
-use Rattle.std.proofs.Common.{◌≡◌, ◌≢◌, ◌∙◌, ◌+◌, ◌^◌, ◌<◌, ◌≤◌, ℕ, List, [], ◌∷◌, ◌++◌, length, map, slice_get, Option, Some, None, refl, sym, ap, subst, arith, inl, inr}
+use Rattle.std.proofs.Common.{◌≡◌, ◌∙◌, ◌+◌, ◌^◌, ◌<◌, ℕ, List, [], ◌∷◌, ◌++◌, length, map, slice_get, Option, Some, None, refl, sym, ap, subst, arith, inl, inr}
 use Rattle.std.specs.Prelude.{◌⊎◌, MatchOption, Contains, All}
-use Rattle.std.specs.List.{AllPairs, AllZip, filter_map}
+use Rattle.std.specs.List.{AllZip, filter_map}
 use Rattle.std.proofs.lemmas.List.{length-append}
 use Rattle.std.proofs.lemmas.Option.{get_or_from_slice_get, slice_get_within}
-use Rattle.circuit_theory.specs.declared.Side.TheVariants.{A, B}
 use Rattle.circuit_theory.specs.Circuit.{Circuit, Equation, Latch as latch_equation}
 use Rattle.circuit_theory.specs.Cone.{latches_of, latch_place}
 use Rattle.circuit_theory.specs.Cover.{Cover}
 use Rattle.circuit_theory.specs.Depth.{IsDepth}
 use Rattle.circuit_theory.specs.Joined.{Either, Left, Right, moved, joined}
-use Rattle.circuit_theory.specs.Net.{IsNet}
 use Rattle.circuit_theory.specs.Run.{IsEnabled}
 use Rattle.circuit_theory.proofs.Lists.{All-from_each, Contains-map, Contains-map_from, at_of, of_at, zip_length, zip_right, length-map, map_at}
 use Rattle.circuit_theory.proofs.Numbers.{slice_get-map}
@@ -23,7 +21,7 @@ use Rattle.event_laws.proofs.SideParts.{sides_are_parts_in_nets}
 use Rattle.flat_net.specs.declared.parts.Driver.TheVariants as driver
 use Rattle.flat_net.specs.declared.parts.Gate.{Gate}
 use Rattle.flat_net.specs.declared.parts.LatchAt.{LatchAt}
-use Rattle.flat_net.specs.Cut.{latch_at, no_latch}
+use Rattle.flat_net.specs.Cut.{no_latch}
 use Rattle.flat_net.specs.Sound.{IsSound}
 use Rattle.flat_net.specs.View.{NetView, circuit_of, equation_of_gate, equation_of_latch}
 use Rattle.flat_net.proofs.CutNets.{slice_get-append_cases, slice_get-append_right}
@@ -32,7 +30,7 @@ use Rattle.flat_net.proofs.Nets.{some_at, sound_is_net}
 use Rattle.flat_net.proofs.Places.{one_at}
 use Rattle.sec_base.specs.declared.basics.Tag.{Tag}
 use Rattle.event_order.specs.declared.turns.Turn.{Turn}
-use Rattle.event_order.specs.Order.{IsTagOf, IsTagOrder, place_of}
+use Rattle.event_order.specs.Order.{IsTagOf, place_of}
 use Rattle.event_order.specs.Turns.{TurnBefore, AreTurns, IsEnabledDepth, IsTagAt}
 use Rattle.event_order.proofs.Pairs.{pair_at, pairs_mapped}
 

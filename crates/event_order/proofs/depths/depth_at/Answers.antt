@@ -1,11 +1,5 @@
 -- The graph tells the depth of an enabled latch.
-use Rattle.std.proofs.Common.{◌≡◌, ◌∙◌, ◌<◌, ℕ, true, false, length, List, get_or, slice_get, Some, sym, ap, subst, arith}
-use Rattle.std.specs.Prelude.{IfSome, IfNone}
-use Rattle.std.proofs.lemmas.Option.{get_or_from_slice_get}
-use Rattle.circuit_theory.specs.Depth.{IsDepth, HasNoDepth}
-use Rattle.flat_net.specs.declared.parts.LatchAt.{LatchAt}
-use Rattle.flat_net.specs.View.{NetView, circuit_of}
-use Rattle.latch_graph.specs.Graph.{IsGraphOf, SkippedBy}
+use Rattle.std.proofs.Common.{true, false, arith}
 use Rattle.event_order.proofs.LatchDepths.{bit_at, latch_read, out_within, unmarked, told_read}
 use Rattle.event_order.proofs.depths.depth_at.Goals as goal
 

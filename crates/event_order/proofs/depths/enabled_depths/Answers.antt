@@ -1,5 +1,5 @@
 -- One latch's depth more.
-use Rattle.std.proofs.Common.{◌≡◌, ◌<◌, length, take, List, Option, ℕ, refl, sym, subst, ap, arith}
+use Rattle.std.proofs.Common.{length, List, subst, ap, arith}
 use Rattle.std.specs.List.{AllZip}
 use Rattle.std.proofs.lemmas.List.{take_all}
 use Rattle.circuit_theory.specs.declared.Mode.TheVariants.{Event}

@@ -1,5 +1,5 @@
 -- One latch more has a depth.
-use Rattle.std.proofs.Common.{◌≡◌, ◌<◌, ◌≤◌, ℕ, length, slice_get, Some, ap, arith}
+use Rattle.std.proofs.Common.{length, ap, arith}
 use Rattle.event_order.proofs.LatchDepths.{item_at, out_within, depth_told, one_more, all_have}
 use Rattle.event_order.proofs.depths.have_depths.Goals as goal
 

@@ -1,5 +1,5 @@
 -- One turn more, and all of them in order.
-use Rattle.std.proofs.Common.{◌≡◌, ◌∙◌, ◌+◌, ℕ, length, Option, Some, None, refl, sym, ap, subst, arith}
+use Rattle.std.proofs.Common.{◌≡◌, ◌∙◌, ◌+◌, ℕ, Option, Some, None, refl, sym, ap, subst, arith}
 use Rattle.std.proofs.lemmas.Option.{slice_get-get_or}
 use Rattle.event_order.proofs.Sorting.{TurnsUpTo, no_turns, turn_more, turn_none, turns_sorted}
 use Rattle.event_order.proofs.turns.turns_of.Goals as goal
