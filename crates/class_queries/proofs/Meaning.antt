@@ -1,5 +1,5 @@
 -- What literals, and queries of them, say of enables.
-use Rattle.std.proofs.Common.{◌≡◌, ◌∙◌, ℕ, Bool, true, false, List, [], length, refl, sym, ap, subst}
+use Rattle.std.proofs.Common.{◌≡◌, ◌∙◌, ℕ, Bool, true, false, List, [], length, refl, sym, subst}
 use Rattle.std.specs.Prelude.{◌↔◌, ◌&&◌}
 use Rattle.circuit_theory.specs.Joined.{Either}
 use Rattle.circuit_theory.specs.Run.{IsEnabled}
@@ -17,11 +17,7 @@ use Rattle.event_nodes.specs.Nodes.{EventGraphView}
 use Rattle.event_nodes.specs.View.{EventCircuitView, IsEventCircuit}
 use Rattle.edbf_unfold.proofs.CareMeaning.{care_value}
 use Rattle.edbf_unfold.proofs.EventLiterals.{enable_value}
-use Rattle.lane_eval.specs.Tables.{assigned_to}
-use Rattle.pair_decide.specs.declared.query.Query.{Query}
-use Rattle.pair_decide.specs.Answers.{IsDifference}
-use Rattle.pair_decide.specs.Queries.{IsSame}
-use Rattle.class_queries.specs.Enables.{both_of, class_map, IsEnableFunction, AsksEnables, AsksAlways}
+use Rattle.class_queries.specs.Enables.{both_of, class_map, IsEnableFunction, AsksEnables, IsSame, Distinguishes}
 use Rattle.class_queries.specs.Laws.{AreKept, EnableLitsAreFunctions, EqualLitsAreTwins, SameIsEqual, DifferenceTellsApart, SameIsAlways, DifferenceIsOff}
 use Rattle.class_queries.proofs.BothCares.{left_enable_care, right_enable_care, left_enable, right_enable}
 use Rattle.class_queries.proofs.Frames.{assignment_of, takes_frame, frame_by, frame_takes}
@@ -78,45 +74,41 @@ module _ (a b : EventCircuitView) (w : EventGraphView) (kept : AreKept a b w) wh
     back = λ bits y c at. subst (EnableAtRoot s bits v) (one bits u _ y (f.enable_is bits (assignment_of w bits) (takes_frame w bits)) at) (g.enable_is bits (assignment_of w bits) (takes_frame w bits));
   }
 
-  pub equal : (u v : Either ℕ ℕ) (q : Query) → AsksEnables s w u v q → IsSame w.graph q → EnablesEqual s u v
-  equal u v q asks same bits y z cu cv at_u at_v =
+  pub equal : (u v : Either ℕ ℕ) (left right care : ℕ) → AsksEnables s w u v left right care → IsSame w left right care → EnablesEqual s u v
+  equal u v left right care asks same bits y z cu cv at_u at_v =
       let x = assignment_of w bits in
       let fits = takes_frame w bits in
-      let cared : value w.graph x q.care.0 ≡ true = value-and w.graph kept.events.is_graph x asks.left_care asks.right_care q.care.0 asks.both ∙ (λ i. (asks.left.care_is bits x fits).1 cu i && (asks.right.care_is bits x fits).1 cv i) in
-      one bits u y (value w.graph x q.left.0) at_u (asks.left.enable_is bits x fits) ∙ (same x cared ∙ one bits v (value w.graph x q.right.0) z (asks.right.enable_is bits x fits) at_v)
+      let cared : value w.graph x care ≡ true = value-and w.graph kept.events.is_graph x asks.left_care asks.right_care care asks.both ∙ (λ i. (asks.left_is.care_is bits x fits).1 cu i && (asks.right_is.care_is bits x fits).1 cv i) in
+      one bits u y (value w.graph x left) at_u (asks.left_is.enable_is bits x fits) ∙ (same x cared ∙ one bits v (value w.graph x right) z (asks.right_is.enable_is bits x fits) at_v)
 
-  pub apart : (u v : Either ℕ ℕ) (q : Query) (bits : List Bool) → AsksEnables s w u v q → IsDifference w.graph q bits → EnablesDiffer s u v
-  apart u v q bits asks d =
-      let x = assigned_to q.vars bits in
+  pub apart : (u v : Either ℕ ℕ) (left right care : ℕ) (x : ℕ → Bool) → AsksEnables s w u v left right care → Distinguishes w left right care x → EnablesDiffer s u v
+  apart u v left right care x asks d =
       let fits = frame_takes w kept.events x in
-      let cares = both_true (value w.graph x asks.left_care) (value w.graph x asks.right_care) (sym (value-and w.graph kept.events.is_graph x asks.left_care asks.right_care q.care.0 asks.both) ∙ d.distinguishes.care) in
+      let cares = both_true (value w.graph x asks.left_care) (value w.graph x asks.right_care) (sym (value-and w.graph kept.events.is_graph x asks.left_care asks.right_care care asks.both) ∙ d.cared) in
       record {
         bits = frame_by w x;
-        left = value w.graph x q.left.0;
-        right = value w.graph x q.right.0;
-        left_care = (asks.left.care_is (frame_by w x) x fits).0 cares.0;
-        right_care = (asks.right.care_is (frame_by w x) x fits).0 cares.1;
-        left_is = asks.left.enable_is (frame_by w x) x fits;
-        right_is = asks.right.enable_is (frame_by w x) x fits;
-        differ = d.distinguishes.differ;
+        left = value w.graph x left;
+        right = value w.graph x right;
+        left_care = (asks.left_is.care_is (frame_by w x) x fits).0 cares.0;
+        right_care = (asks.right_is.care_is (frame_by w x) x fits).0 cares.1;
+        left_is = asks.left_is.enable_is (frame_by w x) x fits;
+        right_is = asks.right_is.enable_is (frame_by w x) x fits;
+        differ = d.differ;
       }
 
-  pub always : (v : Either ℕ ℕ) (q : Query) → AsksAlways s w v q → IsSame w.graph q → (bits : ℕ → List ℕ → Bool) (y : Bool) → EnableCare s bits v → EnableAtRoot s bits v y → y ≡ true
-  always v q asks same bits y care at =
+  pub always : (v : Either ℕ ℕ) (enable care : ℕ) → IsEnableFunction s w v enable care → IsSame w enable 1 care → (bits : ℕ → List ℕ → Bool) (y : Bool) → EnableCare s bits v → EnableAtRoot s bits v y → y ≡ true
+  always v enable care is same bits y has at =
       let x = assignment_of w bits in
       let fits = takes_frame w bits in
-      one bits v y (value w.graph x q.left.0) at (asks.left.enable_is bits x fits)
-      ∙ (same x ((asks.left.care_is bits x fits).1 care) ∙ (ap (value w.graph x) asks.right ∙ value-one w.graph kept.events.is_graph x))
+      one bits v y (value w.graph x enable) at (is.enable_is bits x fits) ∙ (same x ((is.care_is bits x fits).1 has) ∙ value-one w.graph kept.events.is_graph x)
 
-  pub off : (v : Either ℕ ℕ) (q : Query) (bits : List Bool) → AsksAlways s w v q → IsDifference w.graph q bits → SometimesOff s v
-  off v q bits asks d =
-      let x = assigned_to q.vars bits in
+  pub off : (v : Either ℕ ℕ) (enable care : ℕ) (x : ℕ → Bool) → IsEnableFunction s w v enable care → Distinguishes w enable 1 care x → SometimesOff s v
+  off v enable care x is d =
       let fits = frame_takes w kept.events x in
-      let one_there : value w.graph x q.right.0 ≡ true = ap (value w.graph x) asks.right ∙ value-one w.graph kept.events.is_graph x in
       record {
         bits = frame_by w x;
-        care = (asks.left.care_is (frame_by w x) x fits).0 d.distinguishes.care;
-        off = subst (EnableAtRoot s (frame_by w x) v) (other (value w.graph x q.left.0) (λ e. d.distinguishes.differ (e ∙ sym one_there))) (asks.left.enable_is (frame_by w x) x fits);
+        care = (is.care_is (frame_by w x) x fits).0 d.cared;
+        off = subst (EnableAtRoot s (frame_by w x) v) (other (value w.graph x enable) (λ e. d.differ (e ∙ sym (value-one w.graph kept.events.is_graph x)))) (is.enable_is (frame_by w x) x fits);
       }
     where
       other : (c : Bool) → (c ≡ true → ⊥) → c ≡ false
@@ -127,13 +119,13 @@ pub twins_law : EqualLitsAreTwins
 twins_law a b w kept u v enable care f g = twins a b w kept u v enable care f g
 
 pub equal_law : SameIsEqual
-equal_law a b w kept u v q asks same = equal a b w kept u v q asks same
+equal_law a b w kept u v left right care asks same = equal a b w kept u v left right care asks same
 
 pub apart_law : DifferenceTellsApart
-apart_law a b w kept u v q bits asks d = apart a b w kept u v q bits asks d
+apart_law a b w kept u v left right care x asks d = apart a b w kept u v left right care x asks d
 
 pub always_law : SameIsAlways
-always_law a b w kept v q asks same = always a b w kept v q asks same
+always_law a b w kept v enable care is same = always a b w kept v enable care is same
 
 pub off_law : DifferenceIsOff
-off_law a b w kept v q bits asks d = off a b w kept v q bits asks d
+off_law a b w kept v enable care x is d = off a b w kept v enable care x is d

@@ -1,5 +1,5 @@
 -- What literals say of the load enables of two circuits side by side.
-use Rattle.std.specs.Prelude.{◌≡◌, ◌↔◌, ℕ, ◌*◌, ◌<◌, Bool, true, List, length}
+use Rattle.std.specs.Prelude.{◌≡◌, ◌≢◌, ◌↔◌, ℕ, ◌*◌, ◌<◌, Bool, true, List, length}
 use Rattle.circuit_theory.specs.Joined.{Either, Left, Right}
 use Rattle.event_theory.specs.Frame.{EventSide}
 use Rattle.event_theory.specs.Classes.{EnableCare, EnableAtRoot}
@@ -10,7 +10,6 @@ use Rattle.aig.specs.Values.{value}
 use Rattle.event_nodes.specs.Nodes.{EventGraphView}
 use Rattle.event_nodes.specs.View.{EventCircuitView, class_at}
 use Rattle.edbf_unfold.specs.Laws.{TakesFrame}
-use Rattle.pair_decide.specs.declared.query.Query.{Query}
 
 -- the class of a latch of either circuit
 abbrev pub class_map : EventCircuitView → EventCircuitView → Either ℕ ℕ → ℕ
@@ -28,15 +27,19 @@ pub record IsEnableFunction {P : Type 0} (s : EventSide P) (w : EventGraphView) 
   pub enable_is : (bits : ℕ → List ℕ → Bool) (a : ℕ → Bool) → TakesFrame w bits a → EnableAtRoot s bits u (value w.graph a enable)
   pub care_is : (bits : ℕ → List ℕ → Bool) (a : ℕ → Bool) → TakesFrame w bits a → (value w.graph a care ≡ true) ↔ EnableCare s bits u
 
--- the query asks whether the enable of the one latch is that of the other wherever both have care
-pub record AsksEnables {P : Type 0} (s : EventSide P) (w : EventGraphView) (u v : P) (q : Query) : Type 0 where
+-- the three literals ask whether the enable of the one latch is that of the other wherever both have care
+pub record AsksEnables {P : Type 0} (s : EventSide P) (w : EventGraphView) (u v : P) (left right care : ℕ) : Type 0 where
   pub left_care : ℕ
   pub right_care : ℕ
-  pub left : IsEnableFunction s w u q.left.0 left_care
-  pub right : IsEnableFunction s w v q.right.0 right_care
-  pub both : IsAndOf w.graph left_care right_care q.care.0
+  pub left_is : IsEnableFunction s w u left left_care
+  pub right_is : IsEnableFunction s w v right right_care
+  pub both : IsAndOf w.graph left_care right_care care
 
--- the query asks whether the latch's enable is 1 wherever it has care
-pub record AsksAlways {P : Type 0} (s : EventSide P) (w : EventGraphView) (v : P) (q : Query) : Type 0 where
-  pub left : IsEnableFunction s w v q.left.0 q.care.0
-  pub right : q.right.0 ≡ 1
+-- they agree wherever the care holds
+abbrev pub IsSame : EventGraphView → ℕ → ℕ → ℕ → Type 0
+IsSame w left right care = (a : ℕ → Bool) → value w.graph a care ≡ true → value w.graph a left ≡ value w.graph a right
+
+-- under the assignment the care holds, and they differ
+pub record Distinguishes (w : EventGraphView) (left right care : ℕ) (a : ℕ → Bool) : Type 0 where
+  pub cared : value w.graph a care ≡ true
+  pub differ : value w.graph a left ≢ value w.graph a right

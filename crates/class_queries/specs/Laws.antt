@@ -1,5 +1,5 @@
 -- What follows for the classes of latches. Each law is the contract of a function of this crate.
-use Rattle.std.specs.Prelude.{◌≡◌, ◌≢◌, ℕ, Bool, List, [], ◌∷◌, ◌++◌, slice_get, length, Some, Contains}
+use Rattle.std.specs.Prelude.{◌≡◌, ◌≢◌, ℕ, Bool, List, [], ◌∷◌, ◌++◌, slice_get, Some, Contains}
 use Rattle.circuit_theory.specs.Circuit.{Circuit}
 use Rattle.circuit_theory.specs.Depth.{LatchesHaveDepths}
 use Rattle.circuit_theory.specs.Joined.{Either, Left, Right, joined}
@@ -17,10 +17,7 @@ use Rattle.event_nodes.specs.View.{EventCircuitView, IsEventCircuit, Enabled}
 use Rattle.edbf_unfold.specs.Care.{IsCareLit}
 use Rattle.edbf_unfold.specs.Known.{IsEnableLit}
 use Rattle.edbf_unfold.specs.Walk.{enable_start}
-use Rattle.pair_decide.specs.declared.query.Query.{Query}
-use Rattle.pair_decide.specs.Answers.{IsDifference}
-use Rattle.pair_decide.specs.Queries.{IsSame}
-use Rattle.class_queries.specs.Enables.{both_of, IsEnableFunction, AsksEnables, AsksAlways}
+use Rattle.class_queries.specs.Enables.{both_of, IsEnableFunction, AsksEnables, IsSame, Distinguishes}
 
 -- what both circuits and the event graph keep
 pub record AreKept (a b : EventCircuitView) (w : EventGraphView) : Type 0 where
@@ -43,18 +40,18 @@ EqualLitsAreTwins = (a b : EventCircuitView) (w : EventGraphView) → AreKept a 
 
 -- Where no assignment tells the two enables apart, they are equal.
 abbrev pub SameIsEqual : Type 0
-SameIsEqual = (a b : EventCircuitView) (w : EventGraphView) → AreKept a b w → (u v : Either ℕ ℕ) (q : Query) → AsksEnables (both_of a b) w u v q → IsSame w.graph q → EnablesEqual (both_of a b) u v
+SameIsEqual = (a b : EventCircuitView) (w : EventGraphView) → AreKept a b w → (u v : Either ℕ ℕ) (left right care : ℕ) → AsksEnables (both_of a b) w u v left right care → IsSame w left right care → EnablesEqual (both_of a b) u v
 
 -- Where an assignment tells them apart, they differ in a frame with care for both.
 abbrev pub DifferenceTellsApart : Type 0
-DifferenceTellsApart = (a b : EventCircuitView) (w : EventGraphView) → AreKept a b w → (u v : Either ℕ ℕ) (q : Query) (bits : List Bool) → AsksEnables (both_of a b) w u v q → IsDifference w.graph q bits → EnablesDiffer (both_of a b) u v
+DifferenceTellsApart = (a b : EventCircuitView) (w : EventGraphView) → AreKept a b w → (u v : Either ℕ ℕ) (left right care : ℕ) (x : ℕ → Bool) → AsksEnables (both_of a b) w u v left right care → Distinguishes w left right care x → EnablesDiffer (both_of a b) u v
 
 -- The same against `always`.
 abbrev pub SameIsAlways : Type 0
-SameIsAlways = (a b : EventCircuitView) (w : EventGraphView) → AreKept a b w → (v : Either ℕ ℕ) (q : Query) → AsksAlways (both_of a b) w v q → IsSame w.graph q → AlwaysEnabled (both_of a b) v
+SameIsAlways = (a b : EventCircuitView) (w : EventGraphView) → AreKept a b w → (v : Either ℕ ℕ) (enable care : ℕ) → IsEnableFunction (both_of a b) w v enable care → IsSame w enable 1 care → AlwaysEnabled (both_of a b) v
 
 abbrev pub DifferenceIsOff : Type 0
-DifferenceIsOff = (a b : EventCircuitView) (w : EventGraphView) → AreKept a b w → (v : Either ℕ ℕ) (q : Query) (bits : List Bool) → AsksAlways (both_of a b) w v q → IsDifference w.graph q bits → SometimesOff (both_of a b) v
+DifferenceIsOff = (a b : EventCircuitView) (w : EventGraphView) → AreKept a b w → (v : Either ℕ ℕ) (enable care : ℕ) (x : ℕ → Bool) → IsEnableFunction (both_of a b) w v enable care → Distinguishes w enable 1 care x → SometimesOff (both_of a b) v
 
 -- What literals say of the enables of the latches taken so far, and of the next one, stays so whatever class the next one is given.
 abbrev pub FunctionsStay : Type 0
