@@ -1,0 +1,4 @@
+pub mod Frames
+pub mod BothCares
+pub mod Meaning
+pub mod Staying

@@ -1,0 +1,4 @@
+pub mod Pairs
+pub mod LatchDepths
+pub mod Sorting
+pub mod BothLatches
