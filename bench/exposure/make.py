@@ -54,6 +54,22 @@ def shared(latches, gates):
     return model(latches, lines)
 
 
+def between(latches, gates, cycles):
+    """Latches behind one chain of gates and before another one, both of which a latch that holds itself reads or feeds, if cycles are
+    wanted. No latch of the others is on a cycle."""
+    lines = []
+    for i in range(gates):
+        lines += [f".names {f'g{i - 1}' if i else 'first' if cycles else 'a'} a g{i}", "11 1"]
+        lines += [f".names {f'h{i - 1}' if i else 'a'} q{i % latches} h{i}", "11 1"]
+    lines += [f".latch g{gates - 1} q{i}" for i in range(latches)]
+    if cycles:
+        lines += [".names first a hold", "11 1", ".latch hold first"]
+        lines += [f".names h{gates - 1} last keep", "11 1", ".latch keep last"]
+    else:
+        lines += [f".latch h{gates - 1} last"]
+    return (line.replace(f".outputs q{latches - 1}", ".outputs last") for line in model(latches, lines))
+
+
 for count in (5_000, 10_000, 20_000):
     write(f"holding_{count}", holding(count))
 for count in (1_250, 2_500, 5_000):
@@ -61,3 +77,6 @@ for count in (1_250, 2_500, 5_000):
     write(f"rings_{count}", rings(count))
 for count in (500, 1_000, 2_000):
     write(f"shared_{count}", shared(count, 50 * count))
+for count, gates in ((500, 25_000), (1_000, 50_000), (2_000, 100_000)):
+    write(f"pipeline_{count}", between(count, gates, False))
+    write(f"between_{count}", between(count, gates, True))

@@ -5,9 +5,11 @@ use Rattle.std.specs.List.{All, AllPairs, Contains, sum_by}
 use Rattle.std.proofs.lemmas.Bool.{cases_order, cases_lt}
 use Rattle.std.proofs.lemmas.List.Elements.{All-contains, Contains-push, Contains-push_cases}
 use Rattle.std.proofs.lemmas.List.Sums.{sum_by-append, sum_by-cons}
-use Rattle.std.proofs.lemmas.Option.{same_Some, get_or_from_slice_get}
+use Rattle.std.proofs.lemmas.Option.{slice_get_within, same_Some, get_or_from_slice_get}
 use Rattle.circuit_theory.specs.Sizes.{Visits, IsOver, IsWeight}
-use Rattle.circuit_theory.proofs.Lists.{Contains-map, Contains-map_from, at_of, of_at}
+use Rattle.circuit_theory.specs.Circuit.{Circuit}
+use Rattle.circuit_theory.proofs.Lists.{Contains-map, Contains-map_from, only, All-from_each, at_of, of_at}
+use Rattle.flat_net.proofs.Growth.{slice_get-append}
 use Rattle.flat_net.specs.View.{NetView, circuit_of}
 use Rattle.flat_net.specs.Sound.{IsSound}
 use Rattle.flat_net.proofs.Places.{All-at}
@@ -15,11 +17,12 @@ use Rattle.aig.specs.declared.node.Lit.{Lit}
 use Rattle.aig.specs.declared.node.Node.{Node}
 use Rattle.aig.proofs.Growth.{Grows-refl, Grows-trans}
 use Rattle.cbf_unfold.specs.Places.{Steps, PlaceBefore, IsVisited, weight_at}
-use Rattle.cbf_unfold.specs.Reach.{IsReach}
+use Rattle.cbf_unfold.specs.Reach.{IsThere, IsReach}
+use Rattle.cbf_unfold.specs.Planned.{IsPlanned}
 use Rattle.cbf_unfold.specs.View.{UnfolderView}
 use Rattle.cbf_unfold.specs.Unfolded.{IsKnown, Holds}
 use Rattle.cbf_unfold.specs.Building.{IsMet, IsReady, HasRoom, HasGrown, IsLater}
-use Rattle.cbf_unfold.proofs.Lists.{adds_none, adds_trans, adds_push, adds_contains, pairs_at, sum_by-map}
+use Rattle.cbf_unfold.proofs.Lists.{adds_none, adds_trans, adds_push, adds_contains, append_cases, pairs_at, sum_by-map}
 use Rattle.cbf_unfold.proofs.Drivers.{step_lower, step_within}
 use Rattle.cbf_unfold.proofs.InputLists.{place_apart, pairs_push}
 use Rattle.cbf_unfold.proofs.Known.{Any, known_later}
@@ -69,10 +72,10 @@ pub met_later : (u v : UnfolderView) (g h : List Node) (places more : List (ℕ 
 met_later u v g h places more p later met = (met.0, adds_contains AnyEntry u.memo v.memo (p, met.0) later.memo met.1)
 
 -- what a visited place reads stands before it
-pub stands_before : (n : NetView) → IsSound n → (s last : ℕ) (reach : List (ℕ × ℕ)) → IsReach (circuit_of n) (length n.drivers) s last reach → (i : ℕ) (p q : ℕ × ℕ) → slice_get reach i ≡ Some p → Steps (circuit_of n) p q →
-    (j : ℕ) × (j < i) × (slice_get reach j ≡ Some q)
-stands_before n sound s last reach is i p q here steps =
-    let at = at_of reach q (is.are.closed p q (of_at reach i p here) steps) in
+pub stands_before : (n : NetView) → IsSound n → (s last : ℕ) (memo : Memo) (reach : List (ℕ × ℕ)) → IsReach (circuit_of n) (length n.drivers) s last memo reach → (i : ℕ) (p q : ℕ × ℕ) → slice_get reach i ≡ Some p → Steps (circuit_of n) p q →
+    Contains reach q → (j : ℕ) × (j < i) × (slice_get reach j ≡ Some q)
+stands_before n sound s last memo reach is i p q here steps there =
+    let at = at_of reach q there in
     (at.0, go at.0 at.1 (cases_order at.0 i), at.1)
   where
     lower : Steps (circuit_of n) p q → PlaceBefore q p
@@ -91,9 +94,9 @@ stands_before n sound s last reach is i p q here steps =
     go j at (inr (inr l)) = absurd (back (pairs_at PlaceBefore reach i j p q is.ordered l here at) (lower steps))
 
 -- the next place can be unfolded
-pub ready_at : (u v : UnfolderView) (s : ℕ) (reach : List (ℕ × ℕ)) → IsSound u.net → Contains u.done s → IsReach (circuit_of u.net) (length u.net.drivers) s u.cap reach → v.net ≡ u.net → v.cap ≡ u.cap → v.done ≡ u.done →
-    (i : ℕ) (p : ℕ × ℕ) → slice_get reach i ≡ Some p → ((j : ℕ) (q : ℕ × ℕ) → j < i → slice_get reach j ≡ Some q → IsMet v.memo q) → IsReady v p
-ready_at u v s reach sound among is net cap done i p here met =
+pub ready_at : (u v : UnfolderView) (s : ℕ) (reach : List (ℕ × ℕ)) → IsSound u.net → Contains u.done s → IsReach (circuit_of u.net) (length u.net.drivers) s u.cap u.memo reach → v.net ≡ u.net → v.cap ≡ u.cap → v.done ≡ u.done →
+    ((q : ℕ × ℕ) → IsMet u.memo q → IsMet v.memo q) → (i : ℕ) (p : ℕ × ℕ) → slice_get reach i ≡ Some p → ((j : ℕ) (q : ℕ × ℕ) → j < i → slice_get reach j ≡ Some q → IsMet v.memo q) → IsReady v p
+ready_at u v s reach sound among is net cap done kept i p here met =
     let own = is.are.visited p (of_at reach i p here) in
     let inside = All-at (λ q. (0 < q.0) × (q.1 < length u.net.drivers)) reach i p here is.are.within in
     let visited : IsVisited (circuit_of u.net) u.cap u.done p = record { cycle = own.0; from = s; among = among; visits = own.1 } in
@@ -103,8 +106,12 @@ ready_at u v s reach sound among is net cap done i p here met =
           (subst (λ (k : ℕ). IsVisited (circuit_of u.net) k v.done p) (sym cap) (subst (λ (d : List ℕ). IsVisited (circuit_of u.net) u.cap d p) (sym done) visited));
       within = subst (λ (n : NetView). p.1 < length n.drivers) (sym net) inside.1;
       early = inside.0;
-      read = λ q steps. let b = stands_before u.net sound s u.cap reach is i p q here (subst (λ (n : NetView). Steps (circuit_of n) p q) net steps) in met b.0 q b.1 b.2;
+      read = λ q steps. let own = subst (λ (n : NetView). Steps (circuit_of n) p q) net steps in reads q own (is.are.closed p q (of_at reach i p here) own);
     }
+  where
+    reads : (q : ℕ × ℕ) → Steps (circuit_of u.net) p q → IsThere u.memo reach q → IsMet v.memo q
+    reads q steps (inl there) = let b = stands_before u.net sound s u.cap u.memo reach is i p q here steps there in met b.0 q b.1 b.2
+    reads q steps (inr m) = kept q m
 
 -- a place that a signal of the net visits is one of the net
 pub visit_within : (n : NetView) → IsSound n → (s : ℕ) → s < length n.drivers → {q j : ℕ} → Visits (circuit_of n) s 0 q j → q < length n.drivers
@@ -119,6 +126,12 @@ module _ (u : UnfolderView) (sound : IsSound u.net) (g : List Node) (places : Li
       let e = Contains-map_from (λ e. e.0) u.memo p h in
       let v = subst (IsVisited (circuit_of u.net) u.cap u.done) e.2 (holds.visited e.0.0 e.0.1 e.1) in
       (v, visit_within u.net sound v.from (All-contains (λ s. s < length u.net.drivers) u.done v.from holds.within v.among) v.visits)
+
+  -- and their signals are the net's
+  pub entries_within : All (λ (e : (ℕ × ℕ) × Lit). e.0.1 < length u.net.drivers) u.memo
+  entries_within =
+      All-from_each (λ (e : (ℕ × ℕ) × Lit). e.0.1 < length u.net.drivers) u.memo
+      (λ e h. let v = holds.visited e.0 e.1 h in visit_within u.net sound v.from (All-contains (λ s. s < length u.net.drivers) u.done v.from holds.within v.among) v.visits)
 
   entries_weigh : sum_by (λ p. weight_at u.net p.1) (map (λ e. e.0) u.memo) ≡ u.weight
   entries_weigh = sum_by-map (λ p. weight_at u.net p.1) (λ (e : (ℕ × ℕ) × Lit). e.0) u.memo ∙ holds.counted
@@ -144,6 +157,25 @@ module _ (u : UnfolderView) (sound : IsSound u.net) (g : List Node) (places : Li
       weight_from u.net sound u.cap u.done (map (λ e. e.0) u.memo) differ entries_visited u.weight
       (λ s q j among visits. let m = met s q j among visits in (m.0, Contains-map (λ (e : (ℕ × ℕ) × Lit). e.0) u.memo ((u.cap - j, q), m.1.0) m.1.1))
       entries_weigh
+
+-- one place more stands behind those that it reads
+pub planned_push : (c : Circuit ℕ) (memo new : Memo) (p : ℕ × ℕ) (x : Lit) → new ≡ memo ++ (p, x) ∷ [] → IsPlanned c memo → 0 < p.0 → ((q : ℕ × ℕ) → Steps c p q → IsMet memo q) → IsPlanned c new
+planned_push c memo new p x is planned early read = subst (IsPlanned c) (sym is) (record {
+  early = λ i e at. first i e (append_cases memo ((p, x) ∷ []) i e at);
+  read = λ i e q at steps. back i e q steps (append_cases memo ((p, x) ∷ []) i e at);
+})
+  where
+    first : (i : ℕ) (e : (ℕ × ℕ) × Lit) → (slice_get memo i ≡ Some e) ⊎ ((length memo ≤ i) × Contains ((p, x) ∷ []) e) → 0 < e.0.0
+    first i e (inl at) = planned.early i e at
+    first i e (inr h) = subst (λ (d : (ℕ × ℕ) × Lit). 0 < d.0.0) (only (p, x) e h.1) early
+
+    back : (i : ℕ) (e : (ℕ × ℕ) × Lit) (q : ℕ × ℕ) → Steps c e.0 q → (slice_get memo i ≡ Some e) ⊎ ((length memo ≤ i) × Contains ((p, x) ∷ []) e) →
+        (j : ℕ) × (y : Lit) × (j < i) × (slice_get (memo ++ (p, x) ∷ []) j ≡ Some (q, y))
+    back i e q steps (inl at) = let r = planned.read i e q at steps in (r.0, r.1, r.2, slice_get-append memo ((p, x) ∷ []) r.0 (q, r.1) r.3)
+    back i e q steps (inr h) =
+        let m = read q (subst (λ (d : (ℕ × ℕ) × Lit). Steps c d.0 q) (sym (only (p, x) e h.1)) steps) in
+        let j = at_of memo (q, m.0) m.1 in
+        (j.0, m.0, (let l = slice_get_within memo j.0 (q, m.0) j.1 in omega (arith, l, h.0)), slice_get-append memo ((p, x) ∷ []) j.0 (q, m.0) j.1)
 
 -- one place more has been met: `v` is the unfolder before it, with the weight that it has then
 module _ (u v : UnfolderView) (g h : List Node) (places more : List (ℕ × ℕ)) (p : ℕ × ℕ) (x : Lit) (net : v.net ≡ u.net) (order : v.order ≡ u.order) (cap : v.cap ≡ u.cap) (done : v.done ≡ u.done)
@@ -171,6 +203,7 @@ module _ (u v : UnfolderView) (g h : List Node) (places more : List (ℕ × ℕ)
     visited = λ q y m. visits q y (Contains-push_cases u.memo (p, x) (q, y) (subst (λ (l : List ((ℕ × ℕ) × Lit)). Contains l (q, y)) memo m));
     within = subst (λ (n : NetView). All (λ s. s < length n.drivers) v.done) (sym net) (subst (λ (d : List ℕ). All (λ s. s < length u.net.drivers) d) (sym done) holds.within);
     counted = counts;
+    planned = subst (λ (n : NetView). IsPlanned (circuit_of n) v.memo) (sym net) (planned_push (circuit_of u.net) u.memo v.memo p x memo holds.planned ready.early ready.read);
   }
     where
       known_in : (q : ℕ × ℕ) (y : ℕ) → IsKnown u.net u.order u.cap h more q y → IsKnown v.net v.order v.cap h more q y

@@ -10,7 +10,6 @@ use Rattle.std.proofs.lemmas.Option.{slice_get-get_or}
 use Rattle.circuit_theory.specs.Circuit.{Circuit, IsSingleDriven}
 use Rattle.circuit_theory.specs.Tree.{Tree, Unfolds, IsInputNumber}
 use Rattle.circuit_theory.specs.Query.{Variable, ShiftBefore, AreVariables}
-use Rattle.circuit_theory.specs.Sizes.{Visits}
 use Rattle.circuit_laws.proofs.LeafVisits.{VisitsInput, variables_are_visits}
 use Rattle.circuit_theory.proofs.Lists.{Contains-head, Contains-tail, Contains-map, Contains-map_from, All-from_each, at_of, zip_push}
 use Rattle.circuit_theory.proofs.Numbers.{one_number, one_place}
@@ -18,7 +17,7 @@ use Rattle.circuit_theory.proofs.Sums.{AllPairs-head, AllPairs-tail}
 use Rattle.sec_base.specs.Table.{AreDistinct}
 use Rattle.sec_base.proofs.TableLemmas.{slice_get-take}
 use Rattle.cbf_unfold.specs.Places.{PlaceBefore}
-use Rattle.cbf_unfold.specs.Reach.{AreVisited, AreInputsOf}
+use Rattle.cbf_unfold.specs.Reach.{AreInputsOf, AreInputsAt}
 use Rattle.cbf_unfold.proofs.Lists.{pairs_at, pairs_map}
 use Rattle.cbf_unfold.proofs.Order.{differ_permuted}
 use Rattle.cbf_unfold.proofs.Over.{pairs_differ}
@@ -60,9 +59,9 @@ module _ (c : Circuit ℕ) (order : List ℕ) (places : List (ℕ × ℕ)) where
         pick p number is (inr e) = absurd (none number (subst (λ (q : ℕ × ℕ). IsInputNumber c order q.1 number) (sym e) is))
 
     -- one place more that an input drives
-    pub inputs_push : AllPairs PlaceBefore places → AreDistinct order → AllPairs (λ k m. k.place ≢ m.place) c.inputs → (number : ℕ) → IsInputNumber c order (get_or places i d).1 number →
+    pub inputs_push : AllPairs (λ p q. p ≢ q) places → AreDistinct order → AllPairs (λ k m. k.place ≢ m.place) c.inputs → (number : ℕ) → IsInputNumber c order (get_or places i d).1 number →
         AreInputsOf c order (take (i + 1) places) (found ++ ((get_or places i d).0, number) ∷ [])
-    inputs_push ordered distinct inputs_differ number is = subst (λ ps. AreInputsOf c order ps (found ++ ((get_or places i d).0, number) ∷ [])) (more i d inside) (record {
+    inputs_push apart_all distinct inputs_differ number is = subst (λ ps. AreInputsOf c order ps (found ++ ((get_or places i d).0, number) ∷ [])) (more i d inside) (record {
       from = λ x h. back x (Contains-push_cases found ((get_or places i d).0, number) x h);
       all = λ p n h k. on p n k (Contains-push_cases (take i places) (get_or places i d) p h);
       differ = pairs_push (λ x y. x ≢ y) found ((get_or places i d).0, number) are.differ (λ y h e. apart y h e);
@@ -91,7 +90,7 @@ module _ (c : Circuit ℕ) (order : List ℕ) (places : List (ℕ × ℕ)) where
             let before = slice_get-take i places at.0 (y.0, f.0) at.1 in
             let cycle : y.0 ≡ (get_or places i d).0 = ap (λ r. r.0) e in
             let one : f.0 ≡ (get_or places i d).1 = one_place c.inputs order (pairs_differ order distinct) f.0 (get_or places i d).1 number (subst (IsInputNumber c order f.0) (ap (λ r. r.1) e) f.2) is in
-            place_apart (y.0, f.0) (get_or places i d) (pairs_at PlaceBefore places at.0 i (y.0, f.0) (get_or places i d) ordered before.0 before.1 there) (λ j. (cycle j, one j))
+            pairs_at (λ (p q : ℕ × ℕ). p ≢ q) places at.0 i (y.0, f.0) (get_or places i d) apart_all before.0 before.1 there (λ j. (cycle j, one j))
 
   -- the same inputs in another order
   pub inputs_permuted : (found sorted : List (ℕ × ℕ)) → IsPermutation found sorted → AreInputsOf c order places found → AreInputsOf c order places sorted
@@ -101,32 +100,18 @@ module _ (c : Circuit ℕ) (order : List ℕ) (places : List (ℕ × ℕ)) where
     differ = differ_permuted found sorted moved are.differ;
   }
 
--- the closed list has all that is visited, at cycles that are not before the first
-pub reach_all : (c : Circuit ℕ) (size s last : ℕ) (places : List (ℕ × ℕ)) → AreVisited c size s last places → {q j : ℕ} → Visits c s 0 q j → (j ≤ last) × Contains places (last - j, q)
-reach_all c size s last places are Visits.itself = (omega arith, subst (λ (t : ℕ). Contains places (t, s)) (let e : last ≡ last - 0 = omega arith in e) are.root)
-reach_all c size s last places are (Visits.reads {q = q} {r = r} {j = j} visits reads) =
-    let above = reach_all c size s last places are visits in
-    (above.0, are.closed (last - j, q) (last - j, r) above.1 (inl (refl, reads)))
-reach_all c size s last places are (Visits.back {q = q} {next = next} {j = j} {name = name} visits latch) =
-    let above = reach_all c size s last places are visits in
-    let early = All-contains (λ p. (0 < p.0) × (p.1 < size)) places (last - j, q) are.within above.1 in
-    (omega (arith, early.0, above.0), are.closed (last - j, q) (last - suc j, next) above.1 (inr (omega (arith, early.0, above.0), name, latch)))
-
 -- an input at a cycle as a variable
 abbrev pub variable_of : ℕ → ℕ × ℕ → Variable ℕ
 variable_of last x = record { input = x.1; at = last - x.0 }
 
--- the inputs among the visited places are the variables of the tree
-pub inputs_are_variables : (c : Circuit ℕ) (order : List ℕ) (size s last : ℕ) (places found : List (ℕ × ℕ)) → IsSingleDriven c → AllPairs (λ k m. k.place ≢ m.place) c.inputs → AreVisited c size s last places →
-    AreInputsOf c order places found → AllPairs PlaceBefore found → (depth : ℕ) (tree : Tree ℕ) → Unfolds c order s 0 depth tree → AreVariables ShiftBefore (tree ∷ []) (map (variable_of last) found)
-inputs_are_variables c order size s last places found single differ visited are ordered depth tree unfolds =
+-- the inputs that are visited are the variables of the tree
+pub inputs_are_variables : (c : Circuit ℕ) (order : List ℕ) (s last : ℕ) (found : List (ℕ × ℕ)) → IsSingleDriven c → AllPairs (λ k m. k.place ≢ m.place) c.inputs → AreInputsAt c order s last found → AllPairs PlaceBefore found →
+    (depth : ℕ) (tree : Tree ℕ) → Unfolds c order s 0 depth tree → AreVariables ShiftBefore (tree ∷ []) (map (variable_of last) found)
+inputs_are_variables c order s last found single differ are ordered depth tree unfolds =
     variables_are_visits c order s 0 single (λ p i j l r. one_number c.inputs order differ p i j l r) depth tree unfolds ShiftBefore (map (variable_of last) found)
-    (pairs_map (variable_of last) PlaceBefore ShiftBefore found (λ x y hx hy before. shifts x y (cycle x hx) (cycle y hy) before) ordered)
+    (pairs_map (variable_of last) PlaceBefore ShiftBefore found (λ x y hx hy before. shifts x y (are.from x hx).2 (are.from y hy).2 before) ordered)
     (λ v. (λ h. to v h, λ h. from v h))
   where
-    cycle : (x : ℕ × ℕ) → Contains found x → x.0 ≤ last
-    cycle x h = let f = are.from x h in (visited.visited (x.0, f.0) f.1).0
-
     shifts : (x y : ℕ × ℕ) → x.0 ≤ last → y.0 ≤ last → PlaceBefore x y → ShiftBefore (variable_of last x) (variable_of last y)
     shifts x y hx hy (inl below) = inl (omega arith)
     shifts x y hx hy (inr k) = inr (ap (λ t. last - t) k.0, k.1)
@@ -135,11 +120,11 @@ inputs_are_variables c order size s last places found single differ visited are 
     to v h =
         let x = Contains-map_from (variable_of last) found v h in
         let f = are.from x.0 x.1 in
-        subst (VisitsInput c order s 0) x.2 (f.0, f.2, (visited.visited (x.0.0, f.0) f.1).1)
+        subst (VisitsInput c order s 0) x.2 (f.0, f.1, f.3)
 
     from : (v : Variable ℕ) → VisitsInput c order s 0 v → Contains (map (variable_of last) found) v
     from v h =
-        let all = reach_all c size s last places visited h.2 in
-        let there = Contains-map (variable_of last) found (last - v.at, v.input) (are.all (last - v.at, h.0) v.input all.1 h.1) in
+        let all = are.all h.0 v.input v.at h.2 h.1 in
+        let there = Contains-map (variable_of last) found (last - v.at, v.input) all.1 in
         let shift : last - (last - v.at) ≡ v.at = omega (arith, all.0) in
         subst (λ (k : ℕ). Contains (map (variable_of last) found) (record { input = v.input; at = k })) shift there

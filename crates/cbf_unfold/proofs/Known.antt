@@ -55,6 +55,7 @@ holds_later u g h places more grows adds holds = record {
   visited = holds.visited;
   within = holds.within;
   counted = holds.counted;
+  planned = holds.planned;
 }
 
 pub fits_later : (u : UnfolderView) (g h : List Node) (places more : List (ℕ × ℕ)) → Grows g h → Adds Any places more → Fits u g places → Fits u h more

@@ -11,6 +11,11 @@ pub mod Entries
 pub mod InputLists
 pub mod Known
 pub mod PlaceLits
+pub mod Zips
+pub mod Words
+pub mod Passing
+pub mod Candidates
 pub mod Going
 pub mod Finish
+pub mod Listing
 pub mod Cone

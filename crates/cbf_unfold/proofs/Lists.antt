@@ -1,9 +1,9 @@
 -- Lists that grow at their end, and pairs of elements.
 use Rattle.std.proofs.Common.{◌≡◌, ◌∙◌, ◌+◌, ◌<◌, ◌≤◌, ℕ, zero, suc, List, [], ◌∷◌, ◌++◌, length, take, map, slice_get, Some, refl, sym, ap, subst, arith, inl, inr, length-append, append-nil, append_assoc}
 use Rattle.std.specs.Prelude.{◌⊎◌}
-use Rattle.std.specs.List.{AllPairs, Contains, sum_by}
+use Rattle.std.specs.List.{All, AllPairs, Contains, sum_by}
 use Rattle.std.proofs.lemmas.List.{take-append-le}
-use Rattle.std.proofs.lemmas.List.Elements.{All-nil, All-append, All-push, All-weaker, All-map, Contains-append_left}
+use Rattle.std.proofs.lemmas.List.Elements.{All-nil, All-append, All-push, All-weaker, All-map, All-contains, Contains-append_left}
 use Rattle.std.proofs.lemmas.List.Kept.{AllPairs-cons}
 use Rattle.std.proofs.lemmas.List.Sums.{sum_by-cons}
 use Rattle.std.proofs.lemmas.Option.{slice_get_within, same_Some}
@@ -11,7 +11,8 @@ use Rattle.circuit_theory.proofs.Lists.{Contains-head, Contains-tail, Contains-c
 use Rattle.circuit_theory.proofs.Sums.{AllPairs-head, AllPairs-tail}
 use Rattle.flat_net.proofs.Growth.{slice_get-append}
 use Rattle.flat_net.proofs.Places.{All-at}
-use Rattle.cbf_unfold.specs.Reach.{Adds}
+use Rattle.aig.specs.declared.node.Lit.{Lit}
+use Rattle.cbf_unfold.specs.Reach.{Adds, IsThere}
 
 pub adds_none : {X : Type 0} (P : X → Type 0) (xs ys : List X) → ys ≡ xs → Adds P xs ys
 adds_none P xs ys same = record { more = []; is = same ∙ sym (append-nil xs); each = All-nil P }
@@ -76,11 +77,16 @@ pub sum_by-map : {X Y : Type 0} (w : Y → ℕ) (f : X → Y) (xs : List X) → 
 sum_by-map w f [] = refl
 sum_by-map w f (x ∷ xs) = sum_by-cons w (f x) (map f xs) ∙ ap (λ n. w (f x) + n) (sum_by-map w f xs) ∙ sym (sum_by-cons (λ x. w (f x)) x xs)
 
--- the first element of a list that had none
-pub only_one : {X : Type 0} (P : X → Type 0) (xs ys : List X) (x : X) → xs ≡ [] → Adds P xs ys → Contains ys x → length ys ≤ length xs + 1 → ys ≡ x ∷ []
-only_one {X} P xs ys x none adds here few = go ys here (omega (arith, few, ap length none))
+-- what was there is there later
+pub there_later : (P : ℕ × ℕ → Type 0) (memo : List ((ℕ × ℕ) × Lit)) (xs ys : List (ℕ × ℕ)) (p : ℕ × ℕ) → Adds P xs ys → IsThere memo xs p → IsThere memo ys p
+there_later P memo xs ys p a (inl h) = inl (adds_contains P xs ys p a h)
+there_later P memo xs ys p a (inr h) = inr h
+
+-- a list that had nothing has this one element at most
+pub at_most_one : {X : Type 0} (xs ys : List X) (x : X) → xs ≡ [] → Adds (λ y. y ≡ x) xs ys → length ys ≤ length xs + 1 → (ys ≡ []) ⊎ (ys ≡ x ∷ [])
+at_most_one {X} xs ys x none adds few = go ys (subst (All (λ y. y ≡ x)) (sym (adds.is ∙ ap (λ l. l ++ adds.more) none)) adds.each) (omega (arith, few, ap length none))
   where
-    go : (zs : List X) → Contains zs x → length zs ≤ 1 → zs ≡ x ∷ []
-    go [] h l = absurd (omega (arith, h.1))
-    go (z ∷ []) h l = elim (Contains-cases z x [] h) [ inl e ↦ ap (λ y. y ∷ []) e | inr k ↦ absurd (omega (arith, k.1)) ]
+    go : (zs : List X) → All (λ y. y ≡ x) zs → length zs ≤ 1 → (zs ≡ []) ⊎ (zs ≡ x ∷ [])
+    go [] h l = inl refl
+    go (z ∷ []) h l = inr (ap (λ y. y ∷ []) (All-contains (λ y. y ≡ x) (z ∷ []) z h (Contains-head z [])))
     go (z ∷ y ∷ zs) h l = absurd (omega arith)

@@ -13,7 +13,8 @@ use Rattle.std.proofs.lemmas.Map.Made.{AllPairs-from_IsDistinct, IsDistinct-from
 use Rattle.circuit_theory.specs.Circuit.{Circuit}
 use Rattle.sec_base.specs.Table.{AreDistinct}
 use Rattle.cbf_unfold.specs.Places.{PlaceBefore}
-use Rattle.cbf_unfold.specs.Reach.{AreVisited, IsReach}
+use Rattle.aig.specs.declared.node.Lit.{Lit}
+use Rattle.cbf_unfold.specs.Reach.{IsThere, AreUnmet, IsReach}
 use Rattle.cbf_unfold.proofs.Over.{pairs_differ}
 use Rattle.cbf_unfold.proofs.PairTest.{same_pair, decides_pair, flips}
 
@@ -44,15 +45,19 @@ place_order = ranks_by (then_total (on_total (λ (p : ℕ × ℕ). p.0) nat_cmp_
 pub strictly : (xs : List (ℕ × ℕ)) → AllPairs (λ x y. x ≢ y) xs → IsSorted place_cmp xs → AllPairs PlaceBefore xs
 strictly xs differ sorted i j d below within = before_from (get_or xs i d) (get_or xs j d) (sorted_far (λ x y. is_lt (place_cmp x y)) place_order xs sorted i j d (omega arith) within) (differ i j d below within)
 
-pub sorted_reach : (c : Circuit ℕ) (size s last : ℕ) (table places sorted : List (ℕ × ℕ)) → places ≡ table → AreDistinct table → AreVisited c size s last table → IsPermutation places sorted → IsSorted place_cmp sorted →
-    IsReach c size s last sorted
-sorted_reach c size s last table places sorted same distinct are moved up =
+there_moved : (memo : List ((ℕ × ℕ) × Lit)) (xs ys : List (ℕ × ℕ)) (p : ℕ × ℕ) → IsPermutation xs ys → IsThere memo xs p → IsThere memo ys p
+there_moved memo xs ys p moved (inl h) = inl (Contains-permutation xs ys p moved h)
+there_moved memo xs ys p moved (inr h) = inr h
+
+pub sorted_reach : (c : Circuit ℕ) (size s last : ℕ) (memo : List ((ℕ × ℕ) × Lit)) (table places sorted : List (ℕ × ℕ)) → places ≡ table → AreDistinct table → AreUnmet c size s last memo table → IsPermutation places sorted →
+    IsSorted place_cmp sorted → IsReach c size s last memo sorted
+sorted_reach c size s last memo table places sorted same distinct are moved up =
     let to : IsPermutation table sorted = subst (λ l. IsPermutation l sorted) same moved in
     let back : IsPermutation sorted table = IsPermutation-sym table sorted to in
     record {
       are = record {
-        root = Contains-permutation table sorted (last, s) to are.root;
-        closed = λ p q h steps. Contains-permutation table sorted q to (are.closed p q (Contains-permutation sorted table p back h) steps);
+        root = there_moved memo table sorted (last, s) to are.root;
+        closed = λ p q h steps. there_moved memo table sorted q to (are.closed p q (Contains-permutation sorted table p back h) steps);
         visited = λ p h. are.visited p (Contains-permutation sorted table p back h);
         within = All-permutation (λ p. (0 < p.0) × (p.1 < size)) table sorted to are.within;
       };

@@ -9,8 +9,9 @@ use Rattle.flat_net.specs.declared.parts.Driver.TheVariants as driver
 use Rattle.flat_net.specs.View.{NetView, circuit_of}
 use Rattle.flat_net.specs.Sound.{IsSound}
 use Rattle.cbf_unfold.specs.Places.{Steps}
-use Rattle.cbf_unfold.specs.Reach.{Adds}
-use Rattle.cbf_unfold.proofs.Lists.{adds_trans, adds_weaker, adds_contains}
+use Rattle.aig.specs.declared.node.Lit.{Lit}
+use Rattle.cbf_unfold.specs.Reach.{Adds, IsThere}
+use Rattle.cbf_unfold.proofs.Lists.{adds_trans, adds_weaker, there_later}
 use Rattle.cbf_unfold.proofs.Drivers.{gate_steps_to, gate_steps_from, latch_steps_to, latch_steps_from}
 
 -- the place of one of these fan-ins
@@ -23,11 +24,11 @@ fanin_adds fanins cycle i d first old new inside before more =
     adds_trans (IsFaninPlace fanins cycle) first old new before
     (adds_weaker (λ q. q ≡ (cycle, (get_or fanins i d).0)) (IsFaninPlace fanins cycle) old new (λ q e. (get_or fanins i d, Contains-get_or fanins i d inside, sym e)) more)
 
-pub fanin_all : (fanins : List Signal) (cycle i : ℕ) (d : Signal) (old new : List (ℕ × ℕ)) → i < length fanins → All (λ f. Contains old (cycle, f.0)) (take i fanins) → Adds (λ q. q ≡ (cycle, (get_or fanins i d).0)) old new →
-    Contains new (cycle, (get_or fanins i d).0) → All (λ f. Contains new (cycle, f.0)) (take (i + 1) fanins)
-fanin_all fanins cycle i d old new inside before more here =
-    All-more (λ (f : Signal). Contains new (cycle, f.0)) fanins i d inside
-    (All-weaker (λ (f : Signal). Contains old (cycle, f.0)) (λ (f : Signal). Contains new (cycle, f.0)) (λ f h. adds_contains (λ q. q ≡ (cycle, (get_or fanins i d).0)) old new (cycle, f.0) more h) (take i fanins) before)
+pub fanin_all : (memo : List ((ℕ × ℕ) × Lit)) (fanins : List Signal) (cycle i : ℕ) (d : Signal) (old new : List (ℕ × ℕ)) → i < length fanins → All (λ f. IsThere memo old (cycle, f.0)) (take i fanins) →
+    Adds (λ q. q ≡ (cycle, (get_or fanins i d).0)) old new → IsThere memo new (cycle, (get_or fanins i d).0) → All (λ f. IsThere memo new (cycle, f.0)) (take (i + 1) fanins)
+fanin_all memo fanins cycle i d old new inside before more here =
+    All-more (λ (f : Signal). IsThere memo new (cycle, f.0)) fanins i d inside
+    (All-weaker (λ (f : Signal). IsThere memo old (cycle, f.0)) (λ (f : Signal). IsThere memo new (cycle, f.0)) (λ f h. there_later (λ q. q ≡ (cycle, (get_or fanins i d).0)) memo old new (cycle, f.0) more h) (take i fanins) before)
     here
 
 module _ (n : NetView) (sound : IsSound n) (s j : ℕ) (cycle : ℕ) (old new : List (ℕ × ℕ)) where
@@ -37,14 +38,14 @@ module _ (n : NetView) (sound : IsSound n) (s j : ℕ) (cycle : ℕ) (old new : 
         adds_weaker (IsFaninPlace fanins cycle) (Steps (circuit_of n) (cycle, s)) old new
         (λ q h. subst (Steps (circuit_of n) (cycle, s)) h.2 (gate_steps_to n sound s j drives g at cycle h.0 (subst (λ (l : List Signal). Contains l h.0) are h.1))) a
 
-    pub gate_all : All (λ f. Contains new (cycle, f.0)) fanins → (q : ℕ × ℕ) → Steps (circuit_of n) (cycle, s) q → Contains new q
-    gate_all all q steps =
+    pub gate_all : (There : ℕ × ℕ → Type 0) → All (λ f. There (cycle, f.0)) fanins → (q : ℕ × ℕ) → Steps (circuit_of n) (cycle, s) q → There q
+    gate_all There all q steps =
         let f = gate_steps_from n sound s j drives g at cycle q steps in
-        subst (Contains new) f.2 (All-contains (λ (k : Signal). Contains new (cycle, k.0)) fanins f.0 all (subst (λ (l : List Signal). Contains l f.0) (sym are) f.1))
+        subst There f.2 (All-contains (λ (k : Signal). There (cycle, k.0)) fanins f.0 all (subst (λ (l : List Signal). Contains l f.0) (sym are) f.1))
 
-    pub gate_all_ok : {T E : Type 0} (r : Result T E) → OnOk r (All (λ f. Contains new (cycle, f.0)) fanins) → OnOk r ((q : ℕ × ℕ) → Steps (circuit_of n) (cycle, s) q → Contains new q)
-    gate_all_ok (Ok x) h = gate_all h
-    gate_all_ok (Err e) h = h
+    pub gate_all_ok : (There : ℕ × ℕ → Type 0) {T E : Type 0} (r : Result T E) → OnOk r (All (λ f. There (cycle, f.0)) fanins) → OnOk r ((q : ℕ × ℕ) → Steps (circuit_of n) (cycle, s) q → There q)
+    gate_all_ok There (Ok x) h = gate_all There h
+    gate_all_ok There (Err e) h = h
 
   module _ (drives : slice_get n.drivers s ≡ Some (driver.Latch j)) (l : LatchAt) (at : slice_get n.latches j ≡ Some l) where
     pub latch_adds : 0 < cycle → Adds (λ q. q ≡ (cycle - 1, l.next.0)) old new → Adds (Steps (circuit_of n) (cycle, s)) old new
@@ -52,9 +53,9 @@ module _ (n : NetView) (sound : IsSound n) (s j : ℕ) (cycle : ℕ) (old new : 
         adds_weaker (λ q. q ≡ (cycle - 1, l.next.0)) (Steps (circuit_of n) (cycle, s)) old new
         (λ q e. subst (Steps (circuit_of n) (cycle, s)) (sym e) (latch_steps_to n sound s j drives l at cycle early)) a
 
-    pub latch_all : Contains new (cycle - 1, l.next.0) → (q : ℕ × ℕ) → Steps (circuit_of n) (cycle, s) q → Contains new q
-    latch_all h q steps = subst (Contains new) (latch_steps_from n sound s j drives l at cycle q steps) h
+    pub latch_all : (There : ℕ × ℕ → Type 0) → There (cycle - 1, l.next.0) → (q : ℕ × ℕ) → Steps (circuit_of n) (cycle, s) q → There q
+    latch_all There h q steps = subst There (latch_steps_from n sound s j drives l at cycle q steps) h
 
-    pub latch_all_ok : {T E : Type 0} (r : Result T E) → OnOk r (Contains new (cycle - 1, l.next.0)) → OnOk r ((q : ℕ × ℕ) → Steps (circuit_of n) (cycle, s) q → Contains new q)
-    latch_all_ok (Ok x) h = latch_all h
-    latch_all_ok (Err e) h = h
+    pub latch_all_ok : (There : ℕ × ℕ → Type 0) {T E : Type 0} (r : Result T E) → OnOk r (There (cycle - 1, l.next.0)) → OnOk r ((q : ℕ × ℕ) → Steps (circuit_of n) (cycle, s) q → There q)
+    latch_all_ok There (Ok x) h = latch_all There h
+    latch_all_ok There (Err e) h = h

@@ -9,17 +9,14 @@ use Rattle.aig.specs.declared.node.Node.TheVariants.{Input}
 use Rattle.aig.specs.Graph.{Grows, IsLitOf}
 use Rattle.aig.specs.Rules.{IsCoverOf}
 use Rattle.cbf_unfold.specs.Places.{Steps, PlaceBefore, IsVisited}
-use Rattle.cbf_unfold.specs.Reach.{Adds, AreInputsOf}
+use Rattle.cbf_unfold.specs.Reach.{Adds, AreInputsAt}
+pub use Rattle.cbf_unfold.specs.Reach.{IsMet}
 use Rattle.cbf_unfold.specs.View.{UnfolderView}
 use Rattle.cbf_unfold.specs.Unfolded.{IsKnown}
 
 -- each literal that the unfolder keeps is that of its place's tree
 abbrev pub AreKnown : UnfolderView → List Node → List (ℕ × ℕ) → Type 0
 AreKnown u g places = (p : ℕ × ℕ) (x : Lit) → Contains u.memo (p, x) → IsKnown u.net u.order u.cap g places p x.0
-
--- the place has been met
-abbrev pub IsMet : List ((ℕ × ℕ) × Lit) → ℕ × ℕ → Type 0
-IsMet memo p = (x : Lit) × Contains memo (p, x)
 
 -- The place can be unfolded: a signal that is unfolded visits it, and what it reads has been met.
 pub record IsReady (u : UnfolderView) (p : ℕ × ℕ) : Type 0 where
@@ -72,9 +69,9 @@ pub record IsGateLit (u : UnfolderView) (cycle j : ℕ) (g : List Node) (x : ℕ
   pub is : IsCoverOf g (cover_of u.net.covers gate) (map (λ y. y.0) lits) x
   pub within : x < 2 * length g
 
--- the variables are the numbers in the table of the inputs among the places, by cycle and then by number
-pub record AreNumbered (u : UnfolderView) (places visited : List (ℕ × ℕ)) (vars : List ℕ) : Type 0 where
+-- the variables are the numbers in the table of the inputs that the unfolding of s visits, by cycle and then by number
+pub record AreNumbered (u : UnfolderView) (places : List (ℕ × ℕ)) (s : ℕ) (vars : List ℕ) : Type 0 where
   pub found : List (ℕ × ℕ)
-  pub inputs : AreInputsOf (circuit_of u.net) u.order visited found
+  pub inputs : AreInputsAt (circuit_of u.net) u.order s u.cap found
   pub ordered : AllPairs PlaceBefore found
   pub numbers : AllZip (λ v x. slice_get places v ≡ Some (x.1, u.cap - x.0)) vars found

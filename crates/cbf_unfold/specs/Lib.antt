@@ -1,5 +1,7 @@
 pub mod Places
 pub mod Reach
+pub mod Planned
+pub mod Visitors
 pub mod View
 pub mod Unfolded
 pub mod Laws

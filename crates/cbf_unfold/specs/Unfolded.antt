@@ -12,6 +12,7 @@ use Rattle.aig.specs.declared.node.Node.{Node}
 use Rattle.aig.specs.Builds.{Builds}
 use Rattle.cbf_unfold.specs.Places.{IsVisited, weight_at}
 use Rattle.cbf_unfold.specs.View.{UnfolderView}
+use Rattle.cbf_unfold.specs.Planned.{IsPlanned}
 
 -- the number of the variable in the table
 abbrev pub IsNumberOf : List (ℕ × ℕ) → ℕ → Variable ℕ → Type 0
@@ -37,13 +38,14 @@ pub record IsKnown (n : NetView) (order : List ℕ) (last : ℕ) (g : List Node)
   pub builds : Builds g places tree lit
   pub within : lit < 2 * length g
 
--- each literal that the unfolder keeps is right, each place is visited from a signal that was unfolded, and the weight is
--- that of the places
+-- each literal that the unfolder keeps is right, each place is visited from a signal that was unfolded, the weight is
+-- that of the places, and each stands behind those that it reads
 pub record Holds (u : UnfolderView) (g : List Node) (places : List (ℕ × ℕ)) : Type 0 where
   pub known : (p : ℕ × ℕ) (x : Lit) → Contains u.memo (p, x) → IsKnown u.net u.order u.cap g places p x.0
   pub visited : (p : ℕ × ℕ) (x : Lit) → Contains u.memo (p, x) → IsVisited (circuit_of u.net) u.cap u.done p
   pub within : All (λ s. s < length u.net.drivers) u.done
   pub counted : sum_by (λ e. weight_at u.net e.0.1) u.memo ≡ u.weight
+  pub planned : IsPlanned (circuit_of u.net) u.memo
 
 -- What an unfolder keeps is right for the graph and the table, and it has met exactly the places that the unfoldings of
 -- the signals unfolded so far visit. These weigh together no more than the limit.

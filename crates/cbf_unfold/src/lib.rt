@@ -9,6 +9,7 @@ mod reached_places;
 mod reads;
 mod unfolder;
 mod variables;
+mod visitors;
 
 pub use error::UnfoldError;
 pub use laws::{

@@ -1,6 +1,6 @@
 //! The places that were met, with their literals.
 
-ghost use Rattle.std.specs.Prelude.{◌≡◌, ◌≢◌, ℕ, List, [], ◌∷◌, ◌++◌, IfSome, IfNone, OnOk, OnErr, Contains, map};
+ghost use Rattle.std.specs.Prelude.{◌≡◌, ◌≢◌, ◌<◌, ℕ, List, [], ◌∷◌, ◌++◌, IfSome, IfNone, OnOk, OnErr, Contains, map, length, slice_get, Some};
 ghost use Rattle.std.specs.List.{AllPairs};
 ghost use Rattle.aig.specs.declared.node.Lit.{Lit};
 
@@ -51,6 +51,35 @@ impl Memo {
         match self.lits.get(&place) {
             Some(lit) => Some(*lit),
             None => None,
+        }
+    }
+
+    /// How many places were met.
+    pub(crate) fn len(&self) -> usize
+        ensures { result ≡ length self.now }
+    {
+        self.lits.len()
+    }
+
+    /// The place with this number, in the order in which they were put.
+    pub(crate) fn place(&self, number: usize) -> Place
+        requires { number < length self.now }
+        ensures { (x : Lit) × (slice_get self.now number ≡ Some (result, x)) }
+    {
+        match self.lits.get_index(number) {
+            Some((place, _)) => *place,
+            None => unreachable!(),
+        }
+    }
+
+    /// The number of a place that was met.
+    pub(crate) fn number(&self, place: Place) -> usize
+        requires { (x : Lit) × Contains self.now (place, x) }
+        ensures { (x : Lit) × (slice_get self.now result ≡ Some (place, x)) }
+    {
+        match self.lits.get_index_of(&place) {
+            Some(number) => number,
+            None => unreachable!(),
         }
     }
 

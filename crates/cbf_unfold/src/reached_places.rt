@@ -3,10 +3,11 @@
 ghost use Rattle.std.specs.Prelude.{◌≡◌, ℕ, ◌<◌, ◌≤◌, [], ◌∷◌, length, IfOk};
 ghost use Rattle.circuit_theory.specs.Sizes.{IsOver};
 ghost use Rattle.flat_net.specs.View.{circuit_of};
-ghost use Rattle.cbf_unfold.specs.Reach.{AreVisited, IsReach};
+ghost use Rattle.cbf_unfold.specs.Reach.{AreUnmet, IsReach};
 ghost use Rattle.cbf_unfold.specs.declared.error.UnfoldError.TheVariants as unfold_error;
 
 use crate::error::UnfoldError;
+use crate::memo::Memo;
 use crate::reads::{add, add_read, weigh};
 use flat_net::{Net, Signal};
 use sec_base::{MAX_WEIGHT, NoMemory, PlaceTable};
@@ -15,36 +16,44 @@ use std::alloc::Global;
 /// A cycle, and a signal's number.
 pub(crate) type Place = (u32, u32);
 
-/// The places that the unfolding of the signal visits, in an order of evaluation. The signal stands in the cycle `cap`.
-/// `TooLarge` comes only where they weigh more than the cap.
+/// The places that the unfolding of the signal visits and that haven't been met, in an order of evaluation. It doesn't look
+/// behind a place that has been met. The signal stands in the cycle `cap`. `TooLarge` comes only where they weigh more than
+/// the cap.
 pub(crate) fn reach(
     alloc: Global,
     net: &Net,
+    memo: &Memo,
     s: Signal,
     cap: u32,
 ) -> Result<Vec<Place>, UnfoldError>
     requires signal { s.0 < length net.now.drivers }
     requires small { cap ≤ MAX_WEIGHT }
-    ensures reach { IfOk result (λ r. IsReach (circuit_of net.now) (length net.now.drivers) s.0 cap r.items) }
+    ensures reach { IfOk result (λ r. IsReach (circuit_of net.now) (length net.now.drivers) s.0 cap memo.now r.items) }
     ensures over { result ≡ Err unfold_error.TooLarge → IsOver (circuit_of net.now) (s.0 ∷ []) cap }
 {
-    let table = visited(alloc, net, s, cap)?;
+    let table = unmet(alloc, net, memo, s, cap)?;
     table.keeps();
     let mut places = listed(alloc, &table)?;
     places.sort()?;
     Ok(places)
 }
 
-/// The places that are visited, each before those that it reads.
-fn visited(alloc: Global, net: &Net, s: Signal, cap: u32) -> Result<PlaceTable, UnfoldError>
+/// The places that are visited and haven't been met, each before those that it reads.
+fn unmet(
+    alloc: Global,
+    net: &Net,
+    memo: &Memo,
+    s: Signal,
+    cap: u32,
+) -> Result<PlaceTable, UnfoldError>
     requires signal { s.0 < length net.now.drivers }
     requires small { cap ≤ MAX_WEIGHT }
-    ensures visited { IfOk result (λ table. AreVisited (circuit_of net.now) (length net.now.drivers) s.0 cap table) }
+    ensures unmet { IfOk result (λ table. AreUnmet (circuit_of net.now) (length net.now.drivers) s.0 cap memo.now table) }
     ensures over { result ≡ Err unfold_error.TooLarge → IsOver (circuit_of net.now) (s.0 ∷ []) cap }
 {
     net.keeps();
     let mut table = PlaceTable::new(alloc);
-    add(&mut table, cap, s)?;
+    add(memo, &mut table, cap, s)?;
     let mut at = 0;
     let mut weight = 0;
     while at < table.len() {
@@ -53,7 +62,7 @@ fn visited(alloc: Global, net: &Net, s: Signal, cap: u32) -> Result<PlaceTable, 
             table.keeps();
             return Err(UnfoldError::TooLarge);
         };
-        add_read(net, &mut table, cycle, Signal(signal))?;
+        add_read(net, memo, &mut table, cycle, Signal(signal))?;
         weight += more;
         at += 1;
     }

@@ -4,8 +4,9 @@ ghost use Rattle.std.specs.Prelude.{◌≡◌, ℕ, ◌+◌, ◌*◌, ◌^◌, �
 ghost use Rattle.flat_net.specs.View.{NetView, circuit_of, cover_of};
 ghost use Rattle.flat_net.specs.declared.signals.Signal.{Signal};
 ghost use Rattle.cbf_unfold.specs.Places.{Steps, gate_weight, weight_at};
-ghost use Rattle.cbf_unfold.specs.Reach.{Adds};
+ghost use Rattle.cbf_unfold.specs.Reach.{Adds, IsThere};
 
+use crate::memo::Memo;
 use flat_net::{Driver, Gate, LatchAt, Net, Signal};
 use sec_base::{NoMemory, PlaceTable};
 
@@ -64,9 +65,10 @@ fn within(weight: usize, room: u32) -> Option<u32>
     }
 }
 
-/// Puts the places that this one reads into the table.
+/// Puts the places that this one reads into the table, if they haven't been met.
 pub(crate) fn add_read(
     net: &Net,
+    memo: &Memo,
     table: &mut PlaceTable,
     cycle: u32,
     s: Signal,
@@ -75,36 +77,49 @@ pub(crate) fn add_read(
     requires early { 0 < cycle }
     requires room { length table.old + weight_at net.now s.0 < 2 ^ 32 }
     ensures adds { Adds (Steps (circuit_of net.now) (cycle, s.0)) table.old table.new }
-    ensures all { OnOk result ((q : ℕ × ℕ) → Steps (circuit_of net.now) (cycle, s.0) q → Contains table.new q) }
+    ensures all { OnOk result ((q : ℕ × ℕ) → Steps (circuit_of net.now) (cycle, s.0) q → IsThere memo.now table.new q) }
     ensures few { length table.new ≤ length table.old + weight_at net.now s.0 }
 {
     net.keeps();
     match net.driver(s) {
         Driver::Input(_) => Ok(()),
-        Driver::Gate(j) => add_fanins(table, cycle, gate_of(net, j).fanins.as_slice()),
-        Driver::Latch(j) => add(table, cycle - 1, latch_of(net, j).next),
+        Driver::Gate(j) => add_fanins(memo, table, cycle, gate_of(net, j).fanins.as_slice()),
+        Driver::Latch(j) => add(memo, table, cycle - 1, latch_of(net, j).next),
     }
 }
 
-/// Puts the place into the table.
-pub(crate) fn add(table: &mut PlaceTable, cycle: u32, s: Signal) -> Result<(), NoMemory>
+/// Puts the place into the table, if it hasn't been met.
+pub(crate) fn add(
+    memo: &Memo,
+    table: &mut PlaceTable,
+    cycle: u32,
+    s: Signal,
+) -> Result<(), NoMemory>
     requires { length table.old + 1 < 2 ^ 32 }
     ensures adds { Adds (λ q. q ≡ (cycle, s.0)) table.old table.new }
-    ensures here { OnOk result (Contains table.new (cycle, s.0)) }
+    ensures here { OnOk result (IsThere memo.now table.new (cycle, s.0)) }
     ensures few { length table.new ≤ length table.old + 1 }
 {
+    if let Some(_) = memo.get((cycle, s.0)) {
+        return Ok(());
+    }
     table.intern(cycle, s.0)?;
     Ok(())
 }
 
-fn add_fanins(table: &mut PlaceTable, cycle: u32, fanins: &[Signal]) -> Result<(), NoMemory>
+fn add_fanins(
+    memo: &Memo,
+    table: &mut PlaceTable,
+    cycle: u32,
+    fanins: &[Signal],
+) -> Result<(), NoMemory>
     requires { length table.old + length fanins.now + 1 < 2 ^ 32 }
     ensures adds { Adds (λ q. (f : Signal) × Contains fanins.now f × ((cycle, f.0) ≡ q)) table.old table.new }
-    ensures all { OnOk result (All (λ f. Contains table.new (cycle, f.0)) fanins.now) }
+    ensures all { OnOk result (All (λ f. IsThere memo.now table.new (cycle, f.0)) fanins.now) }
     ensures few { length table.new ≤ length table.old + length fanins.now }
 {
     for fanin in fanins {
-        add(table, cycle, *fanin)?;
+        add(memo, table, cycle, *fanin)?;
     }
     Ok(())
 }

@@ -1,24 +1,23 @@
 //! The unfolder.
 
 ghost use Rattle.std.specs.Prelude.{◌≡◌, ◌≢◌, ℕ, ◌+◌, ◌-◌, ◌^◌, ◌<◌, ◌≤◌, List, [], ◌∷◌, ◌++◌, length, map, All, Contains, IfOk, OnOk, OnErr};
-ghost use Rattle.std.specs.List.{AllPairs};
-ghost use Rattle.circuit_theory.specs.Tree.{IsInputNumber};
+ghost use Rattle.std.specs.List.{AllPairs, AllZip};
 ghost use Rattle.circuit_theory.specs.Sizes.{IsOver};
 ghost use Rattle.flat_net.specs.View.{circuit_of};
 ghost use Rattle.aig.specs.declared.node.Node.{Node};
 ghost use Rattle.cbf_unfold.specs.View.{IsOrderOf, IsUnfolder};
 ghost use Rattle.cbf_unfold.specs.Unfolded.{IsUnfolded, Fits};
-ghost use Rattle.cbf_unfold.specs.Places.{PlaceBefore};
-ghost use Rattle.cbf_unfold.specs.Building.{IsMet, IsLater, AreNumbered};
+ghost use Rattle.cbf_unfold.specs.Building.{IsMet, IsLater};
 ghost use Rattle.cbf_unfold.specs.declared.error.UnfoldError.TheVariants as unfold_error;
 
+mod listing;
 mod literals;
 mod places;
+mod rooting;
 
 use crate::error::UnfoldError;
 use crate::memo::Memo;
-use crate::reached_places::{Place, reach};
-use crate::variables::{inputs_of, numbers_of};
+use crate::reached_places::Place;
 use aig::{Aig, Lit};
 use flat_net::{Net, Signal};
 use latch_graph::LatchGraph;
@@ -96,6 +95,8 @@ impl<'a> Unfolder<'a> {
     /// input or a latch 1, a gate 1 + r * (f + 1) with f fan-ins and a cover of r rows, or of one where it has none. A
     /// signal that reads itself through latches is refused: the places that it visits have no end. After a refusal, also
     /// one for want of memory, the graph and the table may have grown, and the unfolder is used no more.
+    ///
+    /// It costs a pass over all places so far; for many signals `unfold_all` costs less.
     pub fn unfold(
         &mut self,
         alloc: Global,
@@ -115,14 +116,35 @@ impl<'a> Unfolder<'a> {
     {
         let net = self.net();
         net.keeps();
-        let visited = reach(alloc, net, s, self.cap())?;
-        let reached = visited.as_slice();
-        self.begin(s)?;
-        self.build(alloc, aig, places, reached)?;
-        self.keeps();
-        let lit = self.met((self.cap(), s.0));
-        let vars = self.variables(alloc, places, reached)?;
+        let lit = self.root(alloc, aig, places, s)?;
+        let vars = self.list_of(alloc, places, s)?;
         Ok(Unfolded { lit, vars })
+    }
+
+    /// The same of several signals, in their order. Beside their own variables it costs one walk over all places that they visit
+    /// together, and a pass over these for each 64 signals.
+    pub fn unfold_all(
+        &mut self,
+        alloc: Global,
+        aig: &mut Aig,
+        places: &mut PlaceTable,
+        signals: &[Signal],
+    ) -> Result<Vec<Unfolded>, UnfoldError>
+        requires signals { All (λ s. s.0 < length self.old.net.drivers) signals.now }
+        requires fits { Fits self.old aig.old places.old }
+        requires nodes { length aig.old ≤ 2 ^ 29 }
+        requires entries { length places.old ≤ 2 ^ 29 }
+        ensures unfolded { IfOk result (λ us. AllZip (λ s u. IsUnfolded self.new.net self.new.order aig.new places.new s.0 u.lit.0 u.vars) signals.now us.items) }
+        ensures fits { OnOk result (Fits self.new aig.new places.new) }
+        ensures done { OnOk result (self.new.done ≡ self.old.done ++ map (λ s. s.0) signals.now) }
+        ensures over { result ≡ Err unfold_error.TooLarge → IsOver (circuit_of self.old.net) (self.old.done ++ map (λ s. s.0) signals.now) MAX_WEIGHT }
+        ensures later { IsLater self.old self.new aig.old aig.new places.old places.new }
+    {
+        let net = self.net();
+        net.keeps();
+        let lits = self.roots(alloc, aig, places, signals)?;
+        let unfolded = self.functions(alloc, places, signals, lits.as_slice())?;
+        Ok(unfolded)
     }
 
     /// Tells a proof what each unfolder keeps. It does nothing.
@@ -145,6 +167,12 @@ impl<'a> Unfolder<'a> {
         self.order.as_slice()
     }
 
+    fn memo(&self) -> &Memo
+        ensures { result.now ≡ self.now.memo }
+    {
+        &self.memo
+    }
+
     fn cap(&self) -> u32
         ensures { result ≡ self.now.cap }
     {
@@ -165,26 +193,5 @@ impl<'a> Unfolder<'a> {
         ensures { Contains self.now.memo (place, result) }
     {
         self.memo.met(place)
-    }
-
-    /// The numbers in the table of the inputs among the places. They are in the table already.
-    fn variables(
-        &self,
-        alloc: Global,
-        places: &mut PlaceTable,
-        visited: &[Place],
-    ) -> Result<Ids, NoMemory>
-        requires cycles { All (λ p. p.0 ≤ self.now.cap) visited.now }
-        requires within { All (λ p. p.1 < length self.now.net.drivers) visited.now }
-        requires ordered { AllPairs PlaceBefore visited.now }
-        requires known { (p : ℕ × ℕ) (number : ℕ) → Contains visited.now p → IsInputNumber (circuit_of self.now.net) self.now.order p.1 number → Contains places.old (number, self.now.cap - p.0) }
-        requires room { length places.old + 1 < 2 ^ 32 }
-        ensures same { places.new ≡ places.old }
-        ensures numbered { IfOk result (λ vars. AreNumbered self.now places.old visited.now vars) }
-    {
-        self.keeps();
-        let found = inputs_of(alloc, self.net(), self.order(), visited)?;
-        let vars = numbers_of(alloc, places, self.cap(), found.as_slice())?;
-        Ok(vars)
     }
 }

@@ -1,6 +1,6 @@
 //! The variables of an unfolded signal.
 
-ghost use Rattle.std.specs.Prelude.{◌≡◌, ℕ, ◌+◌, ◌-◌, ◌^◌, ◌<◌, ◌≤◌, length, slice_get, Some, All, Contains, IfSome, IfNone, IfOk, OnOk};
+ghost use Rattle.std.specs.Prelude.{◌≡◌, ◌≢◌, ℕ, ◌+◌, ◌-◌, ◌^◌, ◌<◌, ◌≤◌, length, slice_get, Some, All, Contains, IfSome, IfNone, IfOk, OnOk};
 ghost use Rattle.std.specs.List.{AllPairs, AllZip};
 ghost use Rattle.circuit_theory.specs.Tree.{IsInputNumber};
 ghost use Rattle.flat_net.specs.View.{circuit_of};
@@ -14,7 +14,7 @@ use sec_base::{Ids, NoMemory, PlaceTable, Seq};
 use std::alloc::Global;
 
 /// The number of the input that drives the signal, if one does.
-fn input_number(net: &Net, order: &[u32], s: Signal) -> Option<u32>
+pub(crate) fn input_number(net: &Net, order: &[u32], s: Signal) -> Option<u32>
     requires order { IsOrderOf net.now order.now }
     requires signal { s.0 < length net.now.drivers }
     ensures here { IfSome result (λ number. IsInputNumber (circuit_of net.now) order.now s.0 number) }
@@ -37,7 +37,7 @@ pub(crate) fn inputs_of(
 ) -> Result<Vec<(u32, u32)>, NoMemory>
     requires order { IsOrderOf net.now order.now }
     requires within { All (λ p. p.1 < length net.now.drivers) places.now }
-    requires ordered { AllPairs PlaceBefore places.now }
+    requires differ { AllPairs (λ p q. p ≢ q) places.now }
     ensures inputs { IfOk result (λ found. AreInputsOf (circuit_of net.now) order.now places.now found.items) }
     ensures ordered { IfOk result (λ found. AllPairs PlaceBefore found.items) }
 {

@@ -118,7 +118,7 @@ module _ (a b : GraphView) (are_a : AreNodes a.nodes a.latches) (are_b : AreNode
     tried_more false tried_left tried_right need none_left none_right after e = subst (λ z. AreTried a b lefts rights (k + 1) new_left new_right z) (sym e) (without_it tried_left tried_right (none_left refl) (none_right refl))
 
 -- the same, as a turn of the program tells it
-module _ (a b : GraphView) (lefts rights : List ℕ) (readers_a readers_b : List Node) (field_a : IsField a lefts readers_a) (field_b : IsField b rights readers_b) (many : length rights ≡ length lefts) (k : ℕ) (inside : k < length lefts) (places : List ℕ)
+module _ (a b : GraphView) (lefts rights : List ℕ) (inner_a inner_b readers_a readers_b : List Node) (field_a : IsField a lefts inner_a readers_a) (field_b : IsField b rights inner_b readers_b) (many : length rights ≡ length lefts) (k : ℕ) (inside : k < length lefts) (places : List ℕ)
     (left right mid_left mid_right : List Mark) (t : AreTried a b lefts rights k left right places) where
   abbrev u : ℕ
   u = signal_of a.latches (get_or lefts k 0)

@@ -4,16 +4,18 @@ use Rattle.sec_base.specs.Table.{AreDistinct}
 use Rattle.flat_net.specs.View.{NetView}
 use Rattle.latch_graph.specs.declared.nodes.Node.{Node}
 use Rattle.latch_graph.specs.Graph.{GraphView, IsGraphOf, AreNodes}
+use Rattle.graph_components.specs.Inner.{AreInner}
 use Rattle.expose_pick.specs.declared.marks.Mark.{Mark}
 use Rattle.expose_pick.specs.Readers.{WayBack, AreReaders}
 use Rattle.expose_pick.specs.Marks.{IsBlocked, IsBlockedBut, AreMarks, signal_of}
 
--- a graph with distinct positions of latches, and which signals read each signal
-pub record IsField (g : GraphView) (positions : List ℕ) (readers : List Node) : Type 0 where
+-- a graph with distinct positions of latches, its readings that can be part of a cycle, and these turned round
+pub record IsField (g : GraphView) (positions : List ℕ) (inner readers : List Node) : Type 0 where
   pub are : AreNodes g.nodes g.latches
   pub within : All (λ j. j < length g.latches) positions
   pub once : AreDistinct positions
-  pub readers_are : AreReaders g.nodes readers
+  pub inner_are : AreInner g.nodes inner
+  pub readers_are : AreReaders inner readers
 
 -- After the first k positions were tried: the later ones are taken out, and so are those at the places, no other latch is, and no
 -- cycle is left.

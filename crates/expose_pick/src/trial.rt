@@ -11,15 +11,18 @@ ghost use Rattle.expose_pick.specs.Trying.{IsField, AreTried};
 use crate::marks::{Mark, first_marks};
 use crate::readers::readers_of;
 use crate::walk::closes_cycle;
+use graph_components::inner_nodes;
 use latch_graph::{LatchGraph, Node};
 use sec_base::{Ids, NoMemory, Seq};
 use std::alloc::Global;
 
-/// One of the two graphs, with the positions of its latches in the pairs, and which signals read each signal.
+/// One of the two graphs, with the positions of its latches in the pairs, its readings that can be part of a cycle, and these turned
+/// round.
 #[derive(Drop)]
 pub(crate) struct Field<'a> {
     graph: &'a LatchGraph,
     positions: &'a [u32],
+    inner: Vec<Node>,
     readers: Vec<Node>,
 }
 
@@ -65,13 +68,15 @@ fn field_of<'a>(
     requires once { AreDistinct positions.now }
     ensures graph { IfOk result (λ field. field.graph.now ≡ graph.now) }
     ensures positions { IfOk result (λ field. field.positions.now ≡ positions.now) }
-    ensures field { IfOk result (λ field. IsField field.graph.now field.positions.now field.readers.items) }
+    ensures field { IfOk result (λ field. IsField field.graph.now field.positions.now field.inner.items field.readers.items) }
 {
     graph.keeps();
-    let readers = readers_of(alloc, graph.nodes())?;
+    let inner = inner_nodes(alloc, graph.nodes())?;
+    let readers = readers_of(alloc, inner.as_slice())?;
     Ok(Field {
         graph,
         positions,
+        inner,
         readers,
     })
 }
@@ -84,8 +89,8 @@ fn try_all(
     left: &mut [Mark],
     right: &mut [Mark],
 ) -> Result<Ids, NoMemory>
-    requires a { IsField a.now.graph.now a.now.positions.now a.now.readers.items }
-    requires b { IsField b.now.graph.now b.now.positions.now b.now.readers.items }
+    requires a { IsField a.now.graph.now a.now.positions.now a.now.inner.items a.now.readers.items }
+    requires b { IsField b.now.graph.now b.now.positions.now b.now.inner.items b.now.readers.items }
     requires pairs { length b.now.positions.now ≡ length a.now.positions.now }
     requires none_tried { AreTried a.now.graph.now b.now.graph.now a.now.positions.now b.now.positions.now 0 left.old right.old [] }
     ensures { IfOk result (AreTried a.now.graph.now b.now.graph.now a.now.positions.now b.now.positions.now (length a.now.positions.now) left.new right.new) }
@@ -112,7 +117,7 @@ fn closes_at(
     k: usize,
     turn: u32,
 ) -> Result<bool, NoMemory>
-    requires field { IsField field.now.graph.now field.now.positions.now field.now.readers.items }
+    requires field { IsField field.now.graph.now field.now.positions.now field.now.inner.items field.now.readers.items }
     requires place { k < length field.now.positions.now }
     requires marks { AreMarks field.now.graph.now.nodes marks.old turn }
     requires out { slice_get marks.old (signal_of field.now.graph.now.latches (slice_index_or field.now.positions.now k 0)) ≡ Some Mark.Out }
@@ -122,7 +127,7 @@ fn closes_at(
     ensures back { OnOk result (IsPutBack marks.old marks.new (signal_of field.now.graph.now.latches (slice_index_or field.now.positions.now k 0))) }
 {
     let root = signal_at(field, k);
-    let nodes = field.graph.nodes();
+    let nodes = field.inner.as_slice();
     let found = closes_cycle(alloc, nodes, field.readers.as_slice(), marks, root, turn)?;
     Ok(found)
 }

@@ -31,23 +31,8 @@ functions_later {X} signal n order g h places more grows adds xs us zip =
     zip_weaker (λ (x : X) (u : Unfolded). IsFunctionOf n order g places (signal x) u) (λ x u. IsFunctionOf n order h more (signal x) u)
     (λ x u f. unfolded_later n order g h places more (signal x) u.lit.0 u.vars grows adds f) xs us zip
 
--- the function that an unfolder gives is one of its net
-pub function_of : (u v : UnfolderView) (n : NetView) (order : List ℕ) (g h k : List Node) (places more most : List (ℕ × ℕ)) (s : ℕ) (r : Unfolded) → u.net ≡ n → u.order ≡ order → IsLater u v g h places more →
-    IsUnfolded v.net v.order k most s r.lit.0 r.vars → IsFunctionOf n order k most s r
-function_of u v n order g h k places more most s r net numbers later is =
-    subst (λ (m : NetView). IsUnfolded m order k most s r.lit.0 r.vars) (later.net ∙ net)
-    (subst (λ (l : List ℕ). IsUnfolded v.net l k most s r.lit.0 r.vars) (later.order ∙ numbers) is)
-
 abbrev pub numbers_of : List Signal → List ℕ
 numbers_of signals = map (λ (s : Signal). s.0) signals
-
--- one signal more
-pub done_next : (signals : List Signal) (i : ℕ) (d : Signal) (done more : List ℕ) → i < length signals → done ≡ numbers_of (take i signals) → more ≡ done ++ (get_or signals i d).0 ∷ [] → more ≡ numbers_of (take (i + 1) signals)
-done_next signals i d done more inside before is =
-    is
-    ∙ (ap (λ (l : List ℕ). l ++ (get_or signals i d).0 ∷ []) before
-    ∙ (sym (map-append (λ (s : Signal). s.0) (take i signals) (get_or signals i d ∷ []))
-    ∙ ap numbers_of (sym (take_next signals i (get_or signals i d) (slice_get-get_or signals i d inside)))))
 
 -- more outputs weigh no less
 pub over_weaker : (c : Circuit ℕ) (xs ys : List ℕ) (cap : ℕ) → ((x : ℕ) → Contains xs x → Contains ys x) → IsOver c xs cap → IsOver c ys cap
@@ -58,18 +43,6 @@ over_weaker c xs ys cap sub over = record {
   met = λ x h. let m = over.met x h in (m.0, sub m.0 m.1, m.2);
   total = over.total;
 }
-
--- what was done and the next signal are signals
-pub done_among : (signals : List Signal) (i : ℕ) (d : Signal) (done : List ℕ) → i < length signals → done ≡ numbers_of (take i signals) → (x : ℕ) → Contains (done ++ (get_or signals i d).0 ∷ []) x → Contains (numbers_of signals) x
-done_among signals i d done inside before x h =
-    Contains-part signals (i + 1) x (subst (λ (l : List ℕ). Contains l x) (done_next signals i d done _ inside before refl) h)
-  where
-    Contains-part : (ss : List Signal) (n : ℕ) (y : ℕ) → Contains (numbers_of (take n ss)) y → Contains (numbers_of ss) y
-    Contains-part [] zero y k = k
-    Contains-part [] (suc n) y k = k
-    Contains-part (t ∷ ss) zero y k = absurd (omega (arith, k.1))
-    Contains-part (t ∷ ss) (suc n) y k =
-        elim (Contains-cases t.0 y (numbers_of (take n ss)) k) [ inl e ↦ subst (Contains (t.0 ∷ numbers_of ss)) e (Contains-head t.0 (numbers_of ss)) | inr m ↦ Contains-tail t.0 y (numbers_of ss) (Contains-part ss n y m) ]
 
 -- the same outputs have the same weight
 pub weight_same : (c : Circuit ℕ) (xs ys : List ℕ) (w : ℕ) → ((x : ℕ) → Contains xs x → Contains ys x) → ((x : ℕ) → Contains ys x → Contains xs x) → IsWeight c xs w → IsWeight c ys w
@@ -83,13 +56,6 @@ weight_same c xs ys w forth back weight = record {
   );
   total = weight.total;
 }
-
--- what is over with one signal more is over with all
-pub over_all : (signals : List Signal) (i : ℕ) (d : Signal) (u : UnfolderView) (n : NetView) → i < length signals → u.done ≡ numbers_of (take i signals) → u.net ≡ n → IsOver (circuit_of u.net) (u.done ++ (get_or signals i d).0 ∷ []) 2000000 →
-    IsOver (circuit_of n) (numbers_of signals) 2000000
-over_all signals i d u n inside before net over =
-    subst (λ (m : NetView). IsOver (circuit_of m) (numbers_of signals) 2000000) net
-    (over_weaker (circuit_of u.net) (u.done ++ (get_or signals i d).0 ∷ []) (numbers_of signals) 2000000 (done_among signals i d u.done inside before) over)
 
 pub within_from : (signals : List Signal) (numbers : List ℕ) (size : ℕ) → numbers_of signals ≡ numbers → All (λ s. s < size) numbers → All (λ (s : Signal). s.0 < size) signals
 within_from signals numbers size same all =

@@ -203,10 +203,6 @@ fn unfold_all(
     ensures nodes { length aig.new ≤ length aig.old + MAX_WEIGHT }
     ensures entries { length places.new ≤ length places.old + MAX_WEIGHT }
 {
-    let mut unfolded = Vec::new(alloc);
-    for s in signals {
-        let one = unfolder.unfold(alloc, aig, places, *s)?;
-        unfolded.push(one)?;
-    }
+    let unfolded = unfolder.unfold_all(alloc, aig, places, signals)?;
     Ok(unfolded)
 }

@@ -26,7 +26,7 @@ impl<'a> Unfolder<'a> {
         places: &mut PlaceTable,
         reach: &[Place],
     ) -> Result<(), UnfoldError>
-        requires reach { (s : ℕ) × Contains self.old.done s × IsReach (circuit_of self.old.net) (length self.old.net.drivers) s self.old.cap reach.now }
+        requires reach { (s : ℕ) × Contains self.old.done s × IsReach (circuit_of self.old.net) (length self.old.net.drivers) s self.old.cap self.old.memo reach.now }
         requires holds { Holds self.old aig.old places.old }
         requires room { HasRoom self.old aig.old places.old }
         ensures holds { OnOk result (Holds self.new aig.new places.new) }

@@ -10,7 +10,7 @@ returns-in_err-add-clause-adds c = fanin_adds c.args.fanins.now c.args.cycle c.l
 pub loop-fanin-preserved : goal.loop-fanin-preserved
 loop-fanin-preserved c = record {
   adds = fanin_adds c.args.fanins.now c.args.cycle c.loop-fanin.fanin-index _ _ _ _ c.loop-fanin-test.true c.loop-fanin.invariant.adds c.add.ensures.adds;
-  all = fanin_all c.args.fanins.now c.args.cycle c.loop-fanin.fanin-index _ _ _ c.loop-fanin-test.true c.loop-fanin.invariant.all c.add.ensures.adds c.in_ok-add.ensures.here;
+  all = fanin_all c.args.memo.now c.args.fanins.now c.args.cycle c.loop-fanin.fanin-index _ _ _ c.loop-fanin-test.true c.loop-fanin.invariant.all c.add.ensures.adds c.in_ok-add.ensures.here;
   few = omega (arith, c.loop-fanin.invariant.few, c.add.ensures.few);
 }
 

@@ -13,7 +13,7 @@ loop-place-preserved-in_default c = inputs_skip (circuit_of c.args.net.now) c.ar
 pub loop-place-preserved : goal.loop-place-preserved
 loop-place-preserved c =
     subst (λ (l : List (ℕ × ℕ)). AreInputsOf (circuit_of c.args.net.now) c.args.order.now (take (c.loop-place.place-index + 1) c.args.places.now) l) (sym c.in_ok-push.ensures.items)
-    (inputs_push (circuit_of c.args.net.now) c.args.order.now c.args.places.now c.loop-place.place-index (0, 0) _ c.loop-place-test.true c.loop-place.invariant c.requires.ordered c.requires.order.distinct c.keeps.ensures.net.inputs _ c.in-Some.ensures.here)
+    (inputs_push (circuit_of c.args.net.now) c.args.order.now c.args.places.now c.loop-place.place-index (0, 0) _ c.loop-place-test.true c.loop-place.invariant c.requires.differ c.requires.order.distinct c.keeps.ensures.net.inputs _ c.in-Some.ensures.here)
 
 pub returns-clause-inputs : goal.returns-clause-inputs
 returns-clause-inputs c =

@@ -46,7 +46,7 @@ loop-k-preserved c =
       | then-in_left w ↦ w.needed-is ∙ w.if-in_left.true ∙ sym (ap (λ z. z || c.in_ok-in_right.in_right) w.if-in_left.true)
       | else-in_left w ↦ w.needed-is ∙ sym (ap (λ z. z || c.in_ok-in_right.in_right) w.if-in_left.false)
     ] in
-    tried_turn c.args.a.now.graph.now c.args.b.now.graph.now c.args.a.now.positions.now c.args.b.now.positions.now c.args.a.now.readers.items c.args.b.now.readers.items c.requires.a c.requires.b c.requires.pairs c.loop-k.k c.loop-k-test.true
+    tried_turn c.args.a.now.graph.now c.args.b.now.graph.now c.args.a.now.positions.now c.args.b.now.positions.now c.args.a.now.inner.items c.args.b.now.inner.items c.args.a.now.readers.items c.args.b.now.readers.items c.requires.a c.requires.b c.requires.pairs c.loop-k.k c.loop-k-test.true
     c.loop-k.places c.loop-k.left c.loop-k.right c.closes_at.new.marks c.closes_at-in-loop-k.new.marks c.loop-k.invariant c.in_ok-in_left.ensures.marks c.in_ok-in_right.ensures.marks c.in_ok-in_left.ensures.back c.in_ok-in_right.ensures.back
     c.in_ok-in_left.in_left c.in_ok-in_right.in_right c.in_ok-in_left.ensures.yes c.in_ok-in_left.ensures.no c.in_ok-in_right.ensures.yes c.in_ok-in_right.ensures.no c.if-in_left.needed needed_is c.take_out_if.new.marks
     c.take_out_if-in-loop-k.new.marks c.push_if.new.places c.take_out_if.ensures c.take_out_if-in-loop-k.ensures c.in_ok-push_if.ensures

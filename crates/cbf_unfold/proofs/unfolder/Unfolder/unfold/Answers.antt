@@ -1,118 +1,37 @@
--- All places of the signal are met, and its inputs are listed.
-use Rattle.std.proofs.Common.{◌≡◌, ◌∙◌, ◌<◌, ℕ, List, [], ◌∷◌, length, sym, ap, subst, arith, rules}
-use Rattle.circuit_theory.specs.Sizes.{IsOver}
+-- The signal's literal, and its variables, which the table has.
+use Rattle.std.proofs.Common.{◌≡◌, ◌∙◌, ℕ, List, sym, subst, arith}
 use Rattle.std.specs.List.{Contains}
-use Rattle.flat_net.specs.View.{NetView, circuit_of}
+use Rattle.std.proofs.lemmas.List.Elements.{Contains-push}
 use Rattle.flat_net.specs.Sound.{IsSound}
-use Rattle.cbf_unfold.specs.View.{UnfolderView}
 use Rattle.cbf_unfold.specs.Unfolded.{IsUnfolded, Fits}
-use Rattle.cbf_unfold.specs.Building.{IsMet, IsLater}
-use Rattle.cbf_unfold.proofs.Going.{later_none, met_later}
-use Rattle.cbf_unfold.proofs.Finish.{begun, room_first, reach_is, reach_begun, reach_later, holds_from, room_from, over_begun, over_more, later_begun, visited_cycles, visited_within, input_known, unfolded_from, fits_from}
+use Rattle.cbf_unfold.specs.Building.{IsLater}
+use Rattle.cbf_unfold.proofs.Finish.{room_first, unfolded_from}
 use Rattle.cbf_unfold.proofs.unfolder.Unfolder.unfold.Goals as goal
 
-pub reach-requires-clause-signal : goal.reach-requires-clause-signal
-reach-requires-clause-signal c = subst (λ (n : NetView). c.args.s.0 < length n.drivers) (sym c.net-net.ensures) c.requires.signal
+pub root-requires-clause-room : goal.root-requires-clause-room
+root-requires-clause-room c = room_first c.args.self.now c.args.aig.now c.args.places.now c.requires.fits.limit c.requires.fits.small c.requires.nodes c.requires.entries
 
-pub reach-requires-clause-small : goal.reach-requires-clause-small
-reach-requires-clause-small c = omega (arith, c.cap.ensures, c.requires.fits.limit)
-
-pub returns-in_err-visited-clause-over : goal.returns-in_err-visited-clause-over
-returns-in_err-visited-clause-over c = λ e.
-    let over = c.reach.ensures.over (search rules) in
-    over_more (circuit_of c.args.self.now.net) c.args.self.now.done c.args.s.0 c.cap.result 2000000 (c.cap.ensures ∙ c.requires.fits.limit)
-    (subst (λ (n : NetView). IsOver (circuit_of n) (c.args.s.0 ∷ []) c.cap.result) c.net-net.ensures over)
-
-pub returns-in_err-visited-clause-later : goal.returns-in_err-visited-clause-later
-returns-in_err-visited-clause-later c = later_none c.args.self.now c.args.aig.now c.args.places.now (omega (arith, c.requires.fits.small, c.requires.fits.limit))
-
-pub returns-in_err-begin-clause-later : goal.returns-in_err-begin-clause-later
-returns-in_err-begin-clause-later c =
-    subst (λ (z : UnfolderView). IsLater c.args.self.now z c.args.aig.now c.args.aig.now c.args.places.now c.args.places.now) (sym c.in_err-begin.ensures.err)
-    (later_none c.args.self.now c.args.aig.now c.args.places.now (omega (arith, c.requires.fits.small, c.requires.fits.limit)))
-
-pub build-requires-clause-reach : goal.build-requires-clause-reach
-build-requires-clause-reach c =
-    let u = c.args.self.now in
-    reach_begun u c.begin.new.self c.args.s.0 c.as_slice-reached.result.now c.in_ok-begin.ensures.ok
-    (reach_is u c.net-net.result.now c.cap.result c.args.s.0 c.in_ok-visited.visited.items c.as_slice-reached.result.now c.net-net.ensures c.cap.ensures c.as_slice-reached.ensures.value c.in_ok-visited.ensures.reach)
-
-pub build-requires-clause-holds : goal.build-requires-clause-holds
-build-requires-clause-holds c = holds_from c.args.self.now c.begin.new.self c.args.aig.now c.args.places.now c.args.s.0 c.in_ok-begin.ensures.ok c.requires.signal c.requires.fits.holds
-
-pub build-requires-clause-room : goal.build-requires-clause-room
-build-requires-clause-room c =
-    room_from c.args.self.now c.begin.new.self c.args.aig.now c.args.places.now c.args.s.0 c.in_ok-begin.ensures.ok
-    (room_first c.args.self.now c.args.aig.now c.args.places.now c.requires.fits.limit c.requires.fits.small c.requires.nodes c.requires.entries)
-
-pub returns-in_err-build-clause-over : goal.returns-in_err-build-clause-over
-returns-in_err-build-clause-over c = λ e. over_begun c.args.self.now c.begin.new.self c.args.s.0 c.in_ok-begin.ensures.ok c.requires.fits.limit (c.build.ensures.over (search rules))
-
-pub returns-in_err-build-clause-later : goal.returns-in_err-build-clause-later
-returns-in_err-build-clause-later c =
-    later_begun c.args.self.now c.begin.new.self c.build.new.self c.args.aig.now c.build.new.aig c.args.places.now c.build.new.places _ c.in_ok-begin.ensures.ok c.build.ensures.later
-
-pub met-lit-requires : goal.met-lit-requires
-met-lit-requires c =
-    let u = c.args.self.now in
-    let w = c.build.new.self in
-    let reach = reach_is u c.net-net.result.now c.cap.result c.args.s.0 c.in_ok-visited.visited.items c.as_slice-reached.result.now c.net-net.ensures c.cap.ensures c.as_slice-reached.ensures.value c.in_ok-visited.ensures.reach in
-    let later = later_begun u c.begin.new.self w c.args.aig.now c.build.new.aig c.args.places.now c.build.new.places _ c.in_ok-begin.ensures.ok c.build.ensures.later in
-    subst (λ (k : ℕ). IsMet w.memo (k, c.args.s.0)) (sym (c.cap-2.ensures ∙ later.cap)) (c.in_ok-build.ensures.met (u.cap, c.args.s.0) reach.are.root)
-
-pub variables-requires : goal.variables-requires
-variables-requires c =
-    let u = c.args.self.now in
-    let w = c.build.new.self in
-    let seen = c.as_slice-reached.result.now in
-    let reach = reach_is u c.net-net.result.now c.cap.result c.args.s.0 c.in_ok-visited.visited.items seen c.net-net.ensures c.cap.ensures c.as_slice-reached.ensures.value c.in_ok-visited.ensures.reach in
-    let later = later_begun u c.begin.new.self w c.args.aig.now c.build.new.aig c.args.places.now c.build.new.places _ c.in_ok-begin.ensures.ok c.build.ensures.later in
-    let sound : IsSound w.net = subst IsSound (c.net-net.ensures ∙ sym later.net) c.keeps.ensures.sound in
-    let is = reach_later u w c.args.s.0 seen later.net later.cap reach in
+pub list_of-requires : goal.list_of-requires
+list_of-requires c =
+    let later = c.root.ensures.later in
     record {
-      cycles = visited_cycles w sound c.build.new.aig c.build.new.places c.in_ok-build.ensures.holds c.args.s.0 seen is c.in_ok-build.ensures.met;
-      within = visited_within w sound c.build.new.aig c.build.new.places c.in_ok-build.ensures.holds c.args.s.0 seen is c.in_ok-build.ensures.met;
-      ordered = is.ordered;
-      known = input_known w sound c.build.new.aig c.build.new.places c.in_ok-build.ensures.holds c.args.s.0 seen is c.in_ok-build.ensures.met;
+      fits = (c.root.new.aig, c.in_ok-lit.ensures.fits);
+      done = subst (λ (d : List ℕ). Contains d c.args.s.0) (sym c.in_ok-lit.ensures.done) (Contains-push c.args.self.now.done c.args.s.0);
       room = omega (arith, later.entries, later.small, later.cap, c.requires.fits.limit, c.requires.entries);
     }
 
 pub returns-in_err-vars-clause-later : goal.returns-in_err-vars-clause-later
-returns-in_err-vars-clause-later c =
-    subst (λ (t : List (ℕ × ℕ)). IsLater c.args.self.now c.build.new.self c.args.aig.now c.build.new.aig c.args.places.now t) (sym c.variables.ensures.same)
-    (later_begun c.args.self.now c.begin.new.self c.build.new.self c.args.aig.now c.build.new.aig c.args.places.now c.build.new.places _ c.in_ok-begin.ensures.ok c.build.ensures.later)
+returns-in_err-vars-clause-later c = subst (λ (t : List (ℕ × ℕ)). IsLater c.args.self.now c.root.new.self c.args.aig.now c.root.new.aig c.args.places.now t) (sym c.list_of.ensures.same) c.root.ensures.later
 
 pub returns-clause-unfolded : goal.returns-clause-unfolded
 returns-clause-unfolded c =
-    let u = c.args.self.now in
-    let w = c.build.new.self in
-    let seen = c.as_slice-reached.result.now in
-    let reach = reach_is u c.net-net.result.now c.cap.result c.args.s.0 c.in_ok-visited.visited.items seen c.net-net.ensures c.cap.ensures c.as_slice-reached.ensures.value c.in_ok-visited.ensures.reach in
-    let later = later_begun u c.begin.new.self w c.args.aig.now c.build.new.aig c.args.places.now c.build.new.places _ c.in_ok-begin.ensures.ok c.build.ensures.later in
-    let sound : IsSound w.net = subst IsSound (c.net-net.ensures ∙ sym later.net) c.keeps.ensures.sound in
-    let is = reach_later u w c.args.s.0 seen later.net later.cap reach in
-    let there = subst (λ (k : ℕ). Contains w.memo ((k, c.args.s.0), c.met-lit.result)) c.cap-2.ensures c.met-lit.ensures in
-    subst (λ (t : List (ℕ × ℕ)). IsUnfolded w.net w.order c.build.new.aig t c.args.s.0 c.met-lit.result.0 c.in_ok-vars.vars) (sym c.variables.ensures.same)
-    (unfolded_from w sound c.build.new.aig c.build.new.places c.in_ok-build.ensures.holds c.args.s.0 seen is c.in_ok-build.ensures.met c.met-lit.result there c.in_ok-vars.vars c.in_ok-vars.ensures.numbered)
+    let w = c.root.new.self in
+    let sound : IsSound w.net = subst IsSound (c.net-net.ensures ∙ sym c.root.ensures.later.net) c.keeps.ensures.sound in
+    subst (λ (t : List (ℕ × ℕ)). IsUnfolded w.net w.order c.root.new.aig t c.args.s.0 c.in_ok-lit.lit.0 c.in_ok-vars.vars) (sym c.list_of.ensures.same)
+    (unfolded_from w sound c.root.new.aig c.root.new.places c.in_ok-lit.ensures.fits.holds c.args.s.0 c.in_ok-lit.lit c.in_ok-lit.ensures.here c.in_ok-vars.vars c.in_ok-vars.ensures.numbered)
 
 pub returns-clause-fits : goal.returns-clause-fits
-returns-clause-fits c =
-    let u = c.args.self.now in
-    let w = c.build.new.self in
-    let seen = c.as_slice-reached.result.now in
-    let reach = reach_is u c.net-net.result.now c.cap.result c.args.s.0 c.in_ok-visited.visited.items seen c.net-net.ensures c.cap.ensures c.as_slice-reached.ensures.value c.in_ok-visited.ensures.reach in
-    let later = later_begun u c.begin.new.self w c.args.aig.now c.build.new.aig c.args.places.now c.build.new.places _ c.in_ok-begin.ensures.ok c.build.ensures.later in
-    let sound : IsSound w.net = subst IsSound (c.net-net.ensures ∙ sym later.net) c.keeps.ensures.sound in
-    let is = reach_later u w c.args.s.0 seen later.net later.cap reach in
-    let done : w.done ≡ (begun u c.args.s.0).done = c.build.ensures.done ∙ ap (λ (z : UnfolderView). z.done) c.in_ok-begin.ensures.ok in
-    subst (λ (t : List (ℕ × ℕ)). Fits w c.build.new.aig t) (sym c.variables.ensures.same)
-    (fits_from u w c.args.aig.now c.build.new.aig c.args.places.now c.build.new.places c.args.s.0 seen sound c.requires.fits later.net later.cap done
-    (λ p m. met_later u w c.args.aig.now c.build.new.aig c.args.places.now c.build.new.places p later m) later.small is c.in_ok-build.ensures.met c.in_ok-build.ensures.holds c.keeps-2.ensures.apart)
-
-pub returns-clause-done : goal.returns-clause-done
-returns-clause-done c = c.build.ensures.done ∙ ap (λ (z : UnfolderView). z.done) c.in_ok-begin.ensures.ok
+returns-clause-fits c = subst (λ (t : List (ℕ × ℕ)). Fits c.root.new.self c.root.new.aig t) (sym c.list_of.ensures.same) c.in_ok-lit.ensures.fits
 
 pub returns-clause-later : goal.returns-clause-later
-returns-clause-later c =
-    subst (λ (t : List (ℕ × ℕ)). IsLater c.args.self.now c.build.new.self c.args.aig.now c.build.new.aig c.args.places.now t) (sym c.variables.ensures.same)
-    (later_begun c.args.self.now c.begin.new.self c.build.new.self c.args.aig.now c.build.new.aig c.args.places.now c.build.new.places _ c.in_ok-begin.ensures.ok c.build.ensures.later)
+returns-clause-later c = subst (λ (t : List (ℕ × ℕ)). IsLater c.args.self.now c.root.new.self c.args.aig.now c.root.new.aig c.args.places.now t) (sym c.list_of.ensures.same) c.root.ensures.later

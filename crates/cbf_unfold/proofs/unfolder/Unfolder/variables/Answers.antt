@@ -1,31 +1,55 @@
--- Each input among the places is in the table.
-use Rattle.std.proofs.Common.{◌-◌, ◌<◌, ◌≤◌, ℕ, List, length, sym, subst}
-use Rattle.std.specs.List.{All, Contains}
-use Rattle.flat_net.specs.View.{NetView}
+-- The places with the signal's bit have the inputs that it visits.
+use Rattle.std.proofs.Common.{◌≡◌, ◌≢◌, ◌-◌, ◌^◌, ◌<◌, ◌≤◌, ℕ, List, length, map, slice_get, Some, refl, sym, subst, arith}
+use Rattle.std.specs.List.{All, AllPairs, AllZip, Contains}
+use Rattle.flat_net.specs.View.{NetView, circuit_of}
+use Rattle.flat_net.specs.Sound.{IsSound}
+use Rattle.aig.specs.declared.node.Lit.{Lit}
+use Rattle.cbf_unfold.specs.Reach.{AreInputsOf}
 use Rattle.cbf_unfold.specs.View.{IsOrderOf}
-use Rattle.cbf_unfold.proofs.Finish.{inputs_early, inputs_listed, are_numbered}
+use Rattle.cbf_unfold.proofs.Finish.{from_own, to_own}
+use Rattle.cbf_unfold.proofs.Listing.{visited_within, visited_differ, found_early, found_known, are_numbered}
 use Rattle.cbf_unfold.proofs.unfolder.Unfolder.variables.Goals as goal
+
+pub places_with-requires-clause-within : goal.places_with-requires-clause-within
+places_with-requires-clause-within c = c.requires.candidates.within
 
 pub inputs_of-requires-clause-order : goal.inputs_of-requires-clause-order
 inputs_of-requires-clause-order c =
-    subst (λ (n : NetView). IsOrderOf n c.order.result.now) (sym c.net.ensures) (subst (IsOrderOf c.args.self.now.net) (sym c.order.ensures) c.keeps.ensures.unfolder.order)
+    from_own c.args.self.now c.net-net.result.now c.order.result.now c.args.self.now.memo c.net-net.ensures c.order.ensures refl (λ n o m. IsOrderOf n o) c.keeps-2.ensures.unfolder.order
 
 pub inputs_of-requires-clause-within : goal.inputs_of-requires-clause-within
-inputs_of-requires-clause-within c = subst (λ (n : NetView). All (λ p. p.1 < length n.drivers) c.args.visited.now) (sym c.net.ensures) c.requires.within
+inputs_of-requires-clause-within c =
+    subst (λ (n : NetView). All (λ (p : ℕ × ℕ). p.1 < length n.drivers) c.as_slice.result.now) (sym c.net-net.ensures)
+    (subst (λ (l : List (ℕ × ℕ)). All (λ p. p.1 < length c.args.self.now.net.drivers) l) (sym c.as_slice.ensures.value)
+    (visited_within c.args.self.now (subst IsSound c.net-net.ensures c.keeps.ensures.sound) c.requires.fits.0 c.args.places.now c.requires.fits.1 c.args.words.now c.args.numbers.now c.args.k c.requires.candidates c.in_ok-visited.visited.items c.in_ok-visited.ensures))
+
+pub inputs_of-requires-clause-differ : goal.inputs_of-requires-clause-differ
+inputs_of-requires-clause-differ c =
+    subst (λ (l : List (ℕ × ℕ)). AllPairs (λ p q. p ≢ q) l) (sym c.as_slice.ensures.value)
+    (visited_differ c.args.self.now (subst IsSound c.net-net.ensures c.keeps.ensures.sound) c.requires.fits.0 c.args.places.now c.requires.fits.1 c.args.words.now c.args.numbers.now c.args.k c.requires.candidates c.in_ok-visited.visited.items c.in_ok-visited.ensures c.keeps-2.ensures.apart)
 
 pub numbers_of-requires-clause-cycles : goal.numbers_of-requires-clause-cycles
 numbers_of-requires-clause-cycles c =
-    subst (λ (k : ℕ). All (λ (x : ℕ × ℕ). x.0 ≤ k) c.as_slice.result.now) (sym c.cap.ensures)
-    (subst (λ (l : List (ℕ × ℕ)). All (λ x. x.0 ≤ c.args.self.now.cap) l) (sym c.as_slice.ensures.value)
-    (inputs_early c.args.self.now c.net.result.now c.order.result.now c.args.visited.now c.in_ok-found.found.items c.net.ensures c.order.ensures c.in_ok-found.ensures.inputs c.requires.cycles))
+    let inputs = to_own c.args.self.now c.net-net.result.now c.order.result.now c.args.self.now.memo c.net-net.ensures c.order.ensures refl (λ n o m. AreInputsOf (circuit_of n) o c.in_ok-visited.visited.items c.in_ok-found.found.items)
+    (subst (λ (l : List (ℕ × ℕ)). AreInputsOf (circuit_of c.net-net.result.now) c.order.result.now l c.in_ok-found.found.items) c.as_slice.ensures.value c.in_ok-found.ensures.inputs) in
+    subst (λ (k : ℕ). All (λ (x : ℕ × ℕ). x.0 ≤ k) c.as_slice-2.result.now) (sym c.cap.ensures)
+    (subst (λ (l : List (ℕ × ℕ)). All (λ x. x.0 ≤ c.args.self.now.cap) l) (sym c.as_slice-2.ensures.value)
+    (found_early c.args.self.now (subst IsSound c.net-net.ensures c.keeps.ensures.sound) c.requires.fits.0 c.args.places.now c.requires.fits.1 c.args.words.now c.args.numbers.now c.args.k c.requires.candidates c.in_ok-visited.visited.items c.in_ok-visited.ensures c.in_ok-found.found.items inputs))
 
 pub numbers_of-requires-clause-known : goal.numbers_of-requires-clause-known
 numbers_of-requires-clause-known c =
-    subst (λ (k : ℕ). All (λ (x : ℕ × ℕ). Contains c.args.places.now (x.1, k - x.0)) c.as_slice.result.now) (sym c.cap.ensures)
-    (subst (λ (l : List (ℕ × ℕ)). All (λ x. Contains c.args.places.now (x.1, c.args.self.now.cap - x.0)) l) (sym c.as_slice.ensures.value)
-    (inputs_listed c.args.self.now c.net.result.now c.order.result.now c.args.visited.now c.in_ok-found.found.items c.net.ensures c.order.ensures c.in_ok-found.ensures.inputs c.args.places.now c.requires.known))
+    let inputs = to_own c.args.self.now c.net-net.result.now c.order.result.now c.args.self.now.memo c.net-net.ensures c.order.ensures refl (λ n o m. AreInputsOf (circuit_of n) o c.in_ok-visited.visited.items c.in_ok-found.found.items)
+    (subst (λ (l : List (ℕ × ℕ)). AreInputsOf (circuit_of c.net-net.result.now) c.order.result.now l c.in_ok-found.found.items) c.as_slice.ensures.value c.in_ok-found.ensures.inputs) in
+    subst (λ (k : ℕ). All (λ (x : ℕ × ℕ). Contains c.args.places.now (x.1, k - x.0)) c.as_slice-2.result.now) (sym c.cap.ensures)
+    (subst (λ (l : List (ℕ × ℕ)). All (λ x. Contains c.args.places.now (x.1, c.args.self.now.cap - x.0)) l) (sym c.as_slice-2.ensures.value)
+    (found_known c.args.self.now (subst IsSound c.net-net.ensures c.keeps.ensures.sound) c.requires.fits.0 c.args.places.now c.requires.fits.1 c.args.words.now c.args.numbers.now c.args.k c.requires.candidates c.in_ok-visited.visited.items c.in_ok-visited.ensures c.in_ok-found.found.items inputs))
 
 pub returns-clause-numbered : goal.returns-clause-numbered
-returns-clause-numbered c =
-    are_numbered c.args.self.now c.net.result.now c.order.result.now c.args.visited.now c.in_ok-found.found.items c.net.ensures c.order.ensures c.in_ok-found.ensures.inputs c.args.places.now c.in_ok-vars.vars c.as_slice.result.now c.cap.result c.cap.ensures c.as_slice.ensures.value
-    c.in_ok-found.ensures.ordered c.in_ok-vars.ensures.numbers
+returns-clause-numbered c = λ signals s here visitors.
+    let u = c.args.self.now in
+    let inputs = to_own u c.net-net.result.now c.order.result.now u.memo c.net-net.ensures c.order.ensures refl (λ n o m. AreInputsOf (circuit_of n) o c.in_ok-visited.visited.items c.in_ok-found.found.items)
+    (subst (λ (l : List (ℕ × ℕ)). AreInputsOf (circuit_of c.net-net.result.now) c.order.result.now l c.in_ok-found.found.items) c.as_slice.ensures.value c.in_ok-found.ensures.inputs) in
+    let zip = subst (λ (k : ℕ). AllZip (λ v (x : ℕ × ℕ). slice_get c.args.places.now v ≡ Some (x.1, k - x.0)) c.in_ok-vars.vars c.in_ok-found.found.items) c.cap.ensures
+    (subst (λ (l : List (ℕ × ℕ)). AllZip (λ v x. slice_get c.args.places.now v ≡ Some (x.1, c.cap.result - x.0)) c.in_ok-vars.vars l) c.as_slice-2.ensures.value c.in_ok-vars.ensures.numbers) in
+    are_numbered u (subst IsSound c.net-net.ensures c.keeps.ensures.sound) c.requires.fits.0 c.args.places.now c.requires.fits.1 c.args.words.now c.args.numbers.now c.args.k c.requires.candidates c.in_ok-visited.visited.items c.in_ok-visited.ensures
+    c.in_ok-found.found.items inputs c.in_ok-vars.vars c.in_ok-found.ensures.ordered zip signals s here visitors
