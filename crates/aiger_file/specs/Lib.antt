@@ -1,0 +1,4 @@
+pub mod Files
+pub mod Reading
+pub mod State
+pub mod Whole

@@ -1,0 +1,3 @@
+pub mod ReadLiterals
+pub mod NoLoops
+pub mod GraphSteps

@@ -1,0 +1,3 @@
+pub mod Circuit
+pub mod Literals
+pub mod Loops

@@ -1,0 +1,5 @@
+pub mod Driven
+pub mod Faults
+pub mod Headers
+pub mod Records
+pub mod Took
