@@ -1,9 +1,8 @@
 -- The numbers of tokens, one after another.
-use Rattle.std.proofs.Common.{◌≡◌, ℕ, ◌+◌, ◌<◌, Bool, true, false, List, [], ◌∷◌, ◌++◌, length, take, drop, get_or, refl, sym, ◌∙◌, ap, subst, arith, append_assoc, ◌-◌, length-drop, Option, Some, None}
-use Rattle.std.specs.Prelude.{option_map}
-use Rattle.std.specs.List.{All, list_any, position_or_len, before_first, after_first}
+use Rattle.std.proofs.Common.{◌≡◌, ℕ, ◌<◌, true, false, List, [], ◌∷◌, ◌++◌, length, take, drop, get_or, refl, sym, ◌∙◌, ap, arith, append_assoc, ◌-◌, length-drop, Option, Some, None}
+use Rattle.std.specs.List.{position_or_len}
 use Rattle.std.proofs.lemmas.List.{append-nil, take_all}
-use Rattle.std.proofs.lemmas.List.Folds.{list_any_none, list_any_at}
+use Rattle.std.proofs.lemmas.List.Folds.{list_any_at}
 use Rattle.std.proofs.lemmas.List.Sums.{position_or_len_is}
 use Rattle.text_numbers.specs.declared.numbers.Number.{Number}
 use Rattle.text_numbers.specs.Numbers.{with_first, all_spelled, behind, is_zero, has_zero}

@@ -9,8 +9,7 @@ pub returns-then-is_zero : goal.returns-then-is_zero
 returns-then-is_zero c =
     let numbers = c.args.numbers.now in
     let place = c.loop-place.place in
-    let at : position_or_len is_zero numbers ≡ place = zero_found numbers place _ (omega arith) (λ k h. c.loop-place.invariant k _ h) (sym c.is_zero.ensures ∙ c.if-is_zero.true) in
-    (
+    let at : position_or_len is_zero numbers ≡ place = zero_found numbers place _ (omega arith) (λ k h. c.loop-place.invariant k _ h) (sym c.is_zero.ensures ∙ c.if-is_zero.true) in (
       zero_there numbers place _ (omega arith) (sym c.is_zero.ensures ∙ c.if-is_zero.true),
       ap (λ n. take n numbers) (sym at),
       rest_after numbers (place + 1) ∙ ap (λ n. drop (n + 1) numbers) (sym at),
