@@ -1,13 +1,9 @@
 -- Lines that are headers, and lines that aren't.
-use Rattle.std.proofs.Common.{◌≡◌, ℕ, Bool, true, false, cond, ◌&&◌, List, [], ◌∷◌, refl, sym, ◌∙◌, ap, codes, Option, Some, None, Result, Ok, Err, suc}
+use Rattle.std.proofs.Common.{◌≡◌, ℕ, true, false, cond, ◌&&◌, List, [], ◌∷◌, sym, ◌∙◌, ap, codes, Option, None, suc}
 use Rattle.std.specs.Str.{bytes_eq}
 use Rattle.text_numbers.specs.Lines.{tokens_of, is_passed_over}
-use Rattle.text_numbers.specs.declared.kinds.TextError.{TextError}
-use Rattle.text_numbers.specs.declared.kinds.TextError.TheVariants.{At}
-use Rattle.text_numbers.specs.declared.kinds.TextKind.TheVariants.{BadHeader}
-use Rattle.dimacs_text.specs.declared.formula.Formula.{Formula}
 use Rattle.dimacs_text.specs.declared.counts.Header.{Header}
-use Rattle.dimacs_text.specs.Dimacs.{count_of, header_from, header_of, header_then, body_from, formula_from}
+use Rattle.dimacs_text.specs.Dimacs.{count_of, header_from, header_of, header_then, formula_from}
 
 module _ (tokens first second third fourth fifth : List (List ℕ)) (a b c d e : List ℕ) where
   pub no_token : tokens ≡ [] → None ≡ header_of tokens

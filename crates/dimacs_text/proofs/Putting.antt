@@ -1,6 +1,6 @@
 -- Entries that are put last, and the clauses that end in them.
-use Rattle.std.proofs.Common.{◌≡◌, ℕ, suc, ◌+◌, ◌<◌, ◌≤◌, Bool, true, false, not, cond, ◌&&◌, List, [], ◌∷◌, ◌++◌, length, drop, get_or, refl, sym, ◌∙◌, ap, subst, arith, append_assoc, Option, Some, None, Result, Ok, Err}
-use Rattle.std.specs.Prelude.{◌==◌, nat_lt}
+use Rattle.std.proofs.Common.{◌≡◌, ℕ, suc, ◌+◌, ◌<◌, ◌≤◌, Bool, true, false, not, cond, ◌&&◌, List, [], ◌∷◌, ◌++◌, length, drop, get_or, refl, sym, ◌∙◌, ap, subst, arith, Option, Some, None, Result, Ok, Err}
+use Rattle.std.specs.Prelude.{◌==◌}
 use Rattle.std.proofs.Math.Seq.{drop-cons}
 use Rattle.std.proofs.Math.ListN.{drop_of_length-le}
 use Rattle.std.proofs.lemmas.List.{append-nil}
@@ -18,7 +18,7 @@ use Rattle.dimacs_text.specs.declared.counts.Header.{Header}
 use Rattle.dimacs_text.specs.Entries.{entries_of, is_end, ends, is_open, clauses_from}
 use Rattle.text_numbers.specs.Answers.{IsGiven}
 use Rattle.dimacs_text.specs.Parts.{IsLineFault}
-use Rattle.dimacs_text.specs.Dimacs.{begun, is_past, line_entries, line_then, end_of, body_from}
+use Rattle.dimacs_text.specs.Dimacs.{is_past, line_entries, line_then, end_of, body_from}
 
 pub open_put : (entries : List Entry) (e : Entry) → is_open (entries ++ e ∷ []) ≡ not (is_end e)
 open_put [] e = refl

@@ -1,5 +1,5 @@
 -- The clauses that a DIMACS text spells, or its first fault.
-use Rattle.std.specs.Prelude.{◌≡◌, ℕ, suc, ◌+◌, ◌==◌, ◌&&◌, nat_lt, nat_le, Bool, true, false, not, if◌then◌else◌, List, [], ◌∷◌, Option, Some, None, Result, Ok, Err, codes, bytes_eq, refl}
+use Rattle.std.specs.Prelude.{ℕ, suc, ◌+◌, ◌==◌, ◌&&◌, nat_lt, nat_le, Bool, not, if◌then◌else◌, List, [], ◌∷◌, Option, Some, None, Result, Ok, Err, codes, bytes_eq}
 use Rattle.text_numbers.specs.Lines.{lines_of, tokens_of, is_passed_over}
 use Rattle.text_numbers.specs.Numbers.{number_of, behind}
 use Rattle.text_numbers.specs.declared.numbers.Number.{Number}

@@ -1,5 +1,5 @@
 -- What a DIMACS text holds behind its header: literals, and the ends of clauses.
-use Rattle.std.specs.Prelude.{◌≡◌, ℕ, suc, ◌==◌, nat_le, Bool, true, false, not, if◌then◌else◌, List, [], ◌∷◌, ◌++◌, Option, Some, None}
+use Rattle.std.specs.Prelude.{ℕ, suc, ◌==◌, nat_le, Bool, true, false, not, if◌then◌else◌, List, [], ◌∷◌, ◌++◌, Option, Some, None}
 use Rattle.proof_check.specs.Literals as words
 use Rattle.text_numbers.specs.declared.numbers.Number.{Number}
 use Rattle.text_numbers.specs.Numbers.{number_of, all_spelled}
