@@ -1,0 +1,4 @@
+pub mod Dimacs
+pub mod Entries
+pub mod Literals
+pub mod Parts

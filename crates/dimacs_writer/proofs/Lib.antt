@@ -1,0 +1,3 @@
+pub mod Lining
+pub mod Numerals
+pub mod Spelled

@@ -1,0 +1,8 @@
+//! Clauses written as texts in the DIMACS format.
+#![tactic(auto)]
+
+mod laws;
+mod writer;
+
+pub use laws::{written_is_spelled, written_meets_premises};
+pub use writer::write_clauses;

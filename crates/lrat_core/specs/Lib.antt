@@ -1,0 +1,9 @@
+pub mod Answers
+pub mod Hints
+pub mod Laws
+pub mod Lines
+pub mod Logs
+pub mod Marks
+pub mod Sequences
+pub mod States
+pub mod Stored

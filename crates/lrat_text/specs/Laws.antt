@@ -1,0 +1,14 @@
+-- Laws of the verdicts.
+use Rattle.std.specs.Prelude.{◌≡◌, ℕ, List}
+use Rattle.proof_check.specs.Clauses.{Unsatisfiable}
+use Rattle.dimacs_text.specs.declared.formula.Formula.{Formula}
+use Rattle.lrat_core.specs.Sequences.{Verdict, Accepted}
+use Rattle.lrat_text.specs.Verdicts.{IsTextVerdict}
+
+-- a text has at most one verdict over a formula
+abbrev pub TextHasOneVerdict : Type 0
+TextHasOneVerdict = (formula : Formula) (text : List ℕ) (v w : Verdict) → IsTextVerdict formula text v → IsTextVerdict formula text w → v ≡ w
+
+-- where a text is accepted, no assignment meets all clauses
+abbrev pub AcceptedTextRefutes : Type 0
+AcceptedTextRefutes = (formula : Formula) (text : List ℕ) (number : ℕ) → IsTextVerdict formula text (Accepted number) → Unsatisfiable formula.clauses
