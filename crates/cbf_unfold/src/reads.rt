@@ -10,7 +10,7 @@ use flat_net::{Driver, Gate, LatchAt, Net, Signal};
 use sec_base::{NoMemory, PlaceTable};
 
 /// The gate with this number.
-pub(crate) fn gate_of(net: &Net, j: u32) -> &Gate
+pub fn gate_of(net: &Net, j: u32) -> &Gate
     requires { j < length net.now.gates }
     ensures { slice_get net.now.gates j ≡ Some result.now }
 {
@@ -18,7 +18,7 @@ pub(crate) fn gate_of(net: &Net, j: u32) -> &Gate
 }
 
 /// The latch with this number.
-pub(crate) fn latch_of(net: &Net, j: u32) -> &LatchAt
+pub fn latch_of(net: &Net, j: u32) -> &LatchAt
     requires { j < length net.now.latches }
     ensures { slice_get net.now.latches j ≡ Some result.now }
 {
@@ -26,7 +26,7 @@ pub(crate) fn latch_of(net: &Net, j: u32) -> &LatchAt
 }
 
 /// What the signal counts; None exactly where that is more than the room.
-pub(crate) fn weigh(net: &Net, s: Signal, room: u32) -> Option<u32>
+pub fn weigh(net: &Net, s: Signal, room: u32) -> Option<u32>
     requires { s.0 < length net.now.drivers }
     ensures here { IfSome result (λ w. w ≡ weight_at net.now s.0) }
     ensures room { IfSome result (λ w. w ≤ room) }
@@ -87,7 +87,7 @@ pub(crate) fn add_read(
 }
 
 /// Puts the place into the table.
-pub(crate) fn add(table: &mut PlaceTable, cycle: u32, s: Signal) -> Result<(), NoMemory>
+pub fn add(table: &mut PlaceTable, cycle: u32, s: Signal) -> Result<(), NoMemory>
     requires { length table.old + 1 < 2 ^ 32 }
     ensures adds { Adds (λ q. q ≡ (cycle, s.0)) table.old table.new }
     ensures here { OnOk result (Contains table.new (cycle, s.0)) }
@@ -97,7 +97,8 @@ pub(crate) fn add(table: &mut PlaceTable, cycle: u32, s: Signal) -> Result<(), N
     Ok(())
 }
 
-fn add_fanins(table: &mut PlaceTable, cycle: u32, fanins: &[Signal]) -> Result<(), NoMemory>
+/// Puts the places of these signals in the cycle into the table.
+pub fn add_fanins(table: &mut PlaceTable, cycle: u32, fanins: &[Signal]) -> Result<(), NoMemory>
     requires { length table.old + length fanins.now + 1 < 2 ^ 32 }
     ensures adds { Adds (λ q. (f : Signal) × Contains fanins.now f × ((cycle, f.0) ≡ q)) table.old table.new }
     ensures all { OnOk result (All (λ f. Contains table.new (cycle, f.0)) fanins.now) }

@@ -16,8 +16,8 @@ mod literals;
 mod places;
 
 use crate::error::UnfoldError;
-use crate::memo::Memo;
-use crate::reached_places::{Place, reach};
+use crate::memo::{Memo, Place};
+use crate::reached_places::reach;
 use crate::variables::{inputs_of, numbers_of};
 use aig::{Aig, Lit};
 use flat_net::{Net, Signal};
