@@ -185,16 +185,21 @@ shift_apart : (x y : Variable ℕ) → ShiftBefore x y → x ≡ y → ⊥
 shift_apart x y (inl below) e = omega (arith, ap (λ (z : Variable ℕ). z.at) e, below)
 shift_apart x y (inr k) e = omega (arith, ap (λ (z : Variable ℕ). z.input) e, k.1)
 
--- variables in order have distinct numbers
-pub numbers_differ : (places : List (ℕ × ℕ)) (vars : List ℕ) (variables : List (Variable ℕ)) → AllZip (IsNumberOf places) vars variables → AllPairs ShiftBefore variables → AllPairs (λ u v. u ≢ v) vars
-numbers_differ places vars variables zip ordered i j d below within same =
-    let before : i < length vars = omega arith in
-    let first = zip_right (IsNumberOf places) vars variables zip i (get_or vars i d) (slice_get-get_or vars i d before) in
+-- variables of which no two are the same have distinct numbers
+pub numbers_apart : (before : Variable ℕ → Variable ℕ → Type 0) → ((x y : Variable ℕ) → before x y → x ≡ y → ⊥) → (places : List (ℕ × ℕ)) (vars : List ℕ) (variables : List (Variable ℕ)) → AllZip (IsNumberOf places) vars variables →
+    AllPairs before variables → AllPairs (λ u v. u ≢ v) vars
+numbers_apart before apart places vars variables zip ordered i j d below within same =
+    let first_within : i < length vars = omega arith in
+    let first = zip_right (IsNumberOf places) vars variables zip i (get_or vars i d) (slice_get-get_or vars i d first_within) in
     let second = zip_right (IsNumberOf places) vars variables zip j (get_or vars j d) (slice_get-get_or vars j d within) in
     let pair : (first.0.input, first.0.at) ≡ (second.0.input, second.0.at) = same_Some (first.0.input, first.0.at) (second.0.input, second.0.at) (sym first.2 ∙ ap (slice_get places) same ∙ second.2) in
-    shift_apart first.0 second.0 (pairs_at ShiftBefore variables i j first.0 second.0 ordered below first.1 second.1) (λ k. record { input = (pair k).0; at = (pair k).1 })
+    apart first.0 second.0 (pairs_at before variables i j first.0 second.0 ordered below first.1 second.1) (λ k. record { input = (pair k).0; at = (pair k).1 })
 
-from_one : (g : List Node) (x : ℕ) {k : ℕ} → IsReached g (x ∷ []) k → From g (x / 2) k
+-- variables in order have distinct numbers
+pub numbers_differ : (places : List (ℕ × ℕ)) (vars : List ℕ) (variables : List (Variable ℕ)) → AllZip (IsNumberOf places) vars variables → AllPairs ShiftBefore variables → AllPairs (λ u v. u ≢ v) vars
+numbers_differ = numbers_apart ShiftBefore shift_apart
+
+pub from_one : (g : List Node) (x : ℕ) {k : ℕ} → IsReached g (x ∷ []) k → From g (x / 2) k
 from_one g x {k} reached = go (from_root g (x ∷ []) reached)
   where
     go : (y : ℕ) × Contains (x ∷ []) y × From g (y / 2) k → From g (x / 2) k

@@ -85,7 +85,7 @@ module _ (n : NetView) (sound : IsSound n) where
           let p = parts l.latch l.is in
           record { j = l.j; latch = l.latch; at = l.at; owner = subst (λ o. slice_get n.drivers o ≡ Some (driver.Latch l.j)) p.0 (sound.latches l.j l.latch l.at).owner; next_is = p.1 }
 
-  no_port : (s from : ℕ) → Contains (circuit_of n).equations (Port s from) → ⊥
+  pub no_port : (s from : ℕ) → Contains (circuit_of n).equations (Port s from) → ⊥
   no_port s from h = All-contains IsAbove (circuit_of n).equations (Port s from) (sound_is_net n sound).above h
 
   -- the input of an input's place

@@ -4,9 +4,9 @@
 
 mod error;
 mod laws;
-mod memo;
-mod reached_places;
-mod reads;
+pub mod memo;
+pub mod reached_places;
+pub mod reads;
 mod unfolder;
 mod variables;
 mod visitors;

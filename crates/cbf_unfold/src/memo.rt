@@ -4,16 +4,18 @@ ghost use Rattle.std.specs.Prelude.{◌≡◌, ◌≢◌, ◌<◌, ℕ, List, []
 ghost use Rattle.std.specs.List.{AllPairs};
 ghost use Rattle.aig.specs.declared.node.Lit.{Lit};
 
-use crate::reached_places::Place;
 use aig::Lit;
 use indexmap::IndexMap;
 use sec_base::NoMemory;
 use std::alloc::Global;
 use std::marker::Model;
 
+/// A cycle, and a signal's number.
+pub type Place = (u32, u32);
+
 /// Places with their literals, each place once, in the order in which they were put. A contract sees the list.
 #[derive(Drop)]
-pub(crate) struct Memo {
+pub struct Memo {
     lits: IndexMap<Place, Lit>,
 }
 
@@ -28,7 +30,7 @@ impl Model for Memo {
 
 impl Memo {
     /// Without places. It takes no memory.
-    pub(crate) fn new(alloc: Global) -> Memo
+    pub fn new(alloc: Global) -> Memo
         ensures { result ≡ [] }
     {
         Memo {
@@ -37,14 +39,14 @@ impl Memo {
     }
 
     /// Tells a proof that no place stands twice. It does nothing.
-    pub(crate) fn keeps(&self)
+    pub fn keeps(&self)
         ensures { AllPairs (λ p q. p ≢ q) (map (λ e. e.0) self.now) }
     {
         let _ = self.lits.len();
     }
 
     /// The literal of the place; None exactly where the place wasn't met.
-    pub(crate) fn get(&self, place: Place) -> Option<Lit>
+    pub fn get(&self, place: Place) -> Option<Lit>
         ensures here { IfSome result (λ x. Contains self.now (place, x)) }
         ensures absent { IfNone result (Contains (map (λ e. e.0) self.now) place → ⊥) }
     {
@@ -84,7 +86,7 @@ impl Memo {
     }
 
     /// The literal of a place that was met.
-    pub(crate) fn met(&self, place: Place) -> Lit
+    pub fn met(&self, place: Place) -> Lit
         requires { (x : Lit) × Contains self.now (place, x) }
         ensures { Contains self.now (place, result) }
     {
@@ -95,7 +97,7 @@ impl Memo {
     }
 
     /// Puts a place that wasn't met last. After `NoMemory` nothing has changed.
-    pub(crate) fn put(&mut self, place: Place, lit: Lit) -> Result<(), NoMemory>
+    pub fn put(&mut self, place: Place, lit: Lit) -> Result<(), NoMemory>
         requires { Contains (map (λ e. e.0) self.old) place → ⊥ }
         ensures ok { OnOk result (self.new ≡ self.old ++ (place, lit) ∷ []) }
         ensures err { OnErr result (self.new ≡ self.old) }

@@ -7,14 +7,11 @@ ghost use Rattle.cbf_unfold.specs.Reach.{AreUnmet, IsReach};
 ghost use Rattle.cbf_unfold.specs.declared.error.UnfoldError.TheVariants as unfold_error;
 
 use crate::error::UnfoldError;
-use crate::memo::Memo;
+use crate::memo::{Memo, Place};
 use crate::reads::{add, add_read, weigh};
 use flat_net::{Net, Signal};
 use sec_base::{MAX_WEIGHT, NoMemory, PlaceTable};
 use std::alloc::Global;
-
-/// A cycle, and a signal's number.
-pub(crate) type Place = (u32, u32);
 
 /// The places that the unfolding of the signal visits and that haven't been met, in an order of evaluation. It doesn't look
 /// behind a place that has been met. The signal stands in the cycle `cap`. `TooLarge` comes only where they weigh more than
@@ -70,7 +67,7 @@ fn unmet(
 }
 
 /// The table's places as a list.
-fn listed(alloc: Global, table: &PlaceTable) -> Result<Vec<Place>, NoMemory>
+pub fn listed(alloc: Global, table: &PlaceTable) -> Result<Vec<Place>, NoMemory>
     ensures { IfOk result (λ places. places.items ≡ table.now) }
 {
     let mut places = Vec::with_capacity(alloc, table.len() as usize)?;

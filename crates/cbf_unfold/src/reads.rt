@@ -11,7 +11,7 @@ use flat_net::{Driver, Gate, LatchAt, Net, Signal};
 use sec_base::{NoMemory, PlaceTable};
 
 /// The gate with this number.
-pub(crate) fn gate_of(net: &Net, j: u32) -> &Gate
+pub fn gate_of(net: &Net, j: u32) -> &Gate
     requires { j < length net.now.gates }
     ensures { slice_get net.now.gates j ≡ Some result.now }
 {
@@ -19,7 +19,7 @@ pub(crate) fn gate_of(net: &Net, j: u32) -> &Gate
 }
 
 /// The latch with this number.
-pub(crate) fn latch_of(net: &Net, j: u32) -> &LatchAt
+pub fn latch_of(net: &Net, j: u32) -> &LatchAt
     requires { j < length net.now.latches }
     ensures { slice_get net.now.latches j ≡ Some result.now }
 {
@@ -27,7 +27,7 @@ pub(crate) fn latch_of(net: &Net, j: u32) -> &LatchAt
 }
 
 /// What the signal counts; None exactly where that is more than the room.
-pub(crate) fn weigh(net: &Net, s: Signal, room: u32) -> Option<u32>
+pub fn weigh(net: &Net, s: Signal, room: u32) -> Option<u32>
     requires { s.0 < length net.now.drivers }
     ensures here { IfSome result (λ w. w ≡ weight_at net.now s.0) }
     ensures room { IfSome result (λ w. w ≤ room) }

@@ -16,8 +16,7 @@ mod places;
 mod rooting;
 
 use crate::error::UnfoldError;
-use crate::memo::Memo;
-use crate::reached_places::Place;
+use crate::memo::{Memo, Place};
 use aig::{Aig, Lit};
 use flat_net::{Net, Signal};
 use latch_graph::LatchGraph;

@@ -8,7 +8,7 @@ ghost use Rattle.cbf_unfold.specs.Places.{PlaceBefore};
 ghost use Rattle.cbf_unfold.specs.Reach.{AreInputsOf};
 ghost use Rattle.cbf_unfold.specs.View.{IsOrderOf};
 
-use crate::reached_places::Place;
+use crate::memo::Place;
 use flat_net::{Driver, Net, Signal};
 use sec_base::{Ids, NoMemory, PlaceTable, Seq};
 use std::alloc::Global;

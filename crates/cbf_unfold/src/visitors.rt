@@ -12,7 +12,7 @@ ghost use Rattle.cbf_unfold.specs.Planned.{IsPlanned};
 ghost use Rattle.cbf_unfold.specs.Visitors.{AreMet, AreReads, AreLinks, Gives, AreMarked, ArePassed, AreVisitors, AreInputNumbers, ArePlacesAt, with_bits, has_bit};
 
 use crate::memo::Memo;
-use crate::reached_places::Place;
+use crate::memo::Place;
 use crate::reads::{gate_of, latch_of};
 use crate::variables::input_number;
 use flat_net::{Driver, Net, Signal};

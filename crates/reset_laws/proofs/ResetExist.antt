@@ -81,13 +81,13 @@ module _ (c : Circuit ℕ) (size : ℕ) (net : IsNet c size) (starts : HasStarts
   next_of (Port out from) = from
 
   -- what derives the second unfolding, given what drives the place
-  abbrev Shape : ℕ → Tree ℕ → Equation ℕ → Type 0
+  abbrev pub Shape : ℕ → Tree ℕ → Equation ℕ → Type 0
   Shape t tree (Gate out fanins cover) = (trees : Trees ℕ) × ResetUnfoldsAll c order base fanins t trees × (tree ≡ Branch cover trees)
   Shape zero tree (Latch name out next) = ((bit : Bool) × Contains c.starts (record { place = out; bit = bit }) × (tree ≡ Fixed bit)) ⊎ ((j : ℕ) × (slice_get (latches_of c) j ≡ Some out) × IsFree c out × (tree ≡ Leaf (base + j) 0))
   Shape (suc t) tree (Latch name out next) = ResetUnfolds c order base next t tree
   Shape t tree (Port out from) = ⊥
 
-  shape : {p t : ℕ} {tree : Tree ℕ} → ResetUnfolds c order base p t tree → (e : Equation ℕ) → Contains c.equations e → out_of e ≡ p → Shape t tree e
+  pub shape : {p t : ℕ} {tree : Tree ℕ} → ResetUnfolds c order base p t tree → (e : Equation ℕ) → Contains c.equations e → out_of e ≡ p → Shape t tree e
   shape {p} (ResetUnfolds.input {i = i} h) e k q = absurd (net.single.no_input e k (subst (IsInput c) (sym q) (beside_is_input c.inputs order p i h)))
   shape {p} {t} {tree} (ResetUnfolds.gate {fanins = fanins} {cover = cover} {trees = trees} eq each) e k q = subst (Shape t tree) (net.single.one (Gate p fanins cover) e eq k (sym q)) (trees, each, refl)
   shape (ResetUnfolds.port eq rest) e k q = absurd (All-contains IsAbove c.equations _ net.above eq)
@@ -106,7 +106,7 @@ module _ (c : Circuit ℕ) (size : ℕ) (net : IsNet c size) (starts : HasStarts
   input_only {p} (ResetUnfolds.free j at none) i k = let l = latch_from c.equations j p at in absurd (net.single.no_input _ l.2 (beside_is_input c.inputs order p i k))
 
   mutual
-    one_tree : {p t : ℕ} {l r : Tree ℕ} → ResetUnfolds c order base p t l → ResetUnfolds c order base p t r → l ≡ r
+    pub one_tree : {p t : ℕ} {l r : Tree ℕ} → ResetUnfolds c order base p t l → ResetUnfolds c order base p t r → l ≡ r
     one_tree (ResetUnfolds.input {i = i} h) r = sym (input_only r i h)
     one_tree (ResetUnfolds.gate {out = out} {fanins = fanins} {cover = cover} eq each) r =
         let s = shape r (Gate out fanins cover) eq refl in

@@ -33,7 +33,7 @@ pub powers_length : (starts : List (Started ℕ)) (x : ℕ → ℕ → Bool) (nu
 powers_length starts x number [] = refl
 powers_length starts x number (u ∷ us) = ap suc (powers_length starts x (suc number) us)
 
-start_none : (starts : List (Started ℕ)) (u : ℕ) → ((bit : Bool) → Contains starts (record { place = u; bit = bit }) → ⊥) → start_at starts u ≡ None
+pub start_none : (starts : List (Started ℕ)) (u : ℕ) → ((bit : Bool) → Contains starts (record { place = u; bit = bit }) → ⊥) → start_at starts u ≡ None
 start_none [] u none = refl
 start_none (s ∷ starts) u none = go (s.place == u) refl (start_none starts u (λ bit h. none bit (Contains-tail s _ starts h)))
   where

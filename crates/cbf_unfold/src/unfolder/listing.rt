@@ -10,7 +10,7 @@ ghost use Rattle.cbf_unfold.specs.Building.{AreNumbered};
 ghost use Rattle.cbf_unfold.specs.Visitors.{AreLinks, AreVisitors, AreInputNumbers, AreCandidates, ArePlacesAt, IsFound, with_bits};
 
 use super::{Unfolded, Unfolder};
-use crate::reached_places::Place;
+use crate::memo::Place;
 use crate::variables::{inputs_of, numbers_of};
 use crate::visitors::{input_numbers, links_of, places_at, visitors_of, with_bits};
 use aig::Lit;

@@ -9,7 +9,7 @@ ghost use Rattle.cbf_unfold.specs.Unfolded.{IsKnown};
 ghost use Rattle.cbf_unfold.specs.Building.{AreKnown, IsMet, IsReady, HasGrown, IsInputLit, IsGateLit};
 
 use super::Unfolder;
-use crate::reached_places::Place;
+use crate::memo::Place;
 use crate::reads::{gate_of, latch_of};
 use aig::{Aig, Lit};
 use flat_net::{Driver, Signal};

@@ -10,7 +10,7 @@ ghost use Rattle.cbf_unfold.specs.declared.error.UnfoldError.TheVariants as unfo
 
 use super::Unfolder;
 use crate::error::UnfoldError;
-use crate::reached_places::Place;
+use crate::memo::Place;
 use crate::reads::weigh;
 use aig::Aig;
 use flat_net::Signal;

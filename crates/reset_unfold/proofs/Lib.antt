@@ -1,0 +1,13 @@
+pub mod FaninPlaces
+pub mod Reading
+pub mod Weighing
+pub mod Walk
+pub mod Order
+pub mod Numbers
+pub mod LeafLists
+pub mod TreeLeaves
+pub mod Known
+pub mod PlaceLits
+pub mod Going
+pub mod Finish
+pub mod Cone

@@ -1,0 +1,13 @@
+-- The place is there already, or it goes last.
+use Rattle.circuit_theory.proofs.Lists.{of_at}
+use Rattle.cbf_unfold.proofs.Table.{interned}
+use Rattle.reset_unfold.proofs.reached.add.Goals as goal
+
+pub returns-clause-adds : goal.returns-clause-adds
+returns-clause-adds c = (interned _ _ _ c.in_ok-intern.ensures.known c.in_ok-intern.ensures.added).0
+
+pub returns-clause-few : goal.returns-clause-few
+returns-clause-few c = (interned _ _ _ c.in_ok-intern.ensures.known c.in_ok-intern.ensures.added).1
+
+pub returns-clause-here : goal.returns-clause-here
+returns-clause-here c = of_at _ _ _ c.in_ok-intern.ensures.here

@@ -1,0 +1,70 @@
+-- How an unfolder goes on from place to place.
+use Rattle.std.specs.Prelude.{◌≡◌, ℕ, ◌+◌, ◌*◌, ◌^◌, ◌<◌, ◌≤◌, List, length, map, slice_get, Some, Contains}
+use Rattle.std.specs.List.{AllPairs, AllZip}
+use Rattle.flat_net.specs.declared.parts.Gate.{Gate}
+use Rattle.flat_net.specs.View.{circuit_of, cover_of}
+use Rattle.aig.specs.declared.node.Lit.{Lit}
+use Rattle.aig.specs.declared.node.Node.{Node}
+use Rattle.aig.specs.declared.node.Node.TheVariants.{Input}
+use Rattle.aig.specs.Graph.{Grows, IsLitOf}
+use Rattle.aig.specs.Rules.{IsCoverOf}
+use Rattle.cbf_unfold.specs.Places.{Steps, PlaceBefore}
+use Rattle.cbf_unfold.specs.Reach.{Adds}
+use Rattle.cbf_unfold.specs.Building.{IsMet}
+use Rattle.reset_unfold.specs.Places.{IsVisited}
+use Rattle.reset_unfold.specs.Reach.{AreLeavesOf}
+use Rattle.reset_unfold.specs.View.{ResetView}
+use Rattle.reset_unfold.specs.Unfolded.{IsKnown}
+
+-- each literal that the unfolder keeps is that of its place's tree
+abbrev pub AreKnown : ResetView → List Node → List (ℕ × ℕ) → Type 0
+AreKnown u g places = (p : ℕ × ℕ) (x : Lit) → Contains u.memo (p, x) → IsKnown u.net u.order u.base g places p x.0
+
+-- The place can be unfolded: a signal that is unfolded visits it, and what it reads has been met.
+pub record IsReady (u : ResetView) (p : ℕ × ℕ) : Type 0 where
+  pub visited : IsVisited (circuit_of u.net) u.done p
+  pub within : p.1 < length u.net.drivers
+  pub read : (q : ℕ × ℕ) → Steps (circuit_of u.net) p q → IsMet u.memo q
+
+-- the graph and the table have room for all that may still be met
+pub record HasRoom (u : ResetView) (g : List Node) (places : List (ℕ × ℕ)) : Type 0 where
+  pub nodes : length g + u.cap < 2 ^ 30 + u.weight
+  pub entries : length places + u.cap < 2 ^ 31 + u.weight
+  pub small : u.weight ≤ u.cap
+
+-- The same unfolder later: it has met more, and the graph and the table have grown no more than the weight has. The weight
+-- is within the limit.
+pub record IsLaterReset (u v : ResetView) (g h : List Node) (places more : List (ℕ × ℕ)) : Type 0 where
+  pub net : v.net ≡ u.net
+  pub order : v.order ≡ u.order
+  pub base : v.base ≡ u.base
+  pub cap : v.cap ≡ u.cap
+  pub memo : Adds (λ e. Unit {0}) u.memo v.memo
+  pub grows : Grows g h
+  pub adds : Adds (λ p. Unit {0}) places more
+  pub nodes : length h + u.weight ≤ length g + v.weight
+  pub entries : length more + u.weight ≤ length places + v.weight
+  pub small : v.weight ≤ v.cap
+
+-- the literal is the variable with this number in this cycle
+pub record IsVariableLit (number cycle : ℕ) (g : List Node) (places : List (ℕ × ℕ)) (x : ℕ) : Type 0 where
+  pub variable : ℕ
+  pub numbered : slice_get places variable ≡ Some (number, cycle)
+  pub lit : IsLitOf g (Input variable) x
+  pub within : x < 2 * length g
+
+-- the literal is the gate's cover of its fan-ins' literals in the cycle
+pub record IsGateLit (u : ResetView) (cycle j : ℕ) (g : List Node) (x : ℕ) : Type 0 where
+  pub gate : Gate
+  pub at : slice_get u.net.gates j ≡ Some gate
+  pub lits : List Lit
+  pub each : AllZip (λ f y. Contains u.memo ((cycle, f.0), y)) gate.fanins lits
+  pub is : IsCoverOf g (cover_of u.net.covers gate) (map (λ y. y.0) lits) x
+  pub within : x < 2 * length g
+
+-- the variables are the numbers in the table of the leaves among the places, by cycle and then by number
+pub record AreNumbered (u : ResetView) (places visited : List (ℕ × ℕ)) (vars : List ℕ) : Type 0 where
+  pub found : List (ℕ × ℕ)
+  pub leaves : AreLeavesOf (circuit_of u.net) u.order u.base visited found
+  pub ordered : AllPairs PlaceBefore found
+  pub numbers : AllZip (λ v x. slice_get places v ≡ Some (x.1, x.0)) vars found

@@ -1,0 +1,6 @@
+pub mod Places
+pub mod Reach
+pub mod View
+pub mod Unfolded
+pub mod Laws
+pub mod Building
