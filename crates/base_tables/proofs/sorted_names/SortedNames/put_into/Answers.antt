@@ -1,5 +1,5 @@
 -- One name more.
-use Rattle.std.proofs.Common.{◌≡◌, ◌++◌, ◌∷◌, [], rules}
+use Rattle.std.proofs.Common.{rules}
 use Rattle.base_tables.proofs.Appended.{front-push}
 use Rattle.base_tables.proofs.sorted_names.SortedNames.put_into.Goals as goal
 

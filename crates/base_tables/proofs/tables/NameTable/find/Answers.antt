@@ -1,5 +1,5 @@
 -- What is neither early nor late isn't in the table.
-use Rattle.std.proofs.Common.{◌≡◌, ◌++◌, ◌||◌, ◌∙◌, ap, false, rules, sym}
+use Rattle.std.proofs.Common.{◌≡◌, ◌||◌, ◌∙◌, ap, false, rules, sym}
 use Rattle.std.specs.Str.{bytes_eq}
 use Rattle.std.proofs.lemmas.List.Folds.{list_any-append}
 use Rattle.base_tables.specs.Table.{is_among}

@@ -1,5 +1,5 @@
 -- A new name stands once.
-use Rattle.std.proofs.Common.{◌≡◌, ◌+◌, ◌<◌, ◌^◌, ◌++◌, ◌∙◌, ap, false, length, subst, sym, arith, rules}
+use Rattle.std.proofs.Common.{◌+◌, ◌<◌, ◌^◌, ◌∙◌, ap, length, subst, sym, rules}
 use Rattle.base_tables.specs.Table.{is_among}
 use Rattle.base_tables.proofs.Appended.{early-push, late-push}
 use Rattle.base_tables.proofs.tables.NameTable.put.Goals as goal
