@@ -11,8 +11,7 @@ ghost use Rattle.cbf_unfold.specs.View.{IsOrderOf};
 ghost use Rattle.cbf_unfold.specs.Planned.{IsPlanned};
 ghost use Rattle.cbf_unfold.specs.Visitors.{AreMet, AreReads, AreLinks, Gives, AreMarked, ArePassed, AreVisitors, AreInputNumbers, ArePlacesAt, with_bits, has_bit};
 
-use crate::memo::Memo;
-use crate::memo::Place;
+use crate::memo::{Memo, Place};
 use crate::reads::{gate_of, latch_of};
 use crate::variables::input_number;
 use flat_net::{Driver, Net, Signal};
