@@ -6,7 +6,7 @@ use Rattle.std.proofs.Math.ListN.{drop_of_length-le}
 use Rattle.std.proofs.lemmas.Bool.{cases_eq, eq-eqb, ne_eqb}
 use Rattle.std.proofs.lemmas.List.{length-take, take_all}
 use Rattle.proof_check.specs.Literals.{Literal}
-use Rattle.lrat_core.specs.States.{Live, State, none_live, with_clause, without, without_all, numbered}
+use Rattle.lrat_core.specs.States.{Live, none_live, with_clause, without, without_all, numbered}
 use Rattle.lrat_core.specs.Hints.{HintsGive}
 use Rattle.lrat_core.specs.Sequences.{DeletionGives}
 use Rattle.lrat_core.specs.declared.hints.Hint.{Hint}

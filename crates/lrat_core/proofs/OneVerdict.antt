@@ -6,8 +6,7 @@ use Rattle.lrat_core.specs.Hints.{IsFalsified, IsUnit, HasTwoOutside, HintsGive}
 use Rattle.lrat_core.specs.Sequences.{AdditionGives, DeletionGives, LineGives, LinesGive, Verdict, Refused}
 use Rattle.lrat_core.specs.Laws.{SequenceHasOneVerdict}
 use Rattle.lrat_core.specs.declared.hints.Hint.{Hint}
-use Rattle.lrat_core.specs.Lines.{Addition}
-use Rattle.lrat_core.specs.Lines.{Line}
+use Rattle.lrat_core.specs.Lines.{Addition, Line}
 use Rattle.lrat_core.specs.Lines as line
 use Rattle.text_numbers.specs.declared.kinds.TextKind.{TextKind}
 

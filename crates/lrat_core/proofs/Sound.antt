@@ -12,8 +12,7 @@ use Rattle.lrat_core.specs.Hints.{HintsGive}
 use Rattle.lrat_core.specs.Sequences.{AdditionGives, LineGives, LinesGive, AddsEmpty, Accepted, after}
 use Rattle.lrat_core.specs.Laws.{AcceptedIsUnsatisfiable}
 use Rattle.lrat_core.specs.declared.hints.Hint.{Hint}
-use Rattle.lrat_core.specs.Lines.{Addition}
-use Rattle.lrat_core.specs.Lines.{Line}
+use Rattle.lrat_core.specs.Lines.{Addition, Line}
 use Rattle.lrat_core.specs.Lines as line
 
 -- each live clause is true

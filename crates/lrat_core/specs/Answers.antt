@@ -1,13 +1,11 @@
 -- What the checker's parts answer.
-use Rattle.std.specs.Prelude.{◌≡◌, ℕ, Bool, true, false, List, [], ◌∷◌, ◌++◌, Option, Some, None}
+use Rattle.std.specs.Prelude.{◌≡◌, ℕ, List, [], ◌∷◌, ◌++◌, Option, Some, None}
 use Rattle.proof_check.specs.Literals.{Literal, negation}
 use Rattle.lrat_core.specs.States.{Live, State, without_all}
 use Rattle.lrat_core.specs.Hints.{HintsGive, IsFalsified, IsUnit, HasTwoOutside}
-use Rattle.lrat_core.specs.Sequences.{AdditionGives, DeletionGives, LineGives, AddsEmpty, after, IsVerdict, Refused}
+use Rattle.lrat_core.specs.Sequences.{DeletionGives, LineGives, after}
 use Rattle.lrat_core.specs.declared.hints.Hint.{Hint}
-use Rattle.lrat_core.specs.Lines.{Addition}
 use Rattle.lrat_core.specs.Lines.{Line}
-use Rattle.lrat_core.specs.Lines as line
 use Rattle.lrat_core.specs.declared.looking.Outside.{Outside}
 use Rattle.lrat_core.specs.declared.looking.Outside.TheVariants.{Nothing, One, More}
 use Rattle.lrat_core.specs.declared.looking.Effect.{Effect}

@@ -9,8 +9,7 @@ use Rattle.lrat_core.specs.Marks.{mark_of}
 use Rattle.lrat_core.specs.Sequences.{Accepted, IsVerdict}
 use Rattle.lrat_core.specs.declared.hints.Hint.{Hint}
 use Rattle.lrat_core.specs.declared.hints.Hint.TheVariants.{Clause}
-use Rattle.lrat_core.specs.Lines.{Line}
-use Rattle.lrat_core.specs.Lines.{Adds}
+use Rattle.lrat_core.specs.Lines.{Line, Adds}
 
 -- the literal is among these
 abbrev pub is_in : List Literal → Literal → Bool

@@ -3,8 +3,7 @@ use Rattle.std.specs.Prelude.{◌≡◌, ℕ, suc, ◌<◌, ◌≤◌, List, [],
 use Rattle.proof_check.specs.Literals.{Literal}
 use Rattle.lrat_core.specs.States.{Live, State, with_clause, without, without_all, start}
 use Rattle.lrat_core.specs.Hints.{HintsGive}
-use Rattle.lrat_core.specs.Lines.{Addition}
-use Rattle.lrat_core.specs.Lines.{Line}
+use Rattle.lrat_core.specs.Lines.{Addition, Line}
 use Rattle.lrat_core.specs.Lines as line
 use Rattle.text_numbers.specs.declared.kinds.TextKind.{TextKind}
 use Rattle.text_numbers.specs.declared.kinds.TextKind.TheVariants.{BadId, NoEmpty}

@@ -1,4 +1,4 @@
-use Rattle.std.proofs.Common.{◌≡◌, ◌<◌, List, sym, ap, subst, Some, None, Result, Ok, Err}
+use Rattle.std.proofs.Common.{◌≡◌, ◌<◌, List, sym, subst, Some, None, Result, Ok, Err}
 use Rattle.std.specs.Result.{MatchResult, IsErrAnd}
 use Rattle.proof_check.specs.Literals.{Literal}
 use Rattle.lrat_core.specs.States.{Live, State, Known, live_of, state_of, with_clause}
@@ -6,7 +6,6 @@ use Rattle.lrat_core.specs.Hints.{HintsGive}
 use Rattle.lrat_core.specs.Lines.{Addition, adds}
 use Rattle.lrat_core.specs.Sequences.{AdditionGives}
 use Rattle.lrat_core.specs.Answers.{HintsFail, IsTaken, IsNotTaken}
-use Rattle.lrat_core.specs.declared.hints.Hint.{Hint}
 use Rattle.lrat_core.specs.declared.line_error.LineError.{LineError}
 use Rattle.lrat_core.specs.declared.line_error.LineError.TheVariants as error
 use Rattle.text_numbers.specs.declared.kinds.TextKind.TheVariants.{BadId}
