@@ -1,6 +1,5 @@
 -- The verdicts of texts.
-use Rattle.std.proofs.Common.{◌≡◌, ℕ, suc, ◌+◌, arith, Err, Bool, true, false, List, [], ◌∷◌, refl, sym, ◌∙◌, ap, subst, Option, Some, None, ◌⊎◌, inl, inr}
-use Rattle.proof_check.specs.Literals.{Literal}
+use Rattle.std.proofs.Common.{◌≡◌, ℕ, suc, ◌+◌, arith, Err, Bool, true, false, List, [], ◌∷◌, refl, sym, ◌∙◌, ap, subst, Some, None, ◌⊎◌, inl, inr}
 use Rattle.text_numbers.specs.declared.kinds.TextKind.{TextKind}
 use Rattle.lrat_core.specs.Lines.{Line}
 use Rattle.text_numbers.specs.Lines.{lines_of}
@@ -15,7 +14,7 @@ use Rattle.lrat_core.proofs.OneVerdict.{line_one}
 use Rattle.lrat_core.proofs.Sound.{AllTrue, after_true, empty_false, numbered_true}
 use Rattle.lrat_text.specs.Spellings.{Spelling, Nothing, Malformed, Spells, spelling_of}
 use Rattle.lrat_text.specs.Verdicts.{TextGives, IsTextVerdict, IsChecked}
-use Rattle.lrat_text.specs.Parts.{Ends, Goes, IsStep, IsFault, error_at}
+use Rattle.lrat_text.specs.Parts.{Goes, IsStep, IsFault, error_at}
 use Rattle.lrat_text.specs.Laws.{TextHasOneVerdict, AcceptedTextRefutes}
 
 nothing_spells : (s : Spelling) (l : Line) → s ≡ Nothing → s ≡ Spells l → ⊥

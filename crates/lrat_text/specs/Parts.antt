@@ -1,8 +1,8 @@
 -- What the parts of the reader and of the checker answer.
-use Rattle.std.specs.Prelude.{◌≡◌, ◌⊎◌, ℕ, ◌&&◌, Bool, true, false, List, [], ◌∷◌, ◌++◌, map, Option, Some, None}
+use Rattle.std.specs.Prelude.{◌≡◌, ◌⊎◌, ℕ, Bool, true, false, List, Option, Some, None}
 use Rattle.std.specs.List.{list_all, before_first, after_first}
 use Rattle.proof_check.specs.Literals.{Literal}
-use Rattle.text_numbers.specs.Numbers.{numbers_of, is_zero}
+use Rattle.text_numbers.specs.Numbers.{is_zero}
 use Rattle.text_numbers.specs.declared.numbers.Number.{Number}
 use Rattle.dimacs_text.specs.Literals.{is_literal}
 use Rattle.text_numbers.specs.declared.kinds.TextKind.TheVariants.{BadLine}
@@ -15,7 +15,7 @@ use Rattle.lrat_core.specs.Answers.{IsTaken}
 use Rattle.lrat_core.specs.declared.hints.Hint.{Hint}
 use Rattle.lrat_core.specs.declared.line_error.LineError.{LineError}
 use Rattle.lrat_core.specs.declared.line_error.LineError.TheVariants as line_error
-use Rattle.lrat_text.specs.Spellings.{Spelling, Nothing, Malformed, Spells, spelling_of, spelling_by, addition_of, deletion_of, in_numbers, has_d, without_second, is_addition, is_ended, id_of}
+use Rattle.lrat_text.specs.Spellings.{Spelling, Nothing, Malformed, Spells, spelling_by, addition_of, deletion_of, is_addition}
 use Rattle.lrat_text.specs.declared.words.Words.{Words}
 use Rattle.lrat_text.specs.declared.words.Words.TheVariants as words
 use Rattle.lrat_text.specs.declared.line.Form.{Form}

@@ -1,5 +1,5 @@
 -- Which LRAT texts are accepted, and the first fault of the others.
-use Rattle.std.specs.Prelude.{◌≡◌, ℕ, suc, List, [], ◌∷◌, Option, Some, None, Result, Ok, Err}
+use Rattle.std.specs.Prelude.{◌≡◌, ℕ, suc, List, [], ◌∷◌, Some, None, Result, Ok, Err}
 use Rattle.text_numbers.specs.Lines.{lines_of}
 use Rattle.text_numbers.specs.declared.kinds.TextError.{TextError}
 use Rattle.text_numbers.specs.declared.kinds.TextError.TheVariants as error
@@ -10,7 +10,7 @@ use Rattle.lrat_core.specs.Lines.{Line}
 use Rattle.lrat_core.specs.States.{State, start}
 use Rattle.lrat_core.specs.Sequences.{Verdict, Accepted, Refused, LineGives, AddsEmpty, after}
 use Rattle.lrat_text.specs.declared.checking.Verified.{Verified}
-use Rattle.lrat_text.specs.Spellings.{Spelling, Nothing, Malformed, Spells, spelling_of}
+use Rattle.lrat_text.specs.Spellings.{Nothing, Malformed, Spells, spelling_of}
 
 -- What becomes of the lines from the one of this number on, where literals have variables up to the limit: the first that adds the
 -- empty clause ends the text, if it and all before it are accepted, and a fault names the first faulty line.
