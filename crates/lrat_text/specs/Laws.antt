@@ -1,5 +1,5 @@
 -- Laws of the verdicts.
-use Rattle.std.specs.Prelude.{◌≡◌, ℕ, List}
+use Rattle.std.specs.Prelude.{◌≡◌, ℕ, true, false, List, [], ◌∷◌, codes}
 use Rattle.proof_check.specs.Clauses.{Unsatisfiable}
 use Rattle.dimacs_text.specs.declared.formula.Formula.{Formula}
 use Rattle.lrat_core.specs.Sequences.{Verdict, Accepted}
@@ -12,3 +12,8 @@ TextHasOneVerdict = (formula : Formula) (text : List ℕ) (v w : Verdict) → Is
 -- where a text is accepted, no assignment meets all clauses
 abbrev pub AcceptedTextRefutes : Type 0
 AcceptedTextRefutes = (formula : Formula) (text : List ℕ) (number : ℕ) → IsTextVerdict formula text (Accepted number) → Unsatisfiable formula.clauses
+
+-- a variable, and its negation, are refuted by one line
+abbrev pub TwoUnitsAreRefuted : Type 0
+TwoUnitsAreRefuted =
+    IsTextVerdict (record { variables = 1; clauses = (record { variable = 1; positive = true } ∷ []) ∷ (record { variable = 1; positive = false } ∷ []) ∷ [] }) (codes "3 0 1 2 0") (Accepted 1)
