@@ -26,7 +26,7 @@ returns-in-Gate-clause-adds c =
 
 pub returns-in-Gate-clause-all : goal.returns-in-Gate-clause-all
 returns-in-Gate-clause-all c =
-    gate_all_ok _ c.keeps.ensures.sound _ _ _ c.args.table.now _ (c.driver.ensures ∙ ap Some c.in-Gate.is) _ c.gate_of.ensures _ c.as_slice.ensures (Contains c.add_fanins.new.table) _ c.add_fanins.ensures.all
+    gate_all_ok _ c.keeps.ensures.sound _ _ _ c.args.table.now c.args.table.now (c.driver.ensures ∙ ap Some c.in-Gate.is) _ c.gate_of.ensures _ c.as_slice.ensures (Contains c.add_fanins.new.table) _ c.add_fanins.ensures.all
 
 pub returns-in-Latch-clause-adds : goal.returns-in-Latch-clause-adds
 returns-in-Latch-clause-adds c =
