@@ -13,8 +13,12 @@ COMMANDS = {
     "graph": ("graph", "x"),
     "graph --mode event": ("graph", "x", "--mode", "event"),
     "sim": ("sim", "x", "s"),
+    "sim --mode event": ("sim", "x", "s", "--mode", "event"),
+    "replay": ("replay", "x", "x", "s"),
+    "replay --mode event": ("replay", "x", "x", "s", "--mode", "event"),
 }
-STATUSES = {"check": {0, 4, 8, 9}, "check --expose": {0, 4, 8}, "graph": {0, 4, 8}, "graph --mode event": {0, 3, 4, 8}, "sim": {0, 4, 8}}
+PLAIN, EVENT = {0, 4, 8}, {0, 3, 4, 8}
+STATUSES = {name: EVENT if name.endswith("event") else PLAIN for name in COMMANDS} | {"check": {0, 4, 8, 9}}
 # What reading and flattening don't refuse.
 LATER = (b"refused A TooLarge", b"refused S", b"refused Power")
 
@@ -65,7 +69,7 @@ class Runner:
 
 
 def words_of(command, text):
-    if command == "sim" and text.power is not None:
+    if command.startswith("sim") and text.power is not None:
         return [*COMMANDS[command], "--power", text.power]
     return COMMANDS[command]
 
@@ -98,6 +102,7 @@ def fault_of(command, ended):
         "check": last == b"verdict equal\n",
         "graph": last == b"acyclic\n" or last.startswith(b"cycle "),
         "sim": report.startswith(b"outputs"),
+        "replay": report == b"replay same\n",
     }[command.split()[0]]
     return None if fits else f"status 0: {last[:80]!r}"
 
