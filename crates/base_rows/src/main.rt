@@ -14,7 +14,7 @@ mod shelves;
 mod sinks;
 mod tables;
 
-use row_text::{file_of, show, split_at};
+use row_text::{show, show_rows, split_at};
 use shelves::{show_files, show_shelf};
 use sinks::show_sink;
 use std::rt::HostRuntime;
@@ -48,23 +48,9 @@ fn show_row(rt: &HostRuntime, asked: Asked, row: &[u8]) {
     show(rt, b"\n");
 }
 
-/// Shows what each row tells, one on a line.
-fn show_rows(rt: &HostRuntime, asked: Asked, rows: &[u8]) {
-    let mut rest = rows;
-    for _ in 0..rows.len() {
-        let (row, later) = split_at(b'\n', rest);
-        if !row.is_empty() {
-            show_row(rt, asked, row);
-        }
-        rest = later;
-    }
-}
-
+/// Shows what each row of the file tells, one on a line.
 fn show_file(rt: &HostRuntime, asked: Asked, path: &str) {
-    match file_of(rt, path) {
-        Some(rows) => show_rows(rt, asked, rows.as_slice()),
-        None => show(rt, b"no rows\n"),
-    }
+    show_rows(rt, path, |row| show_row(rt, asked, row));
 }
 
 fn main(rt: HostRuntime) {

@@ -4,24 +4,10 @@
 
 mod told;
 
-use row_text::{file_of, show, split_at};
+use row_text::show_rows;
 use std::rt::HostRuntime;
 use told::show_row;
 
-fn show_rows(rt: &HostRuntime, rows: &[u8]) {
-    let mut rest = rows;
-    for _ in 0..rows.len() {
-        let (row, later) = split_at(b'\n', rest);
-        if !row.is_empty() {
-            show_row(rt, row);
-        }
-        rest = later;
-    }
-}
-
 fn main(rt: HostRuntime) {
-    match file_of(&rt, "rows") {
-        Some(rows) => show_rows(&rt, rows.as_slice()),
-        None => show(&rt, b"no rows\n"),
-    }
+    show_rows(&rt, "rows", |row| show_row(&rt, row));
 }

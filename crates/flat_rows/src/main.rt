@@ -17,7 +17,7 @@ use blif_read::{Design, read_design};
 use cuts::show_cuts;
 use made::show_made;
 use nets::show_flattened;
-use row_text::{file_of, show, split_at, text_of};
+use row_text::{show, show_rows, split_at, text_of};
 use sec_base::MAX_FILE_BYTES;
 use std::rt::HostRuntime;
 use walks::{show_walk, show_wires};
@@ -59,23 +59,9 @@ fn show_row(rt: &HostRuntime, asked: Asked, row: &[u8]) {
     show(rt, b"\n");
 }
 
-/// Shows what each row tells, one on a line.
-fn show_rows(rt: &HostRuntime, asked: Asked, rows: &[u8]) {
-    let mut rest = rows;
-    for _ in 0..rows.len() {
-        let (row, later) = split_at(b'\n', rest);
-        if !row.is_empty() {
-            show_row(rt, asked, row);
-        }
-        rest = later;
-    }
-}
-
+/// Shows what each row of the file tells, one on a line.
 fn show_file(rt: &HostRuntime, asked: Asked, path: &str) {
-    match file_of(rt, path) {
-        Some(rows) => show_rows(rt, asked, rows.as_slice()),
-        None => show(rt, b"no rows\n"),
-    }
+    show_rows(rt, path, |row| show_row(rt, asked, row));
 }
 
 fn main(rt: HostRuntime) {

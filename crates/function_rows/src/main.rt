@@ -10,7 +10,7 @@ mod sketch;
 mod sweeps;
 
 use calls::show_call;
-use row_text::{file_of, show, split_at, words_of};
+use row_text::{show, show_rows, split_at, words_of};
 use sketch::{Sketch, sketched};
 use std::rt::HostRuntime;
 
@@ -37,20 +37,6 @@ fn show_row(rt: &HostRuntime, row: &[u8]) {
     show(rt, b"\n");
 }
 
-fn show_rows(rt: &HostRuntime, rows: &[u8]) {
-    let mut rest = rows;
-    for _ in 0..rows.len() {
-        let (row, later) = split_at(b'\n', rest);
-        if !row.is_empty() {
-            show_row(rt, row);
-        }
-        rest = later;
-    }
-}
-
 fn main(rt: HostRuntime) {
-    match file_of(&rt, "rows") {
-        Some(rows) => show_rows(&rt, rows.as_slice()),
-        None => show(&rt, b"no rows\n"),
-    }
+    show_rows(&rt, "rows", |row| show_row(&rt, row));
 }

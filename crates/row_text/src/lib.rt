@@ -6,5 +6,5 @@ mod rows;
 mod telling;
 
 pub use pieces::{file_of, show, show_bit, show_byte, show_count, show_number, show_word};
-pub use rows::{number_of, split_at, text_of, words_of};
+pub use rows::{number_of, show_rows, split_at, text_of, words_of};
 pub use telling::Telling;

@@ -15,7 +15,7 @@ use checks::{show_checked, show_clause, show_derived};
 use proof_check::Clauses;
 use resolution::show_resolved;
 use row_parts::{clauses_of, numbers_of};
-use row_text::{file_of, show, split_at};
+use row_text::{show, show_rows, split_at};
 use searches::show_searched;
 use std::rt::HostRuntime;
 
@@ -82,20 +82,6 @@ fn show_row(rt: &HostRuntime, row: &[u8]) {
     show(rt, b"\n");
 }
 
-fn show_rows(rt: &HostRuntime, rows: &[u8]) {
-    let mut rest = rows;
-    for _ in 0..rows.len() {
-        let (row, later) = split_at(b'\n', rest);
-        if !row.is_empty() {
-            show_row(rt, row);
-        }
-        rest = later;
-    }
-}
-
 fn main(rt: HostRuntime) {
-    match file_of(&rt, "rows") {
-        Some(rows) => show_rows(&rt, rows.as_slice()),
-        None => show(&rt, b"no rows\n"),
-    }
+    show_rows(&rt, "rows", |row| show_row(&rt, row));
 }
