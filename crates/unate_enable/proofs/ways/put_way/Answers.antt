@@ -38,11 +38,11 @@ returns-in_ok-put-in-Gate c =
     let g = driven_gate n c.keeps.ensures.sound c.args.s.0 c.in-Gate.j drives in
     let old = way_in (get nat_eq c.args.ways.now) in
     record {
-      others = put_others (get nat_eq c.args.ways.now) (get nat_eq c.put.new.ways) c.args.s.0 c.gate_way-way.result c.in_ok-put.ensures;
+      others = put_others (get nat_eq c.args.ways.now) (get nat_eq c.put.new.ways) c.args.s.0 c.gate_way-way.result c.in_ok-put-in-Gate.ensures;
       here = inr (
         no_source n c.keeps.ensures.sound c.args.s.0 c.in-Gate.j drives,
         λ u low high raise reads.
-            subst (λ (w : Way). MayGo w (low c.args.s.0) (high c.args.s.0)) (sym (put_here (get nat_eq c.args.ways.now) (get nat_eq c.put.new.ways) c.args.s.0 c.gate_way-way.result c.in_ok-put.ensures))
+            subst (λ (w : Way). MayGo w (low c.args.s.0) (high c.args.s.0)) (sym (put_here (get nat_eq c.args.ways.now) (get nat_eq c.put.new.ways) c.args.s.0 c.gate_way-way.result c.in_ok-put-in-Gate.ensures))
             (gate_goes n c.keeps.ensures.sound c.args.s.0 c.in-Gate.j drives g.0 g.1 old c.gate_way-way.result (c.gate_way-way.ensures g.0 g.1) u low high raise reads),
       );
     }
