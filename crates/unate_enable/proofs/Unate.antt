@@ -29,6 +29,7 @@ use Rattle.unate_enable.specs.declared.recovery.Recovery.{Recovery}
 use Rattle.unate_enable.specs.declared.recovery.Recovery.TheVariants as recovery
 use Rattle.aig.specs.Graph.{IsGraph}
 use Rattle.unate_enable.specs.Recovery.{recovery_of, IsAsked, IsAnswer, IsRecovery, HasSelfEdge, IsCase, IsQueryOf, FallsAt, IsNotUnate, IsEnabledAt}
+use Rattle.unate_enable.specs.Raises.{IsRaise}
 use Rattle.circuit_laws.proofs.EnabledForm.{enabled_loads_or_keeps_in_nets}
 use Rattle.unate_enable.proofs.Cones.{ArePlaces}
 
@@ -59,6 +60,19 @@ module _ (n : NetView) (sound : IsSound n) (j : ℕ) (own : j < length n.latches
     put = ex.put;
     takes = λ k p at. let here = of_at places k p at in ex.sources p (are.sources p here) (are.others p here) ∙ same k p at;
   }
+
+  -- what the latch takes over never goes down where the latch goes up
+  pub enabled_by : HasSelfEdge n j → ((low high : ℕ → Bool) → IsRaise (circuit_of n) (out_of_latch n j) low high → low (data_of_latch n j) ≡ true → high (data_of_latch n j) ≡ true) → IsEnabledAt n j
+  enabled_by self never = record { enabled = enabled; loads_or_keeps = enabled_loads_or_keeps_in_nets (circuit_of n) (length n.drivers) net (latch_at n j).name (out_of_latch n j) (data_of_latch n j) latch enabled }
+    where
+      enabled : IsEnabled (circuit_of n) (out_of_latch n j)
+      enabled = record {
+        name = (latch_at n j).name;
+        next = data_of_latch n j;
+        latch = latch;
+        self_edge = self;
+        rises = λ x low high low_is high_is up. never low high (record { x = x; low_is = low_is; high_is = high_is }) up;
+      }
 
   -- the sides are one wherever f0 is 1
   pub enabled_from : (signals places : List ℕ) (g : List Node) (q : Query) → ArePlaces n j signals places → HasSelfEdge n j → IsQueryOf n j places g q → IsSame g q → IsEnabledAt n j

@@ -12,6 +12,7 @@ mod reads;
 mod recovery;
 mod sources;
 mod support;
+mod ways;
 
 pub use laws::cones_are_one;
 pub use recovery::{RecoverError, Recovery, recover};

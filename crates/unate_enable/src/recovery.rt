@@ -9,18 +9,22 @@ ghost use Rattle.unate_enable.specs.Walks.{AreReached};
 ghost use Rattle.unate_enable.specs.declared.support.LatchCone.{LatchCone};
 ghost use Rattle.unate_enable.specs.Cones.{data_of_latch, out_of_latch, IsConeOfLatch, places_of};
 ghost use Rattle.unate_enable.specs.Building.{AreClosed};
-ghost use Rattle.unate_enable.specs.Recovery.{IsRecovery, IsTooLarge, IsAnswer, IsQueryOf, recovery_of};
+ghost use Rattle.unate_enable.specs.Recovery.{IsRecovery, IsEnabledAt, IsTooLarge, IsAnswer, IsQueryOf, recovery_of};
 ghost use Rattle.unate_enable.specs.declared.recovery.RecoverError.TheVariants as recover_error;
 
 use crate::cone_literals::lit_with;
 use crate::reached_signals::reached;
 use crate::reads::{are_light, latch_of};
 use crate::sources::{cone_among, places};
+use crate::ways::never_falls;
 use aig::Aig;
 use flat_net::{Net, Signal};
 use pair_decide::{Decision, Proof, Query, decide};
 use sec_base::{Bits, Ids, MAX_CONFLICTS, MAX_WEIGHT, NoMemory};
 use std::alloc::Global;
+
+/// The limit of conflicts from which on the covers are looked at before the query.
+const FEW: u32 = 20;
 
 /// What is found out about a latch.
 #[derive(Drop)]
@@ -102,9 +106,35 @@ fn ask(
     ensures { IfOk result (IsAnswer net.now latch conflicts) }
 {
     net.keeps();
+    let shown = is_shown(alloc, net, latch, signals, conflicts)?;
+    if shown {
+        return Ok(Recovery::Enabled);
+    }
     let cone = cone_among(alloc, net, latch, signals)?;
     let places = places(alloc, net, &cone)?;
     ask_over(alloc, net, latch, signals, places.as_slice(), conflicts)
+}
+
+/// Whether the covers of its cone show that the latch is enabled. With few conflicts nothing but the query tells it.
+fn is_shown(
+    alloc: Global,
+    net: &Net,
+    latch: u32,
+    signals: &[u32],
+    conflicts: u32,
+) -> Result<bool, NoMemory>
+    requires latch { latch < length net.now.latches }
+    requires reached { AreReached (circuit_of net.now) (length net.now.drivers) (data_of_latch net.now latch) signals.now }
+    requires own { Contains signals.now (out_of_latch net.now latch) }
+    ensures { IfOk result (λ shown. IsTrue shown → IsEnabledAt net.now latch) }
+{
+    if conflicts < FEW {
+        return Ok(false);
+    }
+    net.keeps();
+    let at = latch_of(net, latch);
+    let shown = never_falls(alloc, net, signals, at.out, at.next)?;
+    Ok(shown)
 }
 
 /// The same over the signals of the inputs and then of the other latches of its cone.
