@@ -5,6 +5,8 @@ ghost use Rattle.flat_net.specs.declared.parts.LatchAt.{LatchAt};
 ghost use Rattle.flat_net.specs.Sound.{IsSound};
 ghost use Rattle.event_nodes.specs.View.{IsEventCircuit, side_of, Enabled};
 
+mod classes;
+
 use flat_net::Net;
 use sec_base::{Bits, Ids};
 use std::marker::Model;
@@ -15,7 +17,7 @@ pub struct EventCircuit {
     net: Net,
     enabled: Bits,
     order: Ids,
-    classes: Ids,
+    classes: Vec<u32>,
 }
 
 impl Model for EventCircuit {
@@ -23,9 +25,9 @@ impl Model for EventCircuit {
 
     ghost Value = { EventCircuitView };
 
-    ghost view = { λ e. record { net = e.net; enabled = e.enabled; order = e.order; classes = e.classes } };
+    ghost view = { λ e. record { net = e.net; enabled = e.enabled; order = e.order; classes = e.classes.items } };
 
-    ghost invariant = { λ e. IsEventCircuit (record { net = e.net; enabled = e.enabled; order = e.order; classes = e.classes }) };
+    ghost invariant = { λ e. IsEventCircuit (record { net = e.net; enabled = e.enabled; order = e.order; classes = e.classes.items }) };
 }
 
 impl EventCircuit {
@@ -38,7 +40,7 @@ impl EventCircuit {
             net,
             enabled,
             order,
-            classes,
+            classes: classes.into_vec(),
         }
     }
 
@@ -57,6 +59,13 @@ impl EventCircuit {
         &self.net
     }
 
+    /// For each latch whether it is enabled.
+    pub fn enabled(&self) -> &Bits
+        ensures { result.now ≡ self.now.enabled }
+    {
+        &self.enabled
+    }
+
     /// The number of the input with this position.
     pub fn number(&self, i: u32) -> u32
         requires { i < length self.now.order }
@@ -71,7 +80,7 @@ impl EventCircuit {
         ensures { (l : LatchAt) → slice_get self.now.net.latches j ≡ Some l → (side_of self.now).class l.out.0 ≡ result }
     {
         self.net.keeps();
-        self.classes.as_slice()[j as usize]
+        self.classes[j as usize]
     }
 
     /// Whether the latch with this position is enabled.

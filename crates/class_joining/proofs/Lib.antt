@@ -1,0 +1,5 @@
+pub mod Bounds
+pub mod Entries
+pub mod Classes
+pub mod Giving
+pub mod Tables
