@@ -106,7 +106,6 @@ pub reached_one : (g : List Node) (roots : List ℕ) (k : ℕ) → IsReached g r
 reached_one g roots k (IsReached.root x h) = (x, h, IsReached.root x (Contains-head x []))
 reached_one g roots k (IsReached.operand n x node reached at reads) = let r = reached_one g roots n reached in (r.0, r.1, IsReached.operand n x node r.2 at reads)
 
-
 -- what is reached from a literal is reached from any roots that it is among
 pub reached_among : (g : List Node) (x : ℕ) (roots : List ℕ) → Contains roots x → {k : ℕ} → IsReached g (x ∷ []) k → IsReached g roots k
 reached_among g x roots here (IsReached.root y h) = IsReached.root y (subst (Contains roots) (only x y h) here)
