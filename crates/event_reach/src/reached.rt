@@ -12,16 +12,18 @@ ghost use Rattle.event_nodes.specs.Nodes.{GrowsEvents};
 ghost use Rattle.event_nodes.specs.View.{Enabled};
 ghost use Rattle.event_nodes.specs.View.{IsEnabledAt};
 ghost use Rattle.event_nodes.specs.Reach.{IsReachedPlace, IsPassedOn, AreReachedPlaces};
+ghost use Rattle.event_reach.specs.Made.{HasChild};
+ghost use Rattle.event_nodes.specs.Visited.{AreNodesFrom, HoldsNodes};
 
-use crate::circuit::EventCircuit;
-use crate::error::EventUnfoldError;
-use crate::events::EventGraph;
-use crate::net_parts::{Place, add};
+use event_nodes::{EventCircuit, EventGraph, EventUnfoldError, Place, add};
 use flat_net::{Driver, Net, Signal};
 use indexmap::IndexSet;
 use latch_cone::{other_latches, reached};
 use sec_base::PlaceTable;
 use std::alloc::Global;
+
+/// The most event nodes that are reached, the root among them.
+const NODES: u32 = 10_000;
 
 /// Puts the latch at the node into the table. `TooLarge` comes where that then holds more than the cap.
 fn put(table: &mut PlaceTable, node: u32, latch: u32, cap: u32) -> Result<(), EventUnfoldError>
@@ -95,8 +97,9 @@ fn pass_on(
     requires latch { (name : List ℕ) × (next : ℕ) × IsLatch (circuit_of circuit.now.net) name place.1 next }
     requires node { place.0 ≤ length events.old.children }
     requires room { length events.old.children + 2 < 2 ^ 32 }
-    requires depths { LatchesHaveDepths (circuit_of circuit.now.net) (Enabled circuit.now) }
-    ensures passed { OnOk result (IsPassedOn circuit.now events.new.children table.new place) }
+    ensures passed { OnOk result (LatchesHaveDepths (circuit_of circuit.now.net) (Enabled circuit.now) → IsPassedOn circuit.now events.new.children table.new place) }
+    ensures child { OnOk result (HasChild circuit.now events.new.children place) }
+    ensures made { (x : Start ℕ) → IsReachedPlace circuit.now events.old.children x place → AreNodesFrom circuit.now events.new.children x (length events.old.children) }
     ensures sound { OnOk result ((x : Start ℕ) → IsReachedPlace circuit.now events.new.children x place → Adds (IsReachedPlace circuit.now events.new.children x) table.old table.new) }
     ensures kept { Adds (λ q. q ≡ q) table.old table.new }
     ensures few { OnOk result (length table.new ≤ cap) }
@@ -116,7 +119,8 @@ fn pass_on(
     put_all(table, child, others.as_slice(), cap)
 }
 
-/// Puts all that the latches in the table pass on into it, and what that passes on.
+/// Puts all that the latches in the table pass on into it, and what that passes on. `TooManyEvents` comes where more than 10,000 event
+/// nodes were made.
 fn pass_on_all(
     alloc: Global,
     circuit: &EventCircuit,
@@ -128,8 +132,9 @@ fn pass_on_all(
     requires few { length table.old ≤ cap }
     requires reached { (x : Start ℕ) × All (IsReachedPlace circuit.now events.old.children x) table.old }
     requires room { length events.old.children + cap + 2 < 2 ^ 32 }
-    requires depths { LatchesHaveDepths (circuit_of circuit.now.net) (Enabled circuit.now) }
-    ensures passed { OnOk result (All (IsPassedOn circuit.now events.new.children table.new) table.new) }
+    ensures passed { OnOk result (LatchesHaveDepths (circuit_of circuit.now.net) (Enabled circuit.now) → All (IsPassedOn circuit.now events.new.children table.new) table.new) }
+    ensures children { OnOk result (All (HasChild circuit.now events.new.children) table.new) }
+    ensures made { (x : Start ℕ) → All (IsReachedPlace circuit.now events.old.children x) table.old → AreNodesFrom circuit.now events.new.children x (length events.old.children) }
     ensures reached { OnOk result ((x : Start ℕ) → All (IsReachedPlace circuit.now events.old.children x) table.old → All (IsReachedPlace circuit.now events.new.children x) table.new) }
     ensures kept { Adds (λ q. q ≡ q) table.old table.new }
     ensures grows { GrowsEvents events.old events.new }
@@ -138,6 +143,11 @@ fn pass_on_all(
 {
     let mut at = 0;
     while at < table.len() {
+        let nodes = events.nodes();
+        if nodes >= NODES {
+            return Err(EventUnfoldError::TooManyEvents);
+        }
+        events.keeps();
         let place = table.pair(at);
         pass_on(alloc, circuit, events, table, place, cap)?;
         at += 1;
@@ -145,8 +155,9 @@ fn pass_on_all(
     Ok(())
 }
 
-/// The latches that the signal reaches, each at its event nodes: pairs of an event node and a latch's signal. `TooLarge` comes where they
-/// are more than the cap.
+/// The latches that the signal reaches, each at its event nodes: pairs of an event node and a latch's signal. All event nodes that it
+/// reaches are made. `TooLarge` comes where the pairs are more than the cap, and `TooManyEvents` where more than 10,000 event nodes were made
+/// while latches are left.
 pub fn reached_latches(
     alloc: Global,
     circuit: &EventCircuit,
@@ -157,8 +168,9 @@ pub fn reached_latches(
     requires signal { s.0 < length circuit.now.net.drivers }
     requires cap { cap ≤ 2000000 }
     requires room { length events.old.children + cap + 2 < 2 ^ 32 }
-    requires depths { LatchesHaveDepths (circuit_of circuit.now.net) (Enabled circuit.now) }
-    ensures reached { IfOk result (AreReachedPlaces circuit.now events.new.children (record { place = s.0; left_out = None })) }
+    ensures reached { IfOk result (λ table. LatchesHaveDepths (circuit_of circuit.now.net) (Enabled circuit.now) → AreReachedPlaces circuit.now events.new.children (record { place = s.0; left_out = None }) table) }
+    ensures nodes { OnOk result (LatchesHaveDepths (circuit_of circuit.now.net) (Enabled circuit.now) → HoldsNodes circuit.now events.new.children (record { place = s.0; left_out = None })) }
+    ensures made { AreNodesFrom circuit.now events.new.children (record { place = s.0; left_out = None }) (length events.old.children) }
     ensures grows { GrowsEvents events.old events.new }
     ensures same { events.new ≡ record events.old { children = events.new.children } }
     ensures small { length events.new.children ≤ length events.old.children + cap }
@@ -184,8 +196,9 @@ pub fn reached_others(
     requires latch { j < length circuit.now.net.latches }
     requires cap { cap ≤ 2000000 }
     requires room { length events.old.children + cap + 2 < 2 ^ 32 }
-    requires depths { LatchesHaveDepths (circuit_of circuit.now.net) (Enabled circuit.now) }
-    ensures reached { IfOk result (λ table. (l : LatchAt) → slice_get circuit.now.net.latches j ≡ Some l → AreReachedPlaces circuit.now events.new.children (record { place = l.next.0; left_out = Some l.out.0 }) table) }
+    ensures reached { IfOk result (λ table. (l : LatchAt) → slice_get circuit.now.net.latches j ≡ Some l → LatchesHaveDepths (circuit_of circuit.now.net) (Enabled circuit.now) → AreReachedPlaces circuit.now events.new.children (record { place = l.next.0; left_out = Some l.out.0 }) table) }
+    ensures nodes { OnOk result ((l : LatchAt) → slice_get circuit.now.net.latches j ≡ Some l → LatchesHaveDepths (circuit_of circuit.now.net) (Enabled circuit.now) → HoldsNodes circuit.now events.new.children (record { place = l.next.0; left_out = Some l.out.0 })) }
+    ensures made { (l : LatchAt) → slice_get circuit.now.net.latches j ≡ Some l → AreNodesFrom circuit.now events.new.children (record { place = l.next.0; left_out = Some l.out.0 }) (length events.old.children) }
     ensures grows { GrowsEvents events.old events.new }
     ensures same { events.new ≡ record events.old { children = events.new.children } }
     ensures small { length events.new.children ≤ length events.old.children + cap }

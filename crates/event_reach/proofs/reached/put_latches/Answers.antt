@@ -1,9 +1,9 @@
 -- One signal more.
 use Rattle.std.proofs.Common.{◌∙◌, ◌<◌, Some, ap, arith}
 use Rattle.std.proofs.lemmas.Option.{slice_get-get_or}
-use Rattle.event_nodes.proofs.Latches.{root_adds, root_more, root_skip}
-use Rattle.event_nodes.proofs.reached.put_latches.Goals.{in-Latch+in_ok-put, in_default}
-use Rattle.event_nodes.proofs.reached.put_latches.Goals as goal
+use Rattle.event_reach.proofs.Latches.{root_adds, root_more, root_skip}
+use Rattle.event_reach.proofs.reached.put_latches.Goals.{in-Latch+in_ok-put, in_default}
+use Rattle.event_reach.proofs.reached.put_latches.Goals as goal
 
 pub returns-in_err-put-clause-adds : goal.returns-in_err-put-clause-adds
 returns-in_err-put-clause-adds c = root_adds c.args.net.now c.keeps.ensures.sound c.args.signals.now.keys _ _ _ c.loop-at.at _ _ c.index-signal.ensures (c.driver.ensures ∙ ap Some c.in-Latch.is) c.loop-at.invariant.adds c.put.ensures.adds

@@ -3,8 +3,8 @@ use Rattle.std.specs.List.{Contains}
 use Rattle.circuit_theory.specs.Circuit.{IsLatch}
 use Rattle.flat_net.specs.View.{circuit_of}
 use Rattle.event_nodes.specs.Adds.{Adds}
-use Rattle.event_nodes.proofs.Latches.{IsRootLatch}
-use Rattle.event_nodes.proofs.reached.put_latches.Given as goal
+use Rattle.event_reach.proofs.Latches.{IsRootLatch}
+use Rattle.event_reach.proofs.reached.put_latches.Given as goal
 
 abbrev pub invariant-loop-at : goal.invariant-loop-at
 invariant-loop-at l = record {

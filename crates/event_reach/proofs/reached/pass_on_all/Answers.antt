@@ -1,18 +1,24 @@
 -- Each place of the table is passed on in its turn.
-use Rattle.std.proofs.Common.{◌≡◌, ◌∙◌, ◌+◌, ◌-◌, ◌<◌, ℕ, refl, ap, arith}
+use Rattle.std.proofs.Common.{◌≡◌, ◌∙◌, ◌+◌, ◌-◌, ◌<◌, ℕ, length, refl, ap, arith}
+use Rattle.std.proofs.lemmas.Option.{slice_get_within}
+use Rattle.circuit_theory.proofs.Lists.{All-from_each, at_of}
 use Rattle.flat_net.proofs.Places.{All-at}
 use Rattle.event_nodes.specs.Nodes.{EventGraphView}
 use Rattle.event_nodes.specs.Reach.{IsReachedPlace}
+use Rattle.event_reach.specs.Made.{HasChild}
 use Rattle.event_nodes.proofs.Growing.{grows_refl}
 use Rattle.event_nodes.proofs.Growing.{grows_trans}
 use Rattle.event_nodes.proofs.Lists.{adds_none, adds_trans, adds_length}
-use Rattle.event_nodes.proofs.Reaching.{reached_more, passed_more, passed_all}
-use Rattle.event_nodes.proofs.reached.pass_on_all.Goals as goal
+use Rattle.event_reach.proofs.Making.{no_nodes, nodes_since, children_next}
+use Rattle.event_reach.proofs.Reaching.{reached_more, passed_more, passed_all}
+use Rattle.event_reach.proofs.reached.pass_on_all.Goals as goal
 
 pub loop-at-init : goal.loop-at-init
 loop-at-init c = record {
   reached = λ x all. all;
-  passed = λ i p below. absurd (omega (arith, below));
+  passed = λ depths i p below. absurd (omega (arith, below));
+  children = λ i p below. absurd (omega (arith, below));
+  made = λ x all. no_nodes c.args.circuit.now c.args.events.now.children x;
   kept = adds_none (λ (q : ℕ × ℕ). q ≡ q) c.args.table.now c.args.table.now refl;
   few = c.requires.few;
   grows = grows_refl c.args.events.now;
@@ -51,8 +57,11 @@ pub loop-at-preserved : goal.loop-at-preserved
 loop-at-preserved c = record {
   reached = λ x all. reached_more c.args.circuit.now c.loop-at.events c.pass_on.new.events c.pass_on.ensures.grows x c.loop-at.table c.pass_on.new.table c.loop-at.at c.pair-place.result c.pair-place.ensures (c.loop-at.invariant.reached x all)
       (c.in_ok-pass_on.ensures.sound x);
-  passed = passed_more c.args.circuit.now c.loop-at.events c.pass_on.new.events c.pass_on.ensures.grows c.loop-at.table c.pass_on.new.table c.loop-at.at c.pair-place.result c.pair-place.ensures c.pass_on.ensures.kept
-      c.loop-at.invariant.passed c.in_ok-pass_on.ensures.passed;
+  made = λ x all. nodes_since c.args.circuit.now x c.loop-at.events c.pass_on.new.events c.pass_on.ensures.grows (length c.args.events.now.children) c.keeps-in-loop-at.ensures.events.is_tree (c.loop-at.invariant.made x all)
+      (c.pass_on.ensures.made x (All-at (IsReachedPlace c.args.circuit.now c.loop-at.events.children x) c.loop-at.table c.loop-at.at c.pair-place.result c.pair-place.ensures (c.loop-at.invariant.reached x all)));
+  children = children_next c.args.circuit.now c.loop-at.events c.pass_on.new.events c.pass_on.ensures.grows c.loop-at.table c.pass_on.new.table c.loop-at.at c.pair-place.result c.pair-place.ensures c.pass_on.ensures.kept c.loop-at.invariant.children c.in_ok-pass_on.ensures.child;
+  passed = λ depths. passed_more c.args.circuit.now c.loop-at.events c.pass_on.new.events c.pass_on.ensures.grows c.loop-at.table c.pass_on.new.table c.loop-at.at c.pair-place.result c.pair-place.ensures c.pass_on.ensures.kept
+      (c.loop-at.invariant.passed depths) (c.in_ok-pass_on.ensures.passed depths);
   kept = adds_trans (λ (q : ℕ × ℕ). q ≡ q) c.args.table.now c.loop-at.table c.pass_on.new.table c.loop-at.invariant.kept c.pass_on.ensures.kept;
   few = c.in_ok-pass_on.ensures.few;
   grows = grows_trans c.args.events.now c.loop-at.events c.pass_on.new.events c.loop-at.invariant.grows c.pass_on.ensures.grows;
@@ -62,10 +71,22 @@ loop-at-preserved c = record {
 }
 
 pub returns-clause-passed : goal.returns-clause-passed
-returns-clause-passed c = passed_all c.args.circuit.now c.loop-at.events.children c.loop-at.table c.loop-at.at (omega (arith, c.loop-at-test.false, c.len.ensures)) c.loop-at.invariant.passed
+returns-clause-passed c = λ depths. passed_all c.args.circuit.now c.loop-at.events.children c.loop-at.table c.loop-at.at (omega (arith, c.loop-at-test.false, c.len.ensures)) (c.loop-at.invariant.passed depths)
 
 pub returns-clause-reached : goal.returns-clause-reached
 returns-clause-reached c = c.loop-at.invariant.reached
 
 pub returns-clause-small : goal.returns-clause-small
 returns-clause-small c = omega (arith, c.loop-at.invariant.inside, c.loop-at.invariant.few, c.loop-at.invariant.small)
+
+pub returns-in_err-pass_on-clause-made : goal.returns-in_err-pass_on-clause-made
+returns-in_err-pass_on-clause-made c = λ x all. nodes_since c.args.circuit.now x c.loop-at.events c.pass_on.new.events c.pass_on.ensures.grows (length c.args.events.now.children) c.keeps-in-loop-at.ensures.events.is_tree (c.loop-at.invariant.made x all)
+    (c.pass_on.ensures.made x (All-at (IsReachedPlace c.args.circuit.now c.loop-at.events.children x) c.loop-at.table c.loop-at.at c.pair-place.result c.pair-place.ensures (c.loop-at.invariant.reached x all)))
+
+pub returns-clause-children : goal.returns-clause-children
+returns-clause-children c =
+    All-from_each (HasChild c.args.circuit.now c.loop-at.events.children) c.loop-at.table
+    (λ p h. let i = at_of c.loop-at.table p h in c.loop-at.invariant.children i.0 p (let inside = slice_get_within c.loop-at.table i.0 p i.1 in omega (arith, inside, c.loop-at-test.false, c.len.ensures)) i.1)
+
+pub returns-then-nodes-ge-NODES-clause-small : goal.returns-then-nodes-ge-NODES-clause-small
+returns-then-nodes-ge-NODES-clause-small c = omega (arith, c.loop-at.invariant.inside, c.loop-at.invariant.few, c.loop-at.invariant.small)

@@ -5,8 +5,8 @@ use Rattle.flat_net.specs.View.{NetView}
 use Rattle.flat_net.proofs.Places.{one_at}
 use Rattle.event_nodes.specs.View.{Enabled}
 use Rattle.event_nodes.proofs.Drivers.{latch_of_equation}
-use Rattle.event_nodes.proofs.Passing.{latch_at}
-use Rattle.event_nodes.proofs.reached.enabled_at.Goals as goal
+use Rattle.event_reach.proofs.Passing.{latch_at}
+use Rattle.event_reach.proofs.reached.enabled_at.Goals as goal
 
 pub driver-requires : goal.driver-requires
 driver-requires c =

@@ -1,7 +1,7 @@
 -- One latch's place more.
 use Rattle.std.proofs.lemmas.List.{take_all}
 use Rattle.event_nodes.proofs.ReadPlaces.{fanin_adds, fanin_all}
-use Rattle.event_nodes.proofs.reached.put_all.Goals as goal
+use Rattle.event_reach.proofs.reached.put_all.Goals as goal
 
 pub returns-in_err-put-clause-adds : goal.returns-in_err-put-clause-adds
 returns-in_err-put-clause-adds c = fanin_adds c.args.latches.now c.args.node c.loop-latch.latch-index _ _ _ _ c.loop-latch-test.true c.loop-latch.invariant.adds c.put.ensures.adds

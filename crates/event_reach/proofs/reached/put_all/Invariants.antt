@@ -2,7 +2,7 @@ use Rattle.std.proofs.Common.{◌≡◌, ◌≤◌, ℕ, length, take}
 use Rattle.std.specs.List.{All, Contains}
 use Rattle.flat_net.specs.declared.signals.Signal.{Signal}
 use Rattle.event_nodes.specs.Adds.{Adds}
-use Rattle.event_nodes.proofs.reached.put_all.Given as goal
+use Rattle.event_reach.proofs.reached.put_all.Given as goal
 
 abbrev pub invariant-loop-latch : goal.invariant-loop-latch
 invariant-loop-latch l = record {

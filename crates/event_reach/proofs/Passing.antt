@@ -40,27 +40,27 @@ drives_at n m p j d same at is = ap (λ (k : NetView). slice_get k.drivers p) (s
 pub latch_at : (n m : NetView) → IsSound n → (p j : ℕ) (d : Driver) → m ≡ n → slice_get m.drivers p ≡ Some d → d ≡ driver.Latch j → (l : LatchAt) × (slice_get n.latches j ≡ Some l) × (l.out.0 ≡ p)
 latch_at n m sound p j d same at is = driven_latch n sound p j (drives_at n m p j d same at is)
 
-module _ (e : EventCircuitView) (sound : IsSound e.net) (depths : LatchesHaveDepths (circuit_of e.net) (Enabled e)) where
+module _ (e : EventCircuitView) (sound : IsSound e.net) where
   -- no latch stands in its own cone but an enabled one
-  apart : (u v : ℕ) → ConeOthers (circuit_of e.net) (Enabled e) u v → v ≢ u
-  apart u v others same =
+  apart : LatchesHaveDepths (circuit_of e.net) (Enabled e) → (u v : ℕ) → ConeOthers (circuit_of e.net) (Enabled e) u v → v ≢ u
+  apart depths u v others same =
       let falls = rank_falls (circuit_of e.net) (sound_is_net e.net sound).single same_or_not depths u v others in
       let one = ap (rank (circuit_of e.net) (sound_is_net e.net sound).single same_or_not depths) same in
       omega (arith, falls, one)
 
-  other_of : (u v : ℕ) → ConeOthers (circuit_of e.net) (Enabled e) u v → IsOther e.net u v
-  other_of u v others =
+  other_of : LatchesHaveDepths (circuit_of e.net) (Enabled e) → (u v : ℕ) → ConeOthers (circuit_of e.net) (Enabled e) u v → IsOther e.net u v
+  other_of depths u v others =
       let o = latch_of_equation e.net sound others.3.0 v others.3.1 others.3.2 in
-      record { position = o.j; latch = o.latch; here = o.at; out = latch_out e.net sound v o.j o.owner o.latch o.at; apart = apart u v others }
+      record { position = o.j; latch = o.latch; here = o.at; out = latch_out e.net sound v o.j o.owner o.latch o.at; apart = apart depths u v others }
 
   module _ (j p : ℕ) (drives : slice_get e.net.drivers p ≡ Some (driver.Latch j)) (l : LatchAt) (at : slice_get e.net.latches j ≡ Some l) (others : List Signal) (are : AreOthers e.net l others) where
     out : l.out.0 ≡ p
     out = latch_out e.net sound p j drives l at
 
-    pub passed_on : (children table : List (ℕ × ℕ)) (node k child : ℕ) → IsChild children node k child → (side_of e).class l.out.0 ≡ k → All (λ f. Contains table (child, f.0)) others → IsPassedOn e children table (node, p)
-    passed_on children table node k child is class all v cone =
+    pub passed_on : LatchesHaveDepths (circuit_of e.net) (Enabled e) → (children table : List (ℕ × ℕ)) (node k child : ℕ) → IsChild children node k child → (side_of e).class l.out.0 ≡ k → All (λ f. Contains table (child, f.0)) others → IsPassedOn e children table (node, p)
+    passed_on depths children table node k child is class all v cone =
         let next_is : l.next.0 ≡ cone.1 = latch_next e.net sound p j drives l at cone.0 cone.1 cone.2 in
-        let other = are.all v (subst (λ u. IsOther e.net u v) (sym out) (other_of p v cone)) (subst (λ q. Reaches (circuit_of e.net) q v) (sym next_is) cone.3.3) in
+        let other = are.all v (subst (λ u. IsOther e.net u v) (sym out) (other_of depths p v cone)) (subst (λ q. Reaches (circuit_of e.net) q v) (sym next_is) cone.3.3) in
         (child, subst (λ c. IsChild children node c child) (sym class ∙ ap (side_of e).class out) is, All-contains (λ (f : Signal). Contains table (child, f.0)) others (record { 0 = v }) all (of_at others other.0 _ other.1))
 
     cone_of : (f : Signal) → Contains others f → ConeOthers (circuit_of e.net) (Enabled e) p f.0
