@@ -1,0 +1,3 @@
+pub mod Refusing
+pub mod Totaling
+pub mod Growing
