@@ -1,5 +1,5 @@
 -- The variables of the first places.
-use Rattle.std.proofs.Common.{◌≡◌, ◌∙◌, ◌+◌, ◌<◌, ◌≤◌, ℕ, List, [], ◌∷◌, ◌++◌, length, slice_get, Some, Result, Ok, Err, IfOk, sym, ap, subst, arith, inl, inr}
+use Rattle.std.proofs.Common.{◌≡◌, ◌∙◌, ◌+◌, ◌<◌, ◌≤◌, ℕ, List, [], ◌∷◌, ◌++◌, length, map, slice_get, Some, Result, Ok, Err, IfOk, sym, ap, subst, arith, inl, inr}
 use Rattle.std.specs.Prelude.{◌⊎◌}
 use Rattle.std.specs.List.{Contains}
 use Rattle.std.proofs.lemmas.Bool.{cases_lt}
@@ -11,27 +11,37 @@ use Rattle.circuit_theory.proofs.Lists.{at_of, of_at}
 use Rattle.circuit_theory.proofs.Numbers.{at_beside, slice_get-map}
 use Rattle.flat_net.specs.declared.parts.Driver.{Driver}
 use Rattle.flat_net.specs.declared.parts.Driver.TheVariants as driver
-use Rattle.flat_net.specs.declared.parts.Port.{Port as InputPort}
 use Rattle.flat_net.specs.Sound.{IsSound}
 use Rattle.flat_net.specs.View.{NetView, circuit_of, named}
 use Rattle.flat_net.proofs.Places.{one_at}
 use Rattle.event_nodes.specs.Nodes.{EventGraphView, GrowsEvents}
-use Rattle.event_nodes.specs.View.{EventCircuitView}
+use Rattle.event_nodes.specs.View.{EventCircuitView, IsEventCircuit}
 use Rattle.event_nodes.proofs.Drivers.{input_owner}
 use Rattle.event_nodes.proofs.Lists.{adds_at}
 use Rattle.event_inputs.specs.Inputs.{IsVariableAt, IsVariablePut}
 
--- an input has its number
-pub input_number : (e : EventCircuitView) → IsSound e.net → (p i number : ℕ) → slice_get e.net.drivers p ≡ Some (driver.Input i) → slice_get e.order i ≡ Some number → IsInputNumber (circuit_of e.net) e.order p number
-input_number e sound p i number drives at =
-    let port = sound.drivers p (driver.Input i) drives in
-    subst (λ (q : ℕ). IsInputNumber (circuit_of e.net) e.order q number) port.2 (at_beside _ e.order i number (named port.0) (slice_get-map named e.net.inputs i port.0 port.1) at)
+module _ (e : EventCircuitView) (sound : IsSound e.net) (n : NetView) (same : n ≡ e.net) (p : ℕ) (d : Driver) (at : slice_get n.drivers p ≡ Some d) where
+  drives : slice_get e.net.drivers p ≡ Some d
+  drives = subst (λ (m : NetView). slice_get m.drivers p ≡ Some d) same at
 
--- what no input drives has none
-pub no_number : (e : EventCircuitView) → IsSound e.net → (p : ℕ) (d : Driver) → slice_get e.net.drivers p ≡ Some d → ((i : ℕ) → d ≡ driver.Input i → ⊥) → (n : ℕ) → IsInputNumber (circuit_of e.net) e.order p n → ⊥
-no_number e sound p d drives other n numbered =
-    let o = input_owner e.net sound p (beside_is_input (circuit_of e.net).inputs e.order p n numbered) in
-    other o.0 (one_at e.net.drivers p d (driver.Input o.0) drives o.4)
+  -- an input's position has a number
+  pub input_within : IsEventCircuit e → (i : ℕ) → d ≡ driver.Input i → i < length e.order
+  input_within circuit i is =
+      let port = sound.drivers p (driver.Input i) (drives ∙ ap Some is) in
+      let inside = slice_get_within e.net.inputs i port.0 port.1 in
+      omega (arith, inside, circuit.each_order)
+
+  -- an input has its number
+  pub input_number : (i number : ℕ) → d ≡ driver.Input i → slice_get e.order i ≡ Some number → IsInputNumber (circuit_of e.net) e.order p number
+  input_number i number is here =
+      let port = sound.drivers p (driver.Input i) (drives ∙ ap Some is) in
+      subst (λ (q : ℕ). IsInputNumber (circuit_of e.net) e.order q number) port.2 (at_beside (map named e.net.inputs) e.order i number (named port.0) (slice_get-map named e.net.inputs i port.0 port.1) here)
+
+  -- what no input drives has none
+  pub no_number : ((i : ℕ) → d ≡ driver.Input i → ⊥) → (k : ℕ) → IsInputNumber (circuit_of e.net) e.order p k → ⊥
+  no_number other k numbered =
+      let o = input_owner e.net sound p (beside_is_input (circuit_of e.net).inputs e.order p k numbered) in
+      other o.0 (one_at e.net.drivers p d (driver.Input o.0) drives o.4)
 
 -- a variable stays the place's while the event graph grows
 pub variable_later : (e : EventCircuitView) (w x : EventGraphView) → GrowsEvents w x → (p : ℕ × ℕ) (v : ℕ) → IsVariableAt e w p v → IsVariableAt e x p v

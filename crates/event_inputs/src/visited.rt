@@ -51,7 +51,8 @@ fn put_variable(
     circuit.keeps();
     match circuit.net().driver(Signal(place.1)) {
         Driver::Input(i) => {
-            let variable = events.number(circuit.number(i), place.0)?;
+            let input = circuit.number(i);
+            let variable = events.number(input, place.0)?;
             found.push(variable)?;
             Ok(())
         }

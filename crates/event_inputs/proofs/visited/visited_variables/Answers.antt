@@ -26,7 +26,7 @@ put_variable-requires-clause-room c = let inside = slice_get_within c.args.visit
 
 pub loop-number-preserved : goal.loop-number-preserved
 loop-number-preserved c = record {
-  inputs = inputs_next c.args.circuit.now c.args.visits.now.places c.loop-number.events c.put_variable.new.events c.put_variable.ensures.grows c.loop-number.number c.place.result c.loop-number.found.items c.put_variable.new.found.items c.place.ensures c.loop-number.invariant.inputs c.in_ok-put_variable.ensures;
+  inputs = inputs_next c.args.circuit.now c.args.visits.now.places c.loop-number.events c.put_variable.new.events c.put_variable.ensures.grows c.loop-number.number c.place.result c.loop-number.found.items c.put_variable.new.found.items c.place.ensures c.loop-number.invariant.inputs c.in_ok-put_variable.ensures.put;
   grows = grows_trans c.args.events.now c.loop-number.events c.put_variable.new.events c.loop-number.invariant.grows c.put_variable.ensures.grows;
   few = omega (arith, c.loop-number.invariant.few, c.put_variable.ensures.few);
   same = c.put_variable.ensures.same ∙ ap (λ (w : EventGraphView). record w { places = c.put_variable.new.events.places }) c.loop-number.invariant.same;
@@ -43,3 +43,12 @@ returns-clause-variables c =
       each = λ v h. c.loop-number.invariant.inputs.each v ((k.same v).0 h);
       all = λ p n h numbered. (let v = inputs_all c.args.circuit.now c.args.visits.now.places c.loop-number.events c.loop-number.number c.loop-number.found.items (omega (arith, c.loop-number-test.false, c.len-number-end.ensures)) c.loop-number.invariant.inputs p n h numbered in (v.0, (k.same v.0).1 v.1, v.2));
     }) c.in_order.ensures
+
+pub returns-in_err-put_variable-clause-grows : goal.returns-in_err-put_variable-clause-grows
+returns-in_err-put_variable-clause-grows c = grows_trans c.args.events.now c.loop-number.events c.put_variable.new.events c.loop-number.invariant.grows c.put_variable.ensures.grows
+
+pub returns-in_err-put_variable-clause-few : goal.returns-in_err-put_variable-clause-few
+returns-in_err-put_variable-clause-few c = let inside = slice_get_within c.args.visits.now.places c.loop-number.number c.place.result c.place.ensures in omega (arith, inside, c.loop-number.invariant.few, c.put_variable.ensures.few)
+
+pub returns-in_err-put_variable-clause-same : goal.returns-in_err-put_variable-clause-same
+returns-in_err-put_variable-clause-same c = c.put_variable.ensures.same ∙ ap (λ (w : EventGraphView). record w { places = c.put_variable.new.events.places }) c.loop-number.invariant.same
