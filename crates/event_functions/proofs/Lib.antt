@@ -1,3 +1,4 @@
 pub mod Refusing
 pub mod Totaling
 pub mod Growing
+pub mod Visiting

@@ -9,18 +9,22 @@ use Rattle.event_theory.specs.EventSizes.{Start, EventVisits, IsEventOver}
 use Rattle.flat_net.specs.Sound.{IsSound}
 use Rattle.flat_net.specs.View.{NetView}
 use Rattle.flat_net.proofs.Places.{one_at}
-use Rattle.sec_base.specs.Table.{AreDistinct}
 use Rattle.event_nodes.specs.Adds.{Adds}
 use Rattle.event_nodes.specs.Nodes.{EventGraphView, IsEventGraph, path_of}
 use Rattle.event_nodes.specs.View.{EventCircuitView, side_of, Enabled}
-use Rattle.event_nodes.specs.Visited.{CounterView, IsWeighed, IsVisitedPair, places_weight}
+use Rattle.event_nodes.specs.Visited.{CounterView, IsWeighed, IsVisitedPair}
 use Rattle.event_nodes.proofs.Lists.{adds_contains, adds_from}
 use Rattle.event_nodes.proofs.Paths.{path_grows}
 use Rattle.event_nodes.proofs.Totals.{passed_over}
 use Rattle.event_walk.specs.Walk.{IsCounting, HasCountedStart}
+use Rattle.event_functions.specs.Refused.{IsOverweight}
 
 abbrev pub nothing : CounterView
 nothing = record { places = []; weight = 0 }
+
+-- the event nodes stay where variables are added
+pub children_same : (w v : EventGraphView) → v ≡ record w { places = v.places } → v.children ≡ w.children
+children_same w v same = ap (λ (u : EventGraphView). u.children) same
 
 -- the first places have been counted, and one place more
 pub counted_next : (visits old new : List (ℕ × ℕ)) (at : ℕ) (p : ℕ × ℕ) → slice_get visits at ≡ Some p → Adds (λ q. q ≡ p) old new → Contains new p → ((i : ℕ) (q : ℕ × ℕ) → i < at → slice_get visits i ≡ Some q → Contains old q) →
@@ -68,14 +72,14 @@ module _ (e : EventCircuitView) (x : Start ℕ) (old new : List (ℕ × ℕ)) (b
   total_counting c d adds = record { more = visited.more; nodes = visited.nodes; counted = λ starts h before. total_visited c.places d.places adds starts h before }
 
   -- what is counted weighs too much
-  pub total_over : (w : EventGraphView) → IsSound e.net → IsEventGraph w → w.children ≡ new → (c d : List (ℕ × ℕ)) → AreDistinct d → Adds (Contains v.places) c d → 2000000 < places_weight e.net d →
+  pub total_over : (w : EventGraphView) → IsSound e.net → IsEventGraph w → w.children ≡ new → (c d : List (ℕ × ℕ)) → IsOverweight e.net d → Adds (Contains v.places) c d →
       (starts : List (Start ℕ)) → Contains starts x → All (IsVisitedPair e old starts) c → IsEventOver (side_of e) (Enabled e) starts 2000000
-  total_over w sound is same c d distinct adds weight starts h before =
-      passed_over e w starts d 2000000 sound is distinct (subst (λ (es : List (ℕ × ℕ)). All (IsVisitedPair e es starts) d) (sym same) (total_visited c d adds starts h before)) weight
+  total_over w sound is same c d over adds starts h before =
+      passed_over e w starts d 2000000 sound is over.distinct (subst (λ (es : List (ℕ × ℕ)). All (IsVisitedPair e es starts) d) (sym same) (total_visited c d adds starts h before)) over.weight
 
-  pub visits_over : (w : EventGraphView) → IsSound e.net → IsEventGraph w → w.children ≡ new → AreDistinct v.places → 2000000 < places_weight e.net v.places → (starts : List (Start ℕ)) → Contains starts x → IsEventOver (side_of e) (Enabled e) starts 2000000
-  visits_over w sound is same distinct weight starts h =
-      passed_over e w starts v.places 2000000 sound is distinct (subst (λ (es : List (ℕ × ℕ)). All (IsVisitedPair e es starts) v.places) (sym same) (all_visited starts h)) weight
+  pub visits_over : (w : EventGraphView) → IsSound e.net → IsEventGraph w → w.children ≡ new → IsOverweight e.net v.places → (starts : List (Start ℕ)) → Contains starts x → IsEventOver (side_of e) (Enabled e) starts 2000000
+  visits_over w sound is same over starts h =
+      passed_over e w starts v.places 2000000 sound is over.distinct (subst (λ (es : List (ℕ × ℕ)). All (IsVisitedPair e es starts) v.places) (sym same) (all_visited starts h)) over.weight
 
 -- the count holds what the start visits
 pub total_counted : (e : EventCircuitView) (x : Start ℕ) (children : List (ℕ × ℕ)) (c d b v : CounterView) → HasCountedStart e x children b v → Adds (Contains v.places) c.places d.places → All (Contains d.places) v.places → IsWeighed e.net d → HasCountedStart e x children c d

@@ -3,9 +3,10 @@
 ghost use Rattle.std.specs.Prelude.{◌≡◌, ◌+◌, ◌*◌, ◌^◌, ◌<◌, ◌≤◌, length, All, Contains, IfOk, OnOk, Err};
 ghost use Rattle.event_nodes.specs.declared.error.EventUnfoldError.TheVariants as unfold_error;
 ghost use Rattle.event_nodes.specs.Adds.{Adds};
-ghost use Rattle.event_nodes.specs.Visited.{IsWeighed, places_weight};
+ghost use Rattle.event_nodes.specs.Visited.{IsWeighed};
+ghost use Rattle.event_functions.specs.Refused.{IsOverweight};
 
-use event_nodes::{Counter, EventGraph, EventUnfoldError};
+use event_nodes::{Counter, EventGraph, EventUnfoldError, Place};
 use flat_net::{Net, Signal};
 use sec_base::NoMemory;
 
@@ -40,11 +41,25 @@ pub(crate) fn count_all(
     ensures all { OnOk result (All (Contains total.new.places) visits.now.places) }
     ensures weighed { OnOk result (IsWeighed net.now total.new) }
     ensures many { result ≡ Err unfold_error.TooManyEvents → ⊥ }
-    ensures large { result ≡ Err unfold_error.TooLarge → 2000000 < places_weight net.now total.new.places }
+    ensures large { result ≡ Err unfold_error.TooLarge → IsOverweight net.now total.new.places }
 {
     for number in 0..visits.len() {
-        let (node, signal) = visits.place(number);
-        total.count(net, node, Signal(signal))?;
+        count_one(net, total, visits.place(number))?;
     }
     Ok(())
+}
+
+/// Counts the place.
+fn count_one(net: &Net, total: &mut Counter, place: Place) -> Result<(), EventUnfoldError>
+    requires signal { place.1 < length net.now.drivers }
+    requires weighed { IsWeighed net.now total.old }
+    ensures adds { Adds (λ q. q ≡ place) total.old.places total.new.places }
+    ensures here { OnOk result (Contains total.new.places place) }
+    ensures weighed { OnOk result (IsWeighed net.now total.new) }
+    ensures many { result ≡ Err unfold_error.TooManyEvents → ⊥ }
+    ensures large { result ≡ Err unfold_error.TooLarge → IsOverweight net.now total.new.places }
+{
+    let counted = total.count(net, place.0, Signal(place.1));
+    total.keeps();
+    counted
 }

@@ -4,12 +4,12 @@ ghost use Rattle.std.specs.Prelude.{◌≡◌, ◌^◌, ◌<◌, ◌≤◌, [], 
 ghost use Rattle.flat_net.specs.declared.parts.LatchAt.{LatchAt};
 ghost use Rattle.event_nodes.specs.declared.error.EventUnfoldError.TheVariants as unfold_error;
 ghost use Rattle.event_nodes.specs.Nodes.{GrowsEvents};
-ghost use Rattle.event_nodes.specs.Visited.{IsWeighed, places_weight};
+ghost use Rattle.event_nodes.specs.Visited.{IsWeighed};
 ghost use Rattle.event_walk.specs.Walk.{HasCountedStart, IsCounting, enable_start};
 ghost use Rattle.edbf_unfold.specs.Care.{IsCareLit};
 ghost use Rattle.event_literals.specs.Known.{IsEnableLit};
 ghost use Rattle.event_functions.specs.Functions.{IsEnableFunctionOf};
-ghost use Rattle.event_functions.specs.Refused.{HasFewNodes, IsRefusal};
+ghost use Rattle.event_functions.specs.Refused.{HasFewNodes, IsTooHeavy, IsRefusal};
 
 use crate::counting::{count_all, room_in};
 use crate::refusal::enable_refusal;
@@ -49,17 +49,12 @@ pub fn unfold_enable(
     ensures grows { OnOk result (GrowsEvents events.old events.new) }
 {
     circuit.keeps();
-    total.keeps();
-    events.keeps();
     let mut visits = Counter::new(alloc);
-    let answer = visit_enable(alloc, circuit, events, &mut visits, j);
-    visits.keeps();
+    let made = visit_enable(alloc, circuit, events, &mut visits, j)?;
     events.keeps();
-    let made = answer?;
-    let counted = count_all(circuit.net(), total, &visits);
-    total.keeps();
-    counted?;
+    count_all(circuit.net(), total, &visits)?;
     let vars = visited_variables(alloc, circuit, events, &visits)?;
+    events.keeps();
     Ok(EnableFunction {
         value: made.value,
         care: made.care,
@@ -82,7 +77,7 @@ fn visit_enable(
     ensures counted { OnOk result ((l : LatchAt) → slice_get circuit.now.net.latches j ≡ Some l → HasCountedStart circuit.now (enable_start l) events.new.children visits.old visits.new) }
     ensures counting { (l : LatchAt) → slice_get circuit.now.net.latches j ≡ Some l → IsCounting circuit.now (enable_start l) events.old.children events.new.children visits.old visits.new }
     ensures many { result ≡ Err unfold_error.TooManyEvents → 10000 ≤ length events.new.children }
-    ensures large { result ≡ Err unfold_error.TooLarge → (l : LatchAt) → slice_get circuit.now.net.latches j ≡ Some l → (2000000 < places_weight circuit.now.net visits.new.places) × HasFewNodes circuit.now events.new.children (enable_start l) }
+    ensures large { result ≡ Err unfold_error.TooLarge → (l : LatchAt) → slice_get circuit.now.net.latches j ≡ Some l → IsTooHeavy circuit.now (enable_start l) × HasFewNodes circuit.now events.new.children (enable_start l) }
     ensures grows { OnOk result (GrowsEvents events.old events.new) }
     ensures places { OnOk result (length events.new.places < 2 ^ 31) }
 {
@@ -91,7 +86,12 @@ fn visit_enable(
     let mut unfolder = EventUnfolder::new(alloc, circuit);
     match unfolder.enable(alloc, events, visits, j, room) {
         Ok(made) => Ok(made),
-        Err(EventUnfoldError::TooLarge) => Err(enable_refusal(alloc, circuit, events, j)),
-        Err(error) => Err(error),
+        Err(EventUnfoldError::TooLarge) => {
+            visits.keeps();
+            events.keeps();
+            Err(enable_refusal(alloc, circuit, events, j))
+        }
+        Err(EventUnfoldError::TooManyEvents) => Err(EventUnfoldError::TooManyEvents),
+        Err(EventUnfoldError::NoMemory) => Err(EventUnfoldError::NoMemory),
     }
 }

@@ -3,13 +3,13 @@
 ghost use Rattle.std.specs.Prelude.{◌≡◌, ◌^◌, ◌<◌, ◌≤◌, [], length, None, IfOk, OnOk, Err};
 ghost use Rattle.event_nodes.specs.declared.error.EventUnfoldError.TheVariants as unfold_error;
 ghost use Rattle.event_nodes.specs.Nodes.{GrowsEvents};
-ghost use Rattle.event_nodes.specs.Visited.{IsWeighed, AreNodesFrom, places_weight};
+ghost use Rattle.event_nodes.specs.Visited.{IsWeighed};
 ghost use Rattle.event_walk.specs.Walk.{HasCountedStart, IsCounting};
 ghost use Rattle.edbf_unfold.specs.Care.{IsCareLit};
 ghost use Rattle.edbf_unfold.specs.Reached.{IsReachOf};
 ghost use Rattle.event_literals.specs.Known.{IsKnownAt};
 ghost use Rattle.event_functions.specs.Functions.{IsFunctionOf, signal_start};
-ghost use Rattle.event_functions.specs.Refused.{HasFewNodes, IsRefusal};
+ghost use Rattle.event_functions.specs.Refused.{HasFewNodes, IsTooHeavy, IsRefusal};
 
 use crate::counting::{count_all, room_in};
 use crate::refusal::signal_refusal;
@@ -56,17 +56,12 @@ pub fn unfold_signal(
     ensures grows { OnOk result (GrowsEvents events.old events.new) }
 {
     circuit.keeps();
-    total.keeps();
-    events.keeps();
     let mut visits = Counter::new(alloc);
-    let answer = visit_signal(alloc, circuit, events, &mut visits, s);
-    visits.keeps();
+    let made = visit_signal(alloc, circuit, events, &mut visits, s)?;
     events.keeps();
-    let made = answer?;
-    let counted = count_all(circuit.net(), total, &visits);
-    total.keeps();
-    counted?;
+    count_all(circuit.net(), total, &visits)?;
     let vars = visited_variables(alloc, circuit, events, &visits)?;
+    events.keeps();
     Ok(SignalFunction {
         value: made.value,
         care: made.care,
@@ -92,7 +87,7 @@ fn visit_signal(
     ensures counted { OnOk result (HasCountedStart circuit.now (signal_start s.0) events.new.children visits.old visits.new) }
     ensures counting { IsCounting circuit.now (signal_start s.0) events.old.children events.new.children visits.old visits.new }
     ensures many { result ≡ Err unfold_error.TooManyEvents → 10000 ≤ length events.new.children }
-    ensures large { result ≡ Err unfold_error.TooLarge → (2000000 < places_weight circuit.now.net visits.new.places) × HasFewNodes circuit.now events.new.children (signal_start s.0) }
+    ensures large { result ≡ Err unfold_error.TooLarge → IsTooHeavy circuit.now (signal_start s.0) × HasFewNodes circuit.now events.new.children (signal_start s.0) }
     ensures grows { OnOk result (GrowsEvents events.old events.new) }
     ensures places { OnOk result (length events.new.places < 2 ^ 31) }
 {
@@ -101,7 +96,12 @@ fn visit_signal(
     let mut unfolder = EventUnfolder::new(alloc, circuit);
     match unfolder.unfold(alloc, events, visits, s, room) {
         Ok(made) => Ok(made),
-        Err(EventUnfoldError::TooLarge) => Err(signal_refusal(alloc, circuit, events, s)),
-        Err(error) => Err(error),
+        Err(EventUnfoldError::TooLarge) => {
+            visits.keeps();
+            events.keeps();
+            Err(signal_refusal(alloc, circuit, events, s))
+        }
+        Err(EventUnfoldError::TooManyEvents) => Err(EventUnfoldError::TooManyEvents),
+        Err(EventUnfoldError::NoMemory) => Err(EventUnfoldError::NoMemory),
     }
 }

@@ -11,21 +11,21 @@ use Rattle.event_functions.proofs.counting.count_all.Goals as goal
 pub loop-number-init : goal.loop-number-init
 loop-number-init c = record { adds = adds_none (Contains c.args.visits.now.places) c.args.total.now.places c.args.total.now.places refl; done = λ i q below. absurd (omega (arith, below)); weighed = c.requires.weighed }
 
-pub count-requires-clause-signal : goal.count-requires-clause-signal
-count-requires-clause-signal c = All-at (λ (p : ℕ × ℕ). p.1 < length c.args.net.now.drivers) c.args.visits.now.places c.loop-number.number c.place.result c.place.ensures c.requires.signals
+pub count_one-requires-clause-signal : goal.count_one-requires-clause-signal
+count_one-requires-clause-signal c = All-at (λ (p : ℕ × ℕ). p.1 < length c.args.net.now.drivers) c.args.visits.now.places c.loop-number.number c.place.result c.place.ensures c.requires.signals
 
 pub loop-number-preserved : goal.loop-number-preserved
 loop-number-preserved c = record {
-  adds = adds_trans (Contains c.args.visits.now.places) c.args.total.now.places c.loop-number.total.places c.count.new.self.places c.loop-number.invariant.adds
-      (adds_weaker (λ (q : ℕ × ℕ). q ≡ c.place.result) (Contains c.args.visits.now.places) c.loop-number.total.places c.count.new.self.places (λ q e. subst (Contains c.args.visits.now.places) (sym e) (of_at c.args.visits.now.places c.loop-number.number c.place.result c.place.ensures)) c.count.ensures.adds);
-  done = counted_next c.args.visits.now.places c.loop-number.total.places c.count.new.self.places c.loop-number.number c.place.result c.place.ensures c.count.ensures.adds c.in_ok-count.ensures.here c.loop-number.invariant.done;
-  weighed = c.in_ok-count.ensures.weighed;
+  adds = adds_trans (Contains c.args.visits.now.places) c.args.total.now.places c.loop-number.total.places c.count_one.new.self.places c.loop-number.invariant.adds
+      (adds_weaker (λ (q : ℕ × ℕ). q ≡ c.place.result) (Contains c.args.visits.now.places) c.loop-number.total.places c.count_one.new.self.places (λ q e. subst (Contains c.args.visits.now.places) (sym e) (of_at c.args.visits.now.places c.loop-number.number c.place.result c.place.ensures)) c.count_one.ensures.adds);
+  done = counted_next c.args.visits.now.places c.loop-number.total.places c.count_one.new.self.places c.loop-number.number c.place.result c.place.ensures c.count_one.ensures.adds c.in_ok-count_one.ensures.here c.loop-number.invariant.done;
+  weighed = c.in_ok-count_one.ensures.weighed;
 }
 
-pub returns-in_err-count-clause-adds : goal.returns-in_err-count-clause-adds
-returns-in_err-count-clause-adds c =
-    adds_trans (Contains c.args.visits.now.places) c.args.total.now.places c.loop-number.total.places c.count.new.self.places c.loop-number.invariant.adds
-    (adds_weaker (λ (q : ℕ × ℕ). q ≡ c.place.result) (Contains c.args.visits.now.places) c.loop-number.total.places c.count.new.self.places (λ q e. subst (Contains c.args.visits.now.places) (sym e) (of_at c.args.visits.now.places c.loop-number.number c.place.result c.place.ensures)) c.count.ensures.adds)
+pub returns-in_err-count_one-clause-adds : goal.returns-in_err-count_one-clause-adds
+returns-in_err-count_one-clause-adds c =
+    adds_trans (Contains c.args.visits.now.places) c.args.total.now.places c.loop-number.total.places c.count_one.new.self.places c.loop-number.invariant.adds
+    (adds_weaker (λ (q : ℕ × ℕ). q ≡ c.place.result) (Contains c.args.visits.now.places) c.loop-number.total.places c.count_one.new.self.places (λ q e. subst (Contains c.args.visits.now.places) (sym e) (of_at c.args.visits.now.places c.loop-number.number c.place.result c.place.ensures)) c.count_one.ensures.adds)
 
 pub returns-clause-all : goal.returns-clause-all
 returns-clause-all c =
