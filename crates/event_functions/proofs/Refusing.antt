@@ -1,6 +1,6 @@
 -- A refusal for weight, looked at again for its event nodes.
 use Rattle.std.proofs.Common.{◌≡◌, true, Result, Ok, Err, OnOk}
-use Rattle.std.specs.Prelude.{is_ok}
+use Rattle.std.specs.Result.{is_ok}
 use Rattle.std.proofs.lemmas.Bool.{false≢true}
 use Rattle.event_nodes.specs.declared.error.EventUnfoldError.{EventUnfoldError}
 
