@@ -79,18 +79,18 @@ module _ (e : EventCircuitView) (w : EventGraphView) (x : Start ℕ) (vars : Lis
       subst (λ (z : Variable (List ℕ)). HasLeaf z whole) v.2 (part_leaf (side_of e) (Enabled e) (sound_is_net e.net sound).single numbers_are_one whole k.out k.place (variable_of w v.0).at part (variable_of w v.0).input k.numbered)
 
   -- each leaf that is visited is a variable
-  leaf_variable : (y : Variable (List ℕ)) → IsVisitedLeaf (side_of e) (Enabled e) (x ∷ []) y → Contains (variables_of w vars) y
+  pub leaf_variable : (y : Variable (List ℕ)) → IsVisitedLeaf (side_of e) (Enabled e) (x ∷ []) y → Contains (variables_of w vars) y
   leaf_variable y l =
       let v = are.all y.input y.at (record { out = l.out; place = l.place; visit = l.visit; numbered = l.input }) in
       subst (Contains (variables_of w vars)) v.2 (Contains-map (variable_of w) vars v.0 v.1)
 
   -- the leaves of the start's own tree are visited
-  own_leaf : {put : Option (ℕ × Bool)} {tree : Tree (List ℕ)} → put_latch put ≡ x.left_out → EventUnfolds (side_of e) (Enabled e) put x.place [] tree → (y : Variable (List ℕ)) → HasLeaf y tree → IsVisitedLeaf (side_of e) (Enabled e) (x ∷ []) y
-  own_leaf fits unfolds y leaf =
+  pub own_leaf : (put : Option (ℕ × Bool)) (tree : Tree (List ℕ)) → put_latch put ≡ x.left_out → EventUnfolds (side_of e) (Enabled e) put x.place [] tree → (y : Variable (List ℕ)) → HasLeaf y tree → IsVisitedLeaf (side_of e) (Enabled e) (x ∷ []) y
+  own_leaf put tree fits unfolds y leaf =
       leaf_visited (side_of e) (Enabled e) (x ∷ []) unfolds (subst (λ (o : Option ℕ). EventVisits (side_of e) (Enabled e) (x ∷ []) o x.place []) (sym fits) (EventVisits.start {s = x} (Contains-head x []))) y leaf
 
   -- and so are those of its care
-  care_leaf : (start : ℕ → Type 0) → ((v : ℕ) → start v → StartLatches (side_of e) (x ∷ []) v) → (t : Tree (List ℕ)) → IsCareTree (side_of e) start t → (y : Variable (List ℕ)) → HasLeaf y t → IsVisitedLeaf (side_of e) (Enabled e) (x ∷ []) y
+  pub care_leaf : (start : ℕ → Type 0) → ((v : ℕ) → start v → StartLatches (side_of e) (x ∷ []) v) → (t : Tree (List ℕ)) → IsCareTree (side_of e) start t → (y : Variable (List ℕ)) → HasLeaf y t → IsVisitedLeaf (side_of e) (Enabled e) (x ∷ []) y
   care_leaf start begins t (IsCareTree.enable {node = node} {name = name} {v = v} {next = next} {bit = bit} reached latch on unfolds) y leaf =
       let m = reached_visited (side_of e) (Enabled e) (x ∷ []) decided node v (begun node v reached) in
       leaf_visited (side_of e) (Enabled e) (x ∷ []) unfolds (EventVisits.held m.visit m.other latch on) y leaf
@@ -112,7 +112,7 @@ signal_variables e w p vars tree sound circuit unfolds are =
     (record { put = None; fits = refl; latch = tt; tree = tree; unfolds = unfolds; leaves = λ y l. l }) visits
   where
     visits : (t : Tree (List ℕ)) → IsSignalTree (side_of e) p t → (y : Variable (List ℕ)) → HasLeaf y t → IsVisitedLeaf (side_of e) (Enabled e) (record { place = p; left_out = None } ∷ []) y
-    visits t (inl own) y leaf = own_leaf e w (record { place = p; left_out = None }) vars sound circuit are refl own y leaf
+    visits t (inl own) y leaf = own_leaf e w (record { place = p; left_out = None }) vars sound circuit are None t refl own y leaf
     visits t (inr care) y leaf = care_leaf e w (record { place = p; left_out = None }) vars sound circuit are (ConeLatches (circuit_of e.net) p) (λ v r. (record { place = p; left_out = None }, Contains-head (record { place = p; left_out = None }) [], r, tt)) t care y leaf
 
 pub enable_variables : EnableInputsAreVariables
@@ -127,8 +127,8 @@ enable_variables e w j l bit vars tree sound circuit at on unfolds are =
     same_next name next other = sym (latch_next e.net sound l.out.0 j (sound.latches j l at).owner l at name next other)
 
     visits : (t : Tree (List ℕ)) → IsEnableCareTree (side_of e) l.out.0 t → (y : Variable (List ℕ)) → HasLeaf y t → IsVisitedLeaf (side_of e) (Enabled e) (record { place = l.next.0; left_out = Some l.out.0 } ∷ []) y
-    visits t (inl (IsEnableTree.own {name = name} {next = next} {bit = b} {tree = u} other enabled own)) y leaf =
-        own_leaf e w (record { place = l.next.0; left_out = Some l.out.0 }) vars sound circuit are refl (subst (λ (n : ℕ). EventUnfolds (side_of e) (Enabled e) (Some (l.out.0, b)) n [] u) (same_next name next other) own) y leaf
+    visits t (inl (IsEnableTree.own {name = name} {next = next} {bit = b} other enabled own)) y leaf =
+        own_leaf e w (record { place = l.next.0; left_out = Some l.out.0 }) vars sound circuit are (Some (l.out.0, b)) t refl (subst (λ (n : ℕ). EventUnfolds (side_of e) (Enabled e) (Some (l.out.0, b)) n [] t) (same_next name next other) own) y leaf
     visits t (inr care) y leaf = care_leaf e w (record { place = l.next.0; left_out = Some l.out.0 }) vars sound circuit are (ConeOthers (circuit_of e.net) (Enabled e) l.out.0) begins t care y leaf
       where
         begins : (v : ℕ) → ConeOthers (circuit_of e.net) (Enabled e) l.out.0 v → StartLatches (side_of e) (record { place = l.next.0; left_out = Some l.out.0 } ∷ []) v
