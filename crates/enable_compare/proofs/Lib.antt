@@ -1,2 +1,1 @@
-pub mod Cones
 pub mod Queries

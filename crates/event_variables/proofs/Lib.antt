@@ -1,3 +1,4 @@
+pub mod Cones
 pub mod MergeLists
 pub mod Paths
 pub mod Reading

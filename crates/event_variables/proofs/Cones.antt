@@ -1,19 +1,24 @@
--- The variables in the cones of literals, of the and of two of them, and while the graph grows.
+-- The variables in the cones of literals: of the and of two of them, of a tree's literal, and while the graph grows.
 use Rattle.std.proofs.Common.{◌≡◌, ◌≢◌, ◌∙◌, ◌*◌, ◌/◌, ◌<◌, ◌++◌, ℕ, Bool, true, false, List, [], ◌∷◌, length, slice_get, Option, Some, None, refl, sym, ap, subst, arith, inl, inr, nat_lt, ◌==◌, if◌then◌else◌}
 use Rattle.std.specs.Prelude.{◌⊎◌}
 use Rattle.std.specs.List.{Contains}
 use Rattle.std.proofs.lemmas.Option.{same_Some, slice_get_within}
+use Rattle.circuit_theory.specs.Cover.{Cover}
+use Rattle.circuit_theory.specs.Tree.{Tree, Trees, Leaf, Fixed, Branch, Nil, Cons}
+use Rattle.circuit_theory.specs.Query.{Variable, HasLeaf, HasLeafIn}
 use Rattle.circuit_theory.proofs.Lists.{Contains-cases, Contains-head, Contains-tail, only}
 use Rattle.flat_net.proofs.Nets.{some_at}
 use Rattle.flat_net.proofs.Places.{one_at}
 use Rattle.aig.specs.declared.node.Lit.{Lit}
 use Rattle.aig.specs.declared.node.Node.{Node}
 use Rattle.aig.specs.declared.node.Node.TheVariants.{Constant, Input, And}
-use Rattle.aig.specs.Graph.{IsGraph, IsAbove, IsLitOf, Grows}
-use Rattle.aig.specs.Rules.{IsAndBy, IsAndOf}
+use Rattle.aig.specs.Graph.{IsGraph, IsAbove, IsLitOf, Grows, flip}
+use Rattle.aig.specs.Rules.{IsAndBy, IsAndOf, IsOrOf, place_lit, IsPlaceOf, IsCubeOf, AreRowsOf, IsCoverOf}
+use Rattle.aig.specs.Builds.{Builds, BuildsAll}
 use Rattle.aig.specs.Cone.{Reads, IsReached}
 use Rattle.aig.proofs.CoverMeaning.{Simple, simple}
 use Rattle.aig.proofs.Growth.{slice_get-append}
+use Rattle.aig.proofs.Literals.{flip-half}
 
 -- what is reached from one node
 pub data From (g : List Node) (m : ℕ) : ℕ → Type 0 where
@@ -52,8 +57,18 @@ module _ (g : List Node) (graph : IsGraph g) (V : ℕ → Type 0) where
   no_input_constant : {v : ℕ} → Input v ≡ Constant → ⊥
   no_input_constant e = cc
 
+  same_input : {v w : ℕ} → Input v ≡ Input w → v ≡ w
+  same_input e = cc
+
   at_lit : (node : Node) (x : ℕ) → IsLitOf g node x → slice_get g (x / 2) ≡ Some node
   at_lit node x (n, e, at) = ap (slice_get g) (let h : x / 2 ≡ n = omega arith in h) ∙ at
+
+  supports_input : (v x : ℕ) → IsLitOf g (Input v) x → V v → Supports x
+  supports_input v x lit has k w from at = go (onward g (x / 2) from)
+    where
+      go : (x / 2 ≡ k) ⊎ Onward g (x / 2) k → V w
+      go (inl e) = subst V (same_input (same_Some (Input v) (Input w) (sym (at_lit (Input v) x lit) ∙ (ap (slice_get g) e ∙ at)))) has
+      go (inr o) = absurd (subst (λ (n : Node). Reads n o.read) (same_Some o.node (Input v) (sym o.at ∙ at_lit (Input v) x lit)) o.reads)
 
   supports_and : (l r : Lit) (x : ℕ) → IsLitOf g (And l r) x → Supports l.0 → Supports r.0 → Supports x
   supports_and l r x lit left right k w from at = go (onward g (x / 2) from)
@@ -76,6 +91,9 @@ module _ (g : List Node) (graph : IsGraph g) (V : ℕ → Type 0) where
       go (inl e) = absurd (no_input_constant (same_Some (Input w) Constant (sym at ∙ (ap (slice_get g) (sym e) ∙ here))))
       go (inr o) = absurd (subst (λ (n : Node). Reads n o.read) (same_Some o.node Constant (sym o.at ∙ here)) o.reads)
 
+  pub supports_flip : (x : ℕ) → Supports x → Supports (flip x)
+  supports_flip x h k w from at = h k w (subst (λ (m : ℕ). From g m k) (flip-half x) from) at
+
   supports_as : (x y : ℕ) → y ≡ x → Supports x → Supports y
   supports_as x y e h = subst Supports (sym e) h
 
@@ -94,6 +112,59 @@ module _ (g : List Node) (graph : IsGraph g) (V : ℕ → Type 0) where
       go (Simple.same e) by = supports_as l x by left
       go (Simple.complements e) by = supports_as 0 x by (supports_constant 0 (omega arith))
       go (Simple.none e) by = node (nat_lt r l) by
+
+  supports_or_of : (l r x : ℕ) → IsOrOf g l r x → Supports l → Supports r → Supports x
+  supports_or_of l r x (y, is, e) left right = supports_as (flip y) x e (supports_flip y (supports_and_of (flip l) (flip r) y is (supports_flip l left) (supports_flip r right)))
+
+  supports_choice : (b : Bool) (x y : ℕ) → Supports x → Supports y → Supports (if b then x else y)
+  supports_choice true x y hx hy = hx
+  supports_choice false x y hx hy = hy
+
+  supports_place : (from place f y : ℕ) → IsPlaceOf g from (place_lit place f) y → Supports from → Supports f → Supports y
+  unfolding place_lit
+  supports_place from place f y is start fan = go (place == 45) is
+    where
+      go : (b : Bool) → IsPlaceOf g from (if b then None else Some (if place == 49 then f else (if place == 48 then flip f else 0))) y → Supports y
+      go true e = supports_as from y e start
+      go false e =
+          supports_and_of from (if place == 49 then f else (if place == 48 then flip f else 0)) y e start
+          (supports_choice (place == 49) f (if place == 48 then flip f else 0) fan (supports_choice (place == 48) (flip f) 0 (supports_flip f fan) (supports_constant 0 (omega arith))))
+
+  abbrev AllSupport : List ℕ → Type 0
+  AllSupport fs = (f : ℕ) → Contains fs f → Supports f
+
+  supports_cube : (from : ℕ) (places fs : List ℕ) (x : ℕ) → IsCubeOf g from places fs x → Supports from → AllSupport fs → Supports x
+  supports_cube from [] [] x e start all = supports_as from x e start
+  supports_cube from [] (f ∷ fs) x e start all = absurd e
+  supports_cube from (p ∷ ps) [] x e start all = absurd e
+  supports_cube from (p ∷ ps) (f ∷ fs) x (y, is, rest) start all =
+      supports_cube y ps fs x rest (supports_place from p f y is start (all f (Contains-head f fs))) (λ h k. all h (Contains-tail f h fs k))
+
+  supports_rows : (from : ℕ) (rows : List (List ℕ)) (fs : List ℕ) (x : ℕ) → AreRowsOf g from rows fs x → Supports from → AllSupport fs → Supports x
+  supports_rows from [] fs x e start all = supports_as from x e start
+  supports_rows from (row ∷ rows) fs x (y, (z, cube, or), rest) start all =
+      supports_rows y rows fs x rest (supports_or_of from z y or start (supports_cube 1 row fs z cube (supports_constant 1 (omega arith)) all)) all
+
+  supports_cover : (cover : Cover) (fs : List ℕ) (x : ℕ) → IsCoverOf g cover fs x → AllSupport fs → Supports x
+  supports_cover cover fs x (y, rows, e) all =
+      let inner = supports_rows 0 cover.rows fs y rows (supports_constant 0 (omega arith)) all in
+      supports_as (if cover.on then y else flip y) x e (supports_choice cover.on y (flip y) inner (supports_flip y inner))
+
+  module _ {L : Type 0} (places : List (ℕ × L)) where
+    mutual
+      pub supports_tree : (tree : Tree L) (x : ℕ) → Builds g places tree x → ((y : Variable L) (v : ℕ) → HasLeaf y tree → slice_get places v ≡ Some (y.input, y.at) → V v) → Supports x
+      supports_tree (Leaf input at) x (v, place, lit) has = supports_input v x lit (has (record { input = input; at = at }) v HasLeaf.leaf place)
+      supports_tree (Fixed true) x e has = supports_as 1 x e (supports_constant 1 (omega arith))
+      supports_tree (Fixed false) x e has = supports_as 0 x e (supports_constant 0 (omega arith))
+      supports_tree (Branch cover trees) x (fs, all, is) has = supports_cover cover fs x is (supports_trees trees fs all (λ y v h. has y v (HasLeaf.inside h)))
+
+      supports_trees : (trees : Trees L) (fs : List ℕ) → BuildsAll g places trees fs → ((y : Variable L) (v : ℕ) → HasLeafIn y trees → slice_get places v ≡ Some (y.input, y.at) → V v) → AllSupport fs
+      supports_trees Nil fs e has f h = absurd (let k = subst (λ (l : List ℕ). Contains l f) e h in omega (arith, k.1))
+      supports_trees (Cons first rest) fs (g0, others, one, all, e) has f h =
+          elim (Contains-cases g0 f others (subst (λ (l : List ℕ). Contains l f) e h)) [
+            | inl same ↦ subst Supports same (supports_tree first g0 one (λ y v l. has y v (HasLeafIn.first l)))
+            | inr k ↦ supports_trees rest others all (λ y v l. has y v (HasLeafIn.later l)) f k
+          ]
 
 pub from_one : (g : List Node) (x : ℕ) {k : ℕ} → IsReached g (x ∷ []) k → From g (x / 2) k
 from_one g x {k} reached = go (from_root g (x ∷ []) reached)
