@@ -4,6 +4,7 @@
 
 mod counting;
 mod enables;
+pub mod laws;
 mod refusal;
 mod signals;
 
