@@ -86,12 +86,6 @@ fn visit_enable(
     let mut unfolder = EventUnfolder::new(alloc, circuit);
     match unfolder.enable(alloc, events, visits, j, room) {
         Ok(made) => Ok(made),
-        Err(EventUnfoldError::TooLarge) => {
-            visits.keeps();
-            events.keeps();
-            Err(enable_refusal(alloc, circuit, events, j))
-        }
-        Err(EventUnfoldError::TooManyEvents) => Err(EventUnfoldError::TooManyEvents),
-        Err(EventUnfoldError::NoMemory) => Err(EventUnfoldError::NoMemory),
+        Err(error) => Err(enable_refusal(alloc, circuit, events, visits, j, error)),
     }
 }

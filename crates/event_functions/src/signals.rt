@@ -96,12 +96,6 @@ fn visit_signal(
     let mut unfolder = EventUnfolder::new(alloc, circuit);
     match unfolder.unfold(alloc, events, visits, s, room) {
         Ok(made) => Ok(made),
-        Err(EventUnfoldError::TooLarge) => {
-            visits.keeps();
-            events.keeps();
-            Err(signal_refusal(alloc, circuit, events, s))
-        }
-        Err(EventUnfoldError::TooManyEvents) => Err(EventUnfoldError::TooManyEvents),
-        Err(EventUnfoldError::NoMemory) => Err(EventUnfoldError::NoMemory),
+        Err(error) => Err(signal_refusal(alloc, circuit, events, visits, s, error)),
     }
 }

@@ -1,5 +1,5 @@
 -- An unfolder that has met nothing visits the start.
-use Rattle.std.proofs.Common.{◌≡◌, ◌∙◌, ◌<◌, ℕ, List, [], length, slice_get, Some, None, refl, sym, ap, subst, arith}
+use Rattle.std.proofs.Common.{◌≡◌, ◌∙◌, ◌<◌, ℕ, List, [], length, slice_get, Some, None, Err, refl, sym, ap, subst, arith}
 use Rattle.std.specs.List.{Contains}
 use Rattle.flat_net.specs.declared.parts.LatchAt.{LatchAt}
 use Rattle.event_nodes.specs.View.{EventCircuitView}
@@ -39,14 +39,6 @@ pub returns-in-Ok-clause-counting : goal.returns-in-Ok-clause-counting
 returns-in-Ok-clause-counting c =
     λ l at. (subst (λ (e : EventCircuitView). IsCounting e (enable_start l) c.args.events.now.children c.enable.new.events.children c.args.visits.now c.enable.new.counter) (fresh_circuit c.new-unfolder.result c.args.circuit.now c.new-unfolder.ensures.begins) (c.enable.ensures.counting l (subst (λ (e : EventCircuitView). slice_get e.net.latches c.args.j ≡ Some l) (sym (fresh_circuit c.new-unfolder.result c.args.circuit.now c.new-unfolder.ensures.begins)) at)))
 
-pub returns-in-Err-TooManyEvents-clause-counting : goal.returns-in-Err-TooManyEvents-clause-counting
-returns-in-Err-TooManyEvents-clause-counting c =
-    λ l at. (subst (λ (e : EventCircuitView). IsCounting e (enable_start l) c.args.events.now.children c.enable.new.events.children c.args.visits.now c.enable.new.counter) (fresh_circuit c.new-unfolder.result c.args.circuit.now c.new-unfolder.ensures.begins) (c.enable.ensures.counting l (subst (λ (e : EventCircuitView). slice_get e.net.latches c.args.j ≡ Some l) (sym (fresh_circuit c.new-unfolder.result c.args.circuit.now c.new-unfolder.ensures.begins)) at)))
-
-pub returns-in-Err-NoMemory-clause-counting : goal.returns-in-Err-NoMemory-clause-counting
-returns-in-Err-NoMemory-clause-counting c =
-    λ l at. (subst (λ (e : EventCircuitView). IsCounting e (enable_start l) c.args.events.now.children c.enable.new.events.children c.args.visits.now c.enable.new.counter) (fresh_circuit c.new-unfolder.result c.args.circuit.now c.new-unfolder.ensures.begins) (c.enable.ensures.counting l (subst (λ (e : EventCircuitView). slice_get e.net.latches c.args.j ≡ Some l) (sym (fresh_circuit c.new-unfolder.result c.args.circuit.now c.new-unfolder.ensures.begins)) at)))
-
 pub returns-in-Ok-clause-grows : goal.returns-in-Ok-clause-grows
 returns-in-Ok-clause-grows c =
     c.in-Ok.ensures.unfolded.grows
@@ -55,22 +47,20 @@ pub returns-in-Ok-clause-places : goal.returns-in-Ok-clause-places
 returns-in-Ok-clause-places c =
     omega (arith, c.in-Ok.ensures.unfolded.places, c.in_ok-room.ensures.places)
 
-pub returns-in-Err-TooLarge-clause-counting : goal.returns-in-Err-TooLarge-clause-counting
-returns-in-Err-TooLarge-clause-counting c =
-    λ l at. counting_on c.args.circuit.now (enable_start l) c.args.events.now.children c.enable.new.events c.enable_refusal.new.events c.args.visits.now c.enable.new.counter c.keeps-3.ensures.events.is_tree c.enable_refusal.ensures.grows (subst (λ (e : EventCircuitView). IsCounting e (enable_start l) c.args.events.now.children c.enable.new.events.children c.args.visits.now c.enable.new.counter) (fresh_circuit c.new-unfolder.result c.args.circuit.now c.new-unfolder.ensures.begins) (c.enable.ensures.counting l (subst (λ (e : EventCircuitView). slice_get e.net.latches c.args.j ≡ Some l) (sym (fresh_circuit c.new-unfolder.result c.args.circuit.now c.new-unfolder.ensures.begins)) at))) (c.enable_refusal.ensures.made l at)
+pub enable_refusal-requires-clause-many : goal.enable_refusal-requires-clause-many
+enable_refusal-requires-clause-many c = λ is. c.in-Err.ensures.refused.many (ap Err is)
 
-pub returns-in-Err-TooLarge-clause-many : goal.returns-in-Err-TooLarge-clause-many
-returns-in-Err-TooLarge-clause-many c =
-    λ is. c.enable_refusal.ensures.many (error_is is)
+pub enable_refusal-requires-clause-large : goal.enable_refusal-requires-clause-large
+enable_refusal-requires-clause-large c = λ is. subst (λ (e : EventCircuitView). 2000000 < places_weight e.net c.enable.new.counter.places) (fresh_circuit c.new-unfolder.result c.args.circuit.now c.new-unfolder.ensures.begins) (c.in-Err.ensures.refused.large (ap Err is))
 
-pub returns-in-Err-TooLarge-clause-large : goal.returns-in-Err-TooLarge-clause-large
-returns-in-Err-TooLarge-clause-large c =
-    λ is l at. (
-      λ starts h. visits_over c.args.circuit.now (enable_start l) c.args.events.now.children c.enable.new.events.children c.args.visits.now c.enable.new.counter c.requires.none (subst (λ (e : EventCircuitView). IsCounting e (enable_start l) c.args.events.now.children c.enable.new.events.children c.args.visits.now c.enable.new.counter) (fresh_circuit c.new-unfolder.result c.args.circuit.now c.new-unfolder.ensures.begins) (c.enable.ensures.counting l (subst (λ (e : EventCircuitView). slice_get e.net.latches c.args.j ≡ Some l) (sym (fresh_circuit c.new-unfolder.result c.args.circuit.now c.new-unfolder.ensures.begins)) at))) c.enable.new.events c.keeps.ensures.sound c.keeps-3.ensures.events refl
-          (record { distinct = c.keeps-2.ensures; weight = subst (λ (e : EventCircuitView). 2000000 < places_weight e.net c.enable.new.counter.places) (fresh_circuit c.new-unfolder.result c.args.circuit.now c.new-unfolder.ensures.begins) (c.in-Err-TooLarge.ensures.refused.large refl) }) starts h,
-      c.enable_refusal.ensures.large (error_is is) l at,
-    )
+pub returns-in-Err-clause-counting : goal.returns-in-Err-clause-counting
+returns-in-Err-clause-counting c = λ l at. counting_on c.args.circuit.now (enable_start l) c.args.events.now.children c.enable.new.events c.enable_refusal.new.events c.args.visits.now c.enable.new.counter c.enable_refusal.ensures.events.is_tree c.enable_refusal.ensures.grows (subst (λ (e : EventCircuitView). IsCounting e (enable_start l) c.args.events.now.children c.enable.new.events.children c.args.visits.now c.enable.new.counter) (fresh_circuit c.new-unfolder.result c.args.circuit.now c.new-unfolder.ensures.begins) (c.enable.ensures.counting l (subst (λ (e : EventCircuitView). slice_get e.net.latches c.args.j ≡ Some l) (sym (fresh_circuit c.new-unfolder.result c.args.circuit.now c.new-unfolder.ensures.begins)) at))) (c.enable_refusal.ensures.made l at)
 
-pub returns-in-Err-TooManyEvents-clause-many : goal.returns-in-Err-TooManyEvents-clause-many
-returns-in-Err-TooManyEvents-clause-many c =
-    λ is. c.in-Err-TooManyEvents.ensures.refused.many refl
+pub returns-in-Err-clause-many : goal.returns-in-Err-clause-many
+returns-in-Err-clause-many c = λ is. c.enable_refusal.ensures.many (error_is is)
+
+pub returns-in-Err-clause-large : goal.returns-in-Err-clause-large
+returns-in-Err-clause-large c = λ is l at. (
+  λ starts h. visits_over c.args.circuit.now (enable_start l) c.args.events.now.children c.enable.new.events.children c.args.visits.now c.enable.new.counter c.requires.none (subst (λ (e : EventCircuitView). IsCounting e (enable_start l) c.args.events.now.children c.enable.new.events.children c.args.visits.now c.enable.new.counter) (fresh_circuit c.new-unfolder.result c.args.circuit.now c.new-unfolder.ensures.begins) (c.enable.ensures.counting l (subst (λ (e : EventCircuitView). slice_get e.net.latches c.args.j ≡ Some l) (sym (fresh_circuit c.new-unfolder.result c.args.circuit.now c.new-unfolder.ensures.begins)) at))) c.enable.new.events c.keeps.ensures.sound c.enable_refusal.ensures.events refl (c.enable_refusal.ensures.large (error_is is) l at).0 starts h,
+  (c.enable_refusal.ensures.large (error_is is) l at).1,
+)

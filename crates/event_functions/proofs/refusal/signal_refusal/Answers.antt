@@ -1,12 +1,25 @@
--- The nodes that were made tell which number is passed.
-use Rattle.std.proofs.Common.{◌∙◌, sym, arith}
-use Rattle.event_functions.proofs.Refusing.{from_ok}
+-- What the walk said, or how many event nodes there are.
+use Rattle.std.proofs.Common.{sym, ap, arith}
+use Rattle.event_nodes.proofs.Growing.{grows_refl}
+use Rattle.event_reach.proofs.Making.{no_nodes}
+use Rattle.event_walk.specs.Walk.{enable_start}
+use Rattle.event_functions.specs.Functions.{signal_start}
 use Rattle.event_functions.proofs.refusal.signal_refusal.Goals as goal
 
-pub returns-clause-many : goal.returns-clause-many
-returns-clause-many c = λ is. (let k = c.refusal.ensures.many is in omega (arith, k, c.nodes-2.ensures))
+pub returns-in-TooLarge-clause-large : goal.returns-in-TooLarge-clause-large
+returns-in-TooLarge-clause-large c = λ is. (record { distinct = c.keeps.ensures; weight = c.requires.large c.in-TooLarge.is }, c.signal_nodes.ensures.large is)
 
-pub returns-clause-large : goal.returns-clause-large
-returns-clause-large c = λ is.
-    let k = c.refusal.ensures.large is in
-    record { few = omega (arith, k.0, c.nodes-2.ensures); all = from_ok c.reached_latches.result (sym c.is_ok-told.ensures.value ∙ k.1) c.reached_latches.ensures.nodes }
+pub returns-in-TooManyEvents-clause-many : goal.returns-in-TooManyEvents-clause-many
+returns-in-TooManyEvents-clause-many c = λ is. c.requires.many c.in-TooManyEvents.is
+
+pub returns-in-TooManyEvents-clause-made : goal.returns-in-TooManyEvents-clause-made
+returns-in-TooManyEvents-clause-made c = no_nodes c.args.circuit.now c.args.events.now.children (signal_start c.args.s.0)
+
+pub returns-in-TooManyEvents-clause-grows : goal.returns-in-TooManyEvents-clause-grows
+returns-in-TooManyEvents-clause-grows c = grows_refl c.args.events.now
+
+pub returns-in-NoMemory-clause-made : goal.returns-in-NoMemory-clause-made
+returns-in-NoMemory-clause-made c = no_nodes c.args.circuit.now c.args.events.now.children (signal_start c.args.s.0)
+
+pub returns-in-NoMemory-clause-grows : goal.returns-in-NoMemory-clause-grows
+returns-in-NoMemory-clause-grows c = grows_refl c.args.events.now

@@ -1,5 +1,5 @@
 -- An unfolder that has met nothing visits the start.
-use Rattle.std.proofs.Common.{◌≡◌, ◌∙◌, ◌<◌, ℕ, List, [], length, slice_get, Some, None, refl, sym, ap, subst, arith}
+use Rattle.std.proofs.Common.{◌≡◌, ◌∙◌, ◌<◌, ℕ, List, [], length, slice_get, Some, None, Err, refl, sym, ap, subst, arith}
 use Rattle.std.specs.List.{Contains}
 use Rattle.flat_net.specs.declared.parts.LatchAt.{LatchAt}
 use Rattle.event_nodes.specs.View.{EventCircuitView}
@@ -43,14 +43,6 @@ pub returns-in-Ok-clause-counting : goal.returns-in-Ok-clause-counting
 returns-in-Ok-clause-counting c =
     (subst (λ (e : EventCircuitView). IsCounting e (signal_start c.args.s.0) c.args.events.now.children c.unfold.new.events.children c.args.visits.now c.unfold.new.counter) (fresh_circuit c.new-unfolder.result c.args.circuit.now c.new-unfolder.ensures.begins) (c.unfold.ensures.counting))
 
-pub returns-in-Err-TooManyEvents-clause-counting : goal.returns-in-Err-TooManyEvents-clause-counting
-returns-in-Err-TooManyEvents-clause-counting c =
-    (subst (λ (e : EventCircuitView). IsCounting e (signal_start c.args.s.0) c.args.events.now.children c.unfold.new.events.children c.args.visits.now c.unfold.new.counter) (fresh_circuit c.new-unfolder.result c.args.circuit.now c.new-unfolder.ensures.begins) (c.unfold.ensures.counting))
-
-pub returns-in-Err-NoMemory-clause-counting : goal.returns-in-Err-NoMemory-clause-counting
-returns-in-Err-NoMemory-clause-counting c =
-    (subst (λ (e : EventCircuitView). IsCounting e (signal_start c.args.s.0) c.args.events.now.children c.unfold.new.events.children c.args.visits.now c.unfold.new.counter) (fresh_circuit c.new-unfolder.result c.args.circuit.now c.new-unfolder.ensures.begins) (c.unfold.ensures.counting))
-
 pub returns-in-Ok-clause-grows : goal.returns-in-Ok-clause-grows
 returns-in-Ok-clause-grows c =
     c.in-Ok.ensures.unfolded.grows
@@ -59,22 +51,20 @@ pub returns-in-Ok-clause-places : goal.returns-in-Ok-clause-places
 returns-in-Ok-clause-places c =
     omega (arith, c.in-Ok.ensures.unfolded.places, c.in_ok-room.ensures.places)
 
-pub returns-in-Err-TooLarge-clause-counting : goal.returns-in-Err-TooLarge-clause-counting
-returns-in-Err-TooLarge-clause-counting c =
-    counting_on c.args.circuit.now (signal_start c.args.s.0) c.args.events.now.children c.unfold.new.events c.signal_refusal.new.events c.args.visits.now c.unfold.new.counter c.keeps-3.ensures.events.is_tree c.signal_refusal.ensures.grows (subst (λ (e : EventCircuitView). IsCounting e (signal_start c.args.s.0) c.args.events.now.children c.unfold.new.events.children c.args.visits.now c.unfold.new.counter) (fresh_circuit c.new-unfolder.result c.args.circuit.now c.new-unfolder.ensures.begins) (c.unfold.ensures.counting)) (c.signal_refusal.ensures.made)
+pub signal_refusal-requires-clause-many : goal.signal_refusal-requires-clause-many
+signal_refusal-requires-clause-many c = λ is. c.in-Err.ensures.refused.many (ap Err is)
 
-pub returns-in-Err-TooLarge-clause-many : goal.returns-in-Err-TooLarge-clause-many
-returns-in-Err-TooLarge-clause-many c =
-    λ is. c.signal_refusal.ensures.many (error_is is)
+pub signal_refusal-requires-clause-large : goal.signal_refusal-requires-clause-large
+signal_refusal-requires-clause-large c = λ is. subst (λ (e : EventCircuitView). 2000000 < places_weight e.net c.unfold.new.counter.places) (fresh_circuit c.new-unfolder.result c.args.circuit.now c.new-unfolder.ensures.begins) (c.in-Err.ensures.refused.large (ap Err is))
 
-pub returns-in-Err-TooLarge-clause-large : goal.returns-in-Err-TooLarge-clause-large
-returns-in-Err-TooLarge-clause-large c =
-    λ is. (
-      λ starts h. visits_over c.args.circuit.now (signal_start c.args.s.0) c.args.events.now.children c.unfold.new.events.children c.args.visits.now c.unfold.new.counter c.requires.none (subst (λ (e : EventCircuitView). IsCounting e (signal_start c.args.s.0) c.args.events.now.children c.unfold.new.events.children c.args.visits.now c.unfold.new.counter) (fresh_circuit c.new-unfolder.result c.args.circuit.now c.new-unfolder.ensures.begins) (c.unfold.ensures.counting)) c.unfold.new.events c.keeps.ensures.sound c.keeps-3.ensures.events refl
-          (record { distinct = c.keeps-2.ensures; weight = subst (λ (e : EventCircuitView). 2000000 < places_weight e.net c.unfold.new.counter.places) (fresh_circuit c.new-unfolder.result c.args.circuit.now c.new-unfolder.ensures.begins) (c.in-Err-TooLarge.ensures.refused.large refl) }) starts h,
-      c.signal_refusal.ensures.large (error_is is),
-    )
+pub returns-in-Err-clause-counting : goal.returns-in-Err-clause-counting
+returns-in-Err-clause-counting c = counting_on c.args.circuit.now (signal_start c.args.s.0) c.args.events.now.children c.unfold.new.events c.signal_refusal.new.events c.args.visits.now c.unfold.new.counter c.signal_refusal.ensures.events.is_tree c.signal_refusal.ensures.grows (subst (λ (e : EventCircuitView). IsCounting e (signal_start c.args.s.0) c.args.events.now.children c.unfold.new.events.children c.args.visits.now c.unfold.new.counter) (fresh_circuit c.new-unfolder.result c.args.circuit.now c.new-unfolder.ensures.begins) (c.unfold.ensures.counting)) (c.signal_refusal.ensures.made)
 
-pub returns-in-Err-TooManyEvents-clause-many : goal.returns-in-Err-TooManyEvents-clause-many
-returns-in-Err-TooManyEvents-clause-many c =
-    λ is. c.in-Err-TooManyEvents.ensures.refused.many refl
+pub returns-in-Err-clause-many : goal.returns-in-Err-clause-many
+returns-in-Err-clause-many c = λ is. c.signal_refusal.ensures.many (error_is is)
+
+pub returns-in-Err-clause-large : goal.returns-in-Err-clause-large
+returns-in-Err-clause-large c = λ is. (
+  λ starts h. visits_over c.args.circuit.now (signal_start c.args.s.0) c.args.events.now.children c.unfold.new.events.children c.args.visits.now c.unfold.new.counter c.requires.none (subst (λ (e : EventCircuitView). IsCounting e (signal_start c.args.s.0) c.args.events.now.children c.unfold.new.events.children c.args.visits.now c.unfold.new.counter) (fresh_circuit c.new-unfolder.result c.args.circuit.now c.new-unfolder.ensures.begins) (c.unfold.ensures.counting)) c.unfold.new.events c.keeps.ensures.sound c.signal_refusal.ensures.events refl (c.signal_refusal.ensures.large (error_is is)).0 starts h,
+  (c.signal_refusal.ensures.large (error_is is)).1,
+)
