@@ -13,7 +13,7 @@ use Rattle.aig.specs.Graph.{Grows}
 use Rattle.aig.specs.Rules.{IsAndOf}
 use Rattle.aig.specs.Cone.{IsReached}
 use Rattle.aig.proofs.Growth.{Grows-length}
-use Rattle.event_nodes.specs.Nodes.{EventGraphView, IsEventGraph}
+use Rattle.event_nodes.specs.Nodes.{EventGraphView, IsEventGraph, GrowsEvents}
 use Rattle.event_variables.specs.Variables.{variable_of, GoesBefore, AreInOrder, IsMergeOf}
 use Rattle.pair_decide.specs.declared.query.Query.{Query}
 use Rattle.pair_decide.specs.Queries.{roots_of, IsQuery}
@@ -63,6 +63,10 @@ ready_later w h is grows x ready = record {
 
     go : (n v : ℕ) → (y : ℕ) × Contains (x.value.0 ∷ x.care.0 ∷ []) y × IsReached h (y ∷ []) n → slice_get h n ≡ Some (Input v) → Contains x.vars v
     go n v (y, among, reached) at = own y among (small y (Contains-cases x.value.0 y (x.care.0 ∷ []) among)) n v reached at
+
+-- the same of the whole event graph
+pub ready_next : (w v : EventGraphView) → IsEventGraph w → GrowsEvents w v → v ≡ record w { graph = v.graph } → (x : Enable) → IsReadyEnable w x → IsReadyEnable v x
+ready_next w v is grows same x ready = subst (λ (u : EventGraphView). IsReadyEnable u x) (sym same) (ready_later w v.graph is grows.graph x ready)
 
 module _ (w : EventGraphView) (is : IsEventGraph w) (x : Enable) (ready : IsReadyEnable w x) where
   value_supports : Supports w.graph is.is_graph (Contains x.vars) x.value.0

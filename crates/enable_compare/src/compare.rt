@@ -50,9 +50,8 @@ pub fn compare_enables(
     ensures same { events.new ≡ record events.old { graph = events.new.graph } }
 {
     events.keeps();
-    let both = events.and(left.care, right.care);
+    let care = events.and(left.care, right.care)?;
     events.keeps();
-    let care = both?;
     let vars = merge_variables(alloc, events, left.vars.as_slice(), right.vars.as_slice())?;
     let query = Query {
         left: left.value,
@@ -79,11 +78,12 @@ pub fn compare_always(
     ensures { IfOk result (IsAlwaysComparison events.now latch.now conflicts) }
 {
     events.keeps();
+    let vars = latch.vars.copy()?;
     let query = Query {
         left: latch.value,
         right: Lit::TRUE,
         care: latch.care,
-        vars: latch.vars.copy()?,
+        vars,
     };
     let decision = decide(alloc, events.aig(), &query, conflicts)?;
     Ok(Compared {
