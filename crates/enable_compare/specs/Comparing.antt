@@ -23,6 +23,7 @@ pub record IsComparison (w : EventGraphView) (x y : Enable) (conflicts : ℕ) (r
   pub left : query.left ≡ x.value
   pub right : query.right ≡ y.value
   pub both : IsAndOf w.graph x.care.0 y.care.0 query.care.0
+  pub within : query.care.0 < 2 * length w.graph
   pub vars : query.vars ≡ r.vars
   pub merged : IsMergeOf w x.vars y.vars r.vars
   pub decided : Decides w.graph query conflicts r.decision

@@ -49,6 +49,7 @@ returns-clause-compared c =
       left = refl;
       right = refl;
       both = c.in_ok-care.ensures.here;
+      within = c.in_ok-care.ensures.within;
       vars = refl;
       merged = subst (λ (xs : List ℕ). IsMergeOf c.and.new.self xs c.args.right.now.vars c.in_ok-vars.vars) c.as_slice.ensures (subst (λ (ys : List ℕ). IsMergeOf c.and.new.self c.as_slice.result.now ys c.in_ok-vars.vars) c.as_slice-2.ensures c.in_ok-vars.ensures);
       decided = subst (λ (g : List Node). Decides g q c.args.conflicts c.in_ok-decision.decision) c.aig.ensures c.in_ok-decision.ensures;
