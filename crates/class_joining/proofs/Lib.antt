@@ -3,3 +3,4 @@ pub mod Entries
 pub mod Classes
 pub mod Giving
 pub mod Tables
+pub mod Members

@@ -23,3 +23,9 @@ pub record HasJoined (a b c d : EventCircuitView) (taken rest : List (Either ℕ
 -- each entry of the table is the enable of a latch that was taken, with the literals of the enable and of its care and the class of the latch
 abbrev pub AreKnownEnables : EventSide (Either ℕ ℕ) → EventGraphView → List (Either ℕ ℕ) → List ((ℕ × ℕ) × ℕ) → Type 0
 AreKnownEnables s w taken table = (p : ℕ × ℕ) (class : ℕ) → Contains table (p, class) → (u : Either ℕ ℕ) × Contains taken u × (s.class u ≡ class) × IsEnableFunction s w u p.0 p.1
+
+-- Latches of one class, each with the literals of its enable and of its care: each was taken and is of this class, and each latch of the
+-- class that was taken has the literals of one of them.
+pub record AreMembers (s : EventSide (Either ℕ ℕ)) (w : EventGraphView) (taken : List (Either ℕ ℕ)) (class : ℕ) (members : List (Either ℕ ℕ × (ℕ × ℕ))) : Type 0 where
+  pub each : (m : Either ℕ ℕ × (ℕ × ℕ)) → Contains members m → Contains taken m.0 × (s.class m.0 ≡ class) × IsEnableFunction s w m.0 m.1.0 m.1.1
+  pub all : (u : Either ℕ ℕ) → Contains taken u → s.class u ≡ class → (m : Either ℕ ℕ × (ℕ × ℕ)) × Contains members m × IsEnableFunction s w u m.1.0 m.1.1

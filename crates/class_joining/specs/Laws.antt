@@ -1,10 +1,10 @@
 -- How a class map goes on, latch by latch. Each law is the contract of a function of this crate.
-use Rattle.std.specs.Prelude.{◌≡◌, ℕ, List, [], ◌∷◌, ◌++◌, map, slice_get, Some, All, Contains}
+use Rattle.std.specs.Prelude.{◌≡◌, ℕ, suc, Bool, List, [], ◌∷◌, ◌++◌, map, slice_get, Some, All, Contains}
 use Rattle.circuit_theory.specs.Depth.{LatchesHaveDepths}
 use Rattle.circuit_theory.specs.Joined.{Either, Left, Right}
 use Rattle.circuit_theory.specs.Run.{IsEnabled}
 use Rattle.event_theory.specs.Frame.{EventSide}
-use Rattle.event_theory.specs.Classes.{HasClasses}
+use Rattle.event_theory.specs.Classes.{HasClasses, EqualsMembers, DiffersFromMember}
 use Rattle.event_theory.specs.EventTotals.{IsMapSoFar}
 use Rattle.event_laws.specs.ClassSteps.{IsFirstFit}
 use Rattle.flat_net.specs.declared.parts.LatchAt.{LatchAt}
@@ -14,9 +14,10 @@ use Rattle.sec_base.specs.declared.basics.Tag.{Tag}
 use Rattle.event_order.specs.Order.{place_of, IsTagOrder}
 use Rattle.event_nodes.specs.Nodes.{EventGraphView, IsEventGraph, GrowsEvents}
 use Rattle.event_nodes.specs.View.{EventCircuitView, IsEventCircuit}
-use Rattle.class_queries.specs.Enables.{both_of, IsEnableFunction}
+use Rattle.aig.specs.Rules.{IsAndOf}
+use Rattle.class_queries.specs.Enables.{both_of, IsEnableFunction, IsSame, Distinguishes}
 use Rattle.class_queries.specs.Laws.{AreKept}
-use Rattle.class_joining.specs.Joining.{with_class, HasJoined, AreKnownEnables}
+use Rattle.class_joining.specs.Joining.{with_class, HasJoined, AreKnownEnables, AreMembers}
 
 -- Where no cycle of latches is left in either circuit but self-edges of enabled latches, the latches of both have depths side by side.
 abbrev pub BothHaveDepths : Type 0
@@ -54,3 +55,13 @@ TableGoesOn = (a b c d : EventCircuitView) (w : EventGraphView) (taken rest : Li
 -- The table stays right while the event graph grows.
 abbrev pub TableGrows : Type 0
 TableGrows = (s : EventSide (Either ℕ ℕ)) (w x : EventGraphView) (taken : List (Either ℕ ℕ)) (table : List ((ℕ × ℕ) × ℕ)) → IsEventGraph w → GrowsEvents w x → AreKnownEnables s w taken table → AreKnownEnables s x taken table
+
+-- A latch whose enable no assignment tells apart from that of any of a class's members, wherever both have care, equals all latches of the class.
+abbrev pub MembersAreEqual : Type 0
+MembersAreEqual = (a b : EventCircuitView) (w : EventGraphView) (taken : List (Either ℕ ℕ)) (k : ℕ) (members : List (Either ℕ ℕ × (ℕ × ℕ))) (v : Either ℕ ℕ) (enable care : ℕ) → AreKept a b w → AreMembers (both_of a b) w taken (suc k) members →
+    IsEnableFunction (both_of a b) w v enable care → ((m : Either ℕ ℕ × (ℕ × ℕ)) → Contains members m → (both : ℕ) × IsAndOf w.graph m.1.1 care both × IsSame w m.1.0 enable both) → EqualsMembers (both_of a b) taken (suc k) v
+
+-- One whose enable is told apart from that of a member differs from a latch of the class.
+abbrev pub MemberIsApart : Type 0
+MemberIsApart = (a b : EventCircuitView) (w : EventGraphView) (taken : List (Either ℕ ℕ)) (k : ℕ) (members : List (Either ℕ ℕ × (ℕ × ℕ))) (v : Either ℕ ℕ) (enable care : ℕ) (m : Either ℕ ℕ × (ℕ × ℕ)) (both : ℕ) (x : ℕ → Bool) → AreKept a b w →
+    AreMembers (both_of a b) w taken (suc k) members → IsEnableFunction (both_of a b) w v enable care → Contains members m → IsAndOf w.graph m.1.1 care both → Distinguishes w m.1.0 enable both x → DiffersFromMember (both_of a b) taken (suc k) v

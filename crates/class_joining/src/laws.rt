@@ -1,7 +1,7 @@
 //! How a class map goes on. None of these functions does anything: each contract is a law, by the definitions that the contracts of the
 //! working calls cite.
 
-ghost use Rattle.class_joining.specs.Laws.{BothHaveDepths, ClassMapBegins, ClassMapEnds, ClassIsGiven, FoundClassFits, TableGoesOn, TableGrows};
+ghost use Rattle.class_joining.specs.Laws.{BothHaveDepths, ClassMapBegins, ClassMapEnds, ClassIsGiven, FoundClassFits, MemberIsApart, MembersAreEqual, TableGoesOn, TableGrows};
 
 /// Side by side the latches of two circuits have depths where those of each have.
 pub fn both_have_depths()
@@ -37,4 +37,14 @@ pub fn table_goes_on()
 /// A table of enables stays right while the event graph grows.
 pub fn table_grows()
     ensures { TableGrows }
+{}
+
+/// A latch whose enable isn't told apart from that of any of a class's members equals all latches of the class.
+pub fn members_are_equal()
+    ensures { MembersAreEqual }
+{}
+
+/// One whose enable is told apart from that of a member differs from a latch of the class.
+pub fn member_is_apart()
+    ensures { MemberIsApart }
 {}
