@@ -80,7 +80,7 @@ impl EventCircuit {
         ensures { (l : LatchAt) → slice_get self.now.net.latches j ≡ Some l → (side_of self.now).class l.out.0 ≡ result }
     {
         self.net.keeps();
-        self.classes[j as usize]
+        self.classes.as_slice()[j as usize]
     }
 
     /// Whether the latch with this position is enabled.
