@@ -25,7 +25,7 @@ use Rattle.event_nodes.proofs.Bits.{kind_of}
 use Rattle.event_nodes.proofs.Drivers.{latch_next}
 use Rattle.event_nodes.proofs.Visits.{reached_visited}
 use Rattle.event_variables.specs.Variables.{variable_of, variables_of, GoesBefore}
-use Rattle.event_variables.proofs.Paths.{variable_is}
+use Rattle.event_variables.proofs.NodePaths.{variable_is}
 use Rattle.event_inputs.specs.Inputs.{IsVariableAt, AreInputsOf, IsVisitedInput, AreVisitedInputs}
 use Rattle.event_inputs.specs.Laws.{IsSignalTree, IsEnableCareTree, VisitedInputsAreInputs, SignalInputsAreVariables, EnableInputsAreVariables}
 use Rattle.event_inputs.proofs.Leaves.{IsVisitedLeaf, IsPart, leaf_visited, visited_part, part_leaf, put_latch}

@@ -1,6 +1,6 @@
 pub mod Cones
 pub mod MergeLists
-pub mod Paths
+pub mod NodePaths
 pub mod Reading
 pub mod Climbing
 pub mod Named

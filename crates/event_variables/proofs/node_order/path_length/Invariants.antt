@@ -1,4 +1,4 @@
-use Rattle.event_variables.proofs.Paths.{HasCounted}
+use Rattle.event_variables.proofs.NodePaths.{HasCounted}
 use Rattle.event_variables.proofs.node_order.path_length.Given as goal
 
 abbrev pub invariant-loop-at : goal.invariant-loop-at

@@ -1,4 +1,4 @@
-use Rattle.event_variables.proofs.Paths.{HasClimbed}
+use Rattle.event_variables.proofs.NodePaths.{HasClimbed}
 use Rattle.event_variables.proofs.node_order.path_order.Given as goal
 
 abbrev pub invariant-loop-left : goal.invariant-loop-left
