@@ -57,7 +57,7 @@ pub loop-at-preserved : goal.loop-at-preserved
 loop-at-preserved c = record {
   reached = λ x all. reached_more c.args.circuit.now c.loop-at.events c.pass_on.new.events c.pass_on.ensures.grows x c.loop-at.table c.pass_on.new.table c.loop-at.at c.pair-place.result c.pair-place.ensures (c.loop-at.invariant.reached x all)
       (c.in_ok-pass_on.ensures.sound x);
-  made = λ x all. nodes_since c.args.circuit.now x c.loop-at.events c.pass_on.new.events c.pass_on.ensures.grows (length c.args.events.now.children) c.keeps-in-loop-at.ensures.events.is_tree (c.loop-at.invariant.made x all)
+  made = λ x all. nodes_since c.args.circuit.now x c.loop-at.events c.pass_on.new.events c.pass_on.ensures.grows (length c.args.events.now.children) c.keeps.ensures.events.is_tree (c.loop-at.invariant.made x all)
       (c.pass_on.ensures.made x (All-at (IsReachedPlace c.args.circuit.now c.loop-at.events.children x) c.loop-at.table c.loop-at.at c.pair-place.result c.pair-place.ensures (c.loop-at.invariant.reached x all)));
   children = children_next c.args.circuit.now c.loop-at.events c.pass_on.new.events c.pass_on.ensures.grows c.loop-at.table c.pass_on.new.table c.loop-at.at c.pair-place.result c.pair-place.ensures c.pass_on.ensures.kept c.loop-at.invariant.children c.in_ok-pass_on.ensures.child;
   passed = λ depths. passed_more c.args.circuit.now c.loop-at.events c.pass_on.new.events c.pass_on.ensures.grows c.loop-at.table c.pass_on.new.table c.loop-at.at c.pair-place.result c.pair-place.ensures c.pass_on.ensures.kept
@@ -80,7 +80,7 @@ pub returns-clause-small : goal.returns-clause-small
 returns-clause-small c = omega (arith, c.loop-at.invariant.inside, c.loop-at.invariant.few, c.loop-at.invariant.small)
 
 pub returns-in_err-pass_on-clause-made : goal.returns-in_err-pass_on-clause-made
-returns-in_err-pass_on-clause-made c = λ x all. nodes_since c.args.circuit.now x c.loop-at.events c.pass_on.new.events c.pass_on.ensures.grows (length c.args.events.now.children) c.keeps-in-loop-at.ensures.events.is_tree (c.loop-at.invariant.made x all)
+returns-in_err-pass_on-clause-made c = λ x all. nodes_since c.args.circuit.now x c.loop-at.events c.pass_on.new.events c.pass_on.ensures.grows (length c.args.events.now.children) c.keeps.ensures.events.is_tree (c.loop-at.invariant.made x all)
     (c.pass_on.ensures.made x (All-at (IsReachedPlace c.args.circuit.now c.loop-at.events.children x) c.loop-at.table c.loop-at.at c.pair-place.result c.pair-place.ensures (c.loop-at.invariant.reached x all)))
 
 pub returns-clause-children : goal.returns-clause-children
