@@ -49,7 +49,7 @@ module _ (e : EventCircuitView) (w : EventGraphView) (x : Start ℕ) (vars : Lis
   leaf_has y v l at =
       let u = are.all y.input y.at (record { out = l.out; place = l.place; visit = l.visit; numbered = l.input }) in
       let below = All-contains (λ (k : ℕ). k < length w.places) vars u.0 are.in_order.within u.1 in
-      let many = length-map (λ (p : ℕ × ℕ). (p.0, path_of w.children p.1)) w.places in
+      let many = length-map {Y = ℕ × List ℕ} (λ (p : ℕ × ℕ). (p.0, path_of w.children p.1)) w.places in
       let own : slice_get (named_places w) u.0 ≡ Some ((variable_of w u.0).input, (variable_of w u.0).at) = slice_get-get_or (named_places w) u.0 (0, []) (omega (arith, below, many)) in
       let there : slice_get (named_places w) u.0 ≡ Some (y.input, y.at) = own ∙ ap (λ (z : Variable (List ℕ)). Some (z.input, z.at)) u.2 in
       subst (Contains vars) (named_distinct w is u.0 v (y.input, y.at) there at) u.1

@@ -179,8 +179,8 @@ reached_one g roots k (IsReached.operand n x node reached at reads) = let r = re
 
 -- what is reached from a literal is reached from any roots that it is among
 pub reached_among : (g : List Node) (x : ℕ) (roots : List ℕ) → Contains roots x → {k : ℕ} → IsReached g (x ∷ []) k → IsReached g roots k
-reached_among g x roots here (IsReached.root y h) = IsReached.root y (subst (Contains roots) (only x y h) here)
-reached_among g x roots here (IsReached.operand n y node reached at reads) = IsReached.operand n y node (reached_among g x roots here reached) at reads
+reached_among g x roots member (IsReached.root y h) = IsReached.root y (subst (Contains roots) (only x y h) member)
+reached_among g x roots member (IsReached.operand n y node reached at reads) = IsReached.operand n y node (reached_among g x roots member reached) at reads
 
 pub to_from : (g : List Node) (x k : ℕ) → From g (x / 2) k → IsReached g (x ∷ []) k
 to_from g x k From.here = IsReached.root x (Contains-head x [])

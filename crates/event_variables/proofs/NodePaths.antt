@@ -153,6 +153,7 @@ module _ (children : List (ℕ × ℕ)) (tree : IsTree children) where
   pub climbed_all : (m n left right : ℕ) (order : Ordering) → HasClimbed children m n left right order → left ≡ right → PathsStand (path_of children m) (path_of children n) order
   climbed_all m n left right order so same = so.decides Equal (ap (path_of children) same)
 
+module _ (children : List (ℕ × ℕ)) where
   -- by length first
   pub by_length : (m n : ℕ) (o : Ordering) → length (path_of children m) ≢ length (path_of children n) → o ≡ nat_cmp (length (path_of children n)) (length (path_of children m)) → NodesStand children m n o
   by_length m n o apart is = go o (ranked (length (path_of children n)) (length (path_of children m)) o is)

@@ -70,16 +70,16 @@ module _ (w : EventGraphView) (is : IsEventGraph w) where
     where
       go : (o r s : Ordering) → MatchOrdering o (y.shortness < x.shortness) (y.shortness ≡ x.shortness) (x.shortness < y.shortness) → slice_cmp nat_cmp y.path.items x.path.items ≡ r → MatchOrdering s (y.input < x.input) (y.input ≡ x.input) (x.input < y.input) →
           is_lt (ordering_then o (ordering_then r (ordering_then s (nat_cmp y.variable x.variable)))) ≡ false → NodeBefore (variable_of w x.variable) (variable_of w y.variable)
-      go Less r s m k n no = absurd (true≢false no)
-      go Greater r s m k n no = inl (omega (arith, m, kx.shortness, ky.shortness))
-      go Equal Less s m k n no = absurd (true≢false no)
-      go Equal Greater s m k n no = inr (omega (arith, m, kx.shortness, ky.shortness), inl (subst (λ (p : List ℕ). ListBefore p (reverse (variable_of w y.variable).at)) kx.path (subst (ListBefore x.path.items) ky.path (greater_after y.path.items x.path.items k))))
-      go Equal Equal Less m k n no = absurd (true≢false no)
-      go Equal Equal Greater m k n no = inr (omega (arith, m, kx.shortness, ky.shortness), inr (sym (same_path k), omega (arith, n, kx.input, ky.input)))
+      go Less r s m k n off = absurd (true≢false off)
+      go Greater r s m k n off = inl (omega (arith, m, kx.shortness, ky.shortness))
+      go Equal Less s m k n off = absurd (true≢false off)
+      go Equal Greater s m k n off = inr (omega (arith, m, kx.shortness, ky.shortness), inl (subst (λ (p : List ℕ). ListBefore p (reverse (variable_of w y.variable).at)) kx.path (subst (ListBefore x.path.items) ky.path (greater_after y.path.items x.path.items k))))
+      go Equal Equal Less m k n off = absurd (true≢false off)
+      go Equal Equal Greater m k n off = inr (omega (arith, m, kx.shortness, ky.shortness), inr (sym (same_path k), omega (arith, n, kx.input, ky.input)))
         where
           same_path : slice_cmp nat_cmp y.path.items x.path.items ≡ Equal → (variable_of w y.variable).at ≡ (variable_of w x.variable).at
           same_path e = sym (reverse-reverse (variable_of w y.variable).at) ∙ (ap reverse (sym ky.path ∙ (equal_same y.path.items x.path.items e ∙ kx.path)) ∙ reverse-reverse (variable_of w x.variable).at)
-      go Equal Equal Equal m k n no = absurd (apart (sym same_number))
+      go Equal Equal Equal m k n off = absurd (apart (sym same_number))
         where
           path : (variable_of w y.variable).at ≡ (variable_of w x.variable).at
           path = sym (reverse-reverse (variable_of w y.variable).at) ∙ (ap reverse (sym ky.path ∙ (equal_same y.path.items x.path.items k ∙ kx.path)) ∙ reverse-reverse (variable_of w x.variable).at)
@@ -133,7 +133,7 @@ module _ (w : EventGraphView) (is : IsEventGraph w) where
       inside_all : All (λ v. v < length w.places) (map (λ (k : Key). k.variable) sorted)
       inside_all = All-from_each (λ (v : ℕ). v < length w.places) (map (λ (k : Key). k.variable) sorted) (λ v h.
           let below = All-contains (λ (u : ℕ). u < length (named_places w)) once v within (Contains-permutation (map (λ (k : Key). k.variable) sorted) once v (IsPermutation-sym once (map (λ (k : Key). k.variable) sorted) shuffled) h) in
-          let many = length-map (λ (p : ℕ × ℕ). (p.0, path_of w.children p.1)) w.places in
+          let many = length-map {Y = ℕ × List ℕ} (λ (p : ℕ × ℕ). (p.0, path_of w.children p.1)) w.places in
           omega (arith, below, many))
 
       pair : (i j d : ℕ) → i < j → j < length (map (λ (k : Key). k.variable) sorted) → NodeBefore (variable_of w (get_or (map (λ (k : Key). k.variable) sorted) i d)) (variable_of w (get_or (map (λ (k : Key). k.variable) sorted) j d))

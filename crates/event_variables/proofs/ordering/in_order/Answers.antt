@@ -17,7 +17,7 @@ keys_of-requires c =
 pub returns : goal.returns
 returns c =
     let within : All (λ (v : ℕ). v < length (named_places c.args.events.now)) c.in_ok-distinct.distinct.items = All-from_each (λ (v : ℕ). v < length (named_places c.args.events.now)) c.in_ok-distinct.distinct.items
-    (λ v h. let k = All-contains (λ (j : ℕ). j < length c.args.events.now.places) c.args.variables.items v c.requires ((c.in_ok-distinct.ensures.same v).0 h) in let many = length-map (λ (p : ℕ × ℕ). (p.0, path_of c.args.events.now.children p.1)) c.args.events.now.places in omega (arith, k, many)) in
+    (λ v h. let k = All-contains (λ (j : ℕ). j < length c.args.events.now.places) c.args.variables.items v c.requires ((c.in_ok-distinct.ensures.same v).0 h) in let many = length-map {Y = ℕ × List ℕ} (λ (p : ℕ × ℕ). (p.0, path_of c.args.events.now.children p.1)) c.args.events.now.places in omega (arith, k, many)) in
     subst (IsOrderOf c.args.events.now c.args.variables.items) (sym c.from_vec.ensures)
     (ordered c.args.events.now c.keeps.ensures.events c.args.variables.items c.in_ok-distinct.distinct.items c.in_ok-keys.keys.items c.sort.new.self.items within c.in_ok-distinct.ensures
     (subst (λ (l : List ℕ). AreKeysOf c.args.events.now l c.in_ok-keys.keys.items) c.as_slice.ensures.value c.in_ok-keys.ensures) c.sort.ensures.permutation c.in_ok-sort.ensures.sorted c.in_ok-ordered.ordered.items

@@ -4,4 +4,4 @@ use Rattle.event_variables.proofs.Sorting.{key_is}
 use Rattle.event_variables.proofs.ordering.key_of.Goals as goal
 
 pub returns : goal.returns
-returns c = key_is c.args.events.now c.args.variable c.place.result _ c.place.ensures refl refl c.in_ok-path.ensures (omega (arith, c.len.ensures))
+returns c = key_is c.args.events.now c.args.variable c.place-input.result _ c.place-input.ensures refl refl c.in_ok-path.ensures (omega (arith, c.len.ensures))
