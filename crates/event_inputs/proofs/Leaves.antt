@@ -35,8 +35,10 @@ module _ {P : Type 0} (side : EventSide P) (on : P → Type 0) (starts : List (S
     leaf_visited (EventUnfolds.port stands rest) visit y h = leaf_visited rest (EventVisits.reads visit (Reads.by_port stands)) y h
     leaf_visited (EventUnfolds.plain {put = put} {u = u} latch free off rest) visit y h = leaf_visited rest (EventVisits.plain visit (put_other put u free) latch off) y h
     leaf_visited (EventUnfolds.held {put = put} {u = u} latch free enabled rest) visit y h = leaf_visited rest (EventVisits.held visit (put_other put u free) latch enabled) y h
+    leaf_visited (EventUnfolds.fixed {u = u} {bit = bit} {node = node}) visit y h = elim h [ ]
 
     leaves_visited : {put : Option (P × Bool)} {ps : List P} {node : List ℕ} {trees : Trees (List ℕ)} → EventUnfoldsAll side on put ps node trees → ((q : P) → Contains ps q → EventVisits side on starts (put_latch put) q node) → (y : Variable (List ℕ)) → HasLeafIn y trees → IsVisitedLeaf y
+    leaves_visited EventUnfoldsAll.none each y h = elim h [ ]
     leaves_visited (EventUnfoldsAll.more {p = p} {ps = ps} first rest) each y (HasLeafIn.first h) = leaf_visited first (each p (Contains-head p ps)) y h
     leaves_visited (EventUnfoldsAll.more {p = p} {ps = ps} first rest) each y (HasLeafIn.later h) = leaves_visited rest (λ q k. each q (Contains-tail p q ps k)) y h
 

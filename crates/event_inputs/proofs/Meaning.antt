@@ -64,7 +64,7 @@ in_order_of w vars ordered i j d l m = go vars refl
         subst (λ (x : Variable (List ℕ)). NodeBefore x (get_or (map (variable_of w) vars) j d)) (sym at_i) (subst (NodeBefore (variable_of w (get_or vars i v))) (sym at_j) (ordered i j v l j_in))
 
 module _ (e : EventCircuitView) (w : EventGraphView) (x : Start ℕ) (vars : List ℕ) (sound : IsSound e.net) (circuit : IsEventCircuit e) (are : AreVisitedInputs e w x vars) where
-  numbers_are_one : (p m n : ℕ) → IsInputNumber (circuit_of e.net) e.order p m → IsInputNumber (circuit_of e.net) e.order p n → m ≡ n
+  pub numbers_are_one : (p m n : ℕ) → IsInputNumber (circuit_of e.net) e.order p m → IsInputNumber (circuit_of e.net) e.order p n → m ≡ n
   numbers_are_one p m n h g = one_number (circuit_of e.net).inputs e.order (sound_is_net e.net sound).inputs p m n h g
 
   decided : (name : List ℕ) (v next : ℕ) → IsLatch (circuit_of e.net) name v next → Enabled e v ⊎ (Enabled e v → ⊥)

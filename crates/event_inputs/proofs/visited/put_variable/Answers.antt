@@ -9,11 +9,11 @@ number-input-requires c = input_within c.args.circuit.now c.keeps.ensures.sound 
 
 pub returns-in_ok-push-in-Input-clause-put : goal.returns-in_ok-push-in-Input-clause-put
 returns-in_ok-push-in-Input-clause-put c = inr (
-  c.in_ok-variable.variable,
+  c.in_ok-variable-in-Input.variable,
   record {
     number = c.number-input.result;
     numbered = input_number c.args.circuit.now c.keeps.ensures.sound c.net.result.now c.net.ensures c.args.place.1 c.driver.result c.driver.ensures c.in-Input.i c.number-input.result c.in-Input.is c.number-input.ensures;
-    at = c.in_ok-variable.ensures.here;
+    at = c.in_ok-variable-in-Input.ensures.here;
   },
   c.in_ok-push-in-Input.ensures.items,
 )
