@@ -1,5 +1,0 @@
-pub mod Refusing
-pub mod Totaling
-pub mod Growing
-pub mod Visiting
-pub mod Covering

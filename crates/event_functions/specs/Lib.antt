@@ -1,3 +1,0 @@
-pub mod Functions
-pub mod Refused
-pub mod Laws
