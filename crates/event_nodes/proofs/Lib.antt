@@ -1,11 +1,8 @@
 pub mod Drivers
 pub mod PairTest
 pub mod Growing
-pub mod Latches
 pub mod Lists
-pub mod Passing
 pub mod Paths
-pub mod Reaching
 pub mod ReadPlaces
 pub mod Table
 pub mod Weighing

@@ -5,6 +5,8 @@ ghost use Rattle.flat_net.specs.declared.parts.LatchAt.{LatchAt};
 ghost use Rattle.flat_net.specs.Sound.{IsSound};
 ghost use Rattle.event_nodes.specs.View.{IsEventCircuit, side_of, Enabled};
 
+mod classes;
+
 use flat_net::Net;
 use sec_base::{Bits, Ids};
 use std::marker::Model;
@@ -15,7 +17,7 @@ pub struct EventCircuit {
     net: Net,
     enabled: Bits,
     order: Ids,
-    classes: Ids,
+    classes: Vec<u32>,
 }
 
 impl Model for EventCircuit {
@@ -23,9 +25,9 @@ impl Model for EventCircuit {
 
     ghost Value = { EventCircuitView };
 
-    ghost view = { λ e. record { net = e.net; enabled = e.enabled; order = e.order; classes = e.classes } };
+    ghost view = { λ e. record { net = e.net; enabled = e.enabled; order = e.order; classes = e.classes.items } };
 
-    ghost invariant = { λ e. IsEventCircuit (record { net = e.net; enabled = e.enabled; order = e.order; classes = e.classes }) };
+    ghost invariant = { λ e. IsEventCircuit (record { net = e.net; enabled = e.enabled; order = e.order; classes = e.classes.items }) };
 }
 
 impl EventCircuit {
@@ -38,7 +40,7 @@ impl EventCircuit {
             net,
             enabled,
             order,
-            classes,
+            classes: classes.into_vec(),
         }
     }
 
@@ -55,6 +57,13 @@ impl EventCircuit {
         ensures { result.now ≡ self.now.net }
     {
         &self.net
+    }
+
+    /// For each latch whether it is enabled.
+    pub fn enabled(&self) -> &Bits
+        ensures { result.now ≡ self.now.enabled }
+    {
+        &self.enabled
     }
 
     /// The number of the input with this position.

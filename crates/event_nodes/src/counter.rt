@@ -1,6 +1,6 @@
 //! What the unfoldings of one circuit weigh together.
 
-ghost use Rattle.std.specs.Prelude.{◌≡◌, ◌<◌, [], length, Contains, OnOk, Err};
+ghost use Rattle.std.specs.Prelude.{◌≡◌, ◌<◌, [], length, slice_get, Some, Contains, OnOk, Err};
 ghost use Rattle.flat_net.specs.Sound.{IsSound};
 ghost use Rattle.sec_base.specs.Table.{AreDistinct};
 ghost use Rattle.event_nodes.specs.declared.error.EventUnfoldError.TheVariants as unfold_error;
@@ -49,6 +49,21 @@ impl Counter {
         ensures { AreDistinct self.now.places }
     {
         self.places.keeps();
+    }
+
+    /// How many places are counted.
+    pub fn len(&self) -> u32
+        ensures { result ≡ length self.now.places }
+    {
+        self.places.len()
+    }
+
+    /// The place with this number: an event node and a signal.
+    pub fn place(&self, number: u32) -> (u32, u32)
+        requires { number < length self.now.places }
+        ensures { slice_get self.now.places number ≡ Some result }
+    {
+        self.places.pair(number)
     }
 
     /// Counts the signal at the node. `TooLarge` comes where all places then weigh more than 2,000,000.

@@ -1,12 +1,15 @@
 //! The event graph: an and-inverter graph over inputs at event nodes.
 
-ghost use Rattle.std.specs.Prelude.{◌≡◌, ℕ, ◌+◌, ◌*◌, ◌^◌, ◌<◌, ◌≤◌, true, List, [], ◌∷◌, ◌++◌, length, map, slice_get, Some, All, IfOk, OnOk, OnErr};
+ghost use Rattle.std.specs.Prelude.{◌≡◌, ℕ, ◌+◌, ◌*◌, ◌^◌, ◌<◌, ◌≤◌, ◌&&◌, Bool, true, List, [], ◌∷◌, ◌++◌, length, map, slice_get, Some, All, IfOk, OnOk, OnErr};
 ghost use Rattle.aig.specs.declared.node.Node.TheVariants.{Constant, Input};
 ghost use Rattle.aig.specs.Graph.{Grows, IsLitOf, flip};
+ghost use Rattle.aig.specs.Values.{value};
 ghost use Rattle.aig.specs.Rules.{IsAndOf, IsCoverOf, cover_room};
 ghost use Rattle.aig.specs.Builds.{HasOneLitAt, HasTreeValuesAt};
 ghost use Rattle.event_nodes.specs.Adds.{Adds};
 ghost use Rattle.event_nodes.specs.Nodes.{IsEventGraph, IsChild, GrowsEvents};
+
+mod parts;
 
 use aig::{Aig, Lit};
 use sec_base::{Cover, NoMemory, PlaceTable};
@@ -160,9 +163,11 @@ impl EventGraph {
         requires room { length self.old.graph + 1 < 2 ^ 30 }
         ensures here { IfOk result (λ x. IsAndOf self.new.graph l.0 r.0 x.0) }
         ensures within { IfOk result (λ x. x.0 < 2 * length self.new.graph) }
+        ensures value { IfOk result (λ x. (a : ℕ → Bool) → value self.new.graph a x.0 ≡ (value self.old.graph a l.0 && value self.old.graph a r.0)) }
         ensures grows { GrowsEvents self.old self.new }
         ensures few { length self.new.graph ≤ length self.old.graph + 1 }
         ensures same { self.new ≡ record self.old { graph = self.new.graph } }
+        ensures err { OnErr result (self.new ≡ self.old) }
     {
         let made = self.aig.and(l, r);
         self.aig.keeps();

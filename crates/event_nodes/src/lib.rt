@@ -1,5 +1,5 @@
-//! Event nodes, the graph over inputs at event nodes, and which latches are reached at which event node (after the event-driven
-//! Boolean functions of Ranjan, Singhal, Somenzi and Brayton, DATE 1999).
+//! Event nodes, the graph over inputs at event nodes, circuits whose latches have classes, and what unfoldings weigh (after the
+//! event-driven Boolean functions of Ranjan, Singhal, Somenzi and Brayton, DATE 1999).
 #![tactic(auto)]
 
 mod circuit;
@@ -8,11 +8,9 @@ mod error;
 mod events;
 pub mod laws;
 mod net_parts;
-mod reached;
 
 pub use circuit::EventCircuit;
 pub use counter::Counter;
 pub use error::EventUnfoldError;
 pub use events::EventGraph;
 pub use net_parts::{Place, add, add_fanins, gate_of, latch_of, weigh};
-pub use reached::{enabled_at, reached_latches, reached_others};

@@ -1,0 +1,4 @@
+pub mod Latches
+pub mod Passing
+pub mod Reaching
+pub mod Making

@@ -1,0 +1,14 @@
+use Rattle.std.proofs.Common.{◌≡◌, ◌<◌, ◌≤◌, ℕ, List, length, slice_get, Some}
+use Rattle.std.specs.List.{Contains}
+use Rattle.circuit_theory.specs.Circuit.{IsLatch}
+use Rattle.flat_net.specs.View.{circuit_of}
+use Rattle.event_nodes.specs.Adds.{Adds}
+use Rattle.event_reach.proofs.Latches.{IsRootLatch}
+use Rattle.event_reach.proofs.reached.put_latches.Given as goal
+
+abbrev pub invariant-loop-at : goal.invariant-loop-at
+invariant-loop-at l = record {
+  adds : Adds (IsRootLatch l.net l.signals.keys) l.initial.table l.table;
+  all : (i v : ℕ) (name : List ℕ) (next : ℕ) → i < l.at → slice_get l.signals.keys i ≡ Some v → IsLatch (circuit_of l.net) name v next → Contains l.table (0, v);
+  few : length l.table ≤ l.cap;
+}
