@@ -7,6 +7,7 @@ use pair_decide::Proof;
 use pair_runs::Differences;
 use sec_base::{Side, Text, Word, Words};
 use sim_report::Misfit;
+use text_numbers::TextKind;
 
 /// A file of a job, by what it is.
 #[derive(Clone, Copy)]
@@ -28,6 +29,8 @@ pub enum LineFault {
     BadHeader,
     /// A line of a stimulus is no row.
     BadRow,
+    /// A line of a text of clauses, or of one that refutes them.
+    Clauses(TextKind),
 }
 
 /// Why a job ends without an answer.

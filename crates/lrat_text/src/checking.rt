@@ -1,6 +1,6 @@
 //! Checks an LRAT text.
 
-ghost use Rattle.std.specs.Prelude.{◌≡◌, ◌≤◌, ◌^◌, length, OnOk, MatchResult};
+ghost use Rattle.std.specs.Prelude.{◌≡◌, ◌≤◌, length, OnOk, MatchResult};
 ghost use Rattle.proof_check.specs.Clauses.{Unsatisfiable};
 ghost use Rattle.lrat_core.specs.States.{state_of};
 ghost use Rattle.lrat_text.specs.Spellings.{spelling_of};
@@ -25,13 +25,12 @@ pub struct Verified {
 fn take_line(
     checker: &mut Checker,
     buffers: &mut Buffers,
-    limit: u32,
+    formula: &Formula,
     line: &[u8],
 ) -> Result<bool, LineError>
-    requires { limit ≤ 2 ^ 30 }
-    ensures { MatchResult result (λ ends. IsStep (spelling_of limit line.now) (state_of checker.old) (state_of checker.new) ends) (IsFault (spelling_of limit line.now) (state_of checker.old)) }
+    ensures { MatchResult result (λ ends. IsStep (spelling_of formula.now.variables line.now) (state_of checker.old) (state_of checker.new) ends) (IsFault (spelling_of formula.now.variables line.now) (state_of checker.old)) }
 {
-    match buffers.read_line(limit, line)? {
+    match buffers.read_line(formula.variables(), line)? {
         Form::Nothing => Ok(false),
         Form::Malformed => Err(LineError::Fault(TextKind::BadLine)),
         Form::Addition(id) => {
@@ -63,16 +62,15 @@ fn at_line(line: u32, error: LineError) -> TextError
 /// names the first faulty line with what is first wrong with it: `BadLine`, `BadId`, `NegativeHint`, `BadHint`, `NotUnit`,
 /// `NoConflict`; or it is `NoEmpty` with line 0.
 pub fn check_lrat(alloc: Global, formula: &Formula, text: &[u8]) -> Result<Verified, TextError>
-    requires short { length text.now ≤ MAX_FILE_BYTES }
-    requires few { formula.now.variables ≤ 2 ^ 30 }
+    requires { length text.now ≤ MAX_FILE_BYTES }
     ensures verdict { IsChecked formula.now text.now result }
     ensures unsatisfiable { OnOk result (Unsatisfiable formula.now.clauses) }
 {
-    let mut checker = Checker::new(alloc, &formula.clauses)?;
+    let mut checker = Checker::new(alloc, formula.clauses())?;
     let mut buffers = Buffers::new(alloc);
     let mut lines = NumberedLines::new(text);
     while let Some(line) = lines.next_line() {
-        match take_line(&mut checker, &mut buffers, formula.variables, line) {
+        match take_line(&mut checker, &mut buffers, formula, line) {
             Ok(ends) => {
                 if ends {
                     return Ok(Verified {
