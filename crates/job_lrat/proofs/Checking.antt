@@ -1,14 +1,17 @@
 -- What the parts of the check find.
-use Rattle.std.specs.Prelude.{IfSome}
-use Rattle.std.proofs.Common.{◌≡◌, ℕ, ◌≤◌, List, [], ◌∷◌, subst, Option, Some, None, Result, Ok, Err, refl, arith}
+use Rattle.std.specs.Prelude.{IfSome, IfOk}
+use Rattle.std.proofs.Common.{◌≡◌, ℕ, ◌≤◌, List, [], ◌∷◌, length, subst, Option, Some, None, Result, Ok, Err, arith}
 use Rattle.proof_check.specs.Clauses.{Unsatisfiable}
 use Rattle.sec_base.specs.Outside.{Rose}
+use Rattle.sec_base.specs.declared.limits.TheConstants.{MAX_FILE_BYTES}
 use Rattle.sec_base.specs.NoMemory.{NoMemory}
 use Rattle.sec_base.specs.FetchError.TheVariants as fetch_error
+use Rattle.text_numbers.specs.Answers.{IsGiven}
+use Rattle.text_numbers.specs.declared.kinds.TextError.{TextError}
 use Rattle.text_numbers.specs.declared.kinds.TextError.TheVariants as text_error
-use Rattle.text_numbers.specs.declared.kinds.TextKind.{TextKind}
+use Rattle.dimacs_text.specs.Dimacs.{formula_of}
 use Rattle.dimacs_text.specs.Formulas.{Formula}
-use Rattle.lrat_text.proofs.Texts.{accepted_sound}
+use Rattle.lrat_text.specs.Verdicts.{IsChecked}
 use Rattle.job_base.specs.declared.finding.File.TheVariants as file
 use Rattle.job_base.specs.Ends.{EndsBy}
 use Rattle.job_base.proofs.Reading.{first_read_failed, second_read_failed}
@@ -18,6 +21,16 @@ use Rattle.job_lrat.specs.Ends.{LratFound, text_end, verified_end}
 use Rattle.job_lrat.specs.declared.loading.TextLoadError.{TextLoadError}
 use Rattle.job_lrat.specs.declared.loading.TextLoadError.TheVariants as error
 
+-- a text that isn't clauses, or is no refutation
+pub clauses_fail : (text : List ℕ) (e : TextError) → length text ≤ MAX_FILE_BYTES → IsGiven (formula_of text) (Err e) → ClausesFail (Some text) ⊥ (error.Read e)
+clauses_fail text (text_error.At line kind) short h = record { short = short; is = h }
+clauses_fail text text_error.NoMemory short h = tt
+
+pub proof_fails : (formula : Formula) (text : List ℕ) (e : TextError) → length text ≤ MAX_FILE_BYTES → IsChecked formula text (Err e) → ProofFails formula (Some text) ⊥ (error.Read e)
+proof_fails formula text (text_error.At line kind) short h = record { short = short; refused = h }
+proof_fails formula text text_error.NoMemory short h = tt
+
+-- a count that rose from a later value rose from an earlier one
 rose_before : (a b c : ℕ) → a ≤ b → Rose b c → Rose a c
 rose_before a b c h r = omega arith
 
@@ -48,6 +61,6 @@ proof_end held before now clauses proof formula later middle (error.Read text_er
 
 -- the refutation is accepted
 pub verified_ends : (clauses proof : Option (List ℕ)) (failed : Type 0) (formula : Formula) (line : ℕ) (made : Result (List ℕ) NoMemory) → IfSome clauses (λ x. Spells x formula) →
-    IfSome proof (λ y. Refutes formula y line) → Unsatisfiable formula.clauses → ((text : List ℕ) → made ≡ Ok text → text ≡ verified_text) → EndsBy (IsLratFound clauses proof) failed (verified_end made)
-verified_ends clauses proof failed formula line (Ok text) spells accepted refuted is = (record { formula = formula; spells = spells; line = line; accepted = accepted; refuted = refuted }, is text refl)
+    IfSome proof (λ y. Refutes formula y line) → Unsatisfiable formula.clauses → IfOk made (λ text. text ≡ verified_text) → EndsBy (IsLratFound clauses proof) failed (verified_end made)
+verified_ends clauses proof failed formula line (Ok text) spells accepted refuted is = (record { formula = formula; spells = spells; line = line; accepted = accepted; refuted = refuted }, is)
 verified_ends clauses proof failed formula line (Err e) spells accepted refuted is = tt
