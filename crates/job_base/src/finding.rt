@@ -12,9 +12,9 @@ use text_numbers::TextKind;
 /// A file of a job, by what it is.
 #[derive(Clone, Copy)]
 pub enum File {
-    /// The first circuit, or the only one.
+    /// The first circuit, or the only one; or clauses.
     A,
-    /// The second circuit.
+    /// The second circuit; or a refutation.
     B,
     /// The stimulus.
     S,
@@ -66,7 +66,7 @@ pub enum Finding {
     Unpaired(Side, Words),
     /// The outcome of a comparison that was made with these settings.
     Checked(Outcome, Settings),
-    /// The report of one circuit.
+    /// The report of one circuit, or of a refutation that is accepted.
     Done(Text),
     /// The outcome of the comparison of a generated pair, and its report.
     Generated(Outcome, Text),
