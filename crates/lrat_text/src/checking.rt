@@ -1,6 +1,6 @@
 //! Checks an LRAT text.
 
-ghost use Rattle.std.specs.Prelude.{◌≡◌, ◌≤◌, length, OnOk, MatchResult};
+ghost use Rattle.std.specs.Prelude.{◌≡◌, ◌≤◌, ◌^◌, length, OnOk, MatchResult};
 ghost use Rattle.proof_check.specs.Clauses.{Unsatisfiable};
 ghost use Rattle.lrat_core.specs.States.{state_of};
 ghost use Rattle.lrat_text.specs.Spellings.{spelling_of};
@@ -25,12 +25,13 @@ pub struct Verified {
 fn take_line(
     checker: &mut Checker,
     buffers: &mut Buffers,
-    formula: &Formula,
+    limit: u32,
     line: &[u8],
 ) -> Result<bool, LineError>
-    ensures { MatchResult result (λ ends. IsStep (spelling_of formula.now.variables line.now) (state_of checker.old) (state_of checker.new) ends) (IsFault (spelling_of formula.now.variables line.now) (state_of checker.old)) }
+    requires { limit ≤ 2 ^ 30 }
+    ensures { MatchResult result (λ ends. IsStep (spelling_of limit line.now) (state_of checker.old) (state_of checker.new) ends) (IsFault (spelling_of limit line.now) (state_of checker.old)) }
 {
-    match buffers.read_line(formula.variables(), line)? {
+    match buffers.read_line(limit, line)? {
         Form::Nothing => Ok(false),
         Form::Malformed => Err(LineError::Fault(TextKind::BadLine)),
         Form::Addition(id) => {
@@ -70,7 +71,7 @@ pub fn check_lrat(alloc: Global, formula: &Formula, text: &[u8]) -> Result<Verif
     let mut buffers = Buffers::new(alloc);
     let mut lines = NumberedLines::new(text);
     while let Some(line) = lines.next_line() {
-        match take_line(&mut checker, &mut buffers, formula, line) {
+        match take_line(&mut checker, &mut buffers, formula.variables(), line) {
             Ok(ends) => {
                 if ends {
                     return Ok(Verified {
