@@ -30,7 +30,7 @@ returns-in-Ok-check_file-clause-found g c =
     subst (λ (r : Result Finding Stop). LratFound held before now clauses proof r) (sym c.verified_end.ensures)
     (verified_ends (held clauses) (held proof) (LratReadFailed held before now clauses proof) formula line c.verified_report.result c.in-Ok.ensures.ok accepted c.in-Ok-check_file.ensures.refuted c.verified_report.ensures)
 
-pub returns-clause-found : goal.returns-in-Err-check_file-clause-found
+pub returns-clause-found : goal.returns-clause-found
 returns-clause-found g c =
     let clauses = c.args.refutation.now.clauses.now in
     let proof = c.args.refutation.now.proof.now in
