@@ -1,7 +1,7 @@
 -- Words that are written out, computed.
 use Rattle.std.proofs.Common.{refl}
 use Rattle.clap.proofs.OnLiterals.{clap_on_literals}
-use Rattle.command_line.specs.Known.{CheckIsTaken, GraphIsTaken, SimIsTaken, ReplayIsTaken, GenIsTaken, ResetIsTaken, OtherModeIsNoJob, ResetIsNoJob}
+use Rattle.command_line.specs.Known.{CheckIsTaken, GraphIsTaken, SimIsTaken, ReplayIsTaken, GenIsTaken, LratIsTaken, ResetIsTaken, OtherModeIsNoJob, ResetIsNoJob}
 
 pub check_is_taken : CheckIsTaken
 unfolding clap_on_literals
@@ -22,6 +22,10 @@ replay_is_taken = (refl, refl)
 pub gen_is_taken : GenIsTaken
 unfolding clap_on_literals
 gen_is_taken = (refl, refl)
+
+pub lrat_is_taken : LratIsTaken
+unfolding clap_on_literals
+lrat_is_taken = (refl, refl)
 
 pub reset_is_taken : ResetIsTaken
 unfolding clap_on_literals

@@ -64,6 +64,9 @@ abbrev pub gen_in : List Row → Option Task
 gen_in rows =
     with_word (codes "n") rows (λ n. option_and_then (λ seed. option_map (λ conflicts. task.Gen seed (is_set (codes "regroup") rows) conflicts) (conflicts_in rows)) (number_of any_number n))
 
+abbrev pub lrat_in : List Row → Option Task
+lrat_in rows = with_word (codes "f") rows (λ f. option_map (λ l. task.Lrat f l) (first_of (codes "l") rows))
+
 -- the task of a subcommand's matches
 abbrev pub task_in : Text → List Row → Option Task
 task_in name rows =
@@ -72,6 +75,7 @@ task_in name rows =
     else if bytes_eq name (codes "sim") then sim_in rows
     else if bytes_eq name (codes "replay") then replay_in rows
     else if bytes_eq name (codes "gen") then gen_in rows
+    else if bytes_eq name (codes "lrat") then lrat_in rows
     else None
 
 -- The job of the words: where `clap`'s own definition for the command takes them, the mode is known, and nothing refuses `--reset`.

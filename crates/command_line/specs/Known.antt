@@ -6,9 +6,9 @@ use Rattle.command_words.specs.Command.{sec_app}
 use Rattle.command_line.specs.Jobs.{job_of, mode_in}
 use Rattle.command_line.specs.declared.task.Task.TheVariants as task
 
--- the mode among the subcommand's matches is one of the two, and `--reset` may stand beside it; `gen` has none
+-- the mode among the subcommand's matches is one of the two, and `--reset` may stand beside it; `gen` and `lrat` have none
 abbrev pub mode_fits : Text → List Row → Bool
-mode_fits name rows = bytes_eq name (codes "gen") || is_some (mode_in rows)
+mode_fits name rows = bytes_eq name (codes "gen") || (bytes_eq name (codes "lrat") || is_some (mode_in rows))
 
 -- the mode of the subcommand that the words name is one of the two, and nothing refuses `--reset`
 abbrev pub HasFitMode : List Text → Type 0
@@ -37,6 +37,9 @@ ReplayIsTaken = AreTaken (codes "replay" ∷ codes "a" ∷ codes "b" ∷ codes "
 
 abbrev pub GenIsTaken : Type 0
 GenIsTaken = AreTaken (codes "gen" ∷ codes "7" ∷ codes "--conflicts" ∷ codes "0" ∷ [])
+
+abbrev pub LratIsTaken : Type 0
+LratIsTaken = AreTaken (codes "lrat" ∷ codes "f" ∷ codes "l" ∷ [])
 
 -- words with `--reset`, and what they ask for
 abbrev pub ResetIsTaken : Type 0

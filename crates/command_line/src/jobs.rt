@@ -6,7 +6,7 @@ ghost use Rattle.clap.specs.Words.{fault_of, first_of, found_of, rows_of, subcom
 ghost use Rattle.clap.specs.ValueTests.{accepts};
 ghost use Rattle.clap.specs.declared.builder.value_parser.ValueParser.TheVariants as parser;
 ghost use Rattle.command_words.specs.Command.{sec_app};
-ghost use Rattle.command_line.specs.Jobs.{job_of, task_in, check_in, graph_in, sim_in, replay_in, gen_in, mode_of, mode_in, refuses_reset, is_set, number_of, conflicts_in, settings_in};
+ghost use Rattle.command_line.specs.Jobs.{job_of, task_in, check_in, graph_in, sim_in, replay_in, gen_in, lrat_in, mode_of, mode_in, refuses_reset, is_set, number_of, conflicts_in, settings_in};
 
 use crate::task::Task;
 use circuit_theory::Mode;
@@ -240,6 +240,21 @@ fn gen_in(matches: &ArgMatches<'_>) -> Option<Task>
     })
 }
 
+fn lrat_in(alloc: Global, matches: &ArgMatches<'_>) -> Result<Option<Task>, NoMemory>
+    ensures { IfOk result (λ task. task ≡ lrat_in (rows_of (found_of matches.now))) }
+{
+    let Some(f) = word(matches, "f") else {
+        return Ok(None);
+    };
+    let Some(l) = word(matches, "l") else {
+        return Ok(None);
+    };
+    Ok(Some(Task::Lrat {
+        f: FilePath::from_str(alloc, f)?,
+        l: FilePath::from_str(alloc, l)?,
+    }))
+}
+
 /// The task of a subcommand's matches.
 fn task_in(alloc: Global, name: &str, matches: &ArgMatches<'_>) -> Result<Option<Task>, NoMemory>
     ensures { IfOk result (λ task. task ≡ task_in name.now (rows_of (found_of matches.now))) }
@@ -254,6 +269,8 @@ fn task_in(alloc: Global, name: &str, matches: &ArgMatches<'_>) -> Result<Option
         replay_in(alloc, matches)
     } else if name == "gen" {
         Ok(gen_in(matches))
+    } else if name == "lrat" {
+        lrat_in(alloc, matches)
     } else {
         Ok(None)
     }

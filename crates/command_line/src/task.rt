@@ -39,4 +39,9 @@ pub enum Task {
         regroup: bool,
         conflicts: u32,
     },
+    /// Check a text in the LRAT format against the clauses of a DIMACS text.
+    Lrat {
+        f: FilePath,
+        l: FilePath,
+    },
 }

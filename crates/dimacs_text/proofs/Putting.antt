@@ -13,7 +13,7 @@ use Rattle.text_numbers.specs.declared.kinds.TextError.TheVariants.{At, NoMemory
 use Rattle.text_numbers.specs.declared.kinds.TextKind.TheVariants.{BadNumber, BadCount}
 use Rattle.dimacs_text.specs.declared.entries.Entry.{Entry}
 use Rattle.dimacs_text.specs.declared.entries.Entry.TheVariants.{Literal, End}
-use Rattle.dimacs_text.specs.declared.formula.Formula.{Formula}
+use Rattle.dimacs_text.specs.Formulas.{Formula}
 use Rattle.dimacs_text.specs.declared.counts.Header.{Header}
 use Rattle.dimacs_text.specs.Entries.{entries_of, is_end, ends, is_open, clauses_from}
 use Rattle.text_numbers.specs.Answers.{IsGiven}

@@ -7,7 +7,7 @@ use Rattle.text_numbers.specs.declared.kinds.TextError.{TextError}
 use Rattle.text_numbers.specs.declared.kinds.TextError.TheVariants.{At}
 use Rattle.text_numbers.specs.declared.kinds.TextKind.TheVariants.{BadHeader, BadNumber, BadCount}
 use Rattle.dimacs_text.specs.declared.formula.TheConstants.{MAX_COUNT}
-use Rattle.dimacs_text.specs.declared.formula.Formula.{Formula}
+use Rattle.dimacs_text.specs.Formulas.{Formula}
 use Rattle.dimacs_text.specs.declared.counts.Header.{Header}
 use Rattle.dimacs_text.specs.declared.entries.Entry.{Entry}
 use Rattle.dimacs_text.specs.Entries.{entries_of, ends, is_open, clauses_from}

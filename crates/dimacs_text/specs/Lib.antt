@@ -1,4 +1,5 @@
 pub mod Dimacs
 pub mod Entries
+pub mod Formulas
 pub mod Literals
 pub mod Parts

@@ -2,7 +2,7 @@
 use Rattle.std.specs.Prelude.{◌≡◌, ℕ, List, Result, Err}
 use Rattle.text_numbers.specs.declared.kinds.TextError.{TextError}
 use Rattle.text_numbers.specs.declared.kinds.TextError.TheVariants.{At, NoMemory}
-use Rattle.dimacs_text.specs.declared.formula.Formula.{Formula}
+use Rattle.dimacs_text.specs.Formulas.{Formula}
 use Rattle.dimacs_text.specs.declared.counts.Header.{Header}
 use Rattle.dimacs_text.specs.declared.entries.Entry.{Entry}
 use Rattle.dimacs_text.specs.Dimacs.{line_entries, line_then}

@@ -133,7 +133,7 @@ impl Body {
         }
         let variables = self.header.variables;
         let clauses = clauses_of(alloc, self.entries.as_slice())?;
-        Ok(Formula { variables, clauses })
+        Ok(Formula::new(variables, clauses))
     }
 }
 

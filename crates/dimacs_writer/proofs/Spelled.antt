@@ -13,7 +13,7 @@ use Rattle.text_numbers.specs.Numbers.{with_first, behind}
 use Rattle.text_numbers.specs.declared.kinds.TextError.{TextError}
 use Rattle.text_numbers.specs.declared.kinds.TextError.TheVariants.{At}
 use Rattle.text_numbers.specs.declared.kinds.TextKind.TheVariants.{BadCount}
-use Rattle.dimacs_text.specs.declared.formula.Formula.{Formula}
+use Rattle.dimacs_text.specs.Formulas.{Formula}
 use Rattle.dimacs_text.specs.declared.counts.Header.{Header}
 use Rattle.dimacs_text.specs.declared.entries.Entry.{Entry}
 use Rattle.dimacs_text.specs.declared.entries.Entry.TheVariants as entry

@@ -1,5 +1,6 @@
 pub mod Ends
 pub mod Lines
 pub mod Meaning
+pub mod Reading
 pub mod Status
 pub mod Written

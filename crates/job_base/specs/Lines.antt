@@ -6,6 +6,8 @@ use Rattle.circuit_theory.specs.declared.Side.TheVariants.{A, B}
 use Rattle.sec_base.specs.Texts.{names_text}
 use Rattle.blif_read.specs.declared.error.ReadKind.{ReadKind}
 use Rattle.blif_read.specs.declared.error.ReadKind.TheVariants as kind
+use Rattle.text_numbers.specs.declared.kinds.TextKind.{TextKind}
+use Rattle.text_numbers.specs.declared.kinds.TextKind.TheVariants as text_kind
 use Rattle.sim_report.specs.declared.refusal.Misfit.{Misfit}
 use Rattle.sim_report.specs.declared.refusal.Misfit.TheVariants as misfit
 use Rattle.elaborate.specs.declared.error.FlatError.{FlatError}
@@ -47,11 +49,25 @@ kind_text kind.NameTooLong = codes "NameTooLong"
 kind_text kind.StrayRow = codes "StrayRow"
 kind_text kind.ControlByte = codes "ControlByte"
 
+-- the kind of a faulty line of a text of clauses, or of one that refutes them
+abbrev pub text_kind_word : TextKind → List ℕ
+text_kind_word text_kind.BadHeader = codes "BadHeader"
+text_kind_word text_kind.BadNumber = codes "BadNumber"
+text_kind_word text_kind.BadCount = codes "BadCount"
+text_kind_word text_kind.BadLine = codes "BadLine"
+text_kind_word text_kind.BadId = codes "BadId"
+text_kind_word text_kind.NegativeHint = codes "NegativeHint"
+text_kind_word text_kind.BadHint = codes "BadHint"
+text_kind_word text_kind.NotUnit = codes "NotUnit"
+text_kind_word text_kind.NoConflict = codes "NoConflict"
+text_kind_word text_kind.NoEmpty = codes "NoEmpty"
+
 -- what is wrong with a line
 abbrev pub line_fault_text : LineFault → List ℕ
 line_fault_text (line_fault.Circuit k) = kind_text k
 line_fault_text line_fault.BadHeader = codes "BadHeader"
 line_fault_text line_fault.BadRow = codes "BadRow"
+line_fault_text (line_fault.Clauses k) = text_kind_word k
 
 -- the kind of a design's fault, with the names that it has
 abbrev pub design_fault_text : FlatError → List ℕ

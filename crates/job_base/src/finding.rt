@@ -7,13 +7,14 @@ use pair_decide::Proof;
 use pair_runs::Differences;
 use sec_base::{Side, Text, Word, Words};
 use sim_report::Misfit;
+use text_numbers::TextKind;
 
 /// A file of a job, by what it is.
 #[derive(Clone, Copy)]
 pub enum File {
-    /// The first circuit, or the only one.
+    /// The first circuit, or the only one; or clauses.
     A,
-    /// The second circuit.
+    /// The second circuit; or a refutation.
     B,
     /// The stimulus.
     S,
@@ -28,6 +29,8 @@ pub enum LineFault {
     BadHeader,
     /// A line of a stimulus is no row.
     BadRow,
+    /// A line of a text of clauses, or of one that refutes them.
+    Clauses(TextKind),
 }
 
 /// Why a job ends without an answer.
@@ -63,7 +66,7 @@ pub enum Finding {
     Unpaired(Side, Words),
     /// The outcome of a comparison that was made with these settings.
     Checked(Outcome, Settings),
-    /// The report of one circuit.
+    /// The report of one circuit, or of a refutation that is accepted.
     Done(Text),
     /// The outcome of the comparison of a generated pair, and its report.
     Generated(Outcome, Text),

@@ -33,7 +33,7 @@ pub enum StatusName {
     NoMemory,
     /// A latch graph has a cycle, or one that no latch breaks that both circuits name where latches may be cut open.
     Cyclic,
-    /// The report of one circuit is written.
+    /// The report of one circuit, or of a refutation that is accepted, is written.
     Done,
 }
 

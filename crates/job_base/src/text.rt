@@ -3,7 +3,7 @@
 ghost use Rattle.std.specs.Prelude.{◌≡◌, [], ◌∷◌, ◌++◌, codes, OnOk, IfOk};
 ghost use Rattle.std.specs.Fmt.{decimal};
 ghost use Rattle.sec_base.specs.Texts.{names_text};
-ghost use Rattle.job_base.specs.Lines.{side_word, file_word, kind_text, line_fault_text, design_fault_text, misfit_text, refusal_text, words_text, cycle_text, undecided_text, unpaired_text};
+ghost use Rattle.job_base.specs.Lines.{side_word, file_word, kind_text, text_kind_word, line_fault_text, design_fault_text, misfit_text, refusal_text, words_text, cycle_text, undecided_text, unpaired_text};
 
 use crate::finding::{File, LineFault, Refusal};
 use blif_read::ReadKind;
@@ -11,6 +11,7 @@ use elaborate::FlatError;
 use sec_base::{NoMemory, Seq, Side, Text, Word, Words, put, put_names, put_number};
 use sim_report::Misfit;
 use std::alloc::Global;
+use text_numbers::TextKind;
 
 /// Puts the word behind what stands before it in the line.
 fn put_behind(text: &mut Vec<u8>, front: &[u8], word: &[u8]) -> Result<(), NoMemory>
@@ -82,6 +83,23 @@ fn put_file(text: &mut Vec<u8>, file: File) -> Result<(), NoMemory>
     put(text, file_word(file).as_bytes())
 }
 
+fn text_kind_word(kind: TextKind) -> &'static str
+    ensures { result.now ≡ text_kind_word kind }
+{
+    match kind {
+        TextKind::BadHeader => "BadHeader",
+        TextKind::BadNumber => "BadNumber",
+        TextKind::BadCount => "BadCount",
+        TextKind::BadLine => "BadLine",
+        TextKind::BadId => "BadId",
+        TextKind::NegativeHint => "NegativeHint",
+        TextKind::BadHint => "BadHint",
+        TextKind::NotUnit => "NotUnit",
+        TextKind::NoConflict => "NoConflict",
+        TextKind::NoEmpty => "NoEmpty",
+    }
+}
+
 fn put_line_fault(text: &mut Vec<u8>, fault: &LineFault) -> Result<(), NoMemory>
     ensures { OnOk result (text.new.items ≡ text.old.items ++ line_fault_text fault.now) }
 {
@@ -89,6 +107,7 @@ fn put_line_fault(text: &mut Vec<u8>, fault: &LineFault) -> Result<(), NoMemory>
         LineFault::Circuit(kind) => put_kind(text, kind),
         LineFault::BadHeader => put(text, b"BadHeader"),
         LineFault::BadRow => put(text, b"BadRow"),
+        LineFault::Clauses(kind) => put(text, text_kind_word(*kind).as_bytes()),
     }
 }
 

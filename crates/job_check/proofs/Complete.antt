@@ -61,6 +61,7 @@ module _ (held : Held) (check : Check) (told : AreTold held check) where
   no_refusal (refusal.Text file.S line (line_fault.Circuit kind)) h = h
   no_refusal (refusal.Text f line line_fault.BadHeader) h = h
   no_refusal (refusal.Text f line line_fault.BadRow) h = h
+  no_refusal (refusal.Text f line (line_fault.Clauses kind)) h = h
   no_refusal (refusal.Design file.A fault) h = told.comparable.left.sound fault (of_left (λ x. HasDesignFault x fault) h).2
   no_refusal (refusal.Design file.B fault) h = told.comparable.right.sound fault (of_texts _ h).2.2
   no_refusal (refusal.Design file.S fault) h = h

@@ -35,6 +35,7 @@ IsRefusal held check (refusal.TooLong f) = OfFile held check f IsTooLong
 IsRefusal held check (refusal.Text f line (line_fault.Circuit kind)) = OfFile held check f (λ x. HasFault x line kind)
 IsRefusal held check (refusal.Text f line line_fault.BadHeader) = ⊥
 IsRefusal held check (refusal.Text f line line_fault.BadRow) = ⊥
+IsRefusal held check (refusal.Text f line (line_fault.Clauses kind)) = ⊥
 IsRefusal held check (refusal.Design f fault) = OfFile held check f (λ x. HasDesignFault x fault)
 IsRefusal held check (refusal.Interface name) = OfNets held check (λ a b. Compared a b check.settings (Err (compare_error.Interface name)))
 IsRefusal held check (refusal.TooLarge side) = OfNets held check (λ a b. Compared a b check.settings (Err (compare_error.TooLarge side)))

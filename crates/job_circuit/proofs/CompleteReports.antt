@@ -35,6 +35,7 @@ module _ (circuit : Option (List ℕ)) (x : List ℕ) (is : circuit ≡ Some x) 
   circuit_stands (refusal.Text file.A line (line_fault.Circuit kind)) h = none-some _ (sym accepted.faultless ∙ (if_told circuit (λ t. HasFault t line kind) x is h).1)
   circuit_stands (refusal.Text file.A line line_fault.BadHeader) h = h
   circuit_stands (refusal.Text file.A line line_fault.BadRow) h = h
+  circuit_stands (refusal.Text file.A line (line_fault.Clauses kind)) h = h
   circuit_stands (refusal.Text file.B line fault) h = h
   circuit_stands (refusal.Text file.S line fault) h = h
   circuit_stands (refusal.Design file.A fault) h = accepted.sound fault (if_told circuit (λ t. HasDesignFault t fault) x is h).2
@@ -93,6 +94,7 @@ module _ (mode : Mode) (circuit stimulus power : Option (List ℕ)) (reset : Boo
   run_stands (refusal.Text file.A line fault) h = circuit_stands circuit x is can.circuit (refusal.Text file.A line fault) h
   run_stands (refusal.Text file.B line fault) h = circuit_stands circuit x is can.circuit (refusal.Text file.B line fault) h
   run_stands (refusal.Text file.S line (line_fault.Circuit kind)) h = circuit_stands circuit x is can.circuit (refusal.Text file.S line (line_fault.Circuit kind)) h
+  run_stands (refusal.Text file.S line (line_fault.Clauses kind)) h = circuit_stands circuit x is can.circuit (refusal.Text file.S line (line_fault.Clauses kind)) h
   run_stands (refusal.Design f fault) h = circuit_stands circuit x is can.circuit (refusal.Design f fault) h
   run_stands (refusal.Interface name) h = h
   run_stands (refusal.TooLarge A) h =

@@ -1,21 +1,19 @@
 -- Reads that failed, and what is held.
 use Rattle.std.specs.Prelude.{IfSome, IsSomeAnd}
-use Rattle.std.proofs.Common.{◌≡◌, ℕ, ◌≤◌, List, [], ◌∷◌, refl, subst, arith, Option, Some, None}
-use Rattle.std.proofs.lemmas.List.Elements.{All-nil, All-cons}
+use Rattle.std.proofs.Common.{◌≡◌, ℕ, ◌≤◌, List, ◌∷◌, refl, subst, arith, Option, Some, None}
 use Rattle.sec_base.specs.Outside.{Rose}
 use Rattle.flat_net.specs.View.{NetView}
 use Rattle.sec_files.specs.Loading.{Loads}
+use Rattle.job_base.proofs.Reading.{first_read_failed, second_read_failed}
 use Rattle.job_files.specs.Reading.{IsLoaded, Held, ReadFailed}
 
 -- the first read failed
 pub first_failed : (held : Held) (before now : List ℕ → ℕ) (path : List ℕ) (paths : List (List ℕ)) → Rose (before path) (now path) → ReadFailed held before now (path ∷ paths)
-first_failed held before now path paths rose = record { fetch = 0; path = path; is_path = refl; rose = rose; loaded = All-nil (λ (earlier : List ℕ). IsLoaded (held earlier)) }
+first_failed held before now path paths rose = first_read_failed IsLoaded held before now path paths rose
 
 -- the first circuit is loaded, and the read behind it failed
 pub second_failed : (held : Held) (before now : List ℕ → ℕ) (first path : List ℕ) (paths : List (List ℕ)) → IsLoaded (held first) → Rose (before path) (now path) → ReadFailed held before now (first ∷ path ∷ paths)
-second_failed held before now first path paths loaded rose =
-    let P : List ℕ → Type 0 = λ earlier. IsLoaded (held earlier) in
-    record { fetch = 1; path = path; is_path = refl; rose = rose; loaded = All-cons P first [] loaded (All-nil P) }
+second_failed held before now first path paths loaded rose = second_read_failed IsLoaded held before now first path paths loaded rose
 
 pub is_loaded : (circuit : Option (List ℕ)) (net : NetView) → IfSome circuit (λ x. Loads x net) → IsLoaded circuit
 is_loaded None net l = tt

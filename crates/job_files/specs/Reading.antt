@@ -1,9 +1,8 @@
 -- What is held at paths, and what is true where a read of one failed.
-use Rattle.std.specs.Prelude.{◌≡◌, ℕ, List, Option, Some, slice_get, take, IfSome}
-use Rattle.std.specs.List.{All}
-use Rattle.sec_base.specs.Outside.{Rose}
+use Rattle.std.specs.Prelude.{ℕ, List, Option, IfSome}
 use Rattle.flat_net.specs.View.{NetView}
 use Rattle.sec_files.specs.Loading.{Loads}
+use Rattle.job_base.specs.Reading.{ReadFailedAfter}
 
 -- the bytes that are held at a path, where they are told
 abbrev pub Held : Type 0
@@ -14,9 +13,5 @@ abbrev pub IsLoaded : Option (List ℕ) → Type 0
 IsLoaded circuit = IfSome circuit (λ x. (net : NetView) × Loads x net)
 
 -- A read of one of these paths failed, and the circuits that are fetched before it load.
-pub record ReadFailed (held : Held) (before now : List ℕ → ℕ) (paths : List (List ℕ)) : Type 0 where
-  pub fetch : ℕ
-  pub path : List ℕ
-  pub is_path : slice_get paths fetch ≡ Some path
-  pub rose : Rose (before path) (now path)
-  pub loaded : All (λ (earlier : List ℕ). IsLoaded (held earlier)) (take fetch paths)
+abbrev pub ReadFailed : Held → (List ℕ → ℕ) → (List ℕ → ℕ) → List (List ℕ) → Type 0
+ReadFailed held before now paths = ReadFailedAfter IsLoaded held before now paths

@@ -49,6 +49,7 @@ module _ (mode : Mode) (left right stimulus : Option (List â„•)) (x y z : List â
   replay_stands (refusal.Text file.A line (line_fault.Circuit kind)) h = not_faulty left x is can.left line kind h
   replay_stands (refusal.Text file.B line (line_fault.Circuit kind)) h = not_faulty right y other can.right line kind h.1
   replay_stands (refusal.Text file.S line (line_fault.Circuit kind)) h = h
+  replay_stands (refusal.Text f line (line_fault.Clauses kind)) h = h
   replay_stands (refusal.Text file.A line line_fault.BadHeader) h = h
   replay_stands (refusal.Text file.B line line_fault.BadHeader) h = h
   replay_stands (refusal.Text file.S line line_fault.BadHeader) h = not_headless stimulus z told can.names can.rows can.stimulus line h.2

@@ -74,7 +74,7 @@ module _ (held : Held) (before now : List ℕ → ℕ) (job : ReplayJob) where
   third_failed : IsLoaded (held job.left) → IsLoaded (held job.right) → Rose (before job.stimulus) (now job.stimulus) → Failed
   third_failed l r rose =
       let P : List ℕ → Type 0 = λ earlier. IsLoaded (held earlier) in
-      record { fetch = 2; path = job.stimulus; is_path = refl; rose = rose; loaded = All-cons P job.left (job.right ∷ []) l (All-cons P job.right [] r (All-nil P)) }
+      record { fetch = 2; path = job.stimulus; is_path = refl; rose = rose; reached = All-cons P job.left (job.right ∷ []) l (All-cons P job.right [] r (All-nil P)) }
 
   -- the stimulus isn't loaded, beside both circuits
   over_ends : IsLoaded (held job.left) → IsLoaded (held job.right) → (error : StimulusError) → StimulusFails (held job.stimulus) (Rose (before job.stimulus) (now job.stimulus)) error → EndsBy Found Failed (stimulus_end error)

@@ -62,6 +62,7 @@ IsReplayRefusal mode left right stimulus (refusal.TooLong file.S) = OfStimulus l
 IsReplayRefusal mode left right stimulus (refusal.TooLong f) = OfCircuit left right f IsTooLong
 IsReplayRefusal mode left right stimulus (refusal.Text f line (line_fault.Circuit kind)) = OfCircuit left right f (λ x. HasFault x line kind)
 IsReplayRefusal mode left right stimulus (refusal.Text f line line_fault.BadHeader) = OfStimulus left right stimulus f (λ z. HasBadHeader z line)
+IsReplayRefusal mode left right stimulus (refusal.Text f line (line_fault.Clauses kind)) = ⊥
 IsReplayRefusal mode left right stimulus (refusal.Text f line line_fault.BadRow) = OfStimulus left right stimulus f (λ z. HasBadRow z line)
 IsReplayRefusal mode left right stimulus (refusal.Design f fault) = OfCircuit left right f (λ x. HasDesignFault x fault)
 IsReplayRefusal mode left right stimulus (refusal.Interface name) = OfReplay left right stimulus (λ a b names rows. ReplaysIn mode a b names rows (Err (fault.Interface name)))

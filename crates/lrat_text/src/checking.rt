@@ -63,16 +63,15 @@ fn at_line(line: u32, error: LineError) -> TextError
 /// names the first faulty line with what is first wrong with it: `BadLine`, `BadId`, `NegativeHint`, `BadHint`, `NotUnit`,
 /// `NoConflict`; or it is `NoEmpty` with line 0.
 pub fn check_lrat(alloc: Global, formula: &Formula, text: &[u8]) -> Result<Verified, TextError>
-    requires short { length text.now ≤ MAX_FILE_BYTES }
-    requires few { formula.now.variables ≤ 2 ^ 30 }
+    requires { length text.now ≤ MAX_FILE_BYTES }
     ensures verdict { IsChecked formula.now text.now result }
     ensures unsatisfiable { OnOk result (Unsatisfiable formula.now.clauses) }
 {
-    let mut checker = Checker::new(alloc, &formula.clauses)?;
+    let mut checker = Checker::new(alloc, formula.clauses())?;
     let mut buffers = Buffers::new(alloc);
     let mut lines = NumberedLines::new(text);
     while let Some(line) = lines.next_line() {
-        match take_line(&mut checker, &mut buffers, formula.variables, line) {
+        match take_line(&mut checker, &mut buffers, formula.variables(), line) {
             Ok(ends) => {
                 if ends {
                     return Ok(Verified {

@@ -13,4 +13,5 @@ pub mod Ring
 pub mod Stimuli
 pub mod Nested
 pub mod Replays
+pub mod Refutations
 pub mod Started

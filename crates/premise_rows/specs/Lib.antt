@@ -8,4 +8,5 @@ pub mod OneText
 pub mod OneReport
 pub mod CutOpen
 pub mod Replays
+pub mod Refutations
 pub mod Started

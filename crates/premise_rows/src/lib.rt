@@ -13,6 +13,7 @@ ghost use Rattle.premise_rows.specs.Stimuli.{TwoCanBeRun};
 ghost use Rattle.premise_rows.specs.Started.{StartedPowersUp};
 ghost use Rattle.premise_rows.specs.Enables.{EnablesMeetPremises};
 ghost use Rattle.premise_rows.specs.Replays.{ReplaysMeetPremises};
+ghost use Rattle.premise_rows.specs.Refutations.{UnitsAreRefuted, PairsAreRefuted};
 ghost use Rattle.premise_rows.specs.TextNets.{TextNetsAreOne, ToldCyclesAreOne, OneNetIsEnough};
 
 use sec_base::{Shelf, Sink};
@@ -82,6 +83,12 @@ pub fn enables_meet_premises()
 /// Two circuits can be replayed on a stimulus, in both modes, as they are and with a latch cut open.
 pub fn replays_meet_premises()
     ensures { ReplaysMeetPremises }
+{}
+
+/// A variable and its negation, and all clauses of two variables, are refuted by texts.
+pub fn refutations_are_checked()
+    ensures units { UnitsAreRefuted }
+    ensures pairs { PairsAreRefuted }
 {}
 
 /// A text loads as one net, up to the numbers of its signals.

@@ -10,7 +10,7 @@ use Rattle.sec_base.specs.declared.settings.Settings.{Settings}
 use Rattle.command_line.specs.declared.task.Task.{Task}
 use Rattle.command_line.specs.declared.task.Task.TheVariants as task
 use Rattle.command_words.specs.Command.{sec_app, most_conflicts, any_number}
-use Rattle.command_line.specs.Jobs.{job_of, task_in, check_in, graph_in, sim_in, replay_in, gen_in, settings_in, conflicts_in, mode_in, number_of, is_set, with_word}
+use Rattle.command_line.specs.Jobs.{job_of, task_in, check_in, graph_in, sim_in, replay_in, gen_in, lrat_in, settings_in, conflicts_in, mode_in, number_of, is_set, with_word}
 use Rattle.sec_run.specs.Job.{HasFewConflicts}
 
 some_is : {X : Type 0} {x y : X} → Some x ≡ Some y → x ≡ y
@@ -90,9 +90,19 @@ few_gen rows job e =
     let conflicts = map_some (task.Gen seed.0 regroup) (conflicts_in rows) job seed.2 in
     subst HasFewConflicts conflicts.2 (few rows conflicts.0 conflicts.1)
 
--- the tasks of the subcommands behind the third, the second and the first
+few_lrat : (rows : List Row) (job : Task) → lrat_in rows ≡ Some job → HasFewConflicts job
+few_lrat rows job e =
+    let f = and_then_some (λ x. option_map (task.Lrat x) (first_of (codes "l") rows)) (first_of (codes "f") rows) job e in
+    let l = map_some (task.Lrat f.0) (first_of (codes "l") rows) job f.2 in
+    let few_here : HasFewConflicts (task.Lrat f.0 l.0) = tt in
+    subst HasFewConflicts l.2 few_here
+
+-- the tasks of the subcommands behind the fourth, the third, the second and the first
+abbrev gens : List ℕ → List Row → Option Task
+gens name rows = cond (bytes_eq name (codes "gen")) (gen_in rows) (cond (bytes_eq name (codes "lrat")) (lrat_in rows) None)
+
 abbrev replays : List ℕ → List Row → Option Task
-replays name rows = cond (bytes_eq name (codes "replay")) (replay_in rows) (cond (bytes_eq name (codes "gen")) (gen_in rows) None)
+replays name rows = cond (bytes_eq name (codes "replay")) (replay_in rows) (gens name rows)
 
 abbrev sims : List ℕ → List Row → Option Task
 sims name rows = cond (bytes_eq name (codes "sim")) (sim_in rows) (replays name rows)
@@ -100,12 +110,19 @@ sims name rows = cond (bytes_eq name (codes "sim")) (sim_in rows) (replays name 
 abbrev graphs : List ℕ → List Row → Option Task
 graphs name rows = cond (bytes_eq name (codes "graph")) (graph_in rows) (sims name rows)
 
-few_replays : (name : List ℕ) (rows : List Row) (job : Task) → replays name rows ≡ Some job → HasFewConflicts job
-few_replays name rows job e = go (either (bytes_eq name (codes "replay")) (replay_in rows) (cond (bytes_eq name (codes "gen")) (gen_in rows) None) job e)
+few_gens : (name : List ℕ) (rows : List Row) (job : Task) → gens name rows ≡ Some job → HasFewConflicts job
+few_gens name rows job e = go (either (bytes_eq name (codes "gen")) (gen_in rows) (cond (bytes_eq name (codes "lrat")) (lrat_in rows) None) job e)
   where
-    go : (replay_in rows ≡ Some job) ⊎ (cond (bytes_eq name (codes "gen")) (gen_in rows) None ≡ Some job) → HasFewConflicts job
+    go : (gen_in rows ≡ Some job) ⊎ (cond (bytes_eq name (codes "lrat")) (lrat_in rows) None ≡ Some job) → HasFewConflicts job
+    go (inl h) = few_gen rows job h
+    go (inr h) = few_lrat rows job (where_true (bytes_eq name (codes "lrat")) (lrat_in rows) job h).1
+
+few_replays : (name : List ℕ) (rows : List Row) (job : Task) → replays name rows ≡ Some job → HasFewConflicts job
+few_replays name rows job e = go (either (bytes_eq name (codes "replay")) (replay_in rows) (gens name rows) job e)
+  where
+    go : (replay_in rows ≡ Some job) ⊎ (gens name rows ≡ Some job) → HasFewConflicts job
     go (inl h) = few_replay rows job h
-    go (inr h) = few_gen rows job (where_true (bytes_eq name (codes "gen")) (gen_in rows) job h).1
+    go (inr h) = few_gens name rows job h
 
 few_sims : (name : List ℕ) (rows : List Row) (job : Task) → sims name rows ≡ Some job → HasFewConflicts job
 few_sims name rows job e = go (either (bytes_eq name (codes "sim")) (sim_in rows) (replays name rows) job e)

@@ -18,6 +18,7 @@ use Rattle.job_replay.specs.Replays.{IsReplayFound}
 use Rattle.job_check.specs.Check.{Check}
 use Rattle.job_check.specs.Found.{IsCheckFound}
 use Rattle.job_gen.specs.Found.{IsGenFound}
+use Rattle.job_lrat.specs.Found.{IsLratFound}
 
 -- what is true of a job where this is found
 abbrev pub IsFoundOfJob : Held → Task → Finding → Type 0
@@ -26,6 +27,7 @@ IsFoundOfJob held (task.Graph a mode) f = IsGraphFound mode (held a) f
 IsFoundOfJob held (task.Sim a s mode power reset) f = IsSimFound mode (held a) (held s) power reset f
 IsFoundOfJob held (task.Replay a b s mode) f = IsReplayFound mode (held a) (held b) (held s) f
 IsFoundOfJob held (task.Gen seed regroup conflicts) f = IsGenFound (record { seed = seed; regroup = regroup; conflicts = conflicts }) f
+IsFoundOfJob held (task.Lrat f l) found = IsLratFound (held f) (held l) found
 
 -- what is found: that the words are no job, or what is true of the job
 abbrev pub IsFinding : Held → Option Task → Finding → Type 0

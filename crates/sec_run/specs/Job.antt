@@ -3,9 +3,11 @@ use Rattle.std.specs.Prelude.{ℕ, ◌≤◌, List, [], Option, Some, None}
 use Rattle.sec_base.specs.declared.limits.TheConstants.{MAX_CONFLICTS}
 use Rattle.command_line.specs.declared.task.Task.{Task}
 use Rattle.command_line.specs.declared.task.Task.TheVariants as task
+use Rattle.job_files.specs.Reading.{IsLoaded}
 use Rattle.job_circuit.specs.Reports.{graph_paths, sim_paths}
 use Rattle.job_replay.specs.Replays.{replay_paths}
 use Rattle.job_check.specs.Check.{Check, check_paths}
+use Rattle.job_lrat.specs.Found.{lrat_paths, AreSpelled}
 
 -- the paths that a job reads, in the order of their fetches; none where it makes its circuits itself
 abbrev pub paths_of : Task → List (List ℕ)
@@ -14,11 +16,26 @@ paths_of (task.Graph a mode) = graph_paths a
 paths_of (task.Sim a s mode power reset) = sim_paths a s
 paths_of (task.Replay a b s mode) = replay_paths a b s
 paths_of (task.Gen seed regroup conflicts) = []
+paths_of (task.Lrat f l) = lrat_paths f l
 
 -- none where the words are no job
 abbrev pub paths_in : Option Task → List (List ℕ)
 paths_in None = []
 paths_in (Some job) = paths_of job
+
+-- what is held at a path of the job lets the work go on to the next one: its circuit loads, or its clauses are spelled
+abbrev pub GoesOn : Task → Option (List ℕ) → Type 0
+GoesOn (task.Check a b settings) = IsLoaded
+GoesOn (task.Graph a mode) = IsLoaded
+GoesOn (task.Sim a s mode power reset) = IsLoaded
+GoesOn (task.Replay a b s mode) = IsLoaded
+GoesOn (task.Gen seed regroup conflicts) = IsLoaded
+GoesOn (task.Lrat f l) = AreSpelled
+
+-- words that are no job read nothing
+abbrev pub GoesOnIn : Option Task → Option (List ℕ) → Type 0
+GoesOnIn None = IsLoaded
+GoesOnIn (Some job) = GoesOn job
 
 -- at most 200,000 conflicts are allowed for a query
 abbrev pub HasFewConflicts : Task → Type 0
@@ -27,3 +44,4 @@ HasFewConflicts (task.Graph a mode) = Unit {0}
 HasFewConflicts (task.Sim a s mode power reset) = Unit {0}
 HasFewConflicts (task.Replay a b s mode) = Unit {0}
 HasFewConflicts (task.Gen seed regroup conflicts) = conflicts ≤ MAX_CONFLICTS
+HasFewConflicts (task.Lrat f l) = Unit {0}

@@ -12,6 +12,7 @@ use Rattle.job_replay.specs.Replays.{ReplayMeans, IsReplayComplete}
 use Rattle.job_check.specs.Check.{Check}
 use Rattle.job_check.specs.Answer.{CheckSays, IsCheckComplete}
 use Rattle.job_gen.specs.Answer.{GenMeans, IsGenAnswer}
+use Rattle.job_lrat.specs.Answer.{LratMeans, IsLratComplete}
 
 -- What the status says of the job, with the proofs that the run ends with and what was written before and is now.
 abbrev pub Means : Held → Option Task → Option (List ℕ) → Option (List ℕ) → List Proof → StatusName → Type 0
@@ -21,6 +22,7 @@ Means held (Some (task.Graph a mode)) before now proofs name = GraphMeans mode (
 Means held (Some (task.Sim a s mode power reset)) before now proofs name = SimMeans mode (held a) (held s) power reset before now proofs name
 Means held (Some (task.Replay a b s mode)) before now proofs name = ReplayMeans mode (held a) (held b) (held s) before now proofs name
 Means held (Some (task.Gen seed regroup conflicts)) before now proofs name = GenMeans (record { seed = seed; regroup = regroup; conflicts = conflicts }) before now proofs name
+Means held (Some (task.Lrat f l)) before now proofs name = LratMeans (held f) (held l) before now name
 
 -- Where the job can be done, it ends so, if no read and no write fails; words that are no job are told.
 abbrev pub IsComplete : Held → Option Task → StatusName → Type 0
@@ -30,3 +32,4 @@ IsComplete held (Some (task.Graph a mode)) name = IsGraphComplete mode (held a) 
 IsComplete held (Some (task.Sim a s mode power reset)) name = IsSimComplete mode (held a) (held s) power name
 IsComplete held (Some (task.Replay a b s mode)) name = IsReplayComplete mode (held a) (held b) (held s) name
 IsComplete held (Some (task.Gen seed regroup conflicts)) name = IsGenAnswer name
+IsComplete held (Some (task.Lrat f l)) name = IsLratComplete (held f) (held l) name

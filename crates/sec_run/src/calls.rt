@@ -5,8 +5,8 @@ ghost use Rattle.std.specs.List.{All};
 ghost use Rattle.sec_base.specs.Outside.{Rose, SameHeld, NoneFell};
 ghost use Rattle.command_line.specs.Jobs.{job_of};
 ghost use Rattle.job_base.specs.Lines.{finding_text};
-ghost use Rattle.job_files.specs.Reading.{ReadFailed};
-ghost use Rattle.sec_run.specs.Job.{paths_of, paths_in, HasFewConflicts};
+ghost use Rattle.job_base.specs.Reading.{ReadFailedAfter};
+ghost use Rattle.sec_run.specs.Job.{paths_of, paths_in, GoesOn, GoesOnIn, HasFewConflicts};
 ghost use Rattle.sec_run.specs.Answer.{IsFinding, IsTaken};
 ghost use Rattle.sec_run.specs.Ends.{Found};
 ghost use Rattle.sec_run.specs.Promises.{Means, IsComplete};
@@ -16,6 +16,7 @@ use job_base::{Finding, Status, StatusName, Stop, finish};
 use job_check::{Comparison, check};
 use job_circuit::{Simulation, simulate, tell_graph};
 use job_gen::{Generation, compare_generated};
+use job_lrat::{Refutation, check_refutation};
 use job_replay::{Replay, replay_files};
 use sec_base::{Shelf, Sink, Word};
 use std::alloc::Global;
@@ -76,6 +77,13 @@ fn find<S: Shelf>(alloc: Global, task: &Task, shelf: &mut S) -> Result<Finding, 
             };
             compare_generated(alloc, &generation)
         }
+        Task::Lrat { f, l } => {
+            let refutation = Refutation {
+                clauses: f.as_str(),
+                proof: l.as_str(),
+            };
+            check_refutation(alloc, &refutation, shelf)
+        }
     }
 }
 
@@ -99,7 +107,7 @@ pub fn run_job<S: Shelf, W: Sink>(alloc: Global, task: &Task, shelf: &mut S, out
     ensures taken { IsTaken (W.taken out.old) (W.taken out.new) (S.held shelf.old) (Some task.now) result }
     // What the status says of what is held.
     ensures means { Means (S.held shelf.old) (Some task.now) (W.taken out.old) (W.taken out.new) result.proofs result.name }
-    ensures read_fault { result.name ≡ StatusName.ReadFault → ReadFailed (S.held shelf.old) (S.faults shelf.old) (S.faults shelf.new) (paths_of task.now) }
+    ensures read_fault { result.name ≡ StatusName.ReadFault → ReadFailedAfter (GoesOn task.now) (S.held shelf.old) (S.faults shelf.old) (S.faults shelf.new) (paths_of task.now) }
     ensures write_fault { result.name ≡ StatusName.WriteFault → Rose (W.faults out.old) (W.faults out.new) }
     // Where no read and no write fails, what can be done is done.
     ensures complete { result.name ≢ StatusName.ReadFault → result.name ≢ StatusName.WriteFault → IsComplete (S.held shelf.old) (Some task.now) result.name }
@@ -123,7 +131,7 @@ pub fn run<S: Shelf, W: Sink>(alloc: Global, words: &[String], shelf: &mut S, ou
     ensures taken { IsTaken (W.taken out.old) (W.taken out.new) (S.held shelf.old) (job_of (map (λ w. string_bytes w) words.now)) result }
     // What the status says of what is held.
     ensures means { Means (S.held shelf.old) (job_of (map (λ w. string_bytes w) words.now)) (W.taken out.old) (W.taken out.new) result.proofs result.name }
-    ensures read_fault { result.name ≡ StatusName.ReadFault → ReadFailed (S.held shelf.old) (S.faults shelf.old) (S.faults shelf.new) (paths_in (job_of (map (λ w. string_bytes w) words.now))) }
+    ensures read_fault { result.name ≡ StatusName.ReadFault → ReadFailedAfter (GoesOnIn (job_of (map (λ w. string_bytes w) words.now))) (S.held shelf.old) (S.faults shelf.old) (S.faults shelf.new) (paths_in (job_of (map (λ w. string_bytes w) words.now))) }
     ensures write_fault { result.name ≡ StatusName.WriteFault → Rose (W.faults out.old) (W.faults out.new) }
     // Where no read and no write fails, what can be done is done.
     ensures complete { result.name ≢ StatusName.ReadFault → result.name ≢ StatusName.WriteFault → IsComplete (S.held shelf.old) (job_of (map (λ w. string_bytes w) words.now)) result.name }

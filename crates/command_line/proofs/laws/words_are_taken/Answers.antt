@@ -1,4 +1,4 @@
-use Rattle.command_line.proofs.TakenWords.{check_is_taken, graph_is_taken, sim_is_taken, replay_is_taken, gen_is_taken, reset_is_taken, other_is_no_job, reset_is_no_job}
+use Rattle.command_line.proofs.TakenWords.{check_is_taken, graph_is_taken, sim_is_taken, replay_is_taken, gen_is_taken, lrat_is_taken, reset_is_taken, other_is_no_job, reset_is_no_job}
 use Rattle.command_line.proofs.laws.words_are_taken.Goals as goal
 
 pub returns : goal.returns
@@ -8,6 +8,7 @@ returns c = record {
   of_sim = sim_is_taken;
   of_replay = replay_is_taken;
   of_gen = gen_is_taken;
+  of_lrat = lrat_is_taken;
   of_reset = reset_is_taken;
   of_other = other_is_no_job;
   of_clash = reset_is_no_job;

@@ -2,10 +2,10 @@ use Rattle.std.specs.List.{All}
 use Rattle.std.proofs.Common.{◌≡◌, [], sym, subst, ap, refl, Option, None, Err}
 use Rattle.command_line.specs.declared.task.Task.{Task}
 use Rattle.job_base.specs.declared.finding.Finding.TheVariants as finding
+use Rattle.job_base.specs.Reading.{ReadFailedAfter}
 use Rattle.job_base.proofs.Meaning.{no_read_fault}
-use Rattle.job_files.specs.Reading.{ReadFailed}
 use Rattle.sec_run.specs.Answer.{IsTaken, IsFinding}
-use Rattle.sec_run.specs.Job.{paths_in}
+use Rattle.sec_run.specs.Job.{paths_in, GoesOnIn}
 use Rattle.sec_run.specs.Promises.{Means, IsComplete}
 use Rattle.sec_run.proofs.Conflicts.{few_conflicts}
 use Rattle.sec_run.proofs.Means.{written_ends}
@@ -26,7 +26,7 @@ returns-in-Ok-clause-means g c =
 
 pub returns-in-Ok-clause-read_fault : goal.returns-in-Ok-clause-read_fault
 returns-in-Ok-clause-read_fault g c is =
-    subst (λ (job : Option Task). ReadFailed (g.S.Shelf.held c.args.shelf.now) (g.S.Shelf.faults c.args.shelf.now) (g.S.Shelf.faults c.run_job.new.shelf) (paths_in job)) (sym c.in-Ok.ensures.job)
+    subst (λ (job : Option Task). ReadFailedAfter (GoesOnIn job) (g.S.Shelf.held c.args.shelf.now) (g.S.Shelf.faults c.args.shelf.now) (g.S.Shelf.faults c.run_job.new.shelf) (paths_in job)) (sym c.in-Ok.ensures.job)
     (c.run_job.ensures.read_fault is)
 
 pub returns-in-Ok-clause-complete : goal.returns-in-Ok-clause-complete

@@ -22,3 +22,4 @@ returns-clause-formula c =
     let s = c.args.self in
     all_there s.header s.entries.items (sym s.counted ∙ c.if-self.false) (sym s.last ∙ c.if-self-2.false)
     ∙ ap (λ (cs : List (List Literal)). Ok (record { variables = s.header.variables; clauses = cs })) (sym (c.in_ok-clauses.ensures ∙ ap (clauses_from []) c.as_slice.ensures.value))
+    ∙ ap Ok (sym c.new.ensures)
