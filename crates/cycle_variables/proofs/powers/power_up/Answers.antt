@@ -22,7 +22,7 @@ bits_from-requires c =
     }
 
 pub powers_of-requires : goal.powers_of-requires
-powers_of-requires c = ap length c.as_slice.ensures.value ∙ (c.in_ok-free.ensures.size ∙ (c.len-count.ensures ∙ ap length c.latches.ensures))
+powers_of-requires c = ap length c.as_slice.ensures.value ∙ (c.in_ok-free.ensures.size ∙ ap length c.latches-count.ensures)
 
 pub returns : goal.returns
 returns c =
@@ -32,8 +32,8 @@ returns c =
     let bits = c.args.bits.now in
     let first = at_first places vars bits c.requires.each c.requires.in_order in
     let to = c.end_of_shift-end.result in
-    let count : c.len-count.result ≡ length (latches_of (circuit_of n)) = c.len-count.ensures ∙ (ap length c.latches.ensures ∙ sym (nets_have_starts n c.keeps.ensures.sound).2) in
-    powers_ok (circuit_of n) c.args.base c.len-count.result (bits_at places vars bits) c.as_slice.result.now c.powers_of.result count
+    let count : length c.latches-count.result.now ≡ length (latches_of (circuit_of n)) = ap length c.latches-count.ensures ∙ sym (nets_have_starts n c.keeps.ensures.sound).2 in
+    powers_ok (circuit_of n) c.args.base (length c.latches-count.result.now) (bits_at places vars bits) c.as_slice.result.now c.powers_of.result count
     (λ j h.
     ap (λ (l : List Bool). get_or l j false) c.as_slice.ensures.value
     ∙ (c.in_ok-free.ensures.bits j h ∙ window places vars bits c.requires.each c.requires.in_order 0 0 to first c.end_of_shift-end.ensures (c.args.base + j)))
