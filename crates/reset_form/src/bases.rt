@@ -22,8 +22,8 @@ pub(crate) fn bases_of(setup: &Setup<'_>) -> Result<Bases, NoMemory>
     setup.right.keeps();
     let inputs = above(setup.orders.left.as_slice()).max(above(setup.orders.right.as_slice()));
     let left = inputs.max(setup.columns.len() as u64);
-    let right = left + setup.left.latches().len() as u64;
-    if right + setup.right.latches().len() as u64 >= LATCH_NUMBERS {
+    let right = left.saturating_add(setup.left.latches().len() as u64);
+    if right.saturating_add(setup.right.latches().len() as u64) >= LATCH_NUMBERS {
         return Err(NoMemory);
     }
     Ok(Bases {
