@@ -190,7 +190,7 @@ module _ (s : Setup) (side : SignalPair → ℕ) (pairs : List SignalPair) (tops
       let at = at_of pairs x h in
       let top = zip_right (IsTopOf s side) pairs tops are at.0 x at.1 in
       let same : depth ≡ top.0.0 = one_pair_depth (circuit_of s.left.now) (circuit_of s.right.now) x.left.0 x.right.0 depth top.0.0 is top.2.depth in
-      (top.0, of_at tops at.0 top.0 top.1, omega (arith, below, same), signal ∙ sym top.2.signal)
+      (top.0, of_at tops at.0 top.0 top.1, (omega (arith, below, same), signal ∙ sym top.2.signal))
 
 -- the tops are of signals of the net
 pub tops_within : (s : Setup) (side : SignalPair → ℕ) (pairs : List SignalPair) (tops : List (ℕ × ℕ)) (size : ℕ) → AllZip (IsTopOf s side) pairs tops → ((x : SignalPair) → Contains pairs x → side x < size) → All (λ (p : ℕ × ℕ). p.1 < size) tops

@@ -41,17 +41,17 @@ module _ (s : Setup) (b : Bases) (f : Functions) (h : AreSound s b f) (pairs : L
       let z = zip_left (AskedOf s b f) pairs asked are x.pair o first.asked_at in
       let a = zip_right (IsAnswered f.aig conflicts) asked d.results decided.results x.pair o first.asked_at in
       let r : a.0 ≡ first.result = same_Some a.0 first.result (sym a.1 ∙ first.result_at) in
-      not_unshown a.0.answer a.0.proof (ap (λ (y : PairResult). y.answer) r ∙ first.answered) z.2.decisive_is a.2.answer_is
+      not_unshown o a.0.answer a.0.proof (ap (λ (y : PairResult). y.answer) r ∙ first.answered) z.2.decisive_is a.2.answer_is
     where
       no : true ≡ false → ⊥
       no e = cc
 
-      not_unshown : {o : Obligation} (y : PairAnswer) (proof : Option Proof) → y ≡ answer.NotShown → o.decisive ≡ true → AnswerIs f.aig conflicts o y proof → ⊥
-      not_unshown answer.NotShown None e decisive k = no (sym decisive ∙ k.0)
-      not_unshown answer.NotShown (Some proof) e decisive k = k
-      not_unshown answer.Equal proof e decisive k = cc
-      not_unshown answer.Different proof e decisive k = cc
-      not_unshown answer.Limit proof e decisive k = cc
+      not_unshown : (o : Obligation) (y : PairAnswer) (proof : Option Proof) → y ≡ answer.NotShown → o.decisive ≡ true → AnswerIs f.aig conflicts o y proof → ⊥
+      not_unshown o answer.NotShown None e decisive k = no (sym decisive ∙ k.0)
+      not_unshown o answer.NotShown (Some proof) e decisive k = k
+      not_unshown o answer.Equal proof e decisive k = cc
+      not_unshown o answer.Different proof e decisive k = cc
+      not_unshown o answer.Limit proof e decisive k = cc
 
   -- the verdict can be shown
   pub can_be_shown : (y : VerdictAt) → IsVerdictAt d.different d.not_shown d.results y → CanBeShown f asked d.results y

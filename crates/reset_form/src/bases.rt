@@ -1,6 +1,6 @@
 //! The numbers of the latches' variables.
 
-ghost use Rattle.std.specs.Prelude.{◌<◌, ◌≤◌, ◌^◌, All, IfOk};
+ghost use Rattle.std.specs.Prelude.{◌≡◌, ◌<◌, max, All, IfOk};
 ghost use Rattle.reset_form.specs.Bases.{AreBases};
 
 use sec_base::NoMemory;
@@ -20,8 +20,10 @@ pub(crate) fn bases_of(setup: &Setup<'_>) -> Result<Bases, NoMemory>
 {
     setup.left.keeps();
     setup.right.keeps();
-    let inputs = above(setup.orders.left.as_slice()).max(above(setup.orders.right.as_slice()));
-    let left = inputs.max(setup.columns.len() as u64);
+    let left = above(setup.orders.left.as_slice());
+    let right = above(setup.orders.right.as_slice());
+    let inputs = greater(left, right);
+    let left = greater(inputs, setup.columns.len() as u64);
     let right = left.saturating_add(setup.left.latches().len() as u64);
     if right.saturating_add(setup.right.latches().len() as u64) >= LATCH_NUMBERS {
         return Err(NoMemory);
@@ -37,12 +39,18 @@ const LATCH_NUMBERS: u64 = 1 << 31;
 
 /// A number above all of these.
 fn above(numbers: &[u32]) -> u64
-    ensures above { All (λ i. i < result) numbers.now }
-    ensures small { result ≤ 2 ^ 32 }
+    ensures { All (λ i. i < result) numbers.now }
 {
     let mut above = 0;
     for number in numbers {
-        above = above.max(u64::from(*number) + 1);
+        above = greater(above, u64::from(*number) + 1);
     }
     above
+}
+
+/// The greater of two numbers.
+fn greater(a: u64, b: u64) -> u64
+    ensures { result ≡ max a b }
+{
+    if a < b { b } else { a }
 }

@@ -77,6 +77,7 @@ fn witness_at(
 {
     let obligation = &asked[difference.pair];
     let query = &obligation.queries.as_slice()[difference.query];
+    let cycle = difference.query.min(obligation.size as usize) as u32;
     witness_of(
         alloc,
         setup,
@@ -85,6 +86,6 @@ fn witness_at(
         query,
         &difference.bits,
         &obligation.name,
-        difference.query as u32,
+        cycle,
     )
 }

@@ -14,10 +14,10 @@ below_next xs i d above made inside is below =
     (All-push (λ y. y < made) (take i xs) x (All-weaker (λ y. y < above) (λ y. y < made) (λ y h. omega (arith, h, is)) (take i xs) below) (omega (arith, is)))
 
 pub loop-number-preserved : goal.loop-number-preserved
-loop-number-preserved c = record {
-  below = below_next c.args.numbers.now c.loop-number.number-index _ c.loop-number.above _ c.loop-number-test.true c.max.ensures c.loop-number.invariant.below;
-  small = omega arith;
-}
+loop-number-preserved c =
+    let i = c.loop-number.number-index in
+    let is : c.greater-above.result ≡ max c.loop-number.above (get_or c.args.numbers.now i 0 + 1) = omega (arith, c.greater-above.ensures, c.from.ensures) in
+    below_next c.args.numbers.now i 0 c.loop-number.above c.greater-above.result c.loop-number-test.true is c.loop-number.invariant
 
-pub returns-clause-above : goal.returns-clause-above
-returns-clause-above c = subst (All (λ i. i < c.loop-number.above)) (take_all c.loop-number.number-index c.args.numbers.now c.loop-number-test.false) c.loop-number.invariant.below
+pub returns : goal.returns
+returns c = subst (All (λ i. i < c.loop-number.above)) (take_all c.loop-number.number-index c.args.numbers.now c.loop-number-test.false) c.loop-number.invariant

@@ -1,6 +1,6 @@
-use Rattle.std.proofs.Common.{◌^◌, ◌<◌, ◌≤◌, take}
+use Rattle.std.proofs.Common.{◌<◌, take}
 use Rattle.std.specs.List.{All}
 use Rattle.reset_form.proofs.bases.above.Given as goal
 
 abbrev pub invariant-loop-number : goal.invariant-loop-number
-invariant-loop-number l = record { below : All (λ i. i < l.above) (take l.number-index l.numbers); small : l.above ≤ 2 ^ 32 }
+invariant-loop-number l = All (λ i. i < l.above) (take l.number-index l.numbers)
