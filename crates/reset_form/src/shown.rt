@@ -1,6 +1,6 @@
 //! The verdict of a comparison, with what shows it.
 
-ghost use Rattle.std.specs.Prelude.{◌≡◌, IfOk};
+ghost use Rattle.std.specs.Prelude.{◌≡◌, ◌≤◌, IfOk};
 ghost use Rattle.sec_base.specs.Table.{AreDistinct};
 ghost use Rattle.reset_form.specs.Shown.{CanBeShown, IsShowable, IsShown, IsWitnessAt};
 
@@ -77,7 +77,7 @@ fn witness_at(
 {
     let obligation = &asked[difference.pair];
     let query = &obligation.queries.as_slice()[difference.query];
-    let cycle = difference.query.min(obligation.size as usize) as u32;
+    let cycle = cycle_of(difference.query, obligation.size);
     witness_of(
         alloc,
         setup,
@@ -88,4 +88,12 @@ fn witness_at(
         &obligation.name,
         cycle,
     )
+}
+
+/// The cycle of the query at a place, which is at most the depth.
+fn cycle_of(query: usize, depth: u32) -> u32
+    requires { query ≤ depth }
+    ensures { result ≡ query }
+{
+    query as u32
 }

@@ -1,5 +1,5 @@
 -- The obligation and the query are those of the difference.
-use Rattle.std.proofs.Common.{◌≡◌, ◌∙◌, ◌*◌, ◌<◌, ◌≤◌, ℕ, List, length, slice_get, Result, Ok, Err, IfOk, Some, sym, ap, subst, arith}
+use Rattle.std.proofs.Common.{◌≡◌, ◌∙◌, ◌*◌, ◌<◌, ◌≤◌, ℕ, List, length, slice_get, Result, Ok, Err, IfOk, Some, sym, ap, subst}
 use Rattle.std.proofs.lemmas.Option.{get_or_from_slice_get}
 use Rattle.pair_decide.specs.declared.query.Query.{Query}
 use Rattle.obligations.specs.declared.obligation.Obligation.{Obligation}
@@ -46,6 +46,15 @@ module _ (f : Functions) (asked : List Obligation) (d : Difference) (shown : IsS
   }
   made s b cycle is (Err e) h = h
 
+pub cycle_of-cycle-requires : goal.cycle_of-cycle-requires
+cycle_of-cycle-requires c =
+    let asked = c.args.asked.now in
+    let d = c.args.difference.now in
+    let o : Obligation = c.index-asked-difference.result in
+    let q : Query = c.index-as_slice-difference.result in
+    within c.args.functions.now asked d c.requires.shown o (λ at. c.index-asked-difference.is ∙ get_or_from_slice_get asked d.pair _ o at) c.as_slice.result.now c.as_slice.ensures q
+    (λ at. c.index-as_slice-difference.is ∙ get_or_from_slice_get c.as_slice.result.now d.query _ q at)
+
 pub witness_of-requires-clause-left : goal.witness_of-requires-clause-left
 witness_of-requires-clause-left c =
     let asked = c.args.asked.now in
@@ -91,5 +100,4 @@ returns c =
     let q : Query = c.index-as_slice-difference.result in
     let o_is : slice_get asked d.pair ≡ Some c.requires.shown.obligation → o ≡ c.requires.shown.obligation = λ at. c.index-asked-difference.is ∙ get_or_from_slice_get asked d.pair _ o at in
     let q_is : slice_get c.as_slice.result.now d.query ≡ Some c.requires.shown.query → q ≡ c.requires.shown.query = λ at. c.index-as_slice-difference.is ∙ get_or_from_slice_get c.as_slice.result.now d.query _ q at in
-    let low : d.query ≤ o.size = within f asked d c.requires.shown o o_is c.as_slice.result.now c.as_slice.ensures q q_is in
-    made f asked d c.requires.shown o o_is c.as_slice.result.now c.as_slice.ensures q q_is c.args.setup.now c.args.bases _ (omega (arith, low, c.min-cycle.ensures)) c.witness_of.result c.witness_of.ensures
+    made f asked d c.requires.shown o o_is c.as_slice.result.now c.as_slice.ensures q q_is c.args.setup.now c.args.bases c.cycle_of-cycle.result c.cycle_of-cycle.ensures c.witness_of.result c.witness_of.ensures
