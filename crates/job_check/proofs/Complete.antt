@@ -103,6 +103,7 @@ module _ (held : Held) (check : Check) (told : AreTold held check) where
       go : (v : Verdict) → IsAnswer (verdict_status v)
       go verdict.Equal = tt
       go (verdict.Different w) = tt
+      go (verdict.DifferentFrom w) = tt
       go (verdict.NotShown reason) = tt
       go (verdict.Limit at) = tt
 

@@ -8,6 +8,7 @@ use Rattle.flat_net.specs.View.{NetView}
 use Rattle.pair_decide.specs.declared.query.Proof.{Proof}
 use Rattle.outcome.specs.declared.verdict.LimitAt.{LimitAt}
 use Rattle.outcome.specs.declared.verdict.Outcome.{Outcome}
+use Rattle.outcome.specs.declared.verdict.ResetWitness.{ResetWitness}
 use Rattle.outcome.specs.declared.verdict.Verdict.{Verdict}
 use Rattle.outcome.specs.declared.verdict.Verdict.TheVariants as verdict
 use Rattle.outcome.specs.declared.verdict.Why.TheVariants as why
@@ -22,7 +23,7 @@ use Rattle.job_files.specs.Reading.{Held}
 use Rattle.job_check.specs.Check.{Check}
 use Rattle.job_check.specs.Answer.{CheckMeans, TextsAgree, TextsDiffer, TextsNotShown, TextsUndecided}
 use Rattle.job_check.specs.Found.{OfTexts, OfNets, IsFoundOf}
-use Rattle.job_check.proofs.Texts.{texts_agree, texts_differ, texts_not_shown, texts_undecided}
+use Rattle.job_check.proofs.Texts.{texts_agree, texts_always, texts_differ, texts_not_shown, texts_undecided}
 
 if_some : {X : Type 0} {F G : X → Type 0} (o : Option X) → ((x : X) → F x → G x) → IfSome o F → IfSome o G
 if_some None f h = tt
@@ -36,33 +37,37 @@ over_nets held check P Q each h = if_some (held check.left) (λ x here. if_some 
 equal_verdict : (v : Verdict) → verdict_status v ≡ status.Equal → v ≡ verdict.Equal
 equal_verdict verdict.Equal e = refl
 equal_verdict (verdict.Different w) e = absurd (cc)
+equal_verdict (verdict.DifferentFrom w) e = absurd (cc)
 equal_verdict (verdict.NotShown reason) e = absurd (cc)
 equal_verdict (verdict.Limit at) e = absurd (cc)
 
-different_verdict : (v : Verdict) → verdict_status v ≡ status.Different → (w : Witness) × (v ≡ verdict.Different w)
-different_verdict verdict.Equal e = absurd (cc)
-different_verdict (verdict.Different w) e = (w, refl)
-different_verdict (verdict.NotShown reason) e = absurd (cc)
-different_verdict (verdict.Limit at) e = absurd (cc)
+different_verdict : (v : Verdict) → ((w : ResetWitness) → v ≡ verdict.DifferentFrom w → ⊥) → verdict_status v ≡ status.Different → (w : Witness) × (v ≡ verdict.Different w)
+different_verdict verdict.Equal always e = absurd (cc)
+different_verdict (verdict.Different w) always e = (w, refl)
+different_verdict (verdict.DifferentFrom w) always e = absurd (always w refl)
+different_verdict (verdict.NotShown reason) always e = absurd (cc)
+different_verdict (verdict.Limit at) always e = absurd (cc)
 
 not_shown_verdict : (v : Verdict) → verdict_status v ≡ status.NotShown → (w : Witness) × (v ≡ verdict.NotShown (why.Cut w))
 not_shown_verdict verdict.Equal e = absurd (cc)
 not_shown_verdict (verdict.Different w) e = absurd (cc)
+not_shown_verdict (verdict.DifferentFrom w) e = absurd (cc)
 not_shown_verdict (verdict.NotShown (why.Cut w)) e = (w, refl)
 not_shown_verdict (verdict.Limit at) e = absurd (cc)
 
 limit_verdict : (v : Verdict) → verdict_status v ≡ status.Limit → (at : LimitAt) × (v ≡ verdict.Limit at)
 limit_verdict verdict.Equal e = absurd (cc)
 limit_verdict (verdict.Different w) e = absurd (cc)
+limit_verdict (verdict.DifferentFrom w) e = absurd (cc)
 limit_verdict (verdict.NotShown reason) e = absurd (cc)
 limit_verdict (verdict.Limit at) e = (at, refl)
 
 -- a report by the settings of the comparison
-report_of : (before now : Option (List ℕ)) (o : Outcome) (s : Settings) (check : Check) → s ≡ check.settings → Takes before now (report_text s.conflicts o) → Takes before now (report_text check.settings.conflicts o)
-report_of before now o s check e taken = subst (λ (t : Settings). Takes before now (report_text t.conflicts o)) e taken
+report_of : (before now : Option (List ℕ)) (o : Outcome) (s : Settings) (check : Check) → s ≡ check.settings → Takes before now (report_text s o) → Takes before now (report_text check.settings o)
+report_of before now o s check e taken = subst (λ (t : Settings). Takes before now (report_text t o)) e taken
 
 equal_found : (held : Held) (check : Check) (before now : Option (List ℕ)) (f : Finding) (proofs : List Proof) → IsFoundOf held check f → IsWrittenAs before now f proofs status.Equal →
-    OfTexts held check (λ x y. TextsAgree x y check.settings.conflicts before now)
+    OfTexts held check (λ x y. TextsAgree x y check.settings before now)
 equal_found held check before now finding.Words proofs h w = absurd h
 equal_found held check before now (finding.Refused r) proofs h w = absurd (let e = w.1 in cc)
 equal_found held check before now (finding.Cyclic side names) proofs h w = absurd (let e = w.1 in cc)
@@ -73,10 +78,10 @@ equal_found held check before now (finding.Replayed differences) proofs h w = ab
 equal_found held check before now (finding.Undecided side name proof) proofs h w = absurd h
 equal_found held check before now (finding.Checked o s) proofs h w =
     let v = equal_verdict o.verdict w.1 in
-    over_nets held check _ (λ x y. TextsAgree x y check.settings.conflicts before now) (λ x y a b left right compared. texts_agree before now check.settings o (report_of before now o s check h.0 w.2) x y a b left right compared v) h.1
+    over_nets held check _ (λ x y. TextsAgree x y check.settings before now) (λ x y a b left right compared. texts_agree before now check.settings o (report_of before now o s check h.0 w.2) x y a b left right compared v) h.1
 
 different_found : (held : Held) (check : Check) (before now : Option (List ℕ)) (f : Finding) (proofs : List Proof) → IsFoundOf held check f → IsWrittenAs before now f proofs status.Different →
-    OfTexts held check (λ x y. TextsDiffer x y check.settings.conflicts before now)
+    OfTexts held check (λ x y. TextsDiffer x y check.settings before now)
 different_found held check before now finding.Words proofs h w = absurd h
 different_found held check before now (finding.Refused r) proofs h w = absurd (let e = w.1 in cc)
 different_found held check before now (finding.Cyclic side names) proofs h w = absurd (let e = w.1 in cc)
@@ -86,8 +91,11 @@ different_found held check before now (finding.Generated o report) proofs h w = 
 different_found held check before now (finding.Replayed differences) proofs h w = absurd h
 different_found held check before now (finding.Undecided side name proof) proofs h w = absurd h
 different_found held check before now (finding.Checked o s) proofs h w =
-    let v = different_verdict o.verdict w.1 in
-    over_nets held check _ (λ x y. TextsDiffer x y check.settings.conflicts before now) (λ x y a b left right compared. texts_differ before now check.settings o (report_of before now o s check h.0 w.2) x y a b left right compared v.0 v.1) h.1
+    over_nets held check _ (λ x y. TextsDiffer x y check.settings before now)
+    (λ x y a b left right compared.
+    let taken = report_of before now o s check h.0 w.2 in
+    let v = different_verdict o.verdict (texts_always before now check.settings o taken x y a b left right compared) w.1 in
+    texts_differ before now check.settings o taken x y a b left right compared v.0 v.1) h.1
 
 not_shown_found : (held : Held) (check : Check) (before now : Option (List ℕ)) (f : Finding) (proofs : List Proof) → IsFoundOf held check f → IsWrittenAs before now f proofs status.NotShown →
     OfTexts held check (λ x y. TextsNotShown x y check.settings before now)
@@ -121,6 +129,7 @@ limit_found held check before now (finding.Checked o s) proofs h w =
 no_done_verdict : (v : Verdict) → verdict_status v ≡ status.Done → ⊥
 no_done_verdict verdict.Equal e = cc
 no_done_verdict (verdict.Different w) e = cc
+no_done_verdict (verdict.DifferentFrom w) e = cc
 no_done_verdict (verdict.NotShown reason) e = cc
 no_done_verdict (verdict.Limit at) e = cc
 

@@ -35,7 +35,7 @@ use Rattle.job_check.specs.Found.{OfTexts}
 -- The circuits that the two texts spell agree, and agree onward over the exposed latches that are printed, which are a minimal cut of
 -- them; so in any two runs of theirs with equal inputs in which these are equal from the start up to the printed cycle, they are equal
 -- for ever, and the outputs from that cycle on. The same is said of the flat nets that the texts load as.
-pub record TextsAgree (x y : List ℕ) (conflicts : ℕ) (before now : Option (List ℕ)) : Type 0 where
+pub record TextsAgree (x y : List ℕ) (settings : Settings) (before now : Option (List ℕ)) : Type 0 where
   pub left_clock : Option (List ℕ)
   pub right_clock : Option (List ℕ)
   pub left : Circuit Place
@@ -48,14 +48,14 @@ pub record TextsAgree (x y : List ℕ) (conflicts : ℕ) (before now : Option (L
   pub right_loads : Loads y right_net
   pub outcome : Outcome
   pub is_verdict : outcome.verdict ≡ verdict.Equal
-  pub printed : Takes before now (report_text conflicts outcome)
+  pub printed : Takes before now (report_text settings outcome)
   pub minimal : IsMinimalCut Plain left right outcome.exposed
   pub says : SaysEqual Plain outcome left right
   pub nets_say : SaysEqual Plain outcome (circuit_of left_net) (circuit_of right_net)
 
 -- The circuits that the two texts spell differ in all runs over the sequence that is printed behind what was written before. No latch
 -- is cut open.
-pub record TextsDiffer (x y : List ℕ) (conflicts : ℕ) (before now : Option (List ℕ)) : Type 0 where
+pub record TextsDiffer (x y : List ℕ) (settings : Settings) (before now : Option (List ℕ)) : Type 0 where
   pub left_clock : Option (List ℕ)
   pub right_clock : Option (List ℕ)
   pub left : Circuit Place
@@ -66,7 +66,7 @@ pub record TextsDiffer (x y : List ℕ) (conflicts : ℕ) (before now : Option (
   pub witness : Witness
   pub is_verdict : outcome.verdict ≡ verdict.Different witness
   pub uncut : outcome.exposed ≡ []
-  pub printed : Takes before now (report_text conflicts outcome)
+  pub printed : Takes before now (report_text settings outcome)
   pub says : SaysDifferent Plain witness left right
 
 -- Latches were to be cut open, and the exposed ones that are printed are some: a minimal cut of the circuits that the two texts spell.
@@ -87,7 +87,7 @@ pub record TextsNotShown (x y : List ℕ) (settings : Settings) (before now : Op
   pub outcome : Outcome
   pub witness : Witness
   pub is_verdict : outcome.verdict ≡ verdict.NotShown (why.Cut witness)
-  pub printed : Takes before now (report_text settings.conflicts outcome)
+  pub printed : Takes before now (report_text settings outcome)
   pub exposes : settings.expose ≡ true
   pub exposed : outcome.exposed ≢ []
   pub minimal : IsMinimalCut Plain left right outcome.exposed
@@ -120,7 +120,7 @@ pub record TextsUndecided (x y : List ℕ) (settings : Settings) (proofs : List 
   pub kept : Contains proofs proof
   pub undecided : IsUndecided (circuit_of left_cut) (circuit_of right_cut) left right settings.conflicts named.left named.right proof
   pub is_verdict : outcome.verdict ≡ verdict.Limit (limit_at.Pair named.name)
-  pub printed : Takes before now (report_text settings.conflicts outcome)
+  pub printed : Takes before now (report_text settings outcome)
 
 -- Both texts are accepted, their interfaces match, and no unfolding is too large. No latch graph has a cycle; where latches are to be cut
 -- open, none is left without the latches that both circuits name.
@@ -151,8 +151,8 @@ IsAnswer status.Done = ⊥
 
 -- What the status says of two texts that are compared, and of what is written: a comparison makes no report on circuits.
 abbrev pub CheckMeans : Held → Check → Option (List ℕ) → Option (List ℕ) → List Proof → StatusName → Type 0
-CheckMeans held check before now proofs status.Equal = OfTexts held check (λ x y. TextsAgree x y check.settings.conflicts before now)
-CheckMeans held check before now proofs status.Different = OfTexts held check (λ x y. TextsDiffer x y check.settings.conflicts before now)
+CheckMeans held check before now proofs status.Equal = OfTexts held check (λ x y. TextsAgree x y check.settings before now)
+CheckMeans held check before now proofs status.Different = OfTexts held check (λ x y. TextsDiffer x y check.settings before now)
 CheckMeans held check before now proofs status.NotShown = OfTexts held check (λ x y. TextsNotShown x y check.settings before now)
 CheckMeans held check before now proofs status.Limit = OfTexts held check (λ x y. TextsUndecided x y check.settings proofs before now)
 CheckMeans held check before now proofs status.Done = ⊥
