@@ -127,7 +127,7 @@ pub fn run_on_one_text<S: Shelf, W: Sink>(
     shelf: &mut S,
     out: &mut W,
 ) -> Status
-    ensures { OfCheck (job_of (map (λ w. string_bytes w) words.now)) (λ check. OfOneText (S.held shelf.old) check (λ x. AreComparable x x check.settings.expose))
+    ensures { OfCheck (job_of (map (λ w. string_bytes w) words.now)) (λ check. OfOneText (S.held shelf.old) check (λ x. AreComparable x x check.settings.expose check.settings.reset))
         → result.name ≢ StatusName.ReadFault → result.name ≢ StatusName.WriteFault → IsEqualAnswer result.name }
 {
     run(alloc, words, shelf, out)
