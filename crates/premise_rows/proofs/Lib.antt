@@ -14,3 +14,5 @@ pub mod Stimuli
 pub mod Nested
 pub mod Replays
 pub mod Started
+pub mod ResetBounds
+pub mod ResetPremises

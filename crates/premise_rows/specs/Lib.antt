@@ -9,3 +9,4 @@ pub mod OneReport
 pub mod CutOpen
 pub mod Replays
 pub mod Started
+pub mod ResetPremises

@@ -7,6 +7,7 @@ ghost use Rattle.job_check.specs.Answer.{AreComparable};
 ghost use Rattle.premise_rows.specs.OneText.{OneTextIsEqual, UnfoldedIsComparable, OfCheck, OfOneText, IsEqualAnswer};
 ghost use Rattle.premise_rows.specs.OneReport.{GraphReportsAreOne, SimReportsAreOne};
 ghost use Rattle.premise_rows.specs.Premises.{AndsAreComparable, RetimedAreComparable, HierarchyIsComparable, CyclicAreComparable, TextsAreAccepted, TextsCanBeUnfolded, RingIsCutOnce};
+ghost use Rattle.premise_rows.specs.ResetPremises.{ResetsAreComparable};
 ghost use Rattle.premise_rows.specs.CutOpen.{NestedIsCutOpen};
 ghost use Rattle.premise_rows.specs.RuledOut.{AndsMeetNoLimit};
 ghost use Rattle.premise_rows.specs.Stimuli.{TwoCanBeRun};
@@ -67,6 +68,11 @@ pub fn ands_meet_no_limit()
 /// Two latches in a row can be run over a stimulus, from a power word and without one.
 pub fn two_can_be_run()
     ensures { TwoCanBeRun }
+{}
+
+/// A retiming that moves initial values along can be compared from these, and so can circuits with latches that may start with either.
+pub fn resets_are_comparable()
+    ensures { ResetsAreComparable }
 {}
 
 /// Three latches power up with their initial values where they have them, and else with the power word.
