@@ -132,7 +132,7 @@ shifts_apart t (x ∷ xs) low apart =
     subst (ShiftsApart (as_shift t x)) z.2 (still_apart t x z.0 (AllPairs-head Apart x xs apart z.0 z.1) (low x (Contains-head x xs)) (low z.0 (Contains-tail x z.0 xs z.1)))))
     (shifts_apart t xs (λ y h. low y (Contains-tail x y xs h)) (AllPairs-tail Apart x xs apart))
 
--- Where the unfoldings of these outputs over shifts weigh less than so much and one more:
+-- where the unfoldings of these outputs over shifts weigh no more than this
 module _ {P : Type 0} (c : Circuit P) (outputs : List P) (weight : ℕ) (light : (cap : ℕ) → IsOver c outputs cap → cap < weight) where
   -- the entry is visited from an output in this cycle
   abbrev pub SeenAt : ℕ → WeighedInCycle P → Type 0
@@ -144,7 +144,7 @@ module _ {P : Type 0} (c : Circuit P) (outputs : List P) (weight : ℕ) (light :
 
   -- from one cycle no more is visited
   one_cycle : (t : ℕ) (xs : List (WeighedInCycle P)) → AllPairs Apart xs → ((x : WeighedInCycle P) → Contains xs x → WeighsAt c x.place x.weight × SeenAt t x) → sum_by cycle_weight xs ≤ weight
-    one_cycle t xs apart each = go (below_or weight (sum_by cycle_weight xs))
+  one_cycle t xs apart each = go (below_or weight (sum_by cycle_weight xs))
     where
       go : (weight < sum_by cycle_weight xs) ⊎ (sum_by cycle_weight xs ≤ weight) → sum_by cycle_weight xs ≤ weight
       go (inr h) = h
