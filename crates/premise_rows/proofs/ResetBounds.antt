@@ -17,11 +17,6 @@ abbrev pub times : ℕ → ℕ → ℕ
 times zero w = 0
 times (suc n) w = w + times n w
 
-pub times_le : (n k w : ℕ) → n ≤ k → times n w ≤ times k w
-times_le zero k w h = omega arith
-times_le (suc n) zero w h = absurd (omega (arith, h))
-times_le (suc n) (suc k) w h = let rest = times_le n k w (omega (arith, h)) in omega (arith, rest)
-
 below_or : (i j : ℕ) → (i < j) ⊎ (j ≤ i)
 below_or i j = grind arith
 
@@ -191,7 +186,7 @@ module _ {P : Type 0} (c : Circuit P) (outputs : List P) (weight : ℕ) (light :
   row_of p {u} k (LatchChain.last latch) v = record {
     places = record { place = u; shift = k; weight = 1 } ∷ [];
     long = sum_by-cons shift_weight (record { place = u; shift = k; weight = 1 }) [];
-    distinct = AllPairs-cons ShiftsApart (record { place = u; shift = k; weight = 1 }) [] (All-from_each _ [] (λ y h. absurd (nothing y h))) (none_apart ShiftsApart);
+    distinct = AllPairs-cons ShiftsApart (record { place = u; shift = k; weight = 1 }) [] (All-from_each (ShiftsApart (record { place = u; shift = k; weight = 1 })) [] (λ y h. absurd (nothing y h))) (none_apart ShiftsApart);
     each = λ x h. only x (Contains-cases (record { place = u; shift = k; weight = 1 }) x [] h);
   }
     where

@@ -1,7 +1,7 @@
 -- Texts of small designs without cycles can be compared from their initial values.
 use Rattle.std.proofs.Common.{◌≡◌, ◌∙◌, ℕ, ◌+◌, ◌<◌, ◌≤◌, true, false, None, List, [], ◌∷◌, ◌++◌, map, refl, sym, ap, subst, arith, inl, inr, ◌⊎◌}
 use Rattle.std.specs.Prelude.{codes, if◌then◌else◌}
-use Rattle.std.specs.List.{Contains, filter}
+use Rattle.std.specs.List.{Contains, filter, sum_by}
 use Rattle.std.proofs.lemmas.List.{append-nil}
 use Rattle.circuit_theory.specs.declared.Side.{Side}
 use Rattle.circuit_theory.specs.declared.Side.TheVariants.{A, B}
@@ -46,11 +46,11 @@ all_kept (Latch name out next ∷ es) = ap (λ rest. Latch name out next ∷ res
 all_kept (Port out from ∷ es) = ap (λ rest. Port out from ∷ rest) (all_kept es)
 
 -- a circuit without latches cut out is the circuit
-circuit_by : {P : Type 0} → Circuit P → List (Named P) → List (Named P) → List (Equation P) → Circuit P
+abbrev circuit_by : {P : Type 0} → Circuit P → List (Named P) → List (Named P) → List (Equation P) → Circuit P
 circuit_by c inputs outputs equations = record { inputs = inputs; outputs = outputs; equations = equations; starts = c.starts }
 
 uncut_is : {P : Type 0} (c : Circuit P) → cut [] c ≡ c
-unfolding cut circuit_by
+unfolding cut
 uncut_is {P} c =
     ap (λ (is : List (Named P)). circuit_by c is (c.outputs ++ []) (filter (is_kept []) c.equations)) (append-nil c.inputs)
     ∙ (ap (λ (os : List (Named P)). circuit_by c c.inputs os (filter (is_kept []) c.equations)) (append-nil c.outputs) ∙ ap (circuit_by c c.inputs c.outputs) (all_kept c.equations))
@@ -120,11 +120,13 @@ module _ (s t : Small) (a b : NetView) (left : IsSmall s a) (right : IsSmall t b
   light_from few_left few_right A (sides, are, over) =
       let h =
       cycles_weigh (circuit_of a) (outputs_in (circuit_of a)) s.weight left_light (s.weight + t.weight + 1) over.places over.distinct (λ y k. (over.weighed y k, left_seen sides are y (over.met y k))) in
-      omega (arith, h, few_left, over.total)
+      let big : 2000000 < sum_by (λ (z : WeighedInCycle ℕ). z.weight) over.places = over.total in
+      omega (arith, h, few_left, big)
   light_from few_left few_right B (fine, sides, are, over) =
       let h =
       cycles_weigh (circuit_of b) (outputs_in (circuit_of b)) t.weight right_light (s.weight + t.weight + 1) over.places over.distinct (λ y k. (over.weighed y k, right_seen sides are y (over.met y k))) in
-      omega (arith, h, few_right, over.total)
+      let big : 2000000 < sum_by (λ (z : WeighedInCycle ℕ). z.weight) over.places = over.total in
+      omega (arith, h, few_right, big)
 
 -- two texts of small designs without cycles
 comparable_from : (x y : List ℕ) (m k : List BlifModel) (s t : Small) → Spells x m s → Spells y k t → PortsMatch s t → s.removed ≡ [] → t.removed ≡ [] →
