@@ -59,9 +59,9 @@ can_answer held check h =
     some_held (held check.left) (λ left. IsSomeAnd (held check.right) (λ right. AreComparable left right check.settings.expose check.settings.reset)) x.text x.left_is
     (some_held (held check.right) (λ right. AreComparable x.text right check.settings.expose check.settings.reset) x.text x.right_is x.comparable)
 
-from_always : {X Y : Type 0} (reset : Bool) → reset ≡ false → ByReset reset X Y → X
-from_always false e h = h
-from_always true e h = absurd (cc)
+from_always : {X : Type 0} (Y : Type 0) (reset : Bool) → reset ≡ false → ByReset reset X Y → X
+from_always Y false e h = h
+from_always Y true e h = absurd (cc)
 
 module _ (held : Held) (check : Check) (h : CanMeetItself held check) (always : check.settings.reset ≡ false) where
   checked : (o : Outcome) → OfNets held check (λ a b. Compared a b check.settings (Ok o)) → o.verdict ≡ verdict.Equal
@@ -69,7 +69,7 @@ module _ (held : Held) (check : Check) (h : CanMeetItself held check) (always : 
       let x = is_held held check h in
       let n = if_held (held check.right) (λ right. (a : NetView) × (b : NetView) × Loads x.text a × Loads right b × Compared a b check.settings (Ok o)) x.text x.right_is
       (if_held (held check.left) (λ left. IfSome (held check.right) (λ right. (a : NetView) × (b : NetView) × Loads left a × Loads right b × Compared a b check.settings (Ok o))) x.text x.left_is found) in
-      one_text_is_equal x.text n.0 n.1 n.2 n.3 check.settings o (from_always check.settings.reset always n.4)
+      one_text_is_equal x.text n.0 n.1 n.2 n.3 check.settings o (from_always _ check.settings.reset always n.4)
 
   found_equal : (f : Finding) → IsFoundOf held check f → IsAnswer (status_of f) → IsEqualAnswer (status_of f)
   found_equal finding.Words found is = absurd found

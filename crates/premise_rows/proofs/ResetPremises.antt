@@ -26,7 +26,7 @@ use Rattle.design_rows.specs.Small.{Small, IsSmall, AreSmall, small_late, small_
 use Rattle.design_rows.proofs.Examples.{at_top, rank_of}
 use Rattle.design_rows.proofs.Tested.{PassesTests, tested_is_small}
 use Rattle.flat_net.specs.View.{NetView, circuit_of}
-use Rattle.reset_laws.specs.Weight.{PlaceInCycle, ResetVisits, WeighedInCycle}
+use Rattle.reset_laws.specs.Weight.{PlaceInCycle, ResetVisits, WeighedInCycle, IsResetOver}
 use Rattle.reset_unfold.specs.Places.{in_cycle, starts_of}
 use Rattle.sec_setup.specs.Pairs.{NamedPair, named_pairs}
 use Rattle.sec_check.specs.FromReset.{IsLeftStart, IsRightStart, AreTooLargeFromReset}
@@ -122,11 +122,14 @@ module _ (s t : Small) (a b : NetView) (left : IsSmall s a) (right : IsSmall t b
       cycles_weigh (circuit_of a) (outputs_in (circuit_of a)) s.weight left_light (s.weight + t.weight + 1) over.places over.distinct (λ y k. (over.weighed y k, left_seen sides are y (over.met y k))) in
       let big : 2000000 < sum_by (λ (z : WeighedInCycle ℕ). z.weight) over.places = over.total in
       omega (arith, h, few_left, big)
-  light_from few_left few_right B (fine, sides, are, over) =
-      let h =
-      cycles_weigh (circuit_of b) (outputs_in (circuit_of b)) t.weight right_light (s.weight + t.weight + 1) over.places over.distinct (λ y k. (over.weighed y k, right_seen sides are y (over.met y k))) in
-      let big : 2000000 < sum_by (λ (z : WeighedInCycle ℕ). z.weight) over.places = over.total in
-      omega (arith, h, few_right, big)
+  light_from few_left few_right B (fine, large) = too_much large.0 large.1 large.2
+    where
+      too_much : (sides : List (ℕ × ℕ)) → ((p : ℕ × ℕ) → Contains sides p → IsRightStart (circuit_of a) (circuit_of b) p) → IsResetOver (circuit_of b) (starts_of sides) 2000000 → ⊥
+      too_much sides are over =
+          let h =
+          cycles_weigh (circuit_of b) (outputs_in (circuit_of b)) t.weight right_light (s.weight + t.weight + 1) over.places over.distinct (λ y k. (over.weighed y k, right_seen sides are y (over.met y k))) in
+          let big : 2000000 < sum_by (λ (z : WeighedInCycle ℕ). z.weight) over.places = over.total in
+          omega (arith, h, few_right, big)
 
 -- two texts of small designs without cycles
 comparable_from : (x y : List ℕ) (m k : List BlifModel) (s t : Small) → Spells x m s → Spells y k t → PortsMatch s t → s.removed ≡ [] → t.removed ≡ [] →

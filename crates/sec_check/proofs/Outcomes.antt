@@ -35,7 +35,7 @@ module _ (a b : NetView) (settings : Settings) (e : Exposure) (s : Setup) (match
 
   -- a net that is too large is refused
   pub too_large : settings.reset ≡ false → (side : Side) → Formed s settings.conflicts (Err (plain_error.TooLarge side)) → Compared a b settings (Err (refused.TooLarge side))
-  too_large always side large = (matches, chosen.broken, in_always settings.reset always (by side large))
+  too_large always side large = (matches, chosen.broken, in_always _ settings.reset always (by side large))
     where
       by : (side : Side) → Formed s settings.conflicts (Err (plain_error.TooLarge side)) → AreTooLarge a b settings.expose side
       by A large = AreTooLarge.left choice in_order (cut_over s.exposed (circuit_of a) s.left.now is.are_cut.left_circuit large)

@@ -169,7 +169,7 @@ module _ (a b : NetView) (s : Setup) (is : IsSetupOf a b s) (none : s.exposed �
 
   pub too_large_from : (conflicts : ℕ) (side : Side) → Formed s conflicts (Err (reset_error.TooLarge side)) → AreTooLargeFromReset a b side
   too_large_from conflicts A (sides, are, over) = (sides, λ p h. left_start p (are p h), subst (λ (c : Circuit ℕ). IsResetOver c (starts_of sides) 2000000) left_is over)
-  too_large_from conflicts B (light, sides, are, over) = (left_light light, sides, λ p h. right_start p (are p h), subst (λ (c : Circuit ℕ). IsResetOver c (starts_of sides) 2000000) right_is over)
+  too_large_from conflicts B (light, large) = (left_light light, (large.0, λ p h. right_start p (large.1 p h), subst (λ (c : Circuit ℕ). IsResetOver c (starts_of large.0) 2000000) right_is large.2))
 
   module _ (settings : Settings) (f : ResetFindings) (found : AreFound s settings.conflicts f) (sa : IsSound a) (sb : IsSound b) (cb : IsComparable b) (matches : InterfacesMatch a b) where
     abbrev numbers : Numbered

@@ -24,7 +24,7 @@ returns-in-Ok c =
     subst (λ (o : Outcome). Compared n.left.now n.right.now c.args.settings.now (Ok o)) (sym c.outcome_of.ensures)
     (subst (λ (f : Findings). Compared n.left.now n.right.now c.args.settings.now
     (Ok (record { inputs = s.inputs; left_latches = length n.left.now.latches; right_latches = length n.right.now.latches; exposed = s.exposed; classes = 0; pairs = f.pairs; through = f.through; verdict = f.verdict }))) (sym c.findings_of.ensures)
-    (in_reset c.args.settings.now.reset c.requires.reset
+    (in_reset _ c.args.settings.now.reset c.requires.reset
     (outcome_is_compared_from n.left.now n.right.now s c.in_ok-setup.ensures.setup none c.args.settings.now c.in-Ok.findings c.in-Ok.ensures c.keeps.ensures.sound c.keeps-2.ensures.sound c.requires.right c.requires.matches)))
 
 pub returns-in-Err-TooLarge : goal.returns-in-Err-TooLarge
@@ -35,5 +35,5 @@ returns-in-Err-TooLarge c =
     let large = rw c.in-Err-TooLarge.field-0-is at c.in-Err-TooLarge.ensures in (
       c.requires.matches,
       c.requires.chosen.broken,
-      in_reset c.args.settings.now.reset c.requires.reset (too_large_from n.left.now n.right.now s c.in_ok-setup.ensures.setup none c.args.settings.now.conflicts c.in-Err-TooLarge.side large),
+      in_reset _ c.args.settings.now.reset c.requires.reset (too_large_from n.left.now n.right.now s c.in_ok-setup.ensures.setup none c.args.settings.now.conflicts c.in-Err-TooLarge.side large),
     )

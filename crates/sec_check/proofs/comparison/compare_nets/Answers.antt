@@ -12,7 +12,7 @@ set_up-requires-clause-exposed c = c.requires.chosen.cut_open
 pub returns-in-Ok : goal.returns-in-Ok
 returns-in-Ok c =
     subst (λ (o : Outcome). Compared c.args.a.now c.args.b.now c.args.settings.now (Ok o)) (sym c.outcome_of.ensures)
-    (in_always c.args.settings.now.reset c.requires.settling
+    (in_always _ c.args.settings.now.reset c.requires.settling
     (outcome_is_compared c.args.a.now c.args.b.now c.args.settings.now c.args.exposure.now c.in_ok-setup.setup c.keeps.ensures.sound c.keeps-2.ensures.sound c.requires.left c.requires.right c.requires.matches
     c.requires.chosen c.in_ok-setup.ensures.setup c.in_ok-setup.ensures.exposed c.in-Ok.findings c.in-Ok.ensures))
 
