@@ -1,5 +1,6 @@
-use Rattle.std.proofs.Common.{◌≡◌, ℕ, List, ◌++◌, OnOk, Result, Ok, Err, ap, ◌∙◌}
+use Rattle.std.proofs.Common.{◌≡◌, ℕ, Bool, List, ◌++◌, OnOk, Result, Ok, Err, ap, ◌∙◌, subst}
 use Rattle.std.proofs.lemmas.List.{append_assoc}
+use Rattle.witness_report.specs.Text.{row_line}
 use Rattle.outcome.proofs.text.put_reset_witness.Goals as goal
 
 -- five pieces that are put one behind the other
@@ -12,4 +13,9 @@ on_ok (Ok u) f h = f h
 on_ok (Err e) f h = tt
 
 pub returns : goal.returns
-returns c = on_ok c.put_power-2.result (λ s. five_pieces _ _ _ _ _ _ _ _ _ _ _ c.in_ok-put_witness.ensures c.in_ok-put.ensures.ok c.in_ok-put_power.ensures c.in_ok-put-2.ensures.ok s) c.put_power-2.ensures
+returns c =
+    let left = subst (λ (bits : List Bool). c.put_power.new.text.items ≡ c.put.new.text.items ++ row_line bits) c.as_slice.ensures c.in_ok-put_power.ensures in
+    on_ok c.put_power-2.result
+    (λ s.
+    let right = subst (λ (bits : List Bool). c.put_power-2.new.text.items ≡ c.put-2.new.text.items ++ row_line bits) c.as_slice-2.ensures s in
+    five_pieces _ _ _ _ _ _ _ _ _ _ _ c.in_ok-put_witness.ensures c.in_ok-put.ensures.ok left c.in_ok-put-2.ensures.ok right) c.put_power-2.ensures
