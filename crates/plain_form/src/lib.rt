@@ -2,7 +2,6 @@
 #![tactic(auto)]
 
 mod comparison;
-mod depth;
 mod error;
 mod functions;
 pub mod laws;

@@ -7,7 +7,6 @@ ghost use Rattle.plain_form.specs.Asked.{AreAsked, AskedOf, IsOnlyQuery};
 ghost use Rattle.plain_form.specs.Pairs.{HaveFunctions};
 ghost use Rattle.plain_form.specs.Variables.{AreInOrder};
 
-use crate::depth::pair_depth;
 use crate::functions::Functions;
 use aig::Lit;
 use cbf_unfold::Unfolded;
@@ -15,6 +14,7 @@ use obligations::{Obligation, Queries, copy_name};
 use pair_decide::Query;
 use sec_base::{NoMemory, PlaceTable};
 use sec_setup::Setup;
+use setup_depths::pair_depth;
 use shift_variables::merge_variables;
 use std::alloc::Global;
 

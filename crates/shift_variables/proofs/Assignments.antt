@@ -58,7 +58,7 @@ length_take (suc n) (x ∷ xs) [] h = absurd (let z : suc (length xs) ≡ 0 = h 
 length_take (suc n) (x ∷ xs) (y ∷ ys) h = ap suc (length_take n xs ys (let z : suc (length xs) ≡ suc (length ys) = h in omega arith))
 
 -- one number more, which is new, has its bit
-assigned_new : (us : List ℕ) (bits : List Bool) (u : ℕ) (bit : Bool) → length us ≡ length bits → (Contains us u → ⊥) → assigned_to (us ++ u ∷ []) (bits ++ bit ∷ []) u ≡ bit
+pub assigned_new : (us : List ℕ) (bits : List Bool) (u : ℕ) (bit : Bool) → length us ≡ length bits → (Contains us u → ⊥) → assigned_to (us ++ u ∷ []) (bits ++ bit ∷ []) u ≡ bit
 assigned_new [] [] u bit h new = ap (λ t. cond t bit false) (test_refl u)
 assigned_new [] (c ∷ bits) u bit h new = absurd (let z : 0 ≡ suc (length bits) = h in omega arith)
 assigned_new (w ∷ us) [] u bit h new = absurd (let z : suc (length us) ≡ 0 = h in omega arith)
@@ -67,7 +67,7 @@ assigned_new (w ∷ us) (c ∷ bits) u bit h new =
     ∙ assigned_new us bits u bit (let z : suc (length us) ≡ suc (length bits) = h in omega arith) (λ k. new (Contains-tail w u us k))
 
 -- and all others stay as they were
-assigned_old : (us : List ℕ) (bits : List Bool) (u n : ℕ) (bit : Bool) → length us ≡ length bits → (u ≡ n → ⊥) → assigned_to (us ++ u ∷ []) (bits ++ bit ∷ []) n ≡ assigned_to us bits n
+pub assigned_old : (us : List ℕ) (bits : List Bool) (u n : ℕ) (bit : Bool) → length us ≡ length bits → (u ≡ n → ⊥) → assigned_to (us ++ u ∷ []) (bits ++ bit ∷ []) n ≡ assigned_to us bits n
 assigned_old [] [] u n bit h apart = ap (λ t. cond t bit false) (test_differs u n apart)
 assigned_old [] (c ∷ bits) u n bit h apart = absurd (let z : 0 ≡ suc (length bits) = h in omega arith)
 assigned_old (w ∷ us) [] u n bit h apart = absurd (let z : suc (length us) ≡ 0 = h in omega arith)

@@ -28,7 +28,7 @@ rows_more last a count cycle (suc n) =
     (rows_more last a count (suc cycle) n ∙ ap (λ k. sequence_rows_from last a count (suc cycle) n ++ sequence_row last a k 0 count ∷ []) (let e : suc cycle + n ≡ cycle + suc n = omega arith in e))
 
 -- a row by its bits
-row_by_bits : (last : ℕ) (a : ℕ → ℕ → Bool) (cycle first count : ℕ) (row : List Bool) → length row ≡ count → ((i : ℕ) → i < count → get_or row i false ≡ sequence_value last a (first + i) cycle) →
+pub row_by_bits : (last : ℕ) (a : ℕ → ℕ → Bool) (cycle first count : ℕ) (row : List Bool) → length row ≡ count → ((i : ℕ) → i < count → get_or row i false ≡ sequence_value last a (first + i) cycle) →
     row ≡ sequence_row last a cycle first count
 row_by_bits last a cycle first zero [] long bits = refl
 row_by_bits last a cycle first zero (b ∷ row) long bits = absurd (let z : suc (length row) ≡ 0 = long in omega arith)
@@ -40,38 +40,38 @@ row_by_bits last a cycle first (suc count) (b ∷ row) long bits =
     (λ i h. bits (suc i) (omega arith) ∙ ap (λ k. sequence_value last a k cycle) (let e : first + suc i ≡ suc first + i = omega arith in e)) in
     cc
 
-le_true : (m n : ℕ) → m ≤ n → nat_le m n ≡ true
+pub le_true : (m n : ℕ) → m ≤ n → nat_le m n ≡ true
 le_true m n h = grind arith
 
 -- the part of a list from one place to another
-abbrev part : {X : Type 0} → List X → ℕ → ℕ → List X
+abbrev pub part : {X : Type 0} → List X → ℕ → ℕ → List X
 part xs from to = take (to - from) (drop from xs)
 
-split : {X : Type 0} (xs : List X) (from to : ℕ) → from ≤ to → xs ≡ take from xs ++ (part xs from to ++ drop to xs)
+pub split : {X : Type 0} (xs : List X) (from to : ℕ) → from ≤ to → xs ≡ take from xs ++ (part xs from to ++ drop to xs)
 split {X} xs from to h =
     sym (take-append-drop from xs)
     ∙ ap (λ (ys : List X). take from xs ++ ys)
     (sym (take-append-drop (to - from) (drop from xs))
     ∙ ap (λ (ys : List X). part xs from to ++ ys) (drop-drop (to - from) from xs ∙ ap (λ k. drop k xs) (let e : from + (to - from) ≡ to = omega (arith, h) in e)))
 
-in_front : {X : Type 0} (xs : List X) (n : ℕ) (x : X) → Contains (take n xs) x → (k : ℕ) × (k < n) × (slice_get xs k ≡ Some x)
+pub in_front : {X : Type 0} (xs : List X) (n : ℕ) (x : X) → Contains (take n xs) x → (k : ℕ) × (k < n) × (slice_get xs k ≡ Some x)
 in_front xs n x h = let at = at_of (take n xs) x h in let there = slice_get-take n xs at.0 x at.1 in (at.0, there.0, there.1)
 
-in_back : {X : Type 0} (xs : List X) (n : ℕ) (x : X) → Contains (drop n xs) x → (k : ℕ) × (n ≤ k) × (slice_get xs k ≡ Some x)
+pub in_back : {X : Type 0} (xs : List X) (n : ℕ) (x : X) → Contains (drop n xs) x → (k : ℕ) × (n ≤ k) × (slice_get xs k ≡ Some x)
 in_back xs n x h = let at = at_of (drop n xs) x h in (n + at.0, omega arith, slice_get-drop xs n at.0 x at.1)
 
-in_part : {X : Type 0} (xs : List X) (from to : ℕ) (x : X) → Contains (part xs from to) x → (k : ℕ) × (from ≤ k) × (k < to) × (slice_get xs k ≡ Some x)
+pub in_part : {X : Type 0} (xs : List X) (from to : ℕ) (x : X) → Contains (part xs from to) x → (k : ℕ) × (from ≤ k) × (k < to) × (slice_get xs k ≡ Some x)
 in_part xs from to x h =
     let at = in_front (drop from xs) (to - from) x h in
     (from + at.0, omega arith, omega (arith, at.1), slice_get-drop xs from at.0 x at.2)
 
-pairs_take : {X : Type 0} (R : X → X → Type 0) (n : ℕ) (xs : List X) → AllPairs R xs → AllPairs R (take n xs)
+pub pairs_take : {X : Type 0} (R : X → X → Type 0) (n : ℕ) (xs : List X) → AllPairs R xs → AllPairs R (take n xs)
 pairs_take R zero xs h = λ i j d below within. absurd (omega arith)
 pairs_take R (suc n) [] h = h
 pairs_take R (suc n) (x ∷ xs) h =
     AllPairs-cons R x (take n xs) (All-take (R x) n xs (All-from_each (R x) xs (λ y k. AllPairs-head R x xs h y k))) (pairs_take R n xs (AllPairs-tail R x xs h))
 
-below_or_not : (i j : ℕ) → (i < j) ⊎ (j ≤ i)
+pub below_or_not : (i j : ℕ) → (i < j) ⊎ (j ≤ i)
 below_or_not i j = grind arith
 
 -- Before a cycle: the variables up to a place stand in earlier cycles, and those from there on in this one or later.

@@ -6,4 +6,4 @@ mod merge;
 mod rows;
 
 pub use merge::merge_variables;
-pub use rows::{bits_at, rows_of};
+pub use rows::{bits_at, end_of_shift, rows_of};

@@ -55,7 +55,7 @@ pub fn rows_of(
 }
 
 /// Where the variables of this shift end that stand from a place on.
-fn end_of_shift(places: &PlaceTable, vars: &[u32], from: usize, shift: u32) -> usize
+pub fn end_of_shift(places: &PlaceTable, vars: &[u32], from: usize, shift: u32) -> usize
     requires within { All (λ v. v < length places.now) vars.now }
     requires from { from ≤ length vars.now }
     ensures { EndsShift places.now vars.now from shift result }

@@ -5,7 +5,7 @@ use Rattle.circuit_theory.specs.Run.{NoneEnabled}
 use Rattle.flat_net.specs.View.{circuit_of}
 use Rattle.latch_graph.proofs.NoDepth.{no_depth_cycle}
 use Rattle.latch_graph.proofs.Skipping.{mode_depth, mode_no_depth}
-use Rattle.plain_form.proofs.depth.depth_of.Goals as goal
+use Rattle.setup_depths.proofs.depth.depth_of.Goals as goal
 
 pub depth-requires : goal.depth-requires
 depth-requires c = omega (arith, c.requires.graph.graph.size)

@@ -14,8 +14,8 @@ use flat_net::{Net, Signal};
 use latch_graph::LatchGraph;
 use sec_setup::Setup;
 
-/// The greater depth of a signal of A and one of B.
-pub(crate) fn pair_depth(setup: &Setup<'_>, s: Signal, t: Signal) -> u32
+/// The greater sequential depth of a signal of A and one of B, in cycles, in the nets that are compared.
+pub fn pair_depth(setup: &Setup<'_>, s: Signal, t: Signal) -> u32
     requires setup { IsSetup setup.now }
     requires left { s.0 < length setup.now.left.now.drivers }
     requires right { t.0 < length setup.now.right.now.drivers }

@@ -1,0 +1,4 @@
+pub mod MergeCycles
+pub mod CycleWindows
+pub mod PowerUps
+pub mod Writing

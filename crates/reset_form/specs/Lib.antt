@@ -1,0 +1,7 @@
+pub mod Bases
+pub mod Pairs
+pub mod Limits
+pub mod Asked
+pub mod Shown
+pub mod Outcome
+pub mod Formed

@@ -1,0 +1,73 @@
+-- What shows the verdict at an obligation.
+use Rattle.std.specs.Prelude.{◌≡◌, ℕ, ◌*◌, ◌<◌, ◌≤◌, Bool, List, length, slice_get, Some}
+use Rattle.aig.specs.declared.node.Node.{Node}
+use Rattle.aig.specs.Values.{value}
+use Rattle.pair_decide.specs.declared.query.Query.{Query}
+use Rattle.pair_decide.specs.Queries.{assigned_to}
+use Rattle.witness_report.specs.declared.witness.PairName.{PairName}
+use Rattle.witness_report.specs.declared.witness.Witness.{Witness}
+use Rattle.outcome.specs.declared.verdict.PairResult.{PairResult}
+use Rattle.obligations.specs.declared.obligation.Obligation.{Obligation}
+use Rattle.obligations.specs.declared.obligation.Difference.{Difference}
+use Rattle.obligations.specs.declared.verdict.VerdictAt.{VerdictAt}
+use Rattle.obligations.specs.declared.verdict.VerdictAt.TheVariants as at
+use Rattle.flat_net.specs.View.{circuit_of}
+use Rattle.sec_setup.specs.declared.setup.Setup.{Setup}
+use Rattle.reset_laws.specs.Reset.{reset_rows, powers}
+use Rattle.shift_variables.specs.Sequences.{bits_at}
+use Rattle.cycle_variables.specs.Cycles.{AreInCycles}
+use Rattle.reset_form.specs.declared.bases.Bases.{Bases}
+use Rattle.reset_form.specs.declared.functions.Functions.{Functions}
+use Rattle.outcome.specs.declared.verdict.ResetWitness.{ResetWitness}
+use Rattle.reset_form.specs.declared.shown.ResetVerdict.{ResetVerdict}
+use Rattle.reset_form.specs.declared.shown.ResetVerdict.TheVariants as verdict
+
+-- the obligation and the query of a difference
+pub record IsQueryAt (asked : List Obligation) (d : Difference) (o : Obligation) (q : Query) : Type 0 where
+  pub asked_at : slice_get asked d.pair ≡ Some o
+  pub query_at : slice_get o.queries d.query ≡ Some q
+
+-- its bits give a sequence and a power-up
+pub record IsShowable (f : Functions) (asked : List Obligation) (d : Difference) : Type 0 where
+  pub obligation : Obligation
+  pub query : Query
+  pub at : IsQueryAt asked d obligation query
+  pub left : query.left.0 < 2 * length f.aig
+  pub right : query.right.0 < 2 * length f.aig
+  pub each : length d.bits ≡ length query.vars
+  pub in_order : AreInCycles f.places query.vars
+  pub cycle : d.query ≤ obligation.size
+
+abbrev pub CanBeShown : Functions → List Obligation → List PairResult → VerdictAt → Type 0
+CanBeShown f asked results at.Equal = Unit {0}
+CanBeShown f asked results (at.Different d) = IsShowable f asked d
+CanBeShown f asked results (at.Limit place) = place < length results
+CanBeShown f asked results (at.NotShown d) = ⊥
+
+-- the sequence that ends in a cycle, over the inputs of these names, with the values of both sides
+pub record IsSequenceOf (g : List Node) (places : List (ℕ × ℕ)) (q : Query) (bits : List Bool) (name : PairName) (last : ℕ) (names : List (List ℕ)) (w : Witness) : Type 0 where
+  pub pair_is : w.pair ≡ name
+  pub cycle_is : w.cycle ≡ last
+  pub left_is : w.left ≡ value g (assigned_to q.vars bits) q.left.0
+  pub right_is : w.right ≡ value g (assigned_to q.vars bits) q.right.0
+  pub names_are : w.stimulus.names ≡ names
+  pub rows_are : w.stimulus.rows ≡ reset_rows last (bits_at places q.vars bits) (length names)
+
+-- and the power-ups of both circuits
+pub record IsWitnessOf (s : Setup) (b : Bases) (f : Functions) (q : Query) (bits : List Bool) (name : PairName) (last : ℕ) (w : ResetWitness) : Type 0 where
+  pub sequence : IsSequenceOf f.aig f.places q bits name last s.columns w.witness
+  pub left_power_is : w.left_power ≡ powers (circuit_of s.left.now) b.left (bits_at f.places q.vars bits)
+  pub right_power_is : w.right_power ≡ powers (circuit_of s.right.now) b.right (bits_at f.places q.vars bits)
+
+-- those of a difference: its query's place is its cycle
+pub record IsWitnessAt (s : Setup) (b : Bases) (f : Functions) (asked : List Obligation) (d : Difference) (w : ResetWitness) : Type 0 where
+  pub obligation : Obligation
+  pub query : Query
+  pub at : IsQueryAt asked d obligation query
+  pub is : IsWitnessOf s b f query d.bits obligation.name d.query w
+
+abbrev pub IsShown : Setup → Bases → Functions → List Obligation → List PairResult → VerdictAt → ResetVerdict → Type 0
+IsShown s b f asked results at.Equal v = v ≡ verdict.Equal
+IsShown s b f asked results (at.Different d) v = (w : ResetWitness) × (v ≡ verdict.Different w) × IsWitnessAt s b f asked d w
+IsShown s b f asked results (at.Limit place) v = (r : PairResult) × (slice_get results place ≡ Some r) × (v ≡ verdict.Limit r.name)
+IsShown s b f asked results (at.NotShown d) v = ⊥

@@ -1,0 +1,89 @@
+//! The verdict of a comparison, with what shows it.
+
+ghost use Rattle.std.specs.Prelude.{◌≡◌, ◌≤◌, IfOk};
+ghost use Rattle.sec_base.specs.Table.{AreDistinct};
+ghost use Rattle.reset_form.specs.Shown.{CanBeShown, IsShowable, IsShown, IsWitnessAt};
+
+use crate::bases::Bases;
+use crate::functions::Functions;
+use crate::witness::witness_of;
+use obligations::{Difference, Obligation, VerdictAt, copy_name};
+use outcome::{PairName, PairResult, ResetWitness};
+use sec_base::NoMemory;
+use sec_setup::Setup;
+use std::alloc::Global;
+
+/// The answer of a comparison from the initial values: the first of different, limit and equal that some pair has.
+#[derive(Drop)]
+pub enum ResetVerdict {
+    /// Every pair's functions agree in each cycle up to the pair's depth.
+    Equal,
+    /// A pair's functions differ in a cycle, and the sequence and the power-ups show it.
+    Different(ResetWitness),
+    /// A query of this pair wasn't decided within the number of conflicts.
+    Limit(PairName),
+}
+
+/// The verdict at an obligation, with the sequence and the power-ups of its difference.
+pub(crate) fn show(
+    alloc: Global,
+    setup: &Setup<'_>,
+    bases: Bases,
+    functions: &Functions,
+    asked: &[Obligation],
+    results: &[PairResult],
+    at: VerdictAt,
+) -> Result<ResetVerdict, NoMemory>
+    requires shown { CanBeShown functions.now asked.now results.now at }
+    requires distinct { AreDistinct setup.now.columns }
+    ensures { IfOk result (IsShown setup.now bases functions.now asked.now results.now at) }
+{
+    match at {
+        VerdictAt::Equal => Ok(ResetVerdict::Equal),
+        VerdictAt::Different(difference) => {
+            let witness = witness_at(alloc, setup, bases, functions, asked, &difference)?;
+            Ok(ResetVerdict::Different(witness))
+        }
+        VerdictAt::Limit(place) => {
+            let name = copy_name(&results[place].name)?;
+            Ok(ResetVerdict::Limit(name))
+        }
+        VerdictAt::NotShown(_) => unreachable!(),
+    }
+}
+
+/// The sequence of a difference, which ends in the cycle of its query, with both power-ups.
+fn witness_at(
+    alloc: Global,
+    setup: &Setup<'_>,
+    bases: Bases,
+    functions: &Functions,
+    asked: &[Obligation],
+    difference: &Difference,
+) -> Result<ResetWitness, NoMemory>
+    requires shown { IsShowable functions.now asked.now difference.now }
+    requires distinct { AreDistinct setup.now.columns }
+    ensures { IfOk result (IsWitnessAt setup.now bases functions.now asked.now difference.now) }
+{
+    let obligation = &asked[difference.pair];
+    let query = &obligation.queries.as_slice()[difference.query];
+    let cycle = cycle_of(difference.query, obligation.size);
+    witness_of(
+        alloc,
+        setup,
+        bases,
+        functions,
+        query,
+        &difference.bits,
+        &obligation.name,
+        cycle,
+    )
+}
+
+/// The cycle of the query at a place, which is at most the depth.
+fn cycle_of(query: usize, depth: u32) -> u32
+    requires { query ≤ depth }
+    ensures { result ≡ query }
+{
+    query as u32
+}
