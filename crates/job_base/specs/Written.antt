@@ -18,6 +18,7 @@ use Rattle.job_base.specs.Lines.{finding_text}
 abbrev pub verdict_status : Verdict → StatusName
 verdict_status verdict.Equal = status.Equal
 verdict_status (verdict.Different w) = status.Different
+verdict_status (verdict.DifferentFrom w) = status.Different
 verdict_status (verdict.NotShown reason) = status.NotShown
 verdict_status (verdict.Limit at) = status.Limit
 
@@ -30,6 +31,7 @@ replay_status (d ∷ more) = status.Different
 abbrev pub generated_status : Verdict → StatusName
 generated_status verdict.Equal = status.Done
 generated_status (verdict.Different w) = status.Different
+generated_status (verdict.DifferentFrom w) = status.Different
 generated_status (verdict.NotShown reason) = status.NotShown
 generated_status (verdict.Limit at) = status.Limit
 

@@ -23,6 +23,7 @@ fn verdict_status(verdict: &Verdict) -> StatusName
     match verdict {
         Verdict::Equal => StatusName::Equal,
         Verdict::Different(_) => StatusName::Different,
+        Verdict::DifferentFrom(_) => StatusName::Different,
         Verdict::NotShown(_) => StatusName::NotShown,
         Verdict::Limit(_) => StatusName::Limit,
     }
@@ -99,7 +100,7 @@ fn comparison_report(
     outcome: Outcome,
     settings: &Settings,
 ) -> Result<(Text, Proofs), NoMemory>
-    ensures text { IfOk result (λ made. made.0 ≡ report_text settings.now.conflicts outcome) }
+    ensures text { IfOk result (λ made. made.0 ≡ report_text settings.now outcome) }
     ensures proofs { IfOk result (λ made. made.1 ≡ filter_map (λ pair. pair.proof) outcome.pairs) }
 {
     let text = report(alloc, &outcome, settings)?;

@@ -30,12 +30,12 @@ record AreTold (held : Held) (check : Check) : Type 0 where
   pub right : List ℕ
   pub left_is : held check.left ≡ Some left
   pub right_is : held check.right ≡ Some right
-  pub comparable : AreComparable left right check.settings.expose
+  pub comparable : AreComparable left right check.settings.expose check.settings.reset
 
 are_told : (held : Held) (check : Check) → CanAnswer held check → AreTold held check
 are_told held check h =
-    let left = some_and (held check.left) (λ x. IsSomeAnd (held check.right) (λ y. AreComparable x y check.settings.expose)) h in
-    let right = some_and (held check.right) (λ y. AreComparable left.0 y check.settings.expose) left.2 in
+    let left = some_and (held check.left) (λ x. IsSomeAnd (held check.right) (λ y. AreComparable x y check.settings.expose check.settings.reset)) h in
+    let right = some_and (held check.right) (λ y. AreComparable left.0 y check.settings.expose check.settings.reset) left.2 in
     record { left = left.0; right = right.0; left_is = left.1; right_is = right.1; comparable = right.2 }
 
 module _ (held : Held) (check : Check) (told : AreTold held check) where
@@ -104,6 +104,7 @@ module _ (held : Held) (check : Check) (told : AreTold held check) where
       go : (v : Verdict) → IsAnswer (verdict_status v)
       go verdict.Equal = tt
       go (verdict.Different w) = tt
+      go (verdict.DifferentFrom w) = tt
       go (verdict.NotShown reason) = tt
       go (verdict.Limit at) = tt
 

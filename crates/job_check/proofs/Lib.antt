@@ -5,3 +5,5 @@ pub mod Means
 pub mod Promises
 pub mod Texts
 pub mod ToldCycles
+pub mod ResetDesigns
+pub mod ResetTexts

@@ -1,6 +1,6 @@
 -- What the statuses equal, different, not shown and limit mean for the texts.
 use Rattle.std.specs.Prelude.{IfSome}
-use Rattle.std.proofs.Common.{◌≡◌, ℕ, List, refl, subst, Option, Some, None}
+use Rattle.std.proofs.Common.{◌≡◌, ℕ, List, refl, subst, inl, inr, ◌⊎◌, Option, Some, None}
 use Rattle.sec_base.specs.Outside.{Takes}
 use Rattle.sec_base.specs.declared.settings.Settings.{Settings}
 use Rattle.witness_report.specs.declared.witness.Witness.{Witness}
@@ -8,6 +8,7 @@ use Rattle.flat_net.specs.View.{NetView}
 use Rattle.pair_decide.specs.declared.query.Proof.{Proof}
 use Rattle.outcome.specs.declared.verdict.LimitAt.{LimitAt}
 use Rattle.outcome.specs.declared.verdict.Outcome.{Outcome}
+use Rattle.outcome.specs.declared.verdict.ResetWitness.{ResetWitness}
 use Rattle.outcome.specs.declared.verdict.Verdict.{Verdict}
 use Rattle.outcome.specs.declared.verdict.Verdict.TheVariants as verdict
 use Rattle.outcome.specs.declared.verdict.Why.TheVariants as why
@@ -17,12 +18,16 @@ use Rattle.job_base.specs.declared.finding.Finding.TheVariants as finding
 use Rattle.job_base.specs.declared.status.StatusName.{StatusName}
 use Rattle.job_base.specs.declared.status.StatusName.TheVariants as status
 use Rattle.job_base.specs.Written.{verdict_status, status_of, IsWrittenAs}
+use Rattle.sec_check.specs.Compared.{ByReset}
+use Rattle.sec_check.proofs.Forms.{by_reset}
 use Rattle.sec_files.specs.Loading.{Loads}
 use Rattle.job_files.specs.Reading.{Held}
 use Rattle.job_check.specs.Check.{Check}
 use Rattle.job_check.specs.Answer.{CheckMeans, TextsAgree, TextsDiffer, TextsNotShown, TextsUndecided}
+use Rattle.job_check.specs.Resets.{ResetsAgree, ResetsDiffer, ResetsUndecided}
 use Rattle.job_check.specs.Found.{OfTexts, OfNets, IsFoundOf}
-use Rattle.job_check.proofs.Texts.{texts_agree, texts_differ, texts_not_shown, texts_undecided}
+use Rattle.job_check.proofs.ResetTexts.{resets_agree, resets_differ, resets_not_always, resets_are_shown, resets_undecided}
+use Rattle.job_check.proofs.Texts.{texts_agree, texts_always, texts_differ, texts_not_shown, texts_undecided}
 
 if_some : {X : Type 0} {F G : X → Type 0} (o : Option X) → ((x : X) → F x → G x) → IfSome o F → IfSome o G
 if_some None f h = tt
@@ -36,33 +41,38 @@ over_nets held check P Q each h = if_some (held check.left) (λ x here. if_some 
 equal_verdict : (v : Verdict) → verdict_status v ≡ status.Equal → v ≡ verdict.Equal
 equal_verdict verdict.Equal e = refl
 equal_verdict (verdict.Different w) e = absurd (cc)
+equal_verdict (verdict.DifferentFrom w) e = absurd (cc)
 equal_verdict (verdict.NotShown reason) e = absurd (cc)
 equal_verdict (verdict.Limit at) e = absurd (cc)
 
-different_verdict : (v : Verdict) → verdict_status v ≡ status.Different → (w : Witness) × (v ≡ verdict.Different w)
+-- a difference over all power-ups, or one from initial values
+different_verdict : (v : Verdict) → verdict_status v ≡ status.Different → ((w : Witness) × (v ≡ verdict.Different w)) ⊎ ((w : ResetWitness) × (v ≡ verdict.DifferentFrom w))
 different_verdict verdict.Equal e = absurd (cc)
-different_verdict (verdict.Different w) e = (w, refl)
+different_verdict (verdict.Different w) e = inl (w, refl)
+different_verdict (verdict.DifferentFrom w) e = inr (w, refl)
 different_verdict (verdict.NotShown reason) e = absurd (cc)
 different_verdict (verdict.Limit at) e = absurd (cc)
 
 not_shown_verdict : (v : Verdict) → verdict_status v ≡ status.NotShown → (w : Witness) × (v ≡ verdict.NotShown (why.Cut w))
 not_shown_verdict verdict.Equal e = absurd (cc)
 not_shown_verdict (verdict.Different w) e = absurd (cc)
+not_shown_verdict (verdict.DifferentFrom w) e = absurd (cc)
 not_shown_verdict (verdict.NotShown (why.Cut w)) e = (w, refl)
 not_shown_verdict (verdict.Limit at) e = absurd (cc)
 
 limit_verdict : (v : Verdict) → verdict_status v ≡ status.Limit → (at : LimitAt) × (v ≡ verdict.Limit at)
 limit_verdict verdict.Equal e = absurd (cc)
 limit_verdict (verdict.Different w) e = absurd (cc)
+limit_verdict (verdict.DifferentFrom w) e = absurd (cc)
 limit_verdict (verdict.NotShown reason) e = absurd (cc)
 limit_verdict (verdict.Limit at) e = (at, refl)
 
 -- a report by the settings of the comparison
-report_of : (before now : Option (List ℕ)) (o : Outcome) (s : Settings) (check : Check) → s ≡ check.settings → Takes before now (report_text s.conflicts o) → Takes before now (report_text check.settings.conflicts o)
-report_of before now o s check e taken = subst (λ (t : Settings). Takes before now (report_text t.conflicts o)) e taken
+report_of : (before now : Option (List ℕ)) (o : Outcome) (s : Settings) (check : Check) → s ≡ check.settings → Takes before now (report_text s o) → Takes before now (report_text check.settings o)
+report_of before now o s check e taken = subst (λ (t : Settings). Takes before now (report_text t o)) e taken
 
 equal_found : (held : Held) (check : Check) (before now : Option (List ℕ)) (f : Finding) (proofs : List Proof) → IsFoundOf held check f → IsWrittenAs before now f proofs status.Equal →
-    OfTexts held check (λ x y. TextsAgree x y check.settings.conflicts before now)
+    OfTexts held check (λ x y. ByReset check.settings.reset (TextsAgree x y check.settings before now) (ResetsAgree x y check.settings before now))
 equal_found held check before now finding.Words proofs h w = absurd h
 equal_found held check before now (finding.Refused r) proofs h w = absurd (let e = w.1 in cc)
 equal_found held check before now (finding.Cyclic side names) proofs h w = absurd (let e = w.1 in cc)
@@ -73,10 +83,13 @@ equal_found held check before now (finding.Replayed differences) proofs h w = ab
 equal_found held check before now (finding.Undecided side name proof) proofs h w = absurd h
 equal_found held check before now (finding.Checked o s) proofs h w =
     let v = equal_verdict o.verdict w.1 in
-    over_nets held check _ (λ x y. TextsAgree x y check.settings.conflicts before now) (λ x y a b left right compared. texts_agree before now check.settings o (report_of before now o s check h.0 w.2) x y a b left right compared v) h.1
+    over_nets held check _ (λ x y. ByReset check.settings.reset (TextsAgree x y check.settings before now) (ResetsAgree x y check.settings before now))
+    (λ x y a b left right.
+    let taken = report_of before now o s check h.0 w.2 in
+    by_reset check.settings.reset (λ compared. texts_agree before now check.settings o taken x y a b left right compared v) (λ compared. resets_agree before now check.settings o taken x y a b left right compared v)) h.1
 
 different_found : (held : Held) (check : Check) (before now : Option (List ℕ)) (f : Finding) (proofs : List Proof) → IsFoundOf held check f → IsWrittenAs before now f proofs status.Different →
-    OfTexts held check (λ x y. TextsDiffer x y check.settings.conflicts before now)
+    OfTexts held check (λ x y. ByReset check.settings.reset (TextsDiffer x y check.settings before now) (ResetsDiffer x y check.settings before now))
 different_found held check before now finding.Words proofs h w = absurd h
 different_found held check before now (finding.Refused r) proofs h w = absurd (let e = w.1 in cc)
 different_found held check before now (finding.Cyclic side names) proofs h w = absurd (let e = w.1 in cc)
@@ -86,11 +99,23 @@ different_found held check before now (finding.Generated o report) proofs h w = 
 different_found held check before now (finding.Replayed differences) proofs h w = absurd h
 different_found held check before now (finding.Undecided side name proof) proofs h w = absurd h
 different_found held check before now (finding.Checked o s) proofs h w =
-    let v = different_verdict o.verdict w.1 in
-    over_nets held check _ (λ x y. TextsDiffer x y check.settings.conflicts before now) (λ x y a b left right compared. texts_differ before now check.settings o (report_of before now o s check h.0 w.2) x y a b left right compared v.0 v.1) h.1
+    over_nets held check _ (λ x y. ByReset check.settings.reset (TextsDiffer x y check.settings before now) (ResetsDiffer x y check.settings before now))
+    (λ x y a b left right.
+    let taken = report_of before now o s check h.0 w.2 in
+    by_reset check.settings.reset
+    (λ compared.
+    elim (different_verdict o.verdict w.1) [
+      | inl v ↦ texts_differ before now check.settings o taken x y a b left right compared v.0 v.1
+      | inr v ↦ absurd (texts_always before now check.settings o taken x y a b left right compared v.0 v.1)
+    ])
+    (λ compared.
+    elim (different_verdict o.verdict w.1) [
+      | inl v ↦ absurd (resets_not_always before now check.settings o taken x y a b left right compared v.0 v.1)
+      | inr v ↦ resets_differ before now check.settings o taken x y a b left right compared v.0 v.1
+    ])) h.1
 
 not_shown_found : (held : Held) (check : Check) (before now : Option (List ℕ)) (f : Finding) (proofs : List Proof) → IsFoundOf held check f → IsWrittenAs before now f proofs status.NotShown →
-    OfTexts held check (λ x y. TextsNotShown x y check.settings before now)
+    OfTexts held check (λ x y. ByReset check.settings.reset (TextsNotShown x y check.settings before now) ⊥)
 not_shown_found held check before now finding.Words proofs h w = absurd h
 not_shown_found held check before now (finding.Refused r) proofs h w = absurd (let e = w.1 in cc)
 not_shown_found held check before now (finding.Cyclic side names) proofs h w = absurd (let e = w.1 in cc)
@@ -101,10 +126,14 @@ not_shown_found held check before now (finding.Replayed differences) proofs h w 
 not_shown_found held check before now (finding.Undecided side name proof) proofs h w = absurd h
 not_shown_found held check before now (finding.Checked o s) proofs h w =
     let v = not_shown_verdict o.verdict w.1 in
-    over_nets held check _ (λ x y. TextsNotShown x y check.settings before now) (λ x y a b left right compared. texts_not_shown before now check.settings o (report_of before now o s check h.0 w.2) x y a b left right compared v.0 v.1) h.1
+    over_nets held check _ (λ x y. ByReset check.settings.reset (TextsNotShown x y check.settings before now) ⊥)
+    (λ x y a b left right.
+    let taken = report_of before now o s check h.0 w.2 in
+    by_reset check.settings.reset (λ compared. texts_not_shown before now check.settings o taken x y a b left right compared v.0 v.1)
+    (λ compared. resets_are_shown before now check.settings o taken x y a b left right compared (why.Cut v.0) v.1)) h.1
 
 limit_found : (held : Held) (check : Check) (before now : Option (List ℕ)) (f : Finding) (proofs : List Proof) → IsFoundOf held check f → IsWrittenAs before now f proofs status.Limit →
-    OfTexts held check (λ x y. TextsUndecided x y check.settings proofs before now)
+    OfTexts held check (λ x y. ByReset check.settings.reset (TextsUndecided x y check.settings proofs before now) (ResetsUndecided x y check.settings proofs before now))
 limit_found held check before now finding.Words proofs h w = absurd h
 limit_found held check before now (finding.Refused r) proofs h w = absurd (let e = w.1 in cc)
 limit_found held check before now (finding.Cyclic side names) proofs h w = absurd (let e = w.1 in cc)
@@ -115,12 +144,17 @@ limit_found held check before now (finding.Replayed differences) proofs h w = ab
 limit_found held check before now (finding.Undecided side name proof) proofs h w = absurd h
 limit_found held check before now (finding.Checked o s) proofs h w =
     let v = limit_verdict o.verdict w.1 in
-    over_nets held check _ (λ x y. TextsUndecided x y check.settings proofs before now) (λ x y a b left right compared. texts_undecided before now check.settings o (report_of before now o s check h.0 w.2) x y a b left right compared proofs v.0 v.1 w.0) h.1
+    over_nets held check _ (λ x y. ByReset check.settings.reset (TextsUndecided x y check.settings proofs before now) (ResetsUndecided x y check.settings proofs before now))
+    (λ x y a b left right.
+    let taken = report_of before now o s check h.0 w.2 in
+    by_reset check.settings.reset (λ compared. texts_undecided before now check.settings o taken x y a b left right compared proofs v.0 v.1 w.0)
+    (λ compared. resets_undecided before now check.settings o taken x y a b left right compared proofs v.0 v.1 w.0)) h.1
 
 -- no verdict is a report on one circuit
 no_done_verdict : (v : Verdict) → verdict_status v ≡ status.Done → ⊥
 no_done_verdict verdict.Equal e = cc
 no_done_verdict (verdict.Different w) e = cc
+no_done_verdict (verdict.DifferentFrom w) e = cc
 no_done_verdict (verdict.NotShown reason) e = cc
 no_done_verdict (verdict.Limit at) e = cc
 

@@ -13,6 +13,7 @@ use Rattle.outcome.specs.declared.verdict.PairResult.{PairResult}
 use Rattle.outcome.specs.declared.verdict.LimitAt.{LimitAt}
 use Rattle.outcome.specs.declared.verdict.LimitAt.TheVariants as limit_at
 use Rattle.outcome.specs.declared.verdict.Outcome.{Outcome}
+use Rattle.outcome.specs.declared.verdict.ResetWitness.{ResetWitness}
 use Rattle.outcome.specs.declared.verdict.Verdict.{Verdict}
 use Rattle.outcome.specs.declared.verdict.Verdict.TheVariants as verdict
 use Rattle.outcome.specs.declared.verdict.Why.TheVariants as why
@@ -29,9 +30,9 @@ use Rattle.sec_files.proofs.Loaded.{spelled_circuit}
 use Rattle.job_check.specs.Answer.{TextsAgree, TextsDiffer, TextsNotShown, TextsUndecided}
 use Rattle.job_check.proofs.Fitted.{beside, uncut_answer, cut_answer, limit_answer, no_names, some_names, were_exposed, kept_proof, next_among}
 
-module _ (before now : Option (List ℕ)) (settings : Settings) (o : Outcome) (taken : Takes before now (report_text settings.conflicts o)) (x y : List ℕ) (a b : NetView) (left : Loads x a) (right : Loads y b)
+module _ (before now : Option (List ℕ)) (settings : Settings) (o : Outcome) (taken : Takes before now (report_text settings o)) (x y : List ℕ) (a b : NetView) (left : Loads x a) (right : Loads y b)
     (compared : IsCompared a b settings o) where
-  pub texts_agree : o.verdict ≡ verdict.Equal → TextsAgree x y settings.conflicts before now
+  pub texts_agree : o.verdict ≡ verdict.Equal → TextsAgree x y settings before now
   texts_agree e =
       let equal = compared.equal e in
       record {
@@ -70,7 +71,11 @@ module _ (before now : Option (List ℕ)) (settings : Settings) (o : Outcome) (t
   pair_of : (i : ℕ) (r : PairResult) → slice_get o.pairs i ≡ Some r → (n : NamedPair ℕ ℕ) × (slice_get pairs i ≡ Some n) × Fits n r
   pair_of i r at = beside Fits pairs o.pairs compared.fits.pairs i r at
 
-  pub texts_differ : (w : Witness) → o.verdict ≡ verdict.Different w → TextsDiffer x y settings.conflicts before now
+  -- no difference is one from initial values
+  pub texts_always : (w : ResetWitness) → o.verdict ≡ verdict.DifferentFrom w → ⊥
+  texts_always w e = subst IsVerdict e compared.fits.verdict_is
+
+  pub texts_differ : (w : Witness) → o.verdict ≡ verdict.Different w → TextsDiffer x y settings before now
   texts_differ w e =
       let first = subst IsVerdict e compared.fits.verdict_is in
       let n = pair_of first.index first.result first.result_is in

@@ -26,16 +26,18 @@ use Rattle.sec_setup.specs.Cycles.{AreBroken}
 use Rattle.sec_setup.specs.Cuts.{IsChoice, AreCutAt, columns_of}
 use Rattle.plain_form.specs.Limits.{IsUndecided}
 use Rattle.sec_check.specs.Says.{SaysEqual, SaysDifferent, SaysNotShown}
-use Rattle.sec_check.specs.Compared.{AreTooLarge}
+use Rattle.sec_check.specs.Compared.{AreTooLarge, ByReset}
+use Rattle.sec_check.specs.FromReset.{AreTooLargeFromReset}
 use Rattle.sec_files.specs.Loading.{IsAccepted, Loads, SpellsCircuit}
 use Rattle.job_files.specs.Reading.{Held}
 use Rattle.job_check.specs.Check.{Check, WhereBuilt}
 use Rattle.job_check.specs.Found.{OfTexts}
+use Rattle.job_check.specs.Resets.{ResetsAgree, ResetsDiffer, ResetsUndecided}
 
 -- The circuits that the two texts spell agree, and agree onward over the exposed latches that are printed, which are a minimal cut of
 -- them; so in any two runs of theirs with equal inputs in which these are equal from the start up to the printed cycle, they are equal
 -- for ever, and the outputs from that cycle on. The same is said of the flat nets that the texts load as.
-pub record TextsAgree (x y : List ℕ) (conflicts : ℕ) (before now : Option (List ℕ)) : Type 0 where
+pub record TextsAgree (x y : List ℕ) (settings : Settings) (before now : Option (List ℕ)) : Type 0 where
   pub left_clock : Option (List ℕ)
   pub right_clock : Option (List ℕ)
   pub left : Circuit Place
@@ -48,14 +50,14 @@ pub record TextsAgree (x y : List ℕ) (conflicts : ℕ) (before now : Option (L
   pub right_loads : Loads y right_net
   pub outcome : Outcome
   pub is_verdict : outcome.verdict ≡ verdict.Equal
-  pub printed : Takes before now (report_text conflicts outcome)
+  pub printed : Takes before now (report_text settings outcome)
   pub minimal : IsMinimalCut Plain left right outcome.exposed
   pub says : SaysEqual Plain outcome left right
   pub nets_say : SaysEqual Plain outcome (circuit_of left_net) (circuit_of right_net)
 
 -- The circuits that the two texts spell differ in all runs over the sequence that is printed behind what was written before. No latch
 -- is cut open.
-pub record TextsDiffer (x y : List ℕ) (conflicts : ℕ) (before now : Option (List ℕ)) : Type 0 where
+pub record TextsDiffer (x y : List ℕ) (settings : Settings) (before now : Option (List ℕ)) : Type 0 where
   pub left_clock : Option (List ℕ)
   pub right_clock : Option (List ℕ)
   pub left : Circuit Place
@@ -66,7 +68,7 @@ pub record TextsDiffer (x y : List ℕ) (conflicts : ℕ) (before now : Option (
   pub witness : Witness
   pub is_verdict : outcome.verdict ≡ verdict.Different witness
   pub uncut : outcome.exposed ≡ []
-  pub printed : Takes before now (report_text conflicts outcome)
+  pub printed : Takes before now (report_text settings outcome)
   pub says : SaysDifferent Plain witness left right
 
 -- Latches were to be cut open, and the exposed ones that are printed are some: a minimal cut of the circuits that the two texts spell.
@@ -87,7 +89,7 @@ pub record TextsNotShown (x y : List ℕ) (settings : Settings) (before now : Op
   pub outcome : Outcome
   pub witness : Witness
   pub is_verdict : outcome.verdict ≡ verdict.NotShown (why.Cut witness)
-  pub printed : Takes before now (report_text settings.conflicts outcome)
+  pub printed : Takes before now (report_text settings outcome)
   pub exposes : settings.expose ≡ true
   pub exposed : outcome.exposed ≢ []
   pub minimal : IsMinimalCut Plain left right outcome.exposed
@@ -120,20 +122,20 @@ pub record TextsUndecided (x y : List ℕ) (settings : Settings) (proofs : List 
   pub kept : Contains proofs proof
   pub undecided : IsUndecided (circuit_of left_cut) (circuit_of right_cut) left right settings.conflicts named.left named.right proof
   pub is_verdict : outcome.verdict ≡ verdict.Limit (limit_at.Pair named.name)
-  pub printed : Takes before now (report_text settings.conflicts outcome)
+  pub printed : Takes before now (report_text settings outcome)
 
--- Both texts are accepted, their interfaces match, and no unfolding is too large. No latch graph has a cycle; where latches are to be cut
--- open, none is left without the latches that both circuits name.
-pub record AreComparable (x y : List ℕ) (expose : Bool) : Type 0 where
+-- Both texts are accepted, their interfaces match, and no unfolding is too large, from the initial values or not. No latch graph has a
+-- cycle; where latches are to be cut open, none is left without the latches that both circuits name.
+pub record AreComparable (x y : List ℕ) (expose reset : Bool) : Type 0 where
   pub left : IsAccepted x
   pub right : IsAccepted y
   pub match : (a b : NetView) → Loads x a → Loads y b → InterfacesMatch a b
   pub broken : (a b : NetView) → Loads x a → Loads y b → AreBroken a b expose
-  pub light : (a b : NetView) → Loads x a → Loads y b → (side : Side) → AreTooLarge a b expose side → ⊥
+  pub light : (a b : NetView) → Loads x a → Loads y b → (side : Side) → ByReset reset (AreTooLarge a b expose side) (AreTooLargeFromReset a b side) → ⊥
 
 -- both texts are told and can be compared
 abbrev pub CanAnswer : Held → Check → Type 0
-CanAnswer held check = IsSomeAnd (held check.left) (λ x. IsSomeAnd (held check.right) (λ y. AreComparable x y check.settings.expose))
+CanAnswer held check = IsSomeAnd (held check.left) (λ x. IsSomeAnd (held check.right) (λ y. AreComparable x y check.settings.expose check.settings.reset))
 
 -- a verdict, or want of memory
 abbrev pub IsAnswer : StatusName → Type 0
@@ -151,17 +153,17 @@ IsAnswer status.Done = ⊥
 
 -- What the status says of two texts that are compared, and of what is written: a comparison makes no report on circuits.
 abbrev pub CheckMeans : Held → Check → Option (List ℕ) → Option (List ℕ) → List Proof → StatusName → Type 0
-CheckMeans held check before now proofs status.Equal = OfTexts held check (λ x y. TextsAgree x y check.settings.conflicts before now)
-CheckMeans held check before now proofs status.Different = OfTexts held check (λ x y. TextsDiffer x y check.settings.conflicts before now)
-CheckMeans held check before now proofs status.NotShown = OfTexts held check (λ x y. TextsNotShown x y check.settings before now)
-CheckMeans held check before now proofs status.Limit = OfTexts held check (λ x y. TextsUndecided x y check.settings proofs before now)
+CheckMeans held check before now proofs status.Equal = OfTexts held check (λ x y. ByReset check.settings.reset (TextsAgree x y check.settings before now) (ResetsAgree x y check.settings before now))
+CheckMeans held check before now proofs status.Different = OfTexts held check (λ x y. ByReset check.settings.reset (TextsDiffer x y check.settings before now) (ResetsDiffer x y check.settings before now))
+CheckMeans held check before now proofs status.NotShown = OfTexts held check (λ x y. ByReset check.settings.reset (TextsNotShown x y check.settings before now) ⊥)
+CheckMeans held check before now proofs status.Limit = OfTexts held check (λ x y. ByReset check.settings.reset (TextsUndecided x y check.settings proofs before now) (ResetsUndecided x y check.settings proofs before now))
 CheckMeans held check before now proofs status.Done = ⊥
 CheckMeans held check before now proofs other = Unit {0}
 
 -- what the status of a comparison says, whether it is built or not
 abbrev pub CheckSays : Held → Check → Option (List ℕ) → Option (List ℕ) → List Proof → StatusName → Type 0
-CheckSays held check before now proofs name = WhereBuilt check.settings.mode check.settings.reset (CheckMeans held check before now proofs name) (SaysNothing name)
+CheckSays held check before now proofs name = WhereBuilt check.settings.mode (CheckMeans held check before now proofs name) (SaysNothing name)
 
 -- A comparison that can be made is answered, if no read and no write fails; one that isn't built is told so.
 abbrev pub IsCheckComplete : Held → Check → StatusName → Type 0
-IsCheckComplete held check name = WhereBuilt check.settings.mode check.settings.reset (CanAnswer held check → IsAnswer name) (EndsWith status.Refused name)
+IsCheckComplete held check name = WhereBuilt check.settings.mode (CanAnswer held check → IsAnswer name) (EndsWith status.Refused name)

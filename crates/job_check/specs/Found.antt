@@ -55,4 +55,4 @@ IsFoundOf held check (finding.Undecided side name proof) = ⊥
 
 -- what is found of a comparison: what is true of its files, or, where it isn't built, that
 abbrev pub IsCheckFound : Held → Check → Finding → Type 0
-IsCheckFound held check f = WhereBuilt check.settings.mode check.settings.reset (IsFoundOf held check f) (f ≡ finding.Refused refusal.NotBuilt)
+IsCheckFound held check f = WhereBuilt check.settings.mode (IsFoundOf held check f) (f ≡ finding.Refused refusal.NotBuilt)

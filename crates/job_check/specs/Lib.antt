@@ -1,3 +1,4 @@
+pub mod Resets
 pub mod Answer
 pub mod Check
 pub mod Ends

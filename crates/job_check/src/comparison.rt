@@ -1,6 +1,6 @@
 //! The job that compares two circuits.
 
-ghost use Rattle.std.specs.Prelude.{◌≡◌, ◌≤◌, false, ◌∷◌, [], IsErrOf};
+ghost use Rattle.std.specs.Prelude.{◌≡◌, ◌≤◌, true, false, ◌∷◌, [], IsErrOf};
 ghost use Rattle.std.specs.List.{All};
 ghost use Rattle.circuit_theory.specs.declared.Mode.TheVariants.{Plain};
 ghost use Rattle.sec_base.specs.Outside.{Rose, SameHeld, NoneFell};
@@ -25,28 +25,23 @@ pub struct Comparison<'a> {
     pub settings: Settings,
 }
 
-/// Compares the circuits of two files, where the form is built.
+/// Compares the circuits of two files, where the mode is built. From initial values no latch is cut open.
 pub fn check<S: Shelf>(
     alloc: Global,
     comparison: &Comparison<'_>,
     shelf: &mut S,
 ) -> Result<Finding, Stop>
-    requires { comparison.now.settings.conflicts ≤ MAX_CONFLICTS }
+    requires uncut { comparison.now.settings.reset ≡ true → comparison.now.settings.expose ≡ false }
+    requires conflicts { comparison.now.settings.conflicts ≤ MAX_CONFLICTS }
     ensures found { let check : Check = record { left = comparison.now.left.now; right = comparison.now.right.now; settings = comparison.now.settings } in
         CheckFound (S.held shelf.old) (S.faults shelf.old) (S.faults shelf.new) check result }
     ensures keeps { SameHeld (S.held shelf.old) (S.held shelf.new) }
     ensures later { NoneFell (S.faults shelf.old) (S.faults shelf.new) }
-    ensures served { All (S.serves shelf.old) (where_built comparison.now.settings.mode comparison.now.settings.reset (comparison.now.left.now ∷ comparison.now.right.now ∷ [])) → IsErrOf result Stop.ReadFault → ⊥ }
-    ensures idle { where_built comparison.now.settings.mode comparison.now.settings.reset (comparison.now.left.now ∷ comparison.now.right.now ∷ []) ≡ [] → shelf.new ≡ shelf.old }
+    ensures served { All (S.serves shelf.old) (where_built comparison.now.settings.mode (comparison.now.left.now ∷ comparison.now.right.now ∷ [])) → IsErrOf result Stop.ReadFault → ⊥ }
+    ensures idle { where_built comparison.now.settings.mode (comparison.now.left.now ∷ comparison.now.right.now ∷ []) ≡ [] → shelf.new ≡ shelf.old }
 {
     match comparison.settings.mode {
-        Mode::Plain => {
-            if comparison.settings.reset {
-                Ok(Finding::Refused(Refusal::NotBuilt))
-            } else {
-                compare_files(alloc, comparison, shelf)
-            }
-        }
+        Mode::Plain => compare_files(alloc, comparison, shelf),
         Mode::Event => Ok(Finding::Refused(Refusal::NotBuilt)),
     }
 }
@@ -58,7 +53,7 @@ fn compare_files<S: Shelf>(
     shelf: &mut S,
 ) -> Result<Finding, Stop>
     requires plain { comparison.now.settings.mode ≡ Plain }
-    requires settling { comparison.now.settings.reset ≡ false }
+    requires uncut { comparison.now.settings.reset ≡ true → comparison.now.settings.expose ≡ false }
     requires conflicts { comparison.now.settings.conflicts ≤ MAX_CONFLICTS }
     ensures found { let check : Check = record { left = comparison.now.left.now; right = comparison.now.right.now; settings = comparison.now.settings } in
         FoundOf (S.held shelf.old) (S.faults shelf.old) (S.faults shelf.new) check result }
@@ -80,7 +75,7 @@ fn compare_with<S: Shelf>(
     shelf: &mut S,
 ) -> Result<Finding, Stop>
     requires plain { comparison.now.settings.mode ≡ Plain }
-    requires settling { comparison.now.settings.reset ≡ false }
+    requires uncut { comparison.now.settings.reset ≡ true → comparison.now.settings.expose ≡ false }
     requires conflicts { comparison.now.settings.conflicts ≤ MAX_CONFLICTS }
     requires left { IsComparable a.now }
     ensures found { let path = comparison.now.right.now in

@@ -10,6 +10,7 @@ use Rattle.outcome.specs.declared.verdict.PairResult.{PairResult}
 use Rattle.outcome.specs.declared.verdict.LimitAt.{LimitAt}
 use Rattle.outcome.specs.declared.verdict.LimitAt.TheVariants as limit_at
 use Rattle.outcome.specs.declared.verdict.Outcome.{Outcome}
+use Rattle.outcome.specs.declared.verdict.ResetWitness.{ResetWitness}
 use Rattle.outcome.specs.declared.verdict.Verdict.{Verdict}
 use Rattle.outcome.specs.declared.verdict.Verdict.TheVariants as verdict
 use Rattle.outcome.specs.declared.verdict.Why.{Why}
@@ -34,24 +35,29 @@ use Rattle.job_gen.proofs.Fitted.{beside, cut_answer, limit_answer, kept_proof}
 equal_verdict : (v : Verdict) → generated_status v ≡ status.Done → v ≡ verdict.Equal
 equal_verdict verdict.Equal e = refl
 equal_verdict (verdict.Different w) e = absurd (cc)
+equal_verdict (verdict.DifferentFrom w) e = absurd (cc)
 equal_verdict (verdict.NotShown reason) e = absurd (cc)
 equal_verdict (verdict.Limit at) e = absurd (cc)
 
-different_verdict : (v : Verdict) → generated_status v ≡ status.Different → (w : Witness) × (v ≡ verdict.Different w)
-different_verdict verdict.Equal e = absurd (cc)
-different_verdict (verdict.Different w) e = (w, refl)
-different_verdict (verdict.NotShown reason) e = absurd (cc)
-different_verdict (verdict.Limit at) e = absurd (cc)
+-- no comparison of a pair is made from initial values
+different_verdict : (v : Verdict) → ((w : ResetWitness) → v ≡ verdict.DifferentFrom w → ⊥) → generated_status v ≡ status.Different → (w : Witness) × (v ≡ verdict.Different w)
+different_verdict verdict.Equal always e = absurd (cc)
+different_verdict (verdict.Different w) always e = (w, refl)
+different_verdict (verdict.DifferentFrom w) always e = absurd (always w refl)
+different_verdict (verdict.NotShown reason) always e = absurd (cc)
+different_verdict (verdict.Limit at) always e = absurd (cc)
 
 not_shown_verdict : (v : Verdict) → generated_status v ≡ status.NotShown → (w : Witness) × (v ≡ verdict.NotShown (why.Cut w))
 not_shown_verdict verdict.Equal e = absurd (cc)
 not_shown_verdict (verdict.Different w) e = absurd (cc)
+not_shown_verdict (verdict.DifferentFrom w) e = absurd (cc)
 not_shown_verdict (verdict.NotShown (why.Cut w)) e = (w, refl)
 not_shown_verdict (verdict.Limit at) e = absurd (cc)
 
 limit_verdict : (v : Verdict) → generated_status v ≡ status.Limit → (at : LimitAt) × (v ≡ verdict.Limit at)
 limit_verdict verdict.Equal e = absurd (cc)
 limit_verdict (verdict.Different w) e = absurd (cc)
+limit_verdict (verdict.DifferentFrom w) e = absurd (cc)
 limit_verdict (verdict.NotShown reason) e = absurd (cc)
 limit_verdict (verdict.Limit at) e = (at, refl)
 
@@ -59,24 +65,28 @@ limit_verdict (verdict.Limit at) e = (at, refl)
 no_equal : (v : Verdict) → generated_status v ≡ status.Equal → ⊥
 no_equal verdict.Equal e = cc
 no_equal (verdict.Different w) e = cc
+no_equal (verdict.DifferentFrom w) e = cc
 no_equal (verdict.NotShown reason) e = cc
 no_equal (verdict.Limit at) e = cc
 
 no_refused : (v : Verdict) → generated_status v ≡ status.Refused → ⊥
 no_refused verdict.Equal e = cc
 no_refused (verdict.Different w) e = cc
+no_refused (verdict.DifferentFrom w) e = cc
 no_refused (verdict.NotShown reason) e = cc
 no_refused (verdict.Limit at) e = cc
 
 no_words : (v : Verdict) → generated_status v ≡ status.Words → ⊥
 no_words verdict.Equal e = cc
 no_words (verdict.Different w) e = cc
+no_words (verdict.DifferentFrom w) e = cc
 no_words (verdict.NotShown reason) e = cc
 no_words (verdict.Limit at) e = cc
 
 no_cyclic : (v : Verdict) → generated_status v ≡ status.Cyclic → ⊥
 no_cyclic verdict.Equal e = cc
 no_cyclic (verdict.Different w) e = cc
+no_cyclic (verdict.DifferentFrom w) e = cc
 no_cyclic (verdict.NotShown reason) e = cc
 no_cyclic (verdict.Limit at) e = cc
 
@@ -148,6 +158,10 @@ module _ (g : Generation) (o : Outcome) (report : List ℕ) (is : IsOutcomeOf g 
         takes = takes before now (verdict.Limit (limit_at.Pair n.0.name)) taken (e ∙ ap verdict.Limit (first.at_is ∙ ap limit_at.Pair n.2.name_is));
       }
 
+  -- no difference is one from initial values
+  always : (w : ResetWitness) → o.verdict ≡ verdict.DifferentFrom w → ⊥
+  always w e = subst IsVerdict e is.compared.fits.verdict_is
+
   -- a difference is always shown
   shown : (w : Witness) → o.verdict ≡ verdict.NotShown (why.Cut w) → ⊥
   shown w e =
@@ -160,7 +174,7 @@ module _ (g : Generation) (o : Outcome) (report : List ℕ) (is : IsOutcomeOf g 
 
   means : (before now : Option (List ℕ)) (proofs : List Proof) (name : StatusName) → IsWrittenAs before now (finding.Generated o report) proofs name → GenMeans g before now proofs name
   means before now proofs status.Equal w = no_equal o.verdict w.1
-  means before now proofs status.Different w = let v = different_verdict o.verdict w.1 in differ before now w.2 v.0 v.1
+  means before now proofs status.Different w = let v = different_verdict o.verdict always w.1 in differ before now w.2 v.0 v.1
   means before now proofs status.NotShown w = let v = not_shown_verdict o.verdict w.1 in shown v.0 v.1
   means before now proofs status.Limit w = let v = limit_verdict o.verdict w.1 in undecided before now w.2 proofs w.0 v.0 v.1
   means before now proofs status.Refused w = no_refused o.verdict w.1
@@ -174,6 +188,7 @@ module _ (g : Generation) (o : Outcome) (report : List ℕ) (is : IsOutcomeOf g 
   answered : (v : Verdict) → o.verdict ≡ v → IsGenAnswer (generated_status v)
   answered verdict.Equal e = tt
   answered (verdict.Different w) e = tt
+  answered (verdict.DifferentFrom w) e = tt
   answered (verdict.NotShown (why.Cut w)) e = shown w e
   answered (verdict.Limit at) e = tt
 

@@ -20,6 +20,7 @@ counts_text front m n = front ++ decimal m ++ 32 ∷ [] ++ decimal n ++ 10 ∷ [
 abbrev pub verdict_word : Verdict → List ℕ
 verdict_word verdict.Equal = codes "equal"
 verdict_word (verdict.Different w) = codes "different"
+verdict_word (verdict.DifferentFrom w) = codes "different"
 verdict_word (verdict.NotShown reason) = codes "not-shown"
 verdict_word (verdict.Limit at) = codes "limit"
 

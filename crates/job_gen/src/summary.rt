@@ -88,6 +88,7 @@ fn verdict_word(verdict: &Verdict) -> &'static str
     match verdict {
         Verdict::Equal => "equal",
         Verdict::Different(_) => "different",
+        Verdict::DifferentFrom(_) => "different",
         Verdict::NotShown(_) => "not-shown",
         Verdict::Limit(_) => "limit",
     }

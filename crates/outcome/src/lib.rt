@@ -7,5 +7,5 @@ mod verdict;
 pub use pair_decide::Proof;
 pub use sec_base::Settings;
 pub use text::report;
-pub use verdict::{LimitAt, Outcome, PairResult, PairResults, Verdict, Why};
+pub use verdict::{LimitAt, Outcome, PairResult, PairResults, ResetWitness, Verdict, Why};
 pub use witness_report::{PairName, Stimulus, Witness};

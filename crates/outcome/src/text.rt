@@ -3,11 +3,14 @@
 ghost use Rattle.std.specs.Prelude.{◌≡◌, ℕ, List, [], ◌∷◌, ◌++◌, length, codes, OnOk, IfOk};
 ghost use Rattle.std.specs.Fmt.{decimal};
 ghost use Rattle.std.specs.List.{flat_map};
-ghost use Rattle.witness_report.specs.Text.{stimulus_text};
-ghost use Rattle.outcome.specs.Report.{answer_word, pair_text, pair_front, pair_line, values_text, witness_text, why_text, limit_text, through_text, verdict_text, counts_text, report_text};
+ghost use Rattle.witness_report.specs.Text.{row_line, stimulus_text};
+ghost use Rattle.outcome.specs.Report.{answer_word, pair_text, pair_front, pair_line, values_text, witness_text, reset_witness_text, why_text, limit_text, through_text, verdict_text, counts_text, reset_line, exposed_line, report_text};
 
-use crate::verdict::{LimitAt, Outcome, PairResult, Verdict, Why};
-use sec_base::{NoMemory, PairAnswer, Seq, Settings, Text, digit_of, put, put_names, put_number};
+use crate::verdict::{LimitAt, Outcome, PairResult, ResetWitness, Verdict, Why};
+use sec_base::{
+    NoMemory, PairAnswer, Seq, Settings, Text, Words, digit_of, put, put_digits, put_names,
+    put_number,
+};
 use std::alloc::Global;
 use witness_report::{PairName, Stimulus, Witness, write_stimulus};
 
@@ -99,6 +102,32 @@ fn put_witness(alloc: Global, text: &mut Vec<u8>, witness: &Witness) -> Result<(
     put_stimulus(alloc, text, &witness.stimulus)
 }
 
+/// Puts the rest of a line: a digit for each latch, or `-` without latches.
+fn put_power(text: &mut Vec<u8>, power: &[bool]) -> Result<(), NoMemory>
+    ensures { OnOk result (text.new.items ≡ text.old.items ++ row_line power.now) }
+{
+    if power.is_empty() {
+        return put(text, b"-\n");
+    }
+    put_digits(text, power)?;
+    put(text, b"\n")
+}
+
+/// Puts a sequence from the initial values, and then the power-ups of both circuits.
+fn put_reset_witness(
+    alloc: Global,
+    text: &mut Vec<u8>,
+    shown: &ResetWitness,
+) -> Result<(), NoMemory>
+    ensures { OnOk result (text.new.items ≡ text.old.items ++ reset_witness_text shown.now) }
+{
+    put_witness(alloc, text, &shown.witness)?;
+    put(text, b"power A ")?;
+    put_power(text, shown.left_power.as_slice())?;
+    put(text, b"power B ")?;
+    put_power(text, shown.right_power.as_slice())
+}
+
 /// Puts what is shown where latches were cut open, and the sequence that shows it.
 fn put_why(alloc: Global, text: &mut Vec<u8>, why: &Why) -> Result<(), NoMemory>
     ensures { OnOk result (text.new.items ≡ text.old.items ++ why_text why.now) }
@@ -149,6 +178,10 @@ fn put_verdict(
             put(text, b"verdict different ")?;
             put_witness(alloc, text, witness)
         }
+        Verdict::DifferentFrom(shown) => {
+            put(text, b"verdict different ")?;
+            put_reset_witness(alloc, text, shown)
+        }
         Verdict::NotShown(why) => {
             put(text, b"verdict not-shown ")?;
             put_why(alloc, text, why)
@@ -183,20 +216,39 @@ fn put_counts(alloc: Global, text: &mut Vec<u8>, outcome: &Outcome) -> Result<()
     put_number(alloc, text, u64::from(outcome.left_latches))?;
     put(text, b" ")?;
     put_number(alloc, text, u64::from(outcome.right_latches))?;
-    put(text, b"\nexposed ")?;
-    put_number(alloc, text, outcome.exposed.len() as u64)?;
-    put_names(text, &outcome.exposed)?;
     put(text, b"\n")
 }
 
-/// The report of a comparison: the counts, a line for each pair, the cycle from which on all pairs are settled where it is asked
-/// for, and the verdict with its sequence.
+/// Puts a line that tells that runs begin with the latches' initial values, where they do.
+fn put_reset_line(text: &mut Vec<u8>, reset: bool) -> Result<(), NoMemory>
+    ensures { OnOk result (text.new.items ≡ text.old.items ++ reset_line reset) }
+{
+    if reset {
+        return put(text, b"reset\n");
+    }
+    Ok(())
+}
+
+/// Puts the line of the latches that were cut open.
+fn put_exposed(alloc: Global, text: &mut Vec<u8>, exposed: &Words) -> Result<(), NoMemory>
+    ensures { OnOk result (text.new.items ≡ text.old.items ++ exposed_line exposed.now) }
+{
+    put(text, b"exposed ")?;
+    put_number(alloc, text, exposed.len() as u64)?;
+    put_names(text, exposed)?;
+    put(text, b"\n")
+}
+
+/// The report of a comparison: the counts, whether runs begin with the latches' initial values, the latches that were cut open, a
+/// line for each pair, the cycle from which on all pairs are settled where it is asked for, and the verdict with its sequence.
 /// Each line ends with a line feed; numbers are decimal, and names stand byte for byte.
 pub fn report(alloc: Global, outcome: &Outcome, settings: &Settings) -> Result<Text, NoMemory>
-    ensures { IfOk result (λ text. text ≡ report_text settings.now.conflicts outcome.now) }
+    ensures { IfOk result (λ text. text ≡ report_text settings.now outcome.now) }
 {
     let mut text = Vec::new(alloc);
     put_counts(alloc, &mut text, outcome)?;
+    put_reset_line(&mut text, settings.reset)?;
+    put_exposed(alloc, &mut text, &outcome.exposed)?;
     put_pairs(alloc, &mut text, outcome.pairs.as_slice())?;
     put_through(alloc, &mut text, outcome)?;
     put_verdict(alloc, &mut text, &outcome.verdict, settings.conflicts)?;

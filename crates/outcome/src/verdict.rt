@@ -1,7 +1,7 @@
 //! What a comparison finds.
 
 use pair_decide::Proof;
-use sec_base::{PairAnswer, Seq, Words};
+use sec_base::{Bits, PairAnswer, Seq, Words};
 use witness_report::{PairName, Witness};
 
 /// What was found of one pair.
@@ -32,6 +32,16 @@ pub enum Why {
     Cut(Witness),
 }
 
+/// An input sequence that makes a pair differ in runs from the initial values, with the values of the latches in cycle 0.
+#[derive(Drop)]
+pub struct ResetWitness {
+    pub witness: Witness,
+    /// A bit for each latch of the first circuit: its initial value where that is 0 or 1, and else the value that it has to begin with.
+    pub left_power: Bits,
+    /// The same of the second circuit.
+    pub right_power: Bits,
+}
+
 /// The answer of a comparison: the first of different, limit, not shown and equal that some pair has.
 #[derive(Drop)]
 pub enum Verdict {
@@ -39,6 +49,8 @@ pub enum Verdict {
     Equal,
     /// A pair's functions differ, and the sequence shows it; no latch was cut open.
     Different(Witness),
+    /// A pair's functions differ in a cycle of runs from the initial values, and the sequence and the power-ups show it.
+    DifferentFrom(ResetWitness),
     /// A pair's functions differ, and latches were cut open.
     NotShown(Why),
     /// A query wasn't decided within the number of conflicts.

@@ -87,6 +87,7 @@ pub record IsFirstLimit (results : List PairResult) (at : LimitAt) : Type 0 wher
 abbrev pub VerdictFits : {P Q : Type 0} → Circuit P → Circuit Q → List ℕ → List ℕ → List (List ℕ) → List (NamedPair P Q) → List PairResult → Verdict → Type 0
 VerdictFits a b left right columns pairs results verdict.Equal = All (λ (r : PairResult). r.answer ≡ answer.Equal) results
 VerdictFits a b left right columns pairs results (verdict.Different w) = IsFirstOfAnswer a b left right columns answer.Different pairs results w
+VerdictFits a b left right columns pairs results (verdict.DifferentFrom w) = ⊥
 VerdictFits a b left right columns pairs results (verdict.Limit at) = IsFirstLimit results at
 VerdictFits a b left right columns pairs results (verdict.NotShown (why.Cut w)) =
     NoneIs answer.Different results × NoneIs answer.Limit results × IsFirstOfAnswer a b left right columns answer.NotShown pairs results w

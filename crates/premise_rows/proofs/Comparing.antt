@@ -79,7 +79,7 @@ module _ (s t : Small) (a b : NetView) (left : IsSmall s a) (right : IsSmall t b
         omega (arith, h, few_right)
 
 -- two texts of small designs without cycles
-pub comparable : (x y : List ℕ) (m k : List BlifModel) (s t : Small) → Spells x m s → Spells y k t → PortsMatch s t → s.removed ≡ [] → t.removed ≡ [] → s.weight ≤ 2000000 → t.weight ≤ 2000000 → (expose : Bool) → AreComparable x y expose
+pub comparable : (x y : List ℕ) (m k : List BlifModel) (s t : Small) → Spells x m s → Spells y k t → PortsMatch s t → s.removed ≡ [] → t.removed ≡ [] → s.weight ≤ 2000000 → t.weight ≤ 2000000 → (expose : Bool) → AreComparable x y expose false
 comparable x y m k s t p q same none_left none_right few_left few_right expose = record {
   left = accepted x m s p;
   right = accepted y k t q;

@@ -15,3 +15,5 @@ pub mod Nested
 pub mod Replays
 pub mod Refutations
 pub mod Started
+pub mod ResetBounds
+pub mod ResetPremises

@@ -273,6 +273,7 @@ module _ (text : List ℕ) (a b : NetView) (la : Loads text a) (lb : Loads text 
   only_verdict : (v : Verdict) → Fits v → v ≡ verdict.Equal
   only_verdict verdict.Equal h = refl
   only_verdict (verdict.Different w) h = absurd (no_other h.index h.result answer.Different h.result_is h.answered (λ e. cc))
+  only_verdict (verdict.DifferentFrom w) h = absurd h
   only_verdict (verdict.NotShown (why.Cut w)) h = absurd (no_other h.2.index h.2.result answer.NotShown h.2.result_is h.2.answered (λ e. cc))
   only_verdict (verdict.Limit at) h = absurd (no_other h.index h.result answer.Limit h.result_is h.limit (λ e. cc))
 

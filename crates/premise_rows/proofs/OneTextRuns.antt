@@ -10,7 +10,7 @@ use Rattle.command_line.specs.declared.task.Task.TheVariants as task
 use Rattle.outcome.specs.declared.verdict.Outcome.{Outcome}
 use Rattle.outcome.specs.declared.verdict.Verdict.{Verdict}
 use Rattle.outcome.specs.declared.verdict.Verdict.TheVariants as verdict
-use Rattle.sec_check.specs.Compared.{Compared}
+use Rattle.sec_check.specs.Compared.{ByReset, Compared}
 use Rattle.sec_files.specs.Loading.{Loads}
 use Rattle.job_base.specs.declared.finding.Finding.{Finding}
 use Rattle.job_base.specs.declared.finding.Finding.TheVariants as finding
@@ -25,24 +25,24 @@ use Rattle.job_base.specs.Written.{status_of, verdict_status}
 use Rattle.job_check.specs.Check.{Check, WhereBuilt}
 use Rattle.job_base.specs.Meaning.{EndsWith}
 use Rattle.sec_run.specs.Promises.{IsComplete}
-use Rattle.premise_rows.specs.OneText.{OfCheck, OfOneText, IsEqualAnswer}
+use Rattle.premise_rows.specs.OneText.{OfCheck, OfOneText, IsAlways, IsEqualAnswer}
 use Rattle.premise_rows.proofs.OneText.{one_text_is_equal}
 
 -- what is said of the text that both paths of the comparison hold
 abbrev pub CanMeetItself : Held → Check → Type 0
-CanMeetItself held check = OfOneText held check (λ x. AreComparable x x check.settings.expose)
+CanMeetItself held check = OfOneText held check (λ x. AreComparable x x check.settings.expose check.settings.reset)
 
 -- the text that both paths hold
 record IsHeld (held : Held) (check : Check) : Type 0 where
   pub text : List ℕ
   pub left_is : held check.left ≡ Some text
   pub right_is : held check.right ≡ Some text
-  pub comparable : AreComparable text text check.settings.expose
+  pub comparable : AreComparable text text check.settings.expose check.settings.reset
 
 is_held : (held : Held) (check : Check) → CanMeetItself held check → IsHeld held check
 is_held held check h = by (held check.left) h (λ text e. e)
   where
-    by : (o : Option (List ℕ)) → IsSomeAnd o (λ x. (held check.right ≡ Some x) × AreComparable x x check.settings.expose) → ((text : List ℕ) → o ≡ Some text → held check.left ≡ Some text) → IsHeld held check
+    by : (o : Option (List ℕ)) → IsSomeAnd o (λ x. (held check.right ≡ Some x) × AreComparable x x check.settings.expose check.settings.reset) → ((text : List ℕ) → o ≡ Some text → held check.left ≡ Some text) → IsHeld held check
     by None k is = absurd k
     by (Some text) k is = record { text = text; left_is = is text refl; right_is = k.0; comparable = k.1 }
 
@@ -56,16 +56,20 @@ if_held {X} o P x e h = let Q : Option X → Type 0 = λ p. IfSome p P in subst 
 can_answer : (held : Held) (check : Check) → CanMeetItself held check → CanAnswer held check
 can_answer held check h =
     let x = is_held held check h in
-    some_held (held check.left) (λ left. IsSomeAnd (held check.right) (λ right. AreComparable left right check.settings.expose)) x.text x.left_is
-    (some_held (held check.right) (λ right. AreComparable x.text right check.settings.expose) x.text x.right_is x.comparable)
+    some_held (held check.left) (λ left. IsSomeAnd (held check.right) (λ right. AreComparable left right check.settings.expose check.settings.reset)) x.text x.left_is
+    (some_held (held check.right) (λ right. AreComparable x.text right check.settings.expose check.settings.reset) x.text x.right_is x.comparable)
 
-module _ (held : Held) (check : Check) (h : CanMeetItself held check) where
+from_always : {X : Type 0} (Y : Type 0) (reset : Bool) → reset ≡ false → ByReset reset X Y → X
+from_always Y false e h = h
+from_always Y true e h = absurd (cc)
+
+module _ (held : Held) (check : Check) (h : CanMeetItself held check) (always : check.settings.reset ≡ false) where
   checked : (o : Outcome) → OfNets held check (λ a b. Compared a b check.settings (Ok o)) → o.verdict ≡ verdict.Equal
   checked o found =
       let x = is_held held check h in
       let n = if_held (held check.right) (λ right. (a : NetView) × (b : NetView) × Loads x.text a × Loads right b × Compared a b check.settings (Ok o)) x.text x.right_is
       (if_held (held check.left) (λ left. IfSome (held check.right) (λ right. (a : NetView) × (b : NetView) × Loads left a × Loads right b × Compared a b check.settings (Ok o))) x.text x.left_is found) in
-      one_text_is_equal x.text n.0 n.1 n.2 n.3 check.settings o n.4
+      one_text_is_equal x.text n.0 n.1 n.2 n.3 check.settings o (from_always _ check.settings.reset always n.4)
 
   found_equal : (f : Finding) → IsFoundOf held check f → IsAnswer (status_of f) → IsEqualAnswer (status_of f)
   found_equal finding.Words found is = absurd found
@@ -79,23 +83,23 @@ module _ (held : Held) (check : Check) (h : CanMeetItself held check) where
   found_equal (finding.Undecided side name proof) found is = absurd found
 
 -- what is found of a job
-check_equal : (held : Held) (check : Check) (f : Finding) (mode : Mode) (reset : Bool) → WhereBuilt mode reset (CanMeetItself held check) ⊥ → WhereBuilt mode reset (IsFoundOf held check f) (f ≡ finding.Refused refusal.NotBuilt) →
+check_equal : (held : Held) (check : Check) (f : Finding) (mode : Mode) (reset : Bool) → check.settings.reset ≡ reset → IsAlways mode reset (CanMeetItself held check) → WhereBuilt mode (IsFoundOf held check f) (f ≡ finding.Refused refusal.NotBuilt) →
     IsAnswer (status_of f) → IsEqualAnswer (status_of f)
-check_equal held check f Plain false can found is = found_equal held check can f found is
-check_equal held check f Plain true can found is = absurd can
-check_equal held check f Event reset can found is = absurd can
+check_equal held check f Plain false e can found is = found_equal held check can e f found is
+check_equal held check f Plain true e can found is = absurd can
+check_equal held check f Event reset e can found is = absurd can
 
 job_equal : (held : Held) (job : Option Task) (f : Finding) → OfCheck job (CanMeetItself held) → IsFinding held job f → IsAnswer (status_of f) → IsEqualAnswer (status_of f)
 job_equal held None f can found is = absurd can
-job_equal held (Some (task.Check a b settings)) f can found is = check_equal held (record { left = a; right = b; settings = settings }) f settings.mode settings.reset can found is
+job_equal held (Some (task.Check a b settings)) f can found is = check_equal held (record { left = a; right = b; settings = settings }) f settings.mode settings.reset refl can found is
 job_equal held (Some (task.Graph a mode)) f can found is = absurd can
 job_equal held (Some (task.Sim a s mode power reset)) f can found is = absurd can
 job_equal held (Some (task.Replay a b s mode)) f can found is = absurd can
 job_equal held (Some (task.Gen seed regroup conflicts)) f can found is = absurd can
 
 -- a job over one text is one that is answered
-check_answered : (held : Held) (check : Check) (name : StatusName) (mode : Mode) (reset : Bool) → WhereBuilt mode reset (CanMeetItself held check) ⊥ →
-    WhereBuilt mode reset (CanAnswer held check → IsAnswer name) (EndsWith status.Refused name) → IsAnswer name
+check_answered : (held : Held) (check : Check) (name : StatusName) (mode : Mode) (reset : Bool) → IsAlways mode reset (CanMeetItself held check) →
+    WhereBuilt mode (CanAnswer held check → IsAnswer name) (EndsWith status.Refused name) → IsAnswer name
 check_answered held check name Plain false can complete = complete (can_answer held check can)
 check_answered held check name Plain true can complete = absurd can
 check_answered held check name Event reset can complete = absurd can

@@ -10,3 +10,4 @@ pub mod CutOpen
 pub mod Replays
 pub mod Refutations
 pub mod Started
+pub mod ResetPremises

@@ -1,5 +1,7 @@
 -- What is answered where a text is compared with itself.
-use Rattle.std.specs.Prelude.{◌≡◌, ℕ, Bool, List, [], Option, Some, None, IsSomeAnd}
+use Rattle.std.specs.Prelude.{◌≡◌, ℕ, Bool, true, false, List, [], Option, Some, None, IsSomeAnd}
+use Rattle.circuit_theory.specs.declared.Mode.{Mode}
+use Rattle.circuit_theory.specs.declared.Mode.TheVariants.{Plain, Event}
 use Rattle.flat_net.specs.View.{NetView, circuit_of}
 use Rattle.sec_base.specs.declared.settings.Settings.{Settings}
 use Rattle.outcome.specs.declared.verdict.Verdict.TheVariants as verdict
@@ -12,7 +14,7 @@ use Rattle.job_base.specs.declared.status.StatusName.{StatusName}
 use Rattle.job_base.specs.declared.status.StatusName.TheVariants as status
 use Rattle.command_line.specs.declared.task.Task.{Task}
 use Rattle.command_line.specs.declared.task.Task.TheVariants as task
-use Rattle.job_check.specs.Check.{Check, WhereBuilt}
+use Rattle.job_check.specs.Check.{Check}
 use Rattle.job_files.specs.Reading.{Held}
 use Rattle.job_check.specs.Answer.{AreComparable}
 
@@ -28,11 +30,17 @@ pub record CanBeUnfolded (text : List ℕ) : Type 0 where
 
 -- Such a text can be compared with itself, whether latches may be cut open or not.
 abbrev pub UnfoldedIsComparable : Type 0
-UnfoldedIsComparable = (text : List ℕ) → CanBeUnfolded text → (expose : Bool) → AreComparable text text expose
+UnfoldedIsComparable = (text : List ℕ) → CanBeUnfolded text → (expose : Bool) → AreComparable text text expose false
 
--- what is said of the comparison that the job asks for, where it is built
+-- the comparison is in the plain mode, and over all power-ups
+abbrev pub IsAlways : Mode → Bool → Type 0 → Type 0
+IsAlways Plain false P = P
+IsAlways Plain true P = ⊥
+IsAlways Event reset P = ⊥
+
+-- what is said of such a comparison that the job asks for
 abbrev pub OfCheck : Option Task → (Check → Type 0) → Type 0
-OfCheck (Some (task.Check a b settings)) P = WhereBuilt settings.mode settings.reset (P (record { left = a; right = b; settings = settings })) ⊥
+OfCheck (Some (task.Check a b settings)) P = IsAlways settings.mode settings.reset (P (record { left = a; right = b; settings = settings }))
 OfCheck other P = ⊥
 
 -- what is said of a text that is held at both paths

@@ -7,6 +7,7 @@ ghost use Rattle.job_check.specs.Answer.{AreComparable};
 ghost use Rattle.premise_rows.specs.OneText.{OneTextIsEqual, UnfoldedIsComparable, OfCheck, OfOneText, IsEqualAnswer};
 ghost use Rattle.premise_rows.specs.OneReport.{GraphReportsAreOne, SimReportsAreOne};
 ghost use Rattle.premise_rows.specs.Premises.{AndsAreComparable, RetimedAreComparable, HierarchyIsComparable, CyclicAreComparable, TextsAreAccepted, TextsCanBeUnfolded, RingIsCutOnce};
+ghost use Rattle.premise_rows.specs.ResetPremises.{ResetsAreComparable};
 ghost use Rattle.premise_rows.specs.CutOpen.{NestedIsCutOpen};
 ghost use Rattle.premise_rows.specs.RuledOut.{AndsMeetNoLimit};
 ghost use Rattle.premise_rows.specs.Stimuli.{TwoCanBeRun};
@@ -68,6 +69,11 @@ pub fn ands_meet_no_limit()
 /// Two latches in a row can be run over a stimulus, from a power word and without one.
 pub fn two_can_be_run()
     ensures { TwoCanBeRun }
+{}
+
+/// A retiming that moves initial values along can be compared from these, and so can circuits with latches that may start with either.
+pub fn resets_are_comparable()
+    ensures { ResetsAreComparable }
 {}
 
 /// Three latches power up with their initial values where they have them, and else with the power word.
@@ -134,7 +140,7 @@ pub fn run_on_one_text<S: Shelf, W: Sink>(
     shelf: &mut S,
     out: &mut W,
 ) -> Status
-    ensures { OfCheck (job_of (map (λ w. string_bytes w) words.now)) (λ check. OfOneText (S.held shelf.old) check (λ x. AreComparable x x check.settings.expose))
+    ensures { OfCheck (job_of (map (λ w. string_bytes w) words.now)) (λ check. OfOneText (S.held shelf.old) check (λ x. AreComparable x x check.settings.expose check.settings.reset))
         → result.name ≢ StatusName.ReadFault → result.name ≢ StatusName.WriteFault → IsEqualAnswer result.name }
 {
     run(alloc, words, shelf, out)

@@ -29,7 +29,7 @@ use Rattle.shift_variables.specs.Variables.{variable_of, variables_of}
 use Rattle.witness_report.specs.declared.witness.PairName.{PairName}
 use Rattle.reset_form.specs.declared.bases.Bases.{Bases}
 use Rattle.reset_form.specs.declared.functions.Functions.{Functions}
-use Rattle.reset_form.specs.declared.shown.ResetWitness.{ResetWitness}
+use Rattle.outcome.specs.declared.verdict.ResetWitness.{ResetWitness}
 use Rattle.reset_form.specs.Asked.{AskedOf, AreAsked}
 use Rattle.reset_form.specs.Bases.{AreBases}
 use Rattle.reset_form.specs.Formed.{numbered}

@@ -16,7 +16,7 @@ pub use Rattle.obligations.specs.Decided.{NoneIs}
 pub use Rattle.obligations.specs.Verdict.{greatest_size}
 use Rattle.reset_form.specs.Limits.{IsUndecidedAt}
 use Rattle.reset_form.specs.declared.comparison.ResetFindings.{ResetFindings}
-use Rattle.reset_form.specs.declared.shown.ResetWitness.{ResetWitness}
+use Rattle.outcome.specs.declared.verdict.ResetWitness.{ResetWitness}
 use Rattle.reset_form.specs.declared.shown.ResetVerdict.{ResetVerdict}
 use Rattle.reset_form.specs.declared.shown.ResetVerdict.TheVariants as verdict
 

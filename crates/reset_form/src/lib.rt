@@ -13,4 +13,4 @@ mod witness;
 pub use bases::Bases;
 pub use comparison::{ResetFindings, compare_reset};
 pub use error::ResetError;
-pub use shown::{ResetVerdict, ResetWitness};
+pub use shown::ResetVerdict;

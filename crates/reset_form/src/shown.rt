@@ -8,20 +8,10 @@ use crate::bases::Bases;
 use crate::functions::Functions;
 use crate::witness::witness_of;
 use obligations::{Difference, Obligation, VerdictAt, copy_name};
-use outcome::{PairName, PairResult, Witness};
-use sec_base::{Bits, NoMemory};
+use outcome::{PairName, PairResult, ResetWitness};
+use sec_base::NoMemory;
 use sec_setup::Setup;
 use std::alloc::Global;
-
-/// An input sequence that makes a pair differ in runs from the initial values, with the values of the latches in cycle 0.
-#[derive(Drop)]
-pub struct ResetWitness {
-    pub witness: Witness,
-    /// A bit for each latch of the first circuit: its initial value where that is 0 or 1, and else the value that it begins with.
-    pub left_power: Bits,
-    /// The same of the second circuit.
-    pub right_power: Bits,
-}
 
 /// The answer of a comparison from the initial values: the first of different, limit and equal that some pair has.
 #[derive(Drop)]

@@ -11,11 +11,10 @@ ghost use Rattle.reset_form.specs.Shown.{IsSequenceOf, IsWitnessOf};
 
 use crate::bases::Bases;
 use crate::functions::Functions;
-use crate::shown::ResetWitness;
 use aig::Aig;
 use cycle_variables::{cycle_rows, power_up};
 use obligations::copy_name;
-use outcome::{PairName, Stimulus, Witness};
+use outcome::{PairName, ResetWitness, Stimulus, Witness};
 use pair_decide::Query;
 use sec_base::{Bits, NoMemory, PlaceTable, Words};
 use sec_setup::Setup;

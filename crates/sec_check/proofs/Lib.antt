@@ -5,3 +5,7 @@ pub mod Meaning
 pub mod Outcomes
 pub mod Refusals
 pub mod Sequences
+pub mod ResetLeaves
+pub mod ResetMeaning
+pub mod ResetSetups
+pub mod Forms

@@ -22,6 +22,7 @@ use Rattle.plain_form.specs.Outcome.{FindingsFit}
 use Rattle.sec_check.specs.declared.error.CompareError.TheVariants as refused
 use Rattle.sec_check.specs.Compared.{AreTooLarge, IsCompared, Compared}
 use Rattle.sec_check.specs.Fitting.{OutcomeFits}
+use Rattle.sec_check.proofs.Forms.{in_always}
 use Rattle.sec_check.proofs.CutSizes.{cut_over, cut_light}
 use Rattle.sec_check.proofs.Meaning.{they_are_equal, makes_differ, makes_cuts_differ}
 
@@ -33,10 +34,12 @@ module _ (a b : NetView) (settings : Settings) (e : Exposure) (s : Setup) (match
   in_order = subst (λ (names : List (List ℕ)). StandInOrder a names) (sym same) (record { positions = e.left; in_order = chosen.cut_open.in_order; within = chosen.cut_open.left.within; named = chosen.cut_open.left.named })
 
   -- a net that is too large is refused
-  pub too_large : (side : Side) → Formed s settings.conflicts (Err (plain_error.TooLarge side)) → Compared a b settings (Err (refused.TooLarge side))
-  too_large A large = (matches, chosen.broken, AreTooLarge.left choice in_order (cut_over s.exposed (circuit_of a) s.left.now is.are_cut.left_circuit large))
-  too_large B large =
-      (matches, chosen.broken, AreTooLarge.right choice in_order (cut_light s.exposed (circuit_of a) s.left.now is.are_cut.left_circuit large.0) (cut_over s.exposed (circuit_of b) s.right.now is.are_cut.right_circuit large.1))
+  pub too_large : settings.reset ≡ false → (side : Side) → Formed s settings.conflicts (Err (plain_error.TooLarge side)) → Compared a b settings (Err (refused.TooLarge side))
+  too_large always side large = (matches, chosen.broken, in_always _ settings.reset always (by side large))
+    where
+      by : (side : Side) → Formed s settings.conflicts (Err (plain_error.TooLarge side)) → AreTooLarge a b settings.expose side
+      by A large = AreTooLarge.left choice in_order (cut_over s.exposed (circuit_of a) s.left.now is.are_cut.left_circuit large)
+      by B large = AreTooLarge.right choice in_order (cut_light s.exposed (circuit_of a) s.left.now is.are_cut.left_circuit large.0) (cut_over s.exposed (circuit_of b) s.right.now is.are_cut.right_circuit large.1)
 
 -- what is found of the cut nets is the outcome of the comparison
 module _ (a b : NetView) (settings : Settings) (e : Exposure) (s : Setup) (sa : IsSound a) (sb : IsSound b) (ca : IsComparable a) (cb : IsComparable b) (matches : InterfacesMatch a b) (chosen : IsChosen a b settings.expose e)

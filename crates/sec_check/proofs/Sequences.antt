@@ -36,7 +36,7 @@ module _ {P : Type 0} (c : Circuit P) (order others : List ℕ) (columns : List 
     (names : w.stimulus.names ≡ columns) (x : ℕ → ℕ → Bool) (rows : w.stimulus.rows ≡ sequence_rows w.cycle x (length columns)) (steps : ℕ) (run : ℕ → P → Bool) (in_run : w.cycle < steps)
     (is_run : IsRun c steps run) (obeys : Obeys c w.stimulus steps run) where
   -- the bit that is printed for an input of a number, some cycles before the last
-  printed : (q : P) (i j : ℕ) → IsInputNumber c order q i → i < length columns → j ≤ w.cycle → x i j ≡ run (w.cycle - j) q
+  pub printed : (q : P) (i j : ℕ) → IsInputNumber c order q i → i < length columns → j ≤ w.cycle → x i j ≡ run (w.cycle - j) q
   printed q i j number low deep =
       let input = beside_at c.inputs order q i number in
       let own : slice_get (map (λ (m : Named P). m.name) c.inputs) input.0 ≡ Some input.1.name = slice_get-map (λ (m : Named P). m.name) c.inputs input.0 input.1 input.2 in

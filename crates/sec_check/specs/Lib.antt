@@ -1,3 +1,4 @@
 pub mod Compared
 pub mod Fitting
+pub mod FromReset
 pub mod Says

@@ -1,12 +1,18 @@
 -- What each answer of a comparison says of the two circuits, by the form of comparing. A form that is added has a case in each.
-use Rattle.std.specs.Prelude.{ℕ, List}
+use Rattle.std.specs.Prelude.{◌≡◌, ◌≢◌, ℕ, ◌<◌, Bool, List, length}
+use Rattle.std.specs.List.{Contains}
 use Rattle.circuit_theory.specs.declared.Mode.{Mode}
 use Rattle.circuit_theory.specs.declared.Mode.TheVariants.{Plain, Event}
 use Rattle.circuit_theory.specs.Circuit.{Circuit}
+use Rattle.circuit_theory.specs.Cone.{latches_of}
+use Rattle.circuit_theory.specs.Run.{IsRun, IsResetRun}
 use Rattle.circuit_theory.specs.Agree.{Agree, AgreeOnward}
+use Rattle.witness_report.specs.declared.witness.PairName.TheVariants as pair
 use Rattle.witness_report.specs.declared.witness.Witness.{Witness}
-use Rattle.witness_report.specs.Shown.{MakesDiffer, MakesCutsDiffer, AgreeFrom}
+use Rattle.witness_report.specs.Shown.{Obeys, MakesDiffer, MakesCutsDiffer, AgreeFrom}
 use Rattle.outcome.specs.declared.verdict.Outcome.{Outcome}
+use Rattle.outcome.specs.declared.verdict.ResetWitness.{ResetWitness}
+use Rattle.reset_laws.specs.Reset.{AreAlikeFromReset, TakesPower}
 
 -- The circuits agree, and agree onward over the exposed latches; so where these are equal from the start up to the printed cycle, they
 -- are equal for ever, and the outputs from that cycle on.
@@ -29,3 +35,22 @@ SaysDifferent Event w a b = ⊥
 abbrev pub SaysNotShown : {P Q : Type 0} → Mode → List (List ℕ) → Witness → Circuit P → Circuit Q → Type 0
 SaysNotShown Plain names w a b = MakesCutsDiffer names a b w
 SaysNotShown Event names w a b = ⊥
+
+-- What different says from the latches' initial values: runs that power up as is printed begin with the initial values, and every two of
+-- them that obey the sequence have the printed values of the named outputs in the printed cycle, which differ. In no two runs with equal
+-- inputs that begin with the initial values do these outputs differ in an earlier cycle.
+pub record MakesResetsDiffer {P Q : Type 0} (a : Circuit P) (b : Circuit Q) (w : ResetWitness) : Type 0 where
+  pub name : List ℕ
+  pub left_place : P
+  pub right_place : Q
+  pub named : w.witness.pair ≡ pair.Output name
+  pub left_output : Contains a.outputs (record { name = name; place = left_place })
+  pub right_output : Contains b.outputs (record { name = name; place = right_place })
+  pub differ : w.witness.left ≢ w.witness.right
+  pub left_each : length w.left_power ≡ length (latches_of a)
+  pub right_each : length w.right_power ≡ length (latches_of b)
+  pub left_begins : (n : ℕ) (run : ℕ → P → Bool) → IsRun a n run → TakesPower a w.left_power run → IsResetRun a n run
+  pub right_begins : (n : ℕ) (run : ℕ → Q → Bool) → IsRun b n run → TakesPower b w.right_power run → IsResetRun b n run
+  pub left_shows : (n : ℕ) (run : ℕ → P → Bool) → w.witness.cycle < n → IsRun a n run → TakesPower a w.left_power run → Obeys a w.witness.stimulus n run → run w.witness.cycle left_place ≡ w.witness.left
+  pub right_shows : (n : ℕ) (run : ℕ → Q → Bool) → w.witness.cycle < n → IsRun b n run → TakesPower b w.right_power run → Obeys b w.witness.stimulus n run → run w.witness.cycle right_place ≡ w.witness.right
+  pub earlier : (n : ℕ) (left : ℕ → P → Bool) (right : ℕ → Q → Bool) → AreAlikeFromReset a b n left right → (t : ℕ) → t < n → t < w.witness.cycle → left t left_place ≡ right t right_place

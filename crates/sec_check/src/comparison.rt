@@ -1,6 +1,6 @@
 //! Comparing two circuits.
 
-ghost use Rattle.std.specs.Prelude.{◌≡◌, ◌≤◌, false, length, IfOk};
+ghost use Rattle.std.specs.Prelude.{◌≡◌, ◌≤◌, true, false, length, IfOk};
 ghost use Rattle.circuit_theory.specs.declared.Mode.TheVariants.{Plain};
 ghost use Rattle.circuit_theory.specs.Interface.{shared_inputs};
 ghost use Rattle.flat_net.specs.Comparable.{IsComparable};
@@ -10,18 +10,21 @@ ghost use Rattle.sec_setup.specs.Cuts.{AreCutBy, AreCutOpen};
 ghost use Rattle.sec_setup.specs.Matching.{InterfacesMatch};
 ghost use Rattle.sec_setup.specs.Setup.{AreGraphed};
 ghost use Rattle.sec_check.specs.Compared.{Compared};
+ghost use Rattle.sec_check.specs.FromReset.{verdict_of};
 
 use crate::error::CompareError;
 use cut_points::Exposure;
 use flat_net::Net;
-use outcome::{Outcome, Settings};
+use outcome::{LimitAt, Outcome, Settings, Verdict};
 use plain_form::{Findings, PlainError, compare_plain};
+use reset_form::{ResetError, ResetFindings, ResetVerdict, compare_reset};
 use sec_base::{MAX_CONFLICTS, NameTable, NoMemory};
 use sec_setup::{Nets, Setup, choose, graph_of, set_up, shared_names};
 use std::alloc::Global;
 
 /// Compares the circuits by unfolding their outputs into functions of the inputs at earlier cycles. Where latches may be cut open, a
-/// minimal cut of them becomes inputs, and what they take over is compared as the outputs are. It refuses, in this order:
+/// minimal cut of them becomes inputs, and what they take over is compared as the outputs are. With `reset` runs begin with the latches'
+/// initial values, and the outputs are compared in each cycle up to their depth; then no latch may be cut open. It refuses, in this order:
 /// interfaces that don't match; a cycle of A's latches, a cycle of B's, or where latches may be cut open one that no latch breaks that
 /// both circuits name; an unfolding of A that is too large, one of B.
 pub fn compare(
@@ -31,7 +34,7 @@ pub fn compare(
     settings: &Settings,
 ) -> Result<Outcome, CompareError>
     requires plain { settings.now.mode ≡ Plain }
-    requires settling { settings.now.reset ≡ false }
+    requires uncut { settings.now.reset ≡ true → settings.now.expose ≡ false }
     requires conflicts { settings.now.conflicts ≤ MAX_CONFLICTS }
     requires left { IsComparable a.now }
     requires right { IsComparable b.now }
@@ -56,6 +59,7 @@ fn compare_matching(
     shared: &NameTable,
     settings: &Settings,
 ) -> Result<Outcome, CompareError>
+    requires uncut { settings.now.reset ≡ true → settings.now.expose ≡ false }
     requires conflicts { settings.now.conflicts ≤ MAX_CONFLICTS }
     requires left { IsComparable nets.now.left.now }
     requires right { IsComparable nets.now.right.now }
@@ -65,12 +69,71 @@ fn compare_matching(
     ensures { Compared nets.now.left.now nets.now.right.now settings.now result }
 {
     let exposure = choose(alloc, nets, settings.expose)?;
+    if settings.reset {
+        return compare_from(alloc, nets, shared, &exposure, settings);
+    }
     if exposure.names.len() == 0 {
         return compare_nets(
             alloc, nets.left, nets.right, nets, shared, &exposure, settings,
         );
     }
     compare_exposed(alloc, nets, shared, &exposure, settings)
+}
+
+/// Compares the circuits where runs begin with the latches' initial values. No latch is cut open.
+fn compare_from(
+    alloc: Global,
+    nets: &Nets<'_>,
+    shared: &NameTable,
+    exposure: &Exposure,
+    settings: &Settings,
+) -> Result<Outcome, CompareError>
+    requires reset { settings.now.reset ≡ true }
+    requires uncut { settings.now.expose ≡ false }
+    requires conflicts { settings.now.conflicts ≤ MAX_CONFLICTS }
+    requires left { IsComparable nets.now.left.now }
+    requires right { IsComparable nets.now.right.now }
+    requires graphs { AreGraphed nets.now }
+    requires matches { InterfacesMatch nets.now.left.now nets.now.right.now }
+    requires shared { shared.now ≡ shared_inputs (ports_of nets.now.left.now) (ports_of nets.now.right.now) }
+    requires chosen { IsChosen nets.now.left.now nets.now.right.now settings.now.expose exposure.now }
+    ensures { Compared nets.now.left.now nets.now.right.now settings.now result }
+{
+    nets.left.keeps();
+    nets.right.keeps();
+    let setup = set_up(alloc, nets.left, nets.right, nets, shared, exposure)?;
+    match compare_reset(alloc, &setup, settings.conflicts) {
+        Ok(findings) => Ok(outcome_of(nets.left, nets.right, setup, findings_of(findings))),
+        Err(ResetError::TooLarge(side)) => Err(CompareError::TooLarge(side)),
+        Err(ResetError::NoMemory) => Err(CompareError::NoMemory),
+    }
+}
+
+/// What is found from the initial values, with its verdict as an outcome has it.
+fn findings_of(findings: ResetFindings) -> Findings
+    ensures { result ≡ record { pairs = findings.pairs; through = findings.through; verdict = verdict_of findings.verdict } }
+{
+    let ResetFindings {
+        pairs,
+        through,
+        verdict,
+    } = findings;
+    Findings {
+        pairs,
+        through,
+        verdict: verdict_of(verdict),
+    }
+}
+
+/// The verdict from the initial values, as an outcome has it.
+fn verdict_of(verdict: ResetVerdict) -> Verdict
+    ensures { result ≡ verdict_of verdict }
+{
+    match verdict {
+        ResetVerdict::Equal => Verdict::Equal,
+        ResetVerdict::Different(witness) => Verdict::DifferentFrom(witness),
+        ResetVerdict::Limit(name) => Verdict::Limit(LimitAt::Pair(name)),
+    }
 }
 
 /// Compares the circuits by the nets in which the exposed latches are cut out.
@@ -81,6 +144,7 @@ fn compare_exposed(
     exposure: &Exposure,
     settings: &Settings,
 ) -> Result<Outcome, CompareError>
+    requires settling { settings.now.reset ≡ false }
     requires conflicts { settings.now.conflicts ≤ MAX_CONFLICTS }
     requires left { IsComparable nets.now.left.now }
     requires right { IsComparable nets.now.right.now }
@@ -124,6 +188,7 @@ fn compare_cut(
     exposure: &Exposure,
     settings: &Settings,
 ) -> Result<Outcome, CompareError>
+    requires settling { settings.now.reset ≡ false }
     requires conflicts { settings.now.conflicts ≤ MAX_CONFLICTS }
     requires left { IsComparable nets.now.left.now }
     requires right { IsComparable nets.now.right.now }
@@ -156,6 +221,7 @@ fn compare_nets(
     exposure: &Exposure,
     settings: &Settings,
 ) -> Result<Outcome, CompareError>
+    requires settling { settings.now.reset ≡ false }
     requires conflicts { settings.now.conflicts ≤ MAX_CONFLICTS }
     requires left { IsComparable a.now }
     requires right { IsComparable b.now }

@@ -10,6 +10,6 @@ pub use comparison::compare;
 pub use error::CompareError;
 pub use interfaces::interface;
 pub use outcome::{
-    LimitAt, Outcome, PairName, PairResult, PairResults, Proof, Settings, Stimulus, Verdict,
-    Witness, report,
+    LimitAt, Outcome, PairName, PairResult, PairResults, Proof, ResetWitness, Settings, Stimulus,
+    Verdict, Witness, report,
 };

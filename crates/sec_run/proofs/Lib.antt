@@ -1,3 +1,3 @@
-pub mod Conflicts
+pub mod Allowed
 pub mod Means
 pub mod Promises

@@ -1,5 +1,5 @@
 -- What a job asks for.
-use Rattle.std.specs.Prelude.{ℕ, ◌≤◌, List, [], Option, Some, None}
+use Rattle.std.specs.Prelude.{◌≡◌, ℕ, ◌≤◌, true, false, List, [], Option, Some, None}
 use Rattle.sec_base.specs.declared.limits.TheConstants.{MAX_CONFLICTS}
 use Rattle.command_line.specs.declared.task.Task.{Task}
 use Rattle.command_line.specs.declared.task.Task.TheVariants as task
@@ -37,11 +37,11 @@ abbrev pub GoesOnIn : Option Task → Option (List ℕ) → Type 0
 GoesOnIn None = IsLoaded
 GoesOnIn (Some job) = GoesOn job
 
--- at most 200,000 conflicts are allowed for a query
-abbrev pub HasFewConflicts : Task → Type 0
-HasFewConflicts (task.Check a b settings) = settings.conflicts ≤ MAX_CONFLICTS
-HasFewConflicts (task.Graph a mode) = Unit {0}
-HasFewConflicts (task.Sim a s mode power reset) = Unit {0}
-HasFewConflicts (task.Replay a b s mode) = Unit {0}
-HasFewConflicts (task.Gen seed regroup conflicts) = conflicts ≤ MAX_CONFLICTS
-HasFewConflicts (task.Lrat f l) = Unit {0}
+-- at most 200,000 conflicts are allowed for a query, and no latch is cut open where runs begin with initial values
+abbrev pub IsAllowed : Task → Type 0
+IsAllowed (task.Check a b settings) = (settings.conflicts ≤ MAX_CONFLICTS) × (settings.reset ≡ true → settings.expose ≡ false)
+IsAllowed (task.Graph a mode) = Unit {0}
+IsAllowed (task.Sim a s mode power reset) = Unit {0}
+IsAllowed (task.Replay a b s mode) = Unit {0}
+IsAllowed (task.Gen seed regroup conflicts) = conflicts ≤ MAX_CONFLICTS
+IsAllowed (task.Lrat f l) = Unit {0}

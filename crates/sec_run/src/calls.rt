@@ -6,7 +6,7 @@ ghost use Rattle.sec_base.specs.Outside.{Rose, SameHeld, NoneFell};
 ghost use Rattle.command_line.specs.Jobs.{job_of};
 ghost use Rattle.job_base.specs.Lines.{finding_text};
 ghost use Rattle.job_base.specs.Reading.{ReadFailedAfter};
-ghost use Rattle.sec_run.specs.Job.{paths_of, paths_in, GoesOn, GoesOnIn, HasFewConflicts};
+ghost use Rattle.sec_run.specs.Job.{paths_of, paths_in, GoesOn, GoesOnIn, IsAllowed};
 ghost use Rattle.sec_run.specs.Answer.{IsFinding, IsTaken};
 ghost use Rattle.sec_run.specs.Ends.{Found};
 ghost use Rattle.sec_run.specs.Promises.{Means, IsComplete};
@@ -23,7 +23,7 @@ use std::alloc::Global;
 
 /// Finds what the job asks for.
 fn find<S: Shelf>(alloc: Global, task: &Task, shelf: &mut S) -> Result<Finding, Stop>
-    requires { HasFewConflicts task.now }
+    requires { IsAllowed task.now }
     ensures found { Found (S.held shelf.old) (S.faults shelf.old) (S.faults shelf.new) task.now result }
     ensures keeps { SameHeld (S.held shelf.old) (S.held shelf.new) }
     ensures later { NoneFell (S.faults shelf.old) (S.faults shelf.new) }
@@ -103,7 +103,7 @@ fn digits_of(power: &Option<Word>) -> Option<&[u8]>
 /// write fault a front of it; at a read fault and at want of memory nothing. Want of memory alone is without a cause here. A job that isn't
 /// built is refused, and nothing is fetched for it.
 pub fn run_job<S: Shelf, W: Sink>(alloc: Global, task: &Task, shelf: &mut S, out: &mut W) -> Status
-    requires { HasFewConflicts task.now }
+    requires { IsAllowed task.now }
     ensures taken { IsTaken (W.taken out.old) (W.taken out.new) (S.held shelf.old) (Some task.now) result }
     // What the status says of what is held.
     ensures means { Means (S.held shelf.old) (Some task.now) (W.taken out.old) (W.taken out.new) result.proofs result.name }

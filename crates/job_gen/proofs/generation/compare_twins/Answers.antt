@@ -1,4 +1,4 @@
-use Rattle.std.proofs.Common.{◌≡◌, false, subst, Result}
+use Rattle.std.proofs.Common.{◌≡◌, false, refl, subst, Result}
 use Rattle.circuit_theory.specs.declared.Side.TheVariants.{A, B}
 use Rattle.pair_gen.specs.Words.{words_of}
 use Rattle.pair_gen.proofs.Whole.{twin_comparable}
@@ -8,6 +8,9 @@ use Rattle.sec_check.specs.Compared.{Compared}
 use Rattle.job_gen.specs.Found.{settings_of}
 use Rattle.job_gen.proofs.Never.{never_refused}
 use Rattle.job_gen.proofs.generation.compare_twins.Goals as goal
+
+pub compare-requires-clause-uncut : goal.compare-requires-clause-uncut
+compare-requires-clause-uncut c e = refl
 
 pub compare-requires-clause-left : goal.compare-requires-clause-left
 compare-requires-clause-left c = twin_comparable A false (words_of c.args.generation.now.seed) c.args.twins.now.a c.requires.twins.left

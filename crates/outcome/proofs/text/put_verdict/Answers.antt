@@ -21,3 +21,8 @@ pub returns-in_ok-put-in-NotShown : goal.returns-in_ok-put-in-NotShown
 returns-in_ok-put-in-NotShown c =
     subst (λ (v : Verdict). OnOk c.put_why.result (c.put_why.new.text.items ≡ c.args.text.now.items ++ verdict_text c.args.conflicts v)) (sym c.in-NotShown.is)
     (on_ok c.put_why.result (λ s. two_pieces _ _ _ _ _ c.in_ok-put-in-NotShown.ensures.ok s) c.put_why.ensures)
+
+pub returns-in_ok-put-in-DifferentFrom : goal.returns-in_ok-put-in-DifferentFrom
+returns-in_ok-put-in-DifferentFrom c =
+    subst (λ (v : Verdict). OnOk c.put_reset_witness.result (c.put_reset_witness.new.text.items ≡ c.args.text.now.items ++ verdict_text c.args.conflicts v)) (sym c.in-DifferentFrom.is)
+    (on_ok c.put_reset_witness.result (λ s. two_pieces _ _ _ _ _ c.in_ok-put-in-DifferentFrom.ensures.ok s) c.put_reset_witness.ensures)

@@ -8,7 +8,7 @@ use Rattle.sec_setup.specs.declared.setup.Setup.{Setup}
 use Rattle.cycle_variables.specs.Cycles.{AreInCycles}
 use Rattle.reset_form.specs.declared.bases.Bases.{Bases}
 use Rattle.reset_form.specs.declared.functions.Functions.{Functions}
-use Rattle.reset_form.specs.declared.shown.ResetWitness.{ResetWitness}
+use Rattle.outcome.specs.declared.verdict.ResetWitness.{ResetWitness}
 use Rattle.reset_form.specs.Shown.{IsShowable, IsWitnessOf, IsWitnessAt}
 use Rattle.reset_form.proofs.shown.witness_at.Goals as goal
 

@@ -5,8 +5,14 @@ use Rattle.job_base.specs.Reading.{ReadFailedAfter}
 use Rattle.job_files.specs.Reading.{ReadFailed}
 use Rattle.job_gen.proofs.Means.{gen_ends}
 use Rattle.sec_run.specs.Answer.{IsFoundOfJob}
-use Rattle.sec_run.specs.Job.{paths_of, GoesOn}
+use Rattle.sec_run.specs.Job.{paths_of, GoesOn, IsAllowed}
 use Rattle.sec_run.proofs.calls.find.Goals as goal
+
+pub check-requires-clause-uncut : goal.check-requires-clause-uncut
+check-requires-clause-uncut g c = (subst IsAllowed c.in-Check.is c.requires).1
+
+pub check-requires-clause-conflicts : goal.check-requires-clause-conflicts
+check-requires-clause-conflicts g c = (subst IsAllowed c.in-Check.is c.requires).0
 
 pub returns-in-Gen-clause-found : goal.returns-in-Gen-clause-found
 returns-in-Gen-clause-found g c =

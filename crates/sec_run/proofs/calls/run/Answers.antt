@@ -7,13 +7,13 @@ use Rattle.job_base.proofs.Meaning.{no_read_fault}
 use Rattle.sec_run.specs.Answer.{IsTaken, IsFinding}
 use Rattle.sec_run.specs.Job.{paths_in, GoesOnIn}
 use Rattle.sec_run.specs.Promises.{Means, IsComplete}
-use Rattle.sec_run.proofs.Conflicts.{few_conflicts}
+use Rattle.sec_run.proofs.Allowed.{is_allowed}
 use Rattle.sec_run.proofs.Means.{written_ends}
 use Rattle.sec_run.proofs.Promises.{means, memory_means, written_is_complete, memory_is_complete}
 use Rattle.sec_run.proofs.calls.run.Goals as goal
 
 pub run_job-requires : goal.run_job-requires
-run_job-requires g c = few_conflicts _ c.in-Ok.task c.in-Ok.ensures.job
+run_job-requires g c = is_allowed _ c.in-Ok.task c.in-Ok.ensures.job
 
 pub returns-in-Ok-clause-taken : goal.returns-in-Ok-clause-taken
 returns-in-Ok-clause-taken g c =
