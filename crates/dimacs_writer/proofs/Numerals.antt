@@ -32,14 +32,14 @@ at_most n m h = go (leb_tells n m)
     go (inl k) = k.0
     go (inr k) = absurd (let z = k.1 in omega (arith, z, h))
 
-module _ (n : ℕ) (small : n ≤ 2 ^ 30) where
+module _ (n : ℕ) (small : n ≤ MAX_SIZE) where
   fits : n < 2 ^ 64
   fits = omega arith
 
   pub some_digits : 0 < length (decimal n)
   some_digits = decimal_nonempty n fits
 
-  digit : (i : ℕ) → i < length (decimal n) → (48 ≤ get_or (decimal n) i 0) × (get_or (decimal n) i 0 ≤ 57)
+  pub digit : (i : ℕ) → i < length (decimal n) → (48 ≤ get_or (decimal n) i 0) × (get_or (decimal n) i 0 ≤ 57)
   digit i h = let r = digit_at (decimal n) i (decimal_is_IsNumeral n fits).0.1 h in (omega (arith, r), omega (arith, r))
 
   pub solid_digits : Solid (decimal n)
@@ -65,7 +65,7 @@ module _ (n : ℕ) (small : n ≤ 2 ^ 30) where
   size : is_size (decimal n) ≡ true
   size =
       ap (λ b. not b && (all_ascii_digits (decimal n) && nat_le (digits_value (decimal n)) MAX_SIZE)) (some_there (decimal n) some_digits)
-      ∙ (ap (λ b. b && nat_le (digits_value (decimal n)) MAX_SIZE) (digits_decimal own n fits) ∙ (ap (λ k. nat_le k MAX_SIZE) value ∙ at_most n MAX_SIZE (omega arith)))
+      ∙ (ap (λ b. b && nat_le (digits_value (decimal n)) MAX_SIZE) (digits_decimal own n fits) ∙ (ap (λ k. nat_le k MAX_SIZE) value ∙ at_most n MAX_SIZE small))
 
   pub size_is : size_of (decimal n) ≡ Some n
   size_is = ap (λ b. cond b (Some (digits_value (decimal n))) None) size ∙ ap Some value
@@ -73,21 +73,25 @@ module _ (n : ℕ) (small : n ≤ 2 ^ 30) where
   pub number_is : number_of (decimal n) ≡ Some (positive n)
   number_is = ap (λ b. cond b (negative (size_of (drop 1 (decimal n)))) (option_map positive (size_of (decimal n)))) no_sign ∙ ap (option_map positive) size_is
 
-  pub count_is : count_of (decimal n) ≡ Some n
-  count_is = ap counted number_is ∙ ap (λ b. cond b (Some n) None) (at_most n MAX_COUNT (omega arith))
+-- a count
+pub count_is : (n : ℕ) → n ≤ 2 ^ 30 → count_of (decimal n) ≡ Some n
+count_is n small = ap counted (number_is n (omega arith)) ∙ ap (λ b. cond b (Some n) None) (at_most n MAX_COUNT (omega arith))
 
 -- a literal
 module _ (l : Literal) (above : 0 < l.variable) (small : l.variable ≤ 2 ^ 30) where
+  wide : l.variable ≤ MAX_SIZE
+  wide = omega arith
+
   below : (n : ℕ) → 0 < n → negative (Some n) ≡ Some (record { size = n; is_negative = true })
   below zero h = absurd (omega (arith, h))
   below (suc n) h = refl
 
-  literal_number : number_of (literal_text l) ≡ Some (record { size = l.variable; is_negative = not l.positive })
+  pub literal_number : number_of (literal_text l) ≡ Some (record { size = l.variable; is_negative = not l.positive })
   literal_number = go l.positive
     where
       go : (b : Bool) → number_of (cond b (decimal l.variable) (45 ∷ decimal l.variable)) ≡ Some (record { size = l.variable; is_negative = not b })
-      go true = number_is l.variable small
-      go false = ap negative (size_is l.variable small) ∙ below l.variable above
+      go true = number_is l.variable wide
+      go false = ap negative (size_is l.variable wide) ∙ below l.variable above
 
   twice : literal_of (record { size = l.variable; is_negative = not l.positive }) ≡ l
   twice = go l.variable l.positive
@@ -107,19 +111,19 @@ module _ (l : Literal) (above : 0 < l.variable) (small : l.variable ≤ 2 ^ 30) 
   literal_some = go l.positive
     where
       go : (b : Bool) → 0 < length (cond b (decimal l.variable) (45 ∷ decimal l.variable))
-      go true = some_digits l.variable small
+      go true = some_digits l.variable wide
       go false = omega arith
 
   pub literal_solid : Solid (literal_text l)
   literal_solid = go l.positive
     where
       go : (b : Bool) → Solid (cond b (decimal l.variable) (45 ∷ decimal l.variable))
-      go true = solid_digits l.variable small
-      go false = All-cons (λ b. 33 ≤ b) 45 (decimal l.variable) (omega arith) (solid_digits l.variable small)
+      go true = solid_digits l.variable wide
+      go false = All-cons (λ b. 33 ≤ b) 45 (decimal l.variable) (omega arith) (solid_digits l.variable wide)
 
   pub literal_first : begins_with 99 (literal_text l) ≡ false
   literal_first = go l.positive
     where
       go : (b : Bool) → begins_with 99 (cond b (decimal l.variable) (45 ∷ decimal l.variable)) ≡ false
-      go true = no_comment l.variable small
+      go true = no_comment l.variable wide
       go false = refl

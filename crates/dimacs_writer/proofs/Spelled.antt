@@ -10,6 +10,7 @@ use Rattle.std.proofs.lemmas.List.Elements.{All-nil, All-cons, All-head, All-tai
 use Rattle.proof_check.specs.Literals.{Literal}
 use Rattle.text_numbers.specs.Lines.{lines_of, tokens_of, is_passed_over}
 use Rattle.text_numbers.specs.Numbers.{with_first, behind}
+use Rattle.text_numbers.specs.declared.numbers.TheConstants.{MAX_SIZE}
 use Rattle.text_numbers.specs.declared.kinds.TextError.{TextError}
 use Rattle.text_numbers.specs.declared.kinds.TextError.TheVariants.{At}
 use Rattle.text_numbers.specs.declared.kinds.TextKind.TheVariants.{BadCount}
@@ -133,6 +134,12 @@ clauses_back (c ∷ cs) = ap (clauses_from []) (append_assoc (map entry.Literal 
 
 -- the header
 module _ (variables clauses : ℕ) (few : variables ≤ 2 ^ 30) (also : clauses ≤ 2 ^ 30) where
+  wide : variables ≤ MAX_SIZE
+  wide = omega arith
+
+  also_wide : clauses ≤ MAX_SIZE
+  also_wide = omega arith
+
   abbrev header_line : List ℕ
   header_line = codes "p cnf " ++ decimal variables ++ 32 ∷ [] ++ decimal clauses
 
@@ -148,8 +155,8 @@ module _ (variables clauses : ℕ) (few : variables ≤ 2 ^ 30) (also : clauses 
       ap (λ xs. tokens_of (codes "p cnf " ++ xs)) (append_assoc (decimal variables) (32 ∷ []) (decimal clauses))
       ∙ (token_off (codes "p") (codes "cnf" ++ 32 ∷ (decimal variables ++ 32 ∷ decimal clauses)) (omega arith) p_solid
       ∙ ap (λ ts. codes "p" ∷ ts) (token_off (codes "cnf") (decimal variables ++ 32 ∷ decimal clauses) (omega arith) cnf_solid
-      ∙ ap (λ ts. codes "cnf" ∷ ts) (token_off (decimal variables) (decimal clauses) (some_digits variables few) (solid_digits variables few)
-      ∙ ap (λ ts. decimal variables ∷ ts) (last_token (decimal clauses) (some_digits clauses also) (solid_digits clauses also)))))
+      ∙ ap (λ ts. codes "cnf" ∷ ts) (token_off (decimal variables) (decimal clauses) (some_digits variables wide) (solid_digits variables wide)
+      ∙ ap (λ ts. decimal variables ∷ ts) (last_token (decimal clauses) (some_digits clauses also_wide) (solid_digits clauses also_wide)))))
 
   header_is : Some (record { variables = variables; clauses = clauses }) ≡ header_of (tokens_of header_line)
   header_is = sym (ap header_of header_tokens ∙ ap₂ header_from (count_is variables few) (count_is clauses also))
@@ -160,9 +167,9 @@ module _ (variables clauses : ℕ) (few : variables ≤ 2 ^ 30) (also : clauses 
       (All-append (λ b. 14 ≤ b) (codes "p cnf " ++ decimal variables) (32 ∷ [])
       (All-append (λ b. 14 ≤ b) (codes "p cnf ") (decimal variables)
       (All-append (λ b. 14 ≤ b) (codes "p") (codes " cnf ") (solid_plain (codes "p") p_solid) (All-append (λ b. 14 ≤ b) (32 ∷ []) (codes "cnf ") blank (All-append (λ b. 14 ≤ b) (codes "cnf") (32 ∷ []) (solid_plain (codes "cnf") cnf_solid) blank)))
-      (solid_plain (decimal variables) (solid_digits variables few)))
+      (solid_plain (decimal variables) (solid_digits variables wide)))
       blank)
-      (solid_plain (decimal clauses) (solid_digits clauses also))
+      (solid_plain (decimal clauses) (solid_digits clauses also_wide))
     where
       blank : Plain (32 ∷ [])
       blank = All-cons (λ b. 14 ≤ b) 32 [] (omega arith) (All-nil (λ b. 14 ≤ b))

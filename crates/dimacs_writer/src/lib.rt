@@ -5,4 +5,4 @@ mod laws;
 mod writer;
 
 pub use laws::{written_is_spelled, written_meets_premises};
-pub use writer::write_clauses;
+pub use writer::{put_literals, write_clauses};

@@ -1,7 +1,8 @@
 //! Writes clauses.
 
 ghost use Rattle.std.specs.Prelude.{◌≡◌, ◌++◌, OnOk, IfOk};
-ghost use Rattle.dimacs_writer.specs.Written.{literal_text, clause_text, header_text, dimacs_text};
+ghost use Rattle.std.specs.List.{flat_map};
+ghost use Rattle.dimacs_writer.specs.Written.{literal_text, literal_piece, clause_text, header_text, dimacs_text};
 
 use proof_check::{Clause, Clauses, Literal};
 use sec_base::{NoMemory, Seq, Text, put, put_number};
@@ -18,14 +19,22 @@ fn put_literal(alloc: Global, text: &mut Vec<u8>, literal: Literal) -> Result<()
     put_number(alloc, text, u64::from(literal.variable()))
 }
 
+/// Puts the literals behind the text, a blank behind each.
+pub fn put_literals(alloc: Global, text: &mut Vec<u8>, literals: &[Literal]) -> Result<(), NoMemory>
+    ensures { OnOk result (text.new.items ≡ text.old.items ++ flat_map literal_piece literals.now) }
+{
+    for literal in literals {
+        put_literal(alloc, text, *literal)?;
+        put(text, b" ")?;
+    }
+    Ok(())
+}
+
 /// Puts the literals of a clause behind the text, each before a blank, and then a 0.
 fn put_clause(alloc: Global, text: &mut Vec<u8>, clause: &Clause) -> Result<(), NoMemory>
     ensures { OnOk result (text.new.items ≡ text.old.items ++ clause_text clause.now) }
 {
-    for literal in clause.as_slice() {
-        put_literal(alloc, text, *literal)?;
-        put(text, b" ")?;
-    }
+    put_literals(alloc, text, clause.as_slice())?;
     put(text, b"0\n")
 }
 

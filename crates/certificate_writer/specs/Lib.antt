@@ -1,0 +1,2 @@
+pub mod Hinting
+pub mod Texts
