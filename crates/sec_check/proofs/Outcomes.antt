@@ -1,5 +1,5 @@
 -- From what is found of the cut nets to the answer of a comparison.
-use Rattle.std.proofs.Common.{◌≡◌, ℕ, List, length, refl, sym, subst, Err}
+use Rattle.std.proofs.Common.{false, ◌≡◌, ℕ, List, length, refl, sym, subst, Err}
 use Rattle.circuit_theory.specs.declared.Side.{Side}
 use Rattle.circuit_theory.specs.declared.Side.TheVariants.{A, B}
 use Rattle.circuit_theory.specs.Interface.{AreNumbersOf}
