@@ -1,0 +1,5 @@
+pub mod LiteralLists
+pub mod Making
+pub mod Nexts
+pub mod Finishing
+pub mod Read
