@@ -1,28 +1,37 @@
 -- A net of a file while it is made.
-use Rattle.std.specs.Prelude.{◌≡◌, ◌*◌, ◌+◌, ◌<◌, ◌==◌, ℕ, true, Bool, if◌then◌else◌, List, [], ◌∷◌, ◌++◌, map, length, slice_get, slice_index_or, Some, None}
+use Rattle.std.specs.Prelude.{◌≡◌, ◌≢◌, ◌*◌, ◌+◌, ◌^◌, ◌<◌, ◌≤◌, ℕ, true, List, [], ◌∷◌, map, length, take, slice_get, slice_index_or, Some, None, All}
 use Rattle.std.specs.List.{filter}
 use Rattle.circuit_theory.specs.Circuit.{Named as Port}
 use Rattle.circuit_theory.specs.Joined.{moved, moved_name}
+use Rattle.sec_base.specs.Table.{AreDistinct}
 use Rattle.sec_base.specs.declared.basics.Init.{Init}
-use Rattle.sec_base.specs.declared.basics.Init.TheVariants as init
 use Rattle.flat_net.specs.declared.signals.Signal.{Signal}
 use Rattle.flat_net.specs.declared.parts.LatchAt.{LatchAt}
 use Rattle.flat_net.specs.View.{NetView, named, equation_of_gate}
-use Rattle.flat_net.specs.Makes.{MakerView}
 use Rattle.gate_order.specs.Order.{IsOrder}
 use Rattle.aiger_records.specs.Driven.{all_driven}
 use Rattle.aiger_symbols.specs.declared.symbol.Named.{Named}
 use Rattle.aiger_symbols.specs.Names.{name_of}
-use Rattle.aiger_graph.specs.Circuit.{LatchLine, ports_from, input_literals, latches_in}
+use Rattle.aiger_graph.specs.Circuit.{LatchLine, circuit_of_file, ports_from, input_literals, latches_in}
 use Rattle.aiger_file.specs.declared.file.AigerFile.{AigerFile}
 use Rattle.aiger_file.specs.Files.{IsKept}
 use Rattle.aiger_graph.specs.Literals.{gate_at, graph_of}
+use Rattle.aiger_read.specs.SignalNames.{sources_of, signal_name, init_of}
 use Rattle.aiger_read.specs.Signals.{all_covers, all_literals, literal_at, is_gate}
+
+-- what else a file without a fault keeps: what it reads is driven, inputs and latches have distinct names, none of which begins
+-- with `#`, the names of outputs are distinct, and there are few
+pub record IsFaultless (f : AigerFile) : Type 0 where
+  pub driven : all_driven f.records ≡ true
+  pub sources : AreDistinct (map (λ (p : Port ℕ). p.name) (sources_of f))
+  pub apart : All (λ (p : Port ℕ). slice_get p.name 0 ≢ Some 35) (sources_of f)
+  pub shown : AreDistinct (map (λ (p : Port ℕ). p.name) (circuit_of_file f).outputs)
+  pub few : length (circuit_of_file f).outputs ≤ 2 ^ 22
 
 -- What a net is made by: a file without a fault, what its literals read, and an order of them.
 pub record IsPlan (f : AigerFile) (graph : List (List ℕ)) (order : List ℕ) : Type 0 where
   pub kept : IsKept f
-  pub driven : all_driven f.records ≡ true
+  pub faultless : IsFaultless f
   pub graph_is : graph ≡ graph_of f.records (2 * f.header.greatest + 2)
   pub order_is : IsOrder (graph_of f.records (2 * f.header.greatest + 2)) order
 
@@ -33,10 +42,6 @@ IsPlaced literals net signals = (s l : ℕ) → s < length net.drivers → slice
 -- the next signal is to stand for this literal
 abbrev pub IsNext : List ℕ → NetView → ℕ → Type 0
 IsNext literals net l = slice_get literals (length net.drivers) ≡ Some l
-
--- the initial value of a latch with this reset
-abbrev pub init_of : ℕ → Init
-init_of reset = if reset == 0 then init.Zero else (if reset == 1 then init.One else init.Unknown)
 
 -- a latch without what it takes over
 pub record LatchHead : Type 0 where
@@ -55,6 +60,7 @@ head_at literals l = record { name = l.name; literal = literal_at literals l.out
 pub record IsMade (f : AigerFile) (order ins : List ℕ) (lats : List LatchLine) (gates outs : List ℕ) (net : NetView) (signals : List Signal) : Type 0 where
   pub size : length signals ≡ 2 * f.header.greatest + 2
   pub placed : IsPlaced (all_literals f.records order) net signals
+  pub named : net.names ≡ map (signal_name f) (take (length net.drivers) (all_literals f.records order))
   pub count : length net.drivers ≡ length ins + length lats + length gates
   pub inputs : map (λ p. moved_name (literal_at (all_literals f.records order)) (named p)) net.inputs ≡ ports_from f.symbols 105 0 ins
   pub latches : map (head_at (all_literals f.records order)) net.latches ≡ heads_from f.symbols 0 lats

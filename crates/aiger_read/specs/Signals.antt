@@ -1,10 +1,11 @@
 -- The order of a net's signals by the literals that they stand for.
-use Rattle.std.specs.Prelude.{ℕ, ◌==◌, nat_lt, ◌||◌, Bool, if◌then◌else◌, List, [], ◌∷◌, ◌++◌, map, length, slice_index_or}
+use Rattle.std.specs.Prelude.{ℕ, ◌==◌, nat_lt, ◌||◌, Bool, if◌then◌else◌, List, [], ◌∷◌, ◌++◌, length, slice_index_or}
 use Rattle.std.specs.List.{filter}
 use Rattle.circuit_theory.specs.Cover.{Cover}
 use Rattle.aiger_records.specs.declared.record.Record.{Record}
-use Rattle.aiger_graph.specs.Circuit.{LatchLine, input_literals, latches_in, and_cover, not_cover, zero_cover, one_cover}
+use Rattle.aiger_graph.specs.Circuit.{input_literals, and_cover, not_cover, zero_cover, one_cover}
 use Rattle.aiger_graph.specs.Literals.{reads_in}
+use Rattle.aiger_read.specs.SignalNames.{latch_literals}
 
 -- whether a gate drives the literal
 abbrev pub is_gate : List Record → ℕ → Bool
@@ -18,9 +19,6 @@ abbrev pub cover_number : ℕ → List ℕ → ℕ
 cover_number literal [] = if literal == 0 then 0 else 1
 cover_number literal (read ∷ []) = 2
 cover_number literal (left ∷ right ∷ more) = 3
-
-abbrev pub latch_literals : List Record → List ℕ
-latch_literals records = map (λ (l : LatchLine). l.literal) (latches_in records)
 
 -- the literals of a net's signals: inputs, latches, then the gates in this order
 abbrev pub all_literals : List Record → List ℕ → List ℕ
