@@ -1,5 +1,9 @@
 pub mod LiteralLists
+pub mod FileParts
+pub mod DrivenOnce
+pub mod Naming
 pub mod Making
 pub mod Nexts
 pub mod Finishing
-pub mod Read
+pub mod Sections
+pub mod Faultless

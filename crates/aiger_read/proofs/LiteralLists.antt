@@ -19,8 +19,9 @@ use Rattle.aiger_records.specs.Driven.{used_by, is_driven, all_driven}
 use Rattle.aiger_records.proofs.DefinedOnce.{defined_there}
 use Rattle.aiger_graph.specs.Circuit.{LatchLine, input_of, output_of, latch_of, input_literals, output_literals, latches_in}
 use Rattle.aiger_graph.specs.Literals.{operands, reads_in}
-use Rattle.aiger_read.specs.Signals.{is_gate, latch_literals, all_literals}
-use Rattle.aiger_graph.proofs.ReadLiterals.{IsWell, AreWell, IsReader, reads_at, negation_reads, reader, once_tail}
+use Rattle.aiger_read.specs.SignalNames.{latch_literals}
+use Rattle.aiger_read.specs.Signals.{is_gate, all_literals}
+use Rattle.aiger_graph.proofs.ReadLiterals.{IsWell, AreWell, IsReader, reads_at, negation_reads, reader, operands_used}
 
 -- what a function gives of some items of a list
 pub kept_has : {X Y : Type 0} (h : X → Option Y) (xs : List X) (j : ℕ) (x : X) (y : Y) → slice_get xs j ≡ Some x → h x ≡ Some y → Contains (filter_map h xs) y
@@ -120,12 +121,12 @@ distinct_inputs rs once =
     subst (λ (ls : List ℕ). AreDistinct ls) (map-id (input_literals rs))
     (kept_distinct input_of (λ (l : ℕ). l) rs (λ i j x z y w hi hj hx hz e. once i j y x z hi hj (ap defined_by (input_is x y hx)) (ap defined_by (input_is z w hz) ∙ ap Some (sym e))))
 
-distinct_latches : (rs : List Record) → DefinesOnce rs → AreDistinct (latch_literals rs)
+pub distinct_latches : (rs : List Record) → DefinesOnce rs → AreDistinct (latch_literals rs)
 distinct_latches rs once =
     kept_distinct latch_of (λ (l : LatchLine). l.literal) rs (λ i j x z y w hi hj hx hz e. once i j y.literal x z hi hj (ap defined_by (latch_is x y hx)) (ap defined_by (latch_is z w hz) ∙ ap Some (sym e)))
 
 -- a gate's literal is 0 or 1, or reads something
-gate_reads : (records : List Record) (l : ℕ) → is_gate records l ≡ true → (l < 2) ⊎ (0 < length (reads_in records l))
+pub gate_reads : (records : List Record) (l : ℕ) → is_gate records l ≡ true → (l < 2) ⊎ (0 < length (reads_in records l))
 gate_reads records l h = go (ltb l 2) refl h
   where
     go : (b : Bool) → ltb l 2 ≡ b → (b || ltb 0 (length (reads_in records l))) ≡ true → (l < 2) ⊎ (0 < length (reads_in records l))
@@ -140,14 +141,14 @@ reading_gate records l h = or_right (ltb l 2) (ltb 0 (length (reads_in records l
 
 module _ (size : ℕ) (records : List Record) (once : DefinesOnce records) (fine : AreWell size records) where
   -- no gate drives an input or a latch
-  no_gate : (j l : ℕ) (r : Record) → slice_get records j ≡ Some r → defined_by r ≡ Some l → operands r ≡ [] → is_gate records l ≡ true → ⊥
+  pub no_gate : (j l : ℕ) (r : Record) → slice_get records j ≡ Some r → defined_by r ≡ Some l → operands r ≡ [] → is_gate records l ≡ true → ⊥
   no_gate j l r at is none gate = go (gate_reads records l gate)
     where
       go : (l < 2) ⊎ (0 < length (reads_in records l)) → ⊥
       go (inl low) = let high = (fine j r at).high l is in omega (arith, low, high)
       go (inr some) = let e = ap length (reads_at size records j l r once fine at is ∙ none) in omega (arith, some, e)
 
-  input_not_latch : (l : ℕ) → Contains (input_literals records) l → Contains (latch_literals records) l → ⊥
+  pub input_not_latch : (l : ℕ) → Contains (input_literals records) l → Contains (latch_literals records) l → ⊥
   input_not_latch l h k =
       let x = in_inputs records l h in
       let y = in_latch_literals records l k in
@@ -155,7 +156,7 @@ module _ (size : ℕ) (records : List Record) (once : DefinesOnce records) (fine
       let same : Some (Input l) ≡ Some (Latch l y.1 y.2) = sym x.1 ∙ ap (slice_get records) e ∙ y.3 in
       cc
 
-  source_not_gate : (order : List ℕ) (l : ℕ) → Contains (input_literals records ++ latch_literals records) l → Contains (filter (is_gate records) order) l → ⊥
+  pub source_not_gate : (order : List ℕ) (l : ℕ) → Contains (input_literals records ++ latch_literals records) l → Contains (filter (is_gate records) order) l → ⊥
   source_not_gate order l h k = go (Contains-append_cases (input_literals records) (latch_literals records) l h)
     where
       gate : is_gate records l ≡ true

@@ -11,10 +11,11 @@ use Rattle.circuit_theory.specs.Cover.{Cover}
 use Rattle.circuit_theory.specs.Circuit.{Equation, Named as Port}
 use Rattle.circuit_theory.specs.Circuit.{Gate as gate_equation}
 use Rattle.circuit_theory.specs.Joined.{moved, moved_name}
-use Rattle.circuit_theory.proofs.Lists.{map-map, map_same, All-from_each, Contains-map_from, at_of, of_at}
-use Rattle.sec_base.specs.Table.{AreDistinct}
+use Rattle.circuit_theory.proofs.Lists.{map-map, map_same, All-from_each, Contains-map_from, Contains-filter, at_of, of_at}
+use Rattle.circuit_theory.proofs.Numbers.{slice_get-map}
+use Rattle.sec_base.specs.Table.{is_among, AreDistinct}
 use Rattle.sec_base.specs.declared.basics.Init.{Init}
-use Rattle.sec_base.proofs.TableLemmas.{slice_get-take}
+use Rattle.sec_base.proofs.TableLemmas.{not_before, take-push}
 use Rattle.flat_net.specs.declared.signals.Signal.{Signal}
 use Rattle.flat_net.specs.declared.parts.Port.{Port as NetPort}
 use Rattle.flat_net.specs.declared.parts.LatchAt.{LatchAt}
@@ -35,10 +36,12 @@ use Rattle.aiger_symbols.specs.Names.{name_of}
 use Rattle.aiger_file.specs.declared.file.AigerFile.{AigerFile}
 use Rattle.aiger_graph.specs.Circuit.{LatchLine, ports_from, input_of, output_of, latch_of, input_literals, output_literals, latches_in, and_cover, not_cover, zero_cover, one_cover}
 use Rattle.aiger_graph.specs.Literals.{operands, reads_by, reads_in, graph_of, gate_at, cover_by}
-use Rattle.aiger_read.specs.Signals.{is_gate, all_covers, cover_number, latch_literals, all_literals, literal_at}
-use Rattle.aiger_read.specs.Made.{IsPlan, IsPlaced, IsNext, IsMade, LatchHead, heads_from, head_at, init_of, signal_at}
+use Rattle.aiger_read.specs.SignalNames.{latch_literals, gate_name, signal_name, init_of}
+use Rattle.aiger_read.specs.Signals.{is_gate, all_covers, cover_number, all_literals, literal_at}
+use Rattle.aiger_read.specs.Made.{IsPlan, IsPlaced, IsNext, IsMade, LatchHead, heads_from, head_at, signal_at}
 use Rattle.aiger_graph.proofs.ReadLiterals.{AreWell, all_well}
-use Rattle.aiger_read.proofs.LiteralLists.{kept_at, kept_more, kept_same, low_gate, reading_gate, literals_once, literals_low, driven_in, used_driven, reads_driven}
+use Rattle.aiger_read.proofs.LiteralLists.{kept_at, literals_once, literals_low, source_not_gate, driven_in, reads_driven}
+use Rattle.aiger_read.proofs.Naming.{input_name, latch_name, gate_name_is, names_once}
 use Rattle.aiger_graph.proofs.NoLoops.{graph_low}
 
 -- the record at a place of the code's slice
@@ -125,6 +128,18 @@ module _ (f : AigerFile) (graph : List (List ℕ)) (order : List ℕ) (plan : Is
   pub few : length literals ≤ size
   few = few_below literals size distinct all_low
 
+  sources_once : AreDistinct (input_literals f.records ++ latch_literals f.records)
+  sources_once i j l hi hj = distinct i j l (in_front i l hi) (in_front j l hj)
+    where
+      in_front : (k m : ℕ) → slice_get (input_literals f.records ++ latch_literals f.records) k ≡ Some m → slice_get literals k ≡ Some m
+      in_front k m h = slice_get-append (input_literals f.records ++ latch_literals f.records) (filter (is_gate f.records) order) k m h
+
+  -- no two signals have one name
+  pub all_names_once : AreDistinct (map (signal_name f) literals)
+  all_names_once =
+      names_once f sources_once plan.faultless (filter (is_gate f.records) order) (source_not_gate size f.records plan.kept.once fine order)
+      (λ l h. let low = order_low l (Contains-filter (is_gate f.records) order l h) in let c = plan.kept.small.greatest in omega (arith, low, c)) distinct
+
   -- there is room for one signal more
   pub room : (n l : ℕ) → slice_get literals n ≡ Some l → n + 1 < 2 ^ 32
   room n l h = let a = slice_get_within literals n l h in let b = few in let c = plan.kept.small.greatest in omega (arith, a, b, c)
@@ -134,6 +149,19 @@ module _ (f : AigerFile) (graph : List (List ℕ)) (order : List ℕ) (plan : Is
 
   pub at_next : (n l : ℕ) → slice_get literals n ≡ Some l → literal_at literals n ≡ l
   at_next n l h = get_or_from_slice_get literals n l 0 h
+
+  -- its name is new, and the names with it
+  pub fresh : (net : NetView) (l : ℕ) (name : List ℕ) → net.names ≡ take (length net.drivers) (map (signal_name f) literals) → IsNext literals net l → name ≡ signal_name f l → is_among net.names name ≡ false
+  fresh net l name named next is =
+      ap₂ (λ (ns : List (List ℕ)) (n : List ℕ). is_among ns n) named is
+      ∙ not_before (map (signal_name f) literals) (length net.drivers) (signal_name f l) all_names_once (slice_get-map (signal_name f) literals (length net.drivers) l next)
+
+  named_more : (net net' : NetView) (l : ℕ) (name : List ℕ) → net.names ≡ take (length net.drivers) (map (signal_name f) literals) → IsNext literals net l → name ≡ signal_name f l →
+      net'.names ≡ net.names ++ name ∷ [] → length net'.drivers ≡ length net.drivers + 1 → net'.names ≡ take (length net'.drivers) (map (signal_name f) literals)
+  named_more net net' l name named next is names grown =
+      names ∙ ap₂ (λ (ns : List (List ℕ)) (n : List ℕ). ns ++ n ∷ []) named is
+      ∙ take-push (map (signal_name f) literals) (length net.drivers) (signal_name f l) (slice_get-map (signal_name f) literals (length net.drivers) l next)
+      ∙ ap (λ (n : ℕ). take n (map (signal_name f) literals)) (sym grown)
 
   -- one signal more
   pub placed_more : (net net' : NetView) (signals signals' : List Signal) (l : ℕ) → IsPlaced literals net signals → IsNext literals net l → length signals ≡ size → length net'.drivers ≡ length net.drivers + 1 →
@@ -158,12 +186,13 @@ module _ (f : AigerFile) (graph : List (List ℕ)) (order : List ℕ) (plan : Is
   signal_is net signals s l placed low at = get_or_from_slice_get signals l (record { 0 = s }) (record { 0 = 0 }) (placed s l low at)
 
   pub made_input : (ins : List ℕ) (l : ℕ) (name : List ℕ) (net net' : NetView) (signals signals' : List Signal) → IsMade f order ins [] [] [] net signals → IsNext literals net l →
-      name ≡ name_of f.symbols 105 (length ins) → net' ≡ with_input net name → signals' ≡ set signals l (record { 0 = length net.drivers }) → IsMade f order (ins ++ l ∷ []) [] [] [] net' signals'
-  made_input ins l name net net' signals signals' made next name_is is signals_are =
+      name ≡ name_of f.symbols 105 (length ins) → name ≡ signal_name f l → net' ≡ with_input net name → signals' ≡ set signals l (record { 0 = length net.drivers }) → IsMade f order (ins ++ l ∷ []) [] [] [] net' signals'
+  made_input ins l name net net' signals signals' made next name_is own is signals_are =
       let grown : length net'.drivers ≡ length net.drivers + 1 = ap (λ (n : NetView). length n.drivers) is ∙ length-append net.drivers _ in
       record {
         size = ap length signals_are ∙ length-set_is signals l (record { 0 = length net.drivers }) ∙ made.size;
         placed = placed_more net net' signals signals' l made.placed next made.size grown signals_are;
+        named = named_more net net' l name made.named next own (ap (λ (n : NetView). n.names) is) grown;
         count = omega (arith, grown, made.count, length-append ins (l ∷ []));
         inputs = ap (λ (n : NetView). map (λ p. moved_name (literal_at literals) (named p)) n.inputs) is
             ∙ map-append (λ p. moved_name (literal_at literals) (named p)) net.inputs _
@@ -178,12 +207,13 @@ module _ (f : AigerFile) (graph : List (List ℕ)) (order : List ℕ) (plan : Is
       }
 
   pub made_latch : (ins : List ℕ) (lats : List LatchLine) (l : LatchLine) (name : List ℕ) (net net' : NetView) (signals signals' : List Signal) → IsMade f order ins lats [] [] net signals → IsNext literals net l.literal →
-      name ≡ name_of f.symbols 108 (length lats) → net' ≡ with_latch net name (init_of l.reset) → signals' ≡ set signals l.literal (record { 0 = length net.drivers }) → IsMade f order ins (lats ++ l ∷ []) [] [] net' signals'
-  made_latch ins lats l name net net' signals signals' made next name_is is signals_are =
+      name ≡ name_of f.symbols 108 (length lats) → name ≡ signal_name f l.literal → net' ≡ with_latch net name (init_of l.reset) → signals' ≡ set signals l.literal (record { 0 = length net.drivers }) → IsMade f order ins (lats ++ l ∷ []) [] [] net' signals'
+  made_latch ins lats l name net net' signals signals' made next name_is own is signals_are =
       let grown : length net'.drivers ≡ length net.drivers + 1 = ap (λ (n : NetView). length n.drivers) is ∙ length-append net.drivers _ in
       record {
         size = ap length signals_are ∙ length-set_is signals l.literal (record { 0 = length net.drivers }) ∙ made.size;
         placed = placed_more net net' signals signals' l.literal made.placed next made.size grown signals_are;
+        named = named_more net net' l.literal name made.named next own (ap (λ (n : NetView). n.names) is) grown;
         count = omega (arith, grown, made.count, length-append lats (l ∷ []));
         inputs = ap (λ (n : NetView). map (λ p. moved_name (literal_at literals) (named p)) n.inputs) is ∙ made.inputs;
         latches = ap (λ (n : NetView). map (head_at literals) n.latches) is
@@ -202,6 +232,7 @@ module _ (f : AigerFile) (graph : List (List ℕ)) (order : List ℕ) (plan : Is
   made_output ins lats gates outs l s name net net' signals made at name_is is = record {
     size = made.size;
     placed = λ i m low h. made.placed i m (subst (λ (k : ℕ). i < k) (ap (λ (n : NetView). length n.drivers) is) low) h;
+    named = ap (λ (n : NetView). n.names) is ∙ made.named ∙ ap (λ (n : NetView). take (length n.drivers) (map (signal_name f) literals)) (sym is);
     count = ap (λ (n : NetView). length n.drivers) is ∙ made.count;
     inputs = ap (λ (n : NetView). map (λ p. moved_name (literal_at literals) (named p)) n.inputs) is ∙ made.inputs;
     latches = ap (λ (n : NetView). map (head_at literals) n.latches) is ∙ made.latches;
@@ -225,12 +256,16 @@ module _ (f : AigerFile) (graph : List (List ℕ)) (order : List ℕ) (plan : Is
   latch_next k l r net at is count =
       slice_get-append (input_literals f.records ++ latch_literals f.records) (filter (is_gate f.records) order) (length net.drivers) l.literal
       (behind (input_literals f.records) (latch_literals f.records) (length net.drivers) (length (latches_in (take k f.records))) l.literal (omega (arith, count))
-      (slice_get-mapped (latches_in f.records) (length (latches_in (take k f.records))) l (kept_at latch_of f.records k r l at is)))
-    where
-      slice_get-mapped : (ls : List LatchLine) (i : ℕ) (l : LatchLine) → slice_get ls i ≡ Some l → slice_get (map (λ (k : LatchLine). k.literal) ls) i ≡ Some l.literal
-      slice_get-mapped [] i l h = absurd (none-some l h)
-      slice_get-mapped (m ∷ ls) zero l h = ap (λ (k : LatchLine). Some k.literal) (same_Some m l h)
-      slice_get-mapped (m ∷ ls) (suc i) l h = slice_get-mapped ls i l h
+      (slice_get-map (λ (x : LatchLine). x.literal) (latches_in f.records) (length (latches_in (take k f.records))) l (kept_at latch_of f.records k r l at is)))
+
+  -- the names of an input and of a latch
+  pub input_named : (k l : ℕ) (r : Record) → slice_get f.records k ≡ Some r → input_of r ≡ Some l → signal_name f l ≡ name_of f.symbols 105 (length (input_literals (take k f.records)))
+  input_named k l r at is = input_name f sources_once (length (input_literals (take k f.records))) l (kept_at input_of f.records k r l at is)
+
+  pub latch_named : (k : ℕ) (l : LatchLine) (r : Record) → slice_get f.records k ≡ Some r → latch_of r ≡ Some l → signal_name f l.literal ≡ name_of f.symbols 108 (length (latches_in (take k f.records)))
+  latch_named k l r at is =
+      latch_name f sources_once (length (latches_in (take k f.records))) l.literal
+      (slice_get-map (λ (x : LatchLine). x.literal) (latches_in f.records) (length (latches_in (take k f.records))) l (kept_at latch_of f.records k r l at is))
 
   pub source_count : length (input_literals f.records ++ latch_literals f.records) ≡ length (input_literals f.records) + length (latches_in f.records)
   source_count = length-append (input_literals f.records) (latch_literals f.records) ∙ ap (λ (n : ℕ). length (input_literals f.records) + n) (length-map (latches_in f.records) (λ (k : LatchLine). k.literal))
@@ -242,13 +277,19 @@ module _ (f : AigerFile) (graph : List (List ℕ)) (order : List ℕ) (plan : Is
         behind (input_literals f.records ++ latch_literals f.records) (filter (is_gate f.records) order) (length net.drivers) (length (filter (is_gate f.records) (take place order))) l
         (omega (arith, made.count, source_count)) (filter_at (is_gate f.records) order place l at gate)
 
+    -- the name of the gate
+    pub gate_named : is_gate f.records l ≡ true → signal_name f l ≡ gate_name l
+    gate_named gate =
+        gate_name_is f sources_once l
+        (λ h. source_not_gate size f.records plan.kept.once fine order l h (Contains-kept (is_gate f.records) order l (of_at order place l at) gate))
+
     literal_low : l < size
     literal_low = order_low l (of_at order place l at)
 
     -- what the literal reads has its signal
     pub read_placed : (r : ℕ) → Contains (reads_in f.records l) r → (s : ℕ) × (s < length net.drivers) × (slice_get literals s ≡ Some r)
     read_placed r h =
-        let there = at_of (all_literals f.records (take place order)) r (driven_in size f.records plan.kept.once fine (take place order) r (reads_driven size f.records fine plan.driven l r h) (λ gate. earlier)) in
+        let there = at_of (all_literals f.records (take place order)) r (driven_in size f.records plan.kept.once fine (take place order) r (reads_driven size f.records fine plan.faultless.driven l r h) (λ gate. earlier)) in
         let low = slice_get_within (all_literals f.records (take place order)) there.0 r there.1 in (
           there.0,
           omega (arith, low, made.count, source_count, length-append (input_literals f.records ++ latch_literals f.records) (filter (is_gate f.records) (take place order))),
@@ -278,9 +319,9 @@ module _ (f : AigerFile) (graph : List (List ℕ)) (order : List ℕ) (plan : Is
         (λ k h. let x = Contains-map_from (signal_at signals) (reads_in f.records l) k h in subst (λ (y : Signal). y.0 < length net.drivers) x.2 (read_signal x.0 x.1).0)
 
     -- the net with the gate
-    pub made_gate : is_gate f.records l ≡ true → (name : List ℕ) (net' : NetView) (signals' : List Signal) → net' ≡ with_gate net name (map (signal_at signals) (reads_in f.records l)) (cover_number l (reads_in f.records l)) →
+    pub made_gate : is_gate f.records l ≡ true → (name : List ℕ) (net' : NetView) (signals' : List Signal) → name ≡ signal_name f l → net' ≡ with_gate net name (map (signal_at signals) (reads_in f.records l)) (cover_number l (reads_in f.records l)) →
         signals' ≡ set signals l (record { 0 = length net.drivers }) → IsMade f order (input_literals f.records) (latches_in f.records) (filter (is_gate f.records) (take (place + 1) order)) [] net' signals'
-    made_gate gate name net' signals' is signals_are =
+    made_gate gate name net' signals' name_is is signals_are =
         let next = gate_next gate in
         let grown : length net'.drivers ≡ length net.drivers + 1 = ap (λ (n : NetView). length n.drivers) is ∙ length-append net.drivers _ in
         let more : filter (is_gate f.records) (take (place + 1) order) ≡ filter (is_gate f.records) (take place order) ++ l ∷ [] =
@@ -288,6 +329,7 @@ module _ (f : AigerFile) (graph : List (List ℕ)) (order : List ℕ) (plan : Is
         subst (λ (gs : List ℕ). IsMade f order (input_literals f.records) (latches_in f.records) gs [] net' signals') (sym more) (record {
           size = ap length signals_are ∙ length-set_is signals l (record { 0 = length net.drivers }) ∙ made.size;
           placed = placed_more net net' signals signals' l made.placed next made.size grown signals_are;
+          named = named_more net net' l name made.named next name_is (ap (λ (n : NetView). n.names) is) grown;
           count = omega (arith, grown, made.count, length-append (filter (is_gate f.records) (take place order)) (l ∷ []));
           inputs = ap (λ (n : NetView). map (λ p. moved_name (literal_at literals) (named p)) n.inputs) is ∙ made.inputs;
           latches = ap (λ (n : NetView). map (head_at literals) n.latches) is ∙ made.latches;

@@ -21,8 +21,9 @@ use Rattle.aiger_symbols.specs.declared.symbol.Named.{Named}
 use Rattle.aiger_symbols.specs.Names.{name_of}
 use Rattle.aiger_file.specs.declared.file.AigerFile.{AigerFile}
 use Rattle.aiger_graph.specs.Circuit.{LatchLine, latch_of, input_literals, output_literals, latches_in}
-use Rattle.aiger_read.specs.Signals.{is_gate, latch_literals, all_literals, literal_at}
-use Rattle.aiger_read.specs.Made.{IsPlan, IsMade, HasOutputs, LatchHead, heads_from, head_at, init_of, signal_at, nexts_of}
+use Rattle.aiger_read.specs.SignalNames.{latch_literals, init_of}
+use Rattle.aiger_read.specs.Signals.{is_gate, all_literals, literal_at}
+use Rattle.aiger_read.specs.Made.{IsPlan, IsMade, HasOutputs, LatchHead, heads_from, head_at, signal_at, nexts_of}
 use Rattle.aiger_read.proofs.LiteralLists.{kept_at, kept_more, kept_same, driven_in, used_driven}
 use Rattle.aiger_read.proofs.Making.{size, literals, fine, each, signal_is, at_next, source_count}
 
@@ -79,7 +80,7 @@ module _ (f : AigerFile) (graph : List (List ℕ)) (order : List ℕ) (plan : Is
 
   pub used_in : (j u : ℕ) (r : Record) → slice_get f.records j ≡ Some r → Contains (used_by r) u → Contains (all_literals f.records order) u
   used_in j u r at h =
-      driven_in (size f graph order plan) f.records plan.kept.once (fine f graph order plan) order u (used_driven f.records plan.driven j u r at h)
+      driven_in (size f graph order plan) f.records plan.kept.once (fine f graph order plan) order u (used_driven f.records plan.faultless.driven j u r at h)
       (λ gate. each f graph order plan u (All-contains (λ u. u < size f graph order plan) (used_by r) u (fine f graph order plan j r at).used h))
 
   module _ (sound : IsSound net) (k : ℕ) (l : LatchLine) (at : slice_get f.records k ≡ Some (Latch l.literal l.next l.reset)) where
