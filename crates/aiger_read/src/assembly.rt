@@ -1,9 +1,9 @@
 //! A net under construction, and the signals of literals.
 
-ghost use Rattle.std.specs.Prelude.{◌≡◌, ◌+◌, ◌*◌, ◌/◌, ◌%◌, ◌==◌, ◌^◌, ◌<◌, ◌++◌, ◌∷◌, [], false, if◌then◌else◌, length, replicate, map, slice_get, slice_set, All, IfOk, OnOk, IsSomeAnd};
-ghost use Rattle.std.specs.Fmt.{decimal};
+ghost use Rattle.std.specs.Prelude.{◌≡◌, ◌+◌, ◌^◌, ◌<◌, ◌++◌, ◌∷◌, [], false, length, replicate, map, slice_get, slice_set, All, IfOk, OnOk, IsSomeAnd};
 ghost use Rattle.sec_base.specs.Table.{is_among};
 ghost use Rattle.flat_net.specs.Makes.{empty_net, new_signal, with_input, with_latch, with_gate};
+ghost use Rattle.aiger_read.specs.SignalNames.{gate_name};
 ghost use Rattle.aiger_read.specs.Signals.{all_covers};
 ghost use Rattle.aiger_read.specs.Made.{signal_at};
 
@@ -21,7 +21,7 @@ pub(crate) struct Assembly {
 
 /// The name of the gate of a literal: `#v` for variable v, `#v!` for its negation.
 pub(crate) fn gate_name(alloc: Global, literal: u32) -> Result<Vec<u8>, NoMemory>
-    ensures { IfOk result (λ name. name.items ≡ 35 ∷ decimal (literal / 2) ++ (if literal % 2 == 1 then 33 ∷ [] else [])) }
+    ensures { IfOk result (λ name. name.items ≡ gate_name literal) }
 {
     let mut name = Vec::new(alloc);
     name.push(b'#')?;
@@ -49,13 +49,11 @@ impl Assembly {
     /// The literal is an input of this name.
     pub(crate) fn add_input(&mut self, name: &[u8], literal: usize) -> Result<(), NoMemory>
         requires room { length self.old.maker.net.drivers + 1 < 2 ^ 32 }
+        requires new { is_among self.old.maker.net.names name.now ≡ false }
         requires literal { literal < length self.old.signals.items }
         ensures net { OnOk result (self.new.maker ≡ record self.old.maker { net = with_input self.old.maker.net name.now }) }
         ensures signals { OnOk result (self.new.signals.items ≡ slice_set self.old.signals.items literal (new_signal self.old.maker.net)) }
     {
-        if self.maker.has(name) {
-            return Err(NoMemory);
-        }
         let signal = self.maker.input(name)?;
         self.signals[literal] = signal;
         Ok(())
@@ -69,13 +67,11 @@ impl Assembly {
         init: Init,
     ) -> Result<(), NoMemory>
         requires room { length self.old.maker.net.drivers + 1 < 2 ^ 32 }
+        requires new { is_among self.old.maker.net.names name.now ≡ false }
         requires literal { literal < length self.old.signals.items }
         ensures net { OnOk result (self.new.maker ≡ record { net = with_latch self.old.maker.net name.now init; set = self.old.maker.set ++ false ∷ [] }) }
         ensures signals { OnOk result (self.new.signals.items ≡ slice_set self.old.signals.items literal (new_signal self.old.maker.net)) }
     {
-        if self.maker.has(name) {
-            return Err(NoMemory);
-        }
         let signal = self.maker.latch(name, init)?;
         self.signals[literal] = signal;
         Ok(())
@@ -90,15 +86,13 @@ impl Assembly {
         cover: u32,
     ) -> Result<(), NoMemory>
         requires room { length self.old.maker.net.drivers + 1 < 2 ^ 32 }
+        requires new { is_among self.old.maker.net.names name.now ≡ false }
         requires literal { literal < length self.old.signals.items }
         requires within { All (λ f. f.0 < length self.old.maker.net.drivers) fanins }
         requires fits { IsSomeAnd (slice_get self.old.maker.net.covers cover) (λ c. c.width ≡ length fanins) }
         ensures net { OnOk result (self.new.maker ≡ record self.old.maker { net = with_gate self.old.maker.net name.now fanins cover }) }
         ensures signals { OnOk result (self.new.signals.items ≡ slice_set self.old.signals.items literal (new_signal self.old.maker.net)) }
     {
-        if self.maker.has(name) {
-            return Err(NoMemory);
-        }
         let signal = self.maker.gate(name, fanins, cover)?;
         self.signals[literal] = signal;
         Ok(())

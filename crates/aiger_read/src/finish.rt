@@ -50,7 +50,9 @@ impl Assembly {
         self.add_outputs(alloc, plan)?;
         self.maker.keeps();
         self.set_nexts(plan);
-        Ok(mem::replace(&mut self.maker, NetMaker::new(alloc)).finish())
+        let net = mem::replace(&mut self.maker, NetMaker::new(alloc)).finish();
+        net.keeps();
+        Ok(net)
     }
 }
 

@@ -4,7 +4,8 @@ ghost use Rattle.std.specs.Prelude.{◌≡◌, ◌+◌, ◌*◌, ◌<◌, true, 
 ghost use Rattle.std.specs.List.{filter};
 ghost use Rattle.aiger_graph.specs.Circuit.{input_literals, latches_in, output_literals};
 ghost use Rattle.aiger_read.specs.Signals.{is_gate};
-ghost use Rattle.aiger_read.specs.Made.{IsPlan, IsMade, HasGates, HasOutputs, init_of};
+ghost use Rattle.aiger_read.specs.SignalNames.{init_of};
+ghost use Rattle.aiger_read.specs.Made.{IsPlan, IsMade, HasGates, HasOutputs};
 
 use crate::assembly::{Assembly, gate_name};
 use crate::covers::cover_number;
