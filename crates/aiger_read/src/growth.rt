@@ -75,10 +75,10 @@ impl Assembly {
         ensures made { OnOk result (HasGates plan.now.file.now plan.now.order.now (filter (is_gate plan.now.file.now.records) (take (place + 1) plan.now.order.now)) [] self.new.maker.net self.new.signals.items) }
     {
         let literal = plan.order[place];
-        let reads = plan.graph[literal as usize].as_slice();
-        if reads.is_empty() && literal > 1 {
+        if !plan.has_gate(literal) {
             return Ok(());
         }
+        let reads = plan.reads_of(literal);
         let name = gate_name(alloc, literal)?;
         let fanins = self.signals_of(alloc, reads)?;
         self.add_gate(
