@@ -4,7 +4,7 @@ use Rattle.std.specs.List.{All, Contains, filter}
 use Rattle.std.proofs.lemmas.List.{map-append, length-append, length-map}
 use Rattle.std.proofs.lemmas.List.Elements.{All-contains}
 use Rattle.std.proofs.lemmas.Option.{none-some, same_Some, slice_get_within, slice_get-get_or, get_or_from_slice_get}
-use Rattle.circuit_theory.proofs.Lists.{at_of, of_at}
+use Rattle.circuit_theory.proofs.Lists.{Contains-head, at_of}
 use Rattle.sec_base.proofs.TableLemmas.{key_at}
 use Rattle.flat_net.specs.declared.signals.Signal.{Signal}
 use Rattle.flat_net.specs.declared.parts.LatchAt.{LatchAt}
@@ -15,7 +15,7 @@ use Rattle.flat_net.specs.Makes.{MakerView, next_set, with_next}
 use Rattle.net_assembly.specs.Shown.{with_nexts}
 use Rattle.net_assembly.proofs.Nexts.{next_more, set_more, all_set}
 use Rattle.aiger_records.specs.declared.record.Record.{Record}
-use Rattle.aiger_records.specs.declared.record.Record.TheVariants.{Latch}
+use Rattle.aiger_records.specs.declared.record.Record.TheVariants.{Output, Latch}
 use Rattle.aiger_records.specs.Driven.{used_by}
 use Rattle.aiger_symbols.specs.declared.symbol.Named.{Named}
 use Rattle.aiger_symbols.specs.Names.{name_of}
@@ -25,7 +25,7 @@ use Rattle.aiger_read.specs.SignalNames.{latch_literals, init_of}
 use Rattle.aiger_read.specs.Signals.{is_gate, all_literals, literal_at}
 use Rattle.aiger_read.specs.Made.{IsPlan, IsMade, HasOutputs, LatchHead, heads_from, head_at, signal_at, nexts_of}
 use Rattle.aiger_read.proofs.LiteralLists.{kept_at, kept_more, kept_same, driven_in, used_driven}
-use Rattle.aiger_read.proofs.Making.{size, literals, fine, each, signal_is, at_next, source_count}
+use Rattle.aiger_read.proofs.Making.{size, fine, each, all_low, signal_is, source_count}
 
 no_nexts : (ls : List LatchAt) → with_nexts ls [] ≡ ls
 no_nexts [] = refl
@@ -82,6 +82,22 @@ module _ (f : AigerFile) (graph : List (List ℕ)) (order : List ℕ) (plan : Is
   used_in j u r at h =
       driven_in (size f graph order plan) f.records plan.kept.once (fine f graph order plan) order u (used_driven f.records plan.faultless.driven j u r at h)
       (λ gate. each f graph order plan u (All-contains (λ u. u < size f graph order plan) (used_by r) u (fine f graph order plan j r at).used h))
+
+  -- the literal of an output, and what a latch takes over
+  pub output_spot : (k l : ℕ) → slice_get f.records k ≡ Some (Output l) → (s : ℕ) × (slice_get (all_literals f.records order) s ≡ Some l) × (s < length net.drivers) × (signal_at signals l ≡ record { 0 = s })
+  output_spot k l at = spot_of l (used_in k l (Output l) at (Contains-head l []))
+
+  pub output_low : (k l : ℕ) → slice_get f.records k ≡ Some (Output l) → l < length signals
+  output_low k l at = let low = all_low f graph order plan l (used_in k l (Output l) at (Contains-head l [])) in omega (arith, low, made.size)
+
+  pub next_spot : (k : ℕ) (l : LatchLine) → slice_get f.records k ≡ Some (Latch l.literal l.next l.reset) → (signal_at signals l.next).0 < length net.drivers
+  next_spot k l at = let x = spot_of l.next (used_in k l.next (Latch l.literal l.next l.reset) at (Contains-head l.next [])) in subst (λ (g : Signal). g.0 < length net.drivers) (sym x.3) x.2
+
+  pub next_below : (k : ℕ) (l : LatchLine) → slice_get f.records k ≡ Some (Latch l.literal l.next l.reset) → l.next < length signals
+  next_below k l at = let low = all_low f graph order plan l.next (used_in k l.next (Latch l.literal l.next l.reset) at (Contains-head l.next [])) in omega (arith, low, made.size)
+
+  pub latch_below : (k : ℕ) (l : LatchLine) → slice_get f.records k ≡ Some (Latch l.literal l.next l.reset) → l.literal < length signals
+  latch_below k l at = let low = (fine f graph order plan k (Latch l.literal l.next l.reset) at).low l.literal refl in omega (arith, low, made.size)
 
   module _ (sound : IsSound net) (k : ℕ) (l : LatchLine) (at : slice_get f.records k ≡ Some (Latch l.literal l.next l.reset)) where
     -- the latch at its place
