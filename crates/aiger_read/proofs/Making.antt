@@ -1,6 +1,6 @@
 -- A net of a file that grows by one signal, or by one output.
-use Rattle.std.proofs.Common.{◌≡◌, ◌≢◌, ℕ, zero, suc, ◌+◌, ◌*◌, ◌^◌, ◌<◌, ◌≤◌, Bool, true, false, cond, eqb, List, [], ◌∷◌, ◌++◌, map, length, take, drop, set, get_or, slice_get, Option, Some, None, refl, sym, ◌∙◌, ap, ap₂, subst, arith, append_assoc, take-append-drop, inl, inr}
-use Rattle.std.specs.Prelude.{◌⊎◌, IsSomeAnd, unwrap_or}
+use Rattle.std.proofs.Common.{◌≡◌, ◌≢◌, ℕ, zero, suc, ◌+◌, ◌*◌, ◌^◌, ◌<◌, ◌≤◌, Bool, true, false, cond, eqb, List, [], ◌∷◌, ◌++◌, map, length, take, drop, set, replicate, get_or, slice_get, Option, Some, None, refl, sym, ◌∙◌, ap, ap₂, subst, arith, append_assoc, take-append-drop, inl, inr}
+use Rattle.std.specs.Prelude.{◌⊎◌, IsSomeAnd, unwrap_or, Result, Ok, Err, OnOk}
 use Rattle.std.specs.List.{All, Contains, filter, filter_map}
 use Rattle.std.proofs.lemmas.Bool.Decides.{Decides-eqb}
 use Rattle.std.proofs.lemmas.List.{length-append, length-map, map-append}
@@ -21,7 +21,7 @@ use Rattle.flat_net.specs.declared.parts.Port.{Port as NetPort}
 use Rattle.flat_net.specs.declared.parts.LatchAt.{LatchAt}
 use Rattle.flat_net.specs.declared.parts.Gate.{Gate as NetGate}
 use Rattle.flat_net.specs.View.{NetView, named, equation_of_gate, cover_of}
-use Rattle.flat_net.specs.Makes.{with_input, with_latch, with_gate, with_output}
+use Rattle.flat_net.specs.Makes.{MakerView, empty_net, with_input, with_latch, with_gate, with_output}
 use Rattle.flat_net.proofs.PlaceLists.{filter-take}
 use Rattle.gate_order.specs.Order.{IsOrder}
 use Rattle.gate_order.proofs.Rows.{same_or_not, slice_get-append, slice_get-set_same, slice_get-set_other, slice_get-take_to, length-set_is}
@@ -39,10 +39,32 @@ use Rattle.aiger_graph.specs.Literals.{operands, reads_by, reads_in, graph_of, g
 use Rattle.aiger_read.specs.SignalNames.{latch_literals, gate_name, signal_name, init_of}
 use Rattle.aiger_read.specs.Signals.{is_gate, all_covers, cover_number, all_literals, literal_at}
 use Rattle.aiger_read.specs.Made.{IsPlan, IsPlaced, IsNext, IsMade, LatchHead, heads_from, head_at, signal_at}
-use Rattle.aiger_graph.proofs.ReadLiterals.{AreWell, all_well}
+use Rattle.aiger_graph.proofs.ReadLiterals.{AreWell, all_well, reads_below}
 use Rattle.aiger_read.proofs.LiteralLists.{kept_at, literals_once, literals_low, source_not_gate, driven_in, reads_driven}
 use Rattle.aiger_read.proofs.Naming.{input_name, latch_name, gate_name_is, names_once}
 use Rattle.aiger_graph.proofs.NoLoops.{graph_low}
+
+-- the net without signals
+pub made_nothing : (f : AigerFile) (order : List ℕ) (maker : MakerView) (signals : List Signal) → maker ≡ record { net = record empty_net { covers = all_covers }; set = [] } → signals ≡ replicate (2 * f.header.greatest + 2) (record { 0 = 0 }) →
+    IsMade f order [] [] [] [] maker.net signals
+made_nothing f order maker signals is signals_are =
+    subst (λ (n : NetView). IsMade f order [] [] [] [] n signals) (sym (ap (λ (m : MakerView). m.net) is)) (record {
+      size = ap length signals_are ∙ length-replicate (2 * f.header.greatest + 2) (record { 0 = 0 });
+      placed = λ s l low at. absurd (omega (arith, low));
+      named = refl;
+      count = refl;
+      inputs = refl;
+      latches = refl;
+      gates_are = refl;
+      outputs = refl;
+      covers = refl;
+      clock = refl;
+    })
+
+-- what two clauses give together
+pub on_both : {T E A B P : Type 0} (r : Result T E) → OnOk r A → OnOk r B → (A → B → P) → OnOk r P
+on_both (Ok x) a b f = f a b
+on_both (Err e) a b f = tt
 
 -- the record at a place of the code's slice
 pub record_there : (records items : List Record) (k : ℕ) → items ≡ records → k < length items → slice_get records k ≡ Some (get_or items k (Input 0))
@@ -270,6 +292,19 @@ module _ (f : AigerFile) (graph : List (List ℕ)) (order : List ℕ) (plan : Is
   pub source_count : length (input_literals f.records ++ latch_literals f.records) ≡ length (input_literals f.records) + length (latches_in f.records)
   source_count = length-append (input_literals f.records) (latch_literals f.records) ∙ ap (λ (n : ℕ). length (input_literals f.records) + n) (length-map (latches_in f.records) (λ (k : LatchLine). k.literal))
 
+  -- the literal at a place of the order
+  pub order_at : (k : ℕ) → k < length order → slice_get order k ≡ Some (get_or order k 0)
+  order_at k low = slice_get-get_or order k 0 low
+
+  pub place_low : (k : ℕ) → k < length order → get_or order k 0 < size
+  place_low k low = order_low (get_or order k 0) (of_at order k (get_or order k 0) (order_at k low))
+
+  pub graph_at : (l : ℕ) → l < size → (l < length graph) × (get_or graph l [] ≡ reads_in f.records l)
+  graph_at l low = (
+    subst (λ (g : List (List ℕ)). l < length g) (sym plan.graph_is) (subst (λ (n : ℕ). l < n) (sym graph_size) low),
+    ap (λ (g : List (List ℕ)). get_or g l []) plan.graph_is ∙ graph_low f.records size l low,
+  )
+
   module _ (place l : ℕ) (at : slice_get order place ≡ Some l) (net : NetView) (signals : List Signal)
       (made : IsMade f order (input_literals f.records) (latches_in f.records) (filter (is_gate f.records) (take place order)) [] net signals) where
     pub gate_next : is_gate f.records l ≡ true → IsNext literals net l
@@ -313,6 +348,9 @@ module _ (f : AigerFile) (graph : List (List ℕ)) (order : List ℕ) (plan : Is
         let x = read_placed r h in
         let e : signal_at signals r ≡ record { 0 = x.0 } = signal_is net signals x.0 r made.placed x.1 x.2 in
         (subst (λ (k : Signal). k.0 < length net.drivers) (sym e) x.1, ap (λ (k : Signal). literal_at literals k.0) e ∙ at_next x.0 r x.2)
+
+    pub reads_within : All (λ (r : ℕ). r < length signals) (reads_in f.records l)
+    reads_within = All-from_each (λ (r : ℕ). r < length signals) (reads_in f.records l) (λ r h. let low = reads_below size f.records fine l r h in omega (arith, low, made.size))
 
     pub fanins_low : All (λ (k : Signal). k.0 < length net.drivers) (map (signal_at signals) (reads_in f.records l))
     fanins_low = All-from_each (λ (k : Signal). k.0 < length net.drivers) (map (signal_at signals) (reads_in f.records l))

@@ -30,7 +30,7 @@ impl Assembly {
     pub(crate) fn add_inputs(&mut self, alloc: Global, plan: &Plan<'_>) -> Result<(), NoMemory>
         requires plan { IsPlan plan.now.file.now plan.now.graph.now plan.now.order.now }
         requires made { IsMade plan.now.file.now plan.now.order.now [] [] [] [] self.old.maker.net self.old.signals.items }
-        ensures made { OnOk result (IsMade plan.now.file.now plan.now.order.now (input_literals plan.now.file.now.records) [] [] [] self.new.maker.net self.new.signals.items) }
+        ensures { OnOk result (IsMade plan.now.file.now plan.now.order.now (input_literals plan.now.file.now.records) [] [] [] self.new.maker.net self.new.signals.items) }
     {
         let mut number = 0;
         for found in plan.file.records.as_slice() {
@@ -48,7 +48,7 @@ impl Assembly {
     pub(crate) fn add_latches(&mut self, alloc: Global, plan: &Plan<'_>) -> Result<(), NoMemory>
         requires plan { IsPlan plan.now.file.now plan.now.graph.now plan.now.order.now }
         requires made { IsMade plan.now.file.now plan.now.order.now (input_literals plan.now.file.now.records) [] [] [] self.old.maker.net self.old.signals.items }
-        ensures made { OnOk result (HasGates plan.now.file.now plan.now.order.now [] [] self.new.maker.net self.new.signals.items) }
+        ensures { OnOk result (HasGates plan.now.file.now plan.now.order.now [] [] self.new.maker.net self.new.signals.items) }
     {
         let mut number = 0;
         for found in plan.file.records.as_slice() {
@@ -72,7 +72,7 @@ impl Assembly {
         requires plan { IsPlan plan.now.file.now plan.now.graph.now plan.now.order.now }
         requires place { place < length plan.now.order.now }
         requires made { HasGates plan.now.file.now plan.now.order.now (filter (is_gate plan.now.file.now.records) (take place plan.now.order.now)) [] self.old.maker.net self.old.signals.items }
-        ensures made { OnOk result (HasGates plan.now.file.now plan.now.order.now (filter (is_gate plan.now.file.now.records) (take (place + 1) plan.now.order.now)) [] self.new.maker.net self.new.signals.items) }
+        ensures { OnOk result (HasGates plan.now.file.now plan.now.order.now (filter (is_gate plan.now.file.now.records) (take (place + 1) plan.now.order.now)) [] self.new.maker.net self.new.signals.items) }
     {
         let literal = plan.order[place];
         if !plan.has_gate(literal) {
@@ -93,7 +93,7 @@ impl Assembly {
     pub(crate) fn add_gates(&mut self, alloc: Global, plan: &Plan<'_>) -> Result<(), NoMemory>
         requires plan { IsPlan plan.now.file.now plan.now.graph.now plan.now.order.now }
         requires made { HasGates plan.now.file.now plan.now.order.now [] [] self.old.maker.net self.old.signals.items }
-        ensures made { OnOk result (HasOutputs plan.now.file.now plan.now.order.now [] self.new.maker.net self.new.signals.items) }
+        ensures { OnOk result (HasOutputs plan.now.file.now plan.now.order.now [] self.new.maker.net self.new.signals.items) }
     {
         for place in 0..plan.order.len() {
             self.add_gate_at(alloc, plan, place)?;
@@ -105,7 +105,7 @@ impl Assembly {
     pub(crate) fn add_outputs(&mut self, alloc: Global, plan: &Plan<'_>) -> Result<(), NoMemory>
         requires plan { IsPlan plan.now.file.now plan.now.graph.now plan.now.order.now }
         requires made { HasOutputs plan.now.file.now plan.now.order.now [] self.old.maker.net self.old.signals.items }
-        ensures made { OnOk result (HasOutputs plan.now.file.now plan.now.order.now (output_literals plan.now.file.now.records) self.new.maker.net self.new.signals.items) }
+        ensures { OnOk result (HasOutputs plan.now.file.now plan.now.order.now (output_literals plan.now.file.now.records) self.new.maker.net self.new.signals.items) }
     {
         let mut number = 0;
         for found in plan.file.records.as_slice() {
