@@ -1,13 +1,12 @@
 -- Each literal of a file is driven once.
-use Rattle.std.proofs.Common.{◌≡◌, ℕ, zero, suc, ◌+◌, ◌*◌, ◌-◌, ◌/◌, ◌%◌, ◌<◌, ◌≤◌, List, [], ◌∷◌, ◌++◌, map, length, slice_get, Option, Some, None, refl, sym, ◌∙◌, ap, ap₂, subst, arith, inl, inr}
+use Rattle.std.proofs.Common.{◌≡◌, ℕ, zero, suc, ◌+◌, ◌*◌, ◌-◌, ◌/◌, ◌%◌, ◌<◌, ◌≤◌, List, [], ◌∷◌, ◌++◌, map, length, slice_get, Some, refl, sym, ◌∙◌, ap, subst, arith, inl, inr}
 use Rattle.std.specs.Prelude.{◌⊎◌}
 use Rattle.std.specs.List.{Contains}
 use Rattle.std.proofs.lemmas.List.{map-append}
 use Rattle.std.proofs.lemmas.List.Elements.{Contains-append_cases}
-use Rattle.std.proofs.lemmas.Option.{none-some, same_Some}
 use Rattle.circuit_theory.specs.Circuit.{Equation, IsInput, out_of}
-use Rattle.circuit_theory.specs.Circuit.{Gate as gate_equation, Latch as latch_equation, Port as port_equation}
-use Rattle.circuit_theory.proofs.Lists.{Contains-cases, Contains-map_from, Contains-map, at_of, only}
+use Rattle.circuit_theory.specs.Circuit.{Gate as gate_equation}
+use Rattle.circuit_theory.proofs.Lists.{Contains-cases, Contains-map_from, Contains-map, only}
 use Rattle.sec_base.specs.Table.{AreDistinct}
 use Rattle.net_assembly.proofs.DistinctLists.{distinct_nil, distinct_cons, distinct_append}
 use Rattle.aiger_records.specs.declared.record.Record.{Record}

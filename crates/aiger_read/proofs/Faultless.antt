@@ -1,14 +1,14 @@
 -- What a file without a fault keeps: what it reads is driven, and its names are distinct.
-use Rattle.std.proofs.Common.{◌≡◌, ◌≢◌, ℕ, zero, suc, ◌+◌, ◌*◌, ◌^◌, ◌<◌, ◌≤◌, ◌==◌, Bool, true, false, true≢false, cond, eqb, bytes_eq, List, [], ◌∷◌, ◌++◌, map, length, slice_get, Option, Some, None, decimal, refl, sym, ◌∙◌, ap, ap₂, subst, arith, append_assoc, append-nil, inl, inr}
+use Rattle.std.proofs.Common.{◌≡◌, ◌≢◌, ℕ, zero, suc, ◌+◌, ◌≤◌, ◌==◌, Bool, true, false, true≢false, cond, bytes_eq, List, [], ◌∷◌, ◌++◌, map, length, slice_get, Option, Some, None, refl, sym, ◌∙◌, ap, ap₂, subst, arith, append_assoc, append-nil, inl, inr}
 use Rattle.std.specs.Prelude.{◌⊎◌, not, nat_le, nat_lt, option_map, option_and_then, ◌||◌}
-use Rattle.std.specs.List.{All, Contains, list_any}
+use Rattle.std.specs.List.{Contains, list_any}
 use Rattle.std.proofs.lemmas.Bool.{or_parts, eqb-false}
 use Rattle.std.proofs.lemmas.List.{map-append, length-map}
-use Rattle.std.proofs.lemmas.List.Elements.{Contains-append_left, Contains-append_right, Contains-append_cases}
+use Rattle.std.proofs.lemmas.List.Elements.{Contains-append_cases}
 use Rattle.std.proofs.lemmas.Option.{none-some, same_Some, slice_get_within}
 use Rattle.circuit_theory.specs.Circuit.{Named as Port}
 use Rattle.circuit_theory.specs.Interface.{◌or_else◌}
-use Rattle.circuit_theory.proofs.Lists.{All-from_each, Contains-map_from, Contains-head, Contains-tail, Contains-cases, at_of, only}
+use Rattle.circuit_theory.proofs.Lists.{All-from_each, Contains-head, Contains-tail, Contains-cases, at_of, only}
 use Rattle.sec_base.specs.Table.{is_among, AreDistinct}
 use Rattle.sec_base.proofs.TableLemmas.{Contains_not-is_among}
 use Rattle.gate_order.proofs.Rows.{slice_get-append}
@@ -16,7 +16,6 @@ use Rattle.net_assembly.proofs.DistinctLists.{distinct_nil, distinct_cons, disti
 use Rattle.aiger_records.specs.declared.header.Header.{Header}
 use Rattle.aiger_records.specs.declared.error.AigerKind.{AigerKind}
 use Rattle.aiger_records.specs.declared.error.AigerKind.TheVariants as kind
-use Rattle.aiger_records.specs.declared.record.Record.{Record}
 use Rattle.aiger_records.specs.Headers.{guard, header_fault}
 use Rattle.aiger_records.specs.Records.{body_length}
 use Rattle.aiger_records.specs.Driven.{all_driven}
@@ -24,10 +23,10 @@ use Rattle.aiger_symbols.specs.declared.symbol.Named.{Named}
 use Rattle.aiger_symbols.specs.Symbols.{Symbol, symbols_of, symbol_fault, count_of, is_bad_byte, is_bad_name}
 use Rattle.aiger_symbols.specs.Names.{key_of, name_beside, name_of, names_from, repeats}
 use Rattle.aiger_file.specs.declared.file.AigerFile.{AigerFile}
-use Rattle.aiger_file.specs.Reading.{FaultAt, at, fault_at, Headed, Body, records_fault, first_symbol_fault, body_fault, body_of, headed, headed_fault, first_fault, those_there, file_with, spelled}
+use Rattle.aiger_file.specs.Reading.{at, fault_at, Headed, records_fault, first_symbol_fault, body_fault, body_of, headed, headed_fault, first_fault, those_there, file_with, spelled}
 use Rattle.aiger_file.specs.Whole.{file_fault, source_names, output_names}
 use Rattle.aiger_file.specs.Files.{IsKept, late_fault, fault_of_text}
-use Rattle.aiger_graph.specs.Circuit.{LatchLine, circuit_of_file, ports_from, input_literals, output_literals, latches_in}
+use Rattle.aiger_graph.specs.Circuit.{LatchLine, ports_from, input_literals, output_literals, latches_in}
 use Rattle.aiger_read.specs.SignalNames.{latch_literals, sources_of}
 use Rattle.aiger_read.specs.Made.{IsFaultless}
 use Rattle.aiger_read.proofs.Naming.{ports_places}

@@ -1,19 +1,17 @@
 -- The finished net is the file's circuit.
-use Rattle.std.proofs.Common.{◌≡◌, ℕ, zero, suc, ◌+◌, ◌*◌, ◌-◌, ◌<◌, ◌≤◌, Bool, true, false, cond, eqb, ltb, List, [], ◌∷◌, ◌++◌, map, length, drop, get_or, slice_get, Option, Some, None, refl, sym, ◌∙◌, ap, ap₂, subst, arith, inl, inr}
+use Rattle.std.proofs.Common.{◌≡◌, ℕ, zero, suc, ◌+◌, ◌-◌, ◌<◌, true, List, [], ◌∷◌, ◌++◌, map, length, slice_get, Some, refl, sym, ◌∙◌, ap, ap₂, subst, arith, inl, inr}
 use Rattle.std.specs.Prelude.{◌⊎◌}
-use Rattle.std.specs.List.{All, Contains, filter, filter_map, cons_option}
-use Rattle.std.proofs.lemmas.Bool.{false_from_ne_true}
-use Rattle.std.proofs.lemmas.Bool.Decides.{Decides-eqb}
+use Rattle.std.specs.List.{Contains, filter, filter_map}
 use Rattle.std.proofs.lemmas.List.Elements.{All-contains, Contains-append_left, Contains-append_right, Contains-append_cases}
 use Rattle.std.proofs.lemmas.List.{length-map}
 use Rattle.std.proofs.lemmas.Option.{slice_get_within, slice_get-get_or}
 use Rattle.circuit_theory.specs.Cover.{Cover}
 use Rattle.circuit_theory.specs.Circuit.{Circuit, Equation, Named, Started, IsLatch, out_of}
 use Rattle.circuit_theory.specs.Circuit.{Gate as gate_equation, Latch as latch_equation, Port as port_equation}
-use Rattle.circuit_theory.specs.Flattened.{IsFlattened, Follows, latch_names}
+use Rattle.circuit_theory.specs.Flattened.{Follows, latch_names}
 use Rattle.circuit_theory.specs.Joined.{moved, moved_name, moved_start}
 use Rattle.circuit_theory.specs.Places.{IsPlace}
-use Rattle.circuit_theory.proofs.Lists.{map-map, map_same, Contains-map, Contains-map_from, Contains-cases, Contains-head, Contains-tail, filter_map-from, filter_test, at_of, of_at}
+use Rattle.circuit_theory.proofs.Lists.{map-map, map_same, Contains-map, Contains-map_from, Contains-head, Contains-tail, filter_map-from, filter_test, at_of}
 use Rattle.circuit_theory.proofs.Numbers.{slice_get-map}
 use Rattle.net_alike.specs.Renumbered.{latch_rows}
 use Rattle.net_alike.specs.FlatCircuit.{HasSignal, IsFlatCircuit}
@@ -33,20 +31,16 @@ use Rattle.net_assembly.specs.Assembled.{IsAssembled}
 use Rattle.net_assembly.specs.Shown.{with_nexts}
 use Rattle.net_assembly.proofs.AssembledRuns.{assembled_is_flattened}
 use Rattle.net_assembly.proofs.DistinctLists.{Contains-kept}
-use Rattle.aiger_records.specs.declared.record.Record.{Record}
 use Rattle.aiger_records.specs.declared.record.Record.TheVariants.{Input, Latch, Output}
-use Rattle.aiger_records.specs.Faults.{defined_by}
-use Rattle.aiger_symbols.specs.declared.symbol.Named.{Named as Symbols}
-use Rattle.aiger_symbols.specs.Names.{name_of}
 use Rattle.aiger_file.specs.declared.file.AigerFile.{AigerFile}
-use Rattle.aiger_graph.specs.Circuit.{LatchLine, circuit_of_file, constants, gates_in, ports_from, latches_from, input_of, output_of, latch_of, input_literals, output_literals, latches_in, start_of, zero_cover, one_cover}
-use Rattle.aiger_graph.specs.Literals.{operands, reads_by, reads_in, gate_at, cover_by}
-use Rattle.aiger_read.specs.SignalNames.{signal_name, inits_of}
+use Rattle.aiger_graph.specs.Circuit.{LatchLine, circuit_of_file, constants, gates_in, latches_from, input_literals, output_literals, latches_in, start_of, zero_cover, one_cover}
+use Rattle.aiger_graph.specs.Literals.{reads_in, gate_at, cover_by}
+use Rattle.aiger_read.specs.SignalNames.{signal_name}
 use Rattle.aiger_read.specs.Signals.{is_gate, all_covers, all_literals, literal_at}
 use Rattle.aiger_read.specs.Made.{IsPlan, HasOutputs, signal_at, nexts_of}
 use Rattle.aiger_read.specs.Nets.{IsNetOf}
 use Rattle.aiger_graph.proofs.ReadLiterals.{IsGateHere, gate_made, gate_here, reads_below}
-use Rattle.aiger_read.proofs.LiteralLists.{in_inputs, in_outputs, in_latches, kept_has, low_gate, reading_gate, gate_reads, gate_in, driven_in, reads_driven, input_in, latch_in}
+use Rattle.aiger_read.proofs.LiteralLists.{in_outputs, in_latches, low_gate, reading_gate, gate_reads, gate_in, driven_in, reads_driven, input_in, latch_in}
 use Rattle.aiger_graph.proofs.NoLoops.{equation_cases, constant_cases, no_latch_gate, no_port}
 use Rattle.aiger_read.proofs.FileParts.{names_behind, rows_behind, file_rows, moved_rows, moved_names, latch_line, port_literal, low_reads, latches_are, starts_are, inits_are, start_literal}
 use Rattle.aiger_read.proofs.Making.{size, fine, few, each, at_next}

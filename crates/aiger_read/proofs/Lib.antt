@@ -7,3 +7,4 @@ pub mod Nexts
 pub mod Finishing
 pub mod Sections
 pub mod Faultless
+pub mod Answered

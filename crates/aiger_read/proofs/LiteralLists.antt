@@ -1,13 +1,13 @@
 -- The literals of a net's signals: each stands there once, and each literal that is driven stands there.
-use Rattle.std.proofs.Common.{◌≡◌, ◌≢◌, ℕ, zero, suc, ◌+◌, ◌*◌, ◌-◌, ◌%◌, ◌/◌, ◌<◌, ◌≤◌, Bool, true, false, true≢false, cond, eqb, ltb, List, [], ◌∷◌, ◌++◌, map, length, slice_get, take, append-nil, Option, Some, None, refl, sym, ◌∙◌, ap, subst, arith, inl, inr}
+use Rattle.std.proofs.Common.{◌≡◌, ◌≢◌, ℕ, zero, suc, ◌+◌, ◌*◌, ◌-◌, ◌%◌, ◌/◌, ◌<◌, Bool, true, false, true≢false, eqb, ltb, List, [], ◌∷◌, ◌++◌, map, length, slice_get, take, append-nil, Option, Some, None, refl, sym, ◌∙◌, ap, subst, arith, inl, inr}
 use Rattle.std.specs.Prelude.{◌⊎◌, ◌||◌}
-use Rattle.std.specs.List.{All, Contains, filter, filter_map, cons_option, list_all, list_any}
-use Rattle.std.proofs.lemmas.Bool.{ltb-true, ltb-false, and_parts, or_left, or_right}
+use Rattle.std.specs.List.{Contains, filter, filter_map, cons_option, list_all}
+use Rattle.std.proofs.lemmas.Bool.{ltb-true, or_left, or_right}
 use Rattle.std.proofs.lemmas.Bool.Decides.{Decides-eqb, Decides-ltb}
 use Rattle.std.proofs.lemmas.List.{map-id}
-use Rattle.std.proofs.lemmas.List.Elements.{All-contains, Contains-append_left, Contains-append_right, Contains-append_cases}
+use Rattle.std.proofs.lemmas.List.Elements.{Contains-append_left, Contains-append_right, Contains-append_cases}
 use Rattle.std.proofs.lemmas.Option.{none-some, same_Some}
-use Rattle.circuit_theory.proofs.Lists.{Contains-head, Contains-tail, Contains-cases, Contains-filter, Contains-map, Contains-map_from, filter_test, filter_map-from, All-from_each, at_of, of_at}
+use Rattle.circuit_theory.proofs.Lists.{Contains-head, Contains-tail, Contains-cases, Contains-filter, Contains-map, Contains-map_from, filter_test, filter_map-from, at_of}
 use Rattle.sec_base.specs.Table.{AreDistinct}
 use Rattle.sec_base.proofs.TableLemmas.{take-push}
 use Rattle.net_assembly.proofs.DistinctLists.{distinct_nil, distinct_cons, distinct_append, distinct_filter, Contains-kept}
@@ -21,7 +21,7 @@ use Rattle.aiger_graph.specs.Circuit.{LatchLine, input_of, output_of, latch_of, 
 use Rattle.aiger_graph.specs.Literals.{operands, reads_in}
 use Rattle.aiger_read.specs.SignalNames.{latch_literals}
 use Rattle.aiger_read.specs.Signals.{is_gate, all_literals}
-use Rattle.aiger_graph.proofs.ReadLiterals.{IsWell, AreWell, IsReader, reads_at, negation_reads, reader, operands_used}
+use Rattle.aiger_graph.proofs.ReadLiterals.{AreWell, IsReader, reads_at, negation_reads, reader, operands_used}
 
 -- what a function gives of some items of a list
 pub kept_has : {X Y : Type 0} (h : X → Option Y) (xs : List X) (j : ℕ) (x : X) (y : Y) → slice_get xs j ≡ Some x → h x ≡ Some y → Contains (filter_map h xs) y

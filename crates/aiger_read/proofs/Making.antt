@@ -1,10 +1,9 @@
 -- A net of a file that grows by one signal, or by one output.
-use Rattle.std.proofs.Common.{◌≡◌, ◌≢◌, ℕ, zero, suc, ◌+◌, ◌*◌, ◌^◌, ◌<◌, ◌≤◌, Bool, true, false, cond, eqb, List, [], ◌∷◌, ◌++◌, map, length, take, drop, set, replicate, get_or, slice_get, Option, Some, None, refl, sym, ◌∙◌, ap, ap₂, subst, arith, append_assoc, take-append-drop, inl, inr}
+use Rattle.std.proofs.Common.{◌≡◌, ◌≢◌, ℕ, zero, suc, ◌+◌, ◌*◌, ◌^◌, ◌<◌, ◌≤◌, Bool, true, false, cond, eqb, List, [], ◌∷◌, ◌++◌, map, length, take, drop, set, replicate, get_or, slice_get, Some, None, refl, sym, ◌∙◌, ap, ap₂, subst, arith, append_assoc, take-append-drop, inl, inr}
 use Rattle.std.specs.Prelude.{◌⊎◌, IsSomeAnd, unwrap_or, Result, Ok, Err, OnOk}
-use Rattle.std.specs.List.{All, Contains, filter, filter_map}
-use Rattle.std.proofs.lemmas.Bool.Decides.{Decides-eqb}
+use Rattle.std.specs.List.{All, Contains, filter}
 use Rattle.std.proofs.lemmas.List.{length-append, length-map, map-append}
-use Rattle.std.proofs.lemmas.List.Elements.{All-contains, Contains-append_left, Contains-append_right, Contains-append_cases, filter-append}
+use Rattle.std.proofs.lemmas.List.Elements.{filter-append}
 use Rattle.std.proofs.lemmas.List.FromFn.{length-map-range_with_len}
 use Rattle.std.proofs.lemmas.Option.{none-some, same_Some, slice_get_within, slice_get-get_or, get_or_from_slice_get}
 use Rattle.circuit_theory.specs.Cover.{Cover}
@@ -14,28 +13,21 @@ use Rattle.circuit_theory.specs.Joined.{moved, moved_name}
 use Rattle.circuit_theory.proofs.Lists.{map-map, map_same, All-from_each, Contains-map_from, Contains-filter, at_of, of_at}
 use Rattle.circuit_theory.proofs.Numbers.{slice_get-map}
 use Rattle.sec_base.specs.Table.{is_among, AreDistinct}
-use Rattle.sec_base.specs.declared.basics.Init.{Init}
 use Rattle.sec_base.proofs.TableLemmas.{not_before, take-push}
 use Rattle.flat_net.specs.declared.signals.Signal.{Signal}
-use Rattle.flat_net.specs.declared.parts.Port.{Port as NetPort}
-use Rattle.flat_net.specs.declared.parts.LatchAt.{LatchAt}
-use Rattle.flat_net.specs.declared.parts.Gate.{Gate as NetGate}
-use Rattle.flat_net.specs.View.{NetView, named, equation_of_gate, cover_of}
+use Rattle.flat_net.specs.View.{NetView, named, equation_of_gate}
 use Rattle.flat_net.specs.Makes.{MakerView, empty_net, with_input, with_latch, with_gate, with_output}
 use Rattle.flat_net.proofs.PlaceLists.{filter-take}
-use Rattle.gate_order.specs.Order.{IsOrder}
 use Rattle.gate_order.proofs.Rows.{same_or_not, slice_get-append, slice_get-set_same, slice_get-set_other, slice_get-take_to, length-set_is}
 use Rattle.net_assembly.proofs.Building.{few_below}
 use Rattle.net_assembly.proofs.DistinctLists.{Contains-kept}
 use Rattle.aiger_records.specs.declared.record.Record.{Record}
 use Rattle.aiger_records.specs.declared.record.Record.TheVariants.{Input, Latch, Output, Gate, Packed}
-use Rattle.aiger_records.specs.Faults.{DefinesOnce}
-use Rattle.aiger_records.specs.Driven.{is_driven, all_driven}
 use Rattle.aiger_symbols.specs.declared.symbol.Named.{Named}
 use Rattle.aiger_symbols.specs.Names.{name_of}
 use Rattle.aiger_file.specs.declared.file.AigerFile.{AigerFile}
-use Rattle.aiger_graph.specs.Circuit.{LatchLine, ports_from, input_of, output_of, latch_of, input_literals, output_literals, latches_in, and_cover, not_cover, zero_cover, one_cover}
-use Rattle.aiger_graph.specs.Literals.{operands, reads_by, reads_in, graph_of, gate_at, cover_by}
+use Rattle.aiger_graph.specs.Circuit.{LatchLine, ports_from, input_of, output_of, latch_of, input_literals, latches_in, zero_cover, one_cover}
+use Rattle.aiger_graph.specs.Literals.{operands, reads_in, graph_of, gate_at, cover_by}
 use Rattle.aiger_read.specs.SignalNames.{latch_literals, gate_name, signal_name, init_of}
 use Rattle.aiger_read.specs.Signals.{is_gate, all_covers, cover_number, all_literals, literal_at}
 use Rattle.aiger_read.specs.Made.{IsPlan, IsPlaced, IsNext, IsMade, LatchHead, heads_from, head_at, signal_at}

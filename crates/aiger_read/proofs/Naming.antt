@@ -1,7 +1,7 @@
 -- The names of the signals are distinct.
-use Rattle.std.proofs.Common.{◌≡◌, ◌≢◌, ℕ, zero, suc, ◌+◌, ◌*◌, ◌/◌, ◌%◌, ◌^◌, ◌<◌, ◌≤◌, ◌==◌, ◌&&◌, not, Bool, true, false, true≢false, cond, eqb, if◌then◌else◌, List, [], ◌∷◌, ◌++◌, map, length, drop, take, slice_get, Some, decimal, refl, sym, ◌∙◌, ap, ap₂, subst, arith, ne_eqb, inl, inr}
+use Rattle.std.proofs.Common.{◌≡◌, ◌≢◌, ℕ, zero, suc, ◌+◌, ◌/◌, ◌%◌, ◌^◌, ◌<◌, ◌==◌, ◌&&◌, not, Bool, true, false, true≢false, cond, eqb, if◌then◌else◌, List, [], ◌∷◌, ◌++◌, map, length, drop, slice_get, Some, decimal, refl, sym, ◌∙◌, ap, ap₂, subst, arith, ne_eqb, inl, inr}
 use Rattle.std.specs.Prelude.{◌⊎◌}
-use Rattle.std.specs.List.{All, Contains, filter, list_all}
+use Rattle.std.specs.List.{Contains, list_all}
 use Rattle.std.specs.Fmt.{digits, digits_onto, digit_glyph}
 use Rattle.std.proofs.lemmas.Bool.{and_parts, lt-ltb, eqb-false}
 use Rattle.std.proofs.lemmas.Bool.Decides.{Decides-eqb}
@@ -12,17 +12,15 @@ use Rattle.std.proofs.lemmas.Option.{none-some, same_Some}
 use Rattle.circuit_theory.specs.Circuit.{Named as Port}
 use Rattle.circuit_theory.proofs.Lists.{Contains-head, Contains-tail, at_of, of_at}
 use Rattle.circuit_theory.proofs.Numbers.{slice_get-map}
-use Rattle.sec_base.specs.Table.{is_among, AreDistinct}
-use Rattle.sec_base.proofs.TableLemmas.{key_at, not_before, take-push}
+use Rattle.sec_base.specs.Table.{AreDistinct}
+use Rattle.sec_base.proofs.TableLemmas.{key_at}
 use Rattle.gate_order.proofs.Rows.{slice_get-append}
 use Rattle.net_assembly.proofs.DistinctLists.{distinct_tail}
-use Rattle.aiger_records.specs.declared.record.Record.{Record}
 use Rattle.aiger_symbols.specs.declared.symbol.Named.{Named}
 use Rattle.aiger_symbols.specs.Names.{name_of}
 use Rattle.aiger_file.specs.declared.file.AigerFile.{AigerFile}
-use Rattle.aiger_graph.specs.Circuit.{LatchLine, ports_from, input_literals, latches_in}
+use Rattle.aiger_graph.specs.Circuit.{ports_from, input_literals}
 use Rattle.aiger_read.specs.SignalNames.{gate_name, latch_literals, sources_of, name_among, signal_name}
-use Rattle.aiger_read.specs.Signals.{is_gate, all_literals}
 use Rattle.aiger_read.specs.Made.{IsFaultless}
 
 -- a text without `!`

@@ -1,9 +1,9 @@
 -- What latches take over: one after another is set.
-use Rattle.std.proofs.Common.{◌≡◌, ℕ, zero, suc, ◌+◌, ◌<◌, ◌≤◌, Bool, true, List, [], ◌∷◌, ◌++◌, map, length, take, drop, set, get_or, replicate, slice_get, Option, Some, None, refl, sym, ◌∙◌, ap, subst, arith, append-nil}
+use Rattle.std.proofs.Common.{◌≡◌, ℕ, zero, suc, ◌+◌, ◌<◌, Bool, true, List, [], ◌∷◌, ◌++◌, map, length, take, drop, set, replicate, slice_get, Some, refl, sym, ◌∙◌, ap, subst, arith}
 use Rattle.std.specs.List.{All, Contains, filter}
 use Rattle.std.proofs.lemmas.List.{map-append, length-append, length-map}
 use Rattle.std.proofs.lemmas.List.Elements.{All-contains}
-use Rattle.std.proofs.lemmas.Option.{none-some, same_Some, slice_get_within, slice_get-get_or, get_or_from_slice_get}
+use Rattle.std.proofs.lemmas.Option.{none-some, same_Some, slice_get_within, slice_get-get_or}
 use Rattle.circuit_theory.proofs.Lists.{Contains-head, at_of}
 use Rattle.sec_base.proofs.TableLemmas.{key_at}
 use Rattle.flat_net.specs.declared.signals.Signal.{Signal}
@@ -20,11 +20,11 @@ use Rattle.aiger_records.specs.Driven.{used_by}
 use Rattle.aiger_symbols.specs.declared.symbol.Named.{Named}
 use Rattle.aiger_symbols.specs.Names.{name_of}
 use Rattle.aiger_file.specs.declared.file.AigerFile.{AigerFile}
-use Rattle.aiger_graph.specs.Circuit.{LatchLine, latch_of, input_literals, output_literals, latches_in}
+use Rattle.aiger_graph.specs.Circuit.{LatchLine, latch_of, input_literals, latches_in}
 use Rattle.aiger_read.specs.SignalNames.{latch_literals, init_of}
 use Rattle.aiger_read.specs.Signals.{is_gate, all_literals, literal_at}
-use Rattle.aiger_read.specs.Made.{IsPlan, IsMade, HasOutputs, LatchHead, heads_from, head_at, signal_at, nexts_of}
-use Rattle.aiger_read.proofs.LiteralLists.{kept_at, kept_more, kept_same, driven_in, used_driven}
+use Rattle.aiger_read.specs.Made.{IsPlan, HasOutputs, LatchHead, heads_from, head_at, signal_at, nexts_of}
+use Rattle.aiger_read.proofs.LiteralLists.{kept_at, driven_in, used_driven}
 use Rattle.aiger_read.proofs.Making.{size, fine, each, all_low, signal_is, source_count}
 
 no_nexts : (ls : List LatchAt) → with_nexts ls [] ≡ ls

@@ -3,7 +3,6 @@ use Rattle.std.proofs.Common.{◌≡◌, ℕ, zero, suc, ◌+◌, ◌*◌, ◌-�
 use Rattle.std.specs.Prelude.{option_and_then, option_map}
 use Rattle.std.specs.List.{filter_map, cons_option}
 use Rattle.std.proofs.lemmas.Bool.{ltb-true, ltb-false}
-use Rattle.std.proofs.lemmas.List.{length-append}
 use Rattle.std.proofs.lemmas.Option.{none-some, same_Some}
 use Rattle.aiger_text.specs.Lines.{Cut, first_line}
 use Rattle.aiger_text.specs.Numbers.{numbers, numbers_behind, words_of}
@@ -15,9 +14,9 @@ use Rattle.aiger_records.specs.declared.record.Section.{Section}
 use Rattle.aiger_records.specs.declared.record.Section.TheVariants as section
 use Rattle.aiger_records.specs.declared.record.Record.{Record}
 use Rattle.aiger_records.specs.declared.record.Record.TheVariants.{Input, Latch, Output, Gate, Packed}
-use Rattle.aiger_records.specs.Records.{Taken, listed, input_lines, body_length, section_at, section_of, left_out, line_record, cut_record, second_difference, packed_record, is_packed, record_in, record_at, gate_literal, inputs_to, implied, followed_by}
+use Rattle.aiger_records.specs.Records.{Taken, listed, input_lines, body_length, section_at, section_of, left_out, line_record, cut_record, second_difference, packed_record, is_packed, record_at, gate_literal, inputs_to, implied, followed_by}
 use Rattle.aiger_file.specs.declared.file.AigerFile.{AigerFile}
-use Rattle.aiger_file.specs.Reading.{Body, body_with, body_from, body_of, those_there, file_with, Headed, headed, spelled}
+use Rattle.aiger_file.specs.Reading.{body_with, body_from, body_of, those_there, file_with, Headed, headed, spelled}
 use Rattle.aiger_graph.specs.Circuit.{LatchLine, input_of, output_of, latch_of, input_literals, output_literals, latches_in}
 
 -- the section that a record is of

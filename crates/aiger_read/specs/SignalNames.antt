@@ -1,5 +1,5 @@
 -- The names of a net's signals, and the initial values of its latches.
-use Rattle.std.specs.Prelude.{◌≡◌, ℕ, ◌/◌, ◌%◌, ◌==◌, if◌then◌else◌, List, [], ◌∷◌, ◌++◌, map, unwrap_or, codes, refl}
+use Rattle.std.specs.Prelude.{◌≡◌, ℕ, ◌/◌, ◌%◌, ◌==◌, if◌then◌else◌, List, [], ◌∷◌, ◌++◌, map, codes, refl}
 use Rattle.std.specs.Fmt.{decimal, digits}
 use Rattle.circuit_theory.specs.Circuit.{Named as Port}
 use Rattle.sec_base.specs.declared.basics.Init.{Init}

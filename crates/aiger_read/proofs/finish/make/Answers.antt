@@ -1,4 +1,3 @@
-use Rattle.std.proofs.Common.{◌≡◌, ℕ, refl}
 use Rattle.aiger_read.proofs.Making.{made_nothing}
 use Rattle.aiger_read.proofs.finish.make.Goals as goal
 

@@ -1,15 +1,14 @@
-use Rattle.std.proofs.Common.{◌≡◌, ◌∙◌, ◌<◌, ◌+◌, ℕ, List, map, length, take, get_or, set, slice_get, sym, ap, ap₂, subst, arith}
+use Rattle.std.proofs.Common.{◌≡◌, ◌∙◌, ◌<◌, ℕ, List, map, length, get_or, slice_get, sym, ap, ap₂, subst, arith}
 use Rattle.std.specs.Prelude.{IsSomeAnd}
-use Rattle.std.specs.List.{All, filter}
+use Rattle.std.specs.List.{All}
 use Rattle.std.proofs.lemmas.List.{length-map}
 use Rattle.circuit_theory.specs.Cover.{Cover}
 use Rattle.flat_net.specs.declared.signals.Signal.{Signal}
-use Rattle.flat_net.specs.View.{NetView}
 use Rattle.flat_net.specs.Makes.{MakerView, with_gate}
 use Rattle.aiger_graph.specs.Literals.{reads_in}
-use Rattle.aiger_read.specs.Signals.{is_gate, cover_number}
-use Rattle.aiger_read.specs.Made.{HasGates, signal_at}
-use Rattle.aiger_read.proofs.Making.{order_at, place_low, room, next_low, fresh, gate_next, gate_named, reads_within, fanins_low, reads_fit, made_gate, made_none, on_both}
+use Rattle.aiger_read.specs.Signals.{cover_number}
+use Rattle.aiger_read.specs.Made.{signal_at}
+use Rattle.aiger_read.proofs.Making.{order_at, place_low, room, fresh, gate_next, gate_named, reads_within, fanins_low, reads_fit, made_gate, made_none, on_both}
 use Rattle.aiger_read.proofs.assembly.Assembly.add_gate_at.Goals as goal
 
 pub has_gate-requires-clause-low : goal.has_gate-requires-clause-low

@@ -1,4 +1,4 @@
-use Rattle.std.proofs.Common.{◌≡◌, ℕ, List, [], take, length, subst, arith}
+use Rattle.std.proofs.Common.{ℕ, List, [], subst, arith}
 use Rattle.std.specs.List.{filter}
 use Rattle.aiger_read.specs.Signals.{is_gate}
 use Rattle.aiger_read.specs.Made.{HasGates}

@@ -1,4 +1,4 @@
-use Rattle.std.proofs.Common.{◌≡◌, ◌∙◌, ◌++◌, ◌∷◌, [], ℕ, List, take, length, get_or, Some, refl, sym, ap, subst, arith}
+use Rattle.std.proofs.Common.{◌∙◌, ◌∷◌, [], ℕ, List, take, length, get_or, Some, refl, sym, ap, subst, arith}
 use Rattle.flat_net.specs.Makes.{MakerView}
 use Rattle.aiger_records.specs.declared.record.Record.TheVariants.{Input}
 use Rattle.aiger_graph.specs.Circuit.{input_of, input_literals}

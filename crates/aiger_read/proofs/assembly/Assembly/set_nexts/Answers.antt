@@ -1,10 +1,7 @@
-use Rattle.std.proofs.Common.{◌≡◌, ◌∙◌, ◌++◌, ◌∷◌, ◌<◌, [], ℕ, Bool, true, List, take, length, get_or, set, slice_get, Some, refl, sym, ap, subst, arith}
-use Rattle.std.specs.List.{All, filter}
+use Rattle.std.proofs.Common.{◌∙◌, true, List, take, length, get_or, set, slice_get, Some, refl, sym, ap, subst, arith}
 use Rattle.std.proofs.lemmas.Option.{get_or_from_slice_get}
 use Rattle.flat_net.specs.declared.signals.Signal.{Signal}
-use Rattle.flat_net.specs.declared.parts.LatchAt.{LatchAt}
 use Rattle.flat_net.specs.View.{NetView}
-use Rattle.flat_net.specs.Makes.{MakerView, with_next}
 use Rattle.net_assembly.specs.Shown.{with_nexts}
 use Rattle.net_assembly.proofs.Nexts.{take_whole}
 use Rattle.aiger_records.specs.declared.record.Record.{Record}

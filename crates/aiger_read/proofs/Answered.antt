@@ -1,0 +1,26 @@
+-- What the reader answers, from what it was told of the file.
+use Rattle.std.proofs.Common.{◌≡◌, ℕ, List}
+use Rattle.std.specs.Prelude.{Ok, Err}
+use Rattle.flat_net.specs.View.{NetView}
+use Rattle.aiger_records.specs.declared.error.AigerError.{AigerError}
+use Rattle.aiger_records.specs.declared.error.AigerError.TheVariants as aiger
+use Rattle.aiger_records.specs.declared.error.AigerKind.TheVariants as kind
+use Rattle.aiger_file.specs.declared.file.AigerFile.{AigerFile}
+use Rattle.aiger_file.specs.Files.{IsKept, ReadsFile}
+use Rattle.aiger_graph.specs.Loops.{HasLoop, IsOrdered}
+use Rattle.aiger_read.specs.Made.{IsPlan}
+use Rattle.aiger_read.specs.Nets.{IsNetOf, HasFault, ReadsNet}
+use Rattle.aiger_read.proofs.Faultless.{faultless}
+
+pub planned : (text : List ℕ) (f : AigerFile) (graph : List (List ℕ)) (order : List ℕ) → IsKept f → ReadsFile text (Ok f) → IsOrdered f graph order → IsPlan f graph order
+planned text f graph order kept reads ordered = record { kept = kept; faultless = faultless text f kept reads.0 reads.1; graph_is = ordered.graph_is; order_is = ordered.order_is }
+
+pub reads_net : (text : List ℕ) (f : AigerFile) (graph : List (List ℕ)) (order : List ℕ) (net : NetView) → ReadsFile text (Ok f) → IsOrdered f graph order → IsNetOf f net → ReadsNet text (Ok net)
+reads_net text f graph order net reads ordered is = (f, record { faultless = reads.0; is_file = reads.1; no_loop = ordered.no_loop }, is)
+
+pub reads_loop : (text : List ℕ) (f : AigerFile) → ReadsFile text (Ok f) → HasLoop f → ReadsNet text (Err (aiger.At 0 kind.Loop))
+reads_loop text f reads loop = HasFault.looped {f = f} (record { faultless = reads.0; is_file = reads.1; loop = loop })
+
+pub reads_fault : (text : List ℕ) (e : AigerError) → ReadsFile text (Err e) → ReadsNet text (Err e)
+reads_fault text aiger.NoMemory reads = tt
+reads_fault text (aiger.At place k) reads = HasFault.early reads
