@@ -33,7 +33,7 @@ use Rattle.aiger_read.specs.Signals.{is_gate, all_covers, cover_number, all_lite
 use Rattle.aiger_read.specs.Made.{IsPlan, IsPlaced, IsNext, IsMade, LatchHead, heads_from, head_at, signal_at}
 use Rattle.aiger_graph.proofs.ReadLiterals.{AreWell, all_well, reads_below}
 use Rattle.aiger_read.proofs.LiteralLists.{kept_at, literals_once, literals_low, source_not_gate, driven_in, reads_driven}
-use Rattle.aiger_read.proofs.Naming.{input_name, latch_name, gate_name_is, names_once}
+use Rattle.aiger_read.proofs.Naming.{port_of, input_name, latch_name, gate_name_is, names_once}
 use Rattle.aiger_graph.proofs.NoLoops.{graph_low}
 
 -- the net without signals
@@ -41,7 +41,7 @@ pub made_nothing : (f : AigerFile) (order : List ℕ) (maker : MakerView) (signa
     IsMade f order [] [] [] [] maker.net signals
 made_nothing f order maker signals is signals_are =
     subst (λ (n : NetView). IsMade f order [] [] [] [] n signals) (sym (ap (λ (m : MakerView). m.net) is)) (record {
-      size = ap length signals_are ∙ length-replicate (2 * f.header.greatest + 2) (record { 0 = 0 });
+      size = ap length signals_are ∙ length-replicate _ _;
       placed = λ s l low at. absurd (omega (arith, low));
       named = refl;
       count = refl;
@@ -100,19 +100,23 @@ filter_at {X} p (z ∷ xs) (suc k) x at is = go (p z) (filter_at p xs k x at is)
     go true e = e
     go false e = e
 
+-- a latch without what it takes over, by its reset
+abbrev line_head : List ℕ → ℕ → ℕ → LatchHead
+line_head name literal reset = record { name = name; literal = literal; init = init_of reset }
+
 -- one port more, one latch more
-pub ports_push : (symbols : Named) (letter k : ℕ) (ls : List ℕ) (l : ℕ) → ports_from symbols letter k (ls ++ l ∷ []) ≡ ports_from symbols letter k ls ++ (record { name = name_of symbols letter (k + length ls); place = l }) ∷ []
-ports_push symbols letter k [] l = ap (λ (n : ℕ). (record { name = name_of symbols letter n; place = l }) ∷ []) (let e : k ≡ k + 0 = omega arith in e)
+pub ports_push : (symbols : Named) (letter k : ℕ) (ls : List ℕ) (l : ℕ) → ports_from symbols letter k (ls ++ l ∷ []) ≡ ports_from symbols letter k ls ++ port_of (name_of symbols letter (k + length ls)) l ∷ []
+ports_push symbols letter k [] l = ap (λ (n : ℕ). port_of (name_of symbols letter n) l ∷ []) (let e : k ≡ k + 0 = omega arith in e)
 ports_push symbols letter k (m ∷ ls) l =
-    ap (λ (ps : List (Port ℕ)). (record { name = name_of symbols letter k; place = m }) ∷ ps)
-    (ports_push symbols letter (k + 1) ls l ∙ ap (λ (n : ℕ). ports_from symbols letter (k + 1) ls ++ (record { name = name_of symbols letter n; place = l }) ∷ []) (let e : k + 1 + length ls ≡ k + suc (length ls) = omega arith in e))
+    ap (λ (ps : List (Port ℕ)). port_of (name_of symbols letter k) m ∷ ps)
+    (ports_push symbols letter (k + 1) ls l ∙ ap (λ (n : ℕ). ports_from symbols letter (k + 1) ls ++ port_of (name_of symbols letter n) l ∷ []) (let e : k + 1 + length ls ≡ k + suc (length ls) = omega arith in e))
 
 pub heads_push : (symbols : Named) (k : ℕ) (ls : List LatchLine) (l : LatchLine) →
-    heads_from symbols k (ls ++ l ∷ []) ≡ heads_from symbols k ls ++ (record { name = name_of symbols 108 (k + length ls); literal = l.literal; init = init_of l.reset }) ∷ []
-heads_push symbols k [] l = ap (λ (n : ℕ). (record { name = name_of symbols 108 n; literal = l.literal; init = init_of l.reset }) ∷ []) (let e : k ≡ k + 0 = omega arith in e)
+    heads_from symbols k (ls ++ l ∷ []) ≡ heads_from symbols k ls ++ line_head (name_of symbols 108 (k + length ls)) l.literal l.reset ∷ []
+heads_push symbols k [] l = ap (λ (n : ℕ). line_head (name_of symbols 108 n) l.literal l.reset ∷ []) (let e : k ≡ k + 0 = omega arith in e)
 heads_push symbols k (m ∷ ls) l =
-    ap (λ (hs : List LatchHead). (record { name = name_of symbols 108 k; literal = m.literal; init = init_of m.reset }) ∷ hs)
-    (heads_push symbols (k + 1) ls l ∙ ap (λ (n : ℕ). heads_from symbols (k + 1) ls ++ (record { name = name_of symbols 108 n; literal = l.literal; init = init_of l.reset }) ∷ []) (let e : k + 1 + length ls ≡ k + suc (length ls) = omega arith in e))
+    ap (λ (hs : List LatchHead). line_head (name_of symbols 108 k) m.literal m.reset ∷ hs)
+    (heads_push symbols (k + 1) ls l ∙ ap (λ (n : ℕ). heads_from symbols (k + 1) ls ++ line_head (name_of symbols 108 n) l.literal l.reset ∷ []) (let e : k + 1 + length ls ≡ k + suc (length ls) = omega arith in e))
 
 module _ (f : AigerFile) (graph : List (List ℕ)) (order : List ℕ) (plan : IsPlan f graph order) where
   abbrev pub size : ℕ
@@ -211,7 +215,7 @@ module _ (f : AigerFile) (graph : List (List ℕ)) (order : List ℕ) (plan : Is
         inputs = ap (λ (n : NetView). map (λ p. moved_name (literal_at literals) (named p)) n.inputs) is
             ∙ map-append (λ p. moved_name (literal_at literals) (named p)) net.inputs _
             ∙ ap₂ (λ (ps : List (Port ℕ)) (p : Port ℕ). ps ++ p ∷ []) made.inputs
-            (ap₂ (λ (n : List ℕ) (q : ℕ). record { name = n; place = q }) name_is (at_next (length net.drivers) l next))
+            (ap₂ (λ (n : List ℕ) (q : ℕ). port_of n q) name_is (at_next (length net.drivers) l next))
             ∙ sym (ports_push f.symbols 105 0 ins l);
         latches = ap (λ (n : NetView). map (head_at literals) n.latches) is ∙ made.latches;
         gates_are = ap (λ (n : NetView). map (λ g. moved (literal_at literals) (equation_of_gate all_covers g)) n.gates) is ∙ made.gates_are;
@@ -233,7 +237,7 @@ module _ (f : AigerFile) (graph : List (List ℕ)) (order : List ℕ) (plan : Is
         latches = ap (λ (n : NetView). map (head_at literals) n.latches) is
             ∙ map-append (head_at literals) net.latches _
             ∙ ap₂ (λ (hs : List LatchHead) (h : LatchHead). hs ++ h ∷ []) made.latches
-            (ap₂ (λ (n : List ℕ) (q : ℕ). record { name = n; literal = q; init = init_of l.reset }) name_is (at_next (length net.drivers) l.literal next))
+            (ap₂ (λ (n : List ℕ) (q : ℕ). line_head n q l.reset) name_is (at_next (length net.drivers) l.literal next))
             ∙ sym (heads_push f.symbols 0 lats l);
         gates_are = ap (λ (n : NetView). map (λ g. moved (literal_at literals) (equation_of_gate all_covers g)) n.gates) is ∙ made.gates_are;
         outputs = ap (λ (n : NetView). map (λ p. moved_name (literal_at literals) (named p)) n.outputs) is ∙ made.outputs;
@@ -253,7 +257,7 @@ module _ (f : AigerFile) (graph : List (List ℕ)) (order : List ℕ) (plan : Is
     gates_are = ap (λ (n : NetView). map (λ g. moved (literal_at literals) (equation_of_gate all_covers g)) n.gates) is ∙ made.gates_are;
     outputs = ap (λ (n : NetView). map (λ p. moved_name (literal_at literals) (named p)) n.outputs) is
         ∙ map-append (λ p. moved_name (literal_at literals) (named p)) net.outputs _
-        ∙ ap₂ (λ (ps : List (Port ℕ)) (p : Port ℕ). ps ++ p ∷ []) made.outputs (ap₂ (λ (n : List ℕ) (q : ℕ). record { name = n; place = q }) name_is (at_next s l at))
+        ∙ ap₂ (λ (ps : List (Port ℕ)) (p : Port ℕ). ps ++ p ∷ []) made.outputs (ap₂ (λ (n : List ℕ) (q : ℕ). port_of n q) name_is (at_next s l at))
         ∙ sym (ports_push f.symbols 111 0 outs l);
     covers = ap (λ (n : NetView). n.covers) is ∙ made.covers;
     clock = ap (λ (n : NetView). n.clock) is ∙ made.clock;

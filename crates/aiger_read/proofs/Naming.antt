@@ -82,15 +82,19 @@ gate_injective a b la lb e =
     odd half true false ha hb same = absurd (true≢false same)
     odd half false true ha hb same = absurd (true≢false (sym same))
 
+-- a name at a place
+abbrev pub port_of : List ℕ → ℕ → Port ℕ
+port_of name place = record { name = name; place = place }
+
 -- ports by their places
 pub ports_places : (symbols : Named) (letter k : ℕ) (ls : List ℕ) → map (λ (p : Port ℕ). p.place) (ports_from symbols letter k ls) ≡ ls
 ports_places symbols letter k [] = refl
 ports_places symbols letter k (l ∷ ls) = ap (λ (ms : List ℕ). l ∷ ms) (ports_places symbols letter (k + 1) ls)
 
-port_at : (symbols : Named) (letter k : ℕ) (ls : List ℕ) (i l : ℕ) → slice_get ls i ≡ Some l → slice_get (ports_from symbols letter k ls) i ≡ Some (record { name = name_of symbols letter (k + i); place = l })
+port_at : (symbols : Named) (letter k : ℕ) (ls : List ℕ) (i l : ℕ) → slice_get ls i ≡ Some l → slice_get (ports_from symbols letter k ls) i ≡ Some (port_of (name_of symbols letter (k + i)) l)
 port_at symbols letter k [] i l at = absurd (none-some l at)
-port_at symbols letter k (m ∷ ls) zero l at = ap₂ (λ (n : ℕ) (p : ℕ). Some (record { name = name_of symbols letter n; place = p })) (let e : k ≡ k + 0 = omega arith in e) (same_Some m l at)
-port_at symbols letter k (m ∷ ls) (suc i) l at = port_at symbols letter (k + 1) ls i l at ∙ ap (λ (n : ℕ). Some (record { name = name_of symbols letter n; place = l })) (let e : k + 1 + i ≡ k + suc i = omega arith in e)
+port_at symbols letter k (m ∷ ls) zero l at = ap₂ (λ (n : ℕ) (p : ℕ). Some (port_of (name_of symbols letter n) p)) (let e : k ≡ k + 0 = omega arith in e) (same_Some m l at)
+port_at symbols letter k (m ∷ ls) (suc i) l at = port_at symbols letter (k + 1) ls i l at ∙ ap (λ (n : ℕ). Some (port_of (name_of symbols letter n) l)) (let e : k + 1 + i ≡ k + suc i = omega arith in e)
 
 name_at : (ps : List (Port ℕ)) (i : ℕ) (p : Port ℕ) → AreDistinct (map (λ (q : Port ℕ). q.place) ps) → slice_get ps i ≡ Some p → name_among ps p.place ≡ p.name
 name_at [] i p once at = absurd (none-some p at)
@@ -136,14 +140,14 @@ module _ (f : AigerFile) where
     -- the names of an input, a latch and a gate
     pub input_name : (i l : ℕ) → slice_get (input_literals f.records) i ≡ Some l → signal_name f l ≡ name_of f.symbols 105 i
     input_name i l at =
-        name_at (sources_of f) i (record { name = name_of f.symbols 105 (0 + i); place = l }) places_once
-        (slice_get-append (ports_from f.symbols 105 0 (input_literals f.records)) (ports_from f.symbols 108 0 (latch_literals f.records)) i _ (port_at f.symbols 105 0 (input_literals f.records) i l at))
+        name_at (sources_of f) i (port_of (name_of f.symbols 105 (0 + i)) l) places_once
+        (slice_get-append (ports_from f.symbols 105 0 (input_literals f.records)) (ports_from f.symbols 108 0 (latch_literals f.records)) i (port_of (name_of f.symbols 105 (0 + i)) l) (port_at f.symbols 105 0 (input_literals f.records) i l at))
 
     pub latch_name : (i l : ℕ) → slice_get (latch_literals f.records) i ≡ Some l → signal_name f l ≡ name_of f.symbols 108 i
     latch_name i l at =
         let inputs = ports_from f.symbols 105 0 (input_literals f.records) in
-        name_at (sources_of f) (length inputs + i) (record { name = name_of f.symbols 108 (0 + i); place = l }) places_once
-        (later inputs (ports_from f.symbols 108 0 (latch_literals f.records)) i _ (port_at f.symbols 108 0 (latch_literals f.records) i l at))
+        name_at (sources_of f) (length inputs + i) (port_of (name_of f.symbols 108 (0 + i)) l) places_once
+        (later inputs (ports_from f.symbols 108 0 (latch_literals f.records)) i (port_of (name_of f.symbols 108 (0 + i)) l) (port_at f.symbols 108 0 (latch_literals f.records) i l at))
       where
         later : {X : Type 0} (xs ys : List X) (j : ℕ) (y : X) → slice_get ys j ≡ Some y → slice_get (xs ++ ys) (length xs + j) ≡ Some y
         later [] ys j y h = h
