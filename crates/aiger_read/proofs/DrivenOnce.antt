@@ -37,19 +37,19 @@ near_next : (r : Record) (d : ℕ) (e : Equation ℕ) → defined_by r ≡ Some 
 near_next r d e is same = record { literal = d; defines = is; either = inr (ap (λ (q : Equation ℕ). out_of q) (sym same)) }
 
 near : (r : Record) (e : Equation ℕ) → Contains (own_gates r) e → IsNear r (out_of e)
-near (Input literal) e h = near_next (Input literal) literal e refl (only _ e h)
-near (Latch literal next reset) e h = near_next (Latch literal next reset) literal e refl (only _ e h)
+near (Input literal) e h = near_next (Input literal) literal e refl (only (gate_equation (literal + 1) (literal ∷ []) not_cover) e h)
+near (Latch literal next reset) e h = near_next (Latch literal next reset) literal e refl (only (gate_equation (literal + 1) (literal ∷ []) not_cover) e h)
 near (Output literal) e h = absurd (omega (arith, h.1))
-near (Gate literal left right) e h = go (Contains-cases _ e _ h)
+near (Gate literal left right) e h = go (Contains-cases (gate_equation literal (left ∷ right ∷ []) and_cover) e (inverter_of (defined_by (Gate literal left right))) h)
   where
     go : (gate_equation literal (left ∷ right ∷ []) and_cover ≡ e) ⊎ Contains (gate_equation (literal + 1) (literal ∷ []) not_cover ∷ []) e → IsNear (Gate literal left right) (out_of e)
     go (inl same) = record { literal = literal; defines = refl; either = inl (ap (λ (q : Equation ℕ). out_of q) (sym same)) }
-    go (inr k) = near_next (Gate literal left right) literal e refl (only _ e k)
-near (Packed literal first second) e h = go (Contains-cases _ e _ h)
+    go (inr k) = near_next (Gate literal left right) literal e refl (only (gate_equation (literal + 1) (literal ∷ []) not_cover) e k)
+near (Packed literal first second) e h = go (Contains-cases (gate_equation literal ((literal - first) ∷ (literal - first - second) ∷ []) and_cover) e (inverter_of (defined_by (Packed literal first second))) h)
   where
     go : (gate_equation literal ((literal - first) ∷ (literal - first - second) ∷ []) and_cover ≡ e) ⊎ Contains (gate_equation (literal + 1) (literal ∷ []) not_cover ∷ []) e → IsNear (Packed literal first second) (out_of e)
     go (inl same) = record { literal = literal; defines = refl; either = inl (ap (λ (q : Equation ℕ). out_of q) (sym same)) }
-    go (inr k) = near_next (Packed literal first second) literal e refl (only _ e k)
+    go (inr k) = near_next (Packed literal first second) literal e refl (only (gate_equation (literal + 1) (literal ∷ []) not_cover) e k)
 
 -- each once
 single_once : (d : ℕ) → AreDistinct (d ∷ [])
@@ -139,7 +139,7 @@ module _ (f : AigerFile) (size : ℕ) (once : DefinesOnce f.records) (fine : Are
       (distinct_cons 1 (gate_outs ++ latch_literals f.records) later_once (λ h. let k = later_high 1 h in omega (arith, k)))
       (λ h. zero_new (Contains-cases 1 0 (gate_outs ++ latch_literals f.records) h))
     where
-      zero_new : (1 ≡ 0) ⊎ Contains (gate_outs ++ latch_literals f.records) 0 → ⊥
+      zero_new : ◌≡◌ {A = ℕ} 1 0 ⊎ Contains (gate_outs ++ latch_literals f.records) 0 → ⊥
       zero_new (inl e) = omega (arith, e)
       zero_new (inr h) = let k = later_high 0 h in omega (arith, k)
 

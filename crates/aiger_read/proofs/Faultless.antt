@@ -29,7 +29,7 @@ use Rattle.aiger_file.specs.Files.{IsKept, late_fault, fault_of_text}
 use Rattle.aiger_graph.specs.Circuit.{LatchLine, ports_from, input_literals, output_literals, latches_in}
 use Rattle.aiger_read.specs.SignalNames.{latch_literals, sources_of}
 use Rattle.aiger_read.specs.Made.{IsFaultless}
-use Rattle.aiger_read.proofs.Naming.{ports_places}
+use Rattle.aiger_read.proofs.Naming.{ports_places, behind}
 use Rattle.aiger_read.proofs.Sections.{IsCounted, counted}
 
 -- names none of which repeats are distinct
@@ -51,10 +51,6 @@ names_before symbols letter (suc m) zero k fewer i x h = absurd (omega (arith, f
 names_before symbols letter (suc m) (suc n) k fewer zero x h = h
 names_before symbols letter (suc m) (suc n) k fewer (suc i) x h = names_before symbols letter m n (k + 1) (omega (arith, fewer)) i x h
 
-later : {X : Type 0} (xs ys : List X) (j : ℕ) (y : X) → slice_get ys j ≡ Some y → slice_get (xs ++ ys) (length xs + j) ≡ Some y
-later [] ys j y h = h
-later (x ∷ xs) ys j y h = later xs ys j y h
-
 -- the first of two lists of distinct names
 fewer_names : (symbols : Named) (m n p q : ℕ) → m ≤ n → p ≤ q → AreDistinct (names_from symbols 105 n 0 ++ names_from symbols 108 q 0) → AreDistinct (names_from symbols 105 m 0 ++ names_from symbols 108 p 0)
 fewer_names symbols m n p q first second once = distinct_append (names_from symbols 105 m 0) (names_from symbols 108 p 0) inputs latches apart
@@ -63,7 +59,7 @@ fewer_names symbols m n p q first second once = distinct_append (names_from symb
     input_there i x h = slice_get-append (names_from symbols 105 n 0) (names_from symbols 108 q 0) i x (names_before symbols 105 m n 0 first i x h)
 
     latch_there : (j : ℕ) (x : List ℕ) → slice_get (names_from symbols 108 p 0) j ≡ Some x → slice_get (names_from symbols 105 n 0 ++ names_from symbols 108 q 0) (length (names_from symbols 105 n 0) + j) ≡ Some x
-    latch_there j x h = later (names_from symbols 105 n 0) (names_from symbols 108 q 0) j x (names_before symbols 108 p q 0 second j x h)
+    latch_there j x h = behind (names_from symbols 105 n 0) (names_from symbols 108 q 0) (length (names_from symbols 105 n 0) + j) j x (omega arith) (names_before symbols 108 p q 0 second j x h)
 
     inputs : AreDistinct (names_from symbols 105 m 0)
     inputs i j x hi hj = once i j x (input_there i x hi) (input_there j x hj)

@@ -2,7 +2,7 @@
 use Rattle.std.proofs.Common.{◌≡◌, ◌≢◌, ℕ, zero, suc, ◌+◌, ◌*◌, ◌^◌, ◌<◌, ◌≤◌, Bool, true, false, cond, eqb, List, [], ◌∷◌, ◌++◌, map, length, take, drop, set, replicate, get_or, slice_get, Some, None, refl, sym, ◌∙◌, ap, ap₂, subst, arith, append_assoc, take-append-drop, inl, inr}
 use Rattle.std.specs.Prelude.{◌⊎◌, IsSomeAnd, unwrap_or, Result, Ok, Err, OnOk}
 use Rattle.std.specs.List.{All, Contains, filter}
-use Rattle.std.proofs.lemmas.List.{length-append, length-map, map-append}
+use Rattle.std.proofs.lemmas.List.{length-replicate, length-append, length-map, map-append}
 use Rattle.std.proofs.lemmas.List.Elements.{filter-append}
 use Rattle.std.proofs.lemmas.List.FromFn.{length-map-range_with_len}
 use Rattle.std.proofs.lemmas.Option.{none-some, same_Some, slice_get_within, slice_get-get_or, get_or_from_slice_get}
@@ -33,7 +33,7 @@ use Rattle.aiger_read.specs.Signals.{is_gate, all_covers, cover_number, all_lite
 use Rattle.aiger_read.specs.Made.{IsPlan, IsPlaced, IsNext, IsMade, LatchHead, heads_from, head_at, signal_at}
 use Rattle.aiger_graph.proofs.ReadLiterals.{AreWell, all_well, reads_below}
 use Rattle.aiger_read.proofs.LiteralLists.{kept_at, literals_once, literals_low, source_not_gate, driven_in, reads_driven}
-use Rattle.aiger_read.proofs.Naming.{port_of, input_name, latch_name, gate_name_is, names_once}
+use Rattle.aiger_read.proofs.Naming.{port_of, behind, input_name, latch_name, gate_name_is, names_once}
 use Rattle.aiger_graph.proofs.NoLoops.{graph_low}
 
 -- the net without signals
@@ -84,12 +84,6 @@ no_output (Latch literal next reset) h = refl
 no_output (Gate literal left right) h = refl
 no_output (Packed literal first second) h = refl
 
--- what stands behind a list
-pub behind : {X : Type 0} (xs ys : List X) (i j : ℕ) (x : X) → i ≡ length xs + j → slice_get ys j ≡ Some x → slice_get (xs ++ ys) i ≡ Some x
-behind [] ys i j x e h = subst (λ (k : ℕ). slice_get ys k ≡ Some x) (let k : j ≡ i = omega (arith, e) in k) h
-behind (z ∷ xs) ys zero j x e h = absurd (omega (arith, e))
-behind (z ∷ xs) ys (suc i) j x e h = behind xs ys i j x (omega (arith, e)) h
-
 -- where what passes stands
 pub filter_at : {X : Type 0} (p : X → Bool) (xs : List X) (k : ℕ) (x : X) → slice_get xs k ≡ Some x → p x ≡ true → slice_get (filter p xs) (length (filter p (take k xs))) ≡ Some x
 filter_at p [] k x at is = absurd (none-some x at)
@@ -105,18 +99,13 @@ abbrev line_head : List ℕ → ℕ → ℕ → LatchHead
 line_head name literal reset = record { name = name; literal = literal; init = init_of reset }
 
 -- one port more, one latch more
-pub ports_push : (symbols : Named) (letter k : ℕ) (ls : List ℕ) (l : ℕ) → ports_from symbols letter k (ls ++ l ∷ []) ≡ ports_from symbols letter k ls ++ port_of (name_of symbols letter (k + length ls)) l ∷ []
-ports_push symbols letter k [] l = ap (λ (n : ℕ). port_of (name_of symbols letter n) l ∷ []) (let e : k ≡ k + 0 = omega arith in e)
-ports_push symbols letter k (m ∷ ls) l =
-    ap (λ (ps : List (Port ℕ)). port_of (name_of symbols letter k) m ∷ ps)
-    (ports_push symbols letter (k + 1) ls l ∙ ap (λ (n : ℕ). ports_from symbols letter (k + 1) ls ++ port_of (name_of symbols letter n) l ∷ []) (let e : k + 1 + length ls ≡ k + suc (length ls) = omega arith in e))
+pub ports_push : (symbols : Named) (letter k : ℕ) (ls : List ℕ) (l j : ℕ) → j ≡ k + length ls → ports_from symbols letter k (ls ++ l ∷ []) ≡ ports_from symbols letter k ls ++ port_of (name_of symbols letter j) l ∷ []
+ports_push symbols letter k [] l j e = ap (λ (n : ℕ). port_of (name_of symbols letter n) l ∷ []) (let d : k ≡ j = omega (arith, e) in d)
+ports_push symbols letter k (m ∷ ls) l j e = ap (λ (ps : List (Port ℕ)). port_of (name_of symbols letter k) m ∷ ps) (ports_push symbols letter (k + 1) ls l j (omega (arith, e)))
 
-pub heads_push : (symbols : Named) (k : ℕ) (ls : List LatchLine) (l : LatchLine) →
-    heads_from symbols k (ls ++ l ∷ []) ≡ heads_from symbols k ls ++ line_head (name_of symbols 108 (k + length ls)) l.literal l.reset ∷ []
-heads_push symbols k [] l = ap (λ (n : ℕ). line_head (name_of symbols 108 n) l.literal l.reset ∷ []) (let e : k ≡ k + 0 = omega arith in e)
-heads_push symbols k (m ∷ ls) l =
-    ap (λ (hs : List LatchHead). line_head (name_of symbols 108 k) m.literal m.reset ∷ hs)
-    (heads_push symbols (k + 1) ls l ∙ ap (λ (n : ℕ). heads_from symbols (k + 1) ls ++ line_head (name_of symbols 108 n) l.literal l.reset ∷ []) (let e : k + 1 + length ls ≡ k + suc (length ls) = omega arith in e))
+pub heads_push : (symbols : Named) (k : ℕ) (ls : List LatchLine) (l : LatchLine) (j : ℕ) → j ≡ k + length ls → heads_from symbols k (ls ++ l ∷ []) ≡ heads_from symbols k ls ++ line_head (name_of symbols 108 j) l.literal l.reset ∷ []
+heads_push symbols k [] l j e = ap (λ (n : ℕ). line_head (name_of symbols 108 n) l.literal l.reset ∷ []) (let d : k ≡ j = omega (arith, e) in d)
+heads_push symbols k (m ∷ ls) l j e = ap (λ (hs : List LatchHead). line_head (name_of symbols 108 k) m.literal m.reset ∷ hs) (heads_push symbols (k + 1) ls l j (omega (arith, e)))
 
 module _ (f : AigerFile) (graph : List (List ℕ)) (order : List ℕ) (plan : IsPlan f graph order) where
   abbrev pub size : ℕ
@@ -212,14 +201,14 @@ module _ (f : AigerFile) (graph : List (List ℕ)) (order : List ℕ) (plan : Is
         placed = placed_more net net' signals signals' l made.placed next made.size grown signals_are;
         named = named_more net net' l name made.named next own (ap (λ (n : NetView). n.names) is) grown;
         count = omega (arith, grown, made.count, length-append ins (l ∷ []));
-        inputs = ap (λ (n : NetView). map (λ p. moved_name (literal_at literals) (named p)) n.inputs) is
-            ∙ map-append (λ p. moved_name (literal_at literals) (named p)) net.inputs _
+        inputs = ap (λ (n : NetView). map (λ (p : NetPort). moved_name (literal_at literals) (named p)) n.inputs) is
+            ∙ map-append (λ (p : NetPort). moved_name (literal_at literals) (named p)) net.inputs _
             ∙ ap₂ (λ (ps : List (Port ℕ)) (p : Port ℕ). ps ++ p ∷ []) made.inputs
             (ap₂ (λ (n : List ℕ) (q : ℕ). port_of n q) name_is (at_next (length net.drivers) l next))
-            ∙ sym (ports_push f.symbols 105 0 ins l);
+            ∙ sym (ports_push f.symbols 105 0 ins l (length ins) (omega arith));
         latches = ap (λ (n : NetView). map (head_at literals) n.latches) is ∙ made.latches;
-        gates_are = ap (λ (n : NetView). map (λ g. moved (literal_at literals) (equation_of_gate all_covers g)) n.gates) is ∙ made.gates_are;
-        outputs = ap (λ (n : NetView). map (λ p. moved_name (literal_at literals) (named p)) n.outputs) is ∙ made.outputs;
+        gates_are = ap (λ (n : NetView). map (λ (g : NetGate). moved (literal_at literals) (equation_of_gate all_covers g)) n.gates) is ∙ made.gates_are;
+        outputs = ap (λ (n : NetView). map (λ (p : NetPort). moved_name (literal_at literals) (named p)) n.outputs) is ∙ made.outputs;
         covers = ap (λ (n : NetView). n.covers) is ∙ made.covers;
         clock = ap (λ (n : NetView). n.clock) is ∙ made.clock;
       }
@@ -233,14 +222,14 @@ module _ (f : AigerFile) (graph : List (List ℕ)) (order : List ℕ) (plan : Is
         placed = placed_more net net' signals signals' l.literal made.placed next made.size grown signals_are;
         named = named_more net net' l.literal name made.named next own (ap (λ (n : NetView). n.names) is) grown;
         count = omega (arith, grown, made.count, length-append lats (l ∷ []));
-        inputs = ap (λ (n : NetView). map (λ p. moved_name (literal_at literals) (named p)) n.inputs) is ∙ made.inputs;
+        inputs = ap (λ (n : NetView). map (λ (p : NetPort). moved_name (literal_at literals) (named p)) n.inputs) is ∙ made.inputs;
         latches = ap (λ (n : NetView). map (head_at literals) n.latches) is
             ∙ map-append (head_at literals) net.latches _
             ∙ ap₂ (λ (hs : List LatchHead) (h : LatchHead). hs ++ h ∷ []) made.latches
             (ap₂ (λ (n : List ℕ) (q : ℕ). line_head n q l.reset) name_is (at_next (length net.drivers) l.literal next))
-            ∙ sym (heads_push f.symbols 0 lats l);
-        gates_are = ap (λ (n : NetView). map (λ g. moved (literal_at literals) (equation_of_gate all_covers g)) n.gates) is ∙ made.gates_are;
-        outputs = ap (λ (n : NetView). map (λ p. moved_name (literal_at literals) (named p)) n.outputs) is ∙ made.outputs;
+            ∙ sym (heads_push f.symbols 0 lats l (length lats) (omega arith));
+        gates_are = ap (λ (n : NetView). map (λ (g : NetGate). moved (literal_at literals) (equation_of_gate all_covers g)) n.gates) is ∙ made.gates_are;
+        outputs = ap (λ (n : NetView). map (λ (p : NetPort). moved_name (literal_at literals) (named p)) n.outputs) is ∙ made.outputs;
         covers = ap (λ (n : NetView). n.covers) is ∙ made.covers;
         clock = ap (λ (n : NetView). n.clock) is ∙ made.clock;
       }
@@ -252,13 +241,13 @@ module _ (f : AigerFile) (graph : List (List ℕ)) (order : List ℕ) (plan : Is
     placed = λ i m low h. made.placed i m (subst (λ (k : ℕ). i < k) (ap (λ (n : NetView). length n.drivers) is) low) h;
     named = ap (λ (n : NetView). n.names) is ∙ made.named ∙ ap (λ (n : NetView). take (length n.drivers) (map (signal_name f) literals)) (sym is);
     count = ap (λ (n : NetView). length n.drivers) is ∙ made.count;
-    inputs = ap (λ (n : NetView). map (λ p. moved_name (literal_at literals) (named p)) n.inputs) is ∙ made.inputs;
+    inputs = ap (λ (n : NetView). map (λ (p : NetPort). moved_name (literal_at literals) (named p)) n.inputs) is ∙ made.inputs;
     latches = ap (λ (n : NetView). map (head_at literals) n.latches) is ∙ made.latches;
-    gates_are = ap (λ (n : NetView). map (λ g. moved (literal_at literals) (equation_of_gate all_covers g)) n.gates) is ∙ made.gates_are;
-    outputs = ap (λ (n : NetView). map (λ p. moved_name (literal_at literals) (named p)) n.outputs) is
-        ∙ map-append (λ p. moved_name (literal_at literals) (named p)) net.outputs _
+    gates_are = ap (λ (n : NetView). map (λ (g : NetGate). moved (literal_at literals) (equation_of_gate all_covers g)) n.gates) is ∙ made.gates_are;
+    outputs = ap (λ (n : NetView). map (λ (p : NetPort). moved_name (literal_at literals) (named p)) n.outputs) is
+        ∙ map-append (λ (p : NetPort). moved_name (literal_at literals) (named p)) net.outputs _
         ∙ ap₂ (λ (ps : List (Port ℕ)) (p : Port ℕ). ps ++ p ∷ []) made.outputs (ap₂ (λ (n : List ℕ) (q : ℕ). port_of n q) name_is (at_next s l at))
-        ∙ sym (ports_push f.symbols 111 0 outs l);
+        ∙ sym (ports_push f.symbols 111 0 outs l (length outs) (omega arith));
     covers = ap (λ (n : NetView). n.covers) is ∙ made.covers;
     clock = ap (λ (n : NetView). n.clock) is ∙ made.clock;
   }
@@ -295,11 +284,13 @@ module _ (f : AigerFile) (graph : List (List ℕ)) (order : List ℕ) (plan : Is
   pub place_low : (k : ℕ) → k < length order → get_or order k 0 < size
   place_low k low = order_low (get_or order k 0) (of_at order k (get_or order k 0) (order_at k low))
 
-  pub graph_at : (l : ℕ) → l < size → (l < length graph) × (get_or graph l [] ≡ reads_in f.records l)
-  graph_at l low = (
-    subst (λ (g : List (List ℕ)). l < length g) (sym plan.graph_is) (subst (λ (n : ℕ). l < n) (sym graph_size) low),
-    ap (λ (g : List (List ℕ)). get_or g l []) plan.graph_is ∙ graph_low f.records size l low,
-  )
+  pub graph_at : (l : ℕ) → l < size → l < length graph
+  graph_at l low = subst (λ (g : List (List ℕ)). l < length g) (sym plan.graph_is) (subst (λ (n : ℕ). l < n) (sym graph_size) low)
+
+  pub reads_at_literal : (l : ℕ) (default : List ℕ) → l < size → get_or graph l default ≡ reads_in f.records l
+  reads_at_literal l default low =
+      get_or_from_slice_get graph l (get_or graph l []) default (slice_get-get_or graph l [] (graph_at l low))
+      ∙ ap (λ (g : List (List ℕ)). get_or g l []) plan.graph_is ∙ graph_low f.records size l low
 
   module _ (place l : ℕ) (at : slice_get order place ≡ Some l) (net : NetView) (signals : List Signal)
       (made : IsMade f order (input_literals f.records) (latches_in f.records) (filter (is_gate f.records) (take place order)) [] net signals) where
@@ -365,13 +356,13 @@ module _ (f : AigerFile) (graph : List (List ℕ)) (order : List ℕ) (plan : Is
           placed = placed_more net net' signals signals' l made.placed next made.size grown signals_are;
           named = named_more net net' l name made.named next name_is (ap (λ (n : NetView). n.names) is) grown;
           count = omega (arith, grown, made.count, length-append (filter (is_gate f.records) (take place order)) (l ∷ []));
-          inputs = ap (λ (n : NetView). map (λ p. moved_name (literal_at literals) (named p)) n.inputs) is ∙ made.inputs;
+          inputs = ap (λ (n : NetView). map (λ (p : NetPort). moved_name (literal_at literals) (named p)) n.inputs) is ∙ made.inputs;
           latches = ap (λ (n : NetView). map (head_at literals) n.latches) is ∙ made.latches;
-          gates_are = ap (λ (n : NetView). map (λ g. moved (literal_at literals) (equation_of_gate all_covers g)) n.gates) is
-              ∙ map-append (λ g. moved (literal_at literals) (equation_of_gate all_covers g)) net.gates _
+          gates_are = ap (λ (n : NetView). map (λ (g : NetGate). moved (literal_at literals) (equation_of_gate all_covers g)) n.gates) is
+              ∙ map-append (λ (g : NetGate). moved (literal_at literals) (equation_of_gate all_covers g)) net.gates _
               ∙ ap₂ (λ (gs : List (Equation ℕ)) (g : Equation ℕ). gs ++ g ∷ []) made.gates_are (own next)
               ∙ sym (map-append (gate_at f.records) (filter (is_gate f.records) (take place order)) (l ∷ []));
-          outputs = ap (λ (n : NetView). map (λ p. moved_name (literal_at literals) (named p)) n.outputs) is ∙ made.outputs;
+          outputs = ap (λ (n : NetView). map (λ (p : NetPort). moved_name (literal_at literals) (named p)) n.outputs) is ∙ made.outputs;
           covers = ap (λ (n : NetView). n.covers) is ∙ made.covers;
           clock = ap (λ (n : NetView). n.clock) is ∙ made.clock;
         })

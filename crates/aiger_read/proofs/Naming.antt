@@ -91,10 +91,16 @@ pub ports_places : (symbols : Named) (letter k : ℕ) (ls : List ℕ) → map (�
 ports_places symbols letter k [] = refl
 ports_places symbols letter k (l ∷ ls) = ap (λ (ms : List ℕ). l ∷ ms) (ports_places symbols letter (k + 1) ls)
 
-port_at : (symbols : Named) (letter k : ℕ) (ls : List ℕ) (i l : ℕ) → slice_get ls i ≡ Some l → slice_get (ports_from symbols letter k ls) i ≡ Some (port_of (name_of symbols letter (k + i)) l)
-port_at symbols letter k [] i l at = absurd (none-some l at)
-port_at symbols letter k (m ∷ ls) zero l at = ap₂ (λ (n : ℕ) (p : ℕ). Some (port_of (name_of symbols letter n) p)) (let e : k ≡ k + 0 = omega arith in e) (same_Some m l at)
-port_at symbols letter k (m ∷ ls) (suc i) l at = port_at symbols letter (k + 1) ls i l at ∙ ap (λ (n : ℕ). Some (port_of (name_of symbols letter n) l)) (let e : k + 1 + i ≡ k + suc i = omega arith in e)
+port_at : (symbols : Named) (letter k : ℕ) (ls : List ℕ) (i l j : ℕ) → j ≡ k + i → slice_get ls i ≡ Some l → slice_get (ports_from symbols letter k ls) i ≡ Some (port_of (name_of symbols letter j) l)
+port_at symbols letter k [] i l j e at = absurd (none-some l at)
+port_at symbols letter k (m ∷ ls) zero l j e at = ap₂ (λ (n : ℕ) (p : ℕ). Some (port_of (name_of symbols letter n) p)) (let d : k ≡ j = omega (arith, e) in d) (same_Some m l at)
+port_at symbols letter k (m ∷ ls) (suc i) l j e at = port_at symbols letter (k + 1) ls i l j (omega (arith, e)) at
+
+-- what stands behind a list
+pub behind : {X : Type 0} (xs ys : List X) (i j : ℕ) (x : X) → i ≡ length xs + j → slice_get ys j ≡ Some x → slice_get (xs ++ ys) i ≡ Some x
+behind [] ys i j x e h = subst (λ (k : ℕ). slice_get ys k ≡ Some x) (let k : j ≡ i = omega (arith, e) in k) h
+behind (z ∷ xs) ys zero j x e h = absurd (omega (arith, e))
+behind (z ∷ xs) ys (suc i) j x e h = behind xs ys i j x (omega (arith, e)) h
 
 name_at : (ps : List (Port ℕ)) (i : ℕ) (p : Port ℕ) → AreDistinct (map (λ (q : Port ℕ). q.place) ps) → slice_get ps i ≡ Some p → name_among ps p.place ≡ p.name
 name_at [] i p once at = absurd (none-some p at)
@@ -140,18 +146,14 @@ module _ (f : AigerFile) where
     -- the names of an input, a latch and a gate
     pub input_name : (i l : ℕ) → slice_get (input_literals f.records) i ≡ Some l → signal_name f l ≡ name_of f.symbols 105 i
     input_name i l at =
-        name_at (sources_of f) i (port_of (name_of f.symbols 105 (0 + i)) l) places_once
-        (slice_get-append (ports_from f.symbols 105 0 (input_literals f.records)) (ports_from f.symbols 108 0 (latch_literals f.records)) i (port_of (name_of f.symbols 105 (0 + i)) l) (port_at f.symbols 105 0 (input_literals f.records) i l at))
+        name_at (sources_of f) i (port_of (name_of f.symbols 105 i) l) places_once
+        (slice_get-append (ports_from f.symbols 105 0 (input_literals f.records)) (ports_from f.symbols 108 0 (latch_literals f.records)) i (port_of (name_of f.symbols 105 i) l) (port_at f.symbols 105 0 (input_literals f.records) i l i (omega arith) at))
 
     pub latch_name : (i l : ℕ) → slice_get (latch_literals f.records) i ≡ Some l → signal_name f l ≡ name_of f.symbols 108 i
     latch_name i l at =
         let inputs = ports_from f.symbols 105 0 (input_literals f.records) in
-        name_at (sources_of f) (length inputs + i) (port_of (name_of f.symbols 108 (0 + i)) l) places_once
-        (later inputs (ports_from f.symbols 108 0 (latch_literals f.records)) i (port_of (name_of f.symbols 108 (0 + i)) l) (port_at f.symbols 108 0 (latch_literals f.records) i l at))
-      where
-        later : {X : Type 0} (xs ys : List X) (j : ℕ) (y : X) → slice_get ys j ≡ Some y → slice_get (xs ++ ys) (length xs + j) ≡ Some y
-        later [] ys j y h = h
-        later (x ∷ xs) ys j y h = later xs ys j y h
+        name_at (sources_of f) (length inputs + i) (port_of (name_of f.symbols 108 i) l) places_once
+        (behind inputs (ports_from f.symbols 108 0 (latch_literals f.records)) (length inputs + i) i (port_of (name_of f.symbols 108 i) l) (omega arith) (port_at f.symbols 108 0 (latch_literals f.records) i l i (omega arith) at))
 
     pub gate_name_is : (l : ℕ) → (Contains sources l → ⊥) → signal_name f l ≡ gate_name l
     gate_name_is l none = no_name (sources_of f) l (λ h. none (subst (λ (ls : List ℕ). Contains ls l) sources_places h))

@@ -6,6 +6,8 @@ use Rattle.circuit_theory.specs.Joined.{moved, moved_name}
 use Rattle.sec_base.specs.Table.{AreDistinct}
 use Rattle.sec_base.specs.declared.basics.Init.{Init}
 use Rattle.flat_net.specs.declared.signals.Signal.{Signal}
+use Rattle.flat_net.specs.declared.parts.Port.{Port as NetPort}
+use Rattle.flat_net.specs.declared.parts.Gate.{Gate as NetGate}
 use Rattle.flat_net.specs.declared.parts.LatchAt.{LatchAt}
 use Rattle.flat_net.specs.View.{NetView, named, equation_of_gate}
 use Rattle.gate_order.specs.Order.{IsOrder}
@@ -62,10 +64,10 @@ pub record IsMade (f : AigerFile) (order ins : List ℕ) (lats : List LatchLine)
   pub placed : IsPlaced (all_literals f.records order) net signals
   pub named : net.names ≡ take (length net.drivers) (map (signal_name f) (all_literals f.records order))
   pub count : length net.drivers ≡ length ins + length lats + length gates
-  pub inputs : map (λ p. moved_name (literal_at (all_literals f.records order)) (named p)) net.inputs ≡ ports_from f.symbols 105 0 ins
+  pub inputs : map (λ (p : NetPort). moved_name (literal_at (all_literals f.records order)) (named p)) net.inputs ≡ ports_from f.symbols 105 0 ins
   pub latches : map (head_at (all_literals f.records order)) net.latches ≡ heads_from f.symbols 0 lats
-  pub gates_are : map (λ g. moved (literal_at (all_literals f.records order)) (equation_of_gate all_covers g)) net.gates ≡ map (gate_at f.records) gates
-  pub outputs : map (λ p. moved_name (literal_at (all_literals f.records order)) (named p)) net.outputs ≡ ports_from f.symbols 111 0 outs
+  pub gates_are : map (λ (g : NetGate). moved (literal_at (all_literals f.records order)) (equation_of_gate all_covers g)) net.gates ≡ map (gate_at f.records) gates
+  pub outputs : map (λ (p : NetPort). moved_name (literal_at (all_literals f.records order)) (named p)) net.outputs ≡ ports_from f.symbols 111 0 outs
   pub covers : net.covers ≡ all_covers
   pub clock : net.clock ≡ None
 

@@ -20,14 +20,14 @@ returns-then-not-has_gate c =
     let at = order_at c.args.plan.now.file.now c.args.plan.now.graph.now c.args.plan.now.order.now c.requires.plan c.args.place c.requires.place in
     made_none c.args.plan.now.file.now c.args.plan.now.graph.now c.args.plan.now.order.now c.requires.plan c.args.place l at c.args.self.now.maker.net c.args.self.now.signals.items c.requires.made (sym c.has_gate.ensures ∙ c.if-not-has_gate.true)
 
-pub reads_of-requires-clause-low : goal.reads_of-requires-clause-low
-reads_of-requires-clause-low c = place_low c.args.plan.now.file.now c.args.plan.now.graph.now c.args.plan.now.order.now c.requires.plan c.args.place c.requires.place
+pub reads_of-reads-requires-clause-low : goal.reads_of-reads-requires-clause-low
+reads_of-reads-requires-clause-low c = place_low c.args.plan.now.file.now c.args.plan.now.graph.now c.args.plan.now.order.now c.requires.plan c.args.place c.requires.place
 
 pub signals_of-requires : goal.signals_of-requires
 signals_of-requires c =
     let l : ℕ = get_or c.args.plan.now.order.now c.args.place 0 in
     let at = order_at c.args.plan.now.file.now c.args.plan.now.graph.now c.args.plan.now.order.now c.requires.plan c.args.place c.requires.place in
-    subst (All (λ (r : ℕ). r < length c.args.self.now.signals.items)) (sym c.reads_of.ensures) (reads_within c.args.plan.now.file.now c.args.plan.now.graph.now c.args.plan.now.order.now c.requires.plan c.args.place l at c.args.self.now.maker.net c.args.self.now.signals.items c.requires.made)
+    subst (All (λ (r : ℕ). r < length c.args.self.now.signals.items)) (sym c.reads_of-reads.ensures) (reads_within c.args.plan.now.file.now c.args.plan.now.graph.now c.args.plan.now.order.now c.requires.plan c.args.place l at c.args.self.now.maker.net c.args.self.now.signals.items c.requires.made)
 
 pub add_gate-requires-clause-room : goal.add_gate-requires-clause-room
 add_gate-requires-clause-room c =
@@ -50,26 +50,26 @@ pub add_gate-requires-clause-within : goal.add_gate-requires-clause-within
 add_gate-requires-clause-within c =
     let l : ℕ = get_or c.args.plan.now.order.now c.args.place 0 in
     let at = order_at c.args.plan.now.file.now c.args.plan.now.graph.now c.args.plan.now.order.now c.requires.plan c.args.place c.requires.place in
-    let fanins = c.in_ok-fanins.ensures ∙ ap (map (signal_at c.args.self.now.signals.items)) c.reads_of.ensures in
+    let fanins = c.in_ok-fanins.ensures ∙ ap (map (signal_at c.args.self.now.signals.items)) c.reads_of-reads.ensures in
     subst (All (λ (s : Signal). s.0 < length c.args.self.now.maker.net.drivers)) (sym fanins) (fanins_low c.args.plan.now.file.now c.args.plan.now.graph.now c.args.plan.now.order.now c.requires.plan c.args.place l at c.args.self.now.maker.net c.args.self.now.signals.items c.requires.made)
 
 pub add_gate-requires-clause-fits : goal.add_gate-requires-clause-fits
 add_gate-requires-clause-fits c =
     let l : ℕ = get_or c.args.plan.now.order.now c.args.place 0 in
     let at = order_at c.args.plan.now.file.now c.args.plan.now.graph.now c.args.plan.now.order.now c.requires.plan c.args.place c.requires.place in
-    let fanins = c.in_ok-fanins.ensures ∙ ap (map (signal_at c.args.self.now.signals.items)) c.reads_of.ensures in
-    let cover = c.cover_number.ensures ∙ ap (cover_number l) c.reads_of.ensures in
+    let fanins = c.in_ok-fanins.ensures ∙ ap (map (signal_at c.args.self.now.signals.items)) c.reads_of-reads.ensures in
+    let cover = c.cover_number.ensures ∙ ap (cover_number l) c.reads_of-reads.ensures in
     let count = ap length fanins ∙ length-map (reads_in c.args.plan.now.file.now.records l) (signal_at c.args.self.now.signals.items) in
     subst (λ (n : ℕ). IsSomeAnd (slice_get c.args.self.now.maker.net.covers n) (λ (x : Cover). x.width ≡ length c.in_ok-fanins.fanins)) (sym cover)
     (reads_fit c.args.plan.now.file.now.records l (length c.in_ok-fanins.fanins) c.args.self.now.maker.net.covers c.requires.made.covers count)
 
-pub returns-in_ok-fanins : goal.returns-in_ok-fanins
-returns-in_ok-fanins c =
+pub returns : goal.returns
+returns c =
     let l : ℕ = get_or c.args.plan.now.order.now c.args.place 0 in
     let at = order_at c.args.plan.now.file.now c.args.plan.now.graph.now c.args.plan.now.order.now c.requires.plan c.args.place c.requires.place in
     let gate = sym c.has_gate.ensures ∙ c.if-not-has_gate.false in
-    let fanins = c.in_ok-fanins.ensures ∙ ap (map (signal_at c.args.self.now.signals.items)) c.reads_of.ensures in
-    let cover = c.cover_number.ensures ∙ ap (cover_number l) c.reads_of.ensures in
+    let fanins = c.in_ok-fanins.ensures ∙ ap (map (signal_at c.args.self.now.signals.items)) c.reads_of-reads.ensures in
+    let cover = c.cover_number.ensures ∙ ap (cover_number l) c.reads_of-reads.ensures in
     on_both c.add_gate.result c.add_gate.ensures.net c.add_gate.ensures.signals (λ net signals.
     made_gate c.args.plan.now.file.now c.args.plan.now.graph.now c.args.plan.now.order.now c.requires.plan c.args.place l at c.args.self.now.maker.net c.args.self.now.signals.items c.requires.made gate c.as_slice.result.now c.add_gate.new.self.maker.net c.add_gate.new.self.signals.items (c.as_slice.ensures.value ∙ c.in_ok-name.ensures ∙ sym (gate_named c.args.plan.now.file.now c.args.plan.now.graph.now c.args.plan.now.order.now c.requires.plan c.args.place l at c.args.self.now.maker.net c.args.self.now.signals.items c.requires.made gate))
     (ap (λ (m : MakerView). m.net) net ∙ ap₂ (λ (ss : List Signal) (n : ℕ). with_gate c.args.self.now.maker.net c.as_slice.result.now ss n) fanins cover) signals)
