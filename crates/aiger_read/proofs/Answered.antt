@@ -1,7 +1,9 @@
 -- What the reader answers, from what it was told of the file.
-use Rattle.std.proofs.Common.{◌≡◌, ℕ, List}
+use Rattle.std.proofs.Common.{◌≡◌, ℕ, ◌+◌, ◌*◌, List, sym, ◌∙◌, subst}
 use Rattle.std.specs.Prelude.{Ok, Err}
 use Rattle.flat_net.specs.View.{NetView}
+use Rattle.gate_order.specs.Order.{IsOrder}
+use Rattle.aiger_graph.specs.Literals.{graph_of}
 use Rattle.aiger_records.specs.declared.error.AigerError.{AigerError}
 use Rattle.aiger_records.specs.declared.error.AigerError.TheVariants as aiger
 use Rattle.aiger_records.specs.declared.error.AigerKind.TheVariants as kind
@@ -12,8 +14,9 @@ use Rattle.aiger_read.specs.Made.{IsPlan}
 use Rattle.aiger_read.specs.Nets.{IsNetOf, HasFault, ReadsNet}
 use Rattle.aiger_read.proofs.Faultless.{faultless}
 
-pub planned : (text : List ℕ) (f : AigerFile) (graph : List (List ℕ)) (order : List ℕ) → IsKept f → ReadsFile text (Ok f) → IsOrdered f graph order → IsPlan f graph order
-planned text f graph order kept reads ordered = record { kept = kept; faultless = faultless text f kept reads.0 reads.1; graph_is = ordered.graph_is; order_is = ordered.order_is }
+pub planned : (text : List ℕ) (f : AigerFile) (graph g : List (List ℕ)) (order o : List ℕ) → IsKept f → ReadsFile text (Ok f) → IsOrdered f graph order → g ≡ graph → o ≡ order → IsPlan f g o
+planned text f graph g order o kept reads ordered graph_is order_is =
+    record { kept = kept; faultless = faultless text f kept reads.0 reads.1; graph_is = graph_is ∙ ordered.graph_is; order_is = subst (IsOrder (graph_of f.records (2 * f.header.greatest + 2))) (sym order_is) ordered.order_is }
 
 pub reads_net : (text : List ℕ) (f : AigerFile) (graph : List (List ℕ)) (order : List ℕ) (net : NetView) → ReadsFile text (Ok f) → IsOrdered f graph order → IsNetOf f net → ReadsNet text (Ok net)
 reads_net text f graph order net reads ordered is = (f, record { faultless = reads.0; is_file = reads.1; no_loop = ordered.no_loop }, is)

@@ -369,7 +369,7 @@ module _ (f : AigerFile) (graph : List (List ℕ)) (order : List ℕ) (plan : Is
 
   names : (s : ℕ) → s < length net.drivers → slice_get net.names s ≡ Some (signal_name f (lit s))
   names s low =
-      ap (λ (ns : List (List ℕ)). slice_get ns s) made.named
+      ap (λ (ns : List (List ℕ)). slice_get ns s) made.names_are
       ∙ slice_get-take_to (length net.drivers) (map (signal_name f) lits) s (signal_name f (lit s)) low
       (slice_get-map (signal_name f) lits s (lit s) (slice_get-get_or lits s 0 (let whole = full f graph order plan (output_literals f.records) net signals made in omega (arith, low, whole))))
 

@@ -15,6 +15,8 @@ use Rattle.circuit_theory.proofs.Numbers.{slice_get-map}
 use Rattle.sec_base.specs.Table.{is_among, AreDistinct}
 use Rattle.sec_base.proofs.TableLemmas.{not_before, take-push}
 use Rattle.flat_net.specs.declared.signals.Signal.{Signal}
+use Rattle.flat_net.specs.declared.parts.Port.{Port as NetPort}
+use Rattle.flat_net.specs.declared.parts.Gate.{Gate as NetGate}
 use Rattle.flat_net.specs.View.{NetView, named, equation_of_gate}
 use Rattle.flat_net.specs.Makes.{MakerView, empty_net, with_input, with_latch, with_gate, with_output}
 use Rattle.flat_net.proofs.PlaceLists.{filter-take}
@@ -43,7 +45,7 @@ made_nothing f order maker signals is signals_are =
     subst (λ (n : NetView). IsMade f order [] [] [] [] n signals) (sym (ap (λ (m : MakerView). m.net) is)) (record {
       size = ap length signals_are ∙ length-replicate _ _;
       placed = λ s l low at. absurd (omega (arith, low));
-      named = refl;
+      names_are = refl;
       count = refl;
       inputs = refl;
       latches = refl;
@@ -199,7 +201,7 @@ module _ (f : AigerFile) (graph : List (List ℕ)) (order : List ℕ) (plan : Is
       record {
         size = ap length signals_are ∙ length-set_is signals l (record { 0 = length net.drivers }) ∙ made.size;
         placed = placed_more net net' signals signals' l made.placed next made.size grown signals_are;
-        named = named_more net net' l name made.named next own (ap (λ (n : NetView). n.names) is) grown;
+        names_are = named_more net net' l name made.names_are next own (ap (λ (n : NetView). n.names) is) grown;
         count = omega (arith, grown, made.count, length-append ins (l ∷ []));
         inputs = ap (λ (n : NetView). map (λ (p : NetPort). moved_name (literal_at literals) (named p)) n.inputs) is
             ∙ map-append (λ (p : NetPort). moved_name (literal_at literals) (named p)) net.inputs _
@@ -220,7 +222,7 @@ module _ (f : AigerFile) (graph : List (List ℕ)) (order : List ℕ) (plan : Is
       record {
         size = ap length signals_are ∙ length-set_is signals l.literal (record { 0 = length net.drivers }) ∙ made.size;
         placed = placed_more net net' signals signals' l.literal made.placed next made.size grown signals_are;
-        named = named_more net net' l.literal name made.named next own (ap (λ (n : NetView). n.names) is) grown;
+        names_are = named_more net net' l.literal name made.names_are next own (ap (λ (n : NetView). n.names) is) grown;
         count = omega (arith, grown, made.count, length-append lats (l ∷ []));
         inputs = ap (λ (n : NetView). map (λ (p : NetPort). moved_name (literal_at literals) (named p)) n.inputs) is ∙ made.inputs;
         latches = ap (λ (n : NetView). map (head_at literals) n.latches) is
@@ -239,7 +241,7 @@ module _ (f : AigerFile) (graph : List (List ℕ)) (order : List ℕ) (plan : Is
   made_output ins lats gates outs l s name net net' signals made at name_is is = record {
     size = made.size;
     placed = λ i m low h. made.placed i m (subst (λ (k : ℕ). i < k) (ap (λ (n : NetView). length n.drivers) is) low) h;
-    named = ap (λ (n : NetView). n.names) is ∙ made.named ∙ ap (λ (n : NetView). take (length n.drivers) (map (signal_name f) literals)) (sym is);
+    names_are = ap (λ (n : NetView). n.names) is ∙ made.names_are ∙ ap (λ (n : NetView). take (length n.drivers) (map (signal_name f) literals)) (sym is);
     count = ap (λ (n : NetView). length n.drivers) is ∙ made.count;
     inputs = ap (λ (n : NetView). map (λ (p : NetPort). moved_name (literal_at literals) (named p)) n.inputs) is ∙ made.inputs;
     latches = ap (λ (n : NetView). map (head_at literals) n.latches) is ∙ made.latches;
@@ -354,7 +356,7 @@ module _ (f : AigerFile) (graph : List (List ℕ)) (order : List ℕ) (plan : Is
         subst (λ (gs : List ℕ). IsMade f order (input_literals f.records) (latches_in f.records) gs [] net' signals') (sym more) (record {
           size = ap length signals_are ∙ length-set_is signals l (record { 0 = length net.drivers }) ∙ made.size;
           placed = placed_more net net' signals signals' l made.placed next made.size grown signals_are;
-          named = named_more net net' l name made.named next name_is (ap (λ (n : NetView). n.names) is) grown;
+          names_are = named_more net net' l name made.names_are next name_is (ap (λ (n : NetView). n.names) is) grown;
           count = omega (arith, grown, made.count, length-append (filter (is_gate f.records) (take place order)) (l ∷ []));
           inputs = ap (λ (n : NetView). map (λ (p : NetPort). moved_name (literal_at literals) (named p)) n.inputs) is ∙ made.inputs;
           latches = ap (λ (n : NetView). map (head_at literals) n.latches) is ∙ made.latches;

@@ -157,12 +157,12 @@ output_picks (Packed literal first second) l e = absurd (none-some l e)
 
 -- the inputs without records, by kinds
 picked_append : {X : Type 0} (pick : Record → Option X) (xs ys : List Record) → length (filter_map pick (xs ++ ys)) ≡ length (filter_map pick xs) + length (filter_map pick ys)
-picked_append pick [] ys = refl
+picked_append pick [] ys = omega arith
 picked_append {X} pick (x ∷ xs) ys = go (pick x) (picked_append pick xs ys)
   where
     go : (o : Option X) → length (filter_map pick (xs ++ ys)) ≡ length (filter_map pick xs) + length (filter_map pick ys) → length (cons_option o (filter_map pick (xs ++ ys))) ≡ length (cons_option o (filter_map pick xs)) + length (filter_map pick ys)
     go None e = e
-    go (Some y) e = ap suc e
+    go (Some y) e = omega (arith, e)
 
 implied_inputs : (n : ℕ) → length (filter_map input_of (inputs_to n)) ≡ n
 implied_inputs zero = refl

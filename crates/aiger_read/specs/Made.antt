@@ -62,7 +62,7 @@ head_at literals l = record { name = l.name; literal = literal_at literals l.out
 pub record IsMade (f : AigerFile) (order ins : List ℕ) (lats : List LatchLine) (gates outs : List ℕ) (net : NetView) (signals : List Signal) : Type 0 where
   pub size : length signals ≡ 2 * f.header.greatest + 2
   pub placed : IsPlaced (all_literals f.records order) net signals
-  pub named : net.names ≡ take (length net.drivers) (map (signal_name f) (all_literals f.records order))
+  pub names_are : net.names ≡ take (length net.drivers) (map (signal_name f) (all_literals f.records order))
   pub count : length net.drivers ≡ length ins + length lats + length gates
   pub inputs : map (λ (p : NetPort). moved_name (literal_at (all_literals f.records order)) (named p)) net.inputs ≡ ports_from f.symbols 105 0 ins
   pub latches : map (head_at (all_literals f.records order)) net.latches ≡ heads_from f.symbols 0 lats

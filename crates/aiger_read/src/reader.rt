@@ -13,6 +13,7 @@ use std::alloc::Global;
 /// Reads a text of the AIGER formats `aag` and `aig` as a net. A refusal names the first record with a fault, counted from
 /// 0, and the first kind that holds of it; what is wrong with the whole file is told with record 0. A text has at most
 /// 16,777,216 bytes. Where memory was wanted and could not be had, the answer is `NoMemory`.
+#[tactic(auto, using(crate::proofs::Answered::reads_fault))]
 pub fn read_aiger(alloc: Global, bytes: &[u8]) -> Result<Net, AigerError>
     requires { length bytes.now ≤ 16777216 }
     ensures { ReadsNet bytes.now result }
@@ -29,5 +30,6 @@ pub fn read_aiger(alloc: Global, bytes: &[u8]) -> Result<Net, AigerError>
         graph: &graph,
         order: order.as_slice(),
     };
-    Ok(make(alloc, &plan)?)
+    let net = make(alloc, &plan)?;
+    Ok(net)
 }

@@ -41,7 +41,7 @@ add_gate-requires-clause-new c =
     let l : ℕ = get_or c.args.plan.now.order.now c.args.place 0 in
     let at = order_at c.args.plan.now.file.now c.args.plan.now.graph.now c.args.plan.now.order.now c.requires.plan c.args.place c.requires.place in
     let gate = sym c.has_gate.ensures ∙ c.if-not-has_gate.false in
-    fresh c.args.plan.now.file.now c.args.plan.now.graph.now c.args.plan.now.order.now c.requires.plan c.args.self.now.maker.net l c.as_slice.result.now c.requires.made.named (gate_next c.args.plan.now.file.now c.args.plan.now.graph.now c.args.plan.now.order.now c.requires.plan c.args.place l at c.args.self.now.maker.net c.args.self.now.signals.items c.requires.made gate) (c.as_slice.ensures.value ∙ c.in_ok-name.ensures ∙ sym (gate_named c.args.plan.now.file.now c.args.plan.now.graph.now c.args.plan.now.order.now c.requires.plan c.args.place l at c.args.self.now.maker.net c.args.self.now.signals.items c.requires.made gate))
+    fresh c.args.plan.now.file.now c.args.plan.now.graph.now c.args.plan.now.order.now c.requires.plan c.args.self.now.maker.net l c.as_slice.result.now c.requires.made.names_are (gate_next c.args.plan.now.file.now c.args.plan.now.graph.now c.args.plan.now.order.now c.requires.plan c.args.place l at c.args.self.now.maker.net c.args.self.now.signals.items c.requires.made gate) (c.as_slice.ensures.value ∙ c.in_ok-name.ensures ∙ sym (gate_named c.args.plan.now.file.now c.args.plan.now.graph.now c.args.plan.now.order.now c.requires.plan c.args.place l at c.args.self.now.maker.net c.args.self.now.signals.items c.requires.made gate))
 
 pub add_gate-requires-clause-literal : goal.add_gate-requires-clause-literal
 add_gate-requires-clause-literal c = let low = place_low c.args.plan.now.file.now c.args.plan.now.graph.now c.args.plan.now.order.now c.requires.plan c.args.place c.requires.place in omega (arith, low, c.requires.made.size)

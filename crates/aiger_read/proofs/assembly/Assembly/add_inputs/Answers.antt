@@ -31,7 +31,7 @@ add_input-requires-clause-new c =
     let next = input_next c.args.plan.now.file.now c.args.plan.now.graph.now c.args.plan.now.order.now c.requires.plan k c.in-Input.literal (Input c.in-Input.literal) c.loop-found.self.maker.net at refl c.loop-found.invariant.made.count in
     let name = c.as_slice.ensures.value ∙ c.in_ok-name.ensures ∙ ap (λ (n : ℕ). name_of c.args.plan.now.file.now.symbols 105 n) c.loop-found.invariant.count in
     let own = name ∙ sym (input_named c.args.plan.now.file.now c.args.plan.now.graph.now c.args.plan.now.order.now c.requires.plan k c.in-Input.literal (Input c.in-Input.literal) at refl) in
-    fresh c.args.plan.now.file.now c.args.plan.now.graph.now c.args.plan.now.order.now c.requires.plan c.loop-found.self.maker.net c.in-Input.literal c.as_slice.result.now c.loop-found.invariant.made.named next own
+    fresh c.args.plan.now.file.now c.args.plan.now.graph.now c.args.plan.now.order.now c.requires.plan c.loop-found.self.maker.net c.in-Input.literal c.as_slice.result.now c.loop-found.invariant.made.names_are next own
 
 pub loop-found-preserved : goal.loop-found-preserved
 loop-found-preserved c =
