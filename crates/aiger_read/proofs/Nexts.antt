@@ -1,5 +1,5 @@
 -- What latches take over: one after another is set.
-use Rattle.std.proofs.Common.{◌≡◌, ℕ, zero, suc, ◌+◌, ◌<◌, Bool, true, List, [], ◌∷◌, ◌++◌, map, length, take, drop, set, replicate, slice_get, Some, refl, sym, ◌∙◌, ap, subst, arith}
+use Rattle.std.proofs.Common.{◌≡◌, ℕ, zero, suc, ◌+◌, ◌^◌, ◌<◌, Bool, true, List, [], ◌∷◌, ◌++◌, map, length, take, drop, set, replicate, slice_get, Some, refl, sym, ◌∙◌, ap, subst, arith}
 use Rattle.std.specs.List.{All, Contains, filter}
 use Rattle.std.proofs.lemmas.List.{map-append, length-append, length-map}
 use Rattle.std.proofs.lemmas.List.Elements.{All-contains}
@@ -20,7 +20,7 @@ use Rattle.aiger_records.specs.Driven.{used_by}
 use Rattle.aiger_symbols.specs.declared.symbol.Named.{Named}
 use Rattle.aiger_symbols.specs.Names.{name_of}
 use Rattle.aiger_file.specs.declared.file.AigerFile.{AigerFile}
-use Rattle.aiger_graph.specs.Circuit.{LatchLine, latch_of, input_literals, latches_in}
+use Rattle.aiger_graph.specs.Circuit.{LatchLine, ports_from, latch_of, output_of, input_literals, output_literals, latches_in}
 use Rattle.aiger_read.specs.SignalNames.{latch_literals, init_of}
 use Rattle.aiger_read.specs.Signals.{is_gate, all_literals, literal_at}
 use Rattle.aiger_read.specs.Made.{IsPlan, HasOutputs, LatchHead, heads_from, head_at, signal_at, nexts_of}
@@ -117,6 +117,17 @@ module _ (f : AigerFile) (graph : List (List ℕ)) (order : List ℕ) (plan : Is
 
     pub latch_low : length (latches_in (take k f.records)) < length net.latches
     latch_low = slice_get_within net.latches (length (latches_in (take k f.records))) latch_there.0 latch_there.1
+
+-- there are few outputs
+ports_count : (symbols : Named) (letter k : ℕ) (ls : List ℕ) → length (ports_from symbols letter k ls) ≡ length ls
+ports_count symbols letter k [] = refl
+ports_count symbols letter k (l ∷ ls) = ap suc (ports_count symbols letter (k + 1) ls)
+
+pub output_few : (f : AigerFile) (graph : List (List ℕ)) (order : List ℕ) → IsPlan f graph order → (k l : ℕ) → slice_get f.records k ≡ Some (Output l) → length (output_literals (take k f.records)) < 2 ^ 22
+output_few f graph order plan k l at =
+    let low = slice_get_within (output_literals f.records) (length (output_literals (take k f.records))) l (kept_at output_of f.records k (Output l) l at refl) in
+    let count = ports_count f.symbols 111 0 (output_literals f.records) in
+    omega (arith, low, count, plan.faultless.few)
 
 -- in the end each next is set
 pub nexts_done : (symbols : Named) (lits : List ℕ) (lats : List LatchLine) (before after : MakerView) (signals : List Signal) → HasNexts signals lats before after → length before.set ≡ length before.net.latches →

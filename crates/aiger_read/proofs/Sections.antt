@@ -205,7 +205,7 @@ counted_body h text = record {
     none_output Binary = implied_outputs h.inputs
 
     inputs_at : (form : Form) → length (filter_map input_of (implied form h.inputs)) + input_lines form h.inputs ≡ h.inputs
-    inputs_at Ascii = refl
+    inputs_at Ascii = omega arith
     inputs_at Binary = let e = implied_inputs h.inputs in omega (arith, e)
 
     inputs_counted : length (filter_map input_of (implied h.form h.inputs ++ those_there (body_from h (body_length h) 0 text).records)) ≤ h.inputs

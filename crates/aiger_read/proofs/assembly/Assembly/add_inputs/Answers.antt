@@ -56,3 +56,11 @@ loop-found-preserved-in_default c =
       made = subst (λ (ls : List ℕ). IsMade c.args.plan.now.file.now c.args.plan.now.order.now ls [] [] [] c.loop-found.self.maker.net c.loop-found.self.signals.items) (sym same) c.loop-found.invariant.made;
       count = c.loop-found.invariant.count ∙ ap length (sym same);
     }
+
+pub overflow_add-number : goal.overflow_add-number
+overflow_add-number c =
+    let k = c.loop-found.found-index in
+    let at = record_there c.args.plan.now.file.now.records c.as_slice-found-items.result.now c.loop-found.found-index c.as_slice-found-items.ensures c.loop-found-test.true ∙ ap Some c.in-Input.is in
+    let next = input_next c.args.plan.now.file.now c.args.plan.now.graph.now c.args.plan.now.order.now c.requires.plan k c.in-Input.literal (Input c.in-Input.literal) c.loop-found.self.maker.net at refl c.loop-found.invariant.made.count in
+    let few = room c.args.plan.now.file.now c.args.plan.now.graph.now c.args.plan.now.order.now c.requires.plan (length c.loop-found.self.maker.net.drivers) c.in-Input.literal next in
+    omega (arith, few, c.loop-found.invariant.made.count, c.loop-found.invariant.count)

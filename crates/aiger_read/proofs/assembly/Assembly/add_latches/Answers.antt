@@ -1,6 +1,7 @@
 use Rattle.std.proofs.Common.{◌∙◌, ◌∷◌, [], ℕ, List, take, length, get_or, Some, refl, sym, ap, subst, arith}
 use Rattle.std.proofs.lemmas.List.{length-append}
-use Rattle.flat_net.specs.Makes.{MakerView}
+use Rattle.sec_base.specs.declared.basics.Init.{Init}
+use Rattle.flat_net.specs.Makes.{MakerView, with_latch}
 use Rattle.aiger_records.specs.declared.record.Record.TheVariants.{Input, Latch}
 use Rattle.aiger_symbols.specs.Names.{name_of}
 use Rattle.aiger_graph.specs.Circuit.{LatchLine, latch_of, input_literals, latches_in}
@@ -47,7 +48,7 @@ loop-found-preserved c =
     let own = name ∙ sym (latch_named c.args.plan.now.file.now c.args.plan.now.graph.now c.args.plan.now.order.now c.requires.plan k line (Latch line.literal line.next line.reset) at refl) in
     let made = made_latch c.args.plan.now.file.now c.args.plan.now.graph.now c.args.plan.now.order.now c.requires.plan (input_literals c.args.plan.now.file.now.records) (latches_in (take k c.args.plan.now.file.now.records)) line c.as_slice.result.now c.loop-found.self.maker.net c.add_latch.new.self.maker.net c.loop-found.self.signals.items c.add_latch.new.self.signals.items
     c.loop-found.invariant.made next name own
-    (ap (λ (m : MakerView). m.net) c.in_ok-add_latch.ensures.net) c.in_ok-add_latch.ensures.signals in
+    (ap (λ (m : MakerView). m.net) c.in_ok-add_latch.ensures.net ∙ ap (λ (i : Init). with_latch c.loop-found.self.maker.net c.as_slice.result.now i) c.init_of.ensures) c.in_ok-add_latch.ensures.signals in
     record {
       made = subst (λ (ls : List LatchLine). IsMade c.args.plan.now.file.now c.args.plan.now.order.now (input_literals c.args.plan.now.file.now.records) ls [] [] c.add_latch.new.self.maker.net c.add_latch.new.self.signals.items) (sym more) made;
       count = omega (arith, c.loop-found.invariant.count, ap length more, length-append (latches_in (take k c.args.plan.now.file.now.records)) (line ∷ []));
@@ -61,3 +62,12 @@ loop-found-preserved-in_default c =
       made = subst (λ (ls : List LatchLine). IsMade c.args.plan.now.file.now c.args.plan.now.order.now (input_literals c.args.plan.now.file.now.records) ls [] [] c.loop-found.self.maker.net c.loop-found.self.signals.items) (sym same) c.loop-found.invariant.made;
       count = c.loop-found.invariant.count ∙ ap length (sym same);
     }
+
+pub overflow_add-number : goal.overflow_add-number
+overflow_add-number c =
+    let k = c.loop-found.found-index in
+    let line : LatchLine = record { literal = c.in-Latch.literal; next = c.in-Latch.next; reset = c.in-Latch.reset } in
+    let at = record_there c.args.plan.now.file.now.records c.as_slice-found-items.result.now c.loop-found.found-index c.as_slice-found-items.ensures c.loop-found-test.true ∙ ap Some c.in-Latch.is in
+    let next = latch_next c.args.plan.now.file.now c.args.plan.now.graph.now c.args.plan.now.order.now c.requires.plan k line (Latch line.literal line.next line.reset) c.loop-found.self.maker.net at refl c.loop-found.invariant.made.count in
+    let few = room c.args.plan.now.file.now c.args.plan.now.graph.now c.args.plan.now.order.now c.requires.plan (length c.loop-found.self.maker.net.drivers) line.literal next in
+    omega (arith, few, c.loop-found.invariant.made.count, c.loop-found.invariant.count)

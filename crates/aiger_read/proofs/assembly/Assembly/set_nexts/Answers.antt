@@ -1,9 +1,8 @@
 use Rattle.std.proofs.Common.{◌∙◌, true, List, take, length, get_or, set, slice_get, Some, refl, sym, ap, subst, arith}
-use Rattle.std.proofs.lemmas.Option.{get_or_from_slice_get}
 use Rattle.flat_net.specs.declared.signals.Signal.{Signal}
 use Rattle.flat_net.specs.View.{NetView}
 use Rattle.net_assembly.specs.Shown.{with_nexts}
-use Rattle.net_assembly.proofs.Nexts.{take_whole}
+use Rattle.net_assembly.proofs.Nexts.{take_whole, read_at}
 use Rattle.aiger_records.specs.declared.record.Record.{Record}
 use Rattle.aiger_records.specs.declared.record.Record.TheVariants.{Input, Latch}
 use Rattle.aiger_graph.specs.Circuit.{LatchLine, latch_of, latches_in, output_literals}
@@ -49,8 +48,7 @@ set_next-requires-clause-latch c =
     let k = c.loop-found.found-index in
     let line : LatchLine = record { literal = c.in-Latch.literal; next = c.in-Latch.next; reset = c.in-Latch.reset } in
     let at = record_there c.args.plan.now.file.now.records c.as_slice-found-items.result.now k c.as_slice-found-items.ensures c.loop-found-test.true ∙ ap Some c.in-Latch.is in
-    let latch = sym (ap (λ (ss : List Signal). signal_at ss line.literal) c.loop-found.invariant.same) ∙ get_or_from_slice_get c.loop-found.self.signals.items line.literal c.index-latch.result.now (record { 0 = 0 }) c.index-latch.ensures in
-    let source = sym (ap (λ (ss : List Signal). signal_at ss line.next) c.loop-found.invariant.same) ∙ get_or_from_slice_get c.loop-found.self.signals.items line.next c.index-source.result.now (record { 0 = 0 }) c.index-source.ensures in
+    let latch = read_at c.loop-found.self.signals.items c.args.self.now.signals.items line.literal c.index-latch.result.now c.loop-found.invariant.same (latch_below c.args.plan.now.file.now c.args.plan.now.graph.now c.args.plan.now.order.now c.requires.plan (output_literals c.args.plan.now.file.now.records) c.args.self.now.maker.net c.args.self.now.signals.items c.requires.made k line at) c.index-latch.ensures in
     let count = length (latches_in (take k c.args.plan.now.file.now.records)) in
     let drives = ap (λ (n : NetView). slice_get n.drivers c.index-latch.result.now.0) c.loop-found.invariant.nexts.net ∙ ap (λ (x : Signal). slice_get c.args.self.now.maker.net.drivers x.0) (sym latch) ∙ latch_driver c.args.plan.now.file.now c.args.plan.now.graph.now c.args.plan.now.order.now c.requires.plan (output_literals c.args.plan.now.file.now.records) c.args.self.now.maker.net c.args.self.now.signals.items c.requires.made c.keeps.ensures.sound k line at in
     (count, drives)
@@ -60,8 +58,7 @@ set_next-requires-clause-within c =
     let k = c.loop-found.found-index in
     let line : LatchLine = record { literal = c.in-Latch.literal; next = c.in-Latch.next; reset = c.in-Latch.reset } in
     let at = record_there c.args.plan.now.file.now.records c.as_slice-found-items.result.now k c.as_slice-found-items.ensures c.loop-found-test.true ∙ ap Some c.in-Latch.is in
-    let latch = sym (ap (λ (ss : List Signal). signal_at ss line.literal) c.loop-found.invariant.same) ∙ get_or_from_slice_get c.loop-found.self.signals.items line.literal c.index-latch.result.now (record { 0 = 0 }) c.index-latch.ensures in
-    let source = sym (ap (λ (ss : List Signal). signal_at ss line.next) c.loop-found.invariant.same) ∙ get_or_from_slice_get c.loop-found.self.signals.items line.next c.index-source.result.now (record { 0 = 0 }) c.index-source.ensures in
+    let source = read_at c.loop-found.self.signals.items c.args.self.now.signals.items line.next c.index-source.result.now c.loop-found.invariant.same (next_below c.args.plan.now.file.now c.args.plan.now.graph.now c.args.plan.now.order.now c.requires.plan (output_literals c.args.plan.now.file.now.records) c.args.self.now.maker.net c.args.self.now.signals.items c.requires.made k line at) c.index-source.ensures in
     let low = next_spot c.args.plan.now.file.now c.args.plan.now.graph.now c.args.plan.now.order.now c.requires.plan (output_literals c.args.plan.now.file.now.records) c.args.self.now.maker.net c.args.self.now.signals.items c.requires.made k line at in
     let d = ap (λ (n : NetView). length n.drivers) c.loop-found.invariant.nexts.net in
     let e = ap (λ (x : Signal). x.0) source in
@@ -72,8 +69,8 @@ loop-found-preserved c =
     let k = c.loop-found.found-index in
     let line : LatchLine = record { literal = c.in-Latch.literal; next = c.in-Latch.next; reset = c.in-Latch.reset } in
     let at = record_there c.args.plan.now.file.now.records c.as_slice-found-items.result.now k c.as_slice-found-items.ensures c.loop-found-test.true ∙ ap Some c.in-Latch.is in
-    let latch = sym (ap (λ (ss : List Signal). signal_at ss line.literal) c.loop-found.invariant.same) ∙ get_or_from_slice_get c.loop-found.self.signals.items line.literal c.index-latch.result.now (record { 0 = 0 }) c.index-latch.ensures in
-    let source = sym (ap (λ (ss : List Signal). signal_at ss line.next) c.loop-found.invariant.same) ∙ get_or_from_slice_get c.loop-found.self.signals.items line.next c.index-source.result.now (record { 0 = 0 }) c.index-source.ensures in
+    let latch = read_at c.loop-found.self.signals.items c.args.self.now.signals.items line.literal c.index-latch.result.now c.loop-found.invariant.same (latch_below c.args.plan.now.file.now c.args.plan.now.graph.now c.args.plan.now.order.now c.requires.plan (output_literals c.args.plan.now.file.now.records) c.args.self.now.maker.net c.args.self.now.signals.items c.requires.made k line at) c.index-latch.ensures in
+    let source = read_at c.loop-found.self.signals.items c.args.self.now.signals.items line.next c.index-source.result.now c.loop-found.invariant.same (next_below c.args.plan.now.file.now c.args.plan.now.graph.now c.args.plan.now.order.now c.requires.plan (output_literals c.args.plan.now.file.now.records) c.args.self.now.maker.net c.args.self.now.signals.items c.requires.made k line at) c.index-source.ensures in
     let count = length (latches_in (take k c.args.plan.now.file.now.records)) in
     let drives = ap (λ (n : NetView). slice_get n.drivers c.index-latch.result.now.0) c.loop-found.invariant.nexts.net ∙ ap (λ (x : Signal). slice_get c.args.self.now.maker.net.drivers x.0) (sym latch) ∙ latch_driver c.args.plan.now.file.now c.args.plan.now.graph.now c.args.plan.now.order.now c.requires.plan (output_literals c.args.plan.now.file.now.records) c.args.self.now.maker.net c.args.self.now.signals.items c.requires.made c.keeps.ensures.sound k line at in
     let more = kept_more latch_of c.args.plan.now.file.now.records k (Latch line.literal line.next line.reset) line at refl in
