@@ -1,5 +1,5 @@
 -- The literals of a net's signals: each stands there once, and each literal that is driven stands there.
-use Rattle.std.proofs.Common.{◌≡◌, ◌≢◌, ℕ, zero, suc, ◌+◌, ◌*◌, ◌-◌, ◌%◌, ◌/◌, ◌<◌, Bool, true, false, true≢false, eqb, ltb, List, [], ◌∷◌, ◌++◌, map, length, slice_get, take, append-nil, Option, Some, None, refl, sym, ◌∙◌, ap, subst, arith, inl, inr}
+use Rattle.std.proofs.Common.{◌≡◌, ◌≢◌, ℕ, zero, suc, ◌+◌, ◌*◌, ◌%◌, ◌/◌, ◌<◌, Bool, true, false, true≢false, eqb, ltb, List, [], ◌∷◌, ◌++◌, map, length, slice_get, take, append-nil, Option, Some, None, refl, sym, ◌∙◌, ap, subst, arith, inl, inr}
 use Rattle.std.specs.Prelude.{◌⊎◌, ◌||◌}
 use Rattle.std.specs.List.{Contains, filter, filter_map, cons_option, list_all}
 use Rattle.std.proofs.lemmas.Bool.{ltb-true, or_left, or_right}

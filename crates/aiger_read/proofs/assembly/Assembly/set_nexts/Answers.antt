@@ -7,7 +7,7 @@ use Rattle.aiger_records.specs.declared.record.Record.{Record}
 use Rattle.aiger_records.specs.declared.record.Record.TheVariants.{Input, Latch}
 use Rattle.aiger_graph.specs.Circuit.{LatchLine, latch_of, latches_in, output_literals}
 use Rattle.aiger_read.specs.Signals.{all_literals}
-use Rattle.aiger_read.specs.Made.{signal_at, nexts_of}
+use Rattle.aiger_read.specs.Made.{nexts_of}
 use Rattle.aiger_read.proofs.LiteralLists.{kept_more, kept_same}
 use Rattle.aiger_read.proofs.Making.{record_there, no_latch}
 use Rattle.aiger_read.proofs.Nexts.{HasNexts, nexts_start, nexts_more, nexts_done, next_spot, next_below, latch_below, latch_driver, latch_low}
