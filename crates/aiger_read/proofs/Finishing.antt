@@ -31,7 +31,7 @@ use Rattle.net_assembly.specs.Assembled.{IsAssembled}
 use Rattle.net_assembly.specs.Shown.{with_nexts}
 use Rattle.net_assembly.proofs.AssembledRuns.{assembled_is_flattened}
 use Rattle.net_assembly.proofs.DistinctLists.{Contains-kept}
-use Rattle.aiger_records.specs.declared.record.Record.TheVariants.{Input, Latch, Output}
+use Rattle.aiger_records.specs.declared.record.Record.TheVariants.{Latch, Output}
 use Rattle.aiger_file.specs.declared.file.AigerFile.{AigerFile}
 use Rattle.aiger_graph.specs.Circuit.{LatchLine, circuit_of_file, constants, gates_in, latches_from, input_literals, output_literals, latches_in, start_of, zero_cover, one_cover}
 use Rattle.aiger_graph.specs.Literals.{reads_in, gate_at, cover_by}

@@ -1,4 +1,4 @@
-use Rattle.std.proofs.Common.{◌∙◌, true, List, take, length, get_or, set, slice_get, Some, refl, sym, ap, subst, arith}
+use Rattle.std.proofs.Common.{◌∙◌, List, take, length, get_or, slice_get, Some, refl, sym, ap, subst, arith}
 use Rattle.flat_net.specs.declared.signals.Signal.{Signal}
 use Rattle.flat_net.specs.View.{NetView}
 use Rattle.net_assembly.specs.Shown.{with_nexts}
