@@ -1,0 +1,10 @@
+pub mod LiteralLists
+pub mod FileParts
+pub mod DrivenOnce
+pub mod Naming
+pub mod Making
+pub mod Nexts
+pub mod Finishing
+pub mod Sections
+pub mod Faultless
+pub mod Answered

@@ -1,0 +1,4 @@
+pub mod Made
+pub mod Nets
+pub mod SignalNames
+pub mod Signals

@@ -1,0 +1,14 @@
+//! Reads a file of the AIGER formats `aag` and `aig` as a flat net.
+//!
+//! The formats are those of the AIGER format, version 20071012, with the resets of version 1.9.
+#![tactic(auto)]
+
+mod assembly;
+mod covers;
+mod finish;
+mod growth;
+mod plan;
+mod reader;
+
+pub use aiger_file::{AigerError, AigerKind};
+pub use reader::read_aiger;
