@@ -5,9 +5,11 @@ use Rattle.std.proofs.Common.{◌≡◌, ◌++◌, ℕ, List, [], ◌∷◌, tru
 use Rattle.circuit_theory.proofs.Lists.{Contains-head, Contains-tail, Contains-cases}
 use Rattle.proof_check.specs.Literals.{Literal}
 use Rattle.lrat_core.specs.Hints.{IsUnit, HintsGive}
-use Rattle.lrat_core.specs.Sequences.{AdditionGives, DeletionGives}
+use Rattle.lrat_core.specs.Sequences.{AdditionGives, DeletionGives, Accepted}
+use Rattle.lrat_core.specs.States.{numbered, start, with_clause, without_all}
+use Rattle.text_numbers.specs.Lines.{lines_of}
 use Rattle.lrat_text.specs.Verdicts.{TextGives}
-use Rattle.premise_rows.specs.Refutations.{UnitsAreRefuted, PairsAreRefuted}
+use Rattle.premise_rows.specs.Refutations.{UnitsAreRefuted, PairsAreRefuted, refuting}
 
 abbrev yes : ℕ → Literal
 yes v = record { variable = v; positive = true }
@@ -50,21 +52,37 @@ one_two = apart (yes 1) (yes 2) (λ e. omega (arith, e))
 not_one_two : no 1 ≡ yes 2 → ⊥
 not_one_two = apart (no 1) (yes 2) (λ e. omega (arith, e))
 
+-- the clauses of the first text
+abbrev all_pairs : List (List Literal)
+all_pairs = (yes 1 ∷ yes 2 ∷ []) ∷ (yes 1 ∷ no 2 ∷ []) ∷ (no 1 ∷ yes 2 ∷ []) ∷ (no 1 ∷ no 2 ∷ []) ∷ []
+
+-- the lines of the second
+abbrev from_addition : List (List ℕ)
+from_addition = codes "7 1 0 1 2 0" ∷ codes "8 d 1 2 0" ∷ codes "9 0 7 3 4 0" ∷ codes "what follows is not read" ∷ [] ∷ []
+
+are_lines : lines_of refuting ≡ codes "c a comment" ∷ [] ∷ from_addition
+are_lines = refl
+
+last_line : TextGives 2 (record { live = without_all (with_clause (numbered all_pairs) 7 (yes 1 ∷ [])) (1 ∷ 2 ∷ []); greatest = 7 }) 5 (codes "9 0 7 3 4 0" ∷ codes "what follows is not read" ∷ [] ∷ []) (Accepted 5)
+last_line =
+    TextGives.last refl
+    (AdditionGives.above (omega arith)
+    (HintsGive.unit refl (single (yes 1)) (HintsGive.unit refl (second (no 1) (yes 2) not_one_two) (HintsGive.conflict refl (λ l h. h)))))
+    refl
+
+from_deletion : TextGives 2 (record { live = with_clause (numbered all_pairs) 7 (yes 1 ∷ []); greatest = 7 }) 4 (codes "8 d 1 2 0" ∷ codes "9 0 7 3 4 0" ∷ codes "what follows is not read" ∷ [] ∷ []) (Accepted 5)
+from_deletion = TextGives.next refl (DeletionGives.is_live refl (DeletionGives.is_live refl DeletionGives.none_left)) (λ e. e) last_line
+
+whole : TextGives 2 (start all_pairs) 3 from_addition (Accepted 5)
+whole = TextGives.next refl (AdditionGives.above (omega arith) (HintsGive.unit refl (second (yes 1) (yes 2) one_two) (HintsGive.conflict refl (λ l h. h)))) (λ e. cc) from_deletion
+
 pub pairs_are_refuted : PairsAreRefuted
 pairs_are_refuted = record {
-  formula = record { variables = 2; clauses = (yes 1 ∷ yes 2 ∷ []) ∷ (yes 1 ∷ no 2 ∷ []) ∷ (no 1 ∷ yes 2 ∷ []) ∷ (no 1 ∷ no 2 ∷ []) ∷ [] };
+  formula = record { variables = 2; clauses = all_pairs };
   spells = record { short = omega arith; is = refl };
   line = 5;
   refutes = record {
     short = omega arith;
-    accepted =
-        TextGives.passed_over refl
-        (TextGives.passed_over refl
-        (TextGives.next refl (AdditionGives.above (omega arith) (HintsGive.unit refl (second (yes 1) (yes 2) one_two) (HintsGive.conflict refl (λ l h. h)))) (λ e. cc)
-        (TextGives.next refl (DeletionGives.is_live refl (DeletionGives.is_live refl DeletionGives.none_left)) (λ e. e)
-        (TextGives.last refl
-        (AdditionGives.above (omega arith)
-        (HintsGive.unit refl (single (yes 1)) (HintsGive.unit refl (second (no 1) (yes 2) not_one_two) (HintsGive.conflict refl (λ l h. h)))))
-        refl))));
+    accepted = subst (λ lines. TextGives 2 (start all_pairs) 1 lines (Accepted 5)) (sym are_lines) (TextGives.passed_over refl (TextGives.passed_over refl whole));
   };
 }

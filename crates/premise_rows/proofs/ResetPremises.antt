@@ -103,7 +103,7 @@ module _ (s t : Small) (a b : NetView) (left : IsSmall s a) (right : IsSmall t b
       let deep = depth_below side.0 side.1 side.2 side.3 in
       let cycle : p.0.0 ≡ start.cycle = ap (λ (z : PlaceInCycle ℕ). z.cycle) p.2 in
       let place : side.0.left ≡ start.place = sym side.5 ∙ ap (λ (z : PlaceInCycle ℕ). z.place) p.2 in
-      (start.cycle, omega (arith, deep, side.4, cycle), start.place, subst (Contains (outputs_in (circuit_of a))) place (left_output side.0 side.1), visits)
+      (start.cycle, omega (arith, deep, side.4, cycle), (start.place, subst (Contains (outputs_in (circuit_of a))) place (left_output side.0 side.1), visits))
 
   right_seen : (sides : List (ℕ × ℕ)) → ((p : ℕ × ℕ) → Contains sides p → IsRightStart (circuit_of a) (circuit_of b) p) → (y : WeighedInCycle ℕ) →
       ((start : PlaceInCycle ℕ) × Contains (starts_of sides) start × ResetVisits (circuit_of b) start.place start.cycle y.place y.cycle) →
@@ -114,7 +114,7 @@ module _ (s t : Small) (a b : NetView) (left : IsSmall s a) (right : IsSmall t b
       let deep = depth_below side.0 side.1 side.2 side.3 in
       let cycle : p.0.0 ≡ start.cycle = ap (λ (z : PlaceInCycle ℕ). z.cycle) p.2 in
       let place : side.0.right ≡ start.place = sym side.5 ∙ ap (λ (z : PlaceInCycle ℕ). z.place) p.2 in
-      (start.cycle, omega (arith, deep, side.4, cycle), start.place, subst (Contains (outputs_in (circuit_of b))) place (right_output side.0 side.1), visits)
+      (start.cycle, omega (arith, deep, side.4, cycle), (start.place, subst (Contains (outputs_in (circuit_of b))) place (right_output side.0 side.1), visits))
 
   pub light_from : times (s.weight + t.weight + 1) s.weight ≤ 2000000 → times (s.weight + t.weight + 1) t.weight ≤ 2000000 → (side : Side) → AreTooLargeFromReset a b side → ⊥
   light_from few_left few_right A (sides, are, over) =
