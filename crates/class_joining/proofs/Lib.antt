@@ -1,0 +1,6 @@
+pub mod Bounds
+pub mod Entries
+pub mod Classes
+pub mod Giving
+pub mod Tables
+pub mod Members

@@ -1,0 +1,25 @@
+-- An enable against the members of a class.
+use Rattle.std.specs.Prelude.{◌≡◌, ◌≢◌, ℕ, ◌*◌, ◌<◌, Bool, true, List, length, slice_get, Some}
+use Rattle.aig.specs.Rules.{IsAndOf}
+use Rattle.aig.specs.Values.{value}
+use Rattle.event_nodes.specs.Nodes.{EventGraphView}
+use Rattle.pair_decide.specs.declared.query.SameBy.{SameBy}
+use Rattle.pair_decide.specs.declared.query.Decision.TheVariants as answer
+use Rattle.enable_compare.specs.declared.compare.Enable.{Enable}
+use Rattle.enable_compare.specs.declared.fitting.Unlike.{Unlike}
+use Rattle.enable_compare.specs.Comparing.{IsComparison}
+
+-- no assignment under which both have care tells the two enables apart
+pub record AreSameEnables (w : EventGraphView) (x y : Enable) : Type 0 where
+  pub care : ℕ
+  pub both : IsAndOf w.graph x.care.0 y.care.0 care
+  pub within : care < 2 * length w.graph
+  pub same : (a : ℕ → Bool) → value w.graph a care ≡ true → value w.graph a x.value.0 ≡ value w.graph a y.value.0
+
+-- the enables of all members before are the same as the latch's, and the answer to the query of this member's and the latch's isn't that
+pub record IsFirstUnlike (w : EventGraphView) (members : List Enable) (latch : Enable) (conflicts : ℕ) (u : Unlike) : Type 0 where
+  pub enable : Enable
+  pub at : slice_get members u.member ≡ Some enable
+  pub before : (i : ℕ) (x : Enable) → i < u.member → slice_get members i ≡ Some x → AreSameEnables w x latch
+  pub compared : IsComparison w enable latch conflicts u.compared
+  pub unlike : (by : SameBy) → u.compared.decision ≢ answer.Same by
