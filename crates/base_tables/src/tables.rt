@@ -18,11 +18,21 @@ const FULL: usize = u32::MAX as usize;
 ///
 /// They stand in a hash table up to the first that falls into a crowded part of it, and from that one on in an ordered map. So no
 /// choice of names makes looking up slow.
-#[derive(Drop)]
 pub struct NameTable {
     early: HashedNames,
     crowd: Crowd,
     late: SortedNames,
+}
+
+/// It is let go by one call: an owner isn't taken apart field by field at each way out.
+impl Drop for NameTable {
+    fn drop(self) {
+        let NameTable {
+            early: _,
+            crowd: _,
+            late: _,
+        } = self;
+    }
 }
 
 impl Model for NameTable {
@@ -158,8 +168,13 @@ impl NameTable {
         ensures { IfOk result (λ words. words ≡ self) }
     {
         let mut words = Vec::with_capacity(alloc, self.len() as usize)?;
-        self.early.put_into(&mut words)?;
-        self.late.put_into(alloc, &mut words)?;
+        let NameTable {
+            early,
+            crowd: _,
+            late,
+        } = self;
+        early.put_into(&mut words)?;
+        late.put_into(alloc, &mut words)?;
         Ok(Seq::from_vec(words))
     }
 }
@@ -173,9 +188,15 @@ fn goes_early(crowd: &mut Crowd, early: &HashedNames, late: &SortedNames, name: 
 
 /// Pairs of numbers in the order in which they first came, each at the number of its place. A contract sees the
 /// list of pairs.
-#[derive(Drop)]
 pub struct PlaceTable {
     pairs: IndexSet<(u32, u32)>,
+}
+
+/// It is let go by one call: an owner isn't taken apart field by field at each way out.
+impl Drop for PlaceTable {
+    fn drop(self) {
+        let PlaceTable { pairs: _ } = self;
+    }
 }
 
 impl Model for PlaceTable {

@@ -19,7 +19,6 @@ use std::alloc::Global;
 use std::mem;
 
 /// A model whose lines are being read.
-#[derive(Drop)]
 pub(crate) struct OpenModel {
     pub(crate) name: Word,
     pub(crate) inputs: NameTable,
@@ -28,6 +27,20 @@ pub(crate) struct OpenModel {
     /// The statements before the `.names` whose rows are read.
     pub(crate) statements: Statements,
     pub(crate) block: Option<Block>,
+}
+
+/// It is let go by one call: an owner isn't taken apart field by field at each way out.
+impl Drop for OpenModel {
+    fn drop(self) {
+        let OpenModel {
+            name: _,
+            inputs: _,
+            outputs: _,
+            clocks: _,
+            statements: _,
+            block: _,
+        } = self;
+    }
 }
 
 impl OpenModel {

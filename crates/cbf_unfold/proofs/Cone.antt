@@ -19,7 +19,7 @@ use Rattle.aig.specs.Cone.{Reads, IsReached}
 use Rattle.aig.proofs.CoverMeaning.{Simple, simple}
 use Rattle.aig.proofs.Literals.{flip-half}
 use Rattle.cbf_unfold.specs.Unfolded.{IsNumberOf, IsUnfolded}
-use Rattle.cbf_unfold.proofs.Lists.{pairs_at}
+use Rattle.unfold_places.proofs.Lists.{pairs_at}
 
 -- what is reached from one node
 pub data From (g : List Node) (m : ℕ) : ℕ → Type 0 where

@@ -16,15 +16,15 @@ use Rattle.flat_net.specs.declared.signals.Signal.{Signal}
 use Rattle.aig.specs.declared.node.Lit.{Lit}
 use Rattle.aig.specs.declared.node.Node.{Node}
 use Rattle.aig.specs.Builds.{Builds}
-use Rattle.cbf_unfold.specs.Places.{Steps, weight_at}
-use Rattle.cbf_unfold.specs.Reach.{IsThere, AreUnmet, IsReach}
+use Rattle.unfold_places.specs.Places.{Steps, weight_at}
+use Rattle.unfold_places.specs.Reach.{IsThere, AreUnmet, IsReach}
 use Rattle.cbf_unfold.specs.View.{UnfolderView}
 use Rattle.cbf_unfold.specs.Unfolded.{IsNumberOf, IsUnfolded, Holds, Fits}
 use Rattle.cbf_unfold.specs.Building.{IsMet, HasRoom, IsLater, AreNumbered}
-use Rattle.cbf_unfold.proofs.Lists.{adds_contains}
+use Rattle.unfold_places.proofs.Lists.{adds_contains}
 use Rattle.cbf_unfold.proofs.PlaceLits.{zip_more_left}
 use Rattle.cbf_unfold.proofs.Going.{places_weigh}
-use Rattle.cbf_unfold.proofs.InputLists.{variable_of, inputs_are_variables}
+use Rattle.unfold_places.proofs.InputLists.{variable_of, inputs_are_variables}
 
 pub zip_map : {X Y Z : Type 0} (R : X → Y → Type 0) (S : X → Z → Type 0) (f : Y → Z) → ((x : X) (y : Y) → R x y → S x (f y)) → (xs : List X) (ys : List Y) → AllZip R xs ys → AllZip S xs (map f ys)
 zip_map R S f step [] [] h = tt

@@ -14,10 +14,10 @@ use Rattle.aig.specs.Graph.{Grows, IsLitOf}
 use Rattle.aig.specs.Rules.{IsCoverOf}
 use Rattle.aig.specs.Builds.{Builds, BuildsAll}
 use Rattle.aig.proofs.Growth.{Grows-length, Builds-grows}
-use Rattle.cbf_unfold.specs.Reach.{Adds}
+use Rattle.unfold_places.specs.Reach.{Adds}
 use Rattle.cbf_unfold.specs.View.{UnfolderView}
 use Rattle.cbf_unfold.specs.Unfolded.{IsKnown, IsNumberOf, IsUnfolded, Fits, Holds}
-use Rattle.cbf_unfold.proofs.Lists.{adds_at}
+use Rattle.unfold_places.proofs.Lists.{adds_at}
 
 -- whatever is added
 abbrev pub Any : ℕ × ℕ → Type 0

@@ -17,17 +17,18 @@ use Rattle.sec_base.proofs.TableLemmas.{slice_get-take}
 use Rattle.latch_graph.proofs.Trails.{slice_get-drop}
 use Rattle.aig.specs.declared.node.Lit.{Lit}
 use Rattle.aig.specs.declared.node.Node.{Node}
-use Rattle.cbf_unfold.specs.Places.{PlaceBefore, weight_at}
-use Rattle.cbf_unfold.specs.Reach.{AreInputsOf}
+use Rattle.unfold_places.specs.Places.{PlaceBefore, weight_at}
+use Rattle.unfold_places.specs.Reach.{AreInputsOf}
 use Rattle.cbf_unfold.specs.View.{UnfolderView}
 use Rattle.cbf_unfold.specs.Unfolded.{Holds, Fits}
 use Rattle.cbf_unfold.specs.Building.{AreNumbered}
-use Rattle.cbf_unfold.specs.Visitors.{AreMet, AreVisitors, AreCandidates, ArePlacesAt, IsFound, has_bit, with_bits}
+use Rattle.unfold_places.specs.Visitors.{AreMet, AreVisitors, AreCandidates, ArePlacesAt, has_bit, with_bits}
+use Rattle.cbf_unfold.specs.Found.{IsFound}
 use Rattle.cbf_unfold.specs.declared.unfolder.Unfolded.{Unfolded}
 use Rattle.cbf_unfold.proofs.PlaceLits.{zip_more_left}
-use Rattle.cbf_unfold.proofs.Zips.{zip_back}
-use Rattle.cbf_unfold.proofs.Candidates.{IsAt, places_differ, inputs_at}
-use Rattle.cbf_unfold.proofs.Drivers.{weight_positive}
+use Rattle.unfold_places.proofs.Zips.{zip_back}
+use Rattle.unfold_places.proofs.Candidates.{IsAt, places_differ, inputs_at}
+use Rattle.unfold_places.proofs.Drivers.{weight_positive}
 use Rattle.cbf_unfold.proofs.Going.{entries_within}
 use Rattle.cbf_unfold.proofs.Finish.{input_known}
 

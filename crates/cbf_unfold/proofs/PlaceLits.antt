@@ -1,12 +1,11 @@
 -- The literal of a place, by what drives its signal.
-use Rattle.std.proofs.Common.{◌≡◌, ◌∙◌, ◌+◌, ◌-◌, ◌*◌, ◌<◌, ◌≤◌, max, ℕ, List, [], ◌∷◌, ◌++◌, length, map, take, get_or, slice_get, Some, Result, Ok, Err, IfOk, IfSome, refl, sym, ap, subst, arith}
+use Rattle.std.proofs.Common.{◌≡◌, ◌∙◌, ◌+◌, ◌-◌, ◌*◌, ◌<◌, ◌≤◌, max, ℕ, List, [], ◌∷◌, ◌++◌, length, map, slice_get, Some, Result, Ok, Err, IfOk, IfSome, refl, sym, ap, subst, arith}
 use Rattle.std.specs.List.{All, AllZip, Contains}
-use Rattle.std.proofs.lemmas.List.{take_more}
 use Rattle.std.proofs.lemmas.List.Elements.{All-nil, All-cons}
 use Rattle.std.proofs.Math.Nat.{mul-le-mul_right}
 use Rattle.circuit_theory.specs.Tree.{IsInputNumber}
 use Rattle.circuit_theory.specs.Cover.{Cover}
-use Rattle.circuit_theory.proofs.Lists.{All-from_each, zip_push, zip_weaker}
+use Rattle.circuit_theory.proofs.Lists.{All-from_each, zip_weaker}
 use Rattle.circuit_theory.proofs.Numbers.{at_beside, slice_get-map}
 use Rattle.flat_net.specs.declared.signals.Signal.{Signal}
 use Rattle.flat_net.specs.declared.parts.Gate.{Gate}
@@ -20,18 +19,15 @@ use Rattle.aig.specs.Graph.{Grows, IsLitOf}
 use Rattle.aig.specs.declared.node.Node.TheVariants.{Input}
 use Rattle.aig.specs.Rules.{IsCoverOf, cover_room}
 use Rattle.aig.proofs.Growth.{Grows-refl}
-use Rattle.cbf_unfold.specs.Places.{weight_at, driver_weight, gate_weight}
+use Rattle.unfold_places.specs.Places.{weight_at, driver_weight, gate_weight}
 use Rattle.cbf_unfold.specs.View.{UnfolderView, IsOrderOf}
 use Rattle.cbf_unfold.specs.Unfolded.{IsKnown}
 use Rattle.cbf_unfold.specs.Building.{AreKnown, IsMet, IsReady, HasGrown, IsInputLit, IsGateLit}
-use Rattle.cbf_unfold.proofs.Lists.{adds_none, adds_weaker}
-use Rattle.cbf_unfold.proofs.Table.{interned}
-use Rattle.cbf_unfold.proofs.Drivers.{driven_gate, gate_equation_stands, gate_steps_to, latch_equation_stands, latch_steps_to}
+use Rattle.unfold_places.proofs.Lists.{adds_none, adds_weaker}
+use Rattle.unfold_places.proofs.Table.{interned}
+pub use Rattle.unfold_places.proofs.Zips.{zip_more_left}
+use Rattle.unfold_places.proofs.Drivers.{driven_gate, gate_equation_stands, gate_steps_to, latch_equation_stands, latch_steps_to}
 use Rattle.cbf_unfold.proofs.Known.{Any, known_later, known_input, known_latch, known_gate}
-
--- a pair of lists with one element more each
-pub zip_more_left : {X Y : Type 0} (R : X → Y → Type 0) (xs : List X) (ys : List Y) (i : ℕ) (d : X) (y : Y) → i < length xs → AllZip R (take i xs) ys → R (get_or xs i d) y → AllZip R (take (i + 1) xs) (ys ++ y ∷ [])
-zip_more_left R xs ys i d y inside zip here = subst (λ l. AllZip R l (ys ++ y ∷ [])) (sym (take_more xs i d inside)) (zip_push R (take i xs) ys (get_or xs i d) y zip here)
 
 -- what follows for each element on the right
 pub zip_all : {X Y : Type 0} (R : X → Y → Type 0) (P : Y → Type 0) → ((x : X) (y : Y) → R x y → P y) → (xs : List X) (ys : List Y) → AllZip R xs ys → All P ys

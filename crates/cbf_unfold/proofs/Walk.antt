@@ -13,12 +13,12 @@ use Rattle.sec_base.proofs.TableLemmas.{slice_get-take}
 use Rattle.flat_net.specs.View.{NetView, circuit_of}
 use Rattle.flat_net.specs.Sound.{IsSound}
 use Rattle.flat_net.proofs.Places.{All-at, one_at}
-use Rattle.cbf_unfold.specs.Places.{Steps, weight_at}
+use Rattle.unfold_places.specs.Places.{Steps, weight_at}
 use Rattle.aig.specs.declared.node.Lit.{Lit}
-use Rattle.cbf_unfold.specs.Reach.{Adds, IsThere, AreUnmet}
-use Rattle.cbf_unfold.proofs.Lists.{adds_at, adds_contains, adds_cases, adds_length, adds_take, there_later}
-use Rattle.cbf_unfold.proofs.Drivers.{weight_positive, step_within}
-use Rattle.cbf_unfold.proofs.Over.{pairs_differ, distinct_front, over_from}
+use Rattle.unfold_places.specs.Reach.{Adds, IsThere, AreUnmet}
+use Rattle.unfold_places.proofs.Lists.{adds_at, adds_contains, adds_cases, adds_length, adds_take, there_later}
+use Rattle.unfold_places.proofs.Drivers.{weight_positive, step_within}
+use Rattle.unfold_places.proofs.Over.{pairs_differ, distinct_front, over_from}
 
 -- the place is visited, and its signal is one of the net
 abbrev pub IsSeen : NetView → ℕ → ℕ → ℕ × ℕ → Type 0

@@ -8,9 +8,9 @@ use Rattle.aig.specs.declared.node.Node.{Node}
 use Rattle.aig.specs.declared.node.Node.TheVariants.{Input}
 use Rattle.aig.specs.Graph.{Grows, IsLitOf}
 use Rattle.aig.specs.Rules.{IsCoverOf}
-use Rattle.cbf_unfold.specs.Places.{Steps, PlaceBefore, IsVisited}
-use Rattle.cbf_unfold.specs.Reach.{Adds, AreInputsAt}
-pub use Rattle.cbf_unfold.specs.Reach.{IsMet}
+use Rattle.unfold_places.specs.Places.{Steps, PlaceBefore, IsVisited}
+use Rattle.unfold_places.specs.Reach.{Adds, AreInputsAt}
+pub use Rattle.unfold_places.specs.Reach.{IsMet}
 use Rattle.cbf_unfold.specs.View.{UnfolderView}
 use Rattle.cbf_unfold.specs.Unfolded.{IsKnown}
 

@@ -1,8 +1,10 @@
-pub mod Places
-pub mod Reach
-pub mod Planned
-pub mod Visitors
+pub use Rattle.unfold_places.specs.Places
+pub use Rattle.unfold_places.specs.Reach
+pub use Rattle.unfold_places.specs.Planned
+pub use Rattle.unfold_places.specs.InputOrder
+pub use Rattle.unfold_places.specs.Visitors
 pub mod View
 pub mod Unfolded
 pub mod Laws
 pub mod Building
+pub mod Found

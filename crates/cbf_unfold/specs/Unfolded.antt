@@ -10,9 +10,9 @@ use Rattle.flat_net.specs.View.{NetView, circuit_of}
 use Rattle.aig.specs.declared.node.Lit.{Lit}
 use Rattle.aig.specs.declared.node.Node.{Node}
 use Rattle.aig.specs.Builds.{Builds}
-use Rattle.cbf_unfold.specs.Places.{IsVisited, weight_at}
+use Rattle.unfold_places.specs.Places.{IsVisited, weight_at}
 use Rattle.cbf_unfold.specs.View.{UnfolderView}
-use Rattle.cbf_unfold.specs.Planned.{IsPlanned}
+use Rattle.unfold_places.specs.Planned.{IsPlanned}
 
 -- the number of the variable in the table
 abbrev pub IsNumberOf : List (ℕ × ℕ) → ℕ → Variable ℕ → Type 0

@@ -1,9 +1,9 @@
 -- What a contract sees of an unfolder.
-use Rattle.std.specs.Prelude.{◌≡◌, ℕ, ◌≤◌, List, length}
+use Rattle.std.specs.Prelude.{◌≡◌, ℕ, ◌≤◌, List}
 use Rattle.sec_base.specs.declared.limits.TheConstants.{MAX_WEIGHT}
-use Rattle.sec_base.specs.Table.{AreDistinct}
 use Rattle.flat_net.specs.View.{NetView}
 use Rattle.aig.specs.declared.node.Lit.{Lit}
+pub use Rattle.unfold_places.specs.InputOrder.{IsOrderOf}
 
 pub record UnfolderView : Type 0 where
   pub net : NetView
@@ -17,11 +17,6 @@ pub record UnfolderView : Type 0 where
   pub memo : List ((ℕ × ℕ) × Lit)
   -- what these places weigh together
   pub weight : ℕ
-
--- one distinct number for each input of the net
-pub record IsOrderOf (n : NetView) (order : List ℕ) : Type 0 where
-  pub each : length order ≡ length n.inputs
-  pub distinct : AreDistinct order
 
 -- what each unfolder keeps
 pub record IsUnfolder (u : UnfolderView) : Type 0 where

@@ -4,16 +4,13 @@
 
 mod error;
 mod laws;
-pub mod memo;
 pub mod reached_places;
-pub mod reads;
 mod unfolder;
-mod variables;
-mod visitors;
 
 pub use error::UnfoldError;
 pub use laws::{
     constant_reaches_none, equal_trees_one_literal, fits_later, literal_is_run, reached_from_one,
     unfolded_later, variables_cover_cone, windows,
 };
+pub use unfold_places::{memo, reads};
 pub use unfolder::{Unfolded, Unfolder};

@@ -3,15 +3,15 @@
 ghost use Rattle.std.specs.Prelude.{◌≡◌, ℕ, ◌<◌, ◌≤◌, [], ◌∷◌, length, IfOk};
 ghost use Rattle.circuit_theory.specs.Sizes.{IsOver};
 ghost use Rattle.flat_net.specs.View.{circuit_of};
-ghost use Rattle.cbf_unfold.specs.Reach.{AreUnmet, IsReach};
+ghost use Rattle.unfold_places.specs.Reach.{AreUnmet, IsReach};
 ghost use Rattle.cbf_unfold.specs.declared.error.UnfoldError.TheVariants as unfold_error;
 
 use crate::error::UnfoldError;
-use crate::memo::{Memo, Place};
-use crate::reads::{add, add_read, weigh};
 use flat_net::{Net, Signal};
 use sec_base::{MAX_WEIGHT, NoMemory, PlaceTable};
 use std::alloc::Global;
+use unfold_places::memo::{Memo, Place};
+use unfold_places::reads::{add, add_read, weigh};
 
 /// The places that the unfolding of the signal visits and that haven't been met, in an order of evaluation. It doesn't look
 /// behind a place that has been met. The signal stands in the cycle `cap`. `TooLarge` comes only where they weigh more than

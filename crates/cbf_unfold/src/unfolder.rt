@@ -16,13 +16,13 @@ mod places;
 mod rooting;
 
 use crate::error::UnfoldError;
-use crate::memo::{Memo, Place};
 use aig::{Aig, Lit};
 use flat_net::{Net, Signal};
 use latch_graph::LatchGraph;
 use sec_base::{Ids, MAX_WEIGHT, NoMemory, PlaceTable};
 use std::alloc::Global;
 use std::marker::Model;
+use unfold_places::memo::{Memo, Place};
 
 /// A signal as a function of inputs at earlier cycles.
 #[derive(Drop)]

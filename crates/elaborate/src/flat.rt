@@ -50,7 +50,6 @@ impl Duplicate for FlatStatement {
 pub type FlatStatements = Seq<FlatStatement>;
 
 /// The flat statements of a design in the order of the walk, the main model's ports, and the flat names by number.
-#[derive(Drop)]
 pub struct Flat {
     pub names: NameTable,
     pub inputs: Ids,
@@ -69,6 +68,19 @@ pub struct Flat {
     /// There are at most 400,000 statements, and they write 4,000,000 names at most.
     ghost few: { length statements ≤ MAX_STATEMENTS },
     ghost few_places: { sum_by written_places statements ≤ MAX_PLACES },
+}
+
+/// It is let go by one call: an owner isn't taken apart field by field at each way out.
+impl Drop for Flat {
+    fn drop(self) {
+        let Flat {
+            names: _,
+            inputs: _,
+            clocks: _,
+            outputs: _,
+            statements: _,
+        } = self;
+    }
 }
 
 impl Flat {

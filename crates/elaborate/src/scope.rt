@@ -16,11 +16,21 @@ pub(crate) struct Step {
 
 /// A scope of the hierarchy: the steps that lead to it from the main model, the number of the model there, and what
 /// stands before the names of its signals.
-#[derive(Drop)]
 pub(crate) struct Scope {
     pub(crate) steps: Vec<Step>,
     pub(crate) model: u32,
     pub(crate) prefix: Word,
+}
+
+/// It is let go by one call: an owner isn't taken apart field by field at each way out.
+impl Drop for Scope {
+    fn drop(self) {
+        let Scope {
+            steps: _,
+            model: _,
+            prefix: _,
+        } = self;
+    }
 }
 
 impl Scope {

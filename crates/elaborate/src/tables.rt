@@ -12,7 +12,6 @@ use sec_base::{NameTable, NoMemory, Word};
 use std::alloc::Global;
 
 /// The ports of a model.
-#[derive(Drop)]
 pub(crate) struct Formals {
     /// Inputs and clocks.
     pub(crate) inputs: NameTable,
@@ -21,11 +20,31 @@ pub(crate) struct Formals {
     pub(crate) room: usize,
 }
 
+/// It is let go by one call: an owner isn't taken apart field by field at each way out.
+impl Drop for Formals {
+    fn drop(self) {
+        let Formals {
+            inputs: _,
+            outputs: _,
+            room: _,
+        } = self;
+    }
+}
+
 /// The names of the models by number, and for each model its ports.
-#[derive(Drop)]
 pub(crate) struct Tables {
     pub(crate) names: NameTable,
     pub(crate) formals: Vec<Formals>,
+}
+
+/// It is let go by one call: an owner isn't taken apart field by field at each way out.
+impl Drop for Tables {
+    fn drop(self) {
+        let Tables {
+            names: _,
+            formals: _,
+        } = self;
+    }
 }
 
 impl Formals {

@@ -4,7 +4,6 @@ ghost use Rattle.std.specs.Prelude.{◌≡◌, ◌≢◌, ◌+◌, ◌++◌, [],
 ghost use Rattle.std.specs.List.{list_any};
 ghost use Rattle.blif_read.specs.Kept.{names_in_option};
 ghost use Rattle.elaborate.specs.declared.error.FlatError.TheVariants as flat_error;
-ghost use Rattle.elaborate.specs.declared.flat.FlatKind.TheVariants as flat_kind;
 ghost use Rattle.elaborate.specs.Flat.{gate, latch, cover_at};
 ghost use Rattle.elaborate.specs.Walking.{is_too_many};
 ghost use Rattle.elaborate.specs.Scopes.{is_long_behind};
@@ -19,12 +18,23 @@ use sec_base::{Edge, Init, MAX_PLACES, MAX_STATEMENTS, NameTable, NoMemory, Seq,
 use std::alloc::Global;
 
 /// The flat statements so far with the names of their signals, and how many statements and places were counted.
-#[derive(Drop)]
 pub(crate) struct Walked {
     pub(crate) names: NameTable,
     pub(crate) statements: FlatStatements,
     pub(crate) count: usize,
     pub(crate) places: usize,
+}
+
+/// It is let go by one call: an owner isn't taken apart field by field at each way out.
+impl Drop for Walked {
+    fn drop(self) {
+        let Walked {
+            names: _,
+            statements: _,
+            count: _,
+            places: _,
+        } = self;
+    }
 }
 
 impl Walked {
@@ -101,8 +111,7 @@ impl Walked {
         requires { IsKept self.old }
         ensures { OnOk result (Adds (λ models. record { out = prefix.now ++ output.now; reads = (prefix.now ++ input.now) ∷ []; kind = latch edge (option_map (λ word. prefix.now ++ word) control.now) init } ∷ []) self.old self.new) }
     {
-        let mut reads = Seq::new(alloc);
-        reads.push(number(alloc, &mut self.names, prefix, input)?)?;
+        let data = number(alloc, &mut self.names, prefix, input)?;
         let out = number(alloc, &mut self.names, prefix, output)?;
         let control = number_of_option(alloc, &mut self.names, prefix, control)?;
         let kind = FlatKind::Latch {
@@ -110,7 +119,7 @@ impl Walked {
             control,
             init,
         };
-        self.statements.push(FlatStatement { out, reads, kind })?;
+        self.add_statement(alloc, out, data, kind)?;
         Ok(())
     }
 
@@ -160,13 +169,18 @@ impl Walked {
         Ok(())
     }
 
-    /// Adds a port that drives the first signal with the other.
-    fn add_port(&mut self, alloc: Global, out: u32, from: u32) -> Result<(), NoMemory>
-        ensures { OnOk result (self.new ≡ record self.old { statements = self.old.statements ++ record { out = out; reads = from ∷ []; kind = flat_kind.Port } ∷ [] }) }
+    /// Adds a latch or a port that drives the first signal and reads the other.
+    fn add_statement(
+        &mut self,
+        alloc: Global,
+        out: u32,
+        from: u32,
+        kind: FlatKind,
+    ) -> Result<(), NoMemory>
+        ensures { OnOk result (self.new ≡ record self.old { statements = self.old.statements ++ record { out = out; reads = from ∷ []; kind = kind } ∷ [] }) }
     {
         let mut reads = Seq::new(alloc);
         reads.push(from)?;
-        let kind = FlatKind::Port;
         self.statements.push(FlatStatement { out, reads, kind })?;
         Ok(())
     }
@@ -186,9 +200,9 @@ impl Walked {
         let actual = number(alloc, &mut self.names, outer, pair.actual.as_slice())?;
         let formal = number(alloc, &mut self.names, inner, pair.formal.as_slice())?;
         if inputs.has(pair.formal.as_slice()) {
-            self.add_port(alloc, formal, actual)?;
+            self.add_statement(alloc, formal, actual, FlatKind::Port)?;
         } else {
-            self.add_port(alloc, actual, formal)?;
+            self.add_statement(alloc, actual, formal, FlatKind::Port)?;
         }
         Ok(())
     }

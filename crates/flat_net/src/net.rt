@@ -20,7 +20,6 @@ use std::marker::Model;
 
 /// A flat circuit. Each signal has one driver and a name of its own, and each gate stands behind the gates that it
 /// reads. A contract sees the record of its lists.
-#[derive(Drop)]
 pub struct Net {
     inputs: Vec<Port>,
     outputs: Vec<Port>,
@@ -30,6 +29,22 @@ pub struct Net {
     drivers: Vec<Driver>,
     names: NameTable,
     clock: Option<Word>,
+}
+
+/// It is let go by one call: an owner isn't taken apart field by field at each way out.
+impl Drop for Net {
+    fn drop(self) {
+        let Net {
+            inputs: _,
+            outputs: _,
+            gates: _,
+            latches: _,
+            covers: _,
+            drivers: _,
+            names: _,
+            clock: _,
+        } = self;
+    }
 }
 
 impl Model for Net {

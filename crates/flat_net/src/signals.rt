@@ -3,7 +3,6 @@
 ghost use Rattle.std.specs.Prelude.{◌≡◌, List, [], ◌∷◌, ◌++◌, length, OnOk, OnErr, IfOk};
 
 use sec_base::{Duplicate, NoMemory};
-use smallvec::SmallVec;
 use std::alloc::Global;
 use std::marker::Model;
 
@@ -17,10 +16,10 @@ impl Duplicate for Signal {
     }
 }
 
-/// A list of signals, of which up to four take no memory of their own. A contract sees it as the list.
+/// A list of signals. A contract sees it as the list.
 #[derive(Drop)]
 pub struct Signals {
-    items: SmallVec<Signal, 4>,
+    items: Vec<Signal>,
 }
 
 impl Model for Signals {
@@ -38,7 +37,7 @@ impl Signals {
         ensures { result ≡ [] }
     {
         Signals {
-            items: SmallVec::new(alloc),
+            items: Vec::new(alloc),
         }
     }
 
@@ -70,7 +69,7 @@ impl Signals {
         ensures { IfOk result (λ made. made ≡ self.now) }
     {
         Ok(Signals {
-            items: SmallVec::from_slice(*self.items.allocator(), self.items.as_slice())?,
+            items: Vec::from_slice(*self.items.allocator(), self.items.as_slice())?,
         })
     }
 }

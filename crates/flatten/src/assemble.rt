@@ -14,11 +14,21 @@ use std::alloc::Global;
 use std::mem;
 
 /// The net so far, the signal of each number that has one, and which covers the net has.
-#[derive(Drop)]
 pub(crate) struct Assembly {
     pub(crate) maker: NetMaker,
     pub(crate) signals: Vec<Signal>,
     pub(crate) covers: PlaceTable,
+}
+
+/// It is let go by one call: an owner isn't taken apart field by field at each way out.
+impl Drop for Assembly {
+    fn drop(self) {
+        let Assembly {
+            maker: _,
+            signals: _,
+            covers: _,
+        } = self;
+    }
 }
 
 impl Assembly {
@@ -28,9 +38,10 @@ impl Assembly {
         ensures signals { IfOk result (λ a. a.signals.items ≡ replicate size (record { 0 = 0 })) }
         ensures covers { IfOk result (λ a. a.covers ≡ []) }
     {
+        let signals = vec![in alloc; Signal(0); size]?;
         Ok(Assembly {
             maker: NetMaker::new(alloc),
-            signals: vec![in alloc; Signal(0); size]?,
+            signals,
             covers: PlaceTable::new(alloc),
         })
     }

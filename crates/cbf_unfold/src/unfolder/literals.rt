@@ -4,17 +4,17 @@ ghost use Rattle.std.specs.Prelude.{◌≡◌, ℕ, ◌+◌, ◌-◌, ◌*◌, �
 ghost use Rattle.std.specs.List.{AllZip};
 ghost use Rattle.aig.specs.declared.node.Lit.{Lit};
 ghost use Rattle.aig.specs.Graph.{Grows};
-ghost use Rattle.cbf_unfold.specs.Places.{gate_weight, weight_at};
+ghost use Rattle.unfold_places.specs.Places.{gate_weight, weight_at};
 ghost use Rattle.cbf_unfold.specs.Unfolded.{IsKnown};
 ghost use Rattle.cbf_unfold.specs.Building.{AreKnown, IsMet, IsReady, HasGrown, IsInputLit, IsGateLit};
 
 use super::Unfolder;
-use crate::memo::Place;
-use crate::reads::{gate_of, latch_of};
 use aig::{Aig, Lit};
 use flat_net::{Driver, Signal};
 use sec_base::{NoMemory, PlaceTable};
 use std::alloc::Global;
+use unfold_places::memo::Place;
+use unfold_places::reads::{gate_of, latch_of};
 
 impl<'a> Unfolder<'a> {
     /// The literal of a place that can be unfolded.

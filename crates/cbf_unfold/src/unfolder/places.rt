@@ -3,19 +3,19 @@
 ghost use Rattle.std.specs.Prelude.{◌≡◌, ℕ, ◌+◌, ◌^◌, ◌<◌, ◌≤◌, length, Contains, OnOk};
 ghost use Rattle.circuit_theory.specs.Sizes.{IsOver};
 ghost use Rattle.flat_net.specs.View.{circuit_of};
-ghost use Rattle.cbf_unfold.specs.Reach.{IsReach};
+ghost use Rattle.unfold_places.specs.Reach.{IsReach};
 ghost use Rattle.cbf_unfold.specs.Unfolded.{Holds};
 ghost use Rattle.cbf_unfold.specs.Building.{IsMet, IsReady, HasRoom, IsLater};
 ghost use Rattle.cbf_unfold.specs.declared.error.UnfoldError.TheVariants as unfold_error;
 
 use super::Unfolder;
 use crate::error::UnfoldError;
-use crate::memo::Place;
-use crate::reads::weigh;
 use aig::Aig;
 use flat_net::Signal;
 use sec_base::PlaceTable;
 use std::alloc::Global;
+use unfold_places::memo::Place;
+use unfold_places::reads::weigh;
 
 impl<'a> Unfolder<'a> {
     /// Unfolds all places of one of the signals that are to be unfolded.

@@ -1,7 +1,7 @@
 //! How a net grows, signal by signal.
 
 ghost use Rattle.std.specs.Prelude.{◌≡◌, ◌+◌, ◌^◌, ◌<◌, ℕ, false, [], ◌∷◌, ◌++◌, length, slice_get, vec_len, vec_capacity, Some, All, IfOk, IsSomeAnd, OnOk, OnErr};
-ghost use Rattle.sec_base.specs.Table.{is_among};
+ghost use Rattle.sec_base.specs.Table.{AreDistinct, is_among};
 ghost use Rattle.flat_net.specs.Makes.{empty_net, with_input, with_latch, with_gate, with_cover, with_output, with_next, with_clock};
 
 use super::Net;
@@ -42,9 +42,13 @@ impl Net {
         let signal = Signal(self.drivers.len() as u32);
         let number = self.inputs.len() as u32;
         let name_kept = Seq::from_vec(name.to_vec(alloc)?);
-        make_room(&mut self.inputs, &mut self.drivers)?;
-        self.names.intern(alloc, name)?;
-        self.names.keeps();
+        enter(
+            alloc,
+            &mut self.names,
+            &mut self.drivers,
+            &mut self.inputs,
+            name,
+        )?;
         push_within(
             &mut self.inputs,
             Port {
@@ -71,9 +75,13 @@ impl Net {
         let signal = Signal(self.drivers.len() as u32);
         let number = self.latches.len() as u32;
         let name_kept = Seq::from_vec(name.to_vec(alloc)?);
-        make_room(&mut self.latches, &mut self.drivers)?;
-        self.names.intern(alloc, name)?;
-        self.names.keeps();
+        enter(
+            alloc,
+            &mut self.names,
+            &mut self.drivers,
+            &mut self.latches,
+            name,
+        )?;
         push_within(
             &mut self.latches,
             LatchAt {
@@ -104,9 +112,13 @@ impl Net {
     {
         let out = Signal(self.drivers.len() as u32);
         let number = self.gates.len() as u32;
-        make_room(&mut self.gates, &mut self.drivers)?;
-        self.names.intern(alloc, name)?;
-        self.names.keeps();
+        enter(
+            alloc,
+            &mut self.names,
+            &mut self.drivers,
+            &mut self.gates,
+            name,
+        )?;
         push_within(&mut self.gates, Gate { fanins, cover, out });
         push_within(&mut self.drivers, Driver::Gate(number));
         Ok(out)
@@ -165,15 +177,28 @@ impl Net {
     }
 }
 
-/// Makes room for one item more in both.
-fn make_room<T, U>(items: &mut Vec<T>, others: &mut Vec<U>) -> Result<(), NoMemory>
+/// Puts the name of a new signal last, with room for its driver and for one item more. After `NoMemory` no name has come.
+fn enter<T>(
+    alloc: Global,
+    names: &mut NameTable,
+    drivers: &mut Vec<Driver>,
+    items: &mut Vec<T>,
+    name: &[u8],
+) -> Result<(), NoMemory>
+    requires room { length names.old + 1 < 2 ^ 32 }
+    requires new { is_among names.old name.now ≡ false }
+    ensures names { OnOk result (names.new ≡ names.old ++ name.now ∷ []) }
+    ensures err { OnErr result (names.new ≡ names.old) }
+    ensures distinct { OnOk result (AreDistinct names.new) }
+    ensures drivers { drivers.new.items ≡ drivers.old.items }
     ensures items { items.new.items ≡ items.old.items }
-    ensures others { others.new.items ≡ others.old.items }
-    ensures room { OnOk result (vec_len items.new < vec_capacity items.new) }
-    ensures other_room { OnOk result (vec_len others.new < vec_capacity others.new) }
+    ensures driver_room { OnOk result (vec_len drivers.new < vec_capacity drivers.new) }
+    ensures item_room { OnOk result (vec_len items.new < vec_capacity items.new) }
 {
     items.reserve(1)?;
-    others.reserve(1)?;
+    drivers.reserve(1)?;
+    names.intern(alloc, name)?;
+    names.keeps();
     Ok(())
 }
 

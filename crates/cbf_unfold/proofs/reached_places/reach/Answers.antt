@@ -1,5 +1,5 @@
 -- The places are distinct, so that in order each stands strictly before the next.
-use Rattle.cbf_unfold.proofs.Order.{sorted_reach}
+use Rattle.unfold_places.proofs.Order.{sorted_reach}
 use Rattle.cbf_unfold.proofs.reached_places.reach.Goals as goal
 
 pub returns-clause-reach : goal.returns-clause-reach

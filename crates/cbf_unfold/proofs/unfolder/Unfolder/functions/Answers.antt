@@ -6,7 +6,8 @@ use Rattle.flat_net.specs.declared.signals.Signal.{Signal}
 use Rattle.flat_net.specs.View.{circuit_of}
 use Rattle.cbf_unfold.specs.declared.unfolder.Unfolded.{Unfolded}
 use Rattle.cbf_unfold.specs.Unfolded.{Fits}
-use Rattle.cbf_unfold.specs.Visitors.{IsFound, AreLinks, AreInputNumbers}
+use Rattle.unfold_places.specs.Visitors.{AreLinks, AreInputNumbers}
+use Rattle.cbf_unfold.specs.Found.{IsFound}
 use Rattle.cbf_unfold.proofs.unfolder.Unfolder.functions.Goals as goal
 
 pub inputs-requires : goal.inputs-requires

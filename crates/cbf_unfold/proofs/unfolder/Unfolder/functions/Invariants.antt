@@ -1,6 +1,6 @@
 use Rattle.std.proofs.Common.{◌≡◌, ◌≤◌, ◌-◌, length, take}
 use Rattle.std.specs.List.{AllZip}
-use Rattle.cbf_unfold.specs.Visitors.{IsFound}
+use Rattle.cbf_unfold.specs.Found.{IsFound}
 use Rattle.cbf_unfold.proofs.unfolder.Unfolder.functions.Given as goal
 
 abbrev pub invariant-loop-alloc : goal.invariant-loop-alloc

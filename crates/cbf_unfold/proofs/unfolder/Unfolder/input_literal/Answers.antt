@@ -2,7 +2,7 @@
 use Rattle.std.proofs.Common.{◌-◌, get_or, length, ap, arith}
 use Rattle.std.proofs.lemmas.Option.{slice_get_within, slice_get-get_or}
 use Rattle.cbf_unfold.proofs.PlaceLits.{grown_none, input_lit, input_grown}
-use Rattle.cbf_unfold.proofs.Table.{interned}
+use Rattle.unfold_places.proofs.Table.{interned}
 use Rattle.cbf_unfold.proofs.unfolder.Unfolder.input_literal.Goals as goal
 
 pub returns-in_err-variable-clause-grown : goal.returns-in_err-variable-clause-grown

@@ -2,9 +2,9 @@
 use Rattle.std.proofs.Common.{◌≡◌, ◌∙◌, ◌<◌, ℕ, List, [], ◌∷◌, length, sym, ap, subst, arith, refl}
 use Rattle.std.specs.List.{Contains}
 use Rattle.flat_net.specs.View.{circuit_of}
-use Rattle.cbf_unfold.specs.Visitors.{AreLinks, AreInputNumbers, AreVisitors}
+use Rattle.unfold_places.specs.Visitors.{AreLinks, AreInputNumbers, AreVisitors}
 use Rattle.cbf_unfold.proofs.Listing.{single}
-use Rattle.cbf_unfold.proofs.Candidates.{candidates_all}
+use Rattle.unfold_places.proofs.Candidates.{candidates_all}
 use Rattle.cbf_unfold.proofs.unfolder.Unfolder.list_of.Goals as goal
 
 pub inputs-requires : goal.inputs-requires

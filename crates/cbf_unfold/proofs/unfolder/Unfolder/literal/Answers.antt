@@ -4,8 +4,8 @@ use Rattle.std.proofs.lemmas.Option.{slice_get_within}
 use Rattle.flat_net.specs.declared.parts.Driver.TheVariants as driver
 use Rattle.flat_net.specs.View.{NetView}
 use Rattle.flat_net.specs.Sound.{IsSound}
-use Rattle.cbf_unfold.specs.Places.{driver_weight, weight_at}
-use Rattle.cbf_unfold.proofs.Drivers.{driven_gate, driven_latch}
+use Rattle.unfold_places.specs.Places.{driver_weight, weight_at}
+use Rattle.unfold_places.proofs.Drivers.{driven_gate, driven_latch}
 use Rattle.cbf_unfold.proofs.PlaceLits.{input_is, gate_is, gate_met, gate_counts, gate_grown, grown_as, grown_none, latch_met, latch_is}
 use Rattle.cbf_unfold.proofs.unfolder.Unfolder.literal.Goals as goal
 

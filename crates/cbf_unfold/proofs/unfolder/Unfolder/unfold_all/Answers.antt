@@ -7,7 +7,7 @@ use Rattle.circuit_theory.proofs.Lists.{zip_weaker}
 use Rattle.cbf_unfold.specs.declared.unfolder.Unfolded.{Unfolded}
 use Rattle.cbf_unfold.specs.Unfolded.{IsUnfolded, Fits}
 use Rattle.cbf_unfold.specs.Building.{IsLater}
-use Rattle.cbf_unfold.specs.Visitors.{IsFound}
+use Rattle.cbf_unfold.specs.Found.{IsFound}
 use Rattle.cbf_unfold.proofs.Finish.{room_first, unfolded_from, are_done}
 use Rattle.cbf_unfold.proofs.unfolder.Unfolder.unfold_all.Goals as goal
 

@@ -4,7 +4,7 @@ use Rattle.std.specs.List.{All, AllPairs, AllZip, Contains}
 use Rattle.flat_net.specs.View.{NetView, circuit_of}
 use Rattle.flat_net.specs.Sound.{IsSound}
 use Rattle.aig.specs.declared.node.Lit.{Lit}
-use Rattle.cbf_unfold.specs.Reach.{AreInputsOf}
+use Rattle.unfold_places.specs.Reach.{AreInputsOf}
 use Rattle.cbf_unfold.specs.View.{IsOrderOf}
 use Rattle.cbf_unfold.proofs.Finish.{from_own, to_own}
 use Rattle.cbf_unfold.proofs.Listing.{visited_within, visited_differ, found_early, found_known, are_numbered}

@@ -8,7 +8,7 @@ use Rattle.flat_net.proofs.net.Net.add_gate.Goals as goal
 
 pub invariant_of-self-2 : goal.invariant_of-self-2
 invariant_of-self-2 c =
-    let names : c.intern.new.self ≡ c.args.self.now.names ++ c.args.name.now ∷ [] = search rules in
+    let names : c.enter.new.names ≡ c.args.self.now.names ++ c.args.name.now ∷ [] = search rules in
     sound_along (with_gate c.args.self.now c.args.name.now c.args.fanins c.args.cover)
-    (sound_gate c.args.self.now c.args.name.now c.args.fanins c.args.cover (subst IsSound c.self.view_is c.self.invariant) (subst AreDistinct names c.keeps.ensures) c.requires.room c.requires.within c.requires.fits)
+    (sound_gate c.args.self.now c.args.name.now c.args.fanins c.args.cover (subst IsSound c.self.view_is c.self.invariant) (subst AreDistinct names c.in_ok-enter.ensures.distinct) c.requires.room c.requires.within c.requires.fits)
     (search rules)

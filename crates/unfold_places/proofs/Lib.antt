@@ -1,0 +1,14 @@
+pub mod Lists
+pub mod Table
+pub mod Drivers
+pub mod Weighing
+pub mod ReadPlaces
+pub mod Over
+pub mod PairTest
+pub mod Order
+pub mod Entries
+pub mod InputLists
+pub mod Zips
+pub mod Words
+pub mod Passing
+pub mod Candidates

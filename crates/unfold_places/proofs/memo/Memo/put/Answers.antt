@@ -1,0 +1,12 @@
+-- A new key goes last.
+use Rattle.std.proofs.Common.{◌∙◌, ◌++◌, ◌∷◌, [], ℕ, List, map, sym, ap, subst, Contains}
+use Rattle.indexmap.proofs.CallerLemmas.{insert_entry-new}
+use Rattle.aig.specs.declared.node.Lit.{Lit}
+use Rattle.unfold_places.proofs.Entries.{absent_key}
+use Rattle.unfold_places.proofs.PairTest.{same_pair}
+use Rattle.unfold_places.proofs.memo.Memo.put.Goals as goal
+
+pub returns-clause-ok : goal.returns-clause-ok
+returns-clause-ok c =
+    let none = absent_key c.args.place c.self.inside.lits.entries (subst (λ (es : List ((ℕ × ℕ) × Lit)). Contains (map (λ e. e.0) es) c.args.place → ⊥) (sym c.self.view_is) c.requires) in
+    c.in_ok-insert.ensures.entries ∙ insert_entry-new same_pair c.self.inside.lits c.args.place c.args.lit none ∙ ap (λ (es : List ((ℕ × ℕ) × Lit)). es ++ (c.args.place, c.args.lit) ∷ []) c.self.view_is

@@ -1,0 +1,36 @@
+-- What drives the signal says what its place reads.
+use Rattle.std.proofs.Common.{◌∙◌, ap, Some}
+use Rattle.std.proofs.lemmas.Option.{slice_get_within}
+use Rattle.unfold_places.specs.Reach.{IsThere}
+use Rattle.unfold_places.proofs.Drivers.{input_steps, driven_gate, driven_latch}
+use Rattle.unfold_places.proofs.ReadPlaces.{gate_adds, gate_all_ok, latch_adds, latch_all_ok}
+use Rattle.unfold_places.proofs.reads.add_read.Goals as goal
+
+pub gate_of-requires : goal.gate_of-requires
+gate_of-requires c =
+    let g = driven_gate _ c.keeps.ensures.sound _ _ (c.driver.ensures ∙ ap Some c.in-Gate.is) in
+    slice_get_within _ _ g.0 g.1
+
+pub latch_of-requires : goal.latch_of-requires
+latch_of-requires c =
+    let l = driven_latch _ c.keeps.ensures.sound _ _ (c.driver.ensures ∙ ap Some c.in-Latch.is) in
+    slice_get_within _ _ l.0 l.1
+
+pub returns-in-Input-clause-all : goal.returns-in-Input-clause-all
+returns-in-Input-clause-all c = λ q steps. absurd (input_steps _ c.keeps.ensures.sound _ _ _ q (c.driver.ensures ∙ ap Some c.in-Input.is) steps)
+
+pub returns-in-Gate-clause-adds : goal.returns-in-Gate-clause-adds
+returns-in-Gate-clause-adds c =
+    gate_adds _ c.keeps.ensures.sound _ _ _ _ _ (c.driver.ensures ∙ ap Some c.in-Gate.is) _ c.gate_of.ensures _ c.as_slice.ensures c.add_fanins.ensures.adds
+
+pub returns-in-Gate-clause-all : goal.returns-in-Gate-clause-all
+returns-in-Gate-clause-all c =
+    gate_all_ok _ c.keeps.ensures.sound _ _ _ c.args.table.now c.args.table.now (c.driver.ensures ∙ ap Some c.in-Gate.is) _ c.gate_of.ensures _ c.as_slice.ensures (IsThere c.args.memo.now c.add_fanins.new.table) _ c.add_fanins.ensures.all
+
+pub returns-in-Latch-clause-adds : goal.returns-in-Latch-clause-adds
+returns-in-Latch-clause-adds c =
+    latch_adds _ c.keeps.ensures.sound _ _ _ _ _ (c.driver.ensures ∙ ap Some c.in-Latch.is) _ c.latch_of.ensures c.requires.early c.add.ensures.adds
+
+pub returns-in-Latch-clause-all : goal.returns-in-Latch-clause-all
+returns-in-Latch-clause-all c =
+    latch_all_ok _ c.keeps.ensures.sound _ _ _ c.args.table.now c.args.table.now (c.driver.ensures ∙ ap Some c.in-Latch.is) _ c.latch_of.ensures (IsThere c.args.memo.now c.add.new.table) _ c.add.ensures.here

@@ -1,0 +1,22 @@
+-- One signal more has its bit.
+use Rattle.std.proofs.Common.{◌≡◌, ◌<◌, ◌^◌, ◌*◌, ◌%◌, ℕ, length, get_or, sym, subst, arith}
+use Rattle.std.proofs.lemmas.Nat.{one_shl}
+use Rattle.std.proofs.lemmas.Option.{slice_get-get_or, slice_get_within}
+use Rattle.flat_net.specs.View.{circuit_of}
+use Rattle.flat_net.specs.declared.signals.Signal.{Signal}
+use Rattle.unfold_places.specs.Visitors.{Gives}
+use Rattle.unfold_places.proofs.Passing.{marked_root, root_met}
+use Rattle.unfold_places.proofs.visitors.mark_roots.Goals as goal
+
+pub number-requires : goal.number-requires
+number-requires c = root_met (circuit_of c.args.net.now) c.args.last c.args.signals.now c.args.memo.now c.requires.met c.loop-k.k _ c.loop-k-test.true
+
+pub give-requires : goal.give-requires
+give-requires c = let k = slice_get_within c.args.memo.now c.number.result (_, c.number.ensures.0) c.number.ensures.1 in omega (arith, k, c.loop-k.invariant.size)
+
+pub loop-k-preserved : goal.loop-k-preserved
+loop-k-preserved c =
+    let few : c.loop-k.k < 64 = omega (arith, c.loop-k-test.true, c.requires.few) in
+    let here = slice_get-get_or c.args.signals.now c.loop-k.k (record { 0 = 0 }) c.loop-k-test.true in
+    marked_root (circuit_of c.args.net.now) c.args.last c.args.signals.now c.args.memo.now c.loop-k.k (get_or c.args.signals.now c.loop-k.k (record { 0 = 0 })) c.loop-k.words c.give.new.words here c.loop-k.invariant c.keeps.ensures
+    c.number.result c.number.ensures.0 c.number.ensures.1 (subst (λ (w : ℕ). Gives (λ n. n ≡ c.number.result) w c.loop-k.words c.give.new.words) (one_shl c.loop-k.k 64 few) c.give.ensures)

@@ -1,0 +1,20 @@
+-- One place more.
+use Rattle.std.proofs.Common.{◌≡◌, ◌+◌, ◌<◌, ℕ, List, length, take, get_or, sym, subst, arith}
+use Rattle.std.specs.List.{All, AllZip}
+use Rattle.std.proofs.lemmas.List.{take_all}
+use Rattle.std.proofs.lemmas.List.Elements.{All-get_or}
+use Rattle.unfold_places.specs.Visitors.{ArePlacesAt}
+use Rattle.unfold_places.proofs.Zips.{zip_more_left}
+use Rattle.unfold_places.proofs.Candidates.{IsAt}
+use Rattle.unfold_places.proofs.visitors.places_at.Goals as goal
+
+pub place-requires : goal.place-requires
+place-requires c = All-get_or (λ (i : ℕ). i < length c.args.memo.now) c.args.numbers.now c.loop-number.number-index 0 c.loop-number-test.true c.requires
+
+pub loop-number-preserved : goal.loop-number-preserved
+loop-number-preserved c =
+    subst (λ (l : List (ℕ × ℕ)). ArePlacesAt c.args.memo.now (take (c.loop-number.number-index + 1) c.args.numbers.now) l) (sym c.in_ok-push.ensures.items)
+    (zip_more_left (IsAt c.args.memo.now) c.args.numbers.now c.loop-number.places.items c.loop-number.number-index 0 c.place.result c.loop-number-test.true c.loop-number.invariant c.place.ensures)
+
+pub returns : goal.returns
+returns c = subst (λ (l : List ℕ). ArePlacesAt c.args.memo.now l c.loop-number.places.items) (take_all c.loop-number.number-index c.args.numbers.now c.loop-number-test.false) c.loop-number.invariant

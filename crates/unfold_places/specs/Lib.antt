@@ -1,0 +1,5 @@
+pub mod Places
+pub mod Reach
+pub mod Planned
+pub mod InputOrder
+pub mod Visitors

@@ -1,0 +1,114 @@
+//! The places that were met, with their literals.
+
+ghost use Rattle.std.specs.Prelude.{◌≡◌, ◌≢◌, ◌<◌, ℕ, List, [], ◌∷◌, ◌++◌, IfSome, IfNone, OnOk, OnErr, Contains, map, length, slice_get, Some};
+ghost use Rattle.std.specs.List.{AllPairs};
+ghost use Rattle.aig.specs.declared.node.Lit.{Lit};
+
+use aig::Lit;
+use indexmap::IndexMap;
+use sec_base::NoMemory;
+use std::alloc::Global;
+use std::marker::Model;
+
+/// A cycle, and a signal's number.
+pub type Place = (u32, u32);
+
+/// Places with their literals, each place once, in the order in which they were put. A contract sees the list.
+pub struct Memo {
+    lits: IndexMap<Place, Lit>,
+}
+
+/// It is let go by one call: an owner isn't taken apart field by field at each way out.
+impl Drop for Memo {
+    fn drop(self) {
+        let Memo { lits: _ } = self;
+    }
+}
+
+impl Model for Memo {
+    ghost use Rattle.std.specs.Prelude.{List, ℕ};
+    ghost use Rattle.aig.specs.declared.node.Lit.{Lit};
+
+    ghost Value = { List ((ℕ × ℕ) × Lit) };
+
+    ghost view = { λ m. m.lits.entries };
+}
+
+impl Memo {
+    /// Without places. It takes no memory.
+    pub fn new(alloc: Global) -> Memo
+        ensures { result ≡ [] }
+    {
+        Memo {
+            lits: IndexMap::new(alloc),
+        }
+    }
+
+    /// Tells a proof that no place stands twice. It does nothing.
+    pub fn keeps(&self)
+        ensures { AllPairs (λ p q. p ≢ q) (map (λ e. e.0) self.now) }
+    {
+        let _ = self.lits.len();
+    }
+
+    /// The literal of the place; None exactly where the place wasn't met.
+    pub fn get(&self, place: Place) -> Option<Lit>
+        ensures here { IfSome result (λ x. Contains self.now (place, x)) }
+        ensures absent { IfNone result (Contains (map (λ e. e.0) self.now) place → ⊥) }
+    {
+        match self.lits.get(&place) {
+            Some(lit) => Some(*lit),
+            None => None,
+        }
+    }
+
+    /// How many places were met.
+    pub(crate) fn len(&self) -> usize
+        ensures { result ≡ length self.now }
+    {
+        self.lits.len()
+    }
+
+    /// The place with this number, in the order in which they were put.
+    pub(crate) fn place(&self, number: usize) -> Place
+        requires { number < length self.now }
+        ensures { (x : Lit) × (slice_get self.now number ≡ Some (result, x)) }
+    {
+        match self.lits.get_index(number) {
+            Some((place, _)) => *place,
+            None => unreachable!(),
+        }
+    }
+
+    /// The number of a place that was met.
+    pub(crate) fn number(&self, place: Place) -> usize
+        requires { (x : Lit) × Contains self.now (place, x) }
+        ensures { (x : Lit) × (slice_get self.now result ≡ Some (place, x)) }
+    {
+        match self.lits.get_index_of(&place) {
+            Some(number) => number,
+            None => unreachable!(),
+        }
+    }
+
+    /// The literal of a place that was met.
+    pub fn met(&self, place: Place) -> Lit
+        requires { (x : Lit) × Contains self.now (place, x) }
+        ensures { Contains self.now (place, result) }
+    {
+        match self.get(place) {
+            Some(lit) => lit,
+            None => unreachable!(),
+        }
+    }
+
+    /// Puts a place that wasn't met last. After `NoMemory` nothing has changed.
+    pub fn put(&mut self, place: Place, lit: Lit) -> Result<(), NoMemory>
+        requires { Contains (map (λ e. e.0) self.old) place → ⊥ }
+        ensures ok { OnOk result (self.new ≡ self.old ++ (place, lit) ∷ []) }
+        ensures err { OnErr result (self.new ≡ self.old) }
+    {
+        self.lits.insert(place, lit)?;
+        Ok(())
+    }
+}
