@@ -25,7 +25,7 @@ use Rattle.cbf_unfold.specs.declared.unfolder.Unfolded.{Unfolded}
 use Rattle.cbf_unfold.specs.Unfolded.{IsNumberOf}
 use Rattle.cbf_unfold.proofs.Cone.{reached_one, constant_reaches}
 use Rattle.reset_unfold.specs.Unfolded.{IsResetUnfolded}
-use Rattle.reset_unfold.proofs.Cone.{covers_cone}
+use Rattle.reset_unfold.proofs.CoveredCones.{covers_cone}
 use Rattle.cbf_unfold.proofs.Lists.{pairs_map}
 use Rattle.pair_decide.specs.declared.query.Query.{Query}
 use Rattle.pair_decide.specs.Queries.{IsQuery, IsSame, IsLeast, Distinguishes, assigned_to, roots_of}

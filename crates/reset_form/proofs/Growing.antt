@@ -115,6 +115,14 @@ done_below top cycle old new is has p = (λ h. forth ((has p).0 h), λ h. (has p
     back (inl h) = inl h
     back (inr b) = inr (omega (arith, b.0, is), b.1)
 
+-- what is over in the top alone is over with all up to it
+pub over_first : (u : ResetView) (top : ℕ × ℕ) → u.cap ≡ 2000000 → IsResetOver (circuit_of u.net) (starts_of (top ∷ [])) u.cap → IsOverBelow u top
+over_first u top cap over = (top ∷ [], λ p h. pick p (Contains-cases top p [] h), subst (IsResetOver (circuit_of u.net) (starts_of (top ∷ []))) cap over)
+  where
+    pick : (p : ℕ × ℕ) → (top ≡ p) ⊎ Contains [] p → Contains u.done p ⊎ IsBelow top p
+    pick p (inl e) = inr (let k = ap (λ (r : ℕ × ℕ). r.0) e in omega (arith, k), sym (ap (λ (r : ℕ × ℕ). r.1) e))
+    pick p (inr h) = absurd (omega (arith, h.1))
+
 -- what is over with this cycle is over with all up to the top
 pub over_next : (u v : ResetView) (top : ℕ × ℕ) (cycle : ℕ) → v.net ≡ u.net → cycle ≤ top.0 → HasDone top.1 cycle u.done v.done → IsResetOver (circuit_of v.net) (starts_of (v.done ++ (cycle, top.1) ∷ [])) 2000000 → IsOverBelow u top
 over_next u v top cycle net within has over = (

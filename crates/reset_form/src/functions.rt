@@ -195,7 +195,7 @@ fn unfold_all(
     Ok(all)
 }
 
-/// Unfolds a signal in each cycle from 0 to its top.
+/// Unfolds a signal in each cycle from 0 to its top, from one walk over what it visits in the top.
 fn unfold_cycles(
     alloc: Global,
     unfolder: &mut ResetUnfolder<'_>,
@@ -213,9 +213,10 @@ fn unfold_cycles(
     ensures over { result ≡ Err unfold_error.TooLarge → IsOverBelow unfolder.old top }
     ensures later { IsLaterReset unfolder.old unfolder.new aig.old aig.new places.old places.new }
 {
+    let mut cone = unfolder.cone(alloc, Signal(top.1), top.0)?;
     let mut cycles = Cycles::new(alloc);
-    for cycle in 0..u64::from(top.0) + 1 {
-        let one = unfolder.unfold_at(alloc, aig, places, Signal(top.1), cycle as u32)?;
+    for _cycle in 0..u64::from(top.0) + 1 {
+        let one = unfolder.unfold_next(alloc, aig, places, &mut cone)?;
         cycles.push(one)?;
     }
     Ok(cycles)

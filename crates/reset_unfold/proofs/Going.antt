@@ -15,6 +15,7 @@ use Rattle.aig.specs.declared.node.Lit.{Lit}
 use Rattle.aig.specs.declared.node.Node.{Node}
 use Rattle.aig.proofs.Growth.{Grows-refl, Grows-trans}
 use Rattle.cbf_unfold.specs.Places.{Steps, PlaceBefore, weight_at}
+use Rattle.cbf_unfold.specs.Reach.{IsThere}
 use Rattle.cbf_unfold.specs.Building.{IsMet, HasGrown}
 use Rattle.cbf_unfold.proofs.Lists.{adds_none, adds_trans, adds_push, adds_contains, pairs_at, sum_by-map}
 use Rattle.cbf_unfold.proofs.Drivers.{step_lower, step_within}
@@ -71,10 +72,10 @@ pub met_later : (u v : ResetView) (g h : List Node) (places more : List (ℕ × 
 met_later u v g h places more p later met = (met.0, adds_contains AnyEntry u.memo v.memo (p, met.0) later.memo met.1)
 
 -- what a visited place reads stands before it
-pub stands_before : (n : NetView) → IsSound n → (s : ℕ × ℕ) (reach : List (ℕ × ℕ)) → IsReach (circuit_of n) (length n.drivers) s reach → (i : ℕ) (p q : ℕ × ℕ) → slice_get reach i ≡ Some p → Steps (circuit_of n) p q →
-    (j : ℕ) × (j < i) × (slice_get reach j ≡ Some q)
-stands_before n sound s reach is i p q here steps =
-    let at = at_of reach q (is.are.closed p q (of_at reach i p here) steps) in
+pub stands_before : (n : NetView) → IsSound n → (memo : List ((ℕ × ℕ) × Lit)) (s : ℕ × ℕ) (reach : List (ℕ × ℕ)) → IsReach (circuit_of n) (length n.drivers) memo s reach → (i : ℕ) (p q : ℕ × ℕ) → slice_get reach i ≡ Some p →
+    Steps (circuit_of n) p q → Contains reach q → (j : ℕ) × (j < i) × (slice_get reach j ≡ Some q)
+stands_before n sound memo s reach is i p q here steps there =
+    let at = at_of reach q there in
     (at.0, go at.0 at.1 (cases_order at.0 i), at.1)
   where
     lower : Steps (circuit_of n) p q → PlaceBefore q p
@@ -93,15 +94,19 @@ stands_before n sound s reach is i p q here steps =
     go j at (inr (inr l)) = absurd (back (pairs_at PlaceBefore reach i j p q is.ordered l here at) (lower steps))
 
 -- the next place can be unfolded
-pub ready_at : (u v : ResetView) (s : ℕ × ℕ) (reach : List (ℕ × ℕ)) → IsSound u.net → Contains u.done s → IsReach (circuit_of u.net) (length u.net.drivers) s reach → v.net ≡ u.net → v.done ≡ u.done →
+pub ready_at : (u v : ResetView) (s : ℕ × ℕ) (reach : List (ℕ × ℕ)) → IsSound u.net → Contains u.done s → IsReach (circuit_of u.net) (length u.net.drivers) u.memo s reach → v.net ≡ u.net → v.done ≡ u.done → ((q : ℕ × ℕ) → IsMet u.memo q → IsMet v.memo q) →
     (i : ℕ) (p : ℕ × ℕ) → slice_get reach i ≡ Some p → ((j : ℕ) (q : ℕ × ℕ) → j < i → slice_get reach j ≡ Some q → IsMet v.memo q) → IsReady v p
-ready_at u v s reach sound among is net done i p here met =
+ready_at u v s reach sound among is net done kept i p here met =
     let visited : IsVisited (circuit_of u.net) u.done p = record { from = s; among = among; visits = is.are.visited p (of_at reach i p here) } in
     record {
       visited = subst (λ (n : NetView). IsVisited (circuit_of n) v.done p) (sym net) (subst (λ (d : List (ℕ × ℕ)). IsVisited (circuit_of u.net) d p) (sym done) visited);
       within = subst (λ (n : NetView). p.1 < length n.drivers) (sym net) (All-at (λ q. q.1 < length u.net.drivers) reach i p here is.are.within);
-      read = λ q steps. let b = stands_before u.net sound s reach is i p q here (subst (λ (n : NetView). Steps (circuit_of n) p q) net steps) in met b.0 q b.1 b.2;
+      read = λ q steps. let own = subst (λ (n : NetView). Steps (circuit_of n) p q) net steps in reads q own (is.are.closed p q (of_at reach i p here) own);
     }
+  where
+    reads : (q : ℕ × ℕ) → Steps (circuit_of u.net) p q → IsThere u.memo reach q → IsMet v.memo q
+    reads q steps (inl there) = let b = stands_before u.net sound u.memo s reach is i p q here steps there in met b.0 q b.1 b.2
+    reads q steps (inr m) = kept q m
 
 -- a place that a signal of the net visits is one of the net
 pub visit_within : (n : NetView) → IsSound n → (s : ℕ × ℕ) → s.1 < length n.drivers → {q j : ℕ} → ResetVisits (circuit_of n) s.1 s.0 q j → q < length n.drivers

@@ -12,11 +12,12 @@ use Rattle.circuit_theory.proofs.Lists.{at_of}
 use Rattle.sec_base.proofs.TableLemmas.{slice_get-take}
 use Rattle.reset_laws.specs.Weight.{ResetVisits}
 use Rattle.cbf_unfold.specs.Places.{PlaceBefore}
+use Rattle.cbf_unfold.specs.Reach.{IsThere}
 use Rattle.cbf_unfold.proofs.InputLists.{place_apart, pairs_push}
 use Rattle.cbf_unfold.proofs.Lists.{pairs_at}
 use Rattle.cbf_unfold.proofs.Order.{differ_permuted}
 use Rattle.reset_unfold.specs.Places.{IsLeafAt}
-use Rattle.reset_unfold.specs.Reach.{AreVisited, AreLeavesOf}
+use Rattle.reset_unfold.specs.Reach.{AreVisited, AreLeavesOf, AreLeavesAt}
 
 module _ (c : Circuit ℕ) (order : List ℕ) (base : ℕ) (places : List (ℕ × ℕ)) where
   -- without places there are no leaves
@@ -82,12 +83,24 @@ module _ (c : Circuit ℕ) (order : List ℕ) (base : ℕ) (places : List (ℕ �
     differ = differ_permuted found sorted moved are.differ;
   }
 
+-- where nothing has been met, each place stands in the list
+stands : (places : List (ℕ × ℕ)) (p : ℕ × ℕ) → IsThere [] places p → Contains places p
+stands places p (inl h) = h
+stands places p (inr m) = absurd (omega (arith, m.1.1))
+
 -- the closed list has all that is visited
 pub reach_all : (c : Circuit ℕ) (size : ℕ) (s : ℕ × ℕ) (places : List (ℕ × ℕ)) → AreVisited c size s places → {q j : ℕ} → ResetVisits c s.1 s.0 q j → Contains places (j, q)
-reach_all c size s places are ResetVisits.itself = are.root
-reach_all c size s places are (ResetVisits.reads {q = q} {r = r} {j = j} visits reads) = are.closed (j, q) (j, r) (reach_all c size s places are visits) (inl (refl, reads))
+reach_all c size s places are ResetVisits.itself = stands places s are.root
+reach_all c size s places are (ResetVisits.reads {q = q} {r = r} {j = j} visits reads) = stands places (j, r) (are.closed (j, q) (j, r) (reach_all c size s places are visits) (inl (refl, reads)))
 reach_all c size s places are (ResetVisits.back {q = q} {next = next} {j = j} {name = name} visits latch) =
-    are.closed (suc j, q) (j, next) (reach_all c size s places are visits) (inr (omega arith, name, latch))
+    stands places (j, next) (are.closed (suc j, q) (j, next) (reach_all c size s places are visits) (inr (omega arith, name, latch)))
+
+-- the leaves among all places that are visited
+pub leaves_at : (c : Circuit ℕ) (size : ℕ) (order : List ℕ) (base : ℕ) (s : ℕ × ℕ) (places found : List (ℕ × ℕ)) → AreVisited c size s places → AreLeavesOf c order base places found → AreLeavesAt c order base s found
+leaves_at c size order base s places found visited are = record {
+  from = λ x h. let f = are.from x h in (f.0, f.2, visited.visited (x.0, f.0) f.1);
+  all = λ p number j visits leaf. are.all (j, p) number (reach_all c size s places visited visits) leaf;
+}
 
 -- a leaf as a variable
 abbrev pub variable_of : ℕ × ℕ → Variable ℕ

@@ -1,4 +1,3 @@
-pub mod FaninPlaces
 pub mod Reading
 pub mod Weighing
 pub mod Walk
@@ -10,4 +9,5 @@ pub mod Known
 pub mod PlaceLits
 pub mod Going
 pub mod Finish
-pub mod Cone
+pub mod CoveredCones
+pub mod CycleLeaves

@@ -1,22 +1,28 @@
 -- The places that are visited, in an order of evaluation.
-use Rattle.std.proofs.Common.{◌≡◌, ◌<◌, ℕ, List, subst}
+use Rattle.std.proofs.Common.{◌≡◌, ◌<◌, ℕ, List, subst, inl, inr}
 use Rattle.std.specs.Prelude.{IsSorted, IsPermutation}
 use Rattle.std.proofs.lemmas.List.Sorted.{IsPermutation-sym, All-permutation, Contains-permutation}
 use Rattle.circuit_theory.specs.Circuit.{Circuit}
 use Rattle.sec_base.specs.Table.{AreDistinct}
+use Rattle.aig.specs.declared.node.Lit.{Lit}
+use Rattle.cbf_unfold.specs.Reach.{IsThere}
 use Rattle.cbf_unfold.proofs.Over.{pairs_differ}
 use Rattle.cbf_unfold.proofs.Order.{place_cmp, differ_permuted, strictly}
-use Rattle.reset_unfold.specs.Reach.{AreVisited, IsReach}
+use Rattle.reset_unfold.specs.Reach.{AreUnmet, IsReach}
 
-pub sorted_reach : (c : Circuit ℕ) (size : ℕ) (s : ℕ × ℕ) (table places sorted : List (ℕ × ℕ)) → places ≡ table → AreDistinct table → AreVisited c size s table → IsPermutation places sorted → IsSorted place_cmp sorted →
-    IsReach c size s sorted
-sorted_reach c size s table places sorted same distinct are moved up =
+there_moved : (memo : List ((ℕ × ℕ) × Lit)) (xs ys : List (ℕ × ℕ)) (p : ℕ × ℕ) → IsPermutation xs ys → IsThere memo xs p → IsThere memo ys p
+there_moved memo xs ys p moved (inl h) = inl (Contains-permutation xs ys p moved h)
+there_moved memo xs ys p moved (inr h) = inr h
+
+pub sorted_reach : (c : Circuit ℕ) (size : ℕ) (memo : List ((ℕ × ℕ) × Lit)) (s : ℕ × ℕ) (table places sorted : List (ℕ × ℕ)) → places ≡ table → AreDistinct table → AreUnmet c size memo s table → IsPermutation places sorted → IsSorted place_cmp sorted →
+    IsReach c size memo s sorted
+sorted_reach c size memo s table places sorted same distinct are moved up =
     let to : IsPermutation table sorted = subst (λ l. IsPermutation l sorted) same moved in
     let back : IsPermutation sorted table = IsPermutation-sym table sorted to in
     record {
       are = record {
-        root = Contains-permutation table sorted s to are.root;
-        closed = λ p q h steps. Contains-permutation table sorted q to (are.closed p q (Contains-permutation sorted table p back h) steps);
+        root = there_moved memo table sorted s to are.root;
+        closed = λ p q h steps. there_moved memo table sorted q to (are.closed p q (Contains-permutation sorted table p back h) steps);
         visited = λ p h. are.visited p (Contains-permutation sorted table p back h);
         within = All-permutation (λ p. p.1 < size) table sorted to are.within;
       };

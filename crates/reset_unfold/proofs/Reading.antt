@@ -1,6 +1,5 @@
 -- What a latch's place reads.
 use Rattle.std.proofs.Common.{◌≡◌, ◌+◌, ◌-◌, ◌<◌, ℕ, List, slice_get, Some, Result, Ok, Err, OnOk, sym, ap, subst, arith, inl, inr}
-use Rattle.std.specs.List.{Contains}
 use Rattle.circuit_theory.specs.Circuit.{IsLatch, Reads}
 use Rattle.flat_net.specs.declared.parts.Driver.TheVariants as driver
 use Rattle.flat_net.specs.declared.parts.LatchAt.{LatchAt}
@@ -34,9 +33,9 @@ module _ (n : NetView) (sound : IsSound n) (s j : ℕ) (drives : slice_get n.dri
   pub before_adds : (old new : List (ℕ × ℕ)) → Adds (IsBefore cycle l.next.0) old new → Adds (Steps (circuit_of n) (cycle, s)) old new
   before_adds old new a = adds_weaker (IsBefore cycle l.next.0) (Steps (circuit_of n) (cycle, s)) old new before_steps a
 
-  pub before_all : {T E : Type 0} (new : List (ℕ × ℕ)) (r : Result T E) → OnOk r ((q : ℕ × ℕ) → q.0 + 1 ≡ cycle → q.1 ≡ l.next.0 → Contains new q) → OnOk r ((q : ℕ × ℕ) → Steps (circuit_of n) (cycle, s) q → Contains new q)
-  before_all new (Ok x) h = λ q steps. let b = steps_before q steps in h q b.0 b.1
-  before_all new (Err e) h = h
+  pub before_all : (There : ℕ × ℕ → Type 0) {T E : Type 0} (r : Result T E) → OnOk r ((q : ℕ × ℕ) → q.0 + 1 ≡ cycle → q.1 ≡ l.next.0 → There q) → OnOk r ((q : ℕ × ℕ) → Steps (circuit_of n) (cycle, s) q → There q)
+  before_all There (Ok x) h = λ q steps. let b = steps_before q steps in h q b.0 b.1
+  before_all There (Err e) h = h
 
 -- the place of the cycle before, as a table takes it
 pub before_is : (cycle next : ℕ) (q : ℕ × ℕ) → 0 < cycle → q ≡ (cycle - 1, next) → IsBefore cycle next q
@@ -45,6 +44,6 @@ before_is cycle next q early e = (let h = ap (λ (r : ℕ × ℕ). r.0) e in ome
 pub before_from : (cycle next : ℕ) (q : ℕ × ℕ) → q.0 + 1 ≡ cycle → q.1 ≡ next → (cycle - 1, next) ≡ q
 before_from cycle next q e f = let h : cycle - 1 ≡ q.0 = omega (arith, e) in (λ i. (h i, sym f i))
 
-pub before_here : {T E : Type 0} (cycle next : ℕ) (new : List (ℕ × ℕ)) (r : Result T E) → OnOk r (Contains new (cycle - 1, next)) → OnOk r ((q : ℕ × ℕ) → q.0 + 1 ≡ cycle → q.1 ≡ next → Contains new q)
-before_here cycle next new (Ok x) h = λ q e f. subst (Contains new) (before_from cycle next q e f) h
-before_here cycle next new (Err e) h = h
+pub before_here : (There : ℕ × ℕ → Type 0) {T E : Type 0} (cycle next : ℕ) (r : Result T E) → OnOk r (There (cycle - 1, next)) → OnOk r ((q : ℕ × ℕ) → q.0 + 1 ≡ cycle → q.1 ≡ next → There q)
+before_here There cycle next (Ok x) h = λ q e f. subst There (before_from cycle next q e f) h
+before_here There cycle next (Err e) h = h

@@ -16,8 +16,8 @@ use Rattle.reset_laws.proofs.ResetExist.{shape, one_tree}
 use Rattle.cbf_unfold.specs.Places.{PlaceBefore}
 use Rattle.cbf_unfold.proofs.Lists.{pairs_map}
 use Rattle.reset_unfold.specs.Places.{IsLeafAt}
-use Rattle.reset_unfold.specs.Reach.{AreVisited, AreLeavesOf}
-use Rattle.reset_unfold.proofs.LeafLists.{reach_all, variable_of}
+use Rattle.reset_unfold.specs.Reach.{AreLeavesAt}
+use Rattle.reset_unfold.proofs.LeafLists.{variable_of}
 
 module _ (c : Circuit ℕ) (order : List ℕ) (base : ℕ) (s t : ℕ) where
   -- a leaf that is visited
@@ -96,9 +96,9 @@ module _ (c : Circuit ℕ) (size : ℕ) (net : IsNet c size) (starts : HasStarts
           from (subst (λ (k : ℕ). ResetUnfolds c order base v.0 k (Leaf x.input k)) (sym h.0)
           (subst (λ (m : ℕ). ResetUnfolds c order base v.0 0 (Leaf m 0)) h.4 (ResetUnfolds.free h.1 h.2 h.3)))
 
-  -- so the leaves among the visited places are the variables of the tree
-  pub leaves_are_variables : (places found : List (ℕ × ℕ)) → AreVisited c size (t, s) places → AreLeavesOf c order base places found → AllPairs PlaceBefore found → AreVariables CycleBefore (tree ∷ []) (map variable_of found)
-  leaves_are_variables places found visited are ordered = record {
+  -- so the leaves that are visited are the variables of the tree
+  pub leaves_are_variables : (found : List (ℕ × ℕ)) → AreLeavesAt c order base (t, s) found → AllPairs PlaceBefore found → AreVariables CycleBefore (tree ∷ []) (map variable_of found)
+  leaves_are_variables found are ordered = record {
     in_order = pairs_map variable_of PlaceBefore CycleBefore found (λ x y hx hy before. before) ordered;
     exactly = λ v. (λ h. (tree, Contains-head tree [], visit_is_leaf v (to v h)), λ h. back v h);
   }
@@ -106,11 +106,10 @@ module _ (c : Circuit ℕ) (size : ℕ) (net : IsNet c size) (starts : HasStarts
       to : (v : Variable ℕ) → Contains (map variable_of found) v → VisitsLeaf c order base s t v
       to v h =
           let x = Contains-map_from variable_of found v h in
-          let f = are.from x.0 x.1 in
-          subst (VisitsLeaf c order base s t) x.2 (f.0, f.2, visited.visited (x.0.0, f.0) f.1)
+          subst (VisitsLeaf c order base s t) x.2 (are.from x.0 x.1)
 
       from : (v : Variable ℕ) → VisitsLeaf c order base s t v → Contains (map variable_of found) v
-      from v h = Contains-map variable_of found (v.at, v.input) (are.all (v.at, h.0) v.input (reach_all c size (t, s) places visited h.2) h.1)
+      from v h = Contains-map variable_of found (v.at, v.input) (are.all h.0 v.input v.at h.2 h.1)
 
       only : (u : Tree ℕ) → Contains (tree ∷ []) u → tree ≡ u
       only u h = go (Contains-cases tree u [] h)

@@ -12,7 +12,7 @@ use Rattle.cbf_unfold.specs.Places.{Steps, PlaceBefore}
 use Rattle.cbf_unfold.specs.Reach.{Adds}
 use Rattle.cbf_unfold.specs.Building.{IsMet}
 use Rattle.reset_unfold.specs.Places.{IsVisited}
-use Rattle.reset_unfold.specs.Reach.{AreLeavesOf}
+use Rattle.reset_unfold.specs.Reach.{AreLeavesAt}
 use Rattle.reset_unfold.specs.View.{ResetView}
 use Rattle.reset_unfold.specs.Unfolded.{IsKnown}
 
@@ -62,9 +62,9 @@ pub record IsGateLit (u : ResetView) (cycle j : ℕ) (g : List Node) (x : ℕ) :
   pub is : IsCoverOf g (cover_of u.net.covers gate) (map (λ y. y.0) lits) x
   pub within : x < 2 * length g
 
--- the variables are the numbers in the table of the leaves among the places, by cycle and then by number
-pub record AreNumbered (u : ResetView) (places visited : List (ℕ × ℕ)) (vars : List ℕ) : Type 0 where
+-- the variables are the numbers in the table of the leaves that the unfolding visits, by cycle and then by number
+pub record AreNumbered (u : ResetView) (places : List (ℕ × ℕ)) (start : ℕ × ℕ) (vars : List ℕ) : Type 0 where
   pub found : List (ℕ × ℕ)
-  pub leaves : AreLeavesOf (circuit_of u.net) u.order u.base visited found
+  pub leaves : AreLeavesAt (circuit_of u.net) u.order u.base start found
   pub ordered : AllPairs PlaceBefore found
   pub numbers : AllZip (λ v x. slice_get places v ≡ Some (x.1, x.0)) vars found

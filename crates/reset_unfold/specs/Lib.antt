@@ -4,3 +4,4 @@ pub mod View
 pub mod Unfolded
 pub mod Laws
 pub mod Building
+pub mod Cone

@@ -2,9 +2,11 @@
 //! cycle and earlier ones, and of the latches that have no initial value.
 #![tactic(auto)]
 
+mod cone;
 pub mod laws;
 mod leaves;
 mod reached;
 mod unfolder;
 
+pub use cone::Cone;
 pub use unfolder::ResetUnfolder;

@@ -9,14 +9,17 @@ ghost use Rattle.cbf_unfold.specs.View.{IsOrderOf};
 ghost use Rattle.cbf_unfold.specs.Places.{PlaceBefore};
 ghost use Rattle.cbf_unfold.specs.Building.{IsMet};
 ghost use Rattle.cbf_unfold.specs.declared.error.UnfoldError.TheVariants as unfold_error;
-ghost use Rattle.reset_unfold.specs.Places.{IsLeafAt, starts_of};
+ghost use Rattle.reset_unfold.specs.Places.{starts_of};
 ghost use Rattle.reset_unfold.specs.View.{IsResetUnfolder};
 ghost use Rattle.reset_unfold.specs.Unfolded.{IsResetUnfolded, FitsReset};
-ghost use Rattle.reset_unfold.specs.Building.{IsLaterReset, AreNumbered};
+ghost use Rattle.reset_unfold.specs.Building.{IsLaterReset};
+ghost use Rattle.reset_unfold.specs.Reach.{IsReach, AreLeavesAt};
+ghost use Rattle.reset_unfold.specs.Cone.{IsCone};
 
 mod literals;
 mod places;
 
+use crate::cone::Cone;
 use crate::leaves::{leaves_of, numbers_of};
 use crate::reached::reach;
 use aig::{Aig, Lit};
@@ -116,13 +119,55 @@ impl<'a> ResetUnfolder<'a> {
     {
         let net = self.net();
         net.keeps();
-        let visited = reach(alloc, net, (cycle, s.0), self.cap())?;
-        let reached = visited.as_slice();
-        self.begin((cycle, s.0))?;
-        self.build(alloc, aig, places, reached)?;
+        let lit = self.root(alloc, aig, places, (cycle, s.0))?;
         self.keeps();
-        let lit = self.met((cycle, s.0));
-        let vars = self.variables(alloc, places, reached)?;
+        let found = self.leaves(alloc, (cycle, s.0))?;
+        let vars = numbers_of(alloc, places, found.as_slice())?;
+        Ok(Unfolded { lit, vars })
+    }
+
+    /// The cone of a signal up to a last cycle, from which `unfold_next` unfolds the signal in each cycle from 0 on. `TooLarge` comes
+    /// only where the places that the unfolding in the last cycle visits weigh more than 2,000,000.
+    pub fn cone(&self, alloc: Global, s: Signal, last: u32) -> Result<Cone, UnfoldError>
+        requires signal { s.0 < length self.now.net.drivers }
+        ensures cone { IfOk result (IsCone self.now.net self.now.order self.now.base) }
+        ensures starts { IfOk result (λ k. (k.signal ≡ s.0) × (k.last ≡ last) × (k.next ≡ 0)) }
+        ensures over { result ≡ Err unfold_error.TooLarge → IsResetOver (circuit_of self.now.net) (starts_of ((last, s.0) ∷ [])) self.now.cap }
+    {
+        let start = (last, s.0);
+        let visited = self.visited(alloc, start)?;
+        Ok(Cone::new(alloc, start, visited))
+    }
+
+    /// The cone's signal in the next cycle, as `unfold_at` gives it. Beside the variables this costs a walk over the places that
+    /// weren't met before.
+    pub fn unfold_next(
+        &mut self,
+        alloc: Global,
+        aig: &mut Aig,
+        places: &mut PlaceTable,
+        cone: &mut Cone,
+    ) -> Result<Unfolded, UnfoldError>
+        requires cone { IsCone self.old.net self.old.order self.old.base cone.old }
+        requires next { cone.old.next ≤ cone.old.last }
+        requires fits { FitsReset self.old aig.old places.old }
+        requires nodes { length aig.old ≤ 2 ^ 29 }
+        requires entries { length places.old ≤ 2 ^ 29 }
+        ensures unfolded { IfOk result (λ r. IsResetUnfolded self.new.net self.new.order self.new.base aig.new places.new cone.old.signal cone.old.next r.lit.0 r.vars) }
+        ensures fits { OnOk result (FitsReset self.new aig.new places.new) }
+        ensures done { OnOk result (self.new.done ≡ self.old.done ++ (cone.old.next, cone.old.signal) ∷ []) }
+        ensures over { result ≡ Err unfold_error.TooLarge → IsResetOver (circuit_of self.old.net) (starts_of (self.old.done ++ (cone.old.next, cone.old.signal) ∷ [])) MAX_WEIGHT }
+        ensures later { IsLaterReset self.old self.new aig.old aig.new places.old places.new }
+        ensures cone { OnOk result (IsCone self.new.net self.new.order self.new.base cone.new) }
+        ensures next { OnOk result (cone.new.next ≡ cone.old.next + 1) }
+        ensures same { (cone.new.signal ≡ cone.old.signal) × (cone.new.last ≡ cone.old.last) }
+    {
+        let net = self.net();
+        net.keeps();
+        let lit = self.root(alloc, aig, places, cone.start())?;
+        self.keeps();
+        cone.advance(alloc, net, self.order(), self.base())?;
+        let vars = numbers_of(alloc, places, cone.found())?;
         Ok(Unfolded { lit, vars })
     }
 
@@ -158,6 +203,12 @@ impl<'a> ResetUnfolder<'a> {
         self.cap
     }
 
+    fn memo(&self) -> &Memo
+        ensures { result.now ≡ self.now.memo }
+    {
+        &self.memo
+    }
+
     /// Puts the signal in its cycle to those that are unfolded.
     fn begin(&mut self, start: Place) -> Result<(), NoMemory>
         ensures ok { OnOk result (self.new ≡ record self.old { done = self.old.done ++ start ∷ [] }) }
@@ -175,23 +226,56 @@ impl<'a> ResetUnfolder<'a> {
         self.memo.met(place)
     }
 
-    /// The numbers in the table of the leaves among the places. They are in the table already.
-    fn variables(
-        &self,
+    /// The literal of a signal in its cycle.
+    fn root(
+        &mut self,
         alloc: Global,
+        aig: &mut Aig,
         places: &mut PlaceTable,
-        visited: &[Place],
-    ) -> Result<Ids, NoMemory>
-        requires within { All (λ p. p.1 < length self.now.net.drivers) visited.now }
-        requires ordered { AllPairs PlaceBefore visited.now }
-        requires known { (p : ℕ × ℕ) (number : ℕ) → Contains visited.now p → IsLeafAt (circuit_of self.now.net) self.now.order self.now.base p number → Contains places.old (number, p.0) }
-        requires room { length places.old + 1 < 2 ^ 32 }
-        ensures same { places.new ≡ places.old }
-        ensures numbered { IfOk result (λ vars. AreNumbered self.now places.old visited.now vars) }
+        start: Place,
+    ) -> Result<Lit, UnfoldError>
+        requires signal { start.1 < length self.old.net.drivers }
+        requires fits { FitsReset self.old aig.old places.old }
+        requires nodes { length aig.old ≤ 2 ^ 29 }
+        requires entries { length places.old ≤ 2 ^ 29 }
+        ensures here { IfOk result (λ x. Contains self.new.memo (start, x)) }
+        ensures fits { OnOk result (FitsReset self.new aig.new places.new) }
+        ensures done { OnOk result (self.new.done ≡ self.old.done ++ start ∷ []) }
+        ensures over { result ≡ Err unfold_error.TooLarge → IsResetOver (circuit_of self.old.net) (starts_of (self.old.done ++ start ∷ [])) MAX_WEIGHT }
+        ensures later { IsLaterReset self.old self.new aig.old aig.new places.old places.new }
+    {
+        let net = self.net();
+        net.keeps();
+        let unmet = reach(alloc, net, self.memo(), start, self.cap())?;
+        let reached = unmet.as_slice();
+        self.begin(start)?;
+        self.build(alloc, aig, places, reached)?;
+        self.keeps();
+        Ok(self.met(start))
+    }
+
+    /// The places that the unfolding of a signal in its cycle visits, in an order of evaluation.
+    fn visited(&self, alloc: Global, start: Place) -> Result<Vec<Place>, UnfoldError>
+        requires signal { start.1 < length self.now.net.drivers }
+        ensures reach { IfOk result (λ r. IsReach (circuit_of self.now.net) (length self.now.net.drivers) [] start r.items) }
+        ensures over { result ≡ Err unfold_error.TooLarge → IsResetOver (circuit_of self.now.net) (starts_of (start ∷ [])) self.now.cap }
     {
         self.keeps();
-        let found = leaves_of(alloc, self.net(), self.order(), self.base(), visited)?;
-        let vars = numbers_of(alloc, places, found.as_slice())?;
-        Ok(vars)
+        let none = Memo::new(alloc);
+        reach(alloc, self.net(), &none, start, self.cap())
+    }
+
+    /// The leaves that the unfolding of a signal in its cycle visits, each as its cycle and its variable's number, in order.
+    fn leaves(&self, alloc: Global, start: Place) -> Result<Vec<(u32, u32)>, UnfoldError>
+        requires signal { start.1 < length self.now.net.drivers }
+        ensures leaves { IfOk result (λ found. AreLeavesAt (circuit_of self.now.net) self.now.order self.now.base start found.items) }
+        ensures ordered { IfOk result (λ found. AllPairs PlaceBefore found.items) }
+        ensures over { result ≡ Err unfold_error.TooLarge → IsResetOver (circuit_of self.now.net) (starts_of (start ∷ [])) self.now.cap }
+    {
+        self.keeps();
+        let net = self.net();
+        let visited = self.visited(alloc, start)?;
+        let found = leaves_of(alloc, net, self.order(), self.base(), visited.as_slice())?;
+        Ok(found)
     }
 }

@@ -28,7 +28,7 @@ impl<'a> ResetUnfolder<'a> {
         places: &mut PlaceTable,
         reach: &[Place],
     ) -> Result<(), UnfoldError>
-        requires reach { (s : ℕ × ℕ) × Contains self.old.done s × IsReach (circuit_of self.old.net) (length self.old.net.drivers) s reach.now }
+        requires reach { (s : ℕ × ℕ) × Contains self.old.done s × IsReach (circuit_of self.old.net) (length self.old.net.drivers) self.old.memo s reach.now }
         requires holds { Holds self.old aig.old places.old }
         requires room { HasRoom self.old aig.old places.old }
         ensures holds { OnOk result (Holds self.new aig.new places.new) }

@@ -1,7 +1,15 @@
--- The place is there already, or it goes last.
+-- The place has been met, it is in the table already, or it goes last.
+use Rattle.std.proofs.Common.{arith, inl, inr, refl}
 use Rattle.circuit_theory.proofs.Lists.{of_at}
+use Rattle.cbf_unfold.proofs.Lists.{adds_none}
 use Rattle.cbf_unfold.proofs.Table.{interned}
 use Rattle.reset_unfold.proofs.reached.add.Goals as goal
+
+pub returns-in-Some-clause-adds : goal.returns-in-Some-clause-adds
+returns-in-Some-clause-adds c = adds_none _ _ _ refl
+
+pub returns-in-Some-clause-here : goal.returns-in-Some-clause-here
+returns-in-Some-clause-here c = inr (_, c.in-Some.ensures.here)
 
 pub returns-clause-adds : goal.returns-clause-adds
 returns-clause-adds c = (interned _ _ _ c.in_ok-intern.ensures.known c.in_ok-intern.ensures.added).0
@@ -10,4 +18,4 @@ pub returns-clause-few : goal.returns-clause-few
 returns-clause-few c = (interned _ _ _ c.in_ok-intern.ensures.known c.in_ok-intern.ensures.added).1
 
 pub returns-clause-here : goal.returns-clause-here
-returns-clause-here c = of_at _ _ _ c.in_ok-intern.ensures.here
+returns-clause-here c = inl (of_at _ _ _ c.in_ok-intern.ensures.here)

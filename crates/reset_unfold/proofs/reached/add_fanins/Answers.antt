@@ -1,8 +1,7 @@
 -- One fan-in's place more.
 use Rattle.std.proofs.Common.{arith}
 use Rattle.std.proofs.lemmas.List.{take_all}
-use Rattle.cbf_unfold.proofs.ReadPlaces.{fanin_adds}
-use Rattle.reset_unfold.proofs.FaninPlaces.{fanin_all}
+use Rattle.cbf_unfold.proofs.ReadPlaces.{fanin_adds, fanin_all}
 use Rattle.reset_unfold.proofs.reached.add_fanins.Goals as goal
 
 pub returns-in_err-add-clause-adds : goal.returns-in_err-add-clause-adds
@@ -11,7 +10,7 @@ returns-in_err-add-clause-adds c = fanin_adds c.args.fanins.now c.args.cycle c.l
 pub loop-fanin-preserved : goal.loop-fanin-preserved
 loop-fanin-preserved c = record {
   adds = fanin_adds c.args.fanins.now c.args.cycle c.loop-fanin.fanin-index _ _ _ _ c.loop-fanin-test.true c.loop-fanin.invariant.adds c.add.ensures.adds;
-  all = fanin_all c.args.fanins.now c.args.cycle c.loop-fanin.fanin-index _ _ _ c.loop-fanin-test.true c.loop-fanin.invariant.all c.add.ensures.adds c.in_ok-add.ensures.here;
+  all = fanin_all c.args.memo.now c.args.fanins.now c.args.cycle c.loop-fanin.fanin-index _ _ _ c.loop-fanin-test.true c.loop-fanin.invariant.all c.add.ensures.adds c.in_ok-add.ensures.here;
   few = omega (arith, c.loop-fanin.invariant.few, c.add.ensures.few);
 }
 

@@ -1,7 +1,7 @@
 -- What drives the signal says what its place reads.
 use Rattle.std.proofs.Common.{◌∙◌, ap, Some}
-use Rattle.std.specs.List.{Contains}
 use Rattle.std.proofs.lemmas.Option.{slice_get_within}
+use Rattle.cbf_unfold.specs.Reach.{IsThere}
 use Rattle.cbf_unfold.proofs.Drivers.{input_steps, driven_gate, driven_latch}
 use Rattle.cbf_unfold.proofs.ReadPlaces.{gate_adds, gate_all_ok}
 use Rattle.reset_unfold.proofs.Reading.{before_adds, before_all}
@@ -26,7 +26,7 @@ returns-in-Gate-clause-adds c =
 
 pub returns-in-Gate-clause-all : goal.returns-in-Gate-clause-all
 returns-in-Gate-clause-all c =
-    gate_all_ok _ c.keeps.ensures.sound _ _ _ c.args.table.now c.args.table.now (c.driver.ensures ∙ ap Some c.in-Gate.is) _ c.gate_of.ensures _ c.as_slice.ensures (Contains c.add_fanins.new.table) _ c.add_fanins.ensures.all
+    gate_all_ok _ c.keeps.ensures.sound _ _ _ c.args.table.now c.args.table.now (c.driver.ensures ∙ ap Some c.in-Gate.is) _ c.gate_of.ensures _ c.as_slice.ensures (IsThere c.args.memo.now c.add_fanins.new.table) _ c.add_fanins.ensures.all
 
 pub returns-in-Latch-clause-adds : goal.returns-in-Latch-clause-adds
 returns-in-Latch-clause-adds c =
@@ -34,4 +34,4 @@ returns-in-Latch-clause-adds c =
 
 pub returns-in-Latch-clause-all : goal.returns-in-Latch-clause-all
 returns-in-Latch-clause-all c =
-    before_all _ c.keeps.ensures.sound _ _ (c.driver.ensures ∙ ap Some c.in-Latch.is) _ c.latch_of.ensures c.args.cycle _ _ c.add_before.ensures.all
+    before_all _ c.keeps.ensures.sound _ _ (c.driver.ensures ∙ ap Some c.in-Latch.is) _ c.latch_of.ensures c.args.cycle (IsThere c.args.memo.now c.add_before.new.table) _ c.add_before.ensures.all

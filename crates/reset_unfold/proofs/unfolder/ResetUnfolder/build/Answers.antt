@@ -3,7 +3,7 @@ use Rattle.std.proofs.Common.{◌∙◌, get_or, subst, arith, refl}
 use Rattle.std.proofs.lemmas.Option.{slice_get-get_or, slice_get_within}
 use Rattle.circuit_theory.proofs.Lists.{at_of}
 use Rattle.flat_net.specs.Sound.{IsSound}
-use Rattle.reset_unfold.proofs.Going.{ready_at, room_later, later_none, later_trans, met_next}
+use Rattle.reset_unfold.proofs.Going.{ready_at, room_later, met_later, later_none, later_trans, met_next}
 use Rattle.reset_unfold.proofs.unfolder.ResetUnfolder.build.Goals as goal
 
 pub loop-place-init : goal.loop-place-init
@@ -18,7 +18,8 @@ pub build_place-requires-clause-ready : goal.build_place-requires-clause-ready
 build_place-requires-clause-ready c =
     let i = c.loop-place.place-index in
     ready_at c.args.self.now c.loop-place.self c.requires.reach.0 c.args.reach.now (subst IsSound c.net-net.ensures c.keeps.ensures.sound) c.requires.reach.1 c.requires.reach.2
-    c.loop-place.invariant.later.net c.loop-place.invariant.done i (get_or c.args.reach.now i (0, 0)) (slice_get-get_or c.args.reach.now i (0, 0) c.loop-place-test.true) c.loop-place.invariant.met
+    c.loop-place.invariant.later.net c.loop-place.invariant.done
+    (λ q m. met_later c.args.self.now c.loop-place.self c.args.aig.now c.loop-place.aig c.args.places.now c.loop-place.places q c.loop-place.invariant.later m) i (get_or c.args.reach.now i (0, 0)) (slice_get-get_or c.args.reach.now i (0, 0) c.loop-place-test.true) c.loop-place.invariant.met
 
 pub build_place-requires-clause-room : goal.build_place-requires-clause-room
 build_place-requires-clause-room c = room_later c.args.self.now c.loop-place.self c.args.aig.now c.loop-place.aig c.args.places.now c.loop-place.places c.requires.room c.loop-place.invariant.later

@@ -2,12 +2,12 @@
 use Rattle.std.proofs.Common.{arith, ◌+◌, ◌-◌, ◌<◌}
 use Rattle.flat_net.proofs.Places.{All-at}
 use Rattle.cbf_unfold.proofs.Drivers.{weight_positive}
-use Rattle.reset_unfold.proofs.FaninPlaces.{only_one}
+use Rattle.cbf_unfold.proofs.Lists.{at_most_one}
 use Rattle.reset_unfold.proofs.Walk.{IsSeen, met_first, met_more, met_all, met_over}
-use Rattle.reset_unfold.proofs.reached.visited.Goals as goal
+use Rattle.reset_unfold.proofs.reached.unmet.Goals as goal
 
 pub loop-at-init : goal.loop-at-init
-loop-at-init c = met_first c.args.net.now c.args.start c.args.cap _ c.requires.signal (only_one _ _ _ _ c.new-table.ensures c.add.ensures.adds c.in_ok-add.ensures.here c.add.ensures.few)
+loop-at-init c = met_first _ _ c.args.start c.args.cap _ c.requires.signal c.in_ok-add.ensures.here (at_most_one _ _ _ c.new-table.ensures c.add.ensures.adds c.add.ensures.few)
 
 pub overflow_sub-cap : goal.overflow_sub-cap
 overflow_sub-cap c = c.loop-at.invariant.small
@@ -26,11 +26,11 @@ loop-at-smaller c =
 
 pub loop-at-preserved : goal.loop-at-preserved
 loop-at-preserved c =
-    met_more _ c.keeps.ensures.sound _ _ _ _ _ _ _ _ c.loop-at.invariant c.pair-cycle.ensures c.in-Some.ensures.here c.in-Some.ensures.room c.add_read.ensures.adds c.in_ok-add_read.ensures.all c.add_read.ensures.few
+    met_more _ c.keeps.ensures.sound _ _ _ _ _ _ _ _ _ c.loop-at.invariant c.pair-cycle.ensures c.in-Some.ensures.here c.in-Some.ensures.room c.add_read.ensures.adds c.in_ok-add_read.ensures.all c.add_read.ensures.few
 
 pub returns-in_default-clause-over : goal.returns-in_default-clause-over
 returns-in_default-clause-over c =
-    λ e. met_over _ c.keeps.ensures.sound _ _ _ _ _ _ c.loop-at.invariant c.keeps-in_default.ensures c.pair-cycle.ensures c.in_default.ensures.none
+    λ e. met_over _ c.keeps.ensures.sound _ _ _ _ _ _ _ c.loop-at.invariant c.keeps-in_default.ensures c.pair-cycle.ensures c.in_default.ensures.none
 
-pub returns-clause-visited : goal.returns-clause-visited
-returns-clause-visited c = met_all _ _ _ _ _ _ c.loop-at.invariant (omega (arith, c.loop-at-test.false, c.len.ensures))
+pub returns-clause-unmet : goal.returns-clause-unmet
+returns-clause-unmet c = met_all _ _ _ _ _ _ _ c.loop-at.invariant (omega (arith, c.loop-at-test.false, c.len.ensures))
