@@ -1,0 +1,5 @@
+pub mod Refusing
+pub mod Totaling
+pub mod Growing
+pub mod Visiting
+pub mod Covering
