@@ -25,12 +25,7 @@ use Rattle.unfold_places.proofs.Lists.{adds_contains}
 use Rattle.cbf_unfold.proofs.PlaceLits.{zip_more_left}
 use Rattle.cbf_unfold.proofs.Going.{places_weigh}
 use Rattle.unfold_places.proofs.InputLists.{variable_of, inputs_are_variables}
-
-pub zip_map : {X Y Z : Type 0} (R : X → Y → Type 0) (S : X → Z → Type 0) (f : Y → Z) → ((x : X) (y : Y) → R x y → S x (f y)) → (xs : List X) (ys : List Y) → AllZip R xs ys → AllZip S xs (map f ys)
-zip_map R S f step [] [] h = tt
-zip_map R S f step [] (y ∷ ys) h = absurd h
-zip_map R S f step (x ∷ xs) [] h = absurd h
-zip_map R S f step (x ∷ xs) (y ∷ ys) h = (step x y h.0, zip_map R S f step xs ys h.1)
+pub use Rattle.unfold_places.proofs.Growing.{zip_map}
 
 -- more outputs weigh no less
 pub over_more : (c : Circuit ℕ) (done : List ℕ) (s cap limit : ℕ) → cap ≡ limit → IsOver c (s ∷ []) cap → IsOver c (done ++ s ∷ []) limit

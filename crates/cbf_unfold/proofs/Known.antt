@@ -18,13 +18,7 @@ use Rattle.unfold_places.specs.Reach.{Adds}
 use Rattle.cbf_unfold.specs.View.{UnfolderView}
 use Rattle.cbf_unfold.specs.Unfolded.{IsKnown, IsNumberOf, IsUnfolded, Fits, Holds}
 use Rattle.unfold_places.proofs.Lists.{adds_at}
-
--- whatever is added
-abbrev pub Any : ℕ × ℕ → Type 0
-Any p = Unit {0}
-
-pub builds_later : (g h : List Node) (places more : List (ℕ × ℕ)) (tree : Tree ℕ) (x : ℕ) → Grows g h → Adds Any places more → Builds g places tree x → Builds h more tree x
-builds_later g h places more tree x grows adds builds = subst (λ ps. Builds h ps tree x) (sym adds.is) (Builds-grows g h grows places adds.more tree x builds)
+pub use Rattle.unfold_places.proofs.Growing.{Any, builds_later}
 
 pub known_later : (n : NetView) (order : List ℕ) (last : ℕ) (g h : List Node) (places more : List (ℕ × ℕ)) (p : ℕ × ℕ) (x : ℕ) → Grows g h → Adds Any places more → IsKnown n order last g places p x →
     IsKnown n order last h more p x

@@ -12,6 +12,7 @@ pub use Rattle.unfold_places.proofs.Zips
 pub use Rattle.unfold_places.proofs.Words
 pub use Rattle.unfold_places.proofs.Passing
 pub use Rattle.unfold_places.proofs.Candidates
+pub use Rattle.unfold_places.proofs.Growing
 pub mod Walk
 pub mod Known
 pub mod PlaceLits

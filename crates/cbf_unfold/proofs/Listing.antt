@@ -24,7 +24,7 @@ use Rattle.cbf_unfold.specs.Unfolded.{Holds, Fits}
 use Rattle.cbf_unfold.specs.Building.{AreNumbered}
 use Rattle.unfold_places.specs.Visitors.{AreMet, AreVisitors, AreCandidates, ArePlacesAt, has_bit, with_bits}
 use Rattle.cbf_unfold.specs.Found.{IsFound}
-use Rattle.cbf_unfold.specs.declared.unfolder.Unfolded.{Unfolded}
+use Rattle.unfold_places.specs.declared.signal_function.Unfolded.{Unfolded}
 use Rattle.cbf_unfold.proofs.PlaceLits.{zip_more_left}
 use Rattle.unfold_places.proofs.Zips.{zip_back}
 use Rattle.unfold_places.proofs.Candidates.{IsAt, places_differ, inputs_at}

@@ -26,27 +26,9 @@ use Rattle.cbf_unfold.specs.Building.{AreKnown, IsMet, IsReady, HasGrown, IsInpu
 use Rattle.unfold_places.proofs.Lists.{adds_none, adds_weaker}
 use Rattle.unfold_places.proofs.Table.{interned}
 pub use Rattle.unfold_places.proofs.Zips.{zip_more_left}
+pub use Rattle.unfold_places.proofs.Growing.{zip_all, grown_none, cover_within_weight, input_grown, gate_grown, grown_as}
 use Rattle.unfold_places.proofs.Drivers.{driven_gate, gate_equation_stands, gate_steps_to, latch_equation_stands, latch_steps_to}
 use Rattle.cbf_unfold.proofs.Known.{Any, known_later, known_input, known_latch, known_gate}
-
--- what follows for each element on the right
-pub zip_all : {X Y : Type 0} (R : X → Y → Type 0) (P : Y → Type 0) → ((x : X) (y : Y) → R x y → P y) → (xs : List X) (ys : List Y) → AllZip R xs ys → All P ys
-zip_all R P f [] [] h = All-nil P
-zip_all R P f [] (y ∷ ys) h = absurd h
-zip_all R P f (x ∷ xs) [] h = absurd h
-zip_all R P f (x ∷ xs) (y ∷ ys) h = All-cons P y ys (f x y h.0) (zip_all R P f xs ys h.1)
-
--- nothing has grown
-pub grown_none : (g : List Node) (places more : List (ℕ × ℕ)) (room : ℕ) → more ≡ places → HasGrown g g places more room
-grown_none g places more room same = record { grows = Grows-refl g; adds = adds_none Any places more same; nodes = omega arith; entries = omega (arith, ap length same) }
-
--- a gate's room is within what it counts
-pub cover_within_weight : (covers : List Cover) (g : Gate) (cover : Cover) → cover_of covers g ≡ cover → cover.width ≡ length g.fanins → cover_room cover + 1 ≤ gate_weight covers (Some g)
-cover_within_weight covers g cover is width =
-    let weight : gate_weight covers (Some g) ≡ 1 + max 1 (length cover.rows) * (length g.fanins + 1) = ap (λ (k : Cover). 1 + max 1 (length k.rows) * (length g.fanins + 1)) is in
-    let room : cover_room cover ≡ length cover.rows * (length g.fanins + 1) = ap (λ w. length cover.rows * (w + 1)) width in
-    let less : length cover.rows * (length g.fanins + 1) ≤ max 1 (length cover.rows) * (length g.fanins + 1) = mul-le-mul_right (length g.fanins + 1) (let k : length cover.rows ≤ max 1 (length cover.rows) = omega arith in k) in
-    omega (arith, weight, room, less)
 
 -- the variable is the next one or one that was there
 pub gate_lit : {E : Type 0} (u : UnfolderView) (cycle j : ℕ) (h : List Node) (g : Gate) (lits : List Lit) (r : Result Lit E) → slice_get u.net.gates j ≡ Some g → AllZip (λ f y. Contains u.memo ((cycle, f.0), y)) g.fanins lits →
@@ -116,17 +98,3 @@ input_lit u i cycle cap number v os h places (Ok x) order caps at numbered lit w
   within = within;
 }
 input_lit u i cycle cap number v os h places (Err e) order caps at numbered lit within = lit
-
--- one variable more at most
-pub input_grown : (g h : List Node) (places more : List (ℕ × ℕ)) (p : ℕ × ℕ) → Grows g h → length h ≤ length g + 1 → (Contains places p → more ≡ places) → ((Contains places p → ⊥) → more ≡ places ++ p ∷ []) → HasGrown g h places more 1
-input_grown g h places more p grows few known added =
-    let one = interned places more p known added in
-    record { grows = grows; adds = adds_weaker (λ q. q ≡ p) Any places more (λ q e. tt) one.0; nodes = few; entries = one.1 }
-
--- a gate's place adds no entry
-pub gate_grown : (g h : List Node) (places : List (ℕ × ℕ)) (room weight : ℕ) → weight ≡ room → Grows g h → length h ≤ length g + room → HasGrown g h places places weight
-gate_grown g h places room weight same grows few = record { grows = grows; adds = adds_none Any places places refl; nodes = omega (arith, few, same); entries = omega arith }
-
--- the same growth within an equal room
-pub grown_as : (g h : List Node) (places more : List (ℕ × ℕ)) (room weight : ℕ) → weight ≡ room → HasGrown g h places more room → HasGrown g h places more weight
-grown_as g h places more room weight same grown = subst (HasGrown g h places more) (sym same) grown

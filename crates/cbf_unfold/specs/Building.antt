@@ -11,6 +11,7 @@ use Rattle.aig.specs.Rules.{IsCoverOf}
 use Rattle.unfold_places.specs.Places.{Steps, PlaceBefore, IsVisited}
 use Rattle.unfold_places.specs.Reach.{Adds, AreInputsAt}
 pub use Rattle.unfold_places.specs.Reach.{IsMet}
+pub use Rattle.unfold_places.specs.Growing.{HasGrown}
 use Rattle.cbf_unfold.specs.View.{UnfolderView}
 use Rattle.cbf_unfold.specs.Unfolded.{IsKnown}
 
@@ -30,13 +31,6 @@ pub record HasRoom (u : UnfolderView) (g : List Node) (places : List (ℕ × ℕ
   pub nodes : length g + u.cap < 2 ^ 30 + u.weight
   pub entries : length places + u.cap < 2 ^ 31 + u.weight
   pub small : u.weight ≤ u.cap
-
--- the graph and the table have grown by so much at most
-pub record HasGrown (g h : List Node) (places more : List (ℕ × ℕ)) (room : ℕ) : Type 0 where
-  pub grows : Grows g h
-  pub adds : Adds (λ p. Unit {0}) places more
-  pub nodes : length h ≤ length g + room
-  pub entries : length more ≤ length places + room
 
 -- The same unfolder later: it has met more, and the graph and the table have grown no more than the weight has. The weight
 -- is within the limit.

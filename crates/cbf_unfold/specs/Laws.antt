@@ -17,12 +17,9 @@ use Rattle.aig.specs.Cone.{IsReached}
 use Rattle.aig.specs.Values.{value}
 use Rattle.aig.specs.Builds.{HasOneLitEach, HasTreeValues}
 use Rattle.unfold_places.specs.Reach.{Adds}
+pub use Rattle.unfold_places.specs.Growing.{TakesBits}
 use Rattle.cbf_unfold.specs.View.{UnfolderView}
 use Rattle.cbf_unfold.specs.Unfolded.{IsUnfolded, Fits}
-
--- each variable of the table has its place's bit
-abbrev pub TakesBits : List (ℕ × ℕ) → (ℕ → ℕ → Bool) → (ℕ → Bool) → Type 0
-TakesBits places bits a = (v : ℕ) (p : ℕ × ℕ) → slice_get places v ≡ Some p → a v ≡ bits p.0 p.1
 
 -- What fits goes on to fit while the graph and the table grow, whoever lets them grow.
 abbrev pub FitsLater : Type 0

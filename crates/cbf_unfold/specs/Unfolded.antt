@@ -13,10 +13,7 @@ use Rattle.aig.specs.Builds.{Builds}
 use Rattle.unfold_places.specs.Places.{IsVisited, weight_at}
 use Rattle.cbf_unfold.specs.View.{UnfolderView}
 use Rattle.unfold_places.specs.Planned.{IsPlanned}
-
--- the number of the variable in the table
-abbrev pub IsNumberOf : List (ℕ × ℕ) → ℕ → Variable ℕ → Type 0
-IsNumberOf places v x = slice_get places v ≡ Some (x.input, x.at)
+pub use Rattle.unfold_places.specs.Growing.{IsNumberOf}
 
 -- The literal is that of the signal's tree, and the variables are the tree's leaves, each once: those of a greater shift
 -- first, and of one shift by the inputs' numbers.

@@ -2,15 +2,13 @@
 //! functions of Ranjan, Singhal, Somenzi and Brayton, DATE 1999).
 #![tactic(auto)]
 
-mod error;
 mod laws;
 pub mod reached_places;
 mod unfolder;
 
-pub use error::UnfoldError;
 pub use laws::{
     constant_reaches_none, equal_trees_one_literal, fits_later, literal_is_run, reached_from_one,
     unfolded_later, variables_cover_cone, windows,
 };
-pub use unfold_places::{memo, reads};
-pub use unfolder::{Unfolded, Unfolder};
+pub use unfold_places::{UnfoldError, Unfolded, memo, reads};
+pub use unfolder::Unfolder;

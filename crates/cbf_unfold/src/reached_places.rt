@@ -4,12 +4,13 @@ ghost use Rattle.std.specs.Prelude.{◌≡◌, ℕ, ◌<◌, ◌≤◌, [], ◌�
 ghost use Rattle.circuit_theory.specs.Sizes.{IsOver};
 ghost use Rattle.flat_net.specs.View.{circuit_of};
 ghost use Rattle.unfold_places.specs.Reach.{AreUnmet, IsReach};
-ghost use Rattle.cbf_unfold.specs.declared.error.UnfoldError.TheVariants as unfold_error;
+ghost use Rattle.unfold_places.specs.declared.error.UnfoldError.TheVariants as unfold_error;
 
-use crate::error::UnfoldError;
 use flat_net::{Net, Signal};
-use sec_base::{MAX_WEIGHT, NoMemory, PlaceTable};
+use sec_base::{MAX_WEIGHT, PlaceTable};
 use std::alloc::Global;
+use unfold_places::UnfoldError;
+use unfold_places::listing::listed;
 use unfold_places::memo::{Memo, Place};
 use unfold_places::reads::{add, add_read, weigh};
 
@@ -64,15 +65,4 @@ fn unmet(
         at += 1;
     }
     Ok(table)
-}
-
-/// The table's places as a list.
-pub fn listed(alloc: Global, table: &PlaceTable) -> Result<Vec<Place>, NoMemory>
-    ensures { IfOk result (λ places. places.items ≡ table.now) }
-{
-    let mut places = Vec::with_capacity(alloc, table.len() as usize)?;
-    for number in 0..table.len() {
-        places.push(table.pair(number))?;
-    }
-    Ok(places)
 }

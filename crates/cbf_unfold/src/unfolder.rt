@@ -8,14 +8,13 @@ ghost use Rattle.aig.specs.declared.node.Node.{Node};
 ghost use Rattle.cbf_unfold.specs.View.{IsOrderOf, IsUnfolder};
 ghost use Rattle.cbf_unfold.specs.Unfolded.{IsUnfolded, Fits};
 ghost use Rattle.cbf_unfold.specs.Building.{IsMet, IsLater};
-ghost use Rattle.cbf_unfold.specs.declared.error.UnfoldError.TheVariants as unfold_error;
+ghost use Rattle.unfold_places.specs.declared.error.UnfoldError.TheVariants as unfold_error;
 
 mod listing;
 mod literals;
 mod places;
 mod rooting;
 
-use crate::error::UnfoldError;
 use aig::{Aig, Lit};
 use flat_net::{Net, Signal};
 use latch_graph::LatchGraph;
@@ -23,16 +22,7 @@ use sec_base::{Ids, MAX_WEIGHT, NoMemory, PlaceTable};
 use std::alloc::Global;
 use std::marker::Model;
 use unfold_places::memo::{Memo, Place};
-
-/// A signal as a function of inputs at earlier cycles.
-#[derive(Drop)]
-pub struct Unfolded {
-    /// The function in the graph.
-    pub lit: Lit,
-    /// The inputs at shifts that the signal's tree has as leaves, by their numbers in the table: those of a greater
-    /// shift first, and of one shift by the inputs' numbers.
-    pub vars: Ids,
-}
+use unfold_places::{UnfoldError, Unfolded};
 
 /// Unfolds signals of one net. Each place, a signal some cycles ago, is unfolded once, whatever reads it.
 #[derive(Drop)]

@@ -8,7 +8,7 @@ use Rattle.std.proofs.lemmas.Option.{slice_get_within, slice_get-get_or}
 use Rattle.circuit_theory.specs.Query.{Variable, assigned, same_shift}
 use Rattle.circuit_theory.specs.Sequence.{sequence_row}
 use Rattle.circuit_theory.proofs.Lists.{Contains-map_from, of_at, length-map}
-use Rattle.cbf_unfold.proofs.Lists.{pairs_at}
+use Rattle.unfold_places.proofs.Lists.{pairs_at}
 use Rattle.pair_decide.specs.Queries.{assigned_to}
 use Rattle.reset_laws.specs.Reset.{CycleBefore}
 use Rattle.shift_variables.specs.Variables.{variable_of, variables_of}

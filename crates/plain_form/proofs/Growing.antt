@@ -11,8 +11,8 @@ use Rattle.flat_net.specs.declared.signals.Signal.{Signal}
 use Rattle.flat_net.specs.View.{NetView, circuit_of}
 use Rattle.aig.specs.declared.node.Node.{Node}
 use Rattle.aig.specs.Graph.{Grows}
-use Rattle.cbf_unfold.specs.declared.unfolder.Unfolded.{Unfolded}
-use Rattle.cbf_unfold.specs.Reach.{Adds}
+use Rattle.unfold_places.specs.declared.signal_function.Unfolded.{Unfolded}
+use Rattle.unfold_places.specs.Reach.{Adds}
 use Rattle.cbf_unfold.specs.View.{UnfolderView}
 use Rattle.cbf_unfold.specs.Unfolded.{IsUnfolded}
 use Rattle.cbf_unfold.specs.Building.{IsLater}

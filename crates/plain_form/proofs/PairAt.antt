@@ -7,7 +7,7 @@ use Rattle.circuit_theory.proofs.Lists.{Contains-map, Contains-map_from, of_at, 
 use Rattle.flat_net.specs.declared.parts.Port.{Port}
 use Rattle.flat_net.specs.View.{NetView}
 use Rattle.flat_net.specs.Sound.{IsSound}
-use Rattle.cbf_unfold.specs.declared.unfolder.Unfolded.{Unfolded}
+use Rattle.unfold_places.specs.declared.signal_function.Unfolded.{Unfolded}
 use Rattle.interface.specs.declared.pairs.SignalPair.{SignalPair}
 use Rattle.plain_form.specs.declared.functions.Functions.{Functions}
 use Rattle.sec_setup.specs.Pairs.{outputs_of, ArePairsOf}

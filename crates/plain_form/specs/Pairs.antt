@@ -7,7 +7,7 @@ use Rattle.circuit_theory.specs.Sizes.{IsWeight, IsOver}
 use Rattle.sec_base.specs.declared.limits.TheConstants.{MAX_WEIGHT}
 use Rattle.flat_net.specs.View.{NetView, circuit_of}
 use Rattle.aig.specs.declared.node.Node.{Node}
-use Rattle.cbf_unfold.specs.declared.unfolder.Unfolded.{Unfolded}
+use Rattle.unfold_places.specs.declared.signal_function.Unfolded.{Unfolded}
 use Rattle.cbf_unfold.specs.Unfolded.{IsUnfolded}
 use Rattle.plain_form.specs.declared.error.PlainError.{PlainError}
 use Rattle.plain_form.specs.declared.error.PlainError.TheVariants as refused

@@ -4,10 +4,10 @@ ghost use Rattle.std.specs.Prelude.{◌≡◌, ℕ, ◌+◌, ◌^◌, ◌<◌, �
 ghost use Rattle.std.specs.List.{AllZip};
 ghost use Rattle.circuit_theory.specs.declared.Side.TheVariants.{A, B};
 ghost use Rattle.aig.specs.Graph.{Grows};
-ghost use Rattle.cbf_unfold.specs.Reach.{Adds};
+ghost use Rattle.unfold_places.specs.Reach.{Adds};
 ghost use Rattle.cbf_unfold.specs.Unfolded.{Fits};
-ghost use Rattle.cbf_unfold.specs.View.{IsOrderOf};
-ghost use Rattle.cbf_unfold.specs.declared.error.UnfoldError.TheVariants as unfold_error;
+ghost use Rattle.unfold_places.specs.InputOrder.{IsOrderOf};
+ghost use Rattle.unfold_places.specs.declared.error.UnfoldError.TheVariants as unfold_error;
 ghost use Rattle.plain_form.specs.Pairs.{IsFunctionOf, AreLight, AreTooLarge, IsRefusalOf, Unfolds, left_signals, right_signals};
 
 use crate::error::PlainError;

@@ -21,12 +21,12 @@ use Rattle.aig.specs.Cone.{IsReached}
 use Rattle.aig.specs.Values.{value}
 use Rattle.aig.specs.Builds.{HasTreeValues}
 use Rattle.aig.proofs.CoverMeaning.{value-one}
-use Rattle.cbf_unfold.specs.declared.unfolder.Unfolded.{Unfolded}
-use Rattle.cbf_unfold.specs.Unfolded.{IsNumberOf}
-use Rattle.cbf_unfold.proofs.Cone.{reached_one, constant_reaches}
+use Rattle.unfold_places.specs.declared.signal_function.Unfolded.{Unfolded}
+use Rattle.unfold_places.specs.Growing.{IsNumberOf}
+use Rattle.unfold_places.proofs.Cone.{reached_one, constant_reaches}
 use Rattle.reset_unfold.specs.Unfolded.{IsResetUnfolded}
 use Rattle.reset_unfold.proofs.CoveredCones.{covers_cone}
-use Rattle.cbf_unfold.proofs.Lists.{pairs_map}
+use Rattle.unfold_places.proofs.Lists.{pairs_map}
 use Rattle.pair_decide.specs.declared.query.Query.{Query}
 use Rattle.pair_decide.specs.Queries.{IsQuery, IsSame, IsLeast, Distinguishes, assigned_to, roots_of}
 use Rattle.shift_variables.specs.Sequences.{bits_at}

@@ -17,9 +17,9 @@ use Rattle.flat_net.specs.View.{NetView, circuit_of}
 use Rattle.reset_laws.specs.Weight.{IsResetOver}
 use Rattle.aig.specs.declared.node.Node.{Node}
 use Rattle.aig.specs.Graph.{Grows}
-use Rattle.cbf_unfold.specs.declared.unfolder.Unfolded.{Unfolded}
-use Rattle.cbf_unfold.specs.Reach.{Adds}
-use Rattle.cbf_unfold.proofs.Lists.{append_cases}
+use Rattle.unfold_places.specs.declared.signal_function.Unfolded.{Unfolded}
+use Rattle.unfold_places.specs.Reach.{Adds}
+use Rattle.unfold_places.proofs.Lists.{append_cases}
 use Rattle.reset_unfold.specs.Places.{starts_of}
 use Rattle.reset_unfold.specs.View.{ResetView}
 use Rattle.reset_unfold.specs.Unfolded.{IsResetUnfolded}

@@ -13,8 +13,8 @@ use Rattle.flat_net.specs.declared.parts.Port.{Port}
 use Rattle.flat_net.specs.View.{NetView, circuit_of}
 use Rattle.flat_net.specs.Sound.{IsSound}
 use Rattle.flat_net.proofs.Growth.{length-push}
-use Rattle.cbf_unfold.specs.declared.unfolder.Unfolded.{Unfolded}
-use Rattle.cbf_unfold.proofs.Lists.{append_cases}
+use Rattle.unfold_places.specs.declared.signal_function.Unfolded.{Unfolded}
+use Rattle.unfold_places.proofs.Lists.{append_cases}
 use Rattle.pair_decide.specs.declared.query.Query.{Query}
 use Rattle.aig.specs.declared.node.Node.{Node}
 use Rattle.interface.specs.declared.pairs.SignalPair.{SignalPair}

@@ -12,7 +12,7 @@ use Rattle.sec_base.specs.declared.basics.PairAnswer.TheVariants as answer
 use Rattle.sec_base.specs.Table.{AreDistinct}
 use Rattle.aig.specs.Graph.{IsGraph}
 use Rattle.aig.specs.Builds.{HasTreeValues}
-use Rattle.cbf_unfold.specs.declared.unfolder.Unfolded.{Unfolded}
+use Rattle.unfold_places.specs.declared.signal_function.Unfolded.{Unfolded}
 use Rattle.pair_decide.specs.declared.query.Query.{Query}
 use Rattle.pair_decide.specs.declared.query.Proof.{Proof}
 use Rattle.pair_decide.specs.Queries.{IsQuery, IsSame}

@@ -7,7 +7,7 @@ use Rattle.circuit_theory.specs.declared.Side.TheVariants.{A, B}
 use Rattle.circuit_theory.proofs.Lists.{length-map}
 use Rattle.flat_net.specs.declared.parts.Port.{Port}
 use Rattle.flat_net.specs.View.{NetView}
-use Rattle.cbf_unfold.specs.View.{IsOrderOf}
+use Rattle.unfold_places.specs.InputOrder.{IsOrderOf}
 use Rattle.sec_setup.specs.declared.setup.Setup.{Setup}
 use Rattle.sec_setup.specs.Setup.{AreColumns}
 use Rattle.shift_variables.proofs.Assignments.{once_each}

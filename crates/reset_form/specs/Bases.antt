@@ -1,7 +1,7 @@
 -- The numbers of the latches' variables.
 use Rattle.std.specs.Prelude.{◌≡◌, ◌+◌, ◌^◌, ◌<◌, ◌≤◌, length, All}
 use Rattle.sec_setup.specs.declared.setup.Setup.{Setup}
-use Rattle.cbf_unfold.specs.View.{IsOrderOf}
+use Rattle.unfold_places.specs.InputOrder.{IsOrderOf}
 use Rattle.reset_form.specs.declared.bases.Bases.{Bases}
 use Rattle.reset_form.specs.declared.functions.Part.{Part}
 

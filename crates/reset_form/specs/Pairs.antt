@@ -8,7 +8,7 @@ use Rattle.sec_base.specs.declared.limits.TheConstants.{MAX_WEIGHT}
 use Rattle.flat_net.specs.View.{NetView, circuit_of}
 use Rattle.reset_laws.specs.Weight.{IsResetWeight, IsResetOver}
 use Rattle.aig.specs.declared.node.Node.{Node}
-use Rattle.cbf_unfold.specs.declared.unfolder.Unfolded.{Unfolded}
+use Rattle.unfold_places.specs.declared.signal_function.Unfolded.{Unfolded}
 use Rattle.reset_unfold.specs.Places.{starts_of}
 use Rattle.reset_unfold.specs.View.{ResetView}
 use Rattle.reset_unfold.specs.Unfolded.{IsResetUnfolded}

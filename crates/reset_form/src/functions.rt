@@ -3,8 +3,8 @@
 ghost use Rattle.std.specs.Prelude.{◌≡◌, ℕ, ◌+◌, ◌^◌, ◌<◌, ◌≤◌, [], length, All, Contains, IfOk, IfErr, OnOk};
 ghost use Rattle.std.specs.List.{AllZip};
 ghost use Rattle.aig.specs.Graph.{Grows};
-ghost use Rattle.cbf_unfold.specs.Reach.{Adds};
-ghost use Rattle.cbf_unfold.specs.declared.error.UnfoldError.TheVariants as unfold_error;
+ghost use Rattle.unfold_places.specs.Reach.{Adds};
+ghost use Rattle.unfold_places.specs.declared.error.UnfoldError.TheVariants as unfold_error;
 ghost use Rattle.reset_unfold.specs.Unfolded.{FitsReset};
 ghost use Rattle.reset_unfold.specs.Building.{IsLaterReset};
 ghost use Rattle.reset_unfold.specs.Places.{starts_of};
@@ -17,8 +17,8 @@ ghost use Rattle.reset_form.specs.Pairs.{AreCyclesOf, AreTops, IsAmong, IsBelow,
 use crate::bases::Bases;
 use crate::error::ResetError;
 use aig::Aig;
-use cbf_unfold::memo::Place;
-use cbf_unfold::{UnfoldError, Unfolded};
+use unfold_places::memo::Place;
+use unfold_places::{UnfoldError, Unfolded};
 use flat_net::{Net, Signal};
 use latch_graph::LatchGraph;
 use reset_unfold::ResetUnfolder;

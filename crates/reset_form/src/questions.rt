@@ -10,7 +10,7 @@ ghost use Rattle.reset_form.specs.Pairs.{HaveFunctions};
 use crate::bases::Bases;
 use crate::functions::Functions;
 use aig::Lit;
-use cbf_unfold::Unfolded;
+use unfold_places::Unfolded;
 use cycle_variables::merge_cycles;
 use obligations::{Obligation, Queries, copy_name};
 use pair_decide::Query;

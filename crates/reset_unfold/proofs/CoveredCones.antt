@@ -10,7 +10,7 @@ use Rattle.aig.specs.declared.node.Node.{Node}
 use Rattle.aig.specs.declared.node.Node.TheVariants.{Input}
 use Rattle.aig.specs.Graph.{IsGraph}
 use Rattle.aig.specs.Cone.{IsReached}
-use Rattle.cbf_unfold.proofs.Cone.{supports_tree, number_among, numbers_apart, from_one}
+use Rattle.unfold_places.proofs.Cone.{supports_tree, number_among, numbers_apart, from_one}
 use Rattle.reset_unfold.specs.Unfolded.{IsResetUnfolded}
 
 cycle_apart : (x y : Variable ℕ) → CycleBefore x y → x ≡ y → ⊥

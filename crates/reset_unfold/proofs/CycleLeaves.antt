@@ -16,9 +16,9 @@ use Rattle.flat_net.proofs.Nets.{some_at}
 use Rattle.flat_net.proofs.Places.{one_at}
 use Rattle.sec_base.proofs.TableLemmas.{slice_get-take}
 use Rattle.reset_laws.specs.Weight.{ResetVisits}
-use Rattle.cbf_unfold.specs.Places.{PlaceBefore}
-use Rattle.cbf_unfold.proofs.InputLists.{pairs_push}
-use Rattle.cbf_unfold.proofs.Lists.{pairs_at}
+use Rattle.unfold_places.specs.Places.{PlaceBefore}
+use Rattle.unfold_places.proofs.InputLists.{pairs_push}
+use Rattle.unfold_places.proofs.Lists.{pairs_at}
 use Rattle.reset_unfold.specs.Places.{IsLeafAt}
 use Rattle.reset_unfold.specs.Reach.{AreVisited, IsReach, AreLeavesOf, AreLeavesAt}
 use Rattle.reset_unfold.specs.Cone.{ConeView, IsCone, IsStart, IsBlock, IsLaterLeaf, HasLater}

@@ -17,12 +17,12 @@ use Rattle.reset_nets.proofs.Starts.{nets_have_starts}
 use Rattle.aig.specs.declared.node.Lit.{Lit}
 use Rattle.aig.specs.declared.node.Node.{Node}
 use Rattle.aig.specs.Builds.{Builds}
-use Rattle.cbf_unfold.specs.Places.{Steps, PlaceBefore, weight_at}
-use Rattle.cbf_unfold.specs.Reach.{IsThere}
-use Rattle.cbf_unfold.specs.Unfolded.{IsNumberOf}
-use Rattle.cbf_unfold.specs.Building.{IsMet}
-use Rattle.cbf_unfold.specs.View.{IsOrderOf}
-use Rattle.cbf_unfold.proofs.Finish.{zip_map}
+use Rattle.unfold_places.specs.Places.{Steps, PlaceBefore, weight_at}
+use Rattle.unfold_places.specs.Reach.{IsThere}
+use Rattle.unfold_places.specs.Growing.{IsNumberOf}
+use Rattle.unfold_places.specs.Reach.{IsMet}
+use Rattle.unfold_places.specs.InputOrder.{IsOrderOf}
+use Rattle.unfold_places.proofs.Growing.{zip_map}
 use Rattle.reset_unfold.specs.Places.{IsLeafAt, starts_of, in_cycle}
 use Rattle.reset_unfold.specs.Reach.{AreUnmet, IsReach, AreLeavesAt}
 use Rattle.reset_unfold.specs.Cone.{ConeView, IsCone}

@@ -14,10 +14,10 @@ use Rattle.aig.specs.Graph.{Grows}
 use Rattle.aig.specs.Rules.{IsCoverOf}
 use Rattle.aig.specs.Builds.{BuildsAll}
 use Rattle.aig.proofs.Growth.{Grows-length}
-use Rattle.cbf_unfold.specs.Reach.{Adds}
-use Rattle.cbf_unfold.specs.Unfolded.{IsNumberOf}
-use Rattle.cbf_unfold.proofs.Lists.{adds_at}
-use Rattle.cbf_unfold.proofs.Known.{Any, builds_later}
+use Rattle.unfold_places.specs.Reach.{Adds}
+use Rattle.unfold_places.specs.Growing.{IsNumberOf}
+use Rattle.unfold_places.proofs.Lists.{adds_at}
+use Rattle.unfold_places.proofs.Growing.{Any, builds_later}
 use Rattle.reset_unfold.specs.Places.{IsLeafAt}
 use Rattle.reset_unfold.specs.View.{ResetView}
 use Rattle.reset_unfold.specs.Unfolded.{IsKnown, IsResetUnfolded, FitsReset, Holds}

@@ -11,11 +11,11 @@ use Rattle.circuit_theory.specs.Query.{Variable}
 use Rattle.circuit_theory.proofs.Lists.{at_of}
 use Rattle.sec_base.proofs.TableLemmas.{slice_get-take}
 use Rattle.reset_laws.specs.Weight.{ResetVisits}
-use Rattle.cbf_unfold.specs.Places.{PlaceBefore}
-use Rattle.cbf_unfold.specs.Reach.{IsThere}
-use Rattle.cbf_unfold.proofs.InputLists.{place_apart, pairs_push}
-use Rattle.cbf_unfold.proofs.Lists.{pairs_at}
-use Rattle.cbf_unfold.proofs.Order.{differ_permuted}
+use Rattle.unfold_places.specs.Places.{PlaceBefore}
+use Rattle.unfold_places.specs.Reach.{IsThere}
+use Rattle.unfold_places.proofs.InputLists.{place_apart, pairs_push}
+use Rattle.unfold_places.proofs.Lists.{pairs_at}
+use Rattle.unfold_places.proofs.Order.{differ_permuted}
 use Rattle.reset_unfold.specs.Places.{IsLeafAt}
 use Rattle.reset_unfold.specs.Reach.{AreVisited, AreLeavesOf, AreLeavesAt}
 

@@ -5,9 +5,9 @@ use Rattle.std.proofs.lemmas.List.Sorted.{IsPermutation-sym, All-permutation, Co
 use Rattle.circuit_theory.specs.Circuit.{Circuit}
 use Rattle.sec_base.specs.Table.{AreDistinct}
 use Rattle.aig.specs.declared.node.Lit.{Lit}
-use Rattle.cbf_unfold.specs.Reach.{IsThere}
-use Rattle.cbf_unfold.proofs.Over.{pairs_differ}
-use Rattle.cbf_unfold.proofs.Order.{place_cmp, differ_permuted, strictly}
+use Rattle.unfold_places.specs.Reach.{IsThere}
+use Rattle.unfold_places.proofs.Over.{pairs_differ}
+use Rattle.unfold_places.proofs.Order.{place_cmp, differ_permuted, strictly}
 use Rattle.reset_unfold.specs.Reach.{AreUnmet, IsReach}
 
 there_moved : (memo : List ((ℕ × ℕ) × Lit)) (xs ys : List (ℕ × ℕ)) (p : ℕ × ℕ) → IsPermutation xs ys → IsThere memo xs p → IsThere memo ys p

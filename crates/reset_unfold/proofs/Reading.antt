@@ -6,10 +6,10 @@ use Rattle.flat_net.specs.declared.parts.LatchAt.{LatchAt}
 use Rattle.flat_net.specs.View.{NetView, circuit_of}
 use Rattle.flat_net.specs.Sound.{IsSound}
 use Rattle.flat_net.proofs.Places.{one_at}
-use Rattle.cbf_unfold.specs.Places.{Steps}
-use Rattle.cbf_unfold.specs.Reach.{Adds}
-use Rattle.cbf_unfold.proofs.Lists.{adds_weaker}
-use Rattle.cbf_unfold.proofs.Drivers.{gate_of_equation, no_port, latch_equation_stands, latch_steps_from}
+use Rattle.unfold_places.specs.Places.{Steps}
+use Rattle.unfold_places.specs.Reach.{Adds}
+use Rattle.unfold_places.proofs.Lists.{adds_weaker}
+use Rattle.unfold_places.proofs.Drivers.{gate_of_equation, no_port, latch_equation_stands, latch_steps_from}
 
 no_gate_latch : {i j : ℕ} → driver.Gate i ≡ driver.Latch j → ⊥
 no_gate_latch e = cc

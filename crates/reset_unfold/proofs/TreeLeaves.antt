@@ -13,8 +13,8 @@ use Rattle.circuit_laws.proofs.LeafVisits.{leaf_says, leaf_in_says}
 use Rattle.reset_laws.specs.Reset.{ResetUnfolds, ResetUnfoldsAll, HasStarts, CycleBefore}
 use Rattle.reset_laws.specs.Weight.{ResetVisits}
 use Rattle.reset_laws.proofs.ResetExist.{shape, one_tree}
-use Rattle.cbf_unfold.specs.Places.{PlaceBefore}
-use Rattle.cbf_unfold.proofs.Lists.{pairs_map}
+use Rattle.unfold_places.specs.Places.{PlaceBefore}
+use Rattle.unfold_places.proofs.Lists.{pairs_map}
 use Rattle.reset_unfold.specs.Places.{IsLeafAt}
 use Rattle.reset_unfold.specs.Reach.{AreLeavesAt}
 use Rattle.reset_unfold.proofs.LeafLists.{variable_of}

@@ -13,12 +13,12 @@ use Rattle.flat_net.specs.View.{NetView, circuit_of}
 use Rattle.flat_net.specs.Sound.{IsSound}
 use Rattle.flat_net.proofs.Places.{All-at, one_at}
 use Rattle.reset_laws.specs.Weight.{ResetVisits, IsResetOver}
-use Rattle.cbf_unfold.specs.Places.{Steps, weight_at}
+use Rattle.unfold_places.specs.Places.{Steps, weight_at}
 use Rattle.aig.specs.declared.node.Lit.{Lit}
-use Rattle.cbf_unfold.specs.Reach.{Adds, IsThere}
-use Rattle.cbf_unfold.proofs.Lists.{adds_at, adds_cases, adds_length, adds_take, there_later}
-use Rattle.cbf_unfold.proofs.Drivers.{weight_positive, step_within}
-use Rattle.cbf_unfold.proofs.Over.{pairs_differ, distinct_front}
+use Rattle.unfold_places.specs.Reach.{Adds, IsThere}
+use Rattle.unfold_places.proofs.Lists.{adds_at, adds_cases, adds_length, adds_take, there_later}
+use Rattle.unfold_places.proofs.Drivers.{weight_positive, step_within}
+use Rattle.unfold_places.proofs.Over.{pairs_differ, distinct_front}
 use Rattle.reset_unfold.specs.Places.{starts_of}
 use Rattle.reset_unfold.specs.Reach.{AreUnmet}
 use Rattle.reset_unfold.proofs.Weighing.{over_from}

@@ -2,7 +2,7 @@
 use Rattle.std.specs.Prelude.{◌≡◌, ◌≢◌, ◌⊎◌, ◌↔◌, ℕ, ◌+◌, ◌<◌, ◌≤◌, List, [], length, Some, slice_get, Contains}
 use Rattle.std.specs.List.{AllPairs}
 use Rattle.flat_net.specs.View.{NetView, circuit_of}
-use Rattle.cbf_unfold.specs.Places.{PlaceBefore}
+use Rattle.unfold_places.specs.Places.{PlaceBefore}
 use Rattle.reset_unfold.specs.Reach.{AreVisited, AreLeavesAt}
 
 -- what a contract sees of a cone

@@ -13,8 +13,8 @@ use Rattle.aig.specs.Graph.{IsGraph, Grows}
 use Rattle.aig.specs.Cone.{IsReached}
 use Rattle.aig.specs.Values.{value}
 use Rattle.aig.specs.Builds.{HasOneLitEach, HasTreeValues}
-use Rattle.cbf_unfold.specs.Reach.{Adds}
-use Rattle.cbf_unfold.specs.Laws.{TakesBits}
+use Rattle.unfold_places.specs.Reach.{Adds}
+use Rattle.unfold_places.specs.Growing.{TakesBits}
 use Rattle.reset_unfold.specs.View.{ResetView}
 use Rattle.reset_unfold.specs.Unfolded.{IsResetUnfolded, FitsReset}
 

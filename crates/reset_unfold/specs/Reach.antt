@@ -4,8 +4,8 @@ use Rattle.std.specs.List.{AllPairs}
 use Rattle.circuit_theory.specs.Circuit.{Circuit}
 use Rattle.reset_laws.specs.Weight.{ResetVisits}
 use Rattle.aig.specs.declared.node.Lit.{Lit}
-use Rattle.cbf_unfold.specs.Places.{Steps, PlaceBefore}
-use Rattle.cbf_unfold.specs.Reach.{IsThere}
+use Rattle.unfold_places.specs.Places.{Steps, PlaceBefore}
+use Rattle.unfold_places.specs.Reach.{IsThere}
 use Rattle.reset_unfold.specs.Places.{IsLeafAt}
 
 -- Places that the unfolding visits. The signal's own, and each that a place of the list reads, is one of them or has been met.

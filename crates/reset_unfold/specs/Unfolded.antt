@@ -11,8 +11,8 @@ use Rattle.flat_net.specs.View.{NetView, circuit_of}
 use Rattle.aig.specs.declared.node.Lit.{Lit}
 use Rattle.aig.specs.declared.node.Node.{Node}
 use Rattle.aig.specs.Builds.{Builds}
-use Rattle.cbf_unfold.specs.Places.{weight_at}
-use Rattle.cbf_unfold.specs.Unfolded.{IsNumberOf}
+use Rattle.unfold_places.specs.Places.{weight_at}
+use Rattle.unfold_places.specs.Growing.{IsNumberOf}
 use Rattle.reset_unfold.specs.Places.{IsVisited, starts_of}
 use Rattle.reset_unfold.specs.View.{ResetView}
 

@@ -2,16 +2,16 @@
 
 ghost use Rattle.std.specs.Prelude.{◌≡◌, ℕ, ◌+◌, ◌^◌, ◌<◌, ◌≤◌, [], length, All, IfOk, OnOk};
 ghost use Rattle.std.specs.List.{AllPairs};
-ghost use Rattle.cbf_unfold.specs.Places.{PlaceBefore};
-ghost use Rattle.cbf_unfold.specs.View.{IsOrderOf};
+ghost use Rattle.unfold_places.specs.Places.{PlaceBefore};
+ghost use Rattle.unfold_places.specs.InputOrder.{IsOrderOf};
 ghost use Rattle.reset_unfold.specs.Cone.{HasLater, IsBlock, IsCone, IsStart};
 
 use crate::leaves::leaves_of;
-use cbf_unfold::memo::Place;
 use flat_net::Net;
 use sec_base::NoMemory;
 use std::alloc::Global;
 use std::marker::Model;
+use unfold_places::memo::Place;
 
 /// What the unfoldings of a signal in the cycles from 0 to a last one visit, by one walk. It goes from cycle to cycle, and has the
 /// leaves in each.

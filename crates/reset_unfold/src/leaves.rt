@@ -4,16 +4,16 @@ ghost use Rattle.std.specs.Prelude.{◌≡◌, ℕ, ◌+◌, ◌^◌, ◌<◌, l
 ghost use Rattle.std.specs.List.{AllPairs, AllZip};
 ghost use Rattle.flat_net.specs.View.{circuit_of, start_of};
 ghost use Rattle.flat_net.specs.declared.parts.Driver.TheVariants as driver;
-ghost use Rattle.cbf_unfold.specs.Places.{PlaceBefore};
-ghost use Rattle.cbf_unfold.specs.View.{IsOrderOf};
+ghost use Rattle.unfold_places.specs.Places.{PlaceBefore};
+ghost use Rattle.unfold_places.specs.InputOrder.{IsOrderOf};
 ghost use Rattle.reset_unfold.specs.Places.{IsLeafAt, IsFreeAt};
 ghost use Rattle.reset_unfold.specs.Reach.{AreLeavesOf};
 
-use cbf_unfold::memo::Place;
-use cbf_unfold::reads::latch_of;
 use flat_net::{Driver, LatchAt, Net, Signal};
 use sec_base::{Ids, Init, NoMemory, PlaceTable, Seq};
 use std::alloc::Global;
+use unfold_places::memo::Place;
+use unfold_places::reads::latch_of;
 
 /// The latch's initial value, where it is 0 or 1.
 pub(crate) fn initial(latch: &LatchAt) -> Option<bool>

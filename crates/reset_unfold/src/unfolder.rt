@@ -5,10 +5,10 @@ ghost use Rattle.std.specs.List.{AllPairs};
 ghost use Rattle.reset_laws.specs.Weight.{IsResetOver};
 ghost use Rattle.flat_net.specs.View.{circuit_of};
 ghost use Rattle.aig.specs.declared.node.Node.{Node};
-ghost use Rattle.cbf_unfold.specs.View.{IsOrderOf};
-ghost use Rattle.cbf_unfold.specs.Places.{PlaceBefore};
-ghost use Rattle.cbf_unfold.specs.Building.{IsMet};
-ghost use Rattle.cbf_unfold.specs.declared.error.UnfoldError.TheVariants as unfold_error;
+ghost use Rattle.unfold_places.specs.InputOrder.{IsOrderOf};
+ghost use Rattle.unfold_places.specs.Places.{PlaceBefore};
+ghost use Rattle.unfold_places.specs.Reach.{IsMet};
+ghost use Rattle.unfold_places.specs.declared.error.UnfoldError.TheVariants as unfold_error;
 ghost use Rattle.reset_unfold.specs.Places.{starts_of};
 ghost use Rattle.reset_unfold.specs.View.{IsResetUnfolder};
 ghost use Rattle.reset_unfold.specs.Unfolded.{IsResetUnfolded, FitsReset};
@@ -23,13 +23,13 @@ use crate::cone::Cone;
 use crate::leaves::{leaves_of, numbers_of};
 use crate::reached::reach;
 use aig::{Aig, Lit};
-use cbf_unfold::memo::{Memo, Place};
-use cbf_unfold::{UnfoldError, Unfolded};
 use flat_net::{Net, Signal};
 use latch_graph::LatchGraph;
 use sec_base::{Ids, MAX_WEIGHT, NoMemory, PlaceTable};
 use std::alloc::Global;
 use std::marker::Model;
+use unfold_places::memo::{Memo, Place};
+use unfold_places::{UnfoldError, Unfolded};
 
 /// Unfolds signals of one net in cycles of runs that begin with the latches' initial values. Each place, a signal in a cycle,
 /// is unfolded once, whatever reads it.

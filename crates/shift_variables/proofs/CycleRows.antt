@@ -12,7 +12,7 @@ use Rattle.circuit_theory.proofs.Lists.{All-from_each, Contains-map_from, at_of,
 use Rattle.circuit_theory.proofs.Sums.{AllPairs-head, AllPairs-tail}
 use Rattle.sec_base.proofs.TableLemmas.{slice_get-take}
 use Rattle.latch_graph.proofs.Trails.{slice_get-drop}
-use Rattle.cbf_unfold.proofs.Lists.{pairs_at}
+use Rattle.unfold_places.proofs.Lists.{pairs_at}
 use Rattle.flat_net.proofs.Places.{All-at}
 use Rattle.pair_decide.specs.Queries.{assigned_to}
 use Rattle.shift_variables.specs.Variables.{variable_of, variables_of, GoesBefore}

@@ -12,3 +12,5 @@ pub mod Zips
 pub mod Words
 pub mod Passing
 pub mod Candidates
+pub mod Growing
+pub mod Cone

@@ -3,3 +3,4 @@ pub mod Reach
 pub mod Planned
 pub mod InputOrder
 pub mod Visitors
+pub mod Growing

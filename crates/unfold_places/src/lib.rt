@@ -1,8 +1,15 @@
 //! The places that the unfoldings of a net's signals visit, a place being a signal some cycles ago: those that were met, with
-//! their literals, what each reads and counts, which signals visit which, and the inputs among them.
+//! their literals, what each reads and counts, which signals visit which, and the inputs among them. Here stands what an
+//! unfolding answers, a literal with its variables or why there is none, whatever runs it is of.
 #![tactic(auto)]
 
+mod error;
+pub mod listing;
 pub mod memo;
 pub mod reads;
+mod signal_function;
 pub mod variables;
 pub mod visitors;
+
+pub use error::UnfoldError;
+pub use signal_function::Unfolded;

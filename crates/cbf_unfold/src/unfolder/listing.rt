@@ -10,11 +10,12 @@ ghost use Rattle.cbf_unfold.specs.Building.{AreNumbered};
 ghost use Rattle.unfold_places.specs.Visitors.{AreLinks, AreVisitors, AreInputNumbers, AreCandidates, ArePlacesAt, with_bits};
 ghost use Rattle.cbf_unfold.specs.Found.{IsFound};
 
-use super::{Unfolded, Unfolder};
+use super::Unfolder;
 use aig::Lit;
 use flat_net::Signal;
 use sec_base::{Ids, NoMemory, PlaceTable};
 use std::alloc::Global;
+use unfold_places::Unfolded;
 use unfold_places::memo::Place;
 use unfold_places::variables::{inputs_of, numbers_of};
 use unfold_places::visitors::{input_numbers, links_of, places_at, visitors_of, with_bits};

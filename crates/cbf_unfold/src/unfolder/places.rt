@@ -6,14 +6,14 @@ ghost use Rattle.flat_net.specs.View.{circuit_of};
 ghost use Rattle.unfold_places.specs.Reach.{IsReach};
 ghost use Rattle.cbf_unfold.specs.Unfolded.{Holds};
 ghost use Rattle.cbf_unfold.specs.Building.{IsMet, IsReady, HasRoom, IsLater};
-ghost use Rattle.cbf_unfold.specs.declared.error.UnfoldError.TheVariants as unfold_error;
+ghost use Rattle.unfold_places.specs.declared.error.UnfoldError.TheVariants as unfold_error;
 
 use super::Unfolder;
-use crate::error::UnfoldError;
 use aig::Aig;
 use flat_net::Signal;
 use sec_base::PlaceTable;
 use std::alloc::Global;
+use unfold_places::UnfoldError;
 use unfold_places::memo::Place;
 use unfold_places::reads::weigh;
 

@@ -6,15 +6,15 @@ ghost use Rattle.circuit_theory.specs.Sizes.{IsOver};
 ghost use Rattle.flat_net.specs.View.{circuit_of};
 ghost use Rattle.cbf_unfold.specs.Unfolded.{Fits};
 ghost use Rattle.cbf_unfold.specs.Building.{HasRoom, IsLater};
-ghost use Rattle.cbf_unfold.specs.declared.error.UnfoldError.TheVariants as unfold_error;
+ghost use Rattle.unfold_places.specs.declared.error.UnfoldError.TheVariants as unfold_error;
 
 use super::Unfolder;
-use crate::error::UnfoldError;
 use crate::reached_places::reach;
 use aig::{Aig, Lit};
 use flat_net::Signal;
 use sec_base::{MAX_WEIGHT, PlaceTable};
 use std::alloc::Global;
+use unfold_places::UnfoldError;
 
 impl<'a> Unfolder<'a> {
     /// The literals of the signals, in their order.

@@ -5,19 +5,20 @@ ghost use Rattle.std.specs.List.{AllZip};
 ghost use Rattle.flat_net.specs.declared.parts.Driver.TheVariants as driver;
 ghost use Rattle.aig.specs.declared.node.Lit.{Lit};
 ghost use Rattle.aig.specs.Graph.{Grows};
-ghost use Rattle.cbf_unfold.specs.Places.{gate_weight, weight_at};
-ghost use Rattle.cbf_unfold.specs.Building.{IsMet, HasGrown};
+ghost use Rattle.unfold_places.specs.Places.{gate_weight, weight_at};
+ghost use Rattle.unfold_places.specs.Reach.{IsMet};
+ghost use Rattle.unfold_places.specs.Growing.{HasGrown};
 ghost use Rattle.reset_unfold.specs.Unfolded.{IsKnown};
 ghost use Rattle.reset_unfold.specs.Building.{AreKnown, IsReady, IsVariableLit, IsGateLit};
 
 use super::ResetUnfolder;
 use crate::leaves::initial;
 use aig::{Aig, Lit};
-use cbf_unfold::memo::Place;
-use cbf_unfold::reads::{gate_of, latch_of};
 use flat_net::{Driver, Signal};
 use sec_base::{NoMemory, PlaceTable};
 use std::alloc::Global;
+use unfold_places::memo::Place;
+use unfold_places::reads::{gate_of, latch_of};
 
 impl<'a> ResetUnfolder<'a> {
     /// The literal of a place that can be unfolded.

@@ -3,8 +3,8 @@
 ghost use Rattle.std.specs.Prelude.{◌≡◌, ℕ, ◌+◌, ◌^◌, ◌<◌, ◌≤◌, length, Contains, OnOk};
 ghost use Rattle.reset_laws.specs.Weight.{IsResetOver};
 ghost use Rattle.flat_net.specs.View.{circuit_of};
-ghost use Rattle.cbf_unfold.specs.Building.{IsMet};
-ghost use Rattle.cbf_unfold.specs.declared.error.UnfoldError.TheVariants as unfold_error;
+ghost use Rattle.unfold_places.specs.Reach.{IsMet};
+ghost use Rattle.unfold_places.specs.declared.error.UnfoldError.TheVariants as unfold_error;
 ghost use Rattle.reset_unfold.specs.Places.{starts_of};
 ghost use Rattle.reset_unfold.specs.Reach.{IsReach};
 ghost use Rattle.reset_unfold.specs.Unfolded.{Holds};
@@ -12,12 +12,12 @@ ghost use Rattle.reset_unfold.specs.Building.{IsReady, HasRoom, IsLaterReset};
 
 use super::ResetUnfolder;
 use aig::Aig;
-use cbf_unfold::UnfoldError;
-use cbf_unfold::memo::Place;
-use cbf_unfold::reads::weigh;
 use flat_net::Signal;
 use sec_base::PlaceTable;
 use std::alloc::Global;
+use unfold_places::UnfoldError;
+use unfold_places::memo::Place;
+use unfold_places::reads::weigh;
 
 impl<'a> ResetUnfolder<'a> {
     /// Unfolds all places of one of the signals that are to be unfolded.

@@ -4,7 +4,7 @@ use Rattle.std.specs.List.{AllZip}
 use Rattle.circuit_theory.specs.Sizes.{IsWeight, IsOver}
 use Rattle.flat_net.specs.declared.signals.Signal.{Signal}
 use Rattle.flat_net.specs.View.{NetView, circuit_of}
-use Rattle.cbf_unfold.specs.declared.unfolder.Unfolded.{Unfolded}
+use Rattle.unfold_places.specs.declared.signal_function.Unfolded.{Unfolded}
 use Rattle.plain_form.specs.Pairs.{IsFunctionOf}
 use Rattle.plain_form.proofs.Growing.{numbers_of}
 use Rattle.plain_form.proofs.functions.unfold_all.Goals as goal

@@ -3,8 +3,8 @@ use Rattle.std.proofs.Common.{◌≡◌, ◌∙◌, ℕ, List, map, Err, IfErr, 
 use Rattle.std.specs.List.{AllZip}
 use Rattle.circuit_theory.proofs.Lists.{map-map}
 use Rattle.flat_net.specs.declared.signals.Signal.{Signal}
-use Rattle.cbf_unfold.proofs.Lists.{adds_none}
-use Rattle.cbf_unfold.specs.declared.unfolder.Unfolded.{Unfolded}
+use Rattle.unfold_places.proofs.Lists.{adds_none}
+use Rattle.unfold_places.specs.declared.signal_function.Unfolded.{Unfolded}
 use Rattle.interface.specs.declared.pairs.SignalPair.{SignalPair}
 use Rattle.plain_form.specs.Pairs.{IsFunctionOf, AreLight, IsRefusalOf, right_signals}
 use Rattle.circuit_theory.specs.declared.Side.TheVariants.{B}

@@ -4,9 +4,9 @@ use Rattle.std.specs.Prelude.{OnOk}
 use Rattle.std.specs.List.{All, AllZip}
 use Rattle.flat_net.specs.declared.signals.Signal.{Signal}
 use Rattle.flat_net.specs.View.{NetView}
-use Rattle.cbf_unfold.specs.declared.error.UnfoldError.TheVariants as unfold_error
-use Rattle.cbf_unfold.specs.declared.unfolder.Unfolded.{Unfolded}
-use Rattle.cbf_unfold.proofs.Lists.{adds_none}
+use Rattle.unfold_places.specs.declared.error.UnfoldError.TheVariants as unfold_error
+use Rattle.unfold_places.specs.declared.signal_function.Unfolded.{Unfolded}
+use Rattle.unfold_places.proofs.Lists.{adds_none}
 use Rattle.plain_form.specs.Pairs.{IsFunctionOf, AreLight, AreTooLarge}
 use Rattle.plain_form.proofs.Growing.{numbers_of}
 use Rattle.plain_form.proofs.functions.unfold_signals.Goals as goal

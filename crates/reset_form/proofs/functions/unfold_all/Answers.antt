@@ -6,10 +6,10 @@ use Rattle.std.proofs.lemmas.List.{take_all}
 use Rattle.std.proofs.lemmas.List.Elements.{All-get_or}
 use Rattle.flat_net.specs.View.{NetView, circuit_of}
 use Rattle.reset_laws.specs.Weight.{IsResetWeight}
-use Rattle.cbf_unfold.specs.declared.unfolder.Unfolded.{Unfolded}
+use Rattle.unfold_places.specs.declared.signal_function.Unfolded.{Unfolded}
 use Rattle.aig.proofs.Growth.{Grows-trans}
-use Rattle.cbf_unfold.proofs.Lists.{adds_trans}
-use Rattle.cbf_unfold.proofs.PlaceLits.{zip_more_left}
+use Rattle.unfold_places.proofs.Lists.{adds_trans}
+use Rattle.unfold_places.proofs.Zips.{zip_more_left}
 use Rattle.reset_unfold.specs.Places.{starts_of}
 use Rattle.reset_unfold.proofs.Going.{later_none, later_trans}
 use Rattle.reset_form.specs.Pairs.{AreCyclesOf, IsAmong}

@@ -4,7 +4,7 @@ use Rattle.std.proofs.lemmas.Option.{slice_get_within}
 use Rattle.reset_laws.specs.Weight.{IsResetOver}
 use Rattle.flat_net.specs.View.{circuit_of}
 use Rattle.flat_net.proofs.Growth.{length-push}
-use Rattle.cbf_unfold.specs.declared.unfolder.Unfolded.{Unfolded}
+use Rattle.unfold_places.specs.declared.signal_function.Unfolded.{Unfolded}
 use Rattle.reset_unfold.specs.Places.{starts_of}
 use Rattle.reset_unfold.specs.Unfolded.{IsResetUnfolded}
 use Rattle.reset_unfold.proofs.Going.{later_none, later_trans}

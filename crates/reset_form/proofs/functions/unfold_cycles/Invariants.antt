@@ -1,5 +1,5 @@
 use Rattle.std.proofs.Common.{◌≡◌, ℕ, length, slice_get, Some}
-use Rattle.cbf_unfold.specs.declared.unfolder.Unfolded.{Unfolded}
+use Rattle.unfold_places.specs.declared.signal_function.Unfolded.{Unfolded}
 use Rattle.reset_unfold.specs.Unfolded.{IsResetUnfolded, FitsReset}
 use Rattle.reset_unfold.specs.Building.{IsLaterReset}
 use Rattle.reset_unfold.specs.Cone.{IsCone}

@@ -3,7 +3,7 @@ use Rattle.std.proofs.Common.{◌≡◌, ◌∙◌, ◌<◌, true, List, length,
 use Rattle.std.specs.List.{All}
 use Rattle.std.proofs.lemmas.Option.{same_Some}
 use Rattle.circuit_theory.proofs.Lists.{of_at}
-use Rattle.cbf_unfold.specs.declared.unfolder.Unfolded.{Unfolded}
+use Rattle.unfold_places.specs.declared.signal_function.Unfolded.{Unfolded}
 use Rattle.interface.specs.declared.pairs.SignalPair.{SignalPair}
 use Rattle.shift_variables.proofs.Reading.{item_at}
 use Rattle.cycle_variables.specs.Cycles.{AreInCycles}

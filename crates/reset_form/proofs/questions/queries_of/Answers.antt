@@ -3,7 +3,7 @@ use Rattle.std.proofs.Common.{◌∙◌, ◌+◌, ◌<◌, [], length, slice_get
 use Rattle.std.proofs.lemmas.Option.{slice_get_within}
 use Rattle.flat_net.proofs.Growth.{length-push}
 use Rattle.flat_net.proofs.Places.{All-at}
-use Rattle.cbf_unfold.specs.declared.unfolder.Unfolded.{Unfolded}
+use Rattle.unfold_places.specs.declared.signal_function.Unfolded.{Unfolded}
 use Rattle.shift_variables.proofs.Reading.{item_at}
 use Rattle.cycle_variables.specs.Cycles.{AreInCycles}
 use Rattle.reset_form.proofs.PairAt.{query_next}

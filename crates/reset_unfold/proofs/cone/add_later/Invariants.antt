@@ -1,6 +1,6 @@
 use Rattle.std.proofs.Common.{take}
 use Rattle.std.specs.List.{AllPairs}
-use Rattle.cbf_unfold.specs.Places.{PlaceBefore}
+use Rattle.unfold_places.specs.Places.{PlaceBefore}
 use Rattle.reset_unfold.specs.Cone.{HasLater}
 use Rattle.reset_unfold.proofs.cone.add_later.Given as goal
 

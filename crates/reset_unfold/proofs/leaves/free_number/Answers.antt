@@ -1,7 +1,7 @@
 -- The latch is free in cycle 0 where it has no initial value.
 use Rattle.std.proofs.Common.{[], arith}
 use Rattle.std.proofs.lemmas.Option.{slice_get_within}
-use Rattle.cbf_unfold.proofs.Drivers.{driven_latch}
+use Rattle.unfold_places.proofs.Drivers.{driven_latch}
 use Rattle.reset_unfold.proofs.Numbers.{free_here, started_none}
 use Rattle.reset_unfold.proofs.leaves.free_number.Goals as goal
 

@@ -4,7 +4,7 @@ use Rattle.std.proofs.lemmas.List.{take_all}
 use Rattle.flat_net.specs.View.{circuit_of}
 use Rattle.flat_net.proofs.Nets.{sound_is_net}
 use Rattle.reset_nets.proofs.Starts.{nets_have_starts}
-use Rattle.cbf_unfold.proofs.Order.{differ_permuted, strictly}
+use Rattle.unfold_places.proofs.Order.{differ_permuted, strictly}
 use Rattle.reset_unfold.specs.Reach.{AreLeavesOf}
 use Rattle.reset_unfold.proofs.LeafLists.{leaves_skip, leaves_push, leaves_permuted}
 use Rattle.reset_unfold.proofs.Numbers.{one_leaf, one_signal}

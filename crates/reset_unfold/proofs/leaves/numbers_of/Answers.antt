@@ -2,7 +2,7 @@
 use Rattle.std.proofs.Common.{◌≡◌, ◌∙◌, ◌+◌, ℕ, List, sym, ap, subst, take, get_or, slice_get, Some}
 use Rattle.std.specs.List.{AllZip, Contains}
 use Rattle.std.proofs.lemmas.List.Elements.{All-get_or}
-use Rattle.cbf_unfold.proofs.InputLists.{zip_more}
+use Rattle.unfold_places.proofs.InputLists.{zip_more}
 use Rattle.reset_unfold.proofs.leaves.numbers_of.Goals as goal
 
 pub number_of-requires-clause-known : goal.number_of-requires-clause-known

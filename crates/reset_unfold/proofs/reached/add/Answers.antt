@@ -1,8 +1,8 @@
 -- The place has been met, it is in the table already, or it goes last.
 use Rattle.std.proofs.Common.{arith, inl, inr, refl}
 use Rattle.circuit_theory.proofs.Lists.{of_at}
-use Rattle.cbf_unfold.proofs.Lists.{adds_none}
-use Rattle.cbf_unfold.proofs.Table.{interned}
+use Rattle.unfold_places.proofs.Lists.{adds_none}
+use Rattle.unfold_places.proofs.Table.{interned}
 use Rattle.reset_unfold.proofs.reached.add.Goals as goal
 
 pub returns-in-Some-clause-adds : goal.returns-in-Some-clause-adds

@@ -1,7 +1,7 @@
 -- In cycle 0 there is no cycle before; else the place is there already, or it goes last.
 use Rattle.std.proofs.Common.{◌≡◌, ◌-◌, arith}
-use Rattle.cbf_unfold.specs.Reach.{IsThere}
-use Rattle.cbf_unfold.proofs.Lists.{adds_weaker}
+use Rattle.unfold_places.specs.Reach.{IsThere}
+use Rattle.unfold_places.proofs.Lists.{adds_weaker}
 use Rattle.reset_unfold.proofs.Reading.{IsBefore, before_is, before_here}
 use Rattle.reset_unfold.proofs.reached.add_before.Goals as goal
 

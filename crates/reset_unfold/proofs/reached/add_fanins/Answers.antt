@@ -1,7 +1,7 @@
 -- One fan-in's place more.
 use Rattle.std.proofs.Common.{arith}
 use Rattle.std.proofs.lemmas.List.{take_all}
-use Rattle.cbf_unfold.proofs.ReadPlaces.{fanin_adds, fanin_all}
+use Rattle.unfold_places.proofs.ReadPlaces.{fanin_adds, fanin_all}
 use Rattle.reset_unfold.proofs.reached.add_fanins.Goals as goal
 
 pub returns-in_err-add-clause-adds : goal.returns-in_err-add-clause-adds

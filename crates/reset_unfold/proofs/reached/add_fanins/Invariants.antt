@@ -1,7 +1,7 @@
 use Rattle.std.proofs.Common.{◌≡◌, ◌+◌, ◌≤◌, length, take}
 use Rattle.std.specs.List.{All, Contains}
 use Rattle.flat_net.specs.declared.signals.Signal.{Signal}
-use Rattle.cbf_unfold.specs.Reach.{Adds, IsThere}
+use Rattle.unfold_places.specs.Reach.{Adds, IsThere}
 use Rattle.reset_unfold.proofs.reached.add_fanins.Given as goal
 
 abbrev pub invariant-loop-fanin : goal.invariant-loop-fanin

@@ -1,9 +1,9 @@
 -- What drives the signal says what its place reads.
 use Rattle.std.proofs.Common.{◌∙◌, ap, Some}
 use Rattle.std.proofs.lemmas.Option.{slice_get_within}
-use Rattle.cbf_unfold.specs.Reach.{IsThere}
-use Rattle.cbf_unfold.proofs.Drivers.{input_steps, driven_gate, driven_latch}
-use Rattle.cbf_unfold.proofs.ReadPlaces.{gate_adds, gate_all_ok}
+use Rattle.unfold_places.specs.Reach.{IsThere}
+use Rattle.unfold_places.proofs.Drivers.{input_steps, driven_gate, driven_latch}
+use Rattle.unfold_places.proofs.ReadPlaces.{gate_adds, gate_all_ok}
 use Rattle.reset_unfold.proofs.Reading.{before_adds, before_all}
 use Rattle.reset_unfold.proofs.reached.add_read.Goals as goal
 

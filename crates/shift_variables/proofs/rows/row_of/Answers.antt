@@ -3,7 +3,7 @@ use Rattle.std.proofs.Common.{◌<◌, ◌∙◌, ℕ, List, sym, subst}
 use Rattle.std.specs.Prelude.{◌≢◌}
 use Rattle.std.specs.List.{All, AllPairs}
 use Rattle.std.proofs.lemmas.List.Elements.{All-map}
-use Rattle.cbf_unfold.proofs.Lists.{pairs_map}
+use Rattle.unfold_places.proofs.Lists.{pairs_map}
 use Rattle.shift_variables.specs.Variables.{variable_of}
 use Rattle.shift_variables.proofs.rows.row_of.Goals as goal
 

@@ -7,7 +7,7 @@ use Rattle.flat_net.specs.declared.signals.Signal.{Signal}
 use Rattle.flat_net.proofs.Growth.{length-push}
 use Rattle.flat_net.specs.View.{circuit_of}
 use Rattle.aig.specs.declared.node.Lit.{Lit}
-use Rattle.cbf_unfold.specs.declared.unfolder.Unfolded.{Unfolded}
+use Rattle.unfold_places.specs.declared.signal_function.Unfolded.{Unfolded}
 use Rattle.cbf_unfold.specs.Unfolded.{Fits}
 use Rattle.cbf_unfold.specs.Building.{AreNumbered}
 use Rattle.unfold_places.specs.Visitors.{AreVisitors, AreCandidates, with_bits}

@@ -1,7 +1,7 @@
 -- The next cycle's leaves, and the places that are left.
 use Rattle.std.proofs.Common.{◌≡◌, ◌+◌, ◌-◌, ◌<◌, ◌≤◌, ◌^◌, ℕ, List, length, refl, sym, ap, subst, arith}
 use Rattle.std.specs.List.{All, AllPairs}
-use Rattle.cbf_unfold.specs.Places.{PlaceBefore}
+use Rattle.unfold_places.specs.Places.{PlaceBefore}
 use Rattle.flat_net.specs.View.{circuit_of}
 use Rattle.reset_unfold.specs.Reach.{AreLeavesOf}
 use Rattle.reset_unfold.specs.Cone.{ConeView, IsCone, IsBlock, HasLater}

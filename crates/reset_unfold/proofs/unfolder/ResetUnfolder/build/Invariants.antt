@@ -1,5 +1,5 @@
 use Rattle.std.proofs.Common.{◌≡◌, ◌<◌, ℕ, slice_get, Some}
-use Rattle.cbf_unfold.specs.Building.{IsMet}
+use Rattle.unfold_places.specs.Reach.{IsMet}
 use Rattle.reset_unfold.specs.Unfolded.{Holds}
 use Rattle.reset_unfold.specs.Building.{IsLaterReset}
 use Rattle.reset_unfold.proofs.unfolder.ResetUnfolder.build.Given as goal

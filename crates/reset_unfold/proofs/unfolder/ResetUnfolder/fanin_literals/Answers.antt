@@ -5,8 +5,8 @@ use Rattle.std.proofs.lemmas.List.{take_all}
 use Rattle.std.proofs.lemmas.List.Elements.{All-get_or}
 use Rattle.flat_net.specs.declared.signals.Signal.{Signal}
 use Rattle.aig.specs.declared.node.Lit.{Lit}
-use Rattle.cbf_unfold.specs.Building.{IsMet}
-use Rattle.cbf_unfold.proofs.PlaceLits.{zip_more_left}
+use Rattle.unfold_places.specs.Reach.{IsMet}
+use Rattle.unfold_places.proofs.Zips.{zip_more_left}
 use Rattle.reset_unfold.proofs.unfolder.ResetUnfolder.fanin_literals.Goals as goal
 
 pub met-requires : goal.met-requires

@@ -3,8 +3,8 @@ use Rattle.std.proofs.Common.{◌∙◌, ◌+◌, ℕ, slice_get, length, refl, 
 use Rattle.std.proofs.lemmas.Option.{slice_get_within}
 use Rattle.flat_net.specs.View.{NetView}
 use Rattle.flat_net.specs.Sound.{IsSound}
-use Rattle.cbf_unfold.proofs.Drivers.{driven_latch}
-use Rattle.cbf_unfold.proofs.PlaceLits.{grown_none}
+use Rattle.unfold_places.proofs.Drivers.{driven_latch}
+use Rattle.unfold_places.proofs.Growing.{grown_none}
 use Rattle.reset_unfold.proofs.PlaceLits.{latch_met, latch_is, start_is, free_is}
 use Rattle.reset_unfold.proofs.unfolder.ResetUnfolder.latch_literal.Goals as goal
 

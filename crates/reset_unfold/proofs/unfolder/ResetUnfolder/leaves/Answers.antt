@@ -2,7 +2,7 @@
 use Rattle.std.proofs.Common.{◌+◌, ◌<◌, ◌^◌, ℕ, List, [], length, sym, subst}
 use Rattle.std.specs.List.{All, AllPairs}
 use Rattle.flat_net.specs.View.{NetView, circuit_of}
-use Rattle.cbf_unfold.specs.Places.{PlaceBefore}
+use Rattle.unfold_places.specs.Places.{PlaceBefore}
 use Rattle.reset_unfold.specs.Reach.{IsReach, AreLeavesOf}
 use Rattle.reset_unfold.proofs.Finish.{order_here, base_here, room_here, leaves_here}
 use Rattle.reset_unfold.proofs.LeafLists.{leaves_at}

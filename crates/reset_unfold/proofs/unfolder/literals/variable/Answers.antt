@@ -1,8 +1,8 @@
 -- The variable is in the table, and is the next one or one that was there.
 use Rattle.std.proofs.Common.{arith}
 use Rattle.std.proofs.lemmas.Option.{slice_get_within}
-use Rattle.cbf_unfold.proofs.PlaceLits.{grown_none, input_grown}
-use Rattle.cbf_unfold.proofs.Table.{interned}
+use Rattle.unfold_places.proofs.Growing.{grown_none, input_grown}
+use Rattle.unfold_places.proofs.Table.{interned}
 use Rattle.reset_unfold.proofs.PlaceLits.{variable_lit}
 use Rattle.reset_unfold.proofs.unfolder.literals.variable.Goals as goal
 
