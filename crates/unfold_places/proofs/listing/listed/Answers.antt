@@ -1,0 +1,7 @@
+-- One place more.
+use Rattle.std.proofs.Common.{◌∙◌, ◌++◌, ◌∷◌, [], ap}
+use Rattle.sec_base.proofs.TableLemmas.{take-push}
+use Rattle.unfold_places.proofs.listing.listed.Goals as goal
+
+pub loop-number-preserved : goal.loop-number-preserved
+loop-number-preserved c = c.in_ok-push.ensures.items ∙ ap (λ l. l ++ c.pair.result ∷ []) c.loop-number.invariant ∙ take-push _ _ _ c.pair.ensures
