@@ -27,14 +27,15 @@ use Rattle.sec_setup.specs.Pairs.{outputs_of, places_of}
 use Rattle.sec_setup.specs.Setup.{IsSetup}
 use Rattle.shift_variables.specs.Variables.{variable_of, variables_of}
 use Rattle.witness_report.specs.declared.witness.PairName.{PairName}
-use Rattle.reset_form.specs.declared.bases.Bases.{Bases}
-use Rattle.reset_form.specs.declared.functions.Functions.{Functions}
+use Rattle.reset_functions.specs.declared.bases.Bases.{Bases}
+use Rattle.reset_functions.specs.declared.functions.Functions.{Functions}
 use Rattle.outcome.specs.declared.verdict.ResetWitness.{ResetWitness}
 use Rattle.reset_form.specs.Asked.{AskedOf, AreAsked}
-use Rattle.reset_form.specs.Bases.{AreBases}
+use Rattle.reset_functions.specs.Bases.{AreBases}
 use Rattle.reset_form.specs.Formed.{numbered}
 use Rattle.reset_form.specs.Outcome.{PairFits, IsFirstDifference}
 use Rattle.reset_form.specs.Shown.{IsShowable, IsWitnessOf, IsWitnessAt}
+pub use Rattle.reset_functions.proofs.OwnPairs.{ArePairsIn, own_pairs}
 use Rattle.reset_form.proofs.Columns.{leaf_is}
 use Rattle.reset_form.proofs.CycleQueries.{left_tree, right_tree, query_in_order, are_variables, each_variable, is_query, left_at_bits, right_at_bits, trees_differ, variables_long, least_is}
 use Rattle.reset_form.proofs.PairCycles.{AreSoundFunctions, AsksIn, asks_at, agree_before, place_within, pair_fits, own_queries}
@@ -44,17 +45,6 @@ pub record AreSound (s : Setup) (b : Bases) (f : Functions) : Type 0 where
   pub setup : IsSetup s
   pub bases : AreBases s b
   pub functions : AreSoundFunctions f
-
--- both signals of each pair are outputs
-pub record ArePairsIn (s : Setup) (pairs : List SignalPair) : Type 0 where
-  pub left : (p : SignalPair) → Contains pairs p → Contains (outputs_of s.left.now) p.left.0
-  pub right : (p : SignalPair) → Contains pairs p → Contains (outputs_of s.right.now) p.right.0
-
-pub own_pairs : (s : Setup) → IsSetup s → ArePairsIn s s.pairs
-own_pairs s h = record {
-  left = λ p k. subst (λ (l : List ℕ). Contains l p.left.0) h.pairs.left (Contains-map (λ (q : SignalPair). q.left.0) s.pairs p k);
-  right = λ p k. (h.pairs.right p.right.0).0 (Contains-map (λ (q : SignalPair). q.right.0) s.pairs p k);
-}
 
 module _ (s : Setup) (b : Bases) (f : Functions) (h : AreSound s b f) where
   -- each result is that of its pair

@@ -2,8 +2,6 @@ pub mod CycleQueries
 pub mod Decided
 pub mod PairCycles
 pub mod PairAt
-pub mod Growing
-pub mod Parts
 pub mod FirstPairs
 pub mod Outcomes
 pub mod Columns

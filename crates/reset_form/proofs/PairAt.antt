@@ -22,26 +22,9 @@ use Rattle.sec_setup.specs.declared.setup.Setup.{Setup}
 use Rattle.sec_setup.specs.Pairs.{outputs_of}
 use Rattle.cycle_variables.specs.Cycles.{AreInCycles}
 use Rattle.reset_form.specs.Asked.{IsCycleQuery}
-use Rattle.reset_form.specs.Pairs.{AreCyclesOf, IsTopOf}
+use Rattle.reset_functions.specs.Pairs.{AreCyclesOf, IsTopOf}
+pub use Rattle.reset_functions.proofs.OwnPairs.{output_within, one_pair_depth}
 use Rattle.reset_form.proofs.CycleQueries.{in_order}
-
--- an output is a signal of the net
-pub output_within : (n : NetView) → IsSound n → (s : ℕ) → Contains (outputs_of n) s → s < length n.drivers
-output_within n sound s h =
-    let o = Contains-map_from (λ (p : Port). p.signal.0) n.outputs s h in
-    subst (λ k. k < length n.drivers) o.2 (All-contains (λ (p : Port). p.signal.0 < length n.drivers) n.outputs o.0 sound.outputs o.1)
-
--- there is one depth
-one_depth : (c : Circuit ℕ) (s d e : ℕ) → IsDepth c NoneEnabled s d → IsDepth c NoneEnabled s e → d ≡ e
-one_depth c s d e x y = let l = y.greatest d x.reached in let m = x.greatest e y.reached in omega (arith, l, m)
-
-pub one_pair_depth : (a b : Circuit ℕ) (p q d e : ℕ) → IsPairDepth a b p q d → IsPairDepth a b p q e → d ≡ e
-one_pair_depth a b p q d e x y =
-    let l = one_depth a p x.left y.left x.left_is y.left_is in
-    let r = one_depth b q x.right y.right x.right_is y.right_is in
-    let m = x.greater in
-    let n = y.greater in
-    omega (arith, l, r, m, n)
 
 -- the functions of a pair at its place
 module _ (s : Setup) (side : SignalPair → ℕ) (n : NetView) (order : List ℕ) (base : ℕ) (g : List Node) (places : List (ℕ × ℕ)) (pairs : List SignalPair) (tops : List (ℕ × ℕ)) (all : List (List Unfolded)) (are_tops : AllZip (IsTopOf s side) pairs tops)

@@ -23,8 +23,8 @@ use Rattle.obligations.specs.Found.{IsFirstOpen}
 use Rattle.obligations.specs.Decided.{AnswerIs, IsAnswered}
 use Rattle.sec_setup.specs.declared.setup.Setup.{Setup}
 use Rattle.sec_setup.specs.Pairs.{places_of}
-use Rattle.reset_form.specs.declared.bases.Bases.{Bases}
-use Rattle.reset_form.specs.declared.functions.Functions.{Functions}
+use Rattle.reset_functions.specs.declared.bases.Bases.{Bases}
+use Rattle.reset_functions.specs.declared.functions.Functions.{Functions}
 use Rattle.reset_form.specs.Asked.{AskedOf}
 use Rattle.reset_form.specs.Formed.{numbered}
 use Rattle.reset_form.specs.Outcome.{AgreeAt, AgreeBefore, AnswerFits, PairFits}

@@ -9,9 +9,9 @@ use Rattle.obligations.specs.declared.obligation.Obligation.{Obligation}
 use Rattle.interface.specs.declared.pairs.SignalPair.{SignalPair}
 use Rattle.sec_setup.specs.declared.setup.Setup.{Setup}
 use Rattle.cycle_variables.specs.Cycles.{IsCycleMerge}
-use Rattle.reset_form.specs.declared.bases.Bases.{Bases}
-use Rattle.reset_form.specs.declared.functions.Functions.{Functions}
-use Rattle.reset_form.specs.Pairs.{AreCyclesOf}
+use Rattle.reset_functions.specs.declared.bases.Bases.{Bases}
+use Rattle.reset_functions.specs.declared.functions.Functions.{Functions}
+use Rattle.reset_functions.specs.Pairs.{AreCyclesOf}
 
 -- the query of two functions: do they agree always? Its variables are those of both.
 pub record IsCycleQuery (places : List (ℕ × ℕ)) (left right : Unfolded) (q : Query) : Type 0 where

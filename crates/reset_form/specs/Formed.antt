@@ -4,13 +4,13 @@ use Rattle.circuit_theory.specs.declared.Side.TheVariants.{A, B}
 use Rattle.flat_net.specs.View.{circuit_of}
 use Rattle.sec_setup.specs.declared.setup.Setup.{Setup}
 use Rattle.sec_setup.specs.Pairs.{places_of}
-use Rattle.reset_form.specs.declared.bases.Bases.{Bases}
+use Rattle.reset_functions.specs.declared.bases.Bases.{Bases}
 use Rattle.reset_form.specs.declared.comparison.ResetFindings.{ResetFindings}
-use Rattle.reset_form.specs.declared.error.ResetError.{ResetError}
-use Rattle.reset_form.specs.declared.error.ResetError.TheVariants as refused
-use Rattle.reset_form.specs.Bases.{AreBases}
+use Rattle.reset_functions.specs.declared.error.ResetError.{ResetError}
+use Rattle.reset_functions.specs.declared.error.ResetError.TheVariants as refused
+use Rattle.reset_functions.specs.Bases.{AreBases}
 use Rattle.reset_form.specs.Outcome.{Numbered, FindingsFit}
-use Rattle.reset_form.specs.Pairs.{IsLeftSide, IsRightSide, IsLight, IsTooLarge}
+use Rattle.reset_functions.specs.Pairs.{IsLeftSide, IsRightSide, IsLight, IsTooLarge}
 
 -- the circuits of a setup, with the numbers of their variables
 abbrev pub numbered : Setup → Bases → Numbered

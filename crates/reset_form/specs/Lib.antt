@@ -1,5 +1,3 @@
-pub mod Bases
-pub mod Pairs
 pub mod Limits
 pub mod Asked
 pub mod Shown

@@ -16,8 +16,8 @@ use Rattle.sec_setup.specs.declared.setup.Setup.{Setup}
 use Rattle.reset_laws.specs.Reset.{reset_rows, powers}
 use Rattle.shift_variables.specs.Sequences.{bits_at}
 use Rattle.cycle_variables.specs.Cycles.{AreInCycles}
-use Rattle.reset_form.specs.declared.bases.Bases.{Bases}
-use Rattle.reset_form.specs.declared.functions.Functions.{Functions}
+use Rattle.reset_functions.specs.declared.bases.Bases.{Bases}
+use Rattle.reset_functions.specs.declared.functions.Functions.{Functions}
 use Rattle.outcome.specs.declared.verdict.ResetWitness.{ResetWitness}
 use Rattle.reset_form.specs.declared.shown.ResetVerdict.{ResetVerdict}
 use Rattle.reset_form.specs.declared.shown.ResetVerdict.TheVariants as verdict

@@ -3,18 +3,16 @@
 ghost use Rattle.std.specs.Prelude.{◌≤◌, map, IfOk};
 ghost use Rattle.sec_setup.specs.Pairs.{places_of};
 ghost use Rattle.sec_setup.specs.Setup.{IsSetup};
-ghost use Rattle.reset_form.specs.Bases.{AreBases};
+ghost use Rattle.reset_functions.specs.Bases.{AreBases};
 ghost use Rattle.reset_form.specs.Formed.{Formed, numbered};
 ghost use Rattle.reset_form.specs.Outcome.{FindingsFit};
-ghost use Rattle.reset_form.specs.Pairs.{HaveFunctions};
+ghost use Rattle.reset_functions.specs.Pairs.{HaveFunctions};
 
-use crate::bases::{Bases, bases_of};
-use crate::error::ResetError;
-use crate::functions::{Functions, unfold_pairs};
 use crate::questions::ask;
 use crate::shown::{ResetVerdict, show};
 use obligations::{Decided, decide_all, greatest_size, verdict_at};
 use outcome::PairResults;
+use reset_functions::{Bases, Functions, ResetError, bases_of, unfold_pairs};
 use sec_base::{MAX_CONFLICTS, NoMemory};
 use sec_setup::Setup;
 use std::alloc::Global;

@@ -2,15 +2,11 @@
 //! inputs so far and of the latches without an initial value.
 #![tactic(auto)]
 
-mod bases;
 mod comparison;
-mod error;
-mod functions;
 mod questions;
 mod shown;
 mod witness;
 
-pub use bases::Bases;
 pub use comparison::{ResetFindings, compare_reset};
-pub use error::ResetError;
+pub use reset_functions::{Bases, ResetError};
 pub use shown::ResetVerdict;

@@ -5,19 +5,18 @@ ghost use Rattle.interface.specs.declared.pairs.SignalPair.{SignalPair};
 ghost use Rattle.sec_setup.specs.Setup.{IsSetup};
 ghost use Rattle.cycle_variables.specs.Cycles.{AreInCycles};
 ghost use Rattle.reset_form.specs.Asked.{AreAsked, AskedOf, AreCycleQueries, IsCycleQuery};
-ghost use Rattle.reset_form.specs.Pairs.{HaveFunctions};
+ghost use Rattle.reset_functions.specs.Pairs.{HaveFunctions};
 
-use crate::bases::Bases;
-use crate::functions::Functions;
 use aig::Lit;
-use unfold_places::Unfolded;
 use cycle_variables::merge_cycles;
 use obligations::{Obligation, Queries, copy_name};
 use pair_decide::Query;
+use reset_functions::{Bases, Functions};
 use sec_base::{NoMemory, PlaceTable};
 use sec_setup::Setup;
 use setup_depths::pair_depth;
 use std::alloc::Global;
+use unfold_places::Unfolded;
 
 /// What is asked of each pair, in order: whether both functions agree always, in each cycle up to the pair's depth.
 pub(crate) fn ask(

@@ -4,11 +4,10 @@ ghost use Rattle.std.specs.Prelude.{◌≡◌, ◌≤◌, IfOk};
 ghost use Rattle.sec_base.specs.Table.{AreDistinct};
 ghost use Rattle.reset_form.specs.Shown.{CanBeShown, IsShowable, IsShown, IsWitnessAt};
 
-use crate::bases::Bases;
-use crate::functions::Functions;
 use crate::witness::witness_of;
 use obligations::{Difference, Obligation, VerdictAt, copy_name};
 use outcome::{PairName, PairResult, ResetWitness};
+use reset_functions::{Bases, Functions};
 use sec_base::NoMemory;
 use sec_setup::Setup;
 use std::alloc::Global;

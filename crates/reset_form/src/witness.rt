@@ -9,13 +9,12 @@ ghost use Rattle.pair_decide.specs.Queries.{assigned_to};
 ghost use Rattle.cycle_variables.specs.Cycles.{AreInCycles};
 ghost use Rattle.reset_form.specs.Shown.{IsSequenceOf, IsWitnessOf};
 
-use crate::bases::Bases;
-use crate::functions::Functions;
 use aig::Aig;
 use cycle_variables::{cycle_rows, power_up};
 use obligations::copy_name;
 use outcome::{PairName, ResetWitness, Stimulus, Witness};
 use pair_decide::Query;
+use reset_functions::{Bases, Functions};
 use sec_base::{Bits, NoMemory, PlaceTable, Words};
 use sec_setup::Setup;
 use shift_variables::bits_at;

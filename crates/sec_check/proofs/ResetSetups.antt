@@ -36,13 +36,13 @@ use Rattle.sec_setup.specs.Matching.{InterfacesMatch}
 use Rattle.sec_setup.specs.Pairs.{NamedPair, named_pairs, places_of}
 use Rattle.sec_setup.specs.Setup.{IsSetupOf}
 use Rattle.reset_form.specs.declared.comparison.ResetFindings.{ResetFindings}
-use Rattle.reset_form.specs.declared.error.ResetError.TheVariants as reset_error
+use Rattle.reset_functions.specs.declared.error.ResetError.TheVariants as reset_error
 use Rattle.reset_form.specs.declared.shown.ResetVerdict.{ResetVerdict}
 use Rattle.reset_form.specs.declared.shown.ResetVerdict.TheVariants as found_verdict
-use Rattle.reset_form.specs.Bases.{AreBases}
+use Rattle.reset_functions.specs.Bases.{AreBases}
 use Rattle.reset_form.specs.Formed.{AreFound, Formed}
 use Rattle.reset_form.specs.Outcome.{Numbered, FindingsFit, VerdictFits}
-use Rattle.reset_form.specs.Pairs.{IsLeftSide, IsRightSide, IsLight, IsTooLarge}
+use Rattle.reset_functions.specs.Pairs.{IsLeftSide, IsRightSide, IsLight, IsTooLarge}
 use Rattle.sec_check.specs.declared.error.CompareError.TheVariants as refused
 use Rattle.sec_check.specs.Compared.{IsComparedFromReset}
 use Rattle.sec_check.specs.FromReset.{IsLeftStart, IsRightStart, IsLeftLight, IsRightLight, AreTooLargeFromReset, numbered_by, verdict_of, ResetOutcomeFits, ResetVerdictFits}

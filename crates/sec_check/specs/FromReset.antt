@@ -18,7 +18,7 @@ use Rattle.sec_setup.specs.Pairs.{NamedPair, named_pairs}
 use Rattle.reset_form.specs.Outcome.{Numbered, PairFits, IsFirstDifference, IsFirstLimit, greatest_size}
 use Rattle.reset_form.specs.declared.shown.ResetVerdict.{ResetVerdict}
 use Rattle.reset_form.specs.declared.shown.ResetVerdict.TheVariants as found
-use Rattle.reset_form.specs.Pairs.{IsLight, IsTooLarge}
+use Rattle.reset_functions.specs.Pairs.{IsLight, IsTooLarge}
 
 -- an output of A in a cycle up to the depth of its pair
 abbrev pub IsLeftStart : Circuit ℕ → Circuit ℕ → ℕ × ℕ → Type 0

@@ -12,7 +12,7 @@ ghost use Rattle.sec_setup.specs.Setup.{AreGraphed};
 ghost use Rattle.sec_check.specs.Compared.{Compared};
 ghost use Rattle.sec_check.specs.FromReset.{verdict_of};
 
-use crate::error::CompareError;
+use reset_functions::CompareError;
 use cut_points::Exposure;
 use flat_net::Net;
 use outcome::{LimitAt, Outcome, Settings, Verdict};

@@ -5,8 +5,8 @@ use Rattle.flat_net.proofs.Nets.{some_at}
 use Rattle.obligations.specs.declared.obligation.Obligation.{Obligation}
 use Rattle.interface.specs.declared.pairs.SignalPair.{SignalPair}
 use Rattle.sec_setup.specs.declared.setup.Setup.{Setup}
-use Rattle.reset_form.specs.declared.bases.Bases.{Bases}
-use Rattle.reset_form.specs.declared.functions.Functions.{Functions}
+use Rattle.reset_functions.specs.declared.bases.Bases.{Bases}
+use Rattle.reset_functions.specs.declared.functions.Functions.{Functions}
 use Rattle.reset_form.specs.Asked.{AskedOf, AreAsked}
 use Rattle.shift_variables.proofs.Assignments.{take_next}
 use Rattle.reset_form.proofs.questions.ask.Goals as goal

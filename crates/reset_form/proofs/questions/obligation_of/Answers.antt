@@ -8,7 +8,7 @@ use Rattle.interface.specs.declared.pairs.SignalPair.{SignalPair}
 use Rattle.shift_variables.proofs.Reading.{item_at}
 use Rattle.cycle_variables.specs.Cycles.{AreInCycles}
 use Rattle.reset_form.specs.Asked.{AskedOf, AreCycleQueries}
-use Rattle.reset_form.specs.Pairs.{AreCyclesOf}
+use Rattle.reset_functions.specs.Pairs.{AreCyclesOf}
 use Rattle.reset_form.proofs.FirstPairs.{own_pairs}
 use Rattle.reset_form.proofs.PairAt.{output_within, cycles_within, cycles_here, all_in_order}
 use Rattle.reset_form.proofs.questions.obligation_of.Goals as goal

@@ -5,8 +5,8 @@ use Rattle.std.specs.List.{All, AllZip}
 use Rattle.flat_net.specs.View.{NetView}
 use Rattle.unfold_places.specs.declared.error.UnfoldError.TheVariants as unfold_error
 use Rattle.unfold_places.proofs.Lists.{adds_none}
-use Rattle.reset_form.specs.Pairs.{AreCyclesOf, IsAmong, IsLight, IsTooLarge}
-use Rattle.reset_form.proofs.functions.unfold_tops.Goals as goal
+use Rattle.reset_functions.specs.Pairs.{AreCyclesOf, IsAmong, IsLight, IsTooLarge}
+use Rattle.reset_functions.proofs.functions.unfold_tops.Goals as goal
 
 pub new-requires : goal.new-requires
 new-requires c = record { order = c.requires.part.order; base = c.requires.part.base; room = c.requires.part.room }

@@ -8,8 +8,8 @@ use Rattle.unfold_places.specs.declared.signal_function.Unfolded.{Unfolded}
 use Rattle.reset_unfold.specs.Places.{starts_of}
 use Rattle.reset_unfold.specs.Unfolded.{IsResetUnfolded}
 use Rattle.reset_unfold.proofs.Going.{later_none, later_trans}
-use Rattle.reset_form.proofs.Growing.{cycle_next, unfolded_of, done_none, done_next, done_below, over_first, over_next}
-use Rattle.reset_form.proofs.functions.unfold_cycles.Goals as goal
+use Rattle.reset_functions.proofs.Growing.{cycle_next, unfolded_of, done_none, done_next, done_below, over_first, over_next}
+use Rattle.reset_functions.proofs.functions.unfold_cycles.Goals as goal
 
 pub returns-in_err-cone-clause-over : goal.returns-in_err-cone-clause-over
 returns-in_err-cone-clause-over c = λ e. over_first c.args.unfolder.now c.args.top c.requires.fits.limit (c.cone.ensures.over (search rules))

@@ -3,8 +3,8 @@ use Rattle.std.specs.Prelude.{◌↔◌}
 use Rattle.std.specs.List.{AllZip, Contains}
 use Rattle.reset_unfold.specs.Unfolded.{FitsReset}
 use Rattle.reset_unfold.specs.Building.{IsLaterReset}
-use Rattle.reset_form.specs.Pairs.{AreCyclesOf, IsAmong}
-use Rattle.reset_form.proofs.functions.unfold_all.Given as goal
+use Rattle.reset_functions.specs.Pairs.{AreCyclesOf, IsAmong}
+use Rattle.reset_functions.proofs.functions.unfold_all.Given as goal
 
 abbrev pub invariant-loop-top : goal.invariant-loop-top
 invariant-loop-top l = record {

@@ -2,7 +2,7 @@
 use Rattle.std.proofs.Common.{◌<◌, length, ap, subst, arith}
 use Rattle.std.specs.List.{All}
 use Rattle.std.proofs.lemmas.List.Elements.{All-weaker}
-use Rattle.reset_form.proofs.bases.bases_of.Goals as goal
+use Rattle.reset_functions.proofs.bases.bases_of.Goals as goal
 
 pub returns : goal.returns
 returns c =

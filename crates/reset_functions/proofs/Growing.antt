@@ -7,7 +7,7 @@ use Rattle.std.proofs.lemmas.List.Elements.{Contains-append_left, Contains-get_o
 use Rattle.std.proofs.lemmas.Option.{slice_get_within}
 use Rattle.circuit_theory.specs.Fits.{IsPairDepth}
 use Rattle.circuit_theory.proofs.Lists.{All-from_each, Contains-cases, zip_push, zip_right, zip_weaker, at_of, of_at}
-use Rattle.swept_queries.proofs.Listed.{zip_left}
+use Rattle.unfold_places.proofs.Zips.{zip_left}
 use Rattle.interface.specs.declared.pairs.SignalPair.{SignalPair}
 use Rattle.sec_setup.specs.declared.setup.Setup.{Setup}
 use Rattle.shift_variables.proofs.Assignments.{take_next}
@@ -24,8 +24,8 @@ use Rattle.reset_unfold.specs.Places.{starts_of}
 use Rattle.reset_unfold.specs.View.{ResetView}
 use Rattle.reset_unfold.specs.Unfolded.{IsResetUnfolded}
 use Rattle.reset_unfold.proofs.Known.{unfolded_later}
-use Rattle.reset_form.specs.Pairs.{AreCyclesOf, IsBelow, IsAmong, IsLight, IsTooLarge, HasDoneBelow, IsOverBelow, IsTopOf}
-use Rattle.reset_form.proofs.PairAt.{one_pair_depth}
+use Rattle.reset_functions.specs.Pairs.{AreCyclesOf, IsBelow, IsAmong, IsLight, IsTooLarge, HasDoneBelow, IsOverBelow, IsTopOf}
+use Rattle.reset_functions.proofs.OwnPairs.{one_pair_depth}
 
 module _ (n : NetView) (order : List ℕ) (base : ℕ) (g h : List Node) (places more : List (ℕ × ℕ)) (grows : Grows g h) (adds : Adds (λ p. Unit {0}) places more) where
   -- functions stay those of their signals while the graph and the table grow

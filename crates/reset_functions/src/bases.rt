@@ -1,7 +1,7 @@
 //! The numbers of the latches' variables.
 
 ghost use Rattle.std.specs.Prelude.{◌≡◌, ◌<◌, max, All, IfOk};
-ghost use Rattle.reset_form.specs.Bases.{AreBases};
+ghost use Rattle.reset_functions.specs.Bases.{AreBases};
 
 use sec_base::NoMemory;
 use sec_setup::Setup;
@@ -15,7 +15,7 @@ pub struct Bases {
 
 /// The numbers of the latches' variables of two circuits. `NoMemory` comes where there are too many inputs and latches for numbers
 /// below 2^31, as many as no memory has.
-pub(crate) fn bases_of(setup: &Setup<'_>) -> Result<Bases, NoMemory>
+pub fn bases_of(setup: &Setup<'_>) -> Result<Bases, NoMemory>
     ensures { IfOk result (AreBases setup.now) }
 {
     setup.left.keeps();

@@ -11,11 +11,11 @@ use Rattle.unfold_places.specs.InputOrder.{IsOrderOf}
 use Rattle.sec_setup.specs.declared.setup.Setup.{Setup}
 use Rattle.sec_setup.specs.Setup.{AreColumns}
 use Rattle.shift_variables.proofs.Assignments.{once_each}
-use Rattle.reset_form.specs.declared.bases.Bases.{Bases}
-use Rattle.reset_form.specs.declared.error.ResetError.{ResetError}
-use Rattle.reset_form.specs.declared.error.ResetError.TheVariants as refused
-use Rattle.reset_form.specs.Bases.{AreBases}
-use Rattle.reset_form.specs.Pairs.{IsLeftSide, IsRightSide, IsLight, IsRefusalOf, Unfolds}
+use Rattle.reset_functions.specs.declared.bases.Bases.{Bases}
+use Rattle.reset_functions.specs.declared.error.ResetError.{ResetError}
+use Rattle.reset_functions.specs.declared.error.ResetError.TheVariants as refused
+use Rattle.reset_functions.specs.Bases.{AreBases}
+use Rattle.reset_functions.specs.Pairs.{IsLeftSide, IsRightSide, IsLight, IsRefusalOf, Unfolds}
 
 -- the numbers of a net's inputs
 pub is_order : (n : NetView) (columns : List (List ℕ)) (own others : List ℕ) → AreColumns n columns own others → IsOrderOf n own

@@ -14,12 +14,12 @@ use Rattle.reset_unfold.specs.View.{ResetView}
 use Rattle.reset_unfold.specs.Unfolded.{IsResetUnfolded}
 use Rattle.interface.specs.declared.pairs.SignalPair.{SignalPair}
 use Rattle.sec_setup.specs.declared.setup.Setup.{Setup}
-use Rattle.reset_form.specs.declared.bases.Bases.{Bases}
-use Rattle.reset_form.specs.declared.error.ResetError.{ResetError}
-use Rattle.reset_form.specs.declared.error.ResetError.TheVariants as refused
-use Rattle.reset_form.specs.declared.functions.Functions.{Functions}
-use Rattle.reset_form.specs.declared.functions.Part.{Part}
-use Rattle.reset_form.specs.declared.functions.Tops.{Tops}
+use Rattle.reset_functions.specs.declared.bases.Bases.{Bases}
+use Rattle.reset_functions.specs.declared.error.ResetError.{ResetError}
+use Rattle.reset_functions.specs.declared.error.ResetError.TheVariants as refused
+use Rattle.reset_functions.specs.declared.functions.Functions.{Functions}
+use Rattle.reset_functions.specs.declared.functions.Part.{Part}
+use Rattle.reset_functions.specs.declared.functions.Tops.{Tops}
 
 -- the functions are the signal's in the cycles from 0 to its top
 pub record AreCyclesOf (n : NetView) (order : List ℕ) (base : ℕ) (g : List Node) (places : List (ℕ × ℕ)) (top : ℕ × ℕ) (us : List Unfolded) : Type 0 where

@@ -12,9 +12,9 @@ use Rattle.unfold_places.proofs.Lists.{adds_trans}
 use Rattle.unfold_places.proofs.Zips.{zip_more_left}
 use Rattle.reset_unfold.specs.Places.{starts_of}
 use Rattle.reset_unfold.proofs.Going.{later_none, later_trans}
-use Rattle.reset_form.specs.Pairs.{AreCyclesOf, IsAmong}
-use Rattle.reset_form.proofs.Growing.{all_later, cycles_of, among_none, among_next, over_among}
-use Rattle.reset_form.proofs.functions.unfold_all.Goals as goal
+use Rattle.reset_functions.specs.Pairs.{AreCyclesOf, IsAmong}
+use Rattle.reset_functions.proofs.Growing.{all_later, cycles_of, among_none, among_next, over_among}
+use Rattle.reset_functions.proofs.functions.unfold_all.Goals as goal
 
 pub loop-top-init : goal.loop-top-init
 loop-top-init c =

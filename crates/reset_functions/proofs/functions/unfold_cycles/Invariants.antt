@@ -3,8 +3,8 @@ use Rattle.unfold_places.specs.declared.signal_function.Unfolded.{Unfolded}
 use Rattle.reset_unfold.specs.Unfolded.{IsResetUnfolded, FitsReset}
 use Rattle.reset_unfold.specs.Building.{IsLaterReset}
 use Rattle.reset_unfold.specs.Cone.{IsCone}
-use Rattle.reset_form.proofs.Growing.{HasDone}
-use Rattle.reset_form.proofs.functions.unfold_cycles.Given as goal
+use Rattle.reset_functions.proofs.Growing.{HasDone}
+use Rattle.reset_functions.proofs.functions.unfold_cycles.Given as goal
 
 abbrev pub invariant-loop-cycle : goal.invariant-loop-cycle
 invariant-loop-cycle l = record {

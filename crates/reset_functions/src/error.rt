@@ -14,7 +14,7 @@ pub enum ResetError {
 
 impl From<NoMemory> for ResetError {
     ghost use Rattle.std.specs.Prelude.{◌≡◌};
-    ghost use Rattle.reset_form.specs.declared.error.ResetError.TheVariants.{NoMemory};
+    ghost use Rattle.reset_functions.specs.declared.error.ResetError.TheVariants.{NoMemory};
 
     ghost from_gives = { λ _ e. e ≡ NoMemory };
 

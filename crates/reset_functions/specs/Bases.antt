@@ -2,8 +2,8 @@
 use Rattle.std.specs.Prelude.{◌≡◌, ◌+◌, ◌^◌, ◌<◌, ◌≤◌, length, All}
 use Rattle.sec_setup.specs.declared.setup.Setup.{Setup}
 use Rattle.unfold_places.specs.InputOrder.{IsOrderOf}
-use Rattle.reset_form.specs.declared.bases.Bases.{Bases}
-use Rattle.reset_form.specs.declared.functions.Part.{Part}
+use Rattle.reset_functions.specs.declared.bases.Bases.{Bases}
+use Rattle.reset_functions.specs.declared.functions.Part.{Part}
 
 -- A's are above the numbers of all inputs and of all columns, B's above A's, and all are below 2^31
 pub record AreBases (s : Setup) (b : Bases) : Type 0 where

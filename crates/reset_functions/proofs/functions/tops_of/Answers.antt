@@ -4,11 +4,11 @@ use Rattle.std.proofs.lemmas.List.{take_all}
 use Rattle.circuit_theory.proofs.Lists.{of_at}
 use Rattle.interface.specs.declared.pairs.SignalPair.{SignalPair}
 use Rattle.shift_variables.proofs.Reading.{item_at}
-use Rattle.reset_form.specs.Pairs.{AreTops}
-use Rattle.reset_form.proofs.FirstPairs.{own_pairs}
-use Rattle.reset_form.proofs.Growing.{tops_next}
-use Rattle.reset_form.proofs.PairAt.{output_within}
-use Rattle.reset_form.proofs.functions.tops_of.Goals as goal
+use Rattle.reset_functions.specs.Pairs.{AreTops}
+use Rattle.reset_functions.proofs.OwnPairs.{own_pairs}
+use Rattle.reset_functions.proofs.Growing.{tops_next}
+use Rattle.reset_functions.proofs.OwnPairs.{output_within}
+use Rattle.reset_functions.proofs.functions.tops_of.Goals as goal
 
 pub pair_depth-depth-requires-clause-left : goal.pair_depth-depth-requires-clause-left
 pair_depth-depth-requires-clause-left c =

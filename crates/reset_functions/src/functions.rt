@@ -11,14 +11,12 @@ ghost use Rattle.reset_unfold.specs.Places.{starts_of};
 ghost use Rattle.reset_laws.specs.Weight.{IsResetOver};
 ghost use Rattle.flat_net.specs.View.{circuit_of};
 ghost use Rattle.sec_setup.specs.Setup.{IsSetup};
-ghost use Rattle.reset_form.specs.Bases.{AreBases, IsPart};
-ghost use Rattle.reset_form.specs.Pairs.{AreCyclesOf, AreTops, IsAmong, IsBelow, IsRefusalOf, Unfolds, HasDoneBelow, IsOverBelow, IsLight, IsTooLarge, CyclesOf};
+ghost use Rattle.reset_functions.specs.Bases.{AreBases, IsPart};
+ghost use Rattle.reset_functions.specs.Pairs.{AreCyclesOf, AreTops, IsAmong, IsBelow, IsRefusalOf, Unfolds, HasDoneBelow, IsOverBelow, IsLight, IsTooLarge, CyclesOf};
 
 use crate::bases::Bases;
 use crate::error::ResetError;
 use aig::Aig;
-use unfold_places::memo::Place;
-use unfold_places::{UnfoldError, Unfolded};
 use flat_net::{Net, Signal};
 use latch_graph::LatchGraph;
 use reset_unfold::ResetUnfolder;
@@ -26,14 +24,16 @@ use sec_base::{Ids, MAX_WEIGHT, NoMemory, PlaceTable, Seq, Side};
 use sec_setup::Setup;
 use setup_depths::pair_depth;
 use std::alloc::Global;
+use unfold_places::memo::Place;
+use unfold_places::{UnfoldError, Unfolded};
 
 /// The functions of a signal in the cycles from 0 on.
-pub(crate) type Cycles = Seq<Unfolded>;
+pub type Cycles = Seq<Unfolded>;
 
 /// The functions of each pair's two signals in each cycle up to the pair's depth, on one graph and one table of inputs in cycles and
 /// of latches in cycle 0.
 #[derive(Drop)]
-pub(crate) struct Functions {
+pub struct Functions {
     pub aig: Aig,
     pub places: PlaceTable,
     pub left: Vec<Cycles>,
@@ -42,7 +42,7 @@ pub(crate) struct Functions {
 
 /// One of the two circuits, with the numbers of its variables.
 #[derive(Drop)]
-pub(crate) struct Part<'a> {
+pub struct Part<'a> {
     pub side: Side,
     pub net: &'a Net,
     pub graph: &'a LatchGraph,
@@ -58,11 +58,7 @@ struct Tops {
 }
 
 /// Unfolds all of A, then all of B, pair by pair in each cycle from 0 to the pair's depth.
-pub(crate) fn unfold_pairs(
-    alloc: Global,
-    setup: &Setup<'_>,
-    bases: Bases,
-) -> Result<Functions, ResetError>
+pub fn unfold_pairs(alloc: Global, setup: &Setup<'_>, bases: Bases) -> Result<Functions, ResetError>
     requires setup { IsSetup setup.now }
     requires bases { AreBases setup.now bases }
     ensures { Unfolds setup.now bases result }
