@@ -130,6 +130,47 @@ def sorter(words, width, odd_even):
     )
 
 
+def times(a, b):
+    """The product in the field of AES, whose polynomial is x^8 + x^4 + x^3 + x + 1."""
+    whole = 0
+    for i in range(8):
+        whole ^= (a << i) * (b >> i & 1)
+    for i in range(14, 7, -1):
+        whole ^= (0x11B << (i - 8)) * (whole >> i & 1)
+    return whole
+
+
+def substitute(x):
+    inverse = 1 if x else 0
+    for _ in range(254 if x else 0):
+        inverse = times(inverse, x)
+    turned = [inverse << i & 0xFF | inverse >> (8 - i) for i in range(5)]
+    return turned[0] ^ turned[1] ^ turned[2] ^ turned[3] ^ turned[4] ^ 0x63
+
+
+def column(table, fault=False):
+    """Four bytes of AES substituted and mixed (FIPS 197), the substitution as a table or by inverses in the field."""
+    if table:
+        rows = " ".join(f"8'd{x}: s = 8'd{substitute(x)};" for x in range(256))
+        lines = [f"function [7:0] s(input [7:0] x); case (x) {rows} endcase endfunction"]
+    else:
+        lines = [
+            "function [7:0] t(input [7:0] a, input [7:0] b); reg [14:0] w; integer i; begin w = 0;",
+            "for (i = 0; i < 8; i = i + 1) if (b[i]) w = w ^ ({7'b0, a} << i);",
+            "for (i = 14; i > 7; i = i - 1) if (w[i]) w = w ^ (15'h11b << (i - 8)); t = w[7:0]; end endfunction",
+            "function [7:0] s(input [7:0] x); reg [7:0] p, q; integer i; begin p = t(x, x); q = p;",
+            "for (i = 0; i < 6; i = i + 1) begin p = t(p, p); q = t(q, p); end",
+            "s = q ^ {q[6:0], q[7]} ^ {q[5:0], q[7:6]} ^ {q[4:0], q[7:5]} ^ {q[3:0], q[7:4]} ^ 8'h63; end endfunction",
+        ]
+    lines.append("function [7:0] d(input [7:0] x); d = {x[6:0], 1'b0} ^ (x[7] ? 8'h1b : 8'h0); endfunction")
+    lines += [f"wire [7:0] y{i} = s(x{i}), z{i} = d(y{i});" for i in range(4)]
+    for i in range(4):
+        j, k, l = (i + 1) % 4, (i + 2) % 4, (i + 3) % 4
+        wrong = " ^ {7'b0, x0 == 8'd200 && x1[7:4] == 9}" if fault and i == 3 else ""
+        lines.append(f"assign w{i} = z{i} ^ z{j} ^ y{j} ^ y{k} ^ y{l}{wrong};")
+    return module("top", ", ".join(f"input [7:0] x{i}" for i in range(4)) + ", " + ", ".join(f"output [7:0] w{i}" for i in range(4)), "\n".join(lines))
+
+
 def synthesise(folder, name, text):
     source, target = folder / f"{name}.v", folder / f"{name}.blif"
     source.write_text(text)
@@ -150,7 +191,8 @@ def families():
         yield f"adder_{n}_prefix", ripple(n, True), prefix(n, False), prefix(n, True)
     for n in (8, 12, 16):
         yield f"product_{n}_resynthesised", product(n, True), RESYNTHESISED, product(n, True, True)
-    yield "product_8_order", product(8, True), product(8, False), product(8, False, True)
+    for n in (8, 9, 10):
+        yield f"product_{n}_order", product(n, True), product(n, False), product(n, False, True)
     yield "product_12_mapped", product(12, True), MAPPED, None
     for taps in (4, 8, 16):
         yield f"filter_{taps}_two_ways", filter_of(taps, 8, True, chain), filter_of(taps, 8, False, chain), filter_of(taps, 8, False, chain, True)
@@ -161,6 +203,7 @@ def families():
     yield "count_32_two_ways", count(32, tree), count(32, chain), None
     for n in (64, 256):
         yield f"barrel_{n}_two_orders", barrel(n, True), barrel(n, False), barrel(n, False, True)
+    yield "column_of_aes", column(True), column(False), column(False, True)
     yield "sorter_8_of_4", sorter(8, 4, True), sorter(8, 4, False), None
 
 

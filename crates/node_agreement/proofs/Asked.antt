@@ -1,5 +1,5 @@
 -- A query over a small graph, and what its answer says of the graph that it is a part of.
-use Rattle.std.proofs.Common.{◌≡◌, ◌≢◌, ℕ, ◌*◌, ◌<◌, List, [], ◌∷◌, length, Option, None, sym, ◌∙◌, ap, subst, arith}
+use Rattle.std.proofs.Common.{◌≡◌, ◌≢◌, ℕ, ◌*◌, ◌<◌, List, [], ◌∷◌, length, Option, Some, None, refl, sym, ◌∙◌, ap, subst, arith}
 use Rattle.std.specs.Prelude.{Contains}
 use Rattle.std.specs.List.{AllPairs}
 use Rattle.aig.specs.declared.node.Node.{Node}
@@ -17,14 +17,13 @@ use Rattle.pair_decide.specs.declared.query.Decision.TheVariants as answer
 use Rattle.pair_decide.specs.Queries.{IsQuery, IsSame}
 use Rattle.pair_decide.specs.Answers.{Decides}
 use Rattle.root_classes.specs.Agreeing.{Agree}
-use Rattle.node_agreement.specs.Standing.{StandsFor, by_nodes}
+use Rattle.node_agreement.specs.declared.question.Tried.{Tried}
+use Rattle.node_agreement.specs.Answers.{IsFound, IsOutcome, IsAnswer}
 use Rattle.root_classes.specs.Inputs.{inputs_of}
-use Rattle.root_classes.proofs.Listed.{inputs_of-has, inputs_of-distinct}
+use Rattle.root_classes.proofs.Listed.{inputs_of-has}
+use Rattle.root_classes.proofs.Assigned.{inputs-distinct}
 
--- all variables of a graph are distinct, and cover the cones of two literals without a care
-pub all-distinct : (g : List Node) → IsGraph g → (vars : List ℕ) → vars ≡ inputs_of g → AllPairs (λ u v. u ≢ v) vars
-all-distinct g graph vars are = subst (AllPairs (λ u v. u ≢ v)) (sym are) (inputs_of-distinct g (λ n m v at there. graph.once n m (Input v) at there))
-
+-- all variables of a graph cover the cones of two literals without a care
 pub all-covered : (g : List Node) (left right : ℕ) (vars : List ℕ) → vars ≡ inputs_of g → table.Covers g (left ∷ right ∷ 1 ∷ []) vars
 all-covered g left right vars are = λ n v reached at. subst (λ (vs : List ℕ). Contains vs v) (sym are) (inputs_of-has g n v at)
 
@@ -36,15 +35,14 @@ query-of g graph q left right care vars =
       left = left;
       right = right;
       care = omega arith;
-      distinct = all-distinct g graph q.vars vars;
+      distinct = inputs-distinct g graph q.vars vars;
       covers = λ n v reached at. subst (λ (vs : List ℕ). Contains vs v) (sym vars) (inputs_of-has g n v at);
     }
 
--- where the table has no number they agree
-pub table-agree : (g : List Node) → IsGraph g → (left right : ℕ) (vars : List ℕ) (o : Option ℕ) → table.IsTable g left right 1 vars o → o ≡ None → Agree g left right
-table-agree g graph left right vars o is e =
-    let none : table.IsTable g left right 1 vars None = subst (table.IsTable g left right 1 vars) e is in
-    λ a. none a (value-one g graph a)
+-- what the table says without a care
+pub table-found : (g : List Node) → IsGraph g → (left right : ℕ) (vars : List ℕ) (o : Option ℕ) → table.IsTable g left right 1 vars o → IsFound g left right vars o
+table-found g graph left right vars None agree = λ a. agree a (value-one g graph a)
+table-found g graph left right vars (Some number) least = least.here.apart
 
 -- each answer that they are the same says so
 pub same-of : (g : List Node) (q : Query) (conflicts : ℕ) (d : Decision) → Decides g q conflicts d → (why : SameBy) × (d ≡ answer.Same why) → IsSame g q
@@ -59,6 +57,10 @@ same-of g q conflicts d decides (why, e) = by why (subst (Decides g q conflicts)
 pub same-agree : (g : List Node) → IsGraph g → (q : Query) → q.care.0 ≡ 1 → IsSame g q → Agree g q.left.0 q.right.0
 same-agree g graph q care is a = is a (ap (value g a) care ∙ value-one g graph a)
 
--- what agrees in the small graph does so in the graph
-pub agree-there : (g small : List Node) (x k left right : ℕ) → StandsFor (by_nodes g) g small x left → StandsFor (by_nodes g) g small k right → Agree small left right → Agree g x k
-agree-there g small x k left right one other agree a = sym (one.same a) ∙ agree (by_nodes g a) ∙ other.same a
+-- an answer to the query answers for its two literals
+pub outcome-answers : (g : List Node) → IsGraph g → (q : Query) → q.care.0 ≡ 1 → q.vars ≡ inputs_of g → (conflicts : ℕ) (d : Decision) → Decides g q conflicts d → (t : Tried) → IsOutcome d q.vars t → IsAnswer g q.left.0 q.right.0 t
+outcome-answers g graph q care vars conflicts (answer.Same why) decides t (cost, e) =
+    let agree : Agree g q.left.0 q.right.0 = same-agree g graph q care (same-of g q conflicts (answer.Same why) decides (why, refl)) in
+    subst (IsAnswer g q.left.0 q.right.0) (sym e) agree
+outcome-answers g graph q care vars conflicts (answer.Differs bits) decides t e = subst (IsAnswer g q.left.0 q.right.0) (sym e) (vars, decides.each, decides.distinguishes.differ)
+outcome-answers g graph q care vars conflicts (answer.Limit proof) decides t e = subst (IsAnswer g q.left.0 q.right.0) (sym e) tt

@@ -1,2 +1,4 @@
 pub mod Stood
 pub mod Asked
+pub mod Told
+pub mod Modelled

@@ -3,6 +3,7 @@
 #![tactic(auto)]
 
 mod budget;
+mod models;
 mod proof;
 mod question;
 mod signs;

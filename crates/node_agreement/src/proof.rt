@@ -1,18 +1,20 @@
 //! Proving that two literals of a graph agree.
 
-ghost use Rattle.std.specs.Prelude.{◌≡◌, ◌*◌, ◌<◌, ◌≤◌, length, IfOk, IsTrue};
+ghost use Rattle.std.specs.Prelude.{◌≡◌, ℕ, ◌*◌, ◌<◌, ◌≤◌, List, length, IfOk, IfSome};
+ghost use Rattle.aig.specs.declared.node.Node.{Node};
 ghost use Rattle.root_classes.specs.Agreeing.{Agree};
-ghost use Rattle.node_agreement.specs.declared.question.Cost.{Cost};
-ghost use Rattle.node_agreement.specs.declared.question.Tried.TheVariants as tried;
+ghost use Rattle.sweep_candidates.specs.declared.models.Model.{Model};
 ghost use Rattle.node_agreement.specs.declared.proof.Proved.TheVariants as proved;
+ghost use Rattle.node_agreement.specs.Answers.{DifferAt, IsToldOf, IsProved};
 
 use crate::budget::Budget;
+use crate::models::model_of;
 use crate::question::{Tried, ask};
 use crate::small::{find, small_graph};
 use aig::{Aig, Lit};
 use sec_base::NoMemory;
 use std::alloc::Global;
-use sweep_candidates::{Model, cut_of, model_of, small_cone_of, window_of};
+use sweep_candidates::{Model, cut_of, small_cone_of, window_of};
 
 /// After how many steps windows end.
 const WINDOWS: [usize; 2] = [100, 300];
@@ -21,12 +23,20 @@ const WINDOWS: [usize; 2] = [100, 300];
 #[derive(Drop)]
 pub enum Proved {
     Same,
-    /// The graph's variables may have these bits, and then they differ.
+    /// They differ where the graph's variables have these bits, and others 0.
     Apart(Model),
     Open,
 }
 
-/// Tries to prove that two literals agree: over a cut of few leaves, over a window, and over their whole cones.
+impl Proved {
+    /// Whether something was found.
+    fn is_told(&self) -> bool {
+        !matches!(self, Proved::Open)
+    }
+}
+
+/// Tries to prove that two literals agree: over a cut of few leaves, over windows, and over their whole cones. Where they differ over the
+/// whole cones, it tells where.
 pub fn prove(
     alloc: Global,
     graph: &Aig,
@@ -37,59 +47,74 @@ pub fn prove(
 ) -> Result<Proved, NoMemory>
     requires x { x.0 < 2 * length graph.now }
     requires k { k.0 < 2 * length graph.now }
-    ensures { IfOk result (λ p. p ≡ proved.Same → Agree graph.now x.0 k.0) }
+    ensures same { IfOk result (λ p. p ≡ proved.Same → Agree graph.now x.0 k.0) }
+    ensures apart { IfOk result (λ p. (m : Model) → p ≡ proved.Apart m → DifferAt graph.now x.0 k.0 m.vars.items m.bits.items) }
 {
-    if is_same_nearby(alloc, graph, levels, x, k, budget)? {
-        return Ok(Proved::Same);
-    }
-    if !budget.may_search() {
-        return Ok(Proved::Open);
+    let came = attempt(alloc, graph, levels, x, k, budget)?;
+    Ok(came)
+}
+
+/// The same as one relation.
+fn attempt(
+    alloc: Global,
+    graph: &Aig,
+    levels: &[u32],
+    x: Lit,
+    k: Lit,
+    budget: &mut Budget,
+) -> Result<Proved, NoMemory>
+    requires x { x.0 < 2 * length graph.now }
+    requires k { k.0 < 2 * length graph.now }
+    ensures { IfOk result (IsProved graph.now x.0 k.0) }
+{
+    let near = prove_nearby(alloc, graph, levels, x, k, budget)?;
+    if near.is_told() || !budget.may_search() {
+        return Ok(near);
     }
     prove_wholly(alloc, graph, x, k, budget)
 }
 
-/// Whether two literals are proved to agree over a cut or a window. Where no conflicts are allowed there is none.
-fn is_same_nearby(
+/// Tries it over a cut and over windows. Where no conflicts are allowed there is none.
+fn prove_nearby(
     alloc: Global,
     graph: &Aig,
     levels: &[u32],
     x: Lit,
     k: Lit,
     budget: &mut Budget,
-) -> Result<bool, NoMemory>
-    ensures { IfOk result (λ same. IsTrue same → Agree graph.now x.0 k.0) }
+) -> Result<Proved, NoMemory>
+    ensures { IfOk result (IsProved graph.now x.0 k.0) }
 {
     if budget.each == 0 {
-        return Ok(false);
+        return Ok(Proved::Open);
     }
     let cut = cut_of(alloc, graph, levels, x, k)?;
-    if is_same_in(alloc, graph, cut.as_slice(), x, k, budget)? {
-        return Ok(true);
+    let told = prove_in(alloc, graph, cut.as_slice(), x, k, budget)?;
+    if told.is_told() || !budget.may_search() {
+        return Ok(told);
     }
-    if !budget.may_search() {
-        return Ok(false);
-    }
-    is_same_in_window(alloc, graph, levels, x, k, budget)
+    prove_in_window(alloc, graph, levels, x, k, budget)
 }
 
-/// Whether two literals are proved to agree over one of some windows, each wider than the one before.
-fn is_same_in_window(
+/// Tries it over some windows, each wider than the one before.
+fn prove_in_window(
     alloc: Global,
     graph: &Aig,
     levels: &[u32],
     x: Lit,
     k: Lit,
     budget: &mut Budget,
-) -> Result<bool, NoMemory>
-    ensures { IfOk result (λ same. IsTrue same → Agree graph.now x.0 k.0) }
+) -> Result<Proved, NoMemory>
+    ensures { IfOk result (IsProved graph.now x.0 k.0) }
 {
     for i in 0..WINDOWS.len() {
         let window = window_of(alloc, graph, levels, x, k, WINDOWS[i])?;
-        if is_same_in(alloc, graph, window.as_slice(), x, k, budget)? {
-            return Ok(true);
+        let told = prove_in(alloc, graph, window.as_slice(), x, k, budget)?;
+        if told.is_told() {
+            return Ok(told);
         }
     }
-    Ok(false)
+    Ok(Proved::Open)
 }
 
 /// Tries it over the whole cones. Where no conflicts are allowed these are looked at only if they are small.
@@ -102,7 +127,7 @@ fn prove_wholly(
 ) -> Result<Proved, NoMemory>
     requires x { x.0 < 2 * length graph.now }
     requires k { k.0 < 2 * length graph.now }
-    ensures { IfOk result (λ p. p ≡ proved.Same → Agree graph.now x.0 k.0) }
+    ensures { IfOk result (IsProved graph.now x.0 k.0) }
 {
     if budget.each == 0 {
         return match small_cone_of(alloc, graph, &[], x, k)? {
@@ -115,41 +140,36 @@ fn prove_wholly(
     prove_in(alloc, graph, cone.as_slice(), x, k, budget)
 }
 
-/// Tries it over the small graph of these nodes, which are whole cones: where they differ there, so they do in the graph.
+/// Tries it over the small graph of these nodes. Where the literals differ there, so they do in the graph if its variables are the
+/// graph's own.
 fn prove_in(
-    alloc: Global,
-    graph: &Aig,
-    cone: &[u32],
-    x: Lit,
-    k: Lit,
-    budget: &mut Budget,
-) -> Result<Proved, NoMemory>
-    ensures { IfOk result (λ p. p ≡ proved.Same → Agree graph.now x.0 k.0) }
-{
-    match try_in(alloc, graph, cone, x, k, budget)? {
-        Tried::Same(_) => Ok(Proved::Same),
-        Tried::Differs(vars, bits) => {
-            let model = model_of(alloc, graph, vars.as_slice(), bits.as_slice())?;
-            Ok(Proved::Apart(model))
-        }
-        _ => Ok(Proved::Open),
-    }
-}
-
-/// Whether two literals are proved to agree over the small graph of these nodes.
-fn is_same_in(
     alloc: Global,
     graph: &Aig,
     numbers: &[u32],
     x: Lit,
     k: Lit,
     budget: &mut Budget,
-) -> Result<bool, NoMemory>
-    ensures { IfOk result (λ same. IsTrue same → Agree graph.now x.0 k.0) }
+) -> Result<Proved, NoMemory>
+    ensures { IfOk result (IsProved graph.now x.0 k.0) }
 {
-    match try_in(alloc, graph, numbers, x, k, budget)? {
-        Tried::Same(_) => Ok(true),
-        _ => Ok(false),
+    let tried = try_in(alloc, graph, numbers, x, k, budget)?;
+    match tried {
+        Tried::Same(_) => Ok(Proved::Same),
+        Tried::Differs(vars, bits) => {
+            let found = model_of(alloc, graph, vars.as_slice(), bits)?;
+            Ok(apart_by(found))
+        }
+        _ => Ok(Proved::Open),
+    }
+}
+
+/// They differ by the model, if there is one.
+fn apart_by(found: Option<Model>) -> Proved
+    ensures { (g : List Node) (x y : ℕ) → IfSome found (λ m. DifferAt g x y m.vars.items m.bits.items) → IsProved g x y result }
+{
+    match found {
+        Some(model) => Proved::Apart(model),
+        None => Proved::Open,
     }
 }
 
@@ -162,7 +182,7 @@ fn try_in(
     k: Lit,
     budget: &mut Budget,
 ) -> Result<Tried, NoMemory>
-    ensures { IfOk result (λ t. (cost : Cost) → t ≡ tried.Same cost → Agree graph.now x.0 k.0) }
+    ensures { IfOk result (IsToldOf graph.now x.0 k.0) }
 {
     let conflicts = budget.conflicts();
     let tried = try_small(alloc, graph, numbers, x, k, conflicts)?;
@@ -180,9 +200,11 @@ fn try_small(
     conflicts: u32,
 ) -> Result<Tried, NoMemory>
     requires { conflicts ≤ 200000 }
-    ensures { IfOk result (λ t. (cost : Cost) → t ≡ tried.Same cost → Agree graph.now x.0 k.0) }
+    ensures { IfOk result (IsToldOf graph.now x.0 k.0) }
 {
+    graph.keeps();
     let small = small_graph(alloc, graph, numbers)?;
+    small.graph.keeps();
     let lits = small.lits.as_slice();
     let (Some(left), Some(right)) = (find(numbers, lits, x), find(numbers, lits, k)) else {
         return Ok(Tried::Open);

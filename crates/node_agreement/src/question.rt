@@ -1,12 +1,8 @@
 //! Whether two literals of a small graph agree under all assignments: by a table, or by a search.
 
 ghost use Rattle.std.specs.Prelude.{◌≡◌, ◌*◌, ◌<◌, ◌≤◌, length, IfOk};
-ghost use Rattle.root_classes.specs.Agreeing.{Agree};
 ghost use Rattle.root_classes.specs.Inputs.{inputs_of};
-ghost use Rattle.pair_decide.specs.declared.query.SameBy.{SameBy};
-ghost use Rattle.pair_decide.specs.declared.query.Decision.TheVariants as answer;
-ghost use Rattle.node_agreement.specs.declared.question.Cost.{Cost};
-ghost use Rattle.node_agreement.specs.declared.question.Tried.TheVariants as tried;
+ghost use Rattle.node_agreement.specs.Answers.{IsAnswer, IsOutcome};
 
 use crate::table::{ask_table, is_light};
 use aig::{Aig, Lit};
@@ -43,6 +39,13 @@ pub(crate) enum Tried {
     Open,
 }
 
+impl Tried {
+    /// Whether the limit of conflicts was met.
+    fn is_at_limit(&self) -> bool {
+        matches!(self, Tried::Limit)
+    }
+}
+
 /// Tries to prove that two literals agree over all variables of the graph. Where a table of up to 24 variables takes no longer than so
 /// many conflicts, it follows a short search.
 pub(crate) fn ask(
@@ -55,15 +58,16 @@ pub(crate) fn ask(
     requires left { left.0 < 2 * length graph.now }
     requires right { right.0 < 2 * length graph.now }
     requires conflicts { conflicts ≤ 200000 }
-    ensures { IfOk result (λ t. (cost : Cost) → t ≡ tried.Same cost → Agree graph.now left.0 right.0) }
+    ensures { IfOk result (IsAnswer graph.now left.0 right.0) }
 {
     let vars = variables(alloc, graph)?;
     let light = is_light(graph.size(), vars.len(), conflicts);
     let most = most_conflicts(conflicts, light);
-    match ask_search(alloc, graph, left, right, vars, most)? {
-        Tried::Limit => ask_further(alloc, graph, left, right, light),
-        other => Ok(other),
+    let tried = ask_search(alloc, graph, left, right, vars, most)?;
+    if light && tried.is_at_limit() {
+        return ask_table(alloc, graph, left, right);
     }
+    Ok(tried)
 }
 
 /// The most conflicts of the search.
@@ -75,24 +79,6 @@ fn most_conflicts(conflicts: u32, light: bool) -> u32
     } else {
         conflicts
     }
-}
-
-/// Tries the table, if it is a light one.
-fn ask_further(
-    alloc: Global,
-    graph: &Aig,
-    left: Lit,
-    right: Lit,
-    light: bool,
-) -> Result<Tried, NoMemory>
-    requires left { left.0 < 2 * length graph.now }
-    requires right { right.0 < 2 * length graph.now }
-    ensures { IfOk result (λ t. (cost : Cost) → t ≡ tried.Same cost → Agree graph.now left.0 right.0) }
-{
-    if !light {
-        return Ok(Tried::Limit);
-    }
-    ask_table(alloc, graph, left, right)
 }
 
 /// Tries it by a table where the variables are at most 16, and else by a search, if that may have conflicts.
@@ -108,7 +94,7 @@ fn ask_search(
     requires right { right.0 < 2 * length graph.now }
     requires vars { vars ≡ inputs_of graph.now }
     requires conflicts { conflicts ≤ 200000 }
-    ensures { IfOk result (λ t. (cost : Cost) → t ≡ tried.Same cost → Agree graph.now left.0 right.0) }
+    ensures { IfOk result (IsAnswer graph.now left.0 right.0) }
 {
     graph.keeps();
     if vars.len() > NARROW && conflicts == 0 {
@@ -125,7 +111,7 @@ fn ask_search(
 }
 
 fn outcome_of(decision: Decision, vars: Ids) -> Tried
-    ensures { (cost : Cost) → result ≡ tried.Same cost → (why : SameBy) × (decision ≡ answer.Same why) }
+    ensures { IsOutcome decision vars result }
 {
     match decision {
         Decision::Same(why) => Tried::Same(spent(&why)),

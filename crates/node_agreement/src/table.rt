@@ -1,10 +1,10 @@
 //! Whether two literals of a small graph agree, by a table of up to 24 variables.
 
-ghost use Rattle.std.specs.Prelude.{◌≡◌, ◌*◌, ◌<◌, ◌≤◌, None, length, IfOk};
-ghost use Rattle.root_classes.specs.Agreeing.{Agree};
+ghost use Rattle.std.specs.Prelude.{◌≡◌, ℕ, ◌*◌, ◌<◌, ◌≤◌, List, Some, length, IfOk};
+ghost use Rattle.circuit_theory.specs.Query.{bits_of};
+ghost use Rattle.aig.specs.declared.node.Node.{Node};
 ghost use Rattle.root_classes.specs.Inputs.{inputs_of};
-ghost use Rattle.node_agreement.specs.declared.question.Cost.{Cost};
-ghost use Rattle.node_agreement.specs.declared.question.Tried.TheVariants as tried;
+ghost use Rattle.node_agreement.specs.Answers.{IsAnswer, IsFound};
 
 use crate::question::{Cost, Tried};
 use aig::{Aig, Lit};
@@ -39,26 +39,32 @@ pub(crate) fn ask_table(
 ) -> Result<Tried, NoMemory>
     requires left { left.0 < 2 * length graph.now }
     requires right { right.0 < 2 * length graph.now }
-    ensures { IfOk result (λ t. (cost : Cost) → t ≡ tried.Same cost → Agree graph.now left.0 right.0) }
+    ensures { IfOk result (IsAnswer graph.now left.0 right.0) }
 {
     let vars = variables(alloc, graph)?;
     if vars.len() > WIDE {
         return Ok(Tried::Open);
     }
-    match differing(alloc, graph, left, right, &vars)? {
+    let found = number_of(alloc, graph, left, right, &vars)?;
+    match found {
         None => Ok(Tried::Same(Cost {
             conflicts: 0,
             table: table_worth(graph.size(), vars.len()),
         })),
-        Some(number) => {
-            let bits = low_bits(alloc, vars.len(), number)?;
-            Ok(Tried::Differs(vars, bits))
-        }
+        Some(number) => differing_by(alloc, vars, number),
     }
 }
 
+/// That the literals differ where the variables have the number's low bits.
+fn differing_by(alloc: Global, vars: Ids, number: u32) -> Result<Tried, NoMemory>
+    ensures { IfOk result (λ t. (g : List Node) (x y : ℕ) → vars ≡ inputs_of g → IsFound g x y vars (Some number) → IsAnswer g x y t) }
+{
+    let bits = low_bits(alloc, vars.len(), number)?;
+    Ok(Tried::Differs(vars, bits))
+}
+
 /// The number of an assignment of these variables, which are all of the graph's, under which the literals differ.
-fn differing(
+fn number_of(
     alloc: Global,
     graph: &Aig,
     left: Lit,
@@ -69,7 +75,7 @@ fn differing(
     requires right { right.0 < 2 * length graph.now }
     requires vars { vars.now ≡ inputs_of graph.now }
     requires few { length vars.now ≤ 24 }
-    ensures { IfOk result (λ found. found ≡ None → Agree graph.now left.0 right.0) }
+    ensures { IfOk result (IsFound graph.now left.0 right.0 vars.now) }
 {
     graph.keeps();
     let found = table_differs(alloc, graph, left, right, Lit::TRUE, vars)?;
@@ -77,12 +83,21 @@ fn differing(
 }
 
 /// So many of the number's low bits, the lowest first.
-fn low_bits(alloc: Global, count: usize, number: u32) -> Result<Bits, NoMemory> {
-    let mut bits = Bits::new(alloc);
+fn low_bits(alloc: Global, count: usize, number: u32) -> Result<Bits, NoMemory>
+    ensures { IfOk result (λ bits. bits ≡ bits_of number count) }
+{
+    let mut bits = vec![in alloc; false; count]?;
+    put_bits(bits.as_mut_slice(), number);
+    Ok(Bits::from_vec(bits))
+}
+
+/// Puts the number's low bits, the lowest first.
+fn put_bits(bits: &mut [bool], number: u32)
+    ensures { bits.new ≡ bits_of number (length bits.old) }
+{
     let mut rest = number;
-    for _k in 0..count {
-        bits.push(rest % 2 == 1)?;
+    for bit in bits.iter_mut() {
+        *bit = rest % 2 == 1;
         rest /= 2;
     }
-    Ok(bits)
 }

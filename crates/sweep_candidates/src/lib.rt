@@ -9,5 +9,5 @@ mod models;
 mod windows;
 
 pub use hints::Hints;
-pub use models::{Model, model_of};
+pub use models::Model;
 pub use windows::{cut_of, small_cone_of, window_of};

@@ -3,7 +3,7 @@ use Rattle.aig.specs.declared.node.Lit.{Lit}
 use Rattle.aig.specs.declared.node.Node.{Node}
 use Rattle.node_agreement.specs.Standing.{AreLocal}
 use Rattle.pair_decide.proofs.Read.{IfOk-then}
-use Rattle.node_agreement.proofs.Asked.{agree-there}
+use Rattle.node_agreement.proofs.Told.{answer-told}
 use Rattle.node_agreement.proofs.proof.try_small.Goals as goal
 
 -- the same list under another name
@@ -24,7 +24,6 @@ pub returns : goal.returns
 returns c =
     let are = local-by c.args.graph.now c.args.numbers.now c.in_ok-small.small.graph c.in_ok-small.small.lits.items c.as_slice-lits.result.now c.as_slice-lits.ensures.value c.in_ok-small.ensures in
     IfOk-then c.ask.result _ _
-    (λ t agree n same.
-    agree-there c.args.graph.now c.in_ok-small.small.graph c.args.x.0 c.args.k.0 c.in-Some-Some.left.0 c.in-Some-Some.right.0 (c.in-Some-Some.ensures c.args.graph.now c.in_ok-small.small.graph are)
-    (c.in-Some-Some.ensures' c.args.graph.now c.in_ok-small.small.graph are) (agree n same))
+    (answer-told c.args.graph.now c.in_ok-small.small.graph c.keeps.ensures.graph c.keeps-2.ensures.graph c.args.x.0 c.args.k.0 c.in-Some-Some.left.0 c.in-Some-Some.right.0
+    (c.in-Some-Some.ensures c.args.graph.now c.in_ok-small.small.graph are) (c.in-Some-Some.ensures' c.args.graph.now c.in_ok-small.small.graph are))
     c.ask.ensures

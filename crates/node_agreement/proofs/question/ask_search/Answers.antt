@@ -1,5 +1,5 @@
 use Rattle.std.proofs.Common.{refl}
-use Rattle.node_agreement.proofs.Asked.{query-of, same-of, same-agree}
+use Rattle.node_agreement.proofs.Asked.{query-of, outcome-answers}
 use Rattle.node_agreement.proofs.question.ask_search.Goals as goal
 
 pub decide-requires-clause-query : goal.decide-requires-clause-query
@@ -8,7 +8,6 @@ decide-requires-clause-query c =
     c.requires.left c.requires.right refl c.requires.vars
 
 pub returns : goal.returns
-returns c = λ n is.
-    same-agree c.args.graph.now c.keeps.ensures.graph (record { left = c.args.left; right = c.args.right; care = record { 0 = 1 }; vars = c.args.vars }) refl
-    (same-of c.args.graph.now (record { left = c.args.left; right = c.args.right; care = record { 0 = 1 }; vars = c.args.vars }) c.args.conflicts c.in_ok-decision.decision c.in_ok-decision.ensures
-    (c.outcome_of.ensures n is))
+returns c =
+    outcome-answers c.args.graph.now c.keeps.ensures.graph (record { left = c.args.left; right = c.args.right; care = record { 0 = 1 }; vars = c.args.vars }) refl c.requires.vars
+    c.args.conflicts c.in_ok-decision.decision c.in_ok-decision.ensures c.outcome_of.result c.outcome_of.ensures
