@@ -22,16 +22,27 @@ pub same_names : (text : List ℕ) (names others : List (List ℕ)) (rows more :
 same_names text names others rows more form another =
     let one = one_form text names others rows more form.names_are form.rows_are (form_lines names rows form.names_are text form.spelled) another in one.0
 
--- an accepted circuit is not refused
+-- an accepted text has no fault
+module _ (x : List ℕ) (accepted : IsAccepted x) where
+  pub is_short : IsTooLong x → ⊥
+  is_short long = omega (arith, accepted.short)
+
+  pub has_no_fault : (line : ℕ) (kind : ReadKind) → HasFault x line kind → ⊥
+  has_no_fault line kind h = none-some _ (sym accepted.faultless ∙ h.1)
+
+  pub is_sound : (fault : FlatError) → HasDesignFault x fault → ⊥
+  is_sound fault h = accepted.sound fault h.2
+
+-- so it is not refused
 module _ (text : Option (List ℕ)) (x : List ℕ) (is : text ≡ Some x) (accepted : IsAccepted x) where
   pub not_long : IfSome text IsTooLong → ⊥
-  not_long h = let long : IsTooLong x = if_told text IsTooLong x is h in omega (arith, accepted.short)
+  not_long h = is_short x accepted (if_told text IsTooLong x is h)
 
   pub not_faulty : (line : ℕ) (kind : ReadKind) → IfSome text (λ t. HasFault t line kind) → ⊥
-  not_faulty line kind h = none-some _ (sym accepted.faultless ∙ (if_told text (λ t. HasFault t line kind) x is h).1)
+  not_faulty line kind h = has_no_fault x accepted line kind (if_told text (λ t. HasFault t line kind) x is h)
 
   pub not_unsound : (fault : FlatError) → IfSome text (λ t. HasDesignFault t fault) → ⊥
-  not_unsound fault h = accepted.sound fault (if_told text (λ t. HasDesignFault t fault) x is h).2
+  not_unsound fault h = is_sound x accepted fault (if_told text (λ t. HasDesignFault t fault) x is h)
 
 -- nor is a stimulus
 module _ (text : Option (List ℕ)) (z : List ℕ) (told : text ≡ Some z) (names : List (List ℕ)) (rows : List (List Bool)) (stimulus : IsStimulus z names rows) where

@@ -1,15 +1,13 @@
 -- A text loads as the net that its design is flattened into.
-use Rattle.std.proofs.Common.{◌≡◌, ℕ, ◌≤◌, List, length, Option, Some, None, refl, sym, subst}
-use Rattle.std.specs.Prelude.{IfSome}
+use Rattle.std.proofs.Common.{◌≡◌, ℕ, ◌≤◌, List, length, Option, Some, None, subst}
 use Rattle.blif_read.specs.declared.design.BlifModel.{BlifModel}
-use Rattle.blif_read.specs.Design.{circuit_of_design}
 use Rattle.blif_read.specs.Reading.{first_fault, spelled}
 use Rattle.flat_net.specs.Comparable.{IsComparable}
 use Rattle.flat_net.specs.View.{NetView}
 use Rattle.elaborate.specs.declared.error.FlatError.{FlatError}
 use Rattle.elaborate.specs.declared.error.FlatError.TheVariants as fault
 use Rattle.flatten.specs.DesignFaults.{DesignFault, IsSoundDesign, IsFlatOf}
-use Rattle.sec_files.specs.Loading.{Loads, SpellsCircuit, HasDesignFault, FlattenFails}
+use Rattle.sec_files.specs.Loading.{Loads, HasDesignFault, FlattenFails}
 
 -- the flat net of the design that the text spells
 pub text_loads : (text : List ℕ) (models : List BlifModel) (net : NetView) → length text ≤ 16777216 → first_fault text ≡ None → models ≡ spelled text → IsSoundDesign models → IsFlatOf models net → Loads text net
@@ -17,10 +15,6 @@ text_loads text models net short faultless is sound flat = record {
   accepted = record { short = short; faultless = faultless; sound = subst IsSoundDesign is sound };
   flat = subst (λ (ms : List BlifModel). IsFlatOf ms net) is flat;
 }
-
--- the circuit that the text spells, with the net's clock
-pub spelled_circuit : (text : List ℕ) (net : NetView) → Loads text net → SpellsCircuit text net.clock (circuit_of_design (spelled text) net.clock)
-spelled_circuit text net loads = record { accepted = loads.accepted.faultless; is_clock = loads.flat.clock; is_circuit = refl }
 
 -- a flat net can be compared
 pub flat_is_comparable : (models : List BlifModel) (net : NetView) → IsFlatOf models net → IsComparable net

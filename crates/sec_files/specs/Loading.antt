@@ -14,11 +14,19 @@ use Rattle.blif_read.specs.declared.error.ReadError.TheVariants as read_error
 use Rattle.sec_files.specs.declared.loader.LoadError.{LoadError}
 use Rattle.sec_files.specs.declared.loader.LoadError.TheVariants as load_error
 
+-- this is the clock net of what the text spells
+abbrev pub IsClockOf : List ℕ → Option (List ℕ) → Type 0
+IsClockOf text clock = IsClock (spelled text) clock
+
+-- the circuit that the text spells, where this is its clock net
+abbrev pub circuit_of_text : List ℕ → Option (List ℕ) → Circuit Place
+circuit_of_text text clock = circuit_of_design (spelled text) clock
+
 -- the text spells this circuit: it has no faulty line, and its clock net is this one
 pub record SpellsCircuit (text : List ℕ) (clock : Option (List ℕ)) (d : Circuit Place) : Type 0 where
   pub accepted : first_fault text ≡ None
-  pub is_clock : IsClock (spelled text) clock
-  pub is_circuit : d ≡ circuit_of_design (spelled text) clock
+  pub is_clock : IsClockOf text clock
+  pub is_circuit : d ≡ circuit_of_text text clock
 
 -- the text, of at most 16,777,216 bytes, has no faulty line and spells a design without a fault
 pub record IsAccepted (text : List ℕ) : Type 0 where
@@ -26,10 +34,14 @@ pub record IsAccepted (text : List ℕ) : Type 0 where
   pub faultless : first_fault text ≡ None
   pub sound : IsSoundDesign (spelled text)
 
--- the text is accepted, and the net is its design's: its runs are the design's
+-- the net is that of the circuit that the text spells, with its initial values, its names and its clock net
+abbrev pub IsNetOfText : List ℕ → NetView → Type 0
+IsNetOfText text net = IsFlatOf (spelled text) net
+
+-- the text is accepted, and the net is its circuit's: its runs are the circuit's
 pub record Loads (text : List ℕ) (net : NetView) : Type 0 where
   pub accepted : IsAccepted text
-  pub flat : IsFlatOf (spelled text) net
+  pub flat : IsNetOfText text net
 
 -- the text is too long
 abbrev pub IsTooLong : List ℕ → Type 0
