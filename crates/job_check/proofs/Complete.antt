@@ -16,9 +16,9 @@ use Rattle.job_base.specs.declared.finding.Finding.TheVariants as finding
 use Rattle.job_base.specs.Written.{verdict_status, status_of}
 use Rattle.cut_points.specs.Common.{common_names}
 use Rattle.sec_setup.specs.Cycles.{AreBroken}
-use Rattle.sec_files.specs.Loading.{IsTooLong, HasFault, HasDesignFault}
+use Rattle.sec_files.specs.Loading.{IsTooLong, HasFault, HasDesignFault, HasRecordFault}
 use Rattle.job_files.specs.Reading.{Held}
-use Rattle.job_files.proofs.Accepted.{is_short, has_no_fault, is_sound}
+use Rattle.job_files.proofs.Accepted.{is_short, has_no_fault, is_sound, has_good_records}
 use Rattle.job_files.proofs.Reading.{some_and, if_told}
 use Rattle.job_check.specs.Check.{Check}
 use Rattle.job_check.specs.Found.{OfTexts, IsRefusal, IsFoundOf}
@@ -63,6 +63,9 @@ module _ (held : Held) (check : Check) (told : AreTold held check) where
   no_refusal (refusal.Design file.A fault) h = is_sound told.left told.comparable.left fault (of_left (λ x. HasDesignFault x fault) h)
   no_refusal (refusal.Design file.B fault) h = is_sound told.right told.comparable.right fault (of_texts _ h).2
   no_refusal (refusal.Design file.S fault) h = h
+  no_refusal (refusal.Record file.A place kind) h = has_good_records told.left told.comparable.left place kind (of_left (λ x. HasRecordFault x place kind) h)
+  no_refusal (refusal.Record file.B place kind) h = has_good_records told.right told.comparable.right place kind (of_texts _ h).2
+  no_refusal (refusal.Record file.S place kind) h = h
   no_refusal (refusal.Interface name) h = let n = of_texts _ h in no_fault _ (sym (told.comparable.match n.0 n.1 n.2 n.3) ∙ n.4)
   no_refusal (refusal.TooLarge side) h = let n = of_texts _ h in told.comparable.light n.0 n.1 n.2 n.3 side n.4.2
   no_refusal (refusal.Misfit m) h = h

@@ -23,7 +23,7 @@ use Rattle.circuit_jobs.proofs.Ended.{large_or_light}
 use Rattle.sec_files.specs.Loading.{IsAccepted, Loads, IsTooLong}
 use Rattle.sec_files.specs.Stimuli.{IsStimulus, HasBadHeader, HasBadRow}
 use Rattle.sec_files.proofs.Texts.{text_sound}
-use Rattle.job_files.proofs.Accepted.{has_header, no_bad_row, same_names, not_long, not_faulty, not_unsound}
+use Rattle.job_files.proofs.Accepted.{has_header, no_bad_row, same_names, not_long, not_faulty, not_unsound, not_misread}
 use Rattle.job_files.proofs.Reading.{some_and, if_told}
 use Rattle.job_circuit.specs.Reports.{IsCircuitRefusal, IsGraphRefusal, IsGraphFound, IsSimRefusal, IsSimFound, CanBeTold, CanBeRun, IsReported, IsGraphComplete, IsSimComplete}
 
@@ -42,6 +42,9 @@ module _ (circuit : Option (List ℕ)) (x : List ℕ) (is : circuit ≡ Some x) 
   circuit_stands (refusal.Design file.A fault) h = not_unsound circuit x is accepted fault h
   circuit_stands (refusal.Design file.B fault) h = h
   circuit_stands (refusal.Design file.S fault) h = h
+  circuit_stands (refusal.Record file.A place kind) h = not_misread circuit x is accepted place kind h
+  circuit_stands (refusal.Record file.B place kind) h = h
+  circuit_stands (refusal.Record file.S place kind) h = h
   circuit_stands refusal.NotBuilt h = h
   circuit_stands (refusal.Interface name) h = h
   circuit_stands (refusal.TooLarge side) h = h
@@ -62,6 +65,7 @@ module _ (mode : Mode) (circuit : Option (List ℕ)) (x : List ℕ) (is : circui
   graph_stands (refusal.TooLong f) h = circuit_stands circuit x is can.circuit (refusal.TooLong f) h
   graph_stands (refusal.Text f line fault) h = circuit_stands circuit x is can.circuit (refusal.Text f line fault) h
   graph_stands (refusal.Design f fault) h = circuit_stands circuit x is can.circuit (refusal.Design f fault) h
+  graph_stands (refusal.Record f place kind) h = circuit_stands circuit x is can.circuit (refusal.Record f place kind) h
   graph_stands refusal.NotBuilt h = h
   graph_stands (refusal.Interface name) h = h
   graph_stands (refusal.Misfit m) h = h
@@ -97,6 +101,7 @@ module _ (mode : Mode) (circuit stimulus power : Option (List ℕ)) (reset : Boo
   run_stands (refusal.Text file.S line (line_fault.Circuit kind)) h = circuit_stands circuit x is can.circuit (refusal.Text file.S line (line_fault.Circuit kind)) h
   run_stands (refusal.Text file.S line (line_fault.Clauses kind)) h = circuit_stands circuit x is can.circuit (refusal.Text file.S line (line_fault.Clauses kind)) h
   run_stands (refusal.Design f fault) h = circuit_stands circuit x is can.circuit (refusal.Design f fault) h
+  run_stands (refusal.Record f place kind) h = circuit_stands circuit x is can.circuit (refusal.Record f place kind) h
   run_stands (refusal.Interface name) h = h
   run_stands (refusal.TooLarge A) h =
       let loads : Loads x h.net = if_told circuit (λ t. Loads t h.net) x is h.loads in

@@ -56,6 +56,7 @@ use Rattle.sec_check.specs.Fitting.{IsCutOver, OutcomeFits}
 use Rattle.sec_setup.proofs.CutNets.{same_as_cut, cut_numbers}
 use Rattle.sec_check.proofs.CutPairs.{IsOutputPair, IsNextPair, one_output, listed_is}
 use Rattle.sec_setup.proofs.SameEquations.{same_tree}
+use Rattle.sec_files.specs.Formats.{Format, Blif, Aiger, format_of, IsNetIn}
 use Rattle.sec_files.specs.Loading.{Loads}
 use Rattle.sec_files.proofs.Texts.{text_sound, text_comparable, one_text_net}
 use Rattle.premise_rows.specs.OneText.{OneTextIsEqual, CanBeUnfolded, UnfoldedIsComparable}
@@ -68,6 +69,13 @@ unclocked models net f name h =
     let n = Contains-map_from design.at_top (filter (λ n. not (design.is_clock net.clock n)) (main_inputs models)) i.0 i.1 in
     let same : n.0 ≡ name = ap (λ (x : Named Place). x.name) n.2 ∙ i.2 in
     subst (λ (w : List ℕ). not (design.is_clock net.clock w) ≡ true) same (filter_test (λ n. not (design.is_clock net.clock n)) (main_inputs models) n.0 n.1)
+
+unclocked_in : (text : List ℕ) (net : NetView) (format : Format) → IsNetIn format text net → (name : List ℕ) → Contains (ports_of net).inputs name → not (design.is_clock net.clock name) ≡ true
+unclocked_in text net Blif n name h = unclocked (spelled text) net n name h
+unclocked_in text net Aiger n name h = ap (λ (clock : Option (List ℕ)). not (design.is_clock clock name)) n.2.clock
+
+text_unclocked : (text : List ℕ) (net : NetView) → Loads text net → (name : List ℕ) → Contains (ports_of net).inputs name → not (design.is_clock net.clock name) ≡ true
+text_unclocked text net loads name h = unclocked_in text net (format_of text) loads.flat name h
 
 -- both ways to look for a clock's name are one
 no_clock : (clock : Option (List ℕ)) (ports : Ports) (name : List ℕ) → ports.clock ≡ clock → not (design.is_clock clock name) ≡ true → is_clock ports name ≡ false
@@ -87,7 +95,7 @@ module _ (text : List ℕ) (a b : NetView) (la : Loads text a) (one : AreOneNet 
   -- each input is shared
   shared_is : (name : List ℕ) → Contains (ports_of a).inputs name → Contains (shared_inputs (ports_of a) (ports_of b)) name
   shared_is name h =
-      let off : is_clock (ports_of b) name ≡ false = no_clock a.clock (ports_of b) name (ap (λ (p : Ports). p.clock) (sym one.ports)) (unclocked (spelled text) a la.flat name h) in
+      let off : is_clock (ports_of b) name ≡ false = no_clock a.clock (ports_of b) name (ap (λ (p : Ports). p.clock) (sym one.ports)) (text_unclocked text a la name h) in
       filter_in (λ n. not (is_clock (ports_of b) n && not (is_among (ports_of a).read n))) (ports_of a).inputs name h
       (ap (λ (t : Bool). not (t && not (is_among (ports_of a).read name))) off)
 

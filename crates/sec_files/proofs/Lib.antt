@@ -1,5 +1,7 @@
 pub mod CutDesigns
 pub mod Designs
 pub mod Loaded
+pub mod OneNamed
+pub mod Portless
 pub mod StimulusTexts
 pub mod Texts
