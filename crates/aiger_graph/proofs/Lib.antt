@@ -1,3 +1,4 @@
 pub mod ReadLiterals
 pub mod NoLoops
 pub mod GraphSteps
+pub mod Marking

@@ -1,11 +1,12 @@
 -- The circuit of a file. Its places are the literals: an even one is a variable's, and the odd one after it that of its negation.
-use Rattle.std.specs.Prelude.{ℕ, ◌+◌, ◌-◌, ◌==◌, true, false, if◌then◌else◌, List, [], ◌∷◌, ◌++◌, Option, Some, None, codes}
-use Rattle.std.specs.List.{filter_map}
+use Rattle.std.specs.Prelude.{ℕ, ◌+◌, ◌-◌, ◌==◌, Bool, true, false, if◌then◌else◌, List, [], ◌∷◌, ◌++◌, Option, Some, None, codes}
+use Rattle.std.specs.List.{filter_map, list_any}
 use Rattle.circuit_theory.specs.Cover.{Cover}
 use Rattle.circuit_theory.specs.Circuit.{Circuit, Equation, Named as Port, Started}
 use Rattle.circuit_theory.specs.Circuit.{Gate as gate_equation, Latch as latch_equation}
 use Rattle.aiger_records.specs.declared.record.Record.{Record}
 use Rattle.aiger_records.specs.declared.record.Record.TheVariants.{Input, Latch, Output, Gate, Packed}
+use Rattle.aiger_records.specs.Driven.{used_by}
 use Rattle.aiger_records.specs.Faults.{defined_by}
 use Rattle.aiger_symbols.specs.declared.symbol.Named.{Named}
 use Rattle.aiger_symbols.specs.Names.{name_of}
@@ -71,14 +72,22 @@ gate_of (Gate literal left right) = gate_equation literal (left ∷ right ∷ []
 gate_of (Packed literal first second) = gate_equation literal ((literal - first) ∷ (literal - first - second) ∷ []) and_cover ∷ []
 gate_of r = []
 
--- the negation of a variable
-abbrev pub inverter_of : Option ℕ → List (Equation ℕ)
-inverter_of None = []
-inverter_of (Some literal) = gate_equation (literal + 1) (literal ∷ []) not_cover ∷ []
+-- whether one of the records reads the literal
+abbrev pub is_used : List Record → ℕ → Bool
+is_used records literal = list_any (λ r. list_any (λ u. u == literal) (used_by r)) records
+
+-- the negation of a variable, where one of the file's records reads it
+abbrev pub inverter_of : List Record → Option ℕ → List (Equation ℕ)
+inverter_of file None = []
+inverter_of file (Some literal) = if is_used file (literal + 1) then gate_equation (literal + 1) (literal ∷ []) not_cover ∷ [] else []
+
+-- the gates that these records of the file make
+abbrev pub gates_of : List Record → List Record → List (Equation ℕ)
+gates_of file [] = []
+gates_of file (r ∷ rs) = gate_of r ++ inverter_of file (defined_by r) ++ gates_of file rs
 
 abbrev pub gates_in : List Record → List (Equation ℕ)
-gates_in [] = []
-gates_in (r ∷ rs) = gate_of r ++ inverter_of (defined_by r) ++ gates_in rs
+gates_in records = gates_of records records
 
 -- the literals 0 and 1
 abbrev pub constants : List (Equation ℕ)

@@ -1,10 +1,11 @@
 //! What literals read in the cycle in which they have their values.
 
 ghost use Rattle.std.specs.Prelude.{◌≡◌, ◌+◌, ◌*◌, ◌<◌, ◌^◌, false, [], ◌∷◌, length, replicate, All, IfOk, IfSome, IfNone, OnOk};
+ghost use Rattle.aiger_records.specs.Driven.{used_by};
 ghost use Rattle.aiger_records.specs.Faults.{IsSmall, has_bad_literal, defined_by};
 ghost use Rattle.aiger_file.specs.Files.{IsKept};
 ghost use Rattle.gate_order.specs.Order.{IsOrder};
-ghost use Rattle.aiger_graph.specs.Literals.{operands, graph_of, with_reads};
+ghost use Rattle.aiger_graph.specs.Literals.{operands, graph_of, negated, with_reads, with_marks, AreUsed};
 ghost use Rattle.aiger_graph.specs.Loops.{HasLoop, IsOrdered};
 
 use aiger_file::AigerFile;
@@ -25,12 +26,14 @@ fn pair(alloc: Global, left: u64, right: u64) -> Result<Ids, NoMemory>
     Ok(ids)
 }
 
-/// One number.
-fn single(alloc: Global, number: u32) -> Result<Ids, NoMemory>
-    ensures { IfOk result (λ ids. ids ≡ number ∷ []) }
+/// What the negation of a variable reads: the variable's literal, where the negation is used.
+fn negated(alloc: Global, used: bool, literal: u32) -> Result<Ids, NoMemory>
+    ensures { IfOk result (λ ids. ids ≡ negated used literal) }
 {
     let mut ids = Seq::new(alloc);
-    ids.push(number)?;
+    if used {
+        ids.push(literal)?;
+    }
     Ok(ids)
 }
 
@@ -70,37 +73,97 @@ fn no_reads(alloc: Global, size: usize) -> Result<Vec<Ids>, NoMemory>
     Ok(graph)
 }
 
+/// Marks what the record reads.
+fn mark_used(header: &Header, marks: &mut Vec<bool>, found: Record)
+    requires small { IsSmall header.now }
+    requires good { has_bad_literal header.now found ≡ false }
+    requires size { length marks.old.items ≡ 2 * header.now.greatest + 2 }
+    ensures { marks.new.items ≡ with_marks (used_by found) marks.old.items }
+{
+    let _greatest = header.greatest;
+    match found {
+        Record::Input { literal: _ } => {}
+        Record::Latch {
+            literal: _,
+            next,
+            reset: _,
+        } => marks[next as usize] = true,
+        Record::Output { literal } => marks[literal as usize] = true,
+        Record::Gate {
+            literal: _,
+            left,
+            right,
+        } => {
+            marks[left as usize] = true;
+            marks[right as usize] = true;
+        }
+        Record::Packed {
+            literal,
+            first,
+            second,
+        } => {
+            let left = literal.saturating_sub(first);
+            marks[left as usize] = true;
+            marks[left.saturating_sub(second) as usize] = true;
+        }
+    }
+}
+
+/// So many literals without a mark.
+fn no_marks(alloc: Global, size: usize) -> Result<Vec<bool>, NoMemory>
+    ensures { IfOk result (λ marks. marks.items ≡ replicate size false) }
+{
+    Ok(vec![in alloc; false; size]?)
+}
+
+/// The marks of the literals that records read.
+fn used_marks(alloc: Global, header: &Header, records: &[Record]) -> Result<Vec<bool>, NoMemory>
+    requires small { IsSmall header.now }
+    requires good { All (λ r. has_bad_literal header.now r ≡ false) records.now }
+    ensures { IfOk result (λ marks. AreUsed records.now (2 * header.now.greatest + 2) marks.items) }
+{
+    let mut marks = no_marks(alloc, 2 * header.greatest as usize + 2)?;
+    for found in records {
+        mark_used(header, &mut marks, *found);
+    }
+    Ok(marks)
+}
+
 /// Puts what the record says of its literal and of that one's negation.
 fn put_reads(
     alloc: Global,
     header: &Header,
+    used: &[bool],
     graph: &mut Vec<Ids>,
     found: Record,
 ) -> Result<(), NoMemory>
     requires small { IsSmall header.now }
     requires good { has_bad_literal header.now found ≡ false }
     requires size { length graph.old.items ≡ 2 * header.now.greatest + 2 }
-    ensures { OnOk result (graph.new.items ≡ with_reads (defined_by found) (operands found) graph.old.items) }
+    requires marks { length used.now ≡ 2 * header.now.greatest + 2 }
+    ensures { OnOk result (graph.new.items ≡ with_reads used.now (defined_by found) (operands found) graph.old.items) }
 {
     let Some(literal) = defined_by(found) else {
         return Ok(());
     };
     let reads = operands(alloc, header, found)?;
-    let negated = single(alloc, literal as u32)?;
+    let negation = negated(alloc, used[literal as usize + 1], literal as u32)?;
     graph[literal as usize] = reads;
-    graph[literal as usize + 1] = negated;
+    graph[literal as usize + 1] = negation;
     Ok(())
 }
 
-/// What each literal reads: a gate its operands, a negation its variable.
+/// What each literal reads: a gate its operands, a negation that is used its variable.
 fn graph_of(alloc: Global, header: &Header, records: &[Record]) -> Result<Vec<Ids>, NoMemory>
     requires small { IsSmall header.now }
     requires good { All (λ r. has_bad_literal header.now r ≡ false) records.now }
     ensures { IfOk result (λ graph. graph.items ≡ graph_of records.now (2 * header.now.greatest + 2)) }
 {
+    let used = used_marks(alloc, header, records)?;
     let mut graph = no_reads(alloc, 2 * header.greatest as usize + 2)?;
     for back in 0..records.len() {
-        put_reads(alloc, header, &mut graph, records[records.len() - 1 - back])?;
+        let found = records[records.len() - 1 - back];
+        put_reads(alloc, header, &used, &mut graph, found)?;
     }
     Ok(graph)
 }

@@ -1,5 +1,5 @@
 -- Each literal of a file is driven once.
-use Rattle.std.proofs.Common.{◌≡◌, ℕ, zero, suc, ◌+◌, ◌*◌, ◌-◌, ◌/◌, ◌%◌, ◌<◌, ◌≤◌, List, [], ◌∷◌, ◌++◌, map, length, slice_get, Some, refl, sym, ◌∙◌, ap, subst, arith, inl, inr}
+use Rattle.std.proofs.Common.{◌≡◌, ℕ, zero, suc, ◌+◌, ◌*◌, ◌-◌, ◌/◌, ◌%◌, ◌<◌, ◌≤◌, Bool, true, false, cond, List, [], ◌∷◌, ◌++◌, map, length, slice_get, Some, refl, sym, ◌∙◌, ap, subst, arith, inl, inr}
 use Rattle.std.specs.Prelude.{◌⊎◌}
 use Rattle.std.specs.List.{Contains}
 use Rattle.std.proofs.lemmas.List.{map-append}
@@ -14,18 +14,18 @@ use Rattle.aiger_records.specs.declared.record.Record.TheVariants.{Input, Latch,
 use Rattle.aiger_records.specs.Faults.{defined_by, DefinesOnce}
 use Rattle.aiger_symbols.specs.declared.symbol.Named.{Named as Symbols}
 use Rattle.aiger_file.specs.declared.file.AigerFile.{AigerFile}
-use Rattle.aiger_graph.specs.Circuit.{LatchLine, circuit_of_file, constants, gate_of, inverter_of, gates_in, latches_from, input_literals, latches_in, and_cover, not_cover, zero_cover, one_cover}
+use Rattle.aiger_graph.specs.Circuit.{LatchLine, circuit_of_file, constants, gate_of, is_used, inverter_of, gates_of, gates_in, latches_from, input_literals, latches_in, and_cover, not_cover, zero_cover, one_cover}
 use Rattle.aiger_graph.specs.Literals.{operands, reads_in}
-use Rattle.aiger_graph.proofs.ReadLiterals.{AreWell, IsGateHere, gates_from, gate_here}
+use Rattle.aiger_graph.proofs.ReadLiterals.{AreWell, IsGateHere, gates_from, inverter_from, gate_here}
 use Rattle.aiger_graph.proofs.NoLoops.{equation_cases, constant_cases}
 use Rattle.aiger_read.specs.SignalNames.{latch_literals}
 use Rattle.aiger_read.specs.Nets.{IsDrivenOnce}
 use Rattle.aiger_read.proofs.LiteralLists.{in_inputs, in_latch_literals, no_gate, input_not_latch, reading_gate, distinct_latches}
 use Rattle.aiger_read.proofs.FileParts.{port_literal, low_reads}
 
--- the gates that a record makes
-abbrev own_gates : Record → List (Equation ℕ)
-own_gates r = gate_of r ++ inverter_of (defined_by r)
+-- the gates that a record of the file makes
+abbrev own_gates : List Record → Record → List (Equation ℕ)
+own_gates file r = gate_of r ++ inverter_of file (defined_by r)
 
 -- they drive its literal and the next
 record IsNear (r : Record) (x : ℕ) : Type 0 where
@@ -33,56 +33,67 @@ record IsNear (r : Record) (x : ℕ) : Type 0 where
   pub defines : defined_by r ≡ Some literal
   pub either : (x ≡ literal) ⊎ (x ≡ literal + 1)
 
-near_next : (r : Record) (d : ℕ) (e : Equation ℕ) → defined_by r ≡ Some d → gate_equation (d + 1) (d ∷ []) not_cover ≡ e → IsNear r (out_of e)
-near_next r d e is same = record { literal = d; defines = is; either = inr (ap (λ (q : Equation ℕ). out_of q) (sym same)) }
+near_next : (file : List Record) (r : Record) (d : ℕ) (e : Equation ℕ) → defined_by r ≡ Some d → Contains (inverter_of file (Some d)) e → IsNear r (out_of e)
+near_next file r d e is h = record { literal = d; defines = is; either = inr (ap (λ (q : Equation ℕ). out_of q) (sym (inverter_from file d e h).1)) }
 
-near : (r : Record) (e : Equation ℕ) → Contains (own_gates r) e → IsNear r (out_of e)
-near (Input literal) e h = near_next (Input literal) literal e refl (only (gate_equation (literal + 1) (literal ∷ []) not_cover) e h)
-near (Latch literal next reset) e h = near_next (Latch literal next reset) literal e refl (only (gate_equation (literal + 1) (literal ∷ []) not_cover) e h)
-near (Output literal) e h = absurd (omega (arith, h.1))
-near (Gate literal left right) e h = go (Contains-cases (gate_equation literal (left ∷ right ∷ []) and_cover) e (inverter_of (defined_by (Gate literal left right))) h)
+near : (file : List Record) (r : Record) (e : Equation ℕ) → Contains (own_gates file r) e → IsNear r (out_of e)
+near file (Input literal) e h = near_next file (Input literal) literal e refl h
+near file (Latch literal next reset) e h = near_next file (Latch literal next reset) literal e refl h
+near file (Output literal) e h = absurd (omega (arith, h.1))
+near file (Gate literal left right) e h = go (Contains-cases (gate_equation literal (left ∷ right ∷ []) and_cover) e (inverter_of file (defined_by (Gate literal left right))) h)
   where
-    go : (gate_equation literal (left ∷ right ∷ []) and_cover ≡ e) ⊎ Contains (gate_equation (literal + 1) (literal ∷ []) not_cover ∷ []) e → IsNear (Gate literal left right) (out_of e)
+    go : (gate_equation literal (left ∷ right ∷ []) and_cover ≡ e) ⊎ Contains (inverter_of file (Some literal)) e → IsNear (Gate literal left right) (out_of e)
     go (inl same) = record { literal = literal; defines = refl; either = inl (ap (λ (q : Equation ℕ). out_of q) (sym same)) }
-    go (inr k) = near_next (Gate literal left right) literal e refl (only (gate_equation (literal + 1) (literal ∷ []) not_cover) e k)
-near (Packed literal first second) e h = go (Contains-cases (gate_equation literal ((literal - first) ∷ (literal - first - second) ∷ []) and_cover) e (inverter_of (defined_by (Packed literal first second))) h)
+    go (inr k) = near_next file (Gate literal left right) literal e refl k
+near file (Packed literal first second) e h = go (Contains-cases (gate_equation literal ((literal - first) ∷ (literal - first - second) ∷ []) and_cover) e (inverter_of file (defined_by (Packed literal first second))) h)
   where
-    go : (gate_equation literal ((literal - first) ∷ (literal - first - second) ∷ []) and_cover ≡ e) ⊎ Contains (gate_equation (literal + 1) (literal ∷ []) not_cover ∷ []) e → IsNear (Packed literal first second) (out_of e)
+    go : (gate_equation literal ((literal - first) ∷ (literal - first - second) ∷ []) and_cover ≡ e) ⊎ Contains (inverter_of file (Some literal)) e → IsNear (Packed literal first second) (out_of e)
     go (inl same) = record { literal = literal; defines = refl; either = inl (ap (λ (q : Equation ℕ). out_of q) (sym same)) }
-    go (inr k) = near_next (Packed literal first second) literal e refl (only (gate_equation (literal + 1) (literal ∷ []) not_cover) e k)
+    go (inr k) = near_next file (Packed literal first second) literal e refl k
 
 -- each once
+abbrev outs_of : List (Equation ℕ) → List ℕ
+outs_of es = map (λ (e : Equation ℕ). out_of e) es
+
 single_once : (d : ℕ) → AreDistinct (d ∷ [])
 single_once d = distinct_cons d [] distinct_nil (λ h. absurd (omega (arith, h.1)))
 
 pair_once : (d : ℕ) → AreDistinct (d ∷ (d + 1) ∷ [])
 pair_once d = distinct_cons d ((d + 1) ∷ []) (single_once (d + 1)) (λ h. let e = only (d + 1) d h in omega (arith, e))
 
-own_once : (r : Record) → AreDistinct (map (λ (e : Equation ℕ). out_of e) (own_gates r))
-own_once (Input literal) = single_once (literal + 1)
-own_once (Latch literal next reset) = single_once (literal + 1)
-own_once (Output literal) = distinct_nil
-own_once (Gate literal left right) = pair_once literal
-own_once (Packed literal first second) = pair_once literal
+inverter_once : (used : Bool) (d : ℕ) → AreDistinct (outs_of (cond used (gate_equation (d + 1) (d ∷ []) not_cover ∷ []) []))
+inverter_once true d = single_once (d + 1)
+inverter_once false d = distinct_nil
+
+gate_once : (used : Bool) (d : ℕ) → AreDistinct (d ∷ outs_of (cond used (gate_equation (d + 1) (d ∷ []) not_cover ∷ []) []))
+gate_once true d = pair_once d
+gate_once false d = single_once d
+
+own_once : (file : List Record) (r : Record) → AreDistinct (outs_of (own_gates file r))
+own_once file (Input literal) = inverter_once (is_used file (literal + 1)) literal
+own_once file (Latch literal next reset) = inverter_once (is_used file (literal + 1)) literal
+own_once file (Output literal) = distinct_nil
+own_once file (Gate literal left right) = gate_once (is_used file (literal + 1)) literal
+own_once file (Packed literal first second) = gate_once (is_used file (literal + 1)) literal
 
 half : (d x : ℕ) → d % 2 ≡ 0 → (x ≡ d) ⊎ (x ≡ d + 1) → 2 * (x / 2) ≡ d
 half d x even (inl e) = omega (arith, even, e)
 half d x even (inr e) = omega (arith, even, e)
 
-gates_once : (size : ℕ) (records : List Record) → DefinesOnce records → AreWell size records → AreDistinct (map (λ (e : Equation ℕ). out_of e) (gates_in records))
-gates_once size [] once fine = distinct_nil
-gates_once size (q ∷ qs) once fine =
-    subst (λ (ls : List ℕ). AreDistinct ls) (sym (map-append (λ (e : Equation ℕ). out_of e) (own_gates q) (gates_in qs)))
-    (distinct_append (map (λ (e : Equation ℕ). out_of e) (own_gates q)) (map (λ (e : Equation ℕ). out_of e) (gates_in qs)) (own_once q)
-    (gates_once size qs (λ i j literal r s hi hj di dj. let e : suc i ≡ suc j = once (suc i) (suc j) literal r s hi hj di dj in omega (arith, e)) (λ i r at. fine (suc i) r at)) apart)
+gates_once : (file : List Record) (size : ℕ) (records : List Record) → DefinesOnce records → AreWell size records → AreDistinct (map (λ (e : Equation ℕ). out_of e) (gates_of file records))
+gates_once file size [] once fine = distinct_nil
+gates_once file size (q ∷ qs) once fine =
+    subst (λ (ls : List ℕ). AreDistinct ls) (sym (map-append (λ (e : Equation ℕ). out_of e) (own_gates file q) (gates_of file qs)))
+    (distinct_append (map (λ (e : Equation ℕ). out_of e) (own_gates file q)) (map (λ (e : Equation ℕ). out_of e) (gates_of file qs)) (own_once file q)
+    (gates_once file size qs (λ i j literal r s hi hj di dj. let e : suc i ≡ suc j = once (suc i) (suc j) literal r s hi hj di dj in omega (arith, e)) (λ i r at. fine (suc i) r at)) apart)
   where
-    apart : (x : ℕ) → Contains (map (λ (e : Equation ℕ). out_of e) (own_gates q)) x → Contains (map (λ (e : Equation ℕ). out_of e) (gates_in qs)) x → ⊥
+    apart : (x : ℕ) → Contains (map (λ (e : Equation ℕ). out_of e) (own_gates file q)) x → Contains (map (λ (e : Equation ℕ). out_of e) (gates_of file qs)) x → ⊥
     apart x h k =
-        let a = Contains-map_from (λ (e : Equation ℕ). out_of e) (own_gates q) x h in
-        let b = Contains-map_from (λ (e : Equation ℕ). out_of e) (gates_in qs) x k in
-        let n = near q a.0 a.1 in
-        let w = gates_from qs b.0 b.1 in
-        let m = near w.1 b.0 w.3 in
+        let a = Contains-map_from (λ (e : Equation ℕ). out_of e) (own_gates file q) x h in
+        let b = Contains-map_from (λ (e : Equation ℕ). out_of e) (gates_of file qs) x k in
+        let n = near file q a.0 a.1 in
+        let w = gates_from file qs b.0 b.1 in
+        let m = near file w.1 b.0 w.3 in
         let first = half n.literal (out_of a.0) ((fine 0 q refl).even n.literal n.defines) n.either in
         let second = half m.literal (out_of b.0) ((fine (suc w.0) w.1 w.2).even m.literal m.defines) m.either in
         let same : m.literal ≡ n.literal = sym second ∙ ap (λ (y : ℕ). 2 * (y / 2)) (b.2 ∙ sym a.2) ∙ first in
@@ -125,7 +136,7 @@ module _ (f : AigerFile) (size : ℕ) (once : DefinesOnce f.records) (fine : Are
       go (inr k) = latch_high l k
 
   later_once : AreDistinct (gate_outs ++ latch_literals f.records)
-  later_once = distinct_append gate_outs (latch_literals f.records) (gates_once size f.records once fine) (distinct_latches f.records once) apart
+  later_once = distinct_append gate_outs (latch_literals f.records) (gates_once f.records size f.records once fine) (distinct_latches f.records once) apart
     where
       apart : (l : ℕ) → Contains gate_outs l → Contains (latch_literals f.records) l → ⊥
       apart l g h =

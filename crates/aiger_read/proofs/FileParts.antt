@@ -22,8 +22,8 @@ use Rattle.aiger_records.specs.declared.record.Record.{Record}
 use Rattle.aiger_records.specs.Faults.{defined_by}
 use Rattle.aiger_symbols.specs.declared.symbol.Named.{Named as Symbols}
 use Rattle.aiger_symbols.specs.Names.{name_of}
-use Rattle.aiger_graph.specs.Circuit.{LatchLine, ports_from, latches_from, start_of}
-use Rattle.aiger_graph.specs.Literals.{operands, reads_by, reads_in}
+use Rattle.aiger_graph.specs.Circuit.{LatchLine, is_used, ports_from, latches_from, start_of}
+use Rattle.aiger_graph.specs.Literals.{operands, negated, reads_by, reads_among, reads_in}
 use Rattle.aiger_graph.proofs.ReadLiterals.{AreWell}
 use Rattle.aiger_read.specs.SignalNames.{init_of}
 use Rattle.aiger_read.specs.Signals.{literal_at}
@@ -77,19 +77,22 @@ port_literal symbols letter k (l ∷ ls) p h = go (Contains-cases (record { name
     go (inr i) later = Contains-tail l p.place ls (later i)
 
 -- the constants read nothing
-pub low_reads : (size : ℕ) (records : List Record) (l : ℕ) → AreWell size records → l < 2 → reads_in records l ≡ []
-low_reads size [] l fine low = refl
-low_reads size (q ∷ qs) l fine low = go (defined_by q) refl ∙ low_reads size qs l (λ i r at. fine (suc i) r at) low
+low_among : (file : List Record) (size : ℕ) (records : List Record) (l : ℕ) → AreWell size records → l < 2 → reads_among file records l ≡ []
+low_among file size [] l fine low = refl
+low_among file size (q ∷ qs) l fine low = go (defined_by q) refl ∙ low_among file size qs l (λ i r at. fine (suc i) r at) low
   where
     apart : (a b : ℕ) → (a ≡ b → ⊥) → eqb a b ≡ false
     apart a b h = false_from_ne_true (eqb a b) (λ e. h ((Decides-eqb a b).0 e))
 
-    go : (o : Option ℕ) → defined_by q ≡ o → reads_by o (operands q) l (reads_in qs l) ≡ reads_in qs l
+    go : (o : Option ℕ) → defined_by q ≡ o → reads_by (is_used file l) o (operands q) l (reads_among file qs l) ≡ reads_among file qs l
     go None is = refl
     go (Some d) is =
         let high = (fine 0 q refl).high d is in
-        ap (λ (b : Bool). cond b (operands q) (cond (eqb (d + 1) l) (d ∷ []) (reads_in qs l))) (apart d l (λ e. omega (arith, e, high, low)))
-        ∙ ap (λ (b : Bool). cond b (d ∷ []) (reads_in qs l)) (apart (d + 1) l (λ e. omega (arith, e, high, low)))
+        ap (λ (b : Bool). cond b (operands q) (cond (eqb (d + 1) l) (negated (is_used file l) d) (reads_among file qs l))) (apart d l (λ e. omega (arith, e, high, low)))
+        ∙ ap (λ (b : Bool). cond b (negated (is_used file l) d) (reads_among file qs l)) (apart (d + 1) l (λ e. omega (arith, e, high, low)))
+
+pub low_reads : (size : ℕ) (records : List Record) (l : ℕ) → AreWell size records → l < 2 → reads_in records l ≡ []
+low_reads size records l fine low = low_among records size records l fine low
 
 -- the finished latches, one by one
 module _ (symbols : Symbols) (lits : List ℕ) (signals : List Signal) where

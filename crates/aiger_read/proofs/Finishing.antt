@@ -40,7 +40,7 @@ use Rattle.aiger_read.specs.Signals.{is_gate, all_covers, all_literals, literal_
 use Rattle.aiger_read.specs.Made.{IsPlan, HasOutputs, signal_at, nexts_of}
 use Rattle.aiger_read.specs.Nets.{IsNetOf}
 use Rattle.aiger_graph.proofs.ReadLiterals.{IsGateHere, gate_made, gate_here, reads_below}
-use Rattle.aiger_read.proofs.LiteralLists.{in_outputs, in_latches, low_gate, reading_gate, gate_reads, gate_in, driven_in, reads_driven, input_in, latch_in}
+use Rattle.aiger_read.proofs.LiteralLists.{in_outputs, in_latches, low_gate, reading_gate, gate_reads, gate_in, driven_in, reads_driven, reads_used, input_in, latch_in}
 use Rattle.aiger_graph.proofs.NoLoops.{equation_cases, constant_cases, no_latch_gate, no_port}
 use Rattle.aiger_read.proofs.FileParts.{names_behind, rows_behind, file_rows, moved_rows, moved_names, latch_line, port_literal, low_reads, latches_are, starts_are, inits_are, start_literal}
 use Rattle.aiger_read.proofs.Making.{size, fine, few, each, at_next}
@@ -173,6 +173,7 @@ module _ (f : AigerFile) (graph : List (List ℕ)) (order : List ℕ) (plan : Is
   fanin_there x p h =
       let k = subst (λ (rs : List ℕ). Contains rs p) (sym x.reads) h in
       driven_in (size f graph order plan) f.records plan.kept.once (fine f graph order plan) order p (reads_driven (size f graph order plan) f.records (fine f graph order plan) plan.faultless.driven x.literal p k)
+      (reads_used (size f graph order plan) f.records (fine f graph order plan) x.literal p k)
       (λ gate. each f graph order plan p (reads_below (size f graph order plan) f.records (fine f graph order plan) x.literal p k))
 
   line_there : (l : LatchLine) → Contains (latches_in f.records) l → Contains lits l.literal × Contains lits l.next

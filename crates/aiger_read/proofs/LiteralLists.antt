@@ -1,13 +1,14 @@
 -- The literals of a net's signals: each stands there once, and each literal that is driven stands there.
-use Rattle.std.proofs.Common.{◌≡◌, ◌≢◌, ℕ, zero, suc, ◌+◌, ◌*◌, ◌%◌, ◌/◌, ◌<◌, Bool, true, false, true≢false, eqb, ltb, List, [], ◌∷◌, ◌++◌, map, length, slice_get, take, append-nil, Option, Some, None, refl, sym, ◌∙◌, ap, subst, arith, inl, inr}
-use Rattle.std.specs.Prelude.{◌⊎◌, ◌||◌}
-use Rattle.std.specs.List.{Contains, filter, filter_map, cons_option, list_all}
+use Rattle.std.proofs.Common.{◌≡◌, ◌≢◌, ℕ, zero, suc, ◌+◌, ◌*◌, ◌%◌, ◌/◌, ◌<◌, Bool, true, false, true≢false, eqb, ltb, List, [], ◌∷◌, ◌++◌, map, length, slice_get, get_or, take, append-nil, Option, Some, None, refl, sym, ◌∙◌, ap, subst, arith, inl, inr}
+use Rattle.std.specs.Prelude.{◌⊎◌, ◌||◌, ◌==◌}
+use Rattle.std.specs.List.{Contains, filter, filter_map, cons_option, list_all, list_any}
 use Rattle.std.proofs.lemmas.Bool.{ltb-true, or_left, or_right}
 use Rattle.std.proofs.lemmas.Bool.Decides.{Decides-eqb, Decides-ltb}
 use Rattle.std.proofs.lemmas.List.{map-id}
 use Rattle.std.proofs.lemmas.List.Elements.{Contains-append_left, Contains-append_right, Contains-append_cases}
-use Rattle.std.proofs.lemmas.Option.{none-some, same_Some}
-use Rattle.circuit_theory.proofs.Lists.{Contains-head, Contains-tail, Contains-cases, Contains-filter, Contains-map, Contains-map_from, filter_test, filter_map-from, at_of}
+use Rattle.std.proofs.lemmas.List.Folds.{list_any_at}
+use Rattle.std.proofs.lemmas.Option.{none-some, same_Some, slice_get_within, get_or_from_slice_get}
+use Rattle.circuit_theory.proofs.Lists.{Contains-head, Contains-tail, Contains-filter, Contains-map, Contains-map_from, filter_test, filter_map-from, at_of, only}
 use Rattle.sec_base.specs.Table.{AreDistinct}
 use Rattle.sec_base.proofs.TableLemmas.{take-push}
 use Rattle.net_assembly.proofs.DistinctLists.{distinct_nil, distinct_cons, distinct_append, distinct_filter, Contains-kept}
@@ -17,7 +18,7 @@ use Rattle.aiger_records.specs.declared.record.Record.TheVariants.{Input, Latch,
 use Rattle.aiger_records.specs.Faults.{defined_by, is_literal, is_defined, DefinesOnce}
 use Rattle.aiger_records.specs.Driven.{used_by, is_driven, all_driven}
 use Rattle.aiger_records.proofs.DefinedOnce.{defined_there}
-use Rattle.aiger_graph.specs.Circuit.{LatchLine, input_of, output_of, latch_of, input_literals, output_literals, latches_in}
+use Rattle.aiger_graph.specs.Circuit.{LatchLine, is_used, input_of, output_of, latch_of, input_literals, output_literals, latches_in}
 use Rattle.aiger_graph.specs.Literals.{operands, reads_in}
 use Rattle.aiger_read.specs.SignalNames.{latch_literals}
 use Rattle.aiger_read.specs.Signals.{is_gate, all_literals}
@@ -206,9 +207,9 @@ module _ (size : ℕ) (records : List Record) (once : DefinesOnce records) (fine
     defined_in j l (Packed literal first second) at is here =
         gate_in l here (reading_gate records l (subst (λ (rs : List ℕ). 0 < length rs) (sym (reads_at size records j l (Packed literal first second) once fine at is)) (omega arith)))
 
-    -- and so does each literal that is driven
-    pub driven_in : (l : ℕ) → is_driven records l ≡ true → (is_gate records l ≡ true → Contains order l) → Contains (all_literals records order) l
-    driven_in l driven here = go (ltb l 2) refl driven
+    -- and so does each literal that is driven, where it is used or no negation
+    pub driven_in : (l : ℕ) → is_driven records l ≡ true → (l % 2 ≢ 0 → is_used records l ≡ true) → (is_gate records l ≡ true → Contains order l) → Contains (all_literals records order) l
+    driven_in l driven used here = go (ltb l 2) refl driven
       where
         by : (j : ℕ) (r : Record) → slice_get records j ≡ Some r → defined_by r ≡ Some (2 * (l / 2)) → (b : Bool) → eqb (l % 2) 0 ≡ b → Contains (all_literals records order) l
         by j r at is true even = let two = (Decides-eqb (l % 2) 0).0 even in defined_in j l r at (is ∙ ap Some (let k : 2 * (l / 2) ≡ l = omega (arith, two) in k)) here
@@ -216,7 +217,7 @@ module _ (size : ℕ) (records : List Record) (once : DefinesOnce records) (fine
             let one : l % 2 ≢ 0 = λ e. true≢false (sym ((Decides-eqb (l % 2) 0).1 e) ∙ odd) in
             let next : 2 * (l / 2) + 1 ≡ l = omega (arith, one) in
             gate_in l here (reading_gate records l (subst (λ (k : ℕ). 0 < length (reads_in records k)) next
-            (subst (λ (rs : List ℕ). 0 < length rs) (sym (negation_reads size records j (2 * (l / 2)) r once fine at is)) (omega arith))))
+            (subst (λ (rs : List ℕ). 0 < length rs) (sym (negation_reads size records j (2 * (l / 2)) r once fine at is (ap (is_used records) next ∙ used one))) (omega arith))))
 
         go : (b : Bool) → ltb l 2 ≡ b → (b || is_defined records (2 * (l / 2))) ≡ true → Contains (all_literals records order) l
         go true e h = gate_in l here (low_gate records l (ltb-true l 2 e))
@@ -246,6 +247,15 @@ list_all_in p xs x all h = let at = at_of xs x h in list_all_place p xs at.0 x a
 pub used_driven : (records : List Record) → all_driven records ≡ true → (j u : ℕ) (r : Record) → slice_get records j ≡ Some r → Contains (used_by r) u → is_driven records u ≡ true
 used_driven records all j u r at h = list_all_in (is_driven records) (used_by r) u (list_all_place (λ q. list_all (is_driven records) (used_by q)) records j r all at) h
 
+-- and it is used
+pub used_there : (records : List Record) (j u : ℕ) (r : Record) → slice_get records j ≡ Some r → Contains (used_by r) u → is_used records u ≡ true
+used_there records j u r at h =
+    let x = at_of (used_by r) u h in
+    let inner : list_any (λ v. v == u) (used_by r) ≡ true =
+    list_any_at (λ v. v == u) (used_by r) x.0 u (slice_get_within (used_by r) x.0 u x.1) ((Decides-eqb (get_or (used_by r) x.0 u) u).1 (get_or_from_slice_get (used_by r) x.0 u u x.1)) in
+    list_any_at (λ (q : Record). list_any (λ v. v == u) (used_by q)) records j r (slice_get_within records j r at)
+    (subst (λ (q : Record). list_any (λ v. v == u) (used_by q) ≡ true) (sym (get_or_from_slice_get records j r r at)) inner)
+
 -- a literal that a record defines is driven
 defined_driven : (size : ℕ) (records : List Record) → AreWell size records → (j d : ℕ) (r : Record) → slice_get records j ≡ Some r → defined_by r ≡ Some d → is_driven records d ≡ true
 defined_driven size records fine j d r at is =
@@ -257,18 +267,24 @@ defined_driven size records fine j d r at is =
 pub reads_driven : (size : ℕ) (records : List Record) → AreWell size records → all_driven records ≡ true → (l u : ℕ) → Contains (reads_in records l) u → is_driven records u ≡ true
 reads_driven size records fine all l u h = go (reads_in records l) refl h
   where
-    by : (reads : List ℕ) (x : IsReader records l reads) → ((defined_by x.by_record ≡ Some l) × (operands x.by_record ≡ reads)) ⊎ ((d : ℕ) × (defined_by x.by_record ≡ Some d) × (d + 1 ≡ l) × (d ∷ [] ≡ reads)) → Contains reads u → is_driven records u ≡ true
+    by : (reads : List ℕ) (x : IsReader records records l reads) → ((defined_by x.by_record ≡ Some l) × (operands x.by_record ≡ reads)) ⊎ ((d : ℕ) × (defined_by x.by_record ≡ Some d) × (d + 1 ≡ l) × (d ∷ [] ≡ reads) × (is_used records l ≡ true)) → Contains reads u → is_driven records u ≡ true
     by reads x (inl own) k = used_driven records all x.place u x.by_record x.there (operands_used x.by_record u (subst (λ (rs : List ℕ). Contains rs u) (sym own.1) k))
-    by reads x (inr (d, is, next, same)) k =
-        subst (λ (v : ℕ). is_driven records v ≡ true) (single d (subst (λ (rs : List ℕ). Contains rs u) (sym same) k)) (defined_driven size records fine x.place d x.by_record x.there is)
-      where
-        single : (d : ℕ) → Contains (d ∷ []) u → d ≡ u
-        single d k = pick (Contains-cases d u [] k)
-          where
-            pick : (d ≡ u) ⊎ Contains [] u → d ≡ u
-            pick (inl e) = e
-            pick (inr c) = absurd (omega (arith, c.1))
+    by reads x (inr (d, is, next, same, used)) k =
+        subst (λ (v : ℕ). is_driven records v ≡ true) (only d u (subst (λ (rs : List ℕ). Contains rs u) (sym same) k)) (defined_driven size records fine x.place d x.by_record x.there is)
 
     go : (reads : List ℕ) → reads_in records l ≡ reads → Contains reads u → is_driven records u ≡ true
+    go [] e k = absurd (omega (arith, k.1))
+    go (a ∷ more) e k = let x = reader records l a more e in by (a ∷ more) x x.why k
+
+-- and it is used, where it is a negation
+pub reads_used : (size : ℕ) (records : List Record) → AreWell size records → (l u : ℕ) → Contains (reads_in records l) u → u % 2 ≢ 0 → is_used records u ≡ true
+reads_used size records fine l u h odd = go (reads_in records l) refl h
+  where
+    by : (reads : List ℕ) (x : IsReader records records l reads) → ((defined_by x.by_record ≡ Some l) × (operands x.by_record ≡ reads)) ⊎ ((d : ℕ) × (defined_by x.by_record ≡ Some d) × (d + 1 ≡ l) × (d ∷ [] ≡ reads) × (is_used records l ≡ true)) → Contains reads u → is_used records u ≡ true
+    by reads x (inl own) k = used_there records x.place u x.by_record x.there (operands_used x.by_record u (subst (λ (rs : List ℕ). Contains rs u) (sym own.1) k))
+    by reads x (inr (d, is, next, same, used)) k =
+        absurd (odd (subst (λ (v : ℕ). v % 2 ≡ 0) (only d u (subst (λ (rs : List ℕ). Contains rs u) (sym same) k)) ((fine x.place x.by_record x.there).even d is)))
+
+    go : (reads : List ℕ) → reads_in records l ≡ reads → Contains reads u → is_used records u ≡ true
     go [] e k = absurd (omega (arith, k.1))
     go (a ∷ more) e k = let x = reader records l a more e in by (a ∷ more) x x.why k

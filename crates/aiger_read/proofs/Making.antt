@@ -34,7 +34,7 @@ use Rattle.aiger_read.specs.SignalNames.{latch_literals, gate_name, signal_name,
 use Rattle.aiger_read.specs.Signals.{is_gate, all_covers, cover_number, all_literals, literal_at}
 use Rattle.aiger_read.specs.Made.{IsPlan, IsPlaced, IsNext, IsMade, LatchHead, heads_from, head_at, signal_at}
 use Rattle.aiger_graph.proofs.ReadLiterals.{AreWell, all_well, reads_below}
-use Rattle.aiger_read.proofs.LiteralLists.{kept_at, literals_once, literals_low, source_not_gate, driven_in, reads_driven}
+use Rattle.aiger_read.proofs.LiteralLists.{kept_at, literals_once, literals_low, source_not_gate, driven_in, reads_driven, reads_used}
 use Rattle.aiger_read.proofs.Naming.{port_of, behind, input_name, latch_name, gate_name_is, names_once}
 use Rattle.aiger_graph.proofs.NoLoops.{graph_low}
 
@@ -313,7 +313,7 @@ module _ (f : AigerFile) (graph : List (List ℕ)) (order : List ℕ) (plan : Is
     -- what the literal reads has its signal
     pub read_placed : (r : ℕ) → Contains (reads_in f.records l) r → (s : ℕ) × (s < length net.drivers) × (slice_get literals s ≡ Some r)
     read_placed r h =
-        let there = at_of (all_literals f.records (take place order)) r (driven_in size f.records plan.kept.once fine (take place order) r (reads_driven size f.records fine plan.faultless.driven l r h) (λ gate. earlier)) in
+        let there = at_of (all_literals f.records (take place order)) r (driven_in size f.records plan.kept.once fine (take place order) r (reads_driven size f.records fine plan.faultless.driven l r h) (reads_used size f.records fine l r h) (λ gate. earlier)) in
         let low = slice_get_within (all_literals f.records (take place order)) there.0 r there.1 in (
           there.0,
           omega (arith, low, made.count, source_count, length-append (input_literals f.records ++ latch_literals f.records) (filter (is_gate f.records) (take place order))),

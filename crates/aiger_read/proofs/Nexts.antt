@@ -24,7 +24,7 @@ use Rattle.aiger_graph.specs.Circuit.{LatchLine, ports_from, latch_of, output_of
 use Rattle.aiger_read.specs.SignalNames.{latch_literals, init_of}
 use Rattle.aiger_read.specs.Signals.{is_gate, all_literals, literal_at}
 use Rattle.aiger_read.specs.Made.{IsPlan, HasOutputs, LatchHead, heads_from, head_at, signal_at, nexts_of}
-use Rattle.aiger_read.proofs.LiteralLists.{kept_at, driven_in, used_driven}
+use Rattle.aiger_read.proofs.LiteralLists.{kept_at, driven_in, used_driven, used_there}
 use Rattle.aiger_read.proofs.Making.{size, fine, each, all_low, signal_is, source_count}
 
 no_nexts : (ls : List LatchAt) → with_nexts ls [] ≡ ls
@@ -80,7 +80,7 @@ module _ (f : AigerFile) (graph : List (List ℕ)) (order : List ℕ) (plan : Is
 
   pub used_in : (j u : ℕ) (r : Record) → slice_get f.records j ≡ Some r → Contains (used_by r) u → Contains (all_literals f.records order) u
   used_in j u r at h =
-      driven_in (size f graph order plan) f.records plan.kept.once (fine f graph order plan) order u (used_driven f.records plan.faultless.driven j u r at h)
+      driven_in (size f graph order plan) f.records plan.kept.once (fine f graph order plan) order u (used_driven f.records plan.faultless.driven j u r at h) (λ odd. used_there f.records j u r at h)
       (λ gate. each f graph order plan u (All-contains (λ u. u < size f graph order plan) (used_by r) u (fine f graph order plan j r at).used h))
 
   -- the literal of an output, and what a latch takes over

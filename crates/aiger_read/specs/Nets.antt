@@ -104,3 +104,13 @@ toggle : circuit_of_file (unwrap_or (spelled (codes "aig 1 0 1 1 0\n3\n2\nl0 q\n
 }
 unfolding body_of record_at header_of symbol_of digits
 toggle = refl
+
+-- two inputs, of which the output reads one, negated: the other has no inverter
+one_read : circuit_of_file (unwrap_or (spelled (codes "aag 2 2 0 1 0\n2\n4\n3\n")) no_file) ≡ record {
+  inputs = record { name = codes "i0"; place = 2 } ∷ record { name = codes "i1"; place = 4 } ∷ [];
+  outputs = record { name = codes "o0"; place = 3 } ∷ [];
+  equations = constants ++ gate 3 (2 ∷ []) not_cover ∷ [];
+  starts = [];
+}
+unfolding body_of record_at header_of symbol_of digits
+one_read = refl

@@ -10,6 +10,8 @@ use Rattle.text_numbers.specs.declared.kinds.TextKind.{TextKind}
 use Rattle.text_numbers.specs.declared.kinds.TextKind.TheVariants as text_kind
 use Rattle.sim_report.specs.declared.refusal.Misfit.{Misfit}
 use Rattle.sim_report.specs.declared.refusal.Misfit.TheVariants as misfit
+use Rattle.aiger_records.specs.declared.error.AigerKind.{AigerKind}
+use Rattle.aiger_records.specs.declared.error.AigerKind.TheVariants as aiger
 use Rattle.elaborate.specs.declared.error.FlatError.{FlatError}
 use Rattle.elaborate.specs.declared.error.FlatError.TheVariants as flat
 use Rattle.outcome.specs.Report.{report_text}
@@ -88,6 +90,21 @@ design_fault_text flat.TooMany = codes "TooMany"
 design_fault_text flat.LongName = codes "LongName"
 design_fault_text flat.NoMemory = codes "NoMemory"
 
+-- what is wrong with a record of an AIGER file
+abbrev pub record_fault_text : AigerKind → List ℕ
+record_fault_text aiger.BadHeader = codes "BadHeader"
+record_fault_text aiger.Properties = codes "Properties"
+record_fault_text aiger.TooMany = codes "TooMany"
+record_fault_text aiger.BadLine = codes "BadLine"
+record_fault_text aiger.BadLiteral = codes "BadLiteral"
+record_fault_text aiger.TwoDrivers = codes "TwoDrivers"
+record_fault_text aiger.BadReset = codes "BadReset"
+record_fault_text aiger.BadDelta = codes "BadDelta"
+record_fault_text aiger.BadSymbol = codes "BadSymbol"
+record_fault_text aiger.Undriven = codes "Undriven"
+record_fault_text aiger.DuplicateName = codes "DuplicateName"
+record_fault_text aiger.Loop = codes "Loop"
+
 -- what doesn't fit a circuit
 abbrev pub misfit_text : Misfit → List ℕ
 misfit_text (misfit.Unknown name) = codes "refused S Unknown " ++ name ++ 10 ∷ []
@@ -99,6 +116,7 @@ refusal_text refusal.NotBuilt = codes "refused NotYet" ++ 10 ∷ []
 refusal_text (refusal.TooLong f) = codes "refused " ++ file_word f ++ codes " TooLong" ++ 10 ∷ []
 refusal_text (refusal.Text f line fault) = codes "refused " ++ file_word f ++ codes " line " ++ decimal line ++ 32 ∷ [] ++ line_fault_text fault ++ 10 ∷ []
 refusal_text (refusal.Design f fault) = codes "refused " ++ file_word f ++ 32 ∷ [] ++ design_fault_text fault ++ 10 ∷ []
+refusal_text (refusal.Record f place k) = codes "refused " ++ file_word f ++ codes " record " ++ decimal place ++ 32 ∷ [] ++ record_fault_text k ++ 10 ∷ []
 refusal_text (refusal.Interface name) = codes "refused Interface " ++ name ++ 10 ∷ []
 refusal_text (refusal.TooLarge side) = codes "refused " ++ side_word side ++ codes " TooLarge" ++ 10 ∷ []
 refusal_text (refusal.Misfit m) = misfit_text m

@@ -1,5 +1,6 @@
 //! What a run finds and reports.
 
+use aiger_records::AigerKind;
 use blif_read::ReadKind;
 use elaborate::FlatError;
 use outcome::{Outcome, Settings};
@@ -44,6 +45,8 @@ pub enum Refusal {
     Text(File, u32, LineFault),
     /// The first fault of a design.
     Design(File, FlatError),
+    /// The first faulty record of an AIGER file, and what is wrong with it.
+    Record(File, u32, AigerKind),
     /// The first name that one circuit has and the other lacks.
     Interface(Word),
     /// The unfoldings of the circuit's outputs weigh more than 2,000,000 together, where latches are cut open those of the cut

@@ -3,9 +3,10 @@
 ghost use Rattle.std.specs.Prelude.{◌≡◌, [], ◌∷◌, ◌++◌, codes, OnOk, IfOk};
 ghost use Rattle.std.specs.Fmt.{decimal};
 ghost use Rattle.sec_base.specs.Texts.{names_text};
-ghost use Rattle.job_base.specs.Lines.{side_word, file_word, kind_text, text_kind_word, line_fault_text, design_fault_text, misfit_text, refusal_text, words_text, cycle_text, undecided_text, unpaired_text};
+ghost use Rattle.job_base.specs.Lines.{side_word, file_word, kind_text, text_kind_word, line_fault_text, design_fault_text, record_fault_text, misfit_text, refusal_text, words_text, cycle_text, undecided_text, unpaired_text};
 
 use crate::finding::{File, LineFault, Refusal};
+use aiger_records::AigerKind;
 use blif_read::ReadKind;
 use elaborate::FlatError;
 use sec_base::{NoMemory, Seq, Side, Text, Word, Words, put, put_names, put_number};
@@ -154,6 +155,40 @@ fn put_design_fault(text: &mut Vec<u8>, fault: &FlatError) -> Result<(), NoMemor
     }
 }
 
+fn record_fault_text(kind: AigerKind) -> &'static str
+    ensures { result.now ≡ record_fault_text kind }
+{
+    match kind {
+        AigerKind::BadHeader => "BadHeader",
+        AigerKind::Properties => "Properties",
+        AigerKind::TooMany => "TooMany",
+        AigerKind::BadLine => "BadLine",
+        AigerKind::BadLiteral => "BadLiteral",
+        AigerKind::TwoDrivers => "TwoDrivers",
+        AigerKind::BadReset => "BadReset",
+        AigerKind::BadDelta => "BadDelta",
+        AigerKind::BadSymbol => "BadSymbol",
+        AigerKind::Undriven => "Undriven",
+        AigerKind::DuplicateName => "DuplicateName",
+        AigerKind::Loop => "Loop",
+    }
+}
+
+fn put_record_fault(
+    alloc: Global,
+    text: &mut Vec<u8>,
+    file: File,
+    place: u32,
+    kind: AigerKind,
+) -> Result<(), NoMemory>
+    ensures { OnOk result (text.new.items ≡ text.old.items ++ (codes "refused " ++ file_word file ++ codes " record " ++ decimal place ++ 32 ∷ [] ++ record_fault_text kind ++ 10 ∷ [])) }
+{
+    put_file(text, file)?;
+    put(text, b" record ")?;
+    put_number(alloc, text, u64::from(place))?;
+    put_line(text, b" ", record_fault_text(kind).as_bytes())
+}
+
 fn put_misfit(text: &mut Vec<u8>, misfit: &Misfit) -> Result<(), NoMemory>
     ensures { OnOk result (text.new.items ≡ text.old.items ++ misfit_text misfit.now) }
 {
@@ -180,6 +215,7 @@ fn put_refusal(alloc: Global, text: &mut Vec<u8>, refusal: &Refusal) -> Result<(
             put_design_fault(text, fault)?;
             put(text, b"\n")
         }
+        Refusal::Record(file, place, kind) => put_record_fault(alloc, text, *file, *place, *kind),
         Refusal::Interface(name) => put_line(text, b"refused Interface ", name.as_slice()),
         Refusal::TooLarge(side) => {
             put_side(text, *side)?;

@@ -1,6 +1,6 @@
 -- Where both texts are told and can be compared, what is found of them has the status of a verdict.
 use Rattle.std.specs.Prelude.{IfSome, IsSomeAnd}
-use Rattle.std.proofs.Common.{◌≡◌, ℕ, List, [], sym, ◌∙◌, subst, arith, Some, None}
+use Rattle.std.proofs.Common.{◌≡◌, ℕ, List, [], sym, ◌∙◌, subst, Some, None}
 use Rattle.std.proofs.lemmas.Option.{none-some}
 use Rattle.circuit_theory.specs.declared.Side.{Side}
 use Rattle.circuit_theory.specs.declared.Side.TheVariants.{A, B}
@@ -16,8 +16,9 @@ use Rattle.job_base.specs.declared.finding.Finding.TheVariants as finding
 use Rattle.job_base.specs.Written.{verdict_status, status_of}
 use Rattle.cut_points.specs.Common.{common_names}
 use Rattle.sec_setup.specs.Cycles.{AreBroken}
-use Rattle.sec_files.specs.Loading.{IsAccepted, IsTooLong, HasFault, HasDesignFault}
+use Rattle.sec_files.specs.Loading.{IsTooLong, HasFault, HasDesignFault, HasRecordFault}
 use Rattle.job_files.specs.Reading.{Held}
+use Rattle.job_files.proofs.Accepted.{is_short, has_no_fault, is_sound, has_good_records}
 use Rattle.job_files.proofs.Reading.{some_and, if_told}
 use Rattle.job_check.specs.Check.{Check}
 use Rattle.job_check.specs.Found.{OfTexts, IsRefusal, IsFoundOf}
@@ -45,26 +46,26 @@ module _ (held : Held) (check : Check) (told : AreTold held check) where
   of_texts : (P : List ℕ → List ℕ → Type 0) → OfTexts held check P → P told.left told.right
   of_texts P h = if_told (held check.right) (λ y. P told.left y) told.right told.right_is (if_told (held check.left) (λ x. IfSome (held check.right) (λ y. P x y)) told.left told.left_is h)
 
-  too_long : (x : List ℕ) → IsAccepted x → IsTooLong x → ⊥
-  too_long x accepted h = omega (arith, accepted.short)
-
   no_fault : {X : Type 0} (x : X) → None ≡ Some x → ⊥
   no_fault x e = none-some x e
 
   no_refusal : (r : Refusal) → IsRefusal held check r → ⊥
   no_refusal refusal.NotBuilt h = h
-  no_refusal (refusal.TooLong file.A) h = too_long told.left told.comparable.left (of_left IsTooLong h)
-  no_refusal (refusal.TooLong file.B) h = too_long told.right told.comparable.right (of_texts _ h).2
+  no_refusal (refusal.TooLong file.A) h = is_short told.left told.comparable.left (of_left IsTooLong h)
+  no_refusal (refusal.TooLong file.B) h = is_short told.right told.comparable.right (of_texts _ h).2
   no_refusal (refusal.TooLong file.S) h = h
-  no_refusal (refusal.Text file.A line (line_fault.Circuit kind)) h = no_fault _ (sym told.comparable.left.faultless ∙ (of_left (λ x. HasFault x line kind) h).1)
-  no_refusal (refusal.Text file.B line (line_fault.Circuit kind)) h = no_fault _ (sym told.comparable.right.faultless ∙ (of_texts _ h).2.1)
+  no_refusal (refusal.Text file.A line (line_fault.Circuit kind)) h = has_no_fault told.left told.comparable.left line kind (of_left (λ x. HasFault x line kind) h)
+  no_refusal (refusal.Text file.B line (line_fault.Circuit kind)) h = has_no_fault told.right told.comparable.right line kind (of_texts _ h).2
   no_refusal (refusal.Text file.S line (line_fault.Circuit kind)) h = h
   no_refusal (refusal.Text f line line_fault.BadHeader) h = h
   no_refusal (refusal.Text f line line_fault.BadRow) h = h
   no_refusal (refusal.Text f line (line_fault.Clauses kind)) h = h
-  no_refusal (refusal.Design file.A fault) h = told.comparable.left.sound fault (of_left (λ x. HasDesignFault x fault) h).2
-  no_refusal (refusal.Design file.B fault) h = told.comparable.right.sound fault (of_texts _ h).2.2
+  no_refusal (refusal.Design file.A fault) h = is_sound told.left told.comparable.left fault (of_left (λ x. HasDesignFault x fault) h)
+  no_refusal (refusal.Design file.B fault) h = is_sound told.right told.comparable.right fault (of_texts _ h).2
   no_refusal (refusal.Design file.S fault) h = h
+  no_refusal (refusal.Record file.A place kind) h = has_good_records told.left told.comparable.left place kind (of_left (λ x. HasRecordFault x place kind) h)
+  no_refusal (refusal.Record file.B place kind) h = has_good_records told.right told.comparable.right place kind (of_texts _ h).2
+  no_refusal (refusal.Record file.S place kind) h = h
   no_refusal (refusal.Interface name) h = let n = of_texts _ h in no_fault _ (sym (told.comparable.match n.0 n.1 n.2 n.3) ∙ n.4)
   no_refusal (refusal.TooLarge side) h = let n = of_texts _ h in told.comparable.light n.0 n.1 n.2 n.3 side n.4.2
   no_refusal (refusal.Misfit m) h = h

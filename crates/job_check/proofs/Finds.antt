@@ -6,6 +6,7 @@ use Rattle.sec_base.specs.FetchError.TheVariants as fetch_error
 use Rattle.sec_base.specs.declared.settings.Settings.{Settings}
 use Rattle.flat_net.specs.View.{NetView}
 use Rattle.blif_read.specs.declared.error.ReadError.TheVariants as read_error
+use Rattle.aiger_records.specs.declared.error.AigerError.TheVariants as aiger_error
 use Rattle.elaborate.specs.declared.error.FlatError.{FlatError}
 use Rattle.elaborate.specs.declared.error.FlatError.TheVariants as flat_error
 use Rattle.outcome.specs.declared.verdict.Outcome.{Outcome}
@@ -18,7 +19,7 @@ use Rattle.sec_check.specs.declared.error.CompareError.TheVariants as compare_er
 use Rattle.sec_check.specs.Compared.{Compared}
 use Rattle.sec_files.specs.declared.loader.LoadError.{LoadError}
 use Rattle.sec_files.specs.declared.loader.LoadError.TheVariants as load_error
-use Rattle.sec_files.specs.Loading.{Loads, LoadFails, IsTooLong, HasFault, HasDesignFault}
+use Rattle.sec_files.specs.Loading.{Loads, LoadFails, IsTooLong, HasFault, HasDesignFault, HasRecordFault}
 use Rattle.job_files.specs.Reading.{Held}
 use Rattle.job_files.specs.Ends.{load_end}
 use Rattle.job_files.proofs.Loading.{later_fails}
@@ -57,6 +58,8 @@ left_ends held before now check (load_error.Flat (flat_error.TooDeep x)) h = h
 left_ends held before now check (load_error.Flat flat_error.TooMany) h = h
 left_ends held before now check (load_error.Flat flat_error.LongName) h = h
 left_ends held before now check (load_error.Flat flat_error.NoMemory) h = tt
+left_ends held before now check (load_error.Aiger (aiger_error.At place kind)) h = h
+left_ends held before now check (load_error.Aiger aiger_error.NoMemory) h = tt
 
 with_net : {x : List ℕ} (net : NetView) (F : List ℕ → Type 0) (y : List ℕ) → Loads x net → F y → (n : NetView) × Loads x n × F y
 with_net net F y l f = (net, l, f)
@@ -91,6 +94,8 @@ right_ends held before now check net (load_error.Flat (flat_error.TooDeep x)) l 
 right_ends held before now check net (load_error.Flat flat_error.TooMany) l h = faulty held check net flat_error.TooMany l h
 right_ends held before now check net (load_error.Flat flat_error.LongName) l h = faulty held check net flat_error.LongName l h
 right_ends held before now check net (load_error.Flat flat_error.NoMemory) l h = tt
+right_ends held before now check net (load_error.Aiger (aiger_error.At place kind)) l h = both_told (held check.left) (held check.right) _ _ _ (λ x y. with_net net (λ text. HasRecordFault text place kind) y) l h
+right_ends held before now check net (load_error.Aiger aiger_error.NoMemory) l h = tt
 
 -- both files are loaded and compared
 pub nets_end : (held : Held) (before now : List ℕ → ℕ) (check : Check) (a b : NetView) (r : Result Outcome CompareError) →

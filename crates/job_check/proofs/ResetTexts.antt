@@ -9,9 +9,6 @@ use Rattle.sec_base.specs.declared.settings.Settings.{Settings}
 use Rattle.witness_report.specs.declared.witness.PairName.{PairName}
 use Rattle.witness_report.specs.declared.witness.Witness.{Witness}
 use Rattle.flat_net.specs.View.{NetView, circuit_of}
-use Rattle.blif_read.specs.Design.{circuit_of_design}
-use Rattle.blif_read.specs.Reading.{spelled}
-use Rattle.design_laws.proofs.Kept.{flat_design}
 use Rattle.pair_decide.specs.declared.query.Proof.{Proof}
 use Rattle.outcome.specs.declared.verdict.PairResult.{PairResult}
 use Rattle.outcome.specs.declared.verdict.LimitAt.{LimitAt}
@@ -27,8 +24,8 @@ use Rattle.reset_form.specs.Limits.{IsUndecidedAt}
 use Rattle.reset_form.specs.Outcome.{Numbered, AgreeBefore, AnswerFits, PairFits, IsFirstLimit}
 use Rattle.sec_check.specs.Compared.{IsComparedFromReset}
 use Rattle.sec_check.specs.FromReset.{numbered_by, ResetVerdictFits}
-use Rattle.sec_files.specs.Loading.{Loads}
-use Rattle.sec_files.proofs.Loaded.{spelled_circuit}
+use Rattle.sec_files.specs.Loading.{Loads, circuit_of_text}
+use Rattle.sec_files.proofs.Texts.{text_design, spelled_circuit}
 use Rattle.job_check.specs.Resets.{ResetsAgree, ResetsDiffer, ResetsUndecided}
 use Rattle.job_check.proofs.Fitted.{beside, kept_proof}
 use Rattle.job_check.proofs.ResetDesigns.{resets_agree_up, resets_differ_up}
@@ -57,8 +54,8 @@ module _ (before now : Option (List ℕ)) (settings : Settings) (o : Outcome) (t
       record {
         left_clock = a.clock;
         right_clock = b.clock;
-        left = circuit_of_design (spelled x) a.clock;
-        right = circuit_of_design (spelled y) b.clock;
+        left = circuit_of_text x a.clock;
+        right = circuit_of_text y b.clock;
         left_spelled = spelled_circuit x a left;
         right_spelled = spelled_circuit y b right;
         left_net = a;
@@ -69,7 +66,7 @@ module _ (before now : Option (List ℕ)) (settings : Settings) (o : Outcome) (t
         is_verdict = e;
         uncut = compared.fits.exposed;
         printed = taken;
-        says = resets_agree_up (flat_design (spelled x) a left.flat) (flat_design (spelled y) b right.flat) equal;
+        says = resets_agree_up (text_design x a left) (text_design y b right) equal;
         nets_say = equal;
       }
 
@@ -77,8 +74,8 @@ module _ (before now : Option (List ℕ)) (settings : Settings) (o : Outcome) (t
   resets_differ w e = record {
     left_clock = a.clock;
     right_clock = b.clock;
-    left = circuit_of_design (spelled x) a.clock;
-    right = circuit_of_design (spelled y) b.clock;
+    left = circuit_of_text x a.clock;
+    right = circuit_of_text y b.clock;
     left_spelled = spelled_circuit x a left;
     right_spelled = spelled_circuit y b right;
     outcome = o;
@@ -86,7 +83,7 @@ module _ (before now : Option (List ℕ)) (settings : Settings) (o : Outcome) (t
     is_verdict = e;
     uncut = compared.fits.exposed;
     printed = taken;
-    says = resets_differ_up (flat_design (spelled x) a left.flat) (flat_design (spelled y) b right.flat) w (compared.different w e);
+    says = resets_differ_up (text_design x a left) (text_design y b right) w (compared.different w e);
   }
 
   abbrev numbers : Numbered

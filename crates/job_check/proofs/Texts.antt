@@ -6,8 +6,6 @@ use Rattle.sec_base.specs.Outside.{Takes}
 use Rattle.sec_base.specs.declared.settings.Settings.{Settings}
 use Rattle.witness_report.specs.declared.witness.Witness.{Witness}
 use Rattle.flat_net.specs.View.{NetView, circuit_of}
-use Rattle.blif_read.specs.Design.{circuit_of_design}
-use Rattle.blif_read.specs.Reading.{spelled}
 use Rattle.pair_decide.specs.declared.query.Proof.{Proof}
 use Rattle.outcome.specs.declared.verdict.PairResult.{PairResult}
 use Rattle.outcome.specs.declared.verdict.LimitAt.{LimitAt}
@@ -22,11 +20,8 @@ use Rattle.sec_setup.specs.Pairs.{NamedPair, named_pairs}
 use Rattle.sec_setup.specs.Cuts.{columns_of, is_cut}
 use Rattle.plain_form.specs.Outcome.{PairFits, VerdictFits, IsFirstLimit}
 use Rattle.sec_check.specs.Compared.{IsCompared}
-use Rattle.sec_files.specs.Loading.{Loads}
-use Rattle.sec_files.proofs.CutDesigns.{texts_minimal, texts_onward, texts_cuts_differ}
-use Rattle.sec_files.proofs.Designs.{agree_of_nets, shown_of_nets}
-use Rattle.sec_files.proofs.DesignPlaces.{texts_agree_from}
-use Rattle.sec_files.proofs.Loaded.{spelled_circuit}
+use Rattle.sec_files.specs.Loading.{Loads, circuit_of_text}
+use Rattle.sec_files.proofs.Texts.{spelled_circuit, texts_agree_by, texts_agree_from, texts_differ_by, texts_minimal, texts_onward, texts_cuts_differ}
 use Rattle.job_check.specs.Answer.{TextsAgree, TextsDiffer, TextsNotShown, TextsUndecided}
 use Rattle.job_check.proofs.Fitted.{beside, uncut_answer, cut_answer, limit_answer, no_names, some_names, were_exposed, kept_proof, next_among}
 
@@ -38,8 +33,8 @@ module _ (before now : Option (List ℕ)) (settings : Settings) (o : Outcome) (t
       record {
         left_clock = a.clock;
         right_clock = b.clock;
-        left = circuit_of_design (spelled x) a.clock;
-        right = circuit_of_design (spelled y) b.clock;
+        left = circuit_of_text x a.clock;
+        right = circuit_of_text y b.clock;
         left_spelled = spelled_circuit x a left;
         right_spelled = spelled_circuit y b right;
         left_net = a;
@@ -51,9 +46,9 @@ module _ (before now : Option (List ℕ)) (settings : Settings) (o : Outcome) (t
         printed = taken;
         minimal = texts_minimal x y a b left right o.exposed compared.fits.exposed.minimal;
         says = record {
-          agree = agree_of_nets left.flat.flattened right.flat.flattened equal.agree;
+          agree = texts_agree_by x y a b left right equal.agree;
           onward = texts_onward x y a b left right o.exposed equal.onward;
-          from = texts_agree_from x y a b left.accepted.short right.accepted.short left.flat right.flat compared.left_sound compared.right_sound o.through o.exposed equal.from;
+          from = texts_agree_from x y a b left right o.through o.exposed equal.from;
         };
         nets_say = equal;
       }
@@ -82,8 +77,8 @@ module _ (before now : Option (List ℕ)) (settings : Settings) (o : Outcome) (t
       record {
         left_clock = a.clock;
         right_clock = b.clock;
-        left = circuit_of_design (spelled x) a.clock;
-        right = circuit_of_design (spelled y) b.clock;
+        left = circuit_of_text x a.clock;
+        right = circuit_of_text y b.clock;
         left_spelled = spelled_circuit x a left;
         right_spelled = spelled_circuit y b right;
         outcome = o;
@@ -91,7 +86,7 @@ module _ (before now : Option (List ℕ)) (settings : Settings) (o : Outcome) (t
         is_verdict = e;
         uncut = no_names o.exposed (uncut_answer _ _ _ _ _ _ _ _ first.result.answer first.result.proof n.2.answer_is first.answered);
         printed = taken;
-        says = shown_of_nets left.flat.flattened right.flat.flattened (compared.different w e);
+        says = texts_differ_by x y a b left right w (compared.different w e);
       }
 
   pub texts_not_shown : (w : Witness) → o.verdict ≡ verdict.NotShown (why.Cut w) → TextsNotShown x y settings before now
@@ -103,8 +98,8 @@ module _ (before now : Option (List ℕ)) (settings : Settings) (o : Outcome) (t
       record {
         left_clock = a.clock;
         right_clock = b.clock;
-        left = circuit_of_design (spelled x) a.clock;
-        right = circuit_of_design (spelled y) b.clock;
+        left = circuit_of_text x a.clock;
+        right = circuit_of_text y b.clock;
         left_spelled = spelled_circuit x a left;
         right_spelled = spelled_circuit y b right;
         left_net = a;

@@ -10,7 +10,7 @@ use Rattle.job_base.specs.declared.finding.Finding.{Finding}
 use Rattle.job_base.specs.declared.finding.Finding.TheVariants as finding
 use Rattle.sec_check.specs.declared.error.CompareError.TheVariants as compare_error
 use Rattle.sec_check.specs.Compared.{Compared}
-use Rattle.sec_files.specs.Loading.{Loads, IsTooLong, HasFault, HasDesignFault}
+use Rattle.sec_files.specs.Loading.{Loads, IsTooLong, HasFault, HasDesignFault, HasRecordFault}
 use Rattle.job_files.specs.Reading.{Held}
 use Rattle.job_check.specs.Check.{Check, WhereBuilt}
 
@@ -37,6 +37,7 @@ IsRefusal held check (refusal.Text f line line_fault.BadHeader) = ⊥
 IsRefusal held check (refusal.Text f line line_fault.BadRow) = ⊥
 IsRefusal held check (refusal.Text f line (line_fault.Clauses kind)) = ⊥
 IsRefusal held check (refusal.Design f fault) = OfFile held check f (λ x. HasDesignFault x fault)
+IsRefusal held check (refusal.Record f place kind) = OfFile held check f (λ x. HasRecordFault x place kind)
 IsRefusal held check (refusal.Interface name) = OfNets held check (λ a b. Compared a b check.settings (Err (compare_error.Interface name)))
 IsRefusal held check (refusal.TooLarge side) = OfNets held check (λ a b. Compared a b check.settings (Err (compare_error.TooLarge side)))
 IsRefusal held check (refusal.Misfit m) = ⊥

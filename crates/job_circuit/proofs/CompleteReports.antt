@@ -20,27 +20,31 @@ use Rattle.job_base.specs.Written.{status_of}
 use Rattle.latch_kinds.specs.declared.kinds.KindsError.TheVariants as kinds_error
 use Rattle.circuit_jobs.specs.Jobs.{IsUnknown}
 use Rattle.circuit_jobs.proofs.Ended.{large_or_light}
-use Rattle.sec_files.specs.Loading.{IsAccepted, Loads, IsTooLong, HasFault, HasDesignFault}
+use Rattle.sec_files.specs.Loading.{IsAccepted, Loads, IsTooLong}
 use Rattle.sec_files.specs.Stimuli.{IsStimulus, HasBadHeader, HasBadRow}
-use Rattle.job_files.proofs.Accepted.{has_header, no_bad_row, same_names}
+use Rattle.sec_files.proofs.Texts.{text_sound}
+use Rattle.job_files.proofs.Accepted.{has_header, no_bad_row, same_names, not_long, not_faulty, not_unsound, not_misread}
 use Rattle.job_files.proofs.Reading.{some_and, if_told}
 use Rattle.job_circuit.specs.Reports.{IsCircuitRefusal, IsGraphRefusal, IsGraphFound, IsSimRefusal, IsSimFound, CanBeTold, CanBeRun, IsReported, IsGraphComplete, IsSimComplete}
 
 -- an accepted circuit is not refused
 module _ (circuit : Option (List ℕ)) (x : List ℕ) (is : circuit ≡ Some x) (accepted : IsAccepted x) where
   circuit_stands : (r : Refusal) → IsCircuitRefusal circuit r → ⊥
-  circuit_stands (refusal.TooLong file.A) h = let long : IsTooLong x = if_told circuit IsTooLong x is h in omega (arith, accepted.short)
+  circuit_stands (refusal.TooLong file.A) h = not_long circuit x is accepted h
   circuit_stands (refusal.TooLong file.B) h = h
   circuit_stands (refusal.TooLong file.S) h = h
-  circuit_stands (refusal.Text file.A line (line_fault.Circuit kind)) h = none-some _ (sym accepted.faultless ∙ (if_told circuit (λ t. HasFault t line kind) x is h).1)
+  circuit_stands (refusal.Text file.A line (line_fault.Circuit kind)) h = not_faulty circuit x is accepted line kind h
   circuit_stands (refusal.Text file.A line line_fault.BadHeader) h = h
   circuit_stands (refusal.Text file.A line line_fault.BadRow) h = h
   circuit_stands (refusal.Text file.A line (line_fault.Clauses kind)) h = h
   circuit_stands (refusal.Text file.B line fault) h = h
   circuit_stands (refusal.Text file.S line fault) h = h
-  circuit_stands (refusal.Design file.A fault) h = accepted.sound fault (if_told circuit (λ t. HasDesignFault t fault) x is h).2
+  circuit_stands (refusal.Design file.A fault) h = not_unsound circuit x is accepted fault h
   circuit_stands (refusal.Design file.B fault) h = h
   circuit_stands (refusal.Design file.S fault) h = h
+  circuit_stands (refusal.Record file.A place kind) h = not_misread circuit x is accepted place kind h
+  circuit_stands (refusal.Record file.B place kind) h = h
+  circuit_stands (refusal.Record file.S place kind) h = h
   circuit_stands refusal.NotBuilt h = h
   circuit_stands (refusal.Interface name) h = h
   circuit_stands (refusal.TooLarge side) h = h
@@ -56,11 +60,12 @@ module _ (mode : Mode) (circuit : Option (List ℕ)) (x : List ℕ) (is : circui
   graph_stands : (r : Refusal) → IsGraphRefusal mode circuit r → ⊥
   graph_stands (refusal.TooLarge A) h =
       let loads : Loads x h.net = if_told circuit (λ t. Loads t h.net) x is h.loads in
-      large_or_light mode h.net loads.flat.sound h.unknown (can.light h.net loads)
+      large_or_light mode h.net (text_sound x h.net loads) h.unknown (can.light h.net loads)
   graph_stands (refusal.TooLarge B) h = h
   graph_stands (refusal.TooLong f) h = circuit_stands circuit x is can.circuit (refusal.TooLong f) h
   graph_stands (refusal.Text f line fault) h = circuit_stands circuit x is can.circuit (refusal.Text f line fault) h
   graph_stands (refusal.Design f fault) h = circuit_stands circuit x is can.circuit (refusal.Design f fault) h
+  graph_stands (refusal.Record f place kind) h = circuit_stands circuit x is can.circuit (refusal.Record f place kind) h
   graph_stands refusal.NotBuilt h = h
   graph_stands (refusal.Interface name) h = h
   graph_stands (refusal.Misfit m) h = h
@@ -96,10 +101,11 @@ module _ (mode : Mode) (circuit stimulus power : Option (List ℕ)) (reset : Boo
   run_stands (refusal.Text file.S line (line_fault.Circuit kind)) h = circuit_stands circuit x is can.circuit (refusal.Text file.S line (line_fault.Circuit kind)) h
   run_stands (refusal.Text file.S line (line_fault.Clauses kind)) h = circuit_stands circuit x is can.circuit (refusal.Text file.S line (line_fault.Clauses kind)) h
   run_stands (refusal.Design f fault) h = circuit_stands circuit x is can.circuit (refusal.Design f fault) h
+  run_stands (refusal.Record f place kind) h = circuit_stands circuit x is can.circuit (refusal.Record f place kind) h
   run_stands (refusal.Interface name) h = h
   run_stands (refusal.TooLarge A) h =
       let loads : Loads x h.net = if_told circuit (λ t. Loads t h.net) x is h.loads in
-      large_or_light mode h.net loads.flat.sound h.unknown (can.light h.net loads)
+      large_or_light mode h.net (text_sound x h.net loads) h.unknown (can.light h.net loads)
   run_stands (refusal.TooLarge B) h = h
 
   run_reported : (f : Finding) → IsSimFound mode circuit stimulus power reset f → IsReported mode (status_of f)

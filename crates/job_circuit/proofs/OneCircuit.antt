@@ -8,6 +8,7 @@ use Rattle.sec_base.specs.Outside.{Rose}
 use Rattle.witness_report.specs.declared.error.StimError.TheVariants as stim_error
 use Rattle.flat_net.specs.View.{NetView}
 use Rattle.blif_read.specs.declared.error.ReadError.TheVariants as read_error
+use Rattle.aiger_records.specs.declared.error.AigerError.TheVariants as aiger_error
 use Rattle.elaborate.specs.declared.error.FlatError.TheVariants as flat_error
 use Rattle.job_base.specs.declared.finding.File.TheVariants as file
 use Rattle.job_base.specs.declared.finding.LineFault.TheVariants as line_fault
@@ -57,6 +58,8 @@ circuit_ends P failed rose circuit (load_error.Flat (flat_error.TooDeep x)) refu
 circuit_ends P failed rose circuit (load_error.Flat flat_error.TooMany) refuse fail h = refuse (refusal.Design file.A flat_error.TooMany) h
 circuit_ends P failed rose circuit (load_error.Flat flat_error.LongName) refuse fail h = refuse (refusal.Design file.A flat_error.LongName) h
 circuit_ends P failed rose circuit (load_error.Flat flat_error.NoMemory) refuse fail h = tt
+circuit_ends P failed rose circuit (load_error.Aiger (aiger_error.At place kind)) refuse fail h = refuse (refusal.Record file.A place kind) h
+circuit_ends P failed rose circuit (load_error.Aiger aiger_error.NoMemory) refuse fail h = tt
 
 -- a refusal of the circuit is one of the report of its latch graph
 pub graph_circuit : (mode : Mode) (circuit : Option (List ℕ)) (r : Refusal) → IsCircuitRefusal circuit r → IsGraphRefusal mode circuit r
@@ -64,6 +67,7 @@ graph_circuit mode circuit refusal.NotBuilt h = h
 graph_circuit mode circuit (refusal.TooLong f) h = h
 graph_circuit mode circuit (refusal.Text f line fault) h = h
 graph_circuit mode circuit (refusal.Design f fault) h = h
+graph_circuit mode circuit (refusal.Record f place kind) h = h
 graph_circuit mode circuit (refusal.Interface name) h = h
 graph_circuit mode circuit (refusal.TooLarge A) h = absurd h
 graph_circuit mode circuit (refusal.TooLarge B) h = h
@@ -79,6 +83,7 @@ sim_circuit mode circuit stimulus power (refusal.Text file.A line fault) h = h
 sim_circuit mode circuit stimulus power (refusal.Text file.B line fault) h = h
 sim_circuit mode circuit stimulus power (refusal.Text file.S line fault) h = absurd h
 sim_circuit mode circuit stimulus power (refusal.Design f fault) h = h
+sim_circuit mode circuit stimulus power (refusal.Record f place kind) h = h
 sim_circuit mode circuit stimulus power (refusal.Interface name) h = h
 sim_circuit mode circuit stimulus power (refusal.TooLarge A) h = absurd h
 sim_circuit mode circuit stimulus power (refusal.TooLarge B) h = h

@@ -23,7 +23,7 @@ use Rattle.job_base.specs.declared.finding.Finding.TheVariants as finding
 use Rattle.latch_kinds.specs.declared.kinds.KindsError.{KindsError}
 use Rattle.latch_kinds.specs.declared.kinds.KindsError.TheVariants as kinds_error
 use Rattle.circuit_jobs.specs.Jobs.{AreLightIn, IsUnknown}
-use Rattle.sec_files.specs.Loading.{IsAccepted, Loads, IsTooLong, HasFault, HasDesignFault}
+use Rattle.sec_files.specs.Loading.{IsAccepted, Loads, IsTooLong, HasFault, HasDesignFault, HasRecordFault}
 use Rattle.sec_files.specs.Stimuli.{IsStimulus, HasBadHeader, HasBadRow}
 use Rattle.job_files.specs.Reading.{IsLoaded}
 
@@ -40,6 +40,7 @@ abbrev pub IsCircuitRefusal : Option (List ℕ) → Refusal → Type 0
 IsCircuitRefusal circuit (refusal.TooLong file.A) = IfSome circuit IsTooLong
 IsCircuitRefusal circuit (refusal.Text file.A line (line_fault.Circuit kind)) = IfSome circuit (λ x. HasFault x line kind)
 IsCircuitRefusal circuit (refusal.Design file.A fault) = IfSome circuit (λ x. HasDesignFault x fault)
+IsCircuitRefusal circuit (refusal.Record file.A place kind) = IfSome circuit (λ x. HasRecordFault x place kind)
 IsCircuitRefusal circuit other = ⊥
 
 -- the report is that of the latch graph of the net that the circuit's text loads as

@@ -1,3 +1,4 @@
 pub mod Accepted
 pub mod Loading
 pub mod Reading
+pub mod RecordFaults

@@ -6,6 +6,8 @@ use Rattle.sec_base.specs.FetchError.TheVariants as fetch_error
 use Rattle.witness_report.specs.declared.error.StimError.TheVariants as stim_error
 use Rattle.blif_read.specs.declared.error.ReadError.TheVariants as read_error
 use Rattle.blif_read.specs.declared.error.ReadKind.{ReadKind}
+use Rattle.aiger_records.specs.declared.error.AigerKind.{AigerKind}
+use Rattle.aiger_records.specs.declared.error.AigerError.TheVariants as aiger_error
 use Rattle.elaborate.specs.declared.error.FlatError.{FlatError}
 use Rattle.elaborate.specs.declared.error.FlatError.TheVariants as flat_error
 use Rattle.job_base.specs.declared.finding.File.{File}
@@ -19,7 +21,7 @@ use Rattle.sec_files.specs.declared.loader.LoadError.{LoadError}
 use Rattle.sec_files.specs.declared.loader.LoadError.TheVariants as load_error
 use Rattle.sec_files.specs.declared.stimuli.StimulusError.{StimulusError}
 use Rattle.sec_files.specs.declared.stimuli.StimulusError.TheVariants as stimulus_error
-use Rattle.sec_files.specs.Loading.{LoadFails, FlattenFails, IsTooLong, HasFault, HasDesignFault}
+use Rattle.sec_files.specs.Loading.{LoadFails, FlattenFails, IsTooLong, HasFault, HasDesignFault, HasRecordFault}
 use Rattle.sec_files.specs.Stimuli.{HasBadHeader, HasBadRow, StimulusFails}
 use Rattle.job_files.specs.Ends.{load_end, stimulus_end}
 use Rattle.job_files.proofs.Reading.{rose_before}
@@ -27,7 +29,8 @@ use Rattle.job_files.proofs.Reading.{rose_before}
 -- a circuit's file isn't loaded: by a read that failed, by want of memory, or by a refusal that the job looks for
 module _ (P : Finding → Type 0) (failed rose : Type 0) (text : Option (List ℕ)) (f : File) (long : IfSome text IsTooLong → P (finding.Refused (refusal.TooLong f)))
     (faulty : (line : ℕ) (kind : ReadKind) → IfSome text (λ x. HasFault x line kind) → P (finding.Refused (refusal.Text f line (line_fault.Circuit kind))))
-    (unsound : (fault : FlatError) → IfSome text (λ x. HasDesignFault x fault) → P (finding.Refused (refusal.Design f fault))) (fail : rose → failed) where
+    (unsound : (fault : FlatError) → IfSome text (λ x. HasDesignFault x fault) → P (finding.Refused (refusal.Design f fault)))
+    (misread : (place : ℕ) (kind : AigerKind) → IfSome text (λ x. HasRecordFault x place kind) → P (finding.Refused (refusal.Record f place kind))) (fail : rose → failed) where
   pub load_ends : (error : LoadError) → LoadFails text rose error → EndsBy P failed (load_end f error)
   load_ends (load_error.Fetch fetch_error.Failed) h = fail h
   load_ends (load_error.Fetch fetch_error.TooLong) h = long h
@@ -50,6 +53,8 @@ module _ (P : Finding → Type 0) (failed rose : Type 0) (text : Option (List �
   load_ends (load_error.Flat flat_error.TooMany) h = unsound flat_error.TooMany h
   load_ends (load_error.Flat flat_error.LongName) h = unsound flat_error.LongName h
   load_ends (load_error.Flat flat_error.NoMemory) h = tt
+  load_ends (load_error.Aiger (aiger_error.At place kind)) h = misread place kind h
+  load_ends (load_error.Aiger aiger_error.NoMemory) h = tt
 
 -- the same of a stimulus
 module _ (P : Finding → Type 0) (failed rose : Type 0) (text : Option (List ℕ)) (long : IfSome text IsTooLong → P (finding.Refused (refusal.TooLong file.S)))
@@ -71,6 +76,8 @@ later_fails later held a b c (load_error.Fetch fetch_error.NoMemory) same grew h
 later_fails later held a b c (load_error.Read (read_error.At line kind)) same grew h = subst (λ (o : Option (List ℕ)). IfSome o (λ text. HasFault text line kind)) same h
 later_fails later held a b c (load_error.Read read_error.NoMemory) same grew h = tt
 later_fails later held a b c (load_error.Flat e) same grew h = subst (λ (o : Option (List ℕ)). FlattenFails o e) same h
+later_fails later held a b c (load_error.Aiger (aiger_error.At place kind)) same grew h = subst (λ (o : Option (List ℕ)). IfSome o (λ text. HasRecordFault text place kind)) same h
+later_fails later held a b c (load_error.Aiger aiger_error.NoMemory) same grew h = tt
 
 pub later_stimulus : (later held : Option (List ℕ)) (a b c : ℕ) (error : StimulusError) → later ≡ held → a ≤ b → StimulusFails later (Rose b c) error → StimulusFails held (Rose a c) error
 later_stimulus later held a b c (stimulus_error.Fetch fetch_error.Failed) same grew h = rose_before a b c grew h

@@ -3,6 +3,7 @@ use Rattle.std.specs.Prelude.{Result, Ok, Err}
 use Rattle.sec_base.specs.FetchError.TheVariants as fetch_error
 use Rattle.witness_report.specs.declared.error.StimError.TheVariants as stim_error
 use Rattle.blif_read.specs.declared.error.ReadError.TheVariants as read_error
+use Rattle.aiger_records.specs.declared.error.AigerError.TheVariants as aiger_error
 use Rattle.elaborate.specs.declared.error.FlatError.{FlatError}
 use Rattle.elaborate.specs.declared.error.FlatError.TheVariants as flat_error
 use Rattle.job_base.specs.declared.finding.File.{File}
@@ -31,6 +32,8 @@ load_end f (load_error.Fetch fetch_error.NoMemory) = Err stop.NoMemory
 load_end f (load_error.Read (read_error.At line kind)) = Ok (finding.Refused (refusal.Text f line (line_fault.Circuit kind)))
 load_end f (load_error.Read read_error.NoMemory) = Err stop.NoMemory
 load_end f (load_error.Flat error) = flatten_end f error
+load_end f (load_error.Aiger (aiger_error.At place kind)) = Ok (finding.Refused (refusal.Record f place kind))
+load_end f (load_error.Aiger aiger_error.NoMemory) = Err stop.NoMemory
 
 -- what is found where the stimulus isn't loaded
 abbrev pub stimulus_end : StimulusError → Result Finding Stop

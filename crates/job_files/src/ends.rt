@@ -3,6 +3,7 @@
 ghost use Rattle.std.specs.Prelude.{◌≡◌};
 ghost use Rattle.job_files.specs.Ends.{load_end, stimulus_end};
 
+use aiger_read::AigerError;
 use blif_read::ReadError;
 use job_base::{File, Finding, LineFault, Refusal, Stop};
 use sec_base::FetchError;
@@ -24,6 +25,10 @@ pub fn load_end(file: File, error: LoadError) -> Result<Finding, Stop>
         LoadError::Read(ReadError::NoMemory) => Err(Stop::NoMemory),
         LoadError::Flat(FlatError::NoMemory) => Err(Stop::NoMemory),
         LoadError::Flat(fault) => Ok(Finding::Refused(Refusal::Design(file, fault))),
+        LoadError::Aiger(AigerError::At { place, kind }) => {
+            Ok(Finding::Refused(Refusal::Record(file, place, kind)))
+        }
+        LoadError::Aiger(AigerError::NoMemory) => Err(Stop::NoMemory),
     }
 }
 

@@ -16,6 +16,7 @@ use Rattle.replay_header.specs.Header.{first_unknown, first_lacking}
 use Rattle.replay_modes.specs.Modes.{AreUnknown}
 use Rattle.sec_files.specs.Loading.{Loads}
 use Rattle.sec_files.specs.Stimuli.{IsStimulus}
+use Rattle.sec_files.proofs.Texts.{text_sound}
 use Rattle.job_base.specs.declared.finding.File.TheVariants as file
 use Rattle.job_base.specs.declared.finding.LineFault.TheVariants as line_fault
 use Rattle.job_base.specs.declared.finding.Refusal.{Refusal}
@@ -23,7 +24,7 @@ use Rattle.job_base.specs.declared.finding.Refusal.TheVariants as refusal
 use Rattle.job_base.specs.declared.finding.Finding.{Finding}
 use Rattle.job_base.specs.declared.finding.Finding.TheVariants as finding
 use Rattle.job_base.specs.Written.{status_of}
-use Rattle.job_files.proofs.Accepted.{not_long, not_faulty, not_unsound, no_long_stimulus, not_headless, no_row_refused, same_names}
+use Rattle.job_files.proofs.Accepted.{not_long, not_faulty, not_unsound, not_misread, no_long_stimulus, not_headless, no_row_refused, same_names}
 use Rattle.job_files.proofs.Reading.{some_and, if_told}
 use Rattle.job_replay.specs.Replays.{IsReplayRefusal, IsReplayFound, CanBeReplayed, IsReplayed, IsReplayComplete}
 
@@ -59,16 +60,19 @@ module _ (mode : Mode) (left right stimulus : Option (List ℕ)) (x y z : List �
   replay_stands (refusal.Design file.A fault) h = not_unsound left x is can.left fault h
   replay_stands (refusal.Design file.B fault) h = not_unsound right y other can.right fault h.1
   replay_stands (refusal.Design file.S fault) h = h
+  replay_stands (refusal.Record file.A place kind) h = not_misread left x is can.left place kind h
+  replay_stands (refusal.Record file.B place kind) h = not_misread right y other can.right place kind h.1
+  replay_stands (refusal.Record file.S place kind) h = h
   replay_stands (refusal.Interface name) h =
       let l : Loads x h.a = if_told left (λ t. Loads t h.a) x is h.left_loads in
       let r : Loads y h.b = if_told right (λ t. Loads t h.b) y other h.right_loads in
       none-some name (sym (can.match h.a h.b l r) ∙ h.said)
   replay_stands (refusal.TooLarge A) h =
       let l : Loads x h.a = if_told left (λ t. Loads t h.a) x is h.left_loads in
-      large_or_light mode h.a l.flat.sound h.said.1 (can.left_light h.a l)
+      large_or_light mode h.a (text_sound x h.a l) h.said.1 (can.left_light h.a l)
   replay_stands (refusal.TooLarge B) h =
       let r : Loads y h.b = if_told right (λ t. Loads t h.b) y other h.right_loads in
-      large_or_light mode h.b r.flat.sound h.said.1.1 (can.right_light h.b r)
+      large_or_light mode h.b (text_sound y h.b r) h.said.1.1 (can.right_light h.b r)
   replay_stands (refusal.Misfit (misfit.Unknown name)) h =
       let l : Loads x h.a = if_told left (λ t. Loads t h.a) x is h.left_loads in
       let r : Loads y h.b = if_told right (λ t. Loads t h.b) y other h.right_loads in

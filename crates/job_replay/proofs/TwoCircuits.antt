@@ -61,13 +61,13 @@ module _ (held : Held) (before now : List ℕ → ℕ) (job : ReplayJob) where
   -- A's file isn't loaded
   pub left_ends : (error : LoadError) → LoadFails (held job.left) (Rose (before job.left) (now job.left)) error → EndsBy Found Failed (load_end file.A error)
   left_ends error h =
-      load_ends Found Failed (Rose (before job.left) (now job.left)) (held job.left) file.A (λ long. long) (λ line kind faulty. faulty) (λ fault unsound. unsound)
+      load_ends Found Failed (Rose (before job.left) (now job.left)) (held job.left) file.A (λ long. long) (λ line kind faulty. faulty) (λ fault unsound. unsound) (λ place kind misread. misread)
       (first_failed held before now job.left (job.right ∷ job.stimulus ∷ [])) error h
 
   -- B's isn't, beside A's
   right_ends : IsLoaded (held job.left) → (error : LoadError) → LoadFails (held job.right) (Rose (before job.right) (now job.right)) error → EndsBy Found Failed (load_end file.B error)
   right_ends l error h =
-      load_ends Found Failed (Rose (before job.right) (now job.right)) (held job.right) file.B (λ long. (l, long)) (λ line kind faulty. (l, faulty)) (λ fault unsound. (l, unsound))
+      load_ends Found Failed (Rose (before job.right) (now job.right)) (held job.right) file.B (λ long. (l, long)) (λ line kind faulty. (l, faulty)) (λ fault unsound. (l, unsound)) (λ place kind misread. (l, misread))
       (second_failed held before now job.left job.right (job.stimulus ∷ []) l) error h
 
   -- both circuits are loaded, and the read behind them failed

@@ -15,7 +15,7 @@ use Rattle.replay_header.specs.Header.{FitsBoth}
 use Rattle.replay_report.specs.Report.{replay_text}
 use Rattle.replay_modes.specs.declared.fault.ReplayFault.TheVariants as fault
 use Rattle.replay_modes.specs.Modes.{AreUnknown, ShowsReplay, ReplaysIn}
-use Rattle.sec_files.specs.Loading.{IsAccepted, Loads, IsTooLong, HasFault, HasDesignFault}
+use Rattle.sec_files.specs.Loading.{IsAccepted, Loads, IsTooLong, HasFault, HasDesignFault, HasRecordFault}
 use Rattle.sec_files.specs.Stimuli.{IsStimulus, HasBadHeader, HasBadRow}
 use Rattle.job_base.specs.Lines.{undecided_text}
 use Rattle.job_base.specs.declared.status.StatusName.{StatusName}
@@ -65,6 +65,7 @@ IsReplayRefusal mode left right stimulus (refusal.Text f line line_fault.BadHead
 IsReplayRefusal mode left right stimulus (refusal.Text f line (line_fault.Clauses kind)) = ⊥
 IsReplayRefusal mode left right stimulus (refusal.Text f line line_fault.BadRow) = OfStimulus left right stimulus f (λ z. HasBadRow z line)
 IsReplayRefusal mode left right stimulus (refusal.Design f fault) = OfCircuit left right f (λ x. HasDesignFault x fault)
+IsReplayRefusal mode left right stimulus (refusal.Record f place kind) = OfCircuit left right f (λ x. HasRecordFault x place kind)
 IsReplayRefusal mode left right stimulus (refusal.Interface name) = OfReplay left right stimulus (λ a b names rows. ReplaysIn mode a b names rows (Err (fault.Interface name)))
 IsReplayRefusal mode left right stimulus (refusal.TooLarge side) = OfReplay left right stimulus (λ a b names rows. ReplaysIn mode a b names rows (Err (fault.TooLarge side)))
 IsReplayRefusal mode left right stimulus (refusal.Misfit (misfit.Unknown name)) = OfReplay left right stimulus (λ a b names rows. ReplaysIn mode a b names rows (Err (fault.Unknown name)))

@@ -20,22 +20,29 @@ use Rattle.sec_setup.specs.Cycles.{AreBroken}
 use Rattle.sec_check.specs.Compared.{AreTooLarge}
 use Rattle.sec_setup.specs.Cuts.{IsChoice}
 use Rattle.sec_check.specs.Fitting.{IsCutOver}
+use Rattle.sec_files.specs.Formats.{Format, Blif, format_of, IsReadIn, IsSoundIn}
 use Rattle.sec_files.specs.Loading.{IsAccepted, Loads}
+use Rattle.sec_files.proofs.Texts.{text_net}
 use Rattle.premise_rows.specs.OneText.{CanBeUnfolded}
 use Rattle.design_rows.specs.Small.{Small, IsSmall, AreSmall}
 
 -- the text spells the models of a small design
 pub record Spells (text : List ℕ) (models : List BlifModel) (s : Small) : Type 0 where
   pub short : length text ≤ 16777216
+  pub format : format_of text ≡ Blif
   pub faultless : first_fault text ≡ None
   pub models_are : spelled text ≡ models
   pub small : AreSmall models s
 
 pub accepted : (text : List ℕ) (models : List BlifModel) (s : Small) → Spells text models s → IsAccepted text
-accepted text models s p = record { short = p.short; faultless = p.faultless; sound = subst IsSoundDesign (sym p.models_are) p.small.0 }
+accepted text models s p = record {
+  short = p.short;
+  faultless = subst (λ (f : Format). IsReadIn f text) (sym p.format) p.faultless;
+  sound = subst (λ (f : Format). IsSoundIn f text) (sym p.format) (subst IsSoundDesign (sym p.models_are) p.small.0);
+}
 
 pub net_is_small : (text : List ℕ) (models : List BlifModel) (s : Small) → Spells text models s → (net : NetView) → Loads text net → IsSmall s net
-net_is_small text models s p net l = p.small.1 net (subst (λ (ms : List BlifModel). IsFlatOf ms net) p.models_are l.flat)
+net_is_small text models s p net l = p.small.1 net (subst (λ (ms : List BlifModel). IsFlatOf ms net) p.models_are (text_net text net l Blif p.format))
 
 -- the ports of such a net
 abbrev pub small_ports : Small → List (List ℕ) → Ports
@@ -78,15 +85,21 @@ module _ (s t : Small) (a b : NetView) (left : IsSmall s a) (right : IsSmall t b
         let h = right.light 2000000 (subst (λ (ns : List (List ℕ)). IsCutOver ns (circuit_of b)) (no_names expose names choice ∙ sym none_right) over) in
         omega (arith, h, few_right)
 
+-- two texts whose nets are small and have no cycles
+pub comparable_by : (x y : List ℕ) (s t : Small) → IsAccepted x → IsAccepted y → ((net : NetView) → Loads x net → IsSmall s net) → ((net : NetView) → Loads y net → IsSmall t net) → PortsMatch s t → s.removed ≡ [] → t.removed ≡ [] →
+    s.weight ≤ 2000000 → t.weight ≤ 2000000 → (expose : Bool) → AreComparable x y expose false
+comparable_by x y s t left right left_small right_small same none_left none_right few_left few_right expose = record {
+  left = left;
+  right = right;
+  match = λ a b la lb. match s t a b (left_small a la) (right_small b lb) same;
+  broken = λ a b la lb. broken s t a b (left_small a la) (right_small b lb) none_left none_right expose;
+  light = λ a b la lb. light s t a b (left_small a la) (right_small b lb) none_left none_right few_left few_right expose;
+}
+
 -- two texts of small designs without cycles
 pub comparable : (x y : List ℕ) (m k : List BlifModel) (s t : Small) → Spells x m s → Spells y k t → PortsMatch s t → s.removed ≡ [] → t.removed ≡ [] → s.weight ≤ 2000000 → t.weight ≤ 2000000 → (expose : Bool) → AreComparable x y expose false
-comparable x y m k s t p q same none_left none_right few_left few_right expose = record {
-  left = accepted x m s p;
-  right = accepted y k t q;
-  match = λ a b la lb. match s t a b (net_is_small x m s p a la) (net_is_small y k t q b lb) same;
-  broken = λ a b la lb. broken s t a b (net_is_small x m s p a la) (net_is_small y k t q b lb) none_left none_right expose;
-  light = λ a b la lb. light s t a b (net_is_small x m s p a la) (net_is_small y k t q b lb) none_left none_right few_left few_right expose;
-}
+comparable x y m k s t p q same none_left none_right few_left few_right expose =
+    comparable_by x y s t (accepted x m s p) (accepted y k t q) (net_is_small x m s p) (net_is_small y k t q) same none_left none_right few_left few_right expose
 
 -- such a text can be unfolded
 pub unfolded : (x : List ℕ) (m : List BlifModel) (s : Small) → Spells x m s → s.removed ≡ [] → s.weight ≤ 2000000 → CanBeUnfolded x

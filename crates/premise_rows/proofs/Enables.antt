@@ -36,7 +36,9 @@ use Rattle.witness_report.specs.Text.{stimulus_text}
 use Rattle.sim_report.specs.declared.refusal.Misfit.{Misfit}
 use Rattle.sim_report.specs.declared.refusal.Misfit.TheVariants as misfit
 use Rattle.sim_report.specs.Checks.{is_power, named_misfit, first_misfit}
+use Rattle.sec_files.specs.Formats.{Blif}
 use Rattle.sec_files.specs.Loading.{Loads}
+use Rattle.sec_files.proofs.Texts.{text_net}
 use Rattle.sec_files.specs.Stimuli.{IsStimulus}
 use Rattle.design_rows.specs.Designs as design
 use Rattle.design_rows.specs.Designs.{same_cover, not_cover}
@@ -108,6 +110,7 @@ pub held_spells : Spells held held_design small_held
 unfolding fault_of head_of cut_line going_on
 held_spells = record {
   short = omega arith;
+  format = refl;
   faultless = refl;
   models_are = refl;
   small = (tested_is_sound (codes "n" ∷ []) held_design held_sound, tested_is_small held_design small_held flat_rank held_spots held_passes);
@@ -174,7 +177,7 @@ held_is_one = record {
 
 -- the nets of a text that spells a design
 flat_of : (text : List ℕ) (models : List BlifModel) (s : Small) → Spells text models s → (net : NetView) → Loads text net → IsFlatOf models net
-flat_of text models s spells net l = subst (λ (ms : List BlifModel). IsFlatOf ms net) spells.models_are l.flat
+flat_of text models s spells net l = subst (λ (ms : List BlifModel). IsFlatOf ms net) spells.models_are (text_net text net l Blif spells.format)
 
 -- one latch where the names of one are counted
 one_counted : (s : Small) (net : NetView) → IsSmall s net → length s.latches ≡ 1 → length net.latches ≡ 1
@@ -231,7 +234,7 @@ toggle_no_clock = refl
 
 toggle_spells : Spells toggle design.toggle small_toggle
 unfolding fault_of head_of cut_line going_on
-toggle_spells = record { short = omega arith; faultless = refl; models_are = refl; small = toggle_is_small.0 }
+toggle_spells = record { short = omega arith; format = refl; faultless = refl; models_are = refl; small = toggle_is_small.0 }
 
 -- one of the three
 data IsOfToggle (e : Equation Place) : Type 0 where

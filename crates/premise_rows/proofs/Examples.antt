@@ -19,7 +19,9 @@ use Rattle.sec_setup.specs.Cycles.{AreBroken}
 use Rattle.sec_check.specs.Compared.{AreTooLarge}
 use Rattle.sec_setup.specs.Cuts.{IsChoice}
 use Rattle.sec_check.specs.Fitting.{IsCutOver}
+use Rattle.sec_files.specs.Formats.{Blif}
 use Rattle.sec_files.specs.Loading.{Loads}
+use Rattle.sec_files.proofs.Texts.{text_net}
 use Rattle.design_rows.specs.Designs as design
 use Rattle.design_rows.specs.Small.{small_and, small_late, small_early, small_two, small_toggle, small_idle, IsSmall}
 use Rattle.design_rows.proofs.Examples.{on_and_is_small, off_and_is_small, late_is_small, early_is_small, hier_is_small, two_is_small, idle_is_small}
@@ -30,35 +32,35 @@ use Rattle.premise_rows.proofs.Comparing.{Spells, accepted, net_is_small, match,
 
 pub on_and_spells : Spells on_and design.on_and small_and
 unfolding fault_of head_of cut_line going_on
-on_and_spells = record { short = omega arith; faultless = refl; models_are = refl; small = on_and_is_small }
+on_and_spells = record { short = omega arith; format = refl; faultless = refl; models_are = refl; small = on_and_is_small }
 
 pub off_and_spells : Spells off_and design.off_and (record small_and { weight = 9 })
 unfolding fault_of head_of cut_line going_on
-off_and_spells = record { short = omega arith; faultless = refl; models_are = refl; small = off_and_is_small }
+off_and_spells = record { short = omega arith; format = refl; faultless = refl; models_are = refl; small = off_and_is_small }
 
 pub late_spells : Spells late design.late small_late
 unfolding fault_of head_of cut_line going_on
-late_spells = record { short = omega arith; faultless = refl; models_are = refl; small = late_is_small }
+late_spells = record { short = omega arith; format = refl; faultless = refl; models_are = refl; small = late_is_small }
 
 pub early_spells : Spells early design.early small_early
 unfolding fault_of head_of cut_line going_on
-early_spells = record { short = omega arith; faultless = refl; models_are = refl; small = early_is_small }
+early_spells = record { short = omega arith; format = refl; faultless = refl; models_are = refl; small = early_is_small }
 
 hier_spells : Spells hier design.hier small_late
 unfolding fault_of head_of cut_line going_on
-hier_spells = record { short = omega arith; faultless = refl; models_are = refl; small = hier_is_small }
+hier_spells = record { short = omega arith; format = refl; faultless = refl; models_are = refl; small = hier_is_small }
 
 pub two_spells : Spells two design.two small_two
 unfolding fault_of head_of cut_line going_on
-two_spells = record { short = omega arith; faultless = refl; models_are = refl; small = two_is_small }
+two_spells = record { short = omega arith; format = refl; faultless = refl; models_are = refl; small = two_is_small }
 
 idle_spells : Spells idle design.idle small_idle
 unfolding fault_of head_of cut_line going_on
-idle_spells = record { short = omega arith; faultless = refl; models_are = refl; small = idle_is_small }
+idle_spells = record { short = omega arith; format = refl; faultless = refl; models_are = refl; small = idle_is_small }
 
 pub toggle_spells : Spells toggle design.toggle small_toggle
 unfolding fault_of head_of cut_line going_on
-toggle_spells = record { short = omega arith; faultless = refl; models_are = refl; small = toggle_is_small.0 }
+toggle_spells = record { short = omega arith; format = refl; faultless = refl; models_are = refl; small = toggle_is_small.0 }
 
 pub ands_are_comparable : AndsAreComparable
 ands_are_comparable =
@@ -79,7 +81,7 @@ module _ (a b : NetView) (la : Loads toggle a) (lb : Loads toggle b) where
   right = net_is_small toggle design.toggle small_toggle toggle_spells b lb
 
   cyclic : HasCycle (circuit_of a) NoneEnabled []
-  cyclic = toggle_is_small.1 a (subst (λ (ms : List BlifModel). IsFlatOf ms a) toggle_spells.models_are la.flat)
+  cyclic = toggle_is_small.1 a (subst (λ (ms : List BlifModel). IsFlatOf ms a) toggle_spells.models_are (text_net toggle a la Blif toggle_spells.format))
 
   common_is : common_names (circuit_of a) (circuit_of b) ≡ codes "q" ∷ []
   common_is = ap₂ (λ (own others : List (List ℕ)). filter (is_among others) own) left.latches right.latches

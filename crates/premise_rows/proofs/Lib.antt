@@ -1,4 +1,6 @@
 pub mod Comparing
+pub mod AndFile
+pub mod FileNets
 pub mod ConeWeights
 pub mod Unate
 pub mod OneLatch

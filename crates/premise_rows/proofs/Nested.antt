@@ -21,7 +21,7 @@ use Rattle.premise_rows.proofs.Comparing.{Spells, accepted}
 
 spells : Spells nested design.nested small_nested
 unfolding fault_of head_of cut_line going_on
-spells = record { short = omega arith; faultless = refl; models_are = refl; small = nested_is_small }
+spells = record { short = omega arith; format = refl; faultless = refl; models_are = refl; small = nested_is_small }
 
 no_places : clock_places design.nested ≡ []
 unfolding walk

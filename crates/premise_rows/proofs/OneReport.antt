@@ -16,7 +16,6 @@ use Rattle.circuit_theory.specs.Places.{IsPlace}
 use Rattle.circuit_theory.specs.Run.{NoneEnabled}
 use Rattle.circuit_theory.proofs.Lists.{Contains-head, Contains-tail, Contains-map, Contains-map_from, map-map, map_at, of_at}
 use Rattle.circuit_theory.proofs.Numbers.{slice_get-map}
-use Rattle.blif_read.specs.Reading.{spelled}
 use Rattle.flat_net.specs.declared.parts.Gate.{Gate as NetGate}
 use Rattle.flat_net.specs.declared.parts.LatchAt.{LatchAt}
 use Rattle.flat_net.specs.Sound.{IsSound}
@@ -25,7 +24,7 @@ use Rattle.sec_base.specs.declared.basics.Init.{Init}
 use Rattle.sec_base.specs.declared.basics.Init.TheVariants as init
 use Rattle.net_alike.specs.Renumbered.{latch_rows, AreRenumbered}
 use Rattle.net_alike.proofs.Carrying.{depth_carried, no_depth_carried, run_carried, mark_carried}
-use Rattle.flatten.proofs.OneNets.{nets_are_one}
+use Rattle.sec_files.proofs.Texts.{one_text_net, text_sound}
 use Rattle.latch_cone.specs.declared.kinds.LatchKind.{LatchKind}
 use Rattle.latch_cone.specs.declared.kinds.LatchKind.TheVariants as kind
 use Rattle.latch_cone.specs.Kinds.{IsKindIn}
@@ -265,9 +264,9 @@ module _ (a b : NetView) (to back : ℕ → ℕ) (r : AreRenumbered (circuit_of 
     }
 
 pub graph_reports_are_one : GraphReportsAreOne
-graph_reports_are_one text a b la lb left right x y = let one = nets_are_one (spelled text) a b la.flat lb.flat in one_graph a b one.to one.back one.circuits left right x y
+graph_reports_are_one text a b la lb left right x y = let one = one_text_net text a b la lb in one_graph a b one.to one.back one.circuits left right x y
 
 pub sim_reports_are_one : SimReportsAreOne
 sim_reports_are_one text a b la lb stimulus names rows s power fits reset left right x y =
-    let one = nets_are_one (spelled text) a b la.flat lb.flat in
-    one_report b lb.flat.sound names rows s.form.names_are.distinct s.form.rows_are power reset fits Plain left right (report_there a b one.to one.back one.circuits la.flat.sound lb.flat.sound names rows power reset left x) y
+    let one = one_text_net text a b la lb in
+    one_report b (text_sound text b lb) names rows s.form.names_are.distinct s.form.rows_are power reset fits Plain left right (report_there a b one.to one.back one.circuits (text_sound text a la) (text_sound text b lb) names rows power reset left x) y

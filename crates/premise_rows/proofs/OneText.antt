@@ -34,7 +34,6 @@ use Rattle.net_alike.proofs.Carrying.{forth}
 use Rattle.net_alike.proofs.Cutting.{cut_carried, filter_in, tree_forth}
 use Rattle.flatten.specs.DesignFaults.{IsFlatOf}
 use Rattle.flatten.specs.OneNet.{AreOneNet}
-use Rattle.flatten.proofs.OneNets.{nets_are_one}
 use Rattle.design_laws.proofs.KeptNames.{names_are_kept}
 use Rattle.sec_base.specs.declared.basics.PairAnswer.{PairAnswer}
 use Rattle.sec_base.specs.declared.basics.PairAnswer.TheVariants as answer
@@ -57,7 +56,9 @@ use Rattle.sec_check.specs.Fitting.{IsCutOver, OutcomeFits}
 use Rattle.sec_setup.proofs.CutNets.{same_as_cut, cut_numbers}
 use Rattle.sec_check.proofs.CutPairs.{IsOutputPair, IsNextPair, one_output, listed_is}
 use Rattle.sec_setup.proofs.SameEquations.{same_tree}
+use Rattle.sec_files.specs.Formats.{Format, Blif, Aiger, format_of, IsNetIn}
 use Rattle.sec_files.specs.Loading.{Loads}
+use Rattle.sec_files.proofs.Texts.{text_sound, text_comparable, one_text_net}
 use Rattle.premise_rows.specs.OneText.{OneTextIsEqual, CanBeUnfolded, UnfoldedIsComparable}
 
 -- the main input that the clock comes from is no input of a net
@@ -68,6 +69,13 @@ unclocked models net f name h =
     let n = Contains-map_from design.at_top (filter (λ n. not (design.is_clock net.clock n)) (main_inputs models)) i.0 i.1 in
     let same : n.0 ≡ name = ap (λ (x : Named Place). x.name) n.2 ∙ i.2 in
     subst (λ (w : List ℕ). not (design.is_clock net.clock w) ≡ true) same (filter_test (λ n. not (design.is_clock net.clock n)) (main_inputs models) n.0 n.1)
+
+unclocked_in : (text : List ℕ) (net : NetView) (format : Format) → IsNetIn format text net → (name : List ℕ) → Contains (ports_of net).inputs name → not (design.is_clock net.clock name) ≡ true
+unclocked_in text net Blif n name h = unclocked (spelled text) net n name h
+unclocked_in text net Aiger n name h = ap (λ (clock : Option (List ℕ)). not (design.is_clock clock name)) n.2.clock
+
+text_unclocked : (text : List ℕ) (net : NetView) → Loads text net → (name : List ℕ) → Contains (ports_of net).inputs name → not (design.is_clock net.clock name) ≡ true
+text_unclocked text net loads name h = unclocked_in text net (format_of text) loads.flat name h
 
 -- both ways to look for a clock's name are one
 no_clock : (clock : Option (List ℕ)) (ports : Ports) (name : List ℕ) → ports.clock ≡ clock → not (design.is_clock clock name) ≡ true → is_clock ports name ≡ false
@@ -83,11 +91,11 @@ no_clock clock ports name same off = go ports.clock same
             let on : bytes_eq c name ≡ true = (bytes_eq-Decides c name).1 (same_name-sound c name q) in
             absurd (true≢false (sym off ∙ ap (λ (k : Option (List ℕ)). not (design.is_clock k name)) (sym e) ∙ ap not on))
 
-module _ (models : List BlifModel) (a b : NetView) (f : IsFlatOf models a) (one : AreOneNet a b) where
+module _ (text : List ℕ) (a b : NetView) (la : Loads text a) (one : AreOneNet a b) where
   -- each input is shared
   shared_is : (name : List ℕ) → Contains (ports_of a).inputs name → Contains (shared_inputs (ports_of a) (ports_of b)) name
   shared_is name h =
-      let off : is_clock (ports_of b) name ≡ false = no_clock a.clock (ports_of b) name (ap (λ (p : Ports). p.clock) (sym one.ports)) (unclocked models a f name h) in
+      let off : is_clock (ports_of b) name ≡ false = no_clock a.clock (ports_of b) name (ap (λ (p : Ports). p.clock) (sym one.ports)) (text_unclocked text a la name h) in
       filter_in (λ n. not (is_clock (ports_of b) n && not (is_among (ports_of a).read n))) (ports_of a).inputs name h
       (ap (λ (t : Bool). not (t && not (is_among (ports_of a).read name))) off)
 
@@ -152,7 +160,7 @@ same_numbers names columns left right l r all = same_lists left right (l.each �
         let at = at_of columns name.0 (all name.0 (of_at names k name.0 name.1)) in
         get_or_from_slice_get left k at.0 d (l.common k at.0 name.0 name.1 at.1) ∙ sym (get_or_from_slice_get right k at.0 d (r.common k at.0 name.0 name.1 at.1))
 
-module _ (models : List BlifModel) (a b : NetView) (f : IsFlatOf models a) (g : IsFlatOf models b) (one : AreOneNet a b) (expose : Bool) (conflicts : ℕ) (o : Outcome) (fits : OutcomeFits a b expose conflicts o) where
+module _ (text : List ℕ) (a b : NetView) (la : Loads text a) (lb : Loads text b) (one : AreOneNet a b) (expose : Bool) (conflicts : ℕ) (o : Outcome) (fits : OutcomeFits a b expose conflicts o) where
   abbrev left_circuit : Circuit ℕ
   left_circuit = cut o.exposed (circuit_of a)
 
@@ -179,7 +187,7 @@ module _ (models : List BlifModel) (a b : NetView) (f : IsFlatOf models a) (g : 
       by : (i : Named ℕ) → Contains (circuit_of a).inputs (record { name = i.name; place = i.place }) ⊎ (Contains o.exposed i.name × ((next : ℕ) × IsLatch (circuit_of a) i.name i.place next)) → Contains columns i.name
       by i (inl k) =
           Contains-append_left (shared_inputs (ports_of a) (ports_of b)) o.exposed i.name
-          (shared_is models a b f one i.name (subst (λ (ns : List (List ℕ)). Contains ns i.name) (map-map (λ (m : Named ℕ). m.name) named a.inputs) (Contains-map (λ (m : Named ℕ). m.name) (circuit_of a).inputs i k)))
+          (shared_is text a b la one i.name (subst (λ (ns : List (List ℕ)). Contains ns i.name) (map-map (λ (m : Named ℕ). m.name) named a.inputs) (Contains-map (λ (m : Named ℕ). m.name) (circuit_of a).inputs i k)))
       by i (inr l) = Contains-append_right (shared_inputs (ports_of a) (ports_of b)) o.exposed i.name l.0
 
   all_right : (name : List ℕ) → Contains (names_in right_circuit) name → Contains columns name
@@ -203,13 +211,13 @@ module _ (models : List BlifModel) (a b : NetView) (f : IsFlatOf models a) (g : 
       where
         by : IsOutputPair (circuit_of a) (circuit_of b) x ⊎ IsNextPair o.exposed (circuit_of a) (circuit_of b) x → one.to x.left ≡ x.right
         by (inl p) =
-            one_output b g.distinct p.name (one.to x.left) x.right ((forth (circuit_of a) (circuit_of b) one.to one.back one.circuits).output p.name x.left p.left_output) p.right_output
+            one_output b (text_comparable text b lb).distinct p.name (one.to x.left) x.right ((forth (circuit_of a) (circuit_of b) one.to one.back one.circuits).output p.name x.left p.left_output) p.right_output
         by (inr p) =
             let u = p.left_latch in
             let v = p.right_latch in
             let there : IsLatch (circuit_of b) p.name (one.to u.0) (one.to x.left) = one.circuits.there (Latch p.name u.0 x.left) u.1 in
-            let same : one.to u.0 ≡ v.0 = (sound_names b g.sound).latches p.name (one.to u.0) (one.to x.left) v.0 x.right there v.1 in
-            let e : Latch p.name (one.to u.0) (one.to x.left) ≡ Latch p.name v.0 x.right = (sound_is_net b g.sound).single.one (Latch p.name (one.to u.0) (one.to x.left)) (Latch p.name v.0 x.right) there v.1 same in
+            let same : one.to u.0 ≡ v.0 = (sound_names b (text_sound text b lb)).latches p.name (one.to u.0) (one.to x.left) v.0 x.right there v.1 in
+            let e : Latch p.name (one.to u.0) (one.to x.left) ≡ Latch p.name v.0 x.right = (sound_is_net b (text_sound text b lb)).single.one (Latch p.name (one.to u.0) (one.to x.left)) (Latch p.name v.0 x.right) there v.1 same in
             cc
 
     one_tree_each : HaveOneTree (circuit_of fits.left_cut) (circuit_of fits.right_cut) fits.left fits.right x.left x.right
@@ -219,7 +227,7 @@ module _ (models : List BlifModel) (a b : NetView) (f : IsFlatOf models a) (g : 
         let here : Unfolds right_circuit fits.right x.right 0 d s =
         subst (λ (p : ℕ). Unfolds right_circuit fits.right p 0 d s) right_is (subst (λ (order : List ℕ). Unfolds right_circuit order (one.to x.left) 0 d s) same_order there) in
         let other : Unfolds right_circuit fits.right x.right 0 e t = same_tree (circuit_of fits.right_cut) right_circuit (same_as_cut o.exposed (circuit_of b) (circuit_of fits.right_cut) fits.are_cut.right_circuit) right in
-        (one_tree right_circuit fits.right (cut_single o.exposed (circuit_of b) (sound_is_net b g.sound).single) (one_number b g.sound o.exposed columns fits.right fits.left right_numbers all_right) here other).0
+        (one_tree right_circuit fits.right (cut_single o.exposed (circuit_of b) (sound_is_net b (text_sound text b lb)).single) (one_number b (text_sound text b lb) o.exposed columns fits.right fits.left right_numbers all_right) here other).0
 
 -- one function doesn't differ from itself
 no_difference : (a b : Circuit ℕ) (left right : List ℕ) (p q : ℕ) → HaveOneTree a b left right p q → HaveDifferentFunctions a b left right p q → ⊥
@@ -260,7 +268,7 @@ module _ (text : List ℕ) (a b : NetView) (la : Loads text a) (lb : Loads text 
   each_equal r h =
       let x = beside (PairFits (circuit_of fits.left_cut) (circuit_of fits.right_cut) fits.left fits.right (is_cut o.exposed) settings.conflicts) pairs o.pairs fits.pairs r h in
       only_equal (circuit_of fits.left_cut) (circuit_of fits.right_cut) fits.left fits.right (is_cut o.exposed) settings.conflicts x.0.left x.0.right
-      (one_tree_each (spelled text) a b la.flat lb.flat (nets_are_one (spelled text) a b la.flat lb.flat) settings.expose settings.conflicts o fits x.0 x.1)
+      (one_tree_each text a b la lb (one_text_net text a b la lb) settings.expose settings.conflicts o fits x.0 x.1)
       r.answer r.proof x.2.answer_is
 
   -- so a result with another answer isn't there
@@ -317,7 +325,7 @@ pub unfolded_is_comparable : UnfoldedIsComparable
 unfolded_is_comparable text p expose = record {
   left = p.accepted;
   right = p.accepted;
-  match = λ a b la lb. ap (λ (ports : Ports). first_mismatch (ports_of a) ports) (sym (nets_are_one (spelled text) a b la.flat lb.flat).ports) ∙ self_match (ports_of a);
+  match = λ a b la lb. ap (λ (ports : Ports). first_mismatch (ports_of a) ports) (sym (one_text_net text a b la lb).ports) ∙ self_match (ports_of a);
   broken = λ a b la lb. broken text p a b la lb expose;
   light = λ a b la lb. light text p a b la lb expose;
 }

@@ -180,6 +180,7 @@ late_from_spells : Spells late_from_zero late_design small_late
 unfolding fault_of head_of cut_line going_on
 late_from_spells = record {
   short = omega arith;
+  format = refl;
   faultless = refl;
   models_are = refl;
   small = (tested_is_sound (codes "n" ∷ []) late_design late_sound, tested_is_small late_design small_late (rank_of (codes "y" ∷ [])) late_spots late_passes);
@@ -189,6 +190,7 @@ early_from_spells : Spells early_from_zero early_design small_early
 unfolding fault_of head_of cut_line going_on
 early_from_spells = record {
   short = omega arith;
+  format = refl;
   faultless = refl;
   models_are = refl;
   small = (tested_is_sound (codes "y" ∷ []) early_design early_sound, tested_is_small early_design small_early early_rank early_spots early_passes);

@@ -19,11 +19,11 @@ use Rattle.premise_rows.proofs.Comparing.{Spells, net_is_small, latch_in}
 
 first_spells : Spells ring design.ring (small_ring (codes "p") 6)
 unfolding fault_of head_of cut_line going_on
-first_spells = record { short = omega arith; faultless = refl; models_are = refl; small = ring_is_small.0 }
+first_spells = record { short = omega arith; format = refl; faultless = refl; models_are = refl; small = ring_is_small.0 }
 
 second_spells : Spells ring design.ring (small_ring (codes "q") 5)
 unfolding fault_of head_of cut_line going_on
-second_spells = record { short = omega arith; faultless = refl; models_are = refl; small = ring_is_small.1 }
+second_spells = record { short = omega arith; format = refl; faultless = refl; models_are = refl; small = ring_is_small.1 }
 
 module _ (net : NetView) (l : Loads ring net) where
   first : IsSmall (small_ring (codes "p") 6) net

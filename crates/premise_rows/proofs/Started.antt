@@ -19,7 +19,9 @@ use Rattle.design_laws.proofs.NoFaults.{tested_is_sound}
 use Rattle.design_rows.specs.Designs.{one_model}
 use Rattle.cycle_sim.specs.Runs.{initial_or, reset_bits}
 use Rattle.sim_report.specs.Checks.{power_of}
+use Rattle.sec_files.specs.Formats.{Blif}
 use Rattle.sec_files.specs.Loading.{Loads}
+use Rattle.sec_files.proofs.Texts.{text_net}
 use Rattle.premise_rows.specs.Started.{StartedPowersUp}
 use Rattle.premise_rows.specs.Texts.{started}
 
@@ -60,7 +62,7 @@ reset_by (l ∷ latches) (bit ∷ bits) = ap (λ (bs : List Bool). initial_or l.
 
 module _ (net : NetView) (loads : Loads started net) where
   inits : map (λ (l : LatchAt). l.init) net.latches ≡ init.One ∷ init.Zero ∷ init.DontCare ∷ []
-  inits = loads.flat.inits ∙ (ap inits_of spells ∙ initial_values)
+  inits = (text_net started net loads Blif refl).inits ∙ (ap inits_of spells ∙ initial_values)
 
   count : length net.latches ≡ 3
   count = sym (length-map net.latches (λ (l : LatchAt). l.init)) ∙ ap length inits

@@ -1,5 +1,6 @@
 pub mod Texts
 pub mod Premises
+pub mod AndFile
 pub mod RuledOut
 pub mod Stimuli
 pub mod Enables

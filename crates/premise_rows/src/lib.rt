@@ -4,6 +4,7 @@
 ghost use Rattle.std.specs.Prelude.{◌≢◌, map, string_bytes};
 ghost use Rattle.command_line.specs.Jobs.{job_of};
 ghost use Rattle.job_check.specs.Answer.{AreComparable};
+ghost use Rattle.premise_rows.specs.AndFile.{FileIsComparable};
 ghost use Rattle.premise_rows.specs.OneText.{OneTextIsEqual, UnfoldedIsComparable, OfCheck, OfOneText, IsEqualAnswer};
 ghost use Rattle.premise_rows.specs.OneReport.{GraphReportsAreOne, SimReportsAreOne};
 ghost use Rattle.premise_rows.specs.Premises.{AndsAreComparable, RetimedAreComparable, HierarchyIsComparable, CyclicAreComparable, TextsAreAccepted, TextsCanBeUnfolded, RingIsCutOnce};
@@ -24,6 +25,11 @@ use std::alloc::Global;
 /// Two `and`s, by other rows, can be compared.
 pub fn ands_are_comparable()
     ensures { AndsAreComparable }
+{}
+
+/// An `and` as an AIGER file and as a BLIF text can be compared.
+pub fn file_is_comparable()
+    ensures { FileIsComparable }
 {}
 
 /// An `and` with a latch behind it, and the same with a latch at each input, can be compared.

@@ -1,6 +1,7 @@
 pub mod CutDesigns
-pub mod DesignLatches
-pub mod DesignPlaces
 pub mod Designs
 pub mod Loaded
+pub mod OneNamed
+pub mod Portless
 pub mod StimulusTexts
+pub mod Texts
