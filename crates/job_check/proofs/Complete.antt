@@ -68,6 +68,7 @@ module _ (held : Held) (check : Check) (told : AreTold held check) where
   no_refusal (refusal.Interface name) h = let n = of_texts _ h in no_fault _ (sym (told.comparable.match n.0 n.1 n.2 n.3) ∙ n.4)
   no_refusal (refusal.TooLarge side) h = let n = of_texts _ h in told.comparable.light n.0 n.1 n.2 n.3 side n.4.2
   no_refusal (refusal.Misfit m) h = h
+  no_refusal (refusal.Pair name) h = h
 
   no_cycle : (side : Side) (names : List (List ℕ)) → IsFoundOf held check (finding.Cyclic side names) → ⊥
   no_cycle A names h =
@@ -98,6 +99,7 @@ module _ (held : Held) (check : Check) (told : AreTold held check) where
   has_verdict (finding.Done report) h = absurd h
   has_verdict (finding.Generated o report) h = absurd h
   has_verdict (finding.Replayed differences) h = absurd h
+  has_verdict (finding.Unrefuted u) h = absurd h
   has_verdict (finding.Undecided side name proof) h = absurd h
   has_verdict (finding.Checked o s) h = go o.verdict
     where

@@ -15,6 +15,7 @@ ghost use Rattle.premise_rows.specs.Started.{StartedPowersUp};
 ghost use Rattle.premise_rows.specs.Enables.{EnablesMeetPremises};
 ghost use Rattle.premise_rows.specs.Replays.{ReplaysMeetPremises};
 ghost use Rattle.premise_rows.specs.Refutations.{UnitsAreRefuted, PairsAreRefuted};
+ghost use Rattle.premise_rows.specs.Certificates.{CertificatesMeetPremises};
 ghost use Rattle.premise_rows.specs.TextNets.{TextNetsAreOne, ToldCyclesAreOne, OneNetIsEnough};
 
 use sec_base::{Shelf, Sink};
@@ -95,6 +96,11 @@ pub fn replays_meet_premises()
 pub fn refutations_are_checked()
     ensures units { UnitsAreRefuted }
     ensures pairs { PairsAreRefuted }
+{}
+
+/// Two `and`s, and a circuit with the same retimed, have certificates of their output.
+pub fn certificates_meet_premises()
+    ensures { CertificatesMeetPremises }
 {}
 
 /// A text loads as one net, up to the numbers of its signals.
