@@ -53,7 +53,8 @@ fn refute(alloc: Global, cnf: Cnf, conflicts: u32) -> Result<Finding, NoMemory>
     requires conflicts { conflicts ≤ MAX_CONFLICTS }
     ensures { IfOk result (IsSearched conflicts cnf) }
 {
-    match search(alloc, &cnf.clauses, cnf.variables, conflicts)? {
+    let found = search(alloc, &cnf.clauses, cnf.variables, conflicts)?;
+    match found {
         Found::Model(_) => Ok(Finding::Unrefuted(Unrefuted::Satisfiable)),
         Found::Refuted(log) => {
             let text = write_lrat(alloc, &cnf, &log)?;

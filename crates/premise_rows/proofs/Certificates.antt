@@ -25,7 +25,7 @@ output_named s net name small there =
     let found : IsOutput (circuit_of net) o.0.name o.0.signal.0 = Contains-map named net.outputs o.0 o.1 in
     (o.0.signal.0, subst (λ (n : List ℕ). IsOutput (circuit_of net) n o.0.signal.0) o.2 found)
 
-certifiable : (x y : List ℕ) (m : List BlifModel) (s : Small) (name : List ℕ) → Spells x m s → Contains s.outputs name → AreComparable x y false → AreCertifiable x y name
+certifiable : (x y : List ℕ) (m : List BlifModel) (s : Small) (name : List ℕ) → Spells x m s → Contains s.outputs name → AreComparable x y false false → AreCertifiable x y name
 certifiable x y m s name spells there c = record {
   left = c.left;
   right = c.right;
