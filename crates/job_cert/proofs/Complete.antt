@@ -5,7 +5,7 @@ use Rattle.std.proofs.lemmas.Option.{none-some}
 use Rattle.circuit_theory.specs.declared.Side.TheVariants.{A, B}
 use Rattle.cnf_encode.specs.declared.cnf.Cnf.{Cnf}
 use Rattle.flat_net.specs.View.{circuit_of}
-use Rattle.job_check.proofs.ToldCycles.{is_not_free}
+use Rattle.sec_check.proofs.ToldCycles.{is_not_free}
 use Rattle.sec_files.specs.Loading.{IsAccepted, Loads, IsTooLong, HasFault, HasDesignFault}
 use Rattle.pair_clauses.specs.Clauses.{IsOutput}
 use Rattle.job_base.specs.declared.finding.File.TheVariants as file

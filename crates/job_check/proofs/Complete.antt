@@ -22,7 +22,7 @@ use Rattle.job_files.proofs.Reading.{some_and, if_told}
 use Rattle.job_check.specs.Check.{Check}
 use Rattle.job_check.specs.Found.{OfTexts, IsRefusal, IsFoundOf}
 use Rattle.job_check.specs.Answer.{AreComparable, CanAnswer, IsAnswer}
-use Rattle.job_check.proofs.ToldCycles.{is_not_free}
+use Rattle.sec_check.proofs.ToldCycles.{is_not_free}
 
 -- the two texts that are told
 record AreTold (held : Held) (check : Check) : Type 0 where
