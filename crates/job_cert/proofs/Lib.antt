@@ -1,4 +1,4 @@
 pub mod Complete
 pub mod Finds
 pub mod Means
-pub mod Making
+pub mod Certified

@@ -2,7 +2,7 @@
 use Rattle.std.proofs.Common.{refl, subst}
 use Rattle.sat_search.specs.Found.{IsFound, assignment_of}
 use Rattle.sat_search.specs.declared.outcome.Found.TheVariants as found
-use Rattle.job_cert.proofs.Making.{writable}
+use Rattle.job_cert.proofs.Certified.{writable}
 use Rattle.job_cert.proofs.making.refute.Goals as goal
 
 pub write_lrat-requires-clause-writable : goal.write_lrat-requires-clause-writable
