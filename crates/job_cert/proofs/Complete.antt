@@ -1,13 +1,10 @@
 -- Where there is a certificate, it is found.
 use Rattle.std.specs.Prelude.{IfSome, IsSomeAnd}
-use Rattle.std.proofs.Common.{◌≡◌, ℕ, Bool, true, false, List, [], refl, sym, ◌∙◌, subst, arith, inl, inr, Option, Some, None}
+use Rattle.std.proofs.Common.{◌≡◌, ℕ, Bool, true, false, List, [], refl, sym, ◌∙◌, arith, inl, inr, Option, Some, None}
 use Rattle.std.proofs.lemmas.Option.{none-some}
 use Rattle.circuit_theory.specs.declared.Side.TheVariants.{A, B}
-use Rattle.cnf_encode.specs.declared.cnf.Cnf.{Cnf}
-use Rattle.flat_net.specs.View.{circuit_of}
 use Rattle.sec_check.proofs.ToldCycles.{is_not_free}
 use Rattle.sec_files.specs.Loading.{IsAccepted, Loads, IsTooLong, HasFault, HasDesignFault}
-use Rattle.pair_clauses.specs.Clauses.{IsOutput}
 use Rattle.job_base.specs.declared.finding.File.TheVariants as file
 use Rattle.job_base.specs.declared.finding.LineFault.TheVariants as line_fault
 use Rattle.job_base.specs.declared.finding.Refusal.{Refusal}
@@ -53,7 +50,7 @@ module _ (request : Request) (left right : Option (List ℕ)) (x y : List ℕ) (
   stands (refusal.Misfit m) h = h
   stands (refusal.Pair name) h =
       let output = can.named h.a h.b (of_left (λ t. Loads t h.a) h.left_loads) (of_right (λ t. Loads t h.b) h.right_loads) in
-      h.said.2 output.0 (subst (λ (n : List ℕ). IsOutput (circuit_of h.a) n output.0) (sym h.said.0) output.1)
+      h.said.2 output.0 output.1
 
   answered : (f : Finding) → IsCertFound request left right f → IsCertAnswer request.refuted (status_of f)
   answered finding.Words h = absurd h
