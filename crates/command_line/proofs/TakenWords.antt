@@ -1,7 +1,7 @@
 -- Words that are written out, computed.
 use Rattle.std.proofs.Common.{refl}
 use Rattle.clap.proofs.OnLiterals.{clap_on_literals}
-use Rattle.command_line.specs.Known.{CheckIsTaken, GraphIsTaken, SimIsTaken, ReplayIsTaken, GenIsTaken, LratIsTaken, ResetIsTaken, OtherModeIsNoJob, ResetIsNoJob}
+use Rattle.command_line.specs.Known.{CheckIsTaken, GraphIsTaken, SimIsTaken, ReplayIsTaken, GenIsTaken, LratIsTaken, CertIsTaken, ResetIsTaken, OtherModeIsNoJob, OtherFormIsNoJob, ResetIsNoJob}
 
 pub check_is_taken : CheckIsTaken
 unfolding clap_on_literals
@@ -27,6 +27,10 @@ pub lrat_is_taken : LratIsTaken
 unfolding clap_on_literals
 lrat_is_taken = (refl, refl)
 
+pub cert_is_taken : CertIsTaken
+unfolding clap_on_literals
+cert_is_taken = (refl, refl)
+
 pub reset_is_taken : ResetIsTaken
 unfolding clap_on_literals
 reset_is_taken = ((refl, refl), refl)
@@ -34,6 +38,10 @@ reset_is_taken = ((refl, refl), refl)
 pub other_is_no_job : OtherModeIsNoJob
 unfolding clap_on_literals
 other_is_no_job = (refl, refl)
+
+pub form_is_no_job : OtherFormIsNoJob
+unfolding clap_on_literals
+form_is_no_job = (refl, refl)
 
 pub reset_is_no_job : ResetIsNoJob
 unfolding clap_on_literals

@@ -67,6 +67,19 @@ gen_in rows =
 abbrev pub lrat_in : List Row → Option Task
 lrat_in rows = with_word (codes "f") rows (λ f. option_map (λ l. task.Lrat f l) (first_of (codes "l") rows))
 
+-- a refutation is wanted, and not the clauses
+abbrev pub form_of : Text → Option Bool
+form_of word = if bytes_eq word (codes "lrat") then Some true else if bytes_eq word (codes "cnf") then Some false else None
+
+-- the form of a certificate that the words name
+abbrev pub form_in : List Row → Option Bool
+form_in rows = option_and_then form_of (first_of (codes "form") rows)
+
+abbrev pub cert_in : List Row → Option Task
+cert_in rows =
+    with_word (codes "a") rows (λ a. with_word (codes "b") rows (λ b. with_word (codes "pair") rows (λ pair.
+    option_and_then (λ lrat. option_map (λ conflicts. task.Cert a b pair lrat conflicts) (conflicts_in rows)) (form_in rows))))
+
 -- the task of a subcommand's matches
 abbrev pub task_in : Text → List Row → Option Task
 task_in name rows =
@@ -76,8 +89,10 @@ task_in name rows =
     else if bytes_eq name (codes "replay") then replay_in rows
     else if bytes_eq name (codes "gen") then gen_in rows
     else if bytes_eq name (codes "lrat") then lrat_in rows
+    else if bytes_eq name (codes "cert") then cert_in rows
     else None
 
--- The job of the words: where `clap`'s own definition for the command takes them, the mode is known, and nothing refuses `--reset`.
+-- The job of the words: where `clap`'s own definition for the command takes them, the mode or the form is known, and nothing refuses
+-- `--reset`.
 abbrev pub job_of : List Text → Option Task
 job_of words = if length (fault_of sec_app words) == 0 then option_and_then (λ met. task_in met.0 met.1) (subcommand_of sec_app words) else None

@@ -1,14 +1,15 @@
 -- Words that `clap` takes, with a mode that is known and nothing that refuses `--reset`.
-use Rattle.std.specs.Prelude.{◌≡◌, ◌||◌, Bool, true, [], ◌∷◌, List, None, Some, is_some, codes, bytes_eq, IfSome}
+use Rattle.std.specs.Prelude.{◌≡◌, ◌||◌, Bool, true, if◌then◌else◌, [], ◌∷◌, List, None, Some, is_some, codes, bytes_eq, IfSome}
 use Rattle.circuit_theory.specs.declared.Mode.TheVariants.{Plain}
 use Rattle.clap.specs.Words.{Row, Text, fault_of, subcommand_of}
 use Rattle.command_words.specs.Command.{sec_app}
-use Rattle.command_line.specs.Jobs.{job_of, mode_in}
+use Rattle.command_line.specs.Jobs.{job_of, mode_in, form_in}
 use Rattle.command_line.specs.declared.task.Task.TheVariants as task
 
--- the mode among the subcommand's matches is one of the two, and `--reset` may stand beside it; `gen` and `lrat` have none
+-- The mode among the subcommand's matches is one of the two, and `--reset` may stand beside it; `gen` and `lrat` have none, and `cert` has
+-- a form in its place.
 abbrev pub mode_fits : Text → List Row → Bool
-mode_fits name rows = bytes_eq name (codes "gen") || (bytes_eq name (codes "lrat") || is_some (mode_in rows))
+mode_fits name rows = bytes_eq name (codes "gen") || (bytes_eq name (codes "lrat") || (if bytes_eq name (codes "cert") then is_some (form_in rows) else is_some (mode_in rows)))
 
 -- the mode of the subcommand that the words name is one of the two, and nothing refuses `--reset`
 abbrev pub HasFitMode : List Text → Type 0
@@ -41,6 +42,9 @@ GenIsTaken = AreTaken (codes "gen" ∷ codes "7" ∷ codes "--conflicts" ∷ cod
 abbrev pub LratIsTaken : Type 0
 LratIsTaken = AreTaken (codes "lrat" ∷ codes "f" ∷ codes "l" ∷ [])
 
+abbrev pub CertIsTaken : Type 0
+CertIsTaken = AreTaken (codes "cert" ∷ codes "a" ∷ codes "b" ∷ codes "y" ∷ codes "cnf" ∷ [])
+
 -- words with `--reset`, and what they ask for
 abbrev pub ResetIsTaken : Type 0
 ResetIsTaken =
@@ -54,6 +58,10 @@ AreNoJob words = (fault_of sec_app words ≡ []) × (job_of words ≡ None)
 -- since their mode isn't known
 abbrev pub OtherModeIsNoJob : Type 0
 OtherModeIsNoJob = AreNoJob (codes "check" ∷ codes "a" ∷ codes "b" ∷ codes "--mode" ∷ codes "other" ∷ [])
+
+-- since the form of a certificate isn't known
+abbrev pub OtherFormIsNoJob : Type 0
+OtherFormIsNoJob = AreNoJob (codes "cert" ∷ codes "a" ∷ codes "b" ∷ codes "y" ∷ codes "drat" ∷ [])
 
 -- since `--reset` stands with `--expose`, or with the mode `event`
 abbrev pub ResetIsNoJob : Type 0

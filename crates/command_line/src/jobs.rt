@@ -6,7 +6,7 @@ ghost use Rattle.clap.specs.Words.{fault_of, first_of, found_of, rows_of, subcom
 ghost use Rattle.clap.specs.ValueTests.{accepts};
 ghost use Rattle.clap.specs.declared.builder.value_parser.ValueParser.TheVariants as parser;
 ghost use Rattle.command_words.specs.Command.{sec_app};
-ghost use Rattle.command_line.specs.Jobs.{job_of, task_in, check_in, graph_in, sim_in, replay_in, gen_in, lrat_in, mode_of, mode_in, refuses_reset, is_set, number_of, conflicts_in, settings_in};
+ghost use Rattle.command_line.specs.Jobs.{job_of, task_in, check_in, graph_in, sim_in, replay_in, gen_in, lrat_in, cert_in, form_of, form_in, mode_of, mode_in, refuses_reset, is_set, number_of, conflicts_in, settings_in};
 
 use crate::task::Task;
 use circuit_theory::Mode;
@@ -19,8 +19,8 @@ use std::alloc::{AllocError, Global};
 /// Why the words are no job.
 #[derive(Clone, Copy, PartialEq, Eq)]
 pub enum WordsError {
-    /// `clap`'s definition for the command doesn't take the words, the mode is neither `plain` nor `event`, or `--reset` stands
-    /// with `event` or with `--expose`.
+    /// `clap`'s definition for the command doesn't take the words, the mode is neither `plain` nor `event`, `--reset` stands with
+    /// `event` or with `--expose`, or the form of a certificate is neither `cnf` nor `lrat`.
     Refused,
     /// Memory was wanted and couldn't be had.
     NoMemory,
@@ -255,6 +255,53 @@ fn lrat_in(alloc: Global, matches: &ArgMatches<'_>) -> Result<Option<Task>, NoMe
     }))
 }
 
+/// Whether the word names the form of a refutation, and not that of the clauses.
+fn form_of(word: &str) -> Option<bool>
+    ensures { result ≡ form_of word.now }
+{
+    if word == "lrat" {
+        Some(true)
+    } else if word == "cnf" {
+        Some(false)
+    } else {
+        None
+    }
+}
+
+/// The form that the words name.
+fn form_in(matches: &ArgMatches<'_>) -> Option<bool>
+    ensures { result ≡ form_in (rows_of (found_of matches.now)) }
+{
+    form_of(word(matches, "form")?)
+}
+
+fn cert_in(alloc: Global, matches: &ArgMatches<'_>) -> Result<Option<Task>, NoMemory>
+    ensures { IfOk result (λ task. task ≡ cert_in (rows_of (found_of matches.now))) }
+{
+    let Some(a) = word(matches, "a") else {
+        return Ok(None);
+    };
+    let Some(b) = word(matches, "b") else {
+        return Ok(None);
+    };
+    let Some(pair) = word(matches, "pair") else {
+        return Ok(None);
+    };
+    let Some(lrat) = form_in(matches) else {
+        return Ok(None);
+    };
+    let Some(conflicts) = conflicts_in(matches) else {
+        return Ok(None);
+    };
+    Ok(Some(Task::Cert {
+        a: FilePath::from_str(alloc, a)?,
+        b: FilePath::from_str(alloc, b)?,
+        pair: Seq::from_vec(pair.as_bytes().to_vec(alloc)?),
+        lrat,
+        conflicts,
+    }))
+}
+
 /// The task of a subcommand's matches.
 fn task_in(alloc: Global, name: &str, matches: &ArgMatches<'_>) -> Result<Option<Task>, NoMemory>
     ensures { IfOk result (λ task. task ≡ task_in name.now (rows_of (found_of matches.now))) }
@@ -271,6 +318,8 @@ fn task_in(alloc: Global, name: &str, matches: &ArgMatches<'_>) -> Result<Option
         Ok(gen_in(matches))
     } else if name == "lrat" {
         lrat_in(alloc, matches)
+    } else if name == "cert" {
+        cert_in(alloc, matches)
     } else {
         Ok(None)
     }
@@ -302,7 +351,8 @@ fn matches_of<'a>(alloc: Global, words: &'a [String]) -> Result<ArgMatches<'a>, 
 }
 
 /// The job of the words behind the program's name. `Refused` comes exactly where `clap`'s definition for the command
-/// doesn't take them, the mode is neither `plain` nor `event`, or `--reset` stands with `event` or with `--expose`.
+/// doesn't take them, the mode is neither `plain` nor `event`, `--reset` stands with `event` or with `--expose`, or the form of a
+/// certificate is neither `cnf` nor `lrat`.
 pub fn job(alloc: Global, words: &[String]) -> Result<Task, WordsError>
     ensures job { IfOk result (λ task. job_of (map (λ w. string_bytes w) words.now) ≡ Some task) }
     ensures refused { IsErrOf result WordsError.Refused → job_of (map (λ w. string_bytes w) words.now) ≡ None }

@@ -44,4 +44,12 @@ pub enum Task {
         f: FilePath,
         l: FilePath,
     },
+    /// Print the clauses that say that the outputs of this name differ, or with `lrat` their refutation.
+    Cert {
+        a: FilePath,
+        b: FilePath,
+        pair: Word,
+        lrat: bool,
+        conflicts: u32,
+    },
 }

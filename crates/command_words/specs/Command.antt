@@ -59,10 +59,15 @@ gen_app = with_rule (with_rule (with_rule (new_app (codes "gen")) number) (flag 
 abbrev pub lrat_app : App
 lrat_app = with_rule (with_rule (new_app (codes "lrat")) (place (codes "f"))) (place (codes "l"))
 
+abbrev pub cert_app : App
+cert_app = with_rule (with_rule (with_rule (with_rule (with_rule (new_app (codes "cert")) (place (codes "a"))) (place (codes "b"))) (place (codes "pair"))) (place (codes "form"))) conflicts
+
 -- `sec` with one of its subcommands
 abbrev pub top_app : App
 top_app = record { top = record (new_shape (codes "sec")) { no_binary_name = true; subcommand_required = true }; subs = [] }
 
 abbrev pub sec_app : App
 sec_app =
-    with_subcommand (with_subcommand (with_subcommand (with_subcommand (with_subcommand (with_subcommand top_app check_app.top) graph_app.top) sim_app.top) replay_app.top) gen_app.top) lrat_app.top
+    with_subcommand
+    (with_subcommand (with_subcommand (with_subcommand (with_subcommand (with_subcommand (with_subcommand top_app check_app.top) graph_app.top) sim_app.top) replay_app.top) gen_app.top) lrat_app.top)
+    cert_app.top

@@ -24,6 +24,8 @@ use Rattle.job_base.specs.declared.finding.Refusal.{Refusal}
 use Rattle.job_base.specs.declared.finding.Refusal.TheVariants as refusal
 use Rattle.job_base.specs.declared.finding.Finding.{Finding}
 use Rattle.job_base.specs.declared.finding.Finding.TheVariants as finding
+use Rattle.job_base.specs.declared.finding.Unrefuted.{Unrefuted}
+use Rattle.job_base.specs.declared.finding.Unrefuted.TheVariants as unrefuted
 
 abbrev pub side_word : Side → List ℕ
 side_word A = codes "A"
@@ -120,6 +122,7 @@ refusal_text (refusal.Record f place k) = codes "refused " ++ file_word f ++ cod
 refusal_text (refusal.Interface name) = codes "refused Interface " ++ name ++ 10 ∷ []
 refusal_text (refusal.TooLarge side) = codes "refused " ++ side_word side ++ codes " TooLarge" ++ 10 ∷ []
 refusal_text (refusal.Misfit m) = misfit_text m
+refusal_text (refusal.Pair name) = codes "refused Pair " ++ name ++ 10 ∷ []
 
 -- the words are no job
 abbrev pub words_text : List ℕ
@@ -137,6 +140,19 @@ unpaired_text side names = codes "unpaired " ++ side_word side ++ names_text nam
 abbrev pub undecided_text : Side → List ℕ → List ℕ
 undecided_text side name = codes "limit recover " ++ side_word side ++ codes ":" ++ name ++ codes " conflicts 20000\n"
 
+-- some values meet all clauses of a pair
+abbrev pub satisfiable_text : List ℕ
+satisfiable_text = codes "cert satisfiable\n"
+
+-- the search of a pair's clauses met this limit of conflicts
+abbrev pub unsettled_text : ℕ → List ℕ
+unsettled_text conflicts = codes "cert limit conflicts " ++ decimal conflicts ++ codes "\n"
+
+-- what is found in place of a refutation
+abbrev pub unrefuted_text : Unrefuted → List ℕ
+unrefuted_text unrefuted.Satisfiable = satisfiable_text
+unrefuted_text (unrefuted.Limit conflicts proof) = unsettled_text conflicts
+
 -- the report of what was found
 abbrev pub finding_text : Finding → List ℕ
 finding_text finding.Words = words_text
@@ -148,3 +164,4 @@ finding_text (finding.Done report) = report
 finding_text (finding.Generated outcome report) = report
 finding_text (finding.Replayed differences) = replay_text differences
 finding_text (finding.Undecided side name proof) = undecided_text side name
+finding_text (finding.Unrefuted u) = unrefuted_text u

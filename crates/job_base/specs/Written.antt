@@ -9,6 +9,8 @@ use Rattle.outcome.specs.declared.verdict.Verdict.{Verdict}
 use Rattle.outcome.specs.declared.verdict.Verdict.TheVariants as verdict
 use Rattle.job_base.specs.declared.finding.Finding.{Finding}
 use Rattle.job_base.specs.declared.finding.Finding.TheVariants as finding
+use Rattle.job_base.specs.declared.finding.Unrefuted.{Unrefuted}
+use Rattle.job_base.specs.declared.finding.Unrefuted.TheVariants as unrefuted
 use Rattle.job_base.specs.declared.status.Status.{Status}
 use Rattle.job_base.specs.declared.status.StatusName.{StatusName}
 use Rattle.job_base.specs.declared.status.StatusName.TheVariants as status
@@ -35,6 +37,16 @@ generated_status (verdict.DifferentFrom w) = status.Different
 generated_status (verdict.NotShown reason) = status.NotShown
 generated_status (verdict.Limit at) = status.Limit
 
+-- the status of clauses that aren't refuted
+abbrev pub unrefuted_status : Unrefuted → StatusName
+unrefuted_status unrefuted.Satisfiable = status.Different
+unrefuted_status (unrefuted.Limit conflicts proof) = status.Limit
+
+-- and the proof where the limit was met
+abbrev pub unrefuted_proofs : Unrefuted → List Proof
+unrefuted_proofs unrefuted.Satisfiable = []
+unrefuted_proofs (unrefuted.Limit conflicts proof) = proof ∷ []
+
 -- the status of a finding
 abbrev pub status_of : Finding → StatusName
 status_of finding.Words = status.Words
@@ -46,6 +58,7 @@ status_of (finding.Done report) = status.Done
 status_of (finding.Generated o report) = generated_status o.verdict
 status_of (finding.Replayed differences) = replay_status differences
 status_of (finding.Undecided side name proof) = status.Limit
+status_of (finding.Unrefuted u) = unrefuted_status u
 
 -- the proofs of the queries that met the limit, in the order of the pairs
 abbrev pub proofs_of : Finding → List Proof
@@ -58,6 +71,7 @@ proofs_of (finding.Done report) = []
 proofs_of (finding.Generated o report) = filter_map (λ (r : PairResult). r.proof) o.pairs
 proofs_of (finding.Replayed differences) = []
 proofs_of (finding.Undecided side name proof) = proof ∷ []
+proofs_of (finding.Unrefuted u) = unrefuted_proofs u
 
 -- The report of a finding is taken whole, with the finding's status; or a front of it at a write fault; or nothing at want of memory.
 abbrev pub IsWrittenAs : Option (List ℕ) → Option (List ℕ) → Finding → List Proof → StatusName → Type 0

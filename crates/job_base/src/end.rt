@@ -4,12 +4,15 @@ ghost use Rattle.std.specs.Prelude.{◌≡◌, ◌≢◌, ◌≤◌, [], ◌∷�
 ghost use Rattle.std.specs.List.{filter_map};
 ghost use Rattle.sec_base.specs.Outside.{Rose};
 ghost use Rattle.outcome.specs.Report.{report_text};
-ghost use Rattle.job_base.specs.Lines.{finding_text, undecided_text};
-ghost use Rattle.job_base.specs.Written.{status_of, generated_status, proofs_of, IsWritten};
+ghost use Rattle.job_base.specs.Lines.{finding_text, undecided_text, unrefuted_text, unsettled_text};
+ghost use Rattle.job_base.specs.Written.{status_of, generated_status, unrefuted_status, proofs_of, unrefuted_proofs, IsWritten};
 
-use crate::finding::Finding;
+use crate::finding::{Finding, Unrefuted};
 use crate::status::{Proofs, Status, StatusName};
-use crate::text::{cycle_report, refusal_report, undecided_text, unpaired_report, words_report};
+use crate::text::{
+    cycle_report, refusal_report, satisfiable_report, undecided_text, unpaired_report,
+    unsettled_text, words_report,
+};
 use outcome::{Outcome, PairResult, PairResults, Settings, Verdict, report};
 use pair_decide::Proof;
 use pair_runs::Differences;
@@ -50,6 +53,16 @@ fn generated_status(verdict: &Verdict) -> StatusName
     }
 }
 
+/// The status of clauses that aren't refuted.
+fn unrefuted_status(unrefuted: &Unrefuted) -> StatusName
+    ensures { result ≡ unrefuted_status unrefuted.now }
+{
+    match unrefuted {
+        Unrefuted::Satisfiable => StatusName::Different,
+        Unrefuted::Limit(_, _) => StatusName::Limit,
+    }
+}
+
 fn status_of(finding: &Finding) -> StatusName
     ensures { result ≡ status_of finding.now }
 {
@@ -62,6 +75,7 @@ fn status_of(finding: &Finding) -> StatusName
         Finding::Generated(outcome, _) => generated_status(&outcome.verdict),
         Finding::Replayed(differences) => replay_status(differences),
         Finding::Undecided(_, _, _) => StatusName::Limit,
+        Finding::Unrefuted(unrefuted) => unrefuted_status(unrefuted),
     }
 }
 
@@ -135,6 +149,28 @@ fn undecided_report(
     Ok((text, proofs))
 }
 
+/// The report that the search of a pair's clauses met this limit of conflicts, and the proof of that.
+fn unsettled_report(alloc: Global, conflicts: u32, proof: Proof) -> Result<(Text, Proofs), NoMemory>
+    ensures text { IfOk result (λ made. made.0 ≡ unsettled_text conflicts) }
+    ensures proofs { IfOk result (λ made. made.1 ≡ proof ∷ []) }
+{
+    let mut proofs = Proofs::new(alloc);
+    proofs.push(proof)?;
+    let text = unsettled_text(alloc, conflicts)?;
+    Ok((text, proofs))
+}
+
+/// The report of clauses that aren't refuted, and the proof where the limit was met.
+fn unrefuted_report(alloc: Global, unrefuted: Unrefuted) -> Result<(Text, Proofs), NoMemory>
+    ensures text { IfOk result (λ made. made.0 ≡ unrefuted_text unrefuted) }
+    ensures proofs { IfOk result (λ made. made.1 ≡ unrefuted_proofs unrefuted) }
+{
+    match unrefuted {
+        Unrefuted::Satisfiable => without_proofs(alloc, satisfiable_report(alloc)),
+        Unrefuted::Limit(conflicts, proof) => unsettled_report(alloc, conflicts, proof),
+    }
+}
+
 /// The report of what was found, and the proofs of the queries that met the limit, in the order in which they were decided.
 fn report_of(alloc: Global, finding: Finding) -> Result<(Text, Proofs), NoMemory>
     ensures text { IfOk result (λ made. made.0 ≡ finding_text finding) }
@@ -154,6 +190,7 @@ fn report_of(alloc: Global, finding: Finding) -> Result<(Text, Proofs), NoMemory
             without_proofs(alloc, replay_report(alloc, &differences))
         }
         Finding::Undecided(side, name, proof) => undecided_report(alloc, side, &name, proof),
+        Finding::Unrefuted(unrefuted) => unrefuted_report(alloc, unrefuted),
     }
 }
 

@@ -54,6 +54,17 @@ pub enum Refusal {
     TooLarge(Side),
     /// What doesn't fit the circuit.
     Misfit(Misfit),
+    /// No output has this name.
+    Pair(Word),
+}
+
+/// What a search of the clauses of a pair of outputs finds in place of a refutation.
+#[derive(Drop)]
+pub enum Unrefuted {
+    /// Some values meet all clauses.
+    Satisfiable,
+    /// The search met this limit of conflicts; the clauses, and its log.
+    Limit(u32, Proof),
 }
 
 /// What a report can be made of.
@@ -78,6 +89,8 @@ pub enum Finding {
     /// The circuit and the name of its latch of which it wasn't found out within the limit of conflicts whether it has a load enable,
     /// and the proof of that.
     Undecided(Side, Word, Proof),
+    /// The clauses of a pair of outputs aren't refuted.
+    Unrefuted(Unrefuted),
 }
 
 /// Why the work on the files ends without a report.

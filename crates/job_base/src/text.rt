@@ -3,7 +3,7 @@
 ghost use Rattle.std.specs.Prelude.{◌≡◌, [], ◌∷◌, ◌++◌, codes, OnOk, IfOk};
 ghost use Rattle.std.specs.Fmt.{decimal};
 ghost use Rattle.sec_base.specs.Texts.{names_text};
-ghost use Rattle.job_base.specs.Lines.{side_word, file_word, kind_text, text_kind_word, line_fault_text, design_fault_text, record_fault_text, misfit_text, refusal_text, words_text, cycle_text, undecided_text, unpaired_text};
+ghost use Rattle.job_base.specs.Lines.{side_word, file_word, kind_text, text_kind_word, line_fault_text, design_fault_text, record_fault_text, misfit_text, refusal_text, words_text, cycle_text, undecided_text, unpaired_text, satisfiable_text, unsettled_text};
 
 use crate::finding::{File, LineFault, Refusal};
 use aiger_records::AigerKind;
@@ -222,6 +222,7 @@ fn put_refusal(alloc: Global, text: &mut Vec<u8>, refusal: &Refusal) -> Result<(
             put(text, b" TooLarge\n")
         }
         Refusal::Misfit(misfit) => put_misfit(text, misfit),
+        Refusal::Pair(name) => put_line(text, b"refused Pair ", name.as_slice()),
     }
 }
 
@@ -278,5 +279,25 @@ pub fn undecided_text(alloc: Global, side: Side, name: &Word) -> Result<Text, No
     put_behind(&mut text, b"limit recover ", side_word(side).as_bytes())?;
     put_behind(&mut text, b":", name.as_slice())?;
     put(&mut text, b" conflicts 20000\n")?;
+    Ok(Seq::from_vec(text))
+}
+
+/// The report that some values meet all clauses of a pair.
+pub fn satisfiable_report(alloc: Global) -> Result<Text, NoMemory>
+    ensures { IfOk result (λ text. text ≡ satisfiable_text) }
+{
+    let mut text = Vec::new(alloc);
+    put(&mut text, b"cert satisfiable\n")?;
+    Ok(Seq::from_vec(text))
+}
+
+/// The report that the search of a pair's clauses met this limit of conflicts.
+pub fn unsettled_text(alloc: Global, conflicts: u32) -> Result<Text, NoMemory>
+    ensures { IfOk result (λ text. text ≡ unsettled_text conflicts) }
+{
+    let mut text = Vec::new(alloc);
+    put(&mut text, b"cert limit conflicts ")?;
+    put_number(alloc, &mut text, u64::from(conflicts))?;
+    put(&mut text, b"\n")?;
     Ok(Seq::from_vec(text))
 }

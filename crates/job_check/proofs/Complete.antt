@@ -23,7 +23,7 @@ use Rattle.job_files.proofs.Reading.{some_and, if_told}
 use Rattle.job_check.specs.Check.{Check}
 use Rattle.job_check.specs.Found.{OfTexts, IsRefusal, IsFoundOf}
 use Rattle.job_check.specs.Answer.{AreComparable, CanAnswer, IsAnswer}
-use Rattle.job_check.proofs.ToldCycles.{is_not_free}
+use Rattle.sec_check.proofs.ToldCycles.{is_not_free}
 
 -- the two texts that are told
 record AreTold (held : Held) (check : Check) : Type 0 where
@@ -69,6 +69,7 @@ module _ (held : Held) (check : Check) (told : AreTold held check) where
   no_refusal (refusal.Interface name) h = let n = of_texts _ h in no_fault _ (sym (told.comparable.match n.0 n.1 n.2 n.3) ∙ n.4)
   no_refusal (refusal.TooLarge side) h = let n = of_texts _ h in told.comparable.light n.0 n.1 n.2 n.3 side n.4.2
   no_refusal (refusal.Misfit m) h = h
+  no_refusal (refusal.Pair name) h = h
 
   no_cycle : (side : Side) (names : List (List ℕ)) → IsFoundOf held check (finding.Cyclic side names) → ⊥
   no_cycle A names h =
@@ -99,6 +100,7 @@ module _ (held : Held) (check : Check) (told : AreTold held check) where
   has_verdict (finding.Done report) h = absurd h
   has_verdict (finding.Generated o report) h = absurd h
   has_verdict (finding.Replayed differences) h = absurd h
+  has_verdict (finding.Unrefuted u) h = absurd h
   has_verdict (finding.Undecided side name proof) h = absurd h
   has_verdict (finding.Checked o s) h = go o.verdict
     where

@@ -4,6 +4,5 @@ pub mod Fitted
 pub mod Means
 pub mod Promises
 pub mod Texts
-pub mod ToldCycles
 pub mod ResetDesigns
 pub mod ResetTexts

@@ -41,6 +41,7 @@ IsRefusal held check (refusal.Record f place kind) = OfFile held check f (λ x. 
 IsRefusal held check (refusal.Interface name) = OfNets held check (λ a b. Compared a b check.settings (Err (compare_error.Interface name)))
 IsRefusal held check (refusal.TooLarge side) = OfNets held check (λ a b. Compared a b check.settings (Err (compare_error.TooLarge side)))
 IsRefusal held check (refusal.Misfit m) = ⊥
+IsRefusal held check (refusal.Pair name) = ⊥
 
 -- what is true of the files where this is found of them
 abbrev pub IsFoundOf : Held → Check → Finding → Type 0
@@ -52,6 +53,7 @@ IsFoundOf held check (finding.Checked o settings) = (settings ≡ check.settings
 IsFoundOf held check (finding.Done report) = ⊥
 IsFoundOf held check (finding.Generated o report) = ⊥
 IsFoundOf held check (finding.Replayed differences) = ⊥
+IsFoundOf held check (finding.Unrefuted u) = ⊥
 IsFoundOf held check (finding.Undecided side name proof) = ⊥
 
 -- what is found of a comparison: what is true of its files, or, where it isn't built, that

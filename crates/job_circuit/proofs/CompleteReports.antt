@@ -49,6 +49,7 @@ module _ (circuit : Option (List ℕ)) (x : List ℕ) (is : circuit ≡ Some x) 
   circuit_stands (refusal.Interface name) h = h
   circuit_stands (refusal.TooLarge side) h = h
   circuit_stands (refusal.Misfit m) h = h
+  circuit_stands (refusal.Pair name) h = h
 
 -- in the plain mode no query of a latch has met the limit
 limit_reported : (mode : Mode) (n : NetView) (name : List ℕ) (proof : Proof) → IsUnknown mode n (kinds_error.Limit name proof) → IsReported mode status.Limit
@@ -69,6 +70,7 @@ module _ (mode : Mode) (circuit : Option (List ℕ)) (x : List ℕ) (is : circui
   graph_stands refusal.NotBuilt h = h
   graph_stands (refusal.Interface name) h = h
   graph_stands (refusal.Misfit m) h = h
+  graph_stands (refusal.Pair name) h = h
 
   graph_reported : (f : Finding) → IsGraphFound mode circuit f → IsReported mode (status_of f)
   graph_reported finding.Words h = absurd h
@@ -79,6 +81,7 @@ module _ (mode : Mode) (circuit : Option (List ℕ)) (x : List ℕ) (is : circui
   graph_reported (finding.Done report) h = tt
   graph_reported (finding.Generated o report) h = absurd h
   graph_reported (finding.Replayed differences) h = absurd h
+  graph_reported (finding.Unrefuted u) h = absurd h
   graph_reported (finding.Undecided A name proof) h = limit_reported mode h.net name proof h.unknown
   graph_reported (finding.Undecided B name proof) h = absurd h
 
@@ -93,6 +96,7 @@ module _ (mode : Mode) (circuit stimulus power : Option (List ℕ)) (reset : Boo
       let spells : IsStimulus y h.names h.rows = if_told stimulus (λ t. IsStimulus t h.names h.rows) y told h.spells in
       let same : can.names ≡ h.names = same_names y can.names h.names can.rows h.rows can.stimulus.form spells.form in
       none-some m (sym (can.fits h.net loads) ∙ (ap (λ (names : List (List ℕ)). first_misfit h.net names power) same ∙ h.is_first))
+  run_stands (refusal.Pair name) h = h
   run_stands refusal.NotBuilt h = h
   run_stands (refusal.TooLong file.A) h = circuit_stands circuit x is can.circuit (refusal.TooLong file.A) h
   run_stands (refusal.TooLong file.B) h = circuit_stands circuit x is can.circuit (refusal.TooLong file.B) h
@@ -117,6 +121,7 @@ module _ (mode : Mode) (circuit stimulus power : Option (List ℕ)) (reset : Boo
   run_reported (finding.Done report) h = tt
   run_reported (finding.Generated o report) h = absurd h
   run_reported (finding.Replayed differences) h = absurd h
+  run_reported (finding.Unrefuted u) h = absurd h
   run_reported (finding.Undecided A name proof) h = limit_reported mode h.net name proof h.unknown
   run_reported (finding.Undecided B name proof) h = absurd h
 

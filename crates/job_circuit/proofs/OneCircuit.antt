@@ -72,6 +72,7 @@ graph_circuit mode circuit (refusal.Interface name) h = h
 graph_circuit mode circuit (refusal.TooLarge A) h = absurd h
 graph_circuit mode circuit (refusal.TooLarge B) h = h
 graph_circuit mode circuit (refusal.Misfit m) h = h
+graph_circuit mode circuit (refusal.Pair name) h = h
 
 -- and one of the simulation
 pub sim_circuit : (mode : Mode) (circuit stimulus power : Option (List ℕ)) (r : Refusal) → IsCircuitRefusal circuit r → IsSimRefusal mode circuit stimulus power r
@@ -88,6 +89,7 @@ sim_circuit mode circuit stimulus power (refusal.Interface name) h = h
 sim_circuit mode circuit stimulus power (refusal.TooLarge A) h = absurd h
 sim_circuit mode circuit stimulus power (refusal.TooLarge B) h = h
 sim_circuit mode circuit stimulus power (refusal.Misfit m) h = absurd h
+sim_circuit mode circuit stimulus power (refusal.Pair name) h = h
 
 -- the circuit is loaded, and its latch graph told
 pub graph_ends : (mode : Mode) (circuit : Option (List ℕ)) (failed : Type 0) (net : NetView) (r : Result (List ℕ) KindsError) → IfSome circuit (λ x. Loads x net) → Tells mode net r →

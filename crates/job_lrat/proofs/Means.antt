@@ -37,6 +37,7 @@ lrat_status clauses proof (finding.Checked o s) h = absurd h
 lrat_status clauses proof (finding.Done report) h = inl refl
 lrat_status clauses proof (finding.Generated o report) h = absurd h
 lrat_status clauses proof (finding.Replayed differences) h = absurd h
+lrat_status clauses proof (finding.Unrefuted u) h = absurd h
 lrat_status clauses proof (finding.Undecided side name p) h = absurd h
 
 no_limit : (clauses proof before now : Option (List ℕ)) (f : Finding) (proofs : List Proof) → IsLratFound clauses proof f → IsWrittenAs before now f proofs status.Limit → ⊥
@@ -48,6 +49,7 @@ no_limit clauses proof before now (finding.Checked o s) proofs h w = h
 no_limit clauses proof before now (finding.Done report) proofs h w = let e = w.1 in cc
 no_limit clauses proof before now (finding.Generated o report) proofs h w = h
 no_limit clauses proof before now (finding.Replayed differences) proofs h w = h
+no_limit clauses proof before now (finding.Unrefuted u) proofs h w = h
 no_limit clauses proof before now (finding.Undecided side name p) proofs h w = h
 
 lrat_taken : (clauses proof before now : Option (List ℕ)) (f : Finding) → IsLratFound clauses proof f → status_of f ≡ status.Done → Takes before now (finding_text f) → TellsVerified clauses proof before now
@@ -59,6 +61,7 @@ lrat_taken clauses proof before now (finding.Checked o s) h e taken = absurd h
 lrat_taken clauses proof before now (finding.Done report) h e taken = (h.0, subst (Takes before now) h.1 taken)
 lrat_taken clauses proof before now (finding.Generated o report) h e taken = absurd h
 lrat_taken clauses proof before now (finding.Replayed differences) h e taken = absurd h
+lrat_taken clauses proof before now (finding.Unrefuted u) h e taken = absurd h
 lrat_taken clauses proof before now (finding.Undecided side name p) h e taken = absurd h
 
 -- what a written finding means
@@ -114,6 +117,7 @@ module _ (clauses proof : Option (List ℕ)) (x y : List ℕ) (is : clauses ≡ 
   stands (refusal.Interface name) h = h
   stands (refusal.TooLarge side) h = h
   stands (refusal.Misfit m) h = h
+  stands (refusal.Pair name) h = h
 
   done : (f : Finding) → IsLratFound clauses proof f → EndsWith status.Done (status_of f)
   done finding.Words h = absurd h
@@ -124,6 +128,7 @@ module _ (clauses proof : Option (List ℕ)) (x y : List ℕ) (is : clauses ≡ 
   done (finding.Done report) h = inl refl
   done (finding.Generated o report) h = absurd h
   done (finding.Replayed differences) h = absurd h
+  done (finding.Unrefuted u) h = absurd h
   done (finding.Undecided side name p) h = absurd h
 
 -- so what is found has the status of a refutation that is accepted

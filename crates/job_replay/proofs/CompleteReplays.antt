@@ -84,6 +84,7 @@ module _ (mode : Mode) (left right stimulus : Option (List ℕ)) (x y z : List �
       let spells : IsStimulus z h.names h.rows = if_told stimulus (λ t. IsStimulus t h.names h.rows) z told h.spells in
       none-some name (sym (can.fits h.a h.b l r).complete ∙ (ap (first_lacking h.a h.b) (names_are h.names h.rows spells) ∙ h.said.1.1.1))
   replay_stands (refusal.Misfit misfit.Power) h = h
+  replay_stands (refusal.Pair name) h = h
 
   replayed : (f : Finding) → IsReplayFound mode left right stimulus f → IsReplayed mode (status_of f)
   replayed finding.Words h = absurd h
@@ -93,6 +94,7 @@ module _ (mode : Mode) (left right stimulus : Option (List ℕ)) (x y z : List �
   replayed (finding.Checked o s) h = absurd h
   replayed (finding.Done report) h = absurd h
   replayed (finding.Generated o report) h = absurd h
+  replayed (finding.Unrefuted u) h = absurd h
   replayed (finding.Undecided side name proof) h = limit_of mode h.a h.b side name proof h.said.1
   replayed (finding.Replayed []) h = tt
   replayed (finding.Replayed (d ∷ more)) h = tt

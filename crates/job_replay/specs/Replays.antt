@@ -71,6 +71,7 @@ IsReplayRefusal mode left right stimulus (refusal.TooLarge side) = OfReplay left
 IsReplayRefusal mode left right stimulus (refusal.Misfit (misfit.Unknown name)) = OfReplay left right stimulus (λ a b names rows. ReplaysIn mode a b names rows (Err (fault.Unknown name)))
 IsReplayRefusal mode left right stimulus (refusal.Misfit (misfit.Missing name)) = OfReplay left right stimulus (λ a b names rows. ReplaysIn mode a b names rows (Err (fault.Missing name)))
 IsReplayRefusal mode left right stimulus (refusal.Misfit misfit.Power) = ⊥
+IsReplayRefusal mode left right stimulus (refusal.Pair name) = ⊥
 
 -- what is found where a replay is asked for
 abbrev pub IsReplayFound : Mode → Option (List ℕ) → Option (List ℕ) → Option (List ℕ) → Finding → Type 0

@@ -1,6 +1,6 @@
 //! The functions of all pairs.
 
-ghost use Rattle.std.specs.Prelude.{◌≡◌, ℕ, ◌+◌, ◌^◌, ◌<◌, ◌≤◌, List, [], map, length, All, IfOk, IfErr, OnOk};
+ghost use Rattle.std.specs.Prelude.{◌≡◌, ℕ, ◌+◌, ◌*◌, ◌^◌, ◌<◌, ◌≤◌, List, [], map, length, All, IfOk, IfErr, OnOk};
 ghost use Rattle.std.specs.List.{AllZip};
 ghost use Rattle.circuit_theory.specs.declared.Side.TheVariants.{A, B};
 ghost use Rattle.aig.specs.Graph.{Grows};
@@ -21,15 +21,16 @@ use std::alloc::Global;
 
 /// The functions of each pair's two signals, on one graph and one table of inputs at shifts.
 #[derive(Drop)]
-pub(crate) struct Functions {
+pub struct Functions {
     pub aig: Aig,
     pub places: PlaceTable,
     pub left: Vec<Unfolded>,
     pub right: Vec<Unfolded>,
 }
 
-/// Unfolds all of A, then all of B.
-pub(crate) fn unfold_pairs(
+/// The functions of each pair of signals: all of A's are unfolded, then all of B's. `TooLarge` comes exactly where the unfoldings of
+/// one circuit's signals weigh more than 2,000,000 together.
+pub fn unfold_pairs(
     alloc: Global,
     a: &Net,
     b: &Net,
@@ -42,7 +43,8 @@ pub(crate) fn unfold_pairs(
     requires right_order { IsOrderOf b.now orders.now.right }
     requires left { All (λ s. s < length a.now.drivers) (left_signals pairs.now) }
     requires right { All (λ s. s < length b.now.drivers) (right_signals pairs.now) }
-    ensures { Unfolds a.now b.now orders.now.left orders.now.right pairs.now result }
+    ensures unfolds { Unfolds a.now b.now orders.now.left orders.now.right pairs.now result }
+    ensures small { IfOk result (λ f. length f.aig ≤ 2 * MAX_WEIGHT + 1) }
 {
     let mut aig = Aig::new(alloc)?;
     let mut places = PlaceTable::new(alloc);

@@ -11,3 +11,4 @@ mod witness;
 
 pub use comparison::{Findings, compare_plain};
 pub use error::PlainError;
+pub use functions::{Functions, unfold_pairs};

@@ -16,6 +16,7 @@ pub mod Stimuli
 pub mod Nested
 pub mod Replays
 pub mod Refutations
+pub mod Certificates
 pub mod Started
 pub mod ResetBounds
 pub mod ResetPremises

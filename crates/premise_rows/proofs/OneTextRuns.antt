@@ -80,6 +80,7 @@ module _ (held : Held) (check : Check) (h : CanMeetItself held check) (always : 
   found_equal (finding.Done report) found is = absurd found
   found_equal (finding.Generated o report) found is = absurd found
   found_equal (finding.Replayed differences) found is = absurd found
+  found_equal (finding.Unrefuted u) found is = absurd found
   found_equal (finding.Undecided side name proof) found is = absurd found
 
 -- what is found of a job

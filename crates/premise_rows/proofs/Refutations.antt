@@ -11,16 +11,16 @@ use Rattle.text_numbers.specs.Lines.{lines_of}
 use Rattle.lrat_text.specs.Verdicts.{TextGives}
 use Rattle.premise_rows.specs.Refutations.{UnitsAreRefuted, PairsAreRefuted, refuting}
 
-abbrev yes : ℕ → Literal
+abbrev pub yes : ℕ → Literal
 yes v = record { variable = v; positive = true }
 
-abbrev no : ℕ → Literal
+abbrev pub no : ℕ → Literal
 no v = record { variable = v; positive = false }
 
-nothing_in : (l : Literal) → Contains [] l → ⊥
+pub nothing_in : (l : Literal) → Contains [] l → ⊥
 nothing_in l h = omega (arith, h.1)
 
-alone : (l m : Literal) → Contains (l ∷ []) m → m ≡ l
+pub alone : (l m : Literal) → Contains (l ∷ []) m → m ≡ l
 alone l m h = elim (Contains-cases l m [] h) [ inl e ↦ sym e | inr k ↦ absurd (nothing_in m k) ]
 
 -- the one literal of a clause

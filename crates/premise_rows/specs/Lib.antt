@@ -10,5 +10,6 @@ pub mod OneReport
 pub mod CutOpen
 pub mod Replays
 pub mod Refutations
+pub mod Certificates
 pub mod Started
 pub mod ResetPremises

@@ -9,3 +9,4 @@ pub mod ResetLeaves
 pub mod ResetMeaning
 pub mod ResetSetups
 pub mod Forms
+pub mod ToldCycles

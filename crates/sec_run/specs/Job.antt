@@ -8,6 +8,7 @@ use Rattle.job_circuit.specs.Reports.{graph_paths, sim_paths}
 use Rattle.job_replay.specs.Replays.{replay_paths}
 use Rattle.job_check.specs.Check.{Check, check_paths}
 use Rattle.job_lrat.specs.Found.{lrat_paths, AreSpelled}
+use Rattle.job_cert.specs.Found.{cert_paths}
 
 -- the paths that a job reads, in the order of their fetches; none where it makes its circuits itself
 abbrev pub paths_of : Task → List (List ℕ)
@@ -17,6 +18,7 @@ paths_of (task.Sim a s mode power reset) = sim_paths a s
 paths_of (task.Replay a b s mode) = replay_paths a b s
 paths_of (task.Gen seed regroup conflicts) = []
 paths_of (task.Lrat f l) = lrat_paths f l
+paths_of (task.Cert a b pair lrat conflicts) = cert_paths a b
 
 -- none where the words are no job
 abbrev pub paths_in : Option Task → List (List ℕ)
@@ -31,6 +33,7 @@ GoesOn (task.Sim a s mode power reset) = IsLoaded
 GoesOn (task.Replay a b s mode) = IsLoaded
 GoesOn (task.Gen seed regroup conflicts) = IsLoaded
 GoesOn (task.Lrat f l) = AreSpelled
+GoesOn (task.Cert a b pair lrat conflicts) = IsLoaded
 
 -- words that are no job read nothing
 abbrev pub GoesOnIn : Option Task → Option (List ℕ) → Type 0
@@ -45,3 +48,4 @@ IsAllowed (task.Sim a s mode power reset) = Unit {0}
 IsAllowed (task.Replay a b s mode) = Unit {0}
 IsAllowed (task.Gen seed regroup conflicts) = conflicts ≤ MAX_CONFLICTS
 IsAllowed (task.Lrat f l) = Unit {0}
+IsAllowed (task.Cert a b pair lrat conflicts) = conflicts ≤ MAX_CONFLICTS

@@ -13,6 +13,7 @@ ghost use Rattle.sec_run.specs.Promises.{Means, IsComplete};
 
 use command_line::{Task, WordsError, job};
 use job_base::{Finding, Status, StatusName, Stop, finish};
+use job_cert::{Certification, Wanted, certify};
 use job_check::{Comparison, check};
 use job_circuit::{Simulation, simulate, tell_graph};
 use job_gen::{Generation, compare_generated};
@@ -83,6 +84,25 @@ fn find<S: Shelf>(alloc: Global, task: &Task, shelf: &mut S) -> Result<Finding, 
                 proof: l.as_str(),
             };
             check_refutation(alloc, &refutation, shelf)
+        }
+        Task::Cert {
+            a,
+            b,
+            pair,
+            lrat,
+            conflicts,
+        } => {
+            let wanted = Wanted {
+                pair: pair.as_slice(),
+                refuted: *lrat,
+                conflicts: *conflicts,
+            };
+            let certification = Certification {
+                left: a.as_str(),
+                right: b.as_str(),
+                wanted,
+            };
+            certify(alloc, &certification, shelf)
         }
     }
 }

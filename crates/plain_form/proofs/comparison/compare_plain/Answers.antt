@@ -33,18 +33,18 @@ returns-in_err-functions c =
     let same : c.from_residual.result ≡ Err c.in_err-functions.field-0.0 = search rules in
     subst (Formed s c.args.conflicts) (sym same)
     (refusal_formed s c.args.conflicts c.requires.setup.pairs c.in_err-functions.field-0.0
-    (subst (λ (ps : List SignalPair). Unfolds s.left.now s.right.now s.orders.left s.orders.right ps (Err c.in_err-functions.field-0.0)) c.as_slice.ensures c.in_err-functions.ensures))
+    (subst (λ (ps : List SignalPair). Unfolds s.left.now s.right.now s.orders.left s.orders.right ps (Err c.in_err-functions.field-0.0)) c.as_slice.ensures c.in_err-functions.ensures.unfolds))
 
 pub findings_of-requires-clause-functions : goal.findings_of-requires-clause-functions
 findings_of-requires-clause-functions c =
     let s = c.args.setup.now in
-    subst (λ (ps : List SignalPair). AreFunctions s.left.now s.right.now s.orders.left s.orders.right ps c.in_ok-functions.functions) c.as_slice.ensures c.in_ok-functions.ensures.2
+    subst (λ (ps : List SignalPair). AreFunctions s.left.now s.right.now s.orders.left s.orders.right ps c.in_ok-functions.functions) c.as_slice.ensures c.in_ok-functions.ensures.unfolds.2
 
 pub returns : goal.returns
 returns c =
     let s = c.args.setup.now in
     record {
-      left_light = left_light s.left.now s.right.now s.pairs c.requires.setup.pairs (subst (λ (ps : List SignalPair). AreLight s.left.now (left_signals ps)) c.as_slice.ensures c.in_ok-functions.ensures.0);
-      right_light = right_light s.left.now s.right.now s.pairs c.requires.setup.pairs (subst (λ (ps : List SignalPair). AreLight s.right.now (right_signals ps)) c.as_slice.ensures c.in_ok-functions.ensures.1);
+      left_light = left_light s.left.now s.right.now s.pairs c.requires.setup.pairs (subst (λ (ps : List SignalPair). AreLight s.left.now (left_signals ps)) c.as_slice.ensures c.in_ok-functions.ensures.unfolds.0);
+      right_light = right_light s.left.now s.right.now s.pairs c.requires.setup.pairs (subst (λ (ps : List SignalPair). AreLight s.right.now (right_signals ps)) c.as_slice.ensures c.in_ok-functions.ensures.unfolds.1);
       fits = c.in_ok-findings.ensures;
     }

@@ -5,22 +5,22 @@ use Rattle.plain_form.specs.Pairs.{Unfolds, left_signals, right_signals}
 use Rattle.plain_form.proofs.Growing.{functions_later, refused_left, refused_right}
 use Rattle.plain_form.proofs.functions.unfold_pairs.Goals as goal
 
-pub returns-in_err-left : goal.returns-in_err-left
-returns-in_err-left c =
+pub returns-in_err-left-clause-unfolds : goal.returns-in_err-left-clause-unfolds
+returns-in_err-left-clause-unfolds c =
     let unfolds = Unfolds c.args.a.now c.args.b.now c.args.orders.now.left c.args.orders.now.right c.args.pairs.now in
     let same : c.from_residual-in_err-left.result ≡ Err c.in_err-left.field-0.0 = search rules in
     subst unfolds (sym same)
     (refused_left c.args.a.now c.args.b.now c.args.orders.now.left c.args.orders.now.right c.args.pairs.now (left_signals c.args.pairs.now) c.in_err-left.field-0.0 refl c.in_err-left.ensures.refused)
 
-pub returns-in_err-right : goal.returns-in_err-right
-returns-in_err-right c =
+pub returns-in_err-right-clause-unfolds : goal.returns-in_err-right-clause-unfolds
+returns-in_err-right-clause-unfolds c =
     let unfolds = Unfolds c.args.a.now c.args.b.now c.args.orders.now.left c.args.orders.now.right c.args.pairs.now in
     let same : c.from_residual-in_err-right.result ≡ Err c.in_err-right.field-0.0 = search rules in
     subst unfolds (sym same)
     (refused_right c.args.a.now c.args.b.now c.args.orders.now.left c.args.orders.now.right c.args.pairs.now (right_signals c.args.pairs.now) c.in_err-right.field-0.0 refl c.in_ok-left.ensures.light c.in_err-right.ensures.refused)
 
-pub returns : goal.returns
-returns c = (
+pub returns-clause-unfolds : goal.returns-clause-unfolds
+returns-clause-unfolds c = (
   c.in_ok-left.ensures.light,
   c.in_ok-right.ensures.light,
   record {

@@ -1,0 +1,4 @@
+pub mod Complete
+pub mod Finds
+pub mod Means
+pub mod Certified

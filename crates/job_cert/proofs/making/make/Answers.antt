@@ -1,0 +1,8 @@
+-- The clauses, or what is found in place of them.
+use Rattle.std.proofs.Common.{◌≡◌, sym, subst, Err}
+use Rattle.job_cert.specs.Made.{Made, wanted_of}
+use Rattle.job_cert.proofs.Certified.{writable, searched, spelled}
+use Rattle.job_cert.proofs.making.make.Goals as goal
+
+pub write_dimacs-requires : goal.write_dimacs-requires
+write_dimacs-requires c = writable c.in_ok-cnf.cnf c.in_ok-cnf.ensures.tell.small c.in_ok-cnf.ensures.tell.few

@@ -1,0 +1,4 @@
+pub mod Answer
+pub mod Ends
+pub mod Found
+pub mod Made

@@ -1,0 +1,6 @@
+pub mod Refused
+pub mod Outputs
+pub mod Places
+pub mod Differing
+pub mod Few
+pub mod Given
