@@ -16,7 +16,7 @@ use Rattle.aig.specs.Graph.{IsGraph}
 use Rattle.aig.specs.Values.{value}
 use Rattle.aig.specs.Builds.{HasTreeValues}
 use Rattle.aig.proofs.CoverMeaning.{value-one}
-use Rattle.cbf_unfold.specs.declared.unfolder.Unfolded.{Unfolded}
+use Rattle.unfold_places.specs.declared.signal_function.Unfolded.{Unfolded}
 use Rattle.proof_check.specs.Clauses.{Unsatisfiable}
 use Rattle.cnf_encode.specs.declared.cnf.Cnf.{Cnf}
 use Rattle.cnf_encode.specs.Encoding.{MeansDifference, ShowsDifference, IsSmall}
