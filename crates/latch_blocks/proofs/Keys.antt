@@ -12,7 +12,7 @@ use Rattle.latch_blocks.specs.Numbers.{IsNumberedBy, split_key, start_kind, star
 number_key : (key : ℕ → ℕ × ℕ) (table : List (ℕ × ℕ)) (numbers : List ℕ) → AreDistinct table → IsNumberedBy key table numbers → (i j : ℕ) → i < length numbers → j < length numbers → (block_at numbers i ≡ block_at numbers j) ↔ (key i ≡ key j)
 number_key key table numbers distinct is i j a b = (
   (λ e. same_Some (key i) (key j) (sym (is.keys i a) ∙ ap (slice_get table) e ∙ is.keys j b)),
-  (λ e. distinct (block_at numbers i) (block_at numbers j) (key j) (is.keys i a ∙ ap Some e) (is.keys j b))
+  (λ e. distinct (block_at numbers i) (block_at numbers j) (key j) (is.keys i a ∙ ap Some e) (is.keys j b)),
 )
 
 same_digit : (x y : Bool) → ◌≡◌ {A = ℕ} (if x then 1 else 0) (if y then 1 else 0) → x ≡ y
@@ -25,9 +25,10 @@ pub split_is : (blocks : List ℕ) (bits : List Bool) (table : List (ℕ × ℕ)
 split_is blocks bits table fine each distinct is = record {
   each = each;
   same = λ i j a b.
-      let one = number_key (split_key blocks bits) table fine distinct is i j (omega (arith, a, each)) (omega (arith, b, each)) in
-      ((λ e. let k = one.0 e in (ap (λ r. r.0) k, same_digit (bit_at bits i) (bit_at bits j) (ap (λ r. r.1) k))),
-      (λ e. one.1 (let f = e.0 in let g = ap {B = ℕ} (λ (x : Bool). if x then 1 else 0) e.1 in λ k. (f k, g k))));
+      let one = number_key (split_key blocks bits) table fine distinct is i j (omega (arith, a, each)) (omega (arith, b, each)) in (
+        (λ e. let k = one.0 e in (ap (λ r. r.0) k, same_digit (bit_at bits i) (bit_at bits j) (ap (λ r. r.1) k))),
+        (λ e. one.1 (let f = e.0 in let g = ap {B = ℕ} (λ (x : Bool). if x then 1 else 0) e.1 in λ k. (f k, g k))),
+      );
   in_order = is.in_order;
 }
 

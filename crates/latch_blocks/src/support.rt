@@ -1,7 +1,7 @@
 //! The variables of the inputs and latches that a signal is reached from.
 
 ghost use Rattle.std.specs.Prelude.{◌<◌, length, IfOk};
-ghost use Rattle.signal_literals.specs.Signals.{AreVariables, AreLeaves, AreMerged};
+ghost use Rattle.latch_blocks.specs.Signals.{AreVariables, AreLeaves, AreMerged};
 
 use crate::variables::{Variables, variable_at};
 use flat_net::{Net, Signal};

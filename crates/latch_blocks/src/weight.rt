@@ -1,7 +1,7 @@
 //! What all signals of a net count together.
 
 ghost use Rattle.std.specs.Prelude.{◌≤◌, ◌↔◌, IsTrue};
-ghost use Rattle.signal_literals.specs.Signals.{net_weight};
+ghost use Rattle.latch_blocks.specs.Signals.{net_weight};
 
 use flat_net::{Net, Signal};
 use sec_base::MAX_WEIGHT;

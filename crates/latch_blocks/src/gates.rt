@@ -3,7 +3,7 @@
 ghost use Rattle.std.specs.Prelude.{◌≡◌, ◌+◌, ◌*◌, ◌^◌, ◌<◌, ◌≤◌, length, map, slice_get, All, IfOk, IfSome, OnOk};
 ghost use Rattle.aig.specs.Graph.{Grows};
 ghost use Rattle.unfold_places.specs.Places.{gate_weight};
-ghost use Rattle.signal_literals.specs.Signals.{lit_at, IsGateLit};
+ghost use Rattle.latch_blocks.specs.Signals.{lit_at, IsGateLit};
 
 use aig::{Aig, Lit};
 use flat_net::{Net, Signal};

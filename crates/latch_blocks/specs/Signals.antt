@@ -2,9 +2,8 @@
 use Rattle.std.specs.Prelude.{◌≡◌, ◌↔◌, ◌⊎◌, ℕ, ◌+◌, ◌*◌, ◌<◌, ◌^◌, Bool, List, [], ◌∷◌, length, map, slice_get, slice_index_or, Option, Some, None, option_and_then, All, Contains}
 use Rattle.std.specs.List.{sum_by}
 use Rattle.std.specs.List.Sorted.{IsStrictlyIncreasing}
-use Rattle.circuit_theory.specs.Cover.{Cover, cover_value}
+use Rattle.circuit_theory.specs.Cover.{cover_value}
 use Rattle.circuit_theory.specs.Circuit.{Meets, Reaches}
-use Rattle.flat_net.specs.declared.signals.Signal.{Signal}
 use Rattle.flat_net.specs.declared.parts.Gate.{Gate}
 use Rattle.flat_net.specs.declared.parts.Driver.{Driver}
 use Rattle.flat_net.specs.declared.parts.Driver.TheVariants as driver
@@ -16,7 +15,7 @@ use Rattle.aig.specs.Values.{value}
 use Rattle.aig.specs.Rules.{IsCoverOf}
 use Rattle.aig.specs.Cone.{IsReached}
 use Rattle.unfold_places.specs.Places.{driver_weight}
-use Rattle.signal_literals.specs.declared.variables.Variables.{Variables}
+use Rattle.latch_blocks.specs.declared.variables.Variables.{Variables}
 
 -- what all inputs, latches and gates count together, each once
 abbrev pub net_weight : NetView → ℕ
