@@ -5,6 +5,7 @@ pub mod Growing
 pub mod Joining
 pub mod Keys
 pub mod Numbering
+pub mod OnGraph
 pub mod Placing
 pub mod Reached
 pub mod Readings

@@ -2,6 +2,7 @@
 
 ghost use Rattle.latch_blocks.specs.Laws.{SplitRefines, SplitHasFewerPairs};
 ghost use Rattle.latch_blocks.specs.PartitionLaws.{PartitionBegins, PartitionSplits, PartitionEnds};
+ghost use Rattle.latch_blocks.specs.QueryLaws.{SameLiteralsAgree, AssignmentsAreBlockValues};
 ghost use Rattle.latch_blocks.specs.ReadingLaws.{ReadingsAreValues, ValuesHaveReadings};
 
 /// What is one block after a split was one before.
@@ -37,4 +38,14 @@ pub fn readings_are_values()
 /// Values of both nets that are constant on the blocks are those of an assignment of the variables.
 pub fn values_have_readings()
     ensures { ValuesHaveReadings }
+{}
+
+/// Where two literals have one value under each assignment, their signals have one value for all values that are constant on the blocks.
+pub fn same_literals_agree()
+    ensures { SameLiteralsAgree }
+{}
+
+/// Each assignment is that of values that are constant on the blocks, in which each signal has its literal's value.
+pub fn assignments_are_block_values()
+    ensures { AssignmentsAreBlockValues }
 {}
