@@ -1,0 +1,15 @@
+pub mod Counting
+pub mod GateLits
+pub mod Going
+pub mod Growing
+pub mod Joining
+pub mod Keys
+pub mod Numbering
+pub mod OnGraph
+pub mod Placing
+pub mod Reached
+pub mod Readings
+pub mod Sources
+pub mod Starting
+pub mod Supports
+pub mod Weights

@@ -1,0 +1,22 @@
+//! What all signals of a net count together.
+
+ghost use Rattle.std.specs.Prelude.{◌≤◌, ◌↔◌, IsTrue};
+ghost use Rattle.latch_blocks.specs.Signals.{net_weight};
+
+use flat_net::{Net, Signal};
+use sec_base::MAX_WEIGHT;
+use unfold_places::reads::weigh;
+
+/// Whether all inputs, latches and gates of the net count no more than the limit together.
+pub fn is_light(net: &Net) -> bool
+    ensures { IsTrue result ↔ (net_weight net.now ≤ MAX_WEIGHT) }
+{
+    let mut total = 0;
+    for s in 0..net.size() {
+        let Some(more) = weigh(net, Signal(s), MAX_WEIGHT - total) else {
+            return false;
+        };
+        total += more;
+    }
+    true
+}
