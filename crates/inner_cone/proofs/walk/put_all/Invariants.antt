@@ -1,0 +1,13 @@
+use Rattle.std.specs.Prelude.{◌≡◌, ◌<◌, ◌⊎◌, ℕ, slice_get, Some, Contains}
+use Rattle.flat_net.specs.declared.signals.Signal.{Signal}
+use Rattle.flat_net.specs.View.{NetView}
+use Rattle.latch_cone.specs.Cones.{AreSome, AreRead, Stay}
+use Rattle.inner_cone.specs.Inner.{IsLow}
+use Rattle.inner_cone.proofs.walk.put_all.Given as goal
+
+abbrev pub invariant-loop-signal : goal.invariant-loop-signal
+invariant-loop-signal l = record {
+  stay : Stay l.initial.seen.keys l.seen.keys;
+  some : (n : NetView) (from : ℕ) → AreRead n from l.reads → AreSome n from l.initial.seen.keys → AreSome n from l.seen.keys;
+  there : (k : ℕ) (r : Signal) → k < l.signal-index → slice_get l.reads k ≡ Some r → Contains l.seen.keys r.0 ⊎ IsLow l.ranks l.least r.0;
+}

@@ -1,0 +1,9 @@
+-- A signal that isn't low.
+use Rattle.latch_cone.proofs.Walks.{is_put}
+use Rattle.inner_cone.proofs.Inner.{high_put}
+use Rattle.inner_cone.proofs.walk.put_high.Goals as goal
+
+pub returns : goal.returns
+returns c =
+    high_put c.args.ranks.now c.args.least c.args.seen.now.keys c.insert.new.seen.keys c.args.signal
+    (is_put c.args.seen.now.keys c.insert.new.seen.keys c.args.signal c.in_ok-insert.field-0 c.in_ok-insert.ensures.new c.in_ok-insert.ensures.old)

@@ -1,0 +1,16 @@
+use Rattle.std.specs.Prelude.{◌≡◌, ◌<◌, ◌-◌, ◌⊎◌, ℕ, length, slice_get, Some, Contains}
+use Rattle.circuit_theory.specs.Circuit.{Reads}
+use Rattle.flat_net.specs.View.{circuit_of}
+use Rattle.latch_cone.specs.Cones.{AreSome}
+use Rattle.inner_cone.specs.Inner.{IsLow}
+use Rattle.inner_cone.proofs.walk.walked.Given as goal
+
+abbrev pub invariant-loop-at : goal.invariant-loop-at
+invariant-loop-at l = record {
+  some : AreSome l.net l.fn.from.0 l.seen.keys;
+  root : Contains l.seen.keys l.fn.from.0 ⊎ IsLow l.ranks l.least l.fn.from.0;
+  closed : (i s : ℕ) → i < l.at → slice_get l.seen.keys i ≡ Some s → (r : ℕ) → Reads (circuit_of l.net) s r → Contains l.seen.keys r ⊎ IsLow l.ranks l.least r;
+}
+
+abbrev pub decreases-loop-at : goal.decreases-loop-at
+decreases-loop-at l = length l.net.drivers - l.at

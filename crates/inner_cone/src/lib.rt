@@ -1,0 +1,12 @@
+//! What of a latch's cone leads back to the latch.
+//!
+//! The signals of a net get numbers, by their strongly connected components, so that no signal reads one with a greater number. Then
+//! a walk that looks for what leads back to a latch turns round at lesser numbers than the latch's, whatever is behind.
+#![tactic(auto)]
+
+mod components;
+mod numbers;
+mod walk;
+
+pub use numbers::ranks;
+pub use walk::inside;
