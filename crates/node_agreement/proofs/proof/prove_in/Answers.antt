@@ -11,4 +11,4 @@ pub returns-in_ok-found-in-Differs : goal.returns-in_ok-found-in-Differs
 returns-in_ok-found-in-Differs c =
     let told = subst (IsToldOf c.args.graph.now c.args.x.0 c.args.k.0) c.in-Differs.is c.in_ok-tried.ensures in
     c.apart_by.ensures c.args.graph.now c.args.x.0 c.args.k.0
-    (IfSome-then c.in_ok-found.found _ _ (λ (m : Model) is. told m (subst (λ (ns : List ℕ). IsModelOf c.args.graph.now ns c.in-Differs.bits m) c.as_slice.ensures is)) c.in_ok-found.ensures)
+    (IfSome-then c.in_ok-found-in-Differs.found _ _ (λ (m : Model) is. told m (subst (λ (ns : List ℕ). IsModelOf c.args.graph.now ns c.in-Differs.bits m) c.as_slice.ensures is)) c.in_ok-found-in-Differs.ensures)
