@@ -1,5 +1,5 @@
 -- A net of a file that grows by one signal, or by one output.
-use Rattle.std.proofs.Common.{◌≡◌, ◌≢◌, ℕ, zero, suc, ◌+◌, ◌*◌, ◌^◌, ◌<◌, ◌≤◌, Bool, true, false, cond, eqb, List, [], ◌∷◌, ◌++◌, map, length, take, drop, set, replicate, get_or, slice_get, Some, None, refl, sym, ◌∙◌, ap, ap₂, subst, arith, append_assoc, take-append-drop, inl, inr}
+use Rattle.std.proofs.Common.{◌≡◌, ◌≢◌, ℕ, zero, suc, ◌+◌, ◌-◌, ◌*◌, ◌^◌, ◌<◌, ◌≤◌, Bool, true, false, cond, eqb, List, [], ◌∷◌, ◌++◌, map, length, take, drop, set, replicate, get_or, slice_get, Some, None, refl, sym, ◌∙◌, ap, ap₂, subst, arith, append_assoc, take-append-drop, inl, inr}
 use Rattle.std.specs.Prelude.{◌⊎◌, IsSomeAnd, unwrap_or, Result, Ok, Err, OnOk}
 use Rattle.std.specs.List.{All, Contains, filter}
 use Rattle.std.proofs.lemmas.List.{length-replicate, length-append, length-map, map-append}
@@ -28,8 +28,8 @@ use Rattle.aiger_records.specs.declared.record.Record.TheVariants.{Input, Latch,
 use Rattle.aiger_symbols.specs.declared.symbol.Named.{Named}
 use Rattle.aiger_symbols.specs.Names.{name_of}
 use Rattle.aiger_file.specs.declared.file.AigerFile.{AigerFile}
-use Rattle.aiger_graph.specs.Circuit.{LatchLine, ports_from, input_of, output_of, latch_of, input_literals, latches_in, zero_cover, one_cover}
-use Rattle.aiger_graph.specs.Literals.{operands, reads_in, graph_of, gate_at, cover_by}
+use Rattle.aiger_graph.specs.Circuit.{LatchLine, is_used, ports_from, input_of, output_of, latch_of, input_literals, latches_in, zero_cover, one_cover}
+use Rattle.aiger_graph.specs.Literals.{negated, reads_among, reads_in, graph_of, gate_at, cover_by}
 use Rattle.aiger_read.specs.SignalNames.{latch_literals, gate_name, signal_name, init_of}
 use Rattle.aiger_read.specs.Signals.{is_gate, all_covers, cover_number, all_literals, literal_at}
 use Rattle.aiger_read.specs.Made.{IsPlan, IsPlaced, IsNext, IsMade, LatchHead, heads_from, head_at, signal_at}
@@ -405,33 +405,23 @@ module _ (f : AigerFile) (graph : List (List ℕ)) (order : List ℕ) (plan : Is
         (sym (filter-take (is_gate f.records) order place l at ∙ ap (λ (b : Bool). cond b (filter (is_gate f.records) (take place order) ++ l ∷ []) (filter (is_gate f.records) (take place order))) gate)) made
 
 -- a cover fits its reads
+picked : (used own negation : Bool) (d : ℕ) (ops later : List ℕ) → length ops ≤ 2 → length later ≤ 2 → length (cond own ops (cond negation (negated used d) later)) ≤ 2
+picked used true negation d ops later few h = few
+picked true false true d ops later few h = omega arith
+picked false false true d ops later few h = omega arith
+picked used false false d ops later few h = h
+
+few_among : (file records : List Record) (l : ℕ) → length (reads_among file records l) ≤ 2
+few_among file [] l = omega arith
+few_among file (Input literal ∷ rs) l = picked (is_used file l) (eqb literal l) (eqb (literal + 1) l) literal [] (reads_among file rs l) (omega arith) (few_among file rs l)
+few_among file (Latch literal next reset ∷ rs) l = picked (is_used file l) (eqb literal l) (eqb (literal + 1) l) literal [] (reads_among file rs l) (omega arith) (few_among file rs l)
+few_among file (Output literal ∷ rs) l = few_among file rs l
+few_among file (Gate literal left right ∷ rs) l = picked (is_used file l) (eqb literal l) (eqb (literal + 1) l) literal (left ∷ right ∷ []) (reads_among file rs l) (omega arith) (few_among file rs l)
+few_among file (Packed literal first second ∷ rs) l =
+    picked (is_used file l) (eqb literal l) (eqb (literal + 1) l) literal ((literal - first) ∷ (literal - first - second) ∷ []) (reads_among file rs l) (omega arith) (few_among file rs l)
+
 reads_few : (records : List Record) (l : ℕ) → length (reads_in records l) ≤ 2
-reads_few [] l = omega arith
-reads_few (Input literal ∷ rs) l = pick (eqb literal l) (eqb (literal + 1) l) (reads_few rs l)
-  where
-    pick : (a b : Bool) → length (reads_in rs l) ≤ 2 → length (cond a (operands (Input literal)) (cond b (literal ∷ []) (reads_in rs l))) ≤ 2
-    pick true b h = omega arith
-    pick false true h = omega arith
-    pick false false h = h
-reads_few (Latch literal next reset ∷ rs) l = pick (eqb literal l) (eqb (literal + 1) l) (reads_few rs l)
-  where
-    pick : (a b : Bool) → length (reads_in rs l) ≤ 2 → length (cond a (operands (Latch literal next reset)) (cond b (literal ∷ []) (reads_in rs l))) ≤ 2
-    pick true b h = omega arith
-    pick false true h = omega arith
-    pick false false h = h
-reads_few (Output literal ∷ rs) l = reads_few rs l
-reads_few (Gate literal left right ∷ rs) l = pick (eqb literal l) (eqb (literal + 1) l) (reads_few rs l)
-  where
-    pick : (a b : Bool) → length (reads_in rs l) ≤ 2 → length (cond a (operands (Gate literal left right)) (cond b (literal ∷ []) (reads_in rs l))) ≤ 2
-    pick true b h = omega arith
-    pick false true h = omega arith
-    pick false false h = h
-reads_few (Packed literal first second ∷ rs) l = pick (eqb literal l) (eqb (literal + 1) l) (reads_few rs l)
-  where
-    pick : (a b : Bool) → length (reads_in rs l) ≤ 2 → length (cond a (operands (Packed literal first second)) (cond b (literal ∷ []) (reads_in rs l))) ≤ 2
-    pick true b h = omega arith
-    pick false true h = omega arith
-    pick false false h = h
+reads_few records l = few_among records records l
 
 pub cover_fits : (l : ℕ) (reads : List ℕ) (count : ℕ) → length reads ≤ 2 → count ≡ length reads → IsSomeAnd (slice_get all_covers (cover_number l reads)) (λ (c : Cover). c.width ≡ count)
 cover_fits l [] count few is = by (eqb l 0)
