@@ -11,12 +11,8 @@ pub enum EventError {
     TooManyEvents,
     /// What the unfoldings of one circuit visit weighs more than 2,000,000.
     TooLarge(Side),
-    /// The query of the latch and another one, or `always`, met the limit.
-    Limit {
-        latch: Tag,
-        other: Option<Tag>,
-        proof: Proof,
-    },
+    /// A query of the latch, with a member of a class or with `always`, met the limit.
+    Limit { latch: Tag, proof: Proof },
     /// Memory was wanted.
     NoMemory,
 }

@@ -82,16 +82,8 @@ fn join_asked(
 /// Why the latch is given no class.
 fn limit_of(tag: Tag, unfit: Unfit) -> EventError {
     match unfit {
-        Unfit::Always(proof) => EventError::Limit {
-            latch: tag,
-            other: None,
-            proof,
-        },
-        Unfit::Member(_, _, proof) => EventError::Limit {
-            latch: tag,
-            other: None,
-            proof,
-        },
+        Unfit::Always(proof) => EventError::Limit { latch: tag, proof },
+        Unfit::Member(_, _, proof) => EventError::Limit { latch: tag, proof },
         Unfit::NoMemory => EventError::NoMemory,
     }
 }
