@@ -1,9 +1,6 @@
 -- What is known of a care stays while the event graph grows.
-use Rattle.std.proofs.Common.{◌≡◌, ◌≤◌, ℕ, List, length, arith}
-use Rattle.std.specs.List.{Contains}
+use Rattle.std.proofs.Common.{ℕ, arith}
 use Rattle.event_theory.specs.EventSizes.{Start}
-use Rattle.event_theory.specs.Frame.{ReachedAt}
-use Rattle.aig.specs.Graph.{Grows}
 use Rattle.event_nodes.specs.Nodes.{EventGraphView, IsEventGraph, GrowsEvents}
 use Rattle.event_nodes.specs.View.{EventCircuitView}
 use Rattle.aig.proofs.Growth.{Grows-length}

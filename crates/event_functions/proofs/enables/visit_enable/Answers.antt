@@ -1,14 +1,9 @@
 -- An unfolder that has met nothing visits the start.
-use Rattle.std.proofs.Common.{◌≡◌, ◌∙◌, ◌<◌, ℕ, List, [], length, slice_get, Some, None, Err, refl, sym, ap, subst, arith}
-use Rattle.std.specs.List.{Contains}
-use Rattle.flat_net.specs.declared.parts.LatchAt.{LatchAt}
+use Rattle.std.proofs.Common.{◌≡◌, ◌∙◌, ◌<◌, ℕ, [], length, slice_get, Some, Err, refl, sym, ap, subst, arith}
 use Rattle.event_nodes.specs.View.{EventCircuitView}
-use Rattle.event_nodes.specs.declared.error.EventUnfoldError.TheVariants as unfold_error
 use Rattle.event_walk.specs.Walk.{HasCountedStart, IsCounting, enable_start}
-use Rattle.event_literals.specs.Known.{IsKnownAt, IsEnableLit}
+use Rattle.event_literals.specs.Known.{IsEnableLit}
 use Rattle.edbf_unfold.specs.Care.{IsCareLit}
-use Rattle.edbf_unfold.specs.Reached.{IsReachOf}
-use Rattle.event_functions.specs.Functions.{signal_start}
 use Rattle.event_nodes.specs.Visited.{places_weight}
 use Rattle.event_nodes.proofs.Lists.{adds_none}
 use Rattle.event_reach.proofs.Making.{no_nodes}

@@ -1,19 +1,17 @@
 -- What was visited is counted with what was counted before.
-use Rattle.std.proofs.Common.{◌≡◌, ◌∙◌, ◌≤◌, ◌<◌, ℕ, List, [], ◌∷◌, length, None, Err, refl, sym, ap, subst, arith}
+use Rattle.std.proofs.Common.{ℕ, List, [], ◌∷◌, None, Err, refl, sym, ap, subst, arith}
 use Rattle.std.specs.List.{All, Contains}
 use Rattle.std.proofs.lemmas.Result.{err_from_is_err_and}
 use Rattle.flat_net.specs.View.{NetView}
-use Rattle.event_nodes.specs.Nodes.{EventGraphView}
-use Rattle.event_nodes.specs.Visited.{IsWeighed, HoldsVisits, IsVisitedPair, HoldsNodes}
+use Rattle.event_nodes.specs.Visited.{IsWeighed, HoldsVisits, IsVisitedPair}
 use Rattle.event_nodes.proofs.Growing.{grows_trans}
 use Rattle.event_nodes.proofs.Lists.{adds_none}
-use Rattle.event_walk.specs.Walk.{HasCountedStart, IsCounting, enable_start}
+use Rattle.event_walk.specs.Walk.{HasCountedStart, IsCounting}
 use Rattle.edbf_unfold.specs.Reached.{IsReachOf}
-use Rattle.edbf_unfold.proofs.Caring.{enable_later}
 use Rattle.event_inputs.proofs.Meaning.{visited_inputs}
 use Rattle.event_literals.proofs.Known.{known_at_later}
 use Rattle.event_functions.specs.Functions.{signal_start}
-use Rattle.event_functions.specs.Refused.{HasFewNodes, IsOverweight}
+use Rattle.event_functions.specs.Refused.{IsOverweight}
 use Rattle.event_functions.proofs.Refusing.{error_is}
 use Rattle.event_functions.proofs.Growing.{care_lit_later}
 use Rattle.event_functions.proofs.Totaling.{own_visited, signals_of, nodes_of, total_counting, total_counted, total_over, children_same}

@@ -1,0 +1,4 @@
+//! What the search for a latch's class gives: the first class that fits, what a limit was asked about, and what tells two classes apart.
+#![tactic(auto)]
+
+pub mod laws;

@@ -1,0 +1,39 @@
+//! Classes and their members.
+
+ghost use Rattle.std.specs.Prelude.{◌≡◌, [], ◌∷◌, ◌++◌, OnOk};
+
+use enable_compare::Enable;
+use sec_base::{NoMemory, Tag};
+use std::alloc::Global;
+
+/// A class besides `always`: of each enable that a member has the first such member, in the order in which they joined.
+#[derive(Drop)]
+pub struct Class {
+    /// The latches.
+    pub tags: Vec<Tag>,
+    /// Their enables.
+    pub enables: Vec<Enable>,
+}
+
+impl Class {
+    /// Without members.
+    pub fn new(alloc: Global) -> Class
+        ensures tags { result.tags.items ≡ [] }
+        ensures enables { result.enables.items ≡ [] }
+    {
+        Class {
+            tags: Vec::new(alloc),
+            enables: Vec::new(alloc),
+        }
+    }
+
+    /// Puts a member behind the others.
+    pub fn join(&mut self, tag: Tag, enable: Enable) -> Result<(), NoMemory>
+        ensures tags { OnOk result (self.new.tags.items ≡ self.old.tags.items ++ tag ∷ []) }
+        ensures enables { OnOk result (self.new.enables.items ≡ self.old.enables.items ++ enable ∷ []) }
+    {
+        self.tags.push(tag)?;
+        self.enables.push(enable)?;
+        Ok(())
+    }
+}

@@ -1,0 +1,38 @@
+-- What is found for the latch is its first fit.
+use Rattle.std.proofs.Common.{List, refl, sym, subst}
+use Rattle.class_search.specs.declared.class.Class.{Class}
+use Rattle.class_search.specs.Search.{AreReadyClasses, IsFit}
+use Rattle.event_classes.specs.declared.map.ClassMap.{ClassMap}
+use Rattle.event_classes.proofs.NextLatch.{made_grows, within_grows, next_same, fit_place, found_fits_in, enable_grows}
+use Rattle.event_classes.proofs.Setting.{goes_on_from}
+use Rattle.event_classes.proofs.joining.join_asked.Goals as goal
+
+pub first_fit-requires-clause-classes : goal.first_fit-requires-clause-classes
+first_fit-requires-clause-classes c = subst (AreReadyClasses c.args.map.now.events) (sym c.as_slice.ensures.value) c.requires.made.1.stand.ready
+
+pub join_fit-requires-clause-made : goal.join_fit-requires-clause-made
+join_fit-requires-clause-made c =
+    let found : ClassMap = record c.args.map.now { events = c.first_fit.new.events } in
+    next_same c.args.map.now found c.args.tag refl refl (made_grows c.args.map.now found refl c.keeps-3.ensures.events c.first_fit.ensures.grows (within_grows c.args.map.now found refl c.first_fit.ensures.rest)) c.requires.made
+
+pub join_fit-requires-clause-enable : goal.join_fit-requires-clause-enable
+join_fit-requires-clause-enable c =
+    let found : ClassMap = record c.args.map.now { events = c.first_fit.new.events } in
+    enable_grows c.args.map.now found c.args.tag c.args.enable refl c.keeps-3.ensures.events c.first_fit.ensures.grows c.requires.enable
+
+pub join_fit-requires-clause-ready : goal.join_fit-requires-clause-ready
+join_fit-requires-clause-ready c = c.first_fit.ensures.ready c.args.enable c.requires.ready
+
+pub join_fit-requires-clause-fits : goal.join_fit-requires-clause-fits
+join_fit-requires-clause-fits c =
+    let found : ClassMap = record c.args.map.now { events = c.first_fit.new.events } in
+    found_fits_in c.args.map.now found c.args.tag c.args.enable c.args.conflicts c.in-Ok.fit c.requires.made.0 refl (record { left_sound = c.keeps.ensures.sound; right_sound = c.keeps-2.ensures.sound; left = c.keeps.ensures.circuit; right = c.keeps-2.ensures.circuit; events = c.keeps-3.ensures.events }) c.requires.made.1
+    c.requires.enable (subst (λ (cs : List Class). IsFit c.args.map.now.events c.first_fit.new.events cs c.args.enable c.args.conflicts c.in-Ok.fit) c.as_slice.ensures.value c.in-Ok.ensures.fit)
+
+pub join_fit-requires-clause-place : goal.join_fit-requires-clause-place
+join_fit-requires-clause-place c = λ place same. fit_place c.args.map.now.events c.first_fit.new.events c.args.map.now.classes.items c.args.enable c.args.conflicts place c.in-Ok.fit (subst (λ (cs : List Class). IsFit c.args.map.now.events c.first_fit.new.events cs c.args.enable c.args.conflicts c.in-Ok.fit) c.as_slice.ensures.value c.in-Ok.ensures.fit) same
+
+pub returns-in_ok-join_fit-in-Ok : goal.returns-in_ok-join_fit-in-Ok
+returns-in_ok-join_fit-in-Ok c =
+    let found : ClassMap = record c.args.map.now { events = c.first_fit.new.events } in
+    goes_on_from c.args.map.now found c.join_fit.new.map c.args.tag refl refl refl (made_grows c.args.map.now found refl c.keeps-3.ensures.events c.first_fit.ensures.grows (within_grows c.args.map.now found refl c.first_fit.ensures.rest)) c.in_ok-join_fit-in-Ok.ensures

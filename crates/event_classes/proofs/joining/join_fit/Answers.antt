@@ -1,0 +1,18 @@
+-- The class that was found.
+use Rattle.std.proofs.Common.{subst}
+use Rattle.class_search.specs.declared.search.Fit.{Fit}
+use Rattle.class_fits.specs.Members.{class_of_fit}
+use Rattle.event_classes.specs.Map.{FitsIn}
+use Rattle.event_classes.proofs.joining.join_fit.Goals as goal
+
+pub join_always-requires-clause-fits : goal.join_always-requires-clause-fits
+join_always-requires-clause-fits c = subst (λ (f : Fit). FitsIn c.args.map.now c.args.tag (class_of_fit c.args.map.now.classes.items f)) c.in-Always.is c.requires.fits
+
+pub join_class-requires-clause-fits : goal.join_class-requires-clause-fits
+join_class-requires-clause-fits c = subst (λ (f : Fit). FitsIn c.args.map.now c.args.tag (class_of_fit c.args.map.now.classes.items f)) c.in-Joins.is c.requires.fits
+
+pub join_class-requires-clause-place : goal.join_class-requires-clause-place
+join_class-requires-clause-place c = c.requires.place c.in-Joins.place c.in-Joins.is
+
+pub found_class-requires-clause-fits : goal.found_class-requires-clause-fits
+found_class-requires-clause-fits c = subst (λ (f : Fit). FitsIn c.args.map.now c.args.tag (class_of_fit c.args.map.now.classes.items f)) c.in-Founds.is c.requires.fits

@@ -1,0 +1,13 @@
+-- One latch after the other.
+use Rattle.std.proofs.lemmas.Option.{slice_get-get_or}
+use Rattle.event_classes.proofs.WholeMap.{tag_next, next_made, made_next}
+use Rattle.event_classes.proofs.making.join_all.Goals as goal
+
+pub join_next-requires-clause-latch : goal.join_next-requires-clause-latch
+join_next-requires-clause-latch c = tag_next c.args.map.now c.loop-at.map c.args.tags.now c.loop-at.at _ c.loop-at-test.true (slice_get-get_or c.args.tags.now c.loop-at.at _ c.loop-at-test.true) c.loop-at.invariant c.requires.named
+
+pub join_next-requires-clause-made : goal.join_next-requires-clause-made
+join_next-requires-clause-made c = next_made c.args.map.now c.loop-at.map c.args.tags.now c.loop-at.at _ c.loop-at-test.true (slice_get-get_or c.args.tags.now c.loop-at.at _ c.loop-at-test.true) c.loop-at.invariant
+
+pub loop-at-preserved : goal.loop-at-preserved
+loop-at-preserved c = made_next c.args.map.now c.loop-at.map c.join_next.new.map c.args.tags.now c.loop-at.at _ c.loop-at-test.true (slice_get-get_or c.args.tags.now c.loop-at.at _ c.loop-at-test.true) c.loop-at.invariant c.in_ok-join_next.ensures

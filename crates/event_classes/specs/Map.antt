@@ -1,0 +1,105 @@
+-- Class maps that are being made.
+use Rattle.std.specs.Prelude.{◌≡◌, ℕ, ◌<◌, ◌≤◌, List, [], ◌∷◌, ◌++◌, length, map, take, drop, slice_get, Some, Contains}
+use Rattle.circuit_theory.specs.declared.Side.{Side}
+use Rattle.circuit_theory.specs.declared.Side.TheVariants.{A, B}
+use Rattle.circuit_theory.specs.Depth.{LatchesHaveDepths}
+use Rattle.circuit_theory.specs.Joined.{Either}
+use Rattle.circuit_theory.specs.Run.{IsEnabled}
+use Rattle.event_theory.specs.Classes.{HasClasses}
+use Rattle.event_laws.specs.ClassSteps.{IsFirstFit}
+use Rattle.flat_net.specs.declared.parts.LatchAt.{LatchAt}
+use Rattle.sec_base.specs.declared.basics.Tag.{Tag}
+use Rattle.aig.specs.declared.node.Node.TheVariants.{Constant}
+use Rattle.event_nodes.specs.Nodes.{EventGraphView}
+use Rattle.event_nodes.specs.View.{EventCircuitView}
+use Rattle.event_nodes.specs.Visited.{IsWeighed}
+use Rattle.event_order.specs.Order.{place_of}
+use Rattle.event_functions.specs.Functions.{IsEnableFunctionOf}
+use Rattle.enable_compare.specs.declared.compare.Enable.{Enable}
+use Rattle.class_queries.specs.Enables.{both_of, IsEnableFunction}
+use Rattle.class_joining.specs.Joining.{with_class}
+use Rattle.event_classes.specs.declared.map.ClassMap.{ClassMap}
+use Rattle.event_classes.specs.Stand.{IsStand}
+
+-- all that was counted is within its numbers
+pub record IsWithin (m : ClassMap) : Type 0 where
+  pub left : IsWeighed m.left.net m.left_count
+  pub right : IsWeighed m.right.net m.right_count
+  pub nodes : length m.events.children < 10000
+  pub classes : length m.classes.items ≤ 500
+
+-- the latch of a tag, as a place of both circuits
+abbrev pub places_in : ClassMap → Tag → Either ℕ ℕ
+places_in m = place_of m.left.net m.right.net
+
+-- the latches that were taken
+abbrev pub taken_of : ClassMap → List (Either ℕ ℕ)
+taken_of m = map (places_in m) m.taken.items
+
+-- the class map is right as far as it goes, and these latches are left
+pub record IsMade (m : ClassMap) (rest : List (Either ℕ ℕ)) : Type 0 where
+  pub stand : IsStand m.left m.right m.events (places_in m) (taken_of m) rest m.table m.classes.items
+  pub depths : LatchesHaveDepths (both_of m.left m.right).circuit (IsEnabled (both_of m.left m.right).circuit)
+  pub within : IsWithin m
+
+-- it is the enable of the latch with this position
+abbrev pub IsEnableOf : EventCircuitView → EventGraphView → ℕ → Enable → Type 0
+IsEnableOf e w j x = (l : LatchAt) → slice_get e.net.latches j ≡ Some l → IsEnableFunctionOf e w l (record { value = x.value; care = x.care; vars = x.vars })
+
+-- the same of a latch of this circuit of the two
+abbrev pub IsEnableOn : Side → ClassMap → ℕ → Enable → Type 0
+IsEnableOn A m j x = IsEnableOf m.left m.events j x
+IsEnableOn B m j x = IsEnableOf m.right m.events j x
+
+-- it is the enable of the latch, of both circuits side by side
+abbrev pub IsEnableAt : ClassMap → Tag → Enable → Type 0
+IsEnableAt m tag x = IsEnabled (both_of m.left m.right).circuit (places_in m tag) → IsEnableFunction (both_of m.left m.right) m.events (places_in m tag) x.value.0 x.care.0
+
+-- no earlier latch has its literals
+abbrev pub IsAbsent : ClassMap → Enable → Type 0
+IsAbsent m x = Contains (map (λ e. e.0) m.table) (x.value.0, x.care.0) → ⊥
+
+-- the class is the latch's first fit
+abbrev pub FitsIn : ClassMap → Tag → ℕ → Type 0
+FitsIn m tag class = (rest : List (Either ℕ ℕ)) → IsMade m (places_in m tag ∷ rest) → IsFirstFit (both_of m.left m.right) (taken_of m) (places_in m tag) class
+
+-- the latch was given the class
+abbrev pub IsSetOn : Side → EventCircuitView → EventCircuitView → EventCircuitView → EventCircuitView → ℕ → ℕ → Type 0
+IsSetOn A a b c d j class = (c ≡ with_class a j class) × (d ≡ b)
+IsSetOn B a b c d j class = (c ≡ a) × (d ≡ with_class b j class)
+
+abbrev pub IsClassSet : EventCircuitView → EventCircuitView → EventCircuitView → EventCircuitView → Tag → ℕ → Type 0
+IsClassSet a b c d tag class = IsSetOn tag.side a b c d tag.latch class
+
+-- The class map goes on with the latch.
+pub record GoesOn (m n : ClassMap) (tag : Tag) : Type 0 where
+  pub left : n.left ≡ record m.left { classes = n.left.classes }
+  pub right : n.right ≡ record m.right { classes = n.right.classes }
+  pub taken : n.taken.items ≡ m.taken.items ++ tag ∷ []
+  pub made : (rest : List (Either ℕ ℕ)) → IsMade m (places_in m tag ∷ rest) → IsMade n rest
+
+-- no latch is taken
+pub record IsBegun (a b : EventCircuitView) (m : ClassMap) : Type 0 where
+  pub left : m.left ≡ a
+  pub right : m.right ≡ b
+  pub events : m.events ≡ record { graph = Constant ∷ []; children = []; places = [] }
+  pub left_count : m.left_count ≡ record { places = []; weight = 0 }
+  pub right_count : m.right_count ≡ record { places = []; weight = 0 }
+  pub table : m.table ≡ []
+  pub classes : m.classes.items ≡ []
+  pub taken : m.taken.items ≡ []
+
+-- the first of these latches have their classes
+pub record IsMadeTo (m n : ClassMap) (tags : List Tag) (at : ℕ) : Type 0 where
+  pub left : n.left ≡ record m.left { classes = n.left.classes }
+  pub right : n.right ≡ record m.right { classes = n.right.classes }
+  pub taken : n.taken.items ≡ take at tags
+  pub made : IsMade n (map (places_in n) (drop at tags))
+
+-- The class map of the two circuits: of all enabled latches, in their order.
+pub record IsClassMapOf (a b : EventCircuitView) (m : ClassMap) : Type 0 where
+  pub left : m.left ≡ record a { classes = m.left.classes }
+  pub right : m.right ≡ record b { classes = m.right.classes }
+  pub classes : HasClasses (both_of m.left m.right)
+  pub order : classes.order ≡ taken_of m
+  pub made : IsMade m []

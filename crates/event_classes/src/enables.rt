@@ -1,0 +1,114 @@
+//! The enable of the next latch.
+
+ghost use Rattle.std.specs.Prelude.{◌≡◌, ◌<◌, length, IfOk, OnOk};
+ghost use Rattle.event_nodes.specs.Nodes.{GrowsEvents};
+ghost use Rattle.event_nodes.specs.Visited.{IsWeighed};
+ghost use Rattle.enable_compare.specs.Comparing.{IsReadyEnable};
+ghost use Rattle.event_order.specs.Order.{IsTagOf};
+ghost use Rattle.event_classes.specs.Map.{IsWithin, IsEnableOf, IsEnableAt, IsEnableOn};
+
+use crate::error::EventError;
+use crate::map::ClassMap;
+use enable_compare::Enable;
+use event_functions::{EnableFunction, unfold_enable};
+use event_nodes::{Counter, EventCircuit, EventGraph, EventUnfoldError};
+use sec_base::{Side, Tag};
+use std::alloc::Global;
+
+/// The enable of the latch, which is counted.
+pub(crate) fn next_enable(alloc: Global, map: &mut ClassMap, tag: Tag) -> Result<Enable, EventError>
+    requires latch { IsTagOf map.old.left.net map.old.right.net tag }
+    requires within { IsWithin map.old }
+    ensures enable { IfOk result (IsEnableAt map.new tag) }
+    ensures ready { IfOk result (IsReadyEnable map.new.events) }
+    ensures within { OnOk result (IsWithin map.new) }
+    ensures grows { OnOk result (GrowsEvents map.old.events map.new.events) }
+    ensures same { map.new ≡ record map.old { events = map.new.events; left_count = map.new.left_count; right_count = map.new.right_count } }
+{
+    let made = side_enable(alloc, map, tag)?;
+    map.left.keeps();
+    map.right.keeps();
+    map.events.keeps();
+    Ok(made)
+}
+
+/// The same, of the circuit of the latch.
+fn side_enable(alloc: Global, map: &mut ClassMap, tag: Tag) -> Result<Enable, EventError>
+    requires latch { IsTagOf map.old.left.net map.old.right.net tag }
+    requires within { IsWithin map.old }
+    ensures enable { IfOk result (IsEnableOn tag.side map.new tag.latch) }
+    ensures ready { IfOk result (IsReadyEnable map.new.events) }
+    ensures within { OnOk result (IsWithin map.new) }
+    ensures grows { OnOk result (GrowsEvents map.old.events map.new.events) }
+    ensures same { map.new ≡ record map.old { events = map.new.events; left_count = map.new.left_count; right_count = map.new.right_count } }
+{
+    match tag.side {
+        Side::A => left_enable(alloc, map, tag.latch),
+        Side::B => right_enable(alloc, map, tag.latch),
+    }
+}
+
+/// The enable of the first circuit's latch with this position.
+fn left_enable(alloc: Global, map: &mut ClassMap, j: u32) -> Result<Enable, EventError>
+    requires latch { j < length map.old.left.net.latches }
+    requires within { IsWithin map.old }
+    ensures enable { IfOk result (IsEnableOf map.new.left map.new.events j) }
+    ensures ready { IfOk result (IsReadyEnable map.new.events) }
+    ensures within { OnOk result (IsWithin map.new) }
+    ensures grows { OnOk result (GrowsEvents map.old.events map.new.events) }
+    ensures same { map.new ≡ record map.old { events = map.new.events; left_count = map.new.left_count; right_count = map.new.right_count } }
+{
+    match enable_of(alloc, &map.left, &mut map.events, &mut map.left_count, j) {
+        Ok(enable) => Ok(enable),
+        Err(error) => Err(refusal(Side::A, error)),
+    }
+}
+
+/// That of the second circuit's latch.
+fn right_enable(alloc: Global, map: &mut ClassMap, j: u32) -> Result<Enable, EventError>
+    requires latch { j < length map.old.right.net.latches }
+    requires within { IsWithin map.old }
+    ensures enable { IfOk result (IsEnableOf map.new.right map.new.events j) }
+    ensures ready { IfOk result (IsReadyEnable map.new.events) }
+    ensures within { OnOk result (IsWithin map.new) }
+    ensures grows { OnOk result (GrowsEvents map.old.events map.new.events) }
+    ensures same { map.new ≡ record map.old { events = map.new.events; left_count = map.new.left_count; right_count = map.new.right_count } }
+{
+    match enable_of(alloc, &map.right, &mut map.events, &mut map.right_count, j) {
+        Ok(enable) => Ok(enable),
+        Err(error) => Err(refusal(Side::B, error)),
+    }
+}
+
+/// The refusal of a latch of this circuit.
+fn refusal(side: Side, error: EventUnfoldError) -> EventError {
+    match error {
+        EventUnfoldError::TooManyEvents => EventError::TooManyEvents,
+        EventUnfoldError::TooLarge => EventError::TooLarge(side),
+        EventUnfoldError::NoMemory => EventError::NoMemory,
+    }
+}
+
+/// The enable of the latch with this position.
+fn enable_of(
+    alloc: Global,
+    circuit: &EventCircuit,
+    events: &mut EventGraph,
+    count: &mut Counter,
+    j: u32,
+) -> Result<Enable, EventUnfoldError>
+    requires latch { j < length circuit.now.net.latches }
+    requires weighed { IsWeighed circuit.now.net count.old }
+    requires few { length events.old.children < 10000 }
+    ensures enable { IfOk result (IsEnableOf circuit.now events.new j) }
+    ensures ready { IfOk result (IsReadyEnable events.new) }
+    ensures weighed { OnOk result (IsWeighed circuit.now.net count.new) }
+    ensures few { OnOk result (length events.new.children < 10000) }
+    ensures grows { OnOk result (GrowsEvents events.old events.new) }
+{
+    circuit.keeps();
+    let made = unfold_enable(alloc, circuit, events, count, j)?;
+    events.keeps();
+    let EnableFunction { value, care, vars } = made;
+    Ok(Enable { value, care, vars })
+}

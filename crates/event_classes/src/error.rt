@@ -1,0 +1,51 @@
+//! Why classes aren't made.
+
+use pair_decide::Proof;
+use sec_base::{NoMemory, Side, Tag};
+use std::alloc::{AllocError, AllocFailed};
+
+/// Why classes aren't made.
+#[derive(Drop)]
+pub enum EventError {
+    /// More than 10,000 event nodes are reached, more than 500 classes are founded, or more than 30,000 latches are enabled.
+    TooManyEvents,
+    /// What the unfoldings of one circuit visit weighs more than 2,000,000.
+    TooLarge(Side),
+    /// A query of the latch, with a member of a class or with `always`, met the limit.
+    Limit { latch: Tag, proof: Proof },
+    /// Memory was wanted.
+    NoMemory,
+}
+
+impl From<NoMemory> for EventError {
+    ghost use Rattle.std.specs.Prelude.{◌≡◌};
+    ghost use Rattle.event_classes.specs.declared.error.EventError.TheVariants as event_error;
+
+    ghost from_gives = { λ _ e. e ≡ event_error.NoMemory };
+
+    fn from(_error: NoMemory) -> EventError {
+        EventError::NoMemory
+    }
+}
+
+impl From<AllocError> for EventError {
+    ghost use Rattle.std.specs.Prelude.{◌≡◌};
+    ghost use Rattle.event_classes.specs.declared.error.EventError.TheVariants as event_error;
+
+    ghost from_gives = { λ _ e. e ≡ event_error.NoMemory };
+
+    fn from(_error: AllocError) -> EventError {
+        EventError::NoMemory
+    }
+}
+
+impl<T: Drop> From<AllocFailed<T>> for EventError {
+    ghost use Rattle.std.specs.Prelude.{◌≡◌};
+    ghost use Rattle.event_classes.specs.declared.error.EventError.TheVariants as event_error;
+
+    ghost from_gives = { λ _ e. e ≡ event_error.NoMemory };
+
+    fn from(_error: AllocFailed<T>) -> EventError {
+        EventError::NoMemory
+    }
+}

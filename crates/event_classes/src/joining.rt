@@ -1,0 +1,188 @@
+//! The next latch joins a class.
+
+ghost use Rattle.std.specs.Prelude.{◌≡◌, ◌<◌, ◌≤◌, ℕ, suc, List, ◌∷◌, length, OnOk};
+ghost use Rattle.circuit_theory.specs.Joined.{Either};
+ghost use Rattle.enable_compare.specs.Comparing.{IsReadyEnable};
+ghost use Rattle.event_order.specs.Order.{IsTagOf};
+ghost use Rattle.class_fits.specs.Members.{class_of_fit};
+ghost use Rattle.class_search.specs.declared.search.Fit.TheVariants as fit_is;
+ghost use Rattle.event_classes.specs.Map.{IsMade, IsEnableAt, IsAbsent, FitsIn, GoesOn, places_in};
+
+use crate::enables::next_enable;
+use crate::error::EventError;
+use crate::map::ClassMap;
+use crate::places::take_latch;
+use class_search::{Class, Fit, Unfit, first_fit};
+use enable_compare::Enable;
+use sec_base::{MAX_CONFLICTS, NoMemory, Tag};
+use std::alloc::Global;
+
+/// The most classes besides `always`.
+const CLASSES: usize = 500;
+
+/// The next latch is given its class.
+pub(crate) fn join_next(
+    alloc: Global,
+    map: &mut ClassMap,
+    tag: Tag,
+    conflicts: u32,
+) -> Result<(), EventError>
+    requires latch { IsTagOf map.old.left.net map.old.right.net tag }
+    requires made { (rest : List (Either ℕ ℕ)) × IsMade map.old (places_in map.old tag ∷ rest) }
+    requires conflicts { conflicts ≤ MAX_CONFLICTS }
+    ensures { OnOk result (GoesOn map.old map.new tag) }
+{
+    map.events.keeps();
+    let enable = next_enable(alloc, map, tag)?;
+    map.left.keeps();
+    map.right.keeps();
+    map.events.keeps();
+    if let Some(class) = map.table.class_of(enable.value, enable.care) {
+        take_latch(map, tag, class)?;
+        return Ok(());
+    }
+    join_asked(alloc, map, tag, enable, conflicts)?;
+    Ok(())
+}
+
+/// The next latch is given its class, where no earlier latch has the literals of its enable.
+fn join_asked(
+    alloc: Global,
+    map: &mut ClassMap,
+    tag: Tag,
+    enable: Enable,
+    conflicts: u32,
+) -> Result<(), EventError>
+    requires latch { IsTagOf map.old.left.net map.old.right.net tag }
+    requires made { (rest : List (Either ℕ ℕ)) × IsMade map.old (places_in map.old tag ∷ rest) }
+    requires enable { IsEnableAt map.old tag enable }
+    requires ready { IsReadyEnable map.old.events enable }
+    requires absent { IsAbsent map.old enable }
+    requires conflicts { conflicts ≤ MAX_CONFLICTS }
+    ensures { OnOk result (GoesOn map.old map.new tag) }
+{
+    map.left.keeps();
+    map.right.keeps();
+    map.events.keeps();
+    match first_fit(
+        alloc,
+        &mut map.events,
+        map.classes.as_slice(),
+        &enable,
+        conflicts,
+    ) {
+        Ok(fit) => {
+            join_fit(alloc, map, tag, enable, fit)?;
+            Ok(())
+        }
+        Err(unfit) => Err(limit_of(tag, unfit)),
+    }
+}
+
+/// Why the latch is given no class.
+fn limit_of(tag: Tag, unfit: Unfit) -> EventError {
+    match unfit {
+        Unfit::Always(proof) => EventError::Limit { latch: tag, proof },
+        Unfit::Member(_, _, proof) => EventError::Limit { latch: tag, proof },
+        Unfit::NoMemory => EventError::NoMemory,
+    }
+}
+
+/// The latch is given the class that was found.
+fn join_fit(
+    alloc: Global,
+    map: &mut ClassMap,
+    tag: Tag,
+    enable: Enable,
+    fit: Fit,
+) -> Result<(), EventError>
+    requires latch { IsTagOf map.old.left.net map.old.right.net tag }
+    requires made { (rest : List (Either ℕ ℕ)) × IsMade map.old (places_in map.old tag ∷ rest) }
+    requires enable { IsEnableAt map.old tag enable }
+    requires ready { IsReadyEnable map.old.events enable }
+    requires absent { IsAbsent map.old enable }
+    requires fits { FitsIn map.old tag (class_of_fit map.old.classes.items fit) }
+    requires place { (place : ℕ) → fit ≡ fit_is.Joins place → place < length map.old.classes.items }
+    ensures { OnOk result (GoesOn map.old map.new tag) }
+{
+    match fit {
+        Fit::Always => {
+            join_always(map, tag, &enable)?;
+            Ok(())
+        }
+        Fit::Joins(place) => {
+            join_class(map, tag, enable, place)?;
+            Ok(())
+        }
+        Fit::Founds(_, _) => {
+            found_class(alloc, map, tag, enable)?;
+            Ok(())
+        }
+    }
+}
+
+/// The latch joins class 0.
+fn join_always(map: &mut ClassMap, tag: Tag, enable: &Enable) -> Result<(), NoMemory>
+    requires latch { IsTagOf map.old.left.net map.old.right.net tag }
+    requires enable { IsEnableAt map.old tag enable.now }
+    requires absent { IsAbsent map.old enable.now }
+    requires fits { FitsIn map.old tag 0 }
+    ensures { OnOk result (GoesOn map.old map.new tag) }
+{
+    map.left.keeps();
+    map.right.keeps();
+    map.events.keeps();
+    map.table.put(enable.value, enable.care, 0)?;
+    take_latch(map, tag, 0)?;
+    Ok(())
+}
+
+/// It joins the class at this place.
+fn join_class(map: &mut ClassMap, tag: Tag, enable: Enable, place: usize) -> Result<(), NoMemory>
+    requires latch { IsTagOf map.old.left.net map.old.right.net tag }
+    requires made { (rest : List (Either ℕ ℕ)) × IsMade map.old (places_in map.old tag ∷ rest) }
+    requires enable { IsEnableAt map.old tag enable }
+    requires ready { IsReadyEnable map.old.events enable }
+    requires absent { IsAbsent map.old enable }
+    requires fits { FitsIn map.old tag (suc place) }
+    requires place { place < length map.old.classes.items }
+    ensures { OnOk result (GoesOn map.old map.new tag) }
+{
+    map.left.keeps();
+    map.right.keeps();
+    map.events.keeps();
+    let class = place as u32 + 1;
+    map.table.put(enable.value, enable.care, class)?;
+    take_latch(map, tag, class)?;
+    map.classes[place].join(tag, enable)?;
+    Ok(())
+}
+
+/// It founds the next class.
+fn found_class(
+    alloc: Global,
+    map: &mut ClassMap,
+    tag: Tag,
+    enable: Enable,
+) -> Result<(), EventError>
+    requires latch { IsTagOf map.old.left.net map.old.right.net tag }
+    requires enable { IsEnableAt map.old tag enable }
+    requires ready { IsReadyEnable map.old.events enable }
+    requires absent { IsAbsent map.old enable }
+    requires fits { FitsIn map.old tag (suc (length map.old.classes.items)) }
+    ensures { OnOk result (GoesOn map.old map.new tag) }
+{
+    map.left.keeps();
+    map.right.keeps();
+    map.events.keeps();
+    if map.classes.len() >= CLASSES {
+        return Err(EventError::TooManyEvents);
+    }
+    let class = map.classes.len() as u32 + 1;
+    map.table.put(enable.value, enable.care, class)?;
+    take_latch(map, tag, class)?;
+    let mut founded = Class::new(alloc);
+    founded.join(tag, enable)?;
+    map.classes.push(founded)?;
+    Ok(())
+}

@@ -1,0 +1,83 @@
+//! Class maps are made.
+
+ghost use Rattle.std.specs.Prelude.{◌≡◌, ◌≤◌, length, All, IfOk, OnOk};
+ghost use Rattle.circuit_theory.specs.Depth.{LatchesHaveDepths};
+ghost use Rattle.flat_net.specs.View.{circuit_of};
+ghost use Rattle.event_nodes.specs.View.{Enabled};
+ghost use Rattle.event_order.specs.Order.{IsTagOf};
+ghost use Rattle.event_classes.specs.Map.{IsBegun, IsMadeTo, IsClassMapOf};
+
+use crate::error::EventError;
+use crate::joining::join_next;
+use crate::map::ClassMap;
+use class_joining::{EnableTable, latches_in_order};
+use event_nodes::{Counter, EventCircuit, EventGraph};
+use sec_base::{MAX_CONFLICTS, NoMemory, Tag};
+use std::alloc::Global;
+
+/// The most enabled latches of both circuits together.
+const LATCHES: usize = 30_000;
+
+/// The class map of two circuits whose latches are all of class 0 so far. The enabled latches are taken in their order, by depth, then
+/// those of the first circuit before those of the second, then by position; each joins the first class all of whose members agree with
+/// it wherever both have care, or founds the next.
+pub fn make_classes(
+    alloc: Global,
+    left: EventCircuit,
+    right: EventCircuit,
+    conflicts: u32,
+) -> Result<ClassMap, EventError>
+    requires left_depths { LatchesHaveDepths (circuit_of left.net) (Enabled left) }
+    requires right_depths { LatchesHaveDepths (circuit_of right.net) (Enabled right) }
+    requires left_classes { All (λ k. k ≡ 0) left.classes }
+    requires right_classes { All (λ k. k ≡ 0) right.classes }
+    requires conflicts { conflicts ≤ MAX_CONFLICTS }
+    ensures { IfOk result (IsClassMapOf left right) }
+{
+    left.keeps();
+    right.keeps();
+    let tags = latches_in_order(alloc, &left, &right)?;
+    if tags.len() > LATCHES {
+        return Err(EventError::TooManyEvents);
+    }
+    let mut map = begin(alloc, left, right)?;
+    join_all(alloc, &mut map, tags.as_slice(), conflicts)?;
+    map.left.keeps();
+    map.right.keeps();
+    Ok(map)
+}
+
+/// No latch is taken.
+fn begin(alloc: Global, left: EventCircuit, right: EventCircuit) -> Result<ClassMap, NoMemory>
+    ensures { IfOk result (IsBegun left right) }
+{
+    let events = EventGraph::new(alloc)?;
+    Ok(ClassMap {
+        left,
+        right,
+        events,
+        left_count: Counter::new(alloc),
+        right_count: Counter::new(alloc),
+        table: EnableTable::new(alloc),
+        classes: Vec::new(alloc),
+        taken: Vec::new(alloc),
+    })
+}
+
+/// All these latches are given their classes, one after the other.
+fn join_all(
+    alloc: Global,
+    map: &mut ClassMap,
+    tags: &[Tag],
+    conflicts: u32,
+) -> Result<(), EventError>
+    requires named { All (IsTagOf map.old.left.net map.old.right.net) tags.now }
+    requires begins { IsMadeTo map.old map.old tags.now 0 }
+    requires conflicts { conflicts ≤ MAX_CONFLICTS }
+    ensures { OnOk result (IsMadeTo map.old map.new tags.now (length tags.now)) }
+{
+    for at in 0..tags.len() {
+        join_next(alloc, map, tags[at], conflicts)?;
+    }
+    Ok(())
+}

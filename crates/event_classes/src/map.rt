@@ -1,0 +1,25 @@
+//! Class maps.
+
+use class_joining::EnableTable;
+use class_search::Class;
+use event_nodes::{Counter, EventCircuit, EventGraph};
+use sec_base::Tag;
+
+/// Two circuits whose enabled latches are given classes one after the other.
+#[derive(Drop)]
+pub struct ClassMap {
+    /// The circuits, with the classes of the latches that were taken.
+    pub left: EventCircuit,
+    pub right: EventCircuit,
+    /// The graph of the enables of both.
+    pub events: EventGraph,
+    /// What the unfoldings of each circuit have visited.
+    pub left_count: Counter,
+    pub right_count: Counter,
+    /// The classes of the enables that were met.
+    pub table: EnableTable,
+    /// The classes besides `always`.
+    pub classes: Vec<Class>,
+    /// The latches that were taken, in order.
+    pub taken: Vec<Tag>,
+}
