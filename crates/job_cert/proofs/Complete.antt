@@ -1,6 +1,6 @@
 -- Where there is a certificate, it is found.
 use Rattle.std.specs.Prelude.{IfSome, IsSomeAnd}
-use Rattle.std.proofs.Common.{◌≡◌, ℕ, Bool, true, false, List, [], refl, sym, ◌∙◌, arith, inl, inr, Option, Some, None}
+use Rattle.std.proofs.Common.{◌≡◌, ℕ, Bool, true, false, List, [], refl, sym, ◌∙◌, arith, inl, inr, Option, Some}
 use Rattle.std.proofs.lemmas.Option.{none-some}
 use Rattle.circuit_theory.specs.declared.Side.TheVariants.{A, B}
 use Rattle.sec_check.proofs.ToldCycles.{is_not_free}
@@ -18,7 +18,7 @@ use Rattle.job_base.specs.Written.{status_of, unrefuted_status}
 use Rattle.job_files.proofs.Reading.{some_and, if_told}
 use Rattle.job_cert.specs.Made.{Request, IsMadeBy}
 use Rattle.job_cert.specs.Found.{IsCertRefusal, IsCertFound}
-use Rattle.job_cert.specs.Answer.{AreCertifiable, CanCertify, IsCertAnswer, IsCertComplete}
+use Rattle.job_cert.specs.Answer.{AreCertifiable, IsCertAnswer, IsCertComplete}
 
 too_long : (x : List ℕ) → IsAccepted x → IsTooLong x → ⊥
 too_long x accepted h = omega (arith, accepted.short)

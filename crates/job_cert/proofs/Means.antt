@@ -1,5 +1,5 @@
 -- What the status of a certificate means.
-use Rattle.std.proofs.Common.{◌≡◌, ℕ, Bool, true, false, List, [], ◌∷◌, refl, sym, ◌∙◌, ap, subst, Option}
+use Rattle.std.proofs.Common.{◌≡◌, ℕ, Bool, true, false, List, refl, sym, subst, Option}
 use Rattle.sec_base.specs.Outside.{Takes}
 use Rattle.flat_net.specs.View.{NetView}
 use Rattle.proof_check.specs.Clauses.{Unsatisfiable}
@@ -18,7 +18,7 @@ use Rattle.job_base.specs.Lines.{finding_text, unsettled_text}
 use Rattle.job_base.specs.Written.{status_of, IsWrittenAs}
 use Rattle.job_cert.specs.Made.{Request, Refutes, IsMadeBy, IsCertificate}
 use Rattle.job_cert.specs.Found.{OfNets, IsCertFound}
-use Rattle.job_cert.specs.Answer.{TellsText, PairDiffers, KeepsLimit, CertMeans}
+use Rattle.job_cert.specs.Answer.{TellsText, CertMeans}
 
 -- a text that refutes the clauses shows that none meets them
 refuted : (cnf : Cnf) (text : List ℕ) → Refutes cnf text → Unsatisfiable cnf.clauses

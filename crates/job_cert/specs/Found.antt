@@ -1,5 +1,5 @@
 -- What is true of the files of a certificate where it finds what it does. A text is given where it is told.
-use Rattle.std.specs.Prelude.{◌≡◌, ℕ, List, [], ◌∷◌, Option, IfSome, Err}
+use Rattle.std.specs.Prelude.{ℕ, List, [], ◌∷◌, Option, IfSome, Err}
 use Rattle.flat_net.specs.View.{NetView}
 use Rattle.sec_check.specs.Compared.{Compared}
 use Rattle.sec_check.specs.declared.error.CompareError.TheVariants as compare_error

@@ -1,8 +1,7 @@
--- Circuits that can be compared have certificates of their outputs; two units are refuted.
+-- Circuits that can be compared have certificates of their outputs.
 use Rattle.std.specs.Prelude.{codes}
 use Rattle.std.specs.List.{Contains}
-use Rattle.std.specs.Prelude.{◌⊎◌}
-use Rattle.std.proofs.Common.{◌≡◌, ◌≢◌, ℕ, false, List, [], ◌∷◌, map, refl, sym, ap, subst, arith, inl, inr}
+use Rattle.std.proofs.Common.{◌≡◌, ℕ, false, List, [], ◌∷◌, map, sym, ap, subst}
 use Rattle.circuit_theory.specs.Circuit.{Named}
 use Rattle.circuit_theory.proofs.Lists.{Contains-head, Contains-map, Contains-map_from}
 use Rattle.blif_read.specs.declared.design.BlifModel.{BlifModel}
@@ -15,9 +14,7 @@ use Rattle.job_cert.specs.Answer.{AreCertifiable}
 use Rattle.design_rows.specs.Designs as design
 use Rattle.design_rows.specs.Small.{Small, IsSmall, small_and, small_late}
 use Rattle.premise_rows.specs.Texts.{on_and, off_and, late, early}
-use Rattle.proof_check.specs.Literals.{Literal}
-use Rattle.premise_rows.specs.Certificates.{CertificatesMeetPremises, RefutationIsWritten}
-use Rattle.premise_rows.proofs.Refutations.{yes, no, alone, nothing_in}
+use Rattle.premise_rows.specs.Certificates.{CertificatesMeetPremises}
 use Rattle.premise_rows.proofs.Comparing.{Spells, net_is_small}
 use Rattle.premise_rows.proofs.Examples.{on_and_spells, late_spells, ands_are_comparable, retimed_are_comparable}
 
@@ -42,43 +39,4 @@ pub certificates_meet_premises : CertificatesMeetPremises
 certificates_meet_premises = (
   certifiable on_and off_and design.on_and small_and (codes "y") on_and_spells (Contains-head (codes "y") []) (ands_are_comparable false),
   certifiable late early design.late small_late (codes "y") late_spells (Contains-head (codes "y") []) (retimed_are_comparable false),
-)
-
--- a variable and its negation have nothing left
-nothing_left : (x : Literal) → (x.variable ≢ 1) × (Contains (yes 1 ∷ []) x ⊎ Contains (no 1 ∷ []) x) → Contains [] x
-nothing_left x (other, inl h) = absurd (other (ap (λ (l : Literal). l.variable) (alone (yes 1) x h)))
-nothing_left x (other, inr h) = absurd (other (ap (λ (l : Literal). l.variable) (alone (no 1) x h)))
-
-pub refutation_is_written : RefutationIsWritten
-refutation_is_written = (
-  record { few_variables = omega arith; few_clauses = omega arith; range = (((omega arith, omega arith), tt), (((omega arith, omega arith), tt), tt)) },
-  record {
-    derived = [] ∷ [];
-    derives = (
-      [],
-      [],
-      (
-        yes 1 ∷ [],
-        refl,
-        (
-          [],
-          (
-            no 1 ∷ [],
-            refl,
-            record {
-              left = (tt, tt);
-              right = (tt, tt);
-              opposite = (yes 1, refl, Contains-head (yes 1) [], Contains-head (no 1) []);
-              ordered = tt;
-              members = λ x. ((λ h. absurd (nothing_in x h)), nothing_left x);
-            },
-          ),
-          refl,
-        ),
-      ),
-      refl,
-      refl,
-    );
-    ends_empty = ([], refl);
-  },
 )

@@ -11,16 +11,16 @@ use Rattle.text_numbers.specs.Lines.{lines_of}
 use Rattle.lrat_text.specs.Verdicts.{TextGives}
 use Rattle.premise_rows.specs.Refutations.{UnitsAreRefuted, PairsAreRefuted, refuting}
 
-abbrev pub yes : ℕ → Literal
+abbrev yes : ℕ → Literal
 yes v = record { variable = v; positive = true }
 
-abbrev pub no : ℕ → Literal
+abbrev no : ℕ → Literal
 no v = record { variable = v; positive = false }
 
-pub nothing_in : (l : Literal) → Contains [] l → ⊥
+nothing_in : (l : Literal) → Contains [] l → ⊥
 nothing_in l h = omega (arith, h.1)
 
-pub alone : (l m : Literal) → Contains (l ∷ []) m → m ≡ l
+alone : (l m : Literal) → Contains (l ∷ []) m → m ≡ l
 alone l m h = elim (Contains-cases l m [] h) [ inl e ↦ sym e | inr k ↦ absurd (nothing_in m k) ]
 
 -- the one literal of a clause

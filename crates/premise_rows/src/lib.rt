@@ -16,7 +16,7 @@ ghost use Rattle.premise_rows.specs.Started.{StartedPowersUp};
 ghost use Rattle.premise_rows.specs.Enables.{EnablesMeetPremises};
 ghost use Rattle.premise_rows.specs.Replays.{ReplaysMeetPremises};
 ghost use Rattle.premise_rows.specs.Refutations.{UnitsAreRefuted, PairsAreRefuted};
-ghost use Rattle.premise_rows.specs.Certificates.{CertificatesMeetPremises, RefutationIsWritten};
+ghost use Rattle.premise_rows.specs.Certificates.{CertificatesMeetPremises};
 ghost use Rattle.premise_rows.specs.TextNets.{TextNetsAreOne, ToldCyclesAreOne, OneNetIsEnough};
 
 use sec_base::{Shelf, Sink};
@@ -107,11 +107,6 @@ pub fn refutations_are_checked()
 /// Two `and`s, and a circuit with the same retimed, have certificates of their output.
 pub fn certificates_meet_premises()
     ensures { CertificatesMeetPremises }
-{}
-
-/// A variable and its negation can be written, and a log of one chain refutes them: the premises under which a refutation is written.
-pub fn refutation_is_written()
-    ensures { RefutationIsWritten }
 {}
 
 /// A text loads as one net, up to the numbers of its signals.

@@ -1,7 +1,5 @@
 -- The clauses, or what is found in place of them.
-use Rattle.std.proofs.Common.{◌≡◌, sym, subst, Err}
-use Rattle.job_cert.specs.Made.{Made, wanted_of}
-use Rattle.job_cert.proofs.Certified.{writable, searched, spelled}
+use Rattle.job_cert.proofs.Certified.{writable}
 use Rattle.job_cert.proofs.making.make.Goals as goal
 
 pub write_dimacs-requires : goal.write_dimacs-requires

@@ -1,7 +1,6 @@
 -- What a search finds, in words of the job.
 use Rattle.std.proofs.Common.{refl, subst}
 use Rattle.sat_search.specs.Found.{IsFound, assignment_of}
-use Rattle.sat_search.specs.declared.outcome.Found.TheVariants as found
 use Rattle.job_cert.proofs.Certified.{writable}
 use Rattle.job_cert.proofs.making.refute.Goals as goal
 
