@@ -4,6 +4,7 @@ ghost use Rattle.std.specs.Prelude.{◌≡◌, ◌<◌, ◌≤◌, length, IfOk}
 ghost use Rattle.flat_net.specs.Cut.{latch_at};
 ghost use Rattle.circuit_theory.specs.declared.Mode.TheVariants.{Plain};
 ghost use Rattle.latch_cone.specs.Kinds.{AreKindsIn};
+ghost use Rattle.unate_enable.specs.Recovery.{AreFactsOf};
 ghost use Rattle.latch_kinds.specs.Found.{FoundAt, FoundIn, AreFound};
 
 use circuit_theory::Mode;
@@ -12,7 +13,7 @@ use latch_cone::{LatchKind, all_plain};
 use pair_decide::Proof;
 use sec_base::{MAX_CONFLICTS, NoMemory, Seq, Word};
 use std::alloc::Global;
-use unate_enable::{RecoverError, Recovery, recover};
+use unate_enable::{NetFacts, RecoverError, Recovery, facts_of, recover_by};
 
 /// What each latch is, in the net's order of latches.
 pub type LatchKinds = Seq<LatchKind>;
@@ -69,21 +70,29 @@ fn recovered(alloc: Global, net: &Net, conflicts: u32) -> Result<LatchKinds, Kin
     ensures { AreFound net.now conflicts result }
 {
     net.keeps();
+    let facts = facts_of(alloc, net)?;
     let mut kinds = LatchKinds::new(alloc);
     for j in 0..net.latches().len() {
-        let kind = kind_of(alloc, net, j as u32, conflicts)?;
+        let kind = kind_of(alloc, net, &facts, j as u32, conflicts)?;
         kinds.push(kind)?;
     }
     Ok(kinds)
 }
 
 /// Finds out what a latch is.
-fn kind_of(alloc: Global, net: &Net, latch: u32, conflicts: u32) -> Result<LatchKind, KindsError>
+fn kind_of(
+    alloc: Global,
+    net: &Net,
+    facts: &NetFacts,
+    latch: u32,
+    conflicts: u32,
+) -> Result<LatchKind, KindsError>
+    requires facts { AreFactsOf net.now facts.now }
     requires latch { latch < length net.now.latches }
     requires conflicts { conflicts ≤ MAX_CONFLICTS }
     ensures { FoundAt net.now latch conflicts result }
 {
-    match recover(alloc, net, latch, conflicts) {
+    match recover_by(alloc, net, facts, latch, conflicts) {
         Ok(Recovery::Plain) => Ok(LatchKind::Plain),
         Ok(Recovery::Enabled) => Ok(LatchKind::Enabled),
         Ok(Recovery::NotUnate(_)) => Ok(LatchKind::NotUnate),

@@ -8,7 +8,7 @@ use Rattle.std.proofs.lemmas.List.Elements.{All-get_or, All-contains, All-head, 
 use Rattle.std.proofs.lemmas.List.Folds.{list_any-append}
 use Rattle.std.proofs.lemmas.Option.{same_Some, slice_get-get_or, get_or_from_slice_get}
 use Rattle.circuit_theory.specs.Cover.{Cover, place_matches, row_matches, cover_value}
-use Rattle.circuit_theory.specs.Circuit.{Circuit, Holds, Reads, IsSource, Gate as gate_equation}
+use Rattle.circuit_theory.specs.Circuit.{Circuit, Holds, Reads, Reaches, IsSource, Gate as gate_equation}
 use Rattle.circuit_theory.proofs.Lists.{at_of, All-from_each, length-map}
 use Rattle.circuit_theory.proofs.Sums.{same_or_not}
 use Rattle.flat_net.specs.declared.signals.Signal.{Signal}
@@ -17,8 +17,11 @@ use Rattle.flat_net.specs.declared.parts.Driver.TheVariants as driver
 use Rattle.flat_net.specs.View.{NetView, circuit_of, cover_of}
 use Rattle.flat_net.specs.Sound.{IsSound}
 use Rattle.unate_enable.specs.declared.ways.Way.{Way}
-use Rattle.unate_enable.specs.Raises.{IsRaise, MayGo, GoOn, IsWayPut, PutsWay, still, both_ways, turned, at_place, way_in}
+use Rattle.unate_enable.specs.Raises.{IsRaise, AreClosedTo, MayGo, GoOn, IsWayPut, PutsWay, still, both_ways, turned, at_place, way_in}
 use Rattle.flat_net.proofs.Places.{one_at}
+use Rattle.flat_net.proofs.Nets.{sound_is_net}
+use Rattle.circuit_laws.proofs.NetLaws.{net_determined}
+use Rattle.circuit_laws.proofs.SameMarks.{values_by_cone}
 use Rattle.unate_enable.proofs.Drivers.{gate_equation_stands, gate_reads_to, read_lower, source_drives, no_input_gate}
 use Rattle.unate_enable.proofs.Literals.{stands_before}
 
@@ -225,6 +228,12 @@ module _ (n : NetView) (sound : IsSound n) where
       let all = All-from_each (λ (f : Signal). MayGo (ways f.0) (low f.0) (high f.0)) gate.fanins (λ f h. reads f.0 (gate_reads_to n sound s j drives gate at f h)) in
       subst (λ (b : Bool). MayGo way b (high s)) (sym down) (subst (λ (b : Bool). MayGo way (cover_value (cover_of n.covers gate) (map low (map (λ (f : Signal). f.0) gate.fanins))) b) (sym up) (go low high all))
 
+  -- what no way leads back from to the latch stays
+  pub aside_stays : (u : ℕ) (low high : ℕ → Bool) → IsRaise (circuit_of n) u low high → (q : ℕ) → q < length n.drivers → (Reaches (circuit_of n) q u → ⊥) → low q ≡ high q
+  aside_stays u low high raise q within aside =
+      values_by_cone (circuit_of n) low high raise.low_is.meets raise.high_is.meets (net_determined (circuit_of n) (length n.drivers) (sound_is_net n sound) q within)
+      (λ w cone. let other : w ≢ u = λ e. aside (subst (λ (p : ℕ). Reaches (circuit_of n) q p) e cone.1) in raise.low_is.sources w cone.0 other ∙ sym (raise.high_is.sources w cone.0 other))
+
   -- a source but the latch stays
   source_goes : (u : ℕ) (low high : ℕ → Bool) → IsRaise (circuit_of n) u low high → (s : ℕ) → IsSource (circuit_of n) s → s ≢ u → (w : Way) → MayGo w (low s) (high s)
   source_goes u low high raise s source other w = go_equal w (low s) (high s) (raise.low_is.sources s source other ∙ sym (raise.high_is.sources s source other))
@@ -242,13 +251,18 @@ module _ (n : NetView) (sound : IsSound n) where
       by (inr other) = puts.others u other
 
   -- one signal more goes its way
-  module _ (signals : List ℕ) (increasing : IsStrictlyIncreasing signals) (closed : (s q : ℕ) → Contains signals s → Reads (circuit_of n) s q → Contains signals q) (i s : ℕ) (at : slice_get signals i ≡ Some s) (here : Contains signals s) (old new : ℕ → Way)
-      (puts : PutsWay (circuit_of n) s old new) (u : ℕ) (low high : ℕ → Bool) (source : IsSource (circuit_of n) u) (raise : IsRaise (circuit_of n) u low high) (own : MayGo (old u) (low u) (high u))
+  module _ (signals : List ℕ) (increasing : IsStrictlyIncreasing signals) (i s : ℕ) (at : slice_get signals i ≡ Some s) (here : Contains signals s) (inside : s < length n.drivers) (old new : ℕ → Way)
+      (puts : PutsWay (circuit_of n) s old new) (u : ℕ) (low high : ℕ → Bool) (source : IsSource (circuit_of n) u) (raise : IsRaise (circuit_of n) u low high) (closed : AreClosedTo (circuit_of n) u signals) (own : MayGo (old u) (low u) (high u))
       (before : (k q : ℕ) → k < i → slice_get signals k ≡ Some q → MayGo (old q) (low q) (high q)) where
     reads_go : (q : ℕ) → Reads (circuit_of n) s q → MayGo (old q) (low q) (high q)
-    reads_go q reads =
-        let k = at_of signals q (closed s q here reads) in
-        before k.0 q (stands_before signals increasing i k.0 s q at k.1 (read_lower n sound s q reads)) k.1
+    reads_go q reads = by (closed s q here reads)
+      where
+        lower : q < s
+        lower = read_lower n sound s q reads
+
+        by : Contains signals q ⊎ (Reaches (circuit_of n) q u → ⊥) → MayGo (old q) (low q) (high q)
+        by (inl h) = let k = at_of signals q h in before k.0 q (stands_before signals increasing i k.0 s q at k.1 lower) k.1
+        by (inr aside) = go_equal (old q) (low q) (high q) (aside_stays u low high raise q (omega (arith, lower, inside)) aside)
 
     own_new : MayGo (new u) (low u) (high u)
     own_new = subst (λ (w : Way). MayGo w (low u) (high u)) (sym (own_stays s old new puts u source)) own

@@ -1,6 +1,6 @@
 -- Which way values go where a latch goes from 0 to 1, and all inputs and other latches stay.
-use Rattle.std.specs.Prelude.{◌≡◌, ◌≢◌, ◌⊎◌, ℕ, Bool, true, false, ◌||◌, ◌==◌, if◌then◌else◌, Option, Some, unwrap_or, List, map, All}
-use Rattle.circuit_theory.specs.Circuit.{Circuit, Reads, IsSource}
+use Rattle.std.specs.Prelude.{◌≡◌, ◌≢◌, ◌⊎◌, ℕ, Bool, true, false, ◌||◌, ◌==◌, if◌then◌else◌, Option, Some, unwrap_or, List, map, All, Contains}
+use Rattle.circuit_theory.specs.Circuit.{Circuit, Reads, Reaches, IsSource}
 use Rattle.circuit_theory.specs.Run.{ExtendsWith}
 use Rattle.flat_net.specs.declared.signals.Signal.{Signal}
 use Rattle.unate_enable.specs.declared.ways.Way.{Way}
@@ -10,6 +10,10 @@ pub record IsRaise (c : Circuit ℕ) (u : ℕ) (low high : ℕ → Bool) : Type 
   pub x : ℕ → Bool
   pub low_is : ExtendsWith c u false x low
   pub high_is : ExtendsWith c u true x high
+
+-- among the signals stands what they read, but for what no way leads back from to the latch
+abbrev pub AreClosedTo : Circuit ℕ → ℕ → List ℕ → Type 0
+AreClosedTo c u signals = (s q : ℕ) → Contains signals s → Reads c s q → Contains signals q ⊎ (Reaches c q u → ⊥)
 
 -- what doesn't fall goes on to be 1, and what doesn't rise has been 1 before
 pub record MayGo (way : Way) (low high : Bool) : Type 0 where

@@ -17,6 +17,8 @@ use Rattle.pair_decide.specs.Answers.{IsAtLimit}
 use Rattle.unate_enable.specs.declared.support.LatchCone.{LatchCone}
 use Rattle.unate_enable.specs.declared.recovery.Recovery.{Recovery}
 use Rattle.unate_enable.specs.declared.recovery.Recovery.TheVariants as recovery
+use Rattle.inner_cone.specs.Inner.{AreRanked}
+use Rattle.unate_enable.specs.declared.facts.NetFacts.{NetFacts}
 use Rattle.unate_enable.specs.Cones.{out_of_latch, data_of_latch, IsConeOfLatch, places_of}
 
 -- the latch is in the cone of what it takes over itself
@@ -115,3 +117,12 @@ IsRecovery n j conflicts (recovery.Limit proof) = IsAsked n j × IsUndecided n j
 -- it has a self-edge, and its cone is too large
 abbrev pub IsTooLarge : NetView → ℕ → Type 0
 IsTooLarge n j = HasSelfEdge n j × IsConeOver (circuit_of n) (data_of_latch n j) MAX_WEIGHT
+
+-- no latch of the net takes over what weighs more than the limit
+abbrev pub AreConesLight : NetView → Type 0
+AreConesLight n = (j : ℕ) → j < length n.latches → IsLight n j
+
+-- what is known of the net is right
+pub record AreFactsOf (n : NetView) (facts : NetFacts) : Type 0 where
+  pub ranked : AreRanked n facts.ranks
+  pub light : facts.light ≡ true → AreConesLight n

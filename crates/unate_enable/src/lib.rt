@@ -6,6 +6,7 @@
 #![tactic(auto)]
 
 mod cone_literals;
+mod facts;
 mod laws;
 mod reached_signals;
 mod reads;
@@ -14,6 +15,7 @@ mod sources;
 mod support;
 mod ways;
 
+pub use facts::{NetFacts, facts_of};
 pub use laws::cones_are_one;
-pub use recovery::{RecoverError, Recovery, recover};
+pub use recovery::{RecoverError, Recovery, recover, recover_by};
 pub use support::{LatchCone, cone};

@@ -1,6 +1,6 @@
 //! Whether a latch has a load enable.
 
-ghost use Rattle.std.specs.Prelude.{◌≡◌, ℕ, ◌+◌, ◌*◌, ◌^◌, ◌<◌, ◌≤◌, length, slice_get, Some, Contains, IsTrue, ◌↔◌, IfOk};
+ghost use Rattle.std.specs.Prelude.{◌≡◌, ℕ, true, false, ◌+◌, ◌*◌, ◌^◌, ◌<◌, ◌≤◌, length, slice_get, Some, Contains, IsTrue, ◌↔◌, IfOk};
 ghost use Rattle.std.specs.List.{sum_by};
 ghost use Rattle.flat_net.specs.View.{circuit_of};
 ghost use Rattle.aig.specs.Graph.{vars_of};
@@ -9,16 +9,19 @@ ghost use Rattle.unate_enable.specs.Walks.{AreReached};
 ghost use Rattle.unate_enable.specs.declared.support.LatchCone.{LatchCone};
 ghost use Rattle.unate_enable.specs.Cones.{data_of_latch, out_of_latch, IsConeOfLatch, places_of};
 ghost use Rattle.unate_enable.specs.Building.{AreClosed};
-ghost use Rattle.unate_enable.specs.Recovery.{IsRecovery, IsEnabledAt, IsTooLarge, IsAnswer, IsQueryOf, recovery_of};
+ghost use Rattle.inner_cone.specs.Inner.{AreInside};
+ghost use Rattle.unate_enable.specs.Recovery.{IsRecovery, IsEnabledAt, AreFactsOf, IsTooLarge, IsAnswer, IsQueryOf, recovery_of};
 ghost use Rattle.unate_enable.specs.declared.recovery.RecoverError.TheVariants as recover_error;
 
 use crate::cone_literals::lit_with;
+use crate::facts::NetFacts;
 use crate::reached_signals::reached;
 use crate::reads::{are_light, latch_of};
 use crate::sources::{cone_among, places};
 use crate::ways::never_falls;
 use aig::Aig;
 use flat_net::{Net, Signal};
+use inner_cone::inside;
 use pair_decide::{Decision, Proof, Query, decide};
 use sec_base::{Bits, Ids, MAX_CONFLICTS, MAX_WEIGHT, NoMemory};
 use std::alloc::Global;
@@ -71,6 +74,57 @@ pub fn recover(
     ensures recovery { IfOk result (IsRecovery net.now latch conflicts) }
     ensures large { result ≡ Err recover_error.TooLarge → IsTooLarge net.now latch }
 {
+    recover_whole(alloc, net, latch, conflicts, false)
+}
+
+/// The same, with what is known of the net. Of the cone it looks at what leads back to the latch alone, if that tells the answer.
+pub fn recover_by(
+    alloc: Global,
+    net: &Net,
+    facts: &NetFacts,
+    latch: u32,
+    conflicts: u32,
+) -> Result<Recovery, RecoverError>
+    requires facts { AreFactsOf net.now facts.now }
+    requires latch { latch < length net.now.latches }
+    requires conflicts { conflicts ≤ MAX_CONFLICTS }
+    ensures recovery { IfOk result (IsRecovery net.now latch conflicts) }
+    ensures large { result ≡ Err recover_error.TooLarge → IsTooLarge net.now latch }
+{
+    net.keeps();
+    let at = latch_of(net, latch);
+    let signals = inside(alloc, net, facts.ranks.as_slice(), at.next, at.out)?;
+    if !is_among(signals.as_slice(), at.out) {
+        return Ok(Recovery::Plain);
+    }
+    let skip = is_query_alone(facts, conflicts);
+    let shown = is_shown(alloc, net, latch, signals.as_slice(), skip)?;
+    if shown {
+        return Ok(Recovery::Enabled);
+    }
+    recover_whole(alloc, net, latch, conflicts, !skip)
+}
+
+/// Whether the query alone can tell of a latch that it is enabled: with few conflicts, or where the cone's weight isn't known.
+fn is_query_alone(facts: &NetFacts, conflicts: u32) -> bool
+    ensures { result ≡ false → facts.now.light ≡ true }
+{
+    !facts.light || conflicts < FEW
+}
+
+/// Finds it out by the whole cone. With `looked` the covers aren't looked at once more.
+fn recover_whole(
+    alloc: Global,
+    net: &Net,
+    latch: u32,
+    conflicts: u32,
+    looked: bool,
+) -> Result<Recovery, RecoverError>
+    requires latch { latch < length net.now.latches }
+    requires conflicts { conflicts ≤ MAX_CONFLICTS }
+    ensures recovery { IfOk result (IsRecovery net.now latch conflicts) }
+    ensures large { result ≡ Err recover_error.TooLarge → IsTooLarge net.now latch }
+{
     net.keeps();
     let at = latch_of(net, latch);
     let signals = reached(alloc, net, at.next)?;
@@ -80,7 +134,8 @@ pub fn recover(
     if !are_light(net, signals.as_slice()) {
         return Err(RecoverError::TooLarge);
     }
-    let recovery = ask(alloc, net, latch, signals.as_slice(), conflicts)?;
+    let skip = looked || conflicts < FEW;
+    let recovery = ask(alloc, net, latch, signals.as_slice(), conflicts, skip)?;
     Ok(recovery)
 }
 
@@ -90,13 +145,15 @@ fn is_among(signals: &[u32], s: Signal) -> bool
     signals.contains(&s.0)
 }
 
-/// Asks for values with which the latch falls. The signals are those of its cone, the latch among them.
+/// Asks for values with which the latch falls. The signals are those of its cone, the latch among them. With `skip` the covers
+/// aren't looked at before.
 fn ask(
     alloc: Global,
     net: &Net,
     latch: u32,
     signals: &[u32],
     conflicts: u32,
+    skip: bool,
 ) -> Result<Recovery, NoMemory>
     requires latch { latch < length net.now.latches }
     requires conflicts { conflicts ≤ MAX_CONFLICTS }
@@ -106,7 +163,7 @@ fn ask(
     ensures { IfOk result (IsAnswer net.now latch conflicts) }
 {
     net.keeps();
-    let shown = is_shown(alloc, net, latch, signals, conflicts)?;
+    let shown = is_shown(alloc, net, latch, signals, skip)?;
     if shown {
         return Ok(Recovery::Enabled);
     }
@@ -115,20 +172,22 @@ fn ask(
     ask_over(alloc, net, latch, signals, places.as_slice(), conflicts)
 }
 
-/// Whether the covers of its cone show that the latch is enabled. With few conflicts nothing but the query tells it.
+/// Whether the covers of what leads back to the latch show that it is enabled. With `skip` they aren't looked at: with few
+/// conflicts nothing but the query tells it.
 fn is_shown(
     alloc: Global,
     net: &Net,
     latch: u32,
     signals: &[u32],
-    conflicts: u32,
+    skip: bool,
 ) -> Result<bool, NoMemory>
     requires latch { latch < length net.now.latches }
-    requires reached { AreReached (circuit_of net.now) (length net.now.drivers) (data_of_latch net.now latch) signals.now }
+    requires inside { AreInside net.now (data_of_latch net.now latch) (out_of_latch net.now latch) signals.now }
     requires own { Contains signals.now (out_of_latch net.now latch) }
-    ensures { IfOk result (λ shown. IsTrue shown → IsEnabledAt net.now latch) }
+    ensures enabled { IfOk result (λ shown. IsTrue shown → IsEnabledAt net.now latch) }
+    ensures looked { IfOk result (λ shown. IsTrue shown → skip ≡ false) }
 {
-    if conflicts < FEW {
+    if skip {
         return Ok(false);
     }
     net.keeps();

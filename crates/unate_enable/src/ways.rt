@@ -4,11 +4,11 @@ ghost use Rattle.std.specs.Prelude.{◌≡◌, ℕ, ◌<◌, Bool, true, false, 
 ghost use Rattle.std.specs.List.{list_any};
 ghost use Rattle.std.specs.List.Sorted.{IsStrictlyIncreasing};
 ghost use Rattle.circuit_theory.specs.Cover.{row_matches, cover_value};
-ghost use Rattle.circuit_theory.specs.Circuit.{Reads, IsSource};
+ghost use Rattle.circuit_theory.specs.Circuit.{IsSource};
 ghost use Rattle.indexmap.specs.IndexMap.{get};
 ghost use Rattle.flat_net.specs.declared.parts.Gate.{Gate};
 ghost use Rattle.flat_net.specs.View.{circuit_of, cover_of};
-ghost use Rattle.unate_enable.specs.Raises.{IsRaise, MayGo, GoOn, IsWayPut, PutsWay, still, both_ways, turned, at_place, way_in};
+ghost use Rattle.unate_enable.specs.Raises.{IsRaise, AreClosedTo, MayGo, GoOn, IsWayPut, PutsWay, still, both_ways, turned, at_place, way_in};
 
 use crate::reads::gate_of;
 use flat_net::{Driver, Net, Signal};
@@ -24,7 +24,7 @@ pub(crate) struct Way {
 }
 
 /// Whether the covers show that the signal `next` never goes down where the signal `own`, a latch's, goes up. Where they don't it
-/// may be so nonetheless. The signals are closed under what they read.
+/// may be so nonetheless. Among the signals is what they read, as far as it leads back to `own`.
 pub(crate) fn never_falls(
     alloc: Global,
     net: &Net,
@@ -34,7 +34,7 @@ pub(crate) fn never_falls(
 ) -> Result<bool, NoMemory>
     requires increasing { IsStrictlyIncreasing signals.now }
     requires within { All (λ s. s < length net.now.drivers) signals.now }
-    requires closed { (s q : ℕ) → Contains signals.now s → Reads (circuit_of net.now) s q → Contains signals.now q }
+    requires closed { AreClosedTo (circuit_of net.now) own.0 signals.now }
     requires among { Contains signals.now next.0 }
     requires source { IsSource (circuit_of net.now) own.0 }
     ensures { IfOk result (λ never. IsTrue never → (low high : ℕ → Bool) → IsRaise (circuit_of net.now) own.0 low high → low next.0 ≡ true → high next.0 ≡ true) }
@@ -57,8 +57,7 @@ pub(crate) fn never_falls(
 fn put_ways(net: &Net, ways: &mut IndexMap<u32, Way>, signals: &[u32]) -> Result<(), NoMemory>
     requires increasing { IsStrictlyIncreasing signals.now }
     requires within { All (λ s. s < length net.now.drivers) signals.now }
-    requires closed { (s q : ℕ) → Contains signals.now s → Reads (circuit_of net.now) s q → Contains signals.now q }
-    ensures { OnOk result ((u : ℕ) (low high : ℕ → Bool) → IsSource (circuit_of net.now) u → IsRaise (circuit_of net.now) u low high → MayGo (way_in (get nat_eq ways.old) u) (low u) (high u) → (s : ℕ) → Contains signals.now s → MayGo (way_in (get nat_eq ways.new) s) (low s) (high s)) }
+    ensures { OnOk result ((u : ℕ) (low high : ℕ → Bool) → IsSource (circuit_of net.now) u → IsRaise (circuit_of net.now) u low high → AreClosedTo (circuit_of net.now) u signals.now → MayGo (way_in (get nat_eq ways.old) u) (low u) (high u) → (s : ℕ) → Contains signals.now s → MayGo (way_in (get nat_eq ways.new) s) (low s) (high s)) }
 {
     net.keeps();
     for s in signals {

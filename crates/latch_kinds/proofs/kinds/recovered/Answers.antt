@@ -22,7 +22,7 @@ loop-j-preserved c =
 pub returns-in_err-kind : goal.returns-in_err-kind
 returns-in_err-kind c =
     let n = c.args.net.now in
-    let same : c.from_residual.result ≡ Err c.in_err-kind.field-0.0 = search rules in
+    let same : c.from_residual-in_err-kind.result ≡ Err c.in_err-kind.field-0.0 = search rules in
     let low : c.loop-j.j < length n.latches = omega (arith, c.loop-j-test.true, ap length c.latches-j-end.ensures) in
     subst (AreFound n c.args.conflicts) (sym same) (first_unknown n c.args.conflicts c.loop-j.kinds c.loop-j.j low c.loop-j.invariant.size c.loop-j.invariant.decided c.in_err-kind.field-0.0 c.in_err-kind.ensures)
 

@@ -15,5 +15,5 @@ not_set true h = absurd (true≢false (sym h))
 pub returns : goal.returns
 returns c = λ e low high raise up.
     let first = first_goes (get nat_eq c.new-ways.result) (get nat_eq c.put.new.ways) (circuit_of c.args.net.now) c.args.own.0 c.in_ok-put.ensures low high raise in
-    let go = c.in_ok-put_ways.ensures c.args.own.0 low high c.requires.source raise first c.args.next.0 c.requires.among in
+    let go = c.in_ok-put_ways.ensures c.args.own.0 low high c.requires.source raise c.requires.closed first c.args.next.0 c.requires.among in
     go.up (ap (λ (w : Way). w.falls) (sym c.way_at-way.ensures) ∙ not_set c.way_at-way.result.falls e) up
