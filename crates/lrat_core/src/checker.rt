@@ -38,7 +38,7 @@ impl Checker {
     pub fn new(alloc: Global, clauses: &Seq<Literals>) -> Result<Checker, NoMemory>
         ensures { IfOk result (λ made. state_of made ≡ start clauses.now) }
     {
-        let mut live = LiveClauses::new(alloc);
+        let mut live = LiveClauses::with_capacity(alloc, clauses.len())?;
         for (at, clause) in clauses.as_slice().iter().enumerate() {
             live.insert(at as u64 + 1, clause.as_slice())?;
         }

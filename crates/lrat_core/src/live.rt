@@ -1,6 +1,6 @@
 //! The live clauses.
 
-ghost use Rattle.std.specs.Prelude.{◌≡◌, OnOk, MatchOption, None, Some, is_some};
+ghost use Rattle.std.specs.Prelude.{◌≡◌, IfOk, OnOk, MatchOption, None, Some, is_some};
 ghost use Rattle.lrat_core.specs.States.{none_live, live_of, with_clause, without};
 
 use proof_check::Literal;
@@ -37,14 +37,14 @@ impl Model for LiveClauses {
 }
 
 impl LiveClauses {
-    /// Without clauses. It takes no memory.
-    pub(crate) fn new(alloc: Global) -> LiveClauses
-        ensures { live_of result ≡ none_live }
+    /// Without clauses, with room for so many.
+    pub(crate) fn with_capacity(alloc: Global, clauses: usize) -> Result<LiveClauses, NoMemory>
+        ensures { IfOk result (λ made. live_of made ≡ none_live) }
     {
-        LiveClauses {
+        Ok(LiveClauses {
             store: Vec::new(alloc),
-            spans: HashMap::new(alloc),
-        }
+            spans: HashMap::with_capacity(alloc, clauses)?,
+        })
     }
 
     /// The literals of the clause of this number, if it is live.
