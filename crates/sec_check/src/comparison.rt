@@ -12,12 +12,12 @@ ghost use Rattle.sec_setup.specs.Setup.{AreGraphed};
 ghost use Rattle.sec_check.specs.Compared.{Compared};
 ghost use Rattle.sec_check.specs.FromReset.{verdict_of};
 
+use crate::error::CompareError;
 use cut_points::Exposure;
 use flat_net::Net;
 use outcome::{LimitAt, Outcome, Settings, Verdict};
 use plain_form::{Findings, PlainError, compare_plain};
 use reset_form::{ResetError, ResetFindings, ResetVerdict, compare_reset};
-use reset_functions::CompareError;
 use sec_base::{MAX_CONFLICTS, NameTable, NoMemory};
 use sec_setup::{Nets, Setup, choose, graph_of, set_up, shared_names};
 use std::alloc::Global;

@@ -6,8 +6,8 @@ ghost use Rattle.flat_net.specs.Comparable.{IsComparable};
 ghost use Rattle.flat_net.specs.View.{ports_of};
 ghost use Rattle.sec_check.specs.Compared.{InterfaceFails};
 
+use crate::error::CompareError;
 use flat_net::Net;
-use reset_functions::CompareError;
 use sec_base::Orders;
 use std::alloc::Global;
 
