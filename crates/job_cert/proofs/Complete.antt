@@ -1,10 +1,10 @@
 -- Where there is a certificate, it is found.
 use Rattle.std.specs.Prelude.{IfSome, IsSomeAnd}
-use Rattle.std.proofs.Common.{◌≡◌, ℕ, Bool, true, false, List, [], refl, sym, ◌∙◌, arith, inl, inr, Option, Some}
+use Rattle.std.proofs.Common.{◌≡◌, ℕ, Bool, true, false, List, [], refl, sym, ◌∙◌, inl, inr, Option, Some}
 use Rattle.std.proofs.lemmas.Option.{none-some}
 use Rattle.circuit_theory.specs.declared.Side.TheVariants.{A, B}
 use Rattle.sec_check.proofs.ToldCycles.{is_not_free}
-use Rattle.sec_files.specs.Loading.{IsAccepted, Loads, IsTooLong, HasFault, HasDesignFault}
+use Rattle.sec_files.specs.Loading.{Loads, IsTooLong, HasFault, HasDesignFault, HasRecordFault}
 use Rattle.job_base.specs.declared.finding.File.TheVariants as file
 use Rattle.job_base.specs.declared.finding.LineFault.TheVariants as line_fault
 use Rattle.job_base.specs.declared.finding.Refusal.{Refusal}
@@ -15,13 +15,11 @@ use Rattle.job_base.specs.declared.finding.Unrefuted.{Unrefuted}
 use Rattle.job_base.specs.declared.finding.Unrefuted.TheVariants as unrefuted
 use Rattle.job_base.specs.declared.status.StatusName.TheVariants as status
 use Rattle.job_base.specs.Written.{status_of, unrefuted_status}
+use Rattle.job_files.proofs.Accepted.{is_short, has_no_fault, is_sound, has_good_records}
 use Rattle.job_files.proofs.Reading.{some_and, if_told}
 use Rattle.job_cert.specs.Made.{Request, IsMadeBy}
 use Rattle.job_cert.specs.Found.{IsCertRefusal, IsCertFound}
 use Rattle.job_cert.specs.Answer.{AreCertifiable, IsCertAnswer, IsCertComplete}
-
-too_long : (x : List ℕ) → IsAccepted x → IsTooLong x → ⊥
-too_long x accepted h = omega (arith, accepted.short)
 
 module _ (request : Request) (left right : Option (List ℕ)) (x y : List ℕ) (is : left ≡ Some x) (also : right ≡ Some y) (can : AreCertifiable x y request.pair) where
   of_left : (P : List ℕ → Type 0) → IfSome left P → P x
@@ -33,18 +31,21 @@ module _ (request : Request) (left right : Option (List ℕ)) (x y : List ℕ) (
   -- nothing is refused
   stands : (r : Refusal) → IsCertRefusal request left right r → ⊥
   stands refusal.NotBuilt h = h
-  stands (refusal.TooLong file.A) h = too_long x can.left (of_left IsTooLong h)
-  stands (refusal.TooLong file.B) h = too_long y can.right (of_right IsTooLong h.1)
+  stands (refusal.TooLong file.A) h = is_short x can.left (of_left IsTooLong h)
+  stands (refusal.TooLong file.B) h = is_short y can.right (of_right IsTooLong h.1)
   stands (refusal.TooLong file.S) h = h
-  stands (refusal.Text file.A line (line_fault.Circuit kind)) h = none-some _ (sym can.left.faultless ∙ (of_left (λ t. HasFault t line kind) h).1)
-  stands (refusal.Text file.B line (line_fault.Circuit kind)) h = none-some _ (sym can.right.faultless ∙ (of_right (λ t. HasFault t line kind) h.1).1)
+  stands (refusal.Text file.A line (line_fault.Circuit kind)) h = has_no_fault x can.left line kind (of_left (λ t. HasFault t line kind) h)
+  stands (refusal.Text file.B line (line_fault.Circuit kind)) h = has_no_fault y can.right line kind (of_right (λ t. HasFault t line kind) h.1)
   stands (refusal.Text file.S line (line_fault.Circuit kind)) h = h
   stands (refusal.Text f line line_fault.BadHeader) h = h
   stands (refusal.Text f line line_fault.BadRow) h = h
   stands (refusal.Text f line (line_fault.Clauses kind)) h = h
-  stands (refusal.Design file.A fault) h = can.left.sound fault (of_left (λ t. HasDesignFault t fault) h).2
-  stands (refusal.Design file.B fault) h = can.right.sound fault (of_right (λ t. HasDesignFault t fault) h.1).2
+  stands (refusal.Design file.A fault) h = is_sound x can.left fault (of_left (λ t. HasDesignFault t fault) h)
+  stands (refusal.Design file.B fault) h = is_sound y can.right fault (of_right (λ t. HasDesignFault t fault) h.1)
   stands (refusal.Design file.S fault) h = h
+  stands (refusal.Record file.A place kind) h = has_good_records x can.left place kind (of_left (λ t. HasRecordFault t place kind) h)
+  stands (refusal.Record file.B place kind) h = has_good_records y can.right place kind (of_right (λ t. HasRecordFault t place kind) h.1)
+  stands (refusal.Record file.S place kind) h = h
   stands (refusal.Interface name) h = none-some name (sym (can.match h.a h.b (of_left (λ t. Loads t h.a) h.left_loads) (of_right (λ t. Loads t h.b) h.right_loads)) ∙ h.said)
   stands (refusal.TooLarge side) h = can.light h.a h.b (of_left (λ t. Loads t h.a) h.left_loads) (of_right (λ t. Loads t h.b) h.right_loads) side h.said.2
   stands (refusal.Misfit m) h = h

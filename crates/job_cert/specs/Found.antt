@@ -3,7 +3,7 @@ use Rattle.std.specs.Prelude.{ℕ, List, [], ◌∷◌, Option, IfSome, Err}
 use Rattle.flat_net.specs.View.{NetView}
 use Rattle.sec_check.specs.Compared.{Compared}
 use Rattle.sec_check.specs.declared.error.CompareError.TheVariants as compare_error
-use Rattle.sec_files.specs.Loading.{Loads, IsTooLong, HasFault, HasDesignFault}
+use Rattle.sec_files.specs.Loading.{Loads, IsTooLong, HasFault, HasDesignFault, HasRecordFault}
 use Rattle.pair_clauses.specs.Clauses.{plainly, PairGives}
 use Rattle.pair_clauses.specs.declared.error.CertError.TheVariants.{Pair}
 use Rattle.job_base.specs.declared.finding.File.{File}
@@ -39,6 +39,7 @@ abbrev pub IsCertRefusal : Request → Option (List ℕ) → Option (List ℕ) �
 IsCertRefusal request left right (refusal.TooLong f) = OfCircuit left right f IsTooLong
 IsCertRefusal request left right (refusal.Text f line (line_fault.Circuit kind)) = OfCircuit left right f (λ x. HasFault x line kind)
 IsCertRefusal request left right (refusal.Design f fault) = OfCircuit left right f (λ x. HasDesignFault x fault)
+IsCertRefusal request left right (refusal.Record f place kind) = OfCircuit left right f (λ x. HasRecordFault x place kind)
 IsCertRefusal request left right (refusal.Interface name) = OfNets left right (λ a b. Compared a b plainly (Err (compare_error.Interface name)))
 IsCertRefusal request left right (refusal.TooLarge side) = OfNets left right (λ a b. Compared a b plainly (Err (compare_error.TooLarge side)))
 IsCertRefusal request left right (refusal.Pair name) = OfNets left right (λ a b. PairGives a b request.pair (Err (Pair name)))
