@@ -98,6 +98,7 @@ job_equal held (Some (task.Sim a s mode power reset)) f can found is = absurd ca
 job_equal held (Some (task.Replay a b s mode)) f can found is = absurd can
 job_equal held (Some (task.Gen seed regroup conflicts)) f can found is = absurd can
 job_equal held (Some (task.Lrat a b)) f can found is = absurd can
+job_equal held (Some (task.Cert a b pair form conflicts)) f can found is = absurd can
 
 -- a job over one text is one that is answered
 check_answered : (held : Held) (check : Check) (name : StatusName) (mode : Mode) (reset : Bool) → IsAlways mode reset (CanMeetItself held check) →
@@ -114,6 +115,7 @@ is_answered held (Some (task.Sim a s mode power reset)) name can complete = absu
 is_answered held (Some (task.Replay a b s mode)) name can complete = absurd can
 is_answered held (Some (task.Gen seed regroup conflicts)) name can complete = absurd can
 is_answered held (Some (task.Lrat a b)) name can complete = absurd can
+is_answered held (Some (task.Cert a b pair form conflicts)) name can complete = absurd can
 
 -- the run ends equal, or at want of memory
 pub ends_equal : (held : Held) (before now : Option (List ℕ)) (job : Option Task) (proofs : List Proof) (name : StatusName) → EndsAs before now held job proofs name → OfCheck job (CanMeetItself held) → IsAnswer name → IsEqualAnswer name
