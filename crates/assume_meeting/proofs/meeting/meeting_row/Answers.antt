@@ -31,19 +31,19 @@ returns-in-Same c =
     subst (λ (q : Query). Decides own.aig q c.args.conflicts (decision.Same by)) c.in_ok-query.ensures (subst (Decides own.aig c.in_ok-query.query c.args.conflicts) c.in-Same.is c.in_ok-decision.ensures) in
     (d, λ n order s size is assumes row meets. never n order s own is size assumes c.keeps.ensures.graph c.keeps.ensures.values (same_of own.aig (meeting_query own) c.args.conflicts by d) row meets)
 
-pub returns-in_ok-row : goal.returns-in_ok-row
-returns-in_ok-row c =
+pub returns-in-Differs : goal.returns-in-Differs
+returns-in-Differs c =
     let own = c.args.own.now in
     let r = c.requires.own in
     let bits = c.in-Differs.bits in
     let d : IsDifference own.aig (meeting_query own) bits =
     subst (λ (q : Query). IsDifference own.aig q bits) c.in_ok-query.ensures (subst (Decides own.aig c.in_ok-query.query c.args.conflicts) c.in-Differs.is c.in_ok-decision.ensures) in
     let inputs : All (λ v. (variable_of own.places v).input < c.args.count) own.function.vars = (is_sequence r.net r.order r.output own r.function c.args.count bits r.gates r.inputs d.each).inputs in (
-      (bits, d, c.in_ok-row.ensures),
-      λ n order s size is assumes. row_meets n order s own is size assumes c.keeps.ensures.graph c.keeps.ensures.values c.args.count bits c.in_ok-row.row c.keeps-2.ensures inputs d c.in_ok-row.ensures,
+      (bits, d, c.in_ok-row-in-Differs.ensures),
+      λ n order s size is assumes. row_meets n order s own is size assumes c.keeps.ensures.graph c.keeps.ensures.values c.args.count bits c.in_ok-row-in-Differs.row c.keeps-2.ensures inputs d c.in_ok-row-in-Differs.ensures,
     )
 
-pub returns-in-Limit : goal.returns-in-Limit
-returns-in-Limit c =
+pub returns : goal.returns
+returns c =
     let own = c.args.own.now in
     subst (λ (q : Query). Decides own.aig q c.args.conflicts (decision.Limit c.in-Limit.proof)) c.in_ok-query.ensures (subst (Decides own.aig c.in_ok-query.query c.args.conflicts) c.in-Limit.is c.in_ok-decision.ensures)
