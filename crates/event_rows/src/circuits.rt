@@ -1,6 +1,6 @@
 //! Netlists as circuits whose latches are all of class 0.
 
-ghost use Rattle.std.specs.Prelude.{◌≡◌, length, All, IfOk, IfSome};
+ghost use Rattle.std.specs.Prelude.{◌≡◌, ◌^◌, ◌<◌, length, All, IfOk, IfSome};
 ghost use Rattle.sec_base.specs.Table.{AreDistinct};
 ghost use Rattle.event_order.specs.Order.{IsMarkedNet};
 ghost use Rattle.event_rows.specs.Starts.{IsStart};
@@ -56,6 +56,7 @@ fn begun(alloc: Global, net: Net, enabled: Bits) -> Result<EventCircuit, NoMemor
 
 /// So many numbers from 0 on.
 fn numbers(alloc: Global, count: usize) -> Result<Ids, NoMemory>
+    requires { count < 2 ^ 32 }
     ensures each { IfOk result (λ made. length made ≡ count) }
     ensures once { IfOk result AreDistinct }
 {

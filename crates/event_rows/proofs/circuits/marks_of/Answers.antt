@@ -5,14 +5,14 @@ use Rattle.latch_cone.specs.Kinds.{AreKindsIn}
 use Rattle.event_rows.proofs.circuits.marks_of.Goals as goal
 
 pub new-requires : goal.new-requires
-new-requires c = c.in-Ok-2.ensures.each ∙ (ap length c.as_slice.ensures ∙ c.in-Ok.ensures.0.each)
+new-requires c = c.in-Ok-enabled_among.ensures.each ∙ (ap length c.as_slice.ensures ∙ c.in-Ok.ensures.0.each)
 
 pub have_depths-requires : goal.have_depths-requires
-have_depths-requires c = c.in-Ok-3.ensures.in_mode Event (c.in-Ok-2.ensures.marks Event c.args.net.now (subst (AreKindsIn Event c.args.net.now) (sym c.as_slice.ensures) c.in-Ok.ensures.0))
+have_depths-requires c = c.in-Ok-new.ensures.in_mode Event (c.in-Ok-enabled_among.ensures.marks Event c.args.net.now (subst (AreKindsIn Event c.args.net.now) (sym c.as_slice.ensures) c.in-Ok.ensures.0))
 
 pub returns-then-have_depths : goal.returns-then-have_depths
 returns-then-have_depths c = record {
-  each = c.in-Ok-2.ensures.each ∙ (ap length c.as_slice.ensures ∙ c.in-Ok.ensures.0.each);
-  marks = c.in-Ok-2.ensures.marks Event c.args.net.now (subst (AreKindsIn Event c.args.net.now) (sym c.as_slice.ensures) c.in-Ok.ensures.0);
+  each = c.in-Ok-enabled_among.ensures.each ∙ (ap length c.as_slice.ensures ∙ c.in-Ok.ensures.0.each);
+  marks = c.in-Ok-enabled_among.ensures.marks Event c.args.net.now (subst (AreKindsIn Event c.args.net.now) (sym c.as_slice.ensures) c.in-Ok.ensures.0);
   depths = c.have_depths.ensures c.if-have_depths.true;
 }

@@ -3,4 +3,4 @@ use Rattle.std.specs.List.{All}
 use Rattle.event_rows.proofs.circuits.zeros.Given as goal
 
 abbrev pub invariant-loop : goal.invariant-loop
-invariant-loop l = (length l.made ≡ l.index) × All (λ k. k ≡ 0) l.made
+invariant-loop l = (length l.made ≡ l.counter) × All (λ k. k ≡ 0) l.made
