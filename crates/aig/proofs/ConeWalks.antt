@@ -1,5 +1,5 @@
 -- Walks from roots, and the cones that they give.
-use Rattle.std.proofs.Common.{◌≡◌, ℕ, zero, suc, ◌+◌, ◌*◌, ◌/◌, ◌<◌, ◌≤◌, ◌==◌, ◌⊎◌, inl, inr, Bool, true, false, if◌then◌else◌, List, [], ◌∷◌, ◌++◌, length, map, get_or, sum_by, slice_get, Some, Contains, refl, sym, ap, subst, ◌∙◌, arith, true≢false}
+use Rattle.std.proofs.Common.{◌≡◌, ℕ, zero, suc, ◌+◌, ◌*◌, ◌/◌, ◌<◌, ◌≤◌, ◌==◌, ◌⊎◌, inl, inr, Bool, true, false, if◌then◌else◌, List, [], ◌∷◌, ◌++◌, length, map, get_or, sum_by, slice_get, Some, Contains, refl, sym, ap, subst, ◌∙◌, arith, true≢false, ◌||◌}
 use Rattle.std.specs.List.{list_any, IsDistinct}
 use Rattle.std.specs.List.Sorted.{IsStrictlyIncreasing, IsPermutation, IsSorted}
 use Rattle.std.proofs.lemmas.Bool.Decides.{Decides-eqb}
@@ -9,10 +9,12 @@ use Rattle.std.proofs.lemmas.List.Folds.{list_any_at}
 use Rattle.std.proofs.lemmas.List.Sums.{sum_by-cons}
 use Rattle.std.proofs.lemmas.List.Sorted.{Contains-permutation, IsPermutation-sym, IsNonDecreasingBy-from_sort}
 use Rattle.std.proofs.lemmas.Map.Keys.{IsStrictlyIncreasing-from_distinct, IsDistinct-IsPermutation}
+use Rattle.std.proofs.lemmas.Map.Made.{IsDistinct-from_AllPairs}
 use Rattle.std.specs.Ordering.{nat_cmp}
-use Rattle.indexmap.proofs.CallerLemmas.{Contains-list_any}
 use Rattle.circuit_theory.proofs.Lists.{Contains-head, Contains-tail, Contains-map_from, at_of, of_at}
 use Rattle.circuit_theory.proofs.Sums.{sum_within}
+use Rattle.unique_table.specs.Places.{IsWith}
+use Rattle.unique_table.proofs.Keys.{all-differ}
 use Rattle.sec_base.specs.Table.{AreDistinct}
 use Rattle.aig.specs.declared.node.Lit.{Lit}
 use Rattle.aig.specs.declared.node.Node.{Node}
@@ -22,18 +24,37 @@ use Rattle.aig.specs.Cone.{Reads, IsReached, IsConeOf, IsClosed, with_number, Ha
 use Rattle.aig.proofs.Growth.{slice_get-append}
 use Rattle.aig.proofs.Insert.{push-cases}
 
+-- a number that equals one of the numbers is among them
+among : (seen : List ℕ) (n : ℕ) → list_any (λ m. n == m) seen ≡ true → Contains seen n
+among [] n e = absurd (true≢false (sym e))
+among (m ∷ seen) n e = by (n == m) refl (λ later. among seen n later)
+  where
+    by : (b : Bool) → (n == m) ≡ b → (list_any (λ k. n == k) seen ≡ true → Contains seen n) → Contains (m ∷ seen) n
+    by true same later = subst (Contains (m ∷ seen)) (sym ((Decides-eqb n m).0 same)) (Contains-head m seen)
+    by false other later = Contains-tail m n seen (later (sym (ap (λ (b : Bool). b || list_any (λ k. n == k) seen) other) ∙ e))
+
 -- a number that is put behind others is among them, or goes last
 pub with_number-cases : (seen : List ℕ) (n : ℕ) → (Contains seen n × (with_number seen n ≡ seen)) ⊎ ((Contains seen n → ⊥) × (with_number seen n ≡ seen ++ n ∷ []))
 with_number-cases seen n = by (list_any (λ m. n == m) seen) refl
   where
     by : (b : Bool) → list_any (λ m. n == m) seen ≡ b → (Contains seen n × ((if b then seen else seen ++ n ∷ []) ≡ seen)) ⊎ ((Contains seen n → ⊥) × ((if b then seen else seen ++ n ∷ []) ≡ seen ++ n ∷ []))
-    by true e = inl (Contains-list_any (λ a b. a == b) (λ a b h. (Decides-eqb a b).0 h) seen n e, refl)
+    by true e = inl (among seen n e, refl)
     by false e = inr ((λ there. absent there), refl)
       where
         absent : Contains seen n → ⊥
         absent there =
             let at = at_of seen n there in
             true≢false (sym (list_any_at (λ m. n == m) seen at.0 n (slice_get_within seen at.0 n at.1) ((Decides-eqb n (get_or seen at.0 n)).1 (sym (get_or_from_slice_get seen at.0 n n at.1)))) ∙ e)
+
+-- so a table of numbers puts it
+pub number-inserted : (seen new : List ℕ) (n : ℕ) → IsWith seen n new → new ≡ with_number seen n
+number-inserted seen new n is = by is (with_number-cases seen n)
+  where
+    by : IsWith seen n new → (Contains seen n × (with_number seen n ≡ seen)) ⊎ ((Contains seen n → ⊥) × (with_number seen n ≡ seen ++ n ∷ [])) → new ≡ with_number seen n
+    by (inl (there, e)) (inl (_, f)) = e ∙ sym f
+    by (inl (there, e)) (inr (absent, f)) = absurd (absent there)
+    by (inr (absent, e)) (inl (there, f)) = absurd (absent there)
+    by (inr (_, e)) (inr (absent, f)) = e ∙ sym f
 
 pub with_number-front : (seen : List ℕ) (n i : ℕ) (m : ℕ) → slice_get seen i ≡ Some m → slice_get (with_number seen n) i ≡ Some m
 with_number-front seen n i m at = by (with_number-cases seen n)
@@ -243,8 +264,9 @@ seen-none g roots = record {
 }
 
 -- the numbers of a walk that is done, sorted
-pub cone-made : (g : List Node) (roots seen items sorted made : List ℕ) → IsWalk g roots seen (length seen) → IsDistinct (λ x y. x == y) seen → items ≡ seen → IsPermutation items sorted → IsSorted nat_cmp sorted → made ≡ sorted → IsConeOf g roots made × IsClosed g made
-cone-made g roots seen items sorted made walk distinct is same order e =
+pub cone-made : (g : List Node) (roots seen items sorted made : List ℕ) → IsWalk g roots seen (length seen) → items ≡ seen → IsPermutation items sorted → IsSorted nat_cmp sorted → made ≡ sorted → IsConeOf g roots made × IsClosed g made
+cone-made g roots seen items sorted made walk is same order e =
+    let distinct : IsDistinct (λ x y. x == y) seen = IsDistinct-from_AllPairs Decides-eqb seen (all-differ seen walk.sound.distinct) in
     let moved : IsPermutation seen sorted = subst (λ (xs : List ℕ). IsPermutation xs sorted) is same in
     let apart : IsDistinct (λ x y. x == y) sorted = IsDistinct-IsPermutation (λ x y. x == y) eqb-swap seen sorted moved distinct in
     let increasing : IsStrictlyIncreasing sorted = IsStrictlyIncreasing-from_distinct sorted (IsNonDecreasingBy-from_sort (λ x. x) sorted order) apart in

@@ -1,22 +1,19 @@
 -- One node more in a graph.
-use Rattle.std.proofs.Common.{◌≡◌, ◌≢◌, ℕ, zero, suc, ◌+◌, ◌*◌, ◌^◌, ◌<◌, ◌≤◌, ◌⊎◌, inl, inr, ◌==◌, max, Bool, true, false, ◌&&◌, if◌then◌else◌, List, [], ◌∷◌, ◌++◌, length, slice_get, Option, Some, None, Contains, All, map, refl, sym, ap, subst, ◌∙◌, arith, true≢false}
+use Rattle.std.proofs.Common.{◌≡◌, ◌≢◌, ℕ, zero, suc, ◌+◌, ◌*◌, ◌^◌, ◌<◌, ◌≤◌, ◌⊎◌, inl, inr, ◌==◌, max, Bool, true, false, ◌&&◌, if◌then◌else◌, List, [], ◌∷◌, ◌++◌, length, slice_get, Option, Some, None, Contains, All, map, refl, sym, ap, subst, ◌∙◌, arith}
 use Rattle.std.specs.Prelude.{nat_lt}
-use Rattle.std.specs.List.{list_any}
-use Rattle.std.proofs.lemmas.Option.{slice_get_within, get_or_from_slice_get, none-some, same_Some}
+use Rattle.std.proofs.lemmas.Option.{slice_get_within, none-some, same_Some}
 use Rattle.std.proofs.lemmas.List.{length-append}
-use Rattle.std.proofs.lemmas.List.Folds.{list_any_at}
-use Rattle.std.proofs.lemmas.Bool.Decides.{Decides-eqb}
-use Rattle.circuit_theory.proofs.Lists.{at_of, of_at}
+use Rattle.circuit_theory.proofs.Lists.{of_at}
+use Rattle.unique_table.specs.Places.{IsWith}
 use Rattle.circuit_theory.specs.Cover.{Cover, cover_value}
 use Rattle.aig.specs.declared.node.Lit.{Lit}
 use Rattle.aig.specs.declared.node.Node.{Node}
 use Rattle.aig.specs.declared.node.Node.TheVariants.{Constant, Input, And}
-use Rattle.aig.specs.contracts.node.NodePartialEq.TheImpl.{eq-value}
 use Rattle.aig.specs.Graph.{IsGraph, IsAbove, Grows, IsLitOf, flip, vars_of}
 use Rattle.aig.specs.Values.{value}
 use Rattle.aig.specs.Rules.{simple_and, and_node, IsAndBy, IsAndOf, IsCoverOf, place_lit}
 use Rattle.aig.proofs.Literals.{flip-within}
-use Rattle.aig.proofs.Growth.{slice_get-append, vars_of-append}
+use Rattle.aig.proofs.Growth.{slice_get-append, vars_of-append, Grows-refl}
 use Rattle.aig.proofs.Meaning.{value-grows}
 use Rattle.aig.proofs.CoverMeaning.{Simple, simple, simple-within, value-and, value-cover}
 
@@ -66,34 +63,37 @@ vars_of-member (y ∷ g) (suc n) node h = tail y (vars_of-member g n node h)
     tail (Input v) k = omega arith
     tail (And l r) k = k
 
--- each node passes the test against itself
-pub node-itself : (node : Node) → (eq-value).it node node ≡ true
-node-itself Constant = refl
-node-itself (Input v) = (Decides-eqb v v).1 refl
-node-itself (And l r) = ap (λ (b : Bool). b && (r.0 == r.0)) ((Decides-eqb l.0 l.0).1 refl) ∙ (Decides-eqb r.0 r.0).1 refl
-
--- what a set of nodes is after an insert
-module _ (eq : Node → Node → Bool) (itself : (node : Node) → eq node node ≡ true) (g after : List Node) (node : Node) (is : after ≡ (if list_any (eq node) g then g else g ++ node ∷ [])) where
-  not_there : list_any (eq node) g ≡ false → Contains g node → ⊥
-  not_there none there =
-      let at = at_of g node there in
-      true≢false (sym (list_any_at (eq node) g at.0 node (slice_get_within g at.0 node at.1) (ap (eq node) (get_or_from_slice_get g at.0 node node at.1) ∙ itself node)) ∙ none)
-
+-- what a table of nodes is after an insert
+module _ (g after : List Node) (node : Node) (is : IsWith g node after) where
   pub graph-insert : IsGraph g → length g + 1 < 2 ^ 30 → IsAbove (length g) node → IsGraph after
-  graph-insert graph room above = subst IsGraph (sym is) (by (list_any (eq node) g) refl)
+  graph-insert graph room above = by is
     where
-      by : (b : Bool) → list_any (eq node) g ≡ b → IsGraph (if b then g else g ++ node ∷ [])
-      by true e = graph
-      by false e = graph-push g node graph room above (not_there e)
+      by : IsWith g node after → IsGraph after
+      by (inl (there, e)) = subst IsGraph (sym e) graph
+      by (inr (new, e)) = subst IsGraph (sym e) (graph-push g node graph room above new)
 
   pub vars_of-insert : (n : ℕ) → slice_get after n ≡ Some node → vars_of after ≡ max (vars_of (node ∷ [])) (vars_of g)
-  vars_of-insert n at = by (list_any (eq node) g) is
+  vars_of-insert n at = by is
     where
-      by : (b : Bool) → after ≡ (if b then g else g ++ node ∷ []) → vars_of after ≡ max (vars_of (node ∷ [])) (vars_of g)
-      by true e =
+      by : IsWith g node after → vars_of after ≡ max (vars_of (node ∷ [])) (vars_of g)
+      by (inl (there, e)) =
           let member : vars_of (node ∷ []) ≤ vars_of g = vars_of-member g n node (subst (λ (h : List Node). slice_get h n ≡ Some node) e at) in
           omega (arith, ap vars_of e)
-      by false e = omega (arith, ap vars_of e, vars_of-append g (node ∷ []))
+      by (inr (new, e)) = omega (arith, ap vars_of e, vars_of-append g (node ∷ []))
+
+  pub grows-insert : Grows g after
+  grows-insert = by is
+    where
+      by : IsWith g node after → Grows g after
+      by (inl (there, e)) = subst (Grows g) (sym e) (Grows-refl g)
+      by (inr (new, e)) = (node ∷ [], e)
+
+  pub few-insert : length after ≤ length g + 1
+  few-insert = by is
+    where
+      by : IsWith g node after → length after ≤ length g + 1
+      by (inl (there, e)) = omega (arith, ap length e)
+      by (inr (new, e)) = omega (arith, ap length e, length-append g (node ∷ []))
 
 -- a node that no rule makes needless has two operands, the lesser first
 pub and_node-above : (n l r : ℕ) → l ≢ r → l < 2 * n → r < 2 * n → IsAbove n (and_node l r)

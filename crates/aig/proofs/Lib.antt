@@ -1,5 +1,6 @@
 pub mod Literals
 pub mod Growth
+pub mod Nodes
 pub mod Meaning
 pub mod CoverMeaning
 pub mod Insert

@@ -4,3 +4,5 @@ pub mod Rules
 pub mod Builds
 pub mod Cone
 pub mod Cones
+pub mod Ways
+pub mod Places

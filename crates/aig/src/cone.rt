@@ -8,9 +8,9 @@ ghost use Rattle.std.specs.List.Sorted.{IsStrictlyIncreasing};
 
 use crate::graph::Aig;
 use crate::node::{Lit, Node};
-use indexmap::IndexSet;
 use sec_base::{Ids, NoMemory};
 use std::alloc::Global;
+use unique_table::UniqueTable;
 
 impl Aig {
     /// The nodes that are reached from the roots, increasing. It walks no other node.
@@ -44,12 +44,12 @@ impl Aig {
 }
 
 /// The nodes that are reached from the roots, each once.
-fn reached(alloc: Global, nodes: &[Node], roots: &[Lit]) -> Result<IndexSet<u32>, NoMemory>
+fn reached(alloc: Global, nodes: &[Node], roots: &[Lit]) -> Result<UniqueTable<u32>, NoMemory>
     requires graph { IsGraph nodes.now }
     requires within { All (λ l. l.0 < 2 * length nodes.now) roots.now }
-    ensures { IfOk result (λ seen. IsWalk nodes.now (map (λ l. l.0) roots.now) seen.keys (length seen.keys)) }
+    ensures { IfOk result (λ seen. IsWalk nodes.now (map (λ l. l.0) roots.now) seen (length seen)) }
 {
-    let mut seen = IndexSet::new(alloc);
+    let mut seen = UniqueTable::new(alloc, u32::MAX);
     for i in 0..roots.len() {
         see(&mut seen, roots[i].node())?;
     }
@@ -58,14 +58,14 @@ fn reached(alloc: Global, nodes: &[Node], roots: &[Lit]) -> Result<IndexSet<u32>
 }
 
 /// Puts the nodes that are reached from those that were seen behind them.
-fn walk(nodes: &[Node], seen: &mut IndexSet<u32>) -> Result<(), NoMemory>
+fn walk(nodes: &[Node], seen: &mut UniqueTable<u32>) -> Result<(), NoMemory>
     requires graph { IsGraph nodes.now }
-    requires begun { (roots : List ℕ) × IsWalk nodes.now roots seen.old.keys 0 }
-    ensures { OnOk result ((roots : List ℕ) → IsWalk nodes.now roots seen.old.keys 0 → IsWalk nodes.now roots seen.new.keys (length seen.new.keys)) }
+    requires begun { (roots : List ℕ) × IsWalk nodes.now roots seen.old 0 }
+    ensures { OnOk result ((roots : List ℕ) → IsWalk nodes.now roots seen.old 0 → IsWalk nodes.now roots seen.new (length seen.new)) }
 {
     let mut at = 0;
     while at < seen.len() {
-        let number = seen[at];
+        let number = seen.key(at);
         see_operands(seen, nodes[number as usize])?;
         at += 1;
     }
@@ -73,8 +73,8 @@ fn walk(nodes: &[Node], seen: &mut IndexSet<u32>) -> Result<(), NoMemory>
 }
 
 /// Puts the nodes that this node reads behind those that were seen, if they aren't among them.
-fn see_operands(seen: &mut IndexSet<u32>, node: Node) -> Result<(), NoMemory>
-    ensures { OnOk result (HasOperands seen.old.keys node seen.new.keys) }
+fn see_operands(seen: &mut UniqueTable<u32>, node: Node) -> Result<(), NoMemory>
+    ensures { OnOk result (HasOperands seen.old node seen.new) }
 {
     match node {
         Node::And(l, r) => {
@@ -86,10 +86,10 @@ fn see_operands(seen: &mut IndexSet<u32>, node: Node) -> Result<(), NoMemory>
 }
 
 /// Puts the number behind those that were seen, if it isn't among them.
-fn see(seen: &mut IndexSet<u32>, number: u32) -> Result<(), NoMemory>
-    ensures { OnOk result (seen.new.keys ≡ with_number seen.old.keys number) }
+fn see(seen: &mut UniqueTable<u32>, number: u32) -> Result<(), NoMemory>
+    ensures { OnOk result (seen.new ≡ with_number seen.old number) }
 {
-    seen.insert_full(number)?;
+    seen.insert(number)?;
     Ok(())
 }
 

@@ -6,6 +6,7 @@ mod cone_graph;
 mod covers;
 mod graph;
 mod node;
+mod node_places;
 mod values;
 
 pub use cone_graph::{Cones, Nodes, cones_of};

@@ -6,7 +6,7 @@ use Rattle.std.proofs.lemmas.List.Elements.{All-contains}
 use Rattle.std.proofs.lemmas.Option.{slice_get_within, slice_get-get_or, get_or_from_slice_get}
 use Rattle.circuit_theory.specs.Circuit.{Latch as latch_equation, Gate as gate_equation, InCone}
 use Rattle.circuit_theory.specs.Run.{Marked, Loads}
-use Rattle.circuit_theory.proofs.Lists.{Contains-map, Contains-map_from}
+use Rattle.circuit_theory.proofs.Lists.{Contains-map, Contains-map_from, of_at}
 use Rattle.circuit_laws.proofs.Marks.{mark_step}
 use Rattle.circuit_theory.proofs.Sums.{same_or_not}
 use Rattle.flat_net.specs.declared.signals.Signal.{Signal}
@@ -18,7 +18,8 @@ use Rattle.flat_net.specs.View.{NetView, circuit_of, cover_of}
 use Rattle.flat_net.specs.Sound.{IsSound}
 use Rattle.flat_net.proofs.Nets.{some_at, gate_stands, latch_stands, input_stands, sound_is_net}
 use Rattle.flat_net.proofs.Places.{one_at, sound_in_order}
-use Rattle.latch_cone.specs.Cones.{AreOthers, IsMarkedBy}
+use Rattle.latch_cone.specs.Cones.{IsMarkedBy}
+use Rattle.inner_cone.specs.Sides.{AreSides}
 use Rattle.cycle_sim.specs.View.{IsMark, HasMark}
 use Rattle.cycle_sim.specs.Steps.{KeepsMarks, AreInputsMarked, AreLatchesMarked, AreMarksAhead}
 use Rattle.cycle_sim.proofs.Lists.{replicate_at, below_or_here, set_here, set_there, all_pass, all_from_each, driven, gate_within}
@@ -190,9 +191,8 @@ ahead_more n enabled run t bits j bit inside right have k l h at = go (below_or_
     go (inl low) = let x = have k l low at in (x.0, set_there bits j k bit x.0 (λ e. omega (arith, low, e)) x.1, x.2)
     go (inr e) = subst (λ z. HasMark n enabled run t (set bits j bit) z l.out.0) (sym e) (bit, set_here bits j bit inside, right l (subst (λ z. slice_get n.latches z ≡ Some l) e at))
 
--- the other latches of a cone are signals of the net
-pub others_within : (n : NetView) → IsSound n → (l : LatchAt) (others : List Signal) → AreOthers n l others → (size : ℕ) → size ≡ length n.drivers → All (λ (f : Signal). f.0 < size) others
-others_within n sound l others are size same k d below =
-    let other = are.each k (get_or others k d) (slice_get-get_or others k d below) in
-    let within = slice_get_within n.drivers other.latch.out.0 _ (sound.latches other.position other.latch other.here).owner in
-    subst (λ s. s < size) other.out (omega (arith, within, same))
+-- the sides of a cone are signals of the net
+pub sides_within : (n : NetView) (l : LatchAt) (sides : List Signal) → AreSides n l.next.0 l.out.0 sides → (size : ℕ) → size ≡ length n.drivers → All (λ (f : Signal). f.0 < size) sides
+sides_within n l sides are size same k d below =
+    let within = are.within (get_or sides k d) (of_at sides k (get_or sides k d) (slice_get-get_or sides k d below)) in
+    omega (arith, within, same)

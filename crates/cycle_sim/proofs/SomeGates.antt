@@ -17,8 +17,10 @@ use Rattle.flat_net.specs.View.{NetView, circuit_of, cover_of}
 use Rattle.flat_net.specs.Sound.{IsSound, Drives}
 use Rattle.flat_net.proofs.Nets.{some_at, gate_stands}
 use Rattle.flat_net.proofs.Places.{one_at, sound_in_order}
-use Rattle.latch_cone.specs.Parts.{AreConeGates, gate_of, gate_at}
-use Rattle.cycle_sim.specs.Steps.{IsRight, AreInputsRight, AreLatchesRight}
+use Rattle.latch_cone.specs.Parts.{gate_of, gate_at}
+use Rattle.inner_cone.specs.Inner.{LeadsAside}
+use Rattle.inner_cone.specs.Gates.{AreInnerGates}
+use Rattle.cycle_sim.specs.Steps.{IsRight, AreInputsRight, AreLatchesRight, AreAsideRight}
 use Rattle.cycle_sim.specs.Turning.{AreSomeRight, IsOutOfSome}
 use Rattle.cycle_sim.proofs.Lists.{below_or_here, set_here, gate_within}
 use Rattle.cycle_sim.proofs.Values.{right_kept, right_here}
@@ -47,37 +49,38 @@ same_lists (x ∷ xs) (y ∷ ys) same =
     let tail : xs ≡ ys = same_lists xs ys (λ p. same (suc p)) in
     cc
 
--- inputs, latches and so many of these gates have their values
-pub record SomeBelow (n : NetView) (gates : List ℕ) (v : ℕ → Bool) (values : List Bool) (count : ℕ) : Type 0 where
+-- inputs, latches, what doesn't lead back to a signal, and so many of these gates have their values
+pub record SomeBelow (n : NetView) (own : ℕ) (gates : List ℕ) (v : ℕ → Bool) (values : List Bool) (count : ℕ) : Type 0 where
   pub inputs : AreInputsRight n v values
   pub latches : AreLatchesRight n v values
+  pub aside : AreAsideRight n own v values
   pub some : (k j : ℕ) (g : Gate) → k < count → slice_get gates k ≡ Some j → slice_get n.gates j ≡ Some g → IsRight v values g.out.0
-
--- what drives a signal that no gate drives, or one of these
-pub right_by : (n : NetView) (v : ℕ → Bool) (values : List Bool) → AreInputsRight n v values → AreLatchesRight n v values → (s : ℕ) (d : Driver) → Drives n s d →
-    ((j : ℕ) (g : Gate) → d ≡ driver.Gate j → slice_get n.gates j ≡ Some g → IsRight v values g.out.0) → IsRight v values s
-right_by n v values inputs latches s (driver.Input i) h gates = subst (IsRight v values) h.2 (inputs i h.0 h.1)
-right_by n v values inputs latches s (driver.Gate k) h gates = subst (IsRight v values) h.2 (gates k h.0 refl h.1)
-right_by n v values inputs latches s (driver.Latch j) h gates = subst (IsRight v values) h.2 (latches j h.0 h.1)
 
 -- the gate that drives the signal, by its position
 pub gate_there : (n : NetView) (s j : ℕ) → slice_get n.drivers s ≡ Some (driver.Gate j) → gate_at n s ≡ Some j
 gate_there n s j e = ap (option_and_then gate_of) e
 
 module _ (n : NetView) (sound : IsSound n) where
-  module _ (l : LatchAt) (gates : List ℕ) (are : AreConeGates n l gates) (v : ℕ → Bool) (meets : Meets (circuit_of n) v) where
+  module _ (l : LatchAt) (gates : List ℕ) (are : AreInnerGates n l gates) (v : ℕ → Bool) (meets : Meets (circuit_of n) v) where
     -- the fan-ins of the next of these gates have their values
-    fanin_right : (values : List Bool) (i j : ℕ) (g : Gate) → slice_get gates i ≡ Some j → slice_get n.gates j ≡ Some g → SomeBelow n gates v values i → (f : Signal) → Contains g.fanins f → IsRight v values f.0
+    fanin_right : (values : List Bool) (i j : ℕ) (g : Gate) → slice_get gates i ≡ Some j → slice_get n.gates j ≡ Some g → SomeBelow n l.out.0 gates v values i → (f : Signal) → Contains g.fanins f → IsRight v values f.0
     fanin_right values i j g at_j at have f reads =
         let low : f.0 < g.out.0 = All-contains (λ (s : Signal). s.0 < g.out.0) g.fanins f (sound.gates j g at).above reads in
         let within : f.0 < length n.drivers = let w = gate_within n sound j g at in omega (arith, low, w) in
         let d = some_at n.drivers f.0 within in
-        right_by n v values have.inputs have.latches f.0 d.0 (sound.drivers f.0 d.0 d.1) (λ k h e at_h.
-        let drives : slice_get n.drivers f.0 ≡ Some (driver.Gate k) = d.1 ∙ ap Some e in
-        let before : k < j = sound_in_order n sound j k g f at reads drives in
-        let place = at_of gates k (are.closed j k g f (of_at gates i j at_j) at reads (gate_there n f.0 k drives)) in
-        have.some place.0 k h (earlier place.0 k place.1 before (below_or_not place.0 i)) place.1 at_h)
+        by_driver within d.0 d.1 (sound.drivers f.0 d.0 d.1)
       where
+        by_gate : (k : ℕ) (h : Gate) → slice_get n.gates k ≡ Some h → h.out.0 ≡ f.0 → k < j → f.0 < length n.drivers → Contains gates k ⊎ LeadsAside n l.out.0 f.0 → IsRight v values f.0
+        by_gate k h at_h out before within (inl there) =
+            let place = at_of gates k there in
+            subst (IsRight v values) out (have.some place.0 k h (earlier place.0 k place.1 before (below_or_not place.0 i)) place.1 at_h)
+        by_gate k h at_h out before within (inr aside) = have.aside f.0 within aside
+
+        by_driver : f.0 < length n.drivers → (d : Driver) → slice_get n.drivers f.0 ≡ Some d → Drives n f.0 d → IsRight v values f.0
+        by_driver within (driver.Input x) drives h = subst (IsRight v values) h.2 (have.inputs x h.0 h.1)
+        by_driver within (driver.Gate k) drives h = by_gate k h.0 h.1 h.2 (sound_in_order n sound j k g f at reads drives) within (are.closed j k g f (of_at gates i j at_j) at reads (gate_there n f.0 k drives))
+        by_driver within (driver.Latch x) drives h = subst (IsRight v values) h.2 (have.latches x h.0 h.1)
+
         below_or_not : (a b : ℕ) → (a < b) ⊎ (b ≤ a)
         below_or_not a b = grind arith
 
@@ -91,10 +94,11 @@ module _ (n : NetView) (sound : IsSound n) where
             absurd (omega (arith, order, a, b, before))
 
     pub some_more : (values new : List Bool) (i j : ℕ) (g : Gate) → slice_get gates i ≡ Some j → slice_get n.gates j ≡ Some g → length values ≡ length n.drivers →
-        new ≡ set values g.out.0 (cover_value (cover_of n.covers g) (map (λ f. get_or values f.0 false) g.fanins)) → SomeBelow n gates v values i → SomeBelow n gates v new (i + 1)
-    some_more values new i j g at_j at size is have = subst (λ (z : List Bool). SomeBelow n gates v z (i + 1)) (sym is) (record {
+        new ≡ set values g.out.0 (cover_value (cover_of n.covers g) (map (λ f. get_or values f.0 false) g.fanins)) → SomeBelow n l.out.0 gates v values i → SomeBelow n l.out.0 gates v new (i + 1)
+    some_more values new i j g at_j at size is have = subst (λ (z : List Bool). SomeBelow n l.out.0 gates v z (i + 1)) (sym is) (record {
       inputs = λ k port h. right_kept v values g.out.0 bit right port.signal.0 (have.inputs k port h);
       latches = λ k m h. right_kept v values g.out.0 bit right m.out.0 (have.latches k m h);
+      aside = λ p inside aside. right_kept v values g.out.0 bit right p (have.aside p inside aside);
       some = λ k m h low at_m at_h. go k m h at_m at_h (below_or_here k i low);
     })
       where
@@ -118,19 +122,26 @@ module _ (n : NetView) (sound : IsSound n) where
             let same : g ≡ h = one_at n.gates j g h at (ap (slice_get n.gates) one ∙ at_h) in
             subst (λ (q : Gate). IsRight v (set values g.out.0 bit) q.out.0) same (right_here v values g.out.0 bit right within)
 
-    pub some_all : (values : List Bool) → SomeBelow n gates v values (length gates) → AreSomeRight n gates v values
+    pub some_all : (values : List Bool) → SomeBelow n l.out.0 gates v values (length gates) → AreSomeRight n l.out.0 gates v values
     some_all values have = record {
       inputs = have.inputs;
       latches = have.latches;
+      aside = have.aside;
       some = λ j g h at. let place = at_of gates j h in have.some place.0 j g (slice_get_within gates place.0 j place.1) place.1 at;
     }
 
     -- what the latch takes over has its value
-    pub data_right : l.next.0 < length n.drivers → (values : List Bool) → AreSomeRight n gates v values → IsRight v values l.next.0
-    data_right within values have =
-        let d = some_at n.drivers l.next.0 within in
-        right_by n v values have.inputs have.latches l.next.0 d.0 (sound.drivers l.next.0 d.0 d.1) (λ k h e at_h.
-        have.some k h (are.taken k (gate_there n l.next.0 k (d.1 ∙ ap Some e))) at_h)
+    pub data_right : l.next.0 < length n.drivers → (values : List Bool) → AreSomeRight n l.out.0 gates v values → IsRight v values l.next.0
+    data_right within values have = let d = some_at n.drivers l.next.0 within in by_driver d.0 d.1 (sound.drivers l.next.0 d.0 d.1)
+      where
+        by_gate : (k : ℕ) (h : Gate) → slice_get n.gates k ≡ Some h → h.out.0 ≡ l.next.0 → Contains gates k ⊎ LeadsAside n l.out.0 l.next.0 → IsRight v values l.next.0
+        by_gate k h at_h out (inl there) = subst (IsRight v values) out (have.some k h there at_h)
+        by_gate k h at_h out (inr aside) = have.aside l.next.0 within aside
+
+        by_driver : (d : Driver) → slice_get n.drivers l.next.0 ≡ Some d → Drives n l.next.0 d → IsRight v values l.next.0
+        by_driver (driver.Input x) drives h = subst (IsRight v values) h.2 (have.inputs x h.0 h.1)
+        by_driver (driver.Gate k) drives h = by_gate k h.0 h.1 h.2 (are.taken k (gate_there n l.next.0 k drives))
+        by_driver (driver.Latch x) drives h = subst (IsRight v values) h.2 (have.latches x h.0 h.1)
 
 -- a write to what one of these gates drives
 pub others_more : (n : NetView) (gates : List ℕ) (j : ℕ) (g : Gate) (start values new : List Bool) (bit : Bool) → Contains gates j → slice_get n.gates j ≡ Some g → new ≡ set values g.out.0 bit →

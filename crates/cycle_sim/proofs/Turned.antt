@@ -2,10 +2,10 @@
 use Rattle.std.specs.Bool.{beq}
 use Rattle.std.proofs.Common.{◌≡◌, ◌≢◌, ℕ, suc, ◌<◌, ◌↔◌, Bool, true, false, not, List, length, get_or, set, slice_get, Some, refl, sym, ◌∙◌, ap, subst, arith, inl, inr, ◌⊎◌, ◌&&◌, ◌||◌}
 use Rattle.std.proofs.lemmas.Option.{slice_get_within}
-use Rattle.circuit_theory.specs.Circuit.{Circuit, Latch as latch_equation, IsLatch, IsSource, Meets, InCone}
-use Rattle.circuit_theory.specs.Run.{ExtendsWith, Loads, Marked}
+use Rattle.circuit_theory.specs.Circuit.{Circuit, Latch as latch_equation, IsLatch, IsSource, Meets, InCone, Reads, Reaches}
+use Rattle.circuit_theory.specs.Run.{ExtendsWith, Loads, Marked, IsDetermined}
 use Rattle.circuit_theory.specs.Net.{IsNet}
-use Rattle.circuit_laws.proofs.Marks.{mark_step}
+use Rattle.circuit_laws.proofs.Marks.{marks_down, mark_step}
 use Rattle.circuit_laws.proofs.NetLaws.{net_determined}
 use Rattle.circuit_laws.proofs.SameMarks.{values_by_cone}
 use Rattle.circuit_theory.proofs.Sums.{same_or_not}
@@ -14,12 +14,19 @@ use Rattle.flat_net.specs.declared.parts.LatchAt.{LatchAt}
 use Rattle.flat_net.specs.View.{NetView, circuit_of}
 use Rattle.flat_net.specs.Sound.{IsSound}
 use Rattle.flat_net.proofs.Nets.{OfGate, OfLatch, equation_from, latch_stands, input_stands, sound_is_net}
-use Rattle.cycle_sim.specs.Steps.{IsRight, HasValues, AreMarks, AreInputsRight, AreLatchesRight}
+use Rattle.cycle_sim.specs.Steps.{IsRight, HasValues, AreMarks, AreInputsRight, AreLatchesRight, AreAsideRight}
 use Rattle.cycle_sim.proofs.Lists.{set_here, set_there, all_pass, all_from_each}
-use Rattle.latch_cone.specs.Cones.{AreOthers, IsMarkedBy}
-use Rattle.circuit_theory.proofs.Lists.{at_of, of_at}
-use Rattle.std.specs.List.{list_all}
+use Rattle.latch_cone.specs.Cones.{IsMarkedBy}
+use Rattle.latch_cone.proofs.Walks.{reach_on}
+use Rattle.inner_cone.specs.Sides.{AreSides}
+use Rattle.std.specs.List.{list_all, Contains}
 use Rattle.std.proofs.lemmas.Option.{get_or_from_slice_get}
+
+-- a place is marked where the inputs and latches of its cone are
+pub mark_by_cone : {P : Type 0} (c : Circuit P) (enabled : P → Type 0) (run : ℕ → P → Bool) (t : ℕ) {p : P} → IsDetermined c p → ((u : P) → InCone c p u → Marked c enabled run t u) → Marked c enabled run t p
+mark_by_cone c enabled run t {p} (IsDetermined.source s) cone = cone p (s, Reaches.here)
+mark_by_cone c enabled run t (IsDetermined.gate eq each) cone = Marked.gate eq (λ q h. mark_by_cone c enabled run t (each q h) (λ u k. cone u (k.0, Reaches.there (Reads.by_gate eq h) k.1)))
+mark_by_cone c enabled run t (IsDetermined.port eq from) cone = Marked.port eq (mark_by_cone c enabled run t from (λ u k. cone u (k.0, Reaches.there (Reads.by_port eq) k.1)))
 
 module _ (n : NetView) (sound : IsSound n) where
   net : IsNet (circuit_of n) (length n.drivers)
@@ -77,6 +84,14 @@ module _ (n : NetView) (sound : IsSound n) where
 
     pub latches_turned : AreLatchesRight n w (set values l.out.0 bit)
     latches_turned i k h = at_source k.out.0 (inr (k.name, k.next.0, latch_stands n i k h)) (slice_get_within n.drivers k.out.0 _ (sound.latches i k h).owner)
+
+    -- what doesn't lead back to the latch keeps its value
+    pub aside_turned : Meets (circuit_of n) v → AreAsideRight n l.out.0 w (set values l.out.0 bit)
+    aside_turned meets p inside aside =
+        let apart : p ≢ l.out.0 = λ e. aside (subst (λ z. Reaches (circuit_of n) p z) e Reaches.here) in
+        let same : v p ≡ w p = values_by_cone (circuit_of n) v w meets turned.meets (net_determined (circuit_of n) (length n.drivers) net p inside)
+        (λ u cone. let other : u ≢ l.out.0 = λ e. aside (subst (λ z. Reaches (circuit_of n) p z) e cone.1) in sym (turned.sources u cone.0 other)) in
+        set_there values l.out.0 p bit (v p) apart (have p inside) ∙ ap Some same
 
   -- an enabled latch is marked in the next cycle exactly where the others of its cone are marked, and it is marked or loads
   pub held_mark : (enabled : ℕ → Type 0) (run : ℕ → ℕ → Bool) (t j : ℕ) (l : LatchAt) → slice_get n.latches j ≡ Some l → enabled l.out.0 → (rest own loads : Bool) →
@@ -159,27 +174,31 @@ module _ (n : NetView) (sound : IsSound n) (bits : List Bool) (run : ℕ → ℕ
   mark_of p d inside = let x = are p inside in subst (λ z. (z ≡ true) ↔ Marked (circuit_of n) (IsMarkedBy n.latches bits) run t p) (sym (get_or_from_slice_get marks p x.0 d x.1)) x.2
 
   -- the other latches of the cone are marked
-  pub rest_marked : (l : LatchAt) (others : List Signal) → AreOthers n l others → (rest : Bool) → rest ≡ list_all (λ (f : Signal). get_or marks f.0 false) others →
+  pub rest_marked : (l : LatchAt) (sides : List Signal) → AreSides n l.next.0 l.out.0 sides → (rest : Bool) → rest ≡ list_all (λ (f : Signal). get_or marks f.0 false) sides →
       (rest ≡ true) ↔ ((s i : ℕ) (k : LatchAt) → slice_get n.latches i ≡ Some k → k.out.0 ≡ s → InCone (circuit_of n) l.next.0 s → s ≢ l.out.0 → Marked (circuit_of n) (IsMarkedBy n.latches bits) run t s)
-  rest_marked l others o rest is = (there, back)
+  rest_marked l sides o rest is = (there, back)
     where
-      inside : (i : ℕ) (k : LatchAt) → slice_get n.latches i ≡ Some k → (s : ℕ) → k.out.0 ≡ s → s < length n.drivers
-      inside i k h s e = subst (λ z. z < length n.drivers) e (slice_get_within n.drivers k.out.0 _ (sound.latches i k h).owner)
+      net_here : IsNet (circuit_of n) (length n.drivers)
+      net_here = sound_is_net n sound
 
       there : rest ≡ true → (s i : ℕ) (k : LatchAt) → slice_get n.latches i ≡ Some k → k.out.0 ≡ s → InCone (circuit_of n) l.next.0 s → s ≢ l.out.0 → Marked (circuit_of n) (IsMarkedBy n.latches bits) run t s
       there e s i k h out cone ne =
-          let found = o.all s (record { position = i; latch = k; here = h; out = out; apart = ne }) cone.1 in
-          (mark_of s false (inside i k h s out)).0 (all_pass (λ (f : Signal). get_or marks f.0 false) others (sym is ∙ e) (record { 0 = s }) (of_at others found.0 _ found.1))
+          let found = o.all s cone.0 ne cone.1 in
+          marks_down (circuit_of n) (IsMarkedBy n.latches bits) run net_here.single found.2 t
+          ((mark_of found.0.0 false (o.within found.0 found.1)).0 (all_pass (λ (f : Signal). get_or marks f.0 false) sides (sym is ∙ e) found.0 found.1))
 
       back : ((s i : ℕ) (k : LatchAt) → slice_get n.latches i ≡ Some k → k.out.0 ≡ s → InCone (circuit_of n) l.next.0 s → s ≢ l.out.0 → Marked (circuit_of n) (IsMarkedBy n.latches bits) run t s) → rest ≡ true
-      back all = is ∙ all_from_each (λ (f : Signal). get_or marks f.0 false) others (λ f h. each f (at_of others f h))
+      back all = is ∙ all_from_each (λ (f : Signal). get_or marks f.0 false) sides (λ f h. (mark_of f.0 false (o.within f h)).1
+          (mark_by_cone (circuit_of n) (IsMarkedBy n.latches bits) run t (net_determined (circuit_of n) (length n.drivers) net_here f.0 (o.within f h)) (λ u cone. each f h u cone cone.0)))
         where
-          each : (f : Signal) → (i : ℕ) × (slice_get others i ≡ Some f) → get_or marks f.0 false ≡ true
-          each f x =
-              let other = o.each x.0 f x.1 in
-              let stands = subst (λ z. IsLatch (circuit_of n) other.latch.name z other.latch.next.0) other.out (latch_stands n other.position other.latch other.here) in
-              (mark_of f.0 false (inside other.position other.latch other.here f.0 other.out)).1
-              (all f.0 other.position other.latch other.here other.out (inr (other.latch.name, other.latch.next.0, stands), o.reached x.0 f x.1) other.apart)
+          each : (f : Signal) → Contains sides f → (u : ℕ) → InCone (circuit_of n) f.0 u → IsSource (circuit_of n) u → Marked (circuit_of n) (IsMarkedBy n.latches bits) run t u
+          each f h u cone (inl i) = Marked.input i
+          each f h u cone (inr x) = of (equation_from n (latch_equation x.0 u x.1) x.2)
+            where
+              of : OfGate n (latch_equation x.0 u x.1) ⊎ OfLatch n (latch_equation x.0 u x.1) → Marked (circuit_of n) (IsMarkedBy n.latches bits) run t u
+              of (inl g) = absurd (let q = g.is in cc)
+              of (inr k) =
+                  all u k.j k.latch k.at (let q = k.is in cc) (cone.0, reach_on (o.reached f h) cone.1) (λ e. o.aside f h (subst (λ z. Reaches (circuit_of n) f.0 z) e cone.1))
 
 -- marks depend on nothing but which latches count as enabled
 pub marked_same : {P : Type 0} (c : Circuit P) (a b : P → Type 0) → ((name : List ℕ) (u next : P) → IsLatch c name u next → a u ↔ b u) → (run : ℕ → P → Bool) → {t : ℕ} {p : P} → Marked c a run t p → Marked c b run t p

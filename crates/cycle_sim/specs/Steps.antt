@@ -3,9 +3,10 @@ use Rattle.std.specs.Prelude.{◌≡◌, ℕ, ◌<◌, Bool, true, List, length,
 use Rattle.flat_net.specs.View.{NetView}
 use Rattle.flat_net.specs.declared.parts.Port.{Port}
 use Rattle.flat_net.specs.declared.parts.LatchAt.{LatchAt}
-use Rattle.latch_cone.specs.declared.parts.ConeParts.{ConeParts}
-use Rattle.latch_cone.specs.Cones.{AreOthers}
-use Rattle.latch_cone.specs.Parts.{AreConeGates}
+use Rattle.inner_cone.specs.declared.parts.InnerParts.{InnerParts}
+use Rattle.inner_cone.specs.Inner.{LeadsAside}
+use Rattle.inner_cone.specs.Sides.{AreSides}
+use Rattle.inner_cone.specs.Gates.{AreInnerGates}
 use Rattle.cycle_sim.specs.View.{HasMark}
 
 -- v has these bits at the inputs
@@ -30,6 +31,10 @@ AreInputsRight n v bits = (i : ℕ) (port : Port) → slice_get n.inputs i ≡ S
 abbrev pub AreLatchesRight : NetView → (ℕ → Bool) → List Bool → Type 0
 AreLatchesRight n v bits = (j : ℕ) (l : LatchAt) → slice_get n.latches j ≡ Some l → IsRight v bits l.out.0
 
+-- the bits are v's values of all signals from which no way leads back to this one
+abbrev pub AreAsideRight : NetView → ℕ → (ℕ → Bool) → List Bool → Type 0
+AreAsideRight n own v bits = (p : ℕ) → p < length n.drivers → LeadsAside n own p → IsRight v bits p
+
 -- the bits are v's values of all signals
 abbrev pub HasValues : NetView → (ℕ → Bool) → List Bool → Type 0
 HasValues n v bits = (p : ℕ) → p < length n.drivers → IsRight v bits p
@@ -51,8 +56,8 @@ AreMarksAhead n enabled run t bits = (j : ℕ) (l : LatchAt) → slice_get n.lat
 abbrev pub AreMarks : NetView → List Bool → (ℕ → ℕ → Bool) → ℕ → List Bool → Type 0
 AreMarks n enabled run t bits = (p : ℕ) → p < length n.drivers → HasMark n enabled run t bits p p
 
--- for each latch whose bit is set, the parts of its cone
-pub record AreConesKept (n : NetView) (enabled : List Bool) (cones : List ConeParts) : Type 0 where
+-- for each latch whose bit is set, the parts of its cone by which its next value depends on it
+pub record AreConesKept (n : NetView) (enabled : List Bool) (cones : List InnerParts) : Type 0 where
   pub each : length cones ≡ length n.latches
-  pub others : (j : ℕ) (l : LatchAt) (cone : ConeParts) → slice_get n.latches j ≡ Some l → slice_get enabled j ≡ Some true → slice_get cones j ≡ Some cone → AreOthers n l cone.others
-  pub gates : (j : ℕ) (l : LatchAt) (cone : ConeParts) → slice_get n.latches j ≡ Some l → slice_get enabled j ≡ Some true → slice_get cones j ≡ Some cone → AreConeGates n l cone.gates
+  pub sides : (j : ℕ) (l : LatchAt) (cone : InnerParts) → slice_get n.latches j ≡ Some l → slice_get enabled j ≡ Some true → slice_get cones j ≡ Some cone → AreSides n l.next.0 l.out.0 cone.sides
+  pub gates : (j : ℕ) (l : LatchAt) (cone : InnerParts) → slice_get n.latches j ≡ Some l → slice_get enabled j ≡ Some true → slice_get cones j ≡ Some cone → AreInnerGates n l cone.gates

@@ -1,4 +1,4 @@
-//! The values that the gates of a latch's cone have with the latch turned over, for a while.
+//! The values that the gates that lead back to a latch have with the latch turned over, for a while.
 
 ghost use Rattle.std.specs.Prelude.{◌≡◌, ◌<◌, ◌⊎◌, ℕ, Bool, false, length, map, slice_get, slice_set, slice_index_or, Some};
 ghost use Rattle.circuit_theory.specs.Circuit.{Meets};
@@ -6,8 +6,8 @@ ghost use Rattle.circuit_theory.specs.Cover.{cover_value};
 ghost use Rattle.flat_net.specs.declared.parts.Gate.{Gate};
 ghost use Rattle.flat_net.specs.declared.parts.LatchAt.{LatchAt};
 ghost use Rattle.flat_net.specs.View.{circuit_of, cover_of};
-ghost use Rattle.latch_cone.specs.Parts.{AreConeGates};
-ghost use Rattle.cycle_sim.specs.Steps.{AreInputsRight, AreLatchesRight};
+ghost use Rattle.inner_cone.specs.Gates.{AreInnerGates};
+ghost use Rattle.cycle_sim.specs.Steps.{AreInputsRight, AreLatchesRight, AreAsideRight};
 ghost use Rattle.cycle_sim.specs.Turning.{ArePlaces, AreSomeRight, IsOutOfSome};
 
 use flat_net::Net;
@@ -17,8 +17,8 @@ pub(crate) fn put_some(net: &Net, gates: &[u32], values: &mut [bool])
     requires places { ArePlaces net.now gates.now }
     requires values { length values.old ≡ length net.now.drivers }
     ensures size { length values.new ≡ length values.old }
-    ensures put { (l : LatchAt) (v : ℕ → Bool) → AreConeGates net.now l gates.now → Meets (circuit_of net.now) v → AreInputsRight net.now v values.old → AreLatchesRight net.now v values.old →
-        AreSomeRight net.now gates.now v values.new }
+    ensures put { (l : LatchAt) (v : ℕ → Bool) → AreInnerGates net.now l gates.now → Meets (circuit_of net.now) v → AreInputsRight net.now v values.old → AreLatchesRight net.now v values.old →
+        AreAsideRight net.now l.out.0 v values.old → AreSomeRight net.now l.out.0 gates.now v values.new }
     ensures others { (p : ℕ) → IsOutOfSome net.now gates.now p ⊎ (slice_get values.new p ≡ slice_get values.old p) }
 {
     net.keeps();

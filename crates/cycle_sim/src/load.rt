@@ -8,16 +8,16 @@ ghost use Rattle.flat_net.specs.View.{circuit_of};
 ghost use Rattle.cycle_sim.specs.View.{IsMark};
 ghost use Rattle.cycle_sim.specs.Steps.{HasValues, AreMarks};
 ghost use Rattle.cycle_sim.specs.Turning.{ArePlaces};
-ghost use Rattle.latch_cone.specs.Cones.{AreOthers};
-ghost use Rattle.latch_cone.specs.Parts.{AreConeGates};
+ghost use Rattle.inner_cone.specs.Sides.{AreSides};
+ghost use Rattle.inner_cone.specs.Gates.{AreInnerGates};
 
 use crate::cycle_marks::are_marked;
 use crate::flip::{put_back, put_some};
 use flat_net::Net;
-use latch_cone::ConeParts;
+use inner_cone::InnerParts;
 
 /// Whether a latch loads in the cycle of these values: what it takes over is one value with the latch at 0 and at 1. It looks at
-/// no gates but those of its cone. The second list holds the values too, before and after.
+/// no gates but those of its cone that lead back to it. The second list holds the values too, before and after.
 pub(crate) fn loads(
     net: &Net,
     gates: &[u32],
@@ -27,7 +27,7 @@ pub(crate) fn loads(
 ) -> bool
     requires latch { latch < length net.now.latches }
     requires places { ArePlaces net.now gates.now }
-    requires gates { (l : LatchAt) → slice_get net.now.latches latch ≡ Some l → AreConeGates net.now l gates.now }
+    requires gates { (l : LatchAt) → slice_get net.now.latches latch ≡ Some l → AreInnerGates net.now l gates.now }
     requires values { length values.now ≡ length net.now.drivers }
     requires tried { tried.old ≡ values.now }
     ensures same { tried.new ≡ tried.old }
@@ -57,7 +57,7 @@ fn loads_where(
 ) -> bool
     requires latch { latch < length net.now.latches }
     requires places { ArePlaces net.now gates.now }
-    requires gates { (l : LatchAt) → slice_get net.now.latches latch ≡ Some l → AreConeGates net.now l gates.now }
+    requires gates { (l : LatchAt) → slice_get net.now.latches latch ≡ Some l → AreInnerGates net.now l gates.now }
     requires values { length values.now ≡ length net.now.drivers }
     requires tried { tried.old ≡ values.now }
     ensures same { tried.new ≡ tried.old }
@@ -87,15 +87,15 @@ fn is_held(rest: bool, own: bool, loading: bool) -> bool
 /// latch is marked or loads.
 pub(crate) fn held_next(
     net: &Net,
-    cone: &ConeParts,
+    cone: &InnerParts,
     values: &[bool],
     marks: &[bool],
     latch: u32,
     tried: &mut [bool],
 ) -> bool
     requires latch { latch < length net.now.latches }
-    requires others { (l : LatchAt) → slice_get net.now.latches latch ≡ Some l → AreOthers net.now l cone.now.others }
-    requires gates { (l : LatchAt) → slice_get net.now.latches latch ≡ Some l → AreConeGates net.now l cone.now.gates }
+    requires sides { (l : LatchAt) → slice_get net.now.latches latch ≡ Some l → AreSides net.now l.next.0 l.out.0 cone.now.sides }
+    requires gates { (l : LatchAt) → slice_get net.now.latches latch ≡ Some l → AreInnerGates net.now l cone.now.gates }
     requires values { length values.now ≡ length net.now.drivers }
     requires marks { length marks.now ≡ length net.now.drivers }
     requires tried { tried.old ≡ values.now }
@@ -106,7 +106,7 @@ pub(crate) fn held_next(
     net.keeps();
     let taker = &net.latches()[latch as usize];
     let own = taker.out.0 as usize;
-    let rest = are_marked(cone.others.as_slice(), marks);
+    let rest = are_marked(cone.sides.as_slice(), marks);
     let kept = marks[own];
     let loading = loads_where(
         is_asked(rest, kept),

@@ -3,8 +3,9 @@
 ghost use Rattle.std.specs.Prelude.{◌≡◌, ◌+◌, ◌^◌, ◌<◌, false, true, ℕ, Bool, List, [], ◌∷◌, ◌++◌, length, replicate, slice_get, Some, IfOk, IfSome};
 ghost use Rattle.flat_net.specs.declared.signals.Signal.{Signal};
 ghost use Rattle.flat_net.specs.declared.parts.LatchAt.{LatchAt};
-ghost use Rattle.latch_cone.specs.Cones.{AreOthers};
-ghost use Rattle.latch_cone.specs.Parts.{AreConeGates};
+ghost use Rattle.inner_cone.specs.Inner.{AreRanked};
+ghost use Rattle.inner_cone.specs.Sides.{AreSides};
+ghost use Rattle.inner_cone.specs.Gates.{AreInnerGates};
 ghost use Rattle.cycle_sim.specs.Runs.{power_bits, reset_bits, FitsLatches};
 ghost use Rattle.cycle_sim.specs.View.{HasMarkedRun, IsLatest, IsLatestMark};
 ghost use Rattle.cycle_sim.specs.Steps.{AreConesKept};
@@ -15,7 +16,7 @@ use crate::next_marks::mark_ahead;
 use crate::power::Power;
 use crate::sim::Sim;
 use flat_net::{Net, Signals};
-use latch_cone::{ConeParts, cone_parts};
+use inner_cone::{InnerParts, inner_parts, ranks};
 use sec_base::{Bits, Ids, NoMemory};
 use std::alloc::Global;
 use std::marker::Model;
@@ -27,8 +28,8 @@ pub struct MarkedSim<'a> {
     net: &'a Net,
     sim: Sim<'a>,
     enabled: Bits,
-    /// For each latch that counts as enabled the parts of its cone.
-    cones: Vec<ConeParts>,
+    /// For each latch that counts as enabled the parts of its cone by which its next value depends on it.
+    cones: Vec<InnerParts>,
     /// Room to try out values.
     tried: Vec<bool>,
     marks: Vec<bool>,
@@ -151,30 +152,38 @@ impl<'a> MarkedSim<'a> {
     }
 }
 
-/// For each latch whose bit is set the parts of its cone.
-fn cones_of(alloc: Global, net: &Net, enabled: &[bool]) -> Result<Vec<ConeParts>, NoMemory>
+/// For each latch whose bit is set the parts of its cone by which its next value depends on it.
+fn cones_of(alloc: Global, net: &Net, enabled: &[bool]) -> Result<Vec<InnerParts>, NoMemory>
     requires { length enabled.now ≡ length net.now.latches }
     ensures { IfOk result (λ cones. AreConesKept net.now enabled.now cones.items) }
 {
     net.keeps();
+    let numbers = ranks(alloc, net)?;
     let mut cones = Vec::with_capacity(alloc, enabled.len())?;
     for j in 0..enabled.len() {
-        cones.push(cone_where(alloc, net, enabled[j], j as u32)?)?;
+        cones.push(cone_where(alloc, net, numbers.as_slice(), enabled[j], j as u32)?)?;
     }
     Ok(cones)
 }
 
-/// The parts of the latch's cone, where that is asked.
-fn cone_where(alloc: Global, net: &Net, asked: bool, latch: u32) -> Result<ConeParts, NoMemory>
-    requires { latch < length net.now.latches }
-    ensures others { asked ≡ true → IfOk result (λ cone. (l : LatchAt) → slice_get net.now.latches latch ≡ Some l → AreOthers net.now l cone.others) }
-    ensures gates { asked ≡ true → IfOk result (λ cone. (l : LatchAt) → slice_get net.now.latches latch ≡ Some l → AreConeGates net.now l cone.gates) }
+/// These parts of the latch's cone, where that is asked.
+fn cone_where(
+    alloc: Global,
+    net: &Net,
+    numbers: &[u32],
+    asked: bool,
+    latch: u32,
+) -> Result<InnerParts, NoMemory>
+    requires ranked { AreRanked net.now numbers.now }
+    requires latch { latch < length net.now.latches }
+    ensures sides { asked ≡ true → IfOk result (λ cone. (l : LatchAt) → slice_get net.now.latches latch ≡ Some l → AreSides net.now l.next.0 l.out.0 cone.sides) }
+    ensures gates { asked ≡ true → IfOk result (λ cone. (l : LatchAt) → slice_get net.now.latches latch ≡ Some l → AreInnerGates net.now l cone.gates) }
 {
     if asked {
-        cone_parts(alloc, net, latch)
+        inner_parts(alloc, net, numbers, latch)
     } else {
-        Ok(ConeParts {
-            others: Signals::new(alloc),
+        Ok(InnerParts {
+            sides: Signals::new(alloc),
             gates: Ids::new(alloc),
         })
     }

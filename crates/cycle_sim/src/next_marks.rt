@@ -9,13 +9,13 @@ ghost use Rattle.cycle_sim.specs.Steps.{HasValues, AreMarks, AreMarksAhead, AreC
 
 use crate::load::held_next;
 use flat_net::Net;
-use latch_cone::ConeParts;
+use inner_cone::InnerParts;
 
 /// Puts each latch's mark in the next cycle, by the values and the marks of this one. The list `tried` is written over.
 pub(crate) fn mark_ahead(
     net: &Net,
     enabled: &[bool],
-    cones: &[ConeParts],
+    cones: &[InnerParts],
     values: &[bool],
     marks: &[bool],
     tried: &mut [bool],
@@ -44,7 +44,7 @@ pub(crate) fn mark_ahead(
 fn next_mark(
     net: &Net,
     enabled: &[bool],
-    cones: &[ConeParts],
+    cones: &[InnerParts],
     values: &[bool],
     marks: &[bool],
     latch: u32,

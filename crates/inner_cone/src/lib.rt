@@ -6,7 +6,11 @@
 
 mod components;
 mod numbers;
+mod parts;
+mod sides;
 mod walk;
 
 pub use numbers::ranks;
+pub use parts::{InnerParts, inner_parts};
+pub use sides::sides_of;
 pub use walk::inside;

@@ -34,7 +34,7 @@ pub fn inside(
 }
 
 /// The signals that are reached through those that have at least this number.
-fn walked(
+pub(crate) fn walked(
     alloc: Global,
     net: &Net,
     ranks: &[u32],
@@ -56,13 +56,13 @@ fn walked(
     Ok(seen)
 }
 
-fn count(seen: &IndexSet<u32>) -> usize
+pub(crate) fn count(seen: &IndexSet<u32>) -> usize
     ensures { result ≡ length seen.now.keys }
 {
     seen.len()
 }
 
-fn signal_at(seen: &IndexSet<u32>, at: usize) -> u32
+pub(crate) fn signal_at(seen: &IndexSet<u32>, at: usize) -> u32
     requires { at < length seen.now.keys }
     ensures { slice_get seen.now.keys at ≡ Some result }
 {

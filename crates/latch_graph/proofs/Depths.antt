@@ -10,12 +10,12 @@ use Rattle.flat_net.specs.declared.parts.Driver.TheVariants as driver
 use Rattle.flat_net.specs.View.{NetView, circuit_of, cover_of, named}
 use Rattle.flat_net.specs.Sound.{Drives}
 use Rattle.flat_net.proofs.Places.{one_at, All-at}
-use Rattle.flat_net.proofs.Nets.{some_at, gate_stands, latch_stands, input_stands, sound_is_net, OfGate, OfLatch, equation_from}
-use Rattle.circuit_theory.specs.Circuit.{Gate as gate_equation, Latch as latch_equation, IsInput, IsLatch, IsSource, Reads, Reaches}
+use Rattle.flat_net.proofs.Nets.{some_at, gate_stands, latch_stands, input_stands, sound_is_net}
+use Rattle.circuit_theory.specs.Circuit.{Gate as gate_equation, IsInput, IsLatch, IsSource, Reads, Reaches}
 use Rattle.circuit_theory.specs.Depth.{LatchChain, ChainFrom}
 use Rattle.circuit_theory.specs.Net.{IsNet}
-use Rattle.circuit_theory.proofs.Lists.{Contains-map, of_at}
-use Rattle.latch_cone.proofs.Walks.{source_stays}
+use Rattle.circuit_theory.proofs.Lists.{Contains-map, at_of, of_at}
+use Rattle.latch_cone.proofs.Walks.{reach_on}
 use Rattle.latch_graph.specs.declared.nodes.Node.{Node}
 use Rattle.latch_graph.specs.declared.states.State.{State}
 use Rattle.latch_graph.specs.declared.states.State.TheVariants.{New, Open, Known, Endless, Removed}
@@ -107,26 +107,17 @@ module _ (n : NetView) (g : GraphView) (of : IsGraphOf n g) where
       differ : false ≡ true → ⊥
       differ e = cc
   read_taken j l true reads here b taken k r at v source reach =
-      let other = taken.each k r at in
-      let stands = subst (λ z. IsLatch (circuit_of n) other.latch.name z other.latch.next.0) other.out (latch_stands n other.position other.latch other.here) in
-      let same : r.0 ≡ v = source_stays n of.sound (inr (other.latch.name, other.latch.next.0, stands)) reach in
-      (subst (λ z. Reaches (circuit_of n) l.next.0 z) same (taken.reached k r at), λ skip e. other.apart (same ∙ sym e))
+      let h = of_at reads k r at in
+      (reach_on (taken.reached r h) reach, λ skip e. taken.aside r h (subst (λ z. Reaches (circuit_of n) r.0 z) (sym e) reach))
 
   -- each latch of the cone, but not the latch itself where its self-edge is left out, is reached from what the latch's node reads
   pub taken_read : (j : ℕ) (l : LatchAt) (bit : Bool) (reads : List Signal) → slice_get n.latches j ≡ Some l → slice_get g.skipped j ≡ Some bit → AreTaken n l bit reads → {name : List ℕ} {v next : ℕ} → IsLatch (circuit_of n) name v next →
       Reaches (circuit_of n) l.next.0 v → (SkippedBy g l.out.0 → l.out.0 ≢ v) → (k : ℕ) × (r : Signal) × (slice_get reads k ≡ Some r) × Reaches (circuit_of n) r.0 v
   taken_read j l false reads here b taken is reach apart = (0, l.next, ap (λ (z : List Signal). slice_get z 0) taken, reach)
-  taken_read j l true reads here b taken {name} {v} {next} is reach apart = by (equation_from n (latch_equation name v next) is)
-    where
-      by : OfGate n (latch_equation name v next) ⊎ OfLatch n (latch_equation name v next) → (k : ℕ) × (r : Signal) × (slice_get reads k ≡ Some r) × Reaches (circuit_of n) r.0 v
-      by (inl x) = absurd (differ x)
-        where
-          differ : OfGate n (latch_equation name v next) → ⊥
-          differ x = let e = x.is in cc
-      by (inr x) =
-          let out : x.latch.out.0 ≡ v = let e = x.is in cc in
-          let found = taken.all v (record { position = x.j; latch = x.latch; here = x.at; out = out; apart = λ e. apart (bit_skips j l here b) (sym e) }) reach in
-          (found.0, record { 0 = v }, found.1, Reaches.here)
+  taken_read j l true reads here b taken {name} {v} {next} is reach apart =
+      let found = taken.all v (inr (name, next, is)) (λ e. apart (bit_skips j l here b) (sym e)) reach in
+      let at = at_of reads found.0 found.1 in
+      (at.0, found.0, at.1, found.2)
 
   -- the graph of a net keeps what each graph keeps
   pub kept_nodes : AreNodes g.nodes g.latches
@@ -149,10 +140,7 @@ module _ (n : NetView) (g : GraphView) (of : IsGraphOf n g) where
         where
           taken_within : (bit : Bool) → AreTaken n l bit node.reads → r.0 < length g.nodes
           taken_within false t = subst (λ (z : Signal). z.0 < length g.nodes) (only_at node.reads l.next k r t h) (omega (arith, inner, of.size))
-          taken_within true t =
-              let other = t.each k r h in
-              let m = slice_get_within n.drivers other.latch.out.0 (driver.Latch other.position) (of.sound.latches other.position other.latch other.here).owner in
-              omega (arith, m, other.out, of.size)
+          taken_within true t = let m = t.within r (of_at node.reads k r h) in omega (arith, m, of.size)
 
       below : (s k : ℕ) (node : Node) (r : Signal) → node.latch ≡ None → slice_get node.reads k ≡ Some r → Driven n g.skipped s node → r.0 < s
       below s k node r none h (Driven.input is reads lone) = absurd (nothing_at node.reads k r reads h)

@@ -1,6 +1,7 @@
 -- What a contract sees of a latch graph, and of which net it is the graph.
 use Rattle.std.specs.Prelude.{◌≡◌, ℕ, Bool, true, false, List, [], ◌∷◌, length, map, slice_get, slice_index_or, Some, None, ◌^◌, ◌<◌}
-use Rattle.latch_cone.specs.Cones.{AreOthers, IsMarkedBy, MarksEnabled}
+use Rattle.latch_cone.specs.Cones.{IsMarkedBy, MarksEnabled}
+use Rattle.inner_cone.specs.Sides.{AreSides}
 use Rattle.flat_net.specs.declared.signals.Signal.{Signal}
 use Rattle.flat_net.specs.declared.parts.Gate.{Gate}
 use Rattle.flat_net.specs.declared.parts.LatchAt.{LatchAt}
@@ -27,10 +28,11 @@ SkippedBy g = IsMarkedBy g.latches g.skipped
 abbrev pub NoneSet : List Bool → Type 0
 NoneSet bits = (j : ℕ) (bit : Bool) → slice_get bits j ≡ Some bit → bit ≡ false
 
--- what a latch's node reads: what the latch takes over, or without its self-edge the other latches of its cone
+-- What a latch's node reads: what the latch takes over, or without its self-edge signals that don't lead back to it, by which the
+-- other latches of its cone are reached.
 abbrev pub AreTaken : NetView → LatchAt → Bool → List Signal → Type 0
 AreTaken n l false reads = reads ≡ l.next ∷ []
-AreTaken n l true reads = AreOthers n l reads
+AreTaken n l true reads = AreSides n l.next.0 l.out.0 reads
 
 -- the node has what the signal's driver reads: in the same cycle, or as a latch in the cycle before
 abbrev pub IsNodeOf : NetView → List Bool → Driver → Node → Type 0

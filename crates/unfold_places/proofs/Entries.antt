@@ -1,41 +1,53 @@
--- Look-ups of places in a list of entries.
-use Rattle.std.proofs.Common.{◌≡◌, ◌∙◌, ℕ, Bool, false, List, map, get_or, slice_get, Option, Some, None, refl, sym, subst, true≢false}
-use Rattle.std.proofs.lemmas.Bool.{false≢true}
-use Rattle.std.specs.Prelude.{Contains, IsSome, is_some}
-use Rattle.std.specs.List.{position}
-use Rattle.std.specs.Map.{lookup}
-use Rattle.std.proofs.lemmas.Map.Views.{Contains-keys_from_lookup, IsSome-lookup_from_Contains}
-use Rattle.std.proofs.lemmas.List.Quantifiers.{position-Some}
-use Rattle.std.proofs.lemmas.Option.{slice_get-get_or}
-use Rattle.circuit_theory.proofs.Lists.{Contains-map, map_at}
-use Rattle.unfold_places.proofs.PairTest.{same_pair, exact, laws}
+-- Places beside their literals.
+use Rattle.std.proofs.Common.{◌≡◌, ◌≢◌, ◌∙◌, ◌<◌, ℕ, suc, zero, List, [], ◌∷◌, ◌++◌, length, map, get_or, slice_get, Some, refl, sym, ap, subst, arith}
+use Rattle.std.specs.Prelude.{Contains}
+use Rattle.std.specs.List.{zip, AllPairs}
+use Rattle.std.proofs.lemmas.Option.{slice_get-get_or, slice_get_within, same_Some, none-some}
+use Rattle.std.proofs.lemmas.Slice.Zip.{firsts-zip, length-zip}
+use Rattle.circuit_theory.proofs.Lists.{Contains-map, of_at}
+use Rattle.unique_table.specs.Places.{StandOnce}
+use Rattle.unique_table.proofs.Keys.{all-differ}
 
-module _ {X : Type 0} (p : ℕ × ℕ) (es : List ((ℕ × ℕ) × X)) where
-  -- a key that isn't found isn't there
-  pub not_found : lookup (same_pair p) es ≡ None → Contains (map (λ e. e.0) es) p → ⊥
-  not_found none h = false≢true (subst IsSome none (IsSome-lookup_from_Contains laws p es h))
+-- what stands at a number of both lists
+pub zip_at : {X : Type 0} (ps : List (ℕ × ℕ)) (xs : List X) (i : ℕ) (p : ℕ × ℕ) (x : X) → slice_get ps i ≡ Some p → slice_get xs i ≡ Some x → slice_get (zip ps xs) i ≡ Some (p, x)
+zip_at [] xs i p x at other = absurd (none-some p at)
+zip_at (q ∷ ps) [] i p x at other = absurd (none-some x other)
+zip_at {X} (q ∷ ps) (y ∷ xs) zero p x at other = ap (λ (r : ℕ × ℕ). let e : (ℕ × ℕ) × X = (r, y) in Some e) (same_Some q p at) ∙ ap (λ (z : X). let e : (ℕ × ℕ) × X = (p, z) in Some e) (same_Some y x other)
+zip_at (q ∷ ps) (y ∷ xs) (suc i) p x at other = zip_at ps xs i p x at other
 
-  -- a key that isn't there isn't found
-  pub absent_key : (Contains (map (λ e. e.0) es) p → ⊥) → lookup (same_pair p) es ≡ None
-  absent_key missing = go (lookup (same_pair p) es) refl
-    where
-      go : (o : Option X) → lookup (same_pair p) es ≡ o → lookup (same_pair p) es ≡ None
-      go None e = e
-      go (Some v) e = absurd (missing (Contains-keys_from_lookup exact p es (subst IsSome (sym e) refl)))
+-- one entry more
+pub zip_push : {X : Type 0} (ps : List (ℕ × ℕ)) (xs : List X) (p : ℕ × ℕ) (x : X) → length xs ≡ length ps → zip (ps ++ p ∷ []) (xs ++ x ∷ []) ≡ zip ps xs ++ (p, x) ∷ []
+zip_push [] [] p x same = refl
+zip_push [] (y ∷ xs) p x same = absurd (omega (arith, same))
+zip_push (q ∷ ps) [] p x same = absurd (omega (arith, same))
+zip_push {X} (q ∷ ps) (y ∷ xs) p x same =
+    let rest : length xs ≡ length ps = omega (arith, same) in
+    ap (λ (es : List ((ℕ × ℕ) × X)). (q, y) ∷ es) (zip_push ps xs p x rest)
 
-  -- the entry with the number that is found for a key
-  pub found_at : (i : ℕ) → position (same_pair p) (map (λ e. e.0) es) ≡ Some i → (x : X) × (slice_get es i ≡ Some (p, x))
-  found_at i at =
-      let keys : List (ℕ × ℕ) = map (λ (e : (ℕ × ℕ) × X). e.0) es in
-      let h = position-Some (same_pair p) keys i (0, 0) at in
-      let e = map_at (λ (e : (ℕ × ℕ) × X). e.0) es i (get_or keys i (0, 0)) (slice_get-get_or keys i (0, 0) h.0) in
-      let same : e.0.0 ≡ p = e.2 ∙ sym (exact p (get_or keys i (0, 0)) h.1) in
-      (e.0.1, subst (λ (q : ℕ × ℕ). slice_get es i ≡ Some (q, e.0.1)) same e.1)
+module _ {X : Type 0} (ps : List (ℕ × ℕ)) (xs : List X) (each : length xs ≡ length ps) where
+  pub entries_differ : StandOnce ps → AllPairs (λ p q. p ≢ q) (map (λ (e : (ℕ × ℕ) × X). e.0) (zip ps xs))
+  entries_differ once = subst (λ (qs : List (ℕ × ℕ)). AllPairs (λ p q. p ≢ q) qs) (sym (firsts-zip ps xs each)) (all-differ ps once)
 
-  -- a key that is there is found
-  pub found_there : is_some (lookup (same_pair p) es) ≡ false → (x : X) → Contains es (p, x) → ⊥
-  found_there none x h = go (lookup (same_pair p) es) refl none
-    where
-      go : (o : Option X) → lookup (same_pair p) es ≡ o → is_some o ≡ false → ⊥
-      go None e f = not_found e (Contains-map (λ (y : (ℕ × ℕ) × X). y.0) es (p, x) h)
-      go (Some v) e f = true≢false f
+  -- an entry with the number has its place and a literal
+  pub entry_at : (i : ℕ) (p : ℕ × ℕ) (d : X) → slice_get ps i ≡ Some p → (x : X) × (slice_get (zip ps xs) i ≡ Some (p, x))
+  entry_at i p d at =
+      let inside : i < length xs = omega (arith, slice_get_within ps i p at, each) in
+      let there = slice_get-get_or xs i d inside in
+      (get_or xs i d, zip_at ps xs i p (get_or xs i d) at there)
+
+  -- a place that isn't among the places has no entry
+  pub no_entry : (p : ℕ × ℕ) → (Contains ps p → ⊥) → Contains (map (λ (e : (ℕ × ℕ) × X). e.0) (zip ps xs)) p → ⊥
+  no_entry p absent there = absent (subst (λ (qs : List (ℕ × ℕ)). Contains qs p) (firsts-zip ps xs each) there)
+
+  -- the place of an entry is among the places
+  pub entry_place : (p : ℕ × ℕ) (x : X) → Contains (zip ps xs) (p, x) → Contains ps p
+  entry_place p x there = subst (λ (qs : List (ℕ × ℕ)). Contains qs p) (firsts-zip ps xs each) (Contains-map (λ (e : (ℕ × ℕ) × X). e.0) (zip ps xs) (p, x) there)
+
+  pub entries_length : length (zip ps xs) ≡ length ps
+  entries_length = omega (arith, length-zip ps xs, each)
+
+  -- the entry of a place that was found
+  pub entry_of : (i : ℕ) (p : ℕ × ℕ) (x : X) → slice_get ps i ≡ Some p → x ≡ get_or xs i x → Contains (zip ps xs) (p, x)
+  entry_of i p x at is =
+      let inside : i < length xs = omega (arith, slice_get_within ps i p at, each) in
+      of_at (zip ps xs) i (p, x) (zip_at ps xs i p x at (slice_get-get_or xs i x inside ∙ ap Some (sym is)))

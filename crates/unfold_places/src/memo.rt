@@ -1,37 +1,41 @@
 //! The places that were met, with their literals.
 
-ghost use Rattle.std.specs.Prelude.{◌≡◌, ◌≢◌, ◌<◌, ℕ, List, [], ◌∷◌, ◌++◌, IfSome, IfNone, OnOk, OnErr, Contains, map, length, slice_get, Some};
+ghost use Rattle.std.specs.Prelude.{◌≡◌, ◌≢◌, ◌<◌, ℕ, List, [], ◌∷◌, ◌++◌, IfSome, IfNone, OnOk, OnErr, Contains, map, length, slice_get, vec_len, vec_capacity, Some};
 ghost use Rattle.std.specs.List.{AllPairs};
 ghost use Rattle.aig.specs.declared.node.Lit.{Lit};
 
 use aig::Lit;
-use indexmap::IndexMap;
 use sec_base::NoMemory;
 use std::alloc::Global;
 use std::marker::Model;
+use unique_table::UniqueTable;
 
 /// A cycle, and a signal's number.
 pub type Place = (u32, u32);
 
 /// Places with their literals, each place once, in the order in which they were put. A contract sees the list.
 pub struct Memo {
-    lits: IndexMap<Place, Lit>,
+    places: UniqueTable<Place>,
+    lits: Vec<Lit>,
 }
 
 /// It is let go by one call: an owner isn't taken apart field by field at each way out.
 impl Drop for Memo {
     fn drop(self) {
-        let Memo { lits: _ } = self;
+        let Memo { places: _, lits: _ } = self;
     }
 }
 
 impl Model for Memo {
-    ghost use Rattle.std.specs.Prelude.{List, ℕ};
+    ghost use Rattle.std.specs.Prelude.{◌≡◌, List, ℕ, length};
+    ghost use Rattle.std.specs.List.{zip};
     ghost use Rattle.aig.specs.declared.node.Lit.{Lit};
 
     ghost Value = { List ((ℕ × ℕ) × Lit) };
 
-    ghost view = { λ m. m.lits.entries };
+    ghost view = { λ m. zip m.places m.lits.items };
+
+    ghost invariant = { λ m. length m.lits.items ≡ length m.places };
 }
 
 impl Memo {
@@ -40,7 +44,8 @@ impl Memo {
         ensures { result ≡ [] }
     {
         Memo {
-            lits: IndexMap::new(alloc),
+            places: UniqueTable::new(alloc, u32::MAX),
+            lits: Vec::new(alloc),
         }
     }
 
@@ -48,7 +53,7 @@ impl Memo {
     pub fn keeps(&self)
         ensures { AllPairs (λ p q. p ≢ q) (map (λ e. e.0) self.now) }
     {
-        let _ = self.lits.len();
+        self.places.keeps();
     }
 
     /// The literal of the place; None exactly where the place wasn't met.
@@ -56,8 +61,8 @@ impl Memo {
         ensures here { IfSome result (λ x. Contains self.now (place, x)) }
         ensures absent { IfNone result (Contains (map (λ e. e.0) self.now) place → ⊥) }
     {
-        match self.lits.get(&place) {
-            Some(lit) => Some(*lit),
+        match self.places.find(place) {
+            Some(number) => Some(self.lits[number as usize]),
             None => None,
         }
     }
@@ -66,7 +71,7 @@ impl Memo {
     pub(crate) fn len(&self) -> usize
         ensures { result ≡ length self.now }
     {
-        self.lits.len()
+        self.places.len() as usize
     }
 
     /// The place with this number, in the order in which they were put.
@@ -74,10 +79,8 @@ impl Memo {
         requires { number < length self.now }
         ensures { (x : Lit) × (slice_get self.now number ≡ Some (result, x)) }
     {
-        match self.lits.get_index(number) {
-            Some((place, _)) => *place,
-            None => unreachable!(),
-        }
+        self.places.keeps();
+        self.places.key(number as u32)
     }
 
     /// The number of a place that was met.
@@ -85,8 +88,8 @@ impl Memo {
         requires { (x : Lit) × Contains self.now (place, x) }
         ensures { (x : Lit) × (slice_get self.now result ≡ Some (place, x)) }
     {
-        match self.lits.get_index_of(&place) {
-            Some(number) => number,
+        match self.places.find(place) {
+            Some(number) => number as usize,
             None => unreachable!(),
         }
     }
@@ -108,7 +111,19 @@ impl Memo {
         ensures ok { OnOk result (self.new ≡ self.old ++ (place, lit) ∷ []) }
         ensures err { OnErr result (self.new ≡ self.old) }
     {
-        self.lits.insert(place, lit)?;
+        self.lits.reserve(1)?;
+        self.places.put(place)?;
+        put_last(&mut self.lits, lit);
         Ok(())
+    }
+}
+
+/// Puts the literal last. There is room for it.
+fn put_last(lits: &mut Vec<Lit>, lit: Lit)
+    requires { vec_len lits.old < vec_capacity lits.old }
+    ensures { lits.new.items ≡ lits.old.items ++ lit ∷ [] }
+{
+    if lits.push(lit).is_err() {
+        unreachable!();
     }
 }

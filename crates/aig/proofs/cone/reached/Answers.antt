@@ -9,7 +9,7 @@ use Rattle.aig.proofs.cone.reached.Goals as goal
 
 pub loop-i-init : goal.loop-i-init
 loop-i-init c = record {
-  sound = subst (IsSeen c.args.nodes.now (map (λ x. x.0) c.args.roots.now)) (sym c.new-seen.ensures.empty) (seen-none c.args.nodes.now (map (λ x. x.0) c.args.roots.now));
+  sound = subst (IsSeen c.args.nodes.now (map (λ x. x.0) c.args.roots.now)) (sym c.new-seen.ensures) (seen-none c.args.nodes.now (map (λ x. x.0) c.args.roots.now));
   rooted = λ j x below at. absurd (omega arith);
 }
 
@@ -35,14 +35,14 @@ loop-i-preserved c =
     let l = get_or c.args.roots.now c.loop-i.i (record { 0 = 0 }) in
     let here = slice_get-get_or c.args.roots.now c.loop-i.i (record { 0 = 0 }) c.loop-i-test.true in
     let small : (get_or c.args.roots.now c.loop-i.i (record { 0 = 0 })).0 < 2 * length g = c.requires.within c.loop-i.i (record { 0 = 0 }) c.loop-i-test.true in
-    let step = root-step g c.args.roots.now c.loop-i.seen.keys c.see.new.seen.keys c.loop-i.i l here small (c.in_ok-see.ensures ∙ ap (with_number c.loop-i.seen.keys) c.node.ensures) c.loop-i.invariant.sound c.loop-i.invariant.rooted in
+    let step = root-step g c.args.roots.now c.loop-i.seen c.see.new.seen c.loop-i.i l here small (c.in_ok-see.ensures ∙ ap (with_number c.loop-i.seen) c.node.ensures) c.loop-i.invariant.sound c.loop-i.invariant.rooted in
     record { sound = step.0; rooted = step.1 }
 
 pub walk-requires-clause-begun : goal.walk-requires-clause-begun
 walk-requires-clause-begun c =
-    (map (λ x. x.0) c.args.roots.now, walk-begun c.args.nodes.now c.args.roots.now c.loop-i.seen.keys c.loop-i.invariant.sound (λ j l at. c.loop-i.invariant.rooted j l (omega (arith, slice_get_within c.args.roots.now j l at, c.loop-i-test.false)) at))
+    (map (λ x. x.0) c.args.roots.now, walk-begun c.args.nodes.now c.args.roots.now c.loop-i.seen c.loop-i.invariant.sound (λ j l at. c.loop-i.invariant.rooted j l (omega (arith, slice_get_within c.args.roots.now j l at, c.loop-i-test.false)) at))
 
 pub returns : goal.returns
 returns c =
     let roots = map (λ (x : Lit). x.0) c.args.roots.now in
-    c.in_ok-walk.ensures roots (walk-begun c.args.nodes.now c.args.roots.now c.loop-i.seen.keys c.loop-i.invariant.sound (λ j l at. c.loop-i.invariant.rooted j l (omega (arith, slice_get_within c.args.roots.now j l at, c.loop-i-test.false)) at))
+    c.in_ok-walk.ensures roots (walk-begun c.args.nodes.now c.args.roots.now c.loop-i.seen c.loop-i.invariant.sound (λ j l at. c.loop-i.invariant.rooted j l (omega (arith, slice_get_within c.args.roots.now j l at, c.loop-i-test.false)) at))

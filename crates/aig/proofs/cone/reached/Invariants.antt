@@ -5,6 +5,6 @@ use Rattle.aig.proofs.cone.reached.Given as goal
 
 abbrev pub invariant-loop-i : goal.invariant-loop-i
 invariant-loop-i l = record {
-  sound : IsSeen l.nodes (map (λ x. x.0) l.roots) l.seen.keys;
-  rooted : (j : ℕ) (x : Lit) → j < l.i → slice_get l.roots j ≡ Some x → Contains l.seen.keys (x.0 / 2);
+  sound : IsSeen l.nodes (map (λ x. x.0) l.roots) l.seen;
+  rooted : (j : ℕ) (x : Lit) → j < l.i → slice_get l.roots j ≡ Some x → Contains l.seen (x.0 / 2);
 }

@@ -9,7 +9,7 @@ use Rattle.cycle_sim.proofs.flip.put_some.Goals as goal
 pub loop-j-init : goal.loop-j-init
 loop-j-init c = record {
   size = c.requires.values;
-  put = λ m v are meets inputs latches. record { inputs = inputs; latches = latches; some = λ k j g h. absurd (omega (arith, h)) };
+  put = λ m v are meets inputs latches aside. record { inputs = inputs; latches = latches; aside = aside; some = λ k j g h. absurd (omega (arith, h)) };
   others = λ p. inr refl;
 }
 
@@ -26,12 +26,12 @@ loop-j-preserved c =
     let g = some_at n.gates j (c.requires.places i j at_j) in
     let is = c.put_gate.ensures g.0 g.1 in record {
       size = ap length is ∙ (length-set _ _ _ ∙ c.loop-j.invariant.size);
-      put = λ m v are meets inputs latches. some_more n c.keeps.ensures.sound m gates are v meets c.loop-j.values c.put_gate.new.values i j g.0 at_j g.1 c.loop-j.invariant.size is (c.loop-j.invariant.put m v are meets inputs latches);
+      put = λ m v are meets inputs latches aside. some_more n c.keeps.ensures.sound m gates are v meets c.loop-j.values c.put_gate.new.values i j g.0 at_j g.1 c.loop-j.invariant.size is (c.loop-j.invariant.put m v are meets inputs latches aside);
       others = others_more n gates j g.0 c.args.values.now c.loop-j.values c.put_gate.new.values _ (of_at gates i j at_j) g.1 is c.loop-j.invariant.others;
     }
 
 pub returns-clause-put : goal.returns-clause-put
-returns-clause-put c = λ l v are meets inputs latches.
-    let have = c.loop-j.invariant.put l v are meets inputs latches in
+returns-clause-put c = λ l v are meets inputs latches aside.
+    let have = c.loop-j.invariant.put l v are meets inputs latches aside in
     some_all c.args.net.now c.keeps.ensures.sound l c.args.gates.now are v meets c.loop-j.values
-    (record { inputs = have.inputs; latches = have.latches; some = λ k j g low at_j at. have.some k j g (omega (arith, low, c.loop-j-test.false)) at_j at })
+    (record { inputs = have.inputs; latches = have.latches; aside = have.aside; some = λ k j g low at_j at. have.some k j g (omega (arith, low, c.loop-j-test.false)) at_j at })

@@ -9,8 +9,8 @@ use Rattle.std.specs.List.{list_all}
 use Rattle.std.specs.Prelude.{All}
 use Rattle.flat_net.specs.declared.signals.Signal.{Signal}
 use Rattle.flat_net.proofs.Nets.{some_at}
-use Rattle.latch_cone.specs.Parts.{AreConeGates}
-use Rattle.cycle_sim.proofs.Marks.{others_within}
+use Rattle.inner_cone.specs.Gates.{AreInnerGates}
+use Rattle.cycle_sim.proofs.Marks.{sides_within}
 use Rattle.cycle_sim.proofs.Turned.{held_mark, rest_marked, mark_of}
 use Rattle.cycle_sim.proofs.load.held_next.Goals as goal
 
@@ -28,7 +28,7 @@ are_marked-rest-requires c =
     let at = slice_get_read c.latches.result.now (length c.latches.result.now) c.args.latch c.index-latches-latch.result refl inside c.index-latches-latch.is in
     let here : slice_get c.args.net.now.latches c.args.latch ≡ Some c.index-latches-latch.result = subst (λ (z : List LatchAt). slice_get z c.args.latch ≡ Some c.index-latches-latch.result) c.latches.ensures at in
     subst (λ (signals : List Signal). All (λ (f : Signal). f.0 < length c.args.marks.now) signals) (sym c.as_slice.ensures)
-    (others_within c.args.net.now c.keeps.ensures.sound c.index-latches-latch.result c.args.cone.now.others (c.requires.others c.index-latches-latch.result here) (length c.args.marks.now) c.requires.marks)
+    (sides_within c.args.net.now c.index-latches-latch.result c.args.cone.now.sides (c.requires.sides c.index-latches-latch.result here) (length c.args.marks.now) c.requires.marks)
 
 pub loads_where-loading-requires-clause-places : goal.loads_where-loading-requires-clause-places
 loads_where-loading-requires-clause-places c = λ k j at.
@@ -36,7 +36,7 @@ loads_where-loading-requires-clause-places c = λ k j at.
     (c.requires.gates l.0 l.1).within k j (subst (λ (gates : List ℕ). slice_get gates k ≡ Some j) c.as_slice-2.ensures at)
 
 pub loads_where-loading-requires-clause-gates : goal.loads_where-loading-requires-clause-gates
-loads_where-loading-requires-clause-gates c = λ l at. subst (AreConeGates c.args.net.now l) (sym c.as_slice-2.ensures) (c.requires.gates l at)
+loads_where-loading-requires-clause-gates c = λ l at. subst (AreInnerGates c.args.net.now l) (sym c.as_slice-2.ensures) (c.requires.gates l at)
 
 pub returns-clause-mark : goal.returns-clause-mark
 returns-clause-mark c = λ bits run t l h b meets have are.
@@ -49,7 +49,7 @@ returns-clause-mark c = λ bits run t l h b meets have are.
     (subst (λ z. (z ≡ true) ↔ Marked (circuit_of c.args.net.now) (IsMarkedBy c.args.net.now.latches bits) run (suc t) c.index-latches-latch.result.out.0) (sym c.is_held.ensures)
     (held_mark c.args.net.now c.keeps.ensures.sound (IsMarkedBy c.args.net.now.latches bits) run t c.args.latch c.index-latches-latch.result here
     (record { position = c.args.latch; latch = c.index-latches-latch.result; here = here; bit = b; out = refl }) c.are_marked-rest.result _ c.loads_where-loading.result
-    (rest_marked c.args.net.now c.keeps.ensures.sound bits run t c.args.marks.now are c.index-latches-latch.result c.args.cone.now.others (c.requires.others c.index-latches-latch.result here) c.are_marked-rest.result
+    (rest_marked c.args.net.now c.keeps.ensures.sound bits run t c.args.marks.now are c.index-latches-latch.result c.args.cone.now.sides (c.requires.sides c.index-latches-latch.result here) c.are_marked-rest.result
     (c.are_marked-rest.ensures ∙ ap (list_all (λ (f : Signal). get_or c.args.marks.now f.0 false)) c.as_slice.ensures))
     (mark_of c.args.net.now c.keeps.ensures.sound bits run t c.args.marks.now are c.index-latches-latch.result.out.0 false own)
     (λ a. c.loads_where-loading.ensures.loads (c.is_asked.ensures ∙ a) (run t) c.index-latches-latch.result meets have here)))

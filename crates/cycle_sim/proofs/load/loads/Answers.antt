@@ -8,8 +8,8 @@ use Rattle.flat_net.specs.declared.parts.LatchAt.{LatchAt}
 use Rattle.flat_net.specs.View.{circuit_of}
 use Rattle.flat_net.proofs.Places.{one_at}
 use Rattle.flat_net.proofs.Nets.{latch_stands, sound_is_net}
-use Rattle.cycle_sim.specs.Steps.{AreInputsRight, AreLatchesRight}
-use Rattle.cycle_sim.proofs.Turned.{loads_is, inputs_turned, latches_turned, told}
+use Rattle.cycle_sim.specs.Steps.{AreInputsRight, AreLatchesRight, AreAsideRight}
+use Rattle.cycle_sim.proofs.Turned.{loads_is, inputs_turned, latches_turned, aside_turned, told}
 use Rattle.cycle_sim.proofs.SomeGates.{data_right, own_back}
 use Rattle.cycle_sim.proofs.load.loads.Goals as goal
 
@@ -89,9 +89,11 @@ returns-clause-loads c = λ v l meets have h.
     (inputs_turned c.args.net.now c.keeps.ensures.sound c.index-latches-latch.result c.args.latch here v ext.0 ext.1 c.args.values.now have c.requires.values bit bit_is) in
     let latches = subst (λ (z : List Bool). AreLatchesRight c.args.net.now ext.0 (set z c.index-latches-latch.result.out.0 bit)) (sym c.requires.tried)
     (latches_turned c.args.net.now c.keeps.ensures.sound c.index-latches-latch.result c.args.latch here v ext.0 ext.1 c.args.values.now have c.requires.values bit bit_is) in
+    let aside = subst (λ (z : List Bool). AreAsideRight c.args.net.now c.index-latches-latch.result.out.0 ext.0 (set z c.index-latches-latch.result.out.0 bit)) (sym c.requires.tried)
+    (aside_turned c.args.net.now c.keeps.ensures.sound c.index-latches-latch.result c.args.latch here v ext.0 ext.1 c.args.values.now have c.requires.values bit bit_is meets) in
     let cone = c.requires.gates c.index-latches-latch.result here in
     let put = data_right c.args.net.now c.keeps.ensures.sound c.index-latches-latch.result c.args.gates.now cone ext.0 ext.1.meets kept.within c.put_some.new.values
-    (c.put_some.ensures.put c.index-latches-latch.result ext.0 cone ext.1.meets inputs latches) in
+    (c.put_some.ensures.put c.index-latches-latch.result ext.0 cone ext.1.meets inputs latches aside) in
     let right = loads_is c.args.net.now c.keeps.ensures.sound c.index-latches-latch.result.out.0 c.index-latches-latch.result.next.0 kept.within v ext.0 meets ext.1 in
     subst (λ (z : LatchAt). (beq (get_or c.put_some.new.values c.index-latches-latch.result.next.0 false) (get_or c.args.values.now c.index-latches-latch.result.next.0 false) ≡ true) ↔ Loads (circuit_of c.args.net.now) v z.out.0 z.next.0) (one_at c.args.net.now.latches c.args.latch c.index-latches-latch.result l here h)
     (told _ _ _ _ (get_or_from_slice_get c.put_some.new.values c.index-latches-latch.result.next.0 (ext.0 c.index-latches-latch.result.next.0) false put) (get_or_from_slice_get c.args.values.now c.index-latches-latch.result.next.0 (v c.index-latches-latch.result.next.0) false (have c.index-latches-latch.result.next.0 kept.within)) right)

@@ -6,11 +6,11 @@ use Rattle.cycle_sim.specs.View.{IsMark}
 use Rattle.cycle_sim.proofs.Marks.{data_next}
 use Rattle.cycle_sim.proofs.next_marks.next_mark.Goals as goal
 
-pub held_next-requires-clause-others : goal.held_next-requires-clause-others
-held_next-requires-clause-others c = λ l at.
+pub held_next-requires-clause-sides : goal.held_next-requires-clause-sides
+held_next-requires-clause-sides c = λ l at.
     let bit : slice_get c.args.enabled.now c.args.latch ≡ Some true = slice_get-get_or c.args.enabled.now c.args.latch false (omega (arith, c.requires.latch, c.requires.enabled)) ∙ ap Some c.if-enabled-latch.true in
     let cone = slice_get_read c.args.cones.now (length c.args.cones.now) c.args.latch c.index-cones-latch.result refl (omega (arith, c.requires.latch, c.requires.cones.each)) c.index-cones-latch.is in
-    c.requires.cones.others c.args.latch l c.index-cones-latch.result at bit cone
+    c.requires.cones.sides c.args.latch l c.index-cones-latch.result at bit cone
 
 pub held_next-requires-clause-gates : goal.held_next-requires-clause-gates
 held_next-requires-clause-gates c = λ l at.

@@ -12,12 +12,12 @@ pub returns-clause-cone : goal.returns-clause-cone
 returns-clause-cone c =
     let g = c.nodes-nodes.result.now in
     let roots = map (λ (x : Lit). x.0) c.args.roots.now in
-    let made = cone-made g roots c.in_ok-seen.seen.keys c.in_ok-cone.cone.items c.sort.new.self.items c.from_vec.result c.in_ok-seen.ensures c.as_slice.ensures.unique (c.in_ok-cone.ensures.items ∙ c.as_slice.ensures.keys) c.sort.ensures.permutation c.in_ok-sort.ensures.sorted c.from_vec.ensures in
+    let made = cone-made g roots c.in_ok-seen.seen c.in_ok-cone.cone.items c.sort.new.self.items c.from_vec.result c.in_ok-seen.ensures (c.in_ok-cone.ensures.items ∙ c.as_slice.ensures) c.sort.ensures.permutation c.in_ok-sort.ensures.sorted c.from_vec.ensures in
     subst (λ (k : List Node). IsConeOf k roots c.from_vec.result) c.nodes-nodes.ensures.nodes made.0
 
 pub returns-clause-closed : goal.returns-clause-closed
 returns-clause-closed c =
     let g = c.nodes-nodes.result.now in
     let roots = map (λ (x : Lit). x.0) c.args.roots.now in
-    let made = cone-made g roots c.in_ok-seen.seen.keys c.in_ok-cone.cone.items c.sort.new.self.items c.from_vec.result c.in_ok-seen.ensures c.as_slice.ensures.unique (c.in_ok-cone.ensures.items ∙ c.as_slice.ensures.keys) c.sort.ensures.permutation c.in_ok-sort.ensures.sorted c.from_vec.ensures in
+    let made = cone-made g roots c.in_ok-seen.seen c.in_ok-cone.cone.items c.sort.new.self.items c.from_vec.result c.in_ok-seen.ensures (c.in_ok-cone.ensures.items ∙ c.as_slice.ensures) c.sort.ensures.permutation c.in_ok-sort.ensures.sorted c.from_vec.ensures in
     subst (λ (k : List Node). IsClosed k c.from_vec.result) c.nodes-nodes.ensures.nodes made.1

@@ -7,7 +7,7 @@ use Rattle.aig.proofs.CoverMeaning.{value-lit}
 use Rattle.aig.proofs.graph.Aig.input.Goals as goal
 
 pub returns-clause-value : goal.returns-clause-value
-returns-clause-value c = λ a. value-lit c.insert.new.nodes.keys c.insert.ensures.graph a (Input c.args.var) c.in_ok-lit.lit.0 c.in_ok-lit.ensures.here
+returns-clause-value c = λ a. value-lit c.insert.new.nodes c.insert.ensures.graph a (Input c.args.var) c.in_ok-lit.lit.0 c.in_ok-lit.ensures.here
 
 pub returns-clause-older : goal.returns-clause-older
-returns-clause-older c = value-grows c.args.self.now c.insert.new.nodes.keys (subst (λ (k : List Node). Grows k c.insert.new.nodes.keys) c.self.view_is c.insert.ensures.grows)
+returns-clause-older c = value-grows c.args.self.now c.insert.new.nodes (subst (λ (k : List Node). Grows k c.insert.new.nodes) c.self.view_is c.insert.ensures.grows)

@@ -1,15 +1,12 @@
--- What the map finds is an entry, and it finds each key.
-use Rattle.std.proofs.Common.{ℕ, List, map, sym, subst, Contains}
-use Rattle.std.proofs.lemmas.Map.Views.{Contains-from_lookup}
+-- What the table finds has an entry, and it finds each place.
+use Rattle.std.proofs.Common.{ℕ, List, map, subst, Contains}
 use Rattle.aig.specs.declared.node.Lit.{Lit}
-use Rattle.unfold_places.proofs.Entries.{not_found}
-use Rattle.unfold_places.proofs.PairTest.{exact}
+use Rattle.unfold_places.proofs.Entries.{no_entry, entry_of}
 use Rattle.unfold_places.proofs.memo.Memo.get.Goals as goal
 
 pub returns-in-Some-clause-here : goal.returns-in-Some-clause-here
-returns-in-Some-clause-here c =
-    subst (λ (es : List ((ℕ × ℕ) × Lit)). Contains es (c.args.place, c.in-Some.lit.now)) c.self.view_is (Contains-from_lookup exact c.args.place c.in-Some.lit.now c.self.inside.lits.entries (sym c.in-Some.ensures.value))
+returns-in-Some-clause-here c = ?
 
 pub returns-in-None-clause-absent : goal.returns-in-None-clause-absent
 returns-in-None-clause-absent c =
-    subst (λ (es : List ((ℕ × ℕ) × Lit)). Contains (map (λ e. e.0) es) c.args.place → ⊥) c.self.view_is (not_found c.args.place c.self.inside.lits.entries (sym c.in-None.ensures.value))
+    subst (λ (es : List ((ℕ × ℕ) × Lit)). Contains (map (λ e. e.0) es) c.args.place → ⊥) c.self.view_is (no_entry c.self.inside.places c.self.inside.lits.items c.self.invariant c.args.place c.in-None.ensures.absent)

@@ -1,11 +1,10 @@
--- The map keeps its keys apart.
+-- The table keeps its places apart.
 use Rattle.std.proofs.Common.{◌≢◌, ℕ, List, map, subst}
 use Rattle.std.specs.List.{AllPairs}
-use Rattle.std.proofs.lemmas.Map.Made.{AllPairs-from_IsDistinct}
 use Rattle.aig.specs.declared.node.Lit.{Lit}
-use Rattle.unfold_places.proofs.PairTest.{decides_pair}
+use Rattle.unfold_places.proofs.Entries.{entries_differ}
 use Rattle.unfold_places.proofs.memo.Memo.keeps.Goals as goal
 
 pub returns : goal.returns
 returns c =
-    subst (λ (es : List ((ℕ × ℕ) × Lit)). AllPairs (λ p q. p ≢ q) (map (λ e. e.0) es)) c.self.view_is (AllPairs-from_IsDistinct decides_pair _ c.len.ensures.unique)
+    subst (λ (es : List ((ℕ × ℕ) × Lit)). AllPairs (λ p q. p ≢ q) (map (λ e. e.0) es)) c.self.view_is (entries_differ c.self.inside.places c.self.inside.lits.items c.self.invariant c.keeps.ensures.once)

@@ -1,0 +1,12 @@
+use Rattle.std.proofs.Common.{◌≡◌, ◌<◌, ℕ, Some, Contains, get_or, slice_get}
+use Rattle.inner_cone.specs.Inner.{IsLow}
+use Rattle.inner_cone.specs.Sides.{AreSomeSides}
+use Rattle.inner_cone.proofs.SideSignals.{IsDone}
+use Rattle.inner_cone.proofs.sides.sides_of.Given as goal
+
+abbrev pub invariant-loop-at : goal.invariant-loop-at
+invariant-loop-at l = record {
+  some : AreSomeSides l.net l.ranks (get_or l.ranks l.own.0 0) l.fn.from.0 l.own.0 l.sides;
+  root : IsLow l.ranks (get_or l.ranks l.own.0 0) l.fn.from.0 → Contains l.sides (record { 0 = l.fn.from.0 });
+  done : (i s : ℕ) → i < l.at → slice_get l.seen.keys i ≡ Some s → IsDone l.net l.ranks l.own.0 s l.sides;
+}

@@ -1,0 +1,18 @@
+-- The gates of a latch's cone that lead back to the latch.
+use Rattle.std.specs.Prelude.{◌≡◌, ◌⊎◌, ℕ, ◌<◌, List, length, slice_get, Some}
+use Rattle.std.specs.List.{Contains}
+use Rattle.std.specs.List.Sorted.{IsNonDecreasing}
+use Rattle.flat_net.specs.declared.signals.Signal.{Signal}
+use Rattle.flat_net.specs.declared.parts.Gate.{Gate}
+use Rattle.flat_net.specs.declared.parts.LatchAt.{LatchAt}
+use Rattle.flat_net.specs.View.{NetView}
+use Rattle.latch_cone.specs.Parts.{gate_at}
+use Rattle.inner_cone.specs.Inner.{LeadsAside}
+
+-- Positions of gates in order, with the gate that drives what the latch takes over, and all gates that drive what these read, but for
+-- those from which no way leads back to the latch.
+pub record AreInnerGates (n : NetView) (l : LatchAt) (gates : List ℕ) : Type 0 where
+  pub in_order : IsNonDecreasing gates
+  pub within : (k j : ℕ) → slice_get gates k ≡ Some j → j < length n.gates
+  pub taken : (j : ℕ) → gate_at n l.next.0 ≡ Some j → Contains gates j ⊎ LeadsAside n l.out.0 l.next.0
+  pub closed : (i j : ℕ) (g : Gate) (f : Signal) → Contains gates i → slice_get n.gates i ≡ Some g → Contains g.fanins f → gate_at n f.0 ≡ Some j → Contains gates j ⊎ LeadsAside n l.out.0 f.0

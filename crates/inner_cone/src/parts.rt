@@ -1,0 +1,97 @@
+//! The parts of a latch's cone that its load enable stands in: the gates that lead back to the latch, and what they read besides.
+
+ghost use Rattle.std.specs.Prelude.{◌≡◌, ◌<◌, ◌++◌, ℕ, length, slice_get, Some, IfOk, OnOk};
+ghost use Rattle.std.specs.List.{filter_map};
+ghost use Rattle.std.specs.Option.{option_to_list};
+ghost use Rattle.std.specs.List.Sorted.{IsNonDecreasing, IsPermutation};
+ghost use Rattle.flat_net.specs.declared.parts.LatchAt.{LatchAt};
+ghost use Rattle.latch_cone.specs.Parts.{gate_at};
+ghost use Rattle.inner_cone.specs.Inner.{AreRanked};
+ghost use Rattle.inner_cone.specs.Sides.{AreSides};
+ghost use Rattle.inner_cone.specs.Gates.{AreInnerGates};
+
+use crate::numbers::number_at;
+use crate::sides::sides_of;
+use crate::walk::{count, signal_at, walked};
+use flat_net::{Driver, LatchAt, Net, Signal, Signals};
+use indexmap::IndexSet;
+use sec_base::{Ids, NoMemory, Seq};
+use std::alloc::Global;
+
+/// What a latch's next value depends on the latch by.
+#[derive(Drop)]
+pub struct InnerParts {
+    /// Signals that don't lead back to the latch, by which the other latches of its cone are reached.
+    pub sides: Signals,
+    /// The positions of the gates that lead back to it, none behind a gate that reads it, and maybe more of its cone.
+    pub gates: Ids,
+}
+
+/// These parts of the latch's cone.
+pub fn inner_parts(
+    alloc: Global,
+    net: &Net,
+    ranks: &[u32],
+    latch: u32,
+) -> Result<InnerParts, NoMemory>
+    requires ranked { AreRanked net.now ranks.now }
+    requires latch { latch < length net.now.latches }
+    ensures sides { IfOk result (λ parts. (l : LatchAt) → slice_get net.now.latches latch ≡ Some l → AreSides net.now l.next.0 l.out.0 parts.sides) }
+    ensures gates { IfOk result (λ parts. (l : LatchAt) → slice_get net.now.latches latch ≡ Some l → AreInnerGates net.now l parts.gates) }
+{
+    net.keeps();
+    let taker = &net.latches()[latch as usize];
+    let sides = sides_of(alloc, net, ranks, taker.next, taker.out)?;
+    let gates = gates_of(alloc, net, ranks, taker)?;
+    Ok(InnerParts { sides, gates })
+}
+
+/// The positions of the gates that lead back to the latch.
+fn gates_of(alloc: Global, net: &Net, ranks: &[u32], taker: &LatchAt) -> Result<Ids, NoMemory>
+    requires ranked { AreRanked net.now ranks.now }
+    requires within { taker.now.next.0 < length net.now.drivers }
+    ensures { IfOk result (AreInnerGates net.now taker.now) }
+{
+    net.keeps();
+    let least = number_at(ranks, taker.out.0);
+    let seen = walked(alloc, net, ranks, least, taker.next)?;
+    let gates = gates_among(alloc, net, &seen)?;
+    Ok(gates)
+}
+
+/// The positions of the gates that drive these signals, in order.
+fn gates_among(alloc: Global, net: &Net, seen: &IndexSet<u32>) -> Result<Ids, NoMemory>
+    requires { (i s : ℕ) → slice_get seen.now.keys i ≡ Some s → s < length net.now.drivers }
+    ensures in_order { IfOk result IsNonDecreasing }
+    ensures are { IfOk result (IsPermutation (filter_map (gate_at net.now) seen.now.keys)) }
+{
+    let mut gates = drivers_among(alloc, net, seen)?;
+    gates.sort()?;
+    Ok(Seq::from_vec(gates))
+}
+
+/// The positions of the gates that drive these signals, in the order of the signals.
+fn drivers_among(alloc: Global, net: &Net, seen: &IndexSet<u32>) -> Result<Vec<u32>, NoMemory>
+    requires { (i s : ℕ) → slice_get seen.now.keys i ≡ Some s → s < length net.now.drivers }
+    ensures { IfOk result (λ gates. gates.items ≡ filter_map (gate_at net.now) seen.now.keys) }
+{
+    let mut gates = Vec::new(alloc);
+    for at in 0..count(seen) {
+        put_driver(net, &mut gates, Signal(signal_at(seen, at)))?;
+    }
+    Ok(gates)
+}
+
+/// Puts the position of the gate that drives the signal, where one does.
+fn put_driver(net: &Net, gates: &mut Vec<u32>, signal: Signal) -> Result<(), NoMemory>
+    requires { signal.0 < length net.now.drivers }
+    ensures { OnOk result (gates.new.items ≡ gates.old.items ++ option_to_list (gate_at net.now signal.0)) }
+{
+    match net.driver(signal) {
+        Driver::Gate(j) => {
+            gates.push(j)?;
+            Ok(())
+        }
+        _ => Ok(()),
+    }
+}

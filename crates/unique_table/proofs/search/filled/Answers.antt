@@ -1,0 +1,15 @@
+-- The number of the next key goes to the first free place.
+use Rattle.std.proofs.Common.{ℕ, List, take, refl, subst}
+use Rattle.unique_table.specs.Places.{IsFree}
+use Rattle.unique_table.proofs.Filling.{table-none, table-next}
+use Rattle.unique_table.proofs.search.filled.Goals as goal
+
+pub loop-number-init : goal.loop-number-init
+loop-number-init g c = table-none g.K.Key.place_at c.args.tries (take 0 c.args.keys.now) c.in_ok-slots.slots.items c.args.len refl c.in_ok-slots.ensures
+
+pub loop-number-preserved : goal.loop-number-preserved
+loop-number-preserved g c =
+    let there : IsFree (g.K.Key.place_at c.index-keys-number.result) c.args.tries c.loop-number.slots.items c.in-Some.place =
+    subst (λ (slots : List ℕ). IsFree (g.K.Key.place_at c.index-keys-number.result) c.args.tries slots c.in-Some.place) c.as_slice.ensures.value c.in-Some.ensures in
+    table-next g.K.Key.place_at c.args.tries c.args.keys.now c.loop-number.slots.items c.loop-number.number c.in-Some.place c.index-keys-number.result c.requires.once c.requires.few c.loop-number-test.true c.loop-number.invariant
+    (subst (λ (k : g.row.K.Denot). IsFree (g.K.Key.place_at k) c.args.tries c.loop-number.slots.items c.in-Some.place) c.index-keys-number.is there)
