@@ -18,8 +18,8 @@ use Rattle.sec_setup.specs.Cuts.{IsChoice, StandInOrder, AreCutBy}
 use Rattle.sec_setup.specs.Matching.{InterfacesMatch}
 use Rattle.sec_setup.specs.Pairs.{ArePairsOf, outputs_of}
 use Rattle.sec_setup.proofs.Uncut.{uncut}
-use Rattle.sec_check.specs.Compared as compared
-use Rattle.sec_check.proofs.CutSizes.{cut_over, cut_light}
+use Rattle.compare_base.specs.Compared as compared
+use Rattle.plain_meaning.proofs.CutSizes.{cut_over, cut_light}
 use Rattle.pair_clauses.specs.Clauses.{PairGives, plainly, size_refusal_of}
 use Rattle.pair_clauses.specs.declared.error.CertError.{CertError}
 use Rattle.pair_clauses.specs.declared.error.CertError.TheVariants.{Compare}

@@ -18,9 +18,9 @@ use Rattle.plain_form.specs.Formed.{IsLight}
 use Rattle.plain_form.specs.Outcome.{HaveDifferentFunctions}
 use Rattle.plain_form.specs.declared.error.PlainError.{PlainError}
 use Rattle.plain_form.specs.declared.error.PlainError.TheVariants as oversize
-use Rattle.sec_check.specs.Compared.{Compared}
-use Rattle.sec_check.specs.declared.error.CompareError.{CompareError}
-use Rattle.sec_check.specs.declared.error.CompareError.TheVariants as refused
+use Rattle.compare_base.specs.Compared.{Compared}
+use Rattle.compare_base.specs.declared.error.CompareError.{CompareError}
+use Rattle.compare_base.specs.declared.error.CompareError.TheVariants as refused
 use Rattle.witness_report.specs.declared.witness.PairName.TheVariants.{Output}
 use Rattle.pair_clauses.specs.declared.error.CertError.{CertError}
 use Rattle.pair_clauses.specs.declared.error.CertError.TheVariants.{Compare, Pair}

@@ -9,7 +9,7 @@ use Rattle.flat_net.specs.declared.parts.Port.{Port}
 use Rattle.flat_net.specs.View.{NetView, named, circuit_of}
 use Rattle.sec_files.specs.Loading.{Loads}
 use Rattle.pair_clauses.specs.Clauses.{IsOutput}
-use Rattle.job_check.specs.Answer.{AreComparable}
+use Rattle.check_meaning.specs.Answer.{AreComparable}
 use Rattle.job_cert.specs.Answer.{AreCertifiable}
 use Rattle.design_rows.specs.Designs as design
 use Rattle.design_rows.specs.Small.{Small, IsSmall, small_and, small_late}

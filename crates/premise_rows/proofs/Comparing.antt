@@ -14,12 +14,12 @@ use Rattle.blif_read.specs.Reading.{first_fault, spelled}
 use Rattle.flat_net.specs.View.{NetView, circuit_of, ports_of}
 use Rattle.flatten.specs.DesignFaults.{IsSoundDesign, IsFlatOf}
 use Rattle.cut_points.specs.Common.{common_names}
-use Rattle.job_check.specs.Answer.{AreComparable}
+use Rattle.check_meaning.specs.Answer.{AreComparable}
 use Rattle.sec_setup.specs.Matching.{InterfacesMatch}
 use Rattle.sec_setup.specs.Cycles.{AreBroken}
-use Rattle.sec_check.specs.Compared.{AreTooLarge}
+use Rattle.compare_base.specs.Compared.{AreTooLarge}
 use Rattle.sec_setup.specs.Cuts.{IsChoice}
-use Rattle.sec_check.specs.Fitting.{IsCutOver}
+use Rattle.plain_meaning.specs.Fitting.{IsCutOver}
 use Rattle.sec_files.specs.Formats.{Format, Blif, format_of, IsReadIn, IsSoundIn}
 use Rattle.sec_files.specs.Loading.{IsAccepted, Loads}
 use Rattle.sec_files.proofs.Texts.{text_net}

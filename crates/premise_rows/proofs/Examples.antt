@@ -16,9 +16,9 @@ use Rattle.flatten.specs.DesignFaults.{IsFlatOf}
 use Rattle.blif_read.specs.declared.design.BlifModel.{BlifModel}
 use Rattle.cut_points.specs.Common.{common_names}
 use Rattle.sec_setup.specs.Cycles.{AreBroken}
-use Rattle.sec_check.specs.Compared.{AreTooLarge}
+use Rattle.compare_base.specs.Compared.{AreTooLarge}
 use Rattle.sec_setup.specs.Cuts.{IsChoice}
-use Rattle.sec_check.specs.Fitting.{IsCutOver}
+use Rattle.plain_meaning.specs.Fitting.{IsCutOver}
 use Rattle.sec_files.specs.Formats.{Blif}
 use Rattle.sec_files.specs.Loading.{Loads}
 use Rattle.sec_files.proofs.Texts.{text_net}

@@ -25,7 +25,7 @@ use Rattle.sec_base.specs.declared.settings.Settings.{Settings}
 use Rattle.sec_setup.specs.Cuts.{IsChoice, columns_of}
 use Rattle.sec_setup.proofs.CutNets.{same_as_cut, cut_numbers}
 use Rattle.sec_setup.proofs.SameEquations.{same_tree}
-use Rattle.job_check.specs.Answer.{TextsUndecided}
+use Rattle.check_meaning.specs.Answer.{TextsUndecided}
 use Rattle.design_rows.specs.Designs as design
 use Rattle.design_rows.specs.Small.{small_and, IsSmall}
 use Rattle.premise_rows.specs.RuledOut.{AndsMeetNoLimit}

@@ -27,9 +27,9 @@ use Rattle.cut_points.specs.Common.{common_names}
 use Rattle.cut_points.specs.Exposed.{IsToldCycle}
 use Rattle.design_laws.proofs.KeptNames.{latch_names_are}
 use Rattle.sec_setup.specs.Cycles.{AreBroken}
-use Rattle.sec_check.specs.Compared.{AreTooLarge}
+use Rattle.compare_base.specs.Compared.{AreTooLarge}
 use Rattle.sec_setup.specs.Cuts.{IsChoice, StandInOrder}
-use Rattle.sec_check.specs.Fitting.{cut_outputs, IsCutOver, IsCutLight}
+use Rattle.plain_meaning.specs.Fitting.{cut_outputs, IsCutOver, IsCutLight}
 use Rattle.premise_rows.specs.TextNets.{OneNetIsEnough, ToldCyclesAreOne}
 
 names_of_rows : {P : Type 0} (es : List (Equation P)) → latch_names es ≡ latch_names (latch_rows es)

@@ -50,11 +50,11 @@ use Rattle.plain_form.specs.Laws.{HaveOneTree}
 use Rattle.sec_setup.specs.Pairs.{NamedPair, named_pairs}
 use Rattle.plain_form.specs.Outcome.{HaveDifferentFunctions, AnswerFits, PairFits, VerdictFits}
 use Rattle.sec_setup.specs.Cycles.{AreBroken}
-use Rattle.sec_check.specs.Compared.{IsCompared, AreTooLarge}
+use Rattle.compare_base.specs.Compared.{IsCompared, AreTooLarge}
 use Rattle.sec_setup.specs.Cuts.{IsChoice, columns_of, is_cut}
-use Rattle.sec_check.specs.Fitting.{IsCutOver, OutcomeFits}
+use Rattle.plain_meaning.specs.Fitting.{IsCutOver, OutcomeFits}
 use Rattle.sec_setup.proofs.CutNets.{same_as_cut, cut_numbers}
-use Rattle.sec_check.proofs.CutPairs.{IsOutputPair, IsNextPair, one_output, listed_is}
+use Rattle.plain_meaning.proofs.CutPairs.{IsOutputPair, IsNextPair, one_output, listed_is}
 use Rattle.sec_setup.proofs.SameEquations.{same_tree}
 use Rattle.sec_files.specs.Formats.{Format, Blif, Aiger, format_of, IsNetIn}
 use Rattle.sec_files.specs.Loading.{Loads}

@@ -10,7 +10,7 @@ use Rattle.command_line.specs.declared.task.Task.TheVariants as task
 use Rattle.outcome.specs.declared.verdict.Outcome.{Outcome}
 use Rattle.outcome.specs.declared.verdict.Verdict.{Verdict}
 use Rattle.outcome.specs.declared.verdict.Verdict.TheVariants as verdict
-use Rattle.sec_check.specs.Compared.{ByReset, Compared}
+use Rattle.compare_base.specs.Compared.{ByReset, Compared}
 use Rattle.sec_files.specs.Loading.{Loads}
 use Rattle.job_base.specs.declared.finding.Finding.{Finding}
 use Rattle.job_base.specs.declared.finding.Finding.TheVariants as finding
@@ -18,11 +18,11 @@ use Rattle.job_base.specs.declared.status.StatusName.{StatusName}
 use Rattle.job_base.specs.declared.status.StatusName.TheVariants as status
 use Rattle.job_base.specs.declared.finding.Refusal.TheVariants as refusal
 use Rattle.job_files.specs.Reading.{Held}
-use Rattle.job_check.specs.Answer.{AreComparable, CanAnswer, IsAnswer}
+use Rattle.check_meaning.specs.Answer.{AreComparable, CanAnswer, IsAnswer}
 use Rattle.sec_run.specs.Answer.{EndsAs, IsFinding}
-use Rattle.job_check.specs.Found.{IsFoundOf, OfNets}
+use Rattle.check_meaning.specs.Found.{IsFoundOf, OfNets}
 use Rattle.job_base.specs.Written.{status_of, verdict_status}
-use Rattle.job_check.specs.Check.{Check, WhereBuilt}
+use Rattle.check_meaning.specs.Check.{Check, WhereBuilt}
 use Rattle.job_base.specs.Meaning.{EndsWith}
 use Rattle.sec_run.specs.Promises.{IsComplete}
 use Rattle.premise_rows.specs.OneText.{OfCheck, OfOneText, IsAlways, IsEqualAnswer}

@@ -29,10 +29,10 @@ use Rattle.flat_net.specs.View.{NetView, circuit_of}
 use Rattle.reset_laws.specs.Weight.{PlaceInCycle, ResetVisits, WeighedInCycle, IsResetOver}
 use Rattle.reset_unfold.specs.Places.{in_cycle, starts_of}
 use Rattle.sec_setup.specs.Pairs.{NamedPair, named_pairs}
-use Rattle.sec_check.specs.FromReset.{IsLeftStart, IsRightStart, AreTooLargeFromReset}
-use Rattle.sec_check.proofs.CutPairs.{IsOutputPair, IsNextPair, listed_is}
+use Rattle.compare_base.specs.FromReset.{IsLeftStart, IsRightStart, AreTooLargeFromReset}
+use Rattle.plain_meaning.proofs.CutPairs.{IsOutputPair, IsNextPair, listed_is}
 use Rattle.sec_files.specs.Loading.{Loads}
-use Rattle.job_check.specs.Answer.{AreComparable}
+use Rattle.check_meaning.specs.Answer.{AreComparable}
 use Rattle.premise_rows.specs.ResetPremises.{late_from_zero, early_from_zero, ResetsAreComparable}
 use Rattle.premise_rows.specs.Texts.{late, early}
 use Rattle.premise_rows.proofs.Comparing.{Spells, PortsMatch, accepted, net_is_small, match, broken}

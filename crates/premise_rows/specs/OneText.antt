@@ -7,16 +7,16 @@ use Rattle.sec_base.specs.declared.settings.Settings.{Settings}
 use Rattle.outcome.specs.declared.verdict.Verdict.TheVariants as verdict
 use Rattle.outcome.specs.declared.verdict.Outcome.{Outcome}
 use Rattle.sec_setup.specs.Cycles.{IsAcyclic}
-use Rattle.sec_check.specs.Compared.{IsCompared}
-use Rattle.sec_check.specs.Fitting.{IsCutOver}
+use Rattle.compare_base.specs.Compared.{IsCompared}
+use Rattle.plain_meaning.specs.Fitting.{IsCutOver}
 use Rattle.sec_files.specs.Loading.{IsAccepted, Loads}
 use Rattle.job_base.specs.declared.status.StatusName.{StatusName}
 use Rattle.job_base.specs.declared.status.StatusName.TheVariants as status
 use Rattle.command_line.specs.declared.task.Task.{Task}
 use Rattle.command_line.specs.declared.task.Task.TheVariants as task
-use Rattle.job_check.specs.Check.{Check}
+use Rattle.check_meaning.specs.Check.{Check}
 use Rattle.job_files.specs.Reading.{Held}
-use Rattle.job_check.specs.Answer.{AreComparable}
+use Rattle.check_meaning.specs.Answer.{AreComparable}
 
 -- Two nets that one text loads as are equal wherever they are compared, however few conflicts are allowed.
 abbrev pub OneTextIsEqual : Type 0

@@ -7,7 +7,7 @@ use Rattle.flatten.specs.OneNet.{AreOneNet}
 use Rattle.cut_points.specs.Exposed.{IsToldCycle}
 use Rattle.sec_setup.specs.Matching.{InterfacesMatch}
 use Rattle.sec_setup.specs.Cycles.{AreBroken}
-use Rattle.sec_check.specs.Compared.{AreTooLarge}
+use Rattle.compare_base.specs.Compared.{AreTooLarge}
 use Rattle.sec_files.specs.Loading.{Loads}
 
 -- A text loads as one net, up to the numbers of its signals.

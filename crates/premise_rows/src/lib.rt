@@ -3,7 +3,7 @@
 
 ghost use Rattle.std.specs.Prelude.{◌≢◌, map, string_bytes};
 ghost use Rattle.command_line.specs.Jobs.{job_of};
-ghost use Rattle.job_check.specs.Answer.{AreComparable};
+ghost use Rattle.check_meaning.specs.Answer.{AreComparable};
 ghost use Rattle.premise_rows.specs.AndFile.{FileIsComparable};
 ghost use Rattle.premise_rows.specs.OneText.{OneTextIsEqual, UnfoldedIsComparable, OfCheck, OfOneText, IsEqualAnswer};
 ghost use Rattle.premise_rows.specs.OneReport.{GraphReportsAreOne, SimReportsAreOne};

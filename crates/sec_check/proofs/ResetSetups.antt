@@ -43,9 +43,9 @@ use Rattle.reset_functions.specs.Bases.{AreBases}
 use Rattle.reset_form.specs.Formed.{AreFound, Formed}
 use Rattle.reset_form.specs.Outcome.{Numbered, FindingsFit, VerdictFits}
 use Rattle.reset_functions.specs.Pairs.{IsLeftSide, IsRightSide, IsLight, IsTooLarge}
-use Rattle.sec_check.specs.declared.error.CompareError.TheVariants as refused
-use Rattle.sec_check.specs.Compared.{IsComparedFromReset}
-use Rattle.sec_check.specs.FromReset.{IsLeftStart, IsRightStart, IsLeftLight, IsRightLight, AreTooLargeFromReset, numbered_by, verdict_of, ResetOutcomeFits, ResetVerdictFits}
+use Rattle.compare_base.specs.declared.error.CompareError.TheVariants as refused
+use Rattle.compare_base.specs.Compared.{IsComparedFromReset}
+use Rattle.compare_base.specs.FromReset.{IsLeftStart, IsRightStart, IsLeftLight, IsRightLight, AreTooLargeFromReset, numbered_by, verdict_of, ResetOutcomeFits, ResetVerdictFits}
 use Rattle.sec_check.proofs.ResetMeaning.{resets_agree, resets_differ}
 
 -- all latches stay

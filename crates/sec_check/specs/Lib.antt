@@ -1,4 +1,0 @@
-pub mod Compared
-pub mod Fitting
-pub mod FromReset
-pub mod Says
