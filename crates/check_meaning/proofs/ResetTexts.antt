@@ -20,8 +20,8 @@ use Rattle.outcome.specs.declared.verdict.Verdict.TheVariants as verdict
 use Rattle.outcome.specs.declared.verdict.Why.{Why}
 use Rattle.outcome.specs.Report.{report_text}
 use Rattle.sec_setup.specs.Pairs.{NamedPair, named_pairs}
-use Rattle.reset_form.specs.Limits.{IsUndecidedAt}
-use Rattle.reset_form.specs.Outcome.{Numbered, AgreeBefore, AnswerFits, PairFits, IsFirstLimit}
+use Rattle.reset_functions.specs.Limits.{IsUndecidedAt}
+use Rattle.reset_functions.specs.Outcome.{Numbered, AgreeBefore, AnswerFits, PairFits, IsFirstLimit}
 use Rattle.compare_base.specs.Compared.{IsComparedFromReset}
 use Rattle.compare_base.specs.FromReset.{numbered_by, ResetVerdictFits}
 use Rattle.sec_files.specs.Loading.{Loads, circuit_of_text}

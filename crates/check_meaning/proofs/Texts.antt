@@ -18,7 +18,7 @@ use Rattle.outcome.specs.declared.verdict.Why.TheVariants as why
 use Rattle.outcome.specs.Report.{report_text}
 use Rattle.sec_setup.specs.Pairs.{NamedPair, named_pairs}
 use Rattle.sec_setup.specs.Cuts.{columns_of, is_cut}
-use Rattle.plain_form.specs.Outcome.{PairFits, VerdictFits, IsFirstLimit}
+use Rattle.plain_meaning.specs.Outcome.{PairFits, VerdictFits, IsFirstLimit}
 use Rattle.compare_base.specs.Compared.{IsCompared}
 use Rattle.sec_files.specs.Loading.{Loads, circuit_of_text}
 use Rattle.sec_files.proofs.Texts.{spelled_circuit}

@@ -24,7 +24,7 @@ use Rattle.sec_setup.specs.Pairs.{NamedPair, named_pairs}
 use Rattle.sec_setup.specs.Matching.{InterfacesMatch}
 use Rattle.sec_setup.specs.Cycles.{AreBroken}
 use Rattle.sec_setup.specs.Cuts.{IsChoice, AreCutAt, columns_of}
-use Rattle.plain_form.specs.Limits.{IsUndecided}
+use Rattle.plain_meaning.specs.Limits.{IsUndecided}
 use Rattle.compare_base.specs.Says.{SaysEqual, SaysDifferent, SaysNotShown}
 use Rattle.compare_base.specs.Compared.{AreTooLarge, ByReset}
 use Rattle.compare_base.specs.FromReset.{AreTooLargeFromReset}

@@ -15,8 +15,8 @@ use Rattle.outcome.specs.declared.verdict.Verdict.TheVariants as verdict
 use Rattle.outcome.specs.declared.verdict.Outcome.{Outcome}
 use Rattle.outcome.specs.Report.{report_text}
 use Rattle.sec_setup.specs.Pairs.{NamedPair, named_pairs}
-use Rattle.reset_form.specs.Limits.{IsUndecidedAt}
-use Rattle.reset_form.specs.Outcome.{AgreeBefore}
+use Rattle.reset_functions.specs.Limits.{IsUndecidedAt}
+use Rattle.reset_functions.specs.Outcome.{AgreeBefore}
 use Rattle.compare_base.specs.FromReset.{numbered_by}
 use Rattle.compare_base.specs.Says.{MakesResetsDiffer}
 use Rattle.sec_files.specs.Loading.{Loads, SpellsCircuit}

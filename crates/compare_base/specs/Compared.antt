@@ -20,10 +20,9 @@ use Rattle.sec_setup.specs.declared.error.SetupError.TheVariants as unset
 use Rattle.sec_setup.specs.Cuts.{IsChoice, StandInOrder}
 use Rattle.sec_setup.specs.Cycles.{IsAcyclic, AreBroken}
 use Rattle.sec_setup.specs.Matching.{InterfacesMatch}
-use Rattle.plain_form.specs.Formed.{IsLight}
 use Rattle.compare_base.specs.declared.error.CompareError.{CompareError}
 use Rattle.compare_base.specs.declared.error.CompareError.TheVariants as refused
-use Rattle.plain_meaning.specs.Fitting.{IsCutOver, IsCutLight, OutcomeFits}
+use Rattle.plain_meaning.specs.Fitting.{IsLight, IsCutOver, IsCutLight, OutcomeFits}
 use Rattle.compare_base.specs.FromReset.{IsLeftLight, IsRightLight, AreTooLargeFromReset, ResetOutcomeFits}
 use Rattle.compare_base.specs.Says.{SaysEqual, SaysDifferent, SaysNotShown, MakesResetsDiffer}
 

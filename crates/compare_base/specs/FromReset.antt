@@ -15,9 +15,7 @@ use Rattle.outcome.specs.declared.verdict.Verdict.{Verdict}
 use Rattle.outcome.specs.declared.verdict.Verdict.TheVariants as verdict
 use Rattle.reset_laws.specs.Reset.{AreBased}
 use Rattle.sec_setup.specs.Pairs.{NamedPair, named_pairs}
-use Rattle.reset_form.specs.Outcome.{Numbered, PairFits, IsFirstDifference, IsFirstLimit, greatest_size}
-use Rattle.reset_form.specs.declared.shown.ResetVerdict.{ResetVerdict}
-use Rattle.reset_form.specs.declared.shown.ResetVerdict.TheVariants as found
+use Rattle.reset_functions.specs.Outcome.{Numbered, PairFits, IsFirstDifference, IsFirstLimit, greatest_size}
 use Rattle.reset_functions.specs.Pairs.{IsLight, IsTooLarge}
 
 -- an output of A in a cycle up to the depth of its pair
@@ -51,12 +49,6 @@ numbered_by a b left right left_base right_base = record {
   right_base = right_base;
   columns = shared_inputs (ports_of a) (ports_of b);
 }
-
--- the verdict of a comparison from initial values, as an outcome has it
-abbrev pub verdict_of : ResetVerdict → Verdict
-verdict_of found.Equal = verdict.Equal
-verdict_of (found.Different w) = verdict.DifferentFrom w
-verdict_of (found.Limit name) = verdict.Limit (limit_at.Pair name)
 
 -- the first of different and limit that some pair has, and equal where every pair is equal
 abbrev pub ResetVerdictFits : Numbered → List (NamedPair ℕ ℕ) → List PairResult → Verdict → Type 0

@@ -17,7 +17,7 @@ use Rattle.outcome.specs.declared.verdict.Why.{Why}
 use Rattle.outcome.specs.declared.verdict.Why.TheVariants as why
 use Rattle.sec_setup.specs.Pairs.{NamedPair, named_pairs}
 use Rattle.sec_setup.specs.Cuts.{columns_of, is_cut}
-use Rattle.plain_form.specs.Outcome.{PairFits, VerdictFits, IsFirstLimit}
+use Rattle.plain_meaning.specs.Outcome.{PairFits, VerdictFits, IsFirstLimit}
 use Rattle.job_base.specs.declared.finding.Finding.{Finding}
 use Rattle.job_base.specs.Ends.{EndsBy}
 use Rattle.job_base.specs.declared.finding.Finding.TheVariants as finding

@@ -20,7 +20,7 @@ use Rattle.unfold_places.specs.declared.signal_function.Unfolded.{Unfolded}
 use Rattle.proof_check.specs.Clauses.{Unsatisfiable}
 use Rattle.cnf_encode.specs.declared.cnf.Cnf.{Cnf}
 use Rattle.cnf_encode.specs.Encoding.{MeansDifference, ShowsDifference, IsSmall}
-use Rattle.plain_form.specs.Outcome.{HaveDifferentFunctions}
+use Rattle.plain_meaning.specs.Outcome.{HaveDifferentFunctions}
 use Rattle.plain_form.specs.Pairs.{IsFunctionOf}
 use Rattle.pair_clauses.specs.Clauses.{CanBeMet, TellDifference}
 

@@ -7,7 +7,7 @@ use Rattle.flat_net.specs.View.{NetView, circuit_of}
 use Rattle.cnf_encode.specs.declared.cnf.Cnf.{Cnf}
 use Rattle.cut_points.specs.declared.exposed.Exposure.{Exposure}
 use Rattle.interface.specs.declared.pairs.SignalPair.{SignalPair}
-use Rattle.plain_form.specs.Formed.{IsLight}
+use Rattle.plain_meaning.specs.Fitting.{IsLight}
 use Rattle.plain_form.specs.Pairs.{Unfolds, left_signals, right_signals, AreLight, AreTooLarge}
 use Rattle.plain_form.specs.declared.error.PlainError.{PlainError}
 use Rattle.plain_form.specs.declared.error.PlainError.TheVariants as oversize

@@ -14,8 +14,8 @@ use Rattle.cnf_encode.specs.Encoding.{IsSmall}
 use Rattle.sec_base.specs.declared.settings.Settings.{Settings}
 use Rattle.sec_setup.specs.Cycles.{IsAcyclic}
 use Rattle.sec_setup.specs.Matching.{InterfacesMatch}
-use Rattle.plain_form.specs.Formed.{IsLight}
-use Rattle.plain_form.specs.Outcome.{HaveDifferentFunctions}
+use Rattle.plain_meaning.specs.Fitting.{IsLight}
+use Rattle.plain_meaning.specs.Outcome.{HaveDifferentFunctions}
 use Rattle.plain_form.specs.declared.error.PlainError.{PlainError}
 use Rattle.plain_form.specs.declared.error.PlainError.TheVariants as oversize
 use Rattle.compare_base.specs.Compared.{Compared}

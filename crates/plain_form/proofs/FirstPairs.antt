@@ -26,7 +26,7 @@ use Rattle.sec_setup.specs.Pairs.{outputs_of, places_of, NamedPair}
 use Rattle.sec_setup.specs.Setup.{IsSetup}
 use Rattle.plain_form.specs.declared.functions.Functions.{Functions}
 use Rattle.plain_form.specs.Asked.{AskedOf, AreAsked}
-use Rattle.plain_form.specs.Outcome.{PairFits, PairsFit, IsFirstOfAnswer}
+use Rattle.plain_meaning.specs.Outcome.{PairFits, PairsFit, IsFirstOfAnswer}
 use Rattle.plain_form.specs.Sequences.{IsSequence, IsWitnessOf}
 use Rattle.plain_form.specs.Shown.{IsQueryAt, IsShowable, IsWitnessAt}
 use Rattle.plain_form.proofs.Decided.{pair_fits, only-query, is_sequence, is_witness}

@@ -9,7 +9,7 @@ use Rattle.sec_base.specs.declared.basics.PairAnswer.TheVariants as answer
 use Rattle.pair_decide.specs.declared.query.Proof.{Proof}
 use Rattle.outcome.specs.declared.verdict.Verdict.{Verdict}
 use Rattle.plain_form.specs.Laws.{HaveOneTree, OneTreeHasNoLimit}
-use Rattle.plain_form.specs.Outcome.{AnswerFits, PairFits, VerdictFits}
+use Rattle.plain_meaning.specs.Outcome.{AnswerFits, PairFits, VerdictFits}
 
 -- what stands beside an entry of the second list
 beside : {X Y : Type 0} (R : X → Y → Type 0) (xs : List X) (ys : List Y) → AllZip R xs ys → (i : ℕ) (y : Y) → slice_get ys i ≡ Some y → (x : X) × Contains xs x × R x y

@@ -26,7 +26,7 @@ use Rattle.cbf_unfold.proofs.Cone.{covers_cone, reached_one, constant_reaches}
 use Rattle.unfold_places.proofs.Lists.{pairs_map}
 use Rattle.pair_decide.specs.declared.query.Query.{Query}
 use Rattle.pair_decide.specs.Queries.{IsQuery, IsSame, IsLeast, Distinguishes, assigned_to, roots_of}
-use Rattle.plain_form.specs.Limits.{HasValueOf}
+use Rattle.plain_meaning.specs.Limits.{HasValueOf}
 use Rattle.plain_form.specs.Pairs.{IsFunctionOf}
 use Rattle.plain_form.specs.Sequences.{bits_at}
 use Rattle.plain_form.specs.Variables.{variable_of, variables_of, GoesBefore, AreInOrder, IsMergeOf, IsPairQuery}

@@ -31,7 +31,7 @@ use Rattle.outcome.specs.declared.verdict.Verdict.{Verdict}
 use Rattle.outcome.specs.declared.verdict.Verdict.TheVariants as verdict
 use Rattle.outcome.specs.declared.verdict.Why.TheVariants as why
 use Rattle.outcome.specs.declared.verdict.Outcome.{Outcome}
-use Rattle.plain_form.specs.Outcome.{AnswerFits, PairFits, IsFirstOfAnswer, NoneIs, VerdictFits}
+use Rattle.plain_meaning.specs.Outcome.{AnswerFits, PairFits, IsFirstOfAnswer, NoneIs, VerdictFits}
 use Rattle.sec_setup.specs.Pairs.{NamedPair, named_pairs}
 use Rattle.plain_meaning.specs.Equal.{AreEqual}
 use Rattle.plain_meaning.specs.Fitting.{OutcomeFits}

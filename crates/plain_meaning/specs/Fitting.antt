@@ -8,8 +8,16 @@ use Rattle.sec_base.specs.declared.limits.TheConstants.{MAX_WEIGHT}
 use Rattle.flat_net.specs.View.{NetView, circuit_of, ports_of}
 use Rattle.outcome.specs.declared.verdict.Outcome.{Outcome}
 use Rattle.sec_setup.specs.Cuts.{IsChoice, AreCutAt, columns_of, is_cut}
-use Rattle.sec_setup.specs.Pairs.{named_pairs}
-use Rattle.plain_form.specs.Outcome.{PairsFit, VerdictFits, greatest_size}
+use Rattle.sec_setup.specs.Pairs.{outputs_of, named_pairs}
+use Rattle.plain_meaning.specs.Outcome.{PairsFit, VerdictFits, greatest_size}
+
+-- the unfoldings of all outputs weigh at most 2,000,000 together
+abbrev pub IsLight : NetView → Type 0
+IsLight n = (w : ℕ) × IsWeight (circuit_of n) (outputs_of n) w × (w ≤ MAX_WEIGHT)
+
+-- or more
+abbrev pub IsTooLarge : NetView → Type 0
+IsTooLarge n = IsOver (circuit_of n) (outputs_of n) MAX_WEIGHT
 
 -- the places of the outputs of the circuit with the latches of these names cut out
 abbrev pub cut_outputs : {P : Type 0} → List (List ℕ) → Circuit P → List P

@@ -48,7 +48,7 @@ use Rattle.outcome.specs.declared.verdict.Outcome.{Outcome}
 use Rattle.sec_base.specs.declared.settings.Settings.{Settings}
 use Rattle.plain_form.specs.Laws.{HaveOneTree}
 use Rattle.sec_setup.specs.Pairs.{NamedPair, named_pairs}
-use Rattle.plain_form.specs.Outcome.{HaveDifferentFunctions, AnswerFits, PairFits, VerdictFits}
+use Rattle.plain_meaning.specs.Outcome.{HaveDifferentFunctions, AnswerFits, PairFits, VerdictFits}
 use Rattle.sec_setup.specs.Cycles.{AreBroken}
 use Rattle.compare_base.specs.Compared.{IsCompared, AreTooLarge}
 use Rattle.sec_setup.specs.Cuts.{IsChoice, columns_of, is_cut}

@@ -33,7 +33,7 @@ use Rattle.outcome.specs.declared.verdict.ResetWitness.{ResetWitness}
 use Rattle.reset_form.specs.Asked.{AskedOf, AreAsked}
 use Rattle.reset_functions.specs.Bases.{AreBases}
 use Rattle.reset_form.specs.Formed.{numbered}
-use Rattle.reset_form.specs.Outcome.{PairFits, IsFirstDifference}
+use Rattle.reset_functions.specs.Outcome.{PairFits, IsFirstDifference}
 use Rattle.reset_form.specs.Shown.{IsShowable, IsWitnessOf, IsWitnessAt}
 pub use Rattle.reset_functions.proofs.OwnPairs.{ArePairsIn, own_pairs}
 use Rattle.reset_form.proofs.Columns.{leaf_is}

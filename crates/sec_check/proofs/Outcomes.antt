@@ -18,7 +18,7 @@ use Rattle.sec_setup.specs.Setup.{IsSetupOf}
 use Rattle.plain_form.specs.declared.comparison.Findings.{Findings}
 use Rattle.plain_form.specs.declared.error.PlainError.TheVariants as plain_error
 use Rattle.plain_form.specs.Formed.{AreFound, Formed}
-use Rattle.plain_form.specs.Outcome.{FindingsFit}
+use Rattle.plain_form.specs.Findings.{FindingsFit}
 use Rattle.compare_base.specs.declared.error.CompareError.TheVariants as refused
 use Rattle.compare_base.specs.Compared.{AreTooLarge, IsCompared, Compared}
 use Rattle.plain_meaning.specs.Fitting.{OutcomeFits}

@@ -41,11 +41,13 @@ use Rattle.reset_form.specs.declared.shown.ResetVerdict.{ResetVerdict}
 use Rattle.reset_form.specs.declared.shown.ResetVerdict.TheVariants as found_verdict
 use Rattle.reset_functions.specs.Bases.{AreBases}
 use Rattle.reset_form.specs.Formed.{AreFound, Formed}
-use Rattle.reset_form.specs.Outcome.{Numbered, FindingsFit, VerdictFits}
+use Rattle.reset_functions.specs.Outcome.{Numbered}
+use Rattle.reset_form.specs.Findings.{FindingsFit, VerdictFits}
 use Rattle.reset_functions.specs.Pairs.{IsLeftSide, IsRightSide, IsLight, IsTooLarge}
 use Rattle.compare_base.specs.declared.error.CompareError.TheVariants as refused
 use Rattle.compare_base.specs.Compared.{IsComparedFromReset}
-use Rattle.compare_base.specs.FromReset.{IsLeftStart, IsRightStart, IsLeftLight, IsRightLight, AreTooLargeFromReset, numbered_by, verdict_of, ResetOutcomeFits, ResetVerdictFits}
+use Rattle.compare_base.specs.FromReset.{IsLeftStart, IsRightStart, IsLeftLight, IsRightLight, AreTooLargeFromReset, numbered_by, ResetOutcomeFits, ResetVerdictFits}
+use Rattle.sec_check.specs.Verdicts.{verdict_of}
 use Rattle.sec_check.proofs.ResetMeaning.{resets_agree, resets_differ}
 
 -- all latches stay

@@ -10,7 +10,7 @@ ghost use Rattle.sec_setup.specs.Cuts.{AreCutBy, AreCutOpen};
 ghost use Rattle.sec_setup.specs.Matching.{InterfacesMatch};
 ghost use Rattle.sec_setup.specs.Setup.{AreGraphed};
 ghost use Rattle.compare_base.specs.Compared.{Compared};
-ghost use Rattle.compare_base.specs.FromReset.{verdict_of};
+ghost use Rattle.sec_check.specs.Verdicts.{verdict_of};
 
 use compare_base::CompareError;
 use cut_points::Exposure;

@@ -1,6 +1,5 @@
 -- What it means that what is found of some pairs fits two circuits whose runs begin with the latches' initial values.
 use Rattle.std.specs.Prelude.{◌≡◌, ◌≢◌, ℕ, ◌<◌, ◌≤◌, Bool, List, length, Option, Some, None, slice_get}
-use Rattle.std.specs.List.{All, AllZip}
 use Rattle.circuit_theory.specs.Circuit.{Circuit}
 use Rattle.circuit_theory.specs.Fits.{IsPairDepth}
 use Rattle.circuit_theory.specs.Query.{Distinguishes, pair_query}
@@ -14,11 +13,8 @@ use Rattle.witness_report.specs.declared.witness.PairName.{PairName}
 use Rattle.sec_setup.specs.Pairs.{NamedPair}
 pub use Rattle.obligations.specs.Decided.{NoneIs}
 pub use Rattle.obligations.specs.Verdict.{greatest_size}
-use Rattle.reset_form.specs.Limits.{IsUndecidedAt}
-use Rattle.reset_form.specs.declared.comparison.ResetFindings.{ResetFindings}
+use Rattle.reset_functions.specs.Limits.{IsUndecidedAt}
 use Rattle.outcome.specs.declared.verdict.ResetWitness.{ResetWitness}
-use Rattle.reset_form.specs.declared.shown.ResetVerdict.{ResetVerdict}
-use Rattle.reset_form.specs.declared.shown.ResetVerdict.TheVariants as verdict
 
 -- Two circuits with the numbers of their inputs' and their latches' variables, and the names of the inputs' numbers.
 pub record Numbered : Type 0 where
@@ -89,15 +85,3 @@ pub record IsFirstLimit (results : List PairResult) (name : PairName) : Type 0 w
   pub earlier : (i : ℕ) (r : PairResult) → i < index → slice_get results i ≡ Some r → r.answer ≢ answer.Limit
   pub no_difference : NoneIs answer.Different results
   pub named : name ≡ result.name
-
--- the first of different and limit that some pair has, and equal where every pair is equal
-abbrev pub VerdictFits : Numbered → List (NamedPair ℕ ℕ) → List PairResult → ResetVerdict → Type 0
-VerdictFits n pairs results verdict.Equal = All (λ (r : PairResult). r.answer ≡ answer.Equal) results
-VerdictFits n pairs results (verdict.Different w) = IsFirstDifference n pairs results w
-VerdictFits n pairs results (verdict.Limit name) = IsFirstLimit results name
-
--- What is found of the pairs fits the circuits: one result for each in order, the greatest depth, and the verdict.
-pub record FindingsFit (n : Numbered) (conflicts : ℕ) (pairs : List (NamedPair ℕ ℕ)) (f : ResetFindings) : Type 0 where
-  pub pairs_fit : AllZip (PairFits n conflicts) pairs f.pairs
-  pub through : f.through ≡ greatest_size f.pairs
-  pub verdict_is : VerdictFits n pairs f.pairs f.verdict

@@ -18,8 +18,7 @@ use Rattle.outcome.specs.declared.verdict.LimitAt.TheVariants as limit_at
 use Rattle.sec_setup.specs.Pairs.{NamedPair}
 pub use Rattle.obligations.specs.Decided.{NoneIs}
 pub use Rattle.obligations.specs.Verdict.{greatest_size}
-use Rattle.plain_form.specs.Limits.{IsUndecided}
-use Rattle.plain_form.specs.declared.comparison.Findings.{Findings}
+use Rattle.plain_meaning.specs.Limits.{IsUndecided}
 
 -- both sides of a pair unfold, to functions that some assignment makes differ
 pub record HaveDifferentFunctions {P Q : Type 0} (a : Circuit P) (b : Circuit Q) (left right : List ℕ) (p : P) (q : Q) : Type 0 where
@@ -91,10 +90,3 @@ VerdictFits a b left right columns pairs results (verdict.DifferentFrom w) = ⊥
 VerdictFits a b left right columns pairs results (verdict.Limit at) = IsFirstLimit results at
 VerdictFits a b left right columns pairs results (verdict.NotShown (why.Cut w)) =
     NoneIs answer.Different results × NoneIs answer.Limit results × IsFirstOfAnswer a b left right columns answer.NotShown pairs results w
-
--- What is found of the pairs fits the circuits: one result for each in order, the greatest depth, and the verdict. The circuits are
--- those that are unfolded, `left` and `right` the numbers of their inputs, and `columns` the names of the numbers.
-pub record FindingsFit {P Q : Type 0} (a : Circuit P) (b : Circuit Q) (left right : List ℕ) (columns : List (List ℕ)) (cut : Bool) (conflicts : ℕ) (pairs : List (NamedPair P Q)) (f : Findings) : Type 0 where
-  pub pairs_fit : PairsFit a b left right cut conflicts pairs f.pairs
-  pub through : f.through ≡ greatest_size f.pairs
-  pub verdict_is : VerdictFits a b left right columns pairs f.pairs f.verdict
