@@ -13,10 +13,11 @@ use Rattle.check_meaning.specs.Answer.{AreComparable}
 use Rattle.job_cert.specs.Answer.{AreCertifiable}
 use Rattle.design_rows.specs.Designs as design
 use Rattle.design_rows.specs.Small.{Small, IsSmall, small_and, small_late}
-use Rattle.premise_rows.specs.Texts.{on_and, off_and, late, early}
+use Rattle.design_rows.specs.Texts.{on_and, off_and, late, early}
 use Rattle.premise_rows.specs.Certificates.{CertificatesMeetPremises}
-use Rattle.premise_rows.proofs.Comparing.{Spells, net_is_small}
-use Rattle.premise_rows.proofs.Examples.{on_and_spells, late_spells, ands_are_comparable, retimed_are_comparable}
+use Rattle.design_rows.proofs.Spelling.{Spells, net_is_small}
+use Rattle.design_rows.proofs.SpelledTexts.{on_and_spells, late_spells}
+use Rattle.premise_rows.proofs.Examples.{ands_are_comparable, retimed_are_comparable}
 
 -- a name of the ports is that of an output
 output_named : (s : Small) (net : NetView) (name : List ℕ) → IsSmall s net → Contains s.outputs name → (p : ℕ) × IsOutput (circuit_of net) name p

@@ -29,9 +29,9 @@ use Rattle.check_meaning.specs.Answer.{TextsUndecided}
 use Rattle.design_rows.specs.Designs as design
 use Rattle.design_rows.specs.Small.{small_and, IsSmall}
 use Rattle.premise_rows.specs.RuledOut.{AndsMeetNoLimit}
-use Rattle.premise_rows.specs.Texts.{on_and, off_and}
-use Rattle.premise_rows.proofs.Comparing.{net_is_small, latch_in, ports_are}
-use Rattle.premise_rows.proofs.Examples.{on_and_spells, off_and_spells}
+use Rattle.design_rows.specs.Texts.{on_and, off_and}
+use Rattle.design_rows.proofs.Spelling.{net_is_small, latch_in, ports_are}
+use Rattle.design_rows.proofs.SpelledTexts.{on_and_spells, off_and_spells}
 
 none_in : {X : Type 0} (x : X) → Contains [] x → ⊥
 none_in x h = let l = h.1 in omega (arith, l)

@@ -34,9 +34,10 @@ use Rattle.plain_meaning.proofs.CutPairs.{IsOutputPair, IsNextPair, listed_is}
 use Rattle.sec_files.specs.Loading.{Loads}
 use Rattle.check_meaning.specs.Answer.{AreComparable}
 use Rattle.premise_rows.specs.ResetPremises.{late_from_zero, early_from_zero, ResetsAreComparable}
-use Rattle.premise_rows.specs.Texts.{late, early}
-use Rattle.premise_rows.proofs.Comparing.{Spells, PortsMatch, accepted, net_is_small, match, broken}
-use Rattle.premise_rows.proofs.Examples.{late_spells, early_spells}
+use Rattle.design_rows.specs.Texts.{late, early}
+use Rattle.design_rows.proofs.Spelling.{Spells, PortsMatch, accepted, net_is_small, match}
+use Rattle.premise_rows.proofs.Comparing.{broken}
+use Rattle.design_rows.proofs.SpelledTexts.{late_spells, early_spells}
 use Rattle.premise_rows.proofs.ResetBounds.{times, SeenBelow, cycles_weigh, depth_low}
 
 all_kept : {P : Type 0} (es : List (Equation P)) → filter (is_kept []) es ≡ es
