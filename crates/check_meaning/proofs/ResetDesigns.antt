@@ -1,5 +1,5 @@
 -- What is said of runs of flat nets from their initial values is said of such runs of the circuits that they come from.
-use Rattle.std.proofs.Common.{◌≡◌, ◌∙◌, ℕ, ◌<◌, Bool, List, [], ◌∷◌, map, length, zero, suc, refl, sym, ap, subst, arith, Option, Some, None, slice_get}
+use Rattle.std.proofs.Common.{◌≡◌, ◌∙◌, ℕ, ◌<◌, Bool, List, [], ◌∷◌, map, length, zero, suc, refl, sym, ap, subst, arith, Some, None, slice_get}
 use Rattle.std.specs.List.{Contains, filter_map}
 use Rattle.circuit_theory.specs.Agree.{IsPair}
 use Rattle.circuit_theory.specs.Circuit.{Circuit, Equation, Gate, Latch, Port, Started}

@@ -1,6 +1,6 @@
 -- What an outcome of the comparison of two nets from their initial values says of the texts that load as them.
 use Rattle.std.specs.List.{Contains, filter_map}
-use Rattle.std.proofs.Common.{◌≡◌, ◌≤◌, ℕ, List, [], refl, sym, ◌∙◌, subst, ap, Option, Some, None, slice_get}
+use Rattle.std.proofs.Common.{◌≡◌, ◌≤◌, ℕ, List, [], refl, sym, ◌∙◌, subst, ap, Option, Some, None}
 use Rattle.circuit_theory.proofs.Lists.{of_at}
 use Rattle.sec_base.specs.Outside.{Takes}
 use Rattle.sec_base.specs.declared.basics.PairAnswer.{PairAnswer}
@@ -28,7 +28,8 @@ use Rattle.sec_files.specs.Loading.{Loads, circuit_of_text}
 use Rattle.sec_files.proofs.Texts.{spelled_circuit}
 use Rattle.text_circuits.proofs.Circuits.{text_design}
 use Rattle.check_meaning.specs.Resets.{ResetsAgree, ResetsDiffer, ResetsUndecided}
-use Rattle.plain_meaning.proofs.Fitted.{beside, kept_proof}
+use Rattle.swept_queries.proofs.Listed.{zip_left}
+use Rattle.plain_meaning.proofs.Fitted.{kept_proof}
 use Rattle.check_meaning.proofs.ResetDesigns.{resets_agree_up, resets_differ_up}
 
 -- a pair at the limit has a proof that its query in some cycle was given up
@@ -105,7 +106,7 @@ module _ (before now : Option (List ℕ)) (settings : Settings) (o : Outcome) (t
 
   resets_at : (proofs : List Proof) (name : PairName) → o.verdict ≡ verdict.Limit (limit_at.Pair name) → IsFirstLimit o.pairs name → proofs ≡ filter_map (λ (r : PairResult). r.proof) o.pairs → ResetsUndecided x y settings proofs before now
   resets_at proofs name e first kept =
-      let n = beside (PairFits numbers settings.conflicts) pairs o.pairs compared.fits.pairs first.index first.result first.result_is in
+      let n = zip_left (PairFits numbers settings.conflicts) pairs o.pairs compared.fits.pairs first.index first.result first.result_is in
       let given = limit_answer numbers settings.conflicts n.0.left n.0.right first.result.size first.result.answer first.result.proof n.2.answer_is first.limit in
       record {
         left_net = a;

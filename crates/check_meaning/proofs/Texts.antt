@@ -24,7 +24,8 @@ use Rattle.sec_files.specs.Loading.{Loads, circuit_of_text}
 use Rattle.sec_files.proofs.Texts.{spelled_circuit}
 use Rattle.text_circuits.proofs.Circuits.{texts_agree_by, texts_agree_from, texts_differ_by, texts_minimal, texts_onward, texts_cuts_differ}
 use Rattle.check_meaning.specs.Answer.{TextsAgree, TextsDiffer, TextsNotShown, TextsUndecided}
-use Rattle.plain_meaning.proofs.Fitted.{beside, uncut_answer, cut_answer, limit_answer, no_names, some_names, were_exposed, kept_proof, next_among}
+use Rattle.swept_queries.proofs.Listed.{zip_left}
+use Rattle.plain_meaning.proofs.Fitted.{uncut_answer, cut_answer, limit_answer, no_names, some_names, were_exposed, kept_proof, next_among}
 
 module _ (before now : Option (List ℕ)) (settings : Settings) (o : Outcome) (taken : Takes before now (report_text settings o)) (x y : List ℕ) (a b : NetView) (left : Loads x a) (right : Loads y b)
     (compared : IsCompared a b settings o) where
@@ -65,7 +66,7 @@ module _ (before now : Option (List ℕ)) (settings : Settings) (o : Outcome) (t
 
   -- the pair of a result
   pair_of : (i : ℕ) (r : PairResult) → slice_get o.pairs i ≡ Some r → (n : NamedPair ℕ ℕ) × (slice_get pairs i ≡ Some n) × Fits n r
-  pair_of i r at = beside Fits pairs o.pairs compared.fits.pairs i r at
+  pair_of i r at = zip_left Fits pairs o.pairs compared.fits.pairs i r at
 
   -- no difference is one from initial values
   pub texts_always : (w : ResetWitness) → o.verdict ≡ verdict.DifferentFrom w → ⊥

@@ -1,11 +1,11 @@
 -- The interfaces of a pair match.
-use Rattle.std.proofs.Common.{◌≡◌, ◌<◌, ◌∙◌, ℕ, Bool, true, false, cond, List, [], ◌∷◌, map, length, refl, sym, ap, subst, arith, Option, Some, None, slice_get}
+use Rattle.std.proofs.Common.{◌≡◌, ◌<◌, ◌∙◌, ℕ, Bool, true, cond, List, [], ◌∷◌, map, refl, sym, ap, subst, arith, Option, Some, None}
 use Rattle.std.specs.Prelude.{not, ◌&&◌}
-use Rattle.std.specs.List.{Contains, filter, find}
+use Rattle.std.specs.List.{Contains, filter}
 use Rattle.std.proofs.lemmas.Option.{slice_get_within, same_Some}
 use Rattle.circuit_theory.specs.declared.Side.{Side}
 use Rattle.circuit_theory.specs.declared.Side.TheVariants.{A, B}
-use Rattle.circuit_theory.specs.Interface.{Ports, is_clock, inputs_beside, first_missing, first_mismatch, ◌or_else◌}
+use Rattle.circuit_theory.specs.Interface.{Ports, is_clock, inputs_beside, first_missing, ◌or_else◌}
 use Rattle.circuit_theory.specs.Names.{is_among}
 use Rattle.circuit_theory.proofs.Lists.{Contains-head, Contains-tail, Contains-map, Contains-map_from, at_of, of_at}
 use Rattle.circuit_theory.proofs.Numbers.{is_among-complete}

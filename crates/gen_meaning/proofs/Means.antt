@@ -1,10 +1,10 @@
 -- What a written finding means for the pair of a number.
 use Rattle.std.specs.List.{Contains, filter_map}
-use Rattle.std.proofs.Common.{◌≡◌, ℕ, Bool, true, false, List, [], refl, sym, ◌∙◌, subst, ap, Option, Some, Result, Ok, Err, slice_get}
+use Rattle.std.proofs.Common.{◌≡◌, ℕ, true, false, List, [], refl, sym, ◌∙◌, subst, ap, Option, Some, Result, Ok, Err, slice_get}
 use Rattle.circuit_theory.proofs.Lists.{of_at}
 use Rattle.sec_base.specs.Outside.{Takes}
 use Rattle.witness_report.specs.declared.witness.Witness.{Witness}
-use Rattle.flat_net.specs.View.{NetView, circuit_of}
+use Rattle.flat_net.specs.View.{circuit_of}
 use Rattle.pair_decide.specs.declared.query.Proof.{Proof}
 use Rattle.outcome.specs.declared.verdict.PairResult.{PairResult}
 use Rattle.outcome.specs.declared.verdict.LimitAt.{LimitAt}
@@ -13,7 +13,6 @@ use Rattle.outcome.specs.declared.verdict.Outcome.{Outcome}
 use Rattle.outcome.specs.declared.verdict.ResetWitness.{ResetWitness}
 use Rattle.outcome.specs.declared.verdict.Verdict.{Verdict}
 use Rattle.outcome.specs.declared.verdict.Verdict.TheVariants as verdict
-use Rattle.outcome.specs.declared.verdict.Why.{Why}
 use Rattle.outcome.specs.declared.verdict.Why.TheVariants as why
 use Rattle.sec_setup.specs.Pairs.{NamedPair, named_pairs}
 use Rattle.sec_setup.specs.Cuts.{columns_of, is_cut}
@@ -30,7 +29,8 @@ use Rattle.gen_meaning.specs.declared.generation.Generation.{Generation}
 use Rattle.gen_meaning.specs.Found.{IsOutcomeOf, IsGenFound, GenFound}
 use Rattle.gen_meaning.specs.Answer.{TakesReport, TwinsAgree, TwinsDiffer, TwinsUndecided, GenMeans, IsGenAnswer}
 use Rattle.gen_meaning.specs.Report.{gen_text}
-use Rattle.plain_meaning.proofs.Fitted.{beside, cut_answer, limit_answer, kept_proof}
+use Rattle.swept_queries.proofs.Listed.{zip_left}
+use Rattle.plain_meaning.proofs.Fitted.{cut_answer, limit_answer, kept_proof}
 
 equal_verdict : (v : Verdict) → generated_status v ≡ status.Done → v ≡ verdict.Equal
 equal_verdict verdict.Equal e = refl
@@ -105,7 +105,7 @@ module _ (g : Generation) (o : Outcome) (report : List ℕ) (is : IsOutcomeOf g 
   IsVerdict v = VerdictFits (circuit_of is.compared.fits.left_cut) (circuit_of is.compared.fits.right_cut) is.compared.fits.left is.compared.fits.right (columns_of is.left is.right o.exposed) pairs o.pairs v
 
   pair_of : (i : ℕ) (r : PairResult) → slice_get o.pairs i ≡ Some r → (n : NamedPair ℕ ℕ) × (slice_get pairs i ≡ Some n) × Fits n r
-  pair_of i r at = beside Fits pairs o.pairs is.compared.fits.pairs i r at
+  pair_of i r at = zip_left Fits pairs o.pairs is.compared.fits.pairs i r at
 
   takes : (before now : Option (List ℕ)) (v : Verdict) → Takes before now report → o.verdict ≡ v → TakesReport g before now v is.left is.right
   takes before now v taken e = record {

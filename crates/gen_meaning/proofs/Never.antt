@@ -1,6 +1,6 @@
 -- A pair is never refused.
 use Rattle.std.specs.Prelude.{false, true}
-use Rattle.std.proofs.Common.{◌≡◌, ◌≢◌, ℕ, Bool, List, [], refl, sym, ◌∙◌, subst, ap, Err, None, Some}
+use Rattle.std.proofs.Common.{◌≡◌, ℕ, List, refl, sym, ◌∙◌, subst, Err}
 use Rattle.std.proofs.lemmas.Option.{none-some}
 use Rattle.circuit_theory.specs.declared.Side.{Side}
 use Rattle.circuit_theory.specs.declared.Side.TheVariants.{A, B}

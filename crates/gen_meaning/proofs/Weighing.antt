@@ -1,15 +1,15 @@
 -- The unfoldings of a pair are light: at most four shifts of each signal are visited, and each weighs at most 7.
-use Rattle.std.proofs.Common.{◌≡◌, ◌≢◌, ◌+◌, ◌*◌, ◌/◌, ◌%◌, ◌<◌, ◌≤◌, ◌∙◌, max, ℕ, zero, suc, Bool, true, false, List, [], ◌∷◌, ◌++◌, length, map, get_or, refl, sym, ap, ap₂, subst, arith, inl, inr, Option, Some, None, slice_get}
+use Rattle.std.proofs.Common.{◌≡◌, ◌≢◌, ◌+◌, ◌*◌, ◌/◌, ◌%◌, ◌<◌, ◌≤◌, ◌∙◌, max, ℕ, Bool, true, false, List, [], ◌∷◌, length, map, get_or, sym, ap, subst, arith, inl, inr, Option, Some, slice_get}
 use Rattle.std.specs.Prelude.{◌⊎◌, unwrap_or}
-use Rattle.std.specs.List.{Contains, All, AllPairs, sum_by, filter, filter_map}
+use Rattle.std.specs.List.{Contains, All, AllPairs, sum_by}
 use Rattle.std.proofs.lemmas.List.{length-map, append-nil}
 use Rattle.std.proofs.lemmas.List.Elements.{All-contains}
 use Rattle.std.proofs.lemmas.List.Sums.{sum_by-cons}
 use Rattle.std.proofs.lemmas.Option.{slice_get_within, slice_get-get_or, same_Some}
 use Rattle.circuit_theory.specs.Cover.{Cover}
 use Rattle.circuit_theory.specs.Agree.{cut, is_kept}
-use Rattle.circuit_theory.specs.Circuit.{Circuit, Equation, Gate as gate_equation, Latch as latch_equation, Port as port_equation, Named, IsLatch, Reads}
-use Rattle.circuit_theory.specs.Sizes.{Visits, WeighsAt, Weighed, IsOver}
+use Rattle.circuit_theory.specs.Circuit.{Circuit, Equation, Gate as gate_equation, Latch as latch_equation, Port as port_equation, Named, Reads}
+use Rattle.circuit_theory.specs.Sizes.{Visits, WeighsAt, Weighed}
 use Rattle.circuit_theory.specs.declared.Side.{Side}
 use Rattle.circuit_theory.specs.declared.Side.TheVariants.{A, B}
 use Rattle.circuit_theory.proofs.Lists.{Contains-head, Contains-tail, Contains-filter, Contains-map_from, at_of, of_at}

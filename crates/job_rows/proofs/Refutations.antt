@@ -1,7 +1,7 @@
 -- Two texts of clauses, and texts that refute them.
 use Rattle.std.specs.Prelude.{codes}
 use Rattle.std.specs.List.{Contains}
-use Rattle.std.proofs.Common.{◌≡◌, ◌++◌, ℕ, List, [], ◌∷◌, true, false, refl, sym, subst, ap, inl, inr, ◌⊎◌, arith, None}
+use Rattle.std.proofs.Common.{◌≡◌, ℕ, List, [], ◌∷◌, true, false, refl, sym, subst, ap, inl, inr, arith}
 use Rattle.circuit_theory.proofs.Lists.{Contains-head, Contains-tail, Contains-cases}
 use Rattle.proof_check.specs.Literals.{Literal}
 use Rattle.lrat_core.specs.Hints.{IsUnit, HintsGive}

@@ -1,5 +1,5 @@
 -- What is said of one net that a text loads as is said of all of them.
-use Rattle.std.proofs.Common.{◌≡◌, ◌∙◌, ℕ, ◌<◌, zero, suc, Bool, true, false, List, [], ◌∷◌, map, length, filter, get_or, slice_get, Some, refl, sym, ap, ap₂, subst, arith, inl, inr}
+use Rattle.std.proofs.Common.{◌≡◌, ◌∙◌, ℕ, ◌<◌, zero, suc, Bool, true, false, List, [], ◌∷◌, map, length, filter, get_or, slice_get, Some, refl, sym, ap, ap₂, subst}
 use Rattle.std.specs.Prelude.{◌≢◌, All}
 use Rattle.std.specs.List.{AllZip, Contains}
 use Rattle.std.proofs.lemmas.List.{length-map}
@@ -16,13 +16,14 @@ use Rattle.circuit_theory.specs.Places.{IsPlace}
 use Rattle.circuit_theory.specs.declared.Mode.TheVariants.{Plain}
 use Rattle.circuit_theory.specs.Run.{NoneEnabled}
 use Rattle.circuit_theory.specs.Sizes.{IsWeight, IsOver}
-use Rattle.circuit_theory.proofs.Lists.{Contains-cases, Contains-map_from, map-map, of_at}
+use Rattle.circuit_theory.proofs.Lists.{Contains-map_from, map-map, at_of, of_at}
 use Rattle.flat_net.specs.declared.parts.LatchAt.{LatchAt}
 use Rattle.flat_net.specs.Cut.{no_latch, exposed_names}
 use Rattle.flat_net.specs.View.{NetView, circuit_of}
 use Rattle.net_alike.specs.Renumbered.{latch_rows, AreRenumbered}
 use Rattle.net_alike.proofs.Carrying.{pairs_map, edge, forth, turned, cycle_carried, over_carried, weight_carried}
 use Rattle.net_alike.proofs.Cutting.{cut_carried, minimal_cuts_are_carried}
+use Rattle.swept_queries.proofs.Listed.{zip_left}
 use Rattle.cut_points.specs.Common.{common_names}
 use Rattle.cut_points.specs.Exposed.{IsToldCycle}
 use Rattle.design_laws.proofs.KeptNames.{latch_names_are}
@@ -65,20 +66,14 @@ zip_there f R S step [] (y ∷ ys) h = absurd h
 zip_there f R S step (x ∷ xs) [] h = absurd h
 zip_there f R S step (x ∷ xs) (y ∷ ys) h = (step x y h.0, zip_there f R S step xs ys h.1)
 
--- each entry of the second list stands beside one of the first
-beside : {X Y : Type 0} (R : X → Y → Type 0) (xs : List X) (ys : List Y) → AllZip R xs ys → (y : Y) → Contains ys y → (x : X) × R x y
-beside R [] [] h y k = absurd (let l = k.1 in omega (arith, l))
-beside R [] (z ∷ ys) h y k = absurd h
-beside R (x ∷ xs) [] h y k = absurd h
-beside R (x ∷ xs) (z ∷ ys) h y k = elim (Contains-cases z y ys k) [ inl same ↦ (x, subst (R x) same h.0) | inr rest ↦ beside R xs ys h.1 y rest ]
-
 module _ (a m : NetView) (to back : ℕ → ℕ) (r : AreRenumbered (circuit_of a) (circuit_of m) to back) where
   -- a cycle that is told
   module _ (without names : List (List ℕ)) (t : IsToldCycle Plain a without names) where
     latch_at : (u : ℕ) → Contains t.latches u → back (to u) ≡ u
     latch_at u h =
-        let x = beside (λ name u. (next : ℕ) × IsLatch (circuit_of a) name u next) names t.latches t.named u h in
-        r.there_and_back u (IsPlace.driven {e = Latch x.0 u x.1.0} x.1.1 refl)
+        let at = at_of t.latches u h in
+        let x = zip_left (λ name u. (next : ℕ) × IsLatch (circuit_of a) name u next) names t.latches t.named at.0 u at.1 in
+        r.there_and_back u (IsPlace.driven {e = Latch x.0 u x.2.0} x.2.1 refl)
 
     latch_here : (name : List ℕ) (u v next : ℕ) → Contains t.latches u → to u ≡ v → IsLatch (circuit_of m) name v next → IsLatch (circuit_of a) name u (back next)
     latch_here name u v next h same l =

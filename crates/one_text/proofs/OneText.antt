@@ -1,7 +1,7 @@
 -- A text that is compared with itself is equal: both nets are one, so that each pair has one tree.
 use Rattle.std.proofs.Common.{◌≡◌, ◌∙◌, ℕ, ◌<◌, Bool, true, false, true≢false, not, cond, List, [], ◌∷◌, map, length, filter, get_or, slice_get, Option, Some, None, refl, sym, ap, ap₂, subst, arith, inl, inr}
 use Rattle.std.specs.Prelude.{◌⊎◌, ◌&&◌, bytes_eq}
-use Rattle.std.specs.List.{AllZip, Contains}
+use Rattle.std.specs.List.{Contains}
 use Rattle.std.proofs.lemmas.List.{same_lists}
 use Rattle.std.proofs.lemmas.List.Elements.{Contains-append_left, Contains-append_right}
 use Rattle.std.proofs.lemmas.Option.{get_or_from_slice_get}
@@ -16,7 +16,7 @@ use Rattle.circuit_theory.specs.Interface.{Ports, AreNumbersOf, is_clock, inputs
 use Rattle.circuit_theory.specs.Net.{IsNet}
 use Rattle.circuit_theory.specs.Run.{NoneEnabled}
 use Rattle.circuit_theory.specs.Tree.{Tree, Unfolds, IsInputNumber, tree_value}
-use Rattle.circuit_theory.proofs.Lists.{Contains-head, Contains-tail, Contains-cases, Contains-map, Contains-map_from, map-map, at_of, of_at, filter_test}
+use Rattle.circuit_theory.proofs.Lists.{Contains-head, Contains-tail, Contains-map, Contains-map_from, map-map, at_of, of_at, filter_test}
 use Rattle.circuit_theory.proofs.Inputs.{same_name-sound}
 use Rattle.circuit_theory.proofs.Numbers.{distinct_at, slice_get-map, is_among-complete, beside_at}
 use Rattle.circuit_laws.proofs.CutLaws.{cut_single}
@@ -38,6 +38,7 @@ use Rattle.design_laws.proofs.KeptNames.{names_are_kept}
 use Rattle.sec_base.specs.declared.basics.PairAnswer.{PairAnswer}
 use Rattle.sec_base.specs.declared.basics.PairAnswer.TheVariants as answer
 use Rattle.expose_pick.proofs.Removed.{cycle_fewer}
+use Rattle.swept_queries.proofs.Listed.{zip_left}
 use Rattle.cut_points.specs.Common.{common_names}
 use Rattle.pair_decide.specs.declared.query.Proof.{Proof}
 use Rattle.outcome.specs.declared.verdict.PairResult.{PairResult}
@@ -245,17 +246,6 @@ only_equal a b left right cut conflicts p q one answer.Limit None fits = absurd 
 only_equal a b left right cut conflicts p q one answer.Limit (Some proof) fits =
     absurd (fits.two_trees (one fits.left_depth fits.right_depth fits.left_tree fits.right_tree fits.left_unfolds fits.right_unfolds))
 
--- each result stands beside a pair
-beside : {X Y : Type 0} (R : X → Y → Type 0) (xs : List X) (ys : List Y) → AllZip R xs ys → (y : Y) → Contains ys y → (x : X) × Contains xs x × R x y
-beside R [] [] h y k = absurd (let l = k.1 in omega (arith, l))
-beside R [] (z ∷ ys) h y k = absurd h
-beside R (x ∷ xs) [] h y k = absurd h
-beside {X} {Y} R (x ∷ xs) (z ∷ ys) h y k = by (beside R xs ys h.1 y) (Contains-cases z y ys k)
-  where
-    by : (Contains ys y → (w : X) × Contains xs w × R w y) → (z ≡ y) ⊎ Contains ys y → (w : X) × Contains (x ∷ xs) w × R w y
-    by later (inl same) = (x, Contains-head x xs, subst (R x) same h.0)
-    by later (inr rest) = let r = later rest in (r.0, Contains-tail x r.0 xs r.1, r.2)
-
 module _ (text : List ℕ) (a b : NetView) (la : Loads text a) (lb : Loads text b) (settings : Settings) (o : Outcome) (compared : IsCompared a b settings o) where
   abbrev fits : OutcomeFits a b settings.expose settings.conflicts o
   fits = compared.fits
@@ -266,9 +256,10 @@ module _ (text : List ℕ) (a b : NetView) (la : Loads text a) (lb : Loads text 
   -- each result is equal
   each_equal : (r : PairResult) → Contains o.pairs r → r.answer ≡ answer.Equal
   each_equal r h =
-      let x = beside (PairFits (circuit_of fits.left_cut) (circuit_of fits.right_cut) fits.left fits.right (is_cut o.exposed) settings.conflicts) pairs o.pairs fits.pairs r h in
+      let at = at_of o.pairs r h in
+      let x = zip_left (PairFits (circuit_of fits.left_cut) (circuit_of fits.right_cut) fits.left fits.right (is_cut o.exposed) settings.conflicts) pairs o.pairs fits.pairs at.0 r at.1 in
       only_equal (circuit_of fits.left_cut) (circuit_of fits.right_cut) fits.left fits.right (is_cut o.exposed) settings.conflicts x.0.left x.0.right
-      (one_tree_each text a b la lb (one_text_net text a b la lb) settings.expose settings.conflicts o fits x.0 x.1)
+      (one_tree_each text a b la lb (one_text_net text a b la lb) settings.expose settings.conflicts o fits x.0 (of_at pairs at.0 x.0 x.1))
       r.answer r.proof x.2.answer_is
 
   -- so a result with another answer isn't there

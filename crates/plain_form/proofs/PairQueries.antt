@@ -7,7 +7,7 @@ use Rattle.std.proofs.lemmas.List.Kept.{AllPairs-cons}
 use Rattle.std.proofs.lemmas.Option.{slice_get_within, get_or_from_slice_get}
 use Rattle.circuit_theory.specs.Tree.{Tree, tree_value}
 use Rattle.circuit_theory.specs.Query as query
-use Rattle.circuit_theory.specs.Query.{Variable, AreVariables, ShiftBefore, HasLeaf, assigned, same_shift, pair_query, bits_of}
+use Rattle.circuit_theory.specs.Query.{Variable, AreVariables, ShiftBefore, HasLeaf, same_shift, pair_query, bits_of}
 use Rattle.circuit_theory.proofs.Lists.{Contains-head, Contains-tail, Contains-cases, Contains-map, Contains-map_from, All-from_each, length-map}
 use Rattle.circuit_theory.proofs.Sums.{AllPairs-head, AllPairs-tail}
 use Rattle.sec_base.specs.Table.{AreDistinct}

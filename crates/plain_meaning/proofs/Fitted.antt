@@ -1,6 +1,6 @@
 -- What stands behind the results of an outcome that fits.
-use Rattle.std.specs.List.{AllZip, Contains, filter_map}
-use Rattle.std.proofs.Common.{◌≡◌, ◌≢◌, ℕ, zero, suc, Bool, true, false, List, [], ◌∷◌, refl, sym, ◌∙◌, subst, ap, arith, inl, inr, ◌⊎◌, Option, Some, None, slice_get}
+use Rattle.std.specs.List.{Contains, filter_map}
+use Rattle.std.proofs.Common.{◌≡◌, ◌≢◌, ℕ, Bool, true, false, List, [], ◌∷◌, refl, sym, ◌∙◌, subst, ap, arith, inl, inr, ◌⊎◌, Option, Some, None}
 use Rattle.std.proofs.lemmas.List.Elements.{Contains-append_cases}
 use Rattle.std.proofs.lemmas.Option.{none-some}
 use Rattle.circuit_theory.specs.Agree.{place_named, latch_named, second_of_pair}
@@ -18,14 +18,6 @@ use Rattle.plain_meaning.specs.Outcome.{AnswerFits}
 
 some_is : {X : Type 0} {x y : X} → Some x ≡ Some y → x ≡ y
 some_is q = cc
-
--- what stands beside an element of the second of two lists that fit place by place
-pub beside : {X Y : Type 0} (R : X → Y → Type 0) (xs : List X) (ys : List Y) → AllZip R xs ys → (i : ℕ) (y : Y) → slice_get ys i ≡ Some y → (x : X) × (slice_get xs i ≡ Some x) × R x y
-beside R [] [] fits i y at = absurd (none-some y at)
-beside R [] (z ∷ ys) fits i y at = absurd fits
-beside R (x ∷ xs) [] fits i y at = absurd fits
-beside R (x ∷ xs) (z ∷ ys) fits zero y at = (x, refl, subst (R x) (some_is at) fits.0)
-beside R (x ∷ xs) (z ∷ ys) fits (suc i) y at = beside R xs ys fits.1 i y at
 
 module _ {P Q : Type 0} (a : Circuit P) (b : Circuit Q) (left right : List ℕ) (cut : Bool) (conflicts : ℕ) (p : P) (q : Q) where
   abbrev Fits : PairAnswer → Option Proof → Type 0

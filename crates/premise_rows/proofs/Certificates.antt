@@ -1,13 +1,11 @@
 -- Circuits that can be compared have certificates of their outputs.
 use Rattle.std.specs.Prelude.{codes}
 use Rattle.std.specs.List.{Contains}
-use Rattle.std.proofs.Common.{◌≡◌, ℕ, false, List, [], ◌∷◌, map, sym, ap, subst}
-use Rattle.circuit_theory.specs.Circuit.{Named}
+use Rattle.std.proofs.Common.{ℕ, false, List, [], sym, subst}
 use Rattle.circuit_theory.proofs.Lists.{Contains-head, Contains-map, Contains-map_from}
 use Rattle.blif_read.specs.declared.design.BlifModel.{BlifModel}
 use Rattle.flat_net.specs.declared.parts.Port.{Port}
 use Rattle.flat_net.specs.View.{NetView, named, circuit_of}
-use Rattle.sec_files.specs.Loading.{Loads}
 use Rattle.pair_clauses.specs.Clauses.{IsOutput}
 use Rattle.check_meaning.specs.Answer.{AreComparable}
 use Rattle.job_cert.specs.Answer.{AreCertifiable}

@@ -22,7 +22,7 @@ use Rattle.design_laws.specs.NoFault.{has_no_fault}
 use Rattle.design_laws.proofs.NoFaults.{tested_is_sound}
 use Rattle.design_rows.specs.Designs.{one_model, and_cover}
 use Rattle.design_rows.specs.Designs as design
-use Rattle.design_rows.specs.Small.{Small, IsSmall, AreSmall, small_late, small_early}
+use Rattle.design_rows.specs.Small.{Small, IsSmall, small_late, small_early}
 use Rattle.design_rows.proofs.Examples.{at_top, rank_of}
 use Rattle.design_rows.proofs.Tested.{PassesTests, tested_is_small}
 use Rattle.flat_net.specs.View.{NetView, circuit_of}
@@ -31,7 +31,6 @@ use Rattle.reset_unfold.specs.Places.{in_cycle, starts_of}
 use Rattle.sec_setup.specs.Pairs.{NamedPair, named_pairs}
 use Rattle.compare_base.specs.FromReset.{IsLeftStart, IsRightStart, AreTooLargeFromReset}
 use Rattle.plain_meaning.proofs.CutPairs.{IsOutputPair, IsNextPair, listed_is}
-use Rattle.sec_files.specs.Loading.{Loads}
 use Rattle.check_meaning.specs.Answer.{AreComparable}
 use Rattle.premise_rows.specs.ResetPremises.{late_from_zero, early_from_zero, ResetsAreComparable}
 use Rattle.design_rows.specs.Texts.{late, early}

@@ -6,7 +6,7 @@ use Rattle.std.proofs.lemmas.List.Elements.{All-nil, All-cons, All-map}
 use Rattle.std.proofs.lemmas.Option.{same_Some}
 use Rattle.circuit_theory.specs.Query.{Variable, bits_of, pair_query, same_shift}
 use Rattle.circuit_theory.specs.Query as query
-use Rattle.circuit_theory.proofs.Lists.{All-from_each, Contains-map, of_at, zip_right}
+use Rattle.circuit_theory.proofs.Lists.{All-from_each, of_at, zip_right}
 use Rattle.circuit_theory.proofs.Numbers.{slice_get-map}
 use Rattle.sec_base.specs.declared.basics.PairAnswer.{PairAnswer}
 use Rattle.sec_base.specs.declared.basics.PairAnswer.TheVariants as answer

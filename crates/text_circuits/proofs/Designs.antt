@@ -1,11 +1,11 @@
 -- What is said of flat nets is said of the circuits that they come from.
-use Rattle.std.proofs.Common.{◌≡◌, ◌∙◌, ℕ, ◌<◌, ◌≤◌, Bool, List, [], sym, ap, subst, arith}
+use Rattle.std.proofs.Common.{◌≡◌, ◌∙◌, ℕ, ◌<◌, ◌≤◌, Bool, List, [], sym, ap, arith}
 use Rattle.std.specs.List.{Contains}
 use Rattle.circuit_theory.specs.declared.Mode.TheVariants.{Plain}
 use Rattle.circuit_theory.specs.Agree.{Agree, AreAlike, IsPair, LatchesEqual}
 use Rattle.circuit_theory.specs.Circuit.{Circuit}
 use Rattle.circuit_theory.specs.Flattened.{Follows}
-use Rattle.circuit_theory.specs.Run.{IsRun, NoneEnabled}
+use Rattle.circuit_theory.specs.Run.{IsRun}
 use Rattle.design_laws.proofs.FlatMarks.{mark_down}
 use Rattle.design_laws.proofs.FlatParts.{FlatDesign, along, latch_down, latch_up, latch_stays, input_up, output_down, output_up, run_down}
 use Rattle.witness_report.specs.declared.stimulus.Stimulus.{Stimulus}

@@ -1,4 +1,4 @@
-use Rattle.std.proofs.Common.{◌≡◌, false, refl, subst, Result}
+use Rattle.std.proofs.Common.{false, refl, subst, Result}
 use Rattle.circuit_theory.specs.declared.Side.TheVariants.{A, B}
 use Rattle.pair_gen.specs.Words.{words_of}
 use Rattle.pair_gen.proofs.Whole.{twin_comparable}
