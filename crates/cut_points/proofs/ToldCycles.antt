@@ -21,7 +21,7 @@ use Rattle.cut_points.specs.declared.exposed.ExposeError.{ExposeError}
 use Rattle.cut_points.specs.declared.exposed.ExposeError.TheVariants as refused
 
 -- the names of latches beside their signals
-pub names_beside : (n : NetView) (positions : List ℕ) → All (λ j. j < length n.latches) positions →
+names_beside : (n : NetView) (positions : List ℕ) → All (λ j. j < length n.latches) positions →
     AllZip (λ name u. (next : ℕ) × IsLatch (circuit_of n) name u next) (exposed_names n positions) (signals_at n.latches positions)
 names_beside n [] within = tt
 names_beside n (j ∷ js) within = (

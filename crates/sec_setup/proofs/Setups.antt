@@ -1,14 +1,16 @@
 -- The parts of a setup fit together.
-use Rattle.std.proofs.Common.{◌≡◌, ℕ, ◌+◌, ◌<◌, ◌^◌, List, ◌++◌, length, sym, ◌∙◌, ap, subst, arith, length-append}
+use Rattle.std.proofs.Common.{◌≡◌, ℕ, ◌+◌, ◌<◌, ◌≤◌, ◌^◌, List, ◌++◌, map, length, sym, ◌∙◌, ap, subst, arith, length-append}
 use Rattle.std.specs.List.{Contains}
 use Rattle.circuit_theory.specs.Interface.{shared_inputs}
+use Rattle.sec_base.specs.Table.{AreDistinct}
 use Rattle.sec_base.specs.declared.basics.Orders.{Orders}
 use Rattle.flat_net.specs.Comparable.{IsComparable}
 use Rattle.flat_net.specs.Sound.{IsSound}
-use Rattle.flat_net.specs.View.{NetView, ports_of}
+use Rattle.flat_net.specs.View.{NetView, circuit_of, ports_of}
 use Rattle.cut_points.specs.declared.exposed.Exposure.{Exposure}
+use Rattle.interface.specs.declared.pairs.SignalPair.{SignalPair}
 use Rattle.interface.specs.Numbered.{AreNumbered}
-use Rattle.sec_setup.specs.Cuts.{AreCutOpen, AreCutBy, AreCutAt, columns_of}
+use Rattle.sec_setup.specs.Cuts.{AreCutOpen, AreCutBy, AreCutAt, columns_of, is_cut}
 use Rattle.sec_setup.specs.Matching.{InterfacesMatch}
 use Rattle.sec_setup.specs.Setup.{AreColumns}
 use Rattle.interface.proofs.Columns.{cut_few, left_read, names_few, right_read}

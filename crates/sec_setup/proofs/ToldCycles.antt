@@ -1,18 +1,23 @@
 -- The cycle that is told, by the names of its latches.
-use Rattle.std.proofs.Common.{◌≡◌, ℕ, ◌-◌, ◌<◌, Bool, true, false, List, [], ◌∷◌, length, refl, sym, subst}
-use Rattle.std.specs.List.{All}
+use Rattle.std.proofs.Common.{◌≡◌, ℕ, zero, suc, ◌+◌, ◌-◌, ◌<◌, Bool, true, false, List, [], ◌∷◌, map, length, refl, sym, ◌∙◌, ap, subst, arith, add-one, Some, slice_get}
+use Rattle.std.specs.Prelude.{slice_index_or}
+use Rattle.std.specs.List.{All, AllZip, Contains}
 use Rattle.std.proofs.lemmas.List.Elements.{All-head, All-tail}
+use Rattle.std.proofs.lemmas.Bool.Decides.{nat_tests}
+use Rattle.std.proofs.lemmas.Option.{slice_get-get_or, slice_get_within}
 use Rattle.circuit_theory.specs.declared.Mode.TheVariants.{Plain}
-use Rattle.circuit_theory.specs.Depth.{IsCycle, BeginsWithLeast, HasCycle}
+use Rattle.circuit_theory.specs.Circuit.{Circuit, IsLatch}
+use Rattle.circuit_theory.specs.Depth.{LatchReads, LatchPath, IsCycle, BeginsWithLeast, HasCycle, after_in_round}
 use Rattle.circuit_theory.specs.Run.{NoneEnabled}
 use Rattle.flat_net.specs.declared.parts.LatchAt.{LatchAt}
 use Rattle.flat_net.specs.View.{NetView, circuit_of}
-use Rattle.flat_net.specs.Cut.{exposed_names}
+use Rattle.flat_net.specs.Cut.{no_latch, latch_at, exposed_names}
+use Rattle.flat_net.proofs.Nets.{latch_stands, some_at}
 use Rattle.latch_graph.specs.Graph.{GraphView, IsGraphIn, SkippedBy, marked_names, signals_at}
 use Rattle.latch_graph.proofs.Skipping.{mode_cycle, cycle_in_graph}
 use Rattle.sec_setup.specs.Cycles.{IsAcyclic}
 use Rattle.cut_points.specs.Exposed.{IsToldCycle}
-use Rattle.cut_points.proofs.ToldCycles.{names_beside}
+use Rattle.interface.proofs.Shared.{some_is}
 
 no_true : true ≡ false → ⊥
 no_true e = cc
@@ -23,6 +28,15 @@ marked_names-none [] bits none = refl
 marked_names-none (l ∷ ls) [] none = refl
 marked_names-none (l ∷ ls) (true ∷ bits) none = absurd (no_true (All-head (λ bit. bit ≡ false) true bits none))
 marked_names-none (l ∷ ls) (false ∷ bits) none = marked_names-none ls bits (All-tail (λ bit. bit ≡ false) false bits none)
+
+-- the names of latches beside their signals
+names_beside : (n : NetView) (positions : List ℕ) → All (λ j. j < length n.latches) positions →
+    AllZip (λ name u. (next : ℕ) × IsLatch (circuit_of n) name u next) (exposed_names n positions) (signals_at n.latches positions)
+names_beside n [] within = tt
+names_beside n (j ∷ js) within = (
+  ((latch_at n j).next.0, latch_stands n j (latch_at n j) (slice_get-get_or n.latches j no_latch (All-head (λ i. i < length n.latches) j js within))),
+  names_beside n js (All-tail (λ i. i < length n.latches) j js within),
+)
 
 -- no cycle is left where none is left without any latch
 pub acyclic_graph : (n : NetView) (g : GraphView) (bits : List Bool) → IsGraphIn Plain n g → All (λ bit. bit ≡ false) bits → (HasCycle (circuit_of n) (SkippedBy g) (marked_names g.latches bits) → ⊥) → IsAcyclic n
@@ -40,3 +54,45 @@ told_cycle n g bits positions is none within cycle least = record {
   least = subst (λ (ls : List LatchAt). BeginsWithLeast (circuit_of n) (signals_at ls positions)) is.graph.latches least;
   named = names_beside n positions (subst (λ (ls : List LatchAt). All (λ j. j < length ls) positions) is.graph.latches within);
 }
+
+-- a cycle as a list is a way from a latch back to itself
+module _ {P : Type 0} (c : Circuit P) (enabled : P → Type 0) (removed : List (List ℕ)) (latches : List P) (cycle : IsCycle c enabled removed latches) (first : P) (here : slice_get latches 0 ≡ Some first) where
+  next_place : (n i : ℕ) → i + 1 < n → after_in_round n i ≡ i + 1
+  next_place n i h = grind (arith, nat_tests)
+
+  last_place : (n i : ℕ) → i + 1 ≡ n → after_in_round n i ≡ 0
+  last_place n i h = grind (arith, nat_tests)
+
+  -- from a later latch back to the first
+  back : (i : ℕ) (u : P) → slice_get latches (suc i) ≡ Some u → LatchPath c enabled removed u first
+  back i u at = go i (slice_get_within latches (suc i) u at) u at
+    where
+      reads : (i : ℕ) (u v : P) → i + 1 < length latches → slice_get latches i ≡ Some u → slice_get latches (suc i) ≡ Some v → LatchReads c enabled removed v u
+      reads i u v within hu hv =
+          cycle.edges i u v hu (ap (slice_get latches) (next_place (length latches) i within ∙ add-one i) ∙ hv)
+
+      go : (i : ℕ) → suc i < length latches → (u : P) → slice_get latches (suc i) ≡ Some u → LatchPath c enabled removed u first
+      go zero within u at = LatchPath.edge (reads 0 first u (omega arith) here at)
+      go (suc i) within u at =
+          let before = some_at latches (suc i) (omega arith) in
+          LatchPath.step (reads (suc i) before.0 u (omega arith) before.1 at) (go i (omega arith) before.0 before.1)
+
+  round : HasCycle c enabled removed
+  round =
+      let last = some_at latches (length latches - 1) (omega (arith, cycle.some)) in
+      let closes : LatchReads c enabled removed first last.0 =
+      cycle.edges (length latches - 1) last.0 first last.1 (ap (slice_get latches) (last_place (length latches) (length latches - 1) (omega (arith, cycle.some))) ∙ here) in
+      (first, go (length latches - 1) refl last.0 last.1 closes)
+    where
+      go : (i : ℕ) → length latches - 1 ≡ i → (last : P) → slice_get latches (length latches - 1) ≡ Some last → LatchReads c enabled removed first last → LatchPath c enabled removed first first
+      go zero e last at closes = LatchPath.edge (subst (λ (u : P). LatchReads c enabled removed first u) (one last (ap (slice_get latches) (sym e) ∙ at)) closes)
+        where
+          one : (last : P) → slice_get latches 0 ≡ Some last → last ≡ first
+          one last at = some_is (sym at ∙ here)
+      go (suc i) e last at closes = LatchPath.step closes (back i last (ap (slice_get latches) (sym e) ∙ at))
+
+-- a cycle that is told is one
+pub told_is_cyclic : (n : NetView) (names : List (List ℕ)) → IsToldCycle Plain n [] names → IsAcyclic n → ⊥
+told_is_cyclic n names told free =
+    let first = some_at told.latches 0 told.cycle.some in
+    free (round (circuit_of n) NoneEnabled [] told.latches told.cycle first.0 first.1)

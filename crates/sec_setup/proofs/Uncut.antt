@@ -1,12 +1,14 @@
 -- No latch is cut open: the choice of none, and nets as they are.
-use Rattle.std.proofs.Common.{◌≡◌, ℕ, ◌<◌, false, List, [], ◌∷◌, map, length, refl, sym, ◌∙◌, ap, subst, arith}
-use Rattle.std.specs.List.{filter}
+use Rattle.std.proofs.Common.{◌≡◌, ℕ, ◌<◌, Bool, false, List, [], ◌∷◌, map, length, refl, sym, ◌∙◌, ap, subst, arith}
+use Rattle.std.specs.List.{filter, Contains, AllPairs}
 use Rattle.std.proofs.lemmas.List.{append-nil}
 use Rattle.std.proofs.lemmas.List.Elements.{All-nil}
-use Rattle.circuit_theory.specs.Agree.{cut, is_kept}
+use Rattle.circuit_theory.specs.declared.Mode.TheVariants.{Plain}
+use Rattle.circuit_theory.specs.Agree.{cut, is_kept, IsMinimalCut}
 use Rattle.circuit_theory.specs.Circuit.{Circuit, Equation, Gate, Latch, Port as port_equation}
+use Rattle.sec_base.specs.Table.{AreDistinct}
 use Rattle.flat_net.specs.declared.parts.LatchAt.{LatchAt}
-use Rattle.flat_net.specs.Cut.{latch_at, stays, IsCut, IsCutCircuit}
+use Rattle.flat_net.specs.Cut.{latch_at, exposed_names, stays, IsCut, IsCutCircuit}
 use Rattle.flat_net.specs.View.{NetView, circuit_of}
 use Rattle.cut_points.specs.declared.exposed.Exposure.{Exposure}
 use Rattle.sec_setup.specs.Cycles.{IsAcyclic}

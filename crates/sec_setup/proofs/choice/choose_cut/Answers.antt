@@ -1,5 +1,5 @@
 -- The minimal cut that is chosen, or the cycle that is told, in the plain mode.
-use Rattle.std.proofs.Common.{◌≡◌, true, false, List, ℕ, Err, subst}
+use Rattle.std.proofs.Common.{◌≡◌, Bool, true, false, List, ℕ, Err, sym, subst}
 use Rattle.circuit_theory.specs.declared.Mode.TheVariants.{Plain}
 use Rattle.circuit_theory.specs.declared.Side.{Side}
 use Rattle.circuit_theory.specs.declared.Side.TheVariants.{A, B}

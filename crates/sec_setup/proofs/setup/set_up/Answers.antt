@@ -1,5 +1,5 @@
 -- The setup is that of both nets.
-use Rattle.std.proofs.Common.{◌∙◌, List, ℕ, length, sym, ap, subst}
+use Rattle.std.proofs.Common.{◌≡◌, ◌∙◌, List, ℕ, length, sym, ap, subst}
 use Rattle.sec_base.specs.Table.{AreDistinct}
 use Rattle.flat_net.specs.View.{circuit_of, ports_of}
 use Rattle.sec_setup.specs.Cuts.{AreCutAt, columns_of}
