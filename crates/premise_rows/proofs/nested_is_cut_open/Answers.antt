@@ -1,4 +1,4 @@
-use Rattle.design_rows.proofs.Nested.{nested_is_cut_open}
+use Rattle.premise_rows.proofs.Nested.{nested_is_cut_open}
 use Rattle.premise_rows.proofs.nested_is_cut_open.Goals as goal
 
 pub returns : goal.returns
