@@ -2,7 +2,7 @@
 #![tactic(auto)]
 
 mod generation;
-mod summary;
+mod report;
 
 pub use generation::Generation;
-pub use summary::summary;
+pub use report::summary;
