@@ -39,15 +39,13 @@ module _ {P : Type 0} (c : Circuit P) (rank : P → ℕ) (falls : (u w : P) → 
         (EventVisits.reads up.0 read, λ v cone other. up.1 v (cone.0, cone.1, cone.2, Reaches.there read cone.3) other)
     visit_to (EventVisits.plain {out = out} {q = q} {next = next} {node = node} {name = name} visit other latch off) =
         let up = visit_to visit in
-        let here = up.1 q (name, next, latch, Reaches.here) other in
-        (
+        let here = up.1 q (name, next, latch, Reaches.here) other in (
           subst (λ (k : ℕ). EventVisits (S g) (IsEnabled c) starts None next (k ∷ node)) (sym (agrees name q next latch here)) (EventVisits.plain up.0 other latch off),
           λ v cone free. let down = falls q v (name, next, latch, cone, λ en. absurd (off en)) in omega (arith, down, here),
         )
     visit_to (EventVisits.held {out = out} {q = q} {next = next} {node = node} {name = name} visit other latch on) =
         let up = visit_to visit in
-        let here = up.1 q (name, next, latch, Reaches.here) other in
-        (
+        let here = up.1 q (name, next, latch, Reaches.here) other in (
           subst (λ (k : ℕ). EventVisits (S g) (IsEnabled c) starts (Some q) next (k ∷ node)) (sym (agrees name q next latch here)) (EventVisits.held up.0 other latch on),
           λ v cone free. let down = falls q v (name, next, latch, cone, λ en. free) in omega (arith, down, here),
         )
