@@ -20,6 +20,7 @@ use Rattle.circuit_theory.specs.Sizes.{WeighsAt, Weighed, Visits, IsWeight, IsOv
 use Rattle.circuit_theory.proofs.Lists.{Contains-map, Contains-map_from, at_of, of_at, map_at, length-map}
 use Rattle.circuit_theory.proofs.Sums.{same_or_not}
 use Rattle.signal_graph.specs.declared.nodes.Node.{Node}
+use Rattle.signal_graph.proofs.Lists.{AllPairs-from_at}
 use Rattle.signal_graph.specs.Graph.{GraphView, IsGraphOf, IsPlainGraphOf, ArePlainNodes, AreTaken, step_of}
 use Rattle.unfolding_weight.specs.Weight.{gate_weight, driver_weight, weight_of, AreMet, Stay, IsMet, Meeting, AreThere, IsVisited, AreVisited, AreReadsThere}
 use Rattle.signal_graph.proofs.Driving.{Driven, driven, only_at}
