@@ -2,7 +2,6 @@
 use Rattle.std.proofs.Common.{ℕ, length, refl}
 use Rattle.circuit_theory.specs.declared.Side.{Side}
 use Rattle.circuit_theory.specs.declared.Side.TheVariants.{A, B}
-use Rattle.circuit_theory.specs.Joined.{Left, Right}
 use Rattle.circuit_theory.specs.Run.{IsEnabled}
 use Rattle.event_laws.proofs.SideParts.{sides_are_parts_in_nets}
 use Rattle.flat_net.specs.declared.parts.LatchAt.{LatchAt}
@@ -10,7 +9,6 @@ use Rattle.flat_net.specs.Cut.{latch_at}
 use Rattle.flat_net.specs.Sound.{IsSound}
 use Rattle.flat_net.specs.View.{circuit_of}
 use Rattle.flat_net.proofs.Nets.{sound_is_net}
-use Rattle.sec_base.specs.declared.basics.Tag.{Tag}
 use Rattle.event_nodes.specs.Nodes.{EventGraphView, IsEventGraph}
 use Rattle.event_nodes.specs.View.{EventCircuitView, IsEventCircuit}
 use Rattle.event_walk.specs.Walk.{enable_start}

@@ -1,6 +1,6 @@
 -- Enables stay ready while the event graph grows.
-use Rattle.std.proofs.Common.{◌≡◌, ◌∙◌, ◌<◌, ℕ, List, [], ◌++◌, length, get_or, refl, sym, ap, subst, arith, length-append}
-use Rattle.std.specs.List.{All, AllPairs}
+use Rattle.std.proofs.Common.{◌≡◌, ◌∙◌, ◌<◌, ℕ, List, [], length, get_or, sym, ap, subst, arith, length-append}
+use Rattle.std.specs.List.{All}
 use Rattle.std.proofs.lemmas.List.{get_or_append_left}
 use Rattle.std.proofs.lemmas.List.Elements.{All-weaker, All-get_or}
 use Rattle.circuit_theory.specs.Query.{Variable}
@@ -8,7 +8,7 @@ use Rattle.circuit_theory.proofs.Lists.{length-map}
 use Rattle.event_theory.specs.Frame.{NodeBefore}
 use Rattle.event_nodes.specs.Nodes.{EventGraphView, IsEventGraph, GrowsEvents, named_places, path_of}
 use Rattle.event_nodes.proofs.Paths.{named_grows}
-use Rattle.event_variables.specs.Variables.{AreInOrder, GoesBefore, variable_of}
+use Rattle.event_variables.specs.Variables.{AreInOrder, variable_of}
 use Rattle.enable_compare.specs.declared.compare.Enable.{Enable}
 use Rattle.enable_compare.specs.Comparing.{IsReadyEnable}
 use Rattle.enable_compare.proofs.Queries.{ready_later}

@@ -1,5 +1,5 @@
 -- The next latch is given its class.
-use Rattle.std.proofs.Common.{◌≡◌, ◌∙◌, ◌<◌, ◌≤◌, ℕ, List, [], ◌∷◌, ◌++◌, length, map, slice_get, Some, refl, sym, ap, subst}
+use Rattle.std.proofs.Common.{◌≡◌, ◌∙◌, ◌<◌, ◌≤◌, ℕ, List, [], ◌∷◌, ◌++◌, length, map, slice_get, Some, sym, ap, subst}
 use Rattle.std.specs.Prelude.{Contains}
 use Rattle.std.proofs.lemmas.List.{map-append}
 use Rattle.std.proofs.lemmas.List.Elements.{Contains-append_right}
@@ -12,19 +12,17 @@ use Rattle.circuit_theory.specs.Run.{IsEnabled}
 use Rattle.circuit_theory.proofs.Lists.{Contains-head}
 use Rattle.event_theory.specs.EventTotals.{IsMapSoFar}
 use Rattle.event_laws.specs.ClassSteps.{IsFirstFit}
-use Rattle.flat_net.specs.declared.parts.LatchAt.{LatchAt}
 use Rattle.flat_net.specs.Cut.{latch_at, no_latch}
 use Rattle.flat_net.specs.Sound.{IsSound}
 use Rattle.flat_net.specs.View.{NetView, circuit_of}
 use Rattle.sec_base.specs.declared.basics.Tag.{Tag}
 use Rattle.event_nodes.specs.Nodes.{EventGraphView}
 use Rattle.event_nodes.specs.View.{EventCircuitView, IsEventCircuit}
-use Rattle.event_nodes.specs.Visited.{CounterView, IsWeighed}
+use Rattle.event_nodes.specs.Visited.{IsWeighed}
 use Rattle.event_order.specs.Order.{place_of, IsTagOf}
 use Rattle.class_queries.specs.Enables.{both_of}
 use Rattle.class_joining.specs.Joining.{with_class, HasJoined}
 use Rattle.class_joining.proofs.Giving.{class_given}
-use Rattle.class_search.specs.declared.class.Class.{Class}
 use Rattle.event_classes.specs.declared.map.ClassMap.{ClassMap}
 use Rattle.event_classes.specs.Stand.{IsStand}
 use Rattle.event_classes.specs.Map.{IsWithin, IsMade, FitsIn, IsSetOn, IsClassSet, GoesOn, places_in, taken_of}

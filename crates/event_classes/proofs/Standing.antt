@@ -1,6 +1,6 @@
 -- A class map goes on.
-use Rattle.std.proofs.Common.{◌≡◌, ◌≢◌, ◌∙◌, ◌+◌, ◌<◌, ◌≤◌, ℕ, zero, suc, max, Bool, true, false, List, [], ◌∷◌, ◌++◌, length, slice_get, slice_set, Some, refl, sym, ap, subst, arith, inl, inr, length-append}
-use Rattle.std.specs.Prelude.{◌⊎◌, ◌↔◌, Contains}
+use Rattle.std.proofs.Common.{◌≡◌, ◌≢◌, ◌∙◌, ◌+◌, ◌≤◌, ℕ, zero, suc, max, Bool, List, [], ◌∷◌, ◌++◌, length, slice_get, slice_set, Some, refl, sym, ap, subst, arith, inl, inr, length-append}
+use Rattle.std.specs.Prelude.{◌⊎◌, Contains}
 use Rattle.std.specs.List.{All}
 use Rattle.std.proofs.lemmas.List.{length-set}
 use Rattle.std.proofs.lemmas.List.Elements.{All-weaker, All-set, All-push}
@@ -8,8 +8,7 @@ use Rattle.std.proofs.lemmas.Option.{slice_get_within}
 use Rattle.circuit_theory.specs.Joined.{Either}
 use Rattle.circuit_theory.specs.Run.{IsEnabled}
 use Rattle.circuit_laws.proofs.JoinedParts.{joined_single, joined_number_once}
-use Rattle.event_theory.specs.Frame.{EventSide}
-use Rattle.event_theory.specs.Classes.{EnableCare, EnableAtRoot, classes_of}
+use Rattle.event_theory.specs.Classes.{EnableAtRoot, classes_of}
 use Rattle.event_laws.proofs.ClassMaps.{fold_each}
 use Rattle.event_laws.proofs.EventTrees.{one_enable}
 use Rattle.flat_net.specs.View.{circuit_of}
@@ -25,12 +24,11 @@ use Rattle.enable_compare.specs.Comparing.{IsReadyEnable}
 use Rattle.class_queries.specs.Enables.{both_of, IsEnableFunction}
 use Rattle.class_queries.specs.Laws.{AreKept}
 use Rattle.class_queries.proofs.Meaning.{numbered}
-use Rattle.class_queries.proofs.Frames.{assignment_of, takes_frame}
 use Rattle.class_joining.specs.Joining.{HasJoined, AreKnownEnables}
 use Rattle.class_joining.proofs.Tables.{goes_on, grows_on}
 use Rattle.class_search.specs.declared.class.Class.{Class}
 use Rattle.class_search.specs.Search.{AreReadyClasses}
-use Rattle.class_fits.specs.Members.{IsAmong, HasMembers, HaveMembers}
+use Rattle.class_fits.specs.Members.{IsAmong, HasMembers}
 use Rattle.class_fits.proofs.Members.{members_grow_on, members_stay_on, members_join_on}
 use Rattle.event_classes.specs.Stand.{IsStand}
 

@@ -14,13 +14,12 @@ use Rattle.flat_net.specs.View.{NetView, circuit_of}
 use Rattle.sec_base.specs.declared.basics.Tag.{Tag}
 use Rattle.event_nodes.specs.Nodes.{EventGraphView}
 use Rattle.event_nodes.specs.View.{EventCircuitView, IsEventCircuit, Enabled}
-use Rattle.event_nodes.specs.Visited.{CounterView, IsWeighed}
+use Rattle.event_nodes.specs.Visited.{IsWeighed}
 use Rattle.event_order.specs.Order.{place_of, IsTagOf, IsTagOrder}
 use Rattle.enable_compare.specs.Comparing.{IsReadyEnable}
 use Rattle.class_queries.specs.Enables.{both_of}
 use Rattle.class_joining.proofs.Bounds.{depths_of_both, map_begins, map_ends}
 use Rattle.class_search.specs.declared.class.Class.{Class}
-use Rattle.class_search.specs.Search.{AreReadyClasses}
 use Rattle.event_classes.specs.declared.map.ClassMap.{ClassMap}
 use Rattle.event_classes.specs.Stand.{IsStand}
 use Rattle.event_classes.specs.Map.{IsMade, GoesOn, IsBegun, IsMadeTo, IsClassMapOf, places_in, taken_of}

@@ -1,5 +1,5 @@
 -- A latch that founds a class.
-use Rattle.std.proofs.Common.{◌≡◌, ◌∙◌, ◌+◌, ◌<◌, ℕ, suc, List, [], ◌∷◌, ◌++◌, length, ap, subst, arith}
+use Rattle.std.proofs.Common.{◌≡◌, ◌∙◌, ◌+◌, suc, List, [], ◌∷◌, ◌++◌, length, ap, subst, arith}
 use Rattle.class_search.specs.declared.class.Class.{Class}
 use Rattle.event_classes.specs.declared.map.ClassMap.{ClassMap}
 use Rattle.event_classes.specs.Map.{FitsIn}
