@@ -15,7 +15,6 @@ use Rattle.flat_net.specs.View.{circuit_of}
 use Rattle.flat_net.proofs.CutNets.{slice_get-append_cases}
 use Rattle.flat_net.proofs.Nets.{sound_is_net}
 use Rattle.flat_net.proofs.Places.{one_at}
-use Rattle.aig.specs.Values.{value}
 use Rattle.sec_base.specs.declared.basics.Tag.{Tag}
 use Rattle.event_nodes.specs.Nodes.{EventGraphView, IsEventGraph, GrowsEvents}
 use Rattle.event_nodes.specs.View.{EventCircuitView}
@@ -71,7 +70,7 @@ function_moves a b w kept u v enable care x f g own = record {
         one_enable (both_of a b) (IsEnabled (both_of a b).circuit) (joined_single (circuit_of a.net) (circuit_of b.net) (length a.net.drivers) (length b.net.drivers) na nb)
         (λ r i j l e. joined_number_once (circuit_of a.net) (circuit_of b.net) (length a.net.drivers) (length b.net.drivers) na nb a.order b.order (numbered a kept.left) r i j l e) bits p [] y z h k
 
-at_set : (cs : List Class) (at : ℕ) (n : Class) (j : ℕ) (m : Class) → slice_get (slice_set cs at n) j ≡ Some m → ((j ≡ at) × (m ≡ n)) ⊎ ((j ≢ at) × (slice_get cs j ≡ Some m))
+pub at_set : (cs : List Class) (at : ℕ) (n : Class) (j : ℕ) (m : Class) → slice_get (slice_set cs at n) j ≡ Some m → ((j ≡ at) × (m ≡ n)) ⊎ ((j ≢ at) × (slice_get cs j ≡ Some m))
 at_set [] at n j m h = inr ((λ e. none j h), h)
   where
     none : (i : ℕ) → slice_get [] i ≡ Some m → ⊥
