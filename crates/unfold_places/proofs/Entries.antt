@@ -39,6 +39,10 @@ module _ {X : Type 0} (ps : List (ℕ × ℕ)) (xs : List X) (each : length xs �
   pub no_entry : (p : ℕ × ℕ) → (Contains ps p → ⊥) → Contains (map (λ (e : (ℕ × ℕ) × X). e.0) (zip ps xs)) p → ⊥
   no_entry p absent there = absent (subst (λ (qs : List (ℕ × ℕ)). Contains qs p) (firsts-zip ps xs each) there)
 
+  -- a place that has no entry isn't among the places
+  pub new_place : (p : ℕ × ℕ) → (Contains (map (λ (e : (ℕ × ℕ) × X). e.0) (zip ps xs)) p → ⊥) → Contains ps p → ⊥
+  new_place p absent there = absent (subst (λ (qs : List (ℕ × ℕ)). Contains qs p) (sym (firsts-zip ps xs each)) there)
+
   -- the place of an entry is among the places
   pub entry_place : (p : ℕ × ℕ) (x : X) → Contains (zip ps xs) (p, x) → Contains ps p
   entry_place p x there = subst (λ (qs : List (ℕ × ℕ)). Contains qs p) (firsts-zip ps xs each) (Contains-map (λ (e : (ℕ × ℕ) × X). e.0) (zip ps xs) (p, x) there)

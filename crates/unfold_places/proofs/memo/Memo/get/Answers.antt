@@ -5,7 +5,8 @@ use Rattle.unfold_places.proofs.Entries.{no_entry, entry_of}
 use Rattle.unfold_places.proofs.memo.Memo.get.Goals as goal
 
 pub returns-in-Some-clause-here : goal.returns-in-Some-clause-here
-returns-in-Some-clause-here c = ?
+returns-in-Some-clause-here c =
+    subst (λ (es : List ((ℕ × ℕ) × Lit)). Contains es (c.args.place, c.index.result.now)) c.self.view_is (entry_of c.self.inside.places c.self.inside.lits.items c.self.invariant c.in-Some.number c.args.place c.index.result.now (c.in-Some.ensures.here) c.index.ensures)
 
 pub returns-in-None-clause-absent : goal.returns-in-None-clause-absent
 returns-in-None-clause-absent c =
