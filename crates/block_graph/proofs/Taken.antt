@@ -24,7 +24,7 @@ use Rattle.block_graph.specs.Comparing.{AreReadBy}
 
 -- a literal's value by the nodes' bits
 value_is : (g : List Node) (v : ℕ → Bool) (x : ℕ) → value g v x ≡ lit_bit (node_bits g v) x
-  unfolding value
+unfolding value
 value_is g v x = refl
 
 -- what the latch takes over, by the literals of all signals and the nodes' bits
@@ -40,9 +40,9 @@ side_nexts : (m : NetView) → IsSound m → (lits : List Lit) → length lits �
 side_nexts m sound lits each side x values same =
     map_same (taken values lits) (λ (l : LatchAt). x (side l.next.0)) m.latches
     (λ l h.
-        let at = at_of m.latches l h in
-        let inside = (sound.latches at.0 l at.1).within in
-        sym (same l.next.0 (lit_at lits l.next.0) (slice_get-get_or lits l.next.0 (record { 0 = 0 }) (omega (arith, inside, each)))))
+    let at = at_of m.latches l h in
+    let inside = (sound.latches at.0 l at.1).within in
+    sym (same l.next.0 (lit_at lits l.next.0) (slice_get-get_or lits l.next.0 (record { 0 = 0 }) (omega (arith, inside, each)))))
     ∙ sym (map-map x (λ (l : LatchAt). side l.next.0) m.latches)
 
 -- the bits of both sides, one after the other
