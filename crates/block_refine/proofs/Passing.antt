@@ -33,7 +33,7 @@ use Rattle.block_refine.specs.Passes.{AreMembers, IsUnderWay, IsOnPass, first_of
 use Rattle.block_graph.proofs.Making.{blocks_few}
 use Rattle.block_graph.proofs.Numbered.{light_few}
 use Rattle.block_graph.proofs.OnGraph.{on_graph}
-use Rattle.block_refine.specs.declared.refine.SplitLimit.{SplitLimit}
+use Rattle.block_refine.specs.declared.refinement.SplitLimit.{SplitLimit}
 use Rattle.block_refine.specs.Refining.{AreCoarsest, IsSplitLimit, IsTurn}
 
 pub nexts_long : (a b : NetView) → length (nexts_of a b) ≡ length a.latches + length b.latches

@@ -14,9 +14,9 @@ use Rattle.latch_blocks.specs.QueryLaws.{IsLitAt, AreOnGraph}
 use Rattle.latch_blocks.specs.Laws.{pairs_alike}
 use Rattle.block_refine.specs.declared.pass.Round.{Round}
 use Rattle.block_refine.specs.declared.pass.Round.TheVariants as round
-use Rattle.block_refine.specs.declared.refine.SplitLimit.{SplitLimit}
-use Rattle.block_refine.specs.declared.refine.Refined.{Refined}
-use Rattle.block_refine.specs.declared.refine.Refined.TheVariants as refined
+use Rattle.block_refine.specs.declared.refinement.SplitLimit.{SplitLimit}
+use Rattle.block_refine.specs.declared.refinement.Refined.{Refined}
+use Rattle.block_refine.specs.declared.refinement.Refined.TheVariants as refined
 
 -- The coarsest inductive partition, as a list of the latches' blocks in the order of first members.
 pub record AreCoarsest (a b : NetView) (orders : Orders) (blocks : List ℕ) : Type 0 where

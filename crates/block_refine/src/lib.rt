@@ -5,7 +5,7 @@
 mod ask;
 mod firsts;
 mod pass;
-mod refine;
+mod refinement;
 mod starts;
 
-pub use refine::{Refined, SplitLimit, refine};
+pub use refinement::{Refined, SplitLimit, refine};

@@ -29,7 +29,7 @@ next_bits-requires-clause-each c =
     let d = difference c.args.nets.now c.args.i c.args.j (number_of c.next-left.result) (number_of c.next-right.result) c.next-left.ensures.at c.next-right.ensures.at c.args.graph.now c.requires.graph c.keeps.ensures.sound c.keeps-2.ensures.sound
     c.keeps-3.ensures.graph c.args.conflicts c.in_ok-compared.compared asked c.in-Differs.bits c.in-Differs.is in
     let left = ap length c.as_slice.ensures in
-    let right = ap length c.as_slice-2.ensures in
+    let right = ap length c.as_slice-in-Differs.ensures in
     let vars = ap length asked.vars in
     omega (arith, left, right, vars, d.each)
 
@@ -39,12 +39,12 @@ next_bits-requires-clause-increasing c = subst IsStrictlyIncreasing (sym c.as_sl
 pub next_bits-requires-clause-below : goal.next_bits-requires-clause-below
 next_bits-requires-clause-below c = subst (All (λ k. k < c.args.graph.now.limit)) (sym c.as_slice.ensures) c.in_ok-compared.ensures.own.below
 
-pub returns-in-Differs : goal.returns-in-Differs
-returns-in-Differs c =
+pub returns : goal.returns
+returns c =
     let n = c.args.nets.now in
     let g = c.args.graph.now in
     answer_differs n c.args.i c.args.j (number_of c.next-left.result) (number_of c.next-right.result) c.next-left.ensures.at c.next-right.ensures.at g c.requires.graph c.keeps.ensures.sound c.keeps-2.ensures.sound c.keeps-3.ensures.graph c.args.conflicts
-    c.in_ok-compared.compared c.in_ok-compared.ensures c.in-Differs.bits c.in_ok-made.made.items c.in-Differs.is
-    (λ x read. c.in_ok-made.ensures x
-    (subst (λ (vs : List ℕ). AreReadBy n g (assigned_to vs c.as_slice-2.result.now) x) (sym c.as_slice.ensures)
-    (subst (λ (bs : List Bool). AreReadBy n g (assigned_to c.in_ok-compared.compared.vars bs) x) (sym c.as_slice-2.ensures) read)))
+    c.in_ok-compared.compared c.in_ok-compared.ensures c.in-Differs.bits c.in_ok-made-in-Differs.made.items c.in-Differs.is
+    (λ x read. c.in_ok-made-in-Differs.ensures x
+    (subst (λ (vs : List ℕ). AreReadBy n g (assigned_to vs c.as_slice-in-Differs.result.now) x) (sym c.as_slice.ensures)
+    (subst (λ (bs : List Bool). AreReadBy n g (assigned_to c.in_ok-compared.compared.vars bs) x) (sym c.as_slice-in-Differs.ensures) read)))

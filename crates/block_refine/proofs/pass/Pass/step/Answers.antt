@@ -47,9 +47,9 @@ returns-in-Limit c =
           (subst (λ k. IsLimitAt n c.args.graph.now c.args.conflicts k c.args.j c.in-Limit.proof) is asked)),
     )
 
-pub returns-in-Apart : goal.returns-in-Apart
-returns-in-Apart c =
+pub returns-in_ok-split_by-in-Apart : goal.returns-in_ok-split_by-in-Apart
+returns-in_ok-split_by-in-Apart c =
     let is = first_is c.args.self.now c.args.j c.first_in-first.result c.deref.result.now c.as_slice.result.now c.first_in-first.ensures c.deref.ensures.value c.as_slice.ensures in
     let told = subst (IsAnswer c.args.nets.now c.args.graph.now c.args.conflicts c.first_in-first.result c.args.j) c.in-Apart.is c.in_ok-ask.ensures in
-    pass_apart c.args.nets.now c.keeps.ensures.sound c.keeps-2.ensures.sound c.args.j c.args.self.now c.requires.pass c.split_by.new.self c.in-Apart.bits.items (subst (λ k. TellApart c.args.nets.now k c.args.j c.in-Apart.bits.items) is told) c.in_ok-split_by.ensures.split
-    c.in_ok-split_by.ensures.members c.in_ok-split_by.ensures.marked c.requires.latch
+    pass_apart c.args.nets.now c.keeps.ensures.sound c.keeps-2.ensures.sound c.args.j c.args.self.now c.requires.pass c.split_by.new.self c.in-Apart.bits.items (subst (λ k. TellApart c.args.nets.now k c.args.j c.in-Apart.bits.items) is told) c.in_ok-split_by-in-Apart.ensures.split
+    c.in_ok-split_by-in-Apart.ensures.members c.in_ok-split_by-in-Apart.ensures.marked c.requires.latch

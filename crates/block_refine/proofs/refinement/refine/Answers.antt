@@ -5,7 +5,7 @@ use Rattle.latch_blocks.specs.Blocks.{IsByStarts}
 use Rattle.latch_blocks.proofs.Going.{partition_begins}
 use Rattle.block_refine.specs.Refining.{IsTurn}
 use Rattle.block_refine.proofs.Passing.{starts_few}
-use Rattle.block_refine.proofs.refine.refine.Goals as goal
+use Rattle.block_refine.proofs.refinement.refine.Goals as goal
 
 pub initial_blocks-requires : goal.initial_blocks-requires
 initial_blocks-requires c =

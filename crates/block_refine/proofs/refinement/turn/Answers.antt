@@ -8,7 +8,7 @@ use Rattle.block_refine.specs.declared.pass.Round.{Round}
 use Rattle.block_refine.specs.Passes.{IsRound}
 use Rattle.block_refine.specs.Refining.{IsTurn}
 use Rattle.block_refine.proofs.Passing.{turned}
-use Rattle.block_refine.proofs.refine.turn.Goals as goal
+use Rattle.block_refine.proofs.refinement.turn.Goals as goal
 
 pub pass_over-requires-clause-nets : goal.pass_over-requires-clause-nets
 pass_over-requires-clause-nets c =
