@@ -1,10 +1,9 @@
 -- The variables of inputs and blocks are small, and those of the nets.
-use Rattle.std.proofs.Common.{◌≡◌, ◌∙◌, zero, suc, ◌+◌, ◌<◌, ◌≤◌, ◌^◌, ℕ, List, [], ◌∷◌, length, map, take, drop, slice_get, Some, refl, sym, ap, subst, arith, add-one, length-drop}
+use Rattle.std.proofs.Common.{◌≡◌, ◌∙◌, zero, suc, ◌+◌, ◌<◌, ◌≤◌, ◌^◌, ℕ, List, [], ◌∷◌, length, map, drop, slice_get, Some, refl, sym, ap, subst, arith, add-one}
 use Rattle.std.specs.List.{All}
 use Rattle.std.proofs.lemmas.List.Elements.{All-weaker}
 use Rattle.std.proofs.lemmas.Option.{slice_get_within, get_or_from_slice_get}
 use Rattle.circuit_theory.proofs.Lists.{All-from_each, at_of, length-map, map_at}
-use Rattle.sec_base.proofs.TableLemmas.{slice_get-take}
 use Rattle.flat_net.specs.View.{NetView}
 use Rattle.flat_net.specs.Sound.{IsSound}
 use Rattle.flat_net.proofs.Places.{All-at}

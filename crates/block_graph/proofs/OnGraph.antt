@@ -1,5 +1,5 @@
 -- What a graph of both nets is to values that are constant on the blocks.
-use Rattle.std.proofs.Common.{◌≡◌, ℕ, Bool, refl}
+use Rattle.std.proofs.Common.{◌≡◌, ℕ, Bool}
 use Rattle.circuit_theory.specs.Joined.{Either}
 use Rattle.flat_net.specs.Sound.{IsSound}
 use Rattle.aig.specs.declared.node.Lit.{Lit}

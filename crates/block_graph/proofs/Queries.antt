@@ -1,5 +1,5 @@
 -- The query of two signals.
-use Rattle.std.proofs.Common.{◌≡◌, ◌∙◌, ◌≢◌, ◌⊎◌, ◌*◌, ◌<◌, ◌/◌, ℕ, List, [], ◌∷◌, length, slice_get, Option, Some, None, refl, sym, ap, subst, arith, inl, inr}
+use Rattle.std.proofs.Common.{◌≡◌, ◌∙◌, ◌⊎◌, ◌*◌, ◌<◌, ◌/◌, ℕ, List, [], ◌∷◌, length, slice_get, Option, Some, None, sym, ap, subst, arith, inl, inr}
 use Rattle.std.specs.Prelude.{option_and_then}
 use Rattle.std.specs.List.{Contains}
 use Rattle.std.proofs.lemmas.List.Kept.{AllPairs-from_increasing}

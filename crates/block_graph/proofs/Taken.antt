@@ -1,6 +1,6 @@
 -- What all latches take over, by the literals of their signals.
 use Rattle.std.proofs.Common.{◌≡◌, ◌∙◌, ◌<◌, ◌*◌, ℕ, Bool, List, [], ◌++◌, length, map, slice_get, Some, refl, sym, ap, subst, arith}
-use Rattle.std.specs.List.{All, Contains}
+use Rattle.std.specs.List.{All}
 use Rattle.std.proofs.lemmas.Option.{slice_get-get_or}
 use Rattle.std.proofs.lemmas.List.{map-append}
 use Rattle.circuit_theory.specs.Joined.{Either, Left, Right}

@@ -1,13 +1,11 @@
 -- Two signals compared over the blocks.
-use Rattle.std.specs.Prelude.{◌≡◌, ◌≢◌, ◌⊎◌, ◌↔◌, ℕ, ◌<◌, Bool, List, length, map}
+use Rattle.std.specs.Prelude.{◌≡◌, ◌⊎◌, ◌↔◌, ℕ, ◌<◌, Bool, List}
 use Rattle.std.specs.List.{All, Contains}
 use Rattle.std.specs.List.Sorted.{IsStrictlyIncreasing}
 use Rattle.circuit_theory.specs.Joined.{Either, Left, Right}
 use Rattle.aig.specs.declared.node.Lit.{Lit}
 use Rattle.aig.specs.Values.{value}
 use Rattle.pair_decide.specs.declared.query.Query.{Query}
-use Rattle.pair_decide.specs.declared.query.Decision.{Decision}
-use Rattle.pair_decide.specs.declared.query.Decision.TheVariants as decision
 use Rattle.pair_decide.specs.Answers.{Decides}
 use Rattle.latch_blocks.specs.Signals.{IsLeaf}
 use Rattle.latch_blocks.specs.QueryLaws.{IsLitAt, AreBlockValues}

@@ -1,6 +1,6 @@
 //! Two signals compared over the blocks.
 
-ghost use Rattle.std.specs.Prelude.{◌≡◌, ◌+◌, ◌<◌, ◌≤◌, length, IfOk};
+ghost use Rattle.std.specs.Prelude.{◌<◌, ◌≤◌, IfOk};
 ghost use Rattle.block_graph.specs.Graph.{IsBlockGraph, IsSignalOf, number_of};
 ghost use Rattle.block_graph.specs.Comparing.{IsLitIn, AreOwn, IsComparison, AreLeavesOf};
 

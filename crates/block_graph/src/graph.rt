@@ -1,10 +1,8 @@
 //! The graph of both nets.
 
 ghost use Rattle.std.specs.Prelude.{◌≡◌, ◌+◌, ◌^◌, ◌<◌, ◌≤◌, length, IfOk, OnOk};
-ghost use Rattle.flat_net.specs.View.{NetView};
-ghost use Rattle.aig.specs.declared.node.Node.{Node};
 ghost use Rattle.aig.specs.Graph.{Grows};
-ghost use Rattle.latch_blocks.specs.Signals.{AreVariables, AreSignalLits, net_weight};
+ghost use Rattle.latch_blocks.specs.Signals.{AreVariables, net_weight};
 ghost use Rattle.block_graph.specs.Graph.{AreReady, AreOn, IsBlockGraph};
 
 use crate::nets::BlockNets;

@@ -1,6 +1,6 @@
 //! The variables of inputs and blocks.
 
-ghost use Rattle.std.specs.Prelude.{◌≡◌, ◌+◌, ◌^◌, ◌<◌, ◌≤◌, length, map, All, IfOk};
+ghost use Rattle.std.specs.Prelude.{◌≡◌, ◌+◌, ◌^◌, ◌<◌, ◌≤◌, map, All, IfOk};
 
 use latch_blocks::Variables;
 use sec_base::{Ids, NoMemory, Orders};

@@ -1,5 +1,5 @@
 -- What the answer to a query says of the two latches.
-use Rattle.std.proofs.Common.{◌≡◌, ◌≢◌, ◌∙◌, ℕ, Bool, true, List, map, slice_get, Some, sym, ap, subst}
+use Rattle.std.proofs.Common.{◌≡◌, ◌≢◌, ◌∙◌, ℕ, Bool, List, map, sym, ap, subst}
 use Rattle.std.proofs.lemmas.Option.{same_Some}
 use Rattle.circuit_theory.specs.Joined.{Either}
 use Rattle.flat_net.specs.Sound.{IsSound}
@@ -10,10 +10,9 @@ use Rattle.aig.proofs.CoverMeaning.{value-one}
 use Rattle.pair_decide.specs.declared.query.SameBy.{SameBy}
 use Rattle.pair_decide.specs.declared.query.SameBy.TheVariants as same
 use Rattle.pair_decide.specs.declared.query.Proof.{Proof}
-use Rattle.pair_decide.specs.declared.query.Decision.{Decision}
 use Rattle.pair_decide.specs.declared.query.Decision.TheVariants as decision
 use Rattle.pair_decide.specs.Queries.{IsSame, assigned_to}
-use Rattle.pair_decide.specs.Answers.{Decides, IsDifference, IsAtLimit}
+use Rattle.pair_decide.specs.Answers.{Decides, IsDifference}
 use Rattle.latch_blocks.specs.Partitions.{nexts_of}
 use Rattle.block_graph.specs.declared.nets.BlockNets.{BlockNets}
 use Rattle.block_graph.specs.declared.graph.BlockGraph.{BlockGraph}

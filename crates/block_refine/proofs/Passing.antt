@@ -1,13 +1,11 @@
 -- How a pass begins, goes on and ends.
-use Rattle.std.proofs.Common.{◌≡◌, ◌≢◌, ◌∙◌, ◌+◌, ◌<◌, ◌≤◌, ◌⊎◌, ℕ, Bool, true, false, List, ◌++◌, length, map, slice_get, Some, refl, sym, ap, subst, arith, inl, inr}
+use Rattle.std.proofs.Common.{◌≡◌, ◌≢◌, ◌∙◌, ◌+◌, ◌<◌, ◌≤◌, ◌⊎◌, ℕ, Bool, true, false, List, ◌++◌, length, map, refl, sym, ap, subst, arith, inl, inr}
 use Rattle.std.proofs.Math.ListN.{length-append}
 use Rattle.std.proofs.lemmas.Option.{slice_get_within, get_or_from_slice_get}
-use Rattle.circuit_theory.specs.Circuit.{Meets}
-use Rattle.circuit_theory.specs.Joined.{Either, Left, Right, joined}
+use Rattle.circuit_theory.specs.Joined.{Either, joined}
 use Rattle.circuit_theory.specs.Blocks.{Refines}
 use Rattle.circuit_theory.proofs.Lists.{length-map}
 use Rattle.circuit_theory.proofs.Numbers.{slice_get-map}
-use Rattle.sec_base.specs.declared.basics.Orders.{Orders}
 use Rattle.flat_net.specs.declared.parts.LatchAt.{LatchAt}
 use Rattle.flat_net.specs.View.{NetView, circuit_of}
 use Rattle.flat_net.specs.Sound.{IsSound}
@@ -24,7 +22,7 @@ use Rattle.latch_blocks.proofs.Placing.{left_next, right_next, stands, place_of,
 use Rattle.block_graph.specs.declared.nets.BlockNets.{BlockNets}
 use Rattle.block_graph.specs.declared.graph.BlockGraph.{BlockGraph}
 use Rattle.block_graph.specs.Graph.{IsBlockGraph}
-use Rattle.block_graph.specs.Comparing.{AgreeOver, AreConstant}
+use Rattle.block_graph.specs.Comparing.{AreConstant}
 use Rattle.block_refine.specs.declared.pass.Pass.{Pass}
 use Rattle.block_refine.specs.declared.pass.Round.{Round}
 use Rattle.block_refine.specs.declared.pass.Round.TheVariants as round
@@ -33,7 +31,6 @@ use Rattle.block_refine.specs.Passes.{AreMembers, IsUnderWay, IsOnPass, first_of
 use Rattle.block_graph.proofs.Making.{blocks_few}
 use Rattle.block_graph.proofs.Numbered.{light_few}
 use Rattle.block_graph.proofs.OnGraph.{on_graph}
-use Rattle.block_refine.specs.declared.refinement.SplitLimit.{SplitLimit}
 use Rattle.block_refine.specs.Refining.{AreCoarsest, IsSplitLimit, IsTurn}
 
 pub nexts_long : (a b : NetView) → length (nexts_of a b) ≡ length a.latches + length b.latches

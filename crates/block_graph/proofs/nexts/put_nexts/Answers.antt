@@ -3,7 +3,7 @@ use Rattle.std.proofs.Common.{◌∙◌, ◌++◌, List, map, ap}
 use Rattle.std.proofs.lemmas.List.{take_all}
 use Rattle.flat_net.specs.declared.parts.LatchAt.{LatchAt}
 use Rattle.block_graph.proofs.Taken.{taken}
-use Rattle.block_graph.proofs.Pushed.{pushed_none, pushed_more}
+use Rattle.block_graph.proofs.Pushed.{pushed_none}
 use Rattle.block_graph.proofs.nexts.put_nexts.Goals as goal
 
 pub loop-latch-init : goal.loop-latch-init

@@ -1,7 +1,6 @@
 -- A pass by the lists.
-use Rattle.std.proofs.Common.{◌∙◌, ◌++◌, List, ℕ, length, sym, ap, subst}
+use Rattle.std.proofs.Common.{◌++◌, List, ℕ, sym, subst}
 use Rattle.std.proofs.lemmas.Result.{IfOk-weaker}
-use Rattle.latch_blocks.specs.Blocks.{AreInOrder}
 use Rattle.latch_blocks.specs.Partitions.{IsOnTheWay}
 use Rattle.block_graph.specs.declared.nets.BlockNets.{BlockNets}
 use Rattle.block_refine.specs.declared.pass.Round.{Round}

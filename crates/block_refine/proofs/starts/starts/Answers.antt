@@ -1,6 +1,4 @@
 -- A's latches and then B's.
-use Rattle.std.proofs.Common.{◌≡◌, ◌∙◌, [], ◌++◌, List, map, ap}
-use Rattle.sec_base.specs.declared.basics.Init.{Init}
 use Rattle.flat_net.specs.declared.parts.LatchAt.{LatchAt}
 use Rattle.block_graph.proofs.Pushed.{both_sides}
 use Rattle.block_refine.proofs.starts.starts.Goals as goal

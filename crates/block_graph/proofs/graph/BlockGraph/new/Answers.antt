@@ -1,5 +1,5 @@
 -- Both sides on one graph.
-use Rattle.std.proofs.Common.{◌∙◌, ◌+◌, ℕ, List, length, refl, ap, arith}
+use Rattle.std.proofs.Common.{◌∙◌, ◌+◌, length, refl, ap, arith}
 use Rattle.latch_blocks.specs.declared.variables.Variables.{Variables}
 use Rattle.block_graph.proofs.Making.{on_grows, blocks_few, left_blocks, right_blocks, left_variables, right_variables, is_block_graph}
 use Rattle.block_graph.proofs.graph.BlockGraph.new.Goals as goal

@@ -1,7 +1,7 @@
 -- By the answer to the latch's query.
 use Rattle.std.proofs.Common.{◌<◌, ℕ, List, length, sym, subst, arith}
 use Rattle.block_refine.specs.Asking.{TakeOneValue, TellApart, IsLimitAt, IsAnswer}
-use Rattle.block_refine.specs.Passes.{AreMembers, first_of, IsLimitOf}
+use Rattle.block_refine.specs.Passes.{AreMembers, IsLimitOf}
 use Rattle.block_refine.proofs.Passing.{first_beside, pass_agrees, pass_apart, pass_limits, bits_long, first_is}
 use Rattle.block_refine.proofs.pass.Pass.step.Goals as goal
 
