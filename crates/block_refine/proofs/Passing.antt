@@ -70,12 +70,6 @@ pass_begins n sound_a sound_b s on same members unsplit = record {
 
 module _ (n : BlockNets) (sound_a : IsSound n.left.now) (sound_b : IsSound n.right.now) where
   module _ (j : ℕ) (s : Pass) (pass : IsPass n j s) where
-    -- the latch that stands for a block is in it
-    pub first_beside : j < length s.blocks → (first_of s j < length s.blocks) × (block_at s.blocks (first_of s j) ≡ block_at s.blocks j)
-    first_beside inside =
-        let k = pass.members.each j inside in
-        (pass.members.inside (block_at s.blocks j) k, pass.members.own (block_at s.blocks j) k)
-
     -- where the latch takes over what that one does
     pub pass_agrees : TakeOneValue n (first_of s j) j → IsPass n (j + 1) s
     pass_agrees one = record {
@@ -93,10 +87,17 @@ module _ (n : BlockNets) (sound_a : IsSound n.left.now) (sound_b : IsSound n.rig
         by e i (inl l) = pass.agreed e i l
         by e i (inr same) = subst (λ k. TakeOneValue n (first_of s k) k) (sym same) one
 
+  module _ (count j : ℕ) (s : Pass) (pass : IsPass n count s) where
+    -- the latch that stands for a block is in it
+    pub first_beside : j < length s.blocks → (first_of s j < length s.blocks) × (block_at s.blocks (first_of s j) ≡ block_at s.blocks j)
+    first_beside inside =
+        let k = pass.members.each j inside in
+        (pass.members.inside (block_at s.blocks j) k, pass.members.own (block_at s.blocks j) k)
+
     -- where values that are constant on the blocks tell the two apart, and the blocks are split by them
-    pub pass_splits : (t : Pass) (x : Either ℕ ℕ → Bool) → AreConstant n x → IsSplit s.blocks (map x (nexts_of n.left.now n.right.now)) t.blocks → AreMembers t.blocks t.firsts.items → t.split ≡ true →
-        j < length s.blocks → (p q : Either ℕ ℕ) → IsNext n (first_of s j) p → IsNext n j q → x p ≢ x q → IsPass n (j + 1) t
-    pass_splits t x constant split members marked inside p q p_is q_is apart =
+    pub pass_splits : (next : ℕ) (t : Pass) (x : Either ℕ ℕ → Bool) → AreConstant n x → IsSplit s.blocks (map x (nexts_of n.left.now n.right.now)) t.blocks → AreMembers t.blocks t.firsts.items → t.split ≡ true →
+        j < length s.blocks → (p q : Either ℕ ℕ) → IsNext n (first_of s j) p → IsNext n j q → x p ≢ x q → IsPass n next t
+    pass_splits next t x constant split members marked inside p q p_is q_is apart =
         let a = n.left.now in
         let b = n.right.now in
         let order = n.orders.now.left ++ n.orders.now.right in
@@ -129,13 +130,13 @@ module _ (n : BlockNets) (sound_a : IsSound n.left.now) (sound_b : IsSound n.rig
         most false e = let one = ap pairs_alike (pass.same e) in omega (arith, one)
 
     -- the same by the answer to the latch's query
-    pub pass_apart : (t : Pass) (bits : List Bool) → TellApart n (first_of s j) j bits → IsSplit s.blocks bits t.blocks → AreMembers t.blocks t.firsts.items → t.split ≡ true → j < length s.blocks → IsPass n (j + 1) t
-    pass_apart t bits told split members marked inside =
+    pub pass_apart : (next : ℕ) (t : Pass) (bits : List Bool) → TellApart n (first_of s j) j bits → IsSplit s.blocks bits t.blocks → AreMembers t.blocks t.firsts.items → t.split ≡ true → j < length s.blocks → IsPass n next t
+    pass_apart next t bits told split members marked inside =
         let first = first_beside inside in
         let few = nexts_long n.left.now n.right.now in
         let p = some_at (nexts_of n.left.now n.right.now) (first_of s j) (omega (arith, first.0, few, pass.way.each)) in
         let q = some_at (nexts_of n.left.now n.right.now) j (omega (arith, inside, few, pass.way.each)) in
-        pass_splits t told.x told.constant (subst (λ (bs : List Bool). IsSplit s.blocks bs t.blocks) told.bits_are split) members marked inside p.0 q.0 p.1 q.1 (told.apart p.0 q.0 p.1 q.1)
+        pass_splits next t told.x told.constant (subst (λ (bs : List Bool). IsSplit s.blocks bs t.blocks) told.bits_are split) members marked inside p.0 q.0 p.1 q.1 (told.apart p.0 q.0 p.1 q.1)
 
     -- the limit is that of two latches of one block
     pub pass_limits : (g : BlockGraph) (conflicts : ℕ) (proof : Proof) → j < length s.blocks → IsLimitAt n g conflicts (first_of s j) j proof → IsLimitOf n g conflicts (first_of s j) j proof

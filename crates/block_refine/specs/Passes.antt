@@ -1,7 +1,7 @@
 -- A pass over all latches of two nets, which splits the blocks of a partition.
-use Rattle.std.specs.Prelude.{◌≡◌, ◌≢◌, [], ◌∷◌, ℕ, ◌+◌, ◌<◌, ◌≤◌, true, false, List, ◌++◌, length}
+use Rattle.std.specs.Prelude.{◌≡◌, ◌≢◌, [], ◌∷◌, ℕ, ◌+◌, ◌<◌, ◌≤◌, Bool, true, false, List, ◌++◌, length}
 use Rattle.pair_decide.specs.declared.query.Proof.{Proof}
-use Rattle.latch_blocks.specs.Blocks.{block_at}
+use Rattle.latch_blocks.specs.Blocks.{block_at, bit_at}
 use Rattle.latch_blocks.specs.Laws.{pairs_alike}
 use Rattle.latch_blocks.specs.Partitions.{IsOnTheWay}
 use Rattle.block_graph.specs.declared.nets.BlockNets.{BlockNets}
@@ -36,6 +36,10 @@ pub record IsOnPass (n : BlockNets) : Type 0 where
 -- the latch that stands for the block of this one
 abbrev pub first_of : Pass → ℕ → ℕ
 first_of s j = block_at s.firsts.items (block_at s.blocks j)
+
+-- the bits of a latch and of the one that stands for its block differ
+abbrev pub IsApartAt : List ℕ → List ℕ → List Bool → ℕ → Type 0
+IsApartAt firsts blocks bits j = (j < length blocks) × (bit_at bits (block_at firsts (block_at blocks j)) ≢ bit_at bits j)
 
 -- A pass that has come so far: its partition is on the way and refines that of the nets; it has fewer pairs in one block where a block
 -- was split, and else each latch so far takes over one value with the one that stands for its block.

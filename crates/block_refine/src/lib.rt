@@ -7,5 +7,6 @@ mod firsts;
 mod pass;
 mod refinement;
 mod starts;
+mod trial;
 
 pub use refinement::{Refined, SplitLimit, refine};

@@ -87,7 +87,7 @@ impl Pass {
     }
 
     /// Splits the blocks by the bits of the latches.
-    fn split_by(&mut self, alloc: Global, bits: Vec<bool>) -> Result<(), NoMemory>
+    pub(crate) fn split_by(&mut self, alloc: Global, bits: Vec<bool>) -> Result<(), NoMemory>
         requires each { length bits.items ≡ length self.old.blocks }
         requires few { length self.old.blocks + 1 < 2 ^ 32 }
         ensures split { OnOk result (IsSplit self.old.blocks bits.items self.new.blocks) }
@@ -104,7 +104,7 @@ impl Pass {
 }
 
 /// The first latch of the block that this one is in.
-fn first_in(firsts: &[usize], blocks: &[u32], latch: usize) -> usize
+pub(crate) fn first_in(firsts: &[usize], blocks: &[u32], latch: usize) -> usize
     requires members { AreMembers blocks.now firsts.now }
     requires latch { latch < length blocks.now }
     ensures { result ≡ block_at firsts.now (block_at blocks.now latch) }
@@ -137,6 +137,7 @@ pub(crate) fn pass_over(
     nets.right.keeps();
     let graph = BlockGraph::new(alloc, nets)?;
     let mut pass = Pass::new(alloc, nets)?;
+    pass.try_seeded(alloc, nets, &graph)?;
     for j in 0..nets.blocks.len() {
         match pass.step(alloc, nets, &graph, j, conflicts)? {
             Step::Goes => {}

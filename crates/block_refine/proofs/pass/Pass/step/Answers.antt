@@ -1,5 +1,5 @@
 -- By the answer to the latch's query.
-use Rattle.std.proofs.Common.{◌<◌, ℕ, List, length, sym, subst, arith}
+use Rattle.std.proofs.Common.{◌+◌, ◌<◌, ℕ, List, length, sym, subst, arith}
 use Rattle.block_refine.specs.Asking.{TakeOneValue, TellApart, IsLimitAt, IsAnswer}
 use Rattle.block_refine.specs.Passes.{AreMembers, IsLimitOf}
 use Rattle.block_refine.proofs.Passing.{first_beside, pass_agrees, pass_apart, pass_limits, bits_long, first_is}
@@ -15,7 +15,7 @@ first_in-first-requires-clause-latch c = subst (λ (bs : List ℕ). c.args.j < l
 pub ask-requires-clause-first : goal.ask-requires-clause-first
 ask-requires-clause-first c =
     let is = first_is c.args.self.now c.args.j c.first_in-first.result c.deref.result.now c.as_slice.result.now c.first_in-first.ensures c.deref.ensures.value c.as_slice.ensures in
-    let first = first_beside c.args.nets.now c.keeps.ensures.sound c.keeps-2.ensures.sound c.args.j c.args.self.now c.requires.pass c.requires.latch in
+    let first = first_beside c.args.nets.now c.keeps.ensures.sound c.keeps-2.ensures.sound c.args.j c.args.j c.args.self.now c.requires.pass c.requires.latch in
     omega (arith, first.0, is, c.requires.pass.way.each)
 
 pub ask-requires-clause-second : goal.ask-requires-clause-second
@@ -43,7 +43,7 @@ returns-in-Limit c =
     let asked = subst (IsAnswer n c.args.graph.now c.args.conflicts c.first_in-first.result c.args.j) c.in-Limit.is c.in_ok-ask.ensures in (
       c.requires.pass,
       subst (λ k. IsLimitOf n c.args.graph.now c.args.conflicts k c.args.j c.in-Limit.proof) (sym is)
-          (pass_limits n c.keeps.ensures.sound c.keeps-2.ensures.sound c.args.j s c.requires.pass c.args.graph.now c.args.conflicts c.in-Limit.proof c.requires.latch
+          (pass_limits n c.keeps.ensures.sound c.keeps-2.ensures.sound c.args.j c.args.j s c.requires.pass c.args.graph.now c.args.conflicts c.in-Limit.proof c.requires.latch
           (subst (λ k. IsLimitAt n c.args.graph.now c.args.conflicts k c.args.j c.in-Limit.proof) is asked)),
     )
 
@@ -51,5 +51,5 @@ pub returns-in_ok-split_by-in-Apart : goal.returns-in_ok-split_by-in-Apart
 returns-in_ok-split_by-in-Apart c =
     let is = first_is c.args.self.now c.args.j c.first_in-first.result c.deref.result.now c.as_slice.result.now c.first_in-first.ensures c.deref.ensures.value c.as_slice.ensures in
     let told = subst (IsAnswer c.args.nets.now c.args.graph.now c.args.conflicts c.first_in-first.result c.args.j) c.in-Apart.is c.in_ok-ask.ensures in
-    pass_apart c.args.nets.now c.keeps.ensures.sound c.keeps-2.ensures.sound c.args.j c.args.self.now c.requires.pass c.split_by.new.self c.in-Apart.bits.items (subst (λ k. TellApart c.args.nets.now k c.args.j c.in-Apart.bits.items) is told) c.in_ok-split_by-in-Apart.ensures.split
+    pass_apart c.args.nets.now c.keeps.ensures.sound c.keeps-2.ensures.sound c.args.j c.args.j c.args.self.now c.requires.pass (c.args.j + 1) c.split_by.new.self c.in-Apart.bits.items (subst (λ k. TellApart c.args.nets.now k c.args.j c.in-Apart.bits.items) is told) c.in_ok-split_by-in-Apart.ensures.split
     c.in_ok-split_by-in-Apart.ensures.members c.in_ok-split_by-in-Apart.ensures.marked c.requires.latch
