@@ -1,6 +1,5 @@
 -- What is known of both nodes gives the case.
-use Rattle.std.proofs.Common.{List, Option, sym, subst}
-use Rattle.aig.specs.declared.node.Lit.{Lit}
+use Rattle.std.proofs.Common.{sym, subst}
 use Rattle.case_split.specs.Under.{AreUnder}
 use Rattle.case_split.proofs.case.case_of.Goals as goal
 
