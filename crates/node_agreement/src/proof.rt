@@ -111,11 +111,15 @@ fn prove_by_cases(
 ) -> Result<Proved, NoMemory>
     ensures { IfOk result (IsProved graph.now x.0 k.0) }
 {
+    if !budget.may_split() {
+        budget.note_split(false, 0);
+        return Ok(Proved::Open);
+    }
     let same = agree_by_cases(alloc, graph, x, k)?;
+    budget.note_split(same, graph.size());
     if same {
         return Ok(Proved::Same);
     }
-    budget.charge(graph.size() as usize / 128);
     Ok(Proved::Open)
 }
 
