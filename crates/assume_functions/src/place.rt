@@ -24,7 +24,7 @@ pub fn assume_at(
     place: u32,
 ) -> Result<Unfolded, NoMemory>
     requires own { (n : NetView) × (order : List ℕ) × (s : ℕ) × IsOwnFunction n order s own.now }
-    requires nodes { length aig.old ≤ 2 ^ 29 }
+    requires nodes { length aig.old + 2 ^ 26 < 2 ^ 30 }
     requires entries { length places.old ≤ 2 ^ 29 }
     ensures assumed { IfOk result (λ u. (n : NetView) (order : List ℕ) (s : ℕ) → IsOwnFunction n order s own.now → HasNoLatch n → IsAssumedAt n order s place aig.new places.new u) }
     ensures grows { Grows aig.old aig.new }

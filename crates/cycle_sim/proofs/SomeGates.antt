@@ -70,17 +70,6 @@ module _ (n : NetView) (sound : IsSound n) where
         let d = some_at n.drivers f.0 within in
         by_driver within d.0 d.1 (sound.drivers f.0 d.0 d.1)
       where
-        by_gate : (k : ℕ) (h : Gate) → slice_get n.gates k ≡ Some h → h.out.0 ≡ f.0 → k < j → f.0 < length n.drivers → Contains gates k ⊎ LeadsAside n l.out.0 f.0 → IsRight v values f.0
-        by_gate k h at_h out before within (inl there) =
-            let place = at_of gates k there in
-            subst (IsRight v values) out (have.some place.0 k h (earlier place.0 k place.1 before (below_or_not place.0 i)) place.1 at_h)
-        by_gate k h at_h out before within (inr aside) = have.aside f.0 within aside
-
-        by_driver : f.0 < length n.drivers → (d : Driver) → slice_get n.drivers f.0 ≡ Some d → Drives n f.0 d → IsRight v values f.0
-        by_driver within (driver.Input x) drives h = subst (IsRight v values) h.2 (have.inputs x h.0 h.1)
-        by_driver within (driver.Gate k) drives h = by_gate k h.0 h.1 h.2 (sound_in_order n sound j k g f at reads drives) within (are.closed j k g f (of_at gates i j at_j) at reads (gate_there n f.0 k drives))
-        by_driver within (driver.Latch x) drives h = subst (IsRight v values) h.2 (have.latches x h.0 h.1)
-
         below_or_not : (a b : ℕ) → (a < b) ⊎ (b ≤ a)
         below_or_not a b = grind arith
 
@@ -92,6 +81,17 @@ module _ (n : NetView) (sound : IsSound n) where
             let a = get_or_from_slice_get gates i j 0 at_j in
             let b = get_or_from_slice_get gates p k 0 at_k in
             absurd (omega (arith, order, a, b, before))
+
+        by_gate : (k : ℕ) (h : Gate) → slice_get n.gates k ≡ Some h → h.out.0 ≡ f.0 → k < j → f.0 < length n.drivers → Contains gates k ⊎ LeadsAside n l.out.0 f.0 → IsRight v values f.0
+        by_gate k h at_h out before within (inl there) =
+            let place = at_of gates k there in
+            subst (IsRight v values) out (have.some place.0 k h (earlier place.0 k place.1 before (below_or_not place.0 i)) place.1 at_h)
+        by_gate k h at_h out before within (inr aside) = have.aside f.0 within aside
+
+        by_driver : f.0 < length n.drivers → (d : Driver) → slice_get n.drivers f.0 ≡ Some d → Drives n f.0 d → IsRight v values f.0
+        by_driver within (driver.Input x) drives h = subst (IsRight v values) h.2 (have.inputs x h.0 h.1)
+        by_driver within (driver.Gate k) drives h = by_gate k h.0 h.1 h.2 (sound_in_order n sound j k g f at reads drives) within (are.closed j k g f (of_at gates i j at_j) at reads (gate_there n f.0 k drives))
+        by_driver within (driver.Latch x) drives h = subst (IsRight v values) h.2 (have.latches x h.0 h.1)
 
     pub some_more : (values new : List Bool) (i j : ℕ) (g : Gate) → slice_get gates i ≡ Some j → slice_get n.gates j ≡ Some g → length values ≡ length n.drivers →
         new ≡ set values g.out.0 (cover_value (cover_of n.covers g) (map (λ f. get_or values f.0 false) g.fanins)) → SomeBelow n l.out.0 gates v values i → SomeBelow n l.out.0 gates v new (i + 1)

@@ -9,9 +9,8 @@ ghost use Rattle.inner_cone.specs.Inner.{AreRanked, IsLow};
 ghost use Rattle.inner_cone.specs.Sides.{AreSides, AreSomeSides, IsLowPut, IsOtherPut, AreKept};
 
 use crate::numbers::number_at;
-use crate::walk::{count, signal_at, walked};
+use crate::walk::walked;
 use flat_net::{Driver, Net, Signal, Signals};
-use indexmap::IndexSet;
 use sec_base::NoMemory;
 use std::alloc::Global;
 
@@ -33,9 +32,9 @@ pub fn sides_of(
     let seen = walked(alloc, net, ranks, least, from)?;
     let mut sides = Signals::new(alloc);
     put_low(&mut sides, ranks, least, from)?;
-    for at in 0..count(&seen) {
-        let signal = signal_at(&seen, at);
-        put_sides(net, &mut sides, ranks, own, Signal(signal))?;
+    let signals = seen.as_slice();
+    for signal in signals.iter() {
+        put_sides(net, &mut sides, ranks, own, Signal(*signal))?;
     }
     Ok(sides)
 }

@@ -1,5 +1,5 @@
 -- The places of one variable more.
-use Rattle.std.proofs.Common.{◌≡◌, ◌≢◌, ℕ, zero, suc, ◌-◌, ◌<◌, List, [], ◌∷◌, ◌++◌, length, take, get_or, slice_get, Some, ◌∙◌, ap, subst, arith, inl, inr}
+use Rattle.std.proofs.Common.{◌≡◌, ◌≢◌, ℕ, zero, suc, ◌-◌, ◌<◌, List, [], ◌∷◌, ◌++◌, length, take, get_or, slice_get, Some, refl, ◌∙◌, ap, subst, arith, inl, inr}
 use Rattle.std.specs.Prelude.{◌⊎◌}
 use Rattle.std.specs.List.{Contains}
 use Rattle.std.proofs.lemmas.List.Elements.{Contains-append_cases, Contains-append_left, Contains-append_right}
@@ -7,7 +7,7 @@ use Rattle.std.proofs.lemmas.Option.{slice_get_within, slice_get-get_or, same_So
 use Rattle.circuit_theory.proofs.Lists.{Contains-head, Contains-tail, only}
 use Rattle.unfold_places.proofs.InputLists.{pairs_push}
 use Rattle.shift_variables.proofs.CycleRows.{in_front}
-use Rattle.query_places.specs.Places.{place_of, AreGrouped, ArePlacesOf}
+use Rattle.query_places.specs.Places.{place_of, AreGrouped, ArePlacesOf, ComesFirst, ComeInTurn}
 
 contains_take : (xs : List ℕ) (i j x : ℕ) → j < i → slice_get xs j ≡ Some x → Contains (take i xs) x
 contains_take [] i j x l at = absurd (let h = slice_get_within [] j x at in omega (arith, h))
@@ -70,3 +70,26 @@ module _ (table : List (ℕ × ℕ)) where
   pub met_at : (vars places : List ℕ) (i : ℕ) → i < length vars → 0 < i → place_of table (get_or vars (i - 1) 0) ≡ place_of table (get_or vars i 0) → ArePlacesOf table (take i vars) places → Contains places (place_of table (get_or vars i 0))
   met_at vars places i inside some same are =
       subst (Contains places) same (are.all (get_or vars (i - 1) 0) (contains_take vars i (i - 1) (get_or vars (i - 1) 0) (omega arith) (slice_get-get_or vars (i - 1) 0 (omega arith))))
+
+  pub turn_none : (vars : List ℕ) → ComeInTurn table vars []
+  turn_none vars = λ i j d l m. absurd (omega arith)
+
+  -- each place so far is that of a variable before this one
+  pub turn_more : (vars places : List ℕ) (i : ℕ) → i < length vars → ArePlacesOf table (take i vars) places → ComeInTurn table vars places → ComeInTurn table vars (places ++ place_of table (get_or vars i 0) ∷ [])
+  turn_more vars places i inside are turn = pairs_push (ComesFirst table vars) places (place_of table (get_or vars i 0)) turn each
+    where
+      each : (j : ℕ) → Contains places j → ComesFirst table vars j (place_of table (get_or vars i 0))
+      each j h =
+          let u = are.from j h in
+          let at = in_front vars i u.0 u.1 in
+          record {
+            early = at.0;
+            late = i;
+            first = u.0;
+            second = get_or vars i 0;
+            before = at.1;
+            first_at = at.2;
+            second_at = slice_get-get_or vars i 0 inside;
+            first_place = u.2;
+            second_place = refl;
+          }

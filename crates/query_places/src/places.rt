@@ -1,7 +1,7 @@
 //! The places of variables.
 
 ghost use Rattle.std.specs.Prelude.{◌≡◌, ◌≢◌, ◌-◌, ◌<◌, true, false, length, slice_index_or, All, IfOk};
-ghost use Rattle.query_places.specs.Places.{place_of, AreGrouped, ArePlacesOf};
+ghost use Rattle.query_places.specs.Places.{place_of, AreGrouped, ArePlacesOf, ComeInTurn};
 
 use sec_base::{Ids, NoMemory, PlaceTable, Seq};
 use std::alloc::Global;
@@ -10,7 +10,8 @@ use std::alloc::Global;
 pub fn places_of(alloc: Global, table: &PlaceTable, vars: &[u32]) -> Result<Ids, NoMemory>
     requires within { All (λ v. v < length table.now) vars.now }
     requires grouped { AreGrouped table.now vars.now }
-    ensures { IfOk result (ArePlacesOf table.now vars.now) }
+    ensures places { IfOk result (ArePlacesOf table.now vars.now) }
+    ensures turn { IfOk result (ComeInTurn table.now vars.now) }
 {
     let mut places = Vec::new(alloc);
     for i in 0..vars.len() {

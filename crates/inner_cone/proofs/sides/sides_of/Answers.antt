@@ -1,7 +1,7 @@
 -- One signal's sides more.
-use Rattle.std.proofs.Common.{◌≡◌, ◌≢◌, ◌<◌, ◌+◌, ℕ, List, Some, Contains, get_or, slice_get, subst, arith, inl, inr}
+use Rattle.std.proofs.Common.{◌≡◌, ◌≢◌, ◌<◌, ◌+◌, ℕ, List, Some, Contains, get_or, slice_get, sym, subst, arith, inl, inr}
 use Rattle.std.specs.Prelude.{◌⊎◌}
-use Rattle.std.proofs.lemmas.Option.{slice_get_within}
+use Rattle.std.proofs.lemmas.Option.{slice_get_within, slice_get-get_or}
 use Rattle.circuit_theory.specs.Circuit.{Reaches}
 use Rattle.circuit_theory.proofs.Lists.{at_of}
 use Rattle.circuit_theory.proofs.Sums.{same_or_not}
@@ -12,8 +12,8 @@ use Rattle.inner_cone.specs.Sides.{IsLowPut}
 use Rattle.inner_cone.proofs.SideSignals.{IsDone, none_there, low_there, low_some, done_kept, all_sides}
 use Rattle.inner_cone.proofs.sides.sides_of.Goals as goal
 
-pub loop-at-init : goal.loop-at-init
-loop-at-init c =
+pub loop-signal-init : goal.loop-signal-init
+loop-signal-init c =
     let least : ℕ = get_or c.args.ranks.now c.args.own.0 0 in
     let put : IsLowPut c.args.ranks.now (get_or c.args.ranks.now c.args.own.0 0) c.new-sides.result c.put_low.new.sides c.args.from =
     subst (λ m. IsLowPut c.args.ranks.now m c.new-sides.result c.put_low.new.sides c.args.from) c.number_at-least.ensures c.in_ok-put_low.ensures in
@@ -25,26 +25,38 @@ loop-at-init c =
     }
 
 pub put_sides-requires : goal.put_sides-requires
-put_sides-requires c = c.in_ok-seen.ensures.some.within c.loop-at.at c.signal_at-signal.result c.signal_at-signal.ensures
+put_sides-requires c =
+    let i = c.loop-signal.signal-index in
+    let at = slice_get-get_or c.as_slice-signals.result.now i 0 c.loop-signal-test.true in
+    let here = subst (λ (z : List ℕ). slice_get z i ≡ Some (get_or c.as_slice-signals.result.now i 0)) c.as_slice-signals.ensures.keys at in
+    c.in_ok-seen.ensures.some.within i (get_or c.as_slice-signals.result.now i 0) here
 
-pub loop-at-preserved : goal.loop-at-preserved
-loop-at-preserved c = record {
-  some = c.in_ok-put_sides.ensures.some c.args.from.0 (c.in_ok-seen.ensures.some.each c.loop-at.at c.signal_at-signal.result c.signal_at-signal.ensures) c.loop-at.invariant.some;
-  root = λ low. c.in_ok-put_sides.ensures.kept (record { 0 = c.args.from.0 }) (c.loop-at.invariant.root low);
-  done = λ i s below h. done i s h below (same_or_not i c.loop-at.at);
-}
+pub loop-signal-preserved : goal.loop-signal-preserved
+loop-signal-preserved c =
+    let i = c.loop-signal.signal-index in
+    let s : ℕ = get_or c.as_slice-signals.result.now i 0 in
+    let at : slice_get c.as_slice-signals.result.now i ≡ Some s = slice_get-get_or c.as_slice-signals.result.now i 0 c.loop-signal-test.true in
+    let here : slice_get c.in_ok-seen.seen.keys i ≡ Some s = subst (λ (z : List ℕ). slice_get z i ≡ Some s) c.as_slice-signals.ensures.keys at in
+    record {
+      some = c.in_ok-put_sides.ensures.some c.args.from.0 (c.in_ok-seen.ensures.some.each i s here) c.loop-signal.invariant.some;
+      root = λ low. c.in_ok-put_sides.ensures.kept (record { 0 = c.args.from.0 }) (c.loop-signal.invariant.root low);
+      done = λ k u below h. done k u h below (same_or_not k i) (record { reads = c.in_ok-put_sides.ensures.reads; source = c.in_ok-put_sides.ensures.source }) at;
+    }
   where
-    done : (i s : ℕ) → slice_get c.in_ok-seen.seen.keys i ≡ Some s → i < c.loop-at.at + 1 → (i ≡ c.loop-at.at) ⊎ (i ≢ c.loop-at.at) → IsDone c.args.net.now c.args.ranks.now c.args.own.0 s c.put_sides.new.sides
-    done i s h below (inr d) = done_kept c.args.net.now c.args.ranks.now c.args.own.0 s c.loop-at.sides c.put_sides.new.sides c.in_ok-put_sides.ensures.kept (c.loop-at.invariant.done i s (omega (arith, below, d)) h)
-    done i s h below (inl e) =
-        let same = one_at c.in_ok-seen.seen.keys c.loop-at.at c.signal_at-signal.result s c.signal_at-signal.ensures (subst (λ z. slice_get c.in_ok-seen.seen.keys z ≡ Some s) e h) in
-        subst (λ z. IsDone c.args.net.now c.args.ranks.now c.args.own.0 z c.put_sides.new.sides) same (record { reads = c.in_ok-put_sides.ensures.reads; source = c.in_ok-put_sides.ensures.source })
+    done : (k u : ℕ) → slice_get c.as_slice-signals.result.now k ≡ Some u → k < c.loop-signal.signal-index + 1 → (k ≡ c.loop-signal.signal-index) ⊎ (k ≢ c.loop-signal.signal-index) →
+        {s : ℕ} → IsDone c.args.net.now c.args.ranks.now c.args.own.0 s c.put_sides.new.sides → slice_get c.as_slice-signals.result.now c.loop-signal.signal-index ≡ Some s →
+        IsDone c.args.net.now c.args.ranks.now c.args.own.0 u c.put_sides.new.sides
+    done k u h below (inr d) this at = done_kept c.args.net.now c.args.ranks.now c.args.own.0 u c.loop-signal.sides c.put_sides.new.sides c.in_ok-put_sides.ensures.kept (c.loop-signal.invariant.done k u (omega (arith, below, d)) h)
+    done k u h below (inl e) {s} this at =
+        let same = one_at c.as_slice-signals.result.now c.loop-signal.signal-index s u at (subst (λ z. slice_get c.as_slice-signals.result.now z ≡ Some u) e h) in
+        subst (λ z. IsDone c.args.net.now c.args.ranks.now c.args.own.0 z c.put_sides.new.sides) same this
 
 pub returns : goal.returns
 returns c =
     all_sides c.args.net.now c.keeps.ensures.sound c.args.ranks.now c.requires.ranked c.args.from.0 c.args.own.0 c.in_ok-seen.seen.keys
-    (subst (λ m. AreHigh c.args.net.now c.args.ranks.now m c.args.from.0 c.in_ok-seen.seen.keys) c.number_at-least.ensures c.in_ok-seen.ensures) c.loop-at.sides c.loop-at.invariant.some c.loop-at.invariant.root
+    (subst (λ m. AreHigh c.args.net.now c.args.ranks.now m c.args.from.0 c.in_ok-seen.seen.keys) c.number_at-least.ensures c.in_ok-seen.ensures) c.loop-signal.sides c.loop-signal.invariant.some c.loop-signal.invariant.root
     (λ s h.
     let at = at_of c.in_ok-seen.seen.keys s h in
-    let l = slice_get_within c.in_ok-seen.seen.keys at.0 s at.1 in
-    c.loop-at.invariant.done at.0 s (omega (arith, l, c.loop-at-test.false, c.count-at-end.ensures)) at.1)
+    let there : slice_get c.as_slice-signals.result.now at.0 ≡ Some s = subst (λ (z : List ℕ). slice_get z at.0 ≡ Some s) (sym c.as_slice-signals.ensures.keys) at.1 in
+    let l = slice_get_within c.as_slice-signals.result.now at.0 s there in
+    c.loop-signal.invariant.done at.0 s (omega (arith, l, c.loop-signal-test.false)) there)

@@ -4,9 +4,9 @@ use Rattle.inner_cone.specs.Sides.{AreSomeSides}
 use Rattle.inner_cone.proofs.SideSignals.{IsDone}
 use Rattle.inner_cone.proofs.sides.sides_of.Given as goal
 
-abbrev pub invariant-loop-at : goal.invariant-loop-at
-invariant-loop-at l = record {
+abbrev pub invariant-loop-signal : goal.invariant-loop-signal
+invariant-loop-signal l = record {
   some : AreSomeSides l.net l.ranks (get_or l.ranks l.own.0 0) l.fn.from.0 l.own.0 l.sides;
   root : IsLow l.ranks (get_or l.ranks l.own.0 0) l.fn.from.0 → Contains l.sides (record { 0 = l.fn.from.0 });
-  done : (i s : ℕ) → i < l.at → slice_get l.seen.keys i ≡ Some s → IsDone l.net l.ranks l.own.0 s l.sides;
+  done : (i s : ℕ) → i < l.signal-index → slice_get l.signals i ≡ Some s → IsDone l.net l.ranks l.own.0 s l.sides;
 }

@@ -1,0 +1,4 @@
+pub mod Trees
+pub mod Keeping
+pub mod Visits
+pub mod Sides

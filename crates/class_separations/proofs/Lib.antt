@@ -1,0 +1,4 @@
+pub mod Variables
+pub mod Telling
+pub mod Kept
+pub mod Going

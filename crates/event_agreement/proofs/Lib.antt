@@ -1,0 +1,5 @@
+pub mod FrameBits
+pub mod PairQueries
+pub mod Agreeing
+pub mod SameCircuits
+pub mod CutCircuits

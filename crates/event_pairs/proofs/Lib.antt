@@ -1,0 +1,4 @@
+pub mod Parts
+pub mod Sides
+pub mod Growing
+pub mod Unions

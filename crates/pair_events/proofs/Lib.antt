@@ -1,0 +1,4 @@
+pub mod Starts
+pub mod Counting
+pub mod Sides
+pub mod Unfolding

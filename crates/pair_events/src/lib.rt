@@ -1,0 +1,8 @@
+//! The event functions of two circuits whose latches have their classes, over one event graph, with what they weigh together (after the
+//! event-driven Boolean functions of Ranjan, Singhal, Somenzi and Brayton, DATE 1999).
+#![tactic(auto)]
+
+mod events;
+
+pub use event_functions::SignalFunction;
+pub use events::Events;
