@@ -1,6 +1,6 @@
 -- What the answers to a query under an assumption say of the trees of its sides.
-use Rattle.std.proofs.Common.{◌≡◌, ℕ, ◌^◌, ◌<◌, Bool, List, [], ◌∷◌, length, get_or, slice_get, Some, refl, sym, ◌∙◌, ap, subst, arith, inl, inr}
-use Rattle.std.specs.Prelude.{◌⊎◌}
+use Rattle.std.proofs.Common.{◌≡◌, ℕ, ◌^◌, ◌<◌, Bool, true, List, [], ◌∷◌, length, get_or, slice_get, Some, refl, sym, ◌∙◌, ap, subst, arith, inl, inr}
+use Rattle.std.specs.Prelude.{◌⊎◌, ◌↔◌}
 use Rattle.std.specs.List.{Contains}
 use Rattle.std.proofs.lemmas.Option.{get_or_from_slice_get}
 use Rattle.circuit_theory.specs.Tree.{Tree, tree_value}
@@ -201,5 +201,9 @@ module _ (o : VariableOrder) (c : Assumption) (g : List Node) (table : List (ℕ
     least = λ few. let h = d.least (omega (arith, few, long)) in (h.0, h.1 ∙ ap (bits_of h.0) (sym long), least_is h.0 h.2);
   }
 
+  care : (bits : ℕ → ℕ → Bool) (a : ℕ → Bool) → TakesBits table bits a → (value g a r.care.0 ≡ true) ↔ MeetsAtVariables c left right bits
+  care bits a bits_are = (λ e. back bits ((x.under.care_is bits a bits_are).0 e), λ h. (x.under.care_is bits a bits_are).1 (forth bits h))
+
 pub answers_under : AnswersUnder
-answers_under o c g table left right q r x = (is_query o c g table left right q r x, same o c g table left right q r x, difference o c g table left right q r x)
+answers_under o c g table left right q r x =
+    (is_query o c g table left right q r x, same o c g table left right q r x, difference o c g table left right q r x, are_variables o c g table left right q r x, care o c g table left right q r x)

@@ -1,5 +1,5 @@
 -- What the answers to queries under an assumption say.
-use Rattle.std.specs.Prelude.{◌≡◌, ℕ, Bool, List, [], ◌∷◌}
+use Rattle.std.specs.Prelude.{◌≡◌, ◌↔◌, ℕ, Bool, true, List, [], ◌∷◌}
 use Rattle.circuit_theory.specs.Query.{AreVariables}
 use Rattle.circuit_theory.specs.Tree.{Tree, tree_value}
 use Rattle.sec_base.specs.Table.{AreDistinct}
@@ -11,7 +11,7 @@ use Rattle.pair_decide.specs.Answers.{IsDifference}
 use Rattle.unfold_places.specs.Growing.{TakesBits}
 use Rattle.shift_variables.specs.Variables.{variables_of}
 use Rattle.assume_laws.specs.Assume.{Assumption, MeetsAtVariables}
-use Rattle.assume_laws.specs.Sequences.{IsDifferenceUnder}
+use Rattle.assume_laws.specs.Sequences.{AreVariablesUnder, IsDifferenceUnder}
 use Rattle.assume_queries.specs.declared.order.VariableOrder.{VariableOrder}
 use Rattle.assume_queries.specs.Order.{GoesFirst}
 use Rattle.assume_queries.specs.Under.{IsUnder}
@@ -30,3 +30,5 @@ AnswersUnder = (order : VariableOrder) (c : Assumption) (g : List Node) (table :
     IsQuery g r
     × (IsSame g r → (x : ℕ → ℕ → Bool) → MeetsAtVariables c left right x → tree_value x left ≡ tree_value x right)
     × ((bits : List Bool) → IsDifference g r bits → IsDifferenceUnder (GoesFirst order) c left right (variables_of table q.vars) (variables_of table r.vars) bits)
+    × AreVariablesUnder (GoesFirst order) c left right (variables_of table r.vars)
+    × ((bits : ℕ → ℕ → Bool) (a : ℕ → Bool) → TakesBits table bits a → (value g a r.care.0 ≡ true) ↔ MeetsAtVariables c left right bits)
