@@ -9,8 +9,7 @@ pub fn taken_words_are_job()
     ensures { TakenWordsAreJob }
 {}
 
-/// Words of each subcommand that meet the premises of `taken_words_are_job`, some with `--reset`, and words that are taken and are
-/// no job: they have another mode, or `--reset` beside what refuses it.
+/// Words of each subcommand that meet the premises of `taken_words_are_job`, some with `--reset`.
 pub fn words_are_taken()
     ensures of_check { CheckIsTaken }
     ensures of_graph { GraphIsTaken }
@@ -20,7 +19,11 @@ pub fn words_are_taken()
     ensures of_lrat { LratIsTaken }
     ensures of_cert { CertIsTaken }
     ensures of_reset { ResetIsTaken }
-    ensures of_other { OtherModeIsNoJob }
+{}
+
+/// Words that are taken and are no job: they have another mode or another form, or `--reset` beside what refuses it.
+pub fn taken_words_are_no_job()
+    ensures of_mode { OtherModeIsNoJob }
     ensures of_form { OtherFormIsNoJob }
     ensures of_clash { ResetIsNoJob }
 {}

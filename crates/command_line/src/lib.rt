@@ -9,6 +9,6 @@ mod laws;
 mod task;
 
 pub use jobs::{WordsError, job};
-pub use laws::{taken_words_are_job, words_are_taken};
+pub use laws::{taken_words_are_job, taken_words_are_no_job, words_are_taken};
 pub use sec_base::Settings;
 pub use task::Task;
