@@ -2,7 +2,7 @@
 
 ghost use Rattle.std.specs.Prelude.{◌<◌, ◌≤◌, length, IfOk};
 ghost use Rattle.circuit_theory.specs.declared.Mode.TheVariants.{Plain};
-ghost use Rattle.latch_graph.specs.Graph.{IsGraphIn};
+ghost use Rattle.signal_graph.specs.Graph.{IsGraphIn};
 
 use blif_read::read_design;
 use flat_net::{Net, Signal, Signals};

@@ -19,7 +19,7 @@ use Rattle.flat_net.specs.View.{NetView, circuit_of, equation_of_gate, equation_
 use Rattle.flat_net.specs.Cut.{no_latch, latch_at, exposed_names}
 use Rattle.flat_net.proofs.Places.{All-at}
 use Rattle.expose_pick.specs.declared.pairs.LatchPair.{LatchPair}
-use Rattle.expose_pick.specs.Chosen.{lefts}
+use Rattle.expose_pick.specs.Pairs.{lefts}
 use Rattle.cut_points.specs.Common.{HaveOneName, AreCommonUpTo, AreCommon}
 
 -- the names of a net's latches

@@ -8,7 +8,7 @@ use Rattle.flat_net.specs.declared.parts.LatchAt.{LatchAt}
 use Rattle.flat_net.specs.View.{NetView, circuit_of}
 use Rattle.flat_net.specs.Cut.{no_latch, exposed_names}
 use Rattle.expose_pick.specs.declared.pairs.LatchPair.{LatchPair}
-use Rattle.expose_pick.specs.Chosen.{lefts}
+use Rattle.expose_pick.specs.Pairs.{lefts}
 
 -- the names of A's latches that are also names of latches of B, in A's order
 abbrev pub common_names : {P Q : Type 0} → Circuit P → Circuit Q → List (List ℕ)

@@ -1,5 +1,5 @@
 -- The small designs pass the computed tests.
-use Rattle.std.proofs.Common.{◌≡◌, ℕ, true, List, [], ◌∷◌, None, refl}
+use Rattle.std.proofs.Common.{◌≡◌, ℕ, true, List, [], ◌∷◌, refl}
 use Rattle.std.specs.Fmt.{digits}
 use Rattle.std.specs.Prelude.{codes, if◌then◌else◌}
 use Rattle.circuit_theory.specs.Agree.{cut}

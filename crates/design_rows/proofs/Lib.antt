@@ -3,3 +3,5 @@ pub mod Tested
 pub mod Examples
 pub mod Toggle
 pub mod Nested
+pub mod SpelledTexts
+pub mod Spelling

@@ -1,10 +1,10 @@
 -- The design whose latch on a cycle lies inside of an instance.
-use Rattle.std.proofs.Common.{◌≡◌, ◌∙◌, ◌<◌, ◌≤◌, ℕ, zero, suc, ◌+◌, Bool, true, false, not, List, [], ◌∷◌, length, Option, Some, None, slice_get, refl, sym, ap, subst, arith, inl, inr, add-one}
+use Rattle.std.proofs.Common.{◌≡◌, ◌∙◌, ◌<◌, ℕ, zero, suc, ◌+◌, Bool, true, false, not, List, [], ◌∷◌, length, Option, Some, None, slice_get, refl, sym, ap, subst, arith, inl, inr}
 use Rattle.std.specs.Fmt.{digits}
 use Rattle.std.specs.Prelude.{codes, ◌⊎◌, if◌then◌else◌, unwrap_or}
 use Rattle.std.specs.List.{All, Contains}
 use Rattle.circuit_theory.specs.declared.Mode.TheVariants.{Plain}
-use Rattle.circuit_theory.specs.Agree.{cut, IsPair, IsSettled, LatchesEqual, IsMinimalCut}
+use Rattle.circuit_theory.specs.Agree.{cut, IsPair, IsMinimalCut}
 use Rattle.circuit_theory.specs.Circuit.{Circuit, Equation, Gate, Latch, Port, Named, IsLatch, Holds, Carries, Meets, Reads, Reaches}
 use Rattle.circuit_theory.specs.Cover.{cover_value}
 use Rattle.circuit_theory.specs.Depth.{LatchReads, LatchPath, HasCycle, without}

@@ -1,5 +1,5 @@
 -- All nets of a design that passes the computed tests are small.
-use Rattle.std.proofs.Common.{◌≡◌, ◌∙◌, ◌<◌, ℕ, true, List, [], ◌++◌, map, Option, None, refl, sym, ap, subst}
+use Rattle.std.proofs.Common.{◌≡◌, ◌∙◌, ◌<◌, ℕ, true, List, [], ◌++◌, map, None, sym, ap, subst}
 use Rattle.std.specs.List.{Contains, sum_by}
 use Rattle.std.proofs.lemmas.List.Elements.{Contains-append_left}
 use Rattle.circuit_theory.specs.Agree.{cut}

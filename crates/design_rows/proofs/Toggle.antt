@@ -1,9 +1,9 @@
 -- The design whose latch lies on a cycle.
-use Rattle.std.proofs.Common.{◌≡◌, ℕ, true, List, [], ◌∷◌, Option, None, refl, sym, subst, arith, inl, inr, length}
+use Rattle.std.proofs.Common.{◌≡◌, ℕ, true, List, [], ◌∷◌, Option, None, refl, subst, arith, inl, inr, length}
 use Rattle.std.specs.Prelude.{codes}
 use Rattle.std.specs.List.{Contains}
 use Rattle.circuit_theory.specs.Agree.{cut}
-use Rattle.circuit_theory.specs.Circuit.{Circuit, Equation, Gate, Latch, Port, IsLatch, IsSource, InCone, Reads, Reaches}
+use Rattle.circuit_theory.specs.Circuit.{Circuit, Equation, Gate, Latch, Port, IsLatch, Reads, Reaches}
 use Rattle.circuit_theory.specs.Depth.{LatchReads, LatchPath, HasCycle}
 use Rattle.circuit_theory.specs.Run.{NoneEnabled}
 use Rattle.circuit_theory.specs.Sizes.{Weighed}

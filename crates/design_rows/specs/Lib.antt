@@ -1,3 +1,4 @@
 pub mod Designs
 pub mod Small
 pub mod Cutting
+pub mod Texts

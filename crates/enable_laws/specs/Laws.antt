@@ -6,7 +6,7 @@ use Rattle.circuit_theory.specs.Depth.{HasCycle, IsCycle, IsDepth, HasNoDepth}
 use Rattle.circuit_theory.specs.Run.{Marked}
 use Rattle.flat_net.specs.View.{NetView, circuit_of}
 use Rattle.latch_cone.specs.Cones.{MarksEnabled}
-use Rattle.latch_graph.specs.Graph.{GraphView, IsGraphIn}
+use Rattle.signal_graph.specs.Graph.{GraphView, IsGraphIn}
 use Rattle.enable_laws.specs.Enabled.{Enabling, Counts, CountTheSame}
 
 -- The depth of a place, and that it has none.

@@ -1,8 +1,15 @@
 -- The enable of the next latch.
-use Rattle.std.proofs.Common.{ℕ, length, refl}
+use Rattle.std.proofs.Common.{ℕ, false, List, length, slice_get, Some, refl, inl, inr, ◌≡◌}
+use Rattle.circuit_theory.specs.Tree.{Tree}
+use Rattle.event_theory.specs.EventFrames.{AreNodeVariables, IsClassTree}
+use Rattle.event_nodes.specs.View.{side_of, Enabled}
+use Rattle.event_variables.specs.Variables.{variables_of}
+use Rattle.event_inputs.specs.Laws.{IsEnableCareTree}
+use Rattle.event_inputs.proofs.Meaning.{enable_variables}
+use Rattle.class_extension.proofs.Sides.{sides_have_variables_in_nets}
+use Rattle.class_queries.proofs.Meaning.{numbered}
 use Rattle.circuit_theory.specs.declared.Side.{Side}
 use Rattle.circuit_theory.specs.declared.Side.TheVariants.{A, B}
-use Rattle.circuit_theory.specs.Joined.{Left, Right}
 use Rattle.circuit_theory.specs.Run.{IsEnabled}
 use Rattle.event_laws.proofs.SideParts.{sides_are_parts_in_nets}
 use Rattle.flat_net.specs.declared.parts.LatchAt.{LatchAt}
@@ -10,7 +17,6 @@ use Rattle.flat_net.specs.Cut.{latch_at}
 use Rattle.flat_net.specs.Sound.{IsSound}
 use Rattle.flat_net.specs.View.{circuit_of}
 use Rattle.flat_net.proofs.Nets.{sound_is_net}
-use Rattle.sec_base.specs.declared.basics.Tag.{Tag}
 use Rattle.event_nodes.specs.Nodes.{EventGraphView, IsEventGraph}
 use Rattle.event_nodes.specs.View.{EventCircuitView, IsEventCircuit}
 use Rattle.event_walk.specs.Walk.{enable_start}
@@ -19,7 +25,7 @@ use Rattle.event_functions.specs.Functions.{IsEnableFunctionOf}
 use Rattle.event_functions.proofs.Covering.{two_roots, own_enable_supports, care_supports}
 use Rattle.enable_compare.specs.declared.compare.Enable.{Enable}
 use Rattle.enable_compare.specs.Comparing.{IsReadyEnable}
-use Rattle.class_queries.specs.Enables.{both_of, IsEnableFunction}
+use Rattle.class_queries.specs.Enables.{both_of, class_map, IsEnableFunction}
 use Rattle.class_queries.specs.Laws.{AreKept}
 use Rattle.class_queries.proofs.Meaning.{lits_are_functions}
 use Rattle.event_classes.specs.declared.map.ClassMap.{ClassMap}
@@ -34,6 +40,26 @@ ready_enable e w l x sound kept is function = record {
   in_order = function.vars.in_order;
   covers = two_roots w is x.vars x.value.0 x.care.0 (own_enable_supports e w (enable_start l) x.vars sound kept is function.vars l x.value.0 refl function.value) (care_supports e w (enable_start l) x.vars sound kept is function.vars x.care.0 function.care);
 }
+
+-- the variables of an enable function are those of the enable and of its care
+pub own_variables : (e : EventCircuitView) (w : EventGraphView) (j : ℕ) (l : LatchAt) (x : Enable) → IsSound e.net → IsEventCircuit e → slice_get e.net.latches j ≡ Some l → Enabled e l.out.0 → IsEnableFunctionOf e w l (record { value = x.value; care = x.care; vars = x.vars }) →
+    AreNodeVariables (IsClassTree (side_of e) l.out.0 l.out.0) (variables_of w x.vars)
+own_variables e w j l x sound kept at on function =
+    let are = enable_variables e w j l false x.vars function.value.low.tree sound kept at on function.value.low.unfolds function.vars in
+    record {
+      in_order = are.in_order;
+      exactly = λ y. (λ h. let t = (are.exactly y).0 h in (t.0, to t.0 t.1, t.2), λ t. (are.exactly y).1 (t.0, from t.0 t.1, t.2));
+    }
+  where
+    to : (t : Tree (List ℕ)) → IsEnableCareTree (side_of e) l.out.0 t → IsClassTree (side_of e) l.out.0 l.out.0 t
+    to t (inl k) = inl (inl k)
+    to t (inr k) = inr (inl k)
+
+    from : (t : Tree (List ℕ)) → IsClassTree (side_of e) l.out.0 l.out.0 t → IsEnableCareTree (side_of e) l.out.0 t
+    from t (inl (inl k)) = inl k
+    from t (inl (inr k)) = inl k
+    from t (inr (inl k)) = inr k
+    from t (inr (inr k)) = inr k
 
 abbrev pub EnableSide : Side → EventCircuitView → EventCircuitView → EventGraphView → ℕ → Enable → Type 0
 EnableSide A a b w j x = IsEnableOf a w j x
@@ -52,6 +78,24 @@ enable_on B a b w j x kept within own on =
     let at = latch_there b.net j within in
     let is = own (latch_at b.net j) at in
     (lits_are_functions a b w kept).1 j (latch_at b.net j) x.value.0 x.care.0 at ((parts.1 (latch_at b.net j).out.0).1 on) is.value is.care
+
+-- and so are they of both circuits side by side
+pub own_on : (side : Side) (a b : EventCircuitView) (w : EventGraphView) (j : ℕ) (x : Enable) → AreKept a b w → IsTagOf a.net b.net (record { side = side; latch = j }) → EnableSide side a b w j x → IsEnabled (both_of a b).circuit (place_of a.net b.net (record { side = side; latch = j })) →
+    AreNodeVariables (IsClassTree (both_of a b) (place_of a.net b.net (record { side = side; latch = j })) (place_of a.net b.net (record { side = side; latch = j }))) (variables_of w x.vars)
+own_on A a b w j x kept within own on =
+    let na = sound_is_net a.net kept.left_sound in
+    let nb = sound_is_net b.net kept.right_sound in
+    let parts = sides_are_parts_in_nets (circuit_of a.net) (circuit_of b.net) (length a.net.drivers) (length b.net.drivers) na nb in
+    let at = latch_there a.net j within in
+    (sides_have_variables_in_nets (circuit_of a.net) (circuit_of b.net) (length a.net.drivers) (length b.net.drivers) a.order b.order (class_map a b) na nb (numbered a kept.left) (latch_at a.net j).out.0 (variables_of w x.vars)).0
+    (own_variables a w j (latch_at a.net j) x kept.left_sound kept.left at ((parts.0 (latch_at a.net j).out.0).1 on) (own (latch_at a.net j) at))
+own_on B a b w j x kept within own on =
+    let na = sound_is_net a.net kept.left_sound in
+    let nb = sound_is_net b.net kept.right_sound in
+    let parts = sides_are_parts_in_nets (circuit_of a.net) (circuit_of b.net) (length a.net.drivers) (length b.net.drivers) na nb in
+    let at = latch_there b.net j within in
+    (sides_have_variables_in_nets (circuit_of a.net) (circuit_of b.net) (length a.net.drivers) (length b.net.drivers) a.order b.order (class_map a b) na nb (numbered a kept.left) (latch_at b.net j).out.0 (variables_of w x.vars)).1
+    (own_variables b w j (latch_at b.net j) x kept.right_sound kept.right at ((parts.1 (latch_at b.net j).out.0).1 on) (own (latch_at b.net j) at))
 
 pub side_of_two : (side : Side) (m : ClassMap) (j : ℕ) (x : Enable) → IsEnableOn side m j x → EnableSide side m.left m.right m.events j x
 side_of_two A m j x own = own

@@ -3,4 +3,7 @@ pub mod Ready
 pub mod Setting
 pub mod NextLatch
 pub mod Enabling
+pub mod Found
 pub mod WholeMap
+pub mod Limiting
+pub mod Pairs

@@ -1,5 +1,5 @@
 -- The class map goes on with the next latch, however its class is found.
-use Rattle.std.proofs.Common.{◌≡◌, ◌∙◌, ◌<◌, ◌≤◌, ℕ, suc, List, [], ◌∷◌, ◌++◌, length, slice_get, slice_set, Some, refl, sym, ap, subst, arith, length-append}
+use Rattle.std.proofs.Common.{◌≡◌, ◌∙◌, ◌<◌, ◌≤◌, ℕ, suc, List, [], ◌∷◌, ◌++◌, length, slice_get, slice_set, Some, refl, sym, subst, arith, length-append}
 use Rattle.std.specs.Prelude.{Contains}
 use Rattle.std.specs.List.{All}
 use Rattle.std.proofs.lemmas.List.{length-set}
@@ -16,7 +16,9 @@ use Rattle.event_order.specs.Order.{IsTagOf, place_of}
 use Rattle.flat_net.proofs.Places.{All-at}
 use Rattle.enable_compare.specs.declared.compare.Enable.{Enable}
 use Rattle.enable_compare.specs.Comparing.{IsReadyEnable}
-use Rattle.class_queries.specs.Enables.{both_of, IsEnableFunction}
+use Rattle.class_extension.specs.Laws.{IsNextGiven}
+use Rattle.flat_net.specs.View.{circuit_of}
+use Rattle.class_queries.specs.Enables.{both_of, class_map, IsEnableFunction}
 use Rattle.class_queries.specs.Laws.{AreKept}
 use Rattle.class_queries.proofs.Staying.{functions_grow_with_graph}
 use Rattle.class_joining.specs.Joining.{HasJoined}
@@ -25,14 +27,24 @@ use Rattle.class_search.specs.declared.class.Class.{Class}
 use Rattle.class_search.specs.declared.search.Fit.{Fit}
 use Rattle.class_search.specs.declared.search.Fit.TheVariants as fit
 use Rattle.class_search.specs.Search.{IsFit}
-use Rattle.class_fits.specs.Members.{IsAmong, class_of_fit}
+use Rattle.class_fits.specs.Members.{IsAmong, HaveMembers, class_of_fit}
 use Rattle.class_fits.proofs.Fitting.{fit_first}
 use Rattle.event_classes.specs.declared.map.ClassMap.{ClassMap}
 use Rattle.event_classes.specs.Stand.{IsStand}
-use Rattle.event_classes.specs.Map.{IsWithin, IsMade, IsEnableAt, FitsIn, IsClassSet, GoesOn, places_in, taken_of}
+use Rattle.event_classes.specs.Map.{IsWithin, IsMade, IsEnableAt, IsOwnAt, AreToldAt, FitsIn, IsClassSet, GoesOn, places_in, taken_of}
 use Rattle.event_classes.proofs.Ready.{ready_grows}
-use Rattle.event_classes.proofs.Setting.{next_enabled, goes_on_with}
-use Rattle.event_classes.proofs.Standing.{stand_grows, classes_ready, class_within, function_moves, stand_known, stand_always, stand_joined, stand_founded}
+use Rattle.class_separations.specs.declared.apart.Apart.{Apart}
+use Rattle.class_separations.specs.Apart.{AreTakenMembers, AreToldApart}
+use Rattle.class_separations.specs.Telling.{HasKept}
+use Rattle.class_separations.proofs.Going.{told_grows, told_stays, told_joins, told_founds}
+use Rattle.class_search.specs.declared.told.Difference.{Difference}
+use Rattle.class_search.specs.declared.told.Told.{Told}
+use Rattle.event_theory.specs.Frame.{EventSide}
+use Rattle.flat_net.proofs.Nets.{some_at}
+use Rattle.circuit_theory.proofs.Lists.{Contains-head}
+use Rattle.std.proofs.lemmas.List.Elements.{Contains-append_right}
+use Rattle.event_classes.proofs.Setting.{next_enabled, goes_on_with, next_given, class_now}
+use Rattle.event_classes.proofs.Standing.{stand_grows, classes_ready, class_within, function_moves, at_set, stand_known, stand_always, stand_joined, stand_founded}
 
 -- the map is right while its event graph grows
 pub made_grows : (m n : ClassMap) → n ≡ record m { events = n.events; left_count = n.left_count; right_count = n.right_count } → IsEventGraph m.events → GrowsEvents m.events n.events → (IsWithin m → IsWithin n) → (rest : List (Either ℕ ℕ)) → IsMade m rest → IsMade n rest
@@ -41,6 +53,7 @@ made_grows m n same is grows within rest made = record {
       (stand_grows m.left m.right m.events n.events (places_in m) (taken_of m) rest m.table m.classes.items is grows (classes_ready m.events n.events m.classes.items (ready_grows m.events n.events is grows) made.stand.ready) made.stand);
   depths = subst (λ (o : ClassMap). LatchesHaveDepths (both_of o.left o.right).circuit (IsEnabled (both_of o.left o.right).circuit)) (sym same) made.depths;
   within = within made.within;
+  told = subst (λ (o : ClassMap). AreToldApart o.left o.right n.events (places_in o) (taken_of o) o.classes.items o.aparts.items) (sym same) (told_grows m.left m.right m.events n.events (places_in m) (taken_of m) m.classes.items m.aparts.items is grows made.told);
 }
 
 -- what the graph's growth keeps within its numbers, where nothing is counted
@@ -52,6 +65,16 @@ within_grows m n same rest within = record {
   classes = subst (λ (o : ClassMap). length o.classes.items ≤ 500) (sym same) within.classes;
 }
 
+-- the members of classes were taken
+members_taken : (s : EventSide (Either ℕ ℕ)) (w : EventGraphView) (place : Tag → Either ℕ ℕ) (taken : List (Either ℕ ℕ)) (classes : List Class) → HaveMembers s w place taken classes → AreTakenMembers place taken classes
+members_taken s w place taken classes have k c at_c = let h = have k c at_c in record {
+  paired = h.paired;
+  taken = λ i t at_t.
+      let x = some_at c.enables.items i (let inside = slice_get_within c.tags.items i t at_t in omega (arith, inside, h.paired)) in
+      let u = h.each i t x.0 at_t x.1 in
+      subst (λ (qs : List (Either ℕ ℕ)). Contains qs (place t)) (sym u.split) (Contains-append_right u.before (place t ∷ u.after) (place t) (Contains-head (place t) u.after));
+}
+
 -- a latch whose literals the table has
 pub known_fits : (m : ClassMap) (tag : Tag) (class : ℕ) (x : Enable) → AreKept m.left m.right m.events → IsEnableAt m tag x → Contains m.table ((x.value.0, x.care.0), class) → FitsIn m tag class
 known_fits m tag class x kept enable here rest made =
@@ -60,20 +83,33 @@ known_fits m tag class x kept enable here rest made =
 
 module _ (m n : ClassMap) (tag : Tag) (class : ℕ) (x : Enable) (kept : AreKept m.left m.right m.events) (latch : IsTagOf m.left.net m.right.net tag) (enable : IsEnableAt m tag x) (fits : FitsIn m tag class) (set : IsClassSet m.left m.right n.left n.right tag class)
     (taken : n.taken.items ≡ m.taken.items ++ tag ∷ []) (events : n.events ≡ m.events) (left_count : n.left_count ≡ m.left_count) (right_count : n.right_count ≡ m.right_count) where
+  abbrev ToldNow : List Class → List Apart → Type 0
+  ToldNow classes aparts = AreToldApart (record m.left { classes = n.left.classes }) (record m.right { classes = n.right.classes }) m.events (places_in m) (taken_of m ++ places_in m tag ∷ []) classes aparts
+
   abbrev Stands : (rest : List (Either ℕ ℕ)) → List ((ℕ × ℕ) × ℕ) → List Class → Type 0
   Stands rest table classes = IsStand n.left n.right m.events (places_in m) (taken_of m ++ places_in m tag ∷ []) rest table classes
 
   abbrev Joined : (rest : List (Either ℕ ℕ)) → Type 0
   Joined rest = HasJoined m.left m.right n.left n.right (taken_of m) rest (places_in m tag) class
 
-  on_with : ((rest : List (Either ℕ ℕ)) → IsMade m (places_in m tag ∷ rest) → Joined rest → Stands rest n.table n.classes.items) → (IsWithin m → length n.classes.items ≤ 500) → GoesOn m n tag
-  on_with stands few = goes_on_with m n tag class kept.left_sound kept.right_sound kept.left kept.right latch set taken events left_count right_count fits stands few
+  on_with : ((rest : List (Either ℕ ℕ)) → IsMade m (places_in m tag ∷ rest) → Joined rest → Stands rest n.table n.classes.items) → ((rest : List (Either ℕ ℕ)) → IsMade m (places_in m tag ∷ rest) → ToldNow n.classes.items n.aparts.items) → (IsWithin m → length n.classes.items ≤ 500) → GoesOn m n tag
+  on_with stands told few = goes_on_with m n tag class kept.left_sound kept.right_sound kept.left kept.right latch set taken events left_count right_count fits stands told few
 
   function_of : (rest : List (Either ℕ ℕ)) → IsMade m (places_in m tag ∷ rest) → IsEnableFunction (both_of m.left m.right) m.events (places_in m tag) x.value.0 x.care.0
   function_of rest made = enable (next_enabled m.left m.right (taken_of m) rest (places_in m tag) made.stand.so_far)
 
-  pub known_goes_on : Contains m.table ((x.value.0, x.care.0), class) → n.table ≡ m.table → n.classes.items ≡ m.classes.items → GoesOn m n tag
-  known_goes_on here table classes = on_with stands (λ within. subst (λ (cs : List Class). length cs ≤ 500) (sym classes) within.classes)
+  given : (rest : List (Either ℕ ℕ)) → IsMade m (places_in m tag ∷ rest) → IsNextGiven (circuit_of m.left.net) (circuit_of m.right.net) (length m.left.net.drivers) (length m.right.net.drivers) m.left.order m.right.order (class_map m.left m.right)
+      (class_map (record m.left { classes = n.left.classes }) (record m.right { classes = n.right.classes })) (taken_of m) rest (places_in m tag)
+  given rest made = next_given m n tag class kept.left_sound kept.right_sound kept.left kept.right latch set taken events left_count right_count fits rest made
+
+  -- what tells the classes so far apart
+  stays : n.classes.items ≡ m.classes.items → n.aparts.items ≡ m.aparts.items → (rest : List (Either ℕ ℕ)) → IsMade m (places_in m tag ∷ rest) → ToldNow n.classes.items n.aparts.items
+  stays classes aparts rest made =
+      subst (λ (cs : List Class). ToldNow cs n.aparts.items) (sym classes) (subst (ToldNow m.classes.items) (sym aparts)
+      (told_stays m.left m.right n.left.classes n.right.classes m.events (places_in m) (taken_of m) rest (places_in m tag) (given rest made) m.classes.items m.aparts.items (members_taken (both_of m.left m.right) m.events (places_in m) (taken_of m) m.classes.items made.stand.members) made.told))
+
+  pub known_goes_on : Contains m.table ((x.value.0, x.care.0), class) → n.table ≡ m.table → n.classes.items ≡ m.classes.items → n.aparts.items ≡ m.aparts.items → GoesOn m n tag
+  known_goes_on here table classes aparts = on_with stands (stays classes aparts) (λ within. subst (λ (cs : List Class). length cs ≤ 500) (sym classes) within.classes)
     where
       own : (rest : List (Either ℕ ℕ)) → IsMade m (places_in m tag ∷ rest) → (j : ℕ) (o : Class) → class ≡ suc j → slice_get m.classes.items j ≡ Some o → IsAmong (both_of m.left m.right) m.events o.enables.items (length o.enables.items) (places_in m tag)
       own rest made j o e at =
@@ -92,28 +128,38 @@ module _ (m n : ClassMap) (tag : Tag) (class : ℕ) (x : Enable) (kept : AreKept
           (stand_known m.left m.right n.left n.right m.events (places_in m) (taken_of m) rest tag class m.table m.classes.items joined made.stand (low rest made) (own rest made)))
 
   module _ (table : n.table ≡ m.table ++ ((x.value.0, x.care.0), class) ∷ []) where
-    pub always_goes_on : class ≡ 0 → n.classes.items ≡ m.classes.items → GoesOn m n tag
-    always_goes_on none classes =
+    pub always_goes_on : class ≡ 0 → n.classes.items ≡ m.classes.items → n.aparts.items ≡ m.aparts.items → GoesOn m n tag
+    always_goes_on none classes aparts =
         on_with
         (λ rest made joined. subst (λ (es : List ((ℕ × ℕ) × ℕ)). Stands rest es n.classes.items) (sym table) (subst (Stands rest (m.table ++ ((x.value.0, x.care.0), class) ∷ [])) (sym classes)
         (stand_always m.left m.right n.left n.right m.events (places_in m) (taken_of m) rest tag class m.table m.classes.items joined made.stand x (function_of rest made) none)))
+        (stays classes aparts)
         (λ within. subst (λ (cs : List Class). length cs ≤ 500) (sym classes) within.classes)
 
-    pub class_goes_on : (at : ℕ) (o p : Class) → class ≡ suc at → slice_get m.classes.items at ≡ Some o → p.tags.items ≡ o.tags.items ++ tag ∷ [] → p.enables.items ≡ o.enables.items ++ x ∷ [] → IsReadyEnable m.events x → n.classes.items ≡ slice_set m.classes.items at p → GoesOn m n tag
-    class_goes_on at o p is at_o tags enables ready classes =
+    pub class_goes_on : (at : ℕ) (o p : Class) → class ≡ suc at → slice_get m.classes.items at ≡ Some o → p.tags.items ≡ o.tags.items ++ tag ∷ [] → p.enables.items ≡ o.enables.items ++ x ∷ [] → IsReadyEnable m.events x → IsOwnAt m tag x → n.classes.items ≡ slice_set m.classes.items at p → n.aparts.items ≡ m.aparts.items → GoesOn m n tag
+    class_goes_on at o p is at_o tags enables ready own classes aparts =
         on_with
         (λ rest made joined. subst (λ (es : List ((ℕ × ℕ) × ℕ)). Stands rest es n.classes.items) (sym table) (subst (Stands rest (m.table ++ ((x.value.0, x.care.0), class) ∷ [])) (sym classes)
         (stand_joined m.left m.right n.left n.right m.events (places_in m) (taken_of m) rest tag class m.table m.classes.items joined made.stand x (function_of rest made) at o p is at_o tags enables
         (subst (All (IsReadyEnable m.events)) (sym enables) (All-push (IsReadyEnable m.events) o.enables.items x (All-at (λ (q : Class). All (IsReadyEnable m.events) q.enables.items) m.classes.items at o at_o made.stand.ready) ready)))))
+        (λ rest made. subst (λ (cs : List Class). ToldNow cs n.aparts.items) (sym classes) (subst (ToldNow (slice_set m.classes.items at p)) (sym aparts)
+        (told_joins m.left m.right n.left.classes n.right.classes m.events (places_in m) (taken_of m) rest (places_in m tag) (given rest made) m.classes.items m.aparts.items (members_taken (both_of m.left m.right) m.events (places_in m) (taken_of m) m.classes.items made.stand.members) made.told
+        tag refl x ready.in_order.within (own (next_enabled m.left m.right (taken_of m) rest (places_in m tag) made.stand.so_far)) at o p at_o tags enables (length-set m.classes.items at p) (at_set m.classes.items at p))))
         (λ within. subst (λ (cs : List Class). length cs ≤ 500) (sym classes) (omega (arith, within.classes, length-set m.classes.items at p)))
 
-    pub founded_goes_on : (o p : Class) → class ≡ suc (length m.classes.items) → length m.classes.items < 500 → o.tags.items ≡ [] → o.enables.items ≡ [] → p.tags.items ≡ o.tags.items ++ tag ∷ [] → p.enables.items ≡ o.enables.items ++ x ∷ [] → IsReadyEnable m.events x →
+    pub founded_goes_on : (o p : Class) → class ≡ suc (length m.classes.items) → length m.classes.items < 500 → o.tags.items ≡ [] → o.enables.items ≡ [] → p.tags.items ≡ o.tags.items ++ tag ∷ [] → p.enables.items ≡ o.enables.items ++ x ∷ [] → IsReadyEnable m.events x → IsOwnAt m tag x → (always : Difference) (told : List Told) → AreToldAt m tag always told → HasKept m.events m.classes.items tag always told m.aparts.items n.aparts.items →
         n.classes.items ≡ m.classes.items ++ p ∷ [] → GoesOn m n tag
-    founded_goes_on o p is few no_tags no_enables tags enables ready classes =
+    founded_goes_on o p is few no_tags no_enables tags enables ready own always told tells keeps classes =
         on_with
         (λ rest made joined. subst (λ (es : List ((ℕ × ℕ) × ℕ)). Stands rest es n.classes.items) (sym table) (subst (Stands rest (m.table ++ ((x.value.0, x.care.0), class) ∷ [])) (sym classes)
         (stand_founded m.left m.right n.left n.right m.events (places_in m) (taken_of m) rest tag class m.table m.classes.items joined made.stand x (function_of rest made) o p is no_tags no_enables tags enables
         (subst (All (IsReadyEnable m.events)) (sym enables) (All-push (IsReadyEnable m.events) o.enables.items x (subst (All (IsReadyEnable m.events)) (sym no_enables) (All-nil (IsReadyEnable m.events))) ready)))))
+        (λ rest made.
+        let now = class_now m n tag class kept.left_sound kept.right_sound kept.left kept.right latch set taken events left_count right_count fits rest made in
+        subst (λ (cs : List Class). ToldNow cs n.aparts.items) (sym classes)
+        (told_founds m.left m.right n.left.classes n.right.classes m.events (places_in m) (taken_of m) rest (places_in m tag) (given rest made) m.classes.items m.aparts.items (members_taken (both_of m.left m.right) m.events (places_in m) (taken_of m) m.classes.items made.stand.members) made.told
+        tag refl x ready.in_order.within (own (next_enabled m.left m.right (taken_of m) rest (places_in m tag) made.stand.so_far)) (now ∙ is)
+        (λ u h. let low = class_within m.left m.right (taken_of m) m.classes.items made.stand.number u h in omega (arith, low, now, is)) always told (tells.1 rest made) n.aparts.items keeps o p no_tags no_enables tags enables))
         (λ within. subst (λ (cs : List Class). length cs ≤ 500) (sym classes) (omega (arith, few, length-append m.classes.items (p ∷ []))))
 
 -- the latch is one where the circuits are the same

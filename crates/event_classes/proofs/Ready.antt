@@ -1,32 +1,22 @@
 -- Enables stay ready while the event graph grows.
-use Rattle.std.proofs.Common.{◌≡◌, ◌∙◌, ◌<◌, ℕ, List, [], ◌++◌, length, get_or, refl, sym, ap, subst, arith, length-append}
-use Rattle.std.specs.List.{All, AllPairs}
-use Rattle.std.proofs.lemmas.List.{get_or_append_left}
+use Rattle.std.proofs.Common.{◌<◌, ℕ, List, length, get_or, sym, ap, subst, arith, length-append}
 use Rattle.std.proofs.lemmas.List.Elements.{All-weaker, All-get_or}
 use Rattle.circuit_theory.specs.Query.{Variable}
-use Rattle.circuit_theory.proofs.Lists.{length-map}
 use Rattle.event_theory.specs.Frame.{NodeBefore}
-use Rattle.event_nodes.specs.Nodes.{EventGraphView, IsEventGraph, GrowsEvents, named_places, path_of}
-use Rattle.event_nodes.proofs.Paths.{named_grows}
-use Rattle.event_variables.specs.Variables.{AreInOrder, GoesBefore, variable_of}
+use Rattle.event_nodes.specs.Nodes.{EventGraphView, IsEventGraph, GrowsEvents}
+use Rattle.event_variables.specs.Variables.{AreInOrder, variable_of}
 use Rattle.enable_compare.specs.declared.compare.Enable.{Enable}
 use Rattle.enable_compare.specs.Comparing.{IsReadyEnable}
 use Rattle.enable_compare.proofs.Queries.{ready_later}
+use Rattle.class_separations.proofs.Variables.{variable_same}
 
 module _ (w x : EventGraphView) (is : IsEventGraph w) (grows : GrowsEvents w x) where
-  variable_same : (v : ℕ) → v < length w.places → variable_of x v ≡ variable_of w v
-  variable_same v inside =
-      let more = named_grows w x is grows in
-      let long : length (named_places w) ≡ length w.places = length-map (λ (p : ℕ × ℕ). (p.0, path_of w.children p.1)) w.places in
-      let at : v < length (named_places w) = omega (arith, inside, long) in
-      ap (λ (p : ℕ × List ℕ). let y : Variable (List ℕ) = record { input = p.0; at = p.1 } in y) (ap (λ (ps : List (ℕ × List ℕ)). get_or ps v (0, [])) more.1 ∙ get_or_append_left (named_places w) more.0 (0, []) v at)
-
   order_later : (vars : List ℕ) → AreInOrder w vars → AreInOrder x vars
   order_later vars in_order = record {
     within = All-weaker (λ v. v < length w.places) (λ v. v < length x.places) (λ v h. let e = ap length grows.places.1 in omega (arith, h, e, length-append w.places grows.places.0)) vars in_order.within;
     ordered = λ i j d below inside.
-        subst (λ (y : Variable (List ℕ)). NodeBefore y (variable_of x (get_or vars j d))) (sym (variable_same (get_or vars i d) (All-get_or (λ v. v < length w.places) vars i d (omega (arith, below, inside)) in_order.within)))
-        (subst (NodeBefore (variable_of w (get_or vars i d))) (sym (variable_same (get_or vars j d) (All-get_or (λ v. v < length w.places) vars j d inside in_order.within))) (in_order.ordered i j d below inside));
+        subst (λ (y : Variable (List ℕ)). NodeBefore y (variable_of x (get_or vars j d))) (sym (variable_same w x is grows (get_or vars i d) (All-get_or (λ v. v < length w.places) vars i d (omega (arith, below, inside)) in_order.within)))
+        (subst (NodeBefore (variable_of w (get_or vars i d))) (sym (variable_same w x is grows (get_or vars j d) (All-get_or (λ v. v < length w.places) vars j d inside in_order.within))) (in_order.ordered i j d below inside));
   }
 
   pub ready_grows : (e : Enable) → IsReadyEnable w e → IsReadyEnable x e

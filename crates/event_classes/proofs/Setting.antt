@@ -1,6 +1,5 @@
 -- The next latch is given its class.
-use Rattle.std.proofs.Common.{◌≡◌, ◌∙◌, ◌<◌, ◌≤◌, ℕ, List, [], ◌∷◌, ◌++◌, length, map, slice_get, Some, refl, sym, ap, subst}
-use Rattle.std.specs.Prelude.{Contains}
+use Rattle.std.proofs.Common.{◌≡◌, ◌≢◌, ◌∙◌, ◌<◌, ◌≤◌, ℕ, List, [], ◌∷◌, ◌++◌, length, map, slice_get, Some, sym, ap, subst}
 use Rattle.std.proofs.lemmas.List.{map-append}
 use Rattle.std.proofs.lemmas.List.Elements.{Contains-append_right}
 use Rattle.std.proofs.lemmas.Option.{slice_get-get_or}
@@ -12,19 +11,22 @@ use Rattle.circuit_theory.specs.Run.{IsEnabled}
 use Rattle.circuit_theory.proofs.Lists.{Contains-head}
 use Rattle.event_theory.specs.EventTotals.{IsMapSoFar}
 use Rattle.event_laws.specs.ClassSteps.{IsFirstFit}
-use Rattle.flat_net.specs.declared.parts.LatchAt.{LatchAt}
 use Rattle.flat_net.specs.Cut.{latch_at, no_latch}
 use Rattle.flat_net.specs.Sound.{IsSound}
 use Rattle.flat_net.specs.View.{NetView, circuit_of}
 use Rattle.sec_base.specs.declared.basics.Tag.{Tag}
 use Rattle.event_nodes.specs.Nodes.{EventGraphView}
 use Rattle.event_nodes.specs.View.{EventCircuitView, IsEventCircuit}
-use Rattle.event_nodes.specs.Visited.{CounterView, IsWeighed}
+use Rattle.event_nodes.specs.Visited.{IsWeighed}
 use Rattle.event_order.specs.Order.{place_of, IsTagOf}
-use Rattle.class_queries.specs.Enables.{both_of}
+use Rattle.class_queries.specs.Enables.{both_of, class_map}
 use Rattle.class_joining.specs.Joining.{with_class, HasJoined}
+use Rattle.class_joining.proofs.Classes.{class_kept}
 use Rattle.class_joining.proofs.Giving.{class_given}
-use Rattle.class_search.specs.declared.class.Class.{Class}
+use Rattle.class_extension.specs.Laws.{IsNextGiven}
+use Rattle.class_separations.specs.Apart.{AreToldApart}
+use Rattle.flat_net.proofs.Nets.{sound_is_net}
+use Rattle.event_nodes.specs.View.{class_at}
 use Rattle.event_classes.specs.declared.map.ClassMap.{ClassMap}
 use Rattle.event_classes.specs.Stand.{IsStand}
 use Rattle.event_classes.specs.Map.{IsWithin, IsMade, FitsIn, IsSetOn, IsClassSet, GoesOn, places_in, taken_of}
@@ -49,6 +51,16 @@ joined_at B a b c d j class sound_a sound_b kept_a kept_b depths taken rest with
 circuits_same : (side : Side) (a b c d : EventCircuitView) (j class : ℕ) → IsSetOn side a b c d j class → (c ≡ record a { classes = c.classes }) × (d ≡ record b { classes = d.classes })
 circuits_same A a b c d j class set = (set.0 ∙ ap (λ (ks : List ℕ). record a { classes = ks }) (sym (ap (λ (e : EventCircuitView). e.classes) set.0)), set.1 ∙ ap (λ (ks : List ℕ). record b { classes = ks }) (sym (ap (λ (e : EventCircuitView). e.classes) set.1)))
 circuits_same B a b c d j class set = (set.0 ∙ ap (λ (ks : List ℕ). record a { classes = ks }) (sym (ap (λ (e : EventCircuitView). e.classes) set.0)), set.1 ∙ ap (λ (ks : List ℕ). record b { classes = ks }) (sym (ap (λ (e : EventCircuitView). e.classes) set.1)))
+
+-- all other latches keep their classes
+others_set : (side : Side) (a b c d : EventCircuitView) (j class : ℕ) → IsTagOf a.net b.net (record { side = side; latch = j }) → IsSetOn side a b c d j class → (u : Either ℕ ℕ) → u ≢ place_of a.net b.net (record { side = side; latch = j }) →
+    class_map a b u ≡ class_map (record a { classes = c.classes }) (record b { classes = d.classes }) u
+others_set A a b c d j class within set (Left p) apart =
+    sym (ap (λ (ks : List ℕ). class_at a.net.latches ks p) (ap (λ (e : EventCircuitView). e.classes) set.0) ∙ class_kept a.net.latches a.classes j class (latch_at a.net j) p (latch_there a.net j within) (λ e. apart (ap Left (sym e))))
+others_set A a b c d j class within set (Right q) apart = sym (ap (λ (ks : List ℕ). class_at b.net.latches ks q) (ap (λ (e : EventCircuitView). e.classes) set.1))
+others_set B a b c d j class within set (Left p) apart = sym (ap (λ (ks : List ℕ). class_at a.net.latches ks p) (ap (λ (e : EventCircuitView). e.classes) set.0))
+others_set B a b c d j class within set (Right q) apart =
+    sym (ap (λ (ks : List ℕ). class_at b.net.latches ks q) (ap (λ (e : EventCircuitView). e.classes) set.1) ∙ class_kept b.net.latches b.classes j class (latch_at b.net j) q (latch_there b.net j within) (λ e. apart (ap Right (sym e))))
 
 -- the next latch is enabled
 pub next_enabled : (a b : EventCircuitView) (taken rest : List (Either ℕ ℕ)) (u : Either ℕ ℕ) → IsMapSoFar (both_of a b) taken (u ∷ rest) → IsEnabled (both_of a b).circuit u
@@ -76,9 +88,27 @@ module _ (m n : ClassMap) (tag : Tag) (class : ℕ) (sound_a : IsSound m.left.ne
   joined_next rest made =
       joined_at tag.side m.left m.right n.left n.right tag.latch class sound_a sound_b kept_a kept_b made.depths (taken_of m) rest latch set made.stand.so_far (fits rest made)
 
+  -- what the class map goes on from and to
+  pub next_given : (rest : List (Either ℕ ℕ)) → IsMade m (places_in m tag ∷ rest) → IsNextGiven (circuit_of m.left.net) (circuit_of m.right.net) (length m.left.net.drivers) (length m.right.net.drivers) m.left.order m.right.order (class_map m.left m.right)
+      (class_map (record m.left { classes = n.left.classes }) (record m.right { classes = n.right.classes })) (taken_of m) rest (places_in m tag)
+  next_given rest made = record {
+    left_net = sound_is_net m.left.net sound_a;
+    right_net = sound_is_net m.right.net sound_b;
+    depths = made.depths;
+    map = made.stand.so_far;
+    others = others_set tag.side m.left m.right n.left n.right tag.latch class latch set;
+  }
+
+  pub class_now : (rest : List (Either ℕ ℕ)) → IsMade m (places_in m tag ∷ rest) → class_map (record m.left { classes = n.left.classes }) (record m.right { classes = n.right.classes }) (places_in m tag) ≡ class
+  class_now rest made =
+      subst (λ (e : EventCircuitView). class_map e (record m.right { classes = n.right.classes }) (places_in m tag) ≡ class) same.0
+      (subst (λ (e : EventCircuitView). class_map n.left e (places_in m tag) ≡ class) same.1 (joined_next rest made).class_is)
+
   pub goes_on_with : ((rest : List (Either ℕ ℕ)) → IsMade m (places_in m tag ∷ rest) → HasJoined m.left m.right n.left n.right (taken_of m) rest (places_in m tag) class →
-      IsStand n.left n.right m.events (places_in m) (taken_of m ++ places_in m tag ∷ []) rest n.table n.classes.items) → (IsWithin m → length n.classes.items ≤ 500) → GoesOn m n tag
-  goes_on_with stands few = record {
+      IsStand n.left n.right m.events (places_in m) (taken_of m ++ places_in m tag ∷ []) rest n.table n.classes.items) →
+      ((rest : List (Either ℕ ℕ)) → IsMade m (places_in m tag ∷ rest) → AreToldApart (record m.left { classes = n.left.classes }) (record m.right { classes = n.right.classes }) m.events (places_in m) (taken_of m ++ places_in m tag ∷ []) n.classes.items n.aparts.items) →
+      (IsWithin m → length n.classes.items ≤ 500) → GoesOn m n tag
+  goes_on_with stands told few = record {
     left = same.0;
     right = same.1;
     taken = taken;
@@ -95,6 +125,11 @@ module _ (m n : ClassMap) (tag : Tag) (class : ℕ) (sound_a : IsSound m.left.ne
         nodes = subst (λ (w : EventGraphView). length w.children < 10000) (sym events) made.within.nodes;
         classes = few made.within;
       };
+      told = subst (λ (w : EventGraphView). AreToldApart n.left n.right w (places_in n) (taken_of n) n.classes.items n.aparts.items) (sym events)
+          (subst (λ (place : Tag → Either ℕ ℕ). AreToldApart n.left n.right m.events place (taken_of n) n.classes.items n.aparts.items) (sym places_same)
+          (subst (λ (us : List (Either ℕ ℕ)). AreToldApart n.left n.right m.events (places_in m) us n.classes.items n.aparts.items) (sym taken_same)
+          (subst (λ (e : EventCircuitView). AreToldApart e n.right m.events (places_in m) (taken_of m ++ places_in m tag ∷ []) n.classes.items n.aparts.items) (sym same.0)
+          (subst (λ (e : EventCircuitView). AreToldApart (record m.left { classes = n.left.classes }) e m.events (places_in m) (taken_of m ++ places_in m tag ∷ []) n.classes.items n.aparts.items) (sym same.1) (told rest made)))));
     };
   }
 

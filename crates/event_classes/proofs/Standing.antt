@@ -1,6 +1,6 @@
 -- A class map goes on.
-use Rattle.std.proofs.Common.{◌≡◌, ◌≢◌, ◌∙◌, ◌+◌, ◌<◌, ◌≤◌, ℕ, zero, suc, max, Bool, true, false, List, [], ◌∷◌, ◌++◌, length, slice_get, slice_set, Some, refl, sym, ap, subst, arith, inl, inr, length-append}
-use Rattle.std.specs.Prelude.{◌⊎◌, ◌↔◌, Contains}
+use Rattle.std.proofs.Common.{◌≡◌, ◌≢◌, ◌∙◌, ◌+◌, ◌≤◌, ℕ, zero, suc, max, Bool, List, [], ◌∷◌, ◌++◌, length, slice_get, slice_set, Some, refl, sym, ap, subst, arith, inl, inr, length-append}
+use Rattle.std.specs.Prelude.{◌⊎◌, Contains}
 use Rattle.std.specs.List.{All}
 use Rattle.std.proofs.lemmas.List.{length-set}
 use Rattle.std.proofs.lemmas.List.Elements.{All-weaker, All-set, All-push}
@@ -8,15 +8,13 @@ use Rattle.std.proofs.lemmas.Option.{slice_get_within}
 use Rattle.circuit_theory.specs.Joined.{Either}
 use Rattle.circuit_theory.specs.Run.{IsEnabled}
 use Rattle.circuit_laws.proofs.JoinedParts.{joined_single, joined_number_once}
-use Rattle.event_theory.specs.Frame.{EventSide}
-use Rattle.event_theory.specs.Classes.{EnableCare, EnableAtRoot, classes_of}
+use Rattle.event_theory.specs.Classes.{EnableAtRoot, classes_of}
 use Rattle.event_laws.proofs.ClassMaps.{fold_each}
 use Rattle.event_laws.proofs.EventTrees.{one_enable}
 use Rattle.flat_net.specs.View.{circuit_of}
 use Rattle.flat_net.proofs.CutNets.{slice_get-append_cases}
 use Rattle.flat_net.proofs.Nets.{sound_is_net}
 use Rattle.flat_net.proofs.Places.{one_at}
-use Rattle.aig.specs.Values.{value}
 use Rattle.sec_base.specs.declared.basics.Tag.{Tag}
 use Rattle.event_nodes.specs.Nodes.{EventGraphView, IsEventGraph, GrowsEvents}
 use Rattle.event_nodes.specs.View.{EventCircuitView}
@@ -25,12 +23,11 @@ use Rattle.enable_compare.specs.Comparing.{IsReadyEnable}
 use Rattle.class_queries.specs.Enables.{both_of, IsEnableFunction}
 use Rattle.class_queries.specs.Laws.{AreKept}
 use Rattle.class_queries.proofs.Meaning.{numbered}
-use Rattle.class_queries.proofs.Frames.{assignment_of, takes_frame}
 use Rattle.class_joining.specs.Joining.{HasJoined, AreKnownEnables}
 use Rattle.class_joining.proofs.Tables.{goes_on, grows_on}
 use Rattle.class_search.specs.declared.class.Class.{Class}
 use Rattle.class_search.specs.Search.{AreReadyClasses}
-use Rattle.class_fits.specs.Members.{IsAmong, HasMembers, HaveMembers}
+use Rattle.class_fits.specs.Members.{IsAmong, HasMembers}
 use Rattle.class_fits.proofs.Members.{members_grow_on, members_stay_on, members_join_on}
 use Rattle.event_classes.specs.Stand.{IsStand}
 
@@ -73,7 +70,7 @@ function_moves a b w kept u v enable care x f g own = record {
         one_enable (both_of a b) (IsEnabled (both_of a b).circuit) (joined_single (circuit_of a.net) (circuit_of b.net) (length a.net.drivers) (length b.net.drivers) na nb)
         (λ r i j l e. joined_number_once (circuit_of a.net) (circuit_of b.net) (length a.net.drivers) (length b.net.drivers) na nb a.order b.order (numbered a kept.left) r i j l e) bits p [] y z h k
 
-at_set : (cs : List Class) (at : ℕ) (n : Class) (j : ℕ) (m : Class) → slice_get (slice_set cs at n) j ≡ Some m → ((j ≡ at) × (m ≡ n)) ⊎ ((j ≢ at) × (slice_get cs j ≡ Some m))
+pub at_set : (cs : List Class) (at : ℕ) (n : Class) (j : ℕ) (m : Class) → slice_get (slice_set cs at n) j ≡ Some m → ((j ≡ at) × (m ≡ n)) ⊎ ((j ≢ at) × (slice_get cs j ≡ Some m))
 at_set [] at n j m h = inr ((λ e. none j h), h)
   where
     none : (i : ℕ) → slice_get [] i ≡ Some m → ⊥

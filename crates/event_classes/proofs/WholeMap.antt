@@ -14,14 +14,15 @@ use Rattle.flat_net.specs.View.{NetView, circuit_of}
 use Rattle.sec_base.specs.declared.basics.Tag.{Tag}
 use Rattle.event_nodes.specs.Nodes.{EventGraphView}
 use Rattle.event_nodes.specs.View.{EventCircuitView, IsEventCircuit, Enabled}
-use Rattle.event_nodes.specs.Visited.{CounterView, IsWeighed}
+use Rattle.event_nodes.specs.Visited.{IsWeighed}
 use Rattle.event_order.specs.Order.{place_of, IsTagOf, IsTagOrder}
 use Rattle.enable_compare.specs.Comparing.{IsReadyEnable}
 use Rattle.class_queries.specs.Enables.{both_of}
 use Rattle.class_joining.proofs.Bounds.{depths_of_both, map_begins, map_ends}
 use Rattle.class_search.specs.declared.class.Class.{Class}
-use Rattle.class_search.specs.Search.{AreReadyClasses}
 use Rattle.event_classes.specs.declared.map.ClassMap.{ClassMap}
+use Rattle.class_separations.specs.declared.apart.Apart.{Apart}
+use Rattle.class_separations.specs.Apart.{AreToldApart}
 use Rattle.event_classes.specs.Stand.{IsStand}
 use Rattle.event_classes.specs.Map.{IsMade, GoesOn, IsBegun, IsMadeTo, IsClassMapOf, places_in, taken_of}
 
@@ -85,6 +86,9 @@ made_first a b m tags sound_a sound_b left right order left_none right_none begu
       nodes = subst (λ (w : EventGraphView). length w.children < 10000) (sym begun.events) (omega arith);
       classes = subst (λ (cs : List Class). length cs ≤ 500) (sym begun.classes) (omega arith);
     };
+    told = subst (λ (cs : List Class). AreToldApart m.left m.right m.events (places_in m) (taken_of m) cs m.aparts.items) (sym begun.classes)
+        (subst (λ (xs : List Apart). AreToldApart m.left m.right m.events (places_in m) (taken_of m) [] xs) (sym begun.aparts)
+        (record { own = λ k i c t x at at_t at_x. absurd (none_at k c at); apart = record { long = refl; each = λ low high below within. absurd (omega (arith, below, within)) } }));
   };
 }
   where

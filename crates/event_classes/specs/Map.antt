@@ -19,6 +19,14 @@ use Rattle.enable_compare.specs.declared.compare.Enable.{Enable}
 use Rattle.class_queries.specs.Enables.{both_of, IsEnableFunction}
 use Rattle.class_joining.specs.Joining.{with_class}
 use Rattle.event_classes.specs.declared.map.ClassMap.{ClassMap}
+use Rattle.event_theory.specs.EventFrames.{AreNodeVariables, IsClassTree}
+use Rattle.event_variables.specs.Variables.{variables_of}
+use Rattle.class_search.specs.declared.search.Fit.{Fit}
+use Rattle.class_search.specs.declared.search.Fit.TheVariants as fit
+use Rattle.class_search.specs.declared.told.Difference.{Difference}
+use Rattle.class_search.specs.declared.told.Told.{Told}
+use Rattle.class_separations.specs.Apart.{AreToldApart, AreToldOf}
+use Rattle.class_separations.specs.Telling.{AreToldIn}
 use Rattle.event_classes.specs.Stand.{IsStand}
 
 -- all that was counted is within its numbers
@@ -41,6 +49,7 @@ pub record IsMade (m : ClassMap) (rest : List (Either ℕ ℕ)) : Type 0 where
   pub stand : IsStand m.left m.right m.events (places_in m) (taken_of m) rest m.table m.classes.items
   pub depths : LatchesHaveDepths (both_of m.left m.right).circuit (IsEnabled (both_of m.left m.right).circuit)
   pub within : IsWithin m
+  pub told : AreToldApart m.left m.right m.events (places_in m) (taken_of m) m.classes.items m.aparts.items
 
 -- it is the enable of the latch with this position
 abbrev pub IsEnableOf : EventCircuitView → EventGraphView → ℕ → Enable → Type 0
@@ -55,6 +64,10 @@ IsEnableOn B m j x = IsEnableOf m.right m.events j x
 abbrev pub IsEnableAt : ClassMap → Tag → Enable → Type 0
 IsEnableAt m tag x = IsEnabled (both_of m.left m.right).circuit (places_in m tag) → IsEnableFunction (both_of m.left m.right) m.events (places_in m tag) x.value.0 x.care.0
 
+-- its variables are those of the enable
+abbrev pub IsOwnAt : ClassMap → Tag → Enable → Type 0
+IsOwnAt m tag x = IsEnabled (both_of m.left m.right).circuit (places_in m tag) → AreNodeVariables (IsClassTree (both_of m.left m.right) (places_in m tag) (places_in m tag)) (variables_of m.events x.vars)
+
 -- no earlier latch has its literals
 abbrev pub IsAbsent : ClassMap → Enable → Type 0
 IsAbsent m x = Contains (map (λ e. e.0) m.table) (x.value.0, x.care.0) → ⊥
@@ -62,6 +75,18 @@ IsAbsent m x = Contains (map (λ e. e.0) m.table) (x.value.0, x.care.0) → ⊥
 -- the class is the latch's first fit
 abbrev pub FitsIn : ClassMap → Tag → ℕ → Type 0
 FitsIn m tag class = (rest : List (Either ℕ ℕ)) → IsMade m (places_in m tag ∷ rest) → IsFirstFit (both_of m.left m.right) (taken_of m) (places_in m tag) class
+
+-- what tells the latch from `always` and from each class
+abbrev pub AreToldAt : ClassMap → Tag → Difference → List Told → Type 0
+AreToldAt m tag always told =
+    AreToldIn m.events m.classes.items told
+    × ((rest : List (Either ℕ ℕ)) → IsMade m (places_in m tag ∷ rest) → AreToldOf (both_of m.left m.right) m.events (places_in m) (taken_of m) (places_in m tag) m.classes.items always told)
+
+-- the same, where it founds a class
+abbrev pub AreToldBy : ClassMap → Tag → Fit → Type 0
+AreToldBy m tag fit.Always = Unit {0}
+AreToldBy m tag (fit.Joins place) = Unit {0}
+AreToldBy m tag (fit.Founds always told) = AreToldAt m tag always told.items
 
 -- the latch was given the class
 abbrev pub IsSetOn : Side → EventCircuitView → EventCircuitView → EventCircuitView → EventCircuitView → ℕ → ℕ → Type 0
@@ -87,6 +112,7 @@ pub record IsBegun (a b : EventCircuitView) (m : ClassMap) : Type 0 where
   pub right_count : m.right_count ≡ record { places = []; weight = 0 }
   pub table : m.table ≡ []
   pub classes : m.classes.items ≡ []
+  pub aparts : m.aparts.items ≡ []
   pub taken : m.taken.items ≡ []
 
 -- the first of these latches have their classes

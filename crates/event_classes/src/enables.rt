@@ -1,11 +1,14 @@
 //! The enable of the next latch.
 
-ghost use Rattle.std.specs.Prelude.{◌≡◌, ◌<◌, length, IfOk, OnOk};
+ghost use Rattle.std.specs.Prelude.{◌≡◌, ◌<◌, length, Option, Err, IfOk, OnOk};
 ghost use Rattle.event_nodes.specs.Nodes.{GrowsEvents};
 ghost use Rattle.event_nodes.specs.Visited.{IsWeighed};
 ghost use Rattle.enable_compare.specs.Comparing.{IsReadyEnable};
 ghost use Rattle.event_order.specs.Order.{IsTagOf};
-ghost use Rattle.event_classes.specs.Map.{IsWithin, IsEnableOf, IsEnableAt, IsEnableOn};
+ghost use Rattle.pair_decide.specs.declared.query.Proof.{Proof};
+ghost use Rattle.sec_base.specs.declared.basics.Tag.{Tag};
+ghost use Rattle.event_classes.specs.declared.error.EventError.TheVariants as event_error;
+ghost use Rattle.event_classes.specs.Map.{IsWithin, IsEnableOf, IsEnableAt, IsOwnAt, IsEnableOn};
 
 use crate::error::EventError;
 use crate::map::ClassMap;
@@ -20,9 +23,11 @@ pub(crate) fn next_enable(alloc: Global, map: &mut ClassMap, tag: Tag) -> Result
     requires latch { IsTagOf map.old.left.net map.old.right.net tag }
     requires within { IsWithin map.old }
     ensures enable { IfOk result (IsEnableAt map.new tag) }
+    ensures own { IfOk result (IsOwnAt map.new tag) }
     ensures ready { IfOk result (IsReadyEnable map.new.events) }
     ensures within { OnOk result (IsWithin map.new) }
     ensures grows { OnOk result (GrowsEvents map.old.events map.new.events) }
+    ensures limit { (latch : Tag) (other : Option Tag) (proof : Proof) → result ≡ Err (event_error.Limit latch other proof) → ⊥ }
     ensures same { map.new ≡ record map.old { events = map.new.events; left_count = map.new.left_count; right_count = map.new.right_count } }
 {
     let made = side_enable(alloc, map, tag)?;
@@ -40,6 +45,7 @@ fn side_enable(alloc: Global, map: &mut ClassMap, tag: Tag) -> Result<Enable, Ev
     ensures ready { IfOk result (IsReadyEnable map.new.events) }
     ensures within { OnOk result (IsWithin map.new) }
     ensures grows { OnOk result (GrowsEvents map.old.events map.new.events) }
+    ensures limit { (latch : Tag) (other : Option Tag) (proof : Proof) → result ≡ Err (event_error.Limit latch other proof) → ⊥ }
     ensures same { map.new ≡ record map.old { events = map.new.events; left_count = map.new.left_count; right_count = map.new.right_count } }
 {
     match tag.side {
@@ -56,6 +62,7 @@ fn left_enable(alloc: Global, map: &mut ClassMap, j: u32) -> Result<Enable, Even
     ensures ready { IfOk result (IsReadyEnable map.new.events) }
     ensures within { OnOk result (IsWithin map.new) }
     ensures grows { OnOk result (GrowsEvents map.old.events map.new.events) }
+    ensures limit { (latch : Tag) (other : Option Tag) (proof : Proof) → result ≡ Err (event_error.Limit latch other proof) → ⊥ }
     ensures same { map.new ≡ record map.old { events = map.new.events; left_count = map.new.left_count; right_count = map.new.right_count } }
 {
     match enable_of(alloc, &map.left, &mut map.events, &mut map.left_count, j) {
@@ -72,6 +79,7 @@ fn right_enable(alloc: Global, map: &mut ClassMap, j: u32) -> Result<Enable, Eve
     ensures ready { IfOk result (IsReadyEnable map.new.events) }
     ensures within { OnOk result (IsWithin map.new) }
     ensures grows { OnOk result (GrowsEvents map.old.events map.new.events) }
+    ensures limit { (latch : Tag) (other : Option Tag) (proof : Proof) → result ≡ Err (event_error.Limit latch other proof) → ⊥ }
     ensures same { map.new ≡ record map.old { events = map.new.events; left_count = map.new.left_count; right_count = map.new.right_count } }
 {
     match enable_of(alloc, &map.right, &mut map.events, &mut map.right_count, j) {
@@ -81,7 +89,9 @@ fn right_enable(alloc: Global, map: &mut ClassMap, j: u32) -> Result<Enable, Eve
 }
 
 /// The refusal of a latch of this circuit.
-fn refusal(side: Side, error: EventUnfoldError) -> EventError {
+fn refusal(side: Side, error: EventUnfoldError) -> EventError
+    ensures { (latch : Tag) (other : Option Tag) (proof : Proof) → result ≡ event_error.Limit latch other proof → ⊥ }
+{
     match error {
         EventUnfoldError::TooManyEvents => EventError::TooManyEvents,
         EventUnfoldError::TooLarge => EventError::TooLarge(side),

@@ -11,8 +11,13 @@ pub enum EventError {
     TooManyEvents,
     /// What the unfoldings of one circuit visit weighs more than 2,000,000.
     TooLarge(Side),
-    /// A query of the latch, with a member of a class or with `always`, met the limit.
-    Limit { latch: Tag, proof: Proof },
+    /// A query of the latch met the limit: with `always`, where there is no other latch, or with that latch, the first one of its class
+    /// that isn't known to agree.
+    Limit {
+        latch: Tag,
+        other: Option<Tag>,
+        proof: Proof,
+    },
     /// Memory was wanted.
     NoMemory,
 }

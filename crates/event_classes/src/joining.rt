@@ -1,18 +1,23 @@
 //! The next latch joins a class.
 
-ghost use Rattle.std.specs.Prelude.{◌≡◌, ◌<◌, ◌≤◌, ℕ, suc, List, ◌∷◌, length, OnOk};
+ghost use Rattle.std.specs.Prelude.{◌≡◌, ◌<◌, ◌≤◌, ℕ, suc, List, ◌∷◌, length, Option, Err, OnOk};
 ghost use Rattle.circuit_theory.specs.Joined.{Either};
 ghost use Rattle.enable_compare.specs.Comparing.{IsReadyEnable};
 ghost use Rattle.event_order.specs.Order.{IsTagOf};
 ghost use Rattle.class_fits.specs.Members.{class_of_fit};
 ghost use Rattle.class_search.specs.declared.search.Fit.TheVariants as fit_is;
-ghost use Rattle.event_classes.specs.Map.{IsMade, IsEnableAt, IsAbsent, FitsIn, GoesOn, places_in};
+ghost use Rattle.pair_decide.specs.declared.query.Proof.{Proof};
+ghost use Rattle.sec_base.specs.declared.basics.Tag.{Tag};
+ghost use Rattle.event_classes.specs.declared.error.EventError.TheVariants as event_error;
+ghost use Rattle.event_classes.specs.Limits.{IsNamed, IsErrorOf, IsLimitAt};
+ghost use Rattle.event_classes.specs.Map.{IsMade, IsEnableAt, IsOwnAt, AreToldAt, AreToldBy, IsAbsent, FitsIn, GoesOn, places_in};
 
 use crate::enables::next_enable;
 use crate::error::EventError;
 use crate::map::ClassMap;
 use crate::places::take_latch;
-use class_search::{Class, Fit, Unfit, first_fit};
+use class_search::{Class, Difference, Fit, Told, Unfit, first_fit};
+use class_separations::keep_apart;
 use enable_compare::Enable;
 use sec_base::{MAX_CONFLICTS, NoMemory, Tag};
 use std::alloc::Global;
@@ -30,7 +35,8 @@ pub(crate) fn join_next(
     requires latch { IsTagOf map.old.left.net map.old.right.net tag }
     requires made { (rest : List (Either ℕ ℕ)) × IsMade map.old (places_in map.old tag ∷ rest) }
     requires conflicts { conflicts ≤ MAX_CONFLICTS }
-    ensures { OnOk result (GoesOn map.old map.new tag) }
+    ensures goes_on { OnOk result (GoesOn map.old map.new tag) }
+    ensures limit { (latch : Tag) (other : Option Tag) (proof : Proof) → result ≡ Err (event_error.Limit latch other proof) → IsLimitAt map.old tag latch other conflicts proof }
 {
     map.events.keeps();
     let enable = next_enable(alloc, map, tag)?;
@@ -56,10 +62,12 @@ fn join_asked(
     requires latch { IsTagOf map.old.left.net map.old.right.net tag }
     requires made { (rest : List (Either ℕ ℕ)) × IsMade map.old (places_in map.old tag ∷ rest) }
     requires enable { IsEnableAt map.old tag enable }
+    requires own { IsOwnAt map.old tag enable }
     requires ready { IsReadyEnable map.old.events enable }
     requires absent { IsAbsent map.old enable }
     requires conflicts { conflicts ≤ MAX_CONFLICTS }
-    ensures { OnOk result (GoesOn map.old map.new tag) }
+    ensures goes_on { OnOk result (GoesOn map.old map.new tag) }
+    ensures limit { (latch : Tag) (other : Option Tag) (proof : Proof) → result ≡ Err (event_error.Limit latch other proof) → IsLimitAt map.old tag latch other conflicts proof }
 {
     map.left.keeps();
     map.right.keeps();
@@ -75,15 +83,26 @@ fn join_asked(
             join_fit(alloc, map, tag, enable, fit)?;
             Ok(())
         }
-        Err(unfit) => Err(limit_of(tag, unfit)),
+        Err(unfit) => Err(limit_of(map.classes.as_slice(), tag, unfit)),
     }
 }
 
 /// Why the latch is given no class.
-fn limit_of(tag: Tag, unfit: Unfit) -> EventError {
+fn limit_of(classes: &[Class], tag: Tag, unfit: Unfit) -> EventError
+    requires { IsNamed classes.now unfit }
+    ensures { IsErrorOf classes.now tag result unfit }
+{
     match unfit {
-        Unfit::Always(proof) => EventError::Limit { latch: tag, proof },
-        Unfit::Member(_, _, proof) => EventError::Limit { latch: tag, proof },
+        Unfit::Always(proof) => EventError::Limit {
+            latch: tag,
+            other: None,
+            proof,
+        },
+        Unfit::Member(place, member, proof) => EventError::Limit {
+            latch: tag,
+            other: Some(classes[place].tags[member]),
+            proof,
+        },
         Unfit::NoMemory => EventError::NoMemory,
     }
 }
@@ -99,11 +118,14 @@ fn join_fit(
     requires latch { IsTagOf map.old.left.net map.old.right.net tag }
     requires made { (rest : List (Either ℕ ℕ)) × IsMade map.old (places_in map.old tag ∷ rest) }
     requires enable { IsEnableAt map.old tag enable }
+    requires own { IsOwnAt map.old tag enable }
     requires ready { IsReadyEnable map.old.events enable }
     requires absent { IsAbsent map.old enable }
     requires fits { FitsIn map.old tag (class_of_fit map.old.classes.items fit) }
     requires place { (place : ℕ) → fit ≡ fit_is.Joins place → place < length map.old.classes.items }
-    ensures { OnOk result (GoesOn map.old map.new tag) }
+    requires told { AreToldBy map.old tag fit }
+    ensures goes_on { OnOk result (GoesOn map.old map.new tag) }
+    ensures limit { (latch : Tag) (other : Option Tag) (proof : Proof) → result ≡ Err (event_error.Limit latch other proof) → ⊥ }
 {
     match fit {
         Fit::Always => {
@@ -114,8 +136,8 @@ fn join_fit(
             join_class(map, tag, enable, place)?;
             Ok(())
         }
-        Fit::Founds(_, _) => {
-            found_class(alloc, map, tag, enable)?;
+        Fit::Founds(always, told) => {
+            found_class(alloc, map, tag, enable, always, told.as_slice())?;
             Ok(())
         }
     }
@@ -142,6 +164,7 @@ fn join_class(map: &mut ClassMap, tag: Tag, enable: Enable, place: usize) -> Res
     requires latch { IsTagOf map.old.left.net map.old.right.net tag }
     requires made { (rest : List (Either ℕ ℕ)) × IsMade map.old (places_in map.old tag ∷ rest) }
     requires enable { IsEnableAt map.old tag enable }
+    requires own { IsOwnAt map.old tag enable }
     requires ready { IsReadyEnable map.old.events enable }
     requires absent { IsAbsent map.old enable }
     requires fits { FitsIn map.old tag (suc place) }
@@ -164,13 +187,18 @@ fn found_class(
     map: &mut ClassMap,
     tag: Tag,
     enable: Enable,
+    always: Difference,
+    told: &[Told],
 ) -> Result<(), EventError>
     requires latch { IsTagOf map.old.left.net map.old.right.net tag }
     requires enable { IsEnableAt map.old tag enable }
+    requires own { IsOwnAt map.old tag enable }
     requires ready { IsReadyEnable map.old.events enable }
     requires absent { IsAbsent map.old enable }
     requires fits { FitsIn map.old tag (suc (length map.old.classes.items)) }
-    ensures { OnOk result (GoesOn map.old map.new tag) }
+    requires told { AreToldAt map.old tag always told.now }
+    ensures goes_on { OnOk result (GoesOn map.old map.new tag) }
+    ensures limit { (latch : Tag) (other : Option Tag) (proof : Proof) → result ≡ Err (event_error.Limit latch other proof) → ⊥ }
 {
     map.left.keeps();
     map.right.keeps();
@@ -179,6 +207,15 @@ fn found_class(
         return Err(EventError::TooManyEvents);
     }
     let class = map.classes.len() as u32 + 1;
+    keep_apart(
+        alloc,
+        &map.events,
+        map.classes.as_slice(),
+        tag,
+        always,
+        told,
+        &mut map.aparts,
+    )?;
     map.table.put(enable.value, enable.care, class)?;
     take_latch(map, tag, class)?;
     let mut founded = Class::new(alloc);

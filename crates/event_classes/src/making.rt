@@ -1,10 +1,14 @@
 //! Class maps are made.
 
-ghost use Rattle.std.specs.Prelude.{◌≡◌, ◌≤◌, length, All, IfOk, OnOk};
+ghost use Rattle.std.specs.Prelude.{◌≡◌, ◌≤◌, length, Option, Err, All, IfOk, OnOk};
 ghost use Rattle.circuit_theory.specs.Depth.{LatchesHaveDepths};
 ghost use Rattle.flat_net.specs.View.{circuit_of};
 ghost use Rattle.event_nodes.specs.View.{Enabled};
 ghost use Rattle.event_order.specs.Order.{IsTagOf};
+ghost use Rattle.pair_decide.specs.declared.query.Proof.{Proof};
+ghost use Rattle.sec_base.specs.declared.basics.Tag.{Tag};
+ghost use Rattle.event_classes.specs.declared.error.EventError.TheVariants as event_error;
+ghost use Rattle.event_classes.specs.Limits.{IsLimitOf};
 ghost use Rattle.event_classes.specs.Map.{IsBegun, IsMadeTo, IsClassMapOf};
 
 use crate::error::EventError;
@@ -20,7 +24,7 @@ const LATCHES: usize = 30_000;
 
 /// The class map of two circuits whose latches are all of class 0 so far. The enabled latches are taken in their order, by depth, then
 /// those of the first circuit before those of the second, then by position; each joins the first class all of whose members agree with
-/// it wherever both have care, or founds the next.
+/// it wherever both have care, or founds the next. A limit names the latch and the other one of the query, None for `always`.
 pub fn make_classes(
     alloc: Global,
     left: EventCircuit,
@@ -32,7 +36,8 @@ pub fn make_classes(
     requires left_classes { All (λ k. k ≡ 0) left.classes }
     requires right_classes { All (λ k. k ≡ 0) right.classes }
     requires conflicts { conflicts ≤ MAX_CONFLICTS }
-    ensures { IfOk result (IsClassMapOf left right) }
+    ensures made { IfOk result (IsClassMapOf left right) }
+    ensures limit { (latch : Tag) (other : Option Tag) (proof : Proof) → result ≡ Err (event_error.Limit latch other proof) → IsLimitOf left right latch other conflicts proof }
 {
     left.keeps();
     right.keeps();
@@ -60,6 +65,7 @@ fn begin(alloc: Global, left: EventCircuit, right: EventCircuit) -> Result<Class
         right_count: Counter::new(alloc),
         table: EnableTable::new(alloc),
         classes: Vec::new(alloc),
+        aparts: Vec::new(alloc),
         taken: Vec::new(alloc),
     })
 }
@@ -74,7 +80,8 @@ fn join_all(
     requires named { All (IsTagOf map.old.left.net map.old.right.net) tags.now }
     requires begins { IsMadeTo map.old map.old tags.now 0 }
     requires conflicts { conflicts ≤ MAX_CONFLICTS }
-    ensures { OnOk result (IsMadeTo map.old map.new tags.now (length tags.now)) }
+    ensures made { OnOk result (IsMadeTo map.old map.new tags.now (length tags.now)) }
+    ensures limit { (latch : Tag) (other : Option Tag) (proof : Proof) → result ≡ Err (event_error.Limit latch other proof) → IsLimitOf map.old.left map.old.right latch other conflicts proof }
 {
     for at in 0..tags.len() {
         join_next(alloc, map, tags[at], conflicts)?;

@@ -14,11 +14,12 @@ use Rattle.flat_net.specs.View.{NetView, circuit_of, equation_of_gate, equation_
 use Rattle.flat_net.specs.Cut.{no_latch}
 use Rattle.flat_net.proofs.Places.{one_at, All-at}
 use Rattle.flat_net.proofs.Nets.{OfGate, OfLatch, equation_from, some_at, latch_stands}
-use Rattle.latch_graph.specs.Graph.{GraphView, IsGraphOf, IsGraphIn, SkippedBy, signals_at}
+use Rattle.signal_graph.specs.Graph.{GraphView, IsGraphOf, IsGraphIn, SkippedBy, signals_at}
 use Rattle.latch_graph.proofs.Skipping.{has_cycle_less, skips_as_mode, mode_as_skips}
 use Rattle.latch_graph.proofs.Trails.{after_last, after_next}
 use Rattle.expose_pick.specs.declared.pairs.LatchPair.{LatchPair}
-use Rattle.expose_pick.specs.Chosen.{IsLeft, IsMinimalChoice, lefts, rights, at_places, names_at}
+use Rattle.minimal_cut.specs.Chosen.{IsMinimalChoice, at_places, names_at}
+use Rattle.expose_pick.specs.Pairs.{IsLeft, lefts, rights}
 use Rattle.expose_pick.specs.Laws.{HaveOneName, AreAllPairs}
 use Rattle.expose_pick.proofs.Removed.{cycle_fewer}
 

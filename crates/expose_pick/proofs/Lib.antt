@@ -1,10 +1,4 @@
-pub mod WayLemmas
-pub mod Turned
-pub mod Edges
-pub mod Marking
-pub mod Walks
+pub mod Bits
 pub mod Removed
-pub mod Sides
-pub mod Tried
 pub mod Paired
 pub mod Cuts

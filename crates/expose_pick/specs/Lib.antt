@@ -1,7 +1,4 @@
-pub mod Chosen
+pub mod Pairs
 pub mod Refused
 pub mod Laws
-pub mod Readers
-pub mod Marks
-pub mod Walk
-pub mod Trying
+pub mod Bits

@@ -1,10 +1,11 @@
 -- What a refusal says.
 use Rattle.std.specs.Prelude.{ℕ, List}
 use Rattle.circuit_theory.specs.declared.Side.TheVariants.{A, B}
-use Rattle.latch_graph.specs.Graph.{GraphView}
+use Rattle.signal_graph.specs.Graph.{GraphView}
 use Rattle.expose_pick.specs.declared.error.PickError.{PickError}
 use Rattle.expose_pick.specs.declared.error.PickError.TheVariants as pick_error
-use Rattle.expose_pick.specs.Chosen.{IsFree, IsLeft}
+use Rattle.minimal_cut.specs.Chosen.{IsFree}
+use Rattle.expose_pick.specs.Pairs.{IsLeft}
 
 -- a cycle of the first graph is left, or else one of the second
 abbrev pub Refuses : GraphView → GraphView → List ℕ → List ℕ → PickError → Type 0

@@ -1,16 +1,18 @@
 //! The choice of the latches that are exposed.
 
-ghost use Rattle.std.specs.Prelude.{◌≢◌, ◌<◌, All, length, IfOk, OnOk, IfErr};
+ghost use Rattle.std.specs.Prelude.{◌≡◌, ◌≢◌, ◌<◌, All, length, IfOk, OnOk, IfErr};
 ghost use Rattle.std.specs.List.{AllPairs};
-ghost use Rattle.expose_pick.specs.Chosen.{IsFree, IsMinimalChoice, lefts, rights};
+ghost use Rattle.sec_base.specs.Table.{AreDistinct};
+ghost use Rattle.minimal_cut.specs.Chosen.{IsFree, IsMinimalChoice};
+ghost use Rattle.expose_pick.specs.Pairs.{lefts, rights};
 ghost use Rattle.expose_pick.specs.Refused.{Refuses};
 
 use crate::error::PickError;
 use crate::pairs::{LatchPairs, lefts_of, rights_of};
 use crate::remaining_cycle::cycle_left;
-use crate::trial::chosen;
 use latch_graph::LatchGraph;
-use sec_base::{Ids, Side};
+use minimal_cut::chosen;
+use sec_base::{Ids, NoMemory, Side};
 use std::alloc::Global;
 
 /// The places of pairs whose latches are a minimal cut, in increasing order: no cycle is left in either graph without
@@ -45,6 +47,27 @@ pub fn pick(
             cycle,
         });
     }
-    let places = chosen(alloc, a, b, left.as_slice(), right.as_slice())?;
+    let places = cut_of(alloc, a, b, left.as_slice(), right.as_slice())?;
+    Ok(places)
+}
+
+/// The places of pairs whose latches are a minimal cut, where without all of them no cycle is left.
+fn cut_of(
+    alloc: Global,
+    a: &LatchGraph,
+    b: &LatchGraph,
+    lefts: &[u32],
+    rights: &[u32],
+) -> Result<Ids, NoMemory>
+    requires left { All (λ j. j < length a.now.latches) lefts.now }
+    requires right { All (λ j. j < length b.now.latches) rights.now }
+    requires left_once { AreDistinct lefts.now }
+    requires right_once { AreDistinct rights.now }
+    requires pairs { length rights.now ≡ length lefts.now }
+    requires left_free { IsFree a.now lefts.now }
+    requires right_free { IsFree b.now rights.now }
+    ensures { IfOk result (IsMinimalChoice a.now b.now lefts.now rights.now) }
+{
+    let places = chosen(alloc, a.signals(), b.signals(), lefts, rights)?;
     Ok(places)
 }

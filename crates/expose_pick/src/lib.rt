@@ -5,12 +5,8 @@
 mod choice;
 mod error;
 mod laws;
-mod marks;
 mod pairs;
-mod readers;
 mod remaining_cycle;
-mod trial;
-mod walk;
 
 pub use choice::pick;
 pub use error::PickError;

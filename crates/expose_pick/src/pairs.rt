@@ -1,7 +1,7 @@
 //! Pairs of latches.
 
 ghost use Rattle.std.specs.Prelude.{◌≡◌, IfOk};
-ghost use Rattle.expose_pick.specs.Chosen.{lefts, rights};
+ghost use Rattle.expose_pick.specs.Pairs.{lefts, rights};
 
 use sec_base::{Duplicate, NoMemory, Seq};
 use std::alloc::Global;

@@ -1,8 +1,9 @@
 //! Cycles that are left without all common latches.
 
 ghost use Rattle.std.specs.Prelude.{◌≡◌, ◌<◌, ℕ, Bool, true, false, All, length, slice_get, Some, IfOk, IfSome, IfNone};
-ghost use Rattle.expose_pick.specs.Chosen.{IsFree, IsLeft};
-ghost use Rattle.expose_pick.specs.Marks.{AreBits};
+ghost use Rattle.minimal_cut.specs.Chosen.{IsFree};
+ghost use Rattle.expose_pick.specs.Pairs.{IsLeft};
+ghost use Rattle.expose_pick.specs.Bits.{AreBits};
 
 use latch_graph::LatchGraph;
 use sec_base::{Bits, Ids, NoMemory, Seq};

@@ -6,7 +6,7 @@ use Rattle.std.proofs.lemmas.Option.{slice_get_within, same_Some}
 use Rattle.flat_net.specs.declared.signals.Signal.{Signal}
 use Rattle.flat_net.proofs.Places.{All-at}
 use Rattle.flat_net.proofs.Growth.{slice_get-append}
-use Rattle.latch_graph.specs.declared.nodes.Node.{Node}
+use Rattle.signal_graph.specs.declared.nodes.Node.{Node}
 use Rattle.graph_components.specs.Inner.{AreRanked, IsInnerOf}
 
 less_or_same : (x s : ℕ) → x < s + 1 → (x < s) ⊎ (x ≡ s)

@@ -1,7 +1,7 @@
 -- Nodes with those of their readings that can be part of a cycle.
 use Rattle.std.specs.Prelude.{◌≡◌, ℕ, ◌≤◌, ◌==◌, List, length, filter, slice_get, slice_index_or, Some}
 use Rattle.flat_net.specs.declared.signals.Signal.{Signal}
-use Rattle.latch_graph.specs.declared.nodes.Node.{Node}
+use Rattle.signal_graph.specs.declared.nodes.Node.{Node}
 
 -- no signal reads one with a greater number
 abbrev pub AreRanked : List Node → List ℕ → Type 0

@@ -4,8 +4,8 @@
 ghost use Rattle.std.specs.Prelude.{◌≡◌, ◌^◌, ◌<◌, length, slice_index_or};
 
 use flat_net::Signal;
-use latch_graph::Node;
 use sec_base::NoMemory;
+use signal_graph::Node;
 use std::alloc::Global;
 
 /// A signal on the way, with how many of those that it reads were looked at.

@@ -6,8 +6,8 @@ ghost use Rattle.graph_components.specs.Inner.{AreRanked, AreInner, IsInnerOf};
 
 use crate::components::{components_of, number_at};
 use flat_net::{Signal, Signals};
-use latch_graph::Node;
 use sec_base::NoMemory;
+use signal_graph::Node;
 use std::alloc::Global;
 
 /// The nodes with those of their readings that lead back to the signal that reads, and maybe some others: no cycle loses one. They tell

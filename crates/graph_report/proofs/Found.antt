@@ -10,7 +10,7 @@ use Rattle.flat_net.specs.declared.parts.LatchAt.{LatchAt}
 use Rattle.flat_net.specs.Cut.{no_latch, latch_at}
 use Rattle.flat_net.specs.View.{NetView, circuit_of}
 use Rattle.circuit_theory.specs.declared.Mode.{Mode}
-use Rattle.latch_graph.specs.Graph.{GraphView, IsGraphOf, IsGraphIn, SkippedBy, marked_names, signals_at}
+use Rattle.signal_graph.specs.Graph.{GraphView, IsGraphOf, IsGraphIn, SkippedBy, marked_names, signals_at}
 use Rattle.latch_graph.proofs.Skipping.{mode_cycle, cycle_in_graph}
 use Rattle.graph_report.specs.Report.{IsFound}
 

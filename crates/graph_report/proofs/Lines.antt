@@ -14,7 +14,7 @@ use Rattle.flat_net.specs.declared.parts.LatchAt.{LatchAt}
 use Rattle.flat_net.specs.View.{NetView, circuit_of}
 use Rattle.flat_net.proofs.Places.{All-at}
 use Rattle.circuit_theory.specs.declared.Mode.{Mode}
-use Rattle.latch_graph.specs.Graph.{GraphView, IsGraphOf, IsGraphIn, SkippedBy}
+use Rattle.signal_graph.specs.Graph.{GraphView, IsGraphOf, IsGraphIn, SkippedBy}
 use Rattle.latch_graph.proofs.Skipping.{mode_depth, mode_no_depth}
 use Rattle.graph_report.specs.Report.{IsMeasured, IsGraphReport, counts_text, latch_line, output_line, cycle_line}
 use Rattle.graph_report.specs.Puts.{PutsLines, PutsLatches, PutsOutputs, PutsCycle}

@@ -4,7 +4,7 @@ ghost use Rattle.std.specs.Prelude.{◌≡◌, ◌<◌, false, length, map, repl
 ghost use Rattle.circuit_theory.specs.declared.Mode.{Mode};
 ghost use Rattle.flat_net.specs.Cut.{latch_at};
 ghost use Rattle.latch_cone.specs.Kinds.{AreKindsIn};
-ghost use Rattle.latch_graph.specs.Graph.{IsGraphOf, IsGraphIn};
+ghost use Rattle.signal_graph.specs.Graph.{IsGraphOf, IsGraphIn};
 ghost use Rattle.graph_report.specs.Report.{IsFound, IsGraphReport};
 ghost use Rattle.graph_report.specs.Puts.{PutsLatches, PutsOutputs, PutsCycle};
 

@@ -14,9 +14,9 @@ use Rattle.job_base.specs.declared.finding.File.TheVariants as file
 use Rattle.job_base.specs.declared.finding.Stop.TheVariants as stop
 use Rattle.job_base.specs.declared.finding.Finding.{Finding}
 use Rattle.job_base.specs.declared.finding.Stop.{Stop}
-use Rattle.sec_check.specs.declared.error.CompareError.{CompareError}
-use Rattle.sec_check.specs.declared.error.CompareError.TheVariants as compare_error
-use Rattle.sec_check.specs.Compared.{Compared}
+use Rattle.compare_base.specs.declared.error.CompareError.{CompareError}
+use Rattle.compare_base.specs.declared.error.CompareError.TheVariants as compare_error
+use Rattle.compare_base.specs.Compared.{Compared}
 use Rattle.sec_files.specs.declared.loader.LoadError.{LoadError}
 use Rattle.sec_files.specs.declared.loader.LoadError.TheVariants as load_error
 use Rattle.sec_files.specs.Loading.{Loads, LoadFails, IsTooLong, HasFault, HasDesignFault, HasRecordFault}
@@ -24,7 +24,7 @@ use Rattle.job_files.specs.Reading.{Held}
 use Rattle.job_files.specs.Ends.{load_end}
 use Rattle.job_files.proofs.Loading.{later_fails}
 use Rattle.job_files.proofs.Reading.{first_failed, second_failed, is_loaded}
-use Rattle.job_check.specs.Check.{Check}
+use Rattle.check_meaning.specs.Check.{Check}
 use Rattle.job_check.specs.Ends.{compare_end, EndsBeside, FoundOf}
 
 -- what holds of something held, where it is told

@@ -10,15 +10,15 @@ use Rattle.job_base.specs.declared.finding.Finding.{Finding}
 use Rattle.job_base.specs.declared.finding.Finding.TheVariants as finding
 use Rattle.job_base.specs.declared.finding.Stop.{Stop}
 use Rattle.job_base.specs.declared.finding.Stop.TheVariants as stop
-use Rattle.sec_check.specs.declared.error.CompareError.{CompareError}
-use Rattle.sec_check.specs.declared.error.CompareError.TheVariants as compare_error
-use Rattle.sec_check.specs.Compared.{Compared}
+use Rattle.compare_base.specs.declared.error.CompareError.{CompareError}
+use Rattle.compare_base.specs.declared.error.CompareError.TheVariants as compare_error
+use Rattle.compare_base.specs.Compared.{Compared}
 use Rattle.sec_files.specs.Loading.{Loads, LoadFails}
 use Rattle.sec_files.specs.declared.loader.LoadError.{LoadError}
 use Rattle.job_files.specs.Ends.{load_end}
 use Rattle.job_files.specs.Reading.{Held, ReadFailed}
-use Rattle.job_check.specs.Found.{IsFoundOf, IsCheckFound}
-use Rattle.job_check.specs.Check.{Check, check_paths}
+use Rattle.check_meaning.specs.Found.{IsFoundOf, IsCheckFound}
+use Rattle.check_meaning.specs.Check.{Check, check_paths}
 
 -- what is found by a comparison
 abbrev pub compare_end : Settings → Result Outcome CompareError → Result Finding Stop

@@ -1,5 +1,1 @@
-pub mod Resets
-pub mod Answer
-pub mod Check
 pub mod Ends
-pub mod Found

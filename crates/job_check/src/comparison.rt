@@ -5,7 +5,7 @@ ghost use Rattle.std.specs.List.{All};
 ghost use Rattle.circuit_theory.specs.declared.Mode.TheVariants.{Plain};
 ghost use Rattle.sec_base.specs.Outside.{Rose, SameHeld, NoneFell};
 ghost use Rattle.flat_net.specs.Comparable.{IsComparable};
-ghost use Rattle.job_check.specs.Check.{Check, where_built};
+ghost use Rattle.check_meaning.specs.Check.{Check, where_built};
 ghost use Rattle.job_check.specs.Ends.{compare_end, CheckFound, EndsBeside, FoundOf};
 
 use circuit_theory::Mode;

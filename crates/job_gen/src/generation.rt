@@ -1,27 +1,16 @@
 //! A pair is made and compared.
 
 ghost use Rattle.std.specs.Prelude.{◌≡◌, ◌≤◌, IsErrOf};
-ghost use Rattle.sec_check.specs.Compared.{IsCompared};
-ghost use Rattle.job_gen.specs.Found.{AreTwins, GenFound, settings_of};
+ghost use Rattle.compare_base.specs.Compared.{IsCompared};
+ghost use Rattle.gen_meaning.specs.Found.{AreTwins, GenFound, settings_of};
 
-use crate::summary::summary;
 use circuit_theory::Mode;
+use gen_meaning::{Generation, summary};
 use job_base::{Finding, Stop};
 use pair_gen::{Twins, generate};
 use sec_base::NoMemory;
 use sec_check::{CompareError, Outcome, Settings, compare};
 use std::alloc::Global;
-
-/// Which pair is made, and how many conflicts a query of it may have.
-#[derive(Clone, Copy)]
-pub struct Generation {
-    /// The number that the pair is made from.
-    pub seed: u64,
-    /// Whether the exclusive ors of B's first layer are regrouped.
-    pub regroup: bool,
-    /// The greatest number of conflicts of one query, 0 to 200,000.
-    pub conflicts: u32,
-}
 
 /// Makes the pair of a number and compares it in the plain form. The outcome comes with its report; it is never refused.
 pub fn compare_generated(alloc: Global, generation: &Generation) -> Result<Finding, Stop>

@@ -2,6 +2,6 @@
 #![tactic(auto)]
 
 mod generation;
-mod summary;
 
-pub use generation::{Generation, compare_generated};
+pub use gen_meaning::Generation;
+pub use generation::compare_generated;

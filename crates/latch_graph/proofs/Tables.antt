@@ -1,39 +1,17 @@
 -- Tables of states with one state changed.
-use Rattle.std.proofs.Common.{◌≡◌, ◌≢◌, ℕ, zero, suc, ◌+◌, ◌<◌, ◌≤◌, List, [], ◌∷◌, length, Option, Some, None, refl, sym, ◌∙◌, ap, subst, arith, inl, inr, get_or, true, false, ◌++◌, take}
+use Rattle.std.proofs.Common.{◌≡◌, ◌≢◌, ℕ, ◌+◌, ◌<◌, ◌≤◌, List, length, Option, Some, None, refl, sym, ◌∙◌, ap, subst, arith, inl, inr, get_or, true, false}
 use Rattle.std.specs.Prelude.{◌⊎◌, slice_get, is_some, IfSome}
 use Rattle.std.proofs.Math.ListN.{set}
-use Rattle.std.proofs.lemmas.List.{get_or-set_same, get_or-set_other, length-set}
 use Rattle.std.proofs.lemmas.List.Sums.{sum_by-set}
-use Rattle.std.proofs.lemmas.Option.{slice_get_within, slice_get-get_or, get_or_from_slice_get}
+use Rattle.std.proofs.lemmas.Option.{slice_get_within, get_or_from_slice_get}
 use Rattle.flat_net.proofs.Places.{one_at}
 use Rattle.flat_net.specs.declared.signals.Signal.{Signal}
 use Rattle.circuit_theory.proofs.Sums.{same_or_not}
-use Rattle.latch_graph.specs.declared.nodes.Node.{Node}
+use Rattle.signal_graph.specs.declared.nodes.Node.{Node}
+use Rattle.signal_graph.proofs.Lists.{set_other}
 use Rattle.latch_graph.specs.declared.states.State.{State}
 use Rattle.latch_graph.specs.declared.states.State.TheVariants.{New, Open, Known, Endless, Removed}
 use Rattle.latch_graph.specs.Settling.{HasDepth, IsGreatest, IsRight, depth_of, is_new, new_count}
-
-pub set_same : {X : Type 0} (xs : List X) (i : ℕ) (x y : X) → slice_get xs i ≡ Some x → slice_get (set xs i y) i ≡ Some y
-set_same xs i x y h =
-    let l : i < length xs = slice_get_within xs i x h in
-    slice_get-get_or (set xs i y) i y (simp length-set l) ∙ ap Some (get_or-set_same xs i y y l)
-
-pub set_other : {X : Type 0} (xs : List X) (i j : ℕ) (x y : X) → j ≢ i → slice_get xs j ≡ Some x → slice_get (set xs i y) j ≡ Some x
-set_other xs i j x y n h =
-    let l : j < length xs = slice_get_within xs j x h in
-    slice_get-get_or (set xs i y) j x (simp length-set l) ∙ ap Some (get_or-set_other xs i j y x n ∙ get_or_from_slice_get xs j x x h)
-
-pub set_cases : {X : Type 0} (xs : List X) (i j : ℕ) (y x : X) → slice_get (set xs i y) j ≡ Some x → ((j ≡ i) × (y ≡ x)) ⊎ ((j ≢ i) × (slice_get xs j ≡ Some x))
-set_cases xs i j y x h = pick (same_or_not j i)
-  where
-    inside : j < length xs
-    inside = simp length-set at (slice_get_within (set xs i y) j x h)
-
-    pick : (j ≡ i) ⊎ (j ≢ i) → ((j ≡ i) × (y ≡ x)) ⊎ ((j ≢ i) × (slice_get xs j ≡ Some x))
-    pick (inl e) =
-        let l : i < length xs = omega (arith, inside, e) in
-        inl (e, sym (get_or-set_same xs i y x l) ∙ subst (λ k. get_or (set xs i y) k x ≡ x) e (get_or_from_slice_get (set xs i y) j x x h))
-    pick (inr n) = inr (n, slice_get-get_or xs j x inside ∙ ap Some (sym (get_or-set_other xs i j y x n) ∙ get_or_from_slice_get (set xs i y) j x x h))
 
 pub new_count-set : (states : List State) (i : ℕ) (old new : State) → slice_get states i ≡ Some old → new_count (set states i new) + is_new old ≡ new_count states + is_new new
 new_count-set states i old new h =
@@ -94,9 +72,6 @@ set_keeps states t old new h none other = record { depths = depths; endless = en
         pick (inr n) = set_other states t s Endless new n x
 
 -- a state read from the table
-pub read_at : {X : Type 0} (xs : List X) (i : ℕ) (d : X) → i < length xs → slice_get xs i ≡ Some (get_or xs i d)
-read_at xs i d l = slice_get-get_or xs i d l
-
 pub tells_depth : (states : List State) (s : ℕ) (st : State) → slice_get states s ≡ Some st → is_some (depth_of st) ≡ true → (e : ℕ) × HasDepth states s e
 tells_depth states s (Known d) h e = (d, (Known d, h, refl))
 tells_depth states s Removed h e = (0, (Removed, h, refl))
@@ -154,9 +129,3 @@ told_depth states s d result h told = (h.1.0, h.1.1, go h.1.0 h.1.2 (subst (λ (
     go (Known f) e x = ap Some x
     go Endless e x = absurd (cc)
     go Removed e x = ap Some x
-
-pub written_back : {X : Type 0} (xs rest : List X) (n : ℕ) → n ≡ length xs → take n (xs ++ rest) ≡ xs
-written_back [] rest zero e = refl
-written_back [] rest (suc n) e = absurd (let z : suc n ≡ 0 = e in omega arith)
-written_back (x ∷ xs) rest zero e = absurd (let z : 0 ≡ suc (length xs) = e in omega arith)
-written_back (x ∷ xs) rest (suc n) e = ap (λ ys. x ∷ ys) (written_back xs rest n (let z : suc n ≡ suc (length xs) = e in omega arith))

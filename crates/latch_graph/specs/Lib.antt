@@ -1,5 +1,3 @@
-pub mod Graph
 pub mod Settling
 pub mod Kept
-pub mod Weight
 pub mod Rounds

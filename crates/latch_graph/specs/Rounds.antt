@@ -7,10 +7,10 @@ use Rattle.sec_base.specs.Table.{AreDistinct}
 use Rattle.flat_net.specs.declared.parts.LatchAt.{LatchAt}
 use Rattle.flat_net.specs.View.{NetView, circuit_of}
 use Rattle.flat_net.specs.Cut.{no_latch}
-use Rattle.latch_graph.specs.declared.nodes.Node.{Node}
+use Rattle.signal_graph.specs.declared.nodes.Node.{Node}
 use Rattle.latch_graph.specs.declared.states.State.{State}
 use Rattle.latch_graph.specs.declared.states.State.TheVariants.{New, Endless, Removed}
-use Rattle.latch_graph.specs.Graph.{IsGraphOf}
+use Rattle.signal_graph.specs.Graph.{IsGraphOf}
 use Rattle.latch_cone.specs.Cones.{IsMarkedBy}
 
 abbrev pub latch_in : List LatchAt → ℕ → LatchAt

@@ -2,7 +2,8 @@
 use Rattle.std.specs.Prelude.{◌≡◌, ℕ, ◌+◌, ◌<◌, ◌≤◌, ◌⊎◌, List, length, slice_get, Option, Some, None}
 use Rattle.std.specs.List.{sum_by}
 use Rattle.flat_net.specs.declared.signals.Signal.{Signal}
-use Rattle.latch_graph.specs.declared.nodes.Node.{Node}
+use Rattle.signal_graph.specs.declared.nodes.Node.{Node}
+use Rattle.signal_graph.specs.Graph.{step_of}
 use Rattle.latch_graph.specs.declared.states.State.{State}
 use Rattle.latch_graph.specs.declared.states.State.TheVariants.{New, Open, Known, Endless, Removed}
 use Rattle.latch_graph.specs.declared.states.Step.{Step}
@@ -23,11 +24,6 @@ HasDepth states s d = (st : State) × (slice_get states s ≡ Some st) × (depth
 pub record IsGreatest (states : List State) (reads : List Signal) (d : ℕ) : Type 0 where
   pub each : (k : ℕ) (r : Signal) → slice_get reads k ≡ Some r → (e : ℕ) × HasDepth states r.0 e × (e ≤ d)
   pub reached : (d ≡ 0) ⊎ ((k : ℕ) × (r : Signal) × (slice_get reads k ≡ Some r) × HasDepth states r.0 d)
-
--- what a signal adds to the depth of what it reads: a latch 1
-abbrev pub step_of : Option ℕ → ℕ
-step_of None = 0
-step_of (Some j) = 1
 
 -- d is the depth that the node has by the depths of what it reads
 abbrev pub IsDepthOf : List State → Node → ℕ → Type 0

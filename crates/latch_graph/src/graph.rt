@@ -6,40 +6,38 @@ ghost use Rattle.circuit_theory.specs.declared.Mode.{Mode};
 ghost use Rattle.circuit_theory.specs.declared.Mode.TheVariants.{Plain};
 ghost use Rattle.latch_cone.specs.Cones.{MarksEnabled};
 ghost use Rattle.flat_net.specs.View.{NetView, circuit_of};
-ghost use Rattle.latch_graph.specs.Graph.{AreNodes, IsGraphOf, IsGraphIn, SkippedBy, marked_names, signals_at};
+ghost use Rattle.signal_graph.specs.Graph.{AreNodes, IsGraphOf, IsGraphIn, SkippedBy, marked_names, signals_at};
 ghost use Rattle.latch_graph.specs.Settling.{IsSettled};
-ghost use Rattle.latch_graph.specs.Weight.{Weighs};
+ghost use Rattle.unfolding_weight.specs.Weight.{Weighs};
 
-use crate::nodes::{Node, copy_latches, nodes_of};
 use crate::rounds::find_cycle;
 use crate::states::{State, all_new, settled_from};
-use crate::weight::{Weight, weigh};
 use flat_net::{LatchAt, Net, Signal, Signals};
 use sec_base::{Bits, Ids, NoMemory};
+use signal_graph::{Node, SignalGraph};
 use std::alloc::Global;
 use std::marker::Model;
+use unfolding_weight::{Weight, weigh};
 
 /// The latch graph of a net: it has an edge from a latch to each latch whose next value depends on it through gates,
 /// but no edge from a skipped latch to itself. The edges aren't written out; they are ways through the signals, and a
-/// skipped latch reads the other latches of its cone at once. A contract sees what each signal reads, the latches, and
+/// skipped latch reads what leads to the other latches of its cone. A contract sees what each signal reads, the latches, and
 /// which of them are skipped.
 #[derive(Drop)]
 pub struct LatchGraph {
-    nodes: Vec<Node>,
-    latches: Vec<LatchAt>,
-    skipped: Vec<bool>,
+    graph: SignalGraph,
     states: Vec<State>,
 }
 
 impl Model for LatchGraph {
-    ghost use Rattle.latch_graph.specs.Graph.{GraphView};
+    ghost use Rattle.signal_graph.specs.Graph.{GraphView};
     ghost use Rattle.latch_graph.specs.Kept.{IsKept};
 
     ghost Value = { GraphView };
 
-    ghost view = { λ g. record { nodes = g.nodes.items; latches = g.latches.items; skipped = g.skipped.items } };
+    ghost view = { λ g. g.graph };
 
-    ghost invariant = { λ g. IsKept g.nodes.items g.latches.items g.states.items };
+    ghost invariant = { λ g. IsKept g.graph.nodes g.states.items };
 }
 
 impl LatchGraph {
@@ -50,40 +48,39 @@ impl LatchGraph {
         ensures skipped { IfOk result (λ graph. graph.skipped ≡ skip_self.now) }
         ensures in_mode { (mode : Mode) → MarksEnabled mode net.now skip_self.now → IfOk result (IsGraphIn mode net.now) }
     {
-        net.keeps();
-        let bits = skip_self.as_slice();
-        let nodes = nodes_of(alloc, net, bits)?;
-        let latches = copy_latches(alloc, net.latches())?;
-        let skipped = Vec::from_slice(alloc, bits)?;
-        let states = all_new(alloc, nodes.len())?;
-        let states = settled_from(alloc, nodes.as_slice(), states)?;
-        Ok(LatchGraph {
-            nodes,
-            latches,
-            skipped,
-            states,
-        })
+        let graph = SignalGraph::new(alloc, net, skip_self)?;
+        graph.keeps();
+        let states = all_new(alloc, graph.nodes().len())?;
+        let states = settled_from(alloc, graph.nodes(), states)?;
+        Ok(LatchGraph { graph, states })
     }
 
     /// Tells a proof what each graph keeps. It does nothing.
     pub fn keeps(&self)
         ensures { AreNodes self.now.nodes self.now.latches }
     {
-        let _ = &self.nodes;
+        self.graph.keeps();
+    }
+
+    /// The readings alone.
+    pub fn signals(&self) -> &SignalGraph
+        ensures { result.now ≡ self.now }
+    {
+        &self.graph
     }
 
     /// For each signal of the net what it reads.
     pub fn nodes(&self) -> &[Node]
         ensures { result.now ≡ self.now.nodes }
     {
-        self.nodes.as_slice()
+        self.graph.nodes()
     }
 
     /// The latches of the net.
     pub fn latches(&self) -> &[LatchAt]
         ensures { result.now ≡ self.now.latches }
     {
-        self.latches.as_slice()
+        self.graph.latches()
     }
 
     fn states(&self) -> &[State]

@@ -2,12 +2,9 @@
 #![tactic(auto)]
 
 mod graph;
-mod nodes;
 mod rounds;
 mod states;
-mod weight;
 
 pub use graph::LatchGraph;
-pub use nodes::Node;
 pub use states::{State, Step};
-pub use weight::Weight;
+pub use unfolding_weight::Weight;

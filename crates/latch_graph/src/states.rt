@@ -2,13 +2,13 @@
 
 ghost use Rattle.std.specs.Prelude.{◌≡◌, ℕ, ◌+◌, ◌*◌, ◌^◌, ◌<◌, ◌≤◌, [], ◌∷◌, ◌++◌, true, false, length, slice_get, slice_set, Some, OnOk, IfOk, IfSome, IfNone, is_some};
 ghost use Rattle.flat_net.specs.declared.signals.Signal.{Signal};
-ghost use Rattle.latch_graph.specs.declared.nodes.Node.{Node};
+ghost use Rattle.signal_graph.specs.declared.nodes.Node.{Node};
 ghost use Rattle.latch_graph.specs.declared.states.State.{State};
 ghost use Rattle.latch_graph.specs.Settling.{HasDepth, IsGreatest, IsDepthOf, IsFirst, IsSettled, SameRemoved, IsLater, IsGivenUp, Leads, new_count, IsWay, depth_of};
 
-use crate::nodes::Node;
 use flat_net::Signal;
 use sec_base::NoMemory;
+use signal_graph::Node;
 use std::alloc::Global;
 
 /// What is known of a signal's depth.

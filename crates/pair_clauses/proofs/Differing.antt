@@ -1,12 +1,10 @@
 -- The clauses of two functions can be met exactly where these differ.
-use Rattle.std.proofs.Common.{◌≡◌, ◌≢◌, ℕ, zero, suc, ◌+◌, ◌-◌, ◌*◌, ◌<◌, ◌≤◌, ◌^◌, Bool, true, false, cond, ◌&&◌, List, [], ◌∷◌, length, get_or, slice_get, Some, None, refl, sym, ◌∙◌, ap, ap₂, subst, arith, inl, inr}
+use Rattle.std.proofs.Common.{◌≡◌, ◌≢◌, ℕ, zero, suc, ◌+◌, ◌-◌, ◌*◌, ◌≤◌, ◌^◌, Bool, true, false, cond, ◌&&◌, List, [], ◌∷◌, length, get_or, slice_get, Some, None, refl, sym, ◌∙◌, ap, ap₂, arith, inl, inr}
 use Rattle.std.specs.Prelude.{◌⊎◌, nat_eq}
 use Rattle.std.proofs.lemmas.Bool.{cases_eq, eq-eqb, ne_eqb}
 use Rattle.std.proofs.lemmas.Option.{get_or_from_slice_get}
 use Rattle.circuit_theory.specs.Net.{IsNet}
 use Rattle.circuit_theory.specs.Tree.{Tree, tree_value, HaveEqualFunctions}
-use Rattle.circuit_theory.specs.Query as query
-use Rattle.circuit_theory.specs.Query.{pair_query}
 use Rattle.circuit_theory.proofs.Numbers.{one_number}
 use Rattle.circuit_laws.proofs.OneTree.{one_tree}
 use Rattle.sec_base.specs.Table.{AreDistinct}
@@ -20,7 +18,7 @@ use Rattle.unfold_places.specs.declared.signal_function.Unfolded.{Unfolded}
 use Rattle.proof_check.specs.Clauses.{Unsatisfiable}
 use Rattle.cnf_encode.specs.declared.cnf.Cnf.{Cnf}
 use Rattle.cnf_encode.specs.Encoding.{MeansDifference, ShowsDifference, IsSmall}
-use Rattle.plain_form.specs.Outcome.{HaveDifferentFunctions}
+use Rattle.plain_meaning.specs.Outcome.{HaveDifferentFunctions}
 use Rattle.plain_form.specs.Pairs.{IsFunctionOf}
 use Rattle.pair_clauses.specs.Clauses.{CanBeMet, TellDifference}
 

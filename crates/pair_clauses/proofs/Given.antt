@@ -1,24 +1,18 @@
 -- What is given where nothing is refused.
-use Rattle.std.proofs.Common.{◌≡◌, ℕ, ◌<◌, ◌*◌, false, List, [], length, map, get_or, slice_get, Some, refl, sym, ◌∙◌, ap, subst, arith}
-use Rattle.std.specs.List.{All, AllZip}
-use Rattle.std.proofs.lemmas.Option.{slice_get_within}
+use Rattle.std.proofs.Common.{◌≡◌, ℕ, false, List, [], length, refl, ◌∙◌}
 use Rattle.circuit_theory.specs.Interface.{AreNumbersOf, AreOrders}
-use Rattle.circuit_theory.specs.Net.{IsNet}
-use Rattle.circuit_theory.proofs.Lists.{length-map, zip_length}
+use Rattle.circuit_theory.proofs.Lists.{length-map}
 use Rattle.flat_net.specs.Comparable.{IsComparable}
 use Rattle.flat_net.specs.declared.parts.Port.{Port}
-use Rattle.flat_net.specs.Sound.{IsSound}
 use Rattle.flat_net.specs.View.{NetView, circuit_of, ports_of}
 use Rattle.cbf_unfold.specs.View.{IsOrderOf}
-use Rattle.unfold_places.specs.declared.signal_function.Unfolded.{Unfolded}
 use Rattle.cnf_encode.specs.declared.cnf.Cnf.{Cnf}
 use Rattle.cut_points.specs.declared.exposed.Exposure.{Exposure}
 use Rattle.interface.specs.declared.pairs.SignalPair.{SignalPair}
 use Rattle.interface.specs.Pairing.{ArePairs}
 use Rattle.interface.proofs.NamedPairs.{pairs_cut}
 use Rattle.interface.proofs.Shared.{are_matched}
-use Rattle.plain_form.specs.Pairs.{AreFunctions, AreLight, left_signals, right_signals}
-use Rattle.plain_form.specs.declared.functions.Functions.{Functions}
+use Rattle.plain_form.specs.Pairs.{AreLight, left_signals, right_signals}
 use Rattle.plain_form.proofs.Outcomes.{left_light, right_light}
 use Rattle.sec_setup.specs.Choosing.{IsChosen}
 use Rattle.sec_setup.specs.Cuts.{AreCutBy}

@@ -1,5 +1,5 @@
 -- The pair of a name, and the outputs that have it.
-use Rattle.std.proofs.Common.{◌≡◌, ℕ, zero, suc, List, [], ◌∷◌, ◌++◌, map, refl, sym, ◌∙◌, ap, subst, Some, slice_get}
+use Rattle.std.proofs.Common.{◌≡◌, ℕ, List, [], ◌∷◌, ◌++◌, map, refl, sym, ◌∙◌, ap, subst, Some, slice_get}
 use Rattle.std.specs.List.{All, AllZip, Contains}
 use Rattle.std.proofs.lemmas.List.{append-nil}
 use Rattle.std.proofs.lemmas.List.Elements.{All-contains}
@@ -13,17 +13,9 @@ use Rattle.interface.specs.Pairing.{IsOutputPair, ArePairs}
 use Rattle.interface.proofs.Paired.{place_named-from}
 use Rattle.interface.proofs.Shared.{are_matched}
 use Rattle.sec_setup.specs.Matching.{InterfacesMatch}
-use Rattle.witness_report.specs.declared.witness.PairName.{PairName}
+use Rattle.swept_queries.proofs.Listed.{zip_left}
 use Rattle.witness_report.specs.declared.witness.PairName.TheVariants as pair
-use Rattle.pair_clauses.specs.Clauses.{IsOutput, IsNoOutput, IsPairNamed}
-
--- what stands beside an entry of the second list
-beside : {X Y : Type 0} (R : X → Y → Type 0) (xs : List X) (ys : List Y) → AllZip R xs ys → (i : ℕ) (y : Y) → slice_get ys i ≡ Some y → (x : X) × (slice_get xs i ≡ Some x) × R x y
-beside R [] [] fits i y at = absurd (let z : Rattle.std.specs.Prelude.None ≡ Some y = at in cc)
-beside R [] (z ∷ ys) fits i y at = absurd fits
-beside R (x ∷ xs) [] fits i y at = absurd fits
-beside R (x ∷ xs) (z ∷ ys) fits zero y at = (x, refl, subst (R x) (let e : Some z ≡ Some y = at in cc) fits.0)
-beside R (x ∷ xs) (z ∷ ys) fits (suc i) y at = beside R xs ys fits.1 i y at
+use Rattle.pair_clauses.specs.Clauses.{IsOutput, IsNoOutput}
 
 module _ (a b : NetView) (names : List (List ℕ)) (left right : List ℕ) (pairs : List SignalPair) (are : ArePairs a b names left right pairs) (none : names ≡ []) where
   no_nexts : are.nexts ≡ []
@@ -39,7 +31,7 @@ module _ (a b : NetView) (names : List (List ℕ)) (left right : List ℕ) (pair
   -- the pair of a name is one of outputs of this name
   pub named_outputs : (name : List ℕ) (i : ℕ) (p : SignalPair) → slice_get pairs i ≡ Some p → p.name ≡ pair.Output name → IsOutput (circuit_of a) name p.left.0 × IsOutput (circuit_of b) name p.right.0
   named_outputs name i p at is =
-      let o = beside (IsOutputPair b) a.outputs pairs outputs i p at in
+      let o = zip_left (IsOutputPair b) a.outputs pairs outputs i p at in
       let same : o.0.name ≡ name = let e : pair.Output o.0.name ≡ pair.Output name = sym o.2.name_is ∙ is in cc in
       let port = place_named-from b.outputs o.0.name p.right.0 o.2.right_is in
       let there : IsOutput (circuit_of a) o.0.name o.0.signal.0 = Contains-map named a.outputs o.0 (of_at a.outputs i o.0 o.1) in

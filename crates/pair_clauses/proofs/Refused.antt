@@ -1,14 +1,12 @@
 -- What is refused.
 use Rattle.std.specs.Prelude.{IsErrAnd}
-use Rattle.std.proofs.Common.{◌≡◌, ℕ, List, [], false, refl, sym, subst, Result, Ok, Err}
-use Rattle.circuit_theory.specs.declared.Side.{Side}
+use Rattle.std.proofs.Common.{◌≡◌, ℕ, List, false, refl, sym, subst, Result, Ok, Err}
 use Rattle.circuit_theory.specs.declared.Side.TheVariants.{A, B}
 use Rattle.flat_net.specs.View.{NetView, circuit_of}
 use Rattle.cnf_encode.specs.declared.cnf.Cnf.{Cnf}
 use Rattle.cut_points.specs.declared.exposed.Exposure.{Exposure}
 use Rattle.interface.specs.declared.pairs.SignalPair.{SignalPair}
-use Rattle.plain_form.specs.Formed.{IsLight}
-use Rattle.plain_form.specs.Pairs.{Unfolds, left_signals, right_signals, AreLight, AreTooLarge}
+use Rattle.plain_form.specs.Pairs.{Unfolds, right_signals, AreTooLarge}
 use Rattle.plain_form.specs.declared.error.PlainError.{PlainError}
 use Rattle.plain_form.specs.declared.error.PlainError.TheVariants as oversize
 use Rattle.plain_form.proofs.Growing.{over_weaker}
@@ -18,9 +16,9 @@ use Rattle.sec_setup.specs.Cuts.{IsChoice, StandInOrder, AreCutBy}
 use Rattle.sec_setup.specs.Matching.{InterfacesMatch}
 use Rattle.sec_setup.specs.Pairs.{ArePairsOf, outputs_of}
 use Rattle.sec_setup.proofs.Uncut.{uncut}
-use Rattle.sec_check.specs.Compared as compared
-use Rattle.sec_check.proofs.CutSizes.{cut_over, cut_light}
-use Rattle.pair_clauses.specs.Clauses.{PairGives, plainly, size_refusal_of}
+use Rattle.compare_base.specs.Compared as compared
+use Rattle.plain_meaning.proofs.CutSizes.{cut_over, cut_light}
+use Rattle.pair_clauses.specs.Clauses.{PairGives, size_refusal_of}
 use Rattle.pair_clauses.specs.declared.error.CertError.{CertError}
 use Rattle.pair_clauses.specs.declared.error.CertError.TheVariants.{Compare}
 

@@ -14,13 +14,13 @@ use Rattle.cnf_encode.specs.Encoding.{IsSmall}
 use Rattle.sec_base.specs.declared.settings.Settings.{Settings}
 use Rattle.sec_setup.specs.Cycles.{IsAcyclic}
 use Rattle.sec_setup.specs.Matching.{InterfacesMatch}
-use Rattle.plain_form.specs.Formed.{IsLight}
-use Rattle.plain_form.specs.Outcome.{HaveDifferentFunctions}
+use Rattle.plain_meaning.specs.Fitting.{IsLight}
+use Rattle.plain_meaning.specs.Outcome.{HaveDifferentFunctions}
 use Rattle.plain_form.specs.declared.error.PlainError.{PlainError}
 use Rattle.plain_form.specs.declared.error.PlainError.TheVariants as oversize
-use Rattle.sec_check.specs.Compared.{Compared}
-use Rattle.sec_check.specs.declared.error.CompareError.{CompareError}
-use Rattle.sec_check.specs.declared.error.CompareError.TheVariants as refused
+use Rattle.compare_base.specs.Compared.{Compared}
+use Rattle.compare_base.specs.declared.error.CompareError.{CompareError}
+use Rattle.compare_base.specs.declared.error.CompareError.TheVariants as refused
 use Rattle.witness_report.specs.declared.witness.PairName.TheVariants.{Output}
 use Rattle.pair_clauses.specs.declared.error.CertError.{CertError}
 use Rattle.pair_clauses.specs.declared.error.CertError.TheVariants.{Compare, Pair}

@@ -1,8 +1,8 @@
 //! Why a pair of outputs has no clauses.
 
+use compare_base::CompareError;
 use plain_form::PlainError;
 use sec_base::{NoMemory, Word};
-use sec_check::CompareError;
 use sec_setup::SetupError;
 
 /// Why a pair of outputs has no clauses.
@@ -16,7 +16,7 @@ pub enum CertError {
 
 impl From<NoMemory> for CertError {
     ghost use Rattle.std.specs.Prelude.{◌≡◌};
-    ghost use Rattle.sec_check.specs.declared.error.CompareError.TheVariants.{NoMemory};
+    ghost use Rattle.compare_base.specs.declared.error.CompareError.TheVariants.{NoMemory};
     ghost use Rattle.pair_clauses.specs.declared.error.CertError.TheVariants.{Compare};
 
     ghost from_gives = { λ _ e. e ≡ Compare NoMemory };
@@ -28,7 +28,7 @@ impl From<NoMemory> for CertError {
 
 impl From<SetupError> for CertError {
     ghost use Rattle.std.specs.Prelude.{◌≡◌};
-    ghost use Rattle.sec_check.specs.Compared.{refusal_of};
+    ghost use Rattle.compare_base.specs.Compared.{refusal_of};
     ghost use Rattle.pair_clauses.specs.declared.error.CertError.TheVariants.{Compare};
 
     ghost from_gives = { λ s e. e ≡ Compare (refusal_of s) };

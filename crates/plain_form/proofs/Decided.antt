@@ -38,8 +38,8 @@ use Rattle.witness_report.specs.declared.witness.Witness.{Witness}
 use Rattle.outcome.specs.declared.verdict.PairResult.{PairResult}
 use Rattle.sec_setup.specs.Pairs.{outputs_of}
 use Rattle.sec_setup.specs.Setup.{AreColumns}
-use Rattle.plain_form.specs.Limits.{ReadOnly, IsUndecided}
-use Rattle.plain_form.specs.Outcome.{HaveDifferentFunctions, AnswerFits, PairFits}
+use Rattle.plain_meaning.specs.Limits.{ReadOnly, IsUndecided}
+use Rattle.plain_meaning.specs.Outcome.{HaveDifferentFunctions, AnswerFits, PairFits}
 use Rattle.plain_form.specs.Sequences.{bits_at, IsSequence, IsWitnessOf}
 use Rattle.plain_form.specs.Variables.{variable_of, variables_of}
 use Rattle.plain_form.proofs.Leaves.{leaf_shift, leaf_is_column}

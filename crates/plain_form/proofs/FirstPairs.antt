@@ -1,5 +1,5 @@
 -- What is found of the obligations is what is found of the pairs.
-use Rattle.std.proofs.Common.{◌≡◌, ℕ, ◌<◌, List, [], ◌∷◌, map, length, slice_get, Some, refl, sym, ◌∙◌, ap, subst}
+use Rattle.std.proofs.Common.{◌≡◌, ℕ, List, [], ◌∷◌, map, slice_get, Some, sym, ◌∙◌, ap, subst}
 use Rattle.std.specs.List.{AllZip, Contains}
 use Rattle.std.proofs.lemmas.Option.{same_Some}
 use Rattle.circuit_theory.proofs.Lists.{Contains-map, of_at, zip_right}
@@ -22,13 +22,13 @@ use Rattle.obligations.specs.Decided.{IsAnswered, IsFirstOf}
 use Rattle.interface.specs.declared.pairs.SignalPair.{SignalPair}
 use Rattle.sec_setup.specs.declared.setup.Setup.{Setup}
 use Rattle.sec_setup.specs.Cuts.{is_cut}
-use Rattle.sec_setup.specs.Pairs.{outputs_of, places_of, NamedPair}
+use Rattle.sec_setup.specs.Pairs.{outputs_of, places_of}
 use Rattle.sec_setup.specs.Setup.{IsSetup}
 use Rattle.plain_form.specs.declared.functions.Functions.{Functions}
 use Rattle.plain_form.specs.Asked.{AskedOf, AreAsked}
-use Rattle.plain_form.specs.Outcome.{PairFits, PairsFit, IsFirstOfAnswer}
-use Rattle.plain_form.specs.Sequences.{IsSequence, IsWitnessOf}
-use Rattle.plain_form.specs.Shown.{IsQueryAt, IsShowable, IsWitnessAt}
+use Rattle.plain_meaning.specs.Outcome.{PairsFit, IsFirstOfAnswer}
+use Rattle.plain_form.specs.Sequences.{IsWitnessOf}
+use Rattle.plain_form.specs.Shown.{IsShowable, IsWitnessAt}
 use Rattle.plain_form.proofs.Decided.{pair_fits, only-query, is_sequence, is_witness}
 use Rattle.plain_form.proofs.PairQueries.{AsksPair, is_query}
 

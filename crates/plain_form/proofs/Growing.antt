@@ -1,28 +1,22 @@
 -- Functions of signals while the graph and the table grow, and the weight of their unfoldings.
-use Rattle.std.proofs.Common.{◌≡◌, ◌+◌, ◌<◌, ◌∙◌, ℕ, zero, suc, List, [], ◌∷◌, ◌++◌, length, map, take, get_or, Err, sym, ap, subst, arith, inl, inr, refl}
+use Rattle.std.proofs.Common.{◌≡◌, ◌<◌, ℕ, List, [], ◌∷◌, map, Err, subst}
 use Rattle.std.specs.List.{All, AllZip, Contains}
-use Rattle.std.proofs.lemmas.List.{map-append}
 use Rattle.std.proofs.lemmas.List.Elements.{All-contains}
-use Rattle.std.proofs.lemmas.Option.{slice_get-get_or}
 use Rattle.circuit_theory.specs.Circuit.{Circuit}
 use Rattle.circuit_theory.specs.Sizes.{IsWeight, IsOver}
-use Rattle.circuit_theory.proofs.Lists.{All-from_each, Contains-cases, Contains-head, Contains-map, Contains-tail, zip_weaker}
+use Rattle.circuit_theory.proofs.Lists.{All-from_each, Contains-map, zip_weaker}
 use Rattle.flat_net.specs.declared.signals.Signal.{Signal}
-use Rattle.flat_net.specs.View.{NetView, circuit_of}
+use Rattle.flat_net.specs.View.{NetView}
 use Rattle.aig.specs.declared.node.Node.{Node}
 use Rattle.aig.specs.Graph.{Grows}
 use Rattle.unfold_places.specs.declared.signal_function.Unfolded.{Unfolded}
 use Rattle.unfold_places.specs.Reach.{Adds}
-use Rattle.cbf_unfold.specs.View.{UnfolderView}
-use Rattle.cbf_unfold.specs.Unfolded.{IsUnfolded}
-use Rattle.cbf_unfold.specs.Building.{IsLater}
 use Rattle.cbf_unfold.proofs.Known.{unfolded_later}
 use Rattle.circuit_theory.specs.declared.Side.TheVariants.{A, B}
 use Rattle.plain_form.specs.declared.error.PlainError.{PlainError}
 use Rattle.plain_form.specs.declared.error.PlainError.TheVariants as refused
 use Rattle.interface.specs.declared.pairs.SignalPair.{SignalPair}
 use Rattle.plain_form.specs.Pairs.{IsFunctionOf, AreLight, AreTooLarge, IsRefusalOf, Unfolds, left_signals, right_signals}
-use Rattle.shift_variables.proofs.Assignments.{take_next}
 
 -- functions of the signals stay them while the graph and the table grow
 pub functions_later : {X : Type 0} (signal : X → ℕ) (n : NetView) (order : List ℕ) (g h : List Node) (places more : List (ℕ × ℕ)) → Grows g h → Adds (λ p. Unit {0}) places more → (xs : List X) (us : List Unfolded) →

@@ -18,7 +18,8 @@ use Rattle.sec_setup.specs.declared.setup.Setup.{Setup}
 use Rattle.plain_form.specs.declared.error.PlainError.{PlainError}
 use Rattle.plain_form.specs.declared.error.PlainError.TheVariants as refused
 use Rattle.interface.specs.declared.pairs.SignalPair.{SignalPair}
-use Rattle.plain_form.specs.Formed.{IsLight, Formed}
+use Rattle.plain_meaning.specs.Fitting.{IsLight}
+use Rattle.plain_form.specs.Formed.{Formed}
 use Rattle.sec_setup.specs.Pairs.{outputs_of, places_of, ArePairsOf}
 use Rattle.sec_setup.specs.Setup.{AreColumns}
 use Rattle.obligations.specs.declared.obligation.Obligation.{Obligation}
@@ -31,7 +32,7 @@ use Rattle.obligations.specs.Verdict.{IsVerdictAt}
 use Rattle.plain_form.specs.declared.functions.Functions.{Functions}
 use Rattle.plain_form.specs.Asked.{AreAsked}
 use Rattle.plain_form.specs.Shown.{CanBeShown, IsShown}
-use Rattle.plain_form.specs.Outcome.{VerdictFits}
+use Rattle.plain_meaning.specs.Outcome.{VerdictFits}
 use Rattle.pair_decide.specs.Queries.{IsQuery}
 use Rattle.obligations.specs.Asked as obligations_are
 use Rattle.plain_form.proofs.FirstPairs.{AreSound, ArePairsIn, first_pair, showable, own_query}

@@ -7,7 +7,7 @@ use Rattle.std.proofs.lemmas.List.Kept.{AllPairs-cons}
 use Rattle.std.proofs.lemmas.Option.{slice_get_within, get_or_from_slice_get}
 use Rattle.circuit_theory.specs.Tree.{Tree, tree_value}
 use Rattle.circuit_theory.specs.Query as query
-use Rattle.circuit_theory.specs.Query.{Variable, AreVariables, ShiftBefore, HasLeaf, assigned, same_shift, pair_query, bits_of}
+use Rattle.circuit_theory.specs.Query.{Variable, AreVariables, ShiftBefore, HasLeaf, same_shift, pair_query, bits_of}
 use Rattle.circuit_theory.proofs.Lists.{Contains-head, Contains-tail, Contains-cases, Contains-map, Contains-map_from, All-from_each, length-map}
 use Rattle.circuit_theory.proofs.Sums.{AllPairs-head, AllPairs-tail}
 use Rattle.sec_base.specs.Table.{AreDistinct}
@@ -26,7 +26,7 @@ use Rattle.cbf_unfold.proofs.Cone.{covers_cone, reached_one, constant_reaches}
 use Rattle.unfold_places.proofs.Lists.{pairs_map}
 use Rattle.pair_decide.specs.declared.query.Query.{Query}
 use Rattle.pair_decide.specs.Queries.{IsQuery, IsSame, IsLeast, Distinguishes, assigned_to, roots_of}
-use Rattle.plain_form.specs.Limits.{HasValueOf}
+use Rattle.plain_meaning.specs.Limits.{HasValueOf}
 use Rattle.plain_form.specs.Pairs.{IsFunctionOf}
 use Rattle.plain_form.specs.Sequences.{bits_at}
 use Rattle.plain_form.specs.Variables.{variable_of, variables_of, GoesBefore, AreInOrder, IsMergeOf, IsPairQuery}

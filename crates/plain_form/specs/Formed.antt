@@ -1,24 +1,15 @@
 -- What a comparison in the plain form gives.
-use Rattle.std.specs.Prelude.{ℕ, ◌≤◌, map, Result, Ok, Err}
+use Rattle.std.specs.Prelude.{ℕ, map, Result, Ok, Err}
 use Rattle.circuit_theory.specs.declared.Side.TheVariants.{A, B}
-use Rattle.circuit_theory.specs.Sizes.{IsWeight, IsOver}
-use Rattle.sec_base.specs.declared.limits.TheConstants.{MAX_WEIGHT}
-use Rattle.flat_net.specs.View.{NetView, circuit_of}
+use Rattle.flat_net.specs.View.{circuit_of}
 use Rattle.sec_setup.specs.declared.setup.Setup.{Setup}
 use Rattle.sec_setup.specs.Cuts.{is_cut}
-use Rattle.sec_setup.specs.Pairs.{outputs_of, places_of}
+use Rattle.sec_setup.specs.Pairs.{places_of}
+use Rattle.plain_meaning.specs.Fitting.{IsLight, IsTooLarge}
 use Rattle.plain_form.specs.declared.comparison.Findings.{Findings}
 use Rattle.plain_form.specs.declared.error.PlainError.{PlainError}
 use Rattle.plain_form.specs.declared.error.PlainError.TheVariants as refused
-use Rattle.plain_form.specs.Outcome.{FindingsFit}
-
--- the unfoldings of all outputs weigh at most 2,000,000 together
-abbrev pub IsLight : NetView → Type 0
-IsLight n = (w : ℕ) × IsWeight (circuit_of n) (outputs_of n) w × (w ≤ MAX_WEIGHT)
-
--- or more
-abbrev pub IsTooLarge : NetView → Type 0
-IsTooLarge n = IsOver (circuit_of n) (outputs_of n) MAX_WEIGHT
+use Rattle.plain_form.specs.Findings.{FindingsFit}
 
 -- both unfoldings are light, and what is found fits the circuits that are compared
 pub record AreFound (s : Setup) (conflicts : ℕ) (f : Findings) : Type 0 where

@@ -6,7 +6,7 @@ use Rattle.circuit_theory.specs.Tree.{Tree, Unfolds}
 use Rattle.outcome.specs.declared.verdict.LimitAt.{LimitAt}
 use Rattle.outcome.specs.declared.verdict.Verdict.TheVariants as verdict
 use Rattle.plain_form.specs.declared.comparison.Findings.{Findings}
-use Rattle.plain_form.specs.Outcome.{FindingsFit}
+use Rattle.plain_form.specs.Findings.{FindingsFit}
 use Rattle.sec_setup.specs.Pairs.{NamedPair}
 
 -- both places unfold to one tree

@@ -1,5 +1,4 @@
-pub mod Limits
-pub mod Outcome
+pub mod Findings
 pub mod Formed
 pub mod Variables
 pub mod Pairs

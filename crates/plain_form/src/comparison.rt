@@ -7,7 +7,7 @@ ghost use Rattle.sec_setup.specs.Pairs.{places_of};
 ghost use Rattle.sec_setup.specs.Setup.{IsSetup};
 ghost use Rattle.plain_form.specs.Formed.{Formed};
 ghost use Rattle.plain_form.specs.Pairs.{HaveFunctions};
-ghost use Rattle.plain_form.specs.Outcome.{FindingsFit};
+ghost use Rattle.plain_form.specs.Findings.{FindingsFit};
 
 use crate::error::PlainError;
 use crate::functions::{Functions, unfold_pairs};

@@ -1,22 +1,21 @@
 -- Circuits that can be compared have certificates of their outputs.
 use Rattle.std.specs.Prelude.{codes}
 use Rattle.std.specs.List.{Contains}
-use Rattle.std.proofs.Common.{◌≡◌, ℕ, false, List, [], ◌∷◌, map, sym, ap, subst}
-use Rattle.circuit_theory.specs.Circuit.{Named}
+use Rattle.std.proofs.Common.{ℕ, false, List, [], sym, subst}
 use Rattle.circuit_theory.proofs.Lists.{Contains-head, Contains-map, Contains-map_from}
 use Rattle.blif_read.specs.declared.design.BlifModel.{BlifModel}
 use Rattle.flat_net.specs.declared.parts.Port.{Port}
 use Rattle.flat_net.specs.View.{NetView, named, circuit_of}
-use Rattle.sec_files.specs.Loading.{Loads}
 use Rattle.pair_clauses.specs.Clauses.{IsOutput}
-use Rattle.job_check.specs.Answer.{AreComparable}
+use Rattle.check_meaning.specs.Answer.{AreComparable}
 use Rattle.job_cert.specs.Answer.{AreCertifiable}
 use Rattle.design_rows.specs.Designs as design
 use Rattle.design_rows.specs.Small.{Small, IsSmall, small_and, small_late}
-use Rattle.premise_rows.specs.Texts.{on_and, off_and, late, early}
+use Rattle.design_rows.specs.Texts.{on_and, off_and, late, early}
 use Rattle.premise_rows.specs.Certificates.{CertificatesMeetPremises}
-use Rattle.premise_rows.proofs.Comparing.{Spells, net_is_small}
-use Rattle.premise_rows.proofs.Examples.{on_and_spells, late_spells, ands_are_comparable, retimed_are_comparable}
+use Rattle.design_rows.proofs.Spelling.{Spells, net_is_small}
+use Rattle.design_rows.proofs.SpelledTexts.{on_and_spells, late_spells}
+use Rattle.premise_rows.proofs.Examples.{ands_are_comparable, retimed_are_comparable}
 
 -- a name of the ports is that of an output
 output_named : (s : Small) (net : NetView) (name : List ℕ) → IsSmall s net → Contains s.outputs name → (p : ℕ) × IsOutput (circuit_of net) name p

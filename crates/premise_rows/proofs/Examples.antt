@@ -1,4 +1,4 @@
--- The worked texts are small designs' texts, and what can be done with them.
+-- What can be done with the worked texts.
 use Rattle.std.proofs.Common.{◌≡◌, ℕ, true, List, [], ◌∷◌, filter, refl, sym, ap, ap₂, subst, arith, inl, inr}
 use Rattle.std.specs.Prelude.{codes}
 use Rattle.std.specs.List.{Contains}
@@ -8,59 +8,25 @@ use Rattle.circuit_theory.specs.Depth.{HasCycle}
 use Rattle.circuit_theory.specs.Run.{NoneEnabled}
 use Rattle.circuit_theory.specs.Circuit.{Latch}
 use Rattle.circuit_theory.proofs.Lists.{Contains-head, Contains-tail, Contains-cases}
-use Rattle.blif_lines.specs.Lines.{cut_line, going_on}
-use Rattle.blif_read.specs.Fault.{fault_of}
-use Rattle.blif_read.specs.Heads.{head_of}
 use Rattle.flat_net.specs.View.{NetView, circuit_of}
 use Rattle.flatten.specs.DesignFaults.{IsFlatOf}
 use Rattle.blif_read.specs.declared.design.BlifModel.{BlifModel}
 use Rattle.cut_points.specs.Common.{common_names}
 use Rattle.sec_setup.specs.Cycles.{AreBroken}
-use Rattle.sec_check.specs.Compared.{AreTooLarge}
+use Rattle.compare_base.specs.Compared.{AreTooLarge}
 use Rattle.sec_setup.specs.Cuts.{IsChoice}
-use Rattle.sec_check.specs.Fitting.{IsCutOver}
+use Rattle.plain_meaning.specs.Fitting.{IsCutOver}
 use Rattle.sec_files.specs.Formats.{Blif}
 use Rattle.sec_files.specs.Loading.{Loads}
 use Rattle.sec_files.proofs.Texts.{text_net}
 use Rattle.design_rows.specs.Designs as design
-use Rattle.design_rows.specs.Small.{small_and, small_late, small_early, small_two, small_toggle, small_idle, IsSmall}
-use Rattle.design_rows.proofs.Examples.{on_and_is_small, off_and_is_small, late_is_small, early_is_small, hier_is_small, two_is_small, idle_is_small}
+use Rattle.design_rows.specs.Small.{small_and, small_late, small_early, small_two, small_toggle, IsSmall}
 use Rattle.design_rows.proofs.Toggle.{toggle_is_small}
-use Rattle.premise_rows.specs.Texts.{on_and, off_and, late, early, toggle, hier, two, idle}
-use Rattle.premise_rows.specs.Premises.{AndsAreComparable, RetimedAreComparable, HierarchyIsComparable, CyclicAreComparable, TextsAreAccepted, TextsCanBeUnfolded}
-use Rattle.premise_rows.proofs.Comparing.{Spells, accepted, net_is_small, match, comparable, unfolded, latch_in}
-
-pub on_and_spells : Spells on_and design.on_and small_and
-unfolding fault_of head_of cut_line going_on
-on_and_spells = record { short = omega arith; format = refl; faultless = refl; models_are = refl; small = on_and_is_small }
-
-pub off_and_spells : Spells off_and design.off_and (record small_and { weight = 9 })
-unfolding fault_of head_of cut_line going_on
-off_and_spells = record { short = omega arith; format = refl; faultless = refl; models_are = refl; small = off_and_is_small }
-
-pub late_spells : Spells late design.late small_late
-unfolding fault_of head_of cut_line going_on
-late_spells = record { short = omega arith; format = refl; faultless = refl; models_are = refl; small = late_is_small }
-
-pub early_spells : Spells early design.early small_early
-unfolding fault_of head_of cut_line going_on
-early_spells = record { short = omega arith; format = refl; faultless = refl; models_are = refl; small = early_is_small }
-
-hier_spells : Spells hier design.hier small_late
-unfolding fault_of head_of cut_line going_on
-hier_spells = record { short = omega arith; format = refl; faultless = refl; models_are = refl; small = hier_is_small }
-
-pub two_spells : Spells two design.two small_two
-unfolding fault_of head_of cut_line going_on
-two_spells = record { short = omega arith; format = refl; faultless = refl; models_are = refl; small = two_is_small }
-
-idle_spells : Spells idle design.idle small_idle
-unfolding fault_of head_of cut_line going_on
-idle_spells = record { short = omega arith; format = refl; faultless = refl; models_are = refl; small = idle_is_small }
-
-pub toggle_spells : Spells toggle design.toggle small_toggle
-unfolding fault_of head_of cut_line going_on
-toggle_spells = record { short = omega arith; format = refl; faultless = refl; models_are = refl; small = toggle_is_small.0 }
+use Rattle.design_rows.specs.Texts.{on_and, off_and, late, early, toggle, hier, two}
+use Rattle.premise_rows.specs.Premises.{AndsAreComparable, RetimedAreComparable, HierarchyIsComparable, CyclicAreComparable, TextsAreAccepted}
+use Rattle.design_rows.proofs.Spelling.{accepted, net_is_small, match, latch_in}
+use Rattle.premise_rows.proofs.Comparing.{comparable}
+use Rattle.design_rows.proofs.SpelledTexts.{on_and_spells, off_and_spells, late_spells, early_spells, hier_spells, two_spells, toggle_spells}
 
 pub ands_are_comparable : AndsAreComparable
 ands_are_comparable =
@@ -137,14 +103,4 @@ texts_are_accepted = (
   accepted toggle design.toggle small_toggle toggle_spells,
   accepted hier design.hier small_late hier_spells,
   accepted two design.two small_two two_spells,
-)
-
-pub texts_can_be_unfolded : TextsCanBeUnfolded
-texts_can_be_unfolded = (
-  unfolded on_and design.on_and small_and on_and_spells refl (omega arith),
-  unfolded late design.late small_late late_spells refl (omega arith),
-  unfolded early design.early small_early early_spells refl (omega arith),
-  unfolded hier design.hier small_late hier_spells refl (omega arith),
-  unfolded two design.two small_two two_spells refl (omega arith),
-  unfolded idle design.idle small_idle idle_spells refl (omega arith),
 )

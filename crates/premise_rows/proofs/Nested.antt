@@ -1,6 +1,5 @@
 -- The text whose latch on a cycle lies inside of an instance.
-use Rattle.std.proofs.Common.{◌≡◌, ◌∙◌, ℕ, ◌<◌, List, [], ◌∷◌, length, Option, Some, None, refl, sym, ap, ap₂, subst, arith}
-use Rattle.std.specs.Fmt.{digits}
+use Rattle.std.proofs.Common.{◌≡◌, ◌∙◌, ℕ, List, [], ◌∷◌, length, Option, Some, None, refl, sym, ap, ap₂, subst, arith}
 use Rattle.std.specs.Prelude.{codes}
 use Rattle.circuit_theory.specs.declared.Mode.TheVariants.{Plain}
 use Rattle.circuit_theory.specs.Agree.{IsMinimalCut}
@@ -16,8 +15,8 @@ use Rattle.design_rows.specs.Designs as design
 use Rattle.design_rows.specs.Small.{small_nested}
 use Rattle.design_rows.proofs.Nested.{nested_is_small, nested_is_cut, nested_meets_onward, nested_is_obeyed}
 use Rattle.premise_rows.specs.CutOpen.{NestedIsCutOpen}
-use Rattle.premise_rows.specs.Texts.{nested}
-use Rattle.premise_rows.proofs.Comparing.{Spells, accepted}
+use Rattle.design_rows.specs.Texts.{nested}
+use Rattle.design_rows.proofs.Spelling.{Spells, accepted}
 
 spells : Spells nested design.nested small_nested
 unfolding fault_of head_of cut_line going_on

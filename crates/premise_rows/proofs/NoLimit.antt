@@ -25,13 +25,13 @@ use Rattle.sec_base.specs.declared.settings.Settings.{Settings}
 use Rattle.sec_setup.specs.Cuts.{IsChoice, columns_of}
 use Rattle.sec_setup.proofs.CutNets.{same_as_cut, cut_numbers}
 use Rattle.sec_setup.proofs.SameEquations.{same_tree}
-use Rattle.job_check.specs.Answer.{TextsUndecided}
+use Rattle.check_meaning.specs.Answer.{TextsUndecided}
 use Rattle.design_rows.specs.Designs as design
 use Rattle.design_rows.specs.Small.{small_and, IsSmall}
 use Rattle.premise_rows.specs.RuledOut.{AndsMeetNoLimit}
-use Rattle.premise_rows.specs.Texts.{on_and, off_and}
-use Rattle.premise_rows.proofs.Comparing.{net_is_small, latch_in, ports_are}
-use Rattle.premise_rows.proofs.Examples.{on_and_spells, off_and_spells}
+use Rattle.design_rows.specs.Texts.{on_and, off_and}
+use Rattle.design_rows.proofs.Spelling.{net_is_small, latch_in, ports_are}
+use Rattle.design_rows.proofs.SpelledTexts.{on_and_spells, off_and_spells}
 
 none_in : {X : Type 0} (x : X) → Contains [] x → ⊥
 none_in x h = let l = h.1 in omega (arith, l)

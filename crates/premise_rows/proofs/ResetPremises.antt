@@ -22,21 +22,21 @@ use Rattle.design_laws.specs.NoFault.{has_no_fault}
 use Rattle.design_laws.proofs.NoFaults.{tested_is_sound}
 use Rattle.design_rows.specs.Designs.{one_model, and_cover}
 use Rattle.design_rows.specs.Designs as design
-use Rattle.design_rows.specs.Small.{Small, IsSmall, AreSmall, small_late, small_early}
+use Rattle.design_rows.specs.Small.{Small, IsSmall, small_late, small_early}
 use Rattle.design_rows.proofs.Examples.{at_top, rank_of}
 use Rattle.design_rows.proofs.Tested.{PassesTests, tested_is_small}
 use Rattle.flat_net.specs.View.{NetView, circuit_of}
 use Rattle.reset_laws.specs.Weight.{PlaceInCycle, ResetVisits, WeighedInCycle, IsResetOver}
 use Rattle.reset_unfold.specs.Places.{in_cycle, starts_of}
 use Rattle.sec_setup.specs.Pairs.{NamedPair, named_pairs}
-use Rattle.sec_check.specs.FromReset.{IsLeftStart, IsRightStart, AreTooLargeFromReset}
-use Rattle.sec_check.proofs.CutPairs.{IsOutputPair, IsNextPair, listed_is}
-use Rattle.sec_files.specs.Loading.{Loads}
-use Rattle.job_check.specs.Answer.{AreComparable}
+use Rattle.compare_base.specs.FromReset.{IsLeftStart, IsRightStart, AreTooLargeFromReset}
+use Rattle.plain_meaning.proofs.CutPairs.{IsOutputPair, IsNextPair, listed_is}
+use Rattle.check_meaning.specs.Answer.{AreComparable}
 use Rattle.premise_rows.specs.ResetPremises.{late_from_zero, early_from_zero, ResetsAreComparable}
-use Rattle.premise_rows.specs.Texts.{late, early}
-use Rattle.premise_rows.proofs.Comparing.{Spells, PortsMatch, accepted, net_is_small, match, broken}
-use Rattle.premise_rows.proofs.Examples.{late_spells, early_spells}
+use Rattle.design_rows.specs.Texts.{late, early}
+use Rattle.design_rows.proofs.Spelling.{Spells, PortsMatch, accepted, net_is_small, match}
+use Rattle.premise_rows.proofs.Comparing.{broken}
+use Rattle.design_rows.proofs.SpelledTexts.{late_spells, early_spells}
 use Rattle.premise_rows.proofs.ResetBounds.{times, SeenBelow, cycles_weigh, depth_low}
 
 all_kept : {P : Type 0} (es : List (Equation P)) → filter (is_kept []) es ≡ es

@@ -13,9 +13,9 @@ use Rattle.sec_files.specs.Loading.{Loads}
 use Rattle.design_rows.specs.Designs as design
 use Rattle.design_rows.specs.Small.{small_ring, IsSmall}
 use Rattle.design_rows.proofs.Examples.{ring_is_small}
-use Rattle.premise_rows.specs.Texts.{ring}
+use Rattle.design_rows.specs.Texts.{ring}
 use Rattle.premise_rows.specs.Premises.{RingIsCutOnce}
-use Rattle.premise_rows.proofs.Comparing.{Spells, net_is_small, latch_in}
+use Rattle.design_rows.proofs.Spelling.{Spells, net_is_small, latch_in}
 
 first_spells : Spells ring design.ring (small_ring (codes "p") 6)
 unfolding fault_of head_of cut_line going_on

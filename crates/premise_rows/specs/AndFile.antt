@@ -1,7 +1,7 @@
 -- A circuit as an AIGER file beside the same as a BLIF text.
 use Rattle.std.specs.Prelude.{ℕ, Bool, false, List, codes}
-use Rattle.job_check.specs.Answer.{AreComparable}
-use Rattle.premise_rows.specs.Texts.{off_and}
+use Rattle.check_meaning.specs.Answer.{AreComparable}
+use Rattle.design_rows.specs.Texts.{off_and}
 
 -- an and, with names
 abbrev pub and_file : List ℕ

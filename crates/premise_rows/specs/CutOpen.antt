@@ -6,7 +6,7 @@ use Rattle.circuit_theory.specs.Circuit.{Circuit}
 use Rattle.blif_read.specs.Design.{Place}
 use Rattle.sec_files.specs.Loading.{IsAccepted, SpellsCircuit}
 use Rattle.design_rows.specs.Cutting.{MeetsOnward, IsObeyed, turning}
-use Rattle.premise_rows.specs.Texts.{nested}
+use Rattle.design_rows.specs.Texts.{nested}
 
 -- The text is accepted, and the latch inside of the instance is a minimal cut of what it spells and itself. Two runs of that meet what
 -- agreement onward over this latch asks for. With it cut out each sequence over it and the input is obeyed.

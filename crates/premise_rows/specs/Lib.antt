@@ -1,15 +1,6 @@
-pub mod Texts
 pub mod Premises
 pub mod AndFile
 pub mod RuledOut
-pub mod Stimuli
-pub mod Enables
-pub mod TextNets
-pub mod OneText
-pub mod OneReport
 pub mod CutOpen
-pub mod Replays
-pub mod Refutations
 pub mod Certificates
-pub mod Started
 pub mod ResetPremises

@@ -2,10 +2,9 @@
 use Rattle.std.specs.Prelude.{ℕ, ◌≤◌, Bool, true, false, List, length}
 use Rattle.flat_net.specs.View.{NetView}
 use Rattle.sec_setup.specs.Cuts.{IsChoice}
-use Rattle.job_check.specs.Answer.{AreComparable}
+use Rattle.check_meaning.specs.Answer.{AreComparable}
 use Rattle.sec_files.specs.Loading.{IsAccepted, Loads}
-use Rattle.premise_rows.specs.OneText.{CanBeUnfolded}
-use Rattle.premise_rows.specs.Texts.{on_and, off_and, late, early, toggle, hier, two, idle, ring}
+use Rattle.design_rows.specs.Texts.{on_and, off_and, late, early, toggle, hier, two, ring}
 
 -- two ands, whether latches may be cut open or not
 abbrev pub AndsAreComparable : Type 0
@@ -26,10 +25,6 @@ CyclicAreComparable = AreComparable toggle toggle true false
 -- all of them are accepted, as a latch graph asks for
 abbrev pub TextsAreAccepted : Type 0
 TextsAreAccepted = IsAccepted on_and × IsAccepted off_and × IsAccepted late × IsAccepted early × IsAccepted toggle × IsAccepted hier × IsAccepted two
-
--- those without a cycle can be unfolded, and so be compared with themselves; among them is one whose latch feeds no output
-abbrev pub TextsCanBeUnfolded : Type 0
-TextsCanBeUnfolded = CanBeUnfolded on_and × CanBeUnfolded late × CanBeUnfolded early × CanBeUnfolded hier × CanBeUnfolded two × CanBeUnfolded idle
 
 -- of two latches that take over each other at most one is cut open
 abbrev pub RingIsCutOnce : Type 0

@@ -34,7 +34,7 @@ use Rattle.shift_variables.specs.Variables.{variable_of, variables_of}
 use Rattle.cycle_variables.specs.Cycles.{GoesFirst, AreInCycles, IsCycleMerge}
 use Rattle.cycle_variables.proofs.MergeCycles.{cycle_apart}
 use Rattle.reset_form.specs.Asked.{IsCycleQuery}
-use Rattle.reset_form.specs.Limits.{HasValueOf}
+use Rattle.reset_functions.specs.Limits.{HasValueOf}
 use Rattle.shift_variables.proofs.Assignments.{assigned_alike}
 
 -- the number of a variable in the table is that of the variable

@@ -19,8 +19,8 @@ use Rattle.pair_decide.specs.Answers.{IsDifference, IsAtLimit}
 use Rattle.swept_queries.specs.InStead.{IsInStead}
 use Rattle.shift_variables.specs.Sequences.{bits_at}
 use Rattle.shift_variables.specs.Variables.{variable_of, variables_of}
-use Rattle.reset_form.specs.Limits.{ReadOnly, IsUndecidedAt}
-use Rattle.reset_form.specs.Outcome.{DifferAt}
+use Rattle.reset_functions.specs.Limits.{ReadOnly, IsUndecidedAt}
+use Rattle.reset_functions.specs.Outcome.{DifferAt}
 use Rattle.reset_form.proofs.CycleQueries.{AsksCycle, left_tree, right_tree, query_in_order, are_variables, left_value, right_value, care_value, same_trees, trees_differ, variables_long}
 
 module _ {a b : NetView} {left right : List ℕ} {left_base right_base : ℕ} {g : List Node} {places : List (ℕ × ℕ)} {s t cycle : ℕ} {l r : Unfolded} {q : Query} (x : AsksCycle a b left right left_base right_base g places s t cycle l r q) where

@@ -6,7 +6,7 @@ use Rattle.std.proofs.lemmas.List.Elements.{All-nil, All-cons, All-map}
 use Rattle.std.proofs.lemmas.Option.{same_Some}
 use Rattle.circuit_theory.specs.Query.{Variable, bits_of, pair_query, same_shift}
 use Rattle.circuit_theory.specs.Query as query
-use Rattle.circuit_theory.proofs.Lists.{All-from_each, Contains-map, of_at, zip_right}
+use Rattle.circuit_theory.proofs.Lists.{All-from_each, of_at, zip_right}
 use Rattle.circuit_theory.proofs.Numbers.{slice_get-map}
 use Rattle.sec_base.specs.declared.basics.PairAnswer.{PairAnswer}
 use Rattle.sec_base.specs.declared.basics.PairAnswer.TheVariants as answer
@@ -33,7 +33,7 @@ use Rattle.outcome.specs.declared.verdict.ResetWitness.{ResetWitness}
 use Rattle.reset_form.specs.Asked.{AskedOf, AreAsked}
 use Rattle.reset_functions.specs.Bases.{AreBases}
 use Rattle.reset_form.specs.Formed.{numbered}
-use Rattle.reset_form.specs.Outcome.{PairFits, IsFirstDifference}
+use Rattle.reset_functions.specs.Outcome.{PairFits, IsFirstDifference}
 use Rattle.reset_form.specs.Shown.{IsShowable, IsWitnessOf, IsWitnessAt}
 pub use Rattle.reset_functions.proofs.OwnPairs.{ArePairsIn, own_pairs}
 use Rattle.reset_form.proofs.Columns.{leaf_is}

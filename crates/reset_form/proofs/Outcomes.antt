@@ -22,7 +22,7 @@ use Rattle.reset_functions.specs.declared.functions.Functions.{Functions}
 use Rattle.reset_form.specs.declared.shown.ResetVerdict.{ResetVerdict}
 use Rattle.reset_form.specs.Asked.{AskedOf, AreAsked}
 use Rattle.reset_form.specs.Formed.{numbered}
-use Rattle.reset_form.specs.Outcome.{VerdictFits}
+use Rattle.reset_form.specs.Findings.{VerdictFits}
 use Rattle.reset_form.specs.Shown.{CanBeShown, IsShown}
 use Rattle.reset_form.proofs.FirstPairs.{AreSound, ArePairsIn, first_pair, showable}
 

@@ -2,16 +2,10 @@
 use Rattle.std.proofs.Common.{◌≡◌, ℕ, ◌+◌, ◌<◌, ◌≤◌, List, [], ◌∷◌, ◌++◌, length, slice_get, Some, sym, ◌∙◌, ap, subst, arith, inl, inr}
 use Rattle.std.specs.Prelude.{◌⊎◌}
 use Rattle.std.specs.List.{All, AllZip, Contains}
-use Rattle.std.proofs.lemmas.List.Elements.{All-contains}
 use Rattle.std.proofs.lemmas.Option.{same_Some, slice_get_within}
-use Rattle.circuit_theory.specs.Circuit.{Circuit}
-use Rattle.circuit_theory.specs.Depth.{IsDepth}
 use Rattle.circuit_theory.specs.Fits.{IsPairDepth}
-use Rattle.circuit_theory.specs.Run.{NoneEnabled}
-use Rattle.circuit_theory.proofs.Lists.{All-from_each, Contains-cases, Contains-map_from, at_of, zip_right, zip_length}
-use Rattle.flat_net.specs.declared.parts.Port.{Port}
+use Rattle.circuit_theory.proofs.Lists.{All-from_each, Contains-cases, at_of, zip_right, zip_length}
 use Rattle.flat_net.specs.View.{NetView, circuit_of}
-use Rattle.flat_net.specs.Sound.{IsSound}
 use Rattle.flat_net.proofs.Growth.{length-push}
 use Rattle.unfold_places.specs.declared.signal_function.Unfolded.{Unfolded}
 use Rattle.unfold_places.proofs.Lists.{append_cases}
@@ -19,7 +13,6 @@ use Rattle.pair_decide.specs.declared.query.Query.{Query}
 use Rattle.aig.specs.declared.node.Node.{Node}
 use Rattle.interface.specs.declared.pairs.SignalPair.{SignalPair}
 use Rattle.sec_setup.specs.declared.setup.Setup.{Setup}
-use Rattle.sec_setup.specs.Pairs.{outputs_of}
 use Rattle.cycle_variables.specs.Cycles.{AreInCycles}
 use Rattle.reset_form.specs.Asked.{IsCycleQuery}
 use Rattle.reset_functions.specs.Pairs.{AreCyclesOf, IsTopOf}

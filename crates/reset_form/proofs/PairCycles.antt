@@ -27,7 +27,7 @@ use Rattle.reset_functions.specs.declared.bases.Bases.{Bases}
 use Rattle.reset_functions.specs.declared.functions.Functions.{Functions}
 use Rattle.reset_form.specs.Asked.{AskedOf}
 use Rattle.reset_form.specs.Formed.{numbered}
-use Rattle.reset_form.specs.Outcome.{AgreeAt, AgreeBefore, AnswerFits, PairFits}
+use Rattle.reset_functions.specs.Outcome.{AgreeAt, AgreeBefore, AnswerFits, PairFits}
 use Rattle.reset_form.proofs.CycleQueries.{AsksCycle, is_query}
 use Rattle.reset_form.proofs.Decided.{equal_at, differ_at, undecided_at}
 

@@ -9,7 +9,8 @@ use Rattle.reset_form.specs.declared.comparison.ResetFindings.{ResetFindings}
 use Rattle.reset_functions.specs.declared.error.ResetError.{ResetError}
 use Rattle.reset_functions.specs.declared.error.ResetError.TheVariants as refused
 use Rattle.reset_functions.specs.Bases.{AreBases}
-use Rattle.reset_form.specs.Outcome.{Numbered, FindingsFit}
+use Rattle.reset_functions.specs.Outcome.{Numbered}
+use Rattle.reset_form.specs.Findings.{FindingsFit}
 use Rattle.reset_functions.specs.Pairs.{IsLeftSide, IsRightSide, IsLight, IsTooLarge}
 
 -- the circuits of a setup, with the numbers of their variables

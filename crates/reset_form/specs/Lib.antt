@@ -1,5 +1,4 @@
-pub mod Limits
+pub mod Findings
 pub mod Asked
 pub mod Shown
-pub mod Outcome
 pub mod Formed

@@ -5,7 +5,7 @@ ghost use Rattle.sec_setup.specs.Pairs.{places_of};
 ghost use Rattle.sec_setup.specs.Setup.{IsSetup};
 ghost use Rattle.reset_functions.specs.Bases.{AreBases};
 ghost use Rattle.reset_form.specs.Formed.{Formed, numbered};
-ghost use Rattle.reset_form.specs.Outcome.{FindingsFit};
+ghost use Rattle.reset_form.specs.Findings.{FindingsFit};
 ghost use Rattle.reset_functions.specs.Pairs.{HaveFunctions};
 
 use crate::questions::ask;

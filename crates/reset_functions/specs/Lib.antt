@@ -1,2 +1,4 @@
 pub mod Bases
 pub mod Pairs
+pub mod Limits
+pub mod Outcome

@@ -1,12 +1,4 @@
-pub mod CutPairs
-pub mod CutSizes
-pub mod Leaves
-pub mod Meaning
 pub mod Outcomes
-pub mod Refusals
-pub mod Sequences
 pub mod ResetLeaves
 pub mod ResetMeaning
 pub mod ResetSetups
-pub mod Forms
-pub mod ToldCycles

@@ -18,13 +18,13 @@ use Rattle.sec_setup.specs.Setup.{IsSetupOf}
 use Rattle.plain_form.specs.declared.comparison.Findings.{Findings}
 use Rattle.plain_form.specs.declared.error.PlainError.TheVariants as plain_error
 use Rattle.plain_form.specs.Formed.{AreFound, Formed}
-use Rattle.plain_form.specs.Outcome.{FindingsFit}
-use Rattle.sec_check.specs.declared.error.CompareError.TheVariants as refused
-use Rattle.sec_check.specs.Compared.{AreTooLarge, IsCompared, Compared}
-use Rattle.sec_check.specs.Fitting.{OutcomeFits}
-use Rattle.sec_check.proofs.Forms.{in_always}
-use Rattle.sec_check.proofs.CutSizes.{cut_over, cut_light}
-use Rattle.sec_check.proofs.Meaning.{they_are_equal, makes_differ, makes_cuts_differ}
+use Rattle.plain_form.specs.Findings.{FindingsFit}
+use Rattle.compare_base.specs.declared.error.CompareError.TheVariants as refused
+use Rattle.compare_base.specs.Compared.{AreTooLarge, IsCompared, Compared}
+use Rattle.plain_meaning.specs.Fitting.{OutcomeFits}
+use Rattle.compare_base.proofs.Forms.{in_always}
+use Rattle.plain_meaning.proofs.CutSizes.{cut_over, cut_light}
+use Rattle.plain_meaning.proofs.Meaning.{they_are_equal, makes_differ, makes_cuts_differ}
 
 module _ (a b : NetView) (settings : Settings) (e : Exposure) (s : Setup) (matches : InterfacesMatch a b) (chosen : IsChosen a b settings.expose e) (is : IsSetupOf a b s) (same : s.exposed ≡ e.names) where
   choice : IsChoice a b settings.expose s.exposed

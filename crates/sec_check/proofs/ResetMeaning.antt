@@ -1,13 +1,13 @@
 -- What an outcome from the initial values that fits two nets says of their circuits.
-use Rattle.std.proofs.Common.{◌≡◌, ◌≢◌, ℕ, ◌<◌, ◌≤◌, Bool, List, [], ◌∷◌, map, length, sym, ◌∙◌, ap, subst, arith, inl, inr, ◌⊎◌, Option, Some, None, slice_get}
+use Rattle.std.proofs.Common.{◌≡◌, ℕ, ◌<◌, ◌≤◌, Bool, List, [], ◌∷◌, map, length, sym, ◌∙◌, subst, arith, inl, inr, ◌⊎◌, Option, Some, None}
 use Rattle.std.specs.List.{All, Contains}
 use Rattle.std.proofs.lemmas.List.Elements.{All-contains}
 use Rattle.circuit_theory.specs.Agree.{IsPair}
-use Rattle.circuit_theory.specs.Circuit.{Circuit, Named}
+use Rattle.circuit_theory.specs.Circuit.{Named}
 use Rattle.circuit_theory.specs.Interface.{shared_inputs, AreNumbersOf}
 use Rattle.circuit_theory.specs.Query.{Variable, HasLeaf, assigned, same_shift}
 use Rattle.circuit_theory.specs.Run.{IsRun}
-use Rattle.circuit_theory.specs.Tree.{Tree, AreNumbered, IsInputNumber}
+use Rattle.circuit_theory.specs.Tree.{Tree, AreNumbered}
 use Rattle.circuit_theory.proofs.Lists.{Contains-head, Contains-tail, at_of, of_at, map-map, zip_right}
 use Rattle.circuit_laws.proofs.LawProofs.{numbers_are_shared}
 use Rattle.flat_net.specs.declared.parts.Port.{Port}
@@ -24,15 +24,15 @@ use Rattle.outcome.specs.declared.verdict.ResetWitness.{ResetWitness}
 use Rattle.outcome.specs.declared.verdict.Verdict.{Verdict}
 use Rattle.outcome.specs.declared.verdict.Verdict.TheVariants as verdict
 use Rattle.outcome.specs.declared.verdict.Outcome.{Outcome}
-use Rattle.reset_laws.specs.Reset.{ResetUnfolds, HasStarts, AreEqualFromReset, AgreeFromReset, AreAlikeFromReset, TakesPower, IsResetWitness, MakesDifferFromReset, powers, reset_rows}
+use Rattle.reset_laws.specs.Reset.{HasStarts, AreEqualFromReset, AgreeFromReset, AreAlikeFromReset, TakesPower, MakesDifferFromReset}
 use Rattle.reset_laws.proofs.ResetAgreement.{equal_resets_agree, reset_same_at}
 use Rattle.reset_laws.proofs.ResetWindows.{reset_witness_makes_differ}
 use Rattle.reset_nets.proofs.Starts.{nets_have_starts}
 use Rattle.sec_setup.specs.Pairs.{NamedPair, named_pairs}
-use Rattle.reset_form.specs.Outcome.{Numbered, AgreeAt, AnswerFits, PairFits, IsFirstDifference}
-use Rattle.sec_check.specs.FromReset.{numbered_by, ResetOutcomeFits, ResetVerdictFits}
-use Rattle.sec_check.specs.Says.{MakesResetsDiffer}
-use Rattle.sec_check.proofs.CutPairs.{IsOutputPair, IsNextPair, one_output, pair_listed, listed_is}
+use Rattle.reset_functions.specs.Outcome.{Numbered, AgreeAt, AnswerFits, PairFits, IsFirstDifference}
+use Rattle.compare_base.specs.FromReset.{numbered_by, ResetOutcomeFits, ResetVerdictFits}
+use Rattle.compare_base.specs.Says.{MakesResetsDiffer}
+use Rattle.plain_meaning.proofs.CutPairs.{IsOutputPair, IsNextPair, one_output, pair_listed, listed_is}
 use Rattle.sec_check.proofs.ResetLeaves.{powered_value}
 
 -- nothing is in the list of none

@@ -1,6 +1,6 @@
 -- From what is found from the initial values to the answer of a comparison. No latch is cut open, so the nets of the setup have the
 -- circuits that are compared.
-use Rattle.std.proofs.Common.{◌≡◌, ◌∙◌, ℕ, ◌+◌, ◌≤◌, ◌<◌, List, [], ◌∷◌, map, length, refl, sym, ap, subst, arith, Err}
+use Rattle.std.proofs.Common.{◌≡◌, ◌∙◌, ℕ, ◌<◌, List, [], ◌∷◌, map, length, refl, sym, ap, subst, arith, Err}
 use Rattle.std.specs.List.{filter, All, Contains}
 use Rattle.std.proofs.lemmas.List.{append-nil}
 use Rattle.std.proofs.lemmas.List.Elements.{All-contains}
@@ -31,7 +31,6 @@ use Rattle.reset_nets.proofs.Starts.{nets_have_starts}
 use Rattle.reset_unfold.specs.Places.{starts_of}
 use Rattle.sec_setup.specs.declared.setup.Setup.{Setup}
 use Rattle.sec_setup.specs.Cuts.{columns_of}
-use Rattle.sec_setup.specs.Cycles.{AreBroken}
 use Rattle.sec_setup.specs.Matching.{InterfacesMatch}
 use Rattle.sec_setup.specs.Pairs.{NamedPair, named_pairs, places_of}
 use Rattle.sec_setup.specs.Setup.{IsSetupOf}
@@ -39,13 +38,13 @@ use Rattle.reset_form.specs.declared.comparison.ResetFindings.{ResetFindings}
 use Rattle.reset_functions.specs.declared.error.ResetError.TheVariants as reset_error
 use Rattle.reset_form.specs.declared.shown.ResetVerdict.{ResetVerdict}
 use Rattle.reset_form.specs.declared.shown.ResetVerdict.TheVariants as found_verdict
-use Rattle.reset_functions.specs.Bases.{AreBases}
 use Rattle.reset_form.specs.Formed.{AreFound, Formed}
-use Rattle.reset_form.specs.Outcome.{Numbered, FindingsFit, VerdictFits}
-use Rattle.reset_functions.specs.Pairs.{IsLeftSide, IsRightSide, IsLight, IsTooLarge}
-use Rattle.sec_check.specs.declared.error.CompareError.TheVariants as refused
-use Rattle.sec_check.specs.Compared.{IsComparedFromReset}
-use Rattle.sec_check.specs.FromReset.{IsLeftStart, IsRightStart, IsLeftLight, IsRightLight, AreTooLargeFromReset, numbered_by, verdict_of, ResetOutcomeFits, ResetVerdictFits}
+use Rattle.reset_functions.specs.Outcome.{Numbered}
+use Rattle.reset_form.specs.Findings.{FindingsFit, VerdictFits}
+use Rattle.reset_functions.specs.Pairs.{IsLeftSide, IsRightSide, IsLight}
+use Rattle.compare_base.specs.Compared.{IsComparedFromReset}
+use Rattle.compare_base.specs.FromReset.{IsLeftStart, IsRightStart, IsLeftLight, IsRightLight, AreTooLargeFromReset, numbered_by, ResetOutcomeFits, ResetVerdictFits}
+use Rattle.sec_check.specs.Verdicts.{verdict_of}
 use Rattle.sec_check.proofs.ResetMeaning.{resets_agree, resets_differ}
 
 -- all latches stay

@@ -1,4 +1,1 @@
-pub mod Compared
-pub mod Fitting
-pub mod FromReset
-pub mod Says
+pub mod Verdicts

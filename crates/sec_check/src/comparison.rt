@@ -9,10 +9,10 @@ ghost use Rattle.sec_setup.specs.Choosing.{IsChosen};
 ghost use Rattle.sec_setup.specs.Cuts.{AreCutBy, AreCutOpen};
 ghost use Rattle.sec_setup.specs.Matching.{InterfacesMatch};
 ghost use Rattle.sec_setup.specs.Setup.{AreGraphed};
-ghost use Rattle.sec_check.specs.Compared.{Compared};
-ghost use Rattle.sec_check.specs.FromReset.{verdict_of};
+ghost use Rattle.compare_base.specs.Compared.{Compared};
+ghost use Rattle.sec_check.specs.Verdicts.{verdict_of};
 
-use crate::error::CompareError;
+use compare_base::CompareError;
 use cut_points::Exposure;
 use flat_net::Net;
 use outcome::{LimitAt, Outcome, Settings, Verdict};

@@ -2,12 +2,11 @@
 #![tactic(auto)]
 
 mod comparison;
-mod error;
 mod interfaces;
 
 pub use circuit_theory::Mode;
+pub use compare_base::CompareError;
 pub use comparison::compare;
-pub use error::CompareError;
 pub use interfaces::interface;
 pub use outcome::{
     LimitAt, Outcome, PairName, PairResult, PairResults, Proof, ResetWitness, Settings, Stimulus,

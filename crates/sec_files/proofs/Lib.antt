@@ -1,5 +1,3 @@
-pub mod CutDesigns
-pub mod Designs
 pub mod Loaded
 pub mod OneNamed
 pub mod Portless

@@ -1,44 +1,20 @@
--- What a text's net has, and what is said of the nets of two texts is said of the circuits that the texts spell.
-use Rattle.std.proofs.Common.{◌≡◌, ◌∙◌, ℕ, List, length, Option, refl, sym, subst}
+-- What a text's net has, and that a text has one net.
+use Rattle.std.proofs.Common.{◌≡◌, ◌∙◌, ℕ, List, refl, sym, subst}
 use Rattle.std.proofs.lemmas.Option.{same_Some}
-use Rattle.circuit_theory.specs.declared.Mode.TheVariants.{Plain}
-use Rattle.circuit_theory.specs.Agree.{Agree, AgreeOnward, IsMinimalCut}
-use Rattle.circuit_theory.specs.Circuit.{Circuit}
-use Rattle.blif_read.specs.Design.{Place, top}
 use Rattle.blif_read.specs.Reading.{spelled}
 use Rattle.flat_net.specs.Comparable.{IsComparable}
 use Rattle.flat_net.specs.Sound.{IsSound}
-use Rattle.flat_net.specs.View.{NetView, circuit_of}
-use Rattle.flatten.specs.DesignFaults.{IsClocked}
+use Rattle.flat_net.specs.View.{NetView}
 use Rattle.flatten.specs.OneNet.{AreOneNet}
 use Rattle.flatten.proofs.OneNets.{nets_are_one}
-use Rattle.design_laws.proofs.FlatOnward.{minimal_up, onward_up}
-use Rattle.design_laws.proofs.FlatParts.{FlatDesign}
-use Rattle.design_laws.proofs.Kept.{flat_design}
-use Rattle.witness_report.specs.declared.witness.Witness.{Witness}
-use Rattle.witness_report.specs.Shown.{MakesDiffer, MakesCutsDiffer, AgreeFrom}
-use Rattle.named_places.specs.Named.{named_circuit}
-use Rattle.named_places.proofs.NamedNets.{index_in, named_flat, named_single}
 use Rattle.aiger_file.specs.declared.file.AigerFile.{AigerFile}
 use Rattle.aiger_graph.specs.Circuit.{circuit_of_file}
 use Rattle.aiger_read.specs.Nets.{IsNetOf}
 use Rattle.aiger_read.specs.SignalNames.{signal_name}
-use Rattle.sec_files.specs.Formats.{Format, Blif, Aiger, format_of, circuit_of_aiger, circuit_in, IsClockIn, IsNetIn}
+use Rattle.sec_files.specs.Formats.{Format, Blif, Aiger, format_of, IsClockIn, IsNetIn}
 use Rattle.sec_files.specs.Loading.{Loads, SpellsCircuit, circuit_of_text}
 use Rattle.sec_files.proofs.OneNamed.{one_named}
 use Rattle.sec_files.proofs.Portless.{file_portless}
-use Rattle.sec_files.proofs.CutDesigns.{cuts_differ_up}
-use Rattle.sec_files.proofs.Designs.{agree_up, differ_up, from_up}
-
--- the net of a file is one of the circuit over the names of its signals
-file_design : (f : AigerFile) (net : NetView) (clocked : Place → Type 0) → IsNetOf f net → FlatDesign (named_circuit (signal_name f) (circuit_of_file f)) (circuit_of net) clocked
-file_design f net clocked n = record {
-  size = length net.drivers;
-  origin = λ s. top (signal_name f (n.origin s));
-  signal = λ p. index_in net.names p.name;
-  single = named_single (circuit_of_file f) net (signal_name f) n.origin n.signal (file_portless f) n.sound n.circuit n.names;
-  circuit = named_flat (circuit_of_file f) net (signal_name f) n.origin n.signal (file_portless f) n.sound n.circuit n.names clocked;
-}
 
 module _ (text : List ℕ) (net : NetView) where
   sound_in : (format : Format) → IsNetIn format text net → IsSound net
@@ -53,15 +29,6 @@ module _ (text : List ℕ) (net : NetView) where
   clock_in Blif n = n.clock
   clock_in Aiger n = n.2.clock
 
-  abbrev IsFlatIn : Circuit Place → Type 0
-  IsFlatIn d = FlatDesign d (circuit_of net) (IsClocked d net.clock)
-
-  design_in : (format : Format) → IsNetIn format text net → IsFlatIn (circuit_in format text net.clock)
-  design_in Blif n = flat_design (spelled text) net n
-  design_in Aiger n =
-      subst (λ (o : Option AigerFile). IsFlatIn (circuit_of_aiger o)) (sym n.1)
-      (file_design n.0 net (IsClocked (named_circuit (signal_name n.0) (circuit_of_file n.0)) net.clock) n.2)
-
   module _ (loads : Loads text net) where
     -- the net keeps what each net keeps
     pub text_sound : IsSound net
@@ -70,10 +37,6 @@ module _ (text : List ℕ) (net : NetView) where
     -- it can be compared
     pub text_comparable : IsComparable net
     text_comparable = comparable_in (format_of text) loads.flat
-
-    -- its circuit is that of the text without ports
-    pub text_design : FlatDesign (circuit_of_text text net.clock) (circuit_of net) (IsClocked (circuit_of_text text net.clock) net.clock)
-    text_design = design_in (format_of text) loads.flat
 
     -- the circuit that the text spells, with the net's clock
     pub spelled_circuit : SpellsCircuit text net.clock (circuit_of_text text net.clock)
@@ -95,23 +58,3 @@ one_in text a b Aiger x y =
 
 pub one_text_net : (text : List ℕ) (a b : NetView) → Loads text a → Loads text b → AreOneNet a b
 one_text_net text a b la lb = one_in text a b (format_of text) la.flat lb.flat
-
-module _ (x y : List ℕ) (a b : NetView) (left : Loads x a) (right : Loads y b) where
-  pub texts_agree_by : Agree Plain (circuit_of a) (circuit_of b) → Agree Plain (circuit_of_text x a.clock) (circuit_of_text y b.clock)
-  texts_agree_by agree = agree_up (text_design x a left) (text_design y b right) agree
-
-  pub texts_agree_from : (from : ℕ) (names : List (List ℕ)) → AgreeFrom from names (circuit_of a) (circuit_of b) → AgreeFrom from names (circuit_of_text x a.clock) (circuit_of_text y b.clock)
-  texts_agree_from from names agree = from_up (text_design x a left) (text_design y b right) from names agree
-
-  pub texts_differ_by : (w : Witness) → MakesDiffer (circuit_of a) (circuit_of b) w → MakesDiffer (circuit_of_text x a.clock) (circuit_of_text y b.clock) w
-  texts_differ_by w shows = differ_up (text_design x a left) (text_design y b right) w shows
-
-  module _ (names : List (List ℕ)) where
-    pub texts_minimal : IsMinimalCut Plain (circuit_of a) (circuit_of b) names → IsMinimalCut Plain (circuit_of_text x a.clock) (circuit_of_text y b.clock) names
-    texts_minimal m = minimal_up (text_design x a left) (text_design y b right) names m
-
-    pub texts_onward : AgreeOnward Plain names (circuit_of a) (circuit_of b) → AgreeOnward Plain names (circuit_of_text x a.clock) (circuit_of_text y b.clock)
-    texts_onward agree = onward_up (text_design x a left) (text_design y b right) names agree
-
-    pub texts_cuts_differ : (w : Witness) → MakesCutsDiffer names (circuit_of a) (circuit_of b) w → MakesCutsDiffer names (circuit_of_text x a.clock) (circuit_of_text y b.clock) w
-    texts_cuts_differ w shows = cuts_differ_up (text_design x a left) (text_design y b right) names w shows

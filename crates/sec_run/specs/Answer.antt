@@ -5,7 +5,6 @@ use Rattle.command_line.specs.declared.task.Task.{Task}
 use Rattle.command_line.specs.declared.task.Task.TheVariants as task
 use Rattle.pair_decide.specs.declared.query.Proof.{Proof}
 use Rattle.job_base.specs.Written.{status_of, proofs_of}
-use Rattle.job_base.specs.declared.finding.Refusal.TheVariants as refusal
 use Rattle.job_base.specs.declared.finding.Finding.{Finding}
 use Rattle.job_base.specs.declared.finding.Finding.TheVariants as finding
 use Rattle.job_base.specs.declared.status.Status.{Status}
@@ -15,9 +14,9 @@ use Rattle.job_base.specs.Lines.{finding_text}
 use Rattle.job_files.specs.Reading.{Held}
 use Rattle.job_circuit.specs.Reports.{IsGraphFound, IsSimFound}
 use Rattle.job_replay.specs.Replays.{IsReplayFound}
-use Rattle.job_check.specs.Check.{Check}
-use Rattle.job_check.specs.Found.{IsCheckFound}
-use Rattle.job_gen.specs.Found.{IsGenFound}
+use Rattle.check_meaning.specs.Check.{Check}
+use Rattle.check_meaning.specs.Found.{IsCheckFound}
+use Rattle.gen_meaning.specs.Found.{IsGenFound}
 use Rattle.job_lrat.specs.Found.{IsLratFound}
 use Rattle.job_cert.specs.Found.{IsCertFound}
 

@@ -3,7 +3,7 @@
 ghost use Rattle.std.specs.Prelude.{◌≡◌, ◌<◌, length, false, All, IfOk};
 ghost use Rattle.circuit_theory.specs.declared.Mode.TheVariants.{Plain};
 ghost use Rattle.flat_net.specs.Cut.{exposed_names};
-ghost use Rattle.latch_graph.specs.Graph.{IsGraphIn};
+ghost use Rattle.signal_graph.specs.Graph.{IsGraphIn};
 ghost use Rattle.sec_setup.specs.Cycles.{IsCycleOf};
 
 use flat_net::Net;

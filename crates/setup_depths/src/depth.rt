@@ -6,7 +6,7 @@ ghost use Rattle.circuit_theory.specs.Depth.{IsDepth};
 ghost use Rattle.circuit_theory.specs.Fits.{IsPairDepth};
 ghost use Rattle.circuit_theory.specs.Run.{NoneEnabled};
 ghost use Rattle.flat_net.specs.View.{circuit_of};
-ghost use Rattle.latch_graph.specs.Graph.{IsGraphIn};
+ghost use Rattle.signal_graph.specs.Graph.{IsGraphIn};
 ghost use Rattle.sec_setup.specs.Cycles.{IsAcyclic};
 ghost use Rattle.sec_setup.specs.Setup.{IsSetup};
 

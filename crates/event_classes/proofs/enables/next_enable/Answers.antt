@@ -2,11 +2,17 @@
 use Rattle.std.proofs.Common.{sym, subst}
 use Rattle.event_order.specs.Order.{IsTagOf}
 use Rattle.event_classes.specs.declared.map.ClassMap.{ClassMap}
-use Rattle.event_classes.proofs.Enabling.{enable_on, side_of_two}
+use Rattle.event_classes.proofs.Enabling.{enable_on, own_on, side_of_two}
 use Rattle.event_classes.proofs.enables.next_enable.Goals as goal
 
 pub returns-clause-enable : goal.returns-clause-enable
 returns-clause-enable c = λ on.
     enable_on c.args.tag.side c.side_enable.new.map.left c.side_enable.new.map.right c.side_enable.new.map.events c.args.tag.latch c.in_ok-made.made
+    (record { left_sound = c.keeps.ensures.sound; right_sound = c.keeps-2.ensures.sound; left = c.keeps.ensures.circuit; right = c.keeps-2.ensures.circuit; events = c.keeps-3.ensures.events }) (subst (λ (o : ClassMap). IsTagOf o.left.net o.right.net c.args.tag) (sym c.side_enable.ensures.same) c.requires.latch)
+    (side_of_two c.args.tag.side c.side_enable.new.map c.args.tag.latch c.in_ok-made.made c.in_ok-made.ensures.enable) on
+
+pub returns-clause-own : goal.returns-clause-own
+returns-clause-own c = λ on.
+    own_on c.args.tag.side c.side_enable.new.map.left c.side_enable.new.map.right c.side_enable.new.map.events c.args.tag.latch c.in_ok-made.made
     (record { left_sound = c.keeps.ensures.sound; right_sound = c.keeps-2.ensures.sound; left = c.keeps.ensures.circuit; right = c.keeps-2.ensures.circuit; events = c.keeps-3.ensures.events }) (subst (λ (o : ClassMap). IsTagOf o.left.net o.right.net c.args.tag) (sym c.side_enable.ensures.same) c.requires.latch)
     (side_of_two c.args.tag.side c.side_enable.new.map c.args.tag.latch c.in_ok-made.made c.in_ok-made.ensures.enable) on

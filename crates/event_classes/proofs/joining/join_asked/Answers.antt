@@ -1,9 +1,15 @@
 -- What is found for the latch is its first fit.
 use Rattle.std.proofs.Common.{List, refl, sym, subst}
 use Rattle.class_search.specs.declared.class.Class.{Class}
-use Rattle.class_search.specs.Search.{AreReadyClasses, IsFit}
+use Rattle.class_search.specs.Search.{AreReadyClasses, IsFit, IsUnfit}
+use Rattle.class_queries.specs.Enables.{both_of}
+use Rattle.event_classes.specs.Limits.{IsNamed, IsErrorOf}
+use Rattle.event_classes.specs.Map.{places_in, taken_of}
+use Rattle.event_classes.proofs.Limiting.{named_of, limit_at, error_is}
 use Rattle.event_classes.specs.declared.map.ClassMap.{ClassMap}
 use Rattle.event_classes.proofs.NextLatch.{made_grows, within_grows, next_same, fit_place, found_fits_in, enable_grows}
+use Rattle.event_classes.proofs.Found.{told_by, own_grows}
+use Rattle.event_classes.proofs.Standing.{classes_ready}
 use Rattle.event_classes.proofs.Setting.{goes_on_from}
 use Rattle.event_classes.proofs.joining.join_asked.Goals as goal
 
@@ -23,6 +29,18 @@ join_fit-requires-clause-enable c =
 pub join_fit-requires-clause-ready : goal.join_fit-requires-clause-ready
 join_fit-requires-clause-ready c = c.first_fit.ensures.ready c.args.enable c.requires.ready
 
+pub join_fit-requires-clause-own : goal.join_fit-requires-clause-own
+join_fit-requires-clause-own c =
+    let found : ClassMap = record c.args.map.now { events = c.first_fit.new.events } in
+    own_grows c.args.map.now found c.args.tag c.args.enable refl c.keeps-3.ensures.events c.first_fit.ensures.grows c.requires.ready c.requires.own
+
+pub join_fit-requires-clause-told : goal.join_fit-requires-clause-told
+join_fit-requires-clause-told c =
+    let found : ClassMap = record c.args.map.now { events = c.first_fit.new.events } in
+    told_by c.args.map.now found c.args.tag c.args.enable c.args.conflicts c.requires.made.0 refl (record { left_sound = c.keeps.ensures.sound; right_sound = c.keeps-2.ensures.sound; left = c.keeps.ensures.circuit; right = c.keeps-2.ensures.circuit; events = c.keeps-3.ensures.events }) c.first_fit.ensures.grows c.requires.made.1
+    c.requires.enable c.requires.own c.requires.ready (classes_ready c.args.map.now.events c.first_fit.new.events c.args.map.now.classes.items c.first_fit.ensures.ready c.requires.made.1.stand.ready) c.in-Ok.fit
+    (subst (λ (cs : List Class). IsFit c.args.map.now.events c.first_fit.new.events cs c.args.enable c.args.conflicts c.in-Ok.fit) c.as_slice.ensures.value c.in-Ok.ensures.fit)
+
 pub join_fit-requires-clause-fits : goal.join_fit-requires-clause-fits
 join_fit-requires-clause-fits c =
     let found : ClassMap = record c.args.map.now { events = c.first_fit.new.events } in
@@ -32,7 +50,19 @@ join_fit-requires-clause-fits c =
 pub join_fit-requires-clause-place : goal.join_fit-requires-clause-place
 join_fit-requires-clause-place c = λ place same. fit_place c.args.map.now.events c.first_fit.new.events c.args.map.now.classes.items c.args.enable c.args.conflicts place c.in-Ok.fit (subst (λ (cs : List Class). IsFit c.args.map.now.events c.first_fit.new.events cs c.args.enable c.args.conflicts c.in-Ok.fit) c.as_slice.ensures.value c.in-Ok.ensures.fit) same
 
-pub returns-in_ok-join_fit-in-Ok : goal.returns-in_ok-join_fit-in-Ok
-returns-in_ok-join_fit-in-Ok c =
+pub returns-in_ok-join_fit-in-Ok-clause-goes_on : goal.returns-in_ok-join_fit-in-Ok-clause-goes_on
+returns-in_ok-join_fit-in-Ok-clause-goes_on c =
     let found : ClassMap = record c.args.map.now { events = c.first_fit.new.events } in
-    goes_on_from c.args.map.now found c.join_fit.new.map c.args.tag refl refl refl (made_grows c.args.map.now found refl c.keeps-3.ensures.events c.first_fit.ensures.grows (within_grows c.args.map.now found refl c.first_fit.ensures.rest)) c.in_ok-join_fit-in-Ok.ensures
+    goes_on_from c.args.map.now found c.join_fit.new.map c.args.tag refl refl refl (made_grows c.args.map.now found refl c.keeps-3.ensures.events c.first_fit.ensures.grows (within_grows c.args.map.now found refl c.first_fit.ensures.rest)) c.in_ok-join_fit-in-Ok.ensures.goes_on
+
+pub limit_of-requires : goal.limit_of-requires
+limit_of-requires c =
+    subst (λ (cs : List Class). IsNamed cs c.in-Err.unfit) (sym c.as_slice-in-Err.ensures.value)
+    (named_of (both_of c.args.map.now.left c.args.map.now.right) c.args.map.now.events c.first_fit.new.events (places_in c.args.map.now) (taken_of c.args.map.now) c.args.map.now.classes.items c.args.enable c.args.conflicts c.requires.made.1.stand.members c.in-Err.unfit
+    (subst (λ (cs : List Class). IsUnfit c.args.map.now.events c.first_fit.new.events cs c.args.enable c.args.conflicts c.in-Err.unfit) c.as_slice.ensures.value c.in-Err.ensures.unfit))
+
+pub returns-in-Err-clause-limit : goal.returns-in-Err-clause-limit
+returns-in-Err-clause-limit c = λ latch other proof is.
+    limit_at c.args.map.now (record c.args.map.now { events = c.first_fit.new.events }) c.args.tag c.args.enable c.args.conflicts (record { left_sound = c.keeps.ensures.sound; right_sound = c.keeps-2.ensures.sound; left = c.keeps.ensures.circuit; right = c.keeps-2.ensures.circuit; events = c.keeps-3.ensures.events }) c.requires.enable c.in-Err.unfit
+    (subst (λ (cs : List Class). IsUnfit c.args.map.now.events c.first_fit.new.events cs c.args.enable c.args.conflicts c.in-Err.unfit) c.as_slice.ensures.value c.in-Err.ensures.unfit) c.limit_of.result
+    (subst (λ (cs : List Class). IsErrorOf cs c.args.tag c.limit_of.result c.in-Err.unfit) c.as_slice-in-Err.ensures.value c.limit_of.ensures) latch other proof (error_is is)

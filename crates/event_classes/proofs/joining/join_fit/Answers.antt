@@ -1,8 +1,9 @@
 -- The class that was found.
-use Rattle.std.proofs.Common.{subst}
+use Rattle.std.proofs.Common.{List, sym, subst}
 use Rattle.class_search.specs.declared.search.Fit.{Fit}
 use Rattle.class_fits.specs.Members.{class_of_fit}
-use Rattle.event_classes.specs.Map.{FitsIn}
+use Rattle.class_search.specs.declared.told.Told.{Told}
+use Rattle.event_classes.specs.Map.{FitsIn, AreToldAt, AreToldBy}
 use Rattle.event_classes.proofs.joining.join_fit.Goals as goal
 
 pub join_always-requires-clause-fits : goal.join_always-requires-clause-fits
@@ -16,3 +17,6 @@ join_class-requires-clause-place c = c.requires.place c.in-Joins.place c.in-Join
 
 pub found_class-requires-clause-fits : goal.found_class-requires-clause-fits
 found_class-requires-clause-fits c = subst (λ (f : Fit). FitsIn c.args.map.now c.args.tag (class_of_fit c.args.map.now.classes.items f)) c.in-Founds.is c.requires.fits
+
+pub found_class-requires-clause-told : goal.found_class-requires-clause-told
+found_class-requires-clause-told c = subst (λ (ts : List Told). AreToldAt c.args.map.now c.args.tag c.in-Founds.always ts) (sym c.as_slice.ensures.value) (subst (AreToldBy c.args.map.now c.args.tag) c.in-Founds.is c.requires.told)

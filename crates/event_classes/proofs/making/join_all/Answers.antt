@@ -1,5 +1,8 @@
 -- One latch after the other.
+use Rattle.std.proofs.Common.{Err, ap}
 use Rattle.std.proofs.lemmas.Option.{slice_get-get_or}
+use Rattle.std.proofs.lemmas.Result.{err_from_is_err_and}
+use Rattle.event_classes.proofs.Limiting.{limit_of_latch, error_is}
 use Rattle.event_classes.proofs.WholeMap.{tag_next, next_made, made_next}
 use Rattle.event_classes.proofs.making.join_all.Goals as goal
 
@@ -10,4 +13,9 @@ pub join_next-requires-clause-made : goal.join_next-requires-clause-made
 join_next-requires-clause-made c = next_made c.args.map.now c.loop-at.map c.args.tags.now c.loop-at.at _ c.loop-at-test.true (slice_get-get_or c.args.tags.now c.loop-at.at _ c.loop-at-test.true) c.loop-at.invariant
 
 pub loop-at-preserved : goal.loop-at-preserved
-loop-at-preserved c = made_next c.args.map.now c.loop-at.map c.join_next.new.map c.args.tags.now c.loop-at.at _ c.loop-at-test.true (slice_get-get_or c.args.tags.now c.loop-at.at _ c.loop-at-test.true) c.loop-at.invariant c.in_ok-join_next.ensures
+loop-at-preserved c = made_next c.args.map.now c.loop-at.map c.join_next.new.map c.args.tags.now c.loop-at.at _ c.loop-at-test.true (slice_get-get_or c.args.tags.now c.loop-at.at _ c.loop-at-test.true) c.loop-at.invariant c.in_ok-join_next.ensures.goes_on
+
+pub returns-in_err-join_next-clause-limit : goal.returns-in_err-join_next-clause-limit
+returns-in_err-join_next-clause-limit c =
+    let p = err_from_is_err_and c.from_residual.result c.from_residual.ensures.1 in
+    λ latch other proof. rw (p.1, p.2) (λ is. limit_of_latch c.args.map.now c.loop-at.map c.args.tags.now c.loop-at.at _ c.args.conflicts c.loop-at-test.true (slice_get-get_or c.args.tags.now c.loop-at.at _ c.loop-at-test.true) c.loop-at.invariant latch other proof (c.in_err-join_next.ensures.limit latch other proof (ap Err (error_is is))))

@@ -4,7 +4,7 @@ use Rattle.std.specs.List.{All}
 use Rattle.std.proofs.lemmas.List.Elements.{All-map}
 use Rattle.sec_base.specs.Table.{AreDistinct}
 use Rattle.expose_pick.specs.declared.pairs.LatchPair.{LatchPair}
-use Rattle.expose_pick.specs.Chosen.{lefts, rights}
+use Rattle.expose_pick.specs.Pairs.{lefts, rights}
 use Rattle.expose_pick.proofs.Paired.{distinct_by}
 use Rattle.expose_pick.proofs.choice.pick.Goals as goal
 
@@ -18,20 +18,20 @@ cycle_left-requires-2 c =
     subst (λ (z : List ℕ). All (λ j. j < length c.args.b.now.latches) z) (sym (c.as_slice-4.ensures.value ∙ c.in_ok-right.ensures ∙ ap rights c.as_slice-2.ensures))
     (All-map (λ j. j < length c.args.b.now.latches) (λ (p : LatchPair). p.right) c.args.common.now c.requires.right)
 
-pub chosen-requires-clause-left : goal.chosen-requires-clause-left
-chosen-requires-clause-left c =
+pub cut_of-requires-clause-left : goal.cut_of-requires-clause-left
+cut_of-requires-clause-left c =
     subst (λ (z : List ℕ). All (λ j. j < length c.args.a.now.latches) z) (sym (c.as_slice-5.ensures.value ∙ c.in_ok-left.ensures ∙ ap lefts c.as_slice.ensures))
     (All-map (λ j. j < length c.args.a.now.latches) (λ (p : LatchPair). p.left) c.args.common.now c.requires.left)
 
-pub chosen-requires-clause-right : goal.chosen-requires-clause-right
-chosen-requires-clause-right c =
+pub cut_of-requires-clause-right : goal.cut_of-requires-clause-right
+cut_of-requires-clause-right c =
     subst (λ (z : List ℕ). All (λ j. j < length c.args.b.now.latches) z) (sym (c.as_slice-6.ensures.value ∙ c.in_ok-right.ensures ∙ ap rights c.as_slice-2.ensures))
     (All-map (λ j. j < length c.args.b.now.latches) (λ (p : LatchPair). p.right) c.args.common.now c.requires.right)
 
-pub chosen-requires-clause-left_once : goal.chosen-requires-clause-left_once
-chosen-requires-clause-left_once c =
+pub cut_of-requires-clause-left_once : goal.cut_of-requires-clause-left_once
+cut_of-requires-clause-left_once c =
     subst (λ (z : List ℕ). AreDistinct z) (sym (c.as_slice-5.ensures.value ∙ c.in_ok-left.ensures ∙ ap lefts c.as_slice.ensures)) (distinct_by (λ (p : LatchPair). p.left) c.args.common.now c.requires.left_once)
 
-pub chosen-requires-clause-right_once : goal.chosen-requires-clause-right_once
-chosen-requires-clause-right_once c =
+pub cut_of-requires-clause-right_once : goal.cut_of-requires-clause-right_once
+cut_of-requires-clause-right_once c =
     subst (λ (z : List ℕ). AreDistinct z) (sym (c.as_slice-6.ensures.value ∙ c.in_ok-right.ensures ∙ ap rights c.as_slice-2.ensures)) (distinct_by (λ (p : LatchPair). p.right) c.args.common.now c.requires.right_once)

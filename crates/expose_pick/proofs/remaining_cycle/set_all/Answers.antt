@@ -1,6 +1,6 @@
 use Rattle.std.proofs.Common.{arith}
 use Rattle.std.proofs.lemmas.Option.{slice_get-get_or}
-use Rattle.expose_pick.proofs.Marking.{bits_none, bits_more}
+use Rattle.expose_pick.proofs.Bits.{bits_none, bits_more}
 use Rattle.expose_pick.proofs.remaining_cycle.set_all.Goals as goal
 
 pub loop-i-init : goal.loop-i-init

@@ -1,7 +1,7 @@
 use Rattle.std.proofs.Common.{take}
 use Rattle.circuit_theory.specs.declared.Mode.{Mode}
 use Rattle.latch_cone.specs.Kinds.{AreKindsIn}
-use Rattle.latch_graph.specs.Graph.{IsGraphIn}
+use Rattle.signal_graph.specs.Graph.{IsGraphIn}
 use Rattle.graph_report.specs.Puts.{PutsLatches}
 use Rattle.graph_report.proofs.report.put_latches.Given as goal
 

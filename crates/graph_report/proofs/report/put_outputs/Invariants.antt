@@ -1,6 +1,6 @@
 use Rattle.std.proofs.Common.{take}
 use Rattle.circuit_theory.specs.declared.Mode.{Mode}
-use Rattle.latch_graph.specs.Graph.{IsGraphIn}
+use Rattle.signal_graph.specs.Graph.{IsGraphIn}
 use Rattle.graph_report.specs.Puts.{PutsOutputs}
 use Rattle.graph_report.proofs.report.put_outputs.Given as goal
 

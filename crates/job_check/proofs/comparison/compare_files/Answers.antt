@@ -1,7 +1,7 @@
 use Rattle.std.proofs.Common.{sym, subst, Result}
 use Rattle.job_base.specs.declared.finding.Finding.{Finding}
 use Rattle.job_base.specs.declared.finding.Stop.{Stop}
-use Rattle.job_check.specs.Check.{Check}
+use Rattle.check_meaning.specs.Check.{Check}
 use Rattle.job_check.specs.Ends.{FoundOf}
 use Rattle.job_check.proofs.Finds.{left_ends, beside_ends}
 use Rattle.job_check.proofs.comparison.compare_files.Goals as goal

@@ -1,11 +1,9 @@
 -- Nothing is refused before the name is looked for.
-use Rattle.std.proofs.Common.{◌≡◌, ◌<◌, ◌*◌, List, Err, length, slice_get, Some, refl, sym, subst, arith}
+use Rattle.std.proofs.Common.{◌≡◌, ◌<◌, List, Err, length, refl, sym, subst, arith}
 use Rattle.std.specs.List.{All}
 use Rattle.circuit_theory.specs.Interface.{shared_inputs}
 use Rattle.flat_net.specs.View.{ports_of}
 use Rattle.interface.specs.declared.pairs.SignalPair.{SignalPair}
-use Rattle.interface.specs.Pairing.{ArePairs}
-use Rattle.sec_setup.specs.Pairs.{ArePairsOf}
 use Rattle.plain_form.specs.Pairs.{Unfolds, AreFunctions, AreLight, left_signals, right_signals}
 use Rattle.plain_form.proofs.Outcomes.{lefts_within, rights_within}
 use Rattle.plain_form.proofs.PairAt.{left_within, right_within, left_here, right_here}

@@ -1,6 +1,6 @@
 -- Interfaces that don't match.
-use Rattle.sec_check.specs.Compared.{refusal_of}
-use Rattle.sec_check.proofs.Refusals.{unmatched}
+use Rattle.compare_base.specs.Compared.{refusal_of}
+use Rattle.compare_base.proofs.Refusals.{unmatched}
 use Rattle.pair_clauses.specs.Clauses.{PairGives, plainly}
 use Rattle.pair_clauses.specs.declared.error.CertError.TheVariants.{Compare}
 use Rattle.pair_clauses.proofs.Refused.{refused_by}

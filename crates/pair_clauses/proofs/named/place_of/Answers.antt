@@ -1,4 +1,4 @@
-use Rattle.std.proofs.Common.{◌≡◌, ◌∙◌, take, refl, sym, arith}
+use Rattle.std.proofs.Common.{◌≡◌}
 use Rattle.std.proofs.lemmas.List.Elements.{All-nil}
 use Rattle.interface.specs.declared.pairs.SignalPair.{SignalPair}
 use Rattle.witness_report.specs.declared.witness.PairName.TheVariants.{Output}

@@ -1,12 +1,12 @@
 -- The parts fit together.
-use Rattle.std.proofs.Common.{◌≡◌, ◌∙◌, List, refl, sym, ap, subst}
+use Rattle.std.proofs.Common.{◌∙◌, List, sym, ap, subst}
 use Rattle.outcome.specs.declared.verdict.PairResult.{PairResult}
 use Rattle.obligations.specs.declared.obligation.Obligation.{Obligation}
 use Rattle.obligations.specs.Asked as graph_level
 use Rattle.obligations.specs.Decided.{HaveDecided}
 use Rattle.obligations.specs.Verdict.{IsVerdictAt}
 use Rattle.plain_form.specs.Asked.{AreAsked}
-use Rattle.plain_form.specs.Outcome.{greatest_size}
+use Rattle.plain_meaning.specs.Outcome.{greatest_size}
 use Rattle.plain_form.specs.Shown.{CanBeShown, IsShown}
 use Rattle.plain_form.proofs.FirstPairs.{AreSound, own_pairs, pairs_fit}
 use Rattle.plain_form.proofs.Outcomes.{verdict_fits, can_be_shown, are_asked}

@@ -1,5 +1,5 @@
 -- What the unfolder says of all signals, where it had unfolded nothing.
-use Rattle.std.proofs.Common.{◌≡◌, ◌∙◌, ◌+◌, ◌++◌, ℕ, List, sym, ap, subst, arith, rules}
+use Rattle.std.proofs.Common.{◌≡◌, ◌∙◌, ◌+◌, ◌++◌, ℕ, List, ap, subst, arith, rules}
 use Rattle.std.specs.List.{AllZip}
 use Rattle.circuit_theory.specs.Sizes.{IsWeight, IsOver}
 use Rattle.flat_net.specs.declared.signals.Signal.{Signal}

@@ -1,8 +1,7 @@
 -- The signals of the pair are outputs, and its functions stand at its place.
-use Rattle.std.proofs.Common.{◌≡◌, ◌<◌, List, length, slice_get, Some, refl, sym, ◌∙◌, ap, subst, arith}
+use Rattle.std.proofs.Common.{◌≡◌, ◌<◌, List, length, slice_get, Some, sym, ◌∙◌, ap, subst, arith}
 use Rattle.std.specs.Prelude.{not}
 use Rattle.std.proofs.lemmas.Option.{same_Some}
-use Rattle.circuit_theory.proofs.Lists.{of_at}
 use Rattle.interface.specs.declared.pairs.SignalPair.{SignalPair}
 use Rattle.plain_form.specs.Asked.{AskedOf}
 use Rattle.plain_form.proofs.PairAt.{left_within, right_within, left_shown, right_shown, left_variables, right_variables, left_here, right_here, output_within}

@@ -1,6 +1,6 @@
 -- Interfaces that don't match.
-use Rattle.sec_check.specs.Compared.{Compared, refusal_of}
-use Rattle.sec_check.proofs.Refusals.{refused_by, unmatched}
+use Rattle.compare_base.specs.Compared.{Compared, refusal_of}
+use Rattle.compare_base.proofs.Refusals.{refused_by, unmatched}
 use Rattle.sec_check.proofs.comparison.compare.Goals as goal
 
 pub returns-in_err-shared : goal.returns-in_err-shared

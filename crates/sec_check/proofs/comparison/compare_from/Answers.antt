@@ -3,8 +3,8 @@ use Rattle.std.proofs.Common.{◌≡◌, ◌∙◌, [], length, sym, subst, Ok}
 use Rattle.outcome.specs.declared.verdict.Outcome.{Outcome}
 use Rattle.plain_form.specs.declared.comparison.Findings.{Findings}
 use Rattle.sec_setup.proofs.Uncut.{uncut}
-use Rattle.sec_check.specs.Compared.{Compared}
-use Rattle.sec_check.proofs.Forms.{in_reset}
+use Rattle.compare_base.specs.Compared.{Compared}
+use Rattle.compare_base.proofs.Forms.{in_reset}
 use Rattle.sec_check.proofs.ResetSetups.{too_large_from, outcome_is_compared_from}
 use Rattle.sec_check.proofs.comparison.compare_from.Goals as goal
 

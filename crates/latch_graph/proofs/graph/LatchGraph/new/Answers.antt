@@ -1,48 +1,25 @@
-use Rattle.std.proofs.Common.{◌≡◌, ◌<◌, ℕ, Bool, List, Some, length, slice_get, subst, sym, ap, ◌∙◌, refl}
-use Rattle.latch_cone.specs.Cones.{MarksEnabled}
-use Rattle.flat_net.specs.declared.parts.LatchAt.{LatchAt}
-use Rattle.flat_net.specs.declared.parts.Driver.{Driver}
-use Rattle.latch_graph.specs.declared.nodes.Node.{Node}
+-- The states are settled, and none is that of a removed latch.
+use Rattle.std.proofs.Common.{◌≡◌, ◌<◌, ℕ, List, Some, length, slice_get, subst, sym, ap, ◌∙◌, arith}
+use Rattle.signal_graph.specs.declared.nodes.Node.{Node}
 use Rattle.latch_graph.specs.declared.states.State.TheVariants.{New, Removed}
-use Rattle.latch_graph.specs.Graph.{GraphView, IsGraphOf, IsNodeOf, AreNodes}
 use Rattle.latch_graph.specs.Settling.{IsSettled}
-use Rattle.latch_graph.proofs.Depths.{kept_nodes}
 use Rattle.latch_graph.proofs.graph.LatchGraph.new.Goals as goal
+
+pub settled_from-requires-clause-few : goal.settled_from-requires-clause-few
+settled_from-requires-clause-few c = omega (arith, ap length c.nodes-2.ensures, c.keeps.ensures.few)
 
 pub settled_from-requires-clause-within : goal.settled_from-requires-clause-within
 settled_from-requires-clause-within c =
-    let g : GraphView = record { nodes = c.in_ok-nodes.nodes.items; latches = c.args.net.now.latches; skipped = c.args.skip_self.now } in
-    let of : IsGraphOf c.args.net.now g = record { sound = c.keeps.ensures.sound; size = c.in_ok-nodes.ensures.size; nodes = subst (λ (z : List Bool). (s : ℕ) (d : Driver) → slice_get c.args.net.now.drivers s ≡ Some d → (node : Node) × (slice_get c.in_ok-nodes.nodes.items s ≡ Some node) × IsNodeOf c.args.net.now z d node) c.as_slice-bits.ensures c.in_ok-nodes.ensures.nodes; latches = refl; bits = c.requires } in
-    let kept : AreNodes c.in_ok-nodes.nodes.items c.args.net.now.latches = kept_nodes c.args.net.now g of in
-    subst (λ (z : List Node). (s k : ℕ) (node : Node) (r : _) → slice_get z s ≡ Some node → slice_get node.reads k ≡ Some r → r.0 < length z) (sym c.as_slice.ensures.value) kept.within
+    subst (λ (z : List Node). (s k : ℕ) (node : Node) (r : _) → slice_get z s ≡ Some node → slice_get node.reads k ≡ Some r → r.0 < length z) (sym c.nodes-2.ensures) c.keeps.ensures.within
+
+pub settled_from-requires-clause-size : goal.settled_from-requires-clause-size
+settled_from-requires-clause-size c = c.in_ok-states.ensures.size ∙ (ap length c.nodes.ensures ∙ sym (ap length c.nodes-2.ensures))
 
 pub invariant_of-result : goal.invariant_of-result
-invariant_of-result c =
-    let g : GraphView = record { nodes = c.in_ok-nodes.nodes.items; latches = c.args.net.now.latches; skipped = c.args.skip_self.now } in
-    let of : IsGraphOf c.args.net.now g = record { sound = c.keeps.ensures.sound; size = c.in_ok-nodes.ensures.size; nodes = subst (λ (z : List Bool). (s : ℕ) (d : Driver) → slice_get c.args.net.now.drivers s ≡ Some d → (node : Node) × (slice_get c.in_ok-nodes.nodes.items s ≡ Some node) × IsNodeOf c.args.net.now z d node) c.as_slice-bits.ensures c.in_ok-nodes.ensures.nodes; latches = refl; bits = c.requires } in
-    let kept : AreNodes c.in_ok-nodes.nodes.items c.args.net.now.latches = kept_nodes c.args.net.now g of in
-    let same : c.in_ok-latches.latches.items ≡ c.args.net.now.latches = c.in_ok-latches.ensures ∙ c.latches.ensures in
-    record {
-      right = subst (λ (z : List LatchAt). AreNodes c.in_ok-nodes.nodes.items z) (sym same) kept;
-      settled = subst (λ (z : List Node). IsSettled z c.in_ok-states-2.states.items) c.as_slice.ensures.value c.in_ok-states-2.ensures.settled;
-      whole = λ s h. removed_new (c.in_ok-states.ensures.new s Removed (c.in_ok-states-2.ensures.removed.were s h));
-    }
+invariant_of-result c = record {
+  settled = subst (λ (z : List Node). IsSettled z c.in_ok-states-2.states.items) c.nodes-2.ensures c.in_ok-states-2.ensures.settled;
+  whole = λ s h. removed_new (c.in_ok-states.ensures.new s Removed (c.in_ok-states-2.ensures.removed.were s h));
+}
   where
     removed_new : Removed ≡ New → ⊥
     removed_new e = cc
-
-pub returns-clause-in_mode : goal.returns-clause-in_mode
-returns-clause-in_mode c = λ mode marks.
-    let skipped : c.in_ok-skipped.skipped.items ≡ c.as_slice-bits.result.now = c.in_ok-skipped.ensures.items in
-    let all : c.in_ok-skipped.skipped.items ≡ c.args.skip_self.now = skipped ∙ c.as_slice-bits.ensures in
-    record {
-      graph = record {
-        sound = c.keeps.ensures.sound;
-        size = c.in_ok-nodes.ensures.size;
-        nodes =
-            subst (λ (z : List Bool). (s : ℕ) (d : Driver) → slice_get c.args.net.now.drivers s ≡ Some d → (node : Node) × (slice_get c.in_ok-nodes.nodes.items s ≡ Some node) × IsNodeOf c.args.net.now z d node) (sym skipped) c.in_ok-nodes.ensures.nodes;
-        latches = c.in_ok-latches.ensures ∙ c.latches.ensures;
-        bits = ap length all ∙ c.requires;
-      };
-      skips = subst (MarksEnabled mode c.args.net.now) (sym all) marks;
-    }

@@ -1,0 +1,9 @@
+//! Where queries read: the places of all their variables, how much an assumption weighs that is asked at these, and its function at
+//! each of them.
+#![tactic(auto)]
+
+mod functions;
+mod gathered;
+
+pub use functions::functions_at;
+pub use gathered::{QueryPlaces, places_of_all};

@@ -1,0 +1,36 @@
+//! The orders of variables, and two lists in one of them as one list.
+
+ghost use Rattle.std.specs.Prelude.{IfOk};
+ghost use Rattle.assume_queries.specs.Order.{AreOrdered, IsOrderedMerge};
+
+use cycle_variables::merge_cycles;
+use sec_base::{Ids, NoMemory, PlaceTable};
+use shift_variables::merge_variables;
+use std::alloc::Global;
+
+/// Which of two variables goes first.
+#[derive(Clone, Copy)]
+pub enum VariableOrder {
+    /// That of the greater shift, and of one shift that with the lesser number.
+    Shifts,
+    /// That of the lesser cycle, and of one cycle that with the lesser number.
+    Cycles,
+}
+
+/// The variables that one of both lists has, in this order. Each list is in it.
+pub(crate) fn merged(
+    alloc: Global,
+    order: VariableOrder,
+    table: &PlaceTable,
+    left: &[u32],
+    right: &[u32],
+) -> Result<Ids, NoMemory>
+    requires left { AreOrdered order table.now left.now }
+    requires right { AreOrdered order table.now right.now }
+    ensures { IfOk result (IsOrderedMerge order table.now left.now right.now) }
+{
+    match order {
+        VariableOrder::Shifts => merge_variables(alloc, table, left, right),
+        VariableOrder::Cycles => merge_cycles(alloc, table, left, right),
+    }
+}

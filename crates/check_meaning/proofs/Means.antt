@@ -1,0 +1,190 @@
+-- What the statuses equal, different, not shown and limit mean for the texts.
+use Rattle.std.specs.Prelude.{IfSome}
+use Rattle.std.proofs.Common.{◌≡◌, ℕ, List, refl, subst, inl, inr, ◌⊎◌, Option, Some, None}
+use Rattle.sec_base.specs.Outside.{Takes}
+use Rattle.sec_base.specs.declared.settings.Settings.{Settings}
+use Rattle.witness_report.specs.declared.witness.Witness.{Witness}
+use Rattle.flat_net.specs.View.{NetView}
+use Rattle.pair_decide.specs.declared.query.Proof.{Proof}
+use Rattle.outcome.specs.declared.verdict.LimitAt.{LimitAt}
+use Rattle.outcome.specs.declared.verdict.Outcome.{Outcome}
+use Rattle.outcome.specs.declared.verdict.ResetWitness.{ResetWitness}
+use Rattle.outcome.specs.declared.verdict.Verdict.{Verdict}
+use Rattle.outcome.specs.declared.verdict.Verdict.TheVariants as verdict
+use Rattle.outcome.specs.declared.verdict.Why.TheVariants as why
+use Rattle.outcome.specs.Report.{report_text}
+use Rattle.job_base.specs.declared.finding.Finding.{Finding}
+use Rattle.job_base.specs.declared.finding.Finding.TheVariants as finding
+use Rattle.job_base.specs.declared.status.StatusName.{StatusName}
+use Rattle.job_base.specs.declared.status.StatusName.TheVariants as status
+use Rattle.job_base.specs.Written.{verdict_status, status_of, IsWrittenAs}
+use Rattle.compare_base.specs.Compared.{ByReset}
+use Rattle.compare_base.proofs.Forms.{by_reset}
+use Rattle.sec_files.specs.Loading.{Loads}
+use Rattle.job_files.specs.Reading.{Held}
+use Rattle.check_meaning.specs.Check.{Check}
+use Rattle.check_meaning.specs.Answer.{CheckMeans, TextsAgree, TextsDiffer, TextsNotShown, TextsUndecided}
+use Rattle.check_meaning.specs.Resets.{ResetsAgree, ResetsDiffer, ResetsUndecided}
+use Rattle.check_meaning.specs.Found.{OfTexts, OfNets, IsFoundOf}
+use Rattle.check_meaning.proofs.ResetTexts.{resets_agree, resets_differ, resets_not_always, resets_are_shown, resets_undecided}
+use Rattle.check_meaning.proofs.Texts.{texts_agree, texts_always, texts_differ, texts_not_shown, texts_undecided}
+
+if_some : {X : Type 0} {F G : X → Type 0} (o : Option X) → ((x : X) → F x → G x) → IfSome o F → IfSome o G
+if_some None f h = tt
+if_some (Some x) f h = f x h
+
+-- what is said of the nets is said of the texts
+over_nets : (held : Held) (check : Check) (P : NetView → NetView → Type 0) (Q : List ℕ → List ℕ → Type 0) →
+    ((x y : List ℕ) (a b : NetView) → Loads x a → Loads y b → P a b → Q x y) → OfNets held check P → OfTexts held check Q
+over_nets held check P Q each h = if_some (held check.left) (λ x here. if_some (held check.right) (λ y n. each x y n.0 n.1 n.2 n.3 n.4) here) h
+
+equal_verdict : (v : Verdict) → verdict_status v ≡ status.Equal → v ≡ verdict.Equal
+equal_verdict verdict.Equal e = refl
+equal_verdict (verdict.Different w) e = absurd (cc)
+equal_verdict (verdict.DifferentFrom w) e = absurd (cc)
+equal_verdict (verdict.NotShown reason) e = absurd (cc)
+equal_verdict (verdict.Limit at) e = absurd (cc)
+
+-- a difference over all power-ups, or one from initial values
+different_verdict : (v : Verdict) → verdict_status v ≡ status.Different → ((w : Witness) × (v ≡ verdict.Different w)) ⊎ ((w : ResetWitness) × (v ≡ verdict.DifferentFrom w))
+different_verdict verdict.Equal e = absurd (cc)
+different_verdict (verdict.Different w) e = inl (w, refl)
+different_verdict (verdict.DifferentFrom w) e = inr (w, refl)
+different_verdict (verdict.NotShown reason) e = absurd (cc)
+different_verdict (verdict.Limit at) e = absurd (cc)
+
+not_shown_verdict : (v : Verdict) → verdict_status v ≡ status.NotShown → (w : Witness) × (v ≡ verdict.NotShown (why.Cut w))
+not_shown_verdict verdict.Equal e = absurd (cc)
+not_shown_verdict (verdict.Different w) e = absurd (cc)
+not_shown_verdict (verdict.DifferentFrom w) e = absurd (cc)
+not_shown_verdict (verdict.NotShown (why.Cut w)) e = (w, refl)
+not_shown_verdict (verdict.Limit at) e = absurd (cc)
+
+limit_verdict : (v : Verdict) → verdict_status v ≡ status.Limit → (at : LimitAt) × (v ≡ verdict.Limit at)
+limit_verdict verdict.Equal e = absurd (cc)
+limit_verdict (verdict.Different w) e = absurd (cc)
+limit_verdict (verdict.DifferentFrom w) e = absurd (cc)
+limit_verdict (verdict.NotShown reason) e = absurd (cc)
+limit_verdict (verdict.Limit at) e = (at, refl)
+
+-- a report by the settings of the comparison
+report_of : (before now : Option (List ℕ)) (o : Outcome) (s : Settings) (check : Check) → s ≡ check.settings → Takes before now (report_text s o) → Takes before now (report_text check.settings o)
+report_of before now o s check e taken = subst (λ (t : Settings). Takes before now (report_text t o)) e taken
+
+equal_found : (held : Held) (check : Check) (before now : Option (List ℕ)) (f : Finding) (proofs : List Proof) → IsFoundOf held check f → IsWrittenAs before now f proofs status.Equal →
+    OfTexts held check (λ x y. ByReset check.settings.reset (TextsAgree x y check.settings before now) (ResetsAgree x y check.settings before now))
+equal_found held check before now finding.Words proofs h w = absurd h
+equal_found held check before now (finding.Refused r) proofs h w = absurd (let e = w.1 in cc)
+equal_found held check before now (finding.Cyclic side names) proofs h w = absurd (let e = w.1 in cc)
+equal_found held check before now (finding.Unpaired side names) proofs h w = absurd (let e = w.1 in cc)
+equal_found held check before now (finding.Done report) proofs h w = absurd h
+equal_found held check before now (finding.Generated o report) proofs h w = absurd h
+equal_found held check before now (finding.Replayed differences) proofs h w = absurd h
+equal_found held check before now (finding.Unrefuted u) proofs h w = absurd h
+equal_found held check before now (finding.Undecided side name proof) proofs h w = absurd h
+equal_found held check before now (finding.Checked o s) proofs h w =
+    let v = equal_verdict o.verdict w.1 in
+    over_nets held check _ (λ x y. ByReset check.settings.reset (TextsAgree x y check.settings before now) (ResetsAgree x y check.settings before now))
+    (λ x y a b left right.
+    let taken = report_of before now o s check h.0 w.2 in
+    by_reset check.settings.reset (λ compared. texts_agree before now check.settings o taken x y a b left right compared v) (λ compared. resets_agree before now check.settings o taken x y a b left right compared v)) h.1
+
+different_found : (held : Held) (check : Check) (before now : Option (List ℕ)) (f : Finding) (proofs : List Proof) → IsFoundOf held check f → IsWrittenAs before now f proofs status.Different →
+    OfTexts held check (λ x y. ByReset check.settings.reset (TextsDiffer x y check.settings before now) (ResetsDiffer x y check.settings before now))
+different_found held check before now finding.Words proofs h w = absurd h
+different_found held check before now (finding.Refused r) proofs h w = absurd (let e = w.1 in cc)
+different_found held check before now (finding.Cyclic side names) proofs h w = absurd (let e = w.1 in cc)
+different_found held check before now (finding.Unpaired side names) proofs h w = absurd (let e = w.1 in cc)
+different_found held check before now (finding.Done report) proofs h w = absurd h
+different_found held check before now (finding.Generated o report) proofs h w = absurd h
+different_found held check before now (finding.Replayed differences) proofs h w = absurd h
+different_found held check before now (finding.Unrefuted u) proofs h w = absurd h
+different_found held check before now (finding.Undecided side name proof) proofs h w = absurd h
+different_found held check before now (finding.Checked o s) proofs h w =
+    over_nets held check _ (λ x y. ByReset check.settings.reset (TextsDiffer x y check.settings before now) (ResetsDiffer x y check.settings before now))
+    (λ x y a b left right.
+    let taken = report_of before now o s check h.0 w.2 in
+    by_reset check.settings.reset
+    (λ compared.
+    elim (different_verdict o.verdict w.1) [
+      | inl v ↦ texts_differ before now check.settings o taken x y a b left right compared v.0 v.1
+      | inr v ↦ absurd (texts_always before now check.settings o taken x y a b left right compared v.0 v.1)
+    ])
+    (λ compared.
+    elim (different_verdict o.verdict w.1) [
+      | inl v ↦ absurd (resets_not_always before now check.settings o taken x y a b left right compared v.0 v.1)
+      | inr v ↦ resets_differ before now check.settings o taken x y a b left right compared v.0 v.1
+    ])) h.1
+
+not_shown_found : (held : Held) (check : Check) (before now : Option (List ℕ)) (f : Finding) (proofs : List Proof) → IsFoundOf held check f → IsWrittenAs before now f proofs status.NotShown →
+    OfTexts held check (λ x y. ByReset check.settings.reset (TextsNotShown x y check.settings before now) ⊥)
+not_shown_found held check before now finding.Words proofs h w = absurd h
+not_shown_found held check before now (finding.Refused r) proofs h w = absurd (let e = w.1 in cc)
+not_shown_found held check before now (finding.Cyclic side names) proofs h w = absurd (let e = w.1 in cc)
+not_shown_found held check before now (finding.Unpaired side names) proofs h w = absurd (let e = w.1 in cc)
+not_shown_found held check before now (finding.Done report) proofs h w = absurd h
+not_shown_found held check before now (finding.Generated o report) proofs h w = absurd h
+not_shown_found held check before now (finding.Replayed differences) proofs h w = absurd h
+not_shown_found held check before now (finding.Unrefuted u) proofs h w = absurd h
+not_shown_found held check before now (finding.Undecided side name proof) proofs h w = absurd h
+not_shown_found held check before now (finding.Checked o s) proofs h w =
+    let v = not_shown_verdict o.verdict w.1 in
+    over_nets held check _ (λ x y. ByReset check.settings.reset (TextsNotShown x y check.settings before now) ⊥)
+    (λ x y a b left right.
+    let taken = report_of before now o s check h.0 w.2 in
+    by_reset check.settings.reset (λ compared. texts_not_shown before now check.settings o taken x y a b left right compared v.0 v.1)
+    (λ compared. resets_are_shown before now check.settings o taken x y a b left right compared (why.Cut v.0) v.1)) h.1
+
+limit_found : (held : Held) (check : Check) (before now : Option (List ℕ)) (f : Finding) (proofs : List Proof) → IsFoundOf held check f → IsWrittenAs before now f proofs status.Limit →
+    OfTexts held check (λ x y. ByReset check.settings.reset (TextsUndecided x y check.settings proofs before now) (ResetsUndecided x y check.settings proofs before now))
+limit_found held check before now finding.Words proofs h w = absurd h
+limit_found held check before now (finding.Refused r) proofs h w = absurd (let e = w.1 in cc)
+limit_found held check before now (finding.Cyclic side names) proofs h w = absurd (let e = w.1 in cc)
+limit_found held check before now (finding.Unpaired side names) proofs h w = absurd (let e = w.1 in cc)
+limit_found held check before now (finding.Done report) proofs h w = absurd h
+limit_found held check before now (finding.Generated o report) proofs h w = absurd h
+limit_found held check before now (finding.Replayed differences) proofs h w = absurd h
+limit_found held check before now (finding.Unrefuted u) proofs h w = absurd h
+limit_found held check before now (finding.Undecided side name proof) proofs h w = absurd h
+limit_found held check before now (finding.Checked o s) proofs h w =
+    let v = limit_verdict o.verdict w.1 in
+    over_nets held check _ (λ x y. ByReset check.settings.reset (TextsUndecided x y check.settings proofs before now) (ResetsUndecided x y check.settings proofs before now))
+    (λ x y a b left right.
+    let taken = report_of before now o s check h.0 w.2 in
+    by_reset check.settings.reset (λ compared. texts_undecided before now check.settings o taken x y a b left right compared proofs v.0 v.1 w.0)
+    (λ compared. resets_undecided before now check.settings o taken x y a b left right compared proofs v.0 v.1 w.0)) h.1
+
+-- no verdict is a report on one circuit
+no_done_verdict : (v : Verdict) → verdict_status v ≡ status.Done → ⊥
+no_done_verdict verdict.Equal e = cc
+no_done_verdict (verdict.Different w) e = cc
+no_done_verdict (verdict.DifferentFrom w) e = cc
+no_done_verdict (verdict.NotShown reason) e = cc
+no_done_verdict (verdict.Limit at) e = cc
+
+no_done : (held : Held) (check : Check) (f : Finding) → IsFoundOf held check f → status_of f ≡ status.Done → ⊥
+no_done held check finding.Words h e = h
+no_done held check (finding.Refused r) h e = cc
+no_done held check (finding.Cyclic side names) h e = cc
+no_done held check (finding.Unpaired side names) h e = cc
+no_done held check (finding.Checked o s) h e = no_done_verdict o.verdict e
+no_done held check (finding.Done report) h e = h
+no_done held check (finding.Generated o report) h e = h
+no_done held check (finding.Replayed differences) h e = h
+no_done held check (finding.Unrefuted u) h e = h
+no_done held check (finding.Undecided side name proof) h e = h
+
+-- what the status means of two texts that are compared
+pub check_means : (held : Held) (check : Check) (before now : Option (List ℕ)) (f : Finding) (proofs : List Proof) (name : StatusName) →
+    IsFoundOf held check f → IsWrittenAs before now f proofs name → CheckMeans held check before now proofs name
+check_means held check before now f proofs status.Equal found w = equal_found held check before now f proofs found w
+check_means held check before now f proofs status.Different found w = different_found held check before now f proofs found w
+check_means held check before now f proofs status.NotShown found w = not_shown_found held check before now f proofs found w
+check_means held check before now f proofs status.Limit found w = limit_found held check before now f proofs found w
+check_means held check before now f proofs status.Done found w = no_done held check f found w.1
+check_means held check before now f proofs status.Refused found w = tt
+check_means held check before now f proofs status.Words found w = tt
+check_means held check before now f proofs status.ReadFault found w = tt
+check_means held check before now f proofs status.WriteFault found w = tt
+check_means held check before now f proofs status.NoMemory found w = tt
+check_means held check before now f proofs status.Cyclic found w = tt

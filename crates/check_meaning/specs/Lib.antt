@@ -1,0 +1,4 @@
+pub mod Answer
+pub mod Check
+pub mod Found
+pub mod Resets

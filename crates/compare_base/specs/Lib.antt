@@ -1,0 +1,3 @@
+pub mod Compared
+pub mod FromReset
+pub mod Says

@@ -1,0 +1,6 @@
+//! What a comparison of two circuits answers, and what each answer says of them; how the answers are found is no matter here.
+#![tactic(auto)]
+
+mod error;
+
+pub use error::CompareError;

@@ -1,0 +1,4 @@
+pub mod Asking
+pub mod Counted
+pub mod Answers
+pub mod Telling

@@ -1,0 +1,42 @@
+-- One pair after the other.
+use Rattle.std.proofs.Common.{◌∙◌, ◌<◌, List, [], length, take, Some, sym, ap, subst, arith}
+use Rattle.std.proofs.lemmas.List.{take_all}
+use Rattle.std.proofs.lemmas.Option.{slice_get-get_or}
+use Rattle.flat_net.proofs.Places.{All-at}
+use Rattle.event_nodes.proofs.Growing.{grows_refl}
+use Rattle.interface.specs.declared.pairs.SignalPair.{SignalPair}
+use Rattle.pair_events.specs.View.{side_of_both}
+use Rattle.event_form.specs.Asked.{AreAsked, IsPairOf}
+use Rattle.event_form.specs.Counted.{CountsOn}
+use Rattle.event_form.proofs.Asking.{asked_next, asked_queries, later_refl, later_trans, pair_on}
+use Rattle.event_form.proofs.Counted.{none_counted, counted_next}
+use Rattle.event_form.proofs.questions.ask_pairs.Goals as goal
+
+pub loop-i-init : goal.loop-i-init
+loop-i-init c = record { asked = subst (AreAsked (side_of_both c.args.events.now) c.args.events.now.events c.args.cut []) (sym c.new-asked.ensures.items) tt; within = c.requires.within; later = later_refl c.args.events.now (grows_refl c.args.events.now.events); counted = none_counted c.args.events.now; graph = c.keeps.ensures.kept.events }
+
+pub ask_pair-requires-clause-pair : goal.ask_pair-requires-clause-pair
+ask_pair-requires-clause-pair c =
+    pair_on c.args.events.now c.loop-i.events c.loop-i.invariant.later c.index-pairs-i.result
+    (All-at (IsPairOf c.args.events.now) c.args.pairs.now c.loop-i.i c.index-pairs-i.result (slice_get-get_or c.args.pairs.now c.loop-i.i c.index-pairs-i.result (omega (arith, c.loop-i-test.true)) ∙ ap Some (sym c.index-pairs-i.is)) c.requires.pairs)
+
+pub loop-i-preserved : goal.loop-i-preserved
+loop-i-preserved c = record {
+  asked = asked_next c.loop-i.events c.ask_pair.new.events c.loop-i.invariant.graph c.keeps-in-loop-i.ensures.kept.events c.in_ok-obligation.ensures.later c.args.cut c.args.pairs.now c.loop-i.i c.index-pairs-i.result c.loop-i.asked.items c.push.new.self.items c.in_ok-obligation.obligation
+      (omega (arith, c.loop-i-test.true)) (sym c.index-pairs-i.is) c.in_ok-push.ensures.items c.loop-i.invariant.asked c.in_ok-obligation.ensures.asked;
+  within = c.in_ok-obligation.ensures.within;
+  later = later_trans c.args.events.now c.loop-i.events c.ask_pair.new.events c.loop-i.invariant.later c.in_ok-obligation.ensures.later;
+  counted = counted_next c.args.events.now c.loop-i.events c.ask_pair.new.events c.args.pairs.now c.loop-i.i c.index-pairs-i.result (omega (arith, c.loop-i-test.true)) (sym c.index-pairs-i.is) c.loop-i.invariant.counted c.in_ok-obligation.ensures.counted;
+  graph = c.keeps-in-loop-i.ensures.kept.events;
+}
+
+pub returns-clause-asked : goal.returns-clause-asked
+returns-clause-asked c =
+    subst (λ (ps : List SignalPair). AreAsked (side_of_both c.loop-i.events) c.loop-i.events.events c.args.cut ps c.loop-i.asked.items) (take_all c.loop-i.i c.args.pairs.now (omega (arith, c.loop-i-test.false))) c.loop-i.invariant.asked
+
+pub returns-clause-queries : goal.returns-clause-queries
+returns-clause-queries c =
+    asked_queries (side_of_both c.loop-i.events) c.loop-i.events.events c.loop-i.invariant.graph c.args.cut (take c.loop-i.i c.args.pairs.now) c.loop-i.asked.items c.loop-i.invariant.asked
+
+pub returns-clause-counted : goal.returns-clause-counted
+returns-clause-counted c = subst (λ (ps : List SignalPair). CountsOn ps c.args.events.now c.loop-i.events) (take_all c.loop-i.i c.args.pairs.now (omega (arith, c.loop-i-test.false))) c.loop-i.invariant.counted

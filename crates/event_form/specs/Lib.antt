@@ -1,0 +1,5 @@
+pub mod Asked
+pub mod Counted
+pub mod Answers
+pub mod Frames
+pub mod Laws

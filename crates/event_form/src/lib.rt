@@ -1,0 +1,13 @@
+//! The event form: pairs of signals of two circuits whose latches have their classes, as functions of inputs at event nodes that are compared
+//! wherever both have care (after the event-driven Boolean functions of Ranjan, Singhal, Somenzi and Brayton, DATE 1999).
+#![tactic(auto)]
+
+mod error;
+mod frames;
+pub mod laws;
+mod nodes;
+mod questions;
+
+pub use error::EventFormError;
+pub use frames::{FrameBit, frame_of};
+pub use questions::ask_pairs;

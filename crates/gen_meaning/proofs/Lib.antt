@@ -1,0 +1,5 @@
+pub mod Means
+pub mod Matching
+pub mod Ranking
+pub mod Weighing
+pub mod Never

@@ -1,6 +1,0 @@
-pub mod Fitted
-pub mod Means
-pub mod Matching
-pub mod Ranking
-pub mod Weighing
-pub mod Never

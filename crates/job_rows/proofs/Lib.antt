@@ -1,0 +1,9 @@
+pub mod ConeWeights
+pub mod Enables
+pub mod OneLatch
+pub mod OneReport
+pub mod Refutations
+pub mod Replays
+pub mod Started
+pub mod Stimuli
+pub mod Unate

@@ -1,0 +1,6 @@
+pub mod Enables
+pub mod OneReport
+pub mod Refutations
+pub mod Replays
+pub mod Started
+pub mod Stimuli

@@ -1,0 +1,5 @@
+pub mod Chosen
+pub mod Readers
+pub mod Marks
+pub mod Walk
+pub mod Trying

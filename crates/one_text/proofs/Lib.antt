@@ -1,0 +1,3 @@
+pub mod OneNets
+pub mod OneText
+pub mod Unfolded

@@ -1,0 +1,132 @@
+-- A run that compares a text with itself ends equal, or at want of memory.
+use Rattle.std.proofs.Common.{◌≡◌, ℕ, Bool, true, false, List, Option, Some, None, refl, sym, subst}
+use Rattle.std.specs.Prelude.{IfSome, IsSomeAnd, Ok}
+use Rattle.circuit_theory.specs.declared.Mode.{Mode}
+use Rattle.circuit_theory.specs.declared.Mode.TheVariants.{Plain, Event}
+use Rattle.pair_decide.specs.declared.query.Proof.{Proof}
+use Rattle.flat_net.specs.View.{NetView}
+use Rattle.command_line.specs.declared.task.Task.{Task}
+use Rattle.command_line.specs.declared.task.Task.TheVariants as task
+use Rattle.outcome.specs.declared.verdict.Outcome.{Outcome}
+use Rattle.outcome.specs.declared.verdict.Verdict.{Verdict}
+use Rattle.outcome.specs.declared.verdict.Verdict.TheVariants as verdict
+use Rattle.compare_base.specs.Compared.{ByReset, Compared}
+use Rattle.sec_files.specs.Loading.{Loads}
+use Rattle.job_base.specs.declared.finding.Finding.{Finding}
+use Rattle.job_base.specs.declared.finding.Finding.TheVariants as finding
+use Rattle.job_base.specs.declared.status.StatusName.{StatusName}
+use Rattle.job_base.specs.declared.status.StatusName.TheVariants as status
+use Rattle.job_base.specs.declared.finding.Refusal.TheVariants as refusal
+use Rattle.job_files.specs.Reading.{Held}
+use Rattle.check_meaning.specs.Answer.{AreComparable, CanAnswer, IsAnswer}
+use Rattle.sec_run.specs.Answer.{EndsAs, IsFinding}
+use Rattle.check_meaning.specs.Found.{IsFoundOf, OfNets}
+use Rattle.job_base.specs.Written.{status_of, verdict_status}
+use Rattle.check_meaning.specs.Check.{Check, WhereBuilt}
+use Rattle.job_base.specs.Meaning.{EndsWith}
+use Rattle.sec_run.specs.Promises.{IsComplete}
+use Rattle.one_text_runs.specs.OneTextRuns.{OfCheck, OfOneText, IsAlways, IsEqualAnswer}
+use Rattle.one_text.proofs.OneText.{one_text_is_equal}
+
+-- what is said of the text that both paths of the comparison hold
+abbrev pub CanMeetItself : Held → Check → Type 0
+CanMeetItself held check = OfOneText held check (λ x. AreComparable x x check.settings.expose check.settings.reset)
+
+-- the text that both paths hold
+record IsHeld (held : Held) (check : Check) : Type 0 where
+  pub text : List ℕ
+  pub left_is : held check.left ≡ Some text
+  pub right_is : held check.right ≡ Some text
+  pub comparable : AreComparable text text check.settings.expose check.settings.reset
+
+is_held : (held : Held) (check : Check) → CanMeetItself held check → IsHeld held check
+is_held held check h = by (held check.left) h (λ text e. e)
+  where
+    by : (o : Option (List ℕ)) → IsSomeAnd o (λ x. (held check.right ≡ Some x) × AreComparable x x check.settings.expose check.settings.reset) → ((text : List ℕ) → o ≡ Some text → held check.left ≡ Some text) → IsHeld held check
+    by None k is = absurd k
+    by (Some text) k is = record { text = text; left_is = is text refl; right_is = k.0; comparable = k.1 }
+
+some_held : {X : Type 0} (o : Option X) (P : X → Type 0) (x : X) → o ≡ Some x → P x → IsSomeAnd o P
+some_held {X} o P x e h = let Q : Option X → Type 0 = λ p. IsSomeAnd p P in subst Q (sym e) h
+
+if_held : {X : Type 0} (o : Option X) (P : X → Type 0) (x : X) → o ≡ Some x → IfSome o P → P x
+if_held {X} o P x e h = let Q : Option X → Type 0 = λ p. IfSome p P in subst Q e h
+
+-- so both texts are told, and can be compared
+can_answer : (held : Held) (check : Check) → CanMeetItself held check → CanAnswer held check
+can_answer held check h =
+    let x = is_held held check h in
+    some_held (held check.left) (λ left. IsSomeAnd (held check.right) (λ right. AreComparable left right check.settings.expose check.settings.reset)) x.text x.left_is
+    (some_held (held check.right) (λ right. AreComparable x.text right check.settings.expose check.settings.reset) x.text x.right_is x.comparable)
+
+from_always : {X : Type 0} (Y : Type 0) (reset : Bool) → reset ≡ false → ByReset reset X Y → X
+from_always Y false e h = h
+from_always Y true e h = absurd (cc)
+
+module _ (held : Held) (check : Check) (h : CanMeetItself held check) (always : check.settings.reset ≡ false) where
+  checked : (o : Outcome) → OfNets held check (λ a b. Compared a b check.settings (Ok o)) → o.verdict ≡ verdict.Equal
+  checked o found =
+      let x = is_held held check h in
+      let n = if_held (held check.right) (λ right. (a : NetView) × (b : NetView) × Loads x.text a × Loads right b × Compared a b check.settings (Ok o)) x.text x.right_is
+      (if_held (held check.left) (λ left. IfSome (held check.right) (λ right. (a : NetView) × (b : NetView) × Loads left a × Loads right b × Compared a b check.settings (Ok o))) x.text x.left_is found) in
+      one_text_is_equal x.text n.0 n.1 n.2 n.3 check.settings o (from_always _ check.settings.reset always n.4)
+
+  found_equal : (f : Finding) → IsFoundOf held check f → IsAnswer (status_of f) → IsEqualAnswer (status_of f)
+  found_equal finding.Words found is = absurd found
+  found_equal (finding.Refused r) found is = absurd is
+  found_equal (finding.Cyclic side names) found is = absurd is
+  found_equal (finding.Unpaired side names) found is = absurd is
+  found_equal (finding.Checked o s) found is = subst (λ (v : Verdict). IsEqualAnswer (verdict_status v)) (sym (checked o found.1)) tt
+  found_equal (finding.Done report) found is = absurd found
+  found_equal (finding.Generated o report) found is = absurd found
+  found_equal (finding.Replayed differences) found is = absurd found
+  found_equal (finding.Unrefuted u) found is = absurd found
+  found_equal (finding.Undecided side name proof) found is = absurd found
+
+-- what is found of a job
+check_equal : (held : Held) (check : Check) (f : Finding) (mode : Mode) (reset : Bool) → check.settings.reset ≡ reset → IsAlways mode reset (CanMeetItself held check) → WhereBuilt mode (IsFoundOf held check f) (f ≡ finding.Refused refusal.NotBuilt) →
+    IsAnswer (status_of f) → IsEqualAnswer (status_of f)
+check_equal held check f Plain false e can found is = found_equal held check can e f found is
+check_equal held check f Plain true e can found is = absurd can
+check_equal held check f Event reset e can found is = absurd can
+
+job_equal : (held : Held) (job : Option Task) (f : Finding) → OfCheck job (CanMeetItself held) → IsFinding held job f → IsAnswer (status_of f) → IsEqualAnswer (status_of f)
+job_equal held None f can found is = absurd can
+job_equal held (Some (task.Check a b settings)) f can found is = check_equal held (record { left = a; right = b; settings = settings }) f settings.mode settings.reset refl can found is
+job_equal held (Some (task.Graph a mode)) f can found is = absurd can
+job_equal held (Some (task.Sim a s mode power reset)) f can found is = absurd can
+job_equal held (Some (task.Replay a b s mode)) f can found is = absurd can
+job_equal held (Some (task.Gen seed regroup conflicts)) f can found is = absurd can
+job_equal held (Some (task.Lrat a b)) f can found is = absurd can
+job_equal held (Some (task.Cert a b pair form conflicts)) f can found is = absurd can
+
+-- a job over one text is one that is answered
+check_answered : (held : Held) (check : Check) (name : StatusName) (mode : Mode) (reset : Bool) → IsAlways mode reset (CanMeetItself held check) →
+    WhereBuilt mode (CanAnswer held check → IsAnswer name) (EndsWith status.Refused name) → IsAnswer name
+check_answered held check name Plain false can complete = complete (can_answer held check can)
+check_answered held check name Plain true can complete = absurd can
+check_answered held check name Event reset can complete = absurd can
+
+pub is_answered : (held : Held) (job : Option Task) (name : StatusName) → OfCheck job (CanMeetItself held) → IsComplete held job name → IsAnswer name
+is_answered held None name can complete = absurd can
+is_answered held (Some (task.Check a b settings)) name can complete = check_answered held (record { left = a; right = b; settings = settings }) name settings.mode settings.reset can complete
+is_answered held (Some (task.Graph a mode)) name can complete = absurd can
+is_answered held (Some (task.Sim a s mode power reset)) name can complete = absurd can
+is_answered held (Some (task.Replay a b s mode)) name can complete = absurd can
+is_answered held (Some (task.Gen seed regroup conflicts)) name can complete = absurd can
+is_answered held (Some (task.Lrat a b)) name can complete = absurd can
+is_answered held (Some (task.Cert a b pair form conflicts)) name can complete = absurd can
+
+-- the run ends equal, or at want of memory
+pub ends_equal : (held : Held) (before now : Option (List ℕ)) (job : Option Task) (proofs : List Proof) (name : StatusName) → EndsAs before now held job proofs name → OfCheck job (CanMeetItself held) → IsAnswer name → IsEqualAnswer name
+ends_equal held before now job proofs status.Equal ends can is = tt
+ends_equal held before now job proofs status.NoMemory ends can is = tt
+ends_equal held before now job proofs status.Different ends can is = subst IsEqualAnswer ends.3 (job_equal held job ends.0 can ends.1 (subst IsAnswer (sym ends.3) is))
+ends_equal held before now job proofs status.NotShown ends can is = subst IsEqualAnswer ends.3 (job_equal held job ends.0 can ends.1 (subst IsAnswer (sym ends.3) is))
+ends_equal held before now job proofs status.Limit ends can is = subst IsEqualAnswer ends.3 (job_equal held job ends.0 can ends.1 (subst IsAnswer (sym ends.3) is))
+ends_equal held before now job proofs status.Refused ends can is = absurd is
+ends_equal held before now job proofs status.Words ends can is = absurd is
+ends_equal held before now job proofs status.ReadFault ends can is = absurd is
+ends_equal held before now job proofs status.WriteFault ends can is = absurd is
+ends_equal held before now job proofs status.Cyclic ends can is = absurd is
+ends_equal held before now job proofs status.Done ends can is = absurd is

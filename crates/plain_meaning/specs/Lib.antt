@@ -1,0 +1,4 @@
+pub mod Equal
+pub mod Fitting
+pub mod Limits
+pub mod Outcome

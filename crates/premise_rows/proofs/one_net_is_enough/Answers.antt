@@ -1,5 +1,0 @@
-use Rattle.premise_rows.proofs.OneNets.{one_net_is_enough}
-use Rattle.premise_rows.proofs.one_net_is_enough.Goals as goal
-
-pub returns : goal.returns
-returns c = one_net_is_enough

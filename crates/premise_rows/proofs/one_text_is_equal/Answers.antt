@@ -1,5 +1,0 @@
-use Rattle.premise_rows.proofs.OneText.{one_text_is_equal}
-use Rattle.premise_rows.proofs.one_text_is_equal.Goals as goal
-
-pub returns : goal.returns
-returns c = one_text_is_equal

@@ -1,0 +1,141 @@
+//! What each signal reads.
+
+ghost use Rattle.std.specs.Prelude.{◌≡◌, ◌<◌, ℕ, [], ◌∷◌, length, slice_get, Some, IfOk};
+ghost use Rattle.inner_cone.specs.Inner.{AreRanked};
+ghost use Rattle.inner_cone.specs.Sides.{AreSides};
+ghost use Rattle.flat_net.specs.declared.parts.Driver.{Driver};
+ghost use Rattle.flat_net.specs.declared.parts.LatchAt.{LatchAt};
+ghost use Rattle.signal_graph.specs.declared.nodes.Node.{Node};
+ghost use Rattle.signal_graph.specs.Graph.{IsNodeOf, AreTaken};
+
+use flat_net::{Driver, LatchAt, Net, Signal, Signals};
+use inner_cone::{ranks, sides_of};
+use sec_base::{Duplicate, Ids, NoMemory};
+use std::alloc::Global;
+
+/// What a signal reads: a gate its fan-ins in the same cycle, a latch one signal in the cycle before,
+/// or without its self-edge what leads to the other latches of its cone and not back to it, an input nothing.
+/// A latch has its position among the latches.
+#[derive(Drop)]
+pub struct Node {
+    pub reads: Signals,
+    pub latch: Option<u32>,
+}
+
+/// The nodes of all signals of the net.
+pub(crate) fn nodes_of(alloc: Global, net: &Net, skipped: &[bool]) -> Result<Vec<Node>, NoMemory>
+    requires { length skipped.now ≡ length net.now.latches }
+    ensures size { IfOk result (λ nodes. length nodes.items ≡ length net.now.drivers) }
+    ensures nodes { IfOk result (λ nodes. (s : ℕ) (d : Driver) → slice_get net.now.drivers s ≡ Some d → (node : Node) × (slice_get nodes.items s ≡ Some node) × IsNodeOf net.now skipped.now d node) }
+{
+    let numbers = ranks_where(alloc, net, skipped)?;
+    let mut nodes = Vec::new(alloc);
+    for s in 0..net.size() {
+        nodes.push(node_of(alloc, net, numbers.as_slice(), skipped, Signal(s))?)?;
+    }
+    Ok(nodes)
+}
+
+/// Numbers of the signals, none of which reads one with a greater number. They are all 0 where no bit is set, since nobody looks at
+/// them then.
+fn ranks_where(alloc: Global, net: &Net, skipped: &[bool]) -> Result<Ids, NoMemory>
+    ensures { IfOk result (AreRanked net.now) }
+{
+    if skipped.contains(&true) {
+        ranks(alloc, net)
+    } else {
+        Ok(Ids::new(alloc))
+    }
+}
+
+fn node_of(
+    alloc: Global,
+    net: &Net,
+    numbers: &[u32],
+    skipped: &[bool],
+    s: Signal,
+) -> Result<Node, NoMemory>
+    requires ranked { AreRanked net.now numbers.now }
+    requires bits { length skipped.now ≡ length net.now.latches }
+    requires signal { s.0 < length net.now.drivers }
+    ensures { IfOk result (λ node. (d : Driver) → slice_get net.now.drivers s.0 ≡ Some d → IsNodeOf net.now skipped.now d node) }
+{
+    net.keeps();
+    match net.driver(s) {
+        Driver::Input(_) => Ok(Node {
+            reads: Signals::new(alloc),
+            latch: None,
+        }),
+        Driver::Gate(j) => Ok(Node {
+            reads: net.gates()[j as usize].fanins.copy()?,
+            latch: None,
+        }),
+        Driver::Latch(j) => {
+            let reads = taken(alloc, net, numbers, j, is_set(skipped, j))?;
+            Ok(Node {
+                reads,
+                latch: Some(j),
+            })
+        }
+    }
+}
+
+/// The bit of a latch.
+fn is_set(bits: &[bool], latch: u32) -> bool
+    requires { latch < length bits.now }
+    ensures { slice_get bits.now latch ≡ Some result }
+{
+    bits[latch as usize]
+}
+
+/// What a latch's node reads: what the latch takes over, or what leads to the other latches of its cone and not back to it.
+fn taken(
+    alloc: Global,
+    net: &Net,
+    numbers: &[u32],
+    latch: u32,
+    skipped: bool,
+) -> Result<Signals, NoMemory>
+    requires ranked { AreRanked net.now numbers.now }
+    requires latch { latch < length net.now.latches }
+    ensures { IfOk result (λ reads. (l : LatchAt) → slice_get net.now.latches latch ≡ Some l → AreTaken net.now l skipped reads) }
+{
+    if skipped {
+        let reads = sides_at(alloc, net, numbers, latch)?;
+        Ok(reads)
+    } else {
+        let reads = next_alone(alloc, net.latches()[latch as usize].next)?;
+        Ok(reads)
+    }
+}
+
+/// What leads to the other latches of the latch's cone and not back to it.
+fn sides_at(alloc: Global, net: &Net, numbers: &[u32], latch: u32) -> Result<Signals, NoMemory>
+    requires ranked { AreRanked net.now numbers.now }
+    requires latch { latch < length net.now.latches }
+    ensures { IfOk result (λ reads. (l : LatchAt) → slice_get net.now.latches latch ≡ Some l → AreSides net.now l.next.0 l.out.0 reads) }
+{
+    net.keeps();
+    let taker = &net.latches()[latch as usize];
+    let sides = sides_of(alloc, net, numbers, taker.next, taker.out)?;
+    Ok(sides)
+}
+
+fn next_alone(alloc: Global, next: Signal) -> Result<Signals, NoMemory>
+    ensures { IfOk result (λ reads. reads ≡ next ∷ []) }
+{
+    let mut reads = Signals::new(alloc);
+    reads.push(next)?;
+    Ok(reads)
+}
+
+/// Equal latches.
+pub(crate) fn copy_latches(alloc: Global, latches: &[LatchAt]) -> Result<Vec<LatchAt>, NoMemory>
+    ensures { IfOk result (λ made. made.items ≡ latches.now) }
+{
+    let mut made = Vec::new(alloc);
+    for latch in latches {
+        made.push(latch.duplicate(alloc)?)?;
+    }
+    Ok(made)
+}

@@ -1,0 +1,3 @@
+pub mod Circuits
+pub mod CutDesigns
+pub mod Designs

@@ -1,0 +1,6 @@
+//! The weight of the unfoldings of signals, by the readings of their net.
+#![tactic(auto)]
+
+mod weight;
+
+pub use weight::{Weight, weigh};
