@@ -1,3 +1,4 @@
 pub mod Asking
+pub mod Laws
 pub mod Passes
 pub mod Refining

@@ -4,6 +4,7 @@
 
 mod ask;
 mod firsts;
+pub mod laws;
 mod pass;
 mod refinement;
 mod starts;
