@@ -1,20 +1,25 @@
 //! What is told of two netlists.
 
+ghost use Rattle.std.specs.Prelude.{◌≤◌};
 ghost use Rattle.event_rows.specs.Starts.{IsStart};
 
 use crate::circuits::circuit_of;
 use blif_read::read_design;
-use event_classes::{ClassMap, make_classes};
+use class_separations::Apart;
+use event_classes::{ClassMap, EventError, make_classes};
 use event_nodes::EventCircuit;
 use flat_net::Net;
 use flatten::flatten;
-use row_text::{show, show_number, split_at, text_of};
-use sec_base::{DEFAULT_CONFLICTS, MAX_FILE_BYTES, Side, Tag};
+use row_text::{show, show_bit, show_count, show_number, split_at, text_of};
+use sec_base::{MAX_CONFLICTS, MAX_FILE_BYTES, Side, Tag};
 use std::alloc::Global;
 use std::rt::HostRuntime;
 
-/// Shows both netlists, and then a line with the enabled latches of both in their order.
-pub(crate) fn show_row(rt: &HostRuntime, row: &[u8]) {
+/// Shows both netlists, then a line with the enabled latches of both in their order, each with its class, and a line for what tells each
+/// two classes apart.
+pub(crate) fn show_row(rt: &HostRuntime, row: &[u8], conflicts: u32)
+    requires { conflicts ≤ MAX_CONFLICTS }
+{
     show(rt, row);
     show(rt, b"\n");
     let (first, second) = split_at(b';', row);
@@ -24,7 +29,7 @@ pub(crate) fn show_row(rt: &HostRuntime, row: &[u8]) {
     let Some(right) = net_of(rt.alloc(), second) else {
         return show(rt, b"no second net\n");
     };
-    show_nets(rt, left, right);
+    show_nets(rt, left, right, conflicts);
 }
 
 /// The net that the marks spell.
@@ -40,23 +45,29 @@ fn net_of(alloc: Global, marks: &[u8]) -> Option<Net> {
     flatten(alloc, &design).ok()
 }
 
-fn show_nets(rt: &HostRuntime, left: Net, right: Net) {
+fn show_nets(rt: &HostRuntime, left: Net, right: Net, conflicts: u32)
+    requires { conflicts ≤ MAX_CONFLICTS }
+{
     let Some(left) = circuit_of(rt.alloc(), left) else {
         return show(rt, b"first has a cycle\n");
     };
     let Some(right) = circuit_of(rt.alloc(), right) else {
         return show(rt, b"second has a cycle\n");
     };
-    show_classes(rt, left, right);
+    show_classes(rt, left, right, conflicts);
 }
 
-fn show_classes(rt: &HostRuntime, left: EventCircuit, right: EventCircuit)
+fn show_classes(rt: &HostRuntime, left: EventCircuit, right: EventCircuit, conflicts: u32)
     requires left { IsStart left }
     requires right { IsStart right }
+    requires conflicts { conflicts ≤ MAX_CONFLICTS }
 {
-    match make_classes(rt.alloc(), left, right, DEFAULT_CONFLICTS) {
+    match make_classes(rt.alloc(), left, right, conflicts) {
         Ok(map) => show_map(rt, &map),
-        Err(_) => show(rt, b"refused\n"),
+        Err(EventError::TooManyEvents) => show(rt, b"too many events\n"),
+        Err(EventError::TooLarge(_)) => show(rt, b"too large\n"),
+        Err(EventError::Limit { .. }) => show(rt, b"limit\n"),
+        Err(EventError::NoMemory) => show(rt, b"no memory\n"),
     }
 }
 
@@ -64,22 +75,60 @@ fn show_map(rt: &HostRuntime, map: &ClassMap) {
     show(rt, b"classes ");
     show_number(rt, map.classes.len() as u64);
     for tag in map.taken.as_slice() {
-        match tag.side {
-            Side::A => show_latch(rt, b" A:", &map.left, *tag),
-            Side::B => show_latch(rt, b" B:", &map.right, *tag),
-        }
+        show_tag(rt, map, *tag);
+        show_class(rt, map, *tag);
+    }
+    show(rt, b"\n");
+    for apart in map.aparts.as_slice() {
+        show_apart(rt, map, apart);
+    }
+}
+
+/// Shows what tells two classes apart: a latch of the lower one, the founder of the higher one, the values of their enables, and the bits
+/// of the variables in their order.
+fn show_apart(rt: &HostRuntime, map: &ClassMap, apart: &Apart) {
+    show(rt, b"apart");
+    match apart.low {
+        Some(tag) => show_tag(rt, map, tag),
+        None => show(rt, b" always"),
+    }
+    show_tag(rt, map, apart.high);
+    show(rt, b" values ");
+    show_bit(rt, apart.left);
+    show(rt, b" ");
+    show_bit(rt, apart.right);
+    show(rt, b" bits ");
+    for bit in apart.bits.as_slice() {
+        show_bit(rt, *bit);
     }
     show(rt, b"\n");
 }
 
-/// Shows the side and the name of the latch, and its class.
-fn show_latch(rt: &HostRuntime, side: &[u8], circuit: &EventCircuit, tag: Tag) {
+/// Shows the side and the name of the latch.
+fn show_tag(rt: &HostRuntime, map: &ClassMap, tag: Tag) {
+    match tag.side {
+        Side::A => show_latch(rt, b" A:", &map.left, tag.latch),
+        Side::B => show_latch(rt, b" B:", &map.right, tag.latch),
+    }
+}
+
+fn show_latch(rt: &HostRuntime, side: &[u8], circuit: &EventCircuit, latch: u32) {
     circuit.keeps();
     let latches = circuit.net().latches();
-    if (tag.latch as usize) < latches.len() {
+    if (latch as usize) < latches.len() {
         show(rt, side);
-        show(rt, latches[tag.latch as usize].name.as_slice());
-        show(rt, b" ");
-        show_number(rt, circuit.class(tag.latch) as u64);
+        show(rt, latches[latch as usize].name.as_slice());
+    }
+}
+
+/// Shows the latch's class.
+fn show_class(rt: &HostRuntime, map: &ClassMap, tag: Tag) {
+    let circuit = match tag.side {
+        Side::A => &map.left,
+        Side::B => &map.right,
+    };
+    circuit.keeps();
+    if (tag.latch as usize) < circuit.net().latches().len() {
+        show_count(rt, circuit.class(tag.latch) as u64);
     }
 }

@@ -19,23 +19,23 @@ use Rattle.unfold_places.proofs.Drivers.{latch_of_equation, latch_out}
 use Rattle.latch_blocks.specs.Blocks.{block_at, start_at}
 use Rattle.latch_blocks.specs.Partitions.{block_of, block_of_driver, starts_of, nexts_of}
 
-at_left : {X : Type 0} (xs ys : List X) (i : ℕ) (x : X) → slice_get xs i ≡ Some x → slice_get (xs ++ ys) i ≡ Some x
+pub at_left : {X : Type 0} (xs ys : List X) (i : ℕ) (x : X) → slice_get xs i ≡ Some x → slice_get (xs ++ ys) i ≡ Some x
 at_left xs ys i x at =
     let inside = slice_get_within xs i x at in
     let more : i < length (xs ++ ys) = omega (arith, inside, length-append xs ys) in
     slice_get-get_or (xs ++ ys) i x more ∙ ap Some (get_or-append xs ys x i inside ∙ get_or_from_slice_get xs i x x at)
 
-at_right : {X : Type 0} (xs ys : List X) (n i : ℕ) (x : X) → length xs ≡ n → slice_get ys i ≡ Some x → slice_get (xs ++ ys) (n + i) ≡ Some x
+pub at_right : {X : Type 0} (xs ys : List X) (n i : ℕ) (x : X) → length xs ≡ n → slice_get ys i ≡ Some x → slice_get (xs ++ ys) (n + i) ≡ Some x
 at_right xs ys n i x long at =
     let inside = slice_get_within ys i x at in
     let more : length xs + i < length (xs ++ ys) = omega (arith, inside, length-append xs ys) in
     ap (λ k. slice_get (xs ++ ys) (k + i)) (sym long) ∙ (slice_get-get_or (xs ++ ys) (length xs + i) x more ∙ ap Some (get_or-append-add xs ys i x ∙ get_or_from_slice_get ys i x x at))
 
 -- what a latch of A, and of B, takes over
-abbrev left_next : LatchAt → Either ℕ ℕ
+abbrev pub left_next : LatchAt → Either ℕ ℕ
 left_next l = Left l.next.0
 
-abbrev right_next : LatchAt → Either ℕ ℕ
+abbrev pub right_next : LatchAt → Either ℕ ℕ
 right_next l = Right l.next.0
 
 -- the latch is A's

@@ -24,6 +24,8 @@ pub struct Budget {
     pub(crate) next: u32,
     pub(crate) left: u32,
     pub(crate) searches: bool,
+    /// How many attempts by cases failed or were left out one after the other.
+    pub(crate) in_vain: u32,
 }
 
 impl Budget {
@@ -34,6 +36,7 @@ impl Budget {
             next: each,
             left: effort.conflicts,
             searches: effort.searches,
+            in_vain: 0,
         }
     }
 
@@ -46,6 +49,21 @@ impl Budget {
     pub(crate) fn charge(&mut self, nodes: usize) {
         let conflicts = (nodes / 64).min(10_000) as u32;
         self.left = self.left.saturating_sub(conflicts);
+    }
+
+    /// Whether an attempt by cases may be made: one of 16, where more failed.
+    pub(crate) fn may_split(&self) -> bool {
+        self.in_vain < 16 || self.in_vain % 16 == 0
+    }
+
+    /// Notes an attempt by cases in a graph of so many nodes, which are walked where it fails.
+    pub(crate) fn note_split(&mut self, same: bool, nodes: u32) {
+        if same {
+            self.in_vain = 0;
+        } else {
+            self.in_vain = self.in_vain.saturating_add(1);
+            self.charge(nodes as usize / 128);
+        }
     }
 
     /// The conflicts for one search.

@@ -12,6 +12,7 @@ use crate::models::model_of;
 use crate::question::{Tried, ask};
 use crate::small::{find, small_graph};
 use aig::{Aig, Lit};
+use case_split::agree_by_cases;
 use sec_base::NoMemory;
 use std::alloc::Global;
 use sweep_candidates::{Model, cut_of, small_cone_of, window_of};
@@ -35,7 +36,7 @@ impl Proved {
     }
 }
 
-/// Tries to prove that two literals agree: over a cut of few leaves, over windows, and over their whole cones. Where they differ over the
+/// Tries to prove that two literals agree: over a cut of few leaves, by cases, over windows, and over their whole cones. Where they differ over the
 /// whole cones, it tells where.
 pub fn prove(
     alloc: Global,
@@ -74,7 +75,7 @@ fn attempt(
     prove_wholly(alloc, graph, x, k, budget)
 }
 
-/// Tries it over a cut and over windows. Where no conflicts are allowed there is none.
+/// Tries it over a cut, by cases, and over windows. Where no conflicts are allowed there is none.
 fn prove_nearby(
     alloc: Global,
     graph: &Aig,
@@ -93,7 +94,33 @@ fn prove_nearby(
     if told.is_told() || !budget.may_search() {
         return Ok(told);
     }
+    let cases = prove_by_cases(alloc, graph, x, k, budget)?;
+    if cases.is_told() {
+        return Ok(cases);
+    }
     prove_in_window(alloc, graph, levels, x, k, budget)
+}
+
+/// Tries it by cases of the variables that most nodes read. An attempt that fails costs a walk over the graph.
+fn prove_by_cases(
+    alloc: Global,
+    graph: &Aig,
+    x: Lit,
+    k: Lit,
+    budget: &mut Budget,
+) -> Result<Proved, NoMemory>
+    ensures { IfOk result (IsProved graph.now x.0 k.0) }
+{
+    if !budget.may_split() {
+        budget.note_split(false, 0);
+        return Ok(Proved::Open);
+    }
+    let same = agree_by_cases(alloc, graph, x, k)?;
+    budget.note_split(same, graph.size());
+    if same {
+        return Ok(Proved::Same);
+    }
+    Ok(Proved::Open)
 }
 
 /// Tries it over some windows, each wider than the one before.

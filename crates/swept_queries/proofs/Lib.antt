@@ -1,3 +1,4 @@
 pub mod Listed
 pub mod ToldApart
 pub mod Stand
+pub mod OneLiteral

@@ -16,7 +16,7 @@ use crate::sides::{Known, Sides};
 use crate::targets::{is_any_left, kept_lits, tried_lits};
 use crate::words::{bits_at, seeded_words};
 use aig::{Aig, Lits};
-use pair_decide::{Decision, Query, decide};
+use pair_decide::{Decision, Query, SameBy, decide};
 use sec_base::{MAX_CONFLICTS, NoMemory};
 use std::alloc::Global;
 use sweep::{Effort, Swept, sweep_across};
@@ -160,8 +160,8 @@ fn sweep_open(
 }
 
 impl SweptQueries {
-    /// Decides the query of this place: by the assignment that tells it apart, over the swept graph where its literals there read no
-    /// variable but the query's own, and else as it stands.
+    /// Decides the query of this place: by the assignment that tells it apart, at once where its sides are one literal of the swept
+    /// graph, over that graph where its literals there read no variable but the query's own, and else as it stands.
     pub fn decide(
         &self,
         alloc: Global,
@@ -193,7 +193,7 @@ impl SweptQueries {
         }
     }
 
-    /// Decides the query, which has these literals in the swept graph.
+    /// Decides the query, which has these literals in the swept graph. Where both sides are one there, nothing is walked.
     fn decide_swept(
         &self,
         alloc: Global,
@@ -207,6 +207,10 @@ impl SweptQueries {
         requires conflicts { conflicts ≤ MAX_CONFLICTS }
         ensures { IfOk result (DecidesInStead aig.now query.now conflicts) }
     {
+        if sides.left == sides.right {
+            aig.keeps();
+            return Ok(Decision::Same(SameBy::Literal));
+        }
         match query_in_stead(alloc, &self.aig, sides, query)? {
             Some(asked) => decide(alloc, &self.aig, &asked, conflicts),
             None => decide_itself(alloc, aig, query, conflicts),

@@ -1,0 +1,4 @@
+pub mod Asking
+pub mod Members
+pub mod Passing
+pub mod Trials

@@ -1,0 +1,10 @@
+use Rattle.std.proofs.Common.{◌++◌}
+use Rattle.latch_blocks.specs.Laws.{pairs_alike}
+use Rattle.latch_blocks.specs.Partitions.{IsOnTheWay}
+use Rattle.block_refine.proofs.refinement.refine.Given as goal
+
+abbrev pub invariant-rounds : goal.invariant-rounds
+invariant-rounds l = IsOnTheWay l.left l.right (l.orders.left ++ l.orders.right) l.blocks
+
+abbrev pub decreases-rounds : goal.decreases-rounds
+decreases-rounds l = pairs_alike l.blocks

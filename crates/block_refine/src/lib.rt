@@ -1,0 +1,12 @@
+//! The coarsest inductive partition of the latches of two nets, by refinement of the partition by initial values: round after round
+//! each latch is compared with the first one of its block, and values that tell the two apart split all blocks.
+#![tactic(auto)]
+
+mod ask;
+mod firsts;
+mod pass;
+mod refinement;
+mod starts;
+mod trial;
+
+pub use refinement::{Refined, SplitLimit, refine};

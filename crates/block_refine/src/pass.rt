@@ -1,0 +1,170 @@
+//! One pass over all latches.
+
+ghost use Rattle.std.specs.Prelude.{◌≡◌, ◌+◌, ◌<◌, ◌≤◌, ◌^◌, true, length, IfOk, OnOk};
+ghost use Rattle.block_graph.specs.Graph.{IsBlockGraph};
+ghost use Rattle.latch_blocks.specs.Blocks.{IsSplit, block_at};
+ghost use Rattle.block_refine.specs.Passes.{AreMembers, IsOnPass, IsPass, IsStep, IsRound, IsEndRound, IsLimitRound};
+
+use crate::ask::{Answer, ask};
+use crate::firsts::first_members;
+use block_graph::{BlockGraph, BlockNets};
+use latch_blocks::split_blocks;
+use pair_decide::Proof;
+use sec_base::{Ids, MAX_CONFLICTS, NoMemory};
+use std::alloc::Global;
+
+/// A partition while a pass is made over the latches, and whether the pass has split a block.
+#[derive(Drop)]
+pub(crate) struct Pass {
+    pub blocks: Ids,
+    /// The first latch of each block.
+    pub firsts: Vec<usize>,
+    pub split: bool,
+}
+
+/// What comes of a latch's query.
+#[derive(Drop)]
+pub(crate) enum Step {
+    /// The pass goes on.
+    Goes,
+    /// The query with this latch met the limit.
+    Limit(usize, Proof),
+}
+
+/// What comes of a pass.
+#[derive(Drop)]
+pub(crate) enum Round {
+    /// No block was split, and all queries said that the latches agree.
+    Same,
+    /// Blocks were split.
+    Split(Ids),
+    /// No block was split, and the query of these two latches met the limit.
+    Limit(usize, usize, Proof),
+}
+
+impl Pass {
+    fn new(alloc: Global, nets: &BlockNets<'_>) -> Result<Pass, NoMemory>
+        requires { IsOnPass nets.now }
+        ensures { IfOk result (IsPass nets.now 0) }
+    {
+        nets.left.keeps();
+        nets.right.keeps();
+        let firsts = first_members(alloc, nets.blocks)?;
+        let blocks = copied(alloc, nets.blocks)?;
+        Ok(Pass {
+            blocks,
+            firsts,
+            split: false,
+        })
+    }
+
+    /// Compares the latch with the first one of its block, and splits the blocks where they differ.
+    fn step(
+        &mut self,
+        alloc: Global,
+        nets: &BlockNets<'_>,
+        graph: &BlockGraph,
+        j: usize,
+        conflicts: u32,
+    ) -> Result<Step, NoMemory>
+        requires graph { IsBlockGraph nets.now graph.now }
+        requires pass { IsPass nets.now j self.old }
+        requires latch { j < length self.old.blocks }
+        requires conflicts { conflicts ≤ MAX_CONFLICTS }
+        ensures { IfOk result (IsStep nets.now graph.now conflicts j self.new) }
+    {
+        nets.left.keeps();
+        nets.right.keeps();
+        let first = first_in(&self.firsts, self.blocks.as_slice(), j);
+        match ask(alloc, nets, graph, first, j, conflicts)? {
+            Answer::Agree => Ok(Step::Goes),
+            Answer::Limit(proof) => Ok(Step::Limit(first, proof)),
+            Answer::Apart(bits) => {
+                self.split_by(alloc, bits)?;
+                Ok(Step::Goes)
+            }
+        }
+    }
+
+    /// Splits the blocks by the bits of the latches.
+    pub(crate) fn split_by(&mut self, alloc: Global, bits: Vec<bool>) -> Result<(), NoMemory>
+        requires each { length bits.items ≡ length self.old.blocks }
+        requires few { length self.old.blocks + 1 < 2 ^ 32 }
+        ensures split { OnOk result (IsSplit self.old.blocks bits.items self.new.blocks) }
+        ensures members { OnOk result (AreMembers self.new.blocks self.new.firsts.items) }
+        ensures marked { OnOk result (self.new.split ≡ true) }
+    {
+        let fine = split_blocks(alloc, self.blocks.as_slice(), &bits)?;
+        let firsts = first_members(alloc, fine.as_slice())?;
+        self.firsts = firsts;
+        self.blocks = fine;
+        self.split = true;
+        Ok(())
+    }
+}
+
+/// The first latch of the block that this one is in.
+pub(crate) fn first_in(firsts: &[usize], blocks: &[u32], latch: usize) -> usize
+    requires members { AreMembers blocks.now firsts.now }
+    requires latch { latch < length blocks.now }
+    ensures { result ≡ block_at firsts.now (block_at blocks.now latch) }
+{
+    firsts[blocks[latch] as usize]
+}
+
+/// These numbers.
+fn copied(alloc: Global, numbers: &[u32]) -> Result<Ids, NoMemory>
+    ensures { IfOk result (λ made. made ≡ numbers.now) }
+{
+    let mut made = Ids::new(alloc);
+    for number in numbers {
+        made.push(*number)?;
+    }
+    Ok(made)
+}
+
+/// Compares each latch with the first one of its block.
+pub(crate) fn pass_over(
+    alloc: Global,
+    nets: &BlockNets<'_>,
+    conflicts: u32,
+) -> Result<Round, NoMemory>
+    requires nets { IsOnPass nets.now }
+    requires conflicts { conflicts ≤ MAX_CONFLICTS }
+    ensures { IfOk result (IsRound nets.now conflicts) }
+{
+    nets.left.keeps();
+    nets.right.keeps();
+    let graph = BlockGraph::new(alloc, nets)?;
+    let mut pass = Pass::new(alloc, nets)?;
+    pass.try_seeded(alloc, nets, &graph)?;
+    for j in 0..nets.blocks.len() {
+        match pass.step(alloc, nets, &graph, j, conflicts)? {
+            Step::Goes => {}
+            Step::Limit(first, proof) => return Ok(at_limit(pass, first, j, proof)),
+        }
+    }
+    Ok(ended(pass))
+}
+
+/// What comes of a pass that has looked at all latches.
+fn ended(pass: Pass) -> Round
+    ensures { IsEndRound pass result }
+{
+    if pass.split {
+        Round::Split(pass.blocks)
+    } else {
+        Round::Same
+    }
+}
+
+/// What comes of a pass whose query of these two latches met the limit. Where blocks were split, the next pass asks again.
+fn at_limit(pass: Pass, first: usize, latch: usize, proof: Proof) -> Round
+    ensures { IsLimitRound pass first latch proof result }
+{
+    if pass.split {
+        Round::Split(pass.blocks)
+    } else {
+        Round::Limit(first, latch, proof)
+    }
+}

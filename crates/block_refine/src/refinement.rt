@@ -1,0 +1,96 @@
+//! The refinement.
+
+ghost use Rattle.std.specs.Prelude.{◌≡◌, ◌^◌, ◌<◌, ◌≤◌, ◌++◌, length, All, IfOk};
+ghost use Rattle.latch_blocks.specs.Partitions.{IsOnTheWay};
+ghost use Rattle.latch_blocks.specs.Signals.{net_weight};
+ghost use Rattle.block_refine.specs.Refining.{IsRefined, IsTurn};
+
+use crate::pass::{Round, pass_over};
+use crate::starts::starts;
+use block_graph::BlockNets;
+use flat_net::Net;
+use latch_blocks::initial_blocks;
+use pair_decide::Proof;
+use sec_base::{Ids, MAX_CONFLICTS, MAX_WEIGHT, NoMemory, Orders};
+use std::alloc::Global;
+
+/// A partition with two latches of one block, whose query met the limit.
+#[derive(Drop)]
+pub struct SplitLimit {
+    /// The number of its block for each latch of A and then of B.
+    pub blocks: Ids,
+    pub left: usize,
+    pub right: usize,
+    pub proof: Proof,
+}
+
+/// What comes of the refinement.
+#[derive(Drop)]
+pub enum Refined {
+    /// The coarsest inductive partition: the number of its block for each latch of A and then of B, in the order of first members.
+    Inductive(Ids),
+    /// A query met the limit.
+    Limit(SplitLimit),
+}
+
+/// Refines the partition by initial values, with at most so many conflicts for each query, until it is inductive.
+pub fn refine(
+    alloc: Global,
+    left: &Net,
+    right: &Net,
+    orders: &Orders,
+    conflicts: u32,
+) -> Result<Refined, NoMemory>
+    requires light { (net_weight left.now ≤ MAX_WEIGHT) × (net_weight right.now ≤ MAX_WEIGHT) }
+    requires long { (length orders.now.left ≡ length left.now.inputs) × (length orders.now.right ≡ length right.now.inputs) }
+    requires small { All (λ i. i < 2 ^ 31) orders.now.left × All (λ i. i < 2 ^ 31) orders.now.right }
+    requires conflicts { conflicts ≤ MAX_CONFLICTS }
+    ensures { IfOk result (IsRefined left.now right.now orders.now conflicts) }
+{
+    left.keeps();
+    right.keeps();
+    let starts = starts(alloc, left, right)?;
+    let mut blocks = initial_blocks(alloc, &starts)?;
+    'rounds: loop {
+        match turn(alloc, left, right, orders, &blocks, conflicts)? {
+            Round::Same => return Ok(Refined::Inductive(blocks)),
+            Round::Split(fine) => blocks = fine,
+            Round::Limit(left, right, proof) => {
+                return Ok(Refined::Limit(SplitLimit {
+                    blocks,
+                    left,
+                    right,
+                    proof,
+                }));
+            }
+        }
+    }
+}
+
+/// A pass over a partition on the way.
+fn turn(
+    alloc: Global,
+    left: &Net,
+    right: &Net,
+    orders: &Orders,
+    blocks: &Ids,
+    conflicts: u32,
+) -> Result<Round, NoMemory>
+    requires light { (net_weight left.now ≤ MAX_WEIGHT) × (net_weight right.now ≤ MAX_WEIGHT) }
+    requires long { (length orders.now.left ≡ length left.now.inputs) × (length orders.now.right ≡ length right.now.inputs) }
+    requires small { All (λ i. i < 2 ^ 31) orders.now.left × All (λ i. i < 2 ^ 31) orders.now.right }
+    requires way { IsOnTheWay left.now right.now (orders.now.left ++ orders.now.right) blocks.now }
+    requires conflicts { conflicts ≤ MAX_CONFLICTS }
+    ensures { IfOk result (IsTurn left.now right.now orders.now blocks.now conflicts) }
+{
+    left.keeps();
+    right.keeps();
+    let blocks = blocks.as_slice();
+    let nets = BlockNets {
+        left,
+        right,
+        orders,
+        blocks,
+    };
+    pass_over(alloc, &nets, conflicts)
+}
