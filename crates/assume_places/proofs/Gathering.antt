@@ -12,7 +12,7 @@ use Rattle.sec_base.specs.Table.{AreDistinct}
 use Rattle.pair_decide.specs.declared.query.Query.{Query}
 use Rattle.unfold_places.specs.Reach.{Adds}
 use Rattle.unfold_places.proofs.Lists.{adds_at, adds_from, adds_length, pairs_map}
-use Rattle.unfolding_weight.proofs.Weights.{AllPairs-from_at}
+use Rattle.signal_graph.proofs.Lists.{AllPairs-from_at}
 use Rattle.query_places.specs.Places.{place_of, ArePlacesOf, ComeInTurn}
 use Rattle.assume_places.specs.declared.gathered.QueryPlaces.{QueryPlaces}
 use Rattle.assume_places.specs.Gathered.{HasPlaces, IsRead, ArePlacesOfAll, IsAmong, place_at, AreOwn, AreGathered, IsOverUnder, IsLightUnder}

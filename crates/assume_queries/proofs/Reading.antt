@@ -14,7 +14,7 @@ use Rattle.pair_decide.specs.declared.query.Query.{Query}
 use Rattle.unfold_places.specs.declared.signal_function.Unfolded.{Unfolded}
 use Rattle.unfold_places.specs.Growing.{IsNumberOf}
 use Rattle.unfold_places.proofs.Lists.{pairs_at}
-use Rattle.unfolding_weight.proofs.Weights.{AllPairs-from_at}
+use Rattle.signal_graph.proofs.Lists.{AllPairs-from_at}
 use Rattle.shift_variables.specs.Variables.{variable_of}
 use Rattle.shift_variables.proofs.Reading.{pair_is}
 use Rattle.query_places.specs.Places.{place_of, ComesFirst}
