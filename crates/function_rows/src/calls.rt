@@ -6,7 +6,7 @@ ghost use Rattle.aig.specs.Cone.{IsClosed};
 use crate::decisions::{show_clauses, show_decision, show_table};
 use crate::lanes::{show_and_block, show_signatures};
 use crate::sketch::Sketch;
-use crate::sweeps::show_swept;
+use crate::sweeps::{show_cases, show_swept};
 use aig::{Aig, Lit, Node};
 use row_text::{show, show_count, show_number};
 use std::alloc::{AllocError, Global};
@@ -25,10 +25,11 @@ enum Asked {
     Encode,
     Decide,
     Sweep,
+    Cases,
 }
 
 /// The name of each call.
-const NAMES: [(&[u8], Asked); 10] = [
+const NAMES: [(&[u8], Asked); 11] = [
     (b"literals", Asked::Literals),
     (b"size", Asked::Size),
     (b"cone", Asked::Cone),
@@ -39,6 +40,7 @@ const NAMES: [(&[u8], Asked); 10] = [
     (b"encode", Asked::Encode),
     (b"decide", Asked::Decide),
     (b"sweep", Asked::Sweep),
+    (b"agree_by_cases", Asked::Cases),
 ];
 
 /// The call of this name.
@@ -74,6 +76,7 @@ fn show_asked(rt: &HostRuntime, sketch: &Sketch, asked: Asked, given: &[&[u8]]) 
         Asked::Encode => show_clauses(rt, sketch, given),
         Asked::Decide => show_decision(rt, sketch, given),
         Asked::Sweep => show_swept(rt, sketch, given),
+        Asked::Cases => show_cases(rt, sketch, given),
     }
 }
 

@@ -1,4 +1,4 @@
-//! Calls of the sweep.
+//! Calls of the sweep, and of agreement by cases.
 
 ghost use Rattle.std.specs.Prelude.{◌≡◌, ◌*◌, ◌<◌, length, All};
 
@@ -6,6 +6,7 @@ use crate::calls::literal_at;
 use crate::decisions::conflicts_at;
 use crate::sketch::Sketch;
 use aig::{Aig, Lit, Lits};
+use case_split::agree_by_cases;
 use row_text::show;
 use sec_base::NoMemory;
 use std::alloc::Global;
@@ -72,6 +73,22 @@ pub(crate) fn show_swept(rt: &HostRuntime, sketch: &Sketch, given: &[&[u8]]) -> 
     };
     match sweep_both(rt.alloc(), &sketch.graph, left, right, conflicts) {
         Ok(swept) => show_merged(rt, &swept),
+        Err(_) => show(rt, b" no memory"),
+    }
+    true
+}
+
+/// Shows whether both literals are told to agree by cases.
+pub(crate) fn show_cases(rt: &HostRuntime, sketch: &Sketch, given: &[&[u8]]) -> bool {
+    let Some(left) = literal_at(sketch, given, 0) else {
+        return false;
+    };
+    let Some(right) = literal_at(sketch, given, 1) else {
+        return false;
+    };
+    match agree_by_cases(rt.alloc(), &sketch.graph, left, right) {
+        Ok(true) => show(rt, b" agree"),
+        Ok(false) => show(rt, b" not told"),
         Err(_) => show(rt, b" no memory"),
     }
     true
