@@ -1,0 +1,2 @@
+pub mod PairsUnder
+pub mod Witnesses
