@@ -49,6 +49,7 @@ pub fn of_map(map: ClassMap) -> Events
         right_count,
         table: _,
         classes,
+        aparts: _,
         taken: _,
     } = map;
     let count = classes.len() as u32;
