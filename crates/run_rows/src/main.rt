@@ -11,64 +11,66 @@ mod failures;
 mod files;
 mod one_run;
 
-use failures::{put_failing_reads, put_short_writes};
+use failures::{show_failing_reads, show_short_writes};
 use files::shelf_of;
-use one_run::{put_run, put_slow_run, words_of};
-use row_text::Telling;
-use sec_base::{FileShelf, MAX_FILE_BYTES, Shelf, fetch};
-use std::process::ExitCode;
+use one_run::{show_run, show_slow_run, words_of};
+use row_text::{file_of, show, split_at};
 use std::rt::HostRuntime;
 use std::str;
 
 /// Does the run in one of the ways.
-fn put_way<S: Shelf>(out: &mut Telling, data: &mut S, words: &[String], files: &str, way: &str) {
+fn show_way(rt: &HostRuntime, words: &[String], files: &str, way: &str) {
     match way {
-        "slowly" => put_slow_run(out, data, words, files),
-        "reads" => put_failing_reads(out, data, words, files),
-        "writes" => put_short_writes(out, data, words, files),
-        _ => out.lose(),
+        "slowly" => show_slow_run(rt, words, files),
+        "reads" => show_failing_reads(rt, words, files),
+        "writes" => show_short_writes(rt, words, files),
+        _ => show(rt, b"no way\n"),
     }
+}
+
+fn show_once(rt: &HostRuntime, words: &[String], files: &str) {
+    let mut shelf = shelf_of(rt, files, 0);
+    show_run(rt, words, &mut shelf);
 }
 
 /// Does the run once, or in each of the ways behind the second bar.
-fn put_runs<S: Shelf>(out: &mut Telling, data: &mut S, words: &[String], told: &str) {
+fn show_runs(rt: &HostRuntime, words: &[String], told: &str) {
     let Some((files, ways)) = told.split_once('|') else {
-        let mut shelf = shelf_of(out, data, told, 0);
-        put_run(out, words, &mut shelf);
-        out.put(b"\n");
-        return;
+        return show_once(rt, words, told);
     };
     for way in ways.split_whitespace() {
-        put_way(out, data, words, files, way);
+        show_way(rt, words, files, way);
     }
-    out.put(b"\n");
 }
 
-/// Puts the row and what comes of it; nothing of a remark or an empty row.
-fn put_row<S: Shelf>(out: &mut Telling, data: &mut S, row: &str) {
-    if row.is_empty() || row.starts_with('#') {
+/// Shows the row and what comes of it; nothing of a remark.
+fn show_row(rt: &HostRuntime, row: &[u8]) {
+    let Ok(row) = str::from_utf8(row) else {
+        return show(rt, b"no words\n");
+    };
+    if row.starts_with('#') {
         return;
     }
-    out.put(row.as_bytes());
-    out.put(b"\n");
+    show(rt, row.as_bytes());
+    show(rt, b"\n");
     let (line, told) = row.split_once('|').unwrap_or((row, ""));
-    match words_of(out.alloc(), line) {
-        Ok(words) => put_runs(out, data, words.as_slice(), told),
-        Err(_) => out.lose(),
+    match words_of(rt.alloc(), line) {
+        Ok(words) => show_runs(rt, words.as_slice(), told),
+        Err(_) => show(rt, b"lost\n"),
     }
+    show(rt, b"\n");
 }
 
-fn main(rt: HostRuntime) -> ExitCode {
-    let mut out = Telling::new(rt.alloc());
-    let mut data = FileShelf::new(&rt);
-    let Ok(rows) = fetch(rt.alloc(), &mut data, "rows", MAX_FILE_BYTES) else {
-        return ExitCode::from(3);
+fn main(rt: HostRuntime) {
+    let Some(rows) = file_of(&rt, "rows") else {
+        return show(&rt, b"no rows\n");
     };
-    let Ok(rows) = str::from_utf8(rows.as_slice()) else {
-        return ExitCode::from(4);
-    };
-    for row in rows.split('\n') {
-        put_row(&mut out, &mut data, row);
+    let mut rest = rows.as_slice();
+    for _ in 0..rows.len() {
+        let (row, later) = split_at(b'\n', rest);
+        if !row.is_empty() {
+            show_row(&rt, row);
+        }
+        rest = later;
     }
-    out.write(&rt)
 }

@@ -1,10 +1,11 @@
 //! One run.
 
 use crate::files::shelf_of;
-use row_text::Telling;
-use sec_base::{MemShelf, MemSink, NoMemory, Shelf};
+use row_text::{show, show_count};
+use sec_base::{MemShelf, MemSink, NoMemory};
 use sec_run::run;
 use std::alloc::Global;
+use std::rt::HostRuntime;
 
 /// How many bytes of a report are taken.
 const ROOM: usize = 4_000;
@@ -13,7 +14,7 @@ const ROOM: usize = 4_000;
 const WRITE_FAULT: u8 = 7;
 
 /// The words of a run, parted by blanks.
-pub fn words_of(alloc: Global, line: &str) -> Result<Vec<String>, NoMemory> {
+pub(crate) fn words_of(alloc: Global, line: &str) -> Result<Vec<String>, NoMemory> {
     let mut words = Vec::new(alloc);
     for word in line.split_whitespace() {
         let word = if word == "''" { "" } else { word };
@@ -22,53 +23,58 @@ pub fn words_of(alloc: Global, line: &str) -> Result<Vec<String>, NoMemory> {
     Ok(words)
 }
 
-/// Runs the words over the shelf, and puts the report and how the run ends.
-pub fn put_run(out: &mut Telling, words: &[String], shelf: &mut MemShelf) -> Ended {
-    match MemSink::new(out.alloc(), ROOM, None, 0) {
-        Ok(mut sink) => put_ended(out, words, shelf, &mut sink),
-        Err(_) => lost(out),
+/// Runs the words over the shelf, and shows the report and how the run ends.
+pub(crate) fn show_run(rt: &HostRuntime, words: &[String], shelf: &mut MemShelf) -> Ended {
+    match MemSink::new(rt.alloc(), ROOM, None, 0) {
+        Ok(mut sink) => show_ended(rt, words, shelf, &mut sink),
+        Err(_) => lost(rt),
     }
 }
 
-/// Runs the words over the shelf with a write that takes so many bytes at most and fails, and puts what it takes and how the run ends.
-pub fn put_short_write(out: &mut Telling, words: &[String], shelf: &mut MemShelf, keep: usize) {
-    match MemSink::new(out.alloc(), ROOM, Some(1), keep) {
+/// Runs the words over the shelf with a write that takes so many bytes at most and fails, and shows what it takes and how the run ends.
+pub(crate) fn show_short_write(
+    rt: &HostRuntime,
+    words: &[String],
+    shelf: &mut MemShelf,
+    keep: usize,
+) {
+    match MemSink::new(rt.alloc(), ROOM, Some(1), keep) {
         Ok(mut sink) => {
-            put_ended(out, words, shelf, &mut sink);
+            show_ended(rt, words, shelf, &mut sink);
         }
-        Err(_) => out.lose(),
+        Err(_) => show(rt, b"lost\n"),
     }
 }
 
 /// How a run ended: its status, and how many bytes were taken.
 #[derive(Clone, Copy)]
-pub struct Ended {
+pub(crate) struct Ended {
     pub code: u8,
     pub taken: usize,
 }
 
-fn lost(out: &mut Telling) -> Ended {
-    out.lose();
+fn lost(rt: &HostRuntime) -> Ended {
+    show(rt, b"lost\n");
     Ended { code: 0, taken: 0 }
 }
 
-/// Runs the words, and puts what is taken, the exit status, and how many proofs there are of pairs that met the limit.
-fn put_ended(
-    out: &mut Telling,
+/// Runs the words, and shows what is taken, the exit status, and how many proofs there are of pairs that met the limit.
+fn show_ended(
+    rt: &HostRuntime,
     words: &[String],
     shelf: &mut MemShelf,
     sink: &mut MemSink,
 ) -> Ended {
-    let status = run(out.alloc(), words, shelf, sink);
-    out.put(sink.taken());
+    let status = run(rt.alloc(), words, shelf, sink);
+    show(rt, sink.taken());
     if status.code() == WRITE_FAULT {
-        out.put(b"|\n");
+        show(rt, b"|\n");
     }
-    out.put(b"status");
-    out.put_count(u64::from(status.code()));
-    out.put(b" proofs");
-    out.put_count(status.proofs.len() as u64);
-    out.put(b"\n");
+    show(rt, b"status");
+    show_count(rt, u64::from(status.code()));
+    show(rt, b" proofs");
+    show_count(rt, status.proofs.len() as u64);
+    show(rt, b"\n");
     Ended {
         code: status.code(),
         taken: sink.taken().len(),
@@ -76,9 +82,9 @@ fn put_ended(
 }
 
 /// Runs the words with one byte a read.
-pub fn put_slow_run<S: Shelf>(out: &mut Telling, data: &mut S, words: &[String], files: &str) {
-    let mut shelf = shelf_of(out, data, files, 0);
+pub(crate) fn show_slow_run(rt: &HostRuntime, words: &[String], files: &str) {
+    let mut shelf = shelf_of(rt, files, 0);
     shelf.set_most(1);
-    out.put(b"one byte a read\n");
-    put_run(out, words, &mut shelf);
+    show(rt, b"one byte a read\n");
+    show_run(rt, words, &mut shelf);
 }

@@ -1,4 +1,4 @@
-//! What a text spells, in words.
+//! What a text in BLIF spells, in words.
 
 ghost use Rattle.std.specs.Prelude.{◌≤◌, length};
 

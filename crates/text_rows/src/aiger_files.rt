@@ -1,4 +1,4 @@
-//! What a text spells, in words.
+//! What a text in the AIGER formats spells, in words.
 
 use aiger_file::{AigerError, AigerFile, AigerKind, read_file};
 use aiger_records::Record;

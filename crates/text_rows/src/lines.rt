@@ -2,7 +2,7 @@
 
 ghost use Rattle.std.specs.Prelude.{◌≤◌, length};
 
-use crate::told::show_marked;
+use crate::designs::show_marked;
 use blif_lines::{Lines, RawLine, tokens_of};
 use row_text::{show, show_number};
 use std::rt::HostRuntime;

@@ -1,0 +1,119 @@
+//! Prints what the rows of eight files tell of texts of circuits. A row is a name, a tab and a text, with marks for what a row can't hold
+//! as it is (`row_text::text_of`).
+//!
+//! Of what a text spells: the lines and tokens of each text of `lines`, what each text of `designs` spells in BLIF, or its fault, the
+//! values of the covers of each text of `covers`, and what each text of `aiger` spells in the AIGER formats, or its first fault; `@` is
+//! 4,096 letters. What is expected of these rows, in `stdout`, is what second readers tell of them: `tests/blif-rows`, `tests/aiger-rows`.
+//!
+//! Of small designs in BLIF, where `@` is 4,093 letters. `walks`: the signals that the flat statements drive (`g` gates, `l` latches, `p`
+//! ports), or the walk's fault. `wires`: the fault of drivers and clocks. `nets`: the net, or the design's fault. `cuts`: the net, its
+//! latches looked up by name, the value of each gate where all signals are 0 and where all are 1, and the net without its first latch,
+//! with the inputs that are read. Behind the rows stands a net that is made by hand.
+#![tactic(auto)]
+
+mod aiger_files;
+mod covers;
+mod cuts;
+mod designs;
+mod faults;
+mod lines;
+mod made;
+mod nets;
+mod walks;
+
+ghost use Rattle.std.specs.Prelude.{◌≤◌, length};
+
+use aiger_files::show_text;
+use blif_read::{Design, read_design};
+use covers::show_covers;
+use cuts::show_cuts;
+use designs::show_design;
+use lines::show_lines;
+use made::show_made;
+use nets::show_flattened;
+use row_text::{file_of, show, split_at, text_of};
+use sec_base::MAX_FILE_BYTES;
+use std::rt::HostRuntime;
+use walks::{show_walk, show_wires};
+
+/// What a row's text, or its design, is asked for.
+#[derive(Clone, Copy)]
+enum Asked {
+    Lines,
+    Design,
+    Covers,
+    Aiger,
+    Walk,
+    Wires,
+    Net,
+    Cut,
+}
+
+fn show_asked(rt: &HostRuntime, asked: Asked, design: &Design) {
+    match asked {
+        Asked::Walk => show_walk(rt, design),
+        Asked::Wires => show_wires(rt, design),
+        Asked::Net => show_flattened(rt, design),
+        _ => show_cuts(rt, design),
+    }
+}
+
+fn show_read(rt: &HostRuntime, asked: Asked, text: &[u8])
+    requires { length text.now ≤ 16777216 }
+{
+    match read_design(rt.alloc(), text) {
+        Ok(design) => show_asked(rt, asked, &design),
+        Err(_) => show(rt, b" no design"),
+    }
+}
+
+fn show_told(rt: &HostRuntime, asked: Asked, text: &[u8]) {
+    if text.len() > MAX_FILE_BYTES as usize {
+        return show(rt, b" too long");
+    }
+    match asked {
+        Asked::Lines => show_lines(rt, text),
+        Asked::Design => show_design(rt, text),
+        Asked::Covers => show_covers(rt, text),
+        Asked::Aiger => show_text(rt, text),
+        _ => show_read(rt, asked, text),
+    }
+}
+
+fn show_row(rt: &HostRuntime, asked: Asked, row: &[u8], long: &[u8]) {
+    let (name, marks) = split_at(b'\t', row);
+    show(rt, name);
+    show(rt, b":");
+    let text = text_of(rt.alloc(), marks, long);
+    show_told(rt, asked, text.bytes());
+    show(rt, b"\n");
+}
+
+/// Shows what each row of the file tells, one on a line, where `@` stands for the long name.
+fn show_file(rt: &HostRuntime, asked: Asked, path: &str, long: &[u8]) {
+    let Some(rows) = file_of(rt, path) else {
+        return show(rt, b"no rows\n");
+    };
+    let mut rest = rows.as_slice();
+    for _ in 0..rows.len() {
+        let (row, later) = split_at(b'\n', rest);
+        if !row.is_empty() {
+            show_row(rt, asked, row, long);
+        }
+        rest = later;
+    }
+}
+
+fn main(rt: HostRuntime) {
+    let text = [b'n'; 4_096];
+    show_file(&rt, Asked::Lines, "lines", &text);
+    show_file(&rt, Asked::Design, "designs", &text);
+    show_file(&rt, Asked::Covers, "covers", &text);
+    show_file(&rt, Asked::Aiger, "aiger", &text);
+    let part = [b'x'; 4_093];
+    show_file(&rt, Asked::Walk, "walks", &part);
+    show_file(&rt, Asked::Wires, "wires", &part);
+    show_file(&rt, Asked::Net, "nets", &part);
+    show_file(&rt, Asked::Cut, "cuts", &part);
+    show_made(&rt);
+}
