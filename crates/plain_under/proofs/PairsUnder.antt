@@ -38,7 +38,7 @@ use Rattle.assume_queries.specs.Laws.{AsksUnder}
 use Rattle.assume_queries.proofs.Pairs.{answers_under}
 use Rattle.plain_form.specs.declared.functions.Functions.{Functions}
 use Rattle.plain_form.specs.Asked.{AskedOf}
-use Rattle.plain_form.specs.Limits.{ReadOnly}
+use Rattle.plain_meaning.specs.Limits.{ReadOnly}
 use Rattle.plain_form.proofs.PairQueries.{AsksPair, left_tree, right_tree, are_variables, left_value, right_value, is_query}
 use Rattle.plain_under.specs.Limits.{IsUndecidedUnder}
 use Rattle.plain_under.specs.Outcome.{HaveDifferentFunctionsUnder, AnswerFitsUnder, PairFitsUnder}

@@ -13,7 +13,7 @@ use Rattle.pair_decide.specs.declared.query.Proof.{Proof}
 use Rattle.unfold_places.specs.Growing.{TakesBits}
 use Rattle.assume_laws.specs.Assume.{Assumption, MeetsAtVariables}
 use Rattle.assume_laws.specs.Sequences.{AreVariablesUnder}
-use Rattle.plain_form.specs.Limits.{HasValueOf, ReadOnly}
+use Rattle.plain_meaning.specs.Limits.{HasValueOf, ReadOnly}
 
 -- As without an assumption, but that the care is 1 exactly where the assumption is met at the variables of both functions, and the
 -- variables are those of the assumption at these places, too.
