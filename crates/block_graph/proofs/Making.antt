@@ -63,6 +63,7 @@ module _ (n : BlockNets) (ready : AreReady n) (sound_a : IsSound n.left.now) (so
         g.right.variables.inputs ≡ n.orders.now.right → g.right.variables.latches ≡ map (λ k. first + k) (take (length n.blocks.now - count) (drop count n.blocks.now)) → g.limit ≡ first + length n.blocks.now → AreOn n.left.now g.aig g.left → AreOn n.right.now g.aig g.right → IsBlockGraph n g
     is_block_graph g above_left above_right left_inputs left_latches right_inputs right_latches limit left_on right_on = record {
       first = first;
+      limit_is = limit;
       variables = record {
         left_inputs = left_inputs;
         right_inputs = right_inputs;

@@ -40,6 +40,7 @@ pub record AreBelow (limit : ℕ) (w : Variables) : Type 0 where
 -- Both nets are on the graph, where each input is its number and all latches of a block are one variable.
 pub record IsBlockGraph (n : BlockNets) (g : BlockGraph) : Type 0 where
   pub first : ℕ
+  pub limit_is : g.limit ≡ first + length n.blocks.now
   pub variables : AreBlockVariables n.left.now n.right.now n.orders.now first n.blocks.now g.left.variables g.right.variables
   pub left_on : AreOn n.left.now g.aig g.left
   pub right_on : AreOn n.right.now g.aig g.right
