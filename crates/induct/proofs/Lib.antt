@@ -1,2 +1,4 @@
+pub mod Listing
 pub mod Lowering
+pub mod Putting
 pub mod Telling
