@@ -76,6 +76,9 @@ none_other first count None (Some x) e =
     let z : verdict.NotShown x.0 x.1.left x.1.right (map (variable_told first count) x.1.vars) x.1.bits ≡ verdict.Equal = e in absurd (let none : ⊥ = cc in none)
 none_other first count None None e = (refl, refl)
 
+no_some : {X : Type 0} {x : X} → Some x ≡ None → ⊥
+no_some e = cc
+
 each_equal : (outputs : List OutputPair) → first_limit outputs ≡ None → first_shown outputs ≡ None → All (λ pair. pair.answer ≡ answer.Equal) outputs
 each_equal [] l s = All-nil (λ (pair : OutputPair). pair.answer ≡ answer.Equal)
 each_equal (pair ∷ pairs) l s = go pair.answer refl l s (each_equal pairs)
@@ -83,8 +86,8 @@ each_equal (pair ∷ pairs) l s = go pair.answer refl l s (each_equal pairs)
     go : (a : OutputAnswer) → pair.answer ≡ a → limit_or pair.name a (first_limit pairs) ≡ None → shown_or pair.name a (first_shown pairs) ≡ None →
         (first_limit pairs ≡ None → first_shown pairs ≡ None → All (λ pair. pair.answer ≡ answer.Equal) pairs) → All (λ pair. pair.answer ≡ answer.Equal) (pair ∷ pairs)
     go answer.Equal e m t rest = All-cons (λ (one : OutputPair). one.answer ≡ answer.Equal) pair pairs e (rest m t)
-    go (answer.NotShown x) e m t rest = let z : Some (pair.name, x) ≡ None = t in absurd (let none : ⊥ = cc in none)
-    go (answer.Limit proof) e m t rest = let z : Some pair.name ≡ None = m in absurd (let none : ⊥ = cc in none)
+    go (answer.NotShown x) e m t rest = absurd (no_some t)
+    go (answer.Limit proof) e m t rest = absurd (no_some m)
 
 pub all_equal : (first count : ℕ) (outputs : List OutputPair) → verdict_of first count (first_limit outputs) (first_shown outputs) ≡ verdict.Equal → All (λ pair. pair.answer ≡ answer.Equal) outputs
 all_equal first count outputs e = let none = none_other first count (first_limit outputs) (first_shown outputs) e in each_equal outputs none.0 none.1
