@@ -90,8 +90,8 @@ module _ (n : NetView) where
         pick (inl e) = or_right (gates_read || latches_read) outputs_show (any_at (λ (o : Port). o.signal.0 == p.signal.0) n.outputs port shown ((Decides-eqb port.signal.0 p.signal.0).1 e))
         pick (inr f) =
             or_left (gates_read || latches_read) outputs_show (or_left gates_read latches_read
-                (any_at (λ (g : Gate). list_any (λ (f : Signal). f.0 == p.signal.0) g.fanins) n.gates f.gate f.there
-                (any_at (λ (s : Signal). s.0 == p.signal.0) f.gate.fanins f.fanin f.among ((Decides-eqb f.fanin.0 p.signal.0).1 f.is))))
+            (any_at (λ (g : Gate). list_any (λ (f : Signal). f.0 == p.signal.0) g.fanins) n.gates f.gate f.there
+            (any_at (λ (s : Signal). s.0 == p.signal.0) f.gate.fanins f.fanin f.among ((Decides-eqb f.fanin.0 p.signal.0).1 f.is))))
 
     -- an input that an output is reached from is none that is left out
     pub stays_beside : (other : NetView) → Contains (inputs_beside (ports_of n) (ports_of other)) p.name

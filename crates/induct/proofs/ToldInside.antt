@@ -108,7 +108,7 @@ module _ (n : BlockNets) (g : BlockGraph) (is : IsBlockGraph n g) (sound_a : IsS
         All (λ v. v < shared_count + count) (map (variable_told is.first shared_count) s.vars)
     shown_inside port there pair answered s e =
         All-from_each (λ (v : ℕ). v < shared_count + count) (map (variable_told is.first shared_count) s.vars)
-            (λ v h. let from = Contains-map_from (variable_told is.first shared_count) s.vars v h in subst (λ (w : ℕ). w < shared_count + count) from.2 (told_below from.0 count enough (of_pair from.0 from.1)))
+        (λ v h. let from = Contains-map_from (variable_told is.first shared_count) s.vars v h in subst (λ (w : ℕ). w < shared_count + count) from.2 (told_below from.0 count enough (of_pair from.0 from.1)))
       where
         told : IsShown n g (Left port.signal.0) (Right answered.other) s
         told = subst (IsAnswer n g conflicts (Left port.signal.0) (Right answered.other)) e answered.answer_is
