@@ -7,7 +7,7 @@ use Rattle.pair_decide.specs.declared.query.Proof.{Proof}
 use Rattle.sec_files.specs.Loading.{Loads, circuit_of_text}
 use Rattle.sec_files.proofs.Texts.{spelled_circuit}
 use Rattle.text_circuits.proofs.Circuits.{text_design}
-use Rattle.check_meaning.proofs.ResetDesigns.{resets_agree_up}
+use Rattle.text_circuits.proofs.Resets.{resets_agree_up}
 use Rattle.job_base.specs.declared.finding.Judgement.{Judgement}
 use Rattle.job_base.specs.declared.finding.Judgement.TheVariants as judgement
 use Rattle.job_base.specs.declared.finding.Refusal.{Refusal}

@@ -1,13 +1,14 @@
 -- What the status says of two texts whose circuits are compared by blocks, and when they can be compared so.
-use Rattle.std.specs.Prelude.{◌≡◌, ◌≢◌, ◌⊎◌, ℕ, Bool, List, Option, Some, IfSome, IsSomeAnd, Contains}
+use Rattle.std.specs.Prelude.{◌≡◌, ◌≢◌, ◌⊎◌, ℕ, Bool, List, Option, Some, None, IfSome, IsSomeAnd, Contains}
 use Rattle.circuit_theory.specs.Circuit.{Circuit}
 use Rattle.circuit_theory.specs.Agree.{place_named}
+use Rattle.circuit_theory.specs.Interface.{first_mismatch}
 use Rattle.circuit_theory.specs.Joined.{Either, Left, Right}
 use Rattle.reset_laws.specs.Reset.{AgreeFromReset}
 use Rattle.sec_base.specs.Outside.{Takes}
 use Rattle.sec_base.specs.declared.basics.Orders.{Orders}
 use Rattle.flat_net.specs.declared.parts.Port.{Port}
-use Rattle.flat_net.specs.View.{NetView, circuit_of}
+use Rattle.flat_net.specs.View.{NetView, circuit_of, ports_of}
 use Rattle.blif_read.specs.Design.{Place}
 use Rattle.pair_decide.specs.declared.query.Proof.{Proof}
 use Rattle.latch_blocks.specs.QueryLaws.{AreBlockValues}
@@ -15,7 +16,6 @@ use Rattle.block_refine.specs.declared.refinement.SplitLimit.{SplitLimit}
 use Rattle.block_refine.specs.Refining.{IsSplitLimit}
 use Rattle.block_outputs.specs.Answers.{IsLimit}
 use Rattle.sec_files.specs.Loading.{IsAccepted, Loads, SpellsCircuit}
-use Rattle.sec_setup.specs.Matching.{InterfacesMatch}
 use Rattle.job_base.specs.declared.status.StatusName.{StatusName}
 use Rattle.job_base.specs.declared.status.StatusName.TheVariants as status
 use Rattle.induct.specs.declared.induction.InductVerdict.TheVariants as verdict
@@ -135,7 +135,7 @@ InductMeans conflicts left right before now proofs other = Unit {0}
 pub record CanBeJudged (x y : List ℕ) : Type 0 where
   pub left : IsAccepted x
   pub right : IsAccepted y
-  pub match : (a b : NetView) → Loads x a → Loads y b → InterfacesMatch a b
+  pub match : (a b : NetView) → Loads x a → Loads y b → first_mismatch (ports_of a) (ports_of b) ≡ None
   pub light : (a b : NetView) → Loads x a → Loads y b → AreLight a b
 
 -- both texts are told and can be compared so
