@@ -60,10 +60,12 @@ module _ (n : BlockNets) (ready : AreReady n) (sound_a : IsSound n.left.now) (so
           (ap length rest ∙ length-drop count n.blocks.now ∙ (let z : length n.blocks.now - count ≡ length n.right.now.latches = omega (arith, count_is, ready.each) in z)) ready.right_small right_part high blocks_few
 
     pub is_block_graph : (g : BlockGraph) → All (λ i. i < first) n.orders.now.left → All (λ i. i < first) n.orders.now.right → g.left.variables.inputs ≡ n.orders.now.left → g.left.variables.latches ≡ map (λ k. first + k) (take count n.blocks.now) →
-        g.right.variables.inputs ≡ n.orders.now.right → g.right.variables.latches ≡ map (λ k. first + k) (take (length n.blocks.now - count) (drop count n.blocks.now)) → g.limit ≡ first + length n.blocks.now → AreOn n.left.now g.aig g.left → AreOn n.right.now g.aig g.right → IsBlockGraph n g
-    is_block_graph g above_left above_right left_inputs left_latches right_inputs right_latches limit left_on right_on = record {
+        g.right.variables.inputs ≡ n.orders.now.right → g.right.variables.latches ≡ map (λ k. first + k) (take (length n.blocks.now - count) (drop count n.blocks.now)) → g.limit ≡ first + length n.blocks.now → IsGraph g.aig → AreOn n.left.now g.aig g.left → AreOn n.right.now g.aig g.right → IsBlockGraph n g
+    is_block_graph g above_left above_right left_inputs left_latches right_inputs right_latches limit graph left_on right_on = record {
       first = first;
+      first_small = high;
       limit_is = limit;
+      is_graph = graph;
       variables = record {
         left_inputs = left_inputs;
         right_inputs = right_inputs;

@@ -7,6 +7,8 @@ use Rattle.aig.specs.declared.node.Lit.{Lit}
 use Rattle.aig.specs.Values.{value}
 use Rattle.pair_decide.specs.declared.query.Query.{Query}
 use Rattle.pair_decide.specs.Answers.{Decides}
+use Rattle.flat_net.specs.View.{NetView}
+use Rattle.latch_blocks.specs.declared.variables.Variables.{Variables}
 use Rattle.latch_blocks.specs.Signals.{IsLeaf}
 use Rattle.latch_blocks.specs.QueryLaws.{IsLitAt, AreBlockValues}
 use Rattle.block_graph.specs.declared.nets.BlockNets.{BlockNets}
@@ -18,9 +20,13 @@ abbrev pub IsLitIn : BlockGraph → Either ℕ ℕ → Lit → Type 0
 IsLitIn g p x = IsLitAt g.left.lits.items g.right.lits.items p x
 
 -- the variable is that of an input or a latch that the signal is reached from
+abbrev pub IsVariableAt : NetView → NetView → Variables → Variables → Either ℕ ℕ → ℕ → Type 0
+IsVariableAt a b left right (Left s) k = IsLeaf a left s k
+IsVariableAt a b left right (Right s) k = IsLeaf b right s k
+
+-- the same on a graph of both nets
 abbrev pub IsVariableOf : BlockNets → BlockGraph → Either ℕ ℕ → ℕ → Type 0
-IsVariableOf n g (Left s) k = IsLeaf n.left.now g.left.variables s k
-IsVariableOf n g (Right s) k = IsLeaf n.right.now g.right.variables s k
+IsVariableOf n g p k = IsVariableAt n.left.now n.right.now g.left.variables g.right.variables p k
 
 -- exactly the variables of both signals, increasing
 pub record AreOwn (n : BlockNets) (g : BlockGraph) (p q : Either ℕ ℕ) (vars : List ℕ) : Type 0 where

@@ -5,6 +5,7 @@ use Rattle.circuit_theory.specs.Joined.{Either, Left, Right}
 use Rattle.sec_base.specs.declared.limits.TheConstants.{MAX_WEIGHT}
 use Rattle.flat_net.specs.View.{NetView}
 use Rattle.aig.specs.declared.node.Node.{Node}
+use Rattle.aig.specs.Graph.{IsGraph}
 use Rattle.latch_blocks.specs.declared.variables.Variables.{Variables}
 use Rattle.latch_blocks.specs.Blocks.{AreInOrder}
 use Rattle.latch_blocks.specs.Signals.{AreVariables, AreSignalLits, net_weight}
@@ -40,7 +41,9 @@ pub record AreBelow (limit : ℕ) (w : Variables) : Type 0 where
 -- Both nets are on the graph, where each input is its number and all latches of a block are one variable.
 pub record IsBlockGraph (n : BlockNets) (g : BlockGraph) : Type 0 where
   pub first : ℕ
+  pub first_small : first ≤ 2 ^ 31
   pub limit_is : g.limit ≡ first + length n.blocks.now
+  pub is_graph : IsGraph g.aig
   pub variables : AreBlockVariables n.left.now n.right.now n.orders.now first n.blocks.now g.left.variables g.right.variables
   pub left_on : AreOn n.left.now g.aig g.left
   pub right_on : AreOn n.right.now g.aig g.right

@@ -46,6 +46,7 @@ impl BlockGraph {
         let left = net_lits(alloc, &mut aig, nets.left, left)?;
         aig.keeps();
         let right = net_lits(alloc, &mut aig, nets.right, right)?;
+        aig.keeps();
         let limit = first + nets.blocks.len() as u32;
         Ok(BlockGraph {
             aig,

@@ -18,7 +18,7 @@ use Rattle.block_graph.specs.declared.nets.BlockNets.{BlockNets}
 use Rattle.block_graph.specs.declared.graph.BlockGraph.{BlockGraph}
 use Rattle.block_graph.specs.declared.compare.Comparison.{Comparison}
 use Rattle.block_graph.specs.Graph.{IsBlockGraph}
-use Rattle.block_graph.specs.Comparing.{IsLitIn, IsComparison, AgreeOver, AreReadBy}
+use Rattle.block_graph.specs.Comparing.{IsLitIn, IsComparison, AreOwn, AgreeOver, AreReadBy}
 use Rattle.block_graph.proofs.OnGraph.{same_agree, read_by}
 use Rattle.block_refine.specs.Asking.{IsNext, TakeOneValue, TellApart, IsLimitAt}
 
@@ -73,5 +73,6 @@ module _ (n : BlockNets) (i j : ℕ) (l r : Either ℕ ℕ) (l_is : IsNext n i l
         left = asked.left;
         right = asked.right;
         care = asked.care;
+        own = subst (AreOwn n g l r) (sym asked.vars) asked.own;
         limit = subst (Decides g.aig asked.query conflicts) e asked.decided;
       }

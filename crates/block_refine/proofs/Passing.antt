@@ -30,7 +30,6 @@ use Rattle.block_refine.specs.Asking.{IsNext, TakeOneValue, TellApart, IsLimitAt
 use Rattle.block_refine.specs.Passes.{AreMembers, IsUnderWay, IsOnPass, first_of, IsPass, IsLimitOf, IsSteady, IsRound, IsEndRound, IsLimitRound}
 use Rattle.block_graph.proofs.Making.{blocks_few}
 use Rattle.block_graph.proofs.Numbered.{light_few}
-use Rattle.block_graph.proofs.OnGraph.{on_graph}
 use Rattle.block_refine.specs.Refining.{AreCoarsest, IsSplitLimit, IsTurn}
 
 pub nexts_long : (a b : NetView) → length (nexts_of a b) ≡ length a.latches + length b.latches
@@ -204,13 +203,24 @@ limit_ends n conflicts i j proof way found =
       p_is = limit.asked.p_is;
       q_is = limit.asked.q_is;
       graph = g.aig;
+      is_graph = found.1.is_graph;
       left_lits = g.left.lits.items;
       right_lits = g.right.lits.items;
-      on = on_graph n g found.1;
+      on = record {
+        first = found.1.first;
+        left = g.left.variables;
+        right = g.right.variables;
+        variables = found.1.variables;
+        left_long = found.1.left_long;
+        right_long = found.1.right_long;
+        left_lits_are = found.1.left_on.lits;
+        right_lits_are = found.1.right_on.lits;
+      };
       query = limit.asked.query;
       left = limit.asked.left;
       right = limit.asked.right;
       care = limit.asked.care;
+      own = record { increasing = limit.asked.own.increasing; each = limit.asked.own.each };
       limit = limit.asked.limit;
     }
 

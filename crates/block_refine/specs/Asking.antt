@@ -7,7 +7,7 @@ use Rattle.pair_decide.specs.Answers.{IsAtLimit}
 use Rattle.latch_blocks.specs.Partitions.{nexts_of}
 use Rattle.block_graph.specs.declared.nets.BlockNets.{BlockNets}
 use Rattle.block_graph.specs.declared.graph.BlockGraph.{BlockGraph}
-use Rattle.block_graph.specs.Comparing.{AgreeOver, AreConstant, IsLitIn}
+use Rattle.block_graph.specs.Comparing.{AgreeOver, AreConstant, AreOwn, IsLitIn}
 use Rattle.block_refine.specs.declared.ask.Answer.{Answer}
 use Rattle.block_refine.specs.declared.ask.Answer.TheVariants as answer
 
@@ -26,7 +26,7 @@ pub record TellApart (n : BlockNets) (i j : ℕ) (bits : List Bool) : Type 0 whe
   pub bits_are : bits ≡ map x (nexts_of n.left.now n.right.now)
   pub apart : (p q : Either ℕ ℕ) → IsNext n i p → IsNext n j q → x p ≢ x q
 
--- the query of what the two latches take over met the limit
+-- the query of what the two latches take over, with care 1 and exactly their variables, met the limit
 pub record IsLimitAt (n : BlockNets) (g : BlockGraph) (conflicts i j : ℕ) (proof : Proof) : Type 0 where
   pub p : Either ℕ ℕ
   pub q : Either ℕ ℕ
@@ -36,6 +36,7 @@ pub record IsLimitAt (n : BlockNets) (g : BlockGraph) (conflicts i j : ℕ) (pro
   pub left : IsLitIn g p query.left
   pub right : IsLitIn g q query.right
   pub care : query.care.0 ≡ 1
+  pub own : AreOwn n g p q query.vars
   pub limit : IsAtLimit g.aig query conflicts proof
 
 -- the answer is right

@@ -1,17 +1,22 @@
 -- What comes of the refinement of the partition by initial values.
-use Rattle.std.specs.Prelude.{◌≡◌, ℕ, ◌+◌, ◌<◌, List, ◌++◌, length, slice_get, Some}
+use Rattle.std.specs.Prelude.{◌≡◌, ◌⊎◌, ◌↔◌, ℕ, ◌+◌, ◌<◌, List, ◌++◌, length, slice_get, Some}
+use Rattle.std.specs.List.{Contains}
+use Rattle.std.specs.List.Sorted.{IsStrictlyIncreasing}
 use Rattle.circuit_theory.specs.Joined.{Either, joined}
 use Rattle.circuit_theory.specs.Blocks.{IsCoarsest}
 use Rattle.sec_base.specs.declared.basics.Orders.{Orders}
 use Rattle.flat_net.specs.View.{NetView, circuit_of}
 use Rattle.aig.specs.declared.node.Lit.{Lit}
 use Rattle.aig.specs.declared.node.Node.{Node}
+use Rattle.aig.specs.Graph.{IsGraph}
 use Rattle.pair_decide.specs.declared.query.Query.{Query}
 use Rattle.pair_decide.specs.Answers.{IsAtLimit}
+use Rattle.latch_blocks.specs.declared.variables.Variables.{Variables}
 use Rattle.latch_blocks.specs.Blocks.{block_at, AreInOrder}
 use Rattle.latch_blocks.specs.Partitions.{block_of, nexts_of, IsOnTheWay}
 use Rattle.latch_blocks.specs.QueryLaws.{IsLitAt, AreOnGraph}
 use Rattle.latch_blocks.specs.Laws.{pairs_alike}
+use Rattle.block_graph.specs.Comparing.{IsVariableAt}
 use Rattle.block_refine.specs.declared.pass.Round.{Round}
 use Rattle.block_refine.specs.declared.pass.Round.TheVariants as round
 use Rattle.block_refine.specs.declared.refinement.SplitLimit.{SplitLimit}
@@ -24,8 +29,13 @@ pub record AreCoarsest (a b : NetView) (orders : Orders) (blocks : List ℕ) : T
   pub in_order : AreInOrder blocks
   pub coarsest : IsCoarsest (joined (circuit_of a) (circuit_of b)) (orders.left ++ orders.right) (block_of a b blocks)
 
--- A partition on the way, and two latches of one of its blocks: the query of what they take over met the limit, over a graph where all
--- latches of a block are one variable.
+-- exactly the variables of both signals, increasing
+pub record AreVariablesOf (a b : NetView) (left right : Variables) (p q : Either ℕ ℕ) (vars : List ℕ) : Type 0 where
+  pub increasing : IsStrictlyIncreasing vars
+  pub each : (k : ℕ) → Contains vars k ↔ (IsVariableAt a b left right p k ⊎ IsVariableAt a b left right q k)
+
+-- A partition on the way, and two latches of one of its blocks: the query of what they take over met the limit, with care 1 and exactly
+-- their variables, over a graph where each input is its number and all latches of a block are one variable.
 pub record IsSplitLimit (a b : NetView) (orders : Orders) (conflicts : ℕ) (l : SplitLimit) : Type 0 where
   pub way : IsOnTheWay a b (orders.left ++ orders.right) l.blocks
   pub inside : (l.left < length l.blocks) × (l.right < length l.blocks)
@@ -35,6 +45,7 @@ pub record IsSplitLimit (a b : NetView) (orders : Orders) (conflicts : ℕ) (l :
   pub p_is : slice_get (nexts_of a b) l.left ≡ Some p
   pub q_is : slice_get (nexts_of a b) l.right ≡ Some q
   pub graph : List Node
+  pub is_graph : IsGraph graph
   pub left_lits : List Lit
   pub right_lits : List Lit
   pub on : AreOnGraph a b orders l.blocks graph left_lits right_lits
@@ -42,6 +53,7 @@ pub record IsSplitLimit (a b : NetView) (orders : Orders) (conflicts : ℕ) (l :
   pub left : IsLitAt left_lits right_lits p query.left
   pub right : IsLitAt left_lits right_lits q query.right
   pub care : query.care.0 ≡ 1
+  pub own : AreVariablesOf a b on.left on.right p q query.vars
   pub limit : IsAtLimit graph query conflicts l.proof
 
 -- what comes of the refinement

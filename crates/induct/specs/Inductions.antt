@@ -112,6 +112,13 @@ verdict_of first count (Some name) shown = verdict.Limit name
 verdict_of first count None (Some x) = verdict.NotShown x.0 x.1.left x.1.right (map (variable_told first count) x.1.vars) x.1.bits
 verdict_of first count None None = verdict.Equal
 
+-- each variable that is told is below the number of the shared inputs and of the blocks
+abbrev pub TellsInside : ℕ → InductVerdict → Type 0
+TellsInside limit verdict.Equal = Unit {0}
+TellsInside limit (verdict.NotShown pair left right vars bits) = All (λ v. v < limit) vars
+TellsInside limit (verdict.Limit pair) = Unit {0}
+TellsInside limit (verdict.SplitLimit left right proof) = Unit {0}
+
 -- The coarsest inductive partition, and each output over it, on the graph of both nets where each latch is its block's variable.
 pub record IsOver (a b : NetView) (own : Orders) (conflicts : ℕ) (made : Induction) : Type 0 where
   pub n : BlockNets
@@ -126,6 +133,7 @@ pub record IsOver (a b : NetView) (own : Orders) (conflicts : ℕ) (made : Induc
   pub answered : AllZip (IsOutputAnswer n g conflicts) a.outputs outputs
   pub pairs_are : made.pairs ≡ map pair_told outputs
   pub verdict_is : made.verdict ≡ verdict_of graph.first (length (shared_inputs (ports_of a) (ports_of b))) (first_limit outputs) (first_shown outputs)
+  pub inside : TellsInside (length (shared_inputs (ports_of a) (ports_of b)) + length made.blocks) made.verdict
 
 -- Two latches of one block of a partition that the coarsest one refines: the query of their data met the limit.
 pub record IsSplitLimitOf (a b : NetView) (own : Orders) (conflicts : ℕ) (made : Induction) : Type 0 where

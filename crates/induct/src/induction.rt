@@ -146,7 +146,10 @@ fn induct_light(
 {
     let own = own_numbers(alloc, a, b, orders)?;
     match refine(alloc, a, b, &own, conflicts)? {
-        Refined::Limit(limit) => split_limit(alloc, a, b, &own, limit, conflicts),
+        Refined::Limit(limit) => {
+            let made = split_limit(alloc, a, b, &own, limit, conflicts)?;
+            Ok(made)
+        }
         Refined::Inductive(blocks) => {
             let nets = BlockNets {
                 left: a,
@@ -154,7 +157,8 @@ fn induct_light(
                 orders: &own,
                 blocks: blocks.as_slice(),
             };
-            over_blocks(alloc, &nets, conflicts)
+            let made = over_blocks(alloc, &nets, conflicts)?;
+            Ok(made)
         }
     }
 }
@@ -211,5 +215,6 @@ fn over_blocks(alloc: Global, nets: &BlockNets<'_>, conflicts: u32) -> Result<In
     let blocks = members(alloc, nets.left.latches().len(), nets.blocks)?;
     let shared = inputs_beside(alloc, nets.left, nets.right)?;
     let first = graph.limit - nets.blocks.len() as u32;
-    judge(alloc, first, shared.len(), outputs, blocks)
+    let made = judge(alloc, first, shared.len(), outputs, blocks)?;
+    Ok(made)
 }

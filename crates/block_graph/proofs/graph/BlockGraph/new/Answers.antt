@@ -35,5 +35,5 @@ returns c =
     is_block_graph c.args.nets.now c.requires c.keeps.ensures.sound c.keeps-2.ensures.sound c.first_block-first.result c.first_block-first.ensures.small (length c.latches-count.result.now) (ap length c.latches-count.ensures)
     (record { aig = c.net_lits-2.new.aig; left = c.in_ok-left-2.left; right = c.in_ok-right-2.right; limit = c.first_block-first.result + length c.args.nets.now.blocks.now }) c.first_block-first.ensures.left c.first_block-first.ensures.right
     (ap (λ (w : Variables). w.inputs) c.in_ok-left-2.ensures.same ∙ c.in_ok-left.ensures.inputs) (ap (λ (w : Variables). w.latches) c.in_ok-left-2.ensures.same ∙ c.in_ok-left.ensures.latches)
-    (ap (λ (w : Variables). w.inputs) c.in_ok-right-2.ensures.same ∙ c.in_ok-right.ensures.inputs) (ap (λ (w : Variables). w.latches) c.in_ok-right-2.ensures.same ∙ c.in_ok-right.ensures.latches) refl
+    (ap (λ (w : Variables). w.inputs) c.in_ok-right-2.ensures.same ∙ c.in_ok-right.ensures.inputs) (ap (λ (w : Variables). w.latches) c.in_ok-right-2.ensures.same ∙ c.in_ok-right.ensures.latches) refl c.keeps-5.ensures.graph
     (on_grows c.args.nets.now.left.now c.net_lits.new.aig c.net_lits-2.new.aig c.keeps-4.ensures.graph c.in_ok-right-2.ensures.grows c.in_ok-left-2.left c.in_ok-left-2.ensures.on) c.in_ok-right-2.ensures.on
