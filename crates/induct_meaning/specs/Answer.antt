@@ -1,16 +1,18 @@
 -- What the status says of two texts whose circuits are compared by blocks, and when they can be compared so.
-use Rattle.std.specs.Prelude.{◌≡◌, ◌≢◌, ◌⊎◌, ℕ, Bool, List, Option, Some, None, IfSome, IsSomeAnd, Contains}
+use Rattle.std.specs.Prelude.{◌≡◌, ◌≢◌, ◌⊎◌, ℕ, ◌+◌, ◌-◌, ◌<◌, ◌≤◌, Bool, List, length, slice_get, Option, Some, None, IfSome, IsSomeAnd, Contains}
 use Rattle.circuit_theory.specs.Circuit.{Circuit}
 use Rattle.circuit_theory.specs.Agree.{place_named}
-use Rattle.circuit_theory.specs.Interface.{first_mismatch}
+use Rattle.circuit_theory.specs.Interface.{first_mismatch, shared_inputs}
 use Rattle.circuit_theory.specs.Joined.{Either, Left, Right}
 use Rattle.reset_laws.specs.Reset.{AgreeFromReset}
 use Rattle.sec_base.specs.Outside.{Takes}
 use Rattle.sec_base.specs.declared.basics.Orders.{Orders}
 use Rattle.flat_net.specs.declared.parts.Port.{Port}
+use Rattle.flat_net.specs.declared.parts.LatchAt.{LatchAt}
 use Rattle.flat_net.specs.View.{NetView, circuit_of, ports_of}
 use Rattle.blif_read.specs.Design.{Place}
 use Rattle.pair_decide.specs.declared.query.Proof.{Proof}
+use Rattle.latch_blocks.specs.Blocks.{block_at}
 use Rattle.latch_blocks.specs.QueryLaws.{AreBlockValues}
 use Rattle.block_refine.specs.declared.refinement.SplitLimit.{SplitLimit}
 use Rattle.block_refine.specs.Refining.{IsSplitLimit}
@@ -52,8 +54,26 @@ pub record BlocksAgree (x y : List ℕ) (conflicts : ℕ) (before now : Option (
   pub says : AgreeFromReset left right
   pub nets_say : AgreeFromReset (circuit_of left_net) (circuit_of right_net)
 
--- Values of both nets that are constant on the blocks, in which the outputs of this name have these two values, which differ.
-pub record TellApart (a b : NetView) (own : Orders) (blocks : List ℕ) (pair : List ℕ) (left right : Bool) : Type 0 where
+-- how many inputs the nets share
+abbrev pub shared_count : NetView → NetView → ℕ
+shared_count a b = length (shared_inputs (ports_of a) (ports_of b))
+
+-- In these values each variable that is told has its bit: one below the number of shared inputs the inputs of this number, and each other
+-- the latches of the block that is so many behind the first.
+pub record HaveBits (a b : NetView) (own : Orders) (blocks vars : List ℕ) (bits : List Bool) (x : Either ℕ ℕ → Bool) : Type 0 where
+  pub each : length bits ≡ length vars
+  pub left_inputs : (k v i : ℕ) (bit : Bool) (port : Port) → slice_get vars k ≡ Some v → slice_get bits k ≡ Some bit → v < shared_count a b → slice_get a.inputs i ≡ Some port → slice_get own.left i ≡ Some v →
+      x (Left port.signal.0) ≡ bit
+  pub right_inputs : (k v i : ℕ) (bit : Bool) (port : Port) → slice_get vars k ≡ Some v → slice_get bits k ≡ Some bit → v < shared_count a b → slice_get b.inputs i ≡ Some port → slice_get own.right i ≡ Some v →
+      x (Right port.signal.0) ≡ bit
+  pub left_latches : (k v j : ℕ) (bit : Bool) (latch : LatchAt) → slice_get vars k ≡ Some v → slice_get bits k ≡ Some bit → shared_count a b ≤ v → slice_get a.latches j ≡ Some latch → block_at blocks j ≡ v - shared_count a b →
+      x (Left latch.out.0) ≡ bit
+  pub right_latches : (k v j : ℕ) (bit : Bool) (latch : LatchAt) → slice_get vars k ≡ Some v → slice_get bits k ≡ Some bit → shared_count a b ≤ v → slice_get b.latches j ≡ Some latch →
+      block_at blocks (length a.latches + j) ≡ v - shared_count a b → x (Right latch.out.0) ≡ bit
+
+-- Values of both nets that are constant on the blocks, in which the told variables have their bits, and the outputs of this name these two
+-- values, which differ.
+pub record TellApart (a b : NetView) (own : Orders) (blocks : List ℕ) (pair : List ℕ) (left right : Bool) (vars : List ℕ) (bits : List Bool) : Type 0 where
   pub output : Port
   pub is_output : Contains a.outputs output
   pub named : output.name ≡ pair
@@ -61,6 +81,7 @@ pub record TellApart (a b : NetView) (own : Orders) (blocks : List ℕ) (pair : 
   pub other_named : place_named (circuit_of b).outputs pair ≡ Some other
   pub x : Either ℕ ℕ → Bool
   pub constant : AreBlockValues a b own blocks x
+  pub told : HaveBits a b own blocks vars bits x
   pub left_is : x (Left output.signal.0) ≡ left
   pub right_is : x (Right other) ≡ right
   pub differ : left ≢ right
@@ -84,7 +105,7 @@ pub record BlocksNotShown (x y : List ℕ) (conflicts : ℕ) (before now : Optio
   pub bits : List Bool
   pub is_verdict : made.verdict ≡ verdict.NotShown pair left right vars bits
   pub printed : IsPrinted left_net right_net conflicts made before now
-  pub shown : TellApart left_net right_net own over.n.blocks.now pair left right
+  pub shown : TellApart left_net right_net own over.n.blocks.now pair left right vars bits
 
 -- The report names an output of both nets, whose query over the blocks of the coarsest inductive partition has more than 16 variables and
 -- met the limit, which one of the proofs shows: its clauses, and a log of exactly as many chains as conflicts are allowed.

@@ -4,6 +4,7 @@ use Rattle.std.specs.List.{filter_map}
 use Rattle.circuit_theory.specs.Interface.{first_mismatch}
 use Rattle.reset_laws.specs.Reset.{AgreeFromReset}
 use Rattle.sec_base.specs.declared.limits.TheConstants.{MAX_WEIGHT}
+use Rattle.flat_net.specs.Sound.{IsSound}
 use Rattle.flat_net.specs.View.{NetView, circuit_of, ports_of}
 use Rattle.pair_decide.specs.declared.query.Proof.{Proof}
 use Rattle.latch_blocks.specs.Signals.{net_weight}
@@ -36,8 +37,11 @@ proofs_of made = proofs_with made.verdict (filter_map (λ (p : InductPair). p.pr
 abbrev pub AreLight : NetView → NetView → Type 0
 AreLight a b = (net_weight a ≤ MAX_WEIGHT) × (net_weight b ≤ MAX_WEIGHT)
 
--- The interfaces match, both nets are light, and this is what is judged and written of their comparison.
+-- The interfaces match, both nets are light, and this is what is judged and written of their comparison. Both nets keep what each net
+-- keeps.
 pub record IsJudged (a b : NetView) (conflicts : ℕ) (j : Judgement) (proofs : List Proof) (text : List ℕ) : Type 0 where
+  pub left_sound : IsSound a
+  pub right_sound : IsSound b
   pub matches : first_mismatch (ports_of a) (ports_of b) ≡ None
   pub light : AreLight a b
   pub made : Induction

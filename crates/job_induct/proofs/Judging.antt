@@ -1,10 +1,10 @@
 -- What is judged of two nets, or why they aren't.
 use Rattle.std.specs.Prelude.{IsErrAnd}
-use Rattle.std.proofs.Common.{◌≡◌, ℕ, List, sym, subst, Option, None, Result, Ok, Err}
+use Rattle.std.proofs.Common.{◌≡◌, ℕ, sym, subst, None, Result, Ok, Err}
 use Rattle.circuit_theory.specs.Interface.{first_mismatch}
 use Rattle.reset_laws.specs.Reset.{AgreeFromReset}
+use Rattle.flat_net.specs.Sound.{IsSound}
 use Rattle.flat_net.specs.View.{NetView, circuit_of, ports_of}
-use Rattle.pair_decide.specs.declared.query.Proof.{Proof}
 use Rattle.sec_setup.specs.declared.error.SetupError.{SetupError}
 use Rattle.sec_setup.specs.declared.error.SetupError.TheVariants as unset
 use Rattle.sec_setup.specs.Matching.{InterfaceFails}
@@ -44,7 +44,7 @@ module _ (a b : NetView) where
   oversized conflicts refused.NoMemory matches h = tt
 
   -- both are judged
-  pub judged_by : (conflicts : ℕ) (made : Induction) (j : Judged) → first_mismatch (ports_of a) (ports_of b) ≡ None → AreLight a b → IsInduction a b conflicts made →
+  pub judged_by : (conflicts : ℕ) (made : Induction) (j : Judged) → IsSound a → IsSound b → first_mismatch (ports_of a) (ports_of b) ≡ None → AreLight a b → IsInduction a b conflicts made →
       (made.verdict ≡ verdict.Equal → AgreeFromReset (circuit_of a) (circuit_of b)) → j.judgement ≡ judgement_of made.verdict → j.proofs ≡ proofs_of made → j.text ≡ induct_text a b conflicts made → IsJudged a b conflicts j.judgement j.proofs j.text
-  judged_by conflicts made j matches light is agree judgement proofs text =
-      record { matches = matches; light = light; made = made; is = is; agree = agree; judgement_is = judgement; proofs_are = proofs; text_is = text }
+  judged_by conflicts made j left right matches light is agree judgement proofs text =
+      record { left_sound = left; right_sound = right; matches = matches; light = light; made = made; is = is; agree = agree; judgement_is = judgement; proofs_are = proofs; text_is = text }

@@ -72,6 +72,8 @@ pub(crate) fn judge_nets(
     requires conflicts { conflicts ≤ MAX_CONFLICTS }
     ensures { IsJudgedBy a.now b.now conflicts result }
 {
+    a.keeps();
+    b.keeps();
     let orders = match interface(alloc, a, b) {
         Ok(orders) => orders,
         Err(error) => return Err(mismatch_of(error)),

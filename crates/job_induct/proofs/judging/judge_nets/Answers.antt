@@ -20,5 +20,5 @@ returns-in_err-made c =
 
 pub returns : goal.returns
 returns c =
-    judged_by c.args.a.now c.args.b.now c.args.conflicts c.in_ok-made.made c.in_ok-judged.judged c.in-Ok.ensures.ok.0 c.in_ok-made.ensures.light c.in_ok-made.ensures.made c.in_ok-made.ensures.agree c.in_ok-judged.ensures.judgement
+    judged_by c.args.a.now c.args.b.now c.args.conflicts c.in_ok-made.made c.in_ok-judged.judged c.keeps.ensures.sound c.keeps-2.ensures.sound c.in-Ok.ensures.ok.0 c.in_ok-made.ensures.light c.in_ok-made.ensures.made c.in_ok-made.ensures.agree c.in_ok-judged.ensures.judgement
     c.in_ok-judged.ensures.proofs c.in_ok-judged.ensures.text
