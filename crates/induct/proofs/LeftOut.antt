@@ -43,13 +43,13 @@ module _ (n : NetView) where
     among : Contains gate.fanins fanin
     is : fanin.0 ≡ r
 
-  fanins_of : Equation ℕ → List ℕ
+  -- what a gate reads
+  abbrev fanins_of : Equation ℕ → List ℕ
   fanins_of (gate_equation out fanins cover) = fanins
   fanins_of (latch_equation name out next) = []
   fanins_of (port_equation out from) = []
 
   reads_fanin : {s r : ℕ} → Reads (circuit_of n) s r → IsFanin r
-  unfolding fanins_of
   reads_fanin {s} {r} (Reads.by_gate {fanins = fanins} {cover = cover} eq h) = pick (equation_from n (gate_equation s fanins cover) eq)
     where
       pick : OfGate n (gate_equation s fanins cover) ⊎ OfLatch n (gate_equation s fanins cover) → IsFanin r
@@ -74,25 +74,24 @@ module _ (n : NetView) where
       pick (inr f) = inr f
 
   module _ (port : Port) (shown : Contains n.outputs port) (p : Port) (own : Contains n.inputs p) (reached : Reaches (circuit_of n) port.signal.0 p.signal.0) where
-    gates_read : Bool
+    abbrev gates_read : Bool
     gates_read = list_any (λ (g : Gate). list_any (λ (f : Signal). f.0 == p.signal.0) g.fanins) n.gates
 
-    latches_read : Bool
+    abbrev latches_read : Bool
     latches_read = list_any (λ (l : LatchAt). l.next.0 == p.signal.0) n.latches
 
-    outputs_show : Bool
+    abbrev outputs_show : Bool
     outputs_show = list_any (λ (o : Port). o.signal.0 == p.signal.0) n.outputs
 
     is_read_here : is_read n p.signal ≡ true
-    unfolding gates_read latches_read outputs_show
     is_read_here = pick (reached_read reached)
       where
         pick : (port.signal.0 ≡ p.signal.0) ⊎ IsFanin p.signal.0 → is_read n p.signal ≡ true
         pick (inl e) = or_right (gates_read || latches_read) outputs_show (any_at (λ (o : Port). o.signal.0 == p.signal.0) n.outputs port shown ((Decides-eqb port.signal.0 p.signal.0).1 e))
         pick (inr f) =
             or_left (gates_read || latches_read) outputs_show (or_left gates_read latches_read
-                (any_at (λ (g : Gate). list_any (λ (f : Signal). f.0 == p.signal.0) g.fanins) n.gates f.gate f.there
-                (any_at (λ (s : Signal). s.0 == p.signal.0) f.gate.fanins f.fanin f.among ((Decides-eqb f.fanin.0 p.signal.0).1 f.is))))
+            (any_at (λ (g : Gate). list_any (λ (f : Signal). f.0 == p.signal.0) g.fanins) n.gates f.gate f.there
+            (any_at (λ (s : Signal). s.0 == p.signal.0) f.gate.fanins f.fanin f.among ((Decides-eqb f.fanin.0 p.signal.0).1 f.is))))
 
     -- an input that an output is reached from is none that is left out
     pub stays_beside : (other : NetView) → Contains (inputs_beside (ports_of n) (ports_of other)) p.name

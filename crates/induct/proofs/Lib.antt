@@ -1,7 +1,9 @@
 pub mod Inducing
 pub mod LeftOut
+pub mod Listing
 pub mod Lowering
 pub mod OverBlocks
 pub mod OwnNumbers
+pub mod Putting
 pub mod Telling
 pub mod ToldInside

@@ -1,8 +1,8 @@
 -- What the outputs over the blocks say, and what of them is small.
-use Rattle.std.proofs.Common.{◌≡◌, ◌∙◌, ℕ, ◌+◌, ◌<◌, ◌≤◌, ◌^◌, List, [], ◌∷◌, length, Option, Some, None, refl, sym, ap, subst, arith}
+use Rattle.std.proofs.Common.{◌≡◌, ◌∙◌, ℕ, ◌+◌, ◌<◌, ◌≤◌, ◌^◌, List, [], ◌∷◌, length, map, Option, Some, None, refl, sym, ap, subst, arith}
 use Rattle.std.specs.List.{All, AllZip}
 use Rattle.std.proofs.lemmas.List.Elements.{All-nil, All-cons, All-weaker}
-use Rattle.circuit_theory.specs.Joined.{Either, Left, Right}
+use Rattle.circuit_theory.specs.Joined.{Left, Right}
 use Rattle.sec_base.specs.declared.basics.Orders.{Orders}
 use Rattle.reset_laws.specs.Reset.{AgreeFromReset}
 use Rattle.flat_net.specs.declared.parts.Port.{Port}
@@ -23,7 +23,7 @@ use Rattle.block_outputs.specs.declared.outputs.OutputPair.{OutputPair}
 use Rattle.block_outputs.specs.Answers.{IsAnswer, IsOutputAnswer}
 use Rattle.block_outputs.proofs.Agreeing.{equal_outputs_agree}
 use Rattle.induct.specs.declared.induction.InductVerdict.TheVariants as verdict
-use Rattle.induct.specs.Inductions.{AreOwnNumbers, AreSmall, first_limit, first_shown, limit_or, shown_or, verdict_of}
+use Rattle.induct.specs.Inductions.{AreOwnNumbers, AreSmall, first_limit, first_shown, limit_or, shown_or, variable_told, verdict_of}
 use Rattle.induct.proofs.OwnNumbers.{orders_long}
 
 -- what holds of each answer holds of all
@@ -71,9 +71,13 @@ module _ (n : BlockNets) (g : BlockGraph) (conflicts : ℕ) (outputs : List Outp
 
 -- a verdict that is equal says that no output met the limit, and that none isn't shown
 none_other : (first count : ℕ) (limit : Option (List ℕ)) (shown : Option (List ℕ × Shown)) → verdict_of first count limit shown ≡ verdict.Equal → (limit ≡ None) × (shown ≡ None)
-none_other first count (Some name) shown e = absurd (let none : ⊥ = cc in none)
-none_other first count None (Some x) e = absurd (let none : ⊥ = cc in none)
+none_other first count (Some name) shown e = let z : verdict.Limit name ≡ verdict.Equal = e in absurd (let none : ⊥ = cc in none)
+none_other first count None (Some x) e =
+    let z : verdict.NotShown x.0 x.1.left x.1.right (map (variable_told first count) x.1.vars) x.1.bits ≡ verdict.Equal = e in absurd (let none : ⊥ = cc in none)
 none_other first count None None e = (refl, refl)
+
+no_some : {X : Type 0} {x : X} → Some x ≡ None → ⊥
+no_some e = cc
 
 each_equal : (outputs : List OutputPair) → first_limit outputs ≡ None → first_shown outputs ≡ None → All (λ pair. pair.answer ≡ answer.Equal) outputs
 each_equal [] l s = All-nil (λ (pair : OutputPair). pair.answer ≡ answer.Equal)
@@ -82,8 +86,8 @@ each_equal (pair ∷ pairs) l s = go pair.answer refl l s (each_equal pairs)
     go : (a : OutputAnswer) → pair.answer ≡ a → limit_or pair.name a (first_limit pairs) ≡ None → shown_or pair.name a (first_shown pairs) ≡ None →
         (first_limit pairs ≡ None → first_shown pairs ≡ None → All (λ pair. pair.answer ≡ answer.Equal) pairs) → All (λ pair. pair.answer ≡ answer.Equal) (pair ∷ pairs)
     go answer.Equal e m t rest = All-cons (λ (one : OutputPair). one.answer ≡ answer.Equal) pair pairs e (rest m t)
-    go (answer.NotShown x) e m t rest = absurd (let none : ⊥ = cc in none)
-    go (answer.Limit proof) e m t rest = absurd (let none : ⊥ = cc in none)
+    go (answer.NotShown x) e m t rest = absurd (no_some t)
+    go (answer.Limit proof) e m t rest = absurd (no_some m)
 
 pub all_equal : (first count : ℕ) (outputs : List OutputPair) → verdict_of first count (first_limit outputs) (first_shown outputs) ≡ verdict.Equal → All (λ pair. pair.answer ≡ answer.Equal) outputs
 all_equal first count outputs e = let none = none_other first count (first_limit outputs) (first_shown outputs) e in each_equal outputs none.0 none.1

@@ -1,8 +1,9 @@
 -- Lowered numbers are numbers of the interface again.
-use Rattle.std.proofs.Common.{◌≡◌, ◌≢◌, ◌∙◌, ◌⊎◌, ℕ, ◌+◌, ◌<◌, ◌≤◌, ◌^◌, List, length, map, slice_get, slice_index_or, Some, refl, sym, ap, subst, arith, inl, inr}
+use Rattle.std.proofs.Common.{◌≡◌, ◌≢◌, ◌∙◌, ◌⊎◌, ℕ, ◌+◌, ◌<◌, ◌≤◌, ◌^◌, not, ◌&&◌, List, length, slice_get, Some, sym, ap, arith, inl, inr}
 use Rattle.std.specs.List.{All, AllPairs, Contains}
 use Rattle.std.proofs.lemmas.Option.{slice_get_within, same_Some, get_or_from_slice_get}
-use Rattle.circuit_theory.specs.Interface.{shared_inputs, AreNumbersOf, AreOrders}
+use Rattle.circuit_theory.specs.Interface.{is_clock, shared_inputs, AreNumbersOf, AreOrders}
+use Rattle.circuit_theory.specs.Names.{is_among}
 use Rattle.circuit_theory.proofs.Lists.{All-from_each, at_of, of_at, length-map}
 use Rattle.sec_base.specs.declared.basics.Orders.{Orders}
 use Rattle.flat_net.specs.declared.parts.Port.{Port}
@@ -37,10 +38,10 @@ module _ (bound from : ℕ) (numbers made : List ℕ) (lowered : AreLowered boun
       by x at (inr high) = inr (high, same_Some i (from + k) (sym h ∙ lowered.high k x at high))
 
   pub lowered_small : (most : ℕ) → bound ≤ most → from + length numbers ≤ most → All (λ i. i < most) made
-  lowered_small most low high = All-from_each (λ (i : ℕ). i < most) made (λ i h. let at = at_of made i h in each i (number_from at.0 i at.1))
+  lowered_small most low high = All-from_each (λ (i : ℕ). i < most) made (λ i h. let at = at_of made i h in each at.0 i (number_from at.0 i at.1))
     where
-      each : (i : ℕ) {k : ℕ} → IsFrom bound from numbers k i → i < most
-      each i is = by is.is
+      each : (k i : ℕ) → IsFrom bound from numbers k i → i < most
+      each k i is = by is.is
         where
           by : ((is.x < bound) × (i ≡ is.x)) ⊎ ((bound ≤ is.x) × (i ≡ from + k)) → i < most
           by (inl l) = omega (arith, l.0, l.1, low)
@@ -107,7 +108,10 @@ names_long n = length-map (λ (p : Port). p.name) n.inputs
 
 -- there are no more shared inputs than inputs of A
 pub shared_few : (a b : NetView) → length (shared_inputs (ports_of a) (ports_of b)) ≤ length a.inputs
-shared_few a b = let few = length-filter-le _ (ports_of a).inputs in omega (arith, few, names_long a)
+shared_few a b =
+    let few : length (shared_inputs (ports_of a) (ports_of b)) ≤ length (ports_of a).inputs =
+    length-filter-le (λ (name : List ℕ). not (is_clock (ports_of b) name && not (is_among (ports_of a).read name))) (ports_of a).inputs in
+    omega (arith, few, names_long a)
 
 -- one number for each input
 pub orders_long : (a b : NetView) (orders : Orders) → AreOrders (ports_of a) (ports_of b) orders.left orders.right → (length orders.left ≡ length a.inputs) × (length orders.right ≡ length b.inputs)
@@ -118,16 +122,13 @@ module _ (a b : NetView) (sound_a : IsSound a) (sound_b : IsSound b) (light_a : 
   pub own_are : (bound from : ℕ) → bound ≡ length a.inputs + length b.inputs → from ≡ bound + length a.inputs → AreLowered bound bound orders.left made.left → AreLowered bound from orders.right made.right → AreOwnNumbers a b made
   own_are bound from bound_is from_is left right = record {
     are = record {
-      left_is = lowered_numbers bound bound from orders.left orders.right made.left made.right left right (omega arith) (omega (arith, from_is)) (λ k j l m e. omega (arith, l, e, from_is, long.0)) (ports_of a).inputs shared few are.left_is;
-      right_is = lowered_numbers bound from bound orders.right orders.left made.right made.left right left (omega (arith, from_is)) (omega arith) (λ k j l m e. omega (arith, m, e, from_is, long.0)) (ports_of b).inputs shared few are.right_is;
+      left_is = lowered_numbers bound bound from orders.left orders.right made.left made.right left right (omega arith) (omega (arith, from_is)) (λ k j l m e. omega (arith, l, e, from_is, long.0)) (ports_of a).inputs (shared_inputs (ports_of a) (ports_of b)) few are.left_is;
+      right_is = lowered_numbers bound from bound orders.right orders.left made.right made.left right left (omega (arith, from_is)) (omega arith) (λ k j l m e. omega (arith, m, e, from_is, long.0)) (ports_of b).inputs (shared_inputs (ports_of a) (ports_of b)) few are.right_is;
     };
     left_small = lowered_small bound bound orders.left made.left left (2 ^ 31) (omega (arith, bound_is, few_a, few_b)) (omega (arith, bound_is, few_a, few_b, long.0));
     right_small = lowered_small bound from orders.right made.right right (2 ^ 31) (omega (arith, bound_is, few_a, few_b)) (omega (arith, bound_is, from_is, few_a, few_b, long.1));
   }
     where
-      shared : List (List ℕ)
-      shared = shared_inputs (ports_of a) (ports_of b)
-
       long : (length orders.left ≡ length a.inputs) × (length orders.right ≡ length b.inputs)
       long = orders_long a b orders are
 

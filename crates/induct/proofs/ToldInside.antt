@@ -39,24 +39,24 @@ told_high first count v l = grind (arith, nat_tests)
 module _ (n : BlockNets) (g : BlockGraph) (is : IsBlockGraph n g) (sound_a : IsSound n.left.now) (sound_b : IsSound n.right.now) (own : AreOwnNumbers n.left.now n.right.now n.orders.now)
     (matches : first_mismatch (ports_of n.left.now) (ports_of n.right.now) ≡ None) (each : length n.blocks.now ≡ length n.left.now.latches + length n.right.now.latches) where
   -- how many inputs are shared
-  abbrev shared_count : ℕ
+  abbrev pub shared_count : ℕ
   shared_count = length (shared_inputs (ports_of n.left.now) (ports_of n.right.now))
 
   -- the number of a shared input
-  abbrev IsShared : ℕ → Type 0
+  abbrev pub IsShared : ℕ → Type 0
   IsShared k = (k < shared_count) × (k < is.first)
 
   -- the variable of a block
-  abbrev IsBlock : ℕ → Type 0
+  abbrev pub IsBlock : ℕ → Type 0
   IsBlock k = (j : ℕ) × (j < length n.blocks.now) × (k ≡ is.first + block_at n.blocks.now j)
 
   module _ (k : ℕ) where
-    left_leaf : (port : Port) → Contains n.left.now.outputs port → IsLeaf n.left.now g.left.variables port.signal.0 k → IsShared k ⊎ IsBlock k
+    pub left_leaf : (port : Port) → Contains n.left.now.outputs port → IsLeaf n.left.now g.left.variables port.signal.0 k → IsShared k ⊎ IsBlock k
     left_leaf port shown leaf = go (slice_get n.left.now.drivers leaf.0) refl leaf.2
       where
         go : (o : Option Driver) → slice_get n.left.now.drivers leaf.0 ≡ o → option_and_then (variable_of g.left.variables) o ≡ Some k → IsShared k ⊎ IsBlock k
-        go None e h = absurd (let none : ⊥ = cc in none)
-        go (Some (driver.Gate j)) e h = absurd (let none : ⊥ = cc in none)
+        go None e h = let z : None ≡ Some k = h in absurd (let none : ⊥ = cc in none)
+        go (Some (driver.Gate j)) e h = let z : None ≡ Some k = h in absurd (let none : ⊥ = cc in none)
         go (Some (driver.Latch j)) e h =
             let inside = slice_get_within g.left.variables.latches j k h in
             inr (j, omega (arith, inside, is.left_on.variables.latches, each), is.variables.left_latches j k h)
@@ -70,12 +70,12 @@ module _ (n : BlockNets) (g : BlockGraph) (is : IsBlockGraph n g) (sound_a : IsS
             let under = All-at (λ (m : ℕ). m < is.first) n.orders.now.left i at.0 number is.variables.above_left in
             inl (omega (arith, same, below), omega (arith, same, under))
 
-    right_leaf : (port : Port) → Contains n.right.now.outputs port → IsLeaf n.right.now g.right.variables port.signal.0 k → IsShared k ⊎ IsBlock k
+    pub right_leaf : (port : Port) → Contains n.right.now.outputs port → IsLeaf n.right.now g.right.variables port.signal.0 k → IsShared k ⊎ IsBlock k
     right_leaf port shown leaf = go (slice_get n.right.now.drivers leaf.0) refl leaf.2
       where
         go : (o : Option Driver) → slice_get n.right.now.drivers leaf.0 ≡ o → option_and_then (variable_of g.right.variables) o ≡ Some k → IsShared k ⊎ IsBlock k
-        go None e h = absurd (let none : ⊥ = cc in none)
-        go (Some (driver.Gate j)) e h = absurd (let none : ⊥ = cc in none)
+        go None e h = let z : None ≡ Some k = h in absurd (let none : ⊥ = cc in none)
+        go (Some (driver.Gate j)) e h = let z : None ≡ Some k = h in absurd (let none : ⊥ = cc in none)
         go (Some (driver.Latch j)) e h =
             let inside = slice_get_within g.right.variables.latches j k h in
             inr (length n.left.now.latches + j, omega (arith, inside, is.right_on.variables.latches, each), is.variables.right_latches j k h)
@@ -91,13 +91,12 @@ module _ (n : BlockNets) (g : BlockGraph) (is : IsBlockGraph n g) (sound_a : IsS
 
     -- what is told of it is below the number of shared inputs and of blocks
     told_below : (count : ℕ) → ((j : ℕ) → j < length n.blocks.now → block_at n.blocks.now j < count) → IsShared k ⊎ IsBlock k →
-        variable_told is.first (shared_count) k < shared_count + count
-    told_below count enough (inl l) = let told = told_low is.first (shared_count) k l.1 in omega (arith, told, l.0)
+        variable_told is.first shared_count k < shared_count + count
+    told_below count enough (inl l) = subst (λ w. w < shared_count + count) (sym (told_low is.first shared_count k l.1)) (omega (arith, l.0))
     told_below count enough (inr b) =
         let high : is.first ≤ k = omega (arith, b.2) in
-        let told = told_high is.first (shared_count) k high in
         let below = enough b.0 b.1 in
-        omega (arith, told, b.2, below)
+        subst (λ w. w < shared_count + count) (sym (told_high is.first shared_count k high)) (omega (arith, b.2, below))
 
   module _ (count : ℕ) (enough : (j : ℕ) → j < length n.blocks.now → block_at n.blocks.now j < count) (conflicts : ℕ) where
     -- the variables are told below this number
@@ -106,10 +105,10 @@ module _ (n : BlockNets) (g : BlockGraph) (is : IsBlockGraph n g) (sound_a : IsS
 
     -- of one output
     shown_inside : (port : Port) → Contains n.left.now.outputs port → (pair : OutputPair) → IsOutputAnswer n g conflicts port pair → (s : Shown) → pair.answer ≡ answer.NotShown s →
-        All (λ v. v < shared_count + count) (map (variable_told is.first (shared_count)) s.vars)
+        All (λ v. v < shared_count + count) (map (variable_told is.first shared_count) s.vars)
     shown_inside port there pair answered s e =
-        All-from_each (λ (v : ℕ). v < shared_count + count) (map (variable_told is.first (shared_count)) s.vars)
-            (λ v h. let from = Contains-map_from (variable_told is.first (shared_count)) s.vars v h in subst (λ (w : ℕ). w < shared_count + count) from.2 (told_below from.0 count enough (of_pair from.0 from.1)))
+        All-from_each (λ (v : ℕ). v < shared_count + count) (map (variable_told is.first shared_count) s.vars)
+        (λ v h. let from = Contains-map_from (variable_told is.first shared_count) s.vars v h in subst (λ (w : ℕ). w < shared_count + count) from.2 (told_below from.0 count enough (of_pair from.0 from.1)))
       where
         told : IsShown n g (Left port.signal.0) (Right answered.other) s
         told = subst (IsAnswer n g conflicts (Left port.signal.0) (Right answered.other)) e answered.answer_is
@@ -126,18 +125,18 @@ module _ (n : BlockNets) (g : BlockGraph) (is : IsBlockGraph n g) (sound_a : IsS
 
     -- the first that isn't shown is one of them
     first_inside : (ports : List Port) (outputs : List OutputPair) → ((port : Port) → Contains ports port → Contains n.left.now.outputs port) → AllZip (IsOutputAnswer n g conflicts) ports outputs → (x : List ℕ × Shown) → first_shown outputs ≡ Some x →
-        All (λ v. v < shared_count + count) (map (variable_told is.first (shared_count)) x.1.vars)
-    first_inside [] [] among h x e = absurd (let none : ⊥ = cc in none)
+        All (λ v. v < shared_count + count) (map (variable_told is.first shared_count) x.1.vars)
+    first_inside [] [] among h x e = let z : None ≡ Some x = e in absurd (let none : ⊥ = cc in none)
     first_inside [] (pair ∷ pairs) among h x e = absurd h
     first_inside (port ∷ ports) [] among h x e = absurd h
     first_inside (port ∷ ports) (pair ∷ pairs) among h x e = go pair.answer refl e (first_inside ports pairs (λ p k. among p (Contains-tail port p ports k)) h.1 x)
       where
         Inside : Type 0
-        Inside = All (λ v. v < shared_count + count) (map (variable_told is.first (shared_count)) x.1.vars)
+        Inside = All (λ v. v < shared_count + count) (map (variable_told is.first shared_count) x.1.vars)
 
         go : (a : OutputAnswer) → pair.answer ≡ a → shown_or pair.name a (first_shown pairs) ≡ Some x →
-            (first_shown pairs ≡ Some x → All (λ v. v < shared_count + count) (map (variable_told is.first (shared_count)) x.1.vars)) →
-            All (λ v. v < shared_count + count) (map (variable_told is.first (shared_count)) x.1.vars)
+            (first_shown pairs ≡ Some x → All (λ v. v < shared_count + count) (map (variable_told is.first shared_count) x.1.vars)) →
+            All (λ v. v < shared_count + count) (map (variable_told is.first shared_count) x.1.vars)
         go answer.Equal is_a t rest = rest t
         go (answer.Limit proof) is_a t rest = rest t
         go (answer.NotShown s) is_a t rest =
@@ -145,11 +144,11 @@ module _ (n : BlockNets) (g : BlockGraph) (is : IsBlockGraph n g) (sound_a : IsS
             shown_inside port (among port (Contains-head port ports)) pair h.0 x.1 (is_a ∙ ap answer.NotShown same)
 
     pub tells_inside : (outputs : List OutputPair) → AllZip (IsOutputAnswer n g conflicts) n.left.now.outputs outputs →
-        TellsInside (shared_count + count) (verdict_of is.first (shared_count) (first_limit outputs) (first_shown outputs))
+        TellsInside (shared_count + count) (verdict_of is.first shared_count (first_limit outputs) (first_shown outputs))
     tells_inside outputs h = go (first_limit outputs) (first_shown outputs) refl
       where
         go : (limit : Option (List ℕ)) (shown : Option (List ℕ × Shown)) → first_shown outputs ≡ shown →
-            TellsInside (shared_count + count) (verdict_of is.first (shared_count) limit shown)
+            TellsInside (shared_count + count) (verdict_of is.first shared_count limit shown)
         go (Some name) shown e = tt
         go None (Some x) e = first_inside n.left.now.outputs outputs (λ p k. k) h x e
         go None None e = tt

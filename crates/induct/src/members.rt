@@ -38,9 +38,13 @@ fn put_member(
     ensures { OnOk result (IsPut block tag (map (λ list. list.items) lists.old.items) (map (λ list. list.items) lists.new.items)) }
 {
     if block == lists.len() {
-        lists.push(Vec::new(alloc))?;
+        let mut list = Vec::new(alloc);
+        list.push(tag)?;
+        lists.push(list)?;
+        return Ok(());
     }
-    lists[block].push(tag)?;
+    let list = &mut lists[block];
+    list.push(tag)?;
     Ok(())
 }
 

@@ -1,6 +1,7 @@
 //! The pairs and the verdict.
 
-ghost use Rattle.std.specs.Prelude.{◌≡◌, [], ◌∷◌, ◌+◌, ◌^◌, ◌<◌, List, ◌++◌, map, All, IfOk, IfSome, OnOk};
+ghost use Rattle.std.specs.Prelude.{◌≡◌, [], ◌∷◌, ◌+◌, ◌^◌, ◌<◌, List, ◌++◌, map, All, Some, IfOk, IfSome, OnOk};
+ghost use Rattle.std.specs.Option.{option_or};
 ghost use Rattle.block_outputs.specs.declared.outputs.OutputPair.{OutputPair};
 ghost use Rattle.induct.specs.Inductions.{pair_told, variable_told, first_limit, first_shown, verdict_of, AreSmall, IsTold};
 
@@ -26,18 +27,40 @@ impl Told {
         match answer {
             OutputAnswer::Equal => self.push(name, PairAnswer::Equal, None),
             OutputAnswer::Limit(proof) => {
-                if self.limit.is_none() {
-                    self.limit = Some(name.copy()?);
-                }
+                self.put_limit(&name)?;
                 self.push(name, PairAnswer::Limit, Some(proof))
             }
             OutputAnswer::NotShown(shown) => {
-                if self.shown.is_none() {
-                    self.shown = Some((name.copy()?, shown));
-                }
+                self.put_shown(&name, shown)?;
                 self.push(name, PairAnswer::NotShown, None)
             }
         }
+    }
+
+    /// Keeps the name as the first one at the limit, where there was none.
+    fn put_limit(&mut self, name: &Word) -> Result<(), NoMemory>
+        ensures pairs { OnOk result (self.new.pairs ≡ self.old.pairs) }
+        ensures limit { OnOk result (self.new.limit ≡ option_or self.old.limit (Some name.now)) }
+        ensures shown { OnOk result (self.new.shown ≡ self.old.shown) }
+    {
+        if self.limit.is_some() {
+            return Ok(());
+        }
+        self.limit = Some(name.copy()?);
+        Ok(())
+    }
+
+    /// Keeps the pair as the first one that isn't shown, where there was none.
+    fn put_shown(&mut self, name: &Word, shown: Shown) -> Result<(), NoMemory>
+        ensures pairs { OnOk result (self.new.pairs ≡ self.old.pairs) }
+        ensures limit { OnOk result (self.new.limit ≡ self.old.limit) }
+        ensures shown { OnOk result (self.new.shown ≡ option_or self.old.shown (Some (name.now, shown))) }
+    {
+        if self.shown.is_some() {
+            return Ok(());
+        }
+        self.shown = Some((name.copy()?, shown));
+        Ok(())
     }
 
     fn push(&mut self, name: Word, answer: PairAnswer, proof: Option<Proof>) -> Result<(), NoMemory>
@@ -67,6 +90,23 @@ pub(crate) fn judge(
     ensures pairs { IfOk result (λ made. made.pairs ≡ map pair_told outputs) }
     ensures verdict { IfOk result (λ made. made.verdict ≡ verdict_of first count (first_limit outputs) (first_shown outputs)) }
 {
+    let Told {
+        pairs,
+        limit,
+        shown,
+    } = told_of(alloc, outputs)?;
+    let verdict = verdict_of(alloc, first, count, limit, shown)?;
+    Ok(Induction {
+        blocks,
+        pairs,
+        verdict,
+    })
+}
+
+/// The pairs, told one after the other.
+fn told_of(alloc: Global, outputs: OutputPairs) -> Result<Told, NoMemory>
+    ensures { IfOk result (IsTold outputs) }
+{
     let mut told = Told {
         pairs: InductPairs::new(alloc),
         limit: None,
@@ -75,17 +115,7 @@ pub(crate) fn judge(
     for pair in outputs.into_vec() {
         told.put(pair)?;
     }
-    let Told {
-        pairs,
-        limit,
-        shown,
-    } = told;
-    let verdict = verdict_of(alloc, first, count, limit, shown)?;
-    Ok(Induction {
-        blocks,
-        pairs,
-        verdict,
-    })
+    Ok(told)
 }
 
 fn verdict_of(
