@@ -1,29 +1,38 @@
 -- What stands behind a verdict: the output that it names, or the two latches.
 use Rattle.std.specs.Prelude.{MatchOption, IsSomeAnd}
 use Rattle.std.specs.List.{AllZip, Contains, filter_map}
-use Rattle.std.proofs.Common.{◌≡◌, ℕ, zero, suc, Bool, List, [], ◌∷◌, map, refl, sym, ap, subst, ◌∙◌, inl, inr, ◌⊎◌, Option, Some, None, slice_get}
+use Rattle.std.specs.List.Sorted.{IsStrictlyIncreasing}
+use Rattle.std.proofs.Common.{◌≡◌, ℕ, zero, suc, ◌+◌, ◌<◌, Bool, List, [], ◌∷◌, length, map, refl, sym, ap, subst, ◌∙◌, inl, inr, ◌⊎◌, Option, Some, None, slice_get, arith}
+use Rattle.std.proofs.lemmas.List.Kept.{AllPairs-from_increasing}
 use Rattle.std.proofs.lemmas.Slice.Zip.{AllZip-right}
 use Rattle.circuit_theory.specs.Agree.{place_named}
+use Rattle.circuit_theory.specs.Interface.{first_mismatch}
 use Rattle.circuit_theory.specs.Joined.{Left, Right}
 use Rattle.circuit_theory.proofs.Lists.{Contains-head, Contains-tail, Contains-map, of_at}
 use Rattle.sec_base.specs.declared.basics.Orders.{Orders}
 use Rattle.flat_net.specs.declared.parts.Port.{Port}
-use Rattle.flat_net.specs.View.{NetView, circuit_of}
+use Rattle.flat_net.specs.Sound.{IsSound}
+use Rattle.flat_net.specs.View.{NetView, circuit_of, ports_of}
+use Rattle.interface.proofs.Paired.{place_named-from}
 use Rattle.pair_decide.specs.declared.query.Proof.{Proof}
+use Rattle.latch_blocks.specs.Blocks.{block_at}
 use Rattle.latch_blocks.specs.QueryLaws.{AreBlockValues}
+use Rattle.latch_blocks.specs.Signals.{IsLeaf}
 use Rattle.block_outputs.specs.declared.answer.Shown.{Shown}
 use Rattle.block_outputs.specs.declared.answer.OutputAnswer.{OutputAnswer}
 use Rattle.block_outputs.specs.declared.answer.OutputAnswer.TheVariants as answer
 use Rattle.block_outputs.specs.declared.outputs.OutputPair.{OutputPair}
-use Rattle.block_outputs.specs.Answers.{IsAnswer, IsOutputAnswer}
+use Rattle.block_outputs.specs.Answers.{IsAnswer, IsOutputAnswer, IsShown}
 use Rattle.job_files.proofs.Reading.{some_and}
 use Rattle.induct.specs.declared.induction.InductPair.{InductPair}
 use Rattle.induct.specs.declared.induction.InductVerdict.{InductVerdict}
 use Rattle.induct.specs.declared.induction.InductVerdict.TheVariants as verdict
 use Rattle.induct.specs.declared.induction.Induction.{Induction}
-use Rattle.induct.specs.Inductions.{pair_told, limit_or, first_limit, shown_or, first_shown, verdict_of, AreOwnNumbers, IsOver, IsSplitLimitOf}
+use Rattle.induct.specs.Inductions.{pair_told, limit_or, first_limit, shown_or, first_shown, verdict_of, variable_told, AreOwnNumbers, IsOver, IsSplitLimitOf}
+use Rattle.induct.proofs.ToldInside.{left_leaf, right_leaf}
 use Rattle.induct_meaning.specs.Judged.{proofs_of, proofs_with}
-use Rattle.induct_meaning.specs.Answer.{TellApart, PairUndecided, SplitUndecided}
+use Rattle.induct_meaning.specs.Answer.{shared_count, HaveBits, TellApart, PairUndecided, SplitUndecided}
+use Rattle.induct_meaning.proofs.Bits.{IsSharedOrBlock, have_bits}
 
 some_is : {X : Type 0} {x y : X} → Some x ≡ Some y → x ≡ y
 some_is q = cc
@@ -89,9 +98,10 @@ limit_verdict first count None (Some x) name e = absurd (cc)
 limit_verdict first count None None name e = absurd (cc)
 
 shown_verdict : (first count : ℕ) (limit : Option (List ℕ)) (shown : Option (List ℕ × Shown)) (pair : List ℕ) (left right : Bool) (vars : List ℕ) (bits : List Bool) →
-    verdict_of first count limit shown ≡ verdict.NotShown pair left right vars bits → (x : List ℕ × Shown) × (shown ≡ Some x) × (x.0 ≡ pair) × (x.1.left ≡ left) × (x.1.right ≡ right)
+    verdict_of first count limit shown ≡ verdict.NotShown pair left right vars bits →
+    (x : List ℕ × Shown) × (shown ≡ Some x) × (x.0 ≡ pair) × (x.1.left ≡ left) × (x.1.right ≡ right) × (map (variable_told first count) x.1.vars ≡ vars) × (x.1.bits ≡ bits)
 shown_verdict first count (Some other) shown pair left right vars bits e = absurd (cc)
-shown_verdict first count None (Some x) pair left right vars bits e = (x, refl, cc, cc, cc)
+shown_verdict first count None (Some x) pair left right vars bits e = (x, refl, cc, cc, cc, cc, cc)
 shown_verdict first count None None pair left right vars bits e = absurd (cc)
 
 no_split : (first count : ℕ) (limit : Option (List ℕ)) (shown : Option (List ℕ × Shown)) (v : InductVerdict) → verdict_of first count limit shown ≡ v → (left right : _) (proof : Proof) → v ≡ verdict.SplitLimit left right proof → ⊥
@@ -114,31 +124,77 @@ module _ (a b : NetView) (own : Orders) (are_own : AreOwnNumbers a b own) (confl
     other_in name port other named h =
         subst (λ (m : List ℕ). place_named (circuit_of b).outputs m ≡ Some other) named (subst (λ (m : NetView). place_named (circuit_of m).outputs port.name ≡ Some other) over.right_is h)
 
-    values_in : (x : _) → AreBlockValues over.n.left.now over.n.right.now over.n.orders.now over.n.blocks.now x → AreBlockValues a b own over.n.blocks.now x
-    values_in x h =
-        subst (λ (o : Orders). AreBlockValues a b o over.n.blocks.now x) over.own_is
-        (subst (λ (m : NetView). AreBlockValues a m over.n.orders.now over.n.blocks.now x) over.right_is
-        (subst (λ (m : NetView). AreBlockValues m over.n.right.now over.n.orders.now over.n.blocks.now x) over.left_is h))
+    -- what is said of the nets that stand in the graph's places
+    carried : (F : NetView → NetView → Orders → Type 0) → F over.n.left.now over.n.right.now over.n.orders.now → F a b own
+    carried F h =
+        subst (λ (o : Orders). F a b o) over.own_is (subst (λ (m : NetView). F a m over.n.orders.now) over.right_is (subst (λ (m : NetView). F m over.n.right.now over.n.orders.now) over.left_is h))
 
-    pub tell_apart : (pair : List ℕ) (left right : Bool) (vars : List ℕ) (bits : List Bool) → made.verdict ≡ verdict.NotShown pair left right vars bits → TellApart a b own over.n.blocks.now pair left right
-    tell_apart pair left right vars bits e =
-        let v = shown_verdict over.graph.first _ (first_limit over.outputs) (first_shown over.outputs) pair left right vars bits (sym over.verdict_is ∙ e) in
-        let f = shown_at over.outputs v.0 v.1 in
-        let o = output_at f.place f.pair f.here in
-        let named : o.0.name ≡ pair = sym o.2.name_is ∙ (f.named ∙ v.2) in
-        let shown = subst (IsAnswer over.n over.g conflicts (Left o.0.signal.0) (Right o.2.other)) f.answered o.2.answer_is in
-        record {
-          output = o.0;
-          is_output = of_at a.outputs f.place o.0 o.1;
-          named = named;
-          other = o.2.other;
-          other_named = other_in pair o.0 o.2.other named o.2.other_is;
-          x = shown.x;
-          constant = values_in shown.x shown.constant;
-          left_is = shown.left ∙ v.3;
-          right_is = shown.right ∙ v.4;
-          differ = λ q. shown.differ (v.3 ∙ (q ∙ sym v.4));
-        }
+    returned : (F : NetView → NetView → Orders → Type 0) → F a b own → F over.n.left.now over.n.right.now over.n.orders.now
+    returned F h =
+        subst (λ (m : NetView). F m over.n.right.now over.n.orders.now) (sym over.left_is) (subst (λ (m : NetView). F a m over.n.orders.now) (sym over.right_is) (subst (λ (o : Orders). F a b o) (sym over.own_is) h))
+
+    module _ (left_sound : IsSound a) (right_sound : IsSound b) (matches : first_mismatch (ports_of a) (ports_of b) ≡ None) where
+      -- the graph's variables of an output are shared inputs' numbers and blocks'
+      shared_or_block : (port : Port) → Contains over.n.left.now.outputs port → (pair : OutputPair) → (answered : Answers port pair) → (s : Shown) → IsShown over.n over.g (Left port.signal.0) (Right answered.other) s → (u : ℕ) → Contains s.vars u →
+          IsSharedOrBlock over.graph.first (shared_count over.n.left.now over.n.right.now) u
+      shared_or_block port shown pair answered s is u h = pick ((is.asked.own.each u).0 (subst (λ (vs : List ℕ). Contains vs u) (sym is.vars) h))
+        where
+          left : IsSound over.n.left.now
+          left = returned (λ m k o. IsSound m) left_sound
+
+          right : IsSound over.n.right.now
+          right = returned (λ m k o. IsSound k) right_sound
+
+          numbers : AreOwnNumbers over.n.left.now over.n.right.now over.n.orders.now
+          numbers = returned AreOwnNumbers are_own
+
+          matched : first_mismatch (ports_of over.n.left.now) (ports_of over.n.right.now) ≡ None
+          matched = returned (λ m k o. first_mismatch (ports_of m) (ports_of k) ≡ None) matches
+
+          each : length over.n.blocks.now ≡ length over.n.left.now.latches + length over.n.right.now.latches
+          each = returned (λ m k o. length over.n.blocks.now ≡ length m.latches + length k.latches) over.coarsest.each
+
+          kind : ((u < shared_count over.n.left.now over.n.right.now) × (u < over.graph.first)) ⊎ ((j : ℕ) × (j < length over.n.blocks.now) × (u ≡ over.graph.first + block_at over.n.blocks.now j)) →
+              IsSharedOrBlock over.graph.first (shared_count over.n.left.now over.n.right.now) u
+          kind (inl k) = inl k
+          kind (inr k) = inr (omega (arith, k.2))
+
+          pick : IsLeaf over.n.left.now over.g.left.variables port.signal.0 u ⊎ IsLeaf over.n.right.now over.g.right.variables answered.other u → IsSharedOrBlock over.graph.first (shared_count over.n.left.now over.n.right.now) u
+          pick (inl leaf) = kind (left_leaf over.n over.g over.graph left right numbers matched each u port shown leaf)
+          pick (inr leaf) =
+              let other = place_named-from over.n.right.now.outputs port.name answered.other answered.other_is in
+              kind (right_leaf over.n over.g over.graph left right numbers matched each u other.0 other.1 (subst (λ (q : ℕ). IsLeaf over.n.right.now over.g.right.variables q u) (sym other.3) leaf))
+
+      told_bits : (port : Port) → Contains over.n.left.now.outputs port → (pair : OutputPair) → (answered : Answers port pair) → (s : Shown) → (is : IsShown over.n over.g (Left port.signal.0) (Right answered.other) s) →
+          HaveBits a b own over.n.blocks.now (map (variable_told over.graph.first (shared_count a b)) s.vars) s.bits is.x
+      told_bits port shown pair answered s is =
+          carried (λ m k o. HaveBits m k o over.n.blocks.now (map (variable_told over.graph.first (shared_count m k)) s.vars) s.bits is.x)
+          (have_bits over.n over.g over.graph (returned (λ m k o. IsSound m) left_sound) (returned (λ m k o. IsSound k) right_sound) s.vars s.bits
+          (λ i j d l m e. (let pair = AllPairs-from_increasing s.vars (subst IsStrictlyIncreasing is.vars is.asked.own.increasing) i j d l m in omega (arith, pair, e)))
+          (subst (λ (vs : List ℕ). length s.bits ≡ length vs) is.vars is.difference.each) (shared_or_block port shown pair answered s is) is.x is.read)
+
+      pub tell_apart : (pair : List ℕ) (left right : Bool) (vars : List ℕ) (bits : List Bool) → made.verdict ≡ verdict.NotShown pair left right vars bits → TellApart a b own over.n.blocks.now pair left right vars bits
+      tell_apart pair left right vars bits e =
+          let v = shown_verdict over.graph.first _ (first_limit over.outputs) (first_shown over.outputs) pair left right vars bits (sym over.verdict_is ∙ e) in
+          let f = shown_at over.outputs v.0 v.1 in
+          let o = output_at f.place f.pair f.here in
+          let named : o.0.name ≡ pair = sym o.2.name_is ∙ (f.named ∙ v.2) in
+          let there : Contains a.outputs o.0 = of_at a.outputs f.place o.0 o.1 in
+          let shown = subst (IsAnswer over.n over.g conflicts (Left o.0.signal.0) (Right o.2.other)) f.answered o.2.answer_is in
+          let bits_told = told_bits o.0 (subst (λ (m : NetView). Contains m.outputs o.0) (sym over.left_is) there) f.pair o.2 v.0.1 shown in
+          record {
+            output = o.0;
+            is_output = there;
+            named = named;
+            other = o.2.other;
+            other_named = other_in pair o.0 o.2.other named o.2.other_is;
+            x = shown.x;
+            constant = carried (λ m k n. AreBlockValues m k n over.n.blocks.now shown.x) shown.constant;
+            told = subst (λ (bs : List Bool). HaveBits a b own over.n.blocks.now vars bs shown.x) v.6 (subst (λ (vs : List ℕ). HaveBits a b own over.n.blocks.now vs v.0.1.bits shown.x) v.5 bits_told);
+            left_is = shown.left ∙ v.3;
+            right_is = shown.right ∙ v.4;
+            differ = λ q. shown.differ (v.3 ∙ (q ∙ sym v.4));
+          }
 
     pub pair_undecided : (proofs : List Proof) (pair : List ℕ) → made.verdict ≡ verdict.Limit pair → proofs ≡ proofs_of made → PairUndecided a b conflicts proofs made
     pair_undecided proofs pair e kept =

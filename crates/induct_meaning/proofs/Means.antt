@@ -98,7 +98,7 @@ module _ (conflicts : ℕ) (before now : Option (List ℕ)) (a b : NetView) (j :
         bits = v.bits;
         is_verdict = v.is;
         printed = subst (Takes before now) h.text_is taken;
-        shown = tell_apart a b h.is.own h.is.are_own conflicts h.made over v.pair v.left v.right v.vars v.bits v.is;
+        shown = tell_apart a b h.is.own h.is.are_own conflicts h.made over h.left_sound h.right_sound h.matches v.pair v.left v.right v.vars v.bits v.is;
       }
       go (inr split) = absurd (other (sym v.is ∙ split.verdict_is))
         where
