@@ -10,6 +10,7 @@ use Rattle.circuit_theory.specs.Interface.{first_mismatch}
 use Rattle.circuit_theory.specs.Joined.{Left, Right}
 use Rattle.circuit_theory.proofs.Lists.{Contains-head, Contains-tail, Contains-map, of_at}
 use Rattle.sec_base.specs.declared.basics.Orders.{Orders}
+use Rattle.sec_base.specs.declared.basics.Tag.{Tag}
 use Rattle.flat_net.specs.declared.parts.Port.{Port}
 use Rattle.flat_net.specs.Sound.{IsSound}
 use Rattle.flat_net.specs.View.{NetView, circuit_of, ports_of}
@@ -104,7 +105,7 @@ shown_verdict first count (Some other) shown pair left right vars bits e = absur
 shown_verdict first count None (Some x) pair left right vars bits e = (x, refl, cc, cc, cc, cc, cc)
 shown_verdict first count None None pair left right vars bits e = absurd (cc)
 
-no_split : (first count : ℕ) (limit : Option (List ℕ)) (shown : Option (List ℕ × Shown)) (v : InductVerdict) → verdict_of first count limit shown ≡ v → (left right : _) (proof : Proof) → v ≡ verdict.SplitLimit left right proof → ⊥
+no_split : (first count : ℕ) (limit : Option (List ℕ)) (shown : Option (List ℕ × Shown)) (v : InductVerdict) → verdict_of first count limit shown ≡ v → (left right : Tag) (proof : Proof) → v ≡ verdict.SplitLimit left right proof → ⊥
 no_split first count (Some other) shown v e left right proof is = cc
 no_split first count None (Some x) v e left right proof is = cc
 no_split first count None None v e left right proof is = cc
@@ -222,7 +223,7 @@ module _ (a b : NetView) (own : Orders) (are_own : AreOwnNumbers a b own) (confl
           undecided = subst (IsAnswer over.n over.g conflicts (Left o.0.signal.0) (Right o.2.other)) f.1.answered o.2.answer_is;
         }
 
-    pub is_no_split : (left right : _) (proof : Proof) → made.verdict ≡ verdict.SplitLimit left right proof → ⊥
+    pub is_no_split : (left right : Tag) (proof : Proof) → made.verdict ≡ verdict.SplitLimit left right proof → ⊥
     is_no_split left right proof is = no_split over.graph.first _ (first_limit over.outputs) (first_shown over.outputs) made.verdict (sym over.verdict_is) left right proof is
 
   pub split_undecided : IsSplitLimitOf a b own conflicts made → (proofs : List Proof) → proofs ≡ proofs_of made → SplitUndecided a b conflicts proofs

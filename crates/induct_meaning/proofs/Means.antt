@@ -2,6 +2,7 @@
 use Rattle.std.specs.Prelude.{IfSome}
 use Rattle.std.proofs.Common.{◌≡◌, ℕ, Bool, List, refl, sym, ap, subst, ◌∙◌, inl, inr, ◌⊎◌, Option, Some, None}
 use Rattle.sec_base.specs.Outside.{Takes}
+use Rattle.sec_base.specs.declared.basics.Tag.{Tag}
 use Rattle.flat_net.specs.View.{NetView}
 use Rattle.pair_decide.specs.declared.query.Proof.{Proof}
 use Rattle.sec_files.specs.Loading.{Loads, circuit_of_text}
@@ -102,7 +103,7 @@ module _ (conflicts : ℕ) (before now : Option (List ℕ)) (a b : NetView) (j :
       }
       go (inr split) = absurd (other (sym v.is ∙ split.verdict_is))
         where
-          other : {left right : _} {proof : Proof} → verdict.NotShown v.pair v.left v.right v.vars v.bits ≡ verdict.SplitLimit left right proof → ⊥
+          other : {l r : Tag} {proof : Proof} → verdict.NotShown v.pair v.left v.right v.vars v.bits ≡ verdict.SplitLimit l r proof → ⊥
           other q = cc
 
   undecided : judgement_status j ≡ status.Limit → BlocksUndecided x y conflicts proofs before now

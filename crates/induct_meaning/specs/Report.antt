@@ -35,7 +35,7 @@ block_line a b block = codes "block" ++ flat_map (member_text a b) block ++ 10 �
 abbrev pub pair_line : InductPair → List ℕ
 pair_line p = codes "pair " ++ p.name ++ 32 ∷ [] ++ answer_word p.answer ++ 10 ∷ []
 
--- the lines of blocks and outputs
+-- how many blocks there are, and the line of each
 abbrev pub blocks_text : NetView → NetView → List (List Tag) → List ℕ
 blocks_text a b blocks = codes "blocks " ++ decimal (length blocks) ++ 10 ∷ [] ++ flat_map (block_line a b) blocks
 
