@@ -1,11 +1,10 @@
 -- Equal outputs over the blocks agree in every cycle.
-use Rattle.std.proofs.Common.{◌≡◌, ◌∙◌, ℕ, List, length, map, sym, ap, subst}
+use Rattle.std.proofs.Common.{◌≡◌, ◌∙◌, ℕ, List, length, map, sym, subst}
 use Rattle.circuit_theory.specs.Circuit.{Named}
 use Rattle.circuit_theory.specs.Interface.{AreNumbersOf}
 use Rattle.circuit_theory.proofs.Lists.{length-map, map-map}
 use Rattle.circuit_theory.proofs.Numbers.{numbers_are}
 use Rattle.induct_laws.proofs.Runs.{equal_over_blocks_agree}
-use Rattle.flat_net.specs.declared.parts.Port.{Port}
 use Rattle.flat_net.specs.View.{NetView, named, circuit_of, ports_of}
 use Rattle.latch_blocks.specs.Partitions.{block_of}
 use Rattle.block_refine.specs.Laws.{OutputsAgree}

@@ -16,8 +16,6 @@ use Rattle.block_refine.specs.Refining.{AreCoarsest, IsSplitLimit}
 use Rattle.block_outputs.specs.declared.outputs.OutputPair.{OutputPair}
 use Rattle.block_outputs.specs.Answers.{IsOutputAnswer}
 use Rattle.induct.specs.declared.induction.Induction.{Induction}
-use Rattle.induct.specs.declared.induction.InductPair.{InductPair}
-use Rattle.induct.specs.declared.induction.InductVerdict.{InductVerdict}
 use Rattle.induct.specs.declared.induction.InductVerdict.TheVariants as verdict
 use Rattle.induct.specs.Inductions.{AreOwnNumbers, tag_at, AreMembers, pair_told, first_limit, first_shown, verdict_of, TellsInside, IsOver, IsSplitLimitOf}
 use Rattle.induct.proofs.OverBlocks.{all_equal, equal_agree}

@@ -1,21 +1,20 @@
 -- An output is reached from shared inputs alone: an input that is left out is read by nothing.
-use Rattle.std.proofs.Common.{◌≡◌, ◌∙◌, ◌⊎◌, ℕ, ◌+◌, ◌<◌, Bool, true, false, not, ◌&&◌, ◌||◌, ◌==◌, List, [], length, map, slice_get, Option, Some, None, refl, sym, ap, subst, arith, inl, inr}
+use Rattle.std.proofs.Common.{◌≡◌, ◌∙◌, ◌⊎◌, ℕ, Bool, true, false, not, ◌&&◌, ◌||◌, ◌==◌, List, [], map, refl, sym, ap, subst, inl, inr}
 use Rattle.std.specs.List.{Contains, filter, list_any}
 use Rattle.std.proofs.lemmas.Bool.Decides.{Decides-eqb}
 use Rattle.std.proofs.lemmas.List.Folds.{list_any_at}
-use Rattle.std.proofs.lemmas.Option.{slice_get_within, same_Some}
 use Rattle.circuit_theory.specs.Circuit.{Equation, Gate as gate_equation, Latch as latch_equation, Port as port_equation, Reads, Reaches}
-use Rattle.circuit_theory.specs.Interface.{Ports, is_clock, inputs_beside, shared_inputs, first_mismatch, AreNumbersOf}
+use Rattle.circuit_theory.specs.Interface.{is_clock, inputs_beside}
 use Rattle.circuit_theory.specs.Names.{is_among}
-use Rattle.circuit_theory.proofs.Lists.{Contains-map, Contains-map_from, at_of, of_at}
-use Rattle.circuit_theory.proofs.Numbers.{is_among-complete, slice_get-map}
+use Rattle.circuit_theory.proofs.Lists.{Contains-map, Contains-map_from, of_at}
+use Rattle.circuit_theory.proofs.Numbers.{is_among-complete}
 use Rattle.flat_net.specs.declared.signals.Signal.{Signal}
 use Rattle.flat_net.specs.declared.parts.Port.{Port}
 use Rattle.flat_net.specs.declared.parts.Gate.{Gate}
 use Rattle.flat_net.specs.declared.parts.LatchAt.{LatchAt}
 use Rattle.flat_net.specs.View.{NetView, is_read, cover_of, circuit_of, ports_of}
 use Rattle.flat_net.proofs.Nets.{OfGate, OfLatch, equation_from}
-use Rattle.interface.proofs.Shared.{AreMatched, are_matched, Contains-filter_in}
+use Rattle.interface.proofs.Shared.{Contains-filter_in}
 
 or_left : (x y : Bool) → x ≡ true → (x || y) ≡ true
 or_left true y e = refl

@@ -1,6 +1,5 @@
 -- The outputs over the blocks.
-use Rattle.std.proofs.Common.{◌≡◌, ◌∙◌, ◌+◌, ◌<◌, ◌^◌, ℕ, List, length, refl, sym, ap, subst, arith}
-use Rattle.latch_blocks.specs.Blocks.{AreInOrder}
+use Rattle.std.proofs.Common.{◌∙◌, length, sym, ap, subst, arith}
 use Rattle.induct.specs.Inductions.{AreMembers}
 use Rattle.induct.proofs.Inducing.{over_told, told_agree}
 use Rattle.induct.proofs.OverBlocks.{latches_few, ready_from, all_small}

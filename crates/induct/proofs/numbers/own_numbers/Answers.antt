@@ -1,5 +1,5 @@
 -- Small numbers of the inputs of both nets.
-use Rattle.std.proofs.Common.{◌∙◌, ◌+◌, ℕ, List, length, ap, subst, refl, arith}
+use Rattle.std.proofs.Common.{◌+◌, ℕ, List, length, ap, subst, arith}
 use Rattle.sec_base.specs.declared.basics.Orders.{Orders}
 use Rattle.induct.specs.Inductions.{AreLowered}
 use Rattle.induct.proofs.OwnNumbers.{inputs_few, orders_long, own_are}
