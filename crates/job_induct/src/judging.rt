@@ -177,11 +177,13 @@ pub(crate) fn judged_end(judged: Result<Judged, JudgeError>) -> Result<Finding, 
     ensures { result ≡ judged_end judged }
 {
     match judged {
-        Ok(Judged {
-            judgement,
-            proofs,
-            text,
-        }) => Ok(Finding::Judged(judgement, proofs, text)),
+        Ok(
+            Judged {
+                judgement,
+                proofs,
+                text,
+            },
+        ) => Ok(Finding::Judged(judgement, proofs, text)),
         Err(JudgeError::Interface(name)) => Ok(Finding::Refused(Refusal::Interface(name))),
         Err(JudgeError::TooLarge(side)) => Ok(Finding::Refused(Refusal::TooLarge(side))),
         Err(JudgeError::NoMemory) => Err(Stop::NoMemory),

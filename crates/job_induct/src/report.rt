@@ -4,7 +4,9 @@ ghost use Rattle.std.specs.Prelude.{◌≡◌, ◌++◌, IfOk, OnOk};
 ghost use Rattle.std.specs.List.{flat_map};
 ghost use Rattle.induct_meaning.specs.Report.{block_line, blocks_text, listed_text, pair_line, verdict_text, induct_text};
 
-use crate::text::{put_bits, put_block, put_block_count, put_counts, put_limit, put_pair, put_values};
+use crate::text::{
+    put_bits, put_block, put_block_count, put_counts, put_limit, put_pair, put_values,
+};
 use flat_net::Net;
 use induct::{Block, Blocks, InductPair, InductVerdict, Induction};
 use interface::inputs_beside;

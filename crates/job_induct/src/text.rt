@@ -71,12 +71,7 @@ fn put_members(text: &mut Vec<u8>, a: &Net, b: &Net, block: &[Tag]) -> Result<()
 }
 
 /// Puts the line of a block.
-pub(crate) fn put_block(
-    text: &mut Vec<u8>,
-    a: &Net,
-    b: &Net,
-    block: &[Tag],
-) -> Result<(), NoMemory>
+pub(crate) fn put_block(text: &mut Vec<u8>, a: &Net, b: &Net, block: &[Tag]) -> Result<(), NoMemory>
     ensures { OnOk result (text.new.items ≡ text.old.items ++ block_line a.now b.now block.now) }
 {
     put(text, b"block")?;
