@@ -177,13 +177,14 @@ pub(crate) fn judged_end(judged: Result<Judged, JudgeError>) -> Result<Finding, 
     ensures { result ≡ judged_end judged }
 {
     match judged {
-        Ok(
-            Judged {
+        Ok(judged) => {
+            let Judged {
                 judgement,
                 proofs,
                 text,
-            },
-        ) => Ok(Finding::Judged(judgement, proofs, text)),
+            } = judged;
+            Ok(Finding::Judged(judgement, proofs, text))
+        }
         Err(JudgeError::Interface(name)) => Ok(Finding::Refused(Refusal::Interface(name))),
         Err(JudgeError::TooLarge(side)) => Ok(Finding::Refused(Refusal::TooLarge(side))),
         Err(JudgeError::NoMemory) => Err(Stop::NoMemory),
