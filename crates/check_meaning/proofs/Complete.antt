@@ -101,6 +101,7 @@ module _ (held : Held) (check : Check) (told : AreTold held check) where
   has_verdict (finding.Generated o report) h = absurd h
   has_verdict (finding.Replayed differences) h = absurd h
   has_verdict (finding.Unrefuted u) h = absurd h
+  has_verdict (finding.Judged j kept text) h = absurd h
   has_verdict (finding.Undecided side name proof) h = absurd h
   has_verdict (finding.Checked o s) h = go o.verdict
     where

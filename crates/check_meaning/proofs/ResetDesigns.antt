@@ -1,15 +1,15 @@
--- What is said of runs of flat nets from their initial values is said of such runs of the circuits that they come from.
-use Rattle.std.proofs.Common.{◌≡◌, ◌∙◌, ℕ, ◌<◌, Bool, List, [], ◌∷◌, map, length, zero, suc, refl, sym, ap, subst, arith, Some, None, slice_get}
+-- What a sequence and power-ups show of flat nets they show of the circuits that the nets come from.
+use Rattle.std.proofs.Common.{◌≡◌, ◌∙◌, ℕ, ◌<◌, Bool, List, [], ◌∷◌, map, length, zero, suc, refl, sym, ap, subst, Some, None, slice_get}
 use Rattle.std.specs.List.{Contains, filter_map}
-use Rattle.circuit_theory.specs.Agree.{IsPair}
 use Rattle.circuit_theory.specs.Circuit.{Circuit, Equation, Gate, Latch, Port, Started}
 use Rattle.circuit_theory.specs.Cone.{latch_place, latches_of}
 use Rattle.circuit_theory.specs.Joined.{moved, moved_start}
 use Rattle.circuit_theory.specs.Run.{IsRun, IsResetRun}
 use Rattle.circuit_theory.proofs.Lists.{Contains-head, Contains-tail, Contains-map, Contains-map_from, length-map}
-use Rattle.design_laws.proofs.FlatParts.{FlatDesign, along, latch_stays, input_up, output_down, output_up, run_down}
+use Rattle.design_laws.proofs.FlatParts.{FlatDesign, latch_stays, input_up, output_up, run_down}
 use Rattle.net_alike.specs.Renumbered.{latch_rows}
-use Rattle.reset_laws.specs.Reset.{AreAlikeFromReset, AgreeFromReset, TakesPower}
+use Rattle.reset_laws.specs.Reset.{TakesPower}
+use Rattle.text_circuits.proofs.Resets.{output_value, nets_alike, outputs_equal}
 use Rattle.witness_report.specs.declared.stimulus.Stimulus.{Stimulus}
 use Rattle.witness_report.specs.Shown.{Obeys}
 use Rattle.outcome.specs.declared.verdict.ResetWitness.{ResetWitness}
@@ -63,15 +63,6 @@ module _ {P : Type 0} {d : Circuit P} {net : Circuit ℕ} {clocked : P → Type 
   pub net_latches_long : length (latches_of net) ≡ length (latches_of d)
   net_latches_long = ap length net_latches ∙ length-map f.signal (latches_of d)
 
-  -- a run of the design from its initial values is one of the net
-  pub reset_down : (n : ℕ) (run : ℕ → P → Bool) → IsResetRun d n run → IsResetRun net n (λ t s. run t (f.origin s))
-  reset_down n run is = record {
-    is_run = run_down f n run is.is_run;
-    starts = λ u bit h.
-        is.starts (f.origin u) bit
-        (subst (λ (ss : List (Started P)). Contains ss (record { place = f.origin u; bit = bit })) f.circuit.started (Contains-map (moved_start f.origin) net.starts (record { place = u; bit = bit }) h));
-  }
-
   -- a run of the design that powers up so is a run of the net that does
   pub power_down : (power : List Bool) (run : ℕ → P → Bool) → TakesPower d power run → TakesPower net power (λ t s. run t (f.origin s))
   power_down power run takes j u at =
@@ -94,42 +85,16 @@ module _ {P : Type 0} {d : Circuit P} {net : Circuit ℕ} {clocked : P → Type 
   obeys_down : (stimulus : Stimulus) (n : ℕ) (run : ℕ → P → Bool) → Obeys d stimulus n run → Obeys net stimulus n (λ t s. run t (f.origin s))
   obeys_down stimulus n run obeys t i row name bit s h row_is bit_is name_is input = obeys t i row name bit (f.origin s) h row_is bit_is name_is (input_up f name s input)
 
-  -- an output has the value of its signal
-  output_value : (n : ℕ) (run : ℕ → P → Bool) → IsRun d n run → (name : List ℕ) (p : P) → Contains d.outputs (record { name = name; place = p }) → (t : ℕ) → t < n → run t p ≡ run t (f.origin (f.signal p))
-  output_value n run is name p h t low = along d (run t) (is.meets t low) (f.circuit.shown name p h).follows
-
   -- one side of what a sequence and a power-up show
   pub side_shown : (stimulus : Stimulus) (power : List Bool) (cycle : ℕ) (name : List ℕ) (p : P) (s : ℕ) (bit : Bool) → Contains d.outputs (record { name = name; place = p }) → f.signal p ≡ s →
       ((n : ℕ) (run : ℕ → ℕ → Bool) → cycle < n → IsRun net n run → TakesPower net power run → Obeys net stimulus n run → run cycle s ≡ bit) →
       (n : ℕ) (run : ℕ → P → Bool) → cycle < n → IsRun d n run → TakesPower d power run → Obeys d stimulus n run → run cycle p ≡ bit
   side_shown stimulus power cycle name p s bit output signal shows n run low is takes obeys =
-      output_value n run is name p output cycle low
+      output_value f n run is name p output cycle low
       ∙ (ap (λ (k : ℕ). run cycle (f.origin k)) signal
       ∙ shows n (λ t k. run t (f.origin k)) low (run_down f n run is) (power_down power run takes) (obeys_down stimulus n run obeys))
 
 module _ {P Q : Type 0} {a : Circuit P} {b : Circuit Q} {na nb : Circuit ℕ} {clocked_a : P → Type 0} {clocked_b : Q → Type 0} (f : FlatDesign a na clocked_a) (g : FlatDesign b nb clocked_b) where
-  -- two such runs of the designs with equal inputs are two of the nets
-  nets_alike : (n : ℕ) (left : ℕ → P → Bool) (right : ℕ → Q → Bool) → AreAlikeFromReset a b n left right → AreAlikeFromReset na nb n (λ t s. left t (f.origin s)) (λ t s. right t (g.origin s))
-  nets_alike n left right alike = record {
-    left_run = reset_down f n left alike.left_run;
-    right_run = reset_down g n right alike.right_run;
-    equal_inputs = λ name i j h k t low. alike.equal_inputs name (f.origin i) (g.origin j) (input_up f name i h) (input_up g name j k) t low;
-  }
-
-  -- outputs are equal where their signals are
-  outputs_equal : (n : ℕ) (left : ℕ → P → Bool) (right : ℕ → Q → Bool) → AreAlikeFromReset a b n left right → (name : List ℕ) (p : P) (q : Q) →
-      Contains a.outputs (record { name = name; place = p }) → Contains b.outputs (record { name = name; place = q }) → (t : ℕ) → t < n →
-      left t (f.origin (f.signal p)) ≡ right t (g.origin (g.signal q)) → left t p ≡ right t q
-  outputs_equal n left right alike name p q l r t low same =
-      output_value f n left alike.left_run.is_run name p l t low ∙ (same ∙ sym (output_value g n right alike.right_run.is_run name q r t low))
-
-  -- designs agree where their nets do
-  pub resets_agree_up : AgreeFromReset na nb → AgreeFromReset a b
-  resets_agree_up agree n left right alike t p q low (IsPair.nexts h l r) = absurd (omega (arith, h.1))
-  resets_agree_up agree n left right alike t p q low (IsPair.outputs {name = name} l r) =
-      outputs_equal n left right alike name p q l r t low
-      (agree n (λ k s. left k (f.origin s)) (λ k s. right k (g.origin s)) (nets_alike n left right alike) t (f.signal p) (g.signal q) low (IsPair.outputs {name = name} (output_down f name p l) (output_down g name q r)))
-
   -- what a sequence and power-ups show of the nets they show of their designs
   pub resets_differ_up : (w : ResetWitness) → MakesResetsDiffer na nb w → MakesResetsDiffer a b w
   resets_differ_up w shows =
@@ -150,7 +115,7 @@ module _ {P Q : Type 0} {a : Circuit P} {b : Circuit Q} {na nb : Circuit ℕ} {c
         left_shows = side_shown f w.witness.stimulus w.left_power w.witness.cycle shows.name x.0 shows.left_place w.witness.left x.1 x.2 shows.left_shows;
         right_shows = side_shown g w.witness.stimulus w.right_power w.witness.cycle shows.name y.0 shows.right_place w.witness.right y.1 y.2 shows.right_shows;
         earlier = λ n left right alike t low before.
-            outputs_equal n left right alike shows.name x.0 y.0 x.1 y.1 t low
+            outputs_equal f g n left right alike shows.name x.0 y.0 x.1 y.1 t low
             (ap (λ (s : ℕ). left t (f.origin s)) x.2
-            ∙ (shows.earlier n (λ k s. left k (f.origin s)) (λ k s. right k (g.origin s)) (nets_alike n left right alike) t low before ∙ ap (λ (s : ℕ). right t (g.origin s)) (sym y.2)));
+            ∙ (shows.earlier n (λ k s. left k (f.origin s)) (λ k s. right k (g.origin s)) (nets_alike f g n left right alike) t low before ∙ ap (λ (s : ℕ). right t (g.origin s)) (sym y.2)));
       }

@@ -27,10 +27,11 @@ use Rattle.compare_base.specs.FromReset.{numbered_by, ResetVerdictFits}
 use Rattle.sec_files.specs.Loading.{Loads, circuit_of_text}
 use Rattle.sec_files.proofs.Texts.{spelled_circuit}
 use Rattle.text_circuits.proofs.Circuits.{text_design}
+use Rattle.text_circuits.proofs.Resets.{resets_agree_up}
 use Rattle.check_meaning.specs.Resets.{ResetsAgree, ResetsDiffer, ResetsUndecided}
 use Rattle.swept_queries.proofs.Listed.{zip_left}
 use Rattle.plain_meaning.proofs.Fitted.{kept_proof}
-use Rattle.check_meaning.proofs.ResetDesigns.{resets_agree_up, resets_differ_up}
+use Rattle.check_meaning.proofs.ResetDesigns.{resets_differ_up}
 
 -- a pair at the limit has a proof that its query in some cycle was given up
 record IsGivenUp (n : Numbered) (conflicts p q depth : ℕ) (proof : Option Proof) : Type 0 where

@@ -54,6 +54,7 @@ IsFoundOf held check (finding.Done report) = ⊥
 IsFoundOf held check (finding.Generated o report) = ⊥
 IsFoundOf held check (finding.Replayed differences) = ⊥
 IsFoundOf held check (finding.Unrefuted u) = ⊥
+IsFoundOf held check (finding.Judged j kept text) = ⊥
 IsFoundOf held check (finding.Undecided side name proof) = ⊥
 
 -- what is found of a comparison: what is true of its files, or, where it isn't built, that

@@ -15,8 +15,8 @@ use Rattle.clap.specs.ValueTests.{accepts}
 use Rattle.clap.specs.Walk.{Row, Rule, Text, Walk, answers_to, finished, first_of, nothing_held, rows_after, settled, walk, walk_from}
 use Rattle.clap.specs.Simple.{App, Shape, built, built_leaf, entered, help_shape, inherited, label_of, marked_built, names_of, rows_at, subcommand_of, with_leaf_noted}
 use Rattle.clap.specs.declared.builder.value_parser.ValueParser.{ValueParser}
-use Rattle.command_words.specs.Command.{sec_app, check_app, graph_app, sim_app, replay_app, gen_app, lrat_app, cert_app, most_conflicts, any_number}
-use Rattle.command_line.specs.Jobs.{cert_in, check_in, conflicts_in, form_in, gen_in, graph_in, job_of, lrat_in, mode_in, number_of, replay_in, sim_in, task_in}
+use Rattle.command_words.specs.Command.{sec_app, check_app, graph_app, sim_app, replay_app, gen_app, lrat_app, cert_app, induct_app, most_conflicts, any_number}
+use Rattle.command_line.specs.Jobs.{cert_in, check_in, conflicts_in, form_in, gen_in, graph_in, induct_in, job_of, lrat_in, mode_in, number_of, replay_in, sim_in, task_in}
 use Rattle.command_line.specs.Known.{HasFitMode, mode_fits}
 use Rattle.command_line.proofs.Taken.{else_first, else_next, EachRule, IsNotHelp, IsOwn, no_help_walk}
 use Rattle.command_line.proofs.Leaves.{IsRead, first_good, leaf_read, second_check}
@@ -79,6 +79,12 @@ cert_job rows a b pair n ea eb ep en passes form = by (form_in rows) refl form
     by : (f : Option Bool) → form_in rows ≡ f → is_some f ≡ true → is_some (cert_in rows) ≡ true
     by None e h = absurd (true≢false (sym h))
     by (Some f) e h = rw (ea, eb, ep, e, conflicts) refl
+
+induct_job : (rows : List Row) (a b n : Text) → first_of (codes "a") rows ≡ Some a → first_of (codes "b") rows ≡ Some b → first_of (codes "conflicts") rows ≡ Some n → value_kinds false most_conflicts n ≡ [] → is_some (induct_in rows) ≡ true
+induct_job rows a b n ea eb en passes = rw (ea, eb, conflicts) refl
+  where
+    conflicts : conflicts_in rows ≡ Some (digits_value 10 (without_leading_plus n))
+    conflicts = ap (option_and_then (number_of most_conflicts)) en ∙ number_known most_conflicts n passes
 
 -- the subcommands as they are built
 abbrev part : Shape → Shape
@@ -175,6 +181,19 @@ cert_is words e help known =
     let n = first_good c (codes "conflicts") _ rows refl read.good (read.defaulted (codes "conflicts") _ (codes "20000") [] refl refl) in
     cert_job rows a.0 b.0 p.0 n.0 a.1 b.1 p.1 n.1 n.2 known
 
+induct_own : EachRule (IsOwn (part induct_app.top).rules) (part induct_app.top).rules
+induct_own = ((refl, omega arith), ((refl, omega arith), ((refl, omega arith), ((refl, tt), tt))))
+
+induct_is : IsJob (part induct_app.top)
+induct_is words e help known =
+    let c : List Rule = (part induct_app.top).rules in
+    let rows : List Row = rows_after c [] words in
+    let read : IsRead (part induct_app.top) rows = leaf_read (part induct_app.top) induct_own refl words e in
+    let a = first_good c (codes "a") _ rows refl read.good (read.required (codes "a") _ refl refl) in
+    let b = first_good c (codes "b") _ rows refl read.good (read.required (codes "b") _ refl refl) in
+    let n = first_good c (codes "conflicts") _ rows refl read.good (read.defaulted (codes "conflicts") _ (codes "20000") [] refl refl) in
+    induct_job rows a.0 b.0 n.0 a.1 b.1 n.1 n.2
+
 help_is : IsJob (built_leaf help_shape)
 help_is words e help known = absurd (true≢false help)
 
@@ -210,10 +229,10 @@ find_passes test (x ∷ xs) s h = by (test x) refl (λ later. find_passes test x
     by false e rest = rest (sym (ap (λ b. cond b (Some x) (find test xs)) e) ∙ h)
 
 subs_jobs : EachShape IsJob (built sec_app).subs
-subs_jobs = (check_is, (graph_is, (sim_is, (replay_is, (gen_is, (lrat_is, (cert_is, (help_is, tt))))))))
+subs_jobs = (check_is, (graph_is, (sim_is, (replay_is, (gen_is, (lrat_is, (cert_is, (induct_is, (help_is, tt)))))))))
 
 subs_named : EachShape IsNamed (built sec_app).subs
-subs_named = (named_alone (part check_app.top) refl, (named_alone (part graph_app.top) refl, (named_alone (part sim_app.top) refl, (named_alone (part replay_app.top) refl, (named_alone (part gen_app.top) refl, (named_alone (part lrat_app.top) refl, (named_alone (part cert_app.top) refl, (named_alone (built_leaf help_shape) refl, tt))))))))
+subs_named = (named_alone (part check_app.top) refl, (named_alone (part graph_app.top) refl, (named_alone (part sim_app.top) refl, (named_alone (part replay_app.top) refl, (named_alone (part gen_app.top) refl, (named_alone (part lrat_app.top) refl, (named_alone (part cert_app.top) refl, (named_alone (part induct_app.top) refl, (named_alone (built_leaf help_shape) refl, tt)))))))))
 
 -- the subcommand at which the walk stopped
 stopped_job : (stop : Option (Text × List Text)) → IsNotHelp stop → entered_fault (built sec_app) stop ≡ [] → is_some (entered (built sec_app) stop) ≡ true → IfSome (entered (built sec_app) stop) (λ met. mode_fits met.0 met.1 ≡ true)

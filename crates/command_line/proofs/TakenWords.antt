@@ -1,7 +1,7 @@
 -- Words that are written out, computed.
 use Rattle.std.proofs.Common.{refl}
 use Rattle.clap.proofs.OnLiterals.{clap_on_literals}
-use Rattle.command_line.specs.Known.{CheckIsTaken, GraphIsTaken, SimIsTaken, ReplayIsTaken, GenIsTaken, LratIsTaken, CertIsTaken, ResetIsTaken, OtherModeIsNoJob, OtherFormIsNoJob, ResetIsNoJob}
+use Rattle.command_line.specs.Known.{CheckIsTaken, GraphIsTaken, SimIsTaken, ReplayIsTaken, GenIsTaken, LratIsTaken, CertIsTaken, InductIsTaken, ResetIsTaken, OtherModeIsNoJob, OtherFormIsNoJob, ResetIsNoJob}
 
 pub check_is_taken : CheckIsTaken
 unfolding clap_on_literals
@@ -30,6 +30,10 @@ lrat_is_taken = (refl, refl)
 pub cert_is_taken : CertIsTaken
 unfolding clap_on_literals
 cert_is_taken = (refl, refl)
+
+pub induct_is_taken : InductIsTaken
+unfolding clap_on_literals
+induct_is_taken = (refl, refl)
 
 pub reset_is_taken : ResetIsTaken
 unfolding clap_on_literals

@@ -80,6 +80,9 @@ cert_in rows =
     with_word (codes "a") rows (λ a. with_word (codes "b") rows (λ b. with_word (codes "pair") rows (λ pair.
     option_and_then (λ lrat. option_map (λ conflicts. task.Cert a b pair lrat conflicts) (conflicts_in rows)) (form_in rows))))
 
+abbrev pub induct_in : List Row → Option Task
+induct_in rows = with_word (codes "a") rows (λ a. with_word (codes "b") rows (λ b. option_map (λ conflicts. task.Induct a b conflicts) (conflicts_in rows)))
+
 -- the task of a subcommand's matches
 abbrev pub task_in : Text → List Row → Option Task
 task_in name rows =
@@ -90,6 +93,7 @@ task_in name rows =
     else if bytes_eq name (codes "gen") then gen_in rows
     else if bytes_eq name (codes "lrat") then lrat_in rows
     else if bytes_eq name (codes "cert") then cert_in rows
+    else if bytes_eq name (codes "induct") then induct_in rows
     else None
 
 -- The job of the words: where `clap`'s own definition for the command takes them, the mode or the form is known, and nothing refuses

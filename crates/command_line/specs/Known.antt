@@ -6,10 +6,10 @@ use Rattle.command_words.specs.Command.{sec_app}
 use Rattle.command_line.specs.Jobs.{job_of, mode_in, form_in}
 use Rattle.command_line.specs.declared.task.Task.TheVariants as task
 
--- The mode among the subcommand's matches is one of the two, and `--reset` may stand beside it; `gen` and `lrat` have none, and `cert` has
--- a form in its place.
+-- The mode among the subcommand's matches is one of the two, and `--reset` may stand beside it; `gen`, `lrat` and `induct` have none, and
+-- `cert` has a form in its place.
 abbrev pub mode_fits : Text → List Row → Bool
-mode_fits name rows = bytes_eq name (codes "gen") || (bytes_eq name (codes "lrat") || (if bytes_eq name (codes "cert") then is_some (form_in rows) else is_some (mode_in rows)))
+mode_fits name rows = bytes_eq name (codes "gen") || (bytes_eq name (codes "lrat") || (bytes_eq name (codes "induct") || (if bytes_eq name (codes "cert") then is_some (form_in rows) else is_some (mode_in rows))))
 
 -- the mode of the subcommand that the words name is one of the two, and nothing refuses `--reset`
 abbrev pub HasFitMode : List Text → Type 0
@@ -44,6 +44,9 @@ LratIsTaken = AreTaken (codes "lrat" ∷ codes "f" ∷ codes "l" ∷ [])
 
 abbrev pub CertIsTaken : Type 0
 CertIsTaken = AreTaken (codes "cert" ∷ codes "a" ∷ codes "b" ∷ codes "y" ∷ codes "cnf" ∷ [])
+
+abbrev pub InductIsTaken : Type 0
+InductIsTaken = AreTaken (codes "induct" ∷ codes "a" ∷ codes "b" ∷ codes "--conflicts" ∷ codes "7" ∷ [])
 
 -- words with `--reset`, and what they ask for
 abbrev pub ResetIsTaken : Type 0

@@ -6,7 +6,7 @@ ghost use Rattle.clap.specs.Words.{fault_of, first_of, found_of, rows_of, subcom
 ghost use Rattle.clap.specs.ValueTests.{accepts};
 ghost use Rattle.clap.specs.declared.builder.value_parser.ValueParser.TheVariants as parser;
 ghost use Rattle.command_words.specs.Command.{sec_app};
-ghost use Rattle.command_line.specs.Jobs.{job_of, task_in, check_in, graph_in, sim_in, replay_in, gen_in, lrat_in, cert_in, form_of, form_in, mode_of, mode_in, refuses_reset, is_set, number_of, conflicts_in, settings_in};
+ghost use Rattle.command_line.specs.Jobs.{job_of, task_in, check_in, graph_in, sim_in, replay_in, gen_in, lrat_in, cert_in, induct_in, form_of, form_in, mode_of, mode_in, refuses_reset, is_set, number_of, conflicts_in, settings_in};
 
 use crate::task::Task;
 use circuit_theory::Mode;
@@ -302,6 +302,25 @@ fn cert_in(alloc: Global, matches: &ArgMatches<'_>) -> Result<Option<Task>, NoMe
     }))
 }
 
+fn induct_in(alloc: Global, matches: &ArgMatches<'_>) -> Result<Option<Task>, NoMemory>
+    ensures { IfOk result (λ task. task ≡ induct_in (rows_of (found_of matches.now))) }
+{
+    let Some(a) = word(matches, "a") else {
+        return Ok(None);
+    };
+    let Some(b) = word(matches, "b") else {
+        return Ok(None);
+    };
+    let Some(conflicts) = conflicts_in(matches) else {
+        return Ok(None);
+    };
+    Ok(Some(Task::Induct {
+        a: FilePath::from_str(alloc, a)?,
+        b: FilePath::from_str(alloc, b)?,
+        conflicts,
+    }))
+}
+
 /// The task of a subcommand's matches.
 fn task_in(alloc: Global, name: &str, matches: &ArgMatches<'_>) -> Result<Option<Task>, NoMemory>
     ensures { IfOk result (λ task. task ≡ task_in name.now (rows_of (found_of matches.now))) }
@@ -320,6 +339,8 @@ fn task_in(alloc: Global, name: &str, matches: &ArgMatches<'_>) -> Result<Option
         lrat_in(alloc, matches)
     } else if name == "cert" {
         cert_in(alloc, matches)
+    } else if name == "induct" {
+        induct_in(alloc, matches)
     } else {
         Ok(None)
     }

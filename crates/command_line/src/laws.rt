@@ -1,10 +1,10 @@
 //! What follows for the words. The functions do nothing: each contract is a law.
 
-ghost use Rattle.command_line.specs.Known.{TakenWordsAreJob, CheckIsTaken, GraphIsTaken, SimIsTaken, ReplayIsTaken, GenIsTaken, LratIsTaken, CertIsTaken, ResetIsTaken, OtherModeIsNoJob, OtherFormIsNoJob, ResetIsNoJob};
+ghost use Rattle.command_line.specs.Known.{TakenWordsAreJob, CheckIsTaken, GraphIsTaken, SimIsTaken, ReplayIsTaken, GenIsTaken, LratIsTaken, CertIsTaken, InductIsTaken, ResetIsTaken, OtherModeIsNoJob, OtherFormIsNoJob, ResetIsNoJob};
 
 /// Words that `clap`'s definition for the command takes are a job wherever their mode is `plain` or `event` and `--reset` stands
-/// neither with `event` nor with `--expose`, or they name the subcommand `gen` or `lrat`, which have no mode, or `cert` with the form
-/// `cnf` or `lrat`. So `job` never refuses such words.
+/// neither with `event` nor with `--expose`, or they name the subcommand `gen`, `lrat` or `induct`, which have no mode, or `cert` with
+/// the form `cnf` or `lrat`. So `job` never refuses such words.
 pub fn taken_words_are_job()
     ensures { TakenWordsAreJob }
 {}
@@ -18,6 +18,7 @@ pub fn words_are_taken()
     ensures of_gen { GenIsTaken }
     ensures of_lrat { LratIsTaken }
     ensures of_cert { CertIsTaken }
+    ensures of_induct { InductIsTaken }
     ensures of_reset { ResetIsTaken }
 {}
 

@@ -52,4 +52,10 @@ pub enum Task {
         lrat: bool,
         conflicts: u32,
     },
+    /// Compare the circuits of two files from their initial values, by blocks of latches that are equal in every cycle.
+    Induct {
+        a: FilePath,
+        b: FilePath,
+        conflicts: u32,
+    },
 }

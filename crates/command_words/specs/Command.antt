@@ -62,6 +62,9 @@ lrat_app = with_rule (with_rule (new_app (codes "lrat")) (place (codes "f"))) (p
 abbrev pub cert_app : App
 cert_app = with_rule (with_rule (with_rule (with_rule (with_rule (new_app (codes "cert")) (place (codes "a"))) (place (codes "b"))) (place (codes "pair"))) (place (codes "form"))) conflicts
 
+abbrev pub induct_app : App
+induct_app = with_rule (with_rule (with_rule (new_app (codes "induct")) (place (codes "a"))) (place (codes "b"))) conflicts
+
 -- `sec` with one of its subcommands
 abbrev pub top_app : App
 top_app = record { top = record (new_shape (codes "sec")) { no_binary_name = true; subcommand_required = true }; subs = [] }
@@ -69,5 +72,7 @@ top_app = record { top = record (new_shape (codes "sec")) { no_binary_name = tru
 abbrev pub sec_app : App
 sec_app =
     with_subcommand
+    (with_subcommand
     (with_subcommand (with_subcommand (with_subcommand (with_subcommand (with_subcommand (with_subcommand top_app check_app.top) graph_app.top) sim_app.top) replay_app.top) gen_app.top) lrat_app.top)
-    cert_app.top
+    cert_app.top)
+    induct_app.top

@@ -3,7 +3,7 @@
 ghost use Rattle.std.specs.Prelude.{◌≡◌, false, IfOk};
 ghost use Rattle.clap.specs.Words.{Shape, rule_of, app_of, with_rule, with_subcommand};
 ghost use Rattle.clap.specs.declared.builder.command.Command.TheViews.{out-Command};
-ghost use Rattle.command_words.specs.Command.{place, option, option_with, flag, conflicts, number, check_app, graph_app, sim_app, replay_app, gen_app, lrat_app, cert_app, top_app, sec_app};
+ghost use Rattle.command_words.specs.Command.{place, option, option_with, flag, conflicts, number, check_app, graph_app, sim_app, replay_app, gen_app, lrat_app, cert_app, induct_app, top_app, sec_app};
 
 use clap::builder::ValueParser;
 use clap::{Arg, ArgAction, Command};
@@ -134,6 +134,16 @@ fn cert_command<'a>(alloc: Global) -> Result<Command<'a>, AllocError>
     with_arg(command, conflicts(alloc))
 }
 
+/// Two circuits that are compared from their initial values by blocks of latches.
+fn induct_command<'a>(alloc: Global) -> Result<Command<'a>, AllocError>
+    ensures { IfOk result (λ c. (app_of c ≡ induct_app) × ((out-Command c).has_globals ≡ false)) }
+{
+    let command = Command::new(alloc, "induct");
+    let command = with_arg(command, place(alloc, "a"))?;
+    let command = with_arg(command, place(alloc, "b"))?;
+    with_arg(command, conflicts(alloc))
+}
+
 fn top_command<'a>(alloc: Global) -> Command<'a>
     ensures app { app_of result ≡ top_app }
 {
@@ -163,5 +173,6 @@ pub fn sec_command<'a>(alloc: Global) -> Result<Command<'a>, AllocError>
     let command = with_command(command, replay_command(alloc))?;
     let command = with_command(command, gen_command(alloc))?;
     let command = with_command(command, lrat_command(alloc))?;
-    with_command(command, cert_command(alloc))
+    let command = with_command(command, cert_command(alloc))?;
+    with_command(command, induct_command(alloc))
 }

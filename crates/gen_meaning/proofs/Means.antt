@@ -203,6 +203,7 @@ gen_means g before now (finding.Done report) proofs name h w = absurd h
 gen_means g before now (finding.Generated o report) proofs name h w = means g o report h before now proofs name w
 gen_means g before now (finding.Replayed differences) proofs name h w = absurd h
 gen_means g before now (finding.Unrefuted u) proofs name h w = absurd h
+gen_means g before now (finding.Judged j kept text) proofs name h w = absurd h
 gen_means g before now (finding.Undecided side name' proof) proofs name h w = absurd h
 
 -- a pair is answered
@@ -216,6 +217,7 @@ gen_complete g (finding.Done report) h = absurd h
 gen_complete g (finding.Generated o report) h = answered g o report h o.verdict refl
 gen_complete g (finding.Replayed differences) h = absurd h
 gen_complete g (finding.Unrefuted u) h = absurd h
+gen_complete g (finding.Judged j kept text) h = absurd h
 gen_complete g (finding.Undecided side name proof) h = absurd h
 
 -- the work on a pair ends so whatever a read that failed would be

@@ -39,19 +39,19 @@ told_high first count v l = grind (arith, nat_tests)
 module _ (n : BlockNets) (g : BlockGraph) (is : IsBlockGraph n g) (sound_a : IsSound n.left.now) (sound_b : IsSound n.right.now) (own : AreOwnNumbers n.left.now n.right.now n.orders.now)
     (matches : first_mismatch (ports_of n.left.now) (ports_of n.right.now) ≡ None) (each : length n.blocks.now ≡ length n.left.now.latches + length n.right.now.latches) where
   -- how many inputs are shared
-  abbrev shared_count : ℕ
+  abbrev pub shared_count : ℕ
   shared_count = length (shared_inputs (ports_of n.left.now) (ports_of n.right.now))
 
   -- the number of a shared input
-  abbrev IsShared : ℕ → Type 0
+  abbrev pub IsShared : ℕ → Type 0
   IsShared k = (k < shared_count) × (k < is.first)
 
   -- the variable of a block
-  abbrev IsBlock : ℕ → Type 0
+  abbrev pub IsBlock : ℕ → Type 0
   IsBlock k = (j : ℕ) × (j < length n.blocks.now) × (k ≡ is.first + block_at n.blocks.now j)
 
   module _ (k : ℕ) where
-    left_leaf : (port : Port) → Contains n.left.now.outputs port → IsLeaf n.left.now g.left.variables port.signal.0 k → IsShared k ⊎ IsBlock k
+    pub left_leaf : (port : Port) → Contains n.left.now.outputs port → IsLeaf n.left.now g.left.variables port.signal.0 k → IsShared k ⊎ IsBlock k
     left_leaf port shown leaf = go (slice_get n.left.now.drivers leaf.0) refl leaf.2
       where
         go : (o : Option Driver) → slice_get n.left.now.drivers leaf.0 ≡ o → option_and_then (variable_of g.left.variables) o ≡ Some k → IsShared k ⊎ IsBlock k
@@ -70,7 +70,7 @@ module _ (n : BlockNets) (g : BlockGraph) (is : IsBlockGraph n g) (sound_a : IsS
             let under = All-at (λ (m : ℕ). m < is.first) n.orders.now.left i at.0 number is.variables.above_left in
             inl (omega (arith, same, below), omega (arith, same, under))
 
-    right_leaf : (port : Port) → Contains n.right.now.outputs port → IsLeaf n.right.now g.right.variables port.signal.0 k → IsShared k ⊎ IsBlock k
+    pub right_leaf : (port : Port) → Contains n.right.now.outputs port → IsLeaf n.right.now g.right.variables port.signal.0 k → IsShared k ⊎ IsBlock k
     right_leaf port shown leaf = go (slice_get n.right.now.drivers leaf.0) refl leaf.2
       where
         go : (o : Option Driver) → slice_get n.right.now.drivers leaf.0 ≡ o → option_and_then (variable_of g.right.variables) o ≡ Some k → IsShared k ⊎ IsBlock k

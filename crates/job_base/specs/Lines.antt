@@ -165,3 +165,4 @@ finding_text (finding.Generated outcome report) = report
 finding_text (finding.Replayed differences) = replay_text differences
 finding_text (finding.Undecided side name proof) = undecided_text side name
 finding_text (finding.Unrefuted u) = unrefuted_text u
+finding_text (finding.Judged j proofs report) = report

@@ -9,6 +9,8 @@ use Rattle.outcome.specs.declared.verdict.Verdict.{Verdict}
 use Rattle.outcome.specs.declared.verdict.Verdict.TheVariants as verdict
 use Rattle.job_base.specs.declared.finding.Finding.{Finding}
 use Rattle.job_base.specs.declared.finding.Finding.TheVariants as finding
+use Rattle.job_base.specs.declared.finding.Judgement.{Judgement}
+use Rattle.job_base.specs.declared.finding.Judgement.TheVariants as judgement
 use Rattle.job_base.specs.declared.finding.Unrefuted.{Unrefuted}
 use Rattle.job_base.specs.declared.finding.Unrefuted.TheVariants as unrefuted
 use Rattle.job_base.specs.declared.status.Status.{Status}
@@ -47,6 +49,12 @@ abbrev pub unrefuted_proofs : Unrefuted → List Proof
 unrefuted_proofs unrefuted.Satisfiable = []
 unrefuted_proofs (unrefuted.Limit conflicts proof) = proof ∷ []
 
+-- the status of what is said of two circuits by blocks of their latches
+abbrev pub judgement_status : Judgement → StatusName
+judgement_status judgement.Equal = status.Equal
+judgement_status judgement.NotShown = status.NotShown
+judgement_status judgement.Limit = status.Limit
+
 -- the status of a finding
 abbrev pub status_of : Finding → StatusName
 status_of finding.Words = status.Words
@@ -59,6 +67,7 @@ status_of (finding.Generated o report) = generated_status o.verdict
 status_of (finding.Replayed differences) = replay_status differences
 status_of (finding.Undecided side name proof) = status.Limit
 status_of (finding.Unrefuted u) = unrefuted_status u
+status_of (finding.Judged j proofs report) = judgement_status j
 
 -- the proofs of the queries that met the limit, in the order of the pairs
 abbrev pub proofs_of : Finding → List Proof
@@ -72,6 +81,7 @@ proofs_of (finding.Generated o report) = filter_map (λ (r : PairResult). r.proo
 proofs_of (finding.Replayed differences) = []
 proofs_of (finding.Undecided side name proof) = proof ∷ []
 proofs_of (finding.Unrefuted u) = unrefuted_proofs u
+proofs_of (finding.Judged j proofs report) = proofs
 
 -- The report of a finding is taken whole, with the finding's status; or a front of it at a write fault; or nothing at want of memory.
 abbrev pub IsWrittenAs : Option (List ℕ) → Option (List ℕ) → Finding → List Proof → StatusName → Type 0

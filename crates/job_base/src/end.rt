@@ -5,9 +5,9 @@ ghost use Rattle.std.specs.List.{filter_map};
 ghost use Rattle.sec_base.specs.Outside.{Rose};
 ghost use Rattle.outcome.specs.Report.{report_text};
 ghost use Rattle.job_base.specs.Lines.{finding_text, undecided_text, unrefuted_text, unsettled_text};
-ghost use Rattle.job_base.specs.Written.{status_of, generated_status, unrefuted_status, proofs_of, unrefuted_proofs, IsWritten};
+ghost use Rattle.job_base.specs.Written.{status_of, generated_status, unrefuted_status, judgement_status, proofs_of, unrefuted_proofs, IsWritten};
 
-use crate::finding::{Finding, Unrefuted};
+use crate::finding::{Finding, Judgement, Unrefuted};
 use crate::status::{Proofs, Status, StatusName};
 use crate::text::{
     cycle_report, refusal_report, satisfiable_report, undecided_text, unpaired_report,
@@ -63,6 +63,17 @@ fn unrefuted_status(unrefuted: &Unrefuted) -> StatusName
     }
 }
 
+/// The status of what is said of two circuits by blocks of their latches.
+fn judgement_status(judgement: Judgement) -> StatusName
+    ensures { result ≡ judgement_status judgement }
+{
+    match judgement {
+        Judgement::Equal => StatusName::Equal,
+        Judgement::NotShown => StatusName::NotShown,
+        Judgement::Limit => StatusName::Limit,
+    }
+}
+
 fn status_of(finding: &Finding) -> StatusName
     ensures { result ≡ status_of finding.now }
 {
@@ -76,6 +87,7 @@ fn status_of(finding: &Finding) -> StatusName
         Finding::Replayed(differences) => replay_status(differences),
         Finding::Undecided(_, _, _) => StatusName::Limit,
         Finding::Unrefuted(unrefuted) => unrefuted_status(unrefuted),
+        Finding::Judged(judgement, _, _) => judgement_status(*judgement),
     }
 }
 
@@ -191,6 +203,7 @@ fn report_of(alloc: Global, finding: Finding) -> Result<(Text, Proofs), NoMemory
         }
         Finding::Undecided(side, name, proof) => undecided_report(alloc, side, &name, proof),
         Finding::Unrefuted(unrefuted) => unrefuted_report(alloc, unrefuted),
+        Finding::Judged(_, proofs, text) => Ok((text, proofs)),
     }
 }
 

@@ -1,5 +1,6 @@
 //! What a run finds and reports.
 
+use crate::status::Proofs;
 use aiger_records::AigerKind;
 use blif_read::ReadKind;
 use elaborate::FlatError;
@@ -50,7 +51,7 @@ pub enum Refusal {
     /// The first name that one circuit has and the other lacks.
     Interface(Word),
     /// The unfoldings of the circuit's outputs weigh more than 2,000,000 together, where latches are cut open those of the cut
-    /// circuit's; or a latch is in its own cone, and that cone weighs more.
+    /// circuit's; or a latch is in its own cone, and that cone weighs more; or all inputs, latches and gates do, each once.
     TooLarge(Side),
     /// What doesn't fit the circuit.
     Misfit(Misfit),
@@ -65,6 +66,17 @@ pub enum Unrefuted {
     Satisfiable,
     /// The search met this limit of conflicts; the clauses, and its log.
     Limit(u32, Proof),
+}
+
+/// What is said of two circuits whose latches are put into blocks.
+#[derive(Clone, Copy, PartialEq, Eq)]
+pub enum Judgement {
+    /// Each output agrees for all values that are constant on the blocks.
+    Equal,
+    /// Some output differs for values that are constant on the blocks.
+    NotShown,
+    /// A query wasn't decided within the number of conflicts.
+    Limit,
 }
 
 /// What a report can be made of.
@@ -91,6 +103,8 @@ pub enum Finding {
     Undecided(Side, Word, Proof),
     /// The clauses of a pair of outputs aren't refuted.
     Unrefuted(Unrefuted),
+    /// What is said of two circuits by blocks of their latches, the proofs of the queries that met the limit, and the report.
+    Judged(Judgement, Proofs, Text),
 }
 
 /// Why the work on the files ends without a report.

@@ -7,5 +7,5 @@ mod status;
 mod text;
 
 pub use end::finish;
-pub use finding::{File, Finding, LineFault, Refusal, Stop, Unrefuted};
+pub use finding::{File, Finding, Judgement, LineFault, Refusal, Stop, Unrefuted};
 pub use status::{Proofs, Status, StatusName};

@@ -68,6 +68,7 @@ module _ (request : Request) (left right : Option (List ℕ)) (x y : List ℕ) (
   answered (finding.Generated o report) h = absurd h
   answered (finding.Replayed differences) h = absurd h
   answered (finding.Undecided side name proof) h = absurd h
+  answered (finding.Judged j kept text) h = absurd h
   answered (finding.Unrefuted u) h = go request.refuted u h.said.made
     where
       go : (t : Bool) (v : Unrefuted) → IsMadeBy t request.conflicts h.said.cnf (finding.Unrefuted v) → IsCertAnswer t (unrefuted_status v)

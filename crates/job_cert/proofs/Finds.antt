@@ -63,6 +63,10 @@ no_undecided : (side : _) (name : _) (proof : _) → NoCertificate (finding.Unde
 no_undecided side name proof true n cnf h = h
 no_undecided side name proof false n cnf h = h
 
+no_judged : (j : _) (kept : _) (text : _) → NoCertificate (finding.Judged j kept text)
+no_judged j kept text true n cnf h = h
+no_judged j kept text false n cnf h = h
+
 -- what is found of both nets
 module _ (request : Request) (left right : Option (List ℕ)) (failed : Type 0) (a b : NetView) (l : IfSome left (λ x. Loads x a)) (r : IfSome right (λ y. Loads y b)) where
   compare_found : (e : CompareError) → Compared a b plainly (Err e) → EndsBy (IsCertFound request left right) failed (compare_end e)
@@ -83,6 +87,7 @@ module _ (request : Request) (left right : Option (List ℕ)) (failed : Type 0) 
   certificate_found (finding.Generated o report) h = absurd (no_generated o report request.refuted request.conflicts h.cnf h.made)
   certificate_found (finding.Replayed differences) h = absurd (no_replayed differences request.refuted request.conflicts h.cnf h.made)
   certificate_found (finding.Undecided side name proof) h = absurd (no_undecided side name proof request.refuted request.conflicts h.cnf h.made)
+  certificate_found (finding.Judged j kept text) h = absurd (no_judged j kept text request.refuted request.conflicts h.cnf h.made)
   certificate_found (finding.Unrefuted u) h = record { a = a; b = b; left_loads = l; right_loads = r; said = h }
 
   made_found : (made : Result Finding CertError) → Made a b request made → EndsBy (IsCertFound request left right) failed (cert_end made)

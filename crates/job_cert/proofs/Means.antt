@@ -54,6 +54,7 @@ module _ (request : Request) (left right before now : Option (List ℕ)) where
   done_taken (finding.Generated o report) h e taken = absurd h
   done_taken (finding.Replayed differences) h e taken = absurd h
   done_taken (finding.Undecided side name proof) h e taken = absurd h
+  done_taken (finding.Judged j kept text) h e taken = absurd h
   done_taken (finding.Unrefuted unrefuted.Satisfiable) h e taken = absurd (cc)
   done_taken (finding.Unrefuted (unrefuted.Limit limit proof)) h e taken = absurd (cc)
 
@@ -67,6 +68,7 @@ module _ (request : Request) (left right before now : Option (List ℕ)) where
   met_taken (finding.Generated o report) proofs h e taken = absurd h
   met_taken (finding.Replayed differences) proofs h e taken = absurd h
   met_taken (finding.Undecided side name proof) proofs h e taken = absurd h
+  met_taken (finding.Judged j kept text) proofs h e taken = absurd h
   met_taken (finding.Unrefuted unrefuted.Satisfiable) proofs h e taken =
       let m = told_met h.a h.b request h.said.cnf request.refuted refl h.said.made in (
         m.0,
@@ -91,6 +93,7 @@ module _ (request : Request) (left right before now : Option (List ℕ)) where
   limit_taken (finding.Generated o report) proofs h w = absurd h
   limit_taken (finding.Replayed differences) proofs h w = absurd h
   limit_taken (finding.Undecided side name proof) proofs h w = absurd h
+  limit_taken (finding.Judged j kept text) proofs h w = absurd h
   limit_taken (finding.Unrefuted unrefuted.Satisfiable) proofs h w = absurd (let e = w.1 in cc)
   limit_taken (finding.Unrefuted (unrefuted.Limit limit proof)) proofs h w =
       let m = told_limit h.a h.b request h.said.cnf limit proof request.refuted refl h.said.made in (
@@ -121,6 +124,7 @@ module _ (request : Request) (left right before now : Option (List ℕ)) where
   no_other (finding.Generated o report) name h e refused cyclic done different limit = h
   no_other (finding.Replayed differences) name h e refused cyclic done different limit = h
   no_other (finding.Undecided side latch proof) name h e refused cyclic done different limit = h
+  no_other (finding.Judged j kept text) name h e refused cyclic done different limit = h
   no_other (finding.Unrefuted unrefuted.Satisfiable) name h e refused cyclic done different limit = different e
   no_other (finding.Unrefuted (unrefuted.Limit n proof)) name h e refused cyclic done different limit = limit e
 

@@ -82,6 +82,7 @@ module _ (mode : Mode) (circuit : Option (List ℕ)) (x : List ℕ) (is : circui
   graph_reported (finding.Generated o report) h = absurd h
   graph_reported (finding.Replayed differences) h = absurd h
   graph_reported (finding.Unrefuted u) h = absurd h
+  graph_reported (finding.Judged j kept text) h = absurd h
   graph_reported (finding.Undecided A name proof) h = limit_reported mode h.net name proof h.unknown
   graph_reported (finding.Undecided B name proof) h = absurd h
 
@@ -122,6 +123,7 @@ module _ (mode : Mode) (circuit stimulus power : Option (List ℕ)) (reset : Boo
   run_reported (finding.Generated o report) h = absurd h
   run_reported (finding.Replayed differences) h = absurd h
   run_reported (finding.Unrefuted u) h = absurd h
+  run_reported (finding.Judged j kept text) h = absurd h
   run_reported (finding.Undecided A name proof) h = limit_reported mode h.net name proof h.unknown
   run_reported (finding.Undecided B name proof) h = absurd h
 

@@ -24,6 +24,7 @@ graph_status mode circuit (finding.Done report) h = inl refl
 graph_status mode circuit (finding.Generated o report) h = absurd h
 graph_status mode circuit (finding.Replayed differences) h = absurd h
 graph_status mode circuit (finding.Unrefuted u) h = absurd h
+graph_status mode circuit (finding.Judged j kept text) h = absurd h
 graph_status mode circuit (finding.Undecided A name proof) h = inr (inr refl)
 graph_status mode circuit (finding.Undecided B name proof) h = absurd h
 
@@ -37,6 +38,7 @@ sim_status mode circuit stimulus power reset (finding.Done report) h = inl refl
 sim_status mode circuit stimulus power reset (finding.Generated o report) h = absurd h
 sim_status mode circuit stimulus power reset (finding.Replayed differences) h = absurd h
 sim_status mode circuit stimulus power reset (finding.Unrefuted u) h = absurd h
+sim_status mode circuit stimulus power reset (finding.Judged j kept text) h = absurd h
 sim_status mode circuit stimulus power reset (finding.Undecided A name proof) h = inr (inr refl)
 sim_status mode circuit stimulus power reset (finding.Undecided B name proof) h = absurd h
 
@@ -51,6 +53,7 @@ graph_limit mode circuit before now (finding.Done report) proofs h w = absurd (l
 graph_limit mode circuit before now (finding.Generated o report) proofs h w = absurd h
 graph_limit mode circuit before now (finding.Replayed differences) proofs h w = absurd h
 graph_limit mode circuit before now (finding.Unrefuted u) proofs h w = absurd h
+graph_limit mode circuit before now (finding.Judged j kept text) proofs h w = absurd h
 graph_limit mode circuit before now (finding.Undecided A name proof) proofs h w = record { name = name; proof = proof; kept = w.0; shown = h; printed = w.2 }
 graph_limit mode circuit before now (finding.Undecided B name proof) proofs h w = absurd h
 
@@ -65,6 +68,7 @@ run_limit mode circuit stimulus power reset before now (finding.Done report) pro
 run_limit mode circuit stimulus power reset before now (finding.Generated o report) proofs h w = absurd h
 run_limit mode circuit stimulus power reset before now (finding.Replayed differences) proofs h w = absurd h
 run_limit mode circuit stimulus power reset before now (finding.Unrefuted u) proofs h w = absurd h
+run_limit mode circuit stimulus power reset before now (finding.Judged j kept text) proofs h w = absurd h
 run_limit mode circuit stimulus power reset before now (finding.Undecided A name proof) proofs h w =
     record { name = name; proof = proof; kept = w.0; shown = record { net = h.net; loads = h.loads; unknown = h.unknown }; printed = w.2 }
 run_limit mode circuit stimulus power reset before now (finding.Undecided B name proof) proofs h w = absurd h
@@ -79,6 +83,7 @@ graph_taken mode circuit before now (finding.Done report) h e taken = (report, h
 graph_taken mode circuit before now (finding.Generated o report) h e taken = absurd h
 graph_taken mode circuit before now (finding.Replayed differences) h e taken = absurd h
 graph_taken mode circuit before now (finding.Unrefuted u) h e taken = absurd h
+graph_taken mode circuit before now (finding.Judged j kept text) h e taken = absurd h
 graph_taken mode circuit before now (finding.Undecided A name proof) h e taken = absurd (cc)
 graph_taken mode circuit before now (finding.Undecided B name proof) h e taken = absurd h
 
@@ -92,6 +97,7 @@ run_taken mode circuit stimulus power reset before now (finding.Done report) h e
 run_taken mode circuit stimulus power reset before now (finding.Generated o report) h e taken = absurd h
 run_taken mode circuit stimulus power reset before now (finding.Replayed differences) h e taken = absurd h
 run_taken mode circuit stimulus power reset before now (finding.Unrefuted u) h e taken = absurd h
+run_taken mode circuit stimulus power reset before now (finding.Judged j kept text) h e taken = absurd h
 run_taken mode circuit stimulus power reset before now (finding.Undecided A name proof) h e taken = absurd (cc)
 run_taken mode circuit stimulus power reset before now (finding.Undecided B name proof) h e taken = absurd h
 

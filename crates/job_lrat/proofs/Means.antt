@@ -38,6 +38,7 @@ lrat_status clauses proof (finding.Done report) h = inl refl
 lrat_status clauses proof (finding.Generated o report) h = absurd h
 lrat_status clauses proof (finding.Replayed differences) h = absurd h
 lrat_status clauses proof (finding.Unrefuted u) h = absurd h
+lrat_status clauses proof (finding.Judged j kept text) h = absurd h
 lrat_status clauses proof (finding.Undecided side name p) h = absurd h
 
 no_limit : (clauses proof before now : Option (List ℕ)) (f : Finding) (proofs : List Proof) → IsLratFound clauses proof f → IsWrittenAs before now f proofs status.Limit → ⊥
@@ -50,6 +51,7 @@ no_limit clauses proof before now (finding.Done report) proofs h w = let e = w.1
 no_limit clauses proof before now (finding.Generated o report) proofs h w = h
 no_limit clauses proof before now (finding.Replayed differences) proofs h w = h
 no_limit clauses proof before now (finding.Unrefuted u) proofs h w = h
+no_limit clauses proof before now (finding.Judged j kept text) proofs h w = h
 no_limit clauses proof before now (finding.Undecided side name p) proofs h w = h
 
 lrat_taken : (clauses proof before now : Option (List ℕ)) (f : Finding) → IsLratFound clauses proof f → status_of f ≡ status.Done → Takes before now (finding_text f) → TellsVerified clauses proof before now
@@ -62,6 +64,7 @@ lrat_taken clauses proof before now (finding.Done report) h e taken = (h.0, subs
 lrat_taken clauses proof before now (finding.Generated o report) h e taken = absurd h
 lrat_taken clauses proof before now (finding.Replayed differences) h e taken = absurd h
 lrat_taken clauses proof before now (finding.Unrefuted u) h e taken = absurd h
+lrat_taken clauses proof before now (finding.Judged j kept text) h e taken = absurd h
 lrat_taken clauses proof before now (finding.Undecided side name p) h e taken = absurd h
 
 -- what a written finding means
@@ -129,6 +132,7 @@ module _ (clauses proof : Option (List ℕ)) (x y : List ℕ) (is : clauses ≡ 
   done (finding.Generated o report) h = absurd h
   done (finding.Replayed differences) h = absurd h
   done (finding.Unrefuted u) h = absurd h
+  done (finding.Judged j kept text) h = absurd h
   done (finding.Undecided side name p) h = absurd h
 
 -- so what is found has the status of a refutation that is accepted

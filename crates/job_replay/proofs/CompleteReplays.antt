@@ -95,6 +95,7 @@ module _ (mode : Mode) (left right stimulus : Option (List ℕ)) (x y z : List �
   replayed (finding.Done report) h = absurd h
   replayed (finding.Generated o report) h = absurd h
   replayed (finding.Unrefuted u) h = absurd h
+  replayed (finding.Judged j kept text) h = absurd h
   replayed (finding.Undecided side name proof) h = limit_of mode h.a h.b side name proof h.said.1
   replayed (finding.Replayed []) h = tt
   replayed (finding.Replayed (d ∷ more)) h = tt

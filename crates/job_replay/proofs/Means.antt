@@ -25,6 +25,7 @@ module _ (mode : Mode) (left right stimulus before now : Option (List ℕ)) wher
   same_taken (finding.Done report) h e taken = absurd h
   same_taken (finding.Generated o report) h e taken = absurd h
   same_taken (finding.Unrefuted u) h e taken = absurd h
+  same_taken (finding.Judged j kept text) h e taken = absurd h
   same_taken (finding.Undecided side name proof) h e taken = absurd (cc)
   same_taken (finding.Replayed []) h e taken = (record { a = h.a; b = h.b; names = h.names; rows = h.rows; left_loads = h.left_loads; right_loads = h.right_loads; spells = h.spells; said = h.said }, taken)
   same_taken (finding.Replayed (d ∷ more)) h e taken = absurd (cc)
@@ -38,6 +39,7 @@ module _ (mode : Mode) (left right stimulus before now : Option (List ℕ)) wher
   differences_taken (finding.Done report) h e taken = absurd h
   differences_taken (finding.Generated o report) h e taken = absurd h
   differences_taken (finding.Unrefuted u) h e taken = absurd h
+  differences_taken (finding.Judged j kept text) h e taken = absurd h
   differences_taken (finding.Undecided side name proof) h e taken = absurd (cc)
   differences_taken (finding.Replayed []) h e taken = absurd (cc)
   differences_taken (finding.Replayed (d ∷ more)) h e taken = record {
@@ -56,6 +58,7 @@ module _ (mode : Mode) (left right stimulus before now : Option (List ℕ)) wher
   limit_taken proofs (finding.Done report) h w = absurd h
   limit_taken proofs (finding.Generated o report) h w = absurd h
   limit_taken proofs (finding.Unrefuted u) h w = absurd h
+  limit_taken proofs (finding.Judged j kept text) h w = absurd h
   limit_taken proofs (finding.Replayed []) h w = absurd (let e = w.1 in cc)
   limit_taken proofs (finding.Replayed (d ∷ more)) h w = absurd (let e = w.1 in cc)
   limit_taken proofs (finding.Undecided side name proof) h w = record {
@@ -77,6 +80,7 @@ module _ (mode : Mode) (left right stimulus before now : Option (List ℕ)) wher
   other_status (finding.Done report) name h e equal different refused limit = h
   other_status (finding.Generated o report) name h e equal different refused limit = h
   other_status (finding.Unrefuted u) name h e equal different refused limit = h
+  other_status (finding.Judged j kept text) name h e equal different refused limit = h
   other_status (finding.Undecided side latch proof) name h e equal different refused limit = limit e
   other_status (finding.Replayed []) name h e equal different refused limit = equal e
   other_status (finding.Replayed (d ∷ more)) name h e equal different refused limit = different e

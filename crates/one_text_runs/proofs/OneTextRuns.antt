@@ -81,6 +81,7 @@ module _ (held : Held) (check : Check) (h : CanMeetItself held check) (always : 
   found_equal (finding.Generated o report) found is = absurd found
   found_equal (finding.Replayed differences) found is = absurd found
   found_equal (finding.Unrefuted u) found is = absurd found
+  found_equal (finding.Judged j kept text) found is = absurd found
   found_equal (finding.Undecided side name proof) found is = absurd found
 
 -- what is found of a job
@@ -99,6 +100,7 @@ job_equal held (Some (task.Replay a b s mode)) f can found is = absurd can
 job_equal held (Some (task.Gen seed regroup conflicts)) f can found is = absurd can
 job_equal held (Some (task.Lrat a b)) f can found is = absurd can
 job_equal held (Some (task.Cert a b pair form conflicts)) f can found is = absurd can
+job_equal held (Some (task.Induct a b conflicts)) f can found is = absurd can
 
 -- a job over one text is one that is answered
 check_answered : (held : Held) (check : Check) (name : StatusName) (mode : Mode) (reset : Bool) → IsAlways mode reset (CanMeetItself held check) →
@@ -116,6 +118,7 @@ is_answered held (Some (task.Replay a b s mode)) name can complete = absurd can
 is_answered held (Some (task.Gen seed regroup conflicts)) name can complete = absurd can
 is_answered held (Some (task.Lrat a b)) name can complete = absurd can
 is_answered held (Some (task.Cert a b pair form conflicts)) name can complete = absurd can
+is_answered held (Some (task.Induct a b conflicts)) name can complete = absurd can
 
 -- the run ends equal, or at want of memory
 pub ends_equal : (held : Held) (before now : Option (List ℕ)) (job : Option Task) (proofs : List Proof) (name : StatusName) → EndsAs before now held job proofs name → OfCheck job (CanMeetItself held) → IsAnswer name → IsEqualAnswer name

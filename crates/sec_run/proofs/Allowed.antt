@@ -11,7 +11,7 @@ use Rattle.sec_base.specs.declared.settings.Settings.{Settings}
 use Rattle.command_line.specs.declared.task.Task.{Task}
 use Rattle.command_line.specs.declared.task.Task.TheVariants as task
 use Rattle.command_words.specs.Command.{sec_app, most_conflicts, any_number}
-use Rattle.command_line.specs.Jobs.{job_of, task_in, check_in, graph_in, sim_in, replay_in, gen_in, lrat_in, cert_in, form_in, settings_in, conflicts_in, mode_in, mode_of, refuses_reset, number_of, is_set, with_word}
+use Rattle.command_line.specs.Jobs.{job_of, task_in, check_in, graph_in, sim_in, replay_in, gen_in, lrat_in, cert_in, induct_in, form_in, settings_in, conflicts_in, mode_in, mode_of, refuses_reset, number_of, is_set, with_word}
 use Rattle.sec_run.specs.Job.{IsAllowed}
 
 some_is : {X : Type 0} {x y : X} → Some x ≡ Some y → x ≡ y
@@ -130,9 +130,19 @@ allowed_cert rows job e =
     let conflicts = map_some (task.Cert a.0 b.0 pair.0 refuted.0) (conflicts_in rows) job refuted.2 in
     subst IsAllowed conflicts.2 (few rows conflicts.0 conflicts.1)
 
--- the tasks of the subcommands behind the fifth, the fourth, the third, the second and the first
+allowed_induct : (rows : List Row) (job : Task) → induct_in rows ≡ Some job → IsAllowed job
+allowed_induct rows job e =
+    let a = and_then_some (λ x. with_word (codes "b") rows (λ y. option_map (task.Induct x y) (conflicts_in rows))) (first_of (codes "a") rows) job e in
+    let b = and_then_some (λ y. option_map (task.Induct a.0 y) (conflicts_in rows)) (first_of (codes "b") rows) job a.2 in
+    let conflicts = map_some (task.Induct a.0 b.0) (conflicts_in rows) job b.2 in
+    subst IsAllowed conflicts.2 (few rows conflicts.0 conflicts.1)
+
+-- the tasks of the subcommands behind the sixth, the fifth, the fourth, the third, the second and the first
+abbrev certs : List ℕ → List Row → Option Task
+certs name rows = cond (bytes_eq name (codes "cert")) (cert_in rows) (cond (bytes_eq name (codes "induct")) (induct_in rows) None)
+
 abbrev lrats : List ℕ → List Row → Option Task
-lrats name rows = cond (bytes_eq name (codes "lrat")) (lrat_in rows) (cond (bytes_eq name (codes "cert")) (cert_in rows) None)
+lrats name rows = cond (bytes_eq name (codes "lrat")) (lrat_in rows) (certs name rows)
 
 abbrev gens : List ℕ → List Row → Option Task
 gens name rows = cond (bytes_eq name (codes "gen")) (gen_in rows) (lrats name rows)
@@ -146,12 +156,19 @@ sims name rows = cond (bytes_eq name (codes "sim")) (sim_in rows) (replays name 
 abbrev graphs : List ℕ → List Row → Option Task
 graphs name rows = cond (bytes_eq name (codes "graph")) (graph_in rows) (sims name rows)
 
-allowed_lrats : (name : List ℕ) (rows : List Row) (job : Task) → lrats name rows ≡ Some job → IsAllowed job
-allowed_lrats name rows job e = go (either (bytes_eq name (codes "lrat")) (lrat_in rows) (cond (bytes_eq name (codes "cert")) (cert_in rows) None) job e)
+allowed_certs : (name : List ℕ) (rows : List Row) (job : Task) → certs name rows ≡ Some job → IsAllowed job
+allowed_certs name rows job e = go (either (bytes_eq name (codes "cert")) (cert_in rows) (cond (bytes_eq name (codes "induct")) (induct_in rows) None) job e)
   where
-    go : (lrat_in rows ≡ Some job) ⊎ (cond (bytes_eq name (codes "cert")) (cert_in rows) None ≡ Some job) → IsAllowed job
+    go : (cert_in rows ≡ Some job) ⊎ (cond (bytes_eq name (codes "induct")) (induct_in rows) None ≡ Some job) → IsAllowed job
+    go (inl h) = allowed_cert rows job h
+    go (inr h) = allowed_induct rows job (where_true (bytes_eq name (codes "induct")) (induct_in rows) job h).1
+
+allowed_lrats : (name : List ℕ) (rows : List Row) (job : Task) → lrats name rows ≡ Some job → IsAllowed job
+allowed_lrats name rows job e = go (either (bytes_eq name (codes "lrat")) (lrat_in rows) (certs name rows) job e)
+  where
+    go : (lrat_in rows ≡ Some job) ⊎ (certs name rows ≡ Some job) → IsAllowed job
     go (inl h) = allowed_lrat rows job h
-    go (inr h) = allowed_cert rows job (where_true (bytes_eq name (codes "cert")) (cert_in rows) job h).1
+    go (inr h) = allowed_certs name rows job h
 
 allowed_gens : (name : List ℕ) (rows : List Row) (job : Task) → gens name rows ≡ Some job → IsAllowed job
 allowed_gens name rows job e = go (either (bytes_eq name (codes "gen")) (gen_in rows) (lrats name rows) job e)

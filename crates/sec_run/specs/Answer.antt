@@ -19,6 +19,7 @@ use Rattle.check_meaning.specs.Found.{IsCheckFound}
 use Rattle.gen_meaning.specs.Found.{IsGenFound}
 use Rattle.job_lrat.specs.Found.{IsLratFound}
 use Rattle.job_cert.specs.Found.{IsCertFound}
+use Rattle.induct_meaning.specs.Found.{IsInductFound}
 
 -- what is true of a job where this is found
 abbrev pub IsFoundOfJob : Held → Task → Finding → Type 0
@@ -29,6 +30,7 @@ IsFoundOfJob held (task.Replay a b s mode) f = IsReplayFound mode (held a) (held
 IsFoundOfJob held (task.Gen seed regroup conflicts) f = IsGenFound (record { seed = seed; regroup = regroup; conflicts = conflicts }) f
 IsFoundOfJob held (task.Lrat f l) found = IsLratFound (held f) (held l) found
 IsFoundOfJob held (task.Cert a b pair lrat conflicts) f = IsCertFound (record { pair = pair; refuted = lrat; conflicts = conflicts }) (held a) (held b) f
+IsFoundOfJob held (task.Induct a b conflicts) f = IsInductFound conflicts (held a) (held b) f
 
 -- what is found: that the words are no job, or what is true of the job
 abbrev pub IsFinding : Held → Option Task → Finding → Type 0

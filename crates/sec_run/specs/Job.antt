@@ -9,6 +9,7 @@ use Rattle.job_replay.specs.Replays.{replay_paths}
 use Rattle.check_meaning.specs.Check.{Check, check_paths}
 use Rattle.job_lrat.specs.Found.{lrat_paths, AreSpelled}
 use Rattle.job_cert.specs.Found.{cert_paths}
+use Rattle.induct_meaning.specs.Found.{induct_paths}
 
 -- the paths that a job reads, in the order of their fetches; none where it makes its circuits itself
 abbrev pub paths_of : Task → List (List ℕ)
@@ -19,6 +20,7 @@ paths_of (task.Replay a b s mode) = replay_paths a b s
 paths_of (task.Gen seed regroup conflicts) = []
 paths_of (task.Lrat f l) = lrat_paths f l
 paths_of (task.Cert a b pair lrat conflicts) = cert_paths a b
+paths_of (task.Induct a b conflicts) = induct_paths a b
 
 -- none where the words are no job
 abbrev pub paths_in : Option Task → List (List ℕ)
@@ -34,6 +36,7 @@ GoesOn (task.Replay a b s mode) = IsLoaded
 GoesOn (task.Gen seed regroup conflicts) = IsLoaded
 GoesOn (task.Lrat f l) = AreSpelled
 GoesOn (task.Cert a b pair lrat conflicts) = IsLoaded
+GoesOn (task.Induct a b conflicts) = IsLoaded
 
 -- words that are no job read nothing
 abbrev pub GoesOnIn : Option Task → Option (List ℕ) → Type 0
@@ -49,3 +52,4 @@ IsAllowed (task.Replay a b s mode) = Unit {0}
 IsAllowed (task.Gen seed regroup conflicts) = conflicts ≤ MAX_CONFLICTS
 IsAllowed (task.Lrat f l) = Unit {0}
 IsAllowed (task.Cert a b pair lrat conflicts) = conflicts ≤ MAX_CONFLICTS
+IsAllowed (task.Induct a b conflicts) = conflicts ≤ MAX_CONFLICTS

@@ -14,6 +14,7 @@ use Rattle.check_meaning.specs.Answer.{CheckSays, IsCheckComplete}
 use Rattle.gen_meaning.specs.Answer.{GenMeans, IsGenAnswer}
 use Rattle.job_lrat.specs.Answer.{LratMeans, IsLratComplete}
 use Rattle.job_cert.specs.Answer.{CertMeans, IsCertComplete}
+use Rattle.induct_meaning.specs.Answer.{InductMeans, IsInductComplete}
 
 -- What the status says of the job, with the proofs that the run ends with and what was written before and is now.
 abbrev pub Means : Held → Option Task → Option (List ℕ) → Option (List ℕ) → List Proof → StatusName → Type 0
@@ -25,6 +26,7 @@ Means held (Some (task.Replay a b s mode)) before now proofs name = ReplayMeans 
 Means held (Some (task.Gen seed regroup conflicts)) before now proofs name = GenMeans (record { seed = seed; regroup = regroup; conflicts = conflicts }) before now proofs name
 Means held (Some (task.Lrat f l)) before now proofs name = LratMeans (held f) (held l) before now name
 Means held (Some (task.Cert a b pair lrat conflicts)) before now proofs name = CertMeans (record { pair = pair; refuted = lrat; conflicts = conflicts }) (held a) (held b) before now proofs name
+Means held (Some (task.Induct a b conflicts)) before now proofs name = InductMeans conflicts (held a) (held b) before now proofs name
 
 -- Where the job can be done, it ends so, if no read and no write fails; words that are no job are told.
 abbrev pub IsComplete : Held → Option Task → StatusName → Type 0
@@ -36,3 +38,4 @@ IsComplete held (Some (task.Replay a b s mode)) name = IsReplayComplete mode (he
 IsComplete held (Some (task.Gen seed regroup conflicts)) name = IsGenAnswer name
 IsComplete held (Some (task.Lrat f l)) name = IsLratComplete (held f) (held l) name
 IsComplete held (Some (task.Cert a b pair lrat conflicts)) name = IsCertComplete (record { pair = pair; refuted = lrat; conflicts = conflicts }) (held a) (held b) name
+IsComplete held (Some (task.Induct a b conflicts)) name = IsInductComplete (held a) (held b) name

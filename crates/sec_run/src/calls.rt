@@ -17,6 +17,7 @@ use job_cert::{Certification, Wanted, certify};
 use job_check::{Comparison, check};
 use job_circuit::{Simulation, simulate, tell_graph};
 use job_gen::{Generation, compare_generated};
+use job_induct::{BlockComparison, compare_by_blocks};
 use job_lrat::{Refutation, check_refutation};
 use job_replay::{Replay, replay_files};
 use sec_base::{Shelf, Sink, Word};
@@ -103,6 +104,14 @@ fn find<S: Shelf>(alloc: Global, task: &Task, shelf: &mut S) -> Result<Finding, 
                 wanted,
             };
             certify(alloc, &certification, shelf)
+        }
+        Task::Induct { a, b, conflicts } => {
+            let comparison = BlockComparison {
+                left: a.as_str(),
+                right: b.as_str(),
+                conflicts: *conflicts,
+            };
+            compare_by_blocks(alloc, &comparison, shelf)
         }
     }
 }

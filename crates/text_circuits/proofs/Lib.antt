@@ -1,3 +1,4 @@
 pub mod Circuits
 pub mod CutDesigns
 pub mod Designs
+pub mod Resets

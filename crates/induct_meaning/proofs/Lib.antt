@@ -1,0 +1,4 @@
+pub mod Bits
+pub mod Judging
+pub mod Means
+pub mod Complete

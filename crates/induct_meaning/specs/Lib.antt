@@ -1,0 +1,4 @@
+pub mod Report
+pub mod Judged
+pub mod Found
+pub mod Answer

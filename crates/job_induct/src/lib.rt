@@ -1,0 +1,9 @@
+//! The job that compares two circuits from their initial values by blocks of latches.
+#![tactic(auto)]
+
+mod comparison;
+mod judging;
+mod report;
+mod text;
+
+pub use comparison::{BlockComparison, compare_by_blocks};
