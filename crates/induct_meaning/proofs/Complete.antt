@@ -49,7 +49,7 @@ module _ (left right : Option (List ℕ)) (x y : List ℕ) (is : left ≡ Some x
       omega (arith, light.0, h.said.1)
   stands (refusal.TooLarge B) h =
       let light = can.light h.a h.b (of_left (λ t. Loads t h.a) h.left_loads) (of_right (λ t. Loads t h.b) h.right_loads) in
-      omega (arith, light.1, h.said.2)
+      omega (arith, light.1, h.said.1.1)
   stands (refusal.Misfit m) h = h
   stands (refusal.Pair name) h = h
 

@@ -55,24 +55,25 @@ later p outputs name said h = record { place = suc h.place; pair = h.pair; here 
 -- the first output at the limit
 limit_at : (outputs : List OutputPair) (name : List ℕ) → first_limit outputs ≡ Some name → (proof : Proof) × IsFirst outputs name (answer.Limit proof)
 limit_at [] name e = absurd (nothing e)
-limit_at (p ∷ ps) name e = go p.answer refl e
+limit_at (p ∷ ps) name e = go p.answer refl (λ h. limit_at ps name h) e
   where
-    go : (said : OutputAnswer) → p.answer ≡ said → limit_or p.name said (first_limit ps) ≡ Some name → (proof : Proof) × IsFirst (p ∷ ps) name (answer.Limit proof)
-    go answer.Equal is h = let l = limit_at ps name h in (l.0, later p ps name (answer.Limit l.0) l.1)
-    go (answer.NotShown s) is h = let l = limit_at ps name h in (l.0, later p ps name (answer.Limit l.0) l.1)
-    go (answer.Limit proof) is h = (proof, record { place = 0; pair = p; here = refl; named = some_is h; answered = is })
+    go : (said : OutputAnswer) → p.answer ≡ said → (first_limit ps ≡ Some name → (proof : Proof) × IsFirst ps name (answer.Limit proof)) → limit_or p.name said (first_limit ps) ≡ Some name →
+        (proof : Proof) × IsFirst (p ∷ ps) name (answer.Limit proof)
+    go answer.Equal is rest h = let l = rest h in (l.0, later p ps name (answer.Limit l.0) l.1)
+    go (answer.NotShown s) is rest h = let l = rest h in (l.0, later p ps name (answer.Limit l.0) l.1)
+    go (answer.Limit proof) is rest h = (proof, record { place = 0; pair = p; here = refl; named = some_is h; answered = is })
 
 -- the first output that isn't shown equal
 shown_at : (outputs : List OutputPair) (x : List ℕ × Shown) → first_shown outputs ≡ Some x → IsFirst outputs x.0 (answer.NotShown x.1)
 shown_at [] x e = absurd (nothing e)
-shown_at (p ∷ ps) x e = go p.answer refl e
+shown_at (p ∷ ps) x e = go p.answer refl (λ h. shown_at ps x h) e
   where
-    go : (said : OutputAnswer) → p.answer ≡ said → shown_or p.name said (first_shown ps) ≡ Some x → IsFirst (p ∷ ps) x.0 (answer.NotShown x.1)
-    go answer.Equal is h = later p ps x.0 (answer.NotShown x.1) (shown_at ps x h)
-    go (answer.NotShown s) is h =
+    go : (said : OutputAnswer) → p.answer ≡ said → (first_shown ps ≡ Some x → IsFirst ps x.0 (answer.NotShown x.1)) → shown_or p.name said (first_shown ps) ≡ Some x → IsFirst (p ∷ ps) x.0 (answer.NotShown x.1)
+    go answer.Equal is rest h = later p ps x.0 (answer.NotShown x.1) (rest h)
+    go (answer.NotShown s) is rest h =
         let pair : (p.name, s) ≡ x = some_is h in
         record { place = 0; pair = p; here = refl; named = ap (λ (y : List ℕ × Shown). y.0) pair; answered = is ∙ ap (λ (y : List ℕ × Shown). answer.NotShown y.1) pair }
-    go (answer.Limit proof) is h = later p ps x.0 (answer.NotShown x.1) (shown_at ps x h)
+    go (answer.Limit proof) is rest h = later p ps x.0 (answer.NotShown x.1) (rest h)
 
 -- the proof of an output at the limit is kept
 told_proof : (p : OutputPair) (proof : Proof) → p.answer ≡ answer.Limit proof → (pair_told p).proof ≡ Some proof
@@ -81,11 +82,11 @@ told_proof p proof e = rw e refl
 kept_in : {X Y : Type 0} (f : X → Option Y) (xs : List X) (i : ℕ) (x : X) (y : Y) → slice_get xs i ≡ Some x → f x ≡ Some y → Contains (filter_map f xs) y
 kept_in f [] i x y at e = absurd (nothing at)
 kept_in f (z ∷ xs) zero x y at e = let here : f z ≡ Some y = ap f (some_is at) ∙ e in rw here (Contains-head y (filter_map f xs))
-kept_in f (z ∷ xs) (suc i) x y at e = go (f z) refl
+kept_in {Y = Y} f (z ∷ xs) (suc i) x y at e = go (f z) refl (kept_in f xs i x y at e)
   where
-    go : (o : Option _) → f z ≡ o → Contains (filter_map f (z ∷ xs)) y
-    go None is = rw is (kept_in f xs i x y at e)
-    go (Some w) is = rw is (Contains-tail w y (filter_map f xs) (kept_in f xs i x y at e))
+    go : (o : Option Y) → f z ≡ o → Contains (filter_map f xs) y → Contains (filter_map f (z ∷ xs)) y
+    go None is rest = rw is rest
+    go (Some w) is rest = rw is (Contains-tail w y (filter_map f xs) rest)
 
 map_here : {X Y : Type 0} (f : X → Y) (xs : List X) (i : ℕ) (x : X) → slice_get xs i ≡ Some x → slice_get (map f xs) i ≡ Some (f x)
 map_here f [] i x at = absurd (nothing at)
