@@ -1,12 +1,12 @@
 //! An enable against the members of a class.
 
-ghost use Rattle.std.specs.Prelude.{◌≡◌, ◌≢◌, ◌+◌, ◌^◌, ◌<◌, ◌≤◌, true, false, length, Some, All, IfOk, IfSome, IfNone};
+ghost use Rattle.std.specs.Prelude.{◌≡◌, ◌≢◌, ◌+◌, ◌^◌, ◌<◌, ◌≤◌, true, false, length, Some, All, IfOk, IfSome, IfNone, OnOk};
 ghost use Rattle.event_nodes.specs.Nodes.{GrowsEvents};
 ghost use Rattle.pair_decide.specs.declared.query.Decision.TheVariants as answer;
 ghost use Rattle.pair_decide.specs.declared.query.SameBy.{SameBy};
 ghost use Rattle.enable_compare.specs.declared.compare.Enable.{Enable};
 ghost use Rattle.enable_compare.specs.Comparing.{IsReadyEnable};
-ghost use Rattle.enable_compare.specs.Fitting.{AreSameEnables, IsFirstUnlike};
+ghost use Rattle.enable_compare.specs.Fitting.{AreSameEnables, IsUnlike, IsFirstUnlike};
 
 use crate::compare::{Compared, Enable, compare_enables};
 use event_nodes::EventGraph;
@@ -44,12 +44,60 @@ pub fn first_unlike(
     ensures rest { events.new ≡ record events.old { graph = events.new.graph } }
 {
     for member in 0..members.len() {
-        let compared = compare_enables(alloc, events, &members[member], latch, conflicts)?;
-        if !is_same(&compared.decision) {
+        let found = ask_member(alloc, events, &members[member], latch, conflicts)?;
+        if let Some(compared) = found {
             return Ok(Some(Unlike { member, compared }));
         }
     }
     Ok(None)
+}
+
+/// The answer to the query of a member's enable and the latch's; None where it is that they agree wherever both have care. Enables of one
+/// value agree, and aren't asked about.
+fn ask_member(
+    alloc: Global,
+    events: &mut EventGraph,
+    member: &Enable,
+    latch: &Enable,
+    conflicts: u32,
+) -> Result<Option<Compared>, NoMemory>
+    requires member { IsReadyEnable events.old member.now }
+    requires latch { IsReadyEnable events.old latch.now }
+    requires room { length events.old.graph + 1 < 2 ^ 30 }
+    requires conflicts { conflicts ≤ MAX_CONFLICTS }
+    ensures same { IfOk result (λ found. IfNone found (AreSameEnables events.new member.now latch.now)) }
+    ensures unlike { IfOk result (λ found. IfSome found (IsUnlike events.new member.now latch.now conflicts)) }
+    ensures ready { (x : Enable) → IsReadyEnable events.old x → IsReadyEnable events.new x }
+    ensures grows { GrowsEvents events.old events.new }
+    ensures few { length events.new.graph ≤ length events.old.graph + 1 }
+    ensures rest { events.new ≡ record events.old { graph = events.new.graph } }
+{
+    if member.value.0 == latch.value.0 {
+        agree(events, member, latch)?;
+        return Ok(None);
+    }
+    let compared = compare_enables(alloc, events, member, latch, conflicts)?;
+    if is_same(&compared.decision) {
+        return Ok(None);
+    }
+    Ok(Some(compared))
+}
+
+/// The care of both, for two enables of one value.
+fn agree(events: &mut EventGraph, member: &Enable, latch: &Enable) -> Result<(), NoMemory>
+    requires member { IsReadyEnable events.old member.now }
+    requires latch { IsReadyEnable events.old latch.now }
+    requires room { length events.old.graph + 1 < 2 ^ 30 }
+    requires value { member.now.value.0 ≡ latch.now.value.0 }
+    ensures same { OnOk result (AreSameEnables events.new member.now latch.now) }
+    ensures ready { (x : Enable) → IsReadyEnable events.old x → IsReadyEnable events.new x }
+    ensures grows { GrowsEvents events.old events.new }
+    ensures few { length events.new.graph ≤ length events.old.graph + 1 }
+    ensures rest { events.new ≡ record events.old { graph = events.new.graph } }
+{
+    events.keeps();
+    let _care = events.and(member.care, latch.care)?;
+    Ok(())
 }
 
 /// Whether the sides of a query are the same.

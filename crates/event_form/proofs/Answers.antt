@@ -1,14 +1,12 @@
 -- What the answer to a pair's query says of the pair.
-use Rattle.std.proofs.Common.{◌≡◌, ◌∙◌, ℕ, zero, suc, ◌<◌, Bool, true, false, List, [], ◌∷◌, length, get_or, slice_get, Option, Some, None, refl, sym, ap, subst, arith, inl, inr}
-use Rattle.std.specs.Prelude.{◌↔◌}
+use Rattle.std.proofs.Common.{◌≡◌, ◌∙◌, ℕ, zero, suc, ◌<◌, Bool, true, false, List, [], ◌∷◌, length, get_or, slice_get, Option, Some, None, sym, ap, subst, arith, inl, inr}
 use Rattle.std.specs.List.{All, AllZip, Contains}
 use Rattle.std.proofs.lemmas.List.Elements.{All-contains, All-head, All-tail}
 use Rattle.std.proofs.lemmas.Option.{slice_get-get_or, none-some, same_Some}
 use Rattle.circuit_theory.specs.Joined.{Either, Left, Right}
-use Rattle.circuit_theory.specs.Query.{Variable}
 use Rattle.circuit_theory.specs.Tree.{Tree}
 use Rattle.circuit_theory.proofs.Lists.{Contains-cases, Contains-map, length-map}
-use Rattle.event_theory.specs.EventFrames.{HaveDifferentEvents, IsEventSize, IsUnshownFrame, frame_of}
+use Rattle.event_theory.specs.EventFrames.{HaveDifferentEvents, IsEventSize, frame_of}
 use Rattle.event_theory.specs.Frame.{EventSide}
 use Rattle.sec_base.specs.declared.basics.PairAnswer.{PairAnswer}
 use Rattle.sec_base.specs.declared.basics.PairAnswer.TheVariants as answer
@@ -35,7 +33,7 @@ use Rattle.pair_decide.specs.declared.query.Query.{Query}
 use Rattle.pair_decide.specs.Answers.{IsDifference, IsAtLimit}
 use Rattle.pair_decide.specs.Queries.{IsSame, roots_of}
 use Rattle.swept_queries.specs.InStead.{IsInStead, DecidesInStead}
-use Rattle.event_form.specs.Asked.{IsAskedOf, IsDecisive, AreAsked}
+use Rattle.event_form.specs.Asked.{IsAskedOf, AreAsked}
 use Rattle.event_form.specs.Answers.{AnswerFits, PairFits, IsFrameOf, IsUndecided, ReadOnly}
 use Rattle.event_form.specs.Laws.{AnswersFit, DifferencesAreFrames, EqualPairsAgree}
 

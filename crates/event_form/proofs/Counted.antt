@@ -3,7 +3,6 @@ use Rattle.std.proofs.Common.{◌≡◌, ◌∙◌, ◌+◌, ◌<◌, ℕ, List,
 use Rattle.std.proofs.lemmas.List.{map-append, take_more}
 use Rattle.circuit_theory.specs.declared.Side.TheVariants.{A, B}
 use Rattle.event_theory.specs.EventSizes.{Start}
-use Rattle.event_nodes.specs.Nodes.{EventGraphView}
 use Rattle.event_functions.specs.Functions.{signal_start}
 use Rattle.interface.specs.declared.pairs.SignalPair.{SignalPair}
 use Rattle.pair_events.specs.Counted.{HaveCounted, GoOnCounting}
@@ -40,3 +39,7 @@ counted_next old mid new pairs i p inside at before pair left right k =
 
     more : (xs : List (Start ℕ)) (f : SignalPair → Start ℕ) → xs ++ map f (take (i + 1) pairs) ≡ (xs ++ map f (take i pairs)) ++ f p ∷ []
     more xs f = ap (λ (ps : List SignalPair). xs ++ map f ps) front ∙ (ap (λ (ys : List (Start ℕ)). xs ++ ys) (map-append f (take i pairs) (p ∷ [])) ∙ sym (append_assoc xs (map f (take i pairs)) (f p ∷ [])))
+
+-- the first signal of a pair is counted
+pub left_counted : (old mid : EventsView) (p : ℕ) → GoOnCounting A p old mid → (left right : List (Start ℕ)) → HaveCounted old left right → HaveCounted mid (left ++ signal_start p ∷ []) (right ++ [])
+left_counted old mid p count left right k = subst (HaveCounted mid (left ++ signal_start p ∷ [])) (sym (append-nil right)) (count left right k)

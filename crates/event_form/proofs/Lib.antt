@@ -2,3 +2,4 @@ pub mod Asking
 pub mod Counted
 pub mod Answers
 pub mod Telling
+pub mod Refusing

@@ -2,4 +2,5 @@ pub mod Asked
 pub mod Counted
 pub mod Answers
 pub mod Frames
+pub mod Refused
 pub mod Laws

@@ -1,12 +1,14 @@
 //! What the event form asks of each pair.
 
-ghost use Rattle.std.specs.Prelude.{◌≡◌, ◌<◌, ◌&&◌, not, length, All, IfOk, OnOk};
+ghost use Rattle.std.specs.Prelude.{◌≡◌, ◌<◌, ◌&&◌, not, [], ◌∷◌, length, All, IfOk, OnOk};
 ghost use Rattle.circuit_theory.specs.Joined.{Left, Right};
 ghost use Rattle.event_pairs.specs.Functions.{IsEventFunction};
 ghost use Rattle.event_form.specs.Asked.{AreAsked, IsAskedOf, IsPairOf, IsLater, HasGraphMore, IsQueryOf, IsReadyFunction};
 ghost use Rattle.obligations.specs.Asked.{AreAsked as AreQueries};
-ghost use Rattle.event_form.specs.Counted.{CountsOn, CountPairOn};
-ghost use Rattle.pair_events.specs.Counted.{GoOnCounting};
+ghost use Rattle.event_form.specs.Counted.{CountsOn, CountPairOn, left_starts, right_starts};
+ghost use Rattle.event_form.specs.Refused.{IsRefusedFor, IsToldAs};
+ghost use Rattle.event_functions.specs.Functions.{signal_start};
+ghost use Rattle.pair_events.specs.Counted.{GoOnCounting, left_with, right_with};
 ghost use Rattle.pair_events.specs.View.{IsWithinLimits, circuit_at, side_of_both, signal_at};
 
 use crate::error::EventFormError;
@@ -36,6 +38,7 @@ pub fn ask_pairs(
     ensures within { OnOk result (IsWithinLimits events.new) }
     ensures later { OnOk result (IsLater events.old events.new) }
     ensures counted { OnOk result (CountsOn pairs.now events.old events.new) }
+    ensures refused { IsRefusedFor (left_starts pairs.now) (right_starts pairs.now) events.old result }
 {
     events.keeps();
     let mut asked = Vec::new(alloc);
@@ -61,6 +64,7 @@ fn ask_pair(
     ensures within { OnOk result (IsWithinLimits events.new) }
     ensures later { OnOk result (IsLater events.old events.new) }
     ensures counted { OnOk result (CountPairOn pair.now events.old events.new) }
+    ensures refused { IsRefusedFor (signal_start pair.now.left.0 ∷ []) (signal_start pair.now.right.0 ∷ []) events.old result }
 {
     events.keeps();
     let left = unfold(alloc, events, Side::A, pair.left)?;
@@ -84,8 +88,20 @@ fn unfold(
     ensures within { OnOk result (IsWithinLimits events.new) }
     ensures later { OnOk result (IsLater events.old events.new) }
     ensures counted { OnOk result (GoOnCounting side s.0 events.old events.new) }
+    ensures refused { IsRefusedFor (left_with side s.0 []) (right_with side s.0 []) events.old result }
 {
-    match events.unfold(alloc, side, s) {
+    let made = events.unfold(alloc, side, s);
+    told(side, made)
+}
+
+/// What the unfolding of a signal of this circuit gives.
+fn told(
+    side: Side,
+    made: Result<SignalFunction, EventUnfoldError>,
+) -> Result<SignalFunction, EventFormError>
+    ensures { IsToldAs side made result }
+{
+    match made {
         Ok(function) => Ok(function),
         Err(EventUnfoldError::TooManyEvents) => Err(EventFormError::TooManyEvents),
         Err(EventUnfoldError::TooLarge) => Err(EventFormError::TooLarge(side)),

@@ -1,5 +1,5 @@
 -- One bit more.
-use Rattle.std.proofs.Common.{◌<◌, Bool, false, List, length, get_or, sym, arith}
+use Rattle.std.proofs.Common.{◌<◌, false, length, get_or, sym, arith}
 use Rattle.std.proofs.lemmas.List.{get_or_default}
 use Rattle.event_form.proofs.Telling.{frame_more}
 use Rattle.event_form.proofs.frames.frame_of.Goals as goal

@@ -1,9 +1,13 @@
 -- Both functions, and what is asked of them.
-use Rattle.std.proofs.Common.{◌<◌, length, sym, subst}
-use Rattle.circuit_theory.specs.Joined.{Left, Right}
+use Rattle.std.proofs.Common.{◌<◌, [], ◌∷◌, length, Err, sym, ap, subst}
+use Rattle.std.proofs.lemmas.Result.{err_from_is_err_and}
+use Rattle.circuit_theory.specs.Joined.{Left}
 use Rattle.event_nodes.specs.View.{EventCircuitView}
-use Rattle.event_form.proofs.Asking.{function_on, later_trans, more_is_later}
-use Rattle.event_form.proofs.Counted.{pair_counted, within_same}
+use Rattle.event_nodes.proofs.Growing.{grows_refl}
+use Rattle.event_functions.specs.Functions.{signal_start}
+use Rattle.event_form.proofs.Asking.{function_on, later_refl, later_trans, more_is_later}
+use Rattle.event_form.proofs.Counted.{left_counted, none_counted, pair_counted, within_same}
+use Rattle.event_form.proofs.Refusing.{all_within, error_is, memory_refused, nothing_within, ok_refused, refused_later}
 use Rattle.event_form.proofs.questions.ask_pair.Goals as goal
 
 pub unfold-requires-2-clause-signal : goal.unfold-requires-2-clause-signal
@@ -22,3 +26,24 @@ returns-clause-later c =
 
 pub returns-clause-counted : goal.returns-clause-counted
 returns-clause-counted c = pair_counted c.args.events.now c.unfold.new.events c.unfold-2.new.events c.obligation_of.new.events c.args.pair.now c.in_ok-left.ensures.counted c.in_ok-right.ensures.counted c.obligation_of.ensures.more
+
+pub returns-in_err-left-clause-refused : goal.returns-in_err-left-clause-refused
+returns-in_err-left-clause-refused c =
+    let p = err_from_is_err_and c.from_residual.result c.from_residual.ensures.1 in
+    rw (p.1, p.2) (refused_later c.args.events.now c.args.events.now (later_refl c.args.events.now (grows_refl c.args.events.now.events)) [] [] (signal_start c.args.pair.now.left.0 ∷ []) [] (signal_start c.args.pair.now.left.0 ∷ []) (signal_start c.args.pair.now.right.0 ∷ [])
+    (nothing_within (signal_start c.args.pair.now.left.0 ∷ [])) (all_within (signal_start c.args.pair.now.left.0 ∷ [])) (nothing_within (signal_start c.args.pair.now.right.0 ∷ [])) (nothing_within (signal_start c.args.pair.now.right.0 ∷ [])) (none_counted c.args.events.now) _ _ (λ error is. ap Err (error_is is)) c.in_err-left.ensures.refused)
+
+pub returns-in_err-right-clause-refused : goal.returns-in_err-right-clause-refused
+returns-in_err-right-clause-refused c =
+    let p = err_from_is_err_and c.from_residual-in_err-right.result c.from_residual-in_err-right.ensures.1 in
+    rw (p.1, p.2) (refused_later c.args.events.now c.unfold.new.events c.in_ok-left.ensures.later (signal_start c.args.pair.now.left.0 ∷ []) [] [] (signal_start c.args.pair.now.right.0 ∷ []) (signal_start c.args.pair.now.left.0 ∷ []) (signal_start c.args.pair.now.right.0 ∷ [])
+    (all_within (signal_start c.args.pair.now.left.0 ∷ [])) (nothing_within (signal_start c.args.pair.now.left.0 ∷ [])) (nothing_within (signal_start c.args.pair.now.right.0 ∷ [])) (all_within (signal_start c.args.pair.now.right.0 ∷ []))
+    (left_counted c.args.events.now c.unfold.new.events c.args.pair.now.left.0 c.in_ok-left.ensures.counted) _ _ (λ error is. ap Err (error_is is)) c.in_err-right.ensures.refused)
+
+pub returns-in_err-obligation-clause-refused : goal.returns-in_err-obligation-clause-refused
+returns-in_err-obligation-clause-refused c =
+    let p = err_from_is_err_and c.from_residual-in_err-obligation.result c.from_residual-in_err-obligation.ensures.1 in
+    rw (p.1, p.2) (memory_refused (signal_start c.args.pair.now.left.0 ∷ []) (signal_start c.args.pair.now.right.0 ∷ []) c.args.events.now)
+
+pub returns-clause-refused : goal.returns-clause-refused
+returns-clause-refused c = ok_refused (signal_start c.args.pair.now.left.0 ∷ []) (signal_start c.args.pair.now.right.0 ∷ []) c.args.events.now c.in_ok-obligation.obligation

@@ -1,13 +1,17 @@
 -- One pair after the other.
-use Rattle.std.proofs.Common.{◌∙◌, ◌<◌, List, [], length, take, Some, sym, ap, subst, arith}
+use Rattle.std.proofs.Common.{◌∙◌, List, [], ◌∷◌, take, Some, Err, sym, ap, subst, arith}
+use Rattle.std.specs.List.{Contains}
 use Rattle.std.proofs.lemmas.List.{take_all}
+use Rattle.std.proofs.lemmas.Result.{err_from_is_err_and}
 use Rattle.std.proofs.lemmas.Option.{slice_get-get_or}
 use Rattle.flat_net.proofs.Places.{All-at}
 use Rattle.event_nodes.proofs.Growing.{grows_refl}
 use Rattle.interface.specs.declared.pairs.SignalPair.{SignalPair}
 use Rattle.pair_events.specs.View.{side_of_both}
 use Rattle.event_form.specs.Asked.{AreAsked, IsPairOf}
-use Rattle.event_form.specs.Counted.{CountsOn}
+use Rattle.event_form.specs.Counted.{CountsOn, left_starts, right_starts}
+use Rattle.event_functions.specs.Functions.{signal_start}
+use Rattle.event_form.proofs.Refusing.{error_is, front_within, memory_refused, ok_refused, one_within, refused_later}
 use Rattle.event_form.proofs.Asking.{asked_next, asked_queries, later_refl, later_trans, pair_on}
 use Rattle.event_form.proofs.Counted.{none_counted, counted_next}
 use Rattle.event_form.proofs.questions.ask_pairs.Goals as goal
@@ -40,3 +44,21 @@ returns-clause-queries c =
 
 pub returns-clause-counted : goal.returns-clause-counted
 returns-clause-counted c = subst (λ (ps : List SignalPair). CountsOn ps c.args.events.now c.loop-i.events) (take_all c.loop-i.i c.args.pairs.now (omega (arith, c.loop-i-test.false))) c.loop-i.invariant.counted
+
+pub returns-in_err-obligation-clause-refused : goal.returns-in_err-obligation-clause-refused
+returns-in_err-obligation-clause-refused c =
+    let p = err_from_is_err_and c.from_residual.result c.from_residual.ensures.1 in
+    let here : Contains c.args.pairs.now c.index-pairs-i.result = (c.loop-i.i, omega (arith, c.loop-i-test.true), sym c.index-pairs-i.is) in
+    rw (p.1, p.2) (refused_later c.args.events.now c.loop-i.events c.loop-i.invariant.later (left_starts (take c.loop-i.i c.args.pairs.now)) (right_starts (take c.loop-i.i c.args.pairs.now)) (signal_start c.index-pairs-i.result.left.0 ∷ []) (signal_start c.index-pairs-i.result.right.0 ∷ [])
+    (left_starts c.args.pairs.now) (right_starts c.args.pairs.now)
+    (front_within (λ (q : SignalPair). signal_start q.left.0) c.args.pairs.now c.loop-i.i) (one_within (λ (q : SignalPair). signal_start q.left.0) c.args.pairs.now c.index-pairs-i.result here)
+    (front_within (λ (q : SignalPair). signal_start q.right.0) c.args.pairs.now c.loop-i.i) (one_within (λ (q : SignalPair). signal_start q.right.0) c.args.pairs.now c.index-pairs-i.result here)
+    c.loop-i.invariant.counted _ _ (λ error is. ap Err (error_is is)) c.in_err-obligation.ensures.refused)
+
+pub returns-in_err-push-clause-refused : goal.returns-in_err-push-clause-refused
+returns-in_err-push-clause-refused c =
+    let p = err_from_is_err_and c.from_residual-in_err-push.result c.from_residual-in_err-push.ensures.1 in
+    rw (p.1, p.2) (memory_refused (left_starts c.args.pairs.now) (right_starts c.args.pairs.now) c.args.events.now)
+
+pub returns-clause-refused : goal.returns-clause-refused
+returns-clause-refused c = ok_refused (left_starts c.args.pairs.now) (right_starts c.args.pairs.now) c.args.events.now c.loop-i.asked
