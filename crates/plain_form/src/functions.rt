@@ -45,6 +45,7 @@ pub fn unfold_pairs(
     requires right { All (λ s. s < length b.now.drivers) (right_signals pairs.now) }
     ensures unfolds { Unfolds a.now b.now orders.now.left orders.now.right pairs.now result }
     ensures small { IfOk result (λ f. length f.aig ≤ 2 * MAX_WEIGHT + 1) }
+    ensures few { IfOk result (λ f. length f.places ≤ 2 * MAX_WEIGHT) }
 {
     let mut aig = Aig::new(alloc)?;
     let mut places = PlaceTable::new(alloc);

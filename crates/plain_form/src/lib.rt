@@ -12,3 +12,5 @@ mod witness;
 pub use comparison::{Findings, compare_plain};
 pub use error::PlainError;
 pub use functions::{Functions, unfold_pairs};
+pub use questions::ask;
+pub use witness::witness_of;

@@ -20,7 +20,7 @@ use std::alloc::Global;
 
 /// What is asked of each pair, in order: whether both functions agree always. A difference shows that the circuits differ where no
 /// latch is cut open.
-pub(crate) fn ask(
+pub fn ask(
     alloc: Global,
     setup: &Setup<'_>,
     functions: &Functions,

@@ -19,7 +19,7 @@ use std::alloc::Global;
 
 /// The sequence of a pair of this name that ends in the cycle `last`: the bit of an input at a shift stands so many cycles
 /// before the last one, at the input's place among the names, and all else is 0.
-pub(crate) fn witness_of(
+pub fn witness_of(
     alloc: Global,
     functions: &Functions,
     query: &Query,
