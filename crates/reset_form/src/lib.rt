@@ -8,5 +8,7 @@ mod shown;
 mod witness;
 
 pub use comparison::{ResetFindings, compare_reset};
+pub use questions::ask;
 pub use reset_functions::{Bases, ResetError};
 pub use shown::ResetVerdict;
+pub use witness::sequence_of;

@@ -19,7 +19,7 @@ use std::alloc::Global;
 use unfold_places::Unfolded;
 
 /// What is asked of each pair, in order: whether both functions agree always, in each cycle up to the pair's depth.
-pub(crate) fn ask(
+pub fn ask(
     alloc: Global,
     setup: &Setup<'_>,
     bases: Bases,

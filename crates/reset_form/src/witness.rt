@@ -58,8 +58,8 @@ pub(crate) fn witness_of(
     })
 }
 
-/// The sequence over the inputs of these names, with the values of both sides.
-fn sequence_of(
+/// The sequence of a pair of this name that ends in the cycle `last`, over the inputs of these names, with the values of both sides.
+pub fn sequence_of(
     alloc: Global,
     functions: &Functions,
     query: &Query,

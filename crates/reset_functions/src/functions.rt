@@ -1,6 +1,6 @@
 //! The functions of all pairs in all cycles up to their depths.
 
-ghost use Rattle.std.specs.Prelude.{◌≡◌, ℕ, ◌+◌, ◌^◌, ◌<◌, ◌≤◌, [], length, All, Contains, IfOk, IfErr, OnOk};
+ghost use Rattle.std.specs.Prelude.{◌≡◌, ℕ, ◌+◌, ◌*◌, ◌^◌, ◌<◌, ◌≤◌, [], length, All, Contains, IfOk, IfErr, OnOk};
 ghost use Rattle.std.specs.List.{AllZip};
 ghost use Rattle.aig.specs.Graph.{Grows};
 ghost use Rattle.unfold_places.specs.Reach.{Adds};
@@ -61,7 +61,9 @@ struct Tops {
 pub fn unfold_pairs(alloc: Global, setup: &Setup<'_>, bases: Bases) -> Result<Functions, ResetError>
     requires setup { IsSetup setup.now }
     requires bases { AreBases setup.now bases }
-    ensures { Unfolds setup.now bases result }
+    ensures unfolds { Unfolds setup.now bases result }
+    ensures small { IfOk result (λ f. length f.aig ≤ 2 * MAX_WEIGHT + 1) }
+    ensures few { IfOk result (λ f. length f.places ≤ 2 * MAX_WEIGHT) }
 {
     setup.left.keeps();
     setup.right.keeps();

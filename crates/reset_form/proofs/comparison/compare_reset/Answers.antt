@@ -18,12 +18,12 @@ pub returns-in_err-functions : goal.returns-in_err-functions
 returns-in_err-functions c =
     let s = c.args.setup.now in
     let same : c.from_residual-in_err-functions.result ≡ Err c.in_err-functions.field-0.0 = search rules in
-    subst (Formed s c.args.conflicts) (sym same) (refusal_formed s c.in_ok-bases.bases c.args.conflicts c.in_err-functions.field-0.0 c.in_err-functions.ensures)
+    subst (Formed s c.args.conflicts) (sym same) (refusal_formed s c.in_ok-bases.bases c.args.conflicts c.in_err-functions.field-0.0 c.in_err-functions.ensures.unfolds)
 
 pub returns : goal.returns
 returns c = record {
-  left_light = c.in_ok-functions.ensures.0;
-  right_light = c.in_ok-functions.ensures.1;
+  left_light = c.in_ok-functions.ensures.unfolds.0;
+  right_light = c.in_ok-functions.ensures.unfolds.1;
   bases = c.in_ok-bases.bases;
   are_bases = c.in_ok-bases.ensures;
   fits = c.in_ok-findings.ensures;

@@ -40,8 +40,8 @@ unfold_part-requires-2-clause-signals c =
     subst (All (λ (p : ℕ × ℕ). p.1 < length s.right.now.drivers)) (sym c.as_slice-2.ensures.value)
     (tops_within s (λ (x : SignalPair). x.right.0) s.pairs tops.right.items (length s.right.now.drivers) c.in_ok-tops.ensures.right (λ x h. output_within s.right.now c.keeps-2.ensures.sound x.right.0 ((own_pairs s c.requires.setup).right x h)))
 
-pub returns-in_err-left : goal.returns-in_err-left
-returns-in_err-left c =
+pub returns-in_err-left-clause-unfolds : goal.returns-in_err-left-clause-unfolds
+returns-in_err-left-clause-unfolds c =
     let s = c.args.setup.now in
     let b = c.args.bases in
     let tops = c.in_ok-tops.tops in
@@ -51,8 +51,8 @@ returns-in_err-left c =
     subst (Unfolds s b) (sym same)
     (refused_left s b c.requires.bases e (refusal_as A s.left.now (IsAmong tops.left.items) (IsLeftSide s) (among_is_side s (λ (x : SignalPair). x.left.0) s.pairs tops.left.items c.in_ok-tops.ensures.left) e refused))
 
-pub returns-in_err-right : goal.returns-in_err-right
-returns-in_err-right c =
+pub returns-in_err-right-clause-unfolds : goal.returns-in_err-right-clause-unfolds
+returns-in_err-right-clause-unfolds c =
     let s = c.args.setup.now in
     let b = c.args.bases in
     let tops = c.in_ok-tops.tops in
@@ -66,8 +66,8 @@ returns-in_err-right c =
     (refused_right s b c.requires.bases e (light_as s.left.now (IsAmong tops.left.items) (IsLeftSide s) (λ p. (left_side p, left_among p)) light)
     (refusal_as B s.right.now (IsAmong tops.right.items) (IsRightSide s) (among_is_side s (λ (x : SignalPair). x.right.0) s.pairs tops.right.items c.in_ok-tops.ensures.right) e refused))
 
-pub returns : goal.returns
-returns c =
+pub returns-clause-unfolds : goal.returns-clause-unfolds
+returns-clause-unfolds c =
     let s = c.args.setup.now in
     let b = c.args.bases in
     let tops = c.in_ok-tops.tops in
