@@ -1,6 +1,6 @@
 -- What is asked of pairs: its order, and that it stays while the graph and the table grow.
-use Rattle.std.proofs.Common.{◌≡◌, ℕ, List, [], ◌∷◌, ◌++◌, sym, subst}
-use Rattle.std.specs.List.{All, AllZip}
+use Rattle.std.proofs.Common.{List, [], ◌∷◌, ◌++◌, sym, subst}
+use Rattle.std.specs.List.{All}
 use Rattle.std.proofs.lemmas.List.Elements.{All-nil, All-cons}
 use Rattle.circuit_theory.proofs.Lists.{zip_weaker}
 use Rattle.aig.specs.Graph.{Grows}

@@ -1,5 +1,5 @@
 -- What is found of a pair's queries under an assumption is what is said of the pair.
-use Rattle.std.proofs.Common.{◌≡◌, ℕ, ◌<◌, ◌≤◌, true, false, slice_get, Option, Some, None, sym, ◌∙◌, subst, arith}
+use Rattle.std.proofs.Common.{◌≡◌, ℕ, ◌≤◌, true, false, slice_get, Option, Some, None, sym, ◌∙◌, subst, arith}
 use Rattle.std.specs.List.{All}
 use Rattle.circuit_theory.specs.Fits.{IsPairDepth}
 use Rattle.circuit_theory.proofs.Lists.{All-from_each, at_of, zip_right}

@@ -1,5 +1,5 @@
 -- The places of all queries are those of the pairs' variables in their cycles.
-use Rattle.std.proofs.Common.{◌≡◌, ℕ, ◌+◌, ◌*◌, ◌<◌, ◌≤◌, List, [], ◌∷◌, ◌++◌, map, length, refl, sym, ◌∙◌, ap, subst, arith, inl, inr}
+use Rattle.std.proofs.Common.{◌≡◌, ℕ, ◌+◌, ◌*◌, ◌<◌, ◌≤◌, List, [], ◌∷◌, map, length, refl, sym, ◌∙◌, ap, subst, arith, inl, inr}
 use Rattle.std.specs.Prelude.{◌⊎◌}
 use Rattle.std.specs.List.{AllZip, Contains, sum_by}
 use Rattle.std.proofs.lemmas.List.Sums.{sum_by-append, sum_by-cons}
@@ -22,7 +22,6 @@ use Rattle.shift_variables.specs.Variables.{variable_of, variables_of}
 use Rattle.query_places.specs.Places.{place_of, ArePlacesOf}
 use Rattle.assume_places.specs.Gathered.{ArePlacesOfAll, IsOverUnder, IsLightUnder}
 use Rattle.reset_nets.proofs.Starts.{nets_have_starts}
-use Rattle.reset_laws.specs.Reset.{ResetUnfolds}
 use Rattle.reset_laws.proofs.ResetExist.{reset_trees_are_one}
 use Rattle.reset_functions.specs.declared.bases.Bases.{Bases}
 use Rattle.reset_functions.specs.declared.functions.Functions.{Functions}

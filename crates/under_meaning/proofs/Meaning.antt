@@ -26,7 +26,6 @@ use Rattle.witness_report.specs.Shown.{Obeys, ArePlacesOf, MakesDiffer, MakesCut
 use Rattle.outcome.specs.declared.verdict.PairResult.{PairResult}
 use Rattle.outcome.specs.declared.verdict.Verdict.{Verdict}
 use Rattle.outcome.specs.declared.verdict.Verdict.TheVariants as verdict
-use Rattle.outcome.specs.declared.verdict.Why.TheVariants as why
 use Rattle.outcome.specs.declared.verdict.Outcome.{Outcome}
 use Rattle.sec_setup.specs.Cuts.{columns_of, is_cut}
 use Rattle.sec_setup.specs.Pairs.{NamedPair, named_pairs}
@@ -38,7 +37,7 @@ use Rattle.assume_laws.proofs.Filled.{witness_makes_differ_under}
 use Rattle.assume_laws.proofs.PlainLaws.{exposed_functions_agree_under}
 use Rattle.plain_under.specs.Outcome.{AnswerFitsUnder, PairFitsUnder}
 use Rattle.plain_asked_under.specs.Verdict.{IsFirstOfAnswerUnder, VerdictFitsUnder}
-use Rattle.under_meaning.specs.Fitting.{OutcomeFitsUnder, AgreeFromUnder, AreEqualUnder}
+use Rattle.under_meaning.specs.Fitting.{OutcomeFitsUnder, AgreeFromUnder}
 use Rattle.under_meaning.specs.Laws.{AreNets, EqualSaysUnder, DifferentShowsUnder, NotShownUnder}
 use Rattle.under_meaning.proofs.CutUnder.{cut_functions_under, cut_witness_under, equal_answer_under, different_answer_under}
 use Rattle.under_meaning.proofs.SequencesUnder.{values_differ, left_value_shows, right_value_shows}

@@ -1,18 +1,16 @@
 -- The pairs' signals are those of the outputs, and what is asked of them stays while the assumption's functions are made.
-use Rattle.std.proofs.Common.{◌≡◌, ◌<◌, ◌+◌, ℕ, List, Err, length, sym, subst, ap, arith, rules}
+use Rattle.std.proofs.Common.{◌<◌, List, Err, length, sym, subst, ap, arith}
 use Rattle.std.specs.List.{All, AllZip}
 use Rattle.pair_decide.specs.declared.query.Query.{Query}
 use Rattle.interface.specs.declared.pairs.SignalPair.{SignalPair}
 use Rattle.obligations.specs.declared.obligation.Obligation.{Obligation}
 use Rattle.obligations.specs.Asked.{queries_of}
 use Rattle.assume_queries.specs.declared.order.VariableOrder.TheVariants as order
-use Rattle.assume_queries.specs.declared.map.UnderError.TheVariants as under_error
 use Rattle.assume_queries.specs.Order.{AreOrdered}
 use Rattle.assume_places.specs.Gathered.{IsOverUnder, IsLightUnder}
 use Rattle.assume_shape.specs.Shape.{assumption_of}
 use Rattle.assume_queries.specs.Under.{IsObligationUnder}
 use Rattle.plain_form.specs.declared.functions.Functions.{Functions}
-use Rattle.plain_form.specs.Asked.{AreAsked}
 use Rattle.plain_form.specs.Pairs.{Unfolds, AreFunctions, AreLight, left_signals, right_signals}
 use Rattle.plain_form.proofs.FirstPairs.{AreSound}
 use Rattle.plain_form.proofs.Outcomes.{is_order, lefts_within, rights_within, left_light, right_light}

@@ -1,5 +1,5 @@
 -- Each row has a bit for each name still.
-use Rattle.std.proofs.Common.{◌≡◌, ◌∙◌, ℕ, suc, Bool, List, length, refl, sym, ap, subst}
+use Rattle.std.proofs.Common.{◌≡◌, ℕ, suc, Bool, List, length, sym, subst}
 use Rattle.std.specs.List.{All}
 use Rattle.circuit_theory.specs.Query.{same_shift}
 use Rattle.circuit_theory.specs.Sequence.{sequence_rows}

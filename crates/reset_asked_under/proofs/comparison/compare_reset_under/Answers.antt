@@ -1,5 +1,5 @@
 -- What is asked of the pairs stays while the assumption's functions are made.
-use Rattle.std.proofs.Common.{◌≡◌, ℕ, List, Err, sym, subst, ap, arith}
+use Rattle.std.proofs.Common.{List, Err, sym, subst, ap, arith}
 use Rattle.std.specs.List.{All, AllZip}
 use Rattle.pair_decide.specs.declared.query.Query.{Query}
 use Rattle.obligations.specs.declared.obligation.Obligation.{Obligation}
