@@ -1,0 +1,6 @@
+pub mod Grown
+pub mod Assumed
+pub mod PairPlaces
+pub mod Sequences
+pub mod Verdicts
+pub mod Refused

@@ -1,0 +1,42 @@
+-- What refuses a comparison under an assumption.
+use Rattle.std.specs.Prelude.{IsErrAnd}
+use Rattle.std.proofs.Common.{◌≡◌, ℕ, List, refl, sym, subst, Result, Ok, Err}
+use Rattle.circuit_theory.specs.declared.Side.TheVariants.{A, B}
+use Rattle.obligations.specs.declared.obligation.Obligation.{Obligation}
+use Rattle.obligations.specs.Asked.{queries_of}
+use Rattle.sec_setup.specs.declared.setup.Setup.{Setup}
+use Rattle.sec_setup.specs.Pairs.{ArePairsOf}
+use Rattle.plain_meaning.specs.Fitting.{IsLight}
+use Rattle.assume_premise.specs.declared.premise.Premise.{Premise}
+use Rattle.assume_places.specs.Gathered.{IsOverUnder}
+use Rattle.assume_queries.specs.declared.map.UnderError.{UnderError}
+use Rattle.assume_queries.specs.declared.map.UnderError.TheVariants as under
+use Rattle.plain_form.specs.declared.error.PlainError.{PlainError}
+use Rattle.plain_form.specs.declared.error.PlainError.TheVariants as plain
+use Rattle.plain_form.specs.declared.functions.Functions.{Functions}
+use Rattle.plain_form.specs.Asked.{AreAsked}
+use Rattle.plain_form.specs.Pairs.{Unfolds}
+use Rattle.plain_form.proofs.FirstPairs.{AreSound}
+use Rattle.plain_form.proofs.Outcomes.{refusal_formed}
+use Rattle.plain_asked_under.specs.declared.error.PlainUnderError.{PlainUnderError}
+use Rattle.plain_asked_under.specs.Formed.{FormedUnder}
+use Rattle.plain_asked_under.specs.Refusals.{refusal_of, refusal_under}
+use Rattle.plain_asked_under.proofs.PairPlaces.{too_large}
+
+-- what is true of a refusal is true of the result that it is
+pub refused_by : {X : Type 0} (P : Result X PlainUnderError → Type 0) (r : Result X PlainUnderError) (e : PlainUnderError) → IsErrAnd r (λ x. x ≡ e) → P (Err e) → P r
+refused_by P (Ok x) e h p = absurd h
+refused_by P (Err x) e h p = subst (λ (y : PlainUnderError). P (Err y)) (sym h) p
+
+module _ (s : Setup) (p : Premise) (conflicts : ℕ) where
+  -- a circuit is too large
+  pub unfolded : (paired : ArePairsOf s.left.now s.right.now s.pairs) (e : PlainError) → Unfolds s.left.now s.right.now s.orders.left s.orders.right s.pairs (Err e) → FormedUnder s p conflicts (Err (refusal_of e))
+  unfolded paired (plain.TooLarge A) h = refusal_formed s conflicts paired (plain.TooLarge A) h
+  unfolded paired (plain.TooLarge B) h = refusal_formed s conflicts paired (plain.TooLarge B) h
+  unfolded paired plain.NoMemory h = tt
+
+  -- or the assumption is
+  pub assumed : (f : Functions) (h : AreSound s f) (asked : List Obligation) → AreAsked s f s.pairs asked → IsLight s.left.now → IsLight s.right.now → (e : UnderError) → (e ≡ under.TooLarge → IsOverUnder p.weight f.places (queries_of asked)) →
+      FormedUnder s p conflicts (Err (refusal_under e))
+  assumed f h asked are left right under.TooLarge over = (left, right, too_large s f h asked are p.weight (over refl))
+  assumed f h asked are left right under.NoMemory over = tt

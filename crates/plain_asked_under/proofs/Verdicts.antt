@@ -1,0 +1,127 @@
+-- What is found under an assumption fits the circuits.
+use Rattle.std.proofs.Common.{◌≡◌, ◌≢◌, ℕ, Bool, List, [], ◌∷◌, map, Option, Some, None, refl, sym, ◌∙◌, ap, subst}
+use Rattle.std.specs.List.{All, AllZip}
+use Rattle.std.proofs.lemmas.List.Elements.{All-nil, All-cons}
+use Rattle.std.proofs.lemmas.Option.{same_Some, slice_get_within}
+use Rattle.sec_base.specs.declared.basics.PairAnswer.{PairAnswer}
+use Rattle.sec_base.specs.declared.basics.PairAnswer.TheVariants as answer
+use Rattle.flat_net.specs.View.{circuit_of}
+use Rattle.pair_decide.specs.Queries.{IsQuery}
+use Rattle.outcome.specs.declared.verdict.LimitAt.TheVariants as limit_at
+use Rattle.outcome.specs.declared.verdict.PairResult.{PairResult}
+use Rattle.outcome.specs.declared.verdict.Verdict.{Verdict}
+use Rattle.obligations.specs.declared.obligation.Obligation.{Obligation}
+use Rattle.obligations.specs.declared.obligation.Difference.{Difference}
+use Rattle.obligations.specs.declared.decision.Decided.{Decided}
+use Rattle.obligations.specs.declared.verdict.VerdictAt.{VerdictAt}
+use Rattle.obligations.specs.declared.verdict.VerdictAt.TheVariants as at
+use Rattle.obligations.specs.Asked as obligations_are
+use Rattle.obligations.specs.Decided.{NoneIs, IsAnswered, IsFirstOf, IsFirst, HaveDecided}
+use Rattle.obligations.specs.Verdict.{IsVerdictAt}
+use Rattle.interface.specs.declared.pairs.SignalPair.{SignalPair}
+use Rattle.sec_setup.specs.declared.setup.Setup.{Setup}
+use Rattle.sec_setup.specs.Cuts.{is_cut}
+use Rattle.sec_setup.specs.Pairs.{places_of}
+use Rattle.assume_laws.specs.Assume.{Assumption}
+use Rattle.assume_queries.specs.declared.order.VariableOrder.TheVariants as order
+use Rattle.assume_queries.specs.Under.{IsObligationUnder}
+use Rattle.assume_sequences.specs.Filled.{bit_of}
+use Rattle.plain_form.specs.declared.functions.Functions.{Functions}
+use Rattle.plain_form.specs.Asked.{AreAsked}
+use Rattle.plain_form.proofs.FirstPairs.{AreSound}
+use Rattle.plain_under.specs.Laws.{AreBuilt}
+use Rattle.plain_under.proofs.PairsUnder.{pairs_fit_under}
+use Rattle.plain_asked_under.specs.Asked.{AreAskedUnder}
+use Rattle.plain_asked_under.specs.Shown.{CanBeShownUnder, IsShownUnder}
+use Rattle.plain_asked_under.specs.Verdict.{EachFitsUnder, VerdictFitsUnder}
+use Rattle.plain_asked_under.proofs.Sequences.{showable, first_pair}
+
+-- the only answer left
+answer_left : (x : PairAnswer) → x ≢ answer.Different → x ≢ answer.Limit → x ≢ answer.NotShown → x ≡ answer.Equal
+answer_left answer.Equal d l n = refl
+answer_left answer.Different d l n = absurd (d refl)
+answer_left answer.NotShown d l n = absurd (n refl)
+answer_left answer.Limit d l n = absurd (l refl)
+
+module _ (c : Assumption) (s : Setup) (f : Functions) (h : AreSound s f) where
+  built : AreBuilt f
+  built = record { graph = h.graph; values = h.values; distinct = h.distinct }
+
+  -- what is asked are queries over the graph
+  queries_are : (pairs : List SignalPair) (asked under : List Obligation) → AreAsked s f pairs asked → AllZip (IsObligationUnder order.Shifts c f.aig f.places) asked under → obligations_are.AreAsked f.aig under
+  queries_are [] [] [] are zip = All-nil (λ (o : Obligation). All (IsQuery f.aig) o.queries)
+  queries_are [] [] (u ∷ under) are zip = absurd zip
+  queries_are [] (o ∷ asked) under are zip = absurd are
+  queries_are (p ∷ pairs) [] under are zip = absurd are
+  queries_are (p ∷ pairs) (o ∷ asked) [] are zip = absurd zip
+  queries_are (p ∷ pairs) (o ∷ asked) (u ∷ under) are zip =
+      All-cons (λ (x : Obligation). All (IsQuery f.aig) x.queries) u under (pairs_fit_under c s f p o u built are.0 zip.0).0 (queries_are pairs asked under are.1 zip.1)
+
+  -- each result is that of its pair
+  results_fit : (conflicts : ℕ) (pairs : List SignalPair) (asked under : List Obligation) (results : List PairResult) → AreAsked s f pairs asked → AllZip (IsObligationUnder order.Shifts c f.aig f.places) asked under →
+      AllZip (IsAnswered f.aig conflicts) under results → EachFitsUnder c (circuit_of s.left.now) (circuit_of s.right.now) s.orders.left s.orders.right (is_cut s.exposed) conflicts (map places_of pairs) results
+  results_fit conflicts [] [] [] [] are zip answered = tt
+  results_fit conflicts [] [] [] (r ∷ results) are zip answered = absurd answered
+  results_fit conflicts [] [] (u ∷ under) results are zip answered = absurd zip
+  results_fit conflicts [] (o ∷ asked) under results are zip answered = absurd are
+  results_fit conflicts (p ∷ pairs) [] under results are zip answered = absurd are
+  results_fit conflicts (p ∷ pairs) (o ∷ asked) [] results are zip answered = absurd zip
+  results_fit conflicts (p ∷ pairs) (o ∷ asked) (u ∷ under) [] are zip answered = absurd answered
+  results_fit conflicts (p ∷ pairs) (o ∷ asked) (u ∷ under) (r ∷ results) are zip answered =
+      ((pairs_fit_under c s f p o u built are.0 zip.0).1 conflicts r answered.0, results_fit conflicts pairs asked under results are.1 zip.1 answered.1)
+
+  module _ (asked under : List Obligation) (meeting : List Bool) (are : AreAskedUnder s f asked under meeting c) where
+    pub are_queries : obligations_are.AreAsked f.aig under
+    are_queries = queries_are s.pairs asked under are.asked_are are.under_are
+
+    pub each_fits : (conflicts : ℕ) (results : List PairResult) → AllZip (IsAnswered f.aig conflicts) under results →
+        EachFitsUnder c (circuit_of s.left.now) (circuit_of s.right.now) s.orders.left s.orders.right (is_cut s.exposed) conflicts (map places_of s.pairs) results
+    each_fits conflicts results answered = results_fit conflicts s.pairs asked under results are.asked_are are.under_are answered
+
+    module _ (conflicts : ℕ) (d : Decided) (decided : HaveDecided f.aig conflicts under d) where
+      -- the verdict can be shown
+      pub can_be_shown : (y : VerdictAt) → IsVerdictAt d.different d.not_shown d.results y → CanBeShownUnder f s.columns asked under d.results y
+      can_be_shown at.Equal i = tt
+      can_be_shown (at.Different x) i = showable c s f h asked under meeting are answer.Different d.results x (subst (IsFirst f.aig under answer.Different d.results) i decided.different)
+      can_be_shown (at.Limit place) i = slice_get_within d.results place i.1.result i.1.at
+      can_be_shown (at.NotShown x) i = showable c s f h asked under meeting are answer.NotShown d.results x (subst (IsFirst f.aig under answer.NotShown d.results) i.2 decided.not_shown)
+
+      -- the verdict at an obligation is that of the pairs
+      pub verdict_fits : (y : VerdictAt) (v : Verdict) → IsVerdictAt d.different d.not_shown d.results y → IsShownUnder f s.columns asked under meeting d.results y v →
+          VerdictFitsUnder c (circuit_of s.left.now) (circuit_of s.right.now) s.orders.left s.orders.right s.columns (bit_of meeting) (map places_of s.pairs) d.results v
+      verdict_fits y v is shown = go y is shown
+        where
+          Fits : Verdict → Type 0
+          Fits w = VerdictFitsUnder c (circuit_of s.left.now) (circuit_of s.right.now) s.orders.left s.orders.right s.columns (bit_of meeting) (map places_of s.pairs) d.results w
+
+          none_of : (wanted : PairAnswer) (first : Option Difference) → first ≡ None → IsFirst f.aig under wanted d.results first → NoneIs wanted d.results
+          none_of wanted first e k = subst (IsFirst f.aig under wanted d.results) e k
+
+          first_of : (wanted : PairAnswer) (first : Option Difference) (x : Difference) → first ≡ Some x → IsFirst f.aig under wanted d.results first → IsFirstOf f.aig under wanted d.results x
+          first_of wanted first x e k = subst (IsFirst f.aig under wanted d.results) e k
+
+          go : (x : VerdictAt) → IsVerdictAt d.different d.not_shown d.results x → IsShownUnder f s.columns asked under meeting d.results x v → Fits v
+          go at.Equal i k =
+              let different = none_of answer.Different d.different i.0 decided.different in
+              let unshown = none_of answer.NotShown d.not_shown i.2 decided.not_shown in
+              subst Fits (sym k) (λ j e inside. answer_left _ (different j e inside) (i.1 j e inside) (unshown j e inside))
+          go (at.Different x) i k =
+              subst Fits (sym k.1) (first_pair c s f h asked under meeting are conflicts d.results answer.Different x k.0 decided.results (first_of answer.Different d.different x i decided.different) k.2)
+          go (at.Limit place) i k =
+              let l = i.1 in
+              let r : k.0 ≡ l.result = same_Some k.0 l.result (sym k.1 ∙ l.at) in
+              subst Fits (sym k.2) (record {
+                index = place;
+                result = l.result;
+                result_is = l.at;
+                limit = l.limit;
+                earlier = l.earlier;
+                no_difference = none_of answer.Different d.different i.0 decided.different;
+                at_is = ap (λ (x : PairResult). limit_at.Pair x.name) r;
+              })
+          go (at.NotShown x) i k =
+              subst Fits (sym k.1) (
+                none_of answer.Different d.different i.0 decided.different,
+                i.1,
+                first_pair c s f h asked under meeting are conflicts d.results answer.NotShown x k.0 decided.results (first_of answer.NotShown d.not_shown x i.2 decided.not_shown) k.2,
+              )

@@ -1,0 +1,29 @@
+-- What is asked under an assumption that has the function.
+use Rattle.std.proofs.Common.{ℕ, List, length}
+use Rattle.std.specs.List.{AllZip}
+use Rattle.aig.specs.Graph.{Grows}
+use Rattle.unfold_places.specs.Reach.{Adds}
+use Rattle.flat_net.specs.View.{NetView}
+use Rattle.obligations.specs.declared.obligation.Obligation.{Obligation}
+use Rattle.sec_setup.specs.declared.setup.Setup.{Setup}
+use Rattle.assume_shape.specs.Shape.{assumption_of}
+use Rattle.assume_premise.specs.declared.premise.Premise.{Premise}
+use Rattle.assume_premise.specs.Assumed.{IsAssumedBy}
+use Rattle.assume_premise.proofs.Numbers.{number_below}
+use Rattle.assume_queries.specs.declared.order.VariableOrder.TheVariants as order
+use Rattle.assume_queries.specs.Under.{IsObligationUnder}
+use Rattle.reset_functions.specs.declared.bases.Bases.{Bases}
+use Rattle.reset_functions.specs.declared.functions.Functions.{Functions}
+use Rattle.reset_form.specs.Asked.{AreAsked}
+use Rattle.reset_asked_under.specs.Asked.{AreAskedUnder}
+use Rattle.reset_asked_under.proofs.Grown.{all_asked_later}
+
+-- what is asked stays while the assumption's functions are made
+pub asked_by : (p : Premise) (s : Setup) (b : Bases) (n : NetView) (inputs : List ℕ) (output size : ℕ) → IsAssumedBy p (length s.columns) n inputs output size → (f h : Functions) → Grows f.aig h.aig → Adds (λ p. Unit {0}) f.places h.places →
+    (asked under : List Obligation) → AreAsked s b f s.pairs asked → AllZip (IsObligationUnder order.Cycles (assumption_of n inputs output) h.aig h.places) asked under → AreAskedUnder s b h asked under p.meeting (assumption_of n inputs output)
+asked_by p s b n inputs output size is f h grows adds asked under are each = record {
+  asked_are = all_asked_later s b f h grows adds s.pairs asked are;
+  under_are = each;
+  columns = number_below p (length s.columns) n inputs output size is;
+  row = is.row;
+}

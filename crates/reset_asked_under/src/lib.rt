@@ -1,0 +1,10 @@
+//! Comparing the pairs of two circuits from their initial values under an assumption on the inputs: the pairs' functions and what is asked
+//! of them are those of the form from initial values, each query with the assumption as its care.
+#![tactic(auto)]
+
+mod comparison;
+mod error;
+mod shown;
+
+pub use comparison::compare_reset_under;
+pub use error::ResetUnderError;

@@ -1,0 +1,3 @@
+pub mod CutUnder
+pub mod SequencesUnder
+pub mod Meaning

@@ -1,0 +1,2 @@
+pub mod LeavesUnder
+pub mod Meaning
