@@ -1,5 +1,5 @@
 -- Totals go on.
-use Rattle.std.proofs.Common.{◌≡◌, ◌∙◌, ◌+◌, ◌≤◌, ℕ, zero, suc, List, [], ◌∷◌, ◌++◌, length, slice_get, Some, refl, sym, ap, subst, arith, inl, inr, append-nil}
+use Rattle.std.proofs.Common.{◌≡◌, ◌∙◌, ◌≤◌, ℕ, zero, suc, List, [], ◌∷◌, ◌++◌, length, slice_get, Some, refl, sym, ap, subst, arith, inl, inr, append-nil}
 use Rattle.std.specs.Prelude.{◌⊎◌, ◌↔◌}
 use Rattle.std.specs.List.{Contains}
 use Rattle.std.proofs.lemmas.List.Elements.{All-nil, Contains-append_cases, Contains-append_left, Contains-append_right}
@@ -19,14 +19,14 @@ use Rattle.flat_net.proofs.Nets.{latch_stands, sound_is_net}
 use Rattle.event_nodes.specs.Adds.{Adds}
 use Rattle.event_nodes.specs.Nodes.{path_of}
 use Rattle.event_nodes.specs.View.{EventCircuitView, side_of, Enabled}
-use Rattle.event_nodes.specs.Visited.{CounterView, IsVisitedPair, HoldsNodes}
+use Rattle.event_nodes.specs.Visited.{CounterView, IsVisitedPair, AreNodesFrom, HoldsNodes}
 use Rattle.event_walk.specs.Walk.{IsCounting, HasCountedStart, enable_start}
 use Rattle.class_queries.specs.Enables.{both_of, class_map}
 use Rattle.class_extension.specs.Sides.{AreStartsOfBoth, IsEnableAmong, moved_start}
 use Rattle.class_extension.specs.Laws.{IsNextGiven, UnfoldAlike}
 use Rattle.class_extension.proofs.Sides.{sides_reach_nodes_in_nets}
 use Rattle.class_extension.proofs.Visits.{visits_stay_in_nets}
-use Rattle.class_totals.specs.Totals.{HaveCounted}
+use Rattle.class_totals.specs.Totals.{HaveCounted, HasNodes}
 use Rattle.class_totals.specs.Laws.{TotalsBegin, TotalsStay, TotalsGoOn}
 use Rattle.class_totals.proofs.Nodes.{node_none, root_path, nodes_more, counted_later, counted_more, counted_alike}
 
@@ -191,6 +191,13 @@ module _ (a b : EventCircuitView) (old : List (ℕ × ℕ)) (taken : List (Eithe
       right_found : (node : List ℕ) → HoldsNodes b new (enable_start l) → IsNode (side_of a) (Enabled a) (StartLatches (side_of a) []) node ⊎ IsNode (side_of b) (Enabled b) (StartLatches (side_of b) (enable_start l ∷ [])) node → (n : ℕ) × (n ≤ length new) × (path_of new n ≡ node)
       right_found node holds (inl m) = (0, omega arith, root_path new ∙ sym (node_none (side_of a) node m))
       right_found node holds (inr m) = holds node m
+
+      -- the nodes with the next latch, where all that it reaches were made
+      pub left_nodes : AreNodesFrom a new (enable_start l) (length old) → HoldsNodes a new (enable_start l) → HasNodes Both new (h.starts ++ left_moved (enable_start l) ∷ [])
+      left_nodes made holds = nodes_more Both old new adds h.starts (left_moved (enable_start l)) parents h.nodes (λ k n class from there. (left_node (class ∷ path_of new n)).1 (inl (made k n class from there))) (λ node m. left_found node holds ((left_node node).0 m))
+
+      pub right_nodes : AreNodesFrom b new (enable_start l) (length old) → HoldsNodes b new (enable_start l) → HasNodes Both new (h.starts ++ right_moved (enable_start l) ∷ [])
+      right_nodes made holds = nodes_more Both old new adds h.starts (right_moved (enable_start l)) parents h.nodes (λ k n class from there. (right_node (class ∷ path_of new n)).1 (inr (made k n class from there))) (λ node m. right_found node holds ((right_node node).0 m))
 
       pub left_on : (more : CounterView) → slice_get a.net.latches j ≡ Some l → IsCounting a (enable_start l) old new left more → HasCountedStart a (enable_start l) new left more → HaveCounted a b new (taken ++ Left l.out.0 ∷ []) more right
       left_on more at counting start = record {

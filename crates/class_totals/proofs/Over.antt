@@ -7,7 +7,7 @@ use Rattle.circuit_theory.specs.Joined.{Left, Right}
 use Rattle.circuit_theory.specs.Run.{IsEnabled}
 use Rattle.circuit_theory.proofs.Lists.{Contains-head, at_of, of_at}
 use Rattle.event_theory.specs.EventSizes.{Start}
-use Rattle.event_theory.specs.EventTotals.{IsNodesOver, StartLatches}
+use Rattle.event_theory.specs.EventTotals.{IsNodesOver, IsNodesWithin, StartLatches}
 use Rattle.event_theory.specs.Frame.{EventSide, IsNode}
 use Rattle.flat_net.proofs.Nets.{some_at}
 use Rattle.event_nodes.specs.Adds.{Adds}
@@ -19,19 +19,23 @@ use Rattle.event_nodes.proofs.Totals.{counted_weight}
 use Rattle.event_walk.specs.Walk.{enable_start}
 use Rattle.class_queries.specs.Enables.{both_of}
 use Rattle.class_totals.specs.Totals.{HasNodes}
-use Rattle.class_totals.specs.Laws.{TotalsAreWithin, ManyNodesAreOver, HeavyIsOver}
+use Rattle.class_totals.specs.Laws.{TotalsAreWithin, ManyNodesAreOver, HeavyIsOver, FewNodesAreWithin}
 use Rattle.class_totals.proofs.Nodes.{node_more, root_path, path_later, pairs_more}
-use Rattle.class_totals.proofs.Going.{left_moved, right_moved, starts_more, left_start, right_start, left_node, right_node}
+use Rattle.class_totals.proofs.Going.{left_moved, right_moved, starts_more, left_start, right_start, left_node, right_node, left_nodes, right_nodes}
+
+-- all nodes were made, and they aren't too many
+nodes_within : {P : Type 0} (s : EventSide P) (children : List (ℕ × ℕ)) (starts : List (Start P)) → length children < 10000 → HasNodes s children starts → IsNodesWithin s starts 10000
+nodes_within s children starts few has = record {
+  nodes = paths_of children;
+  all = λ node k. let n = has.all node k in of_at (paths_of children) n.0 node (slice_get-get_or (paths_of children) n.0 [] (let e = paths_length children in omega (arith, n.1, e)) ∙ ap Some n.2);
+  total = let e = paths_length children in omega (arith, e, few);
+}
 
 pub totals_are_within : TotalsAreWithin
 totals_are_within a b w taken left right sound_a sound_b is once_left once_right few h = record {
   starts = h.starts;
   are = h.are;
-  nodes = record {
-    nodes = paths_of w.children;
-    all = λ node k. let n = h.nodes.all node k in of_at (paths_of w.children) n.0 node (slice_get-get_or (paths_of w.children) n.0 [] (let e = paths_length w.children in omega (arith, n.1, e)) ∙ ap Some n.2);
-    total = let e = paths_length w.children in omega (arith, e, few);
-  };
+  nodes = nodes_within (both_of a b) w.children h.starts few h.nodes;
   lefts = h.lefts;
   rights = h.rights;
   both = h.both;
@@ -97,4 +101,18 @@ pub heavy_is_over : HeavyIsOver
 heavy_is_over a b old taken l left right h = (
   λ over. (h.starts, h.are, (h.lefts, h.rights, h.both, over (h.lefts ++ enable_start l ∷ []) (Contains-append_right h.lefts (enable_start l ∷ []) (enable_start l) (Contains-head (enable_start l) [])) (pairs_more a old h.lefts (enable_start l) left.places h.left_counted.only))),
   λ over. (h.starts, h.are, (h.lefts, h.rights, h.both, over (h.rights ++ enable_start l ∷ []) (Contains-append_right h.rights (enable_start l ∷ []) (enable_start l) (Contains-head (enable_start l) [])) (pairs_more b old h.rights (enable_start l) right.places h.right_counted.only))),
+)
+
+pub few_nodes_are_within : FewNodesAreWithin
+few_nodes_are_within a b old new taken j l left right sound_a sound_b parents adds few h = (
+  λ at made holds. (
+    h.starts ++ left_moved (enable_start l) ∷ [],
+    starts_more a b old taken left right sound_a sound_b h (Left l.out.0) (left_moved (enable_start l)) (left_start a b old taken left right sound_a sound_b h j l at),
+    nodes_within (both_of a b) new (h.starts ++ left_moved (enable_start l) ∷ []) few (left_nodes a b old taken left right sound_a sound_b h j l new parents adds made holds),
+  ),
+  λ at made holds. (
+    h.starts ++ right_moved (enable_start l) ∷ [],
+    starts_more a b old taken left right sound_a sound_b h (Right l.out.0) (right_moved (enable_start l)) (right_start a b old taken left right sound_a sound_b h j l at),
+    nodes_within (both_of a b) new (h.starts ++ right_moved (enable_start l) ∷ []) few (right_nodes a b old taken left right sound_a sound_b h j l new parents adds made holds),
+  ),
 )

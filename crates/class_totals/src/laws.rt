@@ -1,6 +1,6 @@
 //! Totals over the latches of two circuits that have classes. None of these functions does anything: each contract is a law.
 
-ghost use Rattle.class_totals.specs.Laws.{TotalsBegin, TotalsStay, TotalsGoOn, TotalsAreWithin, ManyNodesAreOver, HeavyIsOver};
+ghost use Rattle.class_totals.specs.Laws.{TotalsBegin, TotalsStay, TotalsGoOn, TotalsAreWithin, ManyNodesAreOver, HeavyIsOver, FewNodesAreWithin};
 
 /// Where no latch is taken, nothing is counted.
 pub fn totals_begin()
@@ -30,4 +30,9 @@ pub fn many_nodes_are_over()
 /// Where the next latch is refused for its weight, the unfoldings of its circuit weigh too much with it.
 pub fn heavy_is_over()
     ensures { HeavyIsOver }
+{}
+
+/// Where the next latch is refused for its weight alone, no more than 10,000 event nodes are reached with it.
+pub fn few_nodes_are_within()
+    ensures { FewNodesAreWithin }
 {}

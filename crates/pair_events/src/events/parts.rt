@@ -9,7 +9,7 @@ ghost use Rattle.pair_events.specs.View.{circuit_at, side_of_both, signal_at};
 
 use super::Events;
 use aig::{Aig, Lit};
-use event_nodes::EventCircuit;
+use event_nodes::{EventCircuit, EventGraph};
 use event_variables::{merge_variables, node_path};
 use sec_base::{Ids, NoMemory, Side};
 use std::alloc::Global;
@@ -20,6 +20,13 @@ impl Events {
         ensures { result.now ≡ self.now.events.graph }
     {
         self.graph.aig()
+    }
+
+    /// The event graph.
+    pub fn graph(&self) -> &EventGraph
+        ensures { result.now ≡ self.now.events }
+    {
+        &self.graph
     }
 
     /// How many classes there are besides `always`.

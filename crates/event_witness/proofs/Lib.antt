@@ -1,0 +1,5 @@
+pub mod InputLeaves
+pub mod Differing
+pub mod Covering
+pub mod Told
+pub mod Showing
