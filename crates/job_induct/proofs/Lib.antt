@@ -1,3 +1,3 @@
 pub mod Finds
-pub mod Judging
+pub mod Judgements
 pub mod Lines
