@@ -1,3 +1,4 @@
 pub mod Finds
 pub mod Judgements
 pub mod Lines
+pub mod Pieces
