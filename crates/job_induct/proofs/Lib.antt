@@ -1,3 +1,4 @@
 pub mod Finds
-pub mod Judging
+pub mod Judgements
 pub mod Lines
+pub mod Pieces

@@ -2,7 +2,7 @@
 use Rattle.std.proofs.Common.{sym, subst, Err}
 use Rattle.job_induct.specs.declared.judging.JudgeError.{JudgeError}
 use Rattle.job_induct.specs.Ends.{refusal_of, IsJudgedBy}
-use Rattle.job_induct.proofs.Judging.{refused_by, is_mismatch, mismatched, oversized, judged_by}
+use Rattle.job_induct.proofs.Judgements.{refused_by, is_mismatch, mismatched, oversized, judged_by}
 use Rattle.job_induct.proofs.judging.judge_nets.Goals as goal
 
 pub mismatch_of-requires : goal.mismatch_of-requires

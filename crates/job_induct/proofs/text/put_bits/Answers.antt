@@ -14,8 +14,8 @@ loop-k-preserved c =
     let bits = c.args.bits.now in
     let k = c.loop-k.k in
     let line = bit_line c.args.inputs.now in
-    let in_vars : k < length vars = omega (arith, c.loop-k-test.true, c.min.ensures) in
-    let in_bits : k < length bits = omega (arith, c.loop-k-test.true, c.min.ensures) in
+    let in_vars : k < length vars = omega (arith, c.loop-k-test.true, c.min-k-end.ensures) in
+    let in_bits : k < length bits = omega (arith, c.loop-k-test.true, c.min-k-end.ensures) in
     c.in_ok-put_bit.ensures
     ∙ (ap (λ (t : List ℕ). t ++ line (get_or vars k 0, get_or bits k false)) c.loop-k.invariant
     ∙ (append_assoc c.args.text.now.items (flat_map line (take k (zip vars bits))) (line (get_or vars k 0, get_or bits k false))
@@ -27,4 +27,4 @@ returns c =
     let bits = c.args.bits.now in
     c.loop-k.invariant
     ∙ ap (λ (zs : List (ℕ × Bool)). c.args.text.now.items ++ flat_map (bit_line c.args.inputs.now) zs)
-    (take_all c.loop-k.k (zip vars bits) (omega (arith, c.loop-k-test.false, length-zip vars bits, c.min.ensures)))
+    (take_all c.loop-k.k (zip vars bits) (omega (arith, c.loop-k-test.false, length-zip vars bits, c.min-k-end.ensures)))
