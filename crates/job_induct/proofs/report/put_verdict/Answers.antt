@@ -14,6 +14,6 @@ returns-in_ok-put_values-in-NotShown c =
     subst (λ (v : InductVerdict). OnOk c.put_bits.result (c.put_bits.new.text.items ≡ c.args.text.now.items ++ verdict_text inputs c.args.conflicts v)) (sym c.in-NotShown.is)
     (on_ok c.put_bits.result
     (λ s. four_pieces _ _ _ _ _ _ _ _ _ c.in_ok-put-in-NotShown.ensures.ok name c.in_ok-put_values-in-NotShown.ensures
-        (subst (λ (bs : List Bool). c.put_bits.new.text.items ≡ c.put_values.new.text.items ++ flat_map (bit_line inputs) (zip c.in-NotShown.vars bs)) c.as_slice-in-NotShown-2.ensures
-        (subst (λ (vs : List ℕ). c.put_bits.new.text.items ≡ c.put_values.new.text.items ++ flat_map (bit_line inputs) (zip vs c.as_slice-in-NotShown-2.result.now)) c.as_slice-in-NotShown.ensures s)))
+    (subst (λ (bs : List Bool). c.put_bits.new.text.items ≡ c.put_values.new.text.items ++ flat_map (bit_line inputs) (zip c.in-NotShown.vars bs)) c.as_slice-in-NotShown-2.ensures
+    (subst (λ (vs : List ℕ). c.put_bits.new.text.items ≡ c.put_values.new.text.items ++ flat_map (bit_line inputs) (zip vs c.as_slice-in-NotShown-2.result.now)) c.as_slice-in-NotShown.ensures s)))
     c.put_bits.ensures)
