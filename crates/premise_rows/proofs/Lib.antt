@@ -8,3 +8,7 @@ pub mod Nested
 pub mod Certificates
 pub mod ResetBounds
 pub mod ResetPremises
+pub mod NetWeights
+pub mod ByBlocks
+pub mod TurningNets
+pub mod EqualByBlocks

@@ -142,10 +142,10 @@ comparable_from x y m k s t p q same none_left none_right few_left few_right = r
   light = λ a b la lb. light_from s t a b (net_is_small x m s p a la) (net_is_small y k t q b lb) none_left none_right few_left few_right;
 }
 
-abbrev late_design : List BlifModel
+abbrev pub late_design : List BlifModel
 late_design = one_model (codes "a" ∷ codes "b" ∷ []) (codes "y" ∷ []) (Names 4 (codes "a" ∷ codes "b" ∷ []) (codes "n") and_cover ∷ LatchLine 6 (codes "n") (codes "y") None None init.Zero ∷ [])
 
-abbrev early_design : List BlifModel
+abbrev pub early_design : List BlifModel
 early_design =
     one_model (codes "a" ∷ codes "b" ∷ []) (codes "y" ∷ [])
     (LatchLine 4 (codes "a") (codes "p") None None init.Zero ∷ LatchLine 5 (codes "b") (codes "q") None None init.Zero ∷ Names 6 (codes "p" ∷ codes "q" ∷ []) (codes "y") and_cover ∷ [])
@@ -176,7 +176,7 @@ early_sound : has_no_fault (codes "y" ∷ []) early_design ≡ true
 unfolding walk
 early_sound = refl
 
-late_from_spells : Spells late_from_zero late_design small_late
+pub late_from_spells : Spells late_from_zero late_design small_late
 unfolding fault_of head_of cut_line going_on
 late_from_spells = record {
   short = omega arith;
@@ -186,7 +186,7 @@ late_from_spells = record {
   small = (tested_is_sound (codes "n" ∷ []) late_design late_sound, tested_is_small late_design small_late (rank_of (codes "y" ∷ [])) late_spots late_passes);
 }
 
-early_from_spells : Spells early_from_zero early_design small_early
+pub early_from_spells : Spells early_from_zero early_design small_early
 unfolding fault_of head_of cut_line going_on
 early_from_spells = record {
   short = omega arith;

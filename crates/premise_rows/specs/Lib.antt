@@ -4,3 +4,5 @@ pub mod RuledOut
 pub mod CutOpen
 pub mod Certificates
 pub mod ResetPremises
+pub mod ByBlocks
+pub mod EqualByBlocks

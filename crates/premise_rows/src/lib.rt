@@ -7,6 +7,8 @@ ghost use Rattle.premise_rows.specs.ResetPremises.{ResetsAreComparable};
 ghost use Rattle.premise_rows.specs.CutOpen.{NestedIsCutOpen};
 ghost use Rattle.premise_rows.specs.RuledOut.{AndsMeetNoLimit};
 ghost use Rattle.premise_rows.specs.Certificates.{CertificatesMeetPremises};
+ghost use Rattle.premise_rows.specs.ByBlocks.{TextsCanBeJudged};
+ghost use Rattle.premise_rows.specs.EqualByBlocks.{AreEqualByBlocks};
 
 /// Two `and`s, by other rows, can be compared.
 pub fn ands_are_comparable()
@@ -61,4 +63,16 @@ pub fn resets_are_comparable()
 /// Two `and`s, and a circuit with the same retimed, have certificates of their output.
 pub fn certificates_meet_premises()
     ensures { CertificatesMeetPremises }
+{}
+
+/// Two `and`s by other rows, a circuit with a cycle of latches and itself, and a retiming that moves initial values along can be judged by
+/// blocks of latches.
+pub fn texts_can_be_judged()
+    ensures { TextsCanBeJudged }
+{}
+
+/// A latch that turns with its input, and two that turn each other with it, are one block of the coarsest inductive partition, over which
+/// the outputs are equal.
+pub fn are_equal_by_blocks()
+    ensures { AreEqualByBlocks }
 {}
