@@ -1,0 +1,5 @@
+pub mod Comparing
+pub mod Asked
+pub mod Sequences
+pub mod Firsts
+pub mod Agreeing

@@ -1,0 +1,4 @@
+pub mod Compared
+pub mod Findings
+pub mod Agreement
+pub mod Decided
