@@ -16,9 +16,10 @@ COMMANDS = {
     "sim --mode event": ("sim", "x", "s", "--mode", "event"),
     "replay": ("replay", "x", "x", "s"),
     "replay --mode event": ("replay", "x", "x", "s", "--mode", "event"),
+    "induct": ("induct", "x", "x"),
 }
 PLAIN, EVENT = {0, 4, 8}, {0, 3, 4, 8}
-STATUSES = {name: EVENT if name.endswith("event") else PLAIN for name in COMMANDS} | {"check": {0, 4, 8, 9}}
+STATUSES = {name: EVENT if name.endswith("event") else PLAIN for name in COMMANDS} | {"check": {0, 4, 8, 9}, "induct": {0, 2, 3, 4, 8}}
 # What reading and flattening don't refuse.
 LATER = (b"refused A TooLarge", b"refused S", b"refused Power")
 
@@ -94,12 +95,16 @@ def fault_of(command, ended):
         return None if not report else "a report with status 8"
     if not report.endswith(b"\n"):
         return "a report that isn't ended"
+    last = last_line(report)
+    if command == "induct" and status in (2, 3):
+        verdict = b"\nverdict not-shown " if status == 2 else b"\nverdict limit "
+        return None if report.startswith(b"inputs ") and verdict in report else f"status {status}: {last[:80]!r}"
     if status in (3, 4, 9):
         begins = {3: b"limit recover A:", 4: b"refused ", 9: b"cyclic A "}[status]
         return None if report.startswith(begins) and report.count(b"\n") == 1 else f"status {status}: {report[:80]!r}"
-    last = last_line(report)
     fits = {
         "check": last == b"verdict equal\n",
+        "induct": last == b"verdict equal\n",
         "graph": last == b"acyclic\n" or last.startswith(b"cycle "),
         "sim": report.startswith(b"outputs"),
         "replay": report == b"replay same\n",
