@@ -128,18 +128,15 @@ nil-right [] = refl
 nil-right (x ∷ xs) = ap (λ ys. x ∷ ys) (nil-right xs)
 
 -- a new name behind the early ones, where there are no late ones
-pub early-push : {V E : Type 0} (r : Result V E) (early late now : List (List ℕ)) (name : List ℕ) → length late ≡ 0 → OnOk r (now ≡ early ++ name ∷ []) → OnErr r (now ≡ early)
-    → length early + length late < 2 ^ 32 → AreDistinct (early ++ late) → is_among (early ++ late) name ≡ false → length (early ++ late) + 1 < 2 ^ 32
+pub early-put : (early late now : List (List ℕ)) (name : List ℕ) → length late ≡ 0 → now ≡ early ++ name ∷ [] → AreDistinct (early ++ late) → is_among (early ++ late) name ≡ false → length (early ++ late) + 1 < 2 ^ 32
     → (length now + length late < 2 ^ 32) × AreDistinct (now ++ late)
-early-push r early (y ∷ ys) now name none ok err small distinct new room = absurd (omega (arith, none))
-early-push (Err e) early [] now name none ok err small distinct new room =
-    (subst (λ xs. length xs + 0 < 2 ^ 32) (sym err) small, subst (λ xs. AreDistinct (xs ++ [])) (sym err) distinct)
-early-push (Ok u) early [] now name none ok err small distinct new room =
-    let len : length now ≡ length early + 1 = ap length ok ∙ length-append early (name ∷ []) in
+early-put early (y ∷ ys) now name none put distinct new room = absurd (omega (arith, none))
+early-put early [] now name none put distinct new room =
+    let len : length now ≡ length early + 1 = ap length put ∙ length-append early (name ∷ []) in
     let wide : length early + 1 < 2 ^ 32 = subst (λ xs. length xs + 1 < 2 ^ 32) (nil-right early) room in
     let fresh : is_among early name ≡ false = subst (λ xs. is_among xs name ≡ false) (nil-right early) new in
     let once : AreDistinct early = subst AreDistinct (nil-right early) distinct in
-    (omega (arith, len, wide), subst AreDistinct (sym (nil-right now ∙ ok)) (distinct-push early name once fresh))
+    (omega (arith, len, wide), subst AreDistinct (sym (nil-right now ∙ put)) (distinct-push early name once fresh))
 
 -- a new name behind the late ones
 pub late-push : {V E : Type 0} (r : Result V E) (early late now : List (List ℕ)) (name : List ℕ) → OnOk r (now ≡ late ++ name ∷ []) → OnErr r (now ≡ late)

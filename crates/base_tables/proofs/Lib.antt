@@ -1,3 +1,4 @@
 pub mod TableLemmas
 pub mod Appended
 pub mod Ordered
+pub mod Hashing

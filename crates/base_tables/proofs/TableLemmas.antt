@@ -1,13 +1,11 @@
 -- Between the keys of an index set and the list that a table is seen as.
-use Rattle.std.proofs.Common.{◌≡◌, ◌+◌, ◌<◌, ℕ, Bool, true, false, cond, ◌||◌, List, [], ◌∷◌, ◌++◌, get_or, map, slice_get, Some, option_map, if◌then◌else◌, Contains, refl, sym, ap, subst, ◌∙◌, true≢false, arith, take, inl, inr, ◌⊎◌, zero, suc, ◌==◌, ◌&&◌}
-use Rattle.std.specs.List.{list_any, find, IsDistinct}
+use Rattle.std.proofs.Common.{◌≡◌, ◌+◌, ◌<◌, ℕ, Bool, true, false, ◌||◌, List, [], ◌∷◌, ◌++◌, map, slice_get, Some, Contains, refl, sym, ap, subst, ◌∙◌, true≢false, arith, take, zero, suc, ◌==◌, ◌&&◌}
+use Rattle.std.specs.List.{list_any}
 use Rattle.std.specs.Str.{bytes_eq}
-use Rattle.std.proofs.lemmas.Bool.{cases_order}
 use Rattle.std.proofs.lemmas.Bool.Decides.{Decides-eqb}
-use Rattle.std.proofs.lemmas.List.{map-append, take_more}
+use Rattle.std.proofs.lemmas.List.{take_more}
 use Rattle.std.proofs.lemmas.List.Folds.{list_any_at}
-use Rattle.std.proofs.lemmas.Map.Keys.{apart_from_distinct}
-use Rattle.std.proofs.lemmas.Option.{slice_get-map, slice_get_within, get_or_from_slice_get, none-some, same_Some}
+use Rattle.std.proofs.lemmas.Option.{slice_get_within, get_or_from_slice_get, none-some, same_Some}
 use Rattle.std.proofs.lemmas.Slice.Eq.{bytes_eq-Decides}
 use Rattle.base_tables.specs.Table.{is_among, AreDistinct}
 
@@ -15,17 +13,6 @@ use Rattle.base_tables.specs.Table.{is_among, AreDistinct}
 pub list_any-map : {X Y : Type 0} (test : Y → Bool) (f : X → Y) (xs : List X) → list_any (λ x. test (f x)) xs ≡ list_any test (map f xs)
 list_any-map test f [] = refl
 list_any-map test f (x ∷ xs) = ap (λ rest. test (f x) || rest) (list_any-map test f xs)
-
--- what a look-up finds passes its test
-pub find-passes : {X : Type 0} (test : X → Bool) (xs : List X) (x : X) → find test xs ≡ Some x → test x ≡ true
-find-passes test [] x e = absurd (none-some x e)
-find-passes test (y ∷ ys) x e = by (test y) refl (λ h. find-passes test ys x h)
-  where
-    by : (b : Bool) → test y ≡ b → (find test ys ≡ Some x → test x ≡ true) → test x ≡ true
-    by true p rest =
-        let here : Some y ≡ Some x = sym (ap (λ b. cond b (Some y) (find test ys)) p) ∙ e in
-        subst (λ z. test z ≡ true) (same_Some y x here) p
-    by false p rest = rest (sym (ap (λ b. cond b (Some y) (find test ys)) p) ∙ e)
 
 -- a name of the list is among the names
 pub is_among-Contains : (names : List (List ℕ)) (name : List ℕ) → Contains names name → is_among names name ≡ true
@@ -36,45 +23,11 @@ is_among-Contains names name (k, within, here) =
 pub Contains_not-is_among : (names : List (List ℕ)) (name : List ℕ) → is_among names name ≡ false → Contains names name → ⊥
 Contains_not-is_among names name none there = true≢false (sym (is_among-Contains names name there) ∙ none)
 
-module _ {V : Type 0} (bytes : V → List ℕ) (keys : List V) where
-  -- the key that a look-up of the name finds is the name
-  pub found_name : (name : List ℕ) (i : ℕ) (key : V) → slice_get keys i ≡ Some key → Some key ≡ find (λ v. bytes_eq name (bytes v)) keys → slice_get (map bytes keys) i ≡ Some name
-  found_name name i key here found =
-      let same : name ≡ bytes key = (bytes_eq-Decides name (bytes key)).0 (find-passes (λ v. bytes_eq name (bytes v)) keys key (sym found)) in
-      slice_get-map bytes keys i ∙ ap (option_map bytes) here ∙ ap Some (sym same)
-
-  -- a name that isn't there goes last
-  pub put_last : (after : List V) (key : V) → after ≡ (if list_any (λ v. bytes_eq (bytes key) (bytes v)) keys then keys else keys ++ key ∷ [])
-      → is_among (map bytes keys) (bytes key) ≡ false → map bytes after ≡ map bytes keys ++ bytes key ∷ []
-  put_last after key inserted none =
-      let absent : list_any (λ v. bytes_eq (bytes key) (bytes v)) keys ≡ false = list_any-map (λ n. bytes_eq (bytes key) n) bytes keys ∙ none in
-      ap (map bytes) (inserted ∙ ap (λ b. if b then keys else keys ++ key ∷ []) absent) ∙ map-append bytes keys (key ∷ [])
-
 -- the key behind what stands at a place
 pub key_at : {K X : Type 0} (f : K → X) (ks : List K) (i : ℕ) (x : X) → slice_get (map f ks) i ≡ Some x → (k : K) × (slice_get ks i ≡ Some k) × (f k ≡ x)
 key_at f [] i x h = absurd (none-some x h)
 key_at f (k ∷ ks) zero x h = (k, refl, same_Some (f k) x h)
 key_at f (k ∷ ks) (suc i) x h = key_at f ks i x h
-
--- keys that an equality tells apart stand at one place each
-module _ {K X : Type 0} (f : K → X) (e : K → K → Bool) (same : (a b : K) → f a ≡ f b → e a b ≡ true) (ks : List K) (distinct : IsDistinct e ks) where
-  pub not_twice : (i j : ℕ) (x : X) → i < j → slice_get (map f ks) i ≡ Some x → slice_get (map f ks) j ≡ Some x → ⊥
-  not_twice i j x below hi hj =
-      let first = key_at f ks i x hi in
-      let second = key_at f ks j x hj in
-      let equal : e first.0 second.0 ≡ true = same first.0 second.0 (first.2 ∙ sym second.2) in
-      let apart : e (get_or ks i first.0) (get_or ks j first.0) ≡ false = apart_from_distinct e ks i j first.0 distinct below (slice_get_within ks j second.0 second.1) in
-      let apart_here : e first.0 second.0 ≡ false =
-      ap (λ k. e k second.0) (sym (get_or_from_slice_get ks i first.0 first.0 first.1)) ∙ ap (λ k. e (get_or ks i first.0) k) (sym (get_or_from_slice_get ks j second.0 first.0 second.1)) ∙ apart in
-      true≢false (sym equal ∙ apart_here)
-
-  pub distinct_places : AreDistinct (map f ks)
-  distinct_places i j x hi hj = by (cases_order i j)
-    where
-      by : (i ≡ j) ⊎ ((i < j) ⊎ (j < i)) → i ≡ j
-      by (inl e) = e
-      by (inr (inl below)) = absurd (not_twice i j x below hi hj)
-      by (inr (inr above)) = absurd (not_twice j i x above hj hi)
 
 -- equal pairs pass the test of pairs
 pub pair_eq-same : (a b : ℕ × ℕ) → a ≡ b → ((a.0 == b.0) && (a.1 == b.1)) ≡ true

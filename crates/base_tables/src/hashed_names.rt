@@ -1,25 +1,36 @@
-//! Names in the order in which they first came, in a hash table.
+//! Names in the order in which they first came, in an open table of their numbers.
 
-ghost use Rattle.std.specs.Prelude.{◌≡◌, ◌+◌, ◌^◌, ◌<◌, ℕ, false, List, [], ◌∷◌, ◌++◌, length, map, slice_get, is_some, Some, IfSome, OnOk, OnErr};
+ghost use Rattle.std.specs.Prelude.{◌≡◌, ◌+◌, ◌^◌, ◌<◌, ℕ, false, List, [], ◌∷◌, ◌++◌, length, map, slice_get, is_some, IfSome, IfNone, IfOk, OnOk, OnErr};
 ghost use Rattle.base_tables.specs.Table.{is_among, AreDistinct};
 
+use crate::name_search::{filled, free_place, name_hash, number_of};
+use crate::sorted_names::put_last;
 use base_lists::{NoMemory, Seq, Word};
-use indexmap::IndexSet;
 use std::alloc::Global;
 use std::marker::Model;
+
+/// The least places of a table that has names.
+const LEAST: usize = 16;
 
 /// Names in the order in which they first came. A contract sees the list of names.
 #[derive(Drop)]
 pub(crate) struct HashedNames {
-    names: IndexSet<Vec<u8>>,
+    names: Vec<Vec<u8>>,
+    /// The hash of each name.
+    hashes: Vec<u32>,
+    /// At each place one more than the number of a name, or 0.
+    slots: Vec<u32>,
 }
 
 impl Model for HashedNames {
+    ghost use Rattle.std.specs.Prelude.{◌≡◌, ℕ, List, map};
+    ghost use Rattle.base_tables.specs.Hashed.{IsNameTable};
+
     ghost Value = { List (List ℕ) };
 
-    ghost view = { λ t. map (λ v. v.items) t.names.keys };
+    ghost view = { λ t. map (λ v. v.items) t.names.items };
 
-    ghost invariant = { λ t. length t.names.keys < 2 ^ 32 };
+    ghost invariant = { λ t. IsNameTable (map (λ v. v.items) t.names.items) t.hashes.items t.slots.items };
 }
 
 impl HashedNames {
@@ -28,7 +39,9 @@ impl HashedNames {
         ensures { result ≡ [] }
     {
         HashedNames {
-            names: IndexSet::new(alloc),
+            names: Vec::new(alloc),
+            hashes: Vec::new(alloc),
+            slots: Vec::new(alloc),
         }
     }
 
@@ -46,22 +59,17 @@ impl HashedNames {
         let _ = self.names.len();
     }
 
-    /// Whether the name is there.
-    pub(crate) fn has(&self, name: &[u8]) -> bool
-        ensures { result ≡ is_among self.now name.now }
-    {
-        self.names.contains(name)
-    }
-
     /// The name's number.
     pub(crate) fn find(&self, name: &[u8]) -> Option<u32>
         ensures here { IfSome result (λ id. slice_get self.now id ≡ Some name.now) }
         ensures found { is_some result ≡ is_among self.now name.now }
     {
-        match self.names.get_full(name) {
-            Some((index, _)) => Some(index as u32),
-            None => None,
-        }
+        number_of(
+            self.names.as_slice(),
+            self.hashes.as_slice(),
+            self.slots.as_slice(),
+            name,
+        )
     }
 
     /// The name with this number.
@@ -72,22 +80,65 @@ impl HashedNames {
         self.names[id as usize].as_slice()
     }
 
-    /// Puts a new name last.
-    pub(crate) fn put_hashed(&mut self, name: Vec<u8>) -> Result<(), NoMemory>
+    /// Puts a new name last; or gives it back, where all places at which it would be looked for are taken.
+    pub(crate) fn put_hashed(&mut self, name: Vec<u8>) -> Result<Option<Vec<u8>>, NoMemory>
         requires new { is_among self.old name.items ≡ false }
         requires room { length self.old + 1 < 2 ^ 32 }
-        ensures ok { OnOk result (self.new ≡ self.old ++ name.items ∷ []) }
+        ensures put { IfOk result (λ back. IfNone back (self.new ≡ self.old ++ name.items ∷ [])) }
+        ensures back { IfOk result (λ back. IfSome back (λ same. same ≡ name)) }
+        ensures kept { IfOk result (λ back. IfSome back (λ same. self.new ≡ self.old)) }
         ensures err { OnErr result (self.new ≡ self.old) }
     {
-        self.names.insert_full(name)?;
-        Ok(())
+        if !self.makes_room()? {
+            return Ok(Some(name));
+        }
+        let hash = name_hash(name.as_slice());
+        let Some(place) = free_place(self.slots.as_slice(), hash) else {
+            return Ok(Some(name));
+        };
+        self.names.reserve(1)?;
+        self.hashes.push(hash)?;
+        let number = self.names.len() as u32;
+        put_last(&mut self.names, name);
+        self.slots[place] = number + 1;
+        Ok(None)
+    }
+
+    /// Doubles the places where half of them are taken, and says whether each name has found one.
+    fn makes_room(&mut self) -> Result<bool, NoMemory>
+        ensures { self.new ≡ self.old }
+    {
+        if self.names.len() < self.slots.len() / 2 {
+            return Ok(true);
+        }
+        self.grow()
+    }
+
+    /// Doubles the places, and says whether each name has found one.
+    fn grow(&mut self) -> Result<bool, NoMemory>
+        ensures { self.new ≡ self.old }
+    {
+        let len = self.slots.len().saturating_mul(2).max(LEAST);
+        let alloc = *self.names.allocator();
+        match filled(alloc, self.names.as_slice(), self.hashes.as_slice(), len)? {
+            Some(slots) => {
+                self.slots = slots;
+                Ok(true)
+            }
+            None => Ok(false),
+        }
     }
 
     /// Puts the names behind the words.
     pub(crate) fn put_into(self, words: &mut Vec<Word>) -> Result<(), NoMemory>
         ensures { OnOk result (words.new.items ≡ words.old.items ++ self) }
     {
-        for name in self.names {
+        let HashedNames {
+            names,
+            hashes: _,
+            slots: _,
+        } = self;
+        for name in names {
             words.push(Seq::from_vec(name))?;
         }
         Ok(())

@@ -1,8 +1,8 @@
 //! Tables that number names, and pairs of numbers, in the order in which they first come.
 #![tactic(auto)]
 
-mod crowds;
 mod hashed_names;
+mod name_search;
 mod sorted_names;
 mod tables;
 

@@ -94,7 +94,7 @@ impl SortedNames {
 }
 
 /// Puts the name last. There is room for it.
-fn put_last(names: &mut Vec<Vec<u8>>, name: Vec<u8>)
+pub(crate) fn put_last(names: &mut Vec<Vec<u8>>, name: Vec<u8>)
     requires { vec_len names.old < vec_capacity names.old }
     ensures { names.new.items ≡ names.old.items ++ name ∷ [] }
 {

@@ -3,35 +3,29 @@
 ghost use Rattle.std.specs.Prelude.{◌≡◌, ◌+◌, ◌^◌, ◌<◌, ℕ, false, not, List, [], ◌∷◌, ◌++◌, length, map, if◌then◌else◌, slice_get, is_some, IsTrue, Contains, IfSome, IfNone, IfOk, OnOk, OnErr};
 ghost use Rattle.base_tables.specs.Table.{is_among, AreDistinct};
 
-use crate::crowds::Crowd;
 use crate::hashed_names::HashedNames;
 use crate::sorted_names::SortedNames;
 use base_lists::{NoMemory, Seq, Words};
-use indexmap::IndexSet;
 use std::alloc::Global;
 use std::marker::Model;
+use unique_table::UniqueTable;
 
 /// The most entries of a table.
 const FULL: usize = u32::MAX as usize;
 
 /// Names in the order in which they first came, each at the number of its place. A contract sees the list of names.
 ///
-/// They stand in a hash table up to the first that falls into a crowded part of it, and from that one on in an ordered map. So no
-/// choice of names makes looking up slow.
+/// They stand in a hash table up to the first that finds no free place there, and from that one on in an ordered map. So no choice
+/// of names makes looking up slow.
 pub struct NameTable {
     early: HashedNames,
-    crowd: Crowd,
     late: SortedNames,
 }
 
 /// It is let go by one call: an owner isn't taken apart field by field at each way out.
 impl Drop for NameTable {
     fn drop(self) {
-        let NameTable {
-            early: _,
-            crowd: _,
-            late: _,
-        } = self;
+        let NameTable { early: _, late: _ } = self;
     }
 }
 
@@ -50,7 +44,6 @@ impl NameTable {
     {
         NameTable {
             early: HashedNames::new(alloc),
-            crowd: Crowd::new(alloc),
             late: SortedNames::new(alloc),
         }
     }
@@ -145,10 +138,13 @@ impl NameTable {
         ensures ok { OnOk result (self.new ≡ self.old ++ name.items ∷ []) }
         ensures err { OnErr result (self.new ≡ self.old) }
     {
-        if goes_early(&mut self.crowd, &self.early, &self.late, name.as_slice()) {
-            return self.early.put_hashed(name);
+        if self.late.len() > 0 {
+            return self.late.put_sorted(name);
         }
-        self.late.put_sorted(name)
+        match self.early.put_hashed(name)? {
+            None => Ok(()),
+            Some(name) => self.late.put_sorted(name),
+        }
     }
 
     /// An equal table.
@@ -168,28 +164,17 @@ impl NameTable {
         ensures { IfOk result (λ words. words ≡ self) }
     {
         let mut words = Vec::with_capacity(alloc, self.len() as usize)?;
-        let NameTable {
-            early,
-            crowd: _,
-            late,
-        } = self;
+        let NameTable { early, late } = self;
         early.put_into(&mut words)?;
         late.put_into(alloc, &mut words)?;
         Ok(Seq::from_vec(words))
     }
 }
 
-/// Whether a new name goes into the hash table: none has gone into the ordered map yet, and its part of the table isn't crowded.
-fn goes_early(crowd: &mut Crowd, early: &HashedNames, late: &SortedNames, name: &[u8]) -> bool
-    ensures { IsTrue result → length late.now ≡ 0 }
-{
-    late.len() == 0 && crowd.admits(early, name)
-}
-
 /// Pairs of numbers in the order in which they first came, each at the number of its place. A contract sees the
 /// list of pairs.
 pub struct PlaceTable {
-    pairs: IndexSet<(u32, u32)>,
+    pairs: UniqueTable<(u32, u32)>,
 }
 
 /// It is let go by one call: an owner isn't taken apart field by field at each way out.
@@ -202,9 +187,7 @@ impl Drop for PlaceTable {
 impl Model for PlaceTable {
     ghost Value = { List (ℕ × ℕ) };
 
-    ghost view = { λ t. t.pairs.keys };
-
-    ghost invariant = { λ t. length t.pairs.keys < 2 ^ 32 };
+    ghost view = { λ t. t.pairs };
 }
 
 impl PlaceTable {
@@ -213,7 +196,7 @@ impl PlaceTable {
         ensures { result ≡ [] }
     {
         PlaceTable {
-            pairs: IndexSet::new(alloc),
+            pairs: UniqueTable::new(alloc, u32::MAX),
         }
     }
 
@@ -221,14 +204,14 @@ impl PlaceTable {
     pub fn len(&self) -> u32
         ensures { result ≡ length self.now }
     {
-        self.pairs.len() as u32
+        self.pairs.len()
     }
 
     /// Tells a proof that no pair stands twice. It does nothing.
     pub fn keeps(&self)
         ensures { AreDistinct self.now }
     {
-        let _ = self.pairs.len();
+        self.pairs.keeps();
     }
 
     /// The pair's number. A new pair goes last. After `NoMemory` nothing has changed.
@@ -239,8 +222,7 @@ impl PlaceTable {
         ensures added { OnOk result ((Contains self.old (input, place) → ⊥) → self.new ≡ self.old ++ (input, place) ∷ []) }
         ensures err { OnErr result (self.new ≡ self.old) }
     {
-        let (id, _) = self.pairs.insert_full((input, place))?;
-        Ok(id as u32)
+        self.pairs.insert((input, place))
     }
 
     /// The pair with this number.
@@ -248,6 +230,6 @@ impl PlaceTable {
         requires { var < length self.now }
         ensures { slice_get self.now var ≡ Some result }
     {
-        self.pairs[var as usize]
+        self.pairs.key(var)
     }
 }

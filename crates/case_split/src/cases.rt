@@ -21,7 +21,7 @@ const SMALL: usize = 16;
 pub fn agree_by_cases(alloc: Global, graph: &Aig, left: Lit, right: Lit) -> Result<bool, NoMemory>
     ensures { IfOk result (λ same. IsTrue same → AgreeIn graph.now left.0 right.0) }
 {
-    let mut open = Vec::new(alloc);
+    let mut waiting = Vec::new(alloc);
     let mut room = usize::MAX;
     let first = split(
         alloc,
@@ -29,16 +29,16 @@ pub fn agree_by_cases(alloc: Global, graph: &Aig, left: Lit, right: Lit) -> Resu
         (left, right),
         usize::MAX,
         &mut room,
-        &mut open,
+        &mut waiting,
     )?;
     if !first {
         return Ok(false);
     }
     for _turn in 0..CASES {
-        let Some(case) = open.pop() else {
+        let Some(case) = waiting.pop() else {
             return Ok(true);
         };
-        let told = split_case(alloc, &case, &mut room, &mut open)?;
+        let told = split_case(alloc, &case, &mut room, &mut waiting)?;
         if !told {
             return Ok(false);
         }
@@ -51,9 +51,9 @@ fn split_case(
     alloc: Global,
     case: &Case,
     room: &mut usize,
-    open: &mut Vec<Case>,
+    waiting: &mut Vec<Case>,
 ) -> Result<bool, NoMemory>
-    ensures { IfOk result (λ told. IsTrue told → IsSplitOf case.now.graph case.now.left.0 case.now.right.0 open.old.items open.new.items) }
+    ensures { IfOk result (λ told. IsTrue told → IsSplitOf case.now.graph case.now.left.0 case.now.right.0 waiting.old.items waiting.new.items) }
 {
     split(
         alloc,
@@ -61,7 +61,7 @@ fn split_case(
         (case.left, case.right),
         case.before,
         room,
-        open,
+        waiting,
     )
 }
 
@@ -73,9 +73,9 @@ fn split(
     lits: (Lit, Lit),
     before: usize,
     room: &mut usize,
-    open: &mut Vec<Case>,
+    waiting: &mut Vec<Case>,
 ) -> Result<bool, NoMemory>
-    ensures { IfOk result (λ told. IsTrue told → IsSplitOf graph.now lits.0.0 lits.1.0 open.old.items open.new.items) }
+    ensures { IfOk result (λ told. IsTrue told → IsSplitOf graph.now lits.0.0 lits.1.0 waiting.old.items waiting.new.items) }
 {
     if lits.0 == lits.1 {
         return Ok(true);
@@ -90,7 +90,7 @@ fn split(
     };
     let low = case_of(alloc, graph, marks.as_slice(), lits, size, var, false)?;
     let high = case_of(alloc, graph, marks.as_slice(), lits, size, var, true)?;
-    put_both(open, low, high)
+    put_both(waiting, low, high)
 }
 
 /// Whether cones of so many nodes are to be split, which had so many before. It takes them from the room.
@@ -106,13 +106,17 @@ fn is_worth(size: usize, before: usize, room: &mut usize) -> bool {
 }
 
 /// Puts both cases behind the rest, if there are both.
-fn put_both(open: &mut Vec<Case>, low: Option<Case>, high: Option<Case>) -> Result<bool, NoMemory>
-    ensures { IfOk result (λ told. IsTrue told → AreBoth low high open.old.items open.new.items) }
+fn put_both(
+    waiting: &mut Vec<Case>,
+    low: Option<Case>,
+    high: Option<Case>,
+) -> Result<bool, NoMemory>
+    ensures { IfOk result (λ told. IsTrue told → AreBoth low high waiting.old.items waiting.new.items) }
 {
     let (Some(low), Some(high)) = (low, high) else {
         return Ok(false);
     };
-    open.push(low)?;
-    open.push(high)?;
+    waiting.push(low)?;
+    waiting.push(high)?;
     Ok(true)
 }

@@ -1,5 +1,3 @@
-pub mod NoFaults
-pub mod Ranking
 pub mod FlatParts
 pub mod FlatMarks
 pub mod FlatCycles

@@ -1,9 +1,8 @@
 -- What a design says of all of its nets. Each law is the contract of a function of this crate.
-use Rattle.std.specs.Prelude.{◌≡◌, ◌↔◌, ℕ, ◌<◌, Bool, true, List, [], length, map, None}
+use Rattle.std.specs.Prelude.{◌≡◌, ◌↔◌, ℕ, ◌<◌, Bool, List, [], map, None}
 use Rattle.std.specs.List.{sum_by}
 use Rattle.circuit_theory.specs.declared.Mode.TheVariants.{Plain}
 use Rattle.circuit_theory.specs.Agree.{cut, IsMinimalCut, AgreeOnward}
-use Rattle.circuit_theory.specs.Circuit.{Circuit}
 use Rattle.circuit_theory.specs.Depth.{HasCycle}
 use Rattle.circuit_theory.specs.Flattened.{latch_names}
 use Rattle.circuit_theory.specs.Places.{IsPlace}
@@ -13,18 +12,7 @@ use Rattle.blif_read.specs.declared.design.BlifModel.{BlifModel}
 use Rattle.blif_read.specs.Design.{Place, clock_places, circuit_of_design}
 use Rattle.flat_net.specs.View.{NetView, circuit_of, ports_of}
 use Rattle.net_alike.specs.Closed.{IsClosed}
-use Rattle.flatten.specs.DesignFaults.{IsSoundDesign, IsClocked, IsFlatOf}
-use Rattle.design_laws.specs.NoFault.{has_no_fault}
-use Rattle.design_laws.specs.Ranked.{IsRanked}
-
--- A design that passes the test has no fault.
-abbrev pub TestedIsSound : Type 0
-TestedIsSound = (order : List (List ℕ)) (models : List BlifModel) → has_no_fault order models ≡ true → IsSoundDesign models
-
--- Ranks over a design's places rule out cycles of latches in its nets.
-abbrev pub RankedIsAcyclic : Type 0
-RankedIsAcyclic = (models : List BlifModel) (net : NetView) (removed : List (List ℕ)) (rank : Place → ℕ) → IsFlatOf models net → IsRanked (circuit_of_design models net.clock) removed rank →
-    HasCycle (circuit_of net) NoneEnabled removed → ⊥
+use Rattle.flatten.specs.DesignFaults.{IsClocked, IsFlatOf}
 
 -- A closed list of the places of a design with latches cut out bounds the unfolding of its nets with these cut out.
 abbrev pub ClosedCutsBound : Type 0

@@ -23,7 +23,7 @@ use Rattle.job_base.specs.declared.status.StatusName.TheVariants as status
 use Rattle.induct.specs.declared.induction.InductVerdict.TheVariants as verdict
 use Rattle.induct.specs.declared.induction.Induction.{Induction}
 use Rattle.induct.specs.Inductions.{AreOwnNumbers, IsOver, IsInduction}
-use Rattle.induct_meaning.specs.Report.{induct_text}
+use Rattle.induct_report.specs.Report.{induct_text}
 use Rattle.induct_meaning.specs.Judged.{AreLight}
 
 -- what is said of the two texts, where both are told

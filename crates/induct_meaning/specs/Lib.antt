@@ -1,4 +1,3 @@
-pub mod Report
 pub mod Judged
 pub mod Found
 pub mod Answer

@@ -1,4 +1,2 @@
 pub mod Finds
 pub mod Judgements
-pub mod Lines
-pub mod Pieces

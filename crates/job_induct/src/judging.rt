@@ -3,13 +3,13 @@
 ghost use Rattle.std.specs.Prelude.{◌≡◌, ◌≤◌, [], ◌∷◌, ◌++◌, IfOk, OnOk, option_to_list};
 ghost use Rattle.std.specs.List.{filter_map};
 ghost use Rattle.flat_net.specs.Comparable.{IsComparable};
-ghost use Rattle.induct_meaning.specs.Report.{induct_text};
+ghost use Rattle.induct_report.specs.Report.{induct_text};
 ghost use Rattle.induct_meaning.specs.Judged.{judgement_of, proofs_of};
 ghost use Rattle.job_induct.specs.Ends.{IsMismatch, mismatch_of, IsJudgedBy, judged_end};
 
-use crate::report::report;
 use flat_net::Net;
 use induct::{InductError, InductPair, InductPairs, InductVerdict, Induction, induct};
+use induct_report::report;
 use job_base::{Finding, Judgement, Proofs, Refusal, Stop};
 use pair_decide::Proof;
 use sec_base::{MAX_CONFLICTS, NoMemory, Side, Text, Word};

@@ -3,7 +3,5 @@
 
 mod comparison;
 mod judging;
-mod report;
-mod text;
 
 pub use comparison::{BlockComparison, compare_by_blocks};

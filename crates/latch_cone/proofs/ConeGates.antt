@@ -1,22 +1,14 @@
--- The gates among the signals of a cone.
+-- The gates that drive signals.
 use Rattle.std.proofs.Common.{◌≡◌, ◌∙◌, ℕ, List, [], ◌∷◌, slice_get, Option, Some, None, refl, sym, ap, subst, arith, inl, inr, ◌⊎◌}
 use Rattle.std.specs.List.{Contains, filter_map, cons_option}
 use Rattle.std.specs.Prelude.{option_and_then}
 use Rattle.std.specs.Option.{option_to_list}
-use Rattle.std.specs.List.Sorted.{IsNonDecreasing, IsPermutation}
-use Rattle.std.proofs.lemmas.List.Sorted.{Contains-permutation, IsPermutation-sym}
 use Rattle.std.proofs.lemmas.Option.{slice_get_within}
-use Rattle.circuit_theory.proofs.Lists.{at_of, of_at, Contains-cases, Contains-head, Contains-tail, filter_map-from}
-use Rattle.circuit_theory.specs.Circuit.{Reaches}
-use Rattle.flat_net.specs.declared.parts.Gate.{Gate}
-use Rattle.flat_net.specs.declared.parts.LatchAt.{LatchAt}
+use Rattle.circuit_theory.proofs.Lists.{at_of, Contains-cases, Contains-head, Contains-tail}
 use Rattle.flat_net.specs.declared.parts.Driver.{Driver}
 use Rattle.flat_net.specs.declared.parts.Driver.TheVariants as driver
-use Rattle.flat_net.specs.View.{NetView, circuit_of}
-use Rattle.flat_net.specs.Sound.{IsSound}
-use Rattle.latch_cone.specs.Cones.{AreReached}
-use Rattle.latch_cone.specs.Parts.{AreConeGates, gate_of, gate_at}
-use Rattle.latch_cone.proofs.Walks.{gate_fanins, reach_more}
+use Rattle.flat_net.specs.View.{NetView}
+use Rattle.latch_cone.specs.Parts.{gate_of, gate_at}
 
 -- what is made of one element
 pub made_of_one : {X Y : Type 0} (f : X → Option Y) (x : X) → filter_map f (x ∷ []) ≡ option_to_list (f x)
@@ -60,32 +52,3 @@ driven_by_gate n s j e = by (slice_get n.drivers s) refl e
         none : None ≡ Some j → ⊥
         none q = cc
     by (Some d) at h = at ∙ ap Some (of d (sym (ap (option_and_then gate_of) at) ∙ h))
-
-module _ (n : NetView) (sound : IsSound n) (l : LatchAt) (seen gates : List ℕ) (reached : AreReached n l.next.0 seen) (order : IsNonDecreasing gates) (are : IsPermutation (filter_map (gate_at n) seen) gates) where
-  -- a reached signal's gate is among them
-  into : (s j : ℕ) → Reaches (circuit_of n) l.next.0 s → gate_at n s ≡ Some j → Contains gates j
-  into s j reach e = Contains-permutation _ gates j are (filter_map-into (gate_at n) seen s j (reached.all s reach) e)
-
-  -- a gate that is among them drives a reached signal
-  from : (j : ℕ) → Contains gates j → (s : ℕ) × Reaches (circuit_of n) l.next.0 s × (slice_get n.drivers s ≡ Some (driver.Gate j))
-  from j h =
-      let x = filter_map-from (gate_at n) seen j (Contains-permutation gates _ j (IsPermutation-sym _ gates are) h) in
-      let at = at_of seen x.0 x.1 in
-      (x.0, reached.some.each at.0 x.0 at.1, driven_by_gate n x.0 j x.2)
-
-  pub cone_gates : AreConeGates n l gates
-  cone_gates = record {
-    in_order = order;
-    within = λ k j h. let x = from j (of_at gates k j h) in let d = sound.drivers x.0 (driver.Gate j) x.2 in slice_get_within n.gates j d.0 d.1;
-    taken = λ j e. into l.next.0 j Reaches.here e;
-    closed = λ i j g f h at read e.
-        let x = from i h in
-        let d = sound.drivers x.0 (driver.Gate i) x.2 in
-        let k = at_of g.fanins f read in
-        let same : g.out.0 ≡ x.0 = ap (λ (o : Option Gate). out o) (sym at ∙ d.1) ∙ d.2 in
-        into f.0 j (reach_more (subst (λ z. Reaches (circuit_of n) l.next.0 z) (sym same) x.1) (gate_fanins n sound i g at k.0 f k.1)) e;
-  }
-    where
-      out : Option Gate → ℕ
-      out None = 0
-      out (Some g) = g.out.0

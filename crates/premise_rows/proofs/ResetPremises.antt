@@ -18,8 +18,8 @@ use Rattle.blif_read.specs.Design.{Place, walk, circuit_of_design}
 use Rattle.blif_read.specs.Fault.{fault_of}
 use Rattle.blif_read.specs.Heads.{head_of}
 use Rattle.sec_base.specs.declared.basics.Init.TheVariants as init
-use Rattle.design_laws.specs.NoFault.{has_no_fault}
-use Rattle.design_laws.proofs.NoFaults.{tested_is_sound}
+use Rattle.design_tests.specs.NoFault.{has_no_fault}
+use Rattle.design_tests.proofs.NoFaults.{tested_is_sound}
 use Rattle.design_rows.specs.Designs.{one_model, and_cover}
 use Rattle.design_rows.specs.Designs as design
 use Rattle.design_rows.specs.Small.{Small, IsSmall, small_late, small_early}

@@ -1,17 +1,29 @@
 -- A new name stands once.
-use Rattle.std.proofs.Common.{◌+◌, ◌<◌, ◌^◌, ◌∙◌, ap, length, subst, sym, rules}
-use Rattle.base_tables.specs.Table.{is_among}
-use Rattle.base_tables.proofs.Appended.{early-push, late-push}
+use Rattle.std.proofs.Common.{◌≡◌, ◌+◌, ◌<◌, ◌^◌, ◌++◌, ◌∷◌, [], ◌∙◌, ℕ, List, ap, length, subst, sym, arith}
+use Rattle.std.specs.Prelude.{IfSome, IfNone}
+use Rattle.base_tables.specs.Table.{is_among, AreDistinct}
+use Rattle.base_tables.proofs.Appended.{early-put, late-push}
 use Rattle.base_tables.proofs.tables.NameTable.put.Goals as goal
 
-pub invariant_of-self-2 : goal.invariant_of-self-2
-invariant_of-self-2 c =
+pub invariant_of-self : goal.invariant_of-self
+invariant_of-self c =
     late-push c.put_sorted.result c.self.inside.early c.self.inside.late c.put_sorted.new.self c.args.name.items c.put_sorted.ensures.ok c.put_sorted.ensures.err c.self.invariant.0 c.self.invariant.1
     (ap (λ names. is_among names c.args.name.items) c.self.view_is ∙ c.requires.new)
     (subst (λ names. length names + 1 < 2 ^ 32) (sym c.self.view_is) c.requires.room)
 
-pub invariant_of-self : goal.invariant_of-self
-invariant_of-self c =
-    early-push c.put_hashed.result c.self.inside.early c.self.inside.late c.put_hashed.new.self c.args.name.items (search rules) c.put_hashed.ensures.ok c.put_hashed.ensures.err c.self.invariant.0 c.self.invariant.1
+pub invariant_of-self-in-None : goal.invariant_of-self-in-None
+invariant_of-self-in-None c =
+    let none : length c.self.inside.late ≡ 0 = omega (arith, c.if-len-gt0.false, c.len.ensures) in
+    early-put c.self.inside.early c.self.inside.late c.put_hashed.new.self c.args.name.items none
+    (subst (λ back. IfNone back (c.put_hashed.new.self ≡ c.self.inside.early ++ c.args.name.items ∷ [])) c.in-None.is c.in_ok-put_hashed.ensures.put) c.self.invariant.1
     (ap (λ names. is_among names c.args.name.items) c.self.view_is ∙ c.requires.new)
     (subst (λ names. length names + 1 < 2 ^ 32) (sym c.self.view_is) c.requires.room)
+
+pub invariant_of-self-in-Some : goal.invariant_of-self-in-Some
+invariant_of-self-in-Some c =
+    let kept : c.put_hashed.new.self ≡ c.self.inside.early = subst (λ back. IfSome back (λ same. c.put_hashed.new.self ≡ c.self.inside.early)) c.in-Some.is c.in_ok-put_hashed.ensures.kept in
+    let same : c.in-Some.name ≡ c.args.name = subst (λ back. IfSome back (λ same. same ≡ c.args.name)) c.in-Some.is c.in_ok-put_hashed.ensures.back in
+    subst (λ (early : List (List ℕ)). (length early + length c.put_sorted-in-Some.new.self < 2 ^ 32) × AreDistinct (early ++ c.put_sorted-in-Some.new.self)) (sym kept)
+    (late-push c.put_sorted-in-Some.result c.self.inside.early c.self.inside.late c.put_sorted-in-Some.new.self c.in-Some.name.items c.put_sorted-in-Some.ensures.ok c.put_sorted-in-Some.ensures.err c.self.invariant.0 c.self.invariant.1
+    (ap (λ name. is_among (c.self.inside.early ++ c.self.inside.late) name.items) same ∙ ap (λ names. is_among names c.args.name.items) c.self.view_is ∙ c.requires.new)
+    (subst (λ names. length names + 1 < 2 ^ 32) (sym c.self.view_is) c.requires.room))

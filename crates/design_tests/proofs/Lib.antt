@@ -1,0 +1,2 @@
+pub mod NoFaults
+pub mod Ranking
