@@ -4,4 +4,3 @@ pub mod Reading
 pub mod Meaning
 pub mod Parting
 pub mod Mapped
-pub mod Pairs

@@ -24,12 +24,12 @@ use Rattle.assume_functions.specs.Functions.{IsAssumedAt}
 use Rattle.assume_places.specs.Gathered.{HasPlaces, AreOwn, place_at}
 use Rattle.assume_places.specs.Placed.{ArePut, CanBePut}
 use Rattle.assume_queries.specs.declared.map.Parts.{Parts}
-use Rattle.assume_queries.specs.declared.order.VariableOrder.{VariableOrder}
-use Rattle.assume_queries.specs.declared.order.VariableOrder.TheVariants as order
-use Rattle.assume_queries.specs.Order.{GoesFirst, AreOrdered}
+use Rattle.assume_answers.specs.declared.order.VariableOrder.{VariableOrder}
+use Rattle.assume_answers.specs.declared.order.VariableOrder.TheVariants as order
+use Rattle.assume_answers.specs.Order.{GoesFirst, AreOrdered}
 use Rattle.assume_queries.specs.Made.{IsMadeOf}
 use Rattle.assume_queries.specs.Parted.{HasParts, IsQueryMade, IsObligationMade, Weighs}
-use Rattle.assume_queries.specs.Under.{IsUnder, IsObligationUnder}
+use Rattle.assume_answers.specs.Under.{IsUnder, IsObligationUnder}
 use Rattle.assume_queries.proofs.Reading.{read_ordered}
 use Rattle.assume_queries.proofs.Meaning.{is_under}
 

@@ -23,11 +23,11 @@ use Rattle.assume_shape.specs.Shape.{assumption_of}
 use Rattle.assume_functions.proofs.Assumed.{assumed_meets}
 use Rattle.assume_places.specs.Gathered.{place_at, AreOwn}
 use Rattle.assume_places.specs.Placed.{ArePut}
-use Rattle.assume_queries.specs.declared.order.VariableOrder.{VariableOrder}
-use Rattle.assume_queries.specs.Order.{AreOrdered}
+use Rattle.assume_answers.specs.declared.order.VariableOrder.{VariableOrder}
+use Rattle.assume_answers.specs.Order.{AreOrdered}
 use Rattle.assume_queries.specs.Parts.{function_at, literals_at, variables_at}
 use Rattle.assume_queries.specs.Made.{IsMadeOf}
-use Rattle.assume_queries.specs.Under.{MeetsAtEach, ReadsAtOne, IsUnder}
+use Rattle.assume_answers.specs.Under.{MeetsAtEach, ReadsAtOne, IsUnder}
 use Rattle.assume_queries.proofs.OneTree.{place_one}
 use Rattle.assume_queries.proofs.Reading.{variables_from, variables_to, put_at, variable_is, read_ordered}
 

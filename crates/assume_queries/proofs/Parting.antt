@@ -15,7 +15,7 @@ use Rattle.obligations.specs.Asked.{queries_of}
 use Rattle.obligations.proofs.Listed.{query-at, take-next}
 use Rattle.assume_places.specs.Gathered.{AreOwn}
 use Rattle.assume_queries.specs.declared.map.Parts.{Parts}
-use Rattle.assume_queries.specs.declared.order.VariableOrder.{VariableOrder}
+use Rattle.assume_answers.specs.declared.order.VariableOrder.{VariableOrder}
 use Rattle.assume_queries.specs.Parts.{function_at, literals_at}
 use Rattle.assume_queries.specs.Made.{IsMadeOf}
 use Rattle.assume_queries.specs.Parted.{HasParts, AreParts, ArePartsFrom, AreOwnFrom, IsQueryMade, IsObligationMade}

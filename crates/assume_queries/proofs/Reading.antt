@@ -22,9 +22,9 @@ use Rattle.assume_laws.proofs.Meeting.{leaf_at}
 use Rattle.assume_functions.specs.Functions.{IsAssumedAt}
 use Rattle.assume_places.specs.Gathered.{place_at}
 use Rattle.assume_places.specs.Placed.{ArePut}
-use Rattle.assume_queries.specs.declared.order.VariableOrder.{VariableOrder}
-use Rattle.assume_queries.specs.declared.order.VariableOrder.TheVariants as order
-use Rattle.assume_queries.specs.Order.{GoesFirst, AreOrdered}
+use Rattle.assume_answers.specs.declared.order.VariableOrder.{VariableOrder}
+use Rattle.assume_answers.specs.declared.order.VariableOrder.TheVariants as order
+use Rattle.assume_answers.specs.Order.{GoesFirst, AreOrdered}
 use Rattle.assume_queries.specs.Parts.{function_at, variables_at}
 
 -- a variable of some of the functions is one of one of them

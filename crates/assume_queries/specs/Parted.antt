@@ -13,8 +13,8 @@ use Rattle.assume_functions.specs.declared.own.OwnFunction.{OwnFunction}
 use Rattle.assume_functions.specs.Functions.{IsOwnFunction}
 use Rattle.assume_places.specs.Gathered.{AreOwn}
 use Rattle.assume_queries.specs.declared.map.Parts.{Parts}
-use Rattle.assume_queries.specs.declared.order.VariableOrder.{VariableOrder}
-use Rattle.assume_queries.specs.Order.{AreOrdered}
+use Rattle.assume_answers.specs.declared.order.VariableOrder.{VariableOrder}
+use Rattle.assume_answers.specs.Order.{AreOrdered}
 use Rattle.assume_queries.specs.Parts.{variables_at}
 use Rattle.assume_queries.specs.Made.{IsMadeOf}
 

@@ -2,12 +2,9 @@
 //! of both sides. Nothing here knows a form but for the order of its variables.
 #![tactic(auto)]
 
-mod laws;
 mod map;
 mod order;
 mod parts;
 mod query;
 
-pub use laws::answers_under;
 pub use map::{UnderError, asked_under};
-pub use order::VariableOrder;

@@ -12,13 +12,13 @@ ghost use Rattle.assume_shape.specs.Shape.{assumption_of};
 ghost use Rattle.assume_functions.specs.Functions.{IsOwnFunction};
 ghost use Rattle.assume_places.specs.Gathered.{AreOwn, IsOverUnder, IsLightUnder};
 ghost use Rattle.assume_queries.specs.declared.map.UnderError.TheVariants as under_error;
-ghost use Rattle.assume_queries.specs.Order.{AreOrdered};
-ghost use Rattle.assume_queries.specs.Under.{IsObligationUnder};
+ghost use Rattle.assume_answers.specs.Order.{AreOrdered};
+ghost use Rattle.assume_answers.specs.Under.{IsObligationUnder};
 ghost use Rattle.assume_queries.specs.Parted.{AreParts, ArePartsFrom, AreOwnFrom, IsObligationMade, Weighs};
 
-use crate::order::VariableOrder;
 use crate::query::query_under;
 use aig::Aig;
+use assume_answers::VariableOrder;
 use assume_functions::OwnFunction;
 use assume_places::{QueryPlaces, functions_at, places_of_all};
 use obligations::{Obligation, Queries, copy_name};

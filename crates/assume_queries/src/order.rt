@@ -1,21 +1,13 @@
-//! The orders of variables, and two lists in one of them as one list.
+//! Two lists of variables in one order as one list.
 
 ghost use Rattle.std.specs.Prelude.{IfOk};
-ghost use Rattle.assume_queries.specs.Order.{AreOrdered, IsOrderedMerge};
+ghost use Rattle.assume_answers.specs.Order.{AreOrdered, IsOrderedMerge};
 
+use assume_answers::VariableOrder;
 use cycle_variables::merge_cycles;
 use sec_base::{Ids, NoMemory, PlaceTable};
 use shift_variables::merge_variables;
 use std::alloc::Global;
-
-/// Which of two variables goes first.
-#[derive(Clone, Copy)]
-pub enum VariableOrder {
-    /// That of the greater shift, and of one shift that with the lesser number.
-    Shifts,
-    /// That of the lesser cycle, and of one cycle that with the lesser number.
-    Cycles,
-}
 
 /// The variables that one of both lists has, in this order. Each list is in it.
 pub(crate) fn merged(

@@ -2,13 +2,14 @@
 
 ghost use Rattle.std.specs.Prelude.{◌+◌, ◌*◌, ◌^◌, ◌<◌, ◌≤◌, length, All, IfOk, OnOk};
 ghost use Rattle.aig.specs.Graph.{Grows};
-ghost use Rattle.assume_queries.specs.Order.{AreOrdered};
+ghost use Rattle.assume_answers.specs.Order.{AreOrdered};
 ghost use Rattle.assume_queries.specs.Parts.{variables_at};
 ghost use Rattle.assume_queries.specs.Made.{IsMadeOf};
 
-use crate::order::{VariableOrder, merged};
+use crate::order::merged;
 use crate::parts::{literals, variables};
 use aig::Aig;
+use assume_answers::VariableOrder;
 use assume_care::conjunction;
 use pair_decide::Query;
 use sec_base::{NoMemory, PlaceTable};

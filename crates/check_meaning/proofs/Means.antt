@@ -1,5 +1,5 @@
 -- What the statuses equal, different, not shown and limit mean for the texts.
-use Rattle.std.specs.Prelude.{IfSome}
+use Rattle.std.specs.Prelude.{IfSome, Result, Ok}
 use Rattle.std.proofs.Common.{◌≡◌, ℕ, List, refl, subst, inl, inr, ◌⊎◌, Option, Some, None}
 use Rattle.sec_base.specs.Outside.{Takes}
 use Rattle.sec_base.specs.declared.settings.Settings.{Settings}
@@ -11,32 +11,44 @@ use Rattle.outcome.specs.declared.verdict.Outcome.{Outcome}
 use Rattle.outcome.specs.declared.verdict.ResetWitness.{ResetWitness}
 use Rattle.outcome.specs.declared.verdict.Verdict.{Verdict}
 use Rattle.outcome.specs.declared.verdict.Verdict.TheVariants as verdict
-use Rattle.outcome.specs.declared.verdict.Why.TheVariants as why
+use Rattle.outcome.specs.declared.verdict.Why.{Why}
 use Rattle.outcome.specs.Report.{report_text}
 use Rattle.job_base.specs.declared.finding.Finding.{Finding}
 use Rattle.job_base.specs.declared.finding.Finding.TheVariants as finding
 use Rattle.job_base.specs.declared.status.StatusName.{StatusName}
 use Rattle.job_base.specs.declared.status.StatusName.TheVariants as status
 use Rattle.job_base.specs.Written.{verdict_status, status_of, IsWrittenAs}
-use Rattle.compare_base.specs.Compared.{ByReset}
+use Rattle.compare_base.specs.declared.error.CompareError.{CompareError}
+use Rattle.compare_base.specs.Compared.{ByReset, Compared}
 use Rattle.compare_base.proofs.Forms.{by_reset}
+use Rattle.under_base.specs.Compared.{ComparedUnder}
 use Rattle.sec_files.specs.Loading.{Loads}
+use Rattle.assume_texts.specs.Answers.{EqualUnder, DifferentUnder, NotShownUnder, LimitUnder}
+use Rattle.assume_texts.proofs.Answers.{equal_under, different_under, not_shown_under, limit_under}
 use Rattle.job_files.specs.Reading.{Held}
-use Rattle.check_meaning.specs.Check.{Check}
-use Rattle.check_meaning.specs.Answer.{CheckMeans, TextsAgree, TextsDiffer, TextsNotShown, TextsUndecided}
-use Rattle.check_meaning.specs.Resets.{ResetsAgree, ResetsDiffer, ResetsUndecided}
-use Rattle.check_meaning.specs.Found.{OfTexts, OfNets, IsFoundOf}
-use Rattle.check_meaning.proofs.ResetTexts.{resets_agree, resets_differ, resets_not_always, resets_are_shown, resets_undecided}
-use Rattle.check_meaning.proofs.Texts.{texts_agree, texts_always, texts_differ, texts_not_shown, texts_undecided}
+use Rattle.check_found.specs.Check.{Check}
+use Rattle.check_meaning.specs.Answer.{CheckMeans}
+use Rattle.check_texts.specs.Texts.{TextsAgree, TextsDiffer, TextsNotShown, TextsUndecided}
+use Rattle.check_texts.specs.Resets.{ResetsAgree, ResetsDiffer, ResetsUndecided}
+use Rattle.check_found.specs.Found.{OfGiven, OfNets, OfThreeNets, IsAnsweredBy, IsFoundOf}
+use Rattle.check_texts.proofs.ResetTexts.{resets_agree, resets_differ, resets_not_always, resets_are_shown, resets_undecided}
+use Rattle.check_texts.proofs.Texts.{texts_agree, texts_always, texts_differ, texts_not_shown, texts_undecided}
 
 if_some : {X : Type 0} {F G : X → Type 0} (o : Option X) → ((x : X) → F x → G x) → IfSome o F → IfSome o G
 if_some None f h = tt
 if_some (Some x) f h = f x h
 
 -- what is said of the nets is said of the texts
-over_nets : (held : Held) (check : Check) (P : NetView → NetView → Type 0) (Q : List ℕ → List ℕ → Type 0) →
-    ((x y : List ℕ) (a b : NetView) → Loads x a → Loads y b → P a b → Q x y) → OfNets held check P → OfTexts held check Q
-over_nets held check P Q each h = if_some (held check.left) (λ x here. if_some (held check.right) (λ y n. each x y n.0 n.1 n.2 n.3 n.4) here) h
+module _ (held : Held) (check : Check) (P : List ℕ → List ℕ → Type 0) (Q : List ℕ → List ℕ → List ℕ → Type 0) (r : Result Outcome CompareError)
+    (two : (x y : List ℕ) (a b : NetView) → Loads x a → Loads y b → Compared a b check.settings r → P x y)
+    (three : (x y z : List ℕ) (a b c : NetView) → Loads x a → Loads y b → Loads z c → ComparedUnder a b c check.settings r → Q x y z) where
+  over_nets : IsAnsweredBy held check r → OfGiven held check check.assumed P Q
+  over_nets h = by check.assumed h
+    where
+      by : (assumed : Option (List ℕ)) → OfGiven held check assumed (OfNets (λ a b. Compared a b check.settings r)) (OfThreeNets (λ a b c. ComparedUnder a b c check.settings r)) → OfGiven held check assumed P Q
+      by None k = if_some (held check.left) (λ x here. if_some (held check.right) (λ y n. two x y n.0 n.1 n.2 n.3 n.4) here) k
+      by (Some path) k =
+          if_some (held check.left) (λ x here. if_some (held check.right) (λ y there. if_some (held path) (λ z n. three x y z n.0 n.1 n.2 n.3 n.4 n.5 n.6) there) here) k
 
 equal_verdict : (v : Verdict) → verdict_status v ≡ status.Equal → v ≡ verdict.Equal
 equal_verdict verdict.Equal e = refl
@@ -53,11 +65,11 @@ different_verdict (verdict.DifferentFrom w) e = inr (w, refl)
 different_verdict (verdict.NotShown reason) e = absurd (cc)
 different_verdict (verdict.Limit at) e = absurd (cc)
 
-not_shown_verdict : (v : Verdict) → verdict_status v ≡ status.NotShown → (w : Witness) × (v ≡ verdict.NotShown (why.Cut w))
+not_shown_verdict : (v : Verdict) → verdict_status v ≡ status.NotShown → (reason : Why) × (v ≡ verdict.NotShown reason)
 not_shown_verdict verdict.Equal e = absurd (cc)
 not_shown_verdict (verdict.Different w) e = absurd (cc)
 not_shown_verdict (verdict.DifferentFrom w) e = absurd (cc)
-not_shown_verdict (verdict.NotShown (why.Cut w)) e = (w, refl)
+not_shown_verdict (verdict.NotShown reason) e = (reason, refl)
 not_shown_verdict (verdict.Limit at) e = absurd (cc)
 
 limit_verdict : (v : Verdict) → verdict_status v ≡ status.Limit → (at : LimitAt) × (v ≡ verdict.Limit at)
@@ -72,7 +84,7 @@ report_of : (before now : Option (List ℕ)) (o : Outcome) (s : Settings) (check
 report_of before now o s check e taken = subst (λ (t : Settings). Takes before now (report_text t o)) e taken
 
 equal_found : (held : Held) (check : Check) (before now : Option (List ℕ)) (f : Finding) (proofs : List Proof) → IsFoundOf held check f → IsWrittenAs before now f proofs status.Equal →
-    OfTexts held check (λ x y. ByReset check.settings.reset (TextsAgree x y check.settings before now) (ResetsAgree x y check.settings before now))
+    CheckMeans held check before now proofs status.Equal
 equal_found held check before now finding.Words proofs h w = absurd h
 equal_found held check before now (finding.Refused r) proofs h w = absurd (let e = w.1 in cc)
 equal_found held check before now (finding.Cyclic side names) proofs h w = absurd (let e = w.1 in cc)
@@ -85,13 +97,14 @@ equal_found held check before now (finding.Judged j kept text) proofs h w = absu
 equal_found held check before now (finding.Undecided side name proof) proofs h w = absurd h
 equal_found held check before now (finding.Checked o s) proofs h w =
     let v = equal_verdict o.verdict w.1 in
-    over_nets held check _ (λ x y. ByReset check.settings.reset (TextsAgree x y check.settings before now) (ResetsAgree x y check.settings before now))
-    (λ x y a b left right.
     let taken = report_of before now o s check h.0 w.2 in
-    by_reset check.settings.reset (λ compared. texts_agree before now check.settings o taken x y a b left right compared v) (λ compared. resets_agree before now check.settings o taken x y a b left right compared v)) h.1
+    over_nets held check (λ x y. ByReset check.settings.reset (TextsAgree x y check.settings before now) (ResetsAgree x y check.settings before now)) (λ x y z. EqualUnder x y z check.settings before now) (Ok o)
+    (λ x y a b left right.
+    by_reset check.settings.reset (λ compared. texts_agree before now check.settings o taken x y a b left right compared v) (λ compared. resets_agree before now check.settings o taken x y a b left right compared v))
+    (λ x y z a b c left right assumed compared. equal_under x y z a b c left right assumed before now check.settings o taken compared v) h.1
 
 different_found : (held : Held) (check : Check) (before now : Option (List ℕ)) (f : Finding) (proofs : List Proof) → IsFoundOf held check f → IsWrittenAs before now f proofs status.Different →
-    OfTexts held check (λ x y. ByReset check.settings.reset (TextsDiffer x y check.settings before now) (ResetsDiffer x y check.settings before now))
+    CheckMeans held check before now proofs status.Different
 different_found held check before now finding.Words proofs h w = absurd h
 different_found held check before now (finding.Refused r) proofs h w = absurd (let e = w.1 in cc)
 different_found held check before now (finding.Cyclic side names) proofs h w = absurd (let e = w.1 in cc)
@@ -103,9 +116,9 @@ different_found held check before now (finding.Unrefuted u) proofs h w = absurd 
 different_found held check before now (finding.Judged j kept text) proofs h w = absurd h
 different_found held check before now (finding.Undecided side name proof) proofs h w = absurd h
 different_found held check before now (finding.Checked o s) proofs h w =
-    over_nets held check _ (λ x y. ByReset check.settings.reset (TextsDiffer x y check.settings before now) (ResetsDiffer x y check.settings before now))
-    (λ x y a b left right.
     let taken = report_of before now o s check h.0 w.2 in
+    over_nets held check (λ x y. ByReset check.settings.reset (TextsDiffer x y check.settings before now) (ResetsDiffer x y check.settings before now)) (λ x y z. DifferentUnder x y z check.settings before now) (Ok o)
+    (λ x y a b left right.
     by_reset check.settings.reset
     (λ compared.
     elim (different_verdict o.verdict w.1) [
@@ -116,10 +129,11 @@ different_found held check before now (finding.Checked o s) proofs h w =
     elim (different_verdict o.verdict w.1) [
       | inl v ↦ absurd (resets_not_always before now check.settings o taken x y a b left right compared v.0 v.1)
       | inr v ↦ resets_differ before now check.settings o taken x y a b left right compared v.0 v.1
-    ])) h.1
+    ]))
+    (λ x y z a b c left right assumed compared. different_under x y z a b c left right assumed before now check.settings o taken compared (different_verdict o.verdict w.1)) h.1
 
 not_shown_found : (held : Held) (check : Check) (before now : Option (List ℕ)) (f : Finding) (proofs : List Proof) → IsFoundOf held check f → IsWrittenAs before now f proofs status.NotShown →
-    OfTexts held check (λ x y. ByReset check.settings.reset (TextsNotShown x y check.settings before now) ⊥)
+    CheckMeans held check before now proofs status.NotShown
 not_shown_found held check before now finding.Words proofs h w = absurd h
 not_shown_found held check before now (finding.Refused r) proofs h w = absurd (let e = w.1 in cc)
 not_shown_found held check before now (finding.Cyclic side names) proofs h w = absurd (let e = w.1 in cc)
@@ -132,14 +146,15 @@ not_shown_found held check before now (finding.Judged j kept text) proofs h w = 
 not_shown_found held check before now (finding.Undecided side name proof) proofs h w = absurd h
 not_shown_found held check before now (finding.Checked o s) proofs h w =
     let v = not_shown_verdict o.verdict w.1 in
-    over_nets held check _ (λ x y. ByReset check.settings.reset (TextsNotShown x y check.settings before now) ⊥)
-    (λ x y a b left right.
     let taken = report_of before now o s check h.0 w.2 in
+    over_nets held check (λ x y. ByReset check.settings.reset (TextsNotShown x y check.settings before now) ⊥) (λ x y z. NotShownUnder x y z check.settings before now) (Ok o)
+    (λ x y a b left right.
     by_reset check.settings.reset (λ compared. texts_not_shown before now check.settings o taken x y a b left right compared v.0 v.1)
-    (λ compared. resets_are_shown before now check.settings o taken x y a b left right compared (why.Cut v.0) v.1)) h.1
+    (λ compared. resets_are_shown before now check.settings o taken x y a b left right compared v.0 v.1))
+    (λ x y z a b c left right assumed compared. not_shown_under x y z a b c left right assumed before now check.settings o taken compared v.0 v.1) h.1
 
 limit_found : (held : Held) (check : Check) (before now : Option (List ℕ)) (f : Finding) (proofs : List Proof) → IsFoundOf held check f → IsWrittenAs before now f proofs status.Limit →
-    OfTexts held check (λ x y. ByReset check.settings.reset (TextsUndecided x y check.settings proofs before now) (ResetsUndecided x y check.settings proofs before now))
+    CheckMeans held check before now proofs status.Limit
 limit_found held check before now finding.Words proofs h w = absurd h
 limit_found held check before now (finding.Refused r) proofs h w = absurd (let e = w.1 in cc)
 limit_found held check before now (finding.Cyclic side names) proofs h w = absurd (let e = w.1 in cc)
@@ -152,11 +167,13 @@ limit_found held check before now (finding.Judged j kept text) proofs h w = absu
 limit_found held check before now (finding.Undecided side name proof) proofs h w = absurd h
 limit_found held check before now (finding.Checked o s) proofs h w =
     let v = limit_verdict o.verdict w.1 in
-    over_nets held check _ (λ x y. ByReset check.settings.reset (TextsUndecided x y check.settings proofs before now) (ResetsUndecided x y check.settings proofs before now))
-    (λ x y a b left right.
     let taken = report_of before now o s check h.0 w.2 in
+    over_nets held check (λ x y. ByReset check.settings.reset (TextsUndecided x y check.settings proofs before now) (ResetsUndecided x y check.settings proofs before now))
+    (λ x y z. LimitUnder x y z check.settings proofs before now) (Ok o)
+    (λ x y a b left right.
     by_reset check.settings.reset (λ compared. texts_undecided before now check.settings o taken x y a b left right compared proofs v.0 v.1 w.0)
-    (λ compared. resets_undecided before now check.settings o taken x y a b left right compared proofs v.0 v.1 w.0)) h.1
+    (λ compared. resets_undecided before now check.settings o taken x y a b left right compared proofs v.0 v.1 w.0))
+    (λ x y z a b c left right assumed compared. limit_under x y z a b c left right assumed before now check.settings o taken compared proofs v.0 v.1 w.0) h.1
 
 -- no verdict is a report on one circuit
 no_done_verdict : (v : Verdict) → verdict_status v ≡ status.Done → ⊥

@@ -12,8 +12,8 @@ use Rattle.job_base.specs.Written.{status_of, IsWrittenAs}
 use Rattle.job_base.specs.Meaning.{SaysNothing, EndsWith}
 use Rattle.job_base.proofs.Meaning.{unbuilt_means}
 use Rattle.job_files.specs.Reading.{Held}
-use Rattle.check_meaning.specs.Check.{Check, WhereBuilt}
-use Rattle.check_meaning.specs.Found.{IsFoundOf, IsCheckFound}
+use Rattle.check_found.specs.Check.{Check, WhereBuilt}
+use Rattle.check_found.specs.Found.{IsFoundOf, IsCheckFound}
 use Rattle.check_meaning.specs.Answer.{CanAnswer, IsAnswer, CheckMeans, CheckSays, IsCheckComplete}
 use Rattle.check_meaning.proofs.Means.{check_means}
 use Rattle.check_meaning.proofs.Complete.{check_answered}

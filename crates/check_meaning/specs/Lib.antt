@@ -1,4 +1,1 @@
 pub mod Answer
-pub mod Check
-pub mod Found
-pub mod Resets

@@ -1,3 +1,3 @@
-//! What is found of two files that are compared, what the status and the report mean for the circuits that they spell, and when they can be
-//! compared. It has definitions and lemmas alone: the job itself is done by `job_check`.
+//! What the status and the report of a comparison mean for the circuits that the files spell, and when these can be compared. It has
+//! definitions and lemmas alone: what is found stands in `check_found`.
 #![tactic(auto)]

@@ -1,3 +1,4 @@
+pub mod Allowed
 mod Numbers
 mod Parses
 mod Taken

@@ -1,7 +1,7 @@
 -- Words that are written out, computed.
 use Rattle.std.proofs.Common.{refl}
 use Rattle.clap.proofs.OnLiterals.{clap_on_literals}
-use Rattle.command_line.specs.Known.{CheckIsTaken, GraphIsTaken, SimIsTaken, ReplayIsTaken, GenIsTaken, LratIsTaken, CertIsTaken, InductIsTaken, ResetIsTaken, OtherModeIsNoJob, OtherFormIsNoJob, ResetIsNoJob}
+use Rattle.command_line.specs.Known.{CheckIsTaken, GraphIsTaken, SimIsTaken, ReplayIsTaken, GenIsTaken, LratIsTaken, CertIsTaken, InductIsTaken, ResetIsTaken, AssumedIsTaken, AssumedIsRefused, OtherModeIsNoJob, OtherFormIsNoJob, ResetIsNoJob}
 
 pub check_is_taken : CheckIsTaken
 unfolding clap_on_literals
@@ -38,6 +38,14 @@ induct_is_taken = (refl, refl)
 pub reset_is_taken : ResetIsTaken
 unfolding clap_on_literals
 reset_is_taken = ((refl, refl), refl)
+
+pub assumed_is_taken : AssumedIsTaken
+unfolding clap_on_literals
+assumed_is_taken = ((refl, refl), refl)
+
+pub assumed_is_refused : AssumedIsRefused
+unfolding clap_on_literals
+assumed_is_refused = (refl, refl)
 
 pub other_is_no_job : OtherModeIsNoJob
 unfolding clap_on_literals

@@ -48,7 +48,7 @@ settings_in rows =
     option_and_then (λ mode. option_map (λ conflicts. record { mode = mode; expose = is_set (codes "expose") rows; conflicts = conflicts; reset = is_set (codes "reset") rows }) (conflicts_in rows)) (mode_in rows)
 
 abbrev pub check_in : List Row → Option Task
-check_in rows = with_word (codes "a") rows (λ a. with_word (codes "b") rows (λ b. option_map (λ settings. task.Check a b settings) (settings_in rows)))
+check_in rows = with_word (codes "a") rows (λ a. with_word (codes "b") rows (λ b. option_map (λ settings. task.Check a b settings (first_of (codes "assume") rows)) (settings_in rows)))
 
 abbrev pub graph_in : List Row → Option Task
 graph_in rows = with_word (codes "a") rows (λ a. option_map (λ mode. task.Graph a mode) (mode_in rows))

@@ -1,5 +1,5 @@
 -- Words that `clap` takes, with a mode that is known and nothing that refuses `--reset`.
-use Rattle.std.specs.Prelude.{◌≡◌, ◌||◌, Bool, true, if◌then◌else◌, [], ◌∷◌, List, None, Some, is_some, codes, bytes_eq, IfSome}
+use Rattle.std.specs.Prelude.{◌≡◌, ◌||◌, Bool, true, false, if◌then◌else◌, [], ◌∷◌, List, None, Some, is_some, codes, bytes_eq, IfSome}
 use Rattle.circuit_theory.specs.declared.Mode.TheVariants.{Plain}
 use Rattle.clap.specs.Words.{Row, Text, fault_of, subcommand_of}
 use Rattle.command_words.specs.Command.{sec_app}
@@ -53,6 +53,19 @@ abbrev pub ResetIsTaken : Type 0
 ResetIsTaken =
     AreTaken (codes "check" ∷ codes "a" ∷ codes "b" ∷ codes "--reset" ∷ [])
     × (job_of (codes "sim" ∷ codes "a" ∷ codes "s" ∷ codes "--reset" ∷ []) ≡ Some (task.Sim (codes "a") (codes "s") Plain None true))
+
+-- words with `--assume`, and what they ask for
+abbrev pub AssumedIsTaken : Type 0
+AssumedIsTaken =
+    AreTaken (codes "check" ∷ codes "a" ∷ codes "b" ∷ codes "--assume" ∷ codes "c" ∷ [])
+    × (job_of (codes "check" ∷ codes "a" ∷ codes "b" ∷ codes "--reset" ∷ codes "--assume" ∷ codes "c" ∷ [])
+    ≡ Some (task.Check (codes "a") (codes "b") (record { mode = Plain; expose = false; conflicts = 20000; reset = true }) (Some (codes "c"))))
+
+-- words that aren't taken: `--assume` without a path, or twice
+abbrev pub AssumedIsRefused : Type 0
+AssumedIsRefused =
+    (job_of (codes "check" ∷ codes "a" ∷ codes "b" ∷ codes "--assume" ∷ []) ≡ None)
+    × (job_of (codes "check" ∷ codes "a" ∷ codes "b" ∷ codes "--assume" ∷ codes "c" ∷ codes "--assume" ∷ codes "c" ∷ []) ≡ None)
 
 -- words that are taken and no job
 abbrev pub AreNoJob : List Text → Type 0

@@ -140,6 +140,16 @@ fn settings_in(matches: &ArgMatches<'_>) -> Option<Settings>
     })
 }
 
+/// The word, where there is one, as the path of a file.
+fn path_of(alloc: Global, word: Option<&str>) -> Result<Option<FilePath>, NoMemory>
+    ensures { IfOk result (λ path. path ≡ option_map (λ w. w.now) word.entry) }
+{
+    match word {
+        Some(word) => Ok(Some(FilePath::from_str(alloc, word)?)),
+        None => Ok(None),
+    }
+}
+
 fn check_in(alloc: Global, matches: &ArgMatches<'_>) -> Result<Option<Task>, NoMemory>
     ensures { IfOk result (λ task. task ≡ check_in (rows_of (found_of matches.now))) }
 {
@@ -156,6 +166,7 @@ fn check_in(alloc: Global, matches: &ArgMatches<'_>) -> Result<Option<Task>, NoM
         a: FilePath::from_str(alloc, a)?,
         b: FilePath::from_str(alloc, b)?,
         settings,
+        assumed: path_of(alloc, word(matches, "assume"))?,
     }))
 }
 

@@ -1,6 +1,7 @@
 //! What follows for the words. The functions do nothing: each contract is a law.
 
-ghost use Rattle.command_line.specs.Known.{TakenWordsAreJob, CheckIsTaken, GraphIsTaken, SimIsTaken, ReplayIsTaken, GenIsTaken, LratIsTaken, CertIsTaken, InductIsTaken, ResetIsTaken, OtherModeIsNoJob, OtherFormIsNoJob, ResetIsNoJob};
+ghost use Rattle.command_line.specs.Allowed.{JobsAreAllowed};
+ghost use Rattle.command_line.specs.Known.{TakenWordsAreJob, CheckIsTaken, GraphIsTaken, SimIsTaken, ReplayIsTaken, GenIsTaken, LratIsTaken, CertIsTaken, InductIsTaken, ResetIsTaken, AssumedIsTaken, AssumedIsRefused, OtherModeIsNoJob, OtherFormIsNoJob, ResetIsNoJob};
 
 /// Words that `clap`'s definition for the command takes are a job wherever their mode is `plain` or `event` and `--reset` stands
 /// neither with `event` nor with `--expose`, or they name the subcommand `gen`, `lrat` or `induct`, which have no mode, or `cert` with
@@ -9,7 +10,12 @@ pub fn taken_words_are_job()
     ensures { TakenWordsAreJob }
 {}
 
-/// Words of each subcommand that meet the premises of `taken_words_are_job`, some with `--reset`.
+/// A job of words allows at most 200,000 conflicts for a query, and cuts no latch open where runs begin with initial values.
+pub fn jobs_are_allowed()
+    ensures { JobsAreAllowed }
+{}
+
+/// Words of each subcommand that meet the premises of `taken_words_are_job`, some with `--reset` or `--assume`.
 pub fn words_are_taken()
     ensures of_check { CheckIsTaken }
     ensures of_graph { GraphIsTaken }
@@ -20,6 +26,12 @@ pub fn words_are_taken()
     ensures of_cert { CertIsTaken }
     ensures of_induct { InductIsTaken }
     ensures of_reset { ResetIsTaken }
+    ensures of_assumed { AssumedIsTaken }
+{}
+
+/// Words with `--assume` that `clap`'s definition doesn't take: they have no path behind it, or have it twice.
+pub fn refused_words_are_no_job()
+    ensures { AssumedIsRefused }
 {}
 
 /// Words that are taken and are no job: they have another mode or another form, or `--reset` beside what refuses it.

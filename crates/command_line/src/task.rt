@@ -6,11 +6,13 @@ use sec_base::{FilePath, Settings, Word};
 /// What the words of a command line ask for: a job.
 #[derive(Drop)]
 pub enum Task {
-    /// Compare the circuits of two files.
+    /// Compare the circuits of two files. Where a third file is assumed, only runs count whose inputs make its output 1 in each
+    /// cycle.
     Check {
         a: FilePath,
         b: FilePath,
         settings: Settings,
+        assumed: Option<FilePath>,
     },
     /// Print the latches of a circuit, their depths and a cycle.
     Graph {

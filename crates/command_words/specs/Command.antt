@@ -41,8 +41,10 @@ mode = option_with (codes "mode") (codes "plain")
 
 abbrev pub check_app : App
 check_app =
-    with_rule (with_rule (with_rule (with_rule (with_rule (with_rule (new_app (codes "check")) (place (codes "a"))) (place (codes "b"))) mode) (flag (codes "expose"))) conflicts)
-    (flag (codes "reset"))
+    with_rule
+    (with_rule (with_rule (with_rule (with_rule (with_rule (with_rule (new_app (codes "check")) (place (codes "a"))) (place (codes "b"))) mode) (flag (codes "expose"))) conflicts)
+    (flag (codes "reset")))
+    (option (codes "assume"))
 
 abbrev pub graph_app : App
 graph_app = with_rule (with_rule (new_app (codes "graph")) (place (codes "a"))) mode

@@ -72,7 +72,8 @@ fn check_command<'a>(alloc: Global) -> Result<Command<'a>, AllocError>
     let command = with_arg(command, option_with(alloc, "mode", "plain"))?;
     let command = with_arg(command, flag(alloc, "expose"))?;
     let command = with_arg(command, conflicts(alloc))?;
-    with_arg(command, flag(alloc, "reset"))
+    let command = with_arg(command, flag(alloc, "reset"))?;
+    with_arg(command, option(alloc, "assume"))
 }
 
 fn graph_command<'a>(alloc: Global) -> Result<Command<'a>, AllocError>

@@ -22,7 +22,7 @@ use Rattle.sec_setup.specs.Cycles.{IsAcyclic, AreBroken}
 use Rattle.sec_setup.specs.Matching.{InterfacesMatch}
 use Rattle.compare_base.specs.declared.error.CompareError.{CompareError}
 use Rattle.compare_base.specs.declared.error.CompareError.TheVariants as refused
-use Rattle.plain_meaning.specs.Fitting.{IsLight, IsCutOver, IsCutLight, OutcomeFits}
+use Rattle.outcome_fits.specs.Fitting.{IsLight, IsCutOver, IsCutLight, OutcomeFits}
 use Rattle.compare_base.specs.FromReset.{IsLeftLight, IsRightLight, AreTooLargeFromReset, ResetOutcomeFits}
 use Rattle.compare_base.specs.Says.{SaysEqual, SaysDifferent, SaysNotShown, MakesResetsDiffer}
 
@@ -62,7 +62,7 @@ pub data AreTooLarge (a b : NetView) (expose : Bool) : Side → Type 0 where
   right : {names : List (List ℕ)} → IsChoice a b expose names → StandInOrder a names → IsCutLight names (circuit_of a) → IsCutOver names (circuit_of b) → AreTooLarge a b expose B
 
 -- The outcome, or the first refusal: the interface; a cycle of A, of B; where latches are to be cut open a cycle of A, of B that no
--- common latch breaks; A's size, B's size.
+-- common latch breaks; A's size, B's size. Nothing is refused for its events or for an assumption: there are none.
 abbrev pub Compared : NetView → NetView → Settings → Result Outcome CompareError → Type 0
 Compared a b settings (Ok o) = ByReset settings.reset (IsCompared a b settings o) (IsComparedFromReset a b settings o)
 Compared a b settings (Err (refused.Interface name)) = first_mismatch (ports_of a) (ports_of b) ≡ Some name
@@ -72,6 +72,9 @@ Compared a b settings (Err (refused.Unpaired A names)) = InterfacesMatch a b × 
 Compared a b settings (Err (refused.Unpaired B names)) =
     InterfacesMatch a b × (settings.expose ≡ true) × IsFreeWithout Plain a (common_names (circuit_of a) (circuit_of b)) × IsToldCycle Plain b (common_names (circuit_of a) (circuit_of b)) names
 Compared a b settings (Err (refused.TooLarge side)) = InterfacesMatch a b × AreBroken a b settings.expose × ByReset settings.reset (AreTooLarge a b settings.expose side) (AreTooLargeFromReset a b side)
+Compared a b settings (Err refused.TooManyEvents) = ⊥
+Compared a b settings (Err (refused.Assume fault)) = ⊥
+Compared a b settings (Err (refused.Vacuous by)) = ⊥
 Compared a b settings (Err refused.NoMemory) = Unit {0}
 
 -- the interfaces don't match, and this is the first name; no other refusal comes of it

@@ -1,5 +1,5 @@
 -- A comparison from the latches' initial values: that an outcome fits two circuits, and that one is too large. No latch is cut open.
-use Rattle.std.specs.Prelude.{◌≡◌, ◌≤◌, ℕ, List, [], length}
+use Rattle.std.specs.Prelude.{◌≡◌, ◌≤◌, ℕ, List, [], length, None}
 use Rattle.std.specs.List.{All, AllZip, Contains}
 use Rattle.circuit_theory.specs.declared.Side.{Side}
 use Rattle.circuit_theory.specs.declared.Side.TheVariants.{A, B}
@@ -15,7 +15,7 @@ use Rattle.outcome.specs.declared.verdict.Verdict.{Verdict}
 use Rattle.outcome.specs.declared.verdict.Verdict.TheVariants as verdict
 use Rattle.reset_laws.specs.Reset.{AreBased}
 use Rattle.sec_setup.specs.Pairs.{NamedPair, named_pairs}
-use Rattle.reset_functions.specs.Outcome.{Numbered, PairFits, IsFirstDifference, IsFirstLimit, greatest_size}
+use Rattle.outcome_fits.specs.ResetOutcome.{Numbered, PairFits, IsFirstDifference, IsFirstLimit, greatest_size}
 use Rattle.reset_functions.specs.Pairs.{IsLight, IsTooLarge}
 
 -- an output of A in a cycle up to the depth of its pair
@@ -57,8 +57,10 @@ ResetVerdictFits n pairs results (verdict.Different w) = ⊥
 ResetVerdictFits n pairs results (verdict.DifferentFrom w) = IsFirstDifference n pairs results w
 ResetVerdictFits n pairs results (verdict.NotShown reason) = ⊥
 ResetVerdictFits n pairs results (verdict.Limit (limit_at.Pair name)) = IsFirstLimit results name
+ResetVerdictFits n pairs results (verdict.Limit other) = ⊥
 
--- The outcome fits the circuits: the counts, no exposed name, the pairs of outputs in order with their answers, and the verdict.
+-- The outcome fits the circuits: the counts, no assumption, no exposed name, the pairs of outputs in order with their answers, and the
+-- verdict.
 pub record ResetOutcomeFits (a b : NetView) (conflicts : ℕ) (o : Outcome) : Type 0 where
   pub left : List ℕ
   pub right : List ℕ
@@ -70,6 +72,7 @@ pub record ResetOutcomeFits (a b : NetView) (conflicts : ℕ) (o : Outcome) : Ty
   pub inputs : o.inputs ≡ length (shared_inputs (ports_of a) (ports_of b))
   pub left_latches : o.left_latches ≡ length a.latches
   pub right_latches : o.right_latches ≡ length b.latches
+  pub assumed : o.assumed ≡ None
   pub exposed : o.exposed ≡ []
   pub classes : o.classes ≡ 0
   pub pairs : AllZip (PairFits (numbered_by a b left right left_base right_base) conflicts)

@@ -1,5 +1,7 @@
 //! Why two circuits aren't compared.
 
+use assume_shape::ShapeFault;
+use pair_decide::SameBy;
 use sec_base::{NoMemory, Side, Word, Words};
 use sec_setup::SetupError;
 
@@ -18,6 +20,13 @@ pub enum CompareError {
     /// The unfoldings of this circuit's outputs weigh more than 2,000,000 together, where latches are cut open those of the cut
     /// circuit's; A comes first.
     TooLarge(Side),
+    /// In the event mode both circuits together have more than 30,000 enabled latches, or more than 500 event classes besides the one
+    /// that always loads, or reach more than 10,000 event nodes.
+    TooManyEvents,
+    /// The circuit that is to be assumed is no assumption on the inputs of the two circuits: its first fault.
+    Assume(ShapeFault),
+    /// No values of the inputs meet the assumption, and what shows it.
+    Vacuous(SameBy),
     /// Memory was wanted and couldn't be had.
     NoMemory,
 }

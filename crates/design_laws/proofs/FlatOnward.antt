@@ -39,10 +39,9 @@ module _ {P Q : Type 0} {a : Circuit P} {b : Circuit Q} {na nb : Circuit ℕ} {c
       by i (inl h) = inl (cycle_down f (without names i) h)
       by i (inr h) = inr (cycle_down g (without names i) h)
 
-  module _ (agree : AgreeOnward Plain names na nb) (steps : ℕ) (left : ℕ → P → Bool) (right : ℕ → Q → Bool) (alike : AreAlike a b steps left right) (T : ℕ) (below : T < steps)
-      (settled : (p : P) (q : Q) → IsPair names a b p q → IsSettled Plain (cut names a) left T p × IsSettled Plain (cut names b) right T q) (start : LatchesEqual names a b left right (λ t. t ≤ T)) where
+  module _ (steps : ℕ) (left : ℕ → P → Bool) (right : ℕ → Q → Bool) (alike : AreAlike a b steps left right) (T : ℕ) where
     -- two runs of the designs with equal inputs are two of the nets
-    nets_alike : AreAlike na nb steps (λ t i. left t (f.origin i)) (λ t i. right t (g.origin i))
+    pub nets_alike : AreAlike na nb steps (λ t i. left t (f.origin i)) (λ t i. right t (g.origin i))
     nets_alike = record {
       left_run = run_down f steps left alike.left_run;
       right_run = run_down g steps right alike.right_run;
@@ -50,8 +49,9 @@ module _ {P Q : Type 0} {a : Circuit P} {b : Circuit Q} {na nb : Circuit ℕ} {c
     }
 
     -- where the pairs are settled in the designs, they are in the nets
-    nets_settled : (i j : ℕ) → IsPair names na nb i j → IsSettled Plain (cut names na) (λ t k. left t (f.origin k)) T i × IsSettled Plain (cut names nb) (λ t k. right t (g.origin k)) T j
-    nets_settled i j (IsPair.outputs {name = name} l r) =
+    pub nets_settled : ((p : P) (q : Q) → IsPair names a b p q → IsSettled Plain (cut names a) left T p × IsSettled Plain (cut names b) right T q) →
+        (i j : ℕ) → IsPair names na nb i j → IsSettled Plain (cut names na) (λ t k. left t (f.origin k)) T i × IsSettled Plain (cut names nb) (λ t k. right t (g.origin k)) T j
+    nets_settled settled i j (IsPair.outputs {name = name} l r) =
         let x = output_up f name i l in
         let y = output_up g name j r in
         both x.0 y.0 x.2 y.2 (settled x.0 y.0 (IsPair.outputs {name = name} x.1 y.1))
@@ -62,7 +62,7 @@ module _ {P Q : Type 0} {a : Circuit P} {b : Circuit Q} {na nb : Circuit ℕ} {c
           subst (λ (k : ℕ). Marked (cut names na) NoneEnabled (λ t k. left t (f.origin k)) T k) p_is (mark_down (cut_design names f) left (λ t k. left t (f.origin k)) both_are.0),
           subst (λ (k : ℕ). Marked (cut names nb) NoneEnabled (λ t k. right t (g.origin k)) T k) q_is (mark_down (cut_design names g) right (λ t k. right t (g.origin k)) both_are.1),
         )
-    nets_settled i j (IsPair.nexts {name = name} {u = u} {v = v} known l r) =
+    nets_settled settled i j (IsPair.nexts {name = name} {u = u} {v = v} known l r) =
         let x = latch_up f name u i l in
         let y = latch_up g name v j r in
         both x.takes y.takes x.takes_is y.takes_is (settled x.takes y.takes (IsPair.nexts {name = name} known x.latch y.latch))
@@ -75,32 +75,37 @@ module _ {P Q : Type 0} {a : Circuit P} {b : Circuit Q} {na nb : Circuit ℕ} {c
         )
 
     -- the exposed latches of the nets are equal up to the cycle
-    nets_start : LatchesEqual names na nb (λ t i. left t (f.origin i)) (λ t i. right t (g.origin i)) (λ t. t ≤ T)
-    nets_start name u p v q t known l r early =
+    pub nets_start : LatchesEqual names a b left right (λ t. t ≤ T) → LatchesEqual names na nb (λ t i. left t (f.origin i)) (λ t i. right t (g.origin i)) (λ t. t ≤ T)
+    nets_start start name u p v q t known l r early =
         let x = latch_up f name u p l in
         let y = latch_up g name v q r in
         start name (f.origin u) x.takes (g.origin v) y.takes t known x.latch y.latch early
 
-    nets_agree : LatchesEqual names na nb (λ t i. left t (f.origin i)) (λ t i. right t (g.origin i)) (λ t. t < steps)
+    -- what the runs of the nets are from the cycle on
+    abbrev AreOnward : Type 0
+    AreOnward =
+        LatchesEqual names na nb (λ t i. left t (f.origin i)) (λ t i. right t (g.origin i)) (λ t. t < steps)
         × ((t i j : ℕ) → T ≤ t → t < steps → IsPair [] na nb i j → left t (f.origin i) ≡ right t (g.origin j))
-    nets_agree = agree steps (λ t i. left t (f.origin i)) (λ t i. right t (g.origin i)) nets_alike T below nets_settled nets_start
 
-    designs_latches : LatchesEqual names a b left right (λ t. t < steps)
-    designs_latches name u p v q t known l r early =
+    designs_latches : AreOnward → LatchesEqual names a b left right (λ t. t < steps)
+    designs_latches nets_agree name u p v q t known l r early =
         ap (left t) (sym (latch_stays f name u p l))
         ∙ nets_agree.0 name (f.signal u) (f.signal p) (g.signal v) (g.signal q) t known (latch_down f name u p l) (latch_down g name v q r) early
         ∙ ap (right t) (latch_stays g name v q r)
 
-    designs_outputs : (t : ℕ) (p : P) (q : Q) → T ≤ t → t < steps → IsPair [] a b p q → left t p ≡ right t q
-    designs_outputs t p q late in_run (IsPair.nexts h l r) = absurd (omega (arith, h.1))
-    designs_outputs t p q late in_run (IsPair.outputs {name = name} l r) =
+    designs_outputs : AreOnward → (t : ℕ) (p : P) (q : Q) → T ≤ t → t < steps → IsPair [] a b p q → left t p ≡ right t q
+    designs_outputs nets_agree t p q late in_run (IsPair.nexts h l r) = absurd (omega (arith, h.1))
+    designs_outputs nets_agree t p q late in_run (IsPair.outputs {name = name} l r) =
         along a (left t) (alike.left_run.meets t in_run) (f.circuit.shown name p l).follows
         ∙ nets_agree.1 t (f.signal p) (g.signal q) late in_run (IsPair.outputs {name = name} (output_down f name p l) (output_down g name q r))
         ∙ sym (along b (right t) (alike.right_run.meets t in_run) (g.circuit.shown name q r).follows)
 
+    -- so are those of the designs
+    pub runs_up : AreOnward → LatchesEqual names a b left right (λ t. t < steps) × ((t : ℕ) (p : P) (q : Q) → T ≤ t → t < steps → IsPair [] a b p q → left t p ≡ right t q)
+    runs_up nets_agree = (designs_latches nets_agree, designs_outputs nets_agree)
+
   -- designs agree onward where their nets do
   pub onward_up : AgreeOnward Plain names na nb → AgreeOnward Plain names a b
-  onward_up agree steps left right alike T below settled start = (
-    designs_latches agree steps left right alike T below settled start,
-    designs_outputs agree steps left right alike T below settled start,
-  )
+  onward_up agree steps left right alike T below settled start =
+      runs_up steps left right alike T
+      (agree steps (λ t i. left t (f.origin i)) (λ t i. right t (g.origin i)) (nets_alike steps left right alike T) T below (nets_settled steps left right alike T settled) (nets_start steps left right alike T start))

@@ -24,7 +24,7 @@ flat_rank p = 0
 abbrev pub rank_of : List (List ℕ) → Place → ℕ
 rank_of order p = rank_in order p.name
 
-abbrev and_spots : ℕ → List (Weighed Place)
+abbrev pub and_spots : ℕ → List (Weighed Place)
 and_spots weight = at_top (codes "y") 0 weight ∷ at_top (codes "a") 0 1 ∷ at_top (codes "b") 0 1 ∷ []
 
 on_passes : PassesTests on_and small_and flat_rank (and_spots 4)

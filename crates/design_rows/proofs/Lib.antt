@@ -2,6 +2,5 @@ pub mod Places
 pub mod Tested
 pub mod Examples
 pub mod Toggle
-pub mod Nested
 pub mod SpelledTexts
 pub mod Spelling

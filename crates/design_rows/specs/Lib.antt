@@ -1,4 +1,3 @@
 pub mod Designs
 pub mod Small
-pub mod Cutting
 pub mod Texts

@@ -1,8 +1,7 @@
 //! What every net of some small designs is. The functions do nothing: each contract is an example.
 #![tactic(auto)]
 
-ghost use Rattle.design_rows.specs.Small.{OnAndIsSmall, OffAndIsSmall, LateIsSmall, EarlyIsSmall, HierIsSmall, TwoIsSmall, ToggleIsSmall, IdleIsSmall, RingIsSmall, NestedIsSmall};
-ghost use Rattle.design_rows.specs.Cutting.{NestedIsCut, NestedMeetsOnward, NestedIsObeyed};
+ghost use Rattle.design_rows.specs.Small.{OnAndIsSmall, OffAndIsSmall, LateIsSmall, EarlyIsSmall, HierIsSmall, TwoIsSmall, ToggleIsSmall, IdleIsSmall, RingIsSmall};
 
 /// An `and` by its one row.
 pub fn on_and_is_small()
@@ -47,24 +46,4 @@ pub fn idle_is_small()
 /// Two latches that take over each other: either breaks the ring.
 pub fn ring_is_small()
     ensures { RingIsSmall }
-{}
-
-/// A latch inside of an instance that lies on a cycle, and is to be cut open; and a latch behind the instance.
-pub fn nested_is_small()
-    ensures { NestedIsSmall }
-{}
-
-/// The latch inside of the instance is a minimal cut.
-pub fn nested_is_cut()
-    ensures { NestedIsCut }
-{}
-
-/// Two runs with equal inputs whose outputs differ at first, and a cycle in which all pairs are settled.
-pub fn nested_meets_onward()
-    ensures { NestedMeetsOnward }
-{}
-
-/// Any sequence over the input and the latch inside is obeyed by a run of the design with that latch cut out.
-pub fn nested_is_obeyed()
-    ensures { NestedIsObeyed }
 {}

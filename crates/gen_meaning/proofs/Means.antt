@@ -1,5 +1,5 @@
 -- What a written finding means for the pair of a number.
-use Rattle.std.specs.List.{Contains, filter_map}
+use Rattle.std.specs.List.{Contains}
 use Rattle.std.proofs.Common.{◌≡◌, ℕ, true, false, List, [], refl, sym, ◌∙◌, subst, ap, Option, Some, Result, Ok, Err, slice_get}
 use Rattle.circuit_theory.proofs.Lists.{of_at}
 use Rattle.sec_base.specs.Outside.{Takes}
@@ -13,10 +13,11 @@ use Rattle.outcome.specs.declared.verdict.Outcome.{Outcome}
 use Rattle.outcome.specs.declared.verdict.ResetWitness.{ResetWitness}
 use Rattle.outcome.specs.declared.verdict.Verdict.{Verdict}
 use Rattle.outcome.specs.declared.verdict.Verdict.TheVariants as verdict
+use Rattle.outcome.specs.declared.verdict.Why.{Why}
 use Rattle.outcome.specs.declared.verdict.Why.TheVariants as why
 use Rattle.sec_setup.specs.Pairs.{NamedPair, named_pairs}
 use Rattle.sec_setup.specs.Cuts.{columns_of, is_cut}
-use Rattle.plain_meaning.specs.Outcome.{PairFits, VerdictFits, IsFirstLimit}
+use Rattle.outcome_fits.specs.Outcome.{PairFits, VerdictFits, IsFirstLimit}
 use Rattle.job_base.specs.declared.finding.Finding.{Finding}
 use Rattle.job_base.specs.Ends.{EndsBy}
 use Rattle.job_base.specs.declared.finding.Finding.TheVariants as finding
@@ -24,7 +25,8 @@ use Rattle.job_base.specs.declared.finding.Stop.{Stop}
 use Rattle.job_base.specs.declared.finding.Stop.TheVariants as stop
 use Rattle.job_base.specs.declared.status.StatusName.{StatusName}
 use Rattle.job_base.specs.declared.status.StatusName.TheVariants as status
-use Rattle.job_base.specs.Written.{generated_status, status_of, IsWrittenAs}
+use Rattle.job_base.specs.Written.{generated_status, outcome_proofs, status_of, IsWrittenAs}
+use Rattle.job_base.proofs.Limits.{pair_proofs}
 use Rattle.gen_meaning.specs.declared.generation.Generation.{Generation}
 use Rattle.gen_meaning.specs.Found.{IsOutcomeOf, IsGenFound, GenFound}
 use Rattle.gen_meaning.specs.Answer.{TakesReport, TwinsAgree, TwinsDiffer, TwinsUndecided, GenMeans, IsGenAnswer}
@@ -47,11 +49,11 @@ different_verdict (verdict.DifferentFrom w) always e = absurd (always w refl)
 different_verdict (verdict.NotShown reason) always e = absurd (cc)
 different_verdict (verdict.Limit at) always e = absurd (cc)
 
-not_shown_verdict : (v : Verdict) → generated_status v ≡ status.NotShown → (w : Witness) × (v ≡ verdict.NotShown (why.Cut w))
+not_shown_verdict : (v : Verdict) → generated_status v ≡ status.NotShown → (reason : Why) × (v ≡ verdict.NotShown reason)
 not_shown_verdict verdict.Equal e = absurd (cc)
 not_shown_verdict (verdict.Different w) e = absurd (cc)
 not_shown_verdict (verdict.DifferentFrom w) e = absurd (cc)
-not_shown_verdict (verdict.NotShown (why.Cut w)) e = (w, refl)
+not_shown_verdict (verdict.NotShown reason) e = (reason, refl)
 not_shown_verdict (verdict.Limit at) e = absurd (cc)
 
 limit_verdict : (v : Verdict) → generated_status v ≡ status.Limit → (at : LimitAt) × (v ≡ verdict.Limit at)
@@ -132,12 +134,13 @@ module _ (g : Generation) (o : Outcome) (report : List ℕ) (is : IsOutcomeOf g 
     says = is.compared.different w e;
   }
 
-  undecided : (before now : Option (List ℕ)) → Takes before now report → (proofs : List Proof) → proofs ≡ filter_map (λ (r : PairResult). r.proof) o.pairs → (at : LimitAt) → o.verdict ≡ verdict.Limit at →
+  undecided : (before now : Option (List ℕ)) → Takes before now report → (proofs : List Proof) → proofs ≡ outcome_proofs o → (at : LimitAt) → o.verdict ≡ verdict.Limit at →
       TwinsUndecided g proofs before now
   undecided before now taken proofs kept at e =
       let first : IsFirstLimit o.pairs at = subst IsVerdict e is.compared.fits.verdict_is in
       let n = pair_of first.index first.result first.result_is in
       let given = limit_answer _ _ _ _ _ _ _ _ first.result.answer first.result.proof n.2.answer_is first.limit in
+      let own = kept ∙ pair_proofs o first.result.name (e ∙ ap verdict.Limit first.at_is) in
       record {
         left = is.left;
         right = is.right;
@@ -153,7 +156,7 @@ module _ (g : Generation) (o : Outcome) (report : List ℕ) (is : IsOutcomeOf g 
         named = n.0;
         is_pair = of_at pairs first.index n.0 n.1;
         proof = given.0;
-        kept = subst (λ (ps : List Proof). Contains ps given.0) (sym kept) (kept_proof o.pairs first.result given.0 (of_at o.pairs first.index first.result first.result_is) given.1);
+        kept = subst (λ (ps : List Proof). Contains ps given.0) (sym own) (kept_proof o.pairs first.result given.0 (of_at o.pairs first.index first.result first.result_is) given.1);
         undecided = given.2;
         takes = takes before now (verdict.Limit (limit_at.Pair n.0.name)) taken (e ∙ ap verdict.Limit (first.at_is ∙ ap limit_at.Pair n.2.name_is));
       }
@@ -163,8 +166,9 @@ module _ (g : Generation) (o : Outcome) (report : List ℕ) (is : IsOutcomeOf g 
   always w e = subst IsVerdict e is.compared.fits.verdict_is
 
   -- a difference is always shown
-  shown : (w : Witness) → o.verdict ≡ verdict.NotShown (why.Cut w) → ⊥
-  shown w e =
+  shown : (reason : Why) → o.verdict ≡ verdict.NotShown reason → ⊥
+  shown (why.Events u) e = subst IsVerdict e is.compared.fits.verdict_is
+  shown (why.Cut w) e =
       let verdict_fits = subst IsVerdict e is.compared.fits.verdict_is in
       let first = verdict_fits.2 in
       let n = pair_of first.index first.result first.result_is in
@@ -189,7 +193,7 @@ module _ (g : Generation) (o : Outcome) (report : List ℕ) (is : IsOutcomeOf g 
   answered verdict.Equal e = tt
   answered (verdict.Different w) e = tt
   answered (verdict.DifferentFrom w) e = tt
-  answered (verdict.NotShown (why.Cut w)) e = shown w e
+  answered (verdict.NotShown reason) e = shown reason e
   answered (verdict.Limit at) e = tt
 
 -- what a written finding means

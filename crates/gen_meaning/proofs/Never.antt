@@ -10,7 +10,7 @@ use Rattle.pair_gen.specs.Words.{words_of}
 use Rattle.compare_base.specs.declared.error.CompareError.{CompareError}
 use Rattle.compare_base.specs.declared.error.CompareError.TheVariants as refused
 use Rattle.compare_base.specs.Compared.{Compared, AreTooLarge}
-use Rattle.plain_meaning.specs.Fitting.{IsCutOver}
+use Rattle.outcome_fits.specs.Fitting.{IsCutOver}
 use Rattle.gen_meaning.specs.declared.generation.Generation.{Generation}
 use Rattle.gen_meaning.specs.Found.{AreTwins, settings_of}
 use Rattle.gen_meaning.proofs.Matching.{twins_match}
@@ -32,4 +32,7 @@ module _ (g : Generation) (a b : NetView) (twins : AreTwins g a b) (left : IsSou
   never_refused (refused.Unpaired A names) h = absurd (let e : false ≡ true = h.1 in cc)
   never_refused (refused.Unpaired B names) h = absurd (let e : false ≡ true = h.1 in cc)
   never_refused (refused.TooLarge side) h = absurd (light side h.2)
+  never_refused refused.TooManyEvents h = absurd h
+  never_refused (refused.Assume fault) h = absurd h
+  never_refused (refused.Vacuous by) h = absurd h
   never_refused refused.NoMemory h = refl

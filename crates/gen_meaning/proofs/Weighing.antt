@@ -29,7 +29,7 @@ use Rattle.pair_gen.specs.Kinds.{kind_of, rows_of}
 use Rattle.pair_gen.specs.Cells.{shown_by}
 use Rattle.pair_gen.specs.Twins.{is_regrouped, IsTwin}
 use Rattle.pair_gen.proofs.Numbers.{shown_placed}
-use Rattle.plain_meaning.specs.Fitting.{cut_outputs, IsCutOver}
+use Rattle.outcome_fits.specs.Fitting.{cut_outputs, IsCutOver}
 use Rattle.gen_meaning.proofs.Ranking.{rank, rank_is, reads_down, takes_down, no_port, gate_there, rank_of}
 
 -- each kind has one row or two

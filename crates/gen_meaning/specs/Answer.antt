@@ -13,7 +13,7 @@ use Rattle.outcome.specs.declared.verdict.Verdict.TheVariants as verdict
 use Rattle.outcome.specs.declared.verdict.LimitAt.TheVariants as limit_at
 use Rattle.sec_setup.specs.Cuts.{AreCutAt, columns_of}
 use Rattle.sec_setup.specs.Pairs.{NamedPair, named_pairs}
-use Rattle.plain_meaning.specs.Limits.{IsUndecided}
+use Rattle.outcome_fits.specs.Limits.{IsUndecided}
 use Rattle.compare_base.specs.Says.{SaysEqual, SaysDifferent}
 use Rattle.job_base.specs.declared.status.StatusName.{StatusName}
 use Rattle.job_base.specs.declared.status.StatusName.TheVariants as status

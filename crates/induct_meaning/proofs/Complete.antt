@@ -30,18 +30,22 @@ module _ (left right : Option (List ℕ)) (x y : List ℕ) (is : left ≡ Some x
   stands refusal.NotBuilt h = h
   stands (refusal.TooLong file.A) h = is_short x can.left (of_left IsTooLong h)
   stands (refusal.TooLong file.B) h = is_short y can.right (of_right IsTooLong h.1)
+  stands (refusal.TooLong file.C) h = h
   stands (refusal.TooLong file.S) h = h
   stands (refusal.Text file.A line (line_fault.Circuit kind)) h = has_no_fault x can.left line kind (of_left (λ t. HasFault t line kind) h)
   stands (refusal.Text file.B line (line_fault.Circuit kind)) h = has_no_fault y can.right line kind (of_right (λ t. HasFault t line kind) h.1)
+  stands (refusal.Text file.C line (line_fault.Circuit kind)) h = h
   stands (refusal.Text file.S line (line_fault.Circuit kind)) h = h
   stands (refusal.Text f line line_fault.BadHeader) h = h
   stands (refusal.Text f line line_fault.BadRow) h = h
   stands (refusal.Text f line (line_fault.Clauses kind)) h = h
   stands (refusal.Design file.A fault) h = is_sound x can.left fault (of_left (λ t. HasDesignFault t fault) h)
   stands (refusal.Design file.B fault) h = is_sound y can.right fault (of_right (λ t. HasDesignFault t fault) h.1)
+  stands (refusal.Design file.C fault) h = h
   stands (refusal.Design file.S fault) h = h
   stands (refusal.Record file.A place kind) h = has_good_records x can.left place kind (of_left (λ t. HasRecordFault t place kind) h)
   stands (refusal.Record file.B place kind) h = has_good_records y can.right place kind (of_right (λ t. HasRecordFault t place kind) h.1)
+  stands (refusal.Record file.C place kind) h = h
   stands (refusal.Record file.S place kind) h = h
   stands (refusal.Interface name) h = none-some name (sym (can.match h.a h.b (of_left (λ t. Loads t h.a) h.left_loads) (of_right (λ t. Loads t h.b) h.right_loads)) ∙ h.said)
   stands (refusal.TooLarge A) h =
@@ -51,6 +55,9 @@ module _ (left right : Option (List ℕ)) (x y : List ℕ) (is : left ≡ Some x
       let light = can.light h.a h.b (of_left (λ t. Loads t h.a) h.left_loads) (of_right (λ t. Loads t h.b) h.right_loads) in
       omega (arith, light.1, h.said.1.1)
   stands (refusal.Misfit m) h = h
+  stands refusal.TooManyEvents h = h
+  stands (refusal.Assume fault) h = h
+  stands refusal.Vacuous h = h
   stands (refusal.Pair name) h = h
 
   judged : (j : Judgement) → IsInductAnswer (judgement_status j)

@@ -19,10 +19,11 @@ use Rattle.induct_meaning.specs.Judged.{IsJudged}
 abbrev pub induct_paths : List ℕ → List ℕ → List (List ℕ)
 induct_paths left right = left ∷ right ∷ []
 
--- what is said of a circuit's text; B is looked at only where A loads, and there is no stimulus
+-- what is said of a circuit's text; B is looked at only where A loads, and there is no assumption and no stimulus
 abbrev pub OfCircuit : Option (List ℕ) → Option (List ℕ) → File → (List ℕ → Type 0) → Type 0
 OfCircuit left right file.A P = IfSome left P
 OfCircuit left right file.B P = IsLoaded left × IfSome right P
+OfCircuit left right file.C P = ⊥
 OfCircuit left right file.S P = ⊥
 
 -- what is said of the two nets that the texts load as

@@ -1,7 +1,7 @@
 //! The report of a comparison by blocks of latches, as text.
 #![tactic(auto)]
 
-mod report;
 mod text;
+mod whole;
 
-pub use report::report;
+pub use whole::report;

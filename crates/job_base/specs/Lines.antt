@@ -12,6 +12,8 @@ use Rattle.sim_report.specs.declared.refusal.Misfit.{Misfit}
 use Rattle.sim_report.specs.declared.refusal.Misfit.TheVariants as misfit
 use Rattle.aiger_records.specs.declared.error.AigerKind.{AigerKind}
 use Rattle.aiger_records.specs.declared.error.AigerKind.TheVariants as aiger
+use Rattle.assume_shape.specs.declared.shape.ShapeFault.{ShapeFault}
+use Rattle.assume_shape.specs.declared.shape.ShapeFault.TheVariants as shape
 use Rattle.elaborate.specs.declared.error.FlatError.{FlatError}
 use Rattle.elaborate.specs.declared.error.FlatError.TheVariants as flat
 use Rattle.outcome.specs.Report.{report_text}
@@ -34,6 +36,7 @@ side_word B = codes "B"
 abbrev pub file_word : File → List ℕ
 file_word file.A = codes "A"
 file_word file.B = codes "B"
+file_word file.C = codes "C"
 file_word file.S = codes "S"
 
 -- the kind of a faulty line; an unsupported word stands behind it
@@ -113,6 +116,13 @@ misfit_text (misfit.Unknown name) = codes "refused S Unknown " ++ name ++ 10 ∷
 misfit_text (misfit.Missing name) = codes "refused S Missing " ++ name ++ 10 ∷ []
 misfit_text misfit.Power = codes "refused Power" ++ 10 ∷ []
 
+-- why a circuit is no assumption
+abbrev pub shape_text : ShapeFault → List ℕ
+shape_text (shape.Latch name) = codes "refused C Latch " ++ name ++ 10 ∷ []
+shape_text (shape.Outputs n) = codes "refused C Outputs " ++ decimal n ++ 10 ∷ []
+shape_text (shape.Input name) = codes "refused C Input " ++ name ++ 10 ∷ []
+shape_text shape.TooLarge = codes "refused C TooLarge" ++ 10 ∷ []
+
 abbrev pub refusal_text : Refusal → List ℕ
 refusal_text refusal.NotBuilt = codes "refused NotYet" ++ 10 ∷ []
 refusal_text (refusal.TooLong f) = codes "refused " ++ file_word f ++ codes " TooLong" ++ 10 ∷ []
@@ -121,6 +131,9 @@ refusal_text (refusal.Design f fault) = codes "refused " ++ file_word f ++ 32 �
 refusal_text (refusal.Record f place k) = codes "refused " ++ file_word f ++ codes " record " ++ decimal place ++ 32 ∷ [] ++ record_fault_text k ++ 10 ∷ []
 refusal_text (refusal.Interface name) = codes "refused Interface " ++ name ++ 10 ∷ []
 refusal_text (refusal.TooLarge side) = codes "refused " ++ side_word side ++ codes " TooLarge" ++ 10 ∷ []
+refusal_text refusal.TooManyEvents = codes "refused TooManyEvents" ++ 10 ∷ []
+refusal_text (refusal.Assume fault) = shape_text fault
+refusal_text refusal.Vacuous = codes "refused C Vacuous" ++ 10 ∷ []
 refusal_text (refusal.Misfit m) = misfit_text m
 refusal_text (refusal.Pair name) = codes "refused Pair " ++ name ++ 10 ∷ []
 

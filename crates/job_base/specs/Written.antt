@@ -1,9 +1,12 @@
 -- What is written of a finding, and with which status and proofs.
-use Rattle.std.specs.Prelude.{◌≡◌, ℕ, List, [], ◌∷◌, Option}
+use Rattle.std.specs.Prelude.{◌≡◌, ℕ, List, [], ◌∷◌, ◌++◌, Option}
 use Rattle.std.specs.List.{filter_map}
 use Rattle.sec_base.specs.Outside.{Takes, TakesFront}
 use Rattle.pair_decide.specs.declared.query.Proof.{Proof}
 use Rattle.pair_runs.specs.declared.differences.Difference.{Difference}
+use Rattle.outcome.specs.declared.verdict.LimitAt.{LimitAt}
+use Rattle.outcome.specs.declared.verdict.LimitAt.TheVariants as limit_at
+use Rattle.outcome.specs.declared.verdict.Outcome.{Outcome}
 use Rattle.outcome.specs.declared.verdict.PairResult.{PairResult}
 use Rattle.outcome.specs.declared.verdict.Verdict.{Verdict}
 use Rattle.outcome.specs.declared.verdict.Verdict.TheVariants as verdict
@@ -39,6 +42,24 @@ generated_status (verdict.DifferentFrom w) = status.Different
 generated_status (verdict.NotShown reason) = status.NotShown
 generated_status (verdict.Limit at) = status.Limit
 
+-- the proof of a limit that was met before pairs were asked about
+abbrev pub limit_proofs : LimitAt → List Proof
+limit_proofs (limit_at.Assume proof) = proof ∷ []
+limit_proofs (limit_at.Recover side name proof) = proof ∷ []
+limit_proofs (limit_at.Class side name other proof) = proof ∷ []
+limit_proofs (limit_at.Pair name) = []
+
+abbrev pub verdict_proofs : Verdict → List Proof
+verdict_proofs verdict.Equal = []
+verdict_proofs (verdict.Different w) = []
+verdict_proofs (verdict.DifferentFrom w) = []
+verdict_proofs (verdict.NotShown reason) = []
+verdict_proofs (verdict.Limit at) = limit_proofs at
+
+-- the proofs of an outcome: that of its verdict, and those of its pairs in their order
+abbrev pub outcome_proofs : Outcome → List Proof
+outcome_proofs o = verdict_proofs o.verdict ++ filter_map (λ (r : PairResult). r.proof) o.pairs
+
 -- the status of clauses that aren't refuted
 abbrev pub unrefuted_status : Unrefuted → StatusName
 unrefuted_status unrefuted.Satisfiable = status.Different
@@ -69,15 +90,15 @@ status_of (finding.Undecided side name proof) = status.Limit
 status_of (finding.Unrefuted u) = unrefuted_status u
 status_of (finding.Judged j proofs report) = judgement_status j
 
--- the proofs of the queries that met the limit, in the order of the pairs
+-- the proofs of the queries that met the limit, in the order in which they were decided
 abbrev pub proofs_of : Finding → List Proof
 proofs_of finding.Words = []
 proofs_of (finding.Refused r) = []
 proofs_of (finding.Cyclic side names) = []
 proofs_of (finding.Unpaired side names) = []
-proofs_of (finding.Checked o settings) = filter_map (λ (r : PairResult). r.proof) o.pairs
+proofs_of (finding.Checked o settings) = outcome_proofs o
 proofs_of (finding.Done report) = []
-proofs_of (finding.Generated o report) = filter_map (λ (r : PairResult). r.proof) o.pairs
+proofs_of (finding.Generated o report) = outcome_proofs o
 proofs_of (finding.Replayed differences) = []
 proofs_of (finding.Undecided side name proof) = proof ∷ []
 proofs_of (finding.Unrefuted u) = unrefuted_proofs u

@@ -5,7 +5,7 @@ ghost use Rattle.std.specs.List.{filter_map};
 ghost use Rattle.sec_base.specs.Outside.{Rose};
 ghost use Rattle.outcome.specs.Report.{report_text};
 ghost use Rattle.job_base.specs.Lines.{finding_text, undecided_text, unrefuted_text, unsettled_text};
-ghost use Rattle.job_base.specs.Written.{status_of, generated_status, unrefuted_status, judgement_status, proofs_of, unrefuted_proofs, IsWritten};
+ghost use Rattle.job_base.specs.Written.{status_of, generated_status, unrefuted_status, judgement_status, limit_proofs, verdict_proofs, outcome_proofs, proofs_of, unrefuted_proofs, IsWritten};
 
 use crate::finding::{Finding, Judgement, Unrefuted};
 use crate::status::{Proofs, Status, StatusName};
@@ -13,7 +13,7 @@ use crate::text::{
     cycle_report, refusal_report, satisfiable_report, undecided_text, unpaired_report,
     unsettled_text, words_report,
 };
-use outcome::{Outcome, PairResult, PairResults, Settings, Verdict, report};
+use outcome::{LimitAt, Outcome, PairResult, PairResults, Settings, Verdict, report};
 use pair_decide::Proof;
 use pair_runs::Differences;
 use replay_report::replay_report;
@@ -102,32 +102,56 @@ fn keep_proof(proofs: &mut Proofs, pair: PairResult) -> Result<(), NoMemory>
     }
 }
 
-/// The proofs of the pairs that met the limit, in their order.
-fn proofs_in(alloc: Global, pairs: PairResults) -> Result<Proofs, NoMemory>
-    ensures { IfOk result (λ proofs. proofs ≡ filter_map (λ pair. pair.proof) pairs) }
+/// Puts the proofs of the pairs that met the limit behind the others, in their order.
+fn keep_proofs(proofs: &mut Proofs, pairs: PairResults) -> Result<(), NoMemory>
+    ensures { OnOk result (proofs.new ≡ proofs.old ++ filter_map (λ pair. pair.proof) pairs) }
+{
+    for pair in pairs.into_vec() {
+        keep_proof(proofs, pair)?;
+    }
+    Ok(())
+}
+
+/// Puts the proof of a limit that was met before pairs were asked about behind the others.
+fn keep_limit(proofs: &mut Proofs, at: LimitAt) -> Result<(), NoMemory>
+    ensures { OnOk result (proofs.new ≡ proofs.old ++ limit_proofs at) }
+{
+    match at {
+        LimitAt::Assume(proof) => proofs.push(proof),
+        LimitAt::Recover(_, _, proof) => proofs.push(proof),
+        LimitAt::Class(_, _, _, proof) => proofs.push(proof),
+        LimitAt::Pair(_) => Ok(()),
+    }
+}
+
+/// Puts the verdict's proof behind the others, where it has one.
+fn keep_verdict(proofs: &mut Proofs, verdict: Verdict) -> Result<(), NoMemory>
+    ensures { OnOk result (proofs.new ≡ proofs.old ++ verdict_proofs verdict) }
+{
+    match verdict {
+        Verdict::Limit(at) => keep_limit(proofs, at),
+        _ => Ok(()),
+    }
+}
+
+/// The proofs of an outcome's queries that met the limit, in the order in which they were decided.
+fn proofs_of(alloc: Global, outcome: Outcome) -> Result<Proofs, NoMemory>
+    ensures { IfOk result (λ proofs. proofs ≡ outcome_proofs outcome) }
 {
     let mut proofs = Proofs::new(alloc);
-    for pair in pairs.into_vec() {
-        keep_proof(&mut proofs, pair)?;
-    }
+    keep_verdict(&mut proofs, outcome.verdict)?;
+    keep_proofs(&mut proofs, outcome.pairs)?;
     Ok(proofs)
 }
 
-/// The proofs of the pairs of an outcome.
-fn proofs_of(alloc: Global, outcome: Outcome) -> Result<Proofs, NoMemory>
-    ensures { IfOk result (λ proofs. proofs ≡ filter_map (λ pair. pair.proof) outcome.pairs) }
-{
-    proofs_in(alloc, outcome.pairs)
-}
-
-/// The report of a comparison, and the proofs of the pairs that met the limit.
+/// The report of a comparison, and the proofs of the queries that met the limit.
 fn comparison_report(
     alloc: Global,
     outcome: Outcome,
     settings: &Settings,
 ) -> Result<(Text, Proofs), NoMemory>
     ensures text { IfOk result (λ made. made.0 ≡ report_text settings.now outcome) }
-    ensures proofs { IfOk result (λ made. made.1 ≡ filter_map (λ pair. pair.proof) outcome.pairs) }
+    ensures proofs { IfOk result (λ made. made.1 ≡ outcome_proofs outcome) }
 {
     let text = report(alloc, &outcome, settings)?;
     let proofs = proofs_of(alloc, outcome)?;

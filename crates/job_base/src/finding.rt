@@ -2,6 +2,7 @@
 
 use crate::status::Proofs;
 use aiger_records::AigerKind;
+use assume_shape::ShapeFault;
 use blif_read::ReadKind;
 use elaborate::FlatError;
 use outcome::{Outcome, Settings};
@@ -18,6 +19,8 @@ pub enum File {
     A,
     /// The second circuit; or a refutation.
     B,
+    /// The assumption on the inputs.
+    C,
     /// The stimulus.
     S,
 }
@@ -53,6 +56,12 @@ pub enum Refusal {
     /// The unfoldings of the circuit's outputs weigh more than 2,000,000 together, where latches are cut open those of the cut
     /// circuit's; or a latch is in its own cone, and that cone weighs more; or all inputs, latches and gates do, each once.
     TooLarge(Side),
+    /// The circuits have too many enabled latches, event classes or event nodes.
+    TooManyEvents,
+    /// Why the circuit that is to be assumed is no assumption on the inputs of the others.
+    Assume(ShapeFault),
+    /// No values of the inputs meet the assumption.
+    Vacuous,
     /// What doesn't fit the circuit.
     Misfit(Misfit),
     /// No output has this name.

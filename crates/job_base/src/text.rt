@@ -3,10 +3,11 @@
 ghost use Rattle.std.specs.Prelude.{◌≡◌, [], ◌∷◌, ◌++◌, codes, OnOk, IfOk};
 ghost use Rattle.std.specs.Fmt.{decimal};
 ghost use Rattle.sec_base.specs.Texts.{names_text};
-ghost use Rattle.job_base.specs.Lines.{side_word, file_word, kind_text, text_kind_word, line_fault_text, design_fault_text, record_fault_text, misfit_text, refusal_text, words_text, cycle_text, undecided_text, unpaired_text, satisfiable_text, unsettled_text};
+ghost use Rattle.job_base.specs.Lines.{side_word, file_word, kind_text, text_kind_word, line_fault_text, design_fault_text, record_fault_text, misfit_text, shape_text, refusal_text, words_text, cycle_text, undecided_text, unpaired_text, satisfiable_text, unsettled_text};
 
 use crate::finding::{File, LineFault, Refusal};
 use aiger_records::AigerKind;
+use assume_shape::ShapeFault;
 use blif_read::ReadKind;
 use elaborate::FlatError;
 use sec_base::{NoMemory, Seq, Side, Text, Word, Words, put, put_names, put_number};
@@ -73,6 +74,7 @@ fn file_word(file: File) -> &'static str
     match file {
         File::A => "A",
         File::B => "B",
+        File::C => "C",
         File::S => "S",
     }
 }
@@ -199,6 +201,33 @@ fn put_misfit(text: &mut Vec<u8>, misfit: &Misfit) -> Result<(), NoMemory>
     }
 }
 
+/// Puts the line of the number behind what stands before it.
+fn put_number_line(
+    alloc: Global,
+    text: &mut Vec<u8>,
+    front: &[u8],
+    number: u32,
+) -> Result<(), NoMemory>
+    ensures { OnOk result (text.new.items ≡ text.old.items ++ (front.now ++ decimal number ++ 10 ∷ [])) }
+{
+    put(text, front)?;
+    put_number(alloc, text, u64::from(number))?;
+    put(text, b"\n")
+}
+
+fn put_shape_fault(alloc: Global, text: &mut Vec<u8>, fault: &ShapeFault) -> Result<(), NoMemory>
+    ensures { OnOk result (text.new.items ≡ text.old.items ++ shape_text fault.now) }
+{
+    match fault {
+        ShapeFault::Latch(name) => put_line(text, b"refused C Latch ", name.as_slice()),
+        ShapeFault::Outputs(number) => {
+            put_number_line(alloc, text, b"refused C Outputs ", *number)
+        }
+        ShapeFault::Input(name) => put_line(text, b"refused C Input ", name.as_slice()),
+        ShapeFault::TooLarge => put(text, b"refused C TooLarge\n"),
+    }
+}
+
 fn put_refusal(alloc: Global, text: &mut Vec<u8>, refusal: &Refusal) -> Result<(), NoMemory>
     ensures { OnOk result (text.new.items ≡ text.old.items ++ refusal_text refusal.now) }
 {
@@ -221,6 +250,9 @@ fn put_refusal(alloc: Global, text: &mut Vec<u8>, refusal: &Refusal) -> Result<(
             put_side(text, *side)?;
             put(text, b" TooLarge\n")
         }
+        Refusal::TooManyEvents => put(text, b"refused TooManyEvents\n"),
+        Refusal::Assume(fault) => put_shape_fault(alloc, text, fault),
+        Refusal::Vacuous => put(text, b"refused C Vacuous\n"),
         Refusal::Misfit(misfit) => put_misfit(text, misfit),
         Refusal::Pair(name) => put_line(text, b"refused Pair ", name.as_slice()),
     }

@@ -75,6 +75,9 @@ module _ (request : Request) (left right : Option (List ℕ)) (failed : Type 0) 
   compare_found (compare_error.Unpaired A names) h = absurd (let z : false ≡ true = h.1 in cc)
   compare_found (compare_error.Unpaired B names) h = absurd (let z : false ≡ true = h.1 in cc)
   compare_found (compare_error.TooLarge side) h = record { a = a; b = b; left_loads = l; right_loads = r; said = h }
+  compare_found compare_error.TooManyEvents h = absurd h
+  compare_found (compare_error.Assume fault) h = absurd h
+  compare_found (compare_error.Vacuous by) h = absurd h
   compare_found compare_error.NoMemory h = tt
 
   certificate_found : (f : Finding) → IsCertificate a b request f → IsCertFound request left right f
@@ -102,6 +105,9 @@ no_fault_made (Err (Compare (compare_error.Interface name))) h = absurd (cc)
 no_fault_made (Err (Compare (compare_error.Cyclic side names))) h = absurd (cc)
 no_fault_made (Err (Compare (compare_error.Unpaired side names))) h = absurd (cc)
 no_fault_made (Err (Compare (compare_error.TooLarge side))) h = absurd (cc)
+no_fault_made (Err (Compare compare_error.TooManyEvents)) h = absurd (cc)
+no_fault_made (Err (Compare (compare_error.Assume fault))) h = absurd (cc)
+no_fault_made (Err (Compare (compare_error.Vacuous by))) h = absurd (cc)
 no_fault_made (Err (Compare compare_error.NoMemory)) h = absurd (cc)
 no_fault_made (Err (Pair name)) h = absurd (cc)
 

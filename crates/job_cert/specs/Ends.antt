@@ -25,6 +25,9 @@ compare_end (compare_error.Interface name) = Ok (finding.Refused (refusal.Interf
 compare_end (compare_error.Cyclic side names) = Ok (finding.Cyclic side names)
 compare_end (compare_error.Unpaired side names) = Ok (finding.Unpaired side names)
 compare_end (compare_error.TooLarge side) = Ok (finding.Refused (refusal.TooLarge side))
+compare_end compare_error.TooManyEvents = Ok (finding.Refused refusal.TooManyEvents)
+compare_end (compare_error.Assume fault) = Ok (finding.Refused (refusal.Assume fault))
+compare_end (compare_error.Vacuous by) = Ok (finding.Refused refusal.Vacuous)
 compare_end compare_error.NoMemory = Err stop.NoMemory
 
 -- what is found by a certificate, or by its refusal

@@ -86,6 +86,9 @@ fn compare_end(error: CompareError) -> Result<Finding, Stop>
         CompareError::Cyclic(side, names) => Ok(Finding::Cyclic(side, names)),
         CompareError::Unpaired(side, names) => Ok(Finding::Unpaired(side, names)),
         CompareError::TooLarge(side) => Ok(Finding::Refused(Refusal::TooLarge(side))),
+        CompareError::TooManyEvents => Ok(Finding::Refused(Refusal::TooManyEvents)),
+        CompareError::Assume(fault) => Ok(Finding::Refused(Refusal::Assume(fault))),
+        CompareError::Vacuous(_) => Ok(Finding::Refused(Refusal::Vacuous)),
         CompareError::NoMemory => Err(Stop::NoMemory),
     }
 }

@@ -1,14 +1,15 @@
-//! The job that compares two circuits.
+//! The job that compares two circuits, also under an assumption on their inputs.
 
-ghost use Rattle.std.specs.Prelude.{◌≡◌, ◌≤◌, true, false, ◌∷◌, [], IsErrOf};
+ghost use Rattle.std.specs.Prelude.{◌≡◌, ◌≤◌, true, false, [], option_map, Some, IsErrOf};
 ghost use Rattle.std.specs.List.{All};
 ghost use Rattle.circuit_theory.specs.declared.Mode.TheVariants.{Plain};
-ghost use Rattle.sec_base.specs.Outside.{Rose, SameHeld, NoneFell};
+ghost use Rattle.sec_base.specs.Outside.{SameHeld, NoneFell};
 ghost use Rattle.flat_net.specs.Comparable.{IsComparable};
-ghost use Rattle.check_meaning.specs.Check.{Check, where_built};
-ghost use Rattle.job_check.specs.Ends.{compare_end, CheckFound, EndsBeside, FoundOf};
+ghost use Rattle.check_found.specs.Check.{Check, all_paths, assumed_paths, where_built};
+ghost use Rattle.check_found.specs.Ends.{compare_end, CheckFound, EndsBeside, EndsBoth, FoundOf};
 
 use circuit_theory::Mode;
+use compare_under::compare_under;
 use flat_net::Net;
 use job_base::{File, Finding, Refusal, Stop};
 use job_files::load_end;
@@ -17,15 +18,17 @@ use sec_check::{CompareError, Outcome, Settings, compare};
 use sec_files::load;
 use std::alloc::Global;
 
-/// The paths of two files that are to be compared, and how.
+/// The paths of two files that are to be compared, how, and that of the assumption where there is one.
 #[derive(Clone, Copy)]
 pub struct Comparison<'a> {
     pub left: &'a str,
     pub right: &'a str,
     pub settings: Settings,
+    pub assumed: Option<&'a str>,
 }
 
-/// Compares the circuits of two files, where the mode is built. From initial values no latch is cut open.
+/// Compares the circuits of two files, where the mode is built; under an assumption only the runs count whose inputs make its output 1 in
+/// each cycle. From initial values no latch is cut open.
 pub fn check<S: Shelf>(
     alloc: Global,
     comparison: &Comparison<'_>,
@@ -33,12 +36,12 @@ pub fn check<S: Shelf>(
 ) -> Result<Finding, Stop>
     requires uncut { comparison.now.settings.reset ≡ true → comparison.now.settings.expose ≡ false }
     requires conflicts { comparison.now.settings.conflicts ≤ MAX_CONFLICTS }
-    ensures found { let check : Check = record { left = comparison.now.left.now; right = comparison.now.right.now; settings = comparison.now.settings } in
+    ensures found { let check : Check = record { left = comparison.now.left.now; right = comparison.now.right.now; settings = comparison.now.settings; assumed = option_map (λ path. path.now) comparison.now.assumed } in
         CheckFound (S.held shelf.old) (S.faults shelf.old) (S.faults shelf.new) check result }
     ensures keeps { SameHeld (S.held shelf.old) (S.held shelf.new) }
     ensures later { NoneFell (S.faults shelf.old) (S.faults shelf.new) }
-    ensures served { All (S.serves shelf.old) (where_built comparison.now.settings.mode (comparison.now.left.now ∷ comparison.now.right.now ∷ [])) → IsErrOf result Stop.ReadFault → ⊥ }
-    ensures idle { where_built comparison.now.settings.mode (comparison.now.left.now ∷ comparison.now.right.now ∷ []) ≡ [] → shelf.new ≡ shelf.old }
+    ensures served { All (S.serves shelf.old) (where_built comparison.now.settings.mode (all_paths comparison.now.left.now comparison.now.right.now (option_map (λ path. path.now) comparison.now.assumed))) → IsErrOf result Stop.ReadFault → ⊥ }
+    ensures idle { where_built comparison.now.settings.mode (all_paths comparison.now.left.now comparison.now.right.now (option_map (λ path. path.now) comparison.now.assumed)) ≡ [] → shelf.new ≡ shelf.old }
 {
     match comparison.settings.mode {
         Mode::Plain => compare_files(alloc, comparison, shelf),
@@ -46,7 +49,7 @@ pub fn check<S: Shelf>(
     }
 }
 
-/// Loads both circuits, A first, and compares them.
+/// Loads both circuits, A first, and then the assumption where there is one, and compares A with B.
 fn compare_files<S: Shelf>(
     alloc: Global,
     comparison: &Comparison<'_>,
@@ -55,11 +58,11 @@ fn compare_files<S: Shelf>(
     requires plain { comparison.now.settings.mode ≡ Plain }
     requires uncut { comparison.now.settings.reset ≡ true → comparison.now.settings.expose ≡ false }
     requires conflicts { comparison.now.settings.conflicts ≤ MAX_CONFLICTS }
-    ensures found { let check : Check = record { left = comparison.now.left.now; right = comparison.now.right.now; settings = comparison.now.settings } in
+    ensures found { let check : Check = record { left = comparison.now.left.now; right = comparison.now.right.now; settings = comparison.now.settings; assumed = option_map (λ path. path.now) comparison.now.assumed } in
         FoundOf (S.held shelf.old) (S.faults shelf.old) (S.faults shelf.new) check result }
     ensures keeps { SameHeld (S.held shelf.old) (S.held shelf.new) }
     ensures later { NoneFell (S.faults shelf.old) (S.faults shelf.new) }
-    ensures served { S.serves shelf.old comparison.now.left.now → S.serves shelf.old comparison.now.right.now → IsErrOf result Stop.ReadFault → ⊥ }
+    ensures served { S.serves shelf.old comparison.now.left.now → S.serves shelf.old comparison.now.right.now → All (S.serves shelf.old) (assumed_paths (option_map (λ path. path.now) comparison.now.assumed)) → IsErrOf result Stop.ReadFault → ⊥ }
 {
     match load(alloc, shelf, comparison.left) {
         Ok(a) => compare_with(alloc, &a, comparison, shelf),
@@ -67,7 +70,7 @@ fn compare_files<S: Shelf>(
     }
 }
 
-/// Loads B and compares A with it.
+/// Loads B, and then the assumption where there is one, and compares A with B.
 fn compare_with<S: Shelf>(
     alloc: Global,
     a: &Net,
@@ -78,18 +81,48 @@ fn compare_with<S: Shelf>(
     requires uncut { comparison.now.settings.reset ≡ true → comparison.now.settings.expose ≡ false }
     requires conflicts { comparison.now.settings.conflicts ≤ MAX_CONFLICTS }
     requires left { IsComparable a.now }
-    ensures found { let path = comparison.now.right.now in
-        EndsBeside (S.held shelf.old path) (Rose (S.faults shelf.old path) (S.faults shelf.new path)) a.now comparison.now.settings result }
+    ensures found { EndsBeside (S.held shelf.old) (S.faults shelf.old) (S.faults shelf.new) a.now comparison.now.right.now comparison.now.settings (option_map (λ path. path.now) comparison.now.assumed) result }
     ensures keeps { SameHeld (S.held shelf.old) (S.held shelf.new) }
     ensures later { NoneFell (S.faults shelf.old) (S.faults shelf.new) }
-    ensures served { S.serves shelf.old comparison.now.right.now → IsErrOf result Stop.ReadFault → ⊥ }
+    ensures served { S.serves shelf.old comparison.now.right.now → All (S.serves shelf.old) (assumed_paths (option_map (λ path. path.now) comparison.now.assumed)) → IsErrOf result Stop.ReadFault → ⊥ }
 {
     match load(alloc, shelf, comparison.right) {
-        Ok(b) => {
-            let compared = compare(alloc, a, &b, &comparison.settings);
-            compare_end(comparison.settings, compared)
-        }
+        Ok(b) => match comparison.assumed {
+            Some(path) => compare_assuming(alloc, a, &b, path, &comparison.settings, shelf),
+            None => {
+                let compared = compare(alloc, a, &b, &comparison.settings);
+                compare_end(comparison.settings, compared)
+            }
+        },
         Err(error) => load_end(File::B, error),
+    }
+}
+
+/// Loads the assumption, and compares A with B under it.
+fn compare_assuming<S: Shelf>(
+    alloc: Global,
+    a: &Net,
+    b: &Net,
+    path: &str,
+    settings: &Settings,
+    shelf: &mut S,
+) -> Result<Finding, Stop>
+    requires plain { settings.now.mode ≡ Plain }
+    requires uncut { settings.now.reset ≡ true → settings.now.expose ≡ false }
+    requires conflicts { settings.now.conflicts ≤ MAX_CONFLICTS }
+    requires left { IsComparable a.now }
+    requires right { IsComparable b.now }
+    ensures found { EndsBoth (S.held shelf.old) (S.faults shelf.old) (S.faults shelf.new) a.now b.now settings.now (Some path.now) result }
+    ensures keeps { SameHeld (S.held shelf.old) (S.held shelf.new) }
+    ensures later { NoneFell (S.faults shelf.old) (S.faults shelf.new) }
+    ensures served { S.serves shelf.old path.now → IsErrOf result Stop.ReadFault → ⊥ }
+{
+    match load(alloc, shelf, path) {
+        Ok(c) => {
+            let compared = compare_under(alloc, a, b, &c, settings);
+            compare_end(*settings, compared)
+        }
+        Err(error) => load_end(File::C, error),
     }
 }
 
@@ -103,6 +136,9 @@ fn compare_end(settings: Settings, compared: Result<Outcome, CompareError>) -> R
         Err(CompareError::Cyclic(side, names)) => Ok(Finding::Cyclic(side, names)),
         Err(CompareError::Unpaired(side, names)) => Ok(Finding::Unpaired(side, names)),
         Err(CompareError::TooLarge(side)) => Ok(Finding::Refused(Refusal::TooLarge(side))),
+        Err(CompareError::TooManyEvents) => Ok(Finding::Refused(Refusal::TooManyEvents)),
+        Err(CompareError::Assume(fault)) => Ok(Finding::Refused(Refusal::Assume(fault))),
+        Err(CompareError::Vacuous(_)) => Ok(Finding::Refused(Refusal::Vacuous)),
         Err(CompareError::NoMemory) => Err(Stop::NoMemory),
     }
 }

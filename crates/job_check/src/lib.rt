@@ -1,4 +1,4 @@
-//! The job that compares two circuits.
+//! The job that compares two circuits, also under an assumption on their inputs.
 #![tactic(auto)]
 
 mod comparison;

@@ -32,23 +32,30 @@ module _ (circuit : Option (List ℕ)) (x : List ℕ) (is : circuit ≡ Some x) 
   circuit_stands : (r : Refusal) → IsCircuitRefusal circuit r → ⊥
   circuit_stands (refusal.TooLong file.A) h = not_long circuit x is accepted h
   circuit_stands (refusal.TooLong file.B) h = h
+  circuit_stands (refusal.TooLong file.C) h = h
   circuit_stands (refusal.TooLong file.S) h = h
   circuit_stands (refusal.Text file.A line (line_fault.Circuit kind)) h = not_faulty circuit x is accepted line kind h
   circuit_stands (refusal.Text file.A line line_fault.BadHeader) h = h
   circuit_stands (refusal.Text file.A line line_fault.BadRow) h = h
   circuit_stands (refusal.Text file.A line (line_fault.Clauses kind)) h = h
   circuit_stands (refusal.Text file.B line fault) h = h
+  circuit_stands (refusal.Text file.C line fault) h = h
   circuit_stands (refusal.Text file.S line fault) h = h
   circuit_stands (refusal.Design file.A fault) h = not_unsound circuit x is accepted fault h
   circuit_stands (refusal.Design file.B fault) h = h
+  circuit_stands (refusal.Design file.C fault) h = h
   circuit_stands (refusal.Design file.S fault) h = h
   circuit_stands (refusal.Record file.A place kind) h = not_misread circuit x is accepted place kind h
   circuit_stands (refusal.Record file.B place kind) h = h
+  circuit_stands (refusal.Record file.C place kind) h = h
   circuit_stands (refusal.Record file.S place kind) h = h
   circuit_stands refusal.NotBuilt h = h
   circuit_stands (refusal.Interface name) h = h
   circuit_stands (refusal.TooLarge side) h = h
   circuit_stands (refusal.Misfit m) h = h
+  circuit_stands refusal.TooManyEvents h = h
+  circuit_stands (refusal.Assume fault) h = h
+  circuit_stands refusal.Vacuous h = h
   circuit_stands (refusal.Pair name) h = h
 
 -- in the plain mode no query of a latch has met the limit
@@ -70,6 +77,9 @@ module _ (mode : Mode) (circuit : Option (List ℕ)) (x : List ℕ) (is : circui
   graph_stands refusal.NotBuilt h = h
   graph_stands (refusal.Interface name) h = h
   graph_stands (refusal.Misfit m) h = h
+  graph_stands refusal.TooManyEvents h = h
+  graph_stands (refusal.Assume fault) h = h
+  graph_stands refusal.Vacuous h = h
   graph_stands (refusal.Pair name) h = h
 
   graph_reported : (f : Finding) → IsGraphFound mode circuit f → IsReported mode (status_of f)
@@ -89,6 +99,7 @@ module _ (mode : Mode) (circuit : Option (List ℕ)) (x : List ℕ) (is : circui
 -- nor is a stimulus that fits it
 module _ (mode : Mode) (circuit stimulus power : Option (List ℕ)) (reset : Bool) (x y : List ℕ) (is : circuit ≡ Some x) (told : stimulus ≡ Some y) (can : CanBeRun mode x y power) where
   run_stands : (r : Refusal) → IsSimRefusal mode circuit stimulus power r → ⊥
+  run_stands (refusal.TooLong file.C) h = circuit_stands circuit x is can.circuit (refusal.TooLong file.C) h
   run_stands (refusal.TooLong file.S) h = let long : IsTooLong y = if_told stimulus IsTooLong y told h.1 in omega (arith, can.stimulus.short)
   run_stands (refusal.Text file.S line line_fault.BadHeader) h = has_header y can.names can.rows can.stimulus.form (if_told stimulus (λ t. HasBadHeader t line) y told h.1).no_header
   run_stands (refusal.Text file.S line line_fault.BadRow) h = no_bad_row y can.names can.rows line can.stimulus.form (if_told stimulus (λ t. HasBadRow t line) y told h.1).bad_row
@@ -97,12 +108,16 @@ module _ (mode : Mode) (circuit stimulus power : Option (List ℕ)) (reset : Boo
       let spells : IsStimulus y h.names h.rows = if_told stimulus (λ t. IsStimulus t h.names h.rows) y told h.spells in
       let same : can.names ≡ h.names = same_names y can.names h.names can.rows h.rows can.stimulus.form spells.form in
       none-some m (sym (can.fits h.net loads) ∙ (ap (λ (names : List (List ℕ)). first_misfit h.net names power) same ∙ h.is_first))
+  run_stands refusal.TooManyEvents h = h
+  run_stands (refusal.Assume fault) h = h
+  run_stands refusal.Vacuous h = h
   run_stands (refusal.Pair name) h = h
   run_stands refusal.NotBuilt h = h
   run_stands (refusal.TooLong file.A) h = circuit_stands circuit x is can.circuit (refusal.TooLong file.A) h
   run_stands (refusal.TooLong file.B) h = circuit_stands circuit x is can.circuit (refusal.TooLong file.B) h
   run_stands (refusal.Text file.A line fault) h = circuit_stands circuit x is can.circuit (refusal.Text file.A line fault) h
   run_stands (refusal.Text file.B line fault) h = circuit_stands circuit x is can.circuit (refusal.Text file.B line fault) h
+  run_stands (refusal.Text file.C line fault) h = circuit_stands circuit x is can.circuit (refusal.Text file.C line fault) h
   run_stands (refusal.Text file.S line (line_fault.Circuit kind)) h = circuit_stands circuit x is can.circuit (refusal.Text file.S line (line_fault.Circuit kind)) h
   run_stands (refusal.Text file.S line (line_fault.Clauses kind)) h = circuit_stands circuit x is can.circuit (refusal.Text file.S line (line_fault.Clauses kind)) h
   run_stands (refusal.Design f fault) h = circuit_stands circuit x is can.circuit (refusal.Design f fault) h

@@ -72,6 +72,9 @@ graph_circuit mode circuit (refusal.Interface name) h = h
 graph_circuit mode circuit (refusal.TooLarge A) h = absurd h
 graph_circuit mode circuit (refusal.TooLarge B) h = h
 graph_circuit mode circuit (refusal.Misfit m) h = h
+graph_circuit mode circuit refusal.TooManyEvents h = h
+graph_circuit mode circuit (refusal.Assume fault) h = h
+graph_circuit mode circuit refusal.Vacuous h = h
 graph_circuit mode circuit (refusal.Pair name) h = h
 
 -- and one of the simulation
@@ -79,9 +82,11 @@ pub sim_circuit : (mode : Mode) (circuit stimulus power : Option (List ℕ)) (r 
 sim_circuit mode circuit stimulus power refusal.NotBuilt h = h
 sim_circuit mode circuit stimulus power (refusal.TooLong file.A) h = h
 sim_circuit mode circuit stimulus power (refusal.TooLong file.B) h = h
+sim_circuit mode circuit stimulus power (refusal.TooLong file.C) h = h
 sim_circuit mode circuit stimulus power (refusal.TooLong file.S) h = absurd h
 sim_circuit mode circuit stimulus power (refusal.Text file.A line fault) h = h
 sim_circuit mode circuit stimulus power (refusal.Text file.B line fault) h = h
+sim_circuit mode circuit stimulus power (refusal.Text file.C line fault) h = h
 sim_circuit mode circuit stimulus power (refusal.Text file.S line fault) h = absurd h
 sim_circuit mode circuit stimulus power (refusal.Design f fault) h = h
 sim_circuit mode circuit stimulus power (refusal.Record f place kind) h = h
@@ -89,6 +94,9 @@ sim_circuit mode circuit stimulus power (refusal.Interface name) h = h
 sim_circuit mode circuit stimulus power (refusal.TooLarge A) h = absurd h
 sim_circuit mode circuit stimulus power (refusal.TooLarge B) h = h
 sim_circuit mode circuit stimulus power (refusal.Misfit m) h = absurd h
+sim_circuit mode circuit stimulus power refusal.TooManyEvents h = h
+sim_circuit mode circuit stimulus power (refusal.Assume fault) h = h
+sim_circuit mode circuit stimulus power refusal.Vacuous h = h
 sim_circuit mode circuit stimulus power (refusal.Pair name) h = h
 
 -- the circuit is loaded, and its latch graph told

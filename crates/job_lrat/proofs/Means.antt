@@ -96,6 +96,7 @@ module _ (clauses proof : Option (List ℕ)) (x y : List ℕ) (is : clauses ≡ 
   stands : (r : Refusal) → IsLratRefusal clauses proof r → ⊥
   stands (refusal.TooLong file.A) h = let long : IsLong x = told clauses IsLong x is h in omega (arith, can.spells.short)
   stands (refusal.TooLong file.B) h = let long : IsLong y = told proof IsLong y also h.1 in omega (arith, can.refutes.short)
+  stands (refusal.TooLong file.C) h = h
   stands (refusal.TooLong file.S) h = h
   stands (refusal.Text file.A line (line_fault.Clauses kind)) h =
       no_fault (formula_of x) can.formula (text_error.At line kind) can.spells.is (told clauses (λ t. HasClausesFault t line kind) x is h).is
@@ -104,6 +105,7 @@ module _ (clauses proof : Option (List ℕ)) (x y : List ℕ) (is : clauses ≡ 
       let faulty : HasProofFault h.formula y line kind = told proof (λ t. HasProofFault h.formula t line kind) y also h.faulty in
       let same : h.formula ≡ can.formula = one_formula (formula_of x) h.formula can.formula spells.is can.spells.is in
       not_refused can.formula y can.line line kind can.refutes.accepted (subst (λ (f : Formula). IsTextVerdict f y (Refused line kind)) same faulty.refused)
+  stands (refusal.Text file.C line (line_fault.Clauses kind)) h = h
   stands (refusal.Text file.S line (line_fault.Clauses kind)) h = h
   stands (refusal.Text file.A line (line_fault.Circuit kind)) h = h
   stands (refusal.Text file.A line line_fault.BadHeader) h = h
@@ -111,8 +113,11 @@ module _ (clauses proof : Option (List ℕ)) (x y : List ℕ) (is : clauses ≡ 
   stands (refusal.Text file.B line (line_fault.Circuit kind)) h = h
   stands (refusal.Text file.B line line_fault.BadHeader) h = h
   stands (refusal.Text file.B line line_fault.BadRow) h = h
+  stands (refusal.Text file.C line (line_fault.Circuit kind)) h = h
   stands (refusal.Text file.S line (line_fault.Circuit kind)) h = h
+  stands (refusal.Text file.C line line_fault.BadHeader) h = h
   stands (refusal.Text file.S line line_fault.BadHeader) h = h
+  stands (refusal.Text file.C line line_fault.BadRow) h = h
   stands (refusal.Text file.S line line_fault.BadRow) h = h
   stands (refusal.Design f fault) h = h
   stands (refusal.Record f place kind) h = h
@@ -120,6 +125,9 @@ module _ (clauses proof : Option (List ℕ)) (x y : List ℕ) (is : clauses ≡ 
   stands (refusal.Interface name) h = h
   stands (refusal.TooLarge side) h = h
   stands (refusal.Misfit m) h = h
+  stands refusal.TooManyEvents h = h
+  stands (refusal.Assume fault) h = h
+  stands refusal.Vacuous h = h
   stands (refusal.Pair name) h = h
 
   done : (f : Finding) → IsLratFound clauses proof f → EndsWith status.Done (status_of f)

@@ -46,22 +46,28 @@ module _ (mode : Mode) (left right stimulus : Option (List ℕ)) (x y z : List �
   replay_stands refusal.NotBuilt h = h
   replay_stands (refusal.TooLong file.A) h = not_long left x is can.left h
   replay_stands (refusal.TooLong file.B) h = not_long right y other can.right h.1
+  replay_stands (refusal.TooLong file.C) h = h
   replay_stands (refusal.TooLong file.S) h = no_long_stimulus stimulus z told can.names can.rows can.stimulus h.2
   replay_stands (refusal.Text file.A line (line_fault.Circuit kind)) h = not_faulty left x is can.left line kind h
   replay_stands (refusal.Text file.B line (line_fault.Circuit kind)) h = not_faulty right y other can.right line kind h.1
+  replay_stands (refusal.Text file.C line (line_fault.Circuit kind)) h = h
   replay_stands (refusal.Text file.S line (line_fault.Circuit kind)) h = h
   replay_stands (refusal.Text f line (line_fault.Clauses kind)) h = h
   replay_stands (refusal.Text file.A line line_fault.BadHeader) h = h
   replay_stands (refusal.Text file.B line line_fault.BadHeader) h = h
+  replay_stands (refusal.Text file.C line line_fault.BadHeader) h = h
   replay_stands (refusal.Text file.S line line_fault.BadHeader) h = not_headless stimulus z told can.names can.rows can.stimulus line h.2
   replay_stands (refusal.Text file.A line line_fault.BadRow) h = h
   replay_stands (refusal.Text file.B line line_fault.BadRow) h = h
+  replay_stands (refusal.Text file.C line line_fault.BadRow) h = h
   replay_stands (refusal.Text file.S line line_fault.BadRow) h = no_row_refused stimulus z told can.names can.rows can.stimulus line h.2
   replay_stands (refusal.Design file.A fault) h = not_unsound left x is can.left fault h
   replay_stands (refusal.Design file.B fault) h = not_unsound right y other can.right fault h.1
+  replay_stands (refusal.Design file.C fault) h = h
   replay_stands (refusal.Design file.S fault) h = h
   replay_stands (refusal.Record file.A place kind) h = not_misread left x is can.left place kind h
   replay_stands (refusal.Record file.B place kind) h = not_misread right y other can.right place kind h.1
+  replay_stands (refusal.Record file.C place kind) h = h
   replay_stands (refusal.Record file.S place kind) h = h
   replay_stands (refusal.Interface name) h =
       let l : Loads x h.a = if_told left (λ t. Loads t h.a) x is h.left_loads in
@@ -84,6 +90,9 @@ module _ (mode : Mode) (left right stimulus : Option (List ℕ)) (x y z : List �
       let spells : IsStimulus z h.names h.rows = if_told stimulus (λ t. IsStimulus t h.names h.rows) z told h.spells in
       none-some name (sym (can.fits h.a h.b l r).complete ∙ (ap (first_lacking h.a h.b) (names_are h.names h.rows spells) ∙ h.said.1.1.1))
   replay_stands (refusal.Misfit misfit.Power) h = h
+  replay_stands refusal.TooManyEvents h = h
+  replay_stands (refusal.Assume fault) h = h
+  replay_stands refusal.Vacuous h = h
   replay_stands (refusal.Pair name) h = h
 
   replayed : (f : Finding) → IsReplayFound mode left right stimulus f → IsReplayed mode (status_of f)

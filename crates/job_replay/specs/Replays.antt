@@ -48,6 +48,7 @@ pub record OfReplay (left right stimulus : Option (List ℕ)) (P : NetView → N
 abbrev pub OfCircuit : Option (List ℕ) → Option (List ℕ) → File → (List ℕ → Type 0) → Type 0
 OfCircuit left right file.A P = IfSome left P
 OfCircuit left right file.B P = IsLoaded left × IfSome right P
+OfCircuit left right file.C P = ⊥
 OfCircuit left right file.S P = ⊥
 
 -- what is said of the text of the stimulus, which is looked at only where both circuits load
@@ -71,6 +72,9 @@ IsReplayRefusal mode left right stimulus (refusal.TooLarge side) = OfReplay left
 IsReplayRefusal mode left right stimulus (refusal.Misfit (misfit.Unknown name)) = OfReplay left right stimulus (λ a b names rows. ReplaysIn mode a b names rows (Err (fault.Unknown name)))
 IsReplayRefusal mode left right stimulus (refusal.Misfit (misfit.Missing name)) = OfReplay left right stimulus (λ a b names rows. ReplaysIn mode a b names rows (Err (fault.Missing name)))
 IsReplayRefusal mode left right stimulus (refusal.Misfit misfit.Power) = ⊥
+IsReplayRefusal mode left right stimulus refusal.TooManyEvents = ⊥
+IsReplayRefusal mode left right stimulus (refusal.Assume fault) = ⊥
+IsReplayRefusal mode left right stimulus refusal.Vacuous = ⊥
 IsReplayRefusal mode left right stimulus (refusal.Pair name) = ⊥
 
 -- what is found where a replay is asked for

@@ -30,7 +30,7 @@ use Rattle.design_laws.proofs.KeptNames.{latch_names_are}
 use Rattle.sec_setup.specs.Cycles.{AreBroken}
 use Rattle.compare_base.specs.Compared.{AreTooLarge}
 use Rattle.sec_setup.specs.Cuts.{IsChoice, StandInOrder}
-use Rattle.plain_meaning.specs.Fitting.{cut_outputs, IsCutOver, IsCutLight}
+use Rattle.outcome_fits.specs.Fitting.{cut_outputs, IsCutOver, IsCutLight}
 use Rattle.one_text.specs.TextNets.{OneNetIsEnough, ToldCyclesAreOne}
 
 names_of_rows : {P : Type 0} (es : List (Equation P)) → latch_names es ≡ latch_names (latch_rows es)

@@ -49,11 +49,11 @@ use Rattle.outcome.specs.declared.verdict.Outcome.{Outcome}
 use Rattle.sec_base.specs.declared.settings.Settings.{Settings}
 use Rattle.plain_form.specs.Laws.{HaveOneTree}
 use Rattle.sec_setup.specs.Pairs.{NamedPair, named_pairs}
-use Rattle.plain_meaning.specs.Outcome.{HaveDifferentFunctions, AnswerFits, PairFits, VerdictFits}
+use Rattle.outcome_fits.specs.Outcome.{HaveDifferentFunctions, AnswerFits, PairFits, VerdictFits}
 use Rattle.sec_setup.specs.Cycles.{AreBroken}
 use Rattle.compare_base.specs.Compared.{IsCompared, AreTooLarge}
 use Rattle.sec_setup.specs.Cuts.{IsChoice, columns_of, is_cut}
-use Rattle.plain_meaning.specs.Fitting.{IsCutOver, OutcomeFits}
+use Rattle.outcome_fits.specs.Fitting.{IsCutOver, OutcomeFits}
 use Rattle.sec_setup.proofs.CutNets.{same_as_cut, cut_numbers}
 use Rattle.plain_meaning.proofs.CutPairs.{IsOutputPair, IsNextPair, one_output, listed_is}
 use Rattle.sec_setup.proofs.SameEquations.{same_tree}
@@ -274,6 +274,7 @@ module _ (text : List ℕ) (a b : NetView) (la : Loads text a) (lb : Loads text 
   only_verdict (verdict.Different w) h = absurd (no_other h.index h.result answer.Different h.result_is h.answered (λ e. cc))
   only_verdict (verdict.DifferentFrom w) h = absurd h
   only_verdict (verdict.NotShown (why.Cut w)) h = absurd (no_other h.2.index h.2.result answer.NotShown h.2.result_is h.2.answered (λ e. cc))
+  only_verdict (verdict.NotShown (why.Events u)) h = absurd h
   only_verdict (verdict.Limit at) h = absurd (no_other h.index h.result answer.Limit h.result_is h.limit (λ e. cc))
 
   is_equal : o.verdict ≡ verdict.Equal

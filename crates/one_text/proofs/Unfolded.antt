@@ -4,7 +4,7 @@ use Rattle.circuit_theory.specs.Depth.{HasCycle}
 use Rattle.circuit_theory.specs.Run.{NoneEnabled}
 use Rattle.blif_read.specs.declared.design.BlifModel.{BlifModel}
 use Rattle.flat_net.specs.View.{circuit_of}
-use Rattle.plain_meaning.specs.Fitting.{IsCutOver}
+use Rattle.outcome_fits.specs.Fitting.{IsCutOver}
 use Rattle.design_rows.specs.Designs as design
 use Rattle.design_rows.specs.Small.{Small, small_and, small_late, small_early, small_two, small_idle}
 use Rattle.design_rows.specs.Texts.{on_and, late, early, hier, two, idle}

@@ -6,9 +6,9 @@ use Rattle.outcome.specs.declared.verdict.Verdict.TheVariants as verdict
 use Rattle.outcome.specs.declared.verdict.Outcome.{Outcome}
 use Rattle.sec_setup.specs.Cycles.{IsAcyclic}
 use Rattle.compare_base.specs.Compared.{IsCompared}
-use Rattle.plain_meaning.specs.Fitting.{IsCutOver}
+use Rattle.outcome_fits.specs.Fitting.{IsCutOver}
 use Rattle.sec_files.specs.Loading.{IsAccepted, Loads}
-use Rattle.check_meaning.specs.Answer.{AreComparable}
+use Rattle.check_texts.specs.Texts.{AreComparable}
 use Rattle.design_rows.specs.Texts.{on_and, late, early, hier, two, idle}
 
 -- Two nets that one text loads as are equal wherever they are compared, however few conflicts are allowed.

@@ -18,11 +18,12 @@ use Rattle.job_base.specs.declared.status.StatusName.{StatusName}
 use Rattle.job_base.specs.declared.status.StatusName.TheVariants as status
 use Rattle.job_base.specs.declared.finding.Refusal.TheVariants as refusal
 use Rattle.job_files.specs.Reading.{Held}
-use Rattle.check_meaning.specs.Answer.{AreComparable, CanAnswer, IsAnswer}
+use Rattle.check_meaning.specs.Answer.{CanAnswer, IsAnswer}
+use Rattle.check_texts.specs.Texts.{AreComparable}
 use Rattle.sec_run.specs.Answer.{EndsAs, IsFinding}
-use Rattle.check_meaning.specs.Found.{IsFoundOf, OfNets}
+use Rattle.check_found.specs.Found.{IsFoundOf, OfNets}
 use Rattle.job_base.specs.Written.{status_of, verdict_status}
-use Rattle.check_meaning.specs.Check.{Check, WhereBuilt}
+use Rattle.check_found.specs.Check.{Check, WhereBuilt}
 use Rattle.job_base.specs.Meaning.{EndsWith}
 use Rattle.sec_run.specs.Promises.{IsComplete}
 use Rattle.one_text_runs.specs.OneTextRuns.{OfCheck, OfOneText, IsAlways, IsEqualAnswer}
@@ -93,7 +94,7 @@ check_equal held check f Event reset e can found is = absurd can
 
 job_equal : (held : Held) (job : Option Task) (f : Finding) → OfCheck job (CanMeetItself held) → IsFinding held job f → IsAnswer (status_of f) → IsEqualAnswer (status_of f)
 job_equal held None f can found is = absurd can
-job_equal held (Some (task.Check a b settings)) f can found is = check_equal held (record { left = a; right = b; settings = settings }) f settings.mode settings.reset refl can found is
+job_equal held (Some (task.Check a b settings None)) f can found is = check_equal held (record { left = a; right = b; settings = settings; assumed = None }) f settings.mode settings.reset refl can found is
 job_equal held (Some (task.Graph a mode)) f can found is = absurd can
 job_equal held (Some (task.Sim a s mode power reset)) f can found is = absurd can
 job_equal held (Some (task.Replay a b s mode)) f can found is = absurd can
@@ -111,7 +112,7 @@ check_answered held check name Event reset can complete = absurd can
 
 pub is_answered : (held : Held) (job : Option Task) (name : StatusName) → OfCheck job (CanMeetItself held) → IsComplete held job name → IsAnswer name
 is_answered held None name can complete = absurd can
-is_answered held (Some (task.Check a b settings)) name can complete = check_answered held (record { left = a; right = b; settings = settings }) name settings.mode settings.reset can complete
+is_answered held (Some (task.Check a b settings None)) name can complete = check_answered held (record { left = a; right = b; settings = settings; assumed = None }) name settings.mode settings.reset can complete
 is_answered held (Some (task.Graph a mode)) name can complete = absurd can
 is_answered held (Some (task.Sim a s mode power reset)) name can complete = absurd can
 is_answered held (Some (task.Replay a b s mode)) name can complete = absurd can

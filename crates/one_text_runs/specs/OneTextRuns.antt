@@ -6,7 +6,7 @@ use Rattle.job_base.specs.declared.status.StatusName.{StatusName}
 use Rattle.job_base.specs.declared.status.StatusName.TheVariants as status
 use Rattle.command_line.specs.declared.task.Task.{Task}
 use Rattle.command_line.specs.declared.task.Task.TheVariants as task
-use Rattle.check_meaning.specs.Check.{Check}
+use Rattle.check_found.specs.Check.{Check}
 use Rattle.job_files.specs.Reading.{Held}
 
 -- the comparison is in the plain mode, and over all power-ups
@@ -17,7 +17,7 @@ IsAlways Event reset P = ⊥
 
 -- what is said of such a comparison that the job asks for
 abbrev pub OfCheck : Option Task → (Check → Type 0) → Type 0
-OfCheck (Some (task.Check a b settings)) P = IsAlways settings.mode settings.reset (P (record { left = a; right = b; settings = settings }))
+OfCheck (Some (task.Check a b settings None)) P = IsAlways settings.mode settings.reset (P (record { left = a; right = b; settings = settings; assumed = None }))
 OfCheck other P = ⊥
 
 -- what is said of a text that is held at both paths

@@ -3,7 +3,7 @@
 
 ghost use Rattle.std.specs.Prelude.{◌≢◌, map, string_bytes};
 ghost use Rattle.command_line.specs.Jobs.{job_of};
-ghost use Rattle.check_meaning.specs.Answer.{AreComparable};
+ghost use Rattle.check_texts.specs.Texts.{AreComparable};
 ghost use Rattle.one_text_runs.specs.OneTextRuns.{OfCheck, OfOneText, IsEqualAnswer};
 
 use sec_base::{Shelf, Sink};

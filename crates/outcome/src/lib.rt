@@ -4,8 +4,12 @@
 mod text;
 mod verdict;
 
+pub use frame_report::{Frame, Spot, Spots};
 pub use pair_decide::Proof;
 pub use sec_base::Settings;
 pub use text::report;
-pub use verdict::{LimitAt, Outcome, PairResult, PairResults, ResetWitness, Verdict, Why};
+pub use verdict::{
+    LimitAt, Outcome, PairResult, PairResults, ResetWitness, Separation, Separations, Unshown,
+    Verdict, Why,
+};
 pub use witness_report::{PairName, Stimulus, Witness};

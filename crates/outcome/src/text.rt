@@ -1,15 +1,20 @@
 //! The report of a comparison, as text.
 
-ghost use Rattle.std.specs.Prelude.{◌≡◌, ℕ, List, [], ◌∷◌, ◌++◌, length, codes, OnOk, IfOk};
+ghost use Rattle.std.specs.Prelude.{◌≡◌, ℕ, List, [], ◌∷◌, ◌++◌, length, codes, if◌then◌else◌, OnOk, IfOk};
 ghost use Rattle.std.specs.Fmt.{decimal};
 ghost use Rattle.std.specs.List.{flat_map};
 ghost use Rattle.witness_report.specs.Text.{row_line, stimulus_text};
-ghost use Rattle.outcome.specs.Report.{answer_word, pair_text, pair_front, pair_line, values_text, witness_text, reset_witness_text, why_text, limit_text, through_text, verdict_text, counts_text, reset_line, exposed_line, report_text};
+ghost use Rattle.frame_report.specs.Text.{frame_text};
+ghost use Rattle.outcome.specs.Report.{answer_word, pair_text, pair_front, size_word, pair_line, bits_text, values_text, witness_text, reset_witness_text, latch_text, low_text, separation_text, unshown_text, why_text, limit_text, through_text, through_line, pairs_text, verdict_text, counts_text, reset_line, assume_line, exposed_line, classes_line, knows_exposed, knows_pairs, report_text};
 
-use crate::verdict::{LimitAt, Outcome, PairResult, ResetWitness, Verdict, Why};
+use crate::verdict::{
+    LimitAt, Outcome, PairResult, ResetWitness, Separation, Unshown, Verdict, Why,
+};
+use circuit_theory::Mode;
+use frame_report::put_frame;
 use sec_base::{
-    NoMemory, PairAnswer, Seq, Settings, Text, Words, digit_of, put, put_digits, put_names,
-    put_number,
+    NoMemory, PairAnswer, Seq, Settings, Side, Text, Word, Words, digit_of, put, put_digits,
+    put_names, put_number,
 };
 use std::alloc::Global;
 use witness_report::{PairName, Stimulus, Witness, write_stimulus};
@@ -60,24 +65,55 @@ fn put_pair_front(text: &mut Vec<u8>, name: &PairName) -> Result<(), NoMemory>
     }
 }
 
-fn put_pair(alloc: Global, text: &mut Vec<u8>, pair: &PairResult) -> Result<(), NoMemory>
-    ensures { OnOk result (text.new.items ≡ text.old.items ++ pair_line pair.now) }
+/// What the size of a pair is.
+fn size_word(mode: Mode) -> &'static str
+    ensures { result.now ≡ size_word mode }
+{
+    match mode {
+        Mode::Plain => " depth ",
+        Mode::Event => " nodes ",
+    }
+}
+
+fn put_pair(
+    alloc: Global,
+    text: &mut Vec<u8>,
+    mode: Mode,
+    pair: &PairResult,
+) -> Result<(), NoMemory>
+    ensures { OnOk result (text.new.items ≡ text.old.items ++ pair_line mode pair.now) }
 {
     put_pair_front(text, &pair.name)?;
-    put(text, b" depth ")?;
+    put(text, size_word(mode).as_bytes())?;
     put_number(alloc, text, u64::from(pair.size))?;
     put(text, b" ")?;
     put(text, answer_word(pair.answer).as_bytes())?;
     put(text, b"\n")
 }
 
-fn put_pairs(alloc: Global, text: &mut Vec<u8>, pairs: &[PairResult]) -> Result<(), NoMemory>
-    ensures { OnOk result (text.new.items ≡ text.old.items ++ flat_map pair_line pairs.now) }
+fn put_each(
+    alloc: Global,
+    text: &mut Vec<u8>,
+    mode: Mode,
+    pairs: &[PairResult],
+) -> Result<(), NoMemory>
+    ensures { OnOk result (text.new.items ≡ text.old.items ++ flat_map (pair_line mode) pairs.now) }
 {
     for pair in pairs {
-        put_pair(alloc, text, pair)?;
+        put_pair(alloc, text, mode, pair)?;
     }
     Ok(())
+}
+
+/// Puts the values of both sides, and ends the line.
+fn put_bits(text: &mut Vec<u8>, left: bool, right: bool) -> Result<(), NoMemory>
+    ensures { OnOk result (text.new.items ≡ text.old.items ++ bits_text left right) }
+{
+    put(text, b" values ")?;
+    text.push(digit_of(left))?;
+    put(text, b" ")?;
+    text.push(digit_of(right))?;
+    put(text, b"\n")
 }
 
 #[tactic(auto, unfolding(crate::specs::Report::values_text))]
@@ -86,11 +122,7 @@ fn put_values(alloc: Global, text: &mut Vec<u8>, witness: &Witness) -> Result<()
 {
     put(text, b" cycle ")?;
     put_number(alloc, text, u64::from(witness.cycle))?;
-    put(text, b" values ")?;
-    text.push(digit_of(witness.left))?;
-    put(text, b" ")?;
-    text.push(digit_of(witness.right))?;
-    put(text, b"\n")
+    put_bits(text, witness.left, witness.right)
 }
 
 /// Puts the pair, the cycle and the values of a sequence, and then its stimulus.
@@ -128,7 +160,81 @@ fn put_reset_witness(
     put_power(text, shown.right_power.as_slice())
 }
 
-/// Puts what is shown where latches were cut open, and the sequence that shows it.
+/// Puts a latch and its circuit.
+fn put_latch(text: &mut Vec<u8>, side: Side, name: &Word) -> Result<(), NoMemory>
+    ensures { OnOk result (text.new.items ≡ text.old.items ++ latch_text side name.now) }
+{
+    match side {
+        Side::A => {
+            put(text, b"A:")?;
+            put(text, name.as_slice())
+        }
+        Side::B => {
+            put(text, b"B:")?;
+            put(text, name.as_slice())
+        }
+    }
+}
+
+/// Puts a latch of the lower of two classes, where that doesn't always load.
+fn put_low(text: &mut Vec<u8>, low: &Option<(Side, Word)>) -> Result<(), NoMemory>
+    ensures { OnOk result (text.new.items ≡ text.old.items ++ low_text low.now) }
+{
+    match low {
+        Some((side, name)) => put_latch(text, *side, name),
+        None => put(text, b"always"),
+    }
+}
+
+/// Puts two classes, and a latch of each.
+fn put_classes(alloc: Global, text: &mut Vec<u8>, separation: &Separation) -> Result<(), NoMemory>
+    ensures { let s = separation.now in
+        OnOk result (text.new.items ≡ text.old.items ++ (codes "apart " ++ decimal s.low ++ 32 ∷ [] ++ decimal s.high ++ 32 ∷ [] ++ low_text s.low_latch ++ 32 ∷ [] ++ latch_text s.high_latch.0 s.high_latch.1)) }
+{
+    put(text, b"apart ")?;
+    put_number(alloc, text, u64::from(separation.low))?;
+    put(text, b" ")?;
+    put_number(alloc, text, u64::from(separation.high))?;
+    put(text, b" ")?;
+    put_low(text, &separation.low_latch)?;
+    put(text, b" ")?;
+    put_latch(text, separation.high_latch.0, &separation.high_latch.1)
+}
+
+/// Puts two classes, a latch of each, the values of their enables and the frame that gives them.
+#[tactic(auto, unfolding(crate::specs::Report::separation_text))]
+fn put_separation(
+    alloc: Global,
+    text: &mut Vec<u8>,
+    separation: &Separation,
+) -> Result<(), NoMemory>
+    ensures { OnOk result (text.new.items ≡ text.old.items ++ separation_text separation.now) }
+{
+    put_classes(alloc, text, separation)?;
+    put_bits(text, separation.left, separation.right)?;
+    put_frame(alloc, text, &separation.frame)
+}
+
+fn put_separations(alloc: Global, text: &mut Vec<u8>, apart: &[Separation]) -> Result<(), NoMemory>
+    ensures { OnOk result (text.new.items ≡ text.old.items ++ flat_map separation_text apart.now) }
+{
+    for separation in apart {
+        put_separation(alloc, text, separation)?;
+    }
+    Ok(())
+}
+
+/// Puts a pair, the values of both sides and the frame that gives them, and then what tells its classes apart.
+fn put_unshown(alloc: Global, text: &mut Vec<u8>, unshown: &Unshown) -> Result<(), NoMemory>
+    ensures { OnOk result (text.new.items ≡ text.old.items ++ unshown_text unshown.now) }
+{
+    put_pair_name(text, &unshown.pair)?;
+    put_bits(text, unshown.left, unshown.right)?;
+    put_frame(alloc, text, &unshown.frame)?;
+    put_separations(alloc, text, unshown.apart.as_slice())
+}
+
+/// Puts what is shown where the circuits may still agree, and what shows it.
 fn put_why(alloc: Global, text: &mut Vec<u8>, why: &Why) -> Result<(), NoMemory>
     ensures { OnOk result (text.new.items ≡ text.old.items ++ why_text why.now) }
 {
@@ -136,6 +242,10 @@ fn put_why(alloc: Global, text: &mut Vec<u8>, why: &Why) -> Result<(), NoMemory>
         Why::Cut(witness) => {
             put(text, b"cut ")?;
             put_witness(alloc, text, witness)
+        }
+        Why::Events(unshown) => {
+            put(text, b"events ")?;
+            put_unshown(alloc, text, unshown)
         }
     }
 }
@@ -145,6 +255,15 @@ fn put_limit_at(text: &mut Vec<u8>, at: &LimitAt) -> Result<(), NoMemory>
     ensures { OnOk result (text.new.items ≡ text.old.items ++ limit_text at.now) }
 {
     match at {
+        LimitAt::Assume(_) => put(text, b"assume"),
+        LimitAt::Recover(side, name, _) => {
+            put(text, b"recover ")?;
+            put_latch(text, *side, name)
+        }
+        LimitAt::Class(side, name, _, _) => {
+            put(text, b"class ")?;
+            put_latch(text, *side, name)
+        }
         LimitAt::Pair(name) => put_pair_name(text, name),
     }
 }
@@ -207,6 +326,53 @@ fn put_through(alloc: Global, text: &mut Vec<u8>, outcome: &Outcome) -> Result<(
     }
 }
 
+fn put_through_line(
+    alloc: Global,
+    text: &mut Vec<u8>,
+    mode: Mode,
+    outcome: &Outcome,
+) -> Result<(), NoMemory>
+    ensures { OnOk result (text.new.items ≡ text.old.items ++ through_line mode outcome.now) }
+{
+    match mode {
+        Mode::Plain => put_through(alloc, text, outcome),
+        Mode::Event => Ok(()),
+    }
+}
+
+/// Puts the line of the event classes.
+fn put_class_count(
+    alloc: Global,
+    text: &mut Vec<u8>,
+    mode: Mode,
+    classes: u32,
+) -> Result<(), NoMemory>
+    ensures { OnOk result (text.new.items ≡ text.old.items ++ classes_line mode classes) }
+{
+    match mode {
+        Mode::Plain => Ok(()),
+        Mode::Event => {
+            put(text, b"classes ")?;
+            put_number(alloc, text, u64::from(classes))?;
+            put(text, b"\n")
+        }
+    }
+}
+
+/// Puts the lines of the classes and the pairs.
+fn put_pairs(
+    alloc: Global,
+    text: &mut Vec<u8>,
+    mode: Mode,
+    outcome: &Outcome,
+) -> Result<(), NoMemory>
+    ensures { OnOk result (text.new.items ≡ text.old.items ++ pairs_text mode outcome.now) }
+{
+    put_class_count(alloc, text, mode, outcome.classes)?;
+    put_each(alloc, text, mode, outcome.pairs.as_slice())?;
+    put_through_line(alloc, text, mode, outcome)
+}
+
 fn put_counts(alloc: Global, text: &mut Vec<u8>, outcome: &Outcome) -> Result<(), NoMemory>
     ensures { OnOk result (text.new.items ≡ text.old.items ++ counts_text outcome.now) }
 {
@@ -229,6 +395,20 @@ fn put_reset_line(text: &mut Vec<u8>, reset: bool) -> Result<(), NoMemory>
     Ok(())
 }
 
+/// Puts the line of the assumption on the inputs, where there is one.
+fn put_assumed(text: &mut Vec<u8>, assumed: &Option<Word>) -> Result<(), NoMemory>
+    ensures { OnOk result (text.new.items ≡ text.old.items ++ assume_line assumed.now) }
+{
+    match assumed {
+        None => Ok(()),
+        Some(name) => {
+            put(text, b"assume ")?;
+            put(text, name.as_slice())?;
+            put(text, b"\n")
+        }
+    }
+}
+
 /// Puts the line of the latches that were cut open.
 fn put_exposed(alloc: Global, text: &mut Vec<u8>, exposed: &Words) -> Result<(), NoMemory>
     ensures { OnOk result (text.new.items ≡ text.old.items ++ exposed_line exposed.now) }
@@ -239,18 +419,59 @@ fn put_exposed(alloc: Global, text: &mut Vec<u8>, exposed: &Words) -> Result<(),
     put(text, b"\n")
 }
 
-/// The report of a comparison: the counts, whether runs begin with the latches' initial values, the latches that were cut open, a
-/// line for each pair, the cycle from which on all pairs are settled where it is asked for, and the verdict with its sequence.
-/// Each line ends with a line feed; numbers are decimal, and names stand byte for byte.
+/// Whether it was found out which latches are to be cut open.
+fn knows_exposed(verdict: &Verdict) -> bool
+    ensures { result ≡ knows_exposed verdict.now }
+{
+    match verdict {
+        Verdict::Limit(LimitAt::Assume(_)) => false,
+        Verdict::Limit(LimitAt::Recover(_, _, _)) => false,
+        _ => true,
+    }
+}
+
+/// Whether pairs were asked about.
+fn knows_pairs(verdict: &Verdict) -> bool
+    ensures { result ≡ knows_pairs verdict.now }
+{
+    match verdict {
+        Verdict::Limit(LimitAt::Assume(_)) => false,
+        Verdict::Limit(LimitAt::Recover(_, _, _)) => false,
+        Verdict::Limit(LimitAt::Class(_, _, _, _)) => false,
+        _ => true,
+    }
+}
+
+/// Puts the lines of what was found out before the verdict.
+fn put_found(
+    alloc: Global,
+    text: &mut Vec<u8>,
+    mode: Mode,
+    outcome: &Outcome,
+) -> Result<(), NoMemory>
+    ensures { OnOk result (text.new.items ≡ text.old.items ++ ((if knows_exposed outcome.now.verdict then exposed_line outcome.now.exposed else []) ++ (if knows_pairs outcome.now.verdict then pairs_text mode outcome.now else []))) }
+{
+    if knows_exposed(&outcome.verdict) {
+        put_exposed(alloc, text, &outcome.exposed)?;
+    }
+    if knows_pairs(&outcome.verdict) {
+        put_pairs(alloc, text, mode, outcome)?;
+    }
+    Ok(())
+}
+
+/// The report of a comparison: the counts, whether runs begin with the latches' initial values, the assumption where there is one, the
+/// latches that were cut open, in the event mode the number of classes, a line for each pair, the cycle from which on all pairs are
+/// settled where it is asked for, and the verdict with what shows it. Where the limit was met before pairs were asked about, what wasn't
+/// found out is left out. Each line ends with a line feed; numbers are decimal, and names stand byte for byte.
 pub fn report(alloc: Global, outcome: &Outcome, settings: &Settings) -> Result<Text, NoMemory>
     ensures { IfOk result (λ text. text ≡ report_text settings.now outcome.now) }
 {
     let mut text = Vec::new(alloc);
     put_counts(alloc, &mut text, outcome)?;
     put_reset_line(&mut text, settings.reset)?;
-    put_exposed(alloc, &mut text, &outcome.exposed)?;
-    put_pairs(alloc, &mut text, outcome.pairs.as_slice())?;
-    put_through(alloc, &mut text, outcome)?;
+    put_assumed(&mut text, &outcome.assumed)?;
+    put_found(alloc, &mut text, settings.mode, outcome)?;
     put_verdict(alloc, &mut text, &outcome.verdict, settings.conflicts)?;
     Ok(Seq::from_vec(text))
 }

@@ -1,14 +1,16 @@
 //! What a comparison finds.
 
+use frame_report::Frame;
 use pair_decide::Proof;
-use sec_base::{Bits, PairAnswer, Seq, Words};
+use sec_base::{Bits, PairAnswer, Seq, Side, Word, Words};
 use witness_report::{PairName, Witness};
 
 /// What was found of one pair.
 #[derive(Drop)]
 pub struct PairResult {
     pub name: PairName,
-    /// The greater of the two sides' sequential depths, in cycles.
+    /// The greater of the two sides' sequential depths, in cycles; in the event mode the number of event nodes that both sides reach
+    /// together.
     pub size: u32,
     pub answer: PairAnswer,
     /// The clauses of the pair's query and the log of the search, exactly where the answer is `Limit`.
@@ -21,15 +23,58 @@ pub type PairResults = Seq<PairResult>;
 /// Where a comparison met the limit of conflicts.
 #[derive(Drop)]
 pub enum LimitAt {
+    /// At the query whether some values of the inputs meet the assumption; its proof.
+    Assume(Proof),
+    /// At the query whether this latch of this circuit has a load enable; its proof.
+    Recover(Side, Word, Proof),
+    /// At the query whether this latch of this circuit loads when the other one does, or always where there is none; its proof.
+    Class(Side, Word, Option<(Side, Word)>, Proof),
     /// At the query of this pair.
     Pair(PairName),
 }
 
-/// What is shown where the functions of a pair differ and latches were cut open: the circuits themselves may still agree.
+/// Two event classes, and a frame that tells them apart.
+#[derive(Drop)]
+pub struct Separation {
+    /// The number of the lower class.
+    pub low: u32,
+    /// The number of the higher class.
+    pub high: u32,
+    /// The latch of the lower class and its circuit; none where that class always loads.
+    pub low_latch: Option<(Side, Word)>,
+    /// The latch of the higher class and its circuit.
+    pub high_latch: (Side, Word),
+    /// The value of the lower class's enable.
+    pub left: bool,
+    /// The value of the higher class's enable.
+    pub right: bool,
+    pub frame: Frame,
+}
+
+/// What tells classes apart, in their order.
+pub type Separations = Seq<Separation>;
+
+/// A pair whose functions differ over events, and what its classes are.
+#[derive(Drop)]
+pub struct Unshown {
+    pub pair: PairName,
+    /// The value in the first circuit.
+    pub left: bool,
+    /// The value in the second circuit.
+    pub right: bool,
+    /// What gives the two values.
+    pub frame: Frame,
+    /// One separation for each two classes that occur in the paths of the pair's nodes.
+    pub apart: Separations,
+}
+
+/// What is shown where the functions of a pair differ, and the circuits themselves may still agree.
 #[derive(Drop)]
 pub enum Why {
     /// A sequence over the inputs and the latches that were cut open makes the pair of the cut circuits differ.
     Cut(Witness),
+    /// The pair reaches a class that doesn't always load, and a frame makes its functions differ.
+    Events(Unshown),
 }
 
 /// An input sequence that makes a pair differ in runs from the initial values, with the values of the latches in cycle 0.
@@ -51,7 +96,7 @@ pub enum Verdict {
     Different(Witness),
     /// A pair's functions differ in a cycle of runs from the initial values, and the sequence and the power-ups show it.
     DifferentFrom(ResetWitness),
-    /// A pair's functions differ, and latches were cut open.
+    /// A pair's functions differ, and latches were cut open or don't always load.
     NotShown(Why),
     /// A query wasn't decided within the number of conflicts.
     Limit(LimitAt),
@@ -64,12 +109,14 @@ pub struct Outcome {
     pub inputs: u32,
     pub left_latches: u32,
     pub right_latches: u32,
+    /// The name of the output of the assumption on the inputs, where there is one.
+    pub assumed: Option<Word>,
     /// The names of the latches that were cut open.
     pub exposed: Words,
     /// The number of event classes besides the one that always loads.
     pub classes: u32,
     pub pairs: PairResults,
-    /// The greatest depth of the pairs, in cycles.
+    /// The greatest depth of the pairs, in cycles; 0 in the event mode.
     pub through: u32,
     pub verdict: Verdict,
 }

@@ -18,8 +18,8 @@ use Rattle.unfold_places.specs.declared.signal_function.Unfolded.{Unfolded}
 use Rattle.proof_check.specs.Clauses.{Unsatisfiable}
 use Rattle.cnf_encode.specs.declared.cnf.Cnf.{Cnf}
 use Rattle.cnf_encode.specs.Encoding.{MeansDifference, ShowsDifference, IsSmall}
-use Rattle.plain_meaning.specs.Outcome.{HaveDifferentFunctions}
-use Rattle.plain_form.specs.Pairs.{IsFunctionOf}
+use Rattle.outcome_fits.specs.Outcome.{HaveDifferentFunctions}
+use Rattle.plain_asked.specs.Pairs.{IsFunctionOf}
 use Rattle.pair_clauses.specs.Clauses.{CanBeMet, TellDifference}
 
 -- the bit of the variable that stands for an input at a shift

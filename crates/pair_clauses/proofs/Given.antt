@@ -12,8 +12,8 @@ use Rattle.interface.specs.declared.pairs.SignalPair.{SignalPair}
 use Rattle.interface.specs.Pairing.{ArePairs}
 use Rattle.interface.proofs.NamedPairs.{pairs_cut}
 use Rattle.interface.proofs.Shared.{are_matched}
-use Rattle.plain_form.specs.Pairs.{AreLight, left_signals, right_signals}
-use Rattle.plain_form.proofs.Outcomes.{left_light, right_light}
+use Rattle.plain_asked.specs.Pairs.{AreLight, left_signals, right_signals}
+use Rattle.plain_asked.proofs.Refusals.{left_light, right_light}
 use Rattle.sec_setup.specs.Choosing.{IsChosen}
 use Rattle.sec_setup.specs.Cuts.{AreCutBy}
 use Rattle.sec_setup.specs.Matching.{InterfacesMatch}

@@ -6,11 +6,11 @@ use Rattle.flat_net.specs.View.{NetView, circuit_of}
 use Rattle.cnf_encode.specs.declared.cnf.Cnf.{Cnf}
 use Rattle.cut_points.specs.declared.exposed.Exposure.{Exposure}
 use Rattle.interface.specs.declared.pairs.SignalPair.{SignalPair}
-use Rattle.plain_form.specs.Pairs.{Unfolds, right_signals, AreTooLarge}
-use Rattle.plain_form.specs.declared.error.PlainError.{PlainError}
-use Rattle.plain_form.specs.declared.error.PlainError.TheVariants as oversize
-use Rattle.plain_form.proofs.Growing.{over_weaker}
-use Rattle.plain_form.proofs.Outcomes.{left_light}
+use Rattle.plain_asked.specs.Pairs.{Unfolds, right_signals, AreTooLarge}
+use Rattle.plain_asked.specs.declared.error.PlainError.{PlainError}
+use Rattle.plain_asked.specs.declared.error.PlainError.TheVariants as oversize
+use Rattle.plain_asked.proofs.Growing.{over_weaker}
+use Rattle.plain_asked.proofs.Refusals.{left_light}
 use Rattle.sec_setup.specs.Choosing.{IsChosen}
 use Rattle.sec_setup.specs.Cuts.{IsChoice, StandInOrder, AreCutBy}
 use Rattle.sec_setup.specs.Matching.{InterfacesMatch}

@@ -17,7 +17,7 @@ use cut_points::Exposure;
 use flat_net::Net;
 use interface::pairs_of;
 use name_tables::word_of;
-use plain_form::unfold_pairs;
+use plain_asked::unfold_pairs;
 use sec_base::Orders;
 use sec_setup::{Nets, choose, graph_of, interface};
 use std::alloc::Global;

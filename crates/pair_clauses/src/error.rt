@@ -1,7 +1,7 @@
 //! Why a pair of outputs has no clauses.
 
 use compare_base::CompareError;
-use plain_form::PlainError;
+use plain_asked::PlainError;
 use sec_base::{NoMemory, Word};
 use sec_setup::SetupError;
 

@@ -10,10 +10,10 @@ use Rattle.assume_shape.specs.Shape.{assumption_of}
 use Rattle.assume_premise.specs.declared.premise.Premise.{Premise}
 use Rattle.assume_premise.specs.Assumed.{IsAssumedBy}
 use Rattle.assume_premise.proofs.Numbers.{number_below}
-use Rattle.assume_queries.specs.declared.order.VariableOrder.TheVariants as order
-use Rattle.assume_queries.specs.Under.{IsObligationUnder}
-use Rattle.plain_form.specs.declared.functions.Functions.{Functions}
-use Rattle.plain_form.specs.Asked.{AreAsked}
+use Rattle.assume_answers.specs.declared.order.VariableOrder.TheVariants as order
+use Rattle.assume_answers.specs.Under.{IsObligationUnder}
+use Rattle.plain_asked.specs.declared.functions.Functions.{Functions}
+use Rattle.plain_asked.specs.Asked.{AreAsked}
 use Rattle.plain_asked_under.specs.Asked.{AreAskedUnder}
 use Rattle.plain_asked_under.proofs.Grown.{all_asked_later}
 

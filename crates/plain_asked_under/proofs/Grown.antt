@@ -11,12 +11,12 @@ use Rattle.obligations.specs.declared.obligation.Obligation.{Obligation}
 use Rattle.obligations.specs.Asked.{queries_of}
 use Rattle.interface.specs.declared.pairs.SignalPair.{SignalPair}
 use Rattle.sec_setup.specs.declared.setup.Setup.{Setup}
-use Rattle.assume_queries.specs.declared.order.VariableOrder.TheVariants as order
-use Rattle.assume_queries.specs.Order.{AreOrdered}
+use Rattle.assume_answers.specs.declared.order.VariableOrder.TheVariants as order
+use Rattle.assume_answers.specs.Order.{AreOrdered}
 use Rattle.assume_queries.proofs.Mapped.{ordered_later}
-use Rattle.plain_form.specs.declared.functions.Functions.{Functions}
-use Rattle.plain_form.specs.Asked.{AskedOf, AreAsked}
-use Rattle.plain_form.proofs.PairQueries.{in_order, merge_in_order}
+use Rattle.plain_asked.specs.declared.functions.Functions.{Functions}
+use Rattle.plain_asked.specs.Asked.{AskedOf, AreAsked}
+use Rattle.plain_asked.proofs.PairQueries.{in_order, merge_in_order}
 
 -- the variables of a pair's query are in order
 pub query_ordered : (s : Setup) (f : Functions) (p : SignalPair) (o : Obligation) (k : AskedOf s f p o) → AreOrdered order.Shifts f.places k.queries_are.0.vars

@@ -6,18 +6,18 @@ use Rattle.obligations.specs.declared.obligation.Obligation.{Obligation}
 use Rattle.obligations.specs.Asked.{queries_of}
 use Rattle.sec_setup.specs.declared.setup.Setup.{Setup}
 use Rattle.sec_setup.specs.Pairs.{ArePairsOf}
-use Rattle.plain_meaning.specs.Fitting.{IsLight}
+use Rattle.outcome_fits.specs.Fitting.{IsLight}
 use Rattle.assume_premise.specs.declared.premise.Premise.{Premise}
 use Rattle.assume_places.specs.Gathered.{IsOverUnder}
 use Rattle.assume_queries.specs.declared.map.UnderError.{UnderError}
 use Rattle.assume_queries.specs.declared.map.UnderError.TheVariants as under
-use Rattle.plain_form.specs.declared.error.PlainError.{PlainError}
-use Rattle.plain_form.specs.declared.error.PlainError.TheVariants as plain
-use Rattle.plain_form.specs.declared.functions.Functions.{Functions}
-use Rattle.plain_form.specs.Asked.{AreAsked}
-use Rattle.plain_form.specs.Pairs.{Unfolds}
-use Rattle.plain_form.proofs.FirstPairs.{AreSound}
-use Rattle.plain_form.proofs.Outcomes.{refusal_formed}
+use Rattle.plain_asked.specs.declared.error.PlainError.{PlainError}
+use Rattle.plain_asked.specs.declared.error.PlainError.TheVariants as plain
+use Rattle.plain_asked.specs.declared.functions.Functions.{Functions}
+use Rattle.plain_asked.specs.Asked.{AreAsked}
+use Rattle.plain_asked.specs.Pairs.{Unfolds}
+use Rattle.plain_asked.proofs.Sound.{AreSound}
+use Rattle.plain_asked.proofs.Refusals.{refusal_formed}
 use Rattle.plain_asked_under.specs.declared.error.PlainUnderError.{PlainUnderError}
 use Rattle.plain_asked_under.specs.Formed.{FormedUnder}
 use Rattle.plain_asked_under.specs.Refusals.{refusal_of, refusal_under}

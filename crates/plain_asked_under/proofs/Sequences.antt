@@ -27,20 +27,20 @@ use Rattle.shift_variables.specs.Variables.{variable_of, variables_of}
 use Rattle.assume_laws.specs.Assume.{Assumption}
 use Rattle.assume_laws.specs.Sequences.{filled, IsWitnessUnder}
 use Rattle.assume_laws.proofs.Meeting.{leaf_input, leaf_at}
-use Rattle.assume_queries.specs.declared.order.VariableOrder.TheVariants as order
-use Rattle.assume_queries.specs.Under.{IsUnder, IsObligationUnder, ReadsAtOne}
+use Rattle.assume_answers.specs.declared.order.VariableOrder.TheVariants as order
+use Rattle.assume_answers.specs.Under.{IsUnder, IsObligationUnder, ReadsAtOne}
 use Rattle.assume_sequences.specs.Filled.{bit_of}
-use Rattle.plain_form.specs.declared.functions.Functions.{Functions}
-use Rattle.plain_form.specs.Asked.{AskedOf}
-use Rattle.plain_form.proofs.Decided.{is_sequence}
-use Rattle.plain_form.proofs.FirstPairs.{AreSound, own_pairs}
-use Rattle.plain_form.proofs.PairQueries.{AsksPair, query_in_order}
+use Rattle.plain_asked.specs.declared.functions.Functions.{Functions}
+use Rattle.plain_asked.specs.Asked.{AskedOf}
+use Rattle.plain_asked.proofs.Sequences.{is_sequence}
+use Rattle.plain_asked.proofs.Sound.{AreSound, own_pairs}
+use Rattle.plain_asked.proofs.PairQueries.{AsksPair, query_in_order}
 use Rattle.plain_under.specs.Laws.{AreBuilt}
 use Rattle.plain_under.proofs.PairsUnder.{pairs_fit_under, only_query}
 use Rattle.plain_under.proofs.Witnesses.{differences_show_under}
 use Rattle.plain_asked_under.specs.Asked.{AreAskedUnder}
 use Rattle.plain_asked_under.specs.Shown.{IsShowableUnder, IsWitnessAtUnder}
-use Rattle.plain_asked_under.specs.Verdict.{IsFirstOfAnswerUnder}
+use Rattle.under_fits.specs.Verdict.{IsFirstOfAnswerUnder}
 
 -- the pair, the obligation and the query of a difference, without the assumption and under it
 pub record IsPlaced (c : Assumption) (s : Setup) (f : Functions) (asked : List Obligation) (d : Difference) (u : Obligation) (r : Query) : Type 0 where

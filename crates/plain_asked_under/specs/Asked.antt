@@ -6,11 +6,11 @@ use Rattle.obligations.specs.declared.obligation.Obligation.{Obligation}
 use Rattle.sec_setup.specs.declared.setup.Setup.{Setup}
 use Rattle.assume_laws.specs.Assume.{Assumption}
 use Rattle.assume_laws.specs.Sequences.{IsMeetingRow}
-use Rattle.assume_queries.specs.declared.order.VariableOrder.TheVariants as order
-use Rattle.assume_queries.specs.Under.{IsObligationUnder}
+use Rattle.assume_answers.specs.declared.order.VariableOrder.TheVariants as order
+use Rattle.assume_answers.specs.Under.{IsObligationUnder}
 use Rattle.assume_sequences.specs.Filled.{bit_of}
-use Rattle.plain_form.specs.declared.functions.Functions.{Functions}
-use Rattle.plain_form.specs.Asked.{AreAsked}
+use Rattle.plain_asked.specs.declared.functions.Functions.{Functions}
+use Rattle.plain_asked.specs.Asked.{AreAsked}
 
 -- Of each pair of the setup what the plain form asks, and the same under the assumption, which reads columns alone and is met by the row.
 pub record AreAskedUnder (s : Setup) (f : Functions) (asked under : List Obligation) (meeting : List Bool) (c : Assumption) : Type 0 where

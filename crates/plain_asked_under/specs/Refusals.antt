@@ -1,6 +1,6 @@
 -- Refusals of what a comparison under an assumption calls, as its own.
-use Rattle.plain_form.specs.declared.error.PlainError.{PlainError}
-use Rattle.plain_form.specs.declared.error.PlainError.TheVariants as plain
+use Rattle.plain_asked.specs.declared.error.PlainError.{PlainError}
+use Rattle.plain_asked.specs.declared.error.PlainError.TheVariants as plain
 use Rattle.assume_queries.specs.declared.map.UnderError.{UnderError}
 use Rattle.assume_queries.specs.declared.map.UnderError.TheVariants as under
 use Rattle.plain_asked_under.specs.declared.error.PlainUnderError.{PlainUnderError}

@@ -20,8 +20,8 @@ use Rattle.shift_variables.specs.Variables.{variables_of}
 use Rattle.shift_variables.specs.Sequences.{bits_at, IsSequence}
 use Rattle.assume_laws.specs.Sequences.{filled}
 use Rattle.assume_sequences.specs.Filled.{bit_of}
-use Rattle.plain_form.specs.declared.functions.Functions.{Functions}
-use Rattle.plain_form.specs.Shown.{IsQueryAt}
+use Rattle.plain_asked.specs.declared.functions.Functions.{Functions}
+use Rattle.plain_asked.specs.Sequences.{IsQueryAt}
 
 -- the obligation and the query of a difference, and the query that is asked without the assumption
 pub record IsDifferenceAt (asked under : List Obligation) (d : Difference) (o u : Obligation) (q r : Query) : Type 0 where

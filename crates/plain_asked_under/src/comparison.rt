@@ -14,10 +14,11 @@ ghost use Rattle.plain_asked_under.specs.Verdict.{FindingsFitUnder};
 
 use crate::error::PlainUnderError;
 use crate::shown::show_under;
+use assume_answers::VariableOrder;
 use assume_premise::Premise;
-use assume_queries::{VariableOrder, asked_under};
+use assume_queries::asked_under;
 use obligations::{Decided, Obligation, decide_all, greatest_size, verdict_at};
-use plain_form::{Findings, Functions, ask, unfold_pairs};
+use plain_asked::{Findings, Functions, ask, unfold_pairs};
 use sec_base::{Bits, MAX_CONFLICTS, NoMemory};
 use sec_setup::Setup;
 use std::alloc::Global;

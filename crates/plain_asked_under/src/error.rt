@@ -1,7 +1,7 @@
 //! Why two circuits aren't compared under an assumption.
 
 use assume_queries::UnderError;
-use plain_form::PlainError;
+use plain_asked::PlainError;
 use sec_base::{NoMemory, Side};
 
 /// Why two circuits aren't compared in the plain form under an assumption.

@@ -9,7 +9,7 @@ use assume_sequences::fill_shifts;
 use obligations::{Difference, Obligation, VerdictAt, copy_name};
 use outcome::{LimitAt, PairResult, Stimulus, Verdict, Why, Witness};
 use pair_decide::Query;
-use plain_form::{Functions, witness_of};
+use plain_asked::{Functions, witness_of};
 use sec_base::{Bits, NoMemory, PlaceTable, Words};
 use std::alloc::Global;
 

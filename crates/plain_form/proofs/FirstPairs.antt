@@ -1,15 +1,11 @@
 -- What is found of the obligations is what is found of the pairs.
 use Rattle.std.proofs.Common.{◌≡◌, ℕ, List, [], ◌∷◌, map, slice_get, Some, sym, ◌∙◌, ap, subst}
-use Rattle.std.specs.List.{AllZip, Contains}
+use Rattle.std.specs.List.{AllZip}
 use Rattle.std.proofs.lemmas.Option.{same_Some}
-use Rattle.circuit_theory.proofs.Lists.{Contains-map, of_at, zip_right}
+use Rattle.circuit_theory.proofs.Lists.{of_at, zip_right}
 use Rattle.circuit_theory.proofs.Numbers.{slice_get-map}
 use Rattle.sec_base.specs.declared.basics.PairAnswer.{PairAnswer}
-use Rattle.sec_base.specs.Table.{AreDistinct}
 use Rattle.flat_net.specs.View.{circuit_of}
-use Rattle.flat_net.specs.Sound.{IsSound}
-use Rattle.aig.specs.Graph.{IsGraph}
-use Rattle.aig.specs.Builds.{HasTreeValues}
 use Rattle.pair_decide.specs.declared.query.Query.{Query}
 use Rattle.pair_decide.specs.Queries.{IsQuery}
 use Rattle.pair_decide.specs.Answers.{IsDifference}
@@ -22,35 +18,16 @@ use Rattle.obligations.specs.Decided.{IsAnswered, IsFirstOf}
 use Rattle.interface.specs.declared.pairs.SignalPair.{SignalPair}
 use Rattle.sec_setup.specs.declared.setup.Setup.{Setup}
 use Rattle.sec_setup.specs.Cuts.{is_cut}
-use Rattle.sec_setup.specs.Pairs.{outputs_of, places_of}
-use Rattle.sec_setup.specs.Setup.{IsSetup}
-use Rattle.plain_form.specs.declared.functions.Functions.{Functions}
-use Rattle.plain_form.specs.Asked.{AskedOf, AreAsked}
-use Rattle.plain_meaning.specs.Outcome.{PairsFit, IsFirstOfAnswer}
-use Rattle.plain_form.specs.Sequences.{IsWitnessOf}
+use Rattle.sec_setup.specs.Pairs.{places_of}
+use Rattle.plain_asked.specs.declared.functions.Functions.{Functions}
+use Rattle.plain_asked.specs.Asked.{AskedOf, AreAsked}
+use Rattle.outcome_fits.specs.Outcome.{PairsFit, IsFirstOfAnswer}
+use Rattle.plain_asked.specs.Sequences.{IsWitnessOf}
 use Rattle.plain_form.specs.Shown.{IsShowable, IsWitnessAt}
-use Rattle.plain_form.proofs.Decided.{pair_fits, only-query, is_sequence, is_witness}
-use Rattle.plain_form.proofs.PairQueries.{AsksPair, is_query}
-
--- the setup, the nets and the graph are sound
-pub record AreSound (s : Setup) (f : Functions) : Type 0 where
-  pub setup : IsSetup s
-  pub left : IsSound s.left.now
-  pub right : IsSound s.right.now
-  pub graph : IsGraph f.aig
-  pub values : HasTreeValues f.aig
-  pub distinct : AreDistinct f.places
-
--- both signals of each pair are outputs
-pub record ArePairsIn (s : Setup) (pairs : List SignalPair) : Type 0 where
-  pub left : (p : SignalPair) → Contains pairs p → Contains (outputs_of s.left.now) p.left.0
-  pub right : (p : SignalPair) → Contains pairs p → Contains (outputs_of s.right.now) p.right.0
-
-pub own_pairs : (s : Setup) → IsSetup s → ArePairsIn s s.pairs
-own_pairs s h = record {
-  left = λ p k. subst (λ (l : List ℕ). Contains l p.left.0) h.pairs.left (Contains-map (λ (q : SignalPair). q.left.0) s.pairs p k);
-  right = λ p k. (h.pairs.right p.right.0).0 (Contains-map (λ (q : SignalPair). q.right.0) s.pairs p k);
-}
+use Rattle.plain_asked.proofs.Sound.{AreSound, ArePairsIn}
+use Rattle.plain_form.proofs.Decided.{pair_fits, only-query}
+use Rattle.plain_asked.proofs.Sequences.{is_sequence, is_witness}
+use Rattle.plain_asked.proofs.PairQueries.{AsksPair, is_query}
 
 module _ (s : Setup) (f : Functions) (h : AreSound s f) where
   asks : (p : SignalPair) (o : Obligation) (k : AskedOf s f p o) → AsksPair s.left.now s.right.now s.orders.left s.orders.right f.aig f.places p.left.0 p.right.0 k.left_function k.right_function k.queries_are.0

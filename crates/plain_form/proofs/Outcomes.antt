@@ -1,27 +1,17 @@
--- What is found fits, and each refusal has its cause.
-use Rattle.std.proofs.Common.{◌≡◌, ◌≢◌, ℕ, ◌<◌, List, [], ◌∷◌, map, length, Option, Some, None, Err, refl, sym, ◌∙◌, ap, subst}
-use Rattle.std.specs.List.{All, Contains}
+-- What is found fits, and can be shown.
+use Rattle.std.proofs.Common.{◌≡◌, ◌≢◌, ℕ, List, [], ◌∷◌, map, Option, Some, None, refl, sym, ◌∙◌, ap, subst}
+use Rattle.std.specs.List.{All}
 use Rattle.std.proofs.lemmas.List.Elements.{All-nil, All-cons}
 use Rattle.std.proofs.lemmas.Option.{same_Some, slice_get_within}
-use Rattle.circuit_theory.specs.declared.Side.TheVariants.{A, B}
-use Rattle.circuit_theory.proofs.Lists.{All-from_each, length-map}
 use Rattle.sec_base.specs.declared.basics.PairAnswer.{PairAnswer}
 use Rattle.sec_base.specs.declared.basics.PairAnswer.TheVariants as answer
-use Rattle.flat_net.specs.declared.parts.Port.{Port}
-use Rattle.flat_net.specs.View.{NetView, circuit_of}
-use Rattle.flat_net.specs.Sound.{IsSound}
-use Rattle.cbf_unfold.specs.View.{IsOrderOf}
+use Rattle.flat_net.specs.View.{circuit_of}
 use Rattle.outcome.specs.declared.verdict.LimitAt.TheVariants as limit_at
 use Rattle.outcome.specs.declared.verdict.PairResult.{PairResult}
 use Rattle.outcome.specs.declared.verdict.Verdict.{Verdict}
 use Rattle.sec_setup.specs.declared.setup.Setup.{Setup}
-use Rattle.plain_form.specs.declared.error.PlainError.{PlainError}
-use Rattle.plain_form.specs.declared.error.PlainError.TheVariants as refused
 use Rattle.interface.specs.declared.pairs.SignalPair.{SignalPair}
-use Rattle.plain_meaning.specs.Fitting.{IsLight}
-use Rattle.plain_form.specs.Formed.{Formed}
-use Rattle.sec_setup.specs.Pairs.{outputs_of, places_of, ArePairsOf}
-use Rattle.sec_setup.specs.Setup.{AreColumns}
+use Rattle.sec_setup.specs.Pairs.{places_of}
 use Rattle.obligations.specs.declared.obligation.Obligation.{Obligation}
 use Rattle.obligations.specs.declared.obligation.Difference.{Difference}
 use Rattle.obligations.specs.declared.decision.Decided.{Decided}
@@ -29,41 +19,14 @@ use Rattle.obligations.specs.declared.verdict.VerdictAt.{VerdictAt}
 use Rattle.obligations.specs.declared.verdict.VerdictAt.TheVariants as at
 use Rattle.obligations.specs.Decided.{NoneIs, IsFirstOf, IsFirst, HaveDecided}
 use Rattle.obligations.specs.Verdict.{IsVerdictAt}
-use Rattle.plain_form.specs.declared.functions.Functions.{Functions}
-use Rattle.plain_form.specs.Asked.{AreAsked}
+use Rattle.plain_asked.specs.declared.functions.Functions.{Functions}
+use Rattle.plain_asked.specs.Asked.{AreAsked}
 use Rattle.plain_form.specs.Shown.{CanBeShown, IsShown}
-use Rattle.plain_meaning.specs.Outcome.{VerdictFits}
+use Rattle.outcome_fits.specs.Outcome.{VerdictFits}
 use Rattle.pair_decide.specs.Queries.{IsQuery}
 use Rattle.obligations.specs.Asked as obligations_are
-use Rattle.plain_form.proofs.FirstPairs.{AreSound, ArePairsIn, first_pair, showable, own_query}
-use Rattle.plain_form.specs.Pairs.{AreLight, AreTooLarge, Unfolds, left_signals, right_signals}
-use Rattle.shift_variables.proofs.Assignments.{once_each}
-use Rattle.plain_form.proofs.Growing.{over_weaker, weight_same}
-use Rattle.plain_form.proofs.PairAt.{output_within}
-
--- the numbers of a net's inputs
-pub is_order : (n : NetView) (columns : List (List ℕ)) (own others : List ℕ) → AreColumns n columns own others → IsOrderOf n own
-is_order n columns own others are = record { each = are.numbers.each ∙ length-map (λ (p : Port). p.name) n.inputs; distinct = once_each own are.numbers.distinct }
-
-module _ (a b : NetView) (pairs : List SignalPair) (paired : ArePairsOf a b pairs) where
-  pub lefts_within : IsSound a → All (λ s. s < length a.drivers) (left_signals pairs)
-  lefts_within sound = All-from_each (λ s. s < length a.drivers) (left_signals pairs) (λ s h. output_within a sound s (subst (λ (l : List ℕ). Contains l s) paired.left h))
-
-  pub rights_within : IsSound b → All (λ s. s < length b.drivers) (right_signals pairs)
-  rights_within sound = All-from_each (λ s. s < length b.drivers) (right_signals pairs) (λ s h. output_within b sound s ((paired.right s).0 h))
-
-  pub left_light : AreLight a (left_signals pairs) → IsLight a
-  left_light h = subst (AreLight a) paired.left h
-
-  pub right_light : AreLight b (right_signals pairs) → IsLight b
-  right_light (w, weight, few) = (w, weight_same (circuit_of b) (right_signals pairs) (outputs_of b) w (λ s. (paired.right s).0) (λ s. (paired.right s).1) weight, few)
-
--- a refusal is one of all outputs
-pub refusal_formed : (s : Setup) (conflicts : ℕ) (paired : ArePairsOf s.left.now s.right.now s.pairs) (e : PlainError) → Unfolds s.left.now s.right.now s.orders.left s.orders.right s.pairs (Err e) → Formed s conflicts (Err e)
-refusal_formed s conflicts paired (refused.TooLarge A) h = subst (AreTooLarge s.left.now) paired.left h
-refusal_formed s conflicts paired (refused.TooLarge B) h =
-    (left_light s.left.now s.right.now s.pairs paired h.0, over_weaker (circuit_of s.right.now) (right_signals s.pairs) (outputs_of s.right.now) 2000000 (λ n. (paired.right n).0) h.1)
-refusal_formed s conflicts paired refused.NoMemory h = tt
+use Rattle.plain_asked.proofs.Sound.{AreSound, ArePairsIn}
+use Rattle.plain_form.proofs.FirstPairs.{first_pair, showable, own_query}
 
 -- the only answer left
 answer_left : (x : PairAnswer) → x ≢ answer.Different → x ≢ answer.Limit → x ≢ answer.NotShown → x ≡ answer.Equal

@@ -5,8 +5,8 @@ use Rattle.circuit_theory.specs.Circuit.{Circuit}
 use Rattle.circuit_theory.specs.Tree.{Tree, Unfolds}
 use Rattle.outcome.specs.declared.verdict.LimitAt.{LimitAt}
 use Rattle.outcome.specs.declared.verdict.Verdict.TheVariants as verdict
-use Rattle.plain_form.specs.declared.comparison.Findings.{Findings}
-use Rattle.plain_form.specs.Findings.{FindingsFit}
+use Rattle.plain_asked.specs.declared.findings.Findings.{Findings}
+use Rattle.plain_asked.specs.Findings.{FindingsFit}
 use Rattle.sec_setup.specs.Pairs.{NamedPair}
 
 -- both places unfold to one tree

@@ -11,13 +11,8 @@ use Rattle.obligations.specs.declared.obligation.Obligation.{Obligation}
 use Rattle.obligations.specs.declared.obligation.Difference.{Difference}
 use Rattle.obligations.specs.declared.verdict.VerdictAt.{VerdictAt}
 use Rattle.obligations.specs.declared.verdict.VerdictAt.TheVariants as at
-use Rattle.plain_form.specs.declared.functions.Functions.{Functions}
-use Rattle.plain_form.specs.Sequences.{IsSequence, IsWitnessOf}
-
--- the obligation and the query of a difference
-pub record IsQueryAt (asked : List Obligation) (d : Difference) (o : Obligation) (q : Query) : Type 0 where
-  pub asked_at : slice_get asked d.pair ≡ Some o
-  pub query_at : slice_get o.queries d.query ≡ Some q
+use Rattle.plain_asked.specs.declared.functions.Functions.{Functions}
+use Rattle.plain_asked.specs.Sequences.{IsQueryAt, IsSequence, IsWitnessOf}
 
 -- its bits give a sequence over the inputs of these names
 pub record IsShowable (f : Functions) (columns : List (List ℕ)) (asked : List Obligation) (d : Difference) : Type 0 where

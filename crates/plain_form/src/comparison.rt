@@ -5,29 +5,16 @@ ghost use Rattle.flat_net.specs.View.{circuit_of};
 ghost use Rattle.sec_setup.specs.Cuts.{is_cut};
 ghost use Rattle.sec_setup.specs.Pairs.{places_of};
 ghost use Rattle.sec_setup.specs.Setup.{IsSetup};
-ghost use Rattle.plain_form.specs.Formed.{Formed};
-ghost use Rattle.plain_form.specs.Pairs.{HaveFunctions};
-ghost use Rattle.plain_form.specs.Findings.{FindingsFit};
+ghost use Rattle.plain_asked.specs.Formed.{Formed};
+ghost use Rattle.plain_asked.specs.Pairs.{HaveFunctions};
+ghost use Rattle.plain_asked.specs.Findings.{FindingsFit};
 
-use crate::error::PlainError;
-use crate::functions::{Functions, unfold_pairs};
-use crate::questions::ask;
 use crate::shown::show;
 use obligations::{Decided, decide_all, greatest_size, verdict_at};
-use outcome::{PairResults, Verdict};
+use plain_asked::{Findings, Functions, PlainError, ask, unfold_pairs};
 use sec_base::{MAX_CONFLICTS, NoMemory};
 use sec_setup::Setup;
 use std::alloc::Global;
-
-/// What is found of the pairs of two circuits.
-#[derive(Drop)]
-pub struct Findings {
-    /// One result for each pair, in order.
-    pub pairs: PairResults,
-    /// The greatest depth of the pairs, in cycles.
-    pub through: u32,
-    pub verdict: Verdict,
-}
 
 /// Unfolds the left signals of the pairs, then the right ones, into functions of the inputs at earlier cycles, and decides each pair
 /// in order, with at most so many conflicts for each. Where latches are cut open, a pair that differs isn't shown to differ.

@@ -2,15 +2,8 @@
 #![tactic(auto)]
 
 mod comparison;
-mod error;
-mod functions;
 pub mod laws;
-mod questions;
 mod shown;
-mod witness;
 
-pub use comparison::{Findings, compare_plain};
-pub use error::PlainError;
-pub use functions::{Functions, unfold_pairs};
-pub use questions::ask;
-pub use witness::witness_of;
+pub use comparison::compare_plain;
+pub use plain_asked::{Findings, PlainError};

@@ -4,10 +4,9 @@ ghost use Rattle.std.specs.Prelude.{◌≡◌, IfOk};
 ghost use Rattle.sec_base.specs.Table.{AreDistinct};
 ghost use Rattle.plain_form.specs.Shown.{CanBeShown, IsShowable, IsShown, IsWitnessAt};
 
-use crate::functions::Functions;
-use crate::witness::witness_of;
 use obligations::{Difference, Obligation, VerdictAt, copy_name};
 use outcome::{LimitAt, PairResult, Verdict, Why, Witness};
+use plain_asked::{Functions, witness_of};
 use sec_base::{NoMemory, Words};
 use std::alloc::Global;
 

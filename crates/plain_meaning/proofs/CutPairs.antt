@@ -25,7 +25,7 @@ use Rattle.pair_decide.specs.declared.query.Proof.{Proof}
 use Rattle.witness_report.specs.declared.witness.PairName.{PairName}
 use Rattle.witness_report.specs.declared.witness.PairName.TheVariants as pair
 use Rattle.outcome.specs.declared.verdict.PairResult.{PairResult}
-use Rattle.plain_meaning.specs.Outcome.{AnswerFits, PairFits, PairsFit, greatest_size}
+use Rattle.outcome_fits.specs.Outcome.{AnswerFits, PairFits, PairsFit, greatest_size}
 use Rattle.sec_setup.specs.Pairs.{NamedPair, pair_called, named_pairs}
 use Rattle.witness_report.specs.Shown.{ArePlacesOf}
 

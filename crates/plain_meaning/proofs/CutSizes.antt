@@ -8,7 +8,7 @@ use Rattle.circuit_theory.proofs.Lists.{map-map}
 use Rattle.flat_net.specs.Cut.{IsCutCircuit}
 use Rattle.flat_net.specs.View.{NetView, named, circuit_of}
 use Rattle.sec_setup.specs.Pairs.{outputs_of}
-use Rattle.plain_meaning.specs.Fitting.{IsLight, IsTooLarge, cut_outputs, IsCutOver, IsCutLight}
+use Rattle.outcome_fits.specs.Fitting.{IsLight, IsTooLarge, cut_outputs, IsCutOver, IsCutLight}
 
 -- sizes look at inputs and equations alone
 module _ {P : Type 0} (c d : Circuit P) (inputs : c.inputs ≡ d.inputs) (equations : c.equations ≡ d.equations) where

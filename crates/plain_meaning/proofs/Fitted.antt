@@ -13,8 +13,8 @@ use Rattle.pair_decide.specs.declared.query.Proof.{Proof}
 use Rattle.outcome.specs.declared.verdict.PairResult.{PairResult}
 use Rattle.sec_setup.specs.Cuts.{is_cut}
 use Rattle.sec_setup.specs.Pairs.{NamedPair, pair_called, named_pairs}
-use Rattle.plain_meaning.specs.Limits.{IsUndecided}
-use Rattle.plain_meaning.specs.Outcome.{AnswerFits}
+use Rattle.outcome_fits.specs.Limits.{IsUndecided}
+use Rattle.outcome_fits.specs.Outcome.{AnswerFits}
 
 some_is : {X : Type 0} {x y : X} → Some x ≡ Some y → x ≡ y
 some_is q = cc

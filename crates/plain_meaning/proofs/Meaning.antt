@@ -31,10 +31,10 @@ use Rattle.outcome.specs.declared.verdict.Verdict.{Verdict}
 use Rattle.outcome.specs.declared.verdict.Verdict.TheVariants as verdict
 use Rattle.outcome.specs.declared.verdict.Why.TheVariants as why
 use Rattle.outcome.specs.declared.verdict.Outcome.{Outcome}
-use Rattle.plain_meaning.specs.Outcome.{AnswerFits, PairFits, IsFirstOfAnswer, NoneIs, VerdictFits}
+use Rattle.outcome_fits.specs.Outcome.{AnswerFits, PairFits, IsFirstOfAnswer, NoneIs, VerdictFits}
 use Rattle.sec_setup.specs.Pairs.{NamedPair, named_pairs}
 use Rattle.plain_meaning.specs.Equal.{AreEqual}
-use Rattle.plain_meaning.specs.Fitting.{OutcomeFits}
+use Rattle.outcome_fits.specs.Fitting.{OutcomeFits}
 use Rattle.sec_setup.specs.Cuts.{columns_of, is_cut}
 use Rattle.witness_report.specs.Shown.{Obeys, ArePlacesOf, MakesDiffer, MakesCutsDiffer, AgreeFrom}
 use Rattle.sec_setup.proofs.CutNets.{cut_functions, cut_witness, cut_depth, cut_numbers, cut_numbered}

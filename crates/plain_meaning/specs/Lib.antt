@@ -1,4 +1,1 @@
 pub mod Equal
-pub mod Fitting
-pub mod Limits
-pub mod Outcome

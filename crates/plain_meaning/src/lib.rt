@@ -1,3 +1,3 @@
-//! What it means that an outcome fits two circuits in the plain form, and what it then says of them. It has definitions and lemmas alone:
-//! `plain_form` finds the outcome.
+//! What an outcome that fits two circuits in the plain form says of them, and lemmas on what stands behind its results. It has definitions
+//! and lemmas alone: `plain_form` finds the outcome.
 #![tactic(auto)]

@@ -32,16 +32,16 @@ use Rattle.sec_setup.specs.Pairs.{places_of}
 use Rattle.shift_variables.specs.Variables.{variable_of, variables_of}
 use Rattle.shift_variables.specs.Sequences.{bits_at}
 use Rattle.assume_laws.specs.Assume.{Assumption, HaveEqualFunctionsUnder}
-use Rattle.assume_queries.specs.declared.order.VariableOrder.TheVariants as order
-use Rattle.assume_queries.specs.Under.{IsUnder, IsObligationUnder}
-use Rattle.assume_queries.specs.Laws.{AsksUnder}
-use Rattle.assume_queries.proofs.Pairs.{answers_under}
-use Rattle.plain_form.specs.declared.functions.Functions.{Functions}
-use Rattle.plain_form.specs.Asked.{AskedOf}
-use Rattle.plain_meaning.specs.Limits.{ReadOnly}
-use Rattle.plain_form.proofs.PairQueries.{AsksPair, left_tree, right_tree, are_variables, left_value, right_value, is_query}
-use Rattle.plain_under.specs.Limits.{IsUndecidedUnder}
-use Rattle.plain_under.specs.Outcome.{HaveDifferentFunctionsUnder, AnswerFitsUnder, PairFitsUnder}
+use Rattle.assume_answers.specs.declared.order.VariableOrder.TheVariants as order
+use Rattle.assume_answers.specs.Under.{IsUnder, IsObligationUnder}
+use Rattle.assume_answers.specs.Laws.{AsksUnder}
+use Rattle.assume_answers.proofs.Pairs.{answers_under}
+use Rattle.plain_asked.specs.declared.functions.Functions.{Functions}
+use Rattle.plain_asked.specs.Asked.{AskedOf}
+use Rattle.outcome_fits.specs.Limits.{ReadOnly}
+use Rattle.plain_asked.proofs.PairQueries.{AsksPair, left_tree, right_tree, are_variables, left_value, right_value, is_query}
+use Rattle.under_fits.specs.Limits.{IsUndecidedUnder}
+use Rattle.under_fits.specs.Pairs.{HaveDifferentFunctionsUnder, AnswerFitsUnder, PairFitsUnder}
 use Rattle.plain_under.specs.Laws.{AreBuilt, PairsFitUnder}
 
 one_of : {X : Type 0} (R : X → X → Type 0) (x : X) (ys : List X) → AllZip R (x ∷ []) ys → (y : X) × (ys ≡ y ∷ []) × R x y

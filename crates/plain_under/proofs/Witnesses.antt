@@ -21,11 +21,11 @@ use Rattle.shift_variables.specs.Sequences.{bits_at}
 use Rattle.shift_variables.proofs.Assignments.{assigned_alike}
 use Rattle.assume_laws.specs.Sequences.{filled}
 use Rattle.assume_laws.proofs.Meeting.{leaf_input}
-use Rattle.assume_queries.specs.declared.order.VariableOrder.TheVariants as order
-use Rattle.assume_queries.specs.Under.{IsUnder, ReadsAtOne}
-use Rattle.assume_queries.proofs.Pairs.{answers_under}
-use Rattle.plain_form.proofs.Leaves.{leaf_is_column}
-use Rattle.plain_form.proofs.PairQueries.{left_tree, right_tree, are_variables, left_value, right_value}
+use Rattle.assume_answers.specs.declared.order.VariableOrder.TheVariants as order
+use Rattle.assume_answers.specs.Under.{IsUnder, ReadsAtOne}
+use Rattle.assume_answers.proofs.Pairs.{answers_under}
+use Rattle.plain_asked.proofs.Leaves.{leaf_is_column}
+use Rattle.plain_asked.proofs.PairQueries.{left_tree, right_tree, are_variables, left_value, right_value}
 use Rattle.plain_under.specs.Laws.{DifferencesShowUnder}
 use Rattle.plain_under.proofs.PairsUnder.{only_query, asked_pair, one, asks}
 

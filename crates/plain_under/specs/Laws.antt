@@ -25,11 +25,11 @@ use Rattle.shift_variables.specs.Sequences.{bits_at}
 use Rattle.shift_variables.specs.Variables.{variables_of}
 use Rattle.assume_laws.specs.Assume.{Assumption}
 use Rattle.assume_laws.specs.Sequences.{filled, IsMeetingRow, IsWitnessUnder}
-use Rattle.assume_queries.specs.declared.order.VariableOrder.TheVariants as order
-use Rattle.assume_queries.specs.Under.{IsObligationUnder}
-use Rattle.plain_form.specs.declared.functions.Functions.{Functions}
-use Rattle.plain_form.specs.Asked.{AskedOf}
-use Rattle.plain_under.specs.Outcome.{PairFitsUnder}
+use Rattle.assume_answers.specs.declared.order.VariableOrder.TheVariants as order
+use Rattle.assume_answers.specs.Under.{IsObligationUnder}
+use Rattle.plain_asked.specs.declared.functions.Functions.{Functions}
+use Rattle.plain_asked.specs.Asked.{AskedOf}
+use Rattle.under_fits.specs.Pairs.{PairFitsUnder}
 
 -- the graph and the table are sound
 pub record AreBuilt (f : Functions) : Type 0 where

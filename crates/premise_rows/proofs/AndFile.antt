@@ -26,7 +26,7 @@ use Rattle.sec_files.proofs.Texts.{text_net}
 use Rattle.design_rows.specs.Texts.{off_and}
 use Rattle.premise_rows.specs.AndFile.{and_file, FileIsComparable}
 use Rattle.design_rows.proofs.Spelling.{accepted, net_is_small}
-use Rattle.premise_rows.proofs.Comparing.{comparable_by}
+use Rattle.small_pairs.proofs.Comparing.{comparable_by}
 use Rattle.design_rows.proofs.SpelledTexts.{off_and_spells}
 use Rattle.premise_rows.proofs.FileNets.{is_above_fanins, climbing_has_no_loop, FilePassesTests, tested_file_is_small}
 use Rattle.design_rows.specs.Designs as design

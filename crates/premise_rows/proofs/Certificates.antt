@@ -7,7 +7,7 @@ use Rattle.blif_read.specs.declared.design.BlifModel.{BlifModel}
 use Rattle.flat_net.specs.declared.parts.Port.{Port}
 use Rattle.flat_net.specs.View.{NetView, named, circuit_of}
 use Rattle.pair_clauses.specs.Clauses.{IsOutput}
-use Rattle.check_meaning.specs.Answer.{AreComparable}
+use Rattle.check_texts.specs.Texts.{AreComparable}
 use Rattle.job_cert.specs.Answer.{AreCertifiable}
 use Rattle.design_rows.specs.Designs as design
 use Rattle.design_rows.specs.Small.{Small, IsSmall, small_and, small_late}

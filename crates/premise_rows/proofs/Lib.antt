@@ -1,14 +1,6 @@
-pub mod Comparing
 pub mod AndFile
 pub mod FileNets
 pub mod Examples
 pub mod NoLimit
 pub mod Ring
-pub mod Nested
 pub mod Certificates
-pub mod ResetBounds
-pub mod ResetPremises
-pub mod NetWeights
-pub mod ByBlocks
-pub mod TurningNets
-pub mod EqualByBlocks

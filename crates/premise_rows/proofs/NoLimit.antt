@@ -5,33 +5,33 @@ use Rattle.std.specs.List.{AllPairs, Contains}
 use Rattle.std.proofs.lemmas.List.{length-map}
 use Rattle.std.proofs.lemmas.Option.{get_or_from_slice_get, slice_get_within}
 use Rattle.circuit_theory.specs.Agree.{cut}
-use Rattle.circuit_theory.specs.Circuit.{Circuit, Latch, Named, IsLatch}
+use Rattle.circuit_theory.specs.Circuit.{Circuit, Named, IsLatch}
 use Rattle.circuit_theory.specs.Flattened.{latch_names}
 use Rattle.circuit_theory.specs.Interface.{Ports, AreNumbersOf, shared_inputs}
 use Rattle.circuit_theory.specs.Query.{Variable, HasLeaf, ShiftBefore}
 use Rattle.circuit_theory.specs.Sizes.{Visits}
 use Rattle.circuit_theory.specs.Tree.{Tree, Unfolds}
-use Rattle.circuit_theory.proofs.Lists.{Contains-head, Contains-cases, Contains-map, at_of, of_at, map-map, map_at}
+use Rattle.circuit_theory.proofs.Lists.{Contains-cases, Contains-map, at_of, of_at, map-map, map_at}
 use Rattle.circuit_theory.proofs.Numbers.{slice_get-map, beside_at}
 use Rattle.circuit_laws.proofs.LeafVisits.{leaf_visits}
 use Rattle.circuit_laws.proofs.Onward.{cut_input}
-use Rattle.circuit_laws.proofs.Parted.{kept_equation}
 use Rattle.sec_base.specs.Table.{AreDistinct}
 use Rattle.flat_net.specs.Cut.{IsCutCircuit}
 use Rattle.flat_net.specs.View.{NetView, named, circuit_of, ports_of}
 use Rattle.flat_net.proofs.CutNets.{few_distinct}
 use Rattle.pair_decide.specs.declared.query.Proof.{Proof}
 use Rattle.sec_base.specs.declared.settings.Settings.{Settings}
-use Rattle.sec_setup.specs.Cuts.{IsChoice, columns_of}
+use Rattle.sec_setup.specs.Cuts.{columns_of}
 use Rattle.sec_setup.proofs.CutNets.{same_as_cut, cut_numbers}
 use Rattle.sec_setup.proofs.SameEquations.{same_tree}
-use Rattle.check_meaning.specs.Answer.{TextsUndecided}
+use Rattle.check_texts.specs.Texts.{TextsUndecided}
 use Rattle.design_rows.specs.Designs as design
 use Rattle.design_rows.specs.Small.{small_and, IsSmall}
 use Rattle.premise_rows.specs.RuledOut.{AndsMeetNoLimit}
 use Rattle.design_rows.specs.Texts.{on_and, off_and}
-use Rattle.design_rows.proofs.Spelling.{net_is_small, latch_in, ports_are}
+use Rattle.design_rows.proofs.Spelling.{net_is_small, ports_are}
 use Rattle.design_rows.proofs.SpelledTexts.{on_and_spells, off_and_spells}
+use Rattle.small_pairs.proofs.Latchless.{cut_latchless, visits_now, none_chosen}
 
 none_in : {X : Type 0} (x : X) → Contains [] x → ⊥
 none_in x h = let l = h.1 in omega (arith, l)
@@ -44,15 +44,6 @@ module _ (n m : NetView) (names : List (List ℕ)) (is : IsCutCircuit names (cir
     (own others : List ℕ) (numbers : AreNumbersOf (ports_of m).inputs columns own others) (all : (name : List ℕ) → Contains (ports_of n).inputs name → Contains columns name) where
   abbrev c : Circuit ℕ
   c = cut names (circuit_of n)
-
-  latchless : (name : List ℕ) (u next : ℕ) → IsLatch (cut names (circuit_of n)) name u next → ⊥
-  latchless name u next h =
-      none_in name (subst (λ (ns : List (List ℕ)). Contains ns name) no_latch (latch_in (circuit_of n).equations name u next (kept_equation names (circuit_of n) (Latch name u next) h)))
-
-  visits_now : {p : ℕ} {k : ℕ} {q : ℕ} {j : ℕ} → Visits (cut names (circuit_of n)) p k q j → j ≡ k
-  visits_now Visits.itself = refl
-  visits_now (Visits.reads v r) = visits_now v
-  visits_now (Visits.back {q = q} {next = next} {name = name} v l) = absurd (latchless name q next l)
 
   is_column : (name : List ℕ) (p : ℕ) → Contains (cut names (circuit_of n)).inputs (record { name = name; place = p }) → Contains columns name
   is_column name p h = by (cut_input names (circuit_of n) name p h)
@@ -69,7 +60,7 @@ module _ (n m : NetView) (names : List (List ℕ)) (is : IsCutCircuit names (cir
       let at = at_of columns k.1.name (is_column k.1.name k.1.place (of_at (cut names (circuit_of n)).inputs k.0 k.1 k.2)) in
       let number : slice_get own k.0 ≡ Some at.0 = (cut_numbers names columns own others n m is numbers).common k.0 at.0 k.1.name (slice_get-map (λ (i : Named ℕ). i.name) (cut names (circuit_of n)).inputs k.0 k.1 k.2) at.1 in
       let same : at.0 ≡ x.input = some_is (sym number ∙ k.4) in
-      (visits_now v.2, subst (λ (i : ℕ). i < length columns) same (slice_get_within columns at.0 k.1.name at.1))
+      (visits_now (cut names (circuit_of n)) (cut_latchless names (circuit_of n) no_latch) v.2, subst (λ (i : ℕ). i < length columns) same (slice_get_within columns at.0 k.1.name at.1))
 
 -- variables in their order, all of them now, are distinct
 module _ (variables : List (Variable ℕ)) (ordered : AllPairs ShiftBefore variables) (at_now : (x : Variable ℕ) → Contains variables x → x.at ≡ 0) where
@@ -115,13 +106,7 @@ module _ (settings : Settings) (proofs : List Proof) (before now : Option (List 
   names = u.outcome.exposed
 
   unexposed : names ≡ []
-  unexposed = by names u.exposed
-    where
-      by : (ns : List (List ℕ)) → IsChoice u.left_net u.right_net settings.expose ns → ns ≡ []
-      by [] choice = refl
-      by (name ∷ ns) choice =
-          let x = choice.minimal.common name (Contains-head name ns) in
-          absurd (none_in name (subst (λ (ks : List (List ℕ)). Contains ks name) left.latches (latch_in (circuit_of u.left_net).equations name x.0 x.1 x.4)))
+  unexposed = none_chosen u.left_net u.right_net left.latches settings.expose names u.exposed
 
   abbrev columns : List (List ℕ)
   columns = columns_of u.left_net u.right_net names

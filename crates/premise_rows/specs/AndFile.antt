@@ -1,6 +1,6 @@
 -- A circuit as an AIGER file beside the same as a BLIF text.
 use Rattle.std.specs.Prelude.{ℕ, Bool, false, List, codes}
-use Rattle.check_meaning.specs.Answer.{AreComparable}
+use Rattle.check_texts.specs.Texts.{AreComparable}
 use Rattle.design_rows.specs.Texts.{off_and}
 
 -- an and, with names

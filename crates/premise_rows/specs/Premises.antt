@@ -2,7 +2,7 @@
 use Rattle.std.specs.Prelude.{ℕ, ◌≤◌, Bool, true, false, List, length}
 use Rattle.flat_net.specs.View.{NetView}
 use Rattle.sec_setup.specs.Cuts.{IsChoice}
-use Rattle.check_meaning.specs.Answer.{AreComparable}
+use Rattle.check_texts.specs.Texts.{AreComparable}
 use Rattle.sec_files.specs.Loading.{IsAccepted, Loads}
 use Rattle.design_rows.specs.Texts.{on_and, off_and, late, early, toggle, hier, two, ring}
 

@@ -2,7 +2,7 @@
 use Rattle.std.specs.Prelude.{ℕ, List, Option}
 use Rattle.pair_decide.specs.declared.query.Proof.{Proof}
 use Rattle.sec_base.specs.declared.settings.Settings.{Settings}
-use Rattle.check_meaning.specs.Answer.{TextsUndecided}
+use Rattle.check_texts.specs.Texts.{TextsUndecided}
 use Rattle.design_rows.specs.Texts.{on_and, off_and}
 
 -- No limit is told of two ands, whose functions have two variables, however few conflicts are allowed.

@@ -10,11 +10,11 @@ use Rattle.assume_shape.specs.Shape.{assumption_of}
 use Rattle.assume_premise.specs.declared.premise.Premise.{Premise}
 use Rattle.assume_premise.specs.Assumed.{IsAssumedBy}
 use Rattle.assume_premise.proofs.Numbers.{number_below}
-use Rattle.assume_queries.specs.declared.order.VariableOrder.TheVariants as order
-use Rattle.assume_queries.specs.Under.{IsObligationUnder}
+use Rattle.assume_answers.specs.declared.order.VariableOrder.TheVariants as order
+use Rattle.assume_answers.specs.Under.{IsObligationUnder}
 use Rattle.reset_functions.specs.declared.bases.Bases.{Bases}
 use Rattle.reset_functions.specs.declared.functions.Functions.{Functions}
-use Rattle.reset_form.specs.Asked.{AreAsked}
+use Rattle.reset_asked.specs.Asked.{AreAsked}
 use Rattle.reset_asked_under.specs.Asked.{AreAskedUnder}
 use Rattle.reset_asked_under.proofs.Grown.{all_asked_later}
 

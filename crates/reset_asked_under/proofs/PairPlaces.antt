@@ -27,12 +27,12 @@ use Rattle.reset_functions.specs.declared.bases.Bases.{Bases}
 use Rattle.reset_functions.specs.declared.functions.Functions.{Functions}
 use Rattle.reset_functions.proofs.OwnPairs.{own_pairs, output_within, one_pair_depth}
 use Rattle.reset_functions.proofs.Parts.{is_order}
-use Rattle.reset_form.specs.Asked.{AskedOf, AreAsked}
-use Rattle.reset_form.specs.Formed.{numbered}
-use Rattle.reset_form.proofs.CycleQueries.{left_tree, right_tree, are_variables}
-use Rattle.reset_form.proofs.FirstPairs.{AreSound}
-use Rattle.reset_form.proofs.PairCycles.{AsksIn, asks_at, place_within, query_in}
-use Rattle.reset_asked_under.specs.Places.{IsReadIn, IsReadUpTo, AreCyclePlaces, ArePairPlaces, ArePlacesOfPairs, IsOverInCycles, IsLightInCycles}
+use Rattle.reset_asked.specs.Asked.{AskedOf, AreAsked}
+use Rattle.reset_asked.specs.Numbers.{numbered}
+use Rattle.reset_asked.proofs.CycleQueries.{left_tree, right_tree, are_variables}
+use Rattle.reset_asked.proofs.Sound.{AreSound}
+use Rattle.reset_asked.proofs.PairCycles.{AsksIn, asks_at, place_within, query_in}
+use Rattle.under_fits.specs.ResetPlaces.{IsReadIn, IsReadUpTo, AreCyclePlaces, ArePairPlaces, ArePlacesOfPairs, IsOverInCycles, IsLightInCycles}
 use Rattle.reset_asked_under.proofs.Queries.{query_from, query_to, split_zip}
 
 module _ (s : Setup) (b : Bases) (f : Functions) (h : AreSound s b f) (left_sound : IsSound s.left.now) (right_sound : IsSound s.right.now) where

@@ -12,10 +12,10 @@ use Rattle.reset_functions.specs.declared.error.ResetError.{ResetError}
 use Rattle.reset_functions.specs.declared.error.ResetError.TheVariants as reset
 use Rattle.reset_functions.specs.Bases.{AreBases}
 use Rattle.reset_functions.specs.Pairs.{IsLeftSide, IsRightSide, IsLight, Unfolds}
-use Rattle.reset_form.specs.Formed.{numbered}
+use Rattle.reset_asked.specs.Numbers.{numbered}
 use Rattle.reset_asked_under.specs.declared.error.ResetUnderError.{ResetUnderError}
 use Rattle.reset_asked_under.specs.Formed.{FormedUnder}
-use Rattle.reset_asked_under.specs.Places.{IsOverInCycles}
+use Rattle.under_fits.specs.ResetPlaces.{IsOverInCycles}
 use Rattle.reset_asked_under.specs.Refusals.{refusal_of, refusal_under}
 
 -- what is true of a refusal is true of the result that it is

@@ -31,22 +31,22 @@ use Rattle.shift_variables.proofs.Assignments.{assigned_alike}
 use Rattle.assume_laws.specs.Assume.{Assumption}
 use Rattle.assume_laws.specs.Sequences.{IsResetWitnessUnder}
 use Rattle.assume_laws.proofs.Meeting.{leaf_input}
-use Rattle.assume_queries.specs.declared.order.VariableOrder.TheVariants as order
-use Rattle.assume_queries.specs.Under.{IsObligationUnder, ReadsAtOne}
-use Rattle.assume_queries.specs.Laws.{AsksUnder}
-use Rattle.assume_queries.proofs.Pairs.{answers_under}
+use Rattle.assume_answers.specs.declared.order.VariableOrder.TheVariants as order
+use Rattle.assume_answers.specs.Under.{IsObligationUnder, ReadsAtOne}
+use Rattle.assume_answers.specs.Laws.{AsksUnder}
+use Rattle.assume_answers.proofs.Pairs.{answers_under}
 use Rattle.assume_sequences.specs.Filled.{bit_of}
 use Rattle.reset_functions.specs.declared.bases.Bases.{Bases}
 use Rattle.reset_functions.specs.declared.functions.Functions.{Functions}
 use Rattle.reset_functions.proofs.OwnPairs.{own_pairs}
-use Rattle.reset_form.specs.Asked.{AskedOf}
-use Rattle.reset_form.specs.Formed.{numbered}
-use Rattle.reset_form.proofs.Columns.{leaf_is}
-use Rattle.reset_form.proofs.CycleQueries.{left_tree, right_tree, query_in_order, are_variables, left_value, right_value, is_query}
-use Rattle.reset_form.proofs.FirstPairs.{AreSound}
+use Rattle.reset_asked.specs.Asked.{AskedOf}
+use Rattle.reset_asked.specs.Numbers.{numbered}
+use Rattle.reset_asked.proofs.Columns.{leaf_is}
+use Rattle.reset_asked.proofs.CycleQueries.{left_tree, right_tree, query_in_order, are_variables, left_value, right_value, is_query}
+use Rattle.reset_asked.proofs.Sound.{AreSound}
 use Rattle.reset_asked_under.specs.Asked.{AreAskedUnder}
 use Rattle.reset_asked_under.specs.Shown.{IsShowableUnder, IsFilledWitness, IsWitnessAtUnder}
-use Rattle.reset_asked_under.specs.Verdict.{IsFirstDifferenceUnder}
+use Rattle.under_fits.specs.ResetVerdict.{IsFirstDifferenceUnder}
 use Rattle.reset_asked_under.proofs.PairCycles.{IsIn, is_in, own_queries, agree_before}
 
 -- the pair, the obligation and the query of a difference, without the assumption and under it

@@ -11,11 +11,11 @@ use Rattle.assume_sequences.specs.Filled.{bit_of}
 use Rattle.reset_functions.specs.declared.bases.Bases.{Bases}
 use Rattle.reset_functions.specs.Bases.{AreBases}
 use Rattle.reset_functions.specs.Pairs.{IsLeftSide, IsRightSide, IsLight, IsTooLarge}
-use Rattle.reset_form.specs.declared.comparison.ResetFindings.{ResetFindings}
-use Rattle.reset_form.specs.Formed.{numbered}
+use Rattle.reset_asked.specs.declared.findings.ResetFindings.{ResetFindings}
+use Rattle.reset_asked.specs.Numbers.{numbered}
 use Rattle.reset_asked_under.specs.declared.error.ResetUnderError.{ResetUnderError}
 use Rattle.reset_asked_under.specs.declared.error.ResetUnderError.TheVariants as refused
-use Rattle.reset_asked_under.specs.Places.{IsOverInCycles, IsLightInCycles}
+use Rattle.under_fits.specs.ResetPlaces.{IsOverInCycles, IsLightInCycles}
 use Rattle.reset_asked_under.specs.Verdict.{FindingsFitUnder}
 
 -- both unfoldings and the assumption are light, and what is found fits the circuits that are compared under each assumption of the premise

@@ -22,9 +22,9 @@ use Rattle.assume_laws.specs.Sequences.{filled}
 use Rattle.assume_sequences.specs.Filled.{bit_of}
 use Rattle.reset_functions.specs.declared.bases.Bases.{Bases}
 use Rattle.reset_functions.specs.declared.functions.Functions.{Functions}
-use Rattle.reset_form.specs.declared.shown.ResetVerdict.{ResetVerdict}
-use Rattle.reset_form.specs.declared.shown.ResetVerdict.TheVariants as verdict
-use Rattle.reset_form.specs.Shown.{IsQueryAt}
+use Rattle.reset_asked.specs.declared.findings.ResetVerdict.{ResetVerdict}
+use Rattle.reset_asked.specs.declared.findings.ResetVerdict.TheVariants as verdict
+use Rattle.reset_asked.specs.Sequences.{IsQueryAt}
 
 -- the obligation and the query of a difference, and the query that is asked without the assumption
 pub record IsDifferenceAt (asked under : List Obligation) (d : Difference) (o u : Obligation) (q r : Query) : Type 0 where

@@ -24,27 +24,20 @@ use Rattle.obligations.specs.Decided.{IsAnswered, IsFirstOf}
 use Rattle.interface.specs.declared.pairs.SignalPair.{SignalPair}
 use Rattle.sec_setup.specs.declared.setup.Setup.{Setup}
 use Rattle.sec_setup.specs.Pairs.{outputs_of, places_of}
-use Rattle.sec_setup.specs.Setup.{IsSetup}
 use Rattle.shift_variables.specs.Variables.{variable_of, variables_of}
 use Rattle.witness_report.specs.declared.witness.PairName.{PairName}
 use Rattle.reset_functions.specs.declared.bases.Bases.{Bases}
 use Rattle.reset_functions.specs.declared.functions.Functions.{Functions}
 use Rattle.outcome.specs.declared.verdict.ResetWitness.{ResetWitness}
-use Rattle.reset_form.specs.Asked.{AskedOf, AreAsked}
-use Rattle.reset_functions.specs.Bases.{AreBases}
-use Rattle.reset_form.specs.Formed.{numbered}
-use Rattle.reset_functions.specs.Outcome.{PairFits, IsFirstDifference}
+use Rattle.reset_asked.specs.Asked.{AskedOf, AreAsked}
+use Rattle.reset_asked.specs.Numbers.{numbered}
+use Rattle.outcome_fits.specs.ResetOutcome.{PairFits, IsFirstDifference}
 use Rattle.reset_form.specs.Shown.{IsShowable, IsWitnessOf, IsWitnessAt}
 pub use Rattle.reset_functions.proofs.OwnPairs.{ArePairsIn, own_pairs}
-use Rattle.reset_form.proofs.Columns.{leaf_is}
-use Rattle.reset_form.proofs.CycleQueries.{left_tree, right_tree, query_in_order, are_variables, each_variable, is_query, left_at_bits, right_at_bits, trees_differ, variables_long, least_is}
-use Rattle.reset_form.proofs.PairCycles.{AreSoundFunctions, AsksIn, asks_at, agree_before, place_within, pair_fits, own_queries}
-
--- what is compared, with the numbers of its variables
-pub record AreSound (s : Setup) (b : Bases) (f : Functions) : Type 0 where
-  pub setup : IsSetup s
-  pub bases : AreBases s b
-  pub functions : AreSoundFunctions f
+use Rattle.reset_asked.proofs.Columns.{leaf_is}
+use Rattle.reset_asked.proofs.CycleQueries.{left_tree, right_tree, query_in_order, are_variables, each_variable, is_query, left_at_bits, right_at_bits, trees_differ, variables_long, least_is}
+use Rattle.reset_asked.proofs.Sound.{AreSound}
+use Rattle.reset_asked.proofs.PairCycles.{AsksIn, asks_at, agree_before, place_within, pair_fits, own_queries}
 
 module _ (s : Setup) (b : Bases) (f : Functions) (h : AreSound s b f) where
   -- each result is that of its pair

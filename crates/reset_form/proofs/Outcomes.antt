@@ -19,12 +19,13 @@ use Rattle.swept_queries.proofs.Listed.{zip_left}
 use Rattle.circuit_theory.proofs.Lists.{zip_right}
 use Rattle.reset_functions.specs.declared.bases.Bases.{Bases}
 use Rattle.reset_functions.specs.declared.functions.Functions.{Functions}
-use Rattle.reset_form.specs.declared.shown.ResetVerdict.{ResetVerdict}
-use Rattle.reset_form.specs.Asked.{AskedOf, AreAsked}
-use Rattle.reset_form.specs.Formed.{numbered}
+use Rattle.reset_asked.specs.declared.findings.ResetVerdict.{ResetVerdict}
+use Rattle.reset_asked.specs.Asked.{AskedOf, AreAsked}
+use Rattle.reset_asked.specs.Numbers.{numbered}
 use Rattle.reset_form.specs.Findings.{VerdictFits}
 use Rattle.reset_form.specs.Shown.{CanBeShown, IsShown}
-use Rattle.reset_form.proofs.FirstPairs.{AreSound, ArePairsIn, first_pair, showable}
+use Rattle.reset_form.proofs.FirstPairs.{ArePairsIn, first_pair, showable}
+use Rattle.reset_asked.proofs.Sound.{AreSound}
 
 -- the only answer left
 answer_left : (x : PairAnswer) → x ≢ answer.Different → x ≢ answer.Limit → x ≢ answer.NotShown → x ≡ answer.Equal

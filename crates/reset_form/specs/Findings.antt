@@ -4,10 +4,10 @@ use Rattle.std.specs.List.{All, AllZip}
 use Rattle.sec_base.specs.declared.basics.PairAnswer.TheVariants as answer
 use Rattle.outcome.specs.declared.verdict.PairResult.{PairResult}
 use Rattle.sec_setup.specs.Pairs.{NamedPair}
-use Rattle.reset_functions.specs.Outcome.{Numbered, PairFits, IsFirstDifference, IsFirstLimit, greatest_size}
-use Rattle.reset_form.specs.declared.comparison.ResetFindings.{ResetFindings}
-use Rattle.reset_form.specs.declared.shown.ResetVerdict.{ResetVerdict}
-use Rattle.reset_form.specs.declared.shown.ResetVerdict.TheVariants as verdict
+use Rattle.outcome_fits.specs.ResetOutcome.{Numbered, PairFits, IsFirstDifference, IsFirstLimit, greatest_size}
+use Rattle.reset_asked.specs.declared.findings.ResetFindings.{ResetFindings}
+use Rattle.reset_asked.specs.declared.findings.ResetVerdict.{ResetVerdict}
+use Rattle.reset_asked.specs.declared.findings.ResetVerdict.TheVariants as verdict
 
 -- the first of different and limit that some pair has, and equal where every pair is equal
 abbrev pub VerdictFits : Numbered → List (NamedPair ℕ ℕ) → List PairResult → ResetVerdict → Type 0

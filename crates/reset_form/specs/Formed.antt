@@ -1,29 +1,16 @@
 -- What a comparison in the reset form gives.
 use Rattle.std.specs.Prelude.{ℕ, map, Result, Ok, Err}
 use Rattle.circuit_theory.specs.declared.Side.TheVariants.{A, B}
-use Rattle.flat_net.specs.View.{circuit_of}
 use Rattle.sec_setup.specs.declared.setup.Setup.{Setup}
 use Rattle.sec_setup.specs.Pairs.{places_of}
 use Rattle.reset_functions.specs.declared.bases.Bases.{Bases}
-use Rattle.reset_form.specs.declared.comparison.ResetFindings.{ResetFindings}
+use Rattle.reset_asked.specs.declared.findings.ResetFindings.{ResetFindings}
 use Rattle.reset_functions.specs.declared.error.ResetError.{ResetError}
 use Rattle.reset_functions.specs.declared.error.ResetError.TheVariants as refused
 use Rattle.reset_functions.specs.Bases.{AreBases}
-use Rattle.reset_functions.specs.Outcome.{Numbered}
+use Rattle.reset_asked.specs.Numbers.{numbered}
 use Rattle.reset_form.specs.Findings.{FindingsFit}
 use Rattle.reset_functions.specs.Pairs.{IsLeftSide, IsRightSide, IsLight, IsTooLarge}
-
--- the circuits of a setup, with the numbers of their variables
-abbrev pub numbered : Setup → Bases → Numbered
-numbered s b = record {
-  a = circuit_of s.left.now;
-  b = circuit_of s.right.now;
-  left = s.orders.left;
-  right = s.orders.right;
-  left_base = b.left;
-  right_base = b.right;
-  columns = s.columns;
-}
 
 -- both unfoldings are light, and what is found fits the circuits that are compared
 pub record AreFound (s : Setup) (conflicts : ℕ) (f : ResetFindings) : Type 0 where

@@ -1,4 +1,3 @@
 pub mod Findings
-pub mod Asked
 pub mod Shown
 pub mod Formed

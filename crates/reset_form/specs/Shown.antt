@@ -1,11 +1,7 @@
 -- What shows the verdict at an obligation.
 use Rattle.std.specs.Prelude.{◌≡◌, ℕ, ◌*◌, ◌<◌, ◌≤◌, Bool, List, length, slice_get, Some}
-use Rattle.aig.specs.declared.node.Node.{Node}
-use Rattle.aig.specs.Values.{value}
 use Rattle.pair_decide.specs.declared.query.Query.{Query}
-use Rattle.pair_decide.specs.Queries.{assigned_to}
 use Rattle.witness_report.specs.declared.witness.PairName.{PairName}
-use Rattle.witness_report.specs.declared.witness.Witness.{Witness}
 use Rattle.outcome.specs.declared.verdict.PairResult.{PairResult}
 use Rattle.obligations.specs.declared.obligation.Obligation.{Obligation}
 use Rattle.obligations.specs.declared.obligation.Difference.{Difference}
@@ -13,19 +9,15 @@ use Rattle.obligations.specs.declared.verdict.VerdictAt.{VerdictAt}
 use Rattle.obligations.specs.declared.verdict.VerdictAt.TheVariants as at
 use Rattle.flat_net.specs.View.{circuit_of}
 use Rattle.sec_setup.specs.declared.setup.Setup.{Setup}
-use Rattle.reset_laws.specs.Reset.{reset_rows, powers}
+use Rattle.reset_laws.specs.Reset.{powers}
 use Rattle.shift_variables.specs.Sequences.{bits_at}
 use Rattle.cycle_variables.specs.Cycles.{AreInCycles}
 use Rattle.reset_functions.specs.declared.bases.Bases.{Bases}
 use Rattle.reset_functions.specs.declared.functions.Functions.{Functions}
 use Rattle.outcome.specs.declared.verdict.ResetWitness.{ResetWitness}
-use Rattle.reset_form.specs.declared.shown.ResetVerdict.{ResetVerdict}
-use Rattle.reset_form.specs.declared.shown.ResetVerdict.TheVariants as verdict
-
--- the obligation and the query of a difference
-pub record IsQueryAt (asked : List Obligation) (d : Difference) (o : Obligation) (q : Query) : Type 0 where
-  pub asked_at : slice_get asked d.pair ≡ Some o
-  pub query_at : slice_get o.queries d.query ≡ Some q
+use Rattle.reset_asked.specs.Sequences.{IsQueryAt, IsSequenceOf}
+use Rattle.reset_asked.specs.declared.findings.ResetVerdict.{ResetVerdict}
+use Rattle.reset_asked.specs.declared.findings.ResetVerdict.TheVariants as verdict
 
 -- its bits give a sequence and a power-up
 pub record IsShowable (f : Functions) (asked : List Obligation) (d : Difference) : Type 0 where
@@ -44,16 +36,7 @@ CanBeShown f asked results (at.Different d) = IsShowable f asked d
 CanBeShown f asked results (at.Limit place) = place < length results
 CanBeShown f asked results (at.NotShown d) = ⊥
 
--- the sequence that ends in a cycle, over the inputs of these names, with the values of both sides
-pub record IsSequenceOf (g : List Node) (places : List (ℕ × ℕ)) (q : Query) (bits : List Bool) (name : PairName) (last : ℕ) (names : List (List ℕ)) (w : Witness) : Type 0 where
-  pub pair_is : w.pair ≡ name
-  pub cycle_is : w.cycle ≡ last
-  pub left_is : w.left ≡ value g (assigned_to q.vars bits) q.left.0
-  pub right_is : w.right ≡ value g (assigned_to q.vars bits) q.right.0
-  pub names_are : w.stimulus.names ≡ names
-  pub rows_are : w.stimulus.rows ≡ reset_rows last (bits_at places q.vars bits) (length names)
-
--- and the power-ups of both circuits
+-- a sequence, with the power-ups of both circuits
 pub record IsWitnessOf (s : Setup) (b : Bases) (f : Functions) (q : Query) (bits : List Bool) (name : PairName) (last : ℕ) (w : ResetWitness) : Type 0 where
   pub sequence : IsSequenceOf f.aig f.places q bits name last s.columns w.witness
   pub left_power_is : w.left_power ≡ powers (circuit_of s.left.now) b.left (bits_at f.places q.vars bits)

@@ -4,28 +4,18 @@ ghost use Rattle.std.specs.Prelude.{◌≤◌, map, IfOk};
 ghost use Rattle.sec_setup.specs.Pairs.{places_of};
 ghost use Rattle.sec_setup.specs.Setup.{IsSetup};
 ghost use Rattle.reset_functions.specs.Bases.{AreBases};
-ghost use Rattle.reset_form.specs.Formed.{Formed, numbered};
+ghost use Rattle.reset_form.specs.Formed.{Formed};
+ghost use Rattle.reset_asked.specs.Numbers.{numbered};
 ghost use Rattle.reset_form.specs.Findings.{FindingsFit};
 ghost use Rattle.reset_functions.specs.Pairs.{HaveFunctions};
 
-use crate::questions::ask;
-use crate::shown::{ResetVerdict, show};
+use crate::shown::show;
 use obligations::{Decided, decide_all, greatest_size, verdict_at};
-use outcome::PairResults;
+use reset_asked::{ResetFindings, ask};
 use reset_functions::{Bases, Functions, ResetError, bases_of, unfold_pairs};
 use sec_base::{MAX_CONFLICTS, NoMemory};
 use sec_setup::Setup;
 use std::alloc::Global;
-
-/// What is found of the pairs of two circuits.
-#[derive(Drop)]
-pub struct ResetFindings {
-    /// One result for each pair, in order.
-    pub pairs: PairResults,
-    /// The greatest depth of the pairs, in cycles.
-    pub through: u32,
-    pub verdict: ResetVerdict,
-}
 
 /// Unfolds the left signals of the pairs in each cycle up to the pair's depth, then the right ones, where runs begin with the latches'
 /// initial values, and decides each pair in order, by its cycles in order up to the first in which its functions don't agree, with at

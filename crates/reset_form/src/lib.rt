@@ -3,12 +3,9 @@
 #![tactic(auto)]
 
 mod comparison;
-mod questions;
 mod shown;
 mod witness;
 
-pub use comparison::{ResetFindings, compare_reset};
-pub use questions::ask;
+pub use comparison::compare_reset;
+pub use reset_asked::{ResetFindings, ResetVerdict};
 pub use reset_functions::{Bases, ResetError};
-pub use shown::ResetVerdict;
-pub use witness::sequence_of;

@@ -6,22 +6,12 @@ ghost use Rattle.reset_form.specs.Shown.{CanBeShown, IsShowable, IsShown, IsWitn
 
 use crate::witness::witness_of;
 use obligations::{Difference, Obligation, VerdictAt, copy_name};
-use outcome::{PairName, PairResult, ResetWitness};
+use outcome::{PairResult, ResetWitness};
+use reset_asked::ResetVerdict;
 use reset_functions::{Bases, Functions};
 use sec_base::NoMemory;
 use sec_setup::Setup;
 use std::alloc::Global;
-
-/// The answer of a comparison from the initial values: the first of different, limit and equal that some pair has.
-#[derive(Drop)]
-pub enum ResetVerdict {
-    /// Every pair's functions agree in each cycle up to the pair's depth.
-    Equal,
-    /// A pair's functions differ in a cycle, and the sequence and the power-ups show it.
-    Different(ResetWitness),
-    /// A query of this pair wasn't decided within the number of conflicts.
-    Limit(PairName),
-}
 
 /// The verdict at an obligation, with the sequence and the power-ups of its difference.
 pub(crate) fn show(

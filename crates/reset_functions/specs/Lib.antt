@@ -1,4 +1,2 @@
 pub mod Bases
 pub mod Pairs
-pub mod Limits
-pub mod Outcome

@@ -19,14 +19,14 @@ use Rattle.swept_queries.specs.InStead.{IsInStead}
 use Rattle.shift_variables.specs.Variables.{variable_of, variables_of}
 use Rattle.shift_variables.specs.Sequences.{bits_at}
 use Rattle.assume_laws.specs.Assume.{Assumption, HaveEqualResetsUnder}
-use Rattle.assume_queries.specs.declared.order.VariableOrder.TheVariants as order
-use Rattle.assume_queries.specs.Under.{IsUnder}
-use Rattle.assume_queries.specs.Laws.{AsksUnder}
-use Rattle.assume_queries.proofs.Pairs.{answers_under}
-use Rattle.reset_functions.specs.Limits.{ReadOnly}
-use Rattle.reset_form.proofs.CycleQueries as cycles
-use Rattle.reset_form.proofs.CycleQueries.{left_tree, right_tree, are_variables, left_value, right_value, is_query}
-use Rattle.reset_under.specs.Cycles.{DifferUnder, IsUndecidedUnder}
+use Rattle.assume_answers.specs.declared.order.VariableOrder.TheVariants as order
+use Rattle.assume_answers.specs.Under.{IsUnder}
+use Rattle.assume_answers.specs.Laws.{AsksUnder}
+use Rattle.assume_answers.proofs.Pairs.{answers_under}
+use Rattle.outcome_fits.specs.ResetLimits.{ReadOnly}
+use Rattle.reset_asked.proofs.CycleQueries as cycles
+use Rattle.reset_asked.proofs.CycleQueries.{left_tree, right_tree, are_variables, left_value, right_value, is_query}
+use Rattle.under_fits.specs.Cycles.{DifferUnder, IsUndecidedUnder}
 use Rattle.reset_under.specs.Laws.{AsksCycle, CyclesFitUnder}
 
 module _ (c : Assumption) (a b : NetView) (left right : List ℕ) (left_base right_base : ℕ) (g : List Node) (places : List (ℕ × ℕ)) (s t cycle : ℕ) (q r : Query) (h : AsksCycle a b left right left_base right_base g places s t cycle q)

@@ -13,11 +13,11 @@ use Rattle.pair_decide.specs.Answers.{IsDifference}
 use Rattle.swept_queries.specs.InStead.{DecidesInStead}
 use Rattle.unfold_places.specs.declared.signal_function.Unfolded.{Unfolded}
 use Rattle.reset_unfold.specs.Unfolded.{IsResetUnfolded}
-use Rattle.reset_form.specs.Asked.{IsCycleQuery}
+use Rattle.reset_asked.specs.Asked.{IsCycleQuery}
 use Rattle.assume_laws.specs.Assume.{Assumption, HaveEqualResetsUnder}
-use Rattle.assume_queries.specs.declared.order.VariableOrder.TheVariants as order
-use Rattle.assume_queries.specs.Under.{IsUnder}
-use Rattle.reset_under.specs.Cycles.{DifferUnder, IsUndecidedUnder}
+use Rattle.assume_answers.specs.declared.order.VariableOrder.TheVariants as order
+use Rattle.assume_answers.specs.Under.{IsUnder}
+use Rattle.under_fits.specs.Cycles.{DifferUnder, IsUndecidedUnder}
 
 -- the query q asks of both functions of a pair in a cycle, on a graph and a table that are sound
 pub record AsksCycle (a b : NetView) (left right : List ℕ) (left_base right_base : ℕ) (g : List Node) (places : List (ℕ × ℕ)) (s t cycle : ℕ) (q : Query) : Type 0 where

@@ -1,5 +1,5 @@
 -- From what is found of the cut nets to the answer of a comparison.
-use Rattle.std.proofs.Common.{false, ◌≡◌, ℕ, List, length, refl, sym, subst, Err}
+use Rattle.std.proofs.Common.{false, ◌≡◌, ℕ, List, length, refl, subst, Err, None}
 use Rattle.circuit_theory.specs.declared.Side.{Side}
 use Rattle.circuit_theory.specs.declared.Side.TheVariants.{A, B}
 use Rattle.circuit_theory.specs.Interface.{AreNumbersOf}
@@ -11,35 +11,25 @@ use Rattle.sec_base.specs.declared.settings.Settings.{Settings}
 use Rattle.outcome.specs.declared.verdict.Outcome.{Outcome}
 use Rattle.sec_setup.specs.declared.setup.Setup.{Setup}
 use Rattle.sec_setup.specs.Choosing.{IsChosen}
-use Rattle.sec_setup.specs.Cuts.{IsChoice, StandInOrder, columns_of, is_cut}
+use Rattle.sec_setup.specs.Cuts.{columns_of, is_cut}
 use Rattle.sec_setup.specs.Matching.{InterfacesMatch}
 use Rattle.sec_setup.specs.Pairs.{NamedPair, named_pairs}
 use Rattle.sec_setup.specs.Setup.{IsSetupOf}
-use Rattle.plain_form.specs.declared.comparison.Findings.{Findings}
-use Rattle.plain_form.specs.declared.error.PlainError.TheVariants as plain_error
-use Rattle.plain_form.specs.Formed.{AreFound, Formed}
-use Rattle.plain_form.specs.Findings.{FindingsFit}
+use Rattle.plain_asked.specs.declared.findings.Findings.{Findings}
+use Rattle.plain_asked.specs.declared.error.PlainError.TheVariants as plain_error
+use Rattle.plain_asked.specs.Formed.{AreFound, Formed}
+use Rattle.plain_asked.specs.Findings.{FindingsFit}
 use Rattle.compare_base.specs.declared.error.CompareError.TheVariants as refused
-use Rattle.compare_base.specs.Compared.{AreTooLarge, IsCompared, Compared}
-use Rattle.plain_meaning.specs.Fitting.{OutcomeFits}
-use Rattle.compare_base.proofs.Forms.{in_always}
-use Rattle.plain_meaning.proofs.CutSizes.{cut_over, cut_light}
+use Rattle.compare_base.specs.Compared.{IsCompared, Compared}
+use Rattle.outcome_fits.specs.Fitting.{OutcomeFits}
+use Rattle.compare_base.proofs.CutSetups.{choice, left_too_large, right_too_large}
 use Rattle.plain_meaning.proofs.Meaning.{they_are_equal, makes_differ, makes_cuts_differ}
 
-module _ (a b : NetView) (settings : Settings) (e : Exposure) (s : Setup) (matches : InterfacesMatch a b) (chosen : IsChosen a b settings.expose e) (is : IsSetupOf a b s) (same : s.exposed ≡ e.names) where
-  choice : IsChoice a b settings.expose s.exposed
-  choice = subst (λ (names : List (List ℕ)). IsChoice a b settings.expose names) (sym same) (record { minimal = chosen.cut_open.minimal; closed = chosen.closed })
-
-  in_order : StandInOrder a s.exposed
-  in_order = subst (λ (names : List (List ℕ)). StandInOrder a names) (sym same) (record { positions = e.left; in_order = chosen.cut_open.in_order; within = chosen.cut_open.left.within; named = chosen.cut_open.left.named })
-
-  -- a net that is too large is refused
-  pub too_large : settings.reset ≡ false → (side : Side) → Formed s settings.conflicts (Err (plain_error.TooLarge side)) → Compared a b settings (Err (refused.TooLarge side))
-  too_large always side large = (matches, chosen.broken, in_always _ settings.reset always (by side large))
-    where
-      by : (side : Side) → Formed s settings.conflicts (Err (plain_error.TooLarge side)) → AreTooLarge a b settings.expose side
-      by A large = AreTooLarge.left choice in_order (cut_over s.exposed (circuit_of a) s.left.now is.are_cut.left_circuit large)
-      by B large = AreTooLarge.right choice in_order (cut_light s.exposed (circuit_of a) s.left.now is.are_cut.left_circuit large.0) (cut_over s.exposed (circuit_of b) s.right.now is.are_cut.right_circuit large.1)
+-- a net that is too large is refused
+pub too_large : (a b : NetView) (settings : Settings) (e : Exposure) (s : Setup) → InterfacesMatch a b → IsChosen a b settings.expose e → IsSetupOf a b s → s.exposed ≡ e.names → settings.reset ≡ false →
+    (side : Side) → Formed s settings.conflicts (Err (plain_error.TooLarge side)) → Compared a b settings (Err (refused.TooLarge side))
+too_large a b settings e s matches chosen is same always A large = left_too_large a b settings e s matches chosen is same always large
+too_large a b settings e s matches chosen is same always B large = right_too_large a b settings e s matches chosen is same always large.0 large.1
 
 -- what is found of the cut nets is the outcome of the comparison
 module _ (a b : NetView) (settings : Settings) (e : Exposure) (s : Setup) (sa : IsSound a) (sb : IsSound b) (ca : IsComparable a) (cb : IsComparable b) (matches : InterfacesMatch a b) (chosen : IsChosen a b settings.expose e)
@@ -54,6 +44,7 @@ module _ (a b : NetView) (settings : Settings) (e : Exposure) (s : Setup) (sa : 
     inputs = s.inputs;
     left_latches = length a.latches;
     right_latches = length b.latches;
+    assumed = None;
     exposed = s.exposed;
     classes = 0;
     pairs = f.pairs;
@@ -74,6 +65,7 @@ module _ (a b : NetView) (settings : Settings) (e : Exposure) (s : Setup) (sa : 
     inputs = is.inputs;
     left_latches = refl;
     right_latches = refl;
+    assumed = refl;
     classes = refl;
     pairs = fit.pairs_fit;
     through = fit.through;

@@ -1,6 +1,6 @@
 //! Comparing two circuits.
 
-ghost use Rattle.std.specs.Prelude.{◌≡◌, ◌≤◌, true, false, length, IfOk};
+ghost use Rattle.std.specs.Prelude.{◌≡◌, ◌≤◌, true, false, length, IfOk, None};
 ghost use Rattle.circuit_theory.specs.declared.Mode.TheVariants.{Plain};
 ghost use Rattle.circuit_theory.specs.Interface.{shared_inputs};
 ghost use Rattle.flat_net.specs.Comparable.{IsComparable};
@@ -16,7 +16,8 @@ use compare_base::CompareError;
 use cut_points::Exposure;
 use flat_net::Net;
 use outcome::{LimitAt, Outcome, Settings, Verdict};
-use plain_form::{Findings, PlainError, compare_plain};
+use plain_asked::{Findings, PlainError};
+use plain_form::compare_plain;
 use reset_form::{ResetError, ResetFindings, ResetVerdict, compare_reset};
 use sec_base::{MAX_CONFLICTS, NameTable, NoMemory};
 use sec_setup::{Nets, Setup, choose, graph_of, set_up, shared_names};
@@ -244,7 +245,7 @@ fn compare_nets(
 
 /// The outcome by what is found of the pairs of a setup of these nets.
 fn outcome_of(a: &Net, b: &Net, setup: Setup<'_>, findings: Findings) -> Outcome
-    ensures { result ≡ record { inputs = setup.entry.inputs; left_latches = length a.now.latches; right_latches = length b.now.latches; exposed = setup.entry.exposed; classes = 0; pairs = findings.pairs; through = findings.through; verdict = findings.verdict } }
+    ensures { result ≡ record { inputs = setup.entry.inputs; left_latches = length a.now.latches; right_latches = length b.now.latches; assumed = None; exposed = setup.entry.exposed; classes = 0; pairs = findings.pairs; through = findings.through; verdict = findings.verdict } }
 {
     a.keeps();
     b.keeps();
@@ -252,6 +253,7 @@ fn outcome_of(a: &Net, b: &Net, setup: Setup<'_>, findings: Findings) -> Outcome
         inputs: setup.inputs,
         left_latches: a.latches().len() as u32,
         right_latches: b.latches().len() as u32,
+        assumed: None,
         exposed: setup.exposed,
         classes: 0,
         pairs: findings.pairs,

@@ -1,3 +1,2 @@
-pub mod Allowed
 pub mod Means
 pub mod Promises

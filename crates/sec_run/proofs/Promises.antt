@@ -14,7 +14,7 @@ use Rattle.job_circuit.proofs.Means.{graph_means, sim_means}
 use Rattle.job_circuit.proofs.CompleteReports.{graph_complete, sim_complete}
 use Rattle.job_replay.proofs.Means.{replay_means}
 use Rattle.job_replay.proofs.CompleteReplays.{replay_complete}
-use Rattle.check_meaning.specs.Check.{Check}
+use Rattle.check_found.specs.Check.{Check}
 use Rattle.check_meaning.proofs.Promises.{check_says, silent_check, failed_check, check_complete, memory_check}
 use Rattle.gen_meaning.proofs.Means.{gen_means, gen_complete}
 use Rattle.job_lrat.proofs.Means.{lrat_means, lrat_complete}
@@ -29,7 +29,7 @@ use Rattle.sec_run.specs.Promises.{Means, IsComplete}
 pub means : (held : Held) (job : Option Task) (before now : Option (List ℕ)) (f : Finding) (proofs : List Proof) (name : StatusName) →
     IsFinding held job f → IsWrittenAs before now f proofs name → Means held job before now proofs name
 means held None before now f proofs name found w = says_nothing before now f proofs name (subst (λ (g : Finding). SaysNothing (status_of g)) (sym found) tt) w
-means held (Some (task.Check a b settings)) before now f proofs name found w = check_says held (record { left = a; right = b; settings = settings }) before now f proofs name found w
+means held (Some (task.Check a b settings assumed)) before now f proofs name found w = check_says held (record { left = a; right = b; settings = settings; assumed = assumed }) before now f proofs name found w
 means held (Some (task.Graph a mode)) before now f proofs name found w = graph_means mode (held a) before now f proofs name found w
 means held (Some (task.Sim a s mode power reset)) before now f proofs name found w = sim_means mode (held a) (held s) power reset before now f proofs name found w
 means held (Some (task.Replay a b s mode)) before now f proofs name found w = replay_means mode (held a) (held b) (held s) before now f proofs name found w
@@ -41,7 +41,7 @@ means held (Some (task.Induct a b conflicts)) before now f proofs name found w =
 -- a run that ends before it has found anything says nothing
 pub memory_means : (held : Held) (job : Option Task) (before now : Option (List ℕ)) (proofs : List Proof) → Means held job before now proofs status.NoMemory
 memory_means held None before now proofs = tt
-memory_means held (Some (task.Check a b settings)) before now proofs = silent_check held (record { left = a; right = b; settings = settings }) before now proofs
+memory_means held (Some (task.Check a b settings assumed)) before now proofs = silent_check held (record { left = a; right = b; settings = settings; assumed = assumed }) before now proofs
 memory_means held (Some (task.Graph a mode)) before now proofs = tt
 memory_means held (Some (task.Sim a s mode power reset)) before now proofs = tt
 memory_means held (Some (task.Replay a b s mode)) before now proofs = tt
@@ -52,7 +52,7 @@ memory_means held (Some (task.Induct a b conflicts)) before now proofs = tt
 
 pub fault_means : (held : Held) (job : Option Task) (before now : Option (List ℕ)) (proofs : List Proof) → Means held job before now proofs status.ReadFault
 fault_means held None before now proofs = tt
-fault_means held (Some (task.Check a b settings)) before now proofs = failed_check held (record { left = a; right = b; settings = settings }) before now proofs
+fault_means held (Some (task.Check a b settings assumed)) before now proofs = failed_check held (record { left = a; right = b; settings = settings; assumed = assumed }) before now proofs
 fault_means held (Some (task.Graph a mode)) before now proofs = tt
 fault_means held (Some (task.Sim a s mode power reset)) before now proofs = tt
 fault_means held (Some (task.Replay a b s mode)) before now proofs = tt
@@ -64,7 +64,7 @@ fault_means held (Some (task.Induct a b conflicts)) before now proofs = tt
 -- a job that can be done is done, by what is found of it
 is_complete : (held : Held) (job : Option Task) (f : Finding) → IsFinding held job f → IsComplete held job (status_of f)
 is_complete held None f found = inl (ap status_of found)
-is_complete held (Some (task.Check a b settings)) f found = check_complete held (record { left = a; right = b; settings = settings }) f found
+is_complete held (Some (task.Check a b settings assumed)) f found = check_complete held (record { left = a; right = b; settings = settings; assumed = assumed }) f found
 is_complete held (Some (task.Graph a mode)) f found = graph_complete mode (held a) f found
 is_complete held (Some (task.Sim a s mode power reset)) f found = sim_complete mode (held a) (held s) power reset f found
 is_complete held (Some (task.Replay a b s mode)) f found = replay_complete mode (held a) (held b) (held s) f found
@@ -76,7 +76,7 @@ is_complete held (Some (task.Induct a b conflicts)) f found = induct_complete co
 -- so is one that ends at want of memory
 pub memory_is_complete : (held : Held) (job : Option Task) → IsComplete held job status.NoMemory
 memory_is_complete held None = inr refl
-memory_is_complete held (Some (task.Check a b settings)) = memory_check held (record { left = a; right = b; settings = settings })
+memory_is_complete held (Some (task.Check a b settings assumed)) = memory_check held (record { left = a; right = b; settings = settings; assumed = assumed })
 memory_is_complete held (Some (task.Graph a mode)) = λ can. tt
 memory_is_complete held (Some (task.Sim a s mode power reset)) = λ can. tt
 memory_is_complete held (Some (task.Replay a b s mode)) = λ can. tt

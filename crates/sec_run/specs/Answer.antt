@@ -14,8 +14,8 @@ use Rattle.job_base.specs.Lines.{finding_text}
 use Rattle.job_files.specs.Reading.{Held}
 use Rattle.job_circuit.specs.Reports.{IsGraphFound, IsSimFound}
 use Rattle.job_replay.specs.Replays.{IsReplayFound}
-use Rattle.check_meaning.specs.Check.{Check}
-use Rattle.check_meaning.specs.Found.{IsCheckFound}
+use Rattle.check_found.specs.Check.{Check}
+use Rattle.check_found.specs.Found.{IsCheckFound}
 use Rattle.gen_meaning.specs.Found.{IsGenFound}
 use Rattle.job_lrat.specs.Found.{IsLratFound}
 use Rattle.job_cert.specs.Found.{IsCertFound}
@@ -23,7 +23,7 @@ use Rattle.induct_meaning.specs.Found.{IsInductFound}
 
 -- what is true of a job where this is found
 abbrev pub IsFoundOfJob : Held → Task → Finding → Type 0
-IsFoundOfJob held (task.Check a b settings) f = IsCheckFound held (record { left = a; right = b; settings = settings }) f
+IsFoundOfJob held (task.Check a b settings assumed) f = IsCheckFound held (record { left = a; right = b; settings = settings; assumed = assumed }) f
 IsFoundOfJob held (task.Graph a mode) f = IsGraphFound mode (held a) f
 IsFoundOfJob held (task.Sim a s mode power reset) f = IsSimFound mode (held a) (held s) power reset f
 IsFoundOfJob held (task.Replay a b s mode) f = IsReplayFound mode (held a) (held b) (held s) f

@@ -1,19 +1,18 @@
 -- What a job asks for.
-use Rattle.std.specs.Prelude.{◌≡◌, ℕ, ◌≤◌, true, false, List, [], Option, Some, None}
-use Rattle.sec_base.specs.declared.limits.TheConstants.{MAX_CONFLICTS}
+use Rattle.std.specs.Prelude.{ℕ, List, [], Option, Some, None}
 use Rattle.command_line.specs.declared.task.Task.{Task}
 use Rattle.command_line.specs.declared.task.Task.TheVariants as task
 use Rattle.job_files.specs.Reading.{IsLoaded}
 use Rattle.job_circuit.specs.Reports.{graph_paths, sim_paths}
 use Rattle.job_replay.specs.Replays.{replay_paths}
-use Rattle.check_meaning.specs.Check.{Check, check_paths}
+use Rattle.check_found.specs.Check.{Check, check_paths}
 use Rattle.job_lrat.specs.Found.{lrat_paths, AreSpelled}
 use Rattle.job_cert.specs.Found.{cert_paths}
 use Rattle.induct_meaning.specs.Found.{induct_paths}
 
 -- the paths that a job reads, in the order of their fetches; none where it makes its circuits itself
 abbrev pub paths_of : Task → List (List ℕ)
-paths_of (task.Check a b settings) = check_paths (record { left = a; right = b; settings = settings })
+paths_of (task.Check a b settings assumed) = check_paths (record { left = a; right = b; settings = settings; assumed = assumed })
 paths_of (task.Graph a mode) = graph_paths a
 paths_of (task.Sim a s mode power reset) = sim_paths a s
 paths_of (task.Replay a b s mode) = replay_paths a b s
@@ -29,7 +28,7 @@ paths_in (Some job) = paths_of job
 
 -- what is held at a path of the job lets the work go on to the next one: its circuit loads, or its clauses are spelled
 abbrev pub GoesOn : Task → Option (List ℕ) → Type 0
-GoesOn (task.Check a b settings) = IsLoaded
+GoesOn (task.Check a b settings assumed) = IsLoaded
 GoesOn (task.Graph a mode) = IsLoaded
 GoesOn (task.Sim a s mode power reset) = IsLoaded
 GoesOn (task.Replay a b s mode) = IsLoaded
@@ -42,14 +41,3 @@ GoesOn (task.Induct a b conflicts) = IsLoaded
 abbrev pub GoesOnIn : Option Task → Option (List ℕ) → Type 0
 GoesOnIn None = IsLoaded
 GoesOnIn (Some job) = GoesOn job
-
--- at most 200,000 conflicts are allowed for a query, and no latch is cut open where runs begin with initial values
-abbrev pub IsAllowed : Task → Type 0
-IsAllowed (task.Check a b settings) = (settings.conflicts ≤ MAX_CONFLICTS) × (settings.reset ≡ true → settings.expose ≡ false)
-IsAllowed (task.Graph a mode) = Unit {0}
-IsAllowed (task.Sim a s mode power reset) = Unit {0}
-IsAllowed (task.Replay a b s mode) = Unit {0}
-IsAllowed (task.Gen seed regroup conflicts) = conflicts ≤ MAX_CONFLICTS
-IsAllowed (task.Lrat f l) = Unit {0}
-IsAllowed (task.Cert a b pair lrat conflicts) = conflicts ≤ MAX_CONFLICTS
-IsAllowed (task.Induct a b conflicts) = conflicts ≤ MAX_CONFLICTS

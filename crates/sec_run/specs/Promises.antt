@@ -9,7 +9,7 @@ use Rattle.job_base.specs.declared.status.StatusName.TheVariants as status
 use Rattle.job_files.specs.Reading.{Held}
 use Rattle.job_circuit.specs.Reports.{GraphMeans, SimMeans, IsGraphComplete, IsSimComplete}
 use Rattle.job_replay.specs.Replays.{ReplayMeans, IsReplayComplete}
-use Rattle.check_meaning.specs.Check.{Check}
+use Rattle.check_found.specs.Check.{Check}
 use Rattle.check_meaning.specs.Answer.{CheckSays, IsCheckComplete}
 use Rattle.gen_meaning.specs.Answer.{GenMeans, IsGenAnswer}
 use Rattle.job_lrat.specs.Answer.{LratMeans, IsLratComplete}
@@ -19,7 +19,7 @@ use Rattle.induct_meaning.specs.Answer.{InductMeans, IsInductComplete}
 -- What the status says of the job, with the proofs that the run ends with and what was written before and is now.
 abbrev pub Means : Held → Option Task → Option (List ℕ) → Option (List ℕ) → List Proof → StatusName → Type 0
 Means held None before now proofs name = SaysNothing name
-Means held (Some (task.Check a b settings)) before now proofs name = CheckSays held (record { left = a; right = b; settings = settings }) before now proofs name
+Means held (Some (task.Check a b settings assumed)) before now proofs name = CheckSays held (record { left = a; right = b; settings = settings; assumed = assumed }) before now proofs name
 Means held (Some (task.Graph a mode)) before now proofs name = GraphMeans mode (held a) before now proofs name
 Means held (Some (task.Sim a s mode power reset)) before now proofs name = SimMeans mode (held a) (held s) power reset before now proofs name
 Means held (Some (task.Replay a b s mode)) before now proofs name = ReplayMeans mode (held a) (held b) (held s) before now proofs name
@@ -31,7 +31,7 @@ Means held (Some (task.Induct a b conflicts)) before now proofs name = InductMea
 -- Where the job can be done, it ends so, if no read and no write fails; words that are no job are told.
 abbrev pub IsComplete : Held → Option Task → StatusName → Type 0
 IsComplete held None name = EndsWith status.Words name
-IsComplete held (Some (task.Check a b settings)) name = IsCheckComplete held (record { left = a; right = b; settings = settings }) name
+IsComplete held (Some (task.Check a b settings assumed)) name = IsCheckComplete held (record { left = a; right = b; settings = settings; assumed = assumed }) name
 IsComplete held (Some (task.Graph a mode)) name = IsGraphComplete mode (held a) name
 IsComplete held (Some (task.Sim a s mode power reset)) name = IsSimComplete mode (held a) (held s) power name
 IsComplete held (Some (task.Replay a b s mode)) name = IsReplayComplete mode (held a) (held b) (held s) name

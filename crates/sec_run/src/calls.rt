@@ -6,7 +6,8 @@ ghost use Rattle.sec_base.specs.Outside.{Rose, SameHeld, NoneFell};
 ghost use Rattle.command_line.specs.Jobs.{job_of};
 ghost use Rattle.job_base.specs.Lines.{finding_text};
 ghost use Rattle.job_base.specs.Reading.{ReadFailedAfter};
-ghost use Rattle.sec_run.specs.Job.{paths_of, paths_in, GoesOn, GoesOnIn, IsAllowed};
+ghost use Rattle.command_line.specs.Allowed.{IsAllowed};
+ghost use Rattle.sec_run.specs.Job.{paths_of, paths_in, GoesOn, GoesOnIn};
 ghost use Rattle.sec_run.specs.Answer.{IsFinding, IsTaken};
 ghost use Rattle.sec_run.specs.Ends.{Found};
 ghost use Rattle.sec_run.specs.Promises.{Means, IsComplete};
@@ -20,7 +21,7 @@ use job_gen::{Generation, compare_generated};
 use job_induct::{BlockComparison, compare_by_blocks};
 use job_lrat::{Refutation, check_refutation};
 use job_replay::{Replay, replay_files};
-use sec_base::{Shelf, Sink, Word};
+use sec_base::{FilePath, Shelf, Sink, Word};
 use std::alloc::Global;
 
 /// Finds what the job asks for.
@@ -33,11 +34,17 @@ fn find<S: Shelf>(alloc: Global, task: &Task, shelf: &mut S) -> Result<Finding, 
     ensures idle { paths_of task.now ≡ [] → shelf.new ≡ shelf.old }
 {
     match task {
-        Task::Check { a, b, settings } => {
+        Task::Check {
+            a,
+            b,
+            settings,
+            assumed,
+        } => {
             let comparison = Comparison {
                 left: a.as_str(),
                 right: b.as_str(),
                 settings: *settings,
+                assumed: path_of(assumed),
             };
             check(alloc, &comparison, shelf)
         }
@@ -113,6 +120,16 @@ fn find<S: Shelf>(alloc: Global, task: &Task, shelf: &mut S) -> Result<Finding, 
             };
             compare_by_blocks(alloc, &comparison, shelf)
         }
+    }
+}
+
+/// The path, where there is one.
+fn path_of(path: &Option<FilePath>) -> Option<&str>
+    ensures { option_map (λ text. text.now) result ≡ path.now }
+{
+    match path {
+        Some(path) => Some(path.as_str()),
+        None => None,
     }
 }
 

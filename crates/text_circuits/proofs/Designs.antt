@@ -1,13 +1,13 @@
 -- What is said of flat nets is said of the circuits that they come from.
-use Rattle.std.proofs.Common.{◌≡◌, ◌∙◌, ℕ, ◌<◌, ◌≤◌, Bool, List, [], sym, ap, arith}
-use Rattle.std.specs.List.{Contains}
+use Rattle.std.proofs.Common.{◌≡◌, ◌∙◌, ℕ, ◌<◌, Bool, List, [], sym, ap, arith}
 use Rattle.circuit_theory.specs.declared.Mode.TheVariants.{Plain}
-use Rattle.circuit_theory.specs.Agree.{Agree, AreAlike, IsPair, LatchesEqual}
+use Rattle.circuit_theory.specs.Agree.{Agree, AreAlike, IsPair, IsSettled}
 use Rattle.circuit_theory.specs.Circuit.{Circuit}
 use Rattle.circuit_theory.specs.Flattened.{Follows}
 use Rattle.circuit_theory.specs.Run.{IsRun}
 use Rattle.design_laws.proofs.FlatMarks.{mark_down}
-use Rattle.design_laws.proofs.FlatParts.{FlatDesign, along, latch_down, latch_up, latch_stays, input_up, output_down, output_up, run_down}
+use Rattle.design_laws.proofs.FlatOnward.{nets_alike, nets_start, runs_up}
+use Rattle.design_laws.proofs.FlatParts.{FlatDesign, along, input_up, output_down, output_up, run_down}
 use Rattle.witness_report.specs.declared.stimulus.Stimulus.{Stimulus}
 use Rattle.witness_report.specs.declared.witness.Witness.{Witness}
 use Rattle.witness_report.specs.Shown.{Obeys, MakesDiffer, AgreeFrom}
@@ -48,53 +48,30 @@ module _ {P Q : Type 0} {a : Circuit P} {b : Circuit Q} {na nb : Circuit ℕ} {c
         right_shows = shown_side g w y.0 shows.right_place w.right (record { signal = y.2; follows = (g.circuit.shown shows.name y.0 y.1).follows }) shows.right_shows;
       }
 
+  -- two runs of the designs with equal inputs are two of the nets
+  pub alike_down : (n : ℕ) (left : ℕ → P → Bool) (right : ℕ → Q → Bool) → AreAlike a b n left right → AreAlike na nb n (λ t s. left t (f.origin s)) (λ t s. right t (g.origin s))
+  alike_down n left right alike = nets_alike f g [] n left right alike 0
+
   module _ (n : ℕ) (left : ℕ → P → Bool) (right : ℕ → Q → Bool) (alike : AreAlike a b n left right) where
-    -- two runs of the designs with equal inputs are two of the nets
-    nets_alike : AreAlike na nb n (λ t s. left t (f.origin s)) (λ t s. right t (g.origin s))
-    nets_alike = record {
-      left_run = run_down f n left alike.left_run;
-      right_run = run_down g n right alike.right_run;
-      equal_inputs = λ name i j h k t low. alike.equal_inputs name (f.origin i) (g.origin j) (input_up f name i h) (input_up g name j k) t low;
-    }
+    -- the settled outputs of the nets' runs are equal
+    abbrev NetsAgree : Type 0
+    NetsAgree =
+        (t i j : ℕ) → t < n → IsPair [] na nb i j → IsSettled Plain na (λ t s. left t (f.origin s)) t i → IsSettled Plain nb (λ t s. right t (g.origin s)) t j → left t (f.origin i) ≡ right t (g.origin j)
 
-    -- the latches of the nets are equal where those of the designs are
-    nets_start : (names : List (List ℕ)) (from : ℕ) → LatchesEqual names a b left right (λ t. t ≤ from) → LatchesEqual names na nb (λ t s. left t (f.origin s)) (λ t s. right t (g.origin s)) (λ t. t ≤ from)
-    nets_start names from start name u p v q t known l r early =
-        let x = latch_up f name u p l in
-        let y = latch_up g name v q r in
-        start name (f.origin u) x.takes (g.origin v) y.takes t known x.latch y.latch early
-
-    -- outputs have the values of their signals
-    outputs_up : (t : ℕ) (p : P) (q : Q) (name : List ℕ) → t < n → Contains a.outputs (record { name = name; place = p }) → Contains b.outputs (record { name = name; place = q }) →
-        left t (f.origin (f.signal p)) ≡ right t (g.origin (g.signal q)) → left t p ≡ right t q
-    outputs_up t p q name low l r same =
-        along a (left t) (alike.left_run.meets t low) (f.circuit.shown name p l).follows ∙ same ∙ sym (along b (right t) (alike.right_run.meets t low) (g.circuit.shown name q r).follows)
+    -- so are those of the designs
+    pub settled_up : NetsAgree → (t : ℕ) (p : P) (q : Q) → t < n → IsPair [] a b p q → IsSettled Plain a left t p → IsSettled Plain b right t q → left t p ≡ right t q
+    settled_up agree t p q low (IsPair.nexts h l r) sp sq = absurd (omega (arith, h.1))
+    settled_up agree t p q low (IsPair.outputs {name = name} l r) sp sq =
+        along a (left t) (alike.left_run.meets t low) (f.circuit.shown name p l).follows
+        ∙ agree t (f.signal p) (g.signal q) low (IsPair.outputs {name = name} (output_down f name p l) (output_down g name q r)) (mark_down f left (λ t s. left t (f.origin s)) sp) (mark_down g right (λ t s. right t (g.origin s)) sq)
+        ∙ sym (along b (right t) (alike.right_run.meets t low) (g.circuit.shown name q r).follows)
 
   -- designs agree where their nets do
   pub agree_up : Agree Plain na nb → Agree Plain a b
-  agree_up agree n left right alike t p q low (IsPair.nexts h l r) sp sq = absurd (omega (arith, h.1))
-  agree_up agree n left right alike t p q low (IsPair.outputs {name = name} l r) sp sq =
-      outputs_up n left right alike t p q name low l r
-      (agree n (λ t s. left t (f.origin s)) (λ t s. right t (g.origin s)) (nets_alike n left right alike) t (f.signal p) (g.signal q) low
-      (IsPair.outputs {name = name} (output_down f name p l) (output_down g name q r)) (mark_down f left (λ t s. left t (f.origin s)) sp) (mark_down g right (λ t s. right t (g.origin s)) sq))
-
-  module _ (from : ℕ) (names : List (List ℕ)) (agree : AgreeFrom from names na nb) (n : ℕ) (left : ℕ → P → Bool) (right : ℕ → Q → Bool) (alike : AreAlike a b n left right) (low : from < n)
-      (start : LatchesEqual names a b left right (λ t. t ≤ from)) where
-    nets_agree : LatchesEqual names na nb (λ t s. left t (f.origin s)) (λ t s. right t (g.origin s)) (λ t. t < n)
-        × ((t i j : ℕ) → from ≤ t → t < n → IsPair [] na nb i j → left t (f.origin i) ≡ right t (g.origin j))
-    nets_agree = agree n (λ t s. left t (f.origin s)) (λ t s. right t (g.origin s)) (nets_alike n left right alike) low (nets_start n left right alike names from start)
-
-    latches_up : LatchesEqual names a b left right (λ t. t < n)
-    latches_up name u p v q t known l r early =
-        ap (left t) (sym (latch_stays f name u p l))
-        ∙ nets_agree.0 name (f.signal u) (f.signal p) (g.signal v) (g.signal q) t known (latch_down f name u p l) (latch_down g name v q r) early
-        ∙ ap (right t) (latch_stays g name v q r)
-
-    late_outputs : (t : ℕ) (p : P) (q : Q) → from ≤ t → t < n → IsPair [] a b p q → left t p ≡ right t q
-    late_outputs t p q late within (IsPair.nexts h l r) = absurd (omega (arith, h.1))
-    late_outputs t p q late within (IsPair.outputs {name = name} l r) =
-        outputs_up n left right alike t p q name within l r (nets_agree.1 t (f.signal p) (g.signal q) late within (IsPair.outputs {name = name} (output_down f name p l) (output_down g name q r)))
+  agree_up agree n left right alike = settled_up n left right alike (agree n (λ t s. left t (f.origin s)) (λ t s. right t (g.origin s)) (alike_down n left right alike))
 
   -- designs agree from the cycle on from which their nets do
   pub from_up : (from : ℕ) (names : List (List ℕ)) → AgreeFrom from names na nb → AgreeFrom from names a b
-  from_up from names agree n left right alike low start = (latches_up from names agree n left right alike low start, late_outputs from names agree n left right alike low start)
+  from_up from names agree n left right alike low start =
+      runs_up f g names n left right alike from
+      (agree n (λ t s. left t (f.origin s)) (λ t s. right t (g.origin s)) (alike_down n left right alike) low (nets_start f g names n left right alike from start))

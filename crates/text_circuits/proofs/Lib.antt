@@ -1,4 +1,5 @@
 pub mod Circuits
 pub mod CutDesigns
 pub mod Designs
+pub mod Powers
 pub mod Resets

@@ -1,6 +1,6 @@
 -- What is said of runs of flat nets from their initial values is said of such runs of the circuits that they come from.
 use Rattle.std.specs.List.{Contains}
-use Rattle.std.proofs.Common.{◌≡◌, ◌∙◌, ℕ, ◌<◌, Bool, List, map, sym, subst, arith}
+use Rattle.std.proofs.Common.{◌≡◌, ◌∙◌, ℕ, ◌<◌, Bool, List, [], map, sym, subst, arith}
 use Rattle.circuit_theory.specs.Agree.{IsPair}
 use Rattle.circuit_theory.specs.Circuit.{Circuit, Started}
 use Rattle.circuit_theory.specs.Joined.{moved_start}
@@ -39,9 +39,13 @@ module _ {P Q : Type 0} {a : Circuit P} {b : Circuit Q} {na nb : Circuit ℕ} {c
   outputs_equal n left right alike name p q l r t low same =
       output_value f n left alike.left_run.is_run name p l t low ∙ (same ∙ sym (output_value g n right alike.right_run.is_run name q r t low))
 
+  -- the outputs of two such runs of the designs are equal where those of the nets' runs are
+  pub reset_outputs_up : (n : ℕ) (left : ℕ → P → Bool) (right : ℕ → Q → Bool) → AreAlikeFromReset a b n left right →
+      ((t i j : ℕ) → t < n → IsPair [] na nb i j → left t (f.origin i) ≡ right t (g.origin j)) → (t : ℕ) (p : P) (q : Q) → t < n → IsPair [] a b p q → left t p ≡ right t q
+  reset_outputs_up n left right alike agree t p q low (IsPair.nexts h l r) = absurd (omega (arith, h.1))
+  reset_outputs_up n left right alike agree t p q low (IsPair.outputs {name = name} l r) =
+      outputs_equal n left right alike name p q l r t low (agree t (f.signal p) (g.signal q) low (IsPair.outputs {name = name} (output_down f name p l) (output_down g name q r)))
+
   -- designs agree where their nets do
   pub resets_agree_up : AgreeFromReset na nb → AgreeFromReset a b
-  resets_agree_up agree n left right alike t p q low (IsPair.nexts h l r) = absurd (omega (arith, h.1))
-  resets_agree_up agree n left right alike t p q low (IsPair.outputs {name = name} l r) =
-      outputs_equal n left right alike name p q l r t low
-      (agree n (λ k s. left k (f.origin s)) (λ k s. right k (g.origin s)) (nets_alike n left right alike) t (f.signal p) (g.signal q) low (IsPair.outputs {name = name} (output_down f name p l) (output_down g name q r)))
+  resets_agree_up agree n left right alike = reset_outputs_up n left right alike (agree n (λ k s. left k (f.origin s)) (λ k s. right k (g.origin s)) (nets_alike n left right alike))

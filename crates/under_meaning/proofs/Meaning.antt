@@ -35,9 +35,9 @@ use Rattle.assume_laws.specs.Assume.{Assumption, HaveEqualFunctionsUnder, AgreeU
 use Rattle.assume_laws.specs.Sequences.{RowsMeet, IsWitnessUnder}
 use Rattle.assume_laws.proofs.Filled.{witness_makes_differ_under}
 use Rattle.assume_laws.proofs.PlainLaws.{exposed_functions_agree_under}
-use Rattle.plain_under.specs.Outcome.{AnswerFitsUnder, PairFitsUnder}
-use Rattle.plain_asked_under.specs.Verdict.{IsFirstOfAnswerUnder, VerdictFitsUnder}
-use Rattle.under_meaning.specs.Fitting.{OutcomeFitsUnder, AgreeFromUnder}
+use Rattle.under_fits.specs.Pairs.{AnswerFitsUnder, PairFitsUnder}
+use Rattle.under_fits.specs.Verdict.{IsFirstOfAnswerUnder, VerdictFitsUnder}
+use Rattle.under_fits.specs.Outcome.{OutcomeFitsUnder, AgreeFromUnder}
 use Rattle.under_meaning.specs.Laws.{AreNets, EqualSaysUnder, DifferentShowsUnder, NotShownUnder}
 use Rattle.under_meaning.proofs.CutUnder.{cut_functions_under, cut_witness_under, equal_answer_under, different_answer_under}
 use Rattle.under_meaning.proofs.SequencesUnder.{values_differ, left_value_shows, right_value_shows}

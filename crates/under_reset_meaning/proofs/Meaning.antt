@@ -27,7 +27,7 @@ use Rattle.reset_laws.specs.Reset.{HasStarts, AreAlikeFromReset, TakesPower, Mak
 use Rattle.reset_laws.proofs.ResetAgreement.{reset_same_at, lt_true, lt_false}
 use Rattle.reset_nets.proofs.Starts.{nets_have_starts}
 use Rattle.sec_setup.specs.Pairs.{NamedPair, named_pairs}
-use Rattle.reset_functions.specs.Outcome.{Numbered}
+use Rattle.outcome_fits.specs.ResetOutcome.{Numbered}
 use Rattle.plain_meaning.proofs.CutPairs.{IsOutputPair, IsNextPair, one_output, pair_listed, listed_is}
 use Rattle.assume_laws.specs.Assume.{Assumption, RowMeets, RunMeets, AreEqualFromResetUnder}
 use Rattle.assume_laws.specs.Sequences.{RowsMeet, filled}
@@ -35,8 +35,8 @@ use Rattle.assume_laws.proofs.Care.{run_holds}
 use Rattle.assume_laws.proofs.Filled.{filled_at, shift_itself, left_leaves, right_leaves}
 use Rattle.assume_laws.proofs.PlainLaws.{equal_resets_agree_under}
 use Rattle.assume_laws.proofs.ResetFilled.{reset_witness_makes_differ_under}
-use Rattle.reset_asked_under.specs.Verdict.{AgreeAtUnder, AnswerFitsUnder, PairFitsUnder, IsFirstDifferenceUnder}
-use Rattle.under_reset_meaning.specs.Fitting.{numbers_of, ResetOutcomeFitsUnder, ResetVerdictFitsUnder, MakesResetsDifferUnder}
+use Rattle.under_fits.specs.ResetVerdict.{AgreeAtUnder, AnswerFitsUnder, PairFitsUnder, IsFirstDifferenceUnder}
+use Rattle.under_fits.specs.ResetOutcome.{numbers_of, ResetOutcomeFitsUnder, ResetVerdictFitsUnder, MakesResetsDifferUnder}
 use Rattle.under_reset_meaning.specs.Laws.{AreNets, EqualResetsSayUnder, DifferentResetsShowUnder}
 use Rattle.under_reset_meaning.proofs.LeavesUnder.{powered_value}
 

@@ -11,4 +11,5 @@ returns c =
     let app-3 = c.in_ok-command-3.ensures.0 ∙ ap₂ with_rule app-2 c.option_with.ensures.rule in
     let app-4 = c.in_ok-command-4.ensures.0 ∙ ap₂ with_rule app-3 c.flag.ensures.rule in
     let app-5 = c.in_ok-command-5.ensures.0 ∙ ap₂ with_rule app-4 c.conflicts.ensures.rule in
-    IfOk-weaker c.with_arg-6.result _ _ (λ m h. (h.0 ∙ ap₂ with_rule app-5 c.flag-2.ensures.rule, h.1)) c.with_arg-6.ensures
+    let app-6 = c.in_ok-command-6.ensures.0 ∙ ap₂ with_rule app-5 c.flag-2.ensures.rule in
+    IfOk-weaker c.with_arg-7.result _ _ (λ m h. (h.0 ∙ ap₂ with_rule app-6 c.option.ensures.rule, h.1)) c.with_arg-7.ensures

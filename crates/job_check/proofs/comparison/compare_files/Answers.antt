@@ -1,24 +1,28 @@
 use Rattle.std.proofs.Common.{sym, subst, Result}
+use Rattle.std.specs.Prelude.{option_map}
 use Rattle.job_base.specs.declared.finding.Finding.{Finding}
 use Rattle.job_base.specs.declared.finding.Stop.{Stop}
-use Rattle.check_meaning.specs.Check.{Check}
-use Rattle.job_check.specs.Ends.{FoundOf}
-use Rattle.job_check.proofs.Finds.{left_ends, beside_ends}
+use Rattle.check_found.specs.Check.{Check}
+use Rattle.check_found.specs.Ends.{FoundOf}
+use Rattle.check_found.proofs.Finds.{left_ends, beside_before, beside_end}
 use Rattle.job_check.proofs.comparison.compare_files.Goals as goal
 
 pub returns-in-Ok-clause-found : goal.returns-in-Ok-clause-found
 returns-in-Ok-clause-found g c =
-    let check : Check = record { left = c.args.comparison.now.left.now; right = c.args.comparison.now.right.now; settings = c.args.comparison.now.settings } in
+    let k = c.args.comparison.now in
+    let assumed = option_map (λ path. path.now) k.assumed in
     let held = g.S.Shelf.held c.args.shelf.now in
     let before = g.S.Shelf.faults c.args.shelf.now in
-    let middle = g.S.Shelf.faults c.load.new.shelf check.right in
     let now = g.S.Shelf.faults c.compare_with.new.shelf in
-    beside_ends held before now check c.in-Ok.a (g.S.Shelf.held c.load.new.shelf check.right) middle c.compare_with.result c.in-Ok.ensures.ok (c.load.ensures.keeps check.right) (c.load.ensures.later check.right) c.compare_with.ensures.found
+    beside_end held before now k.left.now k.right.now k.settings c.in-Ok.a c.in-Ok.ensures.ok assumed c.compare_with.result
+    (beside_before held (g.S.Shelf.held c.load.new.shelf) before (g.S.Shelf.faults c.load.new.shelf) now c.load.ensures.keeps c.load.ensures.later c.in-Ok.a k.settings k.right.now assumed c.compare_with.result c.compare_with.ensures.found)
 
 pub returns-in-Err-clause-found : goal.returns-in-Err-clause-found
 returns-in-Err-clause-found g c =
-    let check : Check = record { left = c.args.comparison.now.left.now; right = c.args.comparison.now.right.now; settings = c.args.comparison.now.settings } in
+    let k = c.args.comparison.now in
+    let assumed = option_map (λ path. path.now) k.assumed in
+    let check : Check = record { left = k.left.now; right = k.right.now; settings = k.settings; assumed = assumed } in
     let held = g.S.Shelf.held c.args.shelf.now in
     let before = g.S.Shelf.faults c.args.shelf.now in
     let now = g.S.Shelf.faults c.load.new.shelf in
-    subst (λ (r : Result Finding Stop). FoundOf held before now check r) (sym c.load_end.ensures) (left_ends held before now check c.in-Err.error c.in-Err.ensures.err)
+    subst (λ (r : Result Finding Stop). FoundOf held before now check r) (sym c.load_end.ensures) (left_ends held before now k.left.now k.right.now k.settings assumed c.in-Err.error c.in-Err.ensures.err)

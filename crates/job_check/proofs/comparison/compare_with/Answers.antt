@@ -1,17 +1,38 @@
-use Rattle.std.specs.Prelude.{IsErrOf}
-use Rattle.std.proofs.Common.{sym, subst, inl, inr, Result}
-use Rattle.job_base.specs.declared.finding.Finding.{Finding}
-use Rattle.job_base.specs.declared.finding.Stop.{Stop}
-use Rattle.job_base.specs.declared.finding.Stop.TheVariants as stop
-use Rattle.job_check.proofs.Finds.{no_fault_compared}
+use Rattle.std.proofs.Common.{ℕ, List, Option, Some, ap, sym, subst, inl, inr}
+use Rattle.std.specs.Prelude.{option_map}
+use Rattle.check_found.specs.Ends.{EndsBoth}
+use Rattle.check_found.proofs.Finds.{both_before}
 use Rattle.job_check.proofs.comparison.compare_with.Goals as goal
 
+-- without an assumption
 pub returns-in-Ok-clause-found : goal.returns-in-Ok-clause-found
-returns-in-Ok-clause-found g c = inr (c.in-Ok.b, c.compare-compared.result, c.in-Ok.ensures.ok, c.compare-compared.ensures, c.compare_end.ensures)
+returns-in-Ok-clause-found g c =
+    let k = c.args.comparison.now in
+    let held = g.S.Shelf.held c.args.shelf.now in
+    let before = g.S.Shelf.faults c.args.shelf.now in
+    let now = g.S.Shelf.faults c.load.new.shelf in
+    inr (
+      c.in-Ok.b,
+      c.in-Ok.ensures.ok,
+      subst (λ (o : Option (List ℕ)). EndsBoth held before now c.args.a.now c.in-Ok.b k.settings o c.compare_end.result) (sym (ap (option_map (λ path. path.now)) c.in-None.is))
+          (c.compare-compared.result, c.compare-compared.ensures, c.compare_end.ensures),
+    )
 
-pub returns-in-Ok-clause-served : goal.returns-in-Ok-clause-served
-returns-in-Ok-clause-served g c right =
-    subst (λ (r : Result Finding Stop). IsErrOf r stop.ReadFault → ⊥) (sym c.compare_end.ensures) (no_fault_compared c.args.comparison.now.settings c.compare-compared.result)
+-- with one
+pub returns-in-Some-clause-found : goal.returns-in-Some-clause-found
+returns-in-Some-clause-found g c =
+    let k = c.args.comparison.now in
+    let path = c.in-Some.path.now in
+    let held = g.S.Shelf.held c.args.shelf.now in
+    let before = g.S.Shelf.faults c.args.shelf.now in
+    let middle = g.S.Shelf.faults c.load.new.shelf in
+    let now = g.S.Shelf.faults c.compare_assuming.new.shelf in
+    inr (
+      c.in-Ok.b,
+      c.in-Ok.ensures.ok,
+      subst (λ (o : Option (List ℕ)). EndsBoth held before now c.args.a.now c.in-Ok.b k.settings o c.compare_assuming.result) (sym (ap (option_map (λ path. path.now)) c.in-Some.is))
+          (both_before held (g.S.Shelf.held c.load.new.shelf) before middle now c.load.ensures.keeps c.load.ensures.later c.args.a.now k.settings c.in-Ok.b (Some path) c.compare_assuming.result c.compare_assuming.ensures.found),
+    )
 
-pub returns-in-Err-clause-found : goal.returns-in-Err-clause-found
-returns-in-Err-clause-found g c = inl (c.in-Err.error, c.in-Err.ensures.err, c.load_end.ensures)
+pub returns-clause-found : goal.returns-clause-found
+returns-clause-found g c = inl (c.in-Err.error, c.in-Err.ensures.err, c.load_end.ensures)

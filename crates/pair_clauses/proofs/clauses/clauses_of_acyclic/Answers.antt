@@ -4,9 +4,9 @@ use Rattle.std.specs.List.{All}
 use Rattle.circuit_theory.specs.Interface.{shared_inputs}
 use Rattle.flat_net.specs.View.{ports_of}
 use Rattle.interface.specs.declared.pairs.SignalPair.{SignalPair}
-use Rattle.plain_form.specs.Pairs.{Unfolds, AreFunctions, AreLight, left_signals, right_signals}
-use Rattle.plain_form.proofs.Outcomes.{lefts_within, rights_within}
-use Rattle.plain_form.proofs.PairAt.{left_within, right_within, left_here, right_here}
+use Rattle.plain_asked.specs.Pairs.{Unfolds, AreFunctions, AreLight, left_signals, right_signals}
+use Rattle.plain_asked.proofs.Refusals.{lefts_within, rights_within}
+use Rattle.plain_asked.proofs.PairAt.{left_within, right_within, left_here, right_here}
 use Rattle.pair_clauses.specs.Clauses.{PairGives, IsPairNamed, size_refusal_of}
 use Rattle.witness_report.specs.declared.witness.PairName.TheVariants.{Output}
 use Rattle.pair_clauses.specs.declared.error.CertError.TheVariants.{Compare}

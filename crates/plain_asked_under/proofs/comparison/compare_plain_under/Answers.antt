@@ -5,15 +5,15 @@ use Rattle.pair_decide.specs.declared.query.Query.{Query}
 use Rattle.interface.specs.declared.pairs.SignalPair.{SignalPair}
 use Rattle.obligations.specs.declared.obligation.Obligation.{Obligation}
 use Rattle.obligations.specs.Asked.{queries_of}
-use Rattle.assume_queries.specs.declared.order.VariableOrder.TheVariants as order
-use Rattle.assume_queries.specs.Order.{AreOrdered}
+use Rattle.assume_answers.specs.declared.order.VariableOrder.TheVariants as order
+use Rattle.assume_answers.specs.Order.{AreOrdered}
 use Rattle.assume_places.specs.Gathered.{IsOverUnder, IsLightUnder}
 use Rattle.assume_shape.specs.Shape.{assumption_of}
-use Rattle.assume_queries.specs.Under.{IsObligationUnder}
-use Rattle.plain_form.specs.declared.functions.Functions.{Functions}
-use Rattle.plain_form.specs.Pairs.{Unfolds, AreFunctions, AreLight, left_signals, right_signals}
-use Rattle.plain_form.proofs.FirstPairs.{AreSound}
-use Rattle.plain_form.proofs.Outcomes.{is_order, lefts_within, rights_within, left_light, right_light}
+use Rattle.assume_answers.specs.Under.{IsObligationUnder}
+use Rattle.plain_asked.specs.declared.functions.Functions.{Functions}
+use Rattle.plain_asked.specs.Pairs.{Unfolds, AreFunctions, AreLight, left_signals, right_signals}
+use Rattle.plain_asked.proofs.Sound.{AreSound}
+use Rattle.plain_asked.proofs.Refusals.{is_order, lefts_within, rights_within, left_light, right_light}
 use Rattle.plain_asked_under.specs.Asked.{AreAskedUnder, CanBeDecided}
 use Rattle.plain_asked_under.specs.Formed.{FormedUnder}
 use Rattle.plain_asked_under.specs.Refusals.{refusal_of, refusal_under}

@@ -3,8 +3,8 @@ use Rattle.std.proofs.Common.{◌∙◌, List, sym, ap, subst}
 use Rattle.outcome.specs.declared.verdict.PairResult.{PairResult}
 use Rattle.obligations.specs.Decided.{HaveDecided}
 use Rattle.obligations.specs.Verdict.{IsVerdictAt}
-use Rattle.plain_meaning.specs.Outcome.{greatest_size}
-use Rattle.plain_form.proofs.FirstPairs.{AreSound}
+use Rattle.outcome_fits.specs.Outcome.{greatest_size}
+use Rattle.plain_asked.proofs.Sound.{AreSound}
 use Rattle.plain_asked_under.specs.Shown.{CanBeShownUnder, IsShownUnder}
 use Rattle.plain_asked_under.proofs.Verdicts.{are_queries, each_fits, can_be_shown, verdict_fits}
 use Rattle.plain_asked_under.proofs.comparison.findings_under.Goals as goal

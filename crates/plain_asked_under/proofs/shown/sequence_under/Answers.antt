@@ -10,8 +10,8 @@ use Rattle.shift_variables.specs.Variables.{variables_of}
 use Rattle.shift_variables.specs.Sequences.{bits_at}
 use Rattle.assume_laws.specs.Sequences.{filled}
 use Rattle.assume_sequences.specs.Filled.{bit_of}
-use Rattle.plain_form.specs.declared.functions.Functions.{Functions}
-use Rattle.plain_form.specs.Sequences.{IsWitnessOf}
+use Rattle.plain_asked.specs.declared.functions.Functions.{Functions}
+use Rattle.plain_asked.specs.Sequences.{IsWitnessOf}
 use Rattle.plain_asked_under.specs.Shown.{IsFilledIn, IsFilledSequence}
 use Rattle.plain_asked_under.proofs.shown.sequence_under.Goals as goal
 

@@ -5,7 +5,7 @@ use Rattle.pair_decide.specs.declared.query.Query.{Query}
 use Rattle.obligations.specs.declared.obligation.Obligation.{Obligation}
 use Rattle.obligations.specs.declared.obligation.Difference.{Difference}
 use Rattle.witness_report.specs.declared.witness.Witness.{Witness}
-use Rattle.plain_form.specs.declared.functions.Functions.{Functions}
+use Rattle.plain_asked.specs.declared.functions.Functions.{Functions}
 use Rattle.plain_asked_under.specs.Shown.{CanBeFilled, IsShowableUnder, IsFilledSequence, IsWitnessAtUnder}
 use Rattle.plain_asked_under.proofs.shown.witness_under.Goals as goal
 

@@ -2,9 +2,9 @@
 use Rattle.std.proofs.Common.{◌≡◌, ◌<◌, List, Err, length, sym, subst, rules}
 use Rattle.std.specs.List.{All}
 use Rattle.interface.specs.declared.pairs.SignalPair.{SignalPair}
-use Rattle.plain_form.specs.Formed.{Formed}
-use Rattle.plain_form.specs.Pairs.{Unfolds, AreFunctions, AreLight, left_signals, right_signals}
-use Rattle.plain_form.proofs.Outcomes.{is_order, lefts_within, rights_within, left_light, right_light, refusal_formed}
+use Rattle.plain_asked.specs.Formed.{Formed}
+use Rattle.plain_asked.specs.Pairs.{Unfolds, AreFunctions, AreLight, left_signals, right_signals}
+use Rattle.plain_asked.proofs.Refusals.{is_order, lefts_within, rights_within, left_light, right_light, refusal_formed}
 use Rattle.plain_form.proofs.comparison.compare_plain.Goals as goal
 
 pub unfold_pairs-requires-clause-left_order : goal.unfold_pairs-requires-clause-left_order

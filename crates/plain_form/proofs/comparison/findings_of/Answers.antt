@@ -5,10 +5,11 @@ use Rattle.obligations.specs.declared.obligation.Obligation.{Obligation}
 use Rattle.obligations.specs.Asked as graph_level
 use Rattle.obligations.specs.Decided.{HaveDecided}
 use Rattle.obligations.specs.Verdict.{IsVerdictAt}
-use Rattle.plain_form.specs.Asked.{AreAsked}
-use Rattle.plain_meaning.specs.Outcome.{greatest_size}
+use Rattle.plain_asked.specs.Asked.{AreAsked}
+use Rattle.outcome_fits.specs.Outcome.{greatest_size}
 use Rattle.plain_form.specs.Shown.{CanBeShown, IsShown}
-use Rattle.plain_form.proofs.FirstPairs.{AreSound, own_pairs, pairs_fit}
+use Rattle.plain_asked.proofs.Sound.{AreSound, own_pairs}
+use Rattle.plain_form.proofs.FirstPairs.{pairs_fit}
 use Rattle.plain_form.proofs.Outcomes.{verdict_fits, can_be_shown, are_asked}
 use Rattle.plain_form.proofs.comparison.findings_of.Goals as goal
 

@@ -5,9 +5,10 @@ use Rattle.obligations.specs.declared.obligation.Obligation.{Obligation}
 use Rattle.obligations.specs.Asked as graph_level
 use Rattle.obligations.specs.Decided.{HaveDecided}
 use Rattle.obligations.specs.Verdict.{IsVerdictAt}
-use Rattle.reset_functions.specs.Outcome.{greatest_size}
+use Rattle.outcome_fits.specs.ResetOutcome.{greatest_size}
 use Rattle.reset_form.specs.Shown.{CanBeShown, IsShown}
-use Rattle.reset_form.proofs.FirstPairs.{AreSound, own_pairs, pairs_fit, queries_are}
+use Rattle.reset_form.proofs.FirstPairs.{own_pairs, pairs_fit, queries_are}
+use Rattle.reset_asked.proofs.Sound.{AreSound}
 use Rattle.reset_form.proofs.Outcomes.{verdict_fits, can_be_shown}
 use Rattle.reset_form.proofs.comparison.findings_of.Goals as goal
 

@@ -1,7 +1,7 @@
 -- The outcome of what is found by the setup, in which no latch is cut open.
-use Rattle.std.proofs.Common.{◌≡◌, ◌∙◌, [], length, sym, subst, Ok}
+use Rattle.std.proofs.Common.{◌≡◌, ◌∙◌, [], length, sym, subst, Ok, None}
 use Rattle.outcome.specs.declared.verdict.Outcome.{Outcome}
-use Rattle.plain_form.specs.declared.comparison.Findings.{Findings}
+use Rattle.plain_asked.specs.declared.findings.Findings.{Findings}
 use Rattle.sec_setup.proofs.Uncut.{uncut}
 use Rattle.compare_base.specs.Compared.{Compared}
 use Rattle.compare_base.proofs.Forms.{in_reset}
@@ -23,7 +23,7 @@ returns-in-Ok c =
     let none : s.exposed ≡ [] = c.in_ok-setup.ensures.exposed ∙ c.requires.chosen.closed c.requires.uncut in
     subst (λ (o : Outcome). Compared n.left.now n.right.now c.args.settings.now (Ok o)) (sym c.outcome_of.ensures)
     (subst (λ (f : Findings). Compared n.left.now n.right.now c.args.settings.now
-    (Ok (record { inputs = s.inputs; left_latches = length n.left.now.latches; right_latches = length n.right.now.latches; exposed = s.exposed; classes = 0; pairs = f.pairs; through = f.through; verdict = f.verdict }))) (sym c.findings_of.ensures)
+    (Ok (record { inputs = s.inputs; left_latches = length n.left.now.latches; right_latches = length n.right.now.latches; assumed = None; exposed = s.exposed; classes = 0; pairs = f.pairs; through = f.through; verdict = f.verdict }))) (sym c.findings_of.ensures)
     (in_reset _ c.args.settings.now.reset c.requires.reset
     (outcome_is_compared_from n.left.now n.right.now s c.in_ok-setup.ensures.setup none c.args.settings.now c.in-Ok.findings c.in-Ok.ensures c.keeps.ensures.sound c.keeps-2.ensures.sound c.requires.right c.requires.matches)))
 

@@ -5,7 +5,8 @@ use Rattle.job_base.specs.Reading.{ReadFailedAfter}
 use Rattle.job_files.specs.Reading.{ReadFailed}
 use Rattle.gen_meaning.proofs.Means.{gen_ends}
 use Rattle.sec_run.specs.Answer.{IsFoundOfJob}
-use Rattle.sec_run.specs.Job.{paths_of, GoesOn, IsAllowed}
+use Rattle.command_line.specs.Allowed.{IsAllowed}
+use Rattle.sec_run.specs.Job.{paths_of, GoesOn}
 use Rattle.sec_run.proofs.calls.find.Goals as goal
 
 pub check-requires-clause-uncut : goal.check-requires-clause-uncut

@@ -7,7 +7,7 @@ use Rattle.job_base.proofs.Meaning.{no_read_fault}
 use Rattle.sec_run.specs.Answer.{IsTaken, IsFinding}
 use Rattle.sec_run.specs.Job.{paths_in, GoesOnIn}
 use Rattle.sec_run.specs.Promises.{Means, IsComplete}
-use Rattle.sec_run.proofs.Allowed.{is_allowed}
+use Rattle.command_line.proofs.Allowed.{is_allowed}
 use Rattle.sec_run.proofs.Means.{written_ends}
 use Rattle.sec_run.proofs.Promises.{means, memory_means, written_is_complete, memory_is_complete}
 use Rattle.sec_run.proofs.calls.run.Goals as goal

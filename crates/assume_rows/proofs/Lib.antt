@@ -1,0 +1,5 @@
+pub mod Spelled
+pub mod Shape
+pub mod Weights
+pub mod Meeting
+pub mod Examples

@@ -1,0 +1,5 @@
+pub mod Queries
+pub mod Shapes
+pub mod Premises
+pub mod Refused
+pub mod Taking

@@ -1,0 +1,5 @@
+pub mod Refusals
+pub mod Asked
+pub mod Taken
+pub mod Premises
+pub mod Functions

@@ -1,0 +1,5 @@
+pub mod Answers
+pub mod Designs
+pub mod ResetTexts
+pub mod Sequences
+pub mod Texts

@@ -1,0 +1,5 @@
+pub mod Agreement
+pub mod Answers
+pub mod Meets
+pub mod Resets
+pub mod Texts

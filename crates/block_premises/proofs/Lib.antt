@@ -1,0 +1,4 @@
+pub mod NetWeights
+pub mod ByBlocks
+pub mod TurningNets
+pub mod EqualByBlocks

@@ -1,0 +1,17 @@
+//! That the premises of what is promised of comparisons by blocks of latches are met. The functions do nothing: each contract is an example.
+#![tactic(auto)]
+
+ghost use Rattle.block_premises.specs.ByBlocks.{TextsCanBeJudged};
+ghost use Rattle.block_premises.specs.EqualByBlocks.{AreEqualByBlocks};
+
+/// Two `and`s by other rows, a circuit with a cycle of latches and itself, and a retiming that moves initial values along can be judged by
+/// blocks of latches.
+pub fn texts_can_be_judged()
+    ensures { TextsCanBeJudged }
+{}
+
+/// A latch that turns with its input, and two that turn each other with it, are one block of the coarsest inductive partition, over which
+/// the outputs are equal.
+pub fn are_equal_by_blocks()
+    ensures { AreEqualByBlocks }
+{}

@@ -1,0 +1,35 @@
+-- What a comparison asks for.
+use Rattle.std.specs.Prelude.{ℕ, List, [], ◌∷◌, Option, Some, None}
+use Rattle.circuit_theory.specs.declared.Mode.{Mode}
+use Rattle.circuit_theory.specs.declared.Mode.TheVariants.{Plain, Event}
+use Rattle.sec_base.specs.declared.settings.Settings.{Settings}
+
+-- the paths of two files that are to be compared, how, and that of the assumption where there is one
+pub record Check : Type 0 where
+  pub left : List ℕ
+  pub right : List ℕ
+  pub settings : Settings
+  pub assumed : Option (List ℕ)
+
+-- what is said of a comparison in this mode, where that is built, and where it isn't: the plain mode is built
+abbrev pub WhereBuilt : Mode → Type 0 → Type 0 → Type 0
+WhereBuilt Plain built unbuilt = built
+WhereBuilt Event built unbuilt = unbuilt
+
+-- the paths that such a comparison reads of these; none where it isn't built
+abbrev pub where_built : Mode → List (List ℕ) → List (List ℕ)
+where_built Plain paths = paths
+where_built Event paths = []
+
+-- the path of the assumption, where there is one
+abbrev pub assumed_paths : Option (List ℕ) → List (List ℕ)
+assumed_paths None = []
+assumed_paths (Some path) = path ∷ []
+
+-- both paths, and that of the assumption
+abbrev pub all_paths : List ℕ → List ℕ → Option (List ℕ) → List (List ℕ)
+all_paths left right assumed = left ∷ right ∷ assumed_paths assumed
+
+-- the paths that a comparison reads, in the order of their fetches
+abbrev pub check_paths : Check → List (List ℕ)
+check_paths check = where_built check.settings.mode (all_paths check.left check.right check.assumed)

@@ -1,0 +1,3 @@
+pub mod ResetDesigns
+pub mod ResetTexts
+pub mod Texts

@@ -1,0 +1,214 @@
+-- A job of the words allows at most 200,000 conflicts, and cuts no latch open where runs begin with initial values.
+use Rattle.std.specs.Prelude.{◌==◌, ◌&&◌, option_and_then, option_map, codes, bytes_eq}
+use Rattle.std.specs.Str.Parse.{digits_value, without_leading_plus}
+use Rattle.clap.specs.Words.{Row, Text, fault_of, first_of, subcommand_of}
+use Rattle.clap.specs.ValueTests.{accepts}
+use Rattle.std.proofs.Common.{◌≡◌, ℕ, ◌≤◌, length, Bool, true, false, cond, List, refl, subst, inl, inr, ◌⊎◌, Option, Some, None}
+use Rattle.clap.proofs.ValueTestLemmas.{accepts-Accepts}
+use Rattle.circuit_theory.specs.declared.Mode.{Mode}
+use Rattle.circuit_theory.specs.declared.Mode.TheVariants.{Plain, Event}
+use Rattle.sec_base.specs.declared.settings.Settings.{Settings}
+use Rattle.command_line.specs.declared.task.Task.{Task}
+use Rattle.command_line.specs.declared.task.Task.TheVariants as task
+use Rattle.command_words.specs.Command.{sec_app, most_conflicts, any_number}
+use Rattle.command_line.specs.Jobs.{job_of, task_in, check_in, graph_in, sim_in, replay_in, gen_in, lrat_in, cert_in, induct_in, form_in, settings_in, conflicts_in, mode_in, mode_of, refuses_reset, number_of, is_set, with_word}
+use Rattle.command_line.specs.Allowed.{IsAllowed, JobsAreAllowed}
+
+some_is : {X : Type 0} {x y : X} → Some x ≡ Some y → x ≡ y
+some_is q = cc
+
+-- what was made from something was made from it
+and_then_some : {X Y : Type 0} (f : X → Option Y) (o : Option X) (y : Y) → option_and_then f o ≡ Some y → (x : X) × (o ≡ Some x) × (f x ≡ Some y)
+and_then_some f None y e = absurd (cc)
+and_then_some f (Some x) y e = (x, refl, e)
+
+map_some : {X Y : Type 0} (f : X → Y) (o : Option X) (y : Y) → option_map f o ≡ Some y → (x : X) × (o ≡ Some x) × (f x ≡ y)
+map_some f None y e = absurd (cc)
+map_some f (Some x) y e = (x, refl, some_is e)
+
+-- a choice gives what one of the two gives
+either : {X : Type 0} (b : Bool) (o p : Option X) (x : X) → cond b o p ≡ Some x → (o ≡ Some x) ⊎ (p ≡ Some x)
+either true o p x e = inl e
+either false o p x e = inr e
+
+where_true : {X : Type 0} (b : Bool) (o : Option X) (x : X) → cond b o None ≡ Some x → (b ≡ true) × (o ≡ Some x)
+where_true true o x e = (refl, e)
+where_true false o x e = absurd (cc)
+
+few : (rows : List Row) (n : ℕ) → conflicts_in rows ≡ Some n → n ≤ 200000
+few rows n e =
+    let word = and_then_some (number_of most_conflicts) (first_of (codes "conflicts") rows) n e in
+    let number = where_true (accepts false most_conflicts word.0) (Some (digits_value 10 (without_leading_plus word.0))) n word.2 in
+    subst (λ (k : ℕ). k ≤ 200000) (some_is number.1) (accepts-Accepts false most_conflicts word.0 number.0).3
+
+abbrev settings_of : List Row → Mode → ℕ → Settings
+settings_of rows mode conflicts = record { mode = mode; expose = is_set (codes "expose") rows; conflicts = conflicts; reset = is_set (codes "reset") rows }
+
+-- `--reset` stands beside no `--expose`
+plain_uncut : {m : Mode} (reset expose : Bool) → reset ≡ true → cond (reset && expose) None (Some Plain) ≡ Some m → expose ≡ false
+plain_uncut true false is e = refl
+plain_uncut true true is e = absurd (cc)
+plain_uncut false expose is e = absurd (cc)
+
+event_unset : {m : Mode} (reset : Bool) → reset ≡ true → cond (reset && true) None (Some Event) ≡ Some m → ⊥
+event_unset true is e = cc
+event_unset false is e = cc
+
+uncut : (rows : List Row) (m : Mode) → mode_in rows ≡ Some m → is_set (codes "reset") rows ≡ true → is_set (codes "expose") rows ≡ false
+uncut rows m e reset =
+    let met = and_then_some (λ mode. cond (is_set (codes "reset") rows && refuses_reset rows mode) None (Some mode)) (option_and_then mode_of (first_of (codes "mode") rows)) m e in
+    by met.0 met.2
+  where
+    by : (mode : Mode) → cond (is_set (codes "reset") rows && refuses_reset rows mode) None (Some mode) ≡ Some m → is_set (codes "expose") rows ≡ false
+    by Plain h = plain_uncut (is_set (codes "reset") rows) (is_set (codes "expose") rows) reset h
+    by Event h = absurd (event_unset (is_set (codes "reset") rows) reset h)
+
+abbrev AreAllowed : Settings → Type 0
+AreAllowed s = (s.conflicts ≤ 200000) × (s.reset ≡ true → s.expose ≡ false)
+
+allowed_settings : (rows : List Row) (s : Settings) → settings_in rows ≡ Some s → AreAllowed s
+allowed_settings rows s e =
+    let mode = and_then_some (λ m. option_map (settings_of rows m) (conflicts_in rows)) (mode_in rows) s e in
+    let conflicts = map_some (settings_of rows mode.0) (conflicts_in rows) s mode.2 in
+    subst AreAllowed conflicts.2 (few rows conflicts.0 conflicts.1, uncut rows mode.0 mode.1)
+
+allowed_check : (rows : List Row) (job : Task) → check_in rows ≡ Some job → IsAllowed job
+allowed_check rows job e =
+    let assumed : Option Text = first_of (codes "assume") rows in
+    let a = and_then_some (λ x. with_word (codes "b") rows (λ y. option_map (λ s. task.Check x y s assumed) (settings_in rows))) (first_of (codes "a") rows) job e in
+    let b = and_then_some (λ y. option_map (λ s. task.Check a.0 y s assumed) (settings_in rows)) (first_of (codes "b") rows) job a.2 in
+    let settings = map_some (λ s. task.Check a.0 b.0 s assumed) (settings_in rows) job b.2 in
+    subst IsAllowed settings.2 (allowed_settings rows settings.0 settings.1)
+
+allowed_graph : (rows : List Row) (job : Task) → graph_in rows ≡ Some job → IsAllowed job
+allowed_graph rows job e =
+    let a = and_then_some (λ x. option_map (task.Graph x) (mode_in rows)) (first_of (codes "a") rows) job e in
+    let mode = map_some (task.Graph a.0) (mode_in rows) job a.2 in
+    let allowed_here : IsAllowed (task.Graph a.0 mode.0) = tt in
+    subst IsAllowed mode.2 allowed_here
+
+allowed_sim : (rows : List Row) (job : Task) → sim_in rows ≡ Some job → IsAllowed job
+allowed_sim rows job e =
+    let power : Option Text = first_of (codes "power") rows in
+    let reset : Bool = is_set (codes "reset") rows in
+    let a = and_then_some (λ x. with_word (codes "s") rows (λ y. option_map (λ m. task.Sim x y m power reset) (mode_in rows))) (first_of (codes "a") rows) job e in
+    let s = and_then_some (λ y. option_map (λ m. task.Sim a.0 y m power reset) (mode_in rows)) (first_of (codes "s") rows) job a.2 in
+    let mode = map_some (λ m. task.Sim a.0 s.0 m power reset) (mode_in rows) job s.2 in
+    let allowed_here : IsAllowed (task.Sim a.0 s.0 mode.0 power reset) = tt in
+    subst IsAllowed mode.2 allowed_here
+
+allowed_replay : (rows : List Row) (job : Task) → replay_in rows ≡ Some job → IsAllowed job
+allowed_replay rows job e =
+    let a = and_then_some (λ x. with_word (codes "b") rows (λ y. with_word (codes "s") rows (λ z. option_map (task.Replay x y z) (mode_in rows)))) (first_of (codes "a") rows) job e in
+    let b = and_then_some (λ y. with_word (codes "s") rows (λ z. option_map (task.Replay a.0 y z) (mode_in rows))) (first_of (codes "b") rows) job a.2 in
+    let s = and_then_some (λ z. option_map (task.Replay a.0 b.0 z) (mode_in rows)) (first_of (codes "s") rows) job b.2 in
+    let mode = map_some (task.Replay a.0 b.0 s.0) (mode_in rows) job s.2 in
+    let allowed_here : IsAllowed (task.Replay a.0 b.0 s.0 mode.0) = tt in
+    subst IsAllowed mode.2 allowed_here
+
+allowed_gen : (rows : List Row) (job : Task) → gen_in rows ≡ Some job → IsAllowed job
+allowed_gen rows job e =
+    let regroup : Bool = is_set (codes "regroup") rows in
+    let n = and_then_some (λ x. option_and_then (λ y. option_map (task.Gen y regroup) (conflicts_in rows)) (number_of any_number x)) (first_of (codes "n") rows) job e in
+    let seed = and_then_some (λ y. option_map (task.Gen y regroup) (conflicts_in rows)) (number_of any_number n.0) job n.2 in
+    let conflicts = map_some (task.Gen seed.0 regroup) (conflicts_in rows) job seed.2 in
+    subst IsAllowed conflicts.2 (few rows conflicts.0 conflicts.1)
+
+allowed_lrat : (rows : List Row) (job : Task) → lrat_in rows ≡ Some job → IsAllowed job
+allowed_lrat rows job e =
+    let f = and_then_some (λ x. option_map (task.Lrat x) (first_of (codes "l") rows)) (first_of (codes "f") rows) job e in
+    let l = map_some (task.Lrat f.0) (first_of (codes "l") rows) job f.2 in
+    let allowed_here : IsAllowed (task.Lrat f.0 l.0) = tt in
+    subst IsAllowed l.2 allowed_here
+
+allowed_cert : (rows : List Row) (job : Task) → cert_in rows ≡ Some job → IsAllowed job
+allowed_cert rows job e =
+    let rest : Text → Text → Text → Option Task = λ x y p. option_and_then (λ refuted. option_map (task.Cert x y p refuted) (conflicts_in rows)) (form_in rows) in
+    let a = and_then_some (λ x. with_word (codes "b") rows (λ y. with_word (codes "pair") rows (rest x y))) (first_of (codes "a") rows) job e in
+    let b = and_then_some (λ y. with_word (codes "pair") rows (rest a.0 y)) (first_of (codes "b") rows) job a.2 in
+    let pair = and_then_some (rest a.0 b.0) (first_of (codes "pair") rows) job b.2 in
+    let refuted = and_then_some (λ r. option_map (task.Cert a.0 b.0 pair.0 r) (conflicts_in rows)) (form_in rows) job pair.2 in
+    let conflicts = map_some (task.Cert a.0 b.0 pair.0 refuted.0) (conflicts_in rows) job refuted.2 in
+    subst IsAllowed conflicts.2 (few rows conflicts.0 conflicts.1)
+
+allowed_induct : (rows : List Row) (job : Task) → induct_in rows ≡ Some job → IsAllowed job
+allowed_induct rows job e =
+    let a = and_then_some (λ x. with_word (codes "b") rows (λ y. option_map (task.Induct x y) (conflicts_in rows))) (first_of (codes "a") rows) job e in
+    let b = and_then_some (λ y. option_map (task.Induct a.0 y) (conflicts_in rows)) (first_of (codes "b") rows) job a.2 in
+    let conflicts = map_some (task.Induct a.0 b.0) (conflicts_in rows) job b.2 in
+    subst IsAllowed conflicts.2 (few rows conflicts.0 conflicts.1)
+
+-- the tasks of the subcommands behind the sixth, the fifth, the fourth, the third, the second and the first
+abbrev certs : List ℕ → List Row → Option Task
+certs name rows = cond (bytes_eq name (codes "cert")) (cert_in rows) (cond (bytes_eq name (codes "induct")) (induct_in rows) None)
+
+abbrev lrats : List ℕ → List Row → Option Task
+lrats name rows = cond (bytes_eq name (codes "lrat")) (lrat_in rows) (certs name rows)
+
+abbrev gens : List ℕ → List Row → Option Task
+gens name rows = cond (bytes_eq name (codes "gen")) (gen_in rows) (lrats name rows)
+
+abbrev replays : List ℕ → List Row → Option Task
+replays name rows = cond (bytes_eq name (codes "replay")) (replay_in rows) (gens name rows)
+
+abbrev sims : List ℕ → List Row → Option Task
+sims name rows = cond (bytes_eq name (codes "sim")) (sim_in rows) (replays name rows)
+
+abbrev graphs : List ℕ → List Row → Option Task
+graphs name rows = cond (bytes_eq name (codes "graph")) (graph_in rows) (sims name rows)
+
+allowed_certs : (name : List ℕ) (rows : List Row) (job : Task) → certs name rows ≡ Some job → IsAllowed job
+allowed_certs name rows job e = go (either (bytes_eq name (codes "cert")) (cert_in rows) (cond (bytes_eq name (codes "induct")) (induct_in rows) None) job e)
+  where
+    go : (cert_in rows ≡ Some job) ⊎ (cond (bytes_eq name (codes "induct")) (induct_in rows) None ≡ Some job) → IsAllowed job
+    go (inl h) = allowed_cert rows job h
+    go (inr h) = allowed_induct rows job (where_true (bytes_eq name (codes "induct")) (induct_in rows) job h).1
+
+allowed_lrats : (name : List ℕ) (rows : List Row) (job : Task) → lrats name rows ≡ Some job → IsAllowed job
+allowed_lrats name rows job e = go (either (bytes_eq name (codes "lrat")) (lrat_in rows) (certs name rows) job e)
+  where
+    go : (lrat_in rows ≡ Some job) ⊎ (certs name rows ≡ Some job) → IsAllowed job
+    go (inl h) = allowed_lrat rows job h
+    go (inr h) = allowed_certs name rows job h
+
+allowed_gens : (name : List ℕ) (rows : List Row) (job : Task) → gens name rows ≡ Some job → IsAllowed job
+allowed_gens name rows job e = go (either (bytes_eq name (codes "gen")) (gen_in rows) (lrats name rows) job e)
+  where
+    go : (gen_in rows ≡ Some job) ⊎ (lrats name rows ≡ Some job) → IsAllowed job
+    go (inl h) = allowed_gen rows job h
+    go (inr h) = allowed_lrats name rows job h
+
+allowed_replays : (name : List ℕ) (rows : List Row) (job : Task) → replays name rows ≡ Some job → IsAllowed job
+allowed_replays name rows job e = go (either (bytes_eq name (codes "replay")) (replay_in rows) (gens name rows) job e)
+  where
+    go : (replay_in rows ≡ Some job) ⊎ (gens name rows ≡ Some job) → IsAllowed job
+    go (inl h) = allowed_replay rows job h
+    go (inr h) = allowed_gens name rows job h
+
+allowed_sims : (name : List ℕ) (rows : List Row) (job : Task) → sims name rows ≡ Some job → IsAllowed job
+allowed_sims name rows job e = go (either (bytes_eq name (codes "sim")) (sim_in rows) (replays name rows) job e)
+  where
+    go : (sim_in rows ≡ Some job) ⊎ (replays name rows ≡ Some job) → IsAllowed job
+    go (inl h) = allowed_sim rows job h
+    go (inr h) = allowed_replays name rows job h
+
+allowed_graphs : (name : List ℕ) (rows : List Row) (job : Task) → graphs name rows ≡ Some job → IsAllowed job
+allowed_graphs name rows job e = go (either (bytes_eq name (codes "graph")) (graph_in rows) (sims name rows) job e)
+  where
+    go : (graph_in rows ≡ Some job) ⊎ (sims name rows ≡ Some job) → IsAllowed job
+    go (inl h) = allowed_graph rows job h
+    go (inr h) = allowed_sims name rows job h
+
+allowed_task : (name : List ℕ) (rows : List Row) (job : Task) → task_in name rows ≡ Some job → IsAllowed job
+allowed_task name rows job e = go (either (bytes_eq name (codes "check")) (check_in rows) (graphs name rows) job e)
+  where
+    go : (check_in rows ≡ Some job) ⊎ (graphs name rows ≡ Some job) → IsAllowed job
+    go (inl h) = allowed_check rows job h
+    go (inr h) = allowed_graphs name rows job h
+
+-- what stands behind a job of the words
+pub is_allowed : JobsAreAllowed
+is_allowed words job e =
+    let taken = where_true (length (fault_of sec_app words) == 0) (option_and_then (λ met. task_in met.0 met.1) (subcommand_of sec_app words)) job e in
+    let met = and_then_some (λ m. task_in m.0 m.1) (subcommand_of sec_app words) job taken.1 in
+    allowed_task met.0.0 met.0.1 job met.2

@@ -1,0 +1,22 @@
+-- What each job of the words keeps.
+use Rattle.std.specs.Prelude.{◌≡◌, ℕ, ◌≤◌, true, false, List, Some}
+use Rattle.clap.specs.Words.{Text}
+use Rattle.sec_base.specs.declared.limits.TheConstants.{MAX_CONFLICTS}
+use Rattle.command_line.specs.Jobs.{job_of}
+use Rattle.command_line.specs.declared.task.Task.{Task}
+use Rattle.command_line.specs.declared.task.Task.TheVariants as task
+
+-- at most 200,000 conflicts are allowed for a query, and no latch is cut open where runs begin with initial values
+abbrev pub IsAllowed : Task → Type 0
+IsAllowed (task.Check a b settings assumed) = (settings.conflicts ≤ MAX_CONFLICTS) × (settings.reset ≡ true → settings.expose ≡ false)
+IsAllowed (task.Graph a mode) = Unit {0}
+IsAllowed (task.Sim a s mode power reset) = Unit {0}
+IsAllowed (task.Replay a b s mode) = Unit {0}
+IsAllowed (task.Gen seed regroup conflicts) = conflicts ≤ MAX_CONFLICTS
+IsAllowed (task.Lrat f l) = Unit {0}
+IsAllowed (task.Cert a b pair lrat conflicts) = conflicts ≤ MAX_CONFLICTS
+IsAllowed (task.Induct a b conflicts) = conflicts ≤ MAX_CONFLICTS
+
+-- a job of words is allowed
+abbrev pub JobsAreAllowed : Type 0
+JobsAreAllowed = (words : List Text) (job : Task) → job_of words ≡ Some job → IsAllowed job

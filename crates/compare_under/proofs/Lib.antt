@@ -1,0 +1,2 @@
+pub mod CutOutcomes
+pub mod ResetOutcomes

@@ -1,0 +1,10 @@
+//! Comparing two circuits under an assumption on their inputs.
+#![tactic(auto)]
+
+mod circuits;
+mod comparison;
+mod cutting;
+mod outcomes;
+
+pub use assume_shape::ShapeFault;
+pub use comparison::compare_under;

@@ -1,0 +1,13 @@
+-- The proofs of an outcome whose verdict is the limit of a pair.
+use Rattle.std.specs.List.{filter_map}
+use Rattle.std.proofs.Common.{◌≡◌, ◌++◌, ap}
+use Rattle.outcome.specs.declared.verdict.LimitAt.TheVariants as limit_at
+use Rattle.outcome.specs.declared.verdict.Outcome.{Outcome}
+use Rattle.outcome.specs.declared.verdict.PairResult.{PairResult}
+use Rattle.outcome.specs.declared.verdict.Verdict.{Verdict}
+use Rattle.outcome.specs.declared.verdict.Verdict.TheVariants as verdict
+use Rattle.job_base.specs.Written.{verdict_proofs, outcome_proofs}
+
+-- they are those of its pairs
+pub pair_proofs : (o : Outcome) (name : _) → o.verdict ≡ verdict.Limit (limit_at.Pair name) → outcome_proofs o ≡ filter_map (λ (r : PairResult). r.proof) o.pairs
+pair_proofs o name e = ap (λ (v : Verdict). verdict_proofs v ++ filter_map (λ (r : PairResult). r.proof) o.pairs) e

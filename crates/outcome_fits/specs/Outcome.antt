@@ -1,0 +1,93 @@
+-- What it means that what is found of some pairs fits two circuits, in the plain form.
+use Rattle.std.specs.Prelude.{◌≡◌, ◌≢◌, ℕ, ◌<◌, Bool, true, false, List, length, Option, Some, None, slice_get}
+use Rattle.std.specs.List.{All, AllZip}
+use Rattle.circuit_theory.specs.Circuit.{Circuit}
+use Rattle.circuit_theory.specs.Fits.{IsPairDepth, IsWitness}
+use Rattle.circuit_theory.specs.Query.{Distinguishes, pair_query}
+use Rattle.circuit_theory.specs.Tree.{Tree, Unfolds, HaveEqualFunctions}
+use Rattle.sec_base.specs.declared.basics.PairAnswer.{PairAnswer}
+use Rattle.sec_base.specs.declared.basics.PairAnswer.TheVariants as answer
+use Rattle.pair_decide.specs.declared.query.Proof.{Proof}
+use Rattle.witness_report.specs.declared.witness.Witness.{Witness}
+use Rattle.outcome.specs.declared.verdict.PairResult.{PairResult}
+use Rattle.outcome.specs.declared.verdict.Verdict.{Verdict}
+use Rattle.outcome.specs.declared.verdict.Verdict.TheVariants as verdict
+use Rattle.outcome.specs.declared.verdict.Why.TheVariants as why
+use Rattle.outcome.specs.declared.verdict.LimitAt.{LimitAt}
+use Rattle.outcome.specs.declared.verdict.LimitAt.TheVariants as limit_at
+use Rattle.sec_setup.specs.Pairs.{NamedPair}
+pub use Rattle.obligations.specs.Decided.{NoneIs}
+pub use Rattle.obligations.specs.Verdict.{greatest_size}
+use Rattle.outcome_fits.specs.Limits.{IsUndecided}
+
+-- both sides of a pair unfold, to functions that some assignment makes differ
+pub record HaveDifferentFunctions {P Q : Type 0} (a : Circuit P) (b : Circuit Q) (left right : List ℕ) (p : P) (q : Q) : Type 0 where
+  pub left_depth : ℕ
+  pub right_depth : ℕ
+  pub left_tree : Tree ℕ
+  pub right_tree : Tree ℕ
+  pub left_unfolds : Unfolds a left p 0 left_depth left_tree
+  pub right_unfolds : Unfolds b right q 0 right_depth right_tree
+  pub assignment : ℕ → ℕ → Bool
+  pub differs : Distinguishes (pair_query left_tree right_tree) assignment
+
+-- how a pair is answered whose functions differ: where latches are cut open it isn't shown that the circuits differ
+abbrev pub differing : Bool → PairAnswer
+differing false = answer.Different
+differing true = answer.NotShown
+
+-- What each answer says of a pair, and the proof that stands beside it: one at the limit alone. `cut` says that latches are cut open.
+abbrev pub AnswerFits : {P Q : Type 0} → Circuit P → Circuit Q → List ℕ → List ℕ → Bool → ℕ → P → Q → PairAnswer → Option Proof → Type 0
+AnswerFits a b left right cut conflicts p q answer.Equal None = HaveEqualFunctions a b left right p q
+AnswerFits a b left right cut conflicts p q answer.Equal (Some proof) = ⊥
+AnswerFits a b left right cut conflicts p q answer.Different None = (cut ≡ false) × HaveDifferentFunctions a b left right p q
+AnswerFits a b left right cut conflicts p q answer.Different (Some proof) = ⊥
+AnswerFits a b left right cut conflicts p q answer.NotShown None = (cut ≡ true) × HaveDifferentFunctions a b left right p q
+AnswerFits a b left right cut conflicts p q answer.NotShown (Some proof) = ⊥
+AnswerFits a b left right cut conflicts p q answer.Limit None = ⊥
+AnswerFits a b left right cut conflicts p q answer.Limit (Some proof) = IsUndecided a b left right conflicts p q proof
+
+-- the result of a pair: its name, the greater of both depths, and the answer on both functions
+pub record PairFits {P Q : Type 0} (a : Circuit P) (b : Circuit Q) (left right : List ℕ) (cut : Bool) (conflicts : ℕ) (x : NamedPair P Q) (result : PairResult) : Type 0 where
+  pub name_is : result.name ≡ x.name
+  pub size_is : IsPairDepth a b x.left x.right result.size
+  pub answer_is : AnswerFits a b left right cut conflicts x.left x.right result.answer result.proof
+
+-- one result for each of these pairs, in order
+abbrev pub PairsFit : {P Q : Type 0} → Circuit P → Circuit Q → List ℕ → List ℕ → Bool → ℕ → List (NamedPair P Q) → List PairResult → Type 0
+PairsFit a b left right cut conflicts pairs results = AllZip (PairFits a b left right cut conflicts) pairs results
+
+-- The first pair with this answer, and a sequence of it over the inputs of these names: by an assignment of the variables of both
+-- functions that makes them differ, up to 16 variables the least one.
+pub record IsFirstOfAnswer {P Q : Type 0} (a : Circuit P) (b : Circuit Q) (left right : List ℕ) (columns : List (List ℕ)) (wanted : PairAnswer) (pairs : List (NamedPair P Q)) (results : List PairResult) (w : Witness) : Type 0 where
+  pub index : ℕ
+  pub place : NamedPair P Q
+  pub result : PairResult
+  pub place_is : slice_get pairs index ≡ Some place
+  pub result_is : slice_get results index ≡ Some result
+  pub answered : result.answer ≡ wanted
+  pub earlier : (i : ℕ) (r : PairResult) → i < index → slice_get results i ≡ Some r → r.answer ≢ wanted
+  pub named : w.pair ≡ place.name
+  pub cycle_is : w.cycle ≡ result.size
+  pub names_are : w.stimulus.names ≡ columns
+  pub witness : IsWitness a b left right place.left place.right (length columns) w.stimulus.rows w.cycle w.left w.right
+
+-- no pair is different, and this one is the first at its limit
+pub record IsFirstLimit (results : List PairResult) (at : LimitAt) : Type 0 where
+  pub index : ℕ
+  pub result : PairResult
+  pub result_is : slice_get results index ≡ Some result
+  pub limit : result.answer ≡ answer.Limit
+  pub earlier : (i : ℕ) (r : PairResult) → i < index → slice_get results i ≡ Some r → r.answer ≢ answer.Limit
+  pub no_difference : NoneIs answer.Different results
+  pub at_is : at ≡ limit_at.Pair result.name
+
+-- the first of different, limit and not shown that some pair has, and equal where every pair is equal
+abbrev pub VerdictFits : {P Q : Type 0} → Circuit P → Circuit Q → List ℕ → List ℕ → List (List ℕ) → List (NamedPair P Q) → List PairResult → Verdict → Type 0
+VerdictFits a b left right columns pairs results verdict.Equal = All (λ (r : PairResult). r.answer ≡ answer.Equal) results
+VerdictFits a b left right columns pairs results (verdict.Different w) = IsFirstOfAnswer a b left right columns answer.Different pairs results w
+VerdictFits a b left right columns pairs results (verdict.DifferentFrom w) = ⊥
+VerdictFits a b left right columns pairs results (verdict.Limit at) = IsFirstLimit results at
+VerdictFits a b left right columns pairs results (verdict.NotShown (why.Cut w)) =
+    NoneIs answer.Different results × NoneIs answer.Limit results × IsFirstOfAnswer a b left right columns answer.NotShown pairs results w
+VerdictFits a b left right columns pairs results (verdict.NotShown (why.Events u)) = ⊥

@@ -1,0 +1,87 @@
+-- What it means that what is found of some pairs fits two circuits whose runs begin with the latches' initial values.
+use Rattle.std.specs.Prelude.{◌≡◌, ◌≢◌, ℕ, ◌<◌, ◌≤◌, Bool, List, length, Option, Some, None, slice_get}
+use Rattle.circuit_theory.specs.Circuit.{Circuit}
+use Rattle.circuit_theory.specs.Fits.{IsPairDepth}
+use Rattle.circuit_theory.specs.Query.{Distinguishes, pair_query}
+use Rattle.circuit_theory.specs.Tree.{Tree}
+use Rattle.reset_laws.specs.Reset.{ResetUnfolds, HaveEqualResets, IsResetWitness}
+use Rattle.sec_base.specs.declared.basics.PairAnswer.{PairAnswer}
+use Rattle.sec_base.specs.declared.basics.PairAnswer.TheVariants as answer
+use Rattle.pair_decide.specs.declared.query.Proof.{Proof}
+use Rattle.outcome.specs.declared.verdict.PairResult.{PairResult}
+use Rattle.witness_report.specs.declared.witness.PairName.{PairName}
+use Rattle.sec_setup.specs.Pairs.{NamedPair}
+pub use Rattle.obligations.specs.Decided.{NoneIs}
+pub use Rattle.obligations.specs.Verdict.{greatest_size}
+use Rattle.outcome_fits.specs.ResetLimits.{IsUndecidedAt}
+use Rattle.outcome.specs.declared.verdict.ResetWitness.{ResetWitness}
+
+-- Two circuits with the numbers of their inputs' and their latches' variables, and the names of the inputs' numbers.
+pub record Numbered : Type 0 where
+  pub a : Circuit ℕ
+  pub b : Circuit ℕ
+  pub left : List ℕ
+  pub right : List ℕ
+  pub left_base : ℕ
+  pub right_base : ℕ
+  pub columns : List (List ℕ)
+
+-- both functions of a pair agree in the cycle under each assignment
+abbrev pub AgreeAt : Numbered → ℕ → ℕ → ℕ → Type 0
+AgreeAt n p q t = HaveEqualResets n.a n.b n.left n.right n.left_base n.right_base p q t
+
+-- they do in each cycle before this one
+abbrev pub AgreeBefore : Numbered → ℕ → ℕ → ℕ → Type 0
+AgreeBefore n p q t = (s : ℕ) → s < t → AgreeAt n p q s
+
+-- some assignment makes them differ in the cycle
+pub record DifferAt (n : Numbered) (p q t : ℕ) : Type 0 where
+  pub left_tree : Tree ℕ
+  pub right_tree : Tree ℕ
+  pub left_unfolds : ResetUnfolds n.a n.left n.left_base p t left_tree
+  pub right_unfolds : ResetUnfolds n.b n.right n.right_base q t right_tree
+  pub assignment : ℕ → ℕ → Bool
+  pub differs : Distinguishes (pair_query left_tree right_tree) assignment
+
+-- What each answer says of a pair of this depth, by the first of its cycles up to the depth in which it isn't equal, and the proof that
+-- stands beside it: one at the limit alone.
+abbrev pub AnswerFits : Numbered → ℕ → ℕ → ℕ → ℕ → PairAnswer → Option Proof → Type 0
+AnswerFits n conflicts p q depth answer.Equal None = (t : ℕ) → t ≤ depth → AgreeAt n p q t
+AnswerFits n conflicts p q depth answer.Equal (Some proof) = ⊥
+AnswerFits n conflicts p q depth answer.Different None = (t : ℕ) × (t ≤ depth) × AgreeBefore n p q t × DifferAt n p q t
+AnswerFits n conflicts p q depth answer.Different (Some proof) = ⊥
+AnswerFits n conflicts p q depth answer.NotShown proof = ⊥
+AnswerFits n conflicts p q depth answer.Limit None = ⊥
+AnswerFits n conflicts p q depth answer.Limit (Some proof) = (t : ℕ) × (t ≤ depth) × AgreeBefore n p q t × IsUndecidedAt n.a n.b n.left n.right n.left_base n.right_base conflicts p q t proof
+
+-- the result of a pair: its name, the greater of both depths, and the answer
+pub record PairFits (n : Numbered) (conflicts : ℕ) (x : NamedPair ℕ ℕ) (result : PairResult) : Type 0 where
+  pub name_is : result.name ≡ x.name
+  pub size_is : IsPairDepth n.a n.b x.left x.right result.size
+  pub answer_is : AnswerFits n conflicts x.left x.right result.size result.answer result.proof
+
+-- The first pair that is different, the first cycle in which it can differ, and a sequence with two power-ups that make it differ there:
+-- by an assignment of the variables of both functions, up to 16 variables the least one.
+pub record IsFirstDifference (n : Numbered) (pairs : List (NamedPair ℕ ℕ)) (results : List PairResult) (w : ResetWitness) : Type 0 where
+  pub index : ℕ
+  pub place : NamedPair ℕ ℕ
+  pub result : PairResult
+  pub place_is : slice_get pairs index ≡ Some place
+  pub result_is : slice_get results index ≡ Some result
+  pub answered : result.answer ≡ answer.Different
+  pub earlier : (i : ℕ) (r : PairResult) → i < index → slice_get results i ≡ Some r → r.answer ≢ answer.Different
+  pub named : w.witness.pair ≡ place.name
+  pub within : w.witness.cycle ≤ result.size
+  pub names_are : w.witness.stimulus.names ≡ n.columns
+  pub agree_before : AgreeBefore n place.left place.right w.witness.cycle
+  pub witness : IsResetWitness n.a n.b n.left n.right n.left_base n.right_base place.left place.right (length n.columns) w.witness.stimulus.rows w.left_power w.right_power w.witness.cycle w.witness.left w.witness.right
+
+-- no pair is different, and this one is the first at its limit
+pub record IsFirstLimit (results : List PairResult) (name : PairName) : Type 0 where
+  pub index : ℕ
+  pub result : PairResult
+  pub result_is : slice_get results index ≡ Some result
+  pub limit : result.answer ≡ answer.Limit
+  pub earlier : (i : ℕ) (r : PairResult) → i < index → slice_get results i ≡ Some r → r.answer ≢ answer.Limit
+  pub no_difference : NoneIs answer.Different results
+  pub named : name ≡ result.name

@@ -1,0 +1,32 @@
+-- A's functions stay while B is unfolded.
+use Rattle.std.proofs.Common.{◌≡◌, Err, refl, sym, subst, rules}
+use Rattle.interface.specs.declared.pairs.SignalPair.{SignalPair}
+use Rattle.plain_asked.specs.Pairs.{Unfolds, left_signals, right_signals}
+use Rattle.plain_asked.proofs.Growing.{functions_later, refused_left, refused_right}
+use Rattle.plain_asked.proofs.functions.unfold_pairs.Goals as goal
+
+pub returns-in_err-left-clause-unfolds : goal.returns-in_err-left-clause-unfolds
+returns-in_err-left-clause-unfolds c =
+    let unfolds = Unfolds c.args.a.now c.args.b.now c.args.orders.now.left c.args.orders.now.right c.args.pairs.now in
+    let same : c.from_residual-in_err-left.result ≡ Err c.in_err-left.field-0.0 = search rules in
+    subst unfolds (sym same)
+    (refused_left c.args.a.now c.args.b.now c.args.orders.now.left c.args.orders.now.right c.args.pairs.now (left_signals c.args.pairs.now) c.in_err-left.field-0.0 refl c.in_err-left.ensures.refused)
+
+pub returns-in_err-right-clause-unfolds : goal.returns-in_err-right-clause-unfolds
+returns-in_err-right-clause-unfolds c =
+    let unfolds = Unfolds c.args.a.now c.args.b.now c.args.orders.now.left c.args.orders.now.right c.args.pairs.now in
+    let same : c.from_residual-in_err-right.result ≡ Err c.in_err-right.field-0.0 = search rules in
+    subst unfolds (sym same)
+    (refused_right c.args.a.now c.args.b.now c.args.orders.now.left c.args.orders.now.right c.args.pairs.now (right_signals c.args.pairs.now) c.in_err-right.field-0.0 refl c.in_ok-left.ensures.light c.in_err-right.ensures.refused)
+
+pub returns-clause-unfolds : goal.returns-clause-unfolds
+returns-clause-unfolds c = (
+  c.in_ok-left.ensures.light,
+  c.in_ok-right.ensures.light,
+  record {
+    left_are =
+        functions_later (λ (p : SignalPair). p.left.0) c.args.a.now c.args.orders.now.left c.unfold_left.new.aig c.unfold_right.new.aig c.unfold_left.new.places c.unfold_right.new.places c.unfold_right.ensures.grows c.unfold_right.ensures.adds c.args.pairs.now c.in_ok-left.left.items
+        c.in_ok-left.ensures.unfolded;
+    right_are = c.in_ok-right.ensures.unfolded;
+  },
+)

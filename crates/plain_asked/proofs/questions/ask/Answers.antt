@@ -1,0 +1,27 @@
+-- One pair more.
+use Rattle.std.proofs.Common.{◌≡◌, ℕ, ◌+◌, ◌<◌, ◌++◌, ◌∷◌, [], List, length, take, get_or, slice_get, Some, sym, subst, arith}
+use Rattle.std.proofs.lemmas.Option.{slice_get-get_or}
+use Rattle.circuit_theory.proofs.Lists.{zip_push}
+use Rattle.obligations.specs.declared.obligation.Obligation.{Obligation}
+use Rattle.interface.specs.declared.pairs.SignalPair.{SignalPair}
+use Rattle.sec_setup.specs.declared.setup.Setup.{Setup}
+use Rattle.plain_asked.specs.declared.functions.Functions.{Functions}
+use Rattle.plain_asked.specs.Asked.{AskedOf, AreAsked}
+use Rattle.shift_variables.proofs.Assignments.{take_next}
+use Rattle.plain_asked.proofs.questions.ask.Goals as goal
+
+-- the element at a place
+element : {X : Type 0} (xs : List X) (i : ℕ) → i < length xs → (x : X) × (slice_get xs i ≡ Some x)
+element [] i h = absurd (omega (arith, h))
+element (x ∷ xs) i h = (get_or (x ∷ xs) i x, slice_get-get_or (x ∷ xs) i x h)
+
+asked_more : (s : Setup) (f : Functions) (pairs : List SignalPair) (i : ℕ) (asked made : List Obligation) (o : Obligation) → i < length pairs → ((p : SignalPair) → slice_get pairs i ≡ Some p → AskedOf s f p o) → made ≡ asked ++ o ∷ [] → AreAsked s f (take i pairs) asked → AreAsked s f (take (i + 1) pairs) made
+asked_more s f pairs i asked made o inside is same are =
+    let k = element pairs i inside in
+    subst (AreAsked s f (take (i + 1) pairs)) (sym same)
+    (subst (λ (ps : List SignalPair). AreAsked s f ps (asked ++ o ∷ [])) (sym (take_next pairs i k.0 k.1)) (zip_push (AskedOf s f) (take i pairs) asked k.0 o are (is k.0 k.1)))
+
+pub loop-i-preserved : goal.loop-i-preserved
+loop-i-preserved c =
+    let inside : c.loop-i.i < length c.args.setup.now.pairs = omega arith in
+    asked_more c.args.setup.now c.args.functions.now c.args.setup.now.pairs c.loop-i.i c.loop-i.asked.items c.push.new.self.items c.in_ok-obligation.obligation inside c.in_ok-obligation.ensures c.in_ok-push.ensures.items c.loop-i.invariant

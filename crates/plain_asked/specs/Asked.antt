@@ -1,0 +1,37 @@
+-- What is asked of pairs of signals.
+use Rattle.std.specs.Prelude.{◌≡◌, ℕ, Bool, not, List, [], ◌∷◌}
+use Rattle.std.specs.List.{AllZip}
+use Rattle.circuit_theory.specs.Fits.{IsPairDepth}
+use Rattle.flat_net.specs.View.{NetView, circuit_of}
+use Rattle.unfold_places.specs.declared.signal_function.Unfolded.{Unfolded}
+use Rattle.pair_decide.specs.declared.query.Query.{Query}
+use Rattle.obligations.specs.declared.obligation.Obligation.{Obligation}
+use Rattle.interface.specs.declared.pairs.SignalPair.{SignalPair}
+use Rattle.sec_setup.specs.declared.setup.Setup.{Setup}
+use Rattle.sec_setup.specs.Cuts.{is_cut}
+use Rattle.plain_asked.specs.declared.functions.Functions.{Functions}
+use Rattle.plain_asked.specs.Pairs.{IsFunctionOf}
+use Rattle.plain_asked.specs.Variables.{IsPairQuery}
+
+-- one query: do the two functions agree always?
+abbrev pub IsOnlyQuery : List (ℕ × ℕ) → Unfolded → Unfolded → List Query → Type 0
+IsOnlyQuery places l r queries = (q : Query) × (queries ≡ q ∷ []) × IsPairQuery places l r q
+
+-- What is asked of a pair: its name, the greater of both depths, whether no latch is cut open, and the query of both functions.
+pub record IsAskedOf (a b : NetView) (left right : List ℕ) (f : Functions) (cut : Bool) (p : SignalPair) (o : Obligation) : Type 0 where
+  pub name_is : o.name ≡ p.name
+  pub size_is : IsPairDepth (circuit_of a) (circuit_of b) p.left.0 p.right.0 o.size
+  pub decisive_is : o.decisive ≡ not cut
+  pub left_function : Unfolded
+  pub right_function : Unfolded
+  pub left_is : IsFunctionOf a left f.aig f.places p.left.0 left_function
+  pub right_is : IsFunctionOf b right f.aig f.places p.right.0 right_function
+  pub queries_are : IsOnlyQuery f.places left_function right_function o.queries
+
+-- the same of a pair of a setup
+abbrev pub AskedOf : Setup → Functions → SignalPair → Obligation → Type 0
+AskedOf s f p o = IsAskedOf s.left.now s.right.now s.orders.left s.orders.right f (is_cut s.exposed) p o
+
+-- and of some of them, in order
+abbrev pub AreAsked : Setup → Functions → List SignalPair → List Obligation → Type 0
+AreAsked s f pairs asked = AllZip (AskedOf s f) pairs asked

@@ -1,0 +1,6 @@
+pub mod Asked
+pub mod Findings
+pub mod Formed
+pub mod Pairs
+pub mod Sequences
+pub mod Variables

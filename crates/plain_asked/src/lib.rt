@@ -1,0 +1,15 @@
+//! What is asked of pairs of signals in the plain form: their functions of the inputs at earlier cycles, whether both agree always, what is
+//! found of them, and the sequence of a difference.
+#![tactic(auto)]
+
+mod error;
+mod findings;
+mod functions;
+mod questions;
+mod witness;
+
+pub use error::PlainError;
+pub use findings::Findings;
+pub use functions::{Functions, unfold_pairs};
+pub use questions::ask;
+pub use witness::witness_of;

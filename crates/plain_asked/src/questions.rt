@@ -1,0 +1,91 @@
+//! What the plain form asks of each pair.
+
+ghost use Rattle.std.specs.Prelude.{◌≡◌, ◌<◌, length, slice_get, Some, IfOk};
+ghost use Rattle.interface.specs.declared.pairs.SignalPair.{SignalPair};
+ghost use Rattle.sec_setup.specs.Setup.{IsSetup};
+ghost use Rattle.plain_asked.specs.Asked.{AreAsked, AskedOf, IsOnlyQuery};
+ghost use Rattle.plain_asked.specs.Pairs.{HaveFunctions};
+ghost use Rattle.plain_asked.specs.Variables.{AreInOrder};
+
+use crate::functions::Functions;
+use aig::Lit;
+use cbf_unfold::Unfolded;
+use obligations::{Obligation, Queries, copy_name};
+use pair_decide::Query;
+use sec_base::{NoMemory, PlaceTable};
+use sec_setup::Setup;
+use setup_depths::pair_depth;
+use shift_variables::merge_variables;
+use std::alloc::Global;
+
+/// What is asked of each pair, in order: whether both functions agree always. A difference shows that the circuits differ where no
+/// latch is cut open.
+pub fn ask(
+    alloc: Global,
+    setup: &Setup<'_>,
+    functions: &Functions,
+) -> Result<Vec<Obligation>, NoMemory>
+    requires setup { IsSetup setup.now }
+    requires functions { HaveFunctions setup.now functions.now }
+    ensures { IfOk result (λ asked. AreAsked setup.now functions.now setup.now.pairs asked.items) }
+{
+    let mut asked = Vec::new(alloc);
+    for i in 0..setup.pairs.len() {
+        let obligation = obligation_of(alloc, setup, functions, i)?;
+        asked.push(obligation)?;
+    }
+    Ok(asked)
+}
+
+/// What is asked of the pair at a place.
+fn obligation_of(
+    alloc: Global,
+    setup: &Setup<'_>,
+    functions: &Functions,
+    i: usize,
+) -> Result<Obligation, NoMemory>
+    requires setup { IsSetup setup.now }
+    requires functions { HaveFunctions setup.now functions.now }
+    requires place { i < length setup.now.pairs }
+    ensures { IfOk result (λ o. (p : SignalPair) → slice_get setup.now.pairs i ≡ Some p → AskedOf setup.now functions.now p o) }
+{
+    setup.left.keeps();
+    setup.right.keeps();
+    let pair = &setup.pairs.as_slice()[i];
+    let size = pair_depth(setup, pair.left, pair.right);
+    let queries = queries_of(
+        alloc,
+        &functions.places,
+        &functions.left[i],
+        &functions.right[i],
+    )?;
+    let name = copy_name(&pair.name)?;
+    Ok(Obligation {
+        name,
+        size,
+        decisive: !setup.is_cut(),
+        queries,
+    })
+}
+
+/// Whether two functions always agree, as one query.
+fn queries_of(
+    alloc: Global,
+    places: &PlaceTable,
+    left: &Unfolded,
+    right: &Unfolded,
+) -> Result<Queries, NoMemory>
+    requires left { AreInOrder places.now left.now.vars }
+    requires right { AreInOrder places.now right.now.vars }
+    ensures { IfOk result (IsOnlyQuery places.now left.now right.now) }
+{
+    let vars = merge_variables(alloc, places, left.vars.as_slice(), right.vars.as_slice())?;
+    let mut queries = Queries::new(alloc);
+    queries.push(Query {
+        left: left.lit,
+        right: right.lit,
+        care: Lit::TRUE,
+        vars,
+    })?;
+    Ok(queries)
+}

@@ -1,0 +1,27 @@
+-- The query of a difference, and the sequence that it gives.
+use Rattle.std.specs.Prelude.{◌≡◌, ℕ, Bool, List, length, slice_get, Some}
+use Rattle.aig.specs.declared.node.Node.{Node}
+use Rattle.aig.specs.Values.{value}
+use Rattle.pair_decide.specs.declared.query.Query.{Query}
+use Rattle.pair_decide.specs.Queries.{assigned_to}
+use Rattle.witness_report.specs.declared.witness.PairName.{PairName}
+use Rattle.witness_report.specs.declared.witness.Witness.{Witness}
+use Rattle.obligations.specs.declared.obligation.Obligation.{Obligation}
+use Rattle.obligations.specs.declared.obligation.Difference.{Difference}
+use Rattle.obligations.specs.declared.verdict.VerdictAt.TheVariants as at
+use Rattle.reset_laws.specs.Reset.{reset_rows}
+use Rattle.shift_variables.specs.Sequences.{bits_at}
+
+-- the obligation and the query of a difference
+pub record IsQueryAt (asked : List Obligation) (d : Difference) (o : Obligation) (q : Query) : Type 0 where
+  pub asked_at : slice_get asked d.pair ≡ Some o
+  pub query_at : slice_get o.queries d.query ≡ Some q
+
+-- the sequence that ends in a cycle, over the inputs of these names, with the values of both sides
+pub record IsSequenceOf (g : List Node) (places : List (ℕ × ℕ)) (q : Query) (bits : List Bool) (name : PairName) (last : ℕ) (names : List (List ℕ)) (w : Witness) : Type 0 where
+  pub pair_is : w.pair ≡ name
+  pub cycle_is : w.cycle ≡ last
+  pub left_is : w.left ≡ value g (assigned_to q.vars bits) q.left.0
+  pub right_is : w.right ≡ value g (assigned_to q.vars bits) q.right.0
+  pub names_are : w.stimulus.names ≡ names
+  pub rows_are : w.stimulus.rows ≡ reset_rows last (bits_at places q.vars bits) (length names)

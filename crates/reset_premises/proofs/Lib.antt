@@ -1,0 +1,2 @@
+pub mod ResetBounds
+pub mod ResetPremises

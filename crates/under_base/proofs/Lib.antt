@@ -1,0 +1,4 @@
+pub mod Reading
+pub mod Places
+pub mod Refusals
+pub mod Verdicts

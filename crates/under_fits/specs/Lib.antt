@@ -1,0 +1,9 @@
+pub mod Cycles
+pub mod Limits
+pub mod Outcome
+pub mod Pairs
+pub mod Places
+pub mod ResetOutcome
+pub mod ResetPlaces
+pub mod ResetVerdict
+pub mod Verdict
