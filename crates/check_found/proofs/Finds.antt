@@ -1,19 +1,22 @@
 -- What the parts of the work on the files of a comparison find.
 use Rattle.std.specs.Prelude.{IfSome, IsErrOf}
-use Rattle.std.proofs.Common.{◌≡◌, ℕ, List, [], ◌∷◌, refl, sym, subst, inl, inr, Option, Some, None, Result, Ok, Err}
+use Rattle.std.proofs.Common.{ℕ, List, [], ◌∷◌, refl, sym, subst, inl, inr, Option, Some, None, Result, Ok, Err}
 use Rattle.std.proofs.lemmas.List.Elements.{All-nil, All-cons}
+use Rattle.circuit_theory.specs.declared.Mode.{Mode}
+use Rattle.circuit_theory.specs.declared.Mode.TheVariants.{Plain, Event}
 use Rattle.sec_base.specs.Outside.{Rose, SameHeld, NoneFell}
 use Rattle.sec_base.specs.declared.settings.Settings.{Settings}
 use Rattle.flat_net.specs.View.{NetView}
+use Rattle.pair_decide.specs.declared.query.SameBy.{SameBy}
+use Rattle.assume_shape.specs.declared.shape.ShapeFault.{ShapeFault}
 use Rattle.outcome.specs.declared.verdict.Outcome.{Outcome}
-use Rattle.job_base.specs.Ends.{EndsBy}
 use Rattle.job_base.specs.declared.finding.File.TheVariants as file
 use Rattle.job_base.specs.declared.finding.Finding.{Finding}
 use Rattle.job_base.specs.declared.finding.Stop.{Stop}
 use Rattle.job_base.specs.declared.finding.Stop.TheVariants as stop
 use Rattle.compare_base.specs.declared.error.CompareError.{CompareError}
 use Rattle.compare_base.specs.declared.error.CompareError.TheVariants as compare_error
-use Rattle.compare_base.specs.Compared.{Compared}
+use Rattle.event_fits.specs.Compared.{ComparedIn}
 use Rattle.under_base.specs.Compared.{ComparedUnder}
 use Rattle.sec_files.specs.declared.loader.LoadError.{LoadError}
 use Rattle.sec_files.specs.Loading.{Loads, LoadFails, IsTooLong, HasFault, HasDesignFault, HasRecordFault}
@@ -59,6 +62,15 @@ module _ (held later : Held) (before middle now : List ℕ → ℕ) (same : Same
   pub beside_before : (right : List ℕ) (assumed : Option (List ℕ)) (r : Result Finding Stop) → EndsBeside later middle now a right settings assumed r → EndsBeside held before now a right settings assumed r
   beside_before right assumed r (inl h) = inl (h.0, later_fails (later right) (held right) (before right) (middle right) (now right) h.0 (same right) (grew right) h.1, h.2)
   beside_before right assumed r (inr h) = inr (h.0, subst (λ (o : Option (List ℕ)). IfSome o (λ y. Loads y h.0)) (same right) h.1, both_before h.0 assumed r h.2)
+
+-- nothing is refused for an assumption where there is none
+no_assumption : (mode : Mode) (a b : NetView) (settings : Settings) (fault : ShapeFault) → ComparedIn mode a b settings (Err (compare_error.Assume fault)) → ⊥
+no_assumption Plain a b settings fault h = h
+no_assumption Event a b settings fault h = h
+
+not_vacuous : (mode : Mode) (a b : NetView) (settings : Settings) (by : SameBy) → ComparedIn mode a b settings (Err (compare_error.Vacuous by)) → ⊥
+not_vacuous Plain a b settings by h = h
+not_vacuous Event a b settings by h = h
 
 module _ (held : Held) (before now : List ℕ → ℕ) (left right : List ℕ) (settings : Settings) where
   -- the comparison with this assumption
@@ -117,18 +129,18 @@ module _ (held : Held) (before now : List ℕ → ℕ) (left right : List ℕ) (
           (λ fault. of_third path (λ z. HasDesignFault z fault)) (λ place kind. of_third path (λ z. HasRecordFault z place kind)) (third_failed path (is_loaded (held left) a a_loads) (is_loaded (held right) b b_loads)) error h
 
       -- both nets are compared
-      answered_two : (r : Result Outcome CompareError) → Compared a b settings r → IsAnsweredBy held (check_with None) r
-      answered_two r c = of_both (λ x y. (m : NetView) × (k : NetView) × Loads x m × Loads y k × Compared m k settings r) (λ x y l m. (a, b, l, m, c))
+      answered_two : (r : Result Outcome CompareError) → ComparedIn settings.mode a b settings r → IsAnsweredBy held (check_with None) r
+      answered_two r c = of_both (λ x y. (m : NetView) × (k : NetView) × Loads x m × Loads y k × ComparedIn settings.mode m k settings r) (λ x y l m. (a, b, l, m, c))
 
-      two_end : (r : Result Outcome CompareError) → Compared a b settings r → Found None (compare_end settings r)
+      two_end : (r : Result Outcome CompareError) → ComparedIn settings.mode a b settings r → Found None (compare_end settings r)
       two_end (Ok o) c = (refl, answered_two (Ok o) c)
       two_end (Err (compare_error.Interface name)) c = answered_two (Err (compare_error.Interface name)) c
       two_end (Err (compare_error.Cyclic side names)) c = answered_two (Err (compare_error.Cyclic side names)) c
       two_end (Err (compare_error.Unpaired side names)) c = answered_two (Err (compare_error.Unpaired side names)) c
       two_end (Err (compare_error.TooLarge side)) c = answered_two (Err (compare_error.TooLarge side)) c
-      two_end (Err compare_error.TooManyEvents) c = absurd c
-      two_end (Err (compare_error.Assume fault)) c = absurd c
-      two_end (Err (compare_error.Vacuous by)) c = absurd c
+      two_end (Err compare_error.TooManyEvents) c = answered_two (Err compare_error.TooManyEvents) c
+      two_end (Err (compare_error.Assume fault)) c = absurd (no_assumption settings.mode a b settings fault c)
+      two_end (Err (compare_error.Vacuous by)) c = absurd (not_vacuous settings.mode a b settings by c)
       two_end (Err compare_error.NoMemory) c = tt
 
       -- or under the assumption, whose net this is

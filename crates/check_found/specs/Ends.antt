@@ -13,7 +13,7 @@ use Rattle.job_base.specs.declared.finding.Stop.{Stop}
 use Rattle.job_base.specs.declared.finding.Stop.TheVariants as stop
 use Rattle.compare_base.specs.declared.error.CompareError.{CompareError}
 use Rattle.compare_base.specs.declared.error.CompareError.TheVariants as compare_error
-use Rattle.compare_base.specs.Compared.{Compared}
+use Rattle.event_fits.specs.Compared.{ComparedIn}
 use Rattle.under_base.specs.Compared.{ComparedUnder}
 use Rattle.sec_files.specs.Loading.{Loads, LoadFails}
 use Rattle.sec_files.specs.declared.loader.LoadError.{LoadError}
@@ -45,7 +45,7 @@ CheckFound held before now check r = EndsBy (IsCheckFound held check) (ReadFaile
 -- How the work beside both nets ends. Without an assumption both are compared. Else its file isn't loaded, by what is held of it and whether a
 -- read of it failed; or both are compared under it.
 abbrev pub EndsBoth : Held → (List ℕ → ℕ) → (List ℕ → ℕ) → NetView → NetView → Settings → Option (List ℕ) → Result Finding Stop → Type 0
-EndsBoth held before now a b settings None r = (compared : Result Outcome CompareError) × Compared a b settings compared × (r ≡ compare_end settings compared)
+EndsBoth held before now a b settings None r = (compared : Result Outcome CompareError) × ComparedIn settings.mode a b settings compared × (r ≡ compare_end settings compared)
 EndsBoth held before now a b settings (Some path) r =
     ((error : LoadError) × LoadFails (held path) (Rose (before path) (now path)) error × (r ≡ load_end file.C error))
     ⊎ ((c : NetView) × (compared : Result Outcome CompareError) × IfSome (held path) (λ z. Loads z c) × ComparedUnder a b c settings compared × (r ≡ compare_end settings compared))

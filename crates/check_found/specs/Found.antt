@@ -12,7 +12,7 @@ use Rattle.job_base.specs.declared.finding.Finding.{Finding}
 use Rattle.job_base.specs.declared.finding.Finding.TheVariants as finding
 use Rattle.compare_base.specs.declared.error.CompareError.{CompareError}
 use Rattle.compare_base.specs.declared.error.CompareError.TheVariants as compare_error
-use Rattle.compare_base.specs.Compared.{Compared}
+use Rattle.event_fits.specs.Compared.{ComparedIn}
 use Rattle.under_base.specs.Compared.{ComparedUnder}
 use Rattle.sec_files.specs.Loading.{Loads, IsTooLong, HasFault, HasDesignFault, HasRecordFault}
 use Rattle.job_files.specs.Reading.{Held}
@@ -48,7 +48,7 @@ OfFile held check file.S P = ⊥
 
 -- the comparison of the nets that the texts load as answers so
 abbrev pub IsAnsweredBy : Held → Check → Result Outcome CompareError → Type 0
-IsAnsweredBy held check r = OfGiven held check check.assumed (OfNets (λ a b. Compared a b check.settings r)) (OfThreeNets (λ a b c. ComparedUnder a b c check.settings r))
+IsAnsweredBy held check r = OfGiven held check check.assumed (OfNets (λ a b. ComparedIn check.settings.mode a b check.settings r)) (OfThreeNets (λ a b c. ComparedUnder a b c check.settings r))
 
 -- it answers so under an assumption
 abbrev pub IsAnsweredUnder : Held → Check → Result Outcome CompareError → Type 0
@@ -66,7 +66,7 @@ IsRefusal held check (refusal.Design f fault) = OfFile held check f (λ x. HasDe
 IsRefusal held check (refusal.Record f place kind) = OfFile held check f (λ x. HasRecordFault x place kind)
 IsRefusal held check (refusal.Interface name) = IsAnsweredBy held check (Err (compare_error.Interface name))
 IsRefusal held check (refusal.TooLarge side) = IsAnsweredBy held check (Err (compare_error.TooLarge side))
-IsRefusal held check refusal.TooManyEvents = ⊥
+IsRefusal held check refusal.TooManyEvents = IsAnsweredBy held check (Err compare_error.TooManyEvents)
 IsRefusal held check (refusal.Assume fault) = IsAnsweredUnder held check (Err (compare_error.Assume fault))
 IsRefusal held check refusal.Vacuous = (by : SameBy) × IsAnsweredUnder held check (Err (compare_error.Vacuous by))
 IsRefusal held check (refusal.Misfit m) = ⊥
@@ -88,4 +88,4 @@ IsFoundOf held check (finding.Undecided side name proof) = ⊥
 
 -- what is found of a comparison: what is true of its files, or, where it isn't built, that
 abbrev pub IsCheckFound : Held → Check → Finding → Type 0
-IsCheckFound held check f = WhereBuilt check.settings.mode (IsFoundOf held check f) (f ≡ finding.Refused refusal.NotBuilt)
+IsCheckFound held check f = WhereBuilt check.settings.mode check.assumed (IsFoundOf held check f) (f ≡ finding.Refused refusal.NotBuilt)

@@ -1,6 +1,8 @@
 -- What the statuses equal, different, not shown and limit mean for the texts.
 use Rattle.std.specs.Prelude.{IfSome, Result, Ok}
 use Rattle.std.proofs.Common.{◌≡◌, ℕ, List, refl, subst, inl, inr, ◌⊎◌, Option, Some, None}
+use Rattle.circuit_theory.specs.declared.Mode.{Mode}
+use Rattle.circuit_theory.specs.declared.Mode.TheVariants.{Plain, Event}
 use Rattle.sec_base.specs.Outside.{Takes}
 use Rattle.sec_base.specs.declared.settings.Settings.{Settings}
 use Rattle.witness_report.specs.declared.witness.Witness.{Witness}
@@ -19,7 +21,8 @@ use Rattle.job_base.specs.declared.status.StatusName.{StatusName}
 use Rattle.job_base.specs.declared.status.StatusName.TheVariants as status
 use Rattle.job_base.specs.Written.{verdict_status, status_of, IsWrittenAs}
 use Rattle.compare_base.specs.declared.error.CompareError.{CompareError}
-use Rattle.compare_base.specs.Compared.{ByReset, Compared}
+use Rattle.compare_base.specs.Compared.{IsCompared, IsComparedFromReset}
+use Rattle.event_fits.specs.Compared.{ComparedIn, IsComparedInEvents}
 use Rattle.compare_base.proofs.Forms.{by_reset}
 use Rattle.under_base.specs.Compared.{ComparedUnder}
 use Rattle.sec_files.specs.Loading.{Loads}
@@ -27,7 +30,9 @@ use Rattle.assume_texts.specs.Answers.{EqualUnder, DifferentUnder, NotShownUnder
 use Rattle.assume_texts.proofs.Answers.{equal_under, different_under, not_shown_under, limit_under}
 use Rattle.job_files.specs.Reading.{Held}
 use Rattle.check_found.specs.Check.{Check}
-use Rattle.check_meaning.specs.Answer.{CheckMeans}
+use Rattle.check_meaning.specs.Answer.{CheckMeans, InForm}
+use Rattle.event_texts.specs.Texts.{EventTextsAgree, EventTextsDiffer, EventTextsNotShown, EventTextsUndecided}
+use Rattle.event_texts.proofs.EventTexts.{events_agree, events_always, events_differ, events_not_shown, events_undecided}
 use Rattle.check_texts.specs.Texts.{TextsAgree, TextsDiffer, TextsNotShown, TextsUndecided}
 use Rattle.check_texts.specs.Resets.{ResetsAgree, ResetsDiffer, ResetsUndecided}
 use Rattle.check_found.specs.Found.{OfGiven, OfNets, OfThreeNets, IsAnsweredBy, IsFoundOf}
@@ -38,14 +43,19 @@ if_some : {X : Type 0} {F G : X → Type 0} (o : Option X) → ((x : X) → F x 
 if_some None f h = tt
 if_some (Some x) f h = f x h
 
+-- what follows in each form follows in the one that is asked for
+in_form : {X Y Z : Type 0} (mode : Mode) (a b : NetView) (s : Settings) (o : Outcome) → (IsCompared a b s o → X) → (IsComparedFromReset a b s o → Y) → (IsComparedInEvents a b s o → Z) → ComparedIn mode a b s (Ok o) → InForm mode s.reset X Y Z
+in_form Plain a b s o f g h compared = by_reset s.reset f g compared
+in_form Event a b s o f g h compared = h compared
+
 -- what is said of the nets is said of the texts
 module _ (held : Held) (check : Check) (P : List ℕ → List ℕ → Type 0) (Q : List ℕ → List ℕ → List ℕ → Type 0) (r : Result Outcome CompareError)
-    (two : (x y : List ℕ) (a b : NetView) → Loads x a → Loads y b → Compared a b check.settings r → P x y)
+    (two : (x y : List ℕ) (a b : NetView) → Loads x a → Loads y b → ComparedIn check.settings.mode a b check.settings r → P x y)
     (three : (x y z : List ℕ) (a b c : NetView) → Loads x a → Loads y b → Loads z c → ComparedUnder a b c check.settings r → Q x y z) where
   over_nets : IsAnsweredBy held check r → OfGiven held check check.assumed P Q
   over_nets h = by check.assumed h
     where
-      by : (assumed : Option (List ℕ)) → OfGiven held check assumed (OfNets (λ a b. Compared a b check.settings r)) (OfThreeNets (λ a b c. ComparedUnder a b c check.settings r)) → OfGiven held check assumed P Q
+      by : (assumed : Option (List ℕ)) → OfGiven held check assumed (OfNets (λ a b. ComparedIn check.settings.mode a b check.settings r)) (OfThreeNets (λ a b c. ComparedUnder a b c check.settings r)) → OfGiven held check assumed P Q
       by None k = if_some (held check.left) (λ x here. if_some (held check.right) (λ y n. two x y n.0 n.1 n.2 n.3 n.4) here) k
       by (Some path) k =
           if_some (held check.left) (λ x here. if_some (held check.right) (λ y there. if_some (held path) (λ z n. three x y z n.0 n.1 n.2 n.3 n.4 n.5 n.6) there) here) k
@@ -98,9 +108,12 @@ equal_found held check before now (finding.Undecided side name proof) proofs h w
 equal_found held check before now (finding.Checked o s) proofs h w =
     let v = equal_verdict o.verdict w.1 in
     let taken = report_of before now o s check h.0 w.2 in
-    over_nets held check (λ x y. ByReset check.settings.reset (TextsAgree x y check.settings before now) (ResetsAgree x y check.settings before now)) (λ x y z. EqualUnder x y z check.settings before now) (Ok o)
+    over_nets held check
+    (λ x y. InForm check.settings.mode check.settings.reset (TextsAgree x y check.settings before now) (ResetsAgree x y check.settings before now) (EventTextsAgree x y check.settings before now))
+    (λ x y z. EqualUnder x y z check.settings before now) (Ok o)
     (λ x y a b left right.
-    by_reset check.settings.reset (λ compared. texts_agree before now check.settings o taken x y a b left right compared v) (λ compared. resets_agree before now check.settings o taken x y a b left right compared v))
+    in_form check.settings.mode a b check.settings o (λ compared. texts_agree before now check.settings o taken x y a b left right compared v) (λ compared. resets_agree before now check.settings o taken x y a b left right compared v)
+    (λ compared. events_agree before now check.settings o taken x y a b left right compared v))
     (λ x y z a b c left right assumed compared. equal_under x y z a b c left right assumed before now check.settings o taken compared v) h.1
 
 different_found : (held : Held) (check : Check) (before now : Option (List ℕ)) (f : Finding) (proofs : List Proof) → IsFoundOf held check f → IsWrittenAs before now f proofs status.Different →
@@ -117,9 +130,11 @@ different_found held check before now (finding.Judged j kept text) proofs h w = 
 different_found held check before now (finding.Undecided side name proof) proofs h w = absurd h
 different_found held check before now (finding.Checked o s) proofs h w =
     let taken = report_of before now o s check h.0 w.2 in
-    over_nets held check (λ x y. ByReset check.settings.reset (TextsDiffer x y check.settings before now) (ResetsDiffer x y check.settings before now)) (λ x y z. DifferentUnder x y z check.settings before now) (Ok o)
+    over_nets held check
+    (λ x y. InForm check.settings.mode check.settings.reset (TextsDiffer x y check.settings before now) (ResetsDiffer x y check.settings before now) (EventTextsDiffer x y check.settings before now))
+    (λ x y z. DifferentUnder x y z check.settings before now) (Ok o)
     (λ x y a b left right.
-    by_reset check.settings.reset
+    in_form check.settings.mode a b check.settings o
     (λ compared.
     elim (different_verdict o.verdict w.1) [
       | inl v ↦ texts_differ before now check.settings o taken x y a b left right compared v.0 v.1
@@ -129,6 +144,11 @@ different_found held check before now (finding.Checked o s) proofs h w =
     elim (different_verdict o.verdict w.1) [
       | inl v ↦ absurd (resets_not_always before now check.settings o taken x y a b left right compared v.0 v.1)
       | inr v ↦ resets_differ before now check.settings o taken x y a b left right compared v.0 v.1
+    ])
+    (λ compared.
+    elim (different_verdict o.verdict w.1) [
+      | inl v ↦ events_differ before now check.settings o taken x y a b left right compared v.0 v.1
+      | inr v ↦ absurd (events_always before now check.settings o taken x y a b left right compared v.0 v.1)
     ]))
     (λ x y z a b c left right assumed compared. different_under x y z a b c left right assumed before now check.settings o taken compared (different_verdict o.verdict w.1)) h.1
 
@@ -147,10 +167,12 @@ not_shown_found held check before now (finding.Undecided side name proof) proofs
 not_shown_found held check before now (finding.Checked o s) proofs h w =
     let v = not_shown_verdict o.verdict w.1 in
     let taken = report_of before now o s check h.0 w.2 in
-    over_nets held check (λ x y. ByReset check.settings.reset (TextsNotShown x y check.settings before now) ⊥) (λ x y z. NotShownUnder x y z check.settings before now) (Ok o)
+    over_nets held check (λ x y. InForm check.settings.mode check.settings.reset (TextsNotShown x y check.settings before now) ⊥ (EventTextsNotShown x y check.settings before now))
+    (λ x y z. NotShownUnder x y z check.settings before now) (Ok o)
     (λ x y a b left right.
-    by_reset check.settings.reset (λ compared. texts_not_shown before now check.settings o taken x y a b left right compared v.0 v.1)
-    (λ compared. resets_are_shown before now check.settings o taken x y a b left right compared v.0 v.1))
+    in_form check.settings.mode a b check.settings o (λ compared. texts_not_shown before now check.settings o taken x y a b left right compared v.0 v.1)
+    (λ compared. resets_are_shown before now check.settings o taken x y a b left right compared v.0 v.1)
+    (λ compared. events_not_shown before now check.settings o taken x y a b left right compared v.0 v.1))
     (λ x y z a b c left right assumed compared. not_shown_under x y z a b c left right assumed before now check.settings o taken compared v.0 v.1) h.1
 
 limit_found : (held : Held) (check : Check) (before now : Option (List ℕ)) (f : Finding) (proofs : List Proof) → IsFoundOf held check f → IsWrittenAs before now f proofs status.Limit →
@@ -168,11 +190,14 @@ limit_found held check before now (finding.Undecided side name proof) proofs h w
 limit_found held check before now (finding.Checked o s) proofs h w =
     let v = limit_verdict o.verdict w.1 in
     let taken = report_of before now o s check h.0 w.2 in
-    over_nets held check (λ x y. ByReset check.settings.reset (TextsUndecided x y check.settings proofs before now) (ResetsUndecided x y check.settings proofs before now))
+    over_nets held check
+    (λ x y.
+    InForm check.settings.mode check.settings.reset (TextsUndecided x y check.settings proofs before now) (ResetsUndecided x y check.settings proofs before now) (EventTextsUndecided x y check.settings proofs before now))
     (λ x y z. LimitUnder x y z check.settings proofs before now) (Ok o)
     (λ x y a b left right.
-    by_reset check.settings.reset (λ compared. texts_undecided before now check.settings o taken x y a b left right compared proofs v.0 v.1 w.0)
-    (λ compared. resets_undecided before now check.settings o taken x y a b left right compared proofs v.0 v.1 w.0))
+    in_form check.settings.mode a b check.settings o (λ compared. texts_undecided before now check.settings o taken x y a b left right compared proofs v.0 v.1 w.0)
+    (λ compared. resets_undecided before now check.settings o taken x y a b left right compared proofs v.0 v.1 w.0)
+    (λ compared. events_undecided before now check.settings o taken x y a b left right compared proofs v.0 v.1 w.0))
     (λ x y z a b c left right assumed compared. limit_under x y z a b c left right assumed before now check.settings o taken compared proofs v.0 v.1 w.0) h.1
 
 -- no verdict is a report on one circuit

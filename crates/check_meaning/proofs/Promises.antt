@@ -1,5 +1,5 @@
 -- What a run promises of a comparison, whether it is built or not.
-use Rattle.std.proofs.Common.{◌≡◌, ℕ, List, refl, ap, inl, inr, Option}
+use Rattle.std.proofs.Common.{◌≡◌, ℕ, List, refl, ap, inl, inr, Option, Some, None}
 use Rattle.circuit_theory.specs.declared.Mode.{Mode}
 use Rattle.circuit_theory.specs.declared.Mode.TheVariants.{Plain, Event}
 use Rattle.pair_decide.specs.declared.query.Proof.{Proof}
@@ -18,44 +18,41 @@ use Rattle.check_meaning.specs.Answer.{CanAnswer, IsAnswer, CheckMeans, CheckSay
 use Rattle.check_meaning.proofs.Means.{check_means}
 use Rattle.check_meaning.proofs.Complete.{check_answered}
 
-built_means : (held : Held) (check : Check) (before now : Option (List ℕ)) (f : Finding) (proofs : List Proof) (name : StatusName) (mode : Mode) →
-    WhereBuilt mode (IsFoundOf held check f) (f ≡ finding.Refused refusal.NotBuilt) → IsWrittenAs before now f proofs name → WhereBuilt mode (CheckMeans held check before now proofs name) (SaysNothing name)
-built_means held check before now f proofs name Plain found w = check_means held check before now f proofs name found w
-built_means held check before now f proofs name Event found w = unbuilt_means before now f proofs name found w
+built_means : (held : Held) (check : Check) (before now : Option (List ℕ)) (f : Finding) (proofs : List Proof) (name : StatusName) (mode : Mode) (assumed : Option (List ℕ)) →
+    WhereBuilt mode assumed (IsFoundOf held check f) (f ≡ finding.Refused refusal.NotBuilt) → IsWrittenAs before now f proofs name →
+    WhereBuilt mode assumed (CheckMeans held check before now proofs name) (SaysNothing name)
+built_means held check before now f proofs name Plain assumed found w = check_means held check before now f proofs name found w
+built_means held check before now f proofs name Event None found w = check_means held check before now f proofs name found w
+built_means held check before now f proofs name Event (Some path) found w = unbuilt_means before now f proofs name found w
 
 -- what a written finding means
 pub check_says : (held : Held) (check : Check) (before now : Option (List ℕ)) (f : Finding) (proofs : List Proof) (name : StatusName) →
     IsCheckFound held check f → IsWrittenAs before now f proofs name → CheckSays held check before now proofs name
-check_says held check before now f proofs name found w = built_means held check before now f proofs name check.settings.mode found w
+check_says held check before now f proofs name found w = built_means held check before now f proofs name check.settings.mode check.assumed found w
+
+-- what is true of both is true where the comparison may be built
+both_true : {X Y : Type 0} (mode : Mode) (assumed : Option (List ℕ)) → X → Y → WhereBuilt mode assumed X Y
+both_true Plain assumed x y = x
+both_true Event None x y = x
+both_true Event (Some path) x y = y
 
 -- a run that ends before it has found anything says nothing
-silent : (held : Held) (check : Check) (before now : Option (List ℕ)) (proofs : List Proof) (mode : Mode) → WhereBuilt mode (CheckMeans held check before now proofs status.NoMemory) (SaysNothing status.NoMemory)
-silent held check before now proofs Plain = tt
-silent held check before now proofs Event = tt
-
 pub silent_check : (held : Held) (check : Check) (before now : Option (List ℕ)) (proofs : List Proof) → CheckSays held check before now proofs status.NoMemory
-silent_check held check before now proofs = silent held check before now proofs check.settings.mode
-
-failed : (held : Held) (check : Check) (before now : Option (List ℕ)) (proofs : List Proof) (mode : Mode) → WhereBuilt mode (CheckMeans held check before now proofs status.ReadFault) (SaysNothing status.ReadFault)
-failed held check before now proofs Plain = tt
-failed held check before now proofs Event = tt
+silent_check held check before now proofs = both_true check.settings.mode check.assumed tt tt
 
 pub failed_check : (held : Held) (check : Check) (before now : Option (List ℕ)) (proofs : List Proof) → CheckSays held check before now proofs status.ReadFault
-failed_check held check before now proofs = failed held check before now proofs check.settings.mode
+failed_check held check before now proofs = both_true check.settings.mode check.assumed tt tt
 
 -- a comparison that can be made is answered, by what is found of it
-complete : (held : Held) (check : Check) (f : Finding) (mode : Mode) → WhereBuilt mode (IsFoundOf held check f) (f ≡ finding.Refused refusal.NotBuilt) →
-    WhereBuilt mode (CanAnswer held check → IsAnswer (status_of f)) (EndsWith status.Refused (status_of f))
-complete held check f Plain found = λ can. check_answered held check can f found
-complete held check f Event found = inl (ap status_of found)
+complete : (held : Held) (check : Check) (f : Finding) (mode : Mode) (assumed : Option (List ℕ)) → WhereBuilt mode assumed (IsFoundOf held check f) (f ≡ finding.Refused refusal.NotBuilt) →
+    WhereBuilt mode assumed (CanAnswer held check → IsAnswer (status_of f)) (EndsWith status.Refused (status_of f))
+complete held check f Plain assumed found = λ can. check_answered held check can f found
+complete held check f Event None found = λ can. check_answered held check can f found
+complete held check f Event (Some path) found = inl (ap status_of found)
 
 pub check_complete : (held : Held) (check : Check) (f : Finding) → IsCheckFound held check f → IsCheckComplete held check (status_of f)
-check_complete held check f found = complete held check f check.settings.mode found
+check_complete held check f found = complete held check f check.settings.mode check.assumed found
 
 -- so is one that ends at want of memory
-memory : (held : Held) (check : Check) (mode : Mode) → WhereBuilt mode (CanAnswer held check → IsAnswer status.NoMemory) (EndsWith status.Refused status.NoMemory)
-memory held check Plain = λ can. tt
-memory held check Event = inr refl
-
 pub memory_check : (held : Held) (check : Check) → IsCheckComplete held check status.NoMemory
-memory_check held check = memory held check check.settings.mode
+memory_check held check = both_true check.settings.mode check.assumed (λ can. tt) (inr refl)

@@ -1,5 +1,7 @@
 -- What the status of a comparison says of the texts, and when they can be compared.
-use Rattle.std.specs.Prelude.{ℕ, List, Option, Some, None, Err, IsSomeAnd}
+use Rattle.std.specs.Prelude.{ℕ, Bool, List, Option, Some, None, Err, IsSomeAnd}
+use Rattle.circuit_theory.specs.declared.Mode.{Mode}
+use Rattle.circuit_theory.specs.declared.Mode.TheVariants.{Plain, Event}
 use Rattle.sec_base.specs.declared.settings.Settings.{Settings}
 use Rattle.flat_net.specs.View.{NetView}
 use Rattle.pair_decide.specs.declared.query.Proof.{Proof}
@@ -15,6 +17,7 @@ use Rattle.sec_files.specs.Loading.{IsAccepted, Loads}
 use Rattle.job_files.specs.Reading.{Held}
 use Rattle.check_texts.specs.Resets.{ResetsAgree, ResetsDiffer, ResetsUndecided}
 use Rattle.check_texts.specs.Texts.{AreComparable, TextsAgree, TextsDiffer, TextsNotShown, TextsUndecided}
+use Rattle.event_texts.specs.Texts.{AreEventComparable, EventTextsAgree, EventTextsDiffer, EventTextsNotShown, EventTextsUndecided}
 use Rattle.assume_texts.specs.Answers.{EqualUnder, DifferentUnder, NotShownUnder, LimitUnder}
 use Rattle.check_found.specs.Check.{Check, WhereBuilt}
 use Rattle.check_found.specs.Found.{OfGiven}
@@ -27,13 +30,15 @@ pub record AreComparableUnder (x y z : List ℕ) (settings : Settings) : Type 0 
   pub fits : (a b c : NetView) → Loads x a → Loads y b → Loads z c → (fault : ShapeFault) → ComparedUnder a b c settings (Err (compare_error.Assume fault)) → ⊥
   pub met : (a b c : NetView) → Loads x a → Loads y b → Loads z c → (by : SameBy) → ComparedUnder a b c settings (Err (compare_error.Vacuous by)) → ⊥
 
--- both texts are told and can be compared, with that of the assumption where there is one
-abbrev pub CanAnswerWith : Held → Check → Option (List ℕ) → Type 0
-CanAnswerWith held check None = IsSomeAnd (held check.left) (λ x. IsSomeAnd (held check.right) (λ y. AreComparable x y check.settings.expose check.settings.reset))
-CanAnswerWith held check (Some path) = IsSomeAnd (held check.left) (λ x. IsSomeAnd (held check.right) (λ y. IsSomeAnd (held path) (λ z. AreComparableUnder x y z check.settings)))
+-- both texts are told and can be compared in this mode, with that of the assumption where there is one; in the event mode there is none
+abbrev pub CanAnswerWith : Held → Check → Mode → Option (List ℕ) → Type 0
+CanAnswerWith held check Plain None = IsSomeAnd (held check.left) (λ x. IsSomeAnd (held check.right) (λ y. AreComparable x y check.settings.expose check.settings.reset))
+CanAnswerWith held check Plain (Some path) = IsSomeAnd (held check.left) (λ x. IsSomeAnd (held check.right) (λ y. IsSomeAnd (held path) (λ z. AreComparableUnder x y z check.settings)))
+CanAnswerWith held check Event None = IsSomeAnd (held check.left) (λ x. IsSomeAnd (held check.right) (λ y. AreEventComparable x y check.settings))
+CanAnswerWith held check Event (Some path) = ⊥
 
 abbrev pub CanAnswer : Held → Check → Type 0
-CanAnswer held check = CanAnswerWith held check check.assumed
+CanAnswer held check = CanAnswerWith held check check.settings.mode check.assumed
 
 -- a verdict, or want of memory
 abbrev pub IsAnswer : StatusName → Type 0
@@ -49,25 +54,31 @@ IsAnswer status.NoMemory = Unit {0}
 IsAnswer status.Cyclic = ⊥
 IsAnswer status.Done = ⊥
 
+-- what is said of a comparison over all power-ups, of one from initial values, and of one in the event mode
+abbrev pub InForm : Mode → Bool → Type 0 → Type 0 → Type 0 → Type 0
+InForm Plain reset always from_reset events = ByReset reset always from_reset
+InForm Event reset always from_reset events = events
+
 -- What the status says of the texts that are compared, two or under an assumption three, and of what is written: a comparison makes no report
 -- on circuits.
 abbrev pub CheckMeans : Held → Check → Option (List ℕ) → Option (List ℕ) → List Proof → StatusName → Type 0
 CheckMeans held check before now proofs status.Equal =
-    OfGiven held check check.assumed (λ x y. ByReset check.settings.reset (TextsAgree x y check.settings before now) (ResetsAgree x y check.settings before now)) (λ x y z. EqualUnder x y z check.settings before now)
+    OfGiven held check check.assumed (λ x y. InForm check.settings.mode check.settings.reset (TextsAgree x y check.settings before now) (ResetsAgree x y check.settings before now) (EventTextsAgree x y check.settings before now)) (λ x y z. EqualUnder x y z check.settings before now)
 CheckMeans held check before now proofs status.Different =
-    OfGiven held check check.assumed (λ x y. ByReset check.settings.reset (TextsDiffer x y check.settings before now) (ResetsDiffer x y check.settings before now)) (λ x y z. DifferentUnder x y z check.settings before now)
+    OfGiven held check check.assumed (λ x y. InForm check.settings.mode check.settings.reset (TextsDiffer x y check.settings before now) (ResetsDiffer x y check.settings before now) (EventTextsDiffer x y check.settings before now)) (λ x y z. DifferentUnder x y z check.settings before now)
 CheckMeans held check before now proofs status.NotShown =
-    OfGiven held check check.assumed (λ x y. ByReset check.settings.reset (TextsNotShown x y check.settings before now) ⊥) (λ x y z. NotShownUnder x y z check.settings before now)
+    OfGiven held check check.assumed (λ x y. InForm check.settings.mode check.settings.reset (TextsNotShown x y check.settings before now) ⊥ (EventTextsNotShown x y check.settings before now)) (λ x y z. NotShownUnder x y z check.settings before now)
 CheckMeans held check before now proofs status.Limit =
-    OfGiven held check check.assumed (λ x y. ByReset check.settings.reset (TextsUndecided x y check.settings proofs before now) (ResetsUndecided x y check.settings proofs before now))
+    OfGiven held check check.assumed (λ x y.
+    InForm check.settings.mode check.settings.reset (TextsUndecided x y check.settings proofs before now) (ResetsUndecided x y check.settings proofs before now) (EventTextsUndecided x y check.settings proofs before now))
     (λ x y z. LimitUnder x y z check.settings proofs before now)
 CheckMeans held check before now proofs status.Done = ⊥
 CheckMeans held check before now proofs other = Unit {0}
 
 -- what the status of a comparison says, whether it is built or not
 abbrev pub CheckSays : Held → Check → Option (List ℕ) → Option (List ℕ) → List Proof → StatusName → Type 0
-CheckSays held check before now proofs name = WhereBuilt check.settings.mode (CheckMeans held check before now proofs name) (SaysNothing name)
+CheckSays held check before now proofs name = WhereBuilt check.settings.mode check.assumed (CheckMeans held check before now proofs name) (SaysNothing name)
 
 -- A comparison that can be made is answered, if no read and no write fails; one that isn't built is told so.
 abbrev pub IsCheckComplete : Held → Check → StatusName → Type 0
-IsCheckComplete held check name = WhereBuilt check.settings.mode (CanAnswer held check → IsAnswer name) (EndsWith status.Refused name)
+IsCheckComplete held check name = WhereBuilt check.settings.mode check.assumed (CanAnswer held check → IsAnswer name) (EndsWith status.Refused name)

@@ -8,7 +8,7 @@ use Rattle.event_nodes.specs.View.{EventCircuitView, Enabled}
 use Rattle.class_queries.specs.Enables.{both_of}
 use Rattle.event_classes.specs.declared.map.ClassMap.{ClassMap}
 use Rattle.event_classes.specs.Map.{IsClassMapOf}
-use Rattle.pair_events.specs.View.{IsEvents, IsWithinLimits}
+use Rattle.pair_events.specs.View.{IsEvents}
 use Rattle.class_events.specs.Made.{events_in}
 
 depths_of : (a e : EventCircuitView) → e ≡ record a { classes = e.classes } → LatchesHaveDepths (circuit_of a.net) (Enabled a) → LatchesHaveDepths (circuit_of e.net) (Enabled e)
@@ -22,6 +22,3 @@ made_events a b m left right is = record {
   left_depths = depths_of a m.left is.left left;
   right_depths = depths_of b m.right is.right right;
 }
-
-pub made_within : (a b : EventCircuitView) (m : ClassMap) → IsClassMapOf a b m → IsWithinLimits (events_in m)
-made_within a b m is = record { left = is.made.within.left; right = is.made.within.right; nodes = is.made.within.nodes }

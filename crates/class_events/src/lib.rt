@@ -3,5 +3,8 @@
 
 pub mod laws;
 mod making;
+mod separated;
 
-pub use making::{events_of, of_map};
+pub use class_separations::Apart;
+pub use making::{Separated, events_of, of_map};
+pub use separated::apart_at;

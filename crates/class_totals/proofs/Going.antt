@@ -141,7 +141,7 @@ module _ (a b : EventCircuitView) (old : List (ℕ × ℕ)) (taken : List (Eithe
       all = λ y m. inr (enable_start l, Contains-head (enable_start l) [], sym (only (right_moved (enable_start l)) y m));
     }) node
 
-    left_both : AreStartsOfBoth (h.starts ++ left_moved (enable_start l) ∷ []) (h.lefts ++ enable_start l ∷ []) h.rights
+    pub left_both : AreStartsOfBoth (h.starts ++ left_moved (enable_start l) ∷ []) (h.lefts ++ enable_start l ∷ []) h.rights
     left_both = record {
       left = λ x m. to x (Contains-append_cases h.lefts (enable_start l ∷ []) x m);
       right = λ x m. Contains-append_left h.starts (left_moved (enable_start l) ∷ []) (right_moved x) (h.both.right x m);
@@ -162,7 +162,7 @@ module _ (a b : EventCircuitView) (old : List (ℕ × ℕ)) (taken : List (Eithe
         from y (inl m) = old_of y (h.both.all y m)
         from y (inr m) = inl (enable_start l, Contains-append_right h.lefts (enable_start l ∷ []) (enable_start l) (Contains-head (enable_start l) []), sym (only (left_moved (enable_start l)) y m))
 
-    right_both : AreStartsOfBoth (h.starts ++ right_moved (enable_start l) ∷ []) h.lefts (h.rights ++ enable_start l ∷ [])
+    pub right_both : AreStartsOfBoth (h.starts ++ right_moved (enable_start l) ∷ []) h.lefts (h.rights ++ enable_start l ∷ [])
     right_both = record {
       left = λ x m. Contains-append_left h.starts (right_moved (enable_start l) ∷ []) (left_moved x) (h.both.left x m);
       right = λ x m. to x (Contains-append_cases h.rights (enable_start l ∷ []) x m);

@@ -21,7 +21,7 @@ use Rattle.class_queries.specs.Enables.{both_of}
 use Rattle.class_totals.specs.Totals.{HasNodes}
 use Rattle.class_totals.specs.Laws.{TotalsAreWithin, ManyNodesAreOver, HeavyIsOver, FewNodesAreWithin}
 use Rattle.class_totals.proofs.Nodes.{node_more, root_path, path_later, pairs_more}
-use Rattle.class_totals.proofs.Going.{left_moved, right_moved, starts_more, left_start, right_start, left_node, right_node, left_nodes, right_nodes}
+use Rattle.class_totals.proofs.Going.{left_moved, right_moved, starts_more, left_start, right_start, left_node, right_node, left_nodes, right_nodes, left_both, right_both}
 
 -- all nodes were made, and they aren't too many
 nodes_within : {P : Type 0} (s : EventSide P) (children : List (ℕ × ℕ)) (starts : List (Start P)) → length children < 10000 → HasNodes s children starts → IsNodesWithin s starts 10000
@@ -85,34 +85,48 @@ module _ {P : Type 0} (s : EventSide P) (old : List (ℕ × ℕ)) (w : EventGrap
 
 pub many_nodes_are_over : ManyNodesAreOver
 many_nodes_are_over a b old w taken j l left right sound_a sound_b parents is adds many h = (
-  λ at from. (
-    h.starts ++ left_moved (enable_start l) ∷ [],
-    starts_more a b old taken left right sound_a sound_b h (Left l.out.0) (left_moved (enable_start l)) (left_start a b old taken left right sound_a sound_b h j l at),
-    nodes_over (both_of a b) old w is adds parents h.starts (left_moved (enable_start l)) h.nodes (λ k n class low there. (left_node a b old taken left right sound_a sound_b h j l (class ∷ path_of w.children n)).1 (inl (from k n class low there))) many,
-  ),
-  λ at from. (
-    h.starts ++ right_moved (enable_start l) ∷ [],
-    starts_more a b old taken left right sound_a sound_b h (Right l.out.0) (right_moved (enable_start l)) (right_start a b old taken left right sound_a sound_b h j l at),
-    nodes_over (both_of a b) old w is adds parents h.starts (right_moved (enable_start l)) h.nodes (λ k n class low there. (right_node a b old taken left right sound_a sound_b h j l (class ∷ path_of w.children n)).1 (inr (from k n class low there))) many,
-  ),
+  λ at from. record {
+    starts = h.starts ++ left_moved (enable_start l) ∷ [];
+    are = starts_more a b old taken left right sound_a sound_b h (Left l.out.0) (left_moved (enable_start l)) (left_start a b old taken left right sound_a sound_b h j l at);
+    over = nodes_over (both_of a b) old w is adds parents h.starts (left_moved (enable_start l)) h.nodes (λ k n class low there. (left_node a b old taken left right sound_a sound_b h j l (class ∷ path_of w.children n)).1 (inl (from k n class low there))) many;
+  },
+  λ at from. record {
+    starts = h.starts ++ right_moved (enable_start l) ∷ [];
+    are = starts_more a b old taken left right sound_a sound_b h (Right l.out.0) (right_moved (enable_start l)) (right_start a b old taken left right sound_a sound_b h j l at);
+    over = nodes_over (both_of a b) old w is adds parents h.starts (right_moved (enable_start l)) h.nodes (λ k n class low there. (right_node a b old taken left right sound_a sound_b h j l (class ∷ path_of w.children n)).1 (inr (from k n class low there))) many;
+  },
 )
 
 pub heavy_is_over : HeavyIsOver
-heavy_is_over a b old taken l left right h = (
-  λ over. (h.starts, h.are, (h.lefts, h.rights, h.both, over (h.lefts ++ enable_start l ∷ []) (Contains-append_right h.lefts (enable_start l ∷ []) (enable_start l) (Contains-head (enable_start l) [])) (pairs_more a old h.lefts (enable_start l) left.places h.left_counted.only))),
-  λ over. (h.starts, h.are, (h.lefts, h.rights, h.both, over (h.rights ++ enable_start l ∷ []) (Contains-append_right h.rights (enable_start l ∷ []) (enable_start l) (Contains-head (enable_start l) [])) (pairs_more b old h.rights (enable_start l) right.places h.right_counted.only))),
+heavy_is_over a b old taken j l left right sound_a sound_b h = (
+  λ at over. record {
+    starts = h.starts ++ left_moved (enable_start l) ∷ [];
+    are = starts_more a b old taken left right sound_a sound_b h (Left l.out.0) (left_moved (enable_start l)) (left_start a b old taken left right sound_a sound_b h j l at);
+    lefts = h.lefts ++ enable_start l ∷ [];
+    rights = h.rights;
+    both = left_both a b old taken left right sound_a sound_b h j l;
+    over = over (h.lefts ++ enable_start l ∷ []) (Contains-append_right h.lefts (enable_start l ∷ []) (enable_start l) (Contains-head (enable_start l) [])) (pairs_more a old h.lefts (enable_start l) left.places h.left_counted.only);
+  },
+  λ at over. record {
+    starts = h.starts ++ right_moved (enable_start l) ∷ [];
+    are = starts_more a b old taken left right sound_a sound_b h (Right l.out.0) (right_moved (enable_start l)) (right_start a b old taken left right sound_a sound_b h j l at);
+    lefts = h.lefts;
+    rights = h.rights ++ enable_start l ∷ [];
+    both = right_both a b old taken left right sound_a sound_b h j l;
+    over = over (h.rights ++ enable_start l ∷ []) (Contains-append_right h.rights (enable_start l ∷ []) (enable_start l) (Contains-head (enable_start l) [])) (pairs_more b old h.rights (enable_start l) right.places h.right_counted.only);
+  },
 )
 
 pub few_nodes_are_within : FewNodesAreWithin
 few_nodes_are_within a b old new taken j l left right sound_a sound_b parents adds few h = (
-  λ at made holds. (
-    h.starts ++ left_moved (enable_start l) ∷ [],
-    starts_more a b old taken left right sound_a sound_b h (Left l.out.0) (left_moved (enable_start l)) (left_start a b old taken left right sound_a sound_b h j l at),
-    nodes_within (both_of a b) new (h.starts ++ left_moved (enable_start l) ∷ []) few (left_nodes a b old taken left right sound_a sound_b h j l new parents adds made holds),
-  ),
-  λ at made holds. (
-    h.starts ++ right_moved (enable_start l) ∷ [],
-    starts_more a b old taken left right sound_a sound_b h (Right l.out.0) (right_moved (enable_start l)) (right_start a b old taken left right sound_a sound_b h j l at),
-    nodes_within (both_of a b) new (h.starts ++ right_moved (enable_start l) ∷ []) few (right_nodes a b old taken left right sound_a sound_b h j l new parents adds made holds),
-  ),
+  λ at made holds. record {
+    starts = h.starts ++ left_moved (enable_start l) ∷ [];
+    are = starts_more a b old taken left right sound_a sound_b h (Left l.out.0) (left_moved (enable_start l)) (left_start a b old taken left right sound_a sound_b h j l at);
+    few = nodes_within (both_of a b) new (h.starts ++ left_moved (enable_start l) ∷ []) few (left_nodes a b old taken left right sound_a sound_b h j l new parents adds made holds);
+  },
+  λ at made holds. record {
+    starts = h.starts ++ right_moved (enable_start l) ∷ [];
+    are = starts_more a b old taken left right sound_a sound_b h (Right l.out.0) (right_moved (enable_start l)) (right_start a b old taken left right sound_a sound_b h j l at);
+    few = nodes_within (both_of a b) new (h.starts ++ right_moved (enable_start l) ∷ []) few (right_nodes a b old taken left right sound_a sound_b h j l new parents adds made holds);
+  },
 )

@@ -1,8 +1,8 @@
 -- How totals go on, and what they say. Each law is the contract of a function of this crate.
 use Rattle.std.specs.Prelude.{◌≡◌, ℕ, ◌<◌, ◌≤◌, List, [], ◌∷◌, ◌++◌, length, slice_get, Some, All, Contains}
+use Rattle.circuit_theory.specs.declared.Side.TheVariants.{A, B}
 use Rattle.circuit_theory.specs.Joined.{Either, Left, Right}
 use Rattle.event_theory.specs.EventSizes.{Start, IsEventOver}
-use Rattle.event_theory.specs.EventTotals.{AreStarts, IsNodesOver, IsNodesWithin}
 use Rattle.flat_net.specs.declared.parts.LatchAt.{LatchAt}
 use Rattle.flat_net.specs.Sound.{IsSound}
 use Rattle.flat_net.specs.View.{circuit_of}
@@ -12,10 +12,9 @@ use Rattle.event_nodes.specs.Nodes.{EventGraphView, IsEventGraph}
 use Rattle.event_nodes.specs.View.{EventCircuitView, side_of, Enabled}
 use Rattle.event_nodes.specs.Visited.{CounterView, IsVisitedPair, AreNodesFrom, HoldsNodes}
 use Rattle.event_walk.specs.Walk.{IsCounting, HasCountedStart, enable_start}
-use Rattle.class_queries.specs.Enables.{both_of, class_map}
+use Rattle.class_queries.specs.Enables.{class_map}
 use Rattle.class_extension.specs.Laws.{IsNextGiven}
-use Rattle.class_extension.specs.Sides.{AreStartsOfBoth}
-use Rattle.class_totals.specs.Totals.{HaveCounted, AreWithin}
+use Rattle.class_totals.specs.Totals.{HaveCounted, AreWithin, ReachTooMany, ReachFew, WeighTooMuch}
 
 abbrev pub nothing : CounterView
 nothing = record { places = []; weight = 0 }
@@ -44,20 +43,18 @@ TotalsAreWithin = (a b : EventCircuitView) (w : EventGraphView) (taken : List (E
 abbrev pub ManyNodesAreOver : Type 0
 ManyNodesAreOver = (a b : EventCircuitView) (old : List (ℕ × ℕ)) (w : EventGraphView) (taken : List (Either ℕ ℕ)) (j : ℕ) (l : LatchAt) (left right : CounterView) → IsSound a.net → IsSound b.net → ((k n class : ℕ) → slice_get old k ≡ Some (n, class) → n ≤ length old) → IsEventGraph w → Adds (λ q. Unit {0}) old w.children →
     10000 ≤ length w.children → HaveCounted a b old taken left right →
-    (slice_get a.net.latches j ≡ Some l → AreNodesFrom a w.children (enable_start l) (length old) → (starts : List (Start (Either ℕ ℕ))) × AreStarts (both_of a b) (taken ++ Left l.out.0 ∷ []) [] starts × IsNodesOver (both_of a b) starts 10000)
-    × (slice_get b.net.latches j ≡ Some l → AreNodesFrom b w.children (enable_start l) (length old) → (starts : List (Start (Either ℕ ℕ))) × AreStarts (both_of a b) (taken ++ Right l.out.0 ∷ []) [] starts × IsNodesOver (both_of a b) starts 10000)
+    (slice_get a.net.latches j ≡ Some l → AreNodesFrom a w.children (enable_start l) (length old) → ReachTooMany a b (taken ++ Left l.out.0 ∷ []))
+    × (slice_get b.net.latches j ≡ Some l → AreNodesFrom b w.children (enable_start l) (length old) → ReachTooMany a b (taken ++ Right l.out.0 ∷ []))
 
 -- Where the next latch weighs too much with what was counted of its circuit, so do the unfoldings of this circuit with it.
 abbrev pub HeavyIsOver : Type 0
-HeavyIsOver = (a b : EventCircuitView) (old : List (ℕ × ℕ)) (taken : List (Either ℕ ℕ)) (l : LatchAt) (left right : CounterView) → HaveCounted a b old taken left right →
-    (((starts : List (Start ℕ)) → Contains starts (enable_start l) → All (IsVisitedPair a old starts) left.places → IsEventOver (side_of a) (Enabled a) starts 2000000) →
-    (starts : List (Start (Either ℕ ℕ))) × AreStarts (both_of a b) taken [] starts × ((lefts : List (Start ℕ)) × (rights : List (Start ℕ)) × AreStartsOfBoth starts lefts rights × IsEventOver (side_of a) (Enabled a) (lefts ++ enable_start l ∷ []) 2000000))
-    × (((starts : List (Start ℕ)) → Contains starts (enable_start l) → All (IsVisitedPair b old starts) right.places → IsEventOver (side_of b) (Enabled b) starts 2000000) →
-    (starts : List (Start (Either ℕ ℕ))) × AreStarts (both_of a b) taken [] starts × ((lefts : List (Start ℕ)) × (rights : List (Start ℕ)) × AreStartsOfBoth starts lefts rights × IsEventOver (side_of b) (Enabled b) (rights ++ enable_start l ∷ []) 2000000))
+HeavyIsOver = (a b : EventCircuitView) (old : List (ℕ × ℕ)) (taken : List (Either ℕ ℕ)) (j : ℕ) (l : LatchAt) (left right : CounterView) → IsSound a.net → IsSound b.net → HaveCounted a b old taken left right →
+    (slice_get a.net.latches j ≡ Some l → ((starts : List (Start ℕ)) → Contains starts (enable_start l) → All (IsVisitedPair a old starts) left.places → IsEventOver (side_of a) (Enabled a) starts 2000000) → WeighTooMuch A a b (taken ++ Left l.out.0 ∷ []))
+    × (slice_get b.net.latches j ≡ Some l → ((starts : List (Start ℕ)) → Contains starts (enable_start l) → All (IsVisitedPair b old starts) right.places → IsEventOver (side_of b) (Enabled b) starts 2000000) → WeighTooMuch B a b (taken ++ Right l.out.0 ∷ []))
 
 -- Where with the next latch fewer than 10,000 event nodes were made besides the root, and all that it reaches, the nodes are within their number with it.
 abbrev pub FewNodesAreWithin : Type 0
 FewNodesAreWithin = (a b : EventCircuitView) (old new : List (ℕ × ℕ)) (taken : List (Either ℕ ℕ)) (j : ℕ) (l : LatchAt) (left right : CounterView) → IsSound a.net → IsSound b.net → ((k n class : ℕ) → slice_get old k ≡ Some (n, class) → n ≤ length old) → Adds (λ q. Unit {0}) old new →
     length new < 10000 → HaveCounted a b old taken left right →
-    (slice_get a.net.latches j ≡ Some l → AreNodesFrom a new (enable_start l) (length old) → HoldsNodes a new (enable_start l) → (starts : List (Start (Either ℕ ℕ))) × AreStarts (both_of a b) (taken ++ Left l.out.0 ∷ []) [] starts × IsNodesWithin (both_of a b) starts 10000)
-    × (slice_get b.net.latches j ≡ Some l → AreNodesFrom b new (enable_start l) (length old) → HoldsNodes b new (enable_start l) → (starts : List (Start (Either ℕ ℕ))) × AreStarts (both_of a b) (taken ++ Right l.out.0 ∷ []) [] starts × IsNodesWithin (both_of a b) starts 10000)
+    (slice_get a.net.latches j ≡ Some l → AreNodesFrom a new (enable_start l) (length old) → HoldsNodes a new (enable_start l) → ReachFew a b (taken ++ Left l.out.0 ∷ []))
+    × (slice_get b.net.latches j ≡ Some l → AreNodesFrom b new (enable_start l) (length old) → HoldsNodes b new (enable_start l) → ReachFew a b (taken ++ Right l.out.0 ∷ []))

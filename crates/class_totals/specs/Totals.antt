@@ -1,9 +1,11 @@
 -- What is counted of the latches that have classes, and when it is within the numbers of the definition.
 use Rattle.std.specs.Prelude.{◌≡◌, ℕ, ◌≤◌, List, [], ◌∷◌, length, slice_get, Some, Contains}
+use Rattle.circuit_theory.specs.declared.Side.{Side}
+use Rattle.circuit_theory.specs.declared.Side.TheVariants.{A, B}
 use Rattle.circuit_theory.specs.Joined.{Either, Left, Right}
 use Rattle.circuit_theory.specs.Run.{IsEnabled}
-use Rattle.event_theory.specs.EventSizes.{Start, IsEventWeight}
-use Rattle.event_theory.specs.EventTotals.{AreStarts, IsNodesWithin, StartLatches}
+use Rattle.event_theory.specs.EventSizes.{Start, IsEventWeight, IsEventOver}
+use Rattle.event_theory.specs.EventTotals.{AreStarts, IsNodesOver, IsNodesWithin, StartLatches}
 use Rattle.event_theory.specs.Frame.{EventSide, IsNode}
 use Rattle.flat_net.specs.View.{circuit_of}
 use Rattle.event_nodes.specs.Nodes.{path_of}
@@ -45,3 +47,33 @@ pub record AreWithin (a b : EventCircuitView) (taken : List (Either ℕ ℕ)) : 
   pub right : ℕ
   pub right_is : IsEventWeight (side_of b) (Enabled b) rights right
   pub right_small : right ≤ 2000000
+
+-- the enables of these latches reach more than 10,000 event nodes
+pub record ReachTooMany (a b : EventCircuitView) (latches : List (Either ℕ ℕ)) : Type 0 where
+  pub starts : List (Start (Either ℕ ℕ))
+  pub are : AreStarts (both_of a b) latches [] starts
+  pub over : IsNodesOver (both_of a b) starts 10000
+
+-- they reach no more
+pub record ReachFew (a b : EventCircuitView) (latches : List (Either ℕ ℕ)) : Type 0 where
+  pub starts : List (Start (Either ℕ ℕ))
+  pub are : AreStarts (both_of a b) latches [] starts
+  pub few : IsNodesWithin (both_of a b) starts 10000
+
+-- the circuit of a side, and what is unfolded in it
+abbrev pub circuit_at : Side → EventCircuitView → EventCircuitView → EventCircuitView
+circuit_at A a b = a
+circuit_at B a b = b
+
+abbrev pub starts_at : Side → List (Start ℕ) → List (Start ℕ) → List (Start ℕ)
+starts_at A lefts rights = lefts
+starts_at B lefts rights = rights
+
+-- what the enables of these latches visit in the circuit of this side weighs more than 2,000,000
+pub record WeighTooMuch (side : Side) (a b : EventCircuitView) (latches : List (Either ℕ ℕ)) : Type 0 where
+  pub starts : List (Start (Either ℕ ℕ))
+  pub are : AreStarts (both_of a b) latches [] starts
+  pub lefts : List (Start ℕ)
+  pub rights : List (Start ℕ)
+  pub both : AreStartsOfBoth starts lefts rights
+  pub over : IsEventOver (side_of (circuit_at side a b)) (Enabled (circuit_at side a b)) (starts_at side lefts rights) 2000000

@@ -1,4 +1,4 @@
--- A job of the words allows at most 200,000 conflicts, and cuts no latch open where runs begin with initial values.
+-- A job of the words allows at most 200,000 conflicts; where runs begin with initial values it cuts no latch open, and its mode is plain.
 use Rattle.std.specs.Prelude.{◌==◌, ◌&&◌, option_and_then, option_map, codes, bytes_eq}
 use Rattle.std.specs.Str.Parse.{digits_value, without_leading_plus}
 use Rattle.clap.specs.Words.{Row, Text, fault_of, first_of, subcommand_of}
@@ -63,14 +63,28 @@ uncut rows m e reset =
     by Plain h = plain_uncut (is_set (codes "reset") rows) (is_set (codes "expose") rows) reset h
     by Event h = absurd (event_unset (is_set (codes "reset") rows) reset h)
 
+-- and no event mode
+plain_is : {m : Mode} (b : Bool) → cond b None (Some Plain) ≡ Some m → m ≡ Plain
+plain_is true e = absurd (cc)
+plain_is false e = cc
+
+plain : (rows : List Row) (m : Mode) → mode_in rows ≡ Some m → is_set (codes "reset") rows ≡ true → m ≡ Plain
+plain rows m e reset =
+    let met = and_then_some (λ mode. cond (is_set (codes "reset") rows && refuses_reset rows mode) None (Some mode)) (option_and_then mode_of (first_of (codes "mode") rows)) m e in
+    by met.0 met.2
+  where
+    by : (mode : Mode) → cond (is_set (codes "reset") rows && refuses_reset rows mode) None (Some mode) ≡ Some m → m ≡ Plain
+    by Plain h = plain_is (is_set (codes "reset") rows && is_set (codes "expose") rows) h
+    by Event h = absurd (event_unset (is_set (codes "reset") rows) reset h)
+
 abbrev AreAllowed : Settings → Type 0
-AreAllowed s = (s.conflicts ≤ 200000) × (s.reset ≡ true → s.expose ≡ false)
+AreAllowed s = (s.conflicts ≤ 200000) × (s.reset ≡ true → s.expose ≡ false) × (s.reset ≡ true → s.mode ≡ Plain)
 
 allowed_settings : (rows : List Row) (s : Settings) → settings_in rows ≡ Some s → AreAllowed s
 allowed_settings rows s e =
     let mode = and_then_some (λ m. option_map (settings_of rows m) (conflicts_in rows)) (mode_in rows) s e in
     let conflicts = map_some (settings_of rows mode.0) (conflicts_in rows) s mode.2 in
-    subst AreAllowed conflicts.2 (few rows conflicts.0 conflicts.1, uncut rows mode.0 mode.1)
+    subst AreAllowed conflicts.2 (few rows conflicts.0 conflicts.1, uncut rows mode.0 mode.1, plain rows mode.0 mode.1)
 
 allowed_check : (rows : List Row) (job : Task) → check_in rows ≡ Some job → IsAllowed job
 allowed_check rows job e =

@@ -1,14 +1,15 @@
 -- What each job of the words keeps.
 use Rattle.std.specs.Prelude.{◌≡◌, ℕ, ◌≤◌, true, false, List, Some}
 use Rattle.clap.specs.Words.{Text}
+use Rattle.circuit_theory.specs.declared.Mode.TheVariants.{Plain}
 use Rattle.sec_base.specs.declared.limits.TheConstants.{MAX_CONFLICTS}
 use Rattle.command_line.specs.Jobs.{job_of}
 use Rattle.command_line.specs.declared.task.Task.{Task}
 use Rattle.command_line.specs.declared.task.Task.TheVariants as task
 
--- at most 200,000 conflicts are allowed for a query, and no latch is cut open where runs begin with initial values
+-- at most 200,000 conflicts are allowed for a query; where runs begin with initial values no latch is cut open, and the mode is plain
 abbrev pub IsAllowed : Task → Type 0
-IsAllowed (task.Check a b settings assumed) = (settings.conflicts ≤ MAX_CONFLICTS) × (settings.reset ≡ true → settings.expose ≡ false)
+IsAllowed (task.Check a b settings assumed) = (settings.conflicts ≤ MAX_CONFLICTS) × (settings.reset ≡ true → settings.expose ≡ false) × (settings.reset ≡ true → settings.mode ≡ Plain)
 IsAllowed (task.Graph a mode) = Unit {0}
 IsAllowed (task.Sim a s mode power reset) = Unit {0}
 IsAllowed (task.Replay a b s mode) = Unit {0}

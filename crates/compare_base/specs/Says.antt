@@ -1,8 +1,9 @@
--- What each answer of a comparison says of the two circuits, by the form of comparing. A form that is added has a case in each.
+-- What each answer of a comparison says of the two circuits, by the form of comparing.
 use Rattle.std.specs.Prelude.{◌≡◌, ◌≢◌, ℕ, ◌<◌, Bool, List, length}
 use Rattle.std.specs.List.{Contains}
 use Rattle.circuit_theory.specs.declared.Mode.{Mode}
 use Rattle.circuit_theory.specs.declared.Mode.TheVariants.{Plain, Event}
+use Rattle.circuit_theory.specs.Agree.{Agree, AgreeOnward}
 use Rattle.circuit_theory.specs.Circuit.{Circuit}
 use Rattle.circuit_theory.specs.Cone.{latches_of}
 use Rattle.circuit_theory.specs.Run.{IsRun, IsResetRun}
@@ -14,20 +15,18 @@ use Rattle.outcome.specs.declared.verdict.ResetWitness.{ResetWitness}
 use Rattle.reset_laws.specs.Reset.{AreAlikeFromReset, TakesPower}
 use Rattle.plain_meaning.specs.Equal.{AreEqual}
 
--- what equal says; no comparison is built in the event mode, so none says it
+-- what equal says; in the event mode no pair is settled from a cycle on that is known
 abbrev pub SaysEqual : {P Q : Type 0} → Mode → Outcome → Circuit P → Circuit Q → Type 0
 SaysEqual Plain o a b = AreEqual a b o
-SaysEqual Event o a b = ⊥
+SaysEqual Event o a b = Agree Event a b × AgreeOnward Event o.exposed a b
 
 -- what different says: the sequence makes the named output differ in all runs
 abbrev pub SaysDifferent : {P Q : Type 0} → Mode → Witness → Circuit P → Circuit Q → Type 0
-SaysDifferent Plain w a b = MakesDiffer a b w
-SaysDifferent Event w a b = ⊥
+SaysDifferent mode w a b = MakesDiffer a b w
 
 -- what not shown says, where latches of these names are cut out: the sequence makes the named pair differ in all runs of what is left
 abbrev pub SaysNotShown : {P Q : Type 0} → Mode → List (List ℕ) → Witness → Circuit P → Circuit Q → Type 0
-SaysNotShown Plain names w a b = MakesCutsDiffer names a b w
-SaysNotShown Event names w a b = ⊥
+SaysNotShown mode names w a b = MakesCutsDiffer names a b w
 
 -- What different says from the latches' initial values: runs that power up as is printed begin with the initial values, and every two of
 -- them that obey the sequence have the printed values of the named outputs in the printed cycle, which differ. In no two runs with equal

@@ -12,13 +12,13 @@ use Rattle.net_alike.proofs.Ends.{gate_home}
 use Rattle.design_laws.proofs.FlatParts.{FlatDesign, latch_down, latch_up, input_down}
 
 module _ {P : Type 0} {d : Circuit P} {net : Circuit ℕ} {clocked : P → Type 0} (f : FlatDesign d net clocked) where
-  reaches_down : {p u : P} → Reaches d p u → Reaches net (f.signal p) (f.signal u)
+  pub reaches_down : {p u : P} → Reaches d p u → Reaches net (f.signal p) (f.signal u)
   reaches_down Reaches.here = Reaches.here
   reaches_down (Reaches.there (Reads.by_gate {out = out} {q = q} {fanins = fanins} {cover = cover} h k) rest) =
       Reaches.there (Reads.by_gate {fanins = map f.signal fanins} {cover = cover} (f.circuit.gate out fanins cover h) (Contains-map f.signal fanins q k)) (reaches_down rest)
   reaches_down {u = u} (Reaches.there (Reads.by_port {out = out} {from = from} h) rest) = subst (λ (i : ℕ). Reaches net i (f.signal u)) (sym (f.circuit.port out from h)) (reaches_down rest)
 
-  source_down : (p : P) → IsSource d p → IsSource net (f.signal p)
+  pub source_down : (p : P) → IsSource d p → IsSource net (f.signal p)
   source_down p (inl i) = inl (i.0, input_down f i.0 p i.1)
   source_down p (inr l) = inr (l.0, f.signal l.1, latch_down f l.0 p l.1 l.2)
 
@@ -43,11 +43,11 @@ module _ {P : Type 0} {d : Circuit P} {net : Circuit ℕ} {clocked : P → Type 
   pub cycle_down : (removed : List (List ℕ)) → HasCycle d NoneEnabled removed → HasCycle net NoneEnabled removed
   cycle_down removed h = (f.signal h.0, path_down removed h.1)
 
-  reaches_along : {p q u : P} → Follows d p q → Reaches d q u → Reaches d p u
+  pub reaches_along : {p q u : P} → Follows d p q → Reaches d q u → Reaches d p u
   reaches_along Follows.here r = r
   reaches_along (Follows.there h rest) r = Reaches.there (Reads.by_port h) (reaches_along rest r)
 
-  reaches_up : {i j : ℕ} → Reaches net i j → Reaches d (f.origin i) (f.origin j)
+  pub reaches_up : {i j : ℕ} → Reaches net i j → Reaches d (f.origin i) (f.origin j)
   reaches_up Reaches.here = Reaches.here
   reaches_up (Reaches.there (Reads.by_port {out = out} {from = from} h) rest) = absurd (f.circuit.no_port out from h)
   reaches_up {j = j} (Reaches.there (Reads.by_gate {out = i} {q = q} {fanins = fanins} {cover = cover} h k) rest) = let x = f.circuit.only (Gate i fanins cover) h in by (reaches_up rest) x.0 x.1 x.2

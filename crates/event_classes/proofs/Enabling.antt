@@ -1,5 +1,5 @@
 -- The enable of the next latch.
-use Rattle.std.proofs.Common.{ℕ, false, List, length, slice_get, Some, refl, inl, inr, ◌≡◌}
+use Rattle.std.proofs.Common.{◌≡◌, ◌<◌, ◌≤◌, ℕ, false, List, [], ◌∷◌, ◌++◌, length, slice_get, Some, refl, inl, inr, arith}
 use Rattle.circuit_theory.specs.Tree.{Tree}
 use Rattle.event_theory.specs.EventFrames.{AreNodeVariables, IsClassTree}
 use Rattle.event_nodes.specs.View.{side_of, Enabled}
@@ -19,7 +19,12 @@ use Rattle.flat_net.specs.View.{circuit_of}
 use Rattle.flat_net.proofs.Nets.{sound_is_net}
 use Rattle.event_nodes.specs.Nodes.{EventGraphView, IsEventGraph}
 use Rattle.event_nodes.specs.View.{EventCircuitView, IsEventCircuit}
-use Rattle.event_walk.specs.Walk.{enable_start}
+use Rattle.event_walk.specs.Walk.{IsCounting, HasCountedStart, enable_start}
+use Rattle.event_nodes.specs.Visited.{CounterView}
+use Rattle.std.proofs.lemmas.Option.{slice_get_within}
+use Rattle.circuit_theory.specs.Joined.{Either, Left, Right}
+use Rattle.class_totals.specs.Totals.{HaveCounted}
+use Rattle.class_totals.proofs.Going.{totals_go_on}
 use Rattle.event_order.specs.Order.{IsTagOf, place_of}
 use Rattle.event_functions.specs.Functions.{IsEnableFunctionOf}
 use Rattle.event_functions.proofs.Covering.{two_roots, own_enable_supports, care_supports}
@@ -100,3 +105,19 @@ own_on B a b w j x kept within own on =
 pub side_of_two : (side : Side) (m : ClassMap) (j : ℕ) (x : Enable) → IsEnableOn side m j x → EnableSide side m.left m.right m.events j x
 side_of_two A m j x own = own
 side_of_two B m j x own = own
+
+-- the enable of the latch with this position is counted
+pub parents_of : (w : EventGraphView) → IsEventGraph w → (k n class : ℕ) → slice_get w.children k ≡ Some (n, class) → n ≤ length w.children
+parents_of w is k n class at = let below = is.is_tree k n class at in let inside = slice_get_within w.children k (n, class) at in omega (arith, below, inside)
+
+pub left_counts : (a b : EventCircuitView) (w : EventGraphView) (new : List (ℕ × ℕ)) (taken : List (Either ℕ ℕ)) (j : ℕ) (left right more : CounterView) → IsSound a.net → IsSound b.net → IsEventGraph w → j < length a.net.latches → ((l : LatchAt) → slice_get a.net.latches j ≡ Some l → IsCounting a (enable_start l) w.children new left more) →
+    ((l : LatchAt) → slice_get a.net.latches j ≡ Some l → HasCountedStart a (enable_start l) new left more) → HaveCounted a b w.children taken left right → HaveCounted a b new (taken ++ Left (latch_at a.net j).out.0 ∷ []) more right
+left_counts a b w new taken j left right more sound_a sound_b is within counting start h =
+    let at = latch_there a.net j within in
+    (totals_go_on a b w.children new taken j (latch_at a.net j) left right more sound_a sound_b (parents_of w is) h).0 at (counting (latch_at a.net j) at) (start (latch_at a.net j) at)
+
+pub right_counts : (a b : EventCircuitView) (w : EventGraphView) (new : List (ℕ × ℕ)) (taken : List (Either ℕ ℕ)) (j : ℕ) (left right more : CounterView) → IsSound a.net → IsSound b.net → IsEventGraph w → j < length b.net.latches → ((l : LatchAt) → slice_get b.net.latches j ≡ Some l → IsCounting b (enable_start l) w.children new right more) →
+    ((l : LatchAt) → slice_get b.net.latches j ≡ Some l → HasCountedStart b (enable_start l) new right more) → HaveCounted a b w.children taken left right → HaveCounted a b new (taken ++ Right (latch_at b.net j).out.0 ∷ []) left more
+right_counts a b w new taken j left right more sound_a sound_b is within counting start h =
+    let at = latch_there b.net j within in
+    (totals_go_on a b w.children new taken j (latch_at b.net j) left right more sound_a sound_b (parents_of w is) h).1 at (counting (latch_at b.net j) at) (start (latch_at b.net j) at)

@@ -1,9 +1,11 @@
 pub mod Standing
+pub mod Naming
 pub mod Ready
 pub mod Setting
 pub mod NextLatch
 pub mod Enabling
 pub mod Found
+pub mod Refusing
 pub mod WholeMap
 pub mod Limiting
-pub mod Pairs
+pub mod Stopping

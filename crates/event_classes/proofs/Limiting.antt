@@ -1,30 +1,40 @@
 -- Where a class query met the limit.
-use Rattle.std.proofs.Common.{◌≡◌, ◌∙◌, ◌<◌, ℕ, List, ◌∷◌, length, slice_get, Option, Some, None, Result, Err, sym, subst, arith}
+use Rattle.std.proofs.Common.{◌≡◌, ◌∙◌, ◌<◌, ℕ, List, ◌∷◌, length, slice_get, Option, Some, None, Result, Err, sym, ap, subst, arith}
+use Rattle.std.specs.List.{All}
 use Rattle.std.proofs.lemmas.Option.{slice_get_within}
+use Rattle.circuit_theory.specs.declared.Side.{Side}
 use Rattle.circuit_theory.specs.Joined.{Either}
-use Rattle.event_theory.specs.EventTotals.{IsMapSoFar}
+use Rattle.event_theory.specs.EventFrames.{AreNodeVariables, IsClassTree}
+use Rattle.event_theory.specs.EventTotals.{IsAsked}
 use Rattle.event_theory.specs.Frame.{EventSide}
+use Rattle.aig.specs.declared.node.Lit.{Lit}
+use Rattle.flat_net.proofs.Nets.{some_at}
 use Rattle.flat_net.proofs.Places.{one_at}
 use Rattle.sec_base.specs.declared.basics.Tag.{Tag}
 use Rattle.pair_decide.specs.declared.query.Proof.{Proof}
-use Rattle.event_nodes.specs.Nodes.{EventGraphView}
-use Rattle.event_nodes.specs.View.{EventCircuitView}
+use Rattle.event_nodes.specs.Nodes.{EventGraphView, GrowsEvents}
+use Rattle.event_order.specs.Order.{IsTagOf}
+use Rattle.event_variables.specs.Variables.{variables_of}
+use Rattle.pair_decide.specs.declared.query.Query.{Query}
+use Rattle.enable_compare.specs.Comparing.{IsReadyEnable}
 use Rattle.enable_compare.specs.declared.compare.Enable.{Enable}
-use Rattle.class_queries.specs.Enables.{both_of}
+use Rattle.class_queries.specs.Enables.{both_of, IsEnableFunction, AsksEnables}
 use Rattle.class_queries.specs.Laws.{AreKept}
+use Rattle.class_queries.proofs.Staying.{functions_grow_with_graph}
 use Rattle.class_search.specs.declared.class.Class.{Class}
 use Rattle.class_search.specs.declared.search.Unfit.{Unfit}
 use Rattle.class_search.specs.declared.search.Unfit.TheVariants as unfit
 use Rattle.class_search.specs.Search.{IsUnfit}
 use Rattle.class_fits.specs.Members.{HaveMembers}
-use Rattle.class_fits.proofs.Fitting.{always_limit_asked, limit_asked}
+use Rattle.class_fits.proofs.Fitting.{limit_asked}
+use Rattle.class_separations.proofs.Variables.{variables_same, merged_variables}
 use Rattle.event_classes.specs.declared.error.EventError.{EventError}
 use Rattle.event_classes.specs.declared.error.EventError.TheVariants as event_error
 use Rattle.event_classes.specs.declared.map.ClassMap.{ClassMap}
-use Rattle.event_classes.specs.Limits.{IsLimitQuery, IsNamed, IsErrorOf, IsLimitAt, IsLimitOf}
-use Rattle.event_classes.specs.Map.{IsMade, IsMadeTo, IsEnableAt, places_in, taken_of}
+use Rattle.event_classes.specs.Limits.{HasMetLimit, IsLimitQuery, IsNamed, IsErrorOf}
+use Rattle.event_classes.specs.Map.{IsMade, IsEnableAt, IsOwnAt, places_in, taken_of}
+use Rattle.event_classes.specs.Steps.{IsLimitAt}
 use Rattle.event_classes.proofs.Setting.{next_enabled}
-use Rattle.event_classes.proofs.WholeMap.{next_made}
 
 -- the places of the class and of the member are of the list
 pub named_of : (s : EventSide (Either ℕ ℕ)) (v w : EventGraphView) (place : Tag → Either ℕ ℕ) (taken : List (Either ℕ ℕ)) (classes : List Class) (latch : Enable) (conflicts : ℕ) → HaveMembers s v place taken classes → (u : Unfit) → IsUnfit v w classes latch conflicts u → IsNamed classes u
@@ -48,52 +58,127 @@ error_is q = cc
 not_memory : {t : Tag} {p : Option Tag} {y : Proof} → event_error.NoMemory ≡ event_error.Limit t p y → ⊥
 not_memory e = cc
 
-module _ (m n : ClassMap) (tag : Tag) (x : Enable) (conflicts : ℕ) (kept : AreKept m.left m.right m.events) (enable : IsEnableAt m tag x) where
-  abbrev Query : Option Tag → Proof → Type 0
-  Query other proof = IsLimitQuery (both_of m.left m.right) (places_in m) (taken_of m) (places_in m tag) other conflicts proof
+same_tag : {s t : Tag} → Some s ≡ Some t → s ≡ t
+same_tag e = cc
 
-  at_limit : (latch : Tag) (other o : Option Tag) (proof p : Proof) → event_error.Limit tag o p ≡ event_error.Limit latch other proof → ((rest : List (Either ℕ ℕ)) → IsMade m (places_in m tag ∷ rest) → Query o p) → IsLimitAt m tag latch other conflicts proof
+no_tag : {t : Tag} → None ≡ Some t → ⊥
+no_tag e = cc
+
+module _ (m n : ClassMap) (tag : Tag) (x : Enable) (conflicts : ℕ) (kept : AreKept m.left m.right m.events) (enable : IsEnableAt m tag x) (ready : IsReadyEnable m.events x) (own : IsOwnAt m tag x) where
+  abbrev s : EventSide (Either ℕ ℕ)
+  s = both_of m.left m.right
+
+  abbrev Query_of : Option Tag → Proof → Type 0
+  Query_of other proof = IsLimitQuery s (places_in m) (taken_of m) (places_in m tag) other conflicts proof
+
+  abbrev Names : Option Tag → Type 0
+  Names other = (t : Tag) → other ≡ Some t → IsTagOf m.left.net m.right.net t
+
+  at_limit : (latch : Tag) (other o : Option Tag) (proof p : Proof) → event_error.Limit tag o p ≡ event_error.Limit latch other proof → ((rest : List (Either ℕ ℕ)) → IsMade m (places_in m tag ∷ rest) → Names o × Query_of o p) → IsLimitAt m tag latch other conflicts proof
   at_limit latch other o proof p e query = (
     sym (first_of e),
-    λ rest made. subst (λ (q : Proof). Query other q) (third_of e) (subst (λ (q : Option Tag). Query q p) (second_of e) (query rest made)),
+    λ rest made. subst (λ (q : Proof). Names other × Query_of other q) (third_of e) (subst (λ (q : Option Tag). Names q × Query_of q p) (second_of e) (query rest made)),
   )
 
+  module _ (rest : List (Either ℕ ℕ)) (made : IsMade m (places_in m tag ∷ rest)) where
+    function : IsEnableFunction s m.events (places_in m tag) x.value.0 x.care.0
+    function = enable (next_enabled m.left m.right (taken_of m) rest (places_in m tag) made.stand.so_far)
+
+    variables : AreNodeVariables (IsClassTree s (places_in m tag) (places_in m tag)) (variables_of m.events x.vars)
+    variables = own (next_enabled m.left m.right (taken_of m) rest (places_in m tag) made.stand.so_far)
+
+    -- against 1
+    always_query : (p : Proof) → IsUnfit m.events n.events m.classes.items x conflicts (unfit.Always p) → Query_of None p
+    always_query p (vars, k) = (
+      m.events,
+      k.query,
+      subst (λ (y : Lit). IsEnableFunction s m.events (places_in m tag) y.0 k.query.care.0) (sym k.left) (subst (λ (y : Lit). IsEnableFunction s m.events (places_in m tag) x.value.0 y.0) (sym k.care) function),
+      k.right,
+      record {
+        events = kept.events;
+        variables = subst (λ (vs : List ℕ). AreNodeVariables (IsClassTree s (places_in m tag) (places_in m tag)) (variables_of m.events vs)) (sym (k.vars ∙ k.own)) variables;
+        limit = k.decided;
+      },
+    )
+
+    later : (w : EventGraphView) → GrowsEvents m.events w → (u : Either ℕ ℕ) (vars : List ℕ) → All (λ v. v < length m.events.places) vars → AreNodeVariables (IsClassTree s u u) (variables_of m.events vars) → AreNodeVariables (IsClassTree s u u) (variables_of w vars)
+    later w grows u vars within are = subst (AreNodeVariables (IsClassTree s u u)) (sym (variables_same m.events w kept.events grows vars within)) are
+
+    -- against the enable of a member
+    member_query : (at member : ℕ) (p : Proof) → IsUnfit m.events n.events m.classes.items x conflicts (unfit.Member at member p) →
+        (c : Class) × (slice_get m.classes.items at ≡ Some c) × ((t : Tag) × (slice_get c.tags.items member ≡ Some t)
+        × ((w : EventGraphView) × (q : Query) × AsksEnables s w (places_in m t) (places_in m tag) q.left.0 q.right.0 q.care.0 × HasMetLimit s w (places_in m t) (places_in m tag) q conflicts p))
+    member_query at member p ((always, off), (told, are, long, (c, at_c, (vars, is)))) =
+        let has = made.stand.members at c at_c in
+        let inside = slice_get_within c.enables.items member is.enable is.is in
+        let t = some_at c.tags.items member (omega (arith, inside, has.paired)) in
+        let f = (has.each member t.0 is.enable t.1 is.is).function in
+        let o = made.told.own at member c t.0 is.enable at_c t.1 is.is in
+        let k = is.compared in
+        let asks : AsksEnables s is.at (places_in m t.0) (places_in m tag) is.enable.value.0 x.value.0 k.query.care.0 = record {
+          left_care = is.enable.care.0;
+          right_care = x.care.0;
+          left_is = functions_grow_with_graph s m.events is.at (places_in m t.0) is.enable.value.0 is.enable.care.0 kept.events is.since f;
+          right_is = functions_grow_with_graph s m.events is.at (places_in m tag) x.value.0 x.care.0 kept.events is.since function;
+          both = k.both;
+        } in
+        let merged = merged_variables s (places_in m t.0) (places_in m tag) is.at is.enable.vars x.vars vars k.merged (later is.at is.since (places_in m t.0) is.enable.vars o.0 o.1) (later is.at is.since (places_in m tag) x.vars ready.in_order.within variables) in (
+          c,
+          at_c,
+          (
+            t.0,
+            t.1,
+            (
+              is.at,
+              k.query,
+              subst (λ (y : Lit). AsksEnables s is.at (places_in m t.0) (places_in m tag) y.0 k.query.right.0 k.query.care.0) (sym k.left) (subst (λ (y : Lit). AsksEnables s is.at (places_in m t.0) (places_in m tag) is.enable.value.0 y.0 k.query.care.0) (sym k.right) asks),
+              record { events = is.kept; variables = subst (λ (vs : List ℕ). AreNodeVariables (IsClassTree s (places_in m t.0) (places_in m tag)) (variables_of is.at vs)) (sym k.vars) merged; limit = k.decided },
+            ),
+          ),
+        )
+
+    abbrev Met : Tag → Proof → Type 0
+    Met t p = (w : EventGraphView) × (q : Query) × AsksEnables s w (places_in m t) (places_in m tag) q.left.0 q.right.0 q.care.0 × HasMetLimit s w (places_in m t) (places_in m tag) q conflicts p
+
+    -- the member is the one that is named
+    one_member : (at member : ℕ) (c d : Class) (t u : Tag) → slice_get m.classes.items at ≡ Some c → slice_get c.tags.items member ≡ Some t → slice_get m.classes.items at ≡ Some d → slice_get d.tags.items member ≡ Some u → t ≡ u
+    one_member at member c d t u at_c at_t at_d at_u = one_at d.tags.items member t u (subst (λ (e : Class). slice_get e.tags.items member ≡ Some t) (one_at m.classes.items at c d at_c at_d) at_t) at_u
+
+    of_member : (at member : ℕ) (p : Proof) → IsUnfit m.events n.events m.classes.items x conflicts (unfit.Member at member p) → (c : Class) (t : Tag) → slice_get m.classes.items at ≡ Some c → slice_get c.tags.items member ≡ Some t → Query_of (Some t) p
+    of_member at member p is c t at_c at_t =
+        let k = limit_asked m.left m.right m.events n.events (places_in m) (taken_of m) (places_in m tag) m.classes.items x conflicts kept made.stand.members function at member p is in
+        let q = member_query at member p is in (
+          subst (λ (o : Tag). IsAsked s (taken_of m) (places_in m tag) (Some (places_in m o))) (one_member at member k.0 c k.2.0 t k.1 k.2.1 at_c at_t) k.2.2,
+          subst (λ (o : Tag). Met o p) (one_member at member q.0 c q.2.0 t q.1 q.2.1 at_c at_t) q.2.2,
+        )
+
   pub limit_at : (u : Unfit) → IsUnfit m.events n.events m.classes.items x conflicts u → (e : EventError) → IsErrorOf m.classes.items tag e u → (latch : Tag) (other : Option Tag) (proof : Proof) → e ≡ event_error.Limit latch other proof → IsLimitAt m tag latch other conflicts proof
-  limit_at (unfit.Always p) is e reply latch other proof same =
-      at_limit latch other None proof p (sym reply ∙ same) (λ rest made.
-      let k = always_limit_asked m.left m.right m.events n.events (places_in m tag) m.classes.items x conflicts (enable (next_enabled m.left m.right (taken_of m) rest (places_in m tag) made.stand.so_far)) p is in
-      (m.events, k.0, k.1, k.2, k.3))
+  limit_at (unfit.Always p) is e reply latch other proof same = at_limit latch other None proof p (sym reply ∙ same) (λ rest made. ((λ t q. absurd (no_tag q)), always_query rest made p is))
   limit_at (unfit.Member at member p) is e reply latch other proof same =
       at_limit latch other (Some reply.2.0) proof p (sym reply.2.2 ∙ same) (λ rest made.
-      let k = limit_asked m.left m.right m.events n.events (places_in m) (taken_of m) (places_in m tag) m.classes.items x conflicts kept made.stand.members (enable (next_enabled m.left m.right (taken_of m) rest (places_in m tag) made.stand.so_far)) at member p is in
-      let class : k.0 ≡ reply.0 = one_at m.classes.items at k.0 reply.0 k.1 reply.1 in
-      let member_is : k.2.0 ≡ reply.2.0 = one_at reply.0.tags.items member k.2.0 reply.2.0 (subst (λ (c : Class). slice_get c.tags.items member ≡ Some k.2.0) class k.2.1) reply.2.1 in
-      subst (λ (t : Tag). Query (Some t) p) member_is (k.2.2, k.2.3))
+      ((λ t q. subst (IsTagOf m.left.net m.right.net) (same_tag q) (made.named.members at member reply.0 reply.2.0 reply.1 reply.2.1)), of_member rest made at member p is reply.0 reply.2.0 reply.1 reply.2.1))
   limit_at unfit.NoMemory is e reply latch other proof same = absurd (not_memory (sym reply ∙ same))
 
--- the same of the map before the enable was unfolded
-pub limit_before : (m n : ClassMap) (tag : Tag) (conflicts : ℕ) → n ≡ record m { events = n.events; left_count = n.left_count; right_count = n.right_count } → ((rest : List (Either ℕ ℕ)) → IsMade m rest → IsMade n rest) → (latch : Tag) (other : Option Tag) (proof : Proof) →
-    IsLimitAt n tag latch other conflicts proof → IsLimitAt m tag latch other conflicts proof
-limit_before m n tag conflicts same made latch other proof l = (
-  l.0,
-  λ rest h. subst (λ (o : ClassMap). IsLimitQuery (both_of o.left o.right) (places_in o) (taken_of o) (places_in o tag) other conflicts proof) same
-      (l.1 rest (subst (λ (o : ClassMap). IsMade n (places_in o tag ∷ rest)) (sym same) (made (places_in m tag ∷ rest) h))),
-)
+-- a limit or want of memory is no other refusal
+pub limit_alone : (classes : List Class) (tag : Tag) (u : Unfit) (e : EventError) → IsErrorOf classes tag e u → (e ≡ event_error.TooManyEvents → ⊥) × ((side : Side) → e ≡ event_error.TooLarge side → ⊥)
+limit_alone classes tag (unfit.Always p) e reply = ((λ q. no_many (sym reply ∙ q)), λ side q. no_large (sym reply ∙ q))
+  where
+    no_many : event_error.Limit tag None p ≡ event_error.TooManyEvents → ⊥
+    no_many q = cc
 
--- the same of the circuits
-pub limit_of_latch : (m n : ClassMap) (tags : List Tag) (at : ℕ) (tag : Tag) (conflicts : ℕ) → at < length tags → slice_get tags at ≡ Some tag → IsMadeTo m n tags at → (latch : Tag) (other : Option Tag) (proof : Proof) → IsLimitAt n tag latch other conflicts proof → IsLimitOf m.left m.right latch other conflicts proof
-limit_of_latch m n tags at tag conflicts inside is made latch other proof l =
-    let next = next_made m n tags at tag inside is made in
-    record {
-      left = n.left;
-      right = n.right;
-      left_is = made.left;
-      right_is = made.right;
-      taken = taken_of n;
-      rest = next.0;
-      so_far = subst (λ (t : Tag). IsMapSoFar (both_of n.left n.right) (taken_of n) (places_in n t ∷ next.0)) (sym l.0) next.1.stand.so_far;
-      query = subst (λ (t : Tag). IsLimitQuery (both_of n.left n.right) (places_in n) (taken_of n) (places_in n t) other conflicts proof) (sym l.0) (l.1 next.0 next.1);
-    }
+    no_large : {side : Side} → event_error.Limit tag None p ≡ event_error.TooLarge side → ⊥
+    no_large q = cc
+limit_alone classes tag (unfit.Member at member p) e reply = ((λ q. no_many (sym reply.2.2 ∙ q)), λ side q. no_large (sym reply.2.2 ∙ q))
+  where
+    no_many : {o : Option Tag} → event_error.Limit tag o p ≡ event_error.TooManyEvents → ⊥
+    no_many q = cc
 
-pub limit_of_both : (a b c d : EventCircuitView) (conflicts : ℕ) → c ≡ a → d ≡ b → (latch : Tag) (other : Option Tag) (proof : Proof) → IsLimitOf c d latch other conflicts proof → IsLimitOf a b latch other conflicts proof
-limit_of_both a b c d conflicts left right latch other proof l = subst (λ (e : EventCircuitView). IsLimitOf e b latch other conflicts proof) left (subst (λ (e : EventCircuitView). IsLimitOf c e latch other conflicts proof) right l)
+    no_large : {o : Option Tag} {side : Side} → event_error.Limit tag o p ≡ event_error.TooLarge side → ⊥
+    no_large q = cc
+limit_alone classes tag unfit.NoMemory e reply = ((λ q. no_many (sym reply ∙ q)), λ side q. no_large (sym reply ∙ q))
+  where
+    no_many : event_error.NoMemory ≡ event_error.TooManyEvents → ⊥
+    no_many q = cc
+
+    no_large : {side : Side} → event_error.NoMemory ≡ event_error.TooLarge side → ⊥
+    no_large q = cc

@@ -17,7 +17,7 @@ use Rattle.flat_net.specs.View.{NetView, circuit_of}
 use Rattle.sec_base.specs.declared.basics.Tag.{Tag}
 use Rattle.event_nodes.specs.Nodes.{EventGraphView}
 use Rattle.event_nodes.specs.View.{EventCircuitView, IsEventCircuit}
-use Rattle.event_nodes.specs.Visited.{IsWeighed}
+use Rattle.event_nodes.specs.Visited.{CounterView, IsWeighed}
 use Rattle.event_order.specs.Order.{place_of, IsTagOf}
 use Rattle.class_queries.specs.Enables.{both_of, class_map}
 use Rattle.class_joining.specs.Joining.{with_class, HasJoined}
@@ -25,11 +25,14 @@ use Rattle.class_joining.proofs.Classes.{class_kept}
 use Rattle.class_joining.proofs.Giving.{class_given}
 use Rattle.class_extension.specs.Laws.{IsNextGiven}
 use Rattle.class_separations.specs.Apart.{AreToldApart}
+use Rattle.class_totals.specs.Totals.{HaveCounted}
+use Rattle.class_totals.proofs.Going.{totals_stay}
 use Rattle.flat_net.proofs.Nets.{sound_is_net}
 use Rattle.event_nodes.specs.View.{class_at}
 use Rattle.event_classes.specs.declared.map.ClassMap.{ClassMap}
+use Rattle.event_classes.specs.Named.{AreNamed}
 use Rattle.event_classes.specs.Stand.{IsStand}
-use Rattle.event_classes.specs.Map.{IsWithin, IsMade, FitsIn, IsSetOn, IsClassSet, GoesOn, places_in, taken_of}
+use Rattle.event_classes.specs.Map.{IsWithin, IsMade, FitsIn, IsSetOn, IsClassSet, Counts, GoesOn, places_in, taken_of, with_next}
 
 pub latch_there : (n : NetView) (j : ℕ) → j < length n.latches → slice_get n.latches j ≡ Some (latch_at n j)
 latch_there n j inside = slice_get-get_or n.latches j no_latch inside
@@ -107,8 +110,8 @@ module _ (m n : ClassMap) (tag : Tag) (class : ℕ) (sound_a : IsSound m.left.ne
   pub goes_on_with : ((rest : List (Either ℕ ℕ)) → IsMade m (places_in m tag ∷ rest) → HasJoined m.left m.right n.left n.right (taken_of m) rest (places_in m tag) class →
       IsStand n.left n.right m.events (places_in m) (taken_of m ++ places_in m tag ∷ []) rest n.table n.classes.items) →
       ((rest : List (Either ℕ ℕ)) → IsMade m (places_in m tag ∷ rest) → AreToldApart (record m.left { classes = n.left.classes }) (record m.right { classes = n.right.classes }) m.events (places_in m) (taken_of m ++ places_in m tag ∷ []) n.classes.items n.aparts.items) →
-      (IsWithin m → length n.classes.items ≤ 500) → GoesOn m n tag
-  goes_on_with stands told few = record {
+      (IsWithin m → length n.classes.items ≤ 500) → (AreNamed m.left.net m.right.net m.classes.items m.aparts.items → AreNamed m.left.net m.right.net n.classes.items n.aparts.items) → GoesOn m n tag (with_next m tag)
+  goes_on_with stands told few named = record {
     left = same.0;
     right = same.1;
     taken = taken;
@@ -130,14 +133,27 @@ module _ (m n : ClassMap) (tag : Tag) (class : ℕ) (sound_a : IsSound m.left.ne
           (subst (λ (us : List (Either ℕ ℕ)). AreToldApart n.left n.right m.events (places_in m) us n.classes.items n.aparts.items) (sym taken_same)
           (subst (λ (e : EventCircuitView). AreToldApart e n.right m.events (places_in m) (taken_of m ++ places_in m tag ∷ []) n.classes.items n.aparts.items) (sym same.0)
           (subst (λ (e : EventCircuitView). AreToldApart (record m.left { classes = n.left.classes }) e m.events (places_in m) (taken_of m ++ places_in m tag ∷ []) n.classes.items n.aparts.items) (sym same.1) (told rest made)))));
+      named = subst (λ (x : NetView). AreNamed x n.right.net n.classes.items n.aparts.items) (sym left_net) (subst (λ (x : NetView). AreNamed m.left.net x n.classes.items n.aparts.items) (sym right_net) (named made.named));
     };
+    counts = λ rest made t.
+        subst (λ (w : EventGraphView). HaveCounted n.left n.right w.children (taken_of n) n.left_count n.right_count) (sym events)
+        (subst (λ (us : List (Either ℕ ℕ)). HaveCounted n.left n.right m.events.children us n.left_count n.right_count) (sym taken_same)
+        (subst (λ (c : CounterView). HaveCounted n.left n.right m.events.children (with_next m tag) c n.right_count) (sym left_count)
+        (subst (λ (c : CounterView). HaveCounted n.left n.right m.events.children (with_next m tag) m.left_count c) (sym right_count)
+        (subst (λ (e : EventCircuitView). HaveCounted e n.right m.events.children (with_next m tag) m.left_count m.right_count) (sym same.0)
+        (subst (λ (e : EventCircuitView). HaveCounted (record m.left { classes = n.left.classes }) e m.events.children (with_next m tag) m.left_count m.right_count) (sym same.1)
+        (totals_stay m.left m.right n.left.classes n.right.classes m.events.children (taken_of m) rest (places_in m tag) m.left_count m.right_count (next_given rest made) t))))));
   }
 
 -- the map with more in its event graph
-pub goes_on_from : (m n o : ClassMap) (tag : Tag) → n.left ≡ m.left → n.right ≡ m.right → n.taken ≡ m.taken → ((rest : List (Either ℕ ℕ)) → IsMade m rest → IsMade n rest) → GoesOn n o tag → GoesOn m o tag
-goes_on_from m n o tag left right taken made on = record {
+pub goes_on_from : (m n o : ClassMap) (tag : Tag) (us vs : List (Either ℕ ℕ)) → n.left ≡ m.left → n.right ≡ m.right → n.taken ≡ m.taken → ((rest : List (Either ℕ ℕ)) → IsMade m rest → IsMade n rest) → (Counts m us → Counts n vs) → GoesOn n o tag vs → GoesOn m o tag us
+goes_on_from m n o tag us vs left right taken made count on = record {
   left = on.left ∙ ap (λ (e : EventCircuitView). record e { classes = o.left.classes }) left;
   right = on.right ∙ ap (λ (e : EventCircuitView). record e { classes = o.right.classes }) right;
   taken = on.taken ∙ (λ i. (taken i).items ++ tag ∷ []);
-  made = λ rest h. on.made rest (subst (λ (u : Either ℕ ℕ). IsMade n (u ∷ rest)) (λ i. place_of (sym left i).net (sym right i).net tag) (made (places_in m tag ∷ rest) h));
+  made = λ rest h. on.made rest (next rest h);
+  counts = λ rest h t. on.counts rest (next rest h) (count t);
 }
+  where
+    next : (rest : List (Either ℕ ℕ)) → IsMade m (places_in m tag ∷ rest) → IsMade n (places_in n tag ∷ rest)
+    next rest h = subst (λ (u : Either ℕ ℕ). IsMade n (u ∷ rest)) (λ i. place_of (sym left i).net (sym right i).net tag) (made (places_in m tag ∷ rest) h)

@@ -12,9 +12,14 @@ use Rattle.event_theory.specs.EventTotals.{IsMapSoFar}
 use Rattle.flat_net.specs.Sound.{IsSound}
 use Rattle.flat_net.specs.View.{NetView, circuit_of}
 use Rattle.sec_base.specs.declared.basics.Tag.{Tag}
-use Rattle.event_nodes.specs.Nodes.{EventGraphView}
+use Rattle.event_nodes.specs.Nodes.{EventGraphView, IsEventGraph}
+use Rattle.sec_base.specs.Table.{AreDistinct}
+use Rattle.class_totals.specs.Totals.{HaveCounted}
+use Rattle.class_totals.specs.Laws.{nothing}
+use Rattle.class_totals.proofs.Going.{totals_begin}
+use Rattle.class_totals.proofs.Over.{totals_are_within}
 use Rattle.event_nodes.specs.View.{EventCircuitView, IsEventCircuit, Enabled}
-use Rattle.event_nodes.specs.Visited.{IsWeighed}
+use Rattle.event_nodes.specs.Visited.{CounterView, IsWeighed}
 use Rattle.event_order.specs.Order.{place_of, IsTagOf, IsTagOrder}
 use Rattle.enable_compare.specs.Comparing.{IsReadyEnable}
 use Rattle.class_queries.specs.Enables.{both_of}
@@ -23,7 +28,9 @@ use Rattle.class_search.specs.declared.class.Class.{Class}
 use Rattle.event_classes.specs.declared.map.ClassMap.{ClassMap}
 use Rattle.class_separations.specs.declared.apart.Apart.{Apart}
 use Rattle.class_separations.specs.Apart.{AreToldApart}
+use Rattle.event_classes.specs.Named.{AreNamed}
 use Rattle.event_classes.specs.Stand.{IsStand}
+use Rattle.event_classes.proofs.Naming.{named_none}
 use Rattle.event_classes.specs.Map.{IsMade, GoesOn, IsBegun, IsMadeTo, IsClassMapOf, places_in, taken_of}
 
 none_at : {X : Type 0} (i : ℕ) (y : X) → slice_get [] i ≡ Some y → ⊥
@@ -33,14 +40,22 @@ none_at (suc i) y q = cc
 same_at : (tags : List Tag) (at : ℕ) (tag : Tag) → slice_get tags at ≡ Some tag → tag ≡ get_or tags at tag
 same_at tags at tag here = sym (get_or_from_slice_get tags at tag tag here)
 
+-- what is left where the next latch is this one
+pub rest_made : (m n : ClassMap) (tags : List Tag) (at : ℕ) (tag : Tag) → at < length tags → slice_get tags at ≡ Some tag → IsMadeTo m n tags at → IsMade n (places_in n tag ∷ map (places_in n) (drop (at + 1) tags))
+rest_made m n tags at tag inside is made = subst (λ (ts : List Tag). IsMade n (map (places_in n) ts)) (drop_more tags at tag inside ∙ ap (λ (t : Tag). t ∷ drop (at + 1) tags) (sym (same_at tags at tag is))) made.made
+
+pub next_made : (m n : ClassMap) (tags : List Tag) (at : ℕ) (tag : Tag) → at < length tags → slice_get tags at ≡ Some tag → IsMadeTo m n tags at → (rest : List (Either ℕ ℕ)) × IsMade n (places_in n tag ∷ rest)
+next_made m n tags at tag inside is made = (map (places_in n) (drop (at + 1) tags), rest_made m n tags at tag inside is made)
+
 -- one latch more
-pub made_next : (m n o : ClassMap) (tags : List Tag) (at : ℕ) (tag : Tag) → at < length tags → slice_get tags at ≡ Some tag → IsMadeTo m n tags at → GoesOn n o tag → IsMadeTo m o tags (at + 1)
+pub made_next : (m n o : ClassMap) (tags : List Tag) (at : ℕ) (tag : Tag) → at < length tags → slice_get tags at ≡ Some tag → IsMadeTo m n tags at → GoesOn n o tag (taken_of n) → IsMadeTo m o tags (at + 1)
 made_next m n o tags at tag inside is made on = record {
   left = on.left ∙ ap (λ (e : EventCircuitView). record e { classes = o.left.classes }) made.left;
   right = on.right ∙ ap (λ (e : EventCircuitView). record e { classes = o.right.classes }) made.right;
   taken = on.taken ∙ (ap (λ (ts : List Tag). ts ++ tag ∷ []) made.taken ∙ (ap (λ (t : Tag). take at tags ++ t ∷ []) (same_at tags at tag is) ∙ sym (take_more tags at tag inside)));
   made = subst (λ (place : Tag → Either ℕ ℕ). IsMade o (map place (drop (at + 1) tags))) (λ i. place_of (sym left_net i) (sym right_net i))
-      (on.made (map (places_in n) (drop (at + 1) tags)) (subst (λ (ts : List Tag). IsMade n (map (places_in n) ts)) (drop_more tags at tag inside ∙ ap (λ (t : Tag). t ∷ drop (at + 1) tags) (sym (same_at tags at tag is))) made.made));
+      (on.made (map (places_in n) (drop (at + 1) tags)) (rest_made m n tags at tag inside is made));
+  counts = on.counts (map (places_in n) (drop (at + 1) tags)) (rest_made m n tags at tag inside is made) made.counts;
 }
   where
     left_net : o.left.net ≡ n.left.net
@@ -48,11 +63,6 @@ made_next m n o tags at tag inside is made on = record {
 
     right_net : o.right.net ≡ n.right.net
     right_net = ap (λ (e : EventCircuitView). e.net) on.right
-
--- what is left where the next latch is this one
-pub next_made : (m n : ClassMap) (tags : List Tag) (at : ℕ) (tag : Tag) → at < length tags → slice_get tags at ≡ Some tag → IsMadeTo m n tags at → (rest : List (Either ℕ ℕ)) × IsMade n (places_in n tag ∷ rest)
-next_made m n tags at tag inside is made =
-    (map (places_in n) (drop (at + 1) tags), subst (λ (ts : List Tag). IsMade n (map (places_in n) ts)) (drop_more tags at tag inside ∙ ap (λ (t : Tag). t ∷ drop (at + 1) tags) (sym (same_at tags at tag is))) made.made)
 
 -- the next latch is a latch
 pub tag_next : (m n : ClassMap) (tags : List Tag) (at : ℕ) (tag : Tag) → at < length tags → slice_get tags at ≡ Some tag → IsMadeTo m n tags at → All (IsTagOf m.left.net m.right.net) tags → IsTagOf n.left.net n.right.net tag
@@ -89,7 +99,12 @@ made_first a b m tags sound_a sound_b left right order left_none right_none begu
     told = subst (λ (cs : List Class). AreToldApart m.left m.right m.events (places_in m) (taken_of m) cs m.aparts.items) (sym begun.classes)
         (subst (λ (xs : List Apart). AreToldApart m.left m.right m.events (places_in m) (taken_of m) [] xs) (sym begun.aparts)
         (record { own = λ k i c t x at at_t at_x. absurd (none_at k c at); apart = record { long = refl; each = λ low high below within. absurd (omega (arith, below, within)) } }));
+    named = subst (λ (cs : List Class). AreNamed m.left.net m.right.net cs m.aparts.items) (sym begun.classes) (subst (AreNamed m.left.net m.right.net []) (sym begun.aparts) (named_none m.left.net m.right.net));
   };
+  counts = subst (λ (w : EventGraphView). HaveCounted m.left m.right w.children (taken_of m) m.left_count m.right_count) (sym begun.events)
+      (subst (λ (us : List (Either ℕ ℕ)). HaveCounted m.left m.right [] us m.left_count m.right_count) (sym no_latch_taken)
+      (subst (λ (c : CounterView). HaveCounted m.left m.right [] [] c m.right_count) (sym begun.left_count)
+      (subst (λ (c : CounterView). HaveCounted m.left m.right [] [] nothing c) (sym begun.right_count) (totals_begin m.left m.right))));
 }
   where
     both : LatchesHaveDepths (both_of a b).circuit (IsEnabled (both_of a b).circuit)
@@ -105,8 +120,8 @@ made_first a b m tags sound_a sound_b left right order left_none right_none begu
     weighed_none n = record { sum = refl; small = omega arith; few = omega arith }
 
 -- the last one
-pub made_last : (a b : EventCircuitView) (m n : ClassMap) (tags : List Tag) → IsBegun a b m → IsSound n.left.net → IsSound n.right.net → IsEventCircuit n.left → IsEventCircuit n.right → IsMadeTo m n tags (length tags) → IsClassMapOf a b n
-made_last a b m n tags begun sound_a sound_b kept_a kept_b made =
+pub made_last : (a b : EventCircuitView) (m n : ClassMap) (tags : List Tag) → IsBegun a b m → IsSound n.left.net → IsSound n.right.net → IsEventCircuit n.left → IsEventCircuit n.right → IsEventGraph n.events → AreDistinct n.left_count.places → AreDistinct n.right_count.places → length tags ≤ 30000 → IsMadeTo m n tags (length tags) → IsClassMapOf a b n
+made_last a b m n tags begun sound_a sound_b kept_a kept_b is once_left once_right few made =
     let whole = subst (λ (ts : List Tag). IsMade n (map (places_in n) ts)) (drop_all tags) made.made in
     let has = map_ends n.left n.right sound_a sound_b kept_a kept_b whole.depths (taken_of n) whole.stand.so_far in
     record {
@@ -115,8 +130,15 @@ made_last a b m n tags begun sound_a sound_b kept_a kept_b made =
       classes = has.0;
       order = has.1;
       made = whole;
+      counts = made.counts;
+      within = totals_are_within n.left n.right n.events (taken_of n) n.left_count n.right_count sound_a sound_b is once_left once_right whole.within.nodes made.counts;
+      few = let e = ap length made.taken in let k = take_all tags in omega (arith, e, k, few);
     }
   where
     drop_all : (ts : List Tag) → drop (length ts) ts ≡ []
     drop_all [] = refl
     drop_all (t ∷ ts) = drop_all ts
+
+    take_all : (ts : List Tag) → length (take (length ts) ts) ≡ length ts
+    take_all [] = refl
+    take_all (t ∷ ts) = ap suc (take_all ts)

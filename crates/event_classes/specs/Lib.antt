@@ -1,3 +1,6 @@
 pub mod Stand
+pub mod Named
 pub mod Map
 pub mod Limits
+pub mod Refused
+pub mod Steps

@@ -27,6 +27,8 @@ use Rattle.class_search.specs.declared.told.Difference.{Difference}
 use Rattle.class_search.specs.declared.told.Told.{Told}
 use Rattle.class_separations.specs.Apart.{AreToldApart, AreToldOf}
 use Rattle.class_separations.specs.Telling.{AreToldIn}
+use Rattle.class_totals.specs.Totals.{HaveCounted, AreWithin}
+use Rattle.event_classes.specs.Named.{AreNamed}
 use Rattle.event_classes.specs.Stand.{IsStand}
 
 -- all that was counted is within its numbers
@@ -50,6 +52,7 @@ pub record IsMade (m : ClassMap) (rest : List (Either ℕ ℕ)) : Type 0 where
   pub depths : LatchesHaveDepths (both_of m.left m.right).circuit (IsEnabled (both_of m.left m.right).circuit)
   pub within : IsWithin m
   pub told : AreToldApart m.left m.right m.events (places_in m) (taken_of m) m.classes.items m.aparts.items
+  pub named : AreNamed m.left.net m.right.net m.classes.items m.aparts.items
 
 -- it is the enable of the latch with this position
 abbrev pub IsEnableOf : EventCircuitView → EventGraphView → ℕ → Enable → Type 0
@@ -96,12 +99,25 @@ IsSetOn B a b c d j class = (c ≡ a) × (d ≡ with_class b j class)
 abbrev pub IsClassSet : EventCircuitView → EventCircuitView → EventCircuitView → EventCircuitView → Tag → ℕ → Type 0
 IsClassSet a b c d tag class = IsSetOn tag.side a b c d tag.latch class
 
--- The class map goes on with the latch.
-pub record GoesOn (m n : ClassMap) (tag : Tag) : Type 0 where
+-- the enables of these latches are counted
+abbrev pub Counts : ClassMap → List (Either ℕ ℕ) → Type 0
+Counts m latches = HaveCounted m.left m.right m.events.children latches m.left_count m.right_count
+
+-- the latches that were taken, and the next one
+abbrev pub with_next : ClassMap → Tag → List (Either ℕ ℕ)
+with_next m tag = taken_of m ++ places_in m tag ∷ []
+
+-- The class map goes on with the latch, where the enables of these latches are counted.
+pub record GoesOn (m n : ClassMap) (tag : Tag) (counted : List (Either ℕ ℕ)) : Type 0 where
   pub left : n.left ≡ record m.left { classes = n.left.classes }
   pub right : n.right ≡ record m.right { classes = n.right.classes }
   pub taken : n.taken.items ≡ m.taken.items ++ tag ∷ []
   pub made : (rest : List (Either ℕ ℕ)) → IsMade m (places_in m tag ∷ rest) → IsMade n rest
+  pub counts : (rest : List (Either ℕ ℕ)) → IsMade m (places_in m tag ∷ rest) → Counts m counted → Counts n (taken_of n)
+
+-- the enable of the next latch is counted too
+abbrev pub CountsOn : ClassMap → ClassMap → Tag → Type 0
+CountsOn m n tag = Counts m (taken_of m) → Counts n (with_next n tag)
 
 -- no latch is taken
 pub record IsBegun (a b : EventCircuitView) (m : ClassMap) : Type 0 where
@@ -121,6 +137,7 @@ pub record IsMadeTo (m n : ClassMap) (tags : List Tag) (at : ℕ) : Type 0 where
   pub right : n.right ≡ record m.right { classes = n.right.classes }
   pub taken : n.taken.items ≡ take at tags
   pub made : IsMade n (map (places_in n) (drop at tags))
+  pub counts : Counts n (taken_of n)
 
 -- The class map of the two circuits: of all enabled latches, in their order.
 pub record IsClassMapOf (a b : EventCircuitView) (m : ClassMap) : Type 0 where
@@ -129,3 +146,6 @@ pub record IsClassMapOf (a b : EventCircuitView) (m : ClassMap) : Type 0 where
   pub classes : HasClasses (both_of m.left m.right)
   pub order : classes.order ≡ taken_of m
   pub made : IsMade m []
+  pub counts : Counts m (taken_of m)
+  pub within : AreWithin m.left m.right (taken_of m)
+  pub few : length m.taken.items ≤ 30000

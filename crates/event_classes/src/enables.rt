@@ -1,14 +1,21 @@
 //! The enable of the next latch.
 
-ghost use Rattle.std.specs.Prelude.{◌≡◌, ◌<◌, length, Option, Err, IfOk, OnOk};
+ghost use Rattle.std.specs.Prelude.{◌≡◌, ◌<◌, length, slice_get, Option, Some, Err, IfOk, OnOk};
+ghost use Rattle.circuit_theory.specs.declared.Side.{Side};
+ghost use Rattle.circuit_theory.specs.declared.Side.TheVariants.{A, B};
+ghost use Rattle.flat_net.specs.declared.parts.LatchAt.{LatchAt};
+ghost use Rattle.event_walk.specs.Walk.{HasCountedStart, IsCounting, enable_start};
+ghost use Rattle.event_nodes.specs.declared.error.EventUnfoldError.TheVariants as unfold_error;
 ghost use Rattle.event_nodes.specs.Nodes.{GrowsEvents};
 ghost use Rattle.event_nodes.specs.Visited.{IsWeighed};
+ghost use Rattle.event_functions.specs.Refused.{IsRefusal};
 ghost use Rattle.enable_compare.specs.Comparing.{IsReadyEnable};
 ghost use Rattle.event_order.specs.Order.{IsTagOf};
 ghost use Rattle.pair_decide.specs.declared.query.Proof.{Proof};
 ghost use Rattle.sec_base.specs.declared.basics.Tag.{Tag};
 ghost use Rattle.event_classes.specs.declared.error.EventError.TheVariants as event_error;
-ghost use Rattle.event_classes.specs.Map.{IsWithin, IsEnableOf, IsEnableAt, IsOwnAt, IsEnableOn};
+ghost use Rattle.event_classes.specs.Map.{IsWithin, IsEnableOf, IsEnableAt, IsOwnAt, IsEnableOn, CountsOn};
+ghost use Rattle.event_classes.specs.Steps.{AreNodesOver, IsWeightOver};
 
 use crate::error::EventError;
 use crate::map::ClassMap;
@@ -27,6 +34,9 @@ pub(crate) fn next_enable(alloc: Global, map: &mut ClassMap, tag: Tag) -> Result
     ensures ready { IfOk result (IsReadyEnable map.new.events) }
     ensures within { OnOk result (IsWithin map.new) }
     ensures grows { OnOk result (GrowsEvents map.old.events map.new.events) }
+    ensures counts { OnOk result (CountsOn map.old map.new tag) }
+    ensures many { result ≡ Err event_error.TooManyEvents → AreNodesOver map.old tag }
+    ensures large { (side : Side) → result ≡ Err (event_error.TooLarge side) → IsWeightOver map.old tag side }
     ensures limit { (latch : Tag) (other : Option Tag) (proof : Proof) → result ≡ Err (event_error.Limit latch other proof) → ⊥ }
     ensures same { map.new ≡ record map.old { events = map.new.events; left_count = map.new.left_count; right_count = map.new.right_count } }
 {
@@ -45,6 +55,9 @@ fn side_enable(alloc: Global, map: &mut ClassMap, tag: Tag) -> Result<Enable, Ev
     ensures ready { IfOk result (IsReadyEnable map.new.events) }
     ensures within { OnOk result (IsWithin map.new) }
     ensures grows { OnOk result (GrowsEvents map.old.events map.new.events) }
+    ensures counts { OnOk result (CountsOn map.old map.new tag) }
+    ensures many { result ≡ Err event_error.TooManyEvents → AreNodesOver map.old tag }
+    ensures large { (side : Side) → result ≡ Err (event_error.TooLarge side) → IsWeightOver map.old tag side }
     ensures limit { (latch : Tag) (other : Option Tag) (proof : Proof) → result ≡ Err (event_error.Limit latch other proof) → ⊥ }
     ensures same { map.new ≡ record map.old { events = map.new.events; left_count = map.new.left_count; right_count = map.new.right_count } }
 {
@@ -62,12 +75,21 @@ fn left_enable(alloc: Global, map: &mut ClassMap, j: u32) -> Result<Enable, Even
     ensures ready { IfOk result (IsReadyEnable map.new.events) }
     ensures within { OnOk result (IsWithin map.new) }
     ensures grows { OnOk result (GrowsEvents map.old.events map.new.events) }
+    ensures counts { OnOk result (CountsOn map.old map.new (record { side = A; latch = j })) }
+    ensures many { result ≡ Err event_error.TooManyEvents → AreNodesOver map.old (record { side = A; latch = j }) }
+    ensures large { (side : Side) → result ≡ Err (event_error.TooLarge side) → IsWeightOver map.old (record { side = A; latch = j }) side }
     ensures limit { (latch : Tag) (other : Option Tag) (proof : Proof) → result ≡ Err (event_error.Limit latch other proof) → ⊥ }
     ensures same { map.new ≡ record map.old { events = map.new.events; left_count = map.new.left_count; right_count = map.new.right_count } }
 {
+    map.left.keeps();
+    map.right.keeps();
+    map.events.keeps();
     match enable_of(alloc, &map.left, &mut map.events, &mut map.left_count, j) {
         Ok(enable) => Ok(enable),
-        Err(error) => Err(refusal(Side::A, error)),
+        Err(error) => {
+            map.events.keeps();
+            Err(refusal(Side::A, error))
+        }
     }
 }
 
@@ -79,18 +101,29 @@ fn right_enable(alloc: Global, map: &mut ClassMap, j: u32) -> Result<Enable, Eve
     ensures ready { IfOk result (IsReadyEnable map.new.events) }
     ensures within { OnOk result (IsWithin map.new) }
     ensures grows { OnOk result (GrowsEvents map.old.events map.new.events) }
+    ensures counts { OnOk result (CountsOn map.old map.new (record { side = B; latch = j })) }
+    ensures many { result ≡ Err event_error.TooManyEvents → AreNodesOver map.old (record { side = B; latch = j }) }
+    ensures large { (side : Side) → result ≡ Err (event_error.TooLarge side) → IsWeightOver map.old (record { side = B; latch = j }) side }
     ensures limit { (latch : Tag) (other : Option Tag) (proof : Proof) → result ≡ Err (event_error.Limit latch other proof) → ⊥ }
     ensures same { map.new ≡ record map.old { events = map.new.events; left_count = map.new.left_count; right_count = map.new.right_count } }
 {
+    map.left.keeps();
+    map.right.keeps();
+    map.events.keeps();
     match enable_of(alloc, &map.right, &mut map.events, &mut map.right_count, j) {
         Ok(enable) => Ok(enable),
-        Err(error) => Err(refusal(Side::B, error)),
+        Err(error) => {
+            map.events.keeps();
+            Err(refusal(Side::B, error))
+        }
     }
 }
 
 /// The refusal of a latch of this circuit.
 fn refusal(side: Side, error: EventUnfoldError) -> EventError
-    ensures { (latch : Tag) (other : Option Tag) (proof : Proof) → result ≡ event_error.Limit latch other proof → ⊥ }
+    ensures many { result ≡ event_error.TooManyEvents → error ≡ unfold_error.TooManyEvents }
+    ensures large { (other : Side) → result ≡ event_error.TooLarge other → (side ≡ other) × (error ≡ unfold_error.TooLarge) }
+    ensures limit { (latch : Tag) (other : Option Tag) (proof : Proof) → result ≡ event_error.Limit latch other proof → ⊥ }
 {
     match error {
         EventUnfoldError::TooManyEvents => EventError::TooManyEvents,
@@ -114,6 +147,9 @@ fn enable_of(
     ensures ready { IfOk result (IsReadyEnable events.new) }
     ensures weighed { OnOk result (IsWeighed circuit.now.net count.new) }
     ensures few { OnOk result (length events.new.children < 10000) }
+    ensures counted { OnOk result ((l : LatchAt) → slice_get circuit.now.net.latches j ≡ Some l → HasCountedStart circuit.now (enable_start l) events.new.children count.old count.new) }
+    ensures counting { (l : LatchAt) → slice_get circuit.now.net.latches j ≡ Some l → IsCounting circuit.now (enable_start l) events.old.children events.new.children count.old count.new }
+    ensures refused { (l : LatchAt) → slice_get circuit.now.net.latches j ≡ Some l → IsRefusal circuit.now events.old.children events.new.children (enable_start l) count.old.places result }
     ensures grows { OnOk result (GrowsEvents events.old events.new) }
 {
     circuit.keeps();

@@ -1,6 +1,7 @@
 //! The next latch joins a class.
 
 ghost use Rattle.std.specs.Prelude.{◌≡◌, ◌<◌, ◌≤◌, ℕ, suc, List, ◌∷◌, length, Option, Err, OnOk};
+ghost use Rattle.circuit_theory.specs.declared.Side.{Side};
 ghost use Rattle.circuit_theory.specs.Joined.{Either};
 ghost use Rattle.enable_compare.specs.Comparing.{IsReadyEnable};
 ghost use Rattle.event_order.specs.Order.{IsTagOf};
@@ -9,8 +10,9 @@ ghost use Rattle.class_search.specs.declared.search.Fit.TheVariants as fit_is;
 ghost use Rattle.pair_decide.specs.declared.query.Proof.{Proof};
 ghost use Rattle.sec_base.specs.declared.basics.Tag.{Tag};
 ghost use Rattle.event_classes.specs.declared.error.EventError.TheVariants as event_error;
-ghost use Rattle.event_classes.specs.Limits.{IsNamed, IsErrorOf, IsLimitAt};
-ghost use Rattle.event_classes.specs.Map.{IsMade, IsEnableAt, IsOwnAt, AreToldAt, AreToldBy, IsAbsent, FitsIn, GoesOn, places_in};
+ghost use Rattle.event_classes.specs.Limits.{IsNamed, IsErrorOf};
+ghost use Rattle.event_classes.specs.Map.{IsMade, IsEnableAt, IsOwnAt, AreToldAt, AreToldBy, IsAbsent, FitsIn, GoesOn, places_in, taken_of, with_next};
+ghost use Rattle.event_classes.specs.Steps.{IsWeightOver, IsClassOver, IsOverAt, IsLimitAt, IsLimitWithin};
 
 use crate::enables::next_enable;
 use crate::error::EventError;
@@ -35,14 +37,18 @@ pub(crate) fn join_next(
     requires latch { IsTagOf map.old.left.net map.old.right.net tag }
     requires made { (rest : List (Either ℕ ℕ)) × IsMade map.old (places_in map.old tag ∷ rest) }
     requires conflicts { conflicts ≤ MAX_CONFLICTS }
-    ensures goes_on { OnOk result (GoesOn map.old map.new tag) }
-    ensures limit { (latch : Tag) (other : Option Tag) (proof : Proof) → result ≡ Err (event_error.Limit latch other proof) → IsLimitAt map.old tag latch other conflicts proof }
+    ensures goes_on { OnOk result (GoesOn map.old map.new tag (taken_of map.old)) }
+    ensures many { result ≡ Err event_error.TooManyEvents → IsOverAt map.old tag }
+    ensures large { (side : Side) → result ≡ Err (event_error.TooLarge side) → IsWeightOver map.old tag side }
+    ensures limit { (latch : Tag) (other : Option Tag) (proof : Proof) → result ≡ Err (event_error.Limit latch other proof) → IsLimitWithin map.old tag latch other conflicts proof }
 {
     map.events.keeps();
     let enable = next_enable(alloc, map, tag)?;
     map.left.keeps();
     map.right.keeps();
     map.events.keeps();
+    map.left_count.keeps();
+    map.right_count.keeps();
     if let Some(class) = map.table.class_of(enable.value, enable.care) {
         take_latch(map, tag, class)?;
         return Ok(());
@@ -66,7 +72,9 @@ fn join_asked(
     requires ready { IsReadyEnable map.old.events enable }
     requires absent { IsAbsent map.old enable }
     requires conflicts { conflicts ≤ MAX_CONFLICTS }
-    ensures goes_on { OnOk result (GoesOn map.old map.new tag) }
+    ensures goes_on { OnOk result (GoesOn map.old map.new tag (with_next map.old tag)) }
+    ensures many { result ≡ Err event_error.TooManyEvents → IsClassOver map.old tag }
+    ensures large { (side : Side) → result ≡ Err (event_error.TooLarge side) → ⊥ }
     ensures limit { (latch : Tag) (other : Option Tag) (proof : Proof) → result ≡ Err (event_error.Limit latch other proof) → IsLimitAt map.old tag latch other conflicts proof }
 {
     map.left.keeps();
@@ -124,7 +132,9 @@ fn join_fit(
     requires fits { FitsIn map.old tag (class_of_fit map.old.classes.items fit) }
     requires place { (place : ℕ) → fit ≡ fit_is.Joins place → place < length map.old.classes.items }
     requires told { AreToldBy map.old tag fit }
-    ensures goes_on { OnOk result (GoesOn map.old map.new tag) }
+    ensures goes_on { OnOk result (GoesOn map.old map.new tag (with_next map.old tag)) }
+    ensures many { result ≡ Err event_error.TooManyEvents → IsClassOver map.old tag }
+    ensures large { (side : Side) → result ≡ Err (event_error.TooLarge side) → ⊥ }
     ensures limit { (latch : Tag) (other : Option Tag) (proof : Proof) → result ≡ Err (event_error.Limit latch other proof) → ⊥ }
 {
     match fit {
@@ -149,7 +159,7 @@ fn join_always(map: &mut ClassMap, tag: Tag, enable: &Enable) -> Result<(), NoMe
     requires enable { IsEnableAt map.old tag enable.now }
     requires absent { IsAbsent map.old enable.now }
     requires fits { FitsIn map.old tag 0 }
-    ensures { OnOk result (GoesOn map.old map.new tag) }
+    ensures { OnOk result (GoesOn map.old map.new tag (with_next map.old tag)) }
 {
     map.left.keeps();
     map.right.keeps();
@@ -169,7 +179,7 @@ fn join_class(map: &mut ClassMap, tag: Tag, enable: Enable, place: usize) -> Res
     requires absent { IsAbsent map.old enable }
     requires fits { FitsIn map.old tag (suc place) }
     requires place { place < length map.old.classes.items }
-    ensures { OnOk result (GoesOn map.old map.new tag) }
+    ensures { OnOk result (GoesOn map.old map.new tag (with_next map.old tag)) }
 {
     map.left.keeps();
     map.right.keeps();
@@ -197,7 +207,9 @@ fn found_class(
     requires absent { IsAbsent map.old enable }
     requires fits { FitsIn map.old tag (suc (length map.old.classes.items)) }
     requires told { AreToldAt map.old tag always told.now }
-    ensures goes_on { OnOk result (GoesOn map.old map.new tag) }
+    ensures goes_on { OnOk result (GoesOn map.old map.new tag (with_next map.old tag)) }
+    ensures many { result ≡ Err event_error.TooManyEvents → IsClassOver map.old tag }
+    ensures large { (side : Side) → result ≡ Err (event_error.TooLarge side) → ⊥ }
     ensures limit { (latch : Tag) (other : Option Tag) (proof : Proof) → result ≡ Err (event_error.Limit latch other proof) → ⊥ }
 {
     map.left.keeps();

@@ -1,6 +1,7 @@
 //! Class maps are made.
 
 ghost use Rattle.std.specs.Prelude.{◌≡◌, ◌≤◌, length, Option, Err, All, IfOk, OnOk};
+ghost use Rattle.circuit_theory.specs.declared.Side.{Side};
 ghost use Rattle.circuit_theory.specs.Depth.{LatchesHaveDepths};
 ghost use Rattle.flat_net.specs.View.{circuit_of};
 ghost use Rattle.event_nodes.specs.View.{Enabled};
@@ -8,8 +9,9 @@ ghost use Rattle.event_order.specs.Order.{IsTagOf};
 ghost use Rattle.pair_decide.specs.declared.query.Proof.{Proof};
 ghost use Rattle.sec_base.specs.declared.basics.Tag.{Tag};
 ghost use Rattle.event_classes.specs.declared.error.EventError.TheVariants as event_error;
-ghost use Rattle.event_classes.specs.Limits.{IsLimitOf};
 ghost use Rattle.event_classes.specs.Map.{IsBegun, IsMadeTo, IsClassMapOf};
+ghost use Rattle.event_classes.specs.Refused.{IsTooMany, IsTooHeavy, IsLimitOf};
+ghost use Rattle.event_classes.specs.Steps.{HaveDepths};
 
 use crate::error::EventError;
 use crate::joining::join_next;
@@ -24,7 +26,8 @@ const LATCHES: usize = 30_000;
 
 /// The class map of two circuits whose latches are all of class 0 so far. The enabled latches are taken in their order, by depth, then
 /// those of the first circuit before those of the second, then by position; each joins the first class all of whose members agree with
-/// it wherever both have care, or founds the next. A limit names the latch and the other one of the query, None for `always`.
+/// it wherever both have care, or founds the next. The refusals come at the first latch that passes a number, or whose query meets the limit; more
+/// than 30,000 latches are refused first of all. A limit names the latch and the other one of the query, None for `always`.
 pub fn make_classes(
     alloc: Global,
     left: EventCircuit,
@@ -37,6 +40,8 @@ pub fn make_classes(
     requires right_classes { All (λ k. k ≡ 0) right.classes }
     requires conflicts { conflicts ≤ MAX_CONFLICTS }
     ensures made { IfOk result (IsClassMapOf left right) }
+    ensures many { result ≡ Err event_error.TooManyEvents → IsTooMany left right }
+    ensures large { (side : Side) → result ≡ Err (event_error.TooLarge side) → IsTooHeavy left right side }
     ensures limit { (latch : Tag) (other : Option Tag) (proof : Proof) → result ≡ Err (event_error.Limit latch other proof) → IsLimitOf left right latch other conflicts proof }
 {
     left.keeps();
@@ -49,6 +54,9 @@ pub fn make_classes(
     join_all(alloc, &mut map, tags.as_slice(), conflicts)?;
     map.left.keeps();
     map.right.keeps();
+    map.events.keeps();
+    map.left_count.keeps();
+    map.right_count.keeps();
     Ok(map)
 }
 
@@ -79,11 +87,20 @@ fn join_all(
 ) -> Result<(), EventError>
     requires named { All (IsTagOf map.old.left.net map.old.right.net) tags.now }
     requires begins { IsMadeTo map.old map.old tags.now 0 }
+    requires depths { HaveDepths map.old.left map.old.right }
+    requires few { length tags.now ≤ 30000 }
     requires conflicts { conflicts ≤ MAX_CONFLICTS }
     ensures made { OnOk result (IsMadeTo map.old map.new tags.now (length tags.now)) }
+    ensures many { result ≡ Err event_error.TooManyEvents → IsTooMany map.old.left map.old.right }
+    ensures large { (side : Side) → result ≡ Err (event_error.TooLarge side) → IsTooHeavy map.old.left map.old.right side }
     ensures limit { (latch : Tag) (other : Option Tag) (proof : Proof) → result ≡ Err (event_error.Limit latch other proof) → IsLimitOf map.old.left map.old.right latch other conflicts proof }
 {
     for at in 0..tags.len() {
+        map.left.keeps();
+        map.right.keeps();
+        map.events.keeps();
+        map.left_count.keeps();
+        map.right_count.keeps();
         join_next(alloc, map, tags[at], conflicts)?;
     }
     Ok(())

@@ -26,20 +26,3 @@ pub struct ClassMap {
     /// The latches that were taken, in order.
     pub taken: Vec<Tag>,
 }
-
-impl ClassMap {
-    ghost use Rattle.std.specs.Prelude.{[], ◌<◌, ◌≤◌, length};
-    ghost use Rattle.class_queries.specs.Enables.{both_of};
-    ghost use Rattle.class_separations.specs.Apart.{IsApart};
-    ghost use Rattle.event_classes.specs.Map.{IsMade, places_in, taken_of};
-
-    /// What tells two classes of a whole class map apart; class 0 stands for `always`.
-    pub fn apart(&self, low: u32, high: u32) -> &Apart
-        requires made { IsMade self.now [] }
-        requires below { low < high }
-        requires high { high ≤ length self.now.classes.items }
-        ensures { IsApart (both_of self.now.left self.now.right) self.now.events (places_in self.now) (taken_of self.now) low high result.now }
-    {
-        &self.aparts[(high * (high - 1) / 2 + low) as usize]
-    }
-}

@@ -28,11 +28,7 @@ use Rattle.outcome.specs.declared.verdict.PairResult.{PairResult}
 use Rattle.pair_decide.specs.declared.query.Proof.{Proof}
 use Rattle.pair_decide.specs.Queries.{IsSame}
 use Rattle.event_form.specs.Asked.{AreAsked, IsAskedOf}
-use Rattle.event_witness.specs.declared.verdict.EventVerdict.TheVariants as verdict
 use Rattle.event_comparison.specs.Agreement.{AreAllPairs, CircuitsAgree}
-use Rattle.event_comparison.specs.Decided.{AreFound}
-use Rattle.event_comparison.specs.Findings.{VerdictFits, FindingsFit}
-use Rattle.event_comparison.specs.declared.comparison.EventFindings.{EventFindings}
 
 module _ (s : EventSide (Either ℕ ℕ)) (w : EventGraphView) (cut : Bool) (conflicts : ℕ) where
   sides_same : (o : Obligation) (y : PairAnswer) (proof : Option Proof) → y ≡ answer.Equal → AnswerIs w.graph conflicts o y proof → All (IsSame w.graph) o.queries
@@ -64,16 +60,13 @@ module _ (s : EventSide (Either ℕ ℕ)) (w : EventGraphView) (cut : Bool) (con
       let x = all p q pair in
       subst (λ (u : ℕ). HasSameQuery s w (Left u) (Right q)) x.2 (subst (λ (v : ℕ). HasSameQuery s w (Left x.0.left.0) (Right v)) x.3 (all_same pairs asked results a b equal x.0 x.1))
 
-pub circuits_agree : (a b : EventCircuitView) (w : EventGraphView) (cut : Bool) (conflicts : ℕ) (pairs : List SignalPair) (depths : List ℕ) (names : List (List ℕ)) (asked : List Obligation) → AreKept a b w → HasClasses (both_of a b) →
+pub circuits_agree : (a b : EventCircuitView) (w : EventGraphView) (cut : Bool) (conflicts : ℕ) (pairs : List SignalPair) (asked : List Obligation) (results : List PairResult) → AreKept a b w → HasClasses (both_of a b) →
     LatchesHaveDepths (both_of a b).circuit (IsEnabled (both_of a b).circuit) → AreNumbered (circuit_of a.net) (circuit_of b.net) a.order b.order → AreAsked (both_of a b) w cut pairs asked →
-    (f : EventFindings) → AreFound w conflicts asked depths names f → FindingsFit a b cut conflicts names pairs f → f.verdict ≡ verdict.Equal → CircuitsAgree a b pairs
-circuits_agree a b w cut conflicts pairs depths names asked kept classes deep numbers are f found fits equal = record {
+    AllZip (IsAnswered w.graph conflicts) asked results → All (λ (r : PairResult). r.answer ≡ answer.Equal) results → CircuitsAgree a b pairs
+circuits_agree a b w cut conflicts pairs asked results kept classes deep numbers are answered each = record {
   agree = λ all. queries_agree a b w kept classes deep numbers (same [] (circuit_of a.net) (circuit_of b.net) all);
   onward = λ exposed c d from all. cut_queries_agree c d from.left_size from.right_size exposed a b w from.left_net from.right_net from.left_names from.right_names from.minimal from.left_cut from.right_cut kept classes deep numbers (same exposed c d all);
 }
   where
-    each : All (λ (r : PairResult). r.answer ≡ answer.Equal) f.pairs
-    each = subst (VerdictFits a b names pairs f.pairs) equal fits.verdict_is
-
     same : (exposed : List (List ℕ)) (c d : Circuit ℕ) → AreAllPairs exposed c d pairs → (p q : ℕ) → IsPair exposed c d p q → HasSameQuery (both_of a b) w (Left p) (Right q)
-    same = pairs_same (both_of a b) w cut conflicts pairs asked found.decided.results are found.have.results (subst (All (λ (r : PairResult). r.answer ≡ answer.Equal)) found.results each)
+    same = pairs_same (both_of a b) w cut conflicts pairs asked results are answered each

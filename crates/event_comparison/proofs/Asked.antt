@@ -1,5 +1,5 @@
 -- What is asked of pairs, and what that says of the pair at a place.
-use Rattle.std.proofs.Common.{◌≡◌, ◌∙◌, ℕ, Bool, true, List, [], ◌∷◌, length, Option, Some, None, sym}
+use Rattle.std.proofs.Common.{◌≡◌, ◌∙◌, ℕ, Bool, true, false, List, [], ◌∷◌, length, Option, Some, None, sym}
 use Rattle.std.specs.List.{AllZip}
 use Rattle.circuit_theory.specs.Joined.{Either}
 use Rattle.circuit_theory.proofs.Lists.{zip_length}
@@ -17,7 +17,7 @@ use Rattle.pair_decide.specs.declared.query.Proof.{Proof}
 use Rattle.event_form.specs.Answers.{PairFits}
 use Rattle.event_form.specs.Asked.{AreAsked, IsAskedOf}
 use Rattle.event_form.proofs.Answers.{answers_are_fit}
-use Rattle.event_comparison.specs.Compared.{IsEventDepth}
+use Rattle.event_findings.specs.Compared.{IsEventDepth}
 
 -- each result is that of its pair
 pub results_fit : (s : EventSide (Either ℕ ℕ)) (w : EventGraphView) (cut : Bool) (conflicts : ℕ) → IsEventGraph w → (pairs : List SignalPair) (asked : List Obligation) (results : List PairResult) → AreAsked s w cut pairs asked → AllZip (IsAnswered w.graph conflicts) asked results →
@@ -37,6 +37,14 @@ is_decisive g conflicts o answer.Different (Some proof) e h = absurd h
 is_decisive g conflicts o answer.Equal proof e h = cc
 is_decisive g conflicts o answer.NotShown proof e h = cc
 is_decisive g conflicts o answer.Limit proof e h = cc
+
+-- what isn't shown isn't
+pub isnt_decisive : (g : List Node) (conflicts : ℕ) (o : Obligation) (y : PairAnswer) (proof : Option Proof) → y ≡ answer.NotShown → AnswerIs g conflicts o y proof → o.decisive ≡ false
+isnt_decisive g conflicts o answer.NotShown None e h = h.0
+isnt_decisive g conflicts o answer.NotShown (Some proof) e h = absurd h
+isnt_decisive g conflicts o answer.Equal proof e h = cc
+isnt_decisive g conflicts o answer.Different proof e h = cc
+isnt_decisive g conflicts o answer.Limit proof e h = cc
 
 -- there are as many depths as obligations
 pub depths_long : (a b : EventCircuitView) (s : EventSide (Either ℕ ℕ)) (w : EventGraphView) (cut : Bool) (pairs : List SignalPair) (asked : List Obligation) (depths : List ℕ) → AreAsked s w cut pairs asked → AllZip (IsEventDepth a b) pairs depths → length depths ≡ length asked

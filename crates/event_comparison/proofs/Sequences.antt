@@ -1,6 +1,6 @@
 -- The sequence and the frame of a difference.
-use Rattle.std.proofs.Common.{◌≡◌, ◌∙◌, ℕ, max, Bool, true, List, [], ◌∷◌, length, sym, ap, subst}
-use Rattle.std.specs.List.{AllZip}
+use Rattle.std.proofs.Common.{◌≡◌, ◌∙◌, ℕ, max, Bool, List, length, Some, sym, ap, subst}
+use Rattle.std.specs.Prelude.{slice_get}
 use Rattle.circuit_theory.specs.Circuit.{Circuit}
 use Rattle.circuit_theory.specs.Depth.{LatchesHaveDepths}
 use Rattle.circuit_theory.specs.Fits.{MakesDiffer}
@@ -9,6 +9,7 @@ use Rattle.circuit_theory.specs.Run.{IsEnabled}
 use Rattle.event_theory.specs.Classes.{HasClasses}
 use Rattle.event_theory.specs.EventFrames.{IsUnshownFrame}
 use Rattle.flat_net.specs.View.{circuit_of}
+use Rattle.flat_net.proofs.Places.{All-at}
 use Rattle.aig.specs.Values.{value}
 use Rattle.class_queries.specs.Enables.{both_of}
 use Rattle.class_queries.specs.Laws.{AreKept}
@@ -24,17 +25,18 @@ use Rattle.pair_decide.specs.declared.query.Query.{Query}
 use Rattle.pair_decide.specs.Answers.{IsDifference}
 use Rattle.pair_decide.specs.Queries.{assigned_to}
 use Rattle.witness_report.specs.declared.witness.Witness.{Witness}
-use Rattle.event_form.specs.declared.frames.FrameBit.{FrameBit}
 use Rattle.event_form.specs.Answers as form_answers
 use Rattle.event_form.specs.Asked.{IsAskedOf}
-use Rattle.event_form.specs.Frames as told_frames
 use Rattle.event_form.proofs.Answers.{frames_of_differences}
 use Rattle.event_witness.specs.declared.unshown.UnshownFrame.{UnshownFrame}
-use Rattle.event_witness.specs.Sequences.{IsWitnessOf, rows_at}
+use Rattle.event_witness.specs.Sequences.{HasInputsBelow, IsWitnessOf, rows_at}
 use Rattle.event_witness.specs.Unshown.{IsUnshownOf}
-use Rattle.event_witness.proofs.Differing.{only_query, decisive_differences}
-use Rattle.event_comparison.specs.Compared.{IsEventDepth, AreCompared}
-use Rattle.event_comparison.specs.Findings.{IsSequenceOf, IsFrameOf, TellsVariable}
+use Rattle.event_witness.proofs.Differing.{only_query, always_differences}
+use Rattle.event_findings.specs.Compared.{IsEventDepth, AreCompared}
+use Rattle.event_findings.specs.Findings.{IsSequenceOf, IsFrameOf}
+use Rattle.event_findings.specs.declared.pairs.EventPairs.{EventPairs}
+use Rattle.unshown_pairs.specs.Reached.{BothReachAlways}
+use Rattle.unshown_pairs.proofs.Frames.{bits_told}
 
 -- what makes a pair differ, by other names
 differ_told : (a b : Circuit ℕ) (left right : List ℕ) (p q : ℕ) (rows told : List (List Bool)) (last cycle : ℕ) (l x r y : Bool) → rows ≡ told → last ≡ cycle → l ≡ x → r ≡ y → MakesDiffer a b left right p q rows last l r → MakesDiffer a b left right p q told cycle x y
@@ -43,24 +45,19 @@ differ_told a b left right p q rows told last cycle l x r y same_rows same_last 
     (subst (λ z. MakesDiffer a b left right p q told cycle z r) same_left
     (subst (λ n. MakesDiffer a b left right p q told n l r) same_last (subst (λ (rs : List (List Bool)). MakesDiffer a b left right p q rs last l r) same_rows h)))
 
--- what tells numbers of variables tells the variables
-variables_told : (w : EventGraphView) (vars : List ℕ) (xs : List FrameBit) → AllZip (told_frames.TellsVariable w) vars xs → AllZip TellsVariable (variables_of w vars) xs
-variables_told w [] [] h = tt
-variables_told w [] (x ∷ xs) h = absurd h
-variables_told w (v ∷ vars) [] h = absurd h
-variables_told w (v ∷ vars) (x ∷ xs) h = (record { input = h.0.input; path = h.0.path }, variables_told w vars xs h.1)
-
-module _ (a b : EventCircuitView) (w : EventGraphView) (cut : Bool) (pairs : List SignalPair) (depths : List ℕ) (names : List (List ℕ)) (kept : AreKept a b w) (classes : HasClasses (both_of a b)) (deep : LatchesHaveDepths (both_of a b).circuit (IsEnabled (both_of a b).circuit))
-    (compared : AreCompared a b pairs depths names) (p : SignalPair) (o : Obligation) (k : IsAskedOf (both_of a b) w cut p o) (place : ℕ) (bits : List Bool) (found : IsDifferenceOf w.graph o.queries place bits) where
+module _ (a b : EventCircuitView) (w : EventGraphView) (c : EventPairs) (kept : AreKept a b w) (classes : HasClasses (both_of a b)) (deep : LatchesHaveDepths (both_of a b).circuit (IsEnabled (both_of a b).circuit))
+    (compared : AreCompared a b c) (p : SignalPair) (o : Obligation) (k : IsAskedOf (both_of a b) w c.cut p o) (place : ℕ) (bits : List Bool) (found : IsDifferenceOf w.graph o.queries place bits) where
   least : IsFrameDifference (both_of a b) w (Left p.left.0) (Right p.right.0) k.query bits
   least =
       let same : found.query ≡ k.query = only_query k.query o.queries place found.query k.only found.first.at in
       differences_least (both_of a b) w (Left p.left.0) (Right p.right.0) k.query bits kept.events k.asks (subst (λ (q : Query). IsDifference w.graph q bits) same found.differs)
 
-  pub sequence_is : o.decisive ≡ true → (depth : ℕ) → IsEventDepth a b p depth → (x : Witness) → IsWitnessOf w k.query bits o.name depth names x → IsSequenceOf a b names p x
-  sequence_is decisive depth far x is =
-      let count = length names in
-      let made = decisive_differences a b w cut p o place count far.left far.right bits kept classes deep compared.numbers compared.left_within compared.right_within k decisive found far.left_is far.right_is in
+  pub sequence_is : (i : ℕ) → slice_get c.pairs.now i ≡ Some p → BothReachAlways (both_of a b) p → (depth : ℕ) → IsEventDepth a b p depth → (x : Witness) → IsWitnessOf w k.query bits o.name depth c.names.now x → IsSequenceOf a b c.names.now p x
+  sequence_is i at always depth far x is =
+      let count = length c.names.now in
+      let left_named = All-at (λ (z : SignalPair). HasInputsBelow (circuit_of a.net) a.order count z.left.0) c.pairs.now i p at compared.left_named in
+      let right_named = All-at (λ (z : SignalPair). HasInputsBelow (circuit_of b.net) b.order count z.right.0) c.pairs.now i p at compared.right_named in
+      let made = always_differences a b w c.cut p o place count far.left far.right bits kept classes deep compared.numbers left_named right_named k always.0 always.1 found far.left_is far.right_is in
       let same : made.0 ≡ k.query = only_query k.query o.queries place made.0 k.only made.1 in
       let last : max far.left far.right ≡ depth = sym far.greater in
       let rows : rows_at w made.0 bits (max far.left far.right) count ≡ x.stimulus.rows =
@@ -83,7 +80,7 @@ module _ (a b : EventCircuitView) (w : EventGraphView) (cut : Bool) (pairs : Lis
 
   pub frame_is : (x : UnshownFrame) → IsUnshownOf w k.query bits o.name x → IsFrameOf a b p x
   frame_is x is =
-      let f : form_answers.IsFrameOf (both_of a b) w p o.queries place bits = frames_of_differences (both_of a b) w cut p o place bits kept.events k found in
+      let f : form_answers.IsFrameOf (both_of a b) w p o.queries place bits = frames_of_differences (both_of a b) w c.cut p o place bits kept.events k found in
       let same : f.query ≡ k.query = only_query k.query o.queries place f.query k.only f.at in
       let Shown : Query → Type 0 = λ (q : Query). IsUnshownFrame (both_of a b) (Left p.left.0) (Right p.right.0) (variables_of w q.vars) bits (value w.graph (assigned_to q.vars bits) q.left.0) (value w.graph (assigned_to q.vars bits) q.right.0) in
       let shown : Shown k.query = subst Shown same f.shown in
@@ -94,6 +91,5 @@ module _ (a b : EventCircuitView) (w : EventGraphView) (cut : Bool) (pairs : Lis
         shown = subst (λ l. IsUnshownFrame (both_of a b) (Left p.left.0) (Right p.right.0) (variables_of w k.query.vars) bits l x.right) (sym is.sides.0)
             (subst (λ r. IsUnshownFrame (both_of a b) (Left p.left.0) (Right p.right.0) (variables_of w k.query.vars) bits (value w.graph (assigned_to k.query.vars bits) k.query.left.0) r) (sym is.sides.1) shown);
         difference = least.differs;
-        told = variables_told w k.query.vars x.frame.items is.frame_is.variables;
-        each = is.frame_is.each;
+        told = bits_told w k.query.vars bits x.frame.items is.frame_is;
       }

@@ -6,19 +6,16 @@ use Rattle.obligations.specs.declared.obligation.Obligation.{Obligation}
 use Rattle.obligations.specs.declared.verdict.VerdictAt.{VerdictAt}
 use Rattle.obligations.specs.Decided.{HaveDecided}
 use Rattle.obligations.specs.Verdict.{IsVerdictAt}
-use Rattle.event_witness.specs.Shown.{CanBeShown, IsShown}
-use Rattle.event_comparison.specs.declared.comparison.EventFindings.{EventFindings}
+use Rattle.pair_events.specs.View.{EventsView}
+use Rattle.event_comparison.specs.Shown.{IsShown}
+use Rattle.event_findings.specs.declared.findings.EventFindings.{EventFindings}
+use Rattle.event_findings.specs.declared.pairs.EventPairs.{EventPairs}
 
--- whatever is decided can be shown
-abbrev pub CanShow : EventGraphView → ℕ → List Obligation → Type 0
-CanShow w conflicts asked =
-    (decided : Decided) (at : VerdictAt) → HaveDecided w.graph conflicts asked decided → IsVerdictAt decided.different decided.not_shown decided.results at → CanBeShown w asked decided.results at
-
--- the results are those of the obligations, and the verdict is shown at the one that gives it
-pub record AreFound (w : EventGraphView) (conflicts : ℕ) (asked : List Obligation) (depths : List ℕ) (names : List (List ℕ)) (f : EventFindings) : Type 0 where
+-- the results are those of the obligations over the event graph, and the verdict is shown at the one that gives it, while the graph grows
+pub record AreFound (w : EventGraphView) (e : EventsView) (c : EventPairs) (conflicts : ℕ) (asked : List Obligation) (f : EventFindings) : Type 0 where
   pub decided : Decided
   pub have : HaveDecided w.graph conflicts asked decided
   pub at : VerdictAt
   pub found : IsVerdictAt decided.different decided.not_shown decided.results at
   pub results : f.pairs ≡ decided.results
-  pub shown : IsShown w asked decided.results depths names at f.verdict
+  pub shown : IsShown e c asked decided.results at f.verdict

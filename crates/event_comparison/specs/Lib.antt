@@ -1,4 +1,4 @@
-pub mod Compared
-pub mod Findings
+pub mod Asked
+pub mod Shown
 pub mod Agreement
 pub mod Decided

@@ -2,7 +2,11 @@
 #![tactic(auto)]
 
 mod comparison;
+mod verdict;
 
-pub use comparison::{EventFindings, compare_events};
-pub use event_form::{EventFormError, FrameBit};
-pub use event_witness::{EventVerdict, UnshownFrame};
+pub use comparison::compare_events;
+pub use event_findings::{
+    EventFindings, EventPairs, EventVerdict, FrameBit, ToldSeparation, ToldSeparations,
+    UnshownFrame, UnshownPair,
+};
+pub use event_form::EventFormError;

@@ -3,3 +3,4 @@ pub mod Counted
 pub mod Answers
 pub mod Telling
 pub mod Refusing
+pub mod Stopping

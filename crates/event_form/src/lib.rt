@@ -10,4 +10,5 @@ mod questions;
 
 pub use error::EventFormError;
 pub use frames::{FrameBit, frame_of};
-pub use questions::ask_pairs;
+pub use nodes::union_of;
+pub use questions::{ask_pairs, unfold};

@@ -8,7 +8,7 @@ use sec_base::NoMemory;
 use std::alloc::Global;
 
 /// The numbers that one of both lists has, each once.
-pub(crate) fn union_of(alloc: Global, left: &[u32], right: &[u32]) -> Result<Vec<u32>, NoMemory>
+pub fn union_of(alloc: Global, left: &[u32], right: &[u32]) -> Result<Vec<u32>, NoMemory>
     ensures { IfOk result (λ both. IsUnion left.now right.now both.items) }
 {
     let mut numbers = Vec::new(alloc);

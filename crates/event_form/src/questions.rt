@@ -7,6 +7,7 @@ ghost use Rattle.event_form.specs.Asked.{AreAsked, IsAskedOf, IsPairOf, IsLater,
 ghost use Rattle.obligations.specs.Asked.{AreAsked as AreQueries};
 ghost use Rattle.event_form.specs.Counted.{CountsOn, CountPairOn, left_starts, right_starts};
 ghost use Rattle.event_form.specs.Refused.{IsRefusedFor, IsToldAs};
+ghost use Rattle.event_form.specs.Stopped.{IsPairStopped, IsSignalStopped, IsStoppedFor};
 ghost use Rattle.event_functions.specs.Functions.{signal_start};
 ghost use Rattle.pair_events.specs.Counted.{GoOnCounting, left_with, right_with};
 ghost use Rattle.pair_events.specs.View.{IsWithinLimits, circuit_at, side_of_both, signal_at};
@@ -39,6 +40,7 @@ pub fn ask_pairs(
     ensures later { OnOk result (IsLater events.old events.new) }
     ensures counted { OnOk result (CountsOn pairs.now events.old events.new) }
     ensures refused { IsRefusedFor (left_starts pairs.now) (right_starts pairs.now) events.old result }
+    ensures stopped { IsStoppedFor pairs.now events.old result }
 {
     events.keeps();
     let mut asked = Vec::new(alloc);
@@ -65,6 +67,7 @@ fn ask_pair(
     ensures later { OnOk result (IsLater events.old events.new) }
     ensures counted { OnOk result (CountPairOn pair.now events.old events.new) }
     ensures refused { IsRefusedFor (signal_start pair.now.left.0 ∷ []) (signal_start pair.now.right.0 ∷ []) events.old result }
+    ensures stopped { IsPairStopped pair.now events.old result }
 {
     events.keeps();
     let left = unfold(alloc, events, Side::A, pair.left)?;
@@ -75,8 +78,8 @@ fn ask_pair(
     Ok(obligation)
 }
 
-/// The event function of a signal.
-fn unfold(
+/// The event function of a signal of one circuit, counted with what was counted before. The refusals are those of `ask_pairs`.
+pub fn unfold(
     alloc: Global,
     events: &mut Events,
     side: Side,
@@ -89,6 +92,7 @@ fn unfold(
     ensures later { OnOk result (IsLater events.old events.new) }
     ensures counted { OnOk result (GoOnCounting side s.0 events.old events.new) }
     ensures refused { IsRefusedFor (left_with side s.0 []) (right_with side s.0 []) events.old result }
+    ensures stopped { IsSignalStopped side s.0 events.old result }
 {
     let made = events.unfold(alloc, side, s);
     told(side, made)

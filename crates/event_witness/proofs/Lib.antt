@@ -3,3 +3,4 @@ pub mod Differing
 pub mod Covering
 pub mod Told
 pub mod Showing
+pub mod Growing

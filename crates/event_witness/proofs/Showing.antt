@@ -1,4 +1,4 @@
--- What is decided can be shown.
+-- What differs can be shown.
 use Rattle.std.proofs.Common.{◌≡◌, ◌<◌, ℕ, zero, suc, Bool, List, [], ◌∷◌, length, slice_get, Some, Result, Ok, Err, sym, subst, arith}
 use Rattle.std.specs.Prelude.{IfOk}
 use Rattle.std.specs.List.{All, AllZip}
@@ -6,22 +6,18 @@ use Rattle.std.proofs.lemmas.Option.{same_Some, slice_get_within}
 use Rattle.circuit_theory.specs.Joined.{Either, Left, Right}
 use Rattle.event_theory.specs.Frame.{EventSide}
 use Rattle.sec_base.specs.declared.basics.PairAnswer.{PairAnswer}
-use Rattle.sec_base.specs.declared.basics.PairAnswer.TheVariants as answer
 use Rattle.event_nodes.specs.Nodes.{EventGraphView, IsEventGraph}
 use Rattle.event_agreement.proofs.PairQueries.{is_query, within}
 use Rattle.interface.specs.declared.pairs.SignalPair.{SignalPair}
 use Rattle.obligations.specs.declared.obligation.Difference.{Difference}
 use Rattle.obligations.specs.declared.obligation.Obligation.{Obligation}
-use Rattle.obligations.specs.declared.verdict.VerdictAt.{VerdictAt}
-use Rattle.obligations.specs.declared.verdict.VerdictAt.TheVariants as at
-use Rattle.obligations.specs.Decided.{IsFirst, IsFirstOf}
-use Rattle.obligations.specs.Verdict.{IsVerdictAt}
+use Rattle.obligations.specs.Decided.{IsFirstOf}
 use Rattle.outcome.specs.declared.verdict.PairResult.{PairResult}
 use Rattle.pair_decide.specs.declared.query.Query.{Query}
 use Rattle.pair_decide.specs.Queries.{IsQuery}
 use Rattle.event_form.specs.Asked.{AreAsked, IsAskedOf}
-use Rattle.event_witness.specs.Laws.{DecidedCanBeShown}
-use Rattle.event_witness.specs.Shown.{CanBeShown, IsShowable}
+use Rattle.event_witness.specs.Laws.{DifferencesCanBeShown}
+use Rattle.event_witness.specs.Shown.{IsShowable}
 use Rattle.event_witness.proofs.Differing.{only_query}
 
 -- what holds of a result that was made
@@ -30,7 +26,7 @@ if_ok (Ok x) P Q to h = to x h
 if_ok (Err e) P Q to h = tt
 
 -- what an element of the second list is of one of the first
-zip_back : {X Y : Type 0} (R : X → Y → Type 0) (xs : List X) (ys : List Y) → AllZip R xs ys → (i : ℕ) (y : Y) → slice_get ys i ≡ Some y → (x : X) × R x y
+pub zip_back : {X Y : Type 0} (R : X → Y → Type 0) (xs : List X) (ys : List Y) → AllZip R xs ys → (i : ℕ) (y : Y) → slice_get ys i ≡ Some y → (x : X) × R x y
 zip_back R [] [] all i y here = absurd (let inside = slice_get_within [] i y here in omega (arith, inside))
 zip_back R [] (z ∷ ys) all i y here = absurd all
 zip_back R (x ∷ xs) [] all i y here = absurd all
@@ -52,11 +48,5 @@ module _ (s : EventSide (Either ℕ ℕ)) (w : EventGraphView) (cut : Bool) (pai
         each = first.differs.differs.each;
       }
 
-pub can_be_shown : DecidedCanBeShown
-can_be_shown s w cut conflicts pairs asked decided y is are have found = go y found
-  where
-    go : (x : VerdictAt) → IsVerdictAt decided.different decided.not_shown decided.results x → CanBeShown w asked decided.results x
-    go at.Equal i = tt
-    go (at.Different x) i = showable s w cut pairs asked is are answer.Different decided.results x (subst (IsFirst w.graph asked answer.Different decided.results) i have.different)
-    go (at.Limit place) i = slice_get_within decided.results place i.1.result i.1.at
-    go (at.NotShown x) i = showable s w cut pairs asked is are answer.NotShown decided.results x (subst (IsFirst w.graph asked answer.NotShown decided.results) i.2 have.not_shown)
+pub differences_shown : DifferencesCanBeShown
+differences_shown s w cut pairs asked wanted results d is are first = showable s w cut pairs asked is are wanted results d first

@@ -1,6 +1,9 @@
 -- The sequence of a difference, by the bits of a query's variables.
-use Rattle.std.specs.Prelude.{◌≡◌, ℕ, Bool, List, length}
+use Rattle.std.specs.Prelude.{◌≡◌, ◌<◌, ℕ, Bool, List, length}
+use Rattle.circuit_theory.specs.Circuit.{Circuit}
 use Rattle.circuit_theory.specs.Sequence.{sequence_rows}
+use Rattle.circuit_theory.specs.Sizes.{Visits}
+use Rattle.circuit_theory.specs.Tree.{IsInputNumber}
 use Rattle.event_theory.specs.EventFrames.{frame_of}
 use Rattle.event_theory.specs.Frame.{bits_as_shifts}
 use Rattle.aig.specs.Values.{value}
@@ -10,6 +13,10 @@ use Rattle.pair_decide.specs.declared.query.Query.{Query}
 use Rattle.pair_decide.specs.Queries.{assigned_to}
 use Rattle.witness_report.specs.declared.witness.PairName.{PairName}
 use Rattle.witness_report.specs.declared.witness.Witness.{Witness}
+
+-- each input that the unfolding of the place visits has a number below this one
+abbrev pub HasInputsBelow : Circuit ℕ → List ℕ → ℕ → ℕ → Type 0
+HasInputsBelow c order count p = (q k i : ℕ) → Visits c p 0 q k → IsInputNumber c order q i → i < count
 
 -- the values of both sides where the variables have these bits
 abbrev pub AreSidesOf : EventGraphView → Query → List Bool → Bool × Bool → Type 0

@@ -1,17 +1,12 @@
--- What shows the verdict at an obligation.
+-- What shows a difference of an obligation.
 use Rattle.std.specs.Prelude.{◌≡◌, ℕ, ◌<◌, List, length, slice_get, Some, All}
 use Rattle.event_nodes.specs.Nodes.{EventGraphView}
 use Rattle.obligations.specs.declared.obligation.Difference.{Difference}
 use Rattle.obligations.specs.declared.obligation.Obligation.{Obligation}
-use Rattle.obligations.specs.declared.verdict.VerdictAt.{VerdictAt}
-use Rattle.obligations.specs.declared.verdict.VerdictAt.TheVariants as at
-use Rattle.outcome.specs.declared.verdict.PairResult.{PairResult}
 use Rattle.pair_decide.specs.declared.query.Query.{Query}
 use Rattle.pair_decide.specs.Queries.{IsQuery}
 use Rattle.witness_report.specs.declared.witness.Witness.{Witness}
 use Rattle.event_witness.specs.declared.unshown.UnshownFrame.{UnshownFrame}
-use Rattle.event_witness.specs.declared.verdict.EventVerdict.{EventVerdict}
-use Rattle.event_witness.specs.declared.verdict.EventVerdict.TheVariants as verdict
 use Rattle.event_witness.specs.Sequences.{IsWitnessOf}
 use Rattle.event_witness.specs.Unshown.{IsUnshownOf}
 
@@ -29,12 +24,6 @@ pub record IsShowable (w : EventGraphView) (asked : List Obligation) (d : Differ
   pub within : All (λ v. v < length w.places) query.vars
   pub each : length d.bits ≡ length query.vars
 
-abbrev pub CanBeShown : EventGraphView → List Obligation → List PairResult → VerdictAt → Type 0
-CanBeShown w asked results at.Equal = Unit {0}
-CanBeShown w asked results (at.Different d) = IsShowable w asked d
-CanBeShown w asked results (at.Limit place) = place < length results
-CanBeShown w asked results (at.NotShown d) = IsShowable w asked d
-
 -- the sequence of a difference, up to the depth of its pair
 pub record IsWitnessAt (w : EventGraphView) (asked : List Obligation) (depths : List ℕ) (names : List (List ℕ)) (d : Difference) (x : Witness) : Type 0 where
   pub obligation : Obligation
@@ -50,9 +39,3 @@ pub record IsUnshownAt (w : EventGraphView) (asked : List Obligation) (d : Diffe
   pub query : Query
   pub at : IsQueryAt asked d obligation query
   pub is : IsUnshownOf w query d.bits obligation.name x
-
-abbrev pub IsShown : EventGraphView → List Obligation → List PairResult → List ℕ → List (List ℕ) → VerdictAt → EventVerdict → Type 0
-IsShown w asked results depths names at.Equal v = v ≡ verdict.Equal
-IsShown w asked results depths names (at.Different d) v = (x : Witness) × (v ≡ verdict.Different x) × IsWitnessAt w asked depths names d x
-IsShown w asked results depths names (at.Limit place) v = (r : PairResult) × (slice_get results place ≡ Some r) × (v ≡ verdict.Limit r.name)
-IsShown w asked results depths names (at.NotShown d) v = (x : UnshownFrame) × (v ≡ verdict.NotShown x) × IsUnshownAt w asked d x

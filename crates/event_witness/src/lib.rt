@@ -1,12 +1,12 @@
-//! The verdict in the event form with what shows it: a sequence where a difference is decisive, or else a frame.
+//! What shows a difference in the event form: a sequence or a frame.
 #![tactic(auto)]
 
 pub mod laws;
+mod shown;
 mod sides;
 mod unshown;
-mod verdict;
 mod witness;
 
+pub use shown::{unshown_at, witness_at};
 pub use unshown::{UnshownFrame, unshown_of};
-pub use verdict::{EventVerdict, show};
 pub use witness::witness_of;

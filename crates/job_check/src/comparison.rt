@@ -5,7 +5,7 @@ ghost use Rattle.std.specs.List.{All};
 ghost use Rattle.circuit_theory.specs.declared.Mode.TheVariants.{Plain};
 ghost use Rattle.sec_base.specs.Outside.{SameHeld, NoneFell};
 ghost use Rattle.flat_net.specs.Comparable.{IsComparable};
-ghost use Rattle.check_found.specs.Check.{Check, all_paths, assumed_paths, where_built};
+ghost use Rattle.check_found.specs.Check.{Check, IsBuilt, all_paths, assumed_paths, where_built};
 ghost use Rattle.check_found.specs.Ends.{compare_end, CheckFound, EndsBeside, EndsBoth, FoundOf};
 
 use circuit_theory::Mode;
@@ -27,25 +27,29 @@ pub struct Comparison<'a> {
     pub assumed: Option<&'a str>,
 }
 
-/// Compares the circuits of two files, where the mode is built; under an assumption only the runs count whose inputs make its output 1 in
-/// each cycle. From initial values no latch is cut open.
+/// Compares the circuits of two files in the mode that is asked for; under an assumption only the runs count whose inputs make its output 1 in
+/// each cycle. From initial values the mode is plain, and no latch is cut open. In the event mode there is no assumption: one is told not to be built.
 pub fn check<S: Shelf>(
     alloc: Global,
     comparison: &Comparison<'_>,
     shelf: &mut S,
 ) -> Result<Finding, Stop>
+    requires plain { comparison.now.settings.reset ≡ true → comparison.now.settings.mode ≡ Plain }
     requires uncut { comparison.now.settings.reset ≡ true → comparison.now.settings.expose ≡ false }
     requires conflicts { comparison.now.settings.conflicts ≤ MAX_CONFLICTS }
     ensures found { let check : Check = record { left = comparison.now.left.now; right = comparison.now.right.now; settings = comparison.now.settings; assumed = option_map (λ path. path.now) comparison.now.assumed } in
         CheckFound (S.held shelf.old) (S.faults shelf.old) (S.faults shelf.new) check result }
     ensures keeps { SameHeld (S.held shelf.old) (S.held shelf.new) }
     ensures later { NoneFell (S.faults shelf.old) (S.faults shelf.new) }
-    ensures served { All (S.serves shelf.old) (where_built comparison.now.settings.mode (all_paths comparison.now.left.now comparison.now.right.now (option_map (λ path. path.now) comparison.now.assumed))) → IsErrOf result Stop.ReadFault → ⊥ }
-    ensures idle { where_built comparison.now.settings.mode (all_paths comparison.now.left.now comparison.now.right.now (option_map (λ path. path.now) comparison.now.assumed)) ≡ [] → shelf.new ≡ shelf.old }
+    ensures served { All (S.serves shelf.old) (where_built comparison.now.settings.mode (option_map (λ path. path.now) comparison.now.assumed) (all_paths comparison.now.left.now comparison.now.right.now (option_map (λ path. path.now) comparison.now.assumed))) → IsErrOf result Stop.ReadFault → ⊥ }
+    ensures idle { where_built comparison.now.settings.mode (option_map (λ path. path.now) comparison.now.assumed) (all_paths comparison.now.left.now comparison.now.right.now (option_map (λ path. path.now) comparison.now.assumed)) ≡ [] → shelf.new ≡ shelf.old }
 {
-    match comparison.settings.mode {
-        Mode::Plain => compare_files(alloc, comparison, shelf),
-        Mode::Event => Ok(Finding::Refused(Refusal::NotBuilt)),
+    match comparison.assumed {
+        Some(_) => match comparison.settings.mode {
+            Mode::Plain => compare_files(alloc, comparison, shelf),
+            Mode::Event => Ok(Finding::Refused(Refusal::NotBuilt)),
+        },
+        None => compare_files(alloc, comparison, shelf),
     }
 }
 
@@ -55,7 +59,8 @@ fn compare_files<S: Shelf>(
     comparison: &Comparison<'_>,
     shelf: &mut S,
 ) -> Result<Finding, Stop>
-    requires plain { comparison.now.settings.mode ≡ Plain }
+    requires built { IsBuilt comparison.now.settings.mode (option_map (λ path. path.now) comparison.now.assumed) }
+    requires plain { comparison.now.settings.reset ≡ true → comparison.now.settings.mode ≡ Plain }
     requires uncut { comparison.now.settings.reset ≡ true → comparison.now.settings.expose ≡ false }
     requires conflicts { comparison.now.settings.conflicts ≤ MAX_CONFLICTS }
     ensures found { let check : Check = record { left = comparison.now.left.now; right = comparison.now.right.now; settings = comparison.now.settings; assumed = option_map (λ path. path.now) comparison.now.assumed } in
@@ -77,7 +82,8 @@ fn compare_with<S: Shelf>(
     comparison: &Comparison<'_>,
     shelf: &mut S,
 ) -> Result<Finding, Stop>
-    requires plain { comparison.now.settings.mode ≡ Plain }
+    requires built { IsBuilt comparison.now.settings.mode (option_map (λ path. path.now) comparison.now.assumed) }
+    requires plain { comparison.now.settings.reset ≡ true → comparison.now.settings.mode ≡ Plain }
     requires uncut { comparison.now.settings.reset ≡ true → comparison.now.settings.expose ≡ false }
     requires conflicts { comparison.now.settings.conflicts ≤ MAX_CONFLICTS }
     requires left { IsComparable a.now }

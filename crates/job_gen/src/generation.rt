@@ -5,11 +5,13 @@ ghost use Rattle.compare_base.specs.Compared.{IsCompared};
 ghost use Rattle.gen_meaning.specs.Found.{AreTwins, GenFound, settings_of};
 
 use circuit_theory::Mode;
+use compare_base::CompareError;
 use gen_meaning::{Generation, summary};
 use job_base::{Finding, Stop};
+use outcome::{Outcome, Settings};
 use pair_gen::{Twins, generate};
+use plain_check::compare_plainly;
 use sec_base::NoMemory;
-use sec_check::{CompareError, Outcome, Settings, compare};
 use std::alloc::Global;
 
 /// Makes the pair of a number and compares it in the plain form. The outcome comes with its report; it is never refused.
@@ -39,7 +41,7 @@ fn compare_twins(alloc: Global, generation: &Generation, twins: &Twins) -> Resul
     };
     twins.a.keeps();
     twins.b.keeps();
-    match compare(alloc, &twins.a, &twins.b, &settings) {
+    match compare_plainly(alloc, &twins.a, &twins.b, &settings) {
         Ok(outcome) => tell(alloc, generation, twins, outcome),
         Err(error) => Err(stop_of(error)),
     }

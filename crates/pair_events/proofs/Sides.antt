@@ -71,7 +71,7 @@ module _ (e : EventsView) (kept : AreKept e.left e.right e.events) where
   right_itself x path node = node_itself cb (joined ca cb) Right (replace_right ca cb) (right_part ca cb) some meets e.right.order (e.left.order ++ e.right.order) (class_map e.left e.right) x path node
 
   -- a node that both circuits' starts reach was made, where those that each start reaches were
-  all_made : (children : List (ℕ × ℕ)) (left right : List (Start ℕ)) → ((x : Start ℕ) → Contains left x → HoldsNodes e.left children x) → ((x : Start ℕ) → Contains right x → HoldsNodes e.right children x) → (path : List ℕ) → NodeOf (both_starts left right) path → Contains (paths_of children) path
+  pub all_made : (children : List (ℕ × ℕ)) (left right : List (Start ℕ)) → ((x : Start ℕ) → Contains left x → HoldsNodes e.left children x) → ((x : Start ℕ) → Contains right x → HoldsNodes e.right children x) → (path : List ℕ) → NodeOf (both_starts left right) path → Contains (paths_of children) path
   all_made children left right on_left on_right [] node = subst (Contains (paths_of children)) (path_grows [] children 0 (omega arith)) (path_among children 0 (omega arith))
   all_made children left right on_left on_right (k ∷ rest) node = go (node_alone s (IsEnabled s.circuit) (both_starts left right) k rest node)
     where

@@ -3,6 +3,7 @@
 ghost use Rattle.std.specs.Prelude.{◌≡◌};
 ghost use Rattle.class_queries.specs.Laws.{AreKept};
 ghost use Rattle.pair_events.specs.View.{IsEvents};
+ghost use Rattle.pair_events.specs.Within.{IsCountedOnce};
 
 mod parts;
 mod unfolding;
@@ -58,9 +59,12 @@ impl Events {
     pub fn keeps(&self)
         ensures events { IsEvents self.now }
         ensures kept { AreKept self.now.left self.now.right self.now.events }
+        ensures once { IsCountedOnce self.now }
     {
         self.left.keeps();
         self.right.keeps();
         self.graph.keeps();
+        self.left_count.keeps();
+        self.right_count.keeps();
     }
 }

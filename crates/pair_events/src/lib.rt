@@ -3,6 +3,8 @@
 #![tactic(auto)]
 
 mod events;
+mod laws;
 
 pub use event_functions::SignalFunction;
 pub use events::Events;
+pub use laws::counted_is_within;

@@ -1,4 +1,0 @@
-pub mod Outcomes
-pub mod ResetLeaves
-pub mod ResetMeaning
-pub mod ResetSetups

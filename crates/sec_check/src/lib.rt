@@ -9,6 +9,6 @@ pub use compare_base::CompareError;
 pub use comparison::compare;
 pub use interfaces::interface;
 pub use outcome::{
-    LimitAt, Outcome, PairName, PairResult, PairResults, Proof, ResetWitness, Settings, Stimulus,
-    Verdict, Witness, report,
+    Frame, LimitAt, Outcome, PairName, PairResult, PairResults, Proof, ResetWitness, Separation,
+    Separations, Settings, Spot, Spots, Stimulus, Unshown, Verdict, Why, Witness, report,
 };

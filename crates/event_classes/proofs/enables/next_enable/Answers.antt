@@ -1,8 +1,10 @@
 -- The enable is that of the latch of both circuits side by side.
-use Rattle.std.proofs.Common.{sym, subst}
+use Rattle.std.proofs.Common.{Err, sym, ap, subst}
+use Rattle.std.proofs.lemmas.Result.{err_from_is_err_and}
 use Rattle.event_order.specs.Order.{IsTagOf}
 use Rattle.event_classes.specs.declared.map.ClassMap.{ClassMap}
 use Rattle.event_classes.proofs.Enabling.{enable_on, own_on, side_of_two}
+use Rattle.event_classes.proofs.Limiting.{error_is}
 use Rattle.event_classes.proofs.enables.next_enable.Goals as goal
 
 pub returns-clause-enable : goal.returns-clause-enable
@@ -16,3 +18,8 @@ returns-clause-own c = λ on.
     own_on c.args.tag.side c.side_enable.new.map.left c.side_enable.new.map.right c.side_enable.new.map.events c.args.tag.latch c.in_ok-made.made
     (record { left_sound = c.keeps.ensures.sound; right_sound = c.keeps-2.ensures.sound; left = c.keeps.ensures.circuit; right = c.keeps-2.ensures.circuit; events = c.keeps-3.ensures.events }) (subst (λ (o : ClassMap). IsTagOf o.left.net o.right.net c.args.tag) (sym c.side_enable.ensures.same) c.requires.latch)
     (side_of_two c.args.tag.side c.side_enable.new.map c.args.tag.latch c.in_ok-made.made c.in_ok-made.ensures.enable) on
+
+pub returns-in_err-made-clause-large : goal.returns-in_err-made-clause-large
+returns-in_err-made-clause-large c =
+    let p = err_from_is_err_and c.from_residual.result c.from_residual.ensures.1 in
+    λ side. rw (p.1, p.2) (λ is. c.in_err-made.ensures.large side (ap Err (error_is is)))

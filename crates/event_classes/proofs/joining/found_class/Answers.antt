@@ -6,6 +6,7 @@ use Rattle.class_separations.specs.Telling.{AreToldIn, HasKept}
 use Rattle.event_classes.specs.declared.map.ClassMap.{ClassMap}
 use Rattle.event_classes.specs.Map.{FitsIn}
 use Rattle.event_classes.proofs.NextLatch.{founded_goes_on}
+use Rattle.event_classes.proofs.Stopping.{class_over}
 use Rattle.event_classes.proofs.joining.found_class.Goals as goal
 
 pub keep_apart-requires : goal.keep_apart-requires
@@ -22,3 +23,6 @@ returns-clause-goes_on c =
     (subst (λ (xs : List Apart). HasKept c.args.map.now.events c.args.map.now.classes.items c.args.tag c.args.always c.args.told.now c.args.map.now.aparts.items xs) (sym (ap (λ (m : ClassMap). m.aparts.items) c.take_latch.ensures.rest))
     (subst (λ (cs : List Class). HasKept c.args.map.now.events cs c.args.tag c.args.always c.args.told.now c.args.map.now.aparts.items c.keep_apart.new.aparts.items) c.as_slice.ensures.value c.in_ok-keep_apart.ensures))
     (c.in_ok-push.ensures.items ∙ ap (λ (cs : List Class). cs ++ c.join.new.self ∷ []) (ap (λ (m : ClassMap). m.classes.items) c.take_latch.ensures.rest))
+
+pub returns-then-len-ge-CLASSES-clause-many : goal.returns-then-len-ge-CLASSES-clause-many
+returns-then-len-ge-CLASSES-clause-many c = λ is. class_over c.args.map.now c.args.tag (omega (arith, c.if-len-ge-CLASSES.true, c.len.ensures)) c.requires.fits

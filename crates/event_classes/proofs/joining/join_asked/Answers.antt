@@ -1,11 +1,15 @@
 -- What is found for the latch is its first fit.
-use Rattle.std.proofs.Common.{List, refl, sym, subst}
+use Rattle.std.proofs.Common.{ℕ, List, Err, refl, sym, ap, subst}
+use Rattle.std.proofs.lemmas.Result.{err_from_is_err_and}
 use Rattle.class_search.specs.declared.class.Class.{Class}
 use Rattle.class_search.specs.Search.{AreReadyClasses, IsFit, IsUnfit}
 use Rattle.class_queries.specs.Enables.{both_of}
 use Rattle.event_classes.specs.Limits.{IsNamed, IsErrorOf}
-use Rattle.event_classes.specs.Map.{places_in, taken_of}
-use Rattle.event_classes.proofs.Limiting.{named_of, limit_at, error_is}
+use Rattle.event_classes.specs.Map.{places_in, taken_of, with_next}
+use Rattle.class_totals.specs.Totals.{HaveCounted}
+use Rattle.event_nodes.specs.Nodes.{EventGraphView}
+use Rattle.event_classes.proofs.Limiting.{named_of, limit_at, limit_alone, error_is}
+use Rattle.event_classes.proofs.Stopping.{class_before}
 use Rattle.event_classes.specs.declared.map.ClassMap.{ClassMap}
 use Rattle.event_classes.proofs.NextLatch.{made_grows, within_grows, next_same, fit_place, found_fits_in, enable_grows}
 use Rattle.event_classes.proofs.Found.{told_by, own_grows}
@@ -53,7 +57,8 @@ join_fit-requires-clause-place c = λ place same. fit_place c.args.map.now.event
 pub returns-in_ok-join_fit-in-Ok-clause-goes_on : goal.returns-in_ok-join_fit-in-Ok-clause-goes_on
 returns-in_ok-join_fit-in-Ok-clause-goes_on c =
     let found : ClassMap = record c.args.map.now { events = c.first_fit.new.events } in
-    goes_on_from c.args.map.now found c.join_fit.new.map c.args.tag refl refl refl (made_grows c.args.map.now found refl c.keeps-3.ensures.events c.first_fit.ensures.grows (within_grows c.args.map.now found refl c.first_fit.ensures.rest)) c.in_ok-join_fit-in-Ok.ensures.goes_on
+    goes_on_from c.args.map.now found c.join_fit.new.map c.args.tag (with_next c.args.map.now c.args.tag) (with_next found c.args.tag) refl refl refl (made_grows c.args.map.now found refl c.keeps-3.ensures.events c.first_fit.ensures.grows (within_grows c.args.map.now found refl c.first_fit.ensures.rest))
+    (λ t. subst (λ (es : List (ℕ × ℕ)). HaveCounted c.args.map.now.left c.args.map.now.right es (with_next c.args.map.now c.args.tag) c.args.map.now.left_count c.args.map.now.right_count) (sym (ap (λ (w : EventGraphView). w.children) c.first_fit.ensures.rest)) t) c.in_ok-join_fit-in-Ok.ensures.goes_on
 
 pub limit_of-requires : goal.limit_of-requires
 limit_of-requires c =
@@ -63,6 +68,18 @@ limit_of-requires c =
 
 pub returns-in-Err-clause-limit : goal.returns-in-Err-clause-limit
 returns-in-Err-clause-limit c = λ latch other proof is.
-    limit_at c.args.map.now (record c.args.map.now { events = c.first_fit.new.events }) c.args.tag c.args.enable c.args.conflicts (record { left_sound = c.keeps.ensures.sound; right_sound = c.keeps-2.ensures.sound; left = c.keeps.ensures.circuit; right = c.keeps-2.ensures.circuit; events = c.keeps-3.ensures.events }) c.requires.enable c.in-Err.unfit
+    limit_at c.args.map.now (record c.args.map.now { events = c.first_fit.new.events }) c.args.tag c.args.enable c.args.conflicts (record { left_sound = c.keeps.ensures.sound; right_sound = c.keeps-2.ensures.sound; left = c.keeps.ensures.circuit; right = c.keeps-2.ensures.circuit; events = c.keeps-3.ensures.events }) c.requires.enable c.requires.ready c.requires.own c.in-Err.unfit
     (subst (λ (cs : List Class). IsUnfit c.args.map.now.events c.first_fit.new.events cs c.args.enable c.args.conflicts c.in-Err.unfit) c.as_slice.ensures.value c.in-Err.ensures.unfit) c.limit_of.result
     (subst (λ (cs : List Class). IsErrorOf cs c.args.tag c.limit_of.result c.in-Err.unfit) c.as_slice-in-Err.ensures.value c.limit_of.ensures) latch other proof (error_is is)
+
+pub returns-in-Err-clause-many : goal.returns-in-Err-clause-many
+returns-in-Err-clause-many c = λ is. absurd ((limit_alone c.args.map.now.classes.items c.args.tag c.in-Err.unfit c.limit_of.result (subst (λ (cs : List Class). IsErrorOf cs c.args.tag c.limit_of.result c.in-Err.unfit) c.as_slice-in-Err.ensures.value c.limit_of.ensures)).0 (error_is is))
+
+pub returns-in-Err-clause-large : goal.returns-in-Err-clause-large
+returns-in-Err-clause-large c = λ side is. (limit_alone c.args.map.now.classes.items c.args.tag c.in-Err.unfit c.limit_of.result (subst (λ (cs : List Class). IsErrorOf cs c.args.tag c.limit_of.result c.in-Err.unfit) c.as_slice-in-Err.ensures.value c.limit_of.ensures)).1 side (error_is is)
+
+pub returns-in_err-join_fit-in-Ok-clause-many : goal.returns-in_err-join_fit-in-Ok-clause-many
+returns-in_err-join_fit-in-Ok-clause-many c =
+    let found : ClassMap = record c.args.map.now { events = c.first_fit.new.events } in
+    let p = err_from_is_err_and c.from_residual.result c.from_residual.ensures.1 in
+    rw (p.1, p.2) (λ is. class_before c.args.map.now found c.args.tag refl (made_grows c.args.map.now found refl c.keeps-3.ensures.events c.first_fit.ensures.grows (within_grows c.args.map.now found refl c.first_fit.ensures.rest)) (c.in_err-join_fit-in-Ok.ensures.many (ap Err (error_is is))))

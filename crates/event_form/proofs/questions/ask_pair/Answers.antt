@@ -8,6 +8,7 @@ use Rattle.event_functions.specs.Functions.{signal_start}
 use Rattle.event_form.proofs.Asking.{function_on, later_refl, later_trans, more_is_later}
 use Rattle.event_form.proofs.Counted.{left_counted, none_counted, pair_counted, within_same}
 use Rattle.event_form.proofs.Refusing.{all_within, error_is, memory_refused, nothing_within, ok_refused, refused_later}
+use Rattle.event_form.proofs.Stopping.{left_stopped, right_stopped, pair_memory_stopped, pair_never_stopped}
 use Rattle.event_form.proofs.questions.ask_pair.Goals as goal
 
 pub unfold-requires-2-clause-signal : goal.unfold-requires-2-clause-signal
@@ -47,3 +48,21 @@ returns-in_err-obligation-clause-refused c =
 
 pub returns-clause-refused : goal.returns-clause-refused
 returns-clause-refused c = ok_refused (signal_start c.args.pair.now.left.0 ∷ []) (signal_start c.args.pair.now.right.0 ∷ []) c.args.events.now c.in_ok-obligation.obligation
+
+pub returns-in_err-left-clause-stopped : goal.returns-in_err-left-clause-stopped
+returns-in_err-left-clause-stopped c =
+    let p = err_from_is_err_and c.from_residual.result c.from_residual.ensures.1 in
+    rw (p.1, p.2) (left_stopped c.args.events.now c.args.pair.now (later_refl c.args.events.now (grows_refl c.args.events.now.events)) c.keeps.ensures.kept c.keeps.ensures.once c.requires.within _ _ (λ error is. ap Err (error_is is)) c.in_err-left.ensures.stopped)
+
+pub returns-in_err-right-clause-stopped : goal.returns-in_err-right-clause-stopped
+returns-in_err-right-clause-stopped c =
+    let p = err_from_is_err_and c.from_residual-in_err-right.result c.from_residual-in_err-right.ensures.1 in
+    rw (p.1, p.2) (right_stopped c.args.events.now c.unfold.new.events c.args.pair.now c.in_ok-left.ensures.later c.keeps-2.ensures.kept c.keeps-2.ensures.once c.in_ok-left.ensures.within c.in_ok-left.ensures.counted _ _ (λ error is. ap Err (error_is is)) c.in_err-right.ensures.stopped)
+
+pub returns-in_err-obligation-clause-stopped : goal.returns-in_err-obligation-clause-stopped
+returns-in_err-obligation-clause-stopped c =
+    let p = err_from_is_err_and c.from_residual-in_err-obligation.result c.from_residual-in_err-obligation.ensures.1 in
+    rw (p.1, p.2) (pair_memory_stopped c.args.pair.now c.args.events.now)
+
+pub returns-clause-stopped : goal.returns-clause-stopped
+returns-clause-stopped c = pair_never_stopped c.args.pair.now c.args.events.now c.in_ok-obligation.obligation

@@ -14,6 +14,7 @@ use Rattle.event_functions.specs.Functions.{signal_start}
 use Rattle.event_form.proofs.Refusing.{error_is, front_within, memory_refused, ok_refused, one_within, refused_later}
 use Rattle.event_form.proofs.Asking.{asked_next, asked_queries, later_refl, later_trans, pair_on}
 use Rattle.event_form.proofs.Counted.{none_counted, counted_next}
+use Rattle.event_form.proofs.Stopping.{memory_stopped, never_stopped, pairs_stopped}
 use Rattle.event_form.proofs.questions.ask_pairs.Goals as goal
 
 pub loop-i-init : goal.loop-i-init
@@ -62,3 +63,17 @@ returns-in_err-push-clause-refused c =
 
 pub returns-clause-refused : goal.returns-clause-refused
 returns-clause-refused c = ok_refused (left_starts c.args.pairs.now) (right_starts c.args.pairs.now) c.args.events.now c.loop-i.asked
+
+pub returns-in_err-obligation-clause-stopped : goal.returns-in_err-obligation-clause-stopped
+returns-in_err-obligation-clause-stopped c =
+    let p = err_from_is_err_and c.from_residual.result c.from_residual.ensures.1 in
+    rw (p.1, p.2) (pairs_stopped c.args.events.now c.loop-i.events c.args.pairs.now c.loop-i.i c.index-pairs-i.result (omega (arith, c.loop-i-test.true)) (sym c.index-pairs-i.is) c.loop-i.invariant.later c.loop-i.invariant.counted _ _
+    (λ error is. ap Err (error_is is)) c.in_err-obligation.ensures.stopped)
+
+pub returns-in_err-push-clause-stopped : goal.returns-in_err-push-clause-stopped
+returns-in_err-push-clause-stopped c =
+    let p = err_from_is_err_and c.from_residual-in_err-push.result c.from_residual-in_err-push.ensures.1 in
+    rw (p.1, p.2) (memory_stopped c.args.pairs.now c.args.events.now)
+
+pub returns-clause-stopped : goal.returns-clause-stopped
+returns-clause-stopped c = never_stopped c.args.pairs.now c.args.events.now c.loop-i.asked

@@ -7,6 +7,7 @@ use Rattle.pair_events.specs.View.{IsWithinLimits, side_of_both, signal_at}
 use Rattle.event_form.specs.Asked.{IsLater}
 use Rattle.event_form.proofs.Asking.{later_by}
 use Rattle.event_form.proofs.Refusing.{told_if, told_on, told_many, told_large, signal_refused}
+use Rattle.event_form.proofs.Stopping.{signal_stopped}
 use Rattle.event_form.proofs.questions.unfold.Goals as goal
 
 pub returns-clause-function : goal.returns-clause-function
@@ -26,3 +27,6 @@ returns-clause-counted c = told_on c.args.side c.unfold-made.result c.told.resul
 pub returns-clause-refused : goal.returns-clause-refused
 returns-clause-refused c =
     signal_refused c.args.side c.args.s.0 c.args.events.now c.unfold-made.result c.told.result (told_many c.args.side c.unfold-made.result c.told.result c.told.ensures) (told_large c.args.side c.unfold-made.result c.told.result c.told.ensures) c.unfold-made.ensures.refused
+
+pub returns-clause-stopped : goal.returns-clause-stopped
+returns-clause-stopped c = signal_stopped c.args.side c.args.s.0 c.args.events.now c.unfold-made.result c.told.result c.told.ensures c.unfold-made.ensures.refused

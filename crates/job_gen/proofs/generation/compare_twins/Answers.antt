@@ -9,16 +9,16 @@ use Rattle.gen_meaning.specs.Found.{settings_of}
 use Rattle.gen_meaning.proofs.Never.{never_refused}
 use Rattle.job_gen.proofs.generation.compare_twins.Goals as goal
 
-pub compare-requires-clause-uncut : goal.compare-requires-clause-uncut
-compare-requires-clause-uncut c e = refl
+pub compare_plainly-requires-clause-uncut : goal.compare_plainly-requires-clause-uncut
+compare_plainly-requires-clause-uncut c e = refl
 
-pub compare-requires-clause-left : goal.compare-requires-clause-left
-compare-requires-clause-left c = twin_comparable A false (words_of c.args.generation.now.seed) c.args.twins.now.a c.requires.twins.left
+pub compare_plainly-requires-clause-left : goal.compare_plainly-requires-clause-left
+compare_plainly-requires-clause-left c = twin_comparable A false (words_of c.args.generation.now.seed) c.args.twins.now.a c.requires.twins.left
 
-pub compare-requires-clause-right : goal.compare-requires-clause-right
-compare-requires-clause-right c = twin_comparable B c.args.generation.now.regroup (words_of c.args.generation.now.seed) c.args.twins.now.b c.requires.twins.right
+pub compare_plainly-requires-clause-right : goal.compare_plainly-requires-clause-right
+compare_plainly-requires-clause-right c = twin_comparable B c.args.generation.now.regroup (words_of c.args.generation.now.seed) c.args.twins.now.b c.requires.twins.right
 
 pub stop_of-requires : goal.stop_of-requires
 stop_of-requires c =
     never_refused c.args.generation.now c.args.twins.now.a c.args.twins.now.b c.requires.twins c.keeps.ensures.sound c.keeps-2.ensures.sound c.in-Err.error
-    (subst (λ (r : Result Outcome CompareError). Compared c.args.twins.now.a c.args.twins.now.b (settings_of c.args.generation.now) r) c.in-Err.is c.compare.ensures)
+    (subst (λ (r : Result Outcome CompareError). Compared c.args.twins.now.a c.args.twins.now.b (settings_of c.args.generation.now) r) c.in-Err.is c.compare_plainly.ensures)

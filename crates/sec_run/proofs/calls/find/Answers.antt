@@ -12,6 +12,9 @@ use Rattle.sec_run.proofs.calls.find.Goals as goal
 pub check-requires-clause-uncut : goal.check-requires-clause-uncut
 check-requires-clause-uncut g c = (subst IsAllowed c.in-Check.is c.requires).1
 
+pub check-requires-clause-plain : goal.check-requires-clause-plain
+check-requires-clause-plain g c = (subst IsAllowed c.in-Check.is c.requires).2
+
 pub check-requires-clause-conflicts : goal.check-requires-clause-conflicts
 check-requires-clause-conflicts g c = (subst IsAllowed c.in-Check.is c.requires).0
 

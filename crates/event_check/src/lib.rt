@@ -1,0 +1,8 @@
+//! Comparing two circuits in the event form.
+#![tactic(auto)]
+
+mod comparison;
+mod outcomes;
+mod pairs;
+
+pub use comparison::compare_in_events;

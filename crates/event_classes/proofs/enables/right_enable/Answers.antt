@@ -1,0 +1,27 @@
+-- The enable is counted, or it is refused.
+use Rattle.std.proofs.Common.{◌∙◌, Err, ap, subst}
+use Rattle.circuit_theory.specs.declared.Side.{Side}
+use Rattle.circuit_theory.specs.declared.Side.TheVariants.{B}
+use Rattle.class_totals.specs.Totals.{ReachFew, WeighTooMuch}
+use Rattle.event_classes.specs.Map.{taken_of, with_next}
+use Rattle.event_classes.proofs.Enabling.{right_counts}
+use Rattle.event_classes.proofs.Limiting.{error_is as of_error}
+use Rattle.event_classes.proofs.Refusing.{right_many, right_large}
+use Rattle.event_classes.proofs.Setting.{latch_there}
+use Rattle.event_classes.proofs.enables.right_enable.Goals as goal
+
+pub returns-in-Ok-clause-counts : goal.returns-in-Ok-clause-counts
+returns-in-Ok-clause-counts c =
+    right_counts c.args.map.now.left c.args.map.now.right c.args.map.now.events c.enable_of.new.events.children (taken_of c.args.map.now) c.args.j c.args.map.now.left_count c.args.map.now.right_count c.enable_of.new.count c.keeps.ensures.sound c.keeps-2.ensures.sound c.keeps-3.ensures.events c.requires.latch c.enable_of.ensures.counting c.in-Ok.ensures.counted
+
+pub returns-in-Err-clause-many : goal.returns-in-Err-clause-many
+returns-in-Err-clause-many c = λ is counts.
+    let at = latch_there c.args.map.now.right.net c.args.j c.requires.latch in
+    right_many c.args.map.now.left c.args.map.now.right c.args.map.now.events c.enable_of.new.events (taken_of c.args.map.now) c.args.j c.args.map.now.left_count c.args.map.now.right_count c.keeps.ensures.sound c.keeps-2.ensures.sound c.keeps-3.ensures.events c.keeps-in-Err.ensures.events counts c.enable_of.new.count c.requires.latch c.enable_of.ensures.counting
+    ((c.enable_of.ensures.refused _ at).many (c.in-Err.is ∙ ap Err (c.refusal.ensures.many (of_error is))))
+
+pub returns-in-Err-clause-large : goal.returns-in-Err-clause-large
+returns-in-Err-clause-large c = λ side is depths counts.
+    let same = c.refusal.ensures.large side (of_error is) in
+    subst (λ (o : Side). ReachFew c.args.map.now.left c.args.map.now.right (with_next c.args.map.now (record { side = B; latch = c.args.j })) × WeighTooMuch o c.args.map.now.left c.args.map.now.right (with_next c.args.map.now (record { side = B; latch = c.args.j }))) same.0
+    (right_large c.args.map.now.left c.args.map.now.right c.args.map.now.events c.enable_of.new.events (taken_of c.args.map.now) c.args.j c.args.map.now.left_count c.args.map.now.right_count c.keeps.ensures.sound c.keeps-2.ensures.sound c.keeps-3.ensures.events c.keeps-in-Err.ensures.events counts c.enable_of.new.count c.requires.latch c.enable_of.ensures.counting c.enable_of.result c.enable_of.ensures.refused (c.in-Err.is ∙ ap Err same.1) depths.1)

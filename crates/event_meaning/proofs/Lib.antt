@@ -1,0 +1,4 @@
+pub mod Cases
+pub mod Saying
+pub mod Framing
+pub mod Exact

@@ -1,0 +1,9 @@
+//! What an outcome that fits two circuits in the event form says of them.
+#![tactic(auto)]
+
+mod laws;
+
+pub use laws::{
+    answers_are_exact, cut_outcomes_differ, different_outcomes_differ, equal_outcomes_agree,
+    unshown_outcomes_are_framed,
+};

@@ -1,0 +1,17 @@
+-- No net has a cycle, and no latch is chosen.
+use Rattle.std.proofs.Common.{◌≡◌, false, [], sym, subst}
+use Rattle.cut_points.specs.declared.exposed.Exposure.{Exposure}
+use Rattle.event_setup.specs.Choosing.{AreChosen, IsCycleOf}
+use Rattle.event_setup.proofs.Choices.{none_chosen}
+use Rattle.event_setup.proofs.choice.choose_none.Goals as goal
+
+pub returns : goal.returns
+returns c =
+    let a = c.args.nets.now.left.now in
+    let b = c.args.nets.now.right.now in
+    let left = subst (IsCycleOf a) c.in_default.is c.in_ok-names.ensures in
+    let right = subst (IsCycleOf b) c.in_default-2.is c.in_ok-names-2.ensures in
+    let none : Exposure = record { names = []; left = []; right = [] } in
+    let made : Exposure = record { names = c.new.result; left = c.new-2.result; right = c.new-3.result } in
+    let same : none ≡ made = (λ i. record { names = sym c.new.ensures i; left = sym c.new-2.ensures i; right = sym c.new-3.ensures i }) in
+    subst (λ (e : Exposure). AreChosen a b false e) same (none_chosen a b left right)

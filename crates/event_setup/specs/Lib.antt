@@ -1,0 +1,5 @@
+pub mod Choosing
+pub mod Cutting
+pub mod Numbering
+pub mod Recovered
+pub mod Setup

@@ -1,0 +1,4 @@
+pub mod Outcomes
+pub mod ResetLeaves
+pub mod ResetMeaning
+pub mod ResetSetups

@@ -1,0 +1,63 @@
+-- The classes of the pair, and what tells them apart.
+use Rattle.std.proofs.Common.{◌≡◌, ◌∙◌, ◌≤◌, ℕ, true, false, List, length, sym, subst}
+use Rattle.std.specs.List.{All, AllZip}
+use Rattle.circuit_theory.proofs.Lists.{All-from_each}
+use Rattle.event_nodes.specs.Nodes.{EventGraphView}
+use Rattle.pair_events.specs.View.{EventsView}
+use Rattle.class_events.specs.Separated.{AreSeparated}
+use Rattle.class_events.proofs.Separated.{separated_stay}
+use Rattle.event_form.specs.Asked.{IsLater}
+use Rattle.class_separations.specs.declared.apart.Apart.{Apart}
+use Rattle.event_nodes.specs.Nodes.{IsEventGraph}
+use Rattle.unshown_pairs.specs.Classes.{AreEntered}
+use Rattle.unshown_pairs.specs.Telling.{IsToldAt, two_of}
+use Rattle.unshown_pairs.proofs.Separating.{classes_low, separations_are}
+use Rattle.unshown_pairs.proofs.telling.tell_apart.Goals as goal
+
+later_separated : (old new : EventsView) (aparts : List Apart) → IsEventGraph old.events → IsLater old new → AreSeparated old aparts → AreSeparated new aparts
+later_separated old new aparts is later k = separated_stay old new aparts is later.left later.right later.count later.grows k
+
+-- the classes of the nodes that were reached
+entered_there : (w v : EventGraphView) (nodes reached classes : List ℕ) → w ≡ v → nodes ≡ reached → AreEntered w.children nodes classes → AreEntered v.children reached classes
+entered_there w v nodes reached classes graph same k = subst (λ (x : EventGraphView). AreEntered x.children reached classes) graph (subst (λ (ns : List ℕ). AreEntered w.children ns classes) same k)
+
+pub classes_into-requires : goal.classes_into-requires
+classes_into-requires c =
+    let nodes = c.in_ok-reach.ensures.reach.nodes in
+    subst (λ (w : EventGraphView). All (λ n. n ≤ length w.children) c.as_slice.result.now) (sym c.graph.ensures)
+    (subst (λ (ns : List ℕ). All (λ n. n ≤ length c.reach_of.new.events.events.children) ns) (sym c.as_slice.ensures.value)
+    (All-from_each (λ n. n ≤ length c.reach_of.new.events.events.children) c.in_ok-reach.reach.nodes.items (λ n h. ((nodes.exactly n).0 h).0)))
+
+pub returns-then-reach-clause-told : goal.returns-then-reach-clause-told
+returns-then-reach-clause-told c = c.in_ok-reach.ensures.reach.only_is.0 c.if-reach.true
+
+pub separations_among-requires-clause-separated : goal.separations_among-requires-clause-separated
+separations_among-requires-clause-separated c = later_separated c.args.events.now c.reach_of.new.events c.args.aparts.now c.keeps.ensures.kept.events c.in_ok-reach.ensures.later c.requires.separated
+
+pub separations_among-requires-clause-few : goal.separations_among-requires-clause-few
+separations_among-requires-clause-few c =
+    let e = c.reach_of.new.events in
+    let classes = c.in_ok-classes.classes.items in
+    let entered : AreEntered e.events.children c.in_ok-reach.reach.nodes.items classes =
+    entered_there c.graph.result.now e.events c.as_slice.result.now c.in_ok-reach.reach.nodes.items classes c.graph.ensures c.as_slice.ensures.value c.in_ok-classes.ensures in
+    subst (λ (ks : List ℕ). All (λ k. k ≤ e.count) ks) (sym c.as_slice-2.ensures.value)
+    (classes_low e c.keeps-2.ensures.events c.keeps-2.ensures.kept.events c.args.pair.now c.in_ok-reach.reach.nodes.items classes c.in_ok-reach.ensures.reach.nodes entered)
+
+pub returns-clause-told : goal.returns-clause-told
+returns-clause-told c =
+    let e = c.reach_of.new.events in
+    let nodes = c.in_ok-reach.reach.nodes.items in
+    let classes = c.in_ok-classes.classes.items in
+    let entered : AreEntered e.events.children nodes classes = entered_there c.graph.result.now e.events c.as_slice.result.now nodes classes c.graph.ensures c.as_slice.ensures.value c.in_ok-classes.ensures in
+    let separated : AreSeparated e c.args.aparts.now = later_separated c.args.events.now e c.args.aparts.now c.keeps.ensures.kept.events c.in_ok-reach.ensures.later c.requires.separated in
+    let few : All (λ k. k ≤ e.count) classes = classes_low e c.keeps-2.ensures.events c.keeps-2.ensures.kept.events c.args.pair.now nodes classes c.in_ok-reach.ensures.reach.nodes entered in
+    let told : AllZip (IsToldAt e.events c.args.aparts.now) (two_of classes) c.in_ok-told.told =
+    subst (λ (ks : List ℕ). AllZip (IsToldAt e.events c.args.aparts.now) (two_of ks) c.in_ok-told.told) c.as_slice-2.ensures.value c.in_ok-told.ensures in
+    record {
+      others = λ h. wrong (sym (c.in_ok-reach.ensures.reach.only_is.1 h) ∙ c.if-reach.false);
+      classes = separated.classes;
+      separations = separations_are e c.args.aparts.now separated c.args.pair.now nodes classes c.in_ok-told.told c.keeps-2.ensures.kept.events c.in_ok-reach.ensures.reach.nodes entered few told;
+    }
+  where
+    wrong : true ≡ false → ⊥
+    wrong q = cc

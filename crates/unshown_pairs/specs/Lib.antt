@@ -1,0 +1,5 @@
+pub mod Reached
+pub mod Classes
+pub mod Told
+pub mod Telling
+pub mod Separations

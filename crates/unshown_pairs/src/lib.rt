@@ -1,0 +1,12 @@
+//! What is told of a pair whose difference says nothing of the circuits: whether it reaches class 0 alone, and else what tells apart each two
+//! classes that occur in the paths of its event nodes.
+#![tactic(auto)]
+
+mod classes;
+mod reach;
+mod separations;
+mod telling;
+
+pub use reach::{PairReach, reach_of};
+pub use separations::{ToldSeparation, ToldSeparations};
+pub use telling::tell_apart;
