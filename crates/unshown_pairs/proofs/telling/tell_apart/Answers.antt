@@ -5,7 +5,7 @@ use Rattle.circuit_theory.proofs.Lists.{All-from_each}
 use Rattle.event_nodes.specs.Nodes.{EventGraphView}
 use Rattle.pair_events.specs.View.{EventsView}
 use Rattle.class_events.specs.Separated.{AreSeparated}
-use Rattle.class_events.proofs.Separated.{separated_stay}
+use Rattle.class_events.proofs.Telling.{separated_stay}
 use Rattle.event_form.specs.Asked.{IsLater}
 use Rattle.class_separations.specs.declared.apart.Apart.{Apart}
 use Rattle.event_nodes.specs.Nodes.{IsEventGraph}
