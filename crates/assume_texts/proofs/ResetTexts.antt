@@ -25,10 +25,10 @@ use Rattle.outcome_fits.specs.ResetOutcome.{Numbered, IsFirstLimit}
 use Rattle.plain_meaning.proofs.Fitted.{kept_proof}
 use Rattle.swept_queries.proofs.Listed.{zip_left}
 use Rattle.assume_laws.specs.Assume.{Assumption}
-use Rattle.assume_taken.specs.Taken.{assumed_by}
-use Rattle.under_fits.specs.Cycles.{IsUndecidedUnder}
-use Rattle.under_fits.specs.ResetOutcome.{ResetVerdictFitsUnder, numbers_of}
-use Rattle.under_fits.specs.ResetVerdict.{AgreeBeforeUnder, AnswerFitsUnder, PairFitsUnder}
+use Rattle.under_base.specs.Taken.{assumed_by}
+use Rattle.under_base.specs.Cycles.{IsUndecidedUnder}
+use Rattle.under_base.specs.ResetOutcome.{ResetVerdictFitsUnder, numbers_of}
+use Rattle.under_base.specs.ResetVerdict.{AgreeBeforeUnder, AnswerFitsUnder, PairFitsUnder}
 use Rattle.under_base.specs.Compared.{IsComparedFromResetUnder}
 use Rattle.under_base.specs.Met.{shared_by}
 use Rattle.sec_files.specs.Loading.{Loads}

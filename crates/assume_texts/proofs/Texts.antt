@@ -27,10 +27,10 @@ use Rattle.sec_setup.specs.Cuts.{columns_of, is_cut}
 use Rattle.outcome_fits.specs.Outcome.{IsFirstLimit}
 use Rattle.assume_laws.specs.Assume.{Assumption}
 use Rattle.assume_laws.specs.Sequences.{RowsMeet}
-use Rattle.assume_taken.specs.Taken.{assumed_by}
-use Rattle.under_fits.specs.Limits.{IsUndecidedUnder}
-use Rattle.under_fits.specs.Pairs.{AnswerFitsUnder, PairFitsUnder}
-use Rattle.under_fits.specs.Verdict.{VerdictFitsUnder}
+use Rattle.under_base.specs.Taken.{assumed_by}
+use Rattle.under_base.specs.Limits.{IsUndecidedUnder}
+use Rattle.under_base.specs.Pairs.{AnswerFitsUnder, PairFitsUnder}
+use Rattle.under_base.specs.Verdict.{VerdictFitsUnder}
 use Rattle.under_base.specs.Compared.{IsComparedUnder}
 use Rattle.under_base.specs.Met.{shared_by}
 use Rattle.sec_files.specs.Loading.{Loads, circuit_of_text}

@@ -1,3 +1,4 @@
+pub use Rattle.under_base.specs.Compared
 pub mod Agreement
 pub mod Answers
 pub mod Meets

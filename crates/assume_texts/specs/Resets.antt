@@ -13,10 +13,10 @@ use Rattle.outcome.specs.declared.verdict.Verdict.TheVariants as verdict
 use Rattle.outcome.specs.declared.verdict.Outcome.{Outcome}
 use Rattle.outcome.specs.Report.{report_text}
 use Rattle.sec_setup.specs.Pairs.{NamedPair, named_pairs}
-use Rattle.assume_taken.specs.Taken.{IsAssumed, assumed_by}
-use Rattle.under_fits.specs.Cycles.{IsUndecidedUnder}
-use Rattle.under_fits.specs.ResetOutcome.{numbers_of}
-use Rattle.under_fits.specs.ResetVerdict.{AgreeBeforeUnder}
+use Rattle.under_base.specs.Taken.{IsAssumed, assumed_by}
+use Rattle.under_base.specs.Cycles.{IsUndecidedUnder}
+use Rattle.under_base.specs.ResetOutcome.{numbers_of}
+use Rattle.under_base.specs.ResetVerdict.{AgreeBeforeUnder}
 use Rattle.under_base.specs.Met.{shared_by}
 use Rattle.sec_files.specs.Loading.{Loads}
 use Rattle.assume_texts.specs.Agreement.{AgreeFromResetWhereMet, MakesResetsDifferWhereMet}

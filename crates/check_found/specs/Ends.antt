@@ -11,8 +11,8 @@ use Rattle.job_base.specs.declared.finding.Finding.{Finding}
 use Rattle.job_base.specs.declared.finding.Finding.TheVariants as finding
 use Rattle.job_base.specs.declared.finding.Stop.{Stop}
 use Rattle.job_base.specs.declared.finding.Stop.TheVariants as stop
-use Rattle.compare_base.specs.declared.error.CompareError.{CompareError}
-use Rattle.compare_base.specs.declared.error.CompareError.TheVariants as compare_error
+use Rattle.under_base.specs.CompareError.{CompareError}
+use Rattle.under_base.specs.CompareError.TheVariants as compare_error
 use Rattle.event_fits.specs.Compared.{ComparedIn}
 use Rattle.under_base.specs.Compared.{ComparedUnder}
 use Rattle.sec_files.specs.Loading.{Loads, LoadFails}

@@ -10,8 +10,8 @@ use Rattle.job_base.specs.declared.finding.Refusal.{Refusal}
 use Rattle.job_base.specs.declared.finding.Refusal.TheVariants as refusal
 use Rattle.job_base.specs.declared.finding.Finding.{Finding}
 use Rattle.job_base.specs.declared.finding.Finding.TheVariants as finding
-use Rattle.compare_base.specs.declared.error.CompareError.{CompareError}
-use Rattle.compare_base.specs.declared.error.CompareError.TheVariants as compare_error
+use Rattle.under_base.specs.CompareError.{CompareError}
+use Rattle.under_base.specs.CompareError.TheVariants as compare_error
 use Rattle.event_fits.specs.Compared.{ComparedIn}
 use Rattle.under_base.specs.Compared.{ComparedUnder}
 use Rattle.sec_files.specs.Loading.{Loads, IsTooLong, HasFault, HasDesignFault, HasRecordFault}

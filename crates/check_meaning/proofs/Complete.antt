@@ -29,14 +29,14 @@ use Rattle.check_meaning.specs.Answer.{AreComparableUnder, CanAnswer, CanAnswerW
 use Rattle.check_texts.specs.Texts.{AreComparable}
 use Rattle.event_texts.specs.Texts.{AreEventComparable}
 use Rattle.event_setup.specs.Choosing.{HaveNoCycles}
-use Rattle.event_fits.specs.Compared.{ComparedIn, ComparedInEvents}
-use Rattle.compare_base.specs.declared.error.CompareError.{CompareError}
-use Rattle.compare_base.specs.declared.error.CompareError.TheVariants as compare_error
-use Rattle.compare_base.specs.Compared.{Compared}
-use Rattle.compare_base.proofs.ToldCycles.{is_not_free}
+use Rattle.check_found.specs.Compared.{ComparedIn, ComparedInEvents}
+use Rattle.check_texts.specs.CompareError.{CompareError}
+use Rattle.check_texts.specs.CompareError.TheVariants as compare_error
+use Rattle.check_texts.specs.Compared.{Compared}
+use Rattle.check_texts.proofs.ToldCycles.{is_not_free}
 use Rattle.cut_points.specs.Exposed.{IsFreeWithout, IsToldCycle}
 use Rattle.expose_pick.proofs.Cuts.{round_cycle}
-use Rattle.under_base.specs.Compared.{ComparedUnder}
+use Rattle.assume_texts.specs.Compared.{ComparedUnder}
 
 -- the text of the assumption is told, where there is one
 abbrev IsThirdTold : Held → Option (List ℕ) → Type 0
@@ -225,12 +225,12 @@ module _ (held : Held) (check : Check) (f : Finding) (found : IsFoundOf held che
       let t = both_told held check (λ x y. IsSomeAnd (held path) (λ z. AreComparableUnder x y z check.settings)) can in
       let z = some_and (held path) (λ z. AreComparableUnder t.0 t.1 z check.settings) t.4 in
       let told : AreTold held check check.assumed =
-          record { left = t.0; right = t.1; left_is = t.2; right_is = t.3; left_accepted = z.2.comparable.left; right_accepted = z.2.comparable.right; third = subst (IsThirdTold held) (sym is) (z.0, z.1, z.2.accepted) } in
+      record { left = t.0; right = t.1; left_is = t.2; right_is = t.3; left_accepted = z.2.comparable.left; right_accepted = z.2.comparable.right; third = subst (IsThirdTold held) (sym is) (z.0, z.1, z.2.accepted) } in
       let under : (e : CompareError) → (e ≡ compare_error.NoMemory → ⊥) → AnswersUnder (Some path) e → ⊥ =
-          λ e no h.
-          (let n = if_told (held path) (λ w. OfThreeNets (λ a b c. ComparedUnder a b c check.settings (Err e)) t.0 t.1 w) z.0 z.1
-              (of_texts held check told (λ x y. IfSome (held path) (λ w. OfThreeNets (λ a b c. ComparedUnder a b c check.settings (Err e)) x y w)) h) in
-          never_assuming t.0 t.1 z.0 check.settings z.2 n.0 n.1 n.2 n.3 n.4 n.5 e no n.6) in
+      λ e no h.
+      (let n = if_told (held path) (λ w. OfThreeNets (λ a b c. ComparedUnder a b c check.settings (Err e)) t.0 t.1 w) z.0 z.1
+      (of_texts held check told (λ x y. IfSome (held path) (λ w. OfThreeNets (λ a b c. ComparedUnder a b c check.settings (Err e)) x y w)) h) in
+      never_assuming t.0 t.1 z.0 check.settings z.2 n.0 n.1 n.2 n.3 n.4 n.5 e no n.6) in
       answered told (Some path) is under under
   by_form Event (Some path) mode_is is can = absurd can
 

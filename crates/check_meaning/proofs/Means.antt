@@ -20,11 +20,11 @@ use Rattle.job_base.specs.declared.finding.Finding.TheVariants as finding
 use Rattle.job_base.specs.declared.status.StatusName.{StatusName}
 use Rattle.job_base.specs.declared.status.StatusName.TheVariants as status
 use Rattle.job_base.specs.Written.{verdict_status, status_of, IsWrittenAs}
-use Rattle.compare_base.specs.declared.error.CompareError.{CompareError}
-use Rattle.compare_base.specs.Compared.{IsCompared, IsComparedFromReset}
-use Rattle.event_fits.specs.Compared.{ComparedIn, IsComparedInEvents}
-use Rattle.compare_base.proofs.Forms.{by_reset}
-use Rattle.under_base.specs.Compared.{ComparedUnder}
+use Rattle.check_texts.specs.CompareError.{CompareError}
+use Rattle.check_texts.specs.Compared.{IsCompared, IsComparedFromReset}
+use Rattle.check_found.specs.Compared.{ComparedIn, IsComparedInEvents}
+use Rattle.check_texts.proofs.Forms.{by_reset}
+use Rattle.assume_texts.specs.Compared.{ComparedUnder}
 use Rattle.sec_files.specs.Loading.{Loads}
 use Rattle.assume_texts.specs.Answers.{EqualUnder, DifferentUnder, NotShownUnder, LimitUnder}
 use Rattle.assume_texts.proofs.Answers.{equal_under, different_under, not_shown_under, limit_under}

@@ -10,9 +10,9 @@ use Rattle.assume_shape.specs.declared.shape.ShapeFault.{ShapeFault}
 use Rattle.job_base.specs.declared.status.StatusName.{StatusName}
 use Rattle.job_base.specs.declared.status.StatusName.TheVariants as status
 use Rattle.job_base.specs.Meaning.{SaysNothing, EndsWith}
-use Rattle.compare_base.specs.declared.error.CompareError.TheVariants as compare_error
-use Rattle.compare_base.specs.Compared.{ByReset}
-use Rattle.under_base.specs.Compared.{ComparedUnder}
+use Rattle.check_texts.specs.CompareError.TheVariants as compare_error
+use Rattle.check_texts.specs.Compared.{ByReset}
+use Rattle.assume_texts.specs.Compared.{ComparedUnder}
 use Rattle.sec_files.specs.Loading.{IsAccepted, Loads}
 use Rattle.job_files.specs.Reading.{Held}
 use Rattle.check_texts.specs.Resets.{ResetsAgree, ResetsDiffer, ResetsUndecided}

@@ -1,1 +1,3 @@
+pub use Rattle.check_found.specs.Check
+pub use Rattle.check_found.specs.Found
 pub mod Answer

@@ -22,8 +22,8 @@ use Rattle.outcome.specs.Report.{report_text}
 use Rattle.job_base.specs.Written.{outcome_proofs}
 use Rattle.job_base.proofs.Limits.{pair_proofs}
 use Rattle.sec_setup.specs.Pairs.{NamedPair, named_pairs}
-use Rattle.outcome_fits.specs.ResetLimits.{IsUndecidedAt}
-use Rattle.outcome_fits.specs.ResetOutcome.{Numbered, AgreeBefore, AnswerFits, PairFits, IsFirstLimit}
+use Rattle.compare_base.specs.ResetLimits.{IsUndecidedAt}
+use Rattle.compare_base.specs.ResetOutcome.{Numbered, AgreeBefore, AnswerFits, PairFits, IsFirstLimit}
 use Rattle.compare_base.specs.Compared.{IsComparedFromReset}
 use Rattle.compare_base.specs.FromReset.{numbered_by, ResetVerdictFits}
 use Rattle.sec_files.specs.Loading.{Loads, circuit_of_text}
@@ -32,7 +32,7 @@ use Rattle.text_circuits.proofs.Circuits.{text_design}
 use Rattle.text_circuits.proofs.Resets.{resets_agree_up}
 use Rattle.check_texts.specs.Resets.{ResetsAgree, ResetsDiffer, ResetsUndecided}
 use Rattle.swept_queries.proofs.Listed.{zip_left}
-use Rattle.plain_meaning.proofs.Fitted.{kept_proof}
+use Rattle.compare_base.proofs.Fitted.{kept_proof}
 use Rattle.check_texts.proofs.ResetDesigns.{resets_differ_up}
 
 -- a pair at the limit has a proof that its query in some cycle was given up

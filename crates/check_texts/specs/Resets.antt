@@ -15,8 +15,8 @@ use Rattle.outcome.specs.declared.verdict.Verdict.TheVariants as verdict
 use Rattle.outcome.specs.declared.verdict.Outcome.{Outcome}
 use Rattle.outcome.specs.Report.{report_text}
 use Rattle.sec_setup.specs.Pairs.{NamedPair, named_pairs}
-use Rattle.outcome_fits.specs.ResetLimits.{IsUndecidedAt}
-use Rattle.outcome_fits.specs.ResetOutcome.{AgreeBefore}
+use Rattle.compare_base.specs.ResetLimits.{IsUndecidedAt}
+use Rattle.compare_base.specs.ResetOutcome.{AgreeBefore}
 use Rattle.compare_base.specs.FromReset.{numbered_by}
 use Rattle.compare_base.specs.Says.{MakesResetsDiffer}
 use Rattle.sec_files.specs.Loading.{Loads, SpellsCircuit}

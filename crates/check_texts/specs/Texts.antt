@@ -21,7 +21,7 @@ use Rattle.sec_setup.specs.Pairs.{NamedPair, named_pairs}
 use Rattle.sec_setup.specs.Matching.{InterfacesMatch}
 use Rattle.sec_setup.specs.Cycles.{AreBroken}
 use Rattle.sec_setup.specs.Cuts.{IsChoice, AreCutAt, columns_of}
-use Rattle.outcome_fits.specs.Limits.{IsUndecided}
+use Rattle.compare_base.specs.Limits.{IsUndecided}
 use Rattle.compare_base.specs.Says.{SaysEqual, SaysDifferent, SaysNotShown}
 use Rattle.compare_base.specs.Compared.{AreTooLarge, ByReset}
 use Rattle.compare_base.specs.FromReset.{AreTooLargeFromReset}

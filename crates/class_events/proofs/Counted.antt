@@ -12,11 +12,11 @@ use Rattle.flat_net.specs.View.{circuit_of}
 use Rattle.flat_net.proofs.Nets.{sound_is_net}
 use Rattle.event_nodes.specs.Nodes.{path_of}
 use Rattle.event_nodes.specs.View.{EventCircuitView, side_of}
-use Rattle.class_queries.specs.Enables.{both_of, class_map}
+use Rattle.pair_events.specs.Enables.{both_of, class_map}
 use Rattle.class_extension.proofs.Sides.{sides_reach_nodes_in_nets}
-use Rattle.class_totals.specs.Totals.{AreWithin}
-use Rattle.class_totals.specs.Totals as totals
-use Rattle.class_totals.proofs.Nodes.{node_more}
+use Rattle.event_classes.specs.Totals.{AreWithin}
+use Rattle.event_classes.specs.Totals as totals
+use Rattle.event_classes.proofs.Nodes.{node_more}
 use Rattle.event_classes.specs.declared.map.ClassMap.{ClassMap}
 use Rattle.event_classes.specs.Map.{IsClassMapOf, places_in, taken_of}
 use Rattle.pair_events.specs.Counted.{HaveCounted, both_starts, moved_start}

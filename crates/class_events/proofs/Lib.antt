@@ -1,3 +1,5 @@
+pub use Rattle.pair_events.proofs.Starts
+pub use Rattle.pair_events.proofs.Counting
 pub mod Made
 pub mod Begin
 pub mod Counted

@@ -5,7 +5,7 @@ use Rattle.event_theory.specs.Classes.{classes_of}
 use Rattle.flat_net.specs.View.{NetView, circuit_of}
 use Rattle.circuit_theory.specs.Run.{IsEnabled}
 use Rattle.event_nodes.specs.View.{EventCircuitView, Enabled}
-use Rattle.class_queries.specs.Enables.{both_of}
+use Rattle.pair_events.specs.Enables.{both_of}
 use Rattle.event_classes.specs.declared.map.ClassMap.{ClassMap}
 use Rattle.event_classes.specs.Map.{IsClassMapOf}
 use Rattle.pair_events.specs.View.{IsEvents}

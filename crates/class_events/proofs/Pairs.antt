@@ -1,7 +1,7 @@
 -- Where what tells two classes apart stands.
 use Rattle.std.proofs.Common.{◌≡◌, ◌∙◌, ◌+◌, ◌-◌, ◌*◌, ◌/◌, ℕ, zero, suc, refl, sym, ap, arith}
 use Rattle.std.proofs.Math.Nat.{mul-suc, suc-mul}
-use Rattle.class_separations.specs.Apart.{pairs_below}
+use Rattle.event_classes.specs.Apart.{pairs_below}
 
 step : (p n q : ℕ) → 2 * p + n ≡ q → 2 * (p + n) + suc n ≡ (q + n) + suc n
 step p n q e = omega (arith, e)

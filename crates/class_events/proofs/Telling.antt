@@ -10,12 +10,12 @@ use Rattle.event_theory.specs.Frame.{EventSide}
 use Rattle.sec_base.specs.declared.basics.Tag.{Tag}
 use Rattle.event_nodes.specs.Nodes.{EventGraphView, IsEventGraph, GrowsEvents}
 use Rattle.event_nodes.specs.View.{EventCircuitView}
-use Rattle.event_order.specs.Order.{place_of}
+use Rattle.event_classes.specs.Order.{place_of}
 use Rattle.event_variables.specs.Variables.{variables_of}
-use Rattle.class_queries.specs.Enables.{both_of}
-use Rattle.class_separations.specs.declared.apart.Apart.{Apart}
-use Rattle.class_separations.specs.Apart.{IsSeparationBy, AreApart}
-use Rattle.class_separations.proofs.Variables.{variables_same, within_later}
+use Rattle.pair_events.specs.Enables.{both_of}
+use Rattle.event_classes.specs.Apart.{Apart}
+use Rattle.event_classes.specs.Apart.{IsSeparationBy, AreApart}
+use Rattle.event_classes.proofs.Variables.{variables_same, within_later}
 use Rattle.event_classes.specs.declared.map.ClassMap.{ClassMap}
 use Rattle.event_classes.specs.Map.{IsClassMapOf}
 use Rattle.event_classes.specs.Named.{NamesLatches}
@@ -53,9 +53,16 @@ separated_stay e f aparts is left right count grows k =
     record { few = h.0; names = h.1; classes = h.2.0; apart = h.2.1 }
   where
     now : Told f aparts e.left e.right e.count
-    now = (k.few, k.names, (k.classes, record {
-      long = k.apart.long;
-      each = λ low high below within.
-          let x = k.apart.each low high below within in
-          (x.0, x.1, apart_stays (side_of_both e) e.events f.events (place_of e.left.net e.right.net) k.classes.order low high x.0 is grows x.2);
-    }))
+    now = (
+      k.few,
+      k.names,
+      (
+        k.classes,
+        record {
+          long = k.apart.long;
+          each = λ low high below within.
+              let x = k.apart.each low high below within in
+              (x.0, x.1, apart_stays (side_of_both e) e.events f.events (place_of e.left.net e.right.net) k.classes.order low high x.0 is grows x.2);
+        },
+      ),
+    )

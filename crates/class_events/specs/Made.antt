@@ -5,7 +5,7 @@ use Rattle.event_theory.specs.Classes.{HasClasses}
 use Rattle.event_theory.specs.EventSizes.{Start}
 use Rattle.event_theory.specs.EventTotals.{AreStarts}
 use Rattle.class_extension.specs.Sides.{AreStartsOfBoth}
-use Rattle.class_totals.specs.Totals.{AreWithin}
+use Rattle.event_classes.specs.Totals.{AreWithin}
 use Rattle.event_classes.specs.declared.map.ClassMap.{ClassMap}
 use Rattle.pair_events.specs.Counted.{HaveCounted}
 use Rattle.pair_events.specs.View.{EventsView, IsWithinLimits, side_of_both}

@@ -1,9 +1,9 @@
 -- What tells the classes of two circuits apart, over their event graph.
 use Rattle.std.specs.Prelude.{ℕ, ◌≤◌, List, All}
 use Rattle.event_theory.specs.Classes.{HasClasses}
-use Rattle.event_order.specs.Order.{place_of}
-use Rattle.class_separations.specs.declared.apart.Apart.{Apart}
-use Rattle.class_separations.specs.Apart.{IsApart, AreApart}
+use Rattle.event_classes.specs.Order.{place_of}
+use Rattle.event_classes.specs.Apart.{Apart}
+use Rattle.event_classes.specs.Apart.{IsApart, AreApart}
 use Rattle.event_classes.specs.Named.{NamesLatches}
 use Rattle.pair_events.specs.View.{EventsView, side_of_both}
 

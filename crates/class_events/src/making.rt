@@ -9,8 +9,7 @@ ghost use Rattle.pair_events.specs.View.{IsEvents};
 ghost use Rattle.class_events.specs.Made.{events_in, AreEnablesCounted};
 ghost use Rattle.class_events.specs.Separated.{AreSeparated};
 
-use class_separations::Apart;
-use event_classes::{ClassMap, EventError, make_classes};
+use event_classes::{Apart, ClassMap, EventError, make_classes};
 use event_nodes::EventCircuit;
 use pair_events::Events;
 use sec_base::MAX_CONFLICTS;

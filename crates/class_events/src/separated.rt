@@ -3,7 +3,7 @@
 ghost use Rattle.std.specs.Prelude.{◌<◌, ◌≤◌};
 ghost use Rattle.class_events.specs.Separated.{AreSeparated, TellsClassesApart};
 
-use class_separations::Apart;
+use event_classes::Apart;
 use pair_events::Events;
 
 /// What tells these two classes apart; class 0 stands for `always`. The event graph may have grown since the classes were made

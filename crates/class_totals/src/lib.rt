@@ -2,3 +2,5 @@
 #![tactic(auto)]
 
 pub mod laws;
+
+pub use event_functions::{EnableFunction, unfold_enable};

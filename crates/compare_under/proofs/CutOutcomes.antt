@@ -32,9 +32,9 @@ use Rattle.assume_taken.specs.Taken.{assumed_by, IsUndecidedBy}
 use Rattle.assume_taken.proofs.Premises.{is_assumed, can_be_assumed}
 use Rattle.plain_asked_under.specs.declared.error.PlainUnderError.TheVariants as found_error
 use Rattle.plain_asked_under.specs.Formed.{AreFoundUnder, FormedUnder}
-use Rattle.under_fits.specs.Places.{IsOverAtPairs, IsLightAtPairs}
+use Rattle.under_base.specs.Places.{IsOverAtPairs, IsLightAtPairs}
 use Rattle.plain_asked_under.specs.Verdict.{FindingsFitUnder}
-use Rattle.under_fits.specs.Outcome.{OutcomeFitsUnder}
+use Rattle.under_base.specs.Outcome.{OutcomeFitsUnder}
 use Rattle.under_meaning.specs.Laws.{AreNets}
 use Rattle.under_meaning.proofs.Meaning.{equal_says_under, different_shows_under, not_shown_under}
 use Rattle.compare_base.specs.declared.error.CompareError.TheVariants as refused

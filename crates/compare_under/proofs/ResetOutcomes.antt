@@ -26,9 +26,9 @@ use Rattle.assume_taken.specs.Premises.{IsPremiseOf}
 use Rattle.assume_taken.specs.Taken.{assumed_by}
 use Rattle.reset_asked_under.specs.declared.error.ResetUnderError.TheVariants as found_error
 use Rattle.reset_asked_under.specs.Formed.{AreFoundUnder, FormedUnder}
-use Rattle.under_fits.specs.ResetPlaces.{IsOverInCycles, IsLightInCycles}
+use Rattle.under_base.specs.ResetPlaces.{IsOverInCycles, IsLightInCycles}
 use Rattle.reset_asked_under.specs.Verdict.{FindingsFitUnder, VerdictFitsUnder}
-use Rattle.under_fits.specs.ResetOutcome.{numbers_of, ResetOutcomeFitsUnder, ResetVerdictFitsUnder}
+use Rattle.under_base.specs.ResetOutcome.{numbers_of, ResetOutcomeFitsUnder, ResetVerdictFitsUnder}
 use Rattle.under_reset_meaning.specs.Laws.{AreNets}
 use Rattle.under_reset_meaning.proofs.Meaning.{equal_resets_say_under, different_resets_show_under}
 use Rattle.compare_base.specs.declared.error.CompareError.TheVariants as refused

@@ -22,13 +22,13 @@ use Rattle.interface.specs.Pairs.{NamedPair, named_pairs, places_of}
 use Rattle.sec_base.specs.declared.basics.PairAnswer.{PairAnswer}
 use Rattle.sec_base.specs.declared.basics.PairAnswer.TheVariants as answer
 use Rattle.pair_decide.specs.declared.query.Proof.{Proof}
-use Rattle.sec_setup.specs.Cuts.{columns_of}
-use Rattle.sec_setup.proofs.CutNets.{cut_numbered}
+use Rattle.read_inputs.specs.Cuts.{columns_of}
+use Rattle.read_inputs.proofs.CutNets.{cut_numbered}
 use Rattle.outcome.specs.declared.verdict.PairResult.{PairResult}
-use Rattle.plain_meaning.proofs.CutPairs.{one_output, pair_listed}
+use Rattle.read_inputs.proofs.CutPairs.{one_output, pair_listed}
 use Rattle.class_queries.specs.Enables.{both_of, class_map}
 use Rattle.class_queries.proofs.Meaning.{numbered}
-use Rattle.event_agreement.proofs.SameCircuits.{AreSame, same_classes, same_depths, same_events}
+use Rattle.event_form.proofs.SameCircuits.{AreSame, same_classes, same_depths, same_events}
 use Rattle.event_form.specs.Answers.{AnswerFits, PairFits}
 use Rattle.event_nodes.specs.View.{EventCircuitView}
 use Rattle.cut_events.specs.Circuits.{AreEventCircuits, AreNets}

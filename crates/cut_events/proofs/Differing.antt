@@ -12,13 +12,13 @@ use Rattle.flat_net.specs.View.{NetView, circuit_of}
 use Rattle.flat_net.proofs.Nets.{sound_is_net, sound_names}
 use Rattle.interface.specs.declared.pairs.SignalPair.{SignalPair}
 use Rattle.interface.specs.Pairs.{named_pairs, places_of}
-use Rattle.sec_setup.specs.Cuts.{columns_of, is_cut}
+use Rattle.read_inputs.specs.Cuts.{columns_of, is_cut}
 use Rattle.witness_report.specs.declared.stimulus.Stimulus.{Stimulus}
 use Rattle.witness_report.specs.declared.witness.PairName.{PairName}
 use Rattle.witness_report.specs.declared.witness.Witness.{Witness}
 use Rattle.witness_report.specs.Shown.{Obeys, ArePlacesOf, MakesDiffer, MakesCutsDiffer}
 use Rattle.circuit_theory.specs.Fits.{MakesDiffer as HaveValues}
-use Rattle.plain_meaning.proofs.CutPairs.{IsOutputPair, IsNextPair, listed_is, listed_places}
+use Rattle.read_inputs.proofs.CutPairs.{IsOutputPair, IsNextPair, listed_is, listed_places}
 use Rattle.event_nodes.specs.View.{EventCircuitView}
 use Rattle.cut_events.specs.Circuits.{AreEventCircuits, AreNets}
 use Rattle.read_inputs.proofs.Places.{IsShown, listed_shown}

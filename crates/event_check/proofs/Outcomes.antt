@@ -19,7 +19,7 @@ use Rattle.sec_setup.specs.Matching.{InterfacesMatch}
 use Rattle.sec_setup.specs.Setup.{AreColumns}
 use Rattle.sec_setup.specs.declared.error.SetupError.{SetupError}
 use Rattle.sec_setup.specs.declared.error.SetupError.TheVariants as unset
-use Rattle.event_classes.specs.Refused.{IsLimitOf}
+use Rattle.class_events.specs.Refused.{IsLimitOf}
 use Rattle.event_nodes.specs.View.{EventCircuitView, IsEventCircuit}
 use Rattle.event_setup.specs.declared.error.RecoveryError.TheVariants as unknown
 use Rattle.event_setup.specs.declared.setup.EventSetup.{EventSetup}
@@ -28,15 +28,15 @@ use Rattle.event_setup.specs.Recovered.{AreKnown, RecoversBoth}
 use Rattle.event_setup.specs.Setup.{IsEventSetupOf}
 use Rattle.event_setup_laws.specs.Laws.{ArePairsOfSetup, HaveClassesGiven}
 use Rattle.event_setup_laws.proofs.Comparing.{setups_compared}
-use Rattle.event_form.specs.Asked.{IsPairOf}
+use Rattle.cut_events.specs.Asked.{IsPairOf}
 use Rattle.pair_events.specs.View.{EventsView}
 use Rattle.compare_base.specs.declared.error.CompareError.TheVariants as refused
 use Rattle.compare_base.specs.Compared.{refusal_of}
 use Rattle.event_findings.specs.declared.pairs.EventPairs.{EventPairs}
 use Rattle.cut_events.specs.Circuits.{AreNets, AreReached}
-use Rattle.event_fits.specs.Compared.{ComparedInEvents, IsComparedInEvents}
-use Rattle.event_fits.specs.Fitting.{class_limit, EventOutcomeFits, HasCounts}
-use Rattle.event_fits.specs.Named.{latch_names, NamesVerdict}
+use Rattle.event_names.specs.Compared.{ComparedInEvents, IsComparedInEvents}
+use Rattle.event_names.specs.Fitting.{class_limit, EventOutcomeFits, HasCounts}
+use Rattle.event_names.specs.Named.{latch_names, NamesVerdict}
 use Rattle.event_totals.specs.Totals.{IsWithinWith}
 use Rattle.event_meaning.proofs.Saying.{cut_outcomes, different_outcomes, equal_outcomes}
 use Rattle.event_meaning.proofs.Framing.{unshown_outcomes}

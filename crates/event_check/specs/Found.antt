@@ -3,13 +3,13 @@ use Rattle.std.specs.Prelude.{◌≡◌, [], Result, Ok, Err}
 use Rattle.outcome.specs.declared.verdict.LimitAt.{LimitAt}
 use Rattle.outcome.specs.declared.verdict.LimitAt.TheVariants as limit_at
 use Rattle.outcome.specs.declared.verdict.Verdict.TheVariants as verdict
-use Rattle.event_classes.specs.declared.error.EventError.{EventError}
-use Rattle.event_classes.specs.declared.error.EventError.TheVariants as event_error
+use Rattle.class_events.specs.EventError.{EventError}
+use Rattle.class_events.specs.EventError.TheVariants as event_error
 use Rattle.event_setup.specs.declared.error.RecoveryError.{RecoveryError}
 use Rattle.event_setup.specs.declared.error.RecoveryError.TheVariants as unknown
 use Rattle.compare_base.specs.declared.error.CompareError.{CompareError}
 use Rattle.compare_base.specs.declared.error.CompareError.TheVariants as refused
-use Rattle.event_fits.specs.Fitting.{class_limit}
+use Rattle.event_names.specs.Fitting.{class_limit}
 use Rattle.event_names.specs.declared.names.Names.{Names}
 use Rattle.event_check.specs.declared.outcomes.Found.{Found}
 use Rattle.event_names.specs.Nameable.{IsLatchIn, IsOtherIn}

@@ -7,7 +7,7 @@ ghost use Rattle.flat_net.specs.View.{ports_of};
 ghost use Rattle.sec_setup.specs.Matching.{InterfacesMatch};
 ghost use Rattle.event_setup.specs.Recovered.{AreBothMarked, AreKnown};
 ghost use Rattle.event_setup.specs.Setup.{IsEventSetupOf};
-ghost use Rattle.event_fits.specs.Compared.{ComparedInEvents};
+ghost use Rattle.event_names.specs.Compared.{ComparedInEvents};
 
 use crate::outcomes::{outcome_of, unclassed, unrecovered};
 use crate::pairs::{Asked, compare_pairs};

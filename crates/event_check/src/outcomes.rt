@@ -4,8 +4,8 @@ ghost use Rattle.std.specs.Prelude.{◌≡◌, [], length, None};
 ghost use Rattle.outcome.specs.declared.verdict.Verdict.TheVariants as verdict;
 ghost use Rattle.event_check.specs.Found.{CanTell, TellsLimit, TellsUnknown};
 
+use class_events::EventError;
 use compare_base::CompareError;
-use event_classes::EventError;
 use event_names::{Names, named_latch, named_other};
 use event_setup::RecoveryError;
 use flat_net::Net;

@@ -9,8 +9,8 @@ ghost use Rattle.event_check.specs.Pairs.{AreAskable, FindsPairs, IsNamedFound, 
 use crate::outcomes::Found;
 use class_events::Separated;
 use compare_base::CompareError;
-use event_comparison::{EventFindings, EventFormError, EventPairs, compare_events};
 use event_names::{Names, named_verdict};
+use event_setup_laws::{EventFindings, EventFormError, EventPairs, compare_events};
 use interface::SignalPairs;
 use sec_base::{Ids, MAX_CONFLICTS, NoMemory};
 use std::alloc::Global;

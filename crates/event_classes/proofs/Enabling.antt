@@ -26,8 +26,8 @@ use Rattle.circuit_theory.specs.Joined.{Either, Left, Right}
 use Rattle.class_totals.specs.Totals.{HaveCounted}
 use Rattle.class_totals.proofs.Going.{totals_go_on}
 use Rattle.event_order.specs.Order.{IsTagOf, place_of}
-use Rattle.event_functions.specs.Functions.{IsEnableFunctionOf}
-use Rattle.event_functions.proofs.Covering.{two_roots, own_enable_supports, care_supports}
+use Rattle.class_totals.specs.Functions.{IsEnableFunctionOf}
+use Rattle.class_totals.proofs.Covering.{two_roots, own_enable_supports, care_supports}
 use Rattle.enable_compare.specs.declared.compare.Enable.{Enable}
 use Rattle.enable_compare.specs.Comparing.{IsReadyEnable}
 use Rattle.class_queries.specs.Enables.{both_of, class_map, IsEnableFunction}

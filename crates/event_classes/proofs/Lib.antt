@@ -1,3 +1,5 @@
+pub use Rattle.class_totals.proofs.Nodes
+pub use Rattle.class_separations.proofs.Variables
 pub mod Standing
 pub mod Naming
 pub mod Ready

@@ -14,7 +14,7 @@ use Rattle.event_nodes.specs.Nodes.{EventGraphView, IsEventGraph}
 use Rattle.event_nodes.specs.View.{EventCircuitView, Enabled}
 use Rattle.event_nodes.specs.Visited.{CounterView}
 use Rattle.event_walk.specs.Walk.{IsCounting, enable_start}
-use Rattle.event_functions.specs.Refused.{IsRefusal}
+use Rattle.class_totals.specs.Refused.{IsRefusal}
 use Rattle.class_totals.specs.Totals.{HaveCounted, ReachTooMany, ReachFew, WeighTooMuch}
 use Rattle.class_totals.proofs.Over.{many_nodes_are_over, heavy_is_over, few_nodes_are_within}
 use Rattle.event_classes.proofs.Enabling.{parents_of}

@@ -8,7 +8,7 @@ ghost use Rattle.event_walk.specs.Walk.{HasCountedStart, IsCounting, enable_star
 ghost use Rattle.event_nodes.specs.declared.error.EventUnfoldError.TheVariants as unfold_error;
 ghost use Rattle.event_nodes.specs.Nodes.{GrowsEvents};
 ghost use Rattle.event_nodes.specs.Visited.{IsWeighed};
-ghost use Rattle.event_functions.specs.Refused.{IsRefusal};
+ghost use Rattle.class_totals.specs.Refused.{IsRefusal};
 ghost use Rattle.enable_compare.specs.Comparing.{IsReadyEnable};
 ghost use Rattle.event_order.specs.Order.{IsTagOf};
 ghost use Rattle.pair_decide.specs.declared.query.Proof.{Proof};
@@ -19,8 +19,8 @@ ghost use Rattle.event_classes.specs.Steps.{AreNodesOver, IsWeightOver};
 
 use crate::error::EventError;
 use crate::map::ClassMap;
+use class_totals::{EnableFunction, unfold_enable};
 use enable_compare::Enable;
-use event_functions::{EnableFunction, unfold_enable};
 use event_nodes::{Counter, EventCircuit, EventGraph, EventUnfoldError};
 use sec_base::{Side, Tag};
 use std::alloc::Global;

@@ -9,6 +9,7 @@ mod making;
 mod map;
 mod places;
 
+pub use class_separations::Apart;
 pub use error::EventError;
 pub use making::make_classes;
 pub use map::ClassMap;

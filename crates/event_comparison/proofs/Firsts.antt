@@ -25,13 +25,13 @@ use Rattle.swept_queries.proofs.Listed.{zip_left}
 use Rattle.witness_report.specs.declared.witness.Witness.{Witness}
 use Rattle.event_form.specs.Answers.{PairFits}
 use Rattle.event_form.specs.Asked.{AreAsked, IsAskedOf, IsDecisive}
-use Rattle.event_witness.specs.declared.unshown.UnshownFrame.{UnshownFrame}
-use Rattle.event_witness.specs.Sequences.{IsWitnessOf}
-use Rattle.event_witness.specs.Shown.{IsQueryAt, IsUnshownAt, IsWitnessAt}
-use Rattle.event_witness.specs.Unshown.{IsUnshownOf}
-use Rattle.event_witness.proofs.Differing.{only_query}
-use Rattle.event_witness.proofs.Growing.{differences_later}
-use Rattle.unshown_pairs.specs.Reached.{BothReachAlways}
+use Rattle.event_findings.specs.UnshownFrame.{UnshownFrame}
+use Rattle.event_findings.specs.Sequences.{IsWitnessOf}
+use Rattle.event_findings.specs.Shown.{IsQueryAt, IsUnshownAt, IsWitnessAt}
+use Rattle.event_findings.specs.Unshown.{IsUnshownOf}
+use Rattle.event_findings.proofs.Differing.{only_query}
+use Rattle.event_findings.proofs.Growing.{differences_later}
+use Rattle.event_findings.specs.Reached.{BothReachAlways}
 use Rattle.event_comparison.specs.Compared.{AreCompared, IsEventDepth}
 use Rattle.event_comparison.specs.Decided.{AreFound}
 use Rattle.event_comparison.specs.Findings.{IsFirstWith, IsFirstDifference, IsFirstLimit, IsFrameOf, IsSequenceOf, VerdictFits, FindingsFit}

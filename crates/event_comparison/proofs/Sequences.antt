@@ -28,15 +28,15 @@ use Rattle.witness_report.specs.declared.witness.Witness.{Witness}
 use Rattle.event_form.specs.Answers as form_answers
 use Rattle.event_form.specs.Asked.{IsAskedOf}
 use Rattle.event_form.proofs.Answers.{frames_of_differences}
-use Rattle.event_witness.specs.declared.unshown.UnshownFrame.{UnshownFrame}
-use Rattle.event_witness.specs.Sequences.{HasInputsBelow, IsWitnessOf, rows_at}
-use Rattle.event_witness.specs.Unshown.{IsUnshownOf}
-use Rattle.event_witness.proofs.Differing.{only_query, always_differences}
+use Rattle.event_findings.specs.UnshownFrame.{UnshownFrame}
+use Rattle.event_findings.specs.Sequences.{HasInputsBelow, IsWitnessOf, rows_at}
+use Rattle.event_findings.specs.Unshown.{IsUnshownOf}
+use Rattle.event_findings.proofs.Differing.{only_query, always_differences}
 use Rattle.event_findings.specs.Compared.{IsEventDepth, AreCompared}
 use Rattle.event_findings.specs.Findings.{IsSequenceOf, IsFrameOf}
 use Rattle.event_findings.specs.declared.pairs.EventPairs.{EventPairs}
-use Rattle.unshown_pairs.specs.Reached.{BothReachAlways}
-use Rattle.unshown_pairs.proofs.Frames.{bits_told}
+use Rattle.event_findings.specs.Reached.{BothReachAlways}
+use Rattle.event_findings.proofs.Frames.{bits_told}
 
 -- what makes a pair differ, by other names
 differ_told : (a b : Circuit ℕ) (left right : List ℕ) (p q : ℕ) (rows told : List (List Bool)) (last cycle : ℕ) (l x r y : Bool) → rows ≡ told → last ≡ cycle → l ≡ x → r ≡ y → MakesDiffer a b left right p q rows last l r → MakesDiffer a b left right p q told cycle x y

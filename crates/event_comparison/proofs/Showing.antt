@@ -28,10 +28,10 @@ use Rattle.event_form.specs.declared.error.EventFormError.{EventFormError}
 use Rattle.event_form.proofs.Asking.{all_asked_on, later_refl}
 use Rattle.event_form.proofs.Counted.{none_counted}
 use Rattle.event_form.proofs.Refusing.{all_within, nothing_within, one_within, refused_later}
-use Rattle.event_witness.specs.Shown.{IsShowable}
-use Rattle.event_witness.proofs.Growing.{differences_later}
-use Rattle.event_witness.proofs.Showing.{differences_shown}
-use Rattle.unshown_pairs.specs.Reached.{StaysCounted}
+use Rattle.event_findings.specs.Shown.{IsShowable}
+use Rattle.event_findings.proofs.Growing.{differences_later}
+use Rattle.event_findings.proofs.Showing.{differences_shown}
+use Rattle.event_findings.specs.Reached.{StaysCounted}
 use Rattle.event_comparison.specs.Asked.{AreAskedFrom, IsFoundAt, StayCounted}
 use Rattle.event_comparison.specs.declared.pairs.EventPairs.{EventPairs}
 use Rattle.class_separations.specs.declared.apart.Apart.{Apart}

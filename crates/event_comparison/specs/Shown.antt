@@ -8,9 +8,9 @@ use Rattle.obligations.specs.declared.verdict.VerdictAt.TheVariants as at
 use Rattle.outcome.specs.declared.verdict.PairResult.{PairResult}
 use Rattle.pair_events.specs.View.{EventsView, side_of_both}
 use Rattle.witness_report.specs.declared.witness.Witness.{Witness}
-use Rattle.event_witness.specs.Shown.{IsWitnessAt, IsUnshownAt}
-use Rattle.unshown_pairs.specs.Reached.{BothReachAlways}
-use Rattle.unshown_pairs.specs.Separations.{AreToldApart}
+use Rattle.event_findings.specs.Shown.{IsWitnessAt, IsUnshownAt}
+use Rattle.event_findings.specs.Reached.{BothReachAlways}
+use Rattle.event_findings.specs.Separations.{AreToldApart}
 use Rattle.event_findings.specs.declared.pairs.EventPairs.{EventPairs}
 use Rattle.event_findings.specs.declared.verdict.EventVerdict.{EventVerdict}
 use Rattle.event_findings.specs.declared.verdict.EventVerdict.TheVariants as verdict

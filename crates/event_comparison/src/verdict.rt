@@ -9,14 +9,12 @@ ghost use Rattle.event_comparison.specs.Asked.{AreAskedFrom, DiffersFirst, IsFou
 ghost use Rattle.event_comparison.specs.Shown.{IsShown, IsShownUnshown};
 
 use class_separations::Apart;
-use event_findings::{EventPairs, EventVerdict, UnshownPair};
+use event_findings::{EventPairs, EventVerdict, UnshownPair, tell_apart, unshown_at, witness_at};
 use event_form::EventFormError;
-use event_witness::{unshown_at, witness_at};
 use obligations::{Difference, Obligation, VerdictAt, copy_name};
 use outcome::PairResult;
 use pair_events::Events;
 use std::alloc::Global;
-use unshown_pairs::tell_apart;
 
 /// The verdict at an obligation. A sequence ends in the cycle of its pair's depth. A pair that isn't shown is unfolded once more.
 pub(crate) fn show(

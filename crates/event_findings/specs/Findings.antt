@@ -18,7 +18,7 @@ use Rattle.witness_report.specs.declared.witness.PairName.{PairName}
 use Rattle.witness_report.specs.declared.witness.Witness.{Witness}
 use Rattle.outcome.specs.declared.verdict.PairResult.{PairResult}
 use Rattle.obligations.specs.Decided.{NoneIs}
-use Rattle.event_form.specs.Answers.{PairFits}
+use Rattle.unshown_pairs.specs.Answers.{PairFits}
 use Rattle.event_witness.specs.declared.unshown.UnshownFrame.{UnshownFrame}
 use Rattle.unshown_pairs.specs.Reached.{BothReachAlways}
 use Rattle.unshown_pairs.specs.Separations.{AreToldApart}

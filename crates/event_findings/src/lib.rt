@@ -5,9 +5,8 @@ mod findings;
 mod pairs;
 mod verdict;
 
-pub use event_form::FrameBit;
-pub use event_witness::UnshownFrame;
+pub use event_witness::{UnshownFrame, unshown_at, witness_at};
 pub use findings::EventFindings;
 pub use pairs::EventPairs;
-pub use unshown_pairs::{ToldSeparation, ToldSeparations};
+pub use unshown_pairs::{FrameBit, ToldSeparation, ToldSeparations, tell_apart};
 pub use verdict::{EventVerdict, UnshownPair};

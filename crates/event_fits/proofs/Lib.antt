@@ -1,0 +1,2 @@
+pub use Rattle.cut_events.proofs.Differing
+pub use Rattle.cut_events.proofs.Agreeing

@@ -14,13 +14,13 @@ use Rattle.outcome.specs.declared.verdict.Outcome.{Outcome}
 use Rattle.outcome.specs.declared.verdict.Unshown.{Unshown}
 use Rattle.outcome.specs.declared.verdict.Verdict.TheVariants as verdict
 use Rattle.outcome.specs.declared.verdict.Why.TheVariants as why
-use Rattle.sec_setup.specs.declared.error.SetupError.TheVariants as unset
-use Rattle.sec_setup.specs.Matching.{InterfacesMatch}
+use Rattle.compare_base.specs.SetupError.TheVariants as unset
+use Rattle.compare_base.specs.Matching.{InterfacesMatch}
 use Rattle.event_classes.specs.Refused.{IsTooMany, IsTooHeavy}
 use Rattle.event_nodes.specs.View.{EventCircuitView}
-use Rattle.event_setup.specs.Choosing.{RefusesCycle}
-use Rattle.event_setup.specs.Recovered.{AreKnown, RecoversBoth}
-use Rattle.event_setup.specs.declared.error.RecoveryError.TheVariants as unknown
+use Rattle.cut_events.specs.Choosing.{RefusesCycle}
+use Rattle.cut_events.specs.Recovered.{AreKnown, RecoversBoth}
+use Rattle.cut_events.specs.RecoveryError.TheVariants as unknown
 use Rattle.compare_base.specs.declared.error.CompareError.{CompareError}
 use Rattle.compare_base.specs.declared.error.CompareError.TheVariants as refused
 use Rattle.compare_base.specs.Compared.{Compared}

@@ -11,12 +11,12 @@ use Rattle.outcome.specs.declared.verdict.LimitAt.{LimitAt}
 use Rattle.outcome.specs.declared.verdict.LimitAt.TheVariants as limit_at
 use Rattle.outcome.specs.declared.verdict.Outcome.{Outcome}
 use Rattle.outcome.specs.declared.verdict.Verdict.TheVariants as verdict
-use Rattle.sec_setup.specs.Cuts.{columns_of, is_cut}
+use Rattle.compare_base.specs.Cuts.{columns_of, is_cut}
 use Rattle.class_queries.specs.Enables.{both_of}
 use Rattle.event_classes.specs.Refused.{IsLimitOf}
 use Rattle.event_nodes.specs.View.{EventCircuitView}
-use Rattle.event_setup.specs.Recovered.{RecoversBoth}
-use Rattle.event_setup.specs.declared.error.RecoveryError.TheVariants as unknown
+use Rattle.cut_events.specs.Recovered.{RecoversBoth}
+use Rattle.cut_events.specs.RecoveryError.TheVariants as unknown
 use Rattle.event_findings.specs.Findings.{FindingsFit}
 use Rattle.event_findings.specs.declared.findings.EventFindings.{EventFindings}
 use Rattle.event_findings.specs.declared.pairs.EventPairs.{EventPairs}

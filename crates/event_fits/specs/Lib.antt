@@ -1,3 +1,9 @@
+pub use Rattle.compare_base.specs.Says
+pub use Rattle.event_findings.specs.declared.pairs.EventPairs
+pub use Rattle.cut_events.specs.Circuits
+pub use Rattle.event_findings.specs.Findings
+pub use Rattle.event_findings.specs.declared.verdict.UnshownPair
+pub use Rattle.event_findings.specs.declared.verdict.EventVerdict
 pub mod Named
 pub mod Fitting
 pub mod Shown

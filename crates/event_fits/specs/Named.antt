@@ -13,8 +13,8 @@ use Rattle.outcome.specs.declared.verdict.Unshown.{Unshown}
 use Rattle.outcome.specs.declared.verdict.Verdict.{Verdict}
 use Rattle.outcome.specs.declared.verdict.Verdict.TheVariants as verdict
 use Rattle.outcome.specs.declared.verdict.Why.TheVariants as why
-use Rattle.event_form.specs.declared.frames.FrameBit.{FrameBit}
-use Rattle.unshown_pairs.specs.declared.separations.ToldSeparation.{ToldSeparation}
+use Rattle.cut_events.specs.FrameBit.{FrameBit}
+use Rattle.event_totals.specs.ToldSeparation.{ToldSeparation}
 use Rattle.event_findings.specs.declared.verdict.EventVerdict.{EventVerdict}
 use Rattle.event_findings.specs.declared.verdict.EventVerdict.TheVariants as found
 use Rattle.event_findings.specs.declared.verdict.UnshownPair.{UnshownPair}

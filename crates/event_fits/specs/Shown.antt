@@ -11,7 +11,7 @@ use Rattle.frame_report.specs.declared.frame.Spot.{Spot}
 use Rattle.interface.specs.Pairs.{NamedPair, named_pairs}
 use Rattle.outcome.specs.declared.verdict.Outcome.{Outcome}
 use Rattle.outcome.specs.declared.verdict.Unshown.{Unshown}
-use Rattle.sec_setup.specs.Cuts.{columns_of}
+use Rattle.compare_base.specs.Cuts.{columns_of}
 use Rattle.class_queries.specs.Enables.{both_of}
 use Rattle.event_nodes.specs.View.{EventCircuitView}
 use Rattle.cut_events.specs.Circuits.{AreEventCircuits}

@@ -21,7 +21,7 @@ use Rattle.event_agreement.specs.Laws.{HasSameQuery}
 use Rattle.event_agreement.specs.Queries.{AsksEventPair}
 use Rattle.event_agreement.proofs.PairQueries.{within, are_variables, left_value, right_value, care_value, same_events, shown_frame}
 use Rattle.event_agreement.proofs.Agreeing.{queries_agree}
-use Rattle.class_queries.specs.Enables.{both_of}
+use Rattle.pair_events.specs.Enables.{both_of}
 use Rattle.interface.specs.declared.pairs.SignalPair.{SignalPair}
 use Rattle.obligations.specs.declared.obligation.Obligation.{Obligation}
 use Rattle.obligations.specs.Decided.{AnswerIs, IsAnswered}

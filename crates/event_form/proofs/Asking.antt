@@ -17,10 +17,10 @@ use Rattle.event_nodes.proofs.Lists.{pairs_map}
 use Rattle.event_nodes.proofs.OnePath.{one_node}
 use Rattle.event_variables.specs.Order.{IsOnce}
 use Rattle.event_functions.specs.declared.signals.SignalFunction.{SignalFunction}
-use Rattle.class_queries.specs.Enables.{both_of}
-use Rattle.event_pairs.specs.Functions.{IsEventFunction, AreNodesOf}
-use Rattle.event_pairs.proofs.Growing.{function_later}
-use Rattle.event_pairs.proofs.Unions.{pair_nodes}
+use Rattle.pair_events.specs.Enables.{both_of}
+use Rattle.pair_events.specs.Functions.{IsEventFunction, AreNodesOf}
+use Rattle.pair_events.proofs.Growing.{function_later}
+use Rattle.pair_events.proofs.Unions.{pair_nodes}
 use Rattle.event_agreement.specs.Queries.{AsksEventPair}
 use Rattle.event_agreement.proofs.PairQueries.{queries_later, queries_of_pairs}
 use Rattle.interface.specs.declared.pairs.SignalPair.{SignalPair}

@@ -1,3 +1,4 @@
+pub use Rattle.event_agreement.proofs.SameCircuits
 pub mod Asking
 pub mod Counted
 pub mod Answers

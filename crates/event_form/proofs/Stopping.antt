@@ -7,7 +7,7 @@ use Rattle.circuit_theory.specs.declared.Side.TheVariants.{A, B}
 use Rattle.event_theory.specs.EventSizes.{Start}
 use Rattle.event_nodes.specs.declared.error.EventUnfoldError.{EventUnfoldError}
 use Rattle.event_functions.specs.Functions.{signal_start}
-use Rattle.class_queries.specs.Laws.{AreKept}
+use Rattle.pair_events.specs.Laws.{AreKept}
 use Rattle.interface.specs.declared.pairs.SignalPair.{SignalPair}
 use Rattle.pair_events.specs.Counted.{GoOnCounting, HaveCounted, IsRefusedBy, IsTooLarge}
 use Rattle.pair_events.specs.View.{EventsView, IsWithinLimits}

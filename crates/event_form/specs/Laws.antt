@@ -13,8 +13,8 @@ use Rattle.flat_net.specs.View.{circuit_of}
 use Rattle.sec_base.specs.declared.basics.PairAnswer.TheVariants as answer
 use Rattle.event_nodes.specs.Nodes.{EventGraphView, IsEventGraph}
 use Rattle.event_nodes.specs.View.{EventCircuitView}
-use Rattle.class_queries.specs.Enables.{both_of}
-use Rattle.class_queries.specs.Laws.{AreKept}
+use Rattle.pair_events.specs.Enables.{both_of}
+use Rattle.pair_events.specs.Laws.{AreKept}
 use Rattle.interface.specs.declared.pairs.SignalPair.{SignalPair}
 use Rattle.obligations.specs.declared.obligation.Obligation.{Obligation}
 use Rattle.obligations.specs.Decided.{IsAnswered}

@@ -1,3 +1,9 @@
+pub use Rattle.obligations.specs.Found
+pub use Rattle.obligations.specs.Decided
+pub use Rattle.obligations.specs.declared.obligation.Obligation
+pub use Rattle.obligations.specs.declared.obligation.Difference
+pub use Rattle.event_functions.specs.declared.signals.SignalFunction
+pub use Rattle.event_functions.specs.Functions
 pub mod Asked
 pub mod Counted
 pub mod Answers

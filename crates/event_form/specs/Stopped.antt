@@ -3,7 +3,7 @@ use Rattle.std.specs.Prelude.{◌≡◌, ℕ, List, [], ◌∷◌, ◌++◌, Res
 use Rattle.circuit_theory.specs.declared.Side.{Side}
 use Rattle.circuit_theory.specs.declared.Side.TheVariants.{A, B}
 use Rattle.event_theory.specs.EventSizes.{Start}
-use Rattle.class_queries.specs.Laws.{AreKept}
+use Rattle.pair_events.specs.Laws.{AreKept}
 use Rattle.interface.specs.declared.pairs.SignalPair.{SignalPair}
 use Rattle.pair_events.specs.Counted.{HaveCounted, AreTooMany, IsTooLarge}
 use Rattle.pair_events.specs.View.{EventsView, IsWithinLimits}

@@ -11,4 +11,6 @@ mod questions;
 pub use error::EventFormError;
 pub use frames::{FrameBit, frame_of};
 pub use nodes::union_of;
+pub use obligations::{Difference, Obligation, copy_name};
+pub use pair_events::Events;
 pub use questions::{ask_pairs, unfold};

@@ -2,7 +2,7 @@
 
 ghost use Rattle.std.specs.Prelude.{◌≡◌, ◌<◌, ◌&&◌, not, [], ◌∷◌, length, All, IfOk, OnOk};
 ghost use Rattle.circuit_theory.specs.Joined.{Left, Right};
-ghost use Rattle.event_pairs.specs.Functions.{IsEventFunction};
+ghost use Rattle.pair_events.specs.Functions.{IsEventFunction};
 ghost use Rattle.event_form.specs.Asked.{AreAsked, IsAskedOf, IsPairOf, IsLater, HasGraphMore, IsQueryOf, IsReadyFunction};
 ghost use Rattle.obligations.specs.Asked.{AreAsked as AreQueries};
 ghost use Rattle.event_form.specs.Counted.{CountsOn, CountPairOn, left_starts, right_starts};

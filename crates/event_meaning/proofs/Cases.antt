@@ -10,9 +10,9 @@ use Rattle.outcome.specs.declared.verdict.Unshown.{Unshown}
 use Rattle.outcome.specs.declared.verdict.Verdict.{Verdict}
 use Rattle.outcome.specs.declared.verdict.Verdict.TheVariants as verdict
 use Rattle.outcome.specs.declared.verdict.Why.TheVariants as why
-use Rattle.event_findings.specs.declared.verdict.EventVerdict.{EventVerdict}
-use Rattle.event_findings.specs.declared.verdict.EventVerdict.TheVariants as found
-use Rattle.event_findings.specs.declared.verdict.UnshownPair.{UnshownPair}
+use Rattle.event_fits.specs.EventVerdict.{EventVerdict}
+use Rattle.event_fits.specs.EventVerdict.TheVariants as found
+use Rattle.event_fits.specs.UnshownPair.{UnshownPair}
 use Rattle.event_fits.specs.Fitting.{class_limit, EventOutcomeFits, IsUnrecovered, IsUnclassed, IsComparedByPairs}
 use Rattle.event_fits.specs.Named.{latch_names, NamesUnshown, NamesVerdict}
 

@@ -17,12 +17,12 @@ use Rattle.witness_report.specs.Shown.{MakesDiffer, MakesCutsDiffer}
 use Rattle.outcome.specs.declared.verdict.Outcome.{Outcome}
 use Rattle.outcome.specs.declared.verdict.PairResult.{PairResult}
 use Rattle.class_queries.specs.Enables.{both_of}
-use Rattle.cut_events.specs.Circuits.{AreNets}
-use Rattle.cut_events.proofs.Agreeing.{circuits_agree}
-use Rattle.cut_events.proofs.Differing.{cuts_differ, circuits_differ}
-use Rattle.event_form.specs.Answers.{AnswerFits, PairFits}
+use Rattle.event_fits.specs.Circuits.{AreNets}
+use Rattle.event_fits.proofs.Agreeing.{circuits_agree}
+use Rattle.event_fits.proofs.Differing.{cuts_differ, circuits_differ}
+use Rattle.unshown_pairs.specs.Answers.{AnswerFits, PairFits}
 use Rattle.event_nodes.specs.View.{EventCircuitView}
-use Rattle.event_findings.specs.Findings.{IsFirstWith, IsSequenceOf, VerdictFits}
+use Rattle.event_fits.specs.Findings.{IsFirstWith, IsSequenceOf, VerdictFits}
 use Rattle.event_fits.specs.Fitting.{IsComparedByPairs}
 use Rattle.event_fits.specs.Named.{latch_names}
 use Rattle.event_meaning.specs.Laws.{CutOutcomesDiffer, DifferentOutcomesDiffer, EqualOutcomesAgree}

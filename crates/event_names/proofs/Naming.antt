@@ -15,17 +15,17 @@ use Rattle.interface.specs.Pairs.{ArePairsOf, outputs_of}
 use Rattle.sec_base.specs.declared.basics.Tag.{Tag}
 use Rattle.sec_setup.specs.Setup.{AreColumns}
 use Rattle.outcome.specs.declared.verdict.PairResult.{PairResult}
-use Rattle.event_form.specs.declared.frames.FrameBit.{FrameBit}
+use Rattle.unshown_pairs.specs.FrameBit.{FrameBit}
 use Rattle.event_nodes.specs.View.{EventCircuitView}
 use Rattle.event_order.specs.Order.{IsTagOf}
 use Rattle.unshown_pairs.specs.Separations.{Separates, SeparatesBy}
 use Rattle.unshown_pairs.specs.Told.{TellsVariable}
 use Rattle.unshown_pairs.specs.declared.separations.ToldSeparation.{ToldSeparation}
-use Rattle.event_findings.specs.Findings.{IsFirstUnshown, VerdictFits}
-use Rattle.event_findings.specs.declared.pairs.EventPairs.{EventPairs}
-use Rattle.event_findings.specs.declared.verdict.EventVerdict.{EventVerdict}
-use Rattle.event_findings.specs.declared.verdict.EventVerdict.TheVariants as found
-use Rattle.event_findings.specs.declared.verdict.UnshownPair.{UnshownPair}
+use Rattle.event_fits.specs.Findings.{IsFirstUnshown, VerdictFits}
+use Rattle.event_fits.specs.EventPairs.{EventPairs}
+use Rattle.event_fits.specs.EventVerdict.{EventVerdict}
+use Rattle.event_fits.specs.EventVerdict.TheVariants as found
+use Rattle.event_fits.specs.UnshownPair.{UnshownPair}
 use Rattle.event_fits.specs.Named.{latch_names}
 use Rattle.read_inputs.proofs.Places.{IsShown}
 use Rattle.event_names.specs.declared.names.Names.{Names}

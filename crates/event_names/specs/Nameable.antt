@@ -1,11 +1,11 @@
 -- What can be told by names: its latches and inputs have some.
 use Rattle.std.specs.Prelude.{ℕ, ◌<◌, List, length, Option, Some, None, All}
 use Rattle.sec_base.specs.declared.basics.Tag.{Tag}
-use Rattle.event_form.specs.declared.frames.FrameBit.{FrameBit}
+use Rattle.unshown_pairs.specs.FrameBit.{FrameBit}
 use Rattle.unshown_pairs.specs.declared.separations.ToldSeparation.{ToldSeparation}
-use Rattle.event_findings.specs.declared.verdict.EventVerdict.{EventVerdict}
-use Rattle.event_findings.specs.declared.verdict.EventVerdict.TheVariants as found
-use Rattle.event_findings.specs.declared.verdict.UnshownPair.{UnshownPair}
+use Rattle.event_fits.specs.EventVerdict.{EventVerdict}
+use Rattle.event_fits.specs.EventVerdict.TheVariants as found
+use Rattle.event_fits.specs.UnshownPair.{UnshownPair}
 use Rattle.event_fits.specs.Named.{names_at}
 use Rattle.event_names.specs.declared.names.Names.{Names}
 

@@ -14,10 +14,10 @@ use Rattle.interface.specs.Pairs.{outputs_of}
 use Rattle.sec_setup.specs.Setup.{AreColumns}
 use Rattle.setup_depths.proofs.ReadInputs.{visited_is_column}
 use Rattle.event_nodes.specs.View.{EventCircuitView}
-use Rattle.event_form.specs.Asked.{IsPairOf}
+use Rattle.event_witness.specs.Asked.{IsPairOf}
 use Rattle.event_witness.specs.Sequences.{HasInputsBelow}
-use Rattle.event_findings.specs.declared.pairs.EventPairs.{EventPairs}
-use Rattle.event_findings.specs.Compared.{AreCompared, IsEventDepth}
+use Rattle.event_comparison.specs.EventPairs.{EventPairs}
+use Rattle.event_comparison.specs.Compared.{AreCompared, IsEventDepth}
 use Rattle.event_setup.specs.declared.setup.EventSetup.{EventSetup}
 use Rattle.event_setup.specs.Setup.{IsEventSetup, IsPairDepthIn, IsPairWithin}
 use Rattle.event_setup.proofs.Setups.{pairs_within}

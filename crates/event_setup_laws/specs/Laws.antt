@@ -8,10 +8,10 @@ use Rattle.flat_net.specs.Sound.{IsSound}
 use Rattle.flat_net.specs.View.{NetView, circuit_of}
 use Rattle.event_setup.specs.declared.setup.EventSetup.{EventSetup}
 use Rattle.event_setup.specs.Setup.{IsEventSetup, IsEventSetupOf}
-use Rattle.event_form.specs.Asked.{IsPairOf}
-use Rattle.event_findings.specs.declared.pairs.EventPairs.{EventPairs}
+use Rattle.event_witness.specs.Asked.{IsPairOf}
+use Rattle.event_comparison.specs.EventPairs.{EventPairs}
 use Rattle.event_comparison.specs.Agreement.{AreAllPairs, AreCutFrom, CircuitsAgree}
-use Rattle.event_findings.specs.Compared.{AreCompared}
+use Rattle.event_comparison.specs.Compared.{AreCompared}
 use Rattle.pair_events.specs.View.{EventsView}
 
 -- the circuits are those of the setup, whatever classes their latches have

@@ -17,3 +17,5 @@ pub fn equal_setups_agree()
 pub fn uncut_setups_are_whole()
     ensures { UncutSetupsAreWhole }
 {}
+
+pub use event_comparison::{EventFindings, EventFormError, EventPairs, compare_events};

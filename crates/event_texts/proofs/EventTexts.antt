@@ -35,9 +35,9 @@ use Rattle.event_nodes.specs.View.{EventCircuitView}
 use Rattle.event_findings.specs.Findings.{VerdictFits}
 use Rattle.event_findings.specs.declared.verdict.EventVerdict.{EventVerdict}
 use Rattle.event_findings.specs.declared.verdict.EventVerdict.TheVariants as found
-use Rattle.event_fits.specs.Compared.{IsComparedInEvents}
-use Rattle.event_fits.specs.Fitting.{IsComparedByPairs, IsUnclassed, IsUnrecovered}
-use Rattle.event_fits.specs.Named.{latch_names, NamesVerdict}
+use Rattle.event_meaning.specs.Compared.{IsComparedInEvents}
+use Rattle.event_meaning.specs.Fitting.{IsComparedByPairs, IsUnclassed, IsUnrecovered}
+use Rattle.event_meaning.specs.Named.{latch_names, NamesVerdict}
 use Rattle.event_meaning.proofs.Cases.{compared, cut_found, cut_no_limit, different_found, different_no_limit, equal_no_limit}
 use Rattle.event_meaning.proofs.Saying.{uncut}
 use Rattle.sec_files.specs.Loading.{Loads, circuit_of_text}
@@ -92,7 +92,7 @@ module _ (before now : Option (List ℕ)) (settings : Settings) (o : Outcome) (t
   }
 
   printed : IsPrinted a b settings o before now
-  printed = record { fits = is.fits; printed = taken; }
+  printed = record { fits = is.fits; printed = taken }
 
   abbrev Compared : Type 0
   Compared = IsComparedByPairs a b settings.expose settings.conflicts o

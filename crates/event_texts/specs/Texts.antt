@@ -27,9 +27,9 @@ use Rattle.class_queries.specs.Enables.{both_of}
 use Rattle.compare_base.specs.Says.{SaysEqual, SaysDifferent, SaysNotShown}
 use Rattle.event_form.specs.Answers.{IsUndecided}
 use Rattle.event_setup.specs.Choosing.{HaveNoCycles}
-use Rattle.event_fits.specs.Compared.{AreTooLargeInEvents, HaveTooManyEvents}
-use Rattle.event_fits.specs.Fitting.{EventOutcomeFits, IsComparedByPairs, IsUnclassed, IsUnrecovered}
-use Rattle.event_fits.specs.Shown.{IsFramed}
+use Rattle.event_meaning.specs.Compared.{AreTooLargeInEvents, HaveTooManyEvents}
+use Rattle.event_meaning.specs.Fitting.{EventOutcomeFits, IsComparedByPairs, IsUnclassed, IsUnrecovered}
+use Rattle.event_meaning.specs.Shown.{IsFramed}
 use Rattle.sec_files.specs.Loading.{IsAccepted, Loads, SpellsCircuit}
 
 -- Both texts load as nets, and spell circuits.

@@ -10,11 +10,11 @@ use Rattle.event_theory.specs.Classes.{HasClasses, classes_of}
 use Rattle.event_theory.specs.EventSizes.{Start, IsEventOver}
 use Rattle.event_theory.specs.EventTotals.{IsNodesOver, IsNodesWithin}
 use Rattle.event_theory.specs.Frame.{EventSide}
-use Rattle.class_events.specs.Made.{AreEnablesCounted}
+use Rattle.unshown_pairs.specs.Made.{AreEnablesCounted}
 use Rattle.class_queries.specs.Enables.{both_of}
 use Rattle.class_queries.specs.Laws.{AreKept}
 use Rattle.class_totals.specs.Totals.{circuit_at, starts_at}
-use Rattle.event_functions.specs.Functions.{signal_start}
+use Rattle.class_totals.specs.Functions.{signal_start}
 use Rattle.event_nodes.specs.View.{EventCircuitView, side_of, Enabled}
 use Rattle.interface.specs.declared.pairs.SignalPair.{SignalPair}
 use Rattle.pair_events.specs.Counted.{both_starts, left_with, right_with, starts_with, HaveCounted, AreTooMany, IsTooLarge}
@@ -22,9 +22,9 @@ use Rattle.pair_events.specs.View.{EventsView, IsEvents, IsWithinLimits, side_of
 use Rattle.pair_events.specs.View as view
 use Rattle.pair_events.specs.Within.{AreTotalsWithin, IsCountedOnce}
 use Rattle.pair_events.proofs.Within.{is_within}
-use Rattle.event_form.specs.Asked.{IsLater}
-use Rattle.event_form.specs.Counted.{CountsOn, left_starts, right_starts}
-use Rattle.event_form.specs.Stopped.{IsFirstStop, lefts_before, rights_before, lefts_with, rights_with, signal_of}
+use Rattle.unshown_pairs.specs.Asked.{IsLater}
+use Rattle.unshown_pairs.specs.Counted.{CountsOn, left_starts, right_starts}
+use Rattle.unshown_pairs.specs.Stopped.{IsFirstStop, lefts_before, rights_before, lefts_with, rights_with, signal_of}
 use Rattle.unshown_pairs.proofs.Occurring.{class_low}
 use Rattle.event_totals.specs.Totals.{IsMapMade, IsWithinWith, ReachFewWith, ReachTooManyWith, WeighTooMuchWith, IsNextSignal, PairsReachTooMany, PairsWeighTooMuch}
 

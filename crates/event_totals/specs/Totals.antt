@@ -9,8 +9,8 @@ use Rattle.event_nodes.specs.View.{EventCircuitView, side_of, Enabled}
 use Rattle.class_extension.specs.Sides.{AreStartsOfBoth}
 use Rattle.class_queries.specs.Enables.{both_of}
 use Rattle.class_totals.specs.Totals.{circuit_at, starts_at}
-use Rattle.event_form.specs.Counted.{left_starts, right_starts}
-use Rattle.event_form.specs.Stopped.{lefts_before, rights_before, lefts_with, rights_with}
+use Rattle.unshown_pairs.specs.Counted.{left_starts, right_starts}
+use Rattle.unshown_pairs.specs.Stopped.{lefts_before, rights_before, lefts_with, rights_with}
 use Rattle.interface.specs.declared.pairs.SignalPair.{SignalPair}
 use Rattle.pair_events.specs.Counted.{both_starts}
 use Rattle.pair_events.specs.Within.{AreTotalsWithin}

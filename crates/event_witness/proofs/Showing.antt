@@ -9,9 +9,9 @@ use Rattle.sec_base.specs.declared.basics.PairAnswer.{PairAnswer}
 use Rattle.event_nodes.specs.Nodes.{EventGraphView, IsEventGraph}
 use Rattle.event_agreement.proofs.PairQueries.{is_query, within}
 use Rattle.interface.specs.declared.pairs.SignalPair.{SignalPair}
-use Rattle.obligations.specs.declared.obligation.Difference.{Difference}
-use Rattle.obligations.specs.declared.obligation.Obligation.{Obligation}
-use Rattle.obligations.specs.Decided.{IsFirstOf}
+use Rattle.event_form.specs.Difference.{Difference}
+use Rattle.event_form.specs.Obligation.{Obligation}
+use Rattle.event_form.specs.Decided.{IsFirstOf}
 use Rattle.outcome.specs.declared.verdict.PairResult.{PairResult}
 use Rattle.pair_decide.specs.declared.query.Query.{Query}
 use Rattle.pair_decide.specs.Queries.{IsQuery}

@@ -16,10 +16,10 @@ use Rattle.event_nodes.specs.View.{EventCircuitView, Enabled}
 use Rattle.class_queries.specs.Enables.{both_of}
 use Rattle.class_queries.specs.Laws.{AreKept}
 use Rattle.interface.specs.declared.pairs.SignalPair.{SignalPair}
-use Rattle.obligations.specs.declared.obligation.Obligation.{Obligation}
-use Rattle.obligations.specs.declared.obligation.Difference.{Difference}
-use Rattle.obligations.specs.Decided.{IsFirstOf}
-use Rattle.obligations.specs.Found.{IsDifferenceOf}
+use Rattle.event_form.specs.Obligation.{Obligation}
+use Rattle.event_form.specs.Difference.{Difference}
+use Rattle.event_form.specs.Decided.{IsFirstOf}
+use Rattle.event_form.specs.Found.{IsDifferenceOf}
 use Rattle.outcome.specs.declared.verdict.PairResult.{PairResult}
 use Rattle.pair_decide.specs.declared.query.Query.{Query}
 use Rattle.pair_decide.specs.Queries.{assigned_to}

@@ -1,3 +1,4 @@
+pub use Rattle.event_form.specs.Asked
 pub mod Sequences
 pub mod Unshown
 pub mod Shown

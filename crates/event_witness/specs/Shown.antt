@@ -1,8 +1,8 @@
 -- What shows a difference of an obligation.
 use Rattle.std.specs.Prelude.{◌≡◌, ℕ, ◌<◌, List, length, slice_get, Some, All}
 use Rattle.event_nodes.specs.Nodes.{EventGraphView}
-use Rattle.obligations.specs.declared.obligation.Difference.{Difference}
-use Rattle.obligations.specs.declared.obligation.Obligation.{Obligation}
+use Rattle.event_form.specs.Difference.{Difference}
+use Rattle.event_form.specs.Obligation.{Obligation}
 use Rattle.pair_decide.specs.declared.query.Query.{Query}
 use Rattle.pair_decide.specs.Queries.{IsQuery}
 use Rattle.witness_report.specs.declared.witness.Witness.{Witness}

@@ -6,9 +6,8 @@ ghost use Rattle.event_witness.specs.Shown.{IsShowable, IsUnshownAt, IsWitnessAt
 
 use crate::unshown::{UnshownFrame, unshown_of};
 use crate::witness::witness_of;
-use obligations::{Difference, Obligation};
+use event_form::{Difference, Events, Obligation};
 use outcome::Witness;
-use pair_events::Events;
 use sec_base::{NoMemory, Words};
 use std::alloc::Global;
 

@@ -9,8 +9,8 @@ ghost use Rattle.event_witness.specs.Sequences.{AreSidesOf};
 
 use aig::Lit;
 use cone_values::value_in_cone;
+use event_form::Events;
 use pair_decide::Query;
-use pair_events::Events;
 use sec_base::NoMemory;
 use std::alloc::Global;
 

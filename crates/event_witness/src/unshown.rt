@@ -5,11 +5,9 @@ ghost use Rattle.pair_decide.specs.Queries.{IsQuery};
 ghost use Rattle.event_witness.specs.Unshown.{IsUnshownOf};
 
 use crate::sides::sides_of;
-use event_form::{FrameBit, frame_of};
-use obligations::copy_name;
+use event_form::{Events, FrameBit, copy_name, frame_of};
 use outcome::PairName;
 use pair_decide::Query;
-use pair_events::Events;
 use sec_base::{Bits, NoMemory};
 use std::alloc::Global;
 

@@ -6,11 +6,10 @@ ghost use Rattle.pair_decide.specs.Queries.{IsQuery};
 ghost use Rattle.event_witness.specs.Sequences.{IsWitnessOf};
 
 use crate::sides::sides_of;
+use event_form::{Events, copy_name};
 use frame_sequences::frame_rows;
-use obligations::copy_name;
 use outcome::{PairName, Stimulus, Witness};
 use pair_decide::Query;
-use pair_events::Events;
 use sec_base::{Bits, NoMemory, Words};
 use std::alloc::Global;
 

@@ -4,5 +4,6 @@
 mod generation;
 mod report;
 
+pub use compare_base::CompareError;
 pub use generation::Generation;
 pub use report::summary;

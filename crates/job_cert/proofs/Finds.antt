@@ -5,9 +5,9 @@ use Rattle.circuit_theory.specs.declared.Side.TheVariants.{A, B}
 use Rattle.sec_base.specs.Outside.{Rose}
 use Rattle.flat_net.specs.View.{NetView}
 use Rattle.cnf_encode.specs.declared.cnf.Cnf.{Cnf}
-use Rattle.compare_base.specs.Compared.{Compared}
-use Rattle.compare_base.specs.declared.error.CompareError.{CompareError}
-use Rattle.compare_base.specs.declared.error.CompareError.TheVariants as compare_error
+use Rattle.pair_clauses.specs.Compared.{Compared}
+use Rattle.pair_clauses.specs.CompareError.{CompareError}
+use Rattle.pair_clauses.specs.CompareError.TheVariants as compare_error
 use Rattle.sec_files.specs.Loading.{Loads, LoadFails}
 use Rattle.sec_files.specs.declared.loader.LoadError.{LoadError}
 use Rattle.pair_clauses.specs.Clauses.{plainly}

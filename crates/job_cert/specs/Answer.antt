@@ -10,7 +10,7 @@ use Rattle.pair_decide.specs.declared.query.Proof.{Proof}
 use Rattle.outcome_fits.specs.Outcome.{HaveDifferentFunctions}
 use Rattle.sec_setup.specs.Matching.{InterfacesMatch}
 use Rattle.sec_setup.specs.Cycles.{AreBroken}
-use Rattle.compare_base.specs.Compared.{AreTooLarge}
+use Rattle.pair_clauses.specs.Compared.{AreTooLarge}
 use Rattle.sec_files.specs.Loading.{IsAccepted, Loads}
 use Rattle.certificate_writer.specs.Texts.{SpellsClauses}
 use Rattle.pair_clauses.specs.Clauses.{ArePairClauses, IsOutput}

@@ -1,8 +1,8 @@
 -- How the work on a certificate ends.
 use Rattle.std.specs.Prelude.{◌≡◌, ◌⊎◌, ℕ, List, Option, Result, Ok, Err, IfSome}
 use Rattle.flat_net.specs.View.{NetView}
-use Rattle.compare_base.specs.declared.error.CompareError.{CompareError}
-use Rattle.compare_base.specs.declared.error.CompareError.TheVariants as compare_error
+use Rattle.pair_clauses.specs.CompareError.{CompareError}
+use Rattle.pair_clauses.specs.CompareError.TheVariants as compare_error
 use Rattle.sec_files.specs.Loading.{Loads, LoadFails}
 use Rattle.sec_files.specs.declared.loader.LoadError.{LoadError}
 use Rattle.pair_clauses.specs.declared.error.CertError.{CertError}

@@ -1,8 +1,8 @@
 -- What is true of the files of a certificate where it finds what it does. A text is given where it is told.
 use Rattle.std.specs.Prelude.{ℕ, List, [], ◌∷◌, Option, IfSome, Err}
 use Rattle.flat_net.specs.View.{NetView}
-use Rattle.compare_base.specs.Compared.{Compared}
-use Rattle.compare_base.specs.declared.error.CompareError.TheVariants as compare_error
+use Rattle.pair_clauses.specs.Compared.{Compared}
+use Rattle.pair_clauses.specs.CompareError.TheVariants as compare_error
 use Rattle.sec_files.specs.Loading.{Loads, IsTooLong, HasFault, HasDesignFault, HasRecordFault}
 use Rattle.pair_clauses.specs.Clauses.{plainly, PairGives}
 use Rattle.pair_clauses.specs.declared.error.CertError.TheVariants.{Pair}

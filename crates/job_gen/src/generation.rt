@@ -1,12 +1,11 @@
 //! A pair is made and compared.
 
 ghost use Rattle.std.specs.Prelude.{◌≡◌, ◌≤◌, IsErrOf};
-ghost use Rattle.compare_base.specs.Compared.{IsCompared};
+ghost use Rattle.gen_meaning.specs.Compared.{IsCompared};
 ghost use Rattle.gen_meaning.specs.Found.{AreTwins, GenFound, settings_of};
 
 use circuit_theory::Mode;
-use compare_base::CompareError;
-use gen_meaning::{Generation, summary};
+use gen_meaning::{CompareError, Generation, summary};
 use job_base::{Finding, Stop};
 use outcome::{Outcome, Settings};
 use pair_gen::{Twins, generate};

@@ -1,1 +1,3 @@
+pub use Rattle.induct_meaning.specs.Answer
+pub use Rattle.induct_meaning.specs.Found
 pub mod Ends

@@ -21,9 +21,9 @@ use Rattle.job_files.specs.Reading.{Held}
 use Rattle.check_meaning.specs.Answer.{CanAnswer, CanAnswerWith, IsAnswer}
 use Rattle.check_texts.specs.Texts.{AreComparable}
 use Rattle.sec_run.specs.Answer.{EndsAs, IsFinding}
-use Rattle.check_found.specs.Found.{IsAnsweredBy, IsFoundOf, OfNets}
+use Rattle.check_meaning.specs.Found.{IsAnsweredBy, IsFoundOf, OfNets}
 use Rattle.job_base.specs.Written.{status_of, verdict_status}
-use Rattle.check_found.specs.Check.{Check, WhereBuilt}
+use Rattle.check_meaning.specs.Check.{Check, WhereBuilt}
 use Rattle.job_base.specs.Meaning.{EndsWith}
 use Rattle.sec_run.specs.Promises.{IsComplete}
 use Rattle.one_text_runs.specs.OneTextRuns.{OfCheck, OfOneText, IsAlways, IsEqualAnswer}

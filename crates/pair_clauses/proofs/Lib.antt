@@ -1,3 +1,4 @@
+pub use Rattle.compare_base.proofs.ToldCycles
 pub mod Refused
 pub mod Outputs
 pub mod Places

@@ -1,1 +1,3 @@
+pub use Rattle.compare_base.specs.declared.error.CompareError
+pub use Rattle.compare_base.specs.Compared
 pub mod Clauses

@@ -7,4 +7,5 @@ mod named;
 
 pub use clauses::pair_clauses;
 pub use cnf_encode::Cnf;
+pub use compare_base::CompareError;
 pub use error::CertError;

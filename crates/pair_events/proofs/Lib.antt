@@ -1,3 +1,5 @@
+pub use Rattle.event_pairs.proofs.Unions
+pub use Rattle.event_pairs.proofs.Growing
 pub mod Starts
 pub mod Counting
 pub mod Sides

@@ -1,3 +1,4 @@
+pub use Rattle.compare_base.proofs.Refusals
 pub mod Outcomes
 pub mod ResetLeaves
 pub mod ResetMeaning

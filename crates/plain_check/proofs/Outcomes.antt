@@ -23,7 +23,7 @@ use Rattle.compare_base.specs.declared.error.CompareError.TheVariants as refused
 use Rattle.compare_base.specs.Compared.{IsCompared, Compared}
 use Rattle.outcome_fits.specs.Fitting.{OutcomeFits}
 use Rattle.compare_base.proofs.CutSetups.{choice, left_too_large, right_too_large}
-use Rattle.plain_meaning.proofs.Meaning.{they_are_equal, makes_differ, makes_cuts_differ}
+use Rattle.compare_base.proofs.Meaning.{they_are_equal, makes_differ, makes_cuts_differ}
 
 -- a net that is too large is refused
 pub too_large : (a b : NetView) (settings : Settings) (e : Exposure) (s : Setup) → InterfacesMatch a b → IsChosen a b settings.expose e → IsSetupOf a b s → s.exposed ≡ e.names → settings.reset ≡ false →

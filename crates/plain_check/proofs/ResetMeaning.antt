@@ -32,7 +32,7 @@ use Rattle.sec_setup.specs.Pairs.{NamedPair, named_pairs}
 use Rattle.outcome_fits.specs.ResetOutcome.{Numbered, AgreeAt, AnswerFits, PairFits, IsFirstDifference}
 use Rattle.compare_base.specs.FromReset.{numbered_by, ResetOutcomeFits, ResetVerdictFits}
 use Rattle.compare_base.specs.Says.{MakesResetsDiffer}
-use Rattle.plain_meaning.proofs.CutPairs.{IsOutputPair, IsNextPair, one_output, pair_listed, listed_is}
+use Rattle.compare_base.proofs.CutPairs.{IsOutputPair, IsNextPair, one_output, pair_listed, listed_is}
 use Rattle.plain_check.proofs.ResetLeaves.{powered_value}
 
 -- nothing is in the list of none

@@ -13,7 +13,7 @@ use Rattle.sec_setup.specs.Matching.{InterfacesMatch}
 use Rattle.sec_setup.specs.Pairs.{NamedPair, named_pairs}
 use Rattle.sec_setup.specs.Setup.{IsSetupOf}
 use Rattle.reset_asked.specs.declared.findings.ResetFindings.{ResetFindings}
-use Rattle.reset_functions.specs.declared.error.ResetError.TheVariants as reset_error
+use Rattle.compare_base.specs.ResetError.TheVariants as reset_error
 use Rattle.reset_asked.specs.declared.findings.ResetVerdict.{ResetVerdict}
 use Rattle.reset_asked.specs.declared.findings.ResetVerdict.TheVariants as found_verdict
 use Rattle.reset_form.specs.Formed.{AreFound, Formed}

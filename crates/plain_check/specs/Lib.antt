@@ -1,1 +1,2 @@
+pub use Rattle.compare_base.specs.Compared
 pub mod Verdicts

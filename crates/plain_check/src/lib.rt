@@ -3,4 +3,5 @@
 
 mod comparison;
 
+pub use compare_base::CompareError;
 pub use comparison::compare_plainly;

@@ -1,0 +1,2 @@
+pub use Rattle.sec_setup.specs.Setup
+pub use Rattle.sec_setup.specs.Cuts

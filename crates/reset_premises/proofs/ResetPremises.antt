@@ -30,7 +30,7 @@ use Rattle.reset_unfold.specs.Places.{in_cycle, starts_of}
 use Rattle.sec_setup.specs.Pairs.{NamedPair, named_pairs}
 use Rattle.compare_base.specs.FromReset.{IsLeftStart, IsRightStart, AreTooLargeFromReset}
 use Rattle.plain_meaning.proofs.CutPairs.{IsOutputPair, IsNextPair, listed_is}
-use Rattle.check_texts.specs.Texts.{AreComparable}
+use Rattle.small_pairs.specs.Texts.{AreComparable}
 use Rattle.reset_premises.specs.ResetPremises.{late_from_zero, early_from_zero, ResetsAreComparable}
 use Rattle.design_rows.specs.Texts.{late, early}
 use Rattle.design_rows.proofs.Spelling.{Spells, PortsMatch, accepted, net_is_small, match}

@@ -1,6 +1,6 @@
 -- Texts that meet the premise of what is promised of comparisons from the latches' initial values.
 use Rattle.std.specs.Prelude.{ℕ, false, true, List, codes}
-use Rattle.check_texts.specs.Texts.{AreComparable}
+use Rattle.small_pairs.specs.Texts.{AreComparable}
 use Rattle.design_rows.specs.Texts.{late, early}
 
 -- an and, and a latch behind it that starts with 0

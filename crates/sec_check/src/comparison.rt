@@ -6,11 +6,10 @@ ghost use Rattle.flat_net.specs.Comparable.{IsComparable};
 ghost use Rattle.event_fits.specs.Compared.{ComparedIn};
 
 use circuit_theory::Mode;
-use compare_base::CompareError;
 use event_check::compare_in_events;
 use flat_net::Net;
 use outcome::{Outcome, Settings};
-use plain_check::compare_plainly;
+use plain_check::{CompareError, compare_plainly};
 use sec_base::MAX_CONFLICTS;
 use std::alloc::Global;
 

@@ -4,10 +4,10 @@ ghost use Rattle.std.specs.Prelude.{◌≡◌, None, IfOk, IfErr};
 ghost use Rattle.circuit_theory.specs.Interface.{first_mismatch, AreOrders};
 ghost use Rattle.flat_net.specs.Comparable.{IsComparable};
 ghost use Rattle.flat_net.specs.View.{ports_of};
-ghost use Rattle.compare_base.specs.Compared.{InterfaceFails};
+ghost use Rattle.plain_check.specs.Compared.{InterfaceFails};
 
-use compare_base::CompareError;
 use flat_net::Net;
+use plain_check::CompareError;
 use sec_base::Orders;
 use std::alloc::Global;
 

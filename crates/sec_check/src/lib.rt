@@ -5,10 +5,10 @@ mod comparison;
 mod interfaces;
 
 pub use circuit_theory::Mode;
-pub use compare_base::CompareError;
 pub use comparison::compare;
 pub use interfaces::interface;
 pub use outcome::{
     Frame, LimitAt, Outcome, PairName, PairResult, PairResults, Proof, ResetWitness, Separation,
     Separations, Settings, Spot, Spots, Stimulus, Unshown, Verdict, Why, Witness, report,
 };
+pub use plain_check::CompareError;

@@ -14,14 +14,14 @@ use Rattle.job_circuit.proofs.Means.{graph_means, sim_means}
 use Rattle.job_circuit.proofs.CompleteReports.{graph_complete, sim_complete}
 use Rattle.job_replay.proofs.Means.{replay_means}
 use Rattle.job_replay.proofs.CompleteReplays.{replay_complete}
-use Rattle.check_found.specs.Check.{Check}
+use Rattle.job_check.specs.Check.{Check}
 use Rattle.check_meaning.proofs.Promises.{check_says, silent_check, failed_check, check_complete, memory_check}
-use Rattle.gen_meaning.proofs.Means.{gen_means, gen_complete}
+use Rattle.job_gen.proofs.Means.{gen_means, gen_complete}
 use Rattle.job_lrat.proofs.Means.{lrat_means, lrat_complete}
 use Rattle.job_cert.proofs.Means.{cert_means}
 use Rattle.job_cert.proofs.Complete.{cert_complete, memory_cert}
-use Rattle.induct_meaning.proofs.Means.{induct_means}
-use Rattle.induct_meaning.proofs.Complete.{induct_complete}
+use Rattle.job_induct.proofs.Means.{induct_means}
+use Rattle.job_induct.proofs.Complete.{induct_complete}
 use Rattle.sec_run.specs.Answer.{IsFinding}
 use Rattle.sec_run.specs.Promises.{Means, IsComplete}
 

@@ -14,12 +14,12 @@ use Rattle.job_base.specs.Lines.{finding_text}
 use Rattle.job_files.specs.Reading.{Held}
 use Rattle.job_circuit.specs.Reports.{IsGraphFound, IsSimFound}
 use Rattle.job_replay.specs.Replays.{IsReplayFound}
-use Rattle.check_found.specs.Check.{Check}
-use Rattle.check_found.specs.Found.{IsCheckFound}
-use Rattle.gen_meaning.specs.Found.{IsGenFound}
+use Rattle.job_check.specs.Check.{Check}
+use Rattle.job_check.specs.Found.{IsCheckFound}
+use Rattle.job_gen.specs.Found.{IsGenFound}
 use Rattle.job_lrat.specs.Found.{IsLratFound}
 use Rattle.job_cert.specs.Found.{IsCertFound}
-use Rattle.induct_meaning.specs.Found.{IsInductFound}
+use Rattle.job_induct.specs.Found.{IsInductFound}
 
 -- what is true of a job where this is found
 abbrev pub IsFoundOfJob : Held → Task → Finding → Type 0

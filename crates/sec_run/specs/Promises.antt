@@ -9,12 +9,12 @@ use Rattle.job_base.specs.declared.status.StatusName.TheVariants as status
 use Rattle.job_files.specs.Reading.{Held}
 use Rattle.job_circuit.specs.Reports.{GraphMeans, SimMeans, IsGraphComplete, IsSimComplete}
 use Rattle.job_replay.specs.Replays.{ReplayMeans, IsReplayComplete}
-use Rattle.check_found.specs.Check.{Check}
+use Rattle.job_check.specs.Check.{Check}
 use Rattle.check_meaning.specs.Answer.{CheckSays, IsCheckComplete}
-use Rattle.gen_meaning.specs.Answer.{GenMeans, IsGenAnswer}
+use Rattle.job_gen.specs.Answer.{GenMeans, IsGenAnswer}
 use Rattle.job_lrat.specs.Answer.{LratMeans, IsLratComplete}
 use Rattle.job_cert.specs.Answer.{CertMeans, IsCertComplete}
-use Rattle.induct_meaning.specs.Answer.{InductMeans, IsInductComplete}
+use Rattle.job_induct.specs.Answer.{InductMeans, IsInductComplete}
 
 -- What the status says of the job, with the proofs that the run ends with and what was written before and is now.
 abbrev pub Means : Held → Option Task → Option (List ℕ) → Option (List ℕ) → List Proof → StatusName → Type 0

@@ -8,7 +8,7 @@ use Rattle.flat_net.specs.View.{NetView, circuit_of}
 use Rattle.cut_points.specs.Common.{common_names}
 use Rattle.check_texts.specs.Texts.{AreComparable}
 use Rattle.sec_setup.specs.Cycles.{AreBroken}
-use Rattle.compare_base.specs.Compared.{AreTooLarge}
+use Rattle.check_texts.specs.Compared.{AreTooLarge}
 use Rattle.sec_setup.specs.Cuts.{IsChoice}
 use Rattle.outcome_fits.specs.Fitting.{IsCutOver}
 use Rattle.sec_files.specs.Loading.{IsAccepted, Loads}

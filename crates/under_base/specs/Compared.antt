@@ -13,7 +13,7 @@ use Rattle.outcome.specs.declared.verdict.Outcome.{Outcome}
 use Rattle.outcome.specs.declared.verdict.ResetWitness.{ResetWitness}
 use Rattle.sec_setup.specs.Matching.{InterfacesMatch}
 use Rattle.sec_setup.specs.Pairs.{named_pairs}
-use Rattle.outcome_fits.specs.Fitting.{IsLight}
+use Rattle.compare_base.specs.Fitting.{IsLight}
 use Rattle.under_fits.specs.Places.{IsLightAtPairs}
 use Rattle.under_fits.specs.ResetPlaces.{IsLightInCycles}
 use Rattle.assume_laws.specs.Assume.{AgreeFromResetUnder}

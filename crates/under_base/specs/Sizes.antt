@@ -8,7 +8,7 @@ use Rattle.sec_setup.specs.Cuts.{IsChoice, StandInOrder, columns_of}
 use Rattle.sec_setup.specs.Cycles.{AreBroken}
 use Rattle.sec_setup.specs.Pairs.{named_pairs}
 use Rattle.reset_laws.specs.Reset.{AreBased}
-use Rattle.outcome_fits.specs.Fitting.{IsCutLight}
+use Rattle.compare_base.specs.Fitting.{IsCutLight}
 use Rattle.under_fits.specs.Places.{IsOverAtPairs}
 use Rattle.under_fits.specs.ResetPlaces.{IsOverInCycles}
 use Rattle.under_fits.specs.ResetOutcome.{numbers_of}

@@ -11,16 +11,16 @@ use Rattle.event_theory.specs.Frame.{EventSide, ConeLatches}
 use Rattle.event_nodes.specs.Visited.{CounterView, HasCounted, IsVisitedPair}
 use Rattle.event_nodes.specs.View.{EventCircuitView}
 use Rattle.event_nodes.specs.Nodes.{path_of}
-use Rattle.event_functions.specs.Functions.{signal_start}
-use Rattle.event_functions.specs.declared.signals.SignalFunction.{SignalFunction}
+use Rattle.event_form.specs.Functions.{signal_start}
+use Rattle.event_form.specs.SignalFunction.{SignalFunction}
 use Rattle.event_pairs.specs.Functions.{AreNodesOf}
 use Rattle.event_pairs.proofs.Unions.{pair_nodes}
 use Rattle.event_theory.specs.EventFits.{ReachesAlways}
 use Rattle.interface.specs.declared.pairs.SignalPair.{SignalPair}
-use Rattle.pair_events.specs.Counted.{HaveCounted, GoOnCounting, both_starts}
-use Rattle.pair_events.specs.View.{EventsView, side_of_both}
-use Rattle.pair_events.proofs.Counting.{pair_more}
-use Rattle.pair_events.proofs.Starts.{both_more, node_more}
+use Rattle.class_events.specs.Counted.{HaveCounted, GoOnCounting, both_starts}
+use Rattle.class_events.specs.View.{EventsView, side_of_both}
+use Rattle.class_events.proofs.Counting.{pair_more}
+use Rattle.class_events.proofs.Starts.{both_more, node_more}
 use Rattle.event_form.specs.Asked.{IsUnion}
 use Rattle.event_form.proofs.Refusing.{Within}
 use Rattle.unshown_pairs.specs.Reached.{BothReachAlways, IsReachOf, StaysCounted}

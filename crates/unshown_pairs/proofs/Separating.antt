@@ -13,13 +13,13 @@ use Rattle.sec_base.specs.declared.basics.Tag.{Tag}
 use Rattle.class_events.specs.Separated.{AreSeparated}
 use Rattle.class_separations.specs.declared.apart.Apart.{Apart}
 use Rattle.class_separations.specs.Apart.{IsApart, IsSeparationBy, number_of}
-use Rattle.event_classes.specs.Named.{NamesLatches}
+use Rattle.class_events.specs.Named.{NamesLatches}
 use Rattle.event_nodes.specs.Nodes.{IsEventGraph}
 use Rattle.event_order.specs.Order.{place_of, IsTagOf}
 use Rattle.event_pairs.specs.Functions.{AreNodesOf}
 use Rattle.event_variables.specs.Variables.{variables_of}
 use Rattle.interface.specs.declared.pairs.SignalPair.{SignalPair}
-use Rattle.pair_events.specs.View.{EventsView, IsEvents, side_of_both}
+use Rattle.class_events.specs.View.{EventsView, IsEvents, side_of_both}
 use Rattle.unshown_pairs.specs.Classes.{AreEntered}
 use Rattle.unshown_pairs.specs.Reached.{PairLatches}
 use Rattle.unshown_pairs.specs.Separations.{AreSeparationsOf, ComesBefore, OccursFor, Separates, SeparatesBy}

@@ -13,7 +13,7 @@ use Rattle.class_separations.specs.declared.apart.Apart.{Apart}
 use Rattle.class_separations.specs.Apart.{IsApart, IsSeparationBy, number_of}
 use Rattle.class_events.specs.Separated.{AreSeparated}
 use Rattle.class_events.proofs.Pairs.{pairs_are}
-use Rattle.pair_events.specs.View.{EventsView}
+use Rattle.class_events.specs.View.{EventsView}
 
 -- there are as many bits as variables
 pub apart_each : (s : EventSide (Either ℕ ℕ)) (w : EventGraphView) (place : Tag → Either ℕ ℕ) (order : List (Either ℕ ℕ)) (low high : ℕ) (x : Apart) → IsApart s w place order low high x → length x.bits ≡ length x.vars

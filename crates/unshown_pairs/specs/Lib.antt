@@ -1,3 +1,9 @@
+pub use Rattle.event_form.specs.declared.frames.FrameBit
+pub use Rattle.event_form.specs.Stopped
+pub use Rattle.event_form.specs.Counted
+pub use Rattle.event_form.specs.Asked
+pub use Rattle.class_events.specs.Made
+pub use Rattle.event_form.specs.Answers
 pub mod Reached
 pub mod Classes
 pub mod Told

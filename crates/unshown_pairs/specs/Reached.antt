@@ -4,11 +4,11 @@ use Rattle.circuit_theory.specs.Joined.{Either, Left, Right}
 use Rattle.event_theory.specs.EventFits.{ReachesAlways}
 use Rattle.event_theory.specs.EventSizes.{Start}
 use Rattle.event_theory.specs.Frame.{EventSide, ConeLatches}
-use Rattle.event_functions.specs.Functions.{signal_start}
+use Rattle.event_form.specs.Functions.{signal_start}
 use Rattle.event_pairs.specs.Functions.{AreNodesOf}
 use Rattle.interface.specs.declared.pairs.SignalPair.{SignalPair}
-use Rattle.pair_events.specs.Counted.{HaveCounted}
-use Rattle.pair_events.specs.View.{EventsView}
+use Rattle.class_events.specs.Counted.{HaveCounted}
+use Rattle.class_events.specs.View.{EventsView}
 use Rattle.unshown_pairs.specs.declared.reach.PairReach.{PairReach}
 
 -- the latches in the cone of either side

@@ -7,6 +7,7 @@ mod reach;
 mod separations;
 mod telling;
 
+pub use event_form::FrameBit;
 pub use reach::{PairReach, reach_of};
 pub use separations::{ToldSeparation, ToldSeparations};
 pub use telling::tell_apart;

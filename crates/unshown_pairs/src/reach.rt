@@ -3,13 +3,13 @@
 ghost use Rattle.std.specs.Prelude.{◌≡◌, ◌&&◌, [], ◌∷◌, IfOk, OnOk};
 ghost use Rattle.event_form.specs.Asked.{IsLater, IsPairOf};
 ghost use Rattle.event_form.specs.Refused.{IsRefusedFor};
-ghost use Rattle.event_functions.specs.Functions.{signal_start};
-ghost use Rattle.pair_events.specs.View.{IsWithinLimits, side_of_both};
+ghost use Rattle.event_form.specs.Functions.{signal_start};
+ghost use Rattle.class_events.specs.View.{IsWithinLimits, side_of_both};
 ghost use Rattle.unshown_pairs.specs.Reached.{IsReachOf, StaysCounted};
 
+use class_events::Events;
 use event_form::{EventFormError, unfold, union_of};
 use interface::SignalPair;
-use pair_events::Events;
 use sec_base::Side;
 use std::alloc::Global;
 

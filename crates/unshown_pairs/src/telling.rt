@@ -4,18 +4,18 @@ ghost use Rattle.std.specs.Prelude.{[], ◌∷◌, IfOk, OnOk};
 ghost use Rattle.class_events.specs.Separated.{AreSeparated};
 ghost use Rattle.event_form.specs.Asked.{IsLater, IsPairOf};
 ghost use Rattle.event_form.specs.Refused.{IsRefusedFor};
-ghost use Rattle.event_functions.specs.Functions.{signal_start};
-ghost use Rattle.pair_events.specs.View.{IsWithinLimits};
+ghost use Rattle.event_form.specs.Functions.{signal_start};
+ghost use Rattle.class_events.specs.View.{IsWithinLimits};
 ghost use Rattle.unshown_pairs.specs.Reached.{StaysCounted};
 ghost use Rattle.unshown_pairs.specs.Separations.{AreToldFor};
 
 use crate::classes::classes_into;
 use crate::reach::reach_of;
 use crate::separations::{ToldSeparations, separations_among};
+use class_events::Events;
 use class_separations::Apart;
 use event_form::EventFormError;
 use interface::SignalPair;
-use pair_events::Events;
 use std::alloc::Global;
 
 /// What tells apart each two classes that occur in the paths of the event nodes which the pair reaches, in order; None where both sides reach

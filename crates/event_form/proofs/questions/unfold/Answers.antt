@@ -1,6 +1,6 @@
 -- What was made, as it is told.
 use Rattle.event_nodes.specs.Nodes.{GrowsEvents}
-use Rattle.event_pairs.specs.Functions.{IsEventFunction}
+use Rattle.pair_events.specs.Functions.{IsEventFunction}
 use Rattle.pair_events.proofs.Unfolding.{on_ok}
 use Rattle.pair_events.specs.Counted.{GoOnCounting}
 use Rattle.pair_events.specs.View.{IsWithinLimits, side_of_both, signal_at}

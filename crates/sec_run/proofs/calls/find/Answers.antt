@@ -3,7 +3,7 @@ use Rattle.command_line.specs.declared.task.Task.{Task}
 use Rattle.job_base.specs.Ends.{EndsBy}
 use Rattle.job_base.specs.Reading.{ReadFailedAfter}
 use Rattle.job_files.specs.Reading.{ReadFailed}
-use Rattle.gen_meaning.proofs.Means.{gen_ends}
+use Rattle.job_gen.proofs.Means.{gen_ends}
 use Rattle.sec_run.specs.Answer.{IsFoundOfJob}
 use Rattle.command_line.specs.Allowed.{IsAllowed}
 use Rattle.sec_run.specs.Job.{paths_of, GoesOn}

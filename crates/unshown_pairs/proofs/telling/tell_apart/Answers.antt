@@ -3,7 +3,7 @@ use Rattle.std.proofs.Common.{◌≡◌, ◌∙◌, ◌≤◌, ℕ, true, false,
 use Rattle.std.specs.List.{All, AllZip}
 use Rattle.circuit_theory.proofs.Lists.{All-from_each}
 use Rattle.event_nodes.specs.Nodes.{EventGraphView}
-use Rattle.pair_events.specs.View.{EventsView}
+use Rattle.class_events.specs.View.{EventsView}
 use Rattle.class_events.specs.Separated.{AreSeparated}
 use Rattle.class_events.proofs.Telling.{separated_stay}
 use Rattle.event_form.specs.Asked.{IsLater}

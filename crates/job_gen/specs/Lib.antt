@@ -1,0 +1,1 @@
+pub use Rattle.gen_meaning.specs.Answer
