@@ -14,8 +14,8 @@ use Rattle.event_form.specs.Counted.{CountsOn}
 use Rattle.event_form.proofs.Asking.{pair_on, side_same}
 use Rattle.event_comparison.specs.Agreement.{CircuitsAgree}
 use Rattle.event_comparison.specs.Asked.{AreAskedFrom, StayCounted}
-use Rattle.event_comparison.specs.Compared.{AreCompared}
-use Rattle.event_comparison.specs.declared.pairs.EventPairs.{EventPairs}
+use Rattle.event_findings.specs.Compared.{AreCompared}
+use Rattle.event_findings.specs.declared.pairs.EventPairs.{EventPairs}
 use Rattle.event_comparison.proofs.Asked.{depths_long}
 
 pub compared_later : (old new : EventsView) → IsLater old new → (c : EventPairs) → AreCompared old.left old.right c → AreCompared new.left new.right c

@@ -32,14 +32,14 @@ use Rattle.event_findings.specs.Unshown.{IsUnshownOf}
 use Rattle.event_findings.proofs.Differing.{only_query}
 use Rattle.event_findings.proofs.Growing.{differences_later}
 use Rattle.event_findings.specs.Reached.{BothReachAlways}
-use Rattle.event_comparison.specs.Compared.{AreCompared, IsEventDepth}
+use Rattle.event_findings.specs.Compared.{AreCompared, IsEventDepth}
 use Rattle.event_comparison.specs.Decided.{AreFound}
-use Rattle.event_comparison.specs.Findings.{IsFirstWith, IsFirstDifference, IsFirstLimit, IsFrameOf, IsSequenceOf, VerdictFits, FindingsFit}
+use Rattle.event_findings.specs.Findings.{IsFirstWith, IsFirstDifference, IsFirstLimit, IsFrameOf, IsSequenceOf, VerdictFits, FindingsFit}
 use Rattle.event_comparison.specs.Shown.{IsShown, IsShownUnshown}
-use Rattle.event_comparison.specs.declared.comparison.EventFindings.{EventFindings}
-use Rattle.event_comparison.specs.declared.pairs.EventPairs.{EventPairs}
-use Rattle.event_comparison.specs.declared.verdict.EventVerdict.{EventVerdict}
-use Rattle.event_comparison.specs.declared.verdict.EventVerdict.TheVariants as verdict
+use Rattle.event_findings.specs.declared.findings.EventFindings.{EventFindings}
+use Rattle.event_findings.specs.declared.pairs.EventPairs.{EventPairs}
+use Rattle.event_findings.specs.declared.verdict.EventVerdict.{EventVerdict}
+use Rattle.event_findings.specs.declared.verdict.EventVerdict.TheVariants as verdict
 use Rattle.event_comparison.proofs.Asked.{is_decisive, isnt_decisive, results_fit}
 use Rattle.event_comparison.proofs.Sequences.{frame_is, sequence_is}
 

@@ -10,12 +10,12 @@ use Rattle.sec_base.specs.declared.basics.PairAnswer.TheVariants as answer
 use Rattle.event_form.specs.Asked.{AreAsked, IsLater}
 use Rattle.event_form.proofs.Asking.{all_asked_on}
 use Rattle.event_comparison.specs.Agreement.{CircuitsAgree}
-use Rattle.event_comparison.specs.Compared.{AreCompared}
+use Rattle.event_findings.specs.Compared.{AreCompared}
 use Rattle.event_comparison.specs.Decided.{AreFound}
-use Rattle.event_comparison.specs.Findings.{FindingsFit, VerdictFits}
-use Rattle.event_comparison.specs.declared.comparison.EventFindings.{EventFindings}
-use Rattle.event_comparison.specs.declared.pairs.EventPairs.{EventPairs}
-use Rattle.event_comparison.specs.declared.verdict.EventVerdict.TheVariants as verdict
+use Rattle.event_findings.specs.Findings.{FindingsFit, VerdictFits}
+use Rattle.event_findings.specs.declared.findings.EventFindings.{EventFindings}
+use Rattle.event_findings.specs.declared.pairs.EventPairs.{EventPairs}
+use Rattle.event_findings.specs.declared.verdict.EventVerdict.TheVariants as verdict
 use Rattle.event_comparison.proofs.Agreeing.{circuits_agree}
 use Rattle.event_comparison.proofs.Comparing.{agree_later, asked_before, compared_later}
 use Rattle.event_comparison.proofs.Firsts.{findings_fit}

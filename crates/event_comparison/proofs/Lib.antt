@@ -5,3 +5,4 @@ pub mod Agreeing
 pub mod Comparing
 pub mod Fitting
 pub mod Showing
+pub mod Repeating

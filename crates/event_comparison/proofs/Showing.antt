@@ -1,13 +1,14 @@
 -- What differs can be shown once more of the event graph is there.
-use Rattle.std.proofs.Common.{◌≡◌, ◌<◌, ℕ, List, [], ◌∷◌, ◌++◌, length, slice_get, Some, Result, Err, subst, arith}
-use Rattle.std.specs.List.{Contains}
+use Rattle.std.proofs.Common.{◌≡◌, ◌∙◌, ◌<◌, ℕ, List, [], ◌∷◌, ◌++◌, length, get_or, slice_get, Some, Result, Err, sym, ap, subst, arith}
+use Rattle.std.specs.List.{All, Contains}
 use Rattle.std.proofs.lemmas.List.Elements.{Contains-append_right}
-use Rattle.std.proofs.lemmas.Option.{slice_get_within}
-use Rattle.circuit_theory.proofs.Lists.{Contains-map, zip_length}
+use Rattle.std.proofs.lemmas.Option.{same_Some, slice_get-get_or, slice_get_within}
+use Rattle.circuit_theory.proofs.Lists.{Contains-map, of_at, zip_length}
 use Rattle.event_theory.specs.EventSizes.{Start}
 use Rattle.event_nodes.specs.Nodes.{EventGraphView, IsEventGraph}
 use Rattle.event_nodes.proofs.Growing.{grows_refl}
-use Rattle.event_functions.specs.Functions.{signal_start}
+use Rattle.event_form.specs.Functions.{signal_start}
+use Rattle.flat_net.proofs.Places.{All-at}
 use Rattle.interface.specs.declared.pairs.SignalPair.{SignalPair}
 use Rattle.obligations.specs.declared.obligation.Difference.{Difference}
 use Rattle.obligations.specs.declared.obligation.Obligation.{Obligation}
@@ -21,7 +22,7 @@ use Rattle.pair_events.specs.Counted.{HaveCounted}
 use Rattle.pair_events.specs.View.{EventsView, side_of_both}
 use Rattle.sec_base.specs.declared.basics.PairAnswer.{PairAnswer}
 use Rattle.sec_base.specs.declared.basics.PairAnswer.TheVariants as answer
-use Rattle.event_form.specs.Asked.{IsAskedOf, IsLater}
+use Rattle.event_form.specs.Asked.{IsAskedOf, IsLater, IsPairOf}
 use Rattle.event_form.specs.Counted.{left_starts, right_starts}
 use Rattle.event_form.specs.Refused.{IsRefusedFor}
 use Rattle.event_form.specs.declared.error.EventFormError.{EventFormError}
@@ -32,8 +33,9 @@ use Rattle.event_findings.specs.Shown.{IsShowable}
 use Rattle.event_findings.proofs.Growing.{differences_later}
 use Rattle.event_findings.proofs.Showing.{differences_shown}
 use Rattle.event_findings.specs.Reached.{StaysCounted}
-use Rattle.event_comparison.specs.Asked.{AreAskedFrom, IsFoundAt, StayCounted}
-use Rattle.event_comparison.specs.declared.pairs.EventPairs.{EventPairs}
+use Rattle.event_comparison.specs.Asked.{AreAskedFrom, DiffersFirst, IsFoundAt, StayCounted}
+use Rattle.event_comparison.specs.Shown.{OfPair}
+use Rattle.event_findings.specs.declared.pairs.EventPairs.{EventPairs}
 use Rattle.class_separations.specs.declared.apart.Apart.{Apart}
 
 -- the obligation of a pair stands at the pair's place
@@ -42,6 +44,24 @@ pair_within e aparts c asked from i o at =
     let inside = slice_get_within asked i o at in
     let many = zip_length (IsAskedOf (side_of_both e) e.events c.cut) c.pairs.now asked from.asked in
     omega (arith, inside, many)
+
+-- the pair that is read is that of the difference
+module _ (e : EventsView) (aparts : List Apart) (c : EventPairs) (asked : List Obligation) (from : AreAskedFrom e aparts c asked) (d : Difference) (differs : DiffersFirst e.events asked d) where
+  pub difference_within : d.pair < length c.pairs.now
+  difference_within = pair_within e aparts c asked from d.pair differs.1.obligation differs.1.asked_at
+
+  module _ (p : SignalPair) (is : p ≡ get_or c.pairs.now d.pair p) where
+    pub pair_at : slice_get c.pairs.now d.pair ≡ Some p
+    pair_at = slice_get-get_or c.pairs.now d.pair p difference_within ∙ ap Some (sym is)
+
+    pub pair_there : Contains c.pairs.now p
+    pair_there = of_at c.pairs.now d.pair p pair_at
+
+    pub pair_is : IsPairOf e p
+    pair_is = All-at (IsPairOf e) c.pairs.now d.pair p pair_at from.pairs
+
+    pub of_pair : (P : SignalPair → Type 0) → P p → OfPair c d P
+    of_pair P h q at = subst P (same_Some p q (sym pair_at ∙ at)) h
 
 -- what differs can be shown
 pub can_show : (e : EventsView) (aparts : List Apart) (c : EventPairs) (asked : List Obligation) → IsEventGraph e.events → AreAskedFrom e aparts c asked → (wanted : PairAnswer) (results : List PairResult) (d : Difference) → IsFirstOf e.events.graph asked wanted results d → IsShowable e.events asked d

@@ -4,3 +4,4 @@ pub mod Asked
 pub mod Shown
 pub mod Agreement
 pub mod Decided
+pub mod Counted

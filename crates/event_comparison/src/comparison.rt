@@ -3,15 +3,16 @@
 ghost use Rattle.std.specs.Prelude.{◌≡◌, ◌≤◌, All, IfOk, OnOk};
 ghost use Rattle.class_events.specs.Separated.{AreSeparated};
 ghost use Rattle.event_form.specs.Asked.{IsLater, IsPairOf};
-ghost use Rattle.event_form.specs.Counted.{CountsOn, left_starts, right_starts};
+ghost use Rattle.event_form.specs.Counted.{left_starts, right_starts};
 ghost use Rattle.event_form.specs.Refused.{IsRefusedFor};
 ghost use Rattle.event_findings.specs.declared.verdict.EventVerdict.TheVariants as event_verdict;
 ghost use Rattle.obligations.specs.Asked.{AreAsked as AreQueries};
 ghost use Rattle.pair_events.specs.View.{IsWithinLimits};
 ghost use Rattle.event_comparison.specs.Agreement.{CircuitsAgree};
 ghost use Rattle.event_comparison.specs.Asked.{AreAskedFrom, StayCounted};
-ghost use Rattle.event_findings.specs.Compared.{AreCompared};
+ghost use Rattle.event_comparison.specs.Counted.{AreRefused, ArePairsCounted};
 ghost use Rattle.event_comparison.specs.Decided.{AreFound};
+ghost use Rattle.event_findings.specs.Compared.{AreCompared};
 ghost use Rattle.event_findings.specs.Findings.{FindingsFit};
 
 use crate::verdict::show;
@@ -41,10 +42,8 @@ pub fn compare_events(
     requires conflicts { conflicts ≤ MAX_CONFLICTS }
     ensures fits { IfOk result (FindingsFit events.new.left events.new.right compared.now conflicts) }
     ensures agree { IfOk result (λ f. f.verdict ≡ event_verdict.Equal → CircuitsAgree events.new.left events.new.right compared.now.pairs.now) }
-    ensures within { OnOk result (IsWithinLimits events.new) }
-    ensures later { OnOk result (IsLater events.old events.new) }
-    ensures counted { OnOk result (CountsOn compared.now.pairs.now events.old events.new) }
-    ensures refused { IsRefusedFor (left_starts compared.now.pairs.now) (right_starts compared.now.pairs.now) events.old result }
+    ensures counted { OnOk result (ArePairsCounted compared.now.pairs.now events.old events.new) }
+    ensures refused { AreRefused compared.now.pairs.now events.old result }
 {
     events.keeps();
     let asked = ask_pairs(alloc, events, compared.pairs, compared.cut)?;

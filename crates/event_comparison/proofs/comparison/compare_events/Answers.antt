@@ -4,13 +4,12 @@ use Rattle.std.proofs.lemmas.Result.{err_from_is_err_and}
 use Rattle.obligations.specs.Asked as graph_level
 use Rattle.class_events.specs.Separated.{AreSeparated}
 use Rattle.class_events.proofs.Telling.{separated_stay}
-use Rattle.event_form.specs.Counted.{left_starts, right_starts}
 use Rattle.event_form.proofs.Asking.{later_trans}
 use Rattle.event_form.proofs.Refusing.{error_is}
 use Rattle.event_comparison.specs.Asked.{AreAskedFrom}
 use Rattle.event_comparison.proofs.Comparing.{asked_from, compared_later, counted_on}
 use Rattle.event_comparison.proofs.Fitting.{compared_agree, compared_fits}
-use Rattle.event_comparison.proofs.Showing.{refused_again}
+use Rattle.event_comparison.proofs.Repeating.{never_again, none_refused, stopped_told}
 use Rattle.event_comparison.proofs.comparison.compare_events.Goals as goal
 
 pub findings_of-requires-clause-from : goal.findings_of-requires-clause-from
@@ -35,13 +34,23 @@ returns-clause-agree c equal =
     compared_agree c.args.events.now c.ask_pairs.new.events c.findings_of.new.events c.in_ok-asked.ensures.later c.in_ok-findings.ensures.later c.keeps-2.ensures.kept c.keeps-2.ensures.events c.keeps-3.ensures.kept c.keeps-3.ensures.events c.args.compared.now c.args.conflicts c.in_ok-asked.asked.items
     c.as_slice.result.now c.as_slice.ensures.value c.requires.compared c.in_ok-asked.ensures.asked c.in_ok-findings.findings c.in_ok-findings.ensures.found equal
 
-pub returns-clause-later : goal.returns-clause-later
-returns-clause-later c = later_trans c.args.events.now c.ask_pairs.new.events c.findings_of.new.events c.in_ok-asked.ensures.later c.in_ok-findings.ensures.later
-
 pub returns-clause-counted : goal.returns-clause-counted
-returns-clause-counted c = counted_on c.args.events.now c.ask_pairs.new.events c.findings_of.new.events c.args.compared.now.pairs.now c.in_ok-asked.ensures.counted c.in_ok-findings.ensures.counted
+returns-clause-counted c = record {
+  later = later_trans c.args.events.now c.ask_pairs.new.events c.findings_of.new.events c.in_ok-asked.ensures.later c.in_ok-findings.ensures.later;
+  within = c.in_ok-findings.ensures.within;
+  counts = counted_on c.args.events.now c.ask_pairs.new.events c.findings_of.new.events c.args.compared.now.pairs.now c.in_ok-asked.ensures.counted c.in_ok-findings.ensures.counted;
+}
+
+pub returns-in_err-asked-clause-refused : goal.returns-in_err-asked-clause-refused
+returns-in_err-asked-clause-refused c =
+    let p = err_from_is_err_and c.from_residual.result c.from_residual.ensures.1 in
+    rw (p.1, p.2) (stopped_told c.args.events.now c.args.compared.now.pairs.now _ _ (λ error is. ap Err (error_is is)) c.in_err-asked.ensures.stopped)
 
 pub returns-in_err-findings-clause-refused : goal.returns-in_err-findings-clause-refused
 returns-in_err-findings-clause-refused c =
     let p = err_from_is_err_and c.from_residual-in_err-findings.result c.from_residual-in_err-findings.ensures.1 in
-    rw (p.1, p.2) (refused_again c.args.events.now c.ask_pairs.new.events c.in_ok-asked.ensures.later (left_starts c.args.compared.now.pairs.now) (right_starts c.args.compared.now.pairs.now) c.in_ok-asked.ensures.counted _ _ (λ error is. ap Err (error_is is)) c.in_err-findings.ensures.refused)
+    rw (p.1, p.2) (never_again c.args.events.now c.ask_pairs.new.events c.keeps.ensures.kept c.in_ok-asked.ensures.later c.keeps-2.ensures.kept c.keeps-2.ensures.once c.in_ok-asked.ensures.within c.args.compared.now.pairs.now c.in_ok-asked.ensures.counted _ _
+    (λ error is. ap Err (error_is is)) c.in_err-findings.ensures.refused)
+
+pub returns-clause-refused : goal.returns-clause-refused
+returns-clause-refused c = none_refused c.args.events.now c.args.compared.now.pairs.now c.in_ok-findings.findings
