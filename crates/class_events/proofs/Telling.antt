@@ -13,7 +13,7 @@ use Rattle.event_nodes.specs.View.{EventCircuitView}
 use Rattle.event_classes.specs.Order.{place_of}
 use Rattle.event_variables.specs.Variables.{variables_of}
 use Rattle.pair_events.specs.Enables.{both_of}
-use Rattle.event_classes.specs.Apart.{Apart}
+use Rattle.event_classes.specs.KeptApart.{Apart}
 use Rattle.event_classes.specs.Apart.{IsSeparationBy, AreApart}
 use Rattle.event_classes.proofs.Variables.{variables_same, within_later}
 use Rattle.event_classes.specs.declared.map.ClassMap.{ClassMap}

@@ -4,7 +4,7 @@ use Rattle.circuit_theory.specs.Joined.{Either}
 use Rattle.event_theory.specs.Frame.{EventSide}
 use Rattle.sec_base.specs.declared.basics.Tag.{Tag}
 use Rattle.event_nodes.specs.Nodes.{EventGraphView, IsEventGraph, GrowsEvents}
-use Rattle.event_classes.specs.Apart.{Apart}
+use Rattle.event_classes.specs.KeptApart.{Apart}
 use Rattle.event_classes.specs.Apart.{IsApart}
 use Rattle.pair_events.specs.Counted.{HaveCounted}
 use Rattle.pair_events.specs.View.{EventsView}

@@ -2,7 +2,7 @@
 use Rattle.std.specs.Prelude.{ℕ, ◌≤◌, List, All}
 use Rattle.event_theory.specs.Classes.{HasClasses}
 use Rattle.event_classes.specs.Order.{place_of}
-use Rattle.event_classes.specs.Apart.{Apart}
+use Rattle.event_classes.specs.KeptApart.{Apart}
 use Rattle.event_classes.specs.Apart.{IsApart, AreApart}
 use Rattle.event_classes.specs.Named.{NamesLatches}
 use Rattle.pair_events.specs.View.{EventsView, side_of_both}

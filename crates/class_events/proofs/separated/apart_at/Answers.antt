@@ -3,7 +3,7 @@ use Rattle.std.proofs.Common.{◌≡◌, ◌∙◌, ◌+◌, ◌-◌, ◌*◌, �
 use Rattle.std.proofs.lemmas.Option.{slice_get-get_or, slice_get_within}
 use Rattle.flat_net.proofs.Places.{All-at, one_at}
 use Rattle.event_classes.specs.Order.{place_of}
-use Rattle.event_classes.specs.Apart.{Apart}
+use Rattle.event_classes.specs.KeptApart.{Apart}
 use Rattle.event_classes.specs.Apart.{IsApart, pairs_below}
 use Rattle.event_classes.specs.Named.{NamesLatches}
 use Rattle.pair_events.specs.View.{side_of_both}
