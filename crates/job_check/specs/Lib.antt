@@ -1,1 +1,2 @@
 pub use Rattle.check_found.specs.Found
+pub use Rattle.check_found.specs.Check
