@@ -1,6 +1,7 @@
 -- From what is found of both circuits to the answer of a comparison.
-use Rattle.std.proofs.Common.{◌≡◌, ◌∙◌, ℕ, List, [], length, map, Option, None, Err, refl, sym, ap, subst, inl, inr}
+use Rattle.std.proofs.Common.{◌≡◌, ◌∙◌, ◌<◌, ℕ, List, [], length, map, Option, None, Result, Ok, Err, refl, sym, ap, subst, inl, inr}
 use Rattle.std.specs.List.{All}
+use Rattle.std.proofs.lemmas.List.Elements.{All-weaker}
 use Rattle.circuit_theory.specs.declared.Side.{Side}
 use Rattle.circuit_theory.specs.Interface.{shared_inputs}
 use Rattle.flat_net.specs.Comparable.{IsComparable}
@@ -17,24 +18,23 @@ use Rattle.outcome.specs.declared.verdict.Verdict.TheVariants as verdict
 use Rattle.sec_setup.specs.Cuts.{columns_of, is_cut}
 use Rattle.sec_setup.specs.Matching.{InterfacesMatch}
 use Rattle.sec_setup.specs.Setup.{AreColumns}
-use Rattle.sec_setup.specs.declared.error.SetupError.{SetupError}
-use Rattle.sec_setup.specs.declared.error.SetupError.TheVariants as unset
-use Rattle.class_events.specs.Refused.{IsLimitOf}
+use Rattle.class_events.specs.EventError.{EventError}
+use Rattle.class_events.specs.EventError.TheVariants as event_error
+use Rattle.class_events.specs.Refused.{IsLimitOf, IsRefusedMap}
 use Rattle.event_nodes.specs.View.{EventCircuitView, IsEventCircuit}
+use Rattle.event_setup.specs.declared.error.RecoveryError.{RecoveryError}
 use Rattle.event_setup.specs.declared.error.RecoveryError.TheVariants as unknown
 use Rattle.event_setup.specs.declared.setup.EventSetup.{EventSetup}
-use Rattle.event_setup.specs.Choosing.{RefusesCycle}
 use Rattle.event_setup.specs.Recovered.{AreKnown, RecoversBoth}
-use Rattle.event_setup.specs.Setup.{IsEventSetupOf}
-use Rattle.event_setup_laws.specs.Laws.{ArePairsOfSetup, HaveClassesGiven}
+use Rattle.event_setup.specs.Setup.{IsEventSetupOf, IsPairWithin}
+use Rattle.event_setup.proofs.Setups.{pairs_within}
+use Rattle.event_setup_laws.specs.Laws.{HaveClassesGiven}
 use Rattle.event_setup_laws.proofs.Comparing.{setups_compared}
 use Rattle.cut_events.specs.Asked.{IsPairOf}
 use Rattle.pair_events.specs.View.{EventsView}
-use Rattle.compare_base.specs.declared.error.CompareError.TheVariants as refused
-use Rattle.compare_base.specs.Compared.{refusal_of}
-use Rattle.event_findings.specs.declared.pairs.EventPairs.{EventPairs}
 use Rattle.cut_events.specs.Circuits.{AreNets, AreReached}
-use Rattle.event_names.specs.Compared.{ComparedInEvents, IsComparedInEvents}
+use Rattle.compare_base.specs.declared.error.CompareError.{CompareError}
+use Rattle.event_names.specs.Compared.{IsComparedInEvents}
 use Rattle.event_names.specs.Fitting.{class_limit, EventOutcomeFits, HasCounts}
 use Rattle.event_names.specs.Named.{latch_names, NamesVerdict}
 use Rattle.event_totals.specs.Totals.{IsWithinWith}
@@ -43,12 +43,13 @@ use Rattle.event_meaning.proofs.Framing.{unshown_outcomes}
 use Rattle.event_names.specs.declared.names.Names.{Names}
 use Rattle.event_check.specs.declared.outcomes.Found.{Found}
 use Rattle.event_check.specs.declared.pairs.Asked.{Asked}
-use Rattle.event_check.specs.Pairs.{AreAskable, ArePairsFound, IsAskedBy}
+use Rattle.event_check.specs.Found.{limit_found, TellsLimit, TellsUnknown}
+use Rattle.event_check.specs.Pairs.{AreAskable, ArePairsFound}
 
--- the outcome of these nets, with these latches exposed
-abbrev pub outcome_by : NetView → NetView → List (List ℕ) → Found → Outcome
-outcome_by a b exposed f = record {
-  inputs = length (shared_inputs (ports_of a) (ports_of b));
+-- the outcome of these nets, with so many shared inputs and these latches exposed
+abbrev pub outcome_with : NetView → NetView → ℕ → List (List ℕ) → Found → Outcome
+outcome_with a b inputs exposed f = record {
+  inputs = inputs;
   left_latches = length a.latches;
   right_latches = length b.latches;
   assumed = None;
@@ -58,6 +59,19 @@ outcome_by a b exposed f = record {
   through = 0;
   verdict = f.verdict;
 }
+
+abbrev pub outcome_by : NetView → NetView → List (List ℕ) → Found → Outcome
+outcome_by a b exposed f = outcome_with a b (length (shared_inputs (ports_of a) (ports_of b))) exposed f
+
+pub told_outcome : (a b : NetView) (inputs : ℕ) (exposed names : List (List ℕ)) (f : Found) (o : Outcome) → o ≡ outcome_with a b inputs exposed f → inputs ≡ length (shared_inputs (ports_of a) (ports_of b)) → exposed ≡ names → o ≡ outcome_by a b names f
+told_outcome a b inputs exposed names f o is many same =
+    is ∙ (ap (λ k. outcome_with a b k exposed f) many ∙ ap (λ ns. outcome_with a b (length (shared_inputs (ports_of a) (ports_of b))) ns f) same)
+
+abbrev Told : Found → Result Found CompareError
+Told f = Ok f
+
+one_found : (f g : Found) → Told f ≡ Told g → f ≡ g
+one_found f g q = cc
 
 counts : (a b : NetView) (exposed : List (List ℕ)) (f : Found) → HasCounts a b (outcome_by a b exposed f)
 counts a b exposed f = record { inputs = refl; left_latches = refl; right_latches = refl; assumed = refl; through = refl }
@@ -96,12 +110,11 @@ module _ (a b : NetView) (settings : Settings) (sa : IsSound a) (sb : IsSound b)
     });
   })
 
-  -- cycles are refused
-  pub cycle_refused : (e : SetupError) → AreKnown a → AreKnown b → RefusesCycle a b settings.expose e → ComparedInEvents a b settings (Err (refusal_of e))
-  cycle_refused (unset.Interface name) left right h = absurd h
-  cycle_refused (unset.Cyclic side names) left right h = (matches, left, right, h)
-  cycle_refused (unset.Unpaired side names) left right h = (matches, left, right, h)
-  cycle_refused unset.NoMemory left right h = tt
+  -- so is what is told where it isn't known which latches are enabled
+  pub unknown_compared : (error : RecoveryError) → RecoversBoth a b settings.conflicts (Err error) → (f : Found) → TellsUnknown error (Ok f) → IsComparedInEvents a b settings (outcome_by a b [] f)
+  unknown_compared (unknown.Limit side name proof) limit f told = unrecovered_compared side name proof limit f (one_found f (limit_found (limit_at.Recover side name proof)) told)
+  unknown_compared (unknown.TooLarge side) limit f told = absurd (cc)
+  unknown_compared unknown.NoMemory limit f told = absurd (cc)
 
   module _ (left_known : AreKnown a) (right_known : AreKnown b) (s : EventSetup) (is : IsEventSetupOf a b settings.expose s) where
     -- the circuits are reached, whatever classes their latches have
@@ -153,13 +166,22 @@ module _ (a b : NetView) (settings : Settings) (sa : IsSound a) (sb : IsSound b)
       }));
     })
 
+    -- so is what is told where the classes aren't known
+    pub unknown_classes_compared : {X : Type 0} (n : Names) → n.left ≡ latch_names s.left.net → n.right ≡ latch_names s.right.net → AreReached a b settings.expose s.exposed s.left s.right → (error : EventError) → IsRefusedMap {X} s.left s.right settings.conflicts (Err error) →
+        (f : Found) → TellsLimit n error (Ok f) → IsComparedInEvents a b settings (outcome_by a b s.exposed f)
+    unknown_classes_compared n left right at (event_error.Limit latch other proof) h f told =
+        unclassed_compared at latch other proof (h.limit latch other proof refl) f
+        (told ∙ (ap (λ (ls : List (List ℕ)). limit_found (class_limit ls n.right latch other proof)) left ∙ ap (λ (rs : List (List ℕ)). limit_found (class_limit (latch_names s.left.net) rs latch other proof)) right))
+    unknown_classes_compared n left right at event_error.TooManyEvents h f told = absurd (cc)
+    unknown_classes_compared n left right at (event_error.TooLarge side) h f told = absurd (cc)
+    unknown_classes_compared n left right at event_error.NoMemory h f told = absurd (cc)
+
     -- the pairs of the setup can be asked about
-    pub setup_askable : (e : EventsView) → HaveClassesGiven s e → IsSound s.left.net → IsSound s.right.net → (n : Names) (x : Asked) → n.columns ≡ s.columns → n.left ≡ latch_names s.left.net → n.right ≡ latch_names s.right.net → x.pairs ≡ s.pairs → x.depths ≡ s.depths → (c : EventPairs) → IsAskedBy n x c →
-        AreAskable e n x
-    setup_askable e given left_sound right_sound n x columns left right pairs depths some asked = record {
-      within = subst (All (IsPairOf e)) asked.0 (setups_compared s e some left_sound right_sound is.is given (of some asked)).0;
+    pub setup_askable : (e : EventsView) → HaveClassesGiven s e → IsSound s.left.net → IsSound s.right.net → (n : Names) (x : Asked) → n.columns ≡ s.columns → n.left ≡ latch_names s.left.net → n.right ≡ latch_names s.right.net → x.pairs ≡ s.pairs → x.depths ≡ s.depths → AreAskable e n x
+    setup_askable e given left_sound right_sound n x columns left right pairs depths = record {
+      within = subst (All (IsPairOf e)) (sym pairs) (All-weaker (IsPairWithin s.left.net s.right.net) (IsPairOf e) pair_of s.pairs (pairs_within s.left.net s.right.net left_sound right_sound s.pairs is.is.pairs));
       shown = subst (λ (l : EventCircuitView). ArePairsOf l.net e.right.net x.pairs) (sym given.left) (subst (λ (r : EventCircuitView). ArePairsOf s.left.net r.net x.pairs) (sym given.right) (subst (ArePairsOf s.left.net s.right.net) (sym pairs) is.is.pairs));
-      compared = λ c k. (setups_compared s e c left_sound right_sound is.is given (of c k)).1;
+      compared = λ c k. (setups_compared s e c left_sound right_sound is.is given (record { pairs = k.0 ∙ pairs; depths = k.1 ∙ depths; names = k.2 ∙ columns })).1;
       left_columns = subst (λ (l : EventCircuitView). AreColumns l.net n.columns l.order e.right.order) (sym given.left)
           (subst (λ (r : EventCircuitView). AreColumns s.left.net n.columns s.left.order r.order) (sym given.right) (subst (λ (cs : List (List ℕ)). AreColumns s.left.net cs s.left.order s.right.order) (sym columns) is.is.left_columns));
       right_columns = subst (λ (l : EventCircuitView). AreColumns e.right.net n.columns e.right.order l.order) (sym given.left)
@@ -168,8 +190,11 @@ module _ (a b : NetView) (settings : Settings) (sa : IsSound a) (sb : IsSound b)
       right_latches = right ∙ ap (λ (r : EventCircuitView). latch_names r.net) (sym given.right);
     }
       where
-        of : (c : EventPairs) → IsAskedBy n x c → ArePairsOfSetup s c
-        of c k = record { pairs = k.0 ∙ pairs; depths = k.1 ∙ depths; names = k.2 ∙ columns }
+        pair_of : (p : SignalPair) → IsPairWithin s.left.net s.right.net p → IsPairOf e p
+        pair_of p h = record {
+          left = subst (λ (l : EventCircuitView). p.left.0 < length l.net.drivers) (sym given.left) h.left;
+          right = subst (λ (r : EventCircuitView). p.right.0 < length r.net.drivers) (sym given.right) h.right;
+        }
 
     -- what is found of them is the outcome
     pub pairs_compared : (e : EventsView) → HaveClassesGiven s e → AreReached a b settings.expose s.exposed e.left e.right → (n : Names) (x : Asked) → n.columns ≡ s.columns → n.left ≡ latch_names s.left.net → n.right ≡ latch_names s.right.net → x.pairs ≡ s.pairs → x.cut ≡ is_cut s.exposed →

@@ -112,12 +112,15 @@ fn compare_set_up(
         right: right_latches,
     };
     let asked = Asked { pairs, depths, cut };
-    let found = match events_of(alloc, left, right, settings.conflicts) {
+    match events_of(alloc, left, right, settings.conflicts) {
         Ok(separated) => {
             separated.events.keeps();
-            compare_pairs(alloc, separated, &names, &asked, settings.conflicts)?
+            let found = compare_pairs(alloc, separated, &names, &asked, settings.conflicts)?;
+            Ok(outcome_of(a, b, inputs, exposed, found))
         }
-        Err(error) => unclassed(alloc, &names, error)?,
-    };
-    Ok(outcome_of(a, b, inputs, exposed, found))
+        Err(error) => {
+            let found = unclassed(alloc, &names, error)?;
+            Ok(outcome_of(a, b, inputs, exposed, found))
+        }
+    }
 }

@@ -1,0 +1,54 @@
+-- The class map is made, and the pairs are compared; or why not.
+use Rattle.std.proofs.Common.{◌≡◌, ◌∙◌, refl, sym, ap, subst, Ok}
+use Rattle.flat_net.specs.View.{NetView}
+use Rattle.outcome.specs.declared.verdict.Outcome.{Outcome}
+use Rattle.compare_base.proofs.Refusals.{refused_by}
+use Rattle.event_names.specs.Compared.{ComparedInEvents}
+use Rattle.event_names.specs.Named.{latch_names}
+use Rattle.event_check.proofs.Outcomes.{pairs_compared, reached_first, reached_then, setup_askable, told_outcome, unknown_classes_compared}
+use Rattle.event_check.proofs.Refusals.{can_tell, map_refused, pairs_refused}
+use Rattle.event_check.proofs.comparison.compare_set_up.Goals as goal
+
+pub events_of-requires-clause-left_depths : goal.events_of-requires-clause-left_depths
+events_of-requires-clause-left_depths c = c.requires.setup.is.left.depths
+
+pub events_of-requires-clause-right_depths : goal.events_of-requires-clause-right_depths
+events_of-requires-clause-right_depths c = c.requires.setup.is.right.depths
+
+pub events_of-requires-clause-left_classes : goal.events_of-requires-clause-left_classes
+events_of-requires-clause-left_classes c = c.requires.setup.is.left.none
+
+pub events_of-requires-clause-right_classes : goal.events_of-requires-clause-right_classes
+events_of-requires-clause-right_classes c = c.requires.setup.is.right.none
+
+pub compare_pairs-requires-clause-askable : goal.compare_pairs-requires-clause-askable
+compare_pairs-requires-clause-askable c =
+    let s = c.args.setup in
+    let left_is = c.in_ok-left_latches.ensures ∙ ap latch_names c.net.ensures in
+    let right_is = c.in_ok-right_latches.ensures ∙ ap latch_names c.net-2.ensures in
+    setup_askable c.args.a.now c.args.b.now c.args.settings.now c.keeps.ensures.sound c.keeps-2.ensures.sound c.requires.left c.requires.right c.requires.matches c.requires.left_known c.requires.right_known s c.requires.setup
+    c.in-Ok.separated.events (record { left = c.in-Ok.ensures.left; right = c.in-Ok.ensures.right }) c.keeps-3.ensures.sound c.keeps-4.ensures.sound _ _ refl left_is right_is refl refl
+
+pub returns-in-Ok-in_err-found : goal.returns-in-Ok-in_err-found
+returns-in-Ok-in_err-found c =
+    let a = c.args.a.now in
+    let b = c.args.b.now in
+    let s = c.args.setup in
+    let e = c.in-Ok.separated.events in
+    refused_by (ComparedInEvents a b c.args.settings.now) c.from_residual-in-Ok.result c.in-Ok-in_err-found.field-0.0 c.from_residual-in-Ok.ensures.1
+    (pairs_refused a b c.args.settings.now c.requires.matches s c.requires.setup e ? _ _ refl c.in-Ok-in_err-found.field-0.0 c.in-Ok-in_err-found.ensures)
+
+pub returns-in-Ok : goal.returns-in-Ok
+returns-in-Ok c = ?
+
+pub unclassed-requires : goal.unclassed-requires
+unclassed-requires c =
+    let left_is = c.in_ok-left_latches.ensures ∙ ap latch_names c.net.ensures in
+    let right_is = c.in_ok-right_latches.ensures ∙ ap latch_names c.net-2.ensures in
+    can_tell c.args.setup.left c.args.setup.right _ c.args.settings.now.conflicts left_is right_is c.in-Err.error c.in-Err.ensures.refused
+
+pub returns-in-Err-in_err-found : goal.returns-in-Err-in_err-found
+returns-in-Err-in_err-found c = ?
+
+pub returns-in-Err : goal.returns-in-Err
+returns-in-Err c = ?
