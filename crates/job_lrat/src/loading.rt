@@ -61,6 +61,7 @@ pub(crate) fn check_file<S: Shelf>(
     ensures keeps { SameHeld (S.held shelf.old) (S.held shelf.new) }
     ensures later { NoneFell (S.faults shelf.old) (S.faults shelf.new) }
     ensures served { S.serves shelf.old path.now → IsErrOf result (TextLoadError.Fetch FetchError.Failed) → ⊥ }
+    ensures serving { (other : List ℕ) → S.serves shelf.old other → S.serves shelf.new other }
 {
     let text = match fetch(alloc, shelf, path, MAX_FILE_BYTES) {
         Ok(text) => text,

@@ -1,6 +1,6 @@
 //! A refutation is checked.
 
-ghost use Rattle.std.specs.Prelude.{◌≡◌, IsErrOf, IfOk, IfErr, MatchResult};
+ghost use Rattle.std.specs.Prelude.{◌≡◌, ℕ, List, IsErrOf, IfOk, IfErr, MatchResult};
 ghost use Rattle.sec_base.specs.Outside.{SameHeld, NoneFell};
 ghost use Rattle.job_lrat.specs.Ends.{LratFound, text_end, verified_end};
 ghost use Rattle.job_lrat.specs.Found.{verified_text};
@@ -65,6 +65,7 @@ pub fn check_refutation<S: Shelf>(
     ensures keeps { SameHeld (S.held shelf.old) (S.held shelf.new) }
     ensures later { NoneFell (S.faults shelf.old) (S.faults shelf.new) }
     ensures served { S.serves shelf.old refutation.now.clauses.now → S.serves shelf.old refutation.now.proof.now → IsErrOf result Stop.ReadFault → ⊥ }
+    ensures serving { (other : List ℕ) → S.serves shelf.old other → S.serves shelf.new other }
 {
     let formula = match load_clauses(alloc, shelf, refutation.clauses) {
         Ok(formula) => formula,

@@ -1,6 +1,6 @@
 //! From the bytes of a file to a stimulus.
 
-ghost use Rattle.std.specs.Prelude.{◌<◌, ◌≤◌, ◌^◌, length, IfOk, IfErr, IfSome, IsErrOf, Some};
+ghost use Rattle.std.specs.Prelude.{◌<◌, ◌≤◌, ◌^◌, ℕ, List, length, IfOk, IfErr, IfSome, IsErrOf, Some};
 ghost use Rattle.sec_base.specs.Outside.{Rose, SameHeld, NoneFell};
 ghost use Rattle.sec_files.specs.Stimuli.{IsStimulus, StimulusFails};
 
@@ -27,6 +27,7 @@ pub fn load_stimulus<S: Shelf>(
     ensures keeps { SameHeld (S.held shelf.old) (S.held shelf.new) }
     ensures later { NoneFell (S.faults shelf.old) (S.faults shelf.new) }
     ensures served { S.serves shelf.old path.now → IsErrOf result (StimulusError.Fetch FetchError.Failed) → ⊥ }
+    ensures serving { (other : List ℕ) → S.serves shelf.old other → S.serves shelf.new other }
 {
     let text = match fetch(alloc, shelf, path, MAX_FILE_BYTES) {
         Ok(text) => text,
