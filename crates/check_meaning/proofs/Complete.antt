@@ -70,12 +70,12 @@ module _ (held : Held) (check : Check) (told : AreTold held check check.assumed)
   OfThird assumed P = OfThree held check assumed (λ x y z. (a : NetView) × (b : NetView) × Loads x a × Loads y b × P z)
 
   of_third : (P : List ℕ → Type 0) → ((z : List ℕ) → IsAccepted z → P z → ⊥) → OfThird check.assumed P → ⊥
-  of_third P no h = by check.assumed told.third h
+  of_third P apart h = by check.assumed told.third h
     where
       by : (assumed : Option (List ℕ)) → IsThirdTold held assumed → OfThird assumed P → ⊥
       by None third k = k
       by (Some path) third k =
-          no third.0 third.2 (if_told (held path) (λ z. (a : NetView) × (b : NetView) × Loads told.left a × Loads told.right b × P z) third.0 third.1
+          apart third.0 third.2 (if_told (held path) (λ z. (a : NetView) × (b : NetView) × Loads told.left a × Loads told.right b × P z) third.0 third.1
           (of_texts (λ x y. IfSome (held path) (λ z. (a : NetView) × (b : NetView) × Loads x a × Loads y b × P z)) k)).4
 
   module _ (answered : AreAnswered held check) where
@@ -138,28 +138,28 @@ module _ (x y : List ℕ) (s : Settings) (comparable : AreComparable x y s.expos
   free expose e = subst (AreBroken a b) e (comparable.broken a b l r)
 
   pub never_plain : (e : CompareError) → (e ≡ compare_error.NoMemory → ⊥) → Compared a b s (Err e) → ⊥
-  never_plain (compare_error.Interface name) no k = no_fault _ (sym (comparable.match a b l r) ∙ k)
-  never_plain (compare_error.Cyclic A names) no k = is_not_free a [] names k.2 (free false k.1).0
-  never_plain (compare_error.Cyclic B names) no k = is_not_free b [] names k.3 (free false k.1).1
-  never_plain (compare_error.Unpaired A names) no k = is_not_free a (common_names (circuit_of a) (circuit_of b)) names k.2 (free true k.1).0
-  never_plain (compare_error.Unpaired B names) no k = is_not_free b (common_names (circuit_of a) (circuit_of b)) names k.3 (free true k.1).1
-  never_plain (compare_error.TooLarge side) no k = comparable.light a b l r side k.2
-  never_plain compare_error.TooManyEvents no k = k
-  never_plain (compare_error.Assume fault) no k = k
-  never_plain (compare_error.Vacuous by) no k = k
-  never_plain compare_error.NoMemory no k = no refl
+  never_plain (compare_error.Interface name) apart k = no_fault _ (sym (comparable.match a b l r) ∙ k)
+  never_plain (compare_error.Cyclic A names) apart k = is_not_free a [] names k.2 (free false k.1).0
+  never_plain (compare_error.Cyclic B names) apart k = is_not_free b [] names k.3 (free false k.1).1
+  never_plain (compare_error.Unpaired A names) apart k = is_not_free a (common_names (circuit_of a) (circuit_of b)) names k.2 (free true k.1).0
+  never_plain (compare_error.Unpaired B names) apart k = is_not_free b (common_names (circuit_of a) (circuit_of b)) names k.3 (free true k.1).1
+  never_plain (compare_error.TooLarge side) apart k = comparable.light a b l r side k.2
+  never_plain compare_error.TooManyEvents apart k = k
+  never_plain (compare_error.Assume fault) apart k = k
+  never_plain (compare_error.Vacuous by) apart k = k
+  never_plain compare_error.NoMemory apart k = apart refl
 
 -- so under an assumption
 module _ (x y z : List ℕ) (s : Settings) (under : AreComparableUnder x y z s) (a b c : NetView) (l : Loads x a) (r : Loads y b) (t : Loads z c) where
   never_assuming : (e : CompareError) → (e ≡ compare_error.NoMemory → ⊥) → ComparedUnder a b c s (Err e) → ⊥
-  never_assuming (compare_error.Interface name) no k = never_plain x y s under.comparable a b l r (compare_error.Interface name) no k
-  never_assuming (compare_error.Cyclic side names) no k = never_plain x y s under.comparable a b l r (compare_error.Cyclic side names) no k.1
-  never_assuming (compare_error.Unpaired side names) no k = never_plain x y s under.comparable a b l r (compare_error.Unpaired side names) no k.1
-  never_assuming (compare_error.TooLarge side) no k = never_plain x y s under.comparable a b l r (compare_error.TooLarge side) no k.1
-  never_assuming compare_error.TooManyEvents no k = k
-  never_assuming (compare_error.Assume fault) no k = under.fits a b c l r t fault k
-  never_assuming (compare_error.Vacuous by) no k = under.met a b c l r t by k
-  never_assuming compare_error.NoMemory no k = no refl
+  never_assuming (compare_error.Interface name) apart k = never_plain x y s under.comparable a b l r (compare_error.Interface name) apart k
+  never_assuming (compare_error.Cyclic side names) apart k = never_plain x y s under.comparable a b l r (compare_error.Cyclic side names) apart k.1
+  never_assuming (compare_error.Unpaired side names) apart k = never_plain x y s under.comparable a b l r (compare_error.Unpaired side names) apart k.1
+  never_assuming (compare_error.TooLarge side) apart k = never_plain x y s under.comparable a b l r (compare_error.TooLarge side) apart k.1
+  never_assuming compare_error.TooManyEvents apart k = k
+  never_assuming (compare_error.Assume fault) apart k = under.fits a b c l r t fault k
+  never_assuming (compare_error.Vacuous by) apart k = under.met a b c l r t by k
+  never_assuming compare_error.NoMemory apart k = apart refl
 
 -- a cycle that is told is one
 told_not_free : (n : NetView) (without names : List (List ℕ)) → IsToldCycle Event n without names → IsFreeWithout Event n without → ⊥
@@ -171,16 +171,16 @@ module _ (x y : List ℕ) (s : Settings) (comparable : AreEventComparable x y s)
   no_cycles expose e = subst (HaveNoCycles a b) e (comparable.broken a b l r)
 
   never_events : (e : CompareError) → (e ≡ compare_error.NoMemory → ⊥) → ComparedInEvents a b s (Err e) → ⊥
-  never_events (compare_error.Interface name) no k = no_fault _ (sym (comparable.match a b l r) ∙ k)
-  never_events (compare_error.Cyclic A names) no k = told_not_free a [] names k.3.1 (no_cycles false k.3.0).0
-  never_events (compare_error.Cyclic B names) no k = told_not_free b [] names k.3.2 (no_cycles false k.3.0).1
-  never_events (compare_error.Unpaired A names) no k = told_not_free a (common_names (circuit_of a) (circuit_of b)) names k.3.1 (no_cycles true k.3.0).0
-  never_events (compare_error.Unpaired B names) no k = told_not_free b (common_names (circuit_of a) (circuit_of b)) names k.3.2 (no_cycles true k.3.0).1
-  never_events (compare_error.TooLarge side) no k = comparable.light a b l r side k.1
-  never_events compare_error.TooManyEvents no k = comparable.few a b l r k.1
-  never_events (compare_error.Assume fault) no k = k
-  never_events (compare_error.Vacuous by) no k = k
-  never_events compare_error.NoMemory no k = no refl
+  never_events (compare_error.Interface name) apart k = no_fault _ (sym (comparable.match a b l r) ∙ k)
+  never_events (compare_error.Cyclic A names) apart k = told_not_free a [] names k.3.1 (no_cycles false k.3.0).0
+  never_events (compare_error.Cyclic B names) apart k = told_not_free b [] names k.3.2 (no_cycles false k.3.0).1
+  never_events (compare_error.Unpaired A names) apart k = told_not_free a (common_names (circuit_of a) (circuit_of b)) names k.3.1 (no_cycles true k.3.0).0
+  never_events (compare_error.Unpaired B names) apart k = told_not_free b (common_names (circuit_of a) (circuit_of b)) names k.3.2 (no_cycles true k.3.0).1
+  never_events (compare_error.TooLarge side) apart k = comparable.light a b l r side k.1
+  never_events compare_error.TooManyEvents apart k = comparable.few a b l r k.1
+  never_events (compare_error.Assume fault) apart k = k
+  never_events (compare_error.Vacuous by) apart k = k
+  never_events compare_error.NoMemory apart k = apart refl
 
 -- both texts, where they are told and can be compared
 both_told : (held : Held) (check : Check) (P : List ℕ → List ℕ → Type 0) → IsSomeAnd (held check.left) (λ x. IsSomeAnd (held check.right) (λ y. P x y)) →
@@ -201,7 +201,7 @@ module _ (held : Held) (check : Check) (f : Finding) (found : IsFoundOf held che
       ((e : CompareError) → (e ≡ compare_error.NoMemory → ⊥) → AnswersUnder assumed e → ⊥) → IsAnswer (status_of f)
   answered told assumed is never never_under =
       has_verdict held check told
-      (record { never = λ e no h. never e no (subst (λ z. Answers z e) is h); never_under = λ e no h. never_under e no (subst (λ z. AnswersUnder z e) is h) }) f found
+      (record { never = λ e apart h. never e apart (subst (λ z. Answers z e) is h); never_under = λ e apart h. never_under e apart (subst (λ z. AnswersUnder z e) is h) }) f found
 
   -- two texts are compared, and no refusal of their nets comes
   two : check.assumed ≡ None → (x y : List ℕ) → held check.left ≡ Some x → held check.right ≡ Some y → IsAccepted x → IsAccepted y →
@@ -209,28 +209,28 @@ module _ (held : Held) (check : Check) (f : Finding) (found : IsFoundOf held che
   two is x y x_is y_is x_accepted y_accepted never =
       let told : AreTold held check check.assumed = record { left = x; right = y; left_is = x_is; right_is = y_is; left_accepted = x_accepted; right_accepted = y_accepted; third = subst (IsThirdTold held) (sym is) tt } in
       answered told None is
-      (λ e no h. (let n = of_texts held check told (OfNets (λ a b. ComparedIn check.settings.mode a b check.settings (Err e))) h in never n.0 n.1 n.2 n.3 e no n.4))
-      (λ e no h. h)
+      (λ e apart h. (let n = of_texts held check told (OfNets (λ a b. ComparedIn check.settings.mode a b check.settings (Err e))) h in never n.0 n.1 n.2 n.3 e apart n.4))
+      (λ e apart h. h)
 
   by_form : (mode : Mode) (assumed : Option (List ℕ)) → check.settings.mode ≡ mode → check.assumed ≡ assumed → CanAnswerWith held check mode assumed → IsAnswer (status_of f)
   by_form Plain None mode_is is can =
       let t = both_told held check (λ x y. AreComparable x y check.settings.expose check.settings.reset) can in
       two is t.0 t.1 t.2 t.3 t.4.left t.4.right
-      (λ a b l r e no h. never_plain t.0 t.1 check.settings t.4 a b l r e no (subst (λ (m : Mode). ComparedIn m a b check.settings (Err e)) mode_is h))
+      (λ a b l r e apart h. never_plain t.0 t.1 check.settings t.4 a b l r e apart (subst (λ (m : Mode). ComparedIn m a b check.settings (Err e)) mode_is h))
   by_form Event None mode_is is can =
       let t = both_told held check (λ x y. AreEventComparable x y check.settings) can in
       two is t.0 t.1 t.2 t.3 t.4.left t.4.right
-      (λ a b l r e no h. never_events t.0 t.1 check.settings t.4 a b l r e no (subst (λ (m : Mode). ComparedIn m a b check.settings (Err e)) mode_is h))
+      (λ a b l r e apart h. never_events t.0 t.1 check.settings t.4 a b l r e apart (subst (λ (m : Mode). ComparedIn m a b check.settings (Err e)) mode_is h))
   by_form Plain (Some path) mode_is is can =
       let t = both_told held check (λ x y. IsSomeAnd (held path) (λ z. AreComparableUnder x y z check.settings)) can in
       let z = some_and (held path) (λ z. AreComparableUnder t.0 t.1 z check.settings) t.4 in
       let told : AreTold held check check.assumed =
       record { left = t.0; right = t.1; left_is = t.2; right_is = t.3; left_accepted = z.2.comparable.left; right_accepted = z.2.comparable.right; third = subst (IsThirdTold held) (sym is) (z.0, z.1, z.2.accepted) } in
       let under : (e : CompareError) → (e ≡ compare_error.NoMemory → ⊥) → AnswersUnder (Some path) e → ⊥ =
-      λ e no h.
+      λ e apart h.
       (let n = if_told (held path) (λ w. OfThreeNets (λ a b c. ComparedUnder a b c check.settings (Err e)) t.0 t.1 w) z.0 z.1
       (of_texts held check told (λ x y. IfSome (held path) (λ w. OfThreeNets (λ a b c. ComparedUnder a b c check.settings (Err e)) x y w)) h) in
-      never_assuming t.0 t.1 z.0 check.settings z.2 n.0 n.1 n.2 n.3 n.4 n.5 e no n.6) in
+      never_assuming t.0 t.1 z.0 check.settings z.2 n.0 n.1 n.2 n.3 n.4 n.5 e apart n.6) in
       answered told (Some path) is under under
   by_form Event (Some path) mode_is is can = absurd can
 

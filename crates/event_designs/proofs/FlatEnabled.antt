@@ -72,7 +72,7 @@ module _ {P : Type 0} {d : Circuit P} {net : Circuit ℕ} {clocked : P → Type 
         rises = λ x low high at_low at_high one.
             along d high at_high.meets y.follows
             ∙ on.rises (λ k. x (f.origin k)) (λ k. low (f.origin k)) (λ k. high (f.origin k)) (extends_down i y.signal false x low at_low) (extends_down i y.signal true x high at_high)
-              (sym (along d low at_low.meets y.follows) ∙ one);
+            (sym (along d low at_low.meets y.follows) ∙ one);
       }
 
   -- a latch of the design is enabled where its signal's is

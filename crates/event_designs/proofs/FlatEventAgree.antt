@@ -19,7 +19,7 @@ module _ {P Q : Type 0} {a : Circuit P} {b : Circuit Q} {na nb : Circuit ℕ} {c
   agree_up agree n left right alike t p q low (IsPair.outputs {name = name} l r) sp sq =
       along a (left t) (alike.left_run.meets t low) (f.circuit.shown name p l).follows
       ∙ agree n (λ t s. left t (f.origin s)) (λ t s. right t (g.origin s)) (nets_alike f g [] n left right alike 0) t (f.signal p) (g.signal q) low (IsPair.outputs {name = name} (output_down f name p l) (output_down g name q r))
-        (mark_down f left sp) (mark_down g right sq)
+      (mark_down f left sp) (mark_down g right sq)
       ∙ sym (along b (right t) (alike.right_run.meets t low) (g.circuit.shown name q r).follows)
 
   module _ (names : List (List ℕ)) where

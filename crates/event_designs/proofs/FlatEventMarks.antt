@@ -24,7 +24,7 @@ module _ {P : Type 0} {d : Circuit P} {net : Circuit ℕ} {clocked : P → Type 
     loads_down l =
         let stays = latch_stays f name out next latch in
         let put : (bit : Bool) (v : P → Bool) → ExtendsWith d out bit (run t) v → ExtendsWith net (f.signal out) bit (down t) (λ i. v (f.origin i)) =
-            λ bit v e. extends_down f (f.signal out) (ap f.signal stays) bit (run t) v (subst (λ (z : P). ExtendsWith d z bit (run t) v) (sym stays) e) in
+        λ bit v e. extends_down f (f.signal out) (ap f.signal stays) bit (run t) v (subst (λ (z : P). ExtendsWith d z bit (run t) v) (sym stays) e) in
         record {
           low = λ i. l.low (f.origin i);
           high = λ i. l.high (f.origin i);

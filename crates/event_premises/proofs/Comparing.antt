@@ -44,7 +44,7 @@ path_plain n names (LatchPath.edge r) = LatchPath.edge (edge_plain n names r)
 path_plain n names (LatchPath.step r rest) = LatchPath.step (edge_plain n names r) (path_plain n names rest)
 
 free : (n : NetView) (names : List (List ℕ)) → (HasCycle (circuit_of n) NoneEnabled names → ⊥) → HasCycle (circuit_of n) (IsEnabled (circuit_of n)) names → ⊥
-free n names no h = no (h.0, path_plain n names h.1)
+free n names apart h = apart (h.0, path_plain n names h.1)
 
 -- so is what breaks them
 pub broken_events : (a b : NetView) (expose : Bool) → AreBroken a b expose → HaveNoCycles a b expose

@@ -99,7 +99,7 @@ module _ (before now : Option (List ℕ)) (settings : Settings) (o : Outcome) (t
 
   -- the pairs are compared where the verdict is no limit
   by_pairs : ((at : LimitAt) → o.verdict ≡ verdict.Limit at → ⊥) → Compared
-  by_pairs no = compared a b settings.expose settings.conflicts o is.fits no
+  by_pairs apart = compared a b settings.expose settings.conflicts o is.fits apart
 
   pub events_agree : o.verdict ≡ verdict.Equal → EventTextsAgree x y settings before now
   events_agree e =
