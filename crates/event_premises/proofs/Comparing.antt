@@ -1,6 +1,5 @@
 -- Texts whose nets are such can be compared in the event mode.
-use Rattle.std.proofs.Common.{◌≡◌, ◌∙◌, ℕ, suc, ◌+◌, ◌*◌, ◌<◌, ◌≤◌, Bool, true, false, List, [], length, refl, sym, ap, subst, arith, inl, inr, Err}
-use Rattle.std.specs.Prelude.{◌⊎◌}
+use Rattle.std.proofs.Common.{ℕ, suc, ◌*◌, ◌<◌, ◌≤◌, Bool, true, false, List, [], length, arith, inl, inr, Err}
 use Rattle.circuit_theory.specs.declared.Side.{Side}
 use Rattle.circuit_theory.specs.declared.Side.TheVariants.{A, B}
 use Rattle.circuit_theory.specs.Depth.{LatchReads, LatchPath, HasCycle}
@@ -13,11 +12,11 @@ use Rattle.sec_setup.specs.Matching.{InterfacesMatch}
 use Rattle.latch_kinds.specs.Found.{HasTooLarge}
 use Rattle.unate_enable.specs.Cones.{data_of_latch}
 use Rattle.event_nodes.specs.View.{EventCircuitView}
-use Rattle.event_setup.specs.Choosing.{HaveNoCycles}
-use Rattle.event_setup.specs.Recovered.{RecoversBoth}
-use Rattle.event_setup.specs.declared.error.RecoveryError.TheVariants as unknown
+use Rattle.cut_events.specs.Choosing.{HaveNoCycles}
+use Rattle.cut_events.specs.Recovered.{RecoversBoth}
+use Rattle.cut_events.specs.RecoveryError.TheVariants as unknown
 use Rattle.cut_events.specs.Circuits.{AreReached}
-use Rattle.event_fits.specs.Compared.{AreTooLargeInEvents, HaveTooManyEvents}
+use Rattle.event_texts.specs.Compared.{AreTooLargeInEvents, HaveTooManyEvents}
 use Rattle.sec_files.specs.Loading.{IsAccepted, Loads}
 use Rattle.event_texts.specs.Texts.{AreEventComparable}
 use Rattle.event_premises.proofs.Shallow.{light_cone}

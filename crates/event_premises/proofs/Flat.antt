@@ -1,5 +1,5 @@
 -- The nets of a small design in which no latch reads another one.
-use Rattle.std.proofs.Common.{◌≡◌, ◌∙◌, ℕ, suc, ◌+◌, ◌*◌, ◌≤◌, max, Bool, true, List, [], ◌∷◌, ◌++◌, length, map, refl, sym, ap, subst, arith, length-append}
+use Rattle.std.proofs.Common.{◌≡◌, ◌∙◌, ℕ, ◌+◌, ◌*◌, ◌≤◌, max, Bool, true, List, ◌++◌, length, map, refl, sym, ap, subst, arith, length-append}
 use Rattle.std.specs.Prelude.{◌&&◌, nat_le}
 use Rattle.std.specs.List.{Contains, list_all, list_any}
 use Rattle.std.proofs.lemmas.Bool.{and_parts}
@@ -7,7 +7,6 @@ use Rattle.std.proofs.lemmas.Bool.Decides.{nat_tests}
 use Rattle.std.proofs.lemmas.List.Elements.{Contains-append_left, Contains-append_right}
 use Rattle.std.proofs.lemmas.List.Folds.{Any-from_list_any}
 use Rattle.circuit_theory.specs.Circuit.{Circuit, Equation, Gate, Latch, Port, Named, IsLatch, Reads, Reaches, out_of}
-use Rattle.circuit_theory.specs.Cover.{Cover}
 use Rattle.circuit_theory.specs.Joined.{moved, moved_name}
 use Rattle.circuit_theory.specs.Sizes.{WeighsAt}
 use Rattle.circuit_theory.proofs.Lists.{Contains-map, Contains-map_from, length-map}

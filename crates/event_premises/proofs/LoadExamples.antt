@@ -1,5 +1,5 @@
 -- The design with two load enables.
-use Rattle.std.proofs.Common.{◌≡◌, ◌∙◌, ℕ, Bool, true, false, List, [], ◌∷◌, Option, None, refl, sym, ap, subst, arith, inl, inr}
+use Rattle.std.proofs.Common.{◌≡◌, ◌∙◌, ℕ, Bool, true, false, List, [], ◌∷◌, None, refl, sym, ap, subst, arith, inl, inr}
 use Rattle.std.specs.Prelude.{codes, if◌then◌else◌, ◌≢◌}
 use Rattle.std.specs.List.{Contains}
 use Rattle.std.proofs.lemmas.List.Elements.{All-contains}
@@ -25,7 +25,7 @@ use Rattle.design_rows.specs.Designs.{and_cover}
 use Rattle.design_tests.specs.NoFault.{has_no_fault}
 use Rattle.design_tests.proofs.NoFaults.{tested_is_sound}
 use Rattle.sec_files.specs.Loading.{Loads}
-use Rattle.event_setup.specs.Choosing.{HaveNoCycles}
+use Rattle.cut_events.specs.Choosing.{HaveNoCycles}
 use Rattle.event_premises.specs.Loads.{loading, on_load, off_load, off_and_cover, on_loads, off_loads}
 use Rattle.event_premises.specs.Premises.{LoadsAreComparable}
 use Rattle.event_premises.proofs.Comparing.{comparable_events}

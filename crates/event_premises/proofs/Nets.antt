@@ -1,11 +1,11 @@
 -- The nets that a text loads as, by what is computed of its design.
-use Rattle.std.proofs.Common.{◌≡◌, ◌∙◌, ℕ, suc, ◌+◌, ◌*◌, ◌≤◌, true, List, [], length, map, Option, None, sym, ap, ap₂, subst, arith}
+use Rattle.std.proofs.Common.{◌≡◌, ◌∙◌, ℕ, suc, ◌+◌, ◌*◌, ◌≤◌, List, [], length, map, Option, None, sym, ap, ap₂, subst, arith}
 use Rattle.circuit_theory.specs.Circuit.{Circuit}
 use Rattle.circuit_theory.specs.Interface.{Ports, first_mismatch}
 use Rattle.blif_read.specs.declared.design.BlifModel.{BlifModel}
 use Rattle.blif_read.specs.Design.{Place, clock_places, circuit_of_design}
 use Rattle.blif_read.specs.Reading.{first_fault, spelled}
-use Rattle.flat_net.specs.View.{NetView, circuit_of, ports_of}
+use Rattle.flat_net.specs.View.{NetView, ports_of}
 use Rattle.flatten.specs.DesignFaults.{IsSoundDesign, IsFlatOf}
 use Rattle.design_laws.proofs.Kept.{flat_design}
 use Rattle.design_laws.proofs.KeptNames.{names_are_kept}

@@ -1,5 +1,5 @@
 -- Designs of plain latches, and one whose latch is to be cut open.
-use Rattle.std.proofs.Common.{◌≡◌, ℕ, Bool, true, List, [], ◌∷◌, None, filter, refl, sym, ap₂, subst, arith}
+use Rattle.std.proofs.Common.{◌≡◌, ℕ, Bool, true, false, List, [], ◌∷◌, None, filter, refl, sym, ap₂, subst, arith}
 use Rattle.std.specs.Prelude.{codes, if◌then◌else◌}
 use Rattle.circuit_theory.specs.Depth.{HasCycle}
 use Rattle.circuit_theory.specs.Names.{is_among}
@@ -8,8 +8,7 @@ use Rattle.blif_read.specs.Design.{Place, top, walk, circuit_of_design}
 use Rattle.flat_net.specs.View.{NetView, circuit_of}
 use Rattle.cut_points.specs.Common.{common_names}
 use Rattle.sec_setup.specs.Cycles.{AreBroken}
-use Rattle.sec_base.specs.declared.settings.Settings.{Settings}
-use Rattle.event_setup.specs.Choosing.{HaveNoCycles}
+use Rattle.cut_events.specs.Choosing.{HaveNoCycles}
 use Rattle.sec_files.specs.Loading.{Loads}
 use Rattle.design_rows.specs.Designs as design
 use Rattle.design_rows.specs.Small.{small_late, small_early, small_toggle, IsSmall}
@@ -17,7 +16,6 @@ use Rattle.design_rows.specs.Texts.{late, early, toggle}
 use Rattle.design_rows.proofs.Places.{is_one_place}
 use Rattle.design_rows.proofs.Spelling.{accepted, match, net_is_small}
 use Rattle.design_rows.proofs.SpelledTexts.{late_spells, early_spells, toggle_spells}
-use Rattle.small_pairs.proofs.Comparing.{broken}
 use Rattle.event_premises.specs.Premises.{RetimedAreComparable, TogglesAreComparable}
 use Rattle.event_premises.proofs.Comparing.{broken_events, comparable_events}
 use Rattle.event_premises.proofs.Flat.{PassesShallow}
@@ -80,11 +78,17 @@ early_small net l = net_is_small early design.early small_early early_spells net
 toggle_small : (net : NetView) → Loads toggle net → IsSmall small_toggle net
 toggle_small net l = net_is_small toggle design.toggle small_toggle toggle_spells net l
 
+-- no latch of either circuit lies on a cycle
+module _ (a b : NetView) (left : IsSmall small_late a) (right : IsSmall small_early b) where
+  retimed_broken : (expose : Bool) → AreBroken a b expose
+  retimed_broken false = (left.acyclic [], right.acyclic [])
+  retimed_broken true = (left.acyclic (common_names (circuit_of a) (circuit_of b)), right.acyclic (common_names (circuit_of a) (circuit_of b)))
+
 pub retimed_are_comparable : RetimedAreComparable
 retimed_are_comparable s =
     comparable_events late early s (accepted late design.late small_late late_spells) (accepted early design.early small_early early_spells) late_shallow early_shallow
     (λ a b la lb. match small_late small_early a b (late_small a la) (early_small b lb) (λ own others. refl))
-    (λ a b la lb. broken_events a b s.expose (broken small_late small_early a b (late_small a la) (early_small b lb) refl refl s.expose))
+    (λ a b la lb. broken_events a b s.expose (retimed_broken a b (late_small a la) (early_small b lb) s.expose))
 
 -- the latch that toggles has one name in both nets, and without it there is no cycle
 module _ (a b : NetView) (left : IsSmall small_toggle a) (right : IsSmall small_toggle b) where

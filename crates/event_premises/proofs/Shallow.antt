@@ -1,7 +1,7 @@
 -- Circuits in which no latch reads another one: at most one event is behind each place.
-use Rattle.std.proofs.Common.{◌≡◌, ◌∙◌, ℕ, zero, suc, ◌+◌, ◌*◌, ◌<◌, ◌≤◌, List, [], ◌∷◌, length, map, refl, sym, ap, subst, arith, inl, inr, Option, Some, None}
+use Rattle.std.proofs.Common.{◌≡◌, ℕ, zero, suc, ◌*◌, ◌<◌, ◌≤◌, List, [], ◌∷◌, length, map, refl, sym, ap, subst, arith, inl, inr, Option, Some, None}
 use Rattle.std.specs.Prelude.{◌⊎◌}
-use Rattle.std.specs.List.{AllPairs, Contains, sum_by}
+use Rattle.std.specs.List.{Contains, sum_by}
 use Rattle.circuit_theory.specs.Circuit.{Circuit, IsLatch, Reads, Reaches}
 use Rattle.circuit_theory.specs.Depth.{LatchReads, LatchPath, LatchChain, HasCycle, LatchesHaveDepths}
 use Rattle.circuit_theory.specs.Run.{IsEnabled}

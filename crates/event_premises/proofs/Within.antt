@@ -1,5 +1,5 @@
 -- Circuits in which no latch reads another one pass none of the numbers of the event form.
-use Rattle.std.proofs.Common.{◌≡◌, ◌∙◌, ℕ, zero, suc, ◌+◌, ◌*◌, ◌<◌, ◌≤◌, List, [], ◌∷◌, ◌++◌, length, refl, sym, ap, subst, arith, inl, inr}
+use Rattle.std.proofs.Common.{◌≡◌, ◌∙◌, ℕ, zero, suc, ◌+◌, ◌*◌, ◌≤◌, List, [], ◌∷◌, ◌++◌, length, refl, sym, ap, subst, arith, inl, inr}
 use Rattle.std.specs.List.{AllPairs, Contains}
 use Rattle.std.proofs.lemmas.List.Elements.{Contains-append_left}
 use Rattle.std.proofs.lemmas.List.Kept.{AllPairs-cons}
@@ -9,7 +9,7 @@ use Rattle.circuit_theory.specs.Circuit.{Circuit}
 use Rattle.circuit_theory.specs.Depth.{LatchesHaveDepths}
 use Rattle.circuit_theory.specs.Joined.{Either, joined}
 use Rattle.circuit_theory.specs.Run.{IsEnabled}
-use Rattle.circuit_theory.proofs.Lists.{All-from_each, Contains-head, Contains-tail, Contains-cases}
+use Rattle.circuit_theory.proofs.Lists.{All-from_each, Contains-cases}
 use Rattle.event_theory.specs.Classes.{DiffersFromMember}
 use Rattle.event_theory.specs.EventSizes.{IsEventOver, Start}
 use Rattle.event_theory.specs.EventTotals.{IsNodesOver, IsClassesOver}
@@ -21,7 +21,7 @@ use Rattle.flat_net.proofs.Nets.{sound_is_net}
 use Rattle.interface.specs.declared.pairs.SignalPair.{SignalPair}
 use Rattle.event_nodes.specs.View.{EventCircuitView, Enabled, side_of}
 use Rattle.class_queries.specs.Enables.{both_of, class_map}
-use Rattle.class_totals.specs.Totals.{circuit_at, ReachTooMany, starts_at, WeighTooMuch}
+use Rattle.event_classes.specs.Totals.{circuit_at, ReachTooMany, starts_at, WeighTooMuch}
 use Rattle.event_classes.specs.Refused.{AreManyLatches, IsNextLatch, IsTooHeavy, IsTooMany}
 use Rattle.event_totals.specs.Totals.{IsMapMade, PairsReachTooMany, PairsWeighTooMuch}
 use Rattle.event_premises.proofs.Counting.{fewer}
@@ -134,14 +134,14 @@ module _ (a b : EventCircuitView) (left : IsShallowEvents a.net) (right : IsShal
   right_so_far : IsShallowEvents n.right.net
   right_so_far = subst IsShallowEvents (sym (ap (λ (e : EventCircuitView). e.net) n.right_is)) right
 
-  nodes_so_far : (latches : List (Either ℕ ℕ)) → ReachTooMany n.left n.right latches → ⊥
-  nodes_so_far latches r = no_nodes_over n.left n.right left_so_far right_so_far r.starts r.over
+  nodes_so_far : (taken : List (Either ℕ ℕ)) → ReachTooMany n.left n.right taken → ⊥
+  nodes_so_far taken r = no_nodes_over n.left n.right left_so_far right_so_far r.starts r.over
 
   classes_so_far : IsClassesOver (both_of n.left n.right) n.taken v 500 → ⊥
   classes_so_far over = no_classes_over n.left n.right left_so_far right_so_far n.taken (v ∷ n.rest) v n.so_far.is_order.enabled over
 
-  weight_so_far : (side : Side) (latches : List (Either ℕ ℕ)) → WeighTooMuch side n.left n.right latches → ⊥
-  weight_so_far side latches w = side_light n.left n.right left_so_far right_so_far side w.lefts w.rights w.over
+  weight_so_far : (side : Side) (taken : List (Either ℕ ℕ)) → WeighTooMuch side n.left n.right taken → ⊥
+  weight_so_far side taken w = side_light n.left n.right left_so_far right_so_far side w.lefts w.rights w.over
 
 module _ (a b : EventCircuitView) (left : IsShallowEvents a.net) (right : IsShallowEvents b.net) where
   pub no_map_many : IsTooMany a b → ⊥

@@ -1,1 +1,2 @@
 pub mod Texts
+pub use Rattle.event_meaning.specs.Compared
