@@ -1,3 +1,3 @@
-pub mod Outcomes
+pub mod Answering
 pub mod Refusals
 pub mod Finding

@@ -18,11 +18,11 @@ use Rattle.event_fits.specs.Named.{latch_names, NamesUnshown, NamesVerdict}
 
 -- the pairs are compared where the verdict is no limit
 pub compared : (a b : NetView) (expose : Bool) (conflicts : ℕ) (o : Outcome) → EventOutcomeFits a b expose conflicts o → ((at : LimitAt) → o.verdict ≡ verdict.Limit at → ⊥) → IsComparedByPairs a b expose conflicts o
-compared a b expose conflicts o fits no = go fits.rest
+compared a b expose conflicts o fits never = go fits.rest
   where
     go : IsUnrecovered a b conflicts o ⊎ (IsUnclassed a b expose conflicts o ⊎ IsComparedByPairs a b expose conflicts o) → IsComparedByPairs a b expose conflicts o
-    go (inl k) = absurd (no (limit_at.Recover k.side k.name k.proof) k.verdict_is)
-    go (inr (inl k)) = absurd (no (class_limit (latch_names k.left.net) (latch_names k.right.net) k.latch k.other k.proof) k.verdict_is)
+    go (inl k) = absurd (never (limit_at.Recover k.side k.name k.proof) k.verdict_is)
+    go (inr (inl k)) = absurd (never (class_limit (latch_names k.left.net) (latch_names k.right.net) k.latch k.other k.proof) k.verdict_is)
     go (inr (inr k)) = k
 
 -- no verdict is another

@@ -4,7 +4,7 @@ use Rattle.outcome.specs.declared.verdict.Outcome.{Outcome}
 use Rattle.compare_base.specs.Compared.{refusal_of}
 use Rattle.compare_base.proofs.Refusals.{refused_by}
 use Rattle.event_names.specs.Compared.{ComparedInEvents}
-use Rattle.event_check.proofs.Outcomes.{told_outcome, unknown_compared}
+use Rattle.event_check.proofs.Answering.{told_outcome, unknown_compared}
 use Rattle.event_check.proofs.Refusals.{unknown_refused, unmatched}
 use Rattle.event_check.proofs.comparison.compare_in_events.Goals as goal
 

@@ -1,11 +1,11 @@
 -- The class map is made, and the pairs are compared; or why not.
-use Rattle.std.proofs.Common.{◌≡◌, ◌∙◌, refl, sym, ap, subst, Ok}
-use Rattle.flat_net.specs.View.{NetView}
+use Rattle.std.proofs.Common.{◌∙◌, refl, sym, ap, subst, Ok}
 use Rattle.outcome.specs.declared.verdict.Outcome.{Outcome}
 use Rattle.compare_base.proofs.Refusals.{refused_by}
 use Rattle.event_names.specs.Compared.{ComparedInEvents}
 use Rattle.event_names.specs.Named.{latch_names}
-use Rattle.event_check.proofs.Outcomes.{pairs_compared, reached_first, reached_then, setup_askable, told_outcome, unknown_classes_compared}
+use Rattle.event_setup_laws.specs.Laws.{HaveClassesGiven}
+use Rattle.event_check.proofs.Answering.{pairs_compared, reached_first, reached_then, setup_askable, told_outcome, unknown_classes_compared}
 use Rattle.event_check.proofs.Refusals.{can_tell, map_refused, pairs_refused}
 use Rattle.event_check.proofs.comparison.compare_set_up.Goals as goal
 
@@ -35,11 +35,26 @@ returns-in-Ok-in_err-found c =
     let b = c.args.b.now in
     let s = c.args.setup in
     let e = c.in-Ok.separated.events in
+    let k = c.keeps-in-Ok.ensures.kept in
+    let given : HaveClassesGiven s e = record { left = c.in-Ok.ensures.left; right = c.in-Ok.ensures.right } in
+    let at = reached_then a b c.args.settings.now c.keeps.ensures.sound c.keeps-2.ensures.sound c.requires.left c.requires.right c.requires.matches c.requires.left_known c.requires.right_known s c.requires.setup e given k.left_sound k.right_sound k.left k.right in
     refused_by (ComparedInEvents a b c.args.settings.now) c.from_residual-in-Ok.result c.in-Ok-in_err-found.field-0.0 c.from_residual-in-Ok.ensures.1
-    (pairs_refused a b c.args.settings.now c.requires.matches s c.requires.setup e ? _ _ refl c.in-Ok-in_err-found.field-0.0 c.in-Ok-in_err-found.ensures)
+    (pairs_refused a b c.args.settings.now c.requires.matches s c.requires.setup e at _ _ refl c.in-Ok-in_err-found.field-0.0 c.in-Ok-in_err-found.ensures)
 
 pub returns-in-Ok : goal.returns-in-Ok
-returns-in-Ok c = ?
+returns-in-Ok c =
+    let a = c.args.a.now in
+    let b = c.args.b.now in
+    let s = c.args.setup in
+    let e = c.in-Ok.separated.events in
+    let k = c.keeps-in-Ok.ensures.kept in
+    let given : HaveClassesGiven s e = record { left = c.in-Ok.ensures.left; right = c.in-Ok.ensures.right } in
+    let at = reached_then a b c.args.settings.now c.keeps.ensures.sound c.keeps-2.ensures.sound c.requires.left c.requires.right c.requires.matches c.requires.left_known c.requires.right_known s c.requires.setup e given k.left_sound k.right_sound k.left k.right in
+    let left_is = c.in_ok-left_latches.ensures ∙ ap latch_names c.net.ensures in
+    let right_is = c.in_ok-right_latches.ensures ∙ ap latch_names c.net-2.ensures in
+    subst (λ (o : Outcome). ComparedInEvents a b c.args.settings.now (Ok o)) (sym (told_outcome a b s.inputs s.exposed s.exposed c.in_ok-found.found c.outcome_of.result c.outcome_of.ensures c.requires.setup.inputs refl))
+    (pairs_compared a b c.args.settings.now c.keeps.ensures.sound c.keeps-2.ensures.sound c.requires.left c.requires.right c.requires.matches c.requires.left_known c.requires.right_known s c.requires.setup e given at _ _ refl left_is right_is refl c.is_cut.ensures
+    c.in_ok-found.found c.in_ok-found.ensures)
 
 pub unclassed-requires : goal.unclassed-requires
 unclassed-requires c =
@@ -48,7 +63,22 @@ unclassed-requires c =
     can_tell c.args.setup.left c.args.setup.right _ c.args.settings.now.conflicts left_is right_is c.in-Err.error c.in-Err.ensures.refused
 
 pub returns-in-Err-in_err-found : goal.returns-in-Err-in_err-found
-returns-in-Err-in_err-found c = ?
+returns-in-Err-in_err-found c =
+    let a = c.args.a.now in
+    let b = c.args.b.now in
+    let s = c.args.setup in
+    let at = reached_first a b c.args.settings.now c.keeps.ensures.sound c.keeps-2.ensures.sound c.requires.left c.requires.right c.requires.matches c.requires.left_known c.requires.right_known s c.requires.setup c.keeps-3.ensures.sound c.keeps-4.ensures.sound c.keeps-3.ensures.circuit c.keeps-4.ensures.circuit in
+    refused_by (ComparedInEvents a b c.args.settings.now) c.from_residual-in-Err.result c.in-Err-in_err-found.field-0.0 c.from_residual-in-Err.ensures.1
+    (map_refused a b c.args.settings.now c.requires.matches s _ at c.in-Err.error c.in-Err.ensures.refused c.in-Err-in_err-found.field-0.0 c.in-Err-in_err-found.ensures)
 
 pub returns-in-Err : goal.returns-in-Err
-returns-in-Err c = ?
+returns-in-Err c =
+    let a = c.args.a.now in
+    let b = c.args.b.now in
+    let s = c.args.setup in
+    let at = reached_first a b c.args.settings.now c.keeps.ensures.sound c.keeps-2.ensures.sound c.requires.left c.requires.right c.requires.matches c.requires.left_known c.requires.right_known s c.requires.setup c.keeps-3.ensures.sound c.keeps-4.ensures.sound c.keeps-3.ensures.circuit c.keeps-4.ensures.circuit in
+    let left_is = c.in_ok-left_latches.ensures ∙ ap latch_names c.net.ensures in
+    let right_is = c.in_ok-right_latches.ensures ∙ ap latch_names c.net-2.ensures in
+    subst (λ (o : Outcome). ComparedInEvents a b c.args.settings.now (Ok o)) (sym (told_outcome a b s.inputs s.exposed s.exposed c.in_ok-found-2.found c.outcome_of-2.result c.outcome_of-2.ensures c.requires.setup.inputs refl))
+    (unknown_classes_compared a b c.args.settings.now c.keeps.ensures.sound c.keeps-2.ensures.sound c.requires.left c.requires.right c.requires.matches c.requires.left_known c.requires.right_known s c.requires.setup _ left_is right_is at c.in-Err.error c.in-Err.ensures.refused
+    c.in_ok-found-2.found c.in_ok-found-2.ensures)

@@ -1,6 +1,8 @@
 -- What is found, or why the pairs can't be unfolded.
-use Rattle.std.proofs.Common.{refl}
+use Rattle.std.proofs.Common.{ℕ, refl, sym, subst, Err}
+use Rattle.compare_base.specs.declared.error.CompareError.{CompareError}
 use Rattle.event_check.proofs.Finding.{can_ask, can_compare, found_named, found_refused, pairs_found}
+use Rattle.event_check.specs.Pairs.{FindsPairs, IsNamedFound}
 use Rattle.event_check.proofs.pairs.compare_pairs.Goals as goal
 
 pub compare_events-requires-clause-pairs : goal.compare_events-requires-clause-pairs
@@ -18,7 +20,13 @@ named_findings-requires c =
     c.in-Ok.ensures.counted c.in-Ok.ensures.fits
 
 pub returns-in-Ok : goal.returns-in-Ok
-returns-in-Ok c = ?
+returns-in-Ok c =
+    pairs_found c.args.separated.events c.args.names.now c.args.asked.now c.requires.askable _ (c.as_slice.ensures, c.as_slice-2.ensures, refl, refl) c.keeps.ensures.kept c.compare_events.new.events c.args.conflicts c.in-Ok.findings
+    c.in-Ok.ensures.counted c.in-Ok.ensures.fits c.keeps.ensures.events c.requires.counted c.requires.separated.few c.keeps-in-Ok.ensures.kept c.keeps-in-Ok.ensures.once c.in_ok-found.found
+    (subst (λ (count : ℕ). IsNamedFound c.args.names.now c.in-Ok.findings count c.in_ok-found.found) c.classes.ensures c.in_ok-found.ensures)
 
 pub returns-in-Err : goal.returns-in-Err
-returns-in-Err c = ?
+returns-in-Err c =
+    let e = c.args.separated.events in
+    subst (λ (refusal : CompareError). FindsPairs e.left e.right c.args.names.now c.args.asked.now c.args.conflicts (Err refusal)) (sym c.refusal_of.ensures)
+    (found_refused e c.args.names.now c.args.asked.now c.requires.askable _ (c.as_slice.ensures, c.as_slice-2.ensures, refl, refl) c.keeps.ensures.events c.requires.counted c.requires.separated.few c.args.conflicts c.in-Err.error c.in-Err.ensures.refused)
