@@ -44,7 +44,7 @@ module _ (e : EventsView) (is : IsEvents e) (k : AreEnablesCounted e) (few : e.c
   pub count_is : classes_of (side_of_both e) k.classes.order ≡ e.count
   count_is = same_count (side_of_both e) k.classes is.classes ∙ is.number
 
-  pub map_made : IsMapMade e.left e.right
+  abbrev pub map_made : IsMapMade e.left e.right
   map_made = record {
     map = k.classes;
     latches = k.few;
