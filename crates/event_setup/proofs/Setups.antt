@@ -11,7 +11,7 @@ use Rattle.circuit_theory.specs.Interface.{shared_inputs, AreNumbersOf}
 use Rattle.circuit_theory.proofs.Lists.{All-from_each, Contains-map, Contains-map_from, length-map}
 use Rattle.sec_base.specs.Table.{AreDistinct}
 use Rattle.sec_base.specs.declared.basics.Orders.{Orders}
-use Rattle.event_nodes.specs.View.{IsEventCircuit}
+use Rattle.event_nodes.specs.View.{EventCircuitView, IsEventCircuit}
 use Rattle.flat_net.specs.declared.parts.Port.{Port}
 use Rattle.flat_net.specs.Comparable.{IsComparable}
 use Rattle.flat_net.specs.Cut.{IsCutCircuit}
@@ -145,9 +145,9 @@ is_setup s m k orders left right left_depths right_depths left_columns right_col
 }
 
 -- the nets of the circuits are those that were cut
-pub cut_in : (a b m k : NetView) (names : List (List ℕ)) (s : EventSetup) (left right : List ℕ) → IsBegun m left s.left → IsBegun k right s.right → AreCutAt a b names m k → AreCutAt a b names s.left.net s.right.net
-cut_in a b m k names s left right begun_left begun_right cuts =
-    subst (λ (n : NetView). AreCutAt a b names n s.right.net) (sym begun_left.net) (subst (λ (n : NetView). AreCutAt a b names m n) (sym begun_right.net) cuts)
+pub cut_in : (a b m k : NetView) (names : List (List ℕ)) (x y : EventCircuitView) (left right : List ℕ) → IsBegun m left x → IsBegun k right y → AreCutAt a b names m k → AreCutAt a b names x.net y.net
+cut_in a b m k names x y left right begun_left begun_right cuts =
+    subst (λ (n : NetView). AreCutAt a b names n y.net) (sym begun_left.net) (subst (λ (n : NetView). AreCutAt a b names m n) (sym begun_right.net) cuts)
 
 -- the setup of two nets by the chosen latches
 pub chosen_setup : (a b : NetView) (expose : Bool) (e : Exposure) (s : EventSetup) → AreChosen a b expose e → IsSetupBy a b e s → IsEventSetupOf a b expose s

@@ -5,9 +5,9 @@ use Rattle.latch_cone.specs.Kinds.{AreKindsIn}
 use Rattle.event_setup.proofs.Recovering.{recovered}
 use Rattle.event_setup.proofs.enables.enabled_in.Goals as goal
 
-pub returns-in-Ok : goal.returns-in-Ok
-returns-in-Ok c =
+pub returns-in_ok-enabled_among-in-Ok : goal.returns-in_ok-enabled_among-in-Ok
+returns-in_ok-enabled_among-in-Ok c =
     let n = c.args.net.now in
     let found = c.in-Ok.ensures in
-    recovered c.args.side n c.args.conflicts c.in-Ok.kinds c.in_ok-enabled_among-in-Ok.field-0 found (c.in_ok-enabled_among-in-Ok.ensures.each ∙ ap length c.as_slice-in-Ok.ensures)
-    (c.in_ok-enabled_among-in-Ok.ensures.marks Event n (subst (AreKindsIn Event n) (sym c.as_slice-in-Ok.ensures) found.0))
+    recovered c.args.side n c.args.conflicts c.in-Ok.kinds c.in_ok-enabled_among-in-Ok.field-0 found (c.in_ok-enabled_among-in-Ok.ensures.each ∙ ap length c.as_slice.ensures)
+    (c.in_ok-enabled_among-in-Ok.ensures.marks Event n (subst (AreKindsIn Event n) (sym c.as_slice.ensures) found.0))

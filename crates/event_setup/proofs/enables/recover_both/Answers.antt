@@ -6,7 +6,7 @@ use Rattle.event_setup.proofs.enables.recover_both.Goals as goal
 
 pub returns-in_err-left : goal.returns-in_err-left
 returns-in_err-left c =
-    let same : c.from_residual-in_err-left.result ≡ Err c.in_err-left.field-0.0 = search rules in
+    let same : c.from_residual.result ≡ Err c.in_err-left.field-0.0 = search rules in
     subst (RecoversBoth c.args.a.now c.args.b.now c.args.conflicts) (sym same) (left_unknown c.args.a.now c.args.b.now c.args.conflicts c.in_err-left.field-0.0 c.in_err-left.ensures)
 
 pub returns-in_err-right : goal.returns-in_err-right

@@ -28,7 +28,7 @@ returns c =
           (subst (λ (cs : List (List ℕ)). AreDistinct cs) (sym columns_are) (columns_once a b cut.left.net e.names c.args.shared.now e.left c.keeps-3.ensures.sound c.requires.cut.left.parts opened.left.named c.requires.shared))
           cut_pairs c.in_ok-paired.ensures.depths;
       exposed = refl;
-      are_cut = cut_in a b cut.left.net cut.right.net e.names _ orders.left orders.right begun.left begun.right (cut_at a b e opened cut c.requires.cut);
+      are_cut = cut_in a b cut.left.net cut.right.net e.names c.in_ok-circuits.circuits.left c.in_ok-circuits.circuits.right orders.left orders.right begun.left begun.right (cut_at a b e opened cut c.requires.cut);
       inputs = c.len.ensures ∙ ap length c.requires.shared;
       columns = all_columns a b e opened cut c.requires.cut c.requires.matches orders columns c.args.shared.now columns_are c.requires.shared begun.numbered;
       pairs = pairs_named a b e.names e.left e.right pairs c.in_ok-paired.ensures.pairs c.keeps.ensures.sound c.keeps-2.ensures.sound c.keeps.ensures.names c.keeps-2.ensures.names opened.left opened.right;
