@@ -107,7 +107,7 @@ module _ (a b : NetView) (expose : Bool) (names : List (List ℕ)) (left right :
       exposed_event_functions_agree_in_nets (circuit_of a) (circuit_of b) (length a.drivers) (length b.drivers) names left.order right.order class
       (sound_is_net a nets.left) (sound_is_net b nets.right) (sound_names a nets.left) (sound_names b nets.right) k.minimal
       (cut_numbered names (columns_of a b names) left.order right.order a b left.net right.net k.are_cut.left_circuit k.are_cut.right_circuit k.left_columns.numbers k.right_columns.numbers)
-      (numbered c.left k.left_ready.marked ∙ ap length left_same.inputs) (numbered c.right k.right_ready.marked ∙ ap length right_same.inputs)
+      (numbered left k.left_ready.marked ∙ ap length left_same.inputs) (numbered right k.right_ready.marked ∙ ap length right_same.inputs)
       (same_classes (joined ca cb) (joined left_cut right_cut) both_same some cut_meets order class classes)
       (same_depths (joined ca cb) (joined left_cut right_cut) both_same some cut_meets order class deep)
       (λ p q pair. same_events (joined ca cb) (joined left_cut right_cut) both_same some cut_meets order class (Left p) (Right q) (pair_equal p q pair))

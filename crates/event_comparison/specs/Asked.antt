@@ -20,12 +20,12 @@ use Rattle.event_form.specs.Counted.{left_starts, right_starts}
 use Rattle.event_findings.specs.declared.pairs.EventPairs.{EventPairs}
 
 -- what is asked of the pairs of the circuits, and what tells their classes apart
-pub record AreAskedFrom (e : EventsView) (aparts : List Apart) (c : EventPairs) (asked : List Obligation) : Type 0 where
+pub record AreAskedFrom (e : EventsView) (aparts : List Apart) (c : EventPairs) (obligations : List Obligation) : Type 0 where
   pub pairs : All (IsPairOf e) c.pairs.now
   pub within : IsWithinLimits e
   pub separated : AreSeparated e aparts
-  pub asked : AreAsked (side_of_both e) e.events c.cut c.pairs.now asked
-  pub depths : length c.depths.now ≡ length asked
+  pub asked : AreAsked (side_of_both e) e.events c.cut c.pairs.now obligations
+  pub depths : length c.depths.now ≡ length obligations
   pub distinct : AreDistinct c.names.now
 
 -- the difference is the first that isn't decisive

@@ -100,7 +100,7 @@ module _ (e : EventsView) (is : IsEvents e) (k : AreEnablesCounted e) (few : e.c
     counted : HaveCounted n.at lefts rights
     counted = n.reached.counted k.lefts k.rights k.counted
 
-    next_signal : IsNextSignal e.left e.right map_made pairs side
+    abbrev next_signal : IsNextSignal e.left e.right map_made pairs side
     next_signal = record {
       before = n.before;
       pair = n.pair;
