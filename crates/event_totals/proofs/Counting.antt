@@ -129,9 +129,7 @@ module _ (e : EventsView) (is : IsEvents e) (k : AreEnablesCounted e) (few : e.c
 
     -- so the pairs are refused there
     pub refused_many : AreTooMany side (signal_of side n.pair) n.at → PairsReachTooMany e.left e.right map_made pairs
-    unfolding next_signal
     refused_many h = (side, next_signal, too_many h)
 
     pub refused_large : IsTooLarge side (signal_of side n.pair) n.at → PairsWeighTooMuch side e.left e.right map_made pairs
-    unfolding next_signal
     refused_large h = (next_signal, few_enough h, too_large h)
