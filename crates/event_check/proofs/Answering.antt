@@ -167,7 +167,7 @@ module _ (a b : NetView) (settings : Settings) (sa : IsSound a) (sb : IsSound b)
     })
 
     -- so is what is told where the classes aren't known
-    pub unknown_classes_compared : {X : Type 0} (n : Names) → n.left ≡ latch_names s.left.net → n.right ≡ latch_names s.right.net → AreReached a b settings.expose s.exposed s.left s.right → (error : EventError) → IsRefusedMap {X} s.left s.right settings.conflicts (Err error) →
+    pub unknown_classes_compared : {X : Type 0} (n : Names) → n.left ≡ latch_names s.left.net → n.right ≡ latch_names s.right.net → AreReached a b settings.expose s.exposed s.left s.right → (error : EventError) → IsRefusedMap {X = X} s.left s.right settings.conflicts (Err error) →
         (f : Found) → TellsLimit n error (Ok f) → IsComparedInEvents a b settings (outcome_by a b s.exposed f)
     unknown_classes_compared n left right at (event_error.Limit latch other proof) h f told =
         unclassed_compared at latch other proof (h.limit latch other proof refl) f

@@ -27,15 +27,15 @@ use Rattle.event_check.specs.declared.outcomes.Found.{Found}
 use Rattle.event_check.specs.declared.pairs.Asked.{Asked}
 use Rattle.event_check.specs.Pairs.{AreAskable, ArePairsFound, FindsPairs, IsAskedBy, IsNamedFound, refusal_of}
 
-module _ (e : EventsView) (n : Names) (x : Asked) (askable : AreAskable e n x) (c : EventPairs) (asked : IsAskedBy n x c) where
+module _ (e : EventsView) (n : Names) (x : Asked) (askable : AreAskable e n x) where
   -- the pairs can be asked about
-  pub can_ask : All (IsPairOf e) c.pairs.now
-  can_ask = subst (All (IsPairOf e)) (sym asked.0) askable.within
+  pub can_ask : (pairs : List SignalPair) → pairs ≡ x.pairs → All (IsPairOf e) pairs
+  can_ask pairs same = subst (All (IsPairOf e)) (sym same) askable.within
 
-  pub can_compare : AreCompared e.left e.right c
-  can_compare = askable.compared c asked
+  pub can_compare : (c : EventPairs) → IsAskedBy n x c → AreCompared e.left e.right c
+  can_compare c asked = askable.compared c asked
 
-  module _ (kept : AreKept e.left e.right e.events) (f : EventsView) (conflicts : ℕ) (findings : EventFindings) (counted : ArePairsCounted c.pairs.now e f) (fits : FindingsFit f.left f.right c conflicts findings) where
+  module _ (c : EventPairs) (asked : IsAskedBy n x c) (kept : AreKept e.left e.right e.events) (f : EventsView) (conflicts : ℕ) (findings : EventFindings) (counted : ArePairsCounted c.pairs.now e f) (fits : FindingsFit f.left f.right c conflicts findings) where
     fits_first : FindingsFit e.left e.right c conflicts findings
     fits_first =
         subst (λ (r : EventCircuitView). FindingsFit e.left r c conflicts findings) counted.later.right
@@ -64,12 +64,13 @@ module _ (e : EventsView) (n : Names) (x : Asked) (askable : AreAskable e n x) (
       verdict_is = told.verdict_is;
     }
 
-  -- or why they can't be unfolded
-  pub found_refused : {Y : Type 0} (is : IsEvents e) (k : AreEnablesCounted e) (few : e.count ≤ 500) (conflicts : ℕ) (error : EventFormError) → AreRefused {Y} c.pairs.now e (Err error) → FindsPairs e.left e.right n x conflicts (Err (refusal_of error))
-  found_refused is k few conflicts form_error.TooManyEvents h =
-      let stop = (h k.lefts k.rights k.counted).many refl in
-      (map_made e is k few, subst (λ (ps : List SignalPair). PairsReachTooMany e.left e.right (map_made e is k few) ps) asked.0 (refused_many e is k few c.pairs.now stop.0 stop.1 stop.2))
-  found_refused is k few conflicts (form_error.TooLarge side) h =
-      let stop = (h k.lefts k.rights k.counted).large side refl in
-      (map_made e is k few, subst (λ (ps : List SignalPair). PairsWeighTooMuch side e.left e.right (map_made e is k few) ps) asked.0 (refused_large e is k few c.pairs.now side stop.0 stop.1))
-  found_refused is k few conflicts form_error.NoMemory h = tt
+-- or why they can't be unfolded
+pub found_refused : {Y : Type 0} (e : EventsView) (is : IsEvents e) (k : AreEnablesCounted e) (few : e.count ≤ 500) (n : Names) (x : Asked) (conflicts : ℕ) (pairs : List SignalPair) → pairs ≡ x.pairs → (error : EventFormError) → AreRefused {X = Y} pairs e (Err error) →
+    FindsPairs e.left e.right n x conflicts (Err (refusal_of error))
+found_refused e is k few n x conflicts pairs same form_error.TooManyEvents h =
+    let stop = (h k.lefts k.rights k.counted).many refl in
+    (map_made e is k few, subst (λ (ps : List SignalPair). PairsReachTooMany e.left e.right (map_made e is k few) ps) same (refused_many e is k few pairs stop.0 stop.1 stop.2))
+found_refused e is k few n x conflicts pairs same (form_error.TooLarge side) h =
+    let stop = (h k.lefts k.rights k.counted).large side refl in
+    (map_made e is k few, subst (λ (ps : List SignalPair). PairsWeighTooMuch side e.left e.right (map_made e is k few) ps) same (refused_large e is k few pairs side stop.0 stop.1))
+found_refused e is k few n x conflicts pairs same form_error.NoMemory h = tt

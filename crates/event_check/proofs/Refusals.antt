@@ -44,7 +44,7 @@ one_refusal : (x y : CompareError) → Told x ≡ Told y → y ≡ x
 one_refusal x y q = cc
 
 -- the latches at the limit of a class query have names
-pub can_tell : {X : Type 0} (a b : EventCircuitView) (n : Names) (conflicts : ℕ) → n.left ≡ latch_names a.net → n.right ≡ latch_names b.net → (error : EventError) → IsRefusedMap {X} a b conflicts (Err error) → CanTell n error
+pub can_tell : {X : Type 0} (a b : EventCircuitView) (n : Names) (conflicts : ℕ) → n.left ≡ latch_names a.net → n.right ≡ latch_names b.net → (error : EventError) → IsRefusedMap {X = X} a b conflicts (Err error) → CanTell n error
 can_tell a b n conflicts left right (event_error.Limit latch other proof) h =
     let k = h.limit latch other proof refl in
     (tag_named a.net b.net n left right latch k.names, other_named a.net b.net n left right other k.other_names)
@@ -72,7 +72,7 @@ module _ (a b : NetView) (settings : Settings) (matches : InterfacesMatch a b) w
 
   module _ (s : EventSetup) where
     -- the classes can't be made
-    pub map_refused : {X : Type 0} (n : Names) → AreReached a b settings.expose s.exposed s.left s.right → (error : EventError) → IsRefusedMap {X} s.left s.right settings.conflicts (Err error) → (e : CompareError) → TellsLimit n error (Err e) →
+    pub map_refused : {X : Type 0} (n : Names) → AreReached a b settings.expose s.exposed s.left s.right → (error : EventError) → IsRefusedMap {X = X} s.left s.right settings.conflicts (Err error) → (e : CompareError) → TellsLimit n error (Err e) →
         ComparedInEvents a b settings (Err e)
     map_refused n at (event_error.Limit latch other proof) h e told = subst (λ (z : CompareError). ComparedInEvents a b settings (Err z)) (sym told) tt
     map_refused n at event_error.TooManyEvents h e told = by e refused.TooManyEvents told (matches, inl (s.exposed, s.left, s.right, at, h.many refl))
@@ -85,26 +85,32 @@ module _ (a b : NetView) (settings : Settings) (matches : InterfacesMatch a b) w
     pairs_refused is f at n x pairs (refused.Interface name) h = absurd h
     pairs_refused is f at n x pairs (refused.Cyclic side names) h = absurd h
     pairs_refused is f at n x pairs (refused.Unpaired side names) h = absurd h
-    pairs_refused is f at n x pairs (refused.TooLarge side) h = (matches, inr (inr (record {
-      names = s.exposed;
-      left = f.left;
-      right = f.right;
-      reached = at;
-      made = h.0;
-      pairs = x.pairs;
-      listed = ap (map places_of) pairs ∙ is.pairs;
-      stops = h.1;
-    })))
-    pairs_refused is f at n x pairs refused.TooManyEvents h = (matches, inr (record {
-      names = s.exposed;
-      left = f.left;
-      right = f.right;
-      reached = at;
-      made = h.0;
-      pairs = x.pairs;
-      listed = ap (map places_of) pairs ∙ is.pairs;
-      stops = h.1;
-    }))
+    pairs_refused is f at n x pairs (refused.TooLarge side) h = (
+      matches,
+      inr (inr (record {
+        names = s.exposed;
+        left = f.left;
+        right = f.right;
+        reached = at;
+        made = h.0;
+        pairs = x.pairs;
+        listed = ap (map places_of) pairs ∙ is.pairs;
+        stops = h.1;
+      })),
+    )
+    pairs_refused is f at n x pairs refused.TooManyEvents h = (
+      matches,
+      inr (record {
+        names = s.exposed;
+        left = f.left;
+        right = f.right;
+        reached = at;
+        made = h.0;
+        pairs = x.pairs;
+        listed = ap (map places_of) pairs ∙ is.pairs;
+        stops = h.1;
+      }),
+    )
     pairs_refused is f at n x pairs (refused.Assume fault) h = absurd h
     pairs_refused is f at n x pairs (refused.Vacuous by_this) h = absurd h
     pairs_refused is f at n x pairs refused.NoMemory h = tt

@@ -2,6 +2,7 @@
 use Rattle.std.proofs.Common.{◌≡◌, ◌<◌, ℕ, List, [], ◌∷◌, length, Option, Some, None, refl, sym, ap, subst, ◌∙◌}
 use Rattle.std.specs.List.{All, AllZip, Contains}
 use Rattle.std.proofs.lemmas.List.Elements.{All-cons, All-nil, All-weaker}
+use Rattle.circuit_theory.specs.declared.Side.{Side}
 use Rattle.circuit_theory.specs.declared.Side.TheVariants.{A, B}
 use Rattle.circuit_theory.specs.Joined.{Either}
 use Rattle.circuit_theory.specs.Query.{Variable}
@@ -17,7 +18,7 @@ use Rattle.sec_setup.specs.Setup.{AreColumns}
 use Rattle.outcome.specs.declared.verdict.PairResult.{PairResult}
 use Rattle.unshown_pairs.specs.FrameBit.{FrameBit}
 use Rattle.event_nodes.specs.View.{EventCircuitView}
-use Rattle.event_order.specs.Order.{IsTagOf}
+use Rattle.event_order.specs.Order.{IsTagOf, net_at}
 use Rattle.unshown_pairs.specs.Separations.{Separates, SeparatesBy}
 use Rattle.unshown_pairs.specs.Told.{TellsVariable}
 use Rattle.unshown_pairs.specs.declared.separations.ToldSeparation.{ToldSeparation}
@@ -26,7 +27,7 @@ use Rattle.event_fits.specs.EventPairs.{EventPairs}
 use Rattle.event_fits.specs.EventVerdict.{EventVerdict}
 use Rattle.event_fits.specs.EventVerdict.TheVariants as found
 use Rattle.event_fits.specs.UnshownPair.{UnshownPair}
-use Rattle.event_fits.specs.Named.{latch_names}
+use Rattle.event_fits.specs.Named.{latch_names, names_at}
 use Rattle.read_inputs.proofs.Places.{IsShown}
 use Rattle.event_names.specs.declared.names.Names.{Names}
 use Rattle.event_names.specs.Nameable.{CanBeNamed, IsBitIn, IsLatchIn, IsOtherIn, IsSeparationIn, IsUnshownIn}
@@ -38,8 +39,11 @@ module _ (a b : NetView) (n : Names) (left : n.left ≡ latch_names a) (right : 
   many names net e = sym (ap length e ∙ length-map (λ (l : LatchAt). l.name) net.latches)
 
   pub tag_named : (t : Tag) → IsTagOf a b t → IsLatchIn n t
-  tag_named (record { side = A; latch = j }) h = subst (λ k. j < k) (many n.left a left) h
-  tag_named (record { side = B; latch = j }) h = subst (λ k. j < k) (many n.right b right) h
+  tag_named t h = go t.side h
+    where
+      go : (side : Side) → t.latch < length (net_at side a b).latches → t.latch < length (names_at side n.left n.right)
+      go A k = subst (λ m. t.latch < m) (many n.left a left) k
+      go B k = subst (λ m. t.latch < m) (many n.right b right) k
 
   pub other_named : (o : Option Tag) → ((t : Tag) → o ≡ Some t → IsTagOf a b t) → IsOtherIn n o
   other_named None h = tt

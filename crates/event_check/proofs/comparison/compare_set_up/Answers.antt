@@ -29,8 +29,8 @@ compare_pairs-requires-clause-askable c =
     setup_askable c.args.a.now c.args.b.now c.args.settings.now c.keeps.ensures.sound c.keeps-2.ensures.sound c.requires.left c.requires.right c.requires.matches c.requires.left_known c.requires.right_known s c.requires.setup
     c.in-Ok.separated.events (record { left = c.in-Ok.ensures.left; right = c.in-Ok.ensures.right }) c.keeps-3.ensures.sound c.keeps-4.ensures.sound _ _ refl left_is right_is refl refl
 
-pub returns-in-Ok-in_err-found : goal.returns-in-Ok-in_err-found
-returns-in-Ok-in_err-found c =
+pub returns-in_err-found-in-Ok : goal.returns-in_err-found-in-Ok
+returns-in_err-found-in-Ok c =
     let a = c.args.a.now in
     let b = c.args.b.now in
     let s = c.args.setup in
@@ -38,8 +38,8 @@ returns-in-Ok-in_err-found c =
     let k = c.keeps-in-Ok.ensures.kept in
     let given : HaveClassesGiven s e = record { left = c.in-Ok.ensures.left; right = c.in-Ok.ensures.right } in
     let at = reached_then a b c.args.settings.now c.keeps.ensures.sound c.keeps-2.ensures.sound c.requires.left c.requires.right c.requires.matches c.requires.left_known c.requires.right_known s c.requires.setup e given k.left_sound k.right_sound k.left k.right in
-    refused_by (ComparedInEvents a b c.args.settings.now) c.from_residual-in-Ok.result c.in-Ok-in_err-found.field-0.0 c.from_residual-in-Ok.ensures.1
-    (pairs_refused a b c.args.settings.now c.requires.matches s c.requires.setup e at _ _ refl c.in-Ok-in_err-found.field-0.0 c.in-Ok-in_err-found.ensures)
+    refused_by (ComparedInEvents a b c.args.settings.now) c.from_residual-in_err-found-in-Ok.result c.in_err-found-in-Ok.field-0.0 c.from_residual-in_err-found-in-Ok.ensures.1
+    (pairs_refused a b c.args.settings.now c.requires.matches s c.requires.setup e at (record { columns = c.args.setup.columns; left = c.in_ok-left_latches.left_latches; right = c.in_ok-right_latches.right_latches }) (record { pairs = c.args.setup.pairs; depths = c.args.setup.depths; cut = c.is_cut-cut.result }) refl c.in_err-found-in-Ok.field-0.0 c.in_err-found-in-Ok.ensures)
 
 pub returns-in-Ok : goal.returns-in-Ok
 returns-in-Ok c =
@@ -52,33 +52,33 @@ returns-in-Ok c =
     let at = reached_then a b c.args.settings.now c.keeps.ensures.sound c.keeps-2.ensures.sound c.requires.left c.requires.right c.requires.matches c.requires.left_known c.requires.right_known s c.requires.setup e given k.left_sound k.right_sound k.left k.right in
     let left_is = c.in_ok-left_latches.ensures ∙ ap latch_names c.net.ensures in
     let right_is = c.in_ok-right_latches.ensures ∙ ap latch_names c.net-2.ensures in
-    subst (λ (o : Outcome). ComparedInEvents a b c.args.settings.now (Ok o)) (sym (told_outcome a b s.inputs s.exposed s.exposed c.in_ok-found.found c.outcome_of.result c.outcome_of.ensures c.requires.setup.inputs refl))
-    (pairs_compared a b c.args.settings.now c.keeps.ensures.sound c.keeps-2.ensures.sound c.requires.left c.requires.right c.requires.matches c.requires.left_known c.requires.right_known s c.requires.setup e given at _ _ refl left_is right_is refl c.is_cut.ensures
-    c.in_ok-found.found c.in_ok-found.ensures)
+    subst (λ (o : Outcome). ComparedInEvents a b c.args.settings.now (Ok o)) (sym (told_outcome a b s.inputs s.exposed s.exposed c.in_ok-found-in-Ok.found c.outcome_of.result c.outcome_of.ensures c.requires.setup.inputs refl))
+    (pairs_compared a b c.args.settings.now c.keeps.ensures.sound c.keeps-2.ensures.sound c.requires.left c.requires.right c.requires.matches c.requires.left_known c.requires.right_known s c.requires.setup e given at (record { columns = c.args.setup.columns; left = c.in_ok-left_latches.left_latches; right = c.in_ok-right_latches.right_latches }) (record { pairs = c.args.setup.pairs; depths = c.args.setup.depths; cut = c.is_cut-cut.result }) refl left_is right_is refl c.is_cut-cut.ensures
+    c.in_ok-found-in-Ok.found c.in_ok-found-in-Ok.ensures)
 
 pub unclassed-requires : goal.unclassed-requires
 unclassed-requires c =
     let left_is = c.in_ok-left_latches.ensures ∙ ap latch_names c.net.ensures in
     let right_is = c.in_ok-right_latches.ensures ∙ ap latch_names c.net-2.ensures in
-    can_tell c.args.setup.left c.args.setup.right _ c.args.settings.now.conflicts left_is right_is c.in-Err.error c.in-Err.ensures.refused
+    can_tell c.args.setup.left c.args.setup.right (record { columns = c.args.setup.columns; left = c.in_ok-left_latches.left_latches; right = c.in_ok-right_latches.right_latches }) c.args.settings.now.conflicts left_is right_is c.in-Err.error c.in-Err.ensures.refused
 
-pub returns-in-Err-in_err-found : goal.returns-in-Err-in_err-found
-returns-in-Err-in_err-found c =
+pub returns-in_err-found-in-Err : goal.returns-in_err-found-in-Err
+returns-in_err-found-in-Err c =
     let a = c.args.a.now in
     let b = c.args.b.now in
     let s = c.args.setup in
     let at = reached_first a b c.args.settings.now c.keeps.ensures.sound c.keeps-2.ensures.sound c.requires.left c.requires.right c.requires.matches c.requires.left_known c.requires.right_known s c.requires.setup c.keeps-3.ensures.sound c.keeps-4.ensures.sound c.keeps-3.ensures.circuit c.keeps-4.ensures.circuit in
-    refused_by (ComparedInEvents a b c.args.settings.now) c.from_residual-in-Err.result c.in-Err-in_err-found.field-0.0 c.from_residual-in-Err.ensures.1
-    (map_refused a b c.args.settings.now c.requires.matches s _ at c.in-Err.error c.in-Err.ensures.refused c.in-Err-in_err-found.field-0.0 c.in-Err-in_err-found.ensures)
+    refused_by (ComparedInEvents a b c.args.settings.now) c.from_residual-in_err-found-in-Err.result c.in_err-found-in-Err.field-0.0 c.from_residual-in_err-found-in-Err.ensures.1
+    (map_refused a b c.args.settings.now c.requires.matches s (record { columns = c.args.setup.columns; left = c.in_ok-left_latches.left_latches; right = c.in_ok-right_latches.right_latches }) at c.in-Err.error c.in-Err.ensures.refused c.in_err-found-in-Err.field-0.0 c.in_err-found-in-Err.ensures)
 
-pub returns-in-Err : goal.returns-in-Err
-returns-in-Err c =
+pub returns : goal.returns
+returns c =
     let a = c.args.a.now in
     let b = c.args.b.now in
     let s = c.args.setup in
     let at = reached_first a b c.args.settings.now c.keeps.ensures.sound c.keeps-2.ensures.sound c.requires.left c.requires.right c.requires.matches c.requires.left_known c.requires.right_known s c.requires.setup c.keeps-3.ensures.sound c.keeps-4.ensures.sound c.keeps-3.ensures.circuit c.keeps-4.ensures.circuit in
     let left_is = c.in_ok-left_latches.ensures ∙ ap latch_names c.net.ensures in
     let right_is = c.in_ok-right_latches.ensures ∙ ap latch_names c.net-2.ensures in
-    subst (λ (o : Outcome). ComparedInEvents a b c.args.settings.now (Ok o)) (sym (told_outcome a b s.inputs s.exposed s.exposed c.in_ok-found-2.found c.outcome_of-2.result c.outcome_of-2.ensures c.requires.setup.inputs refl))
-    (unknown_classes_compared a b c.args.settings.now c.keeps.ensures.sound c.keeps-2.ensures.sound c.requires.left c.requires.right c.requires.matches c.requires.left_known c.requires.right_known s c.requires.setup _ left_is right_is at c.in-Err.error c.in-Err.ensures.refused
-    c.in_ok-found-2.found c.in_ok-found-2.ensures)
+    subst (λ (o : Outcome). ComparedInEvents a b c.args.settings.now (Ok o)) (sym (told_outcome a b s.inputs s.exposed s.exposed c.in_ok-found-in-Err.found c.outcome_of-in-Err.result c.outcome_of-in-Err.ensures c.requires.setup.inputs refl))
+    (unknown_classes_compared a b c.args.settings.now c.keeps.ensures.sound c.keeps-2.ensures.sound c.requires.left c.requires.right c.requires.matches c.requires.left_known c.requires.right_known s c.requires.setup (record { columns = c.args.setup.columns; left = c.in_ok-left_latches.left_latches; right = c.in_ok-right_latches.right_latches }) left_is right_is at c.in-Err.error c.in-Err.ensures.refused
+    c.in_ok-found-in-Err.found c.in_ok-found-in-Err.ensures)
