@@ -1,0 +1,5 @@
+pub mod Bits
+pub mod Leaves
+pub mod Pairs
+pub mod Sequences
+pub mod Agreeing

@@ -1,0 +1,229 @@
+-- What answers to the query of a pair under an assumption say of its event functions.
+use Rattle.std.proofs.Common.{◌≡◌, ◌∙◌, ℕ, zero, suc, ◌^◌, ◌<◌, ◌≤◌, Bool, true, false, List, [], ◌∷◌, length, get_or, slice_get, Option, Some, None, refl, sym, ap, subst, arith, inl, inr}
+use Rattle.std.specs.List.{All, Contains}
+use Rattle.std.proofs.lemmas.List.Elements.{All-contains, All-head}
+use Rattle.std.proofs.lemmas.Option.{none-some, same_Some, slice_get-get_or}
+use Rattle.circuit_theory.specs.Joined.{Either, Left, Right}
+use Rattle.circuit_theory.specs.Names.{same_name}
+use Rattle.circuit_theory.specs.Query as frame_query
+use Rattle.circuit_theory.specs.Query.{Variable, bits_of}
+use Rattle.circuit_theory.specs.Tree.{tree_value}
+use Rattle.circuit_theory.proofs.Lists.{Contains-map, length-map}
+use Rattle.event_theory.specs.EventFrames.{IsEventSize, frame_of}
+use Rattle.event_theory.specs.Frame.{EventSide}
+use Rattle.sec_base.specs.Table.{AreDistinct}
+use Rattle.sec_base.specs.declared.basics.PairAnswer.{PairAnswer}
+use Rattle.sec_base.specs.declared.basics.PairAnswer.TheVariants as answer
+use Rattle.aig.specs.declared.node.Node.{Node}
+use Rattle.aig.specs.Values.{value}
+use Rattle.pair_decide.specs.declared.query.Decision.TheVariants as decision
+use Rattle.pair_decide.specs.declared.query.Proof.{Proof}
+use Rattle.pair_decide.specs.declared.query.Query.{Query}
+use Rattle.pair_decide.specs.Answers.{IsDifference, IsAtLimit}
+use Rattle.pair_decide.specs.Queries.{IsSame, IsLeast, Distinguishes, assigned_to, roots_of}
+use Rattle.swept_queries.specs.InStead.{IsInStead, DecidesInStead}
+use Rattle.event_nodes.specs.Nodes.{EventGraphView}
+use Rattle.event_variables.specs.Variables.{variables_of}
+use Rattle.interface.specs.declared.pairs.SignalPair.{SignalPair}
+use Rattle.obligations.specs.declared.obligation.Obligation.{Obligation}
+use Rattle.obligations.specs.Decided.{AnswerIs, IsAnswered}
+use Rattle.obligations.specs.Found.{Differ}
+use Rattle.outcome.specs.declared.verdict.PairResult.{PairResult}
+use Rattle.event_form.specs.Answers.{ReadOnly}
+use Rattle.assume_laws.specs.Assume.{Assumption, HaveEqualEventsUnder}
+use Rattle.assume_laws.specs.Sequences.{IsEventPairQueryUnder, IsEventDifferenceUnder, IsUnshownFrameUnder, HaveDifferentEventsUnder}
+use Rattle.event_under.specs.Asked.{variable_in, variables_in, AsksUnder, IsAskedUnder}
+use Rattle.event_under.specs.Answers.{IsUndecidedUnder, AnswerFitsUnder, PairFitsUnder}
+use Rattle.event_under.specs.Laws.{PairsFitUnder, IsFrameDifferenceUnder, DifferencesShowUnder}
+use Rattle.event_under.proofs.Bits.{bits_take, assignment_in, takes_assignment}
+
+module _ (c : Assumption) (s : EventSide (Either ℕ ℕ)) (g : List Node) (places : List (ℕ × List ℕ)) (p q : Either ℕ ℕ) (sides : List (Variable (List ℕ))) (query : Query) (distinct : AreDistinct places) (k : AsksUnder c s g places p q sides query) where
+  abbrev variables : List (Variable (List ℕ))
+  variables = variables_in places query.vars
+
+  pub same_events : IsSame g query → HaveEqualEventsUnder c s p q
+  same_events same = record {
+    left_tree = k.left_tree;
+    right_tree = k.right_tree;
+    left_unfolds = k.left_unfolds;
+    right_unfolds = k.right_unfolds;
+    same = λ bits care.
+        sym (k.left_value bits (assignment_in places bits) (takes_assignment places bits))
+        ∙ (same (assignment_in places bits) ((k.care_value bits (assignment_in places bits) (takes_assignment places bits)).1 care) ∙ k.right_value bits (assignment_in places bits) (takes_assignment places bits));
+  }
+
+  -- the frame of bits of the variables
+  abbrev frame : List Bool → ℕ → List ℕ → Bool
+  frame bits = frame_of variables bits
+
+  takes : (bits : List Bool) (v : ℕ) (z : ℕ × List ℕ) → slice_get places v ≡ Some z → assigned_to query.vars bits v ≡ frame bits z.0 z.1
+  takes bits = bits_take places distinct query.vars bits k.within
+
+  variables_long : length variables ≡ length query.vars
+  variables_long = length-map (variable_in places) query.vars
+
+  shown_frame : (bits : List Bool) → IsDifference g query bits → IsUnshownFrameUnder c s p q variables bits (value g (assigned_to query.vars bits) query.left.0) (value g (assigned_to query.vars bits) query.right.0)
+  shown_frame bits d = record {
+    left_tree = k.left_tree;
+    right_tree = k.right_tree;
+    left_unfolds = k.left_unfolds;
+    right_unfolds = k.right_unfolds;
+    are_variables = k.are_variables;
+    each = d.each ∙ sym variables_long;
+    care = (k.care_value (frame bits) (assigned_to query.vars bits) (takes bits)).0 d.distinguishes.care;
+    left_value = k.left_value (frame bits) (assigned_to query.vars bits) (takes bits);
+    right_value = k.right_value (frame bits) (assigned_to query.vars bits) (takes bits);
+    differ = d.distinguishes.differ;
+  }
+
+  -- the query as one of frames
+  asked : frame_query.Query (List ℕ)
+  asked = record { left = λ bits. tree_value bits k.left_tree; right = λ bits. tree_value bits k.right_tree; care = λ bits. value g (assignment_in places bits) query.care.0 }
+
+  asks_pair : IsEventPairQueryUnder c s p q asked
+  unfolding asked
+  asks_pair = record {
+    left_tree = k.left_tree;
+    right_tree = k.right_tree;
+    left_unfolds = k.left_unfolds;
+    right_unfolds = k.right_unfolds;
+    left = λ bits. refl;
+    right = λ bits. refl;
+    care = λ bits. k.care_value bits (assignment_in places bits) (takes_assignment places bits);
+  }
+
+  frames_differ : (bits : List Bool) → Distinguishes g query (assigned_to query.vars bits) → frame_query.Distinguishes asked (frame bits)
+  unfolding asked
+  frames_differ bits d = record {
+    care = (k.care_value (frame bits) (assignment_in places (frame bits)) (takes_assignment places (frame bits))).1 ((k.care_value (frame bits) (assigned_to query.vars bits) (takes bits)).0 d.care);
+    differs = λ e. d.differ (k.left_value (frame bits) (assigned_to query.vars bits) (takes bits) ∙ (e ∙ sym (k.right_value (frame bits) (assigned_to query.vars bits) (takes bits))));
+  }
+
+  lits_differ : (bits : List Bool) → frame_query.Distinguishes asked (frame bits) → Distinguishes g query (assigned_to query.vars bits)
+  unfolding asked
+  lits_differ bits d = record {
+    care = (k.care_value (frame bits) (assigned_to query.vars bits) (takes bits)).1 ((k.care_value (frame bits) (assignment_in places (frame bits)) (takes_assignment places (frame bits))).0 d.care);
+    differ = λ e. d.differs (sym (k.left_value (frame bits) (assigned_to query.vars bits) (takes bits)) ∙ (e ∙ k.right_value (frame bits) (assigned_to query.vars bits) (takes bits)));
+  }
+
+  least_is : (number : ℕ) → IsLeast g query number → frame_query.IsLeast same_name asked variables number
+  least_is number h = record {
+    in_range = subst (λ n. number < 2 ^ n) (sym variables_long) h.in_range;
+    distinguishes = subst (λ n. frame_query.Distinguishes asked (frame (bits_of number n))) (sym variables_long) (frames_differ (bits_of number (length query.vars)) h.distinguishes);
+    least = λ m below d. h.least m below (lits_differ (bits_of m (length query.vars)) (subst (λ n. frame_query.Distinguishes asked (frame (bits_of m n))) variables_long d));
+  }
+
+  event_difference : (bits : List Bool) → IsDifference g query bits → IsEventDifferenceUnder c s p q asked sides variables bits
+  event_difference bits d = record {
+    asks = asks_pair;
+    are_sides = k.are_sides;
+    are_variables = k.are_variables;
+    each = d.each ∙ sym variables_long;
+    distinguishes = frames_differ bits d.distinguishes;
+    least = λ few. (let n = d.least (subst (λ i. i ≤ 16) variables_long few) in (n.0, n.1 ∙ ap (bits_of n.0) (sym variables_long), least_is n.0 n.2));
+  }
+
+  pub frame_difference : (bits : List Bool) → IsDifference g query bits → IsFrameDifferenceUnder c s g places p q sides query bits
+  unfolding asked
+  frame_difference bits d = record {
+    asked = asked;
+    differs = event_difference bits d;
+    left = sym (k.left_value (frame bits) (assigned_to query.vars bits) (takes bits));
+    right = sym (k.right_value (frame bits) (assigned_to query.vars bits) (takes bits));
+    shown = shown_frame bits d;
+  }
+
+  different_events : (bits : List Bool) → IsDifference g query bits → HaveDifferentEventsUnder c s p q
+  different_events bits d =
+      let f = shown_frame bits d in
+      record {
+        left_tree = f.left_tree;
+        right_tree = f.right_tree;
+        left_unfolds = f.left_unfolds;
+        right_unfolds = f.right_unfolds;
+        bits = frame bits;
+        care = f.care;
+        differ = λ e. f.differ (f.left_value ∙ (e ∙ sym f.right_value));
+      }
+
+  read_own : (h : List Node) (r : Query) → IsInStead g query h r → ReadOnly h places (roots_of r) variables
+  read_own h r stands n v reached at =
+      let here : Contains query.vars v = subst (λ (vs : List ℕ). Contains vs v) stands.vars (stands.query.covers n v reached at) in
+      let below : v < length places = All-contains (λ u. u < length places) query.vars v k.within here in
+      (get_or places v (0, []), slice_get-get_or places v (0, []) below, Contains-map (variable_in places) query.vars v here)
+
+  undecided : (conflicts : ℕ) (proof : Proof) (h : List Node) (r : Query) → IsInStead g query h r → IsAtLimit h r conflicts proof → IsUndecidedUnder c s conflicts p q proof
+  undecided conflicts proof h r stands limit = record {
+    left_tree = k.left_tree;
+    right_tree = k.right_tree;
+    left_unfolds = k.left_unfolds;
+    right_unfolds = k.right_unfolds;
+    two_trees = λ e. limit.wide.apart (stands.trivial (inl (k.one_literal e)));
+    variables = variables;
+    are_variables = k.are_variables;
+    many = (let long = variables_long in omega (arith, long, ap length stands.vars, limit.wide.many));
+    graph = h;
+    places = places;
+    distinct = distinct;
+    left_lit = r.left.0;
+    right_lit = r.right.0;
+    care_lit = r.care.0;
+    is_graph = stands.graph;
+    left_within = stands.query.left;
+    right_within = stands.query.right;
+    care_within = stands.query.care;
+    own = read_own h r stands;
+    left_value = λ bits y takes_y. stands.left y ∙ k.left_value bits y takes_y;
+    right_value = λ bits y takes_y. stands.right y ∙ k.right_value bits y takes_y;
+    care_value = λ bits y takes_y. (
+      λ e. (k.care_value bits y takes_y).0 (sym (stands.care y) ∙ e),
+      λ e. stands.care y ∙ (k.care_value bits y takes_y).1 e,
+    );
+    sides = λ e. limit.wide.apart (inl e);
+    care = λ e. limit.wide.apart (inr e);
+    clauses = limit.encoding;
+    log = limit.fruitless;
+  }
+
+-- one of one query is that query
+pub only_query : (q : Query) (queries : List Query) (i : ℕ) (r : Query) → queries ≡ q ∷ [] → slice_get queries i ≡ Some r → r ≡ q
+only_query q queries i r e at = go i (ap (λ (qs : List Query). slice_get qs i) (sym e) ∙ at)
+  where
+    go : (j : ℕ) → slice_get (q ∷ []) j ≡ Some r → r ≡ q
+    go zero h = sym (same_Some q r h)
+    go (suc j) h = absurd (none-some r h)
+
+true_not_false : true ≡ false → ⊥
+true_not_false e = cc
+
+module _ (c : Assumption) (s : EventSide (Either ℕ ℕ)) (w : EventGraphView) (g : List Node) (places : List (ℕ × List ℕ)) (cut : Bool) (p : SignalPair) (o u : Obligation) (distinct : AreDistinct places) (k : IsAskedUnder c s w g places cut p o u) where
+  abbrev sides : List (Variable (List ℕ))
+  sides = variables_of w k.plain.query.vars
+
+  differ : Differ g u.queries → HaveDifferentEventsUnder c s (Left p.left.0) (Right p.right.0)
+  differ d = different_events c s g places (Left p.left.0) (Right p.right.0) sides k.query distinct k.asks d.bits (subst (λ (r : Query). IsDifference g r d.bits) (only_query k.query u.queries d.place d.is.query k.only d.is.first.at) d.is.differs)
+
+  answer_fits : (conflicts : ℕ) (y : PairAnswer) (proof : Option Proof) → AnswerIs g conflicts u y proof → AnswerFitsUnder c s cut conflicts p.left.0 p.right.0 y proof
+  answer_fits conflicts answer.Equal None h = same_events c s g places (Left p.left.0) (Right p.right.0) sides k.query distinct k.asks (All-head (IsSame g) k.query [] (subst (All (IsSame g)) k.only h))
+  answer_fits conflicts answer.Equal (Some proof) h = absurd h
+  answer_fits conflicts answer.Different None h = (k.plain.decisive_is.0 (sym k.decisive_is ∙ h.0), differ h.1)
+  answer_fits conflicts answer.Different (Some proof) h = absurd h
+  answer_fits conflicts answer.NotShown None h = ((λ d. true_not_false (sym (k.plain.decisive_is.1 d) ∙ (sym k.decisive_is ∙ h.0))), differ h.1)
+  answer_fits conflicts answer.NotShown (Some proof) h = absurd h
+  answer_fits conflicts answer.Limit None h = absurd h
+  answer_fits conflicts answer.Limit (Some proof) h =
+      let d : DecidesInStead g k.query conflicts (decision.Limit proof) = subst (λ (r : Query). DecidesInStead g r conflicts (decision.Limit proof)) (only_query k.query u.queries h.place h.query k.only h.first.at) h.limit in
+      undecided c s g places (Left p.left.0) (Right p.right.0) sides k.query distinct k.asks conflicts proof d.graph d.asked d.stands d.decides
+
+  pair_fits : (conflicts : ℕ) (r : PairResult) → IsAnswered g conflicts u r → PairFitsUnder c s cut conflicts p r
+  pair_fits conflicts r h = record {
+    name_is = h.name_is ∙ (k.name_is ∙ k.plain.name_is);
+    size_is = subst (IsEventSize s (Left p.left.0) (Right p.right.0)) (sym (h.size_is ∙ k.size_is)) k.plain.size_is;
+    answer_is = answer_fits conflicts r.answer r.proof h.answer_is;
+  }
+
+pub pairs_fit : PairsFitUnder
+pairs_fit c s w g places cut conflicts p o u r distinct k h = pair_fits c s w g places cut p o u distinct k conflicts r h
+
+pub differences_show : DifferencesShowUnder
+differences_show c s g places p q sides query bits distinct k d = frame_difference c s g places p q sides query distinct k bits d
