@@ -1,6 +1,6 @@
 //! The jobs that report on one circuit.
 
-ghost use Rattle.std.specs.Prelude.{◌≡◌, option_map, IsErrOf};
+ghost use Rattle.std.specs.Prelude.{◌≡◌, ℕ, List, option_map, IsErrOf};
 ghost use Rattle.sec_base.specs.Outside.{SameHeld, NoneFell};
 ghost use Rattle.job_circuit.specs.Ends.{GraphFound, SimFound, graph_end, sim_end};
 
@@ -33,6 +33,7 @@ pub fn tell_graph<S: Shelf>(
     ensures keeps { SameHeld (S.held shelf.old) (S.held shelf.new) }
     ensures later { NoneFell (S.faults shelf.old) (S.faults shelf.new) }
     ensures served { S.serves shelf.old circuit.now → IsErrOf result Stop.ReadFault → ⊥ }
+    ensures serving { (other : List ℕ) → S.serves shelf.old other → S.serves shelf.new other }
 {
     let net = match load(alloc, shelf, circuit) {
         Ok(net) => net,
@@ -77,6 +78,7 @@ pub fn simulate<S: Shelf>(
     ensures keeps { SameHeld (S.held shelf.old) (S.held shelf.new) }
     ensures later { NoneFell (S.faults shelf.old) (S.faults shelf.new) }
     ensures served { S.serves shelf.old simulation.now.circuit.now → S.serves shelf.old simulation.now.stimulus.now → IsErrOf result Stop.ReadFault → ⊥ }
+    ensures serving { (other : List ℕ) → S.serves shelf.old other → S.serves shelf.new other }
 {
     let net = match load(alloc, shelf, simulation.circuit) {
         Ok(net) => net,

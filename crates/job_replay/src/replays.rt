@@ -1,6 +1,6 @@
 //! The job that runs two circuits on one stimulus.
 
-ghost use Rattle.std.specs.Prelude.{◌≡◌, IsErrOf};
+ghost use Rattle.std.specs.Prelude.{◌≡◌, ℕ, List, IsErrOf};
 ghost use Rattle.sec_base.specs.Outside.{Rose, SameHeld, NoneFell};
 ghost use Rattle.flat_net.specs.Comparable.{IsComparable};
 ghost use Rattle.job_replay.specs.Ends.{ReplayJob, replay_end, EndsOver, EndsWithBoth, ReplayFound};
@@ -36,6 +36,7 @@ pub fn replay_files<S: Shelf>(
     ensures keeps { SameHeld (S.held shelf.old) (S.held shelf.new) }
     ensures later { NoneFell (S.faults shelf.old) (S.faults shelf.new) }
     ensures served { S.serves shelf.old replay.now.left.now → S.serves shelf.old replay.now.right.now → S.serves shelf.old replay.now.stimulus.now → IsErrOf result Stop.ReadFault → ⊥ }
+    ensures serving { (other : List ℕ) → S.serves shelf.old other → S.serves shelf.new other }
 {
     match load(alloc, shelf, replay.left) {
         Ok(a) => replay_with(alloc, &a, replay, shelf),
@@ -56,6 +57,7 @@ fn replay_with<S: Shelf>(
     ensures keeps { SameHeld (S.held shelf.old) (S.held shelf.new) }
     ensures later { NoneFell (S.faults shelf.old) (S.faults shelf.new) }
     ensures served { S.serves shelf.old replay.now.right.now → S.serves shelf.old replay.now.stimulus.now → IsErrOf result Stop.ReadFault → ⊥ }
+    ensures serving { (other : List ℕ) → S.serves shelf.old other → S.serves shelf.new other }
 {
     match load(alloc, shelf, replay.right) {
         Ok(b) => replay_over(alloc, a, &b, replay, shelf),
@@ -78,6 +80,7 @@ fn replay_over<S: Shelf>(
     ensures keeps { SameHeld (S.held shelf.old) (S.held shelf.new) }
     ensures later { NoneFell (S.faults shelf.old) (S.faults shelf.new) }
     ensures served { S.serves shelf.old replay.now.stimulus.now → IsErrOf result Stop.ReadFault → ⊥ }
+    ensures serving { (other : List ℕ) → S.serves shelf.old other → S.serves shelf.new other }
 {
     match load_stimulus(alloc, shelf, replay.stimulus) {
         Ok(stimulus) => {
