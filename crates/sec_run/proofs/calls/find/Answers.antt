@@ -1,8 +1,10 @@
-use Rattle.std.proofs.Common.{[], sym, subst}
+use Rattle.std.proofs.Common.{◌≡◌, ℕ, List, [], Option, sym, subst}
+use Rattle.std.specs.List.{All}
 use Rattle.command_line.specs.declared.task.Task.{Task}
 use Rattle.job_base.specs.Ends.{EndsBy}
 use Rattle.job_base.specs.Reading.{ReadFailedAfter}
 use Rattle.job_files.specs.Reading.{ReadFailed}
+use Rattle.job_check.specs.Check.{all_paths, where_built}
 use Rattle.job_gen.proofs.Means.{gen_ends}
 use Rattle.sec_run.specs.Answer.{IsFoundOfJob}
 use Rattle.command_line.specs.Allowed.{IsAllowed}
@@ -24,3 +26,15 @@ returns-in-Gen-clause-found g c =
     let faults = g.S.Shelf.faults c.args.shelf.now in
     subst (λ (job : Task). EndsBy (IsFoundOfJob held job) (ReadFailedAfter (GoesOn job) held faults faults (paths_of job)) c.compare_generated.result) (sym c.in-Gen.is)
     (gen_ends (record { seed = c.in-Gen.seed; regroup = c.in-Gen.regroup; conflicts = c.in-Gen.conflicts }) (ReadFailed held faults faults []) c.compare_generated.result c.compare_generated.ensures.found)
+
+-- what holds of the paths of a comparison holds of equal ones
+same_paths : (P : List ℕ → Type 0) (paths : List ℕ → List ℕ → Option (List ℕ) → List (List ℕ)) (a b x y : List ℕ) (own given : Option (List ℕ)) → x ≡ a → y ≡ b → given ≡ own → All P (paths a b own) → All P (paths x y given)
+same_paths P paths a b x y own given p q r h =
+    subst (λ (o : Option (List ℕ)). All P (paths x y o)) (sym r) (subst (λ (z : List ℕ). All P (paths x z own)) (sym q) (subst (λ (z : List ℕ). All P (paths z b own)) (sym p) h))
+
+pub returns-in-Check-clause-served : goal.returns-in-Check-clause-served
+returns-in-Check-clause-served g c serves fault =
+    c.check.ensures.served
+    (same_paths (g.S.Shelf.serves c.args.shelf.now) (λ a b o. where_built c.in-Check.settings.mode o (all_paths a b o)) c.in-Check.a c.in-Check.b _ _ c.in-Check.assumed _ c.as_str.ensures c.as_str-in-Check.ensures c.path_of.ensures
+    (subst (λ (job : Task). All (g.S.Shelf.serves c.args.shelf.now) (paths_of job)) c.in-Check.is serves))
+    fault
