@@ -99,7 +99,7 @@ path_irreflexive p (inl h) = omega (arith, h)
 path_irreflexive p (inr h) = not_before_itself (reverse p) h.1
 
 -- no node stands twice
-nodes_apart : (children : List (ℕ × ℕ)) (vars : List ℕ) → ((i j m n : ℕ) → i < j → slice_get vars i ≡ Some m → slice_get vars j ≡ Some n → PathBefore (path_of children m) (path_of children n)) → (i j n : ℕ) → slice_get vars i ≡ Some n → slice_get vars j ≡ Some n → i ≡ j
+pub nodes_apart : (children : List (ℕ × ℕ)) (vars : List ℕ) → ((i j m n : ℕ) → i < j → slice_get vars i ≡ Some m → slice_get vars j ≡ Some n → PathBefore (path_of children m) (path_of children n)) → (i j n : ℕ) → slice_get vars i ≡ Some n → slice_get vars j ≡ Some n → i ≡ j
 nodes_apart children vars ordered i j n at_i at_j = go (order i j)
   where
     order : (a b : ℕ) → (a < b) ⊎ ((b < a) ⊎ (a ≡ b))

@@ -1,0 +1,9 @@
+pub mod Paths
+pub mod Tables
+pub mod Moved
+pub mod Variables
+pub mod Nodes
+pub mod Meaning
+pub mod Sums
+pub mod WithSides
+pub mod Together
