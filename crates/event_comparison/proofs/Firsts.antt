@@ -94,7 +94,7 @@ module _ (v : EventGraphView) (e : EventsView) (c : EventPairs) (conflicts : ℕ
         let own = own_query shown.obligation shown.query shown.at in
         let is : IsWitnessOf e.events k.query d.bits o.name shown.depth c.names.now x =
         subst (λ (q : Query). IsWitnessOf e.events q d.bits o.name shown.depth c.names.now x) own.1 (subst (λ (y : Obligation). IsWitnessOf e.events shown.query d.bits y.name shown.depth c.names.now x) own.0 shown.is) in
-        (is.pair_is ∙ k.name_is, sequence_is e.left e.right e.events c kept classes deep compared p o k d.query d.bits h.first.differs always shown.depth far x is)
+        (is.pair_is ∙ k.name_is, sequence_is e.left e.right e.events c kept classes deep compared p o k d.query d.bits h.first.differs d.pair h.pair_at always shown.depth far x is)
 
     frame : (x : UnshownFrame) → IsUnshownAt e.events asked d x → (x.pair ≡ p.name) × IsFrameOf e.left e.right p x
     frame x shown =

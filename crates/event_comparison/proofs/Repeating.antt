@@ -1,6 +1,6 @@
 -- What was unfolded before isn't refused when it is unfolded again.
-use Rattle.std.proofs.Common.{◌≡◌, ◌≢◌, ◌∙◌, ◌<◌, ◌≤◌, ◌+◌, ℕ, List, [], ◌∷◌, ◌++◌, length, Result, Ok, Err, refl, sym, subst, arith}
-use Rattle.std.specs.List.{Contains, sum_by}
+use Rattle.std.proofs.Common.{◌≡◌, ◌∙◌, ◌≤◌, ℕ, List, [], ◌∷◌, ◌++◌, length, Result, Ok, Err, refl, sym, subst, arith}
+use Rattle.std.specs.List.{sum_by}
 use Rattle.std.proofs.lemmas.List.Sums.{sum_by-cons}
 use Rattle.circuit_theory.specs.declared.Side.{Side}
 use Rattle.circuit_theory.specs.declared.Side.TheVariants.{A, B}
@@ -14,7 +14,7 @@ use Rattle.flat_net.proofs.Nets.{sound_is_net}
 use Rattle.class_queries.specs.Laws.{AreKept}
 use Rattle.event_nodes.specs.View.{EventCircuitView, side_of, Enabled}
 use Rattle.interface.specs.declared.pairs.SignalPair.{SignalPair}
-use Rattle.pair_events.specs.Counted.{both_starts, HaveCounted}
+use Rattle.pair_events.specs.Counted.{both_starts}
 use Rattle.pair_events.specs.View.{EventsView, IsWithinLimits, circuit_at, side_of_both}
 use Rattle.pair_events.specs.Within.{AreTotalsWithin, IsCountedOnce}
 use Rattle.pair_events.proofs.Within.{is_within}

@@ -1,6 +1,6 @@
 -- What differs can be shown once more of the event graph is there.
-use Rattle.std.proofs.Common.{◌≡◌, ◌∙◌, ◌<◌, ℕ, List, [], ◌∷◌, ◌++◌, length, get_or, slice_get, Some, Result, Err, sym, ap, subst, arith}
-use Rattle.std.specs.List.{All, Contains}
+use Rattle.std.proofs.Common.{◌≡◌, ◌∙◌, ◌<◌, ℕ, List, [], ◌∷◌, ◌++◌, length, get_or, slice_get, Some, Result, Err, sym, subst, arith}
+use Rattle.std.specs.List.{Contains}
 use Rattle.std.proofs.lemmas.List.Elements.{Contains-append_right}
 use Rattle.std.proofs.lemmas.Option.{same_Some, slice_get-get_or, slice_get_within}
 use Rattle.circuit_theory.proofs.Lists.{Contains-map, of_at, zip_length}
@@ -50,18 +50,18 @@ module _ (e : EventsView) (aparts : List Apart) (c : EventPairs) (asked : List O
   pub difference_within : d.pair < length c.pairs.now
   difference_within = pair_within e aparts c asked from d.pair differs.1.obligation differs.1.asked_at
 
-  module _ (p : SignalPair) (is : p ≡ get_or c.pairs.now d.pair p) where
-    pub pair_at : slice_get c.pairs.now d.pair ≡ Some p
-    pair_at = slice_get-get_or c.pairs.now d.pair p difference_within ∙ ap Some (sym is)
+  module _ (read : SignalPair) where
+    pub pair_at : slice_get c.pairs.now d.pair ≡ Some (get_or c.pairs.now d.pair read)
+    pair_at = slice_get-get_or c.pairs.now d.pair read difference_within
 
-    pub pair_there : Contains c.pairs.now p
-    pair_there = of_at c.pairs.now d.pair p pair_at
+    pub pair_there : Contains c.pairs.now (get_or c.pairs.now d.pair read)
+    pair_there = of_at c.pairs.now d.pair (get_or c.pairs.now d.pair read) pair_at
 
-    pub pair_is : IsPairOf e p
-    pair_is = All-at (IsPairOf e) c.pairs.now d.pair p pair_at from.pairs
+    pub pair_is : IsPairOf e (get_or c.pairs.now d.pair read)
+    pair_is = All-at (IsPairOf e) c.pairs.now d.pair (get_or c.pairs.now d.pair read) pair_at from.pairs
 
-    pub of_pair : (P : SignalPair → Type 0) → P p → OfPair c d P
-    of_pair P h q at = subst P (same_Some p q (sym pair_at ∙ at)) h
+    pub of_pair : (P : SignalPair → Type 0) → P (get_or c.pairs.now d.pair read) → OfPair c d P
+    of_pair P h q at = subst P (same_Some (get_or c.pairs.now d.pair read) q (sym pair_at ∙ at)) h
 
 -- what differs can be shown
 pub can_show : (e : EventsView) (aparts : List Apart) (c : EventPairs) (asked : List Obligation) → IsEventGraph e.events → AreAskedFrom e aparts c asked → (wanted : PairAnswer) (results : List PairResult) (d : Difference) → IsFirstOf e.events.graph asked wanted results d → IsShowable e.events asked d

@@ -1,15 +1,10 @@
 -- Each verdict is shown by what was made for it.
-use Rattle.std.proofs.Common.{◌≡◌, ◌<◌, List, length, get_or, slice_get, Some, Err, refl, sym, ap, subst}
+use Rattle.std.proofs.Common.{◌≡◌, ◌<◌, length, get_or, slice_get, Some, refl, sym, ap, subst}
 use Rattle.std.proofs.lemmas.Option.{slice_get-get_or}
-use Rattle.std.proofs.lemmas.Result.{err_from_is_err_and}
-use Rattle.event_nodes.proofs.Growing.{grows_refl}
 use Rattle.obligations.specs.declared.verdict.VerdictAt.{VerdictAt}
 use Rattle.outcome.specs.declared.verdict.PairResult.{PairResult}
 use Rattle.sec_base.specs.declared.basics.PairAnswer.TheVariants as answer
 use Rattle.witness_report.specs.declared.witness.PairName.{PairName}
-use Rattle.event_form.specs.Counted.{left_starts, right_starts}
-use Rattle.event_form.proofs.Asking.{later_refl}
-use Rattle.event_form.proofs.Refusing.{memory_refused, ok_refused}
 use Rattle.event_findings.specs.declared.verdict.EventVerdict.TheVariants as verdict
 use Rattle.event_comparison.specs.Asked.{IsFoundAt}
 use Rattle.event_comparison.specs.Shown.{IsShown}
@@ -20,9 +15,6 @@ pub witness_at-requires-clause-shown : goal.witness_at-requires-clause-shown
 witness_at-requires-clause-shown c =
     let e = c.args.events.now in
     can_show e c.args.aparts.now c.args.compared.now c.args.asked.now c.keeps.ensures.kept.events c.requires.from answer.Different c.args.results.now c.in-Different.difference (subst (IsFoundAt e.events c.args.asked.now c.args.results.now) c.in-Different.is c.requires.found)
-
-pub index-results-requires : goal.index-results-requires
-index-results-requires c = subst (IsFoundAt c.args.events.now.events c.args.asked.now c.args.results.now) c.in-Limit.is c.requires.found
 
 pub show_unshown-requires-clause-differs : goal.show_unshown-requires-clause-differs
 show_unshown-requires-clause-differs c = (c.args.results.now, subst (IsFoundAt c.args.events.now.events c.args.asked.now c.args.results.now) c.in-NotShown.is c.requires.found)
