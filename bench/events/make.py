@@ -5,7 +5,7 @@ For each pair NAME it writes NAME.a.blif and NAME.b.blif. Register files, pipeli
 with hold and filters with loadable coefficients come from Verilog by the flow of docs/GUIDE.md. The second circuit of a pair is the first
 one resynthesised by ABC (`resyn2`, or into LUTs), the same Verilog by another flow of Yosys (gates of two kinds alone), or other Verilog,
 whose registers hold values from before or behind a part of the gates; some have a fault as well, as NAME.fault.blif. What is written as it
-stands goes to FOLDER/sizes, each file to be compared with itself: latches with an enable each, or all with one. It needs `yosys` and
+stands goes to FOLDER/sizes, each file to be compared with itself: latches with an enable each, or all with one, and then with one data or an input each. It needs `yosys` and
 `berkeley-abc`.
 """
 import pathlib
@@ -79,14 +79,14 @@ def queue(words, bits, late=False, fault=False):
     return module(f"input push, pop, input [{top}:0] level, input [{last}:0] data, output reg [{last}:0] read", "\n".join(lines))
 
 
-def shifts(stages, bits, late=False, fault=False):
-    """A shift register that holds its word while `go` is 0 and is cleared by an input. Late: the bits are complemented on the way."""
-    last, inverted = bits - 1, "~" if late else ""
+def shifts(stages, bits, fault=False):
+    """A shift register that holds its word while `go` is 0 and is cleared by an input."""
+    last = bits - 1
     lines = [f"reg [{last}:0] " + ", ".join(f"s{i}" for i in range(stages)) + ";", "always @(posedge clk) if (clear) begin"]
-    lines += [f"  s{i} <= {inverted}{bits}'d0;" for i in range(stages)]
-    lines += ["end else if (go) begin", f"  s0 <= {inverted}x;"]
+    lines += [f"  s{i} <= {bits}'d0;" for i in range(stages)]
+    lines += ["end else if (go) begin", "  s0 <= x;"]
     lines += [f"  s{i} <= s{i - 1};" for i in range(1, stages)]
-    lines += ["end", f"assign y = {inverted}s{stages - (2 if fault else 1)} ^ {inverted}s0;"]
+    lines += ["end", f"assign y = s{stages - (2 if fault else 1)} ^ s0;"]
     return module(f"input go, clear, input [{last}:0] x, output [{last}:0] y", "\n".join(lines))
 
 
@@ -157,6 +157,9 @@ def sizes(folder):
     for count in (3_750, 7_500, 15_000):
         lines = held(["e", "x"], [("e", "x", f"q{i}") for i in range(count)])
         (folder / f"latches_{count}.blif").write_text("\n".join(lines) + "\n")
+    for count in (1_000, 2_000, 4_000, 15_000):
+        names = [f"d{i}" for i in range(count)]
+        (folder / f"words_{count}.blif").write_text("\n".join(held(["e", *names], [("e", d, f"q{i}") for i, d in enumerate(names)])) + "\n")
 
 
 def main():
@@ -166,16 +169,16 @@ def main():
     folder.mkdir(parents=True, exist_ok=True)
     for words, bits in ((8, 8), (16, 16), (32, 32), (64, 32)):
         pairs(folder, f"registers_{words:02}", registers(words, bits), None, registers(words, bits, fault=True))
-    for make, name, family in (
-        (stalled, "stalled", (4, 8, 16)),
-        (lambda n, **how: steps(n, 16, **how), "steps", (4, 8, 16)),
-        (lambda n, **how: queue(n, 32, **how), "queue", (8, 16, 32)),
-        (lambda n, **how: shifts(n, 32, **how), "shifts", (8, 32, 128)),
-        (lambda n, **how: filter_of(n, 4, **how), "filter", (4, 8, 16)),
+    for make, name, word, family in (
+        (stalled, "stalled", "early", (4, 8, 16)),
+        (lambda n, **how: steps(n, 16, **how), "steps", "early", (4, 8, 16)),
+        (lambda n, **how: queue(n, 32, **how), "queue", "late", (8, 16, 32)),
+        (lambda n, **how: shifts(n, 32, **how), "shifts", "", (8, 16, 32)),
+        (lambda n, **how: filter_of(n, 4, **how), "filter", "late", (4, 8, 16)),
     ):
         for size in family:
-            moved = {"early" if make is stalled or name == "steps" else "late": True}
-            pairs(folder, f"{name}_{size:02}", make(size), make(size, **moved), make(size, fault=True))
+            moved = make(size, **{word: True}) if word else None
+            pairs(folder, f"{name}_{size:02}", make(size), moved, make(size, fault=True))
     sizes(folder / "sizes")
 
 
