@@ -4,14 +4,13 @@ use Rattle.std.specs.Prelude.{IfSome, IsSomeAnd, Ok}
 use Rattle.circuit_theory.specs.declared.Mode.{Mode}
 use Rattle.circuit_theory.specs.declared.Mode.TheVariants.{Plain, Event}
 use Rattle.pair_decide.specs.declared.query.Proof.{Proof}
-use Rattle.flat_net.specs.View.{NetView}
 use Rattle.command_line.specs.declared.task.Task.{Task}
 use Rattle.command_line.specs.declared.task.Task.TheVariants as task
 use Rattle.outcome.specs.declared.verdict.Outcome.{Outcome}
 use Rattle.outcome.specs.declared.verdict.Verdict.{Verdict}
 use Rattle.outcome.specs.declared.verdict.Verdict.TheVariants as verdict
+use Rattle.sec_base.specs.declared.settings.Settings.{Settings}
 use Rattle.compare_base.specs.Compared.{ByReset, Compared}
-use Rattle.sec_files.specs.Loading.{Loads}
 use Rattle.job_base.specs.declared.finding.Finding.{Finding}
 use Rattle.job_base.specs.declared.finding.Finding.TheVariants as finding
 use Rattle.job_base.specs.declared.status.StatusName.{StatusName}
@@ -21,7 +20,7 @@ use Rattle.job_files.specs.Reading.{Held}
 use Rattle.check_meaning.specs.Answer.{CanAnswer, IsAnswer}
 use Rattle.check_texts.specs.Texts.{AreComparable}
 use Rattle.sec_run.specs.Answer.{EndsAs, IsFinding}
-use Rattle.check_found.specs.Found.{IsFoundOf, OfNets}
+use Rattle.check_found.specs.Found.{IsAnsweredBy, IsFoundOf, OfNets}
 use Rattle.job_base.specs.Written.{status_of, verdict_status}
 use Rattle.check_found.specs.Check.{Check, WhereBuilt}
 use Rattle.job_base.specs.Meaning.{EndsWith}
@@ -53,48 +52,60 @@ some_held {X} o P x e h = let Q : Option X → Type 0 = λ p. IsSomeAnd p P in s
 if_held : {X : Type 0} (o : Option X) (P : X → Type 0) (x : X) → o ≡ Some x → IfSome o P → P x
 if_held {X} o P x e h = let Q : Option X → Type 0 = λ p. IfSome p P in subst Q e h
 
--- so both texts are told, and can be compared
-can_answer : (held : Held) (check : Check) → CanMeetItself held check → CanAnswer held check
-can_answer held check h =
-    let x = is_held held check h in
-    some_held (held check.left) (λ left. IsSomeAnd (held check.right) (λ right. AreComparable left right check.settings.expose check.settings.reset)) x.text x.left_is
-    (some_held (held check.right) (λ right. AreComparable x.text right check.settings.expose check.settings.reset) x.text x.right_is x.comparable)
-
 from_always : {X : Type 0} (Y : Type 0) (reset : Bool) → reset ≡ false → ByReset reset X Y → X
 from_always Y false e h = h
 from_always Y true e h = absurd (cc)
 
-module _ (held : Held) (check : Check) (h : CanMeetItself held check) (always : check.settings.reset ≡ false) where
-  checked : (o : Outcome) → OfNets held check (λ a b. Compared a b check.settings (Ok o)) → o.verdict ≡ verdict.Equal
-  checked o found =
-      let x = is_held held check h in
-      let n = if_held (held check.right) (λ right. (a : NetView) × (b : NetView) × Loads x.text a × Loads right b × Compared a b check.settings (Ok o)) x.text x.right_is
-      (if_held (held check.left) (λ left. IfSome (held check.right) (λ right. (a : NetView) × (b : NetView) × Loads left a × Loads right b × Compared a b check.settings (Ok o))) x.text x.left_is found) in
-      one_text_is_equal x.text n.0 n.1 n.2 n.3 check.settings o (from_always _ check.settings.reset always n.4)
+-- a comparison without an assumption, in the plain mode, and over all power-ups
+module _ (held : Held) (a b : List ℕ) (settings : Settings) where
+  abbrev check : Check
+  check = record { left = a; right = b; settings = settings; assumed = None }
 
-  found_equal : (f : Finding) → IsFoundOf held check f → IsAnswer (status_of f) → IsEqualAnswer (status_of f)
-  found_equal finding.Words found is = absurd found
-  found_equal (finding.Refused r) found is = absurd is
-  found_equal (finding.Cyclic side names) found is = absurd is
-  found_equal (finding.Unpaired side names) found is = absurd is
-  found_equal (finding.Checked o s) found is = subst (λ (v : Verdict). IsEqualAnswer (verdict_status v)) (sym (checked o found.1)) tt
-  found_equal (finding.Done report) found is = absurd found
-  found_equal (finding.Generated o report) found is = absurd found
-  found_equal (finding.Replayed differences) found is = absurd found
-  found_equal (finding.Unrefuted u) found is = absurd found
-  found_equal (finding.Judged j kept text) found is = absurd found
-  found_equal (finding.Undecided side name proof) found is = absurd found
+  module _ (h : CanMeetItself held check) where
+    -- so both texts are told, and can be compared
+    can_answer : CanAnswer held check
+    can_answer =
+        let x = is_held held check h in
+        some_held (held a) (λ left. IsSomeAnd (held b) (λ right. AreComparable left right settings.expose settings.reset)) x.text x.left_is
+        (some_held (held b) (λ right. AreComparable x.text right settings.expose settings.reset) x.text x.right_is x.comparable)
 
--- what is found of a job
-check_equal : (held : Held) (check : Check) (f : Finding) (mode : Mode) (reset : Bool) → check.settings.reset ≡ reset → IsAlways mode reset (CanMeetItself held check) → WhereBuilt mode (IsFoundOf held check f) (f ≡ finding.Refused refusal.NotBuilt) →
-    IsAnswer (status_of f) → IsEqualAnswer (status_of f)
-check_equal held check f Plain false e can found is = found_equal held check can e f found is
-check_equal held check f Plain true e can found is = absurd can
-check_equal held check f Event reset e can found is = absurd can
+    checked : settings.reset ≡ false → (o : Outcome) → IsAnsweredBy held check (Ok o) → o.verdict ≡ verdict.Equal
+    checked always o found =
+        let x = is_held held check h in
+        let n = if_held (held b) (λ right. OfNets (λ m k. Compared m k settings (Ok o)) x.text right) x.text x.right_is
+        (if_held (held a) (λ left. IfSome (held b) (λ right. OfNets (λ m k. Compared m k settings (Ok o)) left right)) x.text x.left_is found) in
+        one_text_is_equal x.text n.0 n.1 n.2 n.3 settings o (from_always _ settings.reset always n.4)
+
+    found_equal : settings.reset ≡ false → (f : Finding) → IsFoundOf held check f → IsAnswer (status_of f) → IsEqualAnswer (status_of f)
+    found_equal always finding.Words found is = absurd found
+    found_equal always (finding.Refused r) found is = absurd is
+    found_equal always (finding.Cyclic side names) found is = absurd is
+    found_equal always (finding.Unpaired side names) found is = absurd is
+    found_equal always (finding.Checked o s) found is = subst (λ (v : Verdict). IsEqualAnswer (verdict_status v)) (sym (checked always o found.1)) tt
+    found_equal always (finding.Done report) found is = absurd found
+    found_equal always (finding.Generated o report) found is = absurd found
+    found_equal always (finding.Replayed differences) found is = absurd found
+    found_equal always (finding.Unrefuted u) found is = absurd found
+    found_equal always (finding.Judged j kept text) found is = absurd found
+    found_equal always (finding.Undecided side name proof) found is = absurd found
+
+  -- what is found of such a job
+  check_equal : (f : Finding) (mode : Mode) (reset : Bool) → settings.reset ≡ reset → IsAlways mode reset (CanMeetItself held check) → WhereBuilt mode (IsFoundOf held check f) (f ≡ finding.Refused refusal.NotBuilt) →
+      IsAnswer (status_of f) → IsEqualAnswer (status_of f)
+  check_equal f Plain false always can found is = found_equal can always f found is
+  check_equal f Plain true always can found is = absurd can
+  check_equal f Event reset always can found is = absurd can
+
+  -- a job over one text is one that is answered
+  check_answered : (name : StatusName) (mode : Mode) (reset : Bool) → IsAlways mode reset (CanMeetItself held check) → WhereBuilt mode (CanAnswer held check → IsAnswer name) (EndsWith status.Refused name) → IsAnswer name
+  check_answered name Plain false can complete = complete (can_answer can)
+  check_answered name Plain true can complete = absurd can
+  check_answered name Event reset can complete = absurd can
 
 job_equal : (held : Held) (job : Option Task) (f : Finding) → OfCheck job (CanMeetItself held) → IsFinding held job f → IsAnswer (status_of f) → IsEqualAnswer (status_of f)
 job_equal held None f can found is = absurd can
-job_equal held (Some (task.Check a b settings None)) f can found is = check_equal held (record { left = a; right = b; settings = settings; assumed = None }) f settings.mode settings.reset refl can found is
+job_equal held (Some (task.Check a b settings None)) f can found is = check_equal held a b settings f settings.mode settings.reset refl can found is
+job_equal held (Some (task.Check a b settings (Some path))) f can found is = absurd can
 job_equal held (Some (task.Graph a mode)) f can found is = absurd can
 job_equal held (Some (task.Sim a s mode power reset)) f can found is = absurd can
 job_equal held (Some (task.Replay a b s mode)) f can found is = absurd can
@@ -103,16 +114,10 @@ job_equal held (Some (task.Lrat a b)) f can found is = absurd can
 job_equal held (Some (task.Cert a b pair form conflicts)) f can found is = absurd can
 job_equal held (Some (task.Induct a b conflicts)) f can found is = absurd can
 
--- a job over one text is one that is answered
-check_answered : (held : Held) (check : Check) (name : StatusName) (mode : Mode) (reset : Bool) → IsAlways mode reset (CanMeetItself held check) →
-    WhereBuilt mode (CanAnswer held check → IsAnswer name) (EndsWith status.Refused name) → IsAnswer name
-check_answered held check name Plain false can complete = complete (can_answer held check can)
-check_answered held check name Plain true can complete = absurd can
-check_answered held check name Event reset can complete = absurd can
-
 pub is_answered : (held : Held) (job : Option Task) (name : StatusName) → OfCheck job (CanMeetItself held) → IsComplete held job name → IsAnswer name
 is_answered held None name can complete = absurd can
-is_answered held (Some (task.Check a b settings None)) name can complete = check_answered held (record { left = a; right = b; settings = settings; assumed = None }) name settings.mode settings.reset can complete
+is_answered held (Some (task.Check a b settings None)) name can complete = check_answered held a b settings name settings.mode settings.reset can complete
+is_answered held (Some (task.Check a b settings (Some path))) name can complete = absurd can
 is_answered held (Some (task.Graph a mode)) name can complete = absurd can
 is_answered held (Some (task.Sim a s mode power reset)) name can complete = absurd can
 is_answered held (Some (task.Replay a b s mode)) name can complete = absurd can
