@@ -10,6 +10,8 @@ SECONDS = 60
 COMMANDS = {
     "check": ("check", "x", "x"),
     "check --expose": ("check", "x", "x", "--expose"),
+    "check --mode event": ("check", "x", "x", "--mode", "event"),
+    "check --mode event --expose": ("check", "x", "x", "--mode", "event", "--expose"),
     "graph": ("graph", "x"),
     "graph --mode event": ("graph", "x", "--mode", "event"),
     "sim": ("sim", "x", "s"),
@@ -19,9 +21,13 @@ COMMANDS = {
     "induct": ("induct", "x", "x"),
 }
 PLAIN, EVENT = {0, 4, 8}, {0, 3, 4, 8}
-STATUSES = {name: EVENT if name.endswith("event") else PLAIN for name in COMMANDS} | {"check": {0, 4, 8, 9}, "induct": {0, 2, 3, 4, 8}}
+STATUSES = {name: EVENT if "event" in name else PLAIN for name in COMMANDS} | {
+    "check": {0, 4, 8, 9},
+    "check --mode event": {0, 3, 4, 8, 9},
+    "induct": {0, 2, 3, 4, 8},
+}
 # What reading and flattening don't refuse.
-LATER = (b"refused A TooLarge", b"refused S", b"refused Power")
+LATER = (b"refused A TooLarge", b"refused TooManyEvents", b"refused S", b"refused Power")
 
 Text = collections.namedtuple("Text", "circuit stimulus power")
 Ended = collections.namedtuple("Ended", "status report seconds")
@@ -96,7 +102,7 @@ def fault_of(command, ended):
     if not report.endswith(b"\n"):
         return "a report that isn't ended"
     last = last_line(report)
-    if command == "induct" and status in (2, 3):
+    if command.split()[0] in ("check", "induct") and status in (2, 3):
         verdict = b"\nverdict not-shown " if status == 2 else b"\nverdict limit "
         return None if report.startswith(b"inputs ") and verdict in report else f"status {status}: {last[:80]!r}"
     if status in (3, 4, 9):
@@ -125,7 +131,12 @@ def faults_of(ends):
         yield "all", "the commands refuse the circuit otherwise"
     if True in refused:
         return
-    check, graph = ends["check"], ends["graph"]
+    for mode in ("", " --mode event"):
+        yield from cycle_faults(ends[f"check{mode}"], ends[f"graph{mode}"])
+
+
+def cycle_faults(check, graph):
+    """What is wrong where a circuit is compared with itself and its latch graph is told, both in one mode."""
     if check.status == 9 and last_line(graph.report).removeprefix(b"cycle ") != check.report.removeprefix(b"cyclic A "):
         yield "graph", "not the cycle that check names"
     if check.status == 0 and last_line(graph.report) != b"acyclic\n":
