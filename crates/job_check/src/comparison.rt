@@ -1,6 +1,6 @@
 //! The job that compares two circuits, also under an assumption on their inputs.
 
-ghost use Rattle.std.specs.Prelude.{◌≡◌, ◌≤◌, true, false, [], option_map, Some, IsErrOf};
+ghost use Rattle.std.specs.Prelude.{◌≡◌, ◌≤◌, ℕ, List, true, false, [], option_map, Some, IsErrOf};
 ghost use Rattle.std.specs.List.{All};
 ghost use Rattle.circuit_theory.specs.declared.Mode.TheVariants.{Plain};
 ghost use Rattle.sec_base.specs.Outside.{SameHeld, NoneFell};
@@ -42,6 +42,7 @@ pub fn check<S: Shelf>(
     ensures keeps { SameHeld (S.held shelf.old) (S.held shelf.new) }
     ensures later { NoneFell (S.faults shelf.old) (S.faults shelf.new) }
     ensures served { All (S.serves shelf.old) (where_built comparison.now.settings.mode (option_map (λ path. path.now) comparison.now.assumed) (all_paths comparison.now.left.now comparison.now.right.now (option_map (λ path. path.now) comparison.now.assumed))) → IsErrOf result Stop.ReadFault → ⊥ }
+    ensures serving { (other : List ℕ) → S.serves shelf.old other → S.serves shelf.new other }
     ensures idle { where_built comparison.now.settings.mode (option_map (λ path. path.now) comparison.now.assumed) (all_paths comparison.now.left.now comparison.now.right.now (option_map (λ path. path.now) comparison.now.assumed)) ≡ [] → shelf.new ≡ shelf.old }
 {
     match comparison.assumed {
@@ -68,6 +69,7 @@ fn compare_files<S: Shelf>(
     ensures keeps { SameHeld (S.held shelf.old) (S.held shelf.new) }
     ensures later { NoneFell (S.faults shelf.old) (S.faults shelf.new) }
     ensures served { S.serves shelf.old comparison.now.left.now → S.serves shelf.old comparison.now.right.now → All (S.serves shelf.old) (assumed_paths (option_map (λ path. path.now) comparison.now.assumed)) → IsErrOf result Stop.ReadFault → ⊥ }
+    ensures serving { (other : List ℕ) → S.serves shelf.old other → S.serves shelf.new other }
 {
     match load(alloc, shelf, comparison.left) {
         Ok(a) => compare_with(alloc, &a, comparison, shelf),
@@ -91,6 +93,7 @@ fn compare_with<S: Shelf>(
     ensures keeps { SameHeld (S.held shelf.old) (S.held shelf.new) }
     ensures later { NoneFell (S.faults shelf.old) (S.faults shelf.new) }
     ensures served { S.serves shelf.old comparison.now.right.now → All (S.serves shelf.old) (assumed_paths (option_map (λ path. path.now) comparison.now.assumed)) → IsErrOf result Stop.ReadFault → ⊥ }
+    ensures serving { (other : List ℕ) → S.serves shelf.old other → S.serves shelf.new other }
 {
     match load(alloc, shelf, comparison.right) {
         Ok(b) => match comparison.assumed {
@@ -122,6 +125,7 @@ fn compare_assuming<S: Shelf>(
     ensures keeps { SameHeld (S.held shelf.old) (S.held shelf.new) }
     ensures later { NoneFell (S.faults shelf.old) (S.faults shelf.new) }
     ensures served { S.serves shelf.old path.now → IsErrOf result Stop.ReadFault → ⊥ }
+    ensures serving { (other : List ℕ) → S.serves shelf.old other → S.serves shelf.new other }
 {
     match load(alloc, shelf, path) {
         Ok(c) => {

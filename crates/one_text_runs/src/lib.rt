@@ -1,13 +1,21 @@
-//! A run that compares a text with itself.
+//! What follows from the contract of a run: of one that compares a text with itself, and of a second one over the same shelf.
 #![tactic(auto)]
 
-ghost use Rattle.std.specs.Prelude.{◌≢◌, map, string_bytes};
+ghost use Rattle.std.specs.Prelude.{◌≢◌, IfOk, map, string_bytes};
+ghost use Rattle.std.specs.List.{All};
 ghost use Rattle.command_line.specs.Jobs.{job_of};
 ghost use Rattle.check_texts.specs.Texts.{AreComparable};
+ghost use Rattle.job_base.specs.declared.finding.Finding.{Finding};
+ghost use Rattle.job_base.specs.Lines.{finding_text};
+ghost use Rattle.sec_run.specs.Job.{paths_in};
+ghost use Rattle.sec_run.specs.Answer.{IsFinding};
+ghost use Rattle.sec_run.specs.Promises.{IsComplete};
 ghost use Rattle.one_text_runs.specs.OneTextRuns.{OfCheck, OfOneText, IsEqualAnswer};
 
-use sec_base::{Shelf, Sink};
-use sec_run::{Status, StatusName, run};
+use circuit_theory::Mode;
+use command_line::Task;
+use sec_base::{FilePath, MemShelf, NoMemory, Seq, Shelf, Sink};
+use sec_run::{Status, StatusName, run, run_job};
 use std::alloc::Global;
 
 /// Does the job of the words, as `run` does. What its contract adds follows from that of `run`: a text that can be compared with
@@ -22,4 +30,41 @@ pub fn run_on_one_text<S: Shelf, W: Sink>(
         → result.name ≢ StatusName.ReadFault → result.name ≢ StatusName.WriteFault → IsEqualAnswer result.name }
 {
     run(alloc, words, shelf, out)
+}
+
+/// Does the job of the words twice over one shelf, each time with a sink of its own, and ends as the second run does. What its
+/// contract says follows from that of `run`: what can be done is done the second time too, and no read fails where the shelf
+/// served the job's paths before the first run.
+pub fn run_again<S: Shelf, W: Sink>(
+    alloc: Global,
+    words: &[String],
+    shelf: &mut S,
+    out: &mut W,
+    again: &mut W,
+) -> Status
+    ensures complete { result.name ≢ StatusName.ReadFault → result.name ≢ StatusName.WriteFault → IsComplete (S.held shelf.old) (job_of (map (λ w. string_bytes w) words.now)) result.name }
+    ensures served { All (S.serves shelf.old) (paths_in (job_of (map (λ w. string_bytes w) words.now))) → result.name ≢ StatusName.ReadFault }
+    ensures accepted { ((f : Finding) → IsFinding (S.held shelf.old) (job_of (map (λ w. string_bytes w) words.now)) f → W.accepts again.old (finding_text f)) → result.name ≢ StatusName.WriteFault }
+{
+    run(alloc, words, shelf, out);
+    run(alloc, words, shelf, again)
+}
+
+/// Tells the latch graph of a text twice, from a shelf in memory that isn't told to fail: the second run reads it too.
+pub fn tell_again<W: Sink>(
+    alloc: Global,
+    text: &[u8],
+    out: &mut W,
+    again: &mut W,
+) -> Result<Status, NoMemory>
+    ensures { IfOk result (λ status. status.name ≢ StatusName.ReadFault) }
+{
+    let task = Task::Graph {
+        a: FilePath::from_str(alloc, "a")?,
+        mode: Mode::Plain,
+    };
+    let mut shelf = MemShelf::new(alloc, Seq::new(alloc));
+    shelf.put(alloc, "a", text)?;
+    run_job(alloc, &task, &mut shelf, out);
+    Ok(run_job(alloc, &task, &mut shelf, again))
 }

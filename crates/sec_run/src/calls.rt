@@ -1,6 +1,6 @@
 //! The top call.
 
-ghost use Rattle.std.specs.Prelude.{◌≡◌, ◌≢◌, ◌≤◌, [], Ok, IsErrOf, map, string_bytes, option_map, Some};
+ghost use Rattle.std.specs.Prelude.{◌≡◌, ◌≢◌, ◌≤◌, [], ℕ, List, Ok, IsErrOf, map, string_bytes, option_map, Some};
 ghost use Rattle.std.specs.List.{All};
 ghost use Rattle.sec_base.specs.Outside.{Rose, SameHeld, NoneFell};
 ghost use Rattle.command_line.specs.Jobs.{job_of};
@@ -31,6 +31,7 @@ fn find<S: Shelf>(alloc: Global, task: &Task, shelf: &mut S) -> Result<Finding, 
     ensures keeps { SameHeld (S.held shelf.old) (S.held shelf.new) }
     ensures later { NoneFell (S.faults shelf.old) (S.faults shelf.new) }
     ensures served { All (S.serves shelf.old) (paths_of task.now) → IsErrOf result Stop.ReadFault → ⊥ }
+    ensures serving { (other : List ℕ) → S.serves shelf.old other → S.serves shelf.new other }
     ensures idle { paths_of task.now ≡ [] → shelf.new ≡ shelf.old }
 {
     match task {
@@ -159,8 +160,8 @@ pub fn run_job<S: Shelf, W: Sink>(alloc: Global, task: &Task, shelf: &mut S, out
     ensures complete { result.name ≢ StatusName.ReadFault → result.name ≢ StatusName.WriteFault → IsComplete (S.held shelf.old) (Some task.now) result.name }
     ensures served { All (S.serves shelf.old) (paths_of task.now) → result.name ≢ StatusName.ReadFault }
     ensures accepted { ((f : Finding) → IsFinding (S.held shelf.old) (Some task.now) f → W.accepts out.old (finding_text f)) → result.name ≢ StatusName.WriteFault }
-    // Nothing that is held changes, and no count of faults falls.
-    ensures keeps { SameHeld (S.held shelf.old) (S.held shelf.new) }
+    // Nothing that is held changes, what is served stays so, and no count of faults falls.
+    ensures keeps { SameHeld (S.held shelf.old) (S.held shelf.new) × ((other : List ℕ) → S.serves shelf.old other → S.serves shelf.new other) }
     ensures later { NoneFell (S.faults shelf.old) (S.faults shelf.new) × (W.faults out.old ≤ W.faults out.new) }
     ensures idle { paths_of task.now ≡ [] → shelf.new ≡ shelf.old }
 {
@@ -183,8 +184,8 @@ pub fn run<S: Shelf, W: Sink>(alloc: Global, words: &[String], shelf: &mut S, ou
     ensures complete { result.name ≢ StatusName.ReadFault → result.name ≢ StatusName.WriteFault → IsComplete (S.held shelf.old) (job_of (map (λ w. string_bytes w) words.now)) result.name }
     ensures served { All (S.serves shelf.old) (paths_in (job_of (map (λ w. string_bytes w) words.now))) → result.name ≢ StatusName.ReadFault }
     ensures accepted { ((f : Finding) → IsFinding (S.held shelf.old) (job_of (map (λ w. string_bytes w) words.now)) f → W.accepts out.old (finding_text f)) → result.name ≢ StatusName.WriteFault }
-    // Nothing that is held changes, and no count of faults falls.
-    ensures keeps { SameHeld (S.held shelf.old) (S.held shelf.new) }
+    // Nothing that is held changes, what is served stays so, and no count of faults falls.
+    ensures keeps { SameHeld (S.held shelf.old) (S.held shelf.new) × ((other : List ℕ) → S.serves shelf.old other → S.serves shelf.new other) }
     ensures later { NoneFell (S.faults shelf.old) (S.faults shelf.new) × (W.faults out.old ≤ W.faults out.new) }
     ensures idle { paths_in (job_of (map (λ w. string_bytes w) words.now)) ≡ [] → shelf.new ≡ shelf.old }
 {
