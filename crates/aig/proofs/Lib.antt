@@ -9,3 +9,4 @@ pub mod Bits
 pub mod ConeWalks
 pub mod Parts
 pub mod Placing
+pub use Rattle.sec_base.proofs.TableLemmas

@@ -8,3 +8,5 @@ pub mod Finishing
 pub mod Sections
 pub mod Faultless
 pub mod Answered
+pub use Rattle.aiger_graph.proofs.NoLoops
+pub use Rattle.aiger_graph.proofs.ReadLiterals

@@ -2,3 +2,5 @@ pub mod Made
 pub mod Nets
 pub mod SignalNames
 pub mod Signals
+pub use Rattle.aiger_graph.specs.Circuit
+pub use Rattle.aiger_graph.specs.Loops

@@ -6,8 +6,7 @@ ghost use Rattle.aiger_records.specs.Faults.{IsSmall};
 
 use crate::header::{Form, Header};
 use crate::record::{Record, Section, listed};
-use aiger_text::{Cut, cut_at, numbers_behind, packed};
-use sec_base::NoMemory;
+use aiger_text::{Cut, NoMemory, cut_at, numbers_behind, packed};
 use std::alloc::Global;
 
 /// The most bytes of a difference.

@@ -5,8 +5,7 @@ ghost use Rattle.std.specs.List.{list_all};
 ghost use Rattle.aiger_records.specs.Headers.{form_of, counts_fit, header_of, numbered_header, header_fault, most};
 
 use crate::error::AigerKind;
-use aiger_text::{FirstWord, first_word, numbers_behind};
-use sec_base::NoMemory;
+use aiger_text::{FirstWord, NoMemory, first_word, numbers_behind};
 use std::alloc::Global;
 
 /// The greatest variable, and the most outputs.

@@ -8,3 +8,4 @@ mod groups;
 pub use cuts::{Cut, FirstWord, cut_at, first_word, place_of};
 pub use decimals::{number_of, numbers_behind};
 pub use groups::{PackedNumber, packed};
+pub use sec_base::{NoMemory, Seq};

@@ -2,3 +2,5 @@ pub mod Outside
 pub mod Fetch
 pub mod MemShelf
 pub mod MemSink
+pub use Rattle.base_lists.specs.declared.list.NoMemory
+pub use Rattle.base_lists.specs.Cover

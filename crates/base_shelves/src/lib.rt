@@ -7,6 +7,10 @@ mod shelves;
 mod sinks;
 mod whole_file;
 
+pub use base_lists::{
+    BitRows, Bits, Cubes, Duplicate, FileText, Ids, Mode, NoMemory, Seq, Side, Text, Word, Words,
+    unset_bits,
+};
 pub use mem_shelf::{HeldFile, MemShelf};
 pub use mem_sink::MemSink;
 pub use shelves::{FileShelf, Shelf, ShelfError};

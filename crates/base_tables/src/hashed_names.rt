@@ -5,7 +5,7 @@ ghost use Rattle.base_tables.specs.Table.{is_among, AreDistinct};
 
 use crate::name_search::{filled, free_place, name_hash, number_of};
 use crate::sorted_names::put_last;
-use base_lists::{NoMemory, Seq, Word};
+use unique_table::{NoMemory, Seq, Word};
 use std::alloc::Global;
 use std::marker::Model;
 

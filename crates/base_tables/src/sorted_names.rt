@@ -3,7 +3,7 @@
 ghost use Rattle.std.specs.Prelude.{◌≡◌, ◌+◌, ◌^◌, ◌<◌, ℕ, false, List, [], ◌∷◌, ◌++◌, length, map, slice_get, is_some, vec_len, vec_capacity, Some, IfSome, OnOk, OnErr};
 ghost use Rattle.base_tables.specs.Table.{is_among};
 
-use base_lists::{NoMemory, Seq, Word};
+use unique_table::{NoMemory, Seq, Word};
 use std::alloc::Global;
 use std::collections::BTreeMap;
 use std::marker::Model;

@@ -6,3 +6,4 @@ pub mod Counted
 pub mod Pairs
 pub mod Telling
 pub mod Refused
+pub use Rattle.pair_events.proofs.Unions

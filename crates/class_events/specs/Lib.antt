@@ -6,3 +6,4 @@ pub use Rattle.event_classes.specs.Named
 pub mod Made
 pub mod Separated
 pub mod Laws
+pub use Rattle.pair_events.specs.Functions

@@ -2,3 +2,5 @@
 #![tactic(auto)]
 
 pub mod laws;
+
+pub use class_joining::{EnableTable, latches_in_order};

@@ -11,7 +11,7 @@ use Rattle.circuit_laws.proofs.JoinedParts.{left_part, right_part, replace_left,
 use Rattle.event_theory.specs.Frame.{EventSide, ConeLatches, ConeOthers, ReachedAt, IsEnable}
 use Rattle.event_theory.specs.Classes.{EnableCare}
 use Rattle.event_theory.specs.EventFits.{side_by_side}
-use Rattle.event_laws.proofs.SideTrees.{sides_unfold_in_nets}
+use Rattle.edbf_unfold.proofs.SideTrees.{sides_unfold_in_nets}
 
 module _ {P R : Type 0} (c : Circuit P) (j : Circuit R) (f : P → R) (replace : (R → Bool) → (P → Bool) → R → Bool) (part : IsPart c j f replace) (some : R → Bool) (meets : Meets j some) (order orders : List ℕ) (class : R → ℕ) where
   abbrev own : EventSide P

@@ -7,14 +7,14 @@ use Rattle.circuit_theory.proofs.Lists.{length-map}
 use Rattle.circuit_laws.proofs.JoinedParts.{joined_single, joined_number_once}
 use Rattle.event_theory.specs.Frame.{EventSide}
 use Rattle.event_theory.specs.Classes.{EnableCare, EnableAtRoot, EnablesEqual, EnablesDiffer, SometimesOff}
-use Rattle.event_laws.specs.ClassSteps.{HaveTwinEnables}
-use Rattle.event_laws.proofs.EventTrees.{one_enable}
+use Rattle.edbf_unfold.specs.ClassSteps.{HaveTwinEnables}
+use Rattle.edbf_unfold.proofs.EventTrees.{one_enable}
 use Rattle.flat_net.specs.View.{circuit_of, named}
 use Rattle.flat_net.proofs.Nets.{sound_is_net}
 use Rattle.aig.specs.Values.{value}
 use Rattle.aig.proofs.CoverMeaning.{value-and, value-one}
-use Rattle.event_nodes.specs.Nodes.{EventGraphView}
-use Rattle.event_nodes.specs.View.{EventCircuitView, IsEventCircuit}
+use Rattle.edbf_unfold.specs.Nodes.{EventGraphView}
+use Rattle.edbf_unfold.specs.View.{EventCircuitView, IsEventCircuit}
 use Rattle.edbf_unfold.proofs.CareMeaning.{care_value}
 use Rattle.edbf_unfold.proofs.EventLiterals.{enable_value}
 use Rattle.class_queries.specs.Enables.{both_of, class_map, IsEnableFunction, AsksEnables, IsSame, Distinguishes}

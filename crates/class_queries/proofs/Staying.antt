@@ -9,14 +9,14 @@ use Rattle.circuit_theory.specs.Run.{IsEnabled}
 use Rattle.circuit_theory.proofs.Lists.{Contains-head, only}
 use Rattle.circuit_laws.proofs.JoinedParts.{joined_same, joined_single}
 use Rattle.event_theory.specs.EventTotals.{IsMapSoFar}
-use Rattle.event_laws.proofs.ClassSteps.{pairs_ahead}
-use Rattle.event_laws.proofs.OneClassMap.{side, rank_of, Agrees, Before, enable_to, enable_care, place_of, depth_of}
+use Rattle.edbf_unfold.proofs.ClassSteps.{pairs_ahead}
+use Rattle.edbf_unfold.proofs.OneClassMap.{side, rank_of, Agrees, Before, enable_to, enable_care, place_of, depth_of}
 use Rattle.flat_net.proofs.Growth.{slice_get-append}
 use Rattle.aig.proofs.Growth.{Grows-length}
 use Rattle.aig.proofs.Meaning.{value-grows}
 use Rattle.event_theory.specs.Classes.{EnableCare, EnableAtRoot}
-use Rattle.event_nodes.specs.Nodes.{EventGraphView, named_places}
-use Rattle.event_nodes.proofs.Paths.{named_grows}
+use Rattle.edbf_unfold.specs.Nodes.{EventGraphView, named_places}
+use Rattle.edbf_unfold.proofs.Paths.{named_grows}
 use Rattle.edbf_unfold.specs.Laws.{TakesFrame}
 use Rattle.class_queries.specs.Enables.{IsEnableFunction}
 use Rattle.class_queries.specs.Laws.{FunctionsStay, FunctionsGrow}

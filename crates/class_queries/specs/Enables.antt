@@ -7,8 +7,8 @@ use Rattle.event_theory.specs.EventFits.{side_by_side}
 use Rattle.flat_net.specs.View.{circuit_of}
 use Rattle.aig.specs.Rules.{IsAndOf}
 use Rattle.aig.specs.Values.{value}
-use Rattle.event_nodes.specs.Nodes.{EventGraphView}
-use Rattle.event_nodes.specs.View.{EventCircuitView, class_at}
+use Rattle.edbf_unfold.specs.Nodes.{EventGraphView}
+use Rattle.edbf_unfold.specs.View.{EventCircuitView, class_at}
 use Rattle.edbf_unfold.specs.Laws.{TakesFrame}
 
 -- the class of a latch of either circuit

@@ -9,11 +9,11 @@ use Rattle.event_theory.specs.Frame.{EventSide}
 use Rattle.event_theory.specs.Classes.{EnablesEqual, EnablesDiffer, AlwaysEnabled, SometimesOff}
 use Rattle.event_theory.specs.EventFits.{side_by_side}
 use Rattle.event_theory.specs.EventTotals.{IsMapSoFar}
-use Rattle.event_laws.specs.ClassSteps.{HaveTwinEnables}
+use Rattle.edbf_unfold.specs.ClassSteps.{HaveTwinEnables}
 use Rattle.flat_net.specs.declared.parts.LatchAt.{LatchAt}
 use Rattle.flat_net.specs.Sound.{IsSound}
-use Rattle.event_nodes.specs.Nodes.{EventGraphView, IsEventGraph, GrowsEvents}
-use Rattle.event_nodes.specs.View.{EventCircuitView, IsEventCircuit, Enabled}
+use Rattle.edbf_unfold.specs.Nodes.{EventGraphView, IsEventGraph, GrowsEvents}
+use Rattle.edbf_unfold.specs.View.{EventCircuitView, IsEventCircuit, Enabled}
 use Rattle.edbf_unfold.specs.Care.{IsCareLit}
 use Rattle.edbf_unfold.specs.Known.{IsEnableLit}
 use Rattle.edbf_unfold.specs.Walk.{enable_start}

@@ -6,7 +6,7 @@ use Rattle.std.proofs.lemmas.List.Elements.{All-weaker}
 use Rattle.std.proofs.lemmas.Option.{slice_get_within}
 use Rattle.flat_net.proofs.CutNets.{slice_get-append_cases}
 use Rattle.flat_net.proofs.Places.{one_at, All-at}
-use Rattle.pair_decide.specs.declared.query.Decision.TheVariants as decision
+use Rattle.enable_compare.specs.Decision.TheVariants as decision
 use Rattle.event_nodes.specs.Nodes.{EventGraphView, IsEventGraph, GrowsEvents}
 use Rattle.event_nodes.proofs.Growing.{grows_refl, grows_trans}
 use Rattle.enable_compare.specs.declared.compare.Enable.{Enable}

@@ -1,7 +1,7 @@
 -- Where an enable finds its class.
 use Rattle.std.specs.Prelude.{◌≡◌, ℕ, List, length, slice_get, Option, Some, None, All}
-use Rattle.pair_decide.specs.declared.query.Decision.TheVariants as answer
-use Rattle.pair_decide.specs.declared.query.SameBy.{SameBy}
+use Rattle.enable_compare.specs.Decision.TheVariants as answer
+use Rattle.enable_compare.specs.SameBy.{SameBy}
 use Rattle.event_nodes.specs.Nodes.{EventGraphView}
 use Rattle.enable_compare.specs.declared.compare.Enable.{Enable}
 use Rattle.enable_compare.specs.Comparing.{IsReadyEnable, IsAlwaysComparison}

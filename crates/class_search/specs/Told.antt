@@ -1,7 +1,7 @@
 -- What tells an enable from those of a class's members.
 use Rattle.std.specs.Prelude.{◌≡◌, ℕ, ◌<◌, List, slice_get, Some, All}
-use Rattle.pair_decide.specs.declared.query.SameBy.{SameBy}
-use Rattle.pair_decide.specs.declared.query.Decision.TheVariants as answer
+use Rattle.enable_compare.specs.SameBy.{SameBy}
+use Rattle.enable_compare.specs.Decision.TheVariants as answer
 use Rattle.event_nodes.specs.Nodes.{EventGraphView, IsEventGraph, GrowsEvents}
 use Rattle.enable_compare.specs.declared.compare.Enable.{Enable}
 use Rattle.enable_compare.specs.declared.compare.Compared.{Compared}

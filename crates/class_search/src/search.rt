@@ -9,9 +9,8 @@ ghost use Rattle.class_search.specs.Search.{AreReadyClasses, IsFit, IsUnfit, IsF
 
 use crate::class::Class;
 use crate::told::{AlwaysAnswer, Answer, Difference, Told, ask_always, ask_members};
-use enable_compare::Enable;
+use enable_compare::{Enable, Proof};
 use event_nodes::EventGraph;
-use pair_decide::Proof;
 use sec_base::{MAX_CONFLICTS, NoMemory};
 use std::alloc::{AllocError, AllocFailed, Global};
 

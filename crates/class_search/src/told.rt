@@ -2,15 +2,14 @@
 
 ghost use Rattle.std.specs.Prelude.{◌≡◌, ◌≢◌, ◌^◌, ◌<◌, ◌≤◌, ◌+◌, length, All, IfOk};
 ghost use Rattle.event_nodes.specs.Nodes.{GrowsEvents, IsEventGraph};
-ghost use Rattle.pair_decide.specs.declared.query.Decision.TheVariants as answer;
-ghost use Rattle.pair_decide.specs.declared.query.SameBy.{SameBy};
+ghost use Rattle.enable_compare.specs.Decision.TheVariants as answer;
+ghost use Rattle.enable_compare.specs.SameBy.{SameBy};
 ghost use Rattle.enable_compare.specs.declared.compare.Enable.{Enable};
 ghost use Rattle.enable_compare.specs.Comparing.{IsReadyEnable};
 ghost use Rattle.class_search.specs.Told.{IsAnswer, IsAnswerOf, IsAlwaysAnswer, IsAlwaysAnswerOf};
 
-use enable_compare::{Compared, Enable, Unlike, compare_always, first_unlike};
+use enable_compare::{Compared, Decision, Enable, Proof, Unlike, compare_always, first_unlike};
 use event_nodes::EventGraph;
-use pair_decide::{Decision, Proof};
 use sec_base::{Bits, Ids, MAX_CONFLICTS, NoMemory};
 use std::alloc::Global;
 

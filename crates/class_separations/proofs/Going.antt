@@ -22,7 +22,7 @@ use Rattle.pair_decide.specs.Queries.{assigned_to}
 use Rattle.event_nodes.specs.Nodes.{EventGraphView, IsEventGraph, GrowsEvents}
 use Rattle.event_nodes.specs.View.{EventCircuitView}
 use Rattle.event_variables.specs.Variables.{variables_of}
-use Rattle.enable_compare.specs.declared.compare.Enable.{Enable}
+use Rattle.class_search.specs.Enable.{Enable}
 use Rattle.class_queries.specs.Enables.{both_of, class_map}
 use Rattle.class_search.specs.declared.class.Class.{Class}
 use Rattle.class_search.specs.declared.told.Difference.{Difference}

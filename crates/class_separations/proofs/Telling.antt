@@ -16,8 +16,8 @@ use Rattle.pair_decide.specs.Queries.{assigned_to}
 use Rattle.event_nodes.specs.Nodes.{EventGraphView, IsEventGraph}
 use Rattle.event_nodes.specs.View.{EventCircuitView}
 use Rattle.event_variables.specs.Variables.{variable_of, variables_of}
-use Rattle.enable_compare.specs.declared.compare.Enable.{Enable}
-use Rattle.enable_compare.specs.Comparing.{IsComparison, IsAlwaysComparison}
+use Rattle.class_search.specs.Enable.{Enable}
+use Rattle.class_search.specs.Comparing.{IsComparison, IsAlwaysComparison}
 use Rattle.class_queries.specs.Enables.{both_of, IsEnableFunction}
 use Rattle.class_queries.specs.Laws.{AreKept}
 use Rattle.class_search.specs.declared.told.Difference.{Difference}

@@ -8,7 +8,7 @@ use Rattle.event_nodes.specs.Nodes.{EventGraphView}
 use Rattle.event_variables.specs.Variables.{variables_of}
 use Rattle.aig.specs.Values.{value}
 use Rattle.pair_decide.specs.Queries.{assigned_to}
-use Rattle.enable_compare.specs.declared.compare.Enable.{Enable}
+use Rattle.class_search.specs.Enable.{Enable}
 use Rattle.class_queries.specs.Enables.{both_of}
 use Rattle.event_nodes.specs.View.{EventCircuitView}
 use Rattle.event_theory.specs.EventFrames.{AreNodeVariables, IsClassTree}

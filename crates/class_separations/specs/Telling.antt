@@ -6,7 +6,7 @@ use Rattle.lane_eval.specs.Tables.{Covers}
 use Rattle.sec_base.specs.declared.basics.Tag.{Tag}
 use Rattle.pair_decide.specs.Queries.{assigned_to}
 use Rattle.event_nodes.specs.Nodes.{EventGraphView}
-use Rattle.enable_compare.specs.declared.compare.Enable.{Enable}
+use Rattle.class_search.specs.Enable.{Enable}
 use Rattle.class_search.specs.declared.class.Class.{Class}
 use Rattle.class_search.specs.declared.told.Difference.{Difference}
 use Rattle.class_search.specs.declared.told.Told.{Told}

@@ -3,8 +3,7 @@
 ghost use Rattle.std.specs.Prelude.{◌≡◌, ◌+◌, ◌<◌, ◌^◌, [], ◌∷◌, ◌++◌, length, slice_get, Some, IfOk, OnOk, OnErr};
 ghost use Rattle.proof_check.specs.Clauses.{IsClause};
 
-use proof_check::Literal;
-use sec_base::NoMemory;
+use proof_check::{Literal, NoMemory};
 use std::alloc::Global;
 use std::marker::Model;
 

@@ -10,8 +10,7 @@ use crate::places::Placed;
 use crate::propagation::{Watches, force};
 use crate::trail::Trail;
 use crate::watched_clauses::WatchedClauses;
-use proof_check::{Clause, Clauses, Literal};
-use sec_base::NoMemory;
+use proof_check::{Clause, Clauses, Literal, NoMemory};
 use std::alloc::Global;
 
 impl Watches {

@@ -11,8 +11,7 @@ use crate::pair::{Visit, next_watch, other_of};
 use crate::trail::Trail;
 use crate::watched_clauses::WatchedClauses;
 use crate::watchers::Watcher;
-use proof_check::Literal;
-use sec_base::NoMemory;
+use proof_check::{Literal, NoMemory};
 
 /// The clauses with what they watch, and how many entries of the trail are propagated.
 #[derive(Drop)]

@@ -10,8 +10,7 @@ ghost use Rattle.clause_watch.specs.TwoWatches.{IsWatch, AreOwn, IsNamed, KeepsW
 use crate::clause_db::ClauseDb;
 use crate::pair::Pair;
 use crate::watchers::{Watcher, Watchers};
-use proof_check::{Clauses, Literal};
-use sec_base::NoMemory;
+use proof_check::{Clauses, Literal, NoMemory};
 use std::alloc::Global;
 use std::marker::Model;
 

@@ -2,7 +2,7 @@
 use Rattle.std.proofs.Common.{◌≡◌, ℕ, suc, ◌+◌, inl, inr, List, [], ◌∷◌, ◌++◌, length, take, slice_get, Some, Result, Ok, Err, OnOk, refl, sym, ◌∙◌, ap, subst, arith, append_assoc}
 use Rattle.std.proofs.lemmas.List.{length-take-le}
 use Rattle.std.proofs.lemmas.Option.{slice_get_within}
-use Rattle.sec_base.proofs.TableLemmas.{take-push}
+use Rattle.aig.proofs.TableLemmas.{take-push}
 use Rattle.proof_check.specs.Literals.{Literal, negation}
 use Rattle.proof_check.specs.Clauses.{IsClauseOf, IsTautology}
 use Rattle.aig.specs.declared.node.Lit.{Lit}

@@ -5,9 +5,8 @@ ghost use Rattle.aig.specs.Graph.{IsAbove, IsOrdered};
 ghost use Rattle.cnf_encode.specs.Encoding.{literal_of, node_clauses, and_clauses, part_clauses, query_clauses, Adds, IsEncoding, MeansDifference, IsSmall};
 
 use crate::cnf::Cnf;
-use aig::{Aig, Lit, Node, cones_of};
+use aig::{Aig, Lit, NoMemory, Node, Seq, cones_of};
 use proof_check::{Clause, ClauseError, Clauses, Literal, Literals};
-use sec_base::{NoMemory, Seq};
 use std::alloc::Global;
 
 /// The clauses of the query whether `l` and `r` differ where `care` holds. The nodes of the cones of the three literals are

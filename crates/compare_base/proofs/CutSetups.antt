@@ -2,14 +2,14 @@
 use Rattle.std.proofs.Common.{false, ◌≡◌, ℕ, List, sym, subst, Err}
 use Rattle.circuit_theory.specs.declared.Side.TheVariants.{A, B}
 use Rattle.flat_net.specs.View.{NetView, circuit_of}
-use Rattle.cut_points.specs.declared.exposed.Exposure.{Exposure}
+use Rattle.sec_setup.specs.Exposure.{Exposure}
 use Rattle.sec_base.specs.declared.settings.Settings.{Settings}
 use Rattle.sec_setup.specs.declared.setup.Setup.{Setup}
 use Rattle.sec_setup.specs.Choosing.{IsChosen}
 use Rattle.sec_setup.specs.Cuts.{IsChoice, StandInOrder}
 use Rattle.sec_setup.specs.Matching.{InterfacesMatch}
 use Rattle.sec_setup.specs.Setup.{IsSetupOf}
-use Rattle.outcome_fits.specs.Fitting.{IsLight, IsTooLarge}
+use Rattle.plain_meaning.specs.Fitting.{IsLight, IsTooLarge}
 use Rattle.plain_meaning.proofs.CutSizes.{cut_over, cut_light}
 use Rattle.compare_base.specs.declared.error.CompareError.TheVariants as refused
 use Rattle.compare_base.specs.Compared.{AreTooLarge, Compared}

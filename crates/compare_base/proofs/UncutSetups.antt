@@ -29,7 +29,7 @@ use Rattle.sec_setup.specs.Pairs.{NamedPair, named_pairs, places_of}
 use Rattle.sec_setup.specs.Setup.{IsSetupOf}
 use Rattle.reset_functions.specs.declared.bases.Bases.{Bases}
 use Rattle.reset_functions.specs.Bases.{AreBases}
-use Rattle.outcome_fits.specs.ResetOutcome.{Numbered}
+use Rattle.plain_meaning.specs.ResetOutcome.{Numbered}
 use Rattle.reset_functions.specs.Pairs.{IsLeftSide, IsRightSide, IsLight, IsTooLarge}
 use Rattle.compare_base.specs.FromReset.{IsLeftStart, IsRightStart, IsLeftLight, IsRightLight, AreTooLargeFromReset, numbered_by}
 

@@ -13,8 +13,8 @@ use Rattle.outcome.specs.declared.verdict.Why.TheVariants as why
 use Rattle.outcome.specs.declared.verdict.Outcome.{Outcome}
 use Rattle.outcome.specs.declared.verdict.ResetWitness.{ResetWitness}
 use Rattle.reset_laws.specs.Reset.{AgreeFromReset}
-use Rattle.cut_points.specs.Common.{common_names}
-use Rattle.cut_points.specs.Exposed.{IsFreeWithout, IsToldCycle}
+use Rattle.sec_setup.specs.Common.{common_names}
+use Rattle.sec_setup.specs.Exposed.{IsFreeWithout, IsToldCycle}
 use Rattle.sec_setup.specs.declared.error.SetupError.{SetupError}
 use Rattle.sec_setup.specs.declared.error.SetupError.TheVariants as unset
 use Rattle.sec_setup.specs.Cuts.{IsChoice, StandInOrder}
@@ -22,7 +22,7 @@ use Rattle.sec_setup.specs.Cycles.{IsAcyclic, AreBroken}
 use Rattle.sec_setup.specs.Matching.{InterfacesMatch}
 use Rattle.compare_base.specs.declared.error.CompareError.{CompareError}
 use Rattle.compare_base.specs.declared.error.CompareError.TheVariants as refused
-use Rattle.outcome_fits.specs.Fitting.{IsLight, IsCutOver, IsCutLight, OutcomeFits}
+use Rattle.plain_meaning.specs.Fitting.{IsLight, IsCutOver, IsCutLight, OutcomeFits}
 use Rattle.compare_base.specs.FromReset.{IsLeftLight, IsRightLight, AreTooLargeFromReset, ResetOutcomeFits}
 use Rattle.compare_base.specs.Says.{SaysEqual, SaysDifferent, SaysNotShown, MakesResetsDiffer}
 

@@ -15,7 +15,7 @@ use Rattle.outcome.specs.declared.verdict.Verdict.{Verdict}
 use Rattle.outcome.specs.declared.verdict.Verdict.TheVariants as verdict
 use Rattle.reset_laws.specs.Reset.{AreBased}
 use Rattle.sec_setup.specs.Pairs.{NamedPair, named_pairs}
-use Rattle.outcome_fits.specs.ResetOutcome.{Numbered, PairFits, IsFirstDifference, IsFirstLimit, greatest_size}
+use Rattle.plain_meaning.specs.ResetOutcome.{Numbered, PairFits, IsFirstDifference, IsFirstLimit, greatest_size}
 use Rattle.reset_functions.specs.Pairs.{IsLight, IsTooLarge}
 
 -- an output of A in a cycle up to the depth of its pair

@@ -1,12 +1,12 @@
 pub use Rattle.reset_functions.specs.declared.error.ResetError
-pub use Rattle.outcome_fits.specs.Limits
-pub use Rattle.outcome_fits.specs.Outcome
-pub use Rattle.outcome_fits.specs.ResetOutcome
-pub use Rattle.outcome_fits.specs.ResetLimits
+pub use Rattle.plain_meaning.specs.Limits
+pub use Rattle.plain_meaning.specs.Outcome
+pub use Rattle.plain_meaning.specs.ResetOutcome
+pub use Rattle.plain_meaning.specs.ResetLimits
 pub use Rattle.sec_setup.specs.Cuts
 pub use Rattle.sec_setup.specs.Matching
 pub use Rattle.sec_setup.specs.declared.error.SetupError
-pub use Rattle.outcome_fits.specs.Fitting
+pub use Rattle.plain_meaning.specs.Fitting
 pub mod Compared
 pub mod FromReset
 pub mod Says

@@ -15,9 +15,9 @@ use Rattle.sec_setup.specs.Matching.{InterfacesMatch}
 use Rattle.sec_setup.specs.Pairs.{NamedPair, named_pairs}
 use Rattle.sec_setup.specs.Setup.{IsSetupOf}
 use Rattle.outcome_fits.specs.ResetOutcome.{Numbered}
-use Rattle.reset_asked.specs.declared.findings.ResetFindings.{ResetFindings}
-use Rattle.reset_asked.specs.declared.findings.ResetVerdict.{ResetVerdict}
-use Rattle.reset_asked.specs.declared.findings.ResetVerdict.TheVariants as found_verdict
+use Rattle.reset_asked_under.specs.ResetFindings.{ResetFindings}
+use Rattle.reset_asked_under.specs.ResetVerdict.{ResetVerdict}
+use Rattle.reset_asked_under.specs.ResetVerdict.TheVariants as found_verdict
 use Rattle.assume_laws.specs.Assume.{Assumption}
 use Rattle.assume_shape.specs.declared.shape.ShapeFault.TheVariants as fault
 use Rattle.assume_sequences.specs.Filled.{bit_of}

@@ -2,8 +2,8 @@
 use Rattle.outcome.specs.declared.verdict.LimitAt.TheVariants as limit_at
 use Rattle.outcome.specs.declared.verdict.Verdict.{Verdict}
 use Rattle.outcome.specs.declared.verdict.Verdict.TheVariants as verdict
-use Rattle.reset_asked.specs.declared.findings.ResetVerdict.{ResetVerdict}
-use Rattle.reset_asked.specs.declared.findings.ResetVerdict.TheVariants as found
+use Rattle.reset_asked_under.specs.ResetVerdict.{ResetVerdict}
+use Rattle.reset_asked_under.specs.ResetVerdict.TheVariants as found
 
 abbrev pub verdict_of : ResetVerdict → Verdict
 verdict_of found.Equal = verdict.Equal

@@ -11,7 +11,7 @@ use crate::circuits::Circuits;
 use flat_net::Net;
 use outcome::{LimitAt, Outcome, PairResults, Proof, Verdict};
 use plain_asked::Findings;
-use reset_asked::ResetVerdict;
+use reset_asked_under::ResetVerdict;
 use sec_base::{NoMemory, Word, Words};
 use sec_setup::Setup;
 use std::alloc::Global;

@@ -12,10 +12,10 @@ use Rattle.flat_net.specs.View.{NetView, circuit_of}
 use Rattle.flat_net.specs.Sound.{IsSound}
 use Rattle.flat_net.specs.Cut.{no_latch, latch_at, exposed_names}
 use Rattle.flat_net.proofs.Places.{one_at}
-use Rattle.signal_graph.specs.Graph.{GraphView, IsGraphOf, IsGraphIn}
-use Rattle.latch_graph.proofs.Skipping.{cycle_in_graph}
+use Rattle.expose_pick.specs.Graph.{GraphView, IsGraphOf, IsGraphIn}
+use Rattle.expose_pick.proofs.Skipping.{cycle_in_graph}
 use Rattle.expose_pick.specs.declared.pairs.LatchPair.{LatchPair}
-use Rattle.minimal_cut.specs.Chosen.{IsFree, IsMinimalChoice, at_places, names_at}
+use Rattle.expose_pick.specs.Chosen.{IsFree, IsMinimalChoice, at_places, names_at}
 use Rattle.expose_pick.specs.Pairs.{lefts, rights}
 use Rattle.expose_pick.specs.Laws.{ChosenIsMinimalCut}
 use Rattle.expose_pick.specs.Laws as laws

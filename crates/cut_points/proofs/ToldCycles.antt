@@ -12,9 +12,9 @@ use Rattle.flat_net.specs.declared.parts.LatchAt.{LatchAt}
 use Rattle.flat_net.specs.View.{NetView, circuit_of}
 use Rattle.flat_net.specs.Cut.{no_latch, latch_at, exposed_names}
 use Rattle.flat_net.proofs.Nets.{latch_stands}
-use Rattle.signal_graph.specs.Graph.{GraphView, IsGraphIn, signals_at}
-use Rattle.latch_graph.proofs.Skipping.{mode_cycle}
-use Rattle.minimal_cut.specs.Chosen.{names_at}
+use Rattle.expose_pick.specs.Graph.{GraphView, IsGraphIn, signals_at}
+use Rattle.expose_pick.proofs.Skipping.{mode_cycle}
+use Rattle.expose_pick.specs.Chosen.{names_at}
 use Rattle.expose_pick.specs.Pairs.{IsLeft}
 use Rattle.cut_points.specs.Common.{common_names}
 use Rattle.cut_points.specs.Exposed.{Exposes, IsFreeWithout, IsToldCycle, TellsCycle}

@@ -5,4 +5,5 @@
 mod common_latches;
 mod exposed;
 
+pub use expose_pick::LatchGraph;
 pub use exposed::{ExposeError, Exposure, expose};

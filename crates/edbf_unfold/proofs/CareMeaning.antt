@@ -8,13 +8,13 @@ use Rattle.circuit_theory.proofs.Numbers.{one_number}
 use Rattle.event_theory.specs.Frame.{IsEnable, ConeLatches, ConeOthers, ReachedAt, HasCare}
 use Rattle.event_theory.specs.EventSizes.{Start}
 use Rattle.event_laws.proofs.EventTrees.{one_enable}
-use Rattle.flat_net.specs.Sound.{IsSound}
-use Rattle.flat_net.specs.View.{circuit_of}
-use Rattle.flat_net.proofs.Nets.{sound_is_net}
-use Rattle.aig.specs.declared.node.Node.{Node}
-use Rattle.aig.specs.Graph.{IsGraph}
-use Rattle.aig.specs.Values.{value}
-use Rattle.aig.proofs.CoverMeaning.{value-and, value-one}
+use Rattle.event_literals.specs.Sound.{IsSound}
+use Rattle.event_literals.specs.View.{circuit_of}
+use Rattle.event_literals.proofs.Nets.{sound_is_net}
+use Rattle.event_nodes.specs.Node.{Node}
+use Rattle.event_nodes.specs.Graph.{IsGraph}
+use Rattle.event_nodes.specs.Values.{value}
+use Rattle.event_nodes.proofs.CoverMeaning.{value-and, value-one}
 use Rattle.event_nodes.specs.Nodes.{EventGraphView, IsEventGraph}
 use Rattle.event_nodes.specs.View.{EventCircuitView, IsEventCircuit, side_of, Enabled}
 use Rattle.event_nodes.specs.Reach.{IsBegun}

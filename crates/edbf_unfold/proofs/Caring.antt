@@ -8,13 +8,13 @@ use Rattle.std.proofs.lemmas.Option.{slice_get_within, get_or_from_slice_get}
 use Rattle.circuit_theory.specs.Circuit.{IsLatch}
 use Rattle.circuit_theory.proofs.Lists.{Contains-head, Contains-tail, Contains-cases}
 use Rattle.event_theory.specs.Frame.{NotPut}
-use Rattle.flat_net.specs.declared.parts.LatchAt.{LatchAt}
-use Rattle.flat_net.specs.View.{circuit_of}
-use Rattle.flat_net.proofs.Places.{one_at}
-use Rattle.aig.specs.declared.node.Lit.{Lit}
-use Rattle.aig.specs.Graph.{flip}
-use Rattle.aig.specs.Rules.{IsAndOf}
-use Rattle.aig.proofs.Growth.{Grows-length, IsAndOf-grows}
+use Rattle.event_literals.specs.LatchAt.{LatchAt}
+use Rattle.event_literals.specs.View.{circuit_of}
+use Rattle.event_literals.proofs.Places.{one_at}
+use Rattle.event_nodes.specs.Lit.{Lit}
+use Rattle.event_nodes.specs.Graph.{flip}
+use Rattle.event_nodes.specs.Rules.{IsAndOf}
+use Rattle.event_nodes.proofs.Growth.{Grows-length, IsAndOf-grows}
 use Rattle.event_nodes.specs.Nodes.{EventGraphView, IsEventGraph, GrowsEvents, IsChild, path_of}
 use Rattle.event_nodes.specs.View.{EventCircuitView, side_of, Enabled}
 use Rattle.event_nodes.proofs.Paths.{child_path}

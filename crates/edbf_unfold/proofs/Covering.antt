@@ -8,11 +8,11 @@ use Rattle.circuit_theory.proofs.Lists.{Contains-cases, at_of, of_at}
 use Rattle.event_theory.specs.Frame.{NotPut, IsNode, ReachedAt, ConeLatches}
 use Rattle.event_theory.specs.EventSizes.{Start, IsOther, EventVisits}
 use Rattle.event_theory.specs.EventTotals.{StartLatches}
-use Rattle.sec_base.specs.Table.{AreDistinct}
-use Rattle.flat_net.specs.Sound.{IsSound}
-use Rattle.flat_net.specs.View.{circuit_of}
-use Rattle.flat_net.proofs.Nets.{some_at}
-use Rattle.flat_net.proofs.Places.{one_at, All-at}
+use Rattle.event_nodes.specs.Table.{AreDistinct}
+use Rattle.event_literals.specs.Sound.{IsSound}
+use Rattle.event_literals.specs.View.{circuit_of}
+use Rattle.event_literals.proofs.Nets.{some_at}
+use Rattle.event_literals.proofs.Places.{one_at, All-at}
 use Rattle.event_nodes.specs.Nodes.{EventGraphView, IsTree, IsChild, path_of}
 use Rattle.event_nodes.specs.Reach.{IsBegun}
 use Rattle.event_nodes.specs.View.{IsEventCircuit, side_of, Enabled}

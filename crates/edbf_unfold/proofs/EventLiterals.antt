@@ -4,15 +4,15 @@ use Rattle.std.specs.Prelude.{◌||◌, ◌&&◌, not}
 use Rattle.circuit_theory.specs.Tree.{Tree, tree_value}
 use Rattle.circuit_theory.proofs.Lists.{map_at}
 use Rattle.event_theory.specs.Frame.{IsEnable}
-use Rattle.sec_base.specs.Table.{AreDistinct}
-use Rattle.flat_net.proofs.Places.{All-at}
-use Rattle.aig.specs.Builds.{Builds}
-use Rattle.aig.specs.Graph.{flip}
-use Rattle.aig.specs.Values.{value}
-use Rattle.aig.specs.Rules.{IsAndOf}
-use Rattle.aig.proofs.Growth.{Builds-one, IsAndOf-one}
-use Rattle.aig.proofs.Meaning.{value-flip}
-use Rattle.aig.proofs.CoverMeaning.{value-and, value-tree}
+use Rattle.event_nodes.specs.Table.{AreDistinct}
+use Rattle.event_literals.proofs.Places.{All-at}
+use Rattle.event_nodes.specs.Builds.{Builds}
+use Rattle.event_nodes.specs.Graph.{flip}
+use Rattle.event_nodes.specs.Values.{value}
+use Rattle.event_nodes.specs.Rules.{IsAndOf}
+use Rattle.event_nodes.proofs.Growth.{Builds-one, IsAndOf-one}
+use Rattle.event_nodes.proofs.Meaning.{value-flip}
+use Rattle.event_nodes.proofs.CoverMeaning.{value-and, value-tree}
 use Rattle.event_nodes.specs.Nodes.{path_of, EventGraphView, named_places, IsEventGraph}
 use Rattle.edbf_unfold.specs.Laws.{EqualEventTreesOneLiteral, EqualEnablesOneLiteral, LiteralIsTree, EnableLiteralIsEnable, KnownLater}
 use Rattle.event_nodes.proofs.OnePath.{one_node}

@@ -3,10 +3,10 @@ use Rattle.std.proofs.lemmas.Option.{slice_get_within}
 use Rattle.std.proofs.Common.{◌≡◌, ◌∙◌, ◌+◌, ◌<◌, ◌≤◌, ℕ, Bool, true, false, List, [], length, slice_get, Some, None, refl, sym, subst, arith}
 use Rattle.event_theory.specs.EventSizes.{Start}
 use Rattle.event_theory.specs.Frame.{NotPut}
-use Rattle.flat_net.specs.Sound.{IsSound}
-use Rattle.flat_net.proofs.Nets.{some_at}
-use Rattle.flat_net.proofs.Places.{one_at}
-use Rattle.aig.specs.declared.node.Lit.{Lit}
+use Rattle.event_literals.specs.Sound.{IsSound}
+use Rattle.event_literals.proofs.Nets.{some_at}
+use Rattle.event_literals.proofs.Places.{one_at}
+use Rattle.event_nodes.specs.Lit.{Lit}
 use Rattle.event_nodes.specs.Nodes.{EventGraphView, IsEventGraph, GrowsEvents}
 use Rattle.event_nodes.specs.View.{EventCircuitView, IsEventCircuit, side_of}
 use Rattle.event_nodes.specs.Visited.{CounterView, HoldsVisits, HoldsNodes}

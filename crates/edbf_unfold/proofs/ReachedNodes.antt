@@ -8,7 +8,7 @@ use Rattle.std.proofs.lemmas.List.Kept.{Contains-dedup_nat, Contains-from_dedup}
 use Rattle.std.proofs.lemmas.List.Sorted.{IsPermutation-sym, Contains-permutation}
 use Rattle.std.proofs.lemmas.Option.{slice_get_within}
 use Rattle.circuit_theory.proofs.Lists.{Contains-head, Contains-cases}
-use Rattle.flat_net.proofs.Places.{one_at}
+use Rattle.event_literals.proofs.Places.{one_at}
 use Rattle.event_nodes.specs.View.{EventCircuitView}
 use Rattle.event_walk.specs.declared.frames.Frame.{Frame}
 use Rattle.event_walk.specs.declared.frames.Ways.{Ways}

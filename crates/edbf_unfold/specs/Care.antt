@@ -3,12 +3,12 @@
 use Rattle.std.specs.Prelude.{◌≡◌, ◌⊎◌, ℕ, ◌*◌, ◌<◌, List, [], ◌∷◌, length, slice_get, Some, Contains}
 use Rattle.event_theory.specs.Frame.{NotPut, ReachedAt}
 use Rattle.event_theory.specs.EventSizes.{Start}
-use Rattle.flat_net.specs.declared.parts.LatchAt.{LatchAt}
-use Rattle.flat_net.specs.View.{circuit_of}
-use Rattle.aig.specs.declared.node.Node.{Node}
-use Rattle.aig.specs.declared.node.Lit.{Lit}
-use Rattle.aig.specs.Graph.{flip}
-use Rattle.aig.specs.Rules.{IsAndOf}
+use Rattle.event_literals.specs.LatchAt.{LatchAt}
+use Rattle.event_literals.specs.View.{circuit_of}
+use Rattle.event_nodes.specs.Node.{Node}
+use Rattle.event_nodes.specs.Lit.{Lit}
+use Rattle.event_nodes.specs.Graph.{flip}
+use Rattle.event_nodes.specs.Rules.{IsAndOf}
 use Rattle.event_nodes.specs.Nodes.{EventGraphView, path_of}
 use Rattle.event_nodes.specs.Reach.{IsBegun}
 use Rattle.event_nodes.specs.View.{EventCircuitView, side_of, Enabled}

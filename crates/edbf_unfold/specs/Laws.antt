@@ -3,10 +3,10 @@ use Rattle.std.specs.Prelude.{◌≡◌, ◌↔◌, ℕ, Bool, true, List, Optio
 use Rattle.circuit_theory.specs.Tree.{tree_value}
 use Rattle.event_theory.specs.Frame.{IsEnable, ConeLatches, HasCare}
 use Rattle.event_theory.specs.Classes.{EnableCare}
-use Rattle.flat_net.specs.declared.parts.LatchAt.{LatchAt}
-use Rattle.flat_net.specs.Sound.{IsSound}
-use Rattle.flat_net.specs.View.{circuit_of}
-use Rattle.aig.specs.Values.{value}
+use Rattle.event_literals.specs.LatchAt.{LatchAt}
+use Rattle.event_literals.specs.Sound.{IsSound}
+use Rattle.event_literals.specs.View.{circuit_of}
+use Rattle.event_nodes.specs.Values.{value}
 use Rattle.event_nodes.specs.Nodes.{EventGraphView, IsEventGraph, GrowsEvents, named_places}
 use Rattle.event_nodes.specs.View.{EventCircuitView, IsEventCircuit, side_of, Enabled}
 use Rattle.event_literals.specs.Known.{IsKnownAt, IsEnableLit}

@@ -4,7 +4,7 @@ use Rattle.circuit_theory.specs.Circuit.{IsLatch}
 use Rattle.event_theory.specs.Frame.{NotPut, IsNode, ReachedAt}
 use Rattle.event_theory.specs.EventSizes.{Start}
 use Rattle.event_theory.specs.EventTotals.{StartLatches}
-use Rattle.flat_net.specs.View.{circuit_of}
+use Rattle.event_literals.specs.View.{circuit_of}
 use Rattle.event_nodes.specs.Nodes.{path_of}
 use Rattle.event_nodes.specs.View.{EventCircuitView, side_of, Enabled}
 use Rattle.event_walk.specs.declared.frames.Frame.{Frame}

@@ -7,3 +7,4 @@ mod fitting;
 
 pub use compare::{Compared, Enable, compare_always, compare_enables};
 pub use fitting::{Unlike, first_unlike};
+pub use pair_decide::{Decision, Proof};

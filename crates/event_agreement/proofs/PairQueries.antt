@@ -22,7 +22,7 @@ use Rattle.aig.proofs.Growth.{IsAndOf-grows, Grows-length}
 use Rattle.event_nodes.specs.Nodes.{EventGraphView, IsEventGraph}
 use Rattle.event_variables.specs.Variables.{variable_of, variables_of, GoesBefore, AreInOrder, IsMergeOf}
 use Rattle.event_inputs.specs.Laws.{IsSignalTree}
-use Rattle.event_functions.specs.declared.signals.SignalFunction.{SignalFunction}
+use Rattle.event_pairs.specs.SignalFunction.{SignalFunction}
 use Rattle.edbf_unfold.specs.Laws.{TakesFrame}
 use Rattle.enable_compare.specs.declared.compare.Enable.{Enable}
 use Rattle.enable_compare.specs.Comparing.{IsReadyEnable}

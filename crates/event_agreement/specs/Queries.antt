@@ -4,7 +4,7 @@ use Rattle.event_theory.specs.Frame.{EventSide}
 use Rattle.aig.specs.Rules.{IsAndOf}
 use Rattle.event_nodes.specs.Nodes.{EventGraphView}
 use Rattle.event_variables.specs.Variables.{IsMergeOf}
-use Rattle.event_functions.specs.declared.signals.SignalFunction.{SignalFunction}
+use Rattle.event_pairs.specs.SignalFunction.{SignalFunction}
 use Rattle.event_pairs.specs.Functions.{IsEventFunction}
 use Rattle.pair_decide.specs.declared.query.Query.{Query}
 

@@ -30,14 +30,14 @@ use Rattle.event_setup.specs.Setup.{IsEventSetupOf, IsPairWithin}
 use Rattle.event_setup.proofs.Setups.{pairs_within}
 use Rattle.event_setup_laws.specs.Laws.{HaveClassesGiven}
 use Rattle.event_setup_laws.proofs.Comparing.{setups_compared}
-use Rattle.cut_events.specs.Asked.{IsPairOf}
+use Rattle.event_names.specs.Asked.{IsPairOf}
 use Rattle.pair_events.specs.View.{EventsView}
-use Rattle.cut_events.specs.Circuits.{AreNets, AreReached}
+use Rattle.event_names.specs.Circuits.{AreNets, AreReached}
 use Rattle.compare_base.specs.declared.error.CompareError.{CompareError}
 use Rattle.event_names.specs.Compared.{IsComparedInEvents}
 use Rattle.event_names.specs.Fitting.{class_limit, EventOutcomeFits, HasCounts}
 use Rattle.event_names.specs.Named.{latch_names, NamesVerdict}
-use Rattle.event_totals.specs.Totals.{IsWithinWith}
+use Rattle.event_names.specs.Totals.{IsWithinWith}
 use Rattle.event_meaning.proofs.Saying.{cut_outcomes, different_outcomes, equal_outcomes}
 use Rattle.event_meaning.proofs.Framing.{unshown_outcomes}
 use Rattle.event_names.specs.declared.names.Names.{Names}

@@ -7,19 +7,19 @@ use Rattle.interface.specs.declared.pairs.SignalPair.{SignalPair}
 use Rattle.interface.specs.Pairs.{ArePairsOf}
 use Rattle.class_events.specs.Made.{AreEnablesCounted}
 use Rattle.class_queries.specs.Laws.{AreKept}
-use Rattle.cut_events.specs.Asked.{IsPairOf}
-use Rattle.cut_events.specs.EventFormError.{EventFormError}
-use Rattle.cut_events.specs.EventFormError.TheVariants as form_error
+use Rattle.event_names.specs.Asked.{IsPairOf}
+use Rattle.event_names.specs.EventFormError.{EventFormError}
+use Rattle.event_names.specs.EventFormError.TheVariants as form_error
 use Rattle.event_nodes.specs.View.{EventCircuitView}
 use Rattle.pair_events.specs.View.{EventsView, IsEvents}
 use Rattle.pair_events.specs.Within.{IsCountedOnce}
-use Rattle.event_findings.specs.Compared.{AreCompared}
-use Rattle.event_findings.specs.Findings.{FindingsFit}
-use Rattle.event_findings.specs.declared.findings.EventFindings.{EventFindings}
-use Rattle.event_findings.specs.declared.pairs.EventPairs.{EventPairs}
+use Rattle.event_setup_laws.specs.Compared.{AreCompared}
+use Rattle.event_setup_laws.specs.Findings.{FindingsFit}
+use Rattle.event_setup_laws.specs.EventFindings.{EventFindings}
+use Rattle.event_setup_laws.specs.EventPairs.{EventPairs}
 use Rattle.event_setup_laws.specs.Counted.{AreRefused, ArePairsCounted}
-use Rattle.event_totals.specs.Totals.{IsWithinWith, PairsReachTooMany, PairsWeighTooMuch}
-use Rattle.event_totals.proofs.Counting.{count_is, map_made, pairs_within, refused_large, refused_many}
+use Rattle.event_names.specs.Totals.{IsWithinWith, PairsReachTooMany, PairsWeighTooMuch}
+use Rattle.event_names.proofs.Counting.{count_is, map_made, pairs_within, refused_large, refused_many}
 use Rattle.event_names.specs.declared.names.Names.{Names}
 use Rattle.event_names.specs.Nameable.{CanBeNamed}
 use Rattle.event_names.proofs.Naming.{verdict_named}

@@ -20,7 +20,7 @@ use Rattle.pair_events.specs.View.{EventsView}
 use Rattle.compare_base.specs.declared.error.CompareError.{CompareError}
 use Rattle.compare_base.specs.declared.error.CompareError.TheVariants as refused
 use Rattle.compare_base.specs.Compared.{refusal_of}
-use Rattle.cut_events.specs.Circuits.{AreReached}
+use Rattle.event_names.specs.Circuits.{AreReached}
 use Rattle.event_names.specs.Compared.{ComparedInEvents}
 use Rattle.event_names.specs.Named.{latch_names}
 use Rattle.event_names.specs.declared.names.Names.{Names}

@@ -1,2 +1,3 @@
 pub mod Found
 pub mod Pairs
+pub use Rattle.event_names.specs.Compared

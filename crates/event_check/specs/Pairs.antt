@@ -2,21 +2,21 @@
 use Rattle.std.specs.Prelude.{◌≡◌, ℕ, All, Result, Ok, Err}
 use Rattle.event_theory.specs.Classes.{classes_of}
 use Rattle.class_queries.specs.Enables.{both_of}
-use Rattle.cut_events.specs.Asked.{IsPairOf}
-use Rattle.cut_events.specs.EventFormError.{EventFormError}
-use Rattle.cut_events.specs.EventFormError.TheVariants as form_error
+use Rattle.event_names.specs.Asked.{IsPairOf}
+use Rattle.event_names.specs.EventFormError.{EventFormError}
+use Rattle.event_names.specs.EventFormError.TheVariants as form_error
 use Rattle.event_nodes.specs.View.{EventCircuitView}
 use Rattle.interface.specs.Pairs.{ArePairsOf}
 use Rattle.pair_events.specs.View.{EventsView}
 use Rattle.sec_setup.specs.Setup.{AreColumns}
-use Rattle.event_findings.specs.Compared.{AreCompared}
-use Rattle.event_findings.specs.Findings.{FindingsFit}
-use Rattle.event_findings.specs.declared.findings.EventFindings.{EventFindings}
-use Rattle.event_findings.specs.declared.pairs.EventPairs.{EventPairs}
+use Rattle.event_setup_laws.specs.Compared.{AreCompared}
+use Rattle.event_setup_laws.specs.Findings.{FindingsFit}
+use Rattle.event_setup_laws.specs.EventFindings.{EventFindings}
+use Rattle.event_setup_laws.specs.EventPairs.{EventPairs}
 use Rattle.compare_base.specs.declared.error.CompareError.{CompareError}
 use Rattle.compare_base.specs.declared.error.CompareError.TheVariants as refused
 use Rattle.event_names.specs.Named.{latch_names, NamesVerdict}
-use Rattle.event_totals.specs.Totals.{IsMapMade, IsWithinWith, PairsReachTooMany, PairsWeighTooMuch}
+use Rattle.event_names.specs.Totals.{IsMapMade, IsWithinWith, PairsReachTooMany, PairsWeighTooMuch}
 use Rattle.event_names.specs.declared.names.Names.{Names}
 use Rattle.event_check.specs.declared.outcomes.Found.{Found}
 use Rattle.event_check.specs.declared.pairs.Asked.{Asked}

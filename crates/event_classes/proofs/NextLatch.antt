@@ -21,8 +21,8 @@ use Rattle.flat_net.specs.View.{circuit_of}
 use Rattle.class_queries.specs.Enables.{both_of, class_map, IsEnableFunction}
 use Rattle.class_queries.specs.Laws.{AreKept}
 use Rattle.class_queries.proofs.Staying.{functions_grow_with_graph}
-use Rattle.class_joining.specs.Joining.{HasJoined}
-use Rattle.class_joining.proofs.Tables.{found_fits}
+use Rattle.class_fits.specs.Joining.{HasJoined}
+use Rattle.class_fits.proofs.Tables.{found_fits}
 use Rattle.class_search.specs.declared.class.Class.{Class}
 use Rattle.class_search.specs.declared.search.Fit.{Fit}
 use Rattle.class_search.specs.declared.search.Fit.TheVariants as fit

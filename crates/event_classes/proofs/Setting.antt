@@ -20,9 +20,9 @@ use Rattle.event_nodes.specs.View.{EventCircuitView, IsEventCircuit}
 use Rattle.event_nodes.specs.Visited.{CounterView, IsWeighed}
 use Rattle.event_order.specs.Order.{place_of, IsTagOf}
 use Rattle.class_queries.specs.Enables.{both_of, class_map}
-use Rattle.class_joining.specs.Joining.{with_class, HasJoined}
-use Rattle.class_joining.proofs.Classes.{class_kept}
-use Rattle.class_joining.proofs.Giving.{class_given}
+use Rattle.class_fits.specs.Joining.{with_class, HasJoined}
+use Rattle.class_fits.proofs.Classes.{class_kept}
+use Rattle.class_fits.proofs.Giving.{class_given}
 use Rattle.class_extension.specs.Laws.{IsNextGiven}
 use Rattle.class_separations.specs.Apart.{AreToldApart}
 use Rattle.class_totals.specs.Totals.{HaveCounted}

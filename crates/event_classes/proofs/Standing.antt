@@ -23,8 +23,8 @@ use Rattle.enable_compare.specs.Comparing.{IsReadyEnable}
 use Rattle.class_queries.specs.Enables.{both_of, IsEnableFunction}
 use Rattle.class_queries.specs.Laws.{AreKept}
 use Rattle.class_queries.proofs.Meaning.{numbered}
-use Rattle.class_joining.specs.Joining.{HasJoined, AreKnownEnables}
-use Rattle.class_joining.proofs.Tables.{goes_on, grows_on}
+use Rattle.class_fits.specs.Joining.{HasJoined, AreKnownEnables}
+use Rattle.class_fits.proofs.Tables.{goes_on, grows_on}
 use Rattle.class_search.specs.declared.class.Class.{Class}
 use Rattle.class_search.specs.Search.{AreReadyClasses}
 use Rattle.class_fits.specs.Members.{IsAmong, HasMembers}

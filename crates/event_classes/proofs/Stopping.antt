@@ -24,7 +24,7 @@ use Rattle.event_nodes.specs.Nodes.{IsEventGraph}
 use Rattle.event_nodes.specs.View.{EventCircuitView, Enabled}
 use Rattle.event_order.specs.Order.{place_of, IsTagOf, IsTagOrder}
 use Rattle.class_queries.specs.Enables.{both_of, class_map}
-use Rattle.class_joining.proofs.Bounds.{depths_of_both}
+use Rattle.class_fits.proofs.Bounds.{depths_of_both}
 use Rattle.class_totals.specs.Totals.{AreWithin}
 use Rattle.class_totals.proofs.Over.{totals_are_within}
 use Rattle.event_classes.specs.declared.map.ClassMap.{ClassMap}

@@ -23,7 +23,7 @@ use Rattle.event_nodes.specs.Visited.{CounterView, IsWeighed}
 use Rattle.event_order.specs.Order.{place_of, IsTagOf, IsTagOrder}
 use Rattle.enable_compare.specs.Comparing.{IsReadyEnable}
 use Rattle.class_queries.specs.Enables.{both_of}
-use Rattle.class_joining.proofs.Bounds.{depths_of_both, map_begins, map_ends}
+use Rattle.class_fits.proofs.Bounds.{depths_of_both, map_begins, map_ends}
 use Rattle.class_search.specs.declared.class.Class.{Class}
 use Rattle.event_classes.specs.declared.map.ClassMap.{ClassMap}
 use Rattle.class_separations.specs.declared.apart.Apart.{Apart}

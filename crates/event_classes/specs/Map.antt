@@ -17,7 +17,7 @@ use Rattle.event_order.specs.Order.{place_of}
 use Rattle.class_totals.specs.Functions.{IsEnableFunctionOf}
 use Rattle.enable_compare.specs.declared.compare.Enable.{Enable}
 use Rattle.class_queries.specs.Enables.{both_of, IsEnableFunction}
-use Rattle.class_joining.specs.Joining.{with_class}
+use Rattle.class_fits.specs.Joining.{with_class}
 use Rattle.event_classes.specs.declared.map.ClassMap.{ClassMap}
 use Rattle.event_theory.specs.EventFrames.{AreNodeVariables, IsClassTree}
 use Rattle.event_variables.specs.Variables.{variables_of}

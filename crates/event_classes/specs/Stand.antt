@@ -7,7 +7,7 @@ use Rattle.sec_base.specs.declared.basics.Tag.{Tag}
 use Rattle.event_nodes.specs.Nodes.{EventGraphView}
 use Rattle.event_nodes.specs.View.{EventCircuitView}
 use Rattle.class_queries.specs.Enables.{both_of}
-use Rattle.class_joining.specs.Joining.{AreKnownEnables}
+use Rattle.class_fits.specs.Joining.{AreKnownEnables}
 use Rattle.class_search.specs.declared.class.Class.{Class}
 use Rattle.class_search.specs.Search.{AreReadyClasses}
 use Rattle.class_fits.specs.Members.{HaveMembers}

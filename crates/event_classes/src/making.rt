@@ -16,7 +16,7 @@ ghost use Rattle.event_classes.specs.Steps.{HaveDepths};
 use crate::error::EventError;
 use crate::joining::join_next;
 use crate::map::ClassMap;
-use class_joining::{EnableTable, latches_in_order};
+use class_fits::{EnableTable, latches_in_order};
 use event_nodes::{Counter, EventCircuit, EventGraph};
 use sec_base::{MAX_CONFLICTS, NoMemory, Tag};
 use std::alloc::Global;

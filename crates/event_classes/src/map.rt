@@ -1,6 +1,6 @@
 //! Class maps.
 
-use class_joining::EnableTable;
+use class_fits::EnableTable;
 use class_search::Class;
 use class_separations::Apart;
 use event_nodes::{Counter, EventCircuit, EventGraph};

@@ -7,7 +7,7 @@ use Rattle.event_nodes.specs.View.{EventCircuitView}
 use Rattle.interface.specs.declared.pairs.SignalPair.{SignalPair}
 use Rattle.obligations.specs.declared.obligation.Obligation.{Obligation}
 use Rattle.pair_events.specs.View.{EventsView, IsWithinLimits, side_of_both}
-use Rattle.class_events.specs.Separated.{AreSeparated}
+use Rattle.event_findings.specs.Separated.{AreSeparated}
 use Rattle.class_separations.specs.declared.apart.Apart.{Apart}
 use Rattle.event_form.specs.Asked.{AreAsked, IsLater, IsPairOf}
 use Rattle.event_form.specs.Counted.{CountsOn}

@@ -1,7 +1,7 @@
 -- What is asked of pairs, and what was decided of it.
 use Rattle.std.specs.Prelude.{◌≡◌, ℕ, ◌<◌, List, ◌++◌, length, All}
 use Rattle.event_theory.specs.EventSizes.{Start}
-use Rattle.class_events.specs.Separated.{AreSeparated}
+use Rattle.event_findings.specs.Separated.{AreSeparated}
 use Rattle.class_separations.specs.declared.apart.Apart.{Apart}
 use Rattle.event_nodes.specs.Nodes.{EventGraphView}
 use Rattle.interface.specs.declared.pairs.SignalPair.{SignalPair}

@@ -5,3 +5,5 @@ pub mod Shown
 pub mod Agreement
 pub mod Decided
 pub mod Counted
+pub use Rattle.event_findings.specs.Findings
+pub use Rattle.event_findings.specs.declared.findings.EventFindings

@@ -1,7 +1,7 @@
 //! Comparing the pairs of two circuits in the event form.
 
 ghost use Rattle.std.specs.Prelude.{◌≡◌, ◌≤◌, All, IfOk, OnOk};
-ghost use Rattle.class_events.specs.Separated.{AreSeparated};
+ghost use Rattle.event_findings.specs.Separated.{AreSeparated};
 ghost use Rattle.event_form.specs.Asked.{IsLater, IsPairOf};
 ghost use Rattle.event_form.specs.Counted.{left_starts, right_starts};
 ghost use Rattle.event_form.specs.Refused.{IsRefusedFor};

@@ -6,3 +6,9 @@ pub use Rattle.unshown_pairs.specs.Separations
 pub use Rattle.unshown_pairs.specs.Reached
 pub mod Compared
 pub mod Findings
+pub use Rattle.unshown_pairs.specs.Answers
+pub use Rattle.unshown_pairs.specs.Asked
+pub use Rattle.unshown_pairs.specs.FrameBit
+pub use Rattle.unshown_pairs.specs.Told
+pub use Rattle.unshown_pairs.specs.declared.separations.ToldSeparation
+pub use Rattle.unshown_pairs.specs.Separated

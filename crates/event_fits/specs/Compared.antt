@@ -16,7 +16,7 @@ use Rattle.outcome.specs.declared.verdict.Verdict.TheVariants as verdict
 use Rattle.outcome.specs.declared.verdict.Why.TheVariants as why
 use Rattle.compare_base.specs.SetupError.TheVariants as unset
 use Rattle.compare_base.specs.Matching.{InterfacesMatch}
-use Rattle.event_classes.specs.Refused.{IsTooMany, IsTooHeavy}
+use Rattle.event_totals.specs.Refused.{IsTooMany, IsTooHeavy}
 use Rattle.event_nodes.specs.View.{EventCircuitView}
 use Rattle.cut_events.specs.Choosing.{RefusesCycle}
 use Rattle.cut_events.specs.Recovered.{AreKnown, RecoversBoth}

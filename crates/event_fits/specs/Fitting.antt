@@ -13,7 +13,7 @@ use Rattle.outcome.specs.declared.verdict.Outcome.{Outcome}
 use Rattle.outcome.specs.declared.verdict.Verdict.TheVariants as verdict
 use Rattle.compare_base.specs.Cuts.{columns_of, is_cut}
 use Rattle.class_queries.specs.Enables.{both_of}
-use Rattle.event_classes.specs.Refused.{IsLimitOf}
+use Rattle.event_totals.specs.Refused.{IsLimitOf}
 use Rattle.event_nodes.specs.View.{EventCircuitView}
 use Rattle.cut_events.specs.Recovered.{RecoversBoth}
 use Rattle.cut_events.specs.RecoveryError.TheVariants as unknown

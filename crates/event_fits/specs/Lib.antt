@@ -8,3 +8,11 @@ pub mod Named
 pub mod Fitting
 pub mod Shown
 pub mod Compared
+pub use Rattle.event_findings.specs.Answers
+pub use Rattle.event_findings.specs.Asked
+pub use Rattle.event_findings.specs.FrameBit
+pub use Rattle.event_findings.specs.Told
+pub use Rattle.event_totals.specs.Totals
+pub use Rattle.event_findings.specs.Separations
+pub use Rattle.event_findings.specs.ToldSeparation
+pub use Rattle.cut_events.specs.EventFormError

@@ -32,7 +32,7 @@ use Rattle.pair_decide.specs.declared.query.Proof.{Proof}
 use Rattle.pair_decide.specs.declared.query.Query.{Query}
 use Rattle.pair_decide.specs.Answers.{IsDifference, IsAtLimit}
 use Rattle.pair_decide.specs.Queries.{IsSame, roots_of}
-use Rattle.swept_queries.specs.InStead.{IsInStead, DecidesInStead}
+use Rattle.obligations.specs.InStead.{IsInStead, DecidesInStead}
 use Rattle.event_form.specs.Asked.{IsAskedOf, AreAsked}
 use Rattle.event_form.specs.Answers.{AnswerFits, PairFits, IsFrameOf, IsUndecided, ReadOnly}
 use Rattle.event_form.specs.Laws.{AnswersFit, DifferencesAreFrames, EqualPairsAgree}

@@ -22,12 +22,12 @@ use Rattle.aig.specs.Cone.{IsReached}
 use Rattle.event_nodes.specs.Nodes.{EventGraphView, IsEventGraph, named_places, path_of}
 use Rattle.event_nodes.specs.Reach.{IsBegun}
 use Rattle.event_nodes.specs.View.{EventCircuitView, IsEventCircuit, side_of, Enabled}
-use Rattle.event_walk.specs.Walk.{enable_start}
+use Rattle.event_literals.specs.Walk.{enable_start}
 use Rattle.event_literals.specs.Known.{IsKnownAt, IsEnableLit}
 use Rattle.edbf_unfold.specs.Care.{IsCareLit, IsEnableOnward, IsAndOfAll}
-use Rattle.event_variables.specs.Variables.{variable_of}
-use Rattle.event_variables.proofs.Cones.{From, Supports, supports_tree, supports_flip, supports_and_of, supports_constant, reached_one, from_one}
-use Rattle.event_variables.proofs.Named.{named_distinct}
+use Rattle.event_inputs.specs.Variables.{variable_of}
+use Rattle.event_inputs.proofs.Cones.{From, Supports, supports_tree, supports_flip, supports_and_of, supports_constant, reached_one, from_one}
+use Rattle.event_inputs.proofs.Named.{named_distinct}
 use Rattle.event_inputs.specs.Inputs.{AreVisitedInputs}
 use Rattle.event_inputs.proofs.Leaves.{IsVisitedLeaf, put_latch}
 use Rattle.event_inputs.proofs.Meaning.{own_leaf, care_leaf}

@@ -3,3 +3,4 @@ pub mod Totaling
 pub mod Growing
 pub mod Visiting
 pub mod Covering
+pub use Rattle.event_literals.proofs.Known

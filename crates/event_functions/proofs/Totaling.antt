@@ -16,7 +16,7 @@ use Rattle.event_nodes.specs.Visited.{CounterView, IsWeighed, IsVisitedPair}
 use Rattle.event_nodes.proofs.Lists.{adds_contains, adds_from}
 use Rattle.event_nodes.proofs.Paths.{path_grows}
 use Rattle.event_nodes.proofs.Totals.{passed_over}
-use Rattle.event_walk.specs.Walk.{IsCounting, HasCountedStart}
+use Rattle.event_literals.specs.Walk.{IsCounting, HasCountedStart}
 use Rattle.event_functions.specs.Refused.{IsOverweight}
 
 abbrev pub nothing : CounterView

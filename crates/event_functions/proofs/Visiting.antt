@@ -7,7 +7,7 @@ use Rattle.event_nodes.specs.View.{EventCircuitView}
 use Rattle.event_nodes.specs.Visited.{CounterView, IsVisitedPair, AreNodesFrom}
 use Rattle.event_nodes.proofs.Lists.{adds_trans}
 use Rattle.event_reach.proofs.Making.{nodes_since}
-use Rattle.event_walk.specs.Walk.{IsCounting}
+use Rattle.event_literals.specs.Walk.{IsCounting}
 use Rattle.event_literals.specs.Known.{EventUnfolderView, AreKnown}
 use Rattle.event_literals.specs.Built.{IsReadyFor}
 use Rattle.event_functions.proofs.Totaling.{nothing, pair_later}

@@ -4,7 +4,7 @@ use Rattle.event_theory.specs.EventSizes.{Start}
 use Rattle.flat_net.specs.declared.parts.LatchAt.{LatchAt}
 use Rattle.event_nodes.specs.Nodes.{EventGraphView}
 use Rattle.event_nodes.specs.View.{EventCircuitView}
-use Rattle.event_walk.specs.Walk.{enable_start}
+use Rattle.event_literals.specs.Walk.{enable_start}
 use Rattle.event_literals.specs.Known.{IsKnownAt, IsEnableLit}
 use Rattle.edbf_unfold.specs.Care.{IsCareLit}
 use Rattle.edbf_unfold.specs.Reached.{IsReachOf}

@@ -5,7 +5,7 @@ ghost use Rattle.flat_net.specs.declared.parts.LatchAt.{LatchAt};
 ghost use Rattle.event_nodes.specs.declared.error.EventUnfoldError.TheVariants as unfold_error;
 ghost use Rattle.event_nodes.specs.Nodes.{GrowsEvents};
 ghost use Rattle.event_nodes.specs.Visited.{IsWeighed};
-ghost use Rattle.event_walk.specs.Walk.{HasCountedStart, IsCounting, enable_start};
+ghost use Rattle.event_literals.specs.Walk.{HasCountedStart, IsCounting, enable_start};
 ghost use Rattle.edbf_unfold.specs.Care.{IsCareLit};
 ghost use Rattle.event_literals.specs.Known.{IsEnableLit};
 ghost use Rattle.event_functions.specs.Functions.{IsEnableFunctionOf};

@@ -5,7 +5,7 @@ ghost use Rattle.flat_net.specs.declared.parts.LatchAt.{LatchAt};
 ghost use Rattle.event_nodes.specs.declared.error.EventUnfoldError.TheVariants as unfold_error;
 ghost use Rattle.event_nodes.specs.Nodes.{GrowsEvents, IsEventGraph};
 ghost use Rattle.event_nodes.specs.Visited.{AreNodesFrom, places_weight};
-ghost use Rattle.event_walk.specs.Walk.{enable_start};
+ghost use Rattle.event_literals.specs.Walk.{enable_start};
 ghost use Rattle.event_functions.specs.Functions.{signal_start};
 ghost use Rattle.event_functions.specs.Refused.{HasFewNodes, IsOverweight};
 

@@ -4,7 +4,7 @@ ghost use Rattle.std.specs.Prelude.{◌≡◌, ◌^◌, ◌<◌, ◌≤◌, [], 
 ghost use Rattle.event_nodes.specs.declared.error.EventUnfoldError.TheVariants as unfold_error;
 ghost use Rattle.event_nodes.specs.Nodes.{GrowsEvents};
 ghost use Rattle.event_nodes.specs.Visited.{IsWeighed};
-ghost use Rattle.event_walk.specs.Walk.{HasCountedStart, IsCounting};
+ghost use Rattle.event_literals.specs.Walk.{HasCountedStart, IsCounting};
 ghost use Rattle.edbf_unfold.specs.Care.{IsCareLit};
 ghost use Rattle.edbf_unfold.specs.Reached.{IsReachOf};
 ghost use Rattle.event_literals.specs.Known.{IsKnownAt};

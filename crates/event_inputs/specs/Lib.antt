@@ -1,2 +1,3 @@
 pub mod Inputs
 pub mod Laws
+pub use Rattle.event_variables.specs.Variables

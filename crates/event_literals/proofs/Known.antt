@@ -10,12 +10,12 @@ use Rattle.event_theory.specs.Frame.{EventUnfolds, EventUnfoldsAll, NotPut}
 use Rattle.circuit_theory.proofs.Numbers.{slice_get-map}
 use Rattle.flat_net.specs.declared.signals.Signal.{Signal}
 use Rattle.flat_net.specs.View.{circuit_of}
-use Rattle.aig.specs.declared.node.Lit.{Lit}
-use Rattle.aig.specs.declared.node.Node.TheVariants.{Input}
-use Rattle.aig.specs.Graph.{IsLitOf}
-use Rattle.aig.specs.Rules.{IsCoverOf}
-use Rattle.aig.specs.Builds.{Builds, BuildsAll}
-use Rattle.aig.proofs.Growth.{Grows-length, Builds-grows}
+use Rattle.event_nodes.specs.Lit.{Lit}
+use Rattle.event_nodes.specs.Node.TheVariants.{Input}
+use Rattle.event_nodes.specs.Graph.{IsLitOf}
+use Rattle.event_nodes.specs.Rules.{IsCoverOf}
+use Rattle.event_nodes.specs.Builds.{Builds, BuildsAll}
+use Rattle.event_nodes.proofs.Growth.{Grows-length, Builds-grows}
 use Rattle.event_walk.specs.declared.frames.Frame.{Frame}
 use Rattle.event_walk.specs.declared.frames.Put.{Put}
 use Rattle.event_walk.specs.declared.frames.Put.TheVariants.{Free, Low, High}

@@ -17,11 +17,11 @@ use Rattle.flat_net.specs.declared.parts.Driver.TheVariants as driver
 use Rattle.flat_net.specs.View.{named, circuit_of, cover_of}
 use Rattle.flat_net.specs.Sound.{IsSound}
 use Rattle.flat_net.proofs.Places.{one_at}
-use Rattle.aig.specs.declared.node.Lit.{Lit}
-use Rattle.aig.specs.declared.node.Node.{Node}
-use Rattle.aig.specs.Graph.{IsLitOf}
-use Rattle.aig.specs.declared.node.Node.TheVariants.{Input}
-use Rattle.aig.specs.Rules.{IsCoverOf, cover_room}
+use Rattle.event_nodes.specs.Lit.{Lit}
+use Rattle.event_nodes.specs.Node.{Node}
+use Rattle.event_nodes.specs.Graph.{IsLitOf}
+use Rattle.event_nodes.specs.Node.TheVariants.{Input}
+use Rattle.event_nodes.specs.Rules.{IsCoverOf, cover_room}
 use Rattle.event_walk.specs.declared.frames.Frame.{Frame}
 use Rattle.event_walk.specs.declared.frames.Put.TheVariants.{Low, High}
 use Rattle.event_walk.specs.declared.frames.Step.{Step}

@@ -10,9 +10,9 @@ use Rattle.flat_net.specs.Sound.{IsSound}
 use Rattle.flat_net.specs.View.{NetView}
 use Rattle.flat_net.proofs.Growth.{slice_get-append}
 use Rattle.flat_net.proofs.Places.{one_at}
-use Rattle.aig.specs.declared.node.Lit.{Lit}
-use Rattle.aig.specs.Graph.{flip}
-use Rattle.aig.specs.Rules.{IsAndOf}
+use Rattle.event_nodes.specs.Lit.{Lit}
+use Rattle.event_nodes.specs.Graph.{flip}
+use Rattle.event_nodes.specs.Rules.{IsAndOf}
 use Rattle.event_nodes.specs.Adds.{Adds}
 use Rattle.event_nodes.specs.Nodes.{EventGraphView, IsEventGraph, GrowsEvents}
 use Rattle.event_nodes.specs.View.{EventCircuitView}

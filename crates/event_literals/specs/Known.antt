@@ -6,12 +6,12 @@ use Rattle.event_theory.specs.Frame.{EventUnfolds}
 use Rattle.flat_net.specs.declared.parts.Gate.{Gate}
 use Rattle.flat_net.specs.declared.parts.LatchAt.{LatchAt}
 use Rattle.flat_net.specs.View.{cover_of}
-use Rattle.aig.specs.declared.node.Lit.{Lit}
-use Rattle.aig.specs.declared.node.Node.{Node}
-use Rattle.aig.specs.declared.node.Node.TheVariants.{Input}
-use Rattle.aig.specs.Graph.{IsLitOf, flip}
-use Rattle.aig.specs.Rules.{IsAndOf, IsCoverOf}
-use Rattle.aig.specs.Builds.{Builds}
+use Rattle.event_nodes.specs.Lit.{Lit}
+use Rattle.event_nodes.specs.Node.{Node}
+use Rattle.event_nodes.specs.Node.TheVariants.{Input}
+use Rattle.event_nodes.specs.Graph.{IsLitOf, flip}
+use Rattle.event_nodes.specs.Rules.{IsAndOf, IsCoverOf}
+use Rattle.event_nodes.specs.Builds.{Builds}
 use Rattle.event_walk.specs.declared.frames.Frame.{Frame}
 use Rattle.event_walk.specs.declared.frames.Step.{Step}
 use Rattle.event_walk.specs.Ready.{EventWalkerView, IsReadyBy, put_of}

@@ -3,7 +3,7 @@
 ghost use Rattle.std.specs.Prelude.{◌≡◌, ℕ, ◌+◌, ◌*◌, ◌^◌, ◌<◌, ◌≤◌, [], length, slice_get, Some, None, All, Contains, IfOk, IfSome, OnOk};
 ghost use Rattle.std.specs.List.{AllZip, sum_by};
 ghost use Rattle.event_theory.specs.EventSizes.{Start};
-ghost use Rattle.aig.specs.declared.node.Lit.{Lit};
+ghost use Rattle.event_nodes.specs.Lit.{Lit};
 ghost use Rattle.event_nodes.specs.Weights.{gate_weight, weight_at};
 ghost use Rattle.event_nodes.specs.Nodes.{EventGraphView};
 ghost use Rattle.event_walk.specs.declared.frames.Frame.{Frame};
@@ -14,11 +14,11 @@ ghost use Rattle.event_literals.specs.Known.{AreKnown, IsKnownIn, HasUnfolded, I
 ghost use Rattle.event_literals.specs.Built.{IsReadyFor, IsWalked};
 
 use crate::memo::Memo;
-use aig::Lit;
-use event_nodes::{Counter, EventCircuit, EventGraph, EventUnfoldError, Place, gate_of, latch_of};
+use event_nodes::{
+    Counter, EventCircuit, EventGraph, EventUnfoldError, Lit, Place, gate_of, latch_of,
+};
 use event_walk::{EventWalker, Frame, Step, Ways, constant};
-use flat_net::{Driver, Signal};
-use sec_base::{NoMemory, PlaceTable};
+use flat_net::{Driver, NoMemory, PlaceTable, Signal};
 use std::alloc::Global;
 use std::marker::Model;
 

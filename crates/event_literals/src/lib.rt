@@ -6,3 +6,4 @@ mod builder;
 mod memo;
 
 pub use builder::{EventBuilder, Unfolding};
+pub use flat_net::{Driver, Signal};

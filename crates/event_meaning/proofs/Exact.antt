@@ -18,8 +18,8 @@ use Rattle.pair_decide.specs.declared.query.Proof.{Proof}
 use Rattle.outcome.specs.declared.verdict.PairResult.{PairResult}
 use Rattle.class_queries.specs.Enables.{both_of}
 use Rattle.class_queries.proofs.Meaning.{numbered}
-use Rattle.unshown_pairs.specs.Answers.{AnswerFits, PairFits}
-use Rattle.unshown_pairs.specs.Asked.{IsDecisive}
+use Rattle.event_fits.specs.Answers.{AnswerFits, PairFits}
+use Rattle.event_fits.specs.Asked.{IsDecisive}
 use Rattle.event_nodes.specs.View.{EventCircuitView}
 use Rattle.event_fits.specs.Circuits.{IsReadyCircuit}
 use Rattle.event_meaning.specs.Laws.{AnswersAreExact}

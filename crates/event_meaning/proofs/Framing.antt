@@ -9,8 +9,8 @@ use Rattle.frame_report.specs.declared.frame.Spot.{Spot}
 use Rattle.interface.specs.Pairs.{NamedPair, places_of}
 use Rattle.sec_setup.specs.Cuts.{columns_of}
 use Rattle.class_queries.specs.Enables.{both_of}
-use Rattle.unshown_pairs.specs.FrameBit.{FrameBit}
-use Rattle.unshown_pairs.specs.Told as told
+use Rattle.event_fits.specs.FrameBit.{FrameBit}
+use Rattle.event_fits.specs.Told as told
 use Rattle.event_fits.specs.Findings.{VerdictFits}
 use Rattle.event_meaning.specs.Laws.{UnshownOutcomesAreFramed}
 use Rattle.event_fits.specs.Named.{latch_names, NamesSpot}

@@ -20,7 +20,7 @@ use Rattle.class_queries.specs.Enables.{both_of}
 use Rattle.event_fits.specs.Circuits.{AreNets}
 use Rattle.event_fits.proofs.Agreeing.{circuits_agree}
 use Rattle.event_fits.proofs.Differing.{cuts_differ, circuits_differ}
-use Rattle.unshown_pairs.specs.Answers.{AnswerFits, PairFits}
+use Rattle.event_fits.specs.Answers.{AnswerFits, PairFits}
 use Rattle.event_nodes.specs.View.{EventCircuitView}
 use Rattle.event_fits.specs.Findings.{IsFirstWith, IsSequenceOf, VerdictFits}
 use Rattle.event_fits.specs.Fitting.{IsComparedByPairs}

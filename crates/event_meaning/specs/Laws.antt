@@ -14,7 +14,7 @@ use Rattle.outcome.specs.declared.verdict.Verdict.TheVariants as verdict
 use Rattle.outcome.specs.declared.verdict.Why.TheVariants as why
 use Rattle.class_queries.specs.Enables.{both_of}
 use Rattle.event_fits.specs.Circuits.{AreNets}
-use Rattle.unshown_pairs.specs.Asked.{IsDecisive}
+use Rattle.event_fits.specs.Asked.{IsDecisive}
 use Rattle.sec_setup.specs.Cuts.{is_cut}
 use Rattle.event_fits.specs.Says.{SaysEqual, SaysDifferent, SaysNotShown}
 use Rattle.event_fits.specs.Fitting.{EventOutcomeFits, IsComparedByPairs}

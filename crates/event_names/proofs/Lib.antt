@@ -1,1 +1,2 @@
 pub mod Naming
+pub use Rattle.event_fits.proofs.Counting

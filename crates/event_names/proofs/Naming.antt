@@ -16,12 +16,12 @@ use Rattle.interface.specs.Pairs.{ArePairsOf, outputs_of}
 use Rattle.sec_base.specs.declared.basics.Tag.{Tag}
 use Rattle.sec_setup.specs.Setup.{AreColumns}
 use Rattle.outcome.specs.declared.verdict.PairResult.{PairResult}
-use Rattle.unshown_pairs.specs.FrameBit.{FrameBit}
+use Rattle.event_fits.specs.FrameBit.{FrameBit}
 use Rattle.event_nodes.specs.View.{EventCircuitView}
 use Rattle.event_order.specs.Order.{IsTagOf, net_at}
-use Rattle.unshown_pairs.specs.Separations.{Separates, SeparatesBy}
-use Rattle.unshown_pairs.specs.Told.{TellsVariable}
-use Rattle.unshown_pairs.specs.declared.separations.ToldSeparation.{ToldSeparation}
+use Rattle.event_fits.specs.Separations.{Separates, SeparatesBy}
+use Rattle.event_fits.specs.Told.{TellsVariable}
+use Rattle.event_fits.specs.ToldSeparation.{ToldSeparation}
 use Rattle.event_fits.specs.Findings.{IsFirstUnshown, VerdictFits}
 use Rattle.event_fits.specs.EventPairs.{EventPairs}
 use Rattle.event_fits.specs.EventVerdict.{EventVerdict}

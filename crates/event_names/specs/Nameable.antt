@@ -1,8 +1,8 @@
 -- What can be told by names: its latches and inputs have some.
 use Rattle.std.specs.Prelude.{ℕ, ◌<◌, List, length, Option, Some, None, All}
 use Rattle.sec_base.specs.declared.basics.Tag.{Tag}
-use Rattle.unshown_pairs.specs.FrameBit.{FrameBit}
-use Rattle.unshown_pairs.specs.declared.separations.ToldSeparation.{ToldSeparation}
+use Rattle.event_fits.specs.FrameBit.{FrameBit}
+use Rattle.event_fits.specs.ToldSeparation.{ToldSeparation}
 use Rattle.event_fits.specs.EventVerdict.{EventVerdict}
 use Rattle.event_fits.specs.EventVerdict.TheVariants as found
 use Rattle.event_fits.specs.UnshownPair.{UnshownPair}

@@ -11,3 +11,9 @@ pub mod Bits
 pub mod OnePath
 pub mod Totals
 pub mod Counting
+pub use Rattle.aig.proofs.CoverMeaning
+pub use Rattle.aig.proofs.Growth
+pub use Rattle.aig.proofs.Literals
+pub use Rattle.flat_net.proofs.Nets
+pub use Rattle.flat_net.proofs.Places
+pub use Rattle.aig.proofs.Meaning

@@ -1,6 +1,6 @@
 -- No two event nodes have one path.
 use Rattle.std.proofs.Common.{◌≡◌, ◌∙◌, ◌+◌, ◌<◌, ◌≤◌, ℕ, zero, suc, List, [], ◌∷◌, length, slice_get, Some, refl, sym, ap, subst, arith}
-use Rattle.sec_base.specs.Table.{AreDistinct}
+use Rattle.flat_net.specs.Table.{AreDistinct}
 use Rattle.flat_net.proofs.Nets.{some_at}
 use Rattle.event_nodes.specs.Nodes.{path_of, IsTree}
 use Rattle.event_nodes.proofs.Paths.{path_grows, child_path}

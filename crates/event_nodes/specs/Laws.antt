@@ -1,7 +1,7 @@
 -- What follows from what has been counted.
 use Rattle.std.specs.Prelude.{ℕ, ◌<◌, List, All}
 use Rattle.event_theory.specs.EventSizes.{Start, IsEventWeight, IsEventOver}
-use Rattle.sec_base.specs.Table.{AreDistinct}
+use Rattle.flat_net.specs.Table.{AreDistinct}
 use Rattle.flat_net.specs.Sound.{IsSound}
 use Rattle.event_nodes.specs.Nodes.{EventGraphView, IsEventGraph}
 use Rattle.event_nodes.specs.View.{EventCircuitView, side_of, Enabled}

@@ -1,8 +1,8 @@
 -- What a contract sees of a circuit whose latches have classes.
 use Rattle.std.specs.Prelude.{◌≡◌, ◌↔◌, ℕ, ◌==◌, if◌then◌else◌, Bool, true, List, [], ◌∷◌, length, slice_get, Some}
-use Rattle.circuit_theory.specs.Run.{IsEnabled}
+use Rattle.event_theory.specs.Run.{IsEnabled}
 use Rattle.event_theory.specs.Frame.{EventSide}
-use Rattle.sec_base.specs.Table.{AreDistinct}
+use Rattle.flat_net.specs.Table.{AreDistinct}
 use Rattle.flat_net.specs.declared.parts.LatchAt.{LatchAt}
 use Rattle.flat_net.specs.View.{NetView, circuit_of}
 

@@ -7,8 +7,7 @@ ghost use Rattle.event_nodes.specs.View.{IsEventCircuit, side_of, Enabled};
 
 mod classes;
 
-use flat_net::Net;
-use sec_base::{Bits, Ids};
+use flat_net::{Bits, Ids, Net};
 use std::marker::Model;
 
 /// A net, with a bit for each latch that marks the enabled ones, a number for each input and a class for each latch.

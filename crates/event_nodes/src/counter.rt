@@ -2,15 +2,14 @@
 
 ghost use Rattle.std.specs.Prelude.{◌≡◌, ◌<◌, [], length, slice_get, Some, Contains, OnOk, Err};
 ghost use Rattle.flat_net.specs.Sound.{IsSound};
-ghost use Rattle.sec_base.specs.Table.{AreDistinct};
+ghost use Rattle.flat_net.specs.Table.{AreDistinct};
 ghost use Rattle.event_nodes.specs.declared.error.EventUnfoldError.TheVariants as unfold_error;
 ghost use Rattle.event_nodes.specs.Adds.{Adds};
 ghost use Rattle.event_nodes.specs.Visited.{IsWeighed, places_weight};
 
 use crate::error::EventUnfoldError;
 use crate::net_parts::weigh;
-use flat_net::{Net, Signal};
-use sec_base::PlaceTable;
+use flat_net::{Net, PlaceTable, Signal};
 use std::alloc::Global;
 use std::marker::Model;
 

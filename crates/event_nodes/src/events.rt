@@ -12,7 +12,7 @@ ghost use Rattle.event_nodes.specs.Nodes.{IsEventGraph, IsChild, GrowsEvents};
 mod parts;
 
 use aig::{Aig, Lit};
-use sec_base::{Cover, NoMemory, PlaceTable};
+use flat_net::{Cover, NoMemory, PlaceTable};
 use std::alloc::Global;
 use std::marker::Model;
 

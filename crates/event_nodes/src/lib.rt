@@ -9,8 +9,10 @@ mod events;
 pub mod laws;
 mod net_parts;
 
+pub use aig::{Aig, Lit};
 pub use circuit::EventCircuit;
 pub use counter::Counter;
 pub use error::EventUnfoldError;
 pub use events::EventGraph;
+pub use flat_net::{Ids, NoMemory, PlaceTable, Seq};
 pub use net_parts::{Place, add, add_fanins, gate_of, latch_of, weigh};

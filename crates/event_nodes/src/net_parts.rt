@@ -5,8 +5,7 @@ ghost use Rattle.event_nodes.specs.Weights.{gate_weight, weight_at};
 ghost use Rattle.flat_net.specs.declared.signals.Signal.{Signal};
 ghost use Rattle.event_nodes.specs.Adds.{Adds};
 
-use flat_net::{Driver, Gate, LatchAt, Net, Signal};
-use sec_base::{NoMemory, PlaceTable};
+use flat_net::{Driver, Gate, LatchAt, Net, NoMemory, PlaceTable, Signal};
 
 /// The number of an event node or of a frame, and that of a signal.
 pub type Place = (u32, u32);

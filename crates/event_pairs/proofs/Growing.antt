@@ -24,7 +24,7 @@ use Rattle.event_nodes.proofs.Paths.{named_grows, path_grows}
 use Rattle.event_variables.specs.Variables.{variable_of, variables_of, GoesBefore, AreInOrder}
 use Rattle.event_variables.proofs.Cones.{reached_one, reached_among, old_node, old_reached}
 use Rattle.event_variables.proofs.Named.{named_distinct}
-use Rattle.event_literals.proofs.Known.{builds_later}
+use Rattle.event_functions.proofs.Known.{builds_later}
 use Rattle.event_functions.specs.declared.signals.SignalFunction.{SignalFunction}
 use Rattle.event_functions.specs.Laws.{AreCovered}
 use Rattle.edbf_unfold.specs.Laws.{TakesFrame}

@@ -1,2 +1,3 @@
 pub mod Functions
 pub mod Laws
+pub use Rattle.event_functions.specs.declared.signals.SignalFunction

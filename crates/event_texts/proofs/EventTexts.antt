@@ -30,11 +30,11 @@ use Rattle.sec_setup.specs.Cuts.{columns_of}
 use Rattle.swept_queries.proofs.Listed.{zip_left}
 use Rattle.class_queries.specs.Enables.{both_of}
 use Rattle.plain_meaning.proofs.Fitted.{kept_proof, no_names, some_names, were_exposed}
-use Rattle.event_form.specs.Answers.{AnswerFits, IsUndecided, PairFits}
+use Rattle.event_meaning.specs.Answers.{AnswerFits, IsUndecided, PairFits}
 use Rattle.event_nodes.specs.View.{EventCircuitView}
-use Rattle.event_findings.specs.Findings.{VerdictFits}
-use Rattle.event_findings.specs.declared.verdict.EventVerdict.{EventVerdict}
-use Rattle.event_findings.specs.declared.verdict.EventVerdict.TheVariants as found
+use Rattle.event_meaning.specs.Findings.{VerdictFits}
+use Rattle.event_meaning.specs.EventVerdict.{EventVerdict}
+use Rattle.event_meaning.specs.EventVerdict.TheVariants as found
 use Rattle.event_meaning.specs.Compared.{IsComparedInEvents}
 use Rattle.event_meaning.specs.Fitting.{IsComparedByPairs, IsUnclassed, IsUnrecovered}
 use Rattle.event_meaning.specs.Named.{latch_names, NamesVerdict}

@@ -24,8 +24,8 @@ use Rattle.interface.specs.declared.pairs.SignalPair.{SignalPair}
 use Rattle.sec_setup.specs.Cuts.{columns_of}
 use Rattle.sec_setup.specs.Matching.{InterfacesMatch}
 use Rattle.class_queries.specs.Enables.{both_of}
-use Rattle.compare_base.specs.Says.{SaysEqual, SaysDifferent, SaysNotShown}
-use Rattle.event_form.specs.Answers.{IsUndecided}
+use Rattle.event_meaning.specs.Says.{SaysEqual, SaysDifferent, SaysNotShown}
+use Rattle.event_meaning.specs.Answers.{IsUndecided}
 use Rattle.event_setup.specs.Choosing.{HaveNoCycles}
 use Rattle.event_meaning.specs.Compared.{AreTooLargeInEvents, HaveTooManyEvents}
 use Rattle.event_meaning.specs.Fitting.{EventOutcomeFits, IsComparedByPairs, IsUnclassed, IsUnrecovered}

@@ -6,3 +6,8 @@ pub mod EventSizes
 pub mod EventTotals
 pub mod Frame
 pub mod Reached
+pub use Rattle.circuit_theory.specs.Circuit
+pub use Rattle.circuit_theory.specs.Cover
+pub use Rattle.circuit_theory.specs.Net
+pub use Rattle.circuit_theory.specs.Run
+pub use Rattle.circuit_theory.specs.Sizes

@@ -7,18 +7,18 @@ use Rattle.circuit_theory.specs.Cover.{Cover}
 use Rattle.circuit_theory.specs.Tree.{Tree, Trees, Leaf, Fixed, Branch, Nil, Cons}
 use Rattle.circuit_theory.specs.Query.{Variable, HasLeaf, HasLeafIn}
 use Rattle.circuit_theory.proofs.Lists.{Contains-cases, Contains-head, Contains-tail, only}
-use Rattle.flat_net.proofs.Nets.{some_at}
-use Rattle.flat_net.proofs.Places.{one_at}
-use Rattle.aig.specs.declared.node.Lit.{Lit}
-use Rattle.aig.specs.declared.node.Node.{Node}
-use Rattle.aig.specs.declared.node.Node.TheVariants.{Constant, Input, And}
-use Rattle.aig.specs.Graph.{IsGraph, IsAbove, IsLitOf, Grows, flip}
-use Rattle.aig.specs.Rules.{IsAndBy, IsAndOf, IsOrOf, place_lit, IsPlaceOf, IsCubeOf, AreRowsOf, IsCoverOf}
-use Rattle.aig.specs.Builds.{Builds, BuildsAll}
-use Rattle.aig.specs.Cone.{Reads, IsReached}
-use Rattle.aig.proofs.CoverMeaning.{Simple, simple}
-use Rattle.aig.proofs.Growth.{slice_get-append}
-use Rattle.aig.proofs.Literals.{flip-half}
+use Rattle.event_nodes.proofs.Nets.{some_at}
+use Rattle.event_nodes.proofs.Places.{one_at}
+use Rattle.event_nodes.specs.Lit.{Lit}
+use Rattle.event_nodes.specs.Node.{Node}
+use Rattle.event_nodes.specs.Node.TheVariants.{Constant, Input, And}
+use Rattle.event_nodes.specs.Graph.{IsGraph, IsAbove, IsLitOf, Grows, flip}
+use Rattle.event_nodes.specs.Rules.{IsAndBy, IsAndOf, IsOrOf, place_lit, IsPlaceOf, IsCubeOf, AreRowsOf, IsCoverOf}
+use Rattle.event_nodes.specs.Builds.{Builds, BuildsAll}
+use Rattle.event_nodes.specs.Cone.{Reads, IsReached}
+use Rattle.event_nodes.proofs.CoverMeaning.{Simple, simple}
+use Rattle.event_nodes.proofs.Growth.{slice_get-append}
+use Rattle.event_nodes.proofs.Literals.{flip-half}
 
 -- what is reached from one node
 pub data From (g : List Node) (m : ℕ) : ℕ → Type 0 where

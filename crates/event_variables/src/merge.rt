@@ -4,8 +4,7 @@ ghost use Rattle.std.specs.Prelude.{IfOk};
 ghost use Rattle.event_variables.specs.Variables.{AreInOrder, IsMergeOf};
 
 use crate::node_order::variable_order;
-use event_nodes::EventGraph;
-use sec_base::{Ids, NoMemory, Seq};
+use event_nodes::{EventGraph, Ids, NoMemory, Seq};
 use std::alloc::Global;
 use std::cmp::Ordering;
 

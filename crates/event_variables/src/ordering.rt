@@ -4,8 +4,7 @@ ghost use Rattle.std.specs.Prelude.{◌≡◌, ◌-◌, ◌<◌, length, All, ma
 ghost use Rattle.event_variables.specs.Order.{IsOnce, IsKeyOf, AreKeysOf, IsOrderOf};
 
 use crate::paths::node_path;
-use event_nodes::EventGraph;
-use sec_base::{Ids, NoMemory, Seq};
+use event_nodes::{EventGraph, Ids, NoMemory, Seq};
 use std::alloc::Global;
 
 /// A variable with what it goes by.

@@ -3,8 +3,7 @@
 ghost use Rattle.std.specs.Prelude.{◌≡◌, ◌≤◌, length, reverse, IfOk};
 ghost use Rattle.event_nodes.specs.Nodes.{path_of};
 
-use event_nodes::EventGraph;
-use sec_base::NoMemory;
+use event_nodes::{EventGraph, NoMemory};
 use std::alloc::Global;
 
 /// The steps from the root to the node, each a class.

@@ -14,7 +14,7 @@ use Rattle.flat_net.specs.declared.parts.Driver.TheVariants as driver
 use Rattle.flat_net.specs.Sound.{IsSound}
 use Rattle.flat_net.specs.View.{circuit_of}
 use Rattle.flat_net.proofs.Places.{one_at}
-use Rattle.aig.specs.declared.node.Lit.{Lit}
+use Rattle.event_nodes.specs.Lit.{Lit}
 use Rattle.event_walk.specs.declared.frames.Frame.{Frame}
 use Rattle.event_walk.specs.declared.frames.Put.{Put}
 use Rattle.event_walk.specs.declared.frames.Put.TheVariants.{Free, Low, High}

@@ -7,8 +7,7 @@ ghost use Rattle.event_walk.specs.Walk.{IsEntry, AreWays};
 
 use crate::frames::{Frame, Frames, Put, Ways};
 use event_nodes::{EventCircuit, add, latch_of};
-use flat_net::Signal;
-use sec_base::{NoMemory, PlaceTable};
+use flat_net::{NoMemory, PlaceTable, Signal};
 
 /// The number of the frame, where the signal's place in it is put into the table.
 fn enter(

@@ -5,9 +5,9 @@ ghost use Rattle.event_theory.specs.Frame.{NotPut};
 ghost use Rattle.event_walk.specs.declared.frames.Put.TheVariants.{Low, High};
 ghost use Rattle.event_walk.specs.Ready.{put_of};
 
-use aig::Lit;
+use event_nodes::Lit;
 use indexmap::IndexSet;
-use sec_base::NoMemory;
+use flat_net::NoMemory;
 use std::alloc::Global;
 use std::marker::Model;
 

@@ -9,7 +9,7 @@ ghost use Rattle.event_nodes.specs.View.{EventCircuitView};
 
 use crate::frames::{Frames, Step, Ways};
 use event_nodes::Place;
-use sec_base::{NoMemory, PlaceTable};
+use flat_net::{NoMemory, PlaceTable};
 use std::alloc::Global;
 
 /// The step of a place, in a graph with so many event nodes besides the root.

@@ -22,8 +22,7 @@ use crate::plan::plan_of;
 use event_nodes::{
     Counter, EventCircuit, EventGraph, EventUnfoldError, Place, add, add_fanins, gate_of, weigh,
 };
-use flat_net::{Driver, Signal};
-use sec_base::{NoMemory, PlaceTable};
+use flat_net::{Driver, NoMemory, PlaceTable, Signal};
 use std::alloc::Global;
 use std::marker::Model;
 

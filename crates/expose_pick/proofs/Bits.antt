@@ -7,7 +7,7 @@ use Rattle.flat_net.proofs.Places.{one_at}
 use Rattle.flat_net.proofs.Nets.{some_at}
 use Rattle.circuit_theory.proofs.Lists.{of_at}
 use Rattle.circuit_theory.proofs.Sums.{same_or_not}
-use Rattle.signal_graph.proofs.Lists.{set_same, set_other, set_cases}
+use Rattle.latch_graph.proofs.Lists.{set_same, set_other, set_cases}
 use Rattle.expose_pick.specs.Bits.{AreBits}
 
 -- one bit more is set

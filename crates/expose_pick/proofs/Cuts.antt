@@ -14,7 +14,7 @@ use Rattle.flat_net.specs.View.{NetView, circuit_of, equation_of_gate, equation_
 use Rattle.flat_net.specs.Cut.{no_latch}
 use Rattle.flat_net.proofs.Places.{one_at, All-at}
 use Rattle.flat_net.proofs.Nets.{OfGate, OfLatch, equation_from, some_at, latch_stands}
-use Rattle.signal_graph.specs.Graph.{GraphView, IsGraphOf, IsGraphIn, SkippedBy, signals_at}
+use Rattle.latch_graph.specs.Graph.{GraphView, IsGraphOf, IsGraphIn, SkippedBy, signals_at}
 use Rattle.latch_graph.proofs.Skipping.{has_cycle_less, skips_as_mode, mode_as_skips}
 use Rattle.latch_graph.proofs.Trails.{after_last, after_next}
 use Rattle.expose_pick.specs.declared.pairs.LatchPair.{LatchPair}

@@ -2,7 +2,7 @@
 use Rattle.std.specs.Prelude.{ℕ, ◌<◌, List, length, map, All}
 use Rattle.circuit_theory.specs.Depth.{IsCycle, BeginsWithLeast}
 use Rattle.flat_net.specs.View.{NetView, circuit_of}
-use Rattle.signal_graph.specs.Graph.{GraphView, IsGraphOf, SkippedBy, signals_at}
+use Rattle.latch_graph.specs.Graph.{GraphView, IsGraphOf, SkippedBy, signals_at}
 use Rattle.minimal_cut.specs.Chosen.{names_at}
 use Rattle.expose_pick.specs.declared.pairs.LatchPair.{LatchPair}
 

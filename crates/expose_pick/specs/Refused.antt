@@ -1,7 +1,7 @@
 -- What a refusal says.
 use Rattle.std.specs.Prelude.{ℕ, List}
 use Rattle.circuit_theory.specs.declared.Side.TheVariants.{A, B}
-use Rattle.signal_graph.specs.Graph.{GraphView}
+use Rattle.latch_graph.specs.Graph.{GraphView}
 use Rattle.expose_pick.specs.declared.error.PickError.{PickError}
 use Rattle.expose_pick.specs.declared.error.PickError.TheVariants as pick_error
 use Rattle.minimal_cut.specs.Chosen.{IsFree}

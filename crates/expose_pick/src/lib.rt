@@ -10,5 +10,6 @@ mod remaining_cycle;
 
 pub use choice::pick;
 pub use error::PickError;
+pub use latch_graph::LatchGraph;
 pub use laws::{chosen_is_minimal_cut, refused_has_no_cut};
 pub use pairs::{LatchPair, LatchPairs};

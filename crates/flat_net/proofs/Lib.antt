@@ -7,3 +7,4 @@ pub mod PlaceLists
 pub mod Exposed
 pub mod CutNets
 pub mod CutCircuits
+pub use Rattle.sec_base.proofs.TableLemmas

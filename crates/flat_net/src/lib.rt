@@ -9,4 +9,7 @@ mod signals;
 pub use maker::NetMaker;
 pub use net::Net;
 pub use parts::{Driver, Gate, LatchAt, Port};
+pub use sec_base::{
+    Bits, Cover, Duplicate, Ids, NameTable, NoMemory, Orders, PlaceTable, Seq, Words,
+};
 pub use signals::{Signal, Signals};

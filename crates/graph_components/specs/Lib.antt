@@ -1,1 +1,3 @@
 pub mod Inner
+pub use Rattle.signal_graph.specs.Graph
+pub use Rattle.signal_graph.specs.declared.nodes.Node

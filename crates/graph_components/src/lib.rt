@@ -5,3 +5,4 @@ mod components;
 mod inner;
 
 pub use inner::inner_nodes;
+pub use signal_graph::{Node, SignalGraph};

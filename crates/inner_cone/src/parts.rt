@@ -13,9 +13,8 @@ ghost use Rattle.inner_cone.specs.Gates.{AreInnerGates};
 use crate::numbers::number_at;
 use crate::sides::sides_of;
 use crate::walk::{count, signal_at, walked};
-use flat_net::{Driver, LatchAt, Net, Signal, Signals};
+use flat_net::{Driver, Ids, LatchAt, Net, NoMemory, Seq, Signal, Signals};
 use indexmap::IndexSet;
-use sec_base::{Ids, NoMemory, Seq};
 use std::alloc::Global;
 
 /// What a latch's next value depends on the latch by.

@@ -10,8 +10,7 @@ ghost use Rattle.inner_cone.specs.Sides.{AreSides, AreSomeSides, IsLowPut, IsOth
 
 use crate::numbers::number_at;
 use crate::walk::walked;
-use flat_net::{Driver, Net, Signal, Signals};
-use sec_base::NoMemory;
+use flat_net::{Driver, Net, NoMemory, Signal, Signals};
 use std::alloc::Global;
 
 /// Signals that are reached from one backwards through gates and don't lead back to another, by which all inputs and other latches are

@@ -8,9 +8,8 @@ ghost use Rattle.latch_cone.specs.Cones.{AreSome, AreRead, Stay};
 ghost use Rattle.inner_cone.specs.Inner.{AreRanked, AreInside, IsLow, AreHigh, IsHighPut};
 
 use crate::numbers::number_at;
-use flat_net::{Driver, Net, Signal};
+use flat_net::{Driver, Net, NoMemory, Signal};
 use indexmap::IndexSet;
-use sec_base::NoMemory;
 use std::alloc::Global;
 
 /// The signals that are reached from one backwards through gates and lead back to another, and maybe more of those that are

@@ -9,8 +9,8 @@ use Rattle.circuit_theory.specs.Names.{is_among as is_named}
 use Rattle.circuit_theory.specs.Interface.{inputs_beside, shared_inputs, is_clock}
 use Rattle.circuit_theory.proofs.Lists.{length-map, Contains-map, Contains-map_from, Contains-filter, map-map, at_of, of_at}
 use Rattle.circuit_theory.proofs.Numbers.{is_among-complete}
-use Rattle.sec_base.specs.Table.{AreDistinct, is_among}
-use Rattle.sec_base.proofs.TableLemmas.{key_at, is_among-Contains, is_among-at, slice_get-take, take-push}
+use Rattle.flat_net.specs.Table.{AreDistinct, is_among}
+use Rattle.flat_net.proofs.TableLemmas.{key_at, is_among-Contains, is_among-at, slice_get-take, take-push}
 use Rattle.flat_net.specs.declared.parts.Port.{Port}
 use Rattle.flat_net.specs.declared.parts.Gate.{Gate}
 use Rattle.flat_net.specs.declared.parts.LatchAt.{LatchAt}

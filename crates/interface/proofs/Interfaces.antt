@@ -6,8 +6,8 @@ use Rattle.std.proofs.lemmas.List.{take_more, drop_more}
 use Rattle.std.proofs.lemmas.List.Elements.{filter-append}
 use Rattle.std.proofs.lemmas.List.Folds.{list_any-append}
 use Rattle.std.proofs.lemmas.Slice.Eq.{bytes_eq-Decides}
-use Rattle.sec_base.proofs.TableLemmas.{list_any-map, slice_get-take}
-use Rattle.sec_base.specs.Table.{is_among as is_entry}
+use Rattle.flat_net.proofs.TableLemmas.{list_any-map, slice_get-take}
+use Rattle.flat_net.specs.Table.{is_among as is_entry}
 use Rattle.circuit_theory.specs.Names.{same_name, is_among}
 use Rattle.circuit_theory.specs.Interface.{Ports, is_clock, inputs_beside, first_missing}
 use Rattle.circuit_theory.proofs.Inputs.{same_name-sound}

@@ -10,7 +10,7 @@ use Rattle.circuit_theory.specs.Agree.{place_named, latch_named, second_of_pair}
 use Rattle.circuit_theory.proofs.Lists.{length-map, map_same, map-map, Contains-cases, Contains-map, Contains-map_from, at_of, of_at, zip_right}
 use Rattle.circuit_theory.proofs.Numbers.{slice_get-map}
 use Rattle.circuit_laws.proofs.Pairs.{latch_is_named}
-use Rattle.sec_base.specs.Table.{AreDistinct}
+use Rattle.flat_net.specs.Table.{AreDistinct}
 use Rattle.flat_net.specs.declared.parts.Port.{Port}
 use Rattle.flat_net.specs.declared.parts.LatchAt.{LatchAt}
 use Rattle.flat_net.specs.declared.signals.Signal.{Signal}

@@ -5,13 +5,13 @@ use Rattle.circuit_theory.proofs.Lists.{length-map, map_at, at_of, of_at, All-fr
 use Rattle.flat_net.specs.declared.parts.Port.{Port}
 use Rattle.flat_net.specs.View.{NetView, ports_of}
 use Rattle.flat_net.specs.Sound.{IsSound}
-use Rattle.sec_base.specs.declared.basics.Orders.{Orders}
+use Rattle.flat_net.specs.Orders.{Orders}
 use Rattle.std.proofs.lemmas.Option.{slice_get_within, slice_get-get_or}
 use Rattle.circuit_theory.specs.Names.{is_among}
 use Rattle.circuit_theory.specs.Interface.{shared_inputs, AreNumbersOf, AreOrders}
 use Rattle.circuit_theory.proofs.Numbers.{is_among-sound, is_among-complete}
-use Rattle.sec_base.specs.Table.{is_among as is_entry, AreDistinct}
-use Rattle.sec_base.proofs.TableLemmas.{take-push}
+use Rattle.flat_net.specs.Table.{is_among as is_entry, AreDistinct}
+use Rattle.flat_net.proofs.TableLemmas.{take-push}
 use Rattle.flat_net.proofs.Growth.{slice_get-push, slice_get-push_cases, length-push}
 use Rattle.interface.specs.Numbered.{AreNumbered, AreNumbers}
 use Rattle.interface.proofs.Interfaces.{among_entries, name_once}

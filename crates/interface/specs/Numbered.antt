@@ -2,7 +2,7 @@
 use Rattle.std.specs.Prelude.{◌≡◌, ℕ, ◌<◌, ◌≤◌, Bool, true, false, not, ◌&&◌, List, length, Some, slice_get}
 use Rattle.circuit_theory.specs.Names.{is_among}
 use Rattle.circuit_theory.specs.Interface.{Ports, is_clock, AreNumbersOf}
-use Rattle.sec_base.specs.declared.basics.Orders.{Orders}
+use Rattle.flat_net.specs.Orders.{Orders}
 use Rattle.flat_net.specs.View.{NetView, ports_of}
 
 -- an input of this name stays: it is read, or it isn't the other's clock

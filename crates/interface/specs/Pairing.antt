@@ -2,7 +2,7 @@
 use Rattle.std.specs.Prelude.{◌≡◌, ℕ, ◌<◌, List, ◌++◌, map, length, Some, slice_get, All}
 use Rattle.std.specs.List.{AllZip}
 use Rattle.circuit_theory.specs.Agree.{place_named}
-use Rattle.sec_base.specs.Table.{AreDistinct}
+use Rattle.flat_net.specs.Table.{AreDistinct}
 use Rattle.flat_net.specs.declared.parts.Port.{Port}
 use Rattle.flat_net.specs.Cut.{latch_at, exposed_names}
 use Rattle.flat_net.specs.View.{NetView, circuit_of}

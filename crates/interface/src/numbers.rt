@@ -5,8 +5,7 @@ ghost use Rattle.circuit_theory.specs.Interface.{first_missing, inputs_beside, i
 ghost use Rattle.flat_net.specs.View.{ports_of};
 ghost use Rattle.interface.specs.Numbered.{AreNumbered, AreNumbers, stays};
 
-use flat_net::Net;
-use sec_base::{Ids, NameTable, NoMemory, Orders};
+use flat_net::{Ids, NameTable, Net, NoMemory, Orders};
 use std::alloc::Global;
 
 /// Whether the name is that of the net's clock.

@@ -3,14 +3,13 @@
 ghost use Rattle.std.specs.Prelude.{◌≡◌, ◌<◌, ◌≤◌, ◌^◌, map, None, length, slice_get, IfOk, IfSome, All};
 ghost use Rattle.std.specs.List.{AllZip, Contains};
 ghost use Rattle.circuit_theory.specs.Interface.{first_mismatch};
-ghost use Rattle.sec_base.specs.Table.{AreDistinct};
+ghost use Rattle.flat_net.specs.Table.{AreDistinct};
 ghost use Rattle.flat_net.specs.Cut.{latch_at};
 ghost use Rattle.flat_net.specs.View.{ports_of};
 ghost use Rattle.flat_net.specs.Comparable.{IsComparable};
 ghost use Rattle.interface.specs.Pairing.{AreNamedAt, IsOutputPair, IsNextPairAt, ArePairs};
 
-use flat_net::{Net, Port, Signal};
-use sec_base::{Ids, NameTable, NoMemory, Seq, Words};
+use flat_net::{Ids, NameTable, Net, NoMemory, Port, Seq, Signal, Words};
 use std::alloc::Global;
 use witness_report::PairName;
 

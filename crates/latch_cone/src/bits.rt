@@ -4,8 +4,7 @@ ghost use Rattle.std.specs.Prelude.{◌≡◌, false, length, replicate, IfOk};
 ghost use Rattle.circuit_theory.specs.declared.Mode.TheVariants.{Plain};
 ghost use Rattle.latch_cone.specs.Cones.{MarksEnabled};
 
-use flat_net::Net;
-use sec_base::{Bits, NoMemory, Seq};
+use flat_net::{Bits, Net, NoMemory, Seq};
 use std::alloc::Global;
 
 /// A bit for each latch, none of them set: in the plain mode no latch counts as enabled.

@@ -7,8 +7,7 @@ ghost use Rattle.flat_net.specs.View.{NetView};
 ghost use Rattle.latch_cone.specs.Cones.{MarksEnabled};
 ghost use Rattle.latch_cone.specs.Kinds.{AreKindsIn, is_enabled};
 
-use flat_net::Net;
-use sec_base::{Bits, NoMemory, Seq};
+use flat_net::{Bits, Net, NoMemory, Seq};
 use std::alloc::Global;
 
 /// What a latch is, by the cone of what it takes over.

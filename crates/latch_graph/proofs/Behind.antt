@@ -12,15 +12,15 @@ use Rattle.flat_net.specs.View.{NetView, circuit_of}
 use Rattle.circuit_theory.specs.Circuit.{Circuit, IsSource, Reads, Reaches}
 use Rattle.circuit_theory.specs.Names.{ListBefore}
 use Rattle.circuit_theory.proofs.Sums.{same_or_not}
-use Rattle.signal_graph.specs.declared.nodes.Node.{Node}
+use Rattle.unfolding_weight.specs.Node.{Node}
 use Rattle.latch_graph.specs.declared.states.State.{State}
 use Rattle.latch_graph.specs.declared.states.State.TheVariants.{New, Endless, Removed}
-use Rattle.signal_graph.specs.Graph.{GraphView, IsGraphOf, AreNodes}
-use Rattle.latch_cone.specs.Cones.{IsMarkedBy}
+use Rattle.unfolding_weight.specs.Graph.{GraphView, IsGraphOf, AreNodes}
+use Rattle.unfolding_weight.specs.Cones.{IsMarkedBy}
 use Rattle.latch_graph.specs.Settling.{ReadsEndless, IsTable, SameRemoved}
 use Rattle.latch_graph.specs.Rounds.{latch_in, IsEndless, TakesOver, AreRemoved}
-use Rattle.signal_graph.proofs.Lists.{set_same, set_other, set_cases}
-use Rattle.signal_graph.proofs.Driving.{Driven, driven, none_some, read_taken}
+use Rattle.unfolding_weight.proofs.Lists.{set_same, set_other, set_cases}
+use Rattle.unfolding_weight.proofs.Driving.{Driven, driven, none_some, read_taken}
 use Rattle.latch_graph.proofs.Before.{before_self, before_after}
 use Rattle.latch_graph.proofs.Turns.{IsWithout}
 

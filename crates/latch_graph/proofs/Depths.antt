@@ -8,12 +8,12 @@ use Rattle.flat_net.proofs.Nets.{some_at, latch_stands}
 use Rattle.circuit_theory.specs.Circuit.{IsLatch, Reads, Reaches}
 use Rattle.circuit_theory.specs.Depth.{LatchChain, ChainFrom}
 use Rattle.circuit_theory.proofs.Lists.{Contains-map, of_at}
-use Rattle.signal_graph.specs.declared.nodes.Node.{Node}
+use Rattle.unfolding_weight.specs.Node.{Node}
 use Rattle.latch_graph.specs.declared.states.State.{State}
 use Rattle.latch_graph.specs.declared.states.State.TheVariants.{New, Open, Known, Endless, Removed}
 use Rattle.std.proofs.lemmas.Option.{slice_get_within}
-use Rattle.signal_graph.proofs.Driving.{Driven, driven, read_taken, nothing_at}
-use Rattle.signal_graph.specs.Graph.{GraphView, IsGraphOf, AreTaken, SkippedBy, step_of}
+use Rattle.unfolding_weight.proofs.Driving.{Driven, driven, read_taken, nothing_at}
+use Rattle.unfolding_weight.specs.Graph.{GraphView, IsGraphOf, AreTaken, SkippedBy, step_of}
 use Rattle.latch_graph.specs.Settling.{HasDepth, IsDepthOf, ReadsEndless, IsTable, depth_of}
 
 module _ (n : NetView) (g : GraphView) (of : IsGraphOf n g) where

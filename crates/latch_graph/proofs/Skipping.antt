@@ -10,8 +10,8 @@ use Rattle.circuit_theory.specs.Agree.{EnabledIn}
 use Rattle.std.proofs.lemmas.Option.{slice_get_within}
 use Rattle.flat_net.proofs.Nets.{OfGate, OfLatch, equation_from, some_at}
 use Rattle.circuit_theory.specs.Depth.{LatchReads, LatchPath, LatchChain, ChainFrom, HasCycle, IsCycle, IsDepth, HasNoDepth}
-use Rattle.signal_graph.specs.Graph.{GraphView, IsGraphOf, IsGraphIn, IsPlainGraphOf, SkippedBy}
-use Rattle.latch_cone.specs.Cones.{MarksEnabled}
+use Rattle.unfolding_weight.specs.Graph.{GraphView, IsGraphOf, IsGraphIn, IsPlainGraphOf, SkippedBy}
+use Rattle.unfolding_weight.specs.Cones.{MarksEnabled}
 
 -- what is left out by the second is left out by the first, where it is a latch
 pub record IsLessLeftOut {P : Type 0} (c : Circuit P) (more less : P → Type 0) : Type 0 where

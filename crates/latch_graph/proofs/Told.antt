@@ -8,7 +8,7 @@ use Rattle.flat_net.specs.View.{NetView, circuit_of}
 use Rattle.circuit_theory.specs.Depth.{LatchReads, LatchChain, ChainFrom, IsDepth, HasNoDepth}
 use Rattle.latch_graph.specs.declared.states.State.{State}
 use Rattle.latch_graph.specs.declared.states.State.TheVariants.{New, Open, Known, Endless, Removed}
-use Rattle.signal_graph.specs.Graph.{GraphView, IsGraphOf, SkippedBy, marked_names}
+use Rattle.unfolding_weight.specs.Graph.{GraphView, IsGraphOf, SkippedBy, marked_names}
 use Rattle.latch_graph.specs.Settling.{HasDepth, IsSettled}
 use Rattle.latch_graph.proofs.Depths.{endless, known_chain}
 use Rattle.latch_graph.proofs.Turns.{IsWithout, reach_lower, edge_lower, latch_deep}

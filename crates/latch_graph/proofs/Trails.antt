@@ -11,10 +11,10 @@ use Rattle.flat_net.proofs.CutNets.{few_distinct}
 use Rattle.circuit_theory.specs.Depth.{after_in_round}
 use Rattle.circuit_theory.proofs.Sums.{same_or_not}
 use Rattle.circuit_theory.proofs.Inputs.{test_same, test_refl}
-use Rattle.signal_graph.specs.declared.nodes.Node.{Node}
+use Rattle.unfolding_weight.specs.Node.{Node}
 use Rattle.latch_graph.specs.declared.states.State.{State}
 use Rattle.latch_graph.specs.Rounds.{IsEndless, TakesOver, IsTrail, IsRound}
-use Rattle.signal_graph.proofs.Lists.{set_same, set_other, set_cases}
+use Rattle.unfolding_weight.proofs.Lists.{set_same, set_other, set_cases}
 
 true_false : ◌≡◌ {A = Option Bool} (Some true) (Some false) → ⊥
 true_false e = cc

@@ -17,18 +17,18 @@ use Rattle.circuit_theory.specs.Depth.{LatchReads, LatchPath, HasCycle, IsCycle,
 use Rattle.circuit_theory.specs.Net.{IsNet, IsWithin}
 use Rattle.circuit_theory.proofs.Lists.{Contains-head, Contains-tail, Contains-cases, Contains-map_from, at_of, map_at, length-map}
 use Rattle.circuit_theory.proofs.Sums.{same_or_not}
-use Rattle.signal_graph.specs.declared.nodes.Node.{Node}
+use Rattle.unfolding_weight.specs.Node.{Node}
 use Rattle.latch_graph.specs.declared.states.State.{State}
 use Rattle.latch_graph.specs.declared.states.State.TheVariants.{New, Open, Known, Endless, Removed}
-use Rattle.signal_graph.specs.Graph.{GraphView, IsGraphOf, marked_names, signals_at, step_of}
-use Rattle.latch_cone.specs.Cones.{IsMarkedBy}
+use Rattle.unfolding_weight.specs.Graph.{GraphView, IsGraphOf, marked_names, signals_at, step_of}
+use Rattle.unfolding_weight.specs.Cones.{IsMarkedBy}
 use Rattle.latch_graph.specs.Settling.{HasDepth, IsDepthOf, IsSettled, depth_of}
 use Rattle.latch_graph.specs.Rounds.{latch_in, IsEndless, TakesOver, StandsBack, IsTurnedRound}
 use Rattle.latch_graph.proofs.Tables.{one_depth}
-use Rattle.signal_graph.proofs.Driving.{kept_nodes, taken_read}
-use Rattle.signal_graph.proofs.Reading.{reads_node, latch_node}
+use Rattle.unfolding_weight.proofs.Driving.{kept_nodes, taken_read}
+use Rattle.unfolding_weight.proofs.Reading.{reads_node, latch_node}
 use Rattle.latch_graph.proofs.Trails.{after_last, after_next}
-use Rattle.signal_graph.proofs.Lists.{AllPairs-from_at}
+use Rattle.unfolding_weight.proofs.Lists.{AllPairs-from_at}
 
 -- the place that stands i places before the first in a round of n
 abbrev IsBack : ℕ → ℕ → ℕ → ℕ → Type 0

@@ -10,13 +10,13 @@ use Rattle.flat_net.proofs.Nets.{some_at}
 use Rattle.flat_net.proofs.Growth.{slice_get-append, slice_get-push, slice_get-push_cases, length-push}
 use Rattle.flat_net.specs.declared.signals.Signal.{Signal}
 use Rattle.circuit_theory.proofs.Sums.{same_or_not}
-use Rattle.signal_graph.specs.declared.nodes.Node.{Node}
+use Rattle.unfolding_weight.specs.Node.{Node}
 use Rattle.latch_graph.specs.declared.states.State.{State}
 use Rattle.latch_graph.specs.declared.states.State.TheVariants.{New, Open, Known, Endless, Removed}
 use Rattle.latch_graph.specs.declared.states.Step.{Step}
-use Rattle.signal_graph.specs.Graph.{step_of}
+use Rattle.unfolding_weight.specs.Graph.{step_of}
 use Rattle.latch_graph.specs.Settling.{HasDepth, IsGreatest, IsDepthOf, ReadsEndless, IsRight, IsTable, IsStep, IsWay, Leads, IsLater, IsGivenUp, IsFirst, IsFinal, IsSettled, depth_of, is_new, new_count}
-use Rattle.signal_graph.proofs.Lists.{set_same, set_other, set_cases}
+use Rattle.unfolding_weight.proofs.Lists.{set_same, set_other, set_cases}
 use Rattle.latch_graph.proofs.Tables.{new_count-set, Keeps, keeps_right, set_keeps}
 
 -- setting a state that isn't final, to one that isn't new

@@ -4,20 +4,18 @@ ghost use Rattle.std.specs.Prelude.{◌≡◌, ℕ, ◌<◌, length, map, slice_
 ghost use Rattle.circuit_theory.specs.Depth.{IsDepth, HasNoDepth, HasCycle, IsCycle, BeginsWithLeast};
 ghost use Rattle.circuit_theory.specs.declared.Mode.{Mode};
 ghost use Rattle.circuit_theory.specs.declared.Mode.TheVariants.{Plain};
-ghost use Rattle.latch_cone.specs.Cones.{MarksEnabled};
+ghost use Rattle.unfolding_weight.specs.Cones.{MarksEnabled};
 ghost use Rattle.flat_net.specs.View.{NetView, circuit_of};
-ghost use Rattle.signal_graph.specs.Graph.{AreNodes, IsGraphOf, IsGraphIn, SkippedBy, marked_names, signals_at};
+ghost use Rattle.unfolding_weight.specs.Graph.{AreNodes, IsGraphOf, IsGraphIn, SkippedBy, marked_names, signals_at};
 ghost use Rattle.latch_graph.specs.Settling.{IsSettled};
 ghost use Rattle.unfolding_weight.specs.Weight.{Weighs};
 
 use crate::rounds::find_cycle;
 use crate::states::{State, all_new, settled_from};
-use flat_net::{LatchAt, Net, Signal, Signals};
-use sec_base::{Bits, Ids, NoMemory};
-use signal_graph::{Node, SignalGraph};
+use flat_net::{Bits, Ids, LatchAt, Net, NoMemory, Signal, Signals};
+use unfolding_weight::{Node, SignalGraph, Weight, weigh};
 use std::alloc::Global;
 use std::marker::Model;
-use unfolding_weight::{Weight, weigh};
 
 /// The latch graph of a net: it has an edge from a latch to each latch whose next value depends on it through gates,
 /// but no edge from a skipped latch to itself. The edges aren't written out; they are ways through the signals, and a
@@ -30,7 +28,7 @@ pub struct LatchGraph {
 }
 
 impl Model for LatchGraph {
-    ghost use Rattle.signal_graph.specs.Graph.{GraphView};
+    ghost use Rattle.unfolding_weight.specs.Graph.{GraphView};
     ghost use Rattle.latch_graph.specs.Kept.{IsKept};
 
     ghost Value = { GraphView };

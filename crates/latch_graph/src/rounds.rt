@@ -7,17 +7,16 @@ ghost use Rattle.circuit_theory.specs.Depth.{HasCycle, IsCycle, BeginsWithLeast}
 ghost use Rattle.flat_net.specs.declared.signals.Signal.{Signal};
 ghost use Rattle.flat_net.specs.declared.parts.LatchAt.{LatchAt};
 ghost use Rattle.flat_net.specs.View.{NetView, circuit_of};
-ghost use Rattle.signal_graph.specs.declared.nodes.Node.{Node};
+ghost use Rattle.unfolding_weight.specs.Node.{Node};
 ghost use Rattle.latch_graph.specs.declared.states.State.{State};
-ghost use Rattle.signal_graph.specs.Graph.{AreNodes, IsGraphOf, marked_names, signals_at};
-ghost use Rattle.latch_cone.specs.Cones.{IsMarkedBy};
+ghost use Rattle.unfolding_weight.specs.Graph.{AreNodes, IsGraphOf, marked_names, signals_at};
+ghost use Rattle.unfolding_weight.specs.Cones.{IsMarkedBy};
 ghost use Rattle.latch_graph.specs.Settling.{IsSettled};
 ghost use Rattle.latch_graph.specs.Rounds.{latch_in, IsEndless, TakesOver, IsRound, IsLeast, IsTurned, IsTurnedRound, AreRemoved};
 
 use crate::states::{State, all_new, settled_from};
-use flat_net::LatchAt;
-use sec_base::{Ids, NoMemory, Seq};
-use signal_graph::Node;
+use flat_net::{Ids, LatchAt, NoMemory, Seq};
+use unfolding_weight::Node;
 use std::alloc::Global;
 
 /// A cycle without the removed latches, if one is left: each latch is read by the next, the last by the first, and the

@@ -2,13 +2,12 @@
 
 ghost use Rattle.std.specs.Prelude.{◌≡◌, ℕ, ◌+◌, ◌*◌, ◌^◌, ◌<◌, ◌≤◌, [], ◌∷◌, ◌++◌, true, false, length, slice_get, slice_set, Some, OnOk, IfOk, IfSome, IfNone, is_some};
 ghost use Rattle.flat_net.specs.declared.signals.Signal.{Signal};
-ghost use Rattle.signal_graph.specs.declared.nodes.Node.{Node};
+ghost use Rattle.unfolding_weight.specs.Node.{Node};
 ghost use Rattle.latch_graph.specs.declared.states.State.{State};
 ghost use Rattle.latch_graph.specs.Settling.{HasDepth, IsGreatest, IsDepthOf, IsFirst, IsSettled, SameRemoved, IsLater, IsGivenUp, Leads, new_count, IsWay, depth_of};
 
-use flat_net::Signal;
-use sec_base::NoMemory;
-use signal_graph::Node;
+use flat_net::{NoMemory, Signal};
+use unfolding_weight::Node;
 use std::alloc::Global;
 
 /// What is known of a signal's depth.

@@ -12,10 +12,10 @@ use Rattle.flat_net.specs.Cut.{no_latch}
 use Rattle.flat_net.specs.View.{NetView, circuit_of}
 use Rattle.flat_net.proofs.Places.{one_at}
 use Rattle.flat_net.proofs.Nets.{some_at, latch_stands, sound_is_net}
-use Rattle.signal_graph.specs.declared.nodes.Node.{Node}
-use Rattle.signal_graph.specs.Graph.{GraphView, IsGraphOf, SkippedBy, AreNodes}
-use Rattle.signal_graph.proofs.Driving.{kept_nodes, read_taken, taken_read, none_some}
-use Rattle.signal_graph.proofs.Reading.{reads_node, latch_node, node_reads}
+use Rattle.graph_components.specs.Node.{Node}
+use Rattle.graph_components.specs.Graph.{GraphView, IsGraphOf, SkippedBy, AreNodes}
+use Rattle.graph_components.proofs.Driving.{kept_nodes, read_taken, taken_read, none_some}
+use Rattle.graph_components.proofs.Reading.{reads_node, latch_node, node_reads}
 use Rattle.minimal_cut.specs.Readers.{NodeReads, WayBack}
 use Rattle.minimal_cut.specs.Marks.{signal_of}
 use Rattle.minimal_cut.proofs.WayLemmas.{way_then}

@@ -11,8 +11,8 @@ use Rattle.flat_net.proofs.Places.{one_at}
 use Rattle.flat_net.proofs.Nets.{some_at}
 use Rattle.circuit_theory.proofs.Inputs.{test_refl}
 use Rattle.circuit_theory.proofs.Sums.{same_or_not}
-use Rattle.signal_graph.specs.declared.nodes.Node.{Node}
-use Rattle.signal_graph.proofs.Lists.{set_same, set_other, set_cases}
+use Rattle.graph_components.specs.Node.{Node}
+use Rattle.graph_components.proofs.Lists.{set_same, set_other, set_cases}
 use Rattle.minimal_cut.specs.declared.marks.Direction.{Direction}
 use Rattle.minimal_cut.specs.declared.marks.Direction.TheVariants.{Back}
 use Rattle.minimal_cut.specs.declared.marks.Mark.{Mark}

@@ -13,8 +13,8 @@ use Rattle.flat_net.specs.View.{NetView}
 use Rattle.flat_net.specs.Cut.{no_latch}
 use Rattle.flat_net.proofs.Places.{one_at, All-at}
 use Rattle.flat_net.proofs.Growth.{slice_get-push_cases}
-use Rattle.signal_graph.specs.declared.nodes.Node.{Node}
-use Rattle.signal_graph.specs.Graph.{GraphView, IsGraphOf, AreNodes}
+use Rattle.graph_components.specs.Node.{Node}
+use Rattle.graph_components.specs.Graph.{GraphView, IsGraphOf, AreNodes}
 use Rattle.minimal_cut.specs.declared.marks.Direction.{Direction}
 use Rattle.minimal_cut.specs.declared.marks.Direction.TheVariants.{Back}
 use Rattle.minimal_cut.specs.declared.marks.Mark.{Mark}

@@ -14,9 +14,9 @@ use Rattle.flat_net.specs.Cut.{no_latch}
 use Rattle.flat_net.proofs.Places.{one_at, All-at}
 use Rattle.flat_net.proofs.Growth.{slice_get-push_cases}
 use Rattle.flat_net.proofs.CutNets.{few_distinct}
-use Rattle.signal_graph.specs.declared.nodes.Node.{Node}
-use Rattle.signal_graph.specs.Graph.{GraphView, IsGraphOf, SkippedBy, AreNodes}
-use Rattle.signal_graph.proofs.Lists.{AllPairs-from_at}
+use Rattle.graph_components.specs.Node.{Node}
+use Rattle.graph_components.specs.Graph.{GraphView, IsGraphOf, SkippedBy, AreNodes}
+use Rattle.graph_components.proofs.Lists.{AllPairs-from_at}
 use Rattle.minimal_cut.specs.declared.marks.Mark.{Mark}
 use Rattle.minimal_cut.specs.declared.marks.Mark.TheVariants.{Out}
 use Rattle.minimal_cut.specs.Chosen.{IsFree, IsMinimalChoice, at_places, names_at}

@@ -8,9 +8,9 @@ use Rattle.circuit_theory.proofs.Sums.{same_or_not}
 use Rattle.flat_net.specs.declared.signals.Signal.{Signal}
 use Rattle.flat_net.proofs.Places.{one_at}
 use Rattle.flat_net.proofs.Growth.{slice_get-append, slice_get-push, slice_get-push_cases}
-use Rattle.signal_graph.specs.declared.nodes.Node.{Node}
-use Rattle.signal_graph.proofs.Lists.{set_same, set_other, set_cases}
-use Rattle.signal_graph.proofs.Driving.{nothing_at}
+use Rattle.graph_components.specs.Node.{Node}
+use Rattle.graph_components.proofs.Lists.{set_same, set_other, set_cases}
+use Rattle.graph_components.proofs.Driving.{nothing_at}
 use Rattle.minimal_cut.specs.Readers.{NodeReads, AreReaders, AreReadersUpTo}
 
 -- a signal has one reading more

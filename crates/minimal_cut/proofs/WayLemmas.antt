@@ -9,7 +9,7 @@ use Rattle.circuit_theory.proofs.Sums.{same_or_not}
 use Rattle.flat_net.specs.declared.signals.Signal.{Signal}
 use Rattle.flat_net.proofs.Nets.{some_at}
 use Rattle.graph_components.specs.Inner.{AreInner}
-use Rattle.signal_graph.specs.declared.nodes.Node.{Node}
+use Rattle.graph_components.specs.Node.{Node}
 use Rattle.minimal_cut.specs.Readers.{NodeReads, WayBack, AreReaders}
 
 -- a way stays where fewer signals are blocked

@@ -5,7 +5,7 @@ use Rattle.circuit_theory.specs.Depth.{HasCycle, without}
 use Rattle.flat_net.specs.declared.parts.LatchAt.{LatchAt}
 use Rattle.flat_net.specs.View.{NetView, circuit_of}
 use Rattle.flat_net.specs.Cut.{no_latch}
-use Rattle.signal_graph.specs.Graph.{GraphView, IsGraphOf, SkippedBy}
+use Rattle.graph_components.specs.Graph.{GraphView, IsGraphOf, SkippedBy}
 
 -- the numbers at these places
 abbrev pub at_places : List ℕ → List ℕ → List ℕ

@@ -2,7 +2,7 @@
 use Rattle.std.specs.Prelude.{◌≡◌, ◌≢◌, ℕ, ◌<◌, ◌⊎◌, Bool, true, false, List, length, slice_get, slice_index_or, Some}
 use Rattle.flat_net.specs.declared.parts.LatchAt.{LatchAt}
 use Rattle.flat_net.specs.Cut.{no_latch}
-use Rattle.signal_graph.specs.declared.nodes.Node.{Node}
+use Rattle.graph_components.specs.Node.{Node}
 use Rattle.minimal_cut.specs.declared.marks.Direction.{Direction}
 use Rattle.minimal_cut.specs.declared.marks.Direction.TheVariants.{Back}
 use Rattle.minimal_cut.specs.declared.marks.Mark.{Mark}

@@ -1,7 +1,7 @@
 -- Readings, ways along them, and the same turned round.
 use Rattle.std.specs.Prelude.{◌≡◌, ℕ, ◌<◌, ◌⊎◌, List, length, slice_get, Some}
 use Rattle.flat_net.specs.declared.signals.Signal.{Signal}
-use Rattle.signal_graph.specs.declared.nodes.Node.{Node}
+use Rattle.graph_components.specs.Node.{Node}
 
 -- the signal s reads the signal r
 pub record NodeReads (nodes : List Node) (s r : ℕ) : Type 0 where

@@ -2,8 +2,8 @@
 use Rattle.std.specs.Prelude.{◌≡◌, ℕ, ◌+◌, ◌<◌, ◌≤◌, ◌⊎◌, List, length, slice_get, Some, All, Contains}
 use Rattle.sec_base.specs.Table.{AreDistinct}
 use Rattle.flat_net.specs.View.{NetView}
-use Rattle.signal_graph.specs.declared.nodes.Node.{Node}
-use Rattle.signal_graph.specs.Graph.{GraphView, IsGraphOf, AreNodes}
+use Rattle.graph_components.specs.Node.{Node}
+use Rattle.graph_components.specs.Graph.{GraphView, IsGraphOf, AreNodes}
 use Rattle.graph_components.specs.Inner.{AreInner}
 use Rattle.minimal_cut.specs.declared.marks.Mark.{Mark}
 use Rattle.minimal_cut.specs.Readers.{WayBack, AreReaders}

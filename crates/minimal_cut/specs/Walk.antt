@@ -1,7 +1,7 @@
 -- How far a walk from a latch that is put back has come.
 use Rattle.std.specs.Prelude.{◌≡◌, ◌≢◌, ◌==◌, ℕ, ◌<◌, ◌⊎◌, if◌then◌else◌, Bool, true, false, List, [], ◌∷◌, ◌++◌, length, slice_get, slice_set, Some}
 use Rattle.std.specs.List.{sum_by}
-use Rattle.signal_graph.specs.declared.nodes.Node.{Node}
+use Rattle.graph_components.specs.Node.{Node}
 use Rattle.flat_net.specs.declared.signals.Signal.{Signal}
 use Rattle.minimal_cut.specs.declared.marks.Direction.{Direction}
 use Rattle.minimal_cut.specs.declared.marks.Direction.TheVariants.{Back, Ahead}

@@ -2,13 +2,13 @@
 
 ghost use Rattle.std.specs.Prelude.{◌≡◌, ◌≢◌, ℕ, ◌<◌, All, true, false, length, slice_get, Some, IfOk};
 ghost use Rattle.flat_net.specs.declared.parts.LatchAt.{LatchAt};
-ghost use Rattle.signal_graph.specs.declared.nodes.Node.{Node};
-ghost use Rattle.signal_graph.specs.Graph.{AreNodes};
+ghost use Rattle.graph_components.specs.Node.{Node};
+ghost use Rattle.graph_components.specs.Graph.{AreNodes};
 ghost use Rattle.minimal_cut.specs.Marks.{AreFirst};
 
 use flat_net::LatchAt;
 use sec_base::NoMemory;
-use signal_graph::Node;
+use graph_components::Node;
 use std::alloc::Global;
 
 /// Which way a walk goes.

@@ -2,12 +2,12 @@
 
 ghost use Rattle.std.specs.Prelude.{◌≡◌, ℕ, ◌+◌, ◌^◌, ◌<◌, [], ◌∷◌, ◌++◌, None, length, slice_get, Some, IfOk, OnOk};
 ghost use Rattle.flat_net.specs.declared.signals.Signal.{Signal};
-ghost use Rattle.signal_graph.specs.declared.nodes.Node.{Node};
+ghost use Rattle.graph_components.specs.Node.{Node};
 ghost use Rattle.minimal_cut.specs.Readers.{AreReaders, AreReadersUpTo};
 
 use flat_net::{Signal, Signals};
 use sec_base::NoMemory;
-use signal_graph::Node;
+use graph_components::Node;
 use std::alloc::Global;
 
 /// The nodes with all readings turned round: each signal has those that read it.

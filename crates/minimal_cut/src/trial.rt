@@ -11,9 +11,8 @@ ghost use Rattle.minimal_cut.specs.Trying.{IsField, AreTried};
 use crate::marks::{Mark, first_marks};
 use crate::readers::readers_of;
 use crate::walk::closes_cycle;
-use graph_components::inner_nodes;
+use graph_components::{Node, SignalGraph, inner_nodes};
 use sec_base::{Ids, NoMemory, Seq};
-use signal_graph::{Node, SignalGraph};
 use std::alloc::Global;
 
 /// One of the two graphs, with the positions of its latches in the pairs, its readings that can be part of a cycle, and these turned

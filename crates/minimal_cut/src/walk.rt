@@ -3,7 +3,7 @@
 
 ghost use Rattle.std.specs.Prelude.{◌≡◌, ℕ, ◌+◌, ◌<◌, [], ◌∷◌, true, false, length, slice_get, slice_set, Some, OnOk, IfOk};
 ghost use Rattle.flat_net.specs.declared.signals.Signal.{Signal};
-ghost use Rattle.signal_graph.specs.declared.nodes.Node.{Node};
+ghost use Rattle.graph_components.specs.Node.{Node};
 ghost use Rattle.minimal_cut.specs.declared.marks.Mark.{Mark};
 ghost use Rattle.minimal_cut.specs.Readers.{AreReaders, WayBack};
 ghost use Rattle.minimal_cut.specs.Marks.{AreMarks, IsPutBack, IsBlocked};
@@ -11,7 +11,7 @@ ghost use Rattle.minimal_cut.specs.Walk.{IsWalk, IsLater, Meets, HasMet, unseen_
 
 use crate::marks::{Direction, Mark};
 use sec_base::NoMemory;
-use signal_graph::Node;
+use graph_components::Node;
 use std::alloc::Global;
 
 /// Puts the latch of the root back, and tells whether that closes a cycle. A walk back and a walk ahead go on in turn,

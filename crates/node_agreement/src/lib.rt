@@ -12,4 +12,6 @@ mod table;
 
 pub use budget::{Budget, Effort};
 pub use proof::{Proved, prove};
+pub use root_classes::{leads_of, variables};
 pub use signs::{signed, zero};
+pub use sweep_candidates::Hints;

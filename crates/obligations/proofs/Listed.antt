@@ -6,8 +6,8 @@ use Rattle.std.proofs.lemmas.List.Elements.{All-nil, All-cons, All-head, All-tai
 use Rattle.std.proofs.lemmas.Option.{none-some, same_Some, slice_get_within, slice_get-get_or, get_or_from_slice_get}
 use Rattle.aig.specs.declared.node.Node.{Node}
 use Rattle.aig.proofs.Growth.{slice_get-append}
-use Rattle.pair_decide.specs.declared.query.Query.{Query}
-use Rattle.pair_decide.specs.Queries.{IsQuery}
+use Rattle.outcome.specs.Query.{Query}
+use Rattle.outcome.specs.Queries.{IsQuery}
 use Rattle.obligations.specs.declared.obligation.Obligation.{Obligation}
 use Rattle.obligations.specs.Asked.{AreAsked, queries_of}
 

@@ -5,10 +5,10 @@ use Rattle.std.specs.List.{All}
 use Rattle.std.proofs.lemmas.Option.{same_Some, slice_get_within}
 use Rattle.circuit_theory.proofs.Lists.{All-from_each, at_of}
 use Rattle.aig.specs.declared.node.Node.{Node}
-use Rattle.pair_decide.specs.declared.query.Query.{Query}
-use Rattle.pair_decide.specs.declared.query.Decision.{Decision}
-use Rattle.pair_decide.specs.declared.query.Decision.TheVariants as decision
-use Rattle.pair_decide.specs.Queries.{IsSame}
+use Rattle.outcome.specs.Query.{Query}
+use Rattle.outcome.specs.Decision.{Decision}
+use Rattle.outcome.specs.Decision.TheVariants as decision
+use Rattle.outcome.specs.Queries.{IsSame}
 use Rattle.swept_queries.specs.InStead.{DecidesInStead}
 use Rattle.swept_queries.proofs.Stand.{is_same, is_difference}
 use Rattle.obligations.specs.declared.found.Found.{Found}

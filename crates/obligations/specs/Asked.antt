@@ -2,8 +2,8 @@
 use Rattle.std.specs.Prelude.{◌≡◌, ℕ, List, [], ◌∷◌, ◌++◌, slice_get, Option, Some, None}
 use Rattle.std.specs.List.{All, AllZip}
 use Rattle.aig.specs.declared.node.Node.{Node}
-use Rattle.pair_decide.specs.declared.query.Query.{Query}
-use Rattle.pair_decide.specs.Queries.{IsQuery}
+use Rattle.outcome.specs.Query.{Query}
+use Rattle.outcome.specs.Queries.{IsQuery}
 use Rattle.swept_queries.specs.declared.sides.Sides.{Sides}
 use Rattle.swept_queries.specs.declared.queries.SweptQueries.{SweptQueries}
 use Rattle.swept_queries.specs.InStead.{sides_of, IsKnown}

@@ -5,8 +5,8 @@ use Rattle.aig.specs.declared.node.Node.{Node}
 use Rattle.sec_base.specs.declared.basics.PairAnswer.{PairAnswer}
 use Rattle.sec_base.specs.declared.basics.PairAnswer.TheVariants as answer
 use Rattle.witness_report.specs.declared.witness.PairName.{PairName}
-use Rattle.pair_decide.specs.declared.query.Proof.{Proof}
-use Rattle.pair_decide.specs.Queries.{IsSame}
+use Rattle.outcome.specs.Proof.{Proof}
+use Rattle.outcome.specs.Queries.{IsSame}
 use Rattle.outcome.specs.declared.verdict.PairResult.{PairResult}
 use Rattle.obligations.specs.declared.obligation.Obligation.{Obligation}
 use Rattle.obligations.specs.declared.obligation.Difference.{Difference}

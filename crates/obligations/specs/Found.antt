@@ -4,12 +4,12 @@ use Rattle.std.specs.List.{All}
 use Rattle.aig.specs.declared.node.Node.{Node}
 use Rattle.sec_base.specs.declared.basics.PairAnswer.{PairAnswer}
 use Rattle.sec_base.specs.declared.basics.PairAnswer.TheVariants as answer
-use Rattle.pair_decide.specs.declared.query.Query.{Query}
-use Rattle.pair_decide.specs.declared.query.Proof.{Proof}
-use Rattle.pair_decide.specs.declared.query.Decision.{Decision}
-use Rattle.pair_decide.specs.declared.query.Decision.TheVariants as decision
-use Rattle.pair_decide.specs.Queries.{IsSame}
-use Rattle.pair_decide.specs.Answers.{IsDifference}
+use Rattle.outcome.specs.Query.{Query}
+use Rattle.outcome.specs.Proof.{Proof}
+use Rattle.outcome.specs.Decision.{Decision}
+use Rattle.outcome.specs.Decision.TheVariants as decision
+use Rattle.outcome.specs.Queries.{IsSame}
+use Rattle.outcome.specs.Answers.{IsDifference}
 use Rattle.swept_queries.specs.InStead.{DecidesInStead}
 use Rattle.obligations.specs.declared.found.Found.{Found}
 use Rattle.obligations.specs.declared.found.Found.TheVariants as found

@@ -2,3 +2,4 @@ pub mod Asked
 pub mod Found
 pub mod Decided
 pub mod Verdict
+pub use Rattle.swept_queries.specs.InStead

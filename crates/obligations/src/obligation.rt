@@ -1,7 +1,6 @@
 //! What is asked, and where it is found to differ.
 
-use outcome::PairName;
-use pair_decide::Query;
+use outcome::{PairName, Query};
 use sec_base::{Bits, Seq};
 
 /// Queries over one graph, in order.

@@ -6,7 +6,7 @@ ghost use Rattle.obligations.specs.Asked.{AreAsked, AreKnown, MaySweep, queries_
 
 use crate::obligation::Obligation;
 use aig::Aig;
-use pair_decide::Query;
+use outcome::Query;
 use sec_base::NoMemory;
 use std::alloc::Global;
 use swept_queries::{Sides, SweptQueries, sweep_queries};

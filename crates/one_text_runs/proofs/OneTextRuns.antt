@@ -11,7 +11,7 @@ use Rattle.outcome.specs.declared.verdict.Verdict.{Verdict}
 use Rattle.outcome.specs.declared.verdict.Verdict.TheVariants as verdict
 use Rattle.sec_base.specs.declared.settings.Settings.{Settings}
 use Rattle.compare_base.specs.Compared.{ByReset}
-use Rattle.event_fits.specs.Compared.{ComparedIn}
+use Rattle.check_meaning.specs.Compared.{ComparedIn}
 use Rattle.job_base.specs.declared.finding.Finding.{Finding}
 use Rattle.job_base.specs.declared.finding.Finding.TheVariants as finding
 use Rattle.job_base.specs.declared.status.StatusName.{StatusName}

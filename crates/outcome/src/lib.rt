@@ -5,7 +5,7 @@ mod text;
 mod verdict;
 
 pub use frame_report::{Frame, Spot, Spots};
-pub use pair_decide::Proof;
+pub use pair_decide::{Decision, Proof, Query};
 pub use sec_base::Settings;
 pub use text::report;
 pub use verdict::{

@@ -3,3 +3,7 @@ pub mod Limits
 pub mod Outcome
 pub mod ResetLimits
 pub mod ResetOutcome
+pub use Rattle.sec_setup.specs.Cuts
+pub use Rattle.sec_setup.specs.Pairs
+pub use Rattle.obligations.specs.declared.obligation.Difference
+pub use Rattle.obligations.specs.declared.obligation.Obligation

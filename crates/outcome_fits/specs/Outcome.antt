@@ -7,7 +7,7 @@ use Rattle.circuit_theory.specs.Query.{Distinguishes, pair_query}
 use Rattle.circuit_theory.specs.Tree.{Tree, Unfolds, HaveEqualFunctions}
 use Rattle.sec_base.specs.declared.basics.PairAnswer.{PairAnswer}
 use Rattle.sec_base.specs.declared.basics.PairAnswer.TheVariants as answer
-use Rattle.pair_decide.specs.declared.query.Proof.{Proof}
+use Rattle.outcome.specs.Proof.{Proof}
 use Rattle.witness_report.specs.declared.witness.Witness.{Witness}
 use Rattle.outcome.specs.declared.verdict.PairResult.{PairResult}
 use Rattle.outcome.specs.declared.verdict.Verdict.{Verdict}

@@ -13,7 +13,7 @@ use Rattle.aig.specs.Graph.{IsGraph}
 use Rattle.aig.specs.Values.{value}
 use Rattle.cnf_encode.specs.Encoding.{IsEncoding}
 use Rattle.sat_search.specs.Found.{IsFruitless}
-use Rattle.pair_decide.specs.declared.query.Proof.{Proof}
+use Rattle.outcome.specs.Proof.{Proof}
 
 -- In the graph the literal has the value of the function, where the graph's variables are inputs in cycles and latches in cycle 0.
 abbrev pub HasValueOf : List Node → List (ℕ × ℕ) → ℕ → ((ℕ → ℕ → Bool) → Bool) → Type 0

@@ -7,7 +7,7 @@ use Rattle.circuit_theory.specs.Tree.{Tree}
 use Rattle.reset_laws.specs.Reset.{ResetUnfolds, HaveEqualResets, IsResetWitness}
 use Rattle.sec_base.specs.declared.basics.PairAnswer.{PairAnswer}
 use Rattle.sec_base.specs.declared.basics.PairAnswer.TheVariants as answer
-use Rattle.pair_decide.specs.declared.query.Proof.{Proof}
+use Rattle.outcome.specs.Proof.{Proof}
 use Rattle.outcome.specs.declared.verdict.PairResult.{PairResult}
 use Rattle.witness_report.specs.declared.witness.PairName.{PairName}
 use Rattle.sec_setup.specs.Pairs.{NamedPair}

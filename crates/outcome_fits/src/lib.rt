@@ -1,3 +1,5 @@
 //! What it means that an outcome fits two circuits, in the plain form and from the latches' initial values: what is found of each pair, and
 //! what stands behind a limit. It has definitions alone.
 #![tactic(auto)]
+
+pub use obligations::{Obligation, Queries, copy_name};

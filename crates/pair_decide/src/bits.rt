@@ -7,7 +7,7 @@ ghost use Rattle.pair_decide.specs.Reading.{HasInputBits, AreInputBits};
 
 use aig::{Aig, Node};
 use indexmap::IndexMap;
-use sec_base::{Bits, NoMemory};
+use proof_check::{Bits, NoMemory};
 use std::alloc::Global;
 
 /// A bit for each variable: its node's value, or 0 where none of the nodes is its.

@@ -8,7 +8,7 @@ use crate::query::{Decision, Query, SameBy};
 use crate::search::decide_by_search;
 use crate::table::decide_by_table;
 use aig::{Aig, Lit};
-use sec_base::{MAX_CONFLICTS, NoMemory};
+use proof_check::{MAX_CONFLICTS, NoMemory};
 use std::alloc::Global;
 
 /// The most variables of a query that is decided by trying all assignments.

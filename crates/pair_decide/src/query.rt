@@ -2,8 +2,7 @@
 
 use aig::Lit;
 use cnf_encode::Cnf;
-use proof_check::Log;
-use sec_base::{Bits, Ids};
+use proof_check::{Bits, Ids, Log};
 
 /// Whether `left` and `right` agree wherever `care` holds.
 #[derive(Drop)]

@@ -10,9 +10,8 @@ use crate::bits::bits_of_vars;
 use crate::query::{Decision, Proof, Query, SameBy};
 use aig::Aig;
 use cnf_encode::encode;
-use proof_check::{Clauses, Log, ProofError, check_log};
+use proof_check::{MAX_CONFLICTS, Clauses, Log, NoMemory, ProofError, check_log};
 use sat_search::{Found, search};
-use sec_base::{MAX_CONFLICTS, NoMemory};
 use std::alloc::Global;
 
 /// Decides a query of more than 16 variables whose sides are different literals.

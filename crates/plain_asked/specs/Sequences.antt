@@ -7,8 +7,8 @@ use Rattle.pair_decide.specs.declared.query.Query.{Query}
 use Rattle.pair_decide.specs.Queries.{assigned_to}
 use Rattle.witness_report.specs.declared.witness.PairName.{PairName}
 use Rattle.witness_report.specs.declared.witness.Witness.{Witness}
-use Rattle.obligations.specs.declared.obligation.Obligation.{Obligation}
-use Rattle.obligations.specs.declared.obligation.Difference.{Difference}
+use Rattle.outcome_fits.specs.Obligation.{Obligation}
+use Rattle.outcome_fits.specs.Difference.{Difference}
 pub use Rattle.shift_variables.specs.Sequences.{bits_at, IsSequence}
 
 -- the obligation and the query of a difference

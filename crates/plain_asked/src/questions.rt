@@ -10,7 +10,7 @@ ghost use Rattle.plain_asked.specs.Variables.{AreInOrder};
 use crate::functions::Functions;
 use aig::Lit;
 use cbf_unfold::Unfolded;
-use obligations::{Obligation, Queries, copy_name};
+use outcome_fits::{Obligation, Queries, copy_name};
 use pair_decide::Query;
 use sec_base::{NoMemory, PlaceTable};
 use sec_setup::Setup;

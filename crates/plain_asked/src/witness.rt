@@ -10,7 +10,7 @@ ghost use Rattle.plain_asked.specs.Sequences.{IsSequence, IsWitnessOf};
 
 use crate::functions::Functions;
 use aig::Aig;
-use obligations::copy_name;
+use outcome_fits::copy_name;
 use outcome::{PairName, Stimulus, Witness};
 use pair_decide::Query;
 use sec_base::{Bits, NoMemory, PlaceTable, Words};

@@ -26,7 +26,7 @@ use Rattle.witness_report.specs.declared.witness.PairName.{PairName}
 use Rattle.witness_report.specs.declared.witness.PairName.TheVariants as pair
 use Rattle.outcome.specs.declared.verdict.PairResult.{PairResult}
 use Rattle.outcome_fits.specs.Outcome.{AnswerFits, PairFits, PairsFit, greatest_size}
-use Rattle.sec_setup.specs.Pairs.{NamedPair, pair_called, named_pairs}
+use Rattle.outcome_fits.specs.Pairs.{NamedPair, pair_called, named_pairs}
 use Rattle.witness_report.specs.Shown.{ArePlacesOf}
 
 some_is : {X : Type 0} {x y : X} → Some x ≡ Some y → x ≡ y

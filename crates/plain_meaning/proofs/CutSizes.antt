@@ -7,7 +7,7 @@ use Rattle.circuit_theory.specs.Sizes.{Visits, WeighsAt, IsWeight, IsOver}
 use Rattle.circuit_theory.proofs.Lists.{map-map}
 use Rattle.flat_net.specs.Cut.{IsCutCircuit}
 use Rattle.flat_net.specs.View.{NetView, named, circuit_of}
-use Rattle.sec_setup.specs.Pairs.{outputs_of}
+use Rattle.outcome_fits.specs.Pairs.{outputs_of}
 use Rattle.outcome_fits.specs.Fitting.{IsLight, IsTooLarge, cut_outputs, IsCutOver, IsCutLight}
 
 -- sizes look at inputs and equations alone

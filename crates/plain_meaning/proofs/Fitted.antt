@@ -11,8 +11,8 @@ use Rattle.sec_base.specs.declared.basics.PairAnswer.TheVariants as answer
 use Rattle.witness_report.specs.declared.witness.PairName.TheVariants as pair
 use Rattle.pair_decide.specs.declared.query.Proof.{Proof}
 use Rattle.outcome.specs.declared.verdict.PairResult.{PairResult}
-use Rattle.sec_setup.specs.Cuts.{is_cut}
-use Rattle.sec_setup.specs.Pairs.{NamedPair, pair_called, named_pairs}
+use Rattle.outcome_fits.specs.Cuts.{is_cut}
+use Rattle.outcome_fits.specs.Pairs.{NamedPair, pair_called, named_pairs}
 use Rattle.outcome_fits.specs.Limits.{IsUndecided}
 use Rattle.outcome_fits.specs.Outcome.{AnswerFits}
 

@@ -32,12 +32,12 @@ use Rattle.outcome.specs.declared.verdict.Verdict.TheVariants as verdict
 use Rattle.outcome.specs.declared.verdict.Why.TheVariants as why
 use Rattle.outcome.specs.declared.verdict.Outcome.{Outcome}
 use Rattle.outcome_fits.specs.Outcome.{AnswerFits, PairFits, IsFirstOfAnswer, NoneIs, VerdictFits}
-use Rattle.sec_setup.specs.Pairs.{NamedPair, named_pairs}
+use Rattle.outcome_fits.specs.Pairs.{NamedPair, named_pairs}
 use Rattle.plain_meaning.specs.Equal.{AreEqual}
 use Rattle.outcome_fits.specs.Fitting.{OutcomeFits}
-use Rattle.sec_setup.specs.Cuts.{columns_of, is_cut}
+use Rattle.outcome_fits.specs.Cuts.{columns_of, is_cut}
 use Rattle.witness_report.specs.Shown.{Obeys, ArePlacesOf, MakesDiffer, MakesCutsDiffer, AgreeFrom}
-use Rattle.sec_setup.proofs.CutNets.{cut_functions, cut_witness, cut_depth, cut_numbers, cut_numbered}
+use Rattle.outcome_fits.proofs.CutNets.{cut_functions, cut_witness, cut_depth, cut_numbers, cut_numbered}
 use Rattle.plain_meaning.proofs.CutPairs.{IsOutputPair, IsNextPair, one_output, pair_listed, listed_is, listed_places, equal_answer, different_answer, result_of, size_is_within}
 use Rattle.plain_meaning.proofs.Sequences.{values_differ, left_value_shows, right_value_shows}
 

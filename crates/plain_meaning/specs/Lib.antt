@@ -1,1 +1,6 @@
 pub mod Equal
+pub use Rattle.outcome_fits.specs.Fitting
+pub use Rattle.outcome_fits.specs.Limits
+pub use Rattle.outcome_fits.specs.Outcome
+pub use Rattle.outcome_fits.specs.ResetLimits
+pub use Rattle.outcome_fits.specs.ResetOutcome

@@ -8,3 +8,4 @@ mod shown;
 
 pub use comparison::compare_reset_under;
 pub use error::ResetUnderError;
+pub use reset_asked::{ResetFindings, ResetVerdict};

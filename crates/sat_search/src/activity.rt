@@ -5,8 +5,7 @@ ghost use Rattle.sat_search.specs.Answers.{IsChoice, IsFreeOne, IsFirstFree};
 
 use crate::lesson::Learnt;
 use clause_watch::Trail;
-use proof_check::Literal;
-use sec_base::NoMemory;
+use proof_check::{Literal, NoMemory};
 use std::alloc::Global;
 
 /// How much more a conflict counts than the one before it.

@@ -6,8 +6,7 @@ ghost use Rattle.std.specs.Prelude.{◌<◌, ◌≤◌, length, IfSome};
 
 use crate::analysis::first_decision;
 use clause_watch::{ClauseDb, Trail};
-use proof_check::Resolver;
-use sec_base::NoMemory;
+use proof_check::{NoMemory, Resolver};
 use std::alloc::Global;
 
 /// How many reasons are followed one after the other.

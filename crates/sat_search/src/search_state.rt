@@ -15,8 +15,7 @@ use crate::activity::Activity;
 use crate::analysis::{analyse, first_decision};
 use crate::lesson::{Learnt, Lesson};
 use clause_watch::{Trail, Watches};
-use proof_check::{Clauses, Log, Resolver};
-use sec_base::{Bits, MAX_CONFLICTS, NoMemory, Seq};
+use proof_check::{MAX_CONFLICTS, Bits, Clauses, Log, NoMemory, Resolver, Seq};
 use std::alloc::Global;
 use std::mem;
 

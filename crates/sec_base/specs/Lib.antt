@@ -6,4 +6,4 @@ pub use Rattle.base_shelves.specs.Fetch
 pub use Rattle.base_shelves.specs.MemShelf
 pub use Rattle.base_shelves.specs.MemSink
 pub use Rattle.base_shelves.specs.declared.whole_file.FetchError
-pub use Rattle.base_lists.specs.declared.list.NoMemory
+pub use Rattle.base_shelves.specs.NoMemory

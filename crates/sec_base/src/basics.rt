@@ -1,7 +1,6 @@
 //! Small types that several crates share.
 
-use base_lists::{Duplicate, Ids, NoMemory};
-use circuit_theory::Side;
+use base_shelves::{Duplicate, Ids, NoMemory, Side};
 use std::alloc::Global;
 
 /// The clock edge at which a latch loads, as the BLIF words `re` and `fe` say.

@@ -9,16 +9,13 @@ mod limits;
 mod settings;
 mod texts;
 
-pub use base_lists::{
-    BitRows, Bits, Cubes, Duplicate, FileText, Ids, NoMemory, Seq, Text, Word, Words, unset_bits,
-};
 pub use base_shelves::{
-    Failed, FetchError, FileShelf, HeldFile, MemShelf, MemSink, Shelf, ShelfError, Sink, StdSink,
-    fetch,
+    BitRows, Bits, Cubes, Duplicate, Failed, FetchError, FileShelf, FileText, HeldFile, Ids,
+    MemShelf, MemSink, NoMemory, Seq, Shelf, ShelfError, Side, Sink, StdSink, Text, Word, Words,
+    fetch, unset_bits,
 };
 pub use base_tables::{NameTable, PlaceTable};
 pub use basics::{Edge, Init, Orders, PairAnswer, Tag};
-pub use circuit_theory::Side;
 pub use covers::{Cover, place_matches};
 pub use file_path::FilePath;
 pub use limits::{

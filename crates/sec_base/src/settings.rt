@@ -1,6 +1,6 @@
 //! How a comparison is made.
 
-use circuit_theory::Mode;
+use base_shelves::Mode;
 
 /// How a comparison is made.
 #[derive(Clone, Copy, PartialEq, Eq)]

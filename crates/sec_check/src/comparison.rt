@@ -3,7 +3,7 @@
 ghost use Rattle.std.specs.Prelude.{◌≡◌, ◌≤◌, true, false};
 ghost use Rattle.circuit_theory.specs.declared.Mode.TheVariants.{Plain};
 ghost use Rattle.flat_net.specs.Comparable.{IsComparable};
-ghost use Rattle.event_fits.specs.Compared.{ComparedIn};
+ghost use Rattle.event_check.specs.Compared.{ComparedIn};
 
 use circuit_theory::Mode;
 use event_check::compare_in_events;

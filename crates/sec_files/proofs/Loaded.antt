@@ -11,7 +11,7 @@ use Rattle.elaborate.specs.declared.error.FlatError.{FlatError}
 use Rattle.elaborate.specs.declared.error.FlatError.TheVariants as fault
 use Rattle.flatten.specs.DesignFaults.{DesignFault, IsSoundDesign, IsFlatOf}
 use Rattle.aiger_file.specs.declared.file.AigerFile.{AigerFile}
-use Rattle.aiger_graph.specs.Loops.{HasLoop}
+use Rattle.aiger_read.specs.Loops.{HasLoop}
 use Rattle.aiger_records.specs.declared.error.AigerError.{AigerError}
 use Rattle.aiger_records.specs.declared.error.AigerError.TheVariants as aiger_error
 use Rattle.aiger_read.specs.Nets.{SpellsFile, IsNetOf, ReadsNet}

@@ -10,8 +10,8 @@ use Rattle.named_places.specs.Named.{named_circuit}
 use Rattle.aiger_file.specs.declared.file.AigerFile.{AigerFile}
 use Rattle.aiger_file.specs.Files.{fault_of_text}
 use Rattle.aiger_file.specs.Reading.{spelled as spelled_file}
-use Rattle.aiger_graph.specs.Circuit.{circuit_of_file}
-use Rattle.aiger_graph.specs.Loops.{HasLoop}
+use Rattle.aiger_read.specs.Circuit.{circuit_of_file}
+use Rattle.aiger_read.specs.Loops.{HasLoop}
 use Rattle.aiger_read.specs.Nets.{IsNetOf}
 use Rattle.aiger_read.specs.SignalNames.{signal_name}
 

@@ -13,8 +13,8 @@ use Rattle.flat_net.specs.declared.parts.LatchAt.{LatchAt}
 use Rattle.flat_net.specs.View.{NetView, circuit_of}
 use Rattle.flat_net.specs.Cut.{no_latch, latch_at, exposed_names}
 use Rattle.flat_net.proofs.Nets.{latch_stands, some_at}
-use Rattle.signal_graph.specs.Graph.{GraphView, IsGraphIn, SkippedBy, marked_names, signals_at}
-use Rattle.latch_graph.proofs.Skipping.{mode_cycle, cycle_in_graph}
+use Rattle.cut_points.specs.Graph.{GraphView, IsGraphIn, SkippedBy, marked_names, signals_at}
+use Rattle.cut_points.proofs.Skipping.{mode_cycle, cycle_in_graph}
 use Rattle.sec_setup.specs.Cycles.{IsAcyclic}
 use Rattle.cut_points.specs.Exposed.{IsToldCycle}
 use Rattle.interface.proofs.Shared.{some_is}

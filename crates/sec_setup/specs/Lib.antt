@@ -4,3 +4,6 @@ pub mod Cycles
 pub mod Matching
 pub mod Pairs
 pub mod Setup
+pub use Rattle.cut_points.specs.Common
+pub use Rattle.cut_points.specs.Exposed
+pub use Rattle.cut_points.specs.declared.exposed.Exposure

@@ -3,12 +3,12 @@
 ghost use Rattle.std.specs.Prelude.{◌≡◌, ◌<◌, length, false, All, IfOk};
 ghost use Rattle.circuit_theory.specs.declared.Mode.TheVariants.{Plain};
 ghost use Rattle.flat_net.specs.Cut.{exposed_names};
-ghost use Rattle.signal_graph.specs.Graph.{IsGraphIn};
+ghost use Rattle.cut_points.specs.Graph.{IsGraphIn};
 ghost use Rattle.sec_setup.specs.Cycles.{IsCycleOf};
 
 use flat_net::Net;
 use latch_cone::none_enabled;
-use latch_graph::LatchGraph;
+use cut_points::LatchGraph;
 use sec_base::{Bits, Ids, NoMemory, Words, unset_bits};
 use std::alloc::Global;
 

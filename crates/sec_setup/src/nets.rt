@@ -1,7 +1,7 @@
 //! Two nets beside one another.
 
 use flat_net::Net;
-use latch_graph::LatchGraph;
+use cut_points::LatchGraph;
 
 /// Two nets, A's and B's, and the latch graph of each.
 #[derive(Clone, Copy)]

@@ -11,10 +11,9 @@ ghost use Rattle.sec_setup.specs.Matching.{InterfacesMatch};
 ghost use Rattle.sec_setup.specs.Setup.{AreGraphed, IsSetupOf};
 
 use crate::nets::Nets;
-use cut_points::Exposure;
+use cut_points::{Exposure, LatchGraph};
 use flat_net::Net;
 use interface::{SignalPairs, orders_of, pairs_of};
-use latch_graph::LatchGraph;
 use sec_base::{NameTable, NoMemory, Orders, Words};
 use std::alloc::Global;
 

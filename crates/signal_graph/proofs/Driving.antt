@@ -14,7 +14,7 @@ use Rattle.flat_net.proofs.Nets.{some_at, gate_stands, latch_stands, input_stand
 use Rattle.circuit_theory.specs.Circuit.{Gate as gate_equation, IsInput, IsLatch, IsSource, Reaches}
 use Rattle.circuit_theory.specs.Net.{IsNet}
 use Rattle.circuit_theory.proofs.Lists.{at_of, of_at}
-use Rattle.latch_cone.proofs.Walks.{reach_on}
+use Rattle.inner_cone.proofs.Walks.{reach_on}
 use Rattle.signal_graph.specs.declared.nodes.Node.{Node}
 use Rattle.std.proofs.lemmas.Option.{slice_get_within}
 use Rattle.signal_graph.specs.Graph.{GraphView, IsNodeOf, IsGraphOf, AreNodes, AreTaken, SkippedBy}

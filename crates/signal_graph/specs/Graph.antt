@@ -1,6 +1,6 @@
 -- What a contract sees of a latch graph, and of which net it is the graph.
 use Rattle.std.specs.Prelude.{◌≡◌, ℕ, Bool, true, false, List, [], ◌∷◌, length, map, slice_get, slice_index_or, Option, Some, None, ◌^◌, ◌<◌}
-use Rattle.latch_cone.specs.Cones.{IsMarkedBy, MarksEnabled}
+use Rattle.inner_cone.specs.Cones.{IsMarkedBy, MarksEnabled}
 use Rattle.inner_cone.specs.Sides.{AreSides}
 use Rattle.flat_net.specs.declared.signals.Signal.{Signal}
 use Rattle.flat_net.specs.declared.parts.Gate.{Gate}

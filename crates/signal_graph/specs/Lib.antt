@@ -1,1 +1,2 @@
 pub mod Graph
+pub use Rattle.inner_cone.specs.Cones

@@ -8,9 +8,8 @@ ghost use Rattle.flat_net.specs.declared.parts.LatchAt.{LatchAt};
 ghost use Rattle.signal_graph.specs.declared.nodes.Node.{Node};
 ghost use Rattle.signal_graph.specs.Graph.{IsNodeOf, AreTaken};
 
-use flat_net::{Driver, LatchAt, Net, Signal, Signals};
+use flat_net::{Driver, Duplicate, Ids, LatchAt, Net, NoMemory, Signal, Signals};
 use inner_cone::{ranks, sides_of};
-use sec_base::{Duplicate, Ids, NoMemory};
 use std::alloc::Global;
 
 /// What a signal reads: a gate its fan-ins in the same cycle, a latch one signal in the cycle before,

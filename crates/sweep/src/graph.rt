@@ -7,8 +7,7 @@ ghost use Rattle.sweep.specs.Swept.{IsSwept, AreLiteralsFor};
 
 use crate::growth::{Growth, Role, grown, literal_for};
 use aig::{Aig, Lit, Lits};
-use node_agreement::Effort;
-use root_classes::{leads_of, variables};
+use node_agreement::{Effort, leads_of, variables};
 use sec_base::NoMemory;
 use std::alloc::Global;
 

@@ -11,10 +11,9 @@ ghost use Rattle.node_agreement.specs.Standing.{StandsFor, AreStandIns, AreChose
 ghost use Rattle.sweep.specs.Grown.{IsGrown};
 
 use aig::{Aig, Lit, Node};
-use node_agreement::{Budget, Effort, Proved, prove, signed, zero};
+use node_agreement::{Budget, Effort, Hints, Proved, prove, signed, zero};
 use sec_base::NoMemory;
 use std::alloc::Global;
-use sweep_candidates::Hints;
 
 /// A graph that grows, the literals in it for the first nodes of another graph, and for each of its own nodes a kept literal of
 /// the same value.

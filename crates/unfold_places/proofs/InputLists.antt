@@ -14,8 +14,8 @@ use Rattle.circuit_laws.proofs.LeafVisits.{VisitsInput, variables_are_visits}
 use Rattle.circuit_theory.proofs.Lists.{Contains-head, Contains-tail, Contains-map, Contains-map_from, All-from_each, at_of, zip_push}
 use Rattle.circuit_theory.proofs.Numbers.{one_number, one_place}
 use Rattle.circuit_theory.proofs.Sums.{AllPairs-head, AllPairs-tail}
-use Rattle.sec_base.specs.Table.{AreDistinct}
-use Rattle.sec_base.proofs.TableLemmas.{slice_get-take}
+use Rattle.flat_net.specs.Table.{AreDistinct}
+use Rattle.flat_net.proofs.TableLemmas.{slice_get-take}
 use Rattle.unfold_places.specs.Places.{PlaceBefore}
 use Rattle.unfold_places.specs.Reach.{AreInputsOf, AreInputsAt}
 use Rattle.unfold_places.proofs.Lists.{pairs_at, pairs_map}

@@ -11,7 +11,7 @@ use Rattle.std.proofs.lemmas.List.Sorted.{IsPermutation-sym, All-permutation, Co
 use Rattle.std.proofs.lemmas.Map.Keys.{IsDistinct-IsPermutation}
 use Rattle.std.proofs.lemmas.Map.Made.{AllPairs-from_IsDistinct, IsDistinct-from_AllPairs}
 use Rattle.circuit_theory.specs.Circuit.{Circuit}
-use Rattle.sec_base.specs.Table.{AreDistinct}
+use Rattle.flat_net.specs.Table.{AreDistinct}
 use Rattle.unfold_places.specs.Places.{PlaceBefore}
 use Rattle.aig.specs.declared.node.Lit.{Lit}
 use Rattle.unfold_places.specs.Reach.{IsThere, AreUnmet, IsReach}

@@ -4,8 +4,8 @@ use Rattle.std.specs.List.{AllPairs, Contains, sum_by}
 use Rattle.std.proofs.lemmas.Option.{slice_get-get_or}
 use Rattle.circuit_theory.specs.Sizes.{Visits, WeighsAt, Weighed, IsWeight, IsOver}
 use Rattle.circuit_theory.proofs.Lists.{Contains-map, Contains-map_from}
-use Rattle.sec_base.specs.Table.{AreDistinct}
-use Rattle.sec_base.proofs.TableLemmas.{slice_get-take}
+use Rattle.flat_net.specs.Table.{AreDistinct}
+use Rattle.flat_net.proofs.TableLemmas.{slice_get-take}
 use Rattle.flat_net.specs.View.{NetView, circuit_of}
 use Rattle.flat_net.specs.Sound.{IsSound}
 use Rattle.unfold_places.specs.Places.{IsVisited, weight_at}

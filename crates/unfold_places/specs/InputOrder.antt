@@ -1,6 +1,6 @@
 -- The numbers of a net's inputs.
 use Rattle.std.specs.Prelude.{◌≡◌, ℕ, List, length}
-use Rattle.sec_base.specs.Table.{AreDistinct}
+use Rattle.flat_net.specs.Table.{AreDistinct}
 use Rattle.flat_net.specs.View.{NetView}
 
 -- one distinct number for each input of the net

@@ -1,6 +1,6 @@
 //! Why a signal isn't unfolded.
 
-use sec_base::NoMemory;
+use flat_net::NoMemory;
 use std::alloc::{AllocError, AllocFailed};
 use thiserror::Error;
 

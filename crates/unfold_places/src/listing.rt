@@ -3,7 +3,7 @@
 ghost use Rattle.std.specs.Prelude.{◌≡◌, IfOk};
 
 use crate::memo::Place;
-use sec_base::{NoMemory, PlaceTable};
+use flat_net::{NoMemory, PlaceTable};
 use std::alloc::Global;
 
 /// The table's places as a list.

@@ -5,7 +5,7 @@ ghost use Rattle.std.specs.List.{AllPairs};
 ghost use Rattle.aig.specs.declared.node.Lit.{Lit};
 
 use aig::Lit;
-use sec_base::NoMemory;
+use flat_net::NoMemory;
 use std::alloc::Global;
 use std::marker::Model;
 use unique_table::UniqueTable;

@@ -7,8 +7,7 @@ ghost use Rattle.unfold_places.specs.Places.{Steps, gate_weight, weight_at};
 ghost use Rattle.unfold_places.specs.Reach.{Adds, IsThere};
 
 use crate::memo::Memo;
-use flat_net::{Driver, Gate, LatchAt, Net, Signal};
-use sec_base::{NoMemory, PlaceTable};
+use flat_net::{Driver, Gate, LatchAt, Net, NoMemory, PlaceTable, Signal};
 
 /// The gate with this number.
 pub fn gate_of(net: &Net, j: u32) -> &Gate

@@ -1,7 +1,7 @@
 //! A signal as a function.
 
 use aig::Lit;
-use sec_base::Ids;
+use flat_net::Ids;
 
 /// A signal as a function of inputs at earlier cycles.
 #[derive(Drop)]

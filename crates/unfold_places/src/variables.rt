@@ -9,8 +9,7 @@ ghost use Rattle.unfold_places.specs.Reach.{AreInputsOf};
 ghost use Rattle.unfold_places.specs.InputOrder.{IsOrderOf};
 
 use crate::memo::Place;
-use flat_net::{Driver, Net, Signal};
-use sec_base::{Ids, NoMemory, PlaceTable, Seq};
+use flat_net::{Driver, Ids, Net, NoMemory, PlaceTable, Seq, Signal};
 use std::alloc::Global;
 
 /// The number of the input that drives the signal, if one does.

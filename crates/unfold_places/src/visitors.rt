@@ -14,8 +14,7 @@ ghost use Rattle.unfold_places.specs.Visitors.{AreMet, AreReads, AreLinks, Gives
 use crate::memo::{Memo, Place};
 use crate::reads::{gate_of, latch_of};
 use crate::variables::input_number;
-use flat_net::{Driver, Net, Signal};
-use sec_base::{Ids, NoMemory};
+use flat_net::{Driver, Ids, Net, NoMemory, Signal};
 use std::alloc::Global;
 
 /// For each place that was met the numbers of the places that it reads.

@@ -1,1 +1,4 @@
 pub mod Weights
+pub use Rattle.signal_graph.proofs.Driving
+pub use Rattle.signal_graph.proofs.Lists
+pub use Rattle.signal_graph.proofs.Reading

@@ -3,4 +3,5 @@
 
 mod weight;
 
+pub use signal_graph::{Node, SignalGraph};
 pub use weight::{Weight, weigh};

@@ -7,9 +7,8 @@ ghost use Rattle.flat_net.specs.View.{circuit_of};
 ghost use Rattle.signal_graph.specs.Graph.{ArePlainNodes, step_of};
 ghost use Rattle.unfolding_weight.specs.Weight.{Weighs, weight_of, AreMet, Stay, Meeting, IsVisited, AreVisited, AreThere, AreReadsThere};
 
-use flat_net::{Driver, Net, Signal};
+use flat_net::{Driver, Net, NoMemory, Signal};
 use indexmap::IndexSet;
-use sec_base::NoMemory;
 use signal_graph::Node;
 use std::alloc::Global;
 

@@ -7,5 +7,6 @@ mod key;
 mod search;
 mod table;
 
+pub use base_lists::{NoMemory, Seq, Word, Words};
 pub use key::{Key, mixed};
 pub use table::UniqueTable;

@@ -6,3 +6,4 @@ pub mod Frames
 pub mod EachTwo
 pub mod Standing
 pub mod Separating
+pub use Rattle.class_events.proofs.Telling

@@ -10,7 +10,7 @@ use Rattle.event_laws.proofs.ClassMaps.{fold_each}
 use Rattle.flat_net.proofs.Nets.{some_at}
 use Rattle.event_nodes.specs.Nodes.{IsTree, path_of}
 use Rattle.event_nodes.proofs.Paths.{child_path, path_grows}
-use Rattle.event_pairs.specs.Functions.{AreNodesOf}
+use Rattle.class_events.specs.Functions.{AreNodesOf}
 use Rattle.unshown_pairs.specs.Classes.{IsEnteredAmong, IsEnteredBy}
 
 module _ {P : Type 0} (s : EventSide P) (start : P → Type 0) where

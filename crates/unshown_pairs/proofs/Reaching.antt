@@ -13,8 +13,8 @@ use Rattle.event_nodes.specs.View.{EventCircuitView}
 use Rattle.event_nodes.specs.Nodes.{path_of}
 use Rattle.event_form.specs.Functions.{signal_start}
 use Rattle.event_form.specs.SignalFunction.{SignalFunction}
-use Rattle.event_pairs.specs.Functions.{AreNodesOf}
-use Rattle.event_pairs.proofs.Unions.{pair_nodes}
+use Rattle.class_events.specs.Functions.{AreNodesOf}
+use Rattle.class_events.proofs.Unions.{pair_nodes}
 use Rattle.event_theory.specs.EventFits.{ReachesAlways}
 use Rattle.interface.specs.declared.pairs.SignalPair.{SignalPair}
 use Rattle.class_events.specs.Counted.{HaveCounted, GoOnCounting, both_starts}

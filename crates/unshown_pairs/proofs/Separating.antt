@@ -16,7 +16,7 @@ use Rattle.class_separations.specs.Apart.{IsApart, IsSeparationBy, number_of}
 use Rattle.class_events.specs.Named.{NamesLatches}
 use Rattle.event_nodes.specs.Nodes.{IsEventGraph}
 use Rattle.event_order.specs.Order.{place_of, IsTagOf}
-use Rattle.event_pairs.specs.Functions.{AreNodesOf}
+use Rattle.class_events.specs.Functions.{AreNodesOf}
 use Rattle.event_variables.specs.Variables.{variables_of}
 use Rattle.interface.specs.declared.pairs.SignalPair.{SignalPair}
 use Rattle.class_events.specs.View.{EventsView, IsEvents, side_of_both}

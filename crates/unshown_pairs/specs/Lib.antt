@@ -9,3 +9,5 @@ pub mod Classes
 pub mod Told
 pub mod Telling
 pub mod Separations
+pub use Rattle.class_events.specs.Refused
+pub use Rattle.class_events.specs.Separated

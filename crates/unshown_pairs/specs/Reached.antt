@@ -5,7 +5,7 @@ use Rattle.event_theory.specs.EventFits.{ReachesAlways}
 use Rattle.event_theory.specs.EventSizes.{Start}
 use Rattle.event_theory.specs.Frame.{EventSide, ConeLatches}
 use Rattle.event_form.specs.Functions.{signal_start}
-use Rattle.event_pairs.specs.Functions.{AreNodesOf}
+use Rattle.class_events.specs.Functions.{AreNodesOf}
 use Rattle.interface.specs.declared.pairs.SignalPair.{SignalPair}
 use Rattle.class_events.specs.Counted.{HaveCounted}
 use Rattle.class_events.specs.View.{EventsView}

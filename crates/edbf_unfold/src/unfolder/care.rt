@@ -2,10 +2,10 @@
 
 ghost use Rattle.std.specs.Prelude.{◌≡◌, ℕ, ◌+◌, ◌*◌, ◌^◌, ◌<◌, length, slice_get, Some, Contains, IfOk};
 ghost use Rattle.event_theory.specs.Frame.{NotPut};
-ghost use Rattle.flat_net.specs.declared.parts.Driver.TheVariants as driver;
-ghost use Rattle.aig.specs.Graph.{flip};
-ghost use Rattle.aig.specs.Rules.{IsAndOf};
-ghost use Rattle.aig.specs.declared.node.Lit.{Lit};
+ghost use Rattle.event_literals.specs.Driver.TheVariants as driver;
+ghost use Rattle.event_nodes.specs.Graph.{flip};
+ghost use Rattle.event_nodes.specs.Rules.{IsAndOf};
+ghost use Rattle.event_nodes.specs.Lit.{Lit};
 ghost use Rattle.event_walk.specs.declared.frames.Ways.{Ways};
 ghost use Rattle.event_literals.specs.Known.{AreKnown, HasGrown, IsMet};
 ghost use Rattle.event_walk.specs.Ready.{IsReadyBy, put_of};
@@ -13,11 +13,9 @@ ghost use Rattle.event_literals.specs.Built.{AreMetOn};
 ghost use Rattle.edbf_unfold.specs.Care.{IsWithEnable, IsAndEnable, IsCareOf};
 
 use super::EventUnfolder;
-use aig::{Aig, Lit};
-use event_nodes::{EventGraph, Place, latch_of};
+use event_nodes::{Aig, EventGraph, Lit, NoMemory, Place, PlaceTable, latch_of};
 use event_walk::{Frame, Ways, constant};
-use flat_net::{Driver, Signal};
-use sec_base::{NoMemory, PlaceTable};
+use event_literals::{Driver, Signal};
 
 /// The literal of an enable by those of its two functions: the one with the latch at 0, or not that with it at 1.
 pub(super) fn enable_of(events: &mut EventGraph, low: Lit, high: Lit) -> Result<Lit, NoMemory>

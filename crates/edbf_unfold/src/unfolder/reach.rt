@@ -1,17 +1,16 @@
 //! What an unfolding reaches.
 
 ghost use Rattle.std.specs.Prelude.{◌≡◌, ℕ, ◌<◌, true, false, length, slice_get, Some, IfSome, IfNone, IfOk, OnOk};
-ghost use Rattle.flat_net.specs.declared.parts.Driver.TheVariants as driver;
+ghost use Rattle.event_literals.specs.Driver.TheVariants as driver;
 ghost use Rattle.event_nodes.specs.View.{side_of};
 ghost use Rattle.event_walk.specs.declared.frames.Frame.{Frame};
 ghost use Rattle.event_walk.specs.declared.frames.Ways.{Ways};
 ghost use Rattle.edbf_unfold.specs.Reached.{IsOpenPlace, IsOnwardAt, IsNodePut, AreNodesOf};
 
 use super::EventUnfolder;
-use event_nodes::Place;
+use event_nodes::{Ids, NoMemory, Place, PlaceTable, Seq};
 use event_walk::{Ways, constant};
-use flat_net::{Driver, Signal};
-use sec_base::{Ids, NoMemory, PlaceTable, Seq};
+use event_literals::{Driver, Signal};
 use std::alloc::Global;
 
 impl<'a> EventUnfolder<'a> {

@@ -5,7 +5,7 @@ ghost use Rattle.event_nodes.specs.Nodes.{GrowsEvents};
 
 use super::EventGraph;
 use aig::Aig;
-use sec_base::NoMemory;
+use flat_net::NoMemory;
 
 impl EventGraph {
     /// The and-inverter graph.

@@ -11,7 +11,7 @@ use Rattle.class_search.specs.declared.told.Told.{Told}
 use Rattle.class_search.specs.Told.{IsAnswer, IsAnswered, IsTold, HaveAgreed}
 use Rattle.class_search.specs.Search.{AreTold}
 use Rattle.class_search.proofs.Telling.{told_later, told_next, agreed_since, answered_between, members_ready}
-use Rattle.pair_decide.specs.declared.query.Decision.TheVariants as decision
+use Rattle.enable_compare.specs.Decision.TheVariants as decision
 use Rattle.class_search.proofs.search.search.Goals as goal
 
 pub ask_members-requires-clause-members : goal.ask_members-requires-clause-members

@@ -1,5 +1,5 @@
 use Rattle.std.proofs.Common.{◌≡◌, take}
-use Rattle.minimal_cut.specs.Chosen.{at_places}
+use Rattle.expose_pick.specs.Chosen.{at_places}
 use Rattle.expose_pick.specs.Pairs.{lefts, rights}
 use Rattle.cut_points.proofs.exposed.exposure_at.Given as goal
 

@@ -7,7 +7,7 @@ use Rattle.flat_net.proofs.Nets.{some_at}
 use Rattle.event_nodes.specs.Visited.{IsWeighed, HoldsVisits, IsVisitedPair}
 use Rattle.event_nodes.proofs.Growing.{grows_trans}
 use Rattle.event_nodes.proofs.Lists.{adds_none}
-use Rattle.event_walk.specs.Walk.{HasCountedStart, IsCounting, enable_start}
+use Rattle.event_literals.specs.Walk.{HasCountedStart, IsCounting, enable_start}
 use Rattle.edbf_unfold.proofs.Caring.{enable_later}
 use Rattle.event_inputs.proofs.Meaning.{visited_inputs}
 use Rattle.event_functions.specs.Refused.{IsOverweight}

@@ -1,7 +1,7 @@
 -- An unfolder that has met nothing visits the start.
 use Rattle.std.proofs.Common.{◌≡◌, ◌∙◌, ◌<◌, ℕ, [], length, slice_get, Some, Err, refl, sym, ap, subst, arith}
 use Rattle.event_nodes.specs.View.{EventCircuitView}
-use Rattle.event_walk.specs.Walk.{HasCountedStart, IsCounting, enable_start}
+use Rattle.event_literals.specs.Walk.{HasCountedStart, IsCounting, enable_start}
 use Rattle.event_literals.specs.Known.{IsEnableLit}
 use Rattle.edbf_unfold.specs.Care.{IsCareLit}
 use Rattle.event_nodes.specs.Visited.{places_weight}

@@ -6,7 +6,7 @@ use Rattle.flat_net.specs.View.{NetView}
 use Rattle.event_nodes.specs.Visited.{IsWeighed, HoldsVisits, IsVisitedPair}
 use Rattle.event_nodes.proofs.Growing.{grows_trans}
 use Rattle.event_nodes.proofs.Lists.{adds_none}
-use Rattle.event_walk.specs.Walk.{HasCountedStart, IsCounting}
+use Rattle.event_literals.specs.Walk.{HasCountedStart, IsCounting}
 use Rattle.edbf_unfold.specs.Reached.{IsReachOf}
 use Rattle.event_inputs.proofs.Meaning.{visited_inputs}
 use Rattle.event_literals.proofs.Known.{known_at_later}

@@ -1,7 +1,7 @@
 -- An unfolder that has met nothing visits the start.
 use Rattle.std.proofs.Common.{◌∙◌, ◌<◌, ℕ, [], length, None, Err, refl, sym, ap, subst, arith}
 use Rattle.event_nodes.specs.View.{EventCircuitView}
-use Rattle.event_walk.specs.Walk.{HasCountedStart, IsCounting}
+use Rattle.event_literals.specs.Walk.{HasCountedStart, IsCounting}
 use Rattle.event_literals.specs.Known.{IsKnownAt}
 use Rattle.edbf_unfold.specs.Care.{IsCareLit}
 use Rattle.edbf_unfold.specs.Reached.{IsReachOf}

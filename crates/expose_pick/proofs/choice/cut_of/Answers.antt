@@ -1,7 +1,7 @@
 -- The readings of a latch graph are what a contract sees of it.
 use Rattle.std.proofs.Common.{◌<◌, length, subst, sym}
 use Rattle.std.specs.List.{All}
-use Rattle.signal_graph.specs.Graph.{GraphView}
+use Rattle.latch_graph.specs.Graph.{GraphView}
 use Rattle.minimal_cut.specs.Chosen.{IsFree, IsMinimalChoice}
 use Rattle.expose_pick.proofs.choice.cut_of.Goals as goal
 

@@ -1,5 +1,5 @@
 use Rattle.std.proofs.Common.{◌≡◌, ◌≤◌, ℕ, cond, List, [], ◌∷◌, ◌++◌, length, sym, ◌∙◌, ap, arith}
-use Rattle.sec_base.specs.Table.{is_among as is_entry}
+use Rattle.flat_net.specs.Table.{is_among as is_entry}
 use Rattle.flat_net.specs.View.{ports_of}
 use Rattle.interface.specs.Numbered.{stays}
 use Rattle.interface.proofs.Interfaces.{input_at, said_of, beside_kept, beside_left}

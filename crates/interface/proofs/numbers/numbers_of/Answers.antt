@@ -1,6 +1,6 @@
 use Rattle.std.proofs.Common.{◌+◌, ◌≤◌, ℕ, List, take, map, Option, subst, sym, ◌∙◌, ap, arith, Some}
 use Rattle.std.specs.Prelude.{is_some}
-use Rattle.sec_base.specs.Table.{is_among as is_entry}
+use Rattle.flat_net.specs.Table.{is_among as is_entry}
 use Rattle.interface.specs.Numbered.{AreNumbers}
 use Rattle.flat_net.specs.declared.parts.Port.{Port}
 use Rattle.circuit_theory.proofs.Numbers.{slice_get-map}

@@ -5,7 +5,7 @@ use Rattle.flat_net.specs.declared.signals.Signal.{Signal}
 use Rattle.flat_net.proofs.Places.{one_at}
 use Rattle.circuit_theory.proofs.Sums.{same_or_not}
 use Rattle.latch_graph.specs.Settling.{HasDepth}
-use Rattle.signal_graph.proofs.Lists.{read_at}
+use Rattle.unfolding_weight.proofs.Lists.{read_at}
 use Rattle.latch_graph.proofs.Tables.{tells_depth, tells_none}
 use Rattle.latch_graph.proofs.states.first_without.Goals as goal
 

@@ -3,7 +3,7 @@ use Rattle.std.proofs.Math.ListN.{set}
 use Rattle.std.proofs.lemmas.Option.{slice_get_within, slice_get_read, get_or_from_slice_get}
 use Rattle.flat_net.proofs.Places.{one_at}
 use Rattle.flat_net.specs.declared.signals.Signal.{Signal}
-use Rattle.signal_graph.specs.declared.nodes.Node.{Node}
+use Rattle.unfolding_weight.specs.Node.{Node}
 use Rattle.latch_graph.specs.declared.states.State.TheVariants.{Open, Known}
 use Rattle.latch_graph.specs.Settling.{HasDepth, IsDepthOf, new_count}
 use Rattle.latch_graph.proofs.Tables.{new_count-set}

@@ -1,6 +1,6 @@
 -- Cycles stay within the readings that the walks go along.
 use Rattle.std.proofs.Common.{◌∙◌, ℕ, List, length, sym, ap, subst}
-use Rattle.signal_graph.specs.declared.nodes.Node.{Node}
+use Rattle.graph_components.specs.Node.{Node}
 use Rattle.graph_components.specs.Inner.{AreInner}
 use Rattle.minimal_cut.specs.Readers.{WayBack, AreReaders}
 use Rattle.minimal_cut.specs.Marks.{IsBlocked}

@@ -1,6 +1,6 @@
 -- The readings that can be part of a cycle are readings of the graph.
 use Rattle.std.proofs.Common.{List, length, sym, ap, subst, arith}
-use Rattle.signal_graph.specs.declared.nodes.Node.{Node}
+use Rattle.graph_components.specs.Node.{Node}
 use Rattle.graph_components.specs.Inner.{AreInner}
 use Rattle.minimal_cut.specs.Readers.{AreReaders}
 use Rattle.minimal_cut.proofs.WayLemmas.{inner_within}

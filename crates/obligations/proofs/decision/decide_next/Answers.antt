@@ -1,6 +1,6 @@
 -- The queries of the obligation stand behind those before it, and its result behind the others.
 use Rattle.std.proofs.Common.{◌≡◌, ℕ, ◌+◌, ◌<◌, ◌++◌, ◌∷◌, [], Bool, List, length, take, slice_get, Option, Some, refl, sym, ◌∙◌, ap, subst, arith, length-take}
-use Rattle.pair_decide.specs.declared.query.Query.{Query}
+use Rattle.outcome.specs.Query.{Query}
 use Rattle.witness_report.specs.declared.witness.PairName.{PairName}
 use Rattle.outcome.specs.declared.verdict.PairResult.{PairResult}
 use Rattle.obligations.specs.declared.obligation.Obligation.{Obligation}

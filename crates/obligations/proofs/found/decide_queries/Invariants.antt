@@ -1,6 +1,6 @@
 use Rattle.std.proofs.Common.{◌≡◌, ℕ, ◌<◌, slice_get, Some}
-use Rattle.pair_decide.specs.declared.query.Query.{Query}
-use Rattle.pair_decide.specs.Queries.{IsSame}
+use Rattle.outcome.specs.Query.{Query}
+use Rattle.outcome.specs.Queries.{IsSame}
 use Rattle.obligations.proofs.found.decide_queries.Given as goal
 
 abbrev pub invariant-loop-i : goal.invariant-loop-i

@@ -2,7 +2,7 @@
 use Rattle.std.proofs.Common.{◌≡◌, ℕ, ◌+◌, ◌<◌, ◌++◌, ◌∷◌, [], List, length, take, get_or, slice_get, Some, sym, subst, arith}
 use Rattle.std.proofs.lemmas.Option.{slice_get-get_or}
 use Rattle.circuit_theory.proofs.Lists.{zip_push}
-use Rattle.obligations.specs.declared.obligation.Obligation.{Obligation}
+use Rattle.outcome_fits.specs.Obligation.{Obligation}
 use Rattle.interface.specs.declared.pairs.SignalPair.{SignalPair}
 use Rattle.sec_setup.specs.declared.setup.Setup.{Setup}
 use Rattle.plain_asked.specs.declared.functions.Functions.{Functions}

@@ -1,7 +1,7 @@
 use Rattle.std.proofs.Common.{List, sym, subst}
 use Rattle.aig.specs.declared.node.Lit.{Lit}
 use Rattle.sweep.specs.Swept.{AreLiteralsFor}
-use Rattle.root_classes.specs.Leads.{AreLeads}
+use Rattle.node_agreement.specs.Leads.{AreLeads}
 use Rattle.sweep.proofs.Whole.{swept-each, swept-within, swept-values, swept-equal, swept-narrow, vars-whole}
 use Rattle.sweep.proofs.graph.sweep_across.Goals as goal
 

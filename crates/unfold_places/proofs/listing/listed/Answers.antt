@@ -1,6 +1,6 @@
 -- One place more.
 use Rattle.std.proofs.Common.{◌∙◌, ◌++◌, ◌∷◌, [], ap}
-use Rattle.sec_base.proofs.TableLemmas.{take-push}
+use Rattle.flat_net.proofs.TableLemmas.{take-push}
 use Rattle.unfold_places.proofs.listing.listed.Goals as goal
 
 pub loop-number-preserved : goal.loop-number-preserved

@@ -5,7 +5,7 @@ use Rattle.circuit_theory.specs.Joined.{Left}
 use Rattle.event_nodes.specs.View.{EventCircuitView}
 use Rattle.event_nodes.proofs.Growing.{grows_refl}
 use Rattle.event_form.specs.Functions.{signal_start}
-use Rattle.event_pairs.specs.Functions.{IsEventFunction}
+use Rattle.class_events.specs.Functions.{IsEventFunction}
 use Rattle.class_events.specs.View.{side_of_both}
 use Rattle.event_form.proofs.Asking.{function_on, later_refl, later_trans}
 use Rattle.event_form.proofs.Counted.{left_counted, none_counted}

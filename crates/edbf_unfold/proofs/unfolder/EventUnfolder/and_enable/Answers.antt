@@ -1,8 +1,8 @@
 -- The enable, and the and with it.
 use Rattle.std.proofs.Common.{ℕ, subst, arith}
-use Rattle.aig.specs.Graph.{flip}
-use Rattle.aig.specs.Rules.{IsAndOf}
-use Rattle.aig.proofs.Growth.{Grows-length, IsAndOf-grows}
+use Rattle.event_nodes.specs.Graph.{flip}
+use Rattle.event_nodes.specs.Rules.{IsAndOf}
+use Rattle.event_nodes.proofs.Growth.{Grows-length, IsAndOf-grows}
 use Rattle.event_literals.proofs.Lits.{cover_grown}
 use Rattle.event_literals.proofs.Going.{grown_trans, grown_within}
 use Rattle.edbf_unfold.proofs.unfolder.EventUnfolder.and_enable.Goals as goal

@@ -1,9 +1,9 @@
 -- Both functions of the latch are unfolded under it, and the care is that of what the first one's walk met.
 use Rattle.std.proofs.Common.{◌≡◌, ◌∙◌, ◌+◌, ◌*◌, ℕ, List, [], length, slice_get, Some, refl, sym, ap, subst, arith}
-use Rattle.flat_net.specs.declared.parts.LatchAt.{LatchAt}
-use Rattle.flat_net.specs.Sound.{IsSound}
-use Rattle.flat_net.specs.View.{NetView}
-use Rattle.flat_net.proofs.Places.{one_at}
+use Rattle.event_literals.specs.LatchAt.{LatchAt}
+use Rattle.event_literals.specs.Sound.{IsSound}
+use Rattle.event_literals.specs.View.{NetView}
+use Rattle.event_literals.proofs.Places.{one_at}
 use Rattle.event_nodes.specs.View.{EventCircuitView, IsEventCircuit}
 use Rattle.event_nodes.specs.Visited.{IsWeighed}
 use Rattle.event_nodes.proofs.Growing.{grows_trans}

@@ -1,7 +1,7 @@
 -- It is open where it isn't put.
 use Rattle.std.proofs.Common.{subst}
 use Rattle.event_theory.specs.Frame.{NotPut}
-use Rattle.flat_net.proofs.Places.{one_at}
+use Rattle.event_literals.proofs.Places.{one_at}
 use Rattle.event_nodes.proofs.Drivers.{driven_latch, latch_equation_stands}
 use Rattle.event_walk.specs.declared.frames.Frame.{Frame}
 use Rattle.event_walk.specs.Ready.{put_of}

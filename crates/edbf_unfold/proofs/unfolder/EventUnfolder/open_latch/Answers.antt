@@ -1,8 +1,8 @@
 -- What drives the signal says whether a latch does.
 use Rattle.std.proofs.Common.{◌≡◌, ◌∙◌, slice_get, Some, ap, subst}
-use Rattle.flat_net.specs.declared.parts.Driver.TheVariants as driver
-use Rattle.flat_net.specs.View.{NetView}
-use Rattle.flat_net.proofs.Places.{one_at}
+use Rattle.event_literals.specs.Driver.TheVariants as driver
+use Rattle.event_literals.specs.View.{NetView}
+use Rattle.event_literals.proofs.Places.{one_at}
 use Rattle.event_nodes.specs.View.{EventCircuitView}
 use Rattle.event_nodes.proofs.Drivers.{latch_of_equation}
 use Rattle.event_walk.proofs.Lent.{drives_of, sound_of}

@@ -1,6 +1,6 @@
 -- The value and the care of what the walk met.
 use Rattle.std.proofs.Common.{◌≡◌, ◌∙◌, List, length, slice_get, Some, None, refl, sym, ap, subst, arith}
-use Rattle.flat_net.specs.Sound.{IsSound}
+use Rattle.event_literals.specs.Sound.{IsSound}
 use Rattle.event_nodes.specs.View.{EventCircuitView, IsEventCircuit}
 use Rattle.event_walk.specs.declared.frames.Put.TheVariants.{Free}
 use Rattle.event_walk.specs.declared.frames.Ways.{Ways}

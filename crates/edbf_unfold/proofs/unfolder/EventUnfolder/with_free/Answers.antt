@@ -1,7 +1,7 @@
 -- The enable of an enabled latch, by its two functions.
 use Rattle.std.proofs.Common.{◌≡◌, ◌∙◌, ◌<◌, length, slice_get, Some, sym, ap, subst}
 use Rattle.std.proofs.lemmas.Option.{slice_get_within}
-use Rattle.flat_net.specs.View.{NetView}
+use Rattle.event_literals.specs.View.{NetView}
 use Rattle.event_nodes.specs.View.{EventCircuitView, Enabled}
 use Rattle.event_nodes.proofs.Drivers.{driven_latch, latch_out, latch_equation_stands}
 use Rattle.event_walk.specs.declared.frames.Step.{Step}

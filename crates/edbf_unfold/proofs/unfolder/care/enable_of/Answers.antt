@@ -1,6 +1,6 @@
 -- Not both not the one and the other.
 use Rattle.std.proofs.Common.{length, subst, arith}
-use Rattle.aig.specs.Rules.{IsAndOf}
+use Rattle.event_nodes.specs.Rules.{IsAndOf}
 use Rattle.event_literals.proofs.Lits.{cover_grown}
 use Rattle.edbf_unfold.proofs.unfolder.care.enable_of.Goals as goal
 

@@ -8,8 +8,8 @@ use Rattle.flat_net.specs.declared.parts.Gate.{Gate}
 use Rattle.flat_net.specs.View.{NetView}
 use Rattle.flat_net.specs.Sound.{IsSound}
 use Rattle.flat_net.proofs.Places.{cover_of-is, cover_within, cover_fits}
-use Rattle.aig.specs.declared.node.Lit.{Lit}
-use Rattle.aig.specs.Rules.{cover_room}
+use Rattle.event_nodes.specs.Lit.{Lit}
+use Rattle.event_nodes.specs.Rules.{cover_room}
 use Rattle.event_nodes.specs.View.{EventCircuitView}
 use Rattle.event_literals.specs.Known.{IsMet}
 use Rattle.event_nodes.specs.Weights.{gate_weight}

@@ -1,7 +1,7 @@
 -- A new key goes last.
 use Rattle.std.proofs.Common.{◌∙◌, ◌++◌, ◌∷◌, [], ℕ, List, map, sym, ap, subst, Contains}
 use Rattle.indexmap.proofs.CallerLemmas.{insert_entry-new}
-use Rattle.aig.specs.declared.node.Lit.{Lit}
+use Rattle.event_nodes.specs.Lit.{Lit}
 use Rattle.event_literals.proofs.Entries.{absent_key}
 use Rattle.event_nodes.proofs.PairTest.{same_pair}
 use Rattle.event_literals.proofs.memo.Memo.put.Goals as goal

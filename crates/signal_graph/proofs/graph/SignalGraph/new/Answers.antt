@@ -1,6 +1,6 @@
 -- The nodes are those of the net.
 use Rattle.std.proofs.Common.{◌≡◌, ℕ, Bool, List, Some, length, slice_get, subst, sym, ap, ◌∙◌, refl}
-use Rattle.latch_cone.specs.Cones.{MarksEnabled}
+use Rattle.inner_cone.specs.Cones.{MarksEnabled}
 use Rattle.flat_net.specs.declared.parts.LatchAt.{LatchAt}
 use Rattle.flat_net.specs.declared.parts.Driver.{Driver}
 use Rattle.signal_graph.specs.declared.nodes.Node.{Node}

@@ -1,0 +1,2 @@
+pub use Rattle.circuit_theory.specs.Cover
+pub use Rattle.circuit_theory.specs.Tree

@@ -1,0 +1,3 @@
+pub use Rattle.circuit_theory.proofs.Inputs
+pub use Rattle.circuit_theory.proofs.Lists
+pub use Rattle.circuit_theory.proofs.Sums
