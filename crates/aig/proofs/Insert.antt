@@ -3,9 +3,9 @@ use Rattle.std.proofs.Common.{◌≡◌, ◌≢◌, ℕ, zero, suc, ◌+◌, ◌
 use Rattle.std.specs.Prelude.{nat_lt}
 use Rattle.std.proofs.lemmas.Option.{slice_get_within, none-some, same_Some}
 use Rattle.std.proofs.lemmas.List.{length-append}
-use Rattle.unique_table.proofs.Lists.{of_at}
+use Rattle.circuit_theory.proofs.Lists.{of_at}
 use Rattle.unique_table.specs.Places.{IsWith}
-use Rattle.unique_table.specs.Cover.{Cover, cover_value}
+use Rattle.circuit_theory.specs.Cover.{Cover, cover_value}
 use Rattle.aig.specs.declared.node.Lit.{Lit}
 use Rattle.aig.specs.declared.node.Node.{Node}
 use Rattle.aig.specs.declared.node.Node.TheVariants.{Constant, Input, And}

@@ -3,7 +3,6 @@
 
 mod list;
 
-pub use circuit_theory::{Mode, Side};
 pub use list::{
     BitRows, Bits, Cubes, Duplicate, FileText, Ids, NoMemory, Seq, Text, Word, Words, unset_bits,
 };

@@ -2,7 +2,6 @@
 
 ghost use Rattle.std.specs.Prelude.{◌≡◌, false, List, [], ◌∷◌, ◌++◌, length, replicate, OnOk, OnErr, IfOk};
 
-use circuit_theory::Side;
 use std::alloc::{AllocError, AllocFailed, Global};
 use std::marker::Model;
 
@@ -125,12 +124,6 @@ impl Duplicate for u8 {
 
 impl Duplicate for u32 {
     fn duplicate(&self, _alloc: Global) -> Result<u32, NoMemory> {
-        Ok(*self)
-    }
-}
-
-impl Duplicate for Side {
-    fn duplicate(&self, _alloc: Global) -> Result<Side, NoMemory> {
         Ok(*self)
     }
 }

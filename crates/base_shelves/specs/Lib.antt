@@ -3,4 +3,3 @@ pub mod Fetch
 pub mod MemShelf
 pub mod MemSink
 pub use Rattle.base_lists.specs.declared.list.NoMemory
-pub use Rattle.base_lists.specs.Cover

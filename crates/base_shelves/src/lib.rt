@@ -8,8 +8,7 @@ mod sinks;
 mod whole_file;
 
 pub use base_lists::{
-    BitRows, Bits, Cubes, Duplicate, FileText, Ids, Mode, NoMemory, Seq, Side, Text, Word, Words,
-    unset_bits,
+    BitRows, Bits, Cubes, Duplicate, FileText, Ids, NoMemory, Seq, Text, Word, Words, unset_bits,
 };
 pub use mem_shelf::{HeldFile, MemShelf};
 pub use mem_sink::MemSink;

@@ -9,7 +9,7 @@ use Rattle.unique_table.proofs.Searches.{Passed}
 use Rattle.base_tables.specs.Table.{is_among}
 use Rattle.base_tables.proofs.TableLemmas.{is_among-at}
 use Rattle.base_tables.proofs.Appended.{at-is_among}
-use Rattle.unique_table.proofs.Lists.{of_at}
+use Rattle.unique_table.proofs.Elements.{of_at}
 
 -- one place more, where another name has its number
 pub passed-on : (at : ℕ → ℕ) (names : List (List ℕ)) (slots : List ℕ) (name : List ℕ) (step slot : ℕ) → Passed at names slots name step → slot_at at slots step ≡ slot → slot ≢ 0 → (slice_get names (slot - 1) ≡ Some name → ⊥)

@@ -6,7 +6,7 @@ use Rattle.flat_net.proofs.Places.{one_at}
 use Rattle.aig.specs.Values.{value}
 use Rattle.aig.proofs.Growth.{Grows-length, IsAndOf-grows}
 use Rattle.aig.proofs.Meaning.{value-grows}
-use Rattle.event_nodes.specs.Nodes.{EventGraphView, GrowsEvents}
+use Rattle.event_variables.specs.Nodes.{EventGraphView, GrowsEvents}
 use Rattle.pair_decide.specs.declared.query.Query.{Query}
 use Rattle.pair_decide.specs.declared.query.SameBy.{SameBy}
 use Rattle.pair_decide.specs.declared.query.SameBy.TheVariants as same_by

@@ -13,7 +13,7 @@ use Rattle.aig.specs.Graph.{Grows}
 use Rattle.aig.specs.Rules.{IsAndOf}
 use Rattle.aig.specs.Cone.{IsReached}
 use Rattle.aig.proofs.Growth.{Grows-length}
-use Rattle.event_nodes.specs.Nodes.{EventGraphView, IsEventGraph, GrowsEvents}
+use Rattle.event_variables.specs.Nodes.{EventGraphView, IsEventGraph, GrowsEvents}
 use Rattle.event_variables.specs.Variables.{variable_of, GoesBefore, IsMergeOf}
 use Rattle.pair_decide.specs.declared.query.Query.{Query}
 use Rattle.pair_decide.specs.Queries.{roots_of, IsQuery}

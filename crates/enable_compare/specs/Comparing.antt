@@ -3,7 +3,7 @@ use Rattle.std.specs.Prelude.{◌≡◌, ℕ, ◌*◌, ◌<◌, [], ◌∷◌, l
 use Rattle.aig.specs.declared.node.Node.TheVariants.{Input}
 use Rattle.aig.specs.Cone.{IsReached}
 use Rattle.aig.specs.Rules.{IsAndOf}
-use Rattle.event_nodes.specs.Nodes.{EventGraphView}
+use Rattle.event_variables.specs.Nodes.{EventGraphView}
 use Rattle.event_variables.specs.Variables.{AreInOrder, IsMergeOf}
 use Rattle.pair_decide.specs.declared.query.Query.{Query}
 use Rattle.pair_decide.specs.Answers.{Decides}

@@ -2,7 +2,7 @@
 use Rattle.std.specs.Prelude.{◌≡◌, ◌≢◌, ℕ, ◌*◌, ◌<◌, Bool, true, List, length, slice_get, Some}
 use Rattle.aig.specs.Rules.{IsAndOf}
 use Rattle.aig.specs.Values.{value}
-use Rattle.event_nodes.specs.Nodes.{EventGraphView}
+use Rattle.event_variables.specs.Nodes.{EventGraphView}
 use Rattle.pair_decide.specs.declared.query.SameBy.{SameBy}
 use Rattle.pair_decide.specs.declared.query.Decision.TheVariants as answer
 use Rattle.enable_compare.specs.declared.compare.Compared.{Compared}

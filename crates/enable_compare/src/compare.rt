@@ -1,13 +1,12 @@
 //! The queries.
 
 ghost use Rattle.std.specs.Prelude.{◌≡◌, ◌+◌, ◌^◌, ◌<◌, ◌≤◌, length, IfOk};
-ghost use Rattle.event_nodes.specs.Nodes.{GrowsEvents};
+ghost use Rattle.event_variables.specs.Nodes.{GrowsEvents};
 ghost use Rattle.enable_compare.specs.declared.compare.Enable.{Enable};
 ghost use Rattle.enable_compare.specs.Comparing.{IsReadyEnable, IsComparison, IsAlwaysComparison};
 
 use aig::Lit;
-use event_nodes::EventGraph;
-use event_variables::merge_variables;
+use event_variables::{EventGraph, merge_variables};
 use pair_decide::{Decision, Query, decide};
 use sec_base::{Ids, MAX_CONFLICTS, NoMemory};
 use std::alloc::Global;

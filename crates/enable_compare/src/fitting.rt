@@ -1,7 +1,7 @@
 //! An enable against the members of a class.
 
 ghost use Rattle.std.specs.Prelude.{◌≡◌, ◌≢◌, ◌+◌, ◌^◌, ◌<◌, ◌≤◌, true, false, length, Some, All, IfOk, IfSome, IfNone, OnOk};
-ghost use Rattle.event_nodes.specs.Nodes.{GrowsEvents};
+ghost use Rattle.event_variables.specs.Nodes.{GrowsEvents};
 ghost use Rattle.pair_decide.specs.declared.query.Decision.TheVariants as answer;
 ghost use Rattle.pair_decide.specs.declared.query.SameBy.{SameBy};
 ghost use Rattle.enable_compare.specs.declared.compare.Enable.{Enable};
@@ -9,7 +9,7 @@ ghost use Rattle.enable_compare.specs.Comparing.{IsReadyEnable};
 ghost use Rattle.enable_compare.specs.Fitting.{AreSameEnables, IsUnlike, IsFirstUnlike};
 
 use crate::compare::{Compared, Enable, compare_enables};
-use event_nodes::EventGraph;
+use event_variables::EventGraph;
 use pair_decide::Decision;
 use sec_base::{MAX_CONFLICTS, NoMemory};
 use std::alloc::Global;

@@ -17,7 +17,7 @@ use Rattle.interface.specs.declared.pairs.SignalPair.{SignalPair}
 use Rattle.witness_report.specs.declared.witness.PairName.{PairName}
 use Rattle.witness_report.specs.declared.witness.Witness.{Witness}
 use Rattle.outcome.specs.declared.verdict.PairResult.{PairResult}
-use Rattle.obligations.specs.Decided.{NoneIs}
+use Rattle.unshown_pairs.specs.Decided.{NoneIs}
 use Rattle.unshown_pairs.specs.Answers.{PairFits}
 use Rattle.event_witness.specs.declared.unshown.UnshownFrame.{UnshownFrame}
 use Rattle.unshown_pairs.specs.Reached.{BothReachAlways}

@@ -26,7 +26,7 @@ use Rattle.interface.specs.declared.pairs.SignalPair.{SignalPair}
 use Rattle.obligations.specs.declared.obligation.Obligation.{Obligation}
 use Rattle.obligations.specs.Decided.{AnswerIs, IsAnswered}
 use Rattle.obligations.specs.Found.{Differ, IsDifferenceOf}
-use Rattle.outcome.specs.declared.verdict.PairResult.{PairResult}
+use Rattle.obligations.specs.PairResult.{PairResult}
 use Rattle.pair_decide.specs.declared.query.Decision.TheVariants as decision
 use Rattle.pair_decide.specs.declared.query.Proof.{Proof}
 use Rattle.pair_decide.specs.declared.query.Query.{Query}

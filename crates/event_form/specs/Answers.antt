@@ -21,7 +21,7 @@ use Rattle.sat_search.specs.Found.{IsFruitless}
 use Rattle.event_nodes.specs.Nodes.{EventGraphView}
 use Rattle.event_variables.specs.Variables.{variables_of}
 use Rattle.interface.specs.declared.pairs.SignalPair.{SignalPair}
-use Rattle.outcome.specs.declared.verdict.PairResult.{PairResult}
+use Rattle.obligations.specs.PairResult.{PairResult}
 use Rattle.pair_decide.specs.declared.query.Proof.{Proof}
 use Rattle.pair_decide.specs.declared.query.Query.{Query}
 use Rattle.pair_decide.specs.Queries.{assigned_to}

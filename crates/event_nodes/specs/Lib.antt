@@ -13,3 +13,6 @@ pub use Rattle.aig.specs.Rules
 pub use Rattle.aig.specs.declared.node.Node
 pub use Rattle.aig.specs.Values
 pub use Rattle.flat_net.specs.Table
+pub use Rattle.event_theory.specs.EventSizes
+pub use Rattle.event_theory.specs.EventTotals
+pub use Rattle.event_theory.specs.Frame

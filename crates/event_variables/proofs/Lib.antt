@@ -6,3 +6,4 @@ pub mod Climbing
 pub mod Named
 pub mod PathOrder
 pub mod Sorting
+pub use Rattle.event_nodes.proofs.Growing

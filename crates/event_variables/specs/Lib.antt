@@ -1,2 +1,3 @@
 pub mod Variables
 pub mod Order
+pub use Rattle.event_nodes.specs.Nodes

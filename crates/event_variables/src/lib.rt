@@ -7,6 +7,7 @@ mod node_order;
 mod ordering;
 mod paths;
 
+pub use event_nodes::EventGraph;
 pub use merge::merge_variables;
 pub use node_order::variable_order;
 pub use ordering::in_order;

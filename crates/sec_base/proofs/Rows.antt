@@ -1,7 +1,7 @@
 -- A row and its bits, place by place.
 use Rattle.std.proofs.Common.{◌≡◌, ℕ, Bool, ◌&&◌, List, [], ◌∷◌, length, refl, ap, arith}
 use Rattle.std.specs.List.{list_all, zip}
-use Rattle.base_shelves.specs.Cover.{place_matches, row_matches}
+use Rattle.circuit_theory.specs.Cover.{place_matches, row_matches}
 
 -- where both are equally long, the pairs of their places say whether the row matches
 pub row_matches-zip : (row : List ℕ) (bits : List Bool) → length row ≡ length bits → row_matches row bits ≡ list_all (λ p. place_matches p.0 p.1) (zip row bits)

@@ -1,6 +1,6 @@
 -- What each cover keeps.
 use Rattle.std.specs.Prelude.{◌≡◌, ◌⊎◌, ℕ, true, List, [], length, All}
-use Rattle.base_shelves.specs.Cover.{Cover}
+use Rattle.circuit_theory.specs.Cover.{Cover}
 
 -- a byte of a row is `0`, `1` or `-`
 abbrev pub IsPlace : ℕ → Type 0

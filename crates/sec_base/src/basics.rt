@@ -1,6 +1,7 @@
 //! Small types that several crates share.
 
-use base_shelves::{Duplicate, Ids, NoMemory, Side};
+use base_shelves::{Duplicate, Ids, NoMemory};
+use circuit_theory::Side;
 use std::alloc::Global;
 
 /// The clock edge at which a latch loads, as the BLIF words `re` and `fe` say.

@@ -1,7 +1,7 @@
 //! Covers: a gate's function as rows over its fan-ins (BLIF manual, `.names`).
 
 ghost use Rattle.std.specs.Prelude.{◌≡◌, true, [], ◌∷◌, ◌++◌, length, All, OnOk, OnErr, IfOk};
-ghost use Rattle.base_shelves.specs.Cover.{cover_value, row_matches, place_matches};
+ghost use Rattle.circuit_theory.specs.Cover.{cover_value, row_matches, place_matches};
 ghost use Rattle.std.specs.List.{list_all, list_any, zip};
 ghost use Rattle.sec_base.specs.Cover.{IsCube, IsCoverSound};
 
@@ -19,7 +19,7 @@ pub struct Cover {
 }
 
 impl Model for Cover {
-    ghost use Rattle.base_shelves.specs.Cover as theory;
+    ghost use Rattle.circuit_theory.specs.Cover as theory;
     ghost use Rattle.sec_base.specs.Cover.{IsCoverSound};
 
     ghost Value = { theory.Cover };
@@ -88,7 +88,7 @@ impl Cover {
     }
 
     /// The value at these bits of the fan-ins. It takes no memory.
-    #[tactic(auto, unfolding(base_shelves::specs::Cover::cover_value))]
+    #[tactic(auto, unfolding(circuit_theory::specs::Cover::cover_value))]
     pub fn value(&self, bits: &[bool]) -> bool
         requires { length bits.now ≡ self.now.width }
         ensures { result ≡ cover_value self.now bits.now }

@@ -11,11 +11,12 @@ mod texts;
 
 pub use base_shelves::{
     BitRows, Bits, Cubes, Duplicate, Failed, FetchError, FileShelf, FileText, HeldFile, Ids,
-    MemShelf, MemSink, NoMemory, Seq, Shelf, ShelfError, Side, Sink, StdSink, Text, Word, Words,
-    fetch, unset_bits,
+    MemShelf, MemSink, NoMemory, Seq, Shelf, ShelfError, Sink, StdSink, Text, Word, Words, fetch,
+    unset_bits,
 };
 pub use base_tables::{NameTable, PlaceTable};
 pub use basics::{Edge, Init, Orders, PairAnswer, Tag};
+pub use circuit_theory::Side;
 pub use covers::{Cover, place_matches};
 pub use file_path::FilePath;
 pub use limits::{

@@ -1,6 +1,6 @@
 //! How a comparison is made.
 
-use base_shelves::Mode;
+use circuit_theory::Mode;
 
 /// How a comparison is made.
 #[derive(Clone, Copy, PartialEq, Eq)]

@@ -3,7 +3,7 @@ use Rattle.std.proofs.Common.{◌≡◌, ◌≢◌, ℕ, zero, suc, ◌+◌, ◌
 use Rattle.std.proofs.lemmas.List.Elements.{All-set, All-replicate}
 use Rattle.std.proofs.lemmas.List.{length-append, length-take-le, take_more}
 use Rattle.std.proofs.lemmas.Option.{slice_get-get_or, none-some, same_Some}
-use Rattle.base_lists.proofs.Lists.{at_of, of_at}
+use Rattle.unique_table.proofs.Elements.{at_of, of_at}
 use Rattle.unique_table.specs.Places.{place_in, slot_at, AreTaken, Stands, IsFree, StandOnce, IsTable}
 
 -- an element of a list with one more

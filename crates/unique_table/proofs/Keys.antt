@@ -2,7 +2,7 @@
 use Rattle.std.proofs.Common.{◌≡◌, ◌≢◌, ℕ, inl, inr, List, [], ◌∷◌, ◌++◌, get_or, slice_get, Some, Contains, ap, ◌∙◌, arith}
 use Rattle.std.specs.List.{AllPairs}
 use Rattle.std.proofs.lemmas.Option.{slice_get-get_or}
-use Rattle.base_lists.proofs.Lists.{of_at}
+use Rattle.unique_table.proofs.Elements.{of_at}
 use Rattle.unique_table.specs.Places.{StandOnce, IsWith}
 
 -- no two of them are one

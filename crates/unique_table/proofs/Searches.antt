@@ -1,7 +1,7 @@
 -- A search for a key that has come so far.
 use Rattle.std.proofs.Common.{◌≡◌, ◌≢◌, ℕ, ◌+◌, ◌-◌, ◌<◌, ◌≤◌, ◌⊎◌, inl, inr, List, length, slice_get, Some, min, Contains, sym, ap, ◌∙◌, arith, below_more}
 use Rattle.std.proofs.lemmas.Bool.{cases_order}
-use Rattle.base_lists.proofs.Lists.{at_of}
+use Rattle.unique_table.proofs.Elements.{at_of}
 use Rattle.unique_table.specs.Places.{slot_at, Stands, IsTable}
 
 -- at each of the first places stands the number of another key

@@ -11,3 +11,4 @@ pub mod Telling
 pub mod Separations
 pub use Rattle.class_events.specs.Refused
 pub use Rattle.class_events.specs.Separated
+pub use Rattle.event_form.specs.Decided

@@ -4,8 +4,8 @@ use Rattle.std.specs.Prelude.{Option, IfNone, IfSome}
 use Rattle.std.proofs.lemmas.Option.{slice_get-get_or, slice_get_within}
 use Rattle.circuit_theory.proofs.Lists.{All-from_each, at_of}
 use Rattle.flat_net.proofs.Places.{All-at}
-use Rattle.event_nodes.specs.Nodes.{EventGraphView}
-use Rattle.event_nodes.proofs.Growing.{grows_refl, grows_trans}
+use Rattle.event_variables.specs.Nodes.{EventGraphView}
+use Rattle.event_variables.proofs.Growing.{grows_refl, grows_trans}
 use Rattle.enable_compare.specs.declared.compare.Enable.{Enable}
 use Rattle.enable_compare.specs.declared.compare.Compared.{Compared}
 use Rattle.enable_compare.specs.Comparing.{IsReadyEnable}

@@ -1,5 +1,5 @@
 use Rattle.std.proofs.Common.{◌≡◌, ◌+◌, ◌<◌, ◌≤◌, ℕ, length, slice_get, Some}
-use Rattle.event_nodes.specs.Nodes.{GrowsEvents}
+use Rattle.event_variables.specs.Nodes.{GrowsEvents}
 use Rattle.enable_compare.specs.declared.compare.Enable.{Enable}
 use Rattle.enable_compare.specs.Comparing.{IsReadyEnable}
 use Rattle.enable_compare.specs.Fitting.{AreSameEnables}

@@ -1,2 +1,0 @@
-pub use Rattle.circuit_theory.specs.Cover
-pub use Rattle.circuit_theory.specs.Tree
