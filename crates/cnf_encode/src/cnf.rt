@@ -1,7 +1,7 @@
 //! The clauses of a query.
 
-use proof_check::Clauses;
 use aig::Ids;
+use proof_check::Clauses;
 
 /// Clauses over the nodes of a graph: variable k, from 1 on, stands for node `nodes[k - 1]`.
 #[derive(Drop)]

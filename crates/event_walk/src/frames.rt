@@ -6,8 +6,8 @@ ghost use Rattle.event_walk.specs.declared.frames.Put.TheVariants.{Low, High};
 ghost use Rattle.event_walk.specs.Ready.{put_of};
 
 use event_nodes::Lit;
-use indexmap::IndexSet;
 use flat_net::NoMemory;
+use indexmap::IndexSet;
 use std::alloc::Global;
 use std::marker::Model;
 

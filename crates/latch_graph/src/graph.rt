@@ -13,9 +13,9 @@ ghost use Rattle.unfolding_weight.specs.Weight.{Weighs};
 use crate::rounds::find_cycle;
 use crate::states::{State, all_new, settled_from};
 use flat_net::{Bits, Ids, LatchAt, Net, NoMemory, Signal, Signals};
-use unfolding_weight::{Node, SignalGraph, Weight, weigh};
 use std::alloc::Global;
 use std::marker::Model;
+use unfolding_weight::{Node, SignalGraph, Weight, weigh};
 
 /// The latch graph of a net: it has an edge from a latch to each latch whose next value depends on it through gates,
 /// but no edge from a skipped latch to itself. The edges aren't written out; they are ways through the signals, and a

@@ -16,8 +16,8 @@ ghost use Rattle.latch_graph.specs.Rounds.{latch_in, IsEndless, TakesOver, IsRou
 
 use crate::states::{State, all_new, settled_from};
 use flat_net::{Ids, LatchAt, NoMemory, Seq};
-use unfolding_weight::Node;
 use std::alloc::Global;
+use unfolding_weight::Node;
 
 /// A cycle without the removed latches, if one is left: each latch is read by the next, the last by the first, and the
 /// first has the least name.

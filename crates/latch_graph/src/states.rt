@@ -7,8 +7,8 @@ ghost use Rattle.latch_graph.specs.declared.states.State.{State};
 ghost use Rattle.latch_graph.specs.Settling.{HasDepth, IsGreatest, IsDepthOf, IsFirst, IsSettled, SameRemoved, IsLater, IsGivenUp, Leads, new_count, IsWay, depth_of};
 
 use flat_net::{NoMemory, Signal};
-use unfolding_weight::Node;
 use std::alloc::Global;
+use unfolding_weight::Node;
 
 /// What is known of a signal's depth.
 #[derive(Clone, Copy)]

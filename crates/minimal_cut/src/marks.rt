@@ -7,8 +7,8 @@ ghost use Rattle.graph_components.specs.Graph.{AreNodes};
 ghost use Rattle.minimal_cut.specs.Marks.{AreFirst};
 
 use flat_net::LatchAt;
-use sec_base::NoMemory;
 use graph_components::Node;
+use sec_base::NoMemory;
 use std::alloc::Global;
 
 /// Which way a walk goes.

@@ -6,8 +6,8 @@ ghost use Rattle.graph_components.specs.Node.{Node};
 ghost use Rattle.minimal_cut.specs.Readers.{AreReaders, AreReadersUpTo};
 
 use flat_net::{Signal, Signals};
-use sec_base::NoMemory;
 use graph_components::Node;
+use sec_base::NoMemory;
 use std::alloc::Global;
 
 /// The nodes with all readings turned round: each signal has those that read it.

@@ -10,8 +10,8 @@ ghost use Rattle.minimal_cut.specs.Marks.{AreMarks, IsPutBack, IsBlocked};
 ghost use Rattle.minimal_cut.specs.Walk.{IsWalk, IsLater, Meets, HasMet, unseen_count};
 
 use crate::marks::{Direction, Mark};
-use sec_base::NoMemory;
 use graph_components::Node;
+use sec_base::NoMemory;
 use std::alloc::Global;
 
 /// Puts the latch of the root back, and tells whether that closes a cycle. A walk back and a walk ahead go on in turn,

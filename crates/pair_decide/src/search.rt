@@ -10,7 +10,7 @@ use crate::bits::bits_of_vars;
 use crate::query::{Decision, Proof, Query, SameBy};
 use aig::Aig;
 use cnf_encode::encode;
-use proof_check::{MAX_CONFLICTS, Clauses, Log, NoMemory, ProofError, check_log};
+use proof_check::{Clauses, Log, MAX_CONFLICTS, NoMemory, ProofError, check_log};
 use sat_search::{Found, search};
 use std::alloc::Global;
 

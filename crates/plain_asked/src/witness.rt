@@ -10,8 +10,8 @@ ghost use Rattle.plain_asked.specs.Sequences.{IsSequence, IsWitnessOf};
 
 use crate::functions::Functions;
 use aig::Aig;
-use outcome_fits::copy_name;
 use outcome::{PairName, Stimulus, Witness};
+use outcome_fits::copy_name;
 use pair_decide::Query;
 use sec_base::{Bits, NoMemory, PlaceTable, Words};
 use shift_variables::{bits_at, rows_of};

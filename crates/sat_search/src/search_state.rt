@@ -15,7 +15,7 @@ use crate::activity::Activity;
 use crate::analysis::{analyse, first_decision};
 use crate::lesson::{Learnt, Lesson};
 use clause_watch::{Trail, Watches};
-use proof_check::{MAX_CONFLICTS, Bits, Clauses, Log, NoMemory, Resolver, Seq};
+use proof_check::{Bits, Clauses, Log, MAX_CONFLICTS, NoMemory, Resolver, Seq};
 use std::alloc::Global;
 use std::mem;
 

@@ -13,7 +13,7 @@ use crate::lesson::Lesson;
 use crate::outcome::Found;
 use crate::search_state::{SearchState, Turn};
 use clause_watch::{ClauseDb, Trail};
-use proof_check::{MAX_CONFLICTS, Clauses, NoMemory, Resolver, Seq};
+use proof_check::{Clauses, MAX_CONFLICTS, NoMemory, Resolver, Seq};
 use std::alloc::Global;
 
 /// Looks for values that meet all clauses, for at most so many conflicts. `Model` has values that

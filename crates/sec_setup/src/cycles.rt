@@ -6,9 +6,9 @@ ghost use Rattle.flat_net.specs.Cut.{exposed_names};
 ghost use Rattle.cut_points.specs.Graph.{IsGraphIn};
 ghost use Rattle.sec_setup.specs.Cycles.{IsCycleOf};
 
+use cut_points::LatchGraph;
 use flat_net::Net;
 use latch_cone::none_enabled;
-use cut_points::LatchGraph;
 use sec_base::{Bits, Ids, NoMemory, Words, unset_bits};
 use std::alloc::Global;
 

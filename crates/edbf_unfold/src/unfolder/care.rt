@@ -13,9 +13,9 @@ ghost use Rattle.event_literals.specs.Built.{AreMetOn};
 ghost use Rattle.edbf_unfold.specs.Care.{IsWithEnable, IsAndEnable, IsCareOf};
 
 use super::EventUnfolder;
+use event_literals::{Driver, Signal};
 use event_nodes::{Aig, EventGraph, Lit, NoMemory, Place, PlaceTable, latch_of};
 use event_walk::{Frame, Ways, constant};
-use event_literals::{Driver, Signal};
 
 /// The literal of an enable by those of its two functions: the one with the latch at 0, or not that with it at 1.
 pub(super) fn enable_of(events: &mut EventGraph, low: Lit, high: Lit) -> Result<Lit, NoMemory>

@@ -8,9 +8,9 @@ ghost use Rattle.event_walk.specs.declared.frames.Ways.{Ways};
 ghost use Rattle.edbf_unfold.specs.Reached.{IsOpenPlace, IsOnwardAt, IsNodePut, AreNodesOf};
 
 use super::EventUnfolder;
+use event_literals::{Driver, Signal};
 use event_nodes::{Ids, NoMemory, Place, PlaceTable, Seq};
 use event_walk::{Ways, constant};
-use event_literals::{Driver, Signal};
 use std::alloc::Global;
 
 impl<'a> EventUnfolder<'a> {
