@@ -15,6 +15,7 @@ use Rattle.event_nodes.specs.Lit.{Lit}
 use Rattle.event_nodes.specs.Graph.{flip}
 use Rattle.event_nodes.specs.Rules.{IsAndOf}
 use Rattle.event_nodes.proofs.Growth.{Grows-length, IsAndOf-grows}
+use Rattle.event_nodes.proofs.Literals.{flip-within}
 use Rattle.event_nodes.specs.Nodes.{EventGraphView, IsEventGraph, GrowsEvents, IsChild, path_of}
 use Rattle.event_nodes.specs.View.{EventCircuitView, side_of, Enabled}
 use Rattle.event_nodes.proofs.Paths.{child_path}
@@ -26,6 +27,7 @@ use Rattle.event_walk.specs.Ready.{put_of, IsReadyBy}
 use Rattle.event_literals.specs.Known.{IsKnownAt, IsEnableLit, AreKnown, IsMet}
 use Rattle.edbf_unfold.specs.Care.{IsEnableOnward, IsHeldPlace, IsPlaceEnable, IsAndOfAll, IsCareOf, IsWithEnable, IsAndEnable}
 use Rattle.event_literals.proofs.Known.{known_at_later}
+use Rattle.event_literals.proofs.OrStaying.{IsShortOr-grows}
 use Rattle.event_literals.proofs.Lits.{entry_known}
 
 module _ (e : EventCircuitView) (w v : EventGraphView) (is : IsEventGraph w) (grows : GrowsEvents w v) where
@@ -34,11 +36,9 @@ module _ (e : EventCircuitView) (w v : EventGraphView) (is : IsEventGraph w) (gr
   enable_later path l lit k = record {
     f0 = k.f0;
     f1 = k.f1;
-    both = k.both;
     low = known_at_later e w v is grows (Some (l.out.0, false)) l.next.0 path k.f0 k.low;
     high = known_at_later e w v is grows (Some (l.out.0, true)) l.next.0 path k.f1 k.high;
-    and_is = IsAndOf-grows w.graph v.graph grows.graph (flip k.f0) k.f1 k.both k.and_is;
-    lit_is = k.lit_is;
+    or_is = IsShortOr-grows w.graph v.graph is.is_graph grows.graph k.f0 (flip k.f1) lit k.low.within (flip-within k.f1 (length w.graph) k.high.within) k.or_is;
     within = omega (arith, k.within, Grows-length w.graph v.graph grows.graph);
   }
 
@@ -177,7 +177,7 @@ module _ (e : EventCircuitView) (w v : EventGraphView) (is : IsEventGraph v) (sa
       (subst (λ (n : List ℕ). IsKnownAt e v (put_of put) l.next.0 n x.0) path (subst (λ (o : Put). IsKnownAt e v (put_of o) l.next.0 (path_of v.children g.node) x.0) put_is own))
 
   pub with_own : (care lit : ℕ) → IsAndEnable memo v.graph care (step.onward, l.next.0) (step.high, l.next.0) lit → lit < 2 * length v.graph → IsWithEnable e v frames care (step.frame, step.signal) lit
-  with_own care lit k within = record { within = within; is = inr (flip k.both, record { held = record { frame = f; at = at; free = free; enabled = enabled }; onward = own }, k.is) }
+  with_own care lit k within = record { within = within; is = inr (k.enable, record { held = record { frame = f; at = at; free = free; enabled = enabled }; onward = own }, k.is) }
     where
       onto : (g : Frame) × (slice_get frames step.onward ≡ Some g) × (g.put ≡ Low step.signal) × IsChild w.children ready.frame.node ((side_of e).class step.signal) g.node
       onto = let o = ready.onward l.name l.next.0 latch free_there in (o.0, o.1, low o.2.own, o.2.child)
@@ -192,7 +192,7 @@ module _ (e : EventCircuitView) (w v : EventGraphView) (is : IsEventGraph v) (sa
       high_known : IsKnownAt e v (Some (step.signal, true)) l.next.0 ((side_of e).class step.signal ∷ path_of v.children f.node) k.f1.0
       high_known = let o = ready.high l.name l.next.0 latch free_there enabled in at_child o.0 (High step.signal) step.high k.f1 o.1 o.2.1 o.2.0 k.high_met
 
-      own : IsEnableOnward e v (path_of v.children f.node) step.signal (flip k.both)
+      own : IsEnableOnward e v (path_of v.children f.node) step.signal k.enable
       own = record {
         position = j;
         latch = l;
@@ -202,11 +202,9 @@ module _ (e : EventCircuitView) (w v : EventGraphView) (is : IsEventGraph v) (sa
         enable = record {
           f0 = k.f0.0;
           f1 = k.f1.0;
-          both = k.both;
           low = subst (λ (u : ℕ). IsKnownAt e v (Some (u, false)) l.next.0 ((side_of e).class step.signal ∷ path_of v.children f.node) k.f0.0) (sym out) low_known;
           high = subst (λ (u : ℕ). IsKnownAt e v (Some (u, true)) l.next.0 ((side_of e).class step.signal ∷ path_of v.children f.node) k.f1.0) (sym out) high_known;
-          and_is = k.both_is;
-          lit_is = refl;
-          within = k.both_within;
+          or_is = k.or_is;
+          within = k.within;
         };
       }

@@ -1,6 +1,6 @@
 -- No place of a variable has two numbers, since no two event nodes have one path; so one tree has one literal, with the tree's value.
-use Rattle.std.proofs.Common.{◌≡◌, ◌∙◌, ◌≤◌, ℕ, Bool, true, false, List, length, slice_get, Some, refl, sym, ap, subst}
-use Rattle.std.specs.Prelude.{◌||◌, ◌&&◌, not}
+use Rattle.std.proofs.Common.{◌≡◌, ◌∙◌, ◌≤◌, ℕ, List, length, slice_get, Some, sym, ap, subst}
+use Rattle.std.specs.Prelude.{◌||◌, not}
 use Rattle.circuit_theory.specs.Tree.{Tree, tree_value}
 use Rattle.circuit_theory.proofs.Lists.{map_at}
 use Rattle.event_theory.specs.Frame.{IsEnable}
@@ -9,15 +9,17 @@ use Rattle.event_literals.proofs.Places.{All-at}
 use Rattle.event_nodes.specs.Builds.{Builds}
 use Rattle.event_nodes.specs.Graph.{flip}
 use Rattle.event_nodes.specs.Values.{value}
-use Rattle.event_nodes.specs.Rules.{IsAndOf}
-use Rattle.event_nodes.proofs.Growth.{Builds-one, IsAndOf-one}
+use Rattle.event_nodes.proofs.Growth.{Builds-one}
 use Rattle.event_nodes.proofs.Meaning.{value-flip}
-use Rattle.event_nodes.proofs.CoverMeaning.{value-and, value-tree}
+use Rattle.event_nodes.proofs.CoverMeaning.{value-tree}
 use Rattle.event_nodes.specs.Nodes.{path_of, EventGraphView, named_places, IsEventGraph}
 use Rattle.edbf_unfold.specs.Laws.{EqualEventTreesOneLiteral, EqualEnablesOneLiteral, LiteralIsTree, EnableLiteralIsEnable, KnownLater}
 use Rattle.event_nodes.proofs.OnePath.{one_node}
 use Rattle.event_nodes.proofs.Drivers.{latch_equation_stands}
 use Rattle.event_literals.proofs.Known.{known_at_later}
+use Rattle.event_literals.proofs.OrStaying.{IsShortOr-one}
+use Rattle.event_literals.proofs.OrValues.{value-short_or}
+use Rattle.event_literals.specs.ShortOr.{IsShortOr}
 
 -- the variables' places by paths are distinct
 pub named_distinct : (w : EventGraphView) → IsEventGraph w → AreDistinct (named_places w)
@@ -41,21 +43,15 @@ pub one_enable_literal : EqualEnablesOneLiteral
 one_enable_literal e f w path other l m x y is k n low high =
     let f0 = one_literal e f w _ _ _ _ _ _ k.f0 n.f0 is k.low n.low low in
     let f1 = one_literal e f w _ _ _ _ _ _ k.f1 n.f1 is k.high n.high high in
-    let both : k.both ≡ n.both = IsAndOf-one w.graph is.is_graph (flip k.f0) k.f1 k.both n.both k.and_is (subst (λ (a : ℕ). IsAndOf w.graph (flip a) k.f1 n.both) (sym f0) (subst (λ (b : ℕ). IsAndOf w.graph (flip n.f0) b n.both) (sym f1) n.and_is)) in
-    k.lit_is ∙ (ap flip both ∙ sym n.lit_is)
+    IsShortOr-one w.graph is.is_graph k.f0 (flip k.f1) x y k.or_is (subst (λ (a : ℕ). IsShortOr w.graph a (flip k.f1) y) (sym f0) (subst (λ (b : ℕ). IsShortOr w.graph n.f0 (flip b) y) (sym f1) n.or_is))
 
 pub literal_value : LiteralIsTree
 literal_value e w put p path x is k bits a fits = value-tree w.graph is.is_graph a (named_places w) bits fits k.tree x k.builds
 
--- not both not the one and the other
-or_not : (b c : Bool) → not (not b && c) ≡ (b || not c)
-or_not true c = refl
-or_not false c = refl
-
 pub enable_value : EnableLiteralIsEnable
 enable_value e w path j l x sound is at on k bits a fits =
     IsEnable.own {name = l.name} {next = l.next.0} {low = k.low.tree} {high = k.high.tree} on (latch_equation_stands e.net sound l.out.0 j (sound.latches j l at).owner l at) k.low.unfolds k.high.unfolds
-    (ap (λ b. b || not (tree_value bits k.high.tree)) (sym low) ∙ (ap (λ b. value w.graph a k.f0 || not b) (sym high) ∙ (sym (or_not (value w.graph a k.f0) (value w.graph a k.f1)) ∙ sym whole)))
+    (ap (λ b. b || not (tree_value bits k.high.tree)) (sym low) ∙ (ap (λ b. value w.graph a k.f0 || not b) (sym high) ∙ sym whole))
   where
     low : value w.graph a k.f0 ≡ tree_value bits k.low.tree
     low = literal_value e w _ _ _ k.f0 is k.low bits a fits
@@ -63,10 +59,8 @@ enable_value e w path j l x sound is at on k bits a fits =
     high : value w.graph a k.f1 ≡ tree_value bits k.high.tree
     high = literal_value e w _ _ _ k.f1 is k.high bits a fits
 
-    whole : value w.graph a x ≡ not (not (value w.graph a k.f0) && value w.graph a k.f1)
-    whole =
-        ap (value w.graph a) k.lit_is ∙ (value-flip w.graph a k.both
-        ∙ ap not (value-and w.graph is.is_graph a (flip k.f0) k.f1 k.both k.and_is ∙ ap (λ b. b && value w.graph a k.f1) (value-flip w.graph a k.f0)))
+    whole : value w.graph a x ≡ (value w.graph a k.f0 || not (value w.graph a k.f1))
+    whole = value-short_or w.graph is.is_graph a k.f0 (flip k.f1) x k.or_is ∙ ap (λ b. value w.graph a k.f0 || b) (value-flip w.graph a k.f1)
 
 pub literal_later : KnownLater
 literal_later e w v put p path x is grows k = known_at_later e w v is grows put p path x k

@@ -14,6 +14,7 @@ use Rattle.event_nodes.specs.Reach.{IsBegun}
 use Rattle.event_nodes.specs.View.{EventCircuitView, side_of, Enabled}
 use Rattle.event_walk.specs.declared.frames.Frame.{Frame}
 use Rattle.event_literals.specs.Known.{IsEnableLit}
+use Rattle.event_literals.specs.ShortOr.{IsShortOr}
 use Rattle.event_walk.specs.Ready.{put_of}
 
 -- the literal is that of the enable of the latch, an enabled one, at the child of the node by its class
@@ -59,12 +60,12 @@ pub record IsWithEnable (e : EventCircuitView) (w : EventGraphView) (frames : Li
 pub record IsAndEnable (memo : List ((ℕ × ℕ) × Lit)) (g : List Node) (care : ℕ) (low high : ℕ × ℕ) (lit : ℕ) : Type 0 where
   pub f0 : Lit
   pub f1 : Lit
-  pub both : ℕ
+  pub enable : ℕ
   pub low_met : Contains memo (low, f0)
   pub high_met : Contains memo (high, f1)
-  pub both_is : IsAndOf g (flip f0.0) f1.0 both
-  pub both_within : flip both < 2 * length g
-  pub is : IsAndOf g care (flip both) lit
+  pub or_is : IsShortOr g f0.0 (flip f1.0) enable
+  pub within : enable < 2 * length g
+  pub is : IsAndOf g care enable lit
 
 -- the literal is the care of what the start reaches
 pub record IsCareLit (e : EventCircuitView) (w : EventGraphView) (x : Start ℕ) (lit : ℕ) : Type 0 where

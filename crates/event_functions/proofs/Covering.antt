@@ -27,6 +27,7 @@ use Rattle.event_literals.specs.Known.{IsKnownAt, IsEnableLit}
 use Rattle.edbf_unfold.specs.Care.{IsCareLit, IsEnableOnward, IsAndOfAll}
 use Rattle.event_inputs.specs.Variables.{variable_of}
 use Rattle.event_inputs.proofs.Cones.{From, Supports, supports_tree, supports_flip, supports_and_of, supports_constant, reached_one, from_one}
+use Rattle.event_functions.proofs.Shortening.{supports_short_or}
 use Rattle.event_inputs.proofs.Named.{named_distinct}
 use Rattle.event_inputs.specs.Inputs.{AreVisitedInputs}
 use Rattle.event_inputs.proofs.Leaves.{IsVisitedLeaf, put_latch}
@@ -64,11 +65,9 @@ module _ (e : EventCircuitView) (w : EventGraphView) (x : Start ℕ) (vars : Lis
   enable_supports : (path : List ℕ) (l : LatchAt) (lit : ℕ) → ((put : Option (ℕ × Bool)) (tree : Tree (List ℕ)) → (bit : Bool) → put ≡ Some (l.out.0, bit) → EventUnfolds (side_of e) (Enabled e) put l.next.0 path tree → (y : Variable (List ℕ)) → HasLeaf y tree → IsVisitedLeaf (side_of e) (Enabled e) (x ∷ []) y) →
       IsEnableLit e w path l lit → Supports w.graph is.is_graph (Contains vars) lit
   enable_supports path l lit visits k =
-      subst (Supports w.graph is.is_graph (Contains vars)) (sym k.lit_is)
-      (supports_flip w.graph is.is_graph (Contains vars) k.both
-      (supports_and_of w.graph is.is_graph (Contains vars) (flip k.f0) k.f1 k.both k.and_is
-      (supports_flip w.graph is.is_graph (Contains vars) k.f0 (tree_supports (Some (l.out.0, false)) l.next.0 path k.f0 k.low (λ y leaf. visits (Some (l.out.0, false)) k.low.tree false refl k.low.unfolds y leaf)))
-      (tree_supports (Some (l.out.0, true)) l.next.0 path k.f1 k.high (λ y leaf. visits (Some (l.out.0, true)) k.high.tree true refl k.high.unfolds y leaf))))
+      supports_short_or w.graph is.is_graph (Contains vars) k.f0 (flip k.f1) lit k.or_is
+      (tree_supports (Some (l.out.0, false)) l.next.0 path k.f0 k.low (λ y leaf. visits (Some (l.out.0, false)) k.low.tree false refl k.low.unfolds y leaf))
+      (supports_flip w.graph is.is_graph (Contains vars) k.f1 (tree_supports (Some (l.out.0, true)) l.next.0 path k.f1 k.high (λ y leaf. visits (Some (l.out.0, true)) k.high.tree true refl k.high.unfolds y leaf)))
 
   begun : (node : List ℕ) (v : ℕ) → ReachedAt (side_of e) (Enabled e) (IsBegun (circuit_of e.net) x) node v → ReachedAt (side_of e) (Enabled e) (StartLatches (side_of e) (x ∷ [])) node v
   begun [] v r = (x, Contains-head x [], r.0, r.1)

@@ -2,5 +2,6 @@ pub mod Refusing
 pub mod Totaling
 pub mod Growing
 pub mod Visiting
+pub mod Shortening
 pub mod Covering
 pub use Rattle.event_literals.proofs.Known

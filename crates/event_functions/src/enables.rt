@@ -46,7 +46,7 @@ pub fn unfold_enable(
     ensures counted { OnOk result ((l : LatchAt) → slice_get circuit.now.net.latches j ≡ Some l → HasCountedStart circuit.now (enable_start l) events.new.children total.old total.new) }
     ensures counting { (l : LatchAt) → slice_get circuit.now.net.latches j ≡ Some l → IsCounting circuit.now (enable_start l) events.old.children events.new.children total.old total.new }
     ensures refused { (l : LatchAt) → slice_get circuit.now.net.latches j ≡ Some l → IsRefusal circuit.now events.old.children events.new.children (enable_start l) total.old.places result }
-    ensures grows { OnOk result (GrowsEvents events.old events.new) }
+    ensures grows { GrowsEvents events.old events.new }
 {
     circuit.keeps();
     let mut visits = Counter::new(alloc);
@@ -78,7 +78,7 @@ fn visit_enable(
     ensures counting { (l : LatchAt) → slice_get circuit.now.net.latches j ≡ Some l → IsCounting circuit.now (enable_start l) events.old.children events.new.children visits.old visits.new }
     ensures many { result ≡ Err unfold_error.TooManyEvents → 10000 ≤ length events.new.children }
     ensures large { result ≡ Err unfold_error.TooLarge → (l : LatchAt) → slice_get circuit.now.net.latches j ≡ Some l → IsTooHeavy circuit.now (enable_start l) × HasFewNodes circuit.now events.new.children (enable_start l) }
-    ensures grows { OnOk result (GrowsEvents events.old events.new) }
+    ensures grows { GrowsEvents events.old events.new }
     ensures places { OnOk result (length events.new.places < 2 ^ 31) }
 {
     circuit.keeps();

@@ -53,7 +53,7 @@ pub fn unfold_signal(
     ensures counted { OnOk result (HasCountedStart circuit.now (signal_start s.0) events.new.children total.old total.new) }
     ensures counting { IsCounting circuit.now (signal_start s.0) events.old.children events.new.children total.old total.new }
     ensures refused { IsRefusal circuit.now events.old.children events.new.children (signal_start s.0) total.old.places result }
-    ensures grows { OnOk result (GrowsEvents events.old events.new) }
+    ensures grows { GrowsEvents events.old events.new }
 {
     circuit.keeps();
     let mut visits = Counter::new(alloc);
@@ -88,7 +88,7 @@ fn visit_signal(
     ensures counting { IsCounting circuit.now (signal_start s.0) events.old.children events.new.children visits.old visits.new }
     ensures many { result ≡ Err unfold_error.TooManyEvents → 10000 ≤ length events.new.children }
     ensures large { result ≡ Err unfold_error.TooLarge → IsTooHeavy circuit.now (signal_start s.0) × HasFewNodes circuit.now events.new.children (signal_start s.0) }
-    ensures grows { OnOk result (GrowsEvents events.old events.new) }
+    ensures grows { GrowsEvents events.old events.new }
     ensures places { OnOk result (length events.new.places < 2 ^ 31) }
 {
     circuit.keeps();

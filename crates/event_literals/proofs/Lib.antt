@@ -3,5 +3,7 @@ pub mod Known
 pub mod Lits
 pub mod Going
 pub mod Rooted
+pub use Rattle.aig_or.proofs.OrValues
+pub use Rattle.aig_or.proofs.OrStaying
 pub use Rattle.flat_net.proofs.Nets
 pub use Rattle.flat_net.proofs.Places

@@ -12,7 +12,7 @@ use Rattle.flat_net.proofs.Growth.{slice_get-append}
 use Rattle.flat_net.proofs.Places.{one_at}
 use Rattle.event_nodes.specs.Lit.{Lit}
 use Rattle.event_nodes.specs.Graph.{flip}
-use Rattle.event_nodes.specs.Rules.{IsAndOf}
+use Rattle.aig_or.specs.ShortOr.{IsShortOr}
 use Rattle.event_nodes.specs.Adds.{Adds}
 use Rattle.event_nodes.specs.Nodes.{EventGraphView, IsEventGraph, GrowsEvents}
 use Rattle.event_nodes.specs.View.{EventCircuitView}
@@ -74,17 +74,15 @@ next_within e now n j l same net sound at =
     subst (λ (k : EventCircuitView). l.next.0 < length k.net.drivers) same (sound.latches j l (subst (λ (m : NetView). slice_get m.latches j ≡ Some l) net at)).within
 
 -- the enable's literal is made of those of its two functions
-pub enable_lit : (e now : EventCircuitView) → now ≡ e → (w x y : EventGraphView) → IsEventGraph w → IsEventGraph x → GrowsEvents w x → GrowsEvents x y → (l : LatchAt) (f0 f1 both lit : ℕ) →
-    IsKnownIn e w (record { node = 0; put = Low l.out.0 }) l.next.0 f0 → IsKnownIn now x (record { node = 0; put = High l.out.0 }) l.next.0 f1 → IsAndOf y.graph (flip f0) f1 both → lit ≡ flip both → lit < 2 * length y.graph → IsEnableLit now y [] l lit
-enable_lit e now same w x y is also grows more l f0 f1 both lit low high and_is lit_is within = record {
+pub enable_lit : (e now : EventCircuitView) → now ≡ e → (w x y : EventGraphView) → IsEventGraph w → IsEventGraph x → GrowsEvents w x → GrowsEvents x y → (l : LatchAt) (f0 f1 lit : ℕ) →
+    IsKnownIn e w (record { node = 0; put = Low l.out.0 }) l.next.0 f0 → IsKnownIn now x (record { node = 0; put = High l.out.0 }) l.next.0 f1 → IsShortOr y.graph f0 (flip f1) lit → lit < 2 * length y.graph → IsEnableLit now y [] l lit
+enable_lit e now same w x y is also grows more l f0 f1 lit low high or_is within = record {
   f0 = f0;
   f1 = f1;
-  both = both;
   low = known_at_later now w y is (grows_trans w x y grows more) (Some (l.out.0, false)) l.next.0 [] f0
       (subst (λ (k : EventCircuitView). IsKnownAt k w (Some (l.out.0, false)) l.next.0 [] f0) (sym same) (subst (λ (n : List ℕ). IsKnownAt e w (Some (l.out.0, false)) l.next.0 n f0) (root_path w.children) low));
   high = known_at_later now x y also more (Some (l.out.0, true)) l.next.0 [] f1 (subst (λ (n : List ℕ). IsKnownAt now x (Some (l.out.0, true)) l.next.0 n f1) (root_path x.children) high);
-  and_is = and_is;
-  lit_is = lit_is;
+  or_is = or_is;
   within = within;
 }
 

@@ -10,8 +10,9 @@ use Rattle.event_nodes.specs.Lit.{Lit}
 use Rattle.event_nodes.specs.Node.{Node}
 use Rattle.event_nodes.specs.Node.TheVariants.{Input}
 use Rattle.event_nodes.specs.Graph.{IsLitOf, flip}
-use Rattle.event_nodes.specs.Rules.{IsAndOf, IsCoverOf}
+use Rattle.event_nodes.specs.Rules.{IsCoverOf}
 use Rattle.event_nodes.specs.Builds.{Builds}
+use Rattle.aig_or.specs.ShortOr.{IsShortOr}
 use Rattle.event_walk.specs.declared.frames.Frame.{Frame}
 use Rattle.event_walk.specs.declared.frames.Step.{Step}
 use Rattle.event_walk.specs.Ready.{EventWalkerView, IsReadyBy, put_of}
@@ -34,11 +35,9 @@ IsKnownIn e w f p lit = IsKnownAt e w (put_of f.put) p (path_of w.children f.nod
 pub record IsEnableLit (e : EventCircuitView) (w : EventGraphView) (path : List ℕ) (l : LatchAt) (lit : ℕ) : Type 0 where
   pub f0 : ℕ
   pub f1 : ℕ
-  pub both : ℕ
   pub low : IsKnownAt e w (Some (l.out.0, false)) l.next.0 path f0
   pub high : IsKnownAt e w (Some (l.out.0, true)) l.next.0 path f1
-  pub and_is : IsAndOf w.graph (flip f0) f1 both
-  pub lit_is : lit ≡ flip both
+  pub or_is : IsShortOr w.graph f0 (flip f1) lit
   pub within : lit < 2 * length w.graph
 
 -- each literal that is kept is right: an entry is the number of a frame and a signal, with the literal

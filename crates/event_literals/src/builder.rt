@@ -5,7 +5,7 @@ ghost use Rattle.std.specs.List.{AllZip, sum_by};
 ghost use Rattle.event_theory.specs.EventSizes.{Start};
 ghost use Rattle.event_nodes.specs.Lit.{Lit};
 ghost use Rattle.event_nodes.specs.Weights.{gate_weight, weight_at};
-ghost use Rattle.event_nodes.specs.Nodes.{EventGraphView};
+ghost use Rattle.event_nodes.specs.Nodes.{EventGraphView, GrowsEvents};
 ghost use Rattle.event_walk.specs.declared.frames.Frame.{Frame};
 ghost use Rattle.event_walk.specs.declared.frames.Step.{Step};
 ghost use Rattle.event_walk.specs.Ready.{IsPlan};
@@ -101,7 +101,7 @@ impl<'a> EventBuilder<'a> {
         ensures here { IfOk result (λ r. IsKnownIn self.new.circuit events.new frame s.0 r.lit.0) }
         ensures walked { IfOk result (λ r. IsWalked self.new events.new frame s.0 counter.new.places cap r.table r.ways.items) }
         ensures unfolded { OnOk result (HasUnfolded self.old self.new events.old events.new cap × IsCountedOn self.old.circuit.net events.new.children counter.old counter.new) }
-        ensures counting { (x : Start ℕ) → IsRootOf frame s.0 x → IsCounting self.old.circuit x events.old.children events.new.children counter.old counter.new }
+        ensures counting { GrowsEvents events.old events.new × ((x : Start ℕ) → IsRootOf frame s.0 x → IsCounting self.old.circuit x events.old.children events.new.children counter.old counter.new) }
         ensures refused { IsRefused self.old.circuit.net events.new.children counter.new.places result }
     {
         events.keeps();

@@ -5,5 +5,6 @@
 mod builder;
 mod memo;
 
+pub use aig_or::short_or;
 pub use builder::{EventBuilder, Unfolding};
 pub use flat_net::{Driver, Signal};

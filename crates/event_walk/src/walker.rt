@@ -7,7 +7,7 @@ ghost use Rattle.event_nodes.specs.Frame.{NotPut};
 ghost use Rattle.flat_net.specs.declared.parts.Driver.TheVariants as driver;
 ghost use Rattle.event_nodes.specs.declared.error.EventUnfoldError.TheVariants as unfold_error;
 ghost use Rattle.event_nodes.specs.Adds.{Adds};
-ghost use Rattle.event_nodes.specs.Nodes.{IsTree};
+ghost use Rattle.event_nodes.specs.Nodes.{GrowsEvents, IsTree};
 ghost use Rattle.event_nodes.specs.View.{EventCircuitView};
 ghost use Rattle.event_walk.specs.Plan.{AreExpanded, IsPlanOf};
 ghost use Rattle.event_nodes.specs.Visited.{IsWeighed, places_weight};
@@ -113,6 +113,7 @@ impl<'a> EventWalker<'a> {
         requires few { length events.old.children < 10000 }
         ensures walked { IfOk result (λ r. (at : ℕ) × (weight : ℕ) × IsWalk self.old self.new events.old events.new root r.0 r.1.items at weight cap × IsExact self.old self.new events.old events.new counter.old counter.new root r.0 at × (length r.0 ≤ at)) }
         ensures counting { (s : Start ℕ) → IsVisitedPlace self.old.circuit self.old.frames events.old.children s root → IsCounting self.old.circuit s events.old.children events.new.children counter.old counter.new }
+        ensures grows { GrowsEvents events.old events.new }
         ensures refused { IsRefused self.old.circuit.net events.new.children counter.new.places result }
     {
         let circuit = self.circuit();

@@ -4,16 +4,16 @@ ghost use Rattle.std.specs.Prelude.{◌≡◌, ℕ, ◌+◌, ◌*◌, ◌^◌, �
 ghost use Rattle.event_theory.specs.Frame.{NotPut};
 ghost use Rattle.event_literals.specs.Driver.TheVariants as driver;
 ghost use Rattle.event_nodes.specs.Graph.{flip};
-ghost use Rattle.event_nodes.specs.Rules.{IsAndOf};
 ghost use Rattle.event_nodes.specs.Lit.{Lit};
 ghost use Rattle.event_walk.specs.declared.frames.Ways.{Ways};
 ghost use Rattle.event_literals.specs.Known.{AreKnown, HasGrown, IsMet};
 ghost use Rattle.event_walk.specs.Ready.{IsReadyBy, put_of};
 ghost use Rattle.event_literals.specs.Built.{AreMetOn};
+ghost use Rattle.event_literals.specs.ShortOr.{IsShortOr};
 ghost use Rattle.edbf_unfold.specs.Care.{IsWithEnable, IsAndEnable, IsCareOf};
 
 use super::EventUnfolder;
-use event_literals::{Driver, Signal};
+use event_literals::{Driver, Signal, short_or};
 use event_nodes::{Aig, EventGraph, Lit, NoMemory, Place, PlaceTable, latch_of};
 use event_walk::{Frame, Ways, constant};
 
@@ -22,14 +22,18 @@ pub(super) fn enable_of(events: &mut EventGraph, low: Lit, high: Lit) -> Result<
     requires low { low.0 < 2 * length events.old.graph }
     requires high { high.0 < 2 * length events.old.graph }
     requires room { length events.old.graph + 1 < 2 ^ 30 }
-    ensures here { IfOk result (λ x. (both : ℕ) × IsAndOf events.new.graph (flip low.0) high.0 both × (x.0 ≡ flip both)) }
+    ensures here { IfOk result (λ x. IsShortOr events.new.graph low.0 (flip high.0) x.0) }
     ensures within { IfOk result (λ x. x.0 < 2 * length events.new.graph) }
     ensures grown { HasGrown events.old events.new 1 }
 {
     events.keeps();
-    let both = events.and(Aig::not(low), high)?;
+    let off = Aig::not(high);
+    if let Some(enable) = short_or(events.aig(), low, off) {
+        return Ok(enable);
+    }
+    let neither = events.and(Aig::not(low), Aig::not(off))?;
     events.keeps();
-    Ok(Aig::not(both))
+    Ok(Aig::not(neither))
 }
 
 impl<'a> EventUnfolder<'a> {
@@ -156,6 +160,7 @@ impl<'a> EventUnfolder<'a> {
         let f0 = self.met(low);
         let f1 = self.met(high);
         let enable = enable_of(events, f0, f1)?;
+        events.keeps();
         let lit = events.and(care, enable)?;
         Ok(lit)
     }

@@ -5,6 +5,7 @@ use Rattle.event_literals.specs.Walk.{HasCountedStart, IsCounting, enable_start}
 use Rattle.event_literals.specs.Known.{IsEnableLit}
 use Rattle.edbf_unfold.specs.Care.{IsCareLit}
 use Rattle.event_nodes.specs.Visited.{places_weight}
+use Rattle.event_nodes.proofs.Growing.{grows_refl, grows_trans}
 use Rattle.event_nodes.proofs.Lists.{adds_none}
 use Rattle.event_reach.proofs.Making.{no_nodes}
 use Rattle.event_functions.proofs.Refusing.{error_is}
@@ -37,8 +38,7 @@ returns-in-Ok-clause-counting c =
     λ l at. (subst (λ (e : EventCircuitView). IsCounting e (enable_start l) c.args.events.now.children c.enable.new.events.children c.args.visits.now c.enable.new.counter) (fresh_circuit c.new-unfolder.result c.args.circuit.now c.new-unfolder.ensures.begins) (c.enable.ensures.counting l (subst (λ (e : EventCircuitView). slice_get e.net.latches c.args.j ≡ Some l) (sym (fresh_circuit c.new-unfolder.result c.args.circuit.now c.new-unfolder.ensures.begins)) at)))
 
 pub returns-in-Ok-clause-grows : goal.returns-in-Ok-clause-grows
-returns-in-Ok-clause-grows c =
-    c.in-Ok.ensures.unfolded.grows
+returns-in-Ok-clause-grows c = c.enable.ensures.grows
 
 pub returns-in-Ok-clause-places : goal.returns-in-Ok-clause-places
 returns-in-Ok-clause-places c =
@@ -68,3 +68,9 @@ returns-in_err-room-clause-counting c = λ l at. record {
   nodes = no_nodes c.args.circuit.now c.args.events.now.children (enable_start l);
   counted = λ starts h before. before;
 }
+
+pub returns-clause-grows : goal.returns-clause-grows
+returns-clause-grows c = grows_trans c.args.events.now c.enable.new.events c.enable_refusal.new.events c.enable.ensures.grows c.enable_refusal.ensures.grows
+
+pub returns-in_err-room-clause-grows : goal.returns-in_err-room-clause-grows
+returns-in_err-room-clause-grows c = grows_refl c.args.events.now

@@ -86,4 +86,13 @@ returns-clause-function c =
 
 pub returns-clause-grows : goal.returns-clause-grows
 returns-clause-grows c =
-    grows_trans c.args.events.now c.visit_signal.new.events c.visited_variables.new.events c.in_ok-made.ensures.grows c.visited_variables.ensures.grows
+    grows_trans c.args.events.now c.visit_signal.new.events c.visited_variables.new.events c.visit_signal.ensures.grows c.visited_variables.ensures.grows
+
+pub returns-in_err-made-clause-grows : goal.returns-in_err-made-clause-grows
+returns-in_err-made-clause-grows c = c.visit_signal.ensures.grows
+
+pub returns-in_err-count_all-clause-grows : goal.returns-in_err-count_all-clause-grows
+returns-in_err-count_all-clause-grows c = c.visit_signal.ensures.grows
+
+pub returns-in_err-vars-clause-grows : goal.returns-in_err-vars-clause-grows
+returns-in_err-vars-clause-grows c = grows_trans c.args.events.now c.visit_signal.new.events c.visited_variables.new.events c.visit_signal.ensures.grows c.visited_variables.ensures.grows

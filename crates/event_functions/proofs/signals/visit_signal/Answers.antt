@@ -7,6 +7,7 @@ use Rattle.edbf_unfold.specs.Care.{IsCareLit}
 use Rattle.edbf_unfold.specs.Reached.{IsReachOf}
 use Rattle.event_functions.specs.Functions.{signal_start}
 use Rattle.event_nodes.specs.Visited.{places_weight}
+use Rattle.event_nodes.proofs.Growing.{grows_refl, grows_trans}
 use Rattle.event_nodes.proofs.Lists.{adds_none}
 use Rattle.event_reach.proofs.Making.{no_nodes}
 use Rattle.event_functions.proofs.Refusing.{error_is}
@@ -40,11 +41,10 @@ returns-in-Ok-clause-counted c =
 
 pub returns-in-Ok-clause-counting : goal.returns-in-Ok-clause-counting
 returns-in-Ok-clause-counting c =
-    (subst (λ (e : EventCircuitView). IsCounting e (signal_start c.args.s.0) c.args.events.now.children c.unfold.new.events.children c.args.visits.now c.unfold.new.counter) (fresh_circuit c.new-unfolder.result c.args.circuit.now c.new-unfolder.ensures.begins) (c.unfold.ensures.counting))
+    (subst (λ (e : EventCircuitView). IsCounting e (signal_start c.args.s.0) c.args.events.now.children c.unfold.new.events.children c.args.visits.now c.unfold.new.counter) (fresh_circuit c.new-unfolder.result c.args.circuit.now c.new-unfolder.ensures.begins) c.unfold.ensures.counting.1)
 
 pub returns-in-Ok-clause-grows : goal.returns-in-Ok-clause-grows
-returns-in-Ok-clause-grows c =
-    c.in-Ok.ensures.unfolded.grows
+returns-in-Ok-clause-grows c = c.unfold.ensures.counting.0
 
 pub returns-in-Ok-clause-places : goal.returns-in-Ok-clause-places
 returns-in-Ok-clause-places c =
@@ -57,14 +57,14 @@ pub signal_refusal-requires-clause-large : goal.signal_refusal-requires-clause-l
 signal_refusal-requires-clause-large c = λ is. subst (λ (e : EventCircuitView). 2000000 < places_weight e.net c.unfold.new.counter.places) (fresh_circuit c.new-unfolder.result c.args.circuit.now c.new-unfolder.ensures.begins) (c.in-Err.ensures.refused.large (ap Err is))
 
 pub returns-clause-counting : goal.returns-clause-counting
-returns-clause-counting c = counting_on c.args.circuit.now (signal_start c.args.s.0) c.args.events.now.children c.unfold.new.events c.signal_refusal.new.events c.args.visits.now c.unfold.new.counter c.signal_refusal.ensures.events.is_tree c.signal_refusal.ensures.grows (subst (λ (e : EventCircuitView). IsCounting e (signal_start c.args.s.0) c.args.events.now.children c.unfold.new.events.children c.args.visits.now c.unfold.new.counter) (fresh_circuit c.new-unfolder.result c.args.circuit.now c.new-unfolder.ensures.begins) (c.unfold.ensures.counting)) (c.signal_refusal.ensures.made)
+returns-clause-counting c = counting_on c.args.circuit.now (signal_start c.args.s.0) c.args.events.now.children c.unfold.new.events c.signal_refusal.new.events c.args.visits.now c.unfold.new.counter c.signal_refusal.ensures.events.is_tree c.signal_refusal.ensures.grows (subst (λ (e : EventCircuitView). IsCounting e (signal_start c.args.s.0) c.args.events.now.children c.unfold.new.events.children c.args.visits.now c.unfold.new.counter) (fresh_circuit c.new-unfolder.result c.args.circuit.now c.new-unfolder.ensures.begins) c.unfold.ensures.counting.1) (c.signal_refusal.ensures.made)
 
 pub returns-clause-many : goal.returns-clause-many
 returns-clause-many c = λ is. c.signal_refusal.ensures.many (error_is is)
 
 pub returns-clause-large : goal.returns-clause-large
 returns-clause-large c = λ is. (
-  λ starts h. visits_over c.args.circuit.now (signal_start c.args.s.0) c.args.events.now.children c.unfold.new.events.children c.args.visits.now c.unfold.new.counter c.requires.none (subst (λ (e : EventCircuitView). IsCounting e (signal_start c.args.s.0) c.args.events.now.children c.unfold.new.events.children c.args.visits.now c.unfold.new.counter) (fresh_circuit c.new-unfolder.result c.args.circuit.now c.new-unfolder.ensures.begins) (c.unfold.ensures.counting)) c.unfold.new.events c.keeps.ensures.sound c.signal_refusal.ensures.events refl (c.signal_refusal.ensures.large (error_is is)).0 starts h,
+  λ starts h. visits_over c.args.circuit.now (signal_start c.args.s.0) c.args.events.now.children c.unfold.new.events.children c.args.visits.now c.unfold.new.counter c.requires.none (subst (λ (e : EventCircuitView). IsCounting e (signal_start c.args.s.0) c.args.events.now.children c.unfold.new.events.children c.args.visits.now c.unfold.new.counter) (fresh_circuit c.new-unfolder.result c.args.circuit.now c.new-unfolder.ensures.begins) c.unfold.ensures.counting.1) c.unfold.new.events c.keeps.ensures.sound c.signal_refusal.ensures.events refl (c.signal_refusal.ensures.large (error_is is)).0 starts h,
   (c.signal_refusal.ensures.large (error_is is)).1,
 )
 
@@ -74,3 +74,9 @@ returns-in_err-room-clause-counting c = record {
   nodes = no_nodes c.args.circuit.now c.args.events.now.children (signal_start c.args.s.0);
   counted = λ starts h before. before;
 }
+
+pub returns-clause-grows : goal.returns-clause-grows
+returns-clause-grows c = grows_trans c.args.events.now c.unfold.new.events c.signal_refusal.new.events c.unfold.ensures.counting.0 c.signal_refusal.ensures.grows
+
+pub returns-in_err-room-clause-grows : goal.returns-in_err-room-clause-grows
+returns-in_err-room-clause-grows c = grows_refl c.args.events.now

@@ -1,9 +1,10 @@
 -- The enable, and the and with it.
-use Rattle.std.proofs.Common.{ℕ, subst, arith}
+use Rattle.std.proofs.Common.{◌*◌, ◌<◌, ℕ, length, arith}
 use Rattle.event_nodes.specs.Graph.{flip}
-use Rattle.event_nodes.specs.Rules.{IsAndOf}
-use Rattle.event_nodes.proofs.Growth.{Grows-length, IsAndOf-grows}
+use Rattle.event_nodes.proofs.Growth.{Grows-length}
+use Rattle.event_nodes.proofs.Literals.{flip-within}
 use Rattle.event_literals.proofs.Lits.{cover_grown}
+use Rattle.event_literals.proofs.OrStaying.{IsShortOr-grows}
 use Rattle.event_literals.proofs.Going.{grown_trans, grown_within}
 use Rattle.edbf_unfold.proofs.unfolder.EventUnfolder.and_enable.Goals as goal
 
@@ -28,18 +29,21 @@ returns-in_err-lit-clause-grown c =
 
 pub returns-clause-here : goal.returns-clause-here
 returns-clause-here c =
-    let e = c.in_ok-enable.ensures.here in
     let more = Grows-length _ _ c.and.ensures.grows.graph in
     record {
       f0 = c.met-f0.result;
       f1 = c.met-f1.result;
-      both = e.0;
+      enable = c.in_ok-enable.enable.0;
       low_met = c.met-f0.ensures;
       high_met = c.met-f1.ensures;
-      both_is = IsAndOf-grows c.enable_of.new.events.graph c.and.new.self.graph c.and.ensures.grows.graph (flip c.met-f0.result.0) c.met-f1.result.0 e.0 e.1;
-      both_within = omega (arith, c.in_ok-enable.ensures.within, more, e.2);
-      is = subst (λ (k : ℕ). IsAndOf c.and.new.self.graph c.args.care.0 k c.in_ok-lit.lit.0) e.2 c.in_ok-lit.ensures.here;
+      or_is = IsShortOr-grows c.enable_of.new.events.graph c.and.new.self.graph c.keeps.ensures.events.is_graph c.and.ensures.grows.graph c.met-f0.result.0 (flip c.met-f1.result.0) c.in_ok-enable.enable.0 (inside c.met-f0.result.0 (c.requires.within _ _ c.met-f0.ensures))
+          (flip-within c.met-f1.result.0 (length c.enable_of.new.events.graph) (inside c.met-f1.result.0 (c.requires.within _ _ c.met-f1.ensures))) c.in_ok-enable.ensures.here;
+      within = omega (arith, c.in_ok-enable.ensures.within, more);
+      is = c.in_ok-lit.ensures.here;
     }
+  where
+    inside : (x : ℕ) → x < 2 * length c.args.events.now.graph → x < 2 * length c.enable_of.new.events.graph
+    inside x h = omega (arith, h, Grows-length _ _ c.enable_of.ensures.grown.grows.graph)
 
 pub returns-clause-grown : goal.returns-clause-grown
 returns-clause-grown c =

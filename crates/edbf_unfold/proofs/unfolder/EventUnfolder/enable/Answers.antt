@@ -31,24 +31,24 @@ unfold_in-requires-2-clause-signal c =
 pub returns-in_err-low-clause-counting : goal.returns-in_err-low-clause-counting
 returns-in_err-low-clause-counting c = λ l at.
     let same : c.latch_of-latch.result.now ≡ l = one_at c.args.self.now.circuit.net.latches c.args.j c.latch_of-latch.result.now l (subst (λ (n : NetView). slice_get n.latches c.args.j ≡ Some c.latch_of-latch.result.now) (c.net.ensures ∙ ap (λ (e : EventCircuitView). e.net) c.circuit-circuit.ensures) c.latch_of-latch.ensures) at in
-    c.unfold_in.ensures.counting (enable_start l) (ap (λ (k : LatchAt). k.next.0) (sym same), ap (λ (k : LatchAt). Some k.out.0) (sym same))
+    c.unfold_in.ensures.counting.1 (enable_start l) (ap (λ (k : LatchAt). k.next.0) (sym same), ap (λ (k : LatchAt). Some k.out.0) (sym same))
 
 pub returns-in_err-high-clause-counting : goal.returns-in_err-high-clause-counting
 returns-in_err-high-clause-counting c = λ l at.
     let same : c.latch_of-latch.result.now ≡ l = one_at c.args.self.now.circuit.net.latches c.args.j c.latch_of-latch.result.now l (subst (λ (n : NetView). slice_get n.latches c.args.j ≡ Some c.latch_of-latch.result.now) (c.net.ensures ∙ ap (λ (e : EventCircuitView). e.net) c.circuit-circuit.ensures) c.latch_of-latch.ensures) at in
     counting_trans c.args.self.now.circuit (enable_start l) c.args.events.now.children c.unfold_in.new.events.children c.unfold_in-2.new.events.children c.args.counter.now c.unfold_in.new.counter c.unfold_in-2.new.counter c.keeps-2.ensures.events.is_tree
-    (c.unfold_in.ensures.counting (enable_start l) (ap (λ (k : LatchAt). k.next.0) (sym same), ap (λ (k : LatchAt). Some k.out.0) (sym same)))
+    (c.unfold_in.ensures.counting.1 (enable_start l) (ap (λ (k : LatchAt). k.next.0) (sym same), ap (λ (k : LatchAt). Some k.out.0) (sym same)))
     (subst (λ (e : EventCircuitView). IsCounting e (enable_start l) c.unfold_in.new.events.children c.unfold_in-2.new.events.children c.unfold_in.new.counter c.unfold_in-2.new.counter) c.in_ok-low.ensures.unfolded.0.circuit
-    (c.unfold_in-2.ensures.counting (enable_start l) (ap (λ (k : LatchAt). k.next.0) (sym same), ap (λ (k : LatchAt). Some k.out.0) (sym same))))
+    (c.unfold_in-2.ensures.counting.1 (enable_start l) (ap (λ (k : LatchAt). k.next.0) (sym same), ap (λ (k : LatchAt). Some k.out.0) (sym same))))
 
 pub returns-in_err-value-clause-counting : goal.returns-in_err-value-clause-counting
 returns-in_err-value-clause-counting c = λ l at.
     let same : c.latch_of-latch.result.now ≡ l = one_at c.args.self.now.circuit.net.latches c.args.j c.latch_of-latch.result.now l (subst (λ (n : NetView). slice_get n.latches c.args.j ≡ Some c.latch_of-latch.result.now) (c.net.ensures ∙ ap (λ (e : EventCircuitView). e.net) c.circuit-circuit.ensures) c.latch_of-latch.ensures) at in
     counting_same c.args.self.now.circuit (enable_start l) c.args.events.now.children c.unfold_in-2.new.events.children c.enable_of.new.events.children c.args.counter.now c.unfold_in-2.new.counter c.enable_of.ensures.grown.children
     (counting_trans c.args.self.now.circuit (enable_start l) c.args.events.now.children c.unfold_in.new.events.children c.unfold_in-2.new.events.children c.args.counter.now c.unfold_in.new.counter c.unfold_in-2.new.counter c.keeps-2.ensures.events.is_tree
-    (c.unfold_in.ensures.counting (enable_start l) (ap (λ (k : LatchAt). k.next.0) (sym same), ap (λ (k : LatchAt). Some k.out.0) (sym same)))
+    (c.unfold_in.ensures.counting.1 (enable_start l) (ap (λ (k : LatchAt). k.next.0) (sym same), ap (λ (k : LatchAt). Some k.out.0) (sym same)))
     (subst (λ (e : EventCircuitView). IsCounting e (enable_start l) c.unfold_in.new.events.children c.unfold_in-2.new.events.children c.unfold_in.new.counter c.unfold_in-2.new.counter) c.in_ok-low.ensures.unfolded.0.circuit
-    (c.unfold_in-2.ensures.counting (enable_start l) (ap (λ (k : LatchAt). k.next.0) (sym same), ap (λ (k : LatchAt). Some k.out.0) (sym same)))))
+    (c.unfold_in-2.ensures.counting.1 (enable_start l) (ap (λ (k : LatchAt). k.next.0) (sym same), ap (λ (k : LatchAt). Some k.out.0) (sym same)))))
 
 pub care_of-requires-clause-known : goal.care_of-requires-clause-known
 care_of-requires-clause-known c =
@@ -67,18 +67,18 @@ returns-in_err-care-clause-counting c = λ l at.
     let same : c.latch_of-latch.result.now ≡ l = one_at c.args.self.now.circuit.net.latches c.args.j c.latch_of-latch.result.now l (subst (λ (n : NetView). slice_get n.latches c.args.j ≡ Some c.latch_of-latch.result.now) (c.net.ensures ∙ ap (λ (e : EventCircuitView). e.net) c.circuit-circuit.ensures) c.latch_of-latch.ensures) at in
     counting_same c.args.self.now.circuit (enable_start l) c.args.events.now.children c.unfold_in-2.new.events.children c.care_of.new.events.children c.args.counter.now c.unfold_in-2.new.counter (c.care_of.ensures.grown.children ∙ c.enable_of.ensures.grown.children)
     (counting_trans c.args.self.now.circuit (enable_start l) c.args.events.now.children c.unfold_in.new.events.children c.unfold_in-2.new.events.children c.args.counter.now c.unfold_in.new.counter c.unfold_in-2.new.counter c.keeps-2.ensures.events.is_tree
-    (c.unfold_in.ensures.counting (enable_start l) (ap (λ (k : LatchAt). k.next.0) (sym same), ap (λ (k : LatchAt). Some k.out.0) (sym same)))
+    (c.unfold_in.ensures.counting.1 (enable_start l) (ap (λ (k : LatchAt). k.next.0) (sym same), ap (λ (k : LatchAt). Some k.out.0) (sym same)))
     (subst (λ (e : EventCircuitView). IsCounting e (enable_start l) c.unfold_in.new.events.children c.unfold_in-2.new.events.children c.unfold_in.new.counter c.unfold_in-2.new.counter) c.in_ok-low.ensures.unfolded.0.circuit
-    (c.unfold_in-2.ensures.counting (enable_start l) (ap (λ (k : LatchAt). k.next.0) (sym same), ap (λ (k : LatchAt). Some k.out.0) (sym same)))))
+    (c.unfold_in-2.ensures.counting.1 (enable_start l) (ap (λ (k : LatchAt). k.next.0) (sym same), ap (λ (k : LatchAt). Some k.out.0) (sym same)))))
 
 pub returns-clause-counting : goal.returns-clause-counting
 returns-clause-counting c = λ l at.
     let same : c.latch_of-latch.result.now ≡ l = one_at c.args.self.now.circuit.net.latches c.args.j c.latch_of-latch.result.now l (subst (λ (n : NetView). slice_get n.latches c.args.j ≡ Some c.latch_of-latch.result.now) (c.net.ensures ∙ ap (λ (e : EventCircuitView). e.net) c.circuit-circuit.ensures) c.latch_of-latch.ensures) at in
     counting_same c.args.self.now.circuit (enable_start l) c.args.events.now.children c.unfold_in-2.new.events.children c.care_of.new.events.children c.args.counter.now c.unfold_in-2.new.counter (c.care_of.ensures.grown.children ∙ c.enable_of.ensures.grown.children)
     (counting_trans c.args.self.now.circuit (enable_start l) c.args.events.now.children c.unfold_in.new.events.children c.unfold_in-2.new.events.children c.args.counter.now c.unfold_in.new.counter c.unfold_in-2.new.counter c.keeps-2.ensures.events.is_tree
-    (c.unfold_in.ensures.counting (enable_start l) (ap (λ (k : LatchAt). k.next.0) (sym same), ap (λ (k : LatchAt). Some k.out.0) (sym same)))
+    (c.unfold_in.ensures.counting.1 (enable_start l) (ap (λ (k : LatchAt). k.next.0) (sym same), ap (λ (k : LatchAt). Some k.out.0) (sym same)))
     (subst (λ (e : EventCircuitView). IsCounting e (enable_start l) c.unfold_in.new.events.children c.unfold_in-2.new.events.children c.unfold_in.new.counter c.unfold_in-2.new.counter) c.in_ok-low.ensures.unfolded.0.circuit
-    (c.unfold_in-2.ensures.counting (enable_start l) (ap (λ (k : LatchAt). k.next.0) (sym same), ap (λ (k : LatchAt). Some k.out.0) (sym same)))))
+    (c.unfold_in-2.ensures.counting.1 (enable_start l) (ap (λ (k : LatchAt). k.next.0) (sym same), ap (λ (k : LatchAt). Some k.out.0) (sym same)))))
 
 pub returns-clause-known : goal.returns-clause-known
 returns-clause-known c =
@@ -93,11 +93,10 @@ returns-clause-here c = λ l at.
     let walked = walked_later c.unfold_in.new.self c.unfold_in-2.new.self c.unfold_in.new.events c.enable_of.new.events _ c.latch_of-latch.result.now.next.0 c.unfold_in.new.counter.places c.unfold_in-2.new.counter.places c.args.room c.in_ok-low.low.table c.in_ok-low.low.ways.items
     c.in_ok-high.ensures.unfolded.0.circuit (grows_trans c.unfold_in.new.events c.unfold_in-2.new.events c.enable_of.new.events c.in_ok-high.ensures.unfolded.0.grows c.enable_of.ensures.grown.grows) c.in_ok-high.ensures.unfolded.0.frames c.in_ok-high.ensures.unfolded.0.memo
     c.in_ok-high.ensures.unfolded.1.more c.in_ok-low.ensures.walked in
-    let v = c.in_ok-value.ensures.here in
     subst (λ (k : LatchAt). IsEnableLit c.unfold_in-2.new.self.circuit c.care_of.new.events [] k c.in_ok-value.value.0 × IsCareLit c.unfold_in-2.new.self.circuit c.care_of.new.events (enable_start k) c.in_ok-care.care.0) same (
       enable_later c.unfold_in-2.new.self.circuit c.enable_of.new.events c.care_of.new.events c.keeps-4.ensures.events c.care_of.ensures.grown.grows [] c.latch_of-latch.result.now c.in_ok-value.value.0
           (enable_lit c.unfold_in.new.self.circuit c.unfold_in-2.new.self.circuit c.in_ok-high.ensures.unfolded.0.circuit c.unfold_in.new.events c.unfold_in-2.new.events c.enable_of.new.events c.keeps-2.ensures.events c.keeps-3.ensures.events
-          c.in_ok-high.ensures.unfolded.0.grows c.enable_of.ensures.grown.grows c.latch_of-latch.result.now c.in_ok-low.low.lit.0 c.in_ok-high.high.lit.0 v.0 c.in_ok-value.value.0 c.in_ok-low.ensures.here c.in_ok-high.ensures.here v.1 v.2 c.in_ok-value.ensures.within),
+          c.in_ok-high.ensures.unfolded.0.grows c.enable_of.ensures.grown.grows c.latch_of-latch.result.now c.in_ok-low.low.lit.0 c.in_ok-high.high.lit.0 c.in_ok-value.value.0 c.in_ok-low.ensures.here c.in_ok-high.ensures.here c.in_ok-value.ensures.here c.in_ok-value.ensures.within),
       finished_care c.unfold_in-2.new.self c.enable_of.new.events c.care_of.new.events (subst (λ (e : EventCircuitView). IsSound e.net) now c.keeps.ensures.sound) (subst IsEventCircuit now c.keeps.ensures.circuit) c.keeps-5.ensures.events c.care_of.ensures.grown.grows
           (record { node = 0; put = Low c.latch_of-latch.result.now.out.0 }) refl c.latch_of-latch.result.now.next.0 c.unfold_in-2.new.counter.places c.args.room c.in_ok-low.low.table c.in_ok-low.low.ways.items walked (enable_start c.latch_of-latch.result.now) (refl, refl) c.in_ok-care.care.0 c.in_ok-care.ensures.here,
     )
@@ -126,3 +125,20 @@ returns-clause-counted c = λ l at.
       few = omega (arith, on.few, ap length c.enable_of.ensures.grown.children);
       more = adds_trans (λ (q : ℕ × ℕ). Unit {0}) c.args.counter.now.places c.unfold_in.new.counter.places c.unfold_in-2.new.counter.places c.in_ok-low.ensures.unfolded.1.more on.more;
     }))
+
+pub returns-in_err-low-clause-grows : goal.returns-in_err-low-clause-grows
+returns-in_err-low-clause-grows c = c.unfold_in.ensures.counting.0
+
+pub returns-in_err-high-clause-grows : goal.returns-in_err-high-clause-grows
+returns-in_err-high-clause-grows c = grows_trans c.args.events.now c.unfold_in.new.events c.unfold_in-2.new.events c.unfold_in.ensures.counting.0 c.unfold_in-2.ensures.counting.0
+
+pub returns-in_err-value-clause-grows : goal.returns-in_err-value-clause-grows
+returns-in_err-value-clause-grows c = grows_trans c.args.events.now c.unfold_in-2.new.events c.enable_of.new.events (grows_trans c.args.events.now c.unfold_in.new.events c.unfold_in-2.new.events c.unfold_in.ensures.counting.0 c.unfold_in-2.ensures.counting.0) c.enable_of.ensures.grown.grows
+
+pub returns-in_err-care-clause-grows : goal.returns-in_err-care-clause-grows
+returns-in_err-care-clause-grows c =
+    grows_trans c.args.events.now c.enable_of.new.events c.care_of.new.events (grows_trans c.args.events.now c.unfold_in-2.new.events c.enable_of.new.events (grows_trans c.args.events.now c.unfold_in.new.events c.unfold_in-2.new.events c.unfold_in.ensures.counting.0 c.unfold_in-2.ensures.counting.0) c.enable_of.ensures.grown.grows) c.care_of.ensures.grown.grows
+
+pub returns-clause-grows : goal.returns-clause-grows
+returns-clause-grows c =
+    grows_trans c.args.events.now c.enable_of.new.events c.care_of.new.events (grows_trans c.args.events.now c.unfold_in-2.new.events c.enable_of.new.events (grows_trans c.args.events.now c.unfold_in.new.events c.unfold_in-2.new.events c.unfold_in.ensures.counting.0 c.unfold_in-2.ensures.counting.0) c.enable_of.ensures.grown.grows) c.care_of.ensures.grown.grows

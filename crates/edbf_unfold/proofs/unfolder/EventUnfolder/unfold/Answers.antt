@@ -2,6 +2,7 @@
 use Rattle.std.proofs.Common.{◌≡◌, ◌∙◌, List, length, slice_get, Some, None, refl, sym, ap, subst, arith}
 use Rattle.event_literals.specs.Sound.{IsSound}
 use Rattle.event_nodes.specs.View.{EventCircuitView, IsEventCircuit}
+use Rattle.event_nodes.proofs.Growing.{grows_trans}
 use Rattle.event_walk.specs.declared.frames.Put.TheVariants.{Free}
 use Rattle.event_walk.specs.declared.frames.Ways.{Ways}
 use Rattle.edbf_unfold.specs.Reached.{AreNodesOf}
@@ -12,7 +13,7 @@ use Rattle.event_literals.proofs.Rooted.{walked_met}
 use Rattle.edbf_unfold.proofs.unfolder.EventUnfolder.unfold.Goals as goal
 
 pub returns-in_err-unfolding-clause-counting : goal.returns-in_err-unfolding-clause-counting
-returns-in_err-unfolding-clause-counting c = c.unfold_in.ensures.counting (record { place = c.args.s.0; left_out = None }) (refl, refl)
+returns-in_err-unfolding-clause-counting c = (c.unfold_in.ensures.counting.0, c.unfold_in.ensures.counting.1 (record { place = c.args.s.0; left_out = None }) (refl, refl))
 
 pub care_of-requires-clause-met : goal.care_of-requires-clause-met
 care_of-requires-clause-met c =
@@ -20,14 +21,18 @@ care_of-requires-clause-met c =
     (walked_met c.unfold_in.new.self c.unfold_in.new.events _ c.args.s.0 _ c.args.room c.in_ok-unfolding.unfolding.table c.in_ok-unfolding.unfolding.ways.items c.in_ok-unfolding.ensures.walked)
 
 pub returns-in_err-care-clause-counting : goal.returns-in_err-care-clause-counting
-returns-in_err-care-clause-counting c =
-    counting_same c.args.self.now.circuit (record { place = c.args.s.0; left_out = None }) c.args.events.now.children c.unfold_in.new.events.children c.care_of.new.events.children c.args.counter.now c.unfold_in.new.counter c.care_of.ensures.grown.children
-    (c.unfold_in.ensures.counting (record { place = c.args.s.0; left_out = None }) (refl, refl))
+returns-in_err-care-clause-counting c = (
+  grows_trans c.args.events.now c.unfold_in.new.events c.care_of.new.events c.unfold_in.ensures.counting.0 c.care_of.ensures.grown.grows,
+  counting_same c.args.self.now.circuit (record { place = c.args.s.0; left_out = None }) c.args.events.now.children c.unfold_in.new.events.children c.care_of.new.events.children c.args.counter.now c.unfold_in.new.counter c.care_of.ensures.grown.children
+      (c.unfold_in.ensures.counting.1 (record { place = c.args.s.0; left_out = None }) (refl, refl)),
+)
 
 pub returns-clause-counting : goal.returns-clause-counting
-returns-clause-counting c =
-    counting_same c.args.self.now.circuit (record { place = c.args.s.0; left_out = None }) c.args.events.now.children c.unfold_in.new.events.children c.care_of.new.events.children c.args.counter.now c.unfold_in.new.counter c.care_of.ensures.grown.children
-    (c.unfold_in.ensures.counting (record { place = c.args.s.0; left_out = None }) (refl, refl))
+returns-clause-counting c = (
+  grows_trans c.args.events.now c.unfold_in.new.events c.care_of.new.events c.unfold_in.ensures.counting.0 c.care_of.ensures.grown.grows,
+  counting_same c.args.self.now.circuit (record { place = c.args.s.0; left_out = None }) c.args.events.now.children c.unfold_in.new.events.children c.care_of.new.events.children c.args.counter.now c.unfold_in.new.counter c.care_of.ensures.grown.children
+      (c.unfold_in.ensures.counting.1 (record { place = c.args.s.0; left_out = None }) (refl, refl)),
+)
 
 pub returns-clause-known : goal.returns-clause-known
 returns-clause-known c =
@@ -62,9 +67,11 @@ pub only_always-requires : goal.only_always-requires
 only_always-requires c = λ i p at. framed_at c.unfold_in.new.self c.unfold_in.new.events _ c.args.s.0 _ c.args.room c.in_ok-unfolding.unfolding.table c.in_ok-unfolding.unfolding.ways.items c.in_ok-unfolding.ensures.walked i p at
 
 pub returns-in_err-nodes-clause-counting : goal.returns-in_err-nodes-clause-counting
-returns-in_err-nodes-clause-counting c =
-    counting_same c.args.self.now.circuit (record { place = c.args.s.0; left_out = None }) c.args.events.now.children c.unfold_in.new.events.children c.care_of.new.events.children c.args.counter.now c.unfold_in.new.counter c.care_of.ensures.grown.children
-    (c.unfold_in.ensures.counting (record { place = c.args.s.0; left_out = None }) (refl, refl))
+returns-in_err-nodes-clause-counting c = (
+  grows_trans c.args.events.now c.unfold_in.new.events c.care_of.new.events c.unfold_in.ensures.counting.0 c.care_of.ensures.grown.grows,
+  counting_same c.args.self.now.circuit (record { place = c.args.s.0; left_out = None }) c.args.events.now.children c.unfold_in.new.events.children c.care_of.new.events.children c.args.counter.now c.unfold_in.new.counter c.care_of.ensures.grown.children
+      (c.unfold_in.ensures.counting.1 (record { place = c.args.s.0; left_out = None }) (refl, refl)),
+)
 
 pub returns-clause-reach : goal.returns-clause-reach
 returns-clause-reach c =

@@ -6,6 +6,7 @@ use Rattle.event_nodes.specs.Nodes.{IsTree}
 use Rattle.event_nodes.specs.View.{EventCircuitView}
 use Rattle.event_nodes.specs.Visited.{IsWeighed}
 use Rattle.event_nodes.specs.Weights.{weight_at}
+use Rattle.event_nodes.proofs.Growing.{grows_refl, grows_trans}
 use Rattle.event_nodes.proofs.Lists.{adds_none}
 use Rattle.event_walk.specs.declared.frames.Step.{Step}
 use Rattle.event_walk.specs.declared.frames.Ways.{Ways}
@@ -21,9 +22,12 @@ use Rattle.event_walk.proofs.Walked.{walk_frames, walk_plan, plan_weighs}
 use Rattle.event_literals.proofs.builder.EventBuilder.unfold_in.Goals as goal
 
 pub returns-in_err-table-clause-counting : goal.returns-in_err-table-clause-counting
-returns-in_err-table-clause-counting c = λ x begins.
-    subst (λ (e : EventCircuitView). IsCounting e x c.args.events.now.children c.visited.new.events.children c.args.counter.now c.visited.new.counter) (ap (λ (k : EventWalkerView). k.circuit) c.intern.ensures.same ∙ ap (λ (k : EventUnfolderView). k.circuit) c.self.view_is)
-    (c.visited.ensures.counting x (root_visited c.intern.new.self.circuit c.intern.new.self.frames c.args.events.now.children c.args.frame c.in_ok-intern.field-0 c.args.s.0 c.in_ok-intern.ensures.here c.requires.root x begins))
+returns-in_err-table-clause-counting c = (
+  c.visited.ensures.grows,
+  λ x begins.
+      subst (λ (e : EventCircuitView). IsCounting e x c.args.events.now.children c.visited.new.events.children c.args.counter.now c.visited.new.counter) (ap (λ (k : EventWalkerView). k.circuit) c.intern.ensures.same ∙ ap (λ (k : EventUnfolderView). k.circuit) c.self.view_is)
+      (c.visited.ensures.counting x (root_visited c.intern.new.self.circuit c.intern.new.self.frames c.args.events.now.children c.args.frame c.in_ok-intern.field-0 c.args.s.0 c.in_ok-intern.ensures.here c.requires.root x begins)),
+)
 
 pub plan-requires-clause-seen : goal.plan-requires-clause-seen
 plan-requires-clause-seen c =
@@ -31,9 +35,12 @@ plan-requires-clause-seen c =
     walk_frames _ _ _ _ _ _ _ _ _ _ w.2 w.4 c.visited.new.self.frames refl c.nodes.result c.nodes.ensures
 
 pub returns-in_err-plan-clause-counting : goal.returns-in_err-plan-clause-counting
-returns-in_err-plan-clause-counting c = λ x begins.
-    subst (λ (e : EventCircuitView). IsCounting e x c.args.events.now.children c.visited.new.events.children c.args.counter.now c.visited.new.counter) (ap (λ (k : EventWalkerView). k.circuit) c.intern.ensures.same ∙ ap (λ (k : EventUnfolderView). k.circuit) c.self.view_is)
-    (c.visited.ensures.counting x (root_visited c.intern.new.self.circuit c.intern.new.self.frames c.args.events.now.children c.args.frame c.in_ok-intern.field-0 c.args.s.0 c.in_ok-intern.ensures.here c.requires.root x begins))
+returns-in_err-plan-clause-counting c = (
+  c.visited.ensures.grows,
+  λ x begins.
+      subst (λ (e : EventCircuitView). IsCounting e x c.args.events.now.children c.visited.new.events.children c.args.counter.now c.visited.new.counter) (ap (λ (k : EventWalkerView). k.circuit) c.intern.ensures.same ∙ ap (λ (k : EventUnfolderView). k.circuit) c.self.view_is)
+      (c.visited.ensures.counting x (root_visited c.intern.new.self.circuit c.intern.new.self.frames c.args.events.now.children c.args.frame c.in_ok-intern.field-0 c.args.s.0 c.in_ok-intern.ensures.here c.requires.root x begins)),
+)
 
 pub build-requires-clause-plan : goal.build-requires-clause-plan
 build-requires-clause-plan c =
@@ -76,10 +83,13 @@ build-requires-clause-places c =
     omega (arith, sum, few, ap length w.2.opened.places, c.requires.room.has.places)
 
 pub returns-in_err-build-clause-counting : goal.returns-in_err-build-clause-counting
-returns-in_err-build-clause-counting c = λ x begins.
-    subst (λ (cs : List (ℕ × ℕ)). IsCounting c.args.self.now.circuit x c.args.events.now.children cs c.args.counter.now c.visited.new.counter) (sym c.build.ensures.later.grown.children)
-    (subst (λ (e : EventCircuitView). IsCounting e x c.args.events.now.children c.visited.new.events.children c.args.counter.now c.visited.new.counter) (ap (λ (k : EventWalkerView). k.circuit) c.intern.ensures.same ∙ ap (λ (k : EventUnfolderView). k.circuit) c.self.view_is)
-    (c.visited.ensures.counting x (root_visited c.intern.new.self.circuit c.intern.new.self.frames c.args.events.now.children c.args.frame c.in_ok-intern.field-0 c.args.s.0 c.in_ok-intern.ensures.here c.requires.root x begins)))
+returns-in_err-build-clause-counting c = (
+  grows_trans c.args.events.now c.visited.new.events c.build.new.events c.visited.ensures.grows c.build.ensures.later.grown.grows,
+  λ x begins.
+      subst (λ (cs : List (ℕ × ℕ)). IsCounting c.args.self.now.circuit x c.args.events.now.children cs c.args.counter.now c.visited.new.counter) (sym c.build.ensures.later.grown.children)
+      (subst (λ (e : EventCircuitView). IsCounting e x c.args.events.now.children c.visited.new.events.children c.args.counter.now c.visited.new.counter) (ap (λ (k : EventWalkerView). k.circuit) c.intern.ensures.same ∙ ap (λ (k : EventUnfolderView). k.circuit) c.self.view_is)
+      (c.visited.ensures.counting x (root_visited c.intern.new.self.circuit c.intern.new.self.frames c.args.events.now.children c.args.frame c.in_ok-intern.field-0 c.args.s.0 c.in_ok-intern.ensures.here c.requires.root x begins))),
+)
 
 pub met-requires : goal.met-requires
 met-requires c =
@@ -131,14 +141,20 @@ returns-clause-unfolded c =
     )
 
 pub returns-clause-counting : goal.returns-clause-counting
-returns-clause-counting c = λ x begins.
-    subst (λ (cs : List (ℕ × ℕ)). IsCounting c.args.self.now.circuit x c.args.events.now.children cs c.args.counter.now c.visited.new.counter) (sym c.build.ensures.later.grown.children)
-    (subst (λ (e : EventCircuitView). IsCounting e x c.args.events.now.children c.visited.new.events.children c.args.counter.now c.visited.new.counter) (ap (λ (k : EventWalkerView). k.circuit) c.intern.ensures.same ∙ ap (λ (k : EventUnfolderView). k.circuit) c.self.view_is)
-    (c.visited.ensures.counting x (root_visited c.intern.new.self.circuit c.intern.new.self.frames c.args.events.now.children c.args.frame c.in_ok-intern.field-0 c.args.s.0 c.in_ok-intern.ensures.here c.requires.root x begins)))
+returns-clause-counting c = (
+  grows_trans c.args.events.now c.visited.new.events c.build.new.events c.visited.ensures.grows c.build.ensures.later.grown.grows,
+  λ x begins.
+      subst (λ (cs : List (ℕ × ℕ)). IsCounting c.args.self.now.circuit x c.args.events.now.children cs c.args.counter.now c.visited.new.counter) (sym c.build.ensures.later.grown.children)
+      (subst (λ (e : EventCircuitView). IsCounting e x c.args.events.now.children c.visited.new.events.children c.args.counter.now c.visited.new.counter) (ap (λ (k : EventWalkerView). k.circuit) c.intern.ensures.same ∙ ap (λ (k : EventUnfolderView). k.circuit) c.self.view_is)
+      (c.visited.ensures.counting x (root_visited c.intern.new.self.circuit c.intern.new.self.frames c.args.events.now.children c.args.frame c.in_ok-intern.field-0 c.args.s.0 c.in_ok-intern.ensures.here c.requires.root x begins))),
+)
 
 pub returns-in_err-intern-clause-counting : goal.returns-in_err-intern-clause-counting
-returns-in_err-intern-clause-counting c = λ x begins. record {
-  more = adds_none (λ (q : ℕ × ℕ). Unit {0}) c.args.events.now.children c.args.events.now.children refl;
-  nodes = nodes_none c.args.self.now.circuit c.args.events.now.children x;
-  counted = λ starts there all. all;
-}
+returns-in_err-intern-clause-counting c = (
+  grows_refl c.args.events.now,
+  λ x begins. record {
+    more = adds_none (λ (q : ℕ × ℕ). Unit {0}) c.args.events.now.children c.args.events.now.children refl;
+    nodes = nodes_none c.args.self.now.circuit c.args.events.now.children x;
+    counted = λ starts there all. all;
+  },
+)

@@ -7,6 +7,7 @@ use Rattle.event_nodes.specs.View.{EventCircuitView}
 use Rattle.event_nodes.specs.Visited.{IsWeighed, AreNodesFrom}
 use Rattle.event_nodes.specs.Weights.{weight_at}
 use Rattle.event_nodes.proofs.Drivers.{weight_positive}
+use Rattle.event_nodes.proofs.Growing.{grows_refl, grows_trans}
 use Rattle.event_nodes.proofs.Lists.{adds_none, adds_weaker, only_one}
 use Rattle.event_walk.specs.declared.frames.Ways.{Ways}
 use Rattle.event_walk.specs.Walk.{IsSeen, IsVisitedPlace, IsWalk}
@@ -115,3 +116,21 @@ returns-in_err-push-clause-counting c = λ s root. let seen = All-at (IsSeen c.l
     (subst (λ (e : EventCircuitView). c.pair-place.result.1 < length e.net.drivers) c.loop-at.invariant.walk.opened.circuit seen.3) seen.1 (c.count.ensures.adds seen.0 seen.1))
     (subst (λ (e : EventCircuitView). AreNodesFrom e c.expand.new.events.children s (length c.loop-at.events.children)) c.loop-at.invariant.walk.opened.circuit
     (c.expand.ensures.step.visits s (All-at (IsVisitedPlace c.loop-at.self.circuit c.loop-at.self.frames c.loop-at.events.children s) _ _ _ c.pair-place.ensures (c.loop-at.invariant.exact.visits s root))).1)
+
+pub returns-clause-grows : goal.returns-clause-grows
+returns-clause-grows c = c.loop-at.invariant.walk.opened.grows
+
+pub returns-in_err-add-clause-grows : goal.returns-in_err-add-clause-grows
+returns-in_err-add-clause-grows c = grows_refl c.args.events.now
+
+pub returns-in_default-clause-grows : goal.returns-in_default-clause-grows
+returns-in_default-clause-grows c = c.loop-at.invariant.walk.opened.grows
+
+pub returns-in_err-count-clause-grows : goal.returns-in_err-count-clause-grows
+returns-in_err-count-clause-grows c = c.loop-at.invariant.walk.opened.grows
+
+pub returns-in_err-next-clause-grows : goal.returns-in_err-next-clause-grows
+returns-in_err-next-clause-grows c = grows_trans c.args.events.now c.loop-at.events c.expand.new.events c.loop-at.invariant.walk.opened.grows c.expand.ensures.step.opened.grows
+
+pub returns-in_err-push-clause-grows : goal.returns-in_err-push-clause-grows
+returns-in_err-push-clause-grows c = grows_trans c.args.events.now c.loop-at.events c.expand.new.events c.loop-at.invariant.walk.opened.grows c.expand.ensures.step.opened.grows

@@ -1,0 +1,4 @@
+pub mod OrOperands
+pub mod OrValues
+pub mod OrStaying
+pub mod Deciding
