@@ -1,6 +1,7 @@
 -- What can be done with the three texts.
-use Rattle.std.proofs.Common.{◌≡◌, Bool, false, true, refl, sym, subst, arith, inl, inr}
+use Rattle.std.proofs.Common.{◌≡◌, ℕ, Bool, List, false, true, refl, sym, subst, arith, inl, inr}
 use Rattle.std.specs.Prelude.{◌⊎◌}
+use Rattle.std.specs.List.{Contains}
 use Rattle.assume_shape.specs.declared.shape.ShapeFault.{ShapeFault}
 use Rattle.assume_taken.specs.Taken.{IsFirstFault}
 use Rattle.check_texts.specs.Texts.{AreComparable}
@@ -17,7 +18,7 @@ use Rattle.design_rows.proofs.SpelledTexts.{on_and_spells}
 use Rattle.small_pairs.proofs.Comparing.{comparable}
 use Rattle.assume_rows.specs.SameInputs.{on_or, same, or_design, same_design, small_or, small_same, AndMeetsOr}
 use Rattle.assume_rows.proofs.Meeting.{ones_meet}
-use Rattle.assume_rows.proofs.Shape.{no_fault}
+use Rattle.assume_rows.proofs.Shape.{no_fault, shared_are}
 use Rattle.assume_rows.proofs.Spelled.{or_spells, same_spells}
 use Rattle.assume_rows.proofs.Weights.{not_too_large}
 
@@ -32,7 +33,7 @@ small = net_is_small same same_design small_same same_spells
 
 module _ (settings : Settings) (settling : settings.reset ≡ false) (a b c : NetView) (la : Loads on_and a) (lb : Loads on_or b) (lc : Loads same c) (f : ShapeFault) where
   none : IsFirstFault (shared_by a b) c f ⊎ IsTooLargeUnder a b c settings f → ⊥
-  none (inl h) = no_fault a b c (left_small a la) (right_small b lb) (small c lc) f h
+  none (inl h) = no_fault (shared_by a b) (λ name has. subst (λ (ns : List (List ℕ)). Contains ns name) (sym (shared_are a b (left_small a la) (right_small b lb))) has) c (small c lc) f h
   none (inr h) = not_too_large a b c (left_small a la) (right_small b lb) (small c lc) settings f settling h
 
 pub and_meets_or : AndMeetsOr

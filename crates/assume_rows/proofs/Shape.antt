@@ -47,18 +47,19 @@ module _ (c : NetView) (small : IsSmall small_same c) (output : Port) (one : c.o
   weighs_few zero w = omega arith
   weighs_few (suc weight) w = let h : weight < 9 = light weight (over_below weight w) in omega (arith, h)
 
-module _ (a b c : NetView) (left : IsSmall small_and a) (right : IsSmall small_or b) (small : IsSmall small_same c) where
+-- the third is no fault of an assumption on inputs that have these names
+module _ (names : List (List ℕ)) (shared : (name : List ℕ) → Contains (codes "a" ∷ codes "b" ∷ []) name → Contains names name) (c : NetView) (small : IsSmall small_same c) where
   one_output : length c.outputs ≡ 1
   one_output = sym (length-map (λ (p : Port). p.name) c.outputs) ∙ ap length small.outputs
 
   no_latch : length c.latches ≡ 0
   no_latch = sym (length-map (λ (l : LatchAt). l.name) c.latches) ∙ ap length small.counted
 
-  shares : (position : ℕ) (p : Port) → slice_get c.inputs position ≡ Some p → Contains (shared_by a b) p.name
+  shares : (position : ℕ) (p : Port) → slice_get c.inputs position ≡ Some p → Contains names p.name
   shares position p at =
-      subst (λ (ns : List (List ℕ)). Contains ns p.name) (small.inputs ∙ sym (shared_are a b left right)) (Contains-map (λ (q : Port). q.name) c.inputs p (of_at c.inputs position p at))
+      shared p.name (subst (λ (ns : List (List ℕ)). Contains ns p.name) small.inputs (Contains-map (λ (q : Port). q.name) c.inputs p (of_at c.inputs position p at)))
 
-  pub no_fault : (f : ShapeFault) → IsFirstFault (shared_by a b) c f → ⊥
+  pub no_fault : (f : ShapeFault) → IsFirstFault names c f → ⊥
   no_fault (fault.Latch name) (l, at, is) = let within : 0 < length c.latches = slice_get_within c.latches 0 l at in let none = no_latch in omega (arith, within, none)
   no_fault (fault.Outputs count) (none, count_is, other) = other (count_is ∙ one_output)
   no_fault (fault.Input name) (none, one, (position, is, name_is)) = is.foreign (shares position is.port is.at)

@@ -1,5 +1,6 @@
 -- An and and an or, which agree where both inputs are equal.
 use Rattle.std.specs.Prelude.{◌≡◌, ℕ, true, false, List, [], ◌∷◌, codes}
+use Rattle.circuit_theory.specs.declared.Mode.TheVariants.{Plain}
 use Rattle.circuit_theory.specs.Cover.{Cover}
 use Rattle.sec_base.specs.declared.settings.Settings.{Settings}
 use Rattle.blif_read.specs.declared.design.BlifModel.{BlifModel}
@@ -36,6 +37,6 @@ small_or = record small_and { weight = 9 }
 abbrev pub small_same : Small
 small_same = record { inputs = codes "a" ∷ codes "b" ∷ []; outputs = codes "ok" ∷ []; latches = []; removed = []; weight = 9 }
 
--- where both inputs are equal the two can be compared, whether latches may be cut open or not
+-- where both inputs are equal the two can be compared over all power-ups, whether latches may be cut open or not
 abbrev pub AndMeetsOr : Type 0
-AndMeetsOr = (settings : Settings) → settings.reset ≡ false → AreComparableUnder on_and on_or same settings
+AndMeetsOr = (settings : Settings) → settings.reset ≡ false → AreComparableUnder Plain on_and on_or same settings

@@ -30,7 +30,7 @@ module _ (x y z : List ℕ) (a b c : NetView) (left : Loads x a) (right : Loads 
   abbrev AtAssumption : Type 0
   AtAssumption = IsAssumptionLimit a b c settings.conflicts o
 
-  at_limit : AtAssumption → (proofs : List Proof) → proofs ≡ outcome_proofs o → AssumptionUndecided x y z settings proofs before now
+  pub at_limit : AtAssumption → (proofs : List Proof) → proofs ≡ outcome_proofs o → AssumptionUndecided x y z settings proofs before now
   at_limit limit proofs kept = record {
     left_net = a;
     right_net = b;

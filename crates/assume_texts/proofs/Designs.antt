@@ -1,5 +1,6 @@
 -- What is said of flat nets under an assumption is said of the circuits that they come from.
 use Rattle.std.proofs.Common.{◌≡◌, ◌∙◌, ℕ, ◌+◌, ◌<◌, Bool, List, sym, ap, arith}
+use Rattle.circuit_theory.specs.declared.Mode.TheVariants.{Plain}
 use Rattle.circuit_theory.specs.Circuit.{Circuit, Meets}
 use Rattle.circuit_theory.specs.Run.{IsRun}
 use Rattle.circuit_theory.proofs.Lists.{All-from_each}
@@ -44,11 +45,11 @@ module _ {P R : Type 0} {a : Circuit P} {c : Circuit R} {na nc : Circuit ℕ} {c
 
 module _ {P Q R : Type 0} {a : Circuit P} {b : Circuit Q} {c : Circuit R} {na nb nc : Circuit ℕ} {clocked_a : P → Type 0} {clocked_b : Q → Type 0} {clocked_c : R → Type 0} (f : FlatDesign a na clocked_a)
     (g : FlatDesign b nb clocked_b) (h : FlatDesign c nc clocked_c) where
-  agree_up : AgreeWhereMet nc na nb → AgreeWhereMet c a b
+  agree_up : AgreeWhereMet Plain nc na nb → AgreeWhereMet Plain c a b
   agree_up agree n left right alike meets =
       settled_up f g n left right alike (agree n (λ t s. left t (f.origin s)) (λ t s. right t (g.origin s)) (alike_down f g n left right alike) (meets_down f h n left meets))
 
-  onward_up : (names : List (List ℕ)) → AgreeOnwardWhereMet names nc na nb → AgreeOnwardWhereMet names c a b
+  onward_up : (names : List (List ℕ)) → AgreeOnwardWhereMet Plain names nc na nb → AgreeOnwardWhereMet Plain names c a b
   onward_up names agree n left right alike meets T below settled start =
       runs_up f g names n left right alike T
       (agree n (λ t s. left t (f.origin s)) (λ t s. right t (g.origin s)) (alike_down f g n left right alike) (meets_down f h n left meets) T below (nets_settled f g names n left right alike T settled)

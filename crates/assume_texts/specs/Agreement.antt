@@ -1,6 +1,7 @@
 -- Agreement of two circuits in the runs that meet an assumption. Of two runs with equal inputs both meet it where one does.
 use Rattle.std.specs.Prelude.{◌≡◌, ◌≢◌, ℕ, ◌<◌, ◌≤◌, Bool, List, [], length}
 use Rattle.std.specs.List.{Contains}
+use Rattle.circuit_theory.specs.declared.Mode.{Mode}
 use Rattle.circuit_theory.specs.declared.Mode.TheVariants.{Plain}
 use Rattle.circuit_theory.specs.Agree.{cut, IsPair, IsSettled, AreAlike, LatchesEqual}
 use Rattle.circuit_theory.specs.Circuit.{Circuit}
@@ -14,17 +15,17 @@ use Rattle.outcome.specs.declared.verdict.ResetWitness.{ResetWitness}
 use Rattle.assume_texts.specs.Meets.{RunMeetsCircuit}
 
 -- each output is equal in every cycle in which it is settled in both
-abbrev pub AgreeWhereMet : {P Q R : Type 0} → Circuit R → Circuit P → Circuit Q → Type 0
-AgreeWhereMet {P} {Q} {R} c a b =
+abbrev pub AgreeWhereMet : {P Q R : Type 0} → Mode → Circuit R → Circuit P → Circuit Q → Type 0
+AgreeWhereMet {P} {Q} {R} mode c a b =
     (n : ℕ) (left : ℕ → P → Bool) (right : ℕ → Q → Bool) → AreAlike a b n left right → RunMeetsCircuit c a n left →
-    (t : ℕ) (p : P) (q : Q) → t < n → IsPair [] a b p q → IsSettled Plain a left t p → IsSettled Plain b right t q → left t p ≡ right t q
+    (t : ℕ) (p : P) (q : Q) → t < n → IsPair [] a b p q → IsSettled mode a left t p → IsSettled mode b right t q → left t p ≡ right t q
 
 -- from a cycle on in which all pairs are settled, and up to which the exposed latches are equal, these and the outputs are equal for ever
-abbrev pub AgreeOnwardWhereMet : {P Q R : Type 0} → List (List ℕ) → Circuit R → Circuit P → Circuit Q → Type 0
-AgreeOnwardWhereMet {P} {Q} {R} names c a b =
+abbrev pub AgreeOnwardWhereMet : {P Q R : Type 0} → Mode → List (List ℕ) → Circuit R → Circuit P → Circuit Q → Type 0
+AgreeOnwardWhereMet {P} {Q} {R} mode names c a b =
     (n : ℕ) (left : ℕ → P → Bool) (right : ℕ → Q → Bool) → AreAlike a b n left right → RunMeetsCircuit c a n left →
     (T : ℕ) → T < n →
-    ((p : P) (q : Q) → IsPair names a b p q → IsSettled Plain (cut names a) left T p × IsSettled Plain (cut names b) right T q) →
+    ((p : P) (q : Q) → IsPair names a b p q → IsSettled mode (cut names a) left T p × IsSettled mode (cut names b) right T q) →
     LatchesEqual names a b left right (λ t. t ≤ T) →
     LatchesEqual names a b left right (λ t. t < n)
     × ((t : ℕ) (p : P) (q : Q) → T ≤ t → t < n → IsPair [] a b p q → left t p ≡ right t q)
@@ -35,10 +36,10 @@ AgreeFromWhereMet {P} {Q} {R} from names c a b =
     (n : ℕ) (left : ℕ → P → Bool) (right : ℕ → Q → Bool) → AreAlike a b n left right → RunMeetsCircuit c a n left → from < n → LatchesEqual names a b left right (λ t. t ≤ from) →
     LatchesEqual names a b left right (λ t. t < n) × ((t : ℕ) (p : P) (q : Q) → from ≤ t → t < n → IsPair [] a b p q → left t p ≡ right t q)
 
--- all three, over the exposed latches and from the cycle that the outcome has
+-- all three in the plain mode, over the exposed latches and from the cycle that the outcome has
 pub record AreEqualWhereMet {P Q R : Type 0} (c : Circuit R) (a : Circuit P) (b : Circuit Q) (o : Outcome) : Type 0 where
-  pub agree : AgreeWhereMet c a b
-  pub onward : AgreeOnwardWhereMet o.exposed c a b
+  pub agree : AgreeWhereMet Plain c a b
+  pub onward : AgreeOnwardWhereMet Plain o.exposed c a b
   pub from : AgreeFromWhereMet o.through o.exposed c a b
 
 -- in runs that begin with the initial values each output is equal in every cycle

@@ -14,10 +14,10 @@ use Rattle.job_base.specs.declared.finding.File.TheVariants as file
 use Rattle.job_base.specs.declared.finding.Finding.{Finding}
 use Rattle.job_base.specs.declared.finding.Stop.{Stop}
 use Rattle.job_base.specs.declared.finding.Stop.TheVariants as stop
-use Rattle.under_base.specs.CompareError.{CompareError}
-use Rattle.under_base.specs.CompareError.TheVariants as compare_error
-use Rattle.event_fits.specs.Compared.{ComparedIn}
-use Rattle.under_base.specs.Compared.{ComparedUnder}
+use Rattle.event_outcome_under.specs.CompareError.{CompareError}
+use Rattle.event_outcome_under.specs.CompareError.TheVariants as compare_error
+use Rattle.event_outcome_under.specs.Compared.{ComparedIn}
+use Rattle.event_outcome_under.specs.Answered.{ComparedUnderIn}
 use Rattle.sec_files.specs.declared.loader.LoadError.{LoadError}
 use Rattle.sec_files.specs.Loading.{Loads, LoadFails, IsTooLong, HasFault, HasDesignFault, HasRecordFault}
 use Rattle.job_files.specs.Ends.{load_end}
@@ -145,18 +145,18 @@ module _ (held : Held) (before now : List ℕ → ℕ) (left right : List ℕ) (
 
       -- or under the assumption, whose net this is
       module _ (path : List ℕ) (c : NetView) (c_loads : IfSome (held path) (λ z. Loads z c)) where
-        answered_under : (r : Result Outcome CompareError) → ComparedUnder a b c settings r → IsAnsweredUnder held (check_with (Some path)) r
+        answered_under : (r : Result Outcome CompareError) → ComparedUnderIn settings.mode a b c settings r → IsAnsweredUnder held (check_with (Some path)) r
         answered_under r k =
-            let P : List ℕ → List ℕ → List ℕ → Type 0 = λ x y z. (m : NetView) × (k : NetView) × (n : NetView) × Loads x m × Loads y k × Loads z n × ComparedUnder m k n settings r in
+            let P : List ℕ → List ℕ → List ℕ → Type 0 = λ x y z. (m : NetView) × (k : NetView) × (n : NetView) × Loads x m × Loads y k × Loads z n × ComparedUnderIn settings.mode m k n settings r in
             of_both (λ x y. IfSome (held path) (λ z. P x y z)) (λ x y l m. if_told (held path) (λ z. Loads z c) (λ z. P x y z) (λ z n. (a, b, c, l, m, n, k)) c_loads)
 
-        three_end : (r : Result Outcome CompareError) → ComparedUnder a b c settings r → Found (Some path) (compare_end settings r)
+        three_end : (r : Result Outcome CompareError) → ComparedUnderIn settings.mode a b c settings r → Found (Some path) (compare_end settings r)
         three_end (Ok o) k = (refl, answered_under (Ok o) k)
         three_end (Err (compare_error.Interface name)) k = answered_under (Err (compare_error.Interface name)) k
         three_end (Err (compare_error.Cyclic side names)) k = answered_under (Err (compare_error.Cyclic side names)) k
         three_end (Err (compare_error.Unpaired side names)) k = answered_under (Err (compare_error.Unpaired side names)) k
         three_end (Err (compare_error.TooLarge side)) k = answered_under (Err (compare_error.TooLarge side)) k
-        three_end (Err compare_error.TooManyEvents) k = absurd k
+        three_end (Err compare_error.TooManyEvents) k = answered_under (Err compare_error.TooManyEvents) k
         three_end (Err (compare_error.Assume fault)) k = answered_under (Err (compare_error.Assume fault)) k
         three_end (Err (compare_error.Vacuous by)) k = (by, answered_under (Err (compare_error.Vacuous by)) k)
         three_end (Err compare_error.NoMemory) k = tt

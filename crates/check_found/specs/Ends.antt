@@ -11,16 +11,16 @@ use Rattle.job_base.specs.declared.finding.Finding.{Finding}
 use Rattle.job_base.specs.declared.finding.Finding.TheVariants as finding
 use Rattle.job_base.specs.declared.finding.Stop.{Stop}
 use Rattle.job_base.specs.declared.finding.Stop.TheVariants as stop
-use Rattle.under_base.specs.CompareError.{CompareError}
-use Rattle.under_base.specs.CompareError.TheVariants as compare_error
-use Rattle.event_fits.specs.Compared.{ComparedIn}
-use Rattle.under_base.specs.Compared.{ComparedUnder}
+use Rattle.event_outcome_under.specs.CompareError.{CompareError}
+use Rattle.event_outcome_under.specs.CompareError.TheVariants as compare_error
+use Rattle.event_outcome_under.specs.Compared.{ComparedIn}
+use Rattle.event_outcome_under.specs.Answered.{ComparedUnderIn}
 use Rattle.sec_files.specs.Loading.{Loads, LoadFails}
 use Rattle.sec_files.specs.declared.loader.LoadError.{LoadError}
 use Rattle.job_files.specs.Ends.{load_end}
 use Rattle.job_files.specs.Reading.{Held, ReadFailed}
-use Rattle.check_found.specs.Check.{Check, all_paths, check_paths}
-use Rattle.check_found.specs.Found.{IsFoundOf, IsCheckFound}
+use Rattle.check_found.specs.Check.{Check, check_paths}
+use Rattle.check_found.specs.Found.{IsFoundOf}
 
 -- what is found by a comparison
 abbrev pub compare_end : Settings → Result Outcome CompareError → Result Finding Stop
@@ -36,11 +36,7 @@ compare_end settings (Err compare_error.NoMemory) = Err stop.NoMemory
 
 -- the work on the files that are compared ends with a finding that is right, or by a read that failed, or at want of memory
 abbrev pub FoundOf : Held → (List ℕ → ℕ) → (List ℕ → ℕ) → Check → Result Finding Stop → Type 0
-FoundOf held before now check r = EndsBy (IsFoundOf held check) (ReadFailed held before now (all_paths check.left check.right check.assumed)) r
-
--- so it is where the comparison may not be built
-abbrev pub CheckFound : Held → (List ℕ → ℕ) → (List ℕ → ℕ) → Check → Result Finding Stop → Type 0
-CheckFound held before now check r = EndsBy (IsCheckFound held check) (ReadFailed held before now (check_paths check)) r
+FoundOf held before now check r = EndsBy (IsFoundOf held check) (ReadFailed held before now (check_paths check)) r
 
 -- How the work beside both nets ends. Without an assumption both are compared. Else its file isn't loaded, by what is held of it and whether a
 -- read of it failed; or both are compared under it.
@@ -48,7 +44,7 @@ abbrev pub EndsBoth : Held → (List ℕ → ℕ) → (List ℕ → ℕ) → Net
 EndsBoth held before now a b settings None r = (compared : Result Outcome CompareError) × ComparedIn settings.mode a b settings compared × (r ≡ compare_end settings compared)
 EndsBoth held before now a b settings (Some path) r =
     ((error : LoadError) × LoadFails (held path) (Rose (before path) (now path)) error × (r ≡ load_end file.C error))
-    ⊎ ((c : NetView) × (compared : Result Outcome CompareError) × IfSome (held path) (λ z. Loads z c) × ComparedUnder a b c settings compared × (r ≡ compare_end settings compared))
+    ⊎ ((c : NetView) × (compared : Result Outcome CompareError) × IfSome (held path) (λ z. Loads z c) × ComparedUnderIn settings.mode a b c settings compared × (r ≡ compare_end settings compared))
 
 -- How the work beside A's net ends: B's file isn't loaded, or the work goes on with both nets.
 abbrev pub EndsBeside : Held → (List ℕ → ℕ) → (List ℕ → ℕ) → NetView → List ℕ → Settings → Option (List ℕ) → Result Finding Stop → Type 0

@@ -10,13 +10,13 @@ use Rattle.job_base.specs.declared.finding.Refusal.{Refusal}
 use Rattle.job_base.specs.declared.finding.Refusal.TheVariants as refusal
 use Rattle.job_base.specs.declared.finding.Finding.{Finding}
 use Rattle.job_base.specs.declared.finding.Finding.TheVariants as finding
-use Rattle.under_base.specs.CompareError.{CompareError}
-use Rattle.under_base.specs.CompareError.TheVariants as compare_error
-use Rattle.event_fits.specs.Compared.{ComparedIn}
-use Rattle.under_base.specs.Compared.{ComparedUnder}
+use Rattle.event_outcome_under.specs.CompareError.{CompareError}
+use Rattle.event_outcome_under.specs.CompareError.TheVariants as compare_error
+use Rattle.event_outcome_under.specs.Compared.{ComparedIn}
+use Rattle.event_outcome_under.specs.Answered.{ComparedUnderIn}
 use Rattle.sec_files.specs.Loading.{Loads, IsTooLong, HasFault, HasDesignFault, HasRecordFault}
 use Rattle.job_files.specs.Reading.{Held}
-use Rattle.check_found.specs.Check.{Check, WhereBuilt}
+use Rattle.check_found.specs.Check.{Check}
 
 -- what is said of the two texts that are compared, where both are told
 abbrev pub OfTexts : Held → Check → (List ℕ → List ℕ → Type 0) → Type 0
@@ -48,11 +48,11 @@ OfFile held check file.S P = ⊥
 
 -- the comparison of the nets that the texts load as answers so
 abbrev pub IsAnsweredBy : Held → Check → Result Outcome CompareError → Type 0
-IsAnsweredBy held check r = OfGiven held check check.assumed (OfNets (λ a b. ComparedIn check.settings.mode a b check.settings r)) (OfThreeNets (λ a b c. ComparedUnder a b c check.settings r))
+IsAnsweredBy held check r = OfGiven held check check.assumed (OfNets (λ a b. ComparedIn check.settings.mode a b check.settings r)) (OfThreeNets (λ a b c. ComparedUnderIn check.settings.mode a b c check.settings r))
 
 -- it answers so under an assumption
 abbrev pub IsAnsweredUnder : Held → Check → Result Outcome CompareError → Type 0
-IsAnsweredUnder held check r = OfThree held check check.assumed (OfThreeNets (λ a b c. ComparedUnder a b c check.settings r))
+IsAnsweredUnder held check r = OfThree held check check.assumed (OfThreeNets (λ a b c. ComparedUnderIn check.settings.mode a b c check.settings r))
 
 -- why a comparison is refused; the first cause in the order of the work
 abbrev pub IsRefusal : Held → Check → Refusal → Type 0
@@ -85,7 +85,3 @@ IsFoundOf held check (finding.Replayed differences) = ⊥
 IsFoundOf held check (finding.Unrefuted u) = ⊥
 IsFoundOf held check (finding.Judged j kept text) = ⊥
 IsFoundOf held check (finding.Undecided side name proof) = ⊥
-
--- what is found of a comparison: what is true of its files, or, where it isn't built, that
-abbrev pub IsCheckFound : Held → Check → Finding → Type 0
-IsCheckFound held check f = WhereBuilt check.settings.mode check.assumed (IsFoundOf held check f) (f ≡ finding.Refused refusal.NotBuilt)

@@ -25,10 +25,11 @@ use Rattle.job_files.proofs.Accepted.{is_short, has_no_fault, is_sound, has_good
 use Rattle.job_files.proofs.Reading.{some_and, if_told}
 use Rattle.check_found.specs.Check.{Check}
 use Rattle.check_found.specs.Found.{OfTexts, OfThree, OfGiven, OfNets, OfThreeNets, IsAnsweredBy, IsAnsweredUnder, IsRefusal, IsFoundOf}
-use Rattle.check_meaning.specs.Answer.{AreComparableUnder, CanAnswer, CanAnswerWith, IsAnswer}
+use Rattle.check_meaning.specs.Answer.{AreComparableIn, AreComparableUnder, CanAnswerWith, IsAnswer, IsCheckComplete}
 use Rattle.check_texts.specs.Texts.{AreComparable}
 use Rattle.event_texts.specs.Texts.{AreEventComparable}
 use Rattle.event_setup.specs.Choosing.{HaveNoCycles}
+use Rattle.check_found.specs.Answered.{ComparedUnderIn}
 use Rattle.check_found.specs.Compared.{ComparedIn, ComparedInEvents}
 use Rattle.check_texts.specs.CompareError.{CompareError}
 use Rattle.check_texts.specs.CompareError.TheVariants as compare_error
@@ -36,7 +37,6 @@ use Rattle.check_texts.specs.Compared.{Compared}
 use Rattle.check_texts.proofs.ToldCycles.{is_not_free}
 use Rattle.cut_points.specs.Exposed.{IsFreeWithout, IsToldCycle}
 use Rattle.expose_pick.proofs.Cuts.{round_cycle}
-use Rattle.assume_texts.specs.Compared.{ComparedUnder}
 
 -- the text of the assumption is told, where there is one
 abbrev IsThirdTold : Held → Option (List ℕ) → Type 0
@@ -149,18 +149,6 @@ module _ (x y : List ℕ) (s : Settings) (comparable : AreComparable x y s.expos
   never_plain (compare_error.Vacuous by) apart k = k
   never_plain compare_error.NoMemory apart k = apart refl
 
--- so under an assumption
-module _ (x y z : List ℕ) (s : Settings) (under : AreComparableUnder x y z s) (a b c : NetView) (l : Loads x a) (r : Loads y b) (t : Loads z c) where
-  never_assuming : (e : CompareError) → (e ≡ compare_error.NoMemory → ⊥) → ComparedUnder a b c s (Err e) → ⊥
-  never_assuming (compare_error.Interface name) apart k = never_plain x y s under.comparable a b l r (compare_error.Interface name) apart k
-  never_assuming (compare_error.Cyclic side names) apart k = never_plain x y s under.comparable a b l r (compare_error.Cyclic side names) apart k.1
-  never_assuming (compare_error.Unpaired side names) apart k = never_plain x y s under.comparable a b l r (compare_error.Unpaired side names) apart k.1
-  never_assuming (compare_error.TooLarge side) apart k = never_plain x y s under.comparable a b l r (compare_error.TooLarge side) apart k.1
-  never_assuming compare_error.TooManyEvents apart k = k
-  never_assuming (compare_error.Assume fault) apart k = under.fits a b c l r t fault k
-  never_assuming (compare_error.Vacuous by) apart k = under.met a b c l r t by k
-  never_assuming compare_error.NoMemory apart k = apart refl
-
 -- a cycle that is told is one
 told_not_free : (n : NetView) (without names : List (List ℕ)) → IsToldCycle Event n without names → IsFreeWithout Event n without → ⊥
 told_not_free n without names told free = free (round_cycle (circuit_of n) (IsEnabled (circuit_of n)) without told.latches told.cycle)
@@ -182,6 +170,33 @@ module _ (x y : List ℕ) (s : Settings) (comparable : AreEventComparable x y s)
   never_events (compare_error.Vacuous by) apart k = k
   never_events compare_error.NoMemory apart k = apart refl
 
+-- both texts are accepted
+both_accepted : (mode : Mode) (x y : List ℕ) (s : Settings) → AreComparableIn mode x y s → IsAccepted x × IsAccepted y
+both_accepted Plain x y s comparable = (comparable.left, comparable.right)
+both_accepted Event x y s comparable = (comparable.left, comparable.right)
+
+-- so in either mode
+never_two : (mode : Mode) (x y : List ℕ) (s : Settings) → AreComparableIn mode x y s → (a b : NetView) → Loads x a → Loads y b → (e : CompareError) → (e ≡ compare_error.NoMemory → ⊥) → ComparedIn mode a b s (Err e) → ⊥
+never_two Plain x y s comparable a b l r e apart k = never_plain x y s comparable a b l r e apart k
+never_two Event x y s comparable a b l r e apart k = never_events x y s comparable a b l r e apart k
+
+-- and under an assumption
+module _ (x y z : List ℕ) (s : Settings) (a b c : NetView) (l : Loads x a) (r : Loads y b) (t : Loads z c) where
+  never_assuming : (mode : Mode) → AreComparableUnder mode x y z s → (e : CompareError) → (e ≡ compare_error.NoMemory → ⊥) → ComparedUnderIn mode a b c s (Err e) → ⊥
+  never_assuming Plain under (compare_error.Interface name) apart k = never_plain x y s under.comparable a b l r (compare_error.Interface name) apart k
+  never_assuming Plain under (compare_error.Cyclic side names) apart k = never_plain x y s under.comparable a b l r (compare_error.Cyclic side names) apart k.1
+  never_assuming Plain under (compare_error.Unpaired side names) apart k = never_plain x y s under.comparable a b l r (compare_error.Unpaired side names) apart k.1
+  never_assuming Plain under (compare_error.TooLarge side) apart k = never_plain x y s under.comparable a b l r (compare_error.TooLarge side) apart k.1
+  never_assuming Plain under compare_error.TooManyEvents apart k = k
+  never_assuming Event under (compare_error.Interface name) apart k = never_events x y s under.comparable a b l r (compare_error.Interface name) apart k
+  never_assuming Event under (compare_error.Cyclic side names) apart k = never_events x y s under.comparable a b l r (compare_error.Cyclic side names) apart k.1
+  never_assuming Event under (compare_error.Unpaired side names) apart k = never_events x y s under.comparable a b l r (compare_error.Unpaired side names) apart k.1
+  never_assuming Event under (compare_error.TooLarge side) apart k = never_events x y s under.comparable a b l r (compare_error.TooLarge side) apart k.1
+  never_assuming Event under compare_error.TooManyEvents apart k = never_events x y s under.comparable a b l r compare_error.TooManyEvents apart k.1
+  never_assuming mode under (compare_error.Assume fault) apart k = under.fits a b c l r t fault k
+  never_assuming mode under (compare_error.Vacuous by) apart k = under.met a b c l r t by k
+  never_assuming mode under compare_error.NoMemory apart k = apart refl
+
 -- both texts, where they are told and can be compared
 both_told : (held : Held) (check : Check) (P : List ℕ → List ℕ → Type 0) → IsSomeAnd (held check.left) (λ x. IsSomeAnd (held check.right) (λ y. P x y)) →
     (x : List ℕ) × (y : List ℕ) × (held check.left ≡ Some x) × (held check.right ≡ Some y) × P x y
@@ -191,11 +206,17 @@ both_told held check P h =
     (left.0, right.0, left.1, right.1, right.2)
 
 module _ (held : Held) (check : Check) (f : Finding) (found : IsFoundOf held check f) where
+  abbrev TwoAnswer : CompareError → List ℕ → List ℕ → Type 0
+  TwoAnswer e = OfNets (λ a b. ComparedIn check.settings.mode a b check.settings (Err e))
+
+  abbrev ThreeAnswer : CompareError → List ℕ → List ℕ → List ℕ → Type 0
+  ThreeAnswer e = OfThreeNets (λ a b c. ComparedUnderIn check.settings.mode a b c check.settings (Err e))
+
   abbrev Answers : Option (List ℕ) → CompareError → Type 0
-  Answers assumed e = OfGiven held check assumed (OfNets (λ a b. ComparedIn check.settings.mode a b check.settings (Err e))) (OfThreeNets (λ a b c. ComparedUnder a b c check.settings (Err e)))
+  Answers assumed e = OfGiven held check assumed (TwoAnswer e) (ThreeAnswer e)
 
   abbrev AnswersUnder : Option (List ℕ) → CompareError → Type 0
-  AnswersUnder assumed e = OfThree held check assumed (OfThreeNets (λ a b c. ComparedUnder a b c check.settings (Err e)))
+  AnswersUnder assumed e = OfThree held check assumed (ThreeAnswer e)
 
   answered : (told : AreTold held check check.assumed) (assumed : Option (List ℕ)) → check.assumed ≡ assumed → ((e : CompareError) → (e ≡ compare_error.NoMemory → ⊥) → Answers assumed e → ⊥) →
       ((e : CompareError) → (e ≡ compare_error.NoMemory → ⊥) → AnswersUnder assumed e → ⊥) → IsAnswer (status_of f)
@@ -203,37 +224,27 @@ module _ (held : Held) (check : Check) (f : Finding) (found : IsFoundOf held che
       has_verdict held check told
       (record { never = λ e apart h. never e apart (subst (λ z. Answers z e) is h); never_under = λ e apart h. never_under e apart (subst (λ z. AnswersUnder z e) is h) }) f found
 
-  -- two texts are compared, and no refusal of their nets comes
-  two : check.assumed ≡ None → (x y : List ℕ) → held check.left ≡ Some x → held check.right ≡ Some y → IsAccepted x → IsAccepted y →
-      ((a b : NetView) → Loads x a → Loads y b → (e : CompareError) → (e ≡ compare_error.NoMemory → ⊥) → ComparedIn check.settings.mode a b check.settings (Err e) → ⊥) → IsAnswer (status_of f)
-  two is x y x_is y_is x_accepted y_accepted never =
-      let told : AreTold held check check.assumed = record { left = x; right = y; left_is = x_is; right_is = y_is; left_accepted = x_accepted; right_accepted = y_accepted; third = subst (IsThirdTold held) (sym is) tt } in
+  -- two texts are compared, or under an assumption three
+  by_assumed : (assumed : Option (List ℕ)) → check.assumed ≡ assumed → CanAnswerWith held check check.settings.mode assumed → IsAnswer (status_of f)
+  by_assumed None is can =
+      let t = both_told held check (λ x y. AreComparableIn check.settings.mode x y check.settings) can in
+      let accepted = both_accepted check.settings.mode t.0 t.1 check.settings t.4 in
+      let told : AreTold held check check.assumed = record { left = t.0; right = t.1; left_is = t.2; right_is = t.3; left_accepted = accepted.0; right_accepted = accepted.1; third = subst (IsThirdTold held) (sym is) tt } in
       answered told None is
-      (λ e apart h. (let n = of_texts held check told (OfNets (λ a b. ComparedIn check.settings.mode a b check.settings (Err e))) h in never n.0 n.1 n.2 n.3 e apart n.4))
+      (λ e apart h. (let n = of_texts held check told (TwoAnswer e) h in never_two check.settings.mode t.0 t.1 check.settings t.4 n.0 n.1 n.2 n.3 e apart n.4))
       (λ e apart h. h)
-
-  by_form : (mode : Mode) (assumed : Option (List ℕ)) → check.settings.mode ≡ mode → check.assumed ≡ assumed → CanAnswerWith held check mode assumed → IsAnswer (status_of f)
-  by_form Plain None mode_is is can =
-      let t = both_told held check (λ x y. AreComparable x y check.settings.expose check.settings.reset) can in
-      two is t.0 t.1 t.2 t.3 t.4.left t.4.right
-      (λ a b l r e apart h. never_plain t.0 t.1 check.settings t.4 a b l r e apart (subst (λ (m : Mode). ComparedIn m a b check.settings (Err e)) mode_is h))
-  by_form Event None mode_is is can =
-      let t = both_told held check (λ x y. AreEventComparable x y check.settings) can in
-      two is t.0 t.1 t.2 t.3 t.4.left t.4.right
-      (λ a b l r e apart h. never_events t.0 t.1 check.settings t.4 a b l r e apart (subst (λ (m : Mode). ComparedIn m a b check.settings (Err e)) mode_is h))
-  by_form Plain (Some path) mode_is is can =
-      let t = both_told held check (λ x y. IsSomeAnd (held path) (λ z. AreComparableUnder x y z check.settings)) can in
-      let z = some_and (held path) (λ z. AreComparableUnder t.0 t.1 z check.settings) t.4 in
+  by_assumed (Some path) is can =
+      let t = both_told held check (λ x y. IsSomeAnd (held path) (λ z. AreComparableUnder check.settings.mode x y z check.settings)) can in
+      let z = some_and (held path) (λ z. AreComparableUnder check.settings.mode t.0 t.1 z check.settings) t.4 in
+      let accepted = both_accepted check.settings.mode t.0 t.1 check.settings z.2.comparable in
       let told : AreTold held check check.assumed =
-      record { left = t.0; right = t.1; left_is = t.2; right_is = t.3; left_accepted = z.2.comparable.left; right_accepted = z.2.comparable.right; third = subst (IsThirdTold held) (sym is) (z.0, z.1, z.2.accepted) } in
+      record { left = t.0; right = t.1; left_is = t.2; right_is = t.3; left_accepted = accepted.0; right_accepted = accepted.1; third = subst (IsThirdTold held) (sym is) (z.0, z.1, z.2.accepted) } in
       let under : (e : CompareError) → (e ≡ compare_error.NoMemory → ⊥) → AnswersUnder (Some path) e → ⊥ =
       λ e apart h.
-      (let n = if_told (held path) (λ w. OfThreeNets (λ a b c. ComparedUnder a b c check.settings (Err e)) t.0 t.1 w) z.0 z.1
-      (of_texts held check told (λ x y. IfSome (held path) (λ w. OfThreeNets (λ a b c. ComparedUnder a b c check.settings (Err e)) x y w)) h) in
-      never_assuming t.0 t.1 z.0 check.settings z.2 n.0 n.1 n.2 n.3 n.4 n.5 e apart n.6) in
+      (let n = if_told (held path) (λ w. ThreeAnswer e t.0 t.1 w) z.0 z.1 (of_texts held check told (λ x y. IfSome (held path) (λ w. ThreeAnswer e x y w)) h) in
+      never_assuming t.0 t.1 z.0 check.settings n.0 n.1 n.2 n.3 n.4 n.5 check.settings.mode z.2 e apart n.6) in
       answered told (Some path) is under under
-  by_form Event (Some path) mode_is is can = absurd can
 
--- texts that are told and can be compared are answered
-pub check_answered : (held : Held) (check : Check) → CanAnswer held check → (f : Finding) → IsFoundOf held check f → IsAnswer (status_of f)
-check_answered held check can f found = by_form held check f found check.settings.mode check.assumed refl refl can
+-- a comparison that can be made is answered, by what is found of it
+pub check_complete : (held : Held) (check : Check) (f : Finding) → IsFoundOf held check f → IsCheckComplete held check (status_of f)
+check_complete held check f found can = by_assumed held check f found check.assumed refl can

@@ -24,10 +24,10 @@ use Rattle.check_texts.specs.CompareError.{CompareError}
 use Rattle.check_texts.specs.Compared.{IsCompared, IsComparedFromReset}
 use Rattle.check_found.specs.Compared.{ComparedIn, IsComparedInEvents}
 use Rattle.check_texts.proofs.Forms.{by_reset}
-use Rattle.assume_texts.specs.Compared.{ComparedUnder}
+use Rattle.check_found.specs.Answered.{ComparedUnderIn}
 use Rattle.sec_files.specs.Loading.{Loads}
-use Rattle.assume_texts.specs.Answers.{EqualUnder, DifferentUnder, NotShownUnder, LimitUnder}
-use Rattle.assume_texts.proofs.Answers.{equal_under, different_under, not_shown_under, limit_under}
+use Rattle.event_texts_under.specs.Answers.{EqualUnderIn, DifferentUnderIn, NotShownUnderIn, LimitUnderIn}
+use Rattle.event_texts_under.proofs.Answers.{equal_under_in, different_under_in, not_shown_under_in, limit_under_in}
 use Rattle.job_files.specs.Reading.{Held}
 use Rattle.check_found.specs.Check.{Check}
 use Rattle.check_meaning.specs.Answer.{CheckMeans, InForm}
@@ -51,11 +51,11 @@ in_form Event a b s o f g h compared = h compared
 -- what is said of the nets is said of the texts
 module _ (held : Held) (check : Check) (P : List ℕ → List ℕ → Type 0) (Q : List ℕ → List ℕ → List ℕ → Type 0) (r : Result Outcome CompareError)
     (two : (x y : List ℕ) (a b : NetView) → Loads x a → Loads y b → ComparedIn check.settings.mode a b check.settings r → P x y)
-    (three : (x y z : List ℕ) (a b c : NetView) → Loads x a → Loads y b → Loads z c → ComparedUnder a b c check.settings r → Q x y z) where
+    (three : (x y z : List ℕ) (a b c : NetView) → Loads x a → Loads y b → Loads z c → ComparedUnderIn check.settings.mode a b c check.settings r → Q x y z) where
   over_nets : IsAnsweredBy held check r → OfGiven held check check.assumed P Q
   over_nets h = by check.assumed h
     where
-      by : (assumed : Option (List ℕ)) → OfGiven held check assumed (OfNets (λ a b. ComparedIn check.settings.mode a b check.settings r)) (OfThreeNets (λ a b c. ComparedUnder a b c check.settings r)) → OfGiven held check assumed P Q
+      by : (assumed : Option (List ℕ)) → OfGiven held check assumed (OfNets (λ a b. ComparedIn check.settings.mode a b check.settings r)) (OfThreeNets (λ a b c. ComparedUnderIn check.settings.mode a b c check.settings r)) → OfGiven held check assumed P Q
       by None k = if_some (held check.left) (λ x here. if_some (held check.right) (λ y n. two x y n.0 n.1 n.2 n.3 n.4) here) k
       by (Some path) k =
           if_some (held check.left) (λ x here. if_some (held check.right) (λ y there. if_some (held path) (λ z n. three x y z n.0 n.1 n.2 n.3 n.4 n.5 n.6) there) here) k
@@ -110,11 +110,11 @@ equal_found held check before now (finding.Checked o s) proofs h w =
     let taken = report_of before now o s check h.0 w.2 in
     over_nets held check
     (λ x y. InForm check.settings.mode check.settings.reset (TextsAgree x y check.settings before now) (ResetsAgree x y check.settings before now) (EventTextsAgree x y check.settings before now))
-    (λ x y z. EqualUnder x y z check.settings before now) (Ok o)
+    (λ x y z. EqualUnderIn check.settings.mode x y z check.settings before now) (Ok o)
     (λ x y a b left right.
     in_form check.settings.mode a b check.settings o (λ compared. texts_agree before now check.settings o taken x y a b left right compared v) (λ compared. resets_agree before now check.settings o taken x y a b left right compared v)
     (λ compared. events_agree before now check.settings o taken x y a b left right compared v))
-    (λ x y z a b c left right assumed compared. equal_under x y z a b c left right assumed before now check.settings o taken compared v) h.1
+    (λ x y z a b c left right assumed compared. equal_under_in x y z a b c left right assumed before now check.settings o taken check.settings.mode compared v) h.1
 
 different_found : (held : Held) (check : Check) (before now : Option (List ℕ)) (f : Finding) (proofs : List Proof) → IsFoundOf held check f → IsWrittenAs before now f proofs status.Different →
     CheckMeans held check before now proofs status.Different
@@ -132,7 +132,7 @@ different_found held check before now (finding.Checked o s) proofs h w =
     let taken = report_of before now o s check h.0 w.2 in
     over_nets held check
     (λ x y. InForm check.settings.mode check.settings.reset (TextsDiffer x y check.settings before now) (ResetsDiffer x y check.settings before now) (EventTextsDiffer x y check.settings before now))
-    (λ x y z. DifferentUnder x y z check.settings before now) (Ok o)
+    (λ x y z. DifferentUnderIn check.settings.mode x y z check.settings before now) (Ok o)
     (λ x y a b left right.
     in_form check.settings.mode a b check.settings o
     (λ compared.
@@ -150,7 +150,7 @@ different_found held check before now (finding.Checked o s) proofs h w =
       | inl v ↦ events_differ before now check.settings o taken x y a b left right compared v.0 v.1
       | inr v ↦ absurd (events_always before now check.settings o taken x y a b left right compared v.0 v.1)
     ]))
-    (λ x y z a b c left right assumed compared. different_under x y z a b c left right assumed before now check.settings o taken compared (different_verdict o.verdict w.1)) h.1
+    (λ x y z a b c left right assumed compared. different_under_in x y z a b c left right assumed before now check.settings o taken check.settings.mode compared (different_verdict o.verdict w.1)) h.1
 
 not_shown_found : (held : Held) (check : Check) (before now : Option (List ℕ)) (f : Finding) (proofs : List Proof) → IsFoundOf held check f → IsWrittenAs before now f proofs status.NotShown →
     CheckMeans held check before now proofs status.NotShown
@@ -168,12 +168,12 @@ not_shown_found held check before now (finding.Checked o s) proofs h w =
     let v = not_shown_verdict o.verdict w.1 in
     let taken = report_of before now o s check h.0 w.2 in
     over_nets held check (λ x y. InForm check.settings.mode check.settings.reset (TextsNotShown x y check.settings before now) ⊥ (EventTextsNotShown x y check.settings before now))
-    (λ x y z. NotShownUnder x y z check.settings before now) (Ok o)
+    (λ x y z. NotShownUnderIn check.settings.mode x y z check.settings before now) (Ok o)
     (λ x y a b left right.
     in_form check.settings.mode a b check.settings o (λ compared. texts_not_shown before now check.settings o taken x y a b left right compared v.0 v.1)
     (λ compared. resets_are_shown before now check.settings o taken x y a b left right compared v.0 v.1)
     (λ compared. events_not_shown before now check.settings o taken x y a b left right compared v.0 v.1))
-    (λ x y z a b c left right assumed compared. not_shown_under x y z a b c left right assumed before now check.settings o taken compared v.0 v.1) h.1
+    (λ x y z a b c left right assumed compared. not_shown_under_in x y z a b c left right assumed before now check.settings o taken check.settings.mode compared v.0 v.1) h.1
 
 limit_found : (held : Held) (check : Check) (before now : Option (List ℕ)) (f : Finding) (proofs : List Proof) → IsFoundOf held check f → IsWrittenAs before now f proofs status.Limit →
     CheckMeans held check before now proofs status.Limit
@@ -193,12 +193,12 @@ limit_found held check before now (finding.Checked o s) proofs h w =
     over_nets held check
     (λ x y.
     InForm check.settings.mode check.settings.reset (TextsUndecided x y check.settings proofs before now) (ResetsUndecided x y check.settings proofs before now) (EventTextsUndecided x y check.settings proofs before now))
-    (λ x y z. LimitUnder x y z check.settings proofs before now) (Ok o)
+    (λ x y z. LimitUnderIn check.settings.mode x y z check.settings proofs before now) (Ok o)
     (λ x y a b left right.
     in_form check.settings.mode a b check.settings o (λ compared. texts_undecided before now check.settings o taken x y a b left right compared proofs v.0 v.1 w.0)
     (λ compared. resets_undecided before now check.settings o taken x y a b left right compared proofs v.0 v.1 w.0)
     (λ compared. events_undecided before now check.settings o taken x y a b left right compared proofs v.0 v.1 w.0))
-    (λ x y z a b c left right assumed compared. limit_under x y z a b c left right assumed before now check.settings o taken compared proofs v.0 v.1 w.0) h.1
+    (λ x y z a b c left right assumed compared. limit_under_in x y z a b c left right assumed before now check.settings o taken check.settings.mode compared proofs v.0 v.1 w.0) h.1
 
 -- no verdict is a report on one circuit
 no_done_verdict : (v : Verdict) → verdict_status v ≡ status.Done → ⊥

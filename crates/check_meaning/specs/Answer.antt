@@ -9,33 +9,35 @@ use Rattle.pair_decide.specs.declared.query.SameBy.{SameBy}
 use Rattle.assume_shape.specs.declared.shape.ShapeFault.{ShapeFault}
 use Rattle.job_base.specs.declared.status.StatusName.{StatusName}
 use Rattle.job_base.specs.declared.status.StatusName.TheVariants as status
-use Rattle.job_base.specs.Meaning.{SaysNothing, EndsWith}
 use Rattle.check_texts.specs.CompareError.TheVariants as compare_error
 use Rattle.check_texts.specs.Compared.{ByReset}
-use Rattle.assume_texts.specs.Compared.{ComparedUnder}
+use Rattle.event_texts_under.specs.Answered.{ComparedUnderIn}
 use Rattle.sec_files.specs.Loading.{IsAccepted, Loads}
 use Rattle.job_files.specs.Reading.{Held}
 use Rattle.check_texts.specs.Resets.{ResetsAgree, ResetsDiffer, ResetsUndecided}
 use Rattle.check_texts.specs.Texts.{AreComparable, TextsAgree, TextsDiffer, TextsNotShown, TextsUndecided}
 use Rattle.event_texts.specs.Texts.{AreEventComparable, EventTextsAgree, EventTextsDiffer, EventTextsNotShown, EventTextsUndecided}
-use Rattle.assume_texts.specs.Answers.{EqualUnder, DifferentUnder, NotShownUnder, LimitUnder}
-use Rattle.check_found.specs.Check.{Check, WhereBuilt}
+use Rattle.event_texts_under.specs.Answers.{EqualUnderIn, DifferentUnderIn, NotShownUnderIn, LimitUnderIn}
+use Rattle.check_found.specs.Check.{Check}
 use Rattle.check_found.specs.Found.{OfGiven}
 
--- The texts can be compared without the assumption, its text is accepted, and none of its refusals comes: a fault of it, or that no row of
--- inputs meets it.
-pub record AreComparableUnder (x y z : List ℕ) (settings : Settings) : Type 0 where
-  pub comparable : AreComparable x y settings.expose settings.reset
-  pub accepted : IsAccepted z
-  pub fits : (a b c : NetView) → Loads x a → Loads y b → Loads z c → (fault : ShapeFault) → ComparedUnder a b c settings (Err (compare_error.Assume fault)) → ⊥
-  pub met : (a b c : NetView) → Loads x a → Loads y b → Loads z c → (by : SameBy) → ComparedUnder a b c settings (Err (compare_error.Vacuous by)) → ⊥
+-- both texts can be compared in this mode
+abbrev pub AreComparableIn : Mode → List ℕ → List ℕ → Settings → Type 0
+AreComparableIn Plain x y settings = AreComparable x y settings.expose settings.reset
+AreComparableIn Event x y settings = AreEventComparable x y settings
 
--- both texts are told and can be compared in this mode, with that of the assumption where there is one; in the event mode there is none
+-- They can be compared so without the assumption, its text is accepted, and none of its refusals comes: a fault of it, or that no row of inputs
+-- meets it.
+pub record AreComparableUnder (mode : Mode) (x y z : List ℕ) (settings : Settings) : Type 0 where
+  pub comparable : AreComparableIn mode x y settings
+  pub accepted : IsAccepted z
+  pub fits : (a b c : NetView) → Loads x a → Loads y b → Loads z c → (fault : ShapeFault) → ComparedUnderIn mode a b c settings (Err (compare_error.Assume fault)) → ⊥
+  pub met : (a b c : NetView) → Loads x a → Loads y b → Loads z c → (by : SameBy) → ComparedUnderIn mode a b c settings (Err (compare_error.Vacuous by)) → ⊥
+
+-- both texts are told and can be compared in this mode, with that of the assumption where there is one
 abbrev pub CanAnswerWith : Held → Check → Mode → Option (List ℕ) → Type 0
-CanAnswerWith held check Plain None = IsSomeAnd (held check.left) (λ x. IsSomeAnd (held check.right) (λ y. AreComparable x y check.settings.expose check.settings.reset))
-CanAnswerWith held check Plain (Some path) = IsSomeAnd (held check.left) (λ x. IsSomeAnd (held check.right) (λ y. IsSomeAnd (held path) (λ z. AreComparableUnder x y z check.settings)))
-CanAnswerWith held check Event None = IsSomeAnd (held check.left) (λ x. IsSomeAnd (held check.right) (λ y. AreEventComparable x y check.settings))
-CanAnswerWith held check Event (Some path) = ⊥
+CanAnswerWith held check mode None = IsSomeAnd (held check.left) (λ x. IsSomeAnd (held check.right) (λ y. AreComparableIn mode x y check.settings))
+CanAnswerWith held check mode (Some path) = IsSomeAnd (held check.left) (λ x. IsSomeAnd (held check.right) (λ y. IsSomeAnd (held path) (λ z. AreComparableUnder mode x y z check.settings)))
 
 abbrev pub CanAnswer : Held → Check → Type 0
 CanAnswer held check = CanAnswerWith held check check.settings.mode check.assumed
@@ -63,22 +65,18 @@ InForm Event reset always from_reset events = events
 -- on circuits.
 abbrev pub CheckMeans : Held → Check → Option (List ℕ) → Option (List ℕ) → List Proof → StatusName → Type 0
 CheckMeans held check before now proofs status.Equal =
-    OfGiven held check check.assumed (λ x y. InForm check.settings.mode check.settings.reset (TextsAgree x y check.settings before now) (ResetsAgree x y check.settings before now) (EventTextsAgree x y check.settings before now)) (λ x y z. EqualUnder x y z check.settings before now)
+    OfGiven held check check.assumed (λ x y. InForm check.settings.mode check.settings.reset (TextsAgree x y check.settings before now) (ResetsAgree x y check.settings before now) (EventTextsAgree x y check.settings before now)) (λ x y z. EqualUnderIn check.settings.mode x y z check.settings before now)
 CheckMeans held check before now proofs status.Different =
-    OfGiven held check check.assumed (λ x y. InForm check.settings.mode check.settings.reset (TextsDiffer x y check.settings before now) (ResetsDiffer x y check.settings before now) (EventTextsDiffer x y check.settings before now)) (λ x y z. DifferentUnder x y z check.settings before now)
+    OfGiven held check check.assumed (λ x y. InForm check.settings.mode check.settings.reset (TextsDiffer x y check.settings before now) (ResetsDiffer x y check.settings before now) (EventTextsDiffer x y check.settings before now)) (λ x y z. DifferentUnderIn check.settings.mode x y z check.settings before now)
 CheckMeans held check before now proofs status.NotShown =
-    OfGiven held check check.assumed (λ x y. InForm check.settings.mode check.settings.reset (TextsNotShown x y check.settings before now) ⊥ (EventTextsNotShown x y check.settings before now)) (λ x y z. NotShownUnder x y z check.settings before now)
+    OfGiven held check check.assumed (λ x y. InForm check.settings.mode check.settings.reset (TextsNotShown x y check.settings before now) ⊥ (EventTextsNotShown x y check.settings before now)) (λ x y z. NotShownUnderIn check.settings.mode x y z check.settings before now)
 CheckMeans held check before now proofs status.Limit =
     OfGiven held check check.assumed (λ x y.
     InForm check.settings.mode check.settings.reset (TextsUndecided x y check.settings proofs before now) (ResetsUndecided x y check.settings proofs before now) (EventTextsUndecided x y check.settings proofs before now))
-    (λ x y z. LimitUnder x y z check.settings proofs before now)
+    (λ x y z. LimitUnderIn check.settings.mode x y z check.settings proofs before now)
 CheckMeans held check before now proofs status.Done = ⊥
 CheckMeans held check before now proofs other = Unit {0}
 
--- what the status of a comparison says, whether it is built or not
-abbrev pub CheckSays : Held → Check → Option (List ℕ) → Option (List ℕ) → List Proof → StatusName → Type 0
-CheckSays held check before now proofs name = WhereBuilt check.settings.mode check.assumed (CheckMeans held check before now proofs name) (SaysNothing name)
-
--- A comparison that can be made is answered, if no read and no write fails; one that isn't built is told so.
+-- a comparison that can be made is answered, if no read and no write fails
 abbrev pub IsCheckComplete : Held → Check → StatusName → Type 0
-IsCheckComplete held check name = WhereBuilt check.settings.mode check.assumed (CanAnswer held check → IsAnswer name) (EndsWith status.Refused name)
+IsCheckComplete held check name = CanAnswer held check → IsAnswer name

@@ -1,3 +1,2 @@
-pub mod Found
 pub mod Pairs
-pub use Rattle.event_names.specs.Compared
+pub use Rattle.event_answers.specs.Compared

@@ -2,7 +2,6 @@
 #![tactic(auto)]
 
 mod comparison;
-mod outcomes;
 mod pairs;
 
 pub use comparison::compare_in_events;

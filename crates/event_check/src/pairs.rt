@@ -1,27 +1,18 @@
 //! What is found of the pairs of two circuits with their class map.
 
-ghost use Rattle.std.specs.Prelude.{◌≡◌, ◌≤◌, IfOk};
+ghost use Rattle.std.specs.Prelude.{◌≡◌, ◌≤◌};
 ghost use Rattle.class_events.specs.Made.{AreEnablesCounted};
 ghost use Rattle.class_events.specs.Separated.{AreSeparated};
-ghost use Rattle.event_names.specs.Nameable.{CanBeNamed};
-ghost use Rattle.event_check.specs.Pairs.{AreAskable, FindsPairs, IsNamedFound, refusal_of};
+ghost use Rattle.event_answers.specs.Askable.{AreAskable};
+ghost use Rattle.event_answers.specs.Finding.{refusal_of};
+ghost use Rattle.event_check.specs.Pairs.{FindsPairs};
 
-use crate::outcomes::Found;
 use class_events::Separated;
 use compare_base::CompareError;
-use event_names::{Names, named_verdict};
-use event_setup_laws::{EventFindings, EventFormError, EventPairs, compare_events};
-use interface::SignalPairs;
-use sec_base::{Ids, MAX_CONFLICTS, NoMemory};
+use event_answers::{Asked, Found, Names, named_findings};
+use event_setup_laws::{EventFormError, EventPairs, compare_events};
+use sec_base::MAX_CONFLICTS;
 use std::alloc::Global;
-
-/// The pairs that are compared, with their depths, and whether latches are cut open.
-#[derive(Drop)]
-pub(crate) struct Asked {
-    pub(crate) pairs: SignalPairs,
-    pub(crate) depths: Ids,
-    pub(crate) cut: bool,
-}
 
 /// Compares the pairs of two circuits whose latches have their classes.
 pub(crate) fn compare_pairs(
@@ -54,25 +45,6 @@ pub(crate) fn compare_pairs(
         }
         Err(error) => Err(refusal_of(error)),
     }
-}
-
-/// What is found, by the names of inputs and latches.
-fn named_findings(
-    alloc: Global,
-    names: &Names,
-    findings: EventFindings,
-    classes: u32,
-) -> Result<Found, NoMemory>
-    requires { CanBeNamed names.now findings.verdict }
-    ensures { IfOk result (IsNamedFound names.now findings classes) }
-{
-    let EventFindings { pairs, verdict } = findings;
-    let verdict = named_verdict(alloc, names, verdict)?;
-    Ok(Found {
-        classes,
-        pairs,
-        verdict,
-    })
 }
 
 /// Why circuits whose pairs can't be unfolded aren't compared.

@@ -50,7 +50,7 @@ module _ (a b : NetView) (n : Names) (left : n.left ≡ latch_names a) (right : 
   other_named (Some t) h = tag_named t (h t refl)
 
 -- each bit of a frame is that of an input that has a name
-each_named : (n : Names) (variables : List (Variable (List ℕ))) (frame : List FrameBit) → ((x : Variable (List ℕ)) → Contains variables x → x.input < length n.columns) → AllZip TellsVariable variables frame → All (IsBitIn n) frame
+pub each_named : (n : Names) (variables : List (Variable (List ℕ))) (frame : List FrameBit) → ((x : Variable (List ℕ)) → Contains variables x → x.input < length n.columns) → AllZip TellsVariable variables frame → All (IsBitIn n) frame
 each_named n [] [] low told = All-nil (IsBitIn n)
 each_named n [] (x ∷ frame) low told = absurd told
 each_named n (v ∷ variables) [] low told = absurd told
@@ -58,14 +58,14 @@ each_named n (v ∷ variables) (x ∷ frame) low told =
     All-cons (IsBitIn n) x frame (subst (λ i. i < length n.columns) (sym told.0.input) (low v (Contains-head v variables))) (each_named n variables frame (λ y h. low y (Contains-tail v y variables h)) told.1)
 
 -- an output of a net is shown by its circuit
-output_shown : (n : NetView) (s : ℕ) → Contains (outputs_of n) s → IsShown (circuit_of n) s
+pub output_shown : (n : NetView) (s : ℕ) → Contains (outputs_of n) s → IsShown (circuit_of n) s
 output_shown n s h =
     let port = Contains-map_from (λ (p : Port). p.signal.0) n.outputs s h in
     (port.0.name, subst (λ p. Contains (circuit_of n).outputs (record { name = port.0.name; place = p })) port.2 (Contains-map named n.outputs port.0 port.1))
 
 module _ (a b : EventCircuitView) (n : Names) (left_sound : IsSound a.net) (right_sound : IsSound b.net) (long : length a.order ≡ length (circuit_of a.net).inputs)
     (left_columns : AreColumns a.net n.columns a.order b.order) (right_columns : AreColumns b.net n.columns b.order a.order) (left : n.left ≡ latch_names a.net) (right : n.right ≡ latch_names b.net) where
-  separation_named : (order : List (Either ℕ ℕ)) (x : ToldSeparation) → Separates a b order x → IsSeparationIn n x
+  pub separation_named : (order : List (Either ℕ ℕ)) (x : ToldSeparation) → Separates a b order x → IsSeparationIn n x
   separation_named order x k = go x.low_latch refl k.separates
     where
       go : (o : Option Tag) → x.low_latch ≡ o → SeparatesBy a b order x o k.variables k.bits → IsSeparationIn n x

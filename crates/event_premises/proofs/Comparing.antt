@@ -62,7 +62,7 @@ light_cones n shallow h =
 
 module _ (a b : NetView) (left : IsShallowNet a) (right : IsShallowNet b) (s : Settings) where
   module _ (names : List (List ℕ)) (m k : EventCircuitView) (reached : AreReached a b s.expose names m k) where
-    left_events : IsShallowEvents m.net
+    pub left_events : IsShallowEvents m.net
     left_events = record {
       net = record {
         latches = left.latches;
@@ -77,7 +77,7 @@ module _ (a b : NetView) (left : IsShallowNet a) (right : IsShallowNet b) (s : S
       depths = reached.circuits.left_ready.depths;
     }
 
-    right_events : IsShallowEvents k.net
+    pub right_events : IsShallowEvents k.net
     right_events = record {
       net = record {
         latches = right.latches;

@@ -199,7 +199,7 @@ module _ (load both : Cover) where
   unfolding circuit_of_design walk
   loads_ports net f = ports_kept (loading load both) refl net f
 
-no_cycles : (expose : Bool) (a b : NetView) → ((removed : List (List ℕ)) → HasCycle (circuit_of a) (IsEnabled (circuit_of a)) removed → ⊥) → ((removed : List (List ℕ)) → HasCycle (circuit_of b) (IsEnabled (circuit_of b)) removed → ⊥) → HaveNoCycles a b expose
+pub no_cycles : (expose : Bool) (a b : NetView) → ((removed : List (List ℕ)) → HasCycle (circuit_of a) (IsEnabled (circuit_of a)) removed → ⊥) → ((removed : List (List ℕ)) → HasCycle (circuit_of b) (IsEnabled (circuit_of b)) removed → ⊥) → HaveNoCycles a b expose
 no_cycles false a b left right = (left [], right [])
 no_cycles true a b left right = (left (common_names (circuit_of a) (circuit_of b)), right (common_names (circuit_of a) (circuit_of b)))
 

@@ -1,7 +1,7 @@
 -- The nets that a text loads as, by what is computed of its design.
 use Rattle.std.proofs.Common.{◌≡◌, ◌∙◌, ℕ, suc, ◌+◌, ◌*◌, ◌≤◌, List, [], length, map, Option, None, sym, ap, ap₂, subst, arith}
 use Rattle.circuit_theory.specs.Circuit.{Circuit}
-use Rattle.circuit_theory.specs.Interface.{Ports, first_mismatch}
+use Rattle.circuit_theory.specs.Interface.{Ports, first_mismatch, shared_inputs}
 use Rattle.blif_read.specs.declared.design.BlifModel.{BlifModel}
 use Rattle.blif_read.specs.Design.{Place, clock_places, circuit_of_design}
 use Rattle.blif_read.specs.Reading.{first_fault, spelled}
@@ -85,3 +85,8 @@ ports_are inputs outputs net h =
 
 pub ports_match : (inputs outputs : List (List ℕ)) → ((own others : List (List ℕ)) → first_mismatch (ports inputs outputs own) (ports inputs outputs others) ≡ None) → (a b : NetView) → HasPorts inputs outputs a → HasPorts inputs outputs b → InterfacesMatch a b
 ports_match inputs outputs same a b left right = ap₂ first_mismatch (ports_are inputs outputs a left) (ports_are inputs outputs b right) ∙ same (ports_of a).read (ports_of b).read
+
+-- the inputs that two such nets share
+pub shared_kept : (inputs outputs : List (List ℕ)) → ((own others : List (List ℕ)) → shared_inputs (ports inputs outputs own) (ports inputs outputs others) ≡ inputs) → (a b : NetView) → HasPorts inputs outputs a → HasPorts inputs outputs b →
+    shared_inputs (ports_of a) (ports_of b) ≡ inputs
+shared_kept inputs outputs same a b left right = ap₂ shared_inputs (ports_are inputs outputs a left) (ports_are inputs outputs b right) ∙ same (ports_of a).read (ports_of b).read

@@ -78,16 +78,16 @@ module _ {P : Type 0} (c : Circuit P) (latches : List P) (shallow : IsShallow c 
         chain zero = LatchChain.last latch
         chain (suc n) = LatchChain.more edge (chain n)
 
-    no_others : (u v : P) → ConeOthers c (IsEnabled c) u v → ⊥
+    pub no_others : (u v : P) → ConeOthers c (IsEnabled c) u v → ⊥
     no_others u v h =
         let same : v ≡ u = shallow.alone h.0 u h.1 v h.2 h.3 in
         plain_cycle h.0 u h.1 h.2 (subst (Reaches c h.1) same h.3.3) (λ on. h.4 on same)
 
     module _ (order : List ℕ) (class : P → ℕ) where
-      abbrev s : EventSide P
+      abbrev pub s : EventSide P
       s = record { circuit = c; order = order; class = class }
 
-      abbrev nodes : List (List ℕ)
+      abbrev pub nodes : List (List ℕ)
       nodes = nodes_of class latches
 
       node_is : (starts : List (Start P)) (node : List ℕ) → IsNode s (IsEnabled c) (StartLatches s starts) node → Contains nodes node
@@ -106,7 +106,7 @@ module _ {P : Type 0} (c : Circuit P) (latches : List P) (shallow : IsShallow c 
           omega (arith, h, long, total)
 
       -- a place is visited at the root, or at the child by the class of a latch that reads it
-      abbrev IsAt : Option P → P → List ℕ → Type 0
+      abbrev pub IsAt : Option P → P → List ℕ → Type 0
       IsAt out q node = (node ≡ []) ⊎ ((u : P) × (name : List ℕ) × (next : P) × IsLatch c name u next × Reaches c next q × (node ≡ class u ∷ []) × (IsEnabled c u → out ≡ Some u))
 
       further : {out : Option P} {q r : P} {node : List ℕ} → IsAt out q node → Reads c q r → IsAt out r node
@@ -126,13 +126,13 @@ module _ {P : Type 0} (c : Circuit P) (latches : List P) (shallow : IsShallow c 
           let out_is = h.6 (subst (IsEnabled c) same on) in
           absurd ((subst (λ (o : Option P). IsOther o q) out_is other) same)
 
-      stands : (starts : List (Start P)) {out : Option P} {q : P} {node : List ℕ} → EventVisits s (IsEnabled c) starts out q node → IsAt out q node
+      pub stands : (starts : List (Start P)) {out : Option P} {q : P} {node : List ℕ} → EventVisits s (IsEnabled c) starts out q node → IsAt out q node
       stands starts (EventVisits.start h) = inl refl
       stands starts (EventVisits.reads v r) = further (stands starts v) r
       stands starts (EventVisits.plain v other latch free) = by_plain (stands starts v) latch free
       stands starts (EventVisits.held v other latch on) = by_held (stands starts v) other latch on
 
-      at_node : {out : Option P} {q : P} {node : List ℕ} → IsAt out q node → Contains nodes node
+      pub at_node : {out : Option P} {q : P} {node : List ℕ} → IsAt out q node → Contains nodes node
       at_node (inl e) = subst (Contains nodes) (sym e) (Contains-head [] (map (λ (u : P). class u ∷ []) latches))
       at_node (inr h) = subst (Contains nodes) (sym h.5) (has_child class latches h.0 (shallow.listed h.1 h.0 h.2 h.3))
 

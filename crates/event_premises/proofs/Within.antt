@@ -66,23 +66,23 @@ few_classes {P} s latches taken v among count differs =
         )
 
 module _ (a b : EventCircuitView) (left : IsShallowEvents a.net) (right : IsShallowEvents b.net) where
-  abbrev c : Circuit (Either ℕ ℕ)
+  abbrev pub c : Circuit (Either ℕ ℕ)
   c = joined (circuit_of a.net) (circuit_of b.net)
 
-  abbrev latches : List (Either ℕ ℕ)
+  abbrev pub latches : List (Either ℕ ℕ)
   latches = both_latches (circuit_of a.net) (circuit_of b.net) left.net.latches right.net.latches left.net.shallow right.net.shallow
 
-  shallow : IsShallow c latches
+  pub shallow : IsShallow c latches
   shallow = both_shallow (circuit_of a.net) (circuit_of b.net) left.net.latches right.net.latches left.net.shallow right.net.shallow
 
-  few_latches : length latches ≤ 200
+  pub few_latches : length latches ≤ 200
   few_latches =
       let whole : length latches ≡ length left.net.latches + length right.net.latches = both_length (circuit_of a.net) (circuit_of b.net) left.net.latches right.net.latches left.net.shallow right.net.shallow in
       let l : length left.net.latches ≤ 100 = left.net.few in
       let r : length right.net.latches ≤ 100 = right.net.few in
       omega (arith, whole, l, r)
 
-  depths : LatchesHaveDepths c (IsEnabled c)
+  pub depths : LatchesHaveDepths c (IsEnabled c)
   depths = (sides_are_parts_in_nets (circuit_of a.net) (circuit_of b.net) (length a.net.drivers) (length b.net.drivers) (sound_is_net a.net left.sound) (sound_is_net b.net right.sound)).4 left.depths right.depths
 
   enabled_listed : (u : Either ℕ ℕ) → IsEnabled c u → Contains latches u

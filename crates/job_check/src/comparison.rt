@@ -1,20 +1,18 @@
 //! The job that compares two circuits, also under an assumption on their inputs.
 
-ghost use Rattle.std.specs.Prelude.{◌≡◌, ◌≤◌, ℕ, List, true, false, [], option_map, Some, IsErrOf};
+ghost use Rattle.std.specs.Prelude.{◌≡◌, ◌≤◌, ℕ, List, true, false, option_map, Some, IsErrOf};
 ghost use Rattle.std.specs.List.{All};
 ghost use Rattle.circuit_theory.specs.declared.Mode.TheVariants.{Plain};
 ghost use Rattle.sec_base.specs.Outside.{SameHeld, NoneFell};
 ghost use Rattle.flat_net.specs.Comparable.{IsComparable};
-ghost use Rattle.check_found.specs.Check.{Check, IsBuilt, all_paths, assumed_paths, where_built};
-ghost use Rattle.check_found.specs.Ends.{compare_end, CheckFound, EndsBeside, EndsBoth, FoundOf};
+ghost use Rattle.check_found.specs.Check.{Check, all_paths, assumed_paths};
+ghost use Rattle.check_found.specs.Ends.{compare_end, EndsBeside, EndsBoth, FoundOf};
 
-use circuit_theory::Mode;
-use compare_under::compare_under;
 use flat_net::Net;
 use job_base::{File, Finding, Refusal, Stop};
 use job_files::load_end;
 use sec_base::{MAX_CONFLICTS, Shelf};
-use sec_check::{CompareError, Outcome, Settings, compare};
+use sec_check::{CompareError, Outcome, Settings, compare, compare_under};
 use sec_files::load;
 use std::alloc::Global;
 
@@ -27,8 +25,8 @@ pub struct Comparison<'a> {
     pub assumed: Option<&'a str>,
 }
 
-/// Compares the circuits of two files in the mode that is asked for; under an assumption only the runs count whose inputs make its output 1 in
-/// each cycle. From initial values the mode is plain, and no latch is cut open. In the event mode there is no assumption: one is told not to be built.
+/// Compares the circuits of two files in the mode that is asked for: loads both, A first, and then the assumption where there is one. Under an
+/// assumption only the runs count whose inputs make its output 1 in each cycle. From initial values the mode is plain, and no latch is cut open.
 pub fn check<S: Shelf>(
     alloc: Global,
     comparison: &Comparison<'_>,
@@ -38,37 +36,10 @@ pub fn check<S: Shelf>(
     requires uncut { comparison.now.settings.reset ≡ true → comparison.now.settings.expose ≡ false }
     requires conflicts { comparison.now.settings.conflicts ≤ MAX_CONFLICTS }
     ensures found { let check : Check = record { left = comparison.now.left.now; right = comparison.now.right.now; settings = comparison.now.settings; assumed = option_map (λ path. path.now) comparison.now.assumed } in
-        CheckFound (S.held shelf.old) (S.faults shelf.old) (S.faults shelf.new) check result }
-    ensures keeps { SameHeld (S.held shelf.old) (S.held shelf.new) }
-    ensures later { NoneFell (S.faults shelf.old) (S.faults shelf.new) }
-    ensures served { All (S.serves shelf.old) (where_built comparison.now.settings.mode (option_map (λ path. path.now) comparison.now.assumed) (all_paths comparison.now.left.now comparison.now.right.now (option_map (λ path. path.now) comparison.now.assumed))) → IsErrOf result Stop.ReadFault → ⊥ }
-    ensures serving { (other : List ℕ) → S.serves shelf.old other → S.serves shelf.new other }
-    ensures idle { where_built comparison.now.settings.mode (option_map (λ path. path.now) comparison.now.assumed) (all_paths comparison.now.left.now comparison.now.right.now (option_map (λ path. path.now) comparison.now.assumed)) ≡ [] → shelf.new ≡ shelf.old }
-{
-    match comparison.assumed {
-        Some(_) => match comparison.settings.mode {
-            Mode::Plain => compare_files(alloc, comparison, shelf),
-            Mode::Event => Ok(Finding::Refused(Refusal::NotBuilt)),
-        },
-        None => compare_files(alloc, comparison, shelf),
-    }
-}
-
-/// Loads both circuits, A first, and then the assumption where there is one, and compares A with B.
-fn compare_files<S: Shelf>(
-    alloc: Global,
-    comparison: &Comparison<'_>,
-    shelf: &mut S,
-) -> Result<Finding, Stop>
-    requires built { IsBuilt comparison.now.settings.mode (option_map (λ path. path.now) comparison.now.assumed) }
-    requires plain { comparison.now.settings.reset ≡ true → comparison.now.settings.mode ≡ Plain }
-    requires uncut { comparison.now.settings.reset ≡ true → comparison.now.settings.expose ≡ false }
-    requires conflicts { comparison.now.settings.conflicts ≤ MAX_CONFLICTS }
-    ensures found { let check : Check = record { left = comparison.now.left.now; right = comparison.now.right.now; settings = comparison.now.settings; assumed = option_map (λ path. path.now) comparison.now.assumed } in
         FoundOf (S.held shelf.old) (S.faults shelf.old) (S.faults shelf.new) check result }
     ensures keeps { SameHeld (S.held shelf.old) (S.held shelf.new) }
     ensures later { NoneFell (S.faults shelf.old) (S.faults shelf.new) }
-    ensures served { S.serves shelf.old comparison.now.left.now → S.serves shelf.old comparison.now.right.now → All (S.serves shelf.old) (assumed_paths (option_map (λ path. path.now) comparison.now.assumed)) → IsErrOf result Stop.ReadFault → ⊥ }
+    ensures served { All (S.serves shelf.old) (all_paths comparison.now.left.now comparison.now.right.now (option_map (λ path. path.now) comparison.now.assumed)) → IsErrOf result Stop.ReadFault → ⊥ }
     ensures serving { (other : List ℕ) → S.serves shelf.old other → S.serves shelf.new other }
 {
     match load(alloc, shelf, comparison.left) {
@@ -84,7 +55,6 @@ fn compare_with<S: Shelf>(
     comparison: &Comparison<'_>,
     shelf: &mut S,
 ) -> Result<Finding, Stop>
-    requires built { IsBuilt comparison.now.settings.mode (option_map (λ path. path.now) comparison.now.assumed) }
     requires plain { comparison.now.settings.reset ≡ true → comparison.now.settings.mode ≡ Plain }
     requires uncut { comparison.now.settings.reset ≡ true → comparison.now.settings.expose ≡ false }
     requires conflicts { comparison.now.settings.conflicts ≤ MAX_CONFLICTS }
@@ -116,7 +86,7 @@ fn compare_assuming<S: Shelf>(
     settings: &Settings,
     shelf: &mut S,
 ) -> Result<Finding, Stop>
-    requires plain { settings.now.mode ≡ Plain }
+    requires plain { settings.now.reset ≡ true → settings.now.mode ≡ Plain }
     requires uncut { settings.now.reset ≡ true → settings.now.expose ≡ false }
     requires conflicts { settings.now.conflicts ≤ MAX_CONFLICTS }
     requires left { IsComparable a.now }

@@ -16,15 +16,13 @@ use Rattle.job_base.specs.declared.finding.Finding.{Finding}
 use Rattle.job_base.specs.declared.finding.Finding.TheVariants as finding
 use Rattle.job_base.specs.declared.status.StatusName.{StatusName}
 use Rattle.job_base.specs.declared.status.StatusName.TheVariants as status
-use Rattle.job_base.specs.declared.finding.Refusal.TheVariants as refusal
 use Rattle.job_files.specs.Reading.{Held}
 use Rattle.check_meaning.specs.Answer.{CanAnswer, CanAnswerWith, IsAnswer}
 use Rattle.check_texts.specs.Texts.{AreComparable}
 use Rattle.sec_run.specs.Answer.{EndsAs, IsFinding}
 use Rattle.check_meaning.specs.Found.{IsAnsweredBy, IsFoundOf, OfNets}
 use Rattle.job_base.specs.Written.{status_of, verdict_status}
-use Rattle.check_meaning.specs.Check.{Check, WhereBuilt}
-use Rattle.job_base.specs.Meaning.{EndsWith}
+use Rattle.check_meaning.specs.Check.{Check}
 use Rattle.sec_run.specs.Promises.{IsComplete}
 use Rattle.one_text_runs.specs.OneTextRuns.{OfCheck, OfOneText, IsAlways, IsEqualAnswer}
 use Rattle.one_text.proofs.OneText.{one_text_is_equal}
@@ -92,14 +90,14 @@ module _ (held : Held) (a b : List ℕ) (settings : Settings) where
     found_equal always (finding.Undecided side name proof) found is = absurd found
 
   -- what is found of such a job
-  check_equal : (f : Finding) (mode : Mode) (reset : Bool) → settings.mode ≡ mode → settings.reset ≡ reset → IsAlways mode reset (CanMeetItself held check) → WhereBuilt mode None (IsFoundOf held check f) (f ≡ finding.Refused refusal.NotBuilt) →
+  check_equal : (f : Finding) (mode : Mode) (reset : Bool) → settings.mode ≡ mode → settings.reset ≡ reset → IsAlways mode reset (CanMeetItself held check) → IsFoundOf held check f →
       IsAnswer (status_of f) → IsEqualAnswer (status_of f)
   check_equal f Plain false mode_is always can found is = found_equal can mode_is always f found is
   check_equal f Plain true mode_is always can found is = absurd can
   check_equal f Event reset mode_is always can found is = absurd can
 
   -- a job over one text is one that is answered
-  check_answered : (name : StatusName) (mode : Mode) (reset : Bool) → settings.mode ≡ mode → IsAlways mode reset (CanMeetItself held check) → WhereBuilt mode None (CanAnswer held check → IsAnswer name) (EndsWith status.Refused name) → IsAnswer name
+  check_answered : (name : StatusName) (mode : Mode) (reset : Bool) → settings.mode ≡ mode → IsAlways mode reset (CanMeetItself held check) → (CanAnswer held check → IsAnswer name) → IsAnswer name
   check_answered name Plain false mode_is can complete = complete (can_answer can mode_is)
   check_answered name Plain true mode_is can complete = absurd can
   check_answered name Event reset mode_is can complete = absurd can

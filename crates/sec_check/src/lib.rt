@@ -5,7 +5,7 @@ mod comparison;
 mod interfaces;
 
 pub use circuit_theory::Mode;
-pub use comparison::compare;
+pub use comparison::{compare, compare_under};
 pub use interfaces::interface;
 pub use outcome::{
     Frame, LimitAt, Outcome, PairName, PairResult, PairResults, Proof, ResetWitness, Separation,

@@ -15,7 +15,8 @@ use Rattle.job_circuit.proofs.CompleteReports.{graph_complete, sim_complete}
 use Rattle.job_replay.proofs.Means.{replay_means}
 use Rattle.job_replay.proofs.CompleteReplays.{replay_complete}
 use Rattle.job_check.specs.Check.{Check}
-use Rattle.check_meaning.proofs.Promises.{check_says, silent_check, failed_check, check_complete, memory_check}
+use Rattle.check_meaning.proofs.Complete.{check_complete}
+use Rattle.check_meaning.proofs.Means.{check_means}
 use Rattle.job_gen.proofs.Means.{gen_means, gen_complete}
 use Rattle.job_lrat.proofs.Means.{lrat_means, lrat_complete}
 use Rattle.job_cert.proofs.Means.{cert_means}
@@ -29,7 +30,7 @@ use Rattle.sec_run.specs.Promises.{Means, IsComplete}
 pub means : (held : Held) (job : Option Task) (before now : Option (List ℕ)) (f : Finding) (proofs : List Proof) (name : StatusName) →
     IsFinding held job f → IsWrittenAs before now f proofs name → Means held job before now proofs name
 means held None before now f proofs name found w = says_nothing before now f proofs name (subst (λ (g : Finding). SaysNothing (status_of g)) (sym found) tt) w
-means held (Some (task.Check a b settings assumed)) before now f proofs name found w = check_says held (record { left = a; right = b; settings = settings; assumed = assumed }) before now f proofs name found w
+means held (Some (task.Check a b settings assumed)) before now f proofs name found w = check_means held (record { left = a; right = b; settings = settings; assumed = assumed }) before now f proofs name found w
 means held (Some (task.Graph a mode)) before now f proofs name found w = graph_means mode (held a) before now f proofs name found w
 means held (Some (task.Sim a s mode power reset)) before now f proofs name found w = sim_means mode (held a) (held s) power reset before now f proofs name found w
 means held (Some (task.Replay a b s mode)) before now f proofs name found w = replay_means mode (held a) (held b) (held s) before now f proofs name found w
@@ -41,7 +42,7 @@ means held (Some (task.Induct a b conflicts)) before now f proofs name found w =
 -- a run that ends before it has found anything says nothing
 pub memory_means : (held : Held) (job : Option Task) (before now : Option (List ℕ)) (proofs : List Proof) → Means held job before now proofs status.NoMemory
 memory_means held None before now proofs = tt
-memory_means held (Some (task.Check a b settings assumed)) before now proofs = silent_check held (record { left = a; right = b; settings = settings; assumed = assumed }) before now proofs
+memory_means held (Some (task.Check a b settings assumed)) before now proofs = tt
 memory_means held (Some (task.Graph a mode)) before now proofs = tt
 memory_means held (Some (task.Sim a s mode power reset)) before now proofs = tt
 memory_means held (Some (task.Replay a b s mode)) before now proofs = tt
@@ -52,7 +53,7 @@ memory_means held (Some (task.Induct a b conflicts)) before now proofs = tt
 
 pub fault_means : (held : Held) (job : Option Task) (before now : Option (List ℕ)) (proofs : List Proof) → Means held job before now proofs status.ReadFault
 fault_means held None before now proofs = tt
-fault_means held (Some (task.Check a b settings assumed)) before now proofs = failed_check held (record { left = a; right = b; settings = settings; assumed = assumed }) before now proofs
+fault_means held (Some (task.Check a b settings assumed)) before now proofs = tt
 fault_means held (Some (task.Graph a mode)) before now proofs = tt
 fault_means held (Some (task.Sim a s mode power reset)) before now proofs = tt
 fault_means held (Some (task.Replay a b s mode)) before now proofs = tt
@@ -76,7 +77,7 @@ is_complete held (Some (task.Induct a b conflicts)) f found = induct_complete co
 -- so is one that ends at want of memory
 pub memory_is_complete : (held : Held) (job : Option Task) → IsComplete held job status.NoMemory
 memory_is_complete held None = inr refl
-memory_is_complete held (Some (task.Check a b settings assumed)) = memory_check held (record { left = a; right = b; settings = settings; assumed = assumed })
+memory_is_complete held (Some (task.Check a b settings assumed)) = λ can. tt
 memory_is_complete held (Some (task.Graph a mode)) = λ can. tt
 memory_is_complete held (Some (task.Sim a s mode power reset)) = λ can. tt
 memory_is_complete held (Some (task.Replay a b s mode)) = λ can. tt

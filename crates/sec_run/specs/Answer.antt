@@ -15,7 +15,7 @@ use Rattle.job_files.specs.Reading.{Held}
 use Rattle.job_circuit.specs.Reports.{IsGraphFound, IsSimFound}
 use Rattle.job_replay.specs.Replays.{IsReplayFound}
 use Rattle.job_check.specs.Check.{Check}
-use Rattle.job_check.specs.Found.{IsCheckFound}
+use Rattle.job_check.specs.Found.{IsFoundOf}
 use Rattle.job_gen.specs.Found.{IsGenFound}
 use Rattle.job_lrat.specs.Found.{IsLratFound}
 use Rattle.job_cert.specs.Found.{IsCertFound}
@@ -23,7 +23,7 @@ use Rattle.job_induct.specs.Found.{IsInductFound}
 
 -- what is true of a job where this is found
 abbrev pub IsFoundOfJob : Held → Task → Finding → Type 0
-IsFoundOfJob held (task.Check a b settings assumed) f = IsCheckFound held (record { left = a; right = b; settings = settings; assumed = assumed }) f
+IsFoundOfJob held (task.Check a b settings assumed) f = IsFoundOf held (record { left = a; right = b; settings = settings; assumed = assumed }) f
 IsFoundOfJob held (task.Graph a mode) f = IsGraphFound mode (held a) f
 IsFoundOfJob held (task.Sim a s mode power reset) f = IsSimFound mode (held a) (held s) power reset f
 IsFoundOfJob held (task.Replay a b s mode) f = IsReplayFound mode (held a) (held b) (held s) f

@@ -10,7 +10,7 @@ use Rattle.job_files.specs.Reading.{Held}
 use Rattle.job_circuit.specs.Reports.{GraphMeans, SimMeans, IsGraphComplete, IsSimComplete}
 use Rattle.job_replay.specs.Replays.{ReplayMeans, IsReplayComplete}
 use Rattle.job_check.specs.Check.{Check}
-use Rattle.check_meaning.specs.Answer.{CheckSays, IsCheckComplete}
+use Rattle.check_meaning.specs.Answer.{CheckMeans, IsCheckComplete}
 use Rattle.job_gen.specs.Answer.{GenMeans, IsGenAnswer}
 use Rattle.job_lrat.specs.Answer.{LratMeans, IsLratComplete}
 use Rattle.job_cert.specs.Answer.{CertMeans, IsCertComplete}
@@ -19,7 +19,7 @@ use Rattle.job_induct.specs.Answer.{InductMeans, IsInductComplete}
 -- What the status says of the job, with the proofs that the run ends with and what was written before and is now.
 abbrev pub Means : Held → Option Task → Option (List ℕ) → Option (List ℕ) → List Proof → StatusName → Type 0
 Means held None before now proofs name = SaysNothing name
-Means held (Some (task.Check a b settings assumed)) before now proofs name = CheckSays held (record { left = a; right = b; settings = settings; assumed = assumed }) before now proofs name
+Means held (Some (task.Check a b settings assumed)) before now proofs name = CheckMeans held (record { left = a; right = b; settings = settings; assumed = assumed }) before now proofs name
 Means held (Some (task.Graph a mode)) before now proofs name = GraphMeans mode (held a) before now proofs name
 Means held (Some (task.Sim a s mode power reset)) before now proofs name = SimMeans mode (held a) (held s) power reset before now proofs name
 Means held (Some (task.Replay a b s mode)) before now proofs name = ReplayMeans mode (held a) (held b) (held s) before now proofs name

@@ -147,8 +147,7 @@ fn digits_of(power: &Option<Word>) -> Option<&[u8]>
 /// Does the job, and writes its report last, by one write.
 ///
 /// The report is written whole with the statuses `Equal`, `Done`, `Different`, `NotShown`, `Limit`, `Refused` and `Cyclic`; at a
-/// write fault a front of it; at a read fault and at want of memory nothing. Want of memory alone is without a cause here. A job that isn't
-/// built is refused, and nothing is fetched for it.
+/// write fault a front of it; at a read fault and at want of memory nothing. Want of memory alone is without a cause here.
 pub fn run_job<S: Shelf, W: Sink>(alloc: Global, task: &Task, shelf: &mut S, out: &mut W) -> Status
     requires { IsAllowed task.now }
     ensures taken { IsTaken (W.taken out.old) (W.taken out.new) (S.held shelf.old) (Some task.now) result }

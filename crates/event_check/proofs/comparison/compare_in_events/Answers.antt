@@ -1,11 +1,13 @@
--- Interfaces that don't match, and enables that aren't known.
-use Rattle.std.proofs.Common.{[], sym, ap, ◌∙◌, subst, length, Ok}
+-- Interfaces that don't match, what is refused before the pairs, and the limit of an enable or of a class.
+use Rattle.std.proofs.Common.{◌∙◌, None, sym, ap, subst, length, Ok}
 use Rattle.outcome.specs.declared.verdict.Outcome.{Outcome}
 use Rattle.compare_base.specs.Compared.{refusal_of}
 use Rattle.compare_base.proofs.Refusals.{refused_by}
-use Rattle.event_names.specs.Compared.{ComparedInEvents}
-use Rattle.event_check.proofs.Answering.{told_outcome, unknown_compared}
-use Rattle.event_check.proofs.Refusals.{unknown_refused, unmatched}
+use Rattle.event_answers.specs.Compared.{ComparedInEvents}
+use Rattle.event_answers.specs.Reached.{ReachesPairs}
+use Rattle.event_answers.specs.declared.reaching.Reached.{Reached}
+use Rattle.event_answers.proofs.Told.{limit_at, told_outcome}
+use Rattle.event_check.proofs.Answering.{limit_compared, unmatched}
 use Rattle.event_check.proofs.comparison.compare_in_events.Goals as goal
 
 pub returns-in_err-shared : goal.returns-in_err-shared
@@ -13,14 +15,13 @@ returns-in_err-shared c =
     refused_by (ComparedInEvents c.args.a.now c.args.b.now c.args.settings.now) c.from_residual.result (refusal_of c.in_err-shared.field-0.0) c.from_residual.ensures.1
     (unmatched c.args.a.now c.args.b.now c.args.settings.now c.in_err-shared.field-0.0 c.in_err-shared.ensures.err)
 
-pub returns-in_err-found-in-Err : goal.returns-in_err-found-in-Err
-returns-in_err-found-in-Err c =
-    refused_by (ComparedInEvents c.args.a.now c.args.b.now c.args.settings.now) c.from_residual-in_err-found-in-Err.result c.in_err-found-in-Err.field-0.0 c.from_residual-in_err-found-in-Err.ensures.1
-    (unknown_refused c.args.a.now c.args.b.now c.args.settings.now c.in_ok-shared.ensures.ok.0 c.in-Err.error c.in-Err.ensures c.in_err-found-in-Err.field-0.0 c.in_err-found-in-Err.ensures)
-
 pub returns : goal.returns
 returns c =
     let a = c.args.a.now in
     let b = c.args.b.now in
-    subst (λ (o : Outcome). ComparedInEvents a b c.args.settings.now (Ok o)) (sym (told_outcome a b c.len.result c.new.result [] c.in_ok-found-in-Err.found c.outcome_of.result c.outcome_of.ensures (c.len.ensures ∙ ap length c.in_ok-shared.ensures.ok.1) c.new.ensures))
-    (unknown_compared a b c.args.settings.now c.keeps.ensures.sound c.keeps-2.ensures.sound c.requires.left c.requires.right c.in_ok-shared.ensures.ok.0 c.in-Err.error c.in-Err.ensures c.in_ok-found-in-Err.found c.in_ok-found-in-Err.ensures)
+    let s = c.args.settings.now in
+    let matches = c.in_ok-shared.ensures.ok.0 in
+    let stops = subst (λ (r : Reached). ReachesPairs a b s (Ok r)) c.in-Limit.is c.in_ok-classed.ensures in
+    let many = c.len-in-Limit.ensures ∙ ap length c.in_ok-shared.ensures.ok.1 in
+    subst (λ (o : Outcome). ComparedInEvents a b s (Ok o)) (sym (told_outcome a b c.len-in-Limit.result None c.in-Limit.exposed c.limit_found-found.result (limit_at c.in-Limit.at) c.outcome_of.result c.outcome_of.ensures many c.limit_found-found.ensures))
+    (limit_compared a b s c.keeps.ensures.sound c.keeps-2.ensures.sound c.requires.left c.requires.right matches c.in-Limit.exposed c.in-Limit.at stops)

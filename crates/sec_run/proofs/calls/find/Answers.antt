@@ -4,7 +4,7 @@ use Rattle.command_line.specs.declared.task.Task.{Task}
 use Rattle.job_base.specs.Ends.{EndsBy}
 use Rattle.job_base.specs.Reading.{ReadFailedAfter}
 use Rattle.job_files.specs.Reading.{ReadFailed}
-use Rattle.job_check.specs.Check.{all_paths, where_built}
+use Rattle.job_check.specs.Check.{all_paths}
 use Rattle.job_gen.proofs.Means.{gen_ends}
 use Rattle.sec_run.specs.Answer.{IsFoundOfJob}
 use Rattle.command_line.specs.Allowed.{IsAllowed}
@@ -35,6 +35,6 @@ same_paths P paths a b x y own given p q r h =
 pub returns-in-Check-clause-served : goal.returns-in-Check-clause-served
 returns-in-Check-clause-served g c serves fault =
     c.check.ensures.served
-    (same_paths (g.S.Shelf.serves c.args.shelf.now) (λ a b o. where_built c.in-Check.settings.mode o (all_paths a b o)) c.in-Check.a c.in-Check.b _ _ c.in-Check.assumed _ c.as_str.ensures c.as_str-in-Check.ensures c.path_of.ensures
+    (same_paths (g.S.Shelf.serves c.args.shelf.now) all_paths c.in-Check.a c.in-Check.b _ _ c.in-Check.assumed _ c.as_str.ensures c.as_str-in-Check.ensures c.path_of.ensures
     (subst (λ (job : Task). All (g.S.Shelf.serves c.args.shelf.now) (paths_of job)) c.in-Check.is serves))
     fault

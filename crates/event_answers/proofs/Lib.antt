@@ -1,0 +1,5 @@
+pub mod Stopping
+pub mod Refusals
+pub mod Finding
+pub mod Told
+pub use Rattle.event_names.proofs.Naming

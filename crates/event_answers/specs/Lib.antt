@@ -1,0 +1,13 @@
+pub mod Askable
+pub mod Finding
+pub mod Limits
+pub mod Reached
+pub use Rattle.event_names.specs.declared.names.Names
+pub use Rattle.event_names.specs.Nameable
+pub use Rattle.event_names.specs.Named
+pub use Rattle.event_names.specs.Fitting
+pub use Rattle.event_names.specs.Compared
+pub use Rattle.event_names.specs.Totals
+pub use Rattle.event_names.specs.Asked
+pub use Rattle.event_names.specs.Circuits
+pub use Rattle.event_names.specs.EventFormError

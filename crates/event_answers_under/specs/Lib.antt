@@ -1,0 +1,2 @@
+pub mod Pairs
+pub use Rattle.event_meaning_under.specs.Answered

@@ -1,0 +1,4 @@
+mod Nodes
+mod Loads
+mod Spelled
+pub mod Examples

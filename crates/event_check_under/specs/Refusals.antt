@@ -1,0 +1,12 @@
+-- Why circuits whose pairs can't be compared under an assumption aren't compared.
+use Rattle.assume_shape.specs.declared.shape.ShapeFault.TheVariants as fault
+use Rattle.compare_base.specs.declared.error.CompareError.{CompareError}
+use Rattle.compare_base.specs.declared.error.CompareError.TheVariants as refused
+use Rattle.event_under_form.specs.declared.error.EventUnderError.{EventUnderError}
+use Rattle.event_under_form.specs.declared.error.EventUnderError.TheVariants as under_error
+
+abbrev pub refusal_under : EventUnderError → CompareError
+refusal_under under_error.TooManyEvents = refused.TooManyEvents
+refusal_under (under_error.TooLarge side) = refused.TooLarge side
+refusal_under under_error.AssumptionTooLarge = refused.Assume fault.TooLarge
+refusal_under under_error.NoMemory = refused.NoMemory

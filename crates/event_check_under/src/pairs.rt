@@ -1,0 +1,70 @@
+//! What is found under an assumption of the pairs of two circuits with their class map.
+
+ghost use Rattle.std.specs.Prelude.{◌≡◌, ◌≤◌, length};
+ghost use Rattle.class_events.specs.Made.{AreEnablesCounted};
+ghost use Rattle.class_events.specs.Separated.{AreSeparated};
+ghost use Rattle.assume_premise.specs.Assumed.{CanBeAssumed};
+ghost use Rattle.event_answers.specs.Askable.{AreAskable};
+ghost use Rattle.event_answers_under.specs.Pairs.{FindsPairsUnder};
+ghost use Rattle.event_check_under.specs.Refusals.{refusal_under};
+
+use assume_premise::Premise;
+use assume_shape::ShapeFault;
+use class_events::Separated;
+use compare_base::CompareError;
+use event_answers::{Asked, Found, Names, named_findings};
+use event_setup_laws::EventPairs;
+use event_under_form::{EventUnderError, compare_events_under};
+use sec_base::MAX_CONFLICTS;
+use std::alloc::Global;
+
+/// Compares the pairs of two circuits whose latches have their classes, under the assumption of this premise.
+pub(crate) fn compare_pairs(
+    alloc: Global,
+    separated: Separated,
+    names: &Names,
+    asked: &Asked,
+    premise: &Premise,
+    conflicts: u32,
+) -> Result<Found, CompareError>
+    requires counted { AreEnablesCounted separated.events }
+    requires separated { AreSeparated separated.events separated.aparts.items }
+    requires askable { AreAskable separated.events names.now asked.now }
+    requires premise { CanBeAssumed premise.now (length names.now.columns) }
+    requires conflicts { conflicts ≤ MAX_CONFLICTS }
+    ensures { FindsPairsUnder separated.events.left separated.events.right names.now asked.now premise.now conflicts result }
+{
+    let Separated { events, aparts } = separated;
+    let mut events = events;
+    events.keeps();
+    let compared = EventPairs {
+        pairs: asked.pairs.as_slice(),
+        depths: asked.depths.as_slice(),
+        names: &names.columns,
+        cut: asked.cut,
+    };
+    let aparts = aparts.as_slice();
+    match compare_events_under(alloc, &mut events, aparts, &compared, premise, conflicts) {
+        Ok(findings) => {
+            events.keeps();
+            let found = named_findings(alloc, names, findings, events.classes())?;
+            Ok(found)
+        }
+        Err(error) => {
+            events.keeps();
+            Err(refusal_under(error))
+        }
+    }
+}
+
+/// Why circuits whose pairs can't be unfolded, or are too many for the assumption, aren't compared.
+fn refusal_under(error: EventUnderError) -> CompareError
+    ensures { result ≡ refusal_under error }
+{
+    match error {
+        EventUnderError::TooManyEvents => CompareError::TooManyEvents,
+        EventUnderError::TooLarge(side) => CompareError::TooLarge(side),
+        EventUnderError::AssumptionTooLarge => CompareError::Assume(ShapeFault::TooLarge),
+        EventUnderError::NoMemory => CompareError::NoMemory,
+    }
+}

@@ -1,0 +1,9 @@
+//! What an outcome that fits two circuits in the event form under an assumption on their inputs says of them.
+#![tactic(auto)]
+
+mod laws;
+
+pub use laws::{
+    answers_are_exact_under, cut_outcomes_differ_under, different_outcomes_differ_under,
+    equal_outcomes_agree_under, unshown_outcomes_are_framed_under,
+};

@@ -1,0 +1,4 @@
+pub mod Designs
+pub mod Cases
+pub mod Texts
+pub mod Answers

@@ -1,0 +1,4 @@
+pub mod Showing
+pub mod Questions
+pub mod Refusing
+pub mod Fitting

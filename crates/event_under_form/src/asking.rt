@@ -1,0 +1,33 @@
+//! What is asked of the pairs under an assumption.
+
+ghost use Rattle.std.specs.Prelude.{◌≡◌, length, Err, IfOk};
+ghost use Rattle.pair_events.specs.View.{side_of_both};
+ghost use Rattle.event_form.specs.Asked.{AreAsked};
+ghost use Rattle.assume_premise.specs.Assumed.{CanBeAssumed};
+ghost use Rattle.assume_queries.specs.declared.map.UnderError.TheVariants as asked_error;
+ghost use Rattle.event_under.specs.Places.{IsOverAtNodes};
+ghost use Rattle.event_under_form.specs.Asked.{AreAskedAssumed};
+
+use assume_premise::Premise;
+use event_findings::EventPairs;
+use event_witness_under::{EventQuestions, UnderError, ask_under};
+use obligations::Obligation;
+use pair_events::Events;
+use std::alloc::Global;
+
+/// What is asked of the pairs, each query under the assumption.
+pub(crate) fn questions_of(
+    alloc: Global,
+    events: &Events,
+    compared: &EventPairs<'_>,
+    premise: &Premise,
+    asked: &[Obligation],
+) -> Result<EventQuestions, UnderError>
+    requires premise { CanBeAssumed premise.now (length compared.now.names.now) }
+    requires asked { AreAsked (side_of_both events.now) events.now.events compared.now.cut compared.now.pairs.now asked.now }
+    ensures asked { IfOk result (AreAskedAssumed events.now compared.now premise.now asked.now) }
+    ensures over { result ≡ Err asked_error.TooLarge → IsOverAtNodes premise.now.weight (side_of_both events.now) compared.now.pairs.now }
+{
+    events.keeps();
+    ask_under(alloc, events.graph(), &premise.own, premise.weight, asked)
+}
