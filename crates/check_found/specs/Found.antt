@@ -56,7 +56,6 @@ IsAnsweredUnder held check r = OfThree held check check.assumed (OfThreeNets (λ
 
 -- why a comparison is refused; the first cause in the order of the work
 abbrev pub IsRefusal : Held → Check → Refusal → Type 0
-IsRefusal held check refusal.NotBuilt = ⊥
 IsRefusal held check (refusal.TooLong f) = OfFile held check f IsTooLong
 IsRefusal held check (refusal.Text f line (line_fault.Circuit kind)) = OfFile held check f (λ x. HasFault x line kind)
 IsRefusal held check (refusal.Text f line line_fault.BadHeader) = ⊥

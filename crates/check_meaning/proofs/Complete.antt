@@ -80,7 +80,6 @@ module _ (held : Held) (check : Check) (told : AreTold held check check.assumed)
 
   module _ (answered : AreAnswered held check) where
     no_refusal : (r : Refusal) → IsRefusal held check r → ⊥
-    no_refusal refusal.NotBuilt h = h
     no_refusal (refusal.TooLong file.A) h = is_short told.left told.left_accepted (of_left IsTooLong h)
     no_refusal (refusal.TooLong file.B) h = is_short told.right told.right_accepted (of_texts _ h).2
     no_refusal (refusal.TooLong file.C) h = of_third IsTooLong is_short h

@@ -27,7 +27,6 @@ module _ (left right : Option (List ℕ)) (x y : List ℕ) (is : left ≡ Some x
 
   -- nothing is refused
   stands : (r : Refusal) → IsInductRefusal left right r → ⊥
-  stands refusal.NotBuilt h = h
   stands (refusal.TooLong file.A) h = is_short x can.left (of_left IsTooLong h)
   stands (refusal.TooLong file.B) h = is_short y can.right (of_right IsTooLong h.1)
   stands (refusal.TooLong file.C) h = h

@@ -2,9 +2,7 @@
 use Rattle.std.proofs.Common.{◌≡◌, ℕ, List, refl, sym, ◌∙◌, subst, inl, inr, ◌⊎◌, Option}
 use Rattle.sec_base.specs.Outside.{Takes}
 use Rattle.pair_decide.specs.declared.query.Proof.{Proof}
-use Rattle.job_base.specs.declared.finding.Refusal.TheVariants as refusal
 use Rattle.job_base.specs.declared.finding.Finding.{Finding}
-use Rattle.job_base.specs.declared.finding.Finding.TheVariants as finding
 use Rattle.job_base.specs.declared.status.StatusName.{StatusName}
 use Rattle.job_base.specs.declared.status.StatusName.TheVariants as status
 use Rattle.job_base.specs.Lines.{finding_text}
@@ -41,7 +39,7 @@ report_means report limit before now f proofs status.WriteFault is done undecide
 report_means report limit before now f proofs status.NoMemory is done undecided w = tt
 report_means report limit before now f proofs status.Cyclic is done undecided w = tt
 
--- a job that isn't built, and words that are no job, say nothing
+-- words that are no job say nothing
 pub says_nothing : (before now : Option (List ℕ)) (f : Finding) (proofs : List Proof) (name : StatusName) → SaysNothing (status_of f) → IsWrittenAs before now f proofs name → SaysNothing name
 says_nothing before now f proofs status.Equal h w = subst SaysNothing w.1 h
 says_nothing before now f proofs status.Different h w = subst SaysNothing w.1 h
@@ -54,10 +52,6 @@ says_nothing before now f proofs status.ReadFault h w = tt
 says_nothing before now f proofs status.WriteFault h w = tt
 says_nothing before now f proofs status.NoMemory h w = tt
 says_nothing before now f proofs status.Cyclic h w = tt
-
--- a job that isn't built
-pub unbuilt_means : (before now : Option (List ℕ)) (f : Finding) (proofs : List Proof) (name : StatusName) → f ≡ finding.Refused refusal.NotBuilt → IsWrittenAs before now f proofs name → SaysNothing name
-unbuilt_means before now f proofs name is w = says_nothing before now f proofs name (subst (λ (g : Finding). SaysNothing (status_of g)) (sym is) tt) w
 
 -- what is said of the status of a finding, and of want of memory, is said of a run that wrote the finding without a fault
 pub by_finding : (P : StatusName → Type 0) (before now : Option (List ℕ)) (f : Finding) (proofs : List Proof) (name : StatusName) → IsWrittenAs before now f proofs name →

@@ -124,7 +124,6 @@ shape_text (shape.Input name) = codes "refused C Input " ++ name ++ 10 ∷ []
 shape_text shape.TooLarge = codes "refused C TooLarge" ++ 10 ∷ []
 
 abbrev pub refusal_text : Refusal → List ℕ
-refusal_text refusal.NotBuilt = codes "refused NotYet" ++ 10 ∷ []
 refusal_text (refusal.TooLong f) = codes "refused " ++ file_word f ++ codes " TooLong" ++ 10 ∷ []
 refusal_text (refusal.Text f line fault) = codes "refused " ++ file_word f ++ codes " line " ++ decimal line ++ 32 ∷ [] ++ line_fault_text fault ++ 10 ∷ []
 refusal_text (refusal.Design f fault) = codes "refused " ++ file_word f ++ 32 ∷ [] ++ design_fault_text fault ++ 10 ∷ []

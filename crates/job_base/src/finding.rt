@@ -41,8 +41,6 @@ pub enum LineFault {
 /// Why a job ends without an answer.
 #[derive(Drop)]
 pub enum Refusal {
-    /// No such job is built yet.
-    NotBuilt,
     /// The file has more than 16,777,216 bytes.
     TooLong(File),
     /// The first faulty line of a text, and what is wrong with it.

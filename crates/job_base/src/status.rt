@@ -21,7 +21,7 @@ pub enum StatusName {
     NotShown,
     /// A query wasn't decided within the number of conflicts.
     Limit,
-    /// A text, an interface or a size is refused, or the job isn't built.
+    /// A text, an interface, a size, a stimulus, a power word, an assumption or the name of a pair is refused.
     Refused,
     /// The words are no job.
     Words,

@@ -232,7 +232,6 @@ fn put_refusal(alloc: Global, text: &mut Vec<u8>, refusal: &Refusal) -> Result<(
     ensures { OnOk result (text.new.items ≡ text.old.items ++ refusal_text refusal.now) }
 {
     match refusal {
-        Refusal::NotBuilt => put(text, b"refused NotYet\n"),
         Refusal::TooLong(file) => {
             put_file(text, *file)?;
             put(text, b" TooLong\n")

@@ -49,7 +49,6 @@ module _ (circuit : Option (List ℕ)) (x : List ℕ) (is : circuit ≡ Some x) 
   circuit_stands (refusal.Record file.B place kind) h = h
   circuit_stands (refusal.Record file.C place kind) h = h
   circuit_stands (refusal.Record file.S place kind) h = h
-  circuit_stands refusal.NotBuilt h = h
   circuit_stands (refusal.Interface name) h = h
   circuit_stands (refusal.TooLarge side) h = h
   circuit_stands (refusal.Misfit m) h = h
@@ -74,7 +73,6 @@ module _ (mode : Mode) (circuit : Option (List ℕ)) (x : List ℕ) (is : circui
   graph_stands (refusal.Text f line fault) h = circuit_stands circuit x is can.circuit (refusal.Text f line fault) h
   graph_stands (refusal.Design f fault) h = circuit_stands circuit x is can.circuit (refusal.Design f fault) h
   graph_stands (refusal.Record f place kind) h = circuit_stands circuit x is can.circuit (refusal.Record f place kind) h
-  graph_stands refusal.NotBuilt h = h
   graph_stands (refusal.Interface name) h = h
   graph_stands (refusal.Misfit m) h = h
   graph_stands refusal.TooManyEvents h = h
@@ -112,7 +110,6 @@ module _ (mode : Mode) (circuit stimulus power : Option (List ℕ)) (reset : Boo
   run_stands (refusal.Assume fault) h = h
   run_stands refusal.Vacuous h = h
   run_stands (refusal.Pair name) h = h
-  run_stands refusal.NotBuilt h = h
   run_stands (refusal.TooLong file.A) h = circuit_stands circuit x is can.circuit (refusal.TooLong file.A) h
   run_stands (refusal.TooLong file.B) h = circuit_stands circuit x is can.circuit (refusal.TooLong file.B) h
   run_stands (refusal.Text file.A line fault) h = circuit_stands circuit x is can.circuit (refusal.Text file.A line fault) h

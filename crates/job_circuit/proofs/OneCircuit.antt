@@ -63,7 +63,6 @@ circuit_ends P failed rose circuit (load_error.Aiger aiger_error.NoMemory) refus
 
 -- a refusal of the circuit is one of the report of its latch graph
 pub graph_circuit : (mode : Mode) (circuit : Option (List ℕ)) (r : Refusal) → IsCircuitRefusal circuit r → IsGraphRefusal mode circuit r
-graph_circuit mode circuit refusal.NotBuilt h = h
 graph_circuit mode circuit (refusal.TooLong f) h = h
 graph_circuit mode circuit (refusal.Text f line fault) h = h
 graph_circuit mode circuit (refusal.Design f fault) h = h
@@ -79,7 +78,6 @@ graph_circuit mode circuit (refusal.Pair name) h = h
 
 -- and one of the simulation
 pub sim_circuit : (mode : Mode) (circuit stimulus power : Option (List ℕ)) (r : Refusal) → IsCircuitRefusal circuit r → IsSimRefusal mode circuit stimulus power r
-sim_circuit mode circuit stimulus power refusal.NotBuilt h = h
 sim_circuit mode circuit stimulus power (refusal.TooLong file.A) h = h
 sim_circuit mode circuit stimulus power (refusal.TooLong file.B) h = h
 sim_circuit mode circuit stimulus power (refusal.TooLong file.C) h = h

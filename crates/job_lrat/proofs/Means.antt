@@ -121,7 +121,6 @@ module _ (clauses proof : Option (List ℕ)) (x y : List ℕ) (is : clauses ≡ 
   stands (refusal.Text file.S line line_fault.BadRow) h = h
   stands (refusal.Design f fault) h = h
   stands (refusal.Record f place kind) h = h
-  stands refusal.NotBuilt h = h
   stands (refusal.Interface name) h = h
   stands (refusal.TooLarge side) h = h
   stands (refusal.Misfit m) h = h

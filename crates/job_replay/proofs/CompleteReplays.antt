@@ -43,7 +43,6 @@ module _ (mode : Mode) (left right stimulus : Option (List ℕ)) (x y z : List �
   names_are names rows spells = same_names z can.names names can.rows rows can.stimulus.form spells.form
 
   replay_stands : (r : Refusal) → IsReplayRefusal mode left right stimulus r → ⊥
-  replay_stands refusal.NotBuilt h = h
   replay_stands (refusal.TooLong file.A) h = not_long left x is can.left h
   replay_stands (refusal.TooLong file.B) h = not_long right y other can.right h.1
   replay_stands (refusal.TooLong file.C) h = h

@@ -58,7 +58,6 @@ OfStimulus left right stimulus other P = ⊥
 
 -- why a replay is refused; the first cause in the order of the work
 abbrev pub IsReplayRefusal : Mode → Option (List ℕ) → Option (List ℕ) → Option (List ℕ) → Refusal → Type 0
-IsReplayRefusal mode left right stimulus refusal.NotBuilt = ⊥
 IsReplayRefusal mode left right stimulus (refusal.TooLong file.S) = OfStimulus left right stimulus file.S IsTooLong
 IsReplayRefusal mode left right stimulus (refusal.TooLong f) = OfCircuit left right f IsTooLong
 IsReplayRefusal mode left right stimulus (refusal.Text f line (line_fault.Circuit kind)) = OfCircuit left right f (λ x. HasFault x line kind)
