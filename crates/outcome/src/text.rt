@@ -37,14 +37,52 @@ fn answer_word(answer: PairAnswer) -> &'static str
     }
 }
 
-fn put_pair_name(text: &mut Vec<u8>, name: &PairName) -> Result<(), NoMemory>
-    ensures { OnOk result (text.new.items ≡ text.old.items ++ pair_text name.now) }
+/// Puts the word behind what stands before it.
+fn put_behind(text: &mut Vec<u8>, front: &[u8], word: &[u8]) -> Result<(), NoMemory>
+    ensures { OnOk result (text.new.items ≡ text.old.items ++ (front.now ++ word.now)) }
+{
+    put(text, front)?;
+    put(text, word)
+}
+
+/// Puts the word behind what stands before it, and ends the line.
+fn put_line(text: &mut Vec<u8>, front: &[u8], word: &[u8]) -> Result<(), NoMemory>
+    ensures { OnOk result (text.new.items ≡ text.old.items ++ (front.now ++ word.now ++ 10 ∷ [])) }
+{
+    put_behind(text, front, word)?;
+    put(text, b"\n")
+}
+
+/// Puts the number behind what stands before it.
+fn put_count(alloc: Global, text: &mut Vec<u8>, front: &[u8], number: u64) -> Result<(), NoMemory>
+    ensures { OnOk result (text.new.items ≡ text.old.items ++ (front.now ++ decimal number)) }
+{
+    put(text, front)?;
+    put_number(alloc, text, number)
+}
+
+/// Puts the number behind what stands before it, and ends the line.
+fn put_count_line(
+    alloc: Global,
+    text: &mut Vec<u8>,
+    front: &[u8],
+    number: u64,
+) -> Result<(), NoMemory>
+    ensures { OnOk result (text.new.items ≡ text.old.items ++ (front.now ++ decimal number ++ 10 ∷ [])) }
+{
+    put_count(alloc, text, front, number)?;
+    put(text, b"\n")
+}
+
+/// Puts the pair of a verdict behind what stands before it.
+fn put_pair_name(text: &mut Vec<u8>, front: &[u8], name: &PairName) -> Result<(), NoMemory>
+    ensures { OnOk result (text.new.items ≡ text.old.items ++ (front.now ++ pair_text name.now)) }
 {
     match name {
-        PairName::Output(word) => put(text, word.as_slice()),
+        PairName::Output(word) => put_behind(text, front, word.as_slice()),
         PairName::Next(word) => {
-            put(text, b"next ")?;
-            put(text, word.as_slice())
+            put(text, front)?;
+            put_behind(text, b"next ", word.as_slice())
         }
     }
 }
@@ -54,14 +92,8 @@ fn put_pair_front(text: &mut Vec<u8>, name: &PairName) -> Result<(), NoMemory>
     ensures { OnOk result (text.new.items ≡ text.old.items ++ pair_front name.now) }
 {
     match name {
-        PairName::Output(word) => {
-            put(text, b"pair ")?;
-            put(text, word.as_slice())
-        }
-        PairName::Next(word) => {
-            put(text, b"next ")?;
-            put(text, word.as_slice())
-        }
+        PairName::Output(word) => put_behind(text, b"pair ", word.as_slice()),
+        PairName::Next(word) => put_behind(text, b"next ", word.as_slice()),
     }
 }
 
@@ -84,11 +116,13 @@ fn put_pair(
     ensures { OnOk result (text.new.items ≡ text.old.items ++ pair_line mode pair.now) }
 {
     put_pair_front(text, &pair.name)?;
-    put(text, size_word(mode).as_bytes())?;
-    put_number(alloc, text, u64::from(pair.size))?;
-    put(text, b" ")?;
-    put(text, answer_word(pair.answer).as_bytes())?;
-    put(text, b"\n")
+    put_count(
+        alloc,
+        text,
+        size_word(mode).as_bytes(),
+        u64::from(pair.size),
+    )?;
+    put_line(text, b" ", answer_word(pair.answer).as_bytes())
 }
 
 fn put_each(
@@ -109,80 +143,83 @@ fn put_each(
 fn put_bits(text: &mut Vec<u8>, left: bool, right: bool) -> Result<(), NoMemory>
     ensures { OnOk result (text.new.items ≡ text.old.items ++ bits_text left right) }
 {
-    put(text, b" values ")?;
-    text.push(digit_of(left))?;
-    put(text, b" ")?;
-    text.push(digit_of(right))?;
-    put(text, b"\n")
+    let digits = [digit_of(left), b' ', digit_of(right), b'\n'];
+    put_behind(text, b" values ", &digits)
 }
 
 #[tactic(auto, unfolding(crate::specs::Report::values_text))]
 fn put_values(alloc: Global, text: &mut Vec<u8>, witness: &Witness) -> Result<(), NoMemory>
     ensures { OnOk result (text.new.items ≡ text.old.items ++ values_text witness.now) }
 {
-    put(text, b" cycle ")?;
-    put_number(alloc, text, u64::from(witness.cycle))?;
+    put_count(alloc, text, b" cycle ", u64::from(witness.cycle))?;
     put_bits(text, witness.left, witness.right)
 }
 
-/// Puts the pair, the cycle and the values of a sequence, and then its stimulus.
-fn put_witness(alloc: Global, text: &mut Vec<u8>, witness: &Witness) -> Result<(), NoMemory>
-    ensures { OnOk result (text.new.items ≡ text.old.items ++ witness_text witness.now) }
+/// Puts the pair, the cycle and the values of a sequence behind what stands before them, and then its stimulus.
+fn put_witness(
+    alloc: Global,
+    text: &mut Vec<u8>,
+    front: &[u8],
+    witness: &Witness,
+) -> Result<(), NoMemory>
+    ensures { OnOk result (text.new.items ≡ text.old.items ++ (front.now ++ witness_text witness.now)) }
 {
-    put_pair_name(text, &witness.pair)?;
+    put_pair_name(text, front, &witness.pair)?;
     put_values(alloc, text, witness)?;
     put_stimulus(alloc, text, &witness.stimulus)
 }
 
 /// Puts the rest of a line: a digit for each latch, or `-` without latches.
-fn put_power(text: &mut Vec<u8>, power: &[bool]) -> Result<(), NoMemory>
-    ensures { OnOk result (text.new.items ≡ text.old.items ++ row_line power.now) }
+fn put_power(text: &mut Vec<u8>, front: &[u8], power: &[bool]) -> Result<(), NoMemory>
+    ensures { OnOk result (text.new.items ≡ text.old.items ++ (front.now ++ row_line power.now)) }
 {
     if power.is_empty() {
-        return put(text, b"-\n");
+        return put_behind(text, front, b"-\n");
     }
+    put(text, front)?;
     put_digits(text, power)?;
     put(text, b"\n")
 }
 
-/// Puts a sequence from the initial values, and then the power-ups of both circuits.
+/// Puts a sequence from the initial values that shows a difference, and then the power-ups of both circuits.
 fn put_reset_witness(
     alloc: Global,
     text: &mut Vec<u8>,
+    front: &[u8],
     shown: &ResetWitness,
 ) -> Result<(), NoMemory>
-    ensures { OnOk result (text.new.items ≡ text.old.items ++ reset_witness_text shown.now) }
+    ensures { OnOk result (text.new.items ≡ text.old.items ++ (front.now ++ reset_witness_text shown.now)) }
 {
-    put_witness(alloc, text, &shown.witness)?;
-    put(text, b"power A ")?;
-    put_power(text, shown.left_power.as_slice())?;
-    put(text, b"power B ")?;
-    put_power(text, shown.right_power.as_slice())
+    put_witness(alloc, text, front, &shown.witness)?;
+    put_power(text, b"power A ", shown.left_power.as_slice())?;
+    put_power(text, b"power B ", shown.right_power.as_slice())
 }
 
-/// Puts a latch and its circuit.
-fn put_latch(text: &mut Vec<u8>, side: Side, name: &Word) -> Result<(), NoMemory>
-    ensures { OnOk result (text.new.items ≡ text.old.items ++ latch_text side name.now) }
+/// What stands before the name of a latch of this circuit.
+fn latch_front(side: Side) -> &'static str
+    ensures { (name : List ℕ) → latch_text side name ≡ result.now ++ name }
 {
     match side {
-        Side::A => {
-            put(text, b"A:")?;
-            put(text, name.as_slice())
-        }
-        Side::B => {
-            put(text, b"B:")?;
-            put(text, name.as_slice())
-        }
+        Side::A => "A:",
+        Side::B => "B:",
     }
 }
 
-/// Puts a latch of the lower of two classes, where that doesn't always load.
-fn put_low(text: &mut Vec<u8>, low: &Option<(Side, Word)>) -> Result<(), NoMemory>
-    ensures { OnOk result (text.new.items ≡ text.old.items ++ low_text low.now) }
+/// Puts a latch and its circuit behind what stands before them.
+fn put_latch(text: &mut Vec<u8>, front: &[u8], side: Side, name: &Word) -> Result<(), NoMemory>
+    ensures { OnOk result (text.new.items ≡ text.old.items ++ (front.now ++ latch_text side name.now)) }
+{
+    put(text, front)?;
+    put_behind(text, latch_front(side).as_bytes(), name.as_slice())
+}
+
+/// Puts a latch of the lower of two classes, where that doesn't always load, behind what stands before it.
+fn put_low(text: &mut Vec<u8>, front: &[u8], low: &Option<(Side, Word)>) -> Result<(), NoMemory>
+    ensures { OnOk result (text.new.items ≡ text.old.items ++ (front.now ++ low_text low.now)) }
 {
     match low {
-        Some((side, name)) => put_latch(text, *side, name),
-        None => put(text, b"always"),
+        Some((side, name)) => put_latch(text, front, *side, name),
+        None => put_behind(text, front, b"always"),
     }
 }
 
@@ -191,14 +228,15 @@ fn put_classes(alloc: Global, text: &mut Vec<u8>, separation: &Separation) -> Re
     ensures { let s = separation.now in
         OnOk result (text.new.items ≡ text.old.items ++ (codes "apart " ++ decimal s.low ++ 32 ∷ [] ++ decimal s.high ++ 32 ∷ [] ++ low_text s.low_latch ++ 32 ∷ [] ++ latch_text s.high_latch.0 s.high_latch.1)) }
 {
-    put(text, b"apart ")?;
-    put_number(alloc, text, u64::from(separation.low))?;
-    put(text, b" ")?;
-    put_number(alloc, text, u64::from(separation.high))?;
-    put(text, b" ")?;
-    put_low(text, &separation.low_latch)?;
-    put(text, b" ")?;
-    put_latch(text, separation.high_latch.0, &separation.high_latch.1)
+    put_count(alloc, text, b"apart ", u64::from(separation.low))?;
+    put_count(alloc, text, b" ", u64::from(separation.high))?;
+    put_low(text, b" ", &separation.low_latch)?;
+    put_latch(
+        text,
+        b" ",
+        separation.high_latch.0,
+        &separation.high_latch.1,
+    )
 }
 
 /// Puts two classes, a latch of each, the values of their enables and the frame that gives them.
@@ -224,47 +262,43 @@ fn put_separations(alloc: Global, text: &mut Vec<u8>, apart: &[Separation]) -> R
     Ok(())
 }
 
-/// Puts a pair, the values of both sides and the frame that gives them, and then what tells its classes apart.
-fn put_unshown(alloc: Global, text: &mut Vec<u8>, unshown: &Unshown) -> Result<(), NoMemory>
-    ensures { OnOk result (text.new.items ≡ text.old.items ++ unshown_text unshown.now) }
+/// Puts a pair, the values of both sides and the frame that gives them, and then what tells its classes apart, behind what stands
+/// before them.
+fn put_unshown(
+    alloc: Global,
+    text: &mut Vec<u8>,
+    front: &[u8],
+    unshown: &Unshown,
+) -> Result<(), NoMemory>
+    ensures { OnOk result (text.new.items ≡ text.old.items ++ (front.now ++ unshown_text unshown.now)) }
 {
-    put_pair_name(text, &unshown.pair)?;
+    put_pair_name(text, front, &unshown.pair)?;
     put_bits(text, unshown.left, unshown.right)?;
     put_frame(alloc, text, &unshown.frame)?;
     put_separations(alloc, text, unshown.apart.as_slice())
 }
 
-/// Puts what is shown where the circuits may still agree, and what shows it.
+/// Puts the verdict that the circuits may still agree, and what shows it.
 fn put_why(alloc: Global, text: &mut Vec<u8>, why: &Why) -> Result<(), NoMemory>
-    ensures { OnOk result (text.new.items ≡ text.old.items ++ why_text why.now) }
+    ensures { OnOk result (text.new.items ≡ text.old.items ++ (codes "verdict not-shown " ++ why_text why.now)) }
 {
     match why {
-        Why::Cut(witness) => {
-            put(text, b"cut ")?;
-            put_witness(alloc, text, witness)
-        }
-        Why::Events(unshown) => {
-            put(text, b"events ")?;
-            put_unshown(alloc, text, unshown)
-        }
+        Why::Cut(witness) => put_witness(alloc, text, b"verdict not-shown cut ", witness),
+        Why::Events(unshown) => put_unshown(alloc, text, b"verdict not-shown events ", unshown),
     }
 }
 
-/// Puts the place where the limit was met.
+/// Puts the verdict that the limit was met, and the place.
 fn put_limit_at(text: &mut Vec<u8>, at: &LimitAt) -> Result<(), NoMemory>
-    ensures { OnOk result (text.new.items ≡ text.old.items ++ limit_text at.now) }
+    ensures { OnOk result (text.new.items ≡ text.old.items ++ (codes "verdict limit " ++ limit_text at.now)) }
 {
     match at {
-        LimitAt::Assume(_) => put(text, b"assume"),
+        LimitAt::Assume(_) => put(text, b"verdict limit assume"),
         LimitAt::Recover(side, name, _) => {
-            put(text, b"recover ")?;
-            put_latch(text, *side, name)
+            put_latch(text, b"verdict limit recover ", *side, name)
         }
-        LimitAt::Class(side, name, _, _) => {
-            put(text, b"class ")?;
-            put_latch(text, *side, name)
-        }
-        LimitAt::Pair(name) => put_pair_name(text, name),
+        LimitAt::Class(side, name, _, _) => put_latch(text, b"verdict limit class ", *side, name),
+        LimitAt::Pair(name) => put_pair_name(text, b"verdict limit ", name),
     }
 }
 
@@ -276,11 +310,8 @@ fn put_limit(
 ) -> Result<(), NoMemory>
     ensures { OnOk result (text.new.items ≡ text.old.items ++ (codes "verdict limit " ++ limit_text at.now ++ codes " conflicts " ++ decimal conflicts ++ 10 ∷ [])) }
 {
-    put(text, b"verdict limit ")?;
     put_limit_at(text, at)?;
-    put(text, b" conflicts ")?;
-    put_number(alloc, text, u64::from(conflicts))?;
-    put(text, b"\n")
+    put_count_line(alloc, text, b" conflicts ", u64::from(conflicts))
 }
 
 fn put_verdict(
@@ -293,18 +324,11 @@ fn put_verdict(
 {
     match verdict {
         Verdict::Equal => put(text, b"verdict equal\n"),
-        Verdict::Different(witness) => {
-            put(text, b"verdict different ")?;
-            put_witness(alloc, text, witness)
-        }
+        Verdict::Different(witness) => put_witness(alloc, text, b"verdict different ", witness),
         Verdict::DifferentFrom(shown) => {
-            put(text, b"verdict different ")?;
-            put_reset_witness(alloc, text, shown)
+            put_reset_witness(alloc, text, b"verdict different ", shown)
         }
-        Verdict::NotShown(why) => {
-            put(text, b"verdict not-shown ")?;
-            put_why(alloc, text, why)
-        }
+        Verdict::NotShown(why) => put_why(alloc, text, why),
         Verdict::Limit(at) => put_limit(alloc, text, at, conflicts),
     }
 }
@@ -317,11 +341,7 @@ fn put_through(alloc: Global, text: &mut Vec<u8>, outcome: &Outcome) -> Result<(
         return Ok(());
     }
     match outcome.verdict {
-        Verdict::Equal => {
-            put(text, b"through ")?;
-            put_number(alloc, text, u64::from(outcome.through))?;
-            put(text, b"\n")
-        }
+        Verdict::Equal => { put_count_line(alloc, text, b"through ", u64::from(outcome.through)) }
         _ => Ok(()),
     }
 }
@@ -351,11 +371,7 @@ fn put_class_count(
 {
     match mode {
         Mode::Plain => Ok(()),
-        Mode::Event => {
-            put(text, b"classes ")?;
-            put_number(alloc, text, u64::from(classes))?;
-            put(text, b"\n")
-        }
+        Mode::Event => put_count_line(alloc, text, b"classes ", u64::from(classes)),
     }
 }
 
@@ -376,13 +392,9 @@ fn put_pairs(
 fn put_counts(alloc: Global, text: &mut Vec<u8>, outcome: &Outcome) -> Result<(), NoMemory>
     ensures { OnOk result (text.new.items ≡ text.old.items ++ counts_text outcome.now) }
 {
-    put(text, b"inputs ")?;
-    put_number(alloc, text, u64::from(outcome.inputs))?;
-    put(text, b"\nlatches ")?;
-    put_number(alloc, text, u64::from(outcome.left_latches))?;
-    put(text, b" ")?;
-    put_number(alloc, text, u64::from(outcome.right_latches))?;
-    put(text, b"\n")
+    put_count_line(alloc, text, b"inputs ", u64::from(outcome.inputs))?;
+    put_count(alloc, text, b"latches ", u64::from(outcome.left_latches))?;
+    put_count_line(alloc, text, b" ", u64::from(outcome.right_latches))
 }
 
 /// Puts a line that tells that runs begin with the latches' initial values, where they do.
@@ -401,11 +413,7 @@ fn put_assumed(text: &mut Vec<u8>, assumed: &Option<Word>) -> Result<(), NoMemor
 {
     match assumed {
         None => Ok(()),
-        Some(name) => {
-            put(text, b"assume ")?;
-            put(text, name.as_slice())?;
-            put(text, b"\n")
-        }
+        Some(name) => put_line(text, b"assume ", name.as_slice()),
     }
 }
 
@@ -413,8 +421,7 @@ fn put_assumed(text: &mut Vec<u8>, assumed: &Option<Word>) -> Result<(), NoMemor
 fn put_exposed(alloc: Global, text: &mut Vec<u8>, exposed: &Words) -> Result<(), NoMemory>
     ensures { OnOk result (text.new.items ≡ text.old.items ++ exposed_line exposed.now) }
 {
-    put(text, b"exposed ")?;
-    put_number(alloc, text, exposed.len() as u64)?;
+    put_count(alloc, text, b"exposed ", exposed.len() as u64)?;
     put_names(text, exposed)?;
     put(text, b"\n")
 }

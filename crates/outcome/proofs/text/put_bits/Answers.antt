@@ -1,20 +1,12 @@
-use Rattle.std.proofs.Common.{◌≡◌, ℕ, List, [], ◌∷◌, ◌++◌, OnOk, Result, Ok, Err, ap, ◌∙◌}
-use Rattle.std.proofs.lemmas.List.{append_assoc}
+use Rattle.std.proofs.Common.{◌≡◌, ℕ, [], ◌∷◌, ◌++◌, codes, OnOk, subst}
+use Rattle.sec_base.specs.Texts.{digit_of}
 use Rattle.outcome.specs.Report.{bits_text}
 use Rattle.outcome.proofs.text.put_bits.Goals as goal
-
--- five pieces that are put one behind the other
-five_pieces : (t a b c d e x y z w v : List ℕ) → x ≡ t ++ a → y ≡ x ++ b → z ≡ y ++ c → w ≡ z ++ d → v ≡ w ++ e → v ≡ t ++ (a ++ b ++ c ++ d ++ e)
-five_pieces t a b c d e x y z w v p q r s u =
-    u ∙ ap (λ (l : List ℕ). l ++ e) (s ∙ ap (λ (l : List ℕ). l ++ d) (r ∙ ap (λ (l : List ℕ). l ++ c) (q ∙ ap (λ (l : List ℕ). l ++ b) p))) ∙ simp append_assoc
-
-on_ok : {E : Type 0} {P Q : Type 0} (r : Result (Unit {0}) E) → (P → Q) → OnOk r P → OnOk r Q
-on_ok (Ok u) f h = f h
-on_ok (Err e) f h = tt
 
 pub returns : goal.returns
 unfolding bits_text
 returns c =
-    let left = c.in_ok-push.ensures.items ∙ ap (λ (digit : ℕ). c.put.new.text.items ++ digit ∷ []) c.digit_of.ensures in
-    let right = c.in_ok-push-2.ensures.items ∙ ap (λ (digit : ℕ). c.put-2.new.text.items ++ digit ∷ []) c.digit_of-2.ensures in
-    on_ok c.put-3.result (λ s. five_pieces _ _ _ _ _ _ _ _ _ _ _ c.in_ok-put.ensures.ok left c.in_ok-put-2.ensures.ok right s) c.put-3.ensures.ok
+    let text = c.put_behind.new.text.items in
+    let before = c.args.text.now.items in
+    subst (λ (digit : ℕ). OnOk c.put_behind.result (text ≡ before ++ (codes " values " ++ digit ∷ 32 ∷ digit_of c.args.right ∷ 10 ∷ []))) c.digit_of.ensures
+    (subst (λ (digit : ℕ). OnOk c.put_behind.result (text ≡ before ++ (codes " values " ++ c.digit_of.result ∷ 32 ∷ digit ∷ 10 ∷ []))) c.digit_of-2.ensures c.put_behind.ensures)
