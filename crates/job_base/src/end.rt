@@ -112,36 +112,60 @@ fn keep_proofs(proofs: &mut Proofs, pairs: PairResults) -> Result<(), NoMemory>
     Ok(())
 }
 
-/// Puts the proof of a limit that was met before pairs were asked about behind the others.
-fn keep_limit(proofs: &mut Proofs, at: LimitAt) -> Result<(), NoMemory>
-    ensures { OnOk result (proofs.new ≡ proofs.old ++ limit_proofs at) }
+/// The proof of a limit that was met before pairs were asked about.
+fn limit_proof(at: LimitAt) -> Option<Proof>
+    ensures { option_to_list result ≡ limit_proofs at }
 {
     match at {
-        LimitAt::Assume(proof) => proofs.push(proof),
-        LimitAt::Recover(_, _, proof) => proofs.push(proof),
-        LimitAt::Class(_, _, _, proof) => proofs.push(proof),
-        LimitAt::Pair(_) => Ok(()),
+        LimitAt::Assume(proof) => Some(proof),
+        LimitAt::Recover(_, _, proof) => Some(proof),
+        LimitAt::Class(_, _, _, proof) => Some(proof),
+        LimitAt::Pair(_) => None,
     }
 }
 
-/// Puts the verdict's proof behind the others, where it has one.
-fn keep_verdict(proofs: &mut Proofs, verdict: Verdict) -> Result<(), NoMemory>
-    ensures { OnOk result (proofs.new ≡ proofs.old ++ verdict_proofs verdict) }
+/// The verdict's proof, where it has one.
+fn verdict_proof(verdict: Verdict) -> Option<Proof>
+    ensures { option_to_list result ≡ verdict_proofs verdict }
 {
     match verdict {
-        Verdict::Limit(at) => keep_limit(proofs, at),
-        _ => Ok(()),
+        Verdict::Limit(at) => limit_proof(at),
+        _ => None,
     }
+}
+
+/// A first proof, where there is one, and behind it those of the pairs that met the limit, in their order.
+fn proofs_from(alloc: Global, first: Option<Proof>, pairs: PairResults) -> Result<Proofs, NoMemory>
+    ensures { IfOk result (λ proofs. proofs ≡ option_to_list first ++ filter_map (λ pair. pair.proof) pairs) }
+{
+    let mut proofs = Proofs::new(alloc);
+    if let Some(proof) = first {
+        proofs.push(proof)?;
+    }
+    keep_proofs(&mut proofs, pairs)?;
+    Ok(proofs)
 }
 
 /// The proofs of an outcome's queries that met the limit, in the order in which they were decided.
 fn proofs_of(alloc: Global, outcome: Outcome) -> Result<Proofs, NoMemory>
     ensures { IfOk result (λ proofs. proofs ≡ outcome_proofs outcome) }
 {
-    let mut proofs = Proofs::new(alloc);
-    keep_verdict(&mut proofs, outcome.verdict)?;
-    keep_proofs(&mut proofs, outcome.pairs)?;
-    Ok(proofs)
+    let Outcome { pairs, verdict, .. } = outcome;
+    proofs_from(alloc, verdict_proof(verdict), pairs)
+}
+
+/// The report and the proofs, if both could be made.
+fn both(
+    text: Result<Text, NoMemory>,
+    proofs: Result<Proofs, NoMemory>,
+) -> Result<(Text, Proofs), NoMemory>
+    ensures text { IfOk result (λ made. text ≡ Ok made.0) }
+    ensures proofs { IfOk result (λ made. proofs ≡ Ok made.1) }
+{
+    match (text, proofs) {
+        (Ok(text), Ok(proofs)) => Ok((text, proofs)),
+        _ => Err(NoMemory),
+    }
 }
 
 /// The report of a comparison, and the proofs of the queries that met the limit.
@@ -153,9 +177,16 @@ fn comparison_report(
     ensures text { IfOk result (λ made. made.0 ≡ report_text settings.now outcome) }
     ensures proofs { IfOk result (λ made. made.1 ≡ outcome_proofs outcome) }
 {
-    let text = report(alloc, &outcome, settings)?;
-    let proofs = proofs_of(alloc, outcome)?;
-    Ok((text, proofs))
+    let text = report(alloc, &outcome, settings);
+    both(text, proofs_of(alloc, outcome))
+}
+
+/// The report of a generated pair, and the proofs of its comparison.
+fn generated_report(alloc: Global, outcome: Outcome, text: Text) -> Result<(Text, Proofs), NoMemory>
+    ensures text { IfOk result (λ made. made.0 ≡ text) }
+    ensures proofs { IfOk result (λ made. made.1 ≡ outcome_proofs outcome) }
+{
+    both(Ok(text), proofs_of(alloc, outcome))
 }
 
 /// The report, if it could be made, of a finding without proofs.
@@ -221,7 +252,7 @@ fn report_of(alloc: Global, finding: Finding) -> Result<(Text, Proofs), NoMemory
         }
         Finding::Checked(outcome, settings) => comparison_report(alloc, outcome, &settings),
         Finding::Done(text) => Ok((text, Proofs::new(alloc))),
-        Finding::Generated(outcome, text) => Ok((text, proofs_of(alloc, outcome)?)),
+        Finding::Generated(outcome, text) => generated_report(alloc, outcome, text),
         Finding::Replayed(differences) => {
             without_proofs(alloc, replay_report(alloc, &differences))
         }
