@@ -1,5 +1,5 @@
 -- The command line as a value of `clap`'s own terms.
-use Rattle.std.specs.Prelude.{◌-◌, ◌^◌, true, [], ◌∷◌, Some, codes}
+use Rattle.std.specs.Prelude.{◌-◌, ◌^◌, true, [], ◌∷◌, Some, codes, fold}
 use Rattle.sec_base.specs.declared.limits.TheConstants.{MAX_CONFLICTS}
 use Rattle.clap.specs.Words.{App, Rule, Text, new_app, new_rule, with_rule, with_subcommand}
 use Rattle.clap.specs.Simple.{new_shape}
@@ -40,41 +40,32 @@ abbrev pub mode : Rule
 mode = option_with (codes "mode") (codes "plain")
 
 abbrev pub check_app : App
-check_app =
-    with_rule
-    (with_rule (with_rule (with_rule (with_rule (with_rule (with_rule (new_app (codes "check")) (place (codes "a"))) (place (codes "b"))) mode) (flag (codes "expose"))) conflicts)
-    (flag (codes "reset")))
-    (option (codes "assume"))
+check_app = fold with_rule (new_app (codes "check")) (place (codes "a") ∷ place (codes "b") ∷ mode ∷ flag (codes "expose") ∷ conflicts ∷ flag (codes "reset") ∷ option (codes "assume") ∷ [])
 
 abbrev pub graph_app : App
-graph_app = with_rule (with_rule (new_app (codes "graph")) (place (codes "a"))) mode
+graph_app = fold with_rule (new_app (codes "graph")) (place (codes "a") ∷ mode ∷ [])
 
 abbrev pub sim_app : App
-sim_app = with_rule (with_rule (with_rule (with_rule (with_rule (new_app (codes "sim")) (place (codes "a"))) (place (codes "s"))) mode) (option (codes "power"))) (flag (codes "reset"))
+sim_app = fold with_rule (new_app (codes "sim")) (place (codes "a") ∷ place (codes "s") ∷ mode ∷ option (codes "power") ∷ flag (codes "reset") ∷ [])
 
 abbrev pub replay_app : App
-replay_app = with_rule (with_rule (with_rule (with_rule (new_app (codes "replay")) (place (codes "a"))) (place (codes "b"))) (place (codes "s"))) mode
+replay_app = fold with_rule (new_app (codes "replay")) (place (codes "a") ∷ place (codes "b") ∷ place (codes "s") ∷ mode ∷ [])
 
 abbrev pub gen_app : App
-gen_app = with_rule (with_rule (with_rule (new_app (codes "gen")) number) (flag (codes "regroup"))) conflicts
+gen_app = fold with_rule (new_app (codes "gen")) (number ∷ flag (codes "regroup") ∷ conflicts ∷ [])
 
 abbrev pub lrat_app : App
-lrat_app = with_rule (with_rule (new_app (codes "lrat")) (place (codes "f"))) (place (codes "l"))
+lrat_app = fold with_rule (new_app (codes "lrat")) (place (codes "f") ∷ place (codes "l") ∷ [])
 
 abbrev pub cert_app : App
-cert_app = with_rule (with_rule (with_rule (with_rule (with_rule (new_app (codes "cert")) (place (codes "a"))) (place (codes "b"))) (place (codes "pair"))) (place (codes "form"))) conflicts
+cert_app = fold with_rule (new_app (codes "cert")) (place (codes "a") ∷ place (codes "b") ∷ place (codes "pair") ∷ place (codes "form") ∷ conflicts ∷ [])
 
 abbrev pub induct_app : App
-induct_app = with_rule (with_rule (with_rule (new_app (codes "induct")) (place (codes "a"))) (place (codes "b"))) conflicts
+induct_app = fold with_rule (new_app (codes "induct")) (place (codes "a") ∷ place (codes "b") ∷ conflicts ∷ [])
 
 -- `sec` with one of its subcommands
 abbrev pub top_app : App
 top_app = record { top = record (new_shape (codes "sec")) { no_binary_name = true; subcommand_required = true }; subs = [] }
 
 abbrev pub sec_app : App
-sec_app =
-    with_subcommand
-    (with_subcommand
-    (with_subcommand (with_subcommand (with_subcommand (with_subcommand (with_subcommand (with_subcommand top_app check_app.top) graph_app.top) sim_app.top) replay_app.top) gen_app.top) lrat_app.top)
-    cert_app.top)
-    induct_app.top
+sec_app = fold with_subcommand top_app (check_app.top ∷ graph_app.top ∷ sim_app.top ∷ replay_app.top ∷ gen_app.top ∷ lrat_app.top ∷ cert_app.top ∷ induct_app.top ∷ [])

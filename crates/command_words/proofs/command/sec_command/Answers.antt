@@ -1,19 +1,22 @@
 -- Each subcommand in turn is the next of the command.
-use Rattle.std.proofs.Common.{ap, ◌∙◌}
-use Rattle.std.proofs.lemmas.Result.{IfOk-weaker}
-use Rattle.clap.specs.Words.{App, with_subcommand}
-use Rattle.command_words.specs.Command.{check_app, graph_app, sim_app, replay_app, gen_app, lrat_app, cert_app, induct_app}
+use Rattle.std.proofs.Common.{◌≡◌, ◌∙◌, ◌<◌, ◌+◌, ℕ, List, length, get_or, drop, ap, sym}
+use Rattle.std.proofs.lemmas.List.{at_drop_more, at_drop_all}
+use Rattle.clap.specs.Words.{App, app_of, with_subcommand}
+use Rattle.command_words.specs.declared.command.Subcommand.{Subcommand}
+use Rattle.command_words.specs.declared.command.TheConstants.{SUBCOMMANDS}
+use Rattle.command_words.specs.Words.{with_all, app_of_subcommand}
 use Rattle.command_words.proofs.command.sec_command.Goals as goal
 
+next_added : (subs : List Subcommand) (i : ℕ) (d : Subcommand) (old new whole : App) → i < length subs → with_all old (drop i subs) ≡ whole
+    → new ≡ with_subcommand old (app_of_subcommand (get_or subs i d)).top → with_all new (drop (i + 1) subs) ≡ whole
+next_added subs i d old new whole lt so is =
+    ap (λ (a : App). with_all a (drop (i + 1) subs)) is ∙ sym (at_drop_more (λ rest. with_all old rest) subs i d lt) ∙ so
+
+pub loop-which-init : goal.loop-which-init
+loop-which-init c = ap (λ (a : App). with_all a SUBCOMMANDS) c.top_command-command.ensures.app
+
+pub loop-which-preserved : goal.loop-which-preserved
+loop-which-preserved c = next_added SUBCOMMANDS c.loop-which.which-index _ _ _ _ c.loop-which-test.true c.loop-which.invariant c.in_ok-command.ensures
+
 pub returns : goal.returns
-returns c =
-    let top : App → _ = λ (a : App). a.top in
-    let app-1 = c.in_ok-command.ensures check_app.top (IfOk-weaker c.check_command.result _ _ (λ s h. ap top h.0) c.check_command.ensures) ∙ ap (λ (a : App). with_subcommand a check_app.top) c.top_command.ensures.app in
-    let app-2 = c.in_ok-command-2.ensures graph_app.top (IfOk-weaker c.graph_command.result _ _ (λ s h. ap top h.0) c.graph_command.ensures) ∙ ap (λ (a : App). with_subcommand a graph_app.top) app-1 in
-    let app-3 = c.in_ok-command-3.ensures sim_app.top (IfOk-weaker c.sim_command.result _ _ (λ s h. ap top h.0) c.sim_command.ensures) ∙ ap (λ (a : App). with_subcommand a sim_app.top) app-2 in
-    let app-4 = c.in_ok-command-4.ensures replay_app.top (IfOk-weaker c.replay_command.result _ _ (λ s h. ap top h.0) c.replay_command.ensures) ∙ ap (λ (a : App). with_subcommand a replay_app.top) app-3 in
-    let app-5 = c.in_ok-command-5.ensures gen_app.top (IfOk-weaker c.gen_command.result _ _ (λ s h. ap top h.0) c.gen_command.ensures) ∙ ap (λ (a : App). with_subcommand a gen_app.top) app-4 in
-    let app-6 = c.in_ok-command-6.ensures lrat_app.top (IfOk-weaker c.lrat_command.result _ _ (λ s h. ap top h.0) c.lrat_command.ensures) ∙ ap (λ (a : App). with_subcommand a lrat_app.top) app-5 in
-    let app-7 = c.in_ok-command-7.ensures cert_app.top (IfOk-weaker c.cert_command.result _ _ (λ s h. ap top h.0) c.cert_command.ensures) ∙ ap (λ (a : App). with_subcommand a cert_app.top) app-6 in
-    IfOk-weaker c.with_command-8.result _ _ (λ m h. h ∙ ap (λ (a : App). with_subcommand a induct_app.top) app-7)
-    (c.with_command-8.ensures induct_app.top (IfOk-weaker c.induct_command.result _ _ (λ s h. ap top h.0) c.induct_command.ensures))
+returns c = sym (at_drop_all (λ rest. with_all (app_of c.loop-which.command) rest) SUBCOMMANDS c.loop-which.which-index c.loop-which-test.false) ∙ c.loop-which.invariant
