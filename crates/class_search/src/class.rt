@@ -1,6 +1,6 @@
 //! Classes and their members.
 
-ghost use Rattle.std.specs.Prelude.{◌≡◌, [], ◌∷◌, ◌++◌, OnOk};
+ghost use Rattle.std.specs.Prelude.{◌≡◌, [], ◌∷◌, ◌++◌, OnOk, OnErr};
 
 use enable_compare::Enable;
 use sec_base::{NoMemory, Tag};
@@ -27,13 +27,17 @@ impl Class {
         }
     }
 
-    /// Puts a member behind the others.
+    /// Puts a member behind the others. After `NoMemory` the class has the members that it had.
     pub fn join(&mut self, tag: Tag, enable: Enable) -> Result<(), NoMemory>
         ensures tags { OnOk result (self.new.tags.items ≡ self.old.tags.items ++ tag ∷ []) }
         ensures enables { OnOk result (self.new.enables.items ≡ self.old.enables.items ++ enable ∷ []) }
+        ensures refused { OnErr result ((self.new.tags.items ≡ self.old.tags.items) × (self.new.enables.items ≡ self.old.enables.items)) }
     {
         self.tags.push(tag)?;
-        self.enables.push(enable)?;
+        if let Err(error) = self.enables.push(enable) {
+            self.tags.pop();
+            return Err(error.into());
+        }
         Ok(())
     }
 }

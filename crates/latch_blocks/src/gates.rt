@@ -1,6 +1,6 @@
 //! The literal of a gate.
 
-ghost use Rattle.std.specs.Prelude.{◌≡◌, ◌+◌, ◌*◌, ◌^◌, ◌<◌, ◌≤◌, length, map, slice_get, All, IfOk, IfSome, OnOk};
+ghost use Rattle.std.specs.Prelude.{◌≡◌, ◌+◌, ◌*◌, ◌^◌, ◌<◌, ◌≤◌, length, map, slice_get, All, IfOk, IfSome};
 ghost use Rattle.aig.specs.Graph.{Grows};
 ghost use Rattle.unfold_places.specs.Places.{gate_weight};
 ghost use Rattle.latch_blocks.specs.Signals.{lit_at, IsGateLit};
@@ -24,8 +24,8 @@ pub(crate) fn gate_literal(
     requires within { All (λ x. x.0 < 2 * length aig.old) lits.now }
     requires room { length aig.old + gate_weight net.now.covers (slice_get net.now.gates j) < 2 ^ 30 }
     ensures here { IfOk result (IsGateLit net.now j lits.now aig.old aig.new) }
-    ensures grows { OnOk result (Grows aig.old aig.new) }
-    ensures few { OnOk result (length aig.new ≤ length aig.old + gate_weight net.now.covers (slice_get net.now.gates j)) }
+    ensures grows { Grows aig.old aig.new }
+    ensures few { length aig.new ≤ length aig.old + gate_weight net.now.covers (slice_get net.now.gates j) }
 {
     net.keeps();
     let gate = gate_of(net, j);

@@ -14,7 +14,8 @@ use flat_net::{Driver, Net, Signal};
 use sec_base::NoMemory;
 use std::alloc::Global;
 
-/// The literal of each signal of the net, in their order. No more nodes are made than the net weighs.
+/// The literal of each signal of the net, in their order. No more nodes are made than the net weighs. After `NoMemory` the graph may have
+/// grown, by as many at most.
 pub fn signal_literals(
     alloc: Global,
     aig: &mut Aig,
@@ -25,8 +26,8 @@ pub fn signal_literals(
     requires room { length aig.old + net_weight net.now < 2 ^ 30 }
     ensures each { IfOk result (λ lits. length lits.items ≡ length net.now.drivers) }
     ensures lits { IfOk result (λ lits. AreSignalLits net.now variables.now aig.new lits.items) }
-    ensures grows { OnOk result (Grows aig.old aig.new) }
-    ensures few { OnOk result (length aig.new ≤ length aig.old + net_weight net.now) }
+    ensures grows { Grows aig.old aig.new }
+    ensures few { length aig.new ≤ length aig.old + net_weight net.now }
 {
     let mut lits = Vec::new(alloc);
     for s in 0..net.size() {
@@ -52,8 +53,8 @@ fn literal(
     requires room { length aig.old + weight_at net.now s.0 < 2 ^ 30 }
     ensures here { IfOk result (IsSignalLit net.now variables.now aig.new s.0) }
     ensures stay { OnOk result (AreSignalLits net.now variables.now aig.new lits.now) }
-    ensures grows { OnOk result (Grows aig.old aig.new) }
-    ensures few { OnOk result (length aig.new ≤ length aig.old + weight_at net.now s.0) }
+    ensures grows { Grows aig.old aig.new }
+    ensures few { length aig.new ≤ length aig.old + weight_at net.now s.0 }
 {
     net.keeps();
     match net.driver(s) {
@@ -78,8 +79,8 @@ fn variable_literal(aig: &mut Aig, variable: u32) -> Result<Lit, NoMemory>
     requires room { length aig.old + 1 < 2 ^ 30 }
     ensures here { IfOk result (λ x. (n : NetView) (w : Variables) (s : ℕ) → variable_at n w s ≡ Some variable → IsSignalLit n w aig.new s x) }
     ensures stay { OnOk result ((n : NetView) (w : Variables) (lits : List Lit) → AreSignalLits n w aig.old lits → AreSignalLits n w aig.new lits) }
-    ensures grows { OnOk result (Grows aig.old aig.new) }
-    ensures few { OnOk result (length aig.new ≤ length aig.old + 1) }
+    ensures grows { Grows aig.old aig.new }
+    ensures few { length aig.new ≤ length aig.old + 1 }
 {
     aig.keeps();
     let lit = aig.input(variable)?;
@@ -102,8 +103,8 @@ fn driven_literal(
     requires room { length aig.old + weight_at net.now s.0 < 2 ^ 30 }
     ensures here { IfOk result (λ x. (w : Variables) → AreSignalLits net.now w aig.old lits.now → IsSignalLit net.now w aig.new s.0 x) }
     ensures stay { OnOk result ((w : Variables) → AreSignalLits net.now w aig.old lits.now → AreSignalLits net.now w aig.new lits.now) }
-    ensures grows { OnOk result (Grows aig.old aig.new) }
-    ensures few { OnOk result (length aig.new ≤ length aig.old + weight_at net.now s.0) }
+    ensures grows { Grows aig.old aig.new }
+    ensures few { length aig.new ≤ length aig.old + weight_at net.now s.0 }
 {
     net.keeps();
     aig.keeps();

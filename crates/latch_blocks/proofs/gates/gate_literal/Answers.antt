@@ -7,6 +7,7 @@ use Rattle.flat_net.specs.declared.signals.Signal.{Signal}
 use Rattle.flat_net.specs.declared.parts.Gate.{Gate}
 use Rattle.flat_net.proofs.Places.{cover_of-is, cover_within, cover_fits}
 use Rattle.aig.specs.declared.node.Lit.{Lit}
+use Rattle.aig.proofs.Growth.{Grows-refl}
 use Rattle.unfold_places.specs.Places.{gate_weight}
 use Rattle.latch_blocks.specs.Signals.{lit_at}
 use Rattle.latch_blocks.proofs.GateLits.{cover_within_weight, fanins_within, gate_lit_from}
@@ -53,3 +54,16 @@ returns c =
       grows = c.cover-2.ensures.grows;
       few = omega (arith, c.cover-2.ensures.few, room, weight);
     }
+
+pub returns-in_err-fanins-clause-grows : goal.returns-in_err-fanins-clause-grows
+returns-in_err-fanins-clause-grows c = Grows-refl c.args.aig.now
+
+pub returns-in_err-lit-clause-few : goal.returns-in_err-lit-clause-few
+returns-in_err-lit-clause-few c =
+    let n = c.args.net.now in
+    let g = c.gate_of-gate.result.now in
+    let is = cover_of-is n.covers g c.cover.result.now c.cover.ensures in
+    let fits = cover_fits n c.keeps.ensures.sound c.args.j g c.gate_of-gate.ensures c.cover.result.now c.cover.ensures in
+    let room = cover_within_weight n.covers g c.cover.result.now is fits in
+    let weight : gate_weight n.covers (slice_get n.gates c.args.j) ≡ gate_weight n.covers (Some g) = ap (gate_weight n.covers) c.gate_of-gate.ensures in
+    omega (arith, c.cover-2.ensures.few, room, weight)

@@ -32,13 +32,18 @@ gate_literal-requires-clause-room c =
 
 pub returns-clause-here : goal.returns-clause-here
 returns-clause-here c = λ w are.
-    gate_lit c.args.net.now c.keeps.ensures.sound w c.args.aig.now c.gate_literal.new.aig c.keeps-2.ensures.graph c.keeps-3.ensures.graph c.in_ok-lit.ensures.grows c.args.lits.now c.args.s.0 c.args.j c.requires.before c.requires.driver are c.in_ok-lit.lit
+    gate_lit c.args.net.now c.keeps.ensures.sound w c.args.aig.now c.gate_literal.new.aig c.keeps-2.ensures.graph c.keeps-3.ensures.graph c.gate_literal.ensures.grows c.args.lits.now c.args.s.0 c.args.j c.requires.before c.requires.driver are c.in_ok-lit.lit
     c.in_ok-lit.ensures.here
 
 pub returns-clause-stay : goal.returns-clause-stay
-returns-clause-stay c = λ w are. lits_grow c.args.net.now w c.args.aig.now c.gate_literal.new.aig c.keeps-2.ensures.graph c.in_ok-lit.ensures.grows c.args.lits.now are
+returns-clause-stay c = λ w are. lits_grow c.args.net.now w c.args.aig.now c.gate_literal.new.aig c.keeps-2.ensures.graph c.gate_literal.ensures.grows c.args.lits.now are
 
 pub returns-clause-few : goal.returns-clause-few
 returns-clause-few c =
     let weight : weight_at c.args.net.now c.args.s.0 ≡ gate_weight c.args.net.now.covers (slice_get c.args.net.now.gates c.args.j) = ap (driver_weight c.args.net.now) c.requires.driver in
-    omega (arith, weight, c.in_ok-lit.ensures.few)
+    omega (arith, weight, c.gate_literal.ensures.few)
+
+pub returns-in_err-lit-clause-few : goal.returns-in_err-lit-clause-few
+returns-in_err-lit-clause-few c =
+    let weight : weight_at c.args.net.now c.args.s.0 ≡ gate_weight c.args.net.now.covers (slice_get c.args.net.now.gates c.args.j) = ap (driver_weight c.args.net.now) c.requires.driver in
+    omega (arith, weight, c.gate_literal.ensures.few)

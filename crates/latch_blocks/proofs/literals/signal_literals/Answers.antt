@@ -41,8 +41,8 @@ loop-s-preserved c =
           subst (AreSignalLits c.args.net.now c.args.variables.now c.literal.new.aig) (sym c.in_ok-push.ensures.items)
           (lits_push c.args.net.now c.args.variables.now c.literal.new.aig c.loop-s.lits.items c.loop-s.s c.in_ok-lit.lit c.loop-s.invariant.each c.in_ok-lit.ensures.here
           (subst (AreSignalLits c.args.net.now c.args.variables.now c.literal.new.aig) c.deref.ensures.value c.in_ok-lit.ensures.stay));
-      grows = Grows-trans c.args.aig.now c.loop-s.aig c.literal.new.aig c.loop-s.invariant.grows c.in_ok-lit.ensures.grows;
-      few = omega (arith, c.loop-s.invariant.few, c.in_ok-lit.ensures.few, more);
+      grows = Grows-trans c.args.aig.now c.loop-s.aig c.literal.new.aig c.loop-s.invariant.grows c.literal.ensures.grows;
+      few = omega (arith, c.loop-s.invariant.few, c.literal.ensures.few, more);
     }
 
 pub returns : goal.returns
@@ -55,3 +55,21 @@ returns c =
       grows = c.loop-s.invariant.grows;
       few = omega (arith, c.loop-s.invariant.few, all);
     }
+
+pub returns-in_err-lit-clause-grows : goal.returns-in_err-lit-clause-grows
+returns-in_err-lit-clause-grows c = Grows-trans c.args.aig.now c.loop-s.aig c.literal.new.aig c.loop-s.invariant.grows c.literal.ensures.grows
+
+pub returns-in_err-lit-clause-few : goal.returns-in_err-lit-clause-few
+returns-in_err-lit-clause-few c =
+    let inside : c.loop-s.s < length c.args.net.now.drivers = omega (arith, c.loop-s-test.true, c.size-s-end.ensures) in
+    let more = weight_room c.args.net.now c.loop-s.s inside in
+    omega (arith, c.loop-s.invariant.few, c.literal.ensures.few, more)
+
+pub returns-in_err-push-clause-grows : goal.returns-in_err-push-clause-grows
+returns-in_err-push-clause-grows c = Grows-trans c.args.aig.now c.loop-s.aig c.literal.new.aig c.loop-s.invariant.grows c.literal.ensures.grows
+
+pub returns-in_err-push-clause-few : goal.returns-in_err-push-clause-few
+returns-in_err-push-clause-few c =
+    let inside : c.loop-s.s < length c.args.net.now.drivers = omega (arith, c.loop-s-test.true, c.size-s-end.ensures) in
+    let more = weight_room c.args.net.now c.loop-s.s inside in
+    omega (arith, c.loop-s.invariant.few, c.literal.ensures.few, more)
