@@ -11,12 +11,23 @@ use flat_net::{Bits, Ids, Net};
 use std::marker::Model;
 
 /// A net, with a bit for each latch that marks the enabled ones, a number for each input and a class for each latch.
-#[derive(Drop)]
 pub struct EventCircuit {
     net: Net,
     enabled: Bits,
     order: Ids,
     classes: Vec<u32>,
+}
+
+/// It is let go by one call: an owner isn't taken apart field by field at each way out.
+impl Drop for EventCircuit {
+    fn drop(self) {
+        let EventCircuit {
+            net: _,
+            enabled: _,
+            order: _,
+            classes: _,
+        } = self;
+    }
 }
 
 impl Model for EventCircuit {

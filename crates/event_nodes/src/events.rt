@@ -18,11 +18,21 @@ use std::marker::Model;
 
 /// An and-inverter graph whose variables are inputs at event nodes. Event nodes are numbered as they come, the root
 /// first; a node is known by its parent and the class that leads to it.
-#[derive(Drop)]
 pub struct EventGraph {
     aig: Aig,
     children: PlaceTable,
     places: PlaceTable,
+}
+
+/// It is let go by one call: an owner isn't taken apart field by field at each way out.
+impl Drop for EventGraph {
+    fn drop(self) {
+        let EventGraph {
+            aig: _,
+            children: _,
+            places: _,
+        } = self;
+    }
 }
 
 impl Model for EventGraph {

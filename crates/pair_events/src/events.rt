@@ -12,7 +12,6 @@ use event_nodes::{Counter, EventCircuit, EventGraph};
 use std::marker::Model;
 
 /// Two circuits whose latches have their classes, the graph of their functions over inputs at event nodes, and what their unfoldings weigh.
-#[derive(Drop)]
 pub struct Events {
     left: EventCircuit,
     right: EventCircuit,
@@ -20,6 +19,20 @@ pub struct Events {
     left_count: Counter,
     right_count: Counter,
     classes: u32,
+}
+
+/// It is let go by one call: an owner isn't taken apart field by field at each way out.
+impl Drop for Events {
+    fn drop(self) {
+        let Events {
+            left: _,
+            right: _,
+            graph: _,
+            left_count: _,
+            right_count: _,
+            classes: _,
+        } = self;
+    }
 }
 
 impl Model for Events {
