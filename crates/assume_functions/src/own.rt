@@ -17,11 +17,21 @@ use sec_base::{Ids, PlaceTable};
 use std::alloc::Global;
 
 /// The function of a signal on a graph that has nothing else. Its variables are inputs by their numbers, each with the place 0.
-#[derive(Drop)]
 pub struct OwnFunction {
     pub aig: Aig,
     pub places: PlaceTable,
     pub function: Unfolded,
+}
+
+/// It is let go by one call: an owner isn't taken apart field by field at each way out.
+impl Drop for OwnFunction {
+    fn drop(self) {
+        let OwnFunction {
+            aig: _,
+            places: _,
+            function: _,
+        } = self;
+    }
 }
 
 /// The function of a signal of a net without latches. The graph of the net's latches is lent, and isn't looked at. `TooLarge` comes
