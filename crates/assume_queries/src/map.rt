@@ -47,10 +47,19 @@ impl From<NoMemory> for UnderError {
 }
 
 /// What an assumption gives to queries: for each query the numbers of its own places, and the function at each place.
-#[derive(Drop)]
 pub(crate) struct Parts {
     pub own: Vec<Ids>,
     pub functions: Vec<Unfolded>,
+}
+
+/// It is let go by one call: an owner isn't taken apart field by field at each way out.
+impl Drop for Parts {
+    fn drop(self) {
+        let Parts {
+            own: _,
+            functions: _,
+        } = self;
+    }
 }
 
 /// What is asked, each query under the assumption with this function and weight, at each place that has a variable of the query. The

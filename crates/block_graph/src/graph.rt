@@ -14,19 +14,39 @@ use sec_base::NoMemory;
 use std::alloc::Global;
 
 /// The variables of a net's inputs and latches, and the literal of each signal.
-#[derive(Drop)]
 pub struct NetLits {
     pub variables: Variables,
     pub lits: Vec<Lit>,
 }
 
+/// It is let go by one call: an owner isn't taken apart field by field at each way out.
+impl Drop for NetLits {
+    fn drop(self) {
+        let NetLits {
+            variables: _,
+            lits: _,
+        } = self;
+    }
+}
+
 /// Two nets on one graph. All variables are below the limit.
-#[derive(Drop)]
 pub struct BlockGraph {
     pub aig: Aig,
     pub left: NetLits,
     pub right: NetLits,
     pub limit: u32,
+}
+
+/// It is let go by one call: an owner isn't taken apart field by field at each way out.
+impl Drop for BlockGraph {
+    fn drop(self) {
+        let BlockGraph {
+            aig: _,
+            left: _,
+            right: _,
+            limit: _,
+        } = self;
+    }
 }
 
 impl BlockGraph {

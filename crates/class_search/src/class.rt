@@ -7,12 +7,21 @@ use sec_base::{NoMemory, Tag};
 use std::alloc::Global;
 
 /// A class besides `always`: of each enable that a member has the first such member, in the order in which they joined.
-#[derive(Drop)]
 pub struct Class {
     /// The latches.
     pub tags: Vec<Tag>,
     /// Their enables.
     pub enables: Vec<Enable>,
+}
+
+/// It is let go by one call: an owner isn't taken apart field by field at each way out.
+impl Drop for Class {
+    fn drop(self) {
+        let Class {
+            tags: _,
+            enables: _,
+        } = self;
+    }
 }
 
 impl Class {

@@ -23,11 +23,20 @@ pub struct Difference {
 }
 
 /// A member of a class from which an enable differs.
-#[derive(Drop)]
 pub struct Told {
     /// Its place among the members.
     pub member: usize,
     pub difference: Difference,
+}
+
+/// It is let go by one call: an owner isn't taken apart field by field at each way out.
+impl Drop for Told {
+    fn drop(self) {
+        let Told {
+            member: _,
+            difference: _,
+        } = self;
+    }
 }
 
 /// What is found of an enable and the members of a class.

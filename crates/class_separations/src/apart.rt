@@ -10,7 +10,6 @@ use sec_base::{Bits, Ids, NoMemory, Tag};
 use std::alloc::Global;
 
 /// What tells two classes apart: an assignment under which both enables have care, and their values differ.
-#[derive(Drop)]
 pub struct Apart {
     /// The first latch of the lower class, in order of joining, from which the founder of the higher class differs; None for `always`.
     pub low: Option<Tag>,
@@ -23,6 +22,20 @@ pub struct Apart {
     pub vars: Ids,
     /// A bit for each.
     pub bits: Bits,
+}
+
+/// It is let go by one call: an owner isn't taken apart field by field at each way out.
+impl Drop for Apart {
+    fn drop(self) {
+        let Apart {
+            low: _,
+            high: _,
+            left: _,
+            right: _,
+            vars: _,
+            bits: _,
+        } = self;
+    }
 }
 
 /// Puts behind the others what tells the latch from `always`, and then what tells it from each class.

@@ -10,11 +10,17 @@ use sec_base::{Bits, NameTable, NoMemory};
 use std::alloc::Global;
 
 /// A circuit in which latches are cut open.
-#[derive(Drop)]
 pub struct CutSide {
     pub net: Net,
     /// One bit for each latch that is left, which is set where the latch counts as enabled.
     pub enabled: Bits,
+}
+
+/// It is let go by one call: an owner isn't taken apart field by field at each way out.
+impl Drop for CutSide {
+    fn drop(self) {
+        let CutSide { net: _, enabled: _ } = self;
+    }
 }
 
 impl CutSide {

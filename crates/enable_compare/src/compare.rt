@@ -12,7 +12,6 @@ use sec_base::{Ids, MAX_CONFLICTS, NoMemory};
 use std::alloc::Global;
 
 /// The load enable of a latch, at the root, as a function of inputs at event nodes.
-#[derive(Drop)]
 pub struct Enable {
     /// The value.
     pub value: Lit,
@@ -20,6 +19,17 @@ pub struct Enable {
     pub care: Lit,
     /// The variables of both, longer paths first, then by path in the order of class numbers, then by input.
     pub vars: Ids,
+}
+
+/// It is let go by one call: an owner isn't taken apart field by field at each way out.
+impl Drop for Enable {
+    fn drop(self) {
+        let Enable {
+            value: _,
+            care: _,
+            vars: _,
+        } = self;
+    }
 }
 
 /// The answer to a class query.

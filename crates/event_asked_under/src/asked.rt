@@ -32,13 +32,24 @@ use sec_base::PlaceTable;
 use std::alloc::Global;
 
 /// What is asked of pairs under an assumption.
-#[derive(Drop)]
 pub struct EventQuestions {
     pub aig: Aig,
     /// The variables: inputs, each at the event node with this place in the order of nodes.
     pub places: PlaceTable,
     pub ranked: RankedNodes,
     pub asked: Vec<Obligation>,
+}
+
+/// It is let go by one call: an owner isn't taken apart field by field at each way out.
+impl Drop for EventQuestions {
+    fn drop(self) {
+        let EventQuestions {
+            aig: _,
+            places: _,
+            ranked: _,
+            asked: _,
+        } = self;
+    }
 }
 
 /// The largest graph, and the largest table, over which an assumption is asked.

@@ -11,12 +11,18 @@ use sec_base::{NoMemory, PlaceTable};
 use std::alloc::Global;
 
 /// The variables of a query, each an input at an event node.
-#[derive(Drop)]
 pub struct NodeVariables {
     /// The event nodes, with these variables alone.
     pub events: EventGraph,
     /// Their numbers there, in the order of the query.
     pub vars: Vec<u32>,
+}
+
+/// It is let go by one call: an owner isn't taken apart field by field at each way out.
+impl Drop for NodeVariables {
+    fn drop(self) {
+        let NodeVariables { events: _, vars: _ } = self;
+    }
 }
 
 /// The variables with these numbers in a table of inputs and places among these event nodes. `NoMemory` comes also where a place is no node's.

@@ -6,7 +6,8 @@ use Rattle.outcome.specs.declared.verdict.Outcome.{Outcome}
 use Rattle.outcome.specs.declared.verdict.PairResult.{PairResult}
 use Rattle.outcome.specs.declared.verdict.Verdict.{Verdict}
 use Rattle.outcome.specs.declared.verdict.Verdict.TheVariants as verdict
-use Rattle.job_base.specs.Written.{verdict_proofs, outcome_proofs}
+use Rattle.outcome.specs.Proofs.{verdict_proofs}
+use Rattle.job_base.specs.Written.{outcome_proofs}
 
 -- they are those of its pairs
 pub pair_proofs : (o : Outcome) (name : _) → o.verdict ≡ verdict.Limit (limit_at.Pair name) → outcome_proofs o ≡ filter_map (λ (r : PairResult). r.proof) o.pairs

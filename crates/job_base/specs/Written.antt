@@ -4,8 +4,7 @@ use Rattle.std.specs.List.{filter_map}
 use Rattle.sec_base.specs.Outside.{Takes, TakesFront}
 use Rattle.pair_decide.specs.declared.query.Proof.{Proof}
 use Rattle.pair_runs.specs.declared.differences.Difference.{Difference}
-use Rattle.outcome.specs.declared.verdict.LimitAt.{LimitAt}
-use Rattle.outcome.specs.declared.verdict.LimitAt.TheVariants as limit_at
+use Rattle.outcome.specs.Proofs.{verdict_proofs}
 use Rattle.outcome.specs.declared.verdict.Outcome.{Outcome}
 use Rattle.outcome.specs.declared.verdict.PairResult.{PairResult}
 use Rattle.outcome.specs.declared.verdict.Verdict.{Verdict}
@@ -41,20 +40,6 @@ generated_status (verdict.Different w) = status.Different
 generated_status (verdict.DifferentFrom w) = status.Different
 generated_status (verdict.NotShown reason) = status.NotShown
 generated_status (verdict.Limit at) = status.Limit
-
--- the proof of a limit that was met before pairs were asked about
-abbrev pub limit_proofs : LimitAt → List Proof
-limit_proofs (limit_at.Assume proof) = proof ∷ []
-limit_proofs (limit_at.Recover side name proof) = proof ∷ []
-limit_proofs (limit_at.Class side name other proof) = proof ∷ []
-limit_proofs (limit_at.Pair name) = []
-
-abbrev pub verdict_proofs : Verdict → List Proof
-verdict_proofs verdict.Equal = []
-verdict_proofs (verdict.Different w) = []
-verdict_proofs (verdict.DifferentFrom w) = []
-verdict_proofs (verdict.NotShown reason) = []
-verdict_proofs (verdict.Limit at) = limit_proofs at
 
 -- the proofs of an outcome: that of its verdict, and those of its pairs in their order
 abbrev pub outcome_proofs : Outcome → List Proof

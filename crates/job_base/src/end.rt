@@ -5,7 +5,7 @@ ghost use Rattle.std.specs.List.{filter_map};
 ghost use Rattle.sec_base.specs.Outside.{Rose};
 ghost use Rattle.outcome.specs.Report.{report_text};
 ghost use Rattle.job_base.specs.Lines.{finding_text, undecided_text, unrefuted_text, unsettled_text};
-ghost use Rattle.job_base.specs.Written.{status_of, generated_status, unrefuted_status, judgement_status, limit_proofs, verdict_proofs, outcome_proofs, proofs_of, unrefuted_proofs, IsWritten};
+ghost use Rattle.job_base.specs.Written.{status_of, generated_status, unrefuted_status, judgement_status, outcome_proofs, proofs_of, unrefuted_proofs, IsWritten};
 
 use crate::finding::{Finding, Judgement, Unrefuted};
 use crate::status::{Proofs, Status, StatusName};
@@ -13,7 +13,7 @@ use crate::text::{
     cycle_report, refusal_report, satisfiable_report, undecided_text, unpaired_report,
     unsettled_text, words_report,
 };
-use outcome::{LimitAt, Outcome, PairResult, PairResults, Settings, Verdict, report};
+use outcome::{Outcome, PairResult, PairResults, Settings, Verdict, report};
 use pair_decide::Proof;
 use pair_runs::Differences;
 use replay_report::replay_report;
@@ -112,28 +112,6 @@ fn keep_proofs(proofs: &mut Proofs, pairs: PairResults) -> Result<(), NoMemory>
     Ok(())
 }
 
-/// The proof of a limit that was met before pairs were asked about.
-fn limit_proof(at: LimitAt) -> Option<Proof>
-    ensures { option_to_list result ≡ limit_proofs at }
-{
-    match at {
-        LimitAt::Assume(proof) => Some(proof),
-        LimitAt::Recover(_, _, proof) => Some(proof),
-        LimitAt::Class(_, _, _, proof) => Some(proof),
-        LimitAt::Pair(_) => None,
-    }
-}
-
-/// The verdict's proof, where it has one.
-fn verdict_proof(verdict: Verdict) -> Option<Proof>
-    ensures { option_to_list result ≡ verdict_proofs verdict }
-{
-    match verdict {
-        Verdict::Limit(at) => limit_proof(at),
-        _ => None,
-    }
-}
-
 /// A first proof, where there is one, and behind it those of the pairs that met the limit, in their order.
 fn proofs_from(alloc: Global, first: Option<Proof>, pairs: PairResults) -> Result<Proofs, NoMemory>
     ensures { IfOk result (λ proofs. proofs ≡ option_to_list first ++ filter_map (λ pair. pair.proof) pairs) }
@@ -151,7 +129,7 @@ fn proofs_of(alloc: Global, outcome: Outcome) -> Result<Proofs, NoMemory>
     ensures { IfOk result (λ proofs. proofs ≡ outcome_proofs outcome) }
 {
     let Outcome { pairs, verdict, .. } = outcome;
-    proofs_from(alloc, verdict_proof(verdict), pairs)
+    proofs_from(alloc, verdict.into_proof(), pairs)
 }
 
 /// The report and the proofs, if both could be made.

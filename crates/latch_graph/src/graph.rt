@@ -21,10 +21,19 @@ use unfolding_weight::{Node, SignalGraph, Weight, weigh};
 /// but no edge from a skipped latch to itself. The edges aren't written out; they are ways through the signals, and a
 /// skipped latch reads what leads to the other latches of its cone. A contract sees what each signal reads, the latches, and
 /// which of them are skipped.
-#[derive(Drop)]
 pub struct LatchGraph {
     graph: SignalGraph,
     states: Vec<State>,
+}
+
+/// It is let go by one call: an owner isn't taken apart field by field at each way out.
+impl Drop for LatchGraph {
+    fn drop(self) {
+        let LatchGraph {
+            graph: _,
+            states: _,
+        } = self;
+    }
 }
 
 impl Model for LatchGraph {

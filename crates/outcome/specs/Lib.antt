@@ -1,4 +1,5 @@
 pub mod Report
+pub mod Proofs
 pub use Rattle.pair_decide.specs.Answers
 pub use Rattle.pair_decide.specs.Queries
 pub use Rattle.pair_decide.specs.declared.query.Decision

@@ -1,5 +1,8 @@
 //! What a comparison finds.
 
+ghost use Rattle.std.specs.Prelude.{◌≡◌, option_to_list};
+ghost use Rattle.outcome.specs.Proofs.{limit_proofs, verdict_proofs};
+
 use frame_report::Frame;
 use pair_decide::Proof;
 use sec_base::{Bits, PairAnswer, Seq, Side, Word, Words};
@@ -21,7 +24,6 @@ pub struct PairResult {
 pub type PairResults = Seq<PairResult>;
 
 /// Where a comparison met the limit of conflicts.
-#[derive(Drop)]
 pub enum LimitAt {
     /// At the query whether some values of the inputs meet the assumption; its proof.
     Assume(Proof),
@@ -33,8 +35,33 @@ pub enum LimitAt {
     Pair(PairName),
 }
 
+/// It is let go by one call: an owner isn't taken apart field by field at each way out.
+impl Drop for LimitAt {
+    fn drop(self) {
+        match self {
+            LimitAt::Assume(_) => {}
+            LimitAt::Recover(_, _, _) => {}
+            LimitAt::Class(_, _, _, _) => {}
+            LimitAt::Pair(_) => {}
+        }
+    }
+}
+
+impl LimitAt {
+    /// The proof of the limit; none where it was met at a pair, whose own result has it.
+    pub fn into_proof(self) -> Option<Proof>
+        ensures { option_to_list result ≡ limit_proofs self }
+    {
+        match self {
+            LimitAt::Assume(proof) => Some(proof),
+            LimitAt::Recover(_, _, proof) => Some(proof),
+            LimitAt::Class(_, _, _, proof) => Some(proof),
+            LimitAt::Pair(_) => None,
+        }
+    }
+}
+
 /// Two event classes, and a frame that tells them apart.
-#[derive(Drop)]
 pub struct Separation {
     /// The number of the lower class.
     pub low: u32,
@@ -51,11 +78,25 @@ pub struct Separation {
     pub frame: Frame,
 }
 
+/// It is let go by one call: an owner isn't taken apart field by field at each way out.
+impl Drop for Separation {
+    fn drop(self) {
+        let Separation {
+            low: _,
+            high: _,
+            low_latch: _,
+            high_latch: _,
+            left: _,
+            right: _,
+            frame: _,
+        } = self;
+    }
+}
+
 /// What tells classes apart, in their order.
 pub type Separations = Seq<Separation>;
 
 /// A pair whose functions differ over events, and what its classes are.
-#[derive(Drop)]
 pub struct Unshown {
     pub pair: PairName,
     /// The value in the first circuit.
@@ -68,8 +109,20 @@ pub struct Unshown {
     pub apart: Separations,
 }
 
+/// It is let go by one call: an owner isn't taken apart field by field at each way out.
+impl Drop for Unshown {
+    fn drop(self) {
+        let Unshown {
+            pair: _,
+            left: _,
+            right: _,
+            frame: _,
+            apart: _,
+        } = self;
+    }
+}
+
 /// What is shown where the functions of a pair differ, and the circuits themselves may still agree.
-#[derive(Drop)]
 pub enum Why {
     /// A sequence over the inputs and the latches that were cut open makes the pair of the cut circuits differ.
     Cut(Witness),
@@ -77,8 +130,17 @@ pub enum Why {
     Events(Unshown),
 }
 
+/// It is let go by one call: an owner isn't taken apart field by field at each way out.
+impl Drop for Why {
+    fn drop(self) {
+        match self {
+            Why::Cut(_) => {}
+            Why::Events(_) => {}
+        }
+    }
+}
+
 /// An input sequence that makes a pair differ in runs from the initial values, with the values of the latches in cycle 0.
-#[derive(Drop)]
 pub struct ResetWitness {
     pub witness: Witness,
     /// A bit for each latch of the first circuit: its initial value where that is 0 or 1, and else the value that it has to begin with.
@@ -87,8 +149,18 @@ pub struct ResetWitness {
     pub right_power: Bits,
 }
 
+/// It is let go by one call: an owner isn't taken apart field by field at each way out.
+impl Drop for ResetWitness {
+    fn drop(self) {
+        let ResetWitness {
+            witness: _,
+            left_power: _,
+            right_power: _,
+        } = self;
+    }
+}
+
 /// The answer of a comparison: the first of different, limit, not shown and equal that some pair has.
-#[derive(Drop)]
 pub enum Verdict {
     /// Every pair's functions agree.
     Equal,
@@ -100,6 +172,31 @@ pub enum Verdict {
     NotShown(Why),
     /// A query wasn't decided within the number of conflicts.
     Limit(LimitAt),
+}
+
+/// It is let go by one call: an owner isn't taken apart field by field at each way out.
+impl Drop for Verdict {
+    fn drop(self) {
+        match self {
+            Verdict::Equal => {}
+            Verdict::Different(_) => {}
+            Verdict::DifferentFrom(_) => {}
+            Verdict::NotShown(_) => {}
+            Verdict::Limit(_) => {}
+        }
+    }
+}
+
+impl Verdict {
+    /// The proof of the limit that was met before pairs were asked about; none of any other verdict.
+    pub fn into_proof(self) -> Option<Proof>
+        ensures { option_to_list result ≡ verdict_proofs self }
+    {
+        match self {
+            Verdict::Limit(at) => at.into_proof(),
+            _ => None,
+        }
+    }
 }
 
 /// All that a comparison finds.

@@ -20,12 +20,23 @@ use sec_setup::SignalPair;
 use std::alloc::Global;
 
 /// The functions of each pair's two signals, on one graph and one table of inputs at shifts.
-#[derive(Drop)]
 pub struct Functions {
     pub aig: Aig,
     pub places: PlaceTable,
     pub left: Vec<Unfolded>,
     pub right: Vec<Unfolded>,
+}
+
+/// It is let go by one call: an owner isn't taken apart field by field at each way out.
+impl Drop for Functions {
+    fn drop(self) {
+        let Functions {
+            aig: _,
+            places: _,
+            left: _,
+            right: _,
+        } = self;
+    }
 }
 
 /// The functions of each pair of signals: all of A's are unfolded, then all of B's. `TooLarge` comes exactly where the unfoldings of

@@ -32,12 +32,23 @@ pub type Cycles = Seq<Unfolded>;
 
 /// The functions of each pair's two signals in each cycle up to the pair's depth, on one graph and one table of inputs in cycles and
 /// of latches in cycle 0.
-#[derive(Drop)]
 pub struct Functions {
     pub aig: Aig,
     pub places: PlaceTable,
     pub left: Vec<Cycles>,
     pub right: Vec<Cycles>,
+}
+
+/// It is let go by one call: an owner isn't taken apart field by field at each way out.
+impl Drop for Functions {
+    fn drop(self) {
+        let Functions {
+            aig: _,
+            places: _,
+            left: _,
+            right: _,
+        } = self;
+    }
 }
 
 /// One of the two circuits, with the numbers of its variables.
