@@ -14,16 +14,10 @@ use std::alloc::Global;
 const MOST: u32 = 1 << 29;
 
 /// A small graph, and its literals of the first of some nodes.
+#[derive(Drop)]
 pub(crate) struct Small {
     pub graph: Aig,
     pub lits: Vec<Lit>,
-}
-
-/// It is let go by one call: an owner isn't taken apart field by field at each way out.
-impl Drop for Small {
-    fn drop(self) {
-        let Small { graph: _, lits: _ } = self;
-    }
 }
 
 /// The small graph of these nodes. One whose operands don't stand before it becomes a variable.

@@ -7,6 +7,7 @@ use sec_base::{Bits, Seq};
 pub type Queries = Seq<Query>;
 
 /// What is asked of a pair of signals (a compare point): whether its sides agree in each of its queries.
+#[derive(Drop)]
 pub struct Obligation {
     pub name: PairName,
     /// What is told as the pair's size, as its sequential depth in cycles.
@@ -15,18 +16,6 @@ pub struct Obligation {
     pub decisive: bool,
     /// In the order in which they are decided, up to the first whose sides don't agree.
     pub queries: Queries,
-}
-
-/// It is let go by one call: an owner isn't taken apart field by field at each way out.
-impl Drop for Obligation {
-    fn drop(self) {
-        let Obligation {
-            name: _,
-            size: _,
-            decisive: _,
-            queries: _,
-        } = self;
-    }
 }
 
 /// Where sides differ: the place of the obligation, the place of the query among its own, and a bit for each of that query's variables.

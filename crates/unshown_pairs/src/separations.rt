@@ -12,6 +12,7 @@ use sec_base::{NoMemory, Seq, Tag};
 use std::alloc::Global;
 
 /// What tells two classes apart, as it is told.
+#[derive(Drop)]
 pub struct ToldSeparation {
     /// The two classes, by their numbers.
     pub low: u32,
@@ -25,21 +26,6 @@ pub struct ToldSeparation {
     pub right: bool,
     /// A bit for each variable of both enables, in their order. All else is 0.
     pub frame: Vec<FrameBit>,
-}
-
-/// It is let go by one call: an owner isn't taken apart field by field at each way out.
-impl Drop for ToldSeparation {
-    fn drop(self) {
-        let ToldSeparation {
-            low: _,
-            high: _,
-            low_latch: _,
-            high_latch: _,
-            left: _,
-            right: _,
-            frame: _,
-        } = self;
-    }
 }
 
 /// What tells classes apart, in order.
