@@ -7,12 +7,12 @@ use Rattle.std.proofs.lemmas.Option.{none-some, same_Some}
 use Rattle.aig.specs.declared.node.Lit.{Lit}
 use Rattle.aig.specs.declared.node.Node.{Node}
 use Rattle.aig.specs.declared.node.Node.TheVariants.{And}
-use Rattle.aig.specs.Graph.{IsGraph, IsLitOf, flip}
+use Rattle.aig.specs.Graph.{IsGraph, flip}
 use Rattle.aig.specs.Values.{value}
 use Rattle.aig.proofs.Meaning.{value-flip}
 use Rattle.aig.proofs.CoverMeaning.{value-lit, value-or}
 use Rattle.aig_or.specs.ShortOr.{operands, either, is_conjunct, are_both, is_and, combined, short_or, IsShortOrBy, IsShortOr}
-use Rattle.aig_or.proofs.OrOperands.{passed, both_passed, one_passed, operands_lit, operands_within}
+use Rattle.aig_or.proofs.OrOperands.{passed, both_passed, one_passed, operands_lit}
 
 -- where the and is 1, both are
 both_true : (b c : Bool) → (b && c) ≡ true → (b ≡ true) × (c ≡ true)

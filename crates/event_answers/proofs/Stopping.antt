@@ -13,7 +13,6 @@ use Rattle.sec_base.specs.declared.basics.Tag.{Tag}
 use Rattle.sec_base.specs.declared.settings.Settings.{Settings}
 use Rattle.outcome.specs.declared.verdict.LimitAt.{LimitAt}
 use Rattle.outcome.specs.declared.verdict.LimitAt.TheVariants as limit_at
-use Rattle.outcome.specs.declared.verdict.Outcome.{Outcome}
 use Rattle.outcome.specs.declared.verdict.Verdict.TheVariants as verdict
 use Rattle.sec_setup.specs.Setup.{AreColumns}
 use Rattle.class_events.specs.EventError.{EventError}

@@ -7,7 +7,7 @@ use Rattle.circuit_theory.specs.Circuit.{Circuit, Named}
 use Rattle.circuit_theory.specs.Tree.{StandsBeside}
 use Rattle.flat_net.specs.Comparable.{IsComparable}
 use Rattle.flat_net.specs.Sound.{IsSound}
-use Rattle.flat_net.specs.View.{NetView, circuit_of, ports_of}
+use Rattle.flat_net.specs.View.{NetView, circuit_of}
 use Rattle.interface.specs.declared.pairs.SignalPair.{SignalPair}
 use Rattle.interface.specs.Pairs.{places_of}
 use Rattle.pair_decide.specs.declared.query.Proof.{Proof}

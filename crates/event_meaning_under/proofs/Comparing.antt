@@ -2,7 +2,6 @@
 use Rattle.std.proofs.Common.{◌≡◌, ◌∙◌, ℕ, Bool, List, length, map, sym, ap, subst, inl, inr}
 use Rattle.std.specs.Prelude.{◌⊎◌}
 use Rattle.std.specs.List.{Contains}
-use Rattle.circuit_theory.specs.Agree.{IsPair}
 use Rattle.circuit_theory.specs.Circuit.{Named}
 use Rattle.circuit_theory.specs.Depth.{LatchesHaveDepths}
 use Rattle.circuit_theory.specs.Interface.{AreNumbersOf}
@@ -13,7 +12,7 @@ use Rattle.circuit_laws.proofs.LawProofs.{numbers_are_shared}
 use Rattle.event_laws.proofs.SideParts.{sides_are_parts_in_nets}
 use Rattle.flat_net.specs.View.{NetView, circuit_of, named, ports_of}
 use Rattle.flat_net.proofs.Nets.{sound_is_net, sound_names}
-use Rattle.interface.specs.Pairs.{NamedPair, named_pairs, places_of}
+use Rattle.interface.specs.Pairs.{NamedPair, places_of}
 use Rattle.sec_setup.specs.Cuts.{columns_of}
 use Rattle.outcome.specs.declared.verdict.LimitAt.{LimitAt}
 use Rattle.outcome.specs.declared.verdict.LimitAt.TheVariants as limit_at

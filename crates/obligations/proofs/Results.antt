@@ -11,7 +11,6 @@ use Rattle.aig.specs.declared.node.Node.{Node}
 use Rattle.aig.proofs.Growth.{slice_get-append}
 use Rattle.aig.proofs.Insert.{push-cases}
 use Rattle.swept_queries.proofs.Listed.{All-at}
-use Rattle.witness_report.specs.declared.witness.PairName.{PairName}
 use Rattle.outcome.specs.declared.verdict.PairResult.{PairResult}
 use Rattle.obligations.specs.declared.obligation.Obligation.{Obligation}
 use Rattle.obligations.specs.declared.obligation.Difference.{Difference}

@@ -14,7 +14,6 @@ use Rattle.job_circuit.proofs.Means.{graph_means, sim_means}
 use Rattle.job_circuit.proofs.CompleteReports.{graph_complete, sim_complete}
 use Rattle.job_replay.proofs.Means.{replay_means}
 use Rattle.job_replay.proofs.CompleteReplays.{replay_complete}
-use Rattle.job_check.specs.Check.{Check}
 use Rattle.check_meaning.proofs.Complete.{check_complete}
 use Rattle.check_meaning.proofs.Means.{check_means}
 use Rattle.job_gen.proofs.Means.{gen_means, gen_complete}

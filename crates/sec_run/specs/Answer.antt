@@ -14,7 +14,6 @@ use Rattle.job_base.specs.Lines.{finding_text}
 use Rattle.job_files.specs.Reading.{Held}
 use Rattle.job_circuit.specs.Reports.{IsGraphFound, IsSimFound}
 use Rattle.job_replay.specs.Replays.{IsReplayFound}
-use Rattle.job_check.specs.Check.{Check}
 use Rattle.job_check.specs.Found.{IsFoundOf}
 use Rattle.job_gen.specs.Found.{IsGenFound}
 use Rattle.job_lrat.specs.Found.{IsLratFound}

@@ -5,7 +5,7 @@ use Rattle.command_line.specs.declared.task.Task.TheVariants as task
 use Rattle.job_files.specs.Reading.{IsLoaded}
 use Rattle.job_circuit.specs.Reports.{graph_paths, sim_paths}
 use Rattle.job_replay.specs.Replays.{replay_paths}
-use Rattle.job_check.specs.Check.{Check, check_paths}
+use Rattle.job_check.specs.Check.{check_paths}
 use Rattle.job_lrat.specs.Found.{lrat_paths, AreSpelled}
 use Rattle.job_cert.specs.Found.{cert_paths}
 use Rattle.job_induct.specs.Found.{induct_paths}

@@ -9,7 +9,6 @@ use Rattle.job_base.specs.declared.status.StatusName.TheVariants as status
 use Rattle.job_files.specs.Reading.{Held}
 use Rattle.job_circuit.specs.Reports.{GraphMeans, SimMeans, IsGraphComplete, IsSimComplete}
 use Rattle.job_replay.specs.Replays.{ReplayMeans, IsReplayComplete}
-use Rattle.job_check.specs.Check.{Check}
 use Rattle.check_meaning.specs.Answer.{CheckMeans, IsCheckComplete}
 use Rattle.job_gen.specs.Answer.{GenMeans, IsGenAnswer}
 use Rattle.job_lrat.specs.Answer.{LratMeans, IsLratComplete}
