@@ -15,24 +15,13 @@ use std::alloc::Global;
 const MOST: u32 = 1 << 29;
 
 /// Two literals of a graph.
+#[derive(Drop)]
 pub(crate) struct Case {
     pub graph: Aig,
     pub left: Lit,
     pub right: Lit,
     /// How many nodes their cones had before the variable got its bit. No clause sees it.
     pub before: usize,
-}
-
-/// It is let go by one call: an owner isn't taken apart field by field at each way out.
-impl Drop for Case {
-    fn drop(self) {
-        let Case {
-            graph: _,
-            left: _,
-            right: _,
-            before: _,
-        } = self;
-    }
 }
 
 /// A graph where a variable has a bit, and its literals for the first nodes of another graph.

@@ -17,21 +17,11 @@ pub enum Source {
 }
 
 /// For each signal of a flat design what drives it and its net, and the clock net.
+#[derive(Drop)]
 pub struct Wired {
     pub(crate) sources: Vec<Source>,
     pub(crate) nets: Vec<Option<u32>>,
     pub(crate) clock: Option<u32>,
-}
-
-/// It is let go by one call: an owner isn't taken apart field by field at each way out.
-impl Drop for Wired {
-    fn drop(self) {
-        let Wired {
-            sources: _,
-            nets: _,
-            clock: _,
-        } = self;
-    }
 }
 
 impl Model for Wired {

@@ -12,16 +12,10 @@ use sec_base::{NoMemory, Side};
 use std::alloc::Global;
 
 /// Two circuits of one function, of 5,040 gates and 120 latches each.
+#[derive(Drop)]
 pub struct Twins {
     pub a: Net,
     pub b: Net,
-}
-
-/// It is let go by one call: an owner isn't taken apart field by field at each way out.
-impl Drop for Twins {
-    fn drop(self) {
-        let Twins { a: _, b: _ } = self;
-    }
 }
 
 /// The pair of a seed. Both have the inputs `x0` to `x39`, the outputs `y0` to `y39`, and three stages of 42 layers of 40 gates. One word
