@@ -16,7 +16,7 @@ use Rattle.aig.specs.Builds.{Builds, BuildsAll}
 use Rattle.aig.proofs.Growth.{Grows-length, Builds-grows}
 use Rattle.unfold_places.specs.Reach.{Adds}
 use Rattle.cbf_unfold.specs.View.{UnfolderView}
-use Rattle.cbf_unfold.specs.Unfolded.{IsKnown, IsNumberOf, IsUnfolded, Fits, Holds}
+use Rattle.cbf_unfold.specs.Unfolded.{IsKnown, IsNumberOf, IsUnfolded, IsLiteralOf, Fits, Holds}
 use Rattle.unfold_places.proofs.Lists.{adds_at}
 pub use Rattle.unfold_places.proofs.Growing.{Any, builds_later}
 
@@ -41,6 +41,15 @@ unfolded_later n order g h places more s x vars grows adds u = record {
   variables = u.variables;
   are_variables = u.are_variables;
   numbered = zip_weaker (IsNumberOf places) (IsNumberOf more) (λ v y at. adds_at Any places more v _ adds at) vars u.variables u.numbered;
+}
+
+pub literal_later : (n : NetView) (order : List ℕ) (g h : List Node) (places more : List (ℕ × ℕ)) (s x : ℕ) → Grows g h → Adds Any places more → IsLiteralOf n order g places s x → IsLiteralOf n order h more s x
+literal_later n order g h places more s x grows adds u = record {
+  depth = u.depth;
+  tree = u.tree;
+  unfolds = u.unfolds;
+  builds = builds_later g h places more u.tree x grows adds u.builds;
+  within = omega (arith, u.within, Grows-length g h grows);
 }
 
 pub holds_later : (u : UnfolderView) (g h : List Node) (places more : List (ℕ × ℕ)) → Grows g h → Adds Any places more → Holds u g places → Holds u h more

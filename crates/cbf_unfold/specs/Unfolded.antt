@@ -27,6 +27,14 @@ pub record IsUnfolded (n : NetView) (order : List ℕ) (g : List Node) (places :
   pub are_variables : AreVariables ShiftBefore (tree ∷ []) variables
   pub numbered : AllZip (IsNumberOf places) vars variables
 
+-- the literal is that of the signal's tree
+pub record IsLiteralOf (n : NetView) (order : List ℕ) (g : List Node) (places : List (ℕ × ℕ)) (s lit : ℕ) : Type 0 where
+  pub depth : ℕ
+  pub tree : Tree ℕ
+  pub unfolds : Unfolds (circuit_of n) order s 0 depth tree
+  pub builds : Builds g places tree lit
+  pub within : lit < 2 * length g
+
 -- the literal is that of the tree of the place's signal, as many cycles ago as the place stands before the last
 pub record IsKnown (n : NetView) (order : List ℕ) (last : ℕ) (g : List Node) (places : List (ℕ × ℕ)) (p : ℕ × ℕ) (lit : ℕ) : Type 0 where
   pub depth : ℕ

@@ -6,7 +6,7 @@ ghost use Rattle.circuit_theory.specs.Sizes.{IsOver};
 ghost use Rattle.flat_net.specs.View.{circuit_of};
 ghost use Rattle.aig.specs.declared.node.Node.{Node};
 ghost use Rattle.cbf_unfold.specs.View.{IsOrderOf, IsUnfolder};
-ghost use Rattle.cbf_unfold.specs.Unfolded.{IsUnfolded, Fits};
+ghost use Rattle.cbf_unfold.specs.Unfolded.{IsUnfolded, IsLiteralOf, Fits};
 ghost use Rattle.cbf_unfold.specs.Building.{IsMet, IsLater};
 ghost use Rattle.unfold_places.specs.declared.error.UnfoldError.TheVariants as unfold_error;
 
@@ -134,6 +134,29 @@ impl<'a> Unfolder<'a> {
         let lits = self.roots(alloc, aig, places, signals)?;
         let unfolded = self.functions(alloc, places, signals, lits.as_slice())?;
         Ok(unfolded)
+    }
+
+    /// The literals of several signals, in their order, without their variables: it costs one walk over all places that they visit
+    /// together. `TooLarge` comes as with `unfold_all`, which gives the variables of some of them afterwards.
+    pub fn unfold_literals(
+        &mut self,
+        alloc: Global,
+        aig: &mut Aig,
+        places: &mut PlaceTable,
+        signals: &[Signal],
+    ) -> Result<Vec<Lit>, UnfoldError>
+        requires signals { All (λ s. s.0 < length self.old.net.drivers) signals.now }
+        requires fits { Fits self.old aig.old places.old }
+        requires nodes { length aig.old ≤ 2 ^ 29 }
+        requires entries { length places.old ≤ 2 ^ 29 }
+        ensures literals { IfOk result (λ lits. AllZip (λ s x. IsLiteralOf self.new.net self.new.order aig.new places.new s.0 x.0) signals.now lits.items) }
+        ensures fits { OnOk result (Fits self.new aig.new places.new) }
+        ensures done { OnOk result (self.new.done ≡ self.old.done ++ map (λ s. s.0) signals.now) }
+        ensures over { result ≡ Err unfold_error.TooLarge → IsOver (circuit_of self.old.net) (self.old.done ++ map (λ s. s.0) signals.now) MAX_WEIGHT }
+        ensures later { IsLater self.old self.new aig.old aig.new places.old places.new }
+    {
+        let lits = self.roots(alloc, aig, places, signals)?;
+        Ok(lits)
     }
 
     /// Tells a proof what each unfolder keeps. It does nothing.

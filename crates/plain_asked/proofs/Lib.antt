@@ -1,3 +1,5 @@
+pub mod AskedPairs
+pub mod Choosing
 pub mod Growing
 pub mod Leaves
 pub mod PairAt

@@ -126,14 +126,14 @@ fn unfold_right(
     Ok(unfolded)
 }
 
-fn left_signals(alloc: Global, pairs: &[SignalPair]) -> Result<Vec<Signal>, NoMemory>
+pub(crate) fn left_signals(alloc: Global, pairs: &[SignalPair]) -> Result<Vec<Signal>, NoMemory>
     ensures { IfOk result (λ signals. signals.items ≡ map (λ p. p.left) pairs.now) }
 {
     let signals = pairs.iter().map(|pair| pair.left).collect(alloc)?;
     Ok(signals)
 }
 
-fn right_signals(alloc: Global, pairs: &[SignalPair]) -> Result<Vec<Signal>, NoMemory>
+pub(crate) fn right_signals(alloc: Global, pairs: &[SignalPair]) -> Result<Vec<Signal>, NoMemory>
     ensures { IfOk result (λ signals. signals.items ≡ map (λ p. p.right) pairs.now) }
 {
     let signals = pairs.iter().map(|pair| pair.right).collect(alloc)?;

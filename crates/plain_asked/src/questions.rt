@@ -1,12 +1,14 @@
 //! What the plain form asks of each pair.
 
-ghost use Rattle.std.specs.Prelude.{◌≡◌, ◌<◌, length, slice_get, Some, IfOk};
+ghost use Rattle.std.specs.Prelude.{◌≡◌, ◌<◌, length, slice_get, Some, IfOk, IfSome};
 ghost use Rattle.interface.specs.declared.pairs.SignalPair.{SignalPair};
 ghost use Rattle.sec_setup.specs.Setup.{IsSetup};
-ghost use Rattle.plain_asked.specs.Asked.{AreAsked, AskedOf, IsOnlyQuery};
+ghost use Rattle.plain_asked.specs.Apart.{HaveFunctionsApart};
+ghost use Rattle.plain_asked.specs.Asked.{AreAsked, AreAskedApart, AreAskedAt, AskedApart, AskedOf, AsksWith, IsOnlyQuery, StandAt};
 ghost use Rattle.plain_asked.specs.Pairs.{HaveFunctions};
 ghost use Rattle.plain_asked.specs.Variables.{AreInOrder};
 
+use crate::apart::PairFunctions;
 use crate::functions::Functions;
 use aig::Lit;
 use cbf_unfold::Unfolded;
@@ -37,6 +39,25 @@ pub fn ask(
     Ok(asked)
 }
 
+/// What is asked of each pair, in order, by the functions of those whose literals differ: whether both functions agree always. Of a
+/// pair whose signals have one literal nothing is asked.
+pub fn ask_apart(
+    alloc: Global,
+    setup: &Setup<'_>,
+    functions: &PairFunctions,
+) -> Result<Vec<Obligation>, NoMemory>
+    requires setup { IsSetup setup.now }
+    requires functions { HaveFunctionsApart setup.now functions.now }
+    ensures { IfOk result (λ asked. AreAskedApart setup.now functions.now.functions setup.now.pairs asked.items) }
+{
+    let mut asked = Vec::new(alloc);
+    for i in 0..setup.pairs.len() {
+        let obligation = obligation_apart(alloc, setup, functions, i)?;
+        asked.push(obligation)?;
+    }
+    Ok(asked)
+}
+
 /// What is asked of the pair at a place.
 fn obligation_of(
     alloc: Global,
@@ -49,16 +70,43 @@ fn obligation_of(
     requires place { i < length setup.now.pairs }
     ensures { IfOk result (λ o. (p : SignalPair) → slice_get setup.now.pairs i ≡ Some p → AskedOf setup.now functions.now p o) }
 {
-    setup.left.keeps();
-    setup.right.keeps();
-    let pair = &setup.pairs.as_slice()[i];
-    let size = pair_depth(setup, pair.left, pair.right);
     let queries = queries_of(
         alloc,
         &functions.places,
         &functions.left[i],
         &functions.right[i],
     )?;
+    let obligation = obligation_with(setup, i, queries)?;
+    Ok(obligation)
+}
+
+/// What is asked of the pair at a place where the functions of those are given whose literals differ.
+fn obligation_apart(
+    alloc: Global,
+    setup: &Setup<'_>,
+    functions: &PairFunctions,
+    i: usize,
+) -> Result<Obligation, NoMemory>
+    requires setup { IsSetup setup.now }
+    requires functions { HaveFunctionsApart setup.now functions.now }
+    requires place { i < length setup.now.pairs }
+    ensures { IfOk result (λ o. (p : SignalPair) → slice_get setup.now.pairs i ≡ Some p → AskedApart setup.now functions.now.functions p o) }
+{
+    let queries = queries_at(alloc, &functions.functions, functions.at[i])?;
+    let obligation = obligation_with(setup, i, queries)?;
+    Ok(obligation)
+}
+
+/// The pair at a place, with these queries.
+fn obligation_with(setup: &Setup<'_>, i: usize, queries: Queries) -> Result<Obligation, NoMemory>
+    requires setup { IsSetup setup.now }
+    requires place { i < length setup.now.pairs }
+    ensures { IfOk result (λ o. (p : SignalPair) → slice_get setup.now.pairs i ≡ Some p → AsksWith setup.now p queries o) }
+{
+    setup.left.keeps();
+    setup.right.keeps();
+    let pair = &setup.pairs.as_slice()[i];
+    let size = pair_depth(setup, pair.left, pair.right);
     let name = copy_name(&pair.name)?;
     Ok(Obligation {
         name,
@@ -66,6 +114,26 @@ fn obligation_of(
         decisive: !setup.is_cut(),
         queries,
     })
+}
+
+/// Whether the functions at a place always agree; nothing is asked where there is none.
+fn queries_at(
+    alloc: Global,
+    functions: &Functions,
+    place: Option<usize>,
+) -> Result<Queries, NoMemory>
+    requires { IfSome place (StandAt functions.now) }
+    ensures { IfOk result (AreAskedAt functions.now place) }
+{
+    let Some(k) = place else {
+        return Ok(Queries::new(alloc));
+    };
+    queries_of(
+        alloc,
+        &functions.places,
+        &functions.left[k],
+        &functions.right[k],
+    )
 }
 
 /// Whether two functions always agree, as one query.

@@ -1,5 +1,5 @@
 -- What is found of the obligations is what is found of the pairs.
-use Rattle.std.proofs.Common.{◌≡◌, ℕ, List, [], ◌∷◌, map, slice_get, Some, sym, ◌∙◌, ap, subst}
+use Rattle.std.proofs.Common.{◌≡◌, ℕ, List, [], ◌∷◌, map, slice_get, Some, sym, ◌∙◌, ap, subst, inl, inr}
 use Rattle.std.specs.List.{AllZip}
 use Rattle.std.proofs.lemmas.Option.{same_Some}
 use Rattle.circuit_theory.proofs.Lists.{of_at, zip_right}
@@ -20,12 +20,13 @@ use Rattle.sec_setup.specs.declared.setup.Setup.{Setup}
 use Rattle.sec_setup.specs.Cuts.{is_cut}
 use Rattle.sec_setup.specs.Pairs.{places_of}
 use Rattle.plain_asked.specs.declared.functions.Functions.{Functions}
-use Rattle.plain_asked.specs.Asked.{AskedOf, AreAsked}
-use Rattle.outcome_fits.specs.Outcome.{PairsFit, IsFirstOfAnswer}
+use Rattle.plain_asked.specs.Asked.{AskedOf, AskedApart, AreAskedApart}
+use Rattle.outcome_fits.specs.Outcome.{PairFits, PairsFit, IsFirstOfAnswer}
 use Rattle.plain_asked.specs.Sequences.{IsWitnessOf}
 use Rattle.plain_form.specs.Shown.{IsShowable, IsWitnessAt}
 use Rattle.plain_asked.proofs.Sound.{AreSound, ArePairsIn}
 use Rattle.plain_form.proofs.Decided.{pair_fits, only-query}
+use Rattle.plain_form.proofs.OneLiteral.{asks_something, one_literal_fits}
 use Rattle.plain_asked.proofs.Sequences.{is_sequence, is_witness}
 use Rattle.plain_asked.proofs.PairQueries.{AsksPair, is_query}
 
@@ -38,7 +39,7 @@ module _ (s : Setup) (f : Functions) (h : AreSound s f) where
   own_query p o k = is_query (asks p o k)
 
   -- each result is that of its pair
-  pub pairs_fit : (conflicts : ℕ) (pairs : List SignalPair) (asked : List Obligation) (results : List PairResult) → AreAsked s f pairs asked → AllZip (IsAnswered f.aig conflicts) asked results →
+  pub pairs_fit : (conflicts : ℕ) (pairs : List SignalPair) (asked : List Obligation) (results : List PairResult) → AreAskedApart s f pairs asked → AllZip (IsAnswered f.aig conflicts) asked results →
       PairsFit (circuit_of s.left.now) (circuit_of s.right.now) s.orders.left s.orders.right (is_cut s.exposed) conflicts (map places_of pairs) results
   pairs_fit conflicts [] [] [] are answered = tt
   pairs_fit conflicts [] [] (r ∷ results) are answered = absurd answered
@@ -46,15 +47,18 @@ module _ (s : Setup) (f : Functions) (h : AreSound s f) where
   pairs_fit conflicts (p ∷ pairs) [] results are answered = absurd are
   pairs_fit conflicts (p ∷ pairs) (o ∷ asked) [] are answered = absurd answered
   pairs_fit conflicts (p ∷ pairs) (o ∷ asked) (r ∷ results) are answered =
-      let k = are.0 in
-      (pair_fits (asks p o k) p.name (is_cut s.exposed) conflicts o r k.name_is k.decisive_is k.queries_are.1 k.size_is answered.0, pairs_fit conflicts pairs asked results are.1 answered.1)
+      (go are.0, pairs_fit conflicts pairs asked results are.1 answered.1)
+    where
+      go : AskedApart s f p o → PairFits (circuit_of s.left.now) (circuit_of s.right.now) s.orders.left s.orders.right (is_cut s.exposed) conflicts (places_of p) r
+      go (inl k) = pair_fits (asks p o k) p.name (is_cut s.exposed) conflicts o r k.name_is k.decisive_is k.queries_are.1 k.size_is answered.0
+      go (inr n) = one_literal_fits s f h.values p o conflicts r n answered.0
 
-  module _ (pairs : List SignalPair) (asked : List Obligation) (own : ArePairsIn s pairs) (are : AreAsked s f pairs asked) where
+  module _ (pairs : List SignalPair) (asked : List Obligation) (own : ArePairsIn s pairs) (are : AreAskedApart s f pairs asked) where
     -- the bits of a difference give a sequence
     pub showable : (wanted : PairAnswer) (results : List PairResult) (d : Difference) → IsFirstOf f.aig asked wanted results d → IsShowable f s.columns asked d
     showable wanted results d first =
-        let z = zip_left (AskedOf s f) pairs asked are d.pair first.obligation first.asked_at in
-        let k = z.2 in
+        let z = zip_left (AskedApart s f) pairs asked are d.pair first.obligation first.asked_at in
+        let k = asks_something s f z.0 first.obligation d.query first.differs.query first.differs.first.at z.2 in
         let member = of_at pairs d.pair z.0 z.1 in
         let same = only-query (asks z.0 first.obligation k) first.obligation.queries d.query first.differs.query k.queries_are.1 first.differs.first.at in
         let difference : IsDifference f.aig k.queries_are.0 d.bits = subst (λ (q : Query). IsDifference f.aig q d.bits) same first.differs.differs in
@@ -73,9 +77,9 @@ module _ (s : Setup) (f : Functions) (h : AreSound s f) where
         IsFirstOfAnswer (circuit_of s.left.now) (circuit_of s.right.now) s.orders.left s.orders.right s.columns wanted (map places_of pairs) results w
     first_pair conflicts results wanted d w answered first shown =
         let o = first.obligation in
-        let z = zip_left (AskedOf s f) pairs asked are d.pair o first.asked_at in
+        let z = zip_left (AskedApart s f) pairs asked are d.pair o first.asked_at in
         let p = z.0 in
-        let k = z.2 in
+        let k = asks_something s f p o d.query first.differs.query first.differs.first.at z.2 in
         let member = of_at pairs d.pair p z.1 in
         let a = zip_right (IsAnswered f.aig conflicts) asked results answered d.pair o first.asked_at in
         let r : a.0 ≡ first.result = same_Some a.0 first.result (sym a.1 ∙ first.result_at) in

@@ -2,3 +2,4 @@ pub mod Decided
 pub mod FirstPairs
 pub mod Outcomes
 pub mod NoLimits
+pub mod OneLiteral

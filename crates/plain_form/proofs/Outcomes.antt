@@ -1,5 +1,5 @@
 -- What is found fits, and can be shown.
-use Rattle.std.proofs.Common.{◌≡◌, ◌≢◌, ℕ, List, [], ◌∷◌, map, Option, Some, None, refl, sym, ◌∙◌, ap, subst}
+use Rattle.std.proofs.Common.{◌≡◌, ◌≢◌, ℕ, List, [], ◌∷◌, map, Option, Some, None, refl, sym, ◌∙◌, ap, subst, inl, inr}
 use Rattle.std.specs.List.{All}
 use Rattle.std.proofs.lemmas.List.Elements.{All-nil, All-cons}
 use Rattle.std.proofs.lemmas.Option.{same_Some, slice_get_within}
@@ -20,7 +20,7 @@ use Rattle.obligations.specs.declared.verdict.VerdictAt.TheVariants as at
 use Rattle.obligations.specs.Decided.{NoneIs, IsFirstOf, IsFirst, HaveDecided}
 use Rattle.obligations.specs.Verdict.{IsVerdictAt}
 use Rattle.plain_asked.specs.declared.functions.Functions.{Functions}
-use Rattle.plain_asked.specs.Asked.{AreAsked}
+use Rattle.plain_asked.specs.Asked.{AskedApart, AreAskedApart}
 use Rattle.plain_form.specs.Shown.{CanBeShown, IsShown}
 use Rattle.outcome_fits.specs.Outcome.{VerdictFits}
 use Rattle.pair_decide.specs.Queries.{IsQuery}
@@ -36,7 +36,7 @@ answer_left answer.NotShown d l n = absurd (n refl)
 answer_left answer.Limit d l n = absurd (l refl)
 
 -- the verdict at an obligation is that of the pairs
-pub verdict_fits : (s : Setup) (f : Functions) (h : AreSound s f) (pairs : List SignalPair) (asked : List Obligation) (conflicts : ℕ) (d : Decided) (y : VerdictAt) (v : Verdict) → ArePairsIn s pairs → AreAsked s f pairs asked → HaveDecided f.aig conflicts asked d →
+pub verdict_fits : (s : Setup) (f : Functions) (h : AreSound s f) (pairs : List SignalPair) (asked : List Obligation) (conflicts : ℕ) (d : Decided) (y : VerdictAt) (v : Verdict) → ArePairsIn s pairs → AreAskedApart s f pairs asked → HaveDecided f.aig conflicts asked d →
     IsVerdictAt d.different d.not_shown d.results y → IsShown f s.columns asked d.results y v → VerdictFits (circuit_of s.left.now) (circuit_of s.right.now) s.orders.left s.orders.right s.columns (map places_of pairs) d.results v
 verdict_fits s f h pairs asked conflicts d y v own are decided is shown = go y is shown
   where
@@ -76,17 +76,19 @@ verdict_fits s f h pairs asked conflicts d y v own are decided is shown = go y i
         )
 
 -- what is asked of pairs are queries over the graph
-pub are_asked : (s : Setup) (f : Functions) (h : AreSound s f) (pairs : List SignalPair) (asked : List Obligation) → AreAsked s f pairs asked → obligations_are.AreAsked f.aig asked
+pub are_asked : (s : Setup) (f : Functions) (h : AreSound s f) (pairs : List SignalPair) (asked : List Obligation) → AreAskedApart s f pairs asked → obligations_are.AreAsked f.aig asked
 are_asked s f h [] [] are = All-nil (λ (o : Obligation). All (IsQuery f.aig) o.queries)
 are_asked s f h [] (o ∷ asked) are = absurd are
 are_asked s f h (p ∷ pairs) [] are = absurd are
 are_asked s f h (p ∷ pairs) (o ∷ asked) are =
-    All-cons (λ (x : Obligation). All (IsQuery f.aig) x.queries) o asked
-    (subst (All (IsQuery f.aig)) (sym are.0.queries_are.1) (All-cons (IsQuery f.aig) are.0.queries_are.0 [] (own_query s f h p o are.0) (All-nil (IsQuery f.aig))))
-    (are_asked s f h pairs asked are.1)
+    All-cons (λ (x : Obligation). All (IsQuery f.aig) x.queries) o asked (go are.0) (are_asked s f h pairs asked are.1)
+  where
+    go : AskedApart s f p o → All (IsQuery f.aig) o.queries
+    go (inl k) = subst (All (IsQuery f.aig)) (sym k.queries_are.1) (All-cons (IsQuery f.aig) k.queries_are.0 [] (own_query s f h p o k) (All-nil (IsQuery f.aig)))
+    go (inr n) = subst (All (IsQuery f.aig)) (sym n.asks.queries_are) (All-nil (IsQuery f.aig))
 
 -- the verdict can be shown
-pub can_be_shown : (s : Setup) (f : Functions) (h : AreSound s f) (pairs : List SignalPair) (asked : List Obligation) (conflicts : ℕ) (d : Decided) (y : VerdictAt) → ArePairsIn s pairs → AreAsked s f pairs asked → HaveDecided f.aig conflicts asked d →
+pub can_be_shown : (s : Setup) (f : Functions) (h : AreSound s f) (pairs : List SignalPair) (asked : List Obligation) (conflicts : ℕ) (d : Decided) (y : VerdictAt) → ArePairsIn s pairs → AreAskedApart s f pairs asked → HaveDecided f.aig conflicts asked d →
     IsVerdictAt d.different d.not_shown d.results y → CanBeShown f s.columns asked d.results y
 can_be_shown s f h pairs asked conflicts d y own are decided is = go y is
   where

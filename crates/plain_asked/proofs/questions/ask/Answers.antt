@@ -1,6 +1,5 @@
 -- One pair more.
 use Rattle.std.proofs.Common.{◌≡◌, ℕ, ◌+◌, ◌<◌, ◌++◌, ◌∷◌, [], List, length, take, get_or, slice_get, Some, sym, subst, arith}
-use Rattle.std.proofs.lemmas.Option.{slice_get-get_or}
 use Rattle.circuit_theory.proofs.Lists.{zip_push}
 use Rattle.outcome_fits.specs.Obligation.{Obligation}
 use Rattle.interface.specs.declared.pairs.SignalPair.{SignalPair}
@@ -8,12 +7,8 @@ use Rattle.sec_setup.specs.declared.setup.Setup.{Setup}
 use Rattle.plain_asked.specs.declared.functions.Functions.{Functions}
 use Rattle.plain_asked.specs.Asked.{AskedOf, AreAsked}
 use Rattle.shift_variables.proofs.Assignments.{take_next}
+use Rattle.plain_asked.proofs.PairAt.{element}
 use Rattle.plain_asked.proofs.questions.ask.Goals as goal
-
--- the element at a place
-element : {X : Type 0} (xs : List X) (i : ℕ) → i < length xs → (x : X) × (slice_get xs i ≡ Some x)
-element [] i h = absurd (omega (arith, h))
-element (x ∷ xs) i h = (get_or (x ∷ xs) i x, slice_get-get_or (x ∷ xs) i x h)
 
 asked_more : (s : Setup) (f : Functions) (pairs : List SignalPair) (i : ℕ) (asked made : List Obligation) (o : Obligation) → i < length pairs → ((p : SignalPair) → slice_get pairs i ≡ Some p → AskedOf s f p o) → made ≡ asked ++ o ∷ [] → AreAsked s f (take i pairs) asked → AreAsked s f (take (i + 1) pairs) made
 asked_more s f pairs i asked made o inside is same are =

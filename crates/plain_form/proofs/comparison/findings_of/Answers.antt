@@ -5,7 +5,6 @@ use Rattle.obligations.specs.declared.obligation.Obligation.{Obligation}
 use Rattle.obligations.specs.Asked as graph_level
 use Rattle.obligations.specs.Decided.{HaveDecided}
 use Rattle.obligations.specs.Verdict.{IsVerdictAt}
-use Rattle.plain_asked.specs.Asked.{AreAsked}
 use Rattle.outcome_fits.specs.Outcome.{greatest_size}
 use Rattle.plain_form.specs.Shown.{CanBeShown, IsShown}
 use Rattle.plain_asked.proofs.Sound.{AreSound, own_pairs}
@@ -16,14 +15,14 @@ use Rattle.plain_form.proofs.comparison.findings_of.Goals as goal
 pub decide_all-requires-clause-asked : goal.decide_all-requires-clause-asked
 decide_all-requires-clause-asked c =
     let s = c.args.setup.now in
-    let f = c.args.functions.now in
+    let f = c.args.functions.now.functions in
     let sound : AreSound s f = record { setup = c.requires.setup; left = c.keeps.ensures.sound; right = c.keeps-2.ensures.sound; graph = c.keeps-3.ensures.graph; values = c.keeps-3.ensures.values; distinct = c.keeps-4.ensures } in
     subst (graph_level.AreAsked f.aig) (sym c.as_slice.ensures.value) (are_asked s f sound s.pairs c.in_ok-asked.asked.items c.in_ok-asked.ensures)
 
 pub show-requires : goal.show-requires
 show-requires c =
     let s = c.args.setup.now in
-    let f = c.args.functions.now in
+    let f = c.args.functions.now.functions in
     let asked = c.in_ok-asked.asked.items in
     let d = c.in_ok-decided.decided in
     let at = c.verdict_at-at.result in
@@ -40,7 +39,7 @@ show-requires c =
 pub returns : goal.returns
 returns c =
     let s = c.args.setup.now in
-    let f = c.args.functions.now in
+    let f = c.args.functions.now.functions in
     let asked = c.in_ok-asked.asked.items in
     let d = c.in_ok-decided.decided in
     let at = c.verdict_at-at.result in

@@ -1,0 +1,74 @@
+-- The functions of the pairs whose signals have two literals.
+use Rattle.std.specs.Prelude.{◌≡◌, ℕ, ◌<◌, List, [], ◌∷◌, ◌++◌, length, slice_get, Option, Some, None, Result, Ok, Err, Contains}
+use Rattle.flat_net.specs.declared.signals.Signal.{Signal}
+use Rattle.flat_net.specs.View.{NetView}
+use Rattle.aig.specs.declared.node.Lit.{Lit}
+use Rattle.unfold_places.specs.declared.signal_function.Unfolded.{Unfolded}
+use Rattle.cbf_unfold.specs.Unfolded.{IsLiteralOf}
+use Rattle.interface.specs.declared.pairs.SignalPair.{SignalPair}
+use Rattle.sec_setup.specs.declared.setup.Setup.{Setup}
+use Rattle.plain_asked.specs.declared.apart.Chosen.{Chosen}
+use Rattle.plain_asked.specs.declared.apart.PairFunctions.{PairFunctions}
+use Rattle.plain_asked.specs.declared.error.PlainError.{PlainError}
+use Rattle.plain_asked.specs.declared.functions.Functions.{Functions}
+use Rattle.plain_asked.specs.Pairs.{IsFunctionOf, AreLight, Unfolds, left_signals, right_signals}
+
+-- both signals of a pair have one literal
+pub record HaveOneLiteral (a b : NetView) (left right : List ℕ) (f : Functions) (p : SignalPair) : Type 0 where
+  pub literal : ℕ
+  pub left_is : IsLiteralOf a left f.aig f.places p.left.0 literal
+  pub right_is : IsLiteralOf b right f.aig f.places p.right.0 literal
+
+-- the functions of a pair stand at a place
+pub record HaveFunctionsAt (a b : NetView) (left right : List ℕ) (f : Functions) (p : SignalPair) (place : ℕ) : Type 0 where
+  pub left_function : Unfolded
+  pub right_function : Unfolded
+  pub left_at : slice_get f.left.items place ≡ Some left_function
+  pub right_at : slice_get f.right.items place ≡ Some right_function
+  pub left_is : IsFunctionOf a left f.aig f.places p.left.0 left_function
+  pub right_is : IsFunctionOf b right f.aig f.places p.right.0 right_function
+
+-- they stand there, or both signals have one literal
+abbrev pub IsPairAt : NetView → NetView → List ℕ → List ℕ → Functions → SignalPair → Option ℕ → Type 0
+IsPairAt a b left right f p None = HaveOneLiteral a b left right f p
+IsPairAt a b left right f p (Some place) = HaveFunctionsAt a b left right f p place
+
+-- so it is with each pair
+abbrev pub AreApart : NetView → NetView → List ℕ → List ℕ → List SignalPair → PairFunctions → Type 0
+AreApart a b left right pairs f = (i : ℕ) (p : SignalPair) → slice_get pairs i ≡ Some p → (place : Option ℕ) × (slice_get f.at.items i ≡ Some place) × IsPairAt a b left right f.functions p place
+
+-- and with each pair of a setup
+abbrev pub HaveFunctionsApart : Setup → PairFunctions → Type 0
+HaveFunctionsApart s f = AreApart s.left.now s.right.now s.orders.left s.orders.right s.pairs f
+
+-- the functions of the pairs, or the first circuit whose outputs weigh too much
+abbrev pub UnfoldsApart : NetView → NetView → List ℕ → List ℕ → List SignalPair → Result PairFunctions PlainError → Type 0
+UnfoldsApart a b left right pairs (Ok f) = AreLight a (left_signals pairs) × AreLight b (right_signals pairs) × AreApart a b left right pairs f
+UnfoldsApart a b left right pairs (Err e) = Unfolds a b left right pairs (Err e)
+
+-- two signals of these literals stand at a place, or the literals are one
+abbrev pub IsChosen : Signal → Signal → Lit → Lit → List Signal → List Signal → Option ℕ → Type 0
+IsChosen s t x y lefts rights None = x ≡ y
+IsChosen s t x y lefts rights (Some place) = (slice_get lefts place ≡ Some s) × (slice_get rights place ≡ Some t)
+
+-- of the first signals those are chosen whose literals differ
+pub record AreChosen (lefts rights : List Signal) (xs ys : List Lit) (count : ℕ) (c : Chosen) : Type 0 where
+  pub each : length c.at.items ≡ count
+  pub alike : length c.left.items ≡ length c.right.items
+  pub left : (s : Signal) → Contains c.left.items s → Contains lefts s
+  pub right : (s : Signal) → Contains c.right.items s → Contains rights s
+  pub are : (i : ℕ) (s t : Signal) (x y : Lit) → i < count → slice_get lefts i ≡ Some s → slice_get rights i ≡ Some t → slice_get xs i ≡ Some x → slice_get ys i ≡ Some y →
+      (place : Option ℕ) × (slice_get c.at.items i ≡ Some place) × IsChosen s t x y c.left.items c.right.items place
+
+-- two signals of these literals are put behind the others where the literals differ
+pub record IsPut (s t : Signal) (x y : Lit) (old new : Chosen) : Type 0 where
+  pub place : Option ℕ
+  pub at_is : new.at.items ≡ old.at.items ++ place ∷ []
+  pub lefts : List Signal
+  pub rights : List Signal
+  pub left_is : new.left.items ≡ old.left.items ++ lefts
+  pub right_is : new.right.items ≡ old.right.items ++ rights
+  pub alike : length new.left.items ≡ length new.right.items
+  pub left_own : (z : Signal) → Contains lefts z → z ≡ s
+  pub right_own : (z : Signal) → Contains rights z → z ≡ t
+  pub is : IsChosen s t x y new.left.items new.right.items place
