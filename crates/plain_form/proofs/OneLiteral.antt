@@ -1,8 +1,8 @@
 -- A pair of one literal, of which nothing is asked, is equal.
-use Rattle.std.proofs.Common.{◌≡◌, ℕ, ◌<◌, Bool, List, [], length, get_or, slice_get, Option, Some, None, sym, ◌∙◌, ap, subst, arith, inl, inr}
+use Rattle.std.proofs.Common.{◌≡◌, ℕ, Bool, List, [], length, get_or, slice_get, Option, Some, None, sym, ◌∙◌, ap, subst, arith, inl, inr}
 use Rattle.std.proofs.lemmas.Option.{get_or_from_slice_get, slice_get_within}
 use Rattle.circuit_theory.specs.Fits.{IsPairDepth}
-use Rattle.circuit_theory.specs.Tree.{HaveEqualFunctions, tree_value}
+use Rattle.circuit_theory.specs.Tree.{HaveEqualFunctions}
 use Rattle.flat_net.specs.View.{circuit_of}
 use Rattle.aig.specs.Builds.{HasTreeValues}
 use Rattle.pair_decide.specs.declared.query.Query.{Query}

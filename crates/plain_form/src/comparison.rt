@@ -17,7 +17,8 @@ use sec_setup::Setup;
 use std::alloc::Global;
 
 /// Unfolds the left signals of the pairs, then the right ones, into functions of the inputs at earlier cycles, and decides each pair
-/// in order, with at most so many conflicts for each. Variables are listed for the pairs alone whose literals differ. Where latches are cut open, a pair that differs isn't shown to differ.
+/// in order, with at most so many conflicts for each. Variables are listed for the pairs alone whose literals differ. Where latches are
+/// cut open, a pair that differs isn't shown to differ.
 /// `TooLarge` comes exactly where the unfoldings of one circuit's outputs weigh more than 2,000,000 together.
 pub fn compare_plain(
     alloc: Global,
