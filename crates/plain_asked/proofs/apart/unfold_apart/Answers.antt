@@ -1,5 +1,5 @@
 -- All literals, then the functions of the signals that are chosen.
-use Rattle.std.proofs.Common.{◌≡◌, ◌∙◌, ◌+◌, ◌++◌, ◌^◌, ◌≤◌, ℕ, List, [], length, map, Err, refl, sym, ap, subst, arith, rules}
+use Rattle.std.proofs.Common.{◌≡◌, ◌∙◌, ◌+◌, ◌++◌, ℕ, List, [], length, Err, refl, sym, ap, subst, arith, rules}
 use Rattle.std.specs.List.{AllZip, Contains}
 use Rattle.aig.specs.declared.node.Lit.{Lit}
 use Rattle.aig.proofs.Growth.{Grows-refl, Grows-trans}

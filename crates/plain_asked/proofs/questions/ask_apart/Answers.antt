@@ -1,5 +1,5 @@
 -- One pair more.
-use Rattle.std.proofs.Common.{◌≡◌, ℕ, ◌+◌, ◌<◌, ◌++◌, ◌∷◌, [], List, length, take, get_or, slice_get, Some, sym, subst, arith}
+use Rattle.std.proofs.Common.{◌≡◌, ℕ, ◌+◌, ◌<◌, ◌++◌, ◌∷◌, [], List, length, take, slice_get, Some, sym, subst, arith}
 use Rattle.circuit_theory.proofs.Lists.{zip_push}
 use Rattle.outcome_fits.specs.Obligation.{Obligation}
 use Rattle.interface.specs.declared.pairs.SignalPair.{SignalPair}

@@ -1,5 +1,5 @@
 -- The functions of the pair stand at its place, or there are none.
-use Rattle.std.proofs.Common.{◌≡◌, ◌∙◌, slice_get, Option, Some, refl, sym, subst, arith}
+use Rattle.std.proofs.Common.{◌≡◌, ◌∙◌, slice_get, Some, refl, sym, subst, arith}
 use Rattle.std.proofs.lemmas.Option.{same_Some, slice_get_within}
 use Rattle.plain_asked.specs.Apart.{IsPairAt}
 use Rattle.plain_asked.proofs.AskedPairs.{stand_at, asked_apart}
