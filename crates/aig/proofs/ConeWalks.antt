@@ -11,10 +11,10 @@ use Rattle.std.proofs.lemmas.List.Sorted.{Contains-permutation, IsPermutation-sy
 use Rattle.std.proofs.lemmas.Map.Keys.{IsStrictlyIncreasing-from_distinct, IsDistinct-IsPermutation}
 use Rattle.std.proofs.lemmas.Map.Made.{IsDistinct-from_AllPairs}
 use Rattle.std.specs.Ordering.{nat_cmp}
-use Rattle.circuit_theory.proofs.Lists.{Contains-head, Contains-tail, Contains-map_from, at_of, of_at}
-use Rattle.circuit_theory.proofs.Sums.{sum_within}
-use Rattle.unique_table.specs.Places.{IsWith}
-use Rattle.unique_table.proofs.Keys.{all-differ}
+use Rattle.sec_base.proofs.circuit_theory.Lists.{Contains-head, Contains-tail, Contains-map_from, at_of, of_at}
+use Rattle.sec_base.proofs.circuit_theory.Sums.{sum_within}
+use Rattle.sec_base.specs.unique_table.Places.{IsWith}
+use Rattle.sec_base.proofs.unique_table.Keys.{all-differ}
 use Rattle.sec_base.specs.Table.{AreDistinct}
 use Rattle.aig.specs.declared.node.Lit.{Lit}
 use Rattle.aig.specs.declared.node.Node.{Node}

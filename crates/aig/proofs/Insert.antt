@@ -3,9 +3,9 @@ use Rattle.std.proofs.Common.{◌≡◌, ◌≢◌, ℕ, zero, suc, ◌+◌, ◌
 use Rattle.std.specs.Prelude.{nat_lt}
 use Rattle.std.proofs.lemmas.Option.{slice_get_within, none-some, same_Some}
 use Rattle.std.proofs.lemmas.List.{length-append}
-use Rattle.circuit_theory.proofs.Lists.{of_at}
-use Rattle.unique_table.specs.Places.{IsWith}
-use Rattle.circuit_theory.specs.Cover.{Cover, cover_value}
+use Rattle.sec_base.proofs.circuit_theory.Lists.{of_at}
+use Rattle.sec_base.specs.unique_table.Places.{IsWith}
+use Rattle.sec_base.specs.circuit_theory.Cover.{Cover, cover_value}
 use Rattle.aig.specs.declared.node.Lit.{Lit}
 use Rattle.aig.specs.declared.node.Node.{Node}
 use Rattle.aig.specs.declared.node.Node.TheVariants.{Constant, Input, And}

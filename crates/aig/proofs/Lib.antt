@@ -10,3 +10,4 @@ pub mod ConeWalks
 pub mod Parts
 pub mod Placing
 pub use Rattle.sec_base.proofs.TableLemmas
+pub use Rattle.sec_base.proofs.circuit_theory

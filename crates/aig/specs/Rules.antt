@@ -1,6 +1,6 @@
 -- Which literal stands for an and, for a cube and for a cover.
 use Rattle.std.specs.Prelude.{◌≡◌, ℕ, ◌+◌, ◌*◌, ◌==◌, ◌||◌, nat_lt, if◌then◌else◌, List, [], ◌∷◌, length, Option, Some, None}
-use Rattle.circuit_theory.specs.Cover.{Cover}
+use Rattle.sec_base.specs.circuit_theory.Cover.{Cover}
 use Rattle.aig.specs.declared.node.Node.{Node}
 use Rattle.aig.specs.declared.node.Node.TheVariants.{And}
 use Rattle.aig.specs.Graph.{flip, IsLitOf}

@@ -8,9 +8,8 @@ ghost use Rattle.std.specs.List.Sorted.{IsStrictlyIncreasing};
 
 use crate::graph::Aig;
 use crate::node::{Lit, Node};
-use sec_base::{Ids, NoMemory};
+use sec_base::{Ids, NoMemory, UniqueTable};
 use std::alloc::Global;
-use unique_table::UniqueTable;
 
 impl Aig {
     /// The nodes that are reached from the roots, increasing. It walks no other node.

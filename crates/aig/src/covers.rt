@@ -1,7 +1,7 @@
 //! Covers on the graph.
 
 ghost use Rattle.std.specs.Prelude.{◌≡◌, ℕ, ◌+◌, ◌*◌, ◌^◌, ◌<◌, ◌≤◌, Bool, map, length, All, IfOk, option_map, if◌then◌else◌};
-ghost use Rattle.circuit_theory.specs.Cover.{cover_value};
+ghost use Rattle.sec_base.specs.circuit_theory.Cover.{cover_value};
 ghost use Rattle.aig.specs.Graph.{Grows, flip, vars_of};
 ghost use Rattle.aig.specs.Values.{value, KeepsValues};
 ghost use Rattle.aig.specs.Rules.{IsCoverOf, IsRowOf, IsCubeOf, IsPlaceOf, place_lit, cover_room};

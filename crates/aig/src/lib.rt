@@ -12,5 +12,5 @@ mod values;
 pub use cone_graph::{Cones, Nodes, cones_of};
 pub use graph::Aig;
 pub use node::{Lit, Lits, Node};
-pub use sec_base::{Ids, NoMemory, Seq};
+pub use sec_base::{Bits, Ids, MAX_CONFLICTS, NoMemory, Seq, Side};
 pub use values::node_bits;

@@ -1,2 +1,3 @@
 pub mod Bodies
 pub mod SymbolLines
+pub mod NamesFound

@@ -8,9 +8,9 @@ use Rattle.std.proofs.lemmas.Option.{none-some, same_Some}
 use Rattle.std.proofs.lemmas.Bool.{ltb-false}
 use Rattle.aiger_records.specs.declared.header.Header.{Header}
 use Rattle.aiger_records.specs.declared.error.AigerKind.{AigerKind}
-use Rattle.aiger_symbols.specs.declared.symbol.Named.{Named}
-use Rattle.aiger_text.specs.Lines.{Cut, cut_at, is_line_feed}
-use Rattle.aiger_symbols.specs.Symbols.{Symbol, symbol_of, symbols_in, symbols_of, is_end, is_comment, symbol_fault}
+use Rattle.aiger_file.specs.declared.symbol.Named.{Named}
+use Rattle.aiger_records.specs.Lines.{Cut, cut_at, is_line_feed}
+use Rattle.aiger_file.specs.Symbols.{Symbol, symbol_of, symbols_in, symbols_of, is_end, is_comment, symbol_fault}
 use Rattle.aiger_file.specs.Reading.{first_symbol_fault, fault_at, at, those_there, named_by}
 use Rattle.aiger_file.specs.State.{SymbolsTo}
 

@@ -2,3 +2,5 @@ pub mod Files
 pub mod Reading
 pub mod State
 pub mod Whole
+pub mod Names
+pub mod Symbols

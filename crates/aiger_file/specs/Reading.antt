@@ -6,12 +6,12 @@ use Rattle.aiger_records.specs.declared.record.Record.{Record}
 use Rattle.aiger_records.specs.declared.error.AigerKind.{AigerKind}
 use Rattle.aiger_records.specs.declared.error.AigerKind.TheVariants as kind
 use Rattle.aiger_file.specs.declared.file.AigerFile.{AigerFile}
-use Rattle.aiger_symbols.specs.declared.symbol.Named.{Named}
+use Rattle.aiger_file.specs.declared.symbol.Named.{Named}
 use Rattle.aiger_records.specs.Headers.{header_of, header_fault}
-use Rattle.aiger_text.specs.Lines.{Cut, first_line}
+use Rattle.aiger_records.specs.Lines.{Cut, first_line}
 use Rattle.aiger_records.specs.Records.{Taken, record_at, body_length, implied}
 use Rattle.aiger_records.specs.Faults.{fault_of}
-use Rattle.aiger_symbols.specs.Symbols.{Symbol, symbols_of, symbol_of, symbol_fault}
+use Rattle.aiger_file.specs.Symbols.{Symbol, symbols_of, symbol_of, symbol_fault}
 
 -- the place of a record, and what is wrong with it
 pub record FaultAt : Type 0 where

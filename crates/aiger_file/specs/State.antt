@@ -8,11 +8,11 @@ use Rattle.aiger_records.specs.declared.error.Stop.{Stop}
 use Rattle.aiger_records.specs.declared.error.Stop.TheVariants as stop
 use Rattle.aiger_file.specs.declared.reader.ReadSoFar.{ReadSoFar}
 use Rattle.aiger_file.specs.declared.reader.Headed.{Headed}
-use Rattle.aiger_symbols.specs.declared.symbol.Named.{Named}
+use Rattle.aiger_file.specs.declared.symbol.Named.{Named}
 use Rattle.aiger_records.specs.Faults.{IsSmall}
 use Rattle.aiger_records.specs.Records.{implied}
 use Rattle.aiger_records.specs.Headers.{header_fault}
-use Rattle.aiger_symbols.specs.Symbols.{Symbol, symbols_of}
+use Rattle.aiger_file.specs.Symbols.{Symbol, symbols_of}
 use Rattle.aiger_file.specs.Reading.{FaultAt, at, Body, records_fault, first_fault_after, first_symbol_fault, those_there, named_by, headed, headed_fault}
 
 -- the refusal of the record at this place

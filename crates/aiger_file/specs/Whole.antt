@@ -5,7 +5,7 @@ use Rattle.aiger_records.specs.declared.error.AigerKind.{AigerKind}
 use Rattle.aiger_records.specs.declared.error.AigerKind.TheVariants as kind
 use Rattle.aiger_records.specs.Headers.{guard}
 use Rattle.aiger_records.specs.Driven.{all_driven}
-use Rattle.aiger_symbols.specs.Names.{names_from, repeats}
+use Rattle.aiger_file.specs.Names.{names_from, repeats}
 use Rattle.aiger_file.specs.declared.file.AigerFile.{AigerFile}
 
 -- the names of inputs and latches

@@ -1,7 +1,7 @@
 //! A file as its records.
 
+use crate::symbol::Named;
 use aiger_records::{Header, Records};
-use aiger_symbols::Named;
 
 /// The records of a file, each in its order.
 #[derive(Drop)]

@@ -8,9 +8,10 @@ ghost use Rattle.aiger_file.specs.Whole.{file_fault};
 ghost use Rattle.aiger_file.specs.Files.{ReadsFile, IsKept};
 
 use crate::file::AigerFile;
-use aiger_records::{AigerError, AigerKind, Defined, Header, Stop, Taken, header_fault, header_of};
-use aiger_symbols::{Named, is_end, symbol_of};
-use aiger_text::{Cut, cut_at};
+use crate::symbol::{Named, is_end, symbol_of};
+use aiger_records::{
+    AigerError, AigerKind, Cut, Defined, Header, Stop, Taken, cut_at, header_fault, header_of,
+};
 use sec_base::NoMemory;
 use std::alloc::Global;
 

@@ -7,7 +7,7 @@ use Rattle.std.proofs.lemmas.Bool.Decides.{Decides-eqb}
 use Rattle.std.proofs.lemmas.List.{get_or-set_same, get_or-set_other, length-set, length-replicate, get_or-replicate}
 use Rattle.std.proofs.lemmas.List.Elements.{All-head, All-tail}
 use Rattle.std.proofs.lemmas.List.Folds.{list_any_more}
-use Rattle.gate_order.proofs.Rows.{same_or_not}
+use Rattle.net_assembly.proofs.Rows.{same_or_not}
 use Rattle.aiger_records.specs.declared.record.Record.{Record}
 use Rattle.aiger_records.specs.Driven.{used_by}
 use Rattle.aiger_graph.specs.Literals.{with_marks, AreUsed}

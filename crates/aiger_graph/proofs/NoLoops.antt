@@ -9,11 +9,11 @@ use Rattle.circuit_theory.specs.Cover.{Cover}
 use Rattle.circuit_theory.specs.Circuit.{Equation, Reads}
 use Rattle.circuit_theory.specs.Circuit.{Gate as gate_equation, Latch as latch_equation, Port as port_equation}
 use Rattle.circuit_theory.proofs.Lists.{Contains-cases, Contains-map_from, All-from_each, at_of}
-use Rattle.gate_order.specs.Order.{reads_of, IsOrder, IsRound}
+use Rattle.net_assembly.specs.Order.{reads_of, IsOrder, IsRound}
 use Rattle.aiger_records.specs.declared.record.Record.{Record}
 use Rattle.aiger_records.specs.Faults.{DefinesOnce}
-use Rattle.aiger_symbols.specs.declared.symbol.Named.{Named}
-use Rattle.aiger_symbols.specs.Names.{name_of}
+use Rattle.aiger_file.specs.declared.symbol.Named.{Named}
+use Rattle.aiger_file.specs.Names.{name_of}
 use Rattle.aiger_file.specs.declared.file.AigerFile.{AigerFile}
 use Rattle.aiger_file.specs.Files.{IsKept}
 use Rattle.aiger_graph.specs.Circuit.{LatchLine, circuit_of_file, constants, gates_in, latches_in, latches_from, zero_cover, one_cover}

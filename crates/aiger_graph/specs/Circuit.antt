@@ -8,8 +8,8 @@ use Rattle.aiger_records.specs.declared.record.Record.{Record}
 use Rattle.aiger_records.specs.declared.record.Record.TheVariants.{Input, Latch, Output, Gate, Packed}
 use Rattle.aiger_records.specs.Driven.{used_by}
 use Rattle.aiger_records.specs.Faults.{defined_by}
-use Rattle.aiger_symbols.specs.declared.symbol.Named.{Named}
-use Rattle.aiger_symbols.specs.Names.{name_of}
+use Rattle.aiger_file.specs.declared.symbol.Named.{Named}
+use Rattle.aiger_file.specs.Names.{name_of}
 use Rattle.aiger_file.specs.declared.file.AigerFile.{AigerFile}
 
 -- and

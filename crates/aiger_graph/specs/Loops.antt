@@ -1,7 +1,7 @@
 -- Loops of gates.
 use Rattle.std.specs.Prelude.{◌≡◌, ℕ, suc, ◌+◌, ◌*◌, ◌-◌, ◌<◌, List, length, slice_get, Some}
 use Rattle.circuit_theory.specs.Circuit.{Circuit, Reads}
-use Rattle.gate_order.specs.Order.{IsOrder}
+use Rattle.net_assembly.specs.Order.{IsOrder}
 use Rattle.aiger_file.specs.declared.file.AigerFile.{AigerFile}
 use Rattle.aiger_graph.specs.Circuit.{circuit_of_file}
 use Rattle.aiger_graph.specs.Literals.{graph_of}

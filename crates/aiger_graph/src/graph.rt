@@ -4,13 +4,13 @@ ghost use Rattle.std.specs.Prelude.{◌≡◌, ◌+◌, ◌*◌, ◌<◌, ◌^�
 ghost use Rattle.aiger_records.specs.Driven.{used_by};
 ghost use Rattle.aiger_records.specs.Faults.{IsSmall, has_bad_literal, defined_by};
 ghost use Rattle.aiger_file.specs.Files.{IsKept};
-ghost use Rattle.gate_order.specs.Order.{IsOrder};
+ghost use Rattle.net_assembly.specs.Order.{IsOrder};
 ghost use Rattle.aiger_graph.specs.Literals.{operands, graph_of, negated, with_reads, with_marks, AreUsed};
 ghost use Rattle.aiger_graph.specs.Loops.{HasLoop, IsOrdered};
 
 use aiger_file::AigerFile;
 use aiger_records::{Header, Record, defined_by};
-use gate_order::{Found, order_of};
+use net_assembly::{Found, order_of};
 use sec_base::{Ids, NoMemory, Seq};
 use std::alloc::Global;
 

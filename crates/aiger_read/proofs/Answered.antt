@@ -2,7 +2,7 @@
 use Rattle.std.proofs.Common.{◌≡◌, ℕ, ◌+◌, ◌*◌, List, sym, ◌∙◌, subst}
 use Rattle.std.specs.Prelude.{Ok, Err}
 use Rattle.flat_net.specs.View.{NetView}
-use Rattle.gate_order.specs.Order.{IsOrder}
+use Rattle.aiger_graph.specs.net_assembly.Order.{IsOrder}
 use Rattle.aiger_graph.specs.Literals.{graph_of}
 use Rattle.aiger_records.specs.declared.error.AigerError.{AigerError}
 use Rattle.aiger_records.specs.declared.error.AigerError.TheVariants as aiger

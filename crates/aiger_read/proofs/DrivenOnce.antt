@@ -8,11 +8,11 @@ use Rattle.circuit_theory.specs.Circuit.{Equation, IsInput, out_of}
 use Rattle.circuit_theory.specs.Circuit.{Gate as gate_equation}
 use Rattle.circuit_theory.proofs.Lists.{Contains-cases, Contains-map_from, Contains-map, only}
 use Rattle.sec_base.specs.Table.{AreDistinct}
-use Rattle.net_assembly.proofs.DistinctLists.{distinct_nil, distinct_cons, distinct_append}
+use Rattle.aiger_graph.proofs.net_assembly.DistinctLists.{distinct_nil, distinct_cons, distinct_append}
 use Rattle.aiger_records.specs.declared.record.Record.{Record}
 use Rattle.aiger_records.specs.declared.record.Record.TheVariants.{Input, Latch, Output, Gate, Packed}
 use Rattle.aiger_records.specs.Faults.{defined_by, DefinesOnce}
-use Rattle.aiger_symbols.specs.declared.symbol.Named.{Named as Symbols}
+use Rattle.aiger_file.specs.declared.symbol.Named.{Named as Symbols}
 use Rattle.aiger_file.specs.declared.file.AigerFile.{AigerFile}
 use Rattle.aiger_graph.specs.Circuit.{LatchLine, circuit_of_file, constants, gate_of, is_used, inverter_of, gates_of, gates_in, latches_from, input_literals, latches_in, and_cover, not_cover, zero_cover, one_cover}
 use Rattle.aiger_graph.specs.Literals.{operands, reads_in}

@@ -11,17 +11,17 @@ use Rattle.circuit_theory.specs.Interface.{◌or_else◌}
 use Rattle.circuit_theory.proofs.Lists.{All-from_each, Contains-head, Contains-tail, Contains-cases, at_of, only}
 use Rattle.sec_base.specs.Table.{is_among, AreDistinct}
 use Rattle.sec_base.proofs.TableLemmas.{Contains_not-is_among}
-use Rattle.gate_order.proofs.Rows.{slice_get-append}
-use Rattle.net_assembly.proofs.DistinctLists.{distinct_nil, distinct_cons, distinct_append}
+use Rattle.aiger_graph.proofs.net_assembly.Rows.{slice_get-append}
+use Rattle.aiger_graph.proofs.net_assembly.DistinctLists.{distinct_nil, distinct_cons, distinct_append}
 use Rattle.aiger_records.specs.declared.header.Header.{Header}
 use Rattle.aiger_records.specs.declared.error.AigerKind.{AigerKind}
 use Rattle.aiger_records.specs.declared.error.AigerKind.TheVariants as kind
 use Rattle.aiger_records.specs.Headers.{guard, header_fault}
 use Rattle.aiger_records.specs.Records.{body_length}
 use Rattle.aiger_records.specs.Driven.{all_driven}
-use Rattle.aiger_symbols.specs.declared.symbol.Named.{Named}
-use Rattle.aiger_symbols.specs.Symbols.{Symbol, symbols_of, symbol_fault, count_of, is_bad_byte, is_bad_name}
-use Rattle.aiger_symbols.specs.Names.{key_of, name_beside, name_of, names_from, repeats}
+use Rattle.aiger_file.specs.declared.symbol.Named.{Named}
+use Rattle.aiger_file.specs.Symbols.{Symbol, symbols_of, symbol_fault, count_of, is_bad_byte, is_bad_name}
+use Rattle.aiger_file.specs.Names.{key_of, name_beside, name_of, names_from, repeats}
 use Rattle.aiger_file.specs.declared.file.AigerFile.{AigerFile}
 use Rattle.aiger_file.specs.Reading.{at, fault_at, Headed, records_fault, first_symbol_fault, body_fault, body_of, headed, headed_fault, first_fault, those_there, file_with, spelled}
 use Rattle.aiger_file.specs.Whole.{file_fault, source_names, output_names}

@@ -17,7 +17,7 @@ use Rattle.net_alike.specs.Renumbered.{latch_rows}
 use Rattle.net_alike.specs.FlatCircuit.{HasSignal, IsFlatCircuit}
 use Rattle.net_alike.proofs.Carrying.{map_fixed}
 use Rattle.sec_base.specs.Table.{AreDistinct}
-use Rattle.gate_order.proofs.Rows.{slice_get-take_to}
+use Rattle.aiger_graph.proofs.net_assembly.Rows.{slice_get-take_to}
 use Rattle.flat_net.specs.declared.signals.Signal.{Signal}
 use Rattle.flat_net.specs.declared.parts.Port.{Port as NetPort}
 use Rattle.flat_net.specs.declared.parts.LatchAt.{LatchAt}
@@ -27,10 +27,10 @@ use Rattle.flat_net.specs.View.{NetView, named, circuit_of, equation_of_gate, eq
 use Rattle.flat_net.specs.View.{start_of as net_start}
 use Rattle.flat_net.specs.Sound.{IsSound}
 use Rattle.flat_net.specs.Comparable.{IsComparable}
-use Rattle.net_assembly.specs.Assembled.{IsAssembled}
-use Rattle.net_assembly.specs.Shown.{with_nexts}
-use Rattle.net_assembly.proofs.AssembledRuns.{assembled_is_flattened}
-use Rattle.net_assembly.proofs.DistinctLists.{Contains-kept}
+use Rattle.aiger_graph.specs.net_assembly.Assembled.{IsAssembled}
+use Rattle.aiger_graph.specs.net_assembly.Shown.{with_nexts}
+use Rattle.aiger_graph.proofs.net_assembly.AssembledRuns.{assembled_is_flattened}
+use Rattle.aiger_graph.proofs.net_assembly.DistinctLists.{Contains-kept}
 use Rattle.aiger_records.specs.declared.record.Record.TheVariants.{Latch, Output}
 use Rattle.aiger_file.specs.declared.file.AigerFile.{AigerFile}
 use Rattle.aiger_graph.specs.Circuit.{LatchLine, circuit_of_file, constants, gates_in, latches_from, input_literals, output_literals, latches_in, start_of, zero_cover, one_cover}

@@ -11,8 +11,8 @@ use Rattle.std.proofs.lemmas.Option.{none-some, same_Some, slice_get_within, get
 use Rattle.circuit_theory.proofs.Lists.{Contains-head, Contains-tail, Contains-filter, Contains-map, Contains-map_from, filter_test, filter_map-from, at_of, only}
 use Rattle.sec_base.specs.Table.{AreDistinct}
 use Rattle.sec_base.proofs.TableLemmas.{take-push}
-use Rattle.net_assembly.proofs.DistinctLists.{distinct_nil, distinct_cons, distinct_append, distinct_filter, Contains-kept}
-use Rattle.net_assembly.proofs.Building.{list_all_place}
+use Rattle.aiger_graph.proofs.net_assembly.DistinctLists.{distinct_nil, distinct_cons, distinct_append, distinct_filter, Contains-kept}
+use Rattle.aiger_graph.proofs.net_assembly.Building.{list_all_place}
 use Rattle.aiger_records.specs.declared.record.Record.{Record}
 use Rattle.aiger_records.specs.declared.record.Record.TheVariants.{Input, Latch, Output, Gate, Packed}
 use Rattle.aiger_records.specs.Faults.{defined_by, is_literal, is_defined, DefinesOnce}

@@ -20,13 +20,13 @@ use Rattle.flat_net.specs.declared.parts.Gate.{Gate as NetGate}
 use Rattle.flat_net.specs.View.{NetView, named, equation_of_gate}
 use Rattle.flat_net.specs.Makes.{MakerView, empty_net, with_input, with_latch, with_gate, with_output}
 use Rattle.flat_net.proofs.PlaceLists.{filter-take}
-use Rattle.gate_order.proofs.Rows.{same_or_not, slice_get-append, slice_get-set_same, slice_get-set_other, slice_get-take_to, length-set_is}
-use Rattle.net_assembly.proofs.Building.{few_below}
-use Rattle.net_assembly.proofs.DistinctLists.{Contains-kept}
+use Rattle.aiger_graph.proofs.net_assembly.Rows.{same_or_not, slice_get-append, slice_get-set_same, slice_get-set_other, slice_get-take_to, length-set_is}
+use Rattle.aiger_graph.proofs.net_assembly.Building.{few_below}
+use Rattle.aiger_graph.proofs.net_assembly.DistinctLists.{Contains-kept}
 use Rattle.aiger_records.specs.declared.record.Record.{Record}
 use Rattle.aiger_records.specs.declared.record.Record.TheVariants.{Input, Latch, Output, Gate, Packed}
-use Rattle.aiger_symbols.specs.declared.symbol.Named.{Named}
-use Rattle.aiger_symbols.specs.Names.{name_of}
+use Rattle.aiger_file.specs.declared.symbol.Named.{Named}
+use Rattle.aiger_file.specs.Names.{name_of}
 use Rattle.aiger_file.specs.declared.file.AigerFile.{AigerFile}
 use Rattle.aiger_graph.specs.Circuit.{LatchLine, is_used, ports_from, input_of, output_of, latch_of, input_literals, latches_in, zero_cover, one_cover}
 use Rattle.aiger_graph.specs.Literals.{negated, reads_among, reads_in, graph_of, gate_at, cover_by}

@@ -12,13 +12,13 @@ use Rattle.flat_net.specs.declared.parts.Driver.TheVariants as driver
 use Rattle.flat_net.specs.View.{NetView}
 use Rattle.flat_net.specs.Sound.{IsSound}
 use Rattle.flat_net.specs.Makes.{MakerView, next_set, with_next}
-use Rattle.net_assembly.specs.Shown.{with_nexts}
-use Rattle.net_assembly.proofs.Nexts.{next_more, set_more, all_set}
+use Rattle.aiger_graph.specs.net_assembly.Shown.{with_nexts}
+use Rattle.aiger_graph.proofs.net_assembly.Nexts.{next_more, set_more, all_set}
 use Rattle.aiger_records.specs.declared.record.Record.{Record}
 use Rattle.aiger_records.specs.declared.record.Record.TheVariants.{Output, Latch}
 use Rattle.aiger_records.specs.Driven.{used_by}
-use Rattle.aiger_symbols.specs.declared.symbol.Named.{Named}
-use Rattle.aiger_symbols.specs.Names.{name_of}
+use Rattle.aiger_file.specs.declared.symbol.Named.{Named}
+use Rattle.aiger_file.specs.Names.{name_of}
 use Rattle.aiger_file.specs.declared.file.AigerFile.{AigerFile}
 use Rattle.aiger_graph.specs.Circuit.{LatchLine, ports_from, latch_of, output_of, input_literals, output_literals, latches_in}
 use Rattle.aiger_read.specs.SignalNames.{latch_literals, init_of}

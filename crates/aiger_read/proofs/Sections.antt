@@ -4,9 +4,9 @@ use Rattle.std.specs.Prelude.{option_and_then, option_map}
 use Rattle.std.specs.List.{filter_map, cons_option}
 use Rattle.std.proofs.lemmas.Bool.{ltb-true, ltb-false}
 use Rattle.std.proofs.lemmas.Option.{none-some, same_Some}
-use Rattle.aiger_text.specs.Lines.{Cut, first_line}
-use Rattle.aiger_text.specs.Numbers.{numbers, numbers_behind, words_of}
-use Rattle.aiger_text.specs.Packed.{PackedNumber, packed}
+use Rattle.aiger_records.specs.Lines.{Cut, first_line}
+use Rattle.aiger_records.specs.Numbers.{numbers, numbers_behind, words_of}
+use Rattle.aiger_records.specs.Packed.{PackedNumber, packed}
 use Rattle.aiger_records.specs.declared.header.Form.{Form}
 use Rattle.aiger_records.specs.declared.header.Form.TheVariants.{Ascii, Binary}
 use Rattle.aiger_records.specs.declared.header.Header.{Header}

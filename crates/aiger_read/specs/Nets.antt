@@ -18,7 +18,7 @@ use Rattle.aiger_records.specs.declared.error.AigerKind.{AigerKind}
 use Rattle.aiger_records.specs.declared.error.AigerKind.TheVariants as kind
 use Rattle.aiger_records.specs.Headers.{header_of}
 use Rattle.aiger_records.specs.Records.{record_at}
-use Rattle.aiger_symbols.specs.Symbols.{symbol_of}
+use Rattle.aiger_file.specs.Symbols.{symbol_of}
 use Rattle.aiger_file.specs.declared.file.AigerFile.{AigerFile}
 use Rattle.aiger_file.specs.Reading.{spelled, at, body_of}
 use Rattle.aiger_file.specs.Whole.{file_fault}

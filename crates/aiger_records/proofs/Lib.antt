@@ -1,1 +1,2 @@
 pub mod DefinedOnce
+pub mod Words

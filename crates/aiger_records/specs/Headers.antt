@@ -7,7 +7,7 @@ use Rattle.aiger_records.specs.declared.header.Form.TheVariants.{Ascii, Binary}
 use Rattle.aiger_records.specs.declared.header.Header.{Header}
 use Rattle.aiger_records.specs.declared.error.AigerKind.{AigerKind}
 use Rattle.aiger_records.specs.declared.error.AigerKind.TheVariants as kind
-use Rattle.aiger_text.specs.Numbers.{numbers, words_of}
+use Rattle.aiger_records.specs.Numbers.{numbers, words_of}
 
 abbrev pub guard : Bool → AigerKind → Option AigerKind
 guard true k = Some k

@@ -3,3 +3,6 @@ pub mod Faults
 pub mod Headers
 pub mod Records
 pub mod Took
+pub mod Lines
+pub mod Numbers
+pub mod Packed

@@ -7,9 +7,9 @@ use Rattle.aiger_records.specs.declared.record.Section.{Section}
 use Rattle.aiger_records.specs.declared.record.Section.TheVariants as section
 use Rattle.aiger_records.specs.declared.record.Record.{Record}
 use Rattle.aiger_records.specs.declared.record.Record.TheVariants.{Input, Latch, Output, Gate, Packed}
-use Rattle.aiger_text.specs.Lines.{Cut, first_line}
-use Rattle.aiger_text.specs.Numbers.{numbers, numbers_behind, words_of}
-use Rattle.aiger_text.specs.Packed.{PackedNumber, packed}
+use Rattle.aiger_records.specs.Lines.{Cut, first_line}
+use Rattle.aiger_records.specs.Numbers.{numbers, numbers_behind, words_of}
+use Rattle.aiger_records.specs.Packed.{PackedNumber, packed}
 
 -- the record of these numbers; a latch without a reset has 0
 abbrev pub listed : Section → List ℕ → Option Record

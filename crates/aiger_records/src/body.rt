@@ -4,9 +4,12 @@ ghost use Rattle.std.specs.Prelude.{◌≡◌, ◌+◌, ◌<◌, ◌≤◌, ◌^
 ghost use Rattle.aiger_records.specs.Records.{section_of, input_lines, left_out, latch_literal, gate_literal, line_record, is_packed, packed_record, record_at, body_length};
 ghost use Rattle.aiger_records.specs.Faults.{IsSmall};
 
+use crate::cuts::{Cut, cut_at};
+use crate::decimals::numbers_behind;
+use crate::groups::packed;
 use crate::header::{Form, Header};
 use crate::record::{Record, Section, listed};
-use aiger_text::{Cut, NoMemory, cut_at, numbers_behind, packed};
+use sec_base::NoMemory;
 use std::alloc::Global;
 
 /// The most bytes of a difference.

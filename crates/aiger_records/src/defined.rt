@@ -10,7 +10,7 @@ ghost use Rattle.aiger_records.specs.Took.{Took};
 use crate::error::{AigerKind, Stop};
 use crate::header::{Form, Header};
 use crate::record::{Record, Records};
-use aiger_text::{NoMemory, Seq};
+use sec_base::{NoMemory, Seq};
 use std::alloc::Global;
 
 /// The records of a body so far, none of them faulty, and the variables that they define.

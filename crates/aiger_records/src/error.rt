@@ -4,7 +4,7 @@ ghost use Rattle.std.specs.Prelude.{◌≡◌};
 ghost use Rattle.aiger_records.specs.declared.error.AigerError.TheVariants as aiger;
 ghost use Rattle.aiger_records.specs.declared.error.Stop.TheVariants as stop;
 
-use aiger_text::NoMemory;
+use sec_base::NoMemory;
 use std::alloc::{AllocError, AllocFailed};
 
 /// What is wrong with a record.

@@ -4,8 +4,10 @@ ghost use Rattle.std.specs.Prelude.{◌≡◌, ◌+◌, ◌==◌, ◌≤◌, tru
 ghost use Rattle.std.specs.List.{list_all};
 ghost use Rattle.aiger_records.specs.Headers.{form_of, counts_fit, header_of, numbered_header, header_fault, most};
 
+use crate::cuts::{FirstWord, first_word};
+use crate::decimals::numbers_behind;
 use crate::error::AigerKind;
-use aiger_text::{FirstWord, NoMemory, first_word, numbers_behind};
+use sec_base::NoMemory;
 use std::alloc::Global;
 
 /// The greatest variable, and the most outputs.

@@ -3,7 +3,7 @@
 ghost use Rattle.std.specs.Prelude.{◌≡◌};
 ghost use Rattle.aiger_records.specs.Records.{listed};
 
-use aiger_text::Seq;
+use sec_base::Seq;
 
 /// What a record is to be.
 #[derive(Clone, Copy)]

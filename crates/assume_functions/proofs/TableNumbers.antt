@@ -3,8 +3,8 @@ use Rattle.std.proofs.Common.{◌≡◌, ℕ, ◌≤◌, List, [], ◌∷◌, �
 use Rattle.std.specs.Prelude.{◌⊎◌}
 use Rattle.std.proofs.lemmas.Option.{slice_get-get_or, slice_get_within}
 use Rattle.aig.proofs.Insert.{push-cases}
-use Rattle.unfold_places.specs.Reach.{Adds}
-use Rattle.unfold_places.proofs.Lists.{adds_at}
+use Rattle.cbf_unfold.specs.unfold_places.Reach.{Adds}
+use Rattle.cbf_unfold.proofs.unfold_places.Lists.{adds_at}
 use Rattle.assume_functions.specs.Functions.{AreNumbersAt}
 
 module _ (own : List (ℕ × ℕ)) (place : ℕ) where

@@ -4,9 +4,9 @@ use Rattle.aig.specs.declared.node.Node.{Node}
 use Rattle.aig.specs.Graph.{IsGraph, Grows}
 use Rattle.aig.specs.Values.{value}
 use Rattle.flat_net.specs.View.{NetView, circuit_of}
-use Rattle.unfold_places.specs.declared.signal_function.Unfolded.{Unfolded}
+use Rattle.cbf_unfold.specs.unfold_places.declared.signal_function.Unfolded.{Unfolded}
 use Rattle.cbf_unfold.specs.Laws.{TakesBits}
-use Rattle.unfold_places.specs.Reach.{Adds}
+use Rattle.cbf_unfold.specs.unfold_places.Reach.{Adds}
 use Rattle.assume_laws.specs.Assume.{IsAssumption, RowMeets}
 use Rattle.assume_functions.specs.Functions.{IsAssumedAt}
 

@@ -2,7 +2,7 @@
 
 ghost use Rattle.std.specs.Prelude.{◌≡◌, ℕ, ◌+◌, ◌^◌, ◌<◌, ◌≤◌, map, length, slice_get, Some, slice_index_or, All, IfOk};
 ghost use Rattle.aig.specs.Graph.{vars_of};
-ghost use Rattle.unfold_places.specs.Reach.{Adds};
+ghost use Rattle.cbf_unfold.specs.unfold_places.Reach.{Adds};
 ghost use Rattle.assume_functions.specs.Functions.{AreNumbersAt};
 
 use crate::own::OwnFunction;

@@ -6,13 +6,12 @@ ghost use Rattle.sec_base.specs.declared.limits.TheConstants.{MAX_WEIGHT};
 ghost use Rattle.flat_net.specs.View.{circuit_of};
 ghost use Rattle.cbf_unfold.specs.View.{IsOrderOf};
 ghost use Rattle.cbf_unfold.specs.Unfolded.{IsUnfolded};
-ghost use Rattle.unfold_places.specs.declared.error.UnfoldError.TheVariants as unfold_error;
+ghost use Rattle.cbf_unfold.specs.unfold_places.declared.error.UnfoldError.TheVariants as unfold_error;
 ghost use Rattle.assume_functions.specs.Functions.{IsOwnFunction, IsWeighed};
 
 use aig::Aig;
-use cbf_unfold::{UnfoldError, Unfolded, Unfolder};
+use cbf_unfold::{LatchGraph, UnfoldError, Unfolded, Unfolder};
 use flat_net::{Net, Signal};
-use latch_graph::LatchGraph;
 use sec_base::{Ids, PlaceTable};
 use std::alloc::Global;
 

@@ -3,7 +3,7 @@
 ghost use Rattle.std.specs.Prelude.{◌≡◌, ℕ, List, ◌+◌, ◌^◌, ◌<◌, ◌≤◌, length, IfOk};
 ghost use Rattle.flat_net.specs.View.{NetView};
 ghost use Rattle.aig.specs.Graph.{Grows};
-ghost use Rattle.unfold_places.specs.Reach.{Adds};
+ghost use Rattle.cbf_unfold.specs.unfold_places.Reach.{Adds};
 ghost use Rattle.assume_functions.specs.Functions.{IsOwnFunction, IsAssumedAt, HasNoLatch};
 
 use crate::numbers::{numbers_at, picked};

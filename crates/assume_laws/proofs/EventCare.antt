@@ -7,11 +7,11 @@ use Rattle.circuit_theory.specs.Circuit.{Circuit, Equation, Gate, Latch, Port, N
 use Rattle.circuit_theory.specs.Run.{IsEnabled, Marked}
 use Rattle.circuit_theory.specs.Tree.{Tree, IsInputNumber, StandsBeside, AreNumbered, tree_value}
 use Rattle.circuit_theory.specs.Net.{IsNet}
-use Rattle.event_theory.specs.Frame.{EventSide, EventUnfolds, ConeLatches, ReachedAt, HasCare, IsLastLoad, EventCycle, IsNumberedRun, IsNode, IsFilled, HasEvents}
+use Rattle.circuit_theory.specs.Frame.{EventSide, EventUnfolds, ConeLatches, ReachedAt, HasCare, IsLastLoad, EventCycle, IsNumberedRun, IsNode, IsFilled, HasEvents}
 use Rattle.circuit_theory.specs.Joined.{Either, Left, Right, joined, moved_name, beside}
-use Rattle.event_theory.specs.Classes.{HasClasses}
+use Rattle.circuit_theory.specs.Classes.{HasClasses}
 use Rattle.circuit_theory.specs.Agree.{AreAlike}
-use Rattle.event_theory.specs.EventFits.{side_by_side}
+use Rattle.circuit_theory.specs.EventFits.{side_by_side}
 use Rattle.circuit_theory.specs.Depth.{LatchesHaveDepths}
 use Rattle.circuit_laws.proofs.Agreement.{value_of_number, value_found, first_value}
 use Rattle.circuit_laws.proofs.Finite.{Decided, Weakly, weakly_decided, weakly_each, weakly_below, bits_same, find_or}

@@ -6,9 +6,9 @@ use Rattle.circuit_theory.specs.Run.{IsEnabled, Marked}
 use Rattle.circuit_theory.specs.Tree.{AreNumbered}
 use Rattle.circuit_theory.specs.Net.{IsNet}
 use Rattle.circuit_theory.specs.Joined.{Either, Left, Right, joined}
-use Rattle.event_theory.specs.Classes.{HasClasses}
+use Rattle.circuit_theory.specs.Classes.{HasClasses}
 use Rattle.circuit_theory.specs.Agree.{AreAlike, IsPair, cut}
-use Rattle.event_theory.specs.EventFits.{side_by_side}
+use Rattle.circuit_theory.specs.EventFits.{side_by_side}
 use Rattle.circuit_theory.specs.Depth.{LatchesHaveDepths}
 use Rattle.circuit_laws.proofs.CutLaws.{left_clear, right_clear}
 use Rattle.event_laws.proofs.ExposedEvents.{left_net, right_net, new_left, new_right, new_alike, left_kept, right_kept}

@@ -7,8 +7,8 @@ use Rattle.circuit_theory.specs.Names.{same_name}
 use Rattle.circuit_theory.specs.Tree.{Tree, tree_value}
 use Rattle.circuit_theory.specs.Query.{Variable, HasLeaf, AreVariables, same_shift, assigned}
 use Rattle.circuit_theory.specs.Sequence.{sequence_rows, row_value, TakesInputs}
-use Rattle.event_theory.specs.Frame.{always_node, bits_as_shifts}
-use Rattle.event_theory.specs.EventFrames.{frame_of}
+use Rattle.circuit_theory.specs.Frame.{always_node, bits_as_shifts}
+use Rattle.circuit_theory.specs.EventFrames.{frame_of}
 use Rattle.circuit_theory.proofs.Inputs.{test_same, test_refl, same_name-sound}
 use Rattle.circuit_theory.proofs.Lists.{Contains-head, Contains-tail, Contains-cases}
 use Rattle.circuit_theory.proofs.Numbers.{same_name-refl}

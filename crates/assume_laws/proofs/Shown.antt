@@ -6,8 +6,8 @@ use Rattle.circuit_theory.specs.Names.{same_name}
 use Rattle.circuit_theory.specs.Run.{IsEnabled}
 use Rattle.circuit_theory.specs.Tree.{Tree, tree_value}
 use Rattle.circuit_theory.specs.Query.{Variable}
-use Rattle.event_theory.specs.Frame.{EventSide, ConeLatches, IsEnable, HasCare}
-use Rattle.event_theory.specs.EventFrames.{IsCareTree, frame_of}
+use Rattle.circuit_theory.specs.Frame.{EventSide, ConeLatches, IsEnable, HasCare}
+use Rattle.circuit_theory.specs.EventFrames.{IsCareTree, frame_of}
 use Rattle.circuit_theory.proofs.Lists.{Contains-cases}
 use Rattle.circuit_theory.proofs.Inputs.{test_same, test_refl, same_name-sound}
 use Rattle.circuit_theory.proofs.Numbers.{same_name-refl}

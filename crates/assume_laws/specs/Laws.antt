@@ -11,11 +11,11 @@ use Rattle.circuit_theory.specs.Query.{Query, Variable, IsSame, same_shift, assi
 use Rattle.circuit_theory.specs.Sequence.{sequence_rows, row_value, TakesInputs}
 use Rattle.circuit_theory.specs.Agree.{cut, IsPair, IsMinimalCut}
 use Rattle.circuit_theory.specs.Interface.{AreNumbersOf}
-use Rattle.event_theory.specs.Frame.{EventSide, bits_as_shifts}
+use Rattle.circuit_theory.specs.Frame.{EventSide, bits_as_shifts}
 use Rattle.circuit_theory.specs.Joined.{Either, Left, Right, joined}
-use Rattle.event_theory.specs.Classes.{HasClasses}
-use Rattle.event_theory.specs.EventFrames.{AreNodeVariables, frame_of}
-use Rattle.event_theory.specs.EventFits.{side_by_side, IsEventWitness, ReachesAlways}
+use Rattle.circuit_theory.specs.Classes.{HasClasses}
+use Rattle.circuit_theory.specs.EventFrames.{AreNodeVariables, frame_of}
+use Rattle.circuit_theory.specs.EventFits.{side_by_side, IsEventWitness, ReachesAlways}
 use Rattle.circuit_theory.specs.Fits.{MakesDiffer}
 use Rattle.reset_laws.specs.Reset.{HasStarts, AreBased, MakesDifferFromReset}
 use Rattle.assume_laws.specs.Assume.{Assumption, IsAssumption, RowMeets, RunMeets, ReadsInputs, PlaceUnfolds, HaveEqualFunctionsUnder, AreEqualFromResetUnder, HaveEqualEventsUnder, AgreeUnder, AgreeOnwardUnder, AgreeFromResetUnder}

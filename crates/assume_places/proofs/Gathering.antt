@@ -9,10 +9,10 @@ use Rattle.std.proofs.lemmas.Option.{slice_get_within, slice_get-get_or, get_or_
 use Rattle.circuit_theory.proofs.Lists.{Contains-head, Contains-map, Contains-map_from, All-from_each, at_of, of_at, zip_push, zip_right, zip_weaker, length-map}
 use Rattle.circuit_theory.proofs.Sums.{sum_within}
 use Rattle.sec_base.specs.Table.{AreDistinct}
-use Rattle.pair_decide.specs.declared.query.Query.{Query}
+use Rattle.obligations.specs.pair_decide.declared.query.Query.{Query}
 use Rattle.unfold_places.specs.Reach.{Adds}
 use Rattle.unfold_places.proofs.Lists.{adds_at, adds_from, adds_length, pairs_map}
-use Rattle.signal_graph.proofs.Lists.{AllPairs-from_at}
+use Rattle.assume_functions.proofs.signal_graph.Lists.{AllPairs-from_at}
 use Rattle.query_places.specs.Places.{place_of, ArePlacesOf, ComeInTurn}
 use Rattle.assume_places.specs.declared.gathered.QueryPlaces.{QueryPlaces}
 use Rattle.assume_places.specs.Gathered.{HasPlaces, IsRead, ArePlacesOfAll, IsAmong, place_at, AreOwn, AreGathered, IsOverUnder, IsLightUnder}

@@ -3,7 +3,7 @@ use Rattle.std.specs.Prelude.{◌≡◌, ◌≢◌, ◌↔◌, ℕ, ◌+◌, ◌
 use Rattle.std.specs.List.{All, AllPairs, AllZip, Contains, sum_by}
 use Rattle.sec_base.specs.declared.limits.TheConstants.{MAX_WEIGHT}
 use Rattle.sec_base.specs.Table.{AreDistinct}
-use Rattle.pair_decide.specs.declared.query.Query.{Query}
+use Rattle.obligations.specs.pair_decide.declared.query.Query.{Query}
 use Rattle.query_places.specs.Places.{place_of, AreGrouped, ArePlacesOf, ComeInTurn}
 use Rattle.assume_places.specs.declared.gathered.QueryPlaces.{QueryPlaces}
 

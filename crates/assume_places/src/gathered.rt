@@ -2,13 +2,12 @@
 
 ghost use Rattle.std.specs.Prelude.{◌≡◌, ℕ, ◌+◌, ◌-◌, ◌*◌, ◌^◌, ◌<◌, ◌≤◌, min, true, false, List, [], ◌∷◌, ◌++◌, length, map, All, IfOk, OnOk};
 ghost use Rattle.std.specs.List.{AllPairs, sum_by};
-ghost use Rattle.pair_decide.specs.declared.query.Query.{Query};
+ghost use Rattle.obligations.specs.pair_decide.declared.query.Query.{Query};
 ghost use Rattle.unfold_places.specs.Reach.{Adds};
 ghost use Rattle.obligations.specs.Asked.{queries_of};
 ghost use Rattle.assume_places.specs.Gathered.{HasPlaces, AreGathered, IsAmong, place_at};
 
-use obligations::Obligation;
-use pair_decide::Query;
+use obligations::{Obligation, Query};
 use query_places::places_of;
 use sec_base::{Ids, MAX_WEIGHT, NoMemory, PlaceTable, Seq};
 use std::alloc::Global;

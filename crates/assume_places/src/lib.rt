@@ -5,5 +5,7 @@
 mod functions;
 mod gathered;
 
+pub use assume_functions::OwnFunction;
 pub use functions::functions_at;
 pub use gathered::{QueryPlaces, places_of_all};
+pub use obligations::{Obligation, Queries, copy_name};

@@ -10,7 +10,7 @@ use Rattle.aig.specs.Values.{value}
 use Rattle.aig.proofs.Growth.{Grows-length}
 use Rattle.aig.proofs.Meaning.{value-grows}
 use Rattle.graph_copy.proofs.Reaching.{input_back}
-use Rattle.assume_care.specs.Care.{IsConjunction}
+use Rattle.assume_queries.specs.Care.{IsConjunction}
 
 -- the literals stand in the graph as it was
 pub conjunction_from : (f g h : List Node) → IsGraph g → Grows f g → (lits : List Lit) → All (λ (l : Lit). l.0 < 2 * length f) lits → (x : ℕ) → IsConjunction g lits h x → IsConjunction f lits h x

@@ -4,3 +4,5 @@ pub mod Reading
 pub mod Meaning
 pub mod Parting
 pub mod Mapped
+pub mod Conjunctions
+pub use Rattle.shift_variables.proofs as shift_variables

@@ -14,22 +14,22 @@ use Rattle.unfold_places.specs.declared.signal_function.Unfolded.{Unfolded}
 use Rattle.unfold_places.proofs.Lists.{adds_at, adds_length}
 use Rattle.unfold_places.proofs.Zips.{zip_left}
 use Rattle.shift_variables.specs.Variables.{variable_of}
-use Rattle.query_places.specs.Places.{place_of, AreGrouped, ComesFirst}
-use Rattle.query_places.proofs.Grouped.{variables_are_grouped}
-use Rattle.obligations.specs.declared.obligation.Obligation.{Obligation}
+use Rattle.assume_places.specs.query_places.Places.{place_of, AreGrouped, ComesFirst}
+use Rattle.assume_places.proofs.query_places.Grouped.{variables_are_grouped}
+use Rattle.assume_places.specs.obligations.declared.obligation.Obligation.{Obligation}
 use Rattle.assume_laws.specs.Assume.{IsAssumption}
 use Rattle.assume_shape.specs.Shape.{assumption_of}
-use Rattle.assume_functions.specs.declared.own.OwnFunction.{OwnFunction}
-use Rattle.assume_functions.specs.Functions.{IsAssumedAt}
+use Rattle.assume_places.specs.assume_functions.declared.own.OwnFunction.{OwnFunction}
+use Rattle.assume_places.specs.assume_functions.Functions.{IsAssumedAt}
 use Rattle.assume_places.specs.Gathered.{HasPlaces, AreOwn, place_at}
 use Rattle.assume_places.specs.Placed.{ArePut, CanBePut}
 use Rattle.assume_queries.specs.declared.map.Parts.{Parts}
-use Rattle.assume_answers.specs.declared.order.VariableOrder.{VariableOrder}
-use Rattle.assume_answers.specs.declared.order.VariableOrder.TheVariants as order
-use Rattle.assume_answers.specs.Order.{GoesFirst, AreOrdered}
+use Rattle.assume_queries.specs.declared.assume_answers.order.VariableOrder.{VariableOrder}
+use Rattle.assume_queries.specs.declared.assume_answers.order.VariableOrder.TheVariants as order
+use Rattle.assume_queries.specs.assume_answers.Order.{GoesFirst, AreOrdered}
 use Rattle.assume_queries.specs.Made.{IsMadeOf}
 use Rattle.assume_queries.specs.Parted.{HasParts, IsQueryMade, IsObligationMade, Weighs}
-use Rattle.assume_answers.specs.Under.{IsUnder, IsObligationUnder}
+use Rattle.assume_queries.specs.assume_answers.Under.{IsUnder, IsObligationUnder}
 use Rattle.assume_queries.proofs.Reading.{read_ordered}
 use Rattle.assume_queries.proofs.Meaning.{is_under}
 

@@ -17,17 +17,17 @@ use Rattle.unfold_places.specs.Growing.{IsNumberOf, TakesBits}
 use Rattle.unfold_places.proofs.Zips.{zip_left}
 use Rattle.shift_variables.specs.Variables.{variable_of, variables_of}
 use Rattle.shift_variables.proofs.Reading.{pair_is}
-use Rattle.query_places.specs.Places.{place_of}
+use Rattle.assume_places.specs.query_places.Places.{place_of}
 use Rattle.assume_laws.specs.Assume.{Assumption, IsAssumption, RowMeets, PlaceUnfolds}
 use Rattle.assume_shape.specs.Shape.{assumption_of}
-use Rattle.assume_functions.proofs.Assumed.{assumed_meets}
+use Rattle.assume_places.proofs.assume_functions.Assumed.{assumed_meets}
 use Rattle.assume_places.specs.Gathered.{place_at, AreOwn}
 use Rattle.assume_places.specs.Placed.{ArePut}
-use Rattle.assume_answers.specs.declared.order.VariableOrder.{VariableOrder}
-use Rattle.assume_answers.specs.Order.{AreOrdered}
+use Rattle.assume_queries.specs.declared.assume_answers.order.VariableOrder.{VariableOrder}
+use Rattle.assume_queries.specs.assume_answers.Order.{AreOrdered}
 use Rattle.assume_queries.specs.Parts.{function_at, literals_at, variables_at}
 use Rattle.assume_queries.specs.Made.{IsMadeOf}
-use Rattle.assume_answers.specs.Under.{MeetsAtEach, ReadsAtOne, IsUnder}
+use Rattle.assume_queries.specs.assume_answers.Under.{MeetsAtEach, ReadsAtOne, IsUnder}
 use Rattle.assume_queries.proofs.OneTree.{place_one}
 use Rattle.assume_queries.proofs.Reading.{variables_from, variables_to, put_at, variable_is, read_ordered}
 

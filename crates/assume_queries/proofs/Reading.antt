@@ -17,14 +17,14 @@ use Rattle.unfold_places.proofs.Lists.{pairs_at}
 use Rattle.signal_graph.proofs.Lists.{AllPairs-from_at}
 use Rattle.shift_variables.specs.Variables.{variable_of}
 use Rattle.shift_variables.proofs.Reading.{pair_is}
-use Rattle.query_places.specs.Places.{place_of, ComesFirst}
+use Rattle.assume_places.specs.query_places.Places.{place_of, ComesFirst}
 use Rattle.assume_laws.proofs.Meeting.{leaf_at}
-use Rattle.assume_functions.specs.Functions.{IsAssumedAt}
+use Rattle.assume_places.specs.assume_functions.Functions.{IsAssumedAt}
 use Rattle.assume_places.specs.Gathered.{place_at}
 use Rattle.assume_places.specs.Placed.{ArePut}
-use Rattle.assume_answers.specs.declared.order.VariableOrder.{VariableOrder}
-use Rattle.assume_answers.specs.declared.order.VariableOrder.TheVariants as order
-use Rattle.assume_answers.specs.Order.{GoesFirst, AreOrdered}
+use Rattle.assume_queries.specs.declared.assume_answers.order.VariableOrder.{VariableOrder}
+use Rattle.assume_queries.specs.declared.assume_answers.order.VariableOrder.TheVariants as order
+use Rattle.assume_queries.specs.assume_answers.Order.{GoesFirst, AreOrdered}
 use Rattle.assume_queries.specs.Parts.{function_at, variables_at}
 
 -- a variable of some of the functions is one of one of them

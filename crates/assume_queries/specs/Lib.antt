@@ -1,3 +1,8 @@
 pub mod Parts
 pub mod Made
 pub mod Parted
+pub mod Care
+pub mod assume_answers
+pub use Rattle.assume_places.specs as assume_places
+pub use Rattle.assume_places.specs.assume_functions
+pub use Rattle.shift_variables.specs as shift_variables

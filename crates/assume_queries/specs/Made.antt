@@ -4,9 +4,9 @@ use Rattle.std.specs.List.{All}
 use Rattle.aig.specs.declared.node.Node.{Node}
 use Rattle.pair_decide.specs.declared.query.Query.{Query}
 use Rattle.unfold_places.specs.declared.signal_function.Unfolded.{Unfolded}
-use Rattle.assume_care.specs.Care.{IsConjunction}
-use Rattle.assume_answers.specs.declared.order.VariableOrder.{VariableOrder}
-use Rattle.assume_answers.specs.Order.{AreOrdered, IsOrderedMerge}
+use Rattle.assume_queries.specs.Care.{IsConjunction}
+use Rattle.assume_queries.specs.declared.assume_answers.order.VariableOrder.{VariableOrder}
+use Rattle.assume_queries.specs.assume_answers.Order.{AreOrdered, IsOrderedMerge}
 use Rattle.assume_queries.specs.Parts.{literals_at, variables_at}
 
 -- r has the sides of q, the functions of g with these numbers together as its care, and the variables of q and of these functions

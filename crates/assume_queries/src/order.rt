@@ -1,9 +1,9 @@
 //! Two lists of variables in one order as one list.
 
 ghost use Rattle.std.specs.Prelude.{IfOk};
-ghost use Rattle.assume_answers.specs.Order.{AreOrdered, IsOrderedMerge};
+ghost use Rattle.assume_queries.specs.assume_answers.Order.{AreOrdered, IsOrderedMerge};
 
-use assume_answers::VariableOrder;
+use crate::assume_answers::VariableOrder;
 use cycle_variables::merge_cycles;
 use sec_base::{Ids, NoMemory, PlaceTable};
 use shift_variables::merge_variables;

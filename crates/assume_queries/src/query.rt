@@ -2,15 +2,15 @@
 
 ghost use Rattle.std.specs.Prelude.{◌+◌, ◌*◌, ◌^◌, ◌<◌, ◌≤◌, length, All, IfOk, OnOk};
 ghost use Rattle.aig.specs.Graph.{Grows};
-ghost use Rattle.assume_answers.specs.Order.{AreOrdered};
+ghost use Rattle.assume_queries.specs.assume_answers.Order.{AreOrdered};
 ghost use Rattle.assume_queries.specs.Parts.{variables_at};
 ghost use Rattle.assume_queries.specs.Made.{IsMadeOf};
 
+use crate::assume_answers::VariableOrder;
+use crate::care::conjunction;
 use crate::order::merged;
 use crate::parts::{literals, variables};
 use aig::Aig;
-use assume_answers::VariableOrder;
-use assume_care::conjunction;
 use pair_decide::Query;
 use sec_base::{NoMemory, PlaceTable};
 use std::alloc::Global;

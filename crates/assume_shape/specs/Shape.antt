@@ -1,9 +1,9 @@
 -- The shape of an assumption, and its first fault.
 use Rattle.std.specs.Prelude.{◌≡◌, ◌≢◌, ℕ, ◌<◌, List, [], ◌∷◌, length, Option, Some, None, slice_get}
 use Rattle.std.specs.List.{All, Contains}
-use Rattle.flat_net.specs.declared.parts.Port.{Port}
-use Rattle.flat_net.specs.declared.parts.LatchAt.{LatchAt}
-use Rattle.flat_net.specs.View.{NetView, circuit_of}
+use Rattle.interface.specs.flat_net.declared.parts.Port.{Port}
+use Rattle.interface.specs.flat_net.declared.parts.LatchAt.{LatchAt}
+use Rattle.interface.specs.flat_net.View.{NetView, circuit_of}
 use Rattle.assume_laws.specs.Assume.{Assumption}
 use Rattle.assume_shape.specs.declared.shape.ShapeFault.{ShapeFault}
 use Rattle.assume_shape.specs.declared.shape.ShapeFault.TheVariants as fault

@@ -1,11 +1,10 @@
 //! What is wrong with the shape of an assumption.
 
 ghost use Rattle.std.specs.Prelude.{IfOk, IfSome, IfNone};
-ghost use Rattle.flat_net.specs.Comparable.{IsComparable};
+ghost use Rattle.interface.specs.flat_net.Comparable.{IsComparable};
 ghost use Rattle.assume_shape.specs.Shape.{IsShapeFault, IsFirstForeign, AreShared};
 
-use flat_net::Net;
-use sec_base::{NameTable, NoMemory, Word};
+use interface::{NameTable, Net, NoMemory, Word};
 
 /// Why a circuit is no assumption on the inputs of two others.
 #[derive(Drop)]

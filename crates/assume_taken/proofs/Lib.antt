@@ -3,3 +3,7 @@ pub mod Shapes
 pub mod Premises
 pub mod Refused
 pub mod Taking
+pub mod Rows
+pub use Rattle.assume_sequences.proofs as assume_sequences
+pub use Rattle.assume_shape.proofs as assume_shape
+pub use Rattle.sec_setup.proofs as sec_setup

@@ -7,8 +7,8 @@ use Rattle.flat_net.specs.View.{NetView, circuit_of}
 use Rattle.assume_laws.specs.Assume.{Assumption}
 use Rattle.assume_shape.proofs.Shapes.{shapes_are_assumptions}
 use Rattle.assume_sequences.specs.Filled.{bit_of}
-use Rattle.assume_premise.specs.declared.premise.Premise.{Premise}
-use Rattle.assume_premise.specs.Assumed.{IsAssumedBy, CanBeAssumed}
+use Rattle.assume_sequences.specs.declared.premise.Premise.{Premise}
+use Rattle.assume_sequences.specs.Assumed.{IsAssumedBy, CanBeAssumed}
 use Rattle.assume_taken.specs.Asked.{IsKeptRow}
 use Rattle.assume_taken.specs.Premises.{IsPremiseOf}
 use Rattle.assume_taken.specs.Taken.{assumed_by}

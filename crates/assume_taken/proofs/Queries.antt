@@ -15,21 +15,21 @@ use Rattle.aig.specs.Graph.{IsGraph}
 use Rattle.aig.specs.Values.{value}
 use Rattle.aig.proofs.CoverMeaning.{value-zero, value-one}
 use Rattle.unfold_places.specs.Growing.{IsNumberOf, TakesBits}
-use Rattle.cbf_unfold.proofs.Cone.{covers_cone}
+use Rattle.assume_sequences.proofs.cbf_unfold.Cone.{covers_cone}
 use Rattle.pair_decide.specs.Queries.{IsLeast, Distinguishes, assigned_to}
 use Rattle.pair_decide.specs.Answers.{IsDifference}
-use Rattle.shift_variables.specs.Variables.{variable_of, variables_of}
-use Rattle.shift_variables.specs.Sequences.{bits_at, IsSequence}
-use Rattle.shift_variables.proofs.Assignments.{assigned_alike}
+use Rattle.assume_sequences.specs.shift_variables.Variables.{variable_of, variables_of}
+use Rattle.assume_sequences.specs.shift_variables.Sequences.{bits_at, IsSequence}
+use Rattle.assume_sequences.proofs.shift_variables.Assignments.{assigned_alike}
 use Rattle.assume_laws.specs.Assume.{PlaceUnfolds}
 use Rattle.assume_laws.specs.Sequences.{IsMeetingDifference, IsMeetingRow, assumption_query}
 use Rattle.assume_laws.proofs.Care.{unfolds_place}
 use Rattle.assume_laws.proofs.Filled.{below_count}
 use Rattle.assume_shape.specs.Shape.{assumption_of}
-use Rattle.assume_functions.specs.declared.own.OwnFunction.{OwnFunction}
-use Rattle.assume_functions.specs.Functions.{IsOwnFunction, HasNoLatch}
-use Rattle.assume_meeting.specs.Meeting.{IsRowOf, meeting_query}
-use Rattle.assume_meeting.proofs.Rows.{is_sequence}
+use Rattle.assume_sequences.specs.assume_functions.declared.own.OwnFunction.{OwnFunction}
+use Rattle.assume_sequences.specs.assume_functions.Functions.{IsOwnFunction, HasNoLatch}
+use Rattle.assume_taken.specs.Meeting.{IsRowOf, meeting_query}
+use Rattle.assume_taken.proofs.Rows.{is_sequence}
 use Rattle.assume_sequences.specs.Filled.{bit_of}
 use Rattle.assume_taken.specs.Asked.{IsAssumptionQuery, IsKeptRow}
 

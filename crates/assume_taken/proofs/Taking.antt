@@ -8,11 +8,11 @@ use Rattle.aig.specs.Builds.{HasTreeValues}
 use Rattle.aig.specs.Graph.{IsGraph}
 use Rattle.pair_decide.specs.declared.query.Proof.{Proof}
 use Rattle.pair_decide.specs.declared.query.SameBy.{SameBy}
-use Rattle.shift_variables.specs.Sequences.{bits_at}
+use Rattle.assume_sequences.specs.shift_variables.Sequences.{bits_at}
 use Rattle.assume_laws.specs.Assume.{IsAssumption}
 use Rattle.assume_shape.proofs.Shapes.{shapes_are_assumptions}
-use Rattle.assume_meeting.specs.declared.meeting.Meeting.TheVariants as meeting
-use Rattle.assume_meeting.specs.Meeting.{CanMeet, IsMeeting, meeting_query}
+use Rattle.assume_taken.specs.declared.meeting.Meeting.TheVariants as meeting
+use Rattle.assume_taken.specs.Meeting.{CanMeet, IsMeeting, meeting_query}
 use Rattle.assume_taken.specs.declared.taken.Function.{Function}
 use Rattle.assume_taken.specs.Asked.{IsAssumptionQuery}
 use Rattle.assume_taken.specs.Functions.{IsFunctionOf}

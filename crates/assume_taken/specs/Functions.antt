@@ -1,7 +1,7 @@
 -- The function of a net of the shape.
 use Rattle.std.specs.Prelude.{◌≡◌, ℕ, List, Result, Ok, Err}
 use Rattle.flat_net.specs.View.{NetView}
-use Rattle.assume_functions.specs.Functions.{IsOwnFunction}
+use Rattle.assume_sequences.specs.assume_functions.Functions.{IsOwnFunction}
 use Rattle.assume_taken.specs.declared.error.TakeError.{TakeError}
 use Rattle.assume_taken.specs.declared.error.TakeError.TheVariants as refused
 use Rattle.assume_taken.specs.declared.taken.Function.{Function}

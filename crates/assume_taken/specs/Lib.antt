@@ -3,3 +3,8 @@ pub mod Asked
 pub mod Taken
 pub mod Premises
 pub mod Functions
+pub mod Meeting
+pub use Rattle.assume_sequences.specs as assume_sequences
+pub use Rattle.assume_shape.specs as assume_shape
+pub use Rattle.pair_decide.specs as pair_decide
+pub use Rattle.sec_setup.specs as sec_setup

@@ -1,9 +1,9 @@
 -- What is known of the premise of a net that is taken as an assumption.
 use Rattle.std.specs.Prelude.{◌≡◌, ℕ, List, length, Result, Ok, Err}
 use Rattle.flat_net.specs.View.{NetView}
-use Rattle.assume_functions.specs.Functions.{IsOwnFunction}
+use Rattle.assume_sequences.specs.assume_functions.Functions.{IsOwnFunction}
 use Rattle.assume_sequences.specs.Filled.{bit_of}
-use Rattle.assume_premise.specs.declared.premise.Premise.{Premise}
+use Rattle.assume_sequences.specs.declared.premise.Premise.{Premise}
 use Rattle.assume_taken.specs.declared.error.TakeError.{TakeError}
 use Rattle.assume_taken.specs.declared.error.TakeError.TheVariants as refused
 use Rattle.assume_taken.specs.declared.taken.Taken.{Taken}

@@ -6,15 +6,14 @@ ghost use Rattle.sec_base.specs.declared.limits.TheConstants.{MAX_WEIGHT};
 ghost use Rattle.flat_net.specs.Comparable.{IsComparable};
 ghost use Rattle.flat_net.specs.View.{circuit_of};
 ghost use Rattle.signal_graph.specs.Graph.{IsGraphIn};
-ghost use Rattle.unfolding_weight.specs.Weight.{Weighs};
+ghost use Rattle.signal_graph.specs.unfolding_weight.Weight.{Weighs};
 ghost use Rattle.assume_shape.specs.Shape.{HasShape};
 ghost use Rattle.assume_taken.specs.Functions.{HasFunction};
 ghost use Rattle.assume_taken.specs.Premises.{IsTaken};
 
 use crate::error::TakeError;
-use assume_functions::{OwnFunction, own_function};
-use assume_meeting::{Meeting, meeting_row};
-use assume_premise::Premise;
+use crate::meeting::{Meeting, meeting_row};
+use assume_sequences::{OwnFunction, Premise, own_function};
 use assume_shape::{ShapeFault, numbers_of, shape_fault};
 use flat_net::{Net, Signal, Signals};
 use latch_graph::{LatchGraph, Weight};

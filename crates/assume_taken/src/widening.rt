@@ -4,7 +4,7 @@ ghost use Rattle.std.specs.Prelude.{◌≡◌, ℕ, ◌+◌, ◌++◌, List, fal
 ghost use Rattle.flat_net.specs.View.{NetView};
 ghost use Rattle.assume_taken.specs.Premises.{IsPremiseOf};
 
-use assume_premise::Premise;
+use assume_sequences::Premise;
 use sec_base::{Bits, NoMemory};
 
 /// The premise for so many inputs more, all of which are 0 in its row.

@@ -15,11 +15,12 @@ use Rattle.outcome.specs.declared.verdict.Verdict.{Verdict}
 use Rattle.outcome.specs.declared.verdict.Verdict.TheVariants as verdict
 use Rattle.outcome.specs.declared.verdict.Why.{Why}
 use Rattle.outcome.specs.Report.{report_text}
-use Rattle.job_base.specs.Written.{outcome_proofs, verdict_proofs}
-use Rattle.compare_base.proofs.Forms.{by_reset}
+use Rattle.outcome.specs.Proofs.{verdict_proofs}
+use Rattle.job_base.specs.Written.{outcome_proofs}
+use Rattle.under_base.proofs.compare_base.Forms.{by_reset}
 use Rattle.under_base.specs.Compared.{ComparedUnder}
 use Rattle.under_base.specs.Met.{IsAssumptionLimit}
-use Rattle.sec_files.specs.Loading.{Loads}
+use Rattle.text_circuits.specs.sec_files.Loading.{Loads}
 use Rattle.assume_texts.specs.Answers.{EqualUnder, DifferentUnder, NotShownUnder, LimitUnder}
 use Rattle.assume_texts.specs.Texts.{AssumptionUndecided}
 use Rattle.assume_texts.proofs.ResetTexts.{resets_agree, resets_differ, resets_not_always, resets_are_shown, resets_undecided}

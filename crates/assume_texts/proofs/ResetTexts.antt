@@ -21,8 +21,8 @@ use Rattle.outcome.specs.Report.{report_text}
 use Rattle.job_base.specs.Written.{outcome_proofs}
 use Rattle.job_base.proofs.Limits.{pair_proofs}
 use Rattle.sec_setup.specs.Pairs.{NamedPair, named_pairs}
-use Rattle.outcome_fits.specs.ResetOutcome.{Numbered, IsFirstLimit}
-use Rattle.plain_meaning.proofs.Fitted.{kept_proof}
+use Rattle.under_base.specs.outcome_fits.ResetOutcome.{Numbered, IsFirstLimit}
+use Rattle.under_base.proofs.plain_meaning.Fitted.{kept_proof}
 use Rattle.swept_queries.proofs.Listed.{zip_left}
 use Rattle.assume_laws.specs.Assume.{Assumption}
 use Rattle.under_base.specs.Taken.{assumed_by}
@@ -31,7 +31,7 @@ use Rattle.under_base.specs.ResetOutcome.{ResetVerdictFitsUnder, numbers_of}
 use Rattle.under_base.specs.ResetVerdict.{AgreeBeforeUnder, AnswerFitsUnder, PairFitsUnder}
 use Rattle.under_base.specs.Compared.{IsComparedFromResetUnder}
 use Rattle.under_base.specs.Met.{shared_by}
-use Rattle.sec_files.specs.Loading.{Loads}
+use Rattle.text_circuits.specs.sec_files.Loading.{Loads}
 use Rattle.text_circuits.proofs.Circuits.{text_design}
 use Rattle.assume_texts.specs.Resets.{ResetsAgreeUnder, ResetsDifferUnder, ResetsUndecidedUnder}
 use Rattle.assume_texts.proofs.Designs.{resets_agree_up, resets_differ_up, sequence_up}

@@ -2,7 +2,7 @@
 use Rattle.std.specs.Prelude.{◌⊎◌, ℕ, List, Option}
 use Rattle.sec_base.specs.declared.settings.Settings.{Settings}
 use Rattle.pair_decide.specs.declared.query.Proof.{Proof}
-use Rattle.compare_base.specs.Compared.{ByReset}
+use Rattle.under_base.specs.compare_base.Compared.{ByReset}
 use Rattle.assume_texts.specs.Resets.{ResetsAgreeUnder, ResetsDifferUnder, ResetsUndecidedUnder}
 use Rattle.assume_texts.specs.Texts.{TextsAgreeUnder, TextsDifferUnder, TextsNotShownUnder, TextsUndecidedUnder, AssumptionUndecided}
 

@@ -18,7 +18,7 @@ use Rattle.under_base.specs.Cycles.{IsUndecidedUnder}
 use Rattle.under_base.specs.ResetOutcome.{numbers_of}
 use Rattle.under_base.specs.ResetVerdict.{AgreeBeforeUnder}
 use Rattle.under_base.specs.Met.{shared_by}
-use Rattle.sec_files.specs.Loading.{Loads}
+use Rattle.text_circuits.specs.sec_files.Loading.{Loads}
 use Rattle.assume_texts.specs.Agreement.{AgreeFromResetWhereMet, MakesResetsDifferWhereMet}
 use Rattle.assume_texts.specs.Meets.{SequenceMeetsCircuit}
 use Rattle.assume_texts.specs.Texts.{ThreeCircuits}

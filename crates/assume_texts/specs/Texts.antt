@@ -18,11 +18,11 @@ use Rattle.outcome.specs.declared.verdict.Outcome.{Outcome}
 use Rattle.outcome.specs.Report.{report_text}
 use Rattle.sec_setup.specs.Pairs.{NamedPair, named_pairs}
 use Rattle.sec_setup.specs.Cuts.{IsChoice, AreCutAt, columns_of}
-use Rattle.compare_base.specs.Says.{SaysDifferent, SaysNotShown}
+use Rattle.under_base.specs.compare_base.Says.{SaysDifferent, SaysNotShown}
 use Rattle.under_base.specs.Taken.{IsAssumed, IsUndecidedBy, assumed_by}
 use Rattle.under_base.specs.Limits.{IsUndecidedUnder}
 use Rattle.under_base.specs.Met.{shared_by}
-use Rattle.sec_files.specs.Loading.{Loads, SpellsCircuit}
+use Rattle.text_circuits.specs.sec_files.Loading.{Loads, SpellsCircuit}
 use Rattle.assume_texts.specs.Agreement.{AreEqualWhereMet}
 use Rattle.assume_texts.specs.Meets.{SequenceMeetsCircuit}
 

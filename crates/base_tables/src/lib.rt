@@ -7,3 +7,4 @@ mod sorted_names;
 mod tables;
 
 pub use tables::{NameTable, PlaceTable};
+pub use unique_table::{Key, UniqueTable, mixed};

@@ -1,1 +1,2 @@
 pub mod Lines
+pub use Rattle.sec_base.specs as sec_base

@@ -15,3 +15,4 @@ pub mod Bytes
 pub mod Loop
 pub mod Plain
 mod Texts
+pub use Rattle.blif_lines.proofs.sec_base

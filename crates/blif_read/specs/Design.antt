@@ -5,9 +5,9 @@ use Rattle.std.specs.Fmt.{decimal, digits}
 use Rattle.circuit_theory.specs.Circuit.{Circuit, Equation, Gate, Port, Named, Started}
 use Rattle.circuit_theory.specs.Circuit.{Latch as Register}
 use Rattle.circuit_theory.specs.Flattened.{Follows}
-use Rattle.sec_base.specs.declared.basics.Init.{Init}
-use Rattle.sec_base.specs.declared.basics.Init.TheVariants as init
-use Rattle.sec_base.specs.Table.{is_among}
+use Rattle.blif_lines.specs.sec_base.declared.basics.Init.{Init}
+use Rattle.blif_lines.specs.sec_base.declared.basics.Init.TheVariants as init
+use Rattle.blif_lines.specs.sec_base.Table.{is_among}
 use Rattle.blif_read.specs.declared.design.BlifModel.{BlifModel}
 use Rattle.blif_read.specs.declared.design.Pair.{Pair}
 use Rattle.blif_read.specs.declared.design.Statement.{Statement}

@@ -2,9 +2,9 @@
 use Rattle.std.specs.Prelude.{ℕ, ◌==◌, nat_lt, ◌&&◌, ◌||◌, not, Bool, true, false, List, [], ◌∷◌, ◌++◌, length, Option, Some, None, codes}
 use Rattle.std.specs.List.{list_any, list_all, before_first, after_first}
 use Rattle.circuit_theory.specs.Interface.{◌or_else◌}
-use Rattle.sec_base.specs.declared.limits.TheConstants.{MAX_NAME_BYTES}
+use Rattle.blif_lines.specs.sec_base.declared.limits.TheConstants.{MAX_NAME_BYTES}
 use Rattle.blif_lines.specs.Lines.{is_empty}
-use Rattle.sec_base.specs.Table.{is_among}
+use Rattle.blif_lines.specs.sec_base.Table.{is_among}
 use Rattle.blif_read.specs.declared.head.Head.{Head}
 use Rattle.blif_read.specs.declared.head.Head.TheVariants as head
 use Rattle.blif_read.specs.declared.error.ReadKind.{ReadKind}

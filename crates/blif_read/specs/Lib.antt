@@ -6,3 +6,4 @@ pub mod Reading
 pub mod Rows
 pub mod Spelled
 pub mod State
+pub use Rattle.blif_lines.specs.sec_base

@@ -1,11 +1,11 @@
 -- The models that lines spell. All lists of lines here have the latest line first.
 use Rattle.std.specs.Prelude.{ℕ, ◌==◌, Bool, if◌then◌else◌, List, [], ◌∷◌, ◌++◌, map, reverse, length, Option, Some, None, codes, bytes_eq}
 use Rattle.std.specs.List.{before_first, after_first}
-use Rattle.sec_base.specs.declared.basics.Edge.{Edge}
-use Rattle.sec_base.specs.declared.basics.Edge.TheVariants as edge
-use Rattle.sec_base.specs.declared.basics.Init.{Init}
-use Rattle.sec_base.specs.declared.basics.Init.TheVariants as init
-use Rattle.sec_base.specs.Table.{is_among}
+use Rattle.blif_lines.specs.sec_base.declared.basics.Edge.{Edge}
+use Rattle.blif_lines.specs.sec_base.declared.basics.Edge.TheVariants as edge
+use Rattle.blif_lines.specs.sec_base.declared.basics.Init.{Init}
+use Rattle.blif_lines.specs.sec_base.declared.basics.Init.TheVariants as init
+use Rattle.blif_lines.specs.sec_base.Table.{is_among}
 use Rattle.blif_read.specs.declared.head.Head.{Head}
 use Rattle.blif_read.specs.declared.head.Head.TheVariants as head
 use Rattle.blif_read.specs.declared.design.BlifModel.{BlifModel}

@@ -5,7 +5,7 @@ ghost use Rattle.blif_read.specs.declared.design.Statement.TheVariants as statem
 
 use crate::design::{BlifModel, Pair, Pairs, Statement};
 use crate::statements::latch_with;
-use sec_base::{Cover, Duplicate, NoMemory, Word, Words};
+use blif_lines::{Cover, Duplicate, NoMemory, Word, Words};
 use std::alloc::Global;
 
 impl Duplicate for Pair {

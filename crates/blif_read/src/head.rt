@@ -3,11 +3,11 @@
 ghost use Rattle.std.specs.Prelude.{◌≡◌, ◌&&◌, not, map, bytes_eq};
 ghost use Rattle.std.specs.List.{list_any};
 ghost use Rattle.blif_read.specs.Heads.{head_of, dot_head, begins_with_dot, count_fits, unsupported_words};
-ghost use Rattle.sec_base.specs.Table.{is_among};
+ghost use Rattle.blif_lines.specs.sec_base.Table.{is_among};
 ghost use Rattle.blif_read.specs.Fault.{is_control, is_long, is_model_head, gate};
 
 use crate::error::ReadKind;
-use sec_base::MAX_NAME_BYTES;
+use blif_lines::MAX_NAME_BYTES;
 
 /// What the first token of a line says the line is.
 #[derive(Clone, Copy, PartialEq, Eq)]

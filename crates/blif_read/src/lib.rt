@@ -16,6 +16,10 @@ mod rows;
 mod statements;
 mod stop;
 
+pub use blif_lines::{
+    Duplicate, Edge, Ids, Init, MAX_LEVELS, MAX_NAME_BYTES, MAX_PLACES, MAX_STATEMENTS, NameTable,
+    NoMemory, Seq, Word, Words, put, put_number,
+};
 pub use design::{BlifModel, BlifModels, Design, Pair, Pairs, Statement, Statements};
 pub use error::{ReadError, ReadKind};
 pub use reader::read_design;

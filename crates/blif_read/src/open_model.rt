@@ -14,7 +14,7 @@ use crate::head::Head;
 use crate::names::{add_names, add_new};
 use crate::statements::{latch_of, subckt_of};
 use crate::stop::{Stop, fault};
-use sec_base::{NameTable, NoMemory, Seq, Word, Words};
+use blif_lines::{NameTable, NoMemory, Seq, Word, Words};
 use std::alloc::Global;
 use std::mem;
 

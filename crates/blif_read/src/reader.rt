@@ -15,8 +15,7 @@ use crate::head::{Head, any_control, gate, head_of};
 use crate::names::word_of;
 use crate::open_model::OpenModel;
 use crate::stop::{Stop, fault};
-use blif_lines::{Lines, RawLine, tokens_of};
-use sec_base::{MAX_FILE_BYTES, NameTable, NoMemory, Seq, Word};
+use blif_lines::{Lines, MAX_FILE_BYTES, NameTable, NoMemory, RawLine, Seq, Word, tokens_of};
 use std::alloc::Global;
 use std::mem;
 

@@ -4,7 +4,7 @@ ghost use Rattle.std.specs.Prelude.{◌≡◌};
 ghost use Rattle.blif_read.specs.declared.stop.Stop.TheVariants as stop;
 
 use crate::error::ReadKind;
-use sec_base::NoMemory;
+use blif_lines::NoMemory;
 use std::alloc::{AllocError, AllocFailed};
 
 /// Why the reading ends early.

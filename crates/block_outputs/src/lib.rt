@@ -7,4 +7,5 @@ pub mod laws;
 mod outputs;
 
 pub use answer::{OutputAnswer, Shown};
+pub use block_refine::{Refined, SplitLimit, refine};
 pub use outputs::{OutputPair, OutputPairs, compare_outputs};

@@ -8,16 +8,16 @@ use Rattle.sec_files.specs.Formats.{Blif}
 use Rattle.sec_files.specs.Loading.{Loads}
 use Rattle.sec_files.proofs.Texts.{text_net}
 use Rattle.latch_blocks.specs.Signals.{net_weight}
-use Rattle.induct_meaning.specs.Answer.{CanBeJudged}
+use Rattle.job_induct.specs.induct_meaning.Answer.{CanBeJudged}
 use Rattle.design_rows.specs.Designs as design
 use Rattle.design_rows.specs.Small.{Small, small_and, small_toggle, small_late, small_early}
 use Rattle.design_rows.specs.Texts.{on_and, off_and, toggle}
 use Rattle.design_rows.proofs.Spelling.{Spells, PortsMatch, accepted, net_is_small, match}
 use Rattle.design_rows.proofs.SpelledTexts.{on_and_spells, off_and_spells, toggle_spells}
 use Rattle.block_premises.specs.ByBlocks.{TextsCanBeJudged}
-use Rattle.reset_premises.specs.ResetPremises.{late_from_zero, early_from_zero}
+use Rattle.block_premises.specs.ResetPremises.{late_from_zero, early_from_zero}
 use Rattle.block_premises.proofs.NetWeights.{circuit_weight, net_weighs}
-use Rattle.reset_premises.proofs.ResetPremises.{late_design, early_design, late_from_spells, early_from_spells}
+use Rattle.block_premises.proofs.ResetPremises.{late_design, early_design, late_from_spells, early_from_spells}
 
 -- what each net of the text counts
 light : (text : List ℕ) (models : List BlifModel) (s : Small) → Spells text models s → (weight : ℕ) → circuit_weight (circuit_of_design models None) ≡ weight → weight ≤ 2000000 → (net : NetView) → Loads text net → net_weight net ≤ 2000000

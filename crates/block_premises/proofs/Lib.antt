@@ -2,3 +2,5 @@ pub mod NetWeights
 pub mod ByBlocks
 pub mod TurningNets
 pub mod EqualByBlocks
+pub mod ResetBounds
+pub mod ResetPremises

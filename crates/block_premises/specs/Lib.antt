@@ -1,2 +1,3 @@
 pub mod ByBlocks
 pub mod EqualByBlocks
+pub mod ResetPremises

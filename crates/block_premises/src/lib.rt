@@ -1,4 +1,7 @@
 //! That the premises of what is promised of comparisons by blocks of latches are met. The functions do nothing: each contract is an example.
+//!
+//! That the premises of what is promised of comparisons from the latches' initial values are met. The function does nothing: its contract
+//! is an example.
 #![tactic(auto)]
 
 ghost use Rattle.block_premises.specs.ByBlocks.{TextsCanBeJudged};
@@ -14,4 +17,11 @@ pub fn texts_can_be_judged()
 /// the outputs are equal.
 pub fn are_equal_by_blocks()
     ensures { AreEqualByBlocks }
+{}
+
+ghost use Rattle.block_premises.specs.ResetPremises.{ResetsAreComparable};
+
+/// A retiming that moves initial values along can be compared from these, and so can circuits with latches that may start with either.
+pub fn resets_are_comparable()
+    ensures { ResetsAreComparable }
 {}

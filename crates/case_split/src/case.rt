@@ -7,8 +7,7 @@ ghost use Rattle.case_split.specs.Under.{StandsUnder, AreUnder, IsCaseOf};
 
 use crate::lits::{constant, literal_for};
 use crate::marks::is_marked;
-use aig::{Aig, Lit, Node};
-use sec_base::NoMemory;
+use aig::{Aig, Lit, NoMemory, Node};
 use std::alloc::Global;
 
 /// The most nodes of a case.

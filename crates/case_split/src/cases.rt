@@ -5,8 +5,7 @@ ghost use Rattle.case_split.specs.Under.{AgreeIn, IsSplitOf, AreBoth};
 
 use crate::case::{Case, case_of};
 use crate::marks::{count_of, most_read, reached};
-use aig::{Aig, Lit};
-use sec_base::NoMemory;
+use aig::{Aig, Lit, NoMemory};
 use std::alloc::Global;
 
 /// The most cases.

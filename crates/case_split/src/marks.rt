@@ -1,7 +1,6 @@
 //! Which nodes two literals reach, and which variable most of them read. No clause sees it.
 
-use aig::{Lit, Node};
-use sec_base::NoMemory;
+use aig::{Lit, NoMemory, Node};
 use std::alloc::Global;
 
 /// For each node whether one of the literals reaches it.

@@ -6,6 +6,7 @@ mod laws;
 pub mod reached_places;
 mod unfolder;
 
+pub use latch_graph::LatchGraph;
 pub use laws::{
     constant_reaches_none, equal_trees_one_literal, fits_later, literal_is_run, reached_from_one,
     unfolded_later, variables_cover_cone, windows,

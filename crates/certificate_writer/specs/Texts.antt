@@ -8,7 +8,7 @@ use Rattle.proof_check.specs.declared.derivation.Chain.{Chain}
 use Rattle.cnf_encode.specs.declared.cnf.Cnf.{Cnf}
 use Rattle.dimacs_text.specs.Dimacs.{formula_of}
 use Rattle.dimacs_text.specs.Formulas.{Formula}
-use Rattle.dimacs_writer.specs.Written.{literal_piece, dimacs_text}
+use Rattle.dimacs_text.specs.dimacs_writer.Written.{literal_piece, dimacs_text}
 use Rattle.lrat_core.specs.Lines.{Addition, Line, Adds, Deletes}
 use Rattle.lrat_core.specs.Logs.{lines_of}
 use Rattle.lrat_core.specs.Sequences.{Accepted}

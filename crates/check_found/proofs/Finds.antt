@@ -10,16 +10,16 @@ use Rattle.flat_net.specs.View.{NetView}
 use Rattle.pair_decide.specs.declared.query.SameBy.{SameBy}
 use Rattle.assume_shape.specs.declared.shape.ShapeFault.{ShapeFault}
 use Rattle.outcome.specs.declared.verdict.Outcome.{Outcome}
-use Rattle.job_base.specs.declared.finding.File.TheVariants as file
-use Rattle.job_base.specs.declared.finding.Finding.{Finding}
-use Rattle.job_base.specs.declared.finding.Stop.{Stop}
-use Rattle.job_base.specs.declared.finding.Stop.TheVariants as stop
-use Rattle.event_outcome_under.specs.CompareError.{CompareError}
-use Rattle.event_outcome_under.specs.CompareError.TheVariants as compare_error
-use Rattle.event_outcome_under.specs.Compared.{ComparedIn}
-use Rattle.event_outcome_under.specs.Answered.{ComparedUnderIn}
-use Rattle.sec_files.specs.declared.loader.LoadError.{LoadError}
-use Rattle.sec_files.specs.Loading.{Loads, LoadFails, IsTooLong, HasFault, HasDesignFault, HasRecordFault}
+use Rattle.job_files.specs.job_base.declared.finding.File.TheVariants as file
+use Rattle.job_files.specs.job_base.declared.finding.Finding.{Finding}
+use Rattle.job_files.specs.job_base.declared.finding.Stop.{Stop}
+use Rattle.job_files.specs.job_base.declared.finding.Stop.TheVariants as stop
+use Rattle.event_meaning_under.specs.CompareError.{CompareError}
+use Rattle.event_meaning_under.specs.CompareError.TheVariants as compare_error
+use Rattle.event_meaning_under.specs.Compared.{ComparedIn}
+use Rattle.event_meaning_under.specs.Answered.{ComparedUnderIn}
+use Rattle.job_files.specs.sec_files.declared.loader.LoadError.{LoadError}
+use Rattle.job_files.specs.sec_files.Loading.{Loads, LoadFails, IsTooLong, HasFault, HasDesignFault, HasRecordFault}
 use Rattle.job_files.specs.Ends.{load_end}
 use Rattle.job_files.specs.Reading.{IsLoaded, Held, ReadFailed}
 use Rattle.job_files.proofs.Loading.{load_ends, later_fails}

@@ -1,1 +1,2 @@
 pub mod Finds
+pub use Rattle.job_files.proofs as job_files

@@ -4,19 +4,19 @@ use Rattle.sec_base.specs.Outside.{Rose}
 use Rattle.sec_base.specs.declared.settings.Settings.{Settings}
 use Rattle.flat_net.specs.View.{NetView}
 use Rattle.outcome.specs.declared.verdict.Outcome.{Outcome}
-use Rattle.job_base.specs.Ends.{EndsBy}
-use Rattle.job_base.specs.declared.finding.File.TheVariants as file
-use Rattle.job_base.specs.declared.finding.Refusal.TheVariants as refusal
-use Rattle.job_base.specs.declared.finding.Finding.{Finding}
-use Rattle.job_base.specs.declared.finding.Finding.TheVariants as finding
-use Rattle.job_base.specs.declared.finding.Stop.{Stop}
-use Rattle.job_base.specs.declared.finding.Stop.TheVariants as stop
-use Rattle.event_outcome_under.specs.CompareError.{CompareError}
-use Rattle.event_outcome_under.specs.CompareError.TheVariants as compare_error
-use Rattle.event_outcome_under.specs.Compared.{ComparedIn}
-use Rattle.event_outcome_under.specs.Answered.{ComparedUnderIn}
-use Rattle.sec_files.specs.Loading.{Loads, LoadFails}
-use Rattle.sec_files.specs.declared.loader.LoadError.{LoadError}
+use Rattle.job_files.specs.job_base.Ends.{EndsBy}
+use Rattle.job_files.specs.job_base.declared.finding.File.TheVariants as file
+use Rattle.job_files.specs.job_base.declared.finding.Refusal.TheVariants as refusal
+use Rattle.job_files.specs.job_base.declared.finding.Finding.{Finding}
+use Rattle.job_files.specs.job_base.declared.finding.Finding.TheVariants as finding
+use Rattle.job_files.specs.job_base.declared.finding.Stop.{Stop}
+use Rattle.job_files.specs.job_base.declared.finding.Stop.TheVariants as stop
+use Rattle.event_meaning_under.specs.CompareError.{CompareError}
+use Rattle.event_meaning_under.specs.CompareError.TheVariants as compare_error
+use Rattle.event_meaning_under.specs.Compared.{ComparedIn}
+use Rattle.event_meaning_under.specs.Answered.{ComparedUnderIn}
+use Rattle.job_files.specs.sec_files.Loading.{Loads, LoadFails}
+use Rattle.job_files.specs.sec_files.declared.loader.LoadError.{LoadError}
 use Rattle.job_files.specs.Ends.{load_end}
 use Rattle.job_files.specs.Reading.{Held, ReadFailed}
 use Rattle.check_found.specs.Check.{Check, check_paths}

@@ -3,18 +3,18 @@ use Rattle.std.specs.Prelude.{◌≡◌, ℕ, List, Option, Some, None, Result, 
 use Rattle.flat_net.specs.View.{NetView}
 use Rattle.pair_decide.specs.declared.query.SameBy.{SameBy}
 use Rattle.outcome.specs.declared.verdict.Outcome.{Outcome}
-use Rattle.job_base.specs.declared.finding.File.{File}
-use Rattle.job_base.specs.declared.finding.File.TheVariants as file
-use Rattle.job_base.specs.declared.finding.LineFault.TheVariants as line_fault
-use Rattle.job_base.specs.declared.finding.Refusal.{Refusal}
-use Rattle.job_base.specs.declared.finding.Refusal.TheVariants as refusal
-use Rattle.job_base.specs.declared.finding.Finding.{Finding}
-use Rattle.job_base.specs.declared.finding.Finding.TheVariants as finding
-use Rattle.event_outcome_under.specs.CompareError.{CompareError}
-use Rattle.event_outcome_under.specs.CompareError.TheVariants as compare_error
-use Rattle.event_outcome_under.specs.Compared.{ComparedIn}
-use Rattle.event_outcome_under.specs.Answered.{ComparedUnderIn}
-use Rattle.sec_files.specs.Loading.{Loads, IsTooLong, HasFault, HasDesignFault, HasRecordFault}
+use Rattle.job_files.specs.job_base.declared.finding.File.{File}
+use Rattle.job_files.specs.job_base.declared.finding.File.TheVariants as file
+use Rattle.job_files.specs.job_base.declared.finding.LineFault.TheVariants as line_fault
+use Rattle.job_files.specs.job_base.declared.finding.Refusal.{Refusal}
+use Rattle.job_files.specs.job_base.declared.finding.Refusal.TheVariants as refusal
+use Rattle.job_files.specs.job_base.declared.finding.Finding.{Finding}
+use Rattle.job_files.specs.job_base.declared.finding.Finding.TheVariants as finding
+use Rattle.event_meaning_under.specs.CompareError.{CompareError}
+use Rattle.event_meaning_under.specs.CompareError.TheVariants as compare_error
+use Rattle.event_meaning_under.specs.Compared.{ComparedIn}
+use Rattle.event_meaning_under.specs.Answered.{ComparedUnderIn}
+use Rattle.job_files.specs.sec_files.Loading.{Loads, IsTooLong, HasFault, HasDesignFault, HasRecordFault}
 use Rattle.job_files.specs.Reading.{Held}
 use Rattle.check_found.specs.Check.{Check}
 

@@ -10,25 +10,25 @@ use Rattle.sec_base.specs.declared.settings.Settings.{Settings}
 use Rattle.flat_net.specs.View.{NetView, circuit_of}
 use Rattle.outcome.specs.declared.verdict.Verdict.{Verdict}
 use Rattle.outcome.specs.declared.verdict.Verdict.TheVariants as verdict
-use Rattle.job_base.specs.declared.finding.File.TheVariants as file
-use Rattle.job_base.specs.declared.finding.LineFault.TheVariants as line_fault
-use Rattle.job_base.specs.declared.finding.Refusal.{Refusal}
-use Rattle.job_base.specs.declared.finding.Refusal.TheVariants as refusal
-use Rattle.job_base.specs.declared.finding.Finding.{Finding}
-use Rattle.job_base.specs.declared.finding.Finding.TheVariants as finding
-use Rattle.job_base.specs.Written.{verdict_status, status_of}
+use Rattle.check_found.specs.job_base.declared.finding.File.TheVariants as file
+use Rattle.check_found.specs.job_base.declared.finding.LineFault.TheVariants as line_fault
+use Rattle.check_found.specs.job_base.declared.finding.Refusal.{Refusal}
+use Rattle.check_found.specs.job_base.declared.finding.Refusal.TheVariants as refusal
+use Rattle.check_found.specs.job_base.declared.finding.Finding.{Finding}
+use Rattle.check_found.specs.job_base.declared.finding.Finding.TheVariants as finding
+use Rattle.check_found.specs.job_base.Written.{verdict_status, status_of}
 use Rattle.cut_points.specs.Common.{common_names}
 use Rattle.sec_setup.specs.Cycles.{AreBroken}
 use Rattle.sec_files.specs.Loading.{IsAccepted, Loads, IsTooLong, HasFault, HasDesignFault, HasRecordFault}
-use Rattle.job_files.specs.Reading.{Held}
-use Rattle.job_files.proofs.Accepted.{is_short, has_no_fault, is_sound, has_good_records}
-use Rattle.job_files.proofs.Reading.{some_and, if_told}
+use Rattle.check_found.specs.job_files.Reading.{Held}
+use Rattle.check_found.proofs.job_files.Accepted.{is_short, has_no_fault, is_sound, has_good_records}
+use Rattle.check_found.proofs.job_files.Reading.{some_and, if_told}
 use Rattle.check_found.specs.Check.{Check}
 use Rattle.check_found.specs.Found.{OfTexts, OfThree, OfGiven, OfNets, OfThreeNets, IsAnsweredBy, IsAnsweredUnder, IsRefusal, IsFoundOf}
 use Rattle.check_meaning.specs.Answer.{AreComparableIn, AreComparableUnder, CanAnswerWith, IsAnswer, IsCheckComplete}
 use Rattle.check_texts.specs.Texts.{AreComparable}
 use Rattle.event_texts.specs.Texts.{AreEventComparable}
-use Rattle.event_setup.specs.Choosing.{HaveNoCycles}
+use Rattle.event_texts.specs.event_setup.Choosing.{HaveNoCycles}
 use Rattle.check_found.specs.Answered.{ComparedUnderIn}
 use Rattle.check_found.specs.Compared.{ComparedIn, ComparedInEvents}
 use Rattle.check_texts.specs.CompareError.{CompareError}
@@ -36,7 +36,7 @@ use Rattle.check_texts.specs.CompareError.TheVariants as compare_error
 use Rattle.check_texts.specs.Compared.{Compared}
 use Rattle.check_texts.proofs.ToldCycles.{is_not_free}
 use Rattle.cut_points.specs.Exposed.{IsFreeWithout, IsToldCycle}
-use Rattle.expose_pick.proofs.Cuts.{round_cycle}
+use Rattle.cut_points.proofs.expose_pick.Cuts.{round_cycle}
 
 -- the text of the assumption is told, where there is one
 abbrev IsThirdTold : Held → Option (List ℕ) → Type 0

@@ -15,11 +15,11 @@ use Rattle.outcome.specs.declared.verdict.Verdict.{Verdict}
 use Rattle.outcome.specs.declared.verdict.Verdict.TheVariants as verdict
 use Rattle.outcome.specs.declared.verdict.Why.{Why}
 use Rattle.outcome.specs.Report.{report_text}
-use Rattle.job_base.specs.declared.finding.Finding.{Finding}
-use Rattle.job_base.specs.declared.finding.Finding.TheVariants as finding
-use Rattle.job_base.specs.declared.status.StatusName.{StatusName}
-use Rattle.job_base.specs.declared.status.StatusName.TheVariants as status
-use Rattle.job_base.specs.Written.{verdict_status, status_of, IsWrittenAs}
+use Rattle.check_found.specs.job_base.declared.finding.Finding.{Finding}
+use Rattle.check_found.specs.job_base.declared.finding.Finding.TheVariants as finding
+use Rattle.check_found.specs.job_base.declared.status.StatusName.{StatusName}
+use Rattle.check_found.specs.job_base.declared.status.StatusName.TheVariants as status
+use Rattle.check_found.specs.job_base.Written.{verdict_status, status_of, IsWrittenAs}
 use Rattle.check_texts.specs.CompareError.{CompareError}
 use Rattle.check_texts.specs.Compared.{IsCompared, IsComparedFromReset}
 use Rattle.check_found.specs.Compared.{ComparedIn, IsComparedInEvents}
@@ -28,7 +28,7 @@ use Rattle.check_found.specs.Answered.{ComparedUnderIn}
 use Rattle.sec_files.specs.Loading.{Loads}
 use Rattle.event_texts_under.specs.Answers.{EqualUnderIn, DifferentUnderIn, NotShownUnderIn, LimitUnderIn}
 use Rattle.event_texts_under.proofs.Answers.{equal_under_in, different_under_in, not_shown_under_in, limit_under_in}
-use Rattle.job_files.specs.Reading.{Held}
+use Rattle.check_found.specs.job_files.Reading.{Held}
 use Rattle.check_found.specs.Check.{Check}
 use Rattle.check_meaning.specs.Answer.{CheckMeans, InForm}
 use Rattle.event_texts.specs.Texts.{EventTextsAgree, EventTextsDiffer, EventTextsNotShown, EventTextsUndecided}

@@ -1,7 +1,7 @@
 -- What a sequence and power-ups show of flat nets they show of the circuits that the nets come from.
 use Rattle.std.proofs.Common.{◌∙◌, ℕ, ap, sym}
 use Rattle.circuit_theory.specs.Circuit.{Circuit}
-use Rattle.design_laws.proofs.FlatParts.{FlatDesign, output_up}
+use Rattle.text_circuits.proofs.design_laws.FlatParts.{FlatDesign, output_up}
 use Rattle.text_circuits.proofs.Powers.{begins_up, net_latches_long, side_shown}
 use Rattle.text_circuits.proofs.Resets.{nets_alike, outputs_equal}
 use Rattle.outcome.specs.declared.verdict.ResetWitness.{ResetWitness}

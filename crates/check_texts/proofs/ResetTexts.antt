@@ -26,8 +26,8 @@ use Rattle.compare_base.specs.ResetLimits.{IsUndecidedAt}
 use Rattle.compare_base.specs.ResetOutcome.{Numbered, AgreeBefore, AnswerFits, PairFits, IsFirstLimit}
 use Rattle.compare_base.specs.Compared.{IsComparedFromReset}
 use Rattle.compare_base.specs.FromReset.{numbered_by, ResetVerdictFits}
-use Rattle.sec_files.specs.Loading.{Loads, circuit_of_text}
-use Rattle.sec_files.proofs.Texts.{spelled_circuit}
+use Rattle.text_circuits.specs.sec_files.Loading.{Loads, circuit_of_text}
+use Rattle.text_circuits.proofs.sec_files.Texts.{spelled_circuit}
 use Rattle.text_circuits.proofs.Circuits.{text_design}
 use Rattle.text_circuits.proofs.Resets.{resets_agree_up}
 use Rattle.check_texts.specs.Resets.{ResetsAgree, ResetsDiffer, ResetsUndecided}

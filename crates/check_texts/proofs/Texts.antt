@@ -23,8 +23,8 @@ use Rattle.sec_setup.specs.Pairs.{NamedPair, named_pairs}
 use Rattle.sec_setup.specs.Cuts.{columns_of, is_cut}
 use Rattle.compare_base.specs.Outcome.{PairFits, VerdictFits, IsFirstLimit}
 use Rattle.compare_base.specs.Compared.{IsCompared}
-use Rattle.sec_files.specs.Loading.{Loads, circuit_of_text}
-use Rattle.sec_files.proofs.Texts.{spelled_circuit}
+use Rattle.text_circuits.specs.sec_files.Loading.{Loads, circuit_of_text}
+use Rattle.text_circuits.proofs.sec_files.Texts.{spelled_circuit}
 use Rattle.text_circuits.proofs.Circuits.{texts_agree_by, texts_agree_from, texts_differ_by, texts_minimal, texts_onward, texts_cuts_differ}
 use Rattle.check_texts.specs.Texts.{TextsAgree, TextsDiffer, TextsNotShown, TextsUndecided}
 use Rattle.swept_queries.proofs.Listed.{zip_left}

@@ -19,7 +19,7 @@ use Rattle.compare_base.specs.ResetLimits.{IsUndecidedAt}
 use Rattle.compare_base.specs.ResetOutcome.{AgreeBefore}
 use Rattle.compare_base.specs.FromReset.{numbered_by}
 use Rattle.compare_base.specs.Says.{MakesResetsDiffer}
-use Rattle.sec_files.specs.Loading.{Loads, SpellsCircuit}
+use Rattle.text_circuits.specs.sec_files.Loading.{Loads, SpellsCircuit}
 
 -- In any two runs of the circuits that the two texts spell that begin with the initial values and have equal inputs, each output is
 -- equal in every cycle. The same is said of the flat nets that the texts load as.

@@ -25,7 +25,7 @@ use Rattle.compare_base.specs.Limits.{IsUndecided}
 use Rattle.compare_base.specs.Says.{SaysEqual, SaysDifferent, SaysNotShown}
 use Rattle.compare_base.specs.Compared.{AreTooLarge, ByReset}
 use Rattle.compare_base.specs.FromReset.{AreTooLargeFromReset}
-use Rattle.sec_files.specs.Loading.{IsAccepted, Loads, SpellsCircuit}
+use Rattle.text_circuits.specs.sec_files.Loading.{IsAccepted, Loads, SpellsCircuit}
 
 -- The circuits that the two texts spell agree, and agree onward over the exposed latches that are printed, which are a minimal cut of
 -- them; so in any two runs of theirs with equal inputs in which these are equal from the start up to the printed cycle, they are equal

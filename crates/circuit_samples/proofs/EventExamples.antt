@@ -7,7 +7,7 @@ use Rattle.circuit_theory.specs.Circuit.{Gate, Latch, IsLatch, IsSource, Meets, 
 use Rattle.circuit_theory.specs.Run.{IsRun, ExtendsWith, Loads, CanPut, IsEnabled, Marked, NoneEnabled}
 use Rattle.circuit_theory.specs.Depth.{LatchReads, LatchPath, HasCycle, LatchChain, ChainFrom, IsDepth}
 use Rattle.circuit_theory.specs.Tree.{Leaf, Fixed, Branch, Nil, Cons}
-use Rattle.event_theory.specs.Frame.{EventSide, EventUnfolds, EventUnfoldsAll}
+use Rattle.circuit_theory.specs.Frame.{EventSide, EventUnfolds, EventUnfoldsAll}
 use Rattle.circuit_theory.specs.Agree.{IsSettled}
 use Rattle.circuit_samples.specs.Circuits.{hold_not_cover, buffer, hold_not}
 use Rattle.circuit_samples.proofs.Samples.{hold_not_net, item_of, LatchItem}

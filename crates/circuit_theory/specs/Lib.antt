@@ -17,3 +17,11 @@ pub mod Run
 pub mod Sequence
 pub mod Sizes
 pub mod Tree
+pub mod Classes
+pub mod EventFits
+pub mod EventFrames
+pub mod EventQueries
+pub mod EventSizes
+pub mod EventTotals
+pub mod Frame
+pub mod Reached

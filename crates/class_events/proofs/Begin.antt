@@ -1,8 +1,8 @@
 -- Nothing is counted where no signal is unfolded.
 use Rattle.std.proofs.Common.{◌≡◌, ℕ, zero, suc, List, [], slice_get, Some, refl, sym, subst, arith}
 use Rattle.std.proofs.lemmas.List.Elements.{All-nil}
-use Rattle.event_nodes.specs.View.{EventCircuitView}
-use Rattle.event_nodes.specs.Visited.{CounterView, HasCounted, IsVisitedPair}
+use Rattle.event_classes.specs.event_nodes.View.{EventCircuitView}
+use Rattle.event_classes.specs.event_nodes.Visited.{CounterView, HasCounted, IsVisitedPair}
 use Rattle.pair_events.specs.Counted.{HaveCounted}
 use Rattle.pair_events.specs.View.{EventsView}
 use Rattle.class_events.specs.Laws.{CountingBegins}

@@ -5,15 +5,15 @@ use Rattle.std.specs.List.{Contains}
 use Rattle.std.proofs.lemmas.List.Elements.{Contains-append_left, Contains-append_right}
 use Rattle.circuit_theory.specs.Joined.{Either, Left, Right}
 use Rattle.circuit_theory.proofs.Lists.{Contains-map, length-map, only}
-use Rattle.event_theory.specs.EventSizes.{Start}
-use Rattle.event_theory.specs.EventTotals.{AreStarts}
+use Rattle.circuit_theory.specs.EventSizes.{Start}
+use Rattle.circuit_theory.specs.EventTotals.{AreStarts}
 use Rattle.flat_net.specs.Sound.{IsSound}
 use Rattle.flat_net.specs.View.{circuit_of}
 use Rattle.flat_net.proofs.Nets.{sound_is_net}
-use Rattle.event_nodes.specs.Nodes.{path_of}
-use Rattle.event_nodes.specs.View.{EventCircuitView, side_of}
+use Rattle.event_classes.specs.event_nodes.Nodes.{path_of}
+use Rattle.event_classes.specs.event_nodes.View.{EventCircuitView, side_of}
 use Rattle.pair_events.specs.Enables.{both_of, class_map}
-use Rattle.class_extension.proofs.Sides.{sides_reach_nodes_in_nets}
+use Rattle.event_classes.proofs.class_extension.Sides.{sides_reach_nodes_in_nets}
 use Rattle.event_classes.specs.Totals.{AreWithin}
 use Rattle.event_classes.specs.Totals as totals
 use Rattle.event_classes.proofs.Nodes.{node_more}

@@ -7,3 +7,4 @@ pub mod Pairs
 pub mod Telling
 pub mod Refused
 pub use Rattle.pair_events.proofs.Unions
+pub use Rattle.pair_events.proofs as pair_events

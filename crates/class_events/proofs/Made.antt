@@ -1,10 +1,10 @@
 -- A class map that is made keeps what event functions ask for.
 use Rattle.std.proofs.Common.{◌≡◌, ◌∙◌, length, sym, ap, subst}
 use Rattle.circuit_theory.specs.Depth.{LatchesHaveDepths}
-use Rattle.event_theory.specs.Classes.{classes_of}
+use Rattle.circuit_theory.specs.Classes.{classes_of}
 use Rattle.flat_net.specs.View.{NetView, circuit_of}
 use Rattle.circuit_theory.specs.Run.{IsEnabled}
-use Rattle.event_nodes.specs.View.{EventCircuitView, Enabled}
+use Rattle.event_classes.specs.event_nodes.View.{EventCircuitView, Enabled}
 use Rattle.pair_events.specs.Enables.{both_of}
 use Rattle.event_classes.specs.declared.map.ClassMap.{ClassMap}
 use Rattle.event_classes.specs.Map.{IsClassMapOf}

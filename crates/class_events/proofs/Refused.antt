@@ -2,8 +2,8 @@
 use Rattle.std.proofs.Common.{◌≡◌, ℕ, Option, Result, Ok, Err}
 use Rattle.circuit_theory.specs.declared.Side.{Side}
 use Rattle.sec_base.specs.declared.basics.Tag.{Tag}
-use Rattle.pair_decide.specs.declared.query.Proof.{Proof}
-use Rattle.event_nodes.specs.View.{EventCircuitView}
+use Rattle.pair_events.specs.pair_decide.declared.query.Proof.{Proof}
+use Rattle.event_classes.specs.event_nodes.View.{EventCircuitView}
 use Rattle.event_classes.specs.declared.error.EventError.{EventError}
 use Rattle.event_classes.specs.declared.error.EventError.TheVariants as event_error
 use Rattle.event_classes.specs.Refused.{IsTooMany, IsTooHeavy, IsLimitOf, IsRefusedMap}

@@ -4,14 +4,14 @@ use Rattle.std.specs.List.{All}
 use Rattle.circuit_theory.specs.Joined.{Either}
 use Rattle.circuit_theory.specs.Query.{Variable}
 use Rattle.circuit_theory.proofs.Lists.{All-from_each, at_of}
-use Rattle.event_theory.specs.Classes.{HasClasses}
-use Rattle.event_theory.specs.EventFrames.{IsSeparation, IsSeparationFromAlways}
-use Rattle.event_theory.specs.Frame.{EventSide}
+use Rattle.circuit_theory.specs.Classes.{HasClasses}
+use Rattle.circuit_theory.specs.EventFrames.{IsSeparation, IsSeparationFromAlways}
+use Rattle.circuit_theory.specs.Frame.{EventSide}
 use Rattle.sec_base.specs.declared.basics.Tag.{Tag}
-use Rattle.event_nodes.specs.Nodes.{EventGraphView, IsEventGraph, GrowsEvents}
-use Rattle.event_nodes.specs.View.{EventCircuitView}
+use Rattle.event_classes.specs.event_nodes.Nodes.{EventGraphView, IsEventGraph, GrowsEvents}
+use Rattle.event_classes.specs.event_nodes.View.{EventCircuitView}
 use Rattle.event_classes.specs.Order.{place_of}
-use Rattle.event_variables.specs.Variables.{variables_of}
+use Rattle.pair_events.specs.event_variables.Variables.{variables_of}
 use Rattle.pair_events.specs.Enables.{both_of}
 use Rattle.event_classes.specs.KeptApart.{Apart}
 use Rattle.event_classes.specs.Apart.{IsSeparationBy, AreApart}

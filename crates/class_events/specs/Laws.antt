@@ -1,9 +1,9 @@
 -- How the count of what is unfolded begins, and what stays while the event graph grows. Each law is the contract of a function of this crate.
 use Rattle.std.specs.Prelude.{◌≡◌, ℕ, List, []}
 use Rattle.circuit_theory.specs.Joined.{Either}
-use Rattle.event_theory.specs.Frame.{EventSide}
+use Rattle.circuit_theory.specs.Frame.{EventSide}
 use Rattle.sec_base.specs.declared.basics.Tag.{Tag}
-use Rattle.event_nodes.specs.Nodes.{EventGraphView, IsEventGraph, GrowsEvents}
+use Rattle.event_classes.specs.event_nodes.Nodes.{EventGraphView, IsEventGraph, GrowsEvents}
 use Rattle.event_classes.specs.KeptApart.{Apart}
 use Rattle.event_classes.specs.Apart.{IsApart}
 use Rattle.pair_events.specs.Counted.{HaveCounted}

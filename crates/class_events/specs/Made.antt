@@ -1,10 +1,10 @@
 -- A class map that is made, as two circuits whose signals can be unfolded.
 use Rattle.std.specs.Prelude.{◌≡◌, ℕ, ◌≤◌, List, [], length}
 use Rattle.circuit_theory.specs.Joined.{Either}
-use Rattle.event_theory.specs.Classes.{HasClasses}
-use Rattle.event_theory.specs.EventSizes.{Start}
-use Rattle.event_theory.specs.EventTotals.{AreStarts}
-use Rattle.class_extension.specs.Sides.{AreStartsOfBoth}
+use Rattle.circuit_theory.specs.Classes.{HasClasses}
+use Rattle.circuit_theory.specs.EventSizes.{Start}
+use Rattle.circuit_theory.specs.EventTotals.{AreStarts}
+use Rattle.event_classes.specs.class_extension.Sides.{AreStartsOfBoth}
 use Rattle.event_classes.specs.Totals.{AreWithin}
 use Rattle.event_classes.specs.declared.map.ClassMap.{ClassMap}
 use Rattle.pair_events.specs.Counted.{HaveCounted}

@@ -1,6 +1,6 @@
 -- What tells the classes of two circuits apart, over their event graph.
 use Rattle.std.specs.Prelude.{ℕ, ◌≤◌, List, All}
-use Rattle.event_theory.specs.Classes.{HasClasses}
+use Rattle.circuit_theory.specs.Classes.{HasClasses}
 use Rattle.event_classes.specs.Order.{place_of}
 use Rattle.event_classes.specs.KeptApart.{Apart}
 use Rattle.event_classes.specs.Apart.{IsApart, AreApart}

@@ -10,10 +10,10 @@ use Rattle.circuit_theory.specs.Joined.{joined}
 use Rattle.circuit_theory.specs.Run.{IsEnabled}
 use Rattle.circuit_theory.proofs.Lists.{Contains-head, only}
 use Rattle.circuit_laws.proofs.JoinedParts.{joined_same, joined_single}
-use Rattle.event_theory.specs.Classes.{IsFounder}
-use Rattle.event_theory.specs.EventFrames.{IsClassTree, AreNodeVariables, IsSeparation, IsSeparationFromAlways}
-use Rattle.event_theory.specs.EventTotals.{IsMapSoFar}
-use Rattle.event_theory.specs.Frame.{EventSide}
+use Rattle.circuit_theory.specs.Classes.{IsFounder}
+use Rattle.circuit_theory.specs.EventFrames.{IsClassTree, AreNodeVariables, IsSeparation, IsSeparationFromAlways}
+use Rattle.circuit_theory.specs.EventTotals.{IsMapSoFar}
+use Rattle.circuit_theory.specs.Frame.{EventSide}
 use Rattle.event_laws.proofs.ClassSteps.{pairs_ahead}
 use Rattle.event_laws.proofs.OneClassMap.{side, rank_of, Agrees, Before, place_of, depth_of}
 use Rattle.class_extension.specs.Telling.{TellsApart, TellsFromAlways}

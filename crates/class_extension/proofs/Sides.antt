@@ -11,11 +11,11 @@ use Rattle.circuit_theory.specs.Tree.{Tree}
 use Rattle.circuit_laws.proofs.NetLaws.{net_value, net_value-extends}
 use Rattle.circuit_laws.proofs.Parts.{IsPart, latch_up, latch_from, reaches_up, reaches_from, enabled_up, enabled_from}
 use Rattle.circuit_laws.proofs.JoinedParts.{left_part, right_part, replace_left, replace_right, meets_both}
-use Rattle.event_theory.specs.EventFrames.{IsCareTree, IsEnableTree, IsClassTree, AreNodeVariables}
-use Rattle.event_theory.specs.EventFits.{side_by_side}
-use Rattle.event_theory.specs.EventSizes.{Start, IsOther}
-use Rattle.event_theory.specs.EventTotals.{StartLatches}
-use Rattle.event_theory.specs.Frame.{EventSide, EventUnfolds, ConeLatches, ConeOthers, ReachedAt, IsNode}
+use Rattle.circuit_theory.specs.EventFrames.{IsCareTree, IsEnableTree, IsClassTree, AreNodeVariables}
+use Rattle.circuit_theory.specs.EventFits.{side_by_side}
+use Rattle.circuit_theory.specs.EventSizes.{Start, IsOther}
+use Rattle.circuit_theory.specs.EventTotals.{StartLatches}
+use Rattle.circuit_theory.specs.Frame.{EventSide, EventUnfolds, ConeLatches, ConeOthers, ReachedAt, IsNode}
 use Rattle.event_laws.specs.Sides.{moved_put}
 use Rattle.event_laws.proofs.SideTrees.{sides_unfold_in_nets}
 use Rattle.class_extension.specs.Sides.{moved_out, moved_start, AreStartsOfBoth}

@@ -9,9 +9,9 @@ use Rattle.circuit_theory.specs.Query.{Variable}
 use Rattle.circuit_theory.specs.Run.{IsEnabled}
 use Rattle.circuit_theory.specs.Tree.{Tree, Trees}
 use Rattle.circuit_theory.proofs.Lists.{Contains-head, Contains-tail}
-use Rattle.event_theory.specs.Classes.{EnablesEqual, IsFounder}
-use Rattle.event_theory.specs.EventFrames.{IsCareTree, IsEnableTree, IsClassTree, AreNodeVariables, frame_of}
-use Rattle.event_theory.specs.Frame.{NotPut, EventUnfolds, EventUnfoldsAll, ConeLatches, ConeOthers, ReachedAt}
+use Rattle.circuit_theory.specs.Classes.{EnablesEqual, IsFounder}
+use Rattle.circuit_theory.specs.EventFrames.{IsCareTree, IsEnableTree, IsClassTree, AreNodeVariables, frame_of}
+use Rattle.circuit_theory.specs.Frame.{NotPut, EventUnfolds, EventUnfoldsAll, ConeLatches, ConeOthers, ReachedAt}
 use Rattle.event_laws.proofs.EventAgreement.{rank_falls}
 use Rattle.event_laws.proofs.OneClassMap.{side, rank_of, Agrees, enable_to, enable_care}
 use Rattle.class_extension.specs.Telling.{TellsApart, TellsFromAlways}

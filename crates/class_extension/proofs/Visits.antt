@@ -6,9 +6,9 @@ use Rattle.circuit_theory.specs.Circuit.{Circuit, IsLatch, Reaches}
 use Rattle.circuit_theory.specs.Joined.{Either, Left, Right, joined}
 use Rattle.circuit_theory.specs.Run.{IsEnabled}
 use Rattle.circuit_laws.proofs.JoinedParts.{joined_same, joined_single}
-use Rattle.event_theory.specs.EventSizes.{Start, IsOther, EventVisits}
-use Rattle.event_theory.specs.EventTotals.{StartLatches}
-use Rattle.event_theory.specs.Frame.{EventSide, ConeLatches, ConeOthers, ReachedAt, IsNode}
+use Rattle.circuit_theory.specs.EventSizes.{Start, IsOther, EventVisits}
+use Rattle.circuit_theory.specs.EventTotals.{StartLatches}
+use Rattle.circuit_theory.specs.Frame.{EventSide, ConeLatches, ConeOthers, ReachedAt, IsNode}
 use Rattle.event_laws.proofs.EventAgreement.{rank_falls}
 use Rattle.event_laws.proofs.OneClassMap.{rank_of}
 use Rattle.class_extension.specs.Sides.{IsEnableAmong}

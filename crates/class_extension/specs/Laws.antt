@@ -6,11 +6,11 @@ use Rattle.circuit_theory.specs.Joined.{Either, Left, Right, joined}
 use Rattle.circuit_theory.specs.Net.{IsNet}
 use Rattle.circuit_theory.specs.Query.{Variable}
 use Rattle.circuit_theory.specs.Run.{IsEnabled}
-use Rattle.event_theory.specs.EventFits.{side_by_side}
-use Rattle.event_theory.specs.EventFrames.{AreNodeVariables, IsClassTree, IsSeparation, IsSeparationFromAlways}
-use Rattle.event_theory.specs.EventSizes.{Start, EventVisits}
-use Rattle.event_theory.specs.EventTotals.{IsMapSoFar, StartLatches}
-use Rattle.event_theory.specs.Frame.{EventSide, IsNode}
+use Rattle.circuit_theory.specs.EventFits.{side_by_side}
+use Rattle.circuit_theory.specs.EventFrames.{AreNodeVariables, IsClassTree, IsSeparation, IsSeparationFromAlways}
+use Rattle.circuit_theory.specs.EventSizes.{Start, EventVisits}
+use Rattle.circuit_theory.specs.EventTotals.{IsMapSoFar, StartLatches}
+use Rattle.circuit_theory.specs.Frame.{EventSide, IsNode}
 use Rattle.class_extension.specs.Sides.{AreStartsOfBoth, IsEnableAmong}
 use Rattle.class_extension.specs.Telling.{TellsApart, TellsFromAlways}
 

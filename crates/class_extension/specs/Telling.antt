@@ -1,9 +1,9 @@
 -- What tells the next latch from a member of a class.
 use Rattle.std.specs.Prelude.{◌≡◌, ◌≢◌, ℕ, Bool, false, List, ◌∷◌, ◌++◌, length, Contains}
 use Rattle.circuit_theory.specs.Query.{Variable}
-use Rattle.event_theory.specs.Frame.{EventSide}
-use Rattle.event_theory.specs.Classes.{EnableCare, EnableAtRoot, EnablesEqual}
-use Rattle.event_theory.specs.EventFrames.{AreNodeVariables, IsClassTree, frame_of}
+use Rattle.circuit_theory.specs.Frame.{EventSide}
+use Rattle.circuit_theory.specs.Classes.{EnableCare, EnableAtRoot, EnablesEqual}
+use Rattle.circuit_theory.specs.EventFrames.{AreNodeVariables, IsClassTree, frame_of}
 
 -- The member is the first one of its class, of the latches that were taken, whose enable the latch's differs from: in the frame both have
 -- care, and the two enables have these values.

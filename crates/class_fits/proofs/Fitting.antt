@@ -5,9 +5,9 @@ use Rattle.std.proofs.lemmas.List.Elements.{Contains-append_right}
 use Rattle.std.proofs.lemmas.Option.{slice_get_within}
 use Rattle.circuit_theory.specs.Joined.{Either}
 use Rattle.circuit_theory.proofs.Lists.{Contains-head}
-use Rattle.event_theory.specs.Frame.{EventSide}
-use Rattle.event_theory.specs.Classes.{EnablesEqual, EnablesDiffer, EqualsMembers, DiffersFromMember, classes_of}
-use Rattle.event_theory.specs.EventTotals.{IsAsked}
+use Rattle.circuit_theory.specs.Frame.{EventSide}
+use Rattle.circuit_theory.specs.Classes.{EnablesEqual, EnablesDiffer, EqualsMembers, DiffersFromMember, classes_of}
+use Rattle.circuit_theory.specs.EventTotals.{IsAsked}
 use Rattle.event_laws.specs.ClassSteps.{IsFirstFit}
 use Rattle.flat_net.proofs.Nets.{some_at}
 use Rattle.flat_net.proofs.Places.{All-at}
@@ -15,19 +15,19 @@ use Rattle.aig.specs.declared.node.Lit.{Lit}
 use Rattle.aig.specs.Rules.{IsAndOf}
 use Rattle.aig.specs.Values.{value}
 use Rattle.sec_base.specs.declared.basics.Tag.{Tag}
-use Rattle.pair_decide.specs.declared.query.Query.{Query}
-use Rattle.pair_decide.specs.declared.query.Proof.{Proof}
-use Rattle.pair_decide.specs.declared.query.SameBy.{SameBy}
-use Rattle.pair_decide.specs.declared.query.SameBy.TheVariants as same_by
-use Rattle.pair_decide.specs.declared.query.Decision.TheVariants as answer
-use Rattle.pair_decide.specs.Answers.{Decides, IsAtLimit}
-use Rattle.pair_decide.specs.Queries.{assigned_to}
-use Rattle.pair_decide.specs.Queries.{IsSame as query_same}
+use Rattle.class_search.specs.pair_decide.declared.query.Query.{Query}
+use Rattle.class_search.specs.pair_decide.declared.query.Proof.{Proof}
+use Rattle.class_search.specs.pair_decide.declared.query.SameBy.{SameBy}
+use Rattle.class_search.specs.pair_decide.declared.query.SameBy.TheVariants as same_by
+use Rattle.class_search.specs.pair_decide.declared.query.Decision.TheVariants as answer
+use Rattle.class_search.specs.pair_decide.Answers.{Decides, IsAtLimit}
+use Rattle.class_search.specs.pair_decide.Queries.{assigned_to}
+use Rattle.class_search.specs.pair_decide.Queries.{IsSame as query_same}
 use Rattle.event_nodes.specs.Nodes.{EventGraphView, IsEventGraph, GrowsEvents}
 use Rattle.event_nodes.specs.View.{EventCircuitView}
-use Rattle.enable_compare.specs.declared.compare.Enable.{Enable}
-use Rattle.enable_compare.specs.Comparing.{IsComparison, IsAlwaysComparison}
-use Rattle.enable_compare.specs.Fitting.{AreSameEnables}
+use Rattle.class_search.specs.declared.compare.Enable.{Enable}
+use Rattle.class_search.specs.Comparing.{IsComparison, IsAlwaysComparison}
+use Rattle.class_search.specs.Fitting.{AreSameEnables}
 use Rattle.class_queries.specs.Enables.{both_of, IsEnableFunction, AsksEnables}
 use Rattle.class_queries.specs.Laws.{AreKept}
 use Rattle.class_queries.proofs.Meaning.{equal_law, apart_law, always_law, off_law}

@@ -6,17 +6,17 @@ use Rattle.std.proofs.lemmas.List.{append_assoc}
 use Rattle.std.proofs.lemmas.Option.{slice_get_within}
 use Rattle.circuit_theory.specs.Joined.{Either}
 use Rattle.circuit_theory.proofs.Lists.{Contains-head, only}
-use Rattle.event_theory.specs.Frame.{EventSide}
+use Rattle.circuit_theory.specs.Frame.{EventSide}
 use Rattle.flat_net.proofs.Growth.{slice_get-append}
 use Rattle.flat_net.proofs.CutNets.{slice_get-append_cases}
 use Rattle.flat_net.proofs.Places.{one_at}
 use Rattle.sec_base.specs.declared.basics.Tag.{Tag}
 use Rattle.event_nodes.specs.Nodes.{EventGraphView, IsEventGraph, GrowsEvents}
 use Rattle.event_nodes.specs.View.{EventCircuitView}
-use Rattle.enable_compare.specs.declared.compare.Enable.{Enable}
+use Rattle.class_search.specs.declared.compare.Enable.{Enable}
 use Rattle.class_queries.specs.Enables.{both_of}
 use Rattle.class_queries.proofs.Staying.{functions_grow_with_graph}
-use Rattle.class_joining.specs.Joining.{HasJoined}
+use Rattle.class_fits.specs.class_joining.Joining.{HasJoined}
 use Rattle.class_fits.specs.Members.{IsAmong, IsMember}
 use Rattle.class_fits.specs.Laws.{MembersGrow, MembersStay, MembersJoin}
 

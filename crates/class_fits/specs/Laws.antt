@@ -1,20 +1,20 @@
 -- What the search for an enable's class gives. Each law is the contract of a function of this crate.
 use Rattle.std.specs.Prelude.{◌≡◌, ℕ, List, [], ◌∷◌, ◌++◌, length, slice_get, Some}
 use Rattle.circuit_theory.specs.Joined.{Either}
-use Rattle.event_theory.specs.Frame.{EventSide}
-use Rattle.event_theory.specs.Classes.{classes_of}
-use Rattle.event_theory.specs.EventTotals.{IsAsked}
+use Rattle.circuit_theory.specs.Frame.{EventSide}
+use Rattle.circuit_theory.specs.Classes.{classes_of}
+use Rattle.circuit_theory.specs.EventTotals.{IsAsked}
 use Rattle.event_laws.specs.ClassSteps.{IsFirstFit}
 use Rattle.sec_base.specs.declared.basics.Tag.{Tag}
-use Rattle.pair_decide.specs.declared.query.Proof.{Proof}
-use Rattle.pair_decide.specs.declared.query.Query.{Query}
-use Rattle.pair_decide.specs.Answers.{IsAtLimit}
+use Rattle.class_search.specs.pair_decide.declared.query.Proof.{Proof}
+use Rattle.class_search.specs.pair_decide.declared.query.Query.{Query}
+use Rattle.class_search.specs.pair_decide.Answers.{IsAtLimit}
 use Rattle.event_nodes.specs.Nodes.{EventGraphView, IsEventGraph, GrowsEvents}
 use Rattle.event_nodes.specs.View.{EventCircuitView}
-use Rattle.enable_compare.specs.declared.compare.Enable.{Enable}
+use Rattle.class_search.specs.declared.compare.Enable.{Enable}
 use Rattle.class_queries.specs.Enables.{both_of, IsEnableFunction, AsksEnables}
 use Rattle.class_queries.specs.Laws.{AreKept}
-use Rattle.class_joining.specs.Joining.{HasJoined}
+use Rattle.class_fits.specs.class_joining.Joining.{HasJoined}
 use Rattle.class_search.specs.declared.class.Class.{Class}
 use Rattle.class_search.specs.declared.search.Fit.{Fit}
 use Rattle.class_search.specs.declared.search.Unfit.TheVariants as unfit

@@ -1,3 +1,6 @@
 pub mod Members
 pub mod Laws
-pub use Rattle.class_joining.specs.Joining
+pub mod class_joining
+pub use Rattle.class_search.specs as class_search
+pub use Rattle.class_search.specs.pair_decide
+pub use Rattle.event_order.specs as event_order

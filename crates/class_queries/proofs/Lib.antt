@@ -2,3 +2,5 @@ pub mod Frames
 pub mod BothCares
 pub mod Meaning
 pub mod Staying
+pub use Rattle.edbf_unfold.proofs as edbf_unfold
+pub use Rattle.edbf_unfold.proofs.event_laws

@@ -1,12 +1,12 @@
 -- What literals say of the load enables of two circuits side by side.
 use Rattle.std.specs.Prelude.{◌≡◌, ◌≢◌, ◌↔◌, ℕ, ◌*◌, ◌<◌, Bool, true, List, length}
 use Rattle.circuit_theory.specs.Joined.{Either, Left, Right}
-use Rattle.event_theory.specs.Frame.{EventSide}
-use Rattle.event_theory.specs.Classes.{EnableCare, EnableAtRoot}
-use Rattle.event_theory.specs.EventFits.{side_by_side}
-use Rattle.flat_net.specs.View.{circuit_of}
-use Rattle.aig.specs.Rules.{IsAndOf}
-use Rattle.aig.specs.Values.{value}
+use Rattle.circuit_theory.specs.Frame.{EventSide}
+use Rattle.circuit_theory.specs.Classes.{EnableCare, EnableAtRoot}
+use Rattle.circuit_theory.specs.EventFits.{side_by_side}
+use Rattle.edbf_unfold.specs.flat_net.View.{circuit_of}
+use Rattle.edbf_unfold.specs.aig.Rules.{IsAndOf}
+use Rattle.edbf_unfold.specs.aig.Values.{value}
 use Rattle.edbf_unfold.specs.Nodes.{EventGraphView}
 use Rattle.edbf_unfold.specs.View.{EventCircuitView, class_at}
 use Rattle.edbf_unfold.specs.Laws.{TakesFrame}

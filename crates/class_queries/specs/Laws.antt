@@ -5,13 +5,13 @@ use Rattle.circuit_theory.specs.Depth.{LatchesHaveDepths}
 use Rattle.circuit_theory.specs.Joined.{Either, Left, Right, joined}
 use Rattle.circuit_theory.specs.Net.{IsNet}
 use Rattle.circuit_theory.specs.Run.{IsEnabled}
-use Rattle.event_theory.specs.Frame.{EventSide}
-use Rattle.event_theory.specs.Classes.{EnablesEqual, EnablesDiffer, AlwaysEnabled, SometimesOff}
-use Rattle.event_theory.specs.EventFits.{side_by_side}
-use Rattle.event_theory.specs.EventTotals.{IsMapSoFar}
+use Rattle.circuit_theory.specs.Frame.{EventSide}
+use Rattle.circuit_theory.specs.Classes.{EnablesEqual, EnablesDiffer, AlwaysEnabled, SometimesOff}
+use Rattle.circuit_theory.specs.EventFits.{side_by_side}
+use Rattle.circuit_theory.specs.EventTotals.{IsMapSoFar}
 use Rattle.edbf_unfold.specs.ClassSteps.{HaveTwinEnables}
-use Rattle.flat_net.specs.declared.parts.LatchAt.{LatchAt}
-use Rattle.flat_net.specs.Sound.{IsSound}
+use Rattle.edbf_unfold.specs.flat_net.declared.parts.LatchAt.{LatchAt}
+use Rattle.edbf_unfold.specs.flat_net.Sound.{IsSound}
 use Rattle.edbf_unfold.specs.Nodes.{EventGraphView, IsEventGraph, GrowsEvents}
 use Rattle.edbf_unfold.specs.View.{EventCircuitView, IsEventCircuit, Enabled}
 use Rattle.edbf_unfold.specs.Care.{IsCareLit}

@@ -4,16 +4,16 @@ use Rattle.std.specs.Prelude.{◌⊎◌}
 use Rattle.std.specs.List.{All}
 use Rattle.std.proofs.lemmas.List.Elements.{All-weaker}
 use Rattle.std.proofs.lemmas.Option.{slice_get_within}
-use Rattle.flat_net.proofs.CutNets.{slice_get-append_cases}
-use Rattle.flat_net.proofs.Places.{one_at, All-at}
-use Rattle.enable_compare.specs.Decision.TheVariants as decision
-use Rattle.event_nodes.specs.Nodes.{EventGraphView, IsEventGraph, GrowsEvents}
-use Rattle.event_nodes.proofs.Growing.{grows_refl, grows_trans}
-use Rattle.enable_compare.specs.declared.compare.Enable.{Enable}
-use Rattle.enable_compare.specs.declared.compare.Compared.{Compared}
-use Rattle.enable_compare.specs.declared.fitting.Unlike.{Unlike}
-use Rattle.enable_compare.specs.Comparing.{IsReadyEnable}
-use Rattle.enable_compare.specs.Fitting.{AreSameEnables, IsFirstUnlike}
+use Rattle.event_variables.proofs.flat_net.CutNets.{slice_get-append_cases}
+use Rattle.event_variables.proofs.flat_net.Places.{one_at, All-at}
+use Rattle.pair_decide.specs.declared.query.Decision.TheVariants as decision
+use Rattle.event_variables.specs.event_nodes.Nodes.{EventGraphView, IsEventGraph, GrowsEvents}
+use Rattle.event_variables.proofs.event_nodes.Growing.{grows_refl, grows_trans}
+use Rattle.class_search.specs.declared.compare.Enable.{Enable}
+use Rattle.class_search.specs.declared.compare.Compared.{Compared}
+use Rattle.class_search.specs.declared.fitting.Unlike.{Unlike}
+use Rattle.class_search.specs.Comparing.{IsReadyEnable}
+use Rattle.class_search.specs.Fitting.{AreSameEnables, IsFirstUnlike}
 use Rattle.class_search.specs.declared.class.Class.{Class}
 use Rattle.class_search.specs.declared.told.Told.{Told}
 use Rattle.class_search.specs.declared.told.Answer.{Answer}

@@ -1,13 +1,13 @@
 -- What tells an enable from those of a class's members.
 use Rattle.std.specs.Prelude.{◌≡◌, ℕ, ◌<◌, List, slice_get, Some, All}
-use Rattle.enable_compare.specs.SameBy.{SameBy}
-use Rattle.enable_compare.specs.Decision.TheVariants as answer
-use Rattle.event_nodes.specs.Nodes.{EventGraphView, IsEventGraph, GrowsEvents}
-use Rattle.enable_compare.specs.declared.compare.Enable.{Enable}
-use Rattle.enable_compare.specs.declared.compare.Compared.{Compared}
-use Rattle.enable_compare.specs.declared.fitting.Unlike.{Unlike}
-use Rattle.enable_compare.specs.Comparing.{IsComparison, IsAlwaysComparison}
-use Rattle.enable_compare.specs.Fitting.{AreSameEnables}
+use Rattle.pair_decide.specs.declared.query.SameBy.{SameBy}
+use Rattle.pair_decide.specs.declared.query.Decision.TheVariants as answer
+use Rattle.event_variables.specs.event_nodes.Nodes.{EventGraphView, IsEventGraph, GrowsEvents}
+use Rattle.class_search.specs.declared.compare.Enable.{Enable}
+use Rattle.class_search.specs.declared.compare.Compared.{Compared}
+use Rattle.class_search.specs.declared.fitting.Unlike.{Unlike}
+use Rattle.class_search.specs.Comparing.{IsComparison, IsAlwaysComparison}
+use Rattle.class_search.specs.Fitting.{AreSameEnables}
 use Rattle.class_search.specs.declared.told.Difference.{Difference}
 use Rattle.class_search.specs.declared.told.Told.{Told}
 use Rattle.class_search.specs.declared.told.Answer.{Answer}

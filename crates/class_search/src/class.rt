@@ -2,8 +2,8 @@
 
 ghost use Rattle.std.specs.Prelude.{◌≡◌, [], ◌∷◌, ◌++◌, OnOk, OnErr};
 
-use enable_compare::Enable;
-use sec_base::{NoMemory, Tag};
+use crate::compare::Enable;
+use event_variables::{NoMemory, Tag};
 use std::alloc::Global;
 
 /// A class besides `always`: of each enable that a member has the first such member, in the order in which they joined.

@@ -1,17 +1,17 @@
 //! The search for an enable's class.
 
 ghost use Rattle.std.specs.Prelude.{◌≡◌, ◌+◌, ◌^◌, ◌<◌, ◌≤◌, [], length, All, IfOk, IfErr};
-ghost use Rattle.event_nodes.specs.Nodes.{GrowsEvents};
-ghost use Rattle.enable_compare.specs.declared.compare.Enable.{Enable};
-ghost use Rattle.enable_compare.specs.Comparing.{IsReadyEnable};
+ghost use Rattle.event_variables.specs.event_nodes.Nodes.{GrowsEvents};
+ghost use Rattle.class_search.specs.declared.compare.Enable.{Enable};
+ghost use Rattle.class_search.specs.Comparing.{IsReadyEnable};
 ghost use Rattle.class_search.specs.Told.{IsAlwaysTold};
 ghost use Rattle.class_search.specs.Search.{AreReadyClasses, IsFit, IsUnfit, IsFound, IsStopped};
 
 use crate::class::Class;
+use crate::compare::Enable;
 use crate::told::{AlwaysAnswer, Answer, Difference, Told, ask_always, ask_members};
-use enable_compare::{Enable, Proof};
-use event_nodes::EventGraph;
-use sec_base::{MAX_CONFLICTS, NoMemory};
+use event_variables::{EventGraph, MAX_CONFLICTS, NoMemory};
+use pair_decide::Proof;
 use std::alloc::{AllocError, AllocFailed, Global};
 
 /// The most nodes of the event graph while classes are made.

@@ -1,16 +1,17 @@
 //! What tells an enable apart.
 
 ghost use Rattle.std.specs.Prelude.{◌≡◌, ◌≢◌, ◌^◌, ◌<◌, ◌≤◌, ◌+◌, length, All, IfOk};
-ghost use Rattle.event_nodes.specs.Nodes.{GrowsEvents, IsEventGraph};
-ghost use Rattle.enable_compare.specs.Decision.TheVariants as answer;
-ghost use Rattle.enable_compare.specs.SameBy.{SameBy};
-ghost use Rattle.enable_compare.specs.declared.compare.Enable.{Enable};
-ghost use Rattle.enable_compare.specs.Comparing.{IsReadyEnable};
+ghost use Rattle.event_variables.specs.event_nodes.Nodes.{GrowsEvents, IsEventGraph};
+ghost use Rattle.pair_decide.specs.declared.query.Decision.TheVariants as answer;
+ghost use Rattle.pair_decide.specs.declared.query.SameBy.{SameBy};
+ghost use Rattle.class_search.specs.declared.compare.Enable.{Enable};
+ghost use Rattle.class_search.specs.Comparing.{IsReadyEnable};
 ghost use Rattle.class_search.specs.Told.{IsAnswer, IsAnswerOf, IsAlwaysAnswer, IsAlwaysAnswerOf};
 
-use enable_compare::{Compared, Decision, Enable, Proof, Unlike, compare_always, first_unlike};
-use event_nodes::EventGraph;
-use sec_base::{Bits, Ids, MAX_CONFLICTS, NoMemory};
+use crate::compare::{Compared, Enable, compare_always};
+use crate::fitting::{Unlike, first_unlike};
+use event_variables::{Bits, EventGraph, Ids, MAX_CONFLICTS, NoMemory};
+use pair_decide::{Decision, Proof};
 use std::alloc::Global;
 
 /// An assignment that shows a difference.

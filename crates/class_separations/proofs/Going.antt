@@ -9,20 +9,20 @@ use Rattle.circuit_theory.specs.Joined.{Either}
 use Rattle.circuit_theory.specs.Query.{Variable}
 use Rattle.circuit_theory.specs.Run.{IsEnabled}
 use Rattle.circuit_theory.proofs.Lists.{Contains-head}
-use Rattle.event_theory.specs.EventFrames.{IsClassTree, AreNodeVariables, IsSeparation, IsSeparationFromAlways}
-use Rattle.event_theory.specs.Frame.{EventSide}
-use Rattle.flat_net.specs.View.{circuit_of}
-use Rattle.flat_net.proofs.CutNets.{slice_get-append_cases}
-use Rattle.flat_net.proofs.Growth.{slice_get-append}
-use Rattle.flat_net.proofs.Nets.{some_at}
-use Rattle.flat_net.proofs.Places.{one_at}
+use Rattle.circuit_theory.specs.EventFrames.{IsClassTree, AreNodeVariables, IsSeparation, IsSeparationFromAlways}
+use Rattle.circuit_theory.specs.Frame.{EventSide}
+use Rattle.class_search.specs.flat_net.View.{circuit_of}
+use Rattle.class_search.proofs.flat_net.CutNets.{slice_get-append_cases}
+use Rattle.class_search.proofs.flat_net.Growth.{slice_get-append}
+use Rattle.class_search.proofs.flat_net.Nets.{some_at}
+use Rattle.class_search.proofs.flat_net.Places.{one_at}
 use Rattle.aig.specs.Values.{value}
 use Rattle.sec_base.specs.declared.basics.Tag.{Tag}
-use Rattle.pair_decide.specs.Queries.{assigned_to}
-use Rattle.event_nodes.specs.Nodes.{EventGraphView, IsEventGraph, GrowsEvents}
-use Rattle.event_nodes.specs.View.{EventCircuitView}
-use Rattle.event_variables.specs.Variables.{variables_of}
-use Rattle.class_search.specs.Enable.{Enable}
+use Rattle.cone_values.specs.pair_decide.Queries.{assigned_to}
+use Rattle.class_search.specs.event_nodes.Nodes.{EventGraphView, IsEventGraph, GrowsEvents}
+use Rattle.class_search.specs.event_nodes.View.{EventCircuitView}
+use Rattle.class_search.specs.event_variables.Variables.{variables_of}
+use Rattle.class_search.specs.declared.compare.Enable.{Enable}
 use Rattle.class_queries.specs.Enables.{both_of, class_map}
 use Rattle.class_search.specs.declared.class.Class.{Class}
 use Rattle.class_search.specs.declared.told.Difference.{Difference}

@@ -2,10 +2,10 @@
 use Rattle.std.proofs.Common.{◌≡◌, ◌∙◌, ◌+◌, ◌<◌, ℕ, zero, suc, List, [], ◌∷◌, ◌++◌, length, slice_get, Some, refl, sym, ap, subst, arith, inl, inr, length-append, append-nil, append_assoc}
 use Rattle.std.specs.Prelude.{◌⊎◌}
 use Rattle.std.proofs.lemmas.Option.{slice_get_within}
-use Rattle.flat_net.proofs.CutNets.{slice_get-append_cases}
-use Rattle.flat_net.proofs.Places.{one_at}
+use Rattle.class_search.proofs.flat_net.CutNets.{slice_get-append_cases}
+use Rattle.class_search.proofs.flat_net.Places.{one_at}
 use Rattle.sec_base.specs.declared.basics.Tag.{Tag}
-use Rattle.event_nodes.specs.Nodes.{EventGraphView}
+use Rattle.class_search.specs.event_nodes.Nodes.{EventGraphView}
 use Rattle.class_search.specs.declared.class.Class.{Class}
 use Rattle.class_search.specs.declared.told.Told.{Told}
 use Rattle.class_separations.specs.declared.apart.Apart.{Apart}

@@ -5,18 +5,18 @@ use Rattle.std.specs.List.{All, AllPairs}
 use Rattle.circuit_theory.specs.Joined.{Either}
 use Rattle.circuit_theory.specs.Query.{Variable}
 use Rattle.circuit_theory.proofs.Lists.{length-map, only, Contains-head}
-use Rattle.event_theory.specs.Classes.{EnableAtRoot, EnablesEqual}
-use Rattle.event_theory.specs.EventFrames.{IsClassTree, AreNodeVariables, frame_of}
-use Rattle.event_theory.specs.Frame.{EventSide}
+use Rattle.circuit_theory.specs.Classes.{EnableAtRoot, EnablesEqual}
+use Rattle.circuit_theory.specs.EventFrames.{IsClassTree, AreNodeVariables, frame_of}
+use Rattle.circuit_theory.specs.Frame.{EventSide}
 use Rattle.aig.specs.declared.node.Lit.{Lit}
 use Rattle.aig.specs.Values.{value}
 use Rattle.aig.proofs.CoverMeaning.{value-and, value-one}
-use Rattle.pair_decide.specs.declared.query.Decision.TheVariants as answer
-use Rattle.pair_decide.specs.Queries.{assigned_to}
-use Rattle.event_nodes.specs.Nodes.{EventGraphView, IsEventGraph}
-use Rattle.event_nodes.specs.View.{EventCircuitView}
-use Rattle.event_variables.specs.Variables.{variable_of, variables_of}
-use Rattle.class_search.specs.Enable.{Enable}
+use Rattle.cone_values.specs.pair_decide.declared.query.Decision.TheVariants as answer
+use Rattle.cone_values.specs.pair_decide.Queries.{assigned_to}
+use Rattle.class_search.specs.event_nodes.Nodes.{EventGraphView, IsEventGraph}
+use Rattle.class_search.specs.event_nodes.View.{EventCircuitView}
+use Rattle.class_search.specs.event_variables.Variables.{variable_of, variables_of}
+use Rattle.class_search.specs.declared.compare.Enable.{Enable}
 use Rattle.class_search.specs.Comparing.{IsComparison, IsAlwaysComparison}
 use Rattle.class_queries.specs.Enables.{both_of, IsEnableFunction}
 use Rattle.class_queries.specs.Laws.{AreKept}

@@ -11,14 +11,14 @@ use Rattle.circuit_theory.specs.Tree.{Tree}
 use Rattle.circuit_theory.proofs.Inputs.{test_same, test_refl, same_name-sound}
 use Rattle.circuit_theory.proofs.Lists.{length-map, map_same, Contains-map, Contains-map_from}
 use Rattle.circuit_theory.proofs.Numbers.{same_name-refl}
-use Rattle.event_theory.specs.EventFrames.{IsClassTree, AreNodeVariables, frame_of}
-use Rattle.event_theory.specs.Frame.{EventSide, NodeBefore}
-use Rattle.event_nodes.specs.Nodes.{EventGraphView, IsEventGraph, GrowsEvents, named_places, path_of}
-use Rattle.event_nodes.proofs.Paths.{named_grows}
-use Rattle.event_variables.specs.Variables.{GoesBefore, IsMergeOf, variable_of, variables_of}
-use Rattle.event_variables.proofs.Named.{named_distinct}
-use Rattle.pair_decide.specs.Queries.{assigned_to}
-use Rattle.edbf_unfold.specs.Laws.{TakesFrame}
+use Rattle.circuit_theory.specs.EventFrames.{IsClassTree, AreNodeVariables, frame_of}
+use Rattle.circuit_theory.specs.Frame.{EventSide, NodeBefore}
+use Rattle.class_search.specs.event_nodes.Nodes.{EventGraphView, IsEventGraph, GrowsEvents, named_places, path_of}
+use Rattle.class_search.proofs.event_nodes.Paths.{named_grows}
+use Rattle.class_search.specs.event_variables.Variables.{GoesBefore, IsMergeOf, variable_of, variables_of}
+use Rattle.class_search.proofs.event_variables.Named.{named_distinct}
+use Rattle.cone_values.specs.pair_decide.Queries.{assigned_to}
+use Rattle.class_queries.specs.edbf_unfold.Laws.{TakesFrame}
 
 module _ (w x : EventGraphView) (is : IsEventGraph w) (grows : GrowsEvents w x) where
   pub variable_same : (v : ℕ) → v < length w.places → variable_of x v ≡ variable_of w v

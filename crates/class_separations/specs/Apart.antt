@@ -1,17 +1,16 @@
 -- When what tells two classes apart is right.
 use Rattle.std.specs.Prelude.{◌≡◌, ℕ, zero, suc, ◌+◌, ◌<◌, ◌≤◌, Bool, true, false, not, List, length, slice_get, Option, Some, None, All, Contains}
 use Rattle.circuit_theory.specs.Joined.{Either}
-use Rattle.event_theory.specs.EventFrames.{IsSeparation, IsSeparationFromAlways}
-use Rattle.event_theory.specs.Frame.{EventSide}
+use Rattle.circuit_theory.specs.EventFrames.{IsSeparation, IsSeparationFromAlways, AreNodeVariables, IsClassTree}
+use Rattle.circuit_theory.specs.Frame.{EventSide}
 use Rattle.sec_base.specs.declared.basics.Tag.{Tag}
-use Rattle.event_nodes.specs.Nodes.{EventGraphView}
-use Rattle.event_variables.specs.Variables.{variables_of}
+use Rattle.class_search.specs.event_nodes.Nodes.{EventGraphView}
+use Rattle.class_search.specs.event_variables.Variables.{variables_of}
 use Rattle.aig.specs.Values.{value}
-use Rattle.pair_decide.specs.Queries.{assigned_to}
-use Rattle.class_search.specs.Enable.{Enable}
+use Rattle.cone_values.specs.pair_decide.Queries.{assigned_to}
+use Rattle.class_search.specs.declared.compare.Enable.{Enable}
 use Rattle.class_queries.specs.Enables.{both_of}
-use Rattle.event_nodes.specs.View.{EventCircuitView}
-use Rattle.event_theory.specs.EventFrames.{AreNodeVariables, IsClassTree}
+use Rattle.class_search.specs.event_nodes.View.{EventCircuitView}
 use Rattle.class_extension.specs.Telling.{TellsApart, TellsFromAlways}
 use Rattle.class_search.specs.declared.class.Class.{Class}
 use Rattle.class_search.specs.declared.told.Difference.{Difference}

@@ -9,18 +9,18 @@ use Rattle.circuit_theory.specs.Run.{IsEnabled}
 use Rattle.circuit_theory.proofs.Lists.{Contains-head, only, zip_push}
 use Rattle.circuit_laws.proofs.JoinedParts.{left_part, right_part, replace_left, replace_right}
 use Rattle.circuit_laws.proofs.Parts.{latch_up}
-use Rattle.event_theory.specs.EventSizes.{Start}
-use Rattle.event_theory.specs.EventTotals.{AreStarts, IsEnableStart, StartLatches}
-use Rattle.event_theory.specs.Frame.{EventSide, IsNode}
+use Rattle.circuit_theory.specs.EventSizes.{Start}
+use Rattle.circuit_theory.specs.EventTotals.{AreStarts, IsEnableStart, StartLatches}
+use Rattle.circuit_theory.specs.Frame.{EventSide, IsNode}
 use Rattle.flat_net.specs.declared.parts.LatchAt.{LatchAt}
 use Rattle.flat_net.specs.Sound.{IsSound}
 use Rattle.flat_net.specs.View.{circuit_of}
 use Rattle.flat_net.proofs.Nets.{latch_stands, sound_is_net}
-use Rattle.event_nodes.specs.Adds.{Adds}
-use Rattle.event_nodes.specs.Nodes.{path_of}
-use Rattle.event_nodes.specs.View.{EventCircuitView, side_of, Enabled}
-use Rattle.event_nodes.specs.Visited.{CounterView, IsVisitedPair, AreNodesFrom, HoldsNodes}
-use Rattle.event_walk.specs.Walk.{IsCounting, HasCountedStart, enable_start}
+use Rattle.event_functions.specs.event_nodes.Adds.{Adds}
+use Rattle.event_functions.specs.event_nodes.Nodes.{path_of}
+use Rattle.event_functions.specs.event_nodes.View.{EventCircuitView, side_of, Enabled}
+use Rattle.event_functions.specs.event_nodes.Visited.{CounterView, IsVisitedPair, AreNodesFrom, HoldsNodes}
+use Rattle.class_queries.specs.event_walk.Walk.{IsCounting, HasCountedStart, enable_start}
 use Rattle.class_queries.specs.Enables.{both_of, class_map}
 use Rattle.class_extension.specs.Sides.{AreStartsOfBoth, IsEnableAmong, moved_start}
 use Rattle.class_extension.specs.Laws.{IsNextGiven, UnfoldAlike}

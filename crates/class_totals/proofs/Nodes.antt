@@ -5,18 +5,18 @@ use Rattle.std.specs.List.{All, Contains}
 use Rattle.std.proofs.lemmas.List.Elements.{All-weaker, Contains-append_cases, Contains-append_left, Contains-append_right}
 use Rattle.circuit_theory.specs.Run.{IsEnabled}
 use Rattle.circuit_theory.proofs.Lists.{Contains-head, only}
-use Rattle.event_theory.specs.EventSizes.{Start}
-use Rattle.event_theory.specs.EventTotals.{StartLatches}
-use Rattle.event_theory.specs.Frame.{EventSide, ReachedAt, IsNode}
-use Rattle.event_nodes.specs.Adds.{Adds}
-use Rattle.event_nodes.specs.Nodes.{path_of}
-use Rattle.event_nodes.specs.Reach.{IsListedAt}
-use Rattle.event_nodes.specs.View.{EventCircuitView, side_of, Enabled}
-use Rattle.event_nodes.specs.Visited.{CounterView, IsVisitedPair, HoldsVisits, HasCounted}
-use Rattle.event_nodes.proofs.Lists.{adds_contains, adds_cases}
-use Rattle.event_nodes.proofs.Paths.{path_grows}
-use Rattle.event_nodes.proofs.Visits.{visits_more}
-use Rattle.event_walk.specs.Walk.{IsCounting, HasCountedStart}
+use Rattle.circuit_theory.specs.EventSizes.{Start}
+use Rattle.circuit_theory.specs.EventTotals.{StartLatches}
+use Rattle.circuit_theory.specs.Frame.{EventSide, ReachedAt, IsNode}
+use Rattle.event_functions.specs.event_nodes.Adds.{Adds}
+use Rattle.event_functions.specs.event_nodes.Nodes.{path_of}
+use Rattle.event_functions.specs.event_nodes.Reach.{IsListedAt}
+use Rattle.event_functions.specs.event_nodes.View.{EventCircuitView, side_of, Enabled}
+use Rattle.event_functions.specs.event_nodes.Visited.{CounterView, IsVisitedPair, HoldsVisits, HasCounted}
+use Rattle.event_functions.proofs.event_nodes.Lists.{adds_contains, adds_cases}
+use Rattle.event_functions.proofs.event_nodes.Paths.{path_grows}
+use Rattle.event_functions.proofs.event_nodes.Visits.{visits_more}
+use Rattle.class_queries.specs.event_walk.Walk.{IsCounting, HasCountedStart}
 use Rattle.event_functions.proofs.Totaling.{pair_later}
 use Rattle.class_extension.specs.Laws.{UnfoldAlike}
 use Rattle.class_totals.specs.Totals.{HasNodes}

@@ -6,17 +6,17 @@ use Rattle.std.proofs.lemmas.Option.{slice_get-get_or, slice_get_within, get_or_
 use Rattle.circuit_theory.specs.Joined.{Left, Right}
 use Rattle.circuit_theory.specs.Run.{IsEnabled}
 use Rattle.circuit_theory.proofs.Lists.{Contains-head, at_of, of_at}
-use Rattle.event_theory.specs.EventSizes.{Start}
-use Rattle.event_theory.specs.EventTotals.{IsNodesOver, IsNodesWithin, StartLatches}
-use Rattle.event_theory.specs.Frame.{EventSide, IsNode}
+use Rattle.circuit_theory.specs.EventSizes.{Start}
+use Rattle.circuit_theory.specs.EventTotals.{IsNodesOver, IsNodesWithin, StartLatches}
+use Rattle.circuit_theory.specs.Frame.{EventSide, IsNode}
 use Rattle.flat_net.proofs.Nets.{some_at}
-use Rattle.event_nodes.specs.Adds.{Adds}
-use Rattle.event_nodes.specs.Nodes.{EventGraphView, IsEventGraph, path_of, paths_of}
-use Rattle.event_nodes.proofs.Lists.{adds_cases}
-use Rattle.event_nodes.proofs.OnePath.{one_node}
-use Rattle.event_nodes.proofs.Paths.{child_path, paths_length}
-use Rattle.event_nodes.proofs.Totals.{counted_weight}
-use Rattle.event_walk.specs.Walk.{enable_start}
+use Rattle.event_functions.specs.event_nodes.Adds.{Adds}
+use Rattle.event_functions.specs.event_nodes.Nodes.{EventGraphView, IsEventGraph, path_of, paths_of}
+use Rattle.event_functions.proofs.event_nodes.Lists.{adds_cases}
+use Rattle.event_functions.proofs.event_nodes.OnePath.{one_node}
+use Rattle.event_functions.proofs.event_nodes.Paths.{child_path, paths_length}
+use Rattle.event_functions.proofs.event_nodes.Totals.{counted_weight}
+use Rattle.class_queries.specs.event_walk.Walk.{enable_start}
 use Rattle.class_queries.specs.Enables.{both_of}
 use Rattle.class_totals.specs.Totals.{HasNodes}
 use Rattle.class_totals.specs.Laws.{TotalsAreWithin, ManyNodesAreOver, HeavyIsOver, FewNodesAreWithin}

@@ -2,16 +2,16 @@
 use Rattle.std.specs.Prelude.{◌≡◌, ℕ, ◌<◌, ◌≤◌, List, [], ◌∷◌, ◌++◌, length, slice_get, Some, All, Contains}
 use Rattle.circuit_theory.specs.declared.Side.TheVariants.{A, B}
 use Rattle.circuit_theory.specs.Joined.{Either, Left, Right}
-use Rattle.event_theory.specs.EventSizes.{Start, IsEventOver}
+use Rattle.circuit_theory.specs.EventSizes.{Start, IsEventOver}
 use Rattle.flat_net.specs.declared.parts.LatchAt.{LatchAt}
 use Rattle.flat_net.specs.Sound.{IsSound}
 use Rattle.flat_net.specs.View.{circuit_of}
-use Rattle.sec_base.specs.Table.{AreDistinct}
-use Rattle.event_nodes.specs.Adds.{Adds}
-use Rattle.event_nodes.specs.Nodes.{EventGraphView, IsEventGraph}
-use Rattle.event_nodes.specs.View.{EventCircuitView, side_of, Enabled}
-use Rattle.event_nodes.specs.Visited.{CounterView, IsVisitedPair, AreNodesFrom, HoldsNodes}
-use Rattle.event_walk.specs.Walk.{IsCounting, HasCountedStart, enable_start}
+use Rattle.flat_net.specs.sec_base.Table.{AreDistinct}
+use Rattle.event_functions.specs.event_nodes.Adds.{Adds}
+use Rattle.event_functions.specs.event_nodes.Nodes.{EventGraphView, IsEventGraph}
+use Rattle.event_functions.specs.event_nodes.View.{EventCircuitView, side_of, Enabled}
+use Rattle.event_functions.specs.event_nodes.Visited.{CounterView, IsVisitedPair, AreNodesFrom, HoldsNodes}
+use Rattle.class_queries.specs.event_walk.Walk.{IsCounting, HasCountedStart, enable_start}
 use Rattle.class_queries.specs.Enables.{class_map}
 use Rattle.class_extension.specs.Laws.{IsNextGiven}
 use Rattle.class_totals.specs.Totals.{HaveCounted, AreWithin, ReachTooMany, ReachFew, WeighTooMuch}

@@ -8,3 +8,4 @@ pub mod Loading
 pub mod Pieces
 pub mod Trails
 pub mod Visits
+pub use Rattle.proof_check.proofs as proof_check

@@ -7,3 +7,4 @@ pub mod Rows
 pub mod Trails
 pub mod TwoWatches
 pub mod Watching
+pub use Rattle.proof_check.specs as proof_check

@@ -18,6 +18,10 @@ mod watchers;
 pub use clause_db::ClauseDb;
 pub use entry::{Entry, Truth};
 pub use places::Placed;
+pub use proof_check::{
+    Bits, Chain, Clause, Clauses, Literal, Log, MAX_CONFLICTS, NoMemory, Outcome, Resolver, Seq,
+    Step,
+};
 pub use propagation::Watches;
 pub use trail::Trail;
 pub use watched_clauses::WatchedClauses;

@@ -3,7 +3,7 @@ use Rattle.std.proofs.Common.{◌≡◌, ◌≢◌, ℕ, zero, suc, ◌+◌, inl
 use Rattle.std.specs.Prelude.{not, ◌&&◌, ◌||◌, if◌then◌else◌}
 use Rattle.std.proofs.lemmas.List.Elements.{All-nil, All-cons, All-head, All-tail, All-append, All-contains, Contains-append_left, Contains-append_right}
 use Rattle.std.proofs.lemmas.Option.{none-some, same_Some}
-use Rattle.circuit_theory.proofs.Lists.{All-from_each}
+use Rattle.aig.proofs.circuit_theory.Lists.{All-from_each}
 use Rattle.proof_check.specs.Literals.{Literal, negation, literal_value}
 use Rattle.proof_check.specs.Clauses.{IsClauseOf, IsTautology, Satisfies, clause_value}
 use Rattle.proof_check.proofs.Sound.{true_literal, true_clause}

@@ -2,7 +2,7 @@
 use Rattle.std.proofs.Common.{◌≡◌, ◌≢◌, ℕ, ◌+◌, ◌*◌, ◌/◌, ◌%◌, ◌<◌, Bool, true, List, ◌++◌, length, get_or, slice_get, Some, sym, ◌∙◌, ap, subst, arith}
 use Rattle.std.specs.Prelude.{◌↔◌}
 use Rattle.std.proofs.lemmas.Option.{same_Some, slice_get_within, slice_get-get_or}
-use Rattle.circuit_theory.proofs.Lists.{of_at}
+use Rattle.aig.proofs.circuit_theory.Lists.{of_at}
 use Rattle.proof_check.specs.Literals.{Literal, literal_value}
 use Rattle.proof_check.specs.Clauses.{Satisfies}
 use Rattle.aig.specs.declared.node.Node.{Node}

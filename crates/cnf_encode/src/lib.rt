@@ -6,3 +6,4 @@ mod encoding;
 
 pub use cnf::Cnf;
 pub use encoding::encode;
+pub use proof_check::{Bits, Clauses, Ids, Log, MAX_CONFLICTS, NoMemory, ProofError, check_log};

@@ -2,13 +2,13 @@
 use Rattle.std.proofs.Common.{false, ◌≡◌, ℕ, List, sym, subst, Err}
 use Rattle.circuit_theory.specs.declared.Side.TheVariants.{A, B}
 use Rattle.flat_net.specs.View.{NetView, circuit_of}
-use Rattle.sec_setup.specs.Exposure.{Exposure}
+use Rattle.plain_meaning.specs.sec_setup.Exposure.{Exposure}
 use Rattle.sec_base.specs.declared.settings.Settings.{Settings}
-use Rattle.sec_setup.specs.declared.setup.Setup.{Setup}
-use Rattle.sec_setup.specs.Choosing.{IsChosen}
-use Rattle.sec_setup.specs.Cuts.{IsChoice, StandInOrder}
-use Rattle.sec_setup.specs.Matching.{InterfacesMatch}
-use Rattle.sec_setup.specs.Setup.{IsSetupOf}
+use Rattle.plain_meaning.specs.sec_setup.declared.setup.Setup.{Setup}
+use Rattle.plain_meaning.specs.sec_setup.Choosing.{IsChosen}
+use Rattle.plain_meaning.specs.sec_setup.Cuts.{IsChoice, StandInOrder}
+use Rattle.plain_meaning.specs.sec_setup.Matching.{InterfacesMatch}
+use Rattle.plain_meaning.specs.sec_setup.Setup.{IsSetupOf}
 use Rattle.plain_meaning.specs.Fitting.{IsLight, IsTooLarge}
 use Rattle.plain_meaning.proofs.CutSizes.{cut_over, cut_light}
 use Rattle.compare_base.specs.declared.error.CompareError.TheVariants as refused

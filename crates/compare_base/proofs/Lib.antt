@@ -7,3 +7,4 @@ pub mod Forms
 pub mod Refusals
 pub mod ToldCycles
 pub mod UncutSetups
+pub use Rattle.plain_meaning.proofs as plain_meaning

@@ -4,11 +4,11 @@ use Rattle.std.proofs.Common.{◌≡◌, sym, subst, Result, Ok, Err}
 use Rattle.circuit_theory.specs.declared.Side.TheVariants.{A, B}
 use Rattle.flat_net.specs.View.{NetView}
 use Rattle.sec_base.specs.declared.settings.Settings.{Settings}
-use Rattle.outcome.specs.declared.verdict.Outcome.{Outcome}
-use Rattle.sec_setup.specs.declared.error.SetupError.{SetupError}
-use Rattle.sec_setup.specs.declared.error.SetupError.TheVariants as unset
-use Rattle.sec_setup.specs.Choosing.{Chosen}
-use Rattle.sec_setup.specs.Matching.{InterfacesMatch, InterfaceFails as NoMatch}
+use Rattle.plain_meaning.specs.outcome.declared.verdict.Outcome.{Outcome}
+use Rattle.plain_meaning.specs.sec_setup.declared.error.SetupError.{SetupError}
+use Rattle.plain_meaning.specs.sec_setup.declared.error.SetupError.TheVariants as unset
+use Rattle.plain_meaning.specs.sec_setup.Choosing.{Chosen}
+use Rattle.plain_meaning.specs.sec_setup.Matching.{InterfacesMatch, InterfaceFails as NoMatch}
 use Rattle.compare_base.specs.declared.error.CompareError.{CompareError}
 use Rattle.compare_base.specs.declared.error.CompareError.TheVariants as refused
 use Rattle.compare_base.specs.Compared.{Compared, InterfaceFails, refusal_of}

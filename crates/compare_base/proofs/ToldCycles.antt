@@ -8,7 +8,7 @@ use Rattle.circuit_theory.specs.Depth.{LatchReads, LatchPath, IsCycle, HasCycle,
 use Rattle.circuit_theory.specs.Run.{NoneEnabled}
 use Rattle.flat_net.specs.View.{NetView, circuit_of}
 use Rattle.flat_net.proofs.Nets.{some_at}
-use Rattle.sec_setup.specs.Exposed.{IsFreeWithout, IsToldCycle}
+use Rattle.plain_meaning.specs.sec_setup.Exposed.{IsFreeWithout, IsToldCycle}
 
 some_is : {X : Type 0} {x y : X} → Some x ≡ Some y → x ≡ y
 some_is q = cc

@@ -6,20 +6,20 @@ use Rattle.circuit_theory.specs.declared.Side.TheVariants.{A, B}
 use Rattle.circuit_theory.specs.Interface.{first_mismatch}
 use Rattle.flat_net.specs.Sound.{IsSound}
 use Rattle.flat_net.specs.View.{NetView, circuit_of, ports_of}
-use Rattle.witness_report.specs.declared.witness.Witness.{Witness}
+use Rattle.assume_shape.specs.witness_report.declared.witness.Witness.{Witness}
 use Rattle.sec_base.specs.declared.settings.Settings.{Settings}
-use Rattle.outcome.specs.declared.verdict.Verdict.TheVariants as verdict
-use Rattle.outcome.specs.declared.verdict.Why.TheVariants as why
-use Rattle.outcome.specs.declared.verdict.Outcome.{Outcome}
-use Rattle.outcome.specs.declared.verdict.ResetWitness.{ResetWitness}
+use Rattle.plain_meaning.specs.outcome.declared.verdict.Verdict.TheVariants as verdict
+use Rattle.plain_meaning.specs.outcome.declared.verdict.Why.TheVariants as why
+use Rattle.plain_meaning.specs.outcome.declared.verdict.Outcome.{Outcome}
+use Rattle.plain_meaning.specs.outcome.declared.verdict.ResetWitness.{ResetWitness}
 use Rattle.reset_laws.specs.Reset.{AgreeFromReset}
-use Rattle.sec_setup.specs.Common.{common_names}
-use Rattle.sec_setup.specs.Exposed.{IsFreeWithout, IsToldCycle}
-use Rattle.sec_setup.specs.declared.error.SetupError.{SetupError}
-use Rattle.sec_setup.specs.declared.error.SetupError.TheVariants as unset
-use Rattle.sec_setup.specs.Cuts.{IsChoice, StandInOrder}
-use Rattle.sec_setup.specs.Cycles.{IsAcyclic, AreBroken}
-use Rattle.sec_setup.specs.Matching.{InterfacesMatch}
+use Rattle.plain_meaning.specs.sec_setup.Common.{common_names}
+use Rattle.plain_meaning.specs.sec_setup.Exposed.{IsFreeWithout, IsToldCycle}
+use Rattle.plain_meaning.specs.sec_setup.declared.error.SetupError.{SetupError}
+use Rattle.plain_meaning.specs.sec_setup.declared.error.SetupError.TheVariants as unset
+use Rattle.plain_meaning.specs.sec_setup.Cuts.{IsChoice, StandInOrder}
+use Rattle.plain_meaning.specs.sec_setup.Cycles.{IsAcyclic, AreBroken}
+use Rattle.plain_meaning.specs.sec_setup.Matching.{InterfacesMatch}
 use Rattle.compare_base.specs.declared.error.CompareError.{CompareError}
 use Rattle.compare_base.specs.declared.error.CompareError.TheVariants as refused
 use Rattle.plain_meaning.specs.Fitting.{IsLight, IsCutOver, IsCutLight, OutcomeFits}

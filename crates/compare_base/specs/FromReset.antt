@@ -8,13 +8,13 @@ use Rattle.circuit_theory.specs.Fits.{IsPairDepth}
 use Rattle.circuit_theory.specs.Interface.{shared_inputs, AreNumbersOf}
 use Rattle.sec_base.specs.declared.basics.PairAnswer.TheVariants as answer
 use Rattle.flat_net.specs.View.{NetView, circuit_of, ports_of}
-use Rattle.outcome.specs.declared.verdict.LimitAt.TheVariants as limit_at
-use Rattle.outcome.specs.declared.verdict.Outcome.{Outcome}
-use Rattle.outcome.specs.declared.verdict.PairResult.{PairResult}
-use Rattle.outcome.specs.declared.verdict.Verdict.{Verdict}
-use Rattle.outcome.specs.declared.verdict.Verdict.TheVariants as verdict
+use Rattle.plain_meaning.specs.outcome.declared.verdict.LimitAt.TheVariants as limit_at
+use Rattle.plain_meaning.specs.outcome.declared.verdict.Outcome.{Outcome}
+use Rattle.plain_meaning.specs.outcome.declared.verdict.PairResult.{PairResult}
+use Rattle.plain_meaning.specs.outcome.declared.verdict.Verdict.{Verdict}
+use Rattle.plain_meaning.specs.outcome.declared.verdict.Verdict.TheVariants as verdict
 use Rattle.reset_laws.specs.Reset.{AreBased}
-use Rattle.sec_setup.specs.Pairs.{NamedPair, named_pairs}
+use Rattle.plain_meaning.specs.sec_setup.Pairs.{NamedPair, named_pairs}
 use Rattle.plain_meaning.specs.ResetOutcome.{Numbered, PairFits, IsFirstDifference, IsFirstLimit, greatest_size}
 use Rattle.reset_functions.specs.Pairs.{IsLight, IsTooLarge}
 

@@ -3,10 +3,12 @@ pub use Rattle.plain_meaning.specs.Limits
 pub use Rattle.plain_meaning.specs.Outcome
 pub use Rattle.plain_meaning.specs.ResetOutcome
 pub use Rattle.plain_meaning.specs.ResetLimits
-pub use Rattle.sec_setup.specs.Cuts
-pub use Rattle.sec_setup.specs.Matching
-pub use Rattle.sec_setup.specs.declared.error.SetupError
+pub use Rattle.plain_meaning.specs.sec_setup.Cuts
+pub use Rattle.plain_meaning.specs.sec_setup.Matching
+pub use Rattle.plain_meaning.specs.sec_setup.declared.error.SetupError
 pub use Rattle.plain_meaning.specs.Fitting
 pub mod Compared
 pub mod FromReset
 pub mod Says
+pub use Rattle.plain_meaning.specs.outcome_fits
+pub use Rattle.reset_functions.specs.pair_decide

@@ -7,11 +7,11 @@ use Rattle.circuit_theory.specs.Agree.{Agree, AgreeOnward}
 use Rattle.circuit_theory.specs.Circuit.{Circuit}
 use Rattle.circuit_theory.specs.Cone.{latches_of}
 use Rattle.circuit_theory.specs.Run.{IsRun, IsResetRun}
-use Rattle.witness_report.specs.declared.witness.PairName.TheVariants as pair
-use Rattle.witness_report.specs.declared.witness.Witness.{Witness}
-use Rattle.witness_report.specs.Shown.{Obeys, MakesDiffer, MakesCutsDiffer}
-use Rattle.outcome.specs.declared.verdict.Outcome.{Outcome}
-use Rattle.outcome.specs.declared.verdict.ResetWitness.{ResetWitness}
+use Rattle.assume_shape.specs.witness_report.declared.witness.PairName.TheVariants as pair
+use Rattle.assume_shape.specs.witness_report.declared.witness.Witness.{Witness}
+use Rattle.assume_shape.specs.witness_report.Shown.{Obeys, MakesDiffer, MakesCutsDiffer}
+use Rattle.plain_meaning.specs.outcome.declared.verdict.Outcome.{Outcome}
+use Rattle.plain_meaning.specs.outcome.declared.verdict.ResetWitness.{ResetWitness}
 use Rattle.reset_laws.specs.Reset.{AreAlikeFromReset, TakesPower}
 use Rattle.plain_meaning.specs.Equal.{AreEqual}
 

@@ -1,9 +1,9 @@
 //! Why two circuits aren't compared.
 
 use assume_shape::ShapeFault;
-use pair_decide::SameBy;
+use plain_meaning::SetupError;
+use reset_functions::SameBy;
 use sec_base::{NoMemory, Side, Word, Words};
-use sec_setup::SetupError;
 
 /// Why two circuits aren't compared.
 #[derive(Drop)]

@@ -21,15 +21,15 @@ use Rattle.sec_setup.specs.Matching.{InterfacesMatch}
 use Rattle.sec_setup.specs.Pairs.{NamedPair, named_pairs}
 use Rattle.sec_setup.specs.Setup.{IsSetupOf}
 use Rattle.sec_setup.proofs.CutNets.{cut_numbers}
-use Rattle.plain_meaning.proofs.CutSizes.{cut_light}
-use Rattle.plain_asked.specs.declared.findings.Findings.{Findings}
+use Rattle.under_meaning.proofs.plain_meaning.CutSizes.{cut_light}
+use Rattle.plain_asked_under.specs.plain_asked.declared.findings.Findings.{Findings}
 use Rattle.assume_shape.specs.declared.shape.ShapeFault.TheVariants as fault
-use Rattle.assume_sequences.specs.Filled.{bit_of}
-use Rattle.assume_premise.specs.declared.premise.Premise.{Premise}
-use Rattle.assume_premise.specs.Assumed.{IsAssumedBy, CanBeAssumed}
-use Rattle.assume_taken.specs.Premises.{IsPremiseOf}
-use Rattle.assume_taken.specs.Taken.{assumed_by, IsUndecidedBy}
-use Rattle.assume_taken.proofs.Premises.{is_assumed, can_be_assumed}
+use Rattle.plain_asked_under.specs.assume_sequences.Filled.{bit_of}
+use Rattle.plain_asked_under.specs.assume_sequences.declared.premise.Premise.{Premise}
+use Rattle.plain_asked_under.specs.assume_sequences.Assumed.{IsAssumedBy, CanBeAssumed}
+use Rattle.under_base.specs.assume_taken.Premises.{IsPremiseOf}
+use Rattle.under_base.specs.assume_taken.Taken.{assumed_by, IsUndecidedBy}
+use Rattle.under_base.proofs.assume_taken.Premises.{is_assumed, can_be_assumed}
 use Rattle.plain_asked_under.specs.declared.error.PlainUnderError.TheVariants as found_error
 use Rattle.plain_asked_under.specs.Formed.{AreFoundUnder, FormedUnder}
 use Rattle.under_base.specs.Places.{IsOverAtPairs, IsLightAtPairs}
@@ -37,9 +37,9 @@ use Rattle.plain_asked_under.specs.Verdict.{FindingsFitUnder}
 use Rattle.under_base.specs.Outcome.{OutcomeFitsUnder}
 use Rattle.under_meaning.specs.Laws.{AreNets}
 use Rattle.under_meaning.proofs.Meaning.{equal_says_under, different_shows_under, not_shown_under}
-use Rattle.compare_base.specs.declared.error.CompareError.TheVariants as refused
-use Rattle.compare_base.proofs.CutSetups.{choice, in_order, left_too_large, right_too_large}
-use Rattle.compare_base.proofs.Forms.{in_always}
+use Rattle.under_base.specs.compare_base.declared.error.CompareError.TheVariants as refused
+use Rattle.under_base.proofs.compare_base.CutSetups.{choice, in_order, left_too_large, right_too_large}
+use Rattle.under_base.proofs.compare_base.Forms.{in_always}
 use Rattle.under_base.specs.Compared.{IsComparedUnder, ComparedUnder}
 use Rattle.under_base.specs.Met.{shared_by, IsMet, IsAssumptionLimit}
 use Rattle.compare_under.specs.declared.circuits.Circuits.{Circuits}

@@ -14,26 +14,26 @@ use Rattle.sec_setup.specs.Choosing.{IsChosen}
 use Rattle.sec_setup.specs.Matching.{InterfacesMatch}
 use Rattle.sec_setup.specs.Pairs.{NamedPair, named_pairs}
 use Rattle.sec_setup.specs.Setup.{IsSetupOf}
-use Rattle.outcome_fits.specs.ResetOutcome.{Numbered}
+use Rattle.plain_asked_under.specs.outcome_fits.ResetOutcome.{Numbered}
 use Rattle.reset_asked_under.specs.ResetFindings.{ResetFindings}
 use Rattle.reset_asked_under.specs.ResetVerdict.{ResetVerdict}
 use Rattle.reset_asked_under.specs.ResetVerdict.TheVariants as found_verdict
 use Rattle.assume_laws.specs.Assume.{Assumption}
 use Rattle.assume_shape.specs.declared.shape.ShapeFault.TheVariants as fault
-use Rattle.assume_sequences.specs.Filled.{bit_of}
-use Rattle.assume_premise.specs.declared.premise.Premise.{Premise}
-use Rattle.assume_taken.specs.Premises.{IsPremiseOf}
-use Rattle.assume_taken.specs.Taken.{assumed_by}
+use Rattle.plain_asked_under.specs.assume_sequences.Filled.{bit_of}
+use Rattle.plain_asked_under.specs.assume_sequences.declared.premise.Premise.{Premise}
+use Rattle.under_base.specs.assume_taken.Premises.{IsPremiseOf}
+use Rattle.under_base.specs.assume_taken.Taken.{assumed_by}
 use Rattle.reset_asked_under.specs.declared.error.ResetUnderError.TheVariants as found_error
 use Rattle.reset_asked_under.specs.Formed.{AreFoundUnder, FormedUnder}
 use Rattle.under_base.specs.ResetPlaces.{IsOverInCycles, IsLightInCycles}
 use Rattle.reset_asked_under.specs.Verdict.{FindingsFitUnder, VerdictFitsUnder}
 use Rattle.under_base.specs.ResetOutcome.{numbers_of, ResetOutcomeFitsUnder, ResetVerdictFitsUnder}
-use Rattle.under_reset_meaning.specs.Laws.{AreNets}
-use Rattle.under_reset_meaning.proofs.Meaning.{equal_resets_say_under, different_resets_show_under}
-use Rattle.compare_base.specs.declared.error.CompareError.TheVariants as refused
-use Rattle.compare_base.proofs.Forms.{in_reset}
-use Rattle.compare_base.proofs.UncutSetups.{left_light, right_light, left_too_large, right_too_large, of_circuits, based, left_numbers, right_numbers}
+use Rattle.under_meaning.specs.under_reset_meaning.Laws.{AreNets}
+use Rattle.under_meaning.proofs.under_reset_meaning.Meaning.{equal_resets_say_under, different_resets_show_under}
+use Rattle.under_base.specs.compare_base.declared.error.CompareError.TheVariants as refused
+use Rattle.under_base.proofs.compare_base.Forms.{in_reset}
+use Rattle.under_base.proofs.compare_base.UncutSetups.{left_light, right_light, left_too_large, right_too_large, of_circuits, based, left_numbers, right_numbers}
 use Rattle.under_base.specs.Compared.{IsComparedFromResetUnder, ComparedUnder}
 use Rattle.under_base.specs.Met.{shared_by, IsMet}
 use Rattle.compare_under.specs.Verdicts.{verdict_of}

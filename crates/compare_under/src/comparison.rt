@@ -6,7 +6,7 @@ ghost use Rattle.flat_net.specs.Comparable.{IsComparable};
 ghost use Rattle.sec_setup.specs.Choosing.{IsChosen};
 ghost use Rattle.sec_setup.specs.Cuts.{AreCutBy};
 ghost use Rattle.sec_setup.specs.Setup.{AreGraphed};
-ghost use Rattle.assume_taken.specs.Premises.{IsPremiseOf};
+ghost use Rattle.under_base.specs.assume_taken.Premises.{IsPremiseOf};
 ghost use Rattle.under_base.specs.Compared.{ComparedUnder};
 ghost use Rattle.compare_under.specs.Circuits.{AreMatched};
 ghost use Rattle.under_base.specs.Refusals.{refusal_of};
@@ -14,19 +14,16 @@ ghost use Rattle.under_base.specs.Refusals.{refusal_of};
 use crate::circuits::Circuits;
 use crate::cutting::cut_nets;
 use crate::outcomes::{name_of, outcome_of, undecided, verdict_of};
-use assume_premise::Premise;
 use assume_shape::ShapeFault;
-use assume_taken::{TakeError, Taken, take, widen};
-use compare_base::CompareError;
 use cut_points::Exposure;
 use flat_net::Net;
 use outcome::{Outcome, Settings};
-use plain_asked::Findings;
-use plain_asked_under::{PlainUnderError, compare_plain_under};
+use plain_asked_under::{Findings, PlainUnderError, Premise, compare_plain_under};
 use reset_asked_under::{ResetFindings, ResetUnderError, compare_reset_under};
 use sec_base::MAX_CONFLICTS;
 use sec_setup::{Nets, choose, graph_of, set_up, shared_names};
 use std::alloc::Global;
+use under_base::{CompareError, TakeError, Taken, take, widen};
 
 /// Compares the circuits `a` and `b` in the runs whose inputs make the output of the circuit `c` 1 in each cycle. It is done as without
 /// `c`, each query of a pair with `c` as its care at the places of the pair's variables; where a pair differs, each cycle of the sequence

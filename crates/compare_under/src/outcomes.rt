@@ -10,7 +10,7 @@ ghost use Rattle.compare_under.specs.Verdicts.{verdict_of};
 use crate::circuits::Circuits;
 use flat_net::Net;
 use outcome::{LimitAt, Outcome, PairResults, Proof, Verdict};
-use plain_asked::Findings;
+use plain_asked_under::Findings;
 use reset_asked_under::ResetVerdict;
 use sec_base::{NoMemory, Word, Words};
 use sec_setup::Setup;

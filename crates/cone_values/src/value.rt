@@ -7,8 +7,7 @@ ghost use Rattle.aig.specs.Values as meaning;
 ghost use Rattle.lane_eval.specs.Tables.{Covers, assigned_to};
 ghost use Rattle.cone_values.specs.Bits.{HasBits};
 
-use aig::{Aig, Lit, Node, cones_of, node_bits};
-use sec_base::NoMemory;
+use aig::{Aig, Lit, NoMemory, Node, cones_of, node_bits};
 use std::alloc::Global;
 
 /// The literal's value where the variables have these bits, in order. The variables are all that the literal reads, and maybe more. It

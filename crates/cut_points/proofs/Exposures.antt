@@ -6,20 +6,20 @@ use Rattle.std.proofs.lemmas.List.Elements.{All-head, All-tail, All-cons, All-ni
 use Rattle.std.proofs.lemmas.Option.{slice_get-get_or}
 use Rattle.circuit_theory.specs.Agree.{IsMinimalCut}
 use Rattle.circuit_theory.specs.declared.Mode.{Mode}
-use Rattle.flat_net.specs.declared.parts.LatchAt.{LatchAt}
-use Rattle.flat_net.specs.declared.parts.Driver.TheVariants as driver
-use Rattle.flat_net.specs.View.{NetView, circuit_of}
-use Rattle.flat_net.specs.Sound.{IsSound}
-use Rattle.flat_net.specs.Cut.{no_latch, latch_at, exposed_names}
-use Rattle.flat_net.proofs.Places.{one_at}
-use Rattle.expose_pick.specs.Graph.{GraphView, IsGraphOf, IsGraphIn}
-use Rattle.expose_pick.proofs.Skipping.{cycle_in_graph}
-use Rattle.expose_pick.specs.declared.pairs.LatchPair.{LatchPair}
-use Rattle.expose_pick.specs.Chosen.{IsFree, IsMinimalChoice, at_places, names_at}
-use Rattle.expose_pick.specs.Pairs.{lefts, rights}
-use Rattle.expose_pick.specs.Laws.{ChosenIsMinimalCut}
-use Rattle.expose_pick.specs.Laws as laws
-use Rattle.expose_pick.proofs.Paired.{distinct_by}
+use Rattle.latch_graph.specs.flat_net.declared.parts.LatchAt.{LatchAt}
+use Rattle.latch_graph.specs.flat_net.declared.parts.Driver.TheVariants as driver
+use Rattle.latch_graph.specs.flat_net.View.{NetView, circuit_of}
+use Rattle.latch_graph.specs.flat_net.Sound.{IsSound}
+use Rattle.latch_graph.specs.flat_net.Cut.{no_latch, latch_at, exposed_names}
+use Rattle.latch_graph.proofs.flat_net.Places.{one_at}
+use Rattle.latch_graph.specs.Graph.{GraphView, IsGraphOf, IsGraphIn}
+use Rattle.latch_graph.proofs.Skipping.{cycle_in_graph}
+use Rattle.cut_points.specs.declared.expose_pick.pairs.LatchPair.{LatchPair}
+use Rattle.minimal_cut.specs.Chosen.{IsFree, IsMinimalChoice, at_places, names_at}
+use Rattle.cut_points.specs.expose_pick.Pairs.{lefts, rights}
+use Rattle.cut_points.specs.expose_pick.Laws.{ChosenIsMinimalCut}
+use Rattle.cut_points.specs.expose_pick.Laws as laws
+use Rattle.cut_points.proofs.expose_pick.Paired.{distinct_by}
 use Rattle.cut_points.specs.declared.exposed.Exposure.{Exposure}
 use Rattle.cut_points.specs.Common.{common_names, HaveOneName, AreCommon}
 use Rattle.cut_points.specs.Exposed.{AreExposed, IsFreeWithout}

@@ -1,4 +1,3 @@
 pub mod Pairs
 pub mod Exposures
 pub mod ToldCycles
-pub use Rattle.expose_pick.proofs.Skipping

@@ -13,13 +13,13 @@ use Rattle.circuit_theory.specs.Names.{is_among}
 use Rattle.circuit_theory.specs.Flattened.{latch_names}
 use Rattle.circuit_theory.proofs.Lists.{Contains-map, Contains-map_from, All-from_each, at_of, of_at}
 use Rattle.circuit_theory.proofs.Numbers.{is_among-sound, is_among-complete}
-use Rattle.flat_net.specs.declared.parts.Gate.{Gate}
-use Rattle.flat_net.specs.declared.parts.LatchAt.{LatchAt}
-use Rattle.flat_net.specs.View.{NetView, circuit_of, equation_of_gate, equation_of_latch}
-use Rattle.flat_net.specs.Cut.{no_latch, latch_at, exposed_names}
-use Rattle.flat_net.proofs.Places.{All-at}
-use Rattle.expose_pick.specs.declared.pairs.LatchPair.{LatchPair}
-use Rattle.expose_pick.specs.Pairs.{lefts}
+use Rattle.latch_graph.specs.flat_net.declared.parts.Gate.{Gate}
+use Rattle.latch_graph.specs.flat_net.declared.parts.LatchAt.{LatchAt}
+use Rattle.latch_graph.specs.flat_net.View.{NetView, circuit_of, equation_of_gate, equation_of_latch}
+use Rattle.latch_graph.specs.flat_net.Cut.{no_latch, latch_at, exposed_names}
+use Rattle.latch_graph.proofs.flat_net.Places.{All-at}
+use Rattle.cut_points.specs.declared.expose_pick.pairs.LatchPair.{LatchPair}
+use Rattle.cut_points.specs.expose_pick.Pairs.{lefts}
 use Rattle.cut_points.specs.Common.{HaveOneName, AreCommonUpTo, AreCommon}
 
 -- the names of a net's latches

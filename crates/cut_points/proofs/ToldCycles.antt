@@ -8,14 +8,14 @@ use Rattle.circuit_theory.specs.Depth.{IsCycle, BeginsWithLeast}
 use Rattle.circuit_theory.specs.declared.Mode.{Mode}
 use Rattle.circuit_theory.specs.declared.Side.TheVariants.{A, B}
 use Rattle.circuit_theory.specs.Agree.{EnabledIn}
-use Rattle.flat_net.specs.declared.parts.LatchAt.{LatchAt}
-use Rattle.flat_net.specs.View.{NetView, circuit_of}
-use Rattle.flat_net.specs.Cut.{no_latch, latch_at, exposed_names}
-use Rattle.flat_net.proofs.Nets.{latch_stands}
-use Rattle.expose_pick.specs.Graph.{GraphView, IsGraphIn, signals_at}
-use Rattle.expose_pick.proofs.Skipping.{mode_cycle}
-use Rattle.expose_pick.specs.Chosen.{names_at}
-use Rattle.expose_pick.specs.Pairs.{IsLeft}
+use Rattle.latch_graph.specs.flat_net.declared.parts.LatchAt.{LatchAt}
+use Rattle.latch_graph.specs.flat_net.View.{NetView, circuit_of}
+use Rattle.latch_graph.specs.flat_net.Cut.{no_latch, latch_at, exposed_names}
+use Rattle.latch_graph.proofs.flat_net.Nets.{latch_stands}
+use Rattle.latch_graph.specs.Graph.{GraphView, IsGraphIn, signals_at}
+use Rattle.latch_graph.proofs.Skipping.{mode_cycle}
+use Rattle.minimal_cut.specs.Chosen.{names_at}
+use Rattle.cut_points.specs.expose_pick.Pairs.{IsLeft}
 use Rattle.cut_points.specs.Common.{common_names}
 use Rattle.cut_points.specs.Exposed.{Exposes, IsFreeWithout, IsToldCycle, TellsCycle}
 use Rattle.cut_points.specs.declared.exposed.ExposeError.{ExposeError}

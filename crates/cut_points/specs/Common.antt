@@ -4,11 +4,11 @@ use Rattle.std.specs.List.{All, AllPairs, filter}
 use Rattle.circuit_theory.specs.Circuit.{Circuit}
 use Rattle.circuit_theory.specs.Names.{is_among}
 use Rattle.circuit_theory.specs.Flattened.{latch_names}
-use Rattle.flat_net.specs.declared.parts.LatchAt.{LatchAt}
-use Rattle.flat_net.specs.View.{NetView, circuit_of}
-use Rattle.flat_net.specs.Cut.{no_latch, exposed_names}
-use Rattle.expose_pick.specs.declared.pairs.LatchPair.{LatchPair}
-use Rattle.expose_pick.specs.Pairs.{lefts}
+use Rattle.latch_graph.specs.flat_net.declared.parts.LatchAt.{LatchAt}
+use Rattle.latch_graph.specs.flat_net.View.{NetView, circuit_of}
+use Rattle.latch_graph.specs.flat_net.Cut.{no_latch, exposed_names}
+use Rattle.cut_points.specs.declared.expose_pick.pairs.LatchPair.{LatchPair}
+use Rattle.cut_points.specs.expose_pick.Pairs.{lefts}
 
 -- the names of A's latches that are also names of latches of B, in A's order
 abbrev pub common_names : {P Q : Type 0} → Circuit P → Circuit Q → List (List ℕ)

@@ -7,9 +7,9 @@ use Rattle.circuit_theory.specs.declared.Side.TheVariants.{A, B}
 use Rattle.circuit_theory.specs.Agree.{EnabledIn, IsMinimalCut}
 use Rattle.circuit_theory.specs.Circuit.{IsLatch}
 use Rattle.circuit_theory.specs.Depth.{HasCycle, IsCycle, BeginsWithLeast}
-use Rattle.sec_base.specs.Table.{AreDistinct}
-use Rattle.flat_net.specs.View.{NetView, circuit_of}
-use Rattle.flat_net.specs.Cut.{exposed_names}
+use Rattle.latch_graph.specs.sec_base.Table.{AreDistinct}
+use Rattle.latch_graph.specs.flat_net.View.{NetView, circuit_of}
+use Rattle.latch_graph.specs.flat_net.Cut.{exposed_names}
 use Rattle.cut_points.specs.declared.exposed.Exposure.{Exposure}
 use Rattle.cut_points.specs.declared.exposed.ExposeError.{ExposeError}
 use Rattle.cut_points.specs.declared.exposed.ExposeError.TheVariants as refused

@@ -1,3 +1,3 @@
 pub mod Common
 pub mod Exposed
-pub use Rattle.expose_pick.specs.Graph
+pub mod expose_pick

@@ -3,9 +3,8 @@
 ghost use Rattle.std.specs.Prelude.{IfOk};
 ghost use Rattle.cut_points.specs.Common.{AreCommon};
 
-use expose_pick::{LatchPair, LatchPairs};
-use flat_net::Net;
-use sec_base::NoMemory;
+use crate::expose_pick::{LatchPair, LatchPairs};
+use latch_graph::{Net, NoMemory};
 use std::alloc::Global;
 
 /// The latches that both circuits have under one name, in A's order.

@@ -1,17 +1,16 @@
 //! The latches that are exposed, or a cycle that no exposed latches break.
 
 ghost use Rattle.std.specs.Prelude.{◌≡◌, ◌<◌, length, All, IfOk};
-ghost use Rattle.flat_net.specs.Cut.{exposed_names};
+ghost use Rattle.latch_graph.specs.flat_net.Cut.{exposed_names};
 ghost use Rattle.circuit_theory.specs.declared.Mode.{Mode};
-ghost use Rattle.expose_pick.specs.Graph.{IsGraphOf, IsGraphIn};
-ghost use Rattle.expose_pick.specs.Chosen.{at_places};
-ghost use Rattle.expose_pick.specs.Pairs.{lefts, rights};
+ghost use Rattle.latch_graph.specs.Graph.{IsGraphOf, IsGraphIn};
+ghost use Rattle.minimal_cut.specs.Chosen.{at_places};
+ghost use Rattle.cut_points.specs.expose_pick.Pairs.{lefts, rights};
 ghost use Rattle.cut_points.specs.Exposed.{Exposes, TellsCycle};
 
 use crate::common_latches::common_pairs;
-use expose_pick::{LatchGraph, LatchPair, PickError, chosen_is_minimal_cut, pick};
-use flat_net::Net;
-use sec_base::{Ids, NoMemory, Side, Words};
+use crate::expose_pick::{LatchPair, PickError, chosen_is_minimal_cut, pick};
+use latch_graph::{Ids, LatchGraph, Net, NoMemory, Side, Words};
 use std::alloc::Global;
 
 /// The latches that are exposed, in A's order: their names, and their positions in both circuits.

@@ -3,6 +3,7 @@
 #![tactic(auto)]
 
 mod common_latches;
+pub mod expose_pick;
 mod exposed;
 
 pub use expose_pick::LatchGraph;

@@ -18,7 +18,7 @@ use Rattle.flat_net.specs.View.{NetView, circuit_of, cover_of}
 use Rattle.flat_net.specs.Sound.{IsSound}
 use Rattle.flat_net.proofs.Nets.{some_at, gate_stands, latch_stands, input_stands, sound_is_net}
 use Rattle.flat_net.proofs.Places.{one_at, sound_in_order}
-use Rattle.latch_cone.specs.Cones.{IsMarkedBy}
+use Rattle.inner_cone.specs.latch_cone.Cones.{IsMarkedBy}
 use Rattle.inner_cone.specs.Sides.{AreSides}
 use Rattle.cycle_sim.specs.View.{IsMark, HasMark}
 use Rattle.cycle_sim.specs.Steps.{KeepsMarks, AreInputsMarked, AreLatchesMarked, AreMarksAhead}

@@ -17,7 +17,7 @@ use Rattle.flat_net.specs.View.{NetView, circuit_of, cover_of}
 use Rattle.flat_net.specs.Sound.{IsSound, Drives}
 use Rattle.flat_net.proofs.Nets.{some_at, gate_stands}
 use Rattle.flat_net.proofs.Places.{one_at, sound_in_order}
-use Rattle.latch_cone.specs.Parts.{gate_of, gate_at}
+use Rattle.inner_cone.specs.latch_cone.Parts.{gate_of, gate_at}
 use Rattle.inner_cone.specs.Inner.{LeadsAside}
 use Rattle.inner_cone.specs.Gates.{AreInnerGates}
 use Rattle.cycle_sim.specs.Steps.{IsRight, AreInputsRight, AreLatchesRight, AreAsideRight}

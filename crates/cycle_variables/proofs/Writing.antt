@@ -8,7 +8,7 @@ use Rattle.circuit_theory.proofs.Sums.{same_or_not}
 use Rattle.sec_base.proofs.TableLemmas.{slice_get-take}
 use Rattle.unfold_places.proofs.Lists.{pairs_at}
 use Rattle.circuit_theory.proofs.Lists.{length-map}
-use Rattle.pair_decide.specs.Queries.{assigned_to}
+use Rattle.shift_variables.specs.pair_decide.Queries.{assigned_to}
 use Rattle.shift_variables.proofs.Assignments.{take_next, assigned_new, assigned_old, length_take}
 use Rattle.cycle_variables.specs.Cycles.{number_of}
 

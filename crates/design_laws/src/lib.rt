@@ -1,6 +1,8 @@
 //! What a design says of all of its nets. None of these functions does anything: each contract is a law.
 #![tactic(auto)]
 
+pub mod event_designs;
+
 ghost use Rattle.design_laws.specs.Laws.{ClosedCutsBound, NamesAreKept, MarksAreKept, CutRunsAreKept, CyclesAreKept, MinimalCutsAreKept, AgreementIsKept};
 
 /// A closed list of places bounds the unfolding of a design's nets with latches cut out.

@@ -6,8 +6,8 @@ use Rattle.circuit_theory.specs.Agree.{cut}
 use Rattle.circuit_theory.specs.Names.{is_among}
 use Rattle.circuit_theory.specs.Sizes.{Weighed}
 use Rattle.blif_read.specs.Design.{Inside, Place, place_at, top, walk, circuit_of_design}
-use Rattle.design_tests.specs.NoFault.{rank_in, has_no_fault}
-use Rattle.design_tests.proofs.NoFaults.{tested_is_sound}
+use Rattle.design_rows.specs.NoFault.{rank_in, has_no_fault}
+use Rattle.design_rows.proofs.NoFaults.{tested_is_sound}
 use Rattle.design_rows.specs.Designs.{on_and, off_and, late, early, two, idle, ring, hier}
 use Rattle.design_rows.specs.Small.{small_and, OnAndIsSmall, OffAndIsSmall, small_late, LateIsSmall, small_early, EarlyIsSmall, HierIsSmall, small_two, TwoIsSmall, small_idle, IdleIsSmall, small_ring, RingIsSmall}
 use Rattle.design_rows.proofs.Tested.{PassesTests, tested_is_small}

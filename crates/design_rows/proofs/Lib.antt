@@ -4,3 +4,5 @@ pub mod Examples
 pub mod Toggle
 pub mod SpelledTexts
 pub mod Spelling
+pub mod NoFaults
+pub mod Ranking

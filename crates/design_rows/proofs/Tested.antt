@@ -12,10 +12,10 @@ use Rattle.flat_net.specs.View.{NetView, circuit_of}
 use Rattle.net_alike.specs.Closed.{IsClosed, is_closed}
 use Rattle.net_alike.proofs.Testing.{is_closed-sound}
 use Rattle.flatten.specs.DesignFaults.{IsFlatOf}
-use Rattle.design_tests.specs.Ranked.{IsRanked, is_ranked}
+use Rattle.design_rows.specs.Ranked.{IsRanked, is_ranked}
 use Rattle.design_laws.proofs.CutFlats.{closed_cuts_bound}
 use Rattle.design_laws.proofs.KeptNames.{names_are_kept}
-use Rattle.design_tests.proofs.Ranking.{is_ranked-sound, ranked_is_acyclic}
+use Rattle.design_rows.proofs.Ranking.{is_ranked-sound, ranked_is_acyclic}
 use Rattle.design_rows.specs.Small.{Small, IsSmall}
 use Rattle.design_rows.proofs.Places.{is_one_place, is_one_place-sound, is_one_place-itself}
 

@@ -14,9 +14,9 @@ use Rattle.net_alike.specs.FlatCircuit.{IsFlatCircuit}
 use Rattle.net_alike.proofs.Alike.{portless_is_renumbered}
 use Rattle.net_alike.proofs.Carrying.{cycle_carried}
 use Rattle.flatten.specs.DesignFaults.{IsClocked, IsFlatOf}
-use Rattle.design_tests.specs.NoFault.{has_no_fault}
+use Rattle.design_rows.specs.NoFault.{has_no_fault}
 use Rattle.design_laws.proofs.KeptNames.{names_are_kept}
-use Rattle.design_tests.proofs.NoFaults.{tested_is_sound}
+use Rattle.design_rows.proofs.NoFaults.{tested_is_sound}
 use Rattle.design_rows.specs.Designs.{same_cover, not_cover, toggle}
 use Rattle.design_rows.specs.Small.{small_toggle, ToggleIsSmall}
 use Rattle.design_rows.proofs.Examples.{at_top, flat_rank}

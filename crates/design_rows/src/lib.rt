@@ -1,4 +1,7 @@
 //! What every net of some small designs is. The functions do nothing: each contract is an example.
+//!
+//! Computed tests of designs: that one has no fault, and that ranks rule out cycles of latches. None of these functions does anything: each contract
+//! is a law.
 #![tactic(auto)]
 
 ghost use Rattle.design_rows.specs.Small.{OnAndIsSmall, OffAndIsSmall, LateIsSmall, EarlyIsSmall, HierIsSmall, TwoIsSmall, ToggleIsSmall, IdleIsSmall, RingIsSmall};
@@ -46,4 +49,16 @@ pub fn idle_is_small()
 /// Two latches that take over each other: either breaks the ring.
 pub fn ring_is_small()
     ensures { RingIsSmall }
+{}
+
+ghost use Rattle.design_rows.specs.Laws.{TestedIsSound, RankedIsAcyclic};
+
+/// A design without clocks that passes the computed test has no fault.
+pub fn tested_is_sound()
+    ensures { TestedIsSound }
+{}
+
+/// Ranks over a design's places that rise along readings rule out cycles of latches in its nets.
+pub fn ranked_is_acyclic()
+    ensures { RankedIsAcyclic }
 {}

@@ -3,3 +3,4 @@ pub mod Entries
 pub mod Formulas
 pub mod Literals
 pub mod Parts
+pub mod dimacs_writer

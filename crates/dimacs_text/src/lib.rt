@@ -3,6 +3,7 @@
 
 mod body;
 mod counts;
+pub mod dimacs_writer;
 mod entries;
 mod formula;
 mod header;

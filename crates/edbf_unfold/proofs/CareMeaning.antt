@@ -5,23 +5,23 @@ use Rattle.std.specs.List.{Contains}
 use Rattle.circuit_theory.specs.Circuit.{IsLatch}
 use Rattle.circuit_theory.proofs.Lists.{Contains-head, Contains-tail, Contains-cases}
 use Rattle.circuit_theory.proofs.Numbers.{one_number}
-use Rattle.event_theory.specs.Frame.{IsEnable, ConeLatches, ConeOthers, ReachedAt, HasCare}
-use Rattle.event_theory.specs.EventSizes.{Start}
+use Rattle.circuit_theory.specs.Frame.{IsEnable, ConeLatches, ConeOthers, ReachedAt, HasCare}
+use Rattle.circuit_theory.specs.EventSizes.{Start}
 use Rattle.event_laws.proofs.EventTrees.{one_enable}
 use Rattle.event_literals.specs.Sound.{IsSound}
 use Rattle.event_literals.specs.View.{circuit_of}
 use Rattle.event_literals.proofs.Nets.{sound_is_net}
-use Rattle.event_nodes.specs.Node.{Node}
-use Rattle.event_nodes.specs.Graph.{IsGraph}
-use Rattle.event_nodes.specs.Values.{value}
-use Rattle.event_nodes.proofs.CoverMeaning.{value-and, value-one}
-use Rattle.event_nodes.specs.Nodes.{EventGraphView, IsEventGraph}
-use Rattle.event_nodes.specs.View.{EventCircuitView, IsEventCircuit, side_of, Enabled}
-use Rattle.event_nodes.specs.Reach.{IsBegun}
+use Rattle.event_literals.specs.event_nodes.Node.{Node}
+use Rattle.event_literals.specs.event_nodes.Graph.{IsGraph}
+use Rattle.event_literals.specs.event_nodes.Values.{value}
+use Rattle.event_literals.proofs.event_nodes.CoverMeaning.{value-and, value-one}
+use Rattle.event_literals.specs.event_nodes.Nodes.{EventGraphView, IsEventGraph}
+use Rattle.event_literals.specs.event_nodes.View.{EventCircuitView, IsEventCircuit, side_of, Enabled}
+use Rattle.event_literals.specs.event_nodes.Reach.{IsBegun}
 use Rattle.edbf_unfold.specs.Care.{IsEnableOnward, IsAndOfAll, IsCareLit}
 use Rattle.edbf_unfold.specs.Laws.{TakesFrame, CareLiteralIsCare}
-use Rattle.event_nodes.proofs.Bits.{kind_of}
-use Rattle.event_nodes.proofs.Drivers.{latch_next, latch_equation_stands}
+use Rattle.event_literals.proofs.event_nodes.Bits.{kind_of}
+use Rattle.event_literals.proofs.event_nodes.Drivers.{latch_next, latch_equation_stands}
 use Rattle.edbf_unfold.proofs.EventLiterals.{enable_value}
 
 both_true : (b c : Bool) → b && c ≡ true → (b ≡ true) × (c ≡ true)

@@ -1,29 +1,29 @@
 -- What an unfolding and its care give together.
 use Rattle.std.proofs.lemmas.Option.{slice_get_within}
 use Rattle.std.proofs.Common.{◌≡◌, ◌∙◌, ◌+◌, ◌<◌, ◌≤◌, ℕ, Bool, true, false, List, [], length, slice_get, Some, None, refl, sym, subst, arith}
-use Rattle.event_theory.specs.EventSizes.{Start}
-use Rattle.event_theory.specs.Frame.{NotPut}
+use Rattle.circuit_theory.specs.EventSizes.{Start}
+use Rattle.circuit_theory.specs.Frame.{NotPut}
 use Rattle.event_literals.specs.Sound.{IsSound}
 use Rattle.event_literals.proofs.Nets.{some_at}
 use Rattle.event_literals.proofs.Places.{one_at}
-use Rattle.event_nodes.specs.Lit.{Lit}
-use Rattle.event_nodes.specs.Nodes.{EventGraphView, IsEventGraph, GrowsEvents}
-use Rattle.event_nodes.specs.View.{EventCircuitView, IsEventCircuit, side_of}
-use Rattle.event_nodes.specs.Visited.{CounterView, HoldsVisits, HoldsNodes}
-use Rattle.event_nodes.proofs.Growing.{grows_trans}
-use Rattle.event_nodes.proofs.Lists.{adds_none, adds_trans}
-use Rattle.event_walk.specs.declared.frames.Frame.{Frame}
-use Rattle.event_walk.specs.declared.frames.Put.TheVariants.{Free}
-use Rattle.event_walk.specs.declared.frames.Ways.{Ways}
+use Rattle.event_literals.specs.event_nodes.Lit.{Lit}
+use Rattle.event_literals.specs.event_nodes.Nodes.{EventGraphView, IsEventGraph, GrowsEvents}
+use Rattle.event_literals.specs.event_nodes.View.{EventCircuitView, IsEventCircuit, side_of}
+use Rattle.event_literals.specs.event_nodes.Visited.{CounterView, HoldsVisits, HoldsNodes}
+use Rattle.event_literals.proofs.event_nodes.Growing.{grows_trans}
+use Rattle.event_literals.proofs.event_nodes.Lists.{adds_none, adds_trans}
+use Rattle.event_literals.specs.event_walk.declared.frames.Frame.{Frame}
+use Rattle.event_literals.specs.event_walk.declared.frames.Put.TheVariants.{Free}
+use Rattle.event_literals.specs.event_walk.declared.frames.Ways.{Ways}
 use Rattle.edbf_unfold.specs.Care.{IsCareOf, IsCareLit}
 use Rattle.event_literals.specs.Known.{EventUnfolderView, IsKnownAt, IsKnownIn, HasUnfolded, HasGrown}
-use Rattle.event_walk.specs.Ready.{put_of}
+use Rattle.event_literals.specs.event_walk.Ready.{put_of}
 use Rattle.edbf_unfold.specs.Reached.{IsOpenPlace, IsOnwardAt, AreNodesOf, IsReachOf}
-use Rattle.event_walk.specs.Walk.{IsRootOf, IsCounting, IsCountedOn, HasCountedStart}
+use Rattle.event_literals.specs.event_walk.Walk.{IsRootOf, IsCounting, IsCountedOn, HasCountedStart}
 use Rattle.event_literals.specs.Built.{IsWalked}
 use Rattle.edbf_unfold.proofs.Covering.{care_lit, holds_visits, holds_nodes, reach_of}
 use Rattle.event_literals.proofs.Known.{known_at_later}
-use Rattle.event_walk.proofs.Rooting.{root_path}
+use Rattle.event_literals.proofs.event_walk.Rooting.{root_path}
 use Rattle.event_literals.proofs.Rooted.{walked_later}
 
 -- the literal at the root, while the graph grows

@@ -1,21 +1,21 @@
 -- The literal of the care of what a start reaches: the and of the enables of the enabled latches that are reached, each at the child by
 -- its class.
 use Rattle.std.specs.Prelude.{◌≡◌, ◌⊎◌, ℕ, ◌*◌, ◌<◌, List, [], ◌∷◌, length, slice_get, Some, Contains}
-use Rattle.event_theory.specs.Frame.{NotPut, ReachedAt}
-use Rattle.event_theory.specs.EventSizes.{Start}
+use Rattle.circuit_theory.specs.Frame.{NotPut, ReachedAt}
+use Rattle.circuit_theory.specs.EventSizes.{Start}
 use Rattle.event_literals.specs.LatchAt.{LatchAt}
 use Rattle.event_literals.specs.View.{circuit_of}
-use Rattle.event_nodes.specs.Node.{Node}
-use Rattle.event_nodes.specs.Lit.{Lit}
-use Rattle.event_nodes.specs.Graph.{flip}
-use Rattle.event_nodes.specs.Rules.{IsAndOf}
-use Rattle.event_nodes.specs.Nodes.{EventGraphView, path_of}
-use Rattle.event_nodes.specs.Reach.{IsBegun}
-use Rattle.event_nodes.specs.View.{EventCircuitView, side_of, Enabled}
-use Rattle.event_walk.specs.declared.frames.Frame.{Frame}
+use Rattle.event_literals.specs.event_nodes.Node.{Node}
+use Rattle.event_literals.specs.event_nodes.Lit.{Lit}
+use Rattle.event_literals.specs.event_nodes.Graph.{flip}
+use Rattle.event_literals.specs.event_nodes.Rules.{IsAndOf}
+use Rattle.event_literals.specs.event_nodes.Nodes.{EventGraphView, path_of}
+use Rattle.event_literals.specs.event_nodes.Reach.{IsBegun}
+use Rattle.event_literals.specs.event_nodes.View.{EventCircuitView, side_of, Enabled}
+use Rattle.event_literals.specs.event_walk.declared.frames.Frame.{Frame}
 use Rattle.event_literals.specs.Known.{IsEnableLit}
 use Rattle.event_literals.specs.ShortOr.{IsShortOr}
-use Rattle.event_walk.specs.Ready.{put_of}
+use Rattle.event_literals.specs.event_walk.Ready.{put_of}
 
 -- the literal is that of the enable of the latch, an enabled one, at the child of the node by its class
 pub record IsEnableOnward (e : EventCircuitView) (w : EventGraphView) (node : List ℕ) (v lit : ℕ) : Type 0 where

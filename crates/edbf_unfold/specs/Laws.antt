@@ -1,14 +1,14 @@
 -- What follows for the literals of event trees.
 use Rattle.std.specs.Prelude.{◌≡◌, ◌↔◌, ℕ, Bool, true, List, Option, Some, None, slice_get}
 use Rattle.circuit_theory.specs.Tree.{tree_value}
-use Rattle.event_theory.specs.Frame.{IsEnable, ConeLatches, HasCare}
-use Rattle.event_theory.specs.Classes.{EnableCare}
+use Rattle.circuit_theory.specs.Frame.{IsEnable, ConeLatches, HasCare}
+use Rattle.circuit_theory.specs.Classes.{EnableCare}
 use Rattle.event_literals.specs.LatchAt.{LatchAt}
 use Rattle.event_literals.specs.Sound.{IsSound}
 use Rattle.event_literals.specs.View.{circuit_of}
-use Rattle.event_nodes.specs.Values.{value}
-use Rattle.event_nodes.specs.Nodes.{EventGraphView, IsEventGraph, GrowsEvents, named_places}
-use Rattle.event_nodes.specs.View.{EventCircuitView, IsEventCircuit, side_of, Enabled}
+use Rattle.event_literals.specs.event_nodes.Values.{value}
+use Rattle.event_literals.specs.event_nodes.Nodes.{EventGraphView, IsEventGraph, GrowsEvents, named_places}
+use Rattle.event_literals.specs.event_nodes.View.{EventCircuitView, IsEventCircuit, side_of, Enabled}
 use Rattle.event_literals.specs.Known.{IsKnownAt, IsEnableLit}
 use Rattle.edbf_unfold.specs.Care.{IsCareLit}
 

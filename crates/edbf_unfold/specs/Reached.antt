@@ -1,15 +1,15 @@
 -- Which event nodes are reached, and whether through latches of class 0 alone.
 use Rattle.std.specs.Prelude.{◌≡◌, ◌⊎◌, ◌↔◌, ℕ, ◌<◌, ◌≤◌, Bool, true, List, [], ◌∷◌, ◌++◌, length, slice_get, Some, Contains}
 use Rattle.circuit_theory.specs.Circuit.{IsLatch}
-use Rattle.event_theory.specs.Frame.{NotPut, IsNode, ReachedAt}
-use Rattle.event_theory.specs.EventSizes.{Start}
-use Rattle.event_theory.specs.EventTotals.{StartLatches}
+use Rattle.circuit_theory.specs.Frame.{NotPut, IsNode, ReachedAt}
+use Rattle.circuit_theory.specs.EventSizes.{Start}
+use Rattle.circuit_theory.specs.EventTotals.{StartLatches}
 use Rattle.event_literals.specs.View.{circuit_of}
-use Rattle.event_nodes.specs.Nodes.{path_of}
-use Rattle.event_nodes.specs.View.{EventCircuitView, side_of, Enabled}
-use Rattle.event_walk.specs.declared.frames.Frame.{Frame}
-use Rattle.event_walk.specs.declared.frames.Ways.{Ways}
-use Rattle.event_walk.specs.Ready.{put_of}
+use Rattle.event_literals.specs.event_nodes.Nodes.{path_of}
+use Rattle.event_literals.specs.event_nodes.View.{EventCircuitView, side_of, Enabled}
+use Rattle.event_literals.specs.event_walk.declared.frames.Frame.{Frame}
+use Rattle.event_literals.specs.event_walk.declared.frames.Ways.{Ways}
+use Rattle.event_literals.specs.event_walk.Ready.{put_of}
 
 -- a latch drives the place's signal, and isn't the one that is read as a constant in the frame
 pub record IsOpenPlace (e : EventCircuitView) (frames : List Frame) (p : ℕ × ℕ) : Type 0 where

@@ -5,9 +5,9 @@ use Rattle.std.proofs.lemmas.List.{map-append}
 use Rattle.std.proofs.lemmas.List.Elements.{All-push}
 use Rattle.circuit_theory.specs.Cover.{Cover}
 use Rattle.circuit_theory.specs.Interface.{◌or_else◌}
-use Rattle.sec_base.specs.Table.{is_among}
-use Rattle.sec_base.specs.declared.basics.Edge.{Edge}
-use Rattle.sec_base.specs.declared.basics.Init.{Init}
+use Rattle.blif_read.specs.sec_base.Table.{is_among}
+use Rattle.blif_read.specs.sec_base.declared.basics.Edge.{Edge}
+use Rattle.blif_read.specs.sec_base.declared.basics.Init.{Init}
 use Rattle.blif_read.specs.declared.design.BlifModel.{BlifModel}
 use Rattle.blif_read.specs.declared.design.Pair.{Pair}
 use Rattle.blif_read.specs.declared.design.Statement.{Statement}

@@ -5,9 +5,9 @@ use Rattle.std.proofs.lemmas.Bool.{and_parts, and_from}
 use Rattle.std.proofs.lemmas.List.{map-append, take_more}
 use Rattle.std.proofs.lemmas.List.Folds.{list_all-append}
 use Rattle.std.proofs.lemmas.Option.{slice_get_within}
-use Rattle.sec_base.specs.Table.{is_among}
-use Rattle.sec_base.specs.declared.basics.Edge.{Edge}
-use Rattle.sec_base.specs.declared.basics.Init.{Init}
+use Rattle.blif_read.specs.sec_base.Table.{is_among}
+use Rattle.blif_read.specs.sec_base.declared.basics.Edge.{Edge}
+use Rattle.blif_read.specs.sec_base.declared.basics.Init.{Init}
 use Rattle.blif_read.specs.declared.design.BlifModel.{BlifModel}
 use Rattle.blif_read.specs.declared.design.Pair.{Pair}
 use Rattle.elaborate.specs.declared.flat.FlatStatement.{FlatStatement}

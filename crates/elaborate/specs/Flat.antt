@@ -4,9 +4,9 @@ use Rattle.std.specs.List.{filter, filter_map}
 use Rattle.circuit_theory.specs.Cover.{Cover}
 use Rattle.circuit_theory.specs.Circuit.{Circuit, Equation, Gate, Port, Named, Started}
 use Rattle.circuit_theory.specs.Circuit.{Latch as Register}
-use Rattle.sec_base.specs.declared.basics.Edge.{Edge}
-use Rattle.sec_base.specs.declared.basics.Init.{Init}
-use Rattle.sec_base.specs.declared.basics.Init.TheVariants as init
+use Rattle.blif_read.specs.sec_base.declared.basics.Edge.{Edge}
+use Rattle.blif_read.specs.sec_base.declared.basics.Init.{Init}
+use Rattle.blif_read.specs.sec_base.declared.basics.Init.TheVariants as init
 use Rattle.blif_read.specs.declared.design.BlifModel.{BlifModel}
 use Rattle.blif_read.specs.declared.design.Statement.{Statement}
 use Rattle.blif_read.specs.declared.design.Statement.TheVariants.{Names, Latch, Subckt}

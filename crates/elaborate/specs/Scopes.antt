@@ -2,8 +2,8 @@
 use Rattle.std.specs.Prelude.{◌≡◌, ℕ, ◌-◌, ◌<◌, ◌&&◌, nat_lt, ◌+◌, Bool, All, List, [], ◌∷◌, ◌++◌, map, length, Option, Some, None, slice_get}
 use Rattle.std.specs.Fmt.{decimal}
 use Rattle.std.specs.List.{list_any}
-use Rattle.sec_base.specs.declared.limits.TheConstants.{MAX_NAME_BYTES}
-use Rattle.sec_base.specs.Table.{is_among}
+use Rattle.blif_read.specs.sec_base.declared.limits.TheConstants.{MAX_NAME_BYTES}
+use Rattle.blif_read.specs.sec_base.Table.{is_among}
 use Rattle.blif_read.specs.declared.design.BlifModel.{BlifModel}
 use Rattle.blif_read.specs.declared.design.Statement.{Statement}
 use Rattle.blif_read.specs.declared.design.Pair.{Pair}

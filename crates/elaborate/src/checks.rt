@@ -2,7 +2,7 @@
 
 ghost use Rattle.std.specs.Prelude.{◌≡◌, ◌≢◌, ◌<◌, ◌||◌, List, [], ◌∷◌, ◌++◌, length, map, slice_get, None, Some, IfOk, IfErr, OnOk};
 ghost use Rattle.std.specs.List.{list_any};
-ghost use Rattle.sec_base.specs.Table.{is_among};
+ghost use Rattle.blif_read.specs.sec_base.Table.{is_among};
 ghost use Rattle.blif_read.specs.Kept.{model_names};
 ghost use Rattle.blif_read.specs.declared.design.Pair.{Pair};
 ghost use Rattle.blif_read.specs.Design.{model_named};
@@ -13,8 +13,7 @@ ghost use Rattle.elaborate.specs.Scopes.{path_of, instance_at, IsScope, IsInside
 use crate::error::FlatError;
 use crate::scope::Scope;
 use crate::tables::{Formals, Tables};
-use blif_read::{BlifModel, Pair};
-use sec_base::{MAX_LEVELS, MAX_NAME_BYTES, NameTable, NoMemory, Seq, Word};
+use blif_read::{BlifModel, MAX_LEVELS, MAX_NAME_BYTES, NameTable, NoMemory, Pair, Seq, Word};
 use std::alloc::Global;
 
 /// The most steps from the main model, which stands on the first level.

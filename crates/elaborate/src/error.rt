@@ -3,7 +3,7 @@
 ghost use Rattle.std.specs.Prelude.{◌≡◌};
 ghost use Rattle.elaborate.specs.declared.error.FlatError.TheVariants as flat;
 
-use sec_base::{NoMemory, Word, Words};
+use blif_read::{NoMemory, Word, Words};
 use std::alloc::{AllocError, AllocFailed};
 
 /// Why a design is no sound circuit. Names of signals are flat names: `m#k#` stands before a name for each instance

@@ -2,11 +2,11 @@
 
 ghost use Rattle.std.specs.Prelude.{◌≡◌, ◌<◌, ◌≤◌, length, slice_get, true, Some, All};
 ghost use Rattle.std.specs.List.{list_all, sum_by};
-ghost use Rattle.sec_base.specs.declared.limits.TheConstants.{MAX_PLACES, MAX_STATEMENTS};
-ghost use Rattle.sec_base.specs.Table.{AreDistinct};
+ghost use Rattle.blif_read.specs.sec_base.declared.limits.TheConstants.{MAX_PLACES, MAX_STATEMENTS};
+ghost use Rattle.blif_read.specs.sec_base.Table.{AreDistinct};
 ghost use Rattle.elaborate.specs.Within.{is_within, reads_as_kind, written_places};
 
-use sec_base::{Duplicate, Edge, Ids, Init, NameTable, NoMemory, Seq};
+use blif_read::{Duplicate, Edge, Ids, Init, NameTable, NoMemory, Seq};
 use std::alloc::Global;
 
 /// What a flat statement is.

@@ -20,8 +20,10 @@ use crate::numbers::numbers;
 use crate::scope::Scope;
 use crate::tables::{Tables, tables_of};
 use crate::walked::Walked;
-use blif_read::{BlifModel, Design, Pair, Statement};
-use sec_base::{Ids, MAX_PLACES, MAX_STATEMENTS, NameTable, NoMemory, Seq, Word};
+use blif_read::{
+    BlifModel, Design, Ids, MAX_PLACES, MAX_STATEMENTS, NameTable, NoMemory, Pair, Seq, Statement,
+    Word,
+};
 use std::alloc::Global;
 use std::mem;
 

@@ -3,7 +3,7 @@
 ghost use Rattle.std.specs.Prelude.{◌≡◌, ◌++◌, map, slice_get, option_map, Some, IfOk, OnOk};
 ghost use Rattle.elaborate.specs.State.{Keeps, AreNamed};
 
-use sec_base::{Ids, NameTable, NoMemory, Seq, Word, put};
+use blif_read::{Ids, NameTable, NoMemory, Seq, Word, put};
 use std::alloc::Global;
 
 /// The number of the name behind the prefix. A new name goes last.

@@ -4,7 +4,7 @@ ghost use Rattle.std.specs.Prelude.{◌≡◌, ◌==◌, ◌||◌, ◌++◌, [],
 ghost use Rattle.std.specs.List.{list_any};
 ghost use Rattle.std.specs.Fmt.{decimal};
 
-use sec_base::{NoMemory, Seq, Word, put, put_number};
+use blif_read::{NoMemory, Seq, Word, put, put_number};
 use std::alloc::Global;
 
 /// A step into an instance: the number of its model, and its number among the instances of the model around it.

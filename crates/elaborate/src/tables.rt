@@ -2,13 +2,12 @@
 
 ghost use Rattle.std.specs.Prelude.{◌≡◌, ◌||◌, ℕ, false, List, [], IfOk, OnOk};
 ghost use Rattle.std.specs.List.{list_any};
-ghost use Rattle.sec_base.specs.Table.{is_among};
+ghost use Rattle.blif_read.specs.sec_base.Table.{is_among};
 ghost use Rattle.blif_read.specs.Kept.{model_names};
 ghost use Rattle.blif_read.specs.Fault.{repeats};
 ghost use Rattle.elaborate.specs.Scopes.{AreFormals, AreTables, is_long_behind, exceeds};
 
-use blif_read::BlifModel;
-use sec_base::{NameTable, NoMemory, Word};
+use blif_read::{BlifModel, NameTable, NoMemory, Word};
 use std::alloc::Global;
 
 /// The ports of a model.

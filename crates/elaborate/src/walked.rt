@@ -13,8 +13,7 @@ use crate::checks::{are_long, is_long};
 use crate::error::FlatError;
 use crate::flat::{FlatKind, FlatStatement, FlatStatements};
 use crate::numbers::{number, number_of_option, numbers};
-use blif_read::Pair;
-use sec_base::{Edge, Init, MAX_PLACES, MAX_STATEMENTS, NameTable, NoMemory, Seq, Word};
+use blif_read::{Edge, Init, MAX_PLACES, MAX_STATEMENTS, NameTable, NoMemory, Pair, Seq, Word};
 use std::alloc::Global;
 
 /// The flat statements so far with the names of their signals, and how many statements and places were counted.

@@ -7,12 +7,12 @@ use Rattle.circuit_theory.specs.Joined.{Either, Left, Right, joined, beside, mov
 use Rattle.circuit_theory.specs.Tree.{AreNumbered, StandsBeside, IsInputNumber}
 use Rattle.circuit_laws.proofs.JoinedParts.{meets_both}
 use Rattle.circuit_laws.proofs.NetLaws.{net_value, net_value-extends}
-use Rattle.event_laws.proofs.ExposedEvents.{exposed_event_functions_agree_in_nets}
-use Rattle.flat_net.specs.Cut.{IsCutCircuit}
-use Rattle.flat_net.specs.View.{circuit_of}
-use Rattle.flat_net.proofs.Nets.{sound_is_net}
-use Rattle.event_nodes.specs.Nodes.{EventGraphView}
-use Rattle.event_nodes.specs.View.{EventCircuitView}
+use Rattle.class_queries.proofs.event_laws.ExposedEvents.{exposed_event_functions_agree_in_nets}
+use Rattle.class_search.specs.flat_net.Cut.{IsCutCircuit}
+use Rattle.class_search.specs.flat_net.View.{circuit_of}
+use Rattle.class_search.proofs.flat_net.Nets.{sound_is_net}
+use Rattle.class_search.specs.event_nodes.Nodes.{EventGraphView}
+use Rattle.class_search.specs.event_nodes.View.{EventCircuitView}
 use Rattle.class_queries.specs.Enables.{both_of, class_map}
 use Rattle.class_queries.specs.Laws.{AreKept}
 use Rattle.class_queries.proofs.Meaning.{numbered}

@@ -9,12 +9,12 @@ use Rattle.circuit_theory.specs.Query.{Variable}
 use Rattle.circuit_theory.proofs.Inputs.{test_same, test_refl, same_name-sound}
 use Rattle.circuit_theory.proofs.Lists.{length-map}
 use Rattle.circuit_theory.proofs.Numbers.{same_name-refl}
-use Rattle.event_theory.specs.EventFrames.{frame_of}
-use Rattle.event_nodes.specs.Nodes.{EventGraphView, IsEventGraph, named_places, path_of}
-use Rattle.event_variables.specs.Variables.{variable_of, variables_of}
-use Rattle.event_variables.proofs.Named.{named_distinct}
-use Rattle.edbf_unfold.specs.Laws.{TakesFrame}
-use Rattle.pair_decide.specs.Queries.{assigned_to}
+use Rattle.circuit_theory.specs.EventFrames.{frame_of}
+use Rattle.class_search.specs.event_nodes.Nodes.{EventGraphView, IsEventGraph, named_places, path_of}
+use Rattle.class_search.specs.event_variables.Variables.{variable_of, variables_of}
+use Rattle.class_search.proofs.event_variables.Named.{named_distinct}
+use Rattle.class_queries.specs.edbf_unfold.Laws.{TakesFrame}
+use Rattle.class_search.specs.pair_decide.Queries.{assigned_to}
 
 module _ (w : EventGraphView) (is : IsEventGraph w) (v : ℕ) (p : ℕ × List ℕ) (at : slice_get (named_places w) v ≡ Some p) where
   module _ (u : ℕ) (below : u < length w.places) where

@@ -11,28 +11,28 @@ use Rattle.circuit_theory.specs.Query.{Variable, HasLeaf, bits_of}
 use Rattle.circuit_theory.specs.Run.{IsEnabled}
 use Rattle.circuit_theory.specs.Tree.{Tree, tree_value}
 use Rattle.circuit_theory.proofs.Lists.{All-from_each, Contains-map, Contains-map_from, length-map}
-use Rattle.event_theory.specs.EventFits.{HaveEqualEvents}
-use Rattle.event_theory.specs.EventFrames.{AreNodeVariables, IsPairTree, IsUnshownFrame, IsEventDifference, frame_of}
-use Rattle.event_theory.specs.EventQueries.{IsEventPairQuery}
-use Rattle.event_theory.specs.Frame.{EventSide, ConeLatches, HasCare, NodeBefore}
-use Rattle.aig.specs.declared.node.Lit.{Lit}
-use Rattle.aig.specs.Values.{value}
-use Rattle.aig.proofs.CoverMeaning.{value-and}
-use Rattle.aig.proofs.Growth.{IsAndOf-grows, Grows-length}
-use Rattle.event_nodes.specs.Nodes.{EventGraphView, IsEventGraph}
-use Rattle.event_variables.specs.Variables.{variable_of, variables_of, GoesBefore, AreInOrder, IsMergeOf}
-use Rattle.event_inputs.specs.Laws.{IsSignalTree}
-use Rattle.event_pairs.specs.SignalFunction.{SignalFunction}
-use Rattle.edbf_unfold.specs.Laws.{TakesFrame}
-use Rattle.enable_compare.specs.declared.compare.Enable.{Enable}
-use Rattle.enable_compare.specs.Comparing.{IsReadyEnable}
-use Rattle.enable_compare.proofs.Queries.{enables_query}
+use Rattle.circuit_theory.specs.EventFits.{HaveEqualEvents}
+use Rattle.circuit_theory.specs.EventFrames.{AreNodeVariables, IsPairTree, IsUnshownFrame, IsEventDifference, frame_of}
+use Rattle.circuit_theory.specs.EventQueries.{IsEventPairQuery}
+use Rattle.circuit_theory.specs.Frame.{EventSide, ConeLatches, HasCare, NodeBefore}
+use Rattle.class_search.specs.aig.declared.node.Lit.{Lit}
+use Rattle.class_search.specs.aig.Values.{value}
+use Rattle.class_search.proofs.aig.CoverMeaning.{value-and}
+use Rattle.class_search.proofs.aig.Growth.{IsAndOf-grows, Grows-length}
+use Rattle.class_search.specs.event_nodes.Nodes.{EventGraphView, IsEventGraph}
+use Rattle.class_search.specs.event_variables.Variables.{variable_of, variables_of, GoesBefore, AreInOrder, IsMergeOf}
+use Rattle.class_search.specs.event_variables.Laws.{IsSignalTree}
+use Rattle.event_functions.specs.declared.signals.SignalFunction.{SignalFunction}
+use Rattle.class_queries.specs.edbf_unfold.Laws.{TakesFrame}
+use Rattle.class_search.specs.declared.compare.Enable.{Enable}
+use Rattle.class_search.specs.Comparing.{IsReadyEnable}
+use Rattle.class_search.proofs.Queries.{enables_query}
 use Rattle.class_queries.proofs.Frames.{assignment_of, takes_frame}
-use Rattle.event_pairs.specs.Functions.{IsEventFunction}
-use Rattle.event_pairs.proofs.Growing.{function_later, ordered_later, value_of_tree}
-use Rattle.pair_decide.specs.declared.query.Query.{Query}
-use Rattle.pair_decide.specs.Answers.{IsDifference}
-use Rattle.pair_decide.specs.Queries.{IsQuery, IsSame, IsLeast, Distinguishes, assigned_to}
+use Rattle.event_agreement.specs.event_pairs.Functions.{IsEventFunction}
+use Rattle.event_agreement.proofs.event_pairs.Growing.{function_later, ordered_later, value_of_tree}
+use Rattle.class_search.specs.pair_decide.declared.query.Query.{Query}
+use Rattle.class_search.specs.pair_decide.Answers.{IsDifference}
+use Rattle.class_search.specs.pair_decide.Queries.{IsQuery, IsSame, IsLeast, Distinguishes, assigned_to}
 use Rattle.event_agreement.specs.Queries.{AsksEventPair}
 use Rattle.event_agreement.specs.Laws.{PairsAreQueries, PairQueriesGrow, SameIsEqualEvents, DifferenceIsFrame, DifferenceIsLeast, IsFrameDifference}
 use Rattle.event_agreement.proofs.FrameBits.{bits_take_frame}

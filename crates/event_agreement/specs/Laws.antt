@@ -9,21 +9,21 @@ use Rattle.circuit_theory.specs.Net.{IsNet, HasDistinctNames}
 use Rattle.circuit_theory.specs.Query as frame_query
 use Rattle.circuit_theory.specs.Run.{IsEnabled}
 use Rattle.circuit_theory.specs.Tree.{AreNumbered}
-use Rattle.event_theory.specs.Classes.{HasClasses}
-use Rattle.event_theory.specs.EventFits.{HaveEqualEvents}
-use Rattle.event_theory.specs.EventFrames.{IsUnshownFrame, IsEventDifference, frame_of}
-use Rattle.event_theory.specs.Frame.{EventSide}
-use Rattle.flat_net.specs.Cut.{IsCutCircuit}
-use Rattle.flat_net.specs.View.{circuit_of}
-use Rattle.aig.specs.Values.{value}
-use Rattle.event_nodes.specs.Nodes.{EventGraphView, IsEventGraph, GrowsEvents}
-use Rattle.event_nodes.specs.View.{EventCircuitView}
-use Rattle.event_variables.specs.Variables.{variables_of}
+use Rattle.circuit_theory.specs.Classes.{HasClasses}
+use Rattle.circuit_theory.specs.EventFits.{HaveEqualEvents}
+use Rattle.circuit_theory.specs.EventFrames.{IsUnshownFrame, IsEventDifference, frame_of}
+use Rattle.circuit_theory.specs.Frame.{EventSide}
+use Rattle.class_search.specs.flat_net.Cut.{IsCutCircuit}
+use Rattle.class_search.specs.flat_net.View.{circuit_of}
+use Rattle.class_search.specs.aig.Values.{value}
+use Rattle.class_search.specs.event_nodes.Nodes.{EventGraphView, IsEventGraph, GrowsEvents}
+use Rattle.class_search.specs.event_nodes.View.{EventCircuitView}
+use Rattle.class_search.specs.event_variables.Variables.{variables_of}
 use Rattle.class_queries.specs.Enables.{both_of}
 use Rattle.class_queries.specs.Laws.{AreKept}
-use Rattle.pair_decide.specs.declared.query.Query.{Query}
-use Rattle.pair_decide.specs.Answers.{IsDifference}
-use Rattle.pair_decide.specs.Queries.{IsQuery, IsSame, assigned_to}
+use Rattle.class_search.specs.pair_decide.declared.query.Query.{Query}
+use Rattle.class_search.specs.pair_decide.Answers.{IsDifference}
+use Rattle.class_search.specs.pair_decide.Queries.{IsQuery, IsSame, assigned_to}
 use Rattle.event_agreement.specs.Queries.{AsksEventPair}
 
 -- The query of a pair is one over the event graph.

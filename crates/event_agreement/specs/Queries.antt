@@ -1,12 +1,12 @@
 -- The query of a pair in the event form.
 use Rattle.std.specs.Prelude.{◌≡◌, ◌*◌, ◌<◌, length}
-use Rattle.event_theory.specs.Frame.{EventSide}
-use Rattle.aig.specs.Rules.{IsAndOf}
-use Rattle.event_nodes.specs.Nodes.{EventGraphView}
-use Rattle.event_variables.specs.Variables.{IsMergeOf}
-use Rattle.event_pairs.specs.SignalFunction.{SignalFunction}
-use Rattle.event_pairs.specs.Functions.{IsEventFunction}
-use Rattle.pair_decide.specs.declared.query.Query.{Query}
+use Rattle.circuit_theory.specs.Frame.{EventSide}
+use Rattle.class_search.specs.aig.Rules.{IsAndOf}
+use Rattle.class_search.specs.event_nodes.Nodes.{EventGraphView}
+use Rattle.class_search.specs.event_variables.Variables.{IsMergeOf}
+use Rattle.event_functions.specs.declared.signals.SignalFunction.{SignalFunction}
+use Rattle.event_agreement.specs.event_pairs.Functions.{IsEventFunction}
+use Rattle.class_search.specs.pair_decide.declared.query.Query.{Query}
 
 -- do the event functions of both places agree wherever both have care? Over the variables of either.
 pub record AsksEventPair {P : Type 0} (s : EventSide P) (w : EventGraphView) (p q : P) (query : Query) : Type 0 where

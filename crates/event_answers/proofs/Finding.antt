@@ -3,11 +3,11 @@ use Rattle.std.proofs.Common.{◌≡◌, ◌∙◌, ◌≤◌, ℕ, List, length
 use Rattle.circuit_theory.proofs.Lists.{length-map}
 use Rattle.flat_net.specs.View.{circuit_of, named}
 use Rattle.interface.specs.declared.pairs.SignalPair.{SignalPair}
-use Rattle.class_events.specs.Made.{AreEnablesCounted}
+use Rattle.event_comparison.specs.class_events.Made.{AreEnablesCounted}
 use Rattle.class_queries.specs.Laws.{AreKept}
-use Rattle.pair_events.specs.View.{EventsView, IsEvents}
-use Rattle.pair_events.specs.Within.{IsCountedOnce}
-use Rattle.event_setup_laws.specs.Counted.{AreRefused, ArePairsCounted}
+use Rattle.event_comparison.specs.pair_events.View.{EventsView, IsEvents}
+use Rattle.event_comparison.specs.pair_events.Within.{IsCountedOnce}
+use Rattle.event_comparison.specs.Counted.{AreRefused, ArePairsCounted}
 use Rattle.event_names.specs.EventFormError.{EventFormError}
 use Rattle.event_names.specs.EventFormError.TheVariants as form_error
 use Rattle.event_names.proofs.Counting.{count_is, map_made, pairs_within, refused_large, refused_many}

@@ -3,3 +3,6 @@ pub mod Refusals
 pub mod Finding
 pub mod Told
 pub use Rattle.event_names.proofs.Naming
+pub mod Agreeing
+pub mod Comparing
+pub mod Whole

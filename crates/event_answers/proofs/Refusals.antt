@@ -8,18 +8,18 @@ use Rattle.sec_setup.specs.declared.error.SetupError.{SetupError}
 use Rattle.sec_setup.specs.declared.error.SetupError.TheVariants as unset
 use Rattle.sec_setup.specs.Matching.{InterfacesMatch}
 use Rattle.outcome.specs.declared.verdict.LimitAt.{LimitAt}
-use Rattle.class_events.specs.EventError.{EventError}
-use Rattle.class_events.specs.EventError.TheVariants as event_error
-use Rattle.class_events.specs.Refused.{IsRefusedMap}
+use Rattle.event_comparison.specs.class_events.EventError.{EventError}
+use Rattle.event_comparison.specs.class_events.EventError.TheVariants as event_error
+use Rattle.event_comparison.specs.class_events.Refused.{IsRefusedMap}
 use Rattle.event_nodes.specs.View.{EventCircuitView}
-use Rattle.event_setup.specs.declared.error.RecoveryError.{RecoveryError}
-use Rattle.event_setup.specs.declared.error.RecoveryError.TheVariants as unknown
-use Rattle.event_setup.specs.declared.setup.EventSetup.{EventSetup}
-use Rattle.event_setup.specs.Choosing.{RefusesCycle}
-use Rattle.event_setup.specs.Recovered.{AreKnown, RecoversBoth}
-use Rattle.compare_base.specs.declared.error.CompareError.{CompareError}
-use Rattle.compare_base.specs.declared.error.CompareError.TheVariants as refused
-use Rattle.compare_base.specs.Compared.{refusal_of}
+use Rattle.event_names.specs.event_setup.declared.error.RecoveryError.{RecoveryError}
+use Rattle.event_names.specs.event_setup.declared.error.RecoveryError.TheVariants as unknown
+use Rattle.event_names.specs.event_setup.declared.setup.EventSetup.{EventSetup}
+use Rattle.event_names.specs.event_setup.Choosing.{RefusesCycle}
+use Rattle.event_names.specs.event_setup.Recovered.{AreKnown, RecoversBoth}
+use Rattle.event_names.specs.compare_base.declared.error.CompareError.{CompareError}
+use Rattle.event_names.specs.compare_base.declared.error.CompareError.TheVariants as refused
+use Rattle.event_names.specs.compare_base.Compared.{refusal_of}
 use Rattle.event_names.specs.Circuits.{AreReached}
 use Rattle.event_names.specs.Compared.{ComparedInEvents}
 use Rattle.event_names.specs.Named.{latch_names}

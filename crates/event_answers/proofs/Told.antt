@@ -9,7 +9,7 @@ use Rattle.outcome.specs.declared.verdict.Verdict.TheVariants as verdict
 use Rattle.sec_base.specs.declared.settings.Settings.{Settings}
 use Rattle.sec_setup.specs.Cuts.{columns_of}
 use Rattle.event_names.specs.Named.{latch_names, NamesVerdict}
-use Rattle.event_setup_laws.specs.EventFindings.{EventFindings}
+use Rattle.event_comparison.specs.EventFindings.{EventFindings}
 use Rattle.event_answers.specs.Reached.{AreClassed}
 use Rattle.event_answers.specs.declared.reaching.Classed.{Classed}
 use Rattle.event_answers.specs.declared.outcomes.Found.{Found}

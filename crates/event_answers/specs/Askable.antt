@@ -2,9 +2,9 @@
 use Rattle.std.specs.Prelude.{◌≡◌, All}
 use Rattle.interface.specs.Pairs.{ArePairsOf}
 use Rattle.sec_setup.specs.Setup.{AreColumns}
-use Rattle.pair_events.specs.View.{EventsView}
-use Rattle.event_setup_laws.specs.Compared.{AreCompared}
-use Rattle.event_setup_laws.specs.EventPairs.{EventPairs}
+use Rattle.event_comparison.specs.pair_events.View.{EventsView}
+use Rattle.event_comparison.specs.Compared.{AreCompared}
+use Rattle.event_comparison.specs.EventPairs.{EventPairs}
 use Rattle.event_names.specs.Asked.{IsPairOf}
 use Rattle.event_names.specs.Named.{latch_names}
 use Rattle.event_names.specs.declared.names.Names.{Names}

@@ -1,12 +1,12 @@
 -- What is found of the pairs of two circuits with their class map, or why they can't be unfolded.
 use Rattle.std.specs.Prelude.{◌≡◌, ℕ, List}
-use Rattle.event_theory.specs.Classes.{classes_of}
+use Rattle.circuit_theory.specs.Classes.{classes_of}
 use Rattle.interface.specs.declared.pairs.SignalPair.{SignalPair}
 use Rattle.class_queries.specs.Enables.{both_of}
 use Rattle.event_nodes.specs.View.{EventCircuitView}
-use Rattle.event_setup_laws.specs.EventFindings.{EventFindings}
-use Rattle.compare_base.specs.declared.error.CompareError.{CompareError}
-use Rattle.compare_base.specs.declared.error.CompareError.TheVariants as refused
+use Rattle.event_comparison.specs.EventFindings.{EventFindings}
+use Rattle.event_names.specs.compare_base.declared.error.CompareError.{CompareError}
+use Rattle.event_names.specs.compare_base.declared.error.CompareError.TheVariants as refused
 use Rattle.event_names.specs.EventFormError.{EventFormError}
 use Rattle.event_names.specs.EventFormError.TheVariants as form_error
 use Rattle.event_names.specs.Named.{NamesVerdict}

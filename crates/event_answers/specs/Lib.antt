@@ -11,3 +11,10 @@ pub use Rattle.event_names.specs.Totals
 pub use Rattle.event_names.specs.Asked
 pub use Rattle.event_names.specs.Circuits
 pub use Rattle.event_names.specs.EventFormError
+pub use Rattle.event_comparison.specs.Counted
+pub mod Laws
+pub use Rattle.event_comparison.specs.Findings
+pub use Rattle.event_comparison.specs.EventFindings
+pub use Rattle.event_comparison.specs.EventPairs
+pub use Rattle.event_comparison.specs.class_events
+pub use Rattle.event_comparison.specs.pair_events

@@ -2,12 +2,12 @@
 use Rattle.std.specs.Prelude.{◌≡◌, Result, Ok, Err}
 use Rattle.outcome.specs.declared.verdict.LimitAt.{LimitAt}
 use Rattle.outcome.specs.declared.verdict.LimitAt.TheVariants as limit_at
-use Rattle.class_events.specs.EventError.{EventError}
-use Rattle.class_events.specs.EventError.TheVariants as event_error
-use Rattle.event_setup.specs.declared.error.RecoveryError.{RecoveryError}
-use Rattle.event_setup.specs.declared.error.RecoveryError.TheVariants as unknown
-use Rattle.compare_base.specs.declared.error.CompareError.{CompareError}
-use Rattle.compare_base.specs.declared.error.CompareError.TheVariants as refused
+use Rattle.event_comparison.specs.class_events.EventError.{EventError}
+use Rattle.event_comparison.specs.class_events.EventError.TheVariants as event_error
+use Rattle.event_names.specs.event_setup.declared.error.RecoveryError.{RecoveryError}
+use Rattle.event_names.specs.event_setup.declared.error.RecoveryError.TheVariants as unknown
+use Rattle.event_names.specs.compare_base.declared.error.CompareError.{CompareError}
+use Rattle.event_names.specs.compare_base.declared.error.CompareError.TheVariants as refused
 use Rattle.event_names.specs.Fitting.{class_limit}
 use Rattle.event_names.specs.Nameable.{IsLatchIn, IsOtherIn}
 use Rattle.event_names.specs.declared.names.Names.{Names}

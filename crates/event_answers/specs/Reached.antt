@@ -7,9 +7,9 @@ use Rattle.sec_setup.specs.Cuts.{columns_of, is_cut}
 use Rattle.outcome.specs.declared.verdict.LimitAt.{LimitAt}
 use Rattle.outcome.specs.declared.verdict.Outcome.{Outcome}
 use Rattle.outcome.specs.declared.verdict.Verdict.TheVariants as verdict
-use Rattle.class_events.specs.Made.{AreEnablesCounted}
-use Rattle.class_events.specs.Separated.{AreSeparated}
-use Rattle.compare_base.specs.declared.error.CompareError.{CompareError}
+use Rattle.event_comparison.specs.class_events.Made.{AreEnablesCounted}
+use Rattle.event_comparison.specs.class_events.Separated.{AreSeparated}
+use Rattle.event_names.specs.compare_base.declared.error.CompareError.{CompareError}
 use Rattle.event_names.specs.Circuits.{AreReached}
 use Rattle.event_names.specs.Compared.{ComparedInEvents}
 use Rattle.event_names.specs.Fitting.{IsUnclassed, IsUnrecovered}

@@ -2,10 +2,8 @@
 
 ghost use Rattle.event_answers.specs.Limits.{CanTell, TellsLimit, TellsUnknown};
 
-use class_events::EventError;
-use compare_base::CompareError;
-use event_names::{Names, named_latch, named_other};
-use event_setup::RecoveryError;
+use event_comparison::EventError;
+use event_names::{CompareError, Names, RecoveryError, named_latch, named_other};
 use outcome::LimitAt;
 
 /// The limit where it isn't known which latches are enabled, or the refusal.

@@ -5,8 +5,8 @@ ghost use Rattle.outcome.specs.declared.verdict.Verdict.TheVariants as verdict;
 ghost use Rattle.event_names.specs.Nameable.{CanBeNamed};
 ghost use Rattle.event_answers.specs.Finding.{IsNamedFound};
 
+use event_comparison::EventFindings;
 use event_names::{Names, named_verdict};
-use event_setup_laws::EventFindings;
 use flat_net::Net;
 use outcome::{LimitAt, Outcome, PairResults, Verdict};
 use sec_base::{NoMemory, Word, Words};

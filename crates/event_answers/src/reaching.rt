@@ -5,15 +5,15 @@ ghost use Rattle.circuit_theory.specs.Interface.{shared_inputs};
 ghost use Rattle.flat_net.specs.Comparable.{IsComparable};
 ghost use Rattle.flat_net.specs.View.{ports_of};
 ghost use Rattle.sec_setup.specs.Matching.{InterfacesMatch};
-ghost use Rattle.event_setup.specs.Recovered.{AreBothMarked, AreKnown};
-ghost use Rattle.event_setup.specs.Setup.{IsEventSetupOf};
+ghost use Rattle.event_names.specs.event_setup.Recovered.{AreBothMarked, AreKnown};
+ghost use Rattle.event_names.specs.event_setup.Setup.{IsEventSetupOf};
 ghost use Rattle.event_answers.specs.Reached.{ReachesPairs};
 
 use crate::limits::{unclassed, unrecovered};
-use class_events::{Separated, events_of};
-use compare_base::CompareError;
-use event_names::{Names, latch_names};
-use event_setup::{EnabledLatches, EventSetup, recover_both, set_up_events};
+use event_comparison::{Separated, events_of};
+use event_names::{
+    CompareError, EnabledLatches, EventSetup, Names, latch_names, recover_both, set_up_events,
+};
 use flat_net::Net;
 use interface::SignalPairs;
 use outcome::{LimitAt, Settings};

@@ -18,18 +18,18 @@ use Rattle.outcome.specs.declared.verdict.LimitAt.TheVariants as limit_at
 use Rattle.outcome.specs.declared.verdict.Outcome.{Outcome}
 use Rattle.sec_setup.specs.Matching.{InterfacesMatch}
 use Rattle.class_queries.specs.Enables.{both_of}
-use Rattle.event_setup_laws.specs.EventPairs.{EventPairs}
+use Rattle.event_answers.specs.EventPairs.{EventPairs}
 use Rattle.event_nodes.specs.View.{EventCircuitView}
 use Rattle.assume_laws.specs.Assume.{Assumption, ReadsInputs}
-use Rattle.assume_premise.specs.Assumed.{CanBeAssumed, IsAssumedBy}
-use Rattle.assume_premise.specs.declared.premise.Premise.{Premise}
-use Rattle.assume_sequences.specs.Filled.{bit_of}
-use Rattle.assume_taken.specs.Premises.{IsPremiseOf}
-use Rattle.assume_taken.specs.Taken.{assumed_by, IsUndecidedBy}
-use Rattle.assume_taken.proofs.Premises.{is_assumed, can_be_assumed}
-use Rattle.event_under.specs.Places.{IsLightAtNodes}
-use Rattle.under_base.specs.Met.{shared_by, IsMet, IsAssumptionLimit}
-use Rattle.under_base.proofs.Reading.{reads_cut}
+use Rattle.event_meaning_under.specs.assume_sequences.Assumed.{CanBeAssumed, IsAssumedBy}
+use Rattle.event_meaning_under.specs.assume_sequences.declared.premise.Premise.{Premise}
+use Rattle.event_meaning_under.specs.assume_sequences.Filled.{bit_of}
+use Rattle.event_meaning_under.specs.assume_taken.Premises.{IsPremiseOf}
+use Rattle.event_meaning_under.specs.assume_taken.Taken.{assumed_by, IsUndecidedBy}
+use Rattle.event_meaning_under.proofs.assume_taken.Premises.{is_assumed, can_be_assumed}
+use Rattle.event_meaning_under.specs.event_under.Places.{IsLightAtNodes}
+use Rattle.event_meaning_under.specs.under_base.Met.{shared_by, IsMet, IsAssumptionLimit}
+use Rattle.event_meaning_under.proofs.under_base.Reading.{reads_cut}
 use Rattle.event_answers.specs.Askable.{IsAskedBy}
 use Rattle.event_answers.specs.Circuits.{AreNets}
 use Rattle.event_answers.specs.Fitting.{IsUnclassed, IsUnrecovered}

@@ -5,19 +5,19 @@ use Rattle.sec_base.specs.declared.settings.Settings.{Settings}
 use Rattle.sec_setup.specs.declared.error.SetupError.{SetupError}
 use Rattle.sec_setup.specs.declared.error.SetupError.TheVariants as unset
 use Rattle.sec_setup.specs.Matching.{InterfacesMatch, InterfaceFails as NoMatch}
-use Rattle.assume_premise.specs.declared.premise.Premise.{Premise}
+use Rattle.event_meaning_under.specs.assume_sequences.declared.premise.Premise.{Premise}
 use Rattle.assume_shape.specs.declared.shape.ShapeFault.{ShapeFault}
 use Rattle.assume_shape.specs.declared.shape.ShapeFault.TheVariants as shape_fault
-use Rattle.assume_taken.specs.declared.error.TakeError.{TakeError}
-use Rattle.assume_taken.specs.declared.error.TakeError.TheVariants as untaken
-use Rattle.assume_taken.specs.Premises.{IsTaken}
+use Rattle.event_meaning_under.specs.assume_taken.declared.error.TakeError.{TakeError}
+use Rattle.event_meaning_under.specs.assume_taken.declared.error.TakeError.TheVariants as untaken
+use Rattle.event_meaning_under.specs.assume_taken.Premises.{IsTaken}
 use Rattle.class_queries.specs.Enables.{both_of}
-use Rattle.compare_base.specs.declared.error.CompareError.{CompareError}
-use Rattle.compare_base.specs.declared.error.CompareError.TheVariants as refused
-use Rattle.compare_base.specs.Compared.{refusal_of as refusal_of_setup}
-use Rattle.event_under.specs.Places.{IsOverAtNodes}
-use Rattle.under_base.specs.Met.{shared_by, IsMet}
-use Rattle.under_base.specs.Refusals.{refusal_of}
+use Rattle.event_meaning_under.specs.compare_base.declared.error.CompareError.{CompareError}
+use Rattle.event_meaning_under.specs.compare_base.declared.error.CompareError.TheVariants as refused
+use Rattle.event_meaning_under.specs.compare_base.Compared.{refusal_of as refusal_of_setup}
+use Rattle.event_meaning_under.specs.event_under.Places.{IsOverAtNodes}
+use Rattle.event_meaning_under.specs.under_base.Met.{shared_by, IsMet}
+use Rattle.event_meaning_under.specs.under_base.Refusals.{refusal_of}
 use Rattle.event_answers.specs.Compared.{ComparedInEvents}
 use Rattle.event_answers.specs.Reached.{AreClassed}
 use Rattle.event_answers.specs.declared.reaching.Classed.{Classed}

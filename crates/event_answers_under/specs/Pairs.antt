@@ -2,17 +2,17 @@
 use Rattle.std.specs.Prelude.{◌≡◌, ℕ, List, length, Result, Ok, Err}
 use Rattle.flat_net.specs.View.{NetView}
 use Rattle.event_nodes.specs.View.{EventCircuitView}
-use Rattle.event_setup_laws.specs.EventFindings.{EventFindings}
-use Rattle.event_setup_laws.specs.EventPairs.{EventPairs}
+use Rattle.event_answers.specs.EventFindings.{EventFindings}
+use Rattle.event_answers.specs.EventPairs.{EventPairs}
 use Rattle.class_queries.specs.Enables.{both_of}
-use Rattle.assume_premise.specs.Assumed.{IsAssumedBy}
-use Rattle.assume_premise.specs.declared.premise.Premise.{Premise}
-use Rattle.assume_sequences.specs.Filled.{bit_of}
+use Rattle.event_meaning_under.specs.assume_sequences.Assumed.{IsAssumedBy}
+use Rattle.event_meaning_under.specs.assume_sequences.declared.premise.Premise.{Premise}
+use Rattle.event_meaning_under.specs.assume_sequences.Filled.{bit_of}
 use Rattle.assume_shape.specs.Shape.{assumption_of}
 use Rattle.assume_shape.specs.declared.shape.ShapeFault.{ShapeFault}
 use Rattle.assume_shape.specs.declared.shape.ShapeFault.TheVariants as fault
-use Rattle.compare_base.specs.declared.error.CompareError.{CompareError}
-use Rattle.compare_base.specs.declared.error.CompareError.TheVariants as refused
+use Rattle.event_meaning_under.specs.compare_base.declared.error.CompareError.{CompareError}
+use Rattle.event_meaning_under.specs.compare_base.declared.error.CompareError.TheVariants as refused
 use Rattle.event_answers.specs.Askable.{IsAskedBy}
 use Rattle.event_answers.specs.Finding.{AreNotUnfolded, AreUnfolded}
 use Rattle.event_answers.specs.Named.{NamesVerdict}
@@ -20,8 +20,8 @@ use Rattle.event_answers.specs.Names.{Names}
 use Rattle.event_answers.specs.Totals.{IsMapMade}
 use Rattle.event_answers.specs.declared.outcomes.Found.{Found}
 use Rattle.event_answers.specs.declared.reaching.Asked.{Asked}
-use Rattle.event_under.specs.Places.{IsLightAtNodes}
-use Rattle.event_outcome_under.specs.Findings.{FindingsFitUnder}
+use Rattle.event_meaning_under.specs.event_under.Places.{IsLightAtNodes}
+use Rattle.event_meaning_under.specs.Findings.{FindingsFitUnder}
 use Rattle.event_meaning_under.specs.Heavy.{PairsAreOver}
 
 -- what is found of them fits the circuits under each assumption of the premise, which isn't too large for them, and all is within its numbers

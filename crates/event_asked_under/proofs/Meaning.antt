@@ -8,8 +8,8 @@ use Rattle.circuit_theory.specs.Joined.{Either}
 use Rattle.circuit_theory.specs.Query.{Variable, HasLeaf}
 use Rattle.circuit_theory.specs.Tree.{Tree}
 use Rattle.circuit_theory.proofs.Lists.{All-from_each, Contains-cases, Contains-head, Contains-map, Contains-map_from, Contains-tail, length-map, only}
-use Rattle.event_theory.specs.EventFrames.{AreNodeVariables, IsPairTree}
-use Rattle.event_theory.specs.Frame.{EventSide, NodeBefore}
+use Rattle.circuit_theory.specs.EventFrames.{AreNodeVariables, IsPairTree}
+use Rattle.circuit_theory.specs.Frame.{EventSide, NodeBefore}
 use Rattle.reset_laws.specs.Reset.{CycleBefore}
 use Rattle.aig.specs.declared.node.Lit.{Lit}
 use Rattle.aig.specs.declared.node.Node.{Node}
@@ -22,20 +22,20 @@ use Rattle.aig.proofs.CoverMeaning.{value-and}
 use Rattle.aig.proofs.Growth.{Builds-one, Grows-trans}
 use Rattle.aig.proofs.Meaning.{value-grows}
 use Rattle.graph_copy.proofs.Reaching.{input_back, reads_and}
-use Rattle.graph_clone.specs.Twins.{AreTwins, IsTwinOf, twin_in}
-use Rattle.graph_clone.proofs.Twins.{twin_grows, twin_there}
+use Rattle.graph_copy.specs.graph_clone.Twins.{AreTwins, IsTwinOf, twin_in}
+use Rattle.graph_copy.proofs.graph_clone.Twins.{twin_grows, twin_there}
 use Rattle.pair_decide.specs.declared.query.Query.{Query}
 use Rattle.pair_decide.specs.Queries.{IsQuery, roots_of}
 use Rattle.unfold_places.specs.Reach.{Adds}
-use Rattle.shift_variables.specs.Variables.{variable_of, variables_of}
-use Rattle.shift_variables.proofs.Reading.{pair_is}
+use Rattle.assume_queries.specs.shift_variables.Variables.{variable_of, variables_of}
+use Rattle.assume_queries.proofs.shift_variables.Reading.{pair_is}
 use Rattle.unfold_places.proofs.Lists.{pairs_map}
 use Rattle.query_places.specs.Places.{place_of}
 use Rattle.assume_laws.specs.Assume.{Assumption, RowMeets, HasVariableAtNode, HasCareUnder}
 use Rattle.assume_laws.specs.Sequences.{IsPairTreeUnder, IsSideTree}
 use Rattle.assume_laws.proofs.Meeting.{leaf_at}
-use Rattle.assume_answers.specs.declared.order.VariableOrder.TheVariants as order
-use Rattle.assume_answers.specs.Under.{IsUnder, MeetsAtEach, ReadsAtOne}
+use Rattle.assume_queries.specs.declared.assume_answers.order.VariableOrder.TheVariants as order
+use Rattle.assume_queries.specs.assume_answers.Under.{IsUnder, MeetsAtEach, ReadsAtOne}
 use Rattle.event_nodes.specs.Nodes.{EventGraphView, IsEventGraph, named_places, path_of}
 use Rattle.event_variables.specs.Variables as event_variables
 use Rattle.event_variables.proofs.Cones.{reached_one, reached_among}

@@ -5,8 +5,8 @@ use Rattle.std.proofs.lemmas.List.Elements.{All-contains}
 use Rattle.circuit_theory.specs.Joined.{Either}
 use Rattle.circuit_theory.specs.Query.{Variable}
 use Rattle.circuit_theory.proofs.Lists.{Contains-map, Contains-map_from}
-use Rattle.event_theory.specs.EventFrames.{AreNodeVariables, IsPairTree}
-use Rattle.event_theory.specs.Frame.{EventSide}
+use Rattle.circuit_theory.specs.EventFrames.{AreNodeVariables, IsPairTree}
+use Rattle.circuit_theory.specs.Frame.{EventSide}
 use Rattle.pair_decide.specs.declared.query.Query.{Query}
 use Rattle.unfold_places.specs.Reach.{Adds}
 use Rattle.query_places.specs.Places.{place_of}

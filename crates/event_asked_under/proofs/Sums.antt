@@ -4,7 +4,7 @@ use Rattle.std.specs.List.{AllPairs, AllZip, Contains, sum_by}
 use Rattle.std.proofs.lemmas.List.Sums.{sum_by-cons}
 use Rattle.circuit_theory.specs.Joined.{Either, Left, Right}
 use Rattle.circuit_theory.proofs.Lists.{Contains-map, Contains-map_from, at_of, of_at, length-map, zip_right}
-use Rattle.event_theory.specs.Frame.{EventSide}
+use Rattle.circuit_theory.specs.Frame.{EventSide}
 use Rattle.sec_base.specs.declared.limits.TheConstants.{MAX_WEIGHT}
 use Rattle.unfold_places.specs.Reach.{Adds}
 use Rattle.unfold_places.proofs.Lists.{pairs_map}
@@ -14,7 +14,7 @@ use Rattle.query_places.specs.Places.{place_of, ArePlacesOf}
 use Rattle.interface.specs.declared.pairs.SignalPair.{SignalPair}
 use Rattle.obligations.specs.declared.obligation.Obligation.{Obligation}
 use Rattle.obligations.specs.Asked.{queries_of}
-use Rattle.assume_places.specs.Gathered.{ArePlacesOfAll, IsOverUnder, IsLightUnder}
+use Rattle.assume_queries.specs.assume_places.Gathered.{ArePlacesOfAll, IsOverUnder, IsLightUnder}
 use Rattle.event_nodes.specs.Nodes.{EventGraphView, IsEventGraph}
 use Rattle.event_agreement.specs.Queries.{AsksEventPair}
 use Rattle.event_form.specs.Asked.{AreAsked}

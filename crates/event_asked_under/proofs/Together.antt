@@ -11,7 +11,7 @@ use Rattle.aig.specs.declared.node.Lit.{Lit}
 use Rattle.aig.specs.declared.node.Node.{Node}
 use Rattle.aig.specs.Graph.{IsGraph, Grows}
 use Rattle.aig.proofs.Growth.{Grows-length}
-use Rattle.graph_clone.specs.Twins.{AreTwins}
+use Rattle.graph_copy.specs.graph_clone.Twins.{AreTwins}
 use Rattle.pair_decide.specs.declared.query.Query.{Query}
 use Rattle.unfold_places.specs.Reach.{Adds}
 use Rattle.unfold_places.proofs.Zips.{zip_left}
@@ -19,9 +19,9 @@ use Rattle.obligations.specs.declared.obligation.Obligation.{Obligation}
 use Rattle.obligations.specs.Asked.{queries_of}
 use Rattle.interface.specs.declared.pairs.SignalPair.{SignalPair}
 use Rattle.assume_laws.specs.Assume.{Assumption}
-use Rattle.assume_answers.specs.declared.order.VariableOrder.TheVariants as order
-use Rattle.assume_answers.specs.Order.{AreOrdered}
-use Rattle.assume_answers.specs.Under.{IsUnder, IsObligationUnder}
+use Rattle.assume_queries.specs.declared.assume_answers.order.VariableOrder.TheVariants as order
+use Rattle.assume_queries.specs.assume_answers.Order.{AreOrdered}
+use Rattle.assume_queries.specs.assume_answers.Under.{IsUnder, IsObligationUnder}
 use Rattle.class_queries.specs.Enables.{both_of}
 use Rattle.class_queries.specs.Laws.{AreKept}
 use Rattle.event_nodes.specs.Nodes.{EventGraphView, IsEventGraph}

@@ -5,14 +5,14 @@ use Rattle.std.proofs.lemmas.Option.{slice_get-get_or, get_or_from_slice_get}
 use Rattle.circuit_theory.specs.Query.{Variable}
 use Rattle.circuit_theory.proofs.Lists.{map_at, length-map}
 use Rattle.circuit_theory.proofs.Numbers.{slice_get-map}
-use Rattle.event_theory.specs.Frame.{NodeBefore}
+use Rattle.circuit_theory.specs.Frame.{NodeBefore}
 use Rattle.flat_net.proofs.Places.{All-at}
 use Rattle.reset_laws.specs.Reset.{CycleBefore}
 use Rattle.unfold_places.specs.Growing.{TakesBits}
 use Rattle.unfold_places.specs.Reach.{Adds}
 use Rattle.unfold_places.proofs.Lists.{adds_at, adds_length}
-use Rattle.shift_variables.specs.Variables.{variable_of}
-use Rattle.shift_variables.proofs.Reading.{pair_is}
+use Rattle.assume_queries.specs.shift_variables.Variables.{variable_of}
+use Rattle.assume_queries.proofs.shift_variables.Reading.{pair_is}
 use Rattle.query_places.specs.Places.{place_of}
 use Rattle.edbf_unfold.specs.Laws.{TakesFrame}
 use Rattle.event_nodes.specs.Nodes.{EventGraphView, IsEventGraph, path_of}

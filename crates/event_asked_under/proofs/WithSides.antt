@@ -12,7 +12,7 @@ use Rattle.aig.proofs.Growth.{IsAndOf-grows, Grows-length, slice_get-append}
 use Rattle.aig.proofs.Literals.{flip-within}
 use Rattle.obligations.specs.declared.obligation.Obligation.{Obligation}
 use Rattle.pair_decide.specs.declared.query.Query.{Query}
-use Rattle.graph_clone.specs.Twins.{literal_by, twin_in}
+use Rattle.graph_copy.specs.graph_clone.Twins.{literal_by, twin_in}
 use Rattle.event_asked_under.specs.Sides.{HasSides, IsWithSides, AreWithSides}
 
 -- the literal for one of so many nodes is one of the graph

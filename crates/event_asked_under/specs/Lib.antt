@@ -1,2 +1,3 @@
 pub mod Questions
 pub mod Sides
+pub use Rattle.assume_queries.specs as assume_queries

@@ -5,7 +5,7 @@ use Rattle.aig.specs.declared.node.Node.{Node}
 use Rattle.aig.specs.Rules.{IsAndOf}
 use Rattle.obligations.specs.declared.obligation.Obligation.{Obligation}
 use Rattle.pair_decide.specs.declared.query.Query.{Query}
-use Rattle.graph_clone.specs.Twins.{twin_in}
+use Rattle.graph_copy.specs.graph_clone.Twins.{twin_in}
 
 -- it asks one query, whose literals are of so many nodes
 pub record HasOneWithin (count : ℕ) (o : Obligation) : Type 0 where

@@ -5,7 +5,7 @@ ghost use Rattle.aig.specs.Graph.{Grows};
 ghost use Rattle.event_asked_under.specs.Sides.{AreAligned, AreWithSides, HasOneWithin, HasOneCare, IsWithSides};
 
 use aig::{Aig, Lit};
-use graph_clone::literal_for;
+use graph_copy::graph_clone::literal_for;
 use obligations::{Obligation, Queries, copy_name};
 use pair_decide::Query;
 use sec_base::NoMemory;

@@ -4,19 +4,19 @@ use Rattle.std.specs.Prelude.{◌⊎◌, codes}
 use Rattle.std.specs.List.{Contains}
 use Rattle.circuit_theory.proofs.Lists.{Contains-tail}
 use Rattle.assume_shape.specs.declared.shape.ShapeFault.{ShapeFault}
-use Rattle.assume_rows.specs.SameInputs.{same, same_design, small_same}
-use Rattle.assume_rows.proofs.Meeting.{ones_meet}
-use Rattle.assume_rows.proofs.Shape.{no_fault, weighs_few}
-use Rattle.assume_rows.proofs.Spelled.{same_spells}
+use Rattle.event_assume_rows.specs.assume_rows.SameInputs.{same, same_design, small_same}
+use Rattle.event_assume_rows.proofs.assume_rows.Meeting.{ones_meet}
+use Rattle.event_assume_rows.proofs.assume_rows.Shape.{no_fault, weighs_few}
+use Rattle.event_assume_rows.proofs.assume_rows.Spelled.{same_spells}
 use Rattle.design_rows.specs.Small.{IsSmall}
 use Rattle.design_rows.proofs.Spelling.{accepted, net_is_small}
-use Rattle.event_outcome_under.specs.Heavy.{IsTooLargeForEvents}
-use Rattle.event_outcome_under.specs.Met.{shared_by}
-use Rattle.event_outcome_under.specs.Taken.{IsFirstFault}
+use Rattle.check_meaning.specs.event_meaning_under.Heavy.{IsTooLargeForEvents}
+use Rattle.check_meaning.specs.event_meaning_under.Met.{shared_by}
+use Rattle.check_meaning.specs.event_meaning_under.Taken.{IsFirstFault}
 use Rattle.event_premises.proofs.Comparing.{comparable_events}
 use Rattle.event_premises.proofs.LoadExamples.{no_cycles}
 use Rattle.event_premises.proofs.Nets.{accepted_text, flat_of, ports_match, shared_kept}
-use Rattle.event_texts.specs.Texts.{AreEventComparable}
+use Rattle.check_meaning.specs.event_texts.Texts.{AreEventComparable}
 use Rattle.flat_net.specs.View.{NetView}
 use Rattle.flatten.specs.DesignFaults.{IsFlatOf}
 use Rattle.sec_base.specs.declared.settings.Settings.{Settings}

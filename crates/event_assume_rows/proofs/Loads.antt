@@ -16,9 +16,9 @@ use Rattle.interface.specs.Pairs.{named_pairs, pair_called, places_of}
 use Rattle.assume_shape.specs.declared.shape.ShapeFault.{ShapeFault}
 use Rattle.assume_shape.specs.declared.shape.ShapeFault.TheVariants as fault
 use Rattle.class_queries.specs.Enables.{class_map}
-use Rattle.event_outcome_under.specs.Heavy.{IsTooLargeForEvents, PairsAreOver}
-use Rattle.event_outcome_under.specs.Met.{IsMet}
-use Rattle.event_texts.specs.Compared.{StopsAtPairs}
+use Rattle.check_meaning.specs.event_meaning_under.Heavy.{IsTooLargeForEvents, PairsAreOver}
+use Rattle.check_meaning.specs.event_meaning_under.Met.{IsMet}
+use Rattle.check_meaning.specs.event_texts.Compared.{StopsAtPairs}
 use Rattle.event_premises.proofs.Comparing.{left_events, right_events}
 use Rattle.event_premises.proofs.Within.{IsShallowNet, depths, few_latches, latches, shallow}
 use Rattle.event_assume_rows.proofs.Nodes.{not_over}

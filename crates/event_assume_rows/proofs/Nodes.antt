@@ -10,10 +10,10 @@ use Rattle.circuit_theory.specs.Query.{Variable, HasLeaf}
 use Rattle.circuit_theory.specs.Run.{IsEnabled}
 use Rattle.circuit_theory.specs.Tree.{Tree}
 use Rattle.circuit_theory.proofs.Lists.{Contains-head}
-use Rattle.event_theory.specs.EventFrames.{IsCareTree, IsPairTree}
-use Rattle.event_theory.specs.EventSizes.{Start, EventVisits}
-use Rattle.event_theory.specs.Frame.{ConeLatches, EventSide, EventUnfolds}
-use Rattle.event_inputs.proofs.Leaves.{leaf_visited}
+use Rattle.circuit_theory.specs.EventFrames.{IsCareTree, IsPairTree}
+use Rattle.circuit_theory.specs.EventSizes.{Start, EventVisits}
+use Rattle.circuit_theory.specs.Frame.{ConeLatches, EventSide, EventUnfolds}
+use Rattle.event_variables.proofs.Leaves.{leaf_visited}
 use Rattle.interface.specs.declared.pairs.SignalPair.{SignalPair}
 use Rattle.assume_laws.specs.Assume.{HasVariableAtNode}
 use Rattle.event_under.specs.Places.{ArePairNodes, IsOverAtNodes}

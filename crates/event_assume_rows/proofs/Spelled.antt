@@ -19,9 +19,9 @@ use Rattle.design_laws.proofs.FlatParts.{FlatDesign, latch_up}
 use Rattle.design_laws.proofs.Kept.{flat_design}
 use Rattle.design_laws.proofs.KeptNames.{names_are_kept}
 use Rattle.design_rows.proofs.Places.{is_one_place, is_one_place-itself}
-use Rattle.design_tests.specs.NoFault.{has_no_fault}
-use Rattle.design_tests.proofs.NoFaults.{tested_is_sound}
-use Rattle.event_designs.proofs.FlatEnabled.{enabled_down}
+use Rattle.design_rows.specs.NoFault.{has_no_fault}
+use Rattle.design_rows.proofs.NoFaults.{tested_is_sound}
+use Rattle.design_laws.proofs.event_designs.FlatEnabled.{enabled_down}
 use Rattle.event_premises.proofs.Flat.{PassesShallow}
 use Rattle.event_premises.proofs.Nets.{HasPorts, PassesCounts, SpellsDesign, ports_kept, shallow_net}
 use Rattle.event_premises.proofs.Shallow.{no_cycle}

@@ -8,7 +8,7 @@ use Rattle.blif_read.specs.declared.design.BlifModel.{BlifModel}
 use Rattle.blif_read.specs.declared.design.Statement.TheVariants.{Names, Latch}
 use Rattle.check_meaning.specs.Answer.{AreComparableUnder}
 use Rattle.design_rows.specs.Designs.{one_model}
-use Rattle.assume_rows.specs.SameInputs.{same}
+use Rattle.event_assume_rows.specs.assume_rows.SameInputs.{same}
 
 -- the second input where the first is 1, and else the fourth
 abbrev pub first_load : Cover

@@ -3,15 +3,15 @@ use Rattle.std.proofs.Common.{◌≡◌, ◌∙◌, ◌≤◌, ℕ, List, sym, s
 use Rattle.std.specs.List.{All}
 use Rattle.interface.specs.declared.pairs.SignalPair.{SignalPair}
 use Rattle.interface.specs.Pairs.{ArePairsOf}
-use Rattle.class_events.specs.Made.{AreEnablesCounted}
+use Rattle.event_answers.specs.class_events.Made.{AreEnablesCounted}
 use Rattle.class_queries.specs.Laws.{AreKept}
 use Rattle.event_nodes.specs.View.{EventCircuitView}
-use Rattle.pair_events.specs.View.{EventsView, IsEvents}
-use Rattle.pair_events.specs.Within.{IsCountedOnce}
-use Rattle.event_setup_laws.specs.Findings.{FindingsFit}
-use Rattle.event_setup_laws.specs.EventFindings.{EventFindings}
-use Rattle.event_setup_laws.specs.EventPairs.{EventPairs}
-use Rattle.event_setup_laws.specs.Counted.{ArePairsCounted}
+use Rattle.event_answers.specs.pair_events.View.{EventsView, IsEvents}
+use Rattle.event_answers.specs.pair_events.Within.{IsCountedOnce}
+use Rattle.event_answers.specs.Findings.{FindingsFit}
+use Rattle.event_answers.specs.EventFindings.{EventFindings}
+use Rattle.event_answers.specs.EventPairs.{EventPairs}
+use Rattle.event_answers.specs.Counted.{ArePairsCounted}
 use Rattle.event_answers.specs.Askable.{AreAskable, IsAskedBy}
 use Rattle.event_answers.specs.Finding.{AreUnfolded, IsNamedFound}
 use Rattle.event_answers.specs.Nameable.{CanBeNamed}

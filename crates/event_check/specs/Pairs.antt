@@ -1,10 +1,10 @@
 -- What is found of the pairs of two circuits with their class map.
 use Rattle.std.specs.Prelude.{◌≡◌, ℕ, Result, Ok, Err}
 use Rattle.event_nodes.specs.View.{EventCircuitView}
-use Rattle.event_setup_laws.specs.Findings.{FindingsFit}
-use Rattle.event_setup_laws.specs.EventFindings.{EventFindings}
-use Rattle.event_setup_laws.specs.EventPairs.{EventPairs}
-use Rattle.compare_base.specs.declared.error.CompareError.{CompareError}
+use Rattle.event_answers.specs.Findings.{FindingsFit}
+use Rattle.event_answers.specs.EventFindings.{EventFindings}
+use Rattle.event_answers.specs.EventPairs.{EventPairs}
+use Rattle.event_meaning.specs.compare_base.declared.error.CompareError.{CompareError}
 use Rattle.event_answers.specs.Askable.{IsAskedBy}
 use Rattle.event_answers.specs.Finding.{AreNotUnfolded, AreUnfolded}
 use Rattle.event_answers.specs.Named.{NamesVerdict}

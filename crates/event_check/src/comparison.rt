@@ -9,8 +9,8 @@ ghost use Rattle.event_answers.specs.Compared.{ComparedInEvents};
 ghost use Rattle.event_answers.specs.Reached.{AreClassed};
 
 use crate::pairs::compare_pairs;
-use compare_base::CompareError;
 use event_answers::{Classed, Reached, limit_found, outcome_of, reach_pairs};
+use event_meaning::CompareError;
 use flat_net::Net;
 use outcome::{Outcome, Settings};
 use sec_base::MAX_CONFLICTS;

@@ -1,16 +1,16 @@
 //! What is found of the pairs of two circuits with their class map.
 
 ghost use Rattle.std.specs.Prelude.{◌≡◌, ◌≤◌};
-ghost use Rattle.class_events.specs.Made.{AreEnablesCounted};
-ghost use Rattle.class_events.specs.Separated.{AreSeparated};
+ghost use Rattle.event_answers.specs.class_events.Made.{AreEnablesCounted};
+ghost use Rattle.event_answers.specs.class_events.Separated.{AreSeparated};
 ghost use Rattle.event_answers.specs.Askable.{AreAskable};
 ghost use Rattle.event_answers.specs.Finding.{refusal_of};
 ghost use Rattle.event_check.specs.Pairs.{FindsPairs};
 
-use class_events::Separated;
-use compare_base::CompareError;
-use event_answers::{Asked, Found, Names, named_findings};
-use event_setup_laws::{EventFormError, EventPairs, compare_events};
+use event_answers::{
+    Asked, EventFormError, EventPairs, Found, Names, Separated, compare_events, named_findings,
+};
+use event_meaning::CompareError;
 use sec_base::MAX_CONFLICTS;
 use std::alloc::Global;
 

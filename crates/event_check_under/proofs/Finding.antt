@@ -2,20 +2,20 @@
 use Rattle.std.proofs.Common.{◌≡◌, ◌≤◌, ℕ, List, length, refl, sym, ap, subst, Result, Err}
 use Rattle.interface.specs.declared.pairs.SignalPair.{SignalPair}
 use Rattle.interface.specs.Pairs.{ArePairsOf}
-use Rattle.class_events.specs.Made.{AreEnablesCounted}
+use Rattle.event_answers.specs.class_events.Made.{AreEnablesCounted}
 use Rattle.class_queries.specs.Enables.{both_of}
 use Rattle.class_queries.specs.Laws.{AreKept}
 use Rattle.event_nodes.specs.View.{EventCircuitView}
-use Rattle.pair_events.specs.View.{EventsView, IsEvents}
-use Rattle.pair_events.specs.Within.{IsCountedOnce}
-use Rattle.event_setup_laws.specs.EventFindings.{EventFindings}
-use Rattle.event_setup_laws.specs.EventPairs.{EventPairs}
-use Rattle.assume_premise.specs.Assumed.{CanBeAssumed, IsAssumedBy}
-use Rattle.assume_premise.specs.declared.premise.Premise.{Premise}
-use Rattle.assume_premise.proofs.Numbers.{number_below}
-use Rattle.assume_sequences.specs.Filled.{bit_of}
+use Rattle.event_answers_under.specs.pair_events.View.{EventsView, IsEvents}
+use Rattle.event_answers_under.specs.pair_events.Within.{IsCountedOnce}
+use Rattle.event_answers.specs.EventFindings.{EventFindings}
+use Rattle.event_answers.specs.EventPairs.{EventPairs}
+use Rattle.event_answers_under.specs.assume_sequences.Assumed.{CanBeAssumed, IsAssumedBy}
+use Rattle.event_answers_under.specs.assume_sequences.declared.premise.Premise.{Premise}
+use Rattle.event_answers_under.proofs.assume_sequences.Numbers.{number_below}
+use Rattle.event_answers_under.specs.assume_sequences.Filled.{bit_of}
 use Rattle.assume_shape.specs.Shape.{assumption_of}
-use Rattle.event_under.specs.Places.{IsLightAtNodes, IsOverAtNodes}
+use Rattle.event_answers_under.specs.event_under.Places.{IsLightAtNodes, IsOverAtNodes}
 use Rattle.event_answers.specs.Askable.{AreAskable, IsAskedBy}
 use Rattle.event_answers.specs.EventFormError.TheVariants as form_error
 use Rattle.event_answers.specs.Finding.{AreNotUnfolded, AreUnfolded, IsNamedFound}

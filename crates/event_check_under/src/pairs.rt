@@ -1,19 +1,16 @@
 //! What is found under an assumption of the pairs of two circuits with their class map.
 
 ghost use Rattle.std.specs.Prelude.{◌≡◌, ◌≤◌, length};
-ghost use Rattle.class_events.specs.Made.{AreEnablesCounted};
-ghost use Rattle.class_events.specs.Separated.{AreSeparated};
-ghost use Rattle.assume_premise.specs.Assumed.{CanBeAssumed};
+ghost use Rattle.event_answers.specs.class_events.Made.{AreEnablesCounted};
+ghost use Rattle.event_answers.specs.class_events.Separated.{AreSeparated};
+ghost use Rattle.event_answers_under.specs.assume_sequences.Assumed.{CanBeAssumed};
 ghost use Rattle.event_answers.specs.Askable.{AreAskable};
 ghost use Rattle.event_answers_under.specs.Pairs.{FindsPairsUnder};
 ghost use Rattle.event_check_under.specs.Refusals.{refusal_under};
 
-use assume_premise::Premise;
 use assume_shape::ShapeFault;
-use class_events::Separated;
-use compare_base::CompareError;
-use event_answers::{Asked, Found, Names, named_findings};
-use event_setup_laws::EventPairs;
+use event_answers::{Asked, EventPairs, Found, Names, Separated, named_findings};
+use event_answers_under::{CompareError, Premise};
 use event_under_form::{EventUnderError, compare_events_under};
 use sec_base::MAX_CONFLICTS;
 use std::alloc::Global;

@@ -11,3 +11,4 @@ pub mod Refusing
 pub mod WholeMap
 pub mod Limiting
 pub mod Stopping
+pub use Rattle.class_extension.proofs as class_extension

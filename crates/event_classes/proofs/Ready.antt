@@ -2,12 +2,12 @@
 use Rattle.std.proofs.Common.{◌<◌, ℕ, List, length, get_or, sym, ap, subst, arith, length-append}
 use Rattle.std.proofs.lemmas.List.Elements.{All-weaker, All-get_or}
 use Rattle.circuit_theory.specs.Query.{Variable}
-use Rattle.event_theory.specs.Frame.{NodeBefore}
+use Rattle.circuit_theory.specs.Frame.{NodeBefore}
 use Rattle.event_nodes.specs.Nodes.{EventGraphView, IsEventGraph, GrowsEvents}
-use Rattle.event_variables.specs.Variables.{AreInOrder, variable_of}
-use Rattle.enable_compare.specs.declared.compare.Enable.{Enable}
-use Rattle.enable_compare.specs.Comparing.{IsReadyEnable}
-use Rattle.enable_compare.proofs.Queries.{ready_later}
+use Rattle.class_totals.specs.event_variables.Variables.{AreInOrder, variable_of}
+use Rattle.class_fits.specs.class_search.declared.compare.Enable.{Enable}
+use Rattle.class_fits.specs.class_search.Comparing.{IsReadyEnable}
+use Rattle.class_fits.proofs.class_search.Queries.{ready_later}
 use Rattle.class_separations.proofs.Variables.{variable_same}
 
 module _ (w x : EventGraphView) (is : IsEventGraph w) (grows : GrowsEvents w x) where

@@ -3,7 +3,7 @@ use Rattle.std.proofs.Common.{◌≡◌, ◌<◌, ◌≤◌, ℕ, List, [], ◌�
 use Rattle.circuit_theory.specs.declared.Side.TheVariants.{A, B}
 use Rattle.circuit_theory.specs.Depth.{LatchesHaveDepths}
 use Rattle.circuit_theory.specs.Joined.{Either, Left, Right}
-use Rattle.event_theory.specs.EventSizes.{Start}
+use Rattle.circuit_theory.specs.EventSizes.{Start}
 use Rattle.flat_net.specs.declared.parts.LatchAt.{LatchAt}
 use Rattle.flat_net.specs.Cut.{latch_at}
 use Rattle.flat_net.specs.Sound.{IsSound}
@@ -13,7 +13,7 @@ use Rattle.event_nodes.specs.declared.error.EventUnfoldError.TheVariants as unfo
 use Rattle.event_nodes.specs.Nodes.{EventGraphView, IsEventGraph}
 use Rattle.event_nodes.specs.View.{EventCircuitView, Enabled}
 use Rattle.event_nodes.specs.Visited.{CounterView}
-use Rattle.event_walk.specs.Walk.{IsCounting, enable_start}
+use Rattle.class_totals.specs.event_walk.Walk.{IsCounting, enable_start}
 use Rattle.class_totals.specs.Refused.{IsRefusal}
 use Rattle.class_totals.specs.Totals.{HaveCounted, ReachTooMany, ReachFew, WeighTooMuch}
 use Rattle.class_totals.proofs.Over.{many_nodes_are_over, heavy_is_over, few_nodes_are_within}

@@ -9,7 +9,7 @@ use Rattle.circuit_theory.specs.Depth.{LatchesHaveDepths}
 use Rattle.circuit_theory.specs.Joined.{Either, Left, Right, joined}
 use Rattle.circuit_theory.specs.Run.{IsEnabled}
 use Rattle.circuit_theory.proofs.Lists.{Contains-head}
-use Rattle.event_theory.specs.EventTotals.{IsMapSoFar}
+use Rattle.circuit_theory.specs.EventTotals.{IsMapSoFar}
 use Rattle.event_laws.specs.ClassSteps.{IsFirstFit}
 use Rattle.flat_net.specs.Cut.{latch_at, no_latch}
 use Rattle.flat_net.specs.Sound.{IsSound}
@@ -18,11 +18,11 @@ use Rattle.sec_base.specs.declared.basics.Tag.{Tag}
 use Rattle.event_nodes.specs.Nodes.{EventGraphView}
 use Rattle.event_nodes.specs.View.{EventCircuitView, IsEventCircuit}
 use Rattle.event_nodes.specs.Visited.{CounterView, IsWeighed}
-use Rattle.event_order.specs.Order.{place_of, IsTagOf}
-use Rattle.class_queries.specs.Enables.{both_of, class_map}
-use Rattle.class_fits.specs.Joining.{with_class, HasJoined}
-use Rattle.class_fits.proofs.Classes.{class_kept}
-use Rattle.class_fits.proofs.Giving.{class_given}
+use Rattle.class_fits.specs.event_order.Order.{place_of, IsTagOf}
+use Rattle.class_totals.specs.class_queries.Enables.{both_of, class_map}
+use Rattle.class_fits.specs.class_joining.Joining.{with_class, HasJoined}
+use Rattle.class_fits.proofs.class_joining.Classes.{class_kept}
+use Rattle.class_fits.proofs.class_joining.Giving.{class_given}
 use Rattle.class_extension.specs.Laws.{IsNextGiven}
 use Rattle.class_separations.specs.Apart.{AreToldApart}
 use Rattle.class_totals.specs.Totals.{HaveCounted}

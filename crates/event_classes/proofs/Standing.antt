@@ -8,7 +8,7 @@ use Rattle.std.proofs.lemmas.Option.{slice_get_within}
 use Rattle.circuit_theory.specs.Joined.{Either}
 use Rattle.circuit_theory.specs.Run.{IsEnabled}
 use Rattle.circuit_laws.proofs.JoinedParts.{joined_single, joined_number_once}
-use Rattle.event_theory.specs.Classes.{EnableAtRoot, classes_of}
+use Rattle.circuit_theory.specs.Classes.{EnableAtRoot, classes_of}
 use Rattle.event_laws.proofs.ClassMaps.{fold_each}
 use Rattle.event_laws.proofs.EventTrees.{one_enable}
 use Rattle.flat_net.specs.View.{circuit_of}
@@ -18,15 +18,15 @@ use Rattle.flat_net.proofs.Places.{one_at}
 use Rattle.sec_base.specs.declared.basics.Tag.{Tag}
 use Rattle.event_nodes.specs.Nodes.{EventGraphView, IsEventGraph, GrowsEvents}
 use Rattle.event_nodes.specs.View.{EventCircuitView}
-use Rattle.enable_compare.specs.declared.compare.Enable.{Enable}
-use Rattle.enable_compare.specs.Comparing.{IsReadyEnable}
-use Rattle.class_queries.specs.Enables.{both_of, IsEnableFunction}
-use Rattle.class_queries.specs.Laws.{AreKept}
-use Rattle.class_queries.proofs.Meaning.{numbered}
-use Rattle.class_fits.specs.Joining.{HasJoined, AreKnownEnables}
-use Rattle.class_fits.proofs.Tables.{goes_on, grows_on}
-use Rattle.class_search.specs.declared.class.Class.{Class}
-use Rattle.class_search.specs.Search.{AreReadyClasses}
+use Rattle.class_fits.specs.class_search.declared.compare.Enable.{Enable}
+use Rattle.class_fits.specs.class_search.Comparing.{IsReadyEnable}
+use Rattle.class_totals.specs.class_queries.Enables.{both_of, IsEnableFunction}
+use Rattle.class_totals.specs.class_queries.Laws.{AreKept}
+use Rattle.class_totals.proofs.class_queries.Meaning.{numbered}
+use Rattle.class_fits.specs.class_joining.Joining.{HasJoined, AreKnownEnables}
+use Rattle.class_fits.proofs.class_joining.Tables.{goes_on, grows_on}
+use Rattle.class_fits.specs.class_search.declared.class.Class.{Class}
+use Rattle.class_fits.specs.class_search.Search.{AreReadyClasses}
 use Rattle.class_fits.specs.Members.{IsAmong, HasMembers}
 use Rattle.class_fits.proofs.Members.{members_grow_on, members_stay_on, members_join_on}
 use Rattle.event_classes.specs.Stand.{IsStand}

@@ -8,7 +8,7 @@ use Rattle.circuit_theory.specs.Depth.{LatchesHaveDepths}
 use Rattle.circuit_theory.specs.Joined.{Either}
 use Rattle.circuit_theory.specs.Run.{IsEnabled}
 use Rattle.circuit_theory.proofs.Lists.{at_of}
-use Rattle.event_theory.specs.EventTotals.{IsMapSoFar}
+use Rattle.circuit_theory.specs.EventTotals.{IsMapSoFar}
 use Rattle.flat_net.specs.Sound.{IsSound}
 use Rattle.flat_net.specs.View.{NetView, circuit_of}
 use Rattle.sec_base.specs.declared.basics.Tag.{Tag}
@@ -20,11 +20,11 @@ use Rattle.class_totals.proofs.Going.{totals_begin}
 use Rattle.class_totals.proofs.Over.{totals_are_within}
 use Rattle.event_nodes.specs.View.{EventCircuitView, IsEventCircuit, Enabled}
 use Rattle.event_nodes.specs.Visited.{CounterView, IsWeighed}
-use Rattle.event_order.specs.Order.{place_of, IsTagOf, IsTagOrder}
-use Rattle.enable_compare.specs.Comparing.{IsReadyEnable}
-use Rattle.class_queries.specs.Enables.{both_of}
-use Rattle.class_fits.proofs.Bounds.{depths_of_both, map_begins, map_ends}
-use Rattle.class_search.specs.declared.class.Class.{Class}
+use Rattle.class_fits.specs.event_order.Order.{place_of, IsTagOf, IsTagOrder}
+use Rattle.class_fits.specs.class_search.Comparing.{IsReadyEnable}
+use Rattle.class_totals.specs.class_queries.Enables.{both_of}
+use Rattle.class_fits.proofs.class_joining.Bounds.{depths_of_both, map_begins, map_ends}
+use Rattle.class_fits.specs.class_search.declared.class.Class.{Class}
 use Rattle.event_classes.specs.declared.map.ClassMap.{ClassMap}
 use Rattle.class_separations.specs.declared.apart.Apart.{Apart}
 use Rattle.class_separations.specs.Apart.{AreToldApart}

@@ -5,7 +5,7 @@ use Rattle.circuit_theory.specs.declared.Side.TheVariants.{A, B}
 use Rattle.circuit_theory.specs.Depth.{LatchesHaveDepths}
 use Rattle.circuit_theory.specs.Joined.{Either}
 use Rattle.circuit_theory.specs.Run.{IsEnabled}
-use Rattle.event_theory.specs.Classes.{HasClasses}
+use Rattle.circuit_theory.specs.Classes.{HasClasses}
 use Rattle.event_laws.specs.ClassSteps.{IsFirstFit}
 use Rattle.flat_net.specs.declared.parts.LatchAt.{LatchAt}
 use Rattle.sec_base.specs.declared.basics.Tag.{Tag}
@@ -13,18 +13,18 @@ use Rattle.aig.specs.declared.node.Node.TheVariants.{Constant}
 use Rattle.event_nodes.specs.Nodes.{EventGraphView}
 use Rattle.event_nodes.specs.View.{EventCircuitView}
 use Rattle.event_nodes.specs.Visited.{IsWeighed}
-use Rattle.event_order.specs.Order.{place_of}
+use Rattle.class_fits.specs.event_order.Order.{place_of}
 use Rattle.class_totals.specs.Functions.{IsEnableFunctionOf}
-use Rattle.enable_compare.specs.declared.compare.Enable.{Enable}
-use Rattle.class_queries.specs.Enables.{both_of, IsEnableFunction}
-use Rattle.class_fits.specs.Joining.{with_class}
+use Rattle.class_fits.specs.class_search.declared.compare.Enable.{Enable}
+use Rattle.class_totals.specs.class_queries.Enables.{both_of, IsEnableFunction}
+use Rattle.class_fits.specs.class_joining.Joining.{with_class}
 use Rattle.event_classes.specs.declared.map.ClassMap.{ClassMap}
-use Rattle.event_theory.specs.EventFrames.{AreNodeVariables, IsClassTree}
-use Rattle.event_variables.specs.Variables.{variables_of}
-use Rattle.class_search.specs.declared.search.Fit.{Fit}
-use Rattle.class_search.specs.declared.search.Fit.TheVariants as fit
-use Rattle.class_search.specs.declared.told.Difference.{Difference}
-use Rattle.class_search.specs.declared.told.Told.{Told}
+use Rattle.circuit_theory.specs.EventFrames.{AreNodeVariables, IsClassTree}
+use Rattle.class_totals.specs.event_variables.Variables.{variables_of}
+use Rattle.class_fits.specs.class_search.declared.search.Fit.{Fit}
+use Rattle.class_fits.specs.class_search.declared.search.Fit.TheVariants as fit
+use Rattle.class_fits.specs.class_search.declared.told.Difference.{Difference}
+use Rattle.class_fits.specs.class_search.declared.told.Told.{Told}
 use Rattle.class_separations.specs.Apart.{AreToldApart, AreToldOf}
 use Rattle.class_separations.specs.Telling.{AreToldIn}
 use Rattle.class_totals.specs.Totals.{HaveCounted, AreWithin}

@@ -4,14 +4,14 @@ use Rattle.std.specs.List.{AllPairs}
 use Rattle.circuit_theory.specs.declared.Side.{Side}
 use Rattle.circuit_theory.specs.Joined.{Either}
 use Rattle.circuit_theory.specs.Run.{IsEnabled}
-use Rattle.event_theory.specs.Classes.{classes_of}
-use Rattle.event_theory.specs.EventTotals.{IsMapSoFar, IsClassesOver}
+use Rattle.circuit_theory.specs.Classes.{classes_of}
+use Rattle.circuit_theory.specs.EventTotals.{IsMapSoFar, IsClassesOver}
 use Rattle.sec_base.specs.declared.basics.Tag.{Tag}
 use Rattle.event_nodes.specs.View.{EventCircuitView}
-use Rattle.event_order.specs.Order.{place_of, IsTagOf}
-use Rattle.class_queries.specs.Enables.{both_of}
+use Rattle.class_fits.specs.event_order.Order.{place_of, IsTagOf}
+use Rattle.class_totals.specs.class_queries.Enables.{both_of}
 use Rattle.class_totals.specs.Totals.{AreWithin, ReachTooMany, ReachFew, WeighTooMuch}
-use Rattle.pair_decide.specs.declared.query.Proof.{Proof}
+use Rattle.class_fits.specs.pair_decide.declared.query.Proof.{Proof}
 use Rattle.event_classes.specs.declared.error.EventError.{EventError}
 use Rattle.event_classes.specs.declared.error.EventError.TheVariants as event_error
 use Rattle.event_classes.specs.Limits.{IsLimitQuery}

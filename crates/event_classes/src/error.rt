@@ -1,6 +1,6 @@
 //! Why classes aren't made.
 
-use pair_decide::Proof;
+use class_fits::Proof;
 use sec_base::{NoMemory, Side, Tag};
 use std::alloc::{AllocError, AllocFailed};
 

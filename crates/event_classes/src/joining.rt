@@ -3,11 +3,11 @@
 ghost use Rattle.std.specs.Prelude.{◌≡◌, ◌<◌, ◌≤◌, ℕ, suc, List, ◌∷◌, length, Option, Err, OnOk};
 ghost use Rattle.circuit_theory.specs.declared.Side.{Side};
 ghost use Rattle.circuit_theory.specs.Joined.{Either};
-ghost use Rattle.enable_compare.specs.Comparing.{IsReadyEnable};
-ghost use Rattle.event_order.specs.Order.{IsTagOf};
+ghost use Rattle.class_fits.specs.class_search.Comparing.{IsReadyEnable};
+ghost use Rattle.class_fits.specs.event_order.Order.{IsTagOf};
 ghost use Rattle.class_fits.specs.Members.{class_of_fit};
-ghost use Rattle.class_search.specs.declared.search.Fit.TheVariants as fit_is;
-ghost use Rattle.pair_decide.specs.declared.query.Proof.{Proof};
+ghost use Rattle.class_fits.specs.class_search.declared.search.Fit.TheVariants as fit_is;
+ghost use Rattle.class_fits.specs.pair_decide.declared.query.Proof.{Proof};
 ghost use Rattle.sec_base.specs.declared.basics.Tag.{Tag};
 ghost use Rattle.event_classes.specs.declared.error.EventError.TheVariants as event_error;
 ghost use Rattle.event_classes.specs.Limits.{IsNamed, IsErrorOf};
@@ -18,9 +18,8 @@ use crate::enables::next_enable;
 use crate::error::EventError;
 use crate::map::ClassMap;
 use crate::places::take_latch;
-use class_search::{Class, Difference, Fit, Told, Unfit, first_fit};
+use class_fits::{Class, Difference, Enable, Fit, Told, Unfit, first_fit};
 use class_separations::keep_apart;
-use enable_compare::Enable;
 use sec_base::{MAX_CONFLICTS, NoMemory, Tag};
 use std::alloc::Global;
 

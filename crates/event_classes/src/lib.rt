@@ -11,5 +11,6 @@ mod places;
 
 pub use class_separations::Apart;
 pub use error::EventError;
+pub use event_nodes::EventCircuit;
 pub use making::make_classes;
 pub use map::ClassMap;

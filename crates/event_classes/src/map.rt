@@ -1,7 +1,6 @@
 //! Class maps.
 
-use class_fits::EnableTable;
-use class_search::Class;
+use class_fits::{Class, EnableTable};
 use class_separations::Apart;
 use event_nodes::{Counter, EventCircuit, EventGraph};
 use sec_base::Tag;

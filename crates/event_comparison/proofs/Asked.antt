@@ -3,7 +3,7 @@ use Rattle.std.proofs.Common.{◌≡◌, ◌∙◌, ℕ, Bool, true, false, List
 use Rattle.std.specs.List.{AllZip}
 use Rattle.circuit_theory.specs.Joined.{Either}
 use Rattle.circuit_theory.proofs.Lists.{zip_length}
-use Rattle.event_theory.specs.Frame.{EventSide}
+use Rattle.circuit_theory.specs.Frame.{EventSide}
 use Rattle.sec_base.specs.declared.basics.PairAnswer.{PairAnswer}
 use Rattle.sec_base.specs.declared.basics.PairAnswer.TheVariants as answer
 use Rattle.aig.specs.declared.node.Node.{Node}
@@ -14,9 +14,9 @@ use Rattle.obligations.specs.declared.obligation.Obligation.{Obligation}
 use Rattle.obligations.specs.Decided.{AnswerIs, IsAnswered}
 use Rattle.outcome.specs.declared.verdict.PairResult.{PairResult}
 use Rattle.pair_decide.specs.declared.query.Proof.{Proof}
-use Rattle.event_form.specs.Answers.{PairFits}
-use Rattle.event_form.specs.Asked.{AreAsked, IsAskedOf}
-use Rattle.event_form.proofs.Answers.{answers_are_fit}
+use Rattle.event_findings.specs.event_form.Answers.{PairFits}
+use Rattle.event_findings.specs.event_form.Asked.{AreAsked, IsAskedOf}
+use Rattle.event_findings.proofs.event_form.Answers.{answers_are_fit}
 use Rattle.event_findings.specs.Compared.{IsEventDepth}
 
 -- each result is that of its pair

@@ -5,7 +5,7 @@ use Rattle.std.proofs.lemmas.Option.{same_Some}
 use Rattle.circuit_theory.specs.Depth.{LatchesHaveDepths}
 use Rattle.circuit_theory.specs.Run.{IsEnabled}
 use Rattle.circuit_theory.proofs.Lists.{zip_right}
-use Rattle.event_theory.specs.Classes.{HasClasses}
+use Rattle.circuit_theory.specs.Classes.{HasClasses}
 use Rattle.sec_base.specs.declared.basics.PairAnswer.{PairAnswer}
 use Rattle.sec_base.specs.declared.basics.PairAnswer.TheVariants as answer
 use Rattle.class_queries.specs.Laws.{AreKept}
@@ -20,11 +20,11 @@ use Rattle.obligations.specs.Decided.{HaveDecided, IsAnswered, IsFirst, IsFirstO
 use Rattle.obligations.specs.Verdict.{IsVerdictAt}
 use Rattle.outcome.specs.declared.verdict.PairResult.{PairResult}
 use Rattle.pair_decide.specs.declared.query.Query.{Query}
-use Rattle.pair_events.specs.View.{EventsView, side_of_both}
-use Rattle.swept_queries.proofs.Listed.{zip_left}
+use Rattle.event_findings.specs.pair_events.View.{EventsView, side_of_both}
+use Rattle.event_findings.proofs.swept_queries.Listed.{zip_left}
 use Rattle.witness_report.specs.declared.witness.Witness.{Witness}
-use Rattle.event_form.specs.Answers.{PairFits}
-use Rattle.event_form.specs.Asked.{AreAsked, IsAskedOf, IsDecisive}
+use Rattle.event_findings.specs.event_form.Answers.{PairFits}
+use Rattle.event_findings.specs.event_form.Asked.{AreAsked, IsAskedOf, IsDecisive}
 use Rattle.event_findings.specs.UnshownFrame.{UnshownFrame}
 use Rattle.event_findings.specs.Sequences.{IsWitnessOf}
 use Rattle.event_findings.specs.Shown.{IsQueryAt, IsUnshownAt, IsWitnessAt}

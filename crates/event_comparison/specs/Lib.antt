@@ -7,3 +7,6 @@ pub mod Decided
 pub mod Counted
 pub use Rattle.event_findings.specs.Findings
 pub use Rattle.event_findings.specs.declared.findings.EventFindings
+pub use Rattle.event_findings.specs.class_events
+pub use Rattle.event_findings.specs.event_witness
+pub use Rattle.event_findings.specs.pair_events

@@ -2,12 +2,12 @@
 
 ghost use Rattle.std.specs.Prelude.{◌≡◌, ◌≤◌, All, IfOk, OnOk};
 ghost use Rattle.event_findings.specs.Separated.{AreSeparated};
-ghost use Rattle.event_form.specs.Asked.{IsLater, IsPairOf};
-ghost use Rattle.event_form.specs.Counted.{left_starts, right_starts};
-ghost use Rattle.event_form.specs.Refused.{IsRefusedFor};
+ghost use Rattle.event_findings.specs.event_form.Asked.{IsLater, IsPairOf};
+ghost use Rattle.event_findings.specs.event_form.Counted.{left_starts, right_starts};
+ghost use Rattle.event_findings.specs.event_form.Refused.{IsRefusedFor};
 ghost use Rattle.event_findings.specs.declared.verdict.EventVerdict.TheVariants as event_verdict;
 ghost use Rattle.obligations.specs.Asked.{AreAsked as AreQueries};
-ghost use Rattle.pair_events.specs.View.{IsWithinLimits};
+ghost use Rattle.event_findings.specs.pair_events.View.{IsWithinLimits};
 ghost use Rattle.event_comparison.specs.Agreement.{CircuitsAgree};
 ghost use Rattle.event_comparison.specs.Asked.{AreAskedFrom, StayCounted};
 ghost use Rattle.event_comparison.specs.Counted.{AreRefused, ArePairsCounted};
@@ -16,11 +16,8 @@ ghost use Rattle.event_findings.specs.Compared.{AreCompared};
 ghost use Rattle.event_findings.specs.Findings.{FindingsFit};
 
 use crate::verdict::show;
-use class_separations::Apart;
-use event_findings::{EventFindings, EventPairs};
-use event_form::{EventFormError, ask_pairs};
+use event_findings::{Apart, EventFindings, EventFormError, EventPairs, Events, ask_pairs};
 use obligations::{Decided, Obligation, decide_all, verdict_at};
-use pair_events::Events;
 use sec_base::MAX_CONFLICTS;
 use std::alloc::Global;
 

@@ -6,7 +6,6 @@ mod verdict;
 
 pub use comparison::compare_events;
 pub use event_findings::{
-    EventFindings, EventPairs, EventVerdict, FrameBit, ToldSeparation, ToldSeparations,
-    UnshownFrame, UnshownPair,
+    EventError, EventFindings, EventFormError, EventPairs, EventVerdict, FrameBit, Separated,
+    ToldSeparation, ToldSeparations, UnshownFrame, UnshownPair, events_of,
 };
-pub use event_form::EventFormError;

@@ -1,19 +1,19 @@
 //! The verdict of a comparison in the event form, with what shows it.
 
 ghost use Rattle.std.specs.Prelude.{◌≡◌, IfOk, OnOk};
-ghost use Rattle.event_form.specs.Asked.{IsLater};
-ghost use Rattle.event_form.specs.Counted.{left_starts, right_starts};
-ghost use Rattle.event_form.specs.Refused.{IsRefusedFor};
-ghost use Rattle.pair_events.specs.View.{IsWithinLimits};
+ghost use Rattle.event_findings.specs.event_form.Asked.{IsLater};
+ghost use Rattle.event_findings.specs.event_form.Counted.{left_starts, right_starts};
+ghost use Rattle.event_findings.specs.event_form.Refused.{IsRefusedFor};
+ghost use Rattle.event_findings.specs.pair_events.View.{IsWithinLimits};
 ghost use Rattle.event_comparison.specs.Asked.{AreAskedFrom, DiffersFirst, IsFoundAt, StayCounted};
 ghost use Rattle.event_comparison.specs.Shown.{IsShown, IsShownUnshown};
 
-use class_separations::Apart;
-use event_findings::{EventPairs, EventVerdict, UnshownPair, tell_apart, unshown_at, witness_at};
-use event_form::EventFormError;
+use event_findings::{
+    Apart, EventFormError, EventPairs, EventVerdict, Events, UnshownPair, tell_apart, unshown_at,
+    witness_at,
+};
 use obligations::{Difference, Obligation, VerdictAt, copy_name};
 use outcome::PairResult;
-use pair_events::Events;
 use std::alloc::Global;
 
 /// The verdict at an obligation. A sequence ends in the cycle of its pair's depth. A pair that isn't shown is unfolded once more.

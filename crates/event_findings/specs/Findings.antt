@@ -6,17 +6,17 @@ use Rattle.circuit_theory.specs.Joined.{Left, Right}
 use Rattle.circuit_theory.specs.Query.{Variable}
 use Rattle.circuit_theory.specs.Query as frame_query
 use Rattle.circuit_theory.specs.Sequence.{sequence_rows}
-use Rattle.event_theory.specs.EventFrames.{IsUnshownFrame, IsEventDifference, frame_of}
-use Rattle.event_theory.specs.Frame.{bits_as_shifts}
-use Rattle.flat_net.specs.View.{circuit_of}
+use Rattle.circuit_theory.specs.EventFrames.{IsUnshownFrame, IsEventDifference, frame_of}
+use Rattle.circuit_theory.specs.Frame.{bits_as_shifts}
+use Rattle.unshown_pairs.specs.flat_net.View.{circuit_of}
 use Rattle.sec_base.specs.declared.basics.PairAnswer.{PairAnswer}
 use Rattle.sec_base.specs.declared.basics.PairAnswer.TheVariants as answer
-use Rattle.class_queries.specs.Enables.{both_of}
-use Rattle.event_nodes.specs.View.{EventCircuitView}
-use Rattle.interface.specs.declared.pairs.SignalPair.{SignalPair}
-use Rattle.witness_report.specs.declared.witness.PairName.{PairName}
-use Rattle.witness_report.specs.declared.witness.Witness.{Witness}
-use Rattle.outcome.specs.declared.verdict.PairResult.{PairResult}
+use Rattle.unshown_pairs.specs.class_queries.Enables.{both_of}
+use Rattle.unshown_pairs.specs.event_nodes.View.{EventCircuitView}
+use Rattle.unshown_pairs.specs.interface.declared.pairs.SignalPair.{SignalPair}
+use Rattle.unshown_pairs.specs.witness_report.declared.witness.PairName.{PairName}
+use Rattle.unshown_pairs.specs.witness_report.declared.witness.Witness.{Witness}
+use Rattle.event_witness.specs.outcome.declared.verdict.PairResult.{PairResult}
 use Rattle.unshown_pairs.specs.Decided.{NoneIs}
 use Rattle.unshown_pairs.specs.Answers.{PairFits}
 use Rattle.event_witness.specs.declared.unshown.UnshownFrame.{UnshownFrame}

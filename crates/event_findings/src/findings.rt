@@ -1,7 +1,7 @@
 //! What is found of pairs.
 
 use crate::verdict::EventVerdict;
-use outcome::PairResults;
+use event_witness::PairResults;
 
 /// What is found of the pairs of two circuits.
 #[derive(Drop)]

@@ -10,25 +10,25 @@ use Rattle.interface.specs.declared.pairs.SignalPair.{SignalPair}
 use Rattle.interface.specs.Pairs.{named_pairs, places_of}
 use Rattle.witness_report.specs.declared.witness.Witness.{Witness}
 use Rattle.sec_base.specs.declared.settings.Settings.{Settings}
-use Rattle.outcome.specs.declared.verdict.Outcome.{Outcome}
-use Rattle.outcome.specs.declared.verdict.Unshown.{Unshown}
-use Rattle.outcome.specs.declared.verdict.Verdict.TheVariants as verdict
-use Rattle.outcome.specs.declared.verdict.Why.TheVariants as why
+use Rattle.event_findings.specs.outcome.declared.verdict.Outcome.{Outcome}
+use Rattle.event_findings.specs.outcome.declared.verdict.Unshown.{Unshown}
+use Rattle.event_findings.specs.outcome.declared.verdict.Verdict.TheVariants as verdict
+use Rattle.event_findings.specs.outcome.declared.verdict.Why.TheVariants as why
 use Rattle.compare_base.specs.SetupError.TheVariants as unset
 use Rattle.compare_base.specs.Matching.{InterfacesMatch}
-use Rattle.event_totals.specs.Refused.{IsTooMany, IsTooHeavy}
+use Rattle.event_findings.specs.unshown_pairs.Refused.{IsTooMany, IsTooHeavy}
 use Rattle.event_nodes.specs.View.{EventCircuitView}
-use Rattle.cut_events.specs.Choosing.{RefusesCycle}
-use Rattle.cut_events.specs.Recovered.{AreKnown, RecoversBoth}
-use Rattle.cut_events.specs.RecoveryError.TheVariants as unknown
+use Rattle.event_setup.specs.Choosing.{RefusesCycle}
+use Rattle.event_setup.specs.Recovered.{AreKnown, RecoversBoth}
+use Rattle.event_setup.specs.declared.error.RecoveryError.TheVariants as unknown
 use Rattle.compare_base.specs.declared.error.CompareError.{CompareError}
 use Rattle.compare_base.specs.declared.error.CompareError.TheVariants as refused
 use Rattle.compare_base.specs.Compared.{Compared}
 use Rattle.compare_base.specs.Says.{SaysEqual, SaysDifferent, SaysNotShown}
-use Rattle.cut_events.specs.Circuits.{AreReached}
+use Rattle.event_fits.specs.Circuits.{AreReached}
 use Rattle.event_fits.specs.Fitting.{EventOutcomeFits}
 use Rattle.event_fits.specs.Shown.{IsFramed}
-use Rattle.event_totals.specs.Totals.{IsMapMade, PairsReachTooMany, PairsWeighTooMuch}
+use Rattle.event_fits.specs.Totals.{IsMapMade, PairsReachTooMany, PairsWeighTooMuch}
 
 -- The interfaces match, and the outcome fits the circuits. Equal, different and not shown say what they say of the circuits. Both nets keep what each
 -- net keeps.

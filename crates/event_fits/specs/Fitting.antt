@@ -2,27 +2,27 @@
 use Rattle.std.specs.Prelude.{◌≡◌, ◌⊎◌, ℕ, Bool, List, [], map, length, Option, option_map, None, Err}
 use Rattle.circuit_theory.specs.declared.Side.{Side}
 use Rattle.circuit_theory.specs.Interface.{shared_inputs}
-use Rattle.event_theory.specs.Classes.{classes_of}
+use Rattle.circuit_theory.specs.Classes.{classes_of}
 use Rattle.flat_net.specs.View.{NetView, circuit_of, ports_of}
 use Rattle.sec_base.specs.declared.basics.Tag.{Tag}
-use Rattle.pair_decide.specs.declared.query.Proof.{Proof}
+use Rattle.compare_base.specs.pair_decide.declared.query.Proof.{Proof}
 use Rattle.interface.specs.Pairs.{named_pairs, places_of}
-use Rattle.outcome.specs.declared.verdict.LimitAt.{LimitAt}
-use Rattle.outcome.specs.declared.verdict.LimitAt.TheVariants as limit_at
-use Rattle.outcome.specs.declared.verdict.Outcome.{Outcome}
-use Rattle.outcome.specs.declared.verdict.Verdict.TheVariants as verdict
+use Rattle.event_findings.specs.outcome.declared.verdict.LimitAt.{LimitAt}
+use Rattle.event_findings.specs.outcome.declared.verdict.LimitAt.TheVariants as limit_at
+use Rattle.event_findings.specs.outcome.declared.verdict.Outcome.{Outcome}
+use Rattle.event_findings.specs.outcome.declared.verdict.Verdict.TheVariants as verdict
 use Rattle.compare_base.specs.Cuts.{columns_of, is_cut}
-use Rattle.class_queries.specs.Enables.{both_of}
-use Rattle.event_totals.specs.Refused.{IsLimitOf}
+use Rattle.read_inputs.specs.class_queries.Enables.{both_of}
+use Rattle.event_findings.specs.unshown_pairs.Refused.{IsLimitOf}
 use Rattle.event_nodes.specs.View.{EventCircuitView}
-use Rattle.cut_events.specs.Recovered.{RecoversBoth}
-use Rattle.cut_events.specs.RecoveryError.TheVariants as unknown
+use Rattle.event_setup.specs.Recovered.{RecoversBoth}
+use Rattle.event_setup.specs.declared.error.RecoveryError.TheVariants as unknown
 use Rattle.event_findings.specs.Findings.{FindingsFit}
 use Rattle.event_findings.specs.declared.findings.EventFindings.{EventFindings}
 use Rattle.event_findings.specs.declared.pairs.EventPairs.{EventPairs}
-use Rattle.cut_events.specs.Circuits.{AreReached}
+use Rattle.event_fits.specs.Circuits.{AreReached}
 use Rattle.event_fits.specs.Named.{latch_names, latch_of, NamesVerdict}
-use Rattle.event_totals.specs.Totals.{IsMapMade, IsWithinWith}
+use Rattle.event_fits.specs.Totals.{IsMapMade, IsWithinWith}
 
 -- the counts of both circuits; nothing is assumed, and no pair is settled from a cycle on
 pub record HasCounts (a b : NetView) (o : Outcome) : Type 0 where

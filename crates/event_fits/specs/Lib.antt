@@ -1,6 +1,5 @@
 pub use Rattle.compare_base.specs.Says
 pub use Rattle.event_findings.specs.declared.pairs.EventPairs
-pub use Rattle.cut_events.specs.Circuits
 pub use Rattle.event_findings.specs.Findings
 pub use Rattle.event_findings.specs.declared.verdict.UnshownPair
 pub use Rattle.event_findings.specs.declared.verdict.EventVerdict
@@ -12,7 +11,19 @@ pub use Rattle.event_findings.specs.Answers
 pub use Rattle.event_findings.specs.Asked
 pub use Rattle.event_findings.specs.FrameBit
 pub use Rattle.event_findings.specs.Told
-pub use Rattle.event_totals.specs.Totals
 pub use Rattle.event_findings.specs.Separations
 pub use Rattle.event_findings.specs.ToldSeparation
-pub use Rattle.cut_events.specs.EventFormError
+pub use Rattle.event_findings.specs.event_form.declared.error.EventFormError
+pub use Rattle.event_setup.specs.declared.error.RecoveryError
+pub use Rattle.event_setup.specs.Recovered
+pub use Rattle.event_setup.specs.Choosing
+pub mod Circuits
+pub mod Totals
+pub use Rattle.event_findings.specs.unshown_pairs.Refused
+pub use Rattle.compare_base.specs as compare_base
+pub use Rattle.compare_base.specs.pair_decide
+pub use Rattle.event_findings.specs.event_classes
+pub use Rattle.event_findings.specs.outcome
+pub use Rattle.event_setup.specs as event_setup
+pub use Rattle.event_setup.specs.sec_setup
+pub use Rattle.read_inputs.specs.class_queries

@@ -6,15 +6,15 @@ use Rattle.circuit_theory.specs.declared.Side.TheVariants.{A, B}
 use Rattle.flat_net.specs.declared.parts.LatchAt.{LatchAt}
 use Rattle.flat_net.specs.View.{NetView}
 use Rattle.sec_base.specs.declared.basics.Tag.{Tag}
-use Rattle.frame_report.specs.declared.frame.Spot.{Spot}
-use Rattle.outcome.specs.declared.verdict.LimitAt.TheVariants as limit_at
-use Rattle.outcome.specs.declared.verdict.Separation.{Separation}
-use Rattle.outcome.specs.declared.verdict.Unshown.{Unshown}
-use Rattle.outcome.specs.declared.verdict.Verdict.{Verdict}
-use Rattle.outcome.specs.declared.verdict.Verdict.TheVariants as verdict
-use Rattle.outcome.specs.declared.verdict.Why.TheVariants as why
-use Rattle.cut_events.specs.FrameBit.{FrameBit}
-use Rattle.event_totals.specs.ToldSeparation.{ToldSeparation}
+use Rattle.witness_report.specs.declared.frame_report.frame.Spot.{Spot}
+use Rattle.event_findings.specs.outcome.declared.verdict.LimitAt.TheVariants as limit_at
+use Rattle.event_findings.specs.outcome.declared.verdict.Separation.{Separation}
+use Rattle.event_findings.specs.outcome.declared.verdict.Unshown.{Unshown}
+use Rattle.event_findings.specs.outcome.declared.verdict.Verdict.{Verdict}
+use Rattle.event_findings.specs.outcome.declared.verdict.Verdict.TheVariants as verdict
+use Rattle.event_findings.specs.outcome.declared.verdict.Why.TheVariants as why
+use Rattle.event_findings.specs.event_form.declared.frames.FrameBit.{FrameBit}
+use Rattle.event_findings.specs.unshown_pairs.declared.separations.ToldSeparation.{ToldSeparation}
 use Rattle.event_findings.specs.declared.verdict.EventVerdict.{EventVerdict}
 use Rattle.event_findings.specs.declared.verdict.EventVerdict.TheVariants as found
 use Rattle.event_findings.specs.declared.verdict.UnshownPair.{UnshownPair}

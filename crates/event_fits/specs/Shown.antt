@@ -3,18 +3,18 @@ use Rattle.std.specs.Prelude.{◌≡◌, ℕ, Bool, List, reverse, slice_get, So
 use Rattle.std.specs.List.{AllZip}
 use Rattle.circuit_theory.specs.Joined.{Left, Right}
 use Rattle.circuit_theory.specs.Query.{Variable}
-use Rattle.event_theory.specs.Classes.{HasClasses}
-use Rattle.event_theory.specs.EventFits.{ReachesAlways}
-use Rattle.event_theory.specs.EventFrames.{IsUnshownFrame}
+use Rattle.circuit_theory.specs.Classes.{HasClasses}
+use Rattle.circuit_theory.specs.EventFits.{ReachesAlways}
+use Rattle.circuit_theory.specs.EventFrames.{IsUnshownFrame}
 use Rattle.flat_net.specs.View.{NetView, circuit_of}
-use Rattle.frame_report.specs.declared.frame.Spot.{Spot}
+use Rattle.witness_report.specs.declared.frame_report.frame.Spot.{Spot}
 use Rattle.interface.specs.Pairs.{NamedPair, named_pairs}
-use Rattle.outcome.specs.declared.verdict.Outcome.{Outcome}
-use Rattle.outcome.specs.declared.verdict.Unshown.{Unshown}
+use Rattle.event_findings.specs.outcome.declared.verdict.Outcome.{Outcome}
+use Rattle.event_findings.specs.outcome.declared.verdict.Unshown.{Unshown}
 use Rattle.compare_base.specs.Cuts.{columns_of}
-use Rattle.class_queries.specs.Enables.{both_of}
+use Rattle.read_inputs.specs.class_queries.Enables.{both_of}
 use Rattle.event_nodes.specs.View.{EventCircuitView}
-use Rattle.cut_events.specs.Circuits.{AreEventCircuits}
+use Rattle.event_fits.specs.Circuits.{AreEventCircuits}
 
 -- the variable is told: its input by its name, and its event node by the steps from the root
 pub record TellsVariable (columns : List (List ℕ)) (v : Variable (List ℕ)) (spot : Spot) : Type 0 where

@@ -6,32 +6,32 @@ use Rattle.std.proofs.lemmas.Option.{slice_get-get_or, none-some, same_Some}
 use Rattle.circuit_theory.specs.Joined.{Either, Left, Right}
 use Rattle.circuit_theory.specs.Tree.{Tree}
 use Rattle.circuit_theory.proofs.Lists.{Contains-cases, Contains-map, length-map}
-use Rattle.event_theory.specs.EventFrames.{HaveDifferentEvents, IsEventSize, frame_of}
-use Rattle.event_theory.specs.Frame.{EventSide}
-use Rattle.sec_base.specs.declared.basics.PairAnswer.{PairAnswer}
-use Rattle.sec_base.specs.declared.basics.PairAnswer.TheVariants as answer
+use Rattle.circuit_theory.specs.EventFrames.{HaveDifferentEvents, IsEventSize, frame_of}
+use Rattle.circuit_theory.specs.Frame.{EventSide}
+use Rattle.aig.specs.sec_base.declared.basics.PairAnswer.{PairAnswer}
+use Rattle.aig.specs.sec_base.declared.basics.PairAnswer.TheVariants as answer
 use Rattle.aig.specs.Builds.{Builds}
 use Rattle.aig.specs.declared.node.Node.{Node}
 use Rattle.aig.specs.declared.node.Lit.{Lit}
 use Rattle.aig.proofs.Growth.{Builds-one}
-use Rattle.event_nodes.specs.Nodes.{EventGraphView, IsEventGraph, named_places, path_of}
-use Rattle.event_variables.specs.Variables.{variable_of, variables_of}
-use Rattle.event_variables.proofs.Named.{named_distinct}
-use Rattle.event_agreement.specs.Laws.{HasSameQuery}
-use Rattle.event_agreement.specs.Queries.{AsksEventPair}
-use Rattle.event_agreement.proofs.PairQueries.{within, are_variables, left_value, right_value, care_value, same_events, shown_frame}
-use Rattle.event_agreement.proofs.Agreeing.{queries_agree}
+use Rattle.pair_events.specs.event_nodes.Nodes.{EventGraphView, IsEventGraph, named_places, path_of}
+use Rattle.pair_events.specs.event_variables.Variables.{variable_of, variables_of}
+use Rattle.pair_events.proofs.event_variables.Named.{named_distinct}
+use Rattle.pair_events.specs.event_agreement.Laws.{HasSameQuery}
+use Rattle.pair_events.specs.event_agreement.Queries.{AsksEventPair}
+use Rattle.pair_events.proofs.event_agreement.PairQueries.{within, are_variables, left_value, right_value, care_value, same_events, shown_frame}
+use Rattle.pair_events.proofs.event_agreement.Agreeing.{queries_agree}
 use Rattle.pair_events.specs.Enables.{both_of}
 use Rattle.interface.specs.declared.pairs.SignalPair.{SignalPair}
 use Rattle.obligations.specs.declared.obligation.Obligation.{Obligation}
 use Rattle.obligations.specs.Decided.{AnswerIs, IsAnswered}
 use Rattle.obligations.specs.Found.{Differ, IsDifferenceOf}
 use Rattle.obligations.specs.PairResult.{PairResult}
-use Rattle.pair_decide.specs.declared.query.Decision.TheVariants as decision
-use Rattle.pair_decide.specs.declared.query.Proof.{Proof}
-use Rattle.pair_decide.specs.declared.query.Query.{Query}
-use Rattle.pair_decide.specs.Answers.{IsDifference, IsAtLimit}
-use Rattle.pair_decide.specs.Queries.{IsSame, roots_of}
+use Rattle.pair_events.specs.pair_decide.declared.query.Decision.TheVariants as decision
+use Rattle.pair_events.specs.pair_decide.declared.query.Proof.{Proof}
+use Rattle.pair_events.specs.pair_decide.declared.query.Query.{Query}
+use Rattle.pair_events.specs.pair_decide.Answers.{IsDifference, IsAtLimit}
+use Rattle.pair_events.specs.pair_decide.Queries.{IsSame, roots_of}
 use Rattle.obligations.specs.InStead.{IsInStead, DecidesInStead}
 use Rattle.event_form.specs.Asked.{IsAskedOf, AreAsked}
 use Rattle.event_form.specs.Answers.{AnswerFits, PairFits, IsFrameOf, IsUndecided, ReadOnly}

@@ -7,27 +7,27 @@ use Rattle.std.proofs.lemmas.List.Elements.{All-nil, All-cons, Contains-append_c
 use Rattle.circuit_theory.specs.Joined.{Either, Left, Right}
 use Rattle.circuit_theory.specs.Run.{IsEnabled}
 use Rattle.circuit_theory.proofs.Lists.{Contains-map, Contains-map_from, length-map, zip_push}
-use Rattle.event_theory.specs.EventFits.{ReachesAlways}
-use Rattle.event_theory.specs.EventFrames.{IsEventSize}
-use Rattle.event_theory.specs.Frame.{EventSide, ConeLatches, IsNode}
-use Rattle.event_nodes.specs.Nodes.{EventGraphView, IsEventGraph, GrowsEvents, path_of}
-use Rattle.event_nodes.specs.View.{EventCircuitView}
-use Rattle.event_nodes.proofs.Growing.{grows_trans}
-use Rattle.event_nodes.proofs.Lists.{pairs_map}
-use Rattle.event_nodes.proofs.OnePath.{one_node}
-use Rattle.event_variables.specs.Order.{IsOnce}
-use Rattle.event_functions.specs.declared.signals.SignalFunction.{SignalFunction}
+use Rattle.circuit_theory.specs.EventFits.{ReachesAlways}
+use Rattle.circuit_theory.specs.EventFrames.{IsEventSize}
+use Rattle.circuit_theory.specs.Frame.{EventSide, ConeLatches, IsNode}
+use Rattle.pair_events.specs.event_nodes.Nodes.{EventGraphView, IsEventGraph, GrowsEvents, path_of}
+use Rattle.pair_events.specs.event_nodes.View.{EventCircuitView}
+use Rattle.pair_events.proofs.event_nodes.Growing.{grows_trans}
+use Rattle.pair_events.proofs.event_nodes.Lists.{pairs_map}
+use Rattle.pair_events.proofs.event_nodes.OnePath.{one_node}
+use Rattle.pair_events.specs.event_variables.Order.{IsOnce}
+use Rattle.pair_events.specs.event_functions.declared.signals.SignalFunction.{SignalFunction}
 use Rattle.pair_events.specs.Enables.{both_of}
 use Rattle.pair_events.specs.Functions.{IsEventFunction, AreNodesOf}
 use Rattle.pair_events.proofs.Growing.{function_later}
 use Rattle.pair_events.proofs.Unions.{pair_nodes}
-use Rattle.event_agreement.specs.Queries.{AsksEventPair}
-use Rattle.event_agreement.proofs.PairQueries.{queries_later, queries_of_pairs}
+use Rattle.pair_events.specs.event_agreement.Queries.{AsksEventPair}
+use Rattle.pair_events.proofs.event_agreement.PairQueries.{queries_later, queries_of_pairs}
 use Rattle.interface.specs.declared.pairs.SignalPair.{SignalPair}
 use Rattle.obligations.specs.Asked.{AreAsked as AreQueries}
 use Rattle.obligations.specs.declared.obligation.Obligation.{Obligation}
-use Rattle.pair_decide.specs.declared.query.Query.{Query}
-use Rattle.pair_decide.specs.Queries.{IsQuery}
+use Rattle.pair_events.specs.pair_decide.declared.query.Query.{Query}
+use Rattle.pair_events.specs.pair_decide.Queries.{IsQuery}
 use Rattle.pair_events.specs.View.{EventsView, side_of_both}
 use Rattle.event_form.specs.Asked.{IsAskedOf, AreAsked, IsDecisive, IsLater, HasGraphMore, IsPairOf, IsQueryOf, IsUnion}
 

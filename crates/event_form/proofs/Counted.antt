@@ -2,8 +2,8 @@
 use Rattle.std.proofs.Common.{◌≡◌, ◌∙◌, ◌+◌, ◌<◌, ℕ, List, [], ◌∷◌, ◌++◌, length, map, take, get_or, sym, ap, subst, append_assoc, append-nil}
 use Rattle.std.proofs.lemmas.List.{map-append, take_more}
 use Rattle.circuit_theory.specs.declared.Side.TheVariants.{A, B}
-use Rattle.event_theory.specs.EventSizes.{Start}
-use Rattle.event_functions.specs.Functions.{signal_start}
+use Rattle.circuit_theory.specs.EventSizes.{Start}
+use Rattle.pair_events.specs.event_functions.Functions.{signal_start}
 use Rattle.interface.specs.declared.pairs.SignalPair.{SignalPair}
 use Rattle.pair_events.specs.Counted.{HaveCounted, GoOnCounting}
 use Rattle.pair_events.specs.View.{EventsView, IsWithinLimits}

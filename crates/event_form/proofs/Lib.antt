@@ -1,7 +1,10 @@
-pub use Rattle.event_agreement.proofs.SameCircuits
+pub use Rattle.pair_events.proofs.event_agreement.SameCircuits
 pub mod Asking
 pub mod Counted
 pub mod Answers
 pub mod Telling
 pub mod Refusing
 pub mod Stopping
+pub use Rattle.obligations.proofs.swept_queries
+pub use Rattle.pair_events.proofs.class_queries
+pub use Rattle.pair_events.proofs.event_agreement

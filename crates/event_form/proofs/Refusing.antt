@@ -8,13 +8,13 @@ use Rattle.circuit_theory.specs.declared.Side.TheVariants.{A, B}
 use Rattle.circuit_theory.specs.Joined.{Either}
 use Rattle.circuit_theory.specs.Run.{IsEnabled}
 use Rattle.circuit_theory.proofs.Lists.{All-from_each, Contains-map, Contains-map_from, only}
-use Rattle.event_theory.specs.EventSizes.{Start, IsEventOver}
-use Rattle.event_theory.specs.EventTotals.{IsNodesOver}
-use Rattle.event_theory.specs.Frame.{EventSide}
-use Rattle.event_nodes.specs.View.{EventCircuitView, side_of, Enabled}
-use Rattle.event_nodes.specs.declared.error.EventUnfoldError.{EventUnfoldError}
-use Rattle.event_nodes.specs.declared.error.EventUnfoldError.TheVariants as unfold_error
-use Rattle.event_nodes.proofs.Visits.{visits_more}
+use Rattle.circuit_theory.specs.EventSizes.{Start, IsEventOver}
+use Rattle.circuit_theory.specs.EventTotals.{IsNodesOver}
+use Rattle.circuit_theory.specs.Frame.{EventSide}
+use Rattle.pair_events.specs.event_nodes.View.{EventCircuitView, side_of, Enabled}
+use Rattle.pair_events.specs.event_nodes.declared.error.EventUnfoldError.{EventUnfoldError}
+use Rattle.pair_events.specs.event_nodes.declared.error.EventUnfoldError.TheVariants as unfold_error
+use Rattle.pair_events.proofs.event_nodes.Visits.{visits_more}
 use Rattle.pair_events.specs.Counted.{both_starts, left_with, right_with, starts_with, HaveCounted, IsRefusedBy}
 use Rattle.pair_events.specs.View.{EventsView, circuit_at, side_of_both}
 use Rattle.pair_events.proofs.Starts.{node_more, both_more}

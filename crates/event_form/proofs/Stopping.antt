@@ -4,9 +4,9 @@ use Rattle.std.proofs.lemmas.List.{map-append, take-append-drop}
 use Rattle.std.proofs.Math.Seq.{drop-cons}
 use Rattle.circuit_theory.specs.declared.Side.{Side}
 use Rattle.circuit_theory.specs.declared.Side.TheVariants.{A, B}
-use Rattle.event_theory.specs.EventSizes.{Start}
-use Rattle.event_nodes.specs.declared.error.EventUnfoldError.{EventUnfoldError}
-use Rattle.event_functions.specs.Functions.{signal_start}
+use Rattle.circuit_theory.specs.EventSizes.{Start}
+use Rattle.pair_events.specs.event_nodes.declared.error.EventUnfoldError.{EventUnfoldError}
+use Rattle.pair_events.specs.event_functions.Functions.{signal_start}
 use Rattle.pair_events.specs.Laws.{AreKept}
 use Rattle.interface.specs.declared.pairs.SignalPair.{SignalPair}
 use Rattle.pair_events.specs.Counted.{GoOnCounting, HaveCounted, IsRefusedBy, IsTooLarge}

@@ -5,26 +5,26 @@ use Rattle.circuit_theory.specs.Joined.{Either, Left, Right}
 use Rattle.circuit_theory.specs.Query.{Variable}
 use Rattle.circuit_theory.specs.Run.{IsEnabled}
 use Rattle.circuit_theory.specs.Tree.{Tree, tree_value}
-use Rattle.event_theory.specs.EventFits.{HaveEqualEvents}
-use Rattle.event_theory.specs.EventFrames.{AreNodeVariables, IsPairTree, IsEventSize, HaveDifferentEvents, IsUnshownFrame}
-use Rattle.event_theory.specs.Frame.{EventSide, EventUnfolds, ConeLatches, HasCare}
-use Rattle.sec_base.specs.Table.{AreDistinct}
-use Rattle.sec_base.specs.declared.basics.PairAnswer.{PairAnswer}
-use Rattle.sec_base.specs.declared.basics.PairAnswer.TheVariants as answer
+use Rattle.circuit_theory.specs.EventFits.{HaveEqualEvents}
+use Rattle.circuit_theory.specs.EventFrames.{AreNodeVariables, IsPairTree, IsEventSize, HaveDifferentEvents, IsUnshownFrame}
+use Rattle.circuit_theory.specs.Frame.{EventSide, EventUnfolds, ConeLatches, HasCare}
+use Rattle.aig.specs.sec_base.Table.{AreDistinct}
+use Rattle.aig.specs.sec_base.declared.basics.PairAnswer.{PairAnswer}
+use Rattle.aig.specs.sec_base.declared.basics.PairAnswer.TheVariants as answer
 use Rattle.aig.specs.declared.node.Node.{Node}
 use Rattle.aig.specs.declared.node.Node.TheVariants.{Input}
 use Rattle.aig.specs.Cone.{IsReached}
 use Rattle.aig.specs.Graph.{IsGraph}
 use Rattle.aig.specs.Values.{value}
-use Rattle.cnf_encode.specs.Encoding.{IsEncoding}
-use Rattle.sat_search.specs.Found.{IsFruitless}
-use Rattle.event_nodes.specs.Nodes.{EventGraphView}
-use Rattle.event_variables.specs.Variables.{variables_of}
+use Rattle.pair_events.specs.cnf_encode.Encoding.{IsEncoding}
+use Rattle.pair_events.specs.sat_search.Found.{IsFruitless}
+use Rattle.pair_events.specs.event_nodes.Nodes.{EventGraphView}
+use Rattle.pair_events.specs.event_variables.Variables.{variables_of}
 use Rattle.interface.specs.declared.pairs.SignalPair.{SignalPair}
 use Rattle.obligations.specs.PairResult.{PairResult}
-use Rattle.pair_decide.specs.declared.query.Proof.{Proof}
-use Rattle.pair_decide.specs.declared.query.Query.{Query}
-use Rattle.pair_decide.specs.Queries.{assigned_to}
+use Rattle.pair_events.specs.pair_decide.declared.query.Proof.{Proof}
+use Rattle.pair_events.specs.pair_decide.declared.query.Query.{Query}
+use Rattle.pair_events.specs.pair_decide.Queries.{assigned_to}
 use Rattle.event_form.specs.Asked.{IsDecisive}
 
 -- the assignment of the graph's variables, inputs at event nodes, is the frame's

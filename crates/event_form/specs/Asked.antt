@@ -2,17 +2,17 @@
 use Rattle.std.specs.Prelude.{◌≡◌, ◌≢◌, ◌⊎◌, ◌↔◌, ℕ, ◌*◌, ◌<◌, Bool, true, false, List, [], ◌∷◌, length, Contains}
 use Rattle.std.specs.List.{AllPairs, AllZip}
 use Rattle.circuit_theory.specs.Joined.{Either, Left, Right}
-use Rattle.event_theory.specs.EventFits.{ReachesAlways}
-use Rattle.event_theory.specs.EventFrames.{IsEventSize}
-use Rattle.event_theory.specs.Frame.{EventSide}
+use Rattle.circuit_theory.specs.EventFits.{ReachesAlways}
+use Rattle.circuit_theory.specs.EventFrames.{IsEventSize}
+use Rattle.circuit_theory.specs.Frame.{EventSide}
 use Rattle.aig.specs.Rules.{IsAndOf}
-use Rattle.event_nodes.specs.Nodes.{EventGraphView, GrowsEvents}
-use Rattle.event_variables.specs.Variables.{AreInOrder, IsMergeOf}
-use Rattle.event_functions.specs.declared.signals.SignalFunction.{SignalFunction}
-use Rattle.event_agreement.specs.Queries.{AsksEventPair}
+use Rattle.pair_events.specs.event_nodes.Nodes.{EventGraphView, GrowsEvents}
+use Rattle.pair_events.specs.event_variables.Variables.{AreInOrder, IsMergeOf}
+use Rattle.pair_events.specs.event_functions.declared.signals.SignalFunction.{SignalFunction}
+use Rattle.pair_events.specs.event_agreement.Queries.{AsksEventPair}
 use Rattle.interface.specs.declared.pairs.SignalPair.{SignalPair}
 use Rattle.obligations.specs.declared.obligation.Obligation.{Obligation}
-use Rattle.pair_decide.specs.declared.query.Query.{Query}
+use Rattle.pair_events.specs.pair_decide.declared.query.Query.{Query}
 use Rattle.pair_events.specs.View.{EventsView}
 
 -- Whether a difference of the pair shows that the circuits differ: no latch is cut open, and both sides reach latches of class 0 alone.

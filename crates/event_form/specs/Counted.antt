@@ -1,7 +1,7 @@
 -- What was counted goes on with the signals of pairs.
 use Rattle.std.specs.Prelude.{ℕ, List, [], ◌∷◌, ◌++◌, map}
-use Rattle.event_theory.specs.EventSizes.{Start}
-use Rattle.event_functions.specs.Functions.{signal_start}
+use Rattle.circuit_theory.specs.EventSizes.{Start}
+use Rattle.pair_events.specs.event_functions.Functions.{signal_start}
 use Rattle.interface.specs.declared.pairs.SignalPair.{SignalPair}
 use Rattle.pair_events.specs.Counted.{HaveCounted}
 use Rattle.pair_events.specs.View.{EventsView}

@@ -7,12 +7,12 @@ use Rattle.circuit_theory.specs.Depth.{LatchesHaveDepths}
 use Rattle.circuit_theory.specs.Joined.{Either}
 use Rattle.circuit_theory.specs.Run.{IsEnabled}
 use Rattle.circuit_theory.specs.Tree.{AreNumbered}
-use Rattle.event_theory.specs.Classes.{HasClasses}
-use Rattle.event_theory.specs.Frame.{EventSide}
-use Rattle.flat_net.specs.View.{circuit_of}
-use Rattle.sec_base.specs.declared.basics.PairAnswer.TheVariants as answer
-use Rattle.event_nodes.specs.Nodes.{EventGraphView, IsEventGraph}
-use Rattle.event_nodes.specs.View.{EventCircuitView}
+use Rattle.circuit_theory.specs.Classes.{HasClasses}
+use Rattle.circuit_theory.specs.Frame.{EventSide}
+use Rattle.interface.specs.flat_net.View.{circuit_of}
+use Rattle.aig.specs.sec_base.declared.basics.PairAnswer.TheVariants as answer
+use Rattle.pair_events.specs.event_nodes.Nodes.{EventGraphView, IsEventGraph}
+use Rattle.pair_events.specs.event_nodes.View.{EventCircuitView}
 use Rattle.pair_events.specs.Enables.{both_of}
 use Rattle.pair_events.specs.Laws.{AreKept}
 use Rattle.interface.specs.declared.pairs.SignalPair.{SignalPair}

@@ -2,11 +2,11 @@
 use Rattle.std.specs.Prelude.{◌≡◌, ℕ, List, ◌++◌, Result, Ok, Err}
 use Rattle.circuit_theory.specs.declared.Side.{Side}
 use Rattle.circuit_theory.specs.declared.Side.TheVariants.{A, B}
-use Rattle.event_theory.specs.EventSizes.{Start, IsEventOver}
-use Rattle.event_theory.specs.EventTotals.{IsNodesOver}
-use Rattle.event_nodes.specs.View.{side_of, Enabled}
-use Rattle.event_nodes.specs.declared.error.EventUnfoldError.{EventUnfoldError}
-use Rattle.event_nodes.specs.declared.error.EventUnfoldError.TheVariants as unfold_error
+use Rattle.circuit_theory.specs.EventSizes.{Start, IsEventOver}
+use Rattle.circuit_theory.specs.EventTotals.{IsNodesOver}
+use Rattle.pair_events.specs.event_nodes.View.{side_of, Enabled}
+use Rattle.pair_events.specs.event_nodes.declared.error.EventUnfoldError.{EventUnfoldError}
+use Rattle.pair_events.specs.event_nodes.declared.error.EventUnfoldError.TheVariants as unfold_error
 use Rattle.pair_events.specs.Counted.{both_starts, HaveCounted}
 use Rattle.pair_events.specs.View.{EventsView, circuit_at, side_of_both}
 use Rattle.event_form.specs.declared.error.EventFormError.{EventFormError}

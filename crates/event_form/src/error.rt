@@ -1,6 +1,6 @@
 //! Why pairs aren't asked about.
 
-use sec_base::{NoMemory, Side};
+use aig::{NoMemory, Side};
 use std::alloc::{AllocError, AllocFailed};
 
 /// Why pairs aren't asked about.

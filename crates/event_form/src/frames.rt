@@ -3,8 +3,8 @@
 ghost use Rattle.std.specs.Prelude.{◌≡◌, ◌<◌, length, All, IfOk};
 ghost use Rattle.event_form.specs.Frames.{TellsVariable, TellsFrame};
 
+use aig::NoMemory;
 use pair_events::Events;
-use sec_base::NoMemory;
 use std::alloc::Global;
 
 /// The bit of an input at an event node.

@@ -1,10 +1,10 @@
 //! The event nodes of a pair.
 
 ghost use Rattle.std.specs.Prelude.{◌≡◌, IfOk};
-ghost use Rattle.event_variables.specs.Order.{IsOnce};
+ghost use Rattle.pair_events.specs.event_variables.Order.{IsOnce};
 ghost use Rattle.event_form.specs.Asked.{IsUnion};
 
-use sec_base::NoMemory;
+use aig::NoMemory;
 use std::alloc::Global;
 
 /// The numbers that one of both lists has, each once.

@@ -8,19 +8,16 @@ ghost use Rattle.obligations.specs.Asked.{AreAsked as AreQueries};
 ghost use Rattle.event_form.specs.Counted.{CountsOn, CountPairOn, left_starts, right_starts};
 ghost use Rattle.event_form.specs.Refused.{IsRefusedFor, IsToldAs};
 ghost use Rattle.event_form.specs.Stopped.{IsPairStopped, IsSignalStopped, IsStoppedFor};
-ghost use Rattle.event_functions.specs.Functions.{signal_start};
+ghost use Rattle.pair_events.specs.event_functions.Functions.{signal_start};
 ghost use Rattle.pair_events.specs.Counted.{GoOnCounting, left_with, right_with};
 ghost use Rattle.pair_events.specs.View.{IsWithinLimits, circuit_at, side_of_both, signal_at};
 
 use crate::error::EventFormError;
 use crate::nodes::union_of;
-use event_nodes::EventUnfoldError;
-use flat_net::Signal;
-use interface::SignalPair;
+use aig::{NoMemory, Side};
+use interface::{Signal, SignalPair};
 use obligations::{Obligation, Queries, copy_name};
-use pair_decide::Query;
-use pair_events::{Events, SignalFunction};
-use sec_base::{NoMemory, Side};
+use pair_events::{EventUnfoldError, Events, Query, SignalFunction};
 use std::alloc::Global;
 
 /// What is asked of each pair, in order: whether both event functions agree wherever both have care. A difference shows that the circuits

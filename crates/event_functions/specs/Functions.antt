@@ -1,14 +1,14 @@
 -- When an event function is right.
 use Rattle.std.specs.Prelude.{ℕ, [], None}
-use Rattle.event_theory.specs.EventSizes.{Start}
-use Rattle.flat_net.specs.declared.parts.LatchAt.{LatchAt}
-use Rattle.event_nodes.specs.Nodes.{EventGraphView}
-use Rattle.event_nodes.specs.View.{EventCircuitView}
-use Rattle.event_literals.specs.Walk.{enable_start}
-use Rattle.event_literals.specs.Known.{IsKnownAt, IsEnableLit}
+use Rattle.circuit_theory.specs.EventSizes.{Start}
+use Rattle.event_variables.specs.flat_net.declared.parts.LatchAt.{LatchAt}
+use Rattle.event_variables.specs.event_nodes.Nodes.{EventGraphView}
+use Rattle.event_variables.specs.event_nodes.View.{EventCircuitView}
+use Rattle.edbf_unfold.specs.event_literals.Walk.{enable_start}
+use Rattle.edbf_unfold.specs.event_literals.Known.{IsKnownAt, IsEnableLit}
 use Rattle.edbf_unfold.specs.Care.{IsCareLit}
 use Rattle.edbf_unfold.specs.Reached.{IsReachOf}
-use Rattle.event_inputs.specs.Inputs.{AreVisitedInputs}
+use Rattle.event_variables.specs.Inputs.{AreVisitedInputs}
 use Rattle.event_functions.specs.declared.signals.SignalFunction.{SignalFunction}
 use Rattle.event_functions.specs.declared.enables.EnableFunction.{EnableFunction}
 

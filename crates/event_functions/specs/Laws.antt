@@ -1,11 +1,11 @@
 -- What the variables of event functions are. Each law is the contract of a function of this crate.
 use Rattle.std.specs.Prelude.{◌≡◌, ℕ, List, [], ◌∷◌, slice_get, Some, Contains}
-use Rattle.flat_net.specs.declared.parts.LatchAt.{LatchAt}
-use Rattle.flat_net.specs.Sound.{IsSound}
-use Rattle.aig.specs.declared.node.Node.TheVariants.{Input}
-use Rattle.aig.specs.Cone.{IsReached}
-use Rattle.event_nodes.specs.Nodes.{EventGraphView, IsEventGraph}
-use Rattle.event_nodes.specs.View.{EventCircuitView, IsEventCircuit}
+use Rattle.event_variables.specs.flat_net.declared.parts.LatchAt.{LatchAt}
+use Rattle.event_variables.specs.flat_net.Sound.{IsSound}
+use Rattle.event_variables.specs.aig.declared.node.Node.TheVariants.{Input}
+use Rattle.event_variables.specs.aig.Cone.{IsReached}
+use Rattle.event_variables.specs.event_nodes.Nodes.{EventGraphView, IsEventGraph}
+use Rattle.event_variables.specs.event_nodes.View.{EventCircuitView, IsEventCircuit}
 use Rattle.event_functions.specs.declared.signals.SignalFunction.{SignalFunction}
 use Rattle.event_functions.specs.declared.enables.EnableFunction.{EnableFunction}
 use Rattle.event_functions.specs.Functions.{IsFunctionOf, IsEnableFunctionOf}

@@ -1,23 +1,22 @@
 //! Load enables as event functions.
 
 ghost use Rattle.std.specs.Prelude.{◌≡◌, ◌^◌, ◌<◌, ◌≤◌, [], length, slice_get, Some, IfOk, OnOk, Err};
-ghost use Rattle.flat_net.specs.declared.parts.LatchAt.{LatchAt};
-ghost use Rattle.event_nodes.specs.declared.error.EventUnfoldError.TheVariants as unfold_error;
-ghost use Rattle.event_nodes.specs.Nodes.{GrowsEvents};
-ghost use Rattle.event_nodes.specs.Visited.{IsWeighed};
-ghost use Rattle.event_literals.specs.Walk.{HasCountedStart, IsCounting, enable_start};
+ghost use Rattle.event_variables.specs.flat_net.declared.parts.LatchAt.{LatchAt};
+ghost use Rattle.event_variables.specs.event_nodes.declared.error.EventUnfoldError.TheVariants as unfold_error;
+ghost use Rattle.event_variables.specs.event_nodes.Nodes.{GrowsEvents};
+ghost use Rattle.event_variables.specs.event_nodes.Visited.{IsWeighed};
+ghost use Rattle.edbf_unfold.specs.event_literals.Walk.{HasCountedStart, IsCounting, enable_start};
 ghost use Rattle.edbf_unfold.specs.Care.{IsCareLit};
-ghost use Rattle.event_literals.specs.Known.{IsEnableLit};
+ghost use Rattle.edbf_unfold.specs.event_literals.Known.{IsEnableLit};
 ghost use Rattle.event_functions.specs.Functions.{IsEnableFunctionOf};
 ghost use Rattle.event_functions.specs.Refused.{HasFewNodes, IsTooHeavy, IsRefusal};
 
 use crate::counting::{count_all, room_in};
 use crate::refusal::enable_refusal;
-use aig::Lit;
 use edbf_unfold::{EventLits, EventUnfolder};
-use event_inputs::visited_variables;
-use event_nodes::{Counter, EventCircuit, EventGraph, EventUnfoldError};
-use sec_base::Ids;
+use event_variables::{
+    Counter, EventCircuit, EventGraph, EventUnfoldError, Ids, Lit, visited_variables,
+};
 use std::alloc::Global;
 
 /// The load enable of a latch, at the root, as a function of inputs at event nodes.

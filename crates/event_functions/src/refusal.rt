@@ -1,17 +1,16 @@
 //! What is answered where what was counted weighs too much.
 
 ghost use Rattle.std.specs.Prelude.{◌≡◌, ◌<◌, ◌≤◌, true, length, slice_get, Some};
-ghost use Rattle.flat_net.specs.declared.parts.LatchAt.{LatchAt};
-ghost use Rattle.event_nodes.specs.declared.error.EventUnfoldError.TheVariants as unfold_error;
-ghost use Rattle.event_nodes.specs.Nodes.{GrowsEvents, IsEventGraph};
-ghost use Rattle.event_nodes.specs.Visited.{AreNodesFrom, places_weight};
-ghost use Rattle.event_literals.specs.Walk.{enable_start};
+ghost use Rattle.event_variables.specs.flat_net.declared.parts.LatchAt.{LatchAt};
+ghost use Rattle.event_variables.specs.event_nodes.declared.error.EventUnfoldError.TheVariants as unfold_error;
+ghost use Rattle.event_variables.specs.event_nodes.Nodes.{GrowsEvents, IsEventGraph};
+ghost use Rattle.event_variables.specs.event_nodes.Visited.{AreNodesFrom, places_weight};
+ghost use Rattle.edbf_unfold.specs.event_literals.Walk.{enable_start};
 ghost use Rattle.event_functions.specs.Functions.{signal_start};
 ghost use Rattle.event_functions.specs.Refused.{HasFewNodes, IsOverweight};
 
-use event_nodes::{Counter, EventCircuit, EventGraph, EventUnfoldError};
 use event_reach::{reached_latches, reached_others};
-use flat_net::Signal;
+use event_variables::{Counter, EventCircuit, EventGraph, EventUnfoldError, Signal};
 use std::alloc::Global;
 
 /// The most event nodes that are reached, the root among them.

@@ -4,11 +4,11 @@ use Rattle.std.specs.Prelude.{◌⊎◌, ◌||◌, not}
 use Rattle.circuit_theory.specs.Circuit.{Equation, Gate, Latch, Port, IsLatch, IsSingleDriven, InCone, Reaches}
 use Rattle.circuit_theory.specs.Run.{IsRun, IsEnabled, ExtendsWith, Loads, CanPut, IsDetermined, Marked}
 use Rattle.circuit_theory.specs.Tree.{Tree, tree_value, IsInputNumber}
-use Rattle.event_theory.specs.Frame.{EventSide, EventUnfolds, ConeLatches, ConeOthers, ReachedAt, IsEnable, HasCare, IsLastLoad}
-use Rattle.event_theory.specs.Classes.{EnableCare, EnableAtRoot, EnablesEqual, AlwaysEnabled}
-use Rattle.circuit_laws.proofs.Marks.{marks_stay, mark_says, marks_down, MarkSays}
+use Rattle.circuit_theory.specs.Frame.{EventSide, EventUnfolds, ConeLatches, ConeOthers, ReachedAt, IsEnable, HasCare, IsLastLoad}
+use Rattle.circuit_theory.specs.Classes.{EnableCare, EnableAtRoot, EnablesEqual, AlwaysEnabled}
+use Rattle.finite_laws.proofs.circuit_laws.Marks.{marks_stay, mark_says, marks_down, MarkSays}
 use Rattle.event_laws.proofs.Events.{AreEvents, from_put, event_tree_is_run, events_have_care}
-use Rattle.circuit_laws.proofs.Loads.{put_unique}
+use Rattle.finite_laws.proofs.circuit_laws.Loads.{put_unique}
 
 -- One circuit (two side by side) with its classes, and one run of it.
 module _ {P : Type 0} (side : EventSide P) (same : (p q : P) → (p ≡ q) ⊎ (p ≢ q)) (single : IsSingleDriven side.circuit) (can_put : CanPut side.circuit)

@@ -10,10 +10,10 @@ use Rattle.circuit_theory.specs.Depth.{LatchesHaveDepths}
 use Rattle.circuit_theory.specs.Joined.{joined}
 use Rattle.circuit_theory.proofs.Lists.{Contains-head, Contains-cases}
 use Rattle.circuit_theory.proofs.Sums.{AllPairs-head, AllPairs-tail}
-use Rattle.circuit_laws.proofs.JoinedParts.{joined_same, joined_single}
-use Rattle.event_theory.specs.Classes.{EnablesEqual, EqualsMembers, DiffersFromMember, classes_of, IsInFirstClass, IsLatchOrder}
-use Rattle.event_theory.specs.EventFits.{side_by_side}
-use Rattle.event_theory.specs.EventTotals.{IsMapSoFar}
+use Rattle.finite_laws.proofs.circuit_laws.JoinedParts.{joined_same, joined_single}
+use Rattle.circuit_theory.specs.Classes.{EnablesEqual, EqualsMembers, DiffersFromMember, classes_of, IsInFirstClass, IsLatchOrder}
+use Rattle.circuit_theory.specs.EventFits.{side_by_side}
+use Rattle.circuit_theory.specs.EventTotals.{IsMapSoFar}
 use Rattle.event_laws.specs.ClassSteps.{IsFirstFit, ClassMapGoesOn}
 use Rattle.event_laws.proofs.OneClassMap.{side, rank_of, Agrees, Before, enable_to, enable_care, differ_to, off_to, fold_same, place_of, depth_of}
 

@@ -12,8 +12,8 @@ use Rattle.circuit_theory.specs.Net.{HasDistinctNames}
 use Rattle.circuit_theory.specs.Agree.{cut}
 use Rattle.circuit_theory.proofs.Lists.{map_same}
 use Rattle.circuit_theory.proofs.Numbers.{is_among-sound}
-use Rattle.circuit_laws.proofs.Loads.{loads_low}
-use Rattle.circuit_laws.proofs.SameMarks.{values_by_cone}
+use Rattle.finite_laws.proofs.circuit_laws.Loads.{loads_low}
+use Rattle.finite_laws.proofs.circuit_laws.SameMarks.{values_by_cone}
 use Rattle.event_laws.proofs.CutParts.{cut_gate, cut_port, cut_latch, cut_own_input, cut_exposed, cone_uncut, meets_uncut, extends_cut, enabled_uncut, enabled_cut, determined_cut}
 
 module _ {P : Type 0} (names : List (List ℕ)) (c : Circuit P) (single : IsSingleDriven c) (distinct : HasDistinctNames c) (same : (p q : P) → (p ≡ q) ⊎ (p ≢ q))

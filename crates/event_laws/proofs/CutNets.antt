@@ -13,8 +13,8 @@ use Rattle.circuit_theory.specs.Agree.{cut, is_kept, latch_named, named_at, firs
 use Rattle.circuit_theory.proofs.Lists.{All-from_each, filter_map-from, Contains-head, Contains-tail, of_at}
 use Rattle.circuit_theory.proofs.Sums.{AllPairs-head, AllPairs-tail}
 use Rattle.circuit_theory.proofs.Numbers.{is_among-sound}
-use Rattle.circuit_laws.proofs.Onward.{latch_named-found}
-use Rattle.circuit_laws.proofs.CutLaws.{left_out, cut_single}
+use Rattle.finite_laws.proofs.circuit_laws.Onward.{latch_named-found}
+use Rattle.finite_laws.proofs.circuit_laws.CutLaws.{left_out, cut_single}
 use Rattle.event_laws.proofs.CutParts.{cut_gate, cut_port, cut_latch, cut_own_input, cut_exposed}
 
 AllPairs-append : {X : Type 0} (R : X → X → Type 0) (xs ys : List X) → AllPairs R xs → AllPairs R ys → ((x y : X) → Contains xs x → Contains ys y → R x y) → AllPairs R (xs ++ ys)

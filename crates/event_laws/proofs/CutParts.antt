@@ -12,9 +12,9 @@ use Rattle.circuit_theory.specs.Net.{HasDistinctNames}
 use Rattle.circuit_theory.specs.Agree.{cut, is_kept, latch_named, named_at, first_of_pair}
 use Rattle.circuit_theory.proofs.Lists.{Contains-head, Contains-tail, Contains-cases, All-from_each}
 use Rattle.circuit_theory.proofs.Numbers.{is_among-sound}
-use Rattle.circuit_laws.proofs.Pairs.{filter_map-has, latch_is_named}
-use Rattle.circuit_laws.proofs.Onward.{cut_input}
-use Rattle.circuit_laws.proofs.Parted.{kept_equation}
+use Rattle.finite_laws.proofs.circuit_laws.Pairs.{filter_map-has, latch_is_named}
+use Rattle.finite_laws.proofs.circuit_laws.Onward.{cut_input}
+use Rattle.finite_laws.proofs.circuit_laws.Parted.{kept_equation}
 
 filter-has : {X : Type 0} (test : X → Bool) (xs : List X) (x : X) → Contains xs x → test x ≡ true → Contains (filter test xs) x
 filter-has test [] x h e = absurd (omega (arith, h.1))

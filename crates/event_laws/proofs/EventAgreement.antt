@@ -8,20 +8,20 @@ use Rattle.circuit_theory.specs.Run.{ExtendsWith, Loads, IsEnabled, Marked}
 use Rattle.circuit_theory.specs.Depth.{LatchReads, LatchChain, ChainFrom, IsDepth, LatchesHaveDepths}
 use Rattle.circuit_theory.specs.Tree.{Tree, IsInputNumber, AreNumbered}
 use Rattle.circuit_theory.specs.Net.{IsNet}
-use Rattle.event_theory.specs.Frame.{EventSide, EventUnfolds, ConeLatches, ConeOthers, IsLastLoad, IsNumberedRun}
+use Rattle.circuit_theory.specs.Frame.{EventSide, EventUnfolds, ConeLatches, ConeOthers, IsLastLoad, IsNumberedRun}
 use Rattle.circuit_theory.specs.Joined.{Either, Left, Right, joined, beside}
-use Rattle.event_theory.specs.Classes.{EnablesEqual, HasClasses}
+use Rattle.circuit_theory.specs.Classes.{EnablesEqual, HasClasses}
 use Rattle.circuit_theory.specs.Agree.{Agree, AreAlike, IsPair}
-use Rattle.event_theory.specs.EventFits.{side_by_side, HaveEqualEvents}
+use Rattle.circuit_theory.specs.EventFits.{side_by_side, HaveEqualEvents}
 use Rattle.event_laws.specs.Laws.{EventFunctionsAgree}
 use Rattle.circuit_theory.proofs.Lists.{Contains-cases}
-use Rattle.circuit_laws.proofs.Agreement.{value_of_number, value_found, first_value}
+use Rattle.finite_laws.proofs.circuit_laws.Agreement.{value_of_number, value_found, first_value}
 use Rattle.circuit_theory.proofs.Sums.{same_or_not}
-use Rattle.circuit_laws.proofs.Finite.{Decided, Weakly, weakly_decided, weakly_each, weakly_below, bits_same, find_or}
+use Rattle.finite_laws.proofs.circuit_laws.Finite.{Decided, Weakly, weakly_decided, weakly_each, weakly_below, bits_same, find_or}
 use Rattle.finite_laws.proofs.Deciding.{latch_or}
-use Rattle.circuit_laws.proofs.Joined.{run_joined}
-use Rattle.circuit_laws.proofs.Parts.{marks_up}
-use Rattle.circuit_laws.proofs.JoinedParts.{left_part, right_part, replace_left, replace_right, joined_same, joined_single, joined_can_put, joined_determined, joined_number, joined_number_once}
+use Rattle.finite_laws.proofs.circuit_laws.Joined.{run_joined}
+use Rattle.finite_laws.proofs.circuit_laws.Parts.{marks_up}
+use Rattle.finite_laws.proofs.circuit_laws.JoinedParts.{left_part, right_part, replace_left, replace_right, joined_same, joined_single, joined_can_put, joined_determined, joined_number, joined_number_once}
 use Rattle.event_laws.proofs.EventTrees.{event_tree, one_enable}
 use Rattle.event_laws.proofs.ClassMaps.{class_equal, class_always}
 use Rattle.event_laws.proofs.ClassEvents.{Qualifies, event, event-zero, always_loads, good_last, event_functions_agree}

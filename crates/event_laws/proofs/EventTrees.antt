@@ -5,10 +5,10 @@ use Rattle.std.specs.List.{Contains}
 use Rattle.circuit_theory.specs.Circuit.{Equation, Gate, Latch, Port, IsInput, IsLatch, IsSingleDriven, Reads, Reaches, out_of}
 use Rattle.circuit_theory.specs.Run.{IsDetermined}
 use Rattle.circuit_theory.specs.Tree.{Tree, Trees, Leaf, Fixed, Branch, Nil, Cons, IsInputNumber, tree_value}
-use Rattle.event_theory.specs.Frame.{EventSide, NotPut, EventUnfolds, EventUnfoldsAll, ConeLatches, ConeOthers, IsEnable}
+use Rattle.circuit_theory.specs.Frame.{EventSide, NotPut, EventUnfolds, EventUnfoldsAll, ConeLatches, ConeOthers, IsEnable}
 use Rattle.circuit_theory.proofs.Lists.{Contains-head, Contains-tail}
 use Rattle.circuit_theory.proofs.Inputs.{beside_is_input}
-use Rattle.circuit_laws.proofs.NetTrees.{has_number}
+use Rattle.finite_laws.proofs.circuit_laws.NetTrees.{has_number}
 
 -- with the put latch or without it
 pub put_or_not : {P : Type 0} → ((p q : P) → (p ≡ q) ⊎ (p ≢ q)) → (put : Option (P × Bool)) (p : P) → NotPut put p ⊎ ((bit : Bool) × ◌≡◌ {A = Option (P × Bool)} put (Some (p, bit)))

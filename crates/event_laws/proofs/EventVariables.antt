@@ -8,8 +8,8 @@ use Rattle.circuit_theory.specs.Cover.{cover_value}
 use Rattle.circuit_theory.specs.Run.{IsEnabled}
 use Rattle.circuit_theory.specs.Tree.{Tree, Trees, Leaf, Fixed, Branch, Nil, Cons, tree_value, tree_values}
 use Rattle.circuit_theory.specs.Query.{Variable, HasLeaf, HasLeafIn}
-use Rattle.event_theory.specs.Frame.{EventSide, ConeLatches, IsEnable, HasCare, always_node}
-use Rattle.event_theory.specs.EventFrames.{IsCareTree, IsPairTree, frame_of, IsUnshownFrame, HaveDifferentEvents}
+use Rattle.circuit_theory.specs.Frame.{EventSide, ConeLatches, IsEnable, HasCare, always_node}
+use Rattle.circuit_theory.specs.EventFrames.{IsCareTree, IsPairTree, frame_of, IsUnshownFrame, HaveDifferentEvents}
 use Rattle.event_laws.specs.Laws.{DifferencesAreShown, EventDifferenceIsWitness}
 use Rattle.circuit_theory.proofs.Lists.{Contains-cases}
 use Rattle.circuit_theory.proofs.Inputs.{test_same, test_refl, same_name-sound}

@@ -9,19 +9,19 @@ use Rattle.circuit_theory.specs.Tree.{Tree, tree_value, StandsBeside, IsInputNum
 use Rattle.circuit_theory.specs.Net.{IsNet}
 use Rattle.circuit_theory.specs.Depth.{IsDepth, LatchesHaveDepths}
 use Rattle.circuit_theory.specs.Sequence.{sequence_rows, row_value, TakesInputs}
-use Rattle.event_theory.specs.Frame.{EventSide, EventUnfolds, EventUnfoldsAll, ConeLatches, ConeOthers, ReachedAt, EventCycle, IsNumberedRun, IsNode, IsFilled, always_node, bits_as_shifts}
+use Rattle.circuit_theory.specs.Frame.{EventSide, EventUnfolds, EventUnfoldsAll, ConeLatches, ConeOthers, ReachedAt, EventCycle, IsNumberedRun, IsNode, IsFilled, always_node, bits_as_shifts}
 use Rattle.circuit_theory.specs.Joined.{Either, Left, Right, joined, beside}
-use Rattle.event_theory.specs.Classes.{HasClasses}
-use Rattle.event_theory.specs.EventFits.{side_by_side, ReachesAlways}
+use Rattle.circuit_theory.specs.Classes.{HasClasses}
+use Rattle.circuit_theory.specs.EventFits.{side_by_side, ReachesAlways}
 use Rattle.event_laws.specs.Laws.{EventWitnessMakesDiffer}
 use Rattle.circuit_theory.proofs.Lists.{Contains-head, Contains-tail, Contains-cases}
 use Rattle.circuit_theory.proofs.Inputs.{beside_is_input, test_same, test_refl}
 use Rattle.circuit_theory.proofs.Numbers.{one_number}
-use Rattle.circuit_laws.proofs.Finite.{bits_same}
-use Rattle.circuit_laws.proofs.NetLaws.{net_run, net_run-runs, net_run-inputs}
-use Rattle.circuit_laws.proofs.Windows.{row_value-is, rows_length}
-use Rattle.circuit_laws.proofs.Joined.{run_joined}
-use Rattle.circuit_laws.proofs.JoinedParts.{joined_same, joined_single, joined_determined, joined_number}
+use Rattle.finite_laws.proofs.circuit_laws.Finite.{bits_same}
+use Rattle.finite_laws.proofs.circuit_laws.NetLaws.{net_run, net_run-runs, net_run-inputs}
+use Rattle.finite_laws.proofs.circuit_laws.Windows.{row_value-is, rows_length}
+use Rattle.finite_laws.proofs.circuit_laws.Joined.{run_joined}
+use Rattle.finite_laws.proofs.circuit_laws.JoinedParts.{joined_same, joined_single, joined_determined, joined_number}
 use Rattle.event_laws.proofs.EventAgreement.{rank, rank_one, rank_within, falls, kind, known, loads_always}
 use Rattle.event_laws.proofs.SettledEvents.{settled_has_events_in_nets}
 

@@ -7,10 +7,10 @@ use Rattle.circuit_theory.specs.Cover.{cover_value}
 use Rattle.circuit_theory.specs.Circuit.{Circuit, Latch, IsInput, IsLatch, IsSingleDriven, Meets, Carries, Holds, Reads, Reaches}
 use Rattle.circuit_theory.specs.Run.{IsRun, IsEnabled, ExtendsWith, CanPut, IsDetermined}
 use Rattle.circuit_theory.specs.Tree.{Tree, Trees, tree_value, tree_values, IsInputNumber}
-use Rattle.event_theory.specs.Frame.{EventSide, NotPut, EventUnfolds, EventUnfoldsAll, ConeLatches, ReachedAt, IsEnable, HasCare, IsLastLoad}
+use Rattle.circuit_theory.specs.Frame.{EventSide, NotPut, EventUnfolds, EventUnfoldsAll, ConeLatches, ReachedAt, IsEnable, HasCare, IsLastLoad}
 use Rattle.circuit_theory.proofs.Lists.{Contains-head, Contains-tail}
 use Rattle.circuit_theory.proofs.Inputs.{beside_is_input}
-use Rattle.circuit_laws.proofs.Loads.{loads_low, keeps_value}
+use Rattle.finite_laws.proofs.circuit_laws.Loads.{loads_low, keeps_value}
 
 -- an enabled latch has what it took over at its last load
 module _ {P : Type 0} (c : Circuit P) (same : (p q : P) → (p ≡ q) ⊎ (p ≢ q)) (n : ℕ) (run : ℕ → P → Bool) (is_run : IsRun c n run) (name : List ℕ) (u next : P) (latch : IsLatch c name u next) (det : IsDetermined c next) where

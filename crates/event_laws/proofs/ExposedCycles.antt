@@ -6,20 +6,20 @@ use Rattle.circuit_theory.specs.Circuit.{Circuit, Latch, IsLatch, IsSingleDriven
 use Rattle.circuit_theory.specs.Run.{IsEnabled, ExtendsWith, Loads, CanPut, IsDetermined, Marked}
 use Rattle.circuit_theory.specs.Tree.{AreNumbered}
 use Rattle.circuit_theory.specs.Net.{IsNet, HasDistinctNames}
-use Rattle.event_theory.specs.Frame.{EventSide, ConeLatches, ReachedAt, EventCycle, IsNode}
+use Rattle.circuit_theory.specs.Frame.{EventSide, ConeLatches, ReachedAt, EventCycle, IsNode}
 use Rattle.circuit_theory.specs.Joined.{Either, Left, Right, joined, beside}
-use Rattle.event_theory.specs.Classes.{HasClasses}
+use Rattle.circuit_theory.specs.Classes.{HasClasses}
 use Rattle.circuit_theory.specs.Agree.{cut, AreAlike, IsMinimalCut}
-use Rattle.event_theory.specs.EventFits.{side_by_side}
+use Rattle.circuit_theory.specs.EventFits.{side_by_side}
 use Rattle.circuit_theory.specs.Depth.{LatchesHaveDepths}
 use Rattle.event_laws.specs.Laws.{ExposedEventsAreCommon}
-use Rattle.circuit_laws.proofs.Marks.{MarkSays, mark_says, marks_stay, marks_down}
-use Rattle.circuit_laws.proofs.SameMarks.{values_by_cone}
-use Rattle.circuit_laws.proofs.Parts.{IsPart, latch_from, cone_from, enabled_up, enabled_from, loads_up}
-use Rattle.circuit_laws.proofs.Joined.{run_joined}
-use Rattle.circuit_laws.proofs.JoinedParts.{left_part, right_part, replace_left, replace_right, joined_same, joined_can_put, joined_determined}
-use Rattle.circuit_laws.proofs.Onward.{cut_run}
-use Rattle.circuit_laws.proofs.Parted.{kept_equation}
+use Rattle.finite_laws.proofs.circuit_laws.Marks.{MarkSays, mark_says, marks_stay, marks_down}
+use Rattle.finite_laws.proofs.circuit_laws.SameMarks.{values_by_cone}
+use Rattle.finite_laws.proofs.circuit_laws.Parts.{IsPart, latch_from, cone_from, enabled_up, enabled_from, loads_up}
+use Rattle.finite_laws.proofs.circuit_laws.Joined.{run_joined}
+use Rattle.finite_laws.proofs.circuit_laws.JoinedParts.{left_part, right_part, replace_left, replace_right, joined_same, joined_can_put, joined_determined}
+use Rattle.finite_laws.proofs.circuit_laws.Onward.{cut_run}
+use Rattle.finite_laws.proofs.circuit_laws.Parted.{kept_equation}
 use Rattle.event_laws.proofs.CutParts.{cone_uncut, extends_cut, enabled_uncut, enabled_cut}
 use Rattle.event_laws.proofs.EventAgreement.{side_run, left_mark, right_mark}
 use Rattle.event_laws.proofs.SettledEvents.{events_are_common_in_nets}

@@ -9,18 +9,18 @@ use Rattle.circuit_theory.specs.Run.{IsEnabled, IsDetermined, Marked}
 use Rattle.circuit_theory.specs.Tree.{AreNumbered}
 use Rattle.circuit_theory.specs.Net.{IsNet, HasDistinctNames}
 use Rattle.circuit_theory.specs.Joined.{Either, Left, Right, joined}
-use Rattle.event_theory.specs.Classes.{HasClasses}
+use Rattle.circuit_theory.specs.Classes.{HasClasses}
 use Rattle.circuit_theory.specs.Agree.{cut, Agree, AgreeOnward, AreAlike, IsPair, IsMinimalCut, latch_named}
-use Rattle.event_theory.specs.EventFits.{side_by_side, HaveEqualEvents}
+use Rattle.circuit_theory.specs.EventFits.{side_by_side, HaveEqualEvents}
 use Rattle.circuit_theory.specs.Depth.{LatchesHaveDepths}
 use Rattle.event_laws.specs.Laws.{ExposedEventFunctionsAgree}
 use Rattle.circuit_theory.proofs.Sums.{same_or_not}
 use Rattle.circuit_theory.proofs.Numbers.{is_among-complete}
-use Rattle.circuit_laws.proofs.Pairs.{latch_is_named}
-use Rattle.circuit_laws.proofs.LawProofs.{next_within}
-use Rattle.circuit_laws.proofs.NetLaws.{net_can_put, net_determined, net_run, net_run-runs, net_run-inputs}
-use Rattle.circuit_laws.proofs.Onward.{cut_input, pairs_agree_onward}
-use Rattle.circuit_laws.proofs.CutLaws.{never_left, left_never, right_never, left_clear, right_clear}
+use Rattle.finite_laws.proofs.circuit_laws.Pairs.{latch_is_named}
+use Rattle.finite_laws.proofs.circuit_laws.LawProofs.{next_within}
+use Rattle.finite_laws.proofs.circuit_laws.NetLaws.{net_can_put, net_determined, net_run, net_run-runs, net_run-inputs}
+use Rattle.finite_laws.proofs.circuit_laws.Onward.{cut_input, pairs_agree_onward}
+use Rattle.finite_laws.proofs.circuit_laws.CutLaws.{never_left, left_never, right_never, left_clear, right_clear}
 use Rattle.event_laws.proofs.CutParts.{cut_own_input, cut_exposed}
 use Rattle.event_laws.proofs.CutNets.{cut_is_net, cut_names_apart}
 use Rattle.event_laws.proofs.CutMarks.{settled_cut}

@@ -8,15 +8,15 @@ use Rattle.circuit_theory.specs.Run.{IsRun, IsEnabled, Loads, Marked}
 use Rattle.circuit_theory.specs.Net.{IsNet, HasDistinctNames}
 use Rattle.circuit_theory.specs.Joined.{Either, Left, Right, joined, beside}
 use Rattle.circuit_theory.specs.Agree.{cut, IsMinimalCut}
-use Rattle.event_theory.specs.Frame.{EventSide}
-use Rattle.event_theory.specs.EventSizes.{Start, IsOther, EventVisits}
-use Rattle.event_theory.specs.EventFits.{side_by_side}
+use Rattle.circuit_theory.specs.Frame.{EventSide}
+use Rattle.circuit_theory.specs.EventSizes.{Start, IsOther, EventVisits}
+use Rattle.circuit_theory.specs.EventFits.{side_by_side}
 use Rattle.event_laws.specs.Laws.{ExposedNamesAreApart}
 use Rattle.circuit_theory.proofs.Lists.{only}
-use Rattle.circuit_laws.proofs.Joined.{run_joined}
-use Rattle.circuit_laws.proofs.JoinedParts.{left_part, right_part, replace_left, replace_right, joined_single}
-use Rattle.circuit_laws.proofs.Onward.{cut_run, cut_input}
-use Rattle.circuit_laws.proofs.CutLaws.{never_left, left_never, right_never, left_clear, right_clear}
+use Rattle.finite_laws.proofs.circuit_laws.Joined.{run_joined}
+use Rattle.finite_laws.proofs.circuit_laws.JoinedParts.{left_part, right_part, replace_left, replace_right, joined_single}
+use Rattle.finite_laws.proofs.circuit_laws.Onward.{cut_run, cut_input}
+use Rattle.finite_laws.proofs.circuit_laws.CutLaws.{never_left, left_never, right_never, left_clear, right_clear}
 use Rattle.event_laws.proofs.ExposedEvents.{left_net, right_net}
 use Rattle.event_laws.proofs.ExposedCycles.{part_says, cone_known}
 

@@ -8,13 +8,13 @@ use Rattle.circuit_theory.specs.Circuit.{Named, Latch, IsLatch, IsSingleDriven, 
 use Rattle.circuit_theory.specs.Run.{IsEnabled, Extends, IsDetermined}
 use Rattle.circuit_theory.specs.Tree.{Tree, Trees, StandsBeside, IsInputNumber, tree_value, tree_values}
 use Rattle.circuit_theory.specs.Joined.{Either, Left, Right, moved_name, joined}
-use Rattle.event_theory.specs.Frame.{EventSide, EventUnfolds, EventUnfoldsAll, ConeOthers, AreFrameValues}
-use Rattle.event_theory.specs.EventFits.{side_by_side}
+use Rattle.circuit_theory.specs.Frame.{EventSide, EventUnfolds, EventUnfoldsAll, ConeOthers, AreFrameValues}
+use Rattle.circuit_theory.specs.EventFits.{side_by_side}
 use Rattle.event_laws.specs.Laws.{FrameValuesExist}
 use Rattle.circuit_theory.proofs.Lists.{length-map}
 use Rattle.circuit_theory.proofs.Inputs.{beside_is_input}
-use Rattle.circuit_laws.proofs.JoinedParts.{joined_same, joined_single, joined_determined, joined_number_once}
-use Rattle.circuit_laws.proofs.JoinedValues.{joined_values}
+use Rattle.finite_laws.proofs.circuit_laws.JoinedParts.{joined_same, joined_single, joined_determined, joined_number_once}
+use Rattle.finite_laws.proofs.circuit_laws.JoinedValues.{joined_values}
 use Rattle.event_laws.proofs.Events.{PutAt}
 use Rattle.event_laws.proofs.EventTrees.{event_tree, one_event_tree}
 use Rattle.finite_laws.proofs.Deciding.{latch_or}

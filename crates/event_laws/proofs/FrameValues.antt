@@ -6,12 +6,12 @@ use Rattle.circuit_theory.specs.Cover.{cover_value}
 use Rattle.circuit_theory.specs.Circuit.{Equation, Gate, Latch, Port, IsLatch, IsSingleDriven, Holds}
 use Rattle.circuit_theory.specs.Run.{IsEnabled, ExtendsWith, CanPut, IsDetermined}
 use Rattle.circuit_theory.specs.Tree.{Tree, Trees, tree_value, tree_values}
-use Rattle.event_theory.specs.Frame.{EventSide, EventUnfolds, EventUnfoldsAll, IsEnable, AreFrameValues}
+use Rattle.circuit_theory.specs.Frame.{EventSide, EventUnfolds, EventUnfoldsAll, IsEnable, AreFrameValues}
 use Rattle.event_laws.specs.Laws.{TreesAreFrameValues}
-use Rattle.event_theory.specs.EventFits.{side_by_side}
+use Rattle.circuit_theory.specs.EventFits.{side_by_side}
 use Rattle.circuit_theory.proofs.Inputs.{beside_is_input}
 use Rattle.event_laws.proofs.Events.{PutAt}
-use Rattle.circuit_laws.proofs.JoinedParts.{joined_same, joined_single, joined_can_put, joined_determined}
+use Rattle.finite_laws.proofs.circuit_laws.JoinedParts.{joined_same, joined_single, joined_can_put, joined_determined}
 use Rattle.event_laws.proofs.SettledEvents.{put_at}
 
 module _ {P : Type 0} (side : EventSide P) (same : (p q : P) → (p ≡ q) ⊎ (p ≢ q)) (single : IsSingleDriven side.circuit) (can_put : CanPut side.circuit)

@@ -22,3 +22,4 @@ pub mod Separations
 pub mod SettledEvents
 pub mod SideParts
 pub mod SideTrees
+pub use Rattle.finite_laws.proofs.circuit_laws

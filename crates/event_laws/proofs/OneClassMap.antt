@@ -8,16 +8,16 @@ use Rattle.circuit_theory.specs.Run.{IsEnabled}
 use Rattle.circuit_theory.specs.Depth.{IsDepth, LatchesHaveDepths}
 use Rattle.circuit_theory.specs.Tree.{Tree, Trees}
 use Rattle.circuit_theory.specs.Cone.{latch_place, latches_of}
-use Rattle.event_theory.specs.Frame.{EventSide, NotPut, EventUnfolds, EventUnfoldsAll, ConeLatches, ConeOthers, ReachedAt, IsEnable, HasCare}
+use Rattle.circuit_theory.specs.Frame.{EventSide, NotPut, EventUnfolds, EventUnfoldsAll, ConeLatches, ConeOthers, ReachedAt, IsEnable, HasCare}
 use Rattle.circuit_theory.specs.Joined.{joined}
-use Rattle.event_theory.specs.Classes.{EnableCare, EnablesDiffer, SometimesOff, EqualsMembers, DiffersFromMember, classes_of, IsInFirstClass, IsLatchOrder, HasClasses}
-use Rattle.event_theory.specs.EventTotals.{IsMapSoFar}
+use Rattle.circuit_theory.specs.Classes.{EnableCare, EnablesDiffer, SometimesOff, EqualsMembers, DiffersFromMember, classes_of, IsInFirstClass, IsLatchOrder, HasClasses}
+use Rattle.circuit_theory.specs.EventTotals.{IsMapSoFar}
 use Rattle.event_laws.specs.Laws.{ClassesAreOne, ClassesSoFarAreOne}
 use Rattle.circuit_theory.proofs.Lists.{Contains-head, Contains-tail, Contains-cases, at_of}
 use Rattle.circuit_theory.proofs.Sums.{AllPairs-head, AllPairs-tail}
-use Rattle.circuit_laws.proofs.Finite.{weakly_decided}
-use Rattle.circuit_laws.proofs.Pairs.{filter_map-has}
-use Rattle.circuit_laws.proofs.JoinedParts.{joined_same, joined_single}
+use Rattle.finite_laws.proofs.circuit_laws.Finite.{weakly_decided}
+use Rattle.finite_laws.proofs.circuit_laws.Pairs.{filter_map-has}
+use Rattle.finite_laws.proofs.circuit_laws.JoinedParts.{joined_same, joined_single}
 use Rattle.event_laws.proofs.EventAgreement.{rank, rank_is, rank_falls, numbers_same}
 
 -- two lists with the same elements, each in one strict order, are one

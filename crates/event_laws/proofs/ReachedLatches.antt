@@ -8,14 +8,14 @@ use Rattle.circuit_theory.specs.Cover.{Cover}
 use Rattle.circuit_theory.specs.Circuit.{Circuit, Equation, Gate, Latch, Port, IsLatch, IsSingleDriven, Reads, Reaches}
 use Rattle.circuit_theory.specs.Run.{IsEnabled, IsDetermined}
 use Rattle.circuit_theory.specs.Joined.{joined}
-use Rattle.event_theory.specs.Frame.{EventSide, ConeLatches, ConeOthers, ReachedAt}
-use Rattle.event_theory.specs.EventSizes.{Start, IsOther}
-use Rattle.event_theory.specs.EventTotals.{StartLatches}
-use Rattle.event_theory.specs.EventFits.{side_by_side}
-use Rattle.event_theory.specs.Reached.{LatchAtNode, AreReached, IsClosed}
+use Rattle.circuit_theory.specs.Frame.{EventSide, ConeLatches, ConeOthers, ReachedAt}
+use Rattle.circuit_theory.specs.EventSizes.{Start, IsOther}
+use Rattle.circuit_theory.specs.EventTotals.{StartLatches}
+use Rattle.circuit_theory.specs.EventFits.{side_by_side}
+use Rattle.circuit_theory.specs.Reached.{LatchAtNode, AreReached, IsClosed}
 use Rattle.event_laws.specs.Laws.{ReachedAreListed, ClosedListsAreReached}
 use Rattle.circuit_theory.proofs.Lists.{Contains-head, Contains-tail, Contains-cases}
-use Rattle.circuit_laws.proofs.JoinedParts.{joined_same, joined_single, joined_determined}
+use Rattle.finite_laws.proofs.circuit_laws.JoinedParts.{joined_same, joined_single, joined_determined}
 use Rattle.event_laws.proofs.EventAgreement.{rank, rank_falls}
 
 nothing_there : {X C : Type 0} (x : X) → Contains [] x → C

@@ -3,9 +3,9 @@ use Rattle.std.proofs.Common.{◌≡◌, ℕ, ◌<◌, Bool, List, [], ◌∷◌
 use Rattle.std.specs.Prelude.{◌⊎◌}
 use Rattle.std.specs.List.{Contains}
 use Rattle.circuit_theory.specs.Query.{Variable}
-use Rattle.event_theory.specs.Frame.{EventSide}
-use Rattle.event_theory.specs.Classes.{EnablesEqual, IsFounder}
-use Rattle.event_theory.specs.EventFrames.{IsSeparation, frame_of}
+use Rattle.circuit_theory.specs.Frame.{EventSide}
+use Rattle.circuit_theory.specs.Classes.{EnablesEqual, IsFounder}
+use Rattle.circuit_theory.specs.EventFrames.{IsSeparation, frame_of}
 use Rattle.event_laws.specs.Laws.{SeparationsAreOne, FoundersAreApart}
 use Rattle.circuit_theory.proofs.Lists.{Contains-head, Contains-tail}
 

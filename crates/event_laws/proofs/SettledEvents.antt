@@ -8,17 +8,17 @@ use Rattle.circuit_theory.specs.Cover.{cover_value}
 use Rattle.circuit_theory.specs.Circuit.{Circuit, Latch, IsInput, IsLatch, IsSingleDriven, Carries, Holds, Reads, Reaches, InCone}
 use Rattle.circuit_theory.specs.Run.{IsRun, IsEnabled, ExtendsWith, Loads, CanPut, IsDetermined, Marked}
 use Rattle.circuit_theory.specs.Tree.{Tree, Trees, tree_value, tree_values}
-use Rattle.event_theory.specs.Frame.{EventSide, NotPut, EventUnfolds, EventUnfoldsAll, ConeLatches, ReachedAt, IsEnable, HasCare, IsLastLoad, EventCycle, IsNode, IsFilled, HasEvents}
+use Rattle.circuit_theory.specs.Frame.{EventSide, NotPut, EventUnfolds, EventUnfoldsAll, ConeLatches, ReachedAt, IsEnable, HasCare, IsLastLoad, EventCycle, IsNode, IsFilled, HasEvents}
 use Rattle.circuit_theory.specs.Joined.{joined}
-use Rattle.event_theory.specs.EventFits.{side_by_side}
+use Rattle.circuit_theory.specs.EventFits.{side_by_side}
 use Rattle.event_laws.specs.Laws.{SettledHasEvents, EventsAreCommon}
 use Rattle.circuit_theory.proofs.Lists.{Contains-head, Contains-tail}
 use Rattle.circuit_theory.proofs.Inputs.{beside_is_input}
 use Rattle.finite_laws.proofs.EnabledDecided.{enabled_in_nets_beside}
-use Rattle.circuit_laws.proofs.Marks.{marks_stay, mark_says, marks_down, MarkSays}
+use Rattle.finite_laws.proofs.circuit_laws.Marks.{marks_stay, mark_says, marks_down, MarkSays}
 use Rattle.event_laws.proofs.Events.{PutAt, last_load_value}
-use Rattle.circuit_laws.proofs.Loads.{put_unique}
-use Rattle.circuit_laws.proofs.JoinedParts.{joined_same, joined_can_put, joined_determined, joined_single}
+use Rattle.finite_laws.proofs.circuit_laws.Loads.{put_unique}
+use Rattle.finite_laws.proofs.circuit_laws.JoinedParts.{joined_same, joined_can_put, joined_determined, joined_single}
 use Rattle.event_laws.proofs.EventAgreement.{rises_at, trees_of, loads_are_one, loads_before}
 
 -- values with a latch put

@@ -12,11 +12,11 @@ use Rattle.circuit_theory.specs.Joined.{Either, Left, Right, joined, beside}
 use Rattle.circuit_theory.specs.Agree.{cut, EnabledIn}
 use Rattle.event_laws.specs.Laws.{SidesAreParts, CutIsNet}
 use Rattle.circuit_theory.proofs.Numbers.{is_among-sound, is_among-complete}
-use Rattle.circuit_laws.proofs.NetLaws.{net_value, net_value-extends}
-use Rattle.circuit_laws.proofs.Parts.{IsPart, latch_up, latch_from, cone_up, cone_from, enabled_up, enabled_from}
-use Rattle.circuit_laws.proofs.JoinedParts.{left_part, right_part, replace_left, replace_right, meets_both}
-use Rattle.circuit_laws.proofs.Parted.{kept_equation}
-use Rattle.circuit_laws.proofs.CutLaws.{kept_test}
+use Rattle.finite_laws.proofs.circuit_laws.NetLaws.{net_value, net_value-extends}
+use Rattle.finite_laws.proofs.circuit_laws.Parts.{IsPart, latch_up, latch_from, cone_up, cone_from, enabled_up, enabled_from}
+use Rattle.finite_laws.proofs.circuit_laws.JoinedParts.{left_part, right_part, replace_left, replace_right, meets_both}
+use Rattle.finite_laws.proofs.circuit_laws.Parted.{kept_equation}
+use Rattle.finite_laws.proofs.circuit_laws.CutLaws.{kept_test}
 use Rattle.event_laws.proofs.CutParts.{cut_latch, cone_uncut, enabled_uncut, enabled_cut}
 use Rattle.event_laws.proofs.CutNets.{cut_is_net}
 

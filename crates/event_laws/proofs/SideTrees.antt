@@ -7,12 +7,12 @@ use Rattle.circuit_theory.specs.Circuit.{Circuit, Equation, Gate, Latch, Port, N
 use Rattle.circuit_theory.specs.Run.{IsEnabled}
 use Rattle.circuit_theory.specs.Tree.{Tree, Trees, Fixed, StandsBeside, IsInputNumber}
 use Rattle.circuit_theory.specs.Joined.{Either, Left, Right, moved, moved_name, joined, beside}
-use Rattle.event_theory.specs.Frame.{EventSide, NotPut, EventUnfolds, EventUnfoldsAll, ConeLatches, ReachedAt, IsEnable, HasCare}
+use Rattle.circuit_theory.specs.Frame.{EventSide, NotPut, EventUnfolds, EventUnfoldsAll, ConeLatches, ReachedAt, IsEnable, HasCare}
 use Rattle.event_laws.specs.Laws.{SidesUnfoldAsParts}
 use Rattle.event_laws.specs.Sides.{moved_put}
-use Rattle.circuit_laws.proofs.NetLaws.{net_value, net_value-extends}
-use Rattle.circuit_laws.proofs.Parts.{IsPart, latch_up, latch_from, reaches_up, reaches_from, enabled_up, enabled_from}
-use Rattle.circuit_laws.proofs.JoinedParts.{joined_number, left_part, right_part, replace_left, replace_right, meets_both, left_one, right_one, left_is_not_right}
+use Rattle.finite_laws.proofs.circuit_laws.NetLaws.{net_value, net_value-extends}
+use Rattle.finite_laws.proofs.circuit_laws.Parts.{IsPart, latch_up, latch_from, reaches_up, reaches_from, enabled_up, enabled_from}
+use Rattle.finite_laws.proofs.circuit_laws.JoinedParts.{joined_number, left_part, right_part, replace_left, replace_right, meets_both, left_one, right_one, left_is_not_right}
 
 -- numbers of the first circuit's inputs among those of both
 number_left : (inputs : List (Named ℕ)) (order : List ℕ) (others : List (Named (Either ℕ ℕ))) (more : List ℕ) (p i : ℕ) → StandsBeside inputs order p i → StandsBeside (map (moved_name Left) inputs ++ others) (order ++ more) (Left p) i

@@ -6,10 +6,10 @@ use Rattle.std.proofs.lemmas.List.Elements.{Contains-append_left}
 use Rattle.circuit_theory.specs.Run.{IsEnabled}
 use Rattle.circuit_theory.specs.Joined.{joined}
 use Rattle.circuit_theory.proofs.Lists.{at_of}
-use Rattle.circuit_laws.proofs.JoinedParts.{joined_single, joined_number_once}
-use Rattle.event_theory.specs.Frame.{EventSide}
-use Rattle.event_theory.specs.Classes.{EnablesEqual, AlwaysEnabled, EqualsMembers, DiffersFromMember, classes_of, IsInFirstClass}
-use Rattle.event_theory.specs.EventFits.{side_by_side}
+use Rattle.finite_laws.proofs.circuit_laws.JoinedParts.{joined_single, joined_number_once}
+use Rattle.circuit_theory.specs.Frame.{EventSide}
+use Rattle.circuit_theory.specs.Classes.{EnablesEqual, AlwaysEnabled, EqualsMembers, DiffersFromMember, classes_of, IsInFirstClass}
+use Rattle.circuit_theory.specs.EventFits.{side_by_side}
 use Rattle.event_laws.specs.ClassSteps.{IsFirstFit, HaveTwinEnables, TwinsFitOneClass}
 use Rattle.event_laws.proofs.ClassMaps.{IsSplit, split_at, fold_each}
 use Rattle.event_laws.proofs.EventTrees.{one_enable}

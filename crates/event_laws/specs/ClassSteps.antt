@@ -5,10 +5,10 @@ use Rattle.circuit_theory.specs.Run.{IsEnabled}
 use Rattle.circuit_theory.specs.Net.{IsNet}
 use Rattle.circuit_theory.specs.Depth.{LatchesHaveDepths}
 use Rattle.circuit_theory.specs.Joined.{Either, joined}
-use Rattle.event_theory.specs.Frame.{EventSide}
-use Rattle.event_theory.specs.Classes.{EnableCare, EnableAtRoot, EqualsMembers, DiffersFromMember, classes_of, IsLatchOrder, HasClasses}
-use Rattle.event_theory.specs.EventFits.{side_by_side}
-use Rattle.event_theory.specs.EventTotals.{IsMapSoFar}
+use Rattle.circuit_theory.specs.Frame.{EventSide}
+use Rattle.circuit_theory.specs.Classes.{EnableCare, EnableAtRoot, EqualsMembers, DiffersFromMember, classes_of, IsLatchOrder, HasClasses}
+use Rattle.circuit_theory.specs.EventFits.{side_by_side}
+use Rattle.circuit_theory.specs.EventTotals.{IsMapSoFar}
 
 -- the class is the first one all of whose members so far equal the latch, or the next one, whatever class the latch itself has there
 pub record IsFirstFit {P : Type 0} (s : EventSide P) (before : List P) (v : P) (class : ℕ) : Type 0 where

@@ -9,18 +9,18 @@ use Rattle.circuit_theory.specs.Net.{IsNet, HasDistinctNames}
 use Rattle.circuit_theory.specs.Depth.{IsDepth, HasCycle, LatchesHaveDepths}
 use Rattle.circuit_theory.specs.Tree.{Tree, AreNumbered, tree_value}
 use Rattle.circuit_theory.specs.Agree.{cut, IsPair, EnabledIn, IsSettled, AreAlike, Agree, AgreeOnward, IsMinimalCut}
-use Rattle.event_theory.specs.Frame.{EventSide, bits_as_shifts, EventUnfolds, ConeLatches, IsEnable, AreFrameValues, EventCycle, IsNumberedRun, IsNode, HasEvents, ReachedAt}
+use Rattle.circuit_theory.specs.Frame.{EventSide, bits_as_shifts, EventUnfolds, ConeLatches, IsEnable, AreFrameValues, EventCycle, IsNumberedRun, IsNode, HasEvents, ReachedAt}
 use Rattle.circuit_theory.specs.Joined.{Either, Left, Right, joined, beside}
-use Rattle.event_theory.specs.Classes.{HasClasses, IsClassMap, IsFounder, DiffersFromMember}
+use Rattle.circuit_theory.specs.Classes.{HasClasses, IsClassMap, IsFounder, DiffersFromMember}
 use Rattle.circuit_theory.specs.Query.{Query, Variable}
 use Rattle.circuit_theory.specs.Sequence.{sequence_rows}
-use Rattle.event_theory.specs.EventFrames.{AreNodeVariables, IsSeparation, IsPairTree, frame_of, IsUnshownFrame, HaveDifferentEvents, IsEventDifference}
+use Rattle.circuit_theory.specs.EventFrames.{AreNodeVariables, IsSeparation, IsPairTree, frame_of, IsUnshownFrame, HaveDifferentEvents, IsEventDifference}
 use Rattle.circuit_theory.specs.Fits.{MakesDiffer}
-use Rattle.event_theory.specs.EventFits.{IsEventWitness, ReachesAlways, HaveEqualEvents, side_by_side}
-use Rattle.event_theory.specs.EventSizes.{Start, EventVisits}
-use Rattle.event_theory.specs.EventTotals.{IsMapSoFar, StartLatches}
+use Rattle.circuit_theory.specs.EventFits.{IsEventWitness, ReachesAlways, HaveEqualEvents, side_by_side}
+use Rattle.circuit_theory.specs.EventSizes.{Start, EventVisits}
+use Rattle.circuit_theory.specs.EventTotals.{IsMapSoFar, StartLatches}
 use Rattle.event_laws.specs.Sides.{UnfoldsAsPart}
-use Rattle.event_theory.specs.Reached.{LatchAtNode, AreReached, IsClosed}
+use Rattle.circuit_theory.specs.Reached.{LatchAtNode, AreReached, IsClosed}
 
 -- Equal event functions mean agreement in the event mode: with the class map of both circuits side by side, where no cycle is left
 -- but self-edges of enabled latches, and the functions of each pair agree in each frame with care for both.

@@ -2,7 +2,7 @@
 use Rattle.std.specs.Prelude.{ℕ, ◌↔◌, Bool, List, Option, Some, None}
 use Rattle.circuit_theory.specs.Run.{IsEnabled}
 use Rattle.circuit_theory.specs.Tree.{Tree}
-use Rattle.event_theory.specs.Frame.{EventSide, EventUnfolds, ConeLatches, IsEnable, HasCare}
+use Rattle.circuit_theory.specs.Frame.{EventSide, EventUnfolds, ConeLatches, IsEnable, HasCare}
 
 -- the latch that is read as a constant, moved
 abbrev pub moved_put : {P R : Type 0} → (P → R) → Option (P × Bool) → Option (R × Bool)

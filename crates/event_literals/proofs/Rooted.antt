@@ -5,20 +5,20 @@ use Rattle.std.specs.List.{All, Contains}
 use Rattle.std.proofs.lemmas.List.Elements.{All-weaker}
 use Rattle.std.proofs.lemmas.Option.{slice_get_within}
 use Rattle.circuit_theory.proofs.Lists.{at_of}
-use Rattle.flat_net.specs.declared.parts.LatchAt.{LatchAt}
-use Rattle.flat_net.specs.Sound.{IsSound}
-use Rattle.flat_net.specs.View.{NetView}
-use Rattle.flat_net.proofs.Growth.{slice_get-append}
-use Rattle.flat_net.proofs.Places.{one_at}
-use Rattle.event_nodes.specs.Lit.{Lit}
-use Rattle.event_nodes.specs.Graph.{flip}
+use Rattle.event_walk.specs.flat_net.declared.parts.LatchAt.{LatchAt}
+use Rattle.event_walk.specs.flat_net.Sound.{IsSound}
+use Rattle.event_walk.specs.flat_net.View.{NetView}
+use Rattle.event_walk.proofs.flat_net.Growth.{slice_get-append}
+use Rattle.event_walk.proofs.flat_net.Places.{one_at}
+use Rattle.event_walk.specs.event_nodes.Lit.{Lit}
+use Rattle.event_walk.specs.event_nodes.Graph.{flip}
 use Rattle.aig_or.specs.ShortOr.{IsShortOr}
-use Rattle.event_nodes.specs.Adds.{Adds}
-use Rattle.event_nodes.specs.Nodes.{EventGraphView, IsEventGraph, GrowsEvents}
-use Rattle.event_nodes.specs.View.{EventCircuitView}
-use Rattle.event_nodes.specs.Visited.{CounterView}
-use Rattle.event_nodes.proofs.Growing.{grows_refl, grows_trans}
-use Rattle.event_nodes.proofs.Lists.{adds_none, adds_trans, adds_at, adds_contains}
+use Rattle.event_walk.specs.event_nodes.Adds.{Adds}
+use Rattle.event_walk.specs.event_nodes.Nodes.{EventGraphView, IsEventGraph, GrowsEvents}
+use Rattle.event_walk.specs.event_nodes.View.{EventCircuitView}
+use Rattle.event_walk.specs.event_nodes.Visited.{CounterView}
+use Rattle.event_walk.proofs.event_nodes.Growing.{grows_refl, grows_trans}
+use Rattle.event_walk.proofs.event_nodes.Lists.{adds_none, adds_trans, adds_at, adds_contains}
 use Rattle.event_walk.specs.declared.frames.Frame.{Frame}
 use Rattle.event_walk.specs.declared.frames.Put.TheVariants.{Low, High}
 use Rattle.event_walk.specs.declared.frames.Step.{Step}

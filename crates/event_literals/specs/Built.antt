@@ -1,8 +1,8 @@
 -- What an unfolding of a signal has met, and what it asks for.
 use Rattle.std.specs.Prelude.{◌≡◌, ℕ, ◌+◌, ◌*◌, ◌<◌, ◌≤◌, List, length, slice_get, Some, All, Contains}
-use Rattle.event_theory.specs.EventSizes.{Start}
-use Rattle.event_nodes.specs.Nodes.{EventGraphView}
-use Rattle.event_nodes.specs.Visited.{CounterView, IsWeighed}
+use Rattle.circuit_theory.specs.EventSizes.{Start}
+use Rattle.event_walk.specs.event_nodes.Nodes.{EventGraphView}
+use Rattle.event_walk.specs.event_nodes.Visited.{CounterView, IsWeighed}
 use Rattle.event_walk.specs.declared.frames.Frame.{Frame}
 use Rattle.event_walk.specs.declared.frames.Ways.{Ways}
 use Rattle.event_walk.specs.Ready.{IsReadyBy}

@@ -2,10 +2,10 @@
 
 ghost use Rattle.std.specs.Prelude.{◌≡◌, ℕ, ◌+◌, ◌*◌, ◌^◌, ◌<◌, ◌≤◌, [], length, slice_get, Some, None, All, Contains, IfOk, IfSome, OnOk};
 ghost use Rattle.std.specs.List.{AllZip, sum_by};
-ghost use Rattle.event_theory.specs.EventSizes.{Start};
-ghost use Rattle.event_nodes.specs.Lit.{Lit};
-ghost use Rattle.event_nodes.specs.Weights.{gate_weight, weight_at};
-ghost use Rattle.event_nodes.specs.Nodes.{EventGraphView, GrowsEvents};
+ghost use Rattle.circuit_theory.specs.EventSizes.{Start};
+ghost use Rattle.event_walk.specs.event_nodes.Lit.{Lit};
+ghost use Rattle.event_walk.specs.event_nodes.Weights.{gate_weight, weight_at};
+ghost use Rattle.event_walk.specs.event_nodes.Nodes.{EventGraphView, GrowsEvents};
 ghost use Rattle.event_walk.specs.declared.frames.Frame.{Frame};
 ghost use Rattle.event_walk.specs.declared.frames.Step.{Step};
 ghost use Rattle.event_walk.specs.Ready.{IsPlan};
@@ -14,11 +14,10 @@ ghost use Rattle.event_literals.specs.Known.{AreKnown, IsKnownIn, HasUnfolded, I
 ghost use Rattle.event_literals.specs.Built.{IsReadyFor, IsWalked};
 
 use crate::memo::Memo;
-use event_nodes::{
-    Counter, EventCircuit, EventGraph, EventUnfoldError, Lit, Place, gate_of, latch_of,
+use event_walk::{
+    Counter, Driver, EventCircuit, EventGraph, EventUnfoldError, EventWalker, Frame, Lit, NoMemory,
+    Place, PlaceTable, Signal, Step, Ways, constant, gate_of, latch_of,
 };
-use event_walk::{EventWalker, Frame, Step, Ways, constant};
-use flat_net::{Driver, NoMemory, PlaceTable, Signal};
 use std::alloc::Global;
 use std::marker::Model;
 

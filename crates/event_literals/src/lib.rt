@@ -7,4 +7,7 @@ mod memo;
 
 pub use aig_or::short_or;
 pub use builder::{EventBuilder, Unfolding};
-pub use flat_net::{Driver, Signal};
+pub use event_walk::{
+    Aig, Counter, Driver, EventCircuit, EventGraph, EventUnfoldError, Frame, Ids, Lit, NoMemory,
+    Place, PlaceTable, Put, Seq, Signal, Ways, constant, latch_of,
+};

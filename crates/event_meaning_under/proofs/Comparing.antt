@@ -18,15 +18,15 @@ use Rattle.outcome.specs.declared.verdict.LimitAt.{LimitAt}
 use Rattle.outcome.specs.declared.verdict.LimitAt.TheVariants as limit_at
 use Rattle.outcome.specs.declared.verdict.Outcome.{Outcome}
 use Rattle.outcome.specs.declared.verdict.Verdict.TheVariants as verdict
-use Rattle.read_inputs.proofs.CutPairs.{one_output, pair_listed}
+use Rattle.event_meaning.proofs.read_inputs.CutPairs.{one_output, pair_listed}
 use Rattle.class_queries.specs.Enables.{both_of}
 use Rattle.class_queries.specs.Laws.{AreKept}
 use Rattle.assume_laws.specs.Assume.{Assumption}
-use Rattle.event_under.specs.Laws.{AreAllPairs}
-use Rattle.event_outcome_under.specs.Circuits.{AreNets}
-use Rattle.event_outcome_under.specs.Fitting.{class_limit, IsUnrecovered, IsUnclassed}
-use Rattle.event_outcome_under.specs.Named.{latch_names}
-use Rattle.event_outcome_under.specs.Fitted.{EventOutcomeFitsUnder, IsComparedByPairsUnder}
+use Rattle.event_under_fits.specs.event_under.Laws.{AreAllPairs}
+use Rattle.event_meaning.specs.event_fits.Circuits.{AreNets}
+use Rattle.event_meaning.specs.event_fits.Fitting.{class_limit, IsUnrecovered, IsUnclassed}
+use Rattle.event_meaning.specs.event_fits.Named.{latch_names}
+use Rattle.event_meaning_under.specs.Fitted.{EventOutcomeFitsUnder, IsComparedByPairsUnder}
 use Rattle.event_meaning_under.proofs.Bare.{bare, bare_kept}
 
 -- the pairs are compared where the verdict is no limit

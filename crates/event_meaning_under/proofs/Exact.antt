@@ -6,7 +6,7 @@ use Rattle.circuit_theory.specs.Run.{IsEnabled}
 use Rattle.circuit_theory.specs.Tree.{Tree, tree_value}
 use Rattle.circuit_theory.proofs.Lists.{zip_right}
 use Rattle.circuit_laws.proofs.JoinedParts.{joined_number_once, joined_single}
-use Rattle.event_theory.specs.Frame.{EventUnfolds}
+use Rattle.circuit_theory.specs.Frame.{EventUnfolds}
 use Rattle.event_laws.proofs.EventTrees.{one_event_tree}
 use Rattle.flat_net.specs.View.{circuit_of}
 use Rattle.flat_net.proofs.Nets.{sound_is_net}
@@ -19,9 +19,9 @@ use Rattle.class_queries.proofs.Meaning.{numbered}
 use Rattle.event_nodes.specs.View.{EventCircuitView}
 use Rattle.assume_laws.specs.Assume.{Assumption, HaveEqualEventsUnder}
 use Rattle.assume_laws.specs.Sequences.{HaveDifferentEventsUnder}
-use Rattle.event_under.specs.Answers.{AnswerFitsUnder, PairFitsUnder}
-use Rattle.event_outcome_under.specs.Asked.{IsDecisive}
-use Rattle.event_outcome_under.specs.Circuits.{IsReadyCircuit}
+use Rattle.event_under_fits.specs.event_under.Answers.{AnswerFitsUnder, PairFitsUnder}
+use Rattle.event_meaning.specs.event_fits.Asked.{IsDecisive}
+use Rattle.event_meaning.specs.event_fits.Circuits.{IsReadyCircuit}
 use Rattle.event_meaning_under.specs.Laws.{AnswersAreExactUnder}
 
 module _ (c : Assumption) (a b : EventCircuitView) (left_ready : IsReadyCircuit a) (right_ready : IsReadyCircuit b) where

@@ -4,17 +4,17 @@ use Rattle.std.specs.List.{AllZip, Contains}
 use Rattle.circuit_theory.specs.Joined.{Left, Right}
 use Rattle.circuit_theory.specs.Query.{Variable}
 use Rattle.circuit_theory.proofs.Lists.{Contains-map, of_at}
-use Rattle.frame_report.specs.declared.frame.Spot.{Spot}
+use Rattle.witness_report.specs.declared.frame_report.frame.Spot.{Spot}
 use Rattle.interface.specs.Pairs.{NamedPair, places_of}
 use Rattle.sec_setup.specs.Cuts.{columns_of}
 use Rattle.class_queries.specs.Enables.{both_of}
 use Rattle.event_meaning.proofs.Cases.{events_found, unshown_no_limit}
 use Rattle.assume_laws.specs.Sequences.{IsUnshownFrameUnder}
 use Rattle.event_under_fits.specs.Findings.{VerdictFitsUnder}
-use Rattle.event_outcome_under.specs.FrameBit.{FrameBit}
-use Rattle.event_outcome_under.specs.Told as told
-use Rattle.event_outcome_under.specs.Named.{latch_names, NamesSpot}
-use Rattle.event_outcome_under.specs.Shown.{TellsVariable, TellsFrame}
+use Rattle.event_meaning.specs.event_fits.FrameBit.{FrameBit}
+use Rattle.event_meaning.specs.event_fits.Told as told
+use Rattle.event_meaning.specs.event_fits.Named.{latch_names, NamesSpot}
+use Rattle.event_meaning.specs.event_fits.Shown.{TellsVariable, TellsFrame}
 use Rattle.event_meaning_under.specs.Laws.{UnshownOutcomesAreFramedUnder}
 use Rattle.event_meaning_under.proofs.Comparing.{compared_under}
 

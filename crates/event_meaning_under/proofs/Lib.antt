@@ -3,3 +3,8 @@ pub mod Comparing
 pub mod Saying
 pub mod Framing
 pub mod Exact
+pub use Rattle.event_meaning.proofs as event_meaning
+pub use Rattle.under_base.proofs as under_base
+pub use Rattle.under_base.proofs.assume_sequences
+pub use Rattle.under_base.proofs.assume_taken
+pub use Rattle.under_base.proofs.compare_base

@@ -3,7 +3,7 @@ use Rattle.std.proofs.Common.{◌≡◌, ◌∙◌, ℕ, Bool, false, List, leng
 use Rattle.std.specs.List.{Contains}
 use Rattle.circuit_theory.proofs.Lists.{Contains-map, of_at, zip_right}
 use Rattle.circuit_theory.specs.Sequence.{sequence_rows}
-use Rattle.event_theory.specs.Frame.{bits_as_shifts}
+use Rattle.circuit_theory.specs.Frame.{bits_as_shifts}
 use Rattle.flat_net.specs.View.{NetView, circuit_of}
 use Rattle.flat_net.proofs.Nets.{sound_is_net, sound_names}
 use Rattle.interface.specs.declared.pairs.SignalPair.{SignalPair}
@@ -18,17 +18,17 @@ use Rattle.outcome.specs.declared.verdict.Outcome.{Outcome}
 use Rattle.outcome.specs.declared.verdict.PairResult.{PairResult}
 use Rattle.class_queries.specs.Enables.{both_of}
 use Rattle.event_nodes.specs.View.{EventCircuitView}
-use Rattle.event_fits.proofs.Differing.{cuts_differ, circuits_differ}
+use Rattle.event_meaning.proofs.event_fits.Differing.{cuts_differ, circuits_differ}
 use Rattle.event_meaning.proofs.Cases.{cut_found, cut_no_limit, different_found, different_no_limit, equal_found, equal_no_limit}
 use Rattle.assume_laws.specs.Assume.{Assumption}
 use Rattle.assume_laws.specs.Sequences.{filled_frame}
-use Rattle.event_under.specs.Answers.{AnswerFitsUnder, PairFitsUnder}
-use Rattle.event_under.proofs.Agreeing.{cuts_agree}
+use Rattle.event_under_fits.specs.event_under.Answers.{AnswerFitsUnder, PairFitsUnder}
+use Rattle.event_under_fits.proofs.event_under.Agreeing.{cuts_agree}
 use Rattle.event_under_fits.specs.Findings.{IsSequenceUnder, VerdictFitsUnder}
-use Rattle.event_fits.specs.Findings.{IsFirstWith}
-use Rattle.event_outcome_under.specs.Circuits.{AreNets}
-use Rattle.event_outcome_under.specs.Named.{latch_names}
-use Rattle.event_outcome_under.specs.Fitted.{IsComparedByPairsUnder}
+use Rattle.event_meaning.specs.event_fits.Findings.{IsFirstWith}
+use Rattle.event_meaning.specs.event_fits.Circuits.{AreNets}
+use Rattle.event_meaning.specs.event_fits.Named.{latch_names}
+use Rattle.event_meaning_under.specs.Fitted.{IsComparedByPairsUnder}
 use Rattle.event_meaning_under.specs.Laws.{CutOutcomesDifferUnder, DifferentOutcomesDifferUnder, EqualOutcomesAgreeUnder}
 use Rattle.event_meaning_under.proofs.Bare.{bare}
 use Rattle.event_meaning_under.proofs.Comparing.{all_pairs, compared_under, deep, kept, numbers}

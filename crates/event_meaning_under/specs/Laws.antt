@@ -16,11 +16,11 @@ use Rattle.class_queries.specs.Enables.{both_of}
 use Rattle.sec_setup.specs.Cuts.{is_cut}
 use Rattle.assume_laws.specs.Assume.{Assumption}
 use Rattle.assume_laws.specs.Sequences.{HaveDifferentEventsUnder}
-use Rattle.event_outcome_under.specs.Circuits.{AreNets}
-use Rattle.event_outcome_under.specs.Asked.{IsDecisive}
-use Rattle.event_outcome_under.specs.Fitted.{EventOutcomeFitsUnder, IsComparedByPairsUnder}
-use Rattle.event_outcome_under.specs.Framed.{IsFramedUnder}
-use Rattle.event_outcome_under.specs.Saying.{SaysEqualUnder, SaysDifferentUnder, SaysNotShownUnder}
+use Rattle.event_meaning.specs.event_fits.Circuits.{AreNets}
+use Rattle.event_meaning.specs.event_fits.Asked.{IsDecisive}
+use Rattle.event_meaning_under.specs.Fitted.{EventOutcomeFitsUnder, IsComparedByPairsUnder}
+use Rattle.event_meaning_under.specs.Framed.{IsFramedUnder}
+use Rattle.event_meaning_under.specs.Saying.{SaysEqualUnder, SaysDifferentUnder, SaysNotShownUnder}
 
 -- Equal says that the circuits agree in the event mode in the runs that meet the assumption, and onward over the exposed latches.
 abbrev pub EqualOutcomesAgreeUnder : Type 0

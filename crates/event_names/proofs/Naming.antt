@@ -14,8 +14,8 @@ use Rattle.flat_net.specs.View.{NetView, named, circuit_of}
 use Rattle.interface.specs.declared.pairs.SignalPair.{SignalPair}
 use Rattle.interface.specs.Pairs.{ArePairsOf, outputs_of}
 use Rattle.sec_base.specs.declared.basics.Tag.{Tag}
-use Rattle.sec_setup.specs.Setup.{AreColumns}
-use Rattle.outcome.specs.declared.verdict.PairResult.{PairResult}
+use Rattle.event_fits.specs.sec_setup.Setup.{AreColumns}
+use Rattle.event_fits.specs.outcome.declared.verdict.PairResult.{PairResult}
 use Rattle.event_fits.specs.FrameBit.{FrameBit}
 use Rattle.event_nodes.specs.View.{EventCircuitView}
 use Rattle.event_order.specs.Order.{IsTagOf, net_at}
@@ -28,10 +28,10 @@ use Rattle.event_fits.specs.EventVerdict.{EventVerdict}
 use Rattle.event_fits.specs.EventVerdict.TheVariants as found
 use Rattle.event_fits.specs.UnshownPair.{UnshownPair}
 use Rattle.event_fits.specs.Named.{latch_names, names_at}
-use Rattle.read_inputs.proofs.Places.{IsShown}
+use Rattle.event_fits.proofs.read_inputs.Places.{IsShown}
 use Rattle.event_names.specs.declared.names.Names.{Names}
 use Rattle.event_names.specs.Nameable.{CanBeNamed, IsBitIn, IsLatchIn, IsOtherIn, IsSeparationIn, IsUnshownIn}
-use Rattle.read_inputs.proofs.Leaves.{class_below, pair_below}
+use Rattle.event_fits.proofs.read_inputs.Leaves.{class_below, pair_below}
 
 -- a latch has a name
 module _ (a b : NetView) (n : Names) (left : n.left ≡ latch_names a) (right : n.right ≡ latch_names b) where

@@ -3,4 +3,7 @@
 
 mod names;
 
+pub use event_fits::{
+    CompareError, EnabledLatches, EventSetup, RecoveryError, recover_both, set_up_events,
+};
 pub use names::{Names, latch_names, named_latch, named_other, named_verdict};

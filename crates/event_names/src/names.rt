@@ -5,9 +5,11 @@ ghost use Rattle.std.specs.List.{AllZip};
 ghost use Rattle.event_fits.specs.Named.{latch_names, latch_of, NamesSeparation, NamesSpot, NamesUnshown, NamesVerdict};
 ghost use Rattle.event_names.specs.Nameable.{CanBeNamed, IsInputIn, IsLatchIn, IsOtherIn, IsSeparationIn, IsUnshownIn};
 
-use event_fits::{EventVerdict, FrameBit, ToldSeparation, UnshownFrame, UnshownPair};
+use event_fits::{
+    EventVerdict, Frame, FrameBit, LimitAt, Separation, Separations, Spot, Spots, ToldSeparation,
+    Unshown, UnshownFrame, UnshownPair, Verdict, Why,
+};
 use flat_net::Net;
-use outcome::{Frame, LimitAt, Separation, Separations, Spot, Spots, Unshown, Verdict, Why};
 use sec_base::{NoMemory, Seq, Side, Tag, Word, Words};
 use std::alloc::Global;
 

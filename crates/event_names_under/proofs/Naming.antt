@@ -8,8 +8,8 @@ use Rattle.circuit_theory.specs.Joined.{Left, Right}
 use Rattle.circuit_theory.specs.Query.{Variable, HasLeaf}
 use Rattle.circuit_theory.specs.Tree.{Tree, IsInputNumber}
 use Rattle.circuit_theory.proofs.Lists.{All-from_each, Contains-cases, Contains-head, Contains-map, Contains-tail, of_at}
-use Rattle.event_theory.specs.EventFrames.{AreNodeVariables, IsPairTree}
-use Rattle.event_theory.specs.Frame.{NodeBefore}
+use Rattle.circuit_theory.specs.EventFrames.{AreNodeVariables, IsPairTree}
+use Rattle.circuit_theory.specs.Frame.{NodeBefore}
 use Rattle.flat_net.specs.Sound.{IsSound}
 use Rattle.flat_net.specs.View.{circuit_of}
 use Rattle.interface.specs.declared.pairs.SignalPair.{SignalPair}
@@ -18,16 +18,16 @@ use Rattle.outcome.specs.declared.verdict.PairResult.{PairResult}
 use Rattle.sec_setup.specs.Setup.{AreColumns}
 use Rattle.class_queries.specs.Enables.{both_of}
 use Rattle.event_nodes.specs.View.{EventCircuitView}
-use Rattle.read_inputs.proofs.Leaves.{pair_below}
+use Rattle.event_names.proofs.read_inputs.Leaves.{pair_below}
 use Rattle.assume_laws.specs.Assume.{Assumption}
 use Rattle.assume_laws.specs.Sequences.{IsPairTreeUnder}
 use Rattle.assume_laws.proofs.Meeting.{leaf_input}
-use Rattle.event_outcome_under.specs.Findings.{IsFirstUnshownUnder, VerdictFitsUnder}
-use Rattle.event_outcome_under.specs.EventPairs.{EventPairs}
-use Rattle.event_outcome_under.specs.EventVerdict.{EventVerdict}
-use Rattle.event_outcome_under.specs.EventVerdict.TheVariants as found
-use Rattle.event_fits.specs.Separations.{Separates}
-use Rattle.event_outcome_under.specs.UnshownPair.{UnshownPair}
+use Rattle.event_meaning_under.specs.Findings.{IsFirstUnshownUnder, VerdictFitsUnder}
+use Rattle.event_meaning_under.specs.EventPairs.{EventPairs}
+use Rattle.event_meaning_under.specs.EventVerdict.{EventVerdict}
+use Rattle.event_meaning_under.specs.EventVerdict.TheVariants as found
+use Rattle.event_meaning_under.specs.event_fits.Separations.{Separates}
+use Rattle.event_meaning_under.specs.UnshownPair.{UnshownPair}
 use Rattle.event_names.specs.Named.{latch_names}
 use Rattle.event_names.specs.Nameable.{CanBeNamed, IsSeparationIn, IsUnshownIn}
 use Rattle.event_names.specs.declared.names.Names.{Names}

@@ -1,7 +1,7 @@
 -- A latch whose bit isn't set isn't enabled.
 use Rattle.std.proofs.Common.{◌≡◌, ◌∙◌, ℕ, Bool, true, false, List, get_or, slice_get, Some, refl, sym, ap, subst, arith, inl, inr}
 use Rattle.std.specs.Prelude.{◌⊎◌, ◌↔◌}
-use Rattle.event_theory.specs.Circuit.{IsLatch}
+use Rattle.flat_net.specs.circuit_theory.Circuit.{IsLatch}
 use Rattle.std.proofs.lemmas.Bool.{false≢true}
 use Rattle.std.proofs.lemmas.Option.{get_or_from_slice_get, slice_get_within}
 use Rattle.flat_net.specs.declared.parts.LatchAt.{LatchAt}

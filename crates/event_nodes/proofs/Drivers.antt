@@ -3,11 +3,11 @@ use Rattle.std.proofs.Common.{◌≡◌, ◌∙◌, ◌+◌, ◌*◌, ◌<◌, �
 use Rattle.std.specs.Prelude.{◌⊎◌}
 use Rattle.std.specs.List.{Contains}
 use Rattle.std.proofs.lemmas.List.Elements.{All-contains}
-use Rattle.event_theory.specs.Cover.{Cover}
-use Rattle.event_theory.specs.Circuit.{Gate as gate_equation, Latch as latch_equation, Port, IsInput, IsLatch, Reads}
-use Rattle.event_theory.specs.Sizes.{WeighsAt}
-use Rattle.event_theory.specs.Net.{IsAbove, IsWithin}
-use Rattle.event_theory.proofs.Lists.{Contains-map, Contains-map_from}
+use Rattle.flat_net.specs.circuit_theory.Cover.{Cover}
+use Rattle.flat_net.specs.circuit_theory.Circuit.{Gate as gate_equation, Latch as latch_equation, Port, IsInput, IsLatch, Reads}
+use Rattle.flat_net.specs.circuit_theory.Sizes.{WeighsAt}
+use Rattle.flat_net.specs.circuit_theory.Net.{IsAbove, IsWithin}
+use Rattle.flat_net.proofs.circuit_theory.Lists.{Contains-map, Contains-map_from}
 use Rattle.flat_net.specs.declared.signals.Signal.{Signal}
 use Rattle.flat_net.specs.declared.parts.Port.{Port as InputPort}
 use Rattle.flat_net.specs.declared.parts.Gate.{Gate}

@@ -7,8 +7,8 @@ use Rattle.std.proofs.lemmas.List.Elements.{All-nil, All-append, All-push, All-w
 use Rattle.std.proofs.lemmas.List.Kept.{AllPairs-cons}
 use Rattle.std.proofs.lemmas.List.Sums.{sum_by-cons}
 use Rattle.std.proofs.lemmas.Option.{slice_get_within, same_Some}
-use Rattle.event_theory.proofs.Lists.{Contains-head, Contains-tail, Contains-cases, All-from_each, at_of, of_at}
-use Rattle.event_theory.proofs.Sums.{AllPairs-head, AllPairs-tail}
+use Rattle.flat_net.proofs.circuit_theory.Lists.{Contains-head, Contains-tail, Contains-cases, All-from_each, at_of, of_at}
+use Rattle.flat_net.proofs.circuit_theory.Sums.{AllPairs-head, AllPairs-tail}
 use Rattle.event_nodes.specs.Adds.{Adds}
 use Rattle.flat_net.proofs.Growth.{slice_get-append}
 use Rattle.flat_net.proofs.Places.{All-at}

@@ -3,7 +3,7 @@ use Rattle.std.proofs.Common.{◌≡◌, ◌∙◌, ◌+◌, ◌<◌, ◌≤◌,
 use Rattle.std.proofs.lemmas.List.{get_or_append_left, get_or-append-add, map-append}
 use Rattle.std.proofs.lemmas.List.Elements.{All-contains}
 use Rattle.std.proofs.lemmas.Option.{none-some, same_Some}
-use Rattle.event_theory.proofs.Lists.{map_same}
+use Rattle.flat_net.proofs.circuit_theory.Lists.{map_same}
 use Rattle.event_nodes.specs.Nodes.{paths_from, paths_of, path_of, IsChild, IsTree, EventGraphView, named_places, IsEventGraph, GrowsEvents}
 
 -- the paths so far with the next one

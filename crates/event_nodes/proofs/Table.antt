@@ -2,8 +2,8 @@
 use Rattle.std.proofs.Common.{◌≡◌, ◌≢◌, ◌+◌, ◌≤◌, ℕ, List, [], ◌∷◌, ◌++◌, length, refl, ap, subst, arith, inl, inr}
 use Rattle.std.specs.Prelude.{◌⊎◌}
 use Rattle.std.specs.List.{Contains}
-use Rattle.event_theory.proofs.Lists.{Contains-head, Contains-tail, Contains-cases}
-use Rattle.event_theory.proofs.Sums.{same_or_not}
+use Rattle.flat_net.proofs.circuit_theory.Lists.{Contains-head, Contains-tail, Contains-cases}
+use Rattle.flat_net.proofs.circuit_theory.Sums.{same_or_not}
 use Rattle.event_nodes.specs.Adds.{Adds}
 use Rattle.flat_net.proofs.Growth.{length-push}
 use Rattle.event_nodes.proofs.Lists.{adds_none, adds_push}

@@ -2,9 +2,9 @@
 use Rattle.std.proofs.Common.{◌≡◌, ◌≢◌, ◌∙◌, ◌<◌, ℕ, List, length, map, get_or, slice_get, Option, Some, sym, ap, subst, arith}
 use Rattle.std.specs.List.{All, AllPairs, Contains, sum_by}
 use Rattle.std.proofs.lemmas.Option.{slice_get-get_or}
-use Rattle.event_theory.specs.Sizes.{WeighsAt}
-use Rattle.event_theory.proofs.Lists.{Contains-map, Contains-map_from, at_of}
-use Rattle.event_theory.specs.EventSizes.{Start, EventVisits, WeighedAtNode, IsEventWeight, IsEventOver}
+use Rattle.flat_net.specs.circuit_theory.Sizes.{WeighsAt}
+use Rattle.flat_net.proofs.circuit_theory.Lists.{Contains-map, Contains-map_from, at_of}
+use Rattle.flat_net.specs.circuit_theory.EventSizes.{Start, EventVisits, WeighedAtNode, IsEventWeight, IsEventOver}
 use Rattle.flat_net.specs.Table.{AreDistinct}
 use Rattle.flat_net.specs.View.{circuit_of}
 use Rattle.flat_net.specs.Sound.{IsSound}

@@ -3,11 +3,11 @@
 use Rattle.std.proofs.Common.{◌≡◌, List, [], ◌∷◌, Option, Some, None, refl, sym, subst, inl, inr}
 use Rattle.std.specs.Prelude.{◌⊎◌, ℕ}
 use Rattle.std.specs.List.{Contains}
-use Rattle.event_theory.specs.Circuit.{Circuit, IsLatch, Reads, Reaches}
-use Rattle.event_theory.specs.Frame.{EventSide, ConeOthers, ReachedAt}
-use Rattle.event_theory.specs.EventSizes.{Start, IsOther, EventVisits}
-use Rattle.event_theory.specs.EventTotals.{StartLatches}
-use Rattle.event_theory.proofs.Lists.{Contains-head}
+use Rattle.flat_net.specs.circuit_theory.Circuit.{Circuit, IsLatch, Reads, Reaches}
+use Rattle.flat_net.specs.circuit_theory.Frame.{EventSide, ConeOthers, ReachedAt}
+use Rattle.flat_net.specs.circuit_theory.EventSizes.{Start, IsOther, EventVisits}
+use Rattle.flat_net.specs.circuit_theory.EventTotals.{StartLatches}
+use Rattle.flat_net.proofs.circuit_theory.Lists.{Contains-head}
 
 -- one reading more
 pub reaches_on : {P : Type 0} (c : Circuit P) {p q r : P} → Reaches c p q → Reads c q r → Reaches c p r

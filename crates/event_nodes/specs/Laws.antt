@@ -1,6 +1,6 @@
 -- What follows from what has been counted.
 use Rattle.std.specs.Prelude.{ℕ, ◌<◌, List, All}
-use Rattle.event_theory.specs.EventSizes.{Start, IsEventWeight, IsEventOver}
+use Rattle.flat_net.specs.circuit_theory.EventSizes.{Start, IsEventWeight, IsEventOver}
 use Rattle.flat_net.specs.Table.{AreDistinct}
 use Rattle.flat_net.specs.Sound.{IsSound}
 use Rattle.event_nodes.specs.Nodes.{EventGraphView, IsEventGraph}

@@ -1,8 +1,8 @@
 -- The latches that a start reaches, each at its event nodes: a table of pairs, the number of a node and the signal of a latch.
 use Rattle.std.specs.Prelude.{◌≡◌, ℕ, ◌≤◌, List, length, All, Contains}
-use Rattle.event_theory.specs.Circuit.{Circuit, IsLatch}
-use Rattle.event_theory.specs.Frame.{ConeLatches, ConeOthers, ReachedAt}
-use Rattle.event_theory.specs.EventSizes.{Start, IsOther}
+use Rattle.flat_net.specs.circuit_theory.Circuit.{Circuit, IsLatch}
+use Rattle.flat_net.specs.circuit_theory.Frame.{ConeLatches, ConeOthers, ReachedAt}
+use Rattle.flat_net.specs.circuit_theory.EventSizes.{Start, IsOther}
 use Rattle.flat_net.specs.View.{circuit_of}
 use Rattle.event_nodes.specs.Nodes.{IsChild, path_of}
 use Rattle.event_nodes.specs.View.{EventCircuitView, side_of, Enabled}

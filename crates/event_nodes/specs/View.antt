@@ -1,7 +1,7 @@
 -- What a contract sees of a circuit whose latches have classes.
 use Rattle.std.specs.Prelude.{◌≡◌, ◌↔◌, ℕ, ◌==◌, if◌then◌else◌, Bool, true, List, [], ◌∷◌, length, slice_get, Some}
-use Rattle.event_theory.specs.Run.{IsEnabled}
-use Rattle.event_theory.specs.Frame.{EventSide}
+use Rattle.flat_net.specs.circuit_theory.Run.{IsEnabled}
+use Rattle.flat_net.specs.circuit_theory.Frame.{EventSide}
 use Rattle.flat_net.specs.Table.{AreDistinct}
 use Rattle.flat_net.specs.declared.parts.LatchAt.{LatchAt}
 use Rattle.flat_net.specs.View.{NetView, circuit_of}

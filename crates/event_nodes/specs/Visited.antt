@@ -1,9 +1,9 @@
 -- What the unfoldings of a circuit have visited so far, by the numbers of event nodes, and what is counted of it.
 use Rattle.std.specs.Prelude.{◌≡◌, ℕ, ◌<◌, ◌≤◌, List, [], ◌∷◌, length, slice_get, Option, Some, All, Contains}
 use Rattle.std.specs.List.{sum_by}
-use Rattle.event_theory.specs.Frame.{IsNode}
-use Rattle.event_theory.specs.EventSizes.{Start, EventVisits}
-use Rattle.event_theory.specs.EventTotals.{StartLatches}
+use Rattle.flat_net.specs.circuit_theory.Frame.{IsNode}
+use Rattle.flat_net.specs.circuit_theory.EventSizes.{Start, EventVisits}
+use Rattle.flat_net.specs.circuit_theory.EventTotals.{StartLatches}
 use Rattle.flat_net.specs.View.{NetView}
 use Rattle.event_nodes.specs.Nodes.{path_of}
 use Rattle.event_nodes.specs.Reach.{IsListedAt}

@@ -1,6 +1,6 @@
 -- What each signal of a net counts in an unfolding.
 use Rattle.std.specs.Prelude.{ℕ, ◌+◌, ◌*◌, max, List, length, Option, Some, None, slice_get}
-use Rattle.event_theory.specs.Cover.{Cover}
+use Rattle.flat_net.specs.circuit_theory.Cover.{Cover}
 use Rattle.flat_net.specs.declared.parts.Gate.{Gate}
 use Rattle.flat_net.specs.declared.parts.Driver.{Driver}
 use Rattle.flat_net.specs.declared.parts.Driver.TheVariants as driver

@@ -14,5 +14,7 @@ pub use circuit::EventCircuit;
 pub use counter::Counter;
 pub use error::EventUnfoldError;
 pub use events::EventGraph;
-pub use flat_net::{Ids, NoMemory, PlaceTable, Seq};
+pub use flat_net::{
+    Bits, Driver, Ids, MAX_CONFLICTS, Net, NoMemory, PlaceTable, Seq, Side, Signal, Tag,
+};
 pub use net_parts::{Place, add, add_fanins, gate_of, latch_of, weigh};

@@ -16,7 +16,7 @@ use Rattle.flat_net.specs.Sound.{IsSound}
 use Rattle.flat_net.specs.View.{NetView, circuit_of}
 use Rattle.flat_net.proofs.Nets.{OfGate, OfLatch, equation_from, latch_stands, some_at}
 use Rattle.flat_net.proofs.Places.{one_at}
-use Rattle.signal_graph.specs.Graph.{GraphView, IsGraphOf, IsGraphIn, SkippedBy}
+use Rattle.latch_graph.specs.signal_graph.Graph.{GraphView, IsGraphOf, IsGraphIn, SkippedBy}
 use Rattle.latch_graph.proofs.Skipping.{same_depth, no_depth_less, mode_as_skips, skips_as_mode}
 use Rattle.event_order.specs.Order.{IsMarkedNet}
 use Rattle.event_order.specs.Turns.{IsEnabledDepth}

@@ -6,11 +6,11 @@ use Rattle.circuit_theory.specs.declared.Side.TheVariants.{A, B}
 use Rattle.circuit_theory.specs.Depth.{LatchesHaveDepths}
 use Rattle.circuit_theory.specs.Joined.{Either, Left, Right}
 use Rattle.circuit_theory.specs.Run.{IsEnabled}
-use Rattle.event_theory.specs.Classes.{IsLatchOrder}
-use Rattle.event_theory.specs.EventFits.{side_by_side}
+use Rattle.circuit_theory.specs.Classes.{IsLatchOrder}
+use Rattle.circuit_theory.specs.EventFits.{side_by_side}
 use Rattle.flat_net.specs.Cut.{latch_at}
 use Rattle.flat_net.specs.View.{NetView, circuit_of}
-use Rattle.latch_cone.specs.Cones.{MarksEnabled}
+use Rattle.latch_graph.specs.latch_cone.Cones.{MarksEnabled}
 use Rattle.sec_base.specs.declared.basics.Tag.{Tag}
 
 -- a signal of one of the two circuits, as a place of both

@@ -7,7 +7,7 @@ ghost use Rattle.circuit_theory.specs.Depth.{LatchesHaveDepths};
 ghost use Rattle.circuit_theory.specs.Run.{IsEnabled};
 ghost use Rattle.flat_net.specs.declared.parts.LatchAt.{LatchAt};
 ghost use Rattle.flat_net.specs.View.{circuit_of};
-ghost use Rattle.signal_graph.specs.Graph.{IsGraphIn};
+ghost use Rattle.latch_graph.specs.signal_graph.Graph.{IsGraphIn};
 ghost use Rattle.event_order.specs.Order.{IsMarkedNet};
 ghost use Rattle.event_order.specs.Turns.{IsEnabledDepth};
 

@@ -12,18 +12,18 @@ use Rattle.sec_base.specs.declared.settings.Settings.{Settings}
 use Rattle.witness_report.specs.declared.witness.PairName.TheVariants as pair
 use Rattle.witness_report.specs.declared.witness.Witness.{Witness}
 use Rattle.event_nodes.specs.View.{Enabled}
-use Rattle.event_findings.specs.declared.findings.EventFindings.{EventFindings}
-use Rattle.event_findings.specs.declared.pairs.EventPairs.{EventPairs}
-use Rattle.event_findings.specs.declared.verdict.EventVerdict.TheVariants as found
+use Rattle.event_meaning_under.specs.event_findings.declared.findings.EventFindings.{EventFindings}
+use Rattle.event_meaning_under.specs.event_findings.declared.pairs.EventPairs.{EventPairs}
+use Rattle.event_meaning_under.specs.event_findings.declared.verdict.EventVerdict.TheVariants as found
 use Rattle.assume_laws.proofs.Reading.{numbers_read}
 use Rattle.assume_laws.specs.Assume.{ReadsInputs}
 use Rattle.assume_laws.specs.Sequences.{RowsMeet}
 use Rattle.event_under.specs.Answers.{PairFitsUnder}
 use Rattle.event_under.specs.Places.{IsLightAtNodes}
 use Rattle.event_under.proofs.Sequences.{always_show}
-use Rattle.event_under_fits.specs.Findings.{FindingsFitUnder, IsSequenceUnder}
-use Rattle.event_outcome_under.specs.Answered.{ComparedInEventsUnder}
-use Rattle.event_outcome_under.specs.Fitted.{EventOutcomeFitsUnder}
+use Rattle.event_meaning_under.specs.event_under_fits.Findings.{FindingsFitUnder, IsSequenceUnder}
+use Rattle.event_meaning_under.specs.Answered.{ComparedInEventsUnder}
+use Rattle.event_meaning_under.specs.Fitted.{EventOutcomeFitsUnder}
 use Rattle.event_meaning_under.proofs.Bare.{bare, bare_kept}
 use Rattle.event_meaning_under.proofs.Saying.{cut_outcomes, different_outcomes, equal_outcomes}
 use Rattle.event_meaning_under.proofs.Framing.{unshown_outcomes}

@@ -8,8 +8,8 @@ use Rattle.circuit_theory.specs.Joined.{Either, Left, Right}
 use Rattle.circuit_theory.specs.Query.{Query, Variable, HasLeaf, Distinguishes, bits_of}
 use Rattle.circuit_theory.specs.Tree.{Tree, Leaf, tree_value}
 use Rattle.circuit_theory.proofs.Lists.{Contains-cases, Contains-head, Contains-tail, only}
-use Rattle.event_theory.specs.EventFrames.{AreNodeVariables, IsCareTree, IsPairTree, frame_of}
-use Rattle.event_theory.specs.Frame.{ConeLatches, EventUnfolds, HasCare, NodeBefore}
+use Rattle.circuit_theory.specs.EventFrames.{AreNodeVariables, IsCareTree, IsPairTree, frame_of}
+use Rattle.circuit_theory.specs.Frame.{ConeLatches, EventUnfolds, HasCare, NodeBefore}
 use Rattle.interface.specs.declared.pairs.SignalPair.{SignalPair}
 use Rattle.assume_laws.specs.Assume.{HasVariableAtNode}
 use Rattle.assume_laws.specs.Sequences.{HaveDifferentEventsUnder, IsEventDifferenceUnder, IsEventPairQueryUnder, IsPairTreeUnder, IsSideTree}

@@ -14,11 +14,11 @@ use Rattle.circuit_theory.specs.Joined.{Either, Left, Right}
 use Rattle.circuit_theory.specs.Run.{IsEnabled}
 use Rattle.circuit_theory.specs.Sizes.{WeighsAt}
 use Rattle.circuit_theory.proofs.Lists.{Contains-filter, Contains-head, Contains-map, Contains-map_from, Contains-tail, of_at, only}
-use Rattle.event_theory.specs.EventFits.{ReachesAlways}
-use Rattle.event_theory.specs.EventFrames.{IsEventSize}
-use Rattle.event_theory.specs.EventSizes.{EventVisits, IsEventWeight, Start, WeighedAtNode}
-use Rattle.event_theory.specs.EventTotals.{IsNodesWithin, StartLatches}
-use Rattle.event_theory.specs.Frame.{EventSide, ConeLatches, IsNode, ReachedAt}
+use Rattle.circuit_theory.specs.EventFits.{ReachesAlways}
+use Rattle.circuit_theory.specs.EventFrames.{IsEventSize}
+use Rattle.circuit_theory.specs.EventSizes.{EventVisits, IsEventWeight, Start, WeighedAtNode}
+use Rattle.circuit_theory.specs.EventTotals.{IsNodesWithin, StartLatches}
+use Rattle.circuit_theory.specs.Frame.{EventSide, ConeLatches, IsNode, ReachedAt}
 use Rattle.flat_net.specs.declared.parts.Port.{Port}
 use Rattle.flat_net.specs.Cut.{IsCut}
 use Rattle.flat_net.specs.View.{NetView, circuit_of, is_read, ports_of}
@@ -28,8 +28,8 @@ use Rattle.class_queries.specs.Enables.{both_of}
 use Rattle.event_nodes.specs.View.{EventCircuitView, Enabled, side_of}
 use Rattle.event_setup.specs.Recovered.{AreKnown}
 use Rattle.event_setup.specs.Choosing.{HaveNoCycles}
-use Rattle.event_fits.specs.Circuits.{AreReached, IsReadyCircuit}
-use Rattle.event_fits.specs.Totals.{IsMapMade, IsWithinWith}
+use Rattle.event_meaning_under.specs.event_fits.Circuits.{AreReached, IsReadyCircuit}
+use Rattle.event_meaning_under.specs.event_fits.Totals.{IsMapMade, IsWithinWith}
 use Rattle.event_outcome_samples.specs.Different.{shows_a, shows_b, a_events, b_events, y_pair}
 use Rattle.event_outcome_samples.proofs.Nets.{both_names, left_sound, nothing, right_sound}
 

@@ -12,10 +12,10 @@ use Rattle.sec_setup.specs.Matching.{InterfacesMatch}
 use Rattle.latch_kinds.specs.Found.{HasTooLarge}
 use Rattle.unate_enable.specs.Cones.{data_of_latch}
 use Rattle.event_nodes.specs.View.{EventCircuitView}
-use Rattle.cut_events.specs.Choosing.{HaveNoCycles}
-use Rattle.cut_events.specs.Recovered.{RecoversBoth}
-use Rattle.cut_events.specs.RecoveryError.TheVariants as unknown
-use Rattle.cut_events.specs.Circuits.{AreReached}
+use Rattle.event_texts.specs.event_fits.Choosing.{HaveNoCycles}
+use Rattle.event_texts.specs.event_fits.Recovered.{RecoversBoth}
+use Rattle.event_texts.specs.event_fits.RecoveryError.TheVariants as unknown
+use Rattle.event_texts.specs.event_fits.Circuits.{AreReached}
 use Rattle.event_texts.specs.Compared.{AreTooLargeInEvents, HaveTooManyEvents}
 use Rattle.sec_files.specs.Loading.{IsAccepted, Loads}
 use Rattle.event_texts.specs.Texts.{AreEventComparable}

@@ -10,7 +10,7 @@ use Rattle.circuit_theory.specs.Circuit.{Circuit, Equation, Gate, Latch, Port, N
 use Rattle.circuit_theory.specs.Joined.{moved, moved_name}
 use Rattle.circuit_theory.specs.Sizes.{WeighsAt}
 use Rattle.circuit_theory.proofs.Lists.{Contains-map, Contains-map_from, length-map}
-use Rattle.event_theory.specs.Frame.{ConeLatches}
+use Rattle.circuit_theory.specs.Frame.{ConeLatches}
 use Rattle.net_alike.proofs.Testing.{all_in}
 use Rattle.design_laws.proofs.FlatCycles.{reaches_along, reaches_up}
 use Rattle.design_laws.proofs.FlatParts.{FlatDesign, latch_up}

@@ -16,16 +16,16 @@ use Rattle.design_laws.proofs.FlatParts.{FlatDesign, latch_up}
 use Rattle.design_laws.proofs.Kept.{flat_design}
 use Rattle.design_laws.proofs.KeptNames.{names_are_kept}
 use Rattle.design_rows.proofs.Places.{is_one_place, is_one_place-itself}
-use Rattle.event_designs.proofs.FlatEnabled.{enabled_down}
+use Rattle.design_laws.proofs.event_designs.FlatEnabled.{enabled_down}
 use Rattle.blif_lines.specs.Lines.{cut_line, going_on}
 use Rattle.blif_read.specs.Fault.{fault_of}
 use Rattle.blif_read.specs.Heads.{head_of}
 use Rattle.cut_points.specs.Common.{common_names}
 use Rattle.design_rows.specs.Designs.{and_cover}
-use Rattle.design_tests.specs.NoFault.{has_no_fault}
-use Rattle.design_tests.proofs.NoFaults.{tested_is_sound}
+use Rattle.design_rows.specs.NoFault.{has_no_fault}
+use Rattle.design_rows.proofs.NoFaults.{tested_is_sound}
 use Rattle.sec_files.specs.Loading.{Loads}
-use Rattle.cut_events.specs.Choosing.{HaveNoCycles}
+use Rattle.event_texts.specs.event_fits.Choosing.{HaveNoCycles}
 use Rattle.event_premises.specs.Loads.{loading, on_load, off_load, off_and_cover, on_loads, off_loads}
 use Rattle.event_premises.specs.Premises.{LoadsAreComparable}
 use Rattle.event_premises.proofs.Comparing.{comparable_events}

@@ -7,9 +7,9 @@ use Rattle.circuit_theory.specs.Depth.{LatchReads, LatchPath, LatchChain, HasCyc
 use Rattle.circuit_theory.specs.Run.{IsEnabled}
 use Rattle.circuit_theory.specs.Sizes.{Weighed, WeighsAt, IsConeOver}
 use Rattle.circuit_theory.proofs.Lists.{Contains-head, Contains-tail, Contains-map, length-map}
-use Rattle.event_theory.specs.EventSizes.{EventVisits, IsEventOver, IsOther, Start, WeighedAtNode}
-use Rattle.event_theory.specs.EventTotals.{IsNodesOver, StartLatches}
-use Rattle.event_theory.specs.Frame.{ConeLatches, ConeOthers, EventSide, IsNode}
+use Rattle.circuit_theory.specs.EventSizes.{EventVisits, IsEventOver, IsOther, Start, WeighedAtNode}
+use Rattle.circuit_theory.specs.EventTotals.{IsNodesOver, StartLatches}
+use Rattle.circuit_theory.specs.Frame.{ConeLatches, ConeOthers, EventSide, IsNode}
 use Rattle.event_premises.proofs.Counting.{fewer, fewer_by, pairs, pairs_length, has_pair, sum_bound}
 use Rattle.std.proofs.Math.Nat.{mul-le-mul_left}
 

@@ -11,7 +11,7 @@ use Rattle.circuit_laws.proofs.JoinedParts.{left_part, right_part, replace_left,
 use Rattle.circuit_laws.proofs.Onward.{cut_input}
 use Rattle.circuit_laws.proofs.Parted.{kept_equation}
 use Rattle.circuit_laws.proofs.Parts.{IsPart, latch_from, reaches_from}
-use Rattle.event_theory.specs.Frame.{ConeLatches}
+use Rattle.circuit_theory.specs.Frame.{ConeLatches}
 use Rattle.flat_net.specs.Cut.{IsCutCircuit}
 use Rattle.event_premises.proofs.Shallow.{IsShallow, IsLightCircuit}
 

@@ -10,10 +10,10 @@ use Rattle.circuit_theory.specs.Depth.{LatchesHaveDepths}
 use Rattle.circuit_theory.specs.Joined.{Either, joined}
 use Rattle.circuit_theory.specs.Run.{IsEnabled}
 use Rattle.circuit_theory.proofs.Lists.{All-from_each, Contains-cases}
-use Rattle.event_theory.specs.Classes.{DiffersFromMember}
-use Rattle.event_theory.specs.EventSizes.{IsEventOver, Start}
-use Rattle.event_theory.specs.EventTotals.{IsNodesOver, IsClassesOver}
-use Rattle.event_theory.specs.Frame.{EventSide}
+use Rattle.circuit_theory.specs.Classes.{DiffersFromMember}
+use Rattle.circuit_theory.specs.EventSizes.{IsEventOver, Start}
+use Rattle.circuit_theory.specs.EventTotals.{IsNodesOver, IsClassesOver}
+use Rattle.circuit_theory.specs.Frame.{EventSide}
 use Rattle.event_laws.proofs.SideParts.{sides_are_parts_in_nets}
 use Rattle.flat_net.specs.Sound.{IsSound}
 use Rattle.flat_net.specs.View.{NetView, circuit_of}
@@ -21,9 +21,9 @@ use Rattle.flat_net.proofs.Nets.{sound_is_net}
 use Rattle.interface.specs.declared.pairs.SignalPair.{SignalPair}
 use Rattle.event_nodes.specs.View.{EventCircuitView, Enabled, side_of}
 use Rattle.class_queries.specs.Enables.{both_of, class_map}
-use Rattle.event_classes.specs.Totals.{circuit_at, ReachTooMany, starts_at, WeighTooMuch}
-use Rattle.event_classes.specs.Refused.{AreManyLatches, IsNextLatch, IsTooHeavy, IsTooMany}
-use Rattle.event_totals.specs.Totals.{IsMapMade, PairsReachTooMany, PairsWeighTooMuch}
+use Rattle.event_texts.specs.event_classes.Totals.{circuit_at, ReachTooMany, starts_at, WeighTooMuch}
+use Rattle.event_texts.specs.event_classes.Refused.{AreManyLatches, IsNextLatch, IsTooHeavy, IsTooMany}
+use Rattle.event_texts.specs.event_fits.Totals.{IsMapMade, PairsReachTooMany, PairsWeighTooMuch}
 use Rattle.event_premises.proofs.Counting.{fewer}
 use Rattle.event_premises.proofs.Shallow.{IsShallow, IsLightCircuit, few_nodes, light_visits}
 use Rattle.event_premises.proofs.Sides.{both_latches, both_length, both_shallow}

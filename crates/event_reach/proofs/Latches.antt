@@ -5,11 +5,11 @@ use Rattle.std.specs.List.{Contains}
 use Rattle.std.proofs.lemmas.Bool.{cases_lt}
 use Rattle.circuit_theory.specs.Circuit.{IsLatch}
 use Rattle.circuit_theory.proofs.Lists.{of_at}
-use Rattle.flat_net.specs.declared.parts.Driver.{Driver}
-use Rattle.flat_net.specs.declared.parts.Driver.TheVariants as driver
-use Rattle.flat_net.specs.Sound.{IsSound}
-use Rattle.flat_net.specs.View.{NetView, circuit_of}
-use Rattle.flat_net.proofs.Places.{one_at}
+use Rattle.event_nodes.specs.flat_net.declared.parts.Driver.{Driver}
+use Rattle.event_nodes.specs.flat_net.declared.parts.Driver.TheVariants as driver
+use Rattle.event_nodes.specs.flat_net.Sound.{IsSound}
+use Rattle.event_nodes.specs.flat_net.View.{NetView, circuit_of}
+use Rattle.event_nodes.proofs.flat_net.Places.{one_at}
 use Rattle.event_nodes.specs.Adds.{Adds}
 use Rattle.event_nodes.proofs.Drivers.{driven_latch, latch_equation_stands, input_latch, driven_gate, gate_latch}
 use Rattle.event_nodes.proofs.Lists.{adds_trans, adds_weaker, adds_contains}

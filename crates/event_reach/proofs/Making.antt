@@ -6,12 +6,12 @@ use Rattle.std.proofs.lemmas.Bool.{cases_lt}
 use Rattle.std.proofs.lemmas.List.Elements.{All-contains}
 use Rattle.std.proofs.lemmas.Option.{slice_get_within}
 use Rattle.circuit_theory.proofs.Lists.{Contains-cases}
-use Rattle.event_theory.specs.EventSizes.{Start, IsOther}
-use Rattle.event_theory.specs.EventTotals.{StartLatches}
-use Rattle.event_theory.specs.Frame.{ConeLatches, IsNode, ReachedAt}
-use Rattle.flat_net.specs.View.{circuit_of}
-use Rattle.flat_net.proofs.Nets.{some_at}
-use Rattle.flat_net.proofs.Places.{one_at}
+use Rattle.circuit_theory.specs.EventSizes.{Start, IsOther}
+use Rattle.circuit_theory.specs.EventTotals.{StartLatches}
+use Rattle.circuit_theory.specs.Frame.{ConeLatches, IsNode, ReachedAt}
+use Rattle.event_nodes.specs.flat_net.View.{circuit_of}
+use Rattle.event_nodes.proofs.flat_net.Nets.{some_at}
+use Rattle.event_nodes.proofs.flat_net.Places.{one_at}
 use Rattle.event_nodes.specs.Adds.{Adds}
 use Rattle.event_nodes.specs.Nodes.{EventGraphView, IsTree, GrowsEvents, path_of}
 use Rattle.event_nodes.specs.Reach.{IsBegun, IsReachedPlace, AreReachedPlaces}

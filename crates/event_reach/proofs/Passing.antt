@@ -7,16 +7,16 @@ use Rattle.circuit_theory.specs.Circuit.{IsLatch, Reaches}
 use Rattle.circuit_theory.specs.Depth.{LatchesHaveDepths}
 use Rattle.circuit_theory.proofs.Lists.{at_of, of_at}
 use Rattle.circuit_theory.proofs.Sums.{same_or_not}
-use Rattle.event_theory.specs.Frame.{ConeOthers, ReachedAt}
-use Rattle.event_theory.specs.EventSizes.{Start}
+use Rattle.circuit_theory.specs.Frame.{ConeOthers, ReachedAt}
+use Rattle.circuit_theory.specs.EventSizes.{Start}
 use Rattle.event_laws.proofs.EventAgreement.{rank, rank_falls}
-use Rattle.flat_net.specs.declared.parts.Driver.{Driver}
-use Rattle.flat_net.specs.declared.parts.Driver.TheVariants as driver
-use Rattle.flat_net.specs.declared.parts.LatchAt.{LatchAt}
-use Rattle.flat_net.specs.declared.signals.Signal.{Signal}
-use Rattle.flat_net.specs.Sound.{IsSound}
-use Rattle.flat_net.specs.View.{NetView, circuit_of}
-use Rattle.flat_net.proofs.Nets.{sound_is_net, latch_stands}
+use Rattle.event_nodes.specs.flat_net.declared.parts.Driver.{Driver}
+use Rattle.event_nodes.specs.flat_net.declared.parts.Driver.TheVariants as driver
+use Rattle.event_nodes.specs.flat_net.declared.parts.LatchAt.{LatchAt}
+use Rattle.event_nodes.specs.flat_net.declared.signals.Signal.{Signal}
+use Rattle.event_nodes.specs.flat_net.Sound.{IsSound}
+use Rattle.event_nodes.specs.flat_net.View.{NetView, circuit_of}
+use Rattle.event_nodes.proofs.flat_net.Nets.{sound_is_net, latch_stands}
 use Rattle.latch_cone.specs.Cones.{IsOther, AreOthers}
 use Rattle.event_nodes.specs.Nodes.{IsChild, IsTree}
 use Rattle.event_nodes.specs.Reach.{IsBegun, IsReachedPlace, IsPassedOn}

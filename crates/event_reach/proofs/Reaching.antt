@@ -7,15 +7,15 @@ use Rattle.std.proofs.lemmas.List.Elements.{All-append, All-weaker}
 use Rattle.std.proofs.lemmas.Option.{slice_get_within}
 use Rattle.circuit_theory.specs.Circuit.{IsLatch}
 use Rattle.circuit_theory.proofs.Lists.{at_of, All-from_each}
-use Rattle.event_theory.specs.Frame.{ReachedAt}
-use Rattle.event_theory.specs.EventSizes.{Start}
-use Rattle.flat_net.specs.declared.signals.Signal.{Signal}
-use Rattle.flat_net.specs.declared.parts.LatchAt.{LatchAt}
-use Rattle.flat_net.specs.View.{circuit_of}
-use Rattle.flat_net.specs.Sound.{IsSound}
-use Rattle.flat_net.proofs.Growth.{slice_get-append}
-use Rattle.flat_net.proofs.Nets.{some_at, latch_stands}
-use Rattle.flat_net.proofs.Places.{one_at, All-at}
+use Rattle.circuit_theory.specs.Frame.{ReachedAt}
+use Rattle.circuit_theory.specs.EventSizes.{Start}
+use Rattle.event_nodes.specs.flat_net.declared.signals.Signal.{Signal}
+use Rattle.event_nodes.specs.flat_net.declared.parts.LatchAt.{LatchAt}
+use Rattle.event_nodes.specs.flat_net.View.{circuit_of}
+use Rattle.event_nodes.specs.flat_net.Sound.{IsSound}
+use Rattle.event_nodes.proofs.flat_net.Growth.{slice_get-append}
+use Rattle.event_nodes.proofs.flat_net.Nets.{some_at, latch_stands}
+use Rattle.event_nodes.proofs.flat_net.Places.{one_at, All-at}
 use Rattle.latch_cone.specs.Cones.{AreOthers, AreReached}
 use Rattle.event_nodes.specs.Adds.{Adds}
 use Rattle.event_nodes.specs.Nodes.{EventGraphView, IsChild, IsTree, path_of, GrowsEvents}

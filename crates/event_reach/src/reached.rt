@@ -3,10 +3,10 @@
 ghost use Rattle.std.specs.Prelude.{◌≡◌, ℕ, List, ◌+◌, ◌^◌, ◌<◌, ◌≤◌, length, slice_get, Some, None, All, Contains, IfOk, IfSome, IfNone, OnOk};
 ghost use Rattle.circuit_theory.specs.Circuit.{IsLatch};
 ghost use Rattle.circuit_theory.specs.Depth.{LatchesHaveDepths};
-ghost use Rattle.event_theory.specs.EventSizes.{Start};
-ghost use Rattle.flat_net.specs.View.{circuit_of};
-ghost use Rattle.flat_net.specs.declared.signals.Signal.{Signal};
-ghost use Rattle.flat_net.specs.declared.parts.LatchAt.{LatchAt};
+ghost use Rattle.circuit_theory.specs.EventSizes.{Start};
+ghost use Rattle.event_nodes.specs.flat_net.View.{circuit_of};
+ghost use Rattle.event_nodes.specs.flat_net.declared.signals.Signal.{Signal};
+ghost use Rattle.event_nodes.specs.flat_net.declared.parts.LatchAt.{LatchAt};
 ghost use Rattle.event_nodes.specs.Adds.{Adds};
 ghost use Rattle.event_nodes.specs.Nodes.{GrowsEvents};
 ghost use Rattle.event_nodes.specs.View.{Enabled};
@@ -15,11 +15,11 @@ ghost use Rattle.event_nodes.specs.Reach.{IsReachedPlace, IsPassedOn, AreReached
 ghost use Rattle.event_reach.specs.Made.{HasChild};
 ghost use Rattle.event_nodes.specs.Visited.{AreNodesFrom, HoldsNodes};
 
-use event_nodes::{EventCircuit, EventGraph, EventUnfoldError, Place, add};
-use flat_net::{Driver, Net, Signal};
+use event_nodes::{
+    Driver, EventCircuit, EventGraph, EventUnfoldError, Net, Place, PlaceTable, Signal, add,
+};
 use indexmap::IndexSet;
 use latch_cone::{other_latches, reached};
-use sec_base::PlaceTable;
 use std::alloc::Global;
 
 /// The most event nodes that are reached, the root among them.

@@ -12,11 +12,11 @@ use Rattle.circuit_theory.specs.Tree.{Tree, Leaf, Fixed, Branch, Nil, Cons, AreN
 use Rattle.circuit_theory.specs.Query.{Variable, HasLeaf, HasLeafIn, Distinguishes, bits_of}
 use Rattle.circuit_theory.specs.Joined.{Either, Left, Right}
 use Rattle.circuit_theory.specs.Fits.{MakesDiffer}
-use Rattle.event_theory.specs.Frame.{EventUnfolds, EventUnfoldsAll, ConeLatches, ConeOthers, ReachedAt, IsEnable, HasCare}
-use Rattle.event_theory.specs.Classes.{IsInFirstClass, HasClasses}
-use Rattle.event_theory.specs.EventQueries.{IsEventPairQuery}
-use Rattle.event_theory.specs.EventFrames.{IsCareTree, AreNodeVariables, IsPairTree, frame_of, HaveDifferentEvents, IsEventDifference}
-use Rattle.event_theory.specs.EventFits.{ReachesAlways}
+use Rattle.circuit_theory.specs.Frame.{EventUnfolds, EventUnfoldsAll, ConeLatches, ConeOthers, ReachedAt, IsEnable, HasCare}
+use Rattle.circuit_theory.specs.Classes.{IsInFirstClass, HasClasses}
+use Rattle.circuit_theory.specs.EventQueries.{IsEventPairQuery}
+use Rattle.circuit_theory.specs.EventFrames.{IsCareTree, AreNodeVariables, IsPairTree, frame_of, HaveDifferentEvents, IsEventDifference}
+use Rattle.circuit_theory.specs.EventFits.{ReachesAlways}
 use Rattle.circuit_theory.proofs.Inputs.{beside_is_input}
 use Rattle.circuit_theory.proofs.Lists.{Contains-head, only}
 use Rattle.circuit_theory.proofs.Numbers.{one_place}

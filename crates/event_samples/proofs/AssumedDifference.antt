@@ -9,7 +9,7 @@ use Rattle.circuit_theory.specs.Tree.{Tree, Leaf, Branch, Nil, tree_value}
 use Rattle.circuit_theory.specs.Query.{Variable, HasLeaf, HasLeafIn, Distinguishes, assigned, same_shift, bits_of, IsSame}
 use Rattle.circuit_theory.specs.Joined.{Left, Right}
 use Rattle.circuit_theory.specs.Fits.{MakesDiffer}
-use Rattle.event_theory.specs.EventFrames.{AreNodeVariables, frame_of}
+use Rattle.circuit_theory.specs.EventFrames.{AreNodeVariables, frame_of}
 use Rattle.circuit_theory.proofs.Inputs.{test_same}
 use Rattle.circuit_theory.proofs.Lists.{Contains-head, only}
 use Rattle.event_laws.proofs.EventWindows.{event_witness_makes_differ_in_nets}

@@ -10,7 +10,7 @@ use Rattle.circuit_theory.specs.Tree.{Tree, IsInputNumber, tree_value}
 use Rattle.circuit_theory.specs.Query.{HasLeaf, HasLeafIn}
 use Rattle.circuit_theory.specs.Joined.{Either, Left, Right}
 use Rattle.circuit_theory.specs.Agree.{cut}
-use Rattle.event_theory.specs.Frame.{EventSide, EventUnfolds}
+use Rattle.circuit_theory.specs.Frame.{EventSide, EventUnfolds}
 use Rattle.circuit_theory.proofs.Lists.{only}
 use Rattle.assume_laws.specs.Assume.{IsAssumption, RowMeets, ReadsInputs, HasCareUnder, HaveEqualEventsUnder, AgreeUnder, AgreeOnwardUnder}
 use Rattle.assume_laws.proofs.EventLaws.{event_functions_agree_under, exposed_event_functions_agree_under}

@@ -7,7 +7,7 @@ use Rattle.circuit_theory.specs.Run.{IsRun, IsEnabled, Loads, CanPut, Marked}
 use Rattle.circuit_theory.specs.Net.{IsNet}
 use Rattle.circuit_theory.specs.Joined.{Either, Left, Right, beside}
 use Rattle.circuit_theory.specs.Agree.{cut, AreAlike, IsSettled}
-use Rattle.event_theory.specs.Frame.{ConeLatches, EventCycle, IsNumberedRun, IsNode, HasEvents}
+use Rattle.circuit_theory.specs.Frame.{ConeLatches, EventCycle, IsNumberedRun, IsNode, HasEvents}
 use Rattle.circuit_theory.proofs.Inputs.{beside_is_input}
 use Rattle.circuit_laws.proofs.LawProofs.{runs_exist}
 use Rattle.circuit_laws.proofs.Onward.{cut_run}

@@ -13,8 +13,8 @@ use Rattle.circuit_theory.specs.Depth.{LatchReads, LatchPath, HasCycle, without}
 use Rattle.circuit_theory.specs.Tree.{IsInputNumber}
 use Rattle.circuit_theory.specs.Joined.{Left, Right, joined}
 use Rattle.circuit_theory.specs.Agree.{cut, Agree, AgreeOnward, EnabledIn, IsPair, IsMinimalCut}
-use Rattle.event_theory.specs.Frame.{EventSide}
-use Rattle.event_theory.specs.EventFits.{HaveEqualEvents}
+use Rattle.circuit_theory.specs.Frame.{EventSide}
+use Rattle.circuit_theory.specs.EventFits.{HaveEqualEvents}
 use Rattle.circuit_theory.proofs.Lists.{only}
 use Rattle.circuit_theory.proofs.Numbers.{one_number}
 use Rattle.circuit_theory.proofs.Sums.{same_or_not}

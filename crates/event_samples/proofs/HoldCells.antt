@@ -12,9 +12,9 @@ use Rattle.circuit_theory.specs.Depth.{LatchReads, LatchChain, ChainFrom, IsDept
 use Rattle.circuit_theory.specs.Tree.{Tree, Leaf, Fixed, Branch, Nil, Cons, IsInputNumber, tree_value}
 use Rattle.circuit_theory.specs.Cone.{latches_of}
 use Rattle.circuit_theory.specs.Query.{Variable, HasLeaf, HasLeafIn}
-use Rattle.event_theory.specs.EventFrames.{IsEnableTree, IsCareTree}
-use Rattle.event_theory.specs.Frame.{EventSide, EventUnfolds, EventUnfoldsAll, ConeOthers, ReachedAt, IsEnable}
-use Rattle.event_theory.specs.Classes.{EnableCare, EnablesEqual, EnablesDiffer, SometimesOff, EqualsMembers, DiffersFromMember, IsInFirstClass, IsLatchOrder, classes_of}
+use Rattle.circuit_theory.specs.EventFrames.{IsEnableTree, IsCareTree}
+use Rattle.circuit_theory.specs.Frame.{EventSide, EventUnfolds, EventUnfoldsAll, ConeOthers, ReachedAt, IsEnable}
+use Rattle.circuit_theory.specs.Classes.{EnableCare, EnablesEqual, EnablesDiffer, SometimesOff, EqualsMembers, DiffersFromMember, IsInFirstClass, IsLatchOrder, classes_of}
 use Rattle.circuit_theory.proofs.Lists.{of_at}
 use Rattle.circuit_theory.proofs.Inputs.{beside_is_input, test_same, test_refl}
 use Rattle.circuit_theory.proofs.Numbers.{distinct_at}

@@ -10,9 +10,9 @@ use Rattle.circuit_theory.specs.Depth.{LatchesHaveDepths}
 use Rattle.circuit_theory.specs.Tree.{Tree, Leaf, Branch, Nil, Cons, AreNumbered, IsInputNumber, StandsBeside, tree_value}
 use Rattle.circuit_theory.specs.Joined.{Either, Left, Right, joined}
 use Rattle.circuit_theory.specs.Agree.{IsPair}
-use Rattle.event_theory.specs.Frame.{EventSide, EventUnfolds, EventUnfoldsAll, ConeLatches, HasCare}
-use Rattle.event_theory.specs.Classes.{IsInFirstClass, IsClassMap, IsLatchOrder, HasClasses, classes_of}
-use Rattle.event_theory.specs.EventFits.{side_by_side}
+use Rattle.circuit_theory.specs.Frame.{EventSide, EventUnfolds, EventUnfoldsAll, ConeLatches, HasCare}
+use Rattle.circuit_theory.specs.Classes.{IsInFirstClass, IsClassMap, IsLatchOrder, HasClasses, classes_of}
+use Rattle.circuit_theory.specs.EventFits.{side_by_side}
 use Rattle.circuit_theory.proofs.Inputs.{beside_is_input}
 use Rattle.circuit_theory.proofs.Numbers.{one_place}
 use Rattle.circuit_laws.proofs.JoinedParts.{joined_same, joined_single, joined_number_once}

@@ -5,11 +5,11 @@ use Rattle.std.specs.List.{Contains}
 use Rattle.circuit_theory.specs.Circuit.{IsLatch, Reads, Reaches}
 use Rattle.circuit_theory.specs.Run.{IsEnabled, IsDetermined}
 use Rattle.circuit_theory.specs.Joined.{Either, Left, Right}
-use Rattle.event_theory.specs.Frame.{ReachedAt, IsEnable}
-use Rattle.event_theory.specs.Classes.{IsLatchOrder}
-use Rattle.event_theory.specs.EventSizes.{Start}
-use Rattle.event_theory.specs.EventTotals.{StartLatches, IsMapSoFar}
-use Rattle.event_theory.specs.Reached.{LatchAtNode, IsClosed}
+use Rattle.circuit_theory.specs.Frame.{ReachedAt, IsEnable}
+use Rattle.circuit_theory.specs.Classes.{IsLatchOrder}
+use Rattle.circuit_theory.specs.EventSizes.{Start}
+use Rattle.circuit_theory.specs.EventTotals.{StartLatches, IsMapSoFar}
+use Rattle.circuit_theory.specs.Reached.{LatchAtNode, IsClosed}
 use Rattle.circuit_theory.proofs.Lists.{only}
 use Rattle.circuit_laws.proofs.NetLaws.{net_determined}
 use Rattle.circuit_laws.proofs.Parts.{determined_up, reaches_from}

@@ -6,9 +6,9 @@ use Rattle.circuit_theory.specs.Cover.{Cover}
 use Rattle.circuit_theory.specs.Tree.{Tree}
 use Rattle.circuit_theory.specs.Query.{Variable, HasLeaf, HasLeafIn}
 use Rattle.circuit_theory.specs.Joined.{Left, Right}
-use Rattle.event_theory.specs.Frame.{NodeBefore}
-use Rattle.event_theory.specs.Classes.{IsFounder}
-use Rattle.event_theory.specs.EventFrames.{IsEnableTree, IsClassTree, AreNodeVariables, IsSeparation, IsSeparationFromAlways, frame_of}
+use Rattle.circuit_theory.specs.Frame.{NodeBefore}
+use Rattle.circuit_theory.specs.Classes.{IsFounder}
+use Rattle.circuit_theory.specs.EventFrames.{IsEnableTree, IsClassTree, AreNodeVariables, IsSeparation, IsSeparationFromAlways, frame_of}
 use Rattle.circuit_laws.proofs.JoinedParts.{joined_same}
 use Rattle.circuit_samples.proofs.Each.{each_at, each_pair}
 use Rattle.event_samples.specs.Samples.{load_cover, load_not_cover}

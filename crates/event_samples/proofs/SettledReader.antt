@@ -10,7 +10,7 @@ use Rattle.circuit_theory.specs.Run.{ExtendsWith, IsEnabled, Marked}
 use Rattle.circuit_theory.specs.Net.{IsNet, HasDistinctNames}
 use Rattle.circuit_theory.specs.Depth.{LatchReads, LatchPath, HasCycle, without}
 use Rattle.circuit_theory.specs.Agree.{EnabledIn, IsMinimalCut}
-use Rattle.event_theory.specs.EventSizes.{EventVisits}
+use Rattle.circuit_theory.specs.EventSizes.{EventVisits}
 use Rattle.circuit_theory.proofs.Lists.{only}
 use Rattle.circuit_laws.proofs.LawProofs.{runs_exist}
 use Rattle.circuit_laws.proofs.NetLaws.{net_value, net_value-extends, net_can_put}

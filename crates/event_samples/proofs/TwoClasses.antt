@@ -10,9 +10,9 @@ use Rattle.circuit_theory.specs.Depth.{LatchesHaveDepths}
 use Rattle.circuit_theory.specs.Tree.{AreNumbered, IsInputNumber, tree_value}
 use Rattle.circuit_theory.specs.Joined.{Either, Left, Right, joined}
 use Rattle.circuit_theory.specs.Agree.{Agree, IsPair}
-use Rattle.event_theory.specs.Frame.{EventSide}
-use Rattle.event_theory.specs.Classes.{IsClassMap, IsLatchOrder, HasClasses}
-use Rattle.event_theory.specs.EventFits.{side_by_side, HaveEqualEvents}
+use Rattle.circuit_theory.specs.Frame.{EventSide}
+use Rattle.circuit_theory.specs.Classes.{IsClassMap, IsLatchOrder, HasClasses}
+use Rattle.circuit_theory.specs.EventFits.{side_by_side, HaveEqualEvents}
 use Rattle.event_laws.proofs.EventAgreement.{events_agree}
 use Rattle.event_samples.specs.Samples.{opened_before, opened_behind, load_cover, load_not_cover, same_cover, not_cover, numbers, class_of}
 use Rattle.event_samples.specs.Premises.{AreEventSides}

@@ -5,8 +5,8 @@ use Rattle.circuit_theory.specs.Circuit.{Circuit, Gate, Latch}
 use Rattle.circuit_theory.specs.Tree.{Tree, Leaf, Branch, Nil, Cons}
 use Rattle.circuit_theory.specs.Query.{Query, Variable}
 use Rattle.circuit_theory.specs.Joined.{Either, joined}
-use Rattle.event_theory.specs.Frame.{EventSide}
-use Rattle.event_theory.specs.EventFits.{side_by_side}
+use Rattle.circuit_theory.specs.Frame.{EventSide}
+use Rattle.circuit_theory.specs.EventFits.{side_by_side}
 use Rattle.assume_laws.specs.Assume.{Assumption}
 use Rattle.event_samples.specs.Samples.{same_cover}
 

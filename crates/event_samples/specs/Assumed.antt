@@ -3,7 +3,7 @@ use Rattle.std.specs.Prelude.{ℕ, List, [], ◌∷◌, codes}
 use Rattle.circuit_theory.specs.Circuit.{Circuit, Gate}
 use Rattle.circuit_theory.specs.Joined.{Either, Left, Right}
 use Rattle.circuit_theory.specs.Agree.{IsPair}
-use Rattle.event_theory.specs.EventFits.{side_by_side}
+use Rattle.circuit_theory.specs.EventFits.{side_by_side}
 use Rattle.assume_laws.specs.Assume.{Assumption, HaveEqualEventsUnder}
 use Rattle.event_samples.specs.Samples.{same_cover}
 

@@ -7,12 +7,12 @@ use Rattle.circuit_theory.specs.Run.{IsEnabled, IsDetermined}
 use Rattle.circuit_theory.specs.Query.{Variable}
 use Rattle.circuit_theory.specs.Agree.{cut, AreAlike, IsSettled}
 use Rattle.circuit_theory.specs.Joined.{Either, Left, Right, joined, beside}
-use Rattle.event_theory.specs.Frame.{ConeLatches, EventCycle, IsNumberedRun, IsNode, HasEvents, AreFrameValues}
-use Rattle.event_theory.specs.Classes.{HasClasses, classes_of}
-use Rattle.event_theory.specs.EventFits.{side_by_side}
-use Rattle.event_theory.specs.EventSizes.{Start}
-use Rattle.event_theory.specs.EventTotals.{StartLatches, IsMapSoFar}
-use Rattle.event_theory.specs.Reached.{LatchAtNode, AreReached, IsClosed}
+use Rattle.circuit_theory.specs.Frame.{ConeLatches, EventCycle, IsNumberedRun, IsNode, HasEvents, AreFrameValues}
+use Rattle.circuit_theory.specs.Classes.{HasClasses, classes_of}
+use Rattle.circuit_theory.specs.EventFits.{side_by_side}
+use Rattle.circuit_theory.specs.EventSizes.{Start}
+use Rattle.circuit_theory.specs.EventTotals.{StartLatches, IsMapSoFar}
+use Rattle.circuit_theory.specs.Reached.{LatchAtNode, AreReached, IsClosed}
 use Rattle.event_laws.specs.ClassSteps.{IsFirstFit, HaveTwinEnables}
 use Rattle.event_samples.specs.Samples.{before, behind, exposed, numbers, class_of, opened_both, opened_side}
 

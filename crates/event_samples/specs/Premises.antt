@@ -8,8 +8,8 @@ use Rattle.circuit_theory.specs.Depth.{LatchesHaveDepths}
 use Rattle.circuit_theory.specs.Tree.{AreNumbered}
 use Rattle.circuit_theory.specs.Agree.{cut, IsPair, IsMinimalCut}
 use Rattle.circuit_theory.specs.Joined.{Either, Left, Right, joined}
-use Rattle.event_theory.specs.Classes.{HasClasses}
-use Rattle.event_theory.specs.EventFits.{side_by_side, HaveEqualEvents}
+use Rattle.circuit_theory.specs.Classes.{HasClasses}
+use Rattle.circuit_theory.specs.EventFits.{side_by_side, HaveEqualEvents}
 
 -- two nets whose inputs are numbered, with the class map and the depths of both side by side
 pub record AreEventSides (a b : Circuit ℕ) (m n : ℕ) (left right : List ℕ) (class : Either ℕ ℕ → ℕ) : Type 0 where

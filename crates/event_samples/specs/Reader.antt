@@ -6,8 +6,8 @@ use Rattle.circuit_theory.specs.Run.{IsRun, IsEnabled}
 use Rattle.circuit_theory.specs.Net.{IsNet, HasDistinctNames}
 use Rattle.circuit_theory.specs.Agree.{cut, IsSettled, IsMinimalCut}
 use Rattle.circuit_theory.specs.Joined.{Left, joined}
-use Rattle.event_theory.specs.EventFits.{side_by_side}
-use Rattle.event_theory.specs.EventSizes.{EventVisits}
+use Rattle.circuit_theory.specs.EventFits.{side_by_side}
+use Rattle.circuit_theory.specs.EventSizes.{EventVisits}
 use Rattle.circuit_samples.specs.Circuits.{and_cover, toggle_with, toggled}
 
 -- 0 a; 1 q, which takes it over

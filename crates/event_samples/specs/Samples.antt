@@ -3,8 +3,8 @@ use Rattle.std.specs.Prelude.{◌==◌, ℕ, if◌then◌else◌, List, [], ◌�
 use Rattle.circuit_theory.specs.Cover.{Cover}
 use Rattle.circuit_theory.specs.Circuit.{Circuit, Gate, Latch}
 use Rattle.circuit_theory.specs.Joined.{Either, Left, Right, joined}
-use Rattle.event_theory.specs.Frame.{EventSide}
-use Rattle.event_theory.specs.EventFits.{side_by_side}
+use Rattle.circuit_theory.specs.Frame.{EventSide}
+use Rattle.circuit_theory.specs.EventFits.{side_by_side}
 
 -- the value of the one fan-in
 abbrev pub same_cover : Cover

@@ -3,3 +3,4 @@ pub mod Cutting
 pub mod Numbering
 pub mod Recovered
 pub mod Setup
+pub use Rattle.sec_setup.specs as sec_setup

@@ -1,6 +1,6 @@
 //! Why it isn't known which latches of two circuits are enabled.
 
-use pair_decide::Proof;
+use latch_kinds::Proof;
 use sec_base::{NoMemory, Side, Word};
 
 /// Why it isn't known which latches of two circuits are enabled.

@@ -10,7 +10,7 @@ use Rattle.sec_base.proofs.TableLemmas.{take-push}
 use Rattle.event_nodes.specs.Nodes.{EventGraphView, IsEventGraph, GrowsEvents, path_of}
 use Rattle.event_variables.specs.Variables.{variable_of, variables_of}
 use Rattle.event_variables.proofs.NodePaths.{variable_is}
-use Rattle.event_pairs.proofs.Growing.{variables_stay}
+use Rattle.event_agreement.proofs.event_pairs.Growing.{variables_stay}
 use Rattle.event_under.specs.Asked.{variable_in, variables_in}
 use Rattle.ranked_nodes.specs.Named.{named_ranks, path_at, path_by}
 

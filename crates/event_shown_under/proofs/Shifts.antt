@@ -11,7 +11,7 @@ use Rattle.circuit_theory.proofs.Inputs.{test_refl, same_name-sound}
 use Rattle.circuit_theory.proofs.Lists.{map_same}
 use Rattle.circuit_theory.proofs.Numbers.{same_name-refl}
 use Rattle.circuit_theory.proofs.Sums.{same_or_not}
-use Rattle.event_theory.specs.Frame.{always_node, bits_as_shifts}
+use Rattle.circuit_theory.specs.Frame.{always_node, bits_as_shifts}
 use Rattle.event_nodes.specs.Nodes.{EventGraphView}
 use Rattle.event_variables.specs.Variables.{variable_of, variables_of}
 use Rattle.sec_base.proofs.TableLemmas.{take-push}

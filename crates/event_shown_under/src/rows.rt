@@ -2,7 +2,7 @@
 
 ghost use Rattle.std.specs.Prelude.{◌≡◌, ◌<◌, length, All, IfOk};
 ghost use Rattle.circuit_theory.specs.Sequence.{sequence_rows};
-ghost use Rattle.event_theory.specs.Frame.{bits_as_shifts};
+ghost use Rattle.circuit_theory.specs.Frame.{bits_as_shifts};
 ghost use Rattle.event_variables.specs.Variables.{variables_of};
 ghost use Rattle.assume_laws.specs.Sequences.{filled_frame};
 ghost use Rattle.assume_sequences.specs.Filled.{bit_of};

@@ -4,7 +4,7 @@ ghost use Rattle.std.specs.Prelude.{◌≡◌, ℕ, ◌^◌, ◌<◌, Bool, leng
 ghost use Rattle.std.specs.List.{list_any};
 ghost use Rattle.circuit_theory.specs.Names.{same_name};
 ghost use Rattle.circuit_theory.specs.Query.{same_shift};
-ghost use Rattle.event_theory.specs.Frame.{always_node};
+ghost use Rattle.circuit_theory.specs.Frame.{always_node};
 ghost use Rattle.event_variables.specs.Variables.{variables_of};
 ghost use Rattle.event_shown_under.specs.Steps.{shifts_of};
 

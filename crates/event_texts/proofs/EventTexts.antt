@@ -24,12 +24,13 @@ use Rattle.outcome.specs.declared.verdict.Verdict.TheVariants as verdict
 use Rattle.outcome.specs.declared.verdict.Why.{Why}
 use Rattle.outcome.specs.declared.verdict.Why.TheVariants as why
 use Rattle.outcome.specs.Report.{report_text}
-use Rattle.job_base.specs.Written.{outcome_proofs, verdict_proofs}
+use Rattle.outcome.specs.Proofs.{verdict_proofs}
+use Rattle.job_base.specs.Written.{outcome_proofs}
 use Rattle.job_base.proofs.Limits.{pair_proofs}
 use Rattle.sec_setup.specs.Cuts.{columns_of}
 use Rattle.swept_queries.proofs.Listed.{zip_left}
 use Rattle.class_queries.specs.Enables.{both_of}
-use Rattle.plain_meaning.proofs.Fitted.{kept_proof, no_names, some_names, were_exposed}
+use Rattle.event_meaning.proofs.plain_meaning.Fitted.{kept_proof, no_names, some_names, were_exposed}
 use Rattle.event_meaning.specs.Answers.{AnswerFits, IsUndecided, PairFits}
 use Rattle.event_nodes.specs.View.{EventCircuitView}
 use Rattle.event_meaning.specs.Findings.{VerdictFits}
@@ -40,10 +41,10 @@ use Rattle.event_meaning.specs.Fitting.{IsComparedByPairs, IsUnclassed, IsUnreco
 use Rattle.event_meaning.specs.Named.{latch_names, NamesVerdict}
 use Rattle.event_meaning.proofs.Cases.{compared, cut_found, cut_no_limit, different_found, different_no_limit, equal_no_limit}
 use Rattle.event_meaning.proofs.Saying.{uncut}
-use Rattle.sec_files.specs.Loading.{Loads, circuit_of_text}
-use Rattle.sec_files.proofs.Texts.{spelled_circuit}
+use Rattle.text_circuits.specs.sec_files.Loading.{Loads, circuit_of_text}
+use Rattle.text_circuits.proofs.sec_files.Texts.{spelled_circuit}
 use Rattle.text_circuits.proofs.Circuits.{text_design, texts_cuts_differ, texts_differ_by}
-use Rattle.event_designs.proofs.FlatEventAgree.{agree_up, minimal_up, onward_up}
+use Rattle.design_laws.proofs.event_designs.FlatEventAgree.{agree_up, minimal_up, onward_up}
 use Rattle.event_texts.specs.Texts.{AreRead, IsPrinted, EventTextsAgree, EventTextsDiffer, EventCutsDiffer, EventTextsUnshown, EventTextsNotShown, EventTextsUndecided, IsUndecidedBy}
 
 same_some : {X : Type 0} {x y : X} → Some x ≡ Some y → x ≡ y

@@ -26,11 +26,11 @@ use Rattle.sec_setup.specs.Matching.{InterfacesMatch}
 use Rattle.class_queries.specs.Enables.{both_of}
 use Rattle.event_meaning.specs.Says.{SaysEqual, SaysDifferent, SaysNotShown}
 use Rattle.event_meaning.specs.Answers.{IsUndecided}
-use Rattle.event_setup.specs.Choosing.{HaveNoCycles}
+use Rattle.event_meaning.specs.event_setup.Choosing.{HaveNoCycles}
 use Rattle.event_meaning.specs.Compared.{AreTooLargeInEvents, HaveTooManyEvents}
 use Rattle.event_meaning.specs.Fitting.{EventOutcomeFits, IsComparedByPairs, IsUnclassed, IsUnrecovered}
 use Rattle.event_meaning.specs.Shown.{IsFramed}
-use Rattle.sec_files.specs.Loading.{IsAccepted, Loads, SpellsCircuit}
+use Rattle.text_circuits.specs.sec_files.Loading.{IsAccepted, Loads, SpellsCircuit}
 
 -- Both texts load as nets, and spell circuits.
 pub record AreRead (x y : List ℕ) : Type 0 where

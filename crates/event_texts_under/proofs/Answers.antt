@@ -14,9 +14,9 @@ use Rattle.outcome.specs.declared.verdict.ResetWitness.{ResetWitness}
 use Rattle.outcome.specs.declared.verdict.Verdict.TheVariants as verdict
 use Rattle.outcome.specs.declared.verdict.Why.{Why}
 use Rattle.outcome.specs.Report.{report_text}
-use Rattle.job_base.specs.Written.{outcome_proofs}
-use Rattle.event_outcome_under.specs.Answered.{ComparedUnderIn}
-use Rattle.sec_files.specs.Loading.{Loads}
+use Rattle.assume_texts.specs.job_base.Written.{outcome_proofs}
+use Rattle.event_meaning_under.specs.Answered.{ComparedUnderIn}
+use Rattle.assume_texts.specs.sec_files.Loading.{Loads}
 use Rattle.assume_texts.proofs.Answers.{at_limit, equal_under, different_under, not_shown_under, limit_under}
 use Rattle.event_texts_under.specs.Answers.{EqualUnderIn, DifferentUnderIn, NotShownUnderIn, LimitUnderIn}
 use Rattle.event_texts_under.proofs.Texts.{events_agree, events_always, events_differ, events_not_shown, events_undecided}

@@ -7,7 +7,7 @@ use Rattle.circuit_theory.specs.Run.{IsEnabled, Marked}
 use Rattle.design_laws.proofs.CutFlats.{cut_design}
 use Rattle.design_laws.proofs.FlatOnward.{nets_alike, nets_start, runs_up}
 use Rattle.design_laws.proofs.FlatParts.{FlatDesign, along, latch_up, output_down, output_up}
-use Rattle.event_designs.proofs.FlatEventMarks.{mark_down}
+use Rattle.design_laws.proofs.event_designs.FlatEventMarks.{mark_down}
 use Rattle.assume_texts.proofs.Designs.{meets_down}
 use Rattle.assume_texts.specs.Agreement.{AgreeWhereMet, AgreeOnwardWhereMet}
 use Rattle.event_texts_under.specs.Texts.{AgreeInEvents}

@@ -10,22 +10,22 @@ use Rattle.circuit_theory.specs.Run.{IsEnabled}
 use Rattle.circuit_theory.specs.Tree.{Tree, AreNumbered, StandsBeside, IsInputNumber}
 use Rattle.circuit_theory.proofs.Lists.{Contains-cases}
 use Rattle.circuit_laws.proofs.Parts.{IsPart}
-use Rattle.event_theory.specs.EventFrames.{IsCareTree, IsPairTree}
-use Rattle.event_theory.specs.Frame.{EventSide, EventUnfolds, ConeLatches}
+use Rattle.circuit_theory.specs.EventFrames.{IsCareTree, IsPairTree}
+use Rattle.circuit_theory.specs.Frame.{EventSide, EventUnfolds, ConeLatches}
 use Rattle.event_laws.specs.Sides.{moved_put}
 use Rattle.event_laws.proofs.SideTrees.{tree_same, care_same}
 use Rattle.flat_net.specs.View.{circuit_of}
 use Rattle.flat_net.proofs.Nets.{sound_is_net}
 use Rattle.sec_base.specs.declared.basics.PairAnswer.{PairAnswer}
 use Rattle.sec_base.specs.declared.basics.PairAnswer.TheVariants as answer
-use Rattle.class_queries.specs.Enables.{both_of, class_map}
-use Rattle.class_queries.proofs.Meaning.{numbered}
-use Rattle.event_agreement.proofs.CutCircuits.{left_same, right_same, both_same, some, cut_meets}
-use Rattle.event_agreement.proofs.SameCircuits.{AreSame, same_part, same_classes, same_depths}
-use Rattle.event_pairs.proofs.Parts.{cone_up, care_tree_up}
+use Rattle.event_form.specs.class_queries.Enables.{both_of, class_map}
+use Rattle.event_form.proofs.class_queries.Meaning.{numbered}
+use Rattle.event_form.proofs.event_agreement.CutCircuits.{left_same, right_same, both_same, some, cut_meets}
+use Rattle.event_form.proofs.event_agreement.SameCircuits.{AreSame, same_part, same_classes, same_depths}
+use Rattle.event_form.proofs.event_agreement.event_pairs.Parts.{cone_up, care_tree_up}
 use Rattle.interface.specs.declared.pairs.SignalPair.{SignalPair}
 use Rattle.outcome.specs.declared.verdict.PairResult.{PairResult}
-use Rattle.pair_decide.specs.declared.query.Proof.{Proof}
+use Rattle.outcome.specs.pair_decide.declared.query.Proof.{Proof}
 use Rattle.assume_laws.specs.Assume.{Assumption, ReadsInputs, HasVariableAtNode, HaveEqualEventsUnder}
 use Rattle.assume_laws.proofs.EventLaws.{event_functions_agree_under, exposed_event_functions_agree_under}
 use Rattle.event_under.specs.Answers.{AnswerFitsUnder, PairFitsUnder}

@@ -8,9 +8,9 @@ use Rattle.circuit_theory.specs.Names.{same_name}
 use Rattle.circuit_theory.specs.Query.{Variable}
 use Rattle.circuit_theory.proofs.Inputs.{test_same, test_refl, same_name-sound}
 use Rattle.circuit_theory.proofs.Numbers.{same_name-refl}
-use Rattle.event_theory.specs.EventFrames.{frame_of}
+use Rattle.circuit_theory.specs.EventFrames.{frame_of}
 use Rattle.sec_base.specs.Table.{AreDistinct}
-use Rattle.pair_decide.specs.Queries.{assigned_to}
+use Rattle.outcome.specs.pair_decide.Queries.{assigned_to}
 use Rattle.event_form.specs.Answers.{TakesBits}
 use Rattle.event_under.specs.Asked.{variable_in, variables_in}
 

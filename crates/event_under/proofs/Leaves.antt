@@ -11,20 +11,20 @@ use Rattle.circuit_theory.proofs.Lists.{Contains-head}
 use Rattle.circuit_laws.proofs.JoinedParts.{joined_single, joined_number_once, left_part, right_part, replace_left, replace_right, meets_both}
 use Rattle.circuit_laws.proofs.NetLaws.{net_value, net_value-extends}
 use Rattle.circuit_laws.proofs.Parts.{latch_from, enabled_up, enabled_from}
-use Rattle.event_theory.specs.EventFrames.{AreNodeVariables, IsCareTree, IsPairTree}
-use Rattle.event_theory.specs.EventSizes.{Start, EventVisits}
-use Rattle.event_theory.specs.EventTotals.{StartLatches}
-use Rattle.event_theory.specs.Frame.{EventSide, EventUnfolds, ConeLatches, ReachedAt}
+use Rattle.circuit_theory.specs.EventFrames.{AreNodeVariables, IsCareTree, IsPairTree}
+use Rattle.circuit_theory.specs.EventSizes.{Start, EventVisits}
+use Rattle.circuit_theory.specs.EventTotals.{StartLatches}
+use Rattle.circuit_theory.specs.Frame.{EventSide, EventUnfolds, ConeLatches, ReachedAt}
 use Rattle.flat_net.specs.View.{circuit_of}
 use Rattle.flat_net.proofs.Nets.{sound_is_net}
 use Rattle.event_nodes.specs.Nodes.{EventGraphView}
 use Rattle.event_nodes.specs.View.{EventCircuitView}
 use Rattle.event_nodes.proofs.Bits.{kind_of}
 use Rattle.event_nodes.proofs.Visits.{reached_visited}
-use Rattle.event_inputs.proofs.Leaves.{IsPart, leaf_visited, visited_part, part_leaf}
-use Rattle.class_queries.specs.Enables.{both_of}
-use Rattle.class_queries.specs.Laws.{AreKept}
-use Rattle.class_queries.proofs.Meaning.{numbered}
+use Rattle.event_variables.proofs.Leaves.{IsPart, leaf_visited, visited_part, part_leaf}
+use Rattle.event_form.specs.class_queries.Enables.{both_of}
+use Rattle.event_form.specs.class_queries.Laws.{AreKept}
+use Rattle.event_form.proofs.class_queries.Meaning.{numbered}
 use Rattle.assume_laws.specs.Sequences.{IsSideTree}
 use Rattle.event_under.specs.Laws.{SidesHaveAllVariables}
 

@@ -9,18 +9,18 @@ use Rattle.circuit_theory.specs.Query as frame_query
 use Rattle.circuit_theory.specs.Query.{Variable, bits_of}
 use Rattle.circuit_theory.specs.Tree.{tree_value}
 use Rattle.circuit_theory.proofs.Lists.{Contains-map, length-map}
-use Rattle.event_theory.specs.EventFrames.{IsEventSize, frame_of}
-use Rattle.event_theory.specs.Frame.{EventSide}
+use Rattle.circuit_theory.specs.EventFrames.{IsEventSize, frame_of}
+use Rattle.circuit_theory.specs.Frame.{EventSide}
 use Rattle.sec_base.specs.Table.{AreDistinct}
 use Rattle.sec_base.specs.declared.basics.PairAnswer.{PairAnswer}
 use Rattle.sec_base.specs.declared.basics.PairAnswer.TheVariants as answer
 use Rattle.aig.specs.declared.node.Node.{Node}
 use Rattle.aig.specs.Values.{value}
-use Rattle.pair_decide.specs.declared.query.Decision.TheVariants as decision
-use Rattle.pair_decide.specs.declared.query.Proof.{Proof}
-use Rattle.pair_decide.specs.declared.query.Query.{Query}
-use Rattle.pair_decide.specs.Answers.{IsDifference, IsAtLimit}
-use Rattle.pair_decide.specs.Queries.{IsSame, IsLeast, Distinguishes, assigned_to, roots_of}
+use Rattle.outcome.specs.pair_decide.declared.query.Decision.TheVariants as decision
+use Rattle.outcome.specs.pair_decide.declared.query.Proof.{Proof}
+use Rattle.outcome.specs.pair_decide.declared.query.Query.{Query}
+use Rattle.outcome.specs.pair_decide.Answers.{IsDifference, IsAtLimit}
+use Rattle.outcome.specs.pair_decide.Queries.{IsSame, IsLeast, Distinguishes, assigned_to, roots_of}
 use Rattle.swept_queries.specs.InStead.{IsInStead, DecidesInStead}
 use Rattle.event_nodes.specs.Nodes.{EventGraphView}
 use Rattle.event_variables.specs.Variables.{variables_of}

@@ -4,19 +4,19 @@ use Rattle.circuit_theory.specs.Joined.{Either, Left, Right}
 use Rattle.circuit_theory.specs.Query.{Variable}
 use Rattle.circuit_theory.specs.Run.{IsEnabled}
 use Rattle.circuit_theory.specs.Tree.{Tree, tree_value}
-use Rattle.event_theory.specs.EventFrames.{AreNodeVariables, IsEventSize}
-use Rattle.event_theory.specs.Frame.{EventSide, EventUnfolds}
+use Rattle.circuit_theory.specs.EventFrames.{AreNodeVariables, IsEventSize}
+use Rattle.circuit_theory.specs.Frame.{EventSide, EventUnfolds}
 use Rattle.sec_base.specs.Table.{AreDistinct}
 use Rattle.sec_base.specs.declared.basics.PairAnswer.{PairAnswer}
 use Rattle.sec_base.specs.declared.basics.PairAnswer.TheVariants as answer
 use Rattle.aig.specs.declared.node.Node.{Node}
 use Rattle.aig.specs.Graph.{IsGraph}
 use Rattle.aig.specs.Values.{value}
-use Rattle.cnf_encode.specs.Encoding.{IsEncoding}
+use Rattle.outcome.specs.cnf_encode.Encoding.{IsEncoding}
 use Rattle.sat_search.specs.Found.{IsFruitless}
 use Rattle.interface.specs.declared.pairs.SignalPair.{SignalPair}
 use Rattle.outcome.specs.declared.verdict.PairResult.{PairResult}
-use Rattle.pair_decide.specs.declared.query.Proof.{Proof}
+use Rattle.outcome.specs.pair_decide.declared.query.Proof.{Proof}
 use Rattle.event_form.specs.Answers.{TakesBits, ReadOnly}
 use Rattle.event_form.specs.Asked.{IsDecisive}
 use Rattle.assume_laws.specs.Assume.{Assumption, HasCareUnder, HaveEqualEventsUnder}

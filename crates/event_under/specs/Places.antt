@@ -2,7 +2,7 @@
 use Rattle.std.specs.Prelude.{◌≢◌, ◌↔◌, ℕ, ◌+◌, ◌*◌, ◌<◌, ◌≤◌, List, length}
 use Rattle.std.specs.List.{AllPairs, AllZip, Contains, sum_by}
 use Rattle.circuit_theory.specs.Joined.{Either, Left, Right}
-use Rattle.event_theory.specs.Frame.{EventSide}
+use Rattle.circuit_theory.specs.Frame.{EventSide}
 use Rattle.sec_base.specs.declared.limits.TheConstants.{MAX_WEIGHT}
 use Rattle.interface.specs.declared.pairs.SignalPair.{SignalPair}
 use Rattle.assume_laws.specs.Assume.{HasVariableAtNode}

@@ -9,13 +9,13 @@ use Rattle.event_findings.specs.Compared.{AreCompared}
 use Rattle.event_findings.specs.declared.findings.EventFindings.{EventFindings}
 use Rattle.event_findings.specs.declared.pairs.EventPairs.{EventPairs}
 use Rattle.event_comparison.specs.Asked.{AreAskedFrom}
-use Rattle.assume_premise.specs.Assumed.{CanBeAssumed}
-use Rattle.assume_premise.specs.declared.premise.Premise.{Premise}
-use Rattle.assume_premise.proofs.Numbers.{number_below}
+use Rattle.assume_sequences.specs.Assumed.{CanBeAssumed}
+use Rattle.assume_sequences.specs.declared.premise.Premise.{Premise}
+use Rattle.assume_sequences.proofs.Numbers.{number_below}
 use Rattle.assume_sequences.specs.Filled.{bit_of}
 use Rattle.assume_shape.specs.Shape.{assumption_of}
 use Rattle.assume_laws.specs.Sequences.{IsMeetingRow}
-use Rattle.event_under_fits.specs.Findings.{FindingsFitUnder}
+use Rattle.event_under_verdicts.specs.event_under_fits.Findings.{FindingsFitUnder}
 use Rattle.event_under_verdicts.proofs.Firsts as verdicts
 use Rattle.event_under_form.specs.Asked.{AreAskedAssumed, CanShow}
 use Rattle.event_under_form.specs.Formed.{AreFoundUnder, FindingsFitAssumed}

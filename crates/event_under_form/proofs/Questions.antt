@@ -6,7 +6,7 @@ use Rattle.std.proofs.lemmas.List.Elements.{All-nil, All-cons}
 use Rattle.std.proofs.lemmas.Option.{slice_get_within}
 use Rattle.circuit_theory.specs.Joined.{Either, Left, Right}
 use Rattle.circuit_theory.proofs.Lists.{All-from_each, at_of}
-use Rattle.event_theory.specs.Frame.{EventSide}
+use Rattle.circuit_theory.specs.Frame.{EventSide}
 use Rattle.flat_net.specs.View.{NetView}
 use Rattle.flat_net.proofs.Nets.{some_at}
 use Rattle.sec_base.specs.Table.{AreDistinct}
@@ -22,18 +22,18 @@ use Rattle.obligations.specs.Verdict.{IsVerdictAt}
 use Rattle.sec_base.specs.declared.basics.PairAnswer.TheVariants as answer
 use Rattle.event_nodes.specs.Nodes.{EventGraphView, IsEventGraph}
 use Rattle.event_nodes.specs.View.{EventCircuitView}
-use Rattle.event_agreement.proofs.PairQueries.{is_query, within}
+use Rattle.pair_events.proofs.event_agreement.PairQueries.{is_query, within}
 use Rattle.pair_events.specs.Enables.{both_of}
 use Rattle.pair_events.specs.Laws.{AreKept}
 use Rattle.pair_events.specs.View.{EventsView, side_of_both}
 use Rattle.ranked_nodes.specs.Ranks.{AreRanked}
 use Rattle.event_form.specs.Asked.{AreAsked, IsAskedOf}
 use Rattle.event_findings.specs.declared.pairs.EventPairs.{EventPairs}
-use Rattle.assume_premise.specs.Assumed.{IsAssumedBy}
-use Rattle.assume_premise.specs.declared.premise.Premise.{Premise}
+use Rattle.assume_sequences.specs.Assumed.{IsAssumedBy}
+use Rattle.assume_sequences.specs.declared.premise.Premise.{Premise}
 use Rattle.assume_shape.specs.Shape.{assumption_of}
-use Rattle.event_under.specs.Asked.{AreAskedUnder, IsAskedUnder}
-use Rattle.event_under.specs.Places.{IsLightAtNodes}
+use Rattle.event_under_verdicts.specs.event_under.Asked.{AreAskedUnder, IsAskedUnder}
+use Rattle.event_under_verdicts.specs.event_under.Places.{IsLightAtNodes}
 use Rattle.event_witness_under.specs.EventQuestions.{EventQuestions}
 use Rattle.event_witness_under.specs.Questions.{IsOneOver, named_at}
 use Rattle.event_under_verdicts.specs.Shown.{AreQuestions, IsFoundUnder}

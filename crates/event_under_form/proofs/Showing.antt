@@ -7,7 +7,7 @@ use Rattle.circuit_theory.specs.Joined.{Left, Right}
 use Rattle.circuit_theory.specs.Query.{Variable}
 use Rattle.circuit_theory.specs.Sequence.{sequence_rows}
 use Rattle.circuit_theory.proofs.Lists.{All-from_each, at_of, length-map, of_at}
-use Rattle.event_theory.specs.Frame.{bits_as_shifts}
+use Rattle.circuit_theory.specs.Frame.{bits_as_shifts}
 use Rattle.flat_net.proofs.Nets.{some_at}
 use Rattle.flat_net.proofs.Places.{All-at}
 use Rattle.pair_decide.specs.declared.query.Query.{Query}
@@ -19,7 +19,7 @@ use Rattle.obligations.specs.Decided.{IsFirstOf}
 use Rattle.witness_report.specs.declared.witness.Witness.{Witness}
 use Rattle.event_nodes.specs.Nodes.{EventGraphView, IsEventGraph, GrowsEvents}
 use Rattle.event_variables.specs.Variables.{variables_of}
-use Rattle.event_agreement.proofs.PairQueries.{within}
+use Rattle.pair_events.proofs.event_agreement.PairQueries.{within}
 use Rattle.pair_events.specs.View.{EventsView, side_of_both}
 use Rattle.pair_events.proofs.Growing.{variables_stay}
 use Rattle.ranked_nodes.specs.Named.{path_at}
@@ -32,7 +32,7 @@ use Rattle.event_findings.proofs.Differing.{only_query}
 use Rattle.event_findings.proofs.Frames.{bits_told}
 use Rattle.assume_laws.specs.Sequences.{filled_frame}
 use Rattle.assume_sequences.specs.Filled.{bit_of}
-use Rattle.event_under.specs.Asked.{IsAskedUnder}
+use Rattle.event_under_verdicts.specs.event_under.Asked.{IsAskedUnder}
 use Rattle.event_witness_under.specs.EventQuestions.{EventQuestions}
 use Rattle.event_witness_under.specs.Questions.{named_at}
 use Rattle.event_witness_under.specs.Ready.{IsReadyAt, IsShowableUnder}

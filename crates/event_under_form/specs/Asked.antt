@@ -11,11 +11,11 @@ use Rattle.outcome.specs.declared.verdict.PairResult.{PairResult}
 use Rattle.ranked_nodes.specs.Ranks.{AreRanked}
 use Rattle.event_comparison.specs.Asked.{AreAskedFrom}
 use Rattle.event_findings.specs.declared.pairs.EventPairs.{EventPairs}
-use Rattle.assume_premise.specs.Assumed.{IsAssumedBy}
-use Rattle.assume_premise.specs.declared.premise.Premise.{Premise}
+use Rattle.assume_sequences.specs.Assumed.{IsAssumedBy}
+use Rattle.assume_sequences.specs.declared.premise.Premise.{Premise}
 use Rattle.assume_shape.specs.Shape.{assumption_of}
-use Rattle.event_under.specs.Asked.{AreAskedUnder}
-use Rattle.event_under.specs.Places.{IsLightAtNodes}
+use Rattle.event_under_verdicts.specs.event_under.Asked.{AreAskedUnder}
+use Rattle.event_under_verdicts.specs.event_under.Places.{IsLightAtNodes}
 use Rattle.event_witness_under.specs.EventQuestions.{EventQuestions}
 use Rattle.event_witness_under.specs.Questions.{named_at}
 use Rattle.event_under_verdicts.specs.Shown.{AreQuestions}

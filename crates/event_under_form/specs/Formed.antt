@@ -13,12 +13,12 @@ use Rattle.event_form.specs.declared.error.EventFormError.{EventFormError}
 use Rattle.event_findings.specs.declared.findings.EventFindings.{EventFindings}
 use Rattle.event_findings.specs.declared.pairs.EventPairs.{EventPairs}
 use Rattle.event_comparison.specs.Counted.{AreRefused, ArePairsCounted}
-use Rattle.assume_premise.specs.Assumed.{IsAssumedBy}
-use Rattle.assume_premise.specs.declared.premise.Premise.{Premise}
+use Rattle.assume_sequences.specs.Assumed.{IsAssumedBy}
+use Rattle.assume_sequences.specs.declared.premise.Premise.{Premise}
 use Rattle.assume_sequences.specs.Filled.{bit_of}
 use Rattle.assume_shape.specs.Shape.{assumption_of}
-use Rattle.event_under.specs.Places.{IsLightAtNodes, IsOverAtNodes}
-use Rattle.event_under_fits.specs.Findings.{FindingsFitUnder}
+use Rattle.event_under_verdicts.specs.event_under.Places.{IsLightAtNodes, IsOverAtNodes}
+use Rattle.event_under_verdicts.specs.event_under_fits.Findings.{FindingsFitUnder}
 use Rattle.event_under_verdicts.specs.Shown.{IsShownUnder}
 use Rattle.event_under_form.specs.Refusals.{refusal_of}
 use Rattle.event_under_form.specs.declared.error.EventUnderError.{EventUnderError}

@@ -3,12 +3,12 @@
 ghost use Rattle.std.specs.Prelude.{◌≡◌, length, Err, IfOk};
 ghost use Rattle.pair_events.specs.View.{side_of_both};
 ghost use Rattle.event_form.specs.Asked.{AreAsked};
-ghost use Rattle.assume_premise.specs.Assumed.{CanBeAssumed};
-ghost use Rattle.assume_queries.specs.declared.map.UnderError.TheVariants as asked_error;
-ghost use Rattle.event_under.specs.Places.{IsOverAtNodes};
+ghost use Rattle.assume_sequences.specs.Assumed.{CanBeAssumed};
+ghost use Rattle.event_under_verdicts.specs.assume_queries.declared.map.UnderError.TheVariants as asked_error;
+ghost use Rattle.event_under_verdicts.specs.event_under.Places.{IsOverAtNodes};
 ghost use Rattle.event_under_form.specs.Asked.{AreAskedAssumed};
 
-use assume_premise::Premise;
+use assume_sequences::Premise;
 use event_findings::EventPairs;
 use event_witness_under::{EventQuestions, UnderError, ask_under};
 use obligations::Obligation;

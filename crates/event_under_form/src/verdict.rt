@@ -10,8 +10,7 @@ ghost use Rattle.assume_sequences.specs.Filled.{bit_of};
 ghost use Rattle.event_under_verdicts.specs.Shown.{DiffersFirstUnder, IsFoundUnder, IsShownUnder, IsShownUnshownUnder, IsWitnessUnder};
 ghost use Rattle.event_under_form.specs.Asked.{CanShow, DiffersAt};
 
-use class_separations::Apart;
-use event_findings::{EventPairs, EventVerdict, UnshownPair, tell_apart};
+use event_findings::{Apart, EventPairs, EventVerdict, UnshownPair, tell_apart};
 use event_form::EventFormError;
 use event_witness_under::{EventQuestions, frame_of, ready_at, sequence_of};
 use obligations::{Difference, Obligation, VerdictAt, copy_name};

@@ -1,7 +1,7 @@
 -- What shows the verdict at an obligation under an assumption.
 use Rattle.std.specs.Prelude.{◌≡◌, ℕ, ◌<◌, Bool, List, length, slice_get, Some}
 use Rattle.circuit_theory.specs.Sequence.{sequence_rows}
-use Rattle.event_theory.specs.Frame.{bits_as_shifts}
+use Rattle.circuit_theory.specs.Frame.{bits_as_shifts}
 use Rattle.aig.specs.Values.{value}
 use Rattle.pair_decide.specs.declared.query.Query.{Query}
 use Rattle.pair_decide.specs.Queries.{assigned_to}
@@ -13,20 +13,20 @@ use Rattle.obligations.specs.declared.verdict.VerdictAt.{VerdictAt}
 use Rattle.obligations.specs.declared.verdict.VerdictAt.TheVariants as at
 use Rattle.obligations.specs.Decided.{IsFirstOf}
 use Rattle.outcome.specs.declared.verdict.PairResult.{PairResult}
-use Rattle.pair_events.specs.View.{EventsView, side_of_both}
+use Rattle.event_under_fits.specs.pair_events.View.{EventsView, side_of_both}
 use Rattle.witness_report.specs.declared.witness.Witness.{Witness}
 use Rattle.sec_base.specs.declared.basics.PairAnswer.TheVariants as answer
 use Rattle.interface.specs.declared.pairs.SignalPair.{SignalPair}
-use Rattle.event_findings.specs.UnshownFrame.{UnshownFrame}
-use Rattle.event_findings.specs.Reached.{BothReachAlways}
-use Rattle.event_findings.specs.Separations.{AreToldApart}
-use Rattle.event_findings.specs.Told.{TellsBits}
-use Rattle.event_findings.specs.declared.pairs.EventPairs.{EventPairs}
-use Rattle.event_findings.specs.declared.verdict.EventVerdict.{EventVerdict}
-use Rattle.event_findings.specs.declared.verdict.EventVerdict.TheVariants as verdict
+use Rattle.event_under_fits.specs.event_findings.UnshownFrame.{UnshownFrame}
+use Rattle.event_under_fits.specs.event_findings.Reached.{BothReachAlways}
+use Rattle.event_under_fits.specs.event_findings.Separations.{AreToldApart}
+use Rattle.event_under_fits.specs.event_findings.Told.{TellsBits}
+use Rattle.event_under_fits.specs.event_findings.declared.pairs.EventPairs.{EventPairs}
+use Rattle.event_under_fits.specs.event_findings.declared.verdict.EventVerdict.{EventVerdict}
+use Rattle.event_under_fits.specs.event_findings.declared.verdict.EventVerdict.TheVariants as verdict
 use Rattle.assume_laws.specs.Assume.{Assumption}
 use Rattle.assume_laws.specs.Sequences.{filled_frame}
-use Rattle.event_under.specs.Asked.{variables_in, AreAskedUnder}
+use Rattle.event_under_fits.specs.event_under.Asked.{variables_in, AreAskedUnder}
 use Rattle.event_asked_under.specs.declared.asked.EventQuestions.{EventQuestions}
 use Rattle.event_asked_under.specs.Questions.{named_at}
 use Rattle.ranked_nodes.specs.Ranks.{AreRanked}

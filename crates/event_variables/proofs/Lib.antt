@@ -7,3 +7,9 @@ pub mod Named
 pub mod PathOrder
 pub mod Sorting
 pub use Rattle.event_nodes.proofs.Growing
+pub mod Leaves
+pub mod Putting
+pub mod Meaning
+pub use Rattle.event_nodes.proofs as event_nodes
+pub use Rattle.event_nodes.proofs.aig
+pub use Rattle.event_nodes.proofs.flat_net

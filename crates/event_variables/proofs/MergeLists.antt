@@ -6,7 +6,7 @@ use Rattle.std.proofs.lemmas.List.Kept.{AllPairs-cons}
 use Rattle.std.proofs.lemmas.Option.{slice_get_within, same_Some}
 use Rattle.circuit_theory.specs.Names.{ListBefore}
 use Rattle.circuit_theory.specs.Query.{Variable}
-use Rattle.event_theory.specs.Frame.{NodeBefore}
+use Rattle.circuit_theory.specs.Frame.{NodeBefore}
 use Rattle.event_nodes.specs.Nodes.{EventGraphView}
 use Rattle.circuit_theory.proofs.Lists.{Contains-head, Contains-tail, Contains-cases, All-from_each}
 use Rattle.circuit_theory.proofs.Sums.{AllPairs-head, AllPairs-tail}

@@ -12,7 +12,7 @@ use Rattle.circuit_theory.specs.Query.{Variable}
 use Rattle.circuit_theory.proofs.Numbers.{slice_get-map}
 use Rattle.event_nodes.proofs.Nets.{some_at}
 use Rattle.event_nodes.proofs.Places.{All-at}
-use Rattle.event_theory.specs.Frame.{NodeBefore}
+use Rattle.circuit_theory.specs.Frame.{NodeBefore}
 use Rattle.event_nodes.specs.Nodes.{EventGraphView, IsEventGraph, IsTree, named_places, path_of}
 use Rattle.event_nodes.proofs.OnePath.{one_node}
 use Rattle.event_nodes.proofs.Paths.{path_grows, child_path}

@@ -5,7 +5,7 @@ use Rattle.std.specs.declared.cmp.Ordering.{Ordering}
 use Rattle.std.specs.declared.cmp.Ordering.TheVariants as ordering
 use Rattle.circuit_theory.specs.Names.{ListBefore}
 use Rattle.circuit_theory.specs.Query.{Variable}
-use Rattle.event_theory.specs.Frame.{NodeBefore}
+use Rattle.circuit_theory.specs.Frame.{NodeBefore}
 use Rattle.event_nodes.specs.Nodes.{EventGraphView, named_places, path_of}
 
 -- the variable with this number

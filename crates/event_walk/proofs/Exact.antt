@@ -9,8 +9,8 @@ use Rattle.event_nodes.specs.EventSizes.{Start, EventVisits}
 use Rattle.event_nodes.specs.EventTotals.{StartLatches}
 use Rattle.event_nodes.specs.Frame.{IsNode}
 use Rattle.circuit_theory.proofs.Lists.{Contains-cases}
-use Rattle.flat_net.proofs.Nets.{some_at}
-use Rattle.flat_net.proofs.Places.{one_at, All-at}
+use Rattle.event_nodes.proofs.flat_net.Nets.{some_at}
+use Rattle.event_nodes.proofs.flat_net.Places.{one_at, All-at}
 use Rattle.event_nodes.specs.Adds.{Adds}
 use Rattle.event_nodes.specs.Nodes.{EventGraphView, IsTree, GrowsEvents, path_of}
 use Rattle.event_nodes.specs.View.{EventCircuitView, side_of, Enabled}

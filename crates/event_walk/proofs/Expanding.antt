@@ -7,13 +7,13 @@ use Rattle.circuit_theory.specs.Circuit.{IsLatch, Reads}
 use Rattle.event_nodes.specs.Frame.{NotPut, IsNode}
 use Rattle.event_nodes.specs.EventSizes.{Start, IsOther, EventVisits}
 use Rattle.event_nodes.specs.EventTotals.{StartLatches}
-use Rattle.flat_net.specs.declared.signals.Signal.{Signal}
-use Rattle.flat_net.specs.declared.parts.Gate.{Gate}
-use Rattle.flat_net.specs.declared.parts.LatchAt.{LatchAt}
-use Rattle.flat_net.specs.declared.parts.Driver.TheVariants as driver
-use Rattle.flat_net.specs.Sound.{IsSound}
-use Rattle.flat_net.specs.View.{circuit_of}
-use Rattle.flat_net.proofs.Places.{one_at}
+use Rattle.event_nodes.specs.flat_net.declared.signals.Signal.{Signal}
+use Rattle.event_nodes.specs.flat_net.declared.parts.Gate.{Gate}
+use Rattle.event_nodes.specs.flat_net.declared.parts.LatchAt.{LatchAt}
+use Rattle.event_nodes.specs.flat_net.declared.parts.Driver.TheVariants as driver
+use Rattle.event_nodes.specs.flat_net.Sound.{IsSound}
+use Rattle.event_nodes.specs.flat_net.View.{circuit_of}
+use Rattle.event_nodes.proofs.flat_net.Places.{one_at}
 use Rattle.event_nodes.specs.Lit.{Lit}
 use Rattle.event_walk.specs.declared.frames.Frame.{Frame}
 use Rattle.event_walk.specs.declared.frames.Put.{Put}

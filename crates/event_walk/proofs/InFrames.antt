@@ -2,7 +2,7 @@
 use Rattle.std.proofs.Common.{◌≡◌, ◌+◌, ◌≤◌, ℕ, List, [], ◌∷◌, ◌++◌, length, slice_get, Some, refl, ap, subst, arith, inl, inr}
 use Rattle.std.specs.Prelude.{◌⊎◌}
 use Rattle.std.specs.List.{Contains}
-use Rattle.flat_net.specs.declared.parts.LatchAt.{LatchAt}
+use Rattle.event_nodes.specs.flat_net.declared.parts.LatchAt.{LatchAt}
 use Rattle.event_nodes.specs.Adds.{Adds}
 use Rattle.event_nodes.specs.View.{EventCircuitView, Enabled}
 use Rattle.event_nodes.proofs.Lists.{adds_none, adds_push, adds_weaker, adds_contains, adds_at}
@@ -10,7 +10,7 @@ use Rattle.event_walk.specs.declared.frames.Frame.{Frame}
 use Rattle.event_walk.specs.declared.frames.Put.{Put}
 use Rattle.event_walk.specs.declared.frames.Put.TheVariants.{Free, Low, High}
 use Rattle.event_walk.specs.Walk.{IsHeldPut, IsEntry, AreWays}
-use Rattle.flat_net.proofs.Growth.{length-push}
+use Rattle.event_nodes.proofs.flat_net.Growth.{length-push}
 
 -- a frame more, or one that was there
 pub interned_frame : (old new : List Frame) (f : Frame) → (new ≡ old) ⊎ (new ≡ old ++ f ∷ []) → Adds (λ g. Unit {0}) old new × (length new ≤ length old + 1)

@@ -1,9 +1,9 @@
 -- Facts of a circuit that is lent.
 use Rattle.std.proofs.Common.{◌≡◌, ◌∙◌, ℕ, length, slice_get, Some, ap, subst}
-use Rattle.flat_net.specs.declared.parts.Driver.{Driver}
-use Rattle.flat_net.specs.declared.parts.LatchAt.{LatchAt}
-use Rattle.flat_net.specs.Sound.{IsSound}
-use Rattle.flat_net.specs.View.{NetView}
+use Rattle.event_nodes.specs.flat_net.declared.parts.Driver.{Driver}
+use Rattle.event_nodes.specs.flat_net.declared.parts.LatchAt.{LatchAt}
+use Rattle.event_nodes.specs.flat_net.Sound.{IsSound}
+use Rattle.event_nodes.specs.flat_net.View.{NetView}
 use Rattle.event_nodes.specs.View.{EventCircuitView, IsEventCircuit}
 
 pub drives_of : (e lent : EventCircuitView) → lent ≡ e → (n : NetView) → n ≡ lent.net → (s : ℕ) (d f : Driver) → slice_get n.drivers s ≡ Some d → d ≡ f → slice_get e.net.drivers s ≡ Some f

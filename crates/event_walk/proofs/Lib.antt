@@ -7,3 +7,5 @@ pub mod Exact
 pub mod Stepping
 pub mod InFrames
 pub mod Walked
+pub use Rattle.event_nodes.proofs as event_nodes
+pub use Rattle.event_nodes.proofs.flat_net

@@ -12,10 +12,10 @@ use Rattle.std.proofs.lemmas.List.{map-append, take_more}
 use Rattle.std.proofs.lemmas.List.Sorted.{IsPermutation-sym, Contains-permutation, sorted_far, ranks_by, sum_by-IsPermutation}
 use Rattle.std.proofs.lemmas.Option.{get_or_from_slice_get, slice_get_within}
 use Rattle.circuit_theory.proofs.Lists.{at_of, of_at, length-map}
-use Rattle.flat_net.specs.Sound.{IsSound}
-use Rattle.flat_net.proofs.Growth.{length-push, slice_get-append, slice_get-push}
-use Rattle.flat_net.proofs.Nets.{some_at}
-use Rattle.flat_net.proofs.Places.{one_at}
+use Rattle.event_nodes.specs.flat_net.Sound.{IsSound}
+use Rattle.event_nodes.proofs.flat_net.Growth.{length-push, slice_get-append, slice_get-push}
+use Rattle.event_nodes.proofs.flat_net.Nets.{some_at}
+use Rattle.event_nodes.proofs.flat_net.Places.{one_at}
 use Rattle.event_walk.specs.declared.frames.Frame.{Frame}
 use Rattle.event_walk.specs.declared.frames.Step.{Step}
 use Rattle.event_walk.specs.declared.frames.Ways.{Ways}

@@ -1,3 +1,5 @@
 pub mod Ready
 pub mod Walk
 pub mod Plan
+pub use Rattle.event_nodes.specs as event_nodes
+pub use Rattle.event_nodes.specs.flat_net

@@ -2,7 +2,7 @@
 use Rattle.std.specs.Prelude.{◌≡◌, ◌⊎◌, ℕ, ◌<◌, ◌≤◌, Bool, true, false, List, length, Option, Some, None, slice_get}
 use Rattle.circuit_theory.specs.Circuit.{IsLatch, Reads}
 use Rattle.event_nodes.specs.Frame.{NotPut}
-use Rattle.flat_net.specs.View.{circuit_of}
+use Rattle.event_nodes.specs.flat_net.View.{circuit_of}
 use Rattle.event_walk.specs.declared.frames.Frame.{Frame}
 use Rattle.event_walk.specs.declared.frames.Put.{Put}
 use Rattle.event_walk.specs.declared.frames.Put.TheVariants.{Free, Low, High}

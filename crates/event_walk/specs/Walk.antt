@@ -2,8 +2,8 @@
 use Rattle.std.specs.Prelude.{◌≡◌, ◌⊎◌, ℕ, ◌+◌, ◌*◌, ◌<◌, ◌≤◌, List, [], ◌∷◌, length, slice_get, take, Option, Some, None, Result, Err, All, Contains}
 use Rattle.std.specs.List.{sum_by}
 use Rattle.event_nodes.specs.EventSizes.{Start, EventVisits}
-use Rattle.flat_net.specs.declared.parts.LatchAt.{LatchAt}
-use Rattle.flat_net.specs.View.{NetView}
+use Rattle.event_nodes.specs.flat_net.declared.parts.LatchAt.{LatchAt}
+use Rattle.event_nodes.specs.flat_net.View.{NetView}
 use Rattle.event_nodes.specs.declared.error.EventUnfoldError.{EventUnfoldError}
 use Rattle.event_nodes.specs.declared.error.EventUnfoldError.TheVariants as unfold_error
 use Rattle.event_nodes.specs.Adds.{Adds}

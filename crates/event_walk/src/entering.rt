@@ -1,13 +1,12 @@
 //! Where a latch takes over its data.
 
 ghost use Rattle.std.specs.Prelude.{◌≡◌, ◌+◌, ◌^◌, ◌<◌, ◌≤◌, length, slice_get, Some, Contains, IfOk};
-ghost use Rattle.flat_net.specs.declared.parts.LatchAt.{LatchAt};
+ghost use Rattle.event_nodes.specs.flat_net.declared.parts.LatchAt.{LatchAt};
 ghost use Rattle.event_nodes.specs.Adds.{Adds};
 ghost use Rattle.event_walk.specs.Walk.{IsEntry, AreWays};
 
 use crate::frames::{Frame, Frames, Put, Ways};
-use event_nodes::{EventCircuit, add, latch_of};
-use flat_net::{NoMemory, PlaceTable, Signal};
+use event_nodes::{EventCircuit, NoMemory, PlaceTable, Signal, add, latch_of};
 
 /// The number of the frame, where the signal's place in it is put into the table.
 fn enter(

@@ -5,8 +5,7 @@ ghost use Rattle.event_nodes.specs.Frame.{NotPut};
 ghost use Rattle.event_walk.specs.declared.frames.Put.TheVariants.{Low, High};
 ghost use Rattle.event_walk.specs.Ready.{put_of};
 
-use event_nodes::Lit;
-use flat_net::NoMemory;
+use event_nodes::{Lit, NoMemory};
 use indexmap::IndexSet;
 use std::alloc::Global;
 use std::marker::Model;

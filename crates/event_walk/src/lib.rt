@@ -7,5 +7,9 @@ mod frames;
 mod plan;
 mod walker;
 
+pub use event_nodes::{
+    Aig, Counter, Driver, EventCircuit, EventGraph, EventUnfoldError, Ids, Lit, NoMemory, Place,
+    PlaceTable, Seq, Signal, gate_of, latch_of,
+};
 pub use frames::{Frame, Put, Step, Ways, constant};
 pub use walker::EventWalker;

@@ -1,15 +1,14 @@
 //! The order in which the places of a walk are unfolded.
 
 ghost use Rattle.std.specs.Prelude.{◌≡◌, ℕ, List, ◌≤◌, ◌<◌, length, slice_get, Some, All, IfOk};
-ghost use Rattle.flat_net.specs.Sound.{IsSound};
+ghost use Rattle.event_nodes.specs.flat_net.Sound.{IsSound};
 ghost use Rattle.event_walk.specs.declared.frames.Frame.{Frame};
 ghost use Rattle.event_nodes.specs.Nodes.{IsTree};
 ghost use Rattle.event_walk.specs.Plan.{IsStepOf, AreSteps, AreExpanded, IsPlanOf};
 ghost use Rattle.event_nodes.specs.View.{EventCircuitView};
 
 use crate::frames::{Frames, Step, Ways};
-use event_nodes::Place;
-use flat_net::{NoMemory, PlaceTable};
+use event_nodes::{NoMemory, Place, PlaceTable};
 use std::alloc::Global;
 
 /// The step of a place, in a graph with so many event nodes besides the root.

@@ -1,10 +1,10 @@
 //! The walk over the places that an unfolding visits.
 
 ghost use Rattle.std.specs.Prelude.{◌≡◌, ◌⊎◌, ℕ, List, ◌+◌, ◌*◌, ◌^◌, ◌<◌, ◌≤◌, [], ◌∷◌, ◌++◌, length, slice_get, Some, All, Contains, IfOk, OnOk, OnErr, Err};
-ghost use Rattle.flat_net.specs.Sound.{IsSound};
+ghost use Rattle.event_nodes.specs.flat_net.Sound.{IsSound};
 ghost use Rattle.event_nodes.specs.EventSizes.{Start};
 ghost use Rattle.event_nodes.specs.Frame.{NotPut};
-ghost use Rattle.flat_net.specs.declared.parts.Driver.TheVariants as driver;
+ghost use Rattle.event_nodes.specs.flat_net.declared.parts.Driver.TheVariants as driver;
 ghost use Rattle.event_nodes.specs.declared.error.EventUnfoldError.TheVariants as unfold_error;
 ghost use Rattle.event_nodes.specs.Adds.{Adds};
 ghost use Rattle.event_nodes.specs.Nodes.{GrowsEvents, IsTree};
@@ -20,9 +20,9 @@ use crate::entering::enter_latch;
 use crate::frames::{Frame, Frames, Step, Ways, constant};
 use crate::plan::plan_of;
 use event_nodes::{
-    Counter, EventCircuit, EventGraph, EventUnfoldError, Place, add, add_fanins, gate_of, weigh,
+    Counter, Driver, EventCircuit, EventGraph, EventUnfoldError, NoMemory, Place, PlaceTable,
+    Signal, add, add_fanins, gate_of, weigh,
 };
-use flat_net::{Driver, NoMemory, PlaceTable, Signal};
 use std::alloc::Global;
 use std::marker::Model;
 

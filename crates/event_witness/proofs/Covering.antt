@@ -4,10 +4,10 @@ use Rattle.std.specs.Prelude.{IfOk}
 use Rattle.circuit_theory.proofs.Lists.{Contains-head, Contains-tail}
 use Rattle.aig.specs.declared.node.Node.{Node}
 use Rattle.aig.specs.Values.{value}
-use Rattle.lane_eval.specs.Tables.{Covers, assigned_to}
-use Rattle.event_variables.proofs.Cones.{reached_among}
-use Rattle.pair_decide.specs.declared.query.Query.{Query}
-use Rattle.pair_decide.specs.Queries.{IsQuery, roots_of}
+use Rattle.cone_values.specs.lane_eval.Tables.{Covers, assigned_to}
+use Rattle.frame_sequences.proofs.event_variables.Cones.{reached_among}
+use Rattle.outcome.specs.pair_decide.declared.query.Query.{Query}
+use Rattle.outcome.specs.pair_decide.Queries.{IsQuery, roots_of}
 
 pub left_covered : (g : List Node) (q : Query) → IsQuery g q → Covers g (q.left.0 ∷ []) q.vars
 left_covered g q is n v reached at = is.covers n v (reached_among g q.left.0 (roots_of q) (Contains-head q.left.0 (q.right.0 ∷ q.care.0 ∷ [])) reached) at

@@ -5,22 +5,22 @@ use Rattle.std.proofs.lemmas.Option.{none-some, same_Some}
 use Rattle.circuit_theory.specs.Fits.{MakesDiffer}
 use Rattle.circuit_theory.specs.Joined.{Left, Right}
 use Rattle.circuit_theory.specs.Query.{Variable}
-use Rattle.event_theory.specs.EventFits.{IsEventWitness}
-use Rattle.event_theory.specs.EventFrames.{frame_of}
+use Rattle.circuit_theory.specs.EventFits.{IsEventWitness}
+use Rattle.circuit_theory.specs.EventFrames.{frame_of}
 use Rattle.event_laws.proofs.EventVariables.{event_difference_gives_witness}
 use Rattle.event_laws.proofs.EventWindows.{event_witness_makes_differ_in_nets}
 use Rattle.event_laws.proofs.SideParts.{sides_are_parts_in_nets}
-use Rattle.flat_net.specs.View.{circuit_of}
-use Rattle.flat_net.proofs.Nets.{sound_is_net}
+use Rattle.interface.specs.flat_net.View.{circuit_of}
+use Rattle.interface.proofs.flat_net.Nets.{sound_is_net}
 use Rattle.aig.specs.Values.{value}
-use Rattle.event_variables.specs.Variables.{variables_of}
-use Rattle.class_queries.specs.Enables.{both_of, class_map}
-use Rattle.class_queries.proofs.Meaning.{numbered}
-use Rattle.event_agreement.specs.Laws.{IsFrameDifference}
-use Rattle.event_agreement.proofs.PairQueries.{are_variables, differences_least}
-use Rattle.pair_decide.specs.declared.query.Query.{Query}
-use Rattle.pair_decide.specs.Answers.{IsDifference}
-use Rattle.pair_decide.specs.Queries.{assigned_to}
+use Rattle.frame_sequences.specs.event_variables.Variables.{variables_of}
+use Rattle.event_form.specs.class_queries.Enables.{both_of, class_map}
+use Rattle.event_form.proofs.class_queries.Meaning.{numbered}
+use Rattle.event_form.specs.event_agreement.Laws.{IsFrameDifference}
+use Rattle.event_form.proofs.event_agreement.PairQueries.{are_variables, differences_least}
+use Rattle.outcome.specs.pair_decide.declared.query.Query.{Query}
+use Rattle.outcome.specs.pair_decide.Answers.{IsDifference}
+use Rattle.outcome.specs.pair_decide.Queries.{assigned_to}
 use Rattle.event_witness.specs.Laws.{AlwaysDifferencesMakeDiffer}
 use Rattle.event_witness.specs.Sequences.{rows_at}
 use Rattle.event_witness.proofs.InputLeaves.{pair_inputs_within}

@@ -1,23 +1,23 @@
 -- Differences while the event graph grows.
 use Rattle.std.proofs.Common.{◌≡◌, ◌∙◌, ℕ, Bool, List, slice_get, Some, sym, subst}
 use Rattle.circuit_theory.specs.Joined.{Either, Left, Right}
-use Rattle.event_theory.specs.Frame.{EventSide}
+use Rattle.circuit_theory.specs.Frame.{EventSide}
 use Rattle.sec_base.specs.declared.basics.PairAnswer.{PairAnswer}
 use Rattle.aig.specs.declared.node.Node.{Node}
 use Rattle.aig.specs.Graph.{Grows}
 use Rattle.aig.specs.Values.{value}
 use Rattle.aig.proofs.Meaning.{value-grows}
-use Rattle.event_nodes.specs.Nodes.{EventGraphView, IsEventGraph, GrowsEvents}
-use Rattle.event_agreement.proofs.PairQueries.{is_query}
+use Rattle.frame_sequences.specs.event_nodes.Nodes.{EventGraphView, IsEventGraph, GrowsEvents}
+use Rattle.event_form.proofs.event_agreement.PairQueries.{is_query}
 use Rattle.interface.specs.declared.pairs.SignalPair.{SignalPair}
 use Rattle.event_form.specs.Difference.{Difference}
 use Rattle.event_form.specs.Obligation.{Obligation}
 use Rattle.event_form.specs.Decided.{IsFirstOf}
 use Rattle.event_form.specs.Found.{IsDifferenceOf}
 use Rattle.outcome.specs.declared.verdict.PairResult.{PairResult}
-use Rattle.pair_decide.specs.declared.query.Query.{Query}
-use Rattle.pair_decide.specs.Answers.{IsDifference}
-use Rattle.pair_decide.specs.Queries.{IsQuery, IsSame, IsLeast, Distinguishes, numbered}
+use Rattle.outcome.specs.pair_decide.declared.query.Query.{Query}
+use Rattle.outcome.specs.pair_decide.Answers.{IsDifference}
+use Rattle.outcome.specs.pair_decide.Queries.{IsQuery, IsSame, IsLeast, Distinguishes, numbered}
 use Rattle.event_form.specs.Asked.{AreAsked, IsAskedOf}
 use Rattle.event_witness.specs.Laws.{DifferencesGrow}
 use Rattle.event_witness.proofs.Differing.{only_query}

@@ -11,8 +11,8 @@ use Rattle.circuit_theory.specs.Tree.{Tree, Trees, IsInputNumber}
 use Rattle.circuit_theory.proofs.Lists.{All-from_each, Contains-head, Contains-tail}
 use Rattle.circuit_laws.proofs.JoinedParts.{joined_number, left_is_not_right, left_one, left_part, replace_left, replace_right, right_one, right_part}
 use Rattle.circuit_laws.proofs.Parts.{IsPart, latch_from, reads_from}
-use Rattle.event_theory.specs.EventFrames.{AreNodeVariables, IsCareTree, IsPairTree}
-use Rattle.event_theory.specs.Frame.{EventSide, EventUnfolds, EventUnfoldsAll, ConeLatches, ReachedAt}
+use Rattle.circuit_theory.specs.EventFrames.{AreNodeVariables, IsCareTree, IsPairTree}
+use Rattle.circuit_theory.specs.Frame.{EventSide, EventUnfolds, EventUnfoldsAll, ConeLatches, ReachedAt}
 use Rattle.event_witness.specs.Sequences.{HasInputsBelow}
 
 module _ {P : Type 0} (side : EventSide P) (s : P) where

@@ -4,17 +4,17 @@ use Rattle.std.specs.Prelude.{IfOk}
 use Rattle.std.specs.List.{All, AllZip}
 use Rattle.std.proofs.lemmas.Option.{same_Some, slice_get_within}
 use Rattle.circuit_theory.specs.Joined.{Either, Left, Right}
-use Rattle.event_theory.specs.Frame.{EventSide}
+use Rattle.circuit_theory.specs.Frame.{EventSide}
 use Rattle.sec_base.specs.declared.basics.PairAnswer.{PairAnswer}
-use Rattle.event_nodes.specs.Nodes.{EventGraphView, IsEventGraph}
-use Rattle.event_agreement.proofs.PairQueries.{is_query, within}
+use Rattle.frame_sequences.specs.event_nodes.Nodes.{EventGraphView, IsEventGraph}
+use Rattle.event_form.proofs.event_agreement.PairQueries.{is_query, within}
 use Rattle.interface.specs.declared.pairs.SignalPair.{SignalPair}
 use Rattle.event_form.specs.Difference.{Difference}
 use Rattle.event_form.specs.Obligation.{Obligation}
 use Rattle.event_form.specs.Decided.{IsFirstOf}
 use Rattle.outcome.specs.declared.verdict.PairResult.{PairResult}
-use Rattle.pair_decide.specs.declared.query.Query.{Query}
-use Rattle.pair_decide.specs.Queries.{IsQuery}
+use Rattle.outcome.specs.pair_decide.declared.query.Query.{Query}
+use Rattle.outcome.specs.pair_decide.Queries.{IsQuery}
 use Rattle.event_form.specs.Asked.{AreAsked, IsAskedOf}
 use Rattle.event_witness.specs.Laws.{DifferencesCanBeShown}
 use Rattle.event_witness.specs.Shown.{IsShowable}

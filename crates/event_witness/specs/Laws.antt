@@ -5,24 +5,24 @@ use Rattle.circuit_theory.specs.Fits.{MakesDiffer}
 use Rattle.circuit_theory.specs.Joined.{Either, Left, Right}
 use Rattle.circuit_theory.specs.Run.{IsEnabled}
 use Rattle.circuit_theory.specs.Tree.{AreNumbered}
-use Rattle.event_theory.specs.Classes.{HasClasses}
-use Rattle.event_theory.specs.EventFits.{ReachesAlways}
-use Rattle.event_theory.specs.Frame.{EventSide}
-use Rattle.flat_net.specs.View.{circuit_of}
+use Rattle.circuit_theory.specs.Classes.{HasClasses}
+use Rattle.circuit_theory.specs.EventFits.{ReachesAlways}
+use Rattle.circuit_theory.specs.Frame.{EventSide}
+use Rattle.interface.specs.flat_net.View.{circuit_of}
 use Rattle.sec_base.specs.declared.basics.PairAnswer.{PairAnswer}
 use Rattle.aig.specs.Values.{value}
-use Rattle.event_nodes.specs.Nodes.{EventGraphView, IsEventGraph, GrowsEvents}
-use Rattle.event_nodes.specs.View.{EventCircuitView, Enabled}
-use Rattle.class_queries.specs.Enables.{both_of}
-use Rattle.class_queries.specs.Laws.{AreKept}
+use Rattle.frame_sequences.specs.event_nodes.Nodes.{EventGraphView, IsEventGraph, GrowsEvents}
+use Rattle.frame_sequences.specs.event_nodes.View.{EventCircuitView, Enabled}
+use Rattle.event_form.specs.class_queries.Enables.{both_of}
+use Rattle.event_form.specs.class_queries.Laws.{AreKept}
 use Rattle.interface.specs.declared.pairs.SignalPair.{SignalPair}
 use Rattle.event_form.specs.Obligation.{Obligation}
 use Rattle.event_form.specs.Difference.{Difference}
 use Rattle.event_form.specs.Decided.{IsFirstOf}
 use Rattle.event_form.specs.Found.{IsDifferenceOf}
 use Rattle.outcome.specs.declared.verdict.PairResult.{PairResult}
-use Rattle.pair_decide.specs.declared.query.Query.{Query}
-use Rattle.pair_decide.specs.Queries.{assigned_to}
+use Rattle.outcome.specs.pair_decide.declared.query.Query.{Query}
+use Rattle.outcome.specs.pair_decide.Queries.{assigned_to}
 use Rattle.event_form.specs.Asked.{AreAsked, IsAskedOf}
 use Rattle.event_witness.specs.Sequences.{HasInputsBelow, rows_at}
 use Rattle.event_witness.specs.Shown.{IsShowable}

@@ -4,15 +4,15 @@ use Rattle.circuit_theory.specs.Circuit.{Circuit}
 use Rattle.circuit_theory.specs.Sequence.{sequence_rows}
 use Rattle.circuit_theory.specs.Sizes.{Visits}
 use Rattle.circuit_theory.specs.Tree.{IsInputNumber}
-use Rattle.event_theory.specs.EventFrames.{frame_of}
-use Rattle.event_theory.specs.Frame.{bits_as_shifts}
+use Rattle.circuit_theory.specs.EventFrames.{frame_of}
+use Rattle.circuit_theory.specs.Frame.{bits_as_shifts}
 use Rattle.aig.specs.Values.{value}
-use Rattle.event_nodes.specs.Nodes.{EventGraphView}
-use Rattle.event_variables.specs.Variables.{variables_of}
-use Rattle.pair_decide.specs.declared.query.Query.{Query}
-use Rattle.pair_decide.specs.Queries.{assigned_to}
-use Rattle.witness_report.specs.declared.witness.PairName.{PairName}
-use Rattle.witness_report.specs.declared.witness.Witness.{Witness}
+use Rattle.frame_sequences.specs.event_nodes.Nodes.{EventGraphView}
+use Rattle.frame_sequences.specs.event_variables.Variables.{variables_of}
+use Rattle.outcome.specs.pair_decide.declared.query.Query.{Query}
+use Rattle.outcome.specs.pair_decide.Queries.{assigned_to}
+use Rattle.outcome.specs.witness_report.declared.witness.PairName.{PairName}
+use Rattle.outcome.specs.witness_report.declared.witness.Witness.{Witness}
 
 -- each input that the unfolding of the place visits has a number below this one
 abbrev pub HasInputsBelow : Circuit ℕ → List ℕ → ℕ → ℕ → Type 0

@@ -1,11 +1,11 @@
 -- What shows a difference of an obligation.
 use Rattle.std.specs.Prelude.{◌≡◌, ℕ, ◌<◌, List, length, slice_get, Some, All}
-use Rattle.event_nodes.specs.Nodes.{EventGraphView}
+use Rattle.frame_sequences.specs.event_nodes.Nodes.{EventGraphView}
 use Rattle.event_form.specs.Difference.{Difference}
 use Rattle.event_form.specs.Obligation.{Obligation}
-use Rattle.pair_decide.specs.declared.query.Query.{Query}
-use Rattle.pair_decide.specs.Queries.{IsQuery}
-use Rattle.witness_report.specs.declared.witness.Witness.{Witness}
+use Rattle.outcome.specs.pair_decide.declared.query.Query.{Query}
+use Rattle.outcome.specs.pair_decide.Queries.{IsQuery}
+use Rattle.outcome.specs.witness_report.declared.witness.Witness.{Witness}
 use Rattle.event_witness.specs.declared.unshown.UnshownFrame.{UnshownFrame}
 use Rattle.event_witness.specs.Sequences.{IsWitnessOf}
 use Rattle.event_witness.specs.Unshown.{IsUnshownOf}

@@ -1,9 +1,9 @@
 -- The frame of a difference, by the bits of a query's variables.
 use Rattle.std.specs.Prelude.{◌≡◌, Bool, List}
-use Rattle.event_nodes.specs.Nodes.{EventGraphView}
+use Rattle.frame_sequences.specs.event_nodes.Nodes.{EventGraphView}
 use Rattle.event_form.specs.Frames.{TellsFrame}
-use Rattle.pair_decide.specs.declared.query.Query.{Query}
-use Rattle.witness_report.specs.declared.witness.PairName.{PairName}
+use Rattle.outcome.specs.pair_decide.declared.query.Query.{Query}
+use Rattle.outcome.specs.witness_report.declared.witness.PairName.{PairName}
 use Rattle.event_witness.specs.declared.unshown.UnshownFrame.{UnshownFrame}
 use Rattle.event_witness.specs.Sequences.{AreSidesOf}
 

@@ -2,15 +2,15 @@
 
 ghost use Rattle.std.specs.Prelude.{◌≡◌, ◌≢◌, ◌*◌, ◌<◌, [], ◌∷◌, length, IfOk};
 ghost use Rattle.std.specs.List.{AllPairs};
-ghost use Rattle.lane_eval.specs.Tables.{Covers};
-ghost use Rattle.pair_decide.specs.Queries.{IsQuery, assigned_to};
+ghost use Rattle.cone_values.specs.lane_eval.Tables.{Covers};
+ghost use Rattle.outcome.specs.pair_decide.Queries.{IsQuery, assigned_to};
 ghost use Rattle.aig.specs.Values.{value};
 ghost use Rattle.event_witness.specs.Sequences.{AreSidesOf};
 
 use aig::Lit;
 use cone_values::value_in_cone;
 use event_form::Events;
-use pair_decide::Query;
+use outcome::Query;
 use sec_base::NoMemory;
 use std::alloc::Global;
 

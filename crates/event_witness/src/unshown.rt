@@ -1,13 +1,12 @@
 //! The frame of a difference that doesn't show that the circuits differ.
 
 ghost use Rattle.std.specs.Prelude.{◌≡◌, ◌<◌, length, All, IfOk};
-ghost use Rattle.pair_decide.specs.Queries.{IsQuery};
+ghost use Rattle.outcome.specs.pair_decide.Queries.{IsQuery};
 ghost use Rattle.event_witness.specs.Unshown.{IsUnshownOf};
 
 use crate::sides::sides_of;
 use event_form::{Events, FrameBit, copy_name, frame_of};
-use outcome::PairName;
-use pair_decide::Query;
+use outcome::{PairName, Query};
 use sec_base::{Bits, NoMemory};
 use std::alloc::Global;
 

@@ -2,14 +2,13 @@
 
 ghost use Rattle.std.specs.Prelude.{◌≡◌, ◌<◌, length, All, IfOk};
 ghost use Rattle.sec_base.specs.Table.{AreDistinct};
-ghost use Rattle.pair_decide.specs.Queries.{IsQuery};
+ghost use Rattle.outcome.specs.pair_decide.Queries.{IsQuery};
 ghost use Rattle.event_witness.specs.Sequences.{IsWitnessOf};
 
 use crate::sides::sides_of;
 use event_form::{Events, copy_name};
 use frame_sequences::frame_rows;
-use outcome::{PairName, Stimulus, Witness};
-use pair_decide::Query;
+use outcome::{PairName, Query, Stimulus, Witness};
 use sec_base::{Bits, NoMemory, Words};
 use std::alloc::Global;
 

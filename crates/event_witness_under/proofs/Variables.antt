@@ -7,7 +7,7 @@ use Rattle.event_nodes.specs.Nodes.{EventGraphView}
 use Rattle.event_variables.specs.Variables.{variable_of, variables_of}
 use Rattle.ranked_nodes.specs.Named.{named_ranks}
 use Rattle.witness_report.specs.declared.witness.PairName.{PairName}
-use Rattle.event_under.specs.Asked.{variable_in, variables_in}
+use Rattle.event_shown_under.specs.event_under.Asked.{variable_in, variables_in}
 use Rattle.event_asked_under.specs.declared.asked.EventQuestions.{EventQuestions}
 use Rattle.event_asked_under.specs.Questions.{named_at}
 use Rattle.event_witness_under.specs.Ready.{AreSidesOf, IsReadyOf}

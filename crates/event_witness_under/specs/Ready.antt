@@ -9,7 +9,7 @@ use Rattle.event_variables.specs.Variables.{variables_of}
 use Rattle.obligations.specs.declared.obligation.Difference.{Difference}
 use Rattle.obligations.specs.declared.obligation.Obligation.{Obligation}
 use Rattle.witness_report.specs.declared.witness.PairName.{PairName}
-use Rattle.event_under.specs.Asked.{variables_in}
+use Rattle.event_shown_under.specs.event_under.Asked.{variables_in}
 use Rattle.event_asked_under.specs.declared.asked.EventQuestions.{EventQuestions}
 use Rattle.event_asked_under.specs.Questions.{named_at}
 use Rattle.event_witness_under.specs.declared.ready.ReadyDifference.{ReadyDifference}

@@ -1,18 +1,18 @@
 -- The sequence and the frame of a difference that is ready.
 use Rattle.std.specs.Prelude.{◌≡◌, ℕ, ◌<◌, Bool, List, length, slice_get, Some, All}
 use Rattle.circuit_theory.specs.Sequence.{sequence_rows}
-use Rattle.event_theory.specs.Frame.{bits_as_shifts}
+use Rattle.circuit_theory.specs.Frame.{bits_as_shifts}
 use Rattle.pair_decide.specs.declared.query.Query.{Query}
 use Rattle.event_nodes.specs.Nodes.{EventGraphView}
 use Rattle.event_variables.specs.Variables.{variables_of}
 use Rattle.obligations.specs.declared.obligation.Difference.{Difference}
 use Rattle.obligations.specs.declared.obligation.Obligation.{Obligation}
 use Rattle.witness_report.specs.declared.witness.Witness.{Witness}
-use Rattle.event_form.specs.Frames.{TellsFrame}
+use Rattle.event_shown_under.specs.event_form.Frames.{TellsFrame}
 use Rattle.event_findings.specs.UnshownFrame.{UnshownFrame}
 use Rattle.event_findings.specs.declared.pairs.EventPairs.{EventPairs}
 use Rattle.assume_laws.specs.Sequences.{filled_frame}
-use Rattle.assume_sequences.specs.Filled.{bit_of}
+use Rattle.event_shown_under.specs.assume_sequences.Filled.{bit_of}
 use Rattle.event_witness_under.specs.declared.ready.ReadyDifference.{ReadyDifference}
 
 -- the pair of a difference has a depth, and the variables of its sides stand in the event graph

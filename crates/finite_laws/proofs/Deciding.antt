@@ -3,9 +3,9 @@ use Rattle.std.proofs.Common.{◌≡◌, ◌≢◌, ℕ, Bool, true, false, List
 use Rattle.std.specs.Prelude.{◌⊎◌}
 use Rattle.std.specs.List.{Contains}
 use Rattle.std.proofs.lemmas.List.Elements.{Contains-append_left, Contains-append_right}
-use Rattle.circuit_theory.specs.Circuit.{Equation, Gate, Latch, Port, Named, out_of}
-use Rattle.circuit_theory.specs.Tree.{StandsBeside}
-use Rattle.circuit_theory.proofs.Lists.{Contains-head, Contains-tail, Contains-cases, Contains-map}
+use Rattle.circuit_laws.specs.circuit_theory.Circuit.{Equation, Gate, Latch, Port, Named, out_of}
+use Rattle.circuit_laws.specs.circuit_theory.Tree.{StandsBeside}
+use Rattle.circuit_laws.proofs.circuit_theory.Lists.{Contains-head, Contains-tail, Contains-cases, Contains-map}
 use Rattle.circuit_laws.proofs.Finite.{Decided, find_or}
 
 pub decided_imp : {A B : Type 0} → Decided A → Decided B → Decided (A → B)

@@ -3,13 +3,13 @@ use Rattle.std.proofs.Common.{◌≡◌, ◌≢◌, ℕ, Bool, true, false, List
 use Rattle.std.specs.Prelude.{◌⊎◌}
 use Rattle.std.specs.List.{Contains}
 use Rattle.std.proofs.lemmas.List.Elements.{Contains-append_left, Contains-append_right}
-use Rattle.circuit_theory.specs.Cover.{Cover}
-use Rattle.circuit_theory.specs.Circuit.{Circuit, Equation, Gate, Latch, Port, Named, IsLatch, IsSource, IsSingleDriven, Reads, Reaches, out_of}
-use Rattle.circuit_theory.specs.Joined.{joined}
-use Rattle.circuit_theory.specs.Run.{Extends, ExtendsWith, IsEnabled, IsDetermined}
+use Rattle.circuit_laws.specs.circuit_theory.Cover.{Cover}
+use Rattle.circuit_laws.specs.circuit_theory.Circuit.{Circuit, Equation, Gate, Latch, Port, Named, IsLatch, IsSource, IsSingleDriven, Reads, Reaches, out_of}
+use Rattle.circuit_laws.specs.circuit_theory.Joined.{joined}
+use Rattle.circuit_laws.specs.circuit_theory.Run.{Extends, ExtendsWith, IsEnabled, IsDetermined}
 use Rattle.finite_laws.specs.Laws.{EnabledIsDecided, EnabledIsDecidedBeside}
-use Rattle.circuit_theory.proofs.Lists.{Contains-map}
-use Rattle.circuit_theory.proofs.Sums.{same_or_not}
+use Rattle.circuit_laws.proofs.circuit_theory.Lists.{Contains-map}
+use Rattle.circuit_laws.proofs.circuit_theory.Sums.{same_or_not}
 use Rattle.circuit_laws.proofs.Finite.{Decided}
 use Rattle.circuit_laws.proofs.Loads.{put_unique}
 use Rattle.circuit_laws.proofs.NetLaws.{net_value, net_value-extends, net_determined}

@@ -1,9 +1,9 @@
 -- What is known of each flat net.
 use Rattle.std.specs.Prelude.{ℕ, ◌⊎◌}
-use Rattle.circuit_theory.specs.Circuit.{Circuit}
-use Rattle.circuit_theory.specs.Run.{IsEnabled}
-use Rattle.circuit_theory.specs.Net.{IsNet}
-use Rattle.circuit_theory.specs.Joined.{Either, joined}
+use Rattle.circuit_laws.specs.circuit_theory.Circuit.{Circuit}
+use Rattle.circuit_laws.specs.circuit_theory.Run.{IsEnabled}
+use Rattle.circuit_laws.specs.circuit_theory.Net.{IsNet}
+use Rattle.circuit_laws.specs.circuit_theory.Joined.{Either, joined}
 
 -- Each place is an enabled latch, or is none.
 abbrev pub EnabledIsDecided : Type 0

@@ -10,6 +10,7 @@ pub use maker::NetMaker;
 pub use net::Net;
 pub use parts::{Driver, Gate, LatchAt, Port};
 pub use sec_base::{
-    Bits, Cover, Duplicate, Ids, NameTable, NoMemory, Orders, PlaceTable, Seq, Words,
+    BitRows, Bits, Cover, Duplicate, Ids, MAX_CONFLICTS, NameTable, NoMemory, Orders, PlaceTable,
+    Seq, Side, Tag, UniqueTable, Word, Words, unset_bits,
 };
 pub use signals::{Signal, Signals};

@@ -30,7 +30,7 @@ use Rattle.flatten.specs.Clocked.{numbered_circuit, number_at}
 use Rattle.flatten.specs.Gated.{made_by, spot}
 use Rattle.flatten.specs.Graph.{graph_of}
 use Rattle.flatten.specs.Made.{latch_by, IsMade}
-use Rattle.gate_order.specs.Order.{IsOrder}
+use Rattle.net_assembly.specs.Order.{IsOrder}
 use Rattle.flatten.proofs.NumberClocks.{placed, place_name}
 use Rattle.flatten.proofs.Spotted.{number_back}
 

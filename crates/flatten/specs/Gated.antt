@@ -18,7 +18,7 @@ use Rattle.connectivity.specs.declared.source.Source.TheVariants as source
 use Rattle.connectivity.specs.Wired.{WiredView}
 use Rattle.net_assembly.specs.Built.{IsBuilt, AreCovers, unclocked, latch_outs}
 use Rattle.flatten.specs.Graph.{IsSourceWithin, graph_of, is_gate_out}
-use Rattle.gate_order.specs.Order.{IsOrder}
+use Rattle.net_assembly.specs.Order.{IsOrder}
 
 -- the place of a number in a list
 abbrev pub place_of : List ℕ → ℕ → ℕ

@@ -11,11 +11,11 @@ ghost use Rattle.connectivity.specs.Wired.{IsWired};
 ghost use Rattle.connectivity.specs.Wiring.{wires_of};
 ghost use Rattle.flatten.specs.DesignFaults.{IsLoopFault};
 ghost use Rattle.flatten.specs.Loops.{IsLoop, IsNamedTurn, AreLoopNames};
-ghost use Rattle.gate_order.specs.Order.{IsOrder};
+ghost use Rattle.net_assembly.specs.Order.{IsOrder};
 
 use connectivity::{Source, Wired};
 use elaborate::{Flat, FlatError, FlatKind};
-use gate_order::{Found, order_of};
+use net_assembly::{Found, order_of};
 use sec_base::{Ids, NoMemory, Seq, Words};
 use std::alloc::Global;
 use std::cmp::Ordering;

@@ -14,9 +14,9 @@ use Rattle.circuit_theory.proofs.Inputs.{same_name-sound, test_refl, test_same}
 use Rattle.circuit_theory.proofs.Lists.{of_at}
 use Rattle.circuit_theory.proofs.Numbers.{same_name-refl}
 use Rattle.circuit_theory.proofs.Sums.{same_or_not}
-use Rattle.event_theory.specs.EventFrames.{frame_of}
-use Rattle.event_theory.specs.Frame.{always_node, bits_as_shifts}
-use Rattle.event_nodes.specs.Nodes.{EventGraphView}
+use Rattle.circuit_theory.specs.EventFrames.{frame_of}
+use Rattle.circuit_theory.specs.Frame.{always_node, bits_as_shifts}
+use Rattle.event_variables.specs.event_nodes.Nodes.{EventGraphView}
 use Rattle.event_variables.specs.Variables.{variable_of, variables_of}
 use Rattle.frame_sequences.specs.Frames.{IsRowOf, AreRowsOf, HasPut, with_variable, rows_in}
 

@@ -1,7 +1,7 @@
 -- Up from an event node, by steps of class 0.
 use Rattle.std.proofs.Common.{◌≡◌, ◌≢◌, ◌∙◌, ◌+◌, ◌-◌, ◌<◌, ◌≤◌, ℕ, zero, suc, List, [], ◌∷◌, ◌++◌, slice_get, Some, refl, sym, ap, arith, add-one, append-nil}
-use Rattle.event_theory.specs.Frame.{always_node}
-use Rattle.event_nodes.specs.Nodes.{path_of, IsTree}
+use Rattle.circuit_theory.specs.Frame.{always_node}
+use Rattle.event_variables.specs.event_nodes.Nodes.{path_of, IsTree}
 use Rattle.event_variables.proofs.Climbing.{parent_lower, parent_child, root_path}
 
 -- so many steps of class 0 lead from here to the node

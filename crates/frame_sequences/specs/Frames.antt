@@ -3,7 +3,7 @@ use Rattle.std.specs.Prelude.{◌≡◌, ◌≢◌, ◌&&◌, ◌==◌, if◌the
 use Rattle.std.specs.declared.alloc.Global.{Global}
 use Rattle.circuit_theory.specs.Names.{same_name}
 use Rattle.circuit_theory.specs.Query.{Variable}
-use Rattle.event_theory.specs.Frame.{always_node}
+use Rattle.circuit_theory.specs.Frame.{always_node}
 
 -- so many steps of class 0 are the path, or no number of them is
 abbrev pub AreAlwaysSteps : List ℕ → Option ℕ → Type 0

@@ -1,1 +1,3 @@
 pub mod Frames
+pub use Rattle.event_variables.specs as event_variables
+pub use Rattle.event_variables.specs.event_nodes

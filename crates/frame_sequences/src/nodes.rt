@@ -1,10 +1,10 @@
 //! Event nodes that steps of class 0 alone lead to.
 
 ghost use Rattle.std.specs.Prelude.{◌≤◌, length};
-ghost use Rattle.event_nodes.specs.Nodes.{path_of};
+ghost use Rattle.event_variables.specs.event_nodes.Nodes.{path_of};
 ghost use Rattle.frame_sequences.specs.Frames.{AreAlwaysSteps};
 
-use event_nodes::EventGraph;
+use event_variables::EventGraph;
 
 /// How many steps of class 0 lead from the root to the event node; None where a step is of another class.
 pub fn always_steps(events: &EventGraph, node: u32) -> Option<u32>

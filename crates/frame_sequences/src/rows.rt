@@ -2,13 +2,13 @@
 
 ghost use Rattle.std.specs.Prelude.{◌≡◌, ◌<◌, length, false, All, IfOk};
 ghost use Rattle.circuit_theory.specs.Sequence.{sequence_rows};
-ghost use Rattle.event_theory.specs.EventFrames.{frame_of};
-ghost use Rattle.event_theory.specs.Frame.{bits_as_shifts};
+ghost use Rattle.circuit_theory.specs.EventFrames.{frame_of};
+ghost use Rattle.circuit_theory.specs.Frame.{bits_as_shifts};
 ghost use Rattle.event_variables.specs.Variables.{variables_of};
 ghost use Rattle.frame_sequences.specs.Frames.{AreRowsOf};
 
 use crate::table::{put_variable, told_rows, unset_rows};
-use event_nodes::EventGraph;
+use event_variables::EventGraph;
 use sec_base::{BitRows, NoMemory};
 use std::alloc::Global;
 

@@ -1,12 +1,12 @@
 //! Rows of bits that are written.
 
 ghost use Rattle.std.specs.Prelude.{◌≡◌, ◌<◌, length, false, slice_set, IfOk};
-ghost use Rattle.event_theory.specs.Frame.{always_node};
+ghost use Rattle.circuit_theory.specs.Frame.{always_node};
 ghost use Rattle.event_variables.specs.Variables.{variable_of};
 ghost use Rattle.frame_sequences.specs.Frames.{rows_in, AreRowsOf, IsTable, HasPut};
 
 use crate::nodes::always_steps;
-use event_nodes::EventGraph;
+use event_variables::EventGraph;
 use sec_base::{BitRows, NoMemory, Seq};
 use std::alloc::Global;
 

@@ -3,9 +3,7 @@
 
 ghost use Rattle.std.specs.Prelude.{◌≡◌, ◌^◌, ◌<◌, length, slice_index_or};
 
-use flat_net::Signal;
-use sec_base::NoMemory;
-use signal_graph::Node;
+use signal_graph::{NoMemory, Node, Signal};
 use std::alloc::Global;
 
 /// A signal on the way, with how many of those that it reads were looked at.

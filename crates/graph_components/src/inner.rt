@@ -1,13 +1,11 @@
 //! The readings within components.
 
 ghost use Rattle.std.specs.Prelude.{◌≡◌, ◌^◌, ◌<◌, ◌≤◌, ◌==◌, true, All, length, filter, slice_index_or, IfOk};
-ghost use Rattle.flat_net.specs.declared.signals.Signal.{Signal};
+ghost use Rattle.signal_graph.specs.flat_net.declared.signals.Signal.{Signal};
 ghost use Rattle.graph_components.specs.Inner.{AreRanked, AreInner, IsInnerOf};
 
 use crate::components::{components_of, number_at};
-use flat_net::{Signal, Signals};
-use sec_base::NoMemory;
-use signal_graph::Node;
+use signal_graph::{NoMemory, Node, Signal, Signals};
 use std::alloc::Global;
 
 /// The nodes with those of their readings that lead back to the signal that reads, and maybe some others: no cycle loses one. They tell

@@ -5,4 +5,4 @@ mod components;
 mod inner;
 
 pub use inner::inner_nodes;
-pub use signal_graph::{Node, SignalGraph};
+pub use signal_graph::{Ids, LatchAt, NoMemory, Node, Seq, Signal, SignalGraph, Signals};

@@ -5,8 +5,7 @@ ghost use Rattle.aig.specs.declared.node.Node.{Node};
 ghost use Rattle.aig.specs.Graph.{vars_of, Grows};
 ghost use Rattle.graph_copy.specs.Copy.{IsCopyOf, AreCopies};
 
-use aig::{Aig, Lit, Node};
-use sec_base::NoMemory;
+use aig::{Aig, Lit, NoMemory, Node};
 use std::alloc::Global;
 
 /// The literal in `aig` for a literal of the graph `own`, where variable v of `own` is the variable with the number at place v.

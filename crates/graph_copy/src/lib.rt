@@ -2,5 +2,6 @@
 #![tactic(auto)]
 
 mod copy;
+pub mod graph_clone;
 
 pub use copy::copy_into;

@@ -13,7 +13,7 @@ use Rattle.block_graph.specs.declared.nets.BlockNets.{BlockNets}
 use Rattle.block_graph.specs.declared.graph.BlockGraph.{BlockGraph}
 use Rattle.block_graph.specs.Graph.{AreReady, IsBlockGraph}
 use Rattle.block_graph.proofs.Numbered.{light_few}
-use Rattle.block_refine.specs.Refining.{AreCoarsest}
+use Rattle.block_outputs.specs.block_refine.Refining.{AreCoarsest}
 use Rattle.block_outputs.specs.declared.answer.Shown.{Shown}
 use Rattle.block_outputs.specs.declared.answer.OutputAnswer.{OutputAnswer}
 use Rattle.block_outputs.specs.declared.answer.OutputAnswer.TheVariants as answer

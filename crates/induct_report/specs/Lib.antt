@@ -1,1 +1,5 @@
 pub mod Report
+pub use Rattle.induct.specs as induct
+pub use Rattle.induct.specs.block_graph
+pub use Rattle.induct.specs.block_outputs
+pub use Rattle.induct.specs.block_refine

@@ -4,4 +4,5 @@
 mod text;
 mod whole;
 
+pub use induct::{InductError, InductPair, InductPairs, InductVerdict, Induction, induct};
 pub use whole::report;

@@ -4,12 +4,12 @@ use Rattle.std.specs.List.{Contains, filter_map}
 use Rattle.std.specs.List.Sorted.{IsNonDecreasing, IsPermutation}
 use Rattle.std.proofs.lemmas.List.Sorted.{Contains-permutation, IsPermutation-sym}
 use Rattle.std.proofs.lemmas.Option.{slice_get_within}
-use Rattle.circuit_theory.proofs.Lists.{at_of, of_at, filter_map-from}
-use Rattle.flat_net.specs.declared.parts.Gate.{Gate}
-use Rattle.flat_net.specs.declared.parts.LatchAt.{LatchAt}
-use Rattle.flat_net.specs.declared.parts.Driver.TheVariants as driver
-use Rattle.flat_net.specs.View.{NetView}
-use Rattle.flat_net.specs.Sound.{IsSound}
+use Rattle.latch_cone.proofs.circuit_theory.Lists.{at_of, of_at, filter_map-from}
+use Rattle.latch_cone.specs.flat_net.declared.parts.Gate.{Gate}
+use Rattle.latch_cone.specs.flat_net.declared.parts.LatchAt.{LatchAt}
+use Rattle.latch_cone.specs.flat_net.declared.parts.Driver.TheVariants as driver
+use Rattle.latch_cone.specs.flat_net.View.{NetView}
+use Rattle.latch_cone.specs.flat_net.Sound.{IsSound}
 use Rattle.latch_cone.specs.Parts.{gate_at}
 use Rattle.latch_cone.proofs.Walks.{gate_fanins}
 use Rattle.latch_cone.proofs.ConeGates.{filter_map-into, driven_by_gate}

@@ -9,12 +9,12 @@ use Rattle.std.proofs.lemmas.Option.{same_Some}
 use Rattle.std.proofs.lemmas.List.Sorted.{Contains-permutation, IsPermutation-sym, IsNonDecreasingBy-from_sort}
 use Rattle.std.proofs.lemmas.List.Elements.{All-contains}
 use Rattle.std.proofs.lemmas.Map.Keys.{IsStrictlyIncreasing-from_distinct, IsDistinct-IsPermutation}
-use Rattle.circuit_theory.specs.Circuit.{Reaches}
-use Rattle.circuit_theory.proofs.Lists.{All-from_each, at_of, of_at}
-use Rattle.flat_net.specs.declared.signals.Signal.{Signal}
-use Rattle.flat_net.specs.declared.parts.Gate.{Gate}
-use Rattle.flat_net.specs.View.{NetView, circuit_of}
-use Rattle.flat_net.specs.Sound.{IsSound}
+use Rattle.latch_cone.specs.circuit_theory.Circuit.{Reaches}
+use Rattle.latch_cone.proofs.circuit_theory.Lists.{All-from_each, at_of, of_at}
+use Rattle.latch_cone.specs.flat_net.declared.signals.Signal.{Signal}
+use Rattle.latch_cone.specs.flat_net.declared.parts.Gate.{Gate}
+use Rattle.latch_cone.specs.flat_net.View.{NetView, circuit_of}
+use Rattle.latch_cone.specs.flat_net.Sound.{IsSound}
 use Rattle.latch_cone.specs.Cones.{AreSome, Stay}
 use Rattle.latch_cone.proofs.Walks.{IsPut, put_stay, put_there, put_some, stay_there, gate_reads}
 use Rattle.inner_cone.specs.Inner.{AreRanked, AreInside, LeadsAside, IsLow, AreHigh, IsHighPut}

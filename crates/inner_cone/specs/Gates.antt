@@ -2,10 +2,10 @@
 use Rattle.std.specs.Prelude.{◌≡◌, ◌⊎◌, ℕ, ◌<◌, List, length, slice_get, Some}
 use Rattle.std.specs.List.{Contains}
 use Rattle.std.specs.List.Sorted.{IsNonDecreasing}
-use Rattle.flat_net.specs.declared.signals.Signal.{Signal}
-use Rattle.flat_net.specs.declared.parts.Gate.{Gate}
-use Rattle.flat_net.specs.declared.parts.LatchAt.{LatchAt}
-use Rattle.flat_net.specs.View.{NetView}
+use Rattle.latch_cone.specs.flat_net.declared.signals.Signal.{Signal}
+use Rattle.latch_cone.specs.flat_net.declared.parts.Gate.{Gate}
+use Rattle.latch_cone.specs.flat_net.declared.parts.LatchAt.{LatchAt}
+use Rattle.latch_cone.specs.flat_net.View.{NetView}
 use Rattle.latch_cone.specs.Parts.{gate_at}
 use Rattle.inner_cone.specs.Inner.{LeadsAside}
 

@@ -1,8 +1,8 @@
 -- Numbers of signals, and what of a cone leads back to a signal.
 use Rattle.std.specs.Prelude.{◌≡◌, ◌⊎◌, ℕ, ◌<◌, ◌≤◌, List, [], ◌∷◌, ◌++◌, length, slice_index_or, All, Contains}
 use Rattle.std.specs.List.Sorted.{IsStrictlyIncreasing}
-use Rattle.circuit_theory.specs.Circuit.{Reads, Reaches}
-use Rattle.flat_net.specs.View.{NetView, circuit_of}
+use Rattle.latch_cone.specs.circuit_theory.Circuit.{Reads, Reaches}
+use Rattle.latch_cone.specs.flat_net.View.{NetView, circuit_of}
 use Rattle.latch_cone.specs.Cones.{AreSome}
 
 -- no signal reads one with a greater number

@@ -3,7 +3,7 @@
 //! numbers looks whether they are right.
 
 use crate::numbers::number_at;
-use flat_net::{Driver, Net, NoMemory, Signal};
+use latch_cone::{Driver, Net, NoMemory, Signal};
 use std::alloc::Global;
 
 /// A signal on the way, with how many of those that it reads were looked at.

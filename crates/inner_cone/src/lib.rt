@@ -10,6 +10,10 @@ mod parts;
 mod sides;
 mod walk;
 
+pub use latch_cone::{
+    Bits, Driver, Duplicate, Ids, LatchAt, Net, NoMemory, Seq, Side, Signal, Signals, Words,
+    none_enabled,
+};
 pub use numbers::ranks;
 pub use parts::{InnerParts, inner_parts};
 pub use sides::sides_of;

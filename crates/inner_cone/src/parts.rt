@@ -4,7 +4,7 @@ ghost use Rattle.std.specs.Prelude.{◌≡◌, ◌<◌, ◌++◌, ℕ, length, s
 ghost use Rattle.std.specs.List.{filter_map};
 ghost use Rattle.std.specs.Option.{option_to_list};
 ghost use Rattle.std.specs.List.Sorted.{IsNonDecreasing, IsPermutation};
-ghost use Rattle.flat_net.specs.declared.parts.LatchAt.{LatchAt};
+ghost use Rattle.latch_cone.specs.flat_net.declared.parts.LatchAt.{LatchAt};
 ghost use Rattle.latch_cone.specs.Parts.{gate_at};
 ghost use Rattle.inner_cone.specs.Inner.{AreRanked};
 ghost use Rattle.inner_cone.specs.Sides.{AreSides};
@@ -13,8 +13,8 @@ ghost use Rattle.inner_cone.specs.Gates.{AreInnerGates};
 use crate::numbers::number_at;
 use crate::sides::sides_of;
 use crate::walk::{count, signal_at, walked};
-use flat_net::{Driver, Ids, LatchAt, Net, NoMemory, Seq, Signal, Signals};
 use indexmap::IndexSet;
+use latch_cone::{Driver, Ids, LatchAt, Net, NoMemory, Seq, Signal, Signals};
 use std::alloc::Global;
 
 /// What a latch's next value depends on the latch by.

@@ -1,15 +1,15 @@
 //! The walk through what leads back to a signal.
 
 ghost use Rattle.std.specs.Prelude.{◌≡◌, ◌<◌, ◌⊎◌, ℕ, true, false, [], ◌∷◌, ◌++◌, length, slice_get, slice_index_or, Some, Contains, IfOk, OnOk};
-ghost use Rattle.circuit_theory.specs.Circuit.{Reads, Reaches};
-ghost use Rattle.flat_net.specs.declared.signals.Signal.{Signal};
-ghost use Rattle.flat_net.specs.View.{NetView, circuit_of};
+ghost use Rattle.latch_cone.specs.circuit_theory.Circuit.{Reads, Reaches};
+ghost use Rattle.latch_cone.specs.flat_net.declared.signals.Signal.{Signal};
+ghost use Rattle.latch_cone.specs.flat_net.View.{NetView, circuit_of};
 ghost use Rattle.latch_cone.specs.Cones.{AreSome, AreRead, Stay};
 ghost use Rattle.inner_cone.specs.Inner.{AreRanked, AreInside, IsLow, AreHigh, IsHighPut};
 
 use crate::numbers::number_at;
-use flat_net::{Driver, Net, NoMemory, Signal};
 use indexmap::IndexSet;
+use latch_cone::{Driver, Net, NoMemory, Signal};
 use std::alloc::Global;
 
 /// The signals that are reached from one backwards through gates and lead back to another, and maybe more of those that are

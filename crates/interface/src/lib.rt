@@ -5,5 +5,8 @@
 mod numbers;
 mod pairs;
 
+pub use flat_net::{
+    Bits, Ids, NameTable, Net, NoMemory, Orders, Seq, Side, Signal, Word, Words, unset_bits,
+};
 pub use numbers::{first_mismatch, inputs_beside, orders_of};
 pub use pairs::{SignalPair, SignalPairs, output_names, pairs_of};

@@ -17,7 +17,7 @@ use Rattle.assume_shape.specs.declared.shape.ShapeFault.TheVariants as shape
 use Rattle.elaborate.specs.declared.error.FlatError.{FlatError}
 use Rattle.elaborate.specs.declared.error.FlatError.TheVariants as flat
 use Rattle.outcome.specs.Report.{report_text}
-use Rattle.replay_report.specs.Report.{replay_text}
+use Rattle.pair_runs.specs.replay_report.Report.{replay_text}
 use Rattle.job_base.specs.declared.finding.File.{File}
 use Rattle.job_base.specs.declared.finding.File.TheVariants as file
 use Rattle.job_base.specs.declared.finding.LineFault.{LineFault}

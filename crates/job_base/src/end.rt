@@ -13,10 +13,9 @@ use crate::text::{
     cycle_report, refusal_report, satisfiable_report, undecided_text, unpaired_report,
     unsettled_text, words_report,
 };
-use outcome::{Outcome, PairResult, PairResults, Settings, Verdict, report};
-use pair_decide::Proof;
+use outcome::{Outcome, PairResult, PairResults, Proof, Settings, Verdict, report};
 use pair_runs::Differences;
-use replay_report::replay_report;
+use pair_runs::replay_report::replay_report;
 use sec_base::{NoMemory, Side, Sink, Text, Word};
 use std::alloc::Global;
 

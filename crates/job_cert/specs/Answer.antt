@@ -7,7 +7,7 @@ use Rattle.flat_net.specs.View.{NetView, circuit_of}
 use Rattle.cnf_encode.specs.declared.cnf.Cnf.{Cnf}
 use Rattle.sat_search.specs.Found.{IsFruitless}
 use Rattle.pair_decide.specs.declared.query.Proof.{Proof}
-use Rattle.outcome_fits.specs.Outcome.{HaveDifferentFunctions}
+use Rattle.pair_clauses.specs.outcome_fits.Outcome.{HaveDifferentFunctions}
 use Rattle.sec_setup.specs.Matching.{InterfacesMatch}
 use Rattle.sec_setup.specs.Cycles.{AreBroken}
 use Rattle.pair_clauses.specs.Compared.{AreTooLarge}

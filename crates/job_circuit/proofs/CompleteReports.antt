@@ -18,8 +18,8 @@ use Rattle.job_base.specs.declared.finding.Finding.TheVariants as finding
 use Rattle.job_base.specs.declared.status.StatusName.TheVariants as status
 use Rattle.job_base.specs.Written.{status_of}
 use Rattle.latch_kinds.specs.declared.kinds.KindsError.TheVariants as kinds_error
-use Rattle.circuit_jobs.specs.Jobs.{IsUnknown}
-use Rattle.circuit_jobs.proofs.Ended.{large_or_light}
+use Rattle.graph_report.specs.Jobs.{IsUnknown}
+use Rattle.graph_report.proofs.Ended.{large_or_light}
 use Rattle.sec_files.specs.Loading.{IsAccepted, Loads, IsTooLong}
 use Rattle.sec_files.specs.Stimuli.{IsStimulus, HasBadHeader, HasBadRow}
 use Rattle.sec_files.proofs.Texts.{text_sound}

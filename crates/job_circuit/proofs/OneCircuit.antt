@@ -19,9 +19,9 @@ use Rattle.job_base.specs.declared.finding.Finding.TheVariants as finding
 use Rattle.job_base.specs.Ends.{EndsBy}
 use Rattle.latch_kinds.specs.declared.kinds.KindsError.{KindsError}
 use Rattle.latch_kinds.specs.declared.kinds.KindsError.TheVariants as kinds_error
-use Rattle.circuit_jobs.specs.declared.runs.SimulateError.{SimulateError}
-use Rattle.circuit_jobs.specs.declared.runs.SimulateError.TheVariants as simulate_error
-use Rattle.circuit_jobs.specs.Jobs.{Tells, Simulates}
+use Rattle.graph_report.specs.declared.runs.SimulateError.{SimulateError}
+use Rattle.graph_report.specs.declared.runs.SimulateError.TheVariants as simulate_error
+use Rattle.graph_report.specs.Jobs.{Tells, Simulates}
 use Rattle.sec_files.specs.declared.loader.LoadError.{LoadError}
 use Rattle.sec_files.specs.declared.loader.LoadError.TheVariants as load_error
 use Rattle.sec_files.specs.declared.stimuli.StimulusError.{StimulusError}

@@ -4,8 +4,8 @@ ghost use Rattle.std.specs.Prelude.{◌≡◌, ℕ, List, option_map, IsErrOf};
 ghost use Rattle.sec_base.specs.Outside.{SameHeld, NoneFell};
 ghost use Rattle.job_circuit.specs.Ends.{GraphFound, SimFound, graph_end, sim_end};
 
-use circuit_jobs::{KindsError, SimulateError, simulate as run_circuit, tell};
 use circuit_theory::Mode;
+use graph_report::{KindsError, SimulateError, simulate as run_circuit, tell};
 use job_base::{File, Finding, Refusal, Stop};
 use job_files::{load_end, stimulus_end};
 use sec_base::{Shelf, Side, Text};

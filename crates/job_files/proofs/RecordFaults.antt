@@ -5,8 +5,8 @@ use Rattle.aiger_records.specs.declared.error.AigerKind.{AigerKind}
 use Rattle.aiger_file.specs.declared.file.AigerFile.{AigerFile}
 use Rattle.aiger_file.specs.Files.{fault_of_text}
 use Rattle.aiger_file.specs.Reading.{spelled}
-use Rattle.aiger_graph.specs.Loops.{HasLoop}
-use Rattle.aiger_read.specs.Nets.{HasFault}
+use Rattle.sec_files.specs.aiger_graph.Loops.{HasLoop}
+use Rattle.sec_files.specs.aiger_read.Nets.{HasFault}
 
 module _ (text : List ℕ) (none : fault_of_text text ≡ None) (sound : (f : AigerFile) → spelled text ≡ Some f → HasLoop f → ⊥) where
   pub no_record_fault : {place : ℕ} {k : AigerKind} → HasFault text place k → ⊥

@@ -3,11 +3,10 @@
 ghost use Rattle.std.specs.Prelude.{◌≡◌};
 ghost use Rattle.job_files.specs.Ends.{load_end, stimulus_end};
 
-use aiger_read::AigerError;
 use blif_read::ReadError;
 use job_base::{File, Finding, LineFault, Refusal, Stop};
 use sec_base::FetchError;
-use sec_files::{FlatError, LoadError, StimulusError};
+use sec_files::{AigerError, FlatError, LoadError, StimulusError};
 use witness_report::StimError;
 
 /// What is found where the file of a circuit isn't loaded.

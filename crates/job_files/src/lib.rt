@@ -4,3 +4,5 @@
 mod ends;
 
 pub use ends::{load_end, stimulus_end};
+pub use job_base::{File, Finding, Refusal, Stop};
+pub use sec_files::load;

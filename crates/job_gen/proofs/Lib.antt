@@ -1,1 +1,0 @@
-pub use Rattle.gen_meaning.proofs.Means

@@ -1,2 +1,1 @@
-pub use Rattle.gen_meaning.specs.Answer
-pub use Rattle.gen_meaning.specs.Found
+pub mod gen_meaning

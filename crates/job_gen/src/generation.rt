@@ -1,15 +1,15 @@
 //! A pair is made and compared.
 
 ghost use Rattle.std.specs.Prelude.{◌≡◌, ◌≤◌, IsErrOf};
-ghost use Rattle.gen_meaning.specs.Compared.{IsCompared};
-ghost use Rattle.gen_meaning.specs.Found.{AreTwins, GenFound, settings_of};
+ghost use Rattle.plain_check.specs.compare_base.Compared.{IsCompared};
+ghost use Rattle.job_gen.specs.gen_meaning.Found.{AreTwins, GenFound, settings_of};
 
+use crate::gen_meaning::{Generation, summary};
 use circuit_theory::Mode;
-use gen_meaning::{CompareError, Generation, summary};
 use job_base::{Finding, Stop};
 use outcome::{Outcome, Settings};
 use pair_gen::{Twins, generate};
-use plain_check::compare_plainly;
+use plain_check::{CompareError, compare_plainly};
 use sec_base::NoMemory;
 use std::alloc::Global;
 

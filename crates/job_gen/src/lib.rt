@@ -1,6 +1,7 @@
 //! The job that makes a pair from a number and compares it.
 #![tactic(auto)]
 
+pub mod gen_meaning;
 mod generation;
 
 pub use gen_meaning::Generation;

@@ -15,7 +15,7 @@ use Rattle.job_files.specs.Ends.{load_end}
 use Rattle.job_files.specs.Reading.{IsLoaded, Held, ReadFailed}
 use Rattle.job_files.proofs.Loading.{load_ends, later_fails}
 use Rattle.job_files.proofs.Reading.{first_failed, second_failed, is_loaded}
-use Rattle.induct_meaning.specs.Found.{IsInductFound}
+use Rattle.job_induct.specs.induct_meaning.Found.{IsInductFound}
 use Rattle.job_induct.specs.declared.judging.Judged.{Judged}
 use Rattle.job_induct.specs.declared.judging.JudgeError.{JudgeError}
 use Rattle.job_induct.specs.declared.judging.JudgeError.TheVariants as judge

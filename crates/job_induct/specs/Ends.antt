@@ -6,9 +6,9 @@ use Rattle.sec_files.specs.Loading.{Loads, LoadFails}
 use Rattle.sec_files.specs.declared.loader.LoadError.{LoadError}
 use Rattle.sec_setup.specs.declared.error.SetupError.{SetupError}
 use Rattle.sec_setup.specs.declared.error.SetupError.TheVariants as unset
-use Rattle.induct.specs.declared.induction.InductError.{InductError}
-use Rattle.induct.specs.declared.induction.InductError.TheVariants as refused
-use Rattle.induct.specs.Inductions.{IsRefusal}
+use Rattle.induct_report.specs.induct.declared.induction.InductError.{InductError}
+use Rattle.induct_report.specs.induct.declared.induction.InductError.TheVariants as refused
+use Rattle.induct_report.specs.induct.Inductions.{IsRefusal}
 use Rattle.job_base.specs.Ends.{EndsBy}
 use Rattle.job_base.specs.declared.finding.File.TheVariants as file
 use Rattle.job_base.specs.declared.finding.Refusal.TheVariants as refusal
@@ -18,8 +18,8 @@ use Rattle.job_base.specs.declared.finding.Stop.{Stop}
 use Rattle.job_base.specs.declared.finding.Stop.TheVariants as stop
 use Rattle.job_files.specs.Ends.{load_end}
 use Rattle.job_files.specs.Reading.{Held, ReadFailed}
-use Rattle.induct_meaning.specs.Judged.{IsJudged}
-use Rattle.induct_meaning.specs.Found.{IsInductFound, induct_paths}
+use Rattle.job_induct.specs.induct_meaning.Judged.{IsJudged}
+use Rattle.job_induct.specs.induct_meaning.Found.{IsInductFound, induct_paths}
 use Rattle.job_induct.specs.declared.judging.Judged.{Judged}
 use Rattle.job_induct.specs.declared.judging.JudgeError.{JudgeError}
 use Rattle.job_induct.specs.declared.judging.JudgeError.TheVariants as judge

@@ -1,3 +1,2 @@
-pub use Rattle.induct_meaning.specs.Answer
-pub use Rattle.induct_meaning.specs.Found
 pub mod Ends
+pub mod induct_meaning

@@ -4,12 +4,13 @@ ghost use Rattle.std.specs.Prelude.{◌≡◌, ◌≤◌, [], ◌∷◌, ◌++�
 ghost use Rattle.std.specs.List.{filter_map};
 ghost use Rattle.flat_net.specs.Comparable.{IsComparable};
 ghost use Rattle.induct_report.specs.Report.{induct_text};
-ghost use Rattle.induct_meaning.specs.Judged.{judgement_of, proofs_of};
+ghost use Rattle.job_induct.specs.induct_meaning.Judged.{judgement_of, proofs_of};
 ghost use Rattle.job_induct.specs.Ends.{IsMismatch, mismatch_of, IsJudgedBy, judged_end};
 
 use flat_net::Net;
-use induct::{InductError, InductPair, InductPairs, InductVerdict, Induction, induct};
-use induct_report::report;
+use induct_report::{
+    InductError, InductPair, InductPairs, InductVerdict, Induction, induct, report,
+};
 use job_base::{Finding, Judgement, Proofs, Refusal, Stop};
 use pair_decide::Proof;
 use sec_base::{MAX_CONFLICTS, NoMemory, Side, Text, Word};

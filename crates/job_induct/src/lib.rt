@@ -2,6 +2,7 @@
 #![tactic(auto)]
 
 mod comparison;
+pub mod induct_meaning;
 mod judging;
 
 pub use comparison::{BlockComparison, compare_by_blocks};

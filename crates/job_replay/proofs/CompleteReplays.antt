@@ -8,12 +8,12 @@ use Rattle.circuit_theory.specs.declared.Side.{Side}
 use Rattle.circuit_theory.specs.declared.Side.TheVariants.{A, B}
 use Rattle.flat_net.specs.View.{NetView}
 use Rattle.latch_kinds.specs.declared.kinds.KindsError.TheVariants as kinds_error
-use Rattle.circuit_jobs.specs.Jobs.{IsUnknown}
-use Rattle.circuit_jobs.proofs.Ended.{large_or_light}
+use Rattle.graph_report.specs.Jobs.{IsUnknown}
+use Rattle.graph_report.proofs.Ended.{large_or_light}
 use Rattle.pair_decide.specs.declared.query.Proof.{Proof}
 use Rattle.sim_report.specs.declared.refusal.Misfit.TheVariants as misfit
 use Rattle.replay_header.specs.Header.{first_unknown, first_lacking}
-use Rattle.replay_modes.specs.Modes.{AreUnknown}
+use Rattle.job_replay.specs.Modes.{AreUnknown}
 use Rattle.sec_files.specs.Loading.{Loads}
 use Rattle.sec_files.specs.Stimuli.{IsStimulus}
 use Rattle.sec_files.proofs.Texts.{text_sound}

@@ -1,3 +1,4 @@
 pub mod CompleteReplays
 pub mod Means
 pub mod TwoCircuits
+pub mod Ended

@@ -6,9 +6,9 @@ use Rattle.circuit_theory.specs.declared.Mode.{Mode}
 use Rattle.sec_base.specs.Outside.{Rose}
 use Rattle.flat_net.specs.View.{NetView}
 use Rattle.pair_runs.specs.declared.differences.Difference.{Difference}
-use Rattle.replay_modes.specs.declared.fault.ReplayFault.{ReplayFault}
-use Rattle.replay_modes.specs.declared.fault.ReplayFault.TheVariants as fault
-use Rattle.replay_modes.specs.Modes.{ReplaysIn}
+use Rattle.job_replay.specs.declared.fault.ReplayFault.{ReplayFault}
+use Rattle.job_replay.specs.declared.fault.ReplayFault.TheVariants as fault
+use Rattle.job_replay.specs.Modes.{ReplaysIn}
 use Rattle.sec_files.specs.declared.loader.LoadError.{LoadError}
 use Rattle.sec_files.specs.declared.stimuli.StimulusError.{StimulusError}
 use Rattle.sec_files.specs.Loading.{Loads, LoadFails}

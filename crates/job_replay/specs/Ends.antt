@@ -4,9 +4,9 @@ use Rattle.circuit_theory.specs.declared.Mode.{Mode}
 use Rattle.flat_net.specs.View.{NetView}
 use Rattle.sim_report.specs.declared.refusal.Misfit.TheVariants as misfit
 use Rattle.pair_runs.specs.declared.differences.Difference.{Difference}
-use Rattle.replay_modes.specs.declared.fault.ReplayFault.{ReplayFault}
-use Rattle.replay_modes.specs.declared.fault.ReplayFault.TheVariants as fault
-use Rattle.replay_modes.specs.Modes.{ReplaysIn}
+use Rattle.job_replay.specs.declared.fault.ReplayFault.{ReplayFault}
+use Rattle.job_replay.specs.declared.fault.ReplayFault.TheVariants as fault
+use Rattle.job_replay.specs.Modes.{ReplaysIn}
 use Rattle.sec_files.specs.declared.loader.LoadError.{LoadError}
 use Rattle.sec_files.specs.declared.stimuli.StimulusError.{StimulusError}
 use Rattle.sec_files.specs.Loading.{Loads, LoadFails}

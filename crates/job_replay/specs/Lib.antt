@@ -1,2 +1,3 @@
 pub mod Ends
 pub mod Replays
+pub mod Modes

@@ -8,13 +8,13 @@ use Rattle.flat_net.specs.View.{NetView}
 use Rattle.pair_decide.specs.declared.query.Proof.{Proof}
 use Rattle.sec_setup.specs.Matching.{InterfacesMatch}
 use Rattle.sim_report.specs.declared.refusal.Misfit.TheVariants as misfit
-use Rattle.circuit_jobs.specs.Jobs.{AreLightIn}
+use Rattle.graph_report.specs.Jobs.{AreLightIn}
 use Rattle.latch_kinds.specs.declared.kinds.KindsError.TheVariants as kinds_error
 use Rattle.pair_runs.specs.declared.differences.Difference.{Difference}
 use Rattle.replay_header.specs.Header.{FitsBoth}
-use Rattle.replay_report.specs.Report.{replay_text}
-use Rattle.replay_modes.specs.declared.fault.ReplayFault.TheVariants as fault
-use Rattle.replay_modes.specs.Modes.{AreUnknown, ShowsReplay, ReplaysIn}
+use Rattle.pair_runs.specs.replay_report.Report.{replay_text}
+use Rattle.job_replay.specs.declared.fault.ReplayFault.TheVariants as fault
+use Rattle.job_replay.specs.Modes.{AreUnknown, ShowsReplay, ReplaysIn}
 use Rattle.sec_files.specs.Loading.{IsAccepted, Loads, IsTooLong, HasFault, HasDesignFault, HasRecordFault}
 use Rattle.sec_files.specs.Stimuli.{IsStimulus, HasBadHeader, HasBadRow}
 use Rattle.job_base.specs.Lines.{undecided_text}

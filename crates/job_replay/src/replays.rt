@@ -5,12 +5,13 @@ ghost use Rattle.sec_base.specs.Outside.{Rose, SameHeld, NoneFell};
 ghost use Rattle.flat_net.specs.Comparable.{IsComparable};
 ghost use Rattle.job_replay.specs.Ends.{ReplayJob, replay_end, EndsOver, EndsWithBoth, ReplayFound};
 
+use crate::fault::ReplayFault;
+use crate::modes::replay_in;
 use circuit_theory::Mode;
 use flat_net::Net;
 use job_base::{File, Finding, Refusal, Stop};
 use job_files::{load_end, stimulus_end};
 use pair_runs::Differences;
-use replay_modes::{ReplayFault, replay_in};
 use sec_base::Shelf;
 use sec_files::{load, load_stimulus};
 use sim_report::Misfit;

@@ -25,8 +25,8 @@ use Rattle.net_alike.proofs.Carrying.{forth, turned, run_back}
 use Rattle.net_alike.proofs.Testing.{all_in}
 use Rattle.flatten.specs.DesignFaults.{IsFlatOf}
 use Rattle.net_assembly.proofs.DistinctLists.{distinct_nil, distinct_cons}
-use Rattle.design_tests.specs.NoFault.{has_no_fault}
-use Rattle.design_tests.proofs.NoFaults.{tested_is_sound}
+use Rattle.design_rows.specs.NoFault.{has_no_fault}
+use Rattle.design_rows.proofs.NoFaults.{tested_is_sound}
 use Rattle.latch_cone.specs.declared.kinds.LatchKind.{LatchKind}
 use Rattle.latch_cone.specs.declared.kinds.LatchKind.TheVariants as kind
 use Rattle.latch_cone.specs.Kinds.{IsKindIn}

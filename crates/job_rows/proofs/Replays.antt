@@ -14,7 +14,7 @@ use Rattle.flat_net.specs.View.{NetView, ports_of}
 use Rattle.net_assembly.proofs.DistinctLists.{distinct_nil, distinct_cons}
 use Rattle.witness_report.specs.Form.{IsName, IsForm}
 use Rattle.witness_report.specs.Text.{stimulus_text}
-use Rattle.circuit_jobs.specs.Jobs.{AreLightIn}
+use Rattle.graph_report.specs.Jobs.{AreLightIn}
 use Rattle.sec_files.specs.Loading.{Loads}
 use Rattle.sec_files.specs.Stimuli.{IsStimulus}
 use Rattle.replay_header.specs.Header.{FitsBoth}

@@ -14,8 +14,8 @@ use Rattle.blif_read.specs.declared.design.Statement.TheVariants.{Latch}
 use Rattle.flat_net.specs.declared.parts.LatchAt.{LatchAt}
 use Rattle.flat_net.specs.View.{NetView}
 use Rattle.flatten.specs.DesignFaults.{IsSoundDesign, inits_of}
-use Rattle.design_tests.specs.NoFault.{has_no_fault}
-use Rattle.design_tests.proofs.NoFaults.{tested_is_sound}
+use Rattle.design_rows.specs.NoFault.{has_no_fault}
+use Rattle.design_rows.proofs.NoFaults.{tested_is_sound}
 use Rattle.design_rows.specs.Designs.{one_model}
 use Rattle.cycle_sim.specs.Runs.{initial_or, reset_bits}
 use Rattle.sim_report.specs.Checks.{power_of}

@@ -8,6 +8,7 @@ mod signature_table;
 mod table;
 mod variables;
 
+pub use aig::{Aig, Lit, Node};
 pub use blocks::and_block;
 pub use signature_table::{SignatureTable, signatures};
 pub use table::table_differs;

@@ -4,7 +4,7 @@ use Rattle.std.specs.List.{Contains, filter_map, cons_option}
 use Rattle.std.specs.Prelude.{option_and_then}
 use Rattle.std.specs.Option.{option_to_list}
 use Rattle.std.proofs.lemmas.Option.{slice_get_within}
-use Rattle.circuit_theory.proofs.Lists.{at_of, Contains-cases, Contains-head, Contains-tail}
+use Rattle.flat_net.proofs.circuit_theory.Lists.{at_of, Contains-cases, Contains-head, Contains-tail}
 use Rattle.flat_net.specs.declared.parts.Driver.{Driver}
 use Rattle.flat_net.specs.declared.parts.Driver.TheVariants as driver
 use Rattle.flat_net.specs.View.{NetView}

@@ -2,11 +2,11 @@
 use Rattle.std.proofs.Common.{◌≡◌, ◌∙◌, ◌↔◌, ◌≤◌, ℕ, zero, suc, true, false, List, [], ◌∷◌, length, map, take, replicate, slice_get, Some, refl, sym, ap, subst, arith}
 use Rattle.std.proofs.lemmas.List.{length-replicate}
 use Rattle.std.proofs.lemmas.Option.{slice_get_within, same_Some}
-use Rattle.circuit_theory.specs.Circuit.{Circuit}
-use Rattle.circuit_theory.specs.Agree.{EnabledIn}
-use Rattle.circuit_theory.specs.declared.Mode.{Mode}
-use Rattle.circuit_theory.specs.declared.Mode.TheVariants.{Plain, Event}
-use Rattle.circuit_theory.proofs.Numbers.{slice_get-map}
+use Rattle.flat_net.specs.circuit_theory.Circuit.{Circuit}
+use Rattle.flat_net.specs.circuit_theory.Agree.{EnabledIn}
+use Rattle.flat_net.specs.circuit_theory.declared.Mode.{Mode}
+use Rattle.flat_net.specs.circuit_theory.declared.Mode.TheVariants.{Plain, Event}
+use Rattle.flat_net.proofs.circuit_theory.Numbers.{slice_get-map}
 use Rattle.flat_net.specs.declared.parts.LatchAt.{LatchAt}
 use Rattle.flat_net.specs.View.{NetView, circuit_of}
 use Rattle.flat_net.proofs.Nets.{some_at}

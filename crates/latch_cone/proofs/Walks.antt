@@ -13,10 +13,10 @@ use Rattle.flat_net.proofs.Places.{one_at}
 use Rattle.flat_net.proofs.Growth.{slice_get-append, slice_get-push, slice_get-push_cases}
 use Rattle.flat_net.proofs.Nets.{gate_stands, latch_stands, sound_is_net, OfGate, OfLatch, equation_from}
 use Rattle.flat_net.proofs.CutNets.{few_distinct}
-use Rattle.circuit_theory.specs.Circuit.{Circuit, Gate as gate_equation, Port as port_equation, IsSource, IsLatch, Reads, Reaches, out_of}
-use Rattle.circuit_theory.specs.Net.{IsNet, IsAbove}
-use Rattle.circuit_theory.proofs.Lists.{Contains-map, Contains-map_from, at_of, of_at}
-use Rattle.circuit_theory.proofs.Sums.{same_or_not}
+use Rattle.flat_net.specs.circuit_theory.Circuit.{Circuit, Gate as gate_equation, Port as port_equation, IsSource, IsLatch, Reads, Reaches, out_of}
+use Rattle.flat_net.specs.circuit_theory.Net.{IsNet, IsAbove}
+use Rattle.flat_net.proofs.circuit_theory.Lists.{Contains-map, Contains-map_from, at_of, of_at}
+use Rattle.flat_net.proofs.circuit_theory.Sums.{same_or_not}
 use Rattle.latch_cone.specs.Cones.{AreSome, Stay, IsOther}
 
 pub nothing_at : {X : Type 0} (i : ℕ) (x : X) → slice_get [] i ≡ Some x → ⊥

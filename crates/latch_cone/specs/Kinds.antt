@@ -1,9 +1,9 @@
 -- What a latch is by the cone of what it takes over.
 use Rattle.std.specs.Prelude.{◌≡◌, ℕ, Bool, true, false, List, length, slice_get, Some}
-use Rattle.circuit_theory.specs.Circuit.{Circuit, IsLatch, InCone}
-use Rattle.circuit_theory.specs.Run.{IsEnabled}
-use Rattle.circuit_theory.specs.declared.Mode.{Mode}
-use Rattle.circuit_theory.specs.declared.Mode.TheVariants.{Plain, Event}
+use Rattle.flat_net.specs.circuit_theory.Circuit.{Circuit, IsLatch, InCone}
+use Rattle.flat_net.specs.circuit_theory.Run.{IsEnabled}
+use Rattle.flat_net.specs.circuit_theory.declared.Mode.{Mode}
+use Rattle.flat_net.specs.circuit_theory.declared.Mode.TheVariants.{Plain, Event}
 use Rattle.flat_net.specs.declared.parts.LatchAt.{LatchAt}
 use Rattle.flat_net.specs.View.{NetView, circuit_of}
 use Rattle.latch_cone.specs.declared.kinds.LatchKind.{LatchKind}

@@ -1,8 +1,8 @@
 //! What is known of each latch: whether it has a load enable.
 
 ghost use Rattle.std.specs.Prelude.{◌≡◌, length, map, IfOk};
-ghost use Rattle.circuit_theory.specs.declared.Mode.{Mode};
-ghost use Rattle.circuit_theory.specs.declared.Mode.TheVariants.{Plain};
+ghost use Rattle.flat_net.specs.circuit_theory.declared.Mode.{Mode};
+ghost use Rattle.flat_net.specs.circuit_theory.declared.Mode.TheVariants.{Plain};
 ghost use Rattle.flat_net.specs.View.{NetView};
 ghost use Rattle.latch_cone.specs.Cones.{MarksEnabled};
 ghost use Rattle.latch_cone.specs.Kinds.{AreKindsIn, is_enabled};

@@ -3,24 +3,24 @@ use Rattle.std.proofs.Common.{◌≡◌, ◌≢◌, ℕ, ◌+◌, ◌<◌, Bool,
 use Rattle.std.specs.Prelude.{◌⊎◌, slice_get, if◌then◌else◌}
 use Rattle.std.proofs.Math.ListN.{set}
 use Rattle.std.proofs.lemmas.Option.{slice_get_within, slice_get-get_or, get_or_from_slice_get}
-use Rattle.flat_net.specs.declared.signals.Signal.{Signal}
-use Rattle.flat_net.specs.declared.parts.LatchAt.{LatchAt}
-use Rattle.flat_net.specs.Cut.{no_latch}
-use Rattle.flat_net.proofs.Places.{one_at}
-use Rattle.flat_net.proofs.Nets.{latch_stands}
-use Rattle.flat_net.specs.View.{NetView, circuit_of}
+use Rattle.signal_graph.specs.flat_net.declared.signals.Signal.{Signal}
+use Rattle.signal_graph.specs.flat_net.declared.parts.LatchAt.{LatchAt}
+use Rattle.signal_graph.specs.flat_net.Cut.{no_latch}
+use Rattle.signal_graph.proofs.flat_net.Places.{one_at}
+use Rattle.signal_graph.proofs.flat_net.Nets.{latch_stands}
+use Rattle.signal_graph.specs.flat_net.View.{NetView, circuit_of}
 use Rattle.circuit_theory.specs.Circuit.{Circuit, IsSource, Reads, Reaches}
 use Rattle.circuit_theory.specs.Names.{ListBefore}
 use Rattle.circuit_theory.proofs.Sums.{same_or_not}
-use Rattle.unfolding_weight.specs.Node.{Node}
+use Rattle.signal_graph.specs.declared.nodes.Node.{Node}
 use Rattle.latch_graph.specs.declared.states.State.{State}
 use Rattle.latch_graph.specs.declared.states.State.TheVariants.{New, Endless, Removed}
-use Rattle.unfolding_weight.specs.Graph.{GraphView, IsGraphOf, AreNodes}
-use Rattle.unfolding_weight.specs.Cones.{IsMarkedBy}
+use Rattle.signal_graph.specs.Graph.{GraphView, IsGraphOf, AreNodes}
+use Rattle.signal_graph.specs.Cones.{IsMarkedBy}
 use Rattle.latch_graph.specs.Settling.{ReadsEndless, IsTable, SameRemoved}
 use Rattle.latch_graph.specs.Rounds.{latch_in, IsEndless, TakesOver, AreRemoved}
-use Rattle.unfolding_weight.proofs.Lists.{set_same, set_other, set_cases}
-use Rattle.unfolding_weight.proofs.Driving.{Driven, driven, none_some, read_taken}
+use Rattle.signal_graph.proofs.Lists.{set_same, set_other, set_cases}
+use Rattle.signal_graph.proofs.Driving.{Driven, driven, none_some, read_taken}
 use Rattle.latch_graph.proofs.Before.{before_self, before_after}
 use Rattle.latch_graph.proofs.Turns.{IsWithout}
 

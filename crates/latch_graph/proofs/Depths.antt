@@ -1,19 +1,19 @@
 -- What a settled table says of the net: depths, and that there is none.
 use Rattle.std.proofs.Common.{◌≡◌, ◌≢◌, ℕ, zero, suc, ◌+◌, ◌<◌, Bool, List, [], Option, Some, None, refl, sym, ap, subst, arith, inl, inr}
 use Rattle.std.specs.Prelude.{◌⊎◌, slice_get}
-use Rattle.flat_net.specs.declared.signals.Signal.{Signal}
-use Rattle.flat_net.specs.declared.parts.LatchAt.{LatchAt}
-use Rattle.flat_net.specs.View.{NetView, circuit_of}
-use Rattle.flat_net.proofs.Nets.{some_at, latch_stands}
+use Rattle.signal_graph.specs.flat_net.declared.signals.Signal.{Signal}
+use Rattle.signal_graph.specs.flat_net.declared.parts.LatchAt.{LatchAt}
+use Rattle.signal_graph.specs.flat_net.View.{NetView, circuit_of}
+use Rattle.signal_graph.proofs.flat_net.Nets.{some_at, latch_stands}
 use Rattle.circuit_theory.specs.Circuit.{IsLatch, Reads, Reaches}
 use Rattle.circuit_theory.specs.Depth.{LatchChain, ChainFrom}
 use Rattle.circuit_theory.proofs.Lists.{Contains-map, of_at}
-use Rattle.unfolding_weight.specs.Node.{Node}
+use Rattle.signal_graph.specs.declared.nodes.Node.{Node}
 use Rattle.latch_graph.specs.declared.states.State.{State}
 use Rattle.latch_graph.specs.declared.states.State.TheVariants.{New, Open, Known, Endless, Removed}
 use Rattle.std.proofs.lemmas.Option.{slice_get_within}
-use Rattle.unfolding_weight.proofs.Driving.{Driven, driven, read_taken, nothing_at}
-use Rattle.unfolding_weight.specs.Graph.{GraphView, IsGraphOf, AreTaken, SkippedBy, step_of}
+use Rattle.signal_graph.proofs.Driving.{Driven, driven, read_taken, nothing_at}
+use Rattle.signal_graph.specs.Graph.{GraphView, IsGraphOf, AreTaken, SkippedBy, step_of}
 use Rattle.latch_graph.specs.Settling.{HasDepth, IsDepthOf, ReadsEndless, IsTable, depth_of}
 
 module _ (n : NetView) (g : GraphView) (of : IsGraphOf n g) where

@@ -1,17 +1,17 @@
 -- Cycles and depths depend on nothing but which latches' self-edges are left out.
 use Rattle.std.proofs.Common.{◌≡◌, ℕ, Bool, true, false, List, refl, sym, subst, arith, inl, inr}
 use Rattle.std.specs.Prelude.{◌⊎◌, slice_get, Some}
-use Rattle.flat_net.specs.declared.parts.LatchAt.{LatchAt}
-use Rattle.flat_net.specs.View.{NetView, circuit_of}
+use Rattle.signal_graph.specs.flat_net.declared.parts.LatchAt.{LatchAt}
+use Rattle.signal_graph.specs.flat_net.View.{NetView, circuit_of}
 use Rattle.circuit_theory.specs.Circuit.{Circuit, Latch as latch_equation, IsLatch}
 use Rattle.circuit_theory.specs.declared.Mode.{Mode}
 use Rattle.circuit_theory.specs.declared.Mode.TheVariants.{Plain}
 use Rattle.circuit_theory.specs.Agree.{EnabledIn}
 use Rattle.std.proofs.lemmas.Option.{slice_get_within}
-use Rattle.flat_net.proofs.Nets.{OfGate, OfLatch, equation_from, some_at}
+use Rattle.signal_graph.proofs.flat_net.Nets.{OfGate, OfLatch, equation_from, some_at}
 use Rattle.circuit_theory.specs.Depth.{LatchReads, LatchPath, LatchChain, ChainFrom, HasCycle, IsCycle, IsDepth, HasNoDepth}
-use Rattle.unfolding_weight.specs.Graph.{GraphView, IsGraphOf, IsGraphIn, IsPlainGraphOf, SkippedBy}
-use Rattle.unfolding_weight.specs.Cones.{MarksEnabled}
+use Rattle.signal_graph.specs.Graph.{GraphView, IsGraphOf, IsGraphIn, IsPlainGraphOf, SkippedBy}
+use Rattle.signal_graph.specs.Cones.{MarksEnabled}
 
 -- what is left out by the second is left out by the first, where it is a latch
 pub record IsLessLeftOut {P : Type 0} (c : Circuit P) (more less : P → Type 0) : Type 0 where

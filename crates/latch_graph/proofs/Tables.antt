@@ -4,11 +4,11 @@ use Rattle.std.specs.Prelude.{◌⊎◌, slice_get, is_some, IfSome}
 use Rattle.std.proofs.Math.ListN.{set}
 use Rattle.std.proofs.lemmas.List.Sums.{sum_by-set}
 use Rattle.std.proofs.lemmas.Option.{slice_get_within, get_or_from_slice_get}
-use Rattle.flat_net.proofs.Places.{one_at}
-use Rattle.flat_net.specs.declared.signals.Signal.{Signal}
+use Rattle.signal_graph.proofs.flat_net.Places.{one_at}
+use Rattle.signal_graph.specs.flat_net.declared.signals.Signal.{Signal}
 use Rattle.circuit_theory.proofs.Sums.{same_or_not}
-use Rattle.unfolding_weight.specs.Node.{Node}
-use Rattle.unfolding_weight.proofs.Lists.{set_other}
+use Rattle.signal_graph.specs.declared.nodes.Node.{Node}
+use Rattle.signal_graph.proofs.Lists.{set_other}
 use Rattle.latch_graph.specs.declared.states.State.{State}
 use Rattle.latch_graph.specs.declared.states.State.TheVariants.{New, Open, Known, Endless, Removed}
 use Rattle.latch_graph.specs.Settling.{HasDepth, IsGreatest, IsRight, depth_of, is_new, new_count}

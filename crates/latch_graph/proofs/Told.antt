@@ -3,12 +3,12 @@ use Rattle.std.proofs.Common.{◌≡◌, ℕ, ◌≤◌, true, List, [], ◌∷�
 use Rattle.std.specs.Prelude.{slice_get, IfSome, IfNone}
 use Rattle.std.specs.List.{Contains}
 use Rattle.std.proofs.lemmas.Option.{slice_get_within}
-use Rattle.flat_net.specs.declared.parts.LatchAt.{LatchAt}
-use Rattle.flat_net.specs.View.{NetView, circuit_of}
+use Rattle.signal_graph.specs.flat_net.declared.parts.LatchAt.{LatchAt}
+use Rattle.signal_graph.specs.flat_net.View.{NetView, circuit_of}
 use Rattle.circuit_theory.specs.Depth.{LatchReads, LatchChain, ChainFrom, IsDepth, HasNoDepth}
 use Rattle.latch_graph.specs.declared.states.State.{State}
 use Rattle.latch_graph.specs.declared.states.State.TheVariants.{New, Open, Known, Endless, Removed}
-use Rattle.unfolding_weight.specs.Graph.{GraphView, IsGraphOf, SkippedBy, marked_names}
+use Rattle.signal_graph.specs.Graph.{GraphView, IsGraphOf, SkippedBy, marked_names}
 use Rattle.latch_graph.specs.Settling.{HasDepth, IsSettled}
 use Rattle.latch_graph.proofs.Depths.{endless, known_chain}
 use Rattle.latch_graph.proofs.Turns.{IsWithout, reach_lower, edge_lower, latch_deep}

@@ -4,17 +4,17 @@ use Rattle.std.specs.Prelude.{◌⊎◌, slice_get, if◌then◌else◌}
 use Rattle.std.proofs.Math.ListN.{set}
 use Rattle.std.proofs.lemmas.List.{length-set, length-drop}
 use Rattle.std.proofs.lemmas.Option.{slice_get_within}
-use Rattle.flat_net.specs.declared.parts.LatchAt.{LatchAt}
-use Rattle.flat_net.proofs.Places.{one_at}
-use Rattle.flat_net.proofs.Growth.{slice_get-append, slice_get-push, slice_get-push_cases, length-push}
-use Rattle.flat_net.proofs.CutNets.{few_distinct}
+use Rattle.signal_graph.specs.flat_net.declared.parts.LatchAt.{LatchAt}
+use Rattle.signal_graph.proofs.flat_net.Places.{one_at}
+use Rattle.signal_graph.proofs.flat_net.Growth.{slice_get-append, slice_get-push, slice_get-push_cases, length-push}
+use Rattle.signal_graph.proofs.flat_net.CutNets.{few_distinct}
 use Rattle.circuit_theory.specs.Depth.{after_in_round}
 use Rattle.circuit_theory.proofs.Sums.{same_or_not}
 use Rattle.circuit_theory.proofs.Inputs.{test_same, test_refl}
-use Rattle.unfolding_weight.specs.Node.{Node}
+use Rattle.signal_graph.specs.declared.nodes.Node.{Node}
 use Rattle.latch_graph.specs.declared.states.State.{State}
 use Rattle.latch_graph.specs.Rounds.{IsEndless, TakesOver, IsTrail, IsRound}
-use Rattle.unfolding_weight.proofs.Lists.{set_same, set_other, set_cases}
+use Rattle.signal_graph.proofs.Lists.{set_same, set_other, set_cases}
 
 true_false : ◌≡◌ {A = Option Bool} (Some true) (Some false) → ⊥
 true_false e = cc

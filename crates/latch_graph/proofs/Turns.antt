@@ -4,31 +4,31 @@ use Rattle.std.specs.Prelude.{◌⊎◌, slice_get}
 use Rattle.std.specs.List.{Contains}
 use Rattle.std.proofs.lemmas.Option.{slice_get_within, slice_get-get_or}
 use Rattle.std.proofs.lemmas.List.Elements.{All-contains}
-use Rattle.flat_net.specs.declared.parts.LatchAt.{LatchAt}
-use Rattle.flat_net.specs.declared.parts.Driver.TheVariants as driver
-use Rattle.flat_net.specs.View.{NetView, circuit_of}
-use Rattle.flat_net.specs.Sound.{IsSound}
-use Rattle.flat_net.specs.Cut.{no_latch}
-use Rattle.flat_net.proofs.Places.{one_at}
-use Rattle.flat_net.proofs.Nets.{some_at, latch_stands, sound_is_net}
+use Rattle.signal_graph.specs.flat_net.declared.parts.LatchAt.{LatchAt}
+use Rattle.signal_graph.specs.flat_net.declared.parts.Driver.TheVariants as driver
+use Rattle.signal_graph.specs.flat_net.View.{NetView, circuit_of}
+use Rattle.signal_graph.specs.flat_net.Sound.{IsSound}
+use Rattle.signal_graph.specs.flat_net.Cut.{no_latch}
+use Rattle.signal_graph.proofs.flat_net.Places.{one_at}
+use Rattle.signal_graph.proofs.flat_net.Nets.{some_at, latch_stands, sound_is_net}
 use Rattle.circuit_theory.specs.Circuit.{Equation, Gate as gate_equation, Latch as latch_equation, Port as port_equation, IsLatch, Reads, Reaches}
 use Rattle.circuit_theory.specs.Names.{ListBefore}
 use Rattle.circuit_theory.specs.Depth.{LatchReads, LatchPath, HasCycle, IsCycle, BeginsWithLeast, after_in_round}
 use Rattle.circuit_theory.specs.Net.{IsNet, IsWithin}
 use Rattle.circuit_theory.proofs.Lists.{Contains-head, Contains-tail, Contains-cases, Contains-map_from, at_of, map_at, length-map}
 use Rattle.circuit_theory.proofs.Sums.{same_or_not}
-use Rattle.unfolding_weight.specs.Node.{Node}
+use Rattle.signal_graph.specs.declared.nodes.Node.{Node}
 use Rattle.latch_graph.specs.declared.states.State.{State}
 use Rattle.latch_graph.specs.declared.states.State.TheVariants.{New, Open, Known, Endless, Removed}
-use Rattle.unfolding_weight.specs.Graph.{GraphView, IsGraphOf, marked_names, signals_at, step_of}
-use Rattle.unfolding_weight.specs.Cones.{IsMarkedBy}
+use Rattle.signal_graph.specs.Graph.{GraphView, IsGraphOf, marked_names, signals_at, step_of}
+use Rattle.signal_graph.specs.Cones.{IsMarkedBy}
 use Rattle.latch_graph.specs.Settling.{HasDepth, IsDepthOf, IsSettled, depth_of}
 use Rattle.latch_graph.specs.Rounds.{latch_in, IsEndless, TakesOver, StandsBack, IsTurnedRound}
 use Rattle.latch_graph.proofs.Tables.{one_depth}
-use Rattle.unfolding_weight.proofs.Driving.{kept_nodes, taken_read}
-use Rattle.unfolding_weight.proofs.Reading.{reads_node, latch_node}
+use Rattle.signal_graph.proofs.Driving.{kept_nodes, taken_read}
+use Rattle.signal_graph.proofs.Reading.{reads_node, latch_node}
 use Rattle.latch_graph.proofs.Trails.{after_last, after_next}
-use Rattle.unfolding_weight.proofs.Lists.{AllPairs-from_at}
+use Rattle.signal_graph.proofs.Lists.{AllPairs-from_at}
 
 -- the place that stands i places before the first in a round of n
 abbrev IsBack : ℕ → ℕ → ℕ → ℕ → Type 0

@@ -1,6 +1,6 @@
 -- What each latch graph keeps.
 use Rattle.std.specs.Prelude.{◌≡◌, ℕ, List, slice_get, Some}
-use Rattle.unfolding_weight.specs.Node.{Node}
+use Rattle.signal_graph.specs.declared.nodes.Node.{Node}
 use Rattle.latch_graph.specs.declared.states.State.{State}
 use Rattle.latch_graph.specs.declared.states.State.TheVariants.{Removed}
 use Rattle.latch_graph.specs.Settling.{IsSettled}

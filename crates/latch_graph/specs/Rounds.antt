@@ -3,15 +3,15 @@ use Rattle.std.specs.Prelude.{◌≡◌, ◌≢◌, ℕ, ◌+◌, ◌-◌, ◌<�
 use Rattle.circuit_theory.specs.Names.{ListBefore}
 use Rattle.circuit_theory.specs.Circuit.{Reaches}
 use Rattle.circuit_theory.specs.Depth.{after_in_round}
-use Rattle.flat_net.specs.Table.{AreDistinct}
-use Rattle.flat_net.specs.declared.parts.LatchAt.{LatchAt}
-use Rattle.flat_net.specs.View.{NetView, circuit_of}
-use Rattle.flat_net.specs.Cut.{no_latch}
-use Rattle.unfolding_weight.specs.Node.{Node}
+use Rattle.signal_graph.specs.flat_net.Table.{AreDistinct}
+use Rattle.signal_graph.specs.flat_net.declared.parts.LatchAt.{LatchAt}
+use Rattle.signal_graph.specs.flat_net.View.{NetView, circuit_of}
+use Rattle.signal_graph.specs.flat_net.Cut.{no_latch}
+use Rattle.signal_graph.specs.declared.nodes.Node.{Node}
 use Rattle.latch_graph.specs.declared.states.State.{State}
 use Rattle.latch_graph.specs.declared.states.State.TheVariants.{New, Endless, Removed}
-use Rattle.unfolding_weight.specs.Graph.{IsGraphOf}
-use Rattle.unfolding_weight.specs.Cones.{IsMarkedBy}
+use Rattle.signal_graph.specs.Graph.{IsGraphOf}
+use Rattle.signal_graph.specs.Cones.{IsMarkedBy}
 
 abbrev pub latch_in : List LatchAt → ℕ → LatchAt
 latch_in latches j = slice_index_or latches j no_latch

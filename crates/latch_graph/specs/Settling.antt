@@ -1,9 +1,9 @@
 -- How far the depths are found.
 use Rattle.std.specs.Prelude.{◌≡◌, ℕ, ◌+◌, ◌<◌, ◌≤◌, ◌⊎◌, List, length, slice_get, Option, Some, None}
 use Rattle.std.specs.List.{sum_by}
-use Rattle.flat_net.specs.declared.signals.Signal.{Signal}
-use Rattle.unfolding_weight.specs.Node.{Node}
-use Rattle.unfolding_weight.specs.Graph.{step_of}
+use Rattle.signal_graph.specs.flat_net.declared.signals.Signal.{Signal}
+use Rattle.signal_graph.specs.declared.nodes.Node.{Node}
+use Rattle.signal_graph.specs.Graph.{step_of}
 use Rattle.latch_graph.specs.declared.states.State.{State}
 use Rattle.latch_graph.specs.declared.states.State.TheVariants.{New, Open, Known, Endless, Removed}
 use Rattle.latch_graph.specs.declared.states.Step.{Step}

@@ -4,18 +4,18 @@ ghost use Rattle.std.specs.Prelude.{◌≡◌, ℕ, ◌<◌, length, map, slice_
 ghost use Rattle.circuit_theory.specs.Depth.{IsDepth, HasNoDepth, HasCycle, IsCycle, BeginsWithLeast};
 ghost use Rattle.circuit_theory.specs.declared.Mode.{Mode};
 ghost use Rattle.circuit_theory.specs.declared.Mode.TheVariants.{Plain};
-ghost use Rattle.unfolding_weight.specs.Cones.{MarksEnabled};
-ghost use Rattle.flat_net.specs.View.{NetView, circuit_of};
-ghost use Rattle.unfolding_weight.specs.Graph.{AreNodes, IsGraphOf, IsGraphIn, SkippedBy, marked_names, signals_at};
+ghost use Rattle.signal_graph.specs.Cones.{MarksEnabled};
+ghost use Rattle.signal_graph.specs.flat_net.View.{NetView, circuit_of};
+ghost use Rattle.signal_graph.specs.Graph.{AreNodes, IsGraphOf, IsGraphIn, SkippedBy, marked_names, signals_at};
 ghost use Rattle.latch_graph.specs.Settling.{IsSettled};
-ghost use Rattle.unfolding_weight.specs.Weight.{Weighs};
+ghost use Rattle.signal_graph.specs.unfolding_weight.Weight.{Weighs};
 
 use crate::rounds::find_cycle;
 use crate::states::{State, all_new, settled_from};
-use flat_net::{Bits, Ids, LatchAt, Net, NoMemory, Signal, Signals};
+use signal_graph::unfolding_weight::{Node, SignalGraph, Weight, weigh};
+use signal_graph::{Bits, Ids, LatchAt, Net, NoMemory, Signal, Signals};
 use std::alloc::Global;
 use std::marker::Model;
-use unfolding_weight::{Node, SignalGraph, Weight, weigh};
 
 /// The latch graph of a net: it has an edge from a latch to each latch whose next value depends on it through gates,
 /// but no edge from a skipped latch to itself. The edges aren't written out; they are ways through the signals, and a
@@ -37,7 +37,7 @@ impl Drop for LatchGraph {
 }
 
 impl Model for LatchGraph {
-    ghost use Rattle.unfolding_weight.specs.Graph.{GraphView};
+    ghost use Rattle.signal_graph.specs.Graph.{GraphView};
     ghost use Rattle.latch_graph.specs.Kept.{IsKept};
 
     ghost Value = { GraphView };

@@ -6,5 +6,6 @@ mod rounds;
 mod states;
 
 pub use graph::LatchGraph;
+pub use signal_graph::unfolding_weight::Weight;
+pub use signal_graph::{Bits, Duplicate, Ids, Net, NoMemory, Seq, Side, Words, none_enabled};
 pub use states::{State, Step};
-pub use unfolding_weight::Weight;

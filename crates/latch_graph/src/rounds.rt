@@ -4,20 +4,20 @@ ghost use Rattle.std.specs.Prelude.{◌≡◌, ℕ, ◌+◌, ◌-◌, ◌^◌, �
 ghost use Rattle.circuit_theory.specs.Names.{ListBefore};
 ghost use Rattle.circuit_theory.specs.Circuit.{Reaches};
 ghost use Rattle.circuit_theory.specs.Depth.{HasCycle, IsCycle, BeginsWithLeast};
-ghost use Rattle.flat_net.specs.declared.signals.Signal.{Signal};
-ghost use Rattle.flat_net.specs.declared.parts.LatchAt.{LatchAt};
-ghost use Rattle.flat_net.specs.View.{NetView, circuit_of};
-ghost use Rattle.unfolding_weight.specs.Node.{Node};
+ghost use Rattle.signal_graph.specs.flat_net.declared.signals.Signal.{Signal};
+ghost use Rattle.signal_graph.specs.flat_net.declared.parts.LatchAt.{LatchAt};
+ghost use Rattle.signal_graph.specs.flat_net.View.{NetView, circuit_of};
+ghost use Rattle.signal_graph.specs.declared.nodes.Node.{Node};
 ghost use Rattle.latch_graph.specs.declared.states.State.{State};
-ghost use Rattle.unfolding_weight.specs.Graph.{AreNodes, IsGraphOf, marked_names, signals_at};
-ghost use Rattle.unfolding_weight.specs.Cones.{IsMarkedBy};
+ghost use Rattle.signal_graph.specs.Graph.{AreNodes, IsGraphOf, marked_names, signals_at};
+ghost use Rattle.signal_graph.specs.Cones.{IsMarkedBy};
 ghost use Rattle.latch_graph.specs.Settling.{IsSettled};
 ghost use Rattle.latch_graph.specs.Rounds.{latch_in, IsEndless, TakesOver, IsRound, IsLeast, IsTurned, IsTurnedRound, AreRemoved};
 
 use crate::states::{State, all_new, settled_from};
-use flat_net::{Ids, LatchAt, NoMemory, Seq};
+use signal_graph::unfolding_weight::Node;
+use signal_graph::{Ids, LatchAt, NoMemory, Seq};
 use std::alloc::Global;
-use unfolding_weight::Node;
 
 /// A cycle without the removed latches, if one is left: each latch is read by the next, the last by the first, and the
 /// first has the least name.

@@ -8,7 +8,7 @@ use Rattle.flat_net.specs.View.{NetView, circuit_of}
 use Rattle.latch_cone.specs.declared.kinds.LatchKind.{LatchKind}
 use Rattle.latch_cone.specs.declared.kinds.LatchKind.TheVariants as kind
 use Rattle.latch_cone.specs.Kinds.{AreKindsIn}
-use Rattle.pair_decide.specs.declared.query.Proof.{Proof}
+use Rattle.unate_enable.specs.pair_decide.declared.query.Proof.{Proof}
 use Rattle.unate_enable.specs.Cones.{out_of_latch}
 use Rattle.unate_enable.specs.Recovery.{HasSelfEdge, IsAsked, IsEnabledAt, IsUndecided, IsLight, IsTooLarge}
 use Rattle.latch_kinds.specs.declared.kinds.KindsError.{KindsError}

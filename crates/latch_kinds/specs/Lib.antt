@@ -1,1 +1,2 @@
 pub mod Found
+pub use Rattle.unate_enable.specs as unate_enable

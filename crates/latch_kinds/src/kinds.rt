@@ -10,10 +10,9 @@ ghost use Rattle.latch_kinds.specs.Found.{FoundAt, FoundIn, AreFound};
 use circuit_theory::Mode;
 use flat_net::Net;
 use latch_cone::{LatchKind, all_plain};
-use pair_decide::Proof;
 use sec_base::{MAX_CONFLICTS, NoMemory, Seq, Word};
 use std::alloc::Global;
-use unate_enable::{NetFacts, RecoverError, Recovery, facts_of, recover_by};
+use unate_enable::{NetFacts, Proof, RecoverError, Recovery, facts_of, recover_by};
 
 /// What each latch is, in the net's order of latches.
 pub type LatchKinds = Seq<LatchKind>;

@@ -4,3 +4,4 @@
 mod kinds;
 
 pub use kinds::{KindsError, LatchKinds, kinds_in};
+pub use unate_enable::Proof;

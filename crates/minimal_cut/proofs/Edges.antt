@@ -7,11 +7,11 @@ use Rattle.std.proofs.lemmas.List.Elements.{All-contains}
 use Rattle.circuit_theory.specs.Circuit.{Equation, Gate as gate_equation, Latch as latch_equation, Port as port_equation, IsSource, IsLatch, Reads, Reaches}
 use Rattle.circuit_theory.specs.Depth.{LatchReads, LatchPath, HasCycle}
 use Rattle.circuit_theory.specs.Net.{IsNet, IsWithin}
-use Rattle.flat_net.specs.declared.parts.LatchAt.{LatchAt}
-use Rattle.flat_net.specs.Cut.{no_latch}
-use Rattle.flat_net.specs.View.{NetView, circuit_of}
-use Rattle.flat_net.proofs.Places.{one_at}
-use Rattle.flat_net.proofs.Nets.{some_at, latch_stands, sound_is_net}
+use Rattle.graph_components.specs.flat_net.declared.parts.LatchAt.{LatchAt}
+use Rattle.graph_components.specs.flat_net.Cut.{no_latch}
+use Rattle.graph_components.specs.flat_net.View.{NetView, circuit_of}
+use Rattle.graph_components.proofs.flat_net.Places.{one_at}
+use Rattle.graph_components.proofs.flat_net.Nets.{some_at, latch_stands, sound_is_net}
 use Rattle.graph_components.specs.Node.{Node}
 use Rattle.graph_components.specs.Graph.{GraphView, IsGraphOf, SkippedBy, AreNodes}
 use Rattle.graph_components.proofs.Driving.{kept_nodes, read_taken, taken_read, none_some}

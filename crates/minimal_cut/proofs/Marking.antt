@@ -6,9 +6,9 @@ use Rattle.std.proofs.lemmas.Bool.{ne_eqb}
 use Rattle.std.proofs.lemmas.List.{length-set}
 use Rattle.std.proofs.lemmas.List.Sums.{sum_by-set}
 use Rattle.std.proofs.lemmas.Option.{slice_get_within, get_or_from_slice_get}
-use Rattle.flat_net.specs.declared.parts.LatchAt.{LatchAt}
-use Rattle.flat_net.proofs.Places.{one_at}
-use Rattle.flat_net.proofs.Nets.{some_at}
+use Rattle.graph_components.specs.flat_net.declared.parts.LatchAt.{LatchAt}
+use Rattle.graph_components.proofs.flat_net.Places.{one_at}
+use Rattle.graph_components.proofs.flat_net.Nets.{some_at}
 use Rattle.circuit_theory.proofs.Inputs.{test_refl}
 use Rattle.circuit_theory.proofs.Sums.{same_or_not}
 use Rattle.graph_components.specs.Node.{Node}

@@ -6,13 +6,13 @@ use Rattle.std.proofs.lemmas.Option.{slice_get_within, slice_get-get_or, get_or_
 use Rattle.std.proofs.lemmas.List.Elements.{All-contains, Contains-append_left, Contains-append_right}
 use Rattle.circuit_theory.proofs.Lists.{Contains-head, Contains-map_from, at_of}
 use Rattle.circuit_theory.proofs.Sums.{same_or_not}
-use Rattle.sec_base.specs.Table.{AreDistinct}
-use Rattle.flat_net.specs.declared.parts.LatchAt.{LatchAt}
-use Rattle.flat_net.specs.declared.parts.Driver.TheVariants as driver
-use Rattle.flat_net.specs.View.{NetView}
-use Rattle.flat_net.specs.Cut.{no_latch}
-use Rattle.flat_net.proofs.Places.{one_at, All-at}
-use Rattle.flat_net.proofs.Growth.{slice_get-push_cases}
+use Rattle.graph_components.specs.sec_base.Table.{AreDistinct}
+use Rattle.graph_components.specs.flat_net.declared.parts.LatchAt.{LatchAt}
+use Rattle.graph_components.specs.flat_net.declared.parts.Driver.TheVariants as driver
+use Rattle.graph_components.specs.flat_net.View.{NetView}
+use Rattle.graph_components.specs.flat_net.Cut.{no_latch}
+use Rattle.graph_components.proofs.flat_net.Places.{one_at, All-at}
+use Rattle.graph_components.proofs.flat_net.Growth.{slice_get-push_cases}
 use Rattle.graph_components.specs.Node.{Node}
 use Rattle.graph_components.specs.Graph.{GraphView, IsGraphOf, AreNodes}
 use Rattle.minimal_cut.specs.declared.marks.Direction.{Direction}

@@ -7,13 +7,13 @@ use Rattle.std.proofs.lemmas.Option.{slice_get_within, slice_get-get_or, get_or_
 use Rattle.std.proofs.lemmas.Bool.{cases_order}
 use Rattle.circuit_theory.specs.Depth.{HasCycle, without}
 use Rattle.circuit_theory.proofs.Lists.{Contains-cases, Contains-map, at_of, map_at, length-map}
-use Rattle.sec_base.specs.Table.{AreDistinct}
-use Rattle.flat_net.specs.declared.parts.LatchAt.{LatchAt}
-use Rattle.flat_net.specs.View.{NetView, circuit_of}
-use Rattle.flat_net.specs.Cut.{no_latch}
-use Rattle.flat_net.proofs.Places.{one_at, All-at}
-use Rattle.flat_net.proofs.Growth.{slice_get-push_cases}
-use Rattle.flat_net.proofs.CutNets.{few_distinct}
+use Rattle.graph_components.specs.sec_base.Table.{AreDistinct}
+use Rattle.graph_components.specs.flat_net.declared.parts.LatchAt.{LatchAt}
+use Rattle.graph_components.specs.flat_net.View.{NetView, circuit_of}
+use Rattle.graph_components.specs.flat_net.Cut.{no_latch}
+use Rattle.graph_components.proofs.flat_net.Places.{one_at, All-at}
+use Rattle.graph_components.proofs.flat_net.Growth.{slice_get-push_cases}
+use Rattle.graph_components.proofs.flat_net.CutNets.{few_distinct}
 use Rattle.graph_components.specs.Node.{Node}
 use Rattle.graph_components.specs.Graph.{GraphView, IsGraphOf, SkippedBy, AreNodes}
 use Rattle.graph_components.proofs.Lists.{AllPairs-from_at}

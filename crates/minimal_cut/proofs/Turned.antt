@@ -5,9 +5,9 @@ use Rattle.std.proofs.Math.ListN.{set}
 use Rattle.std.proofs.lemmas.List.{length-set}
 use Rattle.std.proofs.lemmas.Option.{slice_get_within}
 use Rattle.circuit_theory.proofs.Sums.{same_or_not}
-use Rattle.flat_net.specs.declared.signals.Signal.{Signal}
-use Rattle.flat_net.proofs.Places.{one_at}
-use Rattle.flat_net.proofs.Growth.{slice_get-append, slice_get-push, slice_get-push_cases}
+use Rattle.graph_components.specs.flat_net.declared.signals.Signal.{Signal}
+use Rattle.graph_components.proofs.flat_net.Places.{one_at}
+use Rattle.graph_components.proofs.flat_net.Growth.{slice_get-append, slice_get-push, slice_get-push_cases}
 use Rattle.graph_components.specs.Node.{Node}
 use Rattle.graph_components.proofs.Lists.{set_same, set_other, set_cases}
 use Rattle.graph_components.proofs.Driving.{nothing_at}

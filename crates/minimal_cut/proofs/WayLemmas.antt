@@ -6,8 +6,8 @@ use Rattle.std.proofs.lemmas.Bool.Decides.{Decides-eqb}
 use Rattle.std.proofs.lemmas.Option.{slice_get_within, same_Some}
 use Rattle.circuit_theory.proofs.Lists.{Contains-head, Contains-tail, Contains-cases, Contains-filter, at_of, of_at}
 use Rattle.circuit_theory.proofs.Sums.{same_or_not}
-use Rattle.flat_net.specs.declared.signals.Signal.{Signal}
-use Rattle.flat_net.proofs.Nets.{some_at}
+use Rattle.graph_components.specs.flat_net.declared.signals.Signal.{Signal}
+use Rattle.graph_components.proofs.flat_net.Nets.{some_at}
 use Rattle.graph_components.specs.Inner.{AreInner}
 use Rattle.graph_components.specs.Node.{Node}
 use Rattle.minimal_cut.specs.Readers.{NodeReads, WayBack, AreReaders}

@@ -2,9 +2,9 @@
 use Rattle.std.specs.Prelude.{ℕ, ◌<◌, ◌⊎◌, List, length, map, slice_index_or, All}
 use Rattle.std.specs.List.{AllPairs}
 use Rattle.circuit_theory.specs.Depth.{HasCycle, without}
-use Rattle.flat_net.specs.declared.parts.LatchAt.{LatchAt}
-use Rattle.flat_net.specs.View.{NetView, circuit_of}
-use Rattle.flat_net.specs.Cut.{no_latch}
+use Rattle.graph_components.specs.flat_net.declared.parts.LatchAt.{LatchAt}
+use Rattle.graph_components.specs.flat_net.View.{NetView, circuit_of}
+use Rattle.graph_components.specs.flat_net.Cut.{no_latch}
 use Rattle.graph_components.specs.Graph.{GraphView, IsGraphOf, SkippedBy}
 
 -- the numbers at these places

@@ -1,6 +1,6 @@
 -- Readings, ways along them, and the same turned round.
 use Rattle.std.specs.Prelude.{◌≡◌, ℕ, ◌<◌, ◌⊎◌, List, length, slice_get, Some}
-use Rattle.flat_net.specs.declared.signals.Signal.{Signal}
+use Rattle.graph_components.specs.flat_net.declared.signals.Signal.{Signal}
 use Rattle.graph_components.specs.Node.{Node}
 
 -- the signal s reads the signal r

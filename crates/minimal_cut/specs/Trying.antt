@@ -1,7 +1,7 @@
 -- How far the latches of two graphs are tried.
 use Rattle.std.specs.Prelude.{◌≡◌, ℕ, ◌+◌, ◌<◌, ◌≤◌, ◌⊎◌, List, length, slice_get, Some, All, Contains}
-use Rattle.sec_base.specs.Table.{AreDistinct}
-use Rattle.flat_net.specs.View.{NetView}
+use Rattle.graph_components.specs.sec_base.Table.{AreDistinct}
+use Rattle.graph_components.specs.flat_net.View.{NetView}
 use Rattle.graph_components.specs.Node.{Node}
 use Rattle.graph_components.specs.Graph.{GraphView, IsGraphOf, AreNodes}
 use Rattle.graph_components.specs.Inner.{AreInner}

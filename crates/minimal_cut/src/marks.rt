@@ -1,14 +1,12 @@
 //! What is known of the signals of a graph while its latches are tried.
 
 ghost use Rattle.std.specs.Prelude.{◌≡◌, ◌≢◌, ℕ, ◌<◌, All, true, false, length, slice_get, Some, IfOk};
-ghost use Rattle.flat_net.specs.declared.parts.LatchAt.{LatchAt};
+ghost use Rattle.graph_components.specs.flat_net.declared.parts.LatchAt.{LatchAt};
 ghost use Rattle.graph_components.specs.Node.{Node};
 ghost use Rattle.graph_components.specs.Graph.{AreNodes};
 ghost use Rattle.minimal_cut.specs.Marks.{AreFirst};
 
-use flat_net::LatchAt;
-use graph_components::Node;
-use sec_base::NoMemory;
+use graph_components::{LatchAt, NoMemory, Node};
 use std::alloc::Global;
 
 /// Which way a walk goes.

@@ -1,13 +1,11 @@
 //! Which signals read a signal.
 
 ghost use Rattle.std.specs.Prelude.{◌≡◌, ℕ, ◌+◌, ◌^◌, ◌<◌, [], ◌∷◌, ◌++◌, None, length, slice_get, Some, IfOk, OnOk};
-ghost use Rattle.flat_net.specs.declared.signals.Signal.{Signal};
+ghost use Rattle.graph_components.specs.flat_net.declared.signals.Signal.{Signal};
 ghost use Rattle.graph_components.specs.Node.{Node};
 ghost use Rattle.minimal_cut.specs.Readers.{AreReaders, AreReadersUpTo};
 
-use flat_net::{Signal, Signals};
-use graph_components::Node;
-use sec_base::NoMemory;
+use graph_components::{NoMemory, Node, Signal, Signals};
 use std::alloc::Global;
 
 /// The nodes with all readings turned round: each signal has those that read it.

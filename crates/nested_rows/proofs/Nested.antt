@@ -15,10 +15,10 @@ use Rattle.circuit_theory.proofs.Lists.{Contains-cases, All-from_each, of_at}
 use Rattle.blif_read.specs.Design.{Inside, Place, place_at, top, walk, circuit_of_design}
 use Rattle.witness_report.specs.declared.stimulus.Stimulus.{Stimulus}
 use Rattle.witness_report.specs.Shown.{Obeys}
-use Rattle.design_tests.specs.NoFault.{has_no_fault}
-use Rattle.design_tests.specs.Ranked.{is_ranked}
-use Rattle.design_tests.proofs.NoFaults.{tested_is_sound}
-use Rattle.design_tests.proofs.Ranking.{is_ranked-sound, no_cycle}
+use Rattle.design_rows.specs.NoFault.{has_no_fault}
+use Rattle.design_rows.specs.Ranked.{is_ranked}
+use Rattle.design_rows.proofs.NoFaults.{tested_is_sound}
+use Rattle.design_rows.proofs.Ranking.{is_ranked-sound, no_cycle}
 use Rattle.nested_rows.specs.Cutting.{MeetsOnward, IsObeyed, turning, NestedIsCut, NestedMeetsOnward, NestedIsObeyed}
 use Rattle.design_rows.specs.Designs.{same_cover, xor_cover, nested}
 use Rattle.design_rows.specs.Small.{small_nested, NestedIsSmall}

@@ -7,3 +7,5 @@ pub mod FlatCircuits
 pub mod DistinctLists
 pub mod MainPorts
 pub mod ReadBy
+pub mod Rows
+pub mod Searching

@@ -9,10 +9,10 @@ use Rattle.std.proofs.lemmas.Option.{none-some}
 use Rattle.circuit_theory.proofs.Lists.{Contains-head, Contains-cases, at_of}
 use Rattle.sec_base.specs.Table.{is_among, AreDistinct}
 use Rattle.sec_base.proofs.TableLemmas.{Contains_not-is_among}
-use Rattle.blif_read.specs.declared.design.BlifModel.{BlifModel}
-use Rattle.blif_read.specs.Design.{top, name_of, main_inputs, main_outputs}
-use Rattle.blif_read.specs.Fault.{repeats}
-use Rattle.blif_read.specs.Kept.{ports_distinct, written_names, names_in_model, names_in_all}
+use Rattle.elaborate.specs.blif_read.declared.design.BlifModel.{BlifModel}
+use Rattle.elaborate.specs.blif_read.Design.{top, name_of, main_inputs, main_outputs}
+use Rattle.elaborate.specs.blif_read.Fault.{repeats}
+use Rattle.elaborate.specs.blif_read.Kept.{ports_distinct, written_names, names_in_model, names_in_all}
 use Rattle.elaborate.specs.declared.flat.Flat.{Flat}
 use Rattle.elaborate.specs.Flat.{FlatDesign, name_at}
 use Rattle.elaborate.specs.Walked.{IsWalked}

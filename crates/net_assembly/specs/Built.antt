@@ -3,7 +3,7 @@ use Rattle.std.specs.Prelude.{◌≡◌, ℕ, ◌<◌, List, [], ◌∷◌, ◌+
 use Rattle.std.specs.List.{filter}
 use Rattle.circuit_theory.specs.Cover.{Cover}
 use Rattle.sec_base.specs.Table.{AreDistinct}
-use Rattle.blif_read.specs.declared.design.BlifModel.{BlifModel}
+use Rattle.elaborate.specs.blif_read.declared.design.BlifModel.{BlifModel}
 use Rattle.flat_net.specs.declared.signals.Signal.{Signal}
 use Rattle.flat_net.specs.Makes.{with_input, with_latch}
 use Rattle.elaborate.specs.declared.flat.Flat.{Flat}

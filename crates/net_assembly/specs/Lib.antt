@@ -1,3 +1,5 @@
 pub mod Assembled
 pub mod Built
 pub mod Shown
+pub mod Order
+pub mod Searched

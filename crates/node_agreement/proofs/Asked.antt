@@ -2,13 +2,13 @@
 use Rattle.std.proofs.Common.{◌≡◌, ◌≢◌, ℕ, ◌*◌, ◌<◌, List, [], ◌∷◌, length, Option, Some, None, refl, sym, ◌∙◌, ap, subst, arith}
 use Rattle.std.specs.Prelude.{Contains}
 use Rattle.std.specs.List.{AllPairs}
-use Rattle.aig.specs.declared.node.Node.{Node}
-use Rattle.aig.specs.declared.node.Node.TheVariants.{Input}
-use Rattle.aig.specs.Graph.{IsGraph}
-use Rattle.aig.specs.Values.{value}
-use Rattle.aig.proofs.CoverMeaning.{value-one}
-use Rattle.aig.proofs.Insert.{graph-some}
-use Rattle.lane_eval.specs.Tables as table
+use Rattle.root_classes.specs.aig.declared.node.Node.{Node}
+use Rattle.root_classes.specs.aig.declared.node.Node.TheVariants.{Input}
+use Rattle.root_classes.specs.aig.Graph.{IsGraph}
+use Rattle.root_classes.specs.aig.Values.{value}
+use Rattle.root_classes.proofs.aig.CoverMeaning.{value-one}
+use Rattle.root_classes.proofs.aig.Insert.{graph-some}
+use Rattle.root_classes.specs.lane_eval.Tables as table
 use Rattle.pair_decide.specs.declared.query.Query.{Query}
 use Rattle.pair_decide.specs.declared.query.SameBy.{SameBy}
 use Rattle.pair_decide.specs.declared.query.SameBy.TheVariants as same

@@ -11,7 +11,8 @@ mod small;
 mod table;
 
 pub use budget::{Budget, Effort};
+pub use pair_decide::{Decision, Query, SameBy, decide};
 pub use proof::{Proved, prove};
-pub use root_classes::{leads_of, variables};
+pub use root_classes::{SignatureTable, leads_of, signatures, variables};
 pub use signs::{signed, zero};
 pub use sweep_candidates::Hints;

@@ -1,11 +1,10 @@
 //! Assignments that tell two literals apart.
 
 ghost use Rattle.std.specs.Prelude.{◌≡◌, ℕ, ◌++◌, [], ◌∷◌, slice_get, Some, IfOk, IfSome, IsTrue};
-ghost use Rattle.aig.specs.declared.node.Node.TheVariants.{Input};
+ghost use Rattle.root_classes.specs.aig.declared.node.Node.TheVariants.{Input};
 ghost use Rattle.node_agreement.specs.Answers.{IsModelOf};
 
-use aig::{Aig, Node};
-use sec_base::{Bits, NoMemory};
+use root_classes::{Aig, Bits, NoMemory, Node};
 use std::alloc::Global;
 use sweep_candidates::Model;
 

@@ -1,7 +1,7 @@
 //! Proving that two literals of a graph agree.
 
 ghost use Rattle.std.specs.Prelude.{◌≡◌, ℕ, ◌*◌, ◌<◌, ◌≤◌, List, length, IfOk, IfSome};
-ghost use Rattle.aig.specs.declared.node.Node.{Node};
+ghost use Rattle.root_classes.specs.aig.declared.node.Node.{Node};
 ghost use Rattle.root_classes.specs.Agreeing.{Agree};
 ghost use Rattle.sweep_candidates.specs.declared.models.Model.{Model};
 ghost use Rattle.node_agreement.specs.declared.proof.Proved.TheVariants as proved;
@@ -11,9 +11,8 @@ use crate::budget::Budget;
 use crate::models::model_of;
 use crate::question::{Tried, ask};
 use crate::small::{find, small_graph};
-use aig::{Aig, Lit};
 use case_split::agree_by_cases;
-use sec_base::NoMemory;
+use root_classes::{Aig, Lit, NoMemory};
 use std::alloc::Global;
 use sweep_candidates::{Model, cut_of, small_cone_of, window_of};
 

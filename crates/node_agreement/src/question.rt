@@ -5,10 +5,8 @@ ghost use Rattle.root_classes.specs.Inputs.{inputs_of};
 ghost use Rattle.node_agreement.specs.Answers.{IsAnswer, IsOutcome};
 
 use crate::table::{ask_table, is_light};
-use aig::{Aig, Lit};
 use pair_decide::{Decision, Query, SameBy, decide};
-use root_classes::variables;
-use sec_base::{Bits, Ids, NoMemory};
+use root_classes::{Aig, Bits, Ids, Lit, NoMemory, variables};
 use std::alloc::Global;
 
 /// The most variables of a query that needs no search.

@@ -1,11 +1,11 @@
 //! Signs of literals.
 
 ghost use Rattle.std.specs.Prelude.{◌≡◌, ℕ, ◌*◌, ◌/◌, ◌<◌, Bool, false, List, length};
-ghost use Rattle.aig.specs.declared.node.Node.{Node};
-ghost use Rattle.aig.specs.Values.{value};
+ghost use Rattle.root_classes.specs.aig.declared.node.Node.{Node};
+ghost use Rattle.root_classes.specs.aig.Values.{value};
 ghost use Rattle.node_agreement.specs.Standing.{StandsFor, signed_lit};
 
-use aig::{Aig, Lit};
+use root_classes::{Aig, Lit};
 
 /// The literal for another one, where this is the literal for its node.
 pub fn signed(y: Lit, l: Lit) -> Lit

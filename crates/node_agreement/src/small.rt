@@ -1,13 +1,12 @@
 //! Small graphs that stand for a part of a graph. Their variables are nodes of that graph.
 
 ghost use Rattle.std.specs.Prelude.{◌≡◌, ℕ, ◌+◌, ◌*◌, ◌/◌, ◌^◌, ◌<◌, ◌≤◌, List, length, IfOk, OnOk, IfSome, slice_get, Some};
-ghost use Rattle.aig.specs.declared.node.Node.{Node};
-ghost use Rattle.aig.specs.Values.{KeepsValues};
+ghost use Rattle.root_classes.specs.aig.declared.node.Node.{Node};
+ghost use Rattle.root_classes.specs.aig.Values.{KeepsValues};
 ghost use Rattle.node_agreement.specs.Standing.{StandsFor, AreLocal, by_nodes};
 
 use crate::signs::{signed, zero};
-use aig::{Aig, Lit, Node};
-use sec_base::NoMemory;
+use root_classes::{Aig, Lit, NoMemory, Node};
 use std::alloc::Global;
 
 /// The most nodes of a small graph.

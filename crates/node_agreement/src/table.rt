@@ -2,15 +2,12 @@
 
 ghost use Rattle.std.specs.Prelude.{◌≡◌, ℕ, ◌*◌, ◌<◌, ◌≤◌, List, Some, length, IfOk};
 ghost use Rattle.circuit_theory.specs.Query.{bits_of};
-ghost use Rattle.aig.specs.declared.node.Node.{Node};
+ghost use Rattle.root_classes.specs.aig.declared.node.Node.{Node};
 ghost use Rattle.root_classes.specs.Inputs.{inputs_of};
 ghost use Rattle.node_agreement.specs.Answers.{IsAnswer, IsFound};
 
 use crate::question::{Cost, Tried};
-use aig::{Aig, Lit};
-use lane_eval::table_differs;
-use root_classes::variables;
-use sec_base::{Bits, Ids, NoMemory};
+use root_classes::{Aig, Bits, Ids, Lit, NoMemory, table_differs, variables};
 use std::alloc::Global;
 
 /// The most variables of a query that needs no search.

@@ -1,10 +1,10 @@
 -- What is found of all obligations.
 use Rattle.std.specs.Prelude.{◌≡◌, ◌≢◌, ℕ, ◌<◌, Bool, true, false, List, slice_get, Option, Some, None}
 use Rattle.std.specs.List.{All, AllZip}
-use Rattle.aig.specs.declared.node.Node.{Node}
-use Rattle.sec_base.specs.declared.basics.PairAnswer.{PairAnswer}
-use Rattle.sec_base.specs.declared.basics.PairAnswer.TheVariants as answer
-use Rattle.witness_report.specs.declared.witness.PairName.{PairName}
+use Rattle.outcome.specs.aig.declared.node.Node.{Node}
+use Rattle.outcome.specs.sec_base.declared.basics.PairAnswer.{PairAnswer}
+use Rattle.outcome.specs.sec_base.declared.basics.PairAnswer.TheVariants as answer
+use Rattle.outcome.specs.witness_report.declared.witness.PairName.{PairName}
 use Rattle.outcome.specs.Proof.{Proof}
 use Rattle.outcome.specs.Queries.{IsSame}
 use Rattle.outcome.specs.declared.verdict.PairResult.{PairResult}

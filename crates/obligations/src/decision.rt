@@ -9,9 +9,7 @@ use crate::found::{Found, decide_queries};
 use crate::names::copy_name;
 use crate::obligation::{Difference, Obligation};
 use crate::sides::sweep_asked;
-use aig::Aig;
-use outcome::{PairName, PairResult, PairResults, Proof};
-use sec_base::{MAX_CONFLICTS, NoMemory, PairAnswer};
+use outcome::{Aig, MAX_CONFLICTS, NoMemory, PairAnswer, PairName, PairResult, PairResults, Proof};
 use std::alloc::Global;
 use swept_queries::SweptQueries;
 

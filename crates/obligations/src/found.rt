@@ -2,15 +2,13 @@
 
 ghost use Rattle.std.specs.Prelude.{◌≡◌, ℕ, ◌+◌, ◌<◌, ◌≤◌, ◌^◌, length, slice_get, Some, IfOk, IfSome, MatchOption};
 ghost use Rattle.std.specs.List.{All};
-ghost use Rattle.aig.specs.declared.node.Node.{Node};
+ghost use Rattle.outcome.specs.aig.declared.node.Node.{Node};
 ghost use Rattle.outcome.specs.Query.{Query};
 ghost use Rattle.outcome.specs.Queries.{IsQuery};
 ghost use Rattle.swept_queries.specs.InStead.{IsKnown};
 ghost use Rattle.obligations.specs.Found.{IsFound, EndsAt};
 
-use aig::Aig;
-use outcome::{Decision, Proof, Query};
-use sec_base::{Bits, MAX_CONFLICTS, NoMemory};
+use outcome::{Aig, Bits, Decision, MAX_CONFLICTS, NoMemory, Proof, Query};
 use std::alloc::Global;
 use swept_queries::SweptQueries;
 

@@ -11,4 +11,5 @@ mod verdict;
 pub use decision::{Decided, decide_all};
 pub use names::copy_name;
 pub use obligation::{Difference, Obligation, Queries};
+pub use outcome::{PairName, PairResults, Query, Stimulus, Verdict, Witness};
 pub use verdict::{VerdictAt, greatest_size, verdict_at};

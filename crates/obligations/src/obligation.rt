@@ -1,7 +1,6 @@
 //! What is asked, and where it is found to differ.
 
-use outcome::{PairName, Query};
-use sec_base::{Bits, Seq};
+use outcome::{Bits, PairName, Query, Seq};
 
 /// Queries over one graph, in order.
 pub type Queries = Seq<Query>;

@@ -5,9 +5,7 @@ ghost use Rattle.std.specs.List.{AllZip};
 ghost use Rattle.obligations.specs.Asked.{AreAsked, AreKnown, MaySweep, queries_of, HaveMore};
 
 use crate::obligation::Obligation;
-use aig::Aig;
-use outcome::Query;
-use sec_base::NoMemory;
+use outcome::{Aig, NoMemory, Query};
 use std::alloc::Global;
 use swept_queries::{Sides, SweptQueries, sweep_queries};
 

@@ -5,8 +5,7 @@ ghost use Rattle.outcome.specs.declared.verdict.PairResult.{PairResult};
 ghost use Rattle.obligations.specs.Verdict.{IsVerdictAt, IsFirstLimit, greatest_size};
 
 use crate::obligation::Difference;
-use outcome::PairResult;
-use sec_base::PairAnswer;
+use outcome::{PairAnswer, PairResult};
 
 /// The verdict, and the obligation that gives it.
 #[derive(Drop)]

@@ -37,7 +37,7 @@ use Rattle.flatten.specs.OneNet.{AreOneNet}
 use Rattle.design_laws.proofs.KeptNames.{names_are_kept}
 use Rattle.sec_base.specs.declared.basics.PairAnswer.{PairAnswer}
 use Rattle.sec_base.specs.declared.basics.PairAnswer.TheVariants as answer
-use Rattle.expose_pick.proofs.Removed.{cycle_fewer}
+use Rattle.cut_points.proofs.expose_pick.Removed.{cycle_fewer}
 use Rattle.swept_queries.proofs.Listed.{zip_left}
 use Rattle.cut_points.specs.Common.{common_names}
 use Rattle.pair_decide.specs.declared.query.Proof.{Proof}

@@ -1,2 +1,3 @@
 pub mod OneText
 pub mod TextNets
+pub use Rattle.check_texts.specs as check_texts

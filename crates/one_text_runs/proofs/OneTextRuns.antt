@@ -11,18 +11,18 @@ use Rattle.outcome.specs.declared.verdict.Verdict.{Verdict}
 use Rattle.outcome.specs.declared.verdict.Verdict.TheVariants as verdict
 use Rattle.sec_base.specs.declared.settings.Settings.{Settings}
 use Rattle.compare_base.specs.Compared.{ByReset}
-use Rattle.check_meaning.specs.Compared.{ComparedIn}
+use Rattle.sec_run.specs.check_meaning.Compared.{ComparedIn}
 use Rattle.job_base.specs.declared.finding.Finding.{Finding}
 use Rattle.job_base.specs.declared.finding.Finding.TheVariants as finding
 use Rattle.job_base.specs.declared.status.StatusName.{StatusName}
 use Rattle.job_base.specs.declared.status.StatusName.TheVariants as status
 use Rattle.job_files.specs.Reading.{Held}
-use Rattle.check_meaning.specs.Answer.{CanAnswer, CanAnswerWith, IsAnswer}
-use Rattle.check_texts.specs.Texts.{AreComparable}
+use Rattle.sec_run.specs.check_meaning.Answer.{CanAnswer, CanAnswerWith, IsAnswer}
+use Rattle.one_text.specs.check_texts.Texts.{AreComparable}
 use Rattle.sec_run.specs.Answer.{EndsAs, IsFinding}
-use Rattle.check_meaning.specs.Found.{IsAnsweredBy, IsFoundOf, OfNets}
+use Rattle.sec_run.specs.check_meaning.Found.{IsAnsweredBy, IsFoundOf, OfNets}
 use Rattle.job_base.specs.Written.{status_of, verdict_status}
-use Rattle.check_meaning.specs.Check.{Check}
+use Rattle.sec_run.specs.check_meaning.Check.{Check}
 use Rattle.sec_run.specs.Promises.{IsComplete}
 use Rattle.one_text_runs.specs.OneTextRuns.{OfCheck, OfOneText, IsAlways, IsEqualAnswer}
 use Rattle.one_text.proofs.OneText.{one_text_is_equal}

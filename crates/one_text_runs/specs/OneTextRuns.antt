@@ -6,7 +6,7 @@ use Rattle.job_base.specs.declared.status.StatusName.{StatusName}
 use Rattle.job_base.specs.declared.status.StatusName.TheVariants as status
 use Rattle.command_line.specs.declared.task.Task.{Task}
 use Rattle.command_line.specs.declared.task.Task.TheVariants as task
-use Rattle.check_meaning.specs.Check.{Check}
+use Rattle.sec_run.specs.check_meaning.Check.{Check}
 use Rattle.job_files.specs.Reading.{Held}
 
 -- the comparison is in the plain mode, and over all power-ups

@@ -4,7 +4,7 @@
 ghost use Rattle.std.specs.Prelude.{◌≢◌, IfOk, map, string_bytes};
 ghost use Rattle.std.specs.List.{All};
 ghost use Rattle.command_line.specs.Jobs.{job_of};
-ghost use Rattle.check_texts.specs.Texts.{AreComparable};
+ghost use Rattle.one_text.specs.check_texts.Texts.{AreComparable};
 ghost use Rattle.job_base.specs.declared.finding.Finding.{Finding};
 ghost use Rattle.job_base.specs.Lines.{finding_text};
 ghost use Rattle.sec_run.specs.Job.{paths_in};
@@ -18,8 +18,7 @@ use sec_base::{FilePath, MemShelf, NoMemory, Seq, Shelf, Sink};
 use sec_run::{Status, StatusName, run, run_job};
 use std::alloc::Global;
 
-/// Does the job of the words, as `run` does. What its contract adds follows from that of `run`: a text that can be compared with
-/// itself is equal to itself, however few conflicts are allowed.
+/// Does as `run`. What its contract adds follows from that of `run`: a text that can be compared with itself is equal to itself.
 pub fn run_on_one_text<S: Shelf, W: Sink>(
     alloc: Global,
     words: &[String],

@@ -2,19 +2,19 @@
 use Rattle.std.specs.Prelude.{ℕ, Bool, true, false, List, [], ◌∷◌, ◌++◌, length, codes, if◌then◌else◌, Option, Some, None}
 use Rattle.std.specs.Fmt.{decimal}
 use Rattle.std.specs.List.{flat_map}
-use Rattle.circuit_theory.specs.declared.Mode.{Mode}
-use Rattle.circuit_theory.specs.declared.Mode.TheVariants.{Plain, Event}
-use Rattle.circuit_theory.specs.declared.Side.{Side}
-use Rattle.circuit_theory.specs.declared.Side.TheVariants.{A, B}
-use Rattle.sec_base.specs.declared.basics.PairAnswer.{PairAnswer}
-use Rattle.sec_base.specs.declared.basics.PairAnswer.TheVariants as answer
-use Rattle.sec_base.specs.declared.settings.Settings.{Settings}
-use Rattle.sec_base.specs.Texts.{digit_of, names_text}
+use Rattle.witness_report.specs.circuit_theory.declared.Mode.{Mode}
+use Rattle.witness_report.specs.circuit_theory.declared.Mode.TheVariants.{Plain, Event}
+use Rattle.witness_report.specs.circuit_theory.declared.Side.{Side}
+use Rattle.witness_report.specs.circuit_theory.declared.Side.TheVariants.{A, B}
+use Rattle.witness_report.specs.sec_base.declared.basics.PairAnswer.{PairAnswer}
+use Rattle.witness_report.specs.sec_base.declared.basics.PairAnswer.TheVariants as answer
+use Rattle.witness_report.specs.sec_base.declared.settings.Settings.{Settings}
+use Rattle.witness_report.specs.sec_base.Texts.{digit_of, names_text}
 use Rattle.witness_report.specs.Text.{stimulus_text, row_line}
 use Rattle.witness_report.specs.declared.witness.PairName.{PairName}
 use Rattle.witness_report.specs.declared.witness.PairName.TheVariants as pair
 use Rattle.witness_report.specs.declared.witness.Witness.{Witness}
-use Rattle.frame_report.specs.Text.{frame_text}
+use Rattle.witness_report.specs.frame_report.Text.{frame_text}
 use Rattle.outcome.specs.declared.verdict.PairResult.{PairResult}
 use Rattle.outcome.specs.declared.verdict.ResetWitness.{ResetWitness}
 use Rattle.outcome.specs.declared.verdict.Separation.{Separation}

@@ -4,20 +4,18 @@ ghost use Rattle.std.specs.Prelude.{◌≡◌, ℕ, List, [], ◌∷◌, ◌++�
 ghost use Rattle.std.specs.Fmt.{decimal};
 ghost use Rattle.std.specs.List.{flat_map};
 ghost use Rattle.witness_report.specs.Text.{row_line, stimulus_text};
-ghost use Rattle.frame_report.specs.Text.{frame_text};
+ghost use Rattle.witness_report.specs.frame_report.Text.{frame_text};
 ghost use Rattle.outcome.specs.Report.{answer_word, pair_text, pair_front, size_word, pair_line, bits_text, values_text, witness_text, reset_witness_text, latch_text, low_text, separation_text, unshown_text, why_text, limit_text, through_text, through_line, pairs_text, verdict_text, counts_text, reset_line, assume_line, exposed_line, classes_line, knows_exposed, knows_pairs, report_text};
 
 use crate::verdict::{
     LimitAt, Outcome, PairResult, ResetWitness, Separation, Unshown, Verdict, Why,
 };
-use circuit_theory::Mode;
-use frame_report::put_frame;
-use sec_base::{
-    NoMemory, PairAnswer, Seq, Settings, Side, Text, Word, Words, digit_of, put, put_digits,
-    put_names, put_number,
-};
 use std::alloc::Global;
-use witness_report::{PairName, Stimulus, Witness, write_stimulus};
+use witness_report::frame_report::put_frame;
+use witness_report::{
+    Mode, NoMemory, PairAnswer, PairName, Seq, Settings, Side, Stimulus, Text, Witness, Word,
+    Words, digit_of, put, put_digits, put_names, put_number, write_stimulus,
+};
 
 fn put_stimulus(alloc: Global, text: &mut Vec<u8>, stimulus: &Stimulus) -> Result<(), NoMemory>
     ensures { OnOk result (text.new.items ≡ text.old.items ++ stimulus_text stimulus.now.names stimulus.now.rows) }

@@ -3,10 +3,9 @@
 ghost use Rattle.std.specs.Prelude.{◌≡◌, option_to_list};
 ghost use Rattle.outcome.specs.Proofs.{limit_proofs, verdict_proofs};
 
-use frame_report::Frame;
 use pair_decide::Proof;
-use sec_base::{Bits, PairAnswer, Seq, Side, Word, Words};
-use witness_report::{PairName, Witness};
+use witness_report::frame_report::Frame;
+use witness_report::{Bits, PairAnswer, PairName, Seq, Side, Witness, Word, Words};
 
 /// What was found of one pair.
 #[derive(Drop)]

@@ -4,15 +4,15 @@ use Rattle.std.specs.List.{Contains}
 use Rattle.circuit_theory.specs.Circuit.{Circuit}
 use Rattle.circuit_theory.specs.Tree.{Tree, Unfolds, tree_value}
 use Rattle.circuit_theory.specs.Query.{Variable, AreVariables, ShiftBefore}
-use Rattle.aig.specs.declared.node.Node.{Node}
-use Rattle.sec_base.specs.Table.{AreDistinct}
-use Rattle.aig.specs.declared.node.Node.TheVariants.{Input}
-use Rattle.aig.specs.Cone.{IsReached}
-use Rattle.aig.specs.Graph.{IsGraph}
-use Rattle.aig.specs.Values.{value}
-use Rattle.cnf_encode.specs.Encoding.{IsEncoding}
-use Rattle.sat_search.specs.Found.{IsFruitless}
-use Rattle.outcome.specs.Proof.{Proof}
+use Rattle.obligations.specs.aig.declared.node.Node.{Node}
+use Rattle.sec_setup.specs.sec_base.Table.{AreDistinct}
+use Rattle.obligations.specs.aig.declared.node.Node.TheVariants.{Input}
+use Rattle.obligations.specs.aig.Cone.{IsReached}
+use Rattle.obligations.specs.aig.Graph.{IsGraph}
+use Rattle.obligations.specs.aig.Values.{value}
+use Rattle.obligations.specs.cnf_encode.Encoding.{IsEncoding}
+use Rattle.obligations.specs.sat_search.Found.{IsFruitless}
+use Rattle.obligations.specs.outcome.Proof.{Proof}
 
 -- In the graph the literal has the value of the function, where the graph's variables are inputs at shifts.
 abbrev pub HasValueOf : List Node → List (ℕ × ℕ) → ℕ → ((ℕ → ℕ → Bool) → Bool) → Type 0

@@ -2,4 +2,7 @@
 //! what stands behind a limit. It has definitions alone.
 #![tactic(auto)]
 
-pub use obligations::{Obligation, Queries, copy_name};
+pub use obligations::{
+    Obligation, PairName, PairResults, Queries, Stimulus, Verdict, Witness, copy_name,
+};
+pub use sec_setup::SetupError;

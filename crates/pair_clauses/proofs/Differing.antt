@@ -18,7 +18,7 @@ use Rattle.unfold_places.specs.declared.signal_function.Unfolded.{Unfolded}
 use Rattle.proof_check.specs.Clauses.{Unsatisfiable}
 use Rattle.cnf_encode.specs.declared.cnf.Cnf.{Cnf}
 use Rattle.cnf_encode.specs.Encoding.{MeansDifference, ShowsDifference, IsSmall}
-use Rattle.outcome_fits.specs.Outcome.{HaveDifferentFunctions}
+use Rattle.plain_asked.specs.outcome_fits.Outcome.{HaveDifferentFunctions}
 use Rattle.plain_asked.specs.Pairs.{IsFunctionOf}
 use Rattle.pair_clauses.specs.Clauses.{CanBeMet, TellDifference}
 

@@ -17,7 +17,7 @@ use Rattle.sec_setup.specs.Matching.{InterfacesMatch}
 use Rattle.sec_setup.specs.Pairs.{ArePairsOf, outputs_of}
 use Rattle.sec_setup.proofs.Uncut.{uncut}
 use Rattle.compare_base.specs.Compared as compared
-use Rattle.plain_meaning.proofs.CutSizes.{cut_over, cut_light}
+use Rattle.compare_base.proofs.plain_meaning.CutSizes.{cut_over, cut_light}
 use Rattle.pair_clauses.specs.Clauses.{PairGives, size_refusal_of}
 use Rattle.pair_clauses.specs.declared.error.CertError.{CertError}
 use Rattle.pair_clauses.specs.declared.error.CertError.TheVariants.{Compare}

@@ -14,8 +14,8 @@ use Rattle.cnf_encode.specs.Encoding.{IsSmall}
 use Rattle.sec_base.specs.declared.settings.Settings.{Settings}
 use Rattle.sec_setup.specs.Cycles.{IsAcyclic}
 use Rattle.sec_setup.specs.Matching.{InterfacesMatch}
-use Rattle.outcome_fits.specs.Fitting.{IsLight}
-use Rattle.outcome_fits.specs.Outcome.{HaveDifferentFunctions}
+use Rattle.plain_asked.specs.outcome_fits.Fitting.{IsLight}
+use Rattle.plain_asked.specs.outcome_fits.Outcome.{HaveDifferentFunctions}
 use Rattle.plain_asked.specs.declared.error.PlainError.{PlainError}
 use Rattle.plain_asked.specs.declared.error.PlainError.TheVariants as oversize
 use Rattle.compare_base.specs.Compared.{Compared}

@@ -7,8 +7,8 @@ ghost use Rattle.pair_decide.specs.Answers.{Decides};
 use crate::query::{Decision, Query, SameBy};
 use crate::search::decide_by_search;
 use crate::table::decide_by_table;
-use aig::{Aig, Lit};
-use proof_check::{MAX_CONFLICTS, NoMemory};
+use cnf_encode::{MAX_CONFLICTS, NoMemory};
+use lane_eval::{Aig, Lit};
 use std::alloc::Global;
 
 /// The most variables of a query that is decided by trying all assignments.

@@ -1,8 +1,7 @@
 //! Queries and their answers.
 
-use aig::Lit;
-use cnf_encode::Cnf;
-use proof_check::{Bits, Ids, Log};
+use cnf_encode::{Bits, Cnf, Ids, Log};
+use lane_eval::Lit;
 
 /// Whether `left` and `right` agree wherever `care` holds.
 #[derive(Drop)]

@@ -4,23 +4,23 @@ use Rattle.std.specs.Prelude.{◌⊎◌}
 use Rattle.std.specs.List.{All, AllPairs, Contains}
 use Rattle.std.proofs.lemmas.List.{get_or_default}
 use Rattle.std.proofs.lemmas.Option.{slice_get_within}
-use Rattle.sec_base.specs.Table.{AreDistinct}
+use Rattle.event_agreement.specs.sec_base.Table.{AreDistinct}
 use Rattle.std.proofs.lemmas.List.Elements.{All-weaker, Contains-append_cases, Contains-append_left, Contains-append_right, Contains-get_or}
 use Rattle.circuit_theory.proofs.Lists.{Contains-head, only}
-use Rattle.event_theory.specs.EventSizes.{Start, EventVisits}
-use Rattle.event_theory.specs.Frame.{IsNode}
-use Rattle.flat_net.proofs.Nets.{some_at}
-use Rattle.event_nodes.specs.Adds.{Adds}
-use Rattle.event_nodes.specs.Nodes.{EventGraphView, IsEventGraph, IsTree, paths_of, path_of}
-use Rattle.event_nodes.specs.Reach.{IsListedAt}
-use Rattle.event_nodes.specs.View.{EventCircuitView, side_of, Enabled}
-use Rattle.event_nodes.specs.Visited.{CounterView, HasCounted, IsVisitedPair, HoldsVisits, HoldsNodes}
-use Rattle.event_nodes.proofs.Lists.{adds_contains, adds_cases}
-use Rattle.event_nodes.proofs.OnePath.{one_node}
-use Rattle.event_nodes.proofs.Paths.{path_grows, child_path, paths_length}
-use Rattle.event_nodes.proofs.Visits.{visits_more}
-use Rattle.event_walk.specs.Walk.{HasCountedStart, IsCounting}
-use Rattle.event_functions.proofs.Totaling.{pair_later}
+use Rattle.circuit_theory.specs.EventSizes.{Start, EventVisits}
+use Rattle.circuit_theory.specs.Frame.{IsNode}
+use Rattle.event_agreement.proofs.flat_net.Nets.{some_at}
+use Rattle.event_agreement.specs.event_nodes.Adds.{Adds}
+use Rattle.event_agreement.specs.event_nodes.Nodes.{EventGraphView, IsEventGraph, IsTree, paths_of, path_of}
+use Rattle.event_agreement.specs.event_nodes.Reach.{IsListedAt}
+use Rattle.event_agreement.specs.event_nodes.View.{EventCircuitView, side_of, Enabled}
+use Rattle.event_agreement.specs.event_nodes.Visited.{CounterView, HasCounted, IsVisitedPair, HoldsVisits, HoldsNodes}
+use Rattle.event_agreement.proofs.event_nodes.Lists.{adds_contains, adds_cases}
+use Rattle.event_agreement.proofs.event_nodes.OnePath.{one_node}
+use Rattle.event_agreement.proofs.event_nodes.Paths.{path_grows, child_path, paths_length}
+use Rattle.event_agreement.proofs.event_nodes.Visits.{visits_more}
+use Rattle.event_agreement.specs.event_walk.Walk.{HasCountedStart, IsCounting}
+use Rattle.event_agreement.proofs.event_functions.Totaling.{pair_later}
 
 -- more starts visit more
 pub pair_more : (e : EventCircuitView) (children : List (ℕ × ℕ)) (starts more : List (Start ℕ)) → ((x : Start ℕ) → Contains starts x → Contains more x) → (p : ℕ × ℕ) → IsVisitedPair e children starts p → IsVisitedPair e children more p

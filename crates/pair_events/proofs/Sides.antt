@@ -12,20 +12,20 @@ use Rattle.circuit_theory.specs.Run.{IsEnabled}
 use Rattle.circuit_theory.proofs.Lists.{Contains-head, only}
 use Rattle.circuit_laws.proofs.JoinedParts.{left_part, right_part, replace_left, replace_right, meets_both}
 use Rattle.circuit_laws.proofs.NetLaws.{net_value, net_value-extends}
-use Rattle.event_theory.specs.EventSizes.{Start, IsEventOver}
-use Rattle.event_theory.specs.EventTotals.{StartLatches}
-use Rattle.event_theory.specs.Frame.{EventSide, IsNode}
-use Rattle.flat_net.specs.View.{circuit_of}
-use Rattle.flat_net.proofs.Nets.{sound_is_net}
-use Rattle.event_nodes.specs.Nodes.{EventGraphView, IsEventGraph, paths_of, path_of}
-use Rattle.event_nodes.specs.View.{side_of, Enabled}
-use Rattle.event_nodes.specs.Visited.{CounterView, HoldsNodes, IsVisitedPair}
-use Rattle.event_nodes.proofs.Paths.{path_grows, paths_length}
-use Rattle.event_walk.specs.Walk.{HasCountedStart, IsCounting}
-use Rattle.event_functions.specs.Functions.{signal_start}
-use Rattle.event_functions.specs.Refused.{HasFewNodes}
-use Rattle.class_queries.specs.Enables.{both_of, class_map}
-use Rattle.class_queries.specs.Laws.{AreKept}
+use Rattle.circuit_theory.specs.EventSizes.{Start, IsEventOver}
+use Rattle.circuit_theory.specs.EventTotals.{StartLatches}
+use Rattle.circuit_theory.specs.Frame.{EventSide, IsNode}
+use Rattle.event_agreement.specs.flat_net.View.{circuit_of}
+use Rattle.event_agreement.proofs.flat_net.Nets.{sound_is_net}
+use Rattle.event_agreement.specs.event_nodes.Nodes.{EventGraphView, IsEventGraph, paths_of, path_of}
+use Rattle.event_agreement.specs.event_nodes.View.{side_of, Enabled}
+use Rattle.event_agreement.specs.event_nodes.Visited.{CounterView, HoldsNodes, IsVisitedPair}
+use Rattle.event_agreement.proofs.event_nodes.Paths.{path_grows, paths_length}
+use Rattle.event_agreement.specs.event_walk.Walk.{HasCountedStart, IsCounting}
+use Rattle.event_agreement.specs.event_functions.Functions.{signal_start}
+use Rattle.event_agreement.specs.event_functions.Refused.{HasFewNodes}
+use Rattle.event_agreement.specs.class_queries.Enables.{both_of, class_map}
+use Rattle.event_agreement.specs.class_queries.Laws.{AreKept}
 use Rattle.pair_events.specs.Counted.{moved_start, both_starts, HaveCounted, GoOnCounting, AreTooMany, IsTooLarge}
 use Rattle.pair_events.specs.View.{EventsView, side_of_both}
 use Rattle.pair_events.proofs.Starts.{node_alone, node_more, node_beside, node_itself, of_left, of_right, of_one, both_more}

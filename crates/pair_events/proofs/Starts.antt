@@ -8,11 +8,11 @@ use Rattle.circuit_theory.specs.Joined.{Either, Left, Right}
 use Rattle.circuit_theory.specs.Run.{IsEnabled}
 use Rattle.circuit_theory.proofs.Lists.{Contains-head, Contains-map, Contains-map_from, only}
 use Rattle.circuit_laws.proofs.Parts.{IsPart}
-use Rattle.event_theory.specs.EventSizes.{Start, IsOther}
-use Rattle.event_theory.specs.EventTotals.{StartLatches}
-use Rattle.event_theory.specs.Frame.{EventSide, ConeLatches, ReachedAt, IsNode}
-use Rattle.event_pairs.proofs.Parts.{cone_from, cone_up, node_up, node_from}
-use Rattle.event_pairs.proofs.Unions.{node_by}
+use Rattle.circuit_theory.specs.EventSizes.{Start, IsOther}
+use Rattle.circuit_theory.specs.EventTotals.{StartLatches}
+use Rattle.circuit_theory.specs.Frame.{EventSide, ConeLatches, ReachedAt, IsNode}
+use Rattle.event_agreement.proofs.event_pairs.Parts.{cone_from, cone_up, node_up, node_from}
+use Rattle.event_agreement.proofs.event_pairs.Unions.{node_by}
 use Rattle.pair_events.specs.Counted.{moved_latch, moved_start, both_starts}
 
 module _ {P : Type 0} (s : EventSide P) (enabled : P → Type 0) where

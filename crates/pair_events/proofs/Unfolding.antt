@@ -3,16 +3,16 @@ use Rattle.std.proofs.Common.{ℕ, Result, Ok, Err}
 use Rattle.std.specs.Prelude.{IfOk, OnOk}
 use Rattle.circuit_theory.specs.declared.Side.TheVariants.{A, B}
 use Rattle.circuit_theory.specs.Joined.{Left, Right}
-use Rattle.event_nodes.specs.Nodes.{EventGraphView, IsEventGraph}
-use Rattle.event_nodes.specs.Visited.{CounterView}
-use Rattle.event_nodes.specs.declared.error.EventUnfoldError.{EventUnfoldError}
-use Rattle.event_walk.specs.Walk.{HasCountedStart, IsCounting}
-use Rattle.event_functions.specs.declared.signals.SignalFunction.{SignalFunction}
-use Rattle.event_functions.specs.Functions.{IsFunctionOf, signal_start}
-use Rattle.event_functions.specs.Refused.{IsRefusal}
-use Rattle.class_queries.specs.Laws.{AreKept}
-use Rattle.event_pairs.specs.Functions.{IsEventFunction}
-use Rattle.event_pairs.proofs.Sides.{left_function, right_function}
+use Rattle.event_agreement.specs.event_nodes.Nodes.{EventGraphView, IsEventGraph}
+use Rattle.event_agreement.specs.event_nodes.Visited.{CounterView}
+use Rattle.event_agreement.specs.event_nodes.declared.error.EventUnfoldError.{EventUnfoldError}
+use Rattle.event_agreement.specs.event_walk.Walk.{HasCountedStart, IsCounting}
+use Rattle.event_agreement.specs.event_functions.declared.signals.SignalFunction.{SignalFunction}
+use Rattle.event_agreement.specs.event_functions.Functions.{IsFunctionOf, signal_start}
+use Rattle.event_agreement.specs.event_functions.Refused.{IsRefusal}
+use Rattle.event_agreement.specs.class_queries.Laws.{AreKept}
+use Rattle.event_agreement.specs.event_pairs.Functions.{IsEventFunction}
+use Rattle.event_agreement.proofs.event_pairs.Sides.{left_function, right_function}
 use Rattle.pair_events.specs.Counted.{GoOnCounting, IsRefusedBy}
 use Rattle.pair_events.specs.View.{EventsView, IsEvents, IsWithinLimits, side_of_both}
 use Rattle.pair_events.proofs.Sides.{left_goes_on, left_many, left_large, right_goes_on, right_many, right_large}

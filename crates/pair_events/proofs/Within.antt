@@ -1,8 +1,8 @@
 -- What was counted is within its numbers.
 use Rattle.std.proofs.Common.{arith}
-use Rattle.event_nodes.specs.Nodes.{paths_of}
-use Rattle.event_nodes.proofs.Paths.{paths_length}
-use Rattle.event_nodes.proofs.Totals.{counted_weight}
+use Rattle.event_agreement.specs.event_nodes.Nodes.{paths_of}
+use Rattle.event_agreement.proofs.event_nodes.Paths.{paths_length}
+use Rattle.event_agreement.proofs.event_nodes.Totals.{counted_weight}
 use Rattle.pair_events.specs.Within.{CountedIsWithin}
 use Rattle.pair_events.proofs.Sides.{all_made}
 

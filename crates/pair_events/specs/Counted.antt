@@ -4,15 +4,15 @@ use Rattle.circuit_theory.specs.declared.Side.{Side}
 use Rattle.circuit_theory.specs.declared.Side.TheVariants.{A, B}
 use Rattle.circuit_theory.specs.Joined.{Either, Left, Right}
 use Rattle.circuit_theory.specs.Run.{IsEnabled}
-use Rattle.event_theory.specs.EventSizes.{Start, IsEventOver}
-use Rattle.event_theory.specs.EventTotals.{StartLatches, IsNodesOver, IsNodesWithin}
-use Rattle.event_theory.specs.Frame.{IsNode}
-use Rattle.event_nodes.specs.Nodes.{path_of}
-use Rattle.event_nodes.specs.View.{side_of, Enabled}
-use Rattle.event_nodes.specs.Visited.{HasCounted, HoldsNodes}
-use Rattle.event_nodes.specs.declared.error.EventUnfoldError.{EventUnfoldError}
-use Rattle.event_nodes.specs.declared.error.EventUnfoldError.TheVariants as unfold_error
-use Rattle.event_functions.specs.Functions.{signal_start}
+use Rattle.circuit_theory.specs.EventSizes.{Start, IsEventOver}
+use Rattle.circuit_theory.specs.EventTotals.{StartLatches, IsNodesOver, IsNodesWithin}
+use Rattle.circuit_theory.specs.Frame.{IsNode}
+use Rattle.event_agreement.specs.event_nodes.Nodes.{path_of}
+use Rattle.event_agreement.specs.event_nodes.View.{side_of, Enabled}
+use Rattle.event_agreement.specs.event_nodes.Visited.{HasCounted, HoldsNodes}
+use Rattle.event_agreement.specs.event_nodes.declared.error.EventUnfoldError.{EventUnfoldError}
+use Rattle.event_agreement.specs.event_nodes.declared.error.EventUnfoldError.TheVariants as unfold_error
+use Rattle.event_agreement.specs.event_functions.Functions.{signal_start}
 use Rattle.pair_events.specs.View.{EventsView, side_of_both, circuit_at}
 
 abbrev pub moved_latch : {P R : Type 0} → (P → R) → Option P → Option R

@@ -5,13 +5,13 @@ use Rattle.circuit_theory.specs.declared.Side.TheVariants.{A, B}
 use Rattle.circuit_theory.specs.Depth.{LatchesHaveDepths}
 use Rattle.circuit_theory.specs.Joined.{Either, Left, Right}
 use Rattle.circuit_theory.specs.Run.{IsEnabled}
-use Rattle.event_theory.specs.Classes.{HasClasses, classes_of}
-use Rattle.event_theory.specs.Frame.{EventSide}
-use Rattle.flat_net.specs.View.{circuit_of}
-use Rattle.event_nodes.specs.Nodes.{EventGraphView}
-use Rattle.event_nodes.specs.View.{EventCircuitView, Enabled}
-use Rattle.event_nodes.specs.Visited.{CounterView, IsWeighed}
-use Rattle.class_queries.specs.Enables.{both_of}
+use Rattle.circuit_theory.specs.Classes.{HasClasses, classes_of}
+use Rattle.circuit_theory.specs.Frame.{EventSide}
+use Rattle.event_agreement.specs.flat_net.View.{circuit_of}
+use Rattle.event_agreement.specs.event_nodes.Nodes.{EventGraphView}
+use Rattle.event_agreement.specs.event_nodes.View.{EventCircuitView, Enabled}
+use Rattle.event_agreement.specs.event_nodes.Visited.{CounterView, IsWeighed}
+use Rattle.event_agreement.specs.class_queries.Enables.{both_of}
 
 pub record EventsView : Type 0 where
   pub left : EventCircuitView

@@ -1,11 +1,11 @@
 -- When all that some starts visit and reach is within the numbers of the definition.
 use Rattle.std.specs.Prelude.{ℕ, ◌≤◌, List}
-use Rattle.event_theory.specs.EventSizes.{Start, IsEventWeight}
-use Rattle.event_theory.specs.EventTotals.{IsNodesWithin}
-use Rattle.sec_base.specs.Table.{AreDistinct}
-use Rattle.event_nodes.specs.View.{EventCircuitView, side_of, Enabled}
-use Rattle.class_queries.specs.Enables.{both_of}
-use Rattle.class_queries.specs.Laws.{AreKept}
+use Rattle.circuit_theory.specs.EventSizes.{Start, IsEventWeight}
+use Rattle.circuit_theory.specs.EventTotals.{IsNodesWithin}
+use Rattle.event_agreement.specs.sec_base.Table.{AreDistinct}
+use Rattle.event_agreement.specs.event_nodes.View.{EventCircuitView, side_of, Enabled}
+use Rattle.event_agreement.specs.class_queries.Enables.{both_of}
+use Rattle.event_agreement.specs.class_queries.Laws.{AreKept}
 use Rattle.pair_events.specs.Counted.{both_starts, HaveCounted}
 use Rattle.pair_events.specs.View.{EventsView, IsWithinLimits}
 

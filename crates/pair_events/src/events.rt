@@ -1,14 +1,14 @@
 //! Two circuits with the class map of both.
 
 ghost use Rattle.std.specs.Prelude.{◌≡◌};
-ghost use Rattle.class_queries.specs.Laws.{AreKept};
+ghost use Rattle.event_agreement.specs.class_queries.Laws.{AreKept};
 ghost use Rattle.pair_events.specs.View.{IsEvents};
 ghost use Rattle.pair_events.specs.Within.{IsCountedOnce};
 
 mod parts;
 mod unfolding;
 
-use event_nodes::{Counter, EventCircuit, EventGraph};
+use event_agreement::{Counter, EventCircuit, EventGraph};
 use std::marker::Model;
 
 /// Two circuits whose latches have their classes, the graph of their functions over inputs at event nodes, and what their unfoldings weigh.

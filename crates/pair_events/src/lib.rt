@@ -5,6 +5,6 @@
 mod events;
 mod laws;
 
-pub use event_functions::SignalFunction;
+pub use event_agreement::{EventUnfoldError, Query, SignalFunction};
 pub use events::Events;
 pub use laws::counted_is_within;

@@ -3,6 +3,7 @@
 
 mod differences;
 mod feed;
+pub mod replay_report;
 mod run;
 mod shown;
 

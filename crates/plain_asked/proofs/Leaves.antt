@@ -9,7 +9,7 @@ use Rattle.circuit_laws.proofs.LeafVisits.{leaf_visits, leaf_says, leaf_in_says}
 use Rattle.flat_net.specs.View.{NetView, circuit_of}
 use Rattle.sec_setup.specs.Pairs.{outputs_of}
 use Rattle.sec_setup.specs.Setup.{AreColumns}
-use Rattle.setup_depths.proofs.ReadInputs.{visited_is_column}
+use Rattle.sec_setup.proofs.ReadInputs.{visited_is_column}
 
 module _ {P : Type 0} (c : Circuit P) (order : List ℕ) where
   mutual

@@ -1,6 +1,6 @@
 //! What is found of pairs that are compared in the plain form.
 
-use outcome::{PairResults, Verdict};
+use outcome_fits::{PairResults, Verdict};
 
 /// What is found of the pairs of two circuits.
 #[derive(Drop)]

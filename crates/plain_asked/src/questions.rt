@@ -15,8 +15,7 @@ use cbf_unfold::Unfolded;
 use outcome_fits::{Obligation, Queries, copy_name};
 use pair_decide::Query;
 use sec_base::{NoMemory, PlaceTable};
-use sec_setup::Setup;
-use setup_depths::pair_depth;
+use sec_setup::{Setup, pair_depth};
 use shift_variables::merge_variables;
 use std::alloc::Global;
 

@@ -10,8 +10,7 @@ ghost use Rattle.plain_asked.specs.Sequences.{IsSequence, IsWitnessOf};
 
 use crate::functions::Functions;
 use aig::Aig;
-use outcome::{PairName, Stimulus, Witness};
-use outcome_fits::copy_name;
+use outcome_fits::{PairName, Stimulus, Witness, copy_name};
 use pair_decide::Query;
 use sec_base::{Bits, NoMemory, PlaceTable, Words};
 use shift_variables::{bits_at, rows_of};

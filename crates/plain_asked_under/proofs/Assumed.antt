@@ -7,11 +7,11 @@ use Rattle.flat_net.specs.View.{NetView}
 use Rattle.obligations.specs.declared.obligation.Obligation.{Obligation}
 use Rattle.sec_setup.specs.declared.setup.Setup.{Setup}
 use Rattle.assume_shape.specs.Shape.{assumption_of}
-use Rattle.assume_premise.specs.declared.premise.Premise.{Premise}
-use Rattle.assume_premise.specs.Assumed.{IsAssumedBy}
-use Rattle.assume_premise.proofs.Numbers.{number_below}
-use Rattle.assume_answers.specs.declared.order.VariableOrder.TheVariants as order
-use Rattle.assume_answers.specs.Under.{IsObligationUnder}
+use Rattle.assume_sequences.specs.declared.premise.Premise.{Premise}
+use Rattle.assume_sequences.specs.Assumed.{IsAssumedBy}
+use Rattle.assume_sequences.proofs.Numbers.{number_below}
+use Rattle.assume_queries.specs.declared.assume_answers.order.VariableOrder.TheVariants as order
+use Rattle.assume_queries.specs.assume_answers.Under.{IsObligationUnder}
 use Rattle.plain_asked.specs.declared.functions.Functions.{Functions}
 use Rattle.plain_asked.specs.Asked.{AreAsked}
 use Rattle.plain_asked_under.specs.Asked.{AreAskedUnder}

@@ -11,8 +11,8 @@ use Rattle.obligations.specs.declared.obligation.Obligation.{Obligation}
 use Rattle.obligations.specs.Asked.{queries_of}
 use Rattle.interface.specs.declared.pairs.SignalPair.{SignalPair}
 use Rattle.sec_setup.specs.declared.setup.Setup.{Setup}
-use Rattle.assume_answers.specs.declared.order.VariableOrder.TheVariants as order
-use Rattle.assume_answers.specs.Order.{AreOrdered}
+use Rattle.assume_queries.specs.declared.assume_answers.order.VariableOrder.TheVariants as order
+use Rattle.assume_queries.specs.assume_answers.Order.{AreOrdered}
 use Rattle.assume_queries.proofs.Mapped.{ordered_later}
 use Rattle.plain_asked.specs.declared.functions.Functions.{Functions}
 use Rattle.plain_asked.specs.Asked.{AskedOf, AreAsked}

@@ -4,3 +4,5 @@ pub mod PairPlaces
 pub mod Sequences
 pub mod Verdicts
 pub mod Refused
+pub mod PairsUnder
+pub mod Witnesses

@@ -20,7 +20,7 @@ use Rattle.sec_setup.specs.declared.setup.Setup.{Setup}
 use Rattle.sec_setup.specs.Pairs.{NamedPair, places_of}
 use Rattle.shift_variables.specs.Variables.{variable_of, variables_of}
 use Rattle.query_places.specs.Places.{place_of, ArePlacesOf}
-use Rattle.assume_places.specs.Gathered.{ArePlacesOfAll, IsOverUnder, IsLightUnder}
+use Rattle.assume_queries.specs.assume_places.Gathered.{ArePlacesOfAll, IsOverUnder, IsLightUnder}
 use Rattle.plain_asked.specs.declared.functions.Functions.{Functions}
 use Rattle.plain_asked.specs.Asked.{AreAsked}
 use Rattle.plain_asked.specs.Pairs.{IsFunctionOf}

@@ -7,8 +7,8 @@ use Rattle.obligations.specs.Asked.{queries_of}
 use Rattle.sec_setup.specs.declared.setup.Setup.{Setup}
 use Rattle.sec_setup.specs.Pairs.{ArePairsOf}
 use Rattle.outcome_fits.specs.Fitting.{IsLight}
-use Rattle.assume_premise.specs.declared.premise.Premise.{Premise}
-use Rattle.assume_places.specs.Gathered.{IsOverUnder}
+use Rattle.assume_sequences.specs.declared.premise.Premise.{Premise}
+use Rattle.assume_queries.specs.assume_places.Gathered.{IsOverUnder}
 use Rattle.assume_queries.specs.declared.map.UnderError.{UnderError}
 use Rattle.assume_queries.specs.declared.map.UnderError.TheVariants as under
 use Rattle.plain_asked.specs.declared.error.PlainError.{PlainError}

@@ -27,17 +27,17 @@ use Rattle.shift_variables.specs.Variables.{variable_of, variables_of}
 use Rattle.assume_laws.specs.Assume.{Assumption}
 use Rattle.assume_laws.specs.Sequences.{filled, IsWitnessUnder}
 use Rattle.assume_laws.proofs.Meeting.{leaf_input, leaf_at}
-use Rattle.assume_answers.specs.declared.order.VariableOrder.TheVariants as order
-use Rattle.assume_answers.specs.Under.{IsUnder, IsObligationUnder, ReadsAtOne}
+use Rattle.assume_queries.specs.declared.assume_answers.order.VariableOrder.TheVariants as order
+use Rattle.assume_queries.specs.assume_answers.Under.{IsUnder, IsObligationUnder, ReadsAtOne}
 use Rattle.assume_sequences.specs.Filled.{bit_of}
 use Rattle.plain_asked.specs.declared.functions.Functions.{Functions}
 use Rattle.plain_asked.specs.Asked.{AskedOf}
 use Rattle.plain_asked.proofs.Sequences.{is_sequence}
 use Rattle.plain_asked.proofs.Sound.{AreSound, own_pairs}
 use Rattle.plain_asked.proofs.PairQueries.{AsksPair, query_in_order}
-use Rattle.plain_under.specs.Laws.{AreBuilt}
-use Rattle.plain_under.proofs.PairsUnder.{pairs_fit_under, only_query}
-use Rattle.plain_under.proofs.Witnesses.{differences_show_under}
+use Rattle.plain_asked_under.specs.Laws.{AreBuilt}
+use Rattle.plain_asked_under.proofs.PairsUnder.{pairs_fit_under, only_query}
+use Rattle.plain_asked_under.proofs.Witnesses.{differences_show_under}
 use Rattle.plain_asked_under.specs.Asked.{AreAskedUnder}
 use Rattle.plain_asked_under.specs.Shown.{IsShowableUnder, IsWitnessAtUnder}
 use Rattle.under_fits.specs.Verdict.{IsFirstOfAnswerUnder}

@@ -23,14 +23,14 @@ use Rattle.sec_setup.specs.declared.setup.Setup.{Setup}
 use Rattle.sec_setup.specs.Cuts.{is_cut}
 use Rattle.sec_setup.specs.Pairs.{places_of}
 use Rattle.assume_laws.specs.Assume.{Assumption}
-use Rattle.assume_answers.specs.declared.order.VariableOrder.TheVariants as order
-use Rattle.assume_answers.specs.Under.{IsObligationUnder}
+use Rattle.assume_queries.specs.declared.assume_answers.order.VariableOrder.TheVariants as order
+use Rattle.assume_queries.specs.assume_answers.Under.{IsObligationUnder}
 use Rattle.assume_sequences.specs.Filled.{bit_of}
 use Rattle.plain_asked.specs.declared.functions.Functions.{Functions}
 use Rattle.plain_asked.specs.Asked.{AreAsked}
 use Rattle.plain_asked.proofs.Sound.{AreSound}
-use Rattle.plain_under.specs.Laws.{AreBuilt}
-use Rattle.plain_under.proofs.PairsUnder.{pairs_fit_under}
+use Rattle.plain_asked_under.specs.Laws.{AreBuilt}
+use Rattle.plain_asked_under.proofs.PairsUnder.{pairs_fit_under}
 use Rattle.plain_asked_under.specs.Asked.{AreAskedUnder}
 use Rattle.plain_asked_under.specs.Shown.{CanBeShownUnder, IsShownUnder}
 use Rattle.under_fits.specs.Verdict.{EachFitsUnder, VerdictFitsUnder}

@@ -6,8 +6,8 @@ use Rattle.obligations.specs.declared.obligation.Obligation.{Obligation}
 use Rattle.sec_setup.specs.declared.setup.Setup.{Setup}
 use Rattle.assume_laws.specs.Assume.{Assumption}
 use Rattle.assume_laws.specs.Sequences.{IsMeetingRow}
-use Rattle.assume_answers.specs.declared.order.VariableOrder.TheVariants as order
-use Rattle.assume_answers.specs.Under.{IsObligationUnder}
+use Rattle.assume_queries.specs.declared.assume_answers.order.VariableOrder.TheVariants as order
+use Rattle.assume_queries.specs.assume_answers.Under.{IsObligationUnder}
 use Rattle.assume_sequences.specs.Filled.{bit_of}
 use Rattle.plain_asked.specs.declared.functions.Functions.{Functions}
 use Rattle.plain_asked.specs.Asked.{AreAsked}

@@ -7,8 +7,8 @@ use Rattle.sec_setup.specs.Cuts.{is_cut}
 use Rattle.sec_setup.specs.Pairs.{places_of}
 use Rattle.outcome_fits.specs.Fitting.{IsLight, IsTooLarge}
 use Rattle.assume_shape.specs.Shape.{assumption_of}
-use Rattle.assume_premise.specs.declared.premise.Premise.{Premise}
-use Rattle.assume_premise.specs.Assumed.{IsAssumedBy}
+use Rattle.assume_sequences.specs.declared.premise.Premise.{Premise}
+use Rattle.assume_sequences.specs.Assumed.{IsAssumedBy}
 use Rattle.assume_sequences.specs.Filled.{bit_of}
 use Rattle.plain_asked.specs.declared.findings.Findings.{Findings}
 use Rattle.plain_asked_under.specs.declared.error.PlainUnderError.{PlainUnderError}

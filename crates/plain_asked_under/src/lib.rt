@@ -1,10 +1,17 @@
 //! Comparing the pairs of two circuits in the plain form under an assumption on the inputs: the pairs' functions and what is asked of them
 //! are those of the plain form, each query with the assumption as its care.
+//!
+//! The plain form under an assumption on the inputs: what the answers to its queries say of pairs, where each has the assumption as its
+//! care.
 #![tactic(auto)]
 
 mod comparison;
 mod error;
+mod laws;
 mod shown;
 
+pub use assume_sequences::Premise;
 pub use comparison::compare_plain_under;
 pub use error::PlainUnderError;
+pub use laws::{differences_show_under, pairs_fit_under};
+pub use plain_asked::Findings;

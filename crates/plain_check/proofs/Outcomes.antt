@@ -15,13 +15,13 @@ use Rattle.sec_setup.specs.Cuts.{columns_of, is_cut}
 use Rattle.sec_setup.specs.Matching.{InterfacesMatch}
 use Rattle.sec_setup.specs.Pairs.{NamedPair, named_pairs}
 use Rattle.sec_setup.specs.Setup.{IsSetupOf}
-use Rattle.plain_asked.specs.declared.findings.Findings.{Findings}
-use Rattle.plain_asked.specs.declared.error.PlainError.TheVariants as plain_error
-use Rattle.plain_asked.specs.Formed.{AreFound, Formed}
-use Rattle.plain_asked.specs.Findings.{FindingsFit}
+use Rattle.plain_form.specs.plain_asked.declared.findings.Findings.{Findings}
+use Rattle.plain_form.specs.plain_asked.declared.error.PlainError.TheVariants as plain_error
+use Rattle.plain_form.specs.plain_asked.Formed.{AreFound, Formed}
+use Rattle.plain_form.specs.plain_asked.Findings.{FindingsFit}
 use Rattle.compare_base.specs.declared.error.CompareError.TheVariants as refused
 use Rattle.compare_base.specs.Compared.{IsCompared, Compared}
-use Rattle.outcome_fits.specs.Fitting.{OutcomeFits}
+use Rattle.reset_form.specs.outcome_fits.Fitting.{OutcomeFits}
 use Rattle.compare_base.proofs.CutSetups.{choice, left_too_large, right_too_large}
 use Rattle.compare_base.proofs.Meaning.{they_are_equal, makes_differ, makes_cuts_differ}
 

@@ -29,7 +29,7 @@ use Rattle.reset_laws.proofs.ResetAgreement.{equal_resets_agree, reset_same_at}
 use Rattle.reset_laws.proofs.ResetWindows.{reset_witness_makes_differ}
 use Rattle.reset_nets.proofs.Starts.{nets_have_starts}
 use Rattle.sec_setup.specs.Pairs.{NamedPair, named_pairs}
-use Rattle.outcome_fits.specs.ResetOutcome.{Numbered, AgreeAt, AnswerFits, PairFits, IsFirstDifference}
+use Rattle.reset_form.specs.outcome_fits.ResetOutcome.{Numbered, AgreeAt, AnswerFits, PairFits, IsFirstDifference}
 use Rattle.compare_base.specs.FromReset.{numbered_by, ResetOutcomeFits, ResetVerdictFits}
 use Rattle.compare_base.specs.Says.{MakesResetsDiffer}
 use Rattle.compare_base.proofs.CutPairs.{IsOutputPair, IsNextPair, one_output, pair_listed, listed_is}

@@ -12,12 +12,12 @@ use Rattle.sec_setup.specs.declared.setup.Setup.{Setup}
 use Rattle.sec_setup.specs.Matching.{InterfacesMatch}
 use Rattle.sec_setup.specs.Pairs.{NamedPair, named_pairs}
 use Rattle.sec_setup.specs.Setup.{IsSetupOf}
-use Rattle.reset_form.specs.ResetFindings.{ResetFindings}
+use Rattle.reset_form.specs.declared.reset_asked.findings.ResetFindings.{ResetFindings}
 use Rattle.compare_base.specs.ResetError.TheVariants as reset_error
-use Rattle.reset_form.specs.ResetVerdict.{ResetVerdict}
-use Rattle.reset_form.specs.ResetVerdict.TheVariants as found_verdict
+use Rattle.reset_form.specs.declared.reset_asked.findings.ResetVerdict.{ResetVerdict}
+use Rattle.reset_form.specs.declared.reset_asked.findings.ResetVerdict.TheVariants as found_verdict
 use Rattle.reset_form.specs.Formed.{AreFound, Formed}
-use Rattle.outcome_fits.specs.ResetOutcome.{Numbered}
+use Rattle.reset_form.specs.outcome_fits.ResetOutcome.{Numbered}
 use Rattle.reset_form.specs.Findings.{FindingsFit, VerdictFits}
 use Rattle.compare_base.specs.Compared.{IsComparedFromReset}
 use Rattle.compare_base.specs.FromReset.{AreTooLargeFromReset, numbered_by, ResetOutcomeFits, ResetVerdictFits}

@@ -2,8 +2,8 @@
 use Rattle.outcome.specs.declared.verdict.LimitAt.TheVariants as limit_at
 use Rattle.outcome.specs.declared.verdict.Verdict.{Verdict}
 use Rattle.outcome.specs.declared.verdict.Verdict.TheVariants as verdict
-use Rattle.reset_form.specs.ResetVerdict.{ResetVerdict}
-use Rattle.reset_form.specs.ResetVerdict.TheVariants as found
+use Rattle.reset_form.specs.declared.reset_asked.findings.ResetVerdict.{ResetVerdict}
+use Rattle.reset_form.specs.declared.reset_asked.findings.ResetVerdict.TheVariants as found
 
 -- the verdict of a comparison from initial values, as an outcome has it
 abbrev pub verdict_of : ResetVerdict → Verdict

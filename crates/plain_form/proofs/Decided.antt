@@ -26,8 +26,8 @@ use Rattle.obligations.specs.Found.{Differ}
 use Rattle.obligations.specs.Decided.{AnswerIs, IsAnswered}
 use Rattle.witness_report.specs.declared.witness.PairName.{PairName}
 use Rattle.outcome.specs.declared.verdict.PairResult.{PairResult}
-use Rattle.outcome_fits.specs.Limits.{ReadOnly, IsUndecided}
-use Rattle.outcome_fits.specs.Outcome.{HaveDifferentFunctions, AnswerFits, PairFits}
+use Rattle.plain_asked.specs.outcome_fits.Limits.{ReadOnly, IsUndecided}
+use Rattle.plain_asked.specs.outcome_fits.Outcome.{HaveDifferentFunctions, AnswerFits, PairFits}
 use Rattle.plain_asked.specs.Sequences.{bits_at}
 use Rattle.plain_asked.specs.Variables.{variable_of, variables_of}
 use Rattle.plain_asked.proofs.PairQueries.{AsksPair, left_tree, right_tree, query_in_order, are_variables, left_value, right_value, care_value, same_trees, trees_differ, variables_long}

@@ -21,7 +21,7 @@ use Rattle.sec_setup.specs.Cuts.{is_cut}
 use Rattle.sec_setup.specs.Pairs.{places_of}
 use Rattle.plain_asked.specs.declared.functions.Functions.{Functions}
 use Rattle.plain_asked.specs.Asked.{AskedOf, AskedApart, AreAskedApart}
-use Rattle.outcome_fits.specs.Outcome.{PairFits, PairsFit, IsFirstOfAnswer}
+use Rattle.plain_asked.specs.outcome_fits.Outcome.{PairFits, PairsFit, IsFirstOfAnswer}
 use Rattle.plain_asked.specs.Sequences.{IsWitnessOf}
 use Rattle.plain_form.specs.Shown.{IsShowable, IsWitnessAt}
 use Rattle.plain_asked.proofs.Sound.{AreSound, ArePairsIn}

@@ -8,7 +8,7 @@ use Rattle.pair_decide.specs.declared.query.Proof.{Proof}
 use Rattle.outcome.specs.declared.verdict.Verdict.{Verdict}
 use Rattle.swept_queries.proofs.Listed.{zip_left}
 use Rattle.plain_form.specs.Laws.{HaveOneTree, OneTreeHasNoLimit}
-use Rattle.outcome_fits.specs.Outcome.{AnswerFits, PairFits, VerdictFits}
+use Rattle.plain_asked.specs.outcome_fits.Outcome.{AnswerFits, PairFits, VerdictFits}
 
 -- a pair of one tree doesn't meet it
 not_at_limit : (a b : Circuit ℕ) (left right : List ℕ) (cut : Bool) (conflicts p q : ℕ) → HaveOneTree a b left right p q → (proof : Option Proof) → AnswerFits a b left right cut conflicts p q answer.Limit proof → ⊥

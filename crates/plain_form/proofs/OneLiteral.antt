@@ -16,7 +16,7 @@ use Rattle.interface.specs.declared.pairs.SignalPair.{SignalPair}
 use Rattle.sec_setup.specs.declared.setup.Setup.{Setup}
 use Rattle.sec_setup.specs.Cuts.{is_cut}
 use Rattle.sec_setup.specs.Pairs.{places_of}
-use Rattle.outcome_fits.specs.Outcome.{AnswerFits, PairFits}
+use Rattle.plain_asked.specs.outcome_fits.Outcome.{AnswerFits, PairFits}
 use Rattle.plain_asked.specs.declared.functions.Functions.{Functions}
 use Rattle.plain_asked.specs.Asked.{AskedApart, AskedOf, AsksNothing}
 

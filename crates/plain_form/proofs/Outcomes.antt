@@ -22,7 +22,7 @@ use Rattle.obligations.specs.Verdict.{IsVerdictAt}
 use Rattle.plain_asked.specs.declared.functions.Functions.{Functions}
 use Rattle.plain_asked.specs.Asked.{AskedApart, AreAskedApart}
 use Rattle.plain_form.specs.Shown.{CanBeShown, IsShown}
-use Rattle.outcome_fits.specs.Outcome.{VerdictFits}
+use Rattle.plain_asked.specs.outcome_fits.Outcome.{VerdictFits}
 use Rattle.pair_decide.specs.Queries.{IsQuery}
 use Rattle.obligations.specs.Asked as obligations_are
 use Rattle.plain_asked.proofs.Sound.{AreSound, ArePairsIn}

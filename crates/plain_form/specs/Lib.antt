@@ -1,2 +1,3 @@
 pub mod Shown
 pub mod Laws
+pub use Rattle.plain_asked.specs as plain_asked

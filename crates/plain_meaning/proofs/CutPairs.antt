@@ -16,18 +16,18 @@ use Rattle.circuit_theory.proofs.Inputs.{same_name-sound}
 use Rattle.circuit_theory.proofs.Numbers.{slice_get-map}
 use Rattle.circuit_laws.proofs.Onward.{latch_named-found}
 use Rattle.circuit_laws.proofs.Pairs.{pairs_are_listed}
-use Rattle.flat_net.specs.declared.parts.Port.{Port}
-use Rattle.flat_net.specs.View.{NetView, named, circuit_of}
-use Rattle.sec_base.specs.Table.{AreDistinct}
-use Rattle.sec_base.specs.declared.basics.PairAnswer.{PairAnswer}
-use Rattle.sec_base.specs.declared.basics.PairAnswer.TheVariants as answer
-use Rattle.pair_decide.specs.declared.query.Proof.{Proof}
-use Rattle.witness_report.specs.declared.witness.PairName.{PairName}
-use Rattle.witness_report.specs.declared.witness.PairName.TheVariants as pair
-use Rattle.outcome.specs.declared.verdict.PairResult.{PairResult}
+use Rattle.outcome_fits.specs.flat_net.declared.parts.Port.{Port}
+use Rattle.outcome_fits.specs.flat_net.View.{NetView, named, circuit_of}
+use Rattle.outcome_fits.specs.sec_base.Table.{AreDistinct}
+use Rattle.outcome_fits.specs.sec_base.declared.basics.PairAnswer.{PairAnswer}
+use Rattle.outcome_fits.specs.sec_base.declared.basics.PairAnswer.TheVariants as answer
+use Rattle.outcome_fits.specs.pair_decide.declared.query.Proof.{Proof}
+use Rattle.outcome_fits.specs.witness_report.declared.witness.PairName.{PairName}
+use Rattle.outcome_fits.specs.witness_report.declared.witness.PairName.TheVariants as pair
+use Rattle.outcome_fits.specs.outcome.declared.verdict.PairResult.{PairResult}
 use Rattle.outcome_fits.specs.Outcome.{AnswerFits, PairFits, PairsFit, greatest_size}
 use Rattle.outcome_fits.specs.Pairs.{NamedPair, pair_called, named_pairs}
-use Rattle.witness_report.specs.Shown.{ArePlacesOf}
+use Rattle.outcome_fits.specs.witness_report.Shown.{ArePlacesOf}
 
 some_is : {X : Type 0} {x y : X} → Some x ≡ Some y → x ≡ y
 some_is q = cc

@@ -5,8 +5,8 @@ use Rattle.circuit_theory.specs.Agree.{cut}
 use Rattle.circuit_theory.specs.Circuit.{Circuit, Equation, Gate, Latch, Port, Named, Reads}
 use Rattle.circuit_theory.specs.Sizes.{Visits, WeighsAt, IsWeight, IsOver}
 use Rattle.circuit_theory.proofs.Lists.{map-map}
-use Rattle.flat_net.specs.Cut.{IsCutCircuit}
-use Rattle.flat_net.specs.View.{NetView, named, circuit_of}
+use Rattle.outcome_fits.specs.flat_net.Cut.{IsCutCircuit}
+use Rattle.outcome_fits.specs.flat_net.View.{NetView, named, circuit_of}
 use Rattle.outcome_fits.specs.Pairs.{outputs_of}
 use Rattle.outcome_fits.specs.Fitting.{IsLight, IsTooLarge, cut_outputs, IsCutOver, IsCutLight}
 

@@ -6,11 +6,11 @@ use Rattle.std.proofs.lemmas.Option.{none-some}
 use Rattle.circuit_theory.specs.Agree.{place_named, latch_named, second_of_pair}
 use Rattle.circuit_theory.specs.Circuit.{Circuit, Named}
 use Rattle.circuit_theory.proofs.Lists.{Contains-head, Contains-tail, Contains-cases, filter_map-from}
-use Rattle.sec_base.specs.declared.basics.PairAnswer.{PairAnswer}
-use Rattle.sec_base.specs.declared.basics.PairAnswer.TheVariants as answer
-use Rattle.witness_report.specs.declared.witness.PairName.TheVariants as pair
-use Rattle.pair_decide.specs.declared.query.Proof.{Proof}
-use Rattle.outcome.specs.declared.verdict.PairResult.{PairResult}
+use Rattle.outcome_fits.specs.sec_base.declared.basics.PairAnswer.{PairAnswer}
+use Rattle.outcome_fits.specs.sec_base.declared.basics.PairAnswer.TheVariants as answer
+use Rattle.outcome_fits.specs.witness_report.declared.witness.PairName.TheVariants as pair
+use Rattle.outcome_fits.specs.pair_decide.declared.query.Proof.{Proof}
+use Rattle.outcome_fits.specs.outcome.declared.verdict.PairResult.{PairResult}
 use Rattle.outcome_fits.specs.Cuts.{is_cut}
 use Rattle.outcome_fits.specs.Pairs.{NamedPair, pair_called, named_pairs}
 use Rattle.outcome_fits.specs.Limits.{IsUndecided}

@@ -4,3 +4,5 @@ pub mod Fitted
 pub mod Leaves
 pub mod Meaning
 pub mod Sequences
+pub use Rattle.outcome_fits.proofs.interface
+pub use Rattle.outcome_fits.proofs.sec_setup

@@ -16,27 +16,27 @@ use Rattle.circuit_laws.proofs.Onward.{cut_input, cut_run}
 use Rattle.circuit_laws.proofs.TreeDepth.{tree_depth}
 use Rattle.circuit_laws.proofs.CutLaws.{cut_single}
 use Rattle.circuit_laws.proofs.LawProofs.{exposed_functions_agree}
-use Rattle.flat_net.specs.declared.parts.Port.{Port}
-use Rattle.flat_net.specs.View.{NetView, circuit_of}
-use Rattle.flat_net.specs.Sound.{IsSound}
-use Rattle.flat_net.proofs.Nets.{sound_is_net, sound_names}
-use Rattle.sec_base.specs.Table.{AreDistinct}
-use Rattle.sec_base.specs.declared.basics.PairAnswer.{PairAnswer}
-use Rattle.sec_base.specs.declared.basics.PairAnswer.TheVariants as answer
-use Rattle.witness_report.specs.declared.witness.PairName.{PairName}
-use Rattle.witness_report.specs.declared.stimulus.Stimulus.{Stimulus}
-use Rattle.witness_report.specs.declared.witness.Witness.{Witness}
-use Rattle.outcome.specs.declared.verdict.PairResult.{PairResult}
-use Rattle.outcome.specs.declared.verdict.Verdict.{Verdict}
-use Rattle.outcome.specs.declared.verdict.Verdict.TheVariants as verdict
-use Rattle.outcome.specs.declared.verdict.Why.TheVariants as why
-use Rattle.outcome.specs.declared.verdict.Outcome.{Outcome}
+use Rattle.outcome_fits.specs.flat_net.declared.parts.Port.{Port}
+use Rattle.outcome_fits.specs.flat_net.View.{NetView, circuit_of}
+use Rattle.outcome_fits.specs.flat_net.Sound.{IsSound}
+use Rattle.outcome_fits.proofs.flat_net.Nets.{sound_is_net, sound_names}
+use Rattle.outcome_fits.specs.sec_base.Table.{AreDistinct}
+use Rattle.outcome_fits.specs.sec_base.declared.basics.PairAnswer.{PairAnswer}
+use Rattle.outcome_fits.specs.sec_base.declared.basics.PairAnswer.TheVariants as answer
+use Rattle.outcome_fits.specs.witness_report.declared.witness.PairName.{PairName}
+use Rattle.outcome_fits.specs.witness_report.declared.stimulus.Stimulus.{Stimulus}
+use Rattle.outcome_fits.specs.witness_report.declared.witness.Witness.{Witness}
+use Rattle.outcome_fits.specs.outcome.declared.verdict.PairResult.{PairResult}
+use Rattle.outcome_fits.specs.outcome.declared.verdict.Verdict.{Verdict}
+use Rattle.outcome_fits.specs.outcome.declared.verdict.Verdict.TheVariants as verdict
+use Rattle.outcome_fits.specs.outcome.declared.verdict.Why.TheVariants as why
+use Rattle.outcome_fits.specs.outcome.declared.verdict.Outcome.{Outcome}
 use Rattle.outcome_fits.specs.Outcome.{AnswerFits, PairFits, IsFirstOfAnswer, NoneIs, VerdictFits}
 use Rattle.outcome_fits.specs.Pairs.{NamedPair, named_pairs}
 use Rattle.plain_meaning.specs.Equal.{AreEqual}
 use Rattle.outcome_fits.specs.Fitting.{OutcomeFits}
 use Rattle.outcome_fits.specs.Cuts.{columns_of, is_cut}
-use Rattle.witness_report.specs.Shown.{Obeys, ArePlacesOf, MakesDiffer, MakesCutsDiffer, AgreeFrom}
+use Rattle.outcome_fits.specs.witness_report.Shown.{Obeys, ArePlacesOf, MakesDiffer, MakesCutsDiffer, AgreeFrom}
 use Rattle.outcome_fits.proofs.CutNets.{cut_functions, cut_witness, cut_depth, cut_numbers, cut_numbered}
 use Rattle.plain_meaning.proofs.CutPairs.{IsOutputPair, IsNextPair, one_output, pair_listed, listed_is, listed_places, equal_answer, different_answer, result_of, size_is_within}
 use Rattle.plain_meaning.proofs.Sequences.{values_differ, left_value_shows, right_value_shows}

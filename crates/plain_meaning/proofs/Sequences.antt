@@ -14,8 +14,8 @@ use Rattle.circuit_theory.specs.Interface.{AreNumbersOf}
 use Rattle.circuit_theory.proofs.Lists.{Contains-head, Contains-tail, of_at}
 use Rattle.circuit_theory.proofs.Numbers.{slice_get-map, beside_at}
 use Rattle.circuit_laws.proofs.Windows.{row_value-is}
-use Rattle.witness_report.specs.declared.witness.Witness.{Witness}
-use Rattle.witness_report.specs.Shown.{Obeys}
+use Rattle.outcome_fits.specs.witness_report.declared.witness.Witness.{Witness}
+use Rattle.outcome_fits.specs.witness_report.Shown.{Obeys}
 use Rattle.plain_meaning.proofs.Leaves.{run_by_leaves, shared_name}
 
 -- the rows of a sequence, in length

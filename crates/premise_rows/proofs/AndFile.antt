@@ -12,7 +12,7 @@ use Rattle.aiger_records.specs.declared.record.Record.TheVariants.{Input, Output
 use Rattle.aiger_records.specs.Faults.{fault_of}
 use Rattle.aiger_records.specs.Headers.{header_of}
 use Rattle.aiger_records.specs.Records.{record_at}
-use Rattle.aiger_symbols.specs.Symbols.{symbol_of}
+use Rattle.aiger_file.specs.Symbols.{symbol_of}
 use Rattle.aiger_file.specs.declared.file.AigerFile.{AigerFile}
 use Rattle.aiger_file.specs.Files.{fault_of_text}
 use Rattle.aiger_file.specs.Reading.{body_of, spelled}
@@ -26,7 +26,7 @@ use Rattle.sec_files.proofs.Texts.{text_net}
 use Rattle.design_rows.specs.Texts.{off_and}
 use Rattle.premise_rows.specs.AndFile.{and_file, FileIsComparable}
 use Rattle.design_rows.proofs.Spelling.{accepted, net_is_small}
-use Rattle.small_pairs.proofs.Comparing.{comparable_by}
+use Rattle.check_texts.proofs.Comparing.{comparable_by}
 use Rattle.design_rows.proofs.SpelledTexts.{off_and_spells}
 use Rattle.premise_rows.proofs.FileNets.{is_above_fanins, climbing_has_no_loop, FilePassesTests, tested_file_is_small}
 use Rattle.design_rows.specs.Designs as design

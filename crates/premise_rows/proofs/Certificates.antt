@@ -6,7 +6,7 @@ use Rattle.circuit_theory.proofs.Lists.{Contains-head, Contains-map, Contains-ma
 use Rattle.blif_read.specs.declared.design.BlifModel.{BlifModel}
 use Rattle.flat_net.specs.declared.parts.Port.{Port}
 use Rattle.flat_net.specs.View.{NetView, named, circuit_of}
-use Rattle.pair_clauses.specs.Clauses.{IsOutput}
+use Rattle.job_cert.specs.pair_clauses.Clauses.{IsOutput}
 use Rattle.check_texts.specs.Texts.{AreComparable}
 use Rattle.job_cert.specs.Answer.{AreCertifiable}
 use Rattle.design_rows.specs.Designs as design

@@ -25,7 +25,7 @@ use Rattle.design_rows.proofs.Toggle.{toggle_is_small}
 use Rattle.design_rows.specs.Texts.{on_and, off_and, late, early, toggle, hier, two}
 use Rattle.premise_rows.specs.Premises.{AndsAreComparable, RetimedAreComparable, HierarchyIsComparable, CyclicAreComparable, TextsAreAccepted}
 use Rattle.design_rows.proofs.Spelling.{accepted, net_is_small, match, latch_in}
-use Rattle.small_pairs.proofs.Comparing.{comparable}
+use Rattle.check_texts.proofs.Comparing.{comparable}
 use Rattle.design_rows.proofs.SpelledTexts.{on_and_spells, off_and_spells, late_spells, early_spells, hier_spells, two_spells, toggle_spells}
 
 pub ands_are_comparable : AndsAreComparable

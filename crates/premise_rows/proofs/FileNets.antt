@@ -16,14 +16,14 @@ use Rattle.flat_net.proofs.Nets.{some_at, sound_is_net}
 use Rattle.net_alike.specs.Closed.{is_closed}
 use Rattle.net_alike.proofs.Bounding.{closed_bounds}
 use Rattle.net_alike.proofs.Testing.{all_in, is_closed-sound}
-use Rattle.design_tests.specs.Ranked.{IsRanked, is_ranked}
+use Rattle.design_rows.specs.Ranked.{IsRanked, is_ranked}
 use Rattle.design_laws.proofs.CutFlats.{cut_design}
 use Rattle.design_laws.proofs.FlatCycles.{cycle_up}
 use Rattle.design_laws.proofs.FlatParts.{FlatDesign}
 use Rattle.design_laws.proofs.KeptNames.{latch_names_are}
-use Rattle.design_tests.proofs.Ranking.{is_ranked-sound, no_cycle}
+use Rattle.design_rows.proofs.Ranking.{is_ranked-sound, no_cycle}
 use Rattle.design_rows.specs.Small.{Small, IsSmall}
-use Rattle.named_places.proofs.Moving.{single_up}
+use Rattle.sec_files.proofs.Moving.{single_up}
 use Rattle.aiger_file.specs.declared.file.AigerFile.{AigerFile}
 use Rattle.aiger_graph.specs.Circuit.{circuit_of_file}
 use Rattle.aiger_graph.specs.Loops.{HasLoop}

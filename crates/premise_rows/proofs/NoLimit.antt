@@ -31,7 +31,7 @@ use Rattle.premise_rows.specs.RuledOut.{AndsMeetNoLimit}
 use Rattle.design_rows.specs.Texts.{on_and, off_and}
 use Rattle.design_rows.proofs.Spelling.{net_is_small, ports_are}
 use Rattle.design_rows.proofs.SpelledTexts.{on_and_spells, off_and_spells}
-use Rattle.small_pairs.proofs.Latchless.{cut_latchless, visits_now, none_chosen}
+use Rattle.check_texts.proofs.Latchless.{cut_latchless, visits_now, none_chosen}
 
 none_in : {X : Type 0} (x : X) → Contains [] x → ⊥
 none_in x h = let l = h.1 in omega (arith, l)

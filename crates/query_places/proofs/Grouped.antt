@@ -6,7 +6,7 @@ use Rattle.std.proofs.lemmas.Option.{same_Some}
 use Rattle.circuit_theory.specs.Query.{Variable, ShiftBefore}
 use Rattle.reset_laws.specs.Reset.{CycleBefore}
 use Rattle.shift_variables.specs.Variables.{variable_of}
-use Rattle.unfold_places.proofs.Lists.{pairs_at}
+use Rattle.shift_variables.proofs.unfold_places.Lists.{pairs_at}
 use Rattle.query_places.specs.Places.{place_of, AreGrouped}
 use Rattle.query_places.specs.Laws.{VariablesAreGrouped}
 

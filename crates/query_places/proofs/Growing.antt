@@ -5,7 +5,7 @@ use Rattle.std.specs.List.{Contains}
 use Rattle.std.proofs.lemmas.List.Elements.{Contains-append_cases, Contains-append_left, Contains-append_right}
 use Rattle.std.proofs.lemmas.Option.{slice_get_within, slice_get-get_or, same_Some}
 use Rattle.circuit_theory.proofs.Lists.{Contains-head, Contains-tail, only}
-use Rattle.unfold_places.proofs.InputLists.{pairs_push}
+use Rattle.shift_variables.proofs.unfold_places.InputLists.{pairs_push}
 use Rattle.shift_variables.proofs.CycleRows.{in_front}
 use Rattle.query_places.specs.Places.{place_of, AreGrouped, ArePlacesOf, ComesFirst, ComeInTurn}
 

@@ -8,7 +8,7 @@ use Rattle.std.proofs.lemmas.Option.{same_Some, slice_get_within, slice_get-get_
 use Rattle.circuit_theory.specs.Names.{ListBefore}
 use Rattle.circuit_theory.specs.Query.{Variable}
 use Rattle.circuit_theory.proofs.Numbers.{slice_get-map}
-use Rattle.event_theory.specs.Frame.{NodeBefore}
+use Rattle.circuit_theory.specs.Frame.{NodeBefore}
 use Rattle.flat_net.proofs.Growth.{slice_get-append}
 use Rattle.sec_base.specs.Table.{AreDistinct}
 use Rattle.sec_base.proofs.TableLemmas.{slice_get-take, take-push}

@@ -11,13 +11,13 @@ use Rattle.circuit_theory.specs.Tree.{Tree, Trees, IsInputNumber}
 use Rattle.circuit_theory.proofs.Lists.{Contains-head, Contains-map, Contains-map_from, Contains-tail}
 use Rattle.circuit_laws.proofs.JoinedParts.{joined_number, left_is_not_right, left_one, left_part, replace_left, replace_right, right_one, right_part}
 use Rattle.circuit_laws.proofs.Parts.{latch_from, reads_from}
-use Rattle.event_theory.specs.EventFrames.{AreNodeVariables, IsCareTree, IsClassTree, IsEnableTree, IsPairTree}
-use Rattle.event_theory.specs.Frame.{EventSide, EventUnfolds, EventUnfoldsAll}
+use Rattle.circuit_theory.specs.EventFrames.{AreNodeVariables, IsCareTree, IsClassTree, IsEnableTree, IsPairTree}
+use Rattle.circuit_theory.specs.Frame.{EventSide, EventUnfolds, EventUnfoldsAll}
 use Rattle.flat_net.specs.Sound.{IsSound}
 use Rattle.flat_net.specs.View.{circuit_of}
-use Rattle.sec_setup.specs.Setup.{AreColumns}
+use Rattle.plain_meaning.specs.sec_setup.Setup.{AreColumns}
 use Rattle.class_queries.specs.Enables.{both_of}
-use Rattle.event_nodes.specs.View.{EventCircuitView}
+use Rattle.class_queries.specs.event_nodes.View.{EventCircuitView}
 use Rattle.read_inputs.proofs.Places.{IsShown}
 use Rattle.read_inputs.proofs.Reading.{IsReadPlace, read_below}
 

@@ -1,2 +1,3 @@
-pub use Rattle.sec_setup.specs.Setup
-pub use Rattle.sec_setup.specs.Cuts
+pub use Rattle.plain_meaning.specs.sec_setup.Setup
+pub use Rattle.plain_meaning.specs.sec_setup.Cuts
+pub use Rattle.class_queries.specs as class_queries

@@ -14,12 +14,12 @@ use Rattle.pair_runs.specs.declared.differences.OutputPair.{OutputPair}
 use Rattle.pair_runs.specs.Feeds.{AreFound}
 use Rattle.pair_runs.specs.Showing.{ArePlacesOf}
 use Rattle.replay_header.specs.Header.{FitsBoth, opened}
-use Rattle.cut_sides.specs.Pairs.{ArePairsAt}
-use Rattle.cut_sides.specs.Opening.{IsCutSide, AreNamesOf}
+use Rattle.replay.specs.cut_sides.Pairs.{ArePairsAt}
+use Rattle.replay.specs.cut_sides.Opening.{IsCutSide, AreNamesOf}
 use Rattle.replay.specs.Replay.{IsReplay}
 use Rattle.replay.proofs.Names.{opened_latches}
-use Rattle.cut_sides.proofs.PairPlaces.{outputs_there}
-use Rattle.cut_sides.proofs.Uncut.{uncut_side}
+use Rattle.replay.proofs.cut_sides.PairPlaces.{outputs_there}
+use Rattle.replay.proofs.cut_sides.Uncut.{uncut_side}
 use Rattle.replay.proofs.Whole.{is_replay}
 
 pub if_ok : {X E : Type 0} {P Q : X → Type 0} (r : Result X E) → ((x : X) → P x → Q x) → IfOk r P → IfOk r Q

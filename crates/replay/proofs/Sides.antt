@@ -15,7 +15,7 @@ use Rattle.cycle_sim.specs.Runs.{IsRunFrom}
 use Rattle.cycle_sim.specs.View.{IsMark}
 use Rattle.pair_runs.specs.Feeding.{AreColumns, reordered}
 use Rattle.pair_runs.specs.Feeds.{zeros}
-use Rattle.cut_sides.specs.Opening.{IsCutSide}
+use Rattle.replay.specs.cut_sides.Opening.{IsCutSide}
 use Rattle.replay.specs.Replay.{IsReplayRun}
 use Rattle.replay.proofs.EnabledBits.{enabled_marked, marked_enabled}
 use Rattle.replay.proofs.FreeInputs.{is_free, unread, freed, freed_run, output_not_free}

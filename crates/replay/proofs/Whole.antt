@@ -21,14 +21,14 @@ use Rattle.pair_runs.specs.Listing.{differences_from}
 use Rattle.pair_runs.specs.Outputs.{no_port, output_at}
 use Rattle.pair_runs.specs.Showing.{ArePlacesOf, called, names_of}
 use Rattle.replay_header.specs.Header.{FitsBoth, opened}
-use Rattle.cut_sides.specs.Pairs.{ArePairsAt, named_places}
-use Rattle.cut_sides.specs.Opening.{IsCutSide}
+use Rattle.replay.specs.cut_sides.Pairs.{ArePairsAt, named_places}
+use Rattle.replay.specs.cut_sides.Opening.{IsCutSide}
 use Rattle.replay.specs.Replay.{IsReplayRun, IsReplay, places_of}
 use Rattle.replay.proofs.Existing.{run_over}
 use Rattle.replay.proofs.Differ.{IsRight, AreRight, are_differences}
 use Rattle.replay_header.proofs.Names.{opened_in_header}
 use Rattle.replay.proofs.Names.{left_unread, right_unread}
-use Rattle.cut_sides.proofs.PairPlaces.{places_named, outputs_there}
+use Rattle.replay.proofs.cut_sides.PairPlaces.{places_named, outputs_there}
 use Rattle.replay.proofs.Sides.{one_cut, simulated, simulated_run, value_is, mark_is}
 
 module _ (mode : Mode) (a b : NetView) (sound_a : IsSound a) (sound_b : IsSound b) (distinct_a : HasDistinctNames (circuit_of a)) (distinct_b : HasDistinctNames (circuit_of b))

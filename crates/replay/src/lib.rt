@@ -2,6 +2,7 @@
 //! from the stimulus, and what it takes over is compared as the outputs are.
 #![tactic(auto)]
 
+pub mod cut_sides;
 mod differences;
 mod two_circuits;
 

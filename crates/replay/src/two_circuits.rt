@@ -7,8 +7,8 @@ ghost use Rattle.latch_cone.specs.Cones.{MarksEnabled};
 ghost use Rattle.sec_setup.specs.Matching.{InterfacesMatch};
 ghost use Rattle.replay.specs.Replay.{Replays, IsFitting, FindsReplay};
 
+use crate::cut_sides::{cut_side, pairs_of};
 use crate::differences::Replayed;
-use cut_sides::{cut_side, pairs_of};
 use flat_net::Net;
 use name_tables::table_of_names;
 use pair_runs::{Differences, Side, run_pairs};

@@ -11,15 +11,15 @@ use Rattle.obligations.specs.declared.obligation.Obligation.{Obligation}
 use Rattle.obligations.specs.Asked.{queries_of}
 use Rattle.interface.specs.declared.pairs.SignalPair.{SignalPair}
 use Rattle.sec_setup.specs.declared.setup.Setup.{Setup}
-use Rattle.assume_answers.specs.declared.order.VariableOrder.TheVariants as order
-use Rattle.assume_answers.specs.Order.{AreOrdered}
+use Rattle.assume_queries.specs.declared.assume_answers.order.VariableOrder.TheVariants as order
+use Rattle.assume_queries.specs.assume_answers.Order.{AreOrdered}
 use Rattle.assume_queries.proofs.Mapped.{ordered_later}
 use Rattle.reset_functions.specs.declared.bases.Bases.{Bases}
 use Rattle.reset_functions.specs.declared.functions.Functions.{Functions}
 use Rattle.reset_functions.proofs.Growing.{cycles_later}
-use Rattle.reset_asked.specs.Asked.{AskedOf, AreAsked, IsCycleQuery}
-use Rattle.reset_asked.proofs.CycleQueries.{in_order, merge_in_order}
-use Rattle.reset_asked.proofs.PairCycles.{AreSoundFunctions, AsksIn, asks_at}
+use Rattle.reset_form.specs.reset_asked.Asked.{AskedOf, AreAsked, IsCycleQuery}
+use Rattle.reset_form.proofs.reset_asked.CycleQueries.{in_order, merge_in_order}
+use Rattle.reset_form.proofs.reset_asked.PairCycles.{AreSoundFunctions, AsksIn, asks_at}
 use Rattle.reset_asked_under.proofs.Queries.{query_from}
 
 module _ (s : Setup) (b : Bases) (f : Functions) (sound : AreSoundFunctions f) where

@@ -6,3 +6,4 @@ pub mod PairCycles
 pub mod Sequences
 pub mod Verdicts
 pub mod Refused
+pub mod CyclesUnder

@@ -20,15 +20,15 @@ use Rattle.obligations.specs.Decided.{AnswerIs, IsAnswered}
 use Rattle.sec_setup.specs.declared.setup.Setup.{Setup}
 use Rattle.sec_setup.specs.Pairs.{places_of}
 use Rattle.assume_laws.specs.Assume.{Assumption}
-use Rattle.assume_answers.specs.declared.order.VariableOrder.TheVariants as order
-use Rattle.assume_answers.specs.Under.{IsUnder, IsObligationUnder}
+use Rattle.assume_queries.specs.declared.assume_answers.order.VariableOrder.TheVariants as order
+use Rattle.assume_queries.specs.assume_answers.Under.{IsUnder, IsObligationUnder}
 use Rattle.reset_functions.specs.declared.bases.Bases.{Bases}
 use Rattle.reset_functions.specs.declared.functions.Functions.{Functions}
-use Rattle.reset_asked.specs.Asked.{AskedOf}
-use Rattle.reset_asked.specs.Numbers.{numbered}
-use Rattle.reset_asked.proofs.PairCycles.{AreSoundFunctions, AsksIn, asks_at, place_within, query_in}
-use Rattle.reset_under.specs.Laws.{AsksCycle}
-use Rattle.reset_under.proofs.CyclesUnder.{cycles_fit_under}
+use Rattle.reset_form.specs.reset_asked.Asked.{AskedOf}
+use Rattle.reset_form.specs.reset_asked.Numbers.{numbered}
+use Rattle.reset_form.proofs.reset_asked.PairCycles.{AreSoundFunctions, AsksIn, asks_at, place_within, query_in}
+use Rattle.reset_asked_under.specs.Laws.{AsksCycle}
+use Rattle.reset_asked_under.proofs.CyclesUnder.{cycles_fit_under}
 use Rattle.under_fits.specs.ResetVerdict.{AgreeAtUnder, AgreeBeforeUnder, AnswerFitsUnder, PairFitsUnder}
 
 -- the query of a pair in a cycle, without the assumption and under it

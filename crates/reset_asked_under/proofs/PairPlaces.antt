@@ -20,18 +20,18 @@ use Rattle.sec_setup.specs.declared.setup.Setup.{Setup}
 use Rattle.sec_setup.specs.Pairs.{NamedPair, places_of}
 use Rattle.shift_variables.specs.Variables.{variable_of, variables_of}
 use Rattle.query_places.specs.Places.{place_of, ArePlacesOf}
-use Rattle.assume_places.specs.Gathered.{ArePlacesOfAll, IsOverUnder, IsLightUnder}
+use Rattle.assume_queries.specs.assume_places.Gathered.{ArePlacesOfAll, IsOverUnder, IsLightUnder}
 use Rattle.reset_nets.proofs.Starts.{nets_have_starts}
 use Rattle.reset_laws.proofs.ResetExist.{reset_trees_are_one}
 use Rattle.reset_functions.specs.declared.bases.Bases.{Bases}
 use Rattle.reset_functions.specs.declared.functions.Functions.{Functions}
 use Rattle.reset_functions.proofs.OwnPairs.{own_pairs, output_within, one_pair_depth}
 use Rattle.reset_functions.proofs.Parts.{is_order}
-use Rattle.reset_asked.specs.Asked.{AskedOf, AreAsked}
-use Rattle.reset_asked.specs.Numbers.{numbered}
-use Rattle.reset_asked.proofs.CycleQueries.{left_tree, right_tree, are_variables}
-use Rattle.reset_asked.proofs.Sound.{AreSound}
-use Rattle.reset_asked.proofs.PairCycles.{AsksIn, asks_at, place_within, query_in}
+use Rattle.reset_form.specs.reset_asked.Asked.{AskedOf, AreAsked}
+use Rattle.reset_form.specs.reset_asked.Numbers.{numbered}
+use Rattle.reset_form.proofs.reset_asked.CycleQueries.{left_tree, right_tree, are_variables}
+use Rattle.reset_form.proofs.reset_asked.Sound.{AreSound}
+use Rattle.reset_form.proofs.reset_asked.PairCycles.{AsksIn, asks_at, place_within, query_in}
 use Rattle.under_fits.specs.ResetPlaces.{IsReadIn, IsReadUpTo, AreCyclePlaces, ArePairPlaces, ArePlacesOfPairs, IsOverInCycles, IsLightInCycles}
 use Rattle.reset_asked_under.proofs.Queries.{query_from, query_to, split_zip}
 

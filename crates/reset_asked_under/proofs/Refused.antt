@@ -4,7 +4,7 @@ use Rattle.std.proofs.Common.{◌≡◌, ℕ, refl, sym, subst, map, Result, Ok,
 use Rattle.circuit_theory.specs.declared.Side.TheVariants.{A, B}
 use Rattle.sec_setup.specs.declared.setup.Setup.{Setup}
 use Rattle.sec_setup.specs.Pairs.{places_of}
-use Rattle.assume_premise.specs.declared.premise.Premise.{Premise}
+use Rattle.assume_sequences.specs.declared.premise.Premise.{Premise}
 use Rattle.assume_queries.specs.declared.map.UnderError.{UnderError}
 use Rattle.assume_queries.specs.declared.map.UnderError.TheVariants as under
 use Rattle.reset_functions.specs.declared.bases.Bases.{Bases}
@@ -12,7 +12,7 @@ use Rattle.reset_functions.specs.declared.error.ResetError.{ResetError}
 use Rattle.reset_functions.specs.declared.error.ResetError.TheVariants as reset
 use Rattle.reset_functions.specs.Bases.{AreBases}
 use Rattle.reset_functions.specs.Pairs.{IsLeftSide, IsRightSide, IsLight, Unfolds}
-use Rattle.reset_asked.specs.Numbers.{numbered}
+use Rattle.reset_form.specs.reset_asked.Numbers.{numbered}
 use Rattle.reset_asked_under.specs.declared.error.ResetUnderError.{ResetUnderError}
 use Rattle.reset_asked_under.specs.Formed.{FormedUnder}
 use Rattle.under_fits.specs.ResetPlaces.{IsOverInCycles}

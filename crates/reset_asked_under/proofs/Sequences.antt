@@ -31,19 +31,19 @@ use Rattle.shift_variables.proofs.Assignments.{assigned_alike}
 use Rattle.assume_laws.specs.Assume.{Assumption}
 use Rattle.assume_laws.specs.Sequences.{IsResetWitnessUnder}
 use Rattle.assume_laws.proofs.Meeting.{leaf_input}
-use Rattle.assume_answers.specs.declared.order.VariableOrder.TheVariants as order
-use Rattle.assume_answers.specs.Under.{IsObligationUnder, ReadsAtOne}
-use Rattle.assume_answers.specs.Laws.{AsksUnder}
-use Rattle.assume_answers.proofs.Pairs.{answers_under}
+use Rattle.assume_queries.specs.declared.assume_answers.order.VariableOrder.TheVariants as order
+use Rattle.assume_queries.specs.assume_answers.Under.{IsObligationUnder, ReadsAtOne}
+use Rattle.assume_queries.specs.assume_answers.Laws.{AsksUnder}
+use Rattle.assume_queries.proofs.assume_answers.Pairs.{answers_under}
 use Rattle.assume_sequences.specs.Filled.{bit_of}
 use Rattle.reset_functions.specs.declared.bases.Bases.{Bases}
 use Rattle.reset_functions.specs.declared.functions.Functions.{Functions}
 use Rattle.reset_functions.proofs.OwnPairs.{own_pairs}
-use Rattle.reset_asked.specs.Asked.{AskedOf}
-use Rattle.reset_asked.specs.Numbers.{numbered}
-use Rattle.reset_asked.proofs.Columns.{leaf_is}
-use Rattle.reset_asked.proofs.CycleQueries.{left_tree, right_tree, query_in_order, are_variables, left_value, right_value, is_query}
-use Rattle.reset_asked.proofs.Sound.{AreSound}
+use Rattle.reset_form.specs.reset_asked.Asked.{AskedOf}
+use Rattle.reset_form.specs.reset_asked.Numbers.{numbered}
+use Rattle.reset_form.proofs.reset_asked.Columns.{leaf_is}
+use Rattle.reset_form.proofs.reset_asked.CycleQueries.{left_tree, right_tree, query_in_order, are_variables, left_value, right_value, is_query}
+use Rattle.reset_form.proofs.reset_asked.Sound.{AreSound}
 use Rattle.reset_asked_under.specs.Asked.{AreAskedUnder}
 use Rattle.reset_asked_under.specs.Shown.{IsShowableUnder, IsFilledWitness, IsWitnessAtUnder}
 use Rattle.under_fits.specs.ResetVerdict.{IsFirstDifferenceUnder}

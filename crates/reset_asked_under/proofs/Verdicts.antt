@@ -22,15 +22,15 @@ use Rattle.interface.specs.declared.pairs.SignalPair.{SignalPair}
 use Rattle.sec_setup.specs.declared.setup.Setup.{Setup}
 use Rattle.sec_setup.specs.Pairs.{places_of}
 use Rattle.assume_laws.specs.Assume.{Assumption}
-use Rattle.assume_answers.specs.declared.order.VariableOrder.TheVariants as order
-use Rattle.assume_answers.specs.Under.{IsObligationUnder}
+use Rattle.assume_queries.specs.declared.assume_answers.order.VariableOrder.TheVariants as order
+use Rattle.assume_queries.specs.assume_answers.Under.{IsObligationUnder}
 use Rattle.assume_sequences.specs.Filled.{bit_of}
 use Rattle.reset_functions.specs.declared.bases.Bases.{Bases}
 use Rattle.reset_functions.specs.declared.functions.Functions.{Functions}
-use Rattle.reset_asked.specs.declared.findings.ResetVerdict.{ResetVerdict}
-use Rattle.reset_asked.specs.Asked.{AskedOf, AreAsked}
-use Rattle.reset_asked.specs.Numbers.{numbered}
-use Rattle.reset_asked.proofs.Sound.{AreSound}
+use Rattle.reset_form.specs.declared.reset_asked.findings.ResetVerdict.{ResetVerdict}
+use Rattle.reset_form.specs.reset_asked.Asked.{AskedOf, AreAsked}
+use Rattle.reset_form.specs.reset_asked.Numbers.{numbered}
+use Rattle.reset_form.proofs.reset_asked.Sound.{AreSound}
 use Rattle.reset_asked_under.specs.Asked.{AreAskedUnder}
 use Rattle.reset_asked_under.specs.Shown.{CanBeShownUnder, IsShownUnder}
 use Rattle.under_fits.specs.ResetVerdict.{PairFitsUnder}

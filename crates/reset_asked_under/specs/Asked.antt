@@ -6,12 +6,12 @@ use Rattle.obligations.specs.declared.obligation.Obligation.{Obligation}
 use Rattle.sec_setup.specs.declared.setup.Setup.{Setup}
 use Rattle.assume_laws.specs.Assume.{Assumption}
 use Rattle.assume_laws.specs.Sequences.{IsMeetingRow}
-use Rattle.assume_answers.specs.declared.order.VariableOrder.TheVariants as order
-use Rattle.assume_answers.specs.Under.{IsObligationUnder}
+use Rattle.assume_queries.specs.declared.assume_answers.order.VariableOrder.TheVariants as order
+use Rattle.assume_queries.specs.assume_answers.Under.{IsObligationUnder}
 use Rattle.assume_sequences.specs.Filled.{bit_of}
 use Rattle.reset_functions.specs.declared.bases.Bases.{Bases}
 use Rattle.reset_functions.specs.declared.functions.Functions.{Functions}
-use Rattle.reset_asked.specs.Asked.{AreAsked}
+use Rattle.reset_form.specs.reset_asked.Asked.{AreAsked}
 
 -- Of each pair of the setup what is asked without the assumption, and the same under it, which reads columns alone and is met by the row.
 pub record AreAskedUnder (s : Setup) (b : Bases) (f : Functions) (asked under : List Obligation) (meeting : List Bool) (c : Assumption) : Type 0 where

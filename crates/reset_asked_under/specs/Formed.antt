@@ -5,14 +5,14 @@ use Rattle.flat_net.specs.View.{NetView}
 use Rattle.sec_setup.specs.declared.setup.Setup.{Setup}
 use Rattle.sec_setup.specs.Pairs.{places_of}
 use Rattle.assume_shape.specs.Shape.{assumption_of}
-use Rattle.assume_premise.specs.declared.premise.Premise.{Premise}
-use Rattle.assume_premise.specs.Assumed.{IsAssumedBy}
+use Rattle.assume_sequences.specs.declared.premise.Premise.{Premise}
+use Rattle.assume_sequences.specs.Assumed.{IsAssumedBy}
 use Rattle.assume_sequences.specs.Filled.{bit_of}
 use Rattle.reset_functions.specs.declared.bases.Bases.{Bases}
 use Rattle.reset_functions.specs.Bases.{AreBases}
 use Rattle.reset_functions.specs.Pairs.{IsLeftSide, IsRightSide, IsLight, IsTooLarge}
-use Rattle.reset_asked.specs.declared.findings.ResetFindings.{ResetFindings}
-use Rattle.reset_asked.specs.Numbers.{numbered}
+use Rattle.reset_form.specs.declared.reset_asked.findings.ResetFindings.{ResetFindings}
+use Rattle.reset_form.specs.reset_asked.Numbers.{numbered}
 use Rattle.reset_asked_under.specs.declared.error.ResetUnderError.{ResetUnderError}
 use Rattle.reset_asked_under.specs.declared.error.ResetUnderError.TheVariants as refused
 use Rattle.under_fits.specs.ResetPlaces.{IsOverInCycles, IsLightInCycles}

@@ -3,5 +3,6 @@ pub mod Verdict
 pub mod Formed
 pub mod Asked
 pub mod Shown
-pub use Rattle.reset_asked.specs.declared.findings.ResetFindings
-pub use Rattle.reset_asked.specs.declared.findings.ResetVerdict
+pub use Rattle.reset_form.specs.declared.reset_asked.findings.ResetFindings
+pub use Rattle.reset_form.specs.declared.reset_asked.findings.ResetVerdict
+pub mod Laws

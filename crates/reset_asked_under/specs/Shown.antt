@@ -22,9 +22,9 @@ use Rattle.assume_laws.specs.Sequences.{filled}
 use Rattle.assume_sequences.specs.Filled.{bit_of}
 use Rattle.reset_functions.specs.declared.bases.Bases.{Bases}
 use Rattle.reset_functions.specs.declared.functions.Functions.{Functions}
-use Rattle.reset_asked.specs.declared.findings.ResetVerdict.{ResetVerdict}
-use Rattle.reset_asked.specs.declared.findings.ResetVerdict.TheVariants as verdict
-use Rattle.reset_asked.specs.Sequences.{IsQueryAt}
+use Rattle.reset_form.specs.declared.reset_asked.findings.ResetVerdict.{ResetVerdict}
+use Rattle.reset_form.specs.declared.reset_asked.findings.ResetVerdict.TheVariants as verdict
+use Rattle.reset_form.specs.reset_asked.Sequences.{IsQueryAt}
 
 -- the obligation and the query of a difference, and the query that is asked without the assumption
 pub record IsDifferenceAt (asked under : List Obligation) (d : Difference) (o u : Obligation) (q r : Query) : Type 0 where

@@ -5,10 +5,10 @@ use Rattle.sec_base.specs.declared.basics.PairAnswer.TheVariants as answer
 use Rattle.outcome.specs.declared.verdict.PairResult.{PairResult}
 use Rattle.sec_setup.specs.Pairs.{NamedPair}
 use Rattle.assume_laws.specs.Assume.{Assumption}
-use Rattle.outcome_fits.specs.ResetOutcome.{Numbered, IsFirstLimit, greatest_size}
-use Rattle.reset_asked.specs.declared.findings.ResetFindings.{ResetFindings}
-use Rattle.reset_asked.specs.declared.findings.ResetVerdict.{ResetVerdict}
-use Rattle.reset_asked.specs.declared.findings.ResetVerdict.TheVariants as verdict
+use Rattle.reset_form.specs.outcome_fits.ResetOutcome.{Numbered, IsFirstLimit, greatest_size}
+use Rattle.reset_form.specs.declared.reset_asked.findings.ResetFindings.{ResetFindings}
+use Rattle.reset_form.specs.declared.reset_asked.findings.ResetVerdict.{ResetVerdict}
+use Rattle.reset_form.specs.declared.reset_asked.findings.ResetVerdict.TheVariants as verdict
 use Rattle.under_fits.specs.ResetVerdict.{PairFitsUnder, IsFirstDifferenceUnder}
 
 -- the first of different and limit that some pair has, and equal where every pair is equal

@@ -2,23 +2,23 @@
 
 ghost use Rattle.std.specs.Prelude.{◌≡◌, ◌≤◌, length, map, IfOk};
 ghost use Rattle.assume_laws.specs.Assume.{Assumption};
-ghost use Rattle.assume_premise.specs.Assumed.{CanBeAssumed};
+ghost use Rattle.assume_sequences.specs.Assumed.{CanBeAssumed};
 ghost use Rattle.assume_sequences.specs.Filled.{bit_of};
 ghost use Rattle.sec_setup.specs.Pairs.{places_of};
 ghost use Rattle.sec_setup.specs.Setup.{IsSetup};
 ghost use Rattle.reset_functions.specs.Bases.{AreBases};
-ghost use Rattle.reset_asked.specs.Numbers.{numbered};
+ghost use Rattle.reset_form.specs.reset_asked.Numbers.{numbered};
 ghost use Rattle.reset_asked_under.specs.Asked.{AreAskedUnder, CanBeDecided};
 ghost use Rattle.reset_asked_under.specs.Formed.{FormedUnder};
 ghost use Rattle.reset_asked_under.specs.Verdict.{FindingsFitUnder};
 
 use crate::error::ResetUnderError;
 use crate::shown::show_under;
-use assume_answers::VariableOrder;
-use assume_premise::Premise;
 use assume_queries::asked_under;
+use assume_queries::assume_answers::VariableOrder;
+use assume_sequences::Premise;
 use obligations::{Decided, Obligation, decide_all, greatest_size, verdict_at};
-use reset_asked::{ResetFindings, ask};
+use reset_form::reset_asked::{ResetFindings, ask};
 use reset_functions::{Bases, Functions, bases_of, unfold_pairs};
 use sec_base::{Bits, MAX_CONFLICTS, NoMemory};
 use sec_setup::Setup;

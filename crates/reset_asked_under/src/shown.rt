@@ -11,7 +11,7 @@ use cycle_variables::power_up;
 use obligations::{Difference, Obligation, VerdictAt, copy_name};
 use outcome::{PairResult, ResetWitness, Stimulus, Witness};
 use pair_decide::Query;
-use reset_asked::{ResetVerdict, sequence_of};
+use reset_form::reset_asked::{ResetVerdict, sequence_of};
 use reset_functions::{Bases, Functions};
 use sec_base::{Bits, NoMemory, PlaceTable, Words};
 use sec_setup::Setup;

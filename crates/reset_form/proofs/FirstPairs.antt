@@ -16,7 +16,7 @@ use Rattle.unfold_places.specs.declared.signal_function.Unfolded.{Unfolded}
 use Rattle.pair_decide.specs.declared.query.Query.{Query}
 use Rattle.pair_decide.specs.Queries.{IsQuery}
 use Rattle.pair_decide.specs.Answers.{IsDifference}
-use Rattle.swept_queries.proofs.Listed.{zip_left}
+use Rattle.outcome_fits.proofs.swept_queries.Listed.{zip_left}
 use Rattle.outcome.specs.declared.verdict.PairResult.{PairResult}
 use Rattle.obligations.specs.declared.obligation.Obligation.{Obligation}
 use Rattle.obligations.specs.declared.obligation.Difference.{Difference}
@@ -29,15 +29,15 @@ use Rattle.witness_report.specs.declared.witness.PairName.{PairName}
 use Rattle.reset_functions.specs.declared.bases.Bases.{Bases}
 use Rattle.reset_functions.specs.declared.functions.Functions.{Functions}
 use Rattle.outcome.specs.declared.verdict.ResetWitness.{ResetWitness}
-use Rattle.reset_asked.specs.Asked.{AskedOf, AreAsked}
-use Rattle.reset_asked.specs.Numbers.{numbered}
+use Rattle.reset_form.specs.reset_asked.Asked.{AskedOf, AreAsked}
+use Rattle.reset_form.specs.reset_asked.Numbers.{numbered}
 use Rattle.outcome_fits.specs.ResetOutcome.{PairFits, IsFirstDifference}
 use Rattle.reset_form.specs.Shown.{IsShowable, IsWitnessOf, IsWitnessAt}
 pub use Rattle.reset_functions.proofs.OwnPairs.{ArePairsIn, own_pairs}
-use Rattle.reset_asked.proofs.Columns.{leaf_is}
-use Rattle.reset_asked.proofs.CycleQueries.{left_tree, right_tree, query_in_order, are_variables, each_variable, is_query, left_at_bits, right_at_bits, trees_differ, variables_long, least_is}
-use Rattle.reset_asked.proofs.Sound.{AreSound}
-use Rattle.reset_asked.proofs.PairCycles.{AsksIn, asks_at, agree_before, place_within, pair_fits, own_queries}
+use Rattle.reset_form.proofs.reset_asked.Columns.{leaf_is}
+use Rattle.reset_form.proofs.reset_asked.CycleQueries.{left_tree, right_tree, query_in_order, are_variables, each_variable, is_query, left_at_bits, right_at_bits, trees_differ, variables_long, least_is}
+use Rattle.reset_form.proofs.reset_asked.Sound.{AreSound}
+use Rattle.reset_form.proofs.reset_asked.PairCycles.{AsksIn, asks_at, agree_before, place_within, pair_fits, own_queries}
 
 module _ (s : Setup) (b : Bases) (f : Functions) (h : AreSound s b f) where
   -- each result is that of its pair

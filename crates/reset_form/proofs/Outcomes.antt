@@ -15,17 +15,17 @@ use Rattle.obligations.specs.Verdict.{IsVerdictAt}
 use Rattle.interface.specs.declared.pairs.SignalPair.{SignalPair}
 use Rattle.sec_setup.specs.declared.setup.Setup.{Setup}
 use Rattle.sec_setup.specs.Pairs.{places_of}
-use Rattle.swept_queries.proofs.Listed.{zip_left}
+use Rattle.outcome_fits.proofs.swept_queries.Listed.{zip_left}
 use Rattle.circuit_theory.proofs.Lists.{zip_right}
 use Rattle.reset_functions.specs.declared.bases.Bases.{Bases}
 use Rattle.reset_functions.specs.declared.functions.Functions.{Functions}
-use Rattle.reset_asked.specs.declared.findings.ResetVerdict.{ResetVerdict}
-use Rattle.reset_asked.specs.Asked.{AskedOf, AreAsked}
-use Rattle.reset_asked.specs.Numbers.{numbered}
+use Rattle.reset_form.specs.declared.reset_asked.findings.ResetVerdict.{ResetVerdict}
+use Rattle.reset_form.specs.reset_asked.Asked.{AskedOf, AreAsked}
+use Rattle.reset_form.specs.reset_asked.Numbers.{numbered}
 use Rattle.reset_form.specs.Findings.{VerdictFits}
 use Rattle.reset_form.specs.Shown.{CanBeShown, IsShown}
 use Rattle.reset_form.proofs.FirstPairs.{ArePairsIn, first_pair, showable}
-use Rattle.reset_asked.proofs.Sound.{AreSound}
+use Rattle.reset_form.proofs.reset_asked.Sound.{AreSound}
 
 -- the only answer left
 answer_left : (x : PairAnswer) → x ≢ answer.Different → x ≢ answer.Limit → x ≢ answer.NotShown → x ≡ answer.Equal

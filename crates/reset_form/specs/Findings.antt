@@ -5,9 +5,9 @@ use Rattle.sec_base.specs.declared.basics.PairAnswer.TheVariants as answer
 use Rattle.outcome.specs.declared.verdict.PairResult.{PairResult}
 use Rattle.sec_setup.specs.Pairs.{NamedPair}
 use Rattle.outcome_fits.specs.ResetOutcome.{Numbered, PairFits, IsFirstDifference, IsFirstLimit, greatest_size}
-use Rattle.reset_asked.specs.declared.findings.ResetFindings.{ResetFindings}
-use Rattle.reset_asked.specs.declared.findings.ResetVerdict.{ResetVerdict}
-use Rattle.reset_asked.specs.declared.findings.ResetVerdict.TheVariants as verdict
+use Rattle.reset_form.specs.declared.reset_asked.findings.ResetFindings.{ResetFindings}
+use Rattle.reset_form.specs.declared.reset_asked.findings.ResetVerdict.{ResetVerdict}
+use Rattle.reset_form.specs.declared.reset_asked.findings.ResetVerdict.TheVariants as verdict
 
 -- the first of different and limit that some pair has, and equal where every pair is equal
 abbrev pub VerdictFits : Numbered → List (NamedPair ℕ ℕ) → List PairResult → ResetVerdict → Type 0

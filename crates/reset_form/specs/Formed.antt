@@ -4,11 +4,11 @@ use Rattle.circuit_theory.specs.declared.Side.TheVariants.{A, B}
 use Rattle.sec_setup.specs.declared.setup.Setup.{Setup}
 use Rattle.sec_setup.specs.Pairs.{places_of}
 use Rattle.reset_functions.specs.declared.bases.Bases.{Bases}
-use Rattle.reset_asked.specs.declared.findings.ResetFindings.{ResetFindings}
+use Rattle.reset_form.specs.declared.reset_asked.findings.ResetFindings.{ResetFindings}
 use Rattle.reset_functions.specs.declared.error.ResetError.{ResetError}
 use Rattle.reset_functions.specs.declared.error.ResetError.TheVariants as refused
 use Rattle.reset_functions.specs.Bases.{AreBases}
-use Rattle.reset_asked.specs.Numbers.{numbered}
+use Rattle.reset_form.specs.reset_asked.Numbers.{numbered}
 use Rattle.reset_form.specs.Findings.{FindingsFit}
 use Rattle.reset_functions.specs.Pairs.{IsLeftSide, IsRightSide, IsLight, IsTooLarge}
 

@@ -1,5 +1,5 @@
 pub mod Findings
 pub mod Shown
 pub mod Formed
-pub use Rattle.reset_asked.specs.declared.findings.ResetFindings
-pub use Rattle.reset_asked.specs.declared.findings.ResetVerdict
+pub mod reset_asked
+pub use Rattle.outcome_fits.specs as outcome_fits

@@ -15,9 +15,9 @@ use Rattle.cycle_variables.specs.Cycles.{AreInCycles}
 use Rattle.reset_functions.specs.declared.bases.Bases.{Bases}
 use Rattle.reset_functions.specs.declared.functions.Functions.{Functions}
 use Rattle.outcome.specs.declared.verdict.ResetWitness.{ResetWitness}
-use Rattle.reset_asked.specs.Sequences.{IsQueryAt, IsSequenceOf}
-use Rattle.reset_asked.specs.declared.findings.ResetVerdict.{ResetVerdict}
-use Rattle.reset_asked.specs.declared.findings.ResetVerdict.TheVariants as verdict
+use Rattle.reset_form.specs.reset_asked.Sequences.{IsQueryAt, IsSequenceOf}
+use Rattle.reset_form.specs.declared.reset_asked.findings.ResetVerdict.{ResetVerdict}
+use Rattle.reset_form.specs.declared.reset_asked.findings.ResetVerdict.TheVariants as verdict
 
 -- its bits give a sequence and a power-up
 pub record IsShowable (f : Functions) (asked : List Obligation) (d : Difference) : Type 0 where

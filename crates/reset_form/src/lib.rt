@@ -3,6 +3,7 @@
 #![tactic(auto)]
 
 mod comparison;
+pub mod reset_asked;
 mod shown;
 mod witness;
 

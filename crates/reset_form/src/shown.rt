@@ -4,10 +4,10 @@ ghost use Rattle.std.specs.Prelude.{◌≡◌, ◌≤◌, IfOk};
 ghost use Rattle.sec_base.specs.Table.{AreDistinct};
 ghost use Rattle.reset_form.specs.Shown.{CanBeShown, IsShowable, IsShown, IsWitnessAt};
 
+use crate::reset_asked::ResetVerdict;
 use crate::witness::witness_of;
 use obligations::{Difference, Obligation, VerdictAt, copy_name};
 use outcome::{PairResult, ResetWitness};
-use reset_asked::ResetVerdict;
 use reset_functions::{Bases, Functions};
 use sec_base::NoMemory;
 use sec_setup::Setup;

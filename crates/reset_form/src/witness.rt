@@ -5,10 +5,10 @@ ghost use Rattle.sec_base.specs.Table.{AreDistinct};
 ghost use Rattle.cycle_variables.specs.Cycles.{AreInCycles};
 ghost use Rattle.reset_form.specs.Shown.{IsWitnessOf};
 
+use crate::reset_asked::sequence_of;
 use cycle_variables::power_up;
 use outcome::{PairName, ResetWitness};
 use pair_decide::Query;
-use reset_asked::sequence_of;
 use reset_functions::{Bases, Functions};
 use sec_base::{Bits, NoMemory};
 use sec_setup::Setup;

@@ -9,3 +9,4 @@ mod functions;
 pub use bases::{Bases, bases_of};
 pub use error::ResetError;
 pub use functions::{Cycles, Functions, Part, unfold_pairs};
+pub use shift_variables::SameBy;

@@ -2,3 +2,5 @@ pub mod Listed
 pub mod Classes
 pub mod Assigned
 pub mod Led
+pub use Rattle.aig.proofs as aig
+pub use Rattle.lane_eval.proofs as lane_eval

@@ -3,3 +3,5 @@ pub mod Inputs
 pub mod Leads
 pub mod Rows
 pub mod Splits
+pub use Rattle.aig.specs as aig
+pub use Rattle.lane_eval.specs as lane_eval

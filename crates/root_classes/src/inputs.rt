@@ -3,8 +3,7 @@
 ghost use Rattle.std.specs.Prelude.{◌≡◌, IfOk};
 ghost use Rattle.root_classes.specs.Inputs.{inputs_of};
 
-use aig::{Aig, Node};
-use sec_base::{Ids, NoMemory};
+use aig::{Aig, Ids, NoMemory, Node};
 use std::alloc::Global;
 
 /// The variables that have a node, in the order of the nodes.

@@ -5,8 +5,7 @@ ghost use Rattle.root_classes.specs.Leads.{AreLeads};
 
 use crate::inputs::variables;
 use crate::narrow::narrow_leads;
-use aig::{Aig, Lit};
-use sec_base::NoMemory;
+use aig::{Aig, Lit, NoMemory};
 use std::alloc::Global;
 
 /// The most variables of a graph whose roots are compared under all assignments.

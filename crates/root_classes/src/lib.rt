@@ -6,5 +6,7 @@ mod leads;
 mod narrow;
 mod partition;
 
+pub use aig::{Aig, Bits, Ids, Lit, MAX_CONFLICTS, NoMemory, Node};
 pub use inputs::variables;
+pub use lane_eval::{SignatureTable, signatures, table_differs};
 pub use leads::leads_of;

@@ -11,8 +11,7 @@ ghost use Rattle.root_classes.specs.Rows.{row_of, HasBits};
 ghost use Rattle.root_classes.specs.Leads.{AreLeads};
 
 use crate::partition::refine;
-use aig::{Aig, Lit, Node, node_bits};
-use sec_base::NoMemory;
+use aig::{Aig, Lit, NoMemory, Node, node_bits};
 use std::alloc::Global;
 
 /// For each root the first one that agrees with it.

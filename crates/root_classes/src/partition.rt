@@ -4,8 +4,8 @@ ghost use Rattle.std.specs.Prelude.{◌≡◌, ℕ, ◌+◌, ◌*◌, ◌^◌, �
 ghost use Rattle.indexmap.specs.IndexMap.{get};
 ghost use Rattle.root_classes.specs.Splits.{AgreeSoFar, IsSplit, IsHead, key_at};
 
+use aig::NoMemory;
 use indexmap::IndexMap;
-use sec_base::NoMemory;
 use std::alloc::Global;
 
 /// Splits the classes by one more row of bits. For each place stands the first place of its class.

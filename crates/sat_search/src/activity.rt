@@ -4,8 +4,7 @@ ghost use Rattle.std.specs.Prelude.{◌-◌, ◌<◌, ◌≤◌, ◌^◌, length
 ghost use Rattle.sat_search.specs.Answers.{IsChoice, IsFreeOne, IsFirstFree};
 
 use crate::lesson::Learnt;
-use clause_watch::Trail;
-use proof_check::{Literal, NoMemory};
+use clause_watch::{Literal, NoMemory, Trail};
 use std::alloc::Global;
 
 /// How much more a conflict counts than the one before it.

@@ -5,8 +5,7 @@
 ghost use Rattle.std.specs.Prelude.{◌<◌, ◌≤◌, length, IfSome};
 
 use crate::analysis::first_decision;
-use clause_watch::{ClauseDb, Trail};
-use proof_check::{NoMemory, Resolver};
+use clause_watch::{ClauseDb, NoMemory, Resolver, Trail};
 use std::alloc::Global;
 
 /// How many reasons are followed one after the other.

@@ -14,8 +14,7 @@ ghost use Rattle.sat_search.specs.declared.search_state.Turn.TheVariants as turn
 use crate::activity::Activity;
 use crate::analysis::{analyse, first_decision};
 use crate::lesson::{Learnt, Lesson};
-use clause_watch::{Trail, Watches};
-use proof_check::{Bits, Clauses, Log, MAX_CONFLICTS, NoMemory, Resolver, Seq};
+use clause_watch::{Bits, Clauses, Log, MAX_CONFLICTS, NoMemory, Resolver, Seq, Trail, Watches};
 use std::alloc::Global;
 use std::mem;
 

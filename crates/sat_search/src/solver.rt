@@ -12,8 +12,7 @@ use crate::analysis::analyse;
 use crate::lesson::Lesson;
 use crate::outcome::Found;
 use crate::search_state::{SearchState, Turn};
-use clause_watch::{ClauseDb, Trail};
-use proof_check::{Clauses, MAX_CONFLICTS, NoMemory, Resolver, Seq};
+use clause_watch::{ClauseDb, Clauses, MAX_CONFLICTS, NoMemory, Resolver, Seq, Trail};
 use std::alloc::Global;
 
 /// Looks for values that meet all clauses, for at most so many conflicts. `Model` has values that

@@ -7,3 +7,5 @@ pub use Rattle.base_shelves.specs.MemShelf
 pub use Rattle.base_shelves.specs.MemSink
 pub use Rattle.base_shelves.specs.declared.whole_file.FetchError
 pub use Rattle.base_shelves.specs.NoMemory
+pub use Rattle.base_tables.specs.unique_table
+pub use Rattle.circuit_theory.specs as circuit_theory

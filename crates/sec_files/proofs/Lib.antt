@@ -3,3 +3,5 @@ pub mod OneNamed
 pub mod Portless
 pub mod StimulusTexts
 pub mod Texts
+pub mod Moving
+pub mod NamedNets

@@ -7,10 +7,10 @@ use Rattle.blif_read.specs.declared.error.ReadError.TheVariants as read_error
 use Rattle.blif_read.specs.Reading.{first_fault, spelled, Reads}
 use Rattle.flat_net.specs.Comparable.{IsComparable}
 use Rattle.flat_net.specs.View.{NetView}
-use Rattle.elaborate.specs.declared.error.FlatError.{FlatError}
-use Rattle.elaborate.specs.declared.error.FlatError.TheVariants as fault
+use Rattle.flatten.specs.elaborate.declared.error.FlatError.{FlatError}
+use Rattle.flatten.specs.elaborate.declared.error.FlatError.TheVariants as fault
 use Rattle.flatten.specs.DesignFaults.{DesignFault, IsSoundDesign, IsFlatOf}
-use Rattle.aiger_file.specs.declared.file.AigerFile.{AigerFile}
+use Rattle.aiger_read.specs.aiger_file.declared.file.AigerFile.{AigerFile}
 use Rattle.aiger_read.specs.Loops.{HasLoop}
 use Rattle.aiger_records.specs.declared.error.AigerError.{AigerError}
 use Rattle.aiger_records.specs.declared.error.AigerError.TheVariants as aiger_error

@@ -6,10 +6,10 @@ use Rattle.blif_read.specs.Design.{Place, circuit_of_design, IsClock}
 use Rattle.blif_read.specs.Reading.{first_fault, spelled}
 use Rattle.flat_net.specs.View.{NetView}
 use Rattle.flatten.specs.DesignFaults.{IsSoundDesign, IsFlatOf}
-use Rattle.named_places.specs.Named.{named_circuit}
-use Rattle.aiger_file.specs.declared.file.AigerFile.{AigerFile}
-use Rattle.aiger_file.specs.Files.{fault_of_text}
-use Rattle.aiger_file.specs.Reading.{spelled as spelled_file}
+use Rattle.sec_files.specs.Named.{named_circuit}
+use Rattle.aiger_read.specs.aiger_file.declared.file.AigerFile.{AigerFile}
+use Rattle.aiger_read.specs.aiger_file.Files.{fault_of_text}
+use Rattle.aiger_read.specs.aiger_file.Reading.{spelled as spelled_file}
 use Rattle.aiger_read.specs.Circuit.{circuit_of_file}
 use Rattle.aiger_read.specs.Loops.{HasLoop}
 use Rattle.aiger_read.specs.Nets.{IsNetOf}

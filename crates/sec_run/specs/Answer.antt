@@ -11,14 +11,14 @@ use Rattle.job_base.specs.declared.status.Status.{Status}
 use Rattle.job_base.specs.declared.status.StatusName.{StatusName}
 use Rattle.job_base.specs.declared.status.StatusName.TheVariants as status
 use Rattle.job_base.specs.Lines.{finding_text}
-use Rattle.job_files.specs.Reading.{Held}
+use Rattle.job_cert.specs.job_files.Reading.{Held}
 use Rattle.job_circuit.specs.Reports.{IsGraphFound, IsSimFound}
 use Rattle.job_replay.specs.Replays.{IsReplayFound}
 use Rattle.job_check.specs.Found.{IsFoundOf}
-use Rattle.job_gen.specs.Found.{IsGenFound}
+use Rattle.job_gen.specs.gen_meaning.Found.{IsGenFound}
 use Rattle.job_lrat.specs.Found.{IsLratFound}
 use Rattle.job_cert.specs.Found.{IsCertFound}
-use Rattle.job_induct.specs.Found.{IsInductFound}
+use Rattle.job_induct.specs.induct_meaning.Found.{IsInductFound}
 
 -- what is true of a job where this is found
 abbrev pub IsFoundOfJob : Held → Task → Finding → Type 0

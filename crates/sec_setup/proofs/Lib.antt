@@ -4,3 +4,5 @@ pub mod SameEquations
 pub mod Setups
 pub mod ToldCycles
 pub mod Uncut
+pub mod ReadInputs
+pub use Rattle.interface.proofs.flat_net

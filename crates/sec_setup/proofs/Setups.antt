@@ -2,11 +2,11 @@
 use Rattle.std.proofs.Common.{◌≡◌, ℕ, ◌+◌, ◌<◌, ◌≤◌, ◌^◌, List, ◌++◌, map, length, sym, ◌∙◌, ap, subst, arith, length-append}
 use Rattle.std.specs.List.{Contains}
 use Rattle.circuit_theory.specs.Interface.{shared_inputs}
-use Rattle.sec_base.specs.Table.{AreDistinct}
-use Rattle.sec_base.specs.declared.basics.Orders.{Orders}
-use Rattle.flat_net.specs.Comparable.{IsComparable}
-use Rattle.flat_net.specs.Sound.{IsSound}
-use Rattle.flat_net.specs.View.{NetView, circuit_of, ports_of}
+use Rattle.interface.specs.sec_base.Table.{AreDistinct}
+use Rattle.interface.specs.sec_base.declared.basics.Orders.{Orders}
+use Rattle.interface.specs.flat_net.Comparable.{IsComparable}
+use Rattle.interface.specs.flat_net.Sound.{IsSound}
+use Rattle.interface.specs.flat_net.View.{NetView, circuit_of, ports_of}
 use Rattle.cut_points.specs.declared.exposed.Exposure.{Exposure}
 use Rattle.interface.specs.declared.pairs.SignalPair.{SignalPair}
 use Rattle.interface.specs.Numbered.{AreNumbered}

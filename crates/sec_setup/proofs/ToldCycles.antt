@@ -9,12 +9,12 @@ use Rattle.circuit_theory.specs.declared.Mode.TheVariants.{Plain}
 use Rattle.circuit_theory.specs.Circuit.{Circuit, IsLatch}
 use Rattle.circuit_theory.specs.Depth.{LatchReads, LatchPath, IsCycle, BeginsWithLeast, HasCycle, after_in_round}
 use Rattle.circuit_theory.specs.Run.{NoneEnabled}
-use Rattle.flat_net.specs.declared.parts.LatchAt.{LatchAt}
-use Rattle.flat_net.specs.View.{NetView, circuit_of}
-use Rattle.flat_net.specs.Cut.{no_latch, latch_at, exposed_names}
-use Rattle.flat_net.proofs.Nets.{latch_stands, some_at}
-use Rattle.cut_points.specs.Graph.{GraphView, IsGraphIn, SkippedBy, marked_names, signals_at}
-use Rattle.cut_points.proofs.Skipping.{mode_cycle, cycle_in_graph}
+use Rattle.interface.specs.flat_net.declared.parts.LatchAt.{LatchAt}
+use Rattle.interface.specs.flat_net.View.{NetView, circuit_of}
+use Rattle.interface.specs.flat_net.Cut.{no_latch, latch_at, exposed_names}
+use Rattle.interface.proofs.flat_net.Nets.{latch_stands, some_at}
+use Rattle.cut_points.specs.expose_pick.Graph.{GraphView, IsGraphIn, SkippedBy, marked_names, signals_at}
+use Rattle.cut_points.proofs.expose_pick.Skipping.{mode_cycle, cycle_in_graph}
 use Rattle.sec_setup.specs.Cycles.{IsAcyclic}
 use Rattle.cut_points.specs.Exposed.{IsToldCycle}
 use Rattle.interface.proofs.Shared.{some_is}

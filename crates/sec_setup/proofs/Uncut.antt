@@ -6,10 +6,10 @@ use Rattle.std.proofs.lemmas.List.Elements.{All-nil}
 use Rattle.circuit_theory.specs.declared.Mode.TheVariants.{Plain}
 use Rattle.circuit_theory.specs.Agree.{cut, is_kept, IsMinimalCut}
 use Rattle.circuit_theory.specs.Circuit.{Circuit, Equation, Gate, Latch, Port as port_equation}
-use Rattle.sec_base.specs.Table.{AreDistinct}
-use Rattle.flat_net.specs.declared.parts.LatchAt.{LatchAt}
-use Rattle.flat_net.specs.Cut.{latch_at, exposed_names, stays, IsCut, IsCutCircuit}
-use Rattle.flat_net.specs.View.{NetView, circuit_of}
+use Rattle.interface.specs.sec_base.Table.{AreDistinct}
+use Rattle.interface.specs.flat_net.declared.parts.LatchAt.{LatchAt}
+use Rattle.interface.specs.flat_net.Cut.{latch_at, exposed_names, stays, IsCut, IsCutCircuit}
+use Rattle.interface.specs.flat_net.View.{NetView, circuit_of}
 use Rattle.cut_points.specs.declared.exposed.Exposure.{Exposure}
 use Rattle.sec_setup.specs.Cycles.{IsAcyclic}
 use Rattle.interface.specs.Pairing.{AreNamedAt}

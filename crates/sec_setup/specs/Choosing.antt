@@ -2,7 +2,7 @@
 use Rattle.std.specs.Prelude.{◌≡◌, ℕ, Bool, true, false, List, [], Result, Ok, Err}
 use Rattle.circuit_theory.specs.declared.Mode.TheVariants.{Plain}
 use Rattle.circuit_theory.specs.declared.Side.TheVariants.{A, B}
-use Rattle.flat_net.specs.View.{NetView, circuit_of}
+use Rattle.interface.specs.flat_net.View.{NetView, circuit_of}
 use Rattle.cut_points.specs.Common.{common_names}
 use Rattle.cut_points.specs.Exposed.{IsFreeWithout, IsToldCycle}
 use Rattle.cut_points.specs.declared.exposed.Exposure.{Exposure}

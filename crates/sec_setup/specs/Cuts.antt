@@ -4,8 +4,8 @@ use Rattle.std.specs.List.{AllPairs}
 use Rattle.circuit_theory.specs.declared.Mode.TheVariants.{Plain}
 use Rattle.circuit_theory.specs.Agree.{IsMinimalCut}
 use Rattle.circuit_theory.specs.Interface.{shared_inputs}
-use Rattle.flat_net.specs.Cut.{IsCut, IsCutCircuit, exposed_names}
-use Rattle.flat_net.specs.View.{NetView, circuit_of, ports_of}
+use Rattle.interface.specs.flat_net.Cut.{IsCut, IsCutCircuit, exposed_names}
+use Rattle.interface.specs.flat_net.View.{NetView, circuit_of, ports_of}
 use Rattle.cut_points.specs.declared.exposed.Exposure.{Exposure}
 use Rattle.interface.specs.Pairing.{AreNamedAt}
 

@@ -3,7 +3,7 @@ use Rattle.std.specs.Prelude.{Bool, true, false, List, [], ℕ, Option, Some, No
 use Rattle.circuit_theory.specs.declared.Mode.TheVariants.{Plain}
 use Rattle.circuit_theory.specs.Depth.{HasCycle}
 use Rattle.circuit_theory.specs.Run.{NoneEnabled}
-use Rattle.flat_net.specs.View.{NetView, circuit_of}
+use Rattle.interface.specs.flat_net.View.{NetView, circuit_of}
 use Rattle.cut_points.specs.Common.{common_names}
 use Rattle.cut_points.specs.Exposed.{IsFreeWithout, IsToldCycle}
 

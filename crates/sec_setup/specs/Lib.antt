@@ -7,3 +7,7 @@ pub mod Setup
 pub use Rattle.cut_points.specs.Common
 pub use Rattle.cut_points.specs.Exposed
 pub use Rattle.cut_points.specs.declared.exposed.Exposure
+pub use Rattle.interface.specs as interface
+pub use Rattle.interface.specs.flat_net
+pub use Rattle.interface.specs.sec_base
+pub use Rattle.interface.specs.witness_report

@@ -3,9 +3,9 @@ use Rattle.std.specs.Prelude.{◌≡◌, ℕ, List, map, length}
 use Rattle.std.specs.List.{Contains}
 use Rattle.circuit_theory.specs.declared.Mode.TheVariants.{Plain}
 use Rattle.circuit_theory.specs.Interface.{shared_inputs, AreNumbersOf}
-use Rattle.sec_base.specs.Table.{AreDistinct}
-use Rattle.flat_net.specs.View.{NetView, circuit_of, ports_of}
-use Rattle.cut_points.specs.Graph.{IsGraphIn}
+use Rattle.interface.specs.sec_base.Table.{AreDistinct}
+use Rattle.interface.specs.flat_net.View.{NetView, circuit_of, ports_of}
+use Rattle.cut_points.specs.expose_pick.Graph.{IsGraphIn}
 use Rattle.sec_setup.specs.declared.nets.Nets.{Nets}
 use Rattle.sec_setup.specs.declared.setup.Setup.{Setup}
 use Rattle.sec_setup.specs.Cuts.{AreCutAt, columns_of}

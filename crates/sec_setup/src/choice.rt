@@ -8,7 +8,7 @@ use crate::cycles::find_cycle;
 use crate::error::SetupError;
 use crate::nets::Nets;
 use cut_points::{ExposeError, Exposure, expose};
-use sec_base::{Ids, Side, Words};
+use interface::{Ids, Side, Words};
 use std::alloc::Global;
 
 /// The latches that are cut open: a minimal cut where latches may be cut open, and else none, so that a cycle is refused, A's

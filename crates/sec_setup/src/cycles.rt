@@ -2,14 +2,13 @@
 
 ghost use Rattle.std.specs.Prelude.{◌≡◌, ◌<◌, length, false, All, IfOk};
 ghost use Rattle.circuit_theory.specs.declared.Mode.TheVariants.{Plain};
-ghost use Rattle.flat_net.specs.Cut.{exposed_names};
-ghost use Rattle.cut_points.specs.Graph.{IsGraphIn};
+ghost use Rattle.interface.specs.flat_net.Cut.{exposed_names};
+ghost use Rattle.cut_points.specs.expose_pick.Graph.{IsGraphIn};
 ghost use Rattle.sec_setup.specs.Cycles.{IsCycleOf};
 
 use cut_points::LatchGraph;
-use flat_net::Net;
-use latch_cone::none_enabled;
-use sec_base::{Bits, Ids, NoMemory, Words, unset_bits};
+use interface::{Bits, Ids, Net, NoMemory, Words, unset_bits};
+use latch_graph::none_enabled;
 use std::alloc::Global;
 
 /// One bit for each latch of the net, none set.

@@ -1,6 +1,6 @@
 //! Why two circuits can't be compared.
 
-use sec_base::{NoMemory, Side, Word, Words};
+use interface::{NoMemory, Side, Word, Words};
 
 /// Why two circuits aren't set up for a comparison.
 #[derive(Drop)]

@@ -2,14 +2,14 @@
 
 ghost use Rattle.std.specs.Prelude.{◌≡◌, None, IfOk, IfErr, OnOk};
 ghost use Rattle.circuit_theory.specs.Interface.{first_mismatch, inputs_beside, shared_inputs, AreOrders};
-ghost use Rattle.flat_net.specs.Comparable.{IsComparable};
-ghost use Rattle.flat_net.specs.View.{ports_of};
+ghost use Rattle.interface.specs.flat_net.Comparable.{IsComparable};
+ghost use Rattle.interface.specs.flat_net.View.{ports_of};
 ghost use Rattle.sec_setup.specs.Matching.{InterfaceFails, RefusesName};
 
 use crate::error::SetupError;
-use flat_net::Net;
-use interface::{first_mismatch, inputs_beside, orders_of, output_names};
-use sec_base::{NameTable, Orders, Seq};
+use interface::{
+    NameTable, Net, Orders, Seq, first_mismatch, inputs_beside, orders_of, output_names,
+};
 use std::alloc::Global;
 
 /// The numbers of the inputs of both circuits: a shared input has its place among the shared inputs in A's order, and an

@@ -1,7 +1,7 @@
 //! Two nets beside one another.
 
 use cut_points::LatchGraph;
-use flat_net::Net;
+use interface::Net;
 
 /// Two nets, A's and B's, and the latch graph of each.
 #[derive(Clone, Copy)]

@@ -2,9 +2,9 @@
 
 ghost use Rattle.std.specs.Prelude.{◌≡◌, ◌++◌, ◌+◌, ◌<◌, ◌^◌, length, IfOk};
 ghost use Rattle.circuit_theory.specs.Interface.{shared_inputs};
-ghost use Rattle.sec_base.specs.Table.{AreDistinct};
-ghost use Rattle.flat_net.specs.Comparable.{IsComparable};
-ghost use Rattle.flat_net.specs.View.{ports_of};
+ghost use Rattle.interface.specs.sec_base.Table.{AreDistinct};
+ghost use Rattle.interface.specs.flat_net.Comparable.{IsComparable};
+ghost use Rattle.interface.specs.flat_net.View.{ports_of};
 ghost use Rattle.interface.specs.Numbered.{AreNumbered};
 ghost use Rattle.sec_setup.specs.Cuts.{is_cut, AreCutBy, AreCutOpen};
 ghost use Rattle.sec_setup.specs.Matching.{InterfacesMatch};
@@ -12,9 +12,7 @@ ghost use Rattle.sec_setup.specs.Setup.{AreGraphed, IsSetupOf};
 
 use crate::nets::Nets;
 use cut_points::{Exposure, LatchGraph};
-use flat_net::Net;
-use interface::{SignalPairs, orders_of, pairs_of};
-use sec_base::{NameTable, NoMemory, Orders, Words};
+use interface::{NameTable, Net, NoMemory, Orders, SignalPairs, Words, orders_of, pairs_of};
 use std::alloc::Global;
 
 /// What two circuits are compared by: the nets in which the exposed latches are cut out, which are the circuits' own nets where none

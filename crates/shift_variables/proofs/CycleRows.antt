@@ -10,10 +10,10 @@ use Rattle.circuit_theory.specs.Query.{Variable, ShiftBefore, assigned, same_shi
 use Rattle.circuit_theory.specs.Sequence.{sequence_value, sequence_row, sequence_rows_from}
 use Rattle.circuit_theory.proofs.Lists.{All-from_each, Contains-map_from, at_of, of_at, length-map}
 use Rattle.circuit_theory.proofs.Sums.{AllPairs-head, AllPairs-tail}
-use Rattle.sec_base.proofs.TableLemmas.{slice_get-take}
+use Rattle.unfold_places.proofs.sec_base.TableLemmas.{slice_get-take}
 use Rattle.latch_graph.proofs.Trails.{slice_get-drop}
 use Rattle.unfold_places.proofs.Lists.{pairs_at}
-use Rattle.flat_net.proofs.Places.{All-at}
+use Rattle.unfold_places.proofs.flat_net.Places.{All-at}
 use Rattle.pair_decide.specs.Queries.{assigned_to}
 use Rattle.shift_variables.specs.Variables.{variable_of, variables_of, GoesBefore}
 use Rattle.shift_variables.specs.Sequences.{bits_at, IsSequence, EndsShift}

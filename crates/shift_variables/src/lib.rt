@@ -6,4 +6,5 @@ mod merge;
 mod rows;
 
 pub use merge::merge_variables;
+pub use pair_decide::SameBy;
 pub use rows::{bits_at, end_of_shift, rows_of};

@@ -3,9 +3,9 @@
 ghost use Rattle.std.specs.Prelude.{◌≡◌, ◌<◌, length, IfOk};
 ghost use Rattle.shift_variables.specs.Variables.{AreInOrder, IsMergeOf, Stands};
 
-use sec_base::{Ids, NoMemory, PlaceTable, Seq};
 use std::alloc::Global;
 use std::cmp::Ordering;
+use unfold_places::{Ids, NoMemory, PlaceTable, Seq};
 
 /// The variables that one of both lists has, those of a greater shift first, and of one shift by the inputs' numbers.
 /// Each list is in this order.

@@ -7,8 +7,8 @@ ghost use Rattle.pair_decide.specs.Queries.{assigned_to};
 ghost use Rattle.shift_variables.specs.Variables.{variable_of};
 ghost use Rattle.shift_variables.specs.Sequences.{bits_at, IsSequence, EndsShift};
 
-use sec_base::{BitRows, Bits, NoMemory, PlaceTable, Seq};
 use std::alloc::Global;
+use unfold_places::{BitRows, Bits, NoMemory, PlaceTable, Seq};
 
 /// So many bits: those with these numbers are given, and all others 0.
 pub fn bits_at(

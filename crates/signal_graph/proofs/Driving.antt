@@ -2,18 +2,18 @@
 use Rattle.std.proofs.Common.{◌≡◌, ◌≢◌, ℕ, zero, suc, ◌<◌, Bool, true, false, List, [], ◌∷◌, length, map, Option, Some, None, refl, sym, ◌∙◌, ap, subst, arith, inr}
 use Rattle.std.specs.Prelude.{slice_get}
 use Rattle.std.specs.List.{Contains}
-use Rattle.flat_net.specs.declared.signals.Signal.{Signal}
-use Rattle.flat_net.specs.declared.parts.Gate.{Gate}
-use Rattle.flat_net.specs.declared.parts.LatchAt.{LatchAt}
-use Rattle.flat_net.specs.declared.parts.Driver.{Driver}
-use Rattle.flat_net.specs.declared.parts.Driver.TheVariants as driver
-use Rattle.flat_net.specs.View.{NetView, circuit_of, cover_of}
-use Rattle.flat_net.specs.Sound.{Drives}
-use Rattle.flat_net.proofs.Places.{one_at, All-at}
-use Rattle.flat_net.proofs.Nets.{some_at, gate_stands, latch_stands, input_stands, sound_is_net}
-use Rattle.circuit_theory.specs.Circuit.{Gate as gate_equation, IsInput, IsLatch, IsSource, Reaches}
-use Rattle.circuit_theory.specs.Net.{IsNet}
-use Rattle.circuit_theory.proofs.Lists.{at_of, of_at}
+use Rattle.inner_cone.specs.flat_net.declared.signals.Signal.{Signal}
+use Rattle.inner_cone.specs.flat_net.declared.parts.Gate.{Gate}
+use Rattle.inner_cone.specs.flat_net.declared.parts.LatchAt.{LatchAt}
+use Rattle.inner_cone.specs.flat_net.declared.parts.Driver.{Driver}
+use Rattle.inner_cone.specs.flat_net.declared.parts.Driver.TheVariants as driver
+use Rattle.inner_cone.specs.flat_net.View.{NetView, circuit_of, cover_of}
+use Rattle.inner_cone.specs.flat_net.Sound.{Drives}
+use Rattle.inner_cone.proofs.flat_net.Places.{one_at, All-at}
+use Rattle.inner_cone.proofs.flat_net.Nets.{some_at, gate_stands, latch_stands, input_stands, sound_is_net}
+use Rattle.inner_cone.specs.circuit_theory.Circuit.{Gate as gate_equation, IsInput, IsLatch, IsSource, Reaches}
+use Rattle.inner_cone.specs.circuit_theory.Net.{IsNet}
+use Rattle.inner_cone.proofs.circuit_theory.Lists.{at_of, of_at}
 use Rattle.inner_cone.proofs.Walks.{reach_on}
 use Rattle.signal_graph.specs.declared.nodes.Node.{Node}
 use Rattle.std.proofs.lemmas.Option.{slice_get_within}

@@ -1,3 +1,4 @@
 pub mod Lists
 pub mod Driving
 pub mod Reading
+pub use Rattle.inner_cone.proofs.flat_net

@@ -2,15 +2,15 @@
 use Rattle.std.specs.Prelude.{◌≡◌, ℕ, Bool, true, false, List, [], ◌∷◌, length, map, slice_get, slice_index_or, Option, Some, None, ◌^◌, ◌<◌}
 use Rattle.inner_cone.specs.Cones.{IsMarkedBy, MarksEnabled}
 use Rattle.inner_cone.specs.Sides.{AreSides}
-use Rattle.flat_net.specs.declared.signals.Signal.{Signal}
-use Rattle.flat_net.specs.declared.parts.Gate.{Gate}
-use Rattle.flat_net.specs.declared.parts.LatchAt.{LatchAt}
-use Rattle.flat_net.specs.declared.parts.Driver.{Driver}
-use Rattle.flat_net.specs.declared.parts.Driver.TheVariants as driver
-use Rattle.flat_net.specs.View.{NetView}
-use Rattle.circuit_theory.specs.declared.Mode.{Mode}
-use Rattle.flat_net.specs.Sound.{IsSound}
-use Rattle.flat_net.specs.Cut.{no_latch}
+use Rattle.inner_cone.specs.flat_net.declared.signals.Signal.{Signal}
+use Rattle.inner_cone.specs.flat_net.declared.parts.Gate.{Gate}
+use Rattle.inner_cone.specs.flat_net.declared.parts.LatchAt.{LatchAt}
+use Rattle.inner_cone.specs.flat_net.declared.parts.Driver.{Driver}
+use Rattle.inner_cone.specs.flat_net.declared.parts.Driver.TheVariants as driver
+use Rattle.inner_cone.specs.flat_net.View.{NetView}
+use Rattle.inner_cone.specs.circuit_theory.declared.Mode.{Mode}
+use Rattle.inner_cone.specs.flat_net.Sound.{IsSound}
+use Rattle.inner_cone.specs.flat_net.Cut.{no_latch}
 use Rattle.signal_graph.specs.declared.nodes.Node.{Node}
 
 pub record GraphView : Type 0 where

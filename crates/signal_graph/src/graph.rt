@@ -1,12 +1,12 @@
 //! The readings of all signals of a net.
 
 ghost use Rattle.std.specs.Prelude.{◌≡◌, length, IfOk};
-ghost use Rattle.circuit_theory.specs.declared.Mode.{Mode};
+ghost use Rattle.inner_cone.specs.circuit_theory.declared.Mode.{Mode};
 ghost use Rattle.inner_cone.specs.Cones.{MarksEnabled};
 ghost use Rattle.signal_graph.specs.Graph.{AreNodes, IsGraphOf, IsGraphIn};
 
 use crate::nodes::{Node, copy_latches, nodes_of};
-use flat_net::{Bits, LatchAt, Net, NoMemory};
+use inner_cone::{Bits, LatchAt, Net, NoMemory};
 use std::alloc::Global;
 use std::marker::Model;
 

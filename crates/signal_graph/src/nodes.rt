@@ -3,13 +3,14 @@
 ghost use Rattle.std.specs.Prelude.{◌≡◌, ◌<◌, ℕ, [], ◌∷◌, length, slice_get, Some, IfOk};
 ghost use Rattle.inner_cone.specs.Inner.{AreRanked};
 ghost use Rattle.inner_cone.specs.Sides.{AreSides};
-ghost use Rattle.flat_net.specs.declared.parts.Driver.{Driver};
-ghost use Rattle.flat_net.specs.declared.parts.LatchAt.{LatchAt};
+ghost use Rattle.inner_cone.specs.flat_net.declared.parts.Driver.{Driver};
+ghost use Rattle.inner_cone.specs.flat_net.declared.parts.LatchAt.{LatchAt};
 ghost use Rattle.signal_graph.specs.declared.nodes.Node.{Node};
 ghost use Rattle.signal_graph.specs.Graph.{IsNodeOf, AreTaken};
 
-use flat_net::{Driver, Duplicate, Ids, LatchAt, Net, NoMemory, Signal, Signals};
-use inner_cone::{ranks, sides_of};
+use inner_cone::{
+    Driver, Duplicate, Ids, LatchAt, Net, NoMemory, Signal, Signals, ranks, sides_of,
+};
 use std::alloc::Global;
 
 /// What a signal reads: a gate its fan-ins in the same cycle, a latch one signal in the cycle before,

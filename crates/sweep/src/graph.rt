@@ -6,9 +6,8 @@ ghost use Rattle.sweep.specs.Grown.{IsGrown};
 ghost use Rattle.sweep.specs.Swept.{IsSwept, AreLiteralsFor};
 
 use crate::growth::{Growth, Role, grown, literal_for};
-use aig::{Aig, Lit, Lits};
+use aig::{Aig, Lit, Lits, NoMemory};
 use node_agreement::{Effort, leads_of, variables};
-use sec_base::NoMemory;
 use std::alloc::Global;
 
 /// The most variables of a graph in which no nodes are tried.

@@ -10,9 +10,8 @@ ghost use Rattle.sweep.specs.declared.growth.Step.TheVariants as step;
 ghost use Rattle.node_agreement.specs.Standing.{StandsFor, AreStandIns, AreChosen, plainly, literal_in};
 ghost use Rattle.sweep.specs.Grown.{IsGrown};
 
-use aig::{Aig, Lit, Node};
+use aig::{Aig, Lit, NoMemory, Node};
 use node_agreement::{Budget, Effort, Hints, Proved, prove, signed, zero};
-use sec_base::NoMemory;
 use std::alloc::Global;
 
 /// A graph that grows, the literals in it for the first nodes of another graph, and for each of its own nodes a kept literal of

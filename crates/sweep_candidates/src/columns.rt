@@ -1,8 +1,7 @@
 //! Values of all nodes under 64 assignments that are near one that told nodes apart. No clause sees it.
 
 use crate::models::Model;
-use aig::{Lit, Node};
-use sec_base::NoMemory;
+use aig::{Lit, NoMemory, Node};
 use std::alloc::Global;
 
 /// The values of the variables and of the nodes under 64 assignments.

@@ -1,6 +1,6 @@
 //! The first nodes by the keys of their values. No clause sees it.
 
-use sec_base::NoMemory;
+use aig::NoMemory;
 use std::alloc::Global;
 
 /// An open table of nodes, each by its key. A place has a node's number plus one, or 0.

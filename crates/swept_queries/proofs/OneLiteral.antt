@@ -2,14 +2,14 @@
 use Rattle.std.proofs.Common.{◌≡◌, ◌∙◌, ℕ, ◌/◌, Bool, List, [], ◌∷◌, slice_get, refl, sym, ap, subst, inl, inr}
 use Rattle.std.specs.Prelude.{◌⊎◌, Contains}
 use Rattle.circuit_theory.proofs.Lists.{Contains-head, Contains-tail, Contains-cases}
-use Rattle.aig.specs.declared.node.Node.{Node}
-use Rattle.aig.specs.Cone.{IsReached}
-use Rattle.aig.specs.Graph.{IsGraph}
-use Rattle.aig.specs.Values.{value}
-use Rattle.pair_decide.specs.declared.query.Query.{Query}
-use Rattle.pair_decide.specs.declared.query.SameBy.TheVariants as same
-use Rattle.pair_decide.specs.declared.query.Decision.TheVariants as decision
-use Rattle.pair_decide.specs.Queries.{IsQuery}
+use Rattle.sweep.specs.aig.declared.node.Node.{Node}
+use Rattle.sweep.specs.aig.Cone.{IsReached}
+use Rattle.sweep.specs.aig.Graph.{IsGraph}
+use Rattle.sweep.specs.aig.Values.{value}
+use Rattle.sweep.specs.pair_decide.declared.query.Query.{Query}
+use Rattle.sweep.specs.pair_decide.declared.query.SameBy.TheVariants as same
+use Rattle.sweep.specs.pair_decide.declared.query.Decision.TheVariants as decision
+use Rattle.sweep.specs.pair_decide.Queries.{IsQuery}
 use Rattle.swept_queries.specs.declared.sides.Sides.{Sides}
 use Rattle.swept_queries.specs.InStead.{sides_of, StandFor, DecidesInStead}
 

@@ -1,16 +1,16 @@
 -- Queries that are decided in the stead of others.
 use Rattle.std.specs.Prelude.{◌≡◌, ◌⊎◌, ℕ, ◌*◌, ◌<◌, Bool, List, [], ◌∷◌, length, slice_get, Option, Some, None}
 use Rattle.std.specs.List.{Contains}
-use Rattle.aig.specs.declared.node.Node.{Node}
-use Rattle.aig.specs.declared.node.Node.TheVariants.{Input}
-use Rattle.aig.specs.Graph.{IsGraph, vars_of}
-use Rattle.aig.specs.Cone.{IsReached}
-use Rattle.aig.specs.Values.{value}
-use Rattle.pair_decide.specs.declared.query.Query.{Query}
-use Rattle.pair_decide.specs.declared.query.Decision.{Decision}
-use Rattle.pair_decide.specs.Queries as asks
-use Rattle.pair_decide.specs.Queries.{IsQuery}
-use Rattle.pair_decide.specs.Answers.{Decides}
+use Rattle.sweep.specs.aig.declared.node.Node.{Node}
+use Rattle.sweep.specs.aig.declared.node.Node.TheVariants.{Input}
+use Rattle.sweep.specs.aig.Graph.{IsGraph, vars_of}
+use Rattle.sweep.specs.aig.Cone.{IsReached}
+use Rattle.sweep.specs.aig.Values.{value}
+use Rattle.sweep.specs.pair_decide.declared.query.Query.{Query}
+use Rattle.sweep.specs.pair_decide.declared.query.Decision.{Decision}
+use Rattle.sweep.specs.pair_decide.Queries as asks
+use Rattle.sweep.specs.pair_decide.Queries.{IsQuery}
+use Rattle.sweep.specs.pair_decide.Answers.{Decides}
 use Rattle.swept_queries.specs.declared.sides.Sides.{Sides}
 use Rattle.swept_queries.specs.declared.sides.Known.{Known}
 use Rattle.swept_queries.specs.declared.sides.Known.TheVariants.{Nothing, Swept, Apart}

@@ -1,10 +1,10 @@
 //! Sweeping the queries, and deciding them.
 
 ghost use Rattle.std.specs.Prelude.{◌≡◌, ◌*◌, ◌<◌, ◌≤◌, List, length, All, IfOk};
-ghost use Rattle.aig.specs.declared.node.Node.{Node};
-ghost use Rattle.aig.specs.Graph.{vars_of};
-ghost use Rattle.pair_decide.specs.declared.query.Query.{Query};
-ghost use Rattle.pair_decide.specs.Queries.{IsQuery};
+ghost use Rattle.sweep.specs.aig.declared.node.Node.{Node};
+ghost use Rattle.sweep.specs.aig.Graph.{vars_of};
+ghost use Rattle.sweep.specs.pair_decide.declared.query.Query.{Query};
+ghost use Rattle.sweep.specs.pair_decide.Queries.{IsQuery};
 ghost use Rattle.sweep.specs.Swept.{IsSwept};
 ghost use Rattle.swept_queries.specs.Lanes.{DiffersAt};
 ghost use Rattle.swept_queries.specs.InStead.{MayBeWithin, AreKnownWithin, IsMovedTo, AreSwept, IsKnown, IsTrueOf, StandFor, DecidesInStead, sides_of};
@@ -15,11 +15,11 @@ use crate::roots::{known_after, roots_of};
 use crate::sides::{Known, Sides};
 use crate::targets::{is_any_left, kept_lits, tried_lits};
 use crate::words::{bits_at, seeded_words};
-use aig::{Aig, Lits};
-use pair_decide::{Decision, Query, SameBy, decide};
-use sec_base::{MAX_CONFLICTS, NoMemory};
 use std::alloc::Global;
-use sweep::{Effort, Swept, sweep_across};
+use sweep::{
+    Aig, Decision, Effort, Lits, MAX_CONFLICTS, NoMemory, Query, SameBy, Swept, decide,
+    sweep_across,
+};
 
 /// The most variables of a query for which the least difference is wanted.
 const NARROW: usize = 16;

@@ -6,18 +6,18 @@ use Rattle.circuit_theory.specs.Circuit.{Circuit}
 use Rattle.blif_read.specs.Design.{Place, top}
 use Rattle.blif_read.specs.Reading.{spelled}
 use Rattle.flat_net.specs.View.{NetView, circuit_of}
-use Rattle.flatten.specs.DesignFaults.{IsClocked}
+use Rattle.design_laws.specs.flatten.DesignFaults.{IsClocked}
 use Rattle.design_laws.proofs.FlatOnward.{minimal_up, onward_up}
 use Rattle.design_laws.proofs.FlatParts.{FlatDesign}
 use Rattle.design_laws.proofs.Kept.{flat_design}
 use Rattle.witness_report.specs.declared.witness.Witness.{Witness}
 use Rattle.witness_report.specs.Shown.{MakesDiffer, MakesCutsDiffer, AgreeFrom}
-use Rattle.named_places.specs.Named.{named_circuit}
-use Rattle.named_places.proofs.NamedNets.{index_in, named_flat, named_single}
+use Rattle.sec_files.specs.Named.{named_circuit}
+use Rattle.sec_files.proofs.NamedNets.{index_in, named_flat, named_single}
 use Rattle.aiger_file.specs.declared.file.AigerFile.{AigerFile}
-use Rattle.aiger_graph.specs.Circuit.{circuit_of_file}
-use Rattle.aiger_read.specs.Nets.{IsNetOf}
-use Rattle.aiger_read.specs.SignalNames.{signal_name}
+use Rattle.sec_files.specs.aiger_graph.Circuit.{circuit_of_file}
+use Rattle.sec_files.specs.aiger_read.Nets.{IsNetOf}
+use Rattle.sec_files.specs.aiger_read.SignalNames.{signal_name}
 use Rattle.sec_files.specs.Formats.{Format, Blif, Aiger, format_of, circuit_of_aiger, circuit_in, IsNetIn}
 use Rattle.sec_files.specs.Loading.{Loads, circuit_of_text}
 use Rattle.sec_files.proofs.Portless.{file_portless}

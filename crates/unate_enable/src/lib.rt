@@ -17,5 +17,6 @@ mod ways;
 
 pub use facts::{NetFacts, facts_of};
 pub use laws::cones_are_one;
+pub use pair_decide::Proof;
 pub use recovery::{RecoverError, Recovery, recover, recover_by};
 pub use support::{LatchCone, cone};

@@ -7,12 +7,12 @@ use Rattle.flat_net.specs.View.{NetView, circuit_of, ports_of}
 use Rattle.witness_report.specs.declared.witness.Witness.{Witness}
 use Rattle.witness_report.specs.Shown.{MakesDiffer, MakesCutsDiffer}
 use Rattle.sec_base.specs.declared.settings.Settings.{Settings}
-use Rattle.outcome.specs.declared.verdict.Verdict.TheVariants as verdict
-use Rattle.outcome.specs.declared.verdict.Why.TheVariants as why
-use Rattle.outcome.specs.declared.verdict.Outcome.{Outcome}
-use Rattle.outcome.specs.declared.verdict.ResetWitness.{ResetWitness}
-use Rattle.sec_setup.specs.Matching.{InterfacesMatch}
-use Rattle.sec_setup.specs.Pairs.{named_pairs}
+use Rattle.under_fits.specs.outcome.declared.verdict.Verdict.TheVariants as verdict
+use Rattle.under_fits.specs.outcome.declared.verdict.Why.TheVariants as why
+use Rattle.under_fits.specs.outcome.declared.verdict.Outcome.{Outcome}
+use Rattle.under_fits.specs.outcome.declared.verdict.ResetWitness.{ResetWitness}
+use Rattle.assume_taken.specs.sec_setup.Matching.{InterfacesMatch}
+use Rattle.assume_taken.specs.sec_setup.Pairs.{named_pairs}
 use Rattle.compare_base.specs.Fitting.{IsLight}
 use Rattle.under_fits.specs.Places.{IsLightAtPairs}
 use Rattle.under_fits.specs.ResetPlaces.{IsLightInCycles}

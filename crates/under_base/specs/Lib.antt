@@ -14,3 +14,8 @@ pub mod Sizes
 pub mod Compared
 pub mod Laws
 pub mod Refusals
+pub use Rattle.assume_taken.specs as assume_taken
+pub use Rattle.assume_taken.specs.assume_sequences
+pub use Rattle.assume_taken.specs.assume_shape
+pub use Rattle.compare_base.specs as compare_base
+pub use Rattle.compare_base.specs.outcome_fits

@@ -4,9 +4,9 @@ use Rattle.circuit_theory.specs.Agree.{cut}
 use Rattle.circuit_theory.specs.Interface.{AreNumbersOf}
 use Rattle.flat_net.specs.View.{NetView, circuit_of, ports_of}
 use Rattle.sec_base.specs.declared.settings.Settings.{Settings}
-use Rattle.sec_setup.specs.Cuts.{IsChoice, StandInOrder, columns_of}
-use Rattle.sec_setup.specs.Cycles.{AreBroken}
-use Rattle.sec_setup.specs.Pairs.{named_pairs}
+use Rattle.assume_taken.specs.sec_setup.Cuts.{IsChoice, StandInOrder, columns_of}
+use Rattle.assume_taken.specs.sec_setup.Cycles.{AreBroken}
+use Rattle.assume_taken.specs.sec_setup.Pairs.{named_pairs}
 use Rattle.reset_laws.specs.Reset.{AreBased}
 use Rattle.compare_base.specs.Fitting.{IsCutLight}
 use Rattle.under_fits.specs.Places.{IsOverAtPairs}
@@ -14,8 +14,8 @@ use Rattle.under_fits.specs.ResetPlaces.{IsOverInCycles}
 use Rattle.under_fits.specs.ResetOutcome.{numbers_of}
 use Rattle.compare_base.specs.Compared.{ByReset}
 use Rattle.compare_base.specs.FromReset.{IsLeftLight, IsRightLight}
-use Rattle.assume_shape.specs.declared.shape.ShapeFault.{ShapeFault}
-use Rattle.assume_shape.specs.declared.shape.ShapeFault.TheVariants as fault
+use Rattle.assume_taken.specs.assume_shape.declared.shape.ShapeFault.{ShapeFault}
+use Rattle.assume_taken.specs.assume_shape.declared.shape.ShapeFault.TheVariants as fault
 use Rattle.under_base.specs.Met.{shared_by, IsMet}
 
 -- With the latches of a choice of names cut out, which stand in A's order, both unfoldings are light, and an assumption of this weight

@@ -4,4 +4,6 @@
 
 mod laws;
 
+pub use assume_taken::{Premise, TakeError, Taken, take, widen};
+pub use compare_base::CompareError;
 pub use laws::verdicts_under;

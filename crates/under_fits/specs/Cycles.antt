@@ -10,8 +10,8 @@ use Rattle.aig.specs.Graph.{IsGraph}
 use Rattle.aig.specs.Values.{value}
 use Rattle.cnf_encode.specs.Encoding.{IsEncoding}
 use Rattle.sat_search.specs.Found.{IsFruitless}
-use Rattle.pair_decide.specs.declared.query.Proof.{Proof}
-use Rattle.unfold_places.specs.Growing.{TakesBits}
+use Rattle.assume_places.specs.pair_decide.declared.query.Proof.{Proof}
+use Rattle.assume_places.specs.unfold_places.Growing.{TakesBits}
 use Rattle.assume_laws.specs.Assume.{Assumption, MeetsAtVariables}
 use Rattle.assume_laws.specs.Sequences.{AreVariablesUnder}
 use Rattle.outcome_fits.specs.ResetLimits.{HasValueOf, ReadOnly}

@@ -7,3 +7,4 @@ pub mod ResetOutcome
 pub mod ResetPlaces
 pub mod ResetVerdict
 pub mod Verdict
+pub use Rattle.assume_places.specs.outcome

@@ -2,5 +2,6 @@
 #![tactic(auto)]
 
 mod laws;
+pub mod under_reset_meaning;
 
 pub use laws::{different_shows_under, equal_says_under, not_shown_under};

@@ -4,3 +4,4 @@ pub mod Planned
 pub mod InputOrder
 pub mod Visitors
 pub mod Growing
+pub use Rattle.flat_net.specs.sec_base

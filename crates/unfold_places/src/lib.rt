@@ -12,4 +12,5 @@ pub mod variables;
 pub mod visitors;
 
 pub use error::UnfoldError;
+pub use flat_net::{BitRows, Bits, Ids, NoMemory, PlaceTable, Seq};
 pub use signal_function::Unfolded;

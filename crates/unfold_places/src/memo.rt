@@ -5,10 +5,9 @@ ghost use Rattle.std.specs.List.{AllPairs};
 ghost use Rattle.aig.specs.declared.node.Lit.{Lit};
 
 use aig::Lit;
-use flat_net::NoMemory;
+use flat_net::{NoMemory, UniqueTable};
 use std::alloc::Global;
 use std::marker::Model;
-use unique_table::UniqueTable;
 
 /// A cycle, and a signal's number.
 pub type Place = (u32, u32);

@@ -4,8 +4,8 @@ use Rattle.std.specs.Prelude.{◌⊎◌, Contains}
 use Rattle.circuit_theory.specs.Circuit.{IsLatch}
 use Rattle.circuit_theory.specs.Run.{IsEnabled}
 use Rattle.circuit_theory.proofs.Lists.{Contains-cases, Contains-head}
-use Rattle.event_theory.specs.Classes.{HasClasses, classes_of}
-use Rattle.event_theory.specs.Frame.{EventSide, IsNode, ReachedAt}
+use Rattle.circuit_theory.specs.Classes.{HasClasses, classes_of}
+use Rattle.circuit_theory.specs.Frame.{EventSide, IsNode, ReachedAt}
 use Rattle.event_laws.proofs.ClassMaps.{fold_each}
 use Rattle.flat_net.proofs.Nets.{some_at}
 use Rattle.event_nodes.specs.Nodes.{IsTree, path_of}

@@ -6,8 +6,8 @@ use Rattle.circuit_theory.specs.declared.Side.TheVariants.{A, B}
 use Rattle.circuit_theory.specs.Joined.{Either, Left, Right}
 use Rattle.circuit_theory.specs.Run.{IsEnabled}
 use Rattle.circuit_theory.proofs.Lists.{only}
-use Rattle.event_theory.specs.EventSizes.{Start}
-use Rattle.event_theory.specs.Frame.{EventSide, ConeLatches}
+use Rattle.circuit_theory.specs.EventSizes.{Start}
+use Rattle.circuit_theory.specs.Frame.{EventSide, ConeLatches}
 use Rattle.event_nodes.specs.Visited.{CounterView, HasCounted, IsVisitedPair}
 use Rattle.event_nodes.specs.View.{EventCircuitView}
 use Rattle.event_nodes.specs.Nodes.{path_of}
@@ -15,7 +15,7 @@ use Rattle.event_form.specs.Functions.{signal_start}
 use Rattle.event_form.specs.SignalFunction.{SignalFunction}
 use Rattle.class_events.specs.Functions.{AreNodesOf}
 use Rattle.class_events.proofs.Unions.{pair_nodes}
-use Rattle.event_theory.specs.EventFits.{ReachesAlways}
+use Rattle.circuit_theory.specs.EventFits.{ReachesAlways}
 use Rattle.interface.specs.declared.pairs.SignalPair.{SignalPair}
 use Rattle.class_events.specs.Counted.{HaveCounted, GoOnCounting, both_starts}
 use Rattle.class_events.specs.View.{EventsView, side_of_both}

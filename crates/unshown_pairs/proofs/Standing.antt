@@ -4,13 +4,13 @@ use Rattle.std.specs.List.{All}
 use Rattle.std.proofs.lemmas.Option.{slice_get-get_or, slice_get_within}
 use Rattle.circuit_theory.specs.Joined.{Either}
 use Rattle.circuit_theory.proofs.Lists.{length-map}
-use Rattle.event_theory.specs.Frame.{EventSide}
+use Rattle.circuit_theory.specs.Frame.{EventSide}
 use Rattle.flat_net.proofs.Places.{one_at}
 use Rattle.sec_base.specs.declared.basics.Tag.{Tag}
 use Rattle.event_nodes.specs.Nodes.{EventGraphView}
-use Rattle.event_variables.specs.Variables.{variable_of}
-use Rattle.class_separations.specs.declared.apart.Apart.{Apart}
-use Rattle.class_separations.specs.Apart.{IsApart, IsSeparationBy, number_of}
+use Rattle.class_events.specs.event_variables.Variables.{variable_of}
+use Rattle.class_events.specs.class_separations.declared.apart.Apart.{Apart}
+use Rattle.class_events.specs.class_separations.Apart.{IsApart, IsSeparationBy, number_of}
 use Rattle.class_events.specs.Separated.{AreSeparated}
 use Rattle.class_events.proofs.Pairs.{pairs_are}
 use Rattle.class_events.specs.View.{EventsView}

@@ -1,9 +1,9 @@
 -- What the sides of a pair reach.
 use Rattle.std.specs.Prelude.{◌≡◌, ◌⊎◌, ◌↔◌, ℕ, true, List, Contains}
 use Rattle.circuit_theory.specs.Joined.{Either, Left, Right}
-use Rattle.event_theory.specs.EventFits.{ReachesAlways}
-use Rattle.event_theory.specs.EventSizes.{Start}
-use Rattle.event_theory.specs.Frame.{EventSide, ConeLatches}
+use Rattle.circuit_theory.specs.EventFits.{ReachesAlways}
+use Rattle.circuit_theory.specs.EventSizes.{Start}
+use Rattle.circuit_theory.specs.Frame.{EventSide, ConeLatches}
 use Rattle.event_form.specs.Functions.{signal_start}
 use Rattle.class_events.specs.Functions.{AreNodesOf}
 use Rattle.interface.specs.declared.pairs.SignalPair.{SignalPair}

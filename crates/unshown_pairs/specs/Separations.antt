@@ -4,12 +4,12 @@ use Rattle.std.specs.List.{AllPairs}
 use Rattle.circuit_theory.specs.Joined.{Either}
 use Rattle.circuit_theory.specs.Query.{Variable}
 use Rattle.circuit_theory.specs.Run.{IsEnabled}
-use Rattle.event_theory.specs.Classes.{HasClasses}
-use Rattle.event_theory.specs.EventFrames.{IsSeparation, IsSeparationFromAlways}
-use Rattle.event_theory.specs.Frame.{EventSide, IsNode}
-use Rattle.class_queries.specs.Enables.{both_of}
+use Rattle.circuit_theory.specs.Classes.{HasClasses}
+use Rattle.circuit_theory.specs.EventFrames.{IsSeparation, IsSeparationFromAlways}
+use Rattle.circuit_theory.specs.Frame.{EventSide, IsNode}
+use Rattle.event_form.specs.class_queries.Enables.{both_of}
 use Rattle.event_nodes.specs.View.{EventCircuitView}
-use Rattle.event_order.specs.Order.{place_of, IsTagOf}
+use Rattle.class_events.specs.event_order.Order.{place_of, IsTagOf}
 use Rattle.interface.specs.declared.pairs.SignalPair.{SignalPair}
 use Rattle.sec_base.specs.declared.basics.Tag.{Tag}
 use Rattle.unshown_pairs.specs.Reached.{PairLatches, BothReachAlways}

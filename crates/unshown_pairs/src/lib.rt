@@ -7,7 +7,9 @@ mod reach;
 mod separations;
 mod telling;
 
-pub use event_form::FrameBit;
+pub use class_events::{Apart, EventError, Events, Separated, events_of};
+pub use event_form::{EventFormError, FrameBit, ask_pairs};
+pub use interface::SignalPair;
 pub use reach::{PairReach, reach_of};
 pub use separations::{ToldSeparation, ToldSeparations};
 pub use telling::tell_apart;

@@ -1,21 +1,22 @@
 //! The care of an event function.
 
 ghost use Rattle.std.specs.Prelude.{◌≡◌, ℕ, ◌+◌, ◌*◌, ◌^◌, ◌<◌, length, slice_get, Some, Contains, IfOk};
-ghost use Rattle.event_theory.specs.Frame.{NotPut};
+ghost use Rattle.circuit_theory.specs.Frame.{NotPut};
 ghost use Rattle.event_literals.specs.Driver.TheVariants as driver;
-ghost use Rattle.event_nodes.specs.Graph.{flip};
-ghost use Rattle.event_nodes.specs.Lit.{Lit};
-ghost use Rattle.event_walk.specs.declared.frames.Ways.{Ways};
+ghost use Rattle.event_literals.specs.event_nodes.Graph.{flip};
+ghost use Rattle.event_literals.specs.event_nodes.Lit.{Lit};
+ghost use Rattle.event_literals.specs.event_walk.declared.frames.Ways.{Ways};
 ghost use Rattle.event_literals.specs.Known.{AreKnown, HasGrown, IsMet};
-ghost use Rattle.event_walk.specs.Ready.{IsReadyBy, put_of};
+ghost use Rattle.event_literals.specs.event_walk.Ready.{IsReadyBy, put_of};
 ghost use Rattle.event_literals.specs.Built.{AreMetOn};
 ghost use Rattle.event_literals.specs.ShortOr.{IsShortOr};
 ghost use Rattle.edbf_unfold.specs.Care.{IsWithEnable, IsAndEnable, IsCareOf};
 
 use super::EventUnfolder;
-use event_literals::{Driver, Signal, short_or};
-use event_nodes::{Aig, EventGraph, Lit, NoMemory, Place, PlaceTable, latch_of};
-use event_walk::{Frame, Ways, constant};
+use event_literals::{
+    Aig, Driver, EventGraph, Frame, Lit, NoMemory, Place, PlaceTable, Signal, Ways, constant,
+    latch_of, short_or,
+};
 
 /// The literal of an enable by those of its two functions: the one with the latch at 0, or not that with it at 1.
 pub(super) fn enable_of(events: &mut EventGraph, low: Lit, high: Lit) -> Result<Lit, NoMemory>

@@ -1,17 +1,16 @@
 //! What is read of the event functions of two circuits.
 
 ghost use Rattle.std.specs.Prelude.{◌≡◌, ◌*◌, ◌^◌, ◌<◌, ◌≤◌, length, reverse, slice_get, Some, IfOk};
-ghost use Rattle.aig.specs.Rules.{IsAndOf};
-ghost use Rattle.flat_net.specs.declared.parts.LatchAt.{LatchAt};
-ghost use Rattle.event_nodes.specs.Nodes.{GrowsEvents, path_of};
-ghost use Rattle.event_variables.specs.Variables.{AreInOrder, IsMergeOf};
+ghost use Rattle.event_agreement.specs.aig.Rules.{IsAndOf};
+ghost use Rattle.event_agreement.specs.flat_net.declared.parts.LatchAt.{LatchAt};
+ghost use Rattle.event_agreement.specs.event_nodes.Nodes.{GrowsEvents, path_of};
+ghost use Rattle.event_agreement.specs.event_variables.Variables.{AreInOrder, IsMergeOf};
 ghost use Rattle.pair_events.specs.View.{circuit_at, side_of_both, signal_at};
 
 use super::Events;
-use aig::{Aig, Lit};
-use event_nodes::{EventCircuit, EventGraph};
-use event_variables::{merge_variables, node_path};
-use sec_base::{Ids, NoMemory, Side};
+use event_agreement::{
+    Aig, EventCircuit, EventGraph, Ids, Lit, NoMemory, Side, merge_variables, node_path,
+};
 use std::alloc::Global;
 
 impl Events {

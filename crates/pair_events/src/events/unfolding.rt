@@ -3,16 +3,13 @@
 ghost use Rattle.std.specs.Prelude.{◌≡◌, ◌<◌, length, IfOk, OnOk};
 ghost use Rattle.circuit_theory.specs.declared.Side.TheVariants.{A, B};
 ghost use Rattle.circuit_theory.specs.Joined.{Left, Right};
-ghost use Rattle.event_nodes.specs.Nodes.{GrowsEvents};
-ghost use Rattle.event_pairs.specs.Functions.{IsEventFunction};
+ghost use Rattle.event_agreement.specs.event_nodes.Nodes.{GrowsEvents};
+ghost use Rattle.event_agreement.specs.event_pairs.Functions.{IsEventFunction};
 ghost use Rattle.pair_events.specs.Counted.{GoOnCounting, IsRefusedBy};
 ghost use Rattle.pair_events.specs.View.{IsWithinLimits, circuit_at, side_of_both, signal_at};
 
 use super::Events;
-use event_functions::{SignalFunction, unfold_signal};
-use event_nodes::EventUnfoldError;
-use flat_net::Signal;
-use sec_base::Side;
+use event_agreement::{EventUnfoldError, Side, Signal, SignalFunction, unfold_signal};
 use std::alloc::Global;
 
 impl Events {

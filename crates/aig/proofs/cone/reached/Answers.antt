@@ -1,6 +1,6 @@
 use Rattle.std.proofs.Common.{◌≡◌, ℕ, ◌+◌, ◌/◌, ◌<◌, ◌*◌, ◌⊎◌, inl, inr, List, length, map, get_or, slice_get, Some, Contains, arith, sym, ap, subst, ◌∙◌}
 use Rattle.std.proofs.lemmas.Option.{slice_get-get_or, slice_get_within, same_Some}
-use Rattle.circuit_theory.proofs.Lists.{Contains-map, of_at}
+use Rattle.sec_base.proofs.circuit_theory.Lists.{Contains-map, of_at}
 use Rattle.aig.specs.declared.node.Lit.{Lit}
 use Rattle.aig.specs.declared.node.Node.{Node}
 use Rattle.aig.specs.Cone.{IsReached, IsSeen, with_number}

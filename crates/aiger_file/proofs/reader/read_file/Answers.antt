@@ -4,8 +4,8 @@ use Rattle.std.proofs.lemmas.Grind.{common_steps}
 use Rattle.aiger_records.specs.declared.header.Header.{Header}
 use Rattle.aiger_records.specs.declared.record.Record.{Record}
 use Rattle.aiger_records.specs.Faults.{has_bad_literal, DefinesOnce}
-use Rattle.aiger_symbols.specs.declared.symbol.Named.{Named}
-use Rattle.aiger_symbols.specs.Symbols.{Symbol}
+use Rattle.aiger_file.specs.declared.symbol.Named.{Named}
+use Rattle.aiger_file.specs.Symbols.{Symbol}
 use Rattle.aiger_file.specs.Reading.{named_by}
 use Rattle.aiger_file.proofs.reader.read_file.Goals as goal
 

@@ -1,6 +1,6 @@
 use Rattle.std.proofs.Common.{◌≡◌, List, ◌∷◌, Option, Some, None, false, sym, ◌∙◌, ap, subst, arith}
-use Rattle.aiger_text.specs.Lines.{Cut}
-use Rattle.aiger_symbols.specs.Symbols.{Symbol, the_symbol, symbols_of, symbol_fault, is_end}
+use Rattle.aiger_records.specs.Lines.{Cut}
+use Rattle.aiger_file.specs.Symbols.{Symbol, the_symbol, symbols_of, symbol_fault, is_end}
 use Rattle.aiger_file.specs.Reading.{first_symbol_fault}
 use Rattle.aiger_file.specs.State.{SymbolsTo}
 use Rattle.aiger_file.proofs.SymbolLines.{no_symbols, next_symbol, cut_symbol, symbols_go_on, symbol_is_faulty, symbols_end}

@@ -1,5 +1,5 @@
 use Rattle.std.proofs.Common.{◌+◌, ◌≤◌, length}
-use Rattle.aiger_symbols.specs.Symbols.{symbols_of}
+use Rattle.aiger_file.specs.Symbols.{symbols_of}
 use Rattle.aiger_file.specs.State.{SymbolsTo}
 use Rattle.aiger_file.proofs.reader.read_symbols.Given as goal
 

@@ -1,5 +1,5 @@
 use Rattle.std.proofs.Common.{◌∙◌, ◌+◌, ◌*◌, ℕ, List, ap, subst, arith}
-use Rattle.gate_order.specs.Order.{IsOrder, IsRound}
+use Rattle.net_assembly.specs.Order.{IsOrder, IsRound}
 use Rattle.aiger_graph.specs.Literals.{graph_of}
 use Rattle.aiger_graph.proofs.ReadLiterals.{all_well}
 use Rattle.aiger_graph.proofs.NoLoops.{round_is_loop, order_has_no_loop, graph_within, graph_few}

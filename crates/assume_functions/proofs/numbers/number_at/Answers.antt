@@ -1,8 +1,8 @@
 -- The entry's number, or none where none stands there.
 use Rattle.std.proofs.Common.{◌≡◌, ℕ, Some, refl, sym, ◌∙◌, ap, arith}
 use Rattle.std.proofs.lemmas.Option.{slice_get_within, same_Some}
-use Rattle.unfold_places.proofs.Lists.{adds_none, adds_weaker}
-use Rattle.unfold_places.proofs.Table.{interned}
+use Rattle.cbf_unfold.proofs.unfold_places.Lists.{adds_none, adds_weaker}
+use Rattle.cbf_unfold.proofs.unfold_places.Table.{interned}
 use Rattle.assume_functions.proofs.numbers.number_at.Goals as goal
 
 pub returns-then-v-size-clause-here : goal.returns-then-v-size-clause-here

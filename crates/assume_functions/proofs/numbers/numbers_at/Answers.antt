@@ -4,7 +4,7 @@ use Rattle.std.specs.Prelude.{◌⊎◌}
 use Rattle.std.proofs.lemmas.List.{length-append}
 use Rattle.std.proofs.lemmas.List.Elements.{All-nil, All-push}
 use Rattle.std.proofs.lemmas.Option.{slice_get_within}
-use Rattle.unfold_places.proofs.Lists.{adds_none, adds_trans}
+use Rattle.cbf_unfold.proofs.unfold_places.Lists.{adds_none, adds_trans}
 use Rattle.assume_functions.proofs.TableNumbers.{numbers_push}
 use Rattle.assume_functions.proofs.numbers.numbers_at.Goals as goal
 

@@ -1,5 +1,5 @@
 use Rattle.std.proofs.Common.{◌≡◌, ◌+◌, ◌^◌, ◌<◌, ◌≤◌, min, length, All}
-use Rattle.unfold_places.specs.Reach.{Adds}
+use Rattle.cbf_unfold.specs.unfold_places.Reach.{Adds}
 use Rattle.assume_functions.specs.Functions.{AreNumbersAt}
 use Rattle.assume_functions.proofs.numbers.numbers_at.Given as goal
 

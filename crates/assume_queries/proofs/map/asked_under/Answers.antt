@@ -4,12 +4,12 @@ use Rattle.std.proofs.lemmas.List.Elements.{All-contains}
 use Rattle.circuit_theory.proofs.Lists.{zip_weaker}
 use Rattle.aig.proofs.Growth.{Grows-trans}
 use Rattle.pair_decide.specs.declared.query.Query.{Query}
-use Rattle.obligations.specs.Asked.{queries_of}
+use Rattle.assume_places.specs.obligations.Asked.{queries_of}
 use Rattle.assume_shape.specs.Shape.{assumption_of}
 use Rattle.assume_places.proofs.Gathering.{is_over, is_light}
-use Rattle.assume_answers.specs.Order.{AreOrdered}
+use Rattle.assume_queries.specs.assume_answers.Order.{AreOrdered}
 use Rattle.assume_queries.specs.Parted.{IsObligationMade}
-use Rattle.assume_answers.specs.Under.{IsObligationUnder}
+use Rattle.assume_queries.specs.assume_answers.Under.{IsObligationUnder}
 use Rattle.assume_queries.proofs.Mapped.{all_have_places, can_be_put, weight_light, ordered_later, all_own, all_parts, put_within, obligation_under}
 use Rattle.assume_queries.proofs.map.asked_under.Goals as goal
 

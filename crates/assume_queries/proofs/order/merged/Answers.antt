@@ -1,7 +1,7 @@
 -- Either order has its merge.
 use Rattle.std.proofs.Common.{subst}
-use Rattle.assume_answers.specs.declared.order.VariableOrder.{VariableOrder}
-use Rattle.assume_answers.specs.Order.{AreOrdered}
+use Rattle.assume_queries.specs.declared.assume_answers.order.VariableOrder.{VariableOrder}
+use Rattle.assume_queries.specs.assume_answers.Order.{AreOrdered}
 use Rattle.assume_queries.proofs.order.merged.Goals as goal
 
 pub merge_variables-requires : goal.merge_variables-requires

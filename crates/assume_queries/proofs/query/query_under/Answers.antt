@@ -3,8 +3,8 @@ use Rattle.std.proofs.Common.{◌≡◌, ◌∙◌, ◌*◌, ◌<◌, ℕ, List,
 use Rattle.std.specs.List.{All}
 use Rattle.circuit_theory.proofs.Lists.{length-map}
 use Rattle.aig.specs.declared.node.Lit.{Lit}
-use Rattle.assume_care.specs.Care.{IsConjunction}
-use Rattle.assume_answers.specs.Order.{AreOrdered, IsOrderedMerge}
+use Rattle.assume_queries.specs.Care.{IsConjunction}
+use Rattle.assume_queries.specs.assume_answers.Order.{AreOrdered, IsOrderedMerge}
 use Rattle.assume_queries.specs.Parts.{function_at, literals_at}
 use Rattle.assume_queries.proofs.Parting.{literals_within}
 use Rattle.assume_queries.proofs.query.query_under.Goals as goal

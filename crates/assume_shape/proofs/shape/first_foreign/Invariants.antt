@@ -1,6 +1,6 @@
 use Rattle.std.proofs.Common.{◌≡◌, ◌<◌, ℕ, slice_get, Some}
 use Rattle.std.specs.List.{Contains}
-use Rattle.flat_net.specs.declared.parts.Port.{Port}
+use Rattle.interface.specs.flat_net.declared.parts.Port.{Port}
 use Rattle.assume_shape.proofs.shape.first_foreign.Given as goal
 
 abbrev pub invariant-loop-i : goal.invariant-loop-i

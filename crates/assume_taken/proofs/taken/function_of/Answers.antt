@@ -4,8 +4,8 @@ use Rattle.circuit_theory.specs.Sizes.{IsWeight, IsOver}
 use Rattle.sec_base.specs.declared.limits.TheConstants.{MAX_WEIGHT}
 use Rattle.flat_net.specs.declared.parts.Port.{Port}
 use Rattle.flat_net.specs.View.{circuit_of}
-use Rattle.unfolding_weight.specs.Weight.{Weighs}
-use Rattle.assume_functions.specs.Functions.{IsOwnFunction}
+use Rattle.signal_graph.specs.unfolding_weight.Weight.{Weighs}
+use Rattle.assume_sequences.specs.assume_functions.Functions.{IsOwnFunction}
 use Rattle.assume_taken.specs.Functions.{HasFunction}
 use Rattle.assume_taken.specs.Refusals.{refusal_of}
 use Rattle.assume_taken.proofs.Refused.{refused_by, function_refused}

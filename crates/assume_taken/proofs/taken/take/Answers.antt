@@ -1,8 +1,8 @@
 -- The answers of the assumption's query.
 use Rattle.std.proofs.Common.{ℕ, sym, subst}
-use Rattle.assume_meeting.specs.declared.meeting.Meeting.{Meeting}
-use Rattle.assume_meeting.specs.declared.meeting.Meeting.TheVariants as meeting
-use Rattle.assume_meeting.specs.Meeting.{CanMeet, IsMeeting}
+use Rattle.assume_taken.specs.declared.meeting.Meeting.{Meeting}
+use Rattle.assume_taken.specs.declared.meeting.Meeting.TheVariants as meeting
+use Rattle.assume_taken.specs.Meeting.{CanMeet, IsMeeting}
 use Rattle.assume_taken.proofs.Taking.{can_meet, vacuous, undecided, premise}
 use Rattle.assume_taken.proofs.taken.take.Goals as goal
 

@@ -2,16 +2,16 @@
 use Rattle.std.proofs.Common.{◌≡◌, ◌∙◌, ℕ, List, [], ◌∷◌, ◌++◌, length, slice_get, Some, sym, ap, subst, arith, length-append}
 use Rattle.std.specs.List.{All}
 use Rattle.std.proofs.lemmas.Option.{slice_get-get_or}
-use Rattle.event_nodes.proofs.Growing.{grows_refl, grows_trans}
-use Rattle.event_nodes.specs.Nodes.{EventGraphView}
-use Rattle.enable_compare.specs.declared.compare.Enable.{Enable}
-use Rattle.enable_compare.specs.Comparing.{IsReadyEnable}
+use Rattle.event_variables.proofs.event_nodes.Growing.{grows_refl, grows_trans}
+use Rattle.event_variables.specs.event_nodes.Nodes.{EventGraphView}
+use Rattle.class_search.specs.declared.compare.Enable.{Enable}
+use Rattle.class_search.specs.Comparing.{IsReadyEnable}
 use Rattle.class_search.specs.declared.class.Class.{Class}
 use Rattle.class_search.specs.declared.told.Told.{Told}
 use Rattle.class_search.specs.Told.{IsAnswer, IsAnswered, IsTold, HaveAgreed}
 use Rattle.class_search.specs.Search.{AreTold}
 use Rattle.class_search.proofs.Telling.{told_later, told_next, agreed_since, answered_between, members_ready}
-use Rattle.enable_compare.specs.Decision.TheVariants as decision
+use Rattle.pair_decide.specs.declared.query.Decision.TheVariants as decision
 use Rattle.class_search.proofs.search.search.Goals as goal
 
 pub ask_members-requires-clause-members : goal.ask_members-requires-clause-members

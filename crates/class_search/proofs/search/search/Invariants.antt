@@ -1,7 +1,7 @@
 use Rattle.std.proofs.Common.{◌≡◌, ◌^◌, ◌<◌, length}
-use Rattle.event_nodes.specs.Nodes.{GrowsEvents}
-use Rattle.enable_compare.specs.declared.compare.Enable.{Enable}
-use Rattle.enable_compare.specs.Comparing.{IsReadyEnable}
+use Rattle.event_variables.specs.event_nodes.Nodes.{GrowsEvents}
+use Rattle.class_search.specs.declared.compare.Enable.{Enable}
+use Rattle.class_search.specs.Comparing.{IsReadyEnable}
 use Rattle.class_search.specs.Search.{AreTold}
 use Rattle.class_search.proofs.search.search.Given as goal
 

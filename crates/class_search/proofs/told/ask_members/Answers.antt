@@ -1,8 +1,8 @@
 -- The first member that isn't known to agree.
 use Rattle.std.proofs.Common.{subst}
 use Rattle.std.specs.Prelude.{Option, IfSome}
-use Rattle.enable_compare.specs.declared.fitting.Unlike.{Unlike}
-use Rattle.enable_compare.specs.Fitting.{IsFirstUnlike}
+use Rattle.class_search.specs.declared.fitting.Unlike.{Unlike}
+use Rattle.class_search.specs.Fitting.{IsFirstUnlike}
 use Rattle.class_search.proofs.Telling.{unlike_answered}
 use Rattle.class_search.proofs.told.ask_members.Goals as goal
 

@@ -4,8 +4,8 @@ use Rattle.circuit_theory.specs.declared.Side.{Side}
 use Rattle.outcome.specs.declared.verdict.Outcome.{Outcome}
 use Rattle.outcome.specs.declared.verdict.Verdict.{Verdict}
 use Rattle.sec_setup.proofs.Uncut.{uncut}
-use Rattle.compare_base.specs.declared.error.CompareError.TheVariants as refused
-use Rattle.compare_base.proofs.Forms.{in_reset}
+use Rattle.under_base.specs.compare_base.declared.error.CompareError.TheVariants as refused
+use Rattle.under_base.proofs.compare_base.Forms.{in_reset}
 use Rattle.under_base.specs.Compared.{ComparedUnder}
 use Rattle.compare_under.proofs.CutOutcomes.{over_shared, can_be_premise}
 use Rattle.compare_under.proofs.ResetOutcomes.{circuit_too_large_from, assumption_too_large_from, outcome_is_compared_from_under}

@@ -1,9 +1,9 @@
 -- What is taken, and the outcome where that wasn't decided.
 use Rattle.std.proofs.Common.{ℕ, List, sym, subst, arith, Err, inl}
 use Rattle.interface.proofs.Numbering.{few_shared}
-use Rattle.compare_base.specs.declared.error.CompareError.{CompareError}
-use Rattle.assume_taken.specs.Premises.{IsTaken}
-use Rattle.assume_taken.specs.Taken.{IsUndecidedBy}
+use Rattle.under_base.specs.compare_base.declared.error.CompareError.{CompareError}
+use Rattle.under_base.specs.assume_taken.Premises.{IsTaken}
+use Rattle.under_base.specs.assume_taken.Taken.{IsUndecidedBy}
 use Rattle.under_base.specs.Compared.{ComparedUnder}
 use Rattle.under_base.proofs.Refusals.{untaken_under}
 use Rattle.compare_under.proofs.CutOutcomes.{limit_of}

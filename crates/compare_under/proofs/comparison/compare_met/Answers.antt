@@ -1,9 +1,9 @@
 -- A cycle, or no latch that is cut open: the nets are those of the circuits. The premise goes over the exposed latches too.
 use Rattle.std.proofs.Common.{ℕ, ◌+◌, List, length, sym, ◌∙◌, subst}
 use Rattle.sec_setup.proofs.Uncut.{uncut, no_names}
-use Rattle.assume_taken.specs.Premises.{IsPremiseOf}
-use Rattle.compare_base.specs.Compared.{refusal_of}
-use Rattle.compare_base.proofs.Refusals.{refused_by}
+use Rattle.under_base.specs.assume_taken.Premises.{IsPremiseOf}
+use Rattle.under_base.specs.compare_base.Compared.{refusal_of}
+use Rattle.under_base.proofs.compare_base.Refusals.{refused_by}
 use Rattle.under_base.specs.Compared.{ComparedUnder}
 use Rattle.under_base.proofs.Refusals.{unchosen_under}
 use Rattle.compare_under.proofs.CutOutcomes.{is_met}

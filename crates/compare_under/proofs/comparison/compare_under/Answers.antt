@@ -1,6 +1,6 @@
 -- Interfaces that don't match.
-use Rattle.compare_base.specs.Compared.{refusal_of}
-use Rattle.compare_base.proofs.Refusals.{refused_by}
+use Rattle.under_base.specs.compare_base.Compared.{refusal_of}
+use Rattle.under_base.proofs.compare_base.Refusals.{refused_by}
 use Rattle.under_base.specs.Compared.{ComparedUnder}
 use Rattle.under_base.proofs.Refusals.{unmatched_under}
 use Rattle.compare_under.proofs.comparison.compare_under.Goals as goal

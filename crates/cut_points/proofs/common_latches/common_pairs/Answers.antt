@@ -1,6 +1,6 @@
 use Rattle.std.proofs.Common.{◌≡◌, ◌≢◌, ◌<◌, ◌+◌, ◌∙◌, ℕ, List, length, sym, ap, subst, arith}
 use Rattle.std.specs.List.{All}
-use Rattle.flat_net.specs.declared.parts.LatchAt.{LatchAt}
+use Rattle.latch_graph.specs.flat_net.declared.parts.LatchAt.{LatchAt}
 use Rattle.cut_points.specs.Common.{AreCommonUpTo}
 use Rattle.cut_points.proofs.Pairs.{common_same, common_more, common_all, own_name, some_named}
 use Rattle.cut_points.proofs.common_latches.common_pairs.Goals as goal

@@ -1,16 +1,16 @@
 use Rattle.std.proofs.Common.{◌≡◌, ◌∙◌, ℕ, List, ap, subst}
 use Rattle.circuit_theory.specs.declared.Side.{Side}
 use Rattle.circuit_theory.specs.declared.Side.TheVariants.{A, B}
-use Rattle.flat_net.specs.View.{circuit_of}
-use Rattle.flat_net.specs.Cut.{exposed_names}
-use Rattle.expose_pick.specs.Graph.{GraphView}
-use Rattle.expose_pick.specs.declared.error.PickError.{PickError}
-use Rattle.expose_pick.specs.declared.error.PickError.TheVariants as pick_error
+use Rattle.latch_graph.specs.flat_net.View.{circuit_of}
+use Rattle.latch_graph.specs.flat_net.Cut.{exposed_names}
+use Rattle.latch_graph.specs.Graph.{GraphView}
+use Rattle.cut_points.specs.declared.expose_pick.error.PickError.{PickError}
+use Rattle.cut_points.specs.declared.expose_pick.error.PickError.TheVariants as pick_error
 use Rattle.cut_points.specs.Common.{common_names}
-use Rattle.expose_pick.specs.declared.pairs.LatchPair.{LatchPair}
-use Rattle.expose_pick.specs.Chosen.{at_places}
-use Rattle.expose_pick.specs.Pairs.{lefts, rights}
-use Rattle.expose_pick.specs.Refused.{Refuses}
+use Rattle.cut_points.specs.declared.expose_pick.pairs.LatchPair.{LatchPair}
+use Rattle.minimal_cut.specs.Chosen.{at_places}
+use Rattle.cut_points.specs.expose_pick.Pairs.{lefts, rights}
+use Rattle.cut_points.specs.expose_pick.Refused.{Refuses}
 use Rattle.cut_points.proofs.Exposures.{right_once, left_common, right_common, left_free, exposed}
 use Rattle.cut_points.proofs.ToldCycles.{told_cycle, tells_left, tells_right}
 use Rattle.cut_points.proofs.exposed.expose.Goals as goal

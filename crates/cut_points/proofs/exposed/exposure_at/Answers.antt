@@ -1,8 +1,8 @@
 use Rattle.std.proofs.Common.{◌≡◌, ◌<◌, ◌∙◌, ℕ, length, take, sym, ap, subst, arith}
 use Rattle.std.proofs.Math.Seq.{take-length}
 use Rattle.std.specs.List.{All}
-use Rattle.expose_pick.specs.Chosen.{at_places}
-use Rattle.expose_pick.specs.Pairs.{lefts}
+use Rattle.minimal_cut.specs.Chosen.{at_places}
+use Rattle.cut_points.specs.expose_pick.Pairs.{lefts}
 use Rattle.cut_points.proofs.Exposures.{lefts_within}
 use Rattle.cut_points.proofs.exposed.exposure_at.Goals as goal
 

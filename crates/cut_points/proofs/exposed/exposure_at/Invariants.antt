@@ -1,6 +1,6 @@
 use Rattle.std.proofs.Common.{◌≡◌, take}
-use Rattle.expose_pick.specs.Chosen.{at_places}
-use Rattle.expose_pick.specs.Pairs.{lefts, rights}
+use Rattle.minimal_cut.specs.Chosen.{at_places}
+use Rattle.cut_points.specs.expose_pick.Pairs.{lefts, rights}
 use Rattle.cut_points.proofs.exposed.exposure_at.Given as goal
 
 abbrev pub invariant-loop-place : goal.invariant-loop-place

@@ -1,5 +1,5 @@
 use Rattle.std.proofs.Common.{◌≡◌, take}
-use Rattle.flat_net.specs.Cut.{exposed_names}
+use Rattle.latch_graph.specs.flat_net.Cut.{exposed_names}
 use Rattle.cut_points.proofs.exposed.names_at.Given as goal
 
 abbrev pub invariant-loop-position : goal.invariant-loop-position

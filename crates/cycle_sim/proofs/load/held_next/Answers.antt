@@ -4,7 +4,7 @@ use Rattle.circuit_theory.specs.Run.{Marked}
 use Rattle.flat_net.specs.declared.parts.LatchAt.{LatchAt}
 use Rattle.flat_net.specs.View.{circuit_of}
 use Rattle.flat_net.proofs.Places.{one_at}
-use Rattle.latch_cone.specs.Cones.{IsMarkedBy}
+use Rattle.inner_cone.specs.latch_cone.Cones.{IsMarkedBy}
 use Rattle.std.specs.List.{list_all}
 use Rattle.std.specs.Prelude.{All}
 use Rattle.flat_net.specs.declared.signals.Signal.{Signal}

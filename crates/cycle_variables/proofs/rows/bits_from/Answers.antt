@@ -3,7 +3,7 @@ use Rattle.std.proofs.Common.{◌≡◌, ◌+◌, ◌<◌, ◌∙◌, ℕ, Bool,
 use Rattle.std.proofs.lemmas.List.{take_all, length-replicate, get_or-replicate}
 use Rattle.std.proofs.lemmas.Option.{slice_get-get_or}
 use Rattle.circuit_theory.specs.Query.{Variable}
-use Rattle.pair_decide.specs.Queries.{assigned_to}
+use Rattle.shift_variables.specs.pair_decide.Queries.{assigned_to}
 use Rattle.shift_variables.proofs.Reading.{pair_is}
 use Rattle.cycle_variables.specs.Cycles.{number_of}
 use Rattle.cycle_variables.proofs.Writing.{written_next}

@@ -1,5 +1,5 @@
 use Rattle.std.proofs.Common.{◌≡◌, ◌+◌, ◌<◌, ℕ, false, length, map, take, get_or}
-use Rattle.pair_decide.specs.Queries.{assigned_to}
+use Rattle.shift_variables.specs.pair_decide.Queries.{assigned_to}
 use Rattle.cycle_variables.specs.Cycles.{number_of}
 use Rattle.cycle_variables.proofs.rows.bits_from.Given as goal
 

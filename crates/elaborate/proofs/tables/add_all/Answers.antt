@@ -1,5 +1,5 @@
 use Rattle.std.proofs.Common.{◌≡◌, List, ℕ, get_or, sym, subst}
-use Rattle.sec_base.specs.Table.{is_among}
+use Rattle.blif_read.specs.sec_base.Table.{is_among}
 use Rattle.elaborate.proofs.Tabled.{among_more}
 use Rattle.elaborate.proofs.tables.add_all.Goals as goal
 

@@ -1,8 +1,8 @@
 -- The class map is made; or why not.
 use Rattle.std.proofs.Common.{◌∙◌, refl, ap}
-use Rattle.compare_base.proofs.Refusals.{refused_by}
+use Rattle.event_names.proofs.compare_base.Refusals.{refused_by}
 use Rattle.event_names.specs.Named.{latch_names}
-use Rattle.event_setup_laws.specs.Laws.{HaveClassesGiven}
+use Rattle.event_answers.specs.Laws.{HaveClassesGiven}
 use Rattle.event_answers.specs.Reached.{ReachesPairs}
 use Rattle.event_answers.proofs.Stopping.{reached_first, reached_then, setup_askable, unclassed_stops}
 use Rattle.event_answers.proofs.Refusals.{can_tell, map_refused}

@@ -9,10 +9,10 @@ use Rattle.obligations.specs.declared.obligation.Obligation.{Obligation}
 use Rattle.obligations.specs.Asked.{queries_of}
 use Rattle.class_queries.specs.Enables.{both_of}
 use Rattle.assume_shape.specs.Shape.{assumption_of}
-use Rattle.assume_places.specs.Gathered.{IsOverUnder, IsLightUnder}
-use Rattle.assume_answers.specs.declared.order.VariableOrder.TheVariants as order
-use Rattle.assume_answers.specs.Order.{AreOrdered}
-use Rattle.graph_clone.specs.Twins.{AreTwins}
+use Rattle.assume_queries.specs.assume_places.Gathered.{IsOverUnder, IsLightUnder}
+use Rattle.assume_queries.specs.declared.assume_answers.order.VariableOrder.TheVariants as order
+use Rattle.assume_queries.specs.assume_answers.Order.{AreOrdered}
+use Rattle.graph_copy.specs.graph_clone.Twins.{AreTwins}
 use Rattle.ranked_nodes.specs.Named.{ranked_in}
 use Rattle.event_asked_under.specs.Sides.{AreAligned, AreWithSides}
 use Rattle.event_asked_under.proofs.Paths.{named_apart}

@@ -2,12 +2,12 @@
 use Rattle.std.proofs.Common.{◌∙◌, ℕ, List, length, sym, ap, subst, arith, Some, Err, inl}
 use Rattle.interface.proofs.Numbering.{few_shared}
 use Rattle.outcome.specs.declared.verdict.LimitAt.TheVariants as limit_at
-use Rattle.assume_taken.specs.Premises.{IsTaken}
-use Rattle.assume_taken.specs.Taken.{IsUndecidedBy}
-use Rattle.compare_base.specs.declared.error.CompareError.{CompareError}
-use Rattle.compare_base.specs.Compared.{refusal_of}
-use Rattle.compare_base.proofs.Refusals.{refused_by}
-use Rattle.under_base.specs.Met.{IsAssumptionLimit}
+use Rattle.event_answers_under.specs.assume_taken.Premises.{IsTaken}
+use Rattle.event_answers_under.specs.assume_taken.Taken.{IsUndecidedBy}
+use Rattle.event_answers_under.specs.compare_base.declared.error.CompareError.{CompareError}
+use Rattle.event_answers_under.specs.compare_base.Compared.{refusal_of}
+use Rattle.event_answers_under.proofs.compare_base.Refusals.{refused_by}
+use Rattle.event_answers_under.specs.under_base.Met.{IsAssumptionLimit}
 use Rattle.event_answers.proofs.Told.{told_outcome, outcome_by, limit_at as found_limit}
 use Rattle.event_answers_under.specs.Answered.{ComparedInEventsUnder}
 use Rattle.event_answers_under.proofs.Answering.{assumption_limit}

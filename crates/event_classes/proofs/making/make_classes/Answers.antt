@@ -7,7 +7,7 @@ use Rattle.event_classes.proofs.Stopping.{many_both, heavy_both, limit_both, man
 use Rattle.std.specs.List.{All}
 use Rattle.sec_base.specs.declared.basics.Tag.{Tag}
 use Rattle.event_nodes.specs.View.{EventCircuitView}
-use Rattle.event_order.specs.Order.{IsTagOf}
+use Rattle.class_fits.specs.event_order.Order.{IsTagOf}
 use Rattle.event_classes.specs.Map.{IsMadeTo}
 use Rattle.event_classes.proofs.WholeMap.{made_first, made_last}
 use Rattle.event_classes.proofs.making.make_classes.Goals as goal

@@ -1,6 +1,6 @@
 -- The variable's input, and the steps to its event node.
 use Rattle.std.proofs.Common.{◌≤◌, ℕ, length, refl}
-use Rattle.flat_net.proofs.Places.{All-at}
+use Rattle.interface.proofs.flat_net.Places.{All-at}
 use Rattle.event_form.proofs.Telling.{tells}
 use Rattle.event_form.proofs.frames.bit_at.Goals as goal
 

@@ -1,6 +1,6 @@
 -- The query of both functions.
 use Rattle.std.proofs.Common.{ℕ, List, refl, sym, subst}
-use Rattle.event_variables.specs.Variables.{AreInOrder, IsMergeOf}
+use Rattle.pair_events.specs.event_variables.Variables.{AreInOrder, IsMergeOf}
 use Rattle.pair_events.proofs.Growing.{in_order_later}
 use Rattle.event_form.proofs.questions.query_of.Goals as goal
 

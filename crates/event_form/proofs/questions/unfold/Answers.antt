@@ -1,5 +1,5 @@
 -- What was made, as it is told.
-use Rattle.event_nodes.specs.Nodes.{GrowsEvents}
+use Rattle.pair_events.specs.event_nodes.Nodes.{GrowsEvents}
 use Rattle.pair_events.specs.Functions.{IsEventFunction}
 use Rattle.pair_events.proofs.Unfolding.{on_ok}
 use Rattle.pair_events.specs.Counted.{GoOnCounting}

@@ -1,12 +1,12 @@
 -- An unfolder that has met nothing visits the start.
 use Rattle.std.proofs.Common.{◌≡◌, ◌∙◌, ◌<◌, ℕ, [], length, slice_get, Some, Err, refl, sym, ap, subst, arith}
-use Rattle.event_nodes.specs.View.{EventCircuitView}
-use Rattle.event_literals.specs.Walk.{HasCountedStart, IsCounting, enable_start}
-use Rattle.event_literals.specs.Known.{IsEnableLit}
+use Rattle.event_variables.specs.event_nodes.View.{EventCircuitView}
+use Rattle.edbf_unfold.specs.event_literals.Walk.{HasCountedStart, IsCounting, enable_start}
+use Rattle.edbf_unfold.specs.event_literals.Known.{IsEnableLit}
 use Rattle.edbf_unfold.specs.Care.{IsCareLit}
-use Rattle.event_nodes.specs.Visited.{places_weight}
-use Rattle.event_nodes.proofs.Growing.{grows_refl, grows_trans}
-use Rattle.event_nodes.proofs.Lists.{adds_none}
+use Rattle.event_variables.specs.event_nodes.Visited.{places_weight}
+use Rattle.event_variables.proofs.event_nodes.Growing.{grows_refl, grows_trans}
+use Rattle.event_variables.proofs.event_nodes.Lists.{adds_none}
 use Rattle.event_reach.proofs.Making.{no_nodes}
 use Rattle.event_functions.proofs.Refusing.{error_is}
 use Rattle.event_functions.proofs.Totaling.{visits_over}

@@ -1,8 +1,8 @@
 -- The nodes that were made tell which number is passed.
 use Rattle.std.proofs.Common.{◌∙◌, sym, arith}
-use Rattle.event_nodes.proofs.Growing.{grows_refl}
+use Rattle.event_variables.proofs.event_nodes.Growing.{grows_refl}
 use Rattle.event_reach.proofs.Making.{no_nodes}
-use Rattle.event_literals.specs.Walk.{enable_start}
+use Rattle.edbf_unfold.specs.event_literals.Walk.{enable_start}
 use Rattle.event_functions.proofs.Refusing.{from_ok}
 use Rattle.event_functions.proofs.refusal.enable_nodes.Goals as goal
 

@@ -1,5 +1,5 @@
 -- What the walk said, or how many event nodes there are.
-use Rattle.event_nodes.proofs.Growing.{grows_refl}
+use Rattle.event_variables.proofs.event_nodes.Growing.{grows_refl}
 use Rattle.event_reach.proofs.Making.{no_nodes}
 use Rattle.event_functions.specs.Functions.{signal_start}
 use Rattle.event_functions.proofs.refusal.signal_refusal.Goals as goal

@@ -1,5 +1,5 @@
 -- The place is there already, or it goes last.
-use Rattle.event_theory.proofs.Lists.{of_at}
+use Rattle.flat_net.proofs.circuit_theory.Lists.{of_at}
 use Rattle.event_nodes.proofs.Table.{interned}
 use Rattle.event_nodes.proofs.net_parts.add.Goals as goal
 

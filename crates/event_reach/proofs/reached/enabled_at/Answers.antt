@@ -1,8 +1,8 @@
 -- The latch drives the signal.
 use Rattle.std.proofs.Common.{◌∙◌, ◌<◌, length, slice_get, sym, ap, subst}
 use Rattle.std.proofs.lemmas.Option.{slice_get_within}
-use Rattle.flat_net.specs.View.{NetView}
-use Rattle.flat_net.proofs.Places.{one_at}
+use Rattle.event_nodes.specs.flat_net.View.{NetView}
+use Rattle.event_nodes.proofs.flat_net.Places.{one_at}
 use Rattle.event_nodes.specs.View.{Enabled}
 use Rattle.event_nodes.proofs.Drivers.{latch_of_equation}
 use Rattle.event_reach.proofs.Passing.{latch_at}

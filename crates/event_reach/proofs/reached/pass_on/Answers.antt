@@ -1,10 +1,10 @@
 -- The others of the latch's cone are put at the child.
 use Rattle.std.proofs.Common.{◌≡◌, ◌∙◌, ◌<◌, ℕ, List, length, slice_get, sym, ap, subst}
 use Rattle.std.specs.List.{All, Contains}
-use Rattle.flat_net.specs.declared.signals.Signal.{Signal}
+use Rattle.event_nodes.specs.flat_net.declared.signals.Signal.{Signal}
 use Rattle.std.proofs.lemmas.Option.{slice_get_within}
-use Rattle.flat_net.specs.View.{NetView}
-use Rattle.flat_net.proofs.Places.{one_at}
+use Rattle.event_nodes.specs.flat_net.View.{NetView}
+use Rattle.event_nodes.proofs.flat_net.Places.{one_at}
 use Rattle.latch_cone.specs.Cones.{AreOthers}
 use Rattle.event_nodes.specs.Nodes.{EventGraphView, IsChild}
 use Rattle.event_nodes.specs.Reach.{IsReachedPlace}

@@ -2,7 +2,7 @@
 use Rattle.std.proofs.Common.{◌≡◌, ◌∙◌, ◌+◌, ◌-◌, ◌<◌, ℕ, length, refl, ap, arith}
 use Rattle.std.proofs.lemmas.Option.{slice_get_within}
 use Rattle.circuit_theory.proofs.Lists.{All-from_each, at_of}
-use Rattle.flat_net.proofs.Places.{All-at}
+use Rattle.event_nodes.proofs.flat_net.Places.{All-at}
 use Rattle.event_nodes.specs.Nodes.{EventGraphView}
 use Rattle.event_nodes.specs.Reach.{IsReachedPlace}
 use Rattle.event_reach.specs.Made.{HasChild}

@@ -1,10 +1,10 @@
 use Rattle.std.proofs.Common.{◌≡◌, ◌+◌, ◌-◌, ◌<◌, ◌≤◌, ℕ, length, slice_get, Some}
 use Rattle.std.specs.List.{All}
-use Rattle.event_theory.specs.EventSizes.{Start}
+use Rattle.circuit_theory.specs.EventSizes.{Start}
 use Rattle.event_nodes.specs.Adds.{Adds}
 use Rattle.event_nodes.specs.Nodes.{GrowsEvents}
 use Rattle.circuit_theory.specs.Depth.{LatchesHaveDepths}
-use Rattle.flat_net.specs.View.{circuit_of}
+use Rattle.event_nodes.specs.flat_net.View.{circuit_of}
 use Rattle.event_nodes.specs.Reach.{IsReachedPlace, IsPassedOn}
 use Rattle.event_reach.specs.Made.{HasChild}
 use Rattle.event_nodes.specs.View.{Enabled}

@@ -1,7 +1,7 @@
 use Rattle.std.proofs.Common.{◌≡◌, ◌<◌, ◌≤◌, ℕ, List, length, slice_get, Some}
 use Rattle.std.specs.List.{Contains}
 use Rattle.circuit_theory.specs.Circuit.{IsLatch}
-use Rattle.flat_net.specs.View.{circuit_of}
+use Rattle.event_nodes.specs.flat_net.View.{circuit_of}
 use Rattle.event_nodes.specs.Adds.{Adds}
 use Rattle.event_reach.proofs.Latches.{IsRootLatch}
 use Rattle.event_reach.proofs.reached.put_latches.Given as goal

@@ -1,6 +1,6 @@
 -- The latches of the signal's cone are begun at the root.
 use Rattle.std.proofs.Common.{◌≡◌, ◌<◌, ℕ, List, length, None, sym, ap, subst, arith}
-use Rattle.flat_net.specs.View.{NetView, circuit_of}
+use Rattle.event_nodes.specs.flat_net.View.{NetView, circuit_of}
 use Rattle.circuit_theory.specs.Circuit.{IsLatch}
 use Rattle.std.specs.List.{Contains}
 use Rattle.latch_cone.specs.Cones.{AreReached}

@@ -1,10 +1,10 @@
 -- The other latches of the latch's cone are begun at the root.
 use Rattle.std.proofs.Common.{◌≡◌, ◌∙◌, ◌<◌, ℕ, List, length, slice_get, Some, sym, ap, subst, arith}
 use Rattle.std.specs.List.{All, Contains}
-use Rattle.flat_net.specs.declared.parts.LatchAt.{LatchAt}
-use Rattle.flat_net.specs.declared.signals.Signal.{Signal}
-use Rattle.flat_net.specs.View.{NetView}
-use Rattle.flat_net.proofs.Nets.{some_at}
+use Rattle.event_nodes.specs.flat_net.declared.parts.LatchAt.{LatchAt}
+use Rattle.event_nodes.specs.flat_net.declared.signals.Signal.{Signal}
+use Rattle.event_nodes.specs.flat_net.View.{NetView}
+use Rattle.event_nodes.proofs.flat_net.Nets.{some_at}
 use Rattle.latch_cone.specs.Cones.{AreOthers}
 use Rattle.event_nodes.specs.Adds.{Adds}
 use Rattle.event_nodes.proofs.Lists.{adds_contains}

@@ -3,8 +3,8 @@ use Rattle.std.proofs.Common.{◌≡◌, ◌∙◌, ℕ, Bool, List, length, Res
 use Rattle.std.specs.Prelude.{IfOk}
 use Rattle.circuit_theory.specs.Query.{same_shift}
 use Rattle.circuit_theory.specs.Sequence.{sequence_rows}
-use Rattle.event_theory.specs.EventFrames.{frame_of}
-use Rattle.event_theory.specs.Frame.{bits_as_shifts}
+use Rattle.circuit_theory.specs.EventFrames.{frame_of}
+use Rattle.circuit_theory.specs.Frame.{bits_as_shifts}
 use Rattle.event_variables.specs.Variables.{variables_of}
 use Rattle.shift_variables.specs.Variables as shift
 use Rattle.assume_laws.specs.Sequences.{filled, filled_frame}

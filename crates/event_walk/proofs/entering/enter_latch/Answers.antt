@@ -1,7 +1,7 @@
 -- An enabled latch is entered twice, a plain one once.
 use Rattle.std.proofs.Common.{◌≡◌, slice_get, Some, refl, subst, inl, inr}
-use Rattle.flat_net.specs.View.{NetView}
-use Rattle.flat_net.proofs.Places.{one_at}
+use Rattle.event_nodes.specs.flat_net.View.{NetView}
+use Rattle.event_nodes.proofs.flat_net.Places.{one_at}
 use Rattle.event_nodes.proofs.Lists.{adds_trans}
 use Rattle.event_walk.specs.declared.frames.Frame.{Frame}
 use Rattle.event_walk.specs.declared.frames.Put.TheVariants.{Free, Low, High}

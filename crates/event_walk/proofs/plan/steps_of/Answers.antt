@@ -2,7 +2,7 @@
 use Rattle.std.proofs.Common.{◌≡◌, ◌∙◌, ◌≤◌, ℕ, arith, length, slice_get, Some}
 use Rattle.std.proofs.lemmas.List.{take_all}
 use Rattle.std.proofs.lemmas.Option.{slice_get_within}
-use Rattle.flat_net.proofs.Places.{All-at}
+use Rattle.event_nodes.proofs.flat_net.Places.{All-at}
 use Rattle.event_walk.specs.declared.frames.Frame.{Frame}
 use Rattle.event_walk.proofs.Planning.{steps_none, steps_more}
 use Rattle.event_walk.proofs.plan.steps_of.Goals as goal

@@ -1,9 +1,9 @@
 -- The names are distinct, and each row has a bit for each; the rows, the values and the name are those of the difference.
 use Rattle.std.proofs.Common.{◌∙◌, ℕ, Bool, List, length, refl, sym, ap, subst}
 use Rattle.sec_base.specs.Table.{AreDistinct}
-use Rattle.event_theory.specs.EventFrames.{frame_of}
-use Rattle.event_theory.specs.Frame.{bits_as_shifts}
-use Rattle.event_variables.specs.Variables.{variables_of}
+use Rattle.circuit_theory.specs.EventFrames.{frame_of}
+use Rattle.circuit_theory.specs.Frame.{bits_as_shifts}
+use Rattle.frame_sequences.specs.event_variables.Variables.{variables_of}
 use Rattle.event_witness.specs.Sequences.{AreSidesOf}
 use Rattle.event_witness.proofs.Told.{rows_fit, rows_told}
 use Rattle.event_witness.proofs.witness.witness_of.Goals as goal

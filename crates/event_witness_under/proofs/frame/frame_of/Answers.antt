@@ -1,7 +1,7 @@
 -- The frame is told of the query's variables.
 use Rattle.std.proofs.Common.{◌∙◌, ◌<◌, ℕ, Bool, List, length, refl, sym, ap, subst}
 use Rattle.std.specs.List.{All}
-use Rattle.event_form.specs.Frames.{TellsFrame}
+use Rattle.event_shown_under.specs.event_form.Frames.{TellsFrame}
 use Rattle.event_witness_under.proofs.frame.frame_of.Goals as goal
 
 pub frame_under-requires-clause-within : goal.frame_under-requires-clause-within

@@ -1,7 +1,7 @@
 -- The rows that are written are the sequence.
 use Rattle.std.proofs.Common.{◌∙◌}
-use Rattle.event_theory.specs.EventFrames.{frame_of}
-use Rattle.event_theory.specs.Frame.{bits_as_shifts}
+use Rattle.circuit_theory.specs.EventFrames.{frame_of}
+use Rattle.circuit_theory.specs.Frame.{bits_as_shifts}
 use Rattle.event_variables.specs.Variables.{variables_of}
 use Rattle.frame_sequences.proofs.Filling.{rows_are}
 use Rattle.frame_sequences.proofs.rows.frame_rows.Goals as goal

@@ -1,6 +1,6 @@
 use Rattle.std.proofs.Common.{◌≤◌, length, drop}
-use Rattle.event_theory.specs.EventFrames.{frame_of}
-use Rattle.event_theory.specs.Frame.{bits_as_shifts}
+use Rattle.circuit_theory.specs.EventFrames.{frame_of}
+use Rattle.circuit_theory.specs.Frame.{bits_as_shifts}
 use Rattle.event_variables.specs.Variables.{variables_of}
 use Rattle.frame_sequences.specs.Frames.{AreRowsOf}
 use Rattle.frame_sequences.proofs.rows.put_variables.Given as goal

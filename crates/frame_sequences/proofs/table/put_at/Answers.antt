@@ -1,7 +1,7 @@
 -- The bit in its row, or in none.
 use Rattle.std.proofs.Common.{◌≡◌, ◌∙◌, ◌-◌, ◌<◌, ◌≤◌, slice_get, Some, refl, sym, ap, arith, inl, inr}
 use Rattle.std.proofs.lemmas.Option.{slice_get-get_or}
-use Rattle.event_theory.specs.Frame.{always_node}
+use Rattle.circuit_theory.specs.Frame.{always_node}
 use Rattle.frame_sequences.proofs.Filling.{put_past, put_one}
 use Rattle.frame_sequences.proofs.table.put_at.Goals as goal
 use Rattle.frame_sequences.proofs.table.put_at.Goals.{then-steps-last-via-then-steps-last, then-steps-last-via-else-steps-last+then-input-count}

@@ -1,7 +1,7 @@
 -- A variable whose node is so many steps of class 0, or isn't.
 use Rattle.std.proofs.Common.{◌≡◌, ◌∙◌, ℕ, List, sym, ap, subst}
 use Rattle.circuit_theory.specs.Query.{Variable}
-use Rattle.event_theory.specs.Frame.{always_node}
+use Rattle.circuit_theory.specs.Frame.{always_node}
 use Rattle.event_variables.specs.Variables.{variable_of}
 use Rattle.event_variables.proofs.NodePaths.{variable_is}
 use Rattle.frame_sequences.specs.Frames.{HasPut}

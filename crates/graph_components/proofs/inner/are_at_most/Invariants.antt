@@ -1,6 +1,6 @@
 use Rattle.std.proofs.Common.{◌≤◌, get_or, take}
 use Rattle.std.specs.List.{All}
-use Rattle.flat_net.specs.declared.signals.Signal.{Signal}
+use Rattle.signal_graph.specs.flat_net.declared.signals.Signal.{Signal}
 use Rattle.graph_components.proofs.inner.are_at_most.Given as goal
 
 abbrev pub invariant-loop-read : goal.invariant-loop-read

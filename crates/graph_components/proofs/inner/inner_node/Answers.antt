@@ -1,5 +1,5 @@
 use Rattle.std.proofs.Common.{◌≡◌, ◌∙◌, ◌==◌, List, filter, get_or, ap}
-use Rattle.flat_net.specs.declared.signals.Signal.{Signal}
+use Rattle.signal_graph.specs.flat_net.declared.signals.Signal.{Signal}
 use Rattle.graph_components.proofs.inner.inner_node.Goals as goal
 
 pub returns : goal.returns

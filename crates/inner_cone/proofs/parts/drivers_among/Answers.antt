@@ -2,7 +2,7 @@ use Rattle.std.proofs.Common.{◌∙◌, ◌+◌, ◌++◌, [], ◌∷◌, ℕ, 
 use Rattle.std.specs.List.{filter_map}
 use Rattle.std.specs.Option.{option_to_list}
 use Rattle.std.proofs.lemmas.List.Elements.{filter_map-append}
-use Rattle.flat_net.proofs.TableLemmas.{take-push}
+use Rattle.latch_cone.proofs.flat_net.TableLemmas.{take-push}
 use Rattle.latch_cone.specs.Parts.{gate_at}
 use Rattle.latch_cone.proofs.ConeGates.{made_of_one}
 use Rattle.inner_cone.proofs.parts.drivers_among.Goals as goal

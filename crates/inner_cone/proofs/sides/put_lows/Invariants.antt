@@ -1,6 +1,6 @@
 use Rattle.std.specs.Prelude.{◌≡◌, ◌<◌, ℕ, slice_get, Some, Contains}
-use Rattle.flat_net.specs.declared.signals.Signal.{Signal}
-use Rattle.flat_net.specs.View.{NetView}
+use Rattle.latch_cone.specs.flat_net.declared.signals.Signal.{Signal}
+use Rattle.latch_cone.specs.flat_net.View.{NetView}
 use Rattle.latch_cone.specs.Cones.{AreRead}
 use Rattle.inner_cone.specs.Inner.{IsLow}
 use Rattle.inner_cone.specs.Sides.{AreSomeSides, AreKept}

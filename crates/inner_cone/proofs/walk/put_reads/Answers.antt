@@ -2,12 +2,12 @@ use Rattle.std.proofs.Common.{◌≡◌, ◌<◌, ℕ, List, Some, slice_get, le
 use Rattle.std.specs.Prelude.{◌⊎◌, Contains}
 use Rattle.inner_cone.specs.Inner.{IsLow}
 use Rattle.std.proofs.lemmas.Option.{slice_get_within, slice_get_read}
-use Rattle.flat_net.specs.declared.signals.Signal.{Signal}
-use Rattle.flat_net.specs.declared.parts.Gate.{Gate}
-use Rattle.flat_net.specs.declared.parts.Driver.TheVariants as driver
-use Rattle.flat_net.specs.View.{circuit_of}
-use Rattle.flat_net.proofs.Places.{one_at, All-at}
-use Rattle.circuit_theory.specs.Circuit.{Reads}
+use Rattle.latch_cone.specs.flat_net.declared.signals.Signal.{Signal}
+use Rattle.latch_cone.specs.flat_net.declared.parts.Gate.{Gate}
+use Rattle.latch_cone.specs.flat_net.declared.parts.Driver.TheVariants as driver
+use Rattle.latch_cone.specs.flat_net.View.{circuit_of}
+use Rattle.latch_cone.proofs.flat_net.Places.{one_at, All-at}
+use Rattle.latch_cone.specs.circuit_theory.Circuit.{Reads}
 use Rattle.latch_cone.proofs.Walks.{gate_reads, gate_fanins, reach_more}
 use Rattle.inner_cone.proofs.walk.put_reads.Goals as goal
 

@@ -2,12 +2,12 @@
 use Rattle.std.proofs.Common.{◌≡◌, ◌≢◌, ◌<◌, ◌+◌, ℕ, Some, slice_get, length, subst, sym, arith, inl, inr}
 use Rattle.std.specs.Prelude.{Contains, ◌⊎◌}
 use Rattle.std.proofs.lemmas.Option.{slice_get_within}
-use Rattle.circuit_theory.proofs.Lists.{at_of}
-use Rattle.circuit_theory.proofs.Sums.{same_or_not}
-use Rattle.circuit_theory.specs.Circuit.{Reads, Reaches}
-use Rattle.flat_net.proofs.Places.{one_at}
-use Rattle.flat_net.proofs.Nets.{some_at}
-use Rattle.flat_net.specs.View.{circuit_of}
+use Rattle.latch_cone.proofs.circuit_theory.Lists.{at_of}
+use Rattle.latch_cone.proofs.circuit_theory.Sums.{same_or_not}
+use Rattle.latch_cone.specs.circuit_theory.Circuit.{Reads, Reaches}
+use Rattle.latch_cone.proofs.flat_net.Places.{one_at}
+use Rattle.latch_cone.proofs.flat_net.Nets.{some_at}
+use Rattle.latch_cone.specs.flat_net.View.{circuit_of}
 use Rattle.latch_cone.specs.Cones.{AreSome}
 use Rattle.latch_cone.proofs.Walks.{some_none, some_few}
 use Rattle.inner_cone.specs.Inner.{IsLow, IsHighPut}

@@ -1,6 +1,6 @@
 use Rattle.std.specs.Prelude.{◌≡◌, ◌<◌, ◌-◌, ◌⊎◌, ℕ, length, slice_get, Some, Contains}
-use Rattle.circuit_theory.specs.Circuit.{Reads}
-use Rattle.flat_net.specs.View.{circuit_of}
+use Rattle.latch_cone.specs.circuit_theory.Circuit.{Reads}
+use Rattle.latch_cone.specs.flat_net.View.{circuit_of}
 use Rattle.latch_cone.specs.Cones.{AreSome}
 use Rattle.inner_cone.specs.Inner.{IsLow}
 use Rattle.inner_cone.proofs.walk.walked.Given as goal

@@ -3,10 +3,10 @@ use Rattle.circuit_theory.specs.declared.Side.TheVariants.{A, B}
 use Rattle.pair_gen.specs.Words.{words_of}
 use Rattle.pair_gen.proofs.Whole.{twin_comparable}
 use Rattle.outcome.specs.declared.verdict.Outcome.{Outcome}
-use Rattle.gen_meaning.specs.CompareError.{CompareError}
-use Rattle.gen_meaning.specs.Compared.{Compared}
-use Rattle.gen_meaning.specs.Found.{settings_of}
-use Rattle.gen_meaning.proofs.Never.{never_refused}
+use Rattle.plain_check.specs.compare_base.declared.error.CompareError.{CompareError}
+use Rattle.plain_check.specs.compare_base.Compared.{Compared}
+use Rattle.job_gen.specs.gen_meaning.Found.{settings_of}
+use Rattle.job_gen.proofs.gen_meaning.Never.{never_refused}
 use Rattle.job_gen.proofs.generation.compare_twins.Goals as goal
 
 pub compare_plainly-requires-clause-uncut : goal.compare_plainly-requires-clause-uncut

@@ -1,5 +1,5 @@
 use Rattle.std.proofs.Common.{◌≡◌, true, false, sym, ap, ◌∙◌, Bool, nat_eq}
-use Rattle.circuit_theory.proofs.Inputs.{test_refl}
+use Rattle.flat_net.proofs.circuit_theory.Inputs.{test_refl}
 use Rattle.latch_cone.proofs.walk.is_other.Goals as goal
 
 pub returns-in-Latch-clause-yes : goal.returns-in-Latch-clause-yes

@@ -1,6 +1,6 @@
 use Rattle.std.proofs.Common.{◌≡◌, ◌<◌, List, Some, slice_get, length, refl, subst, ap, arith}
 use Rattle.std.proofs.lemmas.Option.{slice_get_read}
-use Rattle.circuit_theory.proofs.Lists.{at_of}
+use Rattle.flat_net.proofs.circuit_theory.Lists.{at_of}
 use Rattle.flat_net.proofs.Places.{one_at}
 use Rattle.flat_net.specs.declared.parts.LatchAt.{LatchAt}
 use Rattle.latch_cone.specs.Cones.{AreOthers}

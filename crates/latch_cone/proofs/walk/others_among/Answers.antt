@@ -1,6 +1,6 @@
 use Rattle.std.proofs.Common.{◌≡◌, List, Some, slice_get, subst, arith, ◌∙◌, inl, inr}
 use Rattle.std.proofs.lemmas.Option.{slice_get_within}
-use Rattle.circuit_theory.proofs.Lists.{at_of}
+use Rattle.flat_net.proofs.circuit_theory.Lists.{at_of}
 use Rattle.flat_net.specs.declared.signals.Signal.{Signal}
 use Rattle.latch_cone.proofs.Walks.{others_more, nothing_at}
 use Rattle.latch_cone.proofs.walk.others_among.Goals.{then-is_other+in_ok-push, else-is_other}

@@ -3,7 +3,7 @@ use Rattle.std.specs.Prelude.{◌⊎◌, Contains}
 use Rattle.std.proofs.lemmas.Option.{slice_get_within, slice_get-get_or}
 use Rattle.flat_net.specs.declared.signals.Signal.{Signal}
 use Rattle.flat_net.proofs.Places.{one_at}
-use Rattle.circuit_theory.proofs.Sums.{same_or_not}
+use Rattle.flat_net.proofs.circuit_theory.Sums.{same_or_not}
 use Rattle.latch_cone.proofs.Walks.{IsPut, is_put, put_stay, put_there, stay_there, put_some}
 use Rattle.latch_cone.proofs.walk.put_all.Goals as goal
 

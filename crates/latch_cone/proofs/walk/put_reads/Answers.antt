@@ -6,7 +6,7 @@ use Rattle.flat_net.specs.declared.parts.Gate.{Gate}
 use Rattle.flat_net.specs.declared.parts.Driver.TheVariants as driver
 use Rattle.flat_net.specs.View.{circuit_of}
 use Rattle.flat_net.proofs.Places.{one_at, All-at}
-use Rattle.circuit_theory.specs.Circuit.{Reads}
+use Rattle.flat_net.specs.circuit_theory.Circuit.{Reads}
 use Rattle.latch_cone.proofs.Walks.{gate_reads, gate_fanins, reach_more}
 use Rattle.latch_cone.proofs.walk.put_reads.Goals as goal
 

@@ -1,9 +1,9 @@
 use Rattle.std.proofs.Common.{◌≡◌, ◌≢◌, ◌<◌, ◌+◌, ℕ, Some, slice_get, length, subst, sym, arith, inl, inr}
 use Rattle.std.specs.Prelude.{Contains, ◌⊎◌}
 use Rattle.std.proofs.lemmas.Option.{slice_get_within}
-use Rattle.circuit_theory.proofs.Lists.{at_of}
-use Rattle.circuit_theory.proofs.Sums.{same_or_not}
-use Rattle.circuit_theory.specs.Circuit.{Reads, Reaches}
+use Rattle.flat_net.proofs.circuit_theory.Lists.{at_of}
+use Rattle.flat_net.proofs.circuit_theory.Sums.{same_or_not}
+use Rattle.flat_net.specs.circuit_theory.Circuit.{Reads, Reaches}
 use Rattle.flat_net.proofs.Places.{one_at}
 use Rattle.flat_net.proofs.Nets.{some_at}
 use Rattle.flat_net.specs.View.{circuit_of}

@@ -1,7 +1,7 @@
 use Rattle.std.proofs.Common.{◌≡◌, ◌<◌, ℕ, List, [], ◌∷◌, ◌++◌, true, false, length, drop, slice_get, Some, subst, sym, ap, ◌∙◌, refl, arith}
 use Rattle.std.proofs.Math.ListN.{set}
 use Rattle.std.proofs.lemmas.Option.{slice_get_read}
-use Rattle.flat_net.proofs.Growth.{length-push}
+use Rattle.signal_graph.proofs.flat_net.Growth.{length-push}
 use Rattle.latch_graph.specs.Rounds.{IsTrail, IsRound}
 use Rattle.latch_graph.proofs.Trails.{trail_more, trail_short, round_closes}
 use Rattle.latch_graph.proofs.rounds.round_from.Goals as goal

@@ -1,11 +1,11 @@
 use Rattle.std.proofs.Common.{◌≡◌, ◌≢◌, ℕ, ◌+◌, ◌<◌, slice_get, Some, sym, ◌∙◌, subst, arith, inl, inr}
 use Rattle.std.specs.Prelude.{◌⊎◌}
 use Rattle.std.proofs.lemmas.Option.{slice_get_within}
-use Rattle.flat_net.specs.declared.signals.Signal.{Signal}
-use Rattle.flat_net.proofs.Places.{one_at}
+use Rattle.signal_graph.specs.flat_net.declared.signals.Signal.{Signal}
+use Rattle.signal_graph.proofs.flat_net.Places.{one_at}
 use Rattle.circuit_theory.proofs.Sums.{same_or_not}
 use Rattle.latch_graph.specs.Settling.{HasDepth}
-use Rattle.unfolding_weight.proofs.Lists.{read_at}
+use Rattle.signal_graph.proofs.Lists.{read_at}
 use Rattle.latch_graph.proofs.Tables.{tells_depth, tells_none}
 use Rattle.latch_graph.proofs.states.first_without.Goals as goal
 

@@ -1,7 +1,7 @@
 use Rattle.std.proofs.Common.{◌≡◌, List, get_or, slice_get, Some, length, subst, ap, arith}
 use Rattle.latch_graph.specs.declared.states.Step.{Step}
 use Rattle.latch_graph.specs.Settling.{IsGivenUp}
-use Rattle.unfolding_weight.proofs.Lists.{read_at}
+use Rattle.signal_graph.proofs.Lists.{read_at}
 use Rattle.latch_graph.proofs.Ways.{given_up_none, given_up_more}
 use Rattle.latch_graph.proofs.states.give_up.Goals as goal
 

@@ -1,7 +1,7 @@
 use Rattle.std.proofs.Common.{◌+◌, get_or, subst, sym}
-use Rattle.flat_net.specs.declared.signals.Signal.{Signal}
+use Rattle.signal_graph.specs.flat_net.declared.signals.Signal.{Signal}
 use Rattle.latch_graph.specs.declared.states.State.TheVariants.{New}
-use Rattle.unfolding_weight.proofs.Lists.{read_at}
+use Rattle.signal_graph.proofs.Lists.{read_at}
 use Rattle.latch_graph.proofs.Tables.{IsGreatestBefore, told_depth, greatest_none, greatest_same, greatest_more, greatest_all}
 use Rattle.latch_graph.proofs.states.greatest.Goals as goal
 use Rattle.latch_graph.proofs.states.greatest.Goals.{then-most-depth, else-most-depth}

@@ -1,13 +1,13 @@
 use Rattle.std.proofs.Common.{◌≡◌, List, [], ◌∷◌, ◌++◌, get_or, slice_get, Option, Some, length, subst, sym, ap, ◌∙◌, arith}
 use Rattle.std.proofs.lemmas.Option.{slice_get_within}
-use Rattle.flat_net.proofs.Growth.{length-push}
-use Rattle.flat_net.proofs.Nets.{some_at}
+use Rattle.signal_graph.proofs.flat_net.Growth.{length-push}
+use Rattle.signal_graph.proofs.flat_net.Nets.{some_at}
 use Rattle.latch_graph.specs.declared.states.State.{State}
 use Rattle.latch_graph.specs.declared.states.State.TheVariants.{New, Open}
 use Rattle.latch_graph.specs.declared.states.Step.{Step}
 use Rattle.latch_graph.specs.Settling.{IsLater}
-use Rattle.unfolding_weight.proofs.Lists.{set_same}
-use Rattle.unfolding_weight.proofs.Lists.{read_at}
+use Rattle.signal_graph.proofs.Lists.{set_same}
+use Rattle.signal_graph.proofs.Lists.{read_at}
 use Rattle.latch_graph.proofs.Ways.{way_along, way_opens, later_same, later_after, set_later}
 use Rattle.latch_graph.proofs.states.settle_from.Goals as goal
 

@@ -1,12 +1,12 @@
 use Rattle.std.proofs.Common.{◌≡◌, ◌+◌, slice_get, Option, Some, length, subst, sym, ap, ◌∙◌, refl, arith}
 use Rattle.std.proofs.Math.ListN.{set}
 use Rattle.std.proofs.lemmas.Option.{slice_get_within}
-use Rattle.flat_net.proofs.Growth.{length-push}
-use Rattle.flat_net.proofs.Nets.{some_at}
+use Rattle.signal_graph.proofs.flat_net.Growth.{length-push}
+use Rattle.signal_graph.proofs.flat_net.Nets.{some_at}
 use Rattle.latch_graph.specs.declared.states.State.TheVariants.{New, Open}
 use Rattle.latch_graph.specs.declared.states.State.{State}
 use Rattle.latch_graph.specs.Settling.{IsLater, new_count}
-use Rattle.unfolding_weight.proofs.Lists.{read_at}
+use Rattle.signal_graph.proofs.Lists.{read_at}
 use Rattle.latch_graph.proofs.Tables.{new_count-set}
 use Rattle.latch_graph.proofs.Ways.{way_along, way_opens, way_given_up, given_up_later, set_later}
 use Rattle.latch_graph.proofs.states.wait_for.Goals as goal

@@ -1,6 +1,6 @@
 -- Before the first turn, and after the last.
 use Rattle.std.proofs.Common.{length, List, [], refl, subst, sym, ap, ◌∙◌}
-use Rattle.flat_net.specs.declared.parts.LatchAt.{LatchAt}
+use Rattle.graph_components.specs.flat_net.declared.parts.LatchAt.{LatchAt}
 use Rattle.minimal_cut.specs.declared.marks.Mark.{Mark}
 use Rattle.minimal_cut.specs.Marks.{AreFirst}
 use Rattle.minimal_cut.specs.Trying.{IsSide}

@@ -2,7 +2,7 @@
 use Rattle.std.proofs.Common.{◌≡◌, ◌<◌, length, get_or, sym, ap, ◌∙◌, arith}
 use Rattle.std.specs.Prelude.{◌||◌}
 use Rattle.std.proofs.lemmas.Option.{slice_get-get_or}
-use Rattle.flat_net.proofs.Places.{All-at}
+use Rattle.graph_components.proofs.flat_net.Places.{All-at}
 use Rattle.minimal_cut.proofs.Sides.{signal_within}
 use Rattle.minimal_cut.proofs.Tried.{few_positions, tried_turn}
 use Rattle.minimal_cut.proofs.trial.try_all.Goals as goal

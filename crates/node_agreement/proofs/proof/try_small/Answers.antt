@@ -1,6 +1,6 @@
 use Rattle.std.proofs.Common.{◌≡◌, ℕ, List, sym, subst}
-use Rattle.aig.specs.declared.node.Lit.{Lit}
-use Rattle.aig.specs.declared.node.Node.{Node}
+use Rattle.root_classes.specs.aig.declared.node.Lit.{Lit}
+use Rattle.root_classes.specs.aig.declared.node.Node.{Node}
 use Rattle.node_agreement.specs.Standing.{AreLocal}
 use Rattle.pair_decide.proofs.Read.{IfOk-then}
 use Rattle.node_agreement.proofs.Told.{answer-told}

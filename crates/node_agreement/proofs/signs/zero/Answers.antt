@@ -1,4 +1,4 @@
-use Rattle.aig.proofs.CoverMeaning.{value-zero}
+use Rattle.root_classes.proofs.aig.CoverMeaning.{value-zero}
 use Rattle.node_agreement.proofs.signs.zero.Goals as goal
 
 pub returns-clause-value : goal.returns-clause-value

@@ -1,5 +1,5 @@
 use Rattle.std.proofs.Common.{arith}
-use Rattle.aig.proofs.Insert.{graph-some}
+use Rattle.root_classes.proofs.aig.Insert.{graph-some}
 use Rattle.root_classes.proofs.Assigned.{inputs-distinct}
 use Rattle.node_agreement.proofs.Asked.{all-covered, table-found}
 use Rattle.node_agreement.proofs.table.number_of.Goals as goal

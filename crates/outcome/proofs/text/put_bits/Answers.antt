@@ -1,5 +1,5 @@
 use Rattle.std.proofs.Common.{◌≡◌, ℕ, [], ◌∷◌, ◌++◌, codes, OnOk, subst}
-use Rattle.sec_base.specs.Texts.{digit_of}
+use Rattle.witness_report.specs.sec_base.Texts.{digit_of}
 use Rattle.outcome.specs.Report.{bits_text}
 use Rattle.outcome.proofs.text.put_bits.Goals as goal
 

@@ -5,11 +5,11 @@ use Rattle.pair_decide.specs.declared.query.Query.{Query}
 use Rattle.interface.specs.declared.pairs.SignalPair.{SignalPair}
 use Rattle.obligations.specs.declared.obligation.Obligation.{Obligation}
 use Rattle.obligations.specs.Asked.{queries_of}
-use Rattle.assume_answers.specs.declared.order.VariableOrder.TheVariants as order
-use Rattle.assume_answers.specs.Order.{AreOrdered}
-use Rattle.assume_places.specs.Gathered.{IsOverUnder, IsLightUnder}
+use Rattle.assume_queries.specs.declared.assume_answers.order.VariableOrder.TheVariants as order
+use Rattle.assume_queries.specs.assume_answers.Order.{AreOrdered}
+use Rattle.assume_queries.specs.assume_places.Gathered.{IsOverUnder, IsLightUnder}
 use Rattle.assume_shape.specs.Shape.{assumption_of}
-use Rattle.assume_answers.specs.Under.{IsObligationUnder}
+use Rattle.assume_queries.specs.assume_answers.Under.{IsObligationUnder}
 use Rattle.plain_asked.specs.declared.functions.Functions.{Functions}
 use Rattle.plain_asked.specs.Pairs.{Unfolds, AreFunctions, AreLight, left_signals, right_signals}
 use Rattle.plain_asked.proofs.Sound.{AreSound}

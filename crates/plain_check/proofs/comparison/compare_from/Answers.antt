@@ -1,7 +1,7 @@
 -- The outcome of what is found by the setup, in which no latch is cut open.
 use Rattle.std.proofs.Common.{◌≡◌, ◌∙◌, [], length, sym, subst, Ok, None}
 use Rattle.outcome.specs.declared.verdict.Outcome.{Outcome}
-use Rattle.plain_asked.specs.declared.findings.Findings.{Findings}
+use Rattle.plain_form.specs.plain_asked.declared.findings.Findings.{Findings}
 use Rattle.sec_setup.proofs.Uncut.{uncut}
 use Rattle.compare_base.specs.Compared.{Compared}
 use Rattle.compare_base.proofs.Forms.{in_reset}

@@ -5,7 +5,7 @@ use Rattle.obligations.specs.declared.obligation.Obligation.{Obligation}
 use Rattle.obligations.specs.Asked as graph_level
 use Rattle.obligations.specs.Decided.{HaveDecided}
 use Rattle.obligations.specs.Verdict.{IsVerdictAt}
-use Rattle.outcome_fits.specs.Outcome.{greatest_size}
+use Rattle.plain_asked.specs.outcome_fits.Outcome.{greatest_size}
 use Rattle.plain_form.specs.Shown.{CanBeShown, IsShown}
 use Rattle.plain_asked.proofs.Sound.{AreSound, own_pairs}
 use Rattle.plain_form.proofs.FirstPairs.{pairs_fit}

@@ -4,13 +4,13 @@ use Rattle.std.specs.List.{All, AllZip}
 use Rattle.pair_decide.specs.declared.query.Query.{Query}
 use Rattle.obligations.specs.declared.obligation.Obligation.{Obligation}
 use Rattle.obligations.specs.Asked.{queries_of}
-use Rattle.assume_places.specs.Gathered.{IsOverUnder, IsLightUnder}
+use Rattle.assume_queries.specs.assume_places.Gathered.{IsOverUnder, IsLightUnder}
 use Rattle.assume_shape.specs.Shape.{assumption_of}
-use Rattle.assume_answers.specs.declared.order.VariableOrder.TheVariants as order
-use Rattle.assume_answers.specs.Order.{AreOrdered}
-use Rattle.assume_answers.specs.Under.{IsObligationUnder}
+use Rattle.assume_queries.specs.declared.assume_answers.order.VariableOrder.TheVariants as order
+use Rattle.assume_queries.specs.assume_answers.Order.{AreOrdered}
+use Rattle.assume_queries.specs.assume_answers.Under.{IsObligationUnder}
 use Rattle.reset_functions.specs.declared.functions.Functions.{Functions}
-use Rattle.reset_asked.proofs.Sound.{AreSound}
+use Rattle.reset_form.proofs.reset_asked.Sound.{AreSound}
 use Rattle.reset_asked_under.specs.Asked.{AreAskedUnder, CanBeDecided}
 use Rattle.reset_asked_under.specs.Formed.{FormedUnder}
 use Rattle.reset_asked_under.specs.Refusals.{refusal_of, refusal_under}

@@ -3,8 +3,8 @@ use Rattle.std.proofs.Common.{◌∙◌, List, sym, ap, subst}
 use Rattle.outcome.specs.declared.verdict.PairResult.{PairResult}
 use Rattle.obligations.specs.Decided.{HaveDecided}
 use Rattle.obligations.specs.Verdict.{IsVerdictAt}
-use Rattle.outcome_fits.specs.ResetOutcome.{greatest_size}
-use Rattle.reset_asked.proofs.Sound.{AreSound}
+use Rattle.reset_form.specs.outcome_fits.ResetOutcome.{greatest_size}
+use Rattle.reset_form.proofs.reset_asked.Sound.{AreSound}
 use Rattle.reset_asked_under.specs.Shown.{CanBeShownUnder, IsShownUnder}
 use Rattle.reset_asked_under.proofs.Verdicts.{are_queries, each_fits, can_be_shown, verdict_fits}
 use Rattle.reset_asked_under.proofs.comparison.findings_under.Goals as goal

@@ -12,7 +12,7 @@ use Rattle.shift_variables.specs.Sequences.{bits_at}
 use Rattle.assume_laws.specs.Sequences.{filled}
 use Rattle.assume_sequences.specs.Filled.{bit_of}
 use Rattle.reset_functions.specs.declared.functions.Functions.{Functions}
-use Rattle.reset_asked.specs.Sequences.{IsSequenceOf}
+use Rattle.reset_form.specs.reset_asked.Sequences.{IsSequenceOf}
 use Rattle.reset_asked_under.specs.Shown.{IsFilledIn, IsFilledSequence}
 use Rattle.reset_asked_under.proofs.shown.sequence_under.Goals as goal
 

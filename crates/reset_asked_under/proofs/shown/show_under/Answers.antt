@@ -3,7 +3,7 @@ use Rattle.std.proofs.Common.{◌≡◌, ◌<◌, length, get_or, slice_get, Som
 use Rattle.std.proofs.lemmas.Option.{slice_get-get_or}
 use Rattle.witness_report.specs.declared.witness.PairName.{PairName}
 use Rattle.outcome.specs.declared.verdict.PairResult.{PairResult}
-use Rattle.reset_asked.specs.declared.findings.ResetVerdict.TheVariants as verdict
+use Rattle.reset_form.specs.declared.reset_asked.findings.ResetVerdict.TheVariants as verdict
 use Rattle.obligations.specs.declared.verdict.VerdictAt.{VerdictAt}
 use Rattle.reset_asked_under.specs.Shown.{CanBeShownUnder, IsShownUnder}
 use Rattle.reset_asked_under.proofs.shown.show_under.Goals as goal

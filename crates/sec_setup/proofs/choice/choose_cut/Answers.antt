@@ -6,7 +6,7 @@ use Rattle.circuit_theory.specs.declared.Side.TheVariants.{A, B}
 use Rattle.cut_points.specs.declared.exposed.ExposeError.{ExposeError}
 use Rattle.cut_points.specs.declared.exposed.ExposeError.TheVariants as expose_error
 use Rattle.cut_points.specs.Exposed.{Exposes}
-use Rattle.flat_net.specs.View.{NetView}
+use Rattle.interface.specs.flat_net.View.{NetView}
 use Rattle.sec_setup.specs.declared.error.SetupError.TheVariants as setup_error
 use Rattle.sec_setup.specs.Choosing.{Chosen}
 use Rattle.sec_setup.proofs.choice.choose_cut.Goals as goal

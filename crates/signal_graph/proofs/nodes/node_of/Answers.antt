@@ -1,8 +1,8 @@
 use Rattle.std.proofs.Common.{◌≡◌, ◌<◌, List, slice_get, Some, None, length, subst, sym, ap, ◌∙◌, refl, arith}
 use Rattle.std.proofs.lemmas.Option.{slice_get_within, slice_get_read}
-use Rattle.flat_net.proofs.Places.{one_at}
-use Rattle.flat_net.specs.declared.parts.Gate.{Gate}
-use Rattle.flat_net.specs.declared.parts.Driver.TheVariants as driver
+use Rattle.inner_cone.proofs.flat_net.Places.{one_at}
+use Rattle.inner_cone.specs.flat_net.declared.parts.Gate.{Gate}
+use Rattle.inner_cone.specs.flat_net.declared.parts.Driver.TheVariants as driver
 use Rattle.signal_graph.specs.Graph.{IsNodeOf}
 use Rattle.signal_graph.proofs.nodes.node_of.Goals as goal
 

@@ -7,7 +7,7 @@ use Rattle.class_events.specs.View.{EventsView}
 use Rattle.class_events.specs.Separated.{AreSeparated}
 use Rattle.class_events.proofs.Telling.{separated_stay}
 use Rattle.event_form.specs.Asked.{IsLater}
-use Rattle.class_separations.specs.declared.apart.Apart.{Apart}
+use Rattle.class_events.specs.class_separations.declared.apart.Apart.{Apart}
 use Rattle.event_nodes.specs.Nodes.{IsEventGraph}
 use Rattle.unshown_pairs.specs.Classes.{AreEntered}
 use Rattle.unshown_pairs.specs.Telling.{IsToldAt, two_of}

@@ -1,6 +1,6 @@
 use Rattle.std.proofs.Common.{◌≡◌, ℕ, ◌<◌, List, length, get_or, slice_get, Some, arith, sym, subst, ◌∙◌}
 use Rattle.std.proofs.lemmas.Option.{slice_get-get_or, slice_get_within}
-use Rattle.circuit_theory.proofs.Lists.{of_at}
+use Rattle.sec_base.proofs.circuit_theory.Lists.{of_at}
 use Rattle.aig.specs.declared.node.Node.{Node}
 use Rattle.aig.specs.declared.node.Node.TheVariants.{Constant}
 use Rattle.aig.specs.Cone.{IsClosed, IsPartOf, IsPlacedNode}

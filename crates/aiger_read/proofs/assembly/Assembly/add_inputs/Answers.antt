@@ -3,7 +3,7 @@ use Rattle.flat_net.specs.Makes.{MakerView}
 use Rattle.aiger_records.specs.declared.record.Record.TheVariants.{Input}
 use Rattle.aiger_graph.specs.Circuit.{input_of, input_literals}
 use Rattle.std.proofs.lemmas.List.{length-append}
-use Rattle.aiger_symbols.specs.Names.{name_of}
+use Rattle.aiger_file.specs.Names.{name_of}
 use Rattle.aiger_read.specs.Made.{IsMade}
 use Rattle.aiger_read.proofs.LiteralLists.{kept_more, kept_same}
 use Rattle.aiger_read.proofs.Making.{record_there, no_input, room, next_low, fresh, input_next, input_named, made_input}

@@ -4,9 +4,9 @@ use Rattle.std.specs.List.{filter}
 use Rattle.aiger_read.specs.Signals.{is_gate}
 use Rattle.flat_net.specs.declared.signals.Signal.{Signal}
 use Rattle.flat_net.specs.Makes.{MakerView, with_output}
-use Rattle.net_assembly.proofs.Nexts.{read_at}
+use Rattle.aiger_graph.proofs.net_assembly.Nexts.{read_at}
 use Rattle.aiger_records.specs.declared.record.Record.TheVariants.{Input, Output}
-use Rattle.aiger_symbols.specs.Names.{name_of}
+use Rattle.aiger_file.specs.Names.{name_of}
 use Rattle.aiger_graph.specs.Circuit.{output_of, input_literals, latches_in, output_literals}
 use Rattle.aiger_read.specs.Made.{HasOutputs}
 use Rattle.aiger_read.proofs.LiteralLists.{kept_more, kept_same}

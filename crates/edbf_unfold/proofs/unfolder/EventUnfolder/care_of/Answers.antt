@@ -2,10 +2,10 @@
 use Rattle.std.proofs.Common.{◌+◌, ◌*◌, ◌≤◌, ℕ, List, length, get_or, sym, subst, arith}
 use Rattle.std.proofs.lemmas.List.{take_all}
 use Rattle.std.proofs.lemmas.Option.{slice_get_within, slice_get-get_or}
-use Rattle.event_walk.specs.declared.frames.Ways.{Ways}
+use Rattle.event_literals.specs.event_walk.declared.frames.Ways.{Ways}
 use Rattle.edbf_unfold.specs.Care.{IsCareOf}
 use Rattle.event_literals.specs.Known.{IsMet}
-use Rattle.event_walk.specs.Ready.{IsReadyBy}
+use Rattle.event_literals.specs.event_walk.Ready.{IsReadyBy}
 use Rattle.edbf_unfold.proofs.Caring.{care_none, care_next}
 use Rattle.event_literals.proofs.Going.{are_known_later, grown_trans}
 use Rattle.event_literals.proofs.Lits.{grown_none}

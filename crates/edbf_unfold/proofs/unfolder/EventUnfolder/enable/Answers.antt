@@ -4,18 +4,18 @@ use Rattle.event_literals.specs.LatchAt.{LatchAt}
 use Rattle.event_literals.specs.Sound.{IsSound}
 use Rattle.event_literals.specs.View.{NetView}
 use Rattle.event_literals.proofs.Places.{one_at}
-use Rattle.event_nodes.specs.View.{EventCircuitView, IsEventCircuit}
-use Rattle.event_nodes.specs.Visited.{IsWeighed}
-use Rattle.event_nodes.proofs.Growing.{grows_trans}
-use Rattle.event_nodes.proofs.Lists.{adds_trans}
-use Rattle.event_walk.specs.declared.frames.Put.TheVariants.{Low}
-use Rattle.event_walk.specs.declared.frames.Ways.{Ways}
+use Rattle.event_literals.specs.event_nodes.View.{EventCircuitView, IsEventCircuit}
+use Rattle.event_literals.specs.event_nodes.Visited.{IsWeighed}
+use Rattle.event_literals.proofs.event_nodes.Growing.{grows_trans}
+use Rattle.event_literals.proofs.event_nodes.Lists.{adds_trans}
+use Rattle.event_literals.specs.event_walk.declared.frames.Put.TheVariants.{Low}
+use Rattle.event_literals.specs.event_walk.declared.frames.Ways.{Ways}
 use Rattle.edbf_unfold.specs.Care.{IsCareLit}
 use Rattle.event_literals.specs.Known.{IsEnableLit}
-use Rattle.event_walk.specs.Walk.{IsCounting, HasCountedStart, enable_start}
+use Rattle.event_literals.specs.event_walk.Walk.{IsCounting, HasCountedStart, enable_start}
 use Rattle.event_literals.specs.Built.{AreMetOn}
 use Rattle.edbf_unfold.proofs.Caring.{enable_later}
-use Rattle.event_walk.proofs.Exact.{counting_trans}
+use Rattle.event_literals.proofs.event_walk.Exact.{counting_trans}
 use Rattle.edbf_unfold.proofs.Finishing.{unfolded_more, unfolded_trans, counting_same, finished_care, finished_count}
 use Rattle.event_literals.proofs.Going.{are_known_later}
 use Rattle.event_literals.proofs.Rooted.{next_within, enable_lit, walked_later, walked_met}

@@ -1,7 +1,7 @@
 -- The unfolder is its builder.
 use Rattle.std.proofs.Common.{ℕ, sym, subst}
-use Rattle.event_theory.specs.EventSizes.{Start}
-use Rattle.event_walk.specs.Walk.{IsRootOf, IsCounting}
+use Rattle.circuit_theory.specs.EventSizes.{Start}
+use Rattle.event_literals.specs.event_walk.Walk.{IsRootOf, IsCounting}
 use Rattle.event_literals.specs.Known.{EventUnfolderView, AreKnown}
 use Rattle.edbf_unfold.proofs.unfolder.EventUnfolder.unfold_in.Goals as goal
 

@@ -2,12 +2,12 @@
 use Rattle.std.proofs.Common.{◌≡◌, ◌∙◌, ◌<◌, length, slice_get, Some, sym, ap, subst}
 use Rattle.std.proofs.lemmas.Option.{slice_get_within}
 use Rattle.event_literals.specs.View.{NetView}
-use Rattle.event_nodes.specs.View.{EventCircuitView, Enabled}
-use Rattle.event_nodes.proofs.Drivers.{driven_latch, latch_out, latch_equation_stands}
-use Rattle.event_walk.specs.declared.frames.Step.{Step}
+use Rattle.event_literals.specs.event_nodes.View.{EventCircuitView, Enabled}
+use Rattle.event_literals.proofs.event_nodes.Drivers.{driven_latch, latch_out, latch_equation_stands}
+use Rattle.event_literals.specs.event_walk.declared.frames.Step.{Step}
 use Rattle.edbf_unfold.proofs.Caring.{with_none, with_own, low_met, high_met}
 use Rattle.event_literals.proofs.Going.{are_known_later}
-use Rattle.event_walk.proofs.Lent.{sound_of, latch_of_lent}
+use Rattle.event_literals.proofs.event_walk.Lent.{sound_of, latch_of_lent}
 use Rattle.edbf_unfold.proofs.unfolder.EventUnfolder.with_free.Goals as goal
 
 pub is_enabled-requires : goal.is_enabled-requires

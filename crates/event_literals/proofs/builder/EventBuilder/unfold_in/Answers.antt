@@ -1,13 +1,13 @@
 -- All that the walk met is built, so that the root's literal was met.
 use Rattle.std.proofs.Common.{◌≡◌, ◌∙◌, ℕ, List, length, refl, ap, sym, subst, arith}
 use Rattle.std.specs.List.{sum_by}
-use Rattle.flat_net.specs.Sound.{IsSound}
-use Rattle.event_nodes.specs.Nodes.{IsTree}
-use Rattle.event_nodes.specs.View.{EventCircuitView}
-use Rattle.event_nodes.specs.Visited.{IsWeighed}
-use Rattle.event_nodes.specs.Weights.{weight_at}
-use Rattle.event_nodes.proofs.Growing.{grows_refl, grows_trans}
-use Rattle.event_nodes.proofs.Lists.{adds_none}
+use Rattle.event_walk.specs.flat_net.Sound.{IsSound}
+use Rattle.event_walk.specs.event_nodes.Nodes.{IsTree}
+use Rattle.event_walk.specs.event_nodes.View.{EventCircuitView}
+use Rattle.event_walk.specs.event_nodes.Visited.{IsWeighed}
+use Rattle.event_walk.specs.event_nodes.Weights.{weight_at}
+use Rattle.event_walk.proofs.event_nodes.Growing.{grows_refl, grows_trans}
+use Rattle.event_walk.proofs.event_nodes.Lists.{adds_none}
 use Rattle.event_walk.specs.declared.frames.Step.{Step}
 use Rattle.event_walk.specs.declared.frames.Ways.{Ways}
 use Rattle.event_literals.specs.Known.{EventUnfolderView, unfolder_of}

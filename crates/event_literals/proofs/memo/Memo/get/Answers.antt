@@ -1,9 +1,9 @@
 -- What the map finds is an entry, and it finds each key.
 use Rattle.std.proofs.Common.{ℕ, List, map, sym, subst, Contains}
 use Rattle.std.proofs.lemmas.Map.Views.{Contains-from_lookup}
-use Rattle.event_nodes.specs.Lit.{Lit}
+use Rattle.event_walk.specs.event_nodes.Lit.{Lit}
 use Rattle.event_literals.proofs.Entries.{not_found}
-use Rattle.event_nodes.proofs.PairTest.{exact}
+use Rattle.event_walk.proofs.event_nodes.PairTest.{exact}
 use Rattle.event_literals.proofs.memo.Memo.get.Goals as goal
 
 pub returns-in-Some-clause-here : goal.returns-in-Some-clause-here

@@ -2,8 +2,8 @@
 use Rattle.std.proofs.Common.{◌≢◌, ℕ, List, map, subst}
 use Rattle.std.specs.List.{AllPairs}
 use Rattle.std.proofs.lemmas.Map.Made.{AllPairs-from_IsDistinct}
-use Rattle.event_nodes.specs.Lit.{Lit}
-use Rattle.event_nodes.proofs.PairTest.{decides_pair}
+use Rattle.event_walk.specs.event_nodes.Lit.{Lit}
+use Rattle.event_walk.proofs.event_nodes.PairTest.{decides_pair}
 use Rattle.event_literals.proofs.memo.Memo.keeps.Goals as goal
 
 pub returns : goal.returns

@@ -1,9 +1,9 @@
 -- A new key goes last.
 use Rattle.std.proofs.Common.{◌∙◌, ◌++◌, ◌∷◌, [], ℕ, List, map, sym, ap, subst, Contains}
 use Rattle.indexmap.proofs.CallerLemmas.{insert_entry-new}
-use Rattle.event_nodes.specs.Lit.{Lit}
+use Rattle.event_walk.specs.event_nodes.Lit.{Lit}
 use Rattle.event_literals.proofs.Entries.{absent_key}
-use Rattle.event_nodes.proofs.PairTest.{same_pair}
+use Rattle.event_walk.proofs.event_nodes.PairTest.{same_pair}
 use Rattle.event_literals.proofs.memo.Memo.put.Goals as goal
 
 pub returns-clause-ok : goal.returns-clause-ok

@@ -1,8 +1,8 @@
 -- The place is counted at its frame's node.
 use Rattle.std.proofs.Common.{◌≡◌, ◌∙◌, ◌<◌, ℕ, length, Err, OnOk, sym, ap, subst}
 use Rattle.std.specs.List.{Contains}
-use Rattle.flat_net.specs.View.{NetView}
-use Rattle.flat_net.proofs.Places.{one_at}
+use Rattle.event_nodes.specs.flat_net.View.{NetView}
+use Rattle.event_nodes.proofs.flat_net.Places.{one_at}
 use Rattle.event_nodes.specs.Adds.{Adds}
 use Rattle.event_nodes.specs.declared.error.EventUnfoldError.TheVariants as unfold_error
 use Rattle.event_nodes.specs.View.{EventCircuitView}

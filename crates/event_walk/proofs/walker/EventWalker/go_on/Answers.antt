@@ -1,8 +1,8 @@
 -- The latch takes over its data in the frames in which it goes on, at its child.
 use Rattle.std.proofs.Common.{◌≡◌, ◌∙◌, ◌<◌, ℕ, length, slice_get, Some, sym, ap, subst}
 use Rattle.std.proofs.lemmas.Option.{slice_get_within}
-use Rattle.flat_net.specs.declared.parts.Driver.TheVariants as driver
-use Rattle.flat_net.specs.Sound.{IsSound}
+use Rattle.event_nodes.specs.flat_net.declared.parts.Driver.TheVariants as driver
+use Rattle.event_nodes.specs.flat_net.Sound.{IsSound}
 use Rattle.event_nodes.specs.Adds.{Adds}
 use Rattle.event_nodes.specs.Nodes.{IsChild}
 use Rattle.event_nodes.specs.View.{EventCircuitView, side_of}

@@ -1,7 +1,7 @@
 -- The walker's frames are those that its view has.
 use Rattle.std.proofs.Common.{◌≡◌, ◌≤◌, ℕ, List, length, slice_get, Some, IfOk, sym, subst}
 use Rattle.std.specs.List.{All}
-use Rattle.flat_net.specs.Sound.{IsSound}
+use Rattle.event_nodes.specs.flat_net.Sound.{IsSound}
 use Rattle.event_nodes.specs.Nodes.{IsTree}
 use Rattle.event_nodes.specs.View.{EventCircuitView}
 use Rattle.event_walk.specs.declared.frames.Frame.{Frame}

@@ -1,8 +1,8 @@
 -- The walk ends where each place in the table was expanded, or where it is refused.
 use Rattle.std.proofs.Common.{◌≡◌, ◌∙◌, ◌+◌, ◌-◌, ◌<◌, ℕ, List, length, refl, sym, ap, subst, arith}
-use Rattle.flat_net.specs.View.{NetView}
-use Rattle.flat_net.specs.Sound.{IsSound}
-use Rattle.flat_net.proofs.Places.{All-at}
+use Rattle.event_nodes.specs.flat_net.View.{NetView}
+use Rattle.event_nodes.specs.flat_net.Sound.{IsSound}
+use Rattle.event_nodes.proofs.flat_net.Places.{All-at}
 use Rattle.event_nodes.specs.View.{EventCircuitView}
 use Rattle.event_nodes.specs.Visited.{IsWeighed, AreNodesFrom}
 use Rattle.event_nodes.specs.Weights.{weight_at}

@@ -1,12 +1,12 @@
 use Rattle.std.proofs.Common.{ℕ, Bool, List, subst}
 use Rattle.std.specs.Prelude.{IfSome, IfNone}
-use Rattle.flat_net.specs.declared.parts.LatchAt.{LatchAt}
-use Rattle.flat_net.specs.View.{NetView, circuit_of}
+use Rattle.signal_graph.specs.flat_net.declared.parts.LatchAt.{LatchAt}
+use Rattle.signal_graph.specs.flat_net.View.{NetView, circuit_of}
 use Rattle.circuit_theory.specs.Depth.{HasCycle, IsCycle, BeginsWithLeast}
-use Rattle.unfolding_weight.specs.Node.{Node}
-use Rattle.unfolding_weight.specs.Graph.{IsGraphOf, marked_names, signals_at}
-use Rattle.unfolding_weight.specs.Cones.{IsMarkedBy}
-use Rattle.unfolding_weight.proofs.Lists.{some_weaker, none_weaker}
+use Rattle.signal_graph.specs.declared.nodes.Node.{Node}
+use Rattle.signal_graph.specs.Graph.{IsGraphOf, marked_names, signals_at}
+use Rattle.signal_graph.specs.Cones.{IsMarkedBy}
+use Rattle.signal_graph.proofs.Lists.{some_weaker, none_weaker}
 use Rattle.latch_graph.proofs.graph.LatchGraph.cycle.Goals as goal
 
 pub returns-clause-none : goal.returns-clause-none

@@ -1,5 +1,5 @@
 use Rattle.std.proofs.Common.{subst}
-use Rattle.unfolding_weight.specs.Graph.{GraphView, AreNodes}
+use Rattle.signal_graph.specs.Graph.{GraphView, AreNodes}
 use Rattle.latch_graph.proofs.graph.LatchGraph.keeps.Goals as goal
 
 pub returns : goal.returns

@@ -1,6 +1,6 @@
 -- The states are settled, and none is that of a removed latch.
 use Rattle.std.proofs.Common.{◌≡◌, ◌<◌, ℕ, List, Some, length, slice_get, subst, sym, ap, ◌∙◌, arith}
-use Rattle.unfolding_weight.specs.Node.{Node}
+use Rattle.signal_graph.specs.declared.nodes.Node.{Node}
 use Rattle.latch_graph.specs.declared.states.State.TheVariants.{New, Removed}
 use Rattle.latch_graph.specs.Settling.{IsSettled}
 use Rattle.latch_graph.proofs.graph.LatchGraph.new.Goals as goal

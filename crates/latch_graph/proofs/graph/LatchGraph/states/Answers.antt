@@ -1,7 +1,7 @@
 use Rattle.std.proofs.Common.{◌≡◌, ℕ, List, Some, slice_get, subst, sym}
 use Rattle.latch_graph.specs.declared.states.State.{State}
 use Rattle.latch_graph.specs.declared.states.State.TheVariants.{Removed}
-use Rattle.unfolding_weight.specs.Graph.{GraphView}
+use Rattle.signal_graph.specs.Graph.{GraphView}
 use Rattle.latch_graph.specs.Settling.{IsSettled}
 use Rattle.latch_graph.proofs.graph.LatchGraph.states.Goals as goal
 

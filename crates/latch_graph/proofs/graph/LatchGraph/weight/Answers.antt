@@ -1,5 +1,5 @@
 use Rattle.latch_graph.proofs.Skipping.{plain_graph}
-use Rattle.unfolding_weight.proofs.Weights.{plain_nodes}
+use Rattle.signal_graph.proofs.unfolding_weight.Weights.{plain_nodes}
 use Rattle.latch_graph.proofs.graph.LatchGraph.weight.Goals as goal
 
 pub weigh-requires-clause-graph : goal.weigh-requires-clause-graph

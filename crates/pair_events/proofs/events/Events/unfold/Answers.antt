@@ -2,7 +2,7 @@
 use Rattle.std.proofs.Common.{sym, subst}
 use Rattle.std.specs.Prelude.{IfOk, OnOk}
 use Rattle.circuit_theory.specs.declared.Side.{Side}
-use Rattle.event_pairs.specs.Functions.{IsEventFunction}
+use Rattle.event_agreement.specs.event_pairs.Functions.{IsEventFunction}
 use Rattle.pair_events.specs.Counted.{GoOnCounting}
 use Rattle.pair_events.specs.View.{side_of_both, signal_at}
 use Rattle.pair_events.proofs.events.Events.unfold.Goals as goal

@@ -2,7 +2,7 @@
 use Rattle.std.proofs.Common.{sym, subst}
 use Rattle.std.specs.Prelude.{OnOk}
 use Rattle.circuit_theory.specs.declared.Side.TheVariants.{A}
-use Rattle.class_queries.specs.Laws.{AreKept}
+use Rattle.event_agreement.specs.class_queries.Laws.{AreKept}
 use Rattle.pair_events.specs.Counted.{GoOnCounting, IsRefusedBy}
 use Rattle.pair_events.specs.View.{EventsView, IsWithinLimits}
 use Rattle.pair_events.proofs.Unfolding.{left_is_function, left_is_counted, left_is_within, left_is_refused}

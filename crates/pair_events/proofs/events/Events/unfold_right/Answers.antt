@@ -2,7 +2,7 @@
 use Rattle.std.proofs.Common.{sym, subst}
 use Rattle.std.specs.Prelude.{OnOk}
 use Rattle.circuit_theory.specs.declared.Side.TheVariants.{B}
-use Rattle.class_queries.specs.Laws.{AreKept}
+use Rattle.event_agreement.specs.class_queries.Laws.{AreKept}
 use Rattle.pair_events.specs.Counted.{GoOnCounting, IsRefusedBy}
 use Rattle.pair_events.specs.View.{EventsView, IsWithinLimits}
 use Rattle.pair_events.proofs.Unfolding.{right_is_function, right_is_counted, right_is_within, right_is_refused}

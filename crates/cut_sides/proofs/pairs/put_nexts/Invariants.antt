@@ -1,5 +1,0 @@
-use Rattle.cut_sides.specs.Pairs.{PutsSome}
-use Rattle.cut_sides.proofs.pairs.put_nexts.Given as goal
-
-abbrev pub invariant-loop-k : goal.invariant-loop-k
-invariant-loop-k l = PutsSome l.names l.left l.right l.k l.initial.pairs.items l.pairs.items

@@ -1,2 +1,0 @@
-pub mod NoFaults
-pub mod Ranking

@@ -1,8 +1,0 @@
-//! Clauses written as texts in the DIMACS format.
-#![tactic(auto)]
-
-mod laws;
-mod writer;
-
-pub use laws::{written_is_spelled, written_meets_premises};
-pub use writer::{put_literals, write_clauses};

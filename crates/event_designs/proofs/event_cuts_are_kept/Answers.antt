@@ -1,5 +1,0 @@
-use Rattle.event_designs.proofs.Kept.{event_cuts_are_kept}
-use Rattle.event_designs.proofs.event_cuts_are_kept.Goals as goal
-
-pub returns : goal.returns
-returns c = event_cuts_are_kept

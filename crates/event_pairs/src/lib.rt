@@ -1,4 +1,0 @@
-//! What event functions of two circuits are where both stand side by side: laws alone.
-#![tactic(auto)]
-
-pub mod laws;

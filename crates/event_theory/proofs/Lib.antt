@@ -1,3 +1,0 @@
-pub use Rattle.circuit_theory.proofs.Inputs
-pub use Rattle.circuit_theory.proofs.Lists
-pub use Rattle.circuit_theory.proofs.Sums

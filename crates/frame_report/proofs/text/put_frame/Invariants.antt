@@ -1,7 +1,0 @@
-use Rattle.std.specs.Prelude.{◌≡◌, ◌++◌, take}
-use Rattle.std.specs.List.{flat_map}
-use Rattle.frame_report.specs.Text.{spot_line}
-use Rattle.frame_report.proofs.text.put_frame.Given as goal
-
-abbrev pub invariant-loop-spot : goal.invariant-loop-spot
-invariant-loop-spot l = l.text.items ≡ l.initial.text.items ++ flat_map spot_line (take l.spot-index l.spot-items)

@@ -1,7 +1,0 @@
-use Rattle.std.specs.Prelude.{◌≡◌, ◌++◌, take}
-use Rattle.std.specs.List.{flat_map}
-use Rattle.frame_report.specs.Text.{step_text}
-use Rattle.frame_report.proofs.text.put_steps.Given as goal
-
-abbrev pub invariant-loop-class : goal.invariant-loop-class
-invariant-loop-class l = l.text.items ≡ l.initial.text.items ++ flat_map step_text (take l.class-index l.path)

@@ -1,8 +1,0 @@
-//! Frames, the values that inputs have at event nodes, and a frame as text.
-#![tactic(auto)]
-
-mod frame;
-mod text;
-
-pub use frame::{Frame, Spot, Spots};
-pub use text::put_frame;

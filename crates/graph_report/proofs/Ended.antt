@@ -1,0 +1,54 @@
+-- How the parts of a report end.
+use Rattle.std.proofs.Common.{◌≡◌, ◌<◌, ℕ, Bool, List, Option, None, Result, Ok, Err, arith}
+use Rattle.std.specs.Prelude.{IfOk}
+use Rattle.circuit_theory.specs.declared.Mode.{Mode}
+use Rattle.circuit_theory.specs.declared.Mode.TheVariants.{Plain, Event}
+use Rattle.circuit_laws.proofs.Weights.{cone_over_is_above}
+use Rattle.flat_net.specs.View.{NetView, circuit_of}
+use Rattle.flat_net.specs.Sound.{IsSound}
+use Rattle.flat_net.proofs.Nets.{sound_is_net}
+use Rattle.latch_cone.specs.declared.kinds.LatchKind.{LatchKind}
+use Rattle.latch_cone.specs.Kinds.{AreKindsIn}
+use Rattle.latch_kinds.specs.declared.kinds.KindsError.{KindsError}
+use Rattle.latch_kinds.specs.declared.kinds.KindsError.TheVariants as kinds_error
+use Rattle.latch_kinds.specs.unate_enable.Cones.{data_of_latch}
+use Rattle.latch_kinds.specs.Found.{FoundIn}
+use Rattle.sim_report.specs.Checks.{first_misfit}
+use Rattle.graph_report.specs.declared.runs.SimulateError.{SimulateError}
+use Rattle.graph_report.specs.declared.runs.SimulateError.TheVariants as refused
+use Rattle.graph_report.specs.Jobs.{AreLightIn, IsUnknown, Runs, Simulates, simulate_error}
+
+-- what is found out says what the latches are
+pub kinds_are : (mode : Mode) (n : NetView) (conflicts : ℕ) (kinds : List LatchKind) → FoundIn mode n conflicts (Ok kinds) → AreKindsIn mode n kinds
+kinds_are Plain n conflicts kinds found = found
+kinds_are Event n conflicts kinds found = found.0
+
+pub cones_are_light : (mode : Mode) (n : NetView) (conflicts : ℕ) (kinds : List LatchKind) → FoundIn mode n conflicts (Ok kinds) → AreLightIn mode n
+cones_are_light Plain n conflicts kinds found = tt
+cones_are_light Event n conflicts kinds found = found.1
+
+-- want of memory says nothing
+pub memory_wanted : (mode : Mode) (n : NetView) → IsUnknown mode n kinds_error.NoMemory
+memory_wanted Plain n = tt
+memory_wanted Event n = tt
+
+pub kinds_unknown : (mode : Mode) (n : NetView) (names : List (List ℕ)) (rows : List (List Bool)) (power : Option (List ℕ)) (reset : Bool) (error : KindsError) → IsUnknown mode n error → Runs mode n names rows power reset (Err (simulate_error error))
+kinds_unknown mode n names rows power reset kinds_error.TooLarge unknown = unknown
+kinds_unknown mode n names rows power reset (kinds_error.Limit name proof) unknown = unknown
+kinds_unknown mode n names rows power reset kinds_error.NoMemory unknown = tt
+
+-- a run where all fits
+pub run_simulates : (mode : Mode) (n : NetView) (names : List (List ℕ)) (rows : List (List Bool)) (power : Option (List ℕ)) (reset : Bool) (found : Result (List ℕ) SimulateError) → first_misfit n names power ≡ None → Runs mode n names rows power reset found → Simulates mode n names rows power reset found
+run_simulates mode n names rows power reset (Ok report) fits runs = (fits, runs)
+run_simulates mode n names rows power reset (Err (refused.Misfit m)) fits runs = absurd runs
+run_simulates mode n names rows power reset (Err refused.TooLarge) fits runs = (fits, runs)
+run_simulates mode n names rows power reset (Err (refused.Limit name proof)) fits runs = (fits, runs)
+run_simulates mode n names rows power reset (Err refused.NoMemory) fits runs = tt
+
+-- a cone that is too large isn't light
+pub large_or_light : (mode : Mode) (n : NetView) → IsSound n → IsUnknown mode n kinds_error.TooLarge → AreLightIn mode n → ⊥
+large_or_light Plain n sound large light = large
+large_or_light Event n sound large light =
+    let l = light large.latch large.within large.large.0 in
+    let over = cone_over_is_above (circuit_of n) (sound_is_net n sound).single (data_of_latch n large.latch) 2000000 l.weight large.large.1 l.weight_is in
+    omega (arith, over, l.within)

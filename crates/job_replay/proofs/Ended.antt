@@ -1,0 +1,69 @@
+-- How the parts of a replay in a mode end.
+use Rattle.std.proofs.Common.{◌≡◌, ◌∙◌, ℕ, Bool, List, Result, Ok, Err, length, sym, subst}
+use Rattle.circuit_theory.specs.declared.Mode.{Mode}
+use Rattle.circuit_theory.specs.declared.Side.TheVariants.{A, B}
+use Rattle.flat_net.specs.View.{NetView}
+use Rattle.latch_cone.specs.declared.kinds.LatchKind.{LatchKind}
+use Rattle.latch_cone.specs.Cones.{MarksEnabled}
+use Rattle.latch_kinds.specs.declared.kinds.KindsError.TheVariants as kinds_error
+use Rattle.latch_kinds.specs.Found.{FoundIn}
+use Rattle.sec_setup.specs.Matching.{InterfacesMatch}
+use Rattle.pair_runs.specs.declared.differences.Difference.{Difference}
+use Rattle.replay_header.specs.declared.error.ReplayError.{ReplayError}
+use Rattle.replay_header.specs.declared.error.ReplayError.TheVariants as replay_error
+use Rattle.replay.specs.Replay.{Replays}
+use Rattle.graph_report.proofs.Ended.{kinds_are}
+use Rattle.job_replay.specs.declared.fault.ReplayFault.{ReplayFault}
+use Rattle.job_replay.specs.declared.fault.ReplayFault.TheVariants as fault
+use Rattle.job_replay.specs.Modes.{fault_of, Matches, AreKnown, HasBits, KnowsEnabled, AreUnknown, AreBothKnown, ReplaysMatching, ReplaysIn}
+
+-- the bits of kinds that are found out
+pub has_bits : (mode : Mode) (n : NetView) (kinds : List LatchKind) (bits : List Bool) → FoundIn mode n 20000 (Ok kinds) → length bits ≡ length kinds → MarksEnabled mode n bits → HasBits mode n bits
+has_bits mode n kinds bits found each marks = record {
+  known = record { kinds = kinds; found = found };
+  each = each ∙ (kinds_are mode n 20000 kinds found).each;
+  marks = marks;
+}
+
+-- what A's latches are isn't known
+pub left_unknown : (mode : Mode) (a b : NetView) (header : List (List ℕ)) (rows : List (List Bool)) (e : ReplayFault) → KnowsEnabled mode A a (Err e) → ReplaysMatching mode a b header rows (Err e)
+left_unknown mode a b header rows (fault.Interface name) known = absurd known
+left_unknown mode a b header rows (fault.TooLarge side) known = subst (λ s. AreUnknown mode a b s kinds_error.TooLarge) (sym known.0) known.1
+left_unknown mode a b header rows (fault.Limit side name proof) known = subst (λ s. AreUnknown mode a b s (kinds_error.Limit name proof)) (sym known.0) known.1
+left_unknown mode a b header rows (fault.Unknown name) known = absurd known
+left_unknown mode a b header rows (fault.Missing name) known = absurd known
+left_unknown mode a b header rows fault.NoMemory known = tt
+
+-- A's latches are known, and what B's are isn't
+pub right_unknown : (mode : Mode) (a b : NetView) (header : List (List ℕ)) (rows : List (List Bool)) (e : ReplayFault) → AreKnown mode a → KnowsEnabled mode B b (Err e) → ReplaysMatching mode a b header rows (Err e)
+right_unknown mode a b header rows (fault.Interface name) left known = absurd known
+right_unknown mode a b header rows (fault.TooLarge side) left known = subst (λ s. AreUnknown mode a b s kinds_error.TooLarge) (sym known.0) (left, known.1)
+right_unknown mode a b header rows (fault.Limit side name proof) left known = subst (λ s. AreUnknown mode a b s (kinds_error.Limit name proof)) (sym known.0) (left, known.1)
+right_unknown mode a b header rows (fault.Unknown name) left known = absurd known
+right_unknown mode a b header rows (fault.Missing name) left known = absurd known
+right_unknown mode a b header rows fault.NoMemory left known = tt
+
+-- the header doesn't fit
+pub header_refused : (mode : Mode) (a b : NetView) (header : List (List ℕ)) (rows : List (List Bool)) (e : ReplayError) → AreBothKnown mode a b → Replays mode a b header rows (Err e) → ReplaysMatching mode a b header rows (Err (fault_of e))
+header_refused mode a b header rows (replay_error.Unknown name) known is = (known, is)
+header_refused mode a b header rows (replay_error.Missing name) known is = (known, is)
+header_refused mode a b header rows replay_error.NoMemory known is = tt
+
+-- a replay where the interfaces match
+pub matching_replayed : (mode : Mode) (a b : NetView) (header : List (List ℕ)) (rows : List (List Bool)) (found : Result (List Difference) ReplayFault) → InterfacesMatch a b → ReplaysMatching mode a b header rows found → ReplaysIn mode a b header rows found
+matching_replayed mode a b header rows (Ok differences) matches is = (matches, is)
+matching_replayed mode a b header rows (Err (fault.Interface name)) matches is = absurd is
+matching_replayed mode a b header rows (Err (fault.TooLarge side)) matches is = (matches, is)
+matching_replayed mode a b header rows (Err (fault.Limit side name proof)) matches is = (matches, is)
+matching_replayed mode a b header rows (Err (fault.Unknown name)) matches is = (matches, is)
+matching_replayed mode a b header rows (Err (fault.Missing name)) matches is = (matches, is)
+matching_replayed mode a b header rows (Err fault.NoMemory) matches is = tt
+
+-- the interfaces don't match
+pub interface_refused : (mode : Mode) (a b : NetView) (header : List (List ℕ)) (rows : List (List Bool)) (e : ReplayFault) → Matches a b (Err e) → ReplaysIn mode a b header rows (Err e)
+interface_refused mode a b header rows (fault.Interface name) is = is
+interface_refused mode a b header rows (fault.TooLarge side) is = absurd is
+interface_refused mode a b header rows (fault.Limit side name proof) is = absurd is
+interface_refused mode a b header rows (fault.Unknown name) is = absurd is
+interface_refused mode a b header rows (fault.Missing name) is = absurd is
+interface_refused mode a b header rows fault.NoMemory is = tt

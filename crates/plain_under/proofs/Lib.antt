@@ -1,2 +1,0 @@
-pub mod PairsUnder
-pub mod Witnesses

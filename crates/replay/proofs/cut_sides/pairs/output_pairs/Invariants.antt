@@ -1,0 +1,10 @@
+use Rattle.std.proofs.Common.{◌≡◌, ℕ, length, slice_get, Some}
+use Rattle.flat_net.specs.declared.parts.Port.{Port}
+use Rattle.pair_runs.specs.declared.differences.OutputPair.{OutputPair}
+use Rattle.replay.specs.cut_sides.Pairs.{IsOutputAt}
+use Rattle.replay.proofs.cut_sides.pairs.output_pairs.Given as goal
+
+abbrev pub invariant-loop-place : goal.invariant-loop-place
+invariant-loop-place l =
+    (length l.pairs.items ≡ l.place)
+    × ((i : ℕ) (port : Port) (p : OutputPair) → slice_get l.a.outputs i ≡ Some port → slice_get l.pairs.items i ≡ Some p → IsOutputAt l.b i port p)

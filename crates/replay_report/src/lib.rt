@@ -1,6 +1,0 @@
-//! The report of a replay.
-#![tactic(auto)]
-
-mod report;
-
-pub use report::replay_report;

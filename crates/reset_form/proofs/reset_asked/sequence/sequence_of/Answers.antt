@@ -1,0 +1,23 @@
+-- The names are distinct, and each row has a bit for each.
+use Rattle.std.proofs.Common.{◌≡◌, ◌∙◌, ◌-◌, ℕ, suc, Bool, List, length, sym, ap, subst}
+use Rattle.std.specs.List.{All}
+use Rattle.circuit_theory.specs.Sequence.{sequence_rows}
+use Rattle.sec_base.specs.Table.{AreDistinct}
+use Rattle.shift_variables.specs.Sequences.{bits_at}
+use Rattle.shift_variables.proofs.CycleRows.{rows_fit}
+use Rattle.reset_form.proofs.reset_asked.CycleQueries.{numbers_apart}
+use Rattle.reset_form.proofs.reset_asked.sequence.sequence_of.Goals as goal
+
+fits : (last count : ℕ) (a : ℕ → ℕ → Bool) (rows : List (List Bool)) (size : ℕ) → rows ≡ sequence_rows last a count → count ≡ size → All (λ (row : List Bool). length row ≡ size) rows
+fits last count a rows size is same =
+    subst (λ (rs : List (List Bool)). All (λ (row : List Bool). length row ≡ size) rs) (sym is)
+    (subst (λ k. All (λ (row : List Bool). length row ≡ k) (sequence_rows last a count)) same (rows_fit last a count 0 (suc last)))
+
+pub invariant_of-result : goal.invariant_of-result
+invariant_of-result c = record {
+  distinct = subst (λ (ns : List (List ℕ)). AreDistinct ns) (sym c.in_ok-names.ensures) c.requires.distinct;
+  fit = fits c.args.last c.len.result (λ i k. bits_at c.args.functions.now.places c.as_slice.result.now c.as_slice-bits.result.now i (c.args.last - k)) c.in_ok-rows.rows (length c.in_ok-names.names) c.in_ok-rows.ensures (c.len.ensures ∙ ap length (sym c.in_ok-names.ensures));
+}
+
+pub sides_at-requires-clause-distinct : goal.sides_at-requires-clause-distinct
+sides_at-requires-clause-distinct c = numbers_apart c.args.functions.now.places c.args.query.now.vars c.requires.in_order.ordered

@@ -1,2 +1,0 @@
-pub mod ResetBounds
-pub mod ResetPremises

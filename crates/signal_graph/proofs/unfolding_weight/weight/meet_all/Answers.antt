@@ -1,0 +1,36 @@
+use Rattle.std.proofs.Common.{◌≡◌, Some, get_or, slice_get, subst, arith}
+use Rattle.inner_cone.specs.flat_net.declared.signals.Signal.{Signal}
+use Rattle.signal_graph.specs.unfolding_weight.Weight.{Meeting}
+use Rattle.signal_graph.proofs.Lists.{read_at}
+use Rattle.signal_graph.proofs.unfolding_weight.Weights.{met_more, met_stay, met_there, met_longer, there_more, is_over}
+use Rattle.signal_graph.proofs.unfolding_weight.weight.meet_all.Goals as goal
+
+pub loop-signal-preserved : goal.loop-signal-preserved
+loop-signal-preserved c =
+    let i = c.loop-signal.signal-index in
+    let r : Signal = get_or c.args.reads.now i (record { 0 = 0 }) in
+    let at : slice_get c.args.reads.now i ≡ Some r = read_at c.args.reads.now i (record { 0 = 0 }) c.loop-signal-test.true in
+    let old = c.loop-signal.places.keys in
+    let new = c.meet.new.places.keys in
+    let meeting = subst (λ z. Meeting c.args.net.now old new (r.0, c.args.shift) c.loop-signal.sum c.args.cap z) c.in-Some.is c.in_ok-more.ensures in
+    let stays = met_stay c.args.net.now old new (r.0, c.args.shift) c.loop-signal.sum c.in-Some.more meeting.0 in
+    record {
+      met = λ outputs visited met. met_more c.args.net.now outputs old new (r.0, c.args.shift) c.loop-signal.sum c.in-Some.more meeting.0 (c.loop-signal.invariant.met outputs visited met) (visited i r at)
+          (c.requires.within i r at) (omega (arith, c.requires.early, c.loop-signal.invariant.longer));
+      low = meeting.1;
+      there = there_more c.args.reads.now i c.args.shift old new r c.loop-signal.invariant.there stays at (met_there c.args.net.now old new (r.0, c.args.shift) c.loop-signal.sum c.in-Some.more meeting.0);
+      stay = λ k p h. stays k p (c.loop-signal.invariant.stay k p h);
+      longer = omega (arith, c.loop-signal.invariant.longer, met_longer c.args.net.now old new (r.0, c.args.shift) c.loop-signal.sum c.in-Some.more meeting.0);
+    }
+
+pub returns-in-None-clause-over : goal.returns-in-None-clause-over
+returns-in-None-clause-over c = λ outputs visited met.
+    let i = c.loop-signal.signal-index in
+    let r : Signal = get_or c.args.reads.now i (record { 0 = 0 }) in
+    let at : slice_get c.args.reads.now i ≡ Some r = read_at c.args.reads.now i (record { 0 = 0 }) c.loop-signal-test.true in
+    let old = c.loop-signal.places.keys in
+    let new = c.meet.new.places.keys in
+    let meeting = subst (λ z. Meeting c.args.net.now old new (r.0, c.args.shift) c.loop-signal.sum c.args.cap z) c.in-None.is c.in_ok-more.ensures in
+    is_over c.args.net.now c.keeps.ensures.sound outputs new _
+    (met_more c.args.net.now outputs old new (r.0, c.args.shift) c.loop-signal.sum _ meeting.0 (c.loop-signal.invariant.met outputs visited met) (visited i r at)
+    (c.requires.within i r at) (omega (arith, c.requires.early, c.loop-signal.invariant.longer))) c.args.cap meeting.1

@@ -1,4 +1,0 @@
-pub mod Weights
-pub use Rattle.signal_graph.proofs.Driving
-pub use Rattle.signal_graph.proofs.Lists
-pub use Rattle.signal_graph.proofs.Reading

@@ -1,4 +1,0 @@
-pub mod Weight
-pub use Rattle.signal_graph.specs.Graph
-pub use Rattle.signal_graph.specs.declared.nodes.Node
-pub use Rattle.signal_graph.specs.Cones
