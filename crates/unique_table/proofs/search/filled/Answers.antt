@@ -1,11 +1,29 @@
 -- The number of the next key goes to the first free place.
-use Rattle.std.proofs.Common.{ℕ, List, take, refl, subst}
+use Rattle.std.proofs.Common.{ℕ, List, take, refl, subst, arith}
 use Rattle.unique_table.specs.Places.{IsFree}
 use Rattle.unique_table.proofs.Filling.{table-none, table-next}
 use Rattle.unique_table.proofs.search.filled.Goals as goal
 
 pub loop-number-init : goal.loop-number-init
 loop-number-init g c = table-none g.K.Key.place_at c.args.tries (take 0 c.args.keys.now) c.in_ok-slots.slots.items c.args.len refl c.in_ok-slots.ensures
+
+pub offset_bounds-keys-number : goal.offset_bounds-keys-number
+offset_bounds-keys-number g c = omega (arith, c.loop-number-test.true)
+
+pub bounds-keys-number : goal.bounds-keys-number
+bounds-keys-number g c = c.loop-number-test.true
+
+pub overflow_cast-number : goal.overflow_cast-number
+overflow_cast-number g c = omega (arith, c.loop-number-test.true, c.requires.few)
+
+pub overflow_add-number : goal.overflow_add-number
+overflow_add-number g c = omega (arith, c.loop-number-test.true, c.requires.few)
+
+pub index_mut-requires : goal.index_mut-requires
+index_mut-requires g c = omega (arith, c.in-Some.ensures.within, c.as_slice.ensures.len)
+
+pub loop-number-smaller : goal.loop-number-smaller
+loop-number-smaller g c = omega (arith, c.loop-number-test.true)
 
 pub loop-number-preserved : goal.loop-number-preserved
 loop-number-preserved g c =
