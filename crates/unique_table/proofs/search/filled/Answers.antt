@@ -1,6 +1,7 @@
 -- The number of the next key goes to the first free place.
-use Rattle.std.proofs.Common.{ℕ, List, take, refl, subst, arith}
-use Rattle.unique_table.specs.Places.{IsFree}
+use Rattle.std.proofs.Common.{◌≡◌, ℕ, List, take, refl, subst, arith}
+use Rattle.std.proofs.lemmas.List.{take_all}
+use Rattle.unique_table.specs.Places.{IsFree, IsTable}
 use Rattle.unique_table.proofs.Filling.{table-none, table-next}
 use Rattle.unique_table.proofs.search.filled.Goals as goal
 
@@ -31,3 +32,8 @@ loop-number-preserved g c =
     subst (λ (slots : List ℕ). IsFree (g.K.Key.place_at c.index-keys-number.result) c.args.tries slots c.in-Some.place) c.as_slice.ensures.value c.in-Some.ensures in
     table-next g.K.Key.place_at c.args.tries c.args.keys.now c.loop-number.slots.items c.loop-number.number c.in-Some.place c.index-keys-number.result c.requires.once c.requires.few c.loop-number-test.true c.loop-number.invariant
     (subst (λ (k : g.row.K.Denot). IsFree (g.K.Key.place_at k) c.args.tries c.loop-number.slots.items c.in-Some.place) c.index-keys-number.is there)
+
+pub returns : goal.returns
+returns g c =
+    let all : take c.loop-number.number c.args.keys.now ≡ c.args.keys.now = take_all c.loop-number.number c.args.keys.now c.loop-number-test.false in
+    subst (λ (ks : List g.row.K.Denot). IsTable g.K.Key.place_at c.args.tries ks c.loop-number.slots.items) all c.loop-number.invariant
