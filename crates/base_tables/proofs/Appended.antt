@@ -149,3 +149,11 @@ late-push (Ok u) early late now name ok err small distinct new room =
     let all : length (early ++ late) ≡ length early + length late = length-append early late in
     let same : early ++ now ≡ (early ++ late) ++ name ∷ [] = ap (λ xs. early ++ xs) ok ∙ sym (append_assoc early late (name ∷ [])) in
     (omega (arith, len, all, room), subst AreDistinct (sym same) (distinct-push (early ++ late) name distinct new))
+
+-- what goes last stands behind the others
+last_at : {X : Type 0} (xs : List X) (x : X) → slice_get (xs ++ x ∷ []) (length xs) ≡ Some x
+last_at [] x = refl
+last_at (y ∷ xs) x = last_at xs x
+
+pub at-last : {X : Type 0} (xs new : List X) (x : X) (i : ℕ) → new ≡ xs ++ x ∷ [] → i ≡ length xs → slice_get new i ≡ Some x
+at-last xs new x i grown at = ap (λ ys. slice_get ys i) grown ∙ ap (slice_get (xs ++ x ∷ [])) at ∙ last_at xs x

@@ -10,6 +10,12 @@ use Rattle.base_tables.proofs.name_search.filled.Goals as goal
 pub loop-number-init : goal.loop-number-init
 loop-number-init c = table-none name_place TRIES (take 0 (map (λ v. v.items) c.args.names.now)) c.in_ok-slots.slots.items c.args.len refl c.in_ok-slots.ensures
 
+pub bounds-hashes-number : goal.bounds-hashes-number
+bounds-hashes-number c =
+    let names : List (List ℕ) = map (λ v. v.items) c.args.names.now in
+    let same : length c.args.hashes.now ≡ length (map hash_of names) = ap length c.requires.hashes in
+    omega (arith, c.loop-number-test.true, same, length-map names hash_of, length-map c.args.names.now (λ v. v.items))
+
 pub loop-number-preserved : goal.loop-number-preserved
 loop-number-preserved c =
     let names : List (List ℕ) = map (λ v. v.items) c.args.names.now in

@@ -1,9 +1,17 @@
 -- A name is told by its hash and its bytes.
-use Rattle.std.proofs.Common.{◌≡◌, ◌∙◌, ap, sym, map, option_map, slice_get, Some}
+use Rattle.std.proofs.Common.{◌≡◌, ◌∙◌, ℕ, List, ap, sym, length, map, option_map, slice_get, Some, arith}
+use Rattle.std.proofs.lemmas.List.{length-map}
 use Rattle.std.proofs.lemmas.Option.{slice_get-get_or, slice_get-map}
 use Rattle.std.specs.Str.{bytes_eq}
+use Rattle.base_tables.specs.Hashed.{hash_of}
 use Rattle.base_tables.proofs.Hashing.{told-by-bytes}
 use Rattle.base_tables.proofs.name_search.is_at.Goals as goal
+
+pub bounds-hashes-number : goal.bounds-hashes-number
+bounds-hashes-number c =
+    let names : List (List ℕ) = map (λ v. v.items) c.args.names.now in
+    let same : length c.args.hashes.now ≡ length (map hash_of names) = ap length c.requires.hashes in
+    omega (arith, c.requires.within, same, length-map names hash_of, length-map c.args.names.now (λ v. v.items))
 
 pub returns : goal.returns
 returns c =

@@ -1,5 +1,5 @@
 -- One place more of the search, and its two ends.
-use Rattle.std.proofs.Common.{◌≡◌, ◌∙◌, ◌-◌, ℕ, map, get_or, sym, ap, arith, true≢false}
+use Rattle.std.proofs.Common.{◌≡◌, ◌∙◌, ℕ, map, get_or, sym, ap, arith, true≢false}
 use Rattle.std.proofs.lemmas.List.{length-map}
 use Rattle.unique_table.specs.Places.{slot_at}
 use Rattle.unique_table.proofs.Searches.{passed-none, passed-free, passed-all}

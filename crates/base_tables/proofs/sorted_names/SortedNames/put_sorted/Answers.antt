@@ -14,13 +14,13 @@ pub invariant_of-self-2 : goal.invariant_of-self-2
 invariant_of-self-2 c =
     let names : List (List ℕ) = map (λ v. v.items) c.self.inside.names.items in
     let same : c.in_ok-key.key.items ≡ c.args.name.items = search rules in
-    let grown : c.put_last.new.names.items ≡ c.self.inside.names.items ++ c.args.name ∷ [] = search rules in
+    let grown : c.put_last.new.names.items ≡ c.self.inside.names.items ++ c.args.name ∷ [] = c.put_last.ensures ∙ ap (λ vs. vs ++ c.args.name ∷ []) c.reserve.ensures.items in
     let seen : map (λ v. v.items) c.put_last.new.names.items ≡ names ++ c.args.name.items ∷ [] =
     ap (map (λ v. v.items)) grown ∙ map-append (λ v. v.items) c.self.inside.names.items (c.args.name ∷ []) in
     let new : is_among names c.args.name.items ≡ false = ap (λ ns. is_among ns c.args.name.items) c.self.view_is ∙ c.requires.new in
     let wide : length names + 1 < 2 ^ 32 = subst (λ ns. length ns + 1 < 2 ^ 32) (sym c.self.view_is) c.requires.room in
     let longer : length c.put_last.new.names.items ≡ length c.self.inside.names.items + 1 = ap length grown ∙ length-append c.self.inside.names.items (c.args.name ∷ []) in
-    let count : c.len-number.result ≡ length c.self.inside.names.items = search rules in
+    let count : c.len-number.result ≡ length c.self.inside.names.items = omega (arith, c.len-number.ensures, c.self.inside.names.ok.0) in
     let number : c.len-number.result ≡ length names = count ∙ sym (length-map c.self.inside.names.items (λ v. v.items)) in
     let before : List ℕ → Option ℕ = λ q. get_by (λ k. slice_cmp nat_cmp q k.items) c.self.inside.numbers in
     let after : List ℕ → Option ℕ = λ q. get_by (λ k. slice_cmp nat_cmp q k.items) c.insert.new.self in
@@ -31,3 +31,8 @@ invariant_of-self-2 c =
       omega (arith, wide, longer, length-map c.self.inside.names.items (λ v. v.items)),
       subst (λ ns. AreNumbered ns after) (sym seen) (numbered-push names c.args.name.items before after c.self.invariant.1 new told),
     )
+
+pub returns-clause-ok : goal.returns-clause-ok
+returns-clause-ok c =
+    let grown : c.put_last.new.names.items ≡ c.self.inside.names.items ++ c.args.name ∷ [] = c.put_last.ensures ∙ ap (λ vs. vs ++ c.args.name ∷ []) c.reserve.ensures.items in
+    ap (map (λ v. v.items)) grown ∙ map-append (λ v. v.items) c.self.inside.names.items (c.args.name ∷ []) ∙ ap (λ (ns : List (List ℕ)). ns ++ c.args.name.items ∷ []) c.self.view_is
