@@ -71,8 +71,14 @@ impl MemShelf {
             bytes: Seq::from_vec(text),
             faults,
         };
-        self.files.insert(String::from_str(alloc, path)?, file)?;
-        Ok(())
+        match self.files.insert(String::from_str(alloc, path)?, file) {
+            Ok(_) => Ok(()),
+            Err(failed) => {
+                // The pair is let go part by part: how a pair is let go would be proved besides.
+                let (_path, _file) = failed.value;
+                Err(NoMemory)
+            }
+        }
     }
 
     fn faults_at(&self, path: &str) -> u64
