@@ -1,6 +1,7 @@
 -- Names behind others, and the numbers of names.
 use Rattle.std.proofs.Common.{◌≡◌, ◌+◌, ◌<◌, ◌^◌, ◌⊎◌, ℕ, Bool, true, false, cond, ◌||◌, List, [], ◌∷◌, ◌++◌, length, take, slice_get, Option, Some, None, refl, sym, ap, subst, ◌∙◌, true≢false, arith, append_assoc, length-append, inl, inr, zero, suc}
 use Rattle.std.specs.Str.{bytes_eq}
+use Rattle.std.proofs.lemmas.List.Folds.{list_any-append}
 use Rattle.std.proofs.lemmas.Option.{none-some, same_Some}
 use Rattle.std.proofs.lemmas.Slice.Eq.{bytes_eq-Decides}
 use Rattle.std.specs.Prelude.{Result, Ok, Err, OnOk, OnErr}
@@ -157,3 +158,20 @@ last_at (y ∷ xs) x = last_at xs x
 
 pub at-last : {X : Type 0} (xs new : List X) (x : X) (i : ℕ) → new ≡ xs ++ x ∷ [] → i ≡ length xs → slice_get new i ≡ Some x
 at-last xs new x i grown at = ap (λ ys. slice_get ys i) grown ∙ ap (slice_get (xs ++ x ∷ [])) at ∙ last_at xs x
+
+-- what the early and the late names are seen as, with a new name behind the early ones, where there are no late ones
+pub early-seen : (early late now seen : List (List ℕ)) (name : List ℕ) → length late ≡ 0 → now ≡ early ++ name ∷ [] → early ++ late ≡ seen → now ++ late ≡ seen ++ name ∷ []
+early-seen early (y ∷ ys) now seen name none put same = absurd (omega (arith, none))
+early-seen early [] now seen name none put same = nil-right now ∙ put ∙ ap (λ xs. xs ++ name ∷ []) (sym (nil-right early) ∙ same)
+
+-- the same with a new name behind the late ones
+pub late-seen : {V E : Type 0} (r : Result V E) (early kept late now seen : List (List ℕ)) (given name : List ℕ) → OnOk r (now ≡ late ++ given ∷ []) → kept ≡ early → given ≡ name → early ++ late ≡ seen
+    → OnOk r (kept ++ now ≡ seen ++ name ∷ [])
+late-seen (Err e) early kept late now seen given name put same told all = tt
+late-seen (Ok u) early kept late now seen given name put same told all =
+    ap (λ xs. xs ++ now) same ∙ ap (λ xs. early ++ xs) put ∙ sym (append_assoc early late (given ∷ [])) ∙ ap (λ x. (early ++ late) ++ x ∷ []) told ∙ ap (λ xs. xs ++ name ∷ []) all
+
+-- a name that is neither early nor late isn't late
+pub not-late : (early late seen : List (List ℕ)) (name : List ℕ) → early ++ late ≡ seen → is_among seen name ≡ false → is_among late name ≡ false
+not-late early late seen name all none =
+    (or-none (is_among early name) (is_among late name) (sym (list_any-append (λ n. bytes_eq name n) early late) ∙ ap (λ names. is_among names name) all ∙ none)).1

@@ -1,11 +1,13 @@
 -- Names and their hashes.
-use Rattle.std.proofs.Common.{◌≡◌, ◌≢◌, ℕ, ◌+◌, ◌-◌, Bool, true, false, List, slice_get, Some, Contains, refl, sym, ap, ◌∙◌, below_more, arith, inl, inr}
+use Rattle.std.proofs.Common.{◌≡◌, ◌≢◌, ℕ, ◌+◌, ◌-◌, Bool, true, false, List, slice_get, Some, Contains, refl, sym, ap, ◌∙◌, below_more, arith, inl, inr, map, get_or}
 use Rattle.std.specs.Prelude.{IsTrue, IfSome, IfNone, OnOk, is_some, Option, None, Result, Ok, Err, ◌++◌, ◌∷◌, []}
 use Rattle.std.specs.Str.{bytes_eq}
-use Rattle.std.proofs.lemmas.Option.{same_Some}
+use Rattle.std.proofs.lemmas.List.{get_or-map}
+use Rattle.std.proofs.lemmas.Option.{same_Some, slice_get_within, get_or_from_slice_get}
 use Rattle.std.proofs.lemmas.Slice.Eq.{bytes_eq-Decides}
 use Rattle.unique_table.specs.Places.{slot_at, IsWith}
 use Rattle.unique_table.proofs.Searches.{Passed}
+use Rattle.base_tables.specs.Hashed.{hash_of}
 use Rattle.base_tables.specs.Table.{is_among}
 use Rattle.base_tables.proofs.TableLemmas.{is_among-at}
 use Rattle.base_tables.proofs.Appended.{at-is_among}
@@ -50,3 +52,8 @@ pub with-added : {K V E : Type 0} (r : Result V E) (old : List K) (key : K) (new
 with-added (Err e) old key new h = tt
 with-added (Ok v) old key new (inl (there, same)) = λ fresh. absurd (fresh there)
 with-added (Ok v) old key new (inr (absent, more)) = λ fresh. more
+
+-- where another hash stands, another name does
+pub other-hash : (names : List (List ℕ)) (hashes : List ℕ) (number hash : ℕ) (name : List ℕ) → hashes ≡ map hash_of names → (get_or hashes number 0 ≡ hash → ⊥) → hash ≡ hash_of name → slice_get names number ≡ Some name → ⊥
+other-hash names hashes number hash name hashed other told at =
+    other (ap (λ hs. get_or hs number 0) hashed ∙ get_or-map hash_of names number [] 0 (slice_get_within names number name at) ∙ ap hash_of (get_or_from_slice_get names number name [] at) ∙ sym told)
