@@ -1,37 +1,12 @@
 //! Stimuli as texts.
 
-ghost use Rattle.std.specs.Prelude.{◌≡◌, ◌++◌, map, OnOk, IfOk};
+ghost use Rattle.std.specs.Prelude.{◌≡◌, ◌++◌, OnOk, IfOk};
 ghost use Rattle.std.specs.List.{flat_map};
-ghost use Rattle.witness_report.specs.Text.{digit_of, names_text, row_line, stimulus_text};
+ghost use Rattle.witness_report.specs.Text.{row_line, stimulus_text};
 
 use crate::stimulus::Stimulus;
-use sec_base::{Bits, NoMemory, Seq, Text, Words, put};
+use sec_base::{Bits, NoMemory, Seq, Text, put, put_digits, put_names};
 use std::alloc::Global;
-
-fn digit_of(bit: bool) -> u8
-    ensures { result ≡ digit_of bit }
-{
-    if bit { b'1' } else { b'0' }
-}
-
-fn put_names(text: &mut Vec<u8>, names: &Words) -> Result<(), NoMemory>
-    ensures { OnOk result (text.new.items ≡ text.old.items ++ names_text names.now) }
-{
-    for name in names.as_slice() {
-        put(text, b" ")?;
-        put(text, name.as_slice())?;
-    }
-    Ok(())
-}
-
-fn put_digits(text: &mut Vec<u8>, row: &[bool]) -> Result<(), NoMemory>
-    ensures { OnOk result (text.new.items ≡ text.old.items ++ map digit_of row.now) }
-{
-    for bit in row {
-        text.push(digit_of(*bit))?;
-    }
-    Ok(())
-}
 
 fn put_row(text: &mut Vec<u8>, row: &[bool]) -> Result<(), NoMemory>
     ensures { OnOk result (text.new.items ≡ text.old.items ++ row_line row.now) }
