@@ -30,7 +30,7 @@ pub enum TextKind {
 }
 
 /// Why a text isn't accepted.
-#[derive(Clone, Copy, PartialEq, Eq)]
+#[derive(Clone, Copy)]
 pub enum TextError {
     /// The number of the first faulty line, from 1, with what is first wrong with it; with line 0 what is wrong with the text as a
     /// whole.
