@@ -1,5 +1,6 @@
 -- A turn takes one piece more of what is held.
-use Rattle.std.proofs.Common.{◌≡◌, ◌<◌, ◌≤◌, ◌∙◌, length, ap, arith}
+use Rattle.std.proofs.Common.{◌≡◌, ◌<◌, ◌≤◌, ◌+◌, ◌∙◌, length, take, ap, arith}
+use Rattle.std.proofs.lemmas.List.{length-append, length-take-le}
 use Rattle.base_shelves.proofs.Fronts.{longer_told, whole_told, ok_err}
 use Rattle.base_shelves.proofs.whole_file.fetch_through.Goals as goal
 
@@ -41,3 +42,10 @@ returns-then-count-eq0-clause-later g c = λ path. omega (arith, c.in_ok-count.e
 
 pub returns-then-count-eq0-clause-serving : goal.returns-then-count-eq0-clause-serving
 returns-then-count-eq0-clause-serving g c = λ other serves. c.in_ok-count.ensures.serving other (c.loop-shelf.invariant.3 other serves)
+
+pub loop-shelf-smaller : goal.loop-shelf-smaller
+loop-shelf-smaller g c =
+    let longer : length c.append_front.new.text.items ≡ length c.loop-shelf.text.items + c.in_ok-count.count =
+    ap length c.in_ok-append_front.ensures.ok ∙ length-append c.loop-shelf.text.items (take c.in_ok-count.count c.read_at.new.room)
+    ∙ ap (λ n. length c.loop-shelf.text.items + n) (length-take-le c.in_ok-count.count c.read_at.new.room c.in_ok-count.ensures.bound) in
+    omega (arith, longer, c.if-count-eq0.false, c.loop-shelf-test.true, c.len.ensures, c.loop-shelf.text.ok.0)
