@@ -1,5 +1,5 @@
 -- The new places hold the numbers of the same keys.
-use Rattle.std.proofs.Common.{List, sym, subst, arith}
+use Rattle.std.proofs.Common.{◌≡◌, List, length, sym, ap, subst, arith}
 use Rattle.unique_table.specs.Places.{IsTable, StandOnce}
 use Rattle.unique_table.proofs.table.UniqueTable.grow.Goals as goal
 
