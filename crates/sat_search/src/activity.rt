@@ -21,7 +21,6 @@ const UNIT: u32 = 1000;
 
 /// Scores of variables by the conflicts in which they took part, the late ones counting most, and
 /// the last sign of each. Variable k + 1 has number k here.
-#[derive(Drop)]
 pub(crate) struct Activity {
     scores: Vec<f64>,
     signs: Vec<bool>,
@@ -40,30 +39,50 @@ pub(crate) struct Activity {
     units: u32,
 }
 
+/// It is let go by one call: an owner isn't taken apart field by field at each way out.
+impl Drop for Activity {
+    fn drop(self) {
+        let Activity {
+            scores: _,
+            signs: _,
+            heap: _,
+            places: _,
+            size: _,
+            step: _,
+            left: _,
+            restart: _,
+            units: _,
+        } = self;
+    }
+}
+
 impl Activity {
     /// All variables alike.
     pub(crate) fn new(alloc: Global, variables: u32) -> Result<Activity, NoMemory> {
-        let mut scores = Vec::new(alloc);
-        let mut signs = Vec::new(alloc);
-        let mut heap = Vec::new(alloc);
-        let mut places = Vec::new(alloc);
-        for index in 0..variables {
-            scores.push(0.0)?;
-            signs.push(false)?;
-            heap.push(index)?;
-            places.push(index as usize)?;
-        }
-        Ok(Activity {
-            scores,
-            signs,
-            heap,
-            places,
+        let mut made = Activity {
+            scores: Vec::new(alloc),
+            signs: Vec::new(alloc),
+            heap: Vec::new(alloc),
+            places: Vec::new(alloc),
             size: variables as usize,
             step: 1.0,
             left: UNIT,
             restart: 1,
             units: 1,
-        })
+        };
+        for index in 0..variables {
+            made.add(index)?;
+        }
+        Ok(made)
+    }
+
+    /// Puts a variable last.
+    fn add(&mut self, index: u32) -> Result<(), NoMemory> {
+        self.scores.push(0.0)?;
+        self.signs.push(false)?;
+        self.heap.push(index)?;
+        self.places.push(index as usize)?;
+        Ok(())
     }
 
     /// The free variable of the greatest score, with its last sign.

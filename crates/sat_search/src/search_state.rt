@@ -19,7 +19,6 @@ use std::alloc::Global;
 use std::mem;
 
 /// What a search works on.
-#[derive(Drop)]
 pub(crate) struct SearchState {
     pub(crate) trail: Trail,
     pub(crate) watches: Watches,
@@ -27,6 +26,19 @@ pub(crate) struct SearchState {
     pub(crate) resolver: Resolver,
     /// How each learnt clause is derived.
     pub(crate) log: Log,
+}
+
+/// It is let go by one call: an owner isn't taken apart field by field at each way out.
+impl Drop for SearchState {
+    fn drop(self) {
+        let SearchState {
+            trail: _,
+            watches: _,
+            order: _,
+            resolver: _,
+            log: _,
+        } = self;
+    }
 }
 
 /// What a turn came to.

@@ -1,6 +1,7 @@
 //! The search.
 
-ghost use Rattle.std.specs.Prelude.{◌-◌, ◌<◌, ◌≤◌, ◌^◌, length, IfOk};
+ghost use Rattle.std.specs.Prelude.{◌-◌, ◌<◌, ◌≤◌, ◌^◌, [], length, IfOk};
+ghost use Rattle.clause_watch.specs.proof_check.Chains.{ChainDerives};
 ghost use Rattle.clause_watch.specs.Range.{InRange};
 ghost use Rattle.sat_search.specs.Found.{IsFound};
 ghost use Rattle.clause_watch.specs.Trails.{IsTrail};
@@ -12,7 +13,7 @@ use crate::analysis::analyse;
 use crate::lesson::Lesson;
 use crate::outcome::Found;
 use crate::search_state::{SearchState, Turn};
-use clause_watch::{ClauseDb, Clauses, MAX_CONFLICTS, NoMemory, Resolver, Seq, Trail};
+use clause_watch::{Chain, ClauseDb, Clauses, MAX_CONFLICTS, NoMemory, Resolver, Seq, Trail};
 use std::alloc::Global;
 
 /// Looks for values that meet all clauses, for at most so many conflicts. `Model` has values that
@@ -80,16 +81,32 @@ fn refute(
     requires forced { AreForced trail.now.entries }
     ensures { IfOk result (IsFound store.now trail.now.variables conflicts) }
 {
-    let mut log = Seq::new(alloc);
     if conflicts == 0 {
-        return Ok(Found::Limit(log));
+        return Ok(Found::Limit(Seq::new(alloc)));
     }
+    let chain = refutation(alloc, store, trail, number)?;
+    let mut log = Seq::new(alloc);
+    log.push(chain)?;
+    Ok(Found::Refuted(log))
+}
+
+/// The chain to the empty clause, where a clause is false before the first decision.
+fn refutation(
+    alloc: Global,
+    store: &ClauseDb,
+    trail: &Trail,
+    number: u32,
+) -> Result<Chain, NoMemory>
+    requires numbers { length store.now < 2 ^ 32 }
+    requires range { InRange trail.now.variables store.now }
+    requires trail { IsTrail store.now trail.now.entries }
+    requires conflict { IsConflict store.now trail.now.entries number }
+    requires forced { AreForced trail.now.entries }
+    ensures { IfOk result (λ chain. ChainDerives store.now chain []) }
+{
     let mut resolver = Resolver::new(alloc);
     match analyse(alloc, store, trail, &mut resolver, number)? {
-        Lesson::Refutation(chain) => {
-            log.push(chain)?;
-            Ok(Found::Refuted(log))
-        }
+        Lesson::Refutation(chain) => Ok(chain),
         Lesson::Asserting(_) => unreachable!(),
     }
 }
