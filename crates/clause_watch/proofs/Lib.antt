@@ -8,4 +8,5 @@ pub mod Loading
 pub mod Pieces
 pub mod Trails
 pub mod Visits
+pub mod Writing
 pub use Rattle.proof_check.proofs as proof_check

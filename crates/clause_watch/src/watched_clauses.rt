@@ -17,13 +17,23 @@ use std::marker::Model;
 /// The clauses of a search: the given ones, and those that were learnt. Each clause of two or more
 /// literals watches two of its own, of two variables. It stands once in the row of each of them,
 /// and nothing else stands in the rows. A contract sees the clauses, the pairs and the rows.
-#[derive(Drop)]
 pub struct WatchedClauses {
     store: ClauseDb,
     /// What each clause watches. The pair of a clause of fewer literals means nothing.
     pairs: Vec<Pair>,
     /// For each literal the clauses that watch it.
     watchers: Watchers,
+}
+
+/// It is let go by one call: an owner isn't taken apart field by field at each way out.
+impl Drop for WatchedClauses {
+    fn drop(self) {
+        let WatchedClauses {
+            store: _,
+            pairs: _,
+            watchers: _,
+        } = self;
+    }
 }
 
 impl Model for WatchedClauses {
