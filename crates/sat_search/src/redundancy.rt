@@ -2,7 +2,7 @@
 //! (Sorensson and Biere, minimising learned clauses). No contract speaks of it: what is found here
 //! is only where it is worth to resolve.
 
-ghost use Rattle.std.specs.Prelude.{◌<◌, ◌≤◌, length, IfSome};
+ghost use Rattle.std.specs.Prelude.{◌≡◌, ◌<◌, ◌≤◌, length, None, IfSome};
 
 use crate::analysis::first_decision;
 use clause_watch::{ClauseDb, NoMemory, Resolver, Trail};
@@ -101,14 +101,14 @@ impl Redundancy {
         };
         for literal in store.clause(reason.clause) {
             let other = literal.variable();
-            if other == variable || self.found(other) == Some(true) {
-                continue;
-            }
-            if depth == 0 || self.found(other) == Some(false) {
-                return Ok(false);
-            }
-            let follows = self.follows(store, trail, other, depth - 1)?;
-            self.note(other, follows);
+            let follows = match self.known(variable, other, depth) {
+                Some(follows) => follows,
+                None => {
+                    let follows = self.follows(store, trail, other, depth - 1)?;
+                    self.note(other, follows);
+                    follows
+                }
+            };
             if !follows {
                 return Ok(false);
             }
@@ -117,13 +117,32 @@ impl Redundancy {
         Ok(true)
     }
 
+    /// Whether another literal of the variable's reason stands in the clause or follows. None where that
+    /// isn't known, and reasons may still be followed.
+    fn known(&self, variable: u32, other: u32, depth: u32) -> Option<bool>
+        ensures { result ≡ None → 0 < depth }
+    {
+        if other == variable {
+            return Some(true);
+        }
+        match self.found(other) {
+            Some(follows) => Some(follows),
+            None => { if depth == 0 { Some(false) } else { None } }
+        }
+    }
+
+    /// Whether a literal may follow that became false at the place.
+    fn is_open(&self, place: u32) -> bool {
+        place < self.decision && (place < self.fixed || self.floor <= place)
+    }
+
     /// The reason of a variable, where it became false before the last decision, and not before all
     /// that was decided for the clause.
     fn reason(&self, store: &ClauseDb, trail: &Trail, variable: u32) -> Option<Reason>
         ensures { IfSome result (λ reason. reason.clause < length store.now) }
     {
         let place = place_of(trail, variable)?;
-        if place >= self.decision || (self.fixed <= place && place < self.floor) {
+        if !self.is_open(place) {
             return None;
         }
         let clause = trail.entry(place).reason?;

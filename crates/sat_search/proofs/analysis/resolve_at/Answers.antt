@@ -1,6 +1,14 @@
+use Rattle.std.proofs.Common.{subst}
 use Rattle.std.proofs.lemmas.Option.{slice_get_within}
+use Rattle.clause_watch.specs.proof_check.Resolution.{IsResolvent, IsStepAnswer}
+use Rattle.clause_watch.specs.proof_check.Literals.{negation}
+use Rattle.clause_watch.specs.proof_check.declared.resolution.Outcome.{Outcome}
+use Rattle.clause_watch.proofs.Trails.{at_within}
 use Rattle.sat_search.proofs.Analysing.{reason_of, reason_opposite, reason_no_clash, step_no_pivot, step_clashes}
 use Rattle.sat_search.proofs.analysis.resolve_at.Goals as goal
+
+pub entry-requires : goal.entry-requires
+entry-requires c = at_within c.args.trail.now.entries c.args.placed.now.place (negation c.args.placed.now.literal) c.requires.there
 
 pub clause-requires : goal.clause-requires
 clause-requires c =
@@ -20,3 +28,13 @@ unreachable-requires-in-Clashes c =
     let f = reason_of c.args.store.now c.args.trail.now.entries placed.place c.in-Some.number placed.literal c.entry.result c.requires.trail c.requires.there c.entry.ensures.there c.in-Some.is in
     step_clashes _ _ _ _ placed.literal.variable _ c.in_ok-resolve.ensures.ok c.in-Clashes.is c.variable.ensures.value
     (reason_no_clash c.args.store.now c.args.trail.now.entries placed.place c.in-Some.number placed.literal c.args.resolver.now c.clause.result.now c.requires.trail f c.clause.ensures.there c.requires.falsified)
+
+pub returns : goal.returns
+returns c =
+    let placed = c.args.placed.now in
+    let old = c.args.resolver.now in
+    let clause = c.clause.result.now in
+    let new = c.resolve.new.self in
+    let f = reason_of c.args.store.now c.args.trail.now.entries placed.place c.in-Some.number placed.literal c.entry.result c.requires.trail c.requires.there c.entry.ensures.there c.in-Some.is in
+    let answer = subst (λ (o : Outcome). IsStepAnswer old clause c.variable.result o new) c.in-Derived.is c.in_ok-resolve.ensures.ok in
+    ((clause, c.clause.ensures.there, subst (λ v. IsResolvent old clause v new) c.variable.ensures.value answer), f)
