@@ -14,10 +14,16 @@ pub struct Query {
 }
 
 /// The clauses of a query, and a log of resolution chains over them.
-#[derive(Drop)]
 pub struct Proof {
     pub cnf: Cnf,
     pub log: Log,
+}
+
+/// It is let go by one call: an owner isn't taken apart field by field at each way out.
+impl Drop for Proof {
+    fn drop(self) {
+        let Proof { cnf: _, log: _ } = self;
+    }
 }
 
 /// Why the sides of a query are the same.
