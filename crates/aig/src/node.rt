@@ -7,7 +7,7 @@ use std::alloc::Global;
 
 /// A literal: twice a node's number, plus one where it stands for the node's complement, as in the AIGER format (Biere,
 /// The AIGER And-Inverter Graph Format, 2007). So 0 is the constant 0, and 1 the constant 1.
-#[derive(Clone, Copy, PartialEq, Eq, Hash)]
+#[derive(Clone, Copy, PartialEq, Eq)]
 pub struct Lit(pub u32);
 
 impl Lit {
@@ -42,7 +42,7 @@ impl Duplicate for Lit {
 pub type Lits = Seq<Lit>;
 
 /// A node of the graph. Nodes are numbered from 0; in a graph no node stands twice, and there are fewer than 2^30.
-#[derive(Clone, Copy, PartialEq, Eq, Hash)]
+#[derive(Clone, Copy, PartialEq, Eq)]
 pub enum Node {
     /// The constant 0, which has the number 0.
     Constant,

@@ -1,5 +1,5 @@
 use Rattle.std.proofs.Common.{◌≡◌, ◌∙◌, ℕ, List, [], length, get_or, map, refl, rules, subst, ap, Bool, if◌then◌else◌, arith}
-use Rattle.aig.proofs.Growth.{Grows-refl, Grows-trans}
+use Rattle.aig.proofs.Growth.{Grows-refl, Grows-trans, Grows-length}
 use Rattle.aig.specs.Graph.{flip}
 use Rattle.aig.specs.Rules.{IsCoverOf, AreRowsOf}
 use Rattle.aig.proofs.Meaning.{value-grows}
@@ -10,6 +10,12 @@ use Rattle.aig.proofs.graph.Aig.cover.Goals as goal
 pub loop-i-init : goal.loop-i-init
 loop-i-init c =
     record { grows = Grows-refl c.args.self.now; few = omega arith; within = omega (arith, graph-some c.args.self.now c.keeps-2.ensures.graph); vars = refl; rest = λ h x grows is. is }
+
+pub row-requires-clause-from : goal.row-requires-clause-from
+row-requires-clause-from c = c.loop-i.invariant.within
+
+pub row-requires-clause-within : goal.row-requires-clause-within
+row-requires-clause-within c = λ k d h. omega (arith, c.requires.within k d h, Grows-length c.args.self.now c.loop-i.self c.loop-i.invariant.grows)
 
 pub loop-i-preserved : goal.loop-i-preserved
 loop-i-preserved c =
