@@ -1,9 +1,9 @@
-use Rattle.std.proofs.Common.{length, ◌-◌, ◌+◌}
+use Rattle.std.proofs.Common.{length, ◌-◌, ◌+◌, None}
 use Rattle.proof_check.specs.Merging.{IsMerged}
 use Rattle.proof_check.proofs.merge.merge.Given as goal
 
-abbrev pub invariant-loop-i : goal.invariant-loop-i
-invariant-loop-i l = IsMerged l.left l.right l.out.items l.pivot l.i l.j
+abbrev pub invariant-turns : goal.invariant-turns
+invariant-turns l = IsMerged l.left l.right l.out.items None l.at.left l.at.right
 
-abbrev pub decreases-loop-i : goal.decreases-loop-i
-decreases-loop-i l = (length l.left - l.i) + (length l.right - l.j)
+abbrev pub decreases-turns : goal.decreases-turns
+decreases-turns l = (length l.left - l.at.left) + (length l.right - l.at.right)
