@@ -1,13 +1,13 @@
 -- One row is written, or one clause of a row taken away.
-use Rattle.std.proofs.Common.{◌≡◌, ◌≢◌, ◌⊎◌, ℕ, ◌+◌, ◌-◌, ◌*◌, ◌<◌, ◌≤◌, Bool, true, false, List, [], ◌∷◌, ◌++◌, length, get_or, refl, sym, ◌∙◌, ap, subst, arith, inl, inr, Option, Some, None, Result, Ok, Err}
-use Rattle.std.specs.Prelude.{slice_get, unwrap_or, OnOk, OnErr, if◌then◌else◌}
+use Rattle.std.proofs.Common.{◌≡◌, ◌≢◌, ◌⊎◌, ℕ, zero, suc, ◌+◌, ◌-◌, ◌*◌, ◌<◌, ◌≤◌, Bool, true, false, List, [], ◌∷◌, ◌++◌, length, get_or, refl, sym, ◌∙◌, ap, subst, arith, inl, inr, Option, Some, None, Result, Ok, Err}
+use Rattle.std.specs.Prelude.{slice_get, unwrap_or, replicate, OnOk, OnErr, if◌then◌else◌}
 use Rattle.std.proofs.Math.ListN.{set}
 use Rattle.std.proofs.lemmas.Bool.{cases_eq, cases_lt}
-use Rattle.std.proofs.lemmas.List.{length-set}
+use Rattle.std.proofs.lemmas.List.{length-set, length-replicate}
 use Rattle.std.proofs.lemmas.Option.{slice_get_within, slice_get-get_or, slice_get_cases, get_or_from_slice_get}
 use Rattle.proof_check.specs.Literals.{Literal}
 use Rattle.proof_check.proofs.Members.{same_literal}
-use Rattle.clause_watch.specs.Rows.{row_of, row, IsTaken, IsAdded, IsPut, AreSameRows}
+use Rattle.clause_watch.specs.Rows.{row_of, row, IsTaken, IsAdded, IsPut, IsRemoved, AreEmpty, AreSameRows}
 use Rattle.clause_watch.specs.declared.watchers.Watcher.{Watcher}
 use Rattle.clause_watch.proofs.Lists.{get_set_same, get_set_other}
 use Rattle.clause_watch.proofs.Literals.{same_or_other}
@@ -85,6 +85,28 @@ put rows now l place w i old new view is within reads h =
       others = λ m differ. unwritten rows l m new differ;
     }) in
     subst (λ (rs : List (List Watcher)). IsPut rs l place w (set rows i new)) view whole
+
+-- one clause less
+pub removed : (rows now : List (List Watcher)) (l : Literal) (place : ℕ) (i : ℕ) (old new : List Watcher) → rows ≡ now → i ≡ row_of l → row_of l < length now → old ≡ get_or rows i old → IsTaken old place new → IsRemoved now l place (set rows i new)
+removed rows now l place i old new view is within reads h =
+    let inside = subst (λ (rs : List (List Watcher)). row_of l < length rs) (sym view) within in
+    let whole : IsRemoved rows l place (set rows i new) =
+    subst (λ n. IsRemoved rows l place (set rows n new)) (sym is) (record {
+      sized = length-set rows (row_of l) new;
+      here = subst (λ (r : List Watcher). IsTaken (row rows l) place r) (sym (written rows l new inside)) (subst (λ (r : List Watcher). IsTaken r place new) (is_row rows l i old is inside reads) h);
+      others = λ m differ. unwritten rows l m new differ;
+    }) in
+    subst (λ (rs : List (List Watcher)). IsRemoved rs l place (set rows i new)) view whole
+
+-- rows without clauses
+empty_at : (n k : ℕ) → unwrap_or (slice_get (replicate {A = List Watcher} n []) k) [] ≡ []
+empty_at zero k = refl
+empty_at (suc n) zero = refl
+empty_at (suc n) (suc k) = empty_at n k
+
+pub all_empty : (variables n : ℕ) (rows : List (List Watcher)) → rows ≡ replicate n [] → n ≡ 2 * variables + 2 → AreEmpty variables rows
+all_empty variables n rows is count =
+    subst (AreEmpty variables) (sym is) (record { sized = length-replicate {A = List Watcher} n [] ∙ count; empty = λ l. empty_at n (row_of l) })
 
 -- one is taken away, and the last one put in its place
 pub taken : (old new : List Watcher) (place n m : ℕ) → n ≡ length old → m ≡ length new → place < n → m + 1 ≡ n →

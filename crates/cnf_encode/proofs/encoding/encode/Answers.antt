@@ -1,7 +1,10 @@
-use Rattle.std.proofs.Common.{◌≡◌, List, [], ◌++◌, length, ap, subst, ◌∙◌}
+use Rattle.std.proofs.Common.{◌≡◌, ◌/◌, ◌<◌, ◌^◌, ℕ, List, [], ◌++◌, length, ap, sym, subst, arith, ◌∙◌}
+use Rattle.std.proofs.lemmas.Option.{slice_get_within}
 use Rattle.proof_check.specs.Literals.{Literal}
 use Rattle.aig.specs.declared.node.Node.{Node}
 use Rattle.aig.specs.declared.cone_graph.Cones.{Cones}
+use Rattle.aig.specs.Cone.{IsPlacedLit}
+use Rattle.aig.specs.Graph.{IsOrdered}
 use Rattle.cnf_encode.specs.Encoding.{part_clauses, query_clauses, AreClausesOf, Adds}
 use Rattle.cnf_encode.proofs.Added.{Adds-join, Adds-all}
 use Rattle.cnf_encode.proofs.Shown.{shown-exactly}
@@ -14,6 +17,25 @@ clauses-of : (cones : Cones) (part : List Node) (none old new : List (List Liter
 clauses-of cones part none old new e f first second =
     Adds-all (part_clauses 0 cones.part ++ query_clauses cones.left.0 cones.right.0 cones.care.0) none new f
     (Adds-join (part_clauses 0 cones.part) (query_clauses cones.left.0 cones.right.0 cones.care.0) none old new (subst (λ (p : List Node). Adds (part_clauses 0 p) none old) e first) second)
+
+-- a literal of a place is small
+placed-small : (nodes : List ℕ) (x y : ℕ) → IsPlacedLit nodes x y → length nodes < 2 ^ 30 → y / 2 < 2 ^ 30
+placed-small nodes x y is few = omega (arith, slice_get_within nodes (y / 2) (x / 2) is.1, few)
+
+pub put_part-requires-clause-few : goal.put_part-requires-clause-few
+put_part-requires-clause-few c = omega (arith, ap length c.as_slice-part.ensures, c.in_ok-cones.ensures.part_is.each, c.in_ok-cones.ensures.few)
+
+pub put_part-requires-clause-ordered : goal.put_part-requires-clause-ordered
+put_part-requires-clause-ordered c = subst IsOrdered (sym c.as_slice-part.ensures) c.in_ok-cones.ensures.ordered
+
+pub put_query-requires-clause-left : goal.put_query-requires-clause-left
+put_query-requires-clause-left c = placed-small c.in_ok-cones.cones.nodes c.args.l.0 c.in_ok-cones.cones.left.0 c.in_ok-cones.ensures.left_is c.in_ok-cones.ensures.few
+
+pub put_query-requires-clause-right : goal.put_query-requires-clause-right
+put_query-requires-clause-right c = placed-small c.in_ok-cones.cones.nodes c.args.r.0 c.in_ok-cones.cones.right.0 c.in_ok-cones.ensures.right_is c.in_ok-cones.ensures.few
+
+pub put_query-requires-clause-care : goal.put_query-requires-clause-care
+put_query-requires-clause-care c = placed-small c.in_ok-cones.cones.nodes c.args.care.0 c.in_ok-cones.cones.care.0 c.in_ok-cones.ensures.care_is c.in_ok-cones.ensures.few
 
 pub returns-clause-encoding : goal.returns-clause-encoding
 returns-clause-encoding c =
