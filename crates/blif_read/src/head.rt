@@ -10,7 +10,7 @@ use crate::error::ReadKind;
 use blif_lines::MAX_NAME_BYTES;
 
 /// What the first token of a line says the line is.
-#[derive(Clone, Copy, PartialEq, Eq)]
+#[derive(Clone, Copy)]
 pub enum Head {
     Model,
     Inputs,
@@ -58,7 +58,12 @@ static UNSUPPORTED: [&[u8]; 23] = [
 pub(crate) fn is_among(words: &[&[u8]], word: &[u8]) -> bool
     ensures { result ≡ list_any (λ w. bytes_eq word.now w.now) words.now }
 {
-    words.iter().any(|w| word == *w)
+    for w in words {
+        if word == *w {
+            return true;
+        }
+    }
+    false
 }
 
 fn is_unsupported(word: &[u8]) -> bool
@@ -144,14 +149,24 @@ fn is_control(byte: u8) -> bool
 fn has_control(token: &[u8]) -> bool
     ensures { result ≡ list_any is_control token.now }
 {
-    token.iter().any(|byte| is_control(*byte))
+    for byte in token {
+        if is_control(*byte) {
+            return true;
+        }
+    }
+    false
 }
 
 /// Whether a byte of the tokens may not stand outside comments.
 pub(crate) fn any_control(tokens: &[&[u8]]) -> bool
     ensures { result ≡ list_any (λ t. list_any is_control t.now) tokens.now }
 {
-    tokens.iter().any(|token| has_control(token))
+    for token in tokens {
+        if has_control(token) {
+            return true;
+        }
+    }
+    false
 }
 
 fn is_long(name: &[u8]) -> bool
@@ -163,7 +178,12 @@ fn is_long(name: &[u8]) -> bool
 fn any_long(names: &[&[u8]]) -> bool
     ensures { result ≡ list_any (λ n. is_long n.now) names.now }
 {
-    names.iter().any(|name| is_long(name))
+    for name in names {
+        if is_long(name) {
+            return true;
+        }
+    }
+    false
 }
 
 /// What is wrong with a word line before its word's own rules are looked at: no model is open, the

@@ -5,7 +5,6 @@
 #![tactic(auto)]
 
 mod block;
-mod copies;
 mod design;
 mod error;
 mod head;
@@ -17,8 +16,8 @@ mod statements;
 mod stop;
 
 pub use blif_lines::{
-    Duplicate, Edge, Ids, Init, MAX_LEVELS, MAX_NAME_BYTES, MAX_PLACES, MAX_STATEMENTS, NameTable,
-    NoMemory, Seq, Word, Words, put, put_number,
+    Edge, Ids, Init, MAX_LEVELS, MAX_NAME_BYTES, MAX_PLACES, MAX_STATEMENTS, NameTable, NoMemory,
+    Seq, Word, Words, put, put_number,
 };
 pub use design::{BlifModel, BlifModels, Design, Pair, Pairs, Statement, Statements};
 pub use error::{ReadError, ReadKind};

@@ -19,7 +19,12 @@ fn is_place(byte: u8) -> bool
 fn are_places(token: &[u8]) -> bool
     ensures { result ≡ list_all is_place token.now }
 {
-    token.iter().all(|byte| is_place(*byte))
+    for byte in token {
+        if !is_place(*byte) {
+            return false;
+        }
+    }
+    true
 }
 
 fn is_placed_row(width: u32, places: &[u8], out: &[u8]) -> bool

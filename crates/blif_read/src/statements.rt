@@ -13,30 +13,34 @@ ghost use Rattle.blif_read.specs.declared.design.Statement.TheVariants as statem
 
 use crate::design::{Pair, Pairs, Statement};
 use crate::error::ReadKind;
+use crate::head::is_among;
 use crate::names::word_of;
 use crate::stop::Stop;
 use blif_lines::{Edge, Init, NoMemory, Seq, Word};
 use std::alloc::Global;
 
+static LEVEL_TYPES: [&[u8]; 3] = [b"ah", b"al", b"as"];
+
+static EDGE_TYPES: [&[u8]; 2] = [b"re", b"fe"];
+
+static INIT_WORDS: [&[u8]; 4] = [b"0", b"1", b"2", b"3"];
+
 fn is_level_type(word: &[u8]) -> bool
     ensures { result ≡ is_among level_types word.now }
 {
-    word == b"ah".as_slice() || word == b"al".as_slice() || word == b"as".as_slice()
+    is_among(&LEVEL_TYPES, word)
 }
 
 fn is_edge_type(word: &[u8]) -> bool
     ensures { result ≡ is_among edge_types word.now }
 {
-    word == b"re".as_slice() || word == b"fe".as_slice()
+    is_among(&EDGE_TYPES, word)
 }
 
 fn is_init(word: &[u8]) -> bool
     ensures { result ≡ is_among init_words word.now }
 {
-    word == b"0".as_slice()
-        || word == b"1".as_slice()
-        || word == b"2".as_slice()
-        || word == b"3".as_slice()
+    is_among(&INIT_WORDS, word)
 }
 
 /// The edge of a latch's type.
