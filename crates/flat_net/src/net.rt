@@ -217,8 +217,12 @@ fn any_matches(rows: &[Word], fanins: &[Signal], values: &[bool]) -> bool
     requires within { All (λ f. f.0 < length values.now) fanins.now }
     ensures { result ≡ list_any (λ row. row_matches row (map (λ f. slice_index_or values.now f.0 false) fanins.now)) rows.now }
 {
-    rows.iter()
-        .any(|row| row_matches(row.as_slice(), fanins, values))
+    for row in rows {
+        if row_matches(row.as_slice(), fanins, values) {
+            return true;
+        }
+    }
+    false
 }
 
 fn row_matches(row: &[u8], fanins: &[Signal], values: &[bool]) -> bool
@@ -237,25 +241,43 @@ fn row_matches(row: &[u8], fanins: &[Signal], values: &[bool]) -> bool
 fn gates_read(gates: &[Gate], signal: Signal) -> bool
     ensures { result ≡ list_any (λ g. list_any (λ f. f.0 == signal.0) g.fanins) gates.now }
 {
-    gates
-        .iter()
-        .any(|gate| is_fanin(gate.fanins.as_slice(), signal))
+    for gate in gates {
+        if is_fanin(gate.fanins.as_slice(), signal) {
+            return true;
+        }
+    }
+    false
 }
 
 fn is_fanin(fanins: &[Signal], signal: Signal) -> bool
     ensures { result ≡ list_any (λ f. f.0 == signal.0) fanins.now }
 {
-    fanins.iter().any(|fanin| fanin.0 == signal.0)
+    for fanin in fanins {
+        if fanin.0 == signal.0 {
+            return true;
+        }
+    }
+    false
 }
 
 fn latches_read(latches: &[LatchAt], signal: Signal) -> bool
     ensures { result ≡ list_any (λ l. l.next.0 == signal.0) latches.now }
 {
-    latches.iter().any(|latch| latch.next.0 == signal.0)
+    for latch in latches {
+        if latch.next.0 == signal.0 {
+            return true;
+        }
+    }
+    false
 }
 
 fn ports_show(ports: &[Port], signal: Signal) -> bool
     ensures { result ≡ list_any (λ port. port.signal.0 == signal.0) ports.now }
 {
-    ports.iter().any(|port| port.signal.0 == signal.0)
+    for port in ports {
+        if port.signal.0 == signal.0 {
+            return true;
+        }
+    }
+    false
 }

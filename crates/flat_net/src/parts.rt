@@ -29,7 +29,7 @@ pub struct LatchAt {
 }
 
 /// What drives a signal, by its number among the inputs, gates or latches.
-#[derive(Clone, Copy, PartialEq, Eq)]
+#[derive(Clone, Copy)]
 pub enum Driver {
     Input(u32),
     Gate(u32),

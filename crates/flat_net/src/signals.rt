@@ -2,19 +2,13 @@
 
 ghost use Rattle.std.specs.Prelude.{◌≡◌, List, [], ◌∷◌, ◌++◌, length, OnOk, OnErr, IfOk};
 
-use sec_base::{Duplicate, NoMemory};
+use sec_base::NoMemory;
 use std::alloc::Global;
 use std::marker::Model;
 
 /// A signal of a net, by its number.
-#[derive(Clone, Copy, PartialEq, Eq, Default)]
+#[derive(Clone, Copy)]
 pub struct Signal(pub u32);
-
-impl Duplicate for Signal {
-    fn duplicate(&self, _alloc: Global) -> Result<Signal, NoMemory> {
-        Ok(*self)
-    }
-}
 
 /// A list of signals. A contract sees it as the list.
 #[derive(Drop)]
@@ -71,11 +65,5 @@ impl Signals {
         Ok(Signals {
             items: Vec::from_slice(*self.items.allocator(), self.items.as_slice())?,
         })
-    }
-}
-
-impl Duplicate for Signals {
-    fn duplicate(&self, _alloc: Global) -> Result<Signals, NoMemory> {
-        self.copy()
     }
 }

@@ -36,3 +36,21 @@ returns-clause-circuit c =
       clock = names.clock;
       size = ap length left.drivers.moved ∙ length-map n.drivers (moved_to left.drivers.places);
     })
+
+pub returns-clause-parts : goal.returns-clause-parts
+returns-clause-parts c =
+    let n = c.args.self.now in
+    let ports = c.in_ok-inputs.ensures in
+    let left = c.in_ok-latches.ensures in
+    let gates = c.in_ok-gates.ensures in
+    let names = c.in_ok-names.ensures in
+    record {
+      inputs = ports.inputs;
+      outputs = ports.outputs;
+      latches = left.latches;
+      gates = gates.gates;
+      covers = gates.covers;
+      names = names.names;
+      clock = names.clock;
+      size = ap length left.drivers.moved ∙ length-map n.drivers (moved_to left.drivers.places);
+    }
