@@ -70,6 +70,36 @@ returns-in-Limit-clause-stopped c =
 pub returns-in-Limit-clause-ready : goal.returns-in-Limit-clause-ready
 returns-in-Limit-clause-ready c = λ x h. c.ask_members.ensures.ready x (c.loop-place.invariant.ready x h)
 
+pub returns-in_err-ask_members-clause-room : goal.returns-in_err-ask_members-clause-room
+returns-in_err-ask_members-clause-room c = λ small. let few = c.ask_members.ensures.few in omega (arith, few, c.if-size-members-ge-NODES.false, c.size.ensures)
+
+pub returns-in_err-ask_members-clause-rest : goal.returns-in_err-ask_members-clause-rest
+returns-in_err-ask_members-clause-rest c = c.ask_members.ensures.rest ∙ ap (λ (w : EventGraphView). record w { graph = c.ask_members.new.events.graph }) c.loop-place.invariant.rest
+
+pub returns-in-Agrees-clause-room : goal.returns-in-Agrees-clause-room
+returns-in-Agrees-clause-room c = λ small. let few = c.ask_members.ensures.few in omega (arith, few, c.if-size-members-ge-NODES.false, c.size.ensures)
+
+pub returns-in-Agrees-clause-rest : goal.returns-in-Agrees-clause-rest
+returns-in-Agrees-clause-rest c = c.ask_members.ensures.rest ∙ ap (λ (w : EventGraphView). record w { graph = c.ask_members.new.events.graph }) c.loop-place.invariant.rest
+
+pub returns-in_err-push-in-Differs-clause-grows : goal.returns-in_err-push-in-Differs-clause-grows
+returns-in_err-push-in-Differs-clause-grows c = grows_trans c.args.events.now c.loop-place.events c.ask_members.new.events c.loop-place.invariant.grows c.ask_members.ensures.grows
+
+pub returns-in_err-push-in-Differs-clause-room : goal.returns-in_err-push-in-Differs-clause-room
+returns-in_err-push-in-Differs-clause-room c = λ small. let few = c.ask_members.ensures.few in omega (arith, few, c.if-size-members-ge-NODES.false, c.size.ensures)
+
+pub returns-in_err-push-in-Differs-clause-rest : goal.returns-in_err-push-in-Differs-clause-rest
+returns-in_err-push-in-Differs-clause-rest c = c.ask_members.ensures.rest ∙ ap (λ (w : EventGraphView). record w { graph = c.ask_members.new.events.graph }) c.loop-place.invariant.rest
+
+pub returns-in-Limit-clause-grows : goal.returns-in-Limit-clause-grows
+returns-in-Limit-clause-grows c = grows_trans c.args.events.now c.loop-place.events c.ask_members.new.events c.loop-place.invariant.grows c.ask_members.ensures.grows
+
+pub returns-in-Limit-clause-room : goal.returns-in-Limit-clause-room
+returns-in-Limit-clause-room c = λ small. let few = c.ask_members.ensures.few in omega (arith, few, c.if-size-members-ge-NODES.false, c.size.ensures)
+
+pub returns-in-Limit-clause-rest : goal.returns-in-Limit-clause-rest
+returns-in-Limit-clause-rest c = c.ask_members.ensures.rest ∙ ap (λ (w : EventGraphView). record w { graph = c.ask_members.new.events.graph }) c.loop-place.invariant.rest
+
 pub loop-place-preserved : goal.loop-place-preserved
 loop-place-preserved c =
     let told : IsTold c.loop-place.events c.ask_members.new.events c.as_slice-members.result.now c.args.latch.now c.args.conflicts c.in-Differs.one = subst (IsAnswer c.loop-place.events c.ask_members.new.events c.as_slice-members.result.now c.args.latch.now c.args.conflicts) c.in-Differs.is c.in_ok-ask_members.ensures.answer in
