@@ -1,5 +1,5 @@
 -- One place more is counted.
-use Rattle.std.proofs.Common.{◌≡◌, ◌∙◌, ◌+◌, ◌-◌, ◌<◌, ◌≤◌, ℕ, List, [], ◌∷◌, ◌++◌, length, ap, arith, inl, inr}
+use Rattle.std.proofs.Common.{◌≡◌, ◌∙◌, ◌+◌, ◌-◌, ◌^◌, ◌<◌, ◌≤◌, ℕ, List, [], ◌∷◌, ◌++◌, length, ap, arith, inl, inr}
 use Rattle.std.specs.Prelude.{◌⊎◌}
 use Rattle.std.specs.List.{Contains}
 use Rattle.std.proofs.lemmas.List.Sums.{sum_by_push}
@@ -44,3 +44,10 @@ module _ (n : NetView) (sound : IsSound n) (c : CounterView) (weighed : IsWeighe
 
   pub passed_weight : 2000000 - c.weight < weight_at n p.1 → 2000000 < places_weight n new
   passed_weight h = omega (arith, h, heavier, weighed.small)
+
+-- there is room for one place more
+pub room_for_place : (n : NetView) (c : CounterView) → IsWeighed n c → length c.places + 1 < 2 ^ 32
+room_for_place n c w = omega (arith, w.few, w.small)
+
+pub weight_fits : (w more : ℕ) → w ≤ 2000000 → more ≤ 2000000 - w → w + more < 2 ^ 32
+weight_fits w more small room = omega (arith, small, room)

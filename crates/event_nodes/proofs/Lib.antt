@@ -1,6 +1,7 @@
 pub mod Drivers
 pub mod PairTest
 pub mod Growing
+mod Kept
 pub mod Lists
 pub mod Paths
 pub mod ReadPlaces
