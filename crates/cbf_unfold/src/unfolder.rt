@@ -25,7 +25,6 @@ use unfold_places::memo::{Memo, Place};
 use unfold_places::{UnfoldError, Unfolded};
 
 /// Unfolds signals of one net. Each place, a signal some cycles ago, is unfolded once, whatever reads it.
-#[derive(Drop)]
 pub struct Unfolder<'a> {
     net: &'a Net,
     order: Ids,
@@ -33,6 +32,20 @@ pub struct Unfolder<'a> {
     done: Ids,
     memo: Memo,
     weight: u32,
+}
+
+/// It is let go by one call: an owner isn't taken apart field by field at each way out.
+impl Drop for Unfolder<'_> {
+    fn drop(self) {
+        let Unfolder {
+            net: _,
+            order: _,
+            cap: _,
+            done: _,
+            memo: _,
+            weight: _,
+        } = self;
+    }
 }
 
 impl<'a> Model for Unfolder<'a> {

@@ -146,8 +146,7 @@ impl<'a> Unfolder<'a> {
         let inputs = self.inputs(alloc)?;
         let links = self.links(alloc)?;
         let words = self.visitors(alloc, links.as_slice(), &signals)?;
-        let vars = self.variables(alloc, places, words.as_slice(), inputs.as_slice(), 0)?;
-        Ok(vars)
+        self.variables(alloc, places, words.as_slice(), inputs.as_slice(), 0)
     }
 
     /// The variables of the k-th of the signals whose words these are: the numbers in the table of the inputs that it visits. They
@@ -173,8 +172,7 @@ impl<'a> Unfolder<'a> {
         self.keeps();
         let visited = self.places_with(alloc, words, numbers, k)?;
         let found = inputs_of(alloc, net, self.order(), visited.as_slice())?;
-        let vars = numbers_of(alloc, places, self.cap(), found.as_slice())?;
-        Ok(vars)
+        numbers_of(alloc, places, self.cap(), found.as_slice())
     }
 
     /// Those of the places with these numbers whose words have this bit.

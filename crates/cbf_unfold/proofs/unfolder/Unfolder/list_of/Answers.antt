@@ -1,8 +1,11 @@
 -- The only signal of its list.
-use Rattle.std.proofs.Common.{◌≡◌, ◌∙◌, ◌<◌, ℕ, List, [], ◌∷◌, length, sym, ap, subst, arith, refl}
+use Rattle.std.proofs.Common.{◌≡◌, ◌∙◌, ◌<◌, ℕ, List, [], ◌∷◌, length, slice_get, Some, sym, ap, subst, arith, refl}
 use Rattle.std.specs.List.{Contains}
+use Rattle.std.proofs.lemmas.Result.{IfOk-weaker}
+use Rattle.flat_net.specs.declared.signals.Signal.{Signal}
 use Rattle.flat_net.specs.View.{circuit_of}
 use Rattle.unfold_places.specs.Visitors.{AreLinks, AreInputNumbers, AreVisitors}
+use Rattle.cbf_unfold.specs.Building.{AreNumbered}
 use Rattle.cbf_unfold.proofs.Listing.{single}
 use Rattle.unfold_places.proofs.Candidates.{candidates_all}
 use Rattle.cbf_unfold.proofs.unfolder.Unfolder.list_of.Goals as goal
@@ -32,5 +35,8 @@ variables-requires-clause-candidates c =
 
 pub returns-clause-numbered : goal.returns-clause-numbered
 returns-clause-numbered c =
-    c.in_ok-vars.ensures.numbered (c.args.s ∷ []) c.args.s refl
-    (subst (λ (l : List ℕ). AreVisitors (circuit_of c.args.self.now.net) c.args.self.now.cap (c.args.s ∷ []) c.args.self.now.memo l) (sym c.as_slice-2.ensures.value) c.in_ok-words.ensures)
+    let u = c.args.self.now in
+    let words = c.as_slice-2.result.now in
+    let visitors = subst (λ (l : List ℕ). AreVisitors (circuit_of u.net) u.cap (c.args.s ∷ []) u.memo l) (sym c.as_slice-2.ensures.value) c.in_ok-words.ensures in
+    IfOk-weaker c.variables.result (λ vars. (signals : List Signal) (s : Signal) → slice_get signals 0 ≡ Some s → AreVisitors (circuit_of u.net) u.cap signals u.memo words → AreNumbered u c.args.places.now s.0 vars) (AreNumbered u c.args.places.now c.args.s.0)
+    (λ vars numbered. numbered (c.args.s ∷ []) c.args.s refl visitors) c.variables.ensures.numbered

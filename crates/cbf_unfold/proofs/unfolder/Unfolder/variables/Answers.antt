@@ -1,11 +1,15 @@
 -- The places with the signal's bit have the inputs that it visits.
 use Rattle.std.proofs.Common.{◌≡◌, ◌≢◌, ◌-◌, ◌^◌, ◌<◌, ◌≤◌, ℕ, List, length, map, slice_get, Some, refl, sym, subst, arith}
 use Rattle.std.specs.List.{All, AllPairs, AllZip, Contains}
+use Rattle.std.proofs.lemmas.Result.{IfOk-weaker}
+use Rattle.flat_net.specs.declared.signals.Signal.{Signal}
 use Rattle.flat_net.specs.View.{NetView, circuit_of}
 use Rattle.flat_net.specs.Sound.{IsSound}
 use Rattle.aig.specs.declared.node.Lit.{Lit}
 use Rattle.unfold_places.specs.Reach.{AreInputsOf}
+use Rattle.unfold_places.specs.Visitors.{AreVisitors}
 use Rattle.cbf_unfold.specs.View.{IsOrderOf}
+use Rattle.cbf_unfold.specs.Building.{AreNumbered}
 use Rattle.cbf_unfold.proofs.Finish.{from_own, to_own}
 use Rattle.cbf_unfold.proofs.Listing.{visited_within, visited_differ, found_early, found_known, are_numbered}
 use Rattle.cbf_unfold.proofs.unfolder.Unfolder.variables.Goals as goal
@@ -45,11 +49,18 @@ numbers_of-requires-clause-known c =
     (found_known c.args.self.now (subst IsSound c.net-net.ensures c.keeps.ensures.sound) c.requires.fits.0 c.args.places.now c.requires.fits.1 c.args.words.now c.args.numbers.now c.args.k c.requires.candidates c.in_ok-visited.visited.items c.in_ok-visited.ensures c.in_ok-found.found.items inputs))
 
 pub returns-clause-numbered : goal.returns-clause-numbered
-returns-clause-numbered c = λ signals s here visitors.
+returns-clause-numbered c =
     let u = c.args.self.now in
     let inputs = to_own u c.net-net.result.now c.order.result.now u.memo c.net-net.ensures c.order.ensures refl (λ n o m. AreInputsOf (circuit_of n) o c.in_ok-visited.visited.items c.in_ok-found.found.items)
     (subst (λ (l : List (ℕ × ℕ)). AreInputsOf (circuit_of c.net-net.result.now) c.order.result.now l c.in_ok-found.found.items) c.as_slice.ensures.value c.in_ok-found.ensures.inputs) in
-    let zip = subst (λ (k : ℕ). AllZip (λ v (x : ℕ × ℕ). slice_get c.args.places.now v ≡ Some (x.1, k - x.0)) c.in_ok-vars.vars c.in_ok-found.found.items) c.cap.ensures
-    (subst (λ (l : List (ℕ × ℕ)). AllZip (λ v x. slice_get c.args.places.now v ≡ Some (x.1, c.cap.result - x.0)) c.in_ok-vars.vars l) c.as_slice-2.ensures.value c.in_ok-vars.ensures.numbers) in
-    are_numbered u (subst IsSound c.net-net.ensures c.keeps.ensures.sound) c.requires.fits.0 c.args.places.now c.requires.fits.1 c.args.words.now c.args.numbers.now c.args.k c.requires.candidates c.in_ok-visited.visited.items c.in_ok-visited.ensures
-    c.in_ok-found.found.items inputs c.in_ok-vars.vars c.in_ok-found.ensures.ordered zip signals s here visitors
+    let places = c.args.places.now in
+    let words = c.args.words.now in
+    let k = c.args.k in
+    let found = c.in_ok-found.found.items in
+    IfOk-weaker c.numbers_of.result (λ vars. AllZip (λ v (x : ℕ × ℕ). slice_get places v ≡ Some (x.1, c.cap.result - x.0)) vars c.as_slice-2.result.now)
+    (λ vars. (signals : List Signal) (s : Signal) → slice_get signals k ≡ Some s → AreVisitors (circuit_of u.net) u.cap signals u.memo words → AreNumbered u places s.0 vars)
+    (λ vars numbers signals s here visitors.
+    let zip = subst (λ (m : ℕ). AllZip (λ v (x : ℕ × ℕ). slice_get places v ≡ Some (x.1, m - x.0)) vars found) c.cap.ensures
+    (subst (λ (l : List (ℕ × ℕ)). AllZip (λ v x. slice_get places v ≡ Some (x.1, c.cap.result - x.0)) vars l) c.as_slice-2.ensures.value numbers) in
+    are_numbered u (subst IsSound c.net-net.ensures c.keeps.ensures.sound) c.requires.fits.0 places c.requires.fits.1 words c.args.numbers.now k c.requires.candidates c.in_ok-visited.visited.items c.in_ok-visited.ensures
+    found inputs vars c.in_ok-found.ensures.ordered zip signals s here visitors) c.numbers_of.ensures.numbers
