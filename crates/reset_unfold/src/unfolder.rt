@@ -33,7 +33,6 @@ use unfold_places::{UnfoldError, Unfolded};
 
 /// Unfolds signals of one net in cycles of runs that begin with the latches' initial values. Each place, a signal in a cycle,
 /// is unfolded once, whatever reads it.
-#[derive(Drop)]
 pub struct ResetUnfolder<'a> {
     net: &'a Net,
     order: Ids,
@@ -42,6 +41,21 @@ pub struct ResetUnfolder<'a> {
     done: Vec<Place>,
     memo: Memo,
     weight: u32,
+}
+
+/// It is let go by one call: an owner isn't taken apart field by field at each way out.
+impl Drop for ResetUnfolder<'_> {
+    fn drop(self) {
+        let ResetUnfolder {
+            net: _,
+            order: _,
+            base: _,
+            cap: _,
+            done: _,
+            memo: _,
+            weight: _,
+        } = self;
+    }
 }
 
 impl<'a> Model for ResetUnfolder<'a> {
