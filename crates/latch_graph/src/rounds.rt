@@ -113,8 +113,7 @@ fn round_behind(
 {
     let start = latch_behind(nodes, latches, states, signal);
     let round = round_from(alloc, nodes, latches, states, start)?;
-    let ids = turned(alloc, latches, round.as_slice())?;
-    Ok(ids)
+    turned(alloc, latches, round.as_slice())
 }
 
 /// The first latch on the way back from a signal that leads back to a cycle, along signals that do.
@@ -174,8 +173,7 @@ fn round_from(
         at = next_latch(nodes, latches, states, at);
     }
     let from = place_of(trail.as_slice(), at);
-    let round = tail_from(alloc, trail.as_slice(), from)?;
-    Ok(round)
+    tail_from(alloc, trail.as_slice(), from)
 }
 
 fn tail_from(alloc: Global, numbers: &[u32], from: usize) -> Result<Vec<u32>, NoMemory>

@@ -1,6 +1,7 @@
 use Rattle.std.proofs.Common.{◌≡◌, ◌<◌, ℕ, List, [], ◌∷◌, ◌++◌, true, false, length, drop, slice_get, Some, subst, sym, ap, ◌∙◌, refl, arith}
 use Rattle.std.proofs.Math.ListN.{set}
 use Rattle.std.proofs.lemmas.Option.{slice_get_read}
+use Rattle.std.proofs.lemmas.Result.{IfOk-weaker}
 use Rattle.signal_graph.proofs.flat_net.Growth.{length-push}
 use Rattle.latch_graph.specs.Rounds.{IsTrail, IsRound}
 use Rattle.latch_graph.proofs.Trails.{trail_more, trail_short, round_closes}
@@ -32,6 +33,8 @@ place_of-from-requires c =
 
 pub returns : goal.returns
 returns c =
-    let here = subst (λ (z : List ℕ). slice_get z c.place_of-from.result ≡ Some c.walk.at) c.as_slice.ensures.value c.place_of-from.ensures in
-    subst (λ z. IsRound c.args.nodes.now c.args.latches.now c.args.states.now z) (sym (c.in_ok-round.ensures ∙ ap (λ (z : List ℕ). drop c.place_of-from.result z) c.as_slice-2.ensures.value))
-    (round_closes c.args.nodes.now c.args.latches.now c.args.states.now c.walk.passed.items c.walk.trail.items c.walk.at c.place_of-from.result c.walk.invariant here)
+    let from = c.place_of-from.result in
+    let here = subst (λ (z : List ℕ). slice_get z from ≡ Some c.walk.at) c.as_slice.ensures.value c.place_of-from.ensures in
+    let closes = round_closes c.args.nodes.now c.args.latches.now c.args.states.now c.walk.passed.items c.walk.trail.items c.walk.at from c.walk.invariant here in
+    IfOk-weaker c.tail_from.result (λ made. made.items ≡ drop from c.as_slice-2.result.now) (λ made. IsRound c.args.nodes.now c.args.latches.now c.args.states.now made.items)
+    (λ made e. subst (λ z. IsRound c.args.nodes.now c.args.latches.now c.args.states.now z) (sym (e ∙ ap (λ (z : List ℕ). drop from z) c.as_slice-2.ensures.value)) closes) c.tail_from.ensures
