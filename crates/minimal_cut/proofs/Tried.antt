@@ -178,16 +178,6 @@ module _ (a b : GraphView) (lefts rights : List ℕ) (inner_a inner_b readers_a 
       spare_right true y fails e = absurd (cc)
       spare_right false y fails e = fails e
 
--- the same of equal graphs and positions
-pub tried_along : (a a' b b' : GraphView) (lefts lefts' rights rights' : List ℕ) (k k' : ℕ) (left right : List Mark) (places : List ℕ) → a ≡ a' → b ≡ b' → lefts ≡ lefts' → rights ≡ rights' → k ≡ k' → AreTried a b lefts rights k left right places →
-    AreTried a' b' lefts' rights' k' left right places
-tried_along a a' b b' lefts lefts' rights rights' k k' left right places ea eb el er ek t =
-    subst (λ (z : GraphView). AreTried z b' lefts' rights' k' left right places) ea
-    (subst (λ (z : GraphView). AreTried a z lefts' rights' k' left right places) eb
-    (subst (λ (z : List ℕ). AreTried a b z rights' k' left right places) el
-    (subst (λ (z : List ℕ). AreTried a b lefts z k' left right places) er
-    (subst (λ z. AreTried a b lefts rights z left right places) ek t))))
-
 -- what stands in a list without one place
 pub without_from : {X : Type 0} (ys : List X) (i : ℕ) (y : X) → Contains (without ys i) y → (q : ℕ) × (slice_get ys q ≡ Some y) × (q ≢ i)
 without_from [] i y h = absurd (omega (arith, h.1))

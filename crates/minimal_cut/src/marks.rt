@@ -10,7 +10,7 @@ use graph_components::{LatchAt, NoMemory, Node};
 use std::alloc::Global;
 
 /// Which way a walk goes.
-#[derive(Clone, Copy, PartialEq, Eq)]
+#[derive(Clone, Copy)]
 pub enum Direction {
     /// From a signal to those that it reads.
     Back,
@@ -31,7 +31,7 @@ impl Direction {
 }
 
 /// What is known of a signal while latches are tried.
-#[derive(Clone, Copy, PartialEq, Eq)]
+#[derive(Clone, Copy)]
 pub enum Mark {
     /// A latch that is taken out.
     Out,

@@ -16,12 +16,23 @@ use std::alloc::Global;
 
 /// One of the two graphs, with the positions of its latches in the pairs, its readings that can be part of a cycle, and these turned
 /// round.
-#[derive(Drop)]
 pub(crate) struct Field<'a> {
     graph: &'a SignalGraph,
     positions: &'a [u32],
     inner: Vec<Node>,
     readers: Vec<Node>,
+}
+
+/// It is let go by one call: an owner isn't taken apart field by field at each way out.
+impl Drop for Field<'_> {
+    fn drop(self) {
+        let Field {
+            graph: _,
+            positions: _,
+            inner: _,
+            readers: _,
+        } = self;
+    }
 }
 
 /// The places of pairs whose latches are a minimal cut, in increasing order: each pair was tried in turn, and those stay taken out
@@ -42,19 +53,25 @@ pub fn chosen(
     requires right_free { IsFree b.now rights.now }
     ensures { IfOk result (IsMinimalChoice a.now b.now lefts.now rights.now) }
 {
-    a.keeps();
-    b.keeps();
-    let mut left = first_marks(alloc, a.nodes(), a.latches(), lefts)?;
-    let mut right = first_marks(alloc, b.nodes(), b.latches(), rights)?;
     let field_a = field_of(alloc, a, lefts)?;
     let field_b = field_of(alloc, b, rights)?;
-    let places = try_all(
-        alloc,
-        &field_a,
-        &field_b,
-        left.as_mut_slice(),
-        right.as_mut_slice(),
-    )?;
+    chosen_in(alloc, &field_a, &field_b)
+}
+
+/// The same, by what is kept of both graphs.
+fn chosen_in(alloc: Global, a: &Field, b: &Field) -> Result<Ids, NoMemory>
+    requires a { IsField a.now.graph.now a.now.positions.now a.now.inner.items a.now.readers.items }
+    requires b { IsField b.now.graph.now b.now.positions.now b.now.inner.items b.now.readers.items }
+    requires pairs { length b.now.positions.now ≡ length a.now.positions.now }
+    requires left_free { IsFree a.now.graph.now a.now.positions.now }
+    requires right_free { IsFree b.now.graph.now b.now.positions.now }
+    ensures { IfOk result (IsMinimalChoice a.now.graph.now b.now.graph.now a.now.positions.now b.now.positions.now) }
+{
+    a.graph.keeps();
+    b.graph.keeps();
+    let mut left = first_marks(alloc, a.graph.nodes(), a.graph.latches(), a.positions)?;
+    let mut right = first_marks(alloc, b.graph.nodes(), b.graph.latches(), b.positions)?;
+    let places = try_all(alloc, a, b, left.as_mut_slice(), right.as_mut_slice())?;
     Ok(places)
 }
 

@@ -31,19 +31,42 @@ pub(crate) fn closes_cycle(
     ensures marks { OnOk result (AreMarks nodes.now marks.new (turn + 1)) }
     ensures back { OnOk result (IsPutBack marks.old marks.new root) }
 {
-    put_back(marks, root, turn);
     let mut behind = list_of(alloc, root)?;
     let mut ahead = list_of(alloc, root)?;
+    walk_both(nodes, readers, marks, &mut behind, &mut ahead, root, turn)
+}
+
+/// The same, where both walks begin at the root.
+fn walk_both(
+    nodes: &[Node],
+    readers: &[Node],
+    marks: &mut [Mark],
+    behind: &mut Vec<u32>,
+    ahead: &mut Vec<u32>,
+    root: u32,
+    turn: u32,
+) -> Result<bool, NoMemory>
+    requires readers { AreReaders nodes.now readers.now }
+    requires marks { AreMarks nodes.now marks.old turn }
+    requires root { slice_get marks.old root ≡ Some Mark.Out }
+    requires behind { behind.old.items ≡ root ∷ [] }
+    requires ahead { ahead.old.items ≡ root ∷ [] }
+    ensures yes { IfOk result (λ found. found ≡ true → WayBack nodes.now (IsBlocked marks.new) root root) }
+    ensures no { IfOk result (λ found. found ≡ false → WayBack nodes.now (IsBlocked marks.new) root root → ⊥) }
+    ensures marks { OnOk result (AreMarks nodes.now marks.new (turn + 1)) }
+    ensures back { OnOk result (IsPutBack marks.old marks.new root) }
+{
+    put_back(marks, root, turn);
     let mut at = 0;
     while at < behind.len() {
         if at >= ahead.len() {
             return Ok(false);
         }
-        let met = go_on(nodes, marks, &mut behind, at, Direction::Back, root, turn)?;
+        let met = go_on(nodes, marks, behind, at, Direction::Back, root, turn)?;
         if met {
             return Ok(true);
         }
-        let met_ahead = go_on(readers, marks, &mut ahead, at, Direction::Ahead, root, turn)?;
+        let met_ahead = go_on(readers, marks, ahead, at, Direction::Ahead, root, turn)?;
         if met_ahead {
             return Ok(true);
         }

@@ -4,14 +4,14 @@ use Rattle.minimal_cut.specs.declared.marks.Direction.TheVariants.{Back, Ahead}
 use Rattle.minimal_cut.specs.declared.marks.Mark.{Mark}
 use Rattle.minimal_cut.specs.Marks.{IsPutBack}
 use Rattle.minimal_cut.proofs.Turned.{read_within, reader_within}
-use Rattle.minimal_cut.proofs.Marking.{same_out_refl, same_out_then, later_same, back_put, back_along}
+use Rattle.minimal_cut.proofs.Marking.{same_out_refl, same_out_then, later_same, later_table, back_put, back_along}
 use Rattle.minimal_cut.proofs.Walks.{walks_begin, walks_on, ahead_stays, walk_ends, ahead_ends, back_meets, ahead_meets, walk_other, back_ahead}
-use Rattle.minimal_cut.proofs.walk.closes_cycle.Goals as goal
+use Rattle.minimal_cut.proofs.walk.walk_both.Goals as goal
 
 pub loop-at-init : goal.loop-at-init
 loop-at-init c = record {
-  walks = walks_begin c.args.nodes.now c.args.readers.now c.args.marks.now c.put_back.new.marks c.args.root c.args.turn c.in_ok-behind.behind.items c.in_ok-ahead.ahead.items c.requires.marks c.requires.root c.put_back.ensures
-      c.in_ok-behind.ensures c.in_ok-ahead.ensures;
+  walks = walks_begin c.args.nodes.now c.args.readers.now c.args.marks.now c.put_back.new.marks c.args.root c.args.turn c.args.behind.now.items c.args.ahead.now.items c.requires.marks c.requires.root c.put_back.ensures
+      c.requires.behind c.requires.ahead;
   same = same_out_refl c.put_back.new.marks;
 }
 
@@ -72,3 +72,20 @@ pub returns-clause-back : goal.returns-clause-back
 returns-clause-back c =
     let back = subst (λ (z : List Mark). IsPutBack c.args.marks.now z c.args.root) (sym c.put_back.ensures) (back_put c.args.marks.now c.args.root c.args.turn c.requires.root) in
     back_along c.args.marks.now c.put_back.new.marks c.loop-at.marks c.args.root back c.loop-at.invariant.same
+
+pub go_on-requires-clause-walk : goal.go_on-requires-clause-walk
+go_on-requires-clause-walk c = c.loop-at.invariant.walks.walk_back
+
+pub returns-then-at-len-clause-marks : goal.returns-then-at-len-clause-marks
+returns-then-at-len-clause-marks c = c.loop-at.invariant.walks.table
+
+pub returns-then-met-clause-marks : goal.returns-then-met-clause-marks
+returns-then-met-clause-marks c = later_table Back c.args.turn c.loop-at.marks c.go_on.new.marks c.in_ok-met.ensures.later c.args.nodes.now c.loop-at.invariant.walks.table
+
+pub returns-then-met_ahead-clause-marks : goal.returns-then-met_ahead-clause-marks
+returns-then-met_ahead-clause-marks c =
+    later_table Ahead c.args.turn c.go_on.new.marks c.go_on-in-loop-at.new.marks c.in_ok-met_ahead.ensures.later c.args.nodes.now
+    (later_table Back c.args.turn c.loop-at.marks c.go_on.new.marks c.in_ok-met.ensures.later c.args.nodes.now c.loop-at.invariant.walks.table)
+
+pub returns-clause-marks : goal.returns-clause-marks
+returns-clause-marks c = c.loop-at.invariant.walks.table

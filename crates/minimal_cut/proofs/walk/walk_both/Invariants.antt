@@ -2,7 +2,7 @@ use Rattle.std.proofs.Common.{◌+◌, ◌-◌, length}
 use Rattle.minimal_cut.specs.Walk.{unseen_count}
 use Rattle.minimal_cut.proofs.Marking.{SameOut}
 use Rattle.minimal_cut.proofs.Walks.{AreWalks}
-use Rattle.minimal_cut.proofs.walk.closes_cycle.Given as goal
+use Rattle.minimal_cut.proofs.walk.walk_both.Given as goal
 
 abbrev pub invariant-loop-at : goal.invariant-loop-at
 invariant-loop-at l = record {

@@ -1,0 +1,27 @@
+-- Before the first turn, and after the last.
+use Rattle.std.proofs.Common.{length, List, [], subst, sym, ap, ◌∙◌}
+use Rattle.graph_components.specs.flat_net.declared.parts.LatchAt.{LatchAt}
+use Rattle.minimal_cut.specs.declared.marks.Mark.{Mark}
+use Rattle.minimal_cut.specs.Marks.{AreFirst}
+use Rattle.minimal_cut.specs.Trying.{IsSide}
+use Rattle.minimal_cut.proofs.Sides.{side_first}
+use Rattle.minimal_cut.proofs.Tried.{tried_none, is_minimal}
+use Rattle.minimal_cut.proofs.trial.chosen_in.Goals as goal
+
+pub try_all-requires-clause-none_tried : goal.try_all-requires-clause-none_tried
+try_all-requires-clause-none_tried c =
+    let a = c.args.a.now.graph.now in
+    let b = c.args.b.now.graph.now in
+    let lefts = c.args.a.now.positions.now in
+    let rights = c.args.b.now.positions.now in
+    let left = side_first a lefts c.in_ok-left.left.items c.requires.a.within (c.in_ok-left.ensures.size ∙ ap length c.nodes.ensures)
+    (subst (λ (z : List LatchAt). AreFirst z lefts (length lefts) c.in_ok-left.left.items) c.latches.ensures c.in_ok-left.ensures.first) c.requires.left_free in
+    let right = side_first b rights c.in_ok-right.right.items c.requires.b.within (c.in_ok-right.ensures.size ∙ ap length c.nodes-2.ensures)
+    (subst (λ (z : List LatchAt). AreFirst z rights (length rights) c.in_ok-right.right.items) c.latches-2.ensures c.in_ok-right.ensures.first) c.requires.right_free in
+    tried_none a b lefts rights c.as_mut_slice.result.now c.as_mut_slice-2.result.now
+    (subst (λ (z : List Mark). IsSide a lefts 0 [] z) (sym c.as_mut_slice.ensures.value) left) (subst (λ (z : List Mark). IsSide b rights 0 [] z) (sym c.as_mut_slice-2.ensures.value) right)
+
+pub returns : goal.returns
+returns c =
+    is_minimal c.args.a.now.graph.now c.args.b.now.graph.now c.requires.a.are c.requires.b.are c.args.a.now.positions.now c.args.b.now.positions.now c.requires.a.within c.requires.b.within c.requires.a.once c.requires.b.once c.requires.pairs
+    c.try_all.new.left c.try_all.new.right c.in_ok-places.places c.in_ok-places.ensures
