@@ -7,7 +7,7 @@ use latch_graph::{Duplicate, NoMemory, Seq};
 use std::alloc::Global;
 
 /// A latch of the first circuit and one of the second, by their positions there.
-#[derive(Clone, Copy, PartialEq, Eq)]
+#[derive(Clone, Copy)]
 pub struct LatchPair {
     pub left: u32,
     pub right: u32,
