@@ -12,11 +12,21 @@ use std::marker::Model;
 
 /// The readings of a net's signals, and its latches. The edges of the latch graph are ways through these readings; a skipped latch
 /// reads what leads to the other latches of its cone, and so has no edge to itself.
-#[derive(Drop)]
 pub struct SignalGraph {
     nodes: Vec<Node>,
     latches: Vec<LatchAt>,
     skipped: Vec<bool>,
+}
+
+/// It is let go by one call: an owner isn't taken apart field by field at each way out.
+impl Drop for SignalGraph {
+    fn drop(self) {
+        let SignalGraph {
+            nodes: _,
+            latches: _,
+            skipped: _,
+        } = self;
+    }
 }
 
 impl Model for SignalGraph {

@@ -13,7 +13,7 @@ use inner_cone::{Driver, Net, NoMemory, Signal};
 use std::alloc::Global;
 
 /// The weight of the unfoldings of some signals, if it is within a cap.
-#[derive(Clone, Copy, PartialEq, Eq)]
+#[derive(Clone, Copy)]
 pub enum Weight {
     Within(u32),
     Over,

@@ -5,6 +5,15 @@ use Rattle.signal_graph.proofs.Lists.{read_at}
 use Rattle.signal_graph.proofs.unfolding_weight.Weights.{met_more, met_stay, met_there, met_longer, there_more, is_over}
 use Rattle.signal_graph.proofs.unfolding_weight.weight.meet_all.Goals as goal
 
+pub loop-signal-init : goal.loop-signal-init
+loop-signal-init c = record {
+  met = λ outputs visited met. met;
+  low = c.requires.low;
+  there = λ k r below. absurd (omega (arith, below));
+  stay = λ k p h. h;
+  longer = omega arith;
+}
+
 pub loop-signal-preserved : goal.loop-signal-preserved
 loop-signal-preserved c =
     let i = c.loop-signal.signal-index in
@@ -34,3 +43,14 @@ returns-in-None-clause-over c = λ outputs visited met.
     is_over c.args.net.now c.keeps.ensures.sound outputs new _
     (met_more c.args.net.now outputs old new (r.0, c.args.shift) c.loop-signal.sum _ meeting.0 (c.loop-signal.invariant.met outputs visited met) (visited i r at)
     (c.requires.within i r at) (omega (arith, c.requires.early, c.loop-signal.invariant.longer))) c.args.cap meeting.1
+
+pub returns-in-None-clause-stay : goal.returns-in-None-clause-stay
+returns-in-None-clause-stay c = λ k p h.
+    let r : Signal = get_or c.args.reads.now c.loop-signal.signal-index (record { 0 = 0 }) in
+    let old = c.loop-signal.places.keys in
+    let new = c.meet.new.places.keys in
+    let meeting = subst (λ z. Meeting c.args.net.now old new (r.0, c.args.shift) c.loop-signal.sum c.args.cap z) c.in-None.is c.in_ok-more.ensures in
+    met_stay c.args.net.now old new (r.0, c.args.shift) c.loop-signal.sum _ meeting.0 k p (c.loop-signal.invariant.stay k p h)
+
+pub returns-clause-there : goal.returns-clause-there
+returns-clause-there c = λ k r below at. c.loop-signal.invariant.there k r (omega (arith, below, c.loop-signal-test.false)) at
