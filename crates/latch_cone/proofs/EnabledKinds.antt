@@ -1,5 +1,5 @@
 -- The bits of the enabled latches mark those that count as enabled in the mode.
-use Rattle.std.proofs.Common.{◌≡◌, ◌∙◌, ◌↔◌, ◌≤◌, ℕ, zero, suc, true, false, List, [], ◌∷◌, length, map, take, replicate, slice_get, Some, refl, sym, ap, subst, arith}
+use Rattle.std.proofs.Common.{◌≡◌, ◌∙◌, ◌↔◌, ◌+◌, ◌<◌, ◌≤◌, ◌++◌, ℕ, zero, suc, true, false, List, [], ◌∷◌, length, map, take, get_or, replicate, slice_get, Some, refl, sym, ap, subst, add-one, arith}
 use Rattle.std.proofs.lemmas.List.{length-replicate}
 use Rattle.std.proofs.lemmas.Option.{slice_get_within, same_Some}
 use Rattle.flat_net.specs.circuit_theory.Circuit.{Circuit}
@@ -60,3 +60,12 @@ whole f [] zero past = refl
 whole f [] (suc i) past = refl
 whole f (x ∷ xs) zero past = absurd (omega (arith, past))
 whole f (x ∷ xs) (suc i) past = ap (λ ys. f x ∷ ys) (whole f xs i (omega (arith, past)))
+
+-- one element more is made
+more_by : {X Y : Type 0} (f : X → Y) (xs : List X) (i : ℕ) (d : X) → i < length xs → map f (take (suc i) xs) ≡ map f (take i xs) ++ f (get_or xs i d) ∷ []
+more_by f [] i d below = absurd (omega (arith, below))
+more_by f (x ∷ xs) zero d below = refl
+more_by f (x ∷ xs) (suc i) d below = ap (λ ys. f x ∷ ys) (more_by f xs i d (omega (arith, below)))
+
+pub one_more : {X Y : Type 0} (f : X → Y) (xs : List X) (i : ℕ) (d : X) → i < length xs → map f (take (i + 1) xs) ≡ map f (take i xs) ++ f (get_or xs i d) ∷ []
+one_more f xs i d below = rw add-one (more_by f xs i d below)

@@ -11,7 +11,7 @@ use flat_net::{Bits, Net, NoMemory, Seq};
 use std::alloc::Global;
 
 /// What a latch is, by the cone of what it takes over.
-#[derive(Clone, Copy, PartialEq, Eq)]
+#[derive(Clone, Copy)]
 pub enum LatchKind {
     /// The latch isn't in the cone. In the plain mode each latch counts as one of these.
     Plain,

@@ -9,14 +9,14 @@ use Rattle.flat_net.proofs.Nets.{some_at}
 use Rattle.flat_net.specs.View.{circuit_of}
 use Rattle.latch_cone.specs.Cones.{AreSome, AreReadsSeen}
 use Rattle.latch_cone.proofs.Walks.{IsPut, is_put, put_some, put_there, some_none, some_few, stay_there, closed_all}
-use Rattle.latch_cone.proofs.walk.reached.Goals as goal
+use Rattle.latch_cone.proofs.walk.put_reached.Goals as goal
 
 pub loop-at-init : goal.loop-at-init
 loop-at-init c =
-    let put : IsPut c.new-seen.result.keys c.insert.new.seen.keys c.args.from.0 = is_put c.new-seen.result.keys c.insert.new.seen.keys c.args.from.0 c.in_ok-insert.field-0 c.in_ok-insert.ensures.new c.in_ok-insert.ensures.old in
+    let put : IsPut c.args.seen.now.keys c.insert.new.seen.keys c.args.from.0 = is_put c.args.seen.now.keys c.insert.new.seen.keys c.args.from.0 c.in_ok-insert.field-0 c.in_ok-insert.ensures.new c.in_ok-insert.ensures.old in
     record {
-      some = put_some c.args.net.now c.args.from.0 c.new-seen.result.keys c.insert.new.seen.keys c.args.from.0 put c.requires Reaches.here (subst (λ z. AreSome c.args.net.now c.args.from.0 z) (sym c.new-seen.ensures.empty) (some_none c.args.net.now c.args.from.0));
-      root = put_there c.new-seen.result.keys c.insert.new.seen.keys c.args.from.0 put;
+      some = put_some c.args.net.now c.args.from.0 c.args.seen.now.keys c.insert.new.seen.keys c.args.from.0 put c.requires.within Reaches.here (subst (λ z. AreSome c.args.net.now c.args.from.0 z) (sym c.requires.empty) (some_none c.args.net.now c.args.from.0));
+      root = put_there c.args.seen.now.keys c.insert.new.seen.keys c.args.from.0 put;
       closed = λ i s l. absurd (omega (arith, l));
     }
 
