@@ -2,11 +2,10 @@
 use Rattle.std.proofs.Common.{◌≡◌, ◌≢◌, ◌∙◌, ◌+◌, ◌≤◌, ◌<◌, ◌==◌, ℕ, Bool, true, false, true≢false, List, [], length, get_or, slice_get, Some, Contains, refl, sym, ap, subst, arith, inl, inr}
 use Rattle.std.specs.Prelude.{◌⊎◌}
 use Rattle.std.specs.List.{All, IsDistinct}
-use Rattle.std.specs.List.Sorted.{IsPermutation, IsSorted}
-use Rattle.std.specs.Ordering.{nat_cmp}
+use Rattle.std.specs.List.Sorted.{IsPermutation, IsNonDecreasing}
 use Rattle.std.proofs.lemmas.Bool.Decides.{Decides-eqb}
 use Rattle.std.proofs.lemmas.Option.{same_Some}
-use Rattle.std.proofs.lemmas.List.Sorted.{Contains-permutation, IsPermutation-sym, IsNonDecreasingBy-from_sort}
+use Rattle.std.proofs.lemmas.List.Sorted.{Contains-permutation, IsPermutation-sym}
 use Rattle.std.proofs.lemmas.List.Elements.{All-contains}
 use Rattle.std.proofs.lemmas.Map.Keys.{IsStrictlyIncreasing-from_distinct, IsDistinct-IsPermutation}
 use Rattle.latch_cone.specs.circuit_theory.Circuit.{Reaches}
@@ -88,12 +87,12 @@ eqb-swap x y = by (x == y) (y == x) refl refl
 
 -- what leads back is among the sorted signals
 pub inside_sorted : (n : NetView) (ranks : List ℕ) → AreRanked n ranks → (from own least : ℕ) → least ≡ get_or ranks own 0 → (seen items sorted : List ℕ) → AreHigh n ranks least from seen → IsDistinct (λ x y. x == y) seen → items ≡ seen →
-    IsPermutation items sorted → IsSorted nat_cmp sorted → AreInside n from own sorted
+    IsPermutation items sorted → IsNonDecreasing sorted → AreInside n from own sorted
 inside_sorted n ranks ranked from own least is_least seen items sorted high distinct is same order =
     let moved : IsPermutation seen sorted = subst (λ (xs : List ℕ). IsPermutation xs sorted) is same in
     let apart : IsDistinct (λ x y. x == y) sorted = IsDistinct-IsPermutation (λ x y. x == y) eqb-swap seen sorted moved distinct in
     record {
-      increasing = IsStrictlyIncreasing-from_distinct sorted (IsNonDecreasingBy-from_sort (λ x. x) sorted order) apart;
+      increasing = IsStrictlyIncreasing-from_distinct sorted order apart;
       within = All-from_each (λ s. s < length n.drivers) sorted (λ s h. within s (back s moved h));
       reached = λ s h. reached s (back s moved h);
       begins = there from moved high.begins;

@@ -54,15 +54,13 @@ fn gates_of(alloc: Global, net: &Net, ranks: &[u32], taker: &LatchAt) -> Result<
     net.keeps();
     let least = number_at(ranks, taker.out.0);
     let seen = walked(alloc, net, ranks, least, taker.next)?;
-    let gates = gates_among(alloc, net, &seen)?;
-    Ok(gates)
+    gates_among(alloc, net, &seen)
 }
 
 /// The positions of the gates that drive these signals, in order.
 fn gates_among(alloc: Global, net: &Net, seen: &IndexSet<u32>) -> Result<Ids, NoMemory>
     requires { (i s : ℕ) → slice_get seen.now.keys i ≡ Some s → s < length net.now.drivers }
-    ensures in_order { IfOk result IsNonDecreasing }
-    ensures are { IfOk result (IsPermutation (filter_map (gate_at net.now) seen.now.keys)) }
+    ensures { IfOk result (λ gates. IsNonDecreasing gates × IsPermutation (filter_map (gate_at net.now) seen.now.keys) gates) }
 {
     let mut gates = drivers_among(alloc, net, seen)?;
     gates.sort()?;

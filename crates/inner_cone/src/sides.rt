@@ -5,7 +5,7 @@ ghost use Rattle.latch_cone.specs.circuit_theory.Circuit.{Reads, Reaches, IsSour
 ghost use Rattle.latch_cone.specs.flat_net.declared.signals.Signal.{Signal};
 ghost use Rattle.latch_cone.specs.flat_net.View.{NetView, circuit_of};
 ghost use Rattle.latch_cone.specs.Cones.{AreRead};
-ghost use Rattle.inner_cone.specs.Inner.{AreRanked, IsLow};
+ghost use Rattle.inner_cone.specs.Inner.{AreRanked, AreHigh, IsLow};
 ghost use Rattle.inner_cone.specs.Sides.{AreSides, AreSomeSides, IsLowPut, IsOtherPut, AreKept};
 
 use crate::numbers::number_at;
@@ -26,12 +26,29 @@ pub fn sides_of(
     requires ranked { AreRanked net.now ranks.now }
     ensures { IfOk result (AreSides net.now from.0 own.0) }
 {
-    net.keeps();
     let least = number_at(ranks, own.0);
     let seen = walked(alloc, net, ranks, least, from)?;
+    sides_among(alloc, net, ranks, seen.as_slice(), from, own)
+}
+
+/// The same, where these are the signals that are reached from the first through those that have at least the second one's number.
+fn sides_among(
+    alloc: Global,
+    net: &Net,
+    ranks: &[u32],
+    signals: &[u32],
+    from: Signal,
+    own: Signal,
+) -> Result<Signals, NoMemory>
+    requires within { from.0 < length net.now.drivers }
+    requires ranked { AreRanked net.now ranks.now }
+    requires high { AreHigh net.now ranks.now (slice_index_or ranks.now own.0 0) from.0 signals.now }
+    ensures { IfOk result (AreSides net.now from.0 own.0) }
+{
+    net.keeps();
     let mut sides = Signals::new(alloc);
+    let least = number_at(ranks, own.0);
     put_low(&mut sides, ranks, least, from)?;
-    let signals = seen.as_slice();
     for signal in signals.iter() {
         put_sides(net, &mut sides, ranks, own, Signal(*signal))?;
     }

@@ -1,6 +1,7 @@
 //! The walk through what leads back to a signal.
 
 ghost use Rattle.std.specs.Prelude.{◌≡◌, ◌<◌, ◌⊎◌, ℕ, true, false, [], ◌∷◌, ◌++◌, length, slice_get, slice_index_or, Some, Contains, IfOk, OnOk};
+ghost use Rattle.std.specs.List.Sorted.{IsNonDecreasing, IsPermutation};
 ghost use Rattle.latch_cone.specs.circuit_theory.Circuit.{Reads, Reaches};
 ghost use Rattle.latch_cone.specs.flat_net.declared.signals.Signal.{Signal};
 ghost use Rattle.latch_cone.specs.flat_net.View.{NetView, circuit_of};
@@ -27,9 +28,16 @@ pub fn inside(
 {
     let least = number_at(ranks, own.0);
     let seen = walked(alloc, net, ranks, least, from)?;
-    let mut signals = Vec::from_slice(alloc, seen.as_slice())?;
-    signals.sort()?;
-    Ok(signals)
+    in_order(alloc, seen.as_slice())
+}
+
+/// These signals, in order.
+fn in_order(alloc: Global, signals: &[u32]) -> Result<Vec<u32>, NoMemory>
+    ensures { IfOk result (λ sorted. IsNonDecreasing sorted.items × IsPermutation signals.now sorted.items) }
+{
+    let mut sorted = Vec::from_slice(alloc, signals)?;
+    sorted.sort()?;
+    Ok(sorted)
 }
 
 /// The signals that are reached through those that have at least this number.
@@ -43,16 +51,32 @@ pub(crate) fn walked(
     requires { from.0 < length net.now.drivers }
     ensures { IfOk result (λ seen. AreHigh net.now ranks.now least from.0 seen.keys) }
 {
-    net.keeps();
     let mut seen = IndexSet::new(alloc);
-    put_high(&mut seen, ranks, least, from.0)?;
+    put_walked(net, &mut seen, ranks, least, from)?;
+    Ok(seen)
+}
+
+/// Puts these signals where none is met yet.
+fn put_walked(
+    net: &Net,
+    seen: &mut IndexSet<u32>,
+    ranks: &[u32],
+    least: u32,
+    from: Signal,
+) -> Result<(), NoMemory>
+    requires within { from.0 < length net.now.drivers }
+    requires empty { seen.old.keys ≡ [] }
+    ensures { OnOk result (AreHigh net.now ranks.now least from.0 seen.new.keys) }
+{
+    net.keeps();
+    put_high(seen, ranks, least, from.0)?;
     let mut at = 0;
-    while at < count(&seen) {
-        let signal = signal_at(&seen, at);
-        put_reads(net, &mut seen, ranks, least, Signal(signal))?;
+    while at < count(seen) {
+        let signal = signal_at(seen, at);
+        put_reads(net, seen, ranks, least, Signal(signal))?;
         at += 1;
     }
-    Ok(seen)
+    Ok(())
 }
 
 pub(crate) fn count(seen: &IndexSet<u32>) -> usize

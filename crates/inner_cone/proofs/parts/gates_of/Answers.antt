@@ -1,10 +1,18 @@
 -- The gates among those.
-use Rattle.std.proofs.Common.{subst}
+use Rattle.std.proofs.Common.{ℕ, List, subst}
+use Rattle.std.specs.List.{filter_map}
+use Rattle.std.specs.List.Sorted.{IsNonDecreasing, IsPermutation}
+use Rattle.std.proofs.lemmas.Result.{IfOk-weaker}
+use Rattle.latch_cone.specs.Parts.{gate_at}
 use Rattle.inner_cone.specs.Inner.{AreHigh}
+use Rattle.inner_cone.specs.Gates.{AreInnerGates}
 use Rattle.inner_cone.proofs.Gates.{inner_gates}
 use Rattle.inner_cone.proofs.parts.gates_of.Goals as goal
 
 pub returns : goal.returns
 returns c =
-    inner_gates c.args.net.now c.keeps.ensures.sound c.args.taker.now c.args.ranks.now c.requires.ranked c.in_ok-seen.seen.keys c.in_ok-gates.gates
-    (subst (λ m. AreHigh c.args.net.now c.args.ranks.now m c.args.taker.now.next.0 c.in_ok-seen.seen.keys) c.number_at-least.ensures c.in_ok-seen.ensures) c.in_ok-gates.ensures.in_order c.in_ok-gates.ensures.are
+    let n = c.args.net.now in
+    let seen = c.in_ok-seen.seen.keys in
+    let high = subst (λ m. AreHigh n c.args.ranks.now m c.args.taker.now.next.0 seen) c.number_at-least.ensures c.in_ok-seen.ensures in
+    IfOk-weaker c.gates_among.result (λ (gates : List ℕ). IsNonDecreasing gates × IsPermutation (filter_map (gate_at n) seen) gates) (AreInnerGates n c.args.taker.now)
+    (λ (gates : List ℕ) are. inner_gates n c.keeps.ensures.sound c.args.taker.now c.args.ranks.now c.requires.ranked seen gates high are.0 are.1) c.gates_among.ensures

@@ -1,5 +1,5 @@
 -- One signal's sides more.
-use Rattle.std.proofs.Common.{◌≡◌, ◌≢◌, ◌<◌, ◌+◌, ℕ, List, Some, Contains, get_or, slice_get, sym, subst, arith, inl, inr}
+use Rattle.std.proofs.Common.{◌≡◌, ◌≢◌, ◌<◌, ◌+◌, ℕ, List, Some, Contains, get_or, slice_get, subst, arith, inl, inr}
 use Rattle.std.specs.Prelude.{◌⊎◌}
 use Rattle.std.proofs.lemmas.Option.{slice_get_within, slice_get-get_or}
 use Rattle.latch_cone.specs.circuit_theory.Circuit.{Reaches}
@@ -7,10 +7,9 @@ use Rattle.latch_cone.proofs.circuit_theory.Lists.{at_of}
 use Rattle.latch_cone.proofs.circuit_theory.Sums.{same_or_not}
 use Rattle.latch_cone.specs.flat_net.declared.signals.Signal.{Signal}
 use Rattle.latch_cone.proofs.flat_net.Places.{one_at}
-use Rattle.inner_cone.specs.Inner.{AreHigh}
 use Rattle.inner_cone.specs.Sides.{IsLowPut}
 use Rattle.inner_cone.proofs.SideSignals.{IsDone, none_there, low_there, low_some, done_kept, all_sides}
-use Rattle.inner_cone.proofs.sides.sides_of.Goals as goal
+use Rattle.inner_cone.proofs.sides.sides_among.Goals as goal
 
 pub loop-signal-init : goal.loop-signal-init
 loop-signal-init c =
@@ -27,36 +26,31 @@ loop-signal-init c =
 pub put_sides-requires : goal.put_sides-requires
 put_sides-requires c =
     let i = c.loop-signal.signal-index in
-    let at = slice_get-get_or c.as_slice-signals.result.now i 0 c.loop-signal-test.true in
-    let here = subst (λ (z : List ℕ). slice_get z i ≡ Some (get_or c.as_slice-signals.result.now i 0)) c.as_slice-signals.ensures.keys at in
-    c.in_ok-seen.ensures.some.within i (get_or c.as_slice-signals.result.now i 0) here
+    c.requires.high.some.within i (get_or c.args.signals.now i 0) (slice_get-get_or c.args.signals.now i 0 c.loop-signal-test.true)
 
 pub loop-signal-preserved : goal.loop-signal-preserved
 loop-signal-preserved c =
     let i = c.loop-signal.signal-index in
-    let s : ℕ = get_or c.as_slice-signals.result.now i 0 in
-    let at : slice_get c.as_slice-signals.result.now i ≡ Some s = slice_get-get_or c.as_slice-signals.result.now i 0 c.loop-signal-test.true in
-    let here : slice_get c.in_ok-seen.seen.keys i ≡ Some s = subst (λ (z : List ℕ). slice_get z i ≡ Some s) c.as_slice-signals.ensures.keys at in
+    let s : ℕ = get_or c.args.signals.now i 0 in
+    let at : slice_get c.args.signals.now i ≡ Some s = slice_get-get_or c.args.signals.now i 0 c.loop-signal-test.true in
     record {
-      some = c.in_ok-put_sides.ensures.some c.args.from.0 (c.in_ok-seen.ensures.some.each i s here) c.loop-signal.invariant.some;
+      some = c.in_ok-put_sides.ensures.some c.args.from.0 (c.requires.high.some.each i s at) c.loop-signal.invariant.some;
       root = λ low. c.in_ok-put_sides.ensures.kept (record { 0 = c.args.from.0 }) (c.loop-signal.invariant.root low);
       done = λ k u below h. done k u h below (same_or_not k i) (record { reads = c.in_ok-put_sides.ensures.reads; source = c.in_ok-put_sides.ensures.source }) at;
     }
   where
-    done : (k u : ℕ) → slice_get c.as_slice-signals.result.now k ≡ Some u → k < c.loop-signal.signal-index + 1 → (k ≡ c.loop-signal.signal-index) ⊎ (k ≢ c.loop-signal.signal-index) →
-        {s : ℕ} → IsDone c.args.net.now c.args.ranks.now c.args.own.0 s c.put_sides.new.sides → slice_get c.as_slice-signals.result.now c.loop-signal.signal-index ≡ Some s →
+    done : (k u : ℕ) → slice_get c.args.signals.now k ≡ Some u → k < c.loop-signal.signal-index + 1 → (k ≡ c.loop-signal.signal-index) ⊎ (k ≢ c.loop-signal.signal-index) →
+        {s : ℕ} → IsDone c.args.net.now c.args.ranks.now c.args.own.0 s c.put_sides.new.sides → slice_get c.args.signals.now c.loop-signal.signal-index ≡ Some s →
         IsDone c.args.net.now c.args.ranks.now c.args.own.0 u c.put_sides.new.sides
     done k u h below (inr d) this at = done_kept c.args.net.now c.args.ranks.now c.args.own.0 u c.loop-signal.sides c.put_sides.new.sides c.in_ok-put_sides.ensures.kept (c.loop-signal.invariant.done k u (omega (arith, below, d)) h)
     done k u h below (inl e) {s} this at =
-        let same = one_at c.as_slice-signals.result.now c.loop-signal.signal-index s u at (subst (λ z. slice_get c.as_slice-signals.result.now z ≡ Some u) e h) in
+        let same = one_at c.args.signals.now c.loop-signal.signal-index s u at (subst (λ z. slice_get c.args.signals.now z ≡ Some u) e h) in
         subst (λ z. IsDone c.args.net.now c.args.ranks.now c.args.own.0 z c.put_sides.new.sides) same this
 
 pub returns : goal.returns
 returns c =
-    all_sides c.args.net.now c.keeps.ensures.sound c.args.ranks.now c.requires.ranked c.args.from.0 c.args.own.0 c.in_ok-seen.seen.keys
-    (subst (λ m. AreHigh c.args.net.now c.args.ranks.now m c.args.from.0 c.in_ok-seen.seen.keys) c.number_at-least.ensures c.in_ok-seen.ensures) c.loop-signal.sides c.loop-signal.invariant.some c.loop-signal.invariant.root
+    all_sides c.args.net.now c.keeps.ensures.sound c.args.ranks.now c.requires.ranked c.args.from.0 c.args.own.0 c.args.signals.now c.requires.high c.loop-signal.sides c.loop-signal.invariant.some c.loop-signal.invariant.root
     (λ s h.
-    let at = at_of c.in_ok-seen.seen.keys s h in
-    let there : slice_get c.as_slice-signals.result.now at.0 ≡ Some s = subst (λ (z : List ℕ). slice_get z at.0 ≡ Some s) (sym c.as_slice-signals.ensures.keys) at.1 in
-    let l = slice_get_within c.as_slice-signals.result.now at.0 s there in
-    c.loop-signal.invariant.done at.0 s (omega (arith, l, c.loop-signal-test.false)) there)
+    let at = at_of c.args.signals.now s h in
+    let l = slice_get_within c.args.signals.now at.0 s at.1 in
+    c.loop-signal.invariant.done at.0 s (omega (arith, l, c.loop-signal-test.false)) at.1)

@@ -2,7 +2,7 @@ use Rattle.std.proofs.Common.{◌≡◌, ◌<◌, ℕ, Some, Contains, get_or, s
 use Rattle.inner_cone.specs.Inner.{IsLow}
 use Rattle.inner_cone.specs.Sides.{AreSomeSides}
 use Rattle.inner_cone.proofs.SideSignals.{IsDone}
-use Rattle.inner_cone.proofs.sides.sides_of.Given as goal
+use Rattle.inner_cone.proofs.sides.sides_among.Given as goal
 
 abbrev pub invariant-loop-signal : goal.invariant-loop-signal
 invariant-loop-signal l = record {

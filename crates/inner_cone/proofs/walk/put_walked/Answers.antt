@@ -12,15 +12,15 @@ use Rattle.latch_cone.specs.Cones.{AreSome}
 use Rattle.latch_cone.proofs.Walks.{some_none, some_few}
 use Rattle.inner_cone.specs.Inner.{IsLow, IsHighPut}
 use Rattle.inner_cone.proofs.Inner.{high_there, high_some, stay_or}
-use Rattle.inner_cone.proofs.walk.walked.Goals as goal
+use Rattle.inner_cone.proofs.walk.put_walked.Goals as goal
 
 pub loop-at-init : goal.loop-at-init
 loop-at-init c =
-    let put : IsHighPut c.args.ranks.now c.args.least c.new-seen.result.keys c.put_high.new.seen.keys c.args.from.0 = c.in_ok-put_high.ensures in
+    let put : IsHighPut c.args.ranks.now c.args.least c.args.seen.now.keys c.put_high.new.seen.keys c.args.from.0 = c.in_ok-put_high.ensures in
     record {
-      some = high_some c.args.ranks.now c.args.least c.new-seen.result.keys c.put_high.new.seen.keys c.args.from.0 put c.args.net.now c.args.from.0 c.requires Reaches.here
-          (subst (λ z. AreSome c.args.net.now c.args.from.0 z) (sym c.new-seen.ensures.empty) (some_none c.args.net.now c.args.from.0));
-      root = high_there c.args.ranks.now c.args.least c.new-seen.result.keys c.put_high.new.seen.keys c.args.from.0 put;
+      some = high_some c.args.ranks.now c.args.least c.args.seen.now.keys c.put_high.new.seen.keys c.args.from.0 put c.args.net.now c.args.from.0 c.requires.within Reaches.here
+          (subst (λ z. AreSome c.args.net.now c.args.from.0 z) (sym c.requires.empty) (some_none c.args.net.now c.args.from.0));
+      root = high_there c.args.ranks.now c.args.least c.args.seen.now.keys c.put_high.new.seen.keys c.args.from.0 put;
       closed = λ i s l. absurd (omega (arith, l));
     }
 

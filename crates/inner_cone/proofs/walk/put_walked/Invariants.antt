@@ -3,7 +3,7 @@ use Rattle.latch_cone.specs.circuit_theory.Circuit.{Reads}
 use Rattle.latch_cone.specs.flat_net.View.{circuit_of}
 use Rattle.latch_cone.specs.Cones.{AreSome}
 use Rattle.inner_cone.specs.Inner.{IsLow}
-use Rattle.inner_cone.proofs.walk.walked.Given as goal
+use Rattle.inner_cone.proofs.walk.put_walked.Given as goal
 
 abbrev pub invariant-loop-at : goal.invariant-loop-at
 invariant-loop-at l = record {
