@@ -23,7 +23,6 @@ use std::marker::Model;
 
 /// The run of a net from a power-up, of which it keeps the latest cycle and the marks of its settled signals. It
 /// borrows the net for its life.
-#[derive(Drop)]
 pub struct MarkedSim<'a> {
     net: &'a Net,
     sim: Sim<'a>,
@@ -34,6 +33,21 @@ pub struct MarkedSim<'a> {
     tried: Vec<bool>,
     marks: Vec<bool>,
     marks_ahead: Vec<bool>,
+}
+
+/// It is let go by one call: an owner isn't taken apart field by field at each way out.
+impl Drop for MarkedSim<'_> {
+    fn drop(self) {
+        let MarkedSim {
+            net: _,
+            sim: _,
+            enabled: _,
+            cones: _,
+            tried: _,
+            marks: _,
+            marks_ahead: _,
+        } = self;
+    }
 }
 
 impl<'a> Model for MarkedSim<'a> {
@@ -69,14 +83,17 @@ impl<'a> MarkedSim<'a> {
     {
         net.keeps();
         let cones = cones_of(alloc, net, enabled.as_slice())?;
+        let sim = Sim::new(alloc, net, power)?;
+        let bits = enabled.copy()?;
+        let (tried, marks, marks_ahead) = rooms(alloc, net)?;
         Ok(MarkedSim {
             net,
+            sim,
+            enabled: bits,
             cones,
-            enabled: enabled.copy()?,
-            sim: Sim::new(alloc, net, power)?,
-            tried: cleared(alloc, net.size() as usize)?,
-            marks: cleared(alloc, net.size() as usize)?,
-            marks_ahead: cleared(alloc, net.latches().len())?,
+            tried,
+            marks,
+            marks_ahead,
         })
     }
 
@@ -157,11 +174,25 @@ fn cones_of(alloc: Global, net: &Net, enabled: &[bool]) -> Result<Vec<InnerParts
     requires { length enabled.now ≡ length net.now.latches }
     ensures { IfOk result (λ cones. AreConesKept net.now enabled.now cones.items) }
 {
-    net.keeps();
     let numbers = ranks(alloc, net)?;
+    cones_by(alloc, net, numbers.as_slice(), enabled)
+}
+
+/// The same, by numbers of the signals.
+fn cones_by(
+    alloc: Global,
+    net: &Net,
+    numbers: &[u32],
+    enabled: &[bool],
+) -> Result<Vec<InnerParts>, NoMemory>
+    requires ranked { AreRanked net.now numbers.now }
+    requires enabled { length enabled.now ≡ length net.now.latches }
+    ensures { IfOk result (λ cones. AreConesKept net.now enabled.now cones.items) }
+{
+    net.keeps();
     let mut cones = Vec::with_capacity(alloc, enabled.len())?;
     for j in 0..enabled.len() {
-        cones.push(cone_where(alloc, net, numbers.as_slice(), enabled[j], j as u32)?)?;
+        cones.push(cone_where(alloc, net, numbers, enabled[j], j as u32)?)?;
     }
     Ok(cones)
 }
@@ -194,4 +225,16 @@ fn cleared(alloc: Global, count: usize) -> Result<Vec<bool>, NoMemory>
     ensures { IfOk result (λ places. places.items ≡ replicate count false) }
 {
     Ok(vec![in alloc; false; count]?)
+}
+
+/// Room to try values out, the marks of a cycle, and those of the latches in the next one. Nothing is marked.
+fn rooms(alloc: Global, net: &Net) -> Result<(Vec<bool>, Vec<bool>, Vec<bool>), NoMemory>
+    ensures tried { IfOk result (λ r. length r.0.items ≡ length net.now.drivers) }
+    ensures marks { IfOk result (λ r. length r.1.items ≡ length net.now.drivers) }
+    ensures ahead { IfOk result (λ r. r.2.items ≡ replicate (length net.now.latches) false) }
+{
+    let tried = cleared(alloc, net.size() as usize)?;
+    let marks = cleared(alloc, net.size() as usize)?;
+    let marks_ahead = cleared(alloc, net.latches().len())?;
+    Ok((tried, marks, marks_ahead))
 }

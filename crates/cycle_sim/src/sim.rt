@@ -13,12 +13,23 @@ use std::alloc::Global;
 use std::marker::Model;
 
 /// The run of a net from a power-up, of which it keeps the latest cycle. It borrows the net for its life.
-#[derive(Drop)]
 pub struct Sim<'a> {
     net: &'a Net,
     cycles: u32,
     values: Vec<bool>,
     ahead: Vec<bool>,
+}
+
+/// It is let go by one call: an owner isn't taken apart field by field at each way out.
+impl Drop for Sim<'_> {
+    fn drop(self) {
+        let Sim {
+            net: _,
+            cycles: _,
+            values: _,
+            ahead: _,
+        } = self;
+    }
 }
 
 impl<'a> Model for Sim<'a> {

@@ -1,19 +1,15 @@
 -- One latch more has the parts of its cone.
-use Rattle.std.proofs.Common.{◌≡◌, ◌∙◌, ℕ, true, false, List, [], ◌∷◌, ◌++◌, length, get_or, slice_get, Some, sym, ap, subst, arith, length-append, inl, inr, ◌⊎◌}
+use Rattle.std.proofs.Common.{◌≡◌, ◌∙◌, ℕ, true, false, List, [], ◌∷◌, ◌++◌, length, get_or, slice_get, Some, ap, subst, arith, length-append, inl, inr, ◌⊎◌}
 use Rattle.std.proofs.lemmas.Option.{get_or_from_slice_get}
 use Rattle.flat_net.specs.declared.parts.LatchAt.{LatchAt}
 use Rattle.flat_net.proofs.Growth.{slice_get-push_cases}
 use Rattle.inner_cone.specs.declared.parts.InnerParts.{InnerParts}
-use Rattle.inner_cone.specs.Inner.{AreRanked}
 use Rattle.inner_cone.specs.Sides.{AreSides}
 use Rattle.inner_cone.specs.Gates.{AreInnerGates}
-use Rattle.cycle_sim.proofs.marked.cones_of.Goals as goal
+use Rattle.cycle_sim.proofs.marked.cones_by.Goals as goal
 
 pub overflow_cast-j : goal.overflow_cast-j
-overflow_cast-j c = let s = c.keeps.ensures.sound in omega (arith, c.loop-j-test.true, c.requires, s.few_latches, s.few)
-
-pub cone_where-requires-clause-ranked : goal.cone_where-requires-clause-ranked
-cone_where-requires-clause-ranked c = subst (AreRanked c.args.net.now) (sym c.as_slice.ensures) c.in_ok-numbers.ensures
+overflow_cast-j c = let s = c.keeps.ensures.sound in omega (arith, c.loop-j-test.true, c.requires.enabled, s.few_latches, s.few)
 
 pub loop-j-preserved : goal.loop-j-preserved
 loop-j-preserved c =

@@ -3,7 +3,7 @@ use Rattle.flat_net.specs.declared.parts.LatchAt.{LatchAt}
 use Rattle.inner_cone.specs.declared.parts.InnerParts.{InnerParts}
 use Rattle.inner_cone.specs.Sides.{AreSides}
 use Rattle.inner_cone.specs.Gates.{AreInnerGates}
-use Rattle.cycle_sim.proofs.marked.cones_of.Given as goal
+use Rattle.cycle_sim.proofs.marked.cones_by.Given as goal
 
 abbrev pub invariant-loop-j : goal.invariant-loop-j
 invariant-loop-j l = record {
