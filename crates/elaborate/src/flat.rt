@@ -6,8 +6,7 @@ ghost use Rattle.blif_read.specs.sec_base.declared.limits.TheConstants.{MAX_PLAC
 ghost use Rattle.blif_read.specs.sec_base.Table.{AreDistinct};
 ghost use Rattle.elaborate.specs.Within.{is_within, reads_as_kind, written_places};
 
-use blif_read::{Duplicate, Edge, Ids, Init, NameTable, NoMemory, Seq};
-use std::alloc::Global;
+use blif_read::{Edge, Ids, Init, NameTable, Seq};
 
 /// What a flat statement is.
 #[derive(Clone, Copy)]
@@ -34,16 +33,6 @@ pub struct FlatStatement {
     pub out: u32,
     pub reads: Ids,
     pub kind: FlatKind,
-}
-
-impl Duplicate for FlatStatement {
-    fn duplicate(&self, _alloc: Global) -> Result<FlatStatement, NoMemory> {
-        Ok(FlatStatement {
-            out: self.out,
-            reads: self.reads.copy()?,
-            kind: self.kind,
-        })
-    }
 }
 
 /// Flat statements.

@@ -1,16 +1,19 @@
 -- Functions of signals while the graph and the table grow, and the weight of their unfoldings.
-use Rattle.std.proofs.Common.{◌≡◌, ◌<◌, ℕ, List, [], ◌∷◌, map, Err, subst}
+use Rattle.std.proofs.Common.{◌≡◌, ◌∙◌, ◌<◌, ℕ, List, [], ◌∷◌, ◌++◌, map, Result, Ok, Err, ap, subst}
+use Rattle.std.specs.Prelude.{OnOk}
 use Rattle.std.specs.List.{All, AllZip, Contains}
 use Rattle.std.proofs.lemmas.List.Elements.{All-contains}
 use Rattle.circuit_theory.specs.Circuit.{Circuit}
 use Rattle.circuit_theory.specs.Sizes.{IsWeight, IsOver}
 use Rattle.circuit_theory.proofs.Lists.{All-from_each, Contains-map, zip_weaker}
 use Rattle.flat_net.specs.declared.signals.Signal.{Signal}
-use Rattle.flat_net.specs.View.{NetView}
+use Rattle.flat_net.specs.View.{NetView, circuit_of}
 use Rattle.aig.specs.declared.node.Node.{Node}
 use Rattle.aig.specs.Graph.{Grows}
 use Rattle.unfold_places.specs.declared.signal_function.Unfolded.{Unfolded}
 use Rattle.unfold_places.specs.Reach.{Adds}
+use Rattle.cbf_unfold.specs.Unfolded.{Fits}
+use Rattle.cbf_unfold.specs.View.{UnfolderView}
 use Rattle.cbf_unfold.proofs.Known.{unfolded_later}
 use Rattle.circuit_theory.specs.declared.Side.TheVariants.{A, B}
 use Rattle.plain_asked.specs.declared.error.PlainError.{PlainError}
@@ -27,6 +30,17 @@ functions_later {X} signal n order g h places more grows adds xs us zip =
 
 abbrev pub numbers_of : List Signal → List ℕ
 numbers_of signals = map (λ (s : Signal). s.0) signals
+
+-- where the unfolder, which had unfolded nothing, has unfolded the signals, they weigh no more than the limit
+pub light_when : {X E : Type 0} (n : NetView) (before : List ℕ) (signals : List Signal) (w : UnfolderView) (g : List Node) (places : List (ℕ × ℕ)) (r : Result X E) → before ≡ [] → w.net ≡ n → OnOk r (w.done ≡ before ++ numbers_of signals) → OnOk r (Fits w g places) →
+    OnOk r (AreLight n (numbers_of signals))
+light_when n before signals w g places (Ok x) none net done fits =
+    let same : w.done ≡ numbers_of signals = done ∙ ap (λ (d : List ℕ). d ++ numbers_of signals) none in (
+      w.weight,
+      subst (λ (k : NetView). IsWeight (circuit_of k) (numbers_of signals) w.weight) net (subst (λ (l : List ℕ). IsWeight (circuit_of w.net) l w.weight) same fits.weighs),
+      fits.small,
+    )
+light_when n before signals w g places (Err e) none net done fits = tt
 
 -- more outputs weigh no less
 pub over_weaker : (c : Circuit ℕ) (xs ys : List ℕ) (cap : ℕ) → ((x : ℕ) → Contains xs x → Contains ys x) → IsOver c xs cap → IsOver c ys cap

@@ -1,10 +1,13 @@
 -- The functions of the pairs whose signals have two literals.
-use Rattle.std.specs.Prelude.{◌≡◌, ℕ, ◌<◌, List, [], ◌∷◌, ◌++◌, length, slice_get, Option, Some, None, Result, Ok, Err, Contains}
+use Rattle.std.specs.Prelude.{◌≡◌, ℕ, ◌<◌, List, [], ◌∷◌, ◌++◌, length, map, slice_get, Option, Some, None, Result, Ok, Err, Contains}
+use Rattle.std.specs.List.{AllZip}
 use Rattle.flat_net.specs.declared.signals.Signal.{Signal}
 use Rattle.flat_net.specs.View.{NetView}
 use Rattle.aig.specs.declared.node.Lit.{Lit}
+use Rattle.aig.specs.declared.node.Node.{Node}
 use Rattle.unfold_places.specs.declared.signal_function.Unfolded.{Unfolded}
-use Rattle.cbf_unfold.specs.Unfolded.{IsLiteralOf}
+use Rattle.cbf_unfold.specs.Unfolded.{IsLiteralOf, Fits}
+use Rattle.cbf_unfold.specs.View.{UnfolderView}
 use Rattle.interface.specs.declared.pairs.SignalPair.{SignalPair}
 use Rattle.sec_setup.specs.declared.setup.Setup.{Setup}
 use Rattle.plain_asked.specs.declared.apart.Chosen.{Chosen}
@@ -72,3 +75,27 @@ pub record IsPut (s t : Signal) (x y : Lit) (old new : Chosen) : Type 0 where
   pub left_own : (z : Signal) → Contains lefts z → z ≡ s
   pub right_own : (z : Signal) → Contains rights z → z ≡ t
   pub is : IsChosen s t x y new.left.items new.right.items place
+
+-- the unfolder has unfolded nothing
+pub record IsNew (u : UnfolderView) : Type 0 where
+  pub none : u.done ≡ []
+  pub fits : (g : List Node) (places : List (ℕ × ℕ)) → Fits u g places
+
+-- the same unfolder has unfolded the signals with these numbers
+pub record HasDone (u v : UnfolderView) (g : List Node) (places : List (ℕ × ℕ)) (numbers : List ℕ) : Type 0 where
+  pub net : v.net ≡ u.net
+  pub order : v.order ≡ u.order
+  pub done : v.done ≡ numbers
+  pub fits : Fits v g places
+
+-- of the pairs' signals those are chosen whose literals differ
+pub record AreChosenOf (a b : UnfolderView) (g : List Node) (places : List (ℕ × ℕ)) (pairs : List SignalPair) (c : Chosen) : Type 0 where
+  pub lefts : List Signal
+  pub rights : List Signal
+  pub left_are : lefts ≡ map (λ (p : SignalPair). p.left) pairs
+  pub right_are : rights ≡ map (λ (p : SignalPair). p.right) pairs
+  pub xs : List Lit
+  pub ys : List Lit
+  pub left_lits : AllZip (λ (s : Signal) (x : Lit). IsLiteralOf a.net a.order g places s.0 x.0) lefts xs
+  pub right_lits : AllZip (λ (s : Signal) (x : Lit). IsLiteralOf b.net b.order g places s.0 x.0) rights ys
+  pub chosen : AreChosen lefts rights xs ys (length lefts) c

@@ -1,11 +1,11 @@
 //! The functions of the pairs whose signals have two literals.
 
-ghost use Rattle.std.specs.Prelude.{◌≡◌, ℕ, ◌+◌, ◌^◌, ◌<◌, ◌≤◌, ◌++◌, map, length, All, Contains, IfOk, IfErr, OnOk};
+ghost use Rattle.std.specs.Prelude.{◌≡◌, ℕ, ◌+◌, ◌*◌, ◌^◌, ◌<◌, ◌≤◌, ◌++◌, map, length, All, Contains, IfOk, IfErr, OnOk, Err};
 ghost use Rattle.std.specs.List.{AllZip};
 ghost use Rattle.cbf_unfold.specs.Building.{IsLater};
 ghost use Rattle.cbf_unfold.specs.Unfolded.{IsLiteralOf, Fits};
 ghost use Rattle.unfold_places.specs.InputOrder.{IsOrderOf};
-ghost use Rattle.plain_asked.specs.Apart.{AreChosen, IsPut, UnfoldsApart};
+ghost use Rattle.plain_asked.specs.Apart.{AreChosen, AreChosenOf, HasDone, IsNew, IsPut, UnfoldsApart};
 ghost use Rattle.plain_asked.specs.Pairs.{IsFunctionOf, IsRefusalOf, left_signals, right_signals};
 
 use crate::error::PlainError;
@@ -14,7 +14,7 @@ use aig::{Aig, Lit};
 use cbf_unfold::{UnfoldError, Unfolded, Unfolder};
 use flat_net::{Net, Signal};
 use latch_graph::LatchGraph;
-use sec_base::{NoMemory, Orders, PlaceTable, Side};
+use sec_base::{MAX_WEIGHT, NoMemory, Orders, PlaceTable, Side};
 use sec_setup::SignalPair;
 use std::alloc::Global;
 
@@ -52,26 +52,31 @@ pub fn unfold_apart(
     requires right { All (λ s. s < length b.now.drivers) (right_signals pairs.now) }
     ensures { UnfoldsApart a.now b.now orders.now.left orders.now.right pairs.now result }
 {
-    let mut aig = Aig::new(alloc)?;
-    let mut places = PlaceTable::new(alloc);
-    let lefts = left_signals(alloc, pairs)?;
-    let rights = right_signals(alloc, pairs)?;
     let mut a_side = Unfolder::new(alloc, a, left_graph, &orders.left)?;
     let mut b_side = Unfolder::new(alloc, b, right_graph, &orders.right)?;
-    let of_a = lefts.as_slice();
-    let of_b = rights.as_slice();
-    let xs = literals_of(alloc, Side::A, &mut a_side, &mut aig, &mut places, of_a)?;
-    let ys = literals_of(alloc, Side::B, &mut b_side, &mut aig, &mut places, of_b)?;
-    let chosen = choose(alloc, of_a, of_b, xs.as_slice(), ys.as_slice())?;
-    let Chosen {
-        left: apart_a,
-        right: apart_b,
-        at,
-    } = chosen;
-    let own_a = apart_a.as_slice();
-    let own_b = apart_b.as_slice();
-    let left = functions_of(alloc, Side::A, &mut a_side, &mut aig, &mut places, own_a)?;
-    let right = functions_of(alloc, Side::B, &mut b_side, &mut aig, &mut places, own_b)?;
+    unfold_by(alloc, &mut a_side, &mut b_side, pairs)
+}
+
+/// The same by two unfolders that have unfolded nothing.
+fn unfold_by(
+    alloc: Global,
+    a_side: &mut Unfolder<'_>,
+    b_side: &mut Unfolder<'_>,
+    pairs: &[SignalPair],
+) -> Result<PairFunctions, PlainError>
+    requires left { All (λ s. s < length a_side.old.net.drivers) (left_signals pairs.now) }
+    requires right { All (λ s. s < length b_side.old.net.drivers) (right_signals pairs.now) }
+    requires left_new { IsNew a_side.old }
+    requires right_new { IsNew b_side.old }
+    ensures { UnfoldsApart a_side.old.net b_side.old.net a_side.old.order b_side.old.order pairs.now result }
+{
+    let mut aig = Aig::new(alloc)?;
+    let mut places = PlaceTable::new(alloc);
+    let chosen = choose_pairs(alloc, a_side, b_side, &mut aig, &mut places, pairs)?;
+    let own_a = chosen.left.as_slice();
+    let own_b = chosen.right.as_slice();
+    let left = functions_of(alloc, Side::A, a_side, &mut aig, &mut places, own_a)?;
+    let right = functions_of(alloc, Side::B, b_side, &mut aig, &mut places, own_b)?;
     Ok(PairFunctions {
         functions: Functions {
             aig,
@@ -79,8 +84,40 @@ pub fn unfold_apart(
             left,
             right,
         },
-        at,
+        at: chosen.at,
     })
+}
+
+/// The signals of the pairs whose literals differ: all literals of A are made, then all of B.
+fn choose_pairs(
+    alloc: Global,
+    a_side: &mut Unfolder<'_>,
+    b_side: &mut Unfolder<'_>,
+    aig: &mut Aig,
+    places: &mut PlaceTable,
+    pairs: &[SignalPair],
+) -> Result<Chosen, PlainError>
+    requires left { All (λ s. s < length a_side.old.net.drivers) (left_signals pairs.now) }
+    requires right { All (λ s. s < length b_side.old.net.drivers) (right_signals pairs.now) }
+    requires left_new { IsNew a_side.old }
+    requires right_new { IsNew b_side.old }
+    requires nodes { length aig.old ≤ 2 ^ 28 }
+    requires entries { length places.old ≤ 2 ^ 28 }
+    ensures chosen { IfOk result (AreChosenOf a_side.new b_side.new aig.new places.new pairs.now) }
+    ensures left { OnOk result (HasDone a_side.old a_side.new aig.new places.new (left_signals pairs.now)) }
+    ensures right { OnOk result (HasDone b_side.old b_side.new aig.new places.new (right_signals pairs.now)) }
+    ensures refused { IfErr result (λ e. UnfoldsApart a_side.old.net b_side.old.net a_side.old.order b_side.old.order pairs.now (Err e)) }
+    ensures nodes { OnOk result (length aig.new ≤ length aig.old + 2 * MAX_WEIGHT) }
+    ensures entries { OnOk result (length places.new ≤ length places.old + 2 * MAX_WEIGHT) }
+{
+    let lefts = left_signals(alloc, pairs)?;
+    let of_a = lefts.as_slice();
+    let xs = literals_of(alloc, Side::A, a_side, aig, places, of_a)?;
+    let rights = right_signals(alloc, pairs)?;
+    let of_b = rights.as_slice();
+    let ys = literals_of(alloc, Side::B, b_side, aig, places, of_b)?;
+    let chosen = choose(alloc, of_a, of_b, xs.as_slice(), ys.as_slice())?;
+    Ok(chosen)
 }
 
 /// The literals of signals of the circuit of this side.

@@ -94,8 +94,7 @@ fn unfold_left(
 {
     let signals = left_signals(alloc, pairs)?;
     let given = signals.as_slice();
-    let unfolded = unfold_side(alloc, Side::A, net, graph, order, aig, places, given)?;
-    Ok(unfolded)
+    unfold_side(alloc, Side::A, net, graph, order, aig, places, given)
 }
 
 /// Unfolds the right signals of the pairs.
@@ -122,8 +121,7 @@ fn unfold_right(
 {
     let signals = right_signals(alloc, pairs)?;
     let given = signals.as_slice();
-    let unfolded = unfold_side(alloc, Side::B, net, graph, order, aig, places, given)?;
-    Ok(unfolded)
+    unfold_side(alloc, Side::B, net, graph, order, aig, places, given)
 }
 
 pub(crate) fn left_signals(alloc: Global, pairs: &[SignalPair]) -> Result<Vec<Signal>, NoMemory>
@@ -217,6 +215,5 @@ fn unfold_all(
     ensures nodes { length aig.new ≤ length aig.old + MAX_WEIGHT }
     ensures entries { length places.new ≤ length places.old + MAX_WEIGHT }
 {
-    let unfolded = unfolder.unfold_all(alloc, aig, places, signals)?;
-    Ok(unfolded)
+    unfolder.unfold_all(alloc, aig, places, signals)
 }

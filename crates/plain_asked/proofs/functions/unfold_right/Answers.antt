@@ -1,5 +1,7 @@
 -- The signals are those of the pairs.
-use Rattle.std.proofs.Common.{◌≡◌, ◌∙◌, ℕ, List, map, Err, IfErr, refl, sym, ap, subst, rules}
+use Rattle.std.proofs.Common.{◌≡◌, ◌∙◌, ℕ, List, map, IfOk, IfErr, refl, ap, subst}
+use Rattle.std.specs.Prelude.{OnOk}
+use Rattle.std.proofs.lemmas.Result.{IfOk-weaker}
 use Rattle.std.specs.List.{AllZip}
 use Rattle.circuit_theory.proofs.Lists.{map-map}
 use Rattle.flat_net.specs.declared.signals.Signal.{Signal}
@@ -18,14 +20,6 @@ pub unfold_side-requires-clause-signals : goal.unfold_side-requires-clause-signa
 unfold_side-requires-clause-signals c =
     within_from c.as_slice-given.result.now (right_signals c.args.pairs.now) _ (numbers c.args.pairs.now c.as_slice-given.result.now (c.as_slice-given.ensures.value ∙ c.in_ok-signals.ensures)) c.requires.signals
 
-pub returns-in_err-unfolded-clause-refused : goal.returns-in_err-unfolded-clause-refused
-returns-in_err-unfolded-clause-refused c =
-    let n = c.args.net.now in
-    let e = c.in_err-unfolded.field-0.0 in
-    let same : c.from_residual-in_err-unfolded.result ≡ Err e = search rules in
-    subst (λ r. IfErr r (IsRefusalOf B n (right_signals c.args.pairs.now))) (sym same)
-    (subst (λ (l : List ℕ). IsRefusalOf B n l e) (numbers c.args.pairs.now c.as_slice-given.result.now (c.as_slice-given.ensures.value ∙ c.in_ok-signals.ensures)) c.in_err-unfolded.ensures.refused)
-
 pub returns-in_err-signals-clause-adds : goal.returns-in_err-signals-clause-adds
 returns-in_err-signals-clause-adds c = adds_none (λ (p : ℕ × ℕ). Unit {0}) c.args.places.now c.args.places.now refl
 
@@ -35,8 +29,25 @@ returns-clause-unfolded c =
     let order = c.args.order.now in
     let g = c.unfold_side.new.aig in
     let places = c.unfold_side.new.places in
-    zip_from_map (λ (p : SignalPair). p.right) (λ (s : Signal) (u : Unfolded). IsFunctionOf n order g places s.0 u) c.args.pairs.now c.in_ok-unfolded.unfolded.items
-    (subst (λ (ss : List Signal). AllZip (λ (s : Signal) (u : Unfolded). IsFunctionOf n order g places s.0 u) ss c.in_ok-unfolded.unfolded.items) (c.as_slice-given.ensures.value ∙ c.in_ok-signals.ensures) c.in_ok-unfolded.ensures.unfolded)
+    let pairs = c.args.pairs.now in
+    IfOk-weaker c.unfold_side.result (λ us. AllZip (λ (s : Signal) (u : Unfolded). IsFunctionOf n order g places s.0 u) c.as_slice-given.result.now us.items) (λ us. AllZip (λ (p : SignalPair) (u : Unfolded). IsFunctionOf n order g places p.right.0 u) pairs us.items)
+    (λ us h. zip_from_map (λ (p : SignalPair). p.right) (λ (s : Signal) (u : Unfolded). IsFunctionOf n order g places s.0 u) pairs us.items
+    (subst (λ (ss : List Signal). AllZip (λ (s : Signal) (u : Unfolded). IsFunctionOf n order g places s.0 u) ss us.items) (c.as_slice-given.ensures.value ∙ c.in_ok-signals.ensures) h)) c.unfold_side.ensures.unfolded
 
 pub returns-clause-light : goal.returns-clause-light
-returns-clause-light c = subst (AreLight c.args.net.now) (numbers c.args.pairs.now c.as_slice-given.result.now (c.as_slice-given.ensures.value ∙ c.in_ok-signals.ensures)) c.in_ok-unfolded.ensures.light
+returns-clause-light c = subst (λ (l : List ℕ). OnOk c.unfold_side.result (AreLight c.args.net.now l)) (numbers c.args.pairs.now c.as_slice-given.result.now (c.as_slice-given.ensures.value ∙ c.in_ok-signals.ensures)) c.unfold_side.ensures.light
+
+pub returns-clause-refused : goal.returns-clause-refused
+returns-clause-refused c = subst (λ (l : List ℕ). IfErr c.unfold_side.result (IsRefusalOf B c.args.net.now l)) (numbers c.args.pairs.now c.as_slice-given.result.now (c.as_slice-given.ensures.value ∙ c.in_ok-signals.ensures)) c.unfold_side.ensures.refused
+
+pub returns-clause-grows : goal.returns-clause-grows
+returns-clause-grows c = c.unfold_side.ensures.grows
+
+pub returns-clause-adds : goal.returns-clause-adds
+returns-clause-adds c = c.unfold_side.ensures.adds
+
+pub returns-clause-nodes : goal.returns-clause-nodes
+returns-clause-nodes c = c.unfold_side.ensures.nodes
+
+pub returns-clause-entries : goal.returns-clause-entries
+returns-clause-entries c = c.unfold_side.ensures.entries
