@@ -8,7 +8,7 @@ use std::rt::Files;
 use std::{fs, io};
 
 /// Why a read of a path failed.
-#[derive(Clone, Copy, PartialEq, Eq)]
+#[derive(Clone, Copy)]
 pub enum ShelfError {
     /// The outside failed: the file can't be opened, or its bytes can't be had; of real files, each `std::io::Error` of
     /// another kind than `OutOfMemory`. The path's count of faults has risen by 1 at least, or stands at the last value

@@ -4,7 +4,7 @@ ghost use Rattle.std.specs.Prelude.{◌≤◌, ℕ, List, Option, None, OnOk, On
 ghost use Rattle.base_shelves.specs.Outside.{Rose, Takes, TakesFront};
 
 /// A read or a write of the outside failed.
-#[derive(Clone, Copy, PartialEq, Eq)]
+#[derive(Clone, Copy)]
 pub struct Failed;
 
 /// A place that takes bytes.

@@ -10,7 +10,7 @@ ghost use Rattle.circuit_theory.specs.Agree.{IsSettled};
 ghost use Rattle.circuit_theory.specs.declared.Mode.TheVariants.{Plain};
 
 /// One signal of a small circuit, which its place in a list numbers.
-#[derive(Clone, Copy, PartialEq, Eq)]
+#[derive(Clone, Copy)]
 pub enum Cell {
     /// An input.
     Input,

@@ -9,4 +9,4 @@ pub mod Pieces
 pub mod Trails
 pub mod Visits
 pub mod Writing
-pub use Rattle.proof_check.proofs as proof_check
+pub use Rattle.clause_base.proofs as clause_base

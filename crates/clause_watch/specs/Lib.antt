@@ -7,4 +7,4 @@ pub mod Rows
 pub mod Trails
 pub mod TwoWatches
 pub mod Watching
-pub use Rattle.proof_check.specs as proof_check
+pub use Rattle.clause_base.specs as clause_base

@@ -10,7 +10,7 @@ use crate::places::Placed;
 use crate::propagation::{Watches, force};
 use crate::trail::Trail;
 use crate::watched_clauses::WatchedClauses;
-use proof_check::{Clause, Clauses, Literal, NoMemory};
+use clause_base::{Clause, Clauses, Literal, NoMemory};
 use std::alloc::Global;
 
 impl Watches {

@@ -1,6 +1,6 @@
 //! What a trail is made of.
 
-use proof_check::Literal;
+use clause_base::Literal;
 
 /// A literal that was made true.
 #[derive(Clone, Copy)]

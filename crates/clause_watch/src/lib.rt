@@ -18,10 +18,7 @@ mod watchers;
 pub use clause_db::ClauseDb;
 pub use entry::{Entry, Truth};
 pub use places::Placed;
-pub use proof_check::{
-    Bits, Chain, Clause, Clauses, Literal, Log, MAX_CONFLICTS, NoMemory, Outcome, Resolver, Seq,
-    Step,
-};
+pub use clause_base::{Bits, Clause, Clauses, Literal, MAX_CONFLICTS, NoMemory, Seq};
 pub use propagation::Watches;
 pub use trail::Trail;
 pub use watched_clauses::WatchedClauses;

@@ -17,7 +17,7 @@ use sec_base::{FilePath, NoMemory, Seq, Settings, Word};
 use std::alloc::{AllocError, Global};
 
 /// Why the words are no job.
-#[derive(Clone, Copy, PartialEq, Eq)]
+#[derive(Clone, Copy)]
 pub enum WordsError {
     /// `clap`'s definition for the command doesn't take the words, the mode is neither `plain` nor `event`, `--reset` stands with
     /// `event` or with `--expose`, or the form of a certificate is neither `cnf` nor `lrat`.

@@ -6,7 +6,7 @@ ghost use Rattle.connectivity.specs.Wired.{WiredView};
 use std::marker::Model;
 
 /// What drives a signal.
-#[derive(Clone, Copy, PartialEq, Eq)]
+#[derive(Clone, Copy)]
 pub enum Source {
     /// Nothing does, and nothing reads it.
     Open,

@@ -75,7 +75,7 @@ pub enum Unrefuted {
 }
 
 /// What is said of two circuits whose latches are put into blocks.
-#[derive(Clone, Copy, PartialEq, Eq)]
+#[derive(Clone, Copy)]
 pub enum Judgement {
     /// Each output agrees for all values that are constant on the blocks.
     Equal,
@@ -114,7 +114,7 @@ pub enum Finding {
 }
 
 /// Why the work on the files ends without a report.
-#[derive(Clone, Copy, PartialEq, Eq)]
+#[derive(Clone, Copy)]
 pub enum Stop {
     ReadFault,
     NoMemory,

@@ -11,7 +11,7 @@ use std::alloc::Global;
 pub type Proofs = Seq<Proof>;
 
 /// The name of the way in which a run ends.
-#[derive(Clone, Copy, PartialEq, Eq)]
+#[derive(Clone, Copy)]
 pub enum StatusName {
     /// The circuits agree.
     Equal,

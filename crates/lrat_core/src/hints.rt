@@ -1,7 +1,7 @@
 //! The hints of an added clause.
 
 /// A hint of an addition.
-#[derive(Clone, Copy, PartialEq, Eq)]
+#[derive(Clone, Copy)]
 pub enum Hint {
     /// The number of a clause.
     Clause(u64),

@@ -6,7 +6,7 @@ use sec_base::NoMemory;
 use text_numbers::TextKind;
 
 /// Why one line isn't accepted.
-#[derive(Clone, Copy, PartialEq, Eq)]
+#[derive(Clone, Copy)]
 pub enum LineError {
     /// What is first wrong with it: `BadId`, `NegativeHint`, `BadHint`, `NotUnit` or `NoConflict`.
     Fault(TextKind),

@@ -15,7 +15,7 @@ use std::alloc::Global;
 use text_numbers::{NumberedLines, TextError, TextKind};
 
 /// An accepted text.
-#[derive(Clone, Copy, PartialEq, Eq)]
+#[derive(Clone, Copy)]
 pub struct Verified {
     /// The number of the line that adds the empty clause.
     pub lines: u32,

@@ -1,8 +1,8 @@
 -- Turns of a search.
 use Rattle.std.proofs.Common.{◌≡◌, ℕ, ◌+◌, ◌-◌, ◌*◌, ◌<◌, ◌≤◌, List, length, ap, arith, Result, Ok, Err}
 use Rattle.std.specs.Prelude.{IfOk}
-use Rattle.clause_watch.specs.proof_check.Literals.{Literal}
-use Rattle.clause_watch.specs.proof_check.NoMemory.{NoMemory}
+use Rattle.proof_check.specs.Literals.{Literal}
+use Rattle.proof_check.specs.NoMemory.{NoMemory}
 use Rattle.sat_search.specs.Turning.{IsRunning, IsTurned}
 use Rattle.sat_search.specs.declared.search_state.SearchState.{SearchState}
 use Rattle.sat_search.specs.declared.search_state.Turn.{Turn}

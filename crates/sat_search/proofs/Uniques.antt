@@ -4,11 +4,11 @@ use Rattle.std.specs.Prelude.{◌↔◌, ◌^◌, slice_get}
 use Rattle.std.specs.List.{Contains}
 use Rattle.std.proofs.lemmas.Bool.{cases_eq}
 use Rattle.std.proofs.lemmas.List.Elements.{All-contains}
-use Rattle.clause_watch.specs.proof_check.Literals.{Literal, negation}
-use Rattle.clause_watch.specs.proof_check.Chains.{ChainDerives}
-use Rattle.clause_watch.specs.proof_check.declared.derivation.Step.{Step}
-use Rattle.clause_watch.specs.proof_check.declared.derivation.Chain.{Chain}
-use Rattle.clause_watch.proofs.proof_check.Deriving.{steps_push}
+use Rattle.proof_check.specs.Literals.{Literal, negation}
+use Rattle.proof_check.specs.Chains.{ChainDerives}
+use Rattle.proof_check.specs.declared.derivation.Step.{Step}
+use Rattle.proof_check.specs.declared.derivation.Chain.{Chain}
+use Rattle.proof_check.proofs.Deriving.{steps_push}
 use Rattle.clause_watch.specs.Range.{AllInRange, InRange}
 use Rattle.clause_watch.specs.Trails.{TrailView, At, TrueBefore, FalseBefore, OthersFalse, IsTrail}
 use Rattle.sat_search.specs.Answers.{IsDistinct, IsLastFalse, IsLastDecision, IsUniqueAt, IsSmallPlace, HasReason, place_after}

@@ -1,6 +1,6 @@
 -- The state of a search from turn to turn.
 use Rattle.std.specs.Prelude.{◌≡◌, ℕ, ◌+◌, ◌-◌, ◌*◌, ◌<◌, ◌^◌, List, [], length}
-use Rattle.clause_watch.specs.proof_check.Literals.{Literal}
+use Rattle.proof_check.specs.Literals.{Literal}
 use Rattle.sat_search.specs.Found.{IsFound}
 use Rattle.clause_watch.specs.Watching.{IsWatched}
 use Rattle.clause_watch.specs.Learning.{IsLoading}

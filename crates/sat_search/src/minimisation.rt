@@ -8,7 +8,8 @@ ghost use Rattle.sat_search.specs.Uniques.{IsUnique};
 
 use crate::analysis::{is_forced, resolve_with_reason};
 use crate::redundancy::redundant_places;
-use clause_watch::{Chain, ClauseDb, NoMemory, Placed, Resolver, Trail};
+use clause_watch::{ClauseDb, NoMemory, Placed, Trail};
+use proof_check::{Chain, Resolver};
 use std::alloc::Global;
 
 /// Resolves literals away that became false before the decision and follow from the others of the

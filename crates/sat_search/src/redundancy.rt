@@ -5,7 +5,8 @@
 ghost use Rattle.std.specs.Prelude.{◌≡◌, ◌<◌, ◌≤◌, length, None, IfSome};
 
 use crate::analysis::first_decision;
-use clause_watch::{ClauseDb, NoMemory, Resolver, Trail};
+use clause_watch::{ClauseDb, NoMemory, Trail};
+use proof_check::Resolver;
 use std::alloc::Global;
 
 /// How many reasons are followed one after the other.

@@ -14,7 +14,8 @@ ghost use Rattle.sat_search.specs.declared.search_state.Turn.TheVariants as turn
 use crate::activity::Activity;
 use crate::analysis::{analyse, first_decision};
 use crate::lesson::{Learnt, Lesson};
-use clause_watch::{Bits, Clauses, Log, MAX_CONFLICTS, NoMemory, Resolver, Seq, Trail, Watches};
+use clause_watch::{Bits, Clauses, MAX_CONFLICTS, NoMemory, Seq, Trail, Watches};
+use proof_check::{Log, Resolver};
 use std::alloc::Global;
 use std::mem;
 

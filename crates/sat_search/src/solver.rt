@@ -1,7 +1,7 @@
 //! The search.
 
 ghost use Rattle.std.specs.Prelude.{◌-◌, ◌<◌, ◌≤◌, ◌^◌, [], length, IfOk};
-ghost use Rattle.clause_watch.specs.proof_check.Chains.{ChainDerives};
+ghost use Rattle.proof_check.specs.Chains.{ChainDerives};
 ghost use Rattle.clause_watch.specs.Range.{InRange};
 ghost use Rattle.sat_search.specs.Found.{IsFound};
 ghost use Rattle.clause_watch.specs.Trails.{IsTrail};
@@ -13,7 +13,8 @@ use crate::analysis::analyse;
 use crate::lesson::Lesson;
 use crate::outcome::Found;
 use crate::search_state::{SearchState, Turn};
-use clause_watch::{Chain, ClauseDb, Clauses, MAX_CONFLICTS, NoMemory, Resolver, Seq, Trail};
+use clause_watch::{ClauseDb, Clauses, MAX_CONFLICTS, NoMemory, Seq, Trail};
+use proof_check::{Chain, Resolver};
 use std::alloc::Global;
 
 /// Looks for values that meet all clauses, for at most so many conflicts. `Model` has values that

@@ -21,7 +21,7 @@ pub enum Init {
 }
 
 /// A latch of one of the two circuits, by its position there.
-#[derive(Clone, Copy, PartialEq, Eq)]
+#[derive(Clone, Copy)]
 pub struct Tag {
     pub side: Side,
     pub latch: u32,

@@ -3,7 +3,7 @@
 use circuit_theory::Mode;
 
 /// How a comparison is made.
-#[derive(Clone, Copy, PartialEq, Eq)]
+#[derive(Clone, Copy)]
 pub struct Settings {
     pub mode: Mode,
     /// Whether latches that both circuits have are cut open.

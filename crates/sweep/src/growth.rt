@@ -26,7 +26,7 @@ pub(crate) struct Growth {
 }
 
 /// What is done with a node.
-#[derive(Clone, Copy, PartialEq, Eq)]
+#[derive(Clone, Copy)]
 pub(crate) enum Role {
     /// Nothing.
     Outside,
@@ -40,7 +40,7 @@ pub(crate) enum Role {
 const TRIES: usize = 16;
 
 /// What comes of trying a node with another one.
-#[derive(Clone, Copy, PartialEq, Eq)]
+#[derive(Clone, Copy)]
 enum Step {
     Merge(Lit),
     /// They differ, so another one is next.

@@ -5,7 +5,7 @@ ghost use Rattle.std.specs.Prelude.{◌≡◌};
 use sec_base::NoMemory;
 
 /// What is wrong with a line of a text, or with the text as a whole.
-#[derive(Clone, Copy, PartialEq, Eq)]
+#[derive(Clone, Copy)]
 pub enum TextKind {
     /// The first line of a DIMACS text isn't `p cnf V C`, or there is none.
     BadHeader,

@@ -8,7 +8,7 @@ use crate::tokens::{Tokens, begins_with};
 use sec_base::NoMemory;
 
 /// A whole number of at most 9,223,372,036,854,775,807 in size.
-#[derive(Clone, Copy, PartialEq, Eq)]
+#[derive(Clone, Copy)]
 pub struct Number {
     /// The number without its sign.
     pub size: u64,

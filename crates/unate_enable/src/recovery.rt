@@ -43,7 +43,7 @@ pub enum Recovery {
 }
 
 /// Why nothing is found out about a latch.
-#[derive(Clone, Copy, PartialEq, Eq)]
+#[derive(Clone, Copy)]
 pub enum RecoverError {
     /// The latch is in its own cone, which weighs more than 2,000,000.
     TooLarge,

@@ -1,5 +1,5 @@
 use Rattle.std.proofs.Common.{◌-◌, sym, ◌∙◌, subst, arith}
-use Rattle.clause_watch.specs.proof_check.Resolution.{IsLiteralOf}
+use Rattle.proof_check.specs.Resolution.{IsLiteralOf}
 use Rattle.sat_search.proofs.Uniques.{others_before, others_passed, others_more}
 use Rattle.sat_search.proofs.analysis.is_alone.Goals as goal
 

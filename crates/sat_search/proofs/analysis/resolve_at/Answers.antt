@@ -1,8 +1,8 @@
 use Rattle.std.proofs.Common.{subst}
 use Rattle.std.proofs.lemmas.Option.{slice_get_within}
-use Rattle.clause_watch.specs.proof_check.Resolution.{IsResolvent, IsStepAnswer}
-use Rattle.clause_watch.specs.proof_check.Literals.{negation}
-use Rattle.clause_watch.specs.proof_check.declared.resolution.Outcome.{Outcome}
+use Rattle.proof_check.specs.Resolution.{IsResolvent, IsStepAnswer}
+use Rattle.proof_check.specs.Literals.{negation}
+use Rattle.proof_check.specs.declared.resolution.Outcome.{Outcome}
 use Rattle.clause_watch.proofs.Trails.{at_within}
 use Rattle.sat_search.proofs.Analysing.{reason_of, reason_opposite, reason_no_clash, step_no_pivot, step_clashes}
 use Rattle.sat_search.proofs.analysis.resolve_at.Goals as goal

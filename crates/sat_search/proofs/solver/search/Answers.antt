@@ -1,6 +1,6 @@
 use Rattle.std.proofs.Common.{ℕ, List, subst}
 use Rattle.std.specs.Prelude.{IfOk}
-use Rattle.clause_watch.specs.proof_check.Literals.{Literal}
+use Rattle.proof_check.specs.Literals.{Literal}
 use Rattle.sat_search.specs.Found.{IsFound}
 use Rattle.sat_search.proofs.solver.search.Goals as goal
 

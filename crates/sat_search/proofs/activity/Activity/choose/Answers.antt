@@ -1,5 +1,5 @@
 use Rattle.std.proofs.Common.{ap}
-use Rattle.clause_watch.specs.proof_check.Literals.{Literal}
+use Rattle.proof_check.specs.Literals.{Literal}
 use Rattle.sat_search.proofs.Choosing.{choice_of}
 use Rattle.sat_search.proofs.activity.Activity.choose.Goals as goal
 

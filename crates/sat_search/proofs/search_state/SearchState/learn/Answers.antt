@@ -1,6 +1,6 @@
 use Rattle.std.proofs.Common.{List, [], subst}
-use Rattle.clause_watch.specs.proof_check.Literals.{Literal}
-use Rattle.clause_watch.specs.proof_check.Chains.{ChainDerives}
+use Rattle.proof_check.specs.Literals.{Literal}
+use Rattle.proof_check.specs.Chains.{ChainDerives}
 use Rattle.sat_search.specs.Lessons.{IsLesson}
 use Rattle.sat_search.proofs.Searching.{search_refuted}
 use Rattle.sat_search.proofs.search_state.SearchState.learn.Goals as goal

@@ -1,6 +1,6 @@
 use Rattle.std.proofs.Common.{length, ◌-◌, ◌+◌, None}
-use Rattle.proof_check.specs.Merging.{IsMerged}
-use Rattle.proof_check.proofs.merge.merge.Given as goal
+use Rattle.clause_base.specs.Merging.{IsMerged}
+use Rattle.clause_base.proofs.merge.merge.Given as goal
 
 abbrev pub invariant-turns : goal.invariant-turns
 invariant-turns l = IsMerged l.left l.right l.out.items None l.at.left l.at.right

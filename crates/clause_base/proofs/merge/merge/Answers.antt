@@ -1,11 +1,11 @@
 use Rattle.std.proofs.Common.{◌≡◌, ℕ, ◌+◌, ◌-◌, ◌<◌, ◌≤◌, List, None, subst, arith, length}
-use Rattle.proof_check.specs.Literals.{Literal}
-use Rattle.proof_check.specs.Merging.{IsTurn}
-use Rattle.proof_check.specs.declared.merge.Merged.{Merged}
-use Rattle.proof_check.specs.declared.merge.Places.{Places}
-use Rattle.proof_check.specs.declared.merge.Merged.TheVariants.{Union, Clash}
-use Rattle.proof_check.proofs.Merges.{start, end}
-use Rattle.proof_check.proofs.merge.merge.Goals as goal
+use Rattle.clause_base.specs.Literals.{Literal}
+use Rattle.clause_base.specs.Merging.{IsTurn}
+use Rattle.clause_base.specs.declared.merge.Merged.{Merged}
+use Rattle.clause_base.specs.declared.merge.Places.{Places}
+use Rattle.clause_base.specs.declared.merge.Merged.TheVariants.{Union, Clash}
+use Rattle.clause_base.proofs.Merges.{start, end}
+use Rattle.clause_base.proofs.merge.merge.Goals as goal
 
 -- what a turn comes to, by its answer
 turned : (a b out : List Literal) (old new : Places) (m n : Merged) → m ≡ n → IsTurn a b old out new m → IsTurn a b old out new n

@@ -1,5 +1,5 @@
-use Rattle.proof_check.proofs.Deriving.{sorted_of_united}
-use Rattle.proof_check.proofs.disjunction.both.Goals as goal
+use Rattle.clause_base.proofs.Halves.{sorted_of_united}
+use Rattle.clause_base.proofs.disjunction.both.Goals as goal
 
 pub returns : goal.returns
 returns c = sorted_of_united _ _ _ _ c.united.result c.in-Some.is c.in-Some-right.is c.united.ensures

@@ -1,6 +1,6 @@
 use Rattle.std.proofs.Common.{arith, sym, inl}
-use Rattle.proof_check.proofs.Merges.{left_taken, right_taken}
-use Rattle.proof_check.proofs.merge.turn.Goals as goal
+use Rattle.clause_base.proofs.Merges.{left_taken, right_taken}
+use Rattle.clause_base.proofs.merge.turn.Goals as goal
 
 pub returns-in_ok-push-in-Left : goal.returns-in_ok-push-in-Left
 returns-in_ok-push-in-Left c =

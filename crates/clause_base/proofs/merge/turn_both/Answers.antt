@@ -1,6 +1,6 @@
 use Rattle.std.proofs.Common.{None, arith, sym, inl}
-use Rattle.proof_check.proofs.Merges.{both_taken, level_of, agree_of, clash_of}
-use Rattle.proof_check.proofs.merge.turn_both.Goals as goal
+use Rattle.clause_base.proofs.Merges.{both_taken, level_of, agree_of, clash_of}
+use Rattle.clause_base.proofs.merge.turn_both.Goals as goal
 
 pub returns-then-clashes : goal.returns-then-clashes
 returns-then-clashes c =

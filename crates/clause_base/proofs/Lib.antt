@@ -1,0 +1,3 @@
+pub mod Halves
+pub mod Members
+pub mod Merges
