@@ -4,3 +4,4 @@ pub mod State
 pub mod Whole
 pub mod Names
 pub mod Symbols
+pub mod aiger_graph

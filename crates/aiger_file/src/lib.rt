@@ -3,6 +3,7 @@
 //! The symbols of a file in the AIGER formats, and the names of its inputs, latches and outputs.
 #![tactic(auto)]
 
+pub mod aiger_graph;
 mod file;
 mod naming;
 mod reader;

@@ -11,8 +11,8 @@ use Rattle.circuit_theory.specs.Interface.{◌or_else◌}
 use Rattle.circuit_theory.proofs.Lists.{All-from_each, Contains-head, Contains-tail, Contains-cases, at_of, only}
 use Rattle.sec_base.specs.Table.{is_among, AreDistinct}
 use Rattle.sec_base.proofs.TableLemmas.{Contains_not-is_among}
-use Rattle.aiger_graph.proofs.net_assembly.Rows.{slice_get-append}
-use Rattle.aiger_graph.proofs.net_assembly.DistinctLists.{distinct_nil, distinct_cons, distinct_append}
+use Rattle.aiger_file.proofs.aiger_graph.net_assembly.Rows.{slice_get-append}
+use Rattle.aiger_file.proofs.aiger_graph.net_assembly.DistinctLists.{distinct_nil, distinct_cons, distinct_append}
 use Rattle.aiger_records.specs.declared.header.Header.{Header}
 use Rattle.aiger_records.specs.declared.error.AigerKind.{AigerKind}
 use Rattle.aiger_records.specs.declared.error.AigerKind.TheVariants as kind
@@ -26,7 +26,7 @@ use Rattle.aiger_file.specs.declared.file.AigerFile.{AigerFile}
 use Rattle.aiger_file.specs.Reading.{at, fault_at, Headed, records_fault, first_symbol_fault, body_fault, body_of, headed, headed_fault, first_fault, those_there, file_with, spelled}
 use Rattle.aiger_file.specs.Whole.{file_fault, source_names, output_names}
 use Rattle.aiger_file.specs.Files.{IsKept, late_fault, fault_of_text}
-use Rattle.aiger_graph.specs.Circuit.{LatchLine, ports_from, input_literals, output_literals, latches_in}
+use Rattle.aiger_file.specs.aiger_graph.Circuit.{LatchLine, ports_from, input_literals, output_literals, latches_in}
 use Rattle.aiger_read.specs.SignalNames.{latch_literals, sources_of}
 use Rattle.aiger_read.specs.Made.{IsFaultless}
 use Rattle.aiger_read.proofs.Naming.{ports_places, behind}

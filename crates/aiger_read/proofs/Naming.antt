@@ -14,12 +14,12 @@ use Rattle.circuit_theory.proofs.Lists.{Contains-head, Contains-tail, at_of, of_
 use Rattle.circuit_theory.proofs.Numbers.{slice_get-map}
 use Rattle.sec_base.specs.Table.{AreDistinct}
 use Rattle.sec_base.proofs.TableLemmas.{key_at}
-use Rattle.aiger_graph.proofs.net_assembly.Rows.{slice_get-append}
-use Rattle.aiger_graph.proofs.net_assembly.DistinctLists.{distinct_tail}
+use Rattle.aiger_file.proofs.aiger_graph.net_assembly.Rows.{slice_get-append}
+use Rattle.aiger_file.proofs.aiger_graph.net_assembly.DistinctLists.{distinct_tail}
 use Rattle.aiger_file.specs.declared.symbol.Named.{Named}
 use Rattle.aiger_file.specs.Names.{name_of}
 use Rattle.aiger_file.specs.declared.file.AigerFile.{AigerFile}
-use Rattle.aiger_graph.specs.Circuit.{ports_from, input_literals}
+use Rattle.aiger_file.specs.aiger_graph.Circuit.{ports_from, input_literals}
 use Rattle.aiger_read.specs.SignalNames.{gate_name, latch_literals, sources_of, name_among, signal_name}
 use Rattle.aiger_read.specs.Made.{IsFaultless}
 

@@ -23,8 +23,8 @@ use Rattle.aiger_file.specs.declared.file.AigerFile.{AigerFile}
 use Rattle.aiger_file.specs.Reading.{spelled, at, body_of}
 use Rattle.aiger_file.specs.Whole.{file_fault}
 use Rattle.aiger_file.specs.Files.{fault_of_text}
-use Rattle.aiger_graph.specs.Circuit.{circuit_of_file, constants, not_cover}
-use Rattle.aiger_graph.specs.Loops.{HasLoop}
+use Rattle.aiger_file.specs.aiger_graph.Circuit.{circuit_of_file, constants, not_cover}
+use Rattle.aiger_file.specs.aiger_graph.Loops.{HasLoop}
 use Rattle.aiger_read.specs.SignalNames.{signal_name, inits_of}
 
 -- each place is driven by one equation at most, counted by its place in the list, and the inputs by none

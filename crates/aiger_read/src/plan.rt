@@ -1,7 +1,7 @@
 //! What a net is made by.
 
 ghost use Rattle.std.specs.Prelude.{◌≡◌, ◌+◌, ◌*◌, ◌<◌};
-ghost use Rattle.aiger_graph.specs.Literals.{reads_in};
+ghost use Rattle.aiger_file.specs.aiger_graph.Literals.{reads_in};
 ghost use Rattle.aiger_read.specs.Signals.{is_gate};
 ghost use Rattle.aiger_read.specs.Made.{IsPlan};
 

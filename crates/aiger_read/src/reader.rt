@@ -5,8 +5,8 @@ ghost use Rattle.aiger_read.specs.Nets.{ReadsNet};
 
 use crate::finish::make;
 use crate::plan::Plan;
+use aiger_file::aiger_graph::{Ordered, order_literals};
 use aiger_file::{AigerError, AigerKind, read_file};
-use aiger_graph::{Ordered, order_literals};
 use flat_net::Net;
 use std::alloc::Global;
 

@@ -18,8 +18,8 @@ use Rattle.circuit_laws.proofs.Finite.{Decided, Weakly, weakly_decided, weakly_e
 use Rattle.circuit_theory.proofs.Sums.{same_or_not}
 use Rattle.circuit_laws.proofs.JoinedParts.{joined_same, joined_single, joined_can_put, joined_determined}
 use Rattle.circuit_laws.proofs.Marks.{marks_down}
-use Rattle.event_laws.proofs.EventAgreement.{rises_at, kind_of, loads_are_one, loads_before, side_run, left_mark, right_mark}
-use Rattle.event_laws.proofs.SettledEvents.{cycle_once, is_node, there, settled_has_events_in_nets}
+use Rattle.circuit_laws.proofs.event_laws.EventAgreement.{rises_at, kind_of, loads_are_one, loads_before, side_run, left_mark, right_mark}
+use Rattle.circuit_laws.proofs.event_laws.SettledEvents.{cycle_once, is_node, there, settled_has_events_in_nets}
 use Rattle.reset_laws.proofs.ResetAgreement.{HoldsAlong}
 
 -- the cycle of each node, reached or not, where `last` has the last loads of classes

@@ -11,7 +11,7 @@ use Rattle.circuit_theory.specs.Agree.{AreAlike, IsPair, cut}
 use Rattle.circuit_theory.specs.EventFits.{side_by_side}
 use Rattle.circuit_theory.specs.Depth.{LatchesHaveDepths}
 use Rattle.circuit_laws.proofs.CutLaws.{left_clear, right_clear}
-use Rattle.event_laws.proofs.ExposedEvents.{left_net, right_net, new_left, new_right, new_alike, left_kept, right_kept}
+use Rattle.circuit_laws.proofs.event_laws.ExposedEvents.{left_net, right_net, new_left, new_right, new_alike, left_kept, right_kept}
 use Rattle.assume_laws.specs.Assume.{Assumption, RowMeets, RunMeets, ReadsInputs, HaveEqualEventsUnder}
 use Rattle.assume_laws.specs.Laws.{EventFunctionsAgreeUnder, ExposedEventFunctionsAgreeUnder}
 use Rattle.assume_laws.proofs.Care.{run_holds, cut_meets, shorter_meets}

@@ -9,7 +9,7 @@ use Rattle.circuit_theory.specs.Query.{Variable, HasLeaf, same_shift, assigned}
 use Rattle.circuit_theory.specs.Sequence.{row_value, TakesInputs}
 use Rattle.circuit_theory.proofs.Inputs.{test_same}
 use Rattle.circuit_laws.proofs.Windows.{rows_length}
-use Rattle.event_laws.proofs.EventVariables.{tree_same}
+use Rattle.circuit_laws.proofs.event_laws.EventVariables.{tree_same}
 use Rattle.reset_laws.specs.Reset.{reset_rows, powers, start_at, power_of, TakesPower}
 use Rattle.reset_laws.proofs.ResetAgreement.{lt_true, lt_false}
 use Rattle.reset_laws.proofs.ResetWindows.{assigned_absent, powers_at, powers_length, powered_is_reset, reset_window_by, reset_rows-is}

@@ -11,7 +11,7 @@ use Rattle.circuit_theory.specs.EventFrames.{IsCareTree, frame_of}
 use Rattle.circuit_theory.proofs.Lists.{Contains-cases}
 use Rattle.circuit_theory.proofs.Inputs.{test_same, test_refl, same_name-sound}
 use Rattle.circuit_theory.proofs.Numbers.{same_name-refl}
-use Rattle.event_laws.proofs.EventVariables.{tree_same}
+use Rattle.circuit_laws.proofs.event_laws.EventVariables.{tree_same}
 use Rattle.assume_laws.specs.Sequences.{IsPairTreeUnder, IsUnshownFrameUnder, HaveDifferentEventsUnder}
 use Rattle.assume_laws.specs.Laws.{DifferencesAreShownUnder}
 use Rattle.assume_laws.proofs.Care.{tree_meets, place_tree}

@@ -1,4 +1,5 @@
 //! Comparison under an assumption on the inputs: the laws that hold of the runs that meet it.
 #![tactic(auto)]
 
+pub mod assume_shape;
 pub mod laws;

@@ -13,7 +13,7 @@ use Rattle.obligations.specs.pair_decide.declared.query.Query.{Query}
 use Rattle.unfold_places.specs.Reach.{Adds}
 use Rattle.unfold_places.proofs.Lists.{adds_at, adds_from, adds_length, pairs_map}
 use Rattle.assume_functions.proofs.signal_graph.Lists.{AllPairs-from_at}
-use Rattle.query_places.specs.Places.{place_of, ArePlacesOf, ComeInTurn}
+use Rattle.shift_variables.specs.query_places.Places.{place_of, ArePlacesOf, ComeInTurn}
 use Rattle.assume_places.specs.declared.gathered.QueryPlaces.{QueryPlaces}
 use Rattle.assume_places.specs.Gathered.{HasPlaces, IsRead, ArePlacesOfAll, IsAmong, place_at, AreOwn, AreGathered, IsOverUnder, IsLightUnder}
 

@@ -7,7 +7,7 @@ use Rattle.aig.specs.declared.node.Node.{Node}
 use Rattle.aig.specs.Graph.{IsGraph, Grows}
 use Rattle.unfold_places.specs.Reach.{Adds}
 use Rattle.unfold_places.specs.declared.signal_function.Unfolded.{Unfolded}
-use Rattle.query_places.proofs.shift_variables.Assignments.{take_next}
+use Rattle.shift_variables.proofs.Assignments.{take_next}
 use Rattle.assume_functions.specs.Functions.{IsAssumedAt}
 use Rattle.assume_functions.proofs.Assumed.{assumed_later}
 use Rattle.assume_places.specs.Placed.{ArePut}

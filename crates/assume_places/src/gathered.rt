@@ -8,8 +8,8 @@ ghost use Rattle.obligations.specs.Asked.{queries_of};
 ghost use Rattle.assume_places.specs.Gathered.{HasPlaces, AreGathered, IsAmong, place_at};
 
 use obligations::{Obligation, Query};
-use query_places::places_of;
 use sec_base::{Ids, MAX_WEIGHT, NoMemory, PlaceTable, Seq};
+use shift_variables::query_places::places_of;
 use std::alloc::Global;
 
 /// The places of the variables of queries: shifts or cycles.

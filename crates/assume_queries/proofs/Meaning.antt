@@ -17,9 +17,9 @@ use Rattle.unfold_places.specs.Growing.{IsNumberOf, TakesBits}
 use Rattle.unfold_places.proofs.Zips.{zip_left}
 use Rattle.shift_variables.specs.Variables.{variable_of, variables_of}
 use Rattle.shift_variables.proofs.Reading.{pair_is}
-use Rattle.assume_places.specs.query_places.Places.{place_of}
+use Rattle.shift_variables.specs.query_places.Places.{place_of}
 use Rattle.assume_laws.specs.Assume.{Assumption, IsAssumption, RowMeets, PlaceUnfolds}
-use Rattle.assume_shape.specs.Shape.{assumption_of}
+use Rattle.assume_laws.specs.assume_shape.Shape.{assumption_of}
 use Rattle.assume_places.proofs.assume_functions.Assumed.{assumed_meets}
 use Rattle.assume_places.specs.Gathered.{place_at, AreOwn}
 use Rattle.assume_places.specs.Placed.{ArePut}

@@ -17,7 +17,7 @@ use Rattle.unfold_places.proofs.Lists.{pairs_at}
 use Rattle.signal_graph.proofs.Lists.{AllPairs-from_at}
 use Rattle.shift_variables.specs.Variables.{variable_of}
 use Rattle.shift_variables.proofs.Reading.{pair_is}
-use Rattle.assume_places.specs.query_places.Places.{place_of, ComesFirst}
+use Rattle.shift_variables.specs.query_places.Places.{place_of, ComesFirst}
 use Rattle.assume_laws.proofs.Meeting.{leaf_at}
 use Rattle.assume_places.specs.assume_functions.Functions.{IsAssumedAt}
 use Rattle.assume_places.specs.Gathered.{place_at}

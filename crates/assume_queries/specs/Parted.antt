@@ -8,7 +8,7 @@ use Rattle.pair_decide.specs.declared.query.Query.{Query}
 use Rattle.unfold_places.specs.declared.signal_function.Unfolded.{Unfolded}
 use Rattle.assume_places.specs.obligations.declared.obligation.Obligation.{Obligation}
 use Rattle.assume_laws.specs.Assume.{IsAssumption}
-use Rattle.assume_shape.specs.Shape.{assumption_of}
+use Rattle.assume_laws.specs.assume_shape.Shape.{assumption_of}
 use Rattle.assume_places.specs.assume_functions.declared.own.OwnFunction.{OwnFunction}
 use Rattle.assume_places.specs.assume_functions.Functions.{IsOwnFunction}
 use Rattle.assume_places.specs.Gathered.{AreOwn}

@@ -8,7 +8,7 @@ ghost use Rattle.unfold_places.specs.Reach.{Adds};
 ghost use Rattle.pair_decide.specs.declared.query.Query.{Query};
 ghost use Rattle.assume_places.specs.obligations.Asked.{queries_of};
 ghost use Rattle.assume_laws.specs.Assume.{IsAssumption};
-ghost use Rattle.assume_shape.specs.Shape.{assumption_of};
+ghost use Rattle.assume_laws.specs.assume_shape.Shape.{assumption_of};
 ghost use Rattle.assume_places.specs.assume_functions.Functions.{IsOwnFunction};
 ghost use Rattle.assume_places.specs.Gathered.{AreOwn, IsOverUnder, IsLightUnder};
 ghost use Rattle.assume_queries.specs.declared.map.UnderError.TheVariants as under_error;

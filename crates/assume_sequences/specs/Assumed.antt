@@ -5,7 +5,7 @@ use Rattle.circuit_theory.specs.Sizes.{IsWeight}
 use Rattle.flat_net.specs.View.{NetView, circuit_of}
 use Rattle.assume_laws.specs.Assume.{IsAssumption}
 use Rattle.assume_laws.specs.Sequences.{IsMeetingRow}
-use Rattle.assume_shape.specs.Shape.{assumption_of}
+use Rattle.assume_laws.specs.assume_shape.Shape.{assumption_of}
 use Rattle.assume_functions.specs.Functions.{IsOwnFunction}
 use Rattle.assume_sequences.specs.Filled.{bit_of}
 use Rattle.assume_sequences.specs.declared.premise.Premise.{Premise}

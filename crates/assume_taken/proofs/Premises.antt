@@ -5,7 +5,7 @@ use Rattle.std.proofs.lemmas.List.Elements.{All-weaker}
 use Rattle.circuit_theory.specs.Sizes.{IsWeight}
 use Rattle.flat_net.specs.View.{NetView, circuit_of}
 use Rattle.assume_laws.specs.Assume.{Assumption}
-use Rattle.assume_shape.proofs.Shapes.{shapes_are_assumptions}
+use Rattle.assume_laws.proofs.assume_shape.Shapes.{shapes_are_assumptions}
 use Rattle.assume_sequences.specs.Filled.{bit_of}
 use Rattle.assume_sequences.specs.declared.premise.Premise.{Premise}
 use Rattle.assume_sequences.specs.Assumed.{IsAssumedBy, CanBeAssumed}

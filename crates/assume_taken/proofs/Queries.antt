@@ -25,7 +25,7 @@ use Rattle.assume_laws.specs.Assume.{PlaceUnfolds}
 use Rattle.assume_laws.specs.Sequences.{IsMeetingDifference, IsMeetingRow, assumption_query}
 use Rattle.assume_laws.proofs.Care.{unfolds_place}
 use Rattle.assume_laws.proofs.Filled.{below_count}
-use Rattle.assume_shape.specs.Shape.{assumption_of}
+use Rattle.assume_laws.specs.assume_shape.Shape.{assumption_of}
 use Rattle.assume_sequences.specs.assume_functions.declared.own.OwnFunction.{OwnFunction}
 use Rattle.assume_sequences.specs.assume_functions.Functions.{IsOwnFunction, HasNoLatch}
 use Rattle.assume_taken.specs.Meeting.{IsRowOf, meeting_query}

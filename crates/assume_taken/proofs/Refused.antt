@@ -6,7 +6,7 @@ use Rattle.sec_base.specs.declared.limits.TheConstants.{MAX_WEIGHT}
 use Rattle.flat_net.specs.View.{NetView, circuit_of}
 use Rattle.unfold_places.specs.declared.error.UnfoldError.{UnfoldError}
 use Rattle.unfold_places.specs.declared.error.UnfoldError.TheVariants as unfold_error
-use Rattle.assume_shape.specs.Shape.{HasShape}
+use Rattle.assume_laws.specs.assume_shape.Shape.{HasShape}
 use Rattle.assume_taken.specs.declared.error.TakeError.{TakeError}
 use Rattle.assume_taken.specs.Functions.{HasFunction}
 use Rattle.assume_taken.specs.Refusals.{refusal_of}

@@ -32,7 +32,7 @@ use Rattle.assume_laws.specs.Sequences.{IsMeetingRow}
 use Rattle.assume_laws.proofs.Care.{row_same, tree_meets, unfolds_place}
 use Rattle.assume_laws.proofs.Filled.{below_count}
 use Rattle.assume_laws.proofs.Meeting.{leaf_input, leaf_at}
-use Rattle.assume_shape.specs.Shape.{assumption_of}
+use Rattle.assume_laws.specs.assume_shape.Shape.{assumption_of}
 use Rattle.assume_sequences.specs.assume_functions.declared.own.OwnFunction.{OwnFunction}
 use Rattle.assume_sequences.specs.assume_functions.Functions.{IsOwnFunction, HasNoLatch}
 use Rattle.assume_taken.specs.Meeting.{IsRowOf, meeting_query}

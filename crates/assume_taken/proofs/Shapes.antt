@@ -10,7 +10,7 @@ use Rattle.flat_net.specs.declared.parts.Port.{Port}
 use Rattle.flat_net.specs.View.{NetView, ports_of}
 use Rattle.flat_net.proofs.Growth.{slice_get-append}
 use Rattle.flat_net.proofs.Nets.{some_at}
-use Rattle.assume_shape.specs.Shape.{HasShape}
+use Rattle.assume_laws.specs.assume_shape.Shape.{HasShape}
 
 -- a circuit that has the shape over some names has it over more
 pub shape_over : (c : NetView) (names more : List (List ℕ)) → HasShape c names → HasShape c (names ++ more)

@@ -10,7 +10,7 @@ use Rattle.pair_decide.specs.declared.query.Proof.{Proof}
 use Rattle.pair_decide.specs.declared.query.SameBy.{SameBy}
 use Rattle.assume_sequences.specs.shift_variables.Sequences.{bits_at}
 use Rattle.assume_laws.specs.Assume.{IsAssumption}
-use Rattle.assume_shape.proofs.Shapes.{shapes_are_assumptions}
+use Rattle.assume_laws.proofs.assume_shape.Shapes.{shapes_are_assumptions}
 use Rattle.assume_taken.specs.declared.meeting.Meeting.TheVariants as meeting
 use Rattle.assume_taken.specs.Meeting.{CanMeet, IsMeeting, meeting_query}
 use Rattle.assume_taken.specs.declared.taken.Function.{Function}

@@ -5,6 +5,6 @@ pub mod Premises
 pub mod Functions
 pub mod Meeting
 pub use Rattle.assume_sequences.specs as assume_sequences
-pub use Rattle.assume_shape.specs as assume_shape
+pub use Rattle.assume_laws.specs as assume_laws
 pub use Rattle.pair_decide.specs as pair_decide
 pub use Rattle.sec_setup.specs as sec_setup

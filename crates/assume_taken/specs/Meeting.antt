@@ -9,7 +9,7 @@ use Rattle.pair_decide.specs.Answers.{Decides, IsDifference}
 use Rattle.assume_sequences.specs.shift_variables.Sequences.{bits_at}
 use Rattle.assume_laws.specs.Assume.{IsAssumption, RowMeets}
 use Rattle.assume_laws.specs.Sequences.{IsMeetingRow}
-use Rattle.assume_shape.specs.Shape.{assumption_of}
+use Rattle.assume_laws.specs.assume_shape.Shape.{assumption_of}
 use Rattle.assume_sequences.specs.assume_functions.declared.own.OwnFunction.{OwnFunction}
 use Rattle.assume_sequences.specs.assume_functions.Functions.{HasNoLatch, IsOwnFunction}
 use Rattle.assume_taken.specs.declared.meeting.Meeting.{Meeting}

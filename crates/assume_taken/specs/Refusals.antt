@@ -1,7 +1,7 @@
 -- Refusals of what the taking of an assumption calls, as its own.
 use Rattle.unfold_places.specs.declared.error.UnfoldError.{UnfoldError}
 use Rattle.unfold_places.specs.declared.error.UnfoldError.TheVariants as unfold_error
-use Rattle.assume_shape.specs.declared.shape.ShapeFault.TheVariants as fault
+use Rattle.assume_laws.specs.declared.assume_shape.shape.ShapeFault.TheVariants as fault
 use Rattle.assume_taken.specs.declared.error.TakeError.{TakeError}
 use Rattle.assume_taken.specs.declared.error.TakeError.TheVariants as refused
 

@@ -9,9 +9,9 @@ use Rattle.pair_decide.specs.declared.query.Proof.{Proof}
 use Rattle.pair_decide.specs.declared.query.SameBy.{SameBy}
 use Rattle.pair_decide.specs.declared.query.Decision.TheVariants as decision
 use Rattle.assume_laws.specs.Assume.{Assumption, RowMeets}
-use Rattle.assume_shape.specs.declared.shape.ShapeFault.{ShapeFault}
-use Rattle.assume_shape.specs.declared.shape.ShapeFault.TheVariants as fault
-use Rattle.assume_shape.specs.Shape.{HasShape, IsShapeFault, assumption_of}
+use Rattle.assume_laws.specs.declared.assume_shape.shape.ShapeFault.{ShapeFault}
+use Rattle.assume_laws.specs.declared.assume_shape.shape.ShapeFault.TheVariants as fault
+use Rattle.assume_laws.specs.assume_shape.Shape.{HasShape, IsShapeFault, assumption_of}
 use Rattle.assume_taken.specs.Asked.{IsAnswered}
 
 -- A net as an assumption on inputs of these names: it has the shape, its inputs have the places of their names as numbers, and what its

@@ -1,6 +1,6 @@
 //! Why a circuit isn't taken as an assumption.
 
-use assume_shape::ShapeFault;
+use assume_laws::assume_shape::ShapeFault;
 use pair_decide::SameBy;
 use sec_base::NoMemory;
 use unfold_places::UnfoldError;

@@ -7,14 +7,14 @@ ghost use Rattle.flat_net.specs.Comparable.{IsComparable};
 ghost use Rattle.flat_net.specs.View.{circuit_of};
 ghost use Rattle.signal_graph.specs.Graph.{IsGraphIn};
 ghost use Rattle.signal_graph.specs.unfolding_weight.Weight.{Weighs};
-ghost use Rattle.assume_shape.specs.Shape.{HasShape};
+ghost use Rattle.assume_laws.specs.assume_shape.Shape.{HasShape};
 ghost use Rattle.assume_taken.specs.Functions.{HasFunction};
 ghost use Rattle.assume_taken.specs.Premises.{IsTaken};
 
 use crate::error::TakeError;
 use crate::meeting::{Meeting, meeting_row};
+use assume_laws::assume_shape::{ShapeFault, numbers_of, shape_fault};
 use assume_sequences::{OwnFunction, Premise, own_function};
-use assume_shape::{ShapeFault, numbers_of, shape_fault};
 use flat_net::{Net, Signal, Signals};
 use latch_graph::{LatchGraph, Weight};
 use pair_decide::Proof;

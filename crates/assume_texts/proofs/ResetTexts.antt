@@ -22,13 +22,13 @@ use Rattle.job_base.specs.Written.{outcome_proofs}
 use Rattle.job_base.proofs.Limits.{pair_proofs}
 use Rattle.sec_setup.specs.Pairs.{NamedPair, named_pairs}
 use Rattle.under_base.specs.outcome_fits.ResetOutcome.{Numbered, IsFirstLimit}
-use Rattle.under_base.proofs.plain_meaning.Fitted.{kept_proof}
+use Rattle.under_base.proofs.compare_base.Fitted.{kept_proof}
 use Rattle.swept_queries.proofs.Listed.{zip_left}
 use Rattle.assume_laws.specs.Assume.{Assumption}
 use Rattle.under_base.specs.Taken.{assumed_by}
-use Rattle.under_base.specs.Cycles.{IsUndecidedUnder}
-use Rattle.under_base.specs.ResetOutcome.{ResetVerdictFitsUnder, numbers_of}
-use Rattle.under_base.specs.ResetVerdict.{AgreeBeforeUnder, AnswerFitsUnder, PairFitsUnder}
+use Rattle.under_base.specs.under_fits.Cycles.{IsUndecidedUnder}
+use Rattle.under_base.specs.under_fits.ResetOutcome.{ResetVerdictFitsUnder, numbers_of}
+use Rattle.under_base.specs.under_fits.ResetVerdict.{AgreeBeforeUnder, AnswerFitsUnder, PairFitsUnder}
 use Rattle.under_base.specs.Compared.{IsComparedFromResetUnder}
 use Rattle.under_base.specs.Met.{shared_by}
 use Rattle.text_circuits.specs.sec_files.Loading.{Loads}

@@ -15,8 +15,8 @@ use Rattle.outcome.specs.declared.verdict.ResetWitness.{ResetWitness}
 use Rattle.assume_laws.specs.Assume.{RunMeets, AgreeFromResetUnder}
 use Rattle.assume_laws.specs.Sequences.{RowsMeet}
 use Rattle.under_base.specs.Taken.{IsAssumed, assumed_by}
-use Rattle.under_base.specs.Outcome.{AreEqualUnder}
-use Rattle.under_base.specs.ResetOutcome.{MakesResetsDifferUnder}
+use Rattle.under_base.specs.under_fits.Outcome.{AreEqualUnder}
+use Rattle.under_base.specs.under_fits.ResetOutcome.{MakesResetsDifferUnder}
 use Rattle.assume_texts.specs.Agreement.{AgreeFromResetWhereMet, AreEqualWhereMet, MakesResetsDifferWhereMet}
 use Rattle.assume_texts.specs.Meets.{RunMeetsCircuit, SequenceMeetsCircuit}
 

@@ -28,16 +28,16 @@ use Rattle.under_base.specs.outcome_fits.Outcome.{IsFirstLimit}
 use Rattle.assume_laws.specs.Assume.{Assumption}
 use Rattle.assume_laws.specs.Sequences.{RowsMeet}
 use Rattle.under_base.specs.Taken.{assumed_by}
-use Rattle.under_base.specs.Limits.{IsUndecidedUnder}
-use Rattle.under_base.specs.Pairs.{AnswerFitsUnder, PairFitsUnder}
-use Rattle.under_base.specs.Verdict.{VerdictFitsUnder}
+use Rattle.under_base.specs.under_fits.Limits.{IsUndecidedUnder}
+use Rattle.under_base.specs.under_fits.Pairs.{AnswerFitsUnder, PairFitsUnder}
+use Rattle.under_base.specs.under_fits.Verdict.{VerdictFitsUnder}
 use Rattle.under_base.specs.Compared.{IsComparedUnder}
 use Rattle.under_base.specs.Met.{shared_by}
 use Rattle.text_circuits.specs.sec_files.Loading.{Loads, circuit_of_text}
 use Rattle.text_circuits.proofs.sec_files.Texts.{spelled_circuit}
 use Rattle.text_circuits.proofs.Circuits.{text_design, texts_differ_by, texts_minimal, texts_cuts_differ}
 use Rattle.swept_queries.proofs.Listed.{zip_left}
-use Rattle.under_base.proofs.plain_meaning.Fitted.{no_names, some_names, were_exposed, kept_proof, next_among}
+use Rattle.under_base.proofs.compare_base.Fitted.{no_names, some_names, were_exposed, kept_proof, next_among}
 use Rattle.assume_texts.specs.Meets.{SequenceMeetsCircuit}
 use Rattle.assume_texts.specs.Texts.{ThreeCircuits, TextsAgreeUnder, TextsDifferUnder, TextsNotShownUnder, TextsUndecidedUnder}
 use Rattle.assume_texts.proofs.Designs.{equal_up, sequence_up}

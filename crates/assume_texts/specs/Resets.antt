@@ -14,9 +14,9 @@ use Rattle.outcome.specs.declared.verdict.Outcome.{Outcome}
 use Rattle.outcome.specs.Report.{report_text}
 use Rattle.sec_setup.specs.Pairs.{NamedPair, named_pairs}
 use Rattle.under_base.specs.Taken.{IsAssumed, assumed_by}
-use Rattle.under_base.specs.Cycles.{IsUndecidedUnder}
-use Rattle.under_base.specs.ResetOutcome.{numbers_of}
-use Rattle.under_base.specs.ResetVerdict.{AgreeBeforeUnder}
+use Rattle.under_base.specs.under_fits.Cycles.{IsUndecidedUnder}
+use Rattle.under_base.specs.under_fits.ResetOutcome.{numbers_of}
+use Rattle.under_base.specs.under_fits.ResetVerdict.{AgreeBeforeUnder}
 use Rattle.under_base.specs.Met.{shared_by}
 use Rattle.text_circuits.specs.sec_files.Loading.{Loads}
 use Rattle.assume_texts.specs.Agreement.{AgreeFromResetWhereMet, MakesResetsDifferWhereMet}

@@ -20,7 +20,7 @@ use Rattle.sec_setup.specs.Pairs.{NamedPair, named_pairs}
 use Rattle.sec_setup.specs.Cuts.{IsChoice, AreCutAt, columns_of}
 use Rattle.under_base.specs.compare_base.Says.{SaysDifferent, SaysNotShown}
 use Rattle.under_base.specs.Taken.{IsAssumed, IsUndecidedBy, assumed_by}
-use Rattle.under_base.specs.Limits.{IsUndecidedUnder}
+use Rattle.under_base.specs.under_fits.Limits.{IsUndecidedUnder}
 use Rattle.under_base.specs.Met.{shared_by}
 use Rattle.text_circuits.specs.sec_files.Loading.{Loads, SpellsCircuit}
 use Rattle.assume_texts.specs.Agreement.{AreEqualWhereMet}

@@ -9,7 +9,7 @@ ghost use Rattle.block_outputs.specs.Answers.{IsAnswer};
 
 use aig::{Aig, Lit};
 use block_graph::{BlockGraph, BlockNets, Comparison, NetSignal};
-use cone_values::value_in_cone;
+use class_separations::cone_values::value_in_cone;
 use pair_decide::{Decision, Proof};
 use sec_base::{Bits, Ids, MAX_CONFLICTS, NoMemory};
 use std::alloc::Global;

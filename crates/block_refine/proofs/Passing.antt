@@ -11,7 +11,7 @@ use Rattle.flat_net.specs.View.{NetView, circuit_of}
 use Rattle.flat_net.specs.Sound.{IsSound}
 use Rattle.flat_net.proofs.Nets.{some_at}
 use Rattle.pair_decide.specs.declared.query.Proof.{Proof}
-use Rattle.induct_laws.proofs.Partitions.{constant_on_finer}
+use Rattle.reset_laws.proofs.induct_laws.Partitions.{constant_on_finer}
 use Rattle.latch_blocks.specs.Blocks.{block_at, bit_at, IsSplit}
 use Rattle.latch_blocks.specs.Laws.{pairs_alike}
 use Rattle.latch_blocks.specs.Partitions.{block_of, starts_of, nexts_of}

@@ -16,8 +16,8 @@ use Rattle.lrat_core.specs.States.{State, start}
 use Rattle.lrat_core.specs.Sequences.{LinesGive, Accepted}
 use Rattle.lrat_core.specs.Logs as log
 use Rattle.lrat_core.proofs.Hinted.{logs_are_accepted}
-use Rattle.lrat_text.specs.Verdicts.{TextGives, IsTextVerdict}
-use Rattle.lrat_text.specs.Spellings.{Spells, spelling_of}
+use Rattle.lrat_core.specs.lrat_text.Verdicts.{TextGives, IsTextVerdict}
+use Rattle.lrat_core.specs.lrat_text.Spellings.{Spells, spelling_of}
 use Rattle.certificate_writer.specs.Texts.{line_text, IsAcceptedOver}
 use Rattle.certificate_writer.proofs.Ranges.{IsWritable, lines_writable}
 use Rattle.certificate_writer.proofs.Spelled.{addition_line, addition_lined, addition_spelled, addition_plain}

@@ -17,7 +17,7 @@ use Rattle.dimacs_text.proofs.dimacs_writer.Numerals.{at_most, some_digits, soli
 use Rattle.lrat_core.specs.Lines.{Addition, Line, Adds, Deletes}
 use Rattle.lrat_core.specs.declared.hints.Hint.{Hint}
 use Rattle.lrat_core.specs.declared.hints.Hint.TheVariants.{Clause, Negative}
-use Rattle.lrat_text.specs.Spellings.{Nothing, Malformed, Spells, hint_of, id_of, is_ended, is_addition, addition_of, deletion_of, has_d, without_second, in_numbers, spelling_by, spelling_of}
+use Rattle.lrat_core.specs.lrat_text.Spellings.{Nothing, Malformed, Spells, hint_of, id_of, is_ended, is_addition, addition_of, deletion_of, has_d, without_second, in_numbers, spelling_by, spelling_of}
 use Rattle.certificate_writer.specs.Texts.{number_piece, hint_piece, addition_text}
 use Rattle.certificate_writer.specs.Hinting.{IsWithin}
 use Rattle.certificate_writer.proofs.Ranges.{IsNumbered}

@@ -14,7 +14,7 @@ use Rattle.lrat_core.specs.Logs.{lines_of}
 use Rattle.lrat_core.specs.Sequences.{Accepted}
 use Rattle.lrat_core.specs.declared.hints.Hint.{Hint}
 use Rattle.lrat_core.specs.declared.hints.Hint.TheVariants.{Clause, Negative}
-use Rattle.lrat_text.specs.Verdicts.{IsTextVerdict}
+use Rattle.lrat_core.specs.lrat_text.Verdicts.{IsTextVerdict}
 
 -- the number of a clause, and a blank
 abbrev pub number_piece : ℕ → List ℕ

@@ -8,22 +8,22 @@ use Rattle.sec_base.specs.Outside.{Rose, SameHeld, NoneFell}
 use Rattle.sec_base.specs.declared.settings.Settings.{Settings}
 use Rattle.flat_net.specs.View.{NetView}
 use Rattle.pair_decide.specs.declared.query.SameBy.{SameBy}
-use Rattle.assume_shape.specs.declared.shape.ShapeFault.{ShapeFault}
+use Rattle.assume_laws.specs.declared.assume_shape.shape.ShapeFault.{ShapeFault}
 use Rattle.outcome.specs.declared.verdict.Outcome.{Outcome}
-use Rattle.job_files.specs.job_base.declared.finding.File.TheVariants as file
-use Rattle.job_files.specs.job_base.declared.finding.Finding.{Finding}
-use Rattle.job_files.specs.job_base.declared.finding.Stop.{Stop}
-use Rattle.job_files.specs.job_base.declared.finding.Stop.TheVariants as stop
-use Rattle.event_meaning_under.specs.CompareError.{CompareError}
-use Rattle.event_meaning_under.specs.CompareError.TheVariants as compare_error
-use Rattle.event_meaning_under.specs.Compared.{ComparedIn}
-use Rattle.event_meaning_under.specs.Answered.{ComparedUnderIn}
-use Rattle.job_files.specs.sec_files.declared.loader.LoadError.{LoadError}
-use Rattle.job_files.specs.sec_files.Loading.{Loads, LoadFails, IsTooLong, HasFault, HasDesignFault, HasRecordFault}
-use Rattle.job_files.specs.Ends.{load_end}
-use Rattle.job_files.specs.Reading.{IsLoaded, Held, ReadFailed}
-use Rattle.job_files.proofs.Loading.{load_ends, later_fails}
-use Rattle.job_files.proofs.Reading.{first_failed, second_failed, is_loaded}
+use Rattle.sec_files.specs.job_files.job_base.declared.finding.File.TheVariants as file
+use Rattle.sec_files.specs.job_files.job_base.declared.finding.Finding.{Finding}
+use Rattle.sec_files.specs.job_files.job_base.declared.finding.Stop.{Stop}
+use Rattle.sec_files.specs.job_files.job_base.declared.finding.Stop.TheVariants as stop
+use Rattle.event_meaning.specs.event_meaning_under.CompareError.{CompareError}
+use Rattle.event_meaning.specs.event_meaning_under.CompareError.TheVariants as compare_error
+use Rattle.event_meaning.specs.Compared.{ComparedIn}
+use Rattle.event_meaning.specs.event_meaning_under.Answered.{ComparedUnderIn}
+use Rattle.sec_files.specs.declared.loader.LoadError.{LoadError}
+use Rattle.sec_files.specs.Loading.{Loads, LoadFails, IsTooLong, HasFault, HasDesignFault, HasRecordFault}
+use Rattle.sec_files.specs.job_files.Ends.{load_end}
+use Rattle.sec_files.specs.job_files.Reading.{IsLoaded, Held, ReadFailed}
+use Rattle.sec_files.proofs.job_files.Loading.{load_ends, later_fails}
+use Rattle.sec_files.proofs.job_files.Reading.{first_failed, second_failed, is_loaded}
 use Rattle.check_found.specs.Check.{Check, all_paths}
 use Rattle.check_found.specs.Found.{OfFile, IsAnsweredBy, IsAnsweredUnder, IsFoundOf}
 use Rattle.check_found.specs.Ends.{compare_end, EndsBeside, EndsBoth, FoundOf}

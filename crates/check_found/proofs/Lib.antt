@@ -1,2 +1,2 @@
 pub mod Finds
-pub use Rattle.job_files.proofs as job_files
+pub use Rattle.sec_files.proofs as sec_files

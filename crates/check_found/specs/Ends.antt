@@ -4,21 +4,21 @@ use Rattle.sec_base.specs.Outside.{Rose}
 use Rattle.sec_base.specs.declared.settings.Settings.{Settings}
 use Rattle.flat_net.specs.View.{NetView}
 use Rattle.outcome.specs.declared.verdict.Outcome.{Outcome}
-use Rattle.job_files.specs.job_base.Ends.{EndsBy}
-use Rattle.job_files.specs.job_base.declared.finding.File.TheVariants as file
-use Rattle.job_files.specs.job_base.declared.finding.Refusal.TheVariants as refusal
-use Rattle.job_files.specs.job_base.declared.finding.Finding.{Finding}
-use Rattle.job_files.specs.job_base.declared.finding.Finding.TheVariants as finding
-use Rattle.job_files.specs.job_base.declared.finding.Stop.{Stop}
-use Rattle.job_files.specs.job_base.declared.finding.Stop.TheVariants as stop
-use Rattle.event_meaning_under.specs.CompareError.{CompareError}
-use Rattle.event_meaning_under.specs.CompareError.TheVariants as compare_error
-use Rattle.event_meaning_under.specs.Compared.{ComparedIn}
-use Rattle.event_meaning_under.specs.Answered.{ComparedUnderIn}
-use Rattle.job_files.specs.sec_files.Loading.{Loads, LoadFails}
-use Rattle.job_files.specs.sec_files.declared.loader.LoadError.{LoadError}
-use Rattle.job_files.specs.Ends.{load_end}
-use Rattle.job_files.specs.Reading.{Held, ReadFailed}
+use Rattle.sec_files.specs.job_files.job_base.Ends.{EndsBy}
+use Rattle.sec_files.specs.job_files.job_base.declared.finding.File.TheVariants as file
+use Rattle.sec_files.specs.job_files.job_base.declared.finding.Refusal.TheVariants as refusal
+use Rattle.sec_files.specs.job_files.job_base.declared.finding.Finding.{Finding}
+use Rattle.sec_files.specs.job_files.job_base.declared.finding.Finding.TheVariants as finding
+use Rattle.sec_files.specs.job_files.job_base.declared.finding.Stop.{Stop}
+use Rattle.sec_files.specs.job_files.job_base.declared.finding.Stop.TheVariants as stop
+use Rattle.event_meaning.specs.event_meaning_under.CompareError.{CompareError}
+use Rattle.event_meaning.specs.event_meaning_under.CompareError.TheVariants as compare_error
+use Rattle.event_meaning.specs.Compared.{ComparedIn}
+use Rattle.event_meaning.specs.event_meaning_under.Answered.{ComparedUnderIn}
+use Rattle.sec_files.specs.Loading.{Loads, LoadFails}
+use Rattle.sec_files.specs.declared.loader.LoadError.{LoadError}
+use Rattle.sec_files.specs.job_files.Ends.{load_end}
+use Rattle.sec_files.specs.job_files.Reading.{Held, ReadFailed}
 use Rattle.check_found.specs.Check.{Check, check_paths}
 use Rattle.check_found.specs.Found.{IsFoundOf}
 

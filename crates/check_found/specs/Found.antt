@@ -3,19 +3,19 @@ use Rattle.std.specs.Prelude.{◌≡◌, ℕ, List, Option, Some, None, Result, 
 use Rattle.flat_net.specs.View.{NetView}
 use Rattle.pair_decide.specs.declared.query.SameBy.{SameBy}
 use Rattle.outcome.specs.declared.verdict.Outcome.{Outcome}
-use Rattle.job_files.specs.job_base.declared.finding.File.{File}
-use Rattle.job_files.specs.job_base.declared.finding.File.TheVariants as file
-use Rattle.job_files.specs.job_base.declared.finding.LineFault.TheVariants as line_fault
-use Rattle.job_files.specs.job_base.declared.finding.Refusal.{Refusal}
-use Rattle.job_files.specs.job_base.declared.finding.Refusal.TheVariants as refusal
-use Rattle.job_files.specs.job_base.declared.finding.Finding.{Finding}
-use Rattle.job_files.specs.job_base.declared.finding.Finding.TheVariants as finding
-use Rattle.event_meaning_under.specs.CompareError.{CompareError}
-use Rattle.event_meaning_under.specs.CompareError.TheVariants as compare_error
-use Rattle.event_meaning_under.specs.Compared.{ComparedIn}
-use Rattle.event_meaning_under.specs.Answered.{ComparedUnderIn}
-use Rattle.job_files.specs.sec_files.Loading.{Loads, IsTooLong, HasFault, HasDesignFault, HasRecordFault}
-use Rattle.job_files.specs.Reading.{Held}
+use Rattle.sec_files.specs.job_files.job_base.declared.finding.File.{File}
+use Rattle.sec_files.specs.job_files.job_base.declared.finding.File.TheVariants as file
+use Rattle.sec_files.specs.job_files.job_base.declared.finding.LineFault.TheVariants as line_fault
+use Rattle.sec_files.specs.job_files.job_base.declared.finding.Refusal.{Refusal}
+use Rattle.sec_files.specs.job_files.job_base.declared.finding.Refusal.TheVariants as refusal
+use Rattle.sec_files.specs.job_files.job_base.declared.finding.Finding.{Finding}
+use Rattle.sec_files.specs.job_files.job_base.declared.finding.Finding.TheVariants as finding
+use Rattle.event_meaning.specs.event_meaning_under.CompareError.{CompareError}
+use Rattle.event_meaning.specs.event_meaning_under.CompareError.TheVariants as compare_error
+use Rattle.event_meaning.specs.Compared.{ComparedIn}
+use Rattle.event_meaning.specs.event_meaning_under.Answered.{ComparedUnderIn}
+use Rattle.sec_files.specs.Loading.{Loads, IsTooLong, HasFault, HasDesignFault, HasRecordFault}
+use Rattle.sec_files.specs.job_files.Reading.{Held}
 use Rattle.check_found.specs.Check.{Check}
 
 -- what is said of the two texts that are compared, where both are told

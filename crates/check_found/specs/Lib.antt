@@ -1,7 +1,7 @@
-pub use Rattle.event_meaning_under.specs.Compared
-pub use Rattle.event_meaning_under.specs.Answered
+pub use Rattle.event_meaning.specs.Compared
+pub use Rattle.event_meaning.specs.event_meaning_under.Answered
 pub mod Check
 pub mod Found
 pub mod Ends
-pub use Rattle.job_files.specs as job_files
-pub use Rattle.job_files.specs.job_base
+pub use Rattle.sec_files.specs as sec_files
+pub use Rattle.sec_files.specs.job_files.job_base

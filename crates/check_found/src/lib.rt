@@ -2,4 +2,4 @@
 //! is done by `job_check`, and what its findings mean stands in `check_meaning`.
 #![tactic(auto)]
 
-pub use job_files::{File, Finding, Refusal, Stop, load, load_end};
+pub use sec_files::job_files::{File, Finding, Refusal, Stop, load, load_end};

@@ -17,12 +17,12 @@ use Rattle.check_found.specs.job_base.declared.finding.Refusal.TheVariants as re
 use Rattle.check_found.specs.job_base.declared.finding.Finding.{Finding}
 use Rattle.check_found.specs.job_base.declared.finding.Finding.TheVariants as finding
 use Rattle.check_found.specs.job_base.Written.{verdict_status, status_of}
-use Rattle.cut_points.specs.Common.{common_names}
+use Rattle.sec_setup.specs.cut_points.Common.{common_names}
 use Rattle.sec_setup.specs.Cycles.{AreBroken}
 use Rattle.sec_files.specs.Loading.{IsAccepted, Loads, IsTooLong, HasFault, HasDesignFault, HasRecordFault}
-use Rattle.check_found.specs.job_files.Reading.{Held}
-use Rattle.check_found.proofs.job_files.Accepted.{is_short, has_no_fault, is_sound, has_good_records}
-use Rattle.check_found.proofs.job_files.Reading.{some_and, if_told}
+use Rattle.sec_files.specs.job_files.Reading.{Held}
+use Rattle.sec_files.proofs.job_files.Accepted.{is_short, has_no_fault, is_sound, has_good_records}
+use Rattle.sec_files.proofs.job_files.Reading.{some_and, if_told}
 use Rattle.check_found.specs.Check.{Check}
 use Rattle.check_found.specs.Found.{OfTexts, OfThree, OfGiven, OfNets, OfThreeNets, IsAnsweredBy, IsAnsweredUnder, IsRefusal, IsFoundOf}
 use Rattle.check_meaning.specs.Answer.{AreComparableIn, AreComparableUnder, CanAnswerWith, IsAnswer, IsCheckComplete}
@@ -35,8 +35,8 @@ use Rattle.check_texts.specs.CompareError.{CompareError}
 use Rattle.check_texts.specs.CompareError.TheVariants as compare_error
 use Rattle.check_texts.specs.Compared.{Compared}
 use Rattle.check_texts.proofs.ToldCycles.{is_not_free}
-use Rattle.cut_points.specs.Exposed.{IsFreeWithout, IsToldCycle}
-use Rattle.cut_points.proofs.expose_pick.Cuts.{round_cycle}
+use Rattle.sec_setup.specs.cut_points.Exposed.{IsFreeWithout, IsToldCycle}
+use Rattle.sec_setup.proofs.cut_points.expose_pick.Cuts.{round_cycle}
 
 -- the text of the assumption is told, where there is one
 abbrev IsThirdTold : Held → Option (List ℕ) → Type 0

@@ -28,7 +28,7 @@ use Rattle.check_found.specs.Answered.{ComparedUnderIn}
 use Rattle.sec_files.specs.Loading.{Loads}
 use Rattle.event_texts_under.specs.Answers.{EqualUnderIn, DifferentUnderIn, NotShownUnderIn, LimitUnderIn}
 use Rattle.event_texts_under.proofs.Answers.{equal_under_in, different_under_in, not_shown_under_in, limit_under_in}
-use Rattle.check_found.specs.job_files.Reading.{Held}
+use Rattle.sec_files.specs.job_files.Reading.{Held}
 use Rattle.check_found.specs.Check.{Check}
 use Rattle.check_meaning.specs.Answer.{CheckMeans, InForm}
 use Rattle.event_texts.specs.Texts.{EventTextsAgree, EventTextsDiffer, EventTextsNotShown, EventTextsUndecided}

@@ -6,14 +6,14 @@ use Rattle.sec_base.specs.declared.settings.Settings.{Settings}
 use Rattle.flat_net.specs.View.{NetView}
 use Rattle.pair_decide.specs.declared.query.Proof.{Proof}
 use Rattle.pair_decide.specs.declared.query.SameBy.{SameBy}
-use Rattle.assume_shape.specs.declared.shape.ShapeFault.{ShapeFault}
+use Rattle.assume_laws.specs.declared.assume_shape.shape.ShapeFault.{ShapeFault}
 use Rattle.check_found.specs.job_base.declared.status.StatusName.{StatusName}
 use Rattle.check_found.specs.job_base.declared.status.StatusName.TheVariants as status
 use Rattle.check_texts.specs.CompareError.TheVariants as compare_error
 use Rattle.check_texts.specs.Compared.{ByReset}
 use Rattle.event_texts_under.specs.Answered.{ComparedUnderIn}
 use Rattle.sec_files.specs.Loading.{IsAccepted, Loads}
-use Rattle.check_found.specs.job_files.Reading.{Held}
+use Rattle.sec_files.specs.job_files.Reading.{Held}
 use Rattle.check_texts.specs.Resets.{ResetsAgree, ResetsDiffer, ResetsUndecided}
 use Rattle.check_texts.specs.Texts.{AreComparable, TextsAgree, TextsDiffer, TextsNotShown, TextsUndecided}
 use Rattle.event_texts.specs.Texts.{AreEventComparable, EventTextsAgree, EventTextsDiffer, EventTextsNotShown, EventTextsUndecided}

@@ -5,12 +5,12 @@ use Rattle.circuit_theory.specs.Depth.{HasCycle}
 use Rattle.circuit_theory.specs.Run.{NoneEnabled}
 use Rattle.blif_read.specs.declared.design.BlifModel.{BlifModel}
 use Rattle.flat_net.specs.View.{NetView, circuit_of}
-use Rattle.cut_points.specs.Common.{common_names}
+use Rattle.sec_setup.specs.cut_points.Common.{common_names}
 use Rattle.check_texts.specs.Texts.{AreComparable}
 use Rattle.sec_setup.specs.Cycles.{AreBroken}
-use Rattle.compare_base.specs.Compared.{AreTooLarge}
+use Rattle.under_base.specs.compare_base.Compared.{AreTooLarge}
 use Rattle.sec_setup.specs.Cuts.{IsChoice}
-use Rattle.compare_base.specs.outcome_fits.Fitting.{IsCutOver}
+use Rattle.under_base.specs.compare_base.Fitting.{IsCutOver}
 use Rattle.text_circuits.specs.sec_files.Loading.{IsAccepted, Loads}
 use Rattle.design_rows.specs.Small.{Small, IsSmall}
 use Rattle.design_rows.proofs.Spelling.{Spells, accepted, net_is_small, PortsMatch, match}

@@ -1,5 +1,5 @@
-pub use Rattle.compare_base.proofs.Forms
-pub use Rattle.compare_base.proofs.ToldCycles
+pub use Rattle.under_base.proofs.compare_base.Forms
+pub use Rattle.under_base.proofs.compare_base.ToldCycles
 pub mod ResetDesigns
 pub mod ResetTexts
 pub mod Texts

@@ -5,7 +5,7 @@ use Rattle.text_circuits.proofs.design_laws.FlatParts.{FlatDesign, output_up}
 use Rattle.text_circuits.proofs.Powers.{begins_up, net_latches_long, side_shown}
 use Rattle.text_circuits.proofs.Resets.{nets_alike, outputs_equal}
 use Rattle.outcome.specs.declared.verdict.ResetWitness.{ResetWitness}
-use Rattle.compare_base.specs.Says.{MakesResetsDiffer}
+use Rattle.under_base.specs.compare_base.Says.{MakesResetsDiffer}
 
 module _ {P Q : Type 0} {a : Circuit P} {b : Circuit Q} {na nb : Circuit ℕ} {clocked_a : P → Type 0} {clocked_b : Q → Type 0} (f : FlatDesign a na clocked_a) (g : FlatDesign b nb clocked_b) where
   -- what a sequence and power-ups show of the nets they show of their designs

@@ -22,17 +22,17 @@ use Rattle.outcome.specs.Report.{report_text}
 use Rattle.job_base.specs.Written.{outcome_proofs}
 use Rattle.job_base.proofs.Limits.{pair_proofs}
 use Rattle.sec_setup.specs.Pairs.{NamedPair, named_pairs}
-use Rattle.compare_base.specs.ResetLimits.{IsUndecidedAt}
-use Rattle.compare_base.specs.ResetOutcome.{Numbered, AgreeBefore, AnswerFits, PairFits, IsFirstLimit}
-use Rattle.compare_base.specs.Compared.{IsComparedFromReset}
-use Rattle.compare_base.specs.FromReset.{numbered_by, ResetVerdictFits}
+use Rattle.under_base.specs.compare_base.ResetLimits.{IsUndecidedAt}
+use Rattle.under_base.specs.compare_base.ResetOutcome.{Numbered, AgreeBefore, AnswerFits, PairFits, IsFirstLimit}
+use Rattle.under_base.specs.compare_base.Compared.{IsComparedFromReset}
+use Rattle.under_base.specs.compare_base.FromReset.{numbered_by, ResetVerdictFits}
 use Rattle.text_circuits.specs.sec_files.Loading.{Loads, circuit_of_text}
 use Rattle.text_circuits.proofs.sec_files.Texts.{spelled_circuit}
 use Rattle.text_circuits.proofs.Circuits.{text_design}
 use Rattle.text_circuits.proofs.Resets.{resets_agree_up}
 use Rattle.check_texts.specs.Resets.{ResetsAgree, ResetsDiffer, ResetsUndecided}
 use Rattle.swept_queries.proofs.Listed.{zip_left}
-use Rattle.compare_base.proofs.Fitted.{kept_proof}
+use Rattle.under_base.proofs.compare_base.Fitted.{kept_proof}
 use Rattle.check_texts.proofs.ResetDesigns.{resets_differ_up}
 
 -- a pair at the limit has a proof that its query in some cycle was given up

@@ -21,14 +21,14 @@ use Rattle.job_base.specs.Written.{outcome_proofs}
 use Rattle.job_base.proofs.Limits.{pair_proofs}
 use Rattle.sec_setup.specs.Pairs.{NamedPair, named_pairs}
 use Rattle.sec_setup.specs.Cuts.{columns_of, is_cut}
-use Rattle.compare_base.specs.Outcome.{PairFits, VerdictFits, IsFirstLimit}
-use Rattle.compare_base.specs.Compared.{IsCompared}
+use Rattle.under_base.specs.compare_base.Outcome.{PairFits, VerdictFits, IsFirstLimit}
+use Rattle.under_base.specs.compare_base.Compared.{IsCompared}
 use Rattle.text_circuits.specs.sec_files.Loading.{Loads, circuit_of_text}
 use Rattle.text_circuits.proofs.sec_files.Texts.{spelled_circuit}
 use Rattle.text_circuits.proofs.Circuits.{texts_agree_by, texts_agree_from, texts_differ_by, texts_minimal, texts_onward, texts_cuts_differ}
 use Rattle.check_texts.specs.Texts.{TextsAgree, TextsDiffer, TextsNotShown, TextsUndecided}
 use Rattle.swept_queries.proofs.Listed.{zip_left}
-use Rattle.compare_base.proofs.Fitted.{uncut_answer, cut_answer, limit_answer, no_names, some_names, were_exposed, kept_proof, next_among}
+use Rattle.under_base.proofs.compare_base.Fitted.{uncut_answer, cut_answer, limit_answer, no_names, some_names, were_exposed, kept_proof, next_among}
 
 module _ (before now : Option (List ℕ)) (settings : Settings) (o : Outcome) (taken : Takes before now (report_text settings o)) (x y : List ℕ) (a b : NetView) (left : Loads x a) (right : Loads y b)
     (compared : IsCompared a b settings o) where

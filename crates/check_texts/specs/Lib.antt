@@ -1,4 +1,4 @@
-pub use Rattle.compare_base.specs.Compared
-pub use Rattle.compare_base.specs.declared.error.CompareError
+pub use Rattle.under_base.specs.compare_base.Compared
+pub use Rattle.under_base.specs.declared.compare_base.error.CompareError
 pub mod Resets
 pub mod Texts

@@ -15,10 +15,10 @@ use Rattle.outcome.specs.declared.verdict.Verdict.TheVariants as verdict
 use Rattle.outcome.specs.declared.verdict.Outcome.{Outcome}
 use Rattle.outcome.specs.Report.{report_text}
 use Rattle.sec_setup.specs.Pairs.{NamedPair, named_pairs}
-use Rattle.compare_base.specs.ResetLimits.{IsUndecidedAt}
-use Rattle.compare_base.specs.ResetOutcome.{AgreeBefore}
-use Rattle.compare_base.specs.FromReset.{numbered_by}
-use Rattle.compare_base.specs.Says.{MakesResetsDiffer}
+use Rattle.under_base.specs.compare_base.ResetLimits.{IsUndecidedAt}
+use Rattle.under_base.specs.compare_base.ResetOutcome.{AgreeBefore}
+use Rattle.under_base.specs.compare_base.FromReset.{numbered_by}
+use Rattle.under_base.specs.compare_base.Says.{MakesResetsDiffer}
 use Rattle.text_circuits.specs.sec_files.Loading.{Loads, SpellsCircuit}
 
 -- In any two runs of the circuits that the two texts spell that begin with the initial values and have equal inputs, each output is

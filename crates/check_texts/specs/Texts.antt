@@ -21,10 +21,10 @@ use Rattle.sec_setup.specs.Pairs.{NamedPair, named_pairs}
 use Rattle.sec_setup.specs.Matching.{InterfacesMatch}
 use Rattle.sec_setup.specs.Cycles.{AreBroken}
 use Rattle.sec_setup.specs.Cuts.{IsChoice, AreCutAt, columns_of}
-use Rattle.compare_base.specs.Limits.{IsUndecided}
-use Rattle.compare_base.specs.Says.{SaysEqual, SaysDifferent, SaysNotShown}
-use Rattle.compare_base.specs.Compared.{AreTooLarge, ByReset}
-use Rattle.compare_base.specs.FromReset.{AreTooLargeFromReset}
+use Rattle.under_base.specs.compare_base.Limits.{IsUndecided}
+use Rattle.under_base.specs.compare_base.Says.{SaysEqual, SaysDifferent, SaysNotShown}
+use Rattle.under_base.specs.compare_base.Compared.{AreTooLarge, ByReset}
+use Rattle.under_base.specs.compare_base.FromReset.{AreTooLargeFromReset}
 use Rattle.text_circuits.specs.sec_files.Loading.{IsAccepted, Loads, SpellsCircuit}
 
 -- The circuits that the two texts spell agree, and agree onward over the exposed latches that are printed, which are a minimal cut of

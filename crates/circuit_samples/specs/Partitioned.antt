@@ -8,8 +8,8 @@ use Rattle.circuit_theory.specs.Query.{IsSame}
 use Rattle.circuit_theory.specs.Joined.{Either, Left, Right, joined}
 use Rattle.circuit_theory.specs.Blocks.{IsConstantOn}
 use Rattle.reset_laws.specs.Reset.{AreAlikeFromReset}
-use Rattle.induct_laws.specs.Partitions.{IsSplitBy}
-use Rattle.induct_laws.specs.Queries.{BlockUnfolds, block_query}
+use Rattle.reset_laws.specs.induct_laws.Partitions.{IsSplitBy}
+use Rattle.reset_laws.specs.induct_laws.Queries.{BlockUnfolds, block_query}
 
 abbrev pub complement : Cover
 complement = record { width = 1; rows = codes "0" ∷ []; on = true }

@@ -3,4 +3,5 @@
 
 pub mod assumptions;
 pub mod cells;
+pub mod event_samples;
 pub mod partitions;

@@ -3,8 +3,8 @@ use Rattle.std.proofs.Common.{◌≡◌, ℕ, zero, suc, List, [], slice_get, So
 use Rattle.std.proofs.lemmas.List.Elements.{All-nil}
 use Rattle.event_classes.specs.event_nodes.View.{EventCircuitView}
 use Rattle.event_classes.specs.event_nodes.Visited.{CounterView, HasCounted, IsVisitedPair}
-use Rattle.pair_events.specs.Counted.{HaveCounted}
-use Rattle.pair_events.specs.View.{EventsView}
+use Rattle.event_agreement.specs.pair_events.Counted.{HaveCounted}
+use Rattle.event_agreement.specs.pair_events.View.{EventsView}
 use Rattle.class_events.specs.Laws.{CountingBegins}
 
 none_counted : (e : EventCircuitView) (children : List (ℕ × ℕ)) (c : CounterView) → c ≡ record { places = []; weight = 0 } → HasCounted e children [] c

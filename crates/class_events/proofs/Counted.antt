@@ -12,14 +12,14 @@ use Rattle.flat_net.specs.View.{circuit_of}
 use Rattle.flat_net.proofs.Nets.{sound_is_net}
 use Rattle.event_classes.specs.event_nodes.Nodes.{path_of}
 use Rattle.event_classes.specs.event_nodes.View.{EventCircuitView, side_of}
-use Rattle.pair_events.specs.Enables.{both_of, class_map}
+use Rattle.event_agreement.specs.pair_events.Enables.{both_of, class_map}
 use Rattle.event_classes.proofs.class_extension.Sides.{sides_reach_nodes_in_nets}
 use Rattle.event_classes.specs.Totals.{AreWithin}
 use Rattle.event_classes.specs.Totals as totals
 use Rattle.event_classes.proofs.Nodes.{node_more}
 use Rattle.event_classes.specs.declared.map.ClassMap.{ClassMap}
 use Rattle.event_classes.specs.Map.{IsClassMapOf, places_in, taken_of}
-use Rattle.pair_events.specs.Counted.{HaveCounted, both_starts, moved_start}
+use Rattle.event_agreement.specs.pair_events.Counted.{HaveCounted, both_starts, moved_start}
 use Rattle.class_events.specs.Made.{events_in, AreEnablesCounted}
 
 starts_counted : (m : ClassMap) → IsSound m.left.net → IsSound m.right.net → (h : totals.HaveCounted m.left m.right m.events.children (taken_of m) m.left_count m.right_count) → HaveCounted (events_in m) h.lefts h.rights

@@ -1,10 +1,10 @@
-pub use Rattle.pair_events.proofs.Starts
-pub use Rattle.pair_events.proofs.Counting
+pub use Rattle.event_agreement.proofs.pair_events.Starts
+pub use Rattle.event_agreement.proofs.pair_events.Counting
 pub mod Made
 pub mod Begin
 pub mod Counted
 pub mod Pairs
 pub mod Telling
 pub mod Refused
-pub use Rattle.pair_events.proofs.Unions
-pub use Rattle.pair_events.proofs as pair_events
+pub use Rattle.event_agreement.proofs.event_pairs.Unions
+pub use Rattle.event_agreement.proofs as event_agreement

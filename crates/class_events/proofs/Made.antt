@@ -5,10 +5,10 @@ use Rattle.circuit_theory.specs.Classes.{classes_of}
 use Rattle.flat_net.specs.View.{NetView, circuit_of}
 use Rattle.circuit_theory.specs.Run.{IsEnabled}
 use Rattle.event_classes.specs.event_nodes.View.{EventCircuitView, Enabled}
-use Rattle.pair_events.specs.Enables.{both_of}
+use Rattle.event_agreement.specs.pair_events.Enables.{both_of}
 use Rattle.event_classes.specs.declared.map.ClassMap.{ClassMap}
 use Rattle.event_classes.specs.Map.{IsClassMapOf}
-use Rattle.pair_events.specs.View.{IsEvents}
+use Rattle.event_agreement.specs.pair_events.View.{IsEvents}
 use Rattle.class_events.specs.Made.{events_in}
 
 depths_of : (a e : EventCircuitView) → e ≡ record a { classes = e.classes } → LatchesHaveDepths (circuit_of a.net) (Enabled a) → LatchesHaveDepths (circuit_of e.net) (Enabled e)

@@ -2,7 +2,7 @@
 use Rattle.std.proofs.Common.{◌≡◌, ℕ, Option, Result, Ok, Err}
 use Rattle.circuit_theory.specs.declared.Side.{Side}
 use Rattle.sec_base.specs.declared.basics.Tag.{Tag}
-use Rattle.pair_events.specs.pair_decide.declared.query.Proof.{Proof}
+use Rattle.event_agreement.specs.pair_decide.declared.query.Proof.{Proof}
 use Rattle.event_classes.specs.event_nodes.View.{EventCircuitView}
 use Rattle.event_classes.specs.declared.error.EventError.{EventError}
 use Rattle.event_classes.specs.declared.error.EventError.TheVariants as event_error

@@ -11,15 +11,15 @@ use Rattle.sec_base.specs.declared.basics.Tag.{Tag}
 use Rattle.event_classes.specs.event_nodes.Nodes.{EventGraphView, IsEventGraph, GrowsEvents}
 use Rattle.event_classes.specs.event_nodes.View.{EventCircuitView}
 use Rattle.event_classes.specs.Order.{place_of}
-use Rattle.pair_events.specs.event_variables.Variables.{variables_of}
-use Rattle.pair_events.specs.Enables.{both_of}
+use Rattle.event_agreement.specs.event_variables.Variables.{variables_of}
+use Rattle.event_agreement.specs.pair_events.Enables.{both_of}
 use Rattle.event_classes.specs.KeptApart.{Apart}
 use Rattle.event_classes.specs.Apart.{IsSeparationBy, AreApart}
 use Rattle.event_classes.proofs.Variables.{variables_same, within_later}
 use Rattle.event_classes.specs.declared.map.ClassMap.{ClassMap}
 use Rattle.event_classes.specs.Map.{IsClassMapOf}
 use Rattle.event_classes.specs.Named.{NamesLatches}
-use Rattle.pair_events.specs.View.{EventsView, side_of_both}
+use Rattle.event_agreement.specs.pair_events.View.{EventsView, side_of_both}
 use Rattle.class_events.specs.Laws.{ApartStays, SeparatedStay}
 use Rattle.class_events.specs.Made.{events_in}
 use Rattle.class_events.specs.Separated.{AreSeparated}

@@ -6,8 +6,8 @@ use Rattle.sec_base.specs.declared.basics.Tag.{Tag}
 use Rattle.event_classes.specs.event_nodes.Nodes.{EventGraphView, IsEventGraph, GrowsEvents}
 use Rattle.event_classes.specs.KeptApart.{Apart}
 use Rattle.event_classes.specs.Apart.{IsApart}
-use Rattle.pair_events.specs.Counted.{HaveCounted}
-use Rattle.pair_events.specs.View.{EventsView}
+use Rattle.event_agreement.specs.pair_events.Counted.{HaveCounted}
+use Rattle.event_agreement.specs.pair_events.View.{EventsView}
 use Rattle.class_events.specs.Separated.{AreSeparated}
 
 -- Where no event node was made and nothing was counted, what was counted is what no start visits.

@@ -7,8 +7,8 @@ use Rattle.circuit_theory.specs.EventTotals.{AreStarts}
 use Rattle.event_classes.specs.class_extension.Sides.{AreStartsOfBoth}
 use Rattle.event_classes.specs.Totals.{AreWithin}
 use Rattle.event_classes.specs.declared.map.ClassMap.{ClassMap}
-use Rattle.pair_events.specs.Counted.{HaveCounted}
-use Rattle.pair_events.specs.View.{EventsView, IsWithinLimits, side_of_both}
+use Rattle.event_agreement.specs.pair_events.Counted.{HaveCounted}
+use Rattle.event_agreement.specs.pair_events.View.{EventsView, IsWithinLimits, side_of_both}
 
 abbrev pub events_in : ClassMap → EventsView
 events_in m = record { left = m.left; right = m.right; events = m.events; left_count = m.left_count; right_count = m.right_count; count = length m.classes.items }

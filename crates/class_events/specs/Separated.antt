@@ -5,7 +5,7 @@ use Rattle.event_classes.specs.Order.{place_of}
 use Rattle.event_classes.specs.KeptApart.{Apart}
 use Rattle.event_classes.specs.Apart.{IsApart, AreApart}
 use Rattle.event_classes.specs.Named.{NamesLatches}
-use Rattle.pair_events.specs.View.{EventsView, side_of_both}
+use Rattle.event_agreement.specs.pair_events.View.{EventsView, side_of_both}
 
 -- It tells these two classes apart; class 0 stands for `always`.
 pub record TellsClassesApart (e : EventsView) (low high : ℕ) (x : Apart) : Type 0 where

@@ -5,7 +5,7 @@ pub mod laws;
 mod making;
 mod separated;
 
+pub use event_agreement::pair_events::Events;
 pub use event_classes::{Apart, EventError};
 pub use making::{Separated, events_of, of_map};
-pub use pair_events::Events;
 pub use separated::apart_at;

@@ -5,12 +5,12 @@ ghost use Rattle.circuit_theory.specs.Depth.{LatchesHaveDepths};
 ghost use Rattle.flat_net.specs.View.{circuit_of};
 ghost use Rattle.event_classes.specs.Refused.{IsRefusedMap};
 ghost use Rattle.event_classes.specs.event_nodes.View.{Enabled};
-ghost use Rattle.pair_events.specs.View.{IsEvents};
+ghost use Rattle.event_agreement.specs.pair_events.View.{IsEvents};
 ghost use Rattle.class_events.specs.Made.{events_in, AreEnablesCounted};
 ghost use Rattle.class_events.specs.Separated.{AreSeparated};
 
+use event_agreement::pair_events::Events;
 use event_classes::{Apart, ClassMap, EventCircuit, EventError, make_classes};
-use pair_events::Events;
 use sec_base::MAX_CONFLICTS;
 use std::alloc::Global;
 

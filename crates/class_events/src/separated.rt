@@ -3,8 +3,8 @@
 ghost use Rattle.std.specs.Prelude.{◌<◌, ◌≤◌};
 ghost use Rattle.class_events.specs.Separated.{AreSeparated, TellsClassesApart};
 
+use event_agreement::pair_events::Events;
 use event_classes::Apart;
-use pair_events::Events;
 
 /// What tells these two classes apart; class 0 stands for `always`. The event graph may have grown since the classes were made
 /// (`laws::separated_stay`).

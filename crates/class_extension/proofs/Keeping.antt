@@ -14,8 +14,8 @@ use Rattle.circuit_theory.specs.Classes.{IsFounder}
 use Rattle.circuit_theory.specs.EventFrames.{IsClassTree, AreNodeVariables, IsSeparation, IsSeparationFromAlways}
 use Rattle.circuit_theory.specs.EventTotals.{IsMapSoFar}
 use Rattle.circuit_theory.specs.Frame.{EventSide}
-use Rattle.event_laws.proofs.ClassSteps.{pairs_ahead}
-use Rattle.event_laws.proofs.OneClassMap.{side, rank_of, Agrees, Before, place_of, depth_of}
+use Rattle.circuit_laws.proofs.event_laws.ClassSteps.{pairs_ahead}
+use Rattle.circuit_laws.proofs.event_laws.OneClassMap.{side, rank_of, Agrees, Before, place_of, depth_of}
 use Rattle.class_extension.specs.Telling.{TellsApart, TellsFromAlways}
 use Rattle.class_extension.specs.Laws.{VariablesStay, SeparationsStay, SeparationsBegin}
 use Rattle.class_extension.proofs.Trees.{variables_to, founder_to, apart_to, always_to}

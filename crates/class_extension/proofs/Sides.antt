@@ -16,8 +16,8 @@ use Rattle.circuit_theory.specs.EventFits.{side_by_side}
 use Rattle.circuit_theory.specs.EventSizes.{Start, IsOther}
 use Rattle.circuit_theory.specs.EventTotals.{StartLatches}
 use Rattle.circuit_theory.specs.Frame.{EventSide, EventUnfolds, ConeLatches, ConeOthers, ReachedAt, IsNode}
-use Rattle.event_laws.specs.Sides.{moved_put}
-use Rattle.event_laws.proofs.SideTrees.{sides_unfold_in_nets}
+use Rattle.circuit_laws.specs.event_laws.Sides.{moved_put}
+use Rattle.circuit_laws.proofs.event_laws.SideTrees.{sides_unfold_in_nets}
 use Rattle.class_extension.specs.Sides.{moved_out, moved_start, AreStartsOfBoth}
 use Rattle.class_extension.specs.Laws.{left_side, right_side, SidesHaveVariables, SidesReachNodes}
 

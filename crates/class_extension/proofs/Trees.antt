@@ -12,8 +12,8 @@ use Rattle.circuit_theory.proofs.Lists.{Contains-head, Contains-tail}
 use Rattle.circuit_theory.specs.Classes.{EnablesEqual, IsFounder}
 use Rattle.circuit_theory.specs.EventFrames.{IsCareTree, IsEnableTree, IsClassTree, AreNodeVariables, frame_of}
 use Rattle.circuit_theory.specs.Frame.{NotPut, EventUnfolds, EventUnfoldsAll, ConeLatches, ConeOthers, ReachedAt}
-use Rattle.event_laws.proofs.EventAgreement.{rank_falls}
-use Rattle.event_laws.proofs.OneClassMap.{side, rank_of, Agrees, enable_to, enable_care}
+use Rattle.circuit_laws.proofs.event_laws.EventAgreement.{rank_falls}
+use Rattle.circuit_laws.proofs.event_laws.OneClassMap.{side, rank_of, Agrees, enable_to, enable_care}
 use Rattle.class_extension.specs.Telling.{TellsApart, TellsFromAlways}
 
 module _ {P : Type 0} (c : Circuit P) (single : IsSingleDriven c) (same : (p q : P) → (p ≡ q) ⊎ (p ≢ q)) (depths : LatchesHaveDepths c (IsEnabled c)) (o : List ℕ) where

@@ -9,8 +9,8 @@ use Rattle.circuit_laws.proofs.JoinedParts.{joined_same, joined_single}
 use Rattle.circuit_theory.specs.EventSizes.{Start, IsOther, EventVisits}
 use Rattle.circuit_theory.specs.EventTotals.{StartLatches}
 use Rattle.circuit_theory.specs.Frame.{EventSide, ConeLatches, ConeOthers, ReachedAt, IsNode}
-use Rattle.event_laws.proofs.EventAgreement.{rank_falls}
-use Rattle.event_laws.proofs.OneClassMap.{rank_of}
+use Rattle.circuit_laws.proofs.event_laws.EventAgreement.{rank_falls}
+use Rattle.circuit_laws.proofs.event_laws.OneClassMap.{rank_of}
 use Rattle.class_extension.specs.Sides.{IsEnableAmong}
 use Rattle.class_extension.specs.Laws.{IsNextGiven, UnfoldAlike, left_side, right_side, VisitsStay}
 use Rattle.class_extension.proofs.Keeping.{low_of}

@@ -8,7 +8,7 @@ use Rattle.circuit_theory.proofs.Lists.{Contains-head}
 use Rattle.circuit_theory.specs.Frame.{EventSide}
 use Rattle.circuit_theory.specs.Classes.{EnablesEqual, EnablesDiffer, EqualsMembers, DiffersFromMember, classes_of}
 use Rattle.circuit_theory.specs.EventTotals.{IsAsked}
-use Rattle.event_laws.specs.ClassSteps.{IsFirstFit}
+use Rattle.circuit_laws.specs.event_laws.ClassSteps.{IsFirstFit}
 use Rattle.flat_net.proofs.Nets.{some_at}
 use Rattle.flat_net.proofs.Places.{All-at}
 use Rattle.aig.specs.declared.node.Lit.{Lit}

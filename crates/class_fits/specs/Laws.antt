@@ -4,7 +4,7 @@ use Rattle.circuit_theory.specs.Joined.{Either}
 use Rattle.circuit_theory.specs.Frame.{EventSide}
 use Rattle.circuit_theory.specs.Classes.{classes_of}
 use Rattle.circuit_theory.specs.EventTotals.{IsAsked}
-use Rattle.event_laws.specs.ClassSteps.{IsFirstFit}
+use Rattle.circuit_laws.specs.event_laws.ClassSteps.{IsFirstFit}
 use Rattle.sec_base.specs.declared.basics.Tag.{Tag}
 use Rattle.class_search.specs.pair_decide.declared.query.Proof.{Proof}
 use Rattle.class_search.specs.pair_decide.declared.query.Query.{Query}

@@ -3,4 +3,4 @@ pub mod BothCares
 pub mod Meaning
 pub mod Staying
 pub use Rattle.edbf_unfold.proofs as edbf_unfold
-pub use Rattle.edbf_unfold.proofs.event_laws
+pub use Rattle.edbf_unfold.proofs.circuit_laws

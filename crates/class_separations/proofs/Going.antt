@@ -18,7 +18,7 @@ use Rattle.class_search.proofs.flat_net.Nets.{some_at}
 use Rattle.class_search.proofs.flat_net.Places.{one_at}
 use Rattle.aig.specs.Values.{value}
 use Rattle.sec_base.specs.declared.basics.Tag.{Tag}
-use Rattle.cone_values.specs.pair_decide.Queries.{assigned_to}
+use Rattle.pair_decide.specs.Queries.{assigned_to}
 use Rattle.class_search.specs.event_nodes.Nodes.{EventGraphView, IsEventGraph, GrowsEvents}
 use Rattle.class_search.specs.event_nodes.View.{EventCircuitView}
 use Rattle.class_search.specs.event_variables.Variables.{variables_of}

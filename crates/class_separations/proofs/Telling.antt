@@ -11,8 +11,8 @@ use Rattle.circuit_theory.specs.Frame.{EventSide}
 use Rattle.aig.specs.declared.node.Lit.{Lit}
 use Rattle.aig.specs.Values.{value}
 use Rattle.aig.proofs.CoverMeaning.{value-and, value-one}
-use Rattle.cone_values.specs.pair_decide.declared.query.Decision.TheVariants as answer
-use Rattle.cone_values.specs.pair_decide.Queries.{assigned_to}
+use Rattle.pair_decide.specs.declared.query.Decision.TheVariants as answer
+use Rattle.pair_decide.specs.Queries.{assigned_to}
 use Rattle.class_search.specs.event_nodes.Nodes.{EventGraphView, IsEventGraph}
 use Rattle.class_search.specs.event_nodes.View.{EventCircuitView}
 use Rattle.class_search.specs.event_variables.Variables.{variable_of, variables_of}

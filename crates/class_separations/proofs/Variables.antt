@@ -17,7 +17,7 @@ use Rattle.class_search.specs.event_nodes.Nodes.{EventGraphView, IsEventGraph, G
 use Rattle.class_search.proofs.event_nodes.Paths.{named_grows}
 use Rattle.class_search.specs.event_variables.Variables.{GoesBefore, IsMergeOf, variable_of, variables_of}
 use Rattle.class_search.proofs.event_variables.Named.{named_distinct}
-use Rattle.cone_values.specs.pair_decide.Queries.{assigned_to}
+use Rattle.pair_decide.specs.Queries.{assigned_to}
 use Rattle.class_queries.specs.edbf_unfold.Laws.{TakesFrame}
 
 module _ (w x : EventGraphView) (is : IsEventGraph w) (grows : GrowsEvents w x) where

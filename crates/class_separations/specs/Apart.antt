@@ -7,7 +7,7 @@ use Rattle.sec_base.specs.declared.basics.Tag.{Tag}
 use Rattle.class_search.specs.event_nodes.Nodes.{EventGraphView}
 use Rattle.class_search.specs.event_variables.Variables.{variables_of}
 use Rattle.aig.specs.Values.{value}
-use Rattle.cone_values.specs.pair_decide.Queries.{assigned_to}
+use Rattle.pair_decide.specs.Queries.{assigned_to}
 use Rattle.class_search.specs.declared.compare.Enable.{Enable}
 use Rattle.class_queries.specs.Enables.{both_of}
 use Rattle.class_search.specs.event_nodes.View.{EventCircuitView}

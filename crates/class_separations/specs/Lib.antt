@@ -1,2 +1,3 @@
 pub mod Telling
 pub mod Apart
+pub mod cone_values

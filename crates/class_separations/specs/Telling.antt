@@ -2,9 +2,9 @@
 use Rattle.std.specs.Prelude.{◌≡◌, ◌≢◌, ℕ, ◌*◌, ◌<◌, ◌≤◌, Bool, true, false, not, List, [], ◌∷◌, ◌++◌, length, take, slice_get, Some, None}
 use Rattle.std.specs.List.{AllPairs, AllZip}
 use Rattle.aig.specs.Values.{value}
-use Rattle.cone_values.specs.lane_eval.Tables.{Covers}
+use Rattle.lane_eval.specs.Tables.{Covers}
 use Rattle.sec_base.specs.declared.basics.Tag.{Tag}
-use Rattle.cone_values.specs.pair_decide.Queries.{assigned_to}
+use Rattle.pair_decide.specs.Queries.{assigned_to}
 use Rattle.class_search.specs.event_nodes.Nodes.{EventGraphView}
 use Rattle.class_search.specs.declared.compare.Enable.{Enable}
 use Rattle.class_search.specs.declared.class.Class.{Class}

@@ -3,8 +3,8 @@
 ghost use Rattle.std.specs.Prelude.{◌≡◌, ◌≤◌, length, All, IfOk, OnOk};
 ghost use Rattle.class_separations.specs.Telling.{IsToldIn, AreToldIn, IsApartOf, HasKeptTo, HasKept};
 
+use crate::cone_values::value_in_cone;
 use class_search::{Class, Difference, EventGraph, Told};
-use cone_values::value_in_cone;
 use sec_base::{Bits, Ids, NoMemory, Tag};
 use std::alloc::Global;
 

@@ -2,5 +2,6 @@
 #![tactic(auto)]
 
 mod apart;
+pub mod cone_values;
 
 pub use apart::{Apart, keep_apart};

@@ -8,7 +8,7 @@ use Rattle.flat_net.specs.declared.parts.Port.{Port}
 use Rattle.flat_net.specs.Comparable.{IsComparable}
 use Rattle.flat_net.specs.Sound.{IsSound}
 use Rattle.flat_net.specs.View.{NetView, circuit_of, ports_of}
-use Rattle.cut_points.specs.declared.exposed.Exposure.{Exposure}
+use Rattle.sec_setup.specs.declared.cut_points.exposed.Exposure.{Exposure}
 use Rattle.sec_base.specs.declared.settings.Settings.{Settings}
 use Rattle.outcome.specs.declared.verdict.LimitAt.TheVariants as limit_at
 use Rattle.outcome.specs.declared.verdict.Outcome.{Outcome}
@@ -21,9 +21,9 @@ use Rattle.sec_setup.specs.Matching.{InterfacesMatch}
 use Rattle.sec_setup.specs.Pairs.{NamedPair, named_pairs}
 use Rattle.sec_setup.specs.Setup.{IsSetupOf}
 use Rattle.sec_setup.proofs.CutNets.{cut_numbers}
-use Rattle.under_meaning.proofs.plain_meaning.CutSizes.{cut_light}
+use Rattle.under_base.proofs.outcome_fits.plain_meaning.CutSizes.{cut_light}
 use Rattle.plain_asked_under.specs.plain_asked.declared.findings.Findings.{Findings}
-use Rattle.assume_shape.specs.declared.shape.ShapeFault.TheVariants as fault
+use Rattle.assume_laws.specs.declared.assume_shape.shape.ShapeFault.TheVariants as fault
 use Rattle.plain_asked_under.specs.assume_sequences.Filled.{bit_of}
 use Rattle.plain_asked_under.specs.assume_sequences.declared.premise.Premise.{Premise}
 use Rattle.plain_asked_under.specs.assume_sequences.Assumed.{IsAssumedBy, CanBeAssumed}
@@ -32,12 +32,12 @@ use Rattle.under_base.specs.assume_taken.Taken.{assumed_by, IsUndecidedBy}
 use Rattle.under_base.proofs.assume_taken.Premises.{is_assumed, can_be_assumed}
 use Rattle.plain_asked_under.specs.declared.error.PlainUnderError.TheVariants as found_error
 use Rattle.plain_asked_under.specs.Formed.{AreFoundUnder, FormedUnder}
-use Rattle.under_base.specs.Places.{IsOverAtPairs, IsLightAtPairs}
+use Rattle.under_base.specs.under_fits.Places.{IsOverAtPairs, IsLightAtPairs}
 use Rattle.plain_asked_under.specs.Verdict.{FindingsFitUnder}
-use Rattle.under_base.specs.Outcome.{OutcomeFitsUnder}
+use Rattle.under_base.specs.under_fits.Outcome.{OutcomeFitsUnder}
 use Rattle.under_meaning.specs.Laws.{AreNets}
 use Rattle.under_meaning.proofs.Meaning.{equal_says_under, different_shows_under, not_shown_under}
-use Rattle.under_base.specs.compare_base.declared.error.CompareError.TheVariants as refused
+use Rattle.under_base.specs.declared.compare_base.error.CompareError.TheVariants as refused
 use Rattle.under_base.proofs.compare_base.CutSetups.{choice, in_order, left_too_large, right_too_large}
 use Rattle.under_base.proofs.compare_base.Forms.{in_always}
 use Rattle.under_base.specs.Compared.{IsComparedUnder, ComparedUnder}

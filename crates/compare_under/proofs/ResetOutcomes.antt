@@ -5,7 +5,7 @@ use Rattle.circuit_theory.specs.declared.Side.TheVariants.{A, B}
 use Rattle.flat_net.specs.Comparable.{IsComparable}
 use Rattle.flat_net.specs.Sound.{IsSound}
 use Rattle.flat_net.specs.View.{NetView, circuit_of}
-use Rattle.cut_points.specs.declared.exposed.Exposure.{Exposure}
+use Rattle.sec_setup.specs.declared.cut_points.exposed.Exposure.{Exposure}
 use Rattle.sec_base.specs.declared.settings.Settings.{Settings}
 use Rattle.outcome.specs.declared.verdict.Outcome.{Outcome}
 use Rattle.outcome.specs.declared.verdict.PairResult.{PairResult}
@@ -19,19 +19,19 @@ use Rattle.reset_asked_under.specs.ResetFindings.{ResetFindings}
 use Rattle.reset_asked_under.specs.ResetVerdict.{ResetVerdict}
 use Rattle.reset_asked_under.specs.ResetVerdict.TheVariants as found_verdict
 use Rattle.assume_laws.specs.Assume.{Assumption}
-use Rattle.assume_shape.specs.declared.shape.ShapeFault.TheVariants as fault
+use Rattle.assume_laws.specs.declared.assume_shape.shape.ShapeFault.TheVariants as fault
 use Rattle.plain_asked_under.specs.assume_sequences.Filled.{bit_of}
 use Rattle.plain_asked_under.specs.assume_sequences.declared.premise.Premise.{Premise}
 use Rattle.under_base.specs.assume_taken.Premises.{IsPremiseOf}
 use Rattle.under_base.specs.assume_taken.Taken.{assumed_by}
 use Rattle.reset_asked_under.specs.declared.error.ResetUnderError.TheVariants as found_error
 use Rattle.reset_asked_under.specs.Formed.{AreFoundUnder, FormedUnder}
-use Rattle.under_base.specs.ResetPlaces.{IsOverInCycles, IsLightInCycles}
+use Rattle.under_base.specs.under_fits.ResetPlaces.{IsOverInCycles, IsLightInCycles}
 use Rattle.reset_asked_under.specs.Verdict.{FindingsFitUnder, VerdictFitsUnder}
-use Rattle.under_base.specs.ResetOutcome.{numbers_of, ResetOutcomeFitsUnder, ResetVerdictFitsUnder}
+use Rattle.under_base.specs.under_fits.ResetOutcome.{numbers_of, ResetOutcomeFitsUnder, ResetVerdictFitsUnder}
 use Rattle.under_meaning.specs.under_reset_meaning.Laws.{AreNets}
 use Rattle.under_meaning.proofs.under_reset_meaning.Meaning.{equal_resets_say_under, different_resets_show_under}
-use Rattle.under_base.specs.compare_base.declared.error.CompareError.TheVariants as refused
+use Rattle.under_base.specs.declared.compare_base.error.CompareError.TheVariants as refused
 use Rattle.under_base.proofs.compare_base.Forms.{in_reset}
 use Rattle.under_base.proofs.compare_base.UncutSetups.{left_light, right_light, left_too_large, right_too_large, of_circuits, based, left_numbers, right_numbers}
 use Rattle.under_base.specs.Compared.{IsComparedFromResetUnder, ComparedUnder}

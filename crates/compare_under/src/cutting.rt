@@ -4,9 +4,9 @@ ghost use Rattle.std.specs.Prelude.{IfOk};
 ghost use Rattle.flat_net.specs.Comparable.{IsComparable};
 ghost use Rattle.sec_setup.specs.Cuts.{AreCutBy, AreCutOpen};
 
-use cut_points::Exposure;
 use flat_net::Net;
 use sec_base::NoMemory;
+use sec_setup::cut_points::Exposure;
 use std::alloc::Global;
 
 /// Both nets with the exposed latches cut out.

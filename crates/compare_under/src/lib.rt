@@ -6,5 +6,5 @@ mod comparison;
 mod cutting;
 mod outcomes;
 
-pub use assume_shape::ShapeFault;
+pub use assume_laws::assume_shape::ShapeFault;
 pub use comparison::compare_under;

@@ -7,7 +7,7 @@ use Rattle.circuit_theory.proofs.Lists.{Contains-head, Contains-tail, Contains-c
 use Rattle.circuit_theory.proofs.Numbers.{one_number}
 use Rattle.circuit_theory.specs.Frame.{IsEnable, ConeLatches, ConeOthers, ReachedAt, HasCare}
 use Rattle.circuit_theory.specs.EventSizes.{Start}
-use Rattle.event_laws.proofs.EventTrees.{one_enable}
+use Rattle.circuit_laws.proofs.event_laws.EventTrees.{one_enable}
 use Rattle.event_literals.specs.Sound.{IsSound}
 use Rattle.event_literals.specs.View.{circuit_of}
 use Rattle.event_literals.proofs.Nets.{sound_is_net}

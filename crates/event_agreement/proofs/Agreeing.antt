@@ -1,7 +1,7 @@
 -- Circuits agree where the queries of all pairs have sides that agree.
 use Rattle.std.proofs.Common.{length}
 use Rattle.circuit_theory.specs.Joined.{Left, Right}
-use Rattle.class_queries.proofs.event_laws.EventAgreement.{event_functions_agree_in_nets}
+use Rattle.circuit_laws.proofs.event_laws.EventAgreement.{event_functions_agree_in_nets}
 use Rattle.class_search.specs.flat_net.View.{circuit_of}
 use Rattle.class_search.proofs.flat_net.Nets.{sound_is_net}
 use Rattle.class_queries.specs.Enables.{both_of, class_map}

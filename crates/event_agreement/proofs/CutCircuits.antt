@@ -7,7 +7,7 @@ use Rattle.circuit_theory.specs.Joined.{Either, Left, Right, joined, beside, mov
 use Rattle.circuit_theory.specs.Tree.{AreNumbered, StandsBeside, IsInputNumber}
 use Rattle.circuit_laws.proofs.JoinedParts.{meets_both}
 use Rattle.circuit_laws.proofs.NetLaws.{net_value, net_value-extends}
-use Rattle.class_queries.proofs.event_laws.ExposedEvents.{exposed_event_functions_agree_in_nets}
+use Rattle.circuit_laws.proofs.event_laws.ExposedEvents.{exposed_event_functions_agree_in_nets}
 use Rattle.class_search.specs.flat_net.Cut.{IsCutCircuit}
 use Rattle.class_search.specs.flat_net.View.{circuit_of}
 use Rattle.class_search.proofs.flat_net.Nets.{sound_is_net}

@@ -13,8 +13,8 @@ use Rattle.circuit_laws.proofs.Parts.{IsPart, enabled_up, enabled_from}
 use Rattle.circuit_theory.specs.Classes.{AlwaysEnabled, EnableAtRoot, EnableCare, EnablesEqual, EqualsMembers, DiffersFromMember, HasClasses, IsInFirstClass}
 use Rattle.circuit_theory.specs.EventFits.{HaveEqualEvents}
 use Rattle.circuit_theory.specs.Frame.{EventSide}
-use Rattle.class_queries.proofs.event_laws.SideParts.{depth_up}
-use Rattle.class_queries.proofs.event_laws.SideTrees.{tree_same, care_same, enable_same}
+use Rattle.circuit_laws.proofs.event_laws.SideParts.{depth_up}
+use Rattle.circuit_laws.proofs.event_laws.SideTrees.{tree_same, care_same, enable_same}
 use Rattle.class_queries.proofs.BothCares.{enable_care_same}
 
 -- the inputs and the equations are the same

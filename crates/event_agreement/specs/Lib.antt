@@ -1,6 +1,7 @@
 pub mod Queries
 pub mod Laws
 pub mod event_pairs
+pub mod pair_events
 pub use Rattle.class_queries.specs as class_queries
 pub use Rattle.class_queries.specs.event_walk
 pub use Rattle.class_search.specs.aig

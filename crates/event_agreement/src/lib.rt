@@ -3,6 +3,7 @@
 
 pub mod event_pairs;
 pub mod laws;
+pub mod pair_events;
 
 pub use class_search::{
     Aig, Counter, EventCircuit, EventGraph, EventUnfoldError, Ids, Lit, NoMemory, Query, Side,

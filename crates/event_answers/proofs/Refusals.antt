@@ -17,9 +17,9 @@ use Rattle.event_names.specs.event_setup.declared.error.RecoveryError.TheVariant
 use Rattle.event_names.specs.event_setup.declared.setup.EventSetup.{EventSetup}
 use Rattle.event_names.specs.event_setup.Choosing.{RefusesCycle}
 use Rattle.event_names.specs.event_setup.Recovered.{AreKnown, RecoversBoth}
-use Rattle.event_names.specs.compare_base.declared.error.CompareError.{CompareError}
-use Rattle.event_names.specs.compare_base.declared.error.CompareError.TheVariants as refused
-use Rattle.event_names.specs.compare_base.Compared.{refusal_of}
+use Rattle.event_names.specs.under_base.declared.compare_base.error.CompareError.{CompareError}
+use Rattle.event_names.specs.under_base.declared.compare_base.error.CompareError.TheVariants as refused
+use Rattle.event_names.specs.under_base.compare_base.Compared.{refusal_of}
 use Rattle.event_names.specs.Circuits.{AreReached}
 use Rattle.event_names.specs.Compared.{ComparedInEvents}
 use Rattle.event_names.specs.Named.{latch_names}

@@ -27,8 +27,8 @@ use Rattle.event_names.specs.event_setup.Setup.{IsEventSetupOf, IsPairWithin}
 use Rattle.event_names.proofs.event_setup.Setups.{pairs_within}
 use Rattle.event_answers.specs.Laws.{HaveClassesGiven}
 use Rattle.event_answers.proofs.Comparing.{setups_compared}
-use Rattle.event_comparison.specs.pair_events.View.{EventsView}
-use Rattle.event_names.specs.compare_base.declared.error.CompareError.{CompareError}
+use Rattle.event_comparison.specs.event_agreement.pair_events.View.{EventsView}
+use Rattle.event_names.specs.under_base.declared.compare_base.error.CompareError.{CompareError}
 use Rattle.event_names.specs.Asked.{IsPairOf}
 use Rattle.event_names.specs.Circuits.{AreReached}
 use Rattle.event_names.specs.Fitting.{class_limit}

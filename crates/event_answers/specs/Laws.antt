@@ -12,7 +12,7 @@ use Rattle.event_comparison.specs.event_witness.Asked.{IsPairOf}
 use Rattle.event_comparison.specs.EventPairs.{EventPairs}
 use Rattle.event_comparison.specs.Agreement.{AreAllPairs, AreCutFrom, CircuitsAgree}
 use Rattle.event_comparison.specs.Compared.{AreCompared}
-use Rattle.event_comparison.specs.pair_events.View.{EventsView}
+use Rattle.event_comparison.specs.event_agreement.pair_events.View.{EventsView}
 
 -- the circuits are those of the setup, whatever classes their latches have
 pub record HaveClassesGiven (s : EventSetup) (e : EventsView) : Type 0 where

@@ -17,4 +17,4 @@ pub use Rattle.event_comparison.specs.Findings
 pub use Rattle.event_comparison.specs.EventFindings
 pub use Rattle.event_comparison.specs.EventPairs
 pub use Rattle.event_comparison.specs.class_events
-pub use Rattle.event_comparison.specs.pair_events
+pub use Rattle.event_comparison.specs.event_agreement

@@ -21,15 +21,15 @@ use Rattle.class_queries.specs.Enables.{both_of}
 use Rattle.event_answers.specs.EventPairs.{EventPairs}
 use Rattle.event_nodes.specs.View.{EventCircuitView}
 use Rattle.assume_laws.specs.Assume.{Assumption, ReadsInputs}
-use Rattle.event_meaning_under.specs.assume_sequences.Assumed.{CanBeAssumed, IsAssumedBy}
-use Rattle.event_meaning_under.specs.assume_sequences.declared.premise.Premise.{Premise}
-use Rattle.event_meaning_under.specs.assume_sequences.Filled.{bit_of}
-use Rattle.event_meaning_under.specs.assume_taken.Premises.{IsPremiseOf}
-use Rattle.event_meaning_under.specs.assume_taken.Taken.{assumed_by, IsUndecidedBy}
-use Rattle.event_meaning_under.proofs.assume_taken.Premises.{is_assumed, can_be_assumed}
-use Rattle.event_meaning_under.specs.event_under.Places.{IsLightAtNodes}
-use Rattle.event_meaning_under.specs.under_base.Met.{shared_by, IsMet, IsAssumptionLimit}
-use Rattle.event_meaning_under.proofs.under_base.Reading.{reads_cut}
+use Rattle.event_meaning.specs.event_meaning_under.assume_sequences.Assumed.{CanBeAssumed, IsAssumedBy}
+use Rattle.event_meaning.specs.event_meaning_under.assume_sequences.declared.premise.Premise.{Premise}
+use Rattle.event_meaning.specs.event_meaning_under.assume_sequences.Filled.{bit_of}
+use Rattle.event_meaning.specs.event_meaning_under.assume_taken.Premises.{IsPremiseOf}
+use Rattle.event_meaning.specs.event_meaning_under.Taken.{assumed_by, IsUndecidedBy}
+use Rattle.event_meaning.proofs.event_meaning_under.assume_taken.Premises.{is_assumed, can_be_assumed}
+use Rattle.event_meaning.specs.event_meaning_under.event_under.Places.{IsLightAtNodes}
+use Rattle.event_meaning.specs.event_meaning_under.Met.{shared_by, IsMet, IsAssumptionLimit}
+use Rattle.event_meaning.proofs.under_base.Reading.{reads_cut}
 use Rattle.event_answers.specs.Askable.{IsAskedBy}
 use Rattle.event_answers.specs.Circuits.{AreNets}
 use Rattle.event_answers.specs.Fitting.{IsUnclassed, IsUnrecovered}
@@ -38,10 +38,10 @@ use Rattle.event_answers.specs.Totals.{IsWithinWith}
 use Rattle.event_answers.specs.declared.outcomes.Found.{Found}
 use Rattle.event_answers.specs.declared.reaching.Classed.{Classed}
 use Rattle.event_answers.proofs.Told.{limit_at as found_limit, named, outcome_by}
-use Rattle.event_meaning_under.specs.Answered.{IsComparedInEventsUnder}
-use Rattle.event_meaning_under.specs.Fitted.{EventOutcomeFitsUnder, HasCountsUnder, IsComparedByPairsUnder}
-use Rattle.event_meaning_under.proofs.Saying.{cut_outcomes, different_outcomes, equal_outcomes}
-use Rattle.event_meaning_under.proofs.Framing.{unshown_outcomes}
+use Rattle.event_meaning.specs.event_meaning_under.Answered.{IsComparedInEventsUnder}
+use Rattle.event_meaning.specs.event_meaning_under.Fitted.{EventOutcomeFitsUnder, HasCountsUnder, IsComparedByPairsUnder}
+use Rattle.event_meaning.proofs.event_meaning_under.Saying.{cut_outcomes, different_outcomes, equal_outcomes}
+use Rattle.event_meaning.proofs.event_meaning_under.Framing.{unshown_outcomes}
 use Rattle.event_answers_under.specs.Pairs.{ArePairsFoundUnder}
 
 -- an assumption reads inputs of each circuit that has these inputs

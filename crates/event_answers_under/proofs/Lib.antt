@@ -1,4 +1,4 @@
 pub mod Answering
 pub mod Refusals
-pub use Rattle.event_meaning_under.proofs.assume_sequences
-pub use Rattle.event_meaning_under.proofs.compare_base
+pub use Rattle.event_meaning.proofs.event_meaning_under.assume_sequences
+pub use Rattle.event_meaning.proofs.under_base

@@ -5,24 +5,24 @@ use Rattle.sec_base.specs.declared.settings.Settings.{Settings}
 use Rattle.sec_setup.specs.declared.error.SetupError.{SetupError}
 use Rattle.sec_setup.specs.declared.error.SetupError.TheVariants as unset
 use Rattle.sec_setup.specs.Matching.{InterfacesMatch, InterfaceFails as NoMatch}
-use Rattle.event_meaning_under.specs.assume_sequences.declared.premise.Premise.{Premise}
-use Rattle.assume_shape.specs.declared.shape.ShapeFault.{ShapeFault}
-use Rattle.assume_shape.specs.declared.shape.ShapeFault.TheVariants as shape_fault
-use Rattle.event_meaning_under.specs.assume_taken.declared.error.TakeError.{TakeError}
-use Rattle.event_meaning_under.specs.assume_taken.declared.error.TakeError.TheVariants as untaken
-use Rattle.event_meaning_under.specs.assume_taken.Premises.{IsTaken}
+use Rattle.event_meaning.specs.event_meaning_under.assume_sequences.declared.premise.Premise.{Premise}
+use Rattle.assume_laws.specs.declared.assume_shape.shape.ShapeFault.{ShapeFault}
+use Rattle.assume_laws.specs.declared.assume_shape.shape.ShapeFault.TheVariants as shape_fault
+use Rattle.event_meaning.specs.event_meaning_under.assume_taken.declared.error.TakeError.{TakeError}
+use Rattle.event_meaning.specs.event_meaning_under.assume_taken.declared.error.TakeError.TheVariants as untaken
+use Rattle.event_meaning.specs.event_meaning_under.assume_taken.Premises.{IsTaken}
 use Rattle.class_queries.specs.Enables.{both_of}
-use Rattle.event_meaning_under.specs.compare_base.declared.error.CompareError.{CompareError}
-use Rattle.event_meaning_under.specs.compare_base.declared.error.CompareError.TheVariants as refused
-use Rattle.event_meaning_under.specs.compare_base.Compared.{refusal_of as refusal_of_setup}
-use Rattle.event_meaning_under.specs.event_under.Places.{IsOverAtNodes}
-use Rattle.event_meaning_under.specs.under_base.Met.{shared_by, IsMet}
-use Rattle.event_meaning_under.specs.under_base.Refusals.{refusal_of}
+use Rattle.event_meaning.specs.event_meaning_under.CompareError.{CompareError}
+use Rattle.event_meaning.specs.event_meaning_under.CompareError.TheVariants as refused
+use Rattle.event_meaning.specs.under_base.compare_base.Compared.{refusal_of as refusal_of_setup}
+use Rattle.event_meaning.specs.event_meaning_under.event_under.Places.{IsOverAtNodes}
+use Rattle.event_meaning.specs.event_meaning_under.Met.{shared_by, IsMet}
+use Rattle.event_meaning.specs.under_base.Refusals.{refusal_of}
 use Rattle.event_answers.specs.Compared.{ComparedInEvents}
 use Rattle.event_answers.specs.Reached.{AreClassed}
 use Rattle.event_answers.specs.declared.reaching.Classed.{Classed}
 use Rattle.event_answers.proofs.Refusals.{pairs_refused}
-use Rattle.event_meaning_under.specs.Answered.{ComparedInEventsUnder}
+use Rattle.event_meaning.specs.event_meaning_under.Answered.{ComparedInEventsUnder}
 use Rattle.event_answers_under.specs.Pairs.{FindsPairsUnder, IsTooLargeFor}
 
 -- the interfaces don't match

@@ -1,8 +1,7 @@
 pub mod Pairs
-pub use Rattle.event_meaning_under.specs.Answered
-pub use Rattle.event_answers.specs.pair_events
-pub use Rattle.event_meaning_under.specs.assume_sequences
-pub use Rattle.event_meaning_under.specs.assume_taken
-pub use Rattle.event_meaning_under.specs.compare_base
-pub use Rattle.event_meaning_under.specs.event_under
-pub use Rattle.event_meaning_under.specs.under_base
+pub use Rattle.event_meaning.specs.event_meaning_under.Answered
+pub use Rattle.event_answers.specs.event_agreement
+pub use Rattle.event_meaning.specs.event_meaning_under.assume_sequences
+pub use Rattle.event_meaning.specs.event_meaning_under.assume_taken
+pub use Rattle.event_meaning.specs.under_base
+pub use Rattle.event_meaning.specs.event_meaning_under.event_under

@@ -5,14 +5,14 @@ use Rattle.event_nodes.specs.View.{EventCircuitView}
 use Rattle.event_answers.specs.EventFindings.{EventFindings}
 use Rattle.event_answers.specs.EventPairs.{EventPairs}
 use Rattle.class_queries.specs.Enables.{both_of}
-use Rattle.event_meaning_under.specs.assume_sequences.Assumed.{IsAssumedBy}
-use Rattle.event_meaning_under.specs.assume_sequences.declared.premise.Premise.{Premise}
-use Rattle.event_meaning_under.specs.assume_sequences.Filled.{bit_of}
-use Rattle.assume_shape.specs.Shape.{assumption_of}
-use Rattle.assume_shape.specs.declared.shape.ShapeFault.{ShapeFault}
-use Rattle.assume_shape.specs.declared.shape.ShapeFault.TheVariants as fault
-use Rattle.event_meaning_under.specs.compare_base.declared.error.CompareError.{CompareError}
-use Rattle.event_meaning_under.specs.compare_base.declared.error.CompareError.TheVariants as refused
+use Rattle.event_meaning.specs.event_meaning_under.assume_sequences.Assumed.{IsAssumedBy}
+use Rattle.event_meaning.specs.event_meaning_under.assume_sequences.declared.premise.Premise.{Premise}
+use Rattle.event_meaning.specs.event_meaning_under.assume_sequences.Filled.{bit_of}
+use Rattle.assume_laws.specs.assume_shape.Shape.{assumption_of}
+use Rattle.assume_laws.specs.declared.assume_shape.shape.ShapeFault.{ShapeFault}
+use Rattle.assume_laws.specs.declared.assume_shape.shape.ShapeFault.TheVariants as fault
+use Rattle.event_meaning.specs.event_meaning_under.CompareError.{CompareError}
+use Rattle.event_meaning.specs.event_meaning_under.CompareError.TheVariants as refused
 use Rattle.event_answers.specs.Askable.{IsAskedBy}
 use Rattle.event_answers.specs.Finding.{AreNotUnfolded, AreUnfolded}
 use Rattle.event_answers.specs.Named.{NamesVerdict}
@@ -20,9 +20,9 @@ use Rattle.event_answers.specs.Names.{Names}
 use Rattle.event_answers.specs.Totals.{IsMapMade}
 use Rattle.event_answers.specs.declared.outcomes.Found.{Found}
 use Rattle.event_answers.specs.declared.reaching.Asked.{Asked}
-use Rattle.event_meaning_under.specs.event_under.Places.{IsLightAtNodes}
-use Rattle.event_meaning_under.specs.Findings.{FindingsFitUnder}
-use Rattle.event_meaning_under.specs.Heavy.{PairsAreOver}
+use Rattle.event_meaning.specs.event_meaning_under.event_under.Places.{IsLightAtNodes}
+use Rattle.event_meaning.specs.event_meaning_under.Findings.{FindingsFitUnder}
+use Rattle.event_meaning.specs.event_meaning_under.Heavy.{PairsAreOver}
 
 -- what is found of them fits the circuits under each assumption of the premise, which isn't too large for them, and all is within its numbers
 pub record ArePairsFoundUnder (a b : EventCircuitView) (n : Names) (x : Asked) (p : Premise) (conflicts : ℕ) (f : Found) : Type 0 where

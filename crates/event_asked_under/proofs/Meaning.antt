@@ -27,10 +27,10 @@ use Rattle.graph_copy.proofs.graph_clone.Twins.{twin_grows, twin_there}
 use Rattle.pair_decide.specs.declared.query.Query.{Query}
 use Rattle.pair_decide.specs.Queries.{IsQuery, roots_of}
 use Rattle.unfold_places.specs.Reach.{Adds}
-use Rattle.assume_queries.specs.shift_variables.Variables.{variable_of, variables_of}
-use Rattle.assume_queries.proofs.shift_variables.Reading.{pair_is}
+use Rattle.shift_variables.specs.Variables.{variable_of, variables_of}
+use Rattle.shift_variables.proofs.Reading.{pair_is}
 use Rattle.unfold_places.proofs.Lists.{pairs_map}
-use Rattle.query_places.specs.Places.{place_of}
+use Rattle.shift_variables.specs.query_places.Places.{place_of}
 use Rattle.assume_laws.specs.Assume.{Assumption, RowMeets, HasVariableAtNode, HasCareUnder}
 use Rattle.assume_laws.specs.Sequences.{IsPairTreeUnder, IsSideTree}
 use Rattle.assume_laws.proofs.Meeting.{leaf_at}
@@ -44,9 +44,9 @@ use Rattle.event_agreement.specs.Queries.{AsksEventPair}
 use Rattle.event_agreement.proofs.PairQueries as pair_query
 use Rattle.event_form.specs.Answers.{TakesBits}
 use Rattle.event_under.specs.Asked.{variable_in, variables_in, AsksUnder}
-use Rattle.ranked_nodes.specs.Ranks.{AreRanked}
-use Rattle.ranked_nodes.specs.declared.ranks.RankedNodes.{RankedNodes}
-use Rattle.ranked_nodes.specs.Named.{ranked_in}
+use Rattle.event_variables.specs.ranked_nodes.Ranks.{AreRanked}
+use Rattle.event_variables.specs.declared.ranked_nodes.ranks.RankedNodes.{RankedNodes}
+use Rattle.event_variables.specs.ranked_nodes.Named.{ranked_in}
 use Rattle.event_asked_under.specs.Sides.{HasSides}
 use Rattle.event_asked_under.proofs.Nodes.{query_within, variable_there, variable_back}
 use Rattle.event_asked_under.proofs.Moved.{moved, moved_unfolds, moved_leaf}

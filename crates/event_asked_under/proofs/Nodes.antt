@@ -9,15 +9,15 @@ use Rattle.circuit_theory.specs.EventFrames.{AreNodeVariables, IsPairTree}
 use Rattle.circuit_theory.specs.Frame.{EventSide}
 use Rattle.pair_decide.specs.declared.query.Query.{Query}
 use Rattle.unfold_places.specs.Reach.{Adds}
-use Rattle.query_places.specs.Places.{place_of}
+use Rattle.shift_variables.specs.query_places.Places.{place_of}
 use Rattle.assume_laws.specs.Assume.{HasVariableAtNode}
 use Rattle.event_nodes.specs.Nodes.{EventGraphView, IsEventGraph}
 use Rattle.event_variables.specs.Variables as event_variables
 use Rattle.event_agreement.specs.Queries.{AsksEventPair}
 use Rattle.event_agreement.proofs.PairQueries as pair_query
-use Rattle.ranked_nodes.specs.Ranks.{AreRanked}
-use Rattle.ranked_nodes.specs.declared.ranks.RankedNodes.{RankedNodes}
-use Rattle.ranked_nodes.specs.Named.{ranked_in, path_at}
+use Rattle.event_variables.specs.ranked_nodes.Ranks.{AreRanked}
+use Rattle.event_variables.specs.declared.ranked_nodes.ranks.RankedNodes.{RankedNodes}
+use Rattle.event_variables.specs.ranked_nodes.Named.{ranked_in, path_at}
 use Rattle.event_asked_under.proofs.Variables.{node_there}
 
 module _ (w : EventGraphView) (is : IsEventGraph w) (s : EventSide (Either ℕ ℕ)) (p q : Either ℕ ℕ) (query : Query) (asks : AsksEventPair s w p q query) where

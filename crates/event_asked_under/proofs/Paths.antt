@@ -15,10 +15,10 @@ use Rattle.event_nodes.proofs.OnePath.{one_node}
 use Rattle.event_variables.specs.Variables.{PathBefore}
 use Rattle.event_variables.proofs.Climbing.{root_path, parent_child}
 use Rattle.event_variables.proofs.MergeLists.{node_trans}
-use Rattle.ranked_nodes.specs.Ranks.{AreRanked}
-use Rattle.ranked_nodes.specs.declared.ranks.RankedNodes.{RankedNodes}
-use Rattle.ranked_nodes.proofs.Zeros.{nodes_apart, path_irreflexive}
-use Rattle.ranked_nodes.specs.Named.{path_by, path_at, named_ranks}
+use Rattle.event_variables.specs.ranked_nodes.Ranks.{AreRanked}
+use Rattle.event_variables.specs.declared.ranked_nodes.ranks.RankedNodes.{RankedNodes}
+use Rattle.event_variables.proofs.ranked_nodes.Zeros.{nodes_apart, path_irreflexive}
+use Rattle.event_variables.specs.ranked_nodes.Named.{path_by, path_at, named_ranks}
 
 -- a path has no more steps than there are entries
 module _ (es : List (ℕ × ℕ)) (tree : IsTree es) where

@@ -10,7 +10,7 @@ use Rattle.unfold_places.specs.Reach.{Adds}
 use Rattle.unfold_places.proofs.Lists.{pairs_map}
 use Rattle.unfold_places.proofs.Zips.{zip_left}
 use Rattle.pair_decide.specs.declared.query.Query.{Query}
-use Rattle.query_places.specs.Places.{place_of, ArePlacesOf}
+use Rattle.shift_variables.specs.query_places.Places.{place_of, ArePlacesOf}
 use Rattle.interface.specs.declared.pairs.SignalPair.{SignalPair}
 use Rattle.obligations.specs.declared.obligation.Obligation.{Obligation}
 use Rattle.obligations.specs.Asked.{queries_of}
@@ -19,9 +19,9 @@ use Rattle.event_nodes.specs.Nodes.{EventGraphView, IsEventGraph}
 use Rattle.event_agreement.specs.Queries.{AsksEventPair}
 use Rattle.event_form.specs.Asked.{AreAsked}
 use Rattle.event_under.specs.Places.{IsReadAt, ArePairNodes, AreNodesOfPairs, IsOverAtNodes, IsLightAtNodes}
-use Rattle.ranked_nodes.specs.Ranks.{AreRanked}
-use Rattle.ranked_nodes.specs.declared.ranks.RankedNodes.{RankedNodes}
-use Rattle.ranked_nodes.specs.Named.{ranked_in, path_at}
+use Rattle.event_variables.specs.ranked_nodes.Ranks.{AreRanked}
+use Rattle.event_variables.specs.declared.ranked_nodes.ranks.RankedNodes.{RankedNodes}
+use Rattle.event_variables.specs.ranked_nodes.Named.{ranked_in, path_at}
 use Rattle.event_asked_under.proofs.Paths.{path_one}
 use Rattle.event_asked_under.proofs.Nodes.{variable_there, variable_back}
 

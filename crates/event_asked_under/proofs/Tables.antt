@@ -8,7 +8,7 @@ use Rattle.flat_net.proofs.Places.{All-at}
 use Rattle.sec_base.specs.Table.{AreDistinct}
 use Rattle.sec_base.proofs.TableLemmas.{slice_get-take, take-push}
 use Rattle.event_nodes.specs.Nodes.{EventGraphView, IsEventGraph}
-use Rattle.ranked_nodes.specs.Named.{ranked_in}
+use Rattle.event_variables.specs.ranked_nodes.Named.{ranked_in}
 
 -- each node has a place
 abbrev pub HaveRanks : List ℕ → ℕ → Type 0

@@ -31,10 +31,10 @@ use Rattle.event_agreement.proofs.PairQueries.{are_variables}
 use Rattle.event_form.specs.Asked.{IsAskedOf, AreAsked}
 use Rattle.event_under.specs.Asked.{IsAskedUnder, AreAskedUnder}
 use Rattle.event_under.proofs.Leaves.{side_variables}
-use Rattle.ranked_nodes.specs.Ranks.{AreRanked}
-use Rattle.ranked_nodes.specs.declared.ranks.RankedNodes.{RankedNodes}
+use Rattle.event_variables.specs.ranked_nodes.Ranks.{AreRanked}
+use Rattle.event_variables.specs.declared.ranked_nodes.ranks.RankedNodes.{RankedNodes}
 use Rattle.event_asked_under.specs.Questions.{IsOneOver}
-use Rattle.ranked_nodes.specs.Named.{ranked_in, named_ranks}
+use Rattle.event_variables.specs.ranked_nodes.Named.{ranked_in, named_ranks}
 use Rattle.event_asked_under.specs.Sides.{HasOneWithin, HasOneCare, AreAligned, IsWithSides, AreWithSides}
 use Rattle.event_asked_under.proofs.Meaning.{asks_under}
 use Rattle.event_asked_under.proofs.Tables.{HaveRanks, AreApart}

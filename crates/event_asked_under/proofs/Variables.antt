@@ -11,18 +11,18 @@ use Rattle.reset_laws.specs.Reset.{CycleBefore}
 use Rattle.unfold_places.specs.Growing.{TakesBits}
 use Rattle.unfold_places.specs.Reach.{Adds}
 use Rattle.unfold_places.proofs.Lists.{adds_at, adds_length}
-use Rattle.assume_queries.specs.shift_variables.Variables.{variable_of}
-use Rattle.assume_queries.proofs.shift_variables.Reading.{pair_is}
-use Rattle.query_places.specs.Places.{place_of}
+use Rattle.shift_variables.specs.Variables.{variable_of}
+use Rattle.shift_variables.proofs.Reading.{pair_is}
+use Rattle.shift_variables.specs.query_places.Places.{place_of}
 use Rattle.edbf_unfold.specs.Laws.{TakesFrame}
 use Rattle.event_nodes.specs.Nodes.{EventGraphView, IsEventGraph, path_of}
 use Rattle.event_variables.specs.Variables as event_variables
 use Rattle.event_variables.proofs.NodePaths.{variable_is}
 use Rattle.event_form.specs.Answers as frames
 use Rattle.event_under.specs.Asked.{variable_in}
-use Rattle.ranked_nodes.specs.Ranks.{AreRanked}
-use Rattle.ranked_nodes.specs.declared.ranks.RankedNodes.{RankedNodes}
-use Rattle.ranked_nodes.specs.Named.{ranked_in, path_at, named_ranks}
+use Rattle.event_variables.specs.ranked_nodes.Ranks.{AreRanked}
+use Rattle.event_variables.specs.declared.ranked_nodes.ranks.RankedNodes.{RankedNodes}
+use Rattle.event_variables.specs.ranked_nodes.Named.{ranked_in, path_at, named_ranks}
 use Rattle.event_asked_under.proofs.Paths.{rank, path_rank, before_lower}
 
 module _ (w : EventGraphView) (is : IsEventGraph w) (r : RankedNodes) (k : AreRanked w.children r) (table : List (ℕ × ℕ)) (adds : Adds (λ p. Unit {0}) (ranked_in r.ranks.items w.places) table) where

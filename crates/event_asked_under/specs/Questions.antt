@@ -5,7 +5,7 @@ use Rattle.event_variables.specs.Variables.{AreInOrder}
 use Rattle.obligations.specs.declared.obligation.Obligation.{Obligation}
 use Rattle.pair_decide.specs.declared.query.Query.{Query}
 use Rattle.event_asked_under.specs.declared.asked.EventQuestions.{EventQuestions}
-use Rattle.ranked_nodes.specs.Named.{named_ranks}
+use Rattle.event_variables.specs.ranked_nodes.Named.{named_ranks}
 
 -- it asks one query over the event graph, whose variables are in their order
 pub record IsOneOver (w : EventGraphView) (o : Obligation) : Type 0 where

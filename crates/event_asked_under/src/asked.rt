@@ -9,13 +9,13 @@ ghost use Rattle.class_queries.specs.Laws.{AreKept};
 ghost use Rattle.interface.specs.declared.pairs.SignalPair.{SignalPair};
 ghost use Rattle.event_form.specs.Asked.{AreAsked};
 ghost use Rattle.assume_laws.specs.Assume.{IsAssumption};
-ghost use Rattle.assume_shape.specs.Shape.{assumption_of};
+ghost use Rattle.assume_laws.specs.assume_shape.Shape.{assumption_of};
 ghost use Rattle.assume_queries.specs.assume_functions.Functions.{IsOwnFunction};
 ghost use Rattle.assume_queries.specs.Parted.{Weighs};
 ghost use Rattle.assume_queries.specs.declared.map.UnderError.TheVariants as under_error;
 ghost use Rattle.event_under.specs.Asked.{AreAskedUnder};
 ghost use Rattle.event_under.specs.Places.{IsOverAtNodes, IsLightAtNodes};
-ghost use Rattle.ranked_nodes.specs.Ranks.{AreRanked};
+ghost use Rattle.event_variables.specs.ranked_nodes.Ranks.{AreRanked};
 ghost use Rattle.event_asked_under.specs.Questions.{IsOneOver, named_at};
 
 use crate::places::ranked_places;
@@ -24,9 +24,9 @@ use aig::Aig;
 use assume_queries::assume_answers::VariableOrder;
 use assume_queries::{OwnFunction, UnderError, asked_under};
 use event_nodes::EventGraph;
+use event_variables::ranked_nodes::{RankedNodes, ranks_of};
 use graph_copy::graph_clone::{GraphCopy, copy_graph};
 use obligations::Obligation;
-use ranked_nodes::{RankedNodes, ranks_of};
 use sec_base::PlaceTable;
 use std::alloc::Global;
 

@@ -1,7 +1,7 @@
 //! The variables of an event graph, each by the place of its event node in the order of nodes.
 
 ghost use Rattle.std.specs.Prelude.{◌≡◌, ℕ, ◌≤◌, length, slice_get, Some, IfOk};
-ghost use Rattle.ranked_nodes.specs.Named.{ranked_in};
+ghost use Rattle.event_variables.specs.ranked_nodes.Named.{ranked_in};
 
 use event_nodes::EventGraph;
 use sec_base::{NoMemory, PlaceTable};

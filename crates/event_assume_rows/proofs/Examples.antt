@@ -3,16 +3,16 @@ use Rattle.std.proofs.Common.{ℕ, true, List, [], ◌∷◌, refl, sym, subst, 
 use Rattle.std.specs.Prelude.{◌⊎◌, codes}
 use Rattle.std.specs.List.{Contains}
 use Rattle.circuit_theory.proofs.Lists.{Contains-tail}
-use Rattle.assume_shape.specs.declared.shape.ShapeFault.{ShapeFault}
+use Rattle.assume_laws.specs.declared.assume_shape.shape.ShapeFault.{ShapeFault}
 use Rattle.event_assume_rows.specs.assume_rows.SameInputs.{same, same_design, small_same}
 use Rattle.event_assume_rows.proofs.assume_rows.Meeting.{ones_meet}
 use Rattle.event_assume_rows.proofs.assume_rows.Shape.{no_fault, weighs_few}
 use Rattle.event_assume_rows.proofs.assume_rows.Spelled.{same_spells}
 use Rattle.design_rows.specs.Small.{IsSmall}
 use Rattle.design_rows.proofs.Spelling.{accepted, net_is_small}
-use Rattle.check_meaning.specs.event_meaning_under.Heavy.{IsTooLargeForEvents}
-use Rattle.check_meaning.specs.event_meaning_under.Met.{shared_by}
-use Rattle.check_meaning.specs.event_meaning_under.Taken.{IsFirstFault}
+use Rattle.check_meaning.specs.event_meaning.event_meaning_under.Heavy.{IsTooLargeForEvents}
+use Rattle.under_base.specs.Met.{shared_by}
+use Rattle.assume_taken.specs.Taken.{IsFirstFault}
 use Rattle.event_premises.proofs.Comparing.{comparable_events}
 use Rattle.event_premises.proofs.LoadExamples.{no_cycles}
 use Rattle.event_premises.proofs.Nets.{accepted_text, flat_of, ports_match, shared_kept}

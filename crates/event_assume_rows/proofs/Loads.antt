@@ -13,11 +13,11 @@ use Rattle.sec_base.specs.declared.settings.Settings.{Settings}
 use Rattle.witness_report.specs.declared.witness.PairName.TheVariants as pair
 use Rattle.interface.specs.declared.pairs.SignalPair.{SignalPair}
 use Rattle.interface.specs.Pairs.{named_pairs, pair_called, places_of}
-use Rattle.assume_shape.specs.declared.shape.ShapeFault.{ShapeFault}
-use Rattle.assume_shape.specs.declared.shape.ShapeFault.TheVariants as fault
+use Rattle.assume_laws.specs.declared.assume_shape.shape.ShapeFault.{ShapeFault}
+use Rattle.assume_laws.specs.declared.assume_shape.shape.ShapeFault.TheVariants as fault
 use Rattle.class_queries.specs.Enables.{class_map}
-use Rattle.check_meaning.specs.event_meaning_under.Heavy.{IsTooLargeForEvents, PairsAreOver}
-use Rattle.check_meaning.specs.event_meaning_under.Met.{IsMet}
+use Rattle.check_meaning.specs.event_meaning.event_meaning_under.Heavy.{IsTooLargeForEvents, PairsAreOver}
+use Rattle.under_base.specs.Met.{IsMet}
 use Rattle.check_meaning.specs.event_texts.Compared.{StopsAtPairs}
 use Rattle.event_premises.proofs.Comparing.{left_events, right_events}
 use Rattle.event_premises.proofs.Within.{IsShallowNet, depths, few_latches, latches, shallow}

@@ -4,7 +4,7 @@ use Rattle.event_nodes.specs.View.{EventCircuitView}
 use Rattle.event_answers.specs.Findings.{FindingsFit}
 use Rattle.event_answers.specs.EventFindings.{EventFindings}
 use Rattle.event_answers.specs.EventPairs.{EventPairs}
-use Rattle.event_meaning.specs.compare_base.declared.error.CompareError.{CompareError}
+use Rattle.event_meaning.specs.event_meaning_under.CompareError.{CompareError}
 use Rattle.event_answers.specs.Askable.{IsAskedBy}
 use Rattle.event_answers.specs.Finding.{AreNotUnfolded, AreUnfolded}
 use Rattle.event_answers.specs.Named.{NamesVerdict}

@@ -1,3 +1,4 @@
 pub mod Circuits
 pub mod Refusals
-pub use Rattle.event_answers_under.specs.Answered
+pub mod event_names_under
+pub use Rattle.event_meaning.specs.event_meaning_under.Answered

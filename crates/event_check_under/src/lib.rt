@@ -3,6 +3,7 @@
 
 mod circuits;
 mod comparison;
+pub mod event_names_under;
 mod pairs;
 
 pub use comparison::compare_in_events_under;

@@ -8,7 +8,7 @@ ghost use Rattle.event_answers.specs.Askable.{AreAskable};
 ghost use Rattle.event_answers_under.specs.Pairs.{FindsPairsUnder};
 ghost use Rattle.event_check_under.specs.Refusals.{refusal_under};
 
-use assume_shape::ShapeFault;
+use assume_laws::assume_shape::ShapeFault;
 use event_answers::{Asked, EventPairs, Found, Names, Separated, named_findings};
 use event_answers_under::{CompareError, Premise};
 use event_under_form::{EventUnderError, compare_events_under};

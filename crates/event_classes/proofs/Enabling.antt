@@ -11,7 +11,7 @@ use Rattle.class_totals.proofs.class_queries.Meaning.{numbered}
 use Rattle.circuit_theory.specs.declared.Side.{Side}
 use Rattle.circuit_theory.specs.declared.Side.TheVariants.{A, B}
 use Rattle.circuit_theory.specs.Run.{IsEnabled}
-use Rattle.event_laws.proofs.SideParts.{sides_are_parts_in_nets}
+use Rattle.circuit_laws.proofs.event_laws.SideParts.{sides_are_parts_in_nets}
 use Rattle.flat_net.specs.declared.parts.LatchAt.{LatchAt}
 use Rattle.flat_net.specs.Cut.{latch_at}
 use Rattle.flat_net.specs.Sound.{IsSound}

@@ -10,7 +10,7 @@ use Rattle.circuit_theory.specs.Joined.{Either, Left, Right, joined}
 use Rattle.circuit_theory.specs.Run.{IsEnabled}
 use Rattle.circuit_theory.proofs.Lists.{Contains-head}
 use Rattle.circuit_theory.specs.EventTotals.{IsMapSoFar}
-use Rattle.event_laws.specs.ClassSteps.{IsFirstFit}
+use Rattle.circuit_laws.specs.event_laws.ClassSteps.{IsFirstFit}
 use Rattle.flat_net.specs.Cut.{latch_at, no_latch}
 use Rattle.flat_net.specs.Sound.{IsSound}
 use Rattle.flat_net.specs.View.{NetView, circuit_of}

@@ -9,8 +9,8 @@ use Rattle.circuit_theory.specs.Joined.{Either}
 use Rattle.circuit_theory.specs.Run.{IsEnabled}
 use Rattle.circuit_laws.proofs.JoinedParts.{joined_single, joined_number_once}
 use Rattle.circuit_theory.specs.Classes.{EnableAtRoot, classes_of}
-use Rattle.event_laws.proofs.ClassMaps.{fold_each}
-use Rattle.event_laws.proofs.EventTrees.{one_enable}
+use Rattle.circuit_laws.proofs.event_laws.ClassMaps.{fold_each}
+use Rattle.circuit_laws.proofs.event_laws.EventTrees.{one_enable}
 use Rattle.flat_net.specs.View.{circuit_of}
 use Rattle.flat_net.proofs.CutNets.{slice_get-append_cases}
 use Rattle.flat_net.proofs.Nets.{sound_is_net}

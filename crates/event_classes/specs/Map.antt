@@ -6,7 +6,7 @@ use Rattle.circuit_theory.specs.Depth.{LatchesHaveDepths}
 use Rattle.circuit_theory.specs.Joined.{Either}
 use Rattle.circuit_theory.specs.Run.{IsEnabled}
 use Rattle.circuit_theory.specs.Classes.{HasClasses}
-use Rattle.event_laws.specs.ClassSteps.{IsFirstFit}
+use Rattle.circuit_laws.specs.event_laws.ClassSteps.{IsFirstFit}
 use Rattle.flat_net.specs.declared.parts.LatchAt.{LatchAt}
 use Rattle.sec_base.specs.declared.basics.Tag.{Tag}
 use Rattle.aig.specs.declared.node.Node.TheVariants.{Constant}

@@ -6,7 +6,7 @@ use Rattle.std.proofs.lemmas.List.Elements.{All-contains}
 use Rattle.event_nodes.specs.View.{EventCircuitView}
 use Rattle.interface.specs.declared.pairs.SignalPair.{SignalPair}
 use Rattle.obligations.specs.declared.obligation.Obligation.{Obligation}
-use Rattle.event_findings.specs.pair_events.View.{EventsView, IsWithinLimits, side_of_both}
+use Rattle.event_findings.specs.event_agreement.pair_events.View.{EventsView, IsWithinLimits, side_of_both}
 use Rattle.event_findings.specs.Separated.{AreSeparated}
 use Rattle.event_findings.specs.class_separations.declared.apart.Apart.{Apart}
 use Rattle.event_findings.specs.event_form.Asked.{AreAsked, IsLater, IsPairOf}

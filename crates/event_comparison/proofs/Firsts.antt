@@ -20,7 +20,7 @@ use Rattle.obligations.specs.Decided.{HaveDecided, IsAnswered, IsFirst, IsFirstO
 use Rattle.obligations.specs.Verdict.{IsVerdictAt}
 use Rattle.outcome.specs.declared.verdict.PairResult.{PairResult}
 use Rattle.pair_decide.specs.declared.query.Query.{Query}
-use Rattle.event_findings.specs.pair_events.View.{EventsView, side_of_both}
+use Rattle.event_findings.specs.event_agreement.pair_events.View.{EventsView, side_of_both}
 use Rattle.event_findings.proofs.swept_queries.Listed.{zip_left}
 use Rattle.witness_report.specs.declared.witness.Witness.{Witness}
 use Rattle.event_findings.specs.event_form.Answers.{PairFits}

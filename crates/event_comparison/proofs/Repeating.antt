@@ -14,10 +14,10 @@ use Rattle.flat_net.proofs.Nets.{sound_is_net}
 use Rattle.class_queries.specs.Laws.{AreKept}
 use Rattle.event_nodes.specs.View.{EventCircuitView, side_of, Enabled}
 use Rattle.interface.specs.declared.pairs.SignalPair.{SignalPair}
-use Rattle.event_findings.specs.pair_events.Counted.{both_starts}
-use Rattle.event_findings.specs.pair_events.View.{EventsView, IsWithinLimits, circuit_at, side_of_both}
-use Rattle.event_findings.specs.pair_events.Within.{AreTotalsWithin, IsCountedOnce}
-use Rattle.event_findings.proofs.pair_events.Within.{is_within}
+use Rattle.event_findings.specs.event_agreement.pair_events.Counted.{both_starts}
+use Rattle.event_findings.specs.event_agreement.pair_events.View.{EventsView, IsWithinLimits, circuit_at, side_of_both}
+use Rattle.event_findings.specs.event_agreement.pair_events.Within.{AreTotalsWithin, IsCountedOnce}
+use Rattle.event_findings.proofs.event_agreement.pair_events.Within.{is_within}
 use Rattle.event_findings.specs.event_form.Asked.{IsLater}
 use Rattle.event_findings.specs.event_form.Counted.{CountsOn, left_starts, right_starts}
 use Rattle.event_findings.specs.event_form.Refused.{starts_at, IsRefusedFor}

@@ -18,8 +18,8 @@ use Rattle.obligations.specs.declared.verdict.VerdictAt.TheVariants as at
 use Rattle.obligations.specs.Decided.{HaveDecided, IsFirst, IsFirstOf}
 use Rattle.obligations.specs.Verdict.{IsVerdictAt}
 use Rattle.outcome.specs.declared.verdict.PairResult.{PairResult}
-use Rattle.event_findings.specs.pair_events.Counted.{HaveCounted}
-use Rattle.event_findings.specs.pair_events.View.{EventsView, side_of_both}
+use Rattle.event_findings.specs.event_agreement.pair_events.Counted.{HaveCounted}
+use Rattle.event_findings.specs.event_agreement.pair_events.View.{EventsView, side_of_both}
 use Rattle.sec_base.specs.declared.basics.PairAnswer.{PairAnswer}
 use Rattle.sec_base.specs.declared.basics.PairAnswer.TheVariants as answer
 use Rattle.event_findings.specs.event_form.Asked.{IsAskedOf, IsLater, IsPairOf}

@@ -11,8 +11,8 @@ use Rattle.obligations.specs.declared.verdict.VerdictAt.{VerdictAt}
 use Rattle.obligations.specs.declared.verdict.VerdictAt.TheVariants as at
 use Rattle.obligations.specs.Decided.{IsFirstOf}
 use Rattle.outcome.specs.declared.verdict.PairResult.{PairResult}
-use Rattle.event_findings.specs.pair_events.Counted.{HaveCounted}
-use Rattle.event_findings.specs.pair_events.View.{EventsView, IsWithinLimits, side_of_both}
+use Rattle.event_findings.specs.event_agreement.pair_events.Counted.{HaveCounted}
+use Rattle.event_findings.specs.event_agreement.pair_events.View.{EventsView, IsWithinLimits, side_of_both}
 use Rattle.sec_base.specs.Table.{AreDistinct}
 use Rattle.sec_base.specs.declared.basics.PairAnswer.TheVariants as answer
 use Rattle.event_findings.specs.event_form.Asked.{AreAsked, IsPairOf}

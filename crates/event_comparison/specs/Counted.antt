@@ -2,8 +2,8 @@
 use Rattle.std.specs.Prelude.{ℕ, List, Result}
 use Rattle.circuit_theory.specs.EventSizes.{Start}
 use Rattle.interface.specs.declared.pairs.SignalPair.{SignalPair}
-use Rattle.event_findings.specs.pair_events.Counted.{HaveCounted}
-use Rattle.event_findings.specs.pair_events.View.{EventsView, IsWithinLimits}
+use Rattle.event_findings.specs.event_agreement.pair_events.Counted.{HaveCounted}
+use Rattle.event_findings.specs.event_agreement.pair_events.View.{EventsView, IsWithinLimits}
 use Rattle.event_findings.specs.event_form.Asked.{IsLater}
 use Rattle.event_findings.specs.event_form.Counted.{CountsOn}
 use Rattle.event_findings.specs.event_form.Stopped.{IsStoppedFor}

@@ -9,4 +9,4 @@ pub use Rattle.event_findings.specs.Findings
 pub use Rattle.event_findings.specs.declared.findings.EventFindings
 pub use Rattle.event_findings.specs.class_events
 pub use Rattle.event_findings.specs.event_witness
-pub use Rattle.event_findings.specs.pair_events
+pub use Rattle.event_findings.specs.event_agreement

@@ -7,7 +7,7 @@ ghost use Rattle.event_findings.specs.event_form.Counted.{left_starts, right_sta
 ghost use Rattle.event_findings.specs.event_form.Refused.{IsRefusedFor};
 ghost use Rattle.event_findings.specs.declared.verdict.EventVerdict.TheVariants as event_verdict;
 ghost use Rattle.obligations.specs.Asked.{AreAsked as AreQueries};
-ghost use Rattle.event_findings.specs.pair_events.View.{IsWithinLimits};
+ghost use Rattle.event_findings.specs.event_agreement.pair_events.View.{IsWithinLimits};
 ghost use Rattle.event_comparison.specs.Agreement.{CircuitsAgree};
 ghost use Rattle.event_comparison.specs.Asked.{AreAskedFrom, StayCounted};
 ghost use Rattle.event_comparison.specs.Counted.{AreRefused, ArePairsCounted};

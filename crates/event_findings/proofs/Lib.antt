@@ -7,5 +7,4 @@ pub use Rattle.event_witness.proofs as event_witness
 pub use Rattle.unshown_pairs.proofs as unshown_pairs
 pub use Rattle.unshown_pairs.proofs.event_agreement
 pub use Rattle.unshown_pairs.proofs.event_form
-pub use Rattle.unshown_pairs.proofs.pair_events
 pub use Rattle.unshown_pairs.proofs.swept_queries

@@ -23,4 +23,3 @@ pub use Rattle.unshown_pairs.specs.event_agreement
 pub use Rattle.unshown_pairs.specs.event_classes
 pub use Rattle.unshown_pairs.specs.event_form
 pub use Rattle.unshown_pairs.specs.obligations
-pub use Rattle.unshown_pairs.specs.pair_events

@@ -13,15 +13,15 @@ use Rattle.circuit_laws.proofs.JoinedParts.{meets_both}
 use Rattle.circuit_laws.proofs.NetLaws.{net_value, net_value-extends}
 use Rattle.circuit_theory.specs.Classes.{HasClasses}
 use Rattle.circuit_theory.specs.EventFits.{HaveEqualEvents}
-use Rattle.event_laws.proofs.ExposedEvents.{exposed_event_functions_agree_in_nets}
-use Rattle.event_laws.proofs.SideParts.{sides_are_parts_in_nets}
+use Rattle.circuit_laws.proofs.event_laws.ExposedEvents.{exposed_event_functions_agree_in_nets}
+use Rattle.circuit_laws.proofs.event_laws.SideParts.{sides_are_parts_in_nets}
 use Rattle.flat_net.specs.View.{NetView, circuit_of}
 use Rattle.flat_net.proofs.Nets.{sound_is_net, sound_names}
 use Rattle.interface.specs.declared.pairs.SignalPair.{SignalPair}
 use Rattle.interface.specs.Pairs.{NamedPair, named_pairs, places_of}
 use Rattle.sec_base.specs.declared.basics.PairAnswer.{PairAnswer}
 use Rattle.sec_base.specs.declared.basics.PairAnswer.TheVariants as answer
-use Rattle.compare_base.specs.pair_decide.declared.query.Proof.{Proof}
+use Rattle.under_base.specs.compare_base.pair_decide.declared.query.Proof.{Proof}
 use Rattle.read_inputs.specs.Cuts.{columns_of}
 use Rattle.read_inputs.proofs.CutNets.{cut_numbered}
 use Rattle.event_findings.specs.outcome.declared.verdict.PairResult.{PairResult}

@@ -17,11 +17,11 @@ use Rattle.event_findings.specs.class_totals.Totals.{circuit_at, starts_at}
 use Rattle.event_findings.specs.class_totals.Functions.{signal_start}
 use Rattle.event_nodes.specs.View.{EventCircuitView, side_of, Enabled}
 use Rattle.interface.specs.declared.pairs.SignalPair.{SignalPair}
-use Rattle.event_findings.specs.pair_events.Counted.{both_starts, left_with, right_with, starts_with, HaveCounted, AreTooMany, IsTooLarge}
-use Rattle.event_findings.specs.pair_events.View.{EventsView, IsEvents, IsWithinLimits, side_of_both}
-use Rattle.event_findings.specs.pair_events.View as view
-use Rattle.event_findings.specs.pair_events.Within.{AreTotalsWithin, IsCountedOnce}
-use Rattle.event_findings.proofs.pair_events.Within.{is_within}
+use Rattle.event_findings.specs.event_agreement.pair_events.Counted.{both_starts, left_with, right_with, starts_with, HaveCounted, AreTooMany, IsTooLarge}
+use Rattle.event_findings.specs.event_agreement.pair_events.View.{EventsView, IsEvents, IsWithinLimits, side_of_both}
+use Rattle.event_findings.specs.event_agreement.pair_events.View as view
+use Rattle.event_findings.specs.event_agreement.pair_events.Within.{AreTotalsWithin, IsCountedOnce}
+use Rattle.event_findings.proofs.event_agreement.pair_events.Within.{is_within}
 use Rattle.event_findings.specs.unshown_pairs.Asked.{IsLater}
 use Rattle.event_findings.specs.unshown_pairs.Counted.{CountsOn, left_starts, right_starts}
 use Rattle.event_findings.specs.unshown_pairs.Stopped.{IsFirstStop, lefts_before, rights_before, lefts_with, rights_with, signal_of}

@@ -14,17 +14,17 @@ use Rattle.event_findings.specs.outcome.declared.verdict.Outcome.{Outcome}
 use Rattle.event_findings.specs.outcome.declared.verdict.Unshown.{Unshown}
 use Rattle.event_findings.specs.outcome.declared.verdict.Verdict.TheVariants as verdict
 use Rattle.event_findings.specs.outcome.declared.verdict.Why.TheVariants as why
-use Rattle.compare_base.specs.SetupError.TheVariants as unset
-use Rattle.compare_base.specs.Matching.{InterfacesMatch}
+use Rattle.under_base.specs.compare_base.SetupError.TheVariants as unset
+use Rattle.under_base.specs.compare_base.Matching.{InterfacesMatch}
 use Rattle.event_findings.specs.unshown_pairs.Refused.{IsTooMany, IsTooHeavy}
 use Rattle.event_nodes.specs.View.{EventCircuitView}
 use Rattle.event_setup.specs.Choosing.{RefusesCycle}
 use Rattle.event_setup.specs.Recovered.{AreKnown, RecoversBoth}
 use Rattle.event_setup.specs.declared.error.RecoveryError.TheVariants as unknown
-use Rattle.compare_base.specs.declared.error.CompareError.{CompareError}
-use Rattle.compare_base.specs.declared.error.CompareError.TheVariants as refused
-use Rattle.compare_base.specs.Compared.{Compared}
-use Rattle.compare_base.specs.Says.{SaysEqual, SaysDifferent, SaysNotShown}
+use Rattle.under_base.specs.declared.compare_base.error.CompareError.{CompareError}
+use Rattle.under_base.specs.declared.compare_base.error.CompareError.TheVariants as refused
+use Rattle.under_base.specs.compare_base.Compared.{Compared}
+use Rattle.under_base.specs.compare_base.Says.{SaysEqual, SaysDifferent, SaysNotShown}
 use Rattle.event_fits.specs.Circuits.{AreReached}
 use Rattle.event_fits.specs.Fitting.{EventOutcomeFits}
 use Rattle.event_fits.specs.Shown.{IsFramed}

@@ -5,13 +5,13 @@ use Rattle.circuit_theory.specs.Interface.{shared_inputs}
 use Rattle.circuit_theory.specs.Classes.{classes_of}
 use Rattle.flat_net.specs.View.{NetView, circuit_of, ports_of}
 use Rattle.sec_base.specs.declared.basics.Tag.{Tag}
-use Rattle.compare_base.specs.pair_decide.declared.query.Proof.{Proof}
+use Rattle.under_base.specs.compare_base.pair_decide.declared.query.Proof.{Proof}
 use Rattle.interface.specs.Pairs.{named_pairs, places_of}
 use Rattle.event_findings.specs.outcome.declared.verdict.LimitAt.{LimitAt}
 use Rattle.event_findings.specs.outcome.declared.verdict.LimitAt.TheVariants as limit_at
 use Rattle.event_findings.specs.outcome.declared.verdict.Outcome.{Outcome}
 use Rattle.event_findings.specs.outcome.declared.verdict.Verdict.TheVariants as verdict
-use Rattle.compare_base.specs.Cuts.{columns_of, is_cut}
+use Rattle.read_inputs.specs.Cuts.{columns_of, is_cut}
 use Rattle.read_inputs.specs.class_queries.Enables.{both_of}
 use Rattle.event_findings.specs.unshown_pairs.Refused.{IsLimitOf}
 use Rattle.event_nodes.specs.View.{EventCircuitView}

@@ -1,4 +1,4 @@
-pub use Rattle.compare_base.specs.Says
+pub use Rattle.under_base.specs.compare_base.Says
 pub use Rattle.event_findings.specs.declared.pairs.EventPairs
 pub use Rattle.event_findings.specs.Findings
 pub use Rattle.event_findings.specs.declared.verdict.UnshownPair
@@ -20,8 +20,8 @@ pub use Rattle.event_setup.specs.Choosing
 pub mod Circuits
 pub mod Totals
 pub use Rattle.event_findings.specs.unshown_pairs.Refused
-pub use Rattle.compare_base.specs as compare_base
-pub use Rattle.compare_base.specs.pair_decide
+pub use Rattle.under_base.specs as under_base
+pub use Rattle.under_base.specs.compare_base.pair_decide
 pub use Rattle.event_findings.specs.event_classes
 pub use Rattle.event_findings.specs.outcome
 pub use Rattle.event_setup.specs as event_setup

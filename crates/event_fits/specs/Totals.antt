@@ -12,8 +12,8 @@ use Rattle.event_findings.specs.class_totals.Totals.{circuit_at, starts_at}
 use Rattle.event_findings.specs.unshown_pairs.Counted.{left_starts, right_starts}
 use Rattle.event_findings.specs.unshown_pairs.Stopped.{lefts_before, rights_before, lefts_with, rights_with}
 use Rattle.interface.specs.declared.pairs.SignalPair.{SignalPair}
-use Rattle.event_findings.specs.pair_events.Counted.{both_starts}
-use Rattle.event_findings.specs.pair_events.Within.{AreTotalsWithin}
+use Rattle.event_findings.specs.event_agreement.pair_events.Counted.{both_starts}
+use Rattle.event_findings.specs.event_agreement.pair_events.Within.{AreTotalsWithin}
 
 -- The class map of both circuits is made: no more than 30,000 latches are enabled, they have no more than 500 classes besides `always`, and these
 -- are the starts of their enables in each circuit.

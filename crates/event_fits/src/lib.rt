@@ -8,9 +8,9 @@
 //! lemmas alone.
 #![tactic(auto)]
 
-pub use compare_base::CompareError;
 pub use event_findings::{
     EventVerdict, Frame, FrameBit, LimitAt, Separation, Separations, Spot, Spots, ToldSeparation,
     Unshown, UnshownFrame, UnshownPair, Verdict, Why,
 };
 pub use event_setup::{EnabledLatches, EventSetup, RecoveryError, recover_both, set_up_events};
+pub use under_base::compare_base::CompareError;

@@ -14,24 +14,24 @@ use Rattle.aig.specs.Builds.{Builds}
 use Rattle.aig.specs.declared.node.Node.{Node}
 use Rattle.aig.specs.declared.node.Lit.{Lit}
 use Rattle.aig.proofs.Growth.{Builds-one}
-use Rattle.pair_events.specs.event_nodes.Nodes.{EventGraphView, IsEventGraph, named_places, path_of}
-use Rattle.pair_events.specs.event_variables.Variables.{variable_of, variables_of}
-use Rattle.pair_events.proofs.event_variables.Named.{named_distinct}
-use Rattle.pair_events.specs.event_agreement.Laws.{HasSameQuery}
-use Rattle.pair_events.specs.event_agreement.Queries.{AsksEventPair}
-use Rattle.pair_events.proofs.event_agreement.PairQueries.{within, are_variables, left_value, right_value, care_value, same_events, shown_frame}
-use Rattle.pair_events.proofs.event_agreement.Agreeing.{queries_agree}
-use Rattle.pair_events.specs.Enables.{both_of}
+use Rattle.event_agreement.specs.event_nodes.Nodes.{EventGraphView, IsEventGraph, named_places, path_of}
+use Rattle.event_agreement.specs.event_variables.Variables.{variable_of, variables_of}
+use Rattle.event_agreement.proofs.event_variables.Named.{named_distinct}
+use Rattle.event_agreement.specs.Laws.{HasSameQuery}
+use Rattle.event_agreement.specs.Queries.{AsksEventPair}
+use Rattle.event_agreement.proofs.PairQueries.{within, are_variables, left_value, right_value, care_value, same_events, shown_frame}
+use Rattle.event_agreement.proofs.Agreeing.{queries_agree}
+use Rattle.event_agreement.specs.pair_events.Enables.{both_of}
 use Rattle.interface.specs.declared.pairs.SignalPair.{SignalPair}
 use Rattle.obligations.specs.declared.obligation.Obligation.{Obligation}
 use Rattle.obligations.specs.Decided.{AnswerIs, IsAnswered}
 use Rattle.obligations.specs.Found.{Differ, IsDifferenceOf}
 use Rattle.obligations.specs.PairResult.{PairResult}
-use Rattle.pair_events.specs.pair_decide.declared.query.Decision.TheVariants as decision
-use Rattle.pair_events.specs.pair_decide.declared.query.Proof.{Proof}
-use Rattle.pair_events.specs.pair_decide.declared.query.Query.{Query}
-use Rattle.pair_events.specs.pair_decide.Answers.{IsDifference, IsAtLimit}
-use Rattle.pair_events.specs.pair_decide.Queries.{IsSame, roots_of}
+use Rattle.obligations.specs.pair_decide.declared.query.Decision.TheVariants as decision
+use Rattle.obligations.specs.pair_decide.declared.query.Proof.{Proof}
+use Rattle.obligations.specs.pair_decide.declared.query.Query.{Query}
+use Rattle.obligations.specs.pair_decide.Answers.{IsDifference, IsAtLimit}
+use Rattle.obligations.specs.pair_decide.Queries.{IsSame, roots_of}
 use Rattle.obligations.specs.InStead.{IsInStead, DecidesInStead}
 use Rattle.event_form.specs.Asked.{IsAskedOf, AreAsked}
 use Rattle.event_form.specs.Answers.{AnswerFits, PairFits, IsFrameOf, IsUndecided, ReadOnly}

@@ -10,25 +10,25 @@ use Rattle.circuit_theory.proofs.Lists.{Contains-map, Contains-map_from, length-
 use Rattle.circuit_theory.specs.EventFits.{ReachesAlways}
 use Rattle.circuit_theory.specs.EventFrames.{IsEventSize}
 use Rattle.circuit_theory.specs.Frame.{EventSide, ConeLatches, IsNode}
-use Rattle.pair_events.specs.event_nodes.Nodes.{EventGraphView, IsEventGraph, GrowsEvents, path_of}
-use Rattle.pair_events.specs.event_nodes.View.{EventCircuitView}
-use Rattle.pair_events.proofs.event_nodes.Growing.{grows_trans}
-use Rattle.pair_events.proofs.event_nodes.Lists.{pairs_map}
-use Rattle.pair_events.proofs.event_nodes.OnePath.{one_node}
-use Rattle.pair_events.specs.event_variables.Order.{IsOnce}
-use Rattle.pair_events.specs.event_functions.declared.signals.SignalFunction.{SignalFunction}
-use Rattle.pair_events.specs.Enables.{both_of}
-use Rattle.pair_events.specs.Functions.{IsEventFunction, AreNodesOf}
-use Rattle.pair_events.proofs.Growing.{function_later}
-use Rattle.pair_events.proofs.Unions.{pair_nodes}
-use Rattle.pair_events.specs.event_agreement.Queries.{AsksEventPair}
-use Rattle.pair_events.proofs.event_agreement.PairQueries.{queries_later, queries_of_pairs}
+use Rattle.event_agreement.specs.event_nodes.Nodes.{EventGraphView, IsEventGraph, GrowsEvents, path_of}
+use Rattle.event_agreement.specs.event_nodes.View.{EventCircuitView}
+use Rattle.event_agreement.proofs.event_nodes.Growing.{grows_trans}
+use Rattle.event_agreement.proofs.event_nodes.Lists.{pairs_map}
+use Rattle.event_agreement.proofs.event_nodes.OnePath.{one_node}
+use Rattle.event_agreement.specs.event_variables.Order.{IsOnce}
+use Rattle.event_agreement.specs.event_pairs.SignalFunction.{SignalFunction}
+use Rattle.event_agreement.specs.pair_events.Enables.{both_of}
+use Rattle.event_agreement.specs.event_pairs.Functions.{IsEventFunction, AreNodesOf}
+use Rattle.event_agreement.proofs.event_pairs.Growing.{function_later}
+use Rattle.event_agreement.proofs.event_pairs.Unions.{pair_nodes}
+use Rattle.event_agreement.specs.Queries.{AsksEventPair}
+use Rattle.event_agreement.proofs.PairQueries.{queries_later, queries_of_pairs}
 use Rattle.interface.specs.declared.pairs.SignalPair.{SignalPair}
 use Rattle.obligations.specs.Asked.{AreAsked as AreQueries}
 use Rattle.obligations.specs.declared.obligation.Obligation.{Obligation}
-use Rattle.pair_events.specs.pair_decide.declared.query.Query.{Query}
-use Rattle.pair_events.specs.pair_decide.Queries.{IsQuery}
-use Rattle.pair_events.specs.View.{EventsView, side_of_both}
+use Rattle.obligations.specs.pair_decide.declared.query.Query.{Query}
+use Rattle.obligations.specs.pair_decide.Queries.{IsQuery}
+use Rattle.event_agreement.specs.pair_events.View.{EventsView, side_of_both}
 use Rattle.event_form.specs.Asked.{IsAskedOf, AreAsked, IsDecisive, IsLater, HasGraphMore, IsPairOf, IsQueryOf, IsUnion}
 
 -- numbers of two lists, each once

@@ -1,4 +1,4 @@
-pub use Rattle.pair_events.proofs.event_agreement.SameCircuits
+pub use Rattle.event_agreement.proofs.SameCircuits
 pub mod Asking
 pub mod Counted
 pub mod Answers
@@ -6,5 +6,5 @@ pub mod Telling
 pub mod Refusing
 pub mod Stopping
 pub use Rattle.obligations.proofs.swept_queries
-pub use Rattle.pair_events.proofs.class_queries
-pub use Rattle.pair_events.proofs.event_agreement
+pub use Rattle.event_agreement.proofs.class_queries
+pub use Rattle.event_agreement.proofs as event_agreement

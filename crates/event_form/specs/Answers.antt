@@ -16,15 +16,15 @@ use Rattle.aig.specs.declared.node.Node.TheVariants.{Input}
 use Rattle.aig.specs.Cone.{IsReached}
 use Rattle.aig.specs.Graph.{IsGraph}
 use Rattle.aig.specs.Values.{value}
-use Rattle.pair_events.specs.cnf_encode.Encoding.{IsEncoding}
-use Rattle.pair_events.specs.sat_search.Found.{IsFruitless}
-use Rattle.pair_events.specs.event_nodes.Nodes.{EventGraphView}
-use Rattle.pair_events.specs.event_variables.Variables.{variables_of}
+use Rattle.obligations.specs.cnf_encode.Encoding.{IsEncoding}
+use Rattle.obligations.specs.sat_search.Found.{IsFruitless}
+use Rattle.event_agreement.specs.event_nodes.Nodes.{EventGraphView}
+use Rattle.event_agreement.specs.event_variables.Variables.{variables_of}
 use Rattle.interface.specs.declared.pairs.SignalPair.{SignalPair}
 use Rattle.obligations.specs.PairResult.{PairResult}
-use Rattle.pair_events.specs.pair_decide.declared.query.Proof.{Proof}
-use Rattle.pair_events.specs.pair_decide.declared.query.Query.{Query}
-use Rattle.pair_events.specs.pair_decide.Queries.{assigned_to}
+use Rattle.obligations.specs.pair_decide.declared.query.Proof.{Proof}
+use Rattle.obligations.specs.pair_decide.declared.query.Query.{Query}
+use Rattle.obligations.specs.pair_decide.Queries.{assigned_to}
 use Rattle.event_form.specs.Asked.{IsDecisive}
 
 -- the assignment of the graph's variables, inputs at event nodes, is the frame's

@@ -6,14 +6,14 @@ use Rattle.circuit_theory.specs.EventFits.{ReachesAlways}
 use Rattle.circuit_theory.specs.EventFrames.{IsEventSize}
 use Rattle.circuit_theory.specs.Frame.{EventSide}
 use Rattle.aig.specs.Rules.{IsAndOf}
-use Rattle.pair_events.specs.event_nodes.Nodes.{EventGraphView, GrowsEvents}
-use Rattle.pair_events.specs.event_variables.Variables.{AreInOrder, IsMergeOf}
-use Rattle.pair_events.specs.event_functions.declared.signals.SignalFunction.{SignalFunction}
-use Rattle.pair_events.specs.event_agreement.Queries.{AsksEventPair}
+use Rattle.event_agreement.specs.event_nodes.Nodes.{EventGraphView, GrowsEvents}
+use Rattle.event_agreement.specs.event_variables.Variables.{AreInOrder, IsMergeOf}
+use Rattle.event_agreement.specs.event_pairs.SignalFunction.{SignalFunction}
+use Rattle.event_agreement.specs.Queries.{AsksEventPair}
 use Rattle.interface.specs.declared.pairs.SignalPair.{SignalPair}
 use Rattle.obligations.specs.declared.obligation.Obligation.{Obligation}
-use Rattle.pair_events.specs.pair_decide.declared.query.Query.{Query}
-use Rattle.pair_events.specs.View.{EventsView}
+use Rattle.obligations.specs.pair_decide.declared.query.Query.{Query}
+use Rattle.event_agreement.specs.pair_events.View.{EventsView}
 
 -- Whether a difference of the pair shows that the circuits differ: no latch is cut open, and both sides reach latches of class 0 alone.
 abbrev pub IsDecisive : EventSide (Either ℕ ℕ) → Bool → ℕ → ℕ → Type 0

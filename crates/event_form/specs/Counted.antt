@@ -1,10 +1,10 @@
 -- What was counted goes on with the signals of pairs.
 use Rattle.std.specs.Prelude.{ℕ, List, [], ◌∷◌, ◌++◌, map}
 use Rattle.circuit_theory.specs.EventSizes.{Start}
-use Rattle.pair_events.specs.event_functions.Functions.{signal_start}
+use Rattle.event_agreement.specs.event_functions.Functions.{signal_start}
 use Rattle.interface.specs.declared.pairs.SignalPair.{SignalPair}
-use Rattle.pair_events.specs.Counted.{HaveCounted}
-use Rattle.pair_events.specs.View.{EventsView}
+use Rattle.event_agreement.specs.pair_events.Counted.{HaveCounted}
+use Rattle.event_agreement.specs.pair_events.View.{EventsView}
 
 -- the starts of these pairs, in A and in B
 abbrev pub left_starts : List SignalPair → List (Start ℕ)

@@ -11,10 +11,10 @@ use Rattle.circuit_theory.specs.Classes.{HasClasses}
 use Rattle.circuit_theory.specs.Frame.{EventSide}
 use Rattle.interface.specs.flat_net.View.{circuit_of}
 use Rattle.aig.specs.sec_base.declared.basics.PairAnswer.TheVariants as answer
-use Rattle.pair_events.specs.event_nodes.Nodes.{EventGraphView, IsEventGraph}
-use Rattle.pair_events.specs.event_nodes.View.{EventCircuitView}
-use Rattle.pair_events.specs.Enables.{both_of}
-use Rattle.pair_events.specs.Laws.{AreKept}
+use Rattle.event_agreement.specs.event_nodes.Nodes.{EventGraphView, IsEventGraph}
+use Rattle.event_agreement.specs.event_nodes.View.{EventCircuitView}
+use Rattle.event_agreement.specs.pair_events.Enables.{both_of}
+use Rattle.event_agreement.specs.pair_events.Laws.{AreKept}
 use Rattle.interface.specs.declared.pairs.SignalPair.{SignalPair}
 use Rattle.obligations.specs.declared.obligation.Obligation.{Obligation}
 use Rattle.obligations.specs.Decided.{IsAnswered}

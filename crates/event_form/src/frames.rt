@@ -4,7 +4,7 @@ ghost use Rattle.std.specs.Prelude.{◌≡◌, ◌<◌, length, All, IfOk};
 ghost use Rattle.event_form.specs.Frames.{TellsVariable, TellsFrame};
 
 use aig::NoMemory;
-use pair_events::Events;
+use event_agreement::pair_events::Events;
 use std::alloc::Global;
 
 /// The bit of an input at an event node.

@@ -9,8 +9,8 @@ mod nodes;
 mod questions;
 
 pub use error::EventFormError;
+pub use event_agreement::pair_events::Events;
 pub use frames::{FrameBit, frame_of};
 pub use nodes::union_of;
 pub use obligations::{Difference, Obligation, copy_name};
-pub use pair_events::Events;
 pub use questions::{ask_pairs, unfold};

@@ -3,13 +3,13 @@ use Rattle.std.proofs.Common.{◌≡◌, ℕ, Bool, List, refl, subst, inl, inr}
 use Rattle.std.specs.Prelude.{◌⊎◌}
 use Rattle.flat_net.specs.View.{NetView}
 use Rattle.witness_report.specs.declared.witness.Witness.{Witness}
-use Rattle.event_fits.specs.outcome.declared.verdict.LimitAt.{LimitAt}
-use Rattle.event_fits.specs.outcome.declared.verdict.LimitAt.TheVariants as limit_at
-use Rattle.event_fits.specs.outcome.declared.verdict.Outcome.{Outcome}
-use Rattle.event_fits.specs.outcome.declared.verdict.Unshown.{Unshown}
-use Rattle.event_fits.specs.outcome.declared.verdict.Verdict.{Verdict}
-use Rattle.event_fits.specs.outcome.declared.verdict.Verdict.TheVariants as verdict
-use Rattle.event_fits.specs.outcome.declared.verdict.Why.TheVariants as why
+use Rattle.outcome.specs.declared.verdict.LimitAt.{LimitAt}
+use Rattle.outcome.specs.declared.verdict.LimitAt.TheVariants as limit_at
+use Rattle.outcome.specs.declared.verdict.Outcome.{Outcome}
+use Rattle.outcome.specs.declared.verdict.Unshown.{Unshown}
+use Rattle.outcome.specs.declared.verdict.Verdict.{Verdict}
+use Rattle.outcome.specs.declared.verdict.Verdict.TheVariants as verdict
+use Rattle.outcome.specs.declared.verdict.Why.TheVariants as why
 use Rattle.event_fits.specs.EventVerdict.{EventVerdict}
 use Rattle.event_fits.specs.EventVerdict.TheVariants as found
 use Rattle.event_fits.specs.UnshownPair.{UnshownPair}

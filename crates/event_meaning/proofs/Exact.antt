@@ -9,15 +9,15 @@ use Rattle.circuit_laws.proofs.JoinedParts.{joined_number_once, joined_single}
 use Rattle.circuit_theory.specs.EventFits.{HaveEqualEvents}
 use Rattle.circuit_theory.specs.EventFrames.{HaveDifferentEvents}
 use Rattle.circuit_theory.specs.Frame.{EventUnfolds}
-use Rattle.event_laws.proofs.EventTrees.{one_event_tree}
+use Rattle.circuit_laws.proofs.event_laws.EventTrees.{one_event_tree}
 use Rattle.flat_net.specs.View.{circuit_of}
 use Rattle.flat_net.proofs.Nets.{sound_is_net}
 use Rattle.sec_base.specs.declared.basics.PairAnswer.{PairAnswer}
 use Rattle.sec_base.specs.declared.basics.PairAnswer.TheVariants as answer
-use Rattle.event_fits.specs.pair_decide.declared.query.Proof.{Proof}
-use Rattle.event_fits.specs.outcome.declared.verdict.PairResult.{PairResult}
-use Rattle.event_fits.specs.class_queries.Enables.{both_of}
-use Rattle.event_fits.proofs.class_queries.Meaning.{numbered}
+use Rattle.pair_decide.specs.declared.query.Proof.{Proof}
+use Rattle.outcome.specs.declared.verdict.PairResult.{PairResult}
+use Rattle.class_queries.specs.Enables.{both_of}
+use Rattle.class_queries.proofs.Meaning.{numbered}
 use Rattle.event_fits.specs.Answers.{AnswerFits, PairFits}
 use Rattle.event_fits.specs.Asked.{IsDecisive}
 use Rattle.event_nodes.specs.View.{EventCircuitView}

@@ -7,8 +7,8 @@ use Rattle.circuit_theory.proofs.Lists.{Contains-map, of_at}
 use Rattle.circuit_theory.specs.EventFrames.{IsUnshownFrame}
 use Rattle.witness_report.specs.declared.frame_report.frame.Spot.{Spot}
 use Rattle.interface.specs.Pairs.{NamedPair, places_of}
-use Rattle.event_fits.specs.sec_setup.Cuts.{columns_of}
-use Rattle.event_fits.specs.class_queries.Enables.{both_of}
+use Rattle.sec_setup.specs.Cuts.{columns_of}
+use Rattle.class_queries.specs.Enables.{both_of}
 use Rattle.event_fits.specs.FrameBit.{FrameBit}
 use Rattle.event_fits.specs.Told as told
 use Rattle.event_fits.specs.Findings.{VerdictFits}

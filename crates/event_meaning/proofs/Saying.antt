@@ -10,13 +10,13 @@ use Rattle.interface.specs.declared.pairs.SignalPair.{SignalPair}
 use Rattle.interface.specs.Pairs.{NamedPair, named_pairs, places_of}
 use Rattle.sec_base.specs.declared.basics.PairAnswer.{PairAnswer}
 use Rattle.sec_base.specs.declared.basics.PairAnswer.TheVariants as answer
-use Rattle.event_fits.specs.pair_decide.declared.query.Proof.{Proof}
-use Rattle.event_fits.specs.sec_setup.Cuts.{columns_of, is_cut}
+use Rattle.pair_decide.specs.declared.query.Proof.{Proof}
+use Rattle.sec_setup.specs.Cuts.{columns_of, is_cut}
 use Rattle.witness_report.specs.declared.witness.Witness.{Witness}
 use Rattle.witness_report.specs.Shown.{MakesDiffer, MakesCutsDiffer}
-use Rattle.event_fits.specs.outcome.declared.verdict.Outcome.{Outcome}
-use Rattle.event_fits.specs.outcome.declared.verdict.PairResult.{PairResult}
-use Rattle.event_fits.specs.class_queries.Enables.{both_of}
+use Rattle.outcome.specs.declared.verdict.Outcome.{Outcome}
+use Rattle.outcome.specs.declared.verdict.PairResult.{PairResult}
+use Rattle.class_queries.specs.Enables.{both_of}
 use Rattle.event_fits.specs.Circuits.{AreNets}
 use Rattle.event_fits.proofs.Agreeing.{circuits_agree}
 use Rattle.event_fits.proofs.Differing.{cuts_differ, circuits_differ}

@@ -7,16 +7,16 @@ use Rattle.flat_net.specs.View.{NetView, circuit_of}
 use Rattle.sec_base.specs.declared.basics.PairAnswer.TheVariants as answer
 use Rattle.interface.specs.declared.pairs.SignalPair.{SignalPair}
 use Rattle.witness_report.specs.declared.witness.Witness.{Witness}
-use Rattle.event_fits.specs.outcome.declared.verdict.Outcome.{Outcome}
-use Rattle.event_fits.specs.outcome.declared.verdict.PairResult.{PairResult}
-use Rattle.event_fits.specs.outcome.declared.verdict.Unshown.{Unshown}
-use Rattle.event_fits.specs.outcome.declared.verdict.Verdict.TheVariants as verdict
-use Rattle.event_fits.specs.outcome.declared.verdict.Why.TheVariants as why
-use Rattle.event_fits.specs.class_queries.Enables.{both_of}
+use Rattle.outcome.specs.declared.verdict.Outcome.{Outcome}
+use Rattle.outcome.specs.declared.verdict.PairResult.{PairResult}
+use Rattle.outcome.specs.declared.verdict.Unshown.{Unshown}
+use Rattle.outcome.specs.declared.verdict.Verdict.TheVariants as verdict
+use Rattle.outcome.specs.declared.verdict.Why.TheVariants as why
+use Rattle.class_queries.specs.Enables.{both_of}
 use Rattle.event_fits.specs.Circuits.{AreNets}
 use Rattle.event_fits.specs.Asked.{IsDecisive}
-use Rattle.event_fits.specs.sec_setup.Cuts.{is_cut}
-use Rattle.event_fits.specs.Says.{SaysEqual, SaysDifferent, SaysNotShown}
+use Rattle.sec_setup.specs.Cuts.{is_cut}
+use Rattle.under_base.specs.compare_base.Says.{SaysEqual, SaysDifferent, SaysNotShown}
 use Rattle.event_fits.specs.Fitting.{EventOutcomeFits, IsComparedByPairs}
 use Rattle.event_fits.specs.Shown.{IsFramed}
 

@@ -1,6 +1,7 @@
 //! What an outcome that fits two circuits in the event form says of them.
 #![tactic(auto)]
 
+pub mod event_meaning_under;
 mod laws;
 
 pub use event_fits::CompareError;

@@ -6,5 +6,5 @@ pub use Rattle.event_fits.specs.Totals
 pub use Rattle.event_fits.specs.Asked
 pub use Rattle.event_fits.specs.Circuits
 pub use Rattle.event_fits.specs.EventFormError
-pub use Rattle.event_fits.specs.compare_base
+pub use Rattle.event_fits.specs.under_base
 pub use Rattle.event_fits.specs.event_setup

@@ -16,8 +16,8 @@ use Rattle.circuit_laws.proofs.Pairs.{filter_map-has}
 use Rattle.circuit_laws.proofs.JoinedParts.{left_one, right_one, left_is_not_right}
 use Rattle.circuit_theory.specs.Classes.{IsLatchOrder}
 use Rattle.circuit_theory.specs.EventFits.{side_by_side}
-use Rattle.event_laws.specs.Laws.{SidesAreParts}
-use Rattle.event_laws.proofs.SideParts.{sides_are_parts_in_nets}
+use Rattle.circuit_laws.specs.event_laws.Laws.{SidesAreParts}
+use Rattle.circuit_laws.proofs.event_laws.SideParts.{sides_are_parts_in_nets}
 use Rattle.flat_net.specs.declared.parts.Driver.TheVariants as driver
 use Rattle.flat_net.specs.declared.parts.Gate.{Gate}
 use Rattle.flat_net.specs.declared.parts.LatchAt.{LatchAt}

@@ -16,8 +16,8 @@ use Rattle.flat_net.proofs.Nets.{sound_is_net}
 use Rattle.assume_laws.specs.Assume.{Assumption, IsAssumption, PlaceUnfolds, RowMeets}
 use Rattle.assume_laws.specs.Sequences.{IsMeetingDifference, assumption_query}
 use Rattle.assume_laws.proofs.Meeting.{meeting_row_meets}
-use Rattle.event_meaning_under.specs.under_base.Taken.{IsAssumed, assumed_by}
-use Rattle.event_meaning_under.specs.under_base.Met.{IsMet}
+use Rattle.event_meaning.specs.event_meaning_under.Taken.{IsAssumed, assumed_by}
+use Rattle.event_meaning.specs.event_meaning_under.Met.{IsMet}
 use Rattle.event_outcome_samples.specs.Different.{shows_a, shows_b, b_is_one}
 use Rattle.event_outcome_samples.proofs.Nets.{assumed_sound, both_names}
 use Rattle.event_outcome_samples.proofs.Sides.{names, no_latch, no_reading}

@@ -5,11 +5,11 @@ use Rattle.std.specs.List.{Contains}
 use Rattle.std.proofs.lemmas.List.Elements.{All-nil, All-cons}
 use Rattle.std.proofs.lemmas.Option.{none-some, same_Some, slice_get_within}
 use Rattle.sec_base.specs.Cover.{IsCoverSound}
-use Rattle.sec_base.specs.Table.{AreDistinct}
+use Rattle.base_tables.specs.Table.{AreDistinct}
 use Rattle.base_tables.proofs.Appended.{distinct-push}
 use Rattle.flat_net.specs.declared.parts.Port.{Port}
 use Rattle.flat_net.specs.Sound.{Drives, IsInputOf, IsSound}
-use Rattle.event_meaning_under.specs.event_fits.Circuits.{AreNets}
+use Rattle.event_meaning.specs.event_meaning_under.Circuits.{AreNets}
 use Rattle.event_outcome_samples.specs.Different.{shows_a, shows_b, b_is_one}
 
 -- F holds of each element at its place, counted from k on

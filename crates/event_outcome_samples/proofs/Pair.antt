@@ -15,7 +15,7 @@ use Rattle.assume_laws.specs.Assume.{HasVariableAtNode}
 use Rattle.assume_laws.specs.Sequences.{HaveDifferentEventsUnder, IsEventDifferenceUnder, IsEventPairQueryUnder, IsPairTreeUnder, IsSideTree}
 use Rattle.assume_laws.proofs.Meeting.{leaf_at, leaf_input}
 use Rattle.event_under.specs.Places.{AreNodesOfPairs, ArePairNodes, IsReadAt}
-use Rattle.event_meaning_under.proofs.Exact.{one_tree}
+use Rattle.event_meaning.proofs.event_meaning_under.Exact.{one_tree}
 use Rattle.event_outcome_samples.specs.Different.{a_events, b_events, y_pair, IsFull, IsOverfull}
 use Rattle.event_outcome_samples.proofs.Meeting.{b_assumed, meets_row, row_meets}
 use Rattle.event_outcome_samples.proofs.Sides.{On, both, left_ready, no_cone, one_node, right_ready, unreached}

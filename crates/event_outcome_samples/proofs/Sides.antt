@@ -28,8 +28,8 @@ use Rattle.class_queries.specs.Enables.{both_of}
 use Rattle.event_nodes.specs.View.{EventCircuitView, Enabled, side_of}
 use Rattle.event_setup.specs.Recovered.{AreKnown}
 use Rattle.event_setup.specs.Choosing.{HaveNoCycles}
-use Rattle.event_meaning_under.specs.event_fits.Circuits.{AreReached, IsReadyCircuit}
-use Rattle.event_meaning_under.specs.event_fits.Totals.{IsMapMade, IsWithinWith}
+use Rattle.event_meaning.specs.event_meaning_under.Circuits.{AreReached, IsReadyCircuit}
+use Rattle.event_meaning.specs.event_meaning_under.Totals.{IsMapMade, IsWithinWith}
 use Rattle.event_outcome_samples.specs.Different.{shows_a, shows_b, a_events, b_events, y_pair}
 use Rattle.event_outcome_samples.proofs.Nets.{both_names, left_sound, nothing, right_sound}
 

@@ -13,7 +13,7 @@ use Rattle.outcome.specs.declared.verdict.Verdict.TheVariants as verdict
 use Rattle.class_queries.specs.Enables.{both_of}
 use Rattle.event_nodes.specs.View.{EventCircuitView}
 use Rattle.event_under.specs.Places.{IsLightAtNodes, IsOverAtNodes}
-use Rattle.event_meaning_under.specs.Answered.{ComparedInEventsUnder}
+use Rattle.event_meaning.specs.event_meaning_under.Answered.{ComparedInEventsUnder}
 
 -- 0 a; 1 b; y is a
 abbrev pub shows_a : NetView

@@ -6,7 +6,7 @@ use Rattle.circuit_theory.specs.Depth.{LatchReads, LatchPath, HasCycle}
 use Rattle.circuit_theory.specs.Run.{IsEnabled, NoneEnabled}
 use Rattle.sec_base.specs.declared.settings.Settings.{Settings}
 use Rattle.flat_net.specs.View.{NetView, circuit_of}
-use Rattle.cut_points.specs.Common.{common_names}
+use Rattle.sec_setup.specs.cut_points.Common.{common_names}
 use Rattle.sec_setup.specs.Cycles.{AreBroken}
 use Rattle.sec_setup.specs.Matching.{InterfacesMatch}
 use Rattle.latch_kinds.specs.Found.{HasTooLarge}

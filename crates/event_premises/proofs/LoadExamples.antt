@@ -20,7 +20,7 @@ use Rattle.design_laws.proofs.event_designs.FlatEnabled.{enabled_down}
 use Rattle.blif_lines.specs.Lines.{cut_line, going_on}
 use Rattle.blif_read.specs.Fault.{fault_of}
 use Rattle.blif_read.specs.Heads.{head_of}
-use Rattle.cut_points.specs.Common.{common_names}
+use Rattle.sec_setup.specs.cut_points.Common.{common_names}
 use Rattle.design_rows.specs.Designs.{and_cover}
 use Rattle.design_rows.specs.NoFault.{has_no_fault}
 use Rattle.design_rows.proofs.NoFaults.{tested_is_sound}

@@ -6,7 +6,7 @@ use Rattle.circuit_theory.specs.Names.{is_among}
 use Rattle.circuit_theory.specs.Run.{NoneEnabled}
 use Rattle.blif_read.specs.Design.{Place, top, walk, circuit_of_design}
 use Rattle.flat_net.specs.View.{NetView, circuit_of}
-use Rattle.cut_points.specs.Common.{common_names}
+use Rattle.sec_setup.specs.cut_points.Common.{common_names}
 use Rattle.sec_setup.specs.Cycles.{AreBroken}
 use Rattle.event_texts.specs.event_fits.Choosing.{HaveNoCycles}
 use Rattle.sec_files.specs.Loading.{Loads}

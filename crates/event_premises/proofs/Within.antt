@@ -14,7 +14,7 @@ use Rattle.circuit_theory.specs.Classes.{DiffersFromMember}
 use Rattle.circuit_theory.specs.EventSizes.{IsEventOver, Start}
 use Rattle.circuit_theory.specs.EventTotals.{IsNodesOver, IsClassesOver}
 use Rattle.circuit_theory.specs.Frame.{EventSide}
-use Rattle.event_laws.proofs.SideParts.{sides_are_parts_in_nets}
+use Rattle.circuit_laws.proofs.event_laws.SideParts.{sides_are_parts_in_nets}
 use Rattle.flat_net.specs.Sound.{IsSound}
 use Rattle.flat_net.specs.View.{NetView, circuit_of}
 use Rattle.flat_net.proofs.Nets.{sound_is_net}

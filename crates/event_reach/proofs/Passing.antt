@@ -9,7 +9,7 @@ use Rattle.circuit_theory.proofs.Lists.{at_of, of_at}
 use Rattle.circuit_theory.proofs.Sums.{same_or_not}
 use Rattle.circuit_theory.specs.Frame.{ConeOthers, ReachedAt}
 use Rattle.circuit_theory.specs.EventSizes.{Start}
-use Rattle.event_laws.proofs.EventAgreement.{rank, rank_falls}
+use Rattle.circuit_laws.proofs.event_laws.EventAgreement.{rank, rank_falls}
 use Rattle.event_nodes.specs.flat_net.declared.parts.Driver.{Driver}
 use Rattle.event_nodes.specs.flat_net.declared.parts.Driver.TheVariants as driver
 use Rattle.event_nodes.specs.flat_net.declared.parts.LatchAt.{LatchAt}

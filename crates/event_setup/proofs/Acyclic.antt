@@ -6,9 +6,9 @@ use Rattle.circuit_theory.specs.Agree.{cut, IsMinimalCut}
 use Rattle.circuit_theory.specs.Circuit.{Circuit, IsLatch}
 use Rattle.circuit_theory.specs.Depth.{HasCycle}
 use Rattle.circuit_theory.specs.Run.{IsEnabled}
-use Rattle.event_laws.proofs.CutNets.{cut_names_apart}
-use Rattle.event_laws.proofs.CutParts.{enabled_cut, enabled_uncut}
-use Rattle.event_laws.proofs.SideParts.{cut_is_net_again}
+use Rattle.circuit_laws.proofs.event_laws.CutNets.{cut_names_apart}
+use Rattle.circuit_laws.proofs.event_laws.CutParts.{enabled_cut, enabled_uncut}
+use Rattle.circuit_laws.proofs.event_laws.SideParts.{cut_is_net_again}
 use Rattle.flat_net.specs.declared.parts.LatchAt.{LatchAt}
 use Rattle.flat_net.specs.Cut.{IsCutCircuit}
 use Rattle.flat_net.specs.Sound.{IsSound}

@@ -15,9 +15,9 @@ use Rattle.flat_net.specs.View.{NetView, circuit_of}
 use Rattle.flat_net.proofs.Nets.{latch_stands}
 use Rattle.signal_graph.specs.Graph.{GraphView, IsGraphIn, SkippedBy, marked_names, signals_at}
 use Rattle.latch_graph.proofs.Skipping.{mode_cycle, cycle_in_graph}
-use Rattle.cut_points.specs.Exposed.{AreExposed, Exposes, IsToldCycle}
-use Rattle.cut_points.specs.declared.exposed.Exposure.{Exposure}
-use Rattle.cut_points.specs.declared.exposed.ExposeError.TheVariants as expose_error
+use Rattle.sec_setup.specs.cut_points.Exposed.{AreExposed, Exposes, IsToldCycle}
+use Rattle.sec_setup.specs.declared.cut_points.exposed.Exposure.{Exposure}
+use Rattle.sec_setup.specs.declared.cut_points.exposed.ExposeError.TheVariants as expose_error
 use Rattle.interface.specs.Pairing.{AreNamedAt}
 use Rattle.sec_setup.specs.declared.error.SetupError.TheVariants as setup_error
 use Rattle.sec_setup.proofs.ToldCycles.{marked_names-none}

@@ -17,7 +17,7 @@ use Rattle.flat_net.specs.Comparable.{IsComparable}
 use Rattle.flat_net.specs.Cut.{IsCutCircuit}
 use Rattle.flat_net.specs.Sound.{IsSound}
 use Rattle.flat_net.specs.View.{NetView, circuit_of, ports_of}
-use Rattle.cut_points.specs.declared.exposed.Exposure.{Exposure}
+use Rattle.sec_setup.specs.declared.cut_points.exposed.Exposure.{Exposure}
 use Rattle.interface.specs.declared.pairs.SignalPair.{SignalPair}
 use Rattle.interface.specs.Numbered.{AreNumbered}
 use Rattle.interface.specs.Pairs.{ArePairsOf, outputs_of}

@@ -6,9 +6,9 @@ use Rattle.circuit_theory.specs.declared.Side.TheVariants.{A, B}
 use Rattle.circuit_theory.specs.Agree.{IsMinimalCut}
 use Rattle.flat_net.specs.View.{NetView, circuit_of}
 use Rattle.signal_graph.specs.Graph.{IsGraphIn}
-use Rattle.cut_points.specs.Common.{common_names}
-use Rattle.cut_points.specs.Exposed.{IsFreeWithout, IsToldCycle}
-use Rattle.cut_points.specs.declared.exposed.Exposure.{Exposure}
+use Rattle.sec_setup.specs.cut_points.Common.{common_names}
+use Rattle.sec_setup.specs.cut_points.Exposed.{IsFreeWithout, IsToldCycle}
+use Rattle.sec_setup.specs.declared.cut_points.exposed.Exposure.{Exposure}
 use Rattle.interface.specs.Pairing.{AreNamedAt}
 use Rattle.sec_setup.specs.declared.error.SetupError.{SetupError}
 use Rattle.sec_setup.specs.declared.error.SetupError.TheVariants as refused

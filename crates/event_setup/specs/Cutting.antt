@@ -4,7 +4,7 @@ use Rattle.circuit_theory.specs.Run.{IsEnabled}
 use Rattle.flat_net.specs.declared.parts.LatchAt.{LatchAt}
 use Rattle.flat_net.specs.Cut.{IsCut, IsCutCircuit, exposed_names}
 use Rattle.flat_net.specs.View.{NetView, circuit_of}
-use Rattle.cut_points.specs.declared.exposed.Exposure.{Exposure}
+use Rattle.sec_setup.specs.declared.cut_points.exposed.Exposure.{Exposure}
 use Rattle.event_setup.specs.declared.cutting.CutNets.{CutNets}
 use Rattle.event_setup.specs.Recovered.{AreMarked}
 

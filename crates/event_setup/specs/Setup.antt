@@ -8,7 +8,7 @@ use Rattle.circuit_theory.specs.Interface.{shared_inputs}
 use Rattle.circuit_theory.specs.Run.{IsEnabled}
 use Rattle.sec_base.specs.Table.{AreDistinct}
 use Rattle.flat_net.specs.View.{NetView, circuit_of, ports_of}
-use Rattle.cut_points.specs.declared.exposed.Exposure.{Exposure}
+use Rattle.sec_setup.specs.declared.cut_points.exposed.Exposure.{Exposure}
 use Rattle.interface.specs.declared.pairs.SignalPair.{SignalPair}
 use Rattle.interface.specs.Pairs.{ArePairsOf, named_pairs, places_of}
 use Rattle.sec_setup.specs.declared.error.SetupError.{SetupError}

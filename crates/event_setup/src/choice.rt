@@ -8,10 +8,10 @@ ghost use Rattle.event_setup.specs.Choosing.{AreEventGraphs, ChoosesLatches, IsC
 ghost use Rattle.event_setup.specs.Recovered.{AreBothMarked, AreMarked};
 
 use crate::enables::EnabledLatches;
-use cut_points::{ExposeError, Exposure, expose};
 use flat_net::Net;
 use latch_graph::LatchGraph;
 use sec_base::{Bits, Ids, NoMemory, Side, Words, unset_bits};
+use sec_setup::cut_points::{ExposeError, Exposure, expose};
 use sec_setup::{Nets, SetupError};
 use std::alloc::Global;
 

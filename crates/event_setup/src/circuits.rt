@@ -11,10 +11,10 @@ ghost use Rattle.event_setup.specs.Recovered.{AreMarked};
 
 use crate::cutting::{CutNets, MarkedNet};
 use crate::numbering::{Numbering, number};
-use cut_points::Exposure;
 use event_nodes::EventCircuit;
 use flat_net::Net;
 use sec_base::{Ids, NameTable, NoMemory, Orders, Seq, Words};
+use sec_setup::cut_points::Exposure;
 use std::alloc::Global;
 
 /// Both circuits, their inputs numbered, and the names of the numbers.

@@ -9,9 +9,9 @@ ghost use Rattle.event_setup.specs.Cutting.{AreMarkedCuts, HasBit, IsMarkedCut};
 ghost use Rattle.event_setup.specs.Recovered.{AreBothMarked, AreMarked};
 
 use crate::enables::EnabledLatches;
-use cut_points::Exposure;
 use flat_net::{LatchAt, Net};
 use sec_base::{Bits, Ids, NoMemory};
+use sec_setup::cut_points::Exposure;
 use std::alloc::Global;
 
 /// A net, and which of its latches are enabled: a bit for each.

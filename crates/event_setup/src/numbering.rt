@@ -10,10 +10,10 @@ ghost use Rattle.event_setup.specs.Choosing.{AreOpened};
 ghost use Rattle.event_setup.specs.Cutting.{AreMarkedCuts};
 
 use crate::cutting::CutNets;
-use cut_points::Exposure;
 use flat_net::Net;
 use interface::orders_of;
 use sec_base::{NameTable, NoMemory, Orders, Words};
+use sec_setup::cut_points::Exposure;
 use std::alloc::Global;
 
 /// The numbers of the inputs of both nets, and the names of the numbers.

@@ -18,11 +18,11 @@ use crate::circuits::{NumberedCircuits, number_circuits};
 use crate::cutting::{CutNets, cut_both};
 use crate::depths::{have_depths, pair_depths};
 use crate::enables::EnabledLatches;
-use cut_points::Exposure;
 use event_nodes::EventCircuit;
 use flat_net::Net;
 use interface::{SignalPairs, pairs_of};
 use sec_base::{Ids, NameTable, NoMemory, Words};
+use sec_setup::cut_points::Exposure;
 use sec_setup::{Nets, SetupError};
 use std::alloc::Global;
 

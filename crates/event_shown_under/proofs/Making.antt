@@ -12,7 +12,7 @@ use Rattle.event_variables.specs.Variables.{variable_of, variables_of}
 use Rattle.event_variables.proofs.NodePaths.{variable_is}
 use Rattle.event_agreement.proofs.event_pairs.Growing.{variables_stay}
 use Rattle.event_under.specs.Asked.{variable_in, variables_in}
-use Rattle.ranked_nodes.specs.Named.{named_ranks, path_at, path_by}
+use Rattle.event_variables.specs.ranked_nodes.Named.{named_ranks, path_at, path_by}
 
 more_places : (w x : EventGraphView) → GrowsEvents w x → length w.places ≤ length x.places
 more_places w x grows = let e = ap length grows.places.1 in let f = length-append w.places grows.places.0 in omega (arith, e, f)

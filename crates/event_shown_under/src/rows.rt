@@ -11,7 +11,7 @@ use crate::steps::{shifts_at, steps_of};
 use crate::variables::NodeVariables;
 use assume_sequences::fill_shifts;
 use event_nodes::EventGraph;
-use frame_sequences::frame_rows;
+use event_variables::frame_sequences::frame_rows;
 use sec_base::{BitRows, Bits, NoMemory};
 use std::alloc::Global;
 

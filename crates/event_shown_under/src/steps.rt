@@ -9,7 +9,7 @@ ghost use Rattle.event_variables.specs.Variables.{variables_of};
 ghost use Rattle.event_shown_under.specs.Steps.{shifts_of};
 
 use event_nodes::EventGraph;
-use frame_sequences::always_steps;
+use event_variables::frame_sequences::always_steps;
 use sec_base::{NoMemory, PlaceTable};
 use std::alloc::Global;
 

@@ -1,12 +1,12 @@
 //! Variables of a query at event nodes.
 
 ghost use Rattle.std.specs.Prelude.{◌≡◌, ℕ, ◌<◌, ◌≤◌, length, slice_get, Some, All, IfOk};
-ghost use Rattle.ranked_nodes.specs.Named.{named_ranks};
+ghost use Rattle.event_variables.specs.ranked_nodes.Named.{named_ranks};
 ghost use Rattle.event_under.specs.Asked.{variables_in};
 ghost use Rattle.event_variables.specs.Variables.{variables_of};
 
 use event_nodes::EventGraph;
-use ranked_nodes::copy_nodes;
+use event_variables::ranked_nodes::copy_nodes;
 use sec_base::{NoMemory, PlaceTable};
 use std::alloc::Global;
 

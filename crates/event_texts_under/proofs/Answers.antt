@@ -15,7 +15,7 @@ use Rattle.outcome.specs.declared.verdict.Verdict.TheVariants as verdict
 use Rattle.outcome.specs.declared.verdict.Why.{Why}
 use Rattle.outcome.specs.Report.{report_text}
 use Rattle.assume_texts.specs.job_base.Written.{outcome_proofs}
-use Rattle.event_meaning_under.specs.Answered.{ComparedUnderIn}
+use Rattle.event_meaning.specs.event_meaning_under.Answered.{ComparedUnderIn}
 use Rattle.assume_texts.specs.sec_files.Loading.{Loads}
 use Rattle.assume_texts.proofs.Answers.{at_limit, equal_under, different_under, not_shown_under, limit_under}
 use Rattle.event_texts_under.specs.Answers.{EqualUnderIn, DifferentUnderIn, NotShownUnderIn, LimitUnderIn}

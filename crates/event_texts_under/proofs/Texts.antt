@@ -27,20 +27,20 @@ use Rattle.assume_texts.proofs.job_base.Limits.{pair_proofs}
 use Rattle.sec_setup.specs.Cuts.{columns_of}
 use Rattle.swept_queries.proofs.Listed.{zip_left}
 use Rattle.class_queries.specs.Enables.{both_of}
-use Rattle.assume_texts.proofs.plain_meaning.Fitted.{kept_proof, no_names, some_names, were_exposed}
+use Rattle.assume_texts.proofs.outcome_fits.plain_meaning.Fitted.{kept_proof, no_names, some_names, were_exposed}
 use Rattle.assume_laws.specs.Assume.{Assumption}
 use Rattle.assume_laws.specs.Sequences.{RowsMeet}
-use Rattle.event_meaning_under.specs.event_under.Answers.{PairFitsUnder}
-use Rattle.event_meaning_under.specs.event_meaning.EventVerdict.{EventVerdict}
-use Rattle.event_meaning_under.specs.event_meaning.EventVerdict.TheVariants as found
-use Rattle.event_meaning_under.proofs.event_meaning.Cases.{cut_found, cut_no_limit, different_found, different_no_limit, equal_no_limit}
-use Rattle.event_meaning_under.specs.Answered.{IsComparedInEventsUnder}
-use Rattle.event_meaning_under.specs.Findings.{VerdictFitsUnder}
-use Rattle.event_meaning_under.specs.Fitted.{IsComparedByPairsUnder}
-use Rattle.event_meaning_under.specs.Fitting.{IsUnclassed, IsUnrecovered}
-use Rattle.event_meaning_under.specs.Met.{shared_by}
-use Rattle.event_meaning_under.specs.Named.{latch_names, NamesVerdict}
-use Rattle.event_meaning_under.specs.Taken.{assumed_by}
+use Rattle.event_meaning.specs.event_meaning_under.event_under.Answers.{PairFitsUnder}
+use Rattle.event_meaning.specs.EventVerdict.{EventVerdict}
+use Rattle.event_meaning.specs.EventVerdict.TheVariants as found
+use Rattle.event_meaning.proofs.Cases.{cut_found, cut_no_limit, different_found, different_no_limit, equal_no_limit}
+use Rattle.event_meaning.specs.event_meaning_under.Answered.{IsComparedInEventsUnder}
+use Rattle.event_meaning.specs.event_meaning_under.Findings.{VerdictFitsUnder}
+use Rattle.event_meaning.specs.event_meaning_under.Fitted.{IsComparedByPairsUnder}
+use Rattle.event_meaning.specs.Fitting.{IsUnclassed, IsUnrecovered}
+use Rattle.event_meaning.specs.event_meaning_under.Met.{shared_by}
+use Rattle.event_meaning.specs.Named.{latch_names, NamesVerdict}
+use Rattle.event_meaning.specs.event_meaning_under.Taken.{assumed_by}
 use Rattle.assume_texts.specs.sec_files.Loading.{Loads}
 use Rattle.assume_texts.proofs.text_circuits.Circuits.{text_design, texts_cuts_differ, texts_differ_by}
 use Rattle.design_laws.proofs.event_designs.FlatEventAgree.{minimal_up}

@@ -1,5 +1,5 @@
 pub mod Answers
 pub mod Texts
-pub use Rattle.event_meaning_under.specs.Answered
-pub use Rattle.event_meaning_under.specs as event_meaning_under
-pub use Rattle.event_meaning_under.specs.under_base
+pub use Rattle.event_meaning.specs.event_meaning_under.Answered
+pub use Rattle.event_meaning.specs as event_meaning
+pub use Rattle.event_meaning.specs.under_base

@@ -21,13 +21,13 @@ use Rattle.interface.specs.declared.pairs.SignalPair.{SignalPair}
 use Rattle.sec_setup.specs.Cuts.{columns_of}
 use Rattle.class_queries.specs.Enables.{both_of}
 use Rattle.assume_laws.specs.Assume.{Assumption}
-use Rattle.event_meaning_under.specs.event_under.Answers.{IsUndecidedUnder}
-use Rattle.event_meaning_under.specs.event_meaning.Says.{SaysDifferent, SaysNotShown}
-use Rattle.event_meaning_under.specs.Fitting.{IsUnclassed, IsUnrecovered}
-use Rattle.event_meaning_under.specs.Fitted.{EventOutcomeFitsUnder, IsComparedByPairsUnder}
-use Rattle.event_meaning_under.specs.Framed.{IsFramedUnder}
-use Rattle.event_meaning_under.specs.Met.{IsMet}
-use Rattle.event_meaning_under.specs.Taken.{assumed_by}
+use Rattle.event_meaning.specs.event_meaning_under.event_under.Answers.{IsUndecidedUnder}
+use Rattle.event_meaning.specs.Says.{SaysDifferent, SaysNotShown}
+use Rattle.event_meaning.specs.Fitting.{IsUnclassed, IsUnrecovered}
+use Rattle.event_meaning.specs.event_meaning_under.Fitted.{EventOutcomeFitsUnder, IsComparedByPairsUnder}
+use Rattle.event_meaning.specs.event_meaning_under.Framed.{IsFramedUnder}
+use Rattle.event_meaning.specs.event_meaning_under.Met.{IsMet}
+use Rattle.event_meaning.specs.event_meaning_under.Taken.{assumed_by}
 use Rattle.assume_texts.specs.Agreement.{AgreeWhereMet, AgreeOnwardWhereMet}
 use Rattle.assume_texts.specs.Meets.{SequenceMeetsCircuit}
 use Rattle.assume_texts.specs.Texts.{ThreeCircuits}

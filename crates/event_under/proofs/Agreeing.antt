@@ -12,8 +12,8 @@ use Rattle.circuit_theory.proofs.Lists.{Contains-cases}
 use Rattle.circuit_laws.proofs.Parts.{IsPart}
 use Rattle.circuit_theory.specs.EventFrames.{IsCareTree, IsPairTree}
 use Rattle.circuit_theory.specs.Frame.{EventSide, EventUnfolds, ConeLatches}
-use Rattle.event_laws.specs.Sides.{moved_put}
-use Rattle.event_laws.proofs.SideTrees.{tree_same, care_same}
+use Rattle.circuit_laws.specs.event_laws.Sides.{moved_put}
+use Rattle.circuit_laws.proofs.event_laws.SideTrees.{tree_same, care_same}
 use Rattle.flat_net.specs.View.{circuit_of}
 use Rattle.flat_net.proofs.Nets.{sound_is_net}
 use Rattle.sec_base.specs.declared.basics.PairAnswer.{PairAnswer}

@@ -1,7 +1,7 @@
 -- Where a pair reaches class 0 alone, the sequence of a difference makes it differ in all runs, and meets the assumption.
 use Rattle.std.proofs.Common.{length, max}
-use Rattle.event_laws.proofs.EventWindows.{event_witness_makes_differ_in_nets}
-use Rattle.event_laws.proofs.SideParts.{sides_are_parts_in_nets}
+use Rattle.circuit_laws.proofs.event_laws.EventWindows.{event_witness_makes_differ_in_nets}
+use Rattle.circuit_laws.proofs.event_laws.SideParts.{sides_are_parts_in_nets}
 use Rattle.flat_net.specs.View.{circuit_of}
 use Rattle.flat_net.proofs.Nets.{sound_is_net}
 use Rattle.circuit_theory.specs.EventFrames.{frame_of}

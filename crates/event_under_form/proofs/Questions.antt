@@ -22,16 +22,16 @@ use Rattle.obligations.specs.Verdict.{IsVerdictAt}
 use Rattle.sec_base.specs.declared.basics.PairAnswer.TheVariants as answer
 use Rattle.event_nodes.specs.Nodes.{EventGraphView, IsEventGraph}
 use Rattle.event_nodes.specs.View.{EventCircuitView}
-use Rattle.pair_events.proofs.event_agreement.PairQueries.{is_query, within}
-use Rattle.pair_events.specs.Enables.{both_of}
-use Rattle.pair_events.specs.Laws.{AreKept}
-use Rattle.pair_events.specs.View.{EventsView, side_of_both}
-use Rattle.ranked_nodes.specs.Ranks.{AreRanked}
+use Rattle.event_agreement.proofs.PairQueries.{is_query, within}
+use Rattle.event_agreement.specs.pair_events.Enables.{both_of}
+use Rattle.event_agreement.specs.pair_events.Laws.{AreKept}
+use Rattle.event_agreement.specs.pair_events.View.{EventsView, side_of_both}
+use Rattle.event_variables.specs.ranked_nodes.Ranks.{AreRanked}
 use Rattle.event_form.specs.Asked.{AreAsked, IsAskedOf}
 use Rattle.event_findings.specs.declared.pairs.EventPairs.{EventPairs}
 use Rattle.assume_sequences.specs.Assumed.{IsAssumedBy}
 use Rattle.assume_sequences.specs.declared.premise.Premise.{Premise}
-use Rattle.assume_shape.specs.Shape.{assumption_of}
+use Rattle.assume_laws.specs.assume_shape.Shape.{assumption_of}
 use Rattle.event_under_verdicts.specs.event_under.Asked.{AreAskedUnder, IsAskedUnder}
 use Rattle.event_under_verdicts.specs.event_under.Places.{IsLightAtNodes}
 use Rattle.event_witness_under.specs.EventQuestions.{EventQuestions}

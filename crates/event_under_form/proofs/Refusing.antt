@@ -2,7 +2,7 @@
 use Rattle.std.specs.Prelude.{IsErrAnd}
 use Rattle.std.proofs.Common.{◌≡◌, List, Result, Ok, Err, refl, sym, subst}
 use Rattle.interface.specs.declared.pairs.SignalPair.{SignalPair}
-use Rattle.pair_events.specs.View.{EventsView}
+use Rattle.event_agreement.specs.pair_events.View.{EventsView}
 use Rattle.event_form.specs.declared.error.EventFormError.{EventFormError}
 use Rattle.event_form.specs.declared.error.EventFormError.TheVariants as form_error
 use Rattle.event_form.proofs.Stopping.{memory_stopped}

@@ -19,10 +19,10 @@ use Rattle.obligations.specs.Decided.{IsFirstOf}
 use Rattle.witness_report.specs.declared.witness.Witness.{Witness}
 use Rattle.event_nodes.specs.Nodes.{EventGraphView, IsEventGraph, GrowsEvents}
 use Rattle.event_variables.specs.Variables.{variables_of}
-use Rattle.pair_events.proofs.event_agreement.PairQueries.{within}
-use Rattle.pair_events.specs.View.{EventsView, side_of_both}
-use Rattle.pair_events.proofs.Growing.{variables_stay}
-use Rattle.ranked_nodes.specs.Named.{path_at}
+use Rattle.event_agreement.proofs.PairQueries.{within}
+use Rattle.event_agreement.specs.pair_events.View.{EventsView, side_of_both}
+use Rattle.event_agreement.proofs.event_pairs.Growing.{variables_stay}
+use Rattle.event_variables.specs.ranked_nodes.Named.{path_at}
 use Rattle.event_form.specs.Asked.{IsPairOf}
 use Rattle.event_comparison.specs.Shown.{OfPair}
 use Rattle.event_findings.specs.UnshownFrame.{UnshownFrame}

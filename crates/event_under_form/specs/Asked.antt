@@ -3,17 +3,17 @@ use Rattle.std.specs.Prelude.{◌≡◌, ℕ, List, length}
 use Rattle.flat_net.specs.View.{NetView}
 use Rattle.sec_base.specs.Table.{AreDistinct}
 use Rattle.sec_base.specs.declared.basics.PairAnswer.{PairAnswer}
-use Rattle.pair_events.specs.View.{EventsView, side_of_both}
+use Rattle.event_agreement.specs.pair_events.View.{EventsView, side_of_both}
 use Rattle.obligations.specs.Decided.{IsFirstOf}
 use Rattle.obligations.specs.declared.obligation.Difference.{Difference}
 use Rattle.obligations.specs.declared.obligation.Obligation.{Obligation}
 use Rattle.outcome.specs.declared.verdict.PairResult.{PairResult}
-use Rattle.ranked_nodes.specs.Ranks.{AreRanked}
+use Rattle.event_variables.specs.ranked_nodes.Ranks.{AreRanked}
 use Rattle.event_comparison.specs.Asked.{AreAskedFrom}
 use Rattle.event_findings.specs.declared.pairs.EventPairs.{EventPairs}
 use Rattle.assume_sequences.specs.Assumed.{IsAssumedBy}
 use Rattle.assume_sequences.specs.declared.premise.Premise.{Premise}
-use Rattle.assume_shape.specs.Shape.{assumption_of}
+use Rattle.assume_laws.specs.assume_shape.Shape.{assumption_of}
 use Rattle.event_under_verdicts.specs.event_under.Asked.{AreAskedUnder}
 use Rattle.event_under_verdicts.specs.event_under.Places.{IsLightAtNodes}
 use Rattle.event_witness_under.specs.EventQuestions.{EventQuestions}

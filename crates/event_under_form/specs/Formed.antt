@@ -3,7 +3,7 @@ use Rattle.std.specs.Prelude.{◌≡◌, ℕ, List, length, Result, Err}
 use Rattle.flat_net.specs.View.{NetView}
 use Rattle.event_nodes.specs.Nodes.{EventGraphView}
 use Rattle.event_nodes.specs.View.{EventCircuitView}
-use Rattle.pair_events.specs.View.{EventsView, side_of_both}
+use Rattle.event_agreement.specs.pair_events.View.{EventsView, side_of_both}
 use Rattle.interface.specs.declared.pairs.SignalPair.{SignalPair}
 use Rattle.obligations.specs.declared.decision.Decided.{Decided}
 use Rattle.obligations.specs.declared.verdict.VerdictAt.{VerdictAt}
@@ -16,9 +16,9 @@ use Rattle.event_comparison.specs.Counted.{AreRefused, ArePairsCounted}
 use Rattle.assume_sequences.specs.Assumed.{IsAssumedBy}
 use Rattle.assume_sequences.specs.declared.premise.Premise.{Premise}
 use Rattle.assume_sequences.specs.Filled.{bit_of}
-use Rattle.assume_shape.specs.Shape.{assumption_of}
+use Rattle.assume_laws.specs.assume_shape.Shape.{assumption_of}
 use Rattle.event_under_verdicts.specs.event_under.Places.{IsLightAtNodes, IsOverAtNodes}
-use Rattle.event_under_verdicts.specs.event_under_fits.Findings.{FindingsFitUnder}
+use Rattle.event_under_verdicts.specs.event_shown_under.event_under_fits.Findings.{FindingsFitUnder}
 use Rattle.event_under_verdicts.specs.Shown.{IsShownUnder}
 use Rattle.event_under_form.specs.Refusals.{refusal_of}
 use Rattle.event_under_form.specs.declared.error.EventUnderError.{EventUnderError}

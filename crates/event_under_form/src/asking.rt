@@ -1,7 +1,7 @@
 //! What is asked of the pairs under an assumption.
 
 ghost use Rattle.std.specs.Prelude.{◌≡◌, length, Err, IfOk};
-ghost use Rattle.pair_events.specs.View.{side_of_both};
+ghost use Rattle.event_agreement.specs.pair_events.View.{side_of_both};
 ghost use Rattle.event_form.specs.Asked.{AreAsked};
 ghost use Rattle.assume_sequences.specs.Assumed.{CanBeAssumed};
 ghost use Rattle.event_under_verdicts.specs.assume_queries.declared.map.UnderError.TheVariants as asked_error;
@@ -9,10 +9,10 @@ ghost use Rattle.event_under_verdicts.specs.event_under.Places.{IsOverAtNodes};
 ghost use Rattle.event_under_form.specs.Asked.{AreAskedAssumed};
 
 use assume_sequences::Premise;
+use event_agreement::pair_events::Events;
 use event_findings::EventPairs;
 use event_witness_under::{EventQuestions, UnderError, ask_under};
 use obligations::Obligation;
-use pair_events::Events;
 use std::alloc::Global;
 
 /// What is asked of the pairs, each query under the assumption.

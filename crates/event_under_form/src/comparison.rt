@@ -1,7 +1,7 @@
 //! Comparing the pairs of two circuits in the event form under an assumption.
 
 ghost use Rattle.std.specs.Prelude.{◌≡◌, ◌≤◌, length, All, Err, IfOk, OnOk};
-ghost use Rattle.pair_events.specs.View.{IsWithinLimits};
+ghost use Rattle.event_agreement.specs.pair_events.View.{IsWithinLimits};
 ghost use Rattle.event_form.specs.Asked.{IsLater, IsPairOf};
 ghost use Rattle.event_form.specs.Counted.{left_starts, right_starts};
 ghost use Rattle.event_form.specs.Refused.{IsRefusedFor};
@@ -17,10 +17,10 @@ use crate::asking::questions_of;
 use crate::error::EventUnderError;
 use crate::verdict::{Shows, show};
 use assume_sequences::Premise;
+use event_agreement::pair_events::Events;
 use event_findings::{Apart, EventFindings, EventPairs};
 use event_form::{EventFormError, ask_pairs};
 use obligations::{Decided, decide_all, verdict_at};
-use pair_events::Events;
 use sec_base::MAX_CONFLICTS;
 use std::alloc::Global;
 

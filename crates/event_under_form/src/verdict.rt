@@ -4,18 +4,18 @@ ghost use Rattle.std.specs.Prelude.{◌≡◌, IfOk, OnOk};
 ghost use Rattle.event_form.specs.Asked.{IsLater};
 ghost use Rattle.event_form.specs.Counted.{left_starts, right_starts};
 ghost use Rattle.event_form.specs.Refused.{IsRefusedFor};
-ghost use Rattle.pair_events.specs.View.{IsWithinLimits};
+ghost use Rattle.event_agreement.specs.pair_events.View.{IsWithinLimits};
 ghost use Rattle.event_comparison.specs.Asked.{StayCounted};
 ghost use Rattle.assume_sequences.specs.Filled.{bit_of};
 ghost use Rattle.event_under_verdicts.specs.Shown.{DiffersFirstUnder, IsFoundUnder, IsShownUnder, IsShownUnshownUnder, IsWitnessUnder};
 ghost use Rattle.event_under_form.specs.Asked.{CanShow, DiffersAt};
 
+use event_agreement::pair_events::Events;
 use event_findings::{Apart, EventPairs, EventVerdict, UnshownPair, tell_apart};
 use event_form::EventFormError;
 use event_witness_under::{EventQuestions, frame_of, ready_at, sequence_of};
 use obligations::{Difference, Obligation, VerdictAt, copy_name};
 use outcome::{PairResult, Witness};
-use pair_events::Events;
 use sec_base::{Bits, NoMemory};
 use std::alloc::Global;
 

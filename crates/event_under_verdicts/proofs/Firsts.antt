@@ -29,7 +29,7 @@ use Rattle.class_queries.proofs.Meaning.{numbered}
 use Rattle.event_nodes.specs.Nodes.{EventGraphView}
 use Rattle.event_nodes.specs.View.{EventCircuitView}
 use Rattle.event_variables.specs.Variables.{variables_of}
-use Rattle.event_under_fits.proofs.event_agreement.PairQueries.{are_variables}
+use Rattle.event_shown_under.proofs.event_under_fits.event_agreement.PairQueries.{are_variables}
 use Rattle.interface.specs.declared.pairs.SignalPair.{SignalPair}
 use Rattle.obligations.specs.declared.obligation.Difference.{Difference}
 use Rattle.obligations.specs.declared.obligation.Obligation.{Obligation}
@@ -38,7 +38,7 @@ use Rattle.obligations.specs.declared.verdict.VerdictAt.{VerdictAt}
 use Rattle.obligations.specs.declared.verdict.VerdictAt.TheVariants as at
 use Rattle.obligations.specs.Decided.{AnswerIs, HaveDecided, IsAnswered, IsFirst, IsFirstOf, NoneIs}
 use Rattle.obligations.specs.Verdict.{IsVerdictAt}
-use Rattle.event_under_fits.specs.pair_events.View.{EventsView, side_of_both}
+use Rattle.event_shown_under.specs.event_under_fits.event_agreement.pair_events.View.{EventsView, side_of_both}
 use Rattle.swept_queries.proofs.Listed.{zip_left}
 use Rattle.outcome.specs.declared.verdict.PairResult.{PairResult}
 use Rattle.pair_decide.specs.declared.query.Proof.{Proof}
@@ -46,27 +46,27 @@ use Rattle.pair_decide.specs.declared.query.Query.{Query}
 use Rattle.pair_decide.specs.Answers.{IsDifference}
 use Rattle.pair_decide.specs.Queries.{assigned_to}
 use Rattle.witness_report.specs.declared.witness.Witness.{Witness}
-use Rattle.event_under_fits.proofs.event_witness.InputLeaves.{pair_inputs_within}
-use Rattle.event_under_fits.specs.event_witness.Sequences.{HasInputsBelow}
-use Rattle.event_under_fits.specs.event_findings.UnshownFrame.{UnshownFrame}
-use Rattle.event_under_fits.specs.event_findings.Reached.{BothReachAlways}
-use Rattle.event_under_fits.specs.event_findings.Told.{TellsBits}
-use Rattle.event_under_fits.specs.event_findings.ToldSeparation.{ToldSeparation}
-use Rattle.event_under_fits.specs.event_findings.Compared.{AreCompared, IsEventDepth}
-use Rattle.event_under_fits.specs.event_findings.Findings.{IsFirstWith, IsFirstLimit}
-use Rattle.event_under_fits.specs.event_findings.Separations.{AreToldApart}
-use Rattle.event_under_fits.specs.event_findings.declared.verdict.EventVerdict.{EventVerdict}
-use Rattle.event_under_fits.specs.event_findings.declared.verdict.EventVerdict.TheVariants as verdict
-use Rattle.event_under_fits.specs.event_findings.declared.pairs.EventPairs.{EventPairs}
+use Rattle.event_shown_under.proofs.event_under_fits.event_witness.InputLeaves.{pair_inputs_within}
+use Rattle.event_shown_under.specs.event_under_fits.event_witness.Sequences.{HasInputsBelow}
+use Rattle.event_shown_under.specs.event_under_fits.event_witness.declared.unshown.UnshownFrame.{UnshownFrame}
+use Rattle.event_shown_under.specs.event_under_fits.event_findings.Reached.{BothReachAlways}
+use Rattle.event_shown_under.specs.event_under_fits.event_findings.Told.{TellsBits}
+use Rattle.event_shown_under.specs.event_under_fits.event_findings.ToldSeparation.{ToldSeparation}
+use Rattle.event_shown_under.specs.event_under_fits.event_findings.Compared.{AreCompared, IsEventDepth}
+use Rattle.event_shown_under.specs.event_under_fits.event_findings.Findings.{IsFirstWith, IsFirstLimit}
+use Rattle.event_shown_under.specs.event_under_fits.event_findings.Separations.{AreToldApart}
+use Rattle.event_shown_under.specs.event_under_fits.event_findings.declared.verdict.EventVerdict.{EventVerdict}
+use Rattle.event_shown_under.specs.event_under_fits.event_findings.declared.verdict.EventVerdict.TheVariants as verdict
+use Rattle.event_shown_under.specs.event_under_fits.event_findings.declared.pairs.EventPairs.{EventPairs}
 use Rattle.assume_laws.specs.Assume.{Assumption}
 use Rattle.assume_laws.specs.Sequences.{IsPairTreeUnder, IsMeetingRow, IsUnshownFrameUnder, RowsMeet, filled_frame}
 use Rattle.assume_laws.proofs.Meeting.{leaf_input}
-use Rattle.event_under_fits.specs.event_under.Asked.{variables_in, IsAskedUnder, AreAskedUnder}
-use Rattle.event_under_fits.specs.event_under.Answers.{PairFitsUnder}
-use Rattle.event_under_fits.specs.event_under.Laws.{IsFrameDifferenceUnder}
-use Rattle.event_under_fits.proofs.event_under.Pairs.{pairs_fit, differences_show, only_query}
-use Rattle.event_under_fits.proofs.event_under.Sequences.{always_show}
-use Rattle.event_under_fits.specs.Findings.{IsSequenceUnder, IsFrameUnder, IsFirstDifferenceUnder, VerdictFitsUnder}
+use Rattle.event_shown_under.specs.event_under.Asked.{variables_in, IsAskedUnder, AreAskedUnder}
+use Rattle.event_shown_under.specs.event_under.Answers.{PairFitsUnder}
+use Rattle.event_shown_under.specs.event_under.Laws.{IsFrameDifferenceUnder}
+use Rattle.event_shown_under.proofs.event_under_fits.event_under.Pairs.{pairs_fit, differences_show, only_query}
+use Rattle.event_shown_under.proofs.event_under_fits.event_under.Sequences.{always_show}
+use Rattle.event_shown_under.specs.event_under_fits.Findings.{IsSequenceUnder, IsFrameUnder, IsFirstDifferenceUnder, VerdictFitsUnder}
 use Rattle.event_asked_under.specs.declared.asked.EventQuestions.{EventQuestions}
 use Rattle.event_asked_under.specs.Questions.{named_at}
 use Rattle.event_under_verdicts.specs.Laws.{VerdictsFitUnder}

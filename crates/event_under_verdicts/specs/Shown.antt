@@ -13,23 +13,23 @@ use Rattle.obligations.specs.declared.verdict.VerdictAt.{VerdictAt}
 use Rattle.obligations.specs.declared.verdict.VerdictAt.TheVariants as at
 use Rattle.obligations.specs.Decided.{IsFirstOf}
 use Rattle.outcome.specs.declared.verdict.PairResult.{PairResult}
-use Rattle.event_under_fits.specs.pair_events.View.{EventsView, side_of_both}
+use Rattle.event_shown_under.specs.event_under_fits.event_agreement.pair_events.View.{EventsView, side_of_both}
 use Rattle.witness_report.specs.declared.witness.Witness.{Witness}
 use Rattle.sec_base.specs.declared.basics.PairAnswer.TheVariants as answer
 use Rattle.interface.specs.declared.pairs.SignalPair.{SignalPair}
-use Rattle.event_under_fits.specs.event_findings.UnshownFrame.{UnshownFrame}
-use Rattle.event_under_fits.specs.event_findings.Reached.{BothReachAlways}
-use Rattle.event_under_fits.specs.event_findings.Separations.{AreToldApart}
-use Rattle.event_under_fits.specs.event_findings.Told.{TellsBits}
-use Rattle.event_under_fits.specs.event_findings.declared.pairs.EventPairs.{EventPairs}
-use Rattle.event_under_fits.specs.event_findings.declared.verdict.EventVerdict.{EventVerdict}
-use Rattle.event_under_fits.specs.event_findings.declared.verdict.EventVerdict.TheVariants as verdict
+use Rattle.event_shown_under.specs.event_under_fits.event_witness.declared.unshown.UnshownFrame.{UnshownFrame}
+use Rattle.event_shown_under.specs.event_under_fits.event_findings.Reached.{BothReachAlways}
+use Rattle.event_shown_under.specs.event_under_fits.event_findings.Separations.{AreToldApart}
+use Rattle.event_shown_under.specs.event_under_fits.event_findings.Told.{TellsBits}
+use Rattle.event_shown_under.specs.event_under_fits.event_findings.declared.pairs.EventPairs.{EventPairs}
+use Rattle.event_shown_under.specs.event_under_fits.event_findings.declared.verdict.EventVerdict.{EventVerdict}
+use Rattle.event_shown_under.specs.event_under_fits.event_findings.declared.verdict.EventVerdict.TheVariants as verdict
 use Rattle.assume_laws.specs.Assume.{Assumption}
 use Rattle.assume_laws.specs.Sequences.{filled_frame}
-use Rattle.event_under_fits.specs.event_under.Asked.{variables_in, AreAskedUnder}
+use Rattle.event_shown_under.specs.event_under.Asked.{variables_in, AreAskedUnder}
 use Rattle.event_asked_under.specs.declared.asked.EventQuestions.{EventQuestions}
 use Rattle.event_asked_under.specs.Questions.{named_at}
-use Rattle.ranked_nodes.specs.Ranks.{AreRanked}
+use Rattle.event_variables.specs.ranked_nodes.Ranks.{AreRanked}
 
 -- what is asked of the pairs of the circuits without the assumption, and under one
 pub record AreQuestions (e : EventsView) (c : EventPairs) (asked : List Obligation) (x : EventQuestions) : Type 0 where

@@ -7,8 +7,8 @@ use Rattle.circuit_theory.specs.Cover.{Cover}
 use Rattle.circuit_theory.specs.Tree.{Tree, Trees, Leaf, Fixed, Branch, Nil, Cons}
 use Rattle.circuit_theory.specs.Query.{Variable, HasLeaf, HasLeafIn}
 use Rattle.circuit_theory.proofs.Lists.{Contains-cases, Contains-head, Contains-tail, only}
-use Rattle.event_nodes.proofs.Nets.{some_at}
-use Rattle.event_nodes.proofs.Places.{one_at}
+use Rattle.flat_net.proofs.Nets.{some_at}
+use Rattle.flat_net.proofs.Places.{one_at}
 use Rattle.event_nodes.specs.Lit.{Lit}
 use Rattle.event_nodes.specs.Node.{Node}
 use Rattle.event_nodes.specs.Node.TheVariants.{Constant, Input, And}

@@ -12,4 +12,4 @@ pub mod Putting
 pub mod Meaning
 pub use Rattle.event_nodes.proofs as event_nodes
 pub use Rattle.event_nodes.proofs.aig
-pub use Rattle.event_nodes.proofs.flat_net
+pub use Rattle.flat_net.proofs as flat_net

@@ -13,9 +13,9 @@ use Rattle.circuit_theory.specs.EventFrames.{IsCareTree, IsEnableTree, AreNodeVa
 use Rattle.circuit_theory.specs.EventSizes.{Start, EventVisits}
 use Rattle.circuit_theory.specs.EventTotals.{StartLatches}
 use Rattle.circuit_theory.specs.Frame.{NodeBefore, EventUnfolds, ReachedAt, ConeLatches, ConeOthers}
-use Rattle.event_nodes.specs.flat_net.Sound.{IsSound}
-use Rattle.event_nodes.specs.flat_net.View.{circuit_of}
-use Rattle.event_nodes.proofs.flat_net.Nets.{sound_is_net, latch_stands}
+use Rattle.flat_net.specs.Sound.{IsSound}
+use Rattle.flat_net.specs.View.{circuit_of}
+use Rattle.flat_net.proofs.Nets.{sound_is_net, latch_stands}
 use Rattle.event_nodes.specs.Nodes.{EventGraphView, path_of}
 use Rattle.event_nodes.specs.View.{EventCircuitView, IsEventCircuit, side_of, Enabled}
 use Rattle.event_nodes.specs.Visited.{IsVisitedPair}

@@ -2,7 +2,7 @@
 use Rattle.std.proofs.Common.{◌≡◌, ◌∙◌, ◌≤◌, ℕ, List, length, slice_get, Some, sym, ap, subst}
 use Rattle.circuit_theory.proofs.Lists.{map_at}
 use Rattle.event_nodes.specs.Table.{AreDistinct}
-use Rattle.event_nodes.proofs.Places.{All-at}
+use Rattle.flat_net.proofs.Places.{All-at}
 use Rattle.event_nodes.specs.Nodes.{path_of, EventGraphView, named_places, IsEventGraph}
 use Rattle.event_nodes.proofs.OnePath.{one_node}
 

@@ -10,8 +10,8 @@ use Rattle.std.proofs.lemmas.Option.{get_or_from_slice_get, slice_get_within}
 use Rattle.circuit_theory.specs.Names.{ListBefore}
 use Rattle.circuit_theory.specs.Query.{Variable}
 use Rattle.circuit_theory.proofs.Numbers.{slice_get-map}
-use Rattle.event_nodes.proofs.Nets.{some_at}
-use Rattle.event_nodes.proofs.Places.{All-at}
+use Rattle.flat_net.proofs.Nets.{some_at}
+use Rattle.flat_net.proofs.Places.{All-at}
 use Rattle.circuit_theory.specs.Frame.{NodeBefore}
 use Rattle.event_nodes.specs.Nodes.{EventGraphView, IsEventGraph, IsTree, named_places, path_of}
 use Rattle.event_nodes.proofs.OnePath.{one_node}

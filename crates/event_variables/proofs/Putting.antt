@@ -9,11 +9,11 @@ use Rattle.circuit_theory.specs.Tree.{IsInputNumber}
 use Rattle.circuit_theory.proofs.Inputs.{beside_is_input}
 use Rattle.circuit_theory.proofs.Lists.{at_of, of_at}
 use Rattle.circuit_theory.proofs.Numbers.{at_beside, slice_get-map}
-use Rattle.event_nodes.specs.flat_net.declared.parts.Driver.{Driver}
-use Rattle.event_nodes.specs.flat_net.declared.parts.Driver.TheVariants as driver
-use Rattle.event_nodes.specs.flat_net.Sound.{IsSound}
-use Rattle.event_nodes.specs.flat_net.View.{NetView, circuit_of, named}
-use Rattle.event_nodes.proofs.flat_net.Places.{one_at}
+use Rattle.flat_net.specs.declared.parts.Driver.{Driver}
+use Rattle.flat_net.specs.declared.parts.Driver.TheVariants as driver
+use Rattle.flat_net.specs.Sound.{IsSound}
+use Rattle.flat_net.specs.View.{NetView, circuit_of, named}
+use Rattle.flat_net.proofs.Places.{one_at}
 use Rattle.event_nodes.specs.Nodes.{EventGraphView, GrowsEvents}
 use Rattle.event_nodes.specs.View.{EventCircuitView, IsEventCircuit}
 use Rattle.event_nodes.proofs.Drivers.{input_owner}

@@ -2,7 +2,7 @@
 use Rattle.std.specs.Prelude.{◌≡◌, ◌⊎◌, ℕ, List, [], ◌∷◌, ◌++◌, slice_get, Option, Some, Contains}
 use Rattle.circuit_theory.specs.Tree.{IsInputNumber}
 use Rattle.circuit_theory.specs.EventSizes.{Start, EventVisits}
-use Rattle.event_nodes.specs.flat_net.View.{circuit_of}
+use Rattle.flat_net.specs.View.{circuit_of}
 use Rattle.event_nodes.specs.Nodes.{EventGraphView}
 use Rattle.event_nodes.specs.View.{EventCircuitView, side_of, Enabled}
 use Rattle.event_variables.specs.Variables.{variable_of, AreInOrder}

@@ -5,8 +5,8 @@ use Rattle.circuit_theory.specs.EventFrames.{IsCareTree, IsEnableTree, AreNodeVa
 use Rattle.circuit_theory.specs.EventSizes.{Start}
 use Rattle.circuit_theory.specs.Frame.{EventSide, EventUnfolds, ConeLatches, ConeOthers}
 use Rattle.circuit_theory.specs.Run.{IsEnabled}
-use Rattle.event_nodes.specs.flat_net.declared.parts.LatchAt.{LatchAt}
-use Rattle.event_nodes.specs.flat_net.Sound.{IsSound}
+use Rattle.flat_net.specs.declared.parts.LatchAt.{LatchAt}
+use Rattle.flat_net.specs.Sound.{IsSound}
 use Rattle.event_nodes.specs.Nodes.{EventGraphView, IsEventGraph}
 use Rattle.event_nodes.specs.View.{EventCircuitView, IsEventCircuit, side_of, Enabled}
 use Rattle.event_nodes.specs.Visited.{IsVisitedPair, HoldsVisits}

@@ -5,11 +5,13 @@
 //! the unfolding's trees, those of its care among them.
 #![tactic(auto)]
 
+pub mod frame_sequences;
 pub mod laws;
 mod merge;
 mod node_order;
 mod ordering;
 mod paths;
+pub mod ranked_nodes;
 mod visited;
 
 pub use event_nodes::{

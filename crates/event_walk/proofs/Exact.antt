@@ -5,9 +5,9 @@ use Rattle.std.specs.List.{All, Contains}
 use Rattle.std.proofs.lemmas.Bool.{cases_lt}
 use Rattle.std.proofs.lemmas.List.Elements.{All-nil, All-cons, All-append, All-weaker}
 use Rattle.std.proofs.lemmas.Option.{slice_get_within}
-use Rattle.event_nodes.specs.EventSizes.{Start, EventVisits}
-use Rattle.event_nodes.specs.EventTotals.{StartLatches}
-use Rattle.event_nodes.specs.Frame.{IsNode}
+use Rattle.circuit_theory.specs.EventSizes.{Start, EventVisits}
+use Rattle.circuit_theory.specs.EventTotals.{StartLatches}
+use Rattle.circuit_theory.specs.Frame.{IsNode}
 use Rattle.circuit_theory.proofs.Lists.{Contains-cases}
 use Rattle.event_nodes.proofs.flat_net.Nets.{some_at}
 use Rattle.event_nodes.proofs.flat_net.Places.{one_at, All-at}

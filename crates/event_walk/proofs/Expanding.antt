@@ -4,9 +4,9 @@ use Rattle.std.specs.Prelude.{◌⊎◌}
 use Rattle.std.specs.List.{All, Contains}
 use Rattle.std.proofs.lemmas.List.Elements.{All-contains}
 use Rattle.circuit_theory.specs.Circuit.{IsLatch, Reads}
-use Rattle.event_nodes.specs.Frame.{NotPut, IsNode}
-use Rattle.event_nodes.specs.EventSizes.{Start, IsOther, EventVisits}
-use Rattle.event_nodes.specs.EventTotals.{StartLatches}
+use Rattle.circuit_theory.specs.Frame.{NotPut, IsNode}
+use Rattle.circuit_theory.specs.EventSizes.{Start, IsOther, EventVisits}
+use Rattle.circuit_theory.specs.EventTotals.{StartLatches}
 use Rattle.event_nodes.specs.flat_net.declared.signals.Signal.{Signal}
 use Rattle.event_nodes.specs.flat_net.declared.parts.Gate.{Gate}
 use Rattle.event_nodes.specs.flat_net.declared.parts.LatchAt.{LatchAt}

@@ -1,7 +1,7 @@
 -- A walk begins at the root.
 use Rattle.std.proofs.Common.{◌≡◌, ◌∙◌, ℕ, List, [], ◌∷◌, slice_get, Option, Some, sym, ap, subst, arith}
 use Rattle.circuit_theory.proofs.Lists.{Contains-head}
-use Rattle.event_nodes.specs.EventSizes.{Start, EventVisits}
+use Rattle.circuit_theory.specs.EventSizes.{Start, EventVisits}
 use Rattle.event_nodes.specs.Nodes.{path_of}
 use Rattle.event_nodes.specs.View.{EventCircuitView, side_of, Enabled}
 use Rattle.event_nodes.proofs.Paths.{path_grows}

@@ -4,9 +4,9 @@ use Rattle.std.specs.Prelude.{◌⊎◌}
 use Rattle.std.specs.List.{Contains}
 use Rattle.std.proofs.lemmas.Option.{slice_get_within}
 use Rattle.circuit_theory.specs.Circuit.{Reads}
-use Rattle.event_nodes.specs.EventSizes.{Start}
-use Rattle.event_nodes.specs.EventTotals.{StartLatches}
-use Rattle.event_nodes.specs.Frame.{NotPut, IsNode}
+use Rattle.circuit_theory.specs.EventSizes.{Start}
+use Rattle.circuit_theory.specs.EventTotals.{StartLatches}
+use Rattle.circuit_theory.specs.Frame.{NotPut, IsNode}
 use Rattle.event_nodes.specs.flat_net.declared.signals.Signal.{Signal}
 use Rattle.event_nodes.specs.flat_net.declared.parts.LatchAt.{LatchAt}
 use Rattle.event_nodes.specs.flat_net.declared.parts.Driver.TheVariants as driver

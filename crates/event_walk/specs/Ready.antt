@@ -1,7 +1,7 @@
 -- When a place of a walk can be unfolded: a place is the number of a frame, and a signal.
 use Rattle.std.specs.Prelude.{◌≡◌, ◌⊎◌, ℕ, ◌<◌, ◌≤◌, Bool, true, false, List, length, Option, Some, None, slice_get}
 use Rattle.circuit_theory.specs.Circuit.{IsLatch, Reads}
-use Rattle.event_nodes.specs.Frame.{NotPut}
+use Rattle.circuit_theory.specs.Frame.{NotPut}
 use Rattle.event_nodes.specs.flat_net.View.{circuit_of}
 use Rattle.event_walk.specs.declared.frames.Frame.{Frame}
 use Rattle.event_walk.specs.declared.frames.Put.{Put}

@@ -1,7 +1,7 @@
 -- The walk over the places that an unfolding visits: a place is the number of a frame, and a signal.
 use Rattle.std.specs.Prelude.{◌≡◌, ◌⊎◌, ℕ, ◌+◌, ◌*◌, ◌<◌, ◌≤◌, List, [], ◌∷◌, length, slice_get, take, Option, Some, None, Result, Err, All, Contains}
 use Rattle.std.specs.List.{sum_by}
-use Rattle.event_nodes.specs.EventSizes.{Start, EventVisits}
+use Rattle.circuit_theory.specs.EventSizes.{Start, EventVisits}
 use Rattle.event_nodes.specs.flat_net.declared.parts.LatchAt.{LatchAt}
 use Rattle.event_nodes.specs.flat_net.View.{NetView}
 use Rattle.event_nodes.specs.declared.error.EventUnfoldError.{EventUnfoldError}

@@ -1,7 +1,7 @@
 //! Frames: an event node, and the latch that is read as a constant there.
 
 ghost use Rattle.std.specs.Prelude.{◌≡◌, ◌⊎◌, ◌+◌, ◌^◌, ◌<◌, List, [], ◌∷◌, ◌++◌, length, slice_get, Some, Contains, IfSome, IfNone, IfOk, OnOk, OnErr};
-ghost use Rattle.event_nodes.specs.Frame.{NotPut};
+ghost use Rattle.circuit_theory.specs.Frame.{NotPut};
 ghost use Rattle.event_walk.specs.declared.frames.Put.TheVariants.{Low, High};
 ghost use Rattle.event_walk.specs.Ready.{put_of};
 

@@ -4,8 +4,8 @@ use Rattle.std.specs.Prelude.{IfOk}
 use Rattle.circuit_theory.proofs.Lists.{Contains-head, Contains-tail}
 use Rattle.aig.specs.declared.node.Node.{Node}
 use Rattle.aig.specs.Values.{value}
-use Rattle.cone_values.specs.lane_eval.Tables.{Covers, assigned_to}
-use Rattle.frame_sequences.proofs.event_variables.Cones.{reached_among}
+use Rattle.class_separations.specs.cone_values.lane_eval.Tables.{Covers, assigned_to}
+use Rattle.event_variables.proofs.Cones.{reached_among}
 use Rattle.outcome.specs.pair_decide.declared.query.Query.{Query}
 use Rattle.outcome.specs.pair_decide.Queries.{IsQuery, roots_of}
 

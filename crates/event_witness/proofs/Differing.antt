@@ -7,13 +7,13 @@ use Rattle.circuit_theory.specs.Joined.{Left, Right}
 use Rattle.circuit_theory.specs.Query.{Variable}
 use Rattle.circuit_theory.specs.EventFits.{IsEventWitness}
 use Rattle.circuit_theory.specs.EventFrames.{frame_of}
-use Rattle.event_laws.proofs.EventVariables.{event_difference_gives_witness}
-use Rattle.event_laws.proofs.EventWindows.{event_witness_makes_differ_in_nets}
-use Rattle.event_laws.proofs.SideParts.{sides_are_parts_in_nets}
+use Rattle.circuit_laws.proofs.event_laws.EventVariables.{event_difference_gives_witness}
+use Rattle.circuit_laws.proofs.event_laws.EventWindows.{event_witness_makes_differ_in_nets}
+use Rattle.circuit_laws.proofs.event_laws.SideParts.{sides_are_parts_in_nets}
 use Rattle.interface.specs.flat_net.View.{circuit_of}
 use Rattle.interface.proofs.flat_net.Nets.{sound_is_net}
 use Rattle.aig.specs.Values.{value}
-use Rattle.frame_sequences.specs.event_variables.Variables.{variables_of}
+use Rattle.event_variables.specs.Variables.{variables_of}
 use Rattle.event_form.specs.class_queries.Enables.{both_of, class_map}
 use Rattle.event_form.proofs.class_queries.Meaning.{numbered}
 use Rattle.event_form.specs.event_agreement.Laws.{IsFrameDifference}

@@ -6,7 +6,7 @@ use Rattle.std.proofs.lemmas.Option.{same_Some, slice_get_within}
 use Rattle.circuit_theory.specs.Joined.{Either, Left, Right}
 use Rattle.circuit_theory.specs.Frame.{EventSide}
 use Rattle.sec_base.specs.declared.basics.PairAnswer.{PairAnswer}
-use Rattle.frame_sequences.specs.event_nodes.Nodes.{EventGraphView, IsEventGraph}
+use Rattle.event_variables.specs.Nodes.{EventGraphView, IsEventGraph}
 use Rattle.event_form.proofs.event_agreement.PairQueries.{is_query, within}
 use Rattle.interface.specs.declared.pairs.SignalPair.{SignalPair}
 use Rattle.event_form.specs.Difference.{Difference}

@@ -5,8 +5,8 @@ use Rattle.std.proofs.lemmas.List.Elements.{All-nil, All-cons}
 use Rattle.circuit_theory.specs.Sequence.{sequence_row, sequence_rows, sequence_rows_from}
 use Rattle.circuit_theory.specs.EventFrames.{frame_of}
 use Rattle.circuit_theory.specs.Frame.{bits_as_shifts}
-use Rattle.frame_sequences.specs.event_nodes.Nodes.{EventGraphView}
-use Rattle.frame_sequences.specs.event_variables.Variables.{variables_of}
+use Rattle.event_variables.specs.Nodes.{EventGraphView}
+use Rattle.event_variables.specs.Variables.{variables_of}
 
 row_long : (last : ℕ) (a : ℕ → ℕ → Bool) (cycle first count : ℕ) → length (sequence_row last a cycle first count) ≡ count
 row_long last a cycle first zero = refl

@@ -11,8 +11,8 @@ use Rattle.circuit_theory.specs.Frame.{EventSide}
 use Rattle.interface.specs.flat_net.View.{circuit_of}
 use Rattle.sec_base.specs.declared.basics.PairAnswer.{PairAnswer}
 use Rattle.aig.specs.Values.{value}
-use Rattle.frame_sequences.specs.event_nodes.Nodes.{EventGraphView, IsEventGraph, GrowsEvents}
-use Rattle.frame_sequences.specs.event_nodes.View.{EventCircuitView, Enabled}
+use Rattle.event_variables.specs.Nodes.{EventGraphView, IsEventGraph, GrowsEvents}
+use Rattle.event_variables.specs.event_nodes.View.{EventCircuitView, Enabled}
 use Rattle.event_form.specs.class_queries.Enables.{both_of}
 use Rattle.event_form.specs.class_queries.Laws.{AreKept}
 use Rattle.interface.specs.declared.pairs.SignalPair.{SignalPair}

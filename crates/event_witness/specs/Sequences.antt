@@ -7,8 +7,8 @@ use Rattle.circuit_theory.specs.Tree.{IsInputNumber}
 use Rattle.circuit_theory.specs.EventFrames.{frame_of}
 use Rattle.circuit_theory.specs.Frame.{bits_as_shifts}
 use Rattle.aig.specs.Values.{value}
-use Rattle.frame_sequences.specs.event_nodes.Nodes.{EventGraphView}
-use Rattle.frame_sequences.specs.event_variables.Variables.{variables_of}
+use Rattle.event_variables.specs.Nodes.{EventGraphView}
+use Rattle.event_variables.specs.Variables.{variables_of}
 use Rattle.outcome.specs.pair_decide.declared.query.Query.{Query}
 use Rattle.outcome.specs.pair_decide.Queries.{assigned_to}
 use Rattle.outcome.specs.witness_report.declared.witness.PairName.{PairName}

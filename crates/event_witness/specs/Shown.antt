@@ -1,6 +1,6 @@
 -- What shows a difference of an obligation.
 use Rattle.std.specs.Prelude.{◌≡◌, ℕ, ◌<◌, List, length, slice_get, Some, All}
-use Rattle.frame_sequences.specs.event_nodes.Nodes.{EventGraphView}
+use Rattle.event_variables.specs.Nodes.{EventGraphView}
 use Rattle.event_form.specs.Difference.{Difference}
 use Rattle.event_form.specs.Obligation.{Obligation}
 use Rattle.outcome.specs.pair_decide.declared.query.Query.{Query}

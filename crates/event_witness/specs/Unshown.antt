@@ -1,6 +1,6 @@
 -- The frame of a difference, by the bits of a query's variables.
 use Rattle.std.specs.Prelude.{◌≡◌, Bool, List}
-use Rattle.frame_sequences.specs.event_nodes.Nodes.{EventGraphView}
+use Rattle.event_variables.specs.Nodes.{EventGraphView}
 use Rattle.event_form.specs.Frames.{TellsFrame}
 use Rattle.outcome.specs.pair_decide.declared.query.Query.{Query}
 use Rattle.outcome.specs.witness_report.declared.witness.PairName.{PairName}

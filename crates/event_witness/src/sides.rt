@@ -2,13 +2,13 @@
 
 ghost use Rattle.std.specs.Prelude.{◌≡◌, ◌≢◌, ◌*◌, ◌<◌, [], ◌∷◌, length, IfOk};
 ghost use Rattle.std.specs.List.{AllPairs};
-ghost use Rattle.cone_values.specs.lane_eval.Tables.{Covers};
+ghost use Rattle.class_separations.specs.cone_values.lane_eval.Tables.{Covers};
 ghost use Rattle.outcome.specs.pair_decide.Queries.{IsQuery, assigned_to};
 ghost use Rattle.aig.specs.Values.{value};
 ghost use Rattle.event_witness.specs.Sequences.{AreSidesOf};
 
 use aig::Lit;
-use cone_values::value_in_cone;
+use class_separations::cone_values::value_in_cone;
 use event_form::Events;
 use outcome::Query;
 use sec_base::NoMemory;

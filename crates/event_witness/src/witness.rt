@@ -7,7 +7,7 @@ ghost use Rattle.event_witness.specs.Sequences.{IsWitnessOf};
 
 use crate::sides::sides_of;
 use event_form::{Events, copy_name};
-use frame_sequences::frame_rows;
+use event_variables::frame_sequences::frame_rows;
 use outcome::{PairName, Query, Stimulus, Witness};
 use sec_base::{Bits, NoMemory, Words};
 use std::alloc::Global;

@@ -5,7 +5,7 @@ use Rattle.circuit_theory.proofs.Lists.{length-map}
 use Rattle.pair_decide.specs.declared.query.Query.{Query}
 use Rattle.event_nodes.specs.Nodes.{EventGraphView}
 use Rattle.event_variables.specs.Variables.{variable_of, variables_of}
-use Rattle.ranked_nodes.specs.Named.{named_ranks}
+use Rattle.event_variables.specs.ranked_nodes.Named.{named_ranks}
 use Rattle.witness_report.specs.declared.witness.PairName.{PairName}
 use Rattle.event_shown_under.specs.event_under.Asked.{variable_in, variables_in}
 use Rattle.event_asked_under.specs.declared.asked.EventQuestions.{EventQuestions}

@@ -8,7 +8,7 @@ ghost use Rattle.pair_decide.specs.Queries.{IsQuery, assigned_to};
 ghost use Rattle.event_witness_under.specs.Ready.{AreSidesOf};
 
 use aig::{Aig, Lit};
-use cone_values::value_in_cone;
+use class_separations::cone_values::value_in_cone;
 use pair_decide::Query;
 use sec_base::NoMemory;
 use std::alloc::Global;

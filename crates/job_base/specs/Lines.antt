@@ -12,8 +12,8 @@ use Rattle.sim_report.specs.declared.refusal.Misfit.{Misfit}
 use Rattle.sim_report.specs.declared.refusal.Misfit.TheVariants as misfit
 use Rattle.aiger_records.specs.declared.error.AigerKind.{AigerKind}
 use Rattle.aiger_records.specs.declared.error.AigerKind.TheVariants as aiger
-use Rattle.assume_shape.specs.declared.shape.ShapeFault.{ShapeFault}
-use Rattle.assume_shape.specs.declared.shape.ShapeFault.TheVariants as shape
+use Rattle.assume_laws.specs.declared.assume_shape.shape.ShapeFault.{ShapeFault}
+use Rattle.assume_laws.specs.declared.assume_shape.shape.ShapeFault.TheVariants as shape
 use Rattle.elaborate.specs.declared.error.FlatError.{FlatError}
 use Rattle.elaborate.specs.declared.error.FlatError.TheVariants as flat
 use Rattle.outcome.specs.Report.{report_text}

@@ -2,7 +2,7 @@
 
 use crate::status::Proofs;
 use aiger_records::AigerKind;
-use assume_shape::ShapeFault;
+use assume_laws::assume_shape::ShapeFault;
 use blif_read::ReadKind;
 use elaborate::FlatError;
 use outcome::{Outcome, Proof, Settings};

@@ -7,7 +7,7 @@ ghost use Rattle.job_base.specs.Lines.{side_word, file_word, kind_text, text_kin
 
 use crate::finding::{File, LineFault, Refusal};
 use aiger_records::AigerKind;
-use assume_shape::ShapeFault;
+use assume_laws::assume_shape::ShapeFault;
 use blif_read::ReadKind;
 use elaborate::FlatError;
 use sec_base::{NoMemory, Seq, Side, Text, Word, Words, put, put_names, put_number};

@@ -6,8 +6,8 @@ use Rattle.cnf_encode.specs.declared.cnf.Cnf.{Cnf}
 use Rattle.cnf_encode.specs.Encoding.{IsSmall}
 use Rattle.dimacs_text.specs.dimacs_writer.Laws.{AreWritable}
 use Rattle.certificate_writer.specs.Texts.{SpellsClauses}
-use Rattle.pair_clauses.specs.Clauses.{ArePairClauses}
-use Rattle.pair_clauses.specs.declared.error.CertError.{CertError}
+use Rattle.job_cert.specs.pair_clauses.Clauses.{ArePairClauses}
+use Rattle.job_cert.specs.declared.pair_clauses.error.CertError.{CertError}
 use Rattle.job_base.specs.declared.finding.Finding.{Finding}
 use Rattle.job_base.specs.declared.finding.Finding.TheVariants as finding
 use Rattle.job_cert.specs.declared.making.Wanted.{Wanted}

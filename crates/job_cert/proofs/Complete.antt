@@ -3,7 +3,7 @@ use Rattle.std.specs.Prelude.{IfSome, IsSomeAnd}
 use Rattle.std.proofs.Common.{◌≡◌, ℕ, Bool, true, false, List, [], refl, sym, ◌∙◌, inl, inr, Option, Some}
 use Rattle.std.proofs.lemmas.Option.{none-some}
 use Rattle.circuit_theory.specs.declared.Side.TheVariants.{A, B}
-use Rattle.pair_clauses.proofs.ToldCycles.{is_not_free}
+use Rattle.under_base.proofs.compare_base.ToldCycles.{is_not_free}
 use Rattle.sec_files.specs.Loading.{Loads, IsTooLong, HasFault, HasDesignFault, HasRecordFault}
 use Rattle.job_base.specs.declared.finding.File.TheVariants as file
 use Rattle.job_base.specs.declared.finding.LineFault.TheVariants as line_fault
@@ -15,8 +15,8 @@ use Rattle.job_base.specs.declared.finding.Unrefuted.{Unrefuted}
 use Rattle.job_base.specs.declared.finding.Unrefuted.TheVariants as unrefuted
 use Rattle.job_base.specs.declared.status.StatusName.TheVariants as status
 use Rattle.job_base.specs.Written.{status_of, unrefuted_status}
-use Rattle.job_files.proofs.Accepted.{is_short, has_no_fault, is_sound, has_good_records}
-use Rattle.job_files.proofs.Reading.{some_and, if_told}
+use Rattle.sec_files.proofs.job_files.Accepted.{is_short, has_no_fault, is_sound, has_good_records}
+use Rattle.sec_files.proofs.job_files.Reading.{some_and, if_told}
 use Rattle.job_cert.specs.Made.{Request, IsMadeBy}
 use Rattle.job_cert.specs.Found.{IsCertRefusal, IsCertFound}
 use Rattle.job_cert.specs.Answer.{AreCertifiable, IsCertAnswer, IsCertComplete}

@@ -5,24 +5,24 @@ use Rattle.circuit_theory.specs.declared.Side.TheVariants.{A, B}
 use Rattle.sec_base.specs.Outside.{Rose}
 use Rattle.flat_net.specs.View.{NetView}
 use Rattle.cnf_encode.specs.declared.cnf.Cnf.{Cnf}
-use Rattle.pair_clauses.specs.Compared.{Compared}
-use Rattle.pair_clauses.specs.CompareError.{CompareError}
-use Rattle.pair_clauses.specs.CompareError.TheVariants as compare_error
+use Rattle.under_base.specs.compare_base.Compared.{Compared}
+use Rattle.under_base.specs.declared.compare_base.error.CompareError.{CompareError}
+use Rattle.under_base.specs.declared.compare_base.error.CompareError.TheVariants as compare_error
 use Rattle.sec_files.specs.Loading.{Loads, LoadFails}
 use Rattle.sec_files.specs.declared.loader.LoadError.{LoadError}
-use Rattle.pair_clauses.specs.Clauses.{plainly}
-use Rattle.pair_clauses.specs.declared.error.CertError.{CertError}
-use Rattle.pair_clauses.specs.declared.error.CertError.TheVariants.{Compare, Pair}
+use Rattle.job_cert.specs.pair_clauses.Clauses.{plainly}
+use Rattle.job_cert.specs.declared.pair_clauses.error.CertError.{CertError}
+use Rattle.job_cert.specs.declared.pair_clauses.error.CertError.TheVariants.{Compare, Pair}
 use Rattle.job_base.specs.Ends.{EndsBy}
 use Rattle.job_base.specs.declared.finding.File.TheVariants as file
 use Rattle.job_base.specs.declared.finding.Finding.{Finding}
 use Rattle.job_base.specs.declared.finding.Finding.TheVariants as finding
 use Rattle.job_base.specs.declared.finding.Stop.{Stop}
 use Rattle.job_base.specs.declared.finding.Stop.TheVariants as stop
-use Rattle.job_files.specs.Ends.{load_end}
-use Rattle.job_files.specs.Reading.{IsLoaded, Held, ReadFailed}
-use Rattle.job_files.proofs.Loading.{load_ends, later_fails}
-use Rattle.job_files.proofs.Reading.{first_failed, second_failed, is_loaded}
+use Rattle.sec_files.specs.job_files.Ends.{load_end}
+use Rattle.sec_files.specs.job_files.Reading.{IsLoaded, Held, ReadFailed}
+use Rattle.sec_files.proofs.job_files.Loading.{load_ends, later_fails}
+use Rattle.sec_files.proofs.job_files.Reading.{first_failed, second_failed, is_loaded}
 use Rattle.job_cert.specs.Made.{Request, IsMadeBy, IsCertificate, Made}
 use Rattle.job_cert.specs.Found.{IsCertFound}
 use Rattle.job_cert.specs.Ends.{compare_end, cert_end, CertFound, EndsBeside}

@@ -7,13 +7,13 @@ use Rattle.flat_net.specs.View.{NetView, circuit_of}
 use Rattle.cnf_encode.specs.declared.cnf.Cnf.{Cnf}
 use Rattle.sat_search.specs.Found.{IsFruitless}
 use Rattle.pair_decide.specs.declared.query.Proof.{Proof}
-use Rattle.pair_clauses.specs.outcome_fits.Outcome.{HaveDifferentFunctions}
+use Rattle.under_base.specs.compare_base.Outcome.{HaveDifferentFunctions}
 use Rattle.sec_setup.specs.Matching.{InterfacesMatch}
 use Rattle.sec_setup.specs.Cycles.{AreBroken}
-use Rattle.pair_clauses.specs.Compared.{AreTooLarge}
+use Rattle.under_base.specs.compare_base.Compared.{AreTooLarge}
 use Rattle.sec_files.specs.Loading.{IsAccepted, Loads}
 use Rattle.certificate_writer.specs.Texts.{SpellsClauses}
-use Rattle.pair_clauses.specs.Clauses.{ArePairClauses, IsOutput}
+use Rattle.job_cert.specs.pair_clauses.Clauses.{ArePairClauses, IsOutput}
 use Rattle.job_base.specs.declared.status.StatusName.{StatusName}
 use Rattle.job_base.specs.declared.status.StatusName.TheVariants as status
 use Rattle.job_base.specs.Lines.{satisfiable_text, unsettled_text}

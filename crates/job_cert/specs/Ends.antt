@@ -1,12 +1,12 @@
 -- How the work on a certificate ends.
 use Rattle.std.specs.Prelude.{◌≡◌, ◌⊎◌, ℕ, List, Option, Result, Ok, Err, IfSome}
 use Rattle.flat_net.specs.View.{NetView}
-use Rattle.pair_clauses.specs.CompareError.{CompareError}
-use Rattle.pair_clauses.specs.CompareError.TheVariants as compare_error
+use Rattle.under_base.specs.declared.compare_base.error.CompareError.{CompareError}
+use Rattle.under_base.specs.declared.compare_base.error.CompareError.TheVariants as compare_error
 use Rattle.sec_files.specs.Loading.{Loads, LoadFails}
 use Rattle.sec_files.specs.declared.loader.LoadError.{LoadError}
-use Rattle.pair_clauses.specs.declared.error.CertError.{CertError}
-use Rattle.pair_clauses.specs.declared.error.CertError.TheVariants.{Compare, Pair}
+use Rattle.job_cert.specs.declared.pair_clauses.error.CertError.{CertError}
+use Rattle.job_cert.specs.declared.pair_clauses.error.CertError.TheVariants.{Compare, Pair}
 use Rattle.job_base.specs.Ends.{EndsBy}
 use Rattle.job_base.specs.declared.finding.File.TheVariants as file
 use Rattle.job_base.specs.declared.finding.Refusal.TheVariants as refusal
@@ -14,8 +14,8 @@ use Rattle.job_base.specs.declared.finding.Finding.{Finding}
 use Rattle.job_base.specs.declared.finding.Finding.TheVariants as finding
 use Rattle.job_base.specs.declared.finding.Stop.{Stop}
 use Rattle.job_base.specs.declared.finding.Stop.TheVariants as stop
-use Rattle.job_files.specs.Ends.{load_end}
-use Rattle.job_files.specs.Reading.{Held, ReadFailed}
+use Rattle.sec_files.specs.job_files.Ends.{load_end}
+use Rattle.sec_files.specs.job_files.Reading.{Held, ReadFailed}
 use Rattle.job_cert.specs.Found.{IsCertFound, cert_paths}
 use Rattle.job_cert.specs.Made.{Request, Made}
 

@@ -1,11 +1,11 @@
 -- What is true of the files of a certificate where it finds what it does. A text is given where it is told.
 use Rattle.std.specs.Prelude.{ℕ, List, [], ◌∷◌, Option, IfSome, Err}
 use Rattle.flat_net.specs.View.{NetView}
-use Rattle.pair_clauses.specs.Compared.{Compared}
-use Rattle.pair_clauses.specs.CompareError.TheVariants as compare_error
+use Rattle.under_base.specs.compare_base.Compared.{Compared}
+use Rattle.under_base.specs.declared.compare_base.error.CompareError.TheVariants as compare_error
 use Rattle.sec_files.specs.Loading.{Loads, IsTooLong, HasFault, HasDesignFault, HasRecordFault}
-use Rattle.pair_clauses.specs.Clauses.{plainly, PairGives}
-use Rattle.pair_clauses.specs.declared.error.CertError.TheVariants.{Pair}
+use Rattle.job_cert.specs.pair_clauses.Clauses.{plainly, PairGives}
+use Rattle.job_cert.specs.declared.pair_clauses.error.CertError.TheVariants.{Pair}
 use Rattle.job_base.specs.declared.finding.File.{File}
 use Rattle.job_base.specs.declared.finding.File.TheVariants as file
 use Rattle.job_base.specs.declared.finding.LineFault.TheVariants as line_fault
@@ -13,7 +13,7 @@ use Rattle.job_base.specs.declared.finding.Refusal.{Refusal}
 use Rattle.job_base.specs.declared.finding.Refusal.TheVariants as refusal
 use Rattle.job_base.specs.declared.finding.Finding.{Finding}
 use Rattle.job_base.specs.declared.finding.Finding.TheVariants as finding
-use Rattle.job_files.specs.Reading.{IsLoaded}
+use Rattle.sec_files.specs.job_files.Reading.{IsLoaded}
 use Rattle.job_cert.specs.Made.{Request, IsCertificate}
 
 -- the paths that a certificate reads, in the order of their fetches

@@ -2,5 +2,5 @@ pub mod Answer
 pub mod Ends
 pub mod Found
 pub mod Made
-pub use Rattle.job_files.specs as job_files
-pub use Rattle.pair_clauses.specs as pair_clauses
+pub mod pair_clauses
+pub use Rattle.sec_files.specs as sec_files

@@ -5,8 +5,8 @@ use Rattle.proof_check.specs.declared.derivation.Chain.{Chain}
 use Rattle.cnf_encode.specs.declared.cnf.Cnf.{Cnf}
 use Rattle.sat_search.specs.Found.{IsFruitless}
 use Rattle.certificate_writer.specs.Texts.{SpellsClauses, IsTextOf, IsAcceptedOver}
-use Rattle.pair_clauses.specs.Clauses.{CanBeMet, ArePairClauses, PairGives}
-use Rattle.pair_clauses.specs.declared.error.CertError.{CertError}
+use Rattle.job_cert.specs.pair_clauses.Clauses.{CanBeMet, ArePairClauses, PairGives}
+use Rattle.job_cert.specs.declared.pair_clauses.error.CertError.{CertError}
 use Rattle.job_base.specs.declared.finding.Finding.{Finding}
 use Rattle.job_base.specs.declared.finding.Finding.TheVariants as finding
 use Rattle.job_base.specs.declared.finding.Unrefuted.TheVariants as unrefuted

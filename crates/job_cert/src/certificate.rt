@@ -7,11 +7,11 @@ ghost use Rattle.job_cert.specs.Made.{wanted_of};
 ghost use Rattle.job_cert.specs.Ends.{compare_end, cert_end, CertFound, EndsBeside};
 
 use crate::making::{Wanted, make};
+use crate::pair_clauses::{CertError, CompareError};
 use flat_net::Net;
 use job_base::{File, Finding, Refusal, Stop};
-use job_files::load_end;
-use pair_clauses::{CertError, CompareError};
 use sec_base::{MAX_CONFLICTS, Shelf};
+use sec_files::job_files::load_end;
 use sec_files::load;
 use std::alloc::Global;
 

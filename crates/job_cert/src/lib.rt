@@ -3,6 +3,7 @@
 
 mod certificate;
 mod making;
+pub mod pair_clauses;
 
 pub use certificate::{Certification, certify};
 pub use making::Wanted;

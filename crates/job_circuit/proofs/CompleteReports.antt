@@ -23,8 +23,8 @@ use Rattle.graph_report.proofs.Ended.{large_or_light}
 use Rattle.sec_files.specs.Loading.{IsAccepted, Loads, IsTooLong}
 use Rattle.sec_files.specs.Stimuli.{IsStimulus, HasBadHeader, HasBadRow}
 use Rattle.sec_files.proofs.Texts.{text_sound}
-use Rattle.job_files.proofs.Accepted.{has_header, no_bad_row, same_names, not_long, not_faulty, not_unsound, not_misread}
-use Rattle.job_files.proofs.Reading.{some_and, if_told}
+use Rattle.sec_files.proofs.job_files.Accepted.{has_header, no_bad_row, same_names, not_long, not_faulty, not_unsound, not_misread}
+use Rattle.sec_files.proofs.job_files.Reading.{some_and, if_told}
 use Rattle.job_circuit.specs.Reports.{IsCircuitRefusal, IsGraphRefusal, IsGraphFound, IsSimRefusal, IsSimFound, CanBeTold, CanBeRun, IsReported, IsGraphComplete, IsSimComplete}
 
 -- an accepted circuit is not refused

@@ -28,9 +28,9 @@ use Rattle.sec_files.specs.declared.stimuli.StimulusError.{StimulusError}
 use Rattle.sec_files.specs.declared.stimuli.StimulusError.TheVariants as stimulus_error
 use Rattle.sec_files.specs.Loading.{Loads, LoadFails, IsTooLong}
 use Rattle.sec_files.specs.Stimuli.{IsStimulus, HasBadHeader, HasBadRow, StimulusFails}
-use Rattle.job_files.specs.Reading.{IsLoaded, Held}
-use Rattle.job_files.specs.Ends.{load_end, stimulus_end}
-use Rattle.job_files.proofs.Reading.{second_failed, rose_before}
+use Rattle.sec_files.specs.job_files.Reading.{IsLoaded, Held}
+use Rattle.sec_files.specs.job_files.Ends.{load_end, stimulus_end}
+use Rattle.sec_files.proofs.job_files.Reading.{second_failed, rose_before}
 use Rattle.job_circuit.specs.Reports.{IsCircuitRefusal, IsGraphFound, IsGraphRefusal, IsSimFound, IsSimRefusal}
 use Rattle.job_circuit.specs.Ends.{graph_end, sim_end, SimFound}
 

@@ -12,7 +12,7 @@ use Rattle.latch_kinds.specs.declared.kinds.KindsError.{KindsError}
 use Rattle.latch_kinds.specs.declared.kinds.KindsError.TheVariants as kinds_error
 use Rattle.graph_report.specs.declared.runs.SimulateError.{SimulateError}
 use Rattle.graph_report.specs.declared.runs.SimulateError.TheVariants as simulate_error
-use Rattle.job_files.specs.Reading.{Held, ReadFailed}
+use Rattle.sec_files.specs.job_files.Reading.{Held, ReadFailed}
 use Rattle.job_circuit.specs.Reports.{graph_paths, sim_paths, IsGraphFound, IsSimFound}
 
 -- what is found where it isn't found out what a latch is

@@ -25,7 +25,7 @@ use Rattle.latch_kinds.specs.declared.kinds.KindsError.TheVariants as kinds_erro
 use Rattle.graph_report.specs.Jobs.{AreLightIn, IsUnknown}
 use Rattle.sec_files.specs.Loading.{IsAccepted, Loads, IsTooLong, HasFault, HasDesignFault, HasRecordFault}
 use Rattle.sec_files.specs.Stimuli.{IsStimulus, HasBadHeader, HasBadRow}
-use Rattle.job_files.specs.Reading.{IsLoaded}
+use Rattle.sec_files.specs.job_files.Reading.{IsLoaded}
 
 -- the paths that the report of a latch graph reads
 abbrev pub graph_paths : List ℕ → List (List ℕ)

@@ -7,8 +7,8 @@ ghost use Rattle.job_circuit.specs.Ends.{GraphFound, SimFound, graph_end, sim_en
 use circuit_theory::Mode;
 use graph_report::{KindsError, SimulateError, simulate as run_circuit, tell};
 use job_base::{File, Finding, Refusal, Stop};
-use job_files::{load_end, stimulus_end};
 use sec_base::{Shelf, Side, Text};
+use sec_files::job_files::{load_end, stimulus_end};
 use sec_files::{load, load_stimulus};
 use std::alloc::Global;
 

@@ -1,5 +1,5 @@
-pub use Rattle.plain_check.specs.compare_base.Compared
-pub use Rattle.plain_check.specs.compare_base.declared.error.CompareError
+pub use Rattle.plain_check.specs.Compared
+pub use Rattle.plain_check.specs.under_base.declared.compare_base.error.CompareError
 pub mod Report
 pub mod Found
 pub mod Answer

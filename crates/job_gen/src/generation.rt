@@ -1,7 +1,7 @@
 //! A pair is made and compared.
 
 ghost use Rattle.std.specs.Prelude.{◌≡◌, ◌≤◌, IsErrOf};
-ghost use Rattle.plain_check.specs.compare_base.Compared.{IsCompared};
+ghost use Rattle.plain_check.specs.Compared.{IsCompared};
 ghost use Rattle.job_gen.specs.gen_meaning.Found.{AreTwins, GenFound, settings_of};
 
 use crate::gen_meaning::{Generation, summary};

@@ -11,10 +11,10 @@ use Rattle.job_base.specs.declared.finding.File.TheVariants as file
 use Rattle.job_base.specs.declared.finding.Finding.{Finding}
 use Rattle.job_base.specs.declared.finding.Stop.{Stop}
 use Rattle.job_base.specs.declared.finding.Stop.TheVariants as stop
-use Rattle.job_files.specs.Ends.{load_end}
-use Rattle.job_files.specs.Reading.{IsLoaded, Held, ReadFailed}
-use Rattle.job_files.proofs.Loading.{load_ends, later_fails}
-use Rattle.job_files.proofs.Reading.{first_failed, second_failed, is_loaded}
+use Rattle.sec_files.specs.job_files.Ends.{load_end}
+use Rattle.sec_files.specs.job_files.Reading.{IsLoaded, Held, ReadFailed}
+use Rattle.sec_files.proofs.job_files.Loading.{load_ends, later_fails}
+use Rattle.sec_files.proofs.job_files.Reading.{first_failed, second_failed, is_loaded}
 use Rattle.job_induct.specs.induct_meaning.Found.{IsInductFound}
 use Rattle.job_induct.specs.declared.judging.Judged.{Judged}
 use Rattle.job_induct.specs.declared.judging.JudgeError.{JudgeError}

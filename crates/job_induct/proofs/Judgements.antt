@@ -8,11 +8,11 @@ use Rattle.flat_net.specs.View.{NetView, circuit_of, ports_of}
 use Rattle.sec_setup.specs.declared.error.SetupError.{SetupError}
 use Rattle.sec_setup.specs.declared.error.SetupError.TheVariants as unset
 use Rattle.sec_setup.specs.Matching.{InterfaceFails}
-use Rattle.induct_report.specs.induct.declared.induction.InductVerdict.TheVariants as verdict
-use Rattle.induct_report.specs.induct.declared.induction.Induction.{Induction}
-use Rattle.induct_report.specs.induct.declared.induction.InductError.{InductError}
-use Rattle.induct_report.specs.induct.declared.induction.InductError.TheVariants as refused
-use Rattle.induct_report.specs.induct.Inductions.{IsInduction, IsRefusal}
+use Rattle.induct.specs.declared.induction.InductVerdict.TheVariants as verdict
+use Rattle.induct.specs.declared.induction.Induction.{Induction}
+use Rattle.induct.specs.declared.induction.InductError.{InductError}
+use Rattle.induct.specs.declared.induction.InductError.TheVariants as refused
+use Rattle.induct.specs.Inductions.{IsInduction, IsRefusal}
 use Rattle.induct_report.specs.Report.{induct_text}
 use Rattle.job_induct.specs.induct_meaning.Judged.{AreLight, judgement_of, proofs_of, IsJudged}
 use Rattle.job_induct.specs.declared.judging.Judged.{Judged}

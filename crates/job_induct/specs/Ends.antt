@@ -6,9 +6,9 @@ use Rattle.sec_files.specs.Loading.{Loads, LoadFails}
 use Rattle.sec_files.specs.declared.loader.LoadError.{LoadError}
 use Rattle.sec_setup.specs.declared.error.SetupError.{SetupError}
 use Rattle.sec_setup.specs.declared.error.SetupError.TheVariants as unset
-use Rattle.induct_report.specs.induct.declared.induction.InductError.{InductError}
-use Rattle.induct_report.specs.induct.declared.induction.InductError.TheVariants as refused
-use Rattle.induct_report.specs.induct.Inductions.{IsRefusal}
+use Rattle.induct.specs.declared.induction.InductError.{InductError}
+use Rattle.induct.specs.declared.induction.InductError.TheVariants as refused
+use Rattle.induct.specs.Inductions.{IsRefusal}
 use Rattle.job_base.specs.Ends.{EndsBy}
 use Rattle.job_base.specs.declared.finding.File.TheVariants as file
 use Rattle.job_base.specs.declared.finding.Refusal.TheVariants as refusal
@@ -16,8 +16,8 @@ use Rattle.job_base.specs.declared.finding.Finding.{Finding}
 use Rattle.job_base.specs.declared.finding.Finding.TheVariants as finding
 use Rattle.job_base.specs.declared.finding.Stop.{Stop}
 use Rattle.job_base.specs.declared.finding.Stop.TheVariants as stop
-use Rattle.job_files.specs.Ends.{load_end}
-use Rattle.job_files.specs.Reading.{Held, ReadFailed}
+use Rattle.sec_files.specs.job_files.Ends.{load_end}
+use Rattle.sec_files.specs.job_files.Reading.{Held, ReadFailed}
 use Rattle.job_induct.specs.induct_meaning.Judged.{IsJudged}
 use Rattle.job_induct.specs.induct_meaning.Found.{IsInductFound, induct_paths}
 use Rattle.job_induct.specs.declared.judging.Judged.{Judged}

@@ -8,8 +8,8 @@ ghost use Rattle.job_induct.specs.Ends.{InductFound, EndsBeside};
 use crate::judging::{judge_nets, judged_end};
 use flat_net::Net;
 use job_base::{File, Finding, Stop};
-use job_files::load_end;
 use sec_base::{MAX_CONFLICTS, Shelf};
+use sec_files::job_files::load_end;
 use sec_files::load;
 use std::alloc::Global;
 

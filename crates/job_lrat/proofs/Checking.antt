@@ -11,7 +11,7 @@ use Rattle.text_numbers.specs.declared.kinds.TextError.{TextError}
 use Rattle.text_numbers.specs.declared.kinds.TextError.TheVariants as text_error
 use Rattle.dimacs_text.specs.Dimacs.{formula_of}
 use Rattle.dimacs_text.specs.Formulas.{Formula}
-use Rattle.lrat_text.specs.Verdicts.{IsChecked}
+use Rattle.lrat_core.specs.lrat_text.Verdicts.{IsChecked}
 use Rattle.job_base.specs.declared.finding.File.TheVariants as file
 use Rattle.job_base.specs.Ends.{EndsBy}
 use Rattle.job_base.proofs.Reading.{first_read_failed, second_read_failed}

@@ -9,8 +9,8 @@ use Rattle.text_numbers.specs.declared.kinds.TextKind.{TextKind}
 use Rattle.dimacs_text.specs.Dimacs.{formula_of}
 use Rattle.dimacs_text.specs.Formulas.{Formula}
 use Rattle.lrat_core.specs.Sequences.{Verdict, Accepted, Refused}
-use Rattle.lrat_text.specs.Verdicts.{IsTextVerdict}
-use Rattle.lrat_text.proofs.Texts.{one_verdict}
+use Rattle.lrat_core.specs.lrat_text.Verdicts.{IsTextVerdict}
+use Rattle.lrat_core.proofs.lrat_text.Texts.{one_verdict}
 use Rattle.job_base.specs.declared.finding.File.TheVariants as file
 use Rattle.job_base.specs.declared.finding.LineFault.TheVariants as line_fault
 use Rattle.job_base.specs.declared.finding.Refusal.{Refusal}

@@ -7,7 +7,7 @@ use Rattle.text_numbers.specs.declared.kinds.TextKind.{TextKind}
 use Rattle.dimacs_text.specs.Dimacs.{formula_of}
 use Rattle.dimacs_text.specs.Formulas.{Formula}
 use Rattle.lrat_core.specs.Sequences.{Accepted, Refused}
-use Rattle.lrat_text.specs.Verdicts.{IsTextVerdict}
+use Rattle.lrat_core.specs.lrat_text.Verdicts.{IsTextVerdict}
 use Rattle.job_lrat.specs.declared.loading.TextLoadError.{TextLoadError}
 use Rattle.job_lrat.specs.declared.loading.TextLoadError.TheVariants as error
 

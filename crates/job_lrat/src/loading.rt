@@ -5,7 +5,7 @@ ghost use Rattle.proof_check.specs.Clauses.{Unsatisfiable};
 ghost use Rattle.sec_base.specs.Outside.{Rose, SameHeld, NoneFell};
 ghost use Rattle.job_lrat.specs.Texts.{Spells, Refutes, ClausesFail, ProofFails};
 
-use lrat_text::{Formula, TextError, Verified, check_lrat, read_dimacs};
+use lrat_core::lrat_text::{Formula, TextError, Verified, check_lrat, read_dimacs};
 use sec_base::{FetchError, MAX_FILE_BYTES, Shelf, fetch};
 use std::alloc::Global;
 

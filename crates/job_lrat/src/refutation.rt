@@ -7,7 +7,7 @@ ghost use Rattle.job_lrat.specs.Found.{verified_text};
 
 use crate::loading::{TextLoadError, check_file, load_clauses};
 use job_base::{File, Finding, LineFault, Refusal, Stop};
-use lrat_text::TextError;
+use lrat_core::lrat_text::TextError;
 use sec_base::{FetchError, NoMemory, Seq, Shelf, Text, put};
 use std::alloc::Global;
 

@@ -12,7 +12,7 @@ use Rattle.graph_report.specs.Jobs.{IsUnknown}
 use Rattle.graph_report.proofs.Ended.{large_or_light}
 use Rattle.pair_decide.specs.declared.query.Proof.{Proof}
 use Rattle.sim_report.specs.declared.refusal.Misfit.TheVariants as misfit
-use Rattle.replay_header.specs.Header.{first_unknown, first_lacking}
+use Rattle.replay.specs.replay_header.Header.{first_unknown, first_lacking}
 use Rattle.job_replay.specs.Modes.{AreUnknown}
 use Rattle.sec_files.specs.Loading.{Loads}
 use Rattle.sec_files.specs.Stimuli.{IsStimulus}
@@ -24,8 +24,8 @@ use Rattle.job_base.specs.declared.finding.Refusal.TheVariants as refusal
 use Rattle.job_base.specs.declared.finding.Finding.{Finding}
 use Rattle.job_base.specs.declared.finding.Finding.TheVariants as finding
 use Rattle.job_base.specs.Written.{status_of}
-use Rattle.job_files.proofs.Accepted.{not_long, not_faulty, not_unsound, not_misread, no_long_stimulus, not_headless, no_row_refused, same_names}
-use Rattle.job_files.proofs.Reading.{some_and, if_told}
+use Rattle.sec_files.proofs.job_files.Accepted.{not_long, not_faulty, not_unsound, not_misread, no_long_stimulus, not_headless, no_row_refused, same_names}
+use Rattle.sec_files.proofs.job_files.Reading.{some_and, if_told}
 use Rattle.job_replay.specs.Replays.{IsReplayRefusal, IsReplayFound, CanBeReplayed, IsReplayed, IsReplayComplete}
 
 -- in the plain mode no query of a latch has met the limit

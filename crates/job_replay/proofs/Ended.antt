@@ -9,8 +9,8 @@ use Rattle.latch_kinds.specs.declared.kinds.KindsError.TheVariants as kinds_erro
 use Rattle.latch_kinds.specs.Found.{FoundIn}
 use Rattle.sec_setup.specs.Matching.{InterfacesMatch}
 use Rattle.pair_runs.specs.declared.differences.Difference.{Difference}
-use Rattle.replay_header.specs.declared.error.ReplayError.{ReplayError}
-use Rattle.replay_header.specs.declared.error.ReplayError.TheVariants as replay_error
+use Rattle.replay.specs.declared.replay_header.error.ReplayError.{ReplayError}
+use Rattle.replay.specs.declared.replay_header.error.ReplayError.TheVariants as replay_error
 use Rattle.replay.specs.Replay.{Replays}
 use Rattle.graph_report.proofs.Ended.{kinds_are}
 use Rattle.job_replay.specs.declared.fault.ReplayFault.{ReplayFault}

@@ -18,10 +18,10 @@ use Rattle.job_base.specs.declared.finding.Finding.{Finding}
 use Rattle.job_base.specs.declared.finding.Stop.{Stop}
 use Rattle.job_base.specs.declared.finding.Stop.TheVariants as stop
 use Rattle.job_base.specs.Ends.{EndsBy}
-use Rattle.job_files.specs.Ends.{load_end, stimulus_end}
-use Rattle.job_files.specs.Reading.{IsLoaded, Held, ReadFailed}
-use Rattle.job_files.proofs.Loading.{load_ends, stimulus_ends, later_fails, later_stimulus}
-use Rattle.job_files.proofs.Reading.{first_failed, second_failed, is_loaded}
+use Rattle.sec_files.specs.job_files.Ends.{load_end, stimulus_end}
+use Rattle.sec_files.specs.job_files.Reading.{IsLoaded, Held, ReadFailed}
+use Rattle.sec_files.proofs.job_files.Loading.{load_ends, stimulus_ends, later_fails, later_stimulus}
+use Rattle.sec_files.proofs.job_files.Reading.{first_failed, second_failed, is_loaded}
 use Rattle.job_replay.specs.Replays.{IsReplayFound}
 use Rattle.job_replay.specs.Ends.{ReplayJob, replay_end, EndsOver, EndsWithBoth, ReplayFound}
 

@@ -18,8 +18,8 @@ use Rattle.job_base.specs.declared.finding.Finding.TheVariants as finding
 use Rattle.job_base.specs.declared.finding.Stop.{Stop}
 use Rattle.job_base.specs.declared.finding.Stop.TheVariants as stop
 use Rattle.job_base.specs.Ends.{EndsBy}
-use Rattle.job_files.specs.Ends.{load_end, stimulus_end}
-use Rattle.job_files.specs.Reading.{Held, ReadFailed}
+use Rattle.sec_files.specs.job_files.Ends.{load_end, stimulus_end}
+use Rattle.sec_files.specs.job_files.Reading.{Held, ReadFailed}
 use Rattle.job_replay.specs.Replays.{IsReplayFound, replay_paths}
 
 -- the paths of two circuits and of a stimulus, and the mode

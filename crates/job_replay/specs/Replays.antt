@@ -11,7 +11,7 @@ use Rattle.sim_report.specs.declared.refusal.Misfit.TheVariants as misfit
 use Rattle.graph_report.specs.Jobs.{AreLightIn}
 use Rattle.latch_kinds.specs.declared.kinds.KindsError.TheVariants as kinds_error
 use Rattle.pair_runs.specs.declared.differences.Difference.{Difference}
-use Rattle.replay_header.specs.Header.{FitsBoth}
+use Rattle.replay.specs.replay_header.Header.{FitsBoth}
 use Rattle.pair_runs.specs.replay_report.Report.{replay_text}
 use Rattle.job_replay.specs.declared.fault.ReplayFault.TheVariants as fault
 use Rattle.job_replay.specs.Modes.{AreUnknown, ShowsReplay, ReplaysIn}
@@ -27,7 +27,7 @@ use Rattle.job_base.specs.declared.finding.Refusal.{Refusal}
 use Rattle.job_base.specs.declared.finding.Refusal.TheVariants as refusal
 use Rattle.job_base.specs.declared.finding.Finding.{Finding}
 use Rattle.job_base.specs.declared.finding.Finding.TheVariants as finding
-use Rattle.job_files.specs.Reading.{IsLoaded}
+use Rattle.sec_files.specs.job_files.Reading.{IsLoaded}
 
 -- the paths of a replay, in the order of their fetches
 abbrev pub replay_paths : List ℕ → List ℕ → List ℕ → List (List ℕ)

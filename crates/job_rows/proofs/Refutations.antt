@@ -8,7 +8,7 @@ use Rattle.lrat_core.specs.Hints.{IsUnit, HintsGive}
 use Rattle.lrat_core.specs.Sequences.{AdditionGives, DeletionGives, Accepted}
 use Rattle.lrat_core.specs.States.{numbered, start, with_clause, without_all}
 use Rattle.text_numbers.specs.Lines.{lines_of}
-use Rattle.lrat_text.specs.Verdicts.{TextGives}
+use Rattle.lrat_core.specs.lrat_text.Verdicts.{TextGives}
 use Rattle.job_rows.specs.Refutations.{UnitsAreRefuted, PairsAreRefuted, refuting}
 
 abbrev yes : ℕ → Literal

@@ -17,7 +17,7 @@ use Rattle.witness_report.specs.Text.{stimulus_text}
 use Rattle.graph_report.specs.Jobs.{AreLightIn}
 use Rattle.sec_files.specs.Loading.{Loads}
 use Rattle.sec_files.specs.Stimuli.{IsStimulus}
-use Rattle.replay_header.specs.Header.{FitsBoth}
+use Rattle.replay.specs.replay_header.Header.{FitsBoth}
 use Rattle.job_replay.specs.Replays.{CanBeReplayed}
 use Rattle.design_rows.specs.Designs as design
 use Rattle.design_rows.specs.Small.{Small, IsSmall, small_late, small_early, small_two, small_toggle}

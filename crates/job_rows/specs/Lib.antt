@@ -4,3 +4,4 @@ pub mod Refutations
 pub mod Replays
 pub mod Started
 pub mod Stimuli
+pub mod nested_rows

@@ -2,6 +2,8 @@
 //! functions do nothing: each contract is an example or a law.
 #![tactic(auto)]
 
+pub mod nested_rows;
+
 ghost use Rattle.job_rows.specs.OneReport.{GraphReportsAreOne, SimReportsAreOne};
 ghost use Rattle.job_rows.specs.Stimuli.{TwoCanBeRun};
 ghost use Rattle.job_rows.specs.Started.{StartedPowersUp};

@@ -9,8 +9,8 @@ use Rattle.sec_base.specs.declared.basics.Init.{Init}
 use Rattle.flat_net.specs.declared.parts.LatchAt.{LatchAt}
 use Rattle.flat_net.specs.View.{NetView, circuit_of}
 use Rattle.flat_net.specs.Sound.{IsSound}
-use Rattle.induct_laws.specs.Partitions.{IsInitial, IsSplitBy}
-use Rattle.induct_laws.proofs.Partitions.{initial_is_coarser, split_stays_coarser}
+use Rattle.reset_laws.specs.induct_laws.Partitions.{IsInitial, IsSplitBy}
+use Rattle.reset_laws.proofs.induct_laws.Partitions.{initial_is_coarser, split_stays_coarser}
 use Rattle.latch_blocks.specs.Blocks.{bit_at, start_at, HaveOneStart, IsByStarts, IsSplit}
 use Rattle.latch_blocks.specs.Partitions.{block_of, starts_of, nexts_of}
 use Rattle.latch_blocks.specs.PartitionLaws.{PartitionBegins, PartitionSplits, PartitionEnds}

@@ -17,8 +17,8 @@ use Rattle.flat_net.specs.View.{NetView, circuit_of, named}
 use Rattle.flat_net.specs.Sound.{IsSound}
 use Rattle.flat_net.proofs.Nets.{sound_is_net}
 use Rattle.flat_net.proofs.Places.{All-at}
-use Rattle.induct_laws.specs.Queries.{BlockUnfolds, ReadsBlocks, AssignmentsAreValues}
-use Rattle.induct_laws.proofs.Queries.{blocks_are_variables}
+use Rattle.reset_laws.specs.induct_laws.Queries.{BlockUnfolds, ReadsBlocks, AssignmentsAreValues}
+use Rattle.reset_laws.proofs.induct_laws.Queries.{blocks_are_variables}
 use Rattle.latch_blocks.specs.Blocks.{block_at}
 use Rattle.latch_blocks.specs.declared.variables.Variables.{Variables}
 use Rattle.latch_blocks.specs.Signals.{variable_of, variable_at}

@@ -11,8 +11,8 @@ use Rattle.sec_base.specs.declared.basics.Init.TheVariants as init
 use Rattle.flat_net.specs.declared.parts.LatchAt.{LatchAt}
 use Rattle.flat_net.specs.View.{NetView, circuit_of, start_of}
 use Rattle.flat_net.specs.Sound.{IsSound}
-use Rattle.reset_nets.proofs.Starts.{nets_have_starts}
-use Rattle.induct_laws.specs.Partitions.{ShareStart}
+use Rattle.reset_laws.proofs.reset_nets.Starts.{nets_have_starts}
+use Rattle.reset_laws.specs.induct_laws.Partitions.{ShareStart}
 use Rattle.latch_blocks.specs.Blocks.{HaveOneStart}
 use Rattle.latch_blocks.proofs.Placing.{Stands, latch_of}
 

@@ -7,7 +7,7 @@ use Rattle.flat_net.specs.declared.parts.Driver.{Driver}
 use Rattle.flat_net.specs.declared.parts.Driver.TheVariants as driver
 use Rattle.flat_net.specs.declared.parts.LatchAt.{LatchAt}
 use Rattle.flat_net.specs.View.{NetView, circuit_of}
-use Rattle.induct_laws.specs.Partitions.{ShareStart, IsCoarser}
+use Rattle.reset_laws.specs.induct_laws.Partitions.{ShareStart, IsCoarser}
 use Rattle.latch_blocks.specs.Blocks.{block_at, AreInOrder}
 
 -- the block of a latch's signal, where the net's latches stand in the list from this place on; 0 for other signals

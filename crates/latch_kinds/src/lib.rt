@@ -1,6 +1,7 @@
 //! What each latch of a net is in a mode: whether it has a load enable.
 #![tactic(auto)]
 
+pub mod enable_laws;
 mod kinds;
 
 pub use kinds::{KindsError, LatchKinds, kinds_in};

@@ -7,3 +7,4 @@ pub mod Marks
 pub mod Sequences
 pub mod States
 pub mod Stored
+pub mod lrat_text

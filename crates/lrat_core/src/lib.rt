@@ -12,6 +12,7 @@ mod laws;
 mod line_error;
 mod live;
 mod looking;
+pub mod lrat_text;
 
 pub use checker::Checker;
 pub use hints::Hint;

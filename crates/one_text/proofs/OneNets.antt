@@ -24,11 +24,11 @@ use Rattle.net_alike.specs.Renumbered.{latch_rows, AreRenumbered}
 use Rattle.net_alike.proofs.Carrying.{pairs_map, edge, forth, turned, cycle_carried, over_carried, weight_carried}
 use Rattle.net_alike.proofs.Cutting.{cut_carried, minimal_cuts_are_carried}
 use Rattle.swept_queries.proofs.Listed.{zip_left}
-use Rattle.cut_points.specs.Common.{common_names}
-use Rattle.cut_points.specs.Exposed.{IsToldCycle}
+use Rattle.sec_setup.specs.cut_points.Common.{common_names}
+use Rattle.sec_setup.specs.cut_points.Exposed.{IsToldCycle}
 use Rattle.design_laws.proofs.KeptNames.{latch_names_are}
 use Rattle.sec_setup.specs.Cycles.{AreBroken}
-use Rattle.compare_base.specs.Compared.{AreTooLarge}
+use Rattle.under_base.specs.compare_base.Compared.{AreTooLarge}
 use Rattle.sec_setup.specs.Cuts.{IsChoice, StandInOrder}
 use Rattle.outcome_fits.specs.Fitting.{cut_outputs, IsCutOver, IsCutLight}
 use Rattle.one_text.specs.TextNets.{OneNetIsEnough, ToldCyclesAreOne}

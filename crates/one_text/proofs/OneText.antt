@@ -37,9 +37,9 @@ use Rattle.flatten.specs.OneNet.{AreOneNet}
 use Rattle.design_laws.proofs.KeptNames.{names_are_kept}
 use Rattle.sec_base.specs.declared.basics.PairAnswer.{PairAnswer}
 use Rattle.sec_base.specs.declared.basics.PairAnswer.TheVariants as answer
-use Rattle.cut_points.proofs.expose_pick.Removed.{cycle_fewer}
+use Rattle.sec_setup.proofs.cut_points.expose_pick.Removed.{cycle_fewer}
 use Rattle.swept_queries.proofs.Listed.{zip_left}
-use Rattle.cut_points.specs.Common.{common_names}
+use Rattle.sec_setup.specs.cut_points.Common.{common_names}
 use Rattle.pair_decide.specs.declared.query.Proof.{Proof}
 use Rattle.outcome.specs.declared.verdict.PairResult.{PairResult}
 use Rattle.outcome.specs.declared.verdict.Verdict.{Verdict}
@@ -47,15 +47,15 @@ use Rattle.outcome.specs.declared.verdict.Verdict.TheVariants as verdict
 use Rattle.outcome.specs.declared.verdict.Why.TheVariants as why
 use Rattle.outcome.specs.declared.verdict.Outcome.{Outcome}
 use Rattle.sec_base.specs.declared.settings.Settings.{Settings}
-use Rattle.plain_form.specs.Laws.{HaveOneTree}
+use Rattle.plain_check.specs.plain_form.Laws.{HaveOneTree}
 use Rattle.sec_setup.specs.Pairs.{NamedPair, named_pairs}
 use Rattle.outcome_fits.specs.Outcome.{HaveDifferentFunctions, AnswerFits, PairFits, VerdictFits}
 use Rattle.sec_setup.specs.Cycles.{AreBroken}
-use Rattle.compare_base.specs.Compared.{IsCompared, AreTooLarge}
+use Rattle.under_base.specs.compare_base.Compared.{IsCompared, AreTooLarge}
 use Rattle.sec_setup.specs.Cuts.{IsChoice, columns_of, is_cut}
 use Rattle.outcome_fits.specs.Fitting.{IsCutOver, OutcomeFits}
 use Rattle.sec_setup.proofs.CutNets.{same_as_cut, cut_numbers}
-use Rattle.plain_meaning.proofs.CutPairs.{IsOutputPair, IsNextPair, one_output, listed_is}
+use Rattle.outcome_fits.proofs.plain_meaning.CutPairs.{IsOutputPair, IsNextPair, one_output, listed_is}
 use Rattle.sec_setup.proofs.SameEquations.{same_tree}
 use Rattle.sec_files.specs.Formats.{Format, Blif, Aiger, format_of, IsNetIn}
 use Rattle.sec_files.specs.Loading.{Loads}

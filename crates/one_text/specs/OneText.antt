@@ -5,7 +5,7 @@ use Rattle.sec_base.specs.declared.settings.Settings.{Settings}
 use Rattle.outcome.specs.declared.verdict.Verdict.TheVariants as verdict
 use Rattle.outcome.specs.declared.verdict.Outcome.{Outcome}
 use Rattle.sec_setup.specs.Cycles.{IsAcyclic}
-use Rattle.compare_base.specs.Compared.{IsCompared}
+use Rattle.under_base.specs.compare_base.Compared.{IsCompared}
 use Rattle.outcome_fits.specs.Fitting.{IsCutOver}
 use Rattle.sec_files.specs.Loading.{IsAccepted, Loads}
 use Rattle.check_texts.specs.Texts.{AreComparable}

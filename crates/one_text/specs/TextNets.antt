@@ -4,10 +4,10 @@ use Rattle.circuit_theory.specs.declared.Mode.TheVariants.{Plain}
 use Rattle.circuit_theory.specs.declared.Side.{Side}
 use Rattle.flat_net.specs.View.{NetView}
 use Rattle.flatten.specs.OneNet.{AreOneNet}
-use Rattle.cut_points.specs.Exposed.{IsToldCycle}
+use Rattle.sec_setup.specs.cut_points.Exposed.{IsToldCycle}
 use Rattle.sec_setup.specs.Matching.{InterfacesMatch}
 use Rattle.sec_setup.specs.Cycles.{AreBroken}
-use Rattle.compare_base.specs.Compared.{AreTooLarge}
+use Rattle.under_base.specs.compare_base.Compared.{AreTooLarge}
 use Rattle.sec_files.specs.Loading.{Loads}
 
 -- A text loads as one net, up to the numbers of its signals.

@@ -10,13 +10,13 @@ use Rattle.outcome.specs.declared.verdict.Outcome.{Outcome}
 use Rattle.outcome.specs.declared.verdict.Verdict.{Verdict}
 use Rattle.outcome.specs.declared.verdict.Verdict.TheVariants as verdict
 use Rattle.sec_base.specs.declared.settings.Settings.{Settings}
-use Rattle.compare_base.specs.Compared.{ByReset}
+use Rattle.under_base.specs.compare_base.Compared.{ByReset}
 use Rattle.sec_run.specs.check_meaning.Compared.{ComparedIn}
 use Rattle.job_base.specs.declared.finding.Finding.{Finding}
 use Rattle.job_base.specs.declared.finding.Finding.TheVariants as finding
 use Rattle.job_base.specs.declared.status.StatusName.{StatusName}
 use Rattle.job_base.specs.declared.status.StatusName.TheVariants as status
-use Rattle.job_files.specs.Reading.{Held}
+use Rattle.sec_files.specs.job_files.Reading.{Held}
 use Rattle.sec_run.specs.check_meaning.Answer.{CanAnswer, CanAnswerWith, IsAnswer}
 use Rattle.one_text.specs.check_texts.Texts.{AreComparable}
 use Rattle.sec_run.specs.Answer.{EndsAs, IsFinding}

@@ -7,7 +7,7 @@ use Rattle.job_base.specs.declared.status.StatusName.TheVariants as status
 use Rattle.command_line.specs.declared.task.Task.{Task}
 use Rattle.command_line.specs.declared.task.Task.TheVariants as task
 use Rattle.sec_run.specs.check_meaning.Check.{Check}
-use Rattle.job_files.specs.Reading.{Held}
+use Rattle.sec_files.specs.job_files.Reading.{Held}
 
 -- the comparison is in the plain mode, and over all power-ups
 abbrev pub IsAlways : Mode → Bool → Type 0 → Type 0

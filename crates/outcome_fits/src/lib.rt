@@ -2,6 +2,8 @@
 //! what stands behind a limit. It has definitions alone.
 #![tactic(auto)]
 
+pub mod plain_meaning;
+
 pub use obligations::{
     Obligation, PairName, PairResults, Queries, Stimulus, Verdict, Witness, copy_name,
 };

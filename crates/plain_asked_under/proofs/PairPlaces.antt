@@ -19,7 +19,7 @@ use Rattle.interface.specs.declared.pairs.SignalPair.{SignalPair}
 use Rattle.sec_setup.specs.declared.setup.Setup.{Setup}
 use Rattle.sec_setup.specs.Pairs.{NamedPair, places_of}
 use Rattle.shift_variables.specs.Variables.{variable_of, variables_of}
-use Rattle.query_places.specs.Places.{place_of, ArePlacesOf}
+use Rattle.shift_variables.specs.query_places.Places.{place_of, ArePlacesOf}
 use Rattle.assume_queries.specs.assume_places.Gathered.{ArePlacesOfAll, IsOverUnder, IsLightUnder}
 use Rattle.plain_asked.specs.declared.functions.Functions.{Functions}
 use Rattle.plain_asked.specs.Asked.{AreAsked}
@@ -28,7 +28,7 @@ use Rattle.plain_asked.specs.Variables.{IsPairQuery}
 use Rattle.plain_asked.proofs.Sound.{AreSound}
 use Rattle.plain_asked.proofs.PairQueries.{AsksPair, left_tree, right_tree, are_variables}
 use Rattle.plain_asked_under.specs.Formed.{IsAssumptionTooLarge, IsAssumptionLight}
-use Rattle.under_fits.specs.Places.{IsReadAt, ArePairPlaces, ArePlacesOfPairs}
+use Rattle.under_base.specs.under_fits.Places.{IsReadAt, ArePairPlaces, ArePlacesOfPairs}
 
 -- the query of a pair's functions
 record IsQueryOf (s : Setup) (f : Functions) (p : SignalPair) (q : Query) : Type 0 where

@@ -40,8 +40,8 @@ use Rattle.plain_asked.specs.declared.functions.Functions.{Functions}
 use Rattle.plain_asked.specs.Asked.{AskedOf}
 use Rattle.outcome_fits.specs.Limits.{ReadOnly}
 use Rattle.plain_asked.proofs.PairQueries.{AsksPair, left_tree, right_tree, are_variables, left_value, right_value, is_query}
-use Rattle.under_fits.specs.Limits.{IsUndecidedUnder}
-use Rattle.under_fits.specs.Pairs.{HaveDifferentFunctionsUnder, AnswerFitsUnder, PairFitsUnder}
+use Rattle.under_base.specs.under_fits.Limits.{IsUndecidedUnder}
+use Rattle.under_base.specs.under_fits.Pairs.{HaveDifferentFunctionsUnder, AnswerFitsUnder, PairFitsUnder}
 use Rattle.plain_asked_under.specs.Laws.{AreBuilt, PairsFitUnder}
 
 one_of : {X : Type 0} (R : X → X → Type 0) (x : X) (ys : List X) → AllZip R (x ∷ []) ys → (y : X) × (ys ≡ y ∷ []) × R x y

@@ -40,7 +40,7 @@ use Rattle.plain_asked_under.proofs.PairsUnder.{pairs_fit_under, only_query}
 use Rattle.plain_asked_under.proofs.Witnesses.{differences_show_under}
 use Rattle.plain_asked_under.specs.Asked.{AreAskedUnder}
 use Rattle.plain_asked_under.specs.Shown.{IsShowableUnder, IsWitnessAtUnder}
-use Rattle.under_fits.specs.Verdict.{IsFirstOfAnswerUnder}
+use Rattle.under_base.specs.under_fits.Verdict.{IsFirstOfAnswerUnder}
 
 -- the pair, the obligation and the query of a difference, without the assumption and under it
 pub record IsPlaced (c : Assumption) (s : Setup) (f : Functions) (asked : List Obligation) (d : Difference) (u : Obligation) (r : Query) : Type 0 where

@@ -33,7 +33,7 @@ use Rattle.plain_asked_under.specs.Laws.{AreBuilt}
 use Rattle.plain_asked_under.proofs.PairsUnder.{pairs_fit_under}
 use Rattle.plain_asked_under.specs.Asked.{AreAskedUnder}
 use Rattle.plain_asked_under.specs.Shown.{CanBeShownUnder, IsShownUnder}
-use Rattle.under_fits.specs.Verdict.{EachFitsUnder, VerdictFitsUnder}
+use Rattle.under_base.specs.under_fits.Verdict.{EachFitsUnder, VerdictFitsUnder}
 use Rattle.plain_asked_under.proofs.Sequences.{showable, first_pair}
 
 -- the only answer left

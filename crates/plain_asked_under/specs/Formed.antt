@@ -6,14 +6,14 @@ use Rattle.sec_setup.specs.declared.setup.Setup.{Setup}
 use Rattle.sec_setup.specs.Cuts.{is_cut}
 use Rattle.sec_setup.specs.Pairs.{places_of}
 use Rattle.outcome_fits.specs.Fitting.{IsLight, IsTooLarge}
-use Rattle.assume_shape.specs.Shape.{assumption_of}
+use Rattle.assume_laws.specs.assume_shape.Shape.{assumption_of}
 use Rattle.assume_sequences.specs.declared.premise.Premise.{Premise}
 use Rattle.assume_sequences.specs.Assumed.{IsAssumedBy}
 use Rattle.assume_sequences.specs.Filled.{bit_of}
 use Rattle.plain_asked.specs.declared.findings.Findings.{Findings}
 use Rattle.plain_asked_under.specs.declared.error.PlainUnderError.{PlainUnderError}
 use Rattle.plain_asked_under.specs.declared.error.PlainUnderError.TheVariants as refused
-use Rattle.under_fits.specs.Places.{IsOverAtPairs, IsLightAtPairs}
+use Rattle.under_base.specs.under_fits.Places.{IsOverAtPairs, IsLightAtPairs}
 use Rattle.plain_asked_under.specs.Verdict.{FindingsFitUnder}
 
 -- the assumption of this weight weighs no more than 2,000,000 at the places of the setup's pairs, with one more for each of each pair

@@ -29,7 +29,7 @@ use Rattle.assume_queries.specs.declared.assume_answers.order.VariableOrder.TheV
 use Rattle.assume_queries.specs.assume_answers.Under.{IsObligationUnder}
 use Rattle.plain_asked.specs.declared.functions.Functions.{Functions}
 use Rattle.plain_asked.specs.Asked.{AskedOf}
-use Rattle.under_fits.specs.Pairs.{PairFitsUnder}
+use Rattle.under_base.specs.under_fits.Pairs.{PairFitsUnder}
 
 -- the graph and the table are sound
 pub record AreBuilt (f : Functions) : Type 0 where

@@ -5,7 +5,7 @@ use Rattle.sec_setup.specs.Pairs.{NamedPair}
 use Rattle.outcome_fits.specs.Outcome.{greatest_size}
 use Rattle.assume_laws.specs.Assume.{Assumption}
 use Rattle.plain_asked.specs.declared.findings.Findings.{Findings}
-use Rattle.under_fits.specs.Verdict.{EachFitsUnder, VerdictFitsUnder}
+use Rattle.under_base.specs.under_fits.Verdict.{EachFitsUnder, VerdictFitsUnder}
 
 -- What is found of the pairs fits the circuits under the assumption: one result for each in order, the greatest depth, and the verdict.
 pub record FindingsFitUnder {P Q : Type 0} (c : Assumption) (a : Circuit P) (b : Circuit Q) (left right : List ℕ) (columns : List (List ℕ)) (meeting : ℕ → Bool) (cut : Bool) (conflicts : ℕ) (pairs : List (NamedPair P Q)) (f : Findings) : Type 0 where

@@ -1,4 +1,4 @@
-pub use Rattle.compare_base.proofs.Refusals
+pub use Rattle.under_base.proofs.compare_base.Refusals
 pub mod Outcomes
 pub mod ResetLeaves
 pub mod ResetMeaning

@@ -27,12 +27,12 @@ use Rattle.outcome.specs.declared.verdict.Outcome.{Outcome}
 use Rattle.reset_laws.specs.Reset.{HasStarts, AreEqualFromReset, AgreeFromReset, AreAlikeFromReset, TakesPower, MakesDifferFromReset}
 use Rattle.reset_laws.proofs.ResetAgreement.{equal_resets_agree, reset_same_at}
 use Rattle.reset_laws.proofs.ResetWindows.{reset_witness_makes_differ}
-use Rattle.reset_nets.proofs.Starts.{nets_have_starts}
+use Rattle.reset_laws.proofs.reset_nets.Starts.{nets_have_starts}
 use Rattle.sec_setup.specs.Pairs.{NamedPair, named_pairs}
 use Rattle.reset_form.specs.outcome_fits.ResetOutcome.{Numbered, AgreeAt, AnswerFits, PairFits, IsFirstDifference}
-use Rattle.compare_base.specs.FromReset.{numbered_by, ResetOutcomeFits, ResetVerdictFits}
-use Rattle.compare_base.specs.Says.{MakesResetsDiffer}
-use Rattle.compare_base.proofs.CutPairs.{IsOutputPair, IsNextPair, one_output, pair_listed, listed_is}
+use Rattle.under_base.specs.compare_base.FromReset.{numbered_by, ResetOutcomeFits, ResetVerdictFits}
+use Rattle.under_base.specs.compare_base.Says.{MakesResetsDiffer}
+use Rattle.under_base.proofs.compare_base.CutPairs.{IsOutputPair, IsNextPair, one_output, pair_listed, listed_is}
 use Rattle.plain_check.proofs.ResetLeaves.{powered_value}
 
 -- nothing is in the list of none

@@ -13,15 +13,15 @@ use Rattle.sec_setup.specs.Matching.{InterfacesMatch}
 use Rattle.sec_setup.specs.Pairs.{NamedPair, named_pairs}
 use Rattle.sec_setup.specs.Setup.{IsSetupOf}
 use Rattle.reset_form.specs.declared.reset_asked.findings.ResetFindings.{ResetFindings}
-use Rattle.compare_base.specs.ResetError.TheVariants as reset_error
+use Rattle.under_base.specs.compare_base.ResetError.TheVariants as reset_error
 use Rattle.reset_form.specs.declared.reset_asked.findings.ResetVerdict.{ResetVerdict}
 use Rattle.reset_form.specs.declared.reset_asked.findings.ResetVerdict.TheVariants as found_verdict
 use Rattle.reset_form.specs.Formed.{AreFound, Formed}
 use Rattle.reset_form.specs.outcome_fits.ResetOutcome.{Numbered}
 use Rattle.reset_form.specs.Findings.{FindingsFit, VerdictFits}
-use Rattle.compare_base.specs.Compared.{IsComparedFromReset}
-use Rattle.compare_base.specs.FromReset.{AreTooLargeFromReset, numbered_by, ResetOutcomeFits, ResetVerdictFits}
-use Rattle.compare_base.proofs.UncutSetups.{left_light, right_light, left_too_large, right_too_large, of_circuits, based, left_numbers, right_numbers}
+use Rattle.under_base.specs.compare_base.Compared.{IsComparedFromReset}
+use Rattle.under_base.specs.compare_base.FromReset.{AreTooLargeFromReset, numbered_by, ResetOutcomeFits, ResetVerdictFits}
+use Rattle.under_base.proofs.compare_base.UncutSetups.{left_light, right_light, left_too_large, right_too_large, of_circuits, based, left_numbers, right_numbers}
 use Rattle.plain_check.specs.Verdicts.{verdict_of}
 use Rattle.plain_check.proofs.ResetMeaning.{resets_agree, resets_differ}
 

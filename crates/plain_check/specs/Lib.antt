@@ -1,3 +1,4 @@
-pub use Rattle.compare_base.specs.Compared
+pub use Rattle.under_base.specs.compare_base.Compared
 pub mod Verdicts
-pub use Rattle.compare_base.specs as compare_base
+pub mod plain_form
+pub use Rattle.under_base.specs as under_base

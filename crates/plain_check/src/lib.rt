@@ -2,6 +2,7 @@
 #![tactic(auto)]
 
 mod comparison;
+pub mod plain_form;
 
-pub use compare_base::CompareError;
 pub use comparison::compare_plainly;
+pub use under_base::compare_base::CompareError;

@@ -16,8 +16,8 @@ use Rattle.aiger_file.specs.Symbols.{symbol_of}
 use Rattle.aiger_file.specs.declared.file.AigerFile.{AigerFile}
 use Rattle.aiger_file.specs.Files.{fault_of_text}
 use Rattle.aiger_file.specs.Reading.{body_of, spelled}
-use Rattle.aiger_graph.specs.Circuit.{circuit_of_file}
-use Rattle.aiger_graph.specs.Loops.{HasLoop}
+use Rattle.aiger_file.specs.aiger_graph.Circuit.{circuit_of_file}
+use Rattle.aiger_file.specs.aiger_graph.Loops.{HasLoop}
 use Rattle.aiger_read.specs.Nets.{IsNetOf}
 use Rattle.design_rows.specs.Small.{small_and, IsSmall}
 use Rattle.sec_files.specs.Formats.{Aiger}

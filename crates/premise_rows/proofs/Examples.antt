@@ -11,9 +11,9 @@ use Rattle.circuit_theory.proofs.Lists.{Contains-head, Contains-tail, Contains-c
 use Rattle.flat_net.specs.View.{NetView, circuit_of}
 use Rattle.flatten.specs.DesignFaults.{IsFlatOf}
 use Rattle.blif_read.specs.declared.design.BlifModel.{BlifModel}
-use Rattle.cut_points.specs.Common.{common_names}
+use Rattle.sec_setup.specs.cut_points.Common.{common_names}
 use Rattle.sec_setup.specs.Cycles.{AreBroken}
-use Rattle.compare_base.specs.Compared.{AreTooLarge}
+use Rattle.under_base.specs.compare_base.Compared.{AreTooLarge}
 use Rattle.sec_setup.specs.Cuts.{IsChoice}
 use Rattle.outcome_fits.specs.Fitting.{IsCutOver}
 use Rattle.sec_files.specs.Formats.{Blif}

@@ -25,8 +25,8 @@ use Rattle.design_rows.proofs.Ranking.{is_ranked-sound, no_cycle}
 use Rattle.design_rows.specs.Small.{Small, IsSmall}
 use Rattle.sec_files.proofs.Moving.{single_up}
 use Rattle.aiger_file.specs.declared.file.AigerFile.{AigerFile}
-use Rattle.aiger_graph.specs.Circuit.{circuit_of_file}
-use Rattle.aiger_graph.specs.Loops.{HasLoop}
+use Rattle.aiger_file.specs.aiger_graph.Circuit.{circuit_of_file}
+use Rattle.aiger_file.specs.aiger_graph.Loops.{HasLoop}
 use Rattle.aiger_read.specs.Nets.{IsNetOf}
 use Rattle.sec_files.proofs.Portless.{file_portless}
 

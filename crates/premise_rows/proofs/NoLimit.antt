@@ -15,7 +15,7 @@ use Rattle.circuit_theory.proofs.Lists.{Contains-cases, Contains-map, at_of, of_
 use Rattle.circuit_theory.proofs.Numbers.{slice_get-map, beside_at}
 use Rattle.circuit_laws.proofs.LeafVisits.{leaf_visits}
 use Rattle.circuit_laws.proofs.Onward.{cut_input}
-use Rattle.sec_base.specs.Table.{AreDistinct}
+use Rattle.base_tables.specs.Table.{AreDistinct}
 use Rattle.flat_net.specs.Cut.{IsCutCircuit}
 use Rattle.flat_net.specs.View.{NetView, named, circuit_of, ports_of}
 use Rattle.flat_net.proofs.CutNets.{few_distinct}

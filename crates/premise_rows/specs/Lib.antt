@@ -2,3 +2,4 @@ pub mod Premises
 pub mod AndFile
 pub mod RuledOut
 pub mod Certificates
+pub mod block_premises

@@ -1,6 +1,8 @@
 //! That the premises of what is promised of comparisons and certificates are met. The functions do nothing: each contract is an example.
 #![tactic(auto)]
 
+pub mod block_premises;
+
 ghost use Rattle.premise_rows.specs.AndFile.{FileIsComparable};
 ghost use Rattle.premise_rows.specs.Premises.{AndsAreComparable, RetimedAreComparable, HierarchyIsComparable, CyclicAreComparable, TextsAreAccepted, RingIsCutOnce};
 ghost use Rattle.premise_rows.specs.RuledOut.{AndsMeetNoLimit};

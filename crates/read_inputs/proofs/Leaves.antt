@@ -15,7 +15,7 @@ use Rattle.circuit_theory.specs.EventFrames.{AreNodeVariables, IsCareTree, IsCla
 use Rattle.circuit_theory.specs.Frame.{EventSide, EventUnfolds, EventUnfoldsAll}
 use Rattle.flat_net.specs.Sound.{IsSound}
 use Rattle.flat_net.specs.View.{circuit_of}
-use Rattle.plain_meaning.specs.sec_setup.Setup.{AreColumns}
+use Rattle.outcome_fits.specs.sec_setup.Setup.{AreColumns}
 use Rattle.class_queries.specs.Enables.{both_of}
 use Rattle.class_queries.specs.event_nodes.View.{EventCircuitView}
 use Rattle.read_inputs.proofs.Places.{IsShown}

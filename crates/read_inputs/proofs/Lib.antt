@@ -1,5 +1,5 @@
-pub use Rattle.plain_meaning.proofs.sec_setup.CutNets
-pub use Rattle.plain_meaning.proofs.CutPairs
+pub use Rattle.outcome_fits.proofs.CutNets
+pub use Rattle.outcome_fits.proofs.plain_meaning.CutPairs
 pub mod Places
 pub mod Reading
 pub mod Leaves

@@ -24,9 +24,9 @@ use Rattle.flat_net.specs.declared.signals.Signal.{Signal}
 use Rattle.flat_net.specs.Sound.{IsSound}
 use Rattle.flat_net.specs.View.{NetView, named, circuit_of, is_read}
 use Rattle.flat_net.proofs.Nets.{OfGate, OfLatch, equation_from, sound_is_net}
-use Rattle.plain_meaning.proofs.interface.Shared.{Contains-filter_in}
-use Rattle.plain_meaning.proofs.Sequences.{printed}
-use Rattle.plain_meaning.specs.sec_setup.Setup.{AreColumns}
+use Rattle.outcome_fits.proofs.interface.Shared.{Contains-filter_in}
+use Rattle.outcome_fits.proofs.plain_meaning.Sequences.{printed}
+use Rattle.outcome_fits.specs.sec_setup.Setup.{AreColumns}
 use Rattle.witness_report.specs.declared.witness.Witness.{Witness}
 use Rattle.witness_report.specs.Shown.{Obeys}
 use Rattle.read_inputs.proofs.Places.{IsShown, shown_port}

@@ -1,3 +1,3 @@
-pub use Rattle.plain_meaning.specs.sec_setup.Setup
-pub use Rattle.plain_meaning.specs.sec_setup.Cuts
+pub use Rattle.outcome_fits.specs.sec_setup.Setup
+pub use Rattle.outcome_fits.specs.Cuts
 pub use Rattle.class_queries.specs as class_queries

@@ -10,7 +10,7 @@ use Rattle.flat_net.proofs.Nets.{some_at}
 use Rattle.pair_runs.specs.declared.shown.Shown.{Shown}
 use Rattle.pair_runs.specs.Listing.{differ, differences_from}
 use Rattle.pair_runs.proofs.Listed.{IsAmong, found_is, is_found, found_in_order}
-use Rattle.replay_header.proofs.Tests.{no_true_false, and_both, both_and}
+use Rattle.replay.proofs.replay_header.Tests.{no_true_false, and_both, both_and}
 
 -- two bits differ exactly where the test says so
 differ_is : (l r : Bool) → differ l r ≡ true → l ≢ r

@@ -6,7 +6,7 @@ use Rattle.circuit_theory.specs.declared.Mode.TheVariants.{Plain, Event}
 use Rattle.circuit_theory.specs.Circuit.{Latch as latch_equation, IsLatch}
 use Rattle.circuit_theory.specs.Net.{HasDistinctNames}
 use Rattle.circuit_theory.specs.Agree.{cut, EnabledIn}
-use Rattle.event_laws.proofs.CutParts.{enabled_uncut, enabled_cut}
+use Rattle.circuit_laws.proofs.event_laws.CutParts.{enabled_uncut, enabled_cut}
 use Rattle.flat_net.specs.declared.parts.LatchAt.{LatchAt}
 use Rattle.flat_net.specs.Sound.{IsSound}
 use Rattle.flat_net.specs.View.{NetView, circuit_of, equation_of_latch}

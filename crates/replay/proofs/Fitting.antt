@@ -13,7 +13,7 @@ use Rattle.pair_runs.specs.declared.differences.Difference.{Difference}
 use Rattle.pair_runs.specs.declared.differences.OutputPair.{OutputPair}
 use Rattle.pair_runs.specs.Feeds.{AreFound}
 use Rattle.pair_runs.specs.Showing.{ArePlacesOf}
-use Rattle.replay_header.specs.Header.{FitsBoth, opened}
+use Rattle.replay.specs.replay_header.Header.{FitsBoth, opened}
 use Rattle.replay.specs.cut_sides.Pairs.{ArePairsAt}
 use Rattle.replay.specs.cut_sides.Opening.{IsCutSide, AreNamesOf}
 use Rattle.replay.specs.Replay.{IsReplay}

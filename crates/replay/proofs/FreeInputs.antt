@@ -30,7 +30,7 @@ use Rattle.pair_runs.specs.Feeding.{IsColumn, AreColumns, bit_of, reordered}
 use Rattle.pair_runs.specs.Feeds.{zeros}
 use Rattle.replay.specs.Replay.{IsReplayRun}
 use Rattle.replay.proofs.FreeMarks.{AreUnread, mixed, mixed_is, mixed_free, run_mixed, AreOne, one_back, one_equation, one_input, one_run}
-use Rattle.replay_header.proofs.Tests.{no_true_false, any_is, is_any, and_both, both_and, or_left, or_right, not_true}
+use Rattle.replay.proofs.replay_header.Tests.{no_true_false, any_is, is_any, and_both, both_and, or_left, or_right, not_true}
 
 -- the place is that of an input that the header doesn't name
 abbrev pub is_free : List (List ℕ) → NetView → ℕ → Bool

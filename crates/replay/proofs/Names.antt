@@ -12,8 +12,8 @@ use Rattle.interface.proofs.Columns.{read_stays}
 use Rattle.interface.proofs.Interfaces.{input_read_by_name}
 use Rattle.interface.proofs.Shared.{are_matched, missing_none}
 use Rattle.name_tables.specs.Names.{latch_names}
-use Rattle.replay_header.specs.Header.{opened, FitsBoth}
-use Rattle.replay_header.proofs.Names.{opened_of_both}
+use Rattle.replay.specs.replay_header.Header.{opened, FitsBoth}
+use Rattle.replay.proofs.replay_header.Names.{opened_of_both}
 use Rattle.replay.specs.cut_sides.Opening.{AreNamesOf}
 
 pub opened_latches : (a b : NetView) (header : List (List ℕ)) → FitsBoth a b header → AreNamesOf a (opened a b header) × AreNamesOf b (opened a b header)

@@ -20,13 +20,13 @@ use Rattle.pair_runs.specs.Feeds.{AreFound, IsShownAt}
 use Rattle.pair_runs.specs.Listing.{differences_from}
 use Rattle.pair_runs.specs.Outputs.{no_port, output_at}
 use Rattle.pair_runs.specs.Showing.{ArePlacesOf, called, names_of}
-use Rattle.replay_header.specs.Header.{FitsBoth, opened}
+use Rattle.replay.specs.replay_header.Header.{FitsBoth, opened}
 use Rattle.replay.specs.cut_sides.Pairs.{ArePairsAt, named_places}
 use Rattle.replay.specs.cut_sides.Opening.{IsCutSide}
 use Rattle.replay.specs.Replay.{IsReplayRun, IsReplay, places_of}
 use Rattle.replay.proofs.Existing.{run_over}
 use Rattle.replay.proofs.Differ.{IsRight, AreRight, are_differences}
-use Rattle.replay_header.proofs.Names.{opened_in_header}
+use Rattle.replay.proofs.replay_header.Names.{opened_in_header}
 use Rattle.replay.proofs.Names.{left_unread, right_unread}
 use Rattle.replay.proofs.cut_sides.PairPlaces.{places_named, outputs_there}
 use Rattle.replay.proofs.Sides.{one_cut, simulated, simulated_run, value_is, mark_is}

@@ -15,9 +15,9 @@ use Rattle.sec_setup.specs.Matching.{InterfacesMatch}
 use Rattle.sec_setup.specs.Pairs.{NamedPair, named_pairs}
 use Rattle.pair_runs.specs.declared.differences.Difference.{Difference}
 use Rattle.replay.specs.declared.differences.Replayed.{Replayed}
-use Rattle.replay_header.specs.declared.error.ReplayError.{ReplayError}
-use Rattle.replay_header.specs.declared.error.ReplayError.TheVariants as refused
-use Rattle.replay_header.specs.Header.{FitsBoth, FitsOr, opened}
+use Rattle.replay.specs.declared.replay_header.error.ReplayError.{ReplayError}
+use Rattle.replay.specs.declared.replay_header.error.ReplayError.TheVariants as refused
+use Rattle.replay.specs.replay_header.Header.{FitsBoth, FitsOr, opened}
 use Rattle.pair_runs.specs.Showing.{called}
 
 -- A run over a stimulus, with one cycle for each row: each input that the header names has in each cycle the bit that stands under

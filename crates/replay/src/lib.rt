@@ -4,9 +4,10 @@
 
 pub mod cut_sides;
 mod differences;
+pub mod replay_header;
 mod two_circuits;
 
+pub use crate::replay_header::ReplayError;
 pub use differences::Replayed;
 pub use pair_runs::{Difference, Differences};
-pub use replay_header::ReplayError;
 pub use two_circuits::replay;

@@ -9,10 +9,10 @@ ghost use Rattle.replay.specs.Replay.{Replays, IsFitting, FindsReplay};
 
 use crate::cut_sides::{cut_side, pairs_of};
 use crate::differences::Replayed;
+use crate::replay_header::{ReplayError, opened_by};
 use flat_net::Net;
 use name_tables::table_of_names;
 use pair_runs::{Differences, Side, run_pairs};
-use replay_header::{ReplayError, opened_by};
 use sec_base::{Bits, NameTable, NoMemory};
 use std::alloc::Global;
 use witness_report::Stimulus;

@@ -6,7 +6,7 @@ use Rattle.unfold_places.specs.Reach.{Adds}
 use Rattle.flat_net.specs.View.{NetView}
 use Rattle.obligations.specs.declared.obligation.Obligation.{Obligation}
 use Rattle.sec_setup.specs.declared.setup.Setup.{Setup}
-use Rattle.assume_shape.specs.Shape.{assumption_of}
+use Rattle.assume_laws.specs.assume_shape.Shape.{assumption_of}
 use Rattle.assume_sequences.specs.declared.premise.Premise.{Premise}
 use Rattle.assume_sequences.specs.Assumed.{IsAssumedBy}
 use Rattle.assume_sequences.proofs.Numbers.{number_below}

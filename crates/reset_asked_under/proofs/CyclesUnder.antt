@@ -26,7 +26,7 @@ use Rattle.assume_queries.proofs.assume_answers.Pairs.{answers_under}
 use Rattle.reset_form.specs.outcome_fits.ResetLimits.{ReadOnly}
 use Rattle.reset_form.proofs.reset_asked.CycleQueries as cycles
 use Rattle.reset_form.proofs.reset_asked.CycleQueries.{left_tree, right_tree, are_variables, left_value, right_value, is_query}
-use Rattle.under_fits.specs.Cycles.{DifferUnder, IsUndecidedUnder}
+use Rattle.under_base.specs.under_fits.Cycles.{DifferUnder, IsUndecidedUnder}
 use Rattle.reset_asked_under.specs.Laws.{AsksCycle, CyclesFitUnder}
 
 module _ (c : Assumption) (a b : NetView) (left right : List ℕ) (left_base right_base : ℕ) (g : List Node) (places : List (ℕ × ℕ)) (s t cycle : ℕ) (q r : Query) (h : AsksCycle a b left right left_base right_base g places s t cycle q)

@@ -29,7 +29,7 @@ use Rattle.reset_form.specs.reset_asked.Numbers.{numbered}
 use Rattle.reset_form.proofs.reset_asked.PairCycles.{AreSoundFunctions, AsksIn, asks_at, place_within, query_in}
 use Rattle.reset_asked_under.specs.Laws.{AsksCycle}
 use Rattle.reset_asked_under.proofs.CyclesUnder.{cycles_fit_under}
-use Rattle.under_fits.specs.ResetVerdict.{AgreeAtUnder, AgreeBeforeUnder, AnswerFitsUnder, PairFitsUnder}
+use Rattle.under_base.specs.under_fits.ResetVerdict.{AgreeAtUnder, AgreeBeforeUnder, AnswerFitsUnder, PairFitsUnder}
 
 -- the query of a pair in a cycle, without the assumption and under it
 pub record IsIn (c : Assumption) (s : Setup) (b : Bases) (f : Functions) (x : SignalPair) (o : Obligation) (t : ℕ) (r : Query) : Type 0 where

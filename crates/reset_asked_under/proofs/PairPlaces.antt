@@ -19,9 +19,9 @@ use Rattle.interface.specs.declared.pairs.SignalPair.{SignalPair}
 use Rattle.sec_setup.specs.declared.setup.Setup.{Setup}
 use Rattle.sec_setup.specs.Pairs.{NamedPair, places_of}
 use Rattle.shift_variables.specs.Variables.{variable_of, variables_of}
-use Rattle.query_places.specs.Places.{place_of, ArePlacesOf}
+use Rattle.shift_variables.specs.query_places.Places.{place_of, ArePlacesOf}
 use Rattle.assume_queries.specs.assume_places.Gathered.{ArePlacesOfAll, IsOverUnder, IsLightUnder}
-use Rattle.reset_nets.proofs.Starts.{nets_have_starts}
+use Rattle.reset_laws.proofs.reset_nets.Starts.{nets_have_starts}
 use Rattle.reset_laws.proofs.ResetExist.{reset_trees_are_one}
 use Rattle.reset_functions.specs.declared.bases.Bases.{Bases}
 use Rattle.reset_functions.specs.declared.functions.Functions.{Functions}
@@ -32,7 +32,7 @@ use Rattle.reset_form.specs.reset_asked.Numbers.{numbered}
 use Rattle.reset_form.proofs.reset_asked.CycleQueries.{left_tree, right_tree, are_variables}
 use Rattle.reset_form.proofs.reset_asked.Sound.{AreSound}
 use Rattle.reset_form.proofs.reset_asked.PairCycles.{AsksIn, asks_at, place_within, query_in}
-use Rattle.under_fits.specs.ResetPlaces.{IsReadIn, IsReadUpTo, AreCyclePlaces, ArePairPlaces, ArePlacesOfPairs, IsOverInCycles, IsLightInCycles}
+use Rattle.under_base.specs.under_fits.ResetPlaces.{IsReadIn, IsReadUpTo, AreCyclePlaces, ArePairPlaces, ArePlacesOfPairs, IsOverInCycles, IsLightInCycles}
 use Rattle.reset_asked_under.proofs.Queries.{query_from, query_to, split_zip}
 
 module _ (s : Setup) (b : Bases) (f : Functions) (h : AreSound s b f) (left_sound : IsSound s.left.now) (right_sound : IsSound s.right.now) where

@@ -15,7 +15,7 @@ use Rattle.reset_functions.specs.Pairs.{IsLeftSide, IsRightSide, IsLight, Unfold
 use Rattle.reset_form.specs.reset_asked.Numbers.{numbered}
 use Rattle.reset_asked_under.specs.declared.error.ResetUnderError.{ResetUnderError}
 use Rattle.reset_asked_under.specs.Formed.{FormedUnder}
-use Rattle.under_fits.specs.ResetPlaces.{IsOverInCycles}
+use Rattle.under_base.specs.under_fits.ResetPlaces.{IsOverInCycles}
 use Rattle.reset_asked_under.specs.Refusals.{refusal_of, refusal_under}
 
 -- what is true of a refusal is true of the result that it is

@@ -46,7 +46,7 @@ use Rattle.reset_form.proofs.reset_asked.CycleQueries.{left_tree, right_tree, qu
 use Rattle.reset_form.proofs.reset_asked.Sound.{AreSound}
 use Rattle.reset_asked_under.specs.Asked.{AreAskedUnder}
 use Rattle.reset_asked_under.specs.Shown.{IsShowableUnder, IsFilledWitness, IsWitnessAtUnder}
-use Rattle.under_fits.specs.ResetVerdict.{IsFirstDifferenceUnder}
+use Rattle.under_base.specs.under_fits.ResetVerdict.{IsFirstDifferenceUnder}
 use Rattle.reset_asked_under.proofs.PairCycles.{IsIn, is_in, own_queries, agree_before}
 
 -- the pair, the obligation and the query of a difference, without the assumption and under it

@@ -33,7 +33,7 @@ use Rattle.reset_form.specs.reset_asked.Numbers.{numbered}
 use Rattle.reset_form.proofs.reset_asked.Sound.{AreSound}
 use Rattle.reset_asked_under.specs.Asked.{AreAskedUnder}
 use Rattle.reset_asked_under.specs.Shown.{CanBeShownUnder, IsShownUnder}
-use Rattle.under_fits.specs.ResetVerdict.{PairFitsUnder}
+use Rattle.under_base.specs.under_fits.ResetVerdict.{PairFitsUnder}
 use Rattle.reset_asked_under.specs.Verdict.{VerdictFitsUnder}
 use Rattle.reset_asked_under.proofs.PairCycles.{own_queries, pair_fits}
 use Rattle.reset_asked_under.proofs.Sequences.{showable, first_pair}

@@ -4,7 +4,7 @@ use Rattle.circuit_theory.specs.declared.Side.TheVariants.{A, B}
 use Rattle.flat_net.specs.View.{NetView}
 use Rattle.sec_setup.specs.declared.setup.Setup.{Setup}
 use Rattle.sec_setup.specs.Pairs.{places_of}
-use Rattle.assume_shape.specs.Shape.{assumption_of}
+use Rattle.assume_laws.specs.assume_shape.Shape.{assumption_of}
 use Rattle.assume_sequences.specs.declared.premise.Premise.{Premise}
 use Rattle.assume_sequences.specs.Assumed.{IsAssumedBy}
 use Rattle.assume_sequences.specs.Filled.{bit_of}
@@ -15,7 +15,7 @@ use Rattle.reset_form.specs.declared.reset_asked.findings.ResetFindings.{ResetFi
 use Rattle.reset_form.specs.reset_asked.Numbers.{numbered}
 use Rattle.reset_asked_under.specs.declared.error.ResetUnderError.{ResetUnderError}
 use Rattle.reset_asked_under.specs.declared.error.ResetUnderError.TheVariants as refused
-use Rattle.under_fits.specs.ResetPlaces.{IsOverInCycles, IsLightInCycles}
+use Rattle.under_base.specs.under_fits.ResetPlaces.{IsOverInCycles, IsLightInCycles}
 use Rattle.reset_asked_under.specs.Verdict.{FindingsFitUnder}
 
 -- both unfoldings and the assumption are light, and what is found fits the circuits that are compared under each assumption of the premise

@@ -17,7 +17,7 @@ use Rattle.reset_form.specs.reset_asked.Asked.{IsCycleQuery}
 use Rattle.assume_laws.specs.Assume.{Assumption, HaveEqualResetsUnder}
 use Rattle.assume_queries.specs.declared.assume_answers.order.VariableOrder.TheVariants as order
 use Rattle.assume_queries.specs.assume_answers.Under.{IsUnder}
-use Rattle.under_fits.specs.Cycles.{DifferUnder, IsUndecidedUnder}
+use Rattle.under_base.specs.under_fits.Cycles.{DifferUnder, IsUndecidedUnder}
 
 -- the query q asks of both functions of a pair in a cycle, on a graph and a table that are sound
 pub record AsksCycle (a b : NetView) (left right : List ℕ) (left_base right_base : ℕ) (g : List Node) (places : List (ℕ × ℕ)) (s t cycle : ℕ) (q : Query) : Type 0 where

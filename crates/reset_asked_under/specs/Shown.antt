@@ -17,7 +17,7 @@ use Rattle.sec_setup.specs.declared.setup.Setup.{Setup}
 use Rattle.reset_laws.specs.Reset.{reset_rows, powers}
 use Rattle.shift_variables.specs.Variables.{variables_of}
 use Rattle.shift_variables.specs.Sequences.{bits_at}
-use Rattle.cycle_variables.specs.Cycles.{AreInCycles}
+use Rattle.shift_variables.specs.cycle_variables.Cycles.{AreInCycles}
 use Rattle.assume_laws.specs.Sequences.{filled}
 use Rattle.assume_sequences.specs.Filled.{bit_of}
 use Rattle.reset_functions.specs.declared.bases.Bases.{Bases}

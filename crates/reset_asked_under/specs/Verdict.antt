@@ -9,7 +9,7 @@ use Rattle.reset_form.specs.outcome_fits.ResetOutcome.{Numbered, IsFirstLimit, g
 use Rattle.reset_form.specs.declared.reset_asked.findings.ResetFindings.{ResetFindings}
 use Rattle.reset_form.specs.declared.reset_asked.findings.ResetVerdict.{ResetVerdict}
 use Rattle.reset_form.specs.declared.reset_asked.findings.ResetVerdict.TheVariants as verdict
-use Rattle.under_fits.specs.ResetVerdict.{PairFitsUnder, IsFirstDifferenceUnder}
+use Rattle.under_base.specs.under_fits.ResetVerdict.{PairFitsUnder, IsFirstDifferenceUnder}
 
 -- the first of different and limit that some pair has, and equal where every pair is equal
 abbrev pub VerdictFitsUnder : Assumption → Numbered → (ℕ → Bool) → List (NamedPair ℕ ℕ) → List PairResult → ResetVerdict → Type 0

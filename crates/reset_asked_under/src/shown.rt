@@ -3,11 +3,10 @@
 ghost use Rattle.std.specs.Prelude.{◌≡◌, ◌<◌, ◌≤◌, ℕ, Bool, length, All, IfOk};
 ghost use Rattle.reset_laws.specs.Reset.{reset_rows};
 ghost use Rattle.sec_base.specs.Table.{AreDistinct};
-ghost use Rattle.cycle_variables.specs.Cycles.{AreInCycles};
+ghost use Rattle.shift_variables.specs.cycle_variables.Cycles.{AreInCycles};
 ghost use Rattle.reset_asked_under.specs.Shown.{CanBeFilled, CanBeShownUnder, HasPowers, IsFilledIn, IsFilledSequence, IsShowableUnder, IsShownUnder, IsWitnessAtUnder};
 
 use assume_sequences::fill_cycles;
-use cycle_variables::power_up;
 use obligations::{Difference, Obligation, VerdictAt, copy_name};
 use outcome::{PairResult, ResetWitness, Stimulus, Witness};
 use pair_decide::Query;
@@ -15,6 +14,7 @@ use reset_form::reset_asked::{ResetVerdict, sequence_of};
 use reset_functions::{Bases, Functions};
 use sec_base::{Bits, NoMemory, PlaceTable, Words};
 use sec_setup::Setup;
+use shift_variables::cycle_variables::power_up;
 use std::alloc::Global;
 
 /// The verdict at an obligation under the assumption, with the sequence and the power-ups of its difference.

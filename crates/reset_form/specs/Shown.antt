@@ -11,7 +11,7 @@ use Rattle.flat_net.specs.View.{circuit_of}
 use Rattle.sec_setup.specs.declared.setup.Setup.{Setup}
 use Rattle.reset_laws.specs.Reset.{powers}
 use Rattle.shift_variables.specs.Sequences.{bits_at}
-use Rattle.cycle_variables.specs.Cycles.{AreInCycles}
+use Rattle.shift_variables.specs.cycle_variables.Cycles.{AreInCycles}
 use Rattle.reset_functions.specs.declared.bases.Bases.{Bases}
 use Rattle.reset_functions.specs.declared.functions.Functions.{Functions}
 use Rattle.outcome.specs.declared.verdict.ResetWitness.{ResetWitness}

@@ -2,16 +2,16 @@
 
 ghost use Rattle.std.specs.Prelude.{◌≡◌, ◌*◌, ◌<◌, length, IfOk};
 ghost use Rattle.sec_base.specs.Table.{AreDistinct};
-ghost use Rattle.cycle_variables.specs.Cycles.{AreInCycles};
+ghost use Rattle.shift_variables.specs.cycle_variables.Cycles.{AreInCycles};
 ghost use Rattle.reset_form.specs.Shown.{IsWitnessOf};
 
 use crate::reset_asked::sequence_of;
-use cycle_variables::power_up;
 use outcome::{PairName, ResetWitness};
 use pair_decide::Query;
 use reset_functions::{Bases, Functions};
 use sec_base::{Bits, NoMemory};
 use sec_setup::Setup;
+use shift_variables::cycle_variables::power_up;
 use std::alloc::Global;
 
 /// The sequence of a pair of this name that ends in the cycle `last`, with the power-ups of both circuits: the bit of an input in a

@@ -5,17 +5,17 @@ use Rattle.std.specs.Prelude.{◌⊎◌, ◌==◌}
 use Rattle.std.specs.List.{All, Contains, filter_map}
 use Rattle.std.proofs.lemmas.List.Elements.{All-contains}
 use Rattle.std.proofs.lemmas.Option.{slice_get_within}
-use Rattle.circuit_laws.specs.circuit_theory.Circuit.{Circuit, Started, Equation, Gate, Latch, Port, IsInput, IsLatch, Carries, out_of}
-use Rattle.circuit_laws.specs.circuit_theory.Cone.{latches_of, latch_place}
-use Rattle.circuit_laws.specs.circuit_theory.Run.{IsRun, EqualInputs, IsResetRun, IsDetermined, Marked, NoneEnabled}
-use Rattle.circuit_laws.specs.circuit_theory.Net.{IsNet, IsWithin, IsAbove}
-use Rattle.circuit_laws.specs.circuit_theory.Depth.{IsDepth}
-use Rattle.circuit_laws.specs.circuit_theory.Tree.{Tree, IsInputNumber, AreNumbered, tree_value}
-use Rattle.circuit_laws.specs.circuit_theory.Fits.{IsPairDepth}
-use Rattle.circuit_laws.proofs.circuit_theory.Inputs.{test_same, test_refl, beside_is_input}
-use Rattle.circuit_laws.proofs.circuit_theory.Lists.{Contains-head, Contains-tail, Contains-cases}
+use Rattle.circuit_theory.specs.Circuit.{Circuit, Started, Equation, Gate, Latch, Port, IsInput, IsLatch, Carries, out_of}
+use Rattle.circuit_theory.specs.Cone.{latches_of, latch_place}
+use Rattle.circuit_theory.specs.Run.{IsRun, EqualInputs, IsResetRun, IsDetermined, Marked, NoneEnabled}
+use Rattle.circuit_theory.specs.Net.{IsNet, IsWithin, IsAbove}
+use Rattle.circuit_theory.specs.Depth.{IsDepth}
+use Rattle.circuit_theory.specs.Tree.{Tree, IsInputNumber, AreNumbered, tree_value}
+use Rattle.circuit_theory.specs.Fits.{IsPairDepth}
+use Rattle.circuit_theory.proofs.Inputs.{test_same, test_refl, beside_is_input}
+use Rattle.circuit_theory.proofs.Lists.{Contains-head, Contains-tail, Contains-cases}
 use Rattle.circuit_laws.proofs.Agreement.{value_of_number, value_found, value_from, first_value}
-use Rattle.circuit_laws.proofs.circuit_theory.Sums.{same_or_not}
+use Rattle.circuit_theory.proofs.Sums.{same_or_not}
 use Rattle.circuit_laws.proofs.SameMarks.{settled_same}
 use Rattle.circuit_laws.proofs.LawProofs.{next_within, settled_from_depth}
 use Rattle.circuit_laws.proofs.NetLaws.{net_can_put, net_determined, net_run, net_run-runs, net_run-inputs, net_run-power}

@@ -3,14 +3,14 @@ use Rattle.std.proofs.Common.{◌≡◌, ◌≢◌, ℕ, zero, suc, ◌+◌, ◌
 use Rattle.std.specs.Prelude.{◌⊎◌, ◌==◌}
 use Rattle.std.specs.List.{AllPairs, Contains}
 use Rattle.std.proofs.lemmas.List.Elements.{All-contains}
-use Rattle.circuit_laws.specs.circuit_theory.Cover.{Cover}
-use Rattle.circuit_laws.specs.circuit_theory.Circuit.{Circuit, Started, Equation, Gate, Latch, Port, IsInput, IsLatch, out_of}
-use Rattle.circuit_laws.specs.circuit_theory.Cone.{latches_of}
-use Rattle.circuit_laws.specs.circuit_theory.Net.{IsAbove, IsWithin, IsDriven, IsNet}
-use Rattle.circuit_laws.specs.circuit_theory.Tree.{Tree, Trees, Leaf, Fixed, Branch, Nil, Cons, IsInputNumber}
-use Rattle.circuit_laws.proofs.circuit_theory.Inputs.{test_same, test_refl, beside_is_input}
-use Rattle.circuit_laws.proofs.circuit_theory.Lists.{Contains-head, Contains-tail, Contains-cases}
-use Rattle.circuit_laws.proofs.circuit_theory.Numbers.{distinct_at, one_number}
+use Rattle.circuit_theory.specs.Cover.{Cover}
+use Rattle.circuit_theory.specs.Circuit.{Circuit, Started, Equation, Gate, Latch, Port, IsInput, IsLatch, out_of}
+use Rattle.circuit_theory.specs.Cone.{latches_of}
+use Rattle.circuit_theory.specs.Net.{IsAbove, IsWithin, IsDriven, IsNet}
+use Rattle.circuit_theory.specs.Tree.{Tree, Trees, Leaf, Fixed, Branch, Nil, Cons, IsInputNumber}
+use Rattle.circuit_theory.proofs.Inputs.{test_same, test_refl, beside_is_input}
+use Rattle.circuit_theory.proofs.Lists.{Contains-head, Contains-tail, Contains-cases}
+use Rattle.circuit_theory.proofs.Numbers.{distinct_at, one_number}
 use Rattle.circuit_laws.proofs.NetLaws.{fanin_below}
 use Rattle.circuit_laws.proofs.NetTrees.{has_number}
 use Rattle.reset_laws.specs.Reset.{ResetUnfolds, ResetUnfoldsAll, IsFree, HasStarts}

@@ -2,10 +2,10 @@
 use Rattle.std.proofs.Common.{◌≡◌, ℕ, Bool, true, false, cond, List, [], ◌∷◌, refl, sym, ◌∙◌, ap, subst, Option, Some, None}
 use Rattle.std.specs.Prelude.{◌==◌}
 use Rattle.std.specs.List.{Contains}
-use Rattle.circuit_laws.specs.circuit_theory.Circuit.{Started, IsLatch}
-use Rattle.circuit_laws.specs.circuit_theory.Run.{IsResetRun}
-use Rattle.circuit_laws.proofs.circuit_theory.Inputs.{test_same}
-use Rattle.circuit_laws.proofs.circuit_theory.Lists.{Contains-head, Contains-tail}
+use Rattle.circuit_theory.specs.Circuit.{Started, IsLatch}
+use Rattle.circuit_theory.specs.Run.{IsResetRun}
+use Rattle.circuit_theory.proofs.Inputs.{test_same}
+use Rattle.circuit_theory.proofs.Lists.{Contains-head, Contains-tail}
 use Rattle.circuit_laws.proofs.LawProofs.{same_run}
 use Rattle.circuit_laws.proofs.NetLaws.{net_run, net_run-runs, net_run-inputs, net_run-power}
 use Rattle.reset_laws.specs.Reset.{IsFree, start_at, power_of}

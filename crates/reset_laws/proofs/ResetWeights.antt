@@ -1,9 +1,9 @@
 -- The weight in the reset form is one number, and what is over a cap weighs more.
 use Rattle.std.proofs.Common.{◌≡◌, ℕ, ◌<◌, ◌≤◌, List, refl, sym, ◌∙◌, arith}
 use Rattle.std.specs.List.{Contains, AllPairs, sum_by}
-use Rattle.circuit_laws.specs.circuit_theory.Circuit.{Circuit, IsSingleDriven}
-use Rattle.circuit_laws.specs.circuit_theory.Sizes.{WeighsAt}
-use Rattle.circuit_laws.proofs.circuit_theory.Sums.{sum_within}
+use Rattle.circuit_theory.specs.Circuit.{Circuit, IsSingleDriven}
+use Rattle.circuit_theory.specs.Sizes.{WeighsAt}
+use Rattle.circuit_theory.proofs.Sums.{sum_within}
 use Rattle.circuit_laws.proofs.Weights.{weighs_one}
 use Rattle.reset_laws.specs.Weight.{PlaceInCycle, WeighedInCycle, IsResetWeight, IsResetOver}
 use Rattle.reset_laws.specs.Laws.{ResetWeightIsOne}

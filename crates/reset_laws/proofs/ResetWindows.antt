@@ -4,14 +4,14 @@ use Rattle.std.specs.Prelude.{◌⊎◌, ◌&&◌, ◌==◌, slice_index_or}
 use Rattle.std.specs.List.{Contains}
 use Rattle.std.proofs.lemmas.List.Elements.{All-contains}
 use Rattle.std.proofs.lemmas.Option.{slice_get_within}
-use Rattle.circuit_laws.specs.circuit_theory.Circuit.{Circuit, Started}
-use Rattle.circuit_laws.specs.circuit_theory.Cone.{latches_of}
-use Rattle.circuit_laws.specs.circuit_theory.Run.{IsRun, IsResetRun}
-use Rattle.circuit_laws.specs.circuit_theory.Tree.{Tree, IsInputNumber, tree_value}
-use Rattle.circuit_laws.specs.circuit_theory.Query.{Variable, assigned, same_shift}
-use Rattle.circuit_laws.specs.circuit_theory.Sequence.{row_value, TakesInputs}
-use Rattle.circuit_laws.proofs.circuit_theory.Inputs.{test_same}
-use Rattle.circuit_laws.proofs.circuit_theory.Lists.{Contains-head, Contains-tail}
+use Rattle.circuit_theory.specs.Circuit.{Circuit, Started}
+use Rattle.circuit_theory.specs.Cone.{latches_of}
+use Rattle.circuit_theory.specs.Run.{IsRun, IsResetRun}
+use Rattle.circuit_theory.specs.Tree.{Tree, IsInputNumber, tree_value}
+use Rattle.circuit_theory.specs.Query.{Variable, assigned, same_shift}
+use Rattle.circuit_theory.specs.Sequence.{row_value, TakesInputs}
+use Rattle.circuit_theory.proofs.Inputs.{test_same}
+use Rattle.circuit_theory.proofs.Lists.{Contains-head, Contains-tail}
 use Rattle.circuit_laws.proofs.Windows.{rows_length, row_value-is}
 use Rattle.reset_laws.specs.Reset.{ResetUnfolds, HasStarts, reset_rows, start_at, power_of, powers_from, powers, TakesPower}
 use Rattle.reset_laws.specs.Laws.{ResetWitnessMakesDiffer}

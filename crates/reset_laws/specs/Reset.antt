@@ -1,15 +1,15 @@
 -- The reset form: the value of a signal in a cycle, where runs begin with the latches' initial values.
 use Rattle.std.specs.Prelude.{◌≡◌, ◌≢◌, ℕ, suc, ◌+◌, ◌-◌, ◌<◌, ◌≤◌, ◌==◌, ◌⊎◌, Bool, false, if◌then◌else◌, List, [], ◌∷◌, length, Option, Some, None, slice_get, slice_index_or}
 use Rattle.std.specs.List.{All, Contains}
-use Rattle.circuit_laws.specs.circuit_theory.Cover.{Cover}
-use Rattle.circuit_laws.specs.circuit_theory.Circuit.{Circuit, Started, Gate, Port, IsLatch}
-use Rattle.circuit_laws.specs.circuit_theory.Cone.{latches_of}
-use Rattle.circuit_laws.specs.circuit_theory.Run.{IsRun, EqualInputs, IsResetRun}
-use Rattle.circuit_laws.specs.circuit_theory.Tree.{Tree, Trees, Leaf, Fixed, Branch, Nil, Cons, IsInputNumber, tree_value}
-use Rattle.circuit_laws.specs.circuit_theory.Query.{Variable, AreVariables, Distinguishes, IsLeast, assigned, same_shift, bits_of, pair_query}
-use Rattle.circuit_laws.specs.circuit_theory.Sequence.{sequence_rows, row_value, TakesInputs}
-use Rattle.circuit_laws.specs.circuit_theory.Agree.{IsPair}
-use Rattle.circuit_laws.specs.circuit_theory.Fits.{IsPairDepth}
+use Rattle.circuit_theory.specs.Cover.{Cover}
+use Rattle.circuit_theory.specs.Circuit.{Circuit, Started, Gate, Port, IsLatch}
+use Rattle.circuit_theory.specs.Cone.{latches_of}
+use Rattle.circuit_theory.specs.Run.{IsRun, EqualInputs, IsResetRun}
+use Rattle.circuit_theory.specs.Tree.{Tree, Trees, Leaf, Fixed, Branch, Nil, Cons, IsInputNumber, tree_value}
+use Rattle.circuit_theory.specs.Query.{Variable, AreVariables, Distinguishes, IsLeast, assigned, same_shift, bits_of, pair_query}
+use Rattle.circuit_theory.specs.Sequence.{sequence_rows, row_value, TakesInputs}
+use Rattle.circuit_theory.specs.Agree.{IsPair}
+use Rattle.circuit_theory.specs.Fits.{IsPairDepth}
 
 -- the place has no initial value 0 or 1
 abbrev pub IsFree : {P : Type 0} → Circuit P → P → Type 0

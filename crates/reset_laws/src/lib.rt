@@ -2,4 +2,6 @@
 //! anything: each contract is a law.
 #![tactic(auto)]
 
+pub mod induct_laws;
 pub mod laws;
+pub mod reset_nets;

@@ -13,7 +13,7 @@ use Rattle.flat_net.proofs.Nets.{sound_is_net}
 use Rattle.reset_laws.specs.Reset.{HasStarts}
 use Rattle.reset_laws.specs.Weight.{PlaceInCycle, ResetVisits, IsResetWeight, IsResetOver}
 use Rattle.reset_laws.proofs.ResetExist.{one_tree}
-use Rattle.reset_nets.proofs.Starts.{nets_have_starts}
+use Rattle.reset_laws.proofs.reset_nets.Starts.{nets_have_starts}
 use Rattle.aig.specs.declared.node.Lit.{Lit}
 use Rattle.aig.specs.declared.node.Node.{Node}
 use Rattle.aig.specs.Builds.{Builds}

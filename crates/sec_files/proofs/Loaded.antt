@@ -7,11 +7,11 @@ use Rattle.blif_read.specs.declared.error.ReadError.TheVariants as read_error
 use Rattle.blif_read.specs.Reading.{first_fault, spelled, Reads}
 use Rattle.flat_net.specs.Comparable.{IsComparable}
 use Rattle.flat_net.specs.View.{NetView}
-use Rattle.flatten.specs.elaborate.declared.error.FlatError.{FlatError}
-use Rattle.flatten.specs.elaborate.declared.error.FlatError.TheVariants as fault
+use Rattle.elaborate.specs.declared.error.FlatError.{FlatError}
+use Rattle.elaborate.specs.declared.error.FlatError.TheVariants as fault
 use Rattle.flatten.specs.DesignFaults.{DesignFault, IsSoundDesign, IsFlatOf}
-use Rattle.aiger_read.specs.aiger_file.declared.file.AigerFile.{AigerFile}
-use Rattle.aiger_read.specs.Loops.{HasLoop}
+use Rattle.aiger_file.specs.declared.file.AigerFile.{AigerFile}
+use Rattle.aiger_file.specs.aiger_graph.Loops.{HasLoop}
 use Rattle.aiger_records.specs.declared.error.AigerError.{AigerError}
 use Rattle.aiger_records.specs.declared.error.AigerError.TheVariants as aiger_error
 use Rattle.aiger_read.specs.Nets.{SpellsFile, IsNetOf, ReadsNet}

@@ -11,7 +11,7 @@ use Rattle.flat_net.specs.declared.parts.Port.{Port}
 use Rattle.flat_net.specs.Sound.{IsSound}
 use Rattle.flat_net.specs.View.{NetView, named, circuit_of, is_read, ports_of}
 use Rattle.flat_net.proofs.Nets.{sound_is_net}
-use Rattle.flatten.proofs.elaborate.Tabled.{bool_same}
+use Rattle.elaborate.proofs.Tabled.{bool_same}
 use Rattle.net_alike.specs.FlatCircuit.{IsFlatCircuit}
 use Rattle.net_alike.specs.Renumbered.{AreRenumbered}
 use Rattle.net_alike.proofs.Alike.{nets_are_renumbered, place_of, low}

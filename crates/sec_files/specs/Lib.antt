@@ -2,5 +2,6 @@ pub mod Formats
 pub mod Loading
 pub mod Stimuli
 pub mod Named
+pub mod job_files
 pub use Rattle.aiger_read.specs as aiger_read
-pub use Rattle.aiger_read.specs.aiger_graph
+pub use Rattle.aiger_file.specs as aiger_file

@@ -6,8 +6,8 @@ use Rattle.blif_read.specs.declared.error.ReadKind.{ReadKind}
 use Rattle.blif_read.specs.Design.{Place}
 use Rattle.blif_read.specs.Reading.{first_fault, spelled}
 use Rattle.flat_net.specs.View.{NetView}
-use Rattle.flatten.specs.elaborate.declared.error.FlatError.{FlatError}
-use Rattle.flatten.specs.elaborate.declared.error.FlatError.TheVariants as flat_error
+use Rattle.elaborate.specs.declared.error.FlatError.{FlatError}
+use Rattle.elaborate.specs.declared.error.FlatError.TheVariants as flat_error
 use Rattle.flatten.specs.DesignFaults.{DesignFault}
 use Rattle.sec_base.specs.FetchError.TheVariants as fetch_error
 use Rattle.blif_read.specs.declared.error.ReadError.TheVariants as read_error

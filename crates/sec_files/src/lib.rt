@@ -4,6 +4,7 @@
 //! The function does nothing: its contract is a law.
 #![tactic(auto)]
 
+pub mod job_files;
 mod loader;
 mod stimuli;
 

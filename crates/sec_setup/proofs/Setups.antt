@@ -7,7 +7,7 @@ use Rattle.interface.specs.sec_base.declared.basics.Orders.{Orders}
 use Rattle.interface.specs.flat_net.Comparable.{IsComparable}
 use Rattle.interface.specs.flat_net.Sound.{IsSound}
 use Rattle.interface.specs.flat_net.View.{NetView, circuit_of, ports_of}
-use Rattle.cut_points.specs.declared.exposed.Exposure.{Exposure}
+use Rattle.sec_setup.specs.declared.cut_points.exposed.Exposure.{Exposure}
 use Rattle.interface.specs.declared.pairs.SignalPair.{SignalPair}
 use Rattle.interface.specs.Numbered.{AreNumbered}
 use Rattle.sec_setup.specs.Cuts.{AreCutOpen, AreCutBy, AreCutAt, columns_of, is_cut}

@@ -13,10 +13,10 @@ use Rattle.interface.specs.flat_net.declared.parts.LatchAt.{LatchAt}
 use Rattle.interface.specs.flat_net.View.{NetView, circuit_of}
 use Rattle.interface.specs.flat_net.Cut.{no_latch, latch_at, exposed_names}
 use Rattle.interface.proofs.flat_net.Nets.{latch_stands, some_at}
-use Rattle.cut_points.specs.expose_pick.Graph.{GraphView, IsGraphIn, SkippedBy, marked_names, signals_at}
-use Rattle.cut_points.proofs.expose_pick.Skipping.{mode_cycle, cycle_in_graph}
+use Rattle.latch_graph.specs.Graph.{GraphView, IsGraphIn, SkippedBy, marked_names, signals_at}
+use Rattle.latch_graph.proofs.Skipping.{mode_cycle, cycle_in_graph}
 use Rattle.sec_setup.specs.Cycles.{IsAcyclic}
-use Rattle.cut_points.specs.Exposed.{IsToldCycle}
+use Rattle.sec_setup.specs.cut_points.Exposed.{IsToldCycle}
 use Rattle.interface.proofs.Shared.{some_is}
 
 no_true : true ≡ false → ⊥

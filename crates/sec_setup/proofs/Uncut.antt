@@ -10,7 +10,7 @@ use Rattle.interface.specs.sec_base.Table.{AreDistinct}
 use Rattle.interface.specs.flat_net.declared.parts.LatchAt.{LatchAt}
 use Rattle.interface.specs.flat_net.Cut.{latch_at, exposed_names, stays, IsCut, IsCutCircuit}
 use Rattle.interface.specs.flat_net.View.{NetView, circuit_of}
-use Rattle.cut_points.specs.declared.exposed.Exposure.{Exposure}
+use Rattle.sec_setup.specs.declared.cut_points.exposed.Exposure.{Exposure}
 use Rattle.sec_setup.specs.Cycles.{IsAcyclic}
 use Rattle.interface.specs.Pairing.{AreNamedAt}
 use Rattle.sec_setup.specs.Cuts.{AreCutOpen, AreCutBy}

@@ -3,9 +3,9 @@ use Rattle.std.specs.Prelude.{◌≡◌, ℕ, Bool, true, false, List, [], Resul
 use Rattle.circuit_theory.specs.declared.Mode.TheVariants.{Plain}
 use Rattle.circuit_theory.specs.declared.Side.TheVariants.{A, B}
 use Rattle.interface.specs.flat_net.View.{NetView, circuit_of}
-use Rattle.cut_points.specs.Common.{common_names}
-use Rattle.cut_points.specs.Exposed.{IsFreeWithout, IsToldCycle}
-use Rattle.cut_points.specs.declared.exposed.Exposure.{Exposure}
+use Rattle.sec_setup.specs.cut_points.Common.{common_names}
+use Rattle.sec_setup.specs.cut_points.Exposed.{IsFreeWithout, IsToldCycle}
+use Rattle.sec_setup.specs.declared.cut_points.exposed.Exposure.{Exposure}
 use Rattle.sec_setup.specs.declared.error.SetupError.{SetupError}
 use Rattle.sec_setup.specs.declared.error.SetupError.TheVariants as refused
 use Rattle.sec_setup.specs.Cuts.{AreCutOpen}

@@ -6,7 +6,7 @@ use Rattle.circuit_theory.specs.Agree.{IsMinimalCut}
 use Rattle.circuit_theory.specs.Interface.{shared_inputs}
 use Rattle.interface.specs.flat_net.Cut.{IsCut, IsCutCircuit, exposed_names}
 use Rattle.interface.specs.flat_net.View.{NetView, circuit_of, ports_of}
-use Rattle.cut_points.specs.declared.exposed.Exposure.{Exposure}
+use Rattle.sec_setup.specs.declared.cut_points.exposed.Exposure.{Exposure}
 use Rattle.interface.specs.Pairing.{AreNamedAt}
 
 -- The names are a minimal cut, which has no name where no latch is to be cut open.

@@ -4,8 +4,8 @@ use Rattle.circuit_theory.specs.declared.Mode.TheVariants.{Plain}
 use Rattle.circuit_theory.specs.Depth.{HasCycle}
 use Rattle.circuit_theory.specs.Run.{NoneEnabled}
 use Rattle.interface.specs.flat_net.View.{NetView, circuit_of}
-use Rattle.cut_points.specs.Common.{common_names}
-use Rattle.cut_points.specs.Exposed.{IsFreeWithout, IsToldCycle}
+use Rattle.sec_setup.specs.cut_points.Common.{common_names}
+use Rattle.sec_setup.specs.cut_points.Exposed.{IsFreeWithout, IsToldCycle}
 
 -- no cycle is in the latch graph
 abbrev pub IsAcyclic : NetView → Type 0

@@ -4,9 +4,7 @@ pub mod Cycles
 pub mod Matching
 pub mod Pairs
 pub mod Setup
-pub use Rattle.cut_points.specs.Common
-pub use Rattle.cut_points.specs.Exposed
-pub use Rattle.cut_points.specs.declared.exposed.Exposure
+pub mod cut_points
 pub use Rattle.interface.specs as interface
 pub use Rattle.interface.specs.flat_net
 pub use Rattle.interface.specs.sec_base

@@ -5,7 +5,7 @@ use Rattle.circuit_theory.specs.declared.Mode.TheVariants.{Plain}
 use Rattle.circuit_theory.specs.Interface.{shared_inputs, AreNumbersOf}
 use Rattle.interface.specs.sec_base.Table.{AreDistinct}
 use Rattle.interface.specs.flat_net.View.{NetView, circuit_of, ports_of}
-use Rattle.cut_points.specs.expose_pick.Graph.{IsGraphIn}
+use Rattle.latch_graph.specs.Graph.{IsGraphIn}
 use Rattle.sec_setup.specs.declared.nets.Nets.{Nets}
 use Rattle.sec_setup.specs.declared.setup.Setup.{Setup}
 use Rattle.sec_setup.specs.Cuts.{AreCutAt, columns_of}

@@ -4,10 +4,10 @@ ghost use Rattle.std.specs.Prelude.{true};
 ghost use Rattle.sec_setup.specs.Choosing.{Chosen};
 ghost use Rattle.sec_setup.specs.Setup.{AreGraphed};
 
+use crate::cut_points::{ExposeError, Exposure, expose};
 use crate::cycles::find_cycle;
 use crate::error::SetupError;
 use crate::nets::Nets;
-use cut_points::{ExposeError, Exposure, expose};
 use interface::{Ids, Side, Words};
 use std::alloc::Global;
 

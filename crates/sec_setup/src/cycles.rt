@@ -3,10 +3,10 @@
 ghost use Rattle.std.specs.Prelude.{◌≡◌, ◌<◌, length, false, All, IfOk};
 ghost use Rattle.circuit_theory.specs.declared.Mode.TheVariants.{Plain};
 ghost use Rattle.interface.specs.flat_net.Cut.{exposed_names};
-ghost use Rattle.cut_points.specs.expose_pick.Graph.{IsGraphIn};
+ghost use Rattle.latch_graph.specs.Graph.{IsGraphIn};
 ghost use Rattle.sec_setup.specs.Cycles.{IsCycleOf};
 
-use cut_points::LatchGraph;
+use crate::cut_points::LatchGraph;
 use interface::{Bits, Ids, Net, NoMemory, Words, unset_bits};
 use latch_graph::none_enabled;
 use std::alloc::Global;

@@ -5,6 +5,7 @@
 #![tactic(auto)]
 
 mod choice;
+pub mod cut_points;
 mod cycles;
 mod depth;
 mod error;

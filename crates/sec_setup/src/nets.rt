@@ -1,6 +1,6 @@
 //! Two nets beside one another.
 
-use cut_points::LatchGraph;
+use crate::cut_points::LatchGraph;
 use interface::Net;
 
 /// Two nets, A's and B's, and the latch graph of each.

@@ -10,8 +10,8 @@ ghost use Rattle.sec_setup.specs.Cuts.{is_cut, AreCutBy, AreCutOpen};
 ghost use Rattle.sec_setup.specs.Matching.{InterfacesMatch};
 ghost use Rattle.sec_setup.specs.Setup.{AreGraphed, IsSetupOf};
 
+use crate::cut_points::{Exposure, LatchGraph};
 use crate::nets::Nets;
-use cut_points::{Exposure, LatchGraph};
 use interface::{NameTable, Net, NoMemory, Orders, SignalPairs, Words, orders_of, pairs_of};
 use std::alloc::Global;
 

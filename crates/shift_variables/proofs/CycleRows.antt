@@ -13,7 +13,7 @@ use Rattle.circuit_theory.proofs.Sums.{AllPairs-head, AllPairs-tail}
 use Rattle.unfold_places.proofs.sec_base.TableLemmas.{slice_get-take}
 use Rattle.latch_graph.proofs.Trails.{slice_get-drop}
 use Rattle.unfold_places.proofs.Lists.{pairs_at}
-use Rattle.unfold_places.proofs.flat_net.Places.{All-at}
+use Rattle.flat_net.proofs.Places.{All-at}
 use Rattle.pair_decide.specs.Queries.{assigned_to}
 use Rattle.shift_variables.specs.Variables.{variable_of, variables_of, GoesBefore}
 use Rattle.shift_variables.specs.Sequences.{bits_at, IsSequence, EndsShift}

@@ -2,7 +2,9 @@
 //! of them make.
 #![tactic(auto)]
 
+pub mod cycle_variables;
 mod merge;
+pub mod query_places;
 mod rows;
 
 pub use merge::merge_variables;

@@ -7,7 +7,7 @@ use Rattle.flat_net.specs.Cut.{IsCutCircuit}
 use Rattle.assume_taken.specs.sec_setup.Pairs.{NamedPair}
 use Rattle.assume_taken.proofs.sec_setup.CutNets.{same_as_cut}
 use Rattle.assume_taken.proofs.sec_setup.SameEquations.{same_tree, turned}
-use Rattle.under_fits.specs.Places.{IsReadAt, ArePairPlaces, ArePlacesOfPairs, IsOverAtPairs, IsLightAtPairs}
+use Rattle.under_base.specs.under_fits.Places.{IsReadAt, ArePairPlaces, ArePlacesOfPairs, IsOverAtPairs, IsLightAtPairs}
 
 module _ (names : List (List ℕ)) (a b m k : Circuit ℕ) (left_is : IsCutCircuit names a m) (right_is : IsCutCircuit names b k) (left right : List ℕ) where
   read_there : (x : NamedPair ℕ ℕ) (t : ℕ) → IsReadAt m k left right x t → IsReadAt (cut names a) (cut names b) left right x t

@@ -9,8 +9,8 @@ use Rattle.assume_taken.specs.sec_setup.Matching.{InterfacesMatch, InterfaceFail
 use Rattle.assume_taken.specs.declared.error.TakeError.{TakeError}
 use Rattle.assume_taken.specs.declared.error.TakeError.TheVariants as untaken
 use Rattle.assume_taken.specs.Premises.{IsTaken}
-use Rattle.compare_base.specs.Compared.{refusal_of as refusal_of_setup}
-use Rattle.compare_base.proofs.Refusals.{unchosen}
+use Rattle.under_base.specs.compare_base.Compared.{refusal_of as refusal_of_setup}
+use Rattle.under_base.proofs.compare_base.Refusals.{unchosen}
 use Rattle.under_base.specs.Compared.{ComparedUnder}
 use Rattle.under_base.specs.Met.{shared_by, IsMet}
 use Rattle.under_base.specs.Refusals.{refusal_of}

@@ -7,24 +7,24 @@ use Rattle.flat_net.specs.View.{NetView, circuit_of, ports_of}
 use Rattle.witness_report.specs.declared.witness.Witness.{Witness}
 use Rattle.witness_report.specs.Shown.{MakesDiffer, MakesCutsDiffer}
 use Rattle.sec_base.specs.declared.settings.Settings.{Settings}
-use Rattle.under_fits.specs.outcome.declared.verdict.Verdict.TheVariants as verdict
-use Rattle.under_fits.specs.outcome.declared.verdict.Why.TheVariants as why
-use Rattle.under_fits.specs.outcome.declared.verdict.Outcome.{Outcome}
-use Rattle.under_fits.specs.outcome.declared.verdict.ResetWitness.{ResetWitness}
+use Rattle.outcome_fits.specs.outcome.declared.verdict.Verdict.TheVariants as verdict
+use Rattle.outcome_fits.specs.outcome.declared.verdict.Why.TheVariants as why
+use Rattle.outcome_fits.specs.outcome.declared.verdict.Outcome.{Outcome}
+use Rattle.outcome_fits.specs.outcome.declared.verdict.ResetWitness.{ResetWitness}
 use Rattle.assume_taken.specs.sec_setup.Matching.{InterfacesMatch}
 use Rattle.assume_taken.specs.sec_setup.Pairs.{named_pairs}
-use Rattle.compare_base.specs.Fitting.{IsLight}
-use Rattle.under_fits.specs.Places.{IsLightAtPairs}
-use Rattle.under_fits.specs.ResetPlaces.{IsLightInCycles}
+use Rattle.outcome_fits.specs.Fitting.{IsLight}
+use Rattle.under_base.specs.under_fits.Places.{IsLightAtPairs}
+use Rattle.under_base.specs.under_fits.ResetPlaces.{IsLightInCycles}
 use Rattle.assume_laws.specs.Assume.{AgreeFromResetUnder}
 use Rattle.assume_laws.specs.Sequences.{RowsMeet}
 use Rattle.assume_taken.specs.Taken.{assumed_by, IsFirstFault, IsVacuousBy}
-use Rattle.under_fits.specs.Outcome.{OutcomeFitsUnder, AreEqualUnder}
-use Rattle.under_fits.specs.ResetOutcome.{numbers_of, ResetOutcomeFitsUnder, MakesResetsDifferUnder}
-use Rattle.compare_base.specs.declared.error.CompareError.{CompareError}
-use Rattle.compare_base.specs.declared.error.CompareError.TheVariants as refused
-use Rattle.compare_base.specs.Compared.{ByReset, Compared}
-use Rattle.compare_base.specs.FromReset.{IsLeftLight, IsRightLight}
+use Rattle.under_base.specs.under_fits.Outcome.{OutcomeFitsUnder, AreEqualUnder}
+use Rattle.under_base.specs.under_fits.ResetOutcome.{numbers_of, ResetOutcomeFitsUnder, MakesResetsDifferUnder}
+use Rattle.under_base.specs.declared.compare_base.error.CompareError.{CompareError}
+use Rattle.under_base.specs.declared.compare_base.error.CompareError.TheVariants as refused
+use Rattle.under_base.specs.compare_base.Compared.{ByReset, Compared}
+use Rattle.under_base.specs.compare_base.FromReset.{IsLeftLight, IsRightLight}
 use Rattle.under_base.specs.Met.{shared_by, IsMet, IsAssumptionLimit}
 use Rattle.under_base.specs.Sizes.{IsTooLargeUnder}
 

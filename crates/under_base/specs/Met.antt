@@ -4,9 +4,9 @@ use Rattle.circuit_theory.specs.Interface.{shared_inputs}
 use Rattle.flat_net.specs.Sound.{IsSound}
 use Rattle.flat_net.specs.View.{NetView, ports_of}
 use Rattle.assume_taken.specs.pair_decide.declared.query.Proof.{Proof}
-use Rattle.under_fits.specs.outcome.declared.verdict.LimitAt.TheVariants as limit_at
-use Rattle.under_fits.specs.outcome.declared.verdict.Outcome.{Outcome}
-use Rattle.under_fits.specs.outcome.declared.verdict.Verdict.TheVariants as verdict
+use Rattle.outcome_fits.specs.outcome.declared.verdict.LimitAt.TheVariants as limit_at
+use Rattle.outcome_fits.specs.outcome.declared.verdict.Outcome.{Outcome}
+use Rattle.outcome_fits.specs.outcome.declared.verdict.Verdict.TheVariants as verdict
 use Rattle.assume_taken.specs.sec_setup.Matching.{InterfacesMatch}
 use Rattle.assume_taken.specs.Asked.{IsKeptRow}
 use Rattle.assume_taken.specs.Taken.{IsAssumed, assumed_by, IsUndecidedBy}

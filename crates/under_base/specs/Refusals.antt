@@ -1,8 +1,8 @@
 -- Why a circuit that isn't taken as an assumption isn't compared under.
 use Rattle.assume_taken.specs.declared.error.TakeError.{TakeError}
 use Rattle.assume_taken.specs.declared.error.TakeError.TheVariants as untaken
-use Rattle.compare_base.specs.declared.error.CompareError.{CompareError}
-use Rattle.compare_base.specs.declared.error.CompareError.TheVariants as refused
+use Rattle.under_base.specs.declared.compare_base.error.CompareError.{CompareError}
+use Rattle.under_base.specs.declared.compare_base.error.CompareError.TheVariants as refused
 
 abbrev pub refusal_of : TakeError → CompareError
 refusal_of (untaken.Fault fault) = refused.Assume fault

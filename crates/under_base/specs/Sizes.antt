@@ -8,14 +8,14 @@ use Rattle.assume_taken.specs.sec_setup.Cuts.{IsChoice, StandInOrder, columns_of
 use Rattle.assume_taken.specs.sec_setup.Cycles.{AreBroken}
 use Rattle.assume_taken.specs.sec_setup.Pairs.{named_pairs}
 use Rattle.reset_laws.specs.Reset.{AreBased}
-use Rattle.compare_base.specs.Fitting.{IsCutLight}
-use Rattle.under_fits.specs.Places.{IsOverAtPairs}
-use Rattle.under_fits.specs.ResetPlaces.{IsOverInCycles}
-use Rattle.under_fits.specs.ResetOutcome.{numbers_of}
-use Rattle.compare_base.specs.Compared.{ByReset}
-use Rattle.compare_base.specs.FromReset.{IsLeftLight, IsRightLight}
-use Rattle.assume_taken.specs.assume_shape.declared.shape.ShapeFault.{ShapeFault}
-use Rattle.assume_taken.specs.assume_shape.declared.shape.ShapeFault.TheVariants as fault
+use Rattle.outcome_fits.specs.Fitting.{IsCutLight}
+use Rattle.under_base.specs.under_fits.Places.{IsOverAtPairs}
+use Rattle.under_base.specs.under_fits.ResetPlaces.{IsOverInCycles}
+use Rattle.under_base.specs.under_fits.ResetOutcome.{numbers_of}
+use Rattle.under_base.specs.compare_base.Compared.{ByReset}
+use Rattle.under_base.specs.compare_base.FromReset.{IsLeftLight, IsRightLight}
+use Rattle.assume_laws.specs.declared.assume_shape.shape.ShapeFault.{ShapeFault}
+use Rattle.assume_laws.specs.declared.assume_shape.shape.ShapeFault.TheVariants as fault
 use Rattle.under_base.specs.Met.{shared_by, IsMet}
 
 -- With the latches of a choice of names cut out, which stand in A's order, both unfoldings are light, and an assumption of this weight

@@ -2,8 +2,10 @@
 //! found is no matter here.
 #![tactic(auto)]
 
+pub mod compare_base;
 mod laws;
+pub mod under_fits;
 
+pub use crate::compare_base::CompareError;
 pub use assume_taken::{Premise, TakeError, Taken, take, widen};
-pub use compare_base::CompareError;
 pub use laws::verdicts_under;

@@ -10,7 +10,7 @@ use Rattle.sec_setup.proofs.CutNets.{same_as_cut}
 use Rattle.sec_setup.proofs.SameEquations.{same_tree}
 use Rattle.assume_laws.specs.Assume.{Assumption, HaveEqualFunctionsUnder}
 use Rattle.assume_laws.specs.Sequences.{IsWitnessUnder}
-use Rattle.under_fits.specs.Pairs.{AnswerFitsUnder}
+use Rattle.under_base.specs.under_fits.Pairs.{AnswerFitsUnder}
 
 module _ (c : Assumption) (names : List (List ℕ)) (a b m k : Circuit ℕ) (left_is : IsCutCircuit names a m) (right_is : IsCutCircuit names b k) (left right : List ℕ) where
   -- equal functions

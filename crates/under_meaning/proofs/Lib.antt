@@ -1,4 +1,4 @@
 pub mod CutUnder
 pub mod SequencesUnder
 pub mod Meaning
-pub use Rattle.plain_meaning.proofs as plain_meaning
+pub use Rattle.outcome_fits.proofs as outcome_fits

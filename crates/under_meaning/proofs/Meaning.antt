@@ -30,14 +30,14 @@ use Rattle.outcome.specs.declared.verdict.Outcome.{Outcome}
 use Rattle.sec_setup.specs.Cuts.{columns_of, is_cut}
 use Rattle.sec_setup.specs.Pairs.{NamedPair, named_pairs}
 use Rattle.sec_setup.proofs.CutNets.{cut_depth, cut_numbers, cut_numbered}
-use Rattle.plain_meaning.proofs.CutPairs.{IsOutputPair, IsNextPair, one_output, pair_listed, listed_is, listed_places, size_is_within}
+use Rattle.outcome_fits.proofs.plain_meaning.CutPairs.{IsOutputPair, IsNextPair, one_output, pair_listed, listed_is, listed_places, size_is_within}
 use Rattle.assume_laws.specs.Assume.{Assumption, HaveEqualFunctionsUnder, AgreeUnder, AgreeOnwardUnder}
 use Rattle.assume_laws.specs.Sequences.{RowsMeet, IsWitnessUnder}
 use Rattle.assume_laws.proofs.Filled.{witness_makes_differ_under}
 use Rattle.assume_laws.proofs.PlainLaws.{exposed_functions_agree_under}
-use Rattle.under_fits.specs.Pairs.{AnswerFitsUnder, PairFitsUnder}
-use Rattle.under_fits.specs.Verdict.{IsFirstOfAnswerUnder, VerdictFitsUnder}
-use Rattle.under_fits.specs.Outcome.{OutcomeFitsUnder, AgreeFromUnder}
+use Rattle.under_base.specs.under_fits.Pairs.{AnswerFitsUnder, PairFitsUnder}
+use Rattle.under_base.specs.under_fits.Verdict.{IsFirstOfAnswerUnder, VerdictFitsUnder}
+use Rattle.under_base.specs.under_fits.Outcome.{OutcomeFitsUnder, AgreeFromUnder}
 use Rattle.under_meaning.specs.Laws.{AreNets, EqualSaysUnder, DifferentShowsUnder, NotShownUnder}
 use Rattle.under_meaning.proofs.CutUnder.{cut_functions_under, cut_witness_under, equal_answer_under, different_answer_under}
 use Rattle.under_meaning.proofs.SequencesUnder.{values_differ, left_value_shows, right_value_shows}

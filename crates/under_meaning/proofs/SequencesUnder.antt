@@ -11,8 +11,8 @@ use Rattle.circuit_theory.specs.Interface.{AreNumbersOf}
 use Rattle.circuit_theory.proofs.Inputs.{test_same}
 use Rattle.witness_report.specs.declared.witness.Witness.{Witness}
 use Rattle.witness_report.specs.Shown.{Obeys}
-use Rattle.plain_meaning.proofs.Leaves.{run_by_leaves}
-use Rattle.plain_meaning.proofs.Sequences.{printed}
+use Rattle.outcome_fits.proofs.plain_meaning.Leaves.{run_by_leaves}
+use Rattle.outcome_fits.proofs.plain_meaning.Sequences.{printed}
 use Rattle.assume_laws.specs.Assume.{Assumption}
 use Rattle.assume_laws.specs.Sequences.{filled, IsWitnessUnder}
 use Rattle.assume_laws.proofs.Filled.{filled_tree, shift_itself, left_leaves, right_leaves}

@@ -10,7 +10,7 @@ use Rattle.outcome.specs.declared.verdict.Verdict.TheVariants as verdict
 use Rattle.outcome.specs.declared.verdict.Why.TheVariants as why
 use Rattle.assume_laws.specs.Assume.{Assumption}
 use Rattle.assume_laws.specs.Sequences.{RowsMeet}
-use Rattle.under_fits.specs.Outcome.{OutcomeFitsUnder, AreEqualUnder}
+use Rattle.under_base.specs.under_fits.Outcome.{OutcomeFitsUnder, AreEqualUnder}
 
 -- both nets are sound, and their outputs have distinct names
 pub record AreNets (a b : NetView) : Type 0 where

@@ -6,7 +6,7 @@ use Rattle.circuit_theory.specs.Run.{IsEnabled}
 use Rattle.circuit_theory.proofs.Lists.{Contains-cases, Contains-head}
 use Rattle.circuit_theory.specs.Classes.{HasClasses, classes_of}
 use Rattle.circuit_theory.specs.Frame.{EventSide, IsNode, ReachedAt}
-use Rattle.event_laws.proofs.ClassMaps.{fold_each}
+use Rattle.circuit_laws.proofs.event_laws.ClassMaps.{fold_each}
 use Rattle.flat_net.proofs.Nets.{some_at}
 use Rattle.event_nodes.specs.Nodes.{IsTree, path_of}
 use Rattle.event_nodes.proofs.Paths.{child_path, path_grows}

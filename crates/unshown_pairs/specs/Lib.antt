@@ -16,10 +16,9 @@ pub use Rattle.class_events.specs as class_events
 pub use Rattle.class_events.specs.class_separations
 pub use Rattle.class_events.specs.class_totals
 pub use Rattle.class_events.specs.event_classes
-pub use Rattle.class_events.specs.pair_events
+pub use Rattle.event_form.specs.event_agreement
 pub use Rattle.event_form.specs as event_form
 pub use Rattle.event_form.specs.class_queries
-pub use Rattle.event_form.specs.event_agreement
 pub use Rattle.event_form.specs.obligations
 pub use Rattle.event_nodes.specs as event_nodes
 pub use Rattle.flat_net.specs as flat_net

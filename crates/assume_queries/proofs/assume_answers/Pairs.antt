@@ -20,7 +20,7 @@ use Rattle.unfold_places.proofs.Lists.{pairs_map}
 use Rattle.assume_places.proofs.cbf_unfold.Cone.{reached_one}
 use Rattle.shift_variables.specs.Variables.{variable_of, variables_of}
 use Rattle.shift_variables.proofs.Assignments.{assigned_alike}
-use Rattle.assume_places.specs.query_places.Places.{place_of}
+use Rattle.shift_variables.specs.query_places.Places.{place_of}
 use Rattle.assume_laws.specs.Assume.{Assumption, RowMeets, PlaceUnfolds, HasVariableAt, MeetsAtVariables}
 use Rattle.assume_laws.specs.Sequences.{IsTreeUnder, AreVariablesUnder, IsPairQueryUnder, IsDifferenceUnder}
 use Rattle.assume_queries.specs.declared.assume_answers.order.VariableOrder.{VariableOrder}

@@ -8,8 +8,8 @@ use Rattle.circuit_theory.specs.Depth.{LatchesHaveDepths}
 use Rattle.circuit_theory.specs.Joined.{Either, Left, Right, joined, moved_name}
 use Rattle.circuit_theory.specs.Run.{IsEnabled}
 use Rattle.circuit_theory.proofs.Lists.{length-map}
-use Rattle.event_laws.proofs.ClassSteps.{class_map_goes_on_in_nets}
-use Rattle.event_laws.proofs.SideParts.{sides_are_parts_in_nets}
+use Rattle.circuit_laws.proofs.event_laws.ClassSteps.{class_map_goes_on_in_nets}
+use Rattle.circuit_laws.proofs.event_laws.SideParts.{sides_are_parts_in_nets}
 use Rattle.flat_net.specs.declared.parts.LatchAt.{LatchAt}
 use Rattle.flat_net.specs.View.{NetView, circuit_of}
 use Rattle.flat_net.proofs.Nets.{some_at, sound_is_net}

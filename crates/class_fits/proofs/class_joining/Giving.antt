@@ -13,9 +13,9 @@ use Rattle.circuit_laws.proofs.JoinedParts.{joined_same, joined_single}
 use Rattle.circuit_theory.specs.Classes.{classes_of}
 use Rattle.circuit_theory.specs.EventFits.{side_by_side}
 use Rattle.circuit_theory.specs.EventTotals.{IsMapSoFar}
-use Rattle.event_laws.specs.ClassSteps.{IsFirstFit}
-use Rattle.event_laws.proofs.ClassSteps.{pairs_ahead, class_map_goes_on_in_nets}
-use Rattle.event_laws.proofs.OneClassMap.{Before, place_of, depth_of, fold_same}
+use Rattle.circuit_laws.specs.event_laws.ClassSteps.{IsFirstFit}
+use Rattle.circuit_laws.proofs.event_laws.ClassSteps.{pairs_ahead, class_map_goes_on_in_nets}
+use Rattle.circuit_laws.proofs.event_laws.OneClassMap.{Before, place_of, depth_of, fold_same}
 use Rattle.flat_net.specs.View.{circuit_of}
 use Rattle.flat_net.proofs.Nets.{sound_is_net}
 use Rattle.class_queries.specs.Enables.{class_map}

@@ -4,8 +4,8 @@ use Rattle.std.specs.Prelude.{◌⊎◌, Contains}
 use Rattle.std.proofs.lemmas.List.Elements.{Contains-append_cases, Contains-append_left, Contains-append_right}
 use Rattle.circuit_theory.specs.Joined.{Either}
 use Rattle.circuit_theory.proofs.Lists.{Contains-head, only}
-use Rattle.event_laws.specs.ClassSteps.{IsFirstFit}
-use Rattle.event_laws.proofs.Twins.{twins_fit_in_nets}
+use Rattle.circuit_laws.specs.event_laws.ClassSteps.{IsFirstFit}
+use Rattle.circuit_laws.proofs.event_laws.Twins.{twins_fit_in_nets}
 use Rattle.flat_net.specs.View.{circuit_of}
 use Rattle.flat_net.proofs.Nets.{sound_is_net}
 use Rattle.class_queries.specs.Enables.{class_map, both_of, IsEnableFunction}

@@ -6,7 +6,7 @@ use Rattle.circuit_theory.specs.Run.{IsEnabled}
 use Rattle.circuit_theory.specs.Frame.{EventSide}
 use Rattle.circuit_theory.specs.Classes.{HasClasses, EqualsMembers, DiffersFromMember}
 use Rattle.circuit_theory.specs.EventTotals.{IsMapSoFar}
-use Rattle.event_laws.specs.ClassSteps.{IsFirstFit}
+use Rattle.circuit_laws.specs.event_laws.ClassSteps.{IsFirstFit}
 use Rattle.flat_net.specs.declared.parts.LatchAt.{LatchAt}
 use Rattle.flat_net.specs.Sound.{IsSound}
 use Rattle.flat_net.specs.View.{circuit_of}

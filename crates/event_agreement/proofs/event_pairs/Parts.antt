@@ -7,7 +7,7 @@ use Rattle.circuit_theory.specs.Tree.{Tree}
 use Rattle.circuit_laws.proofs.Parts.{IsPart, latch_up, latch_from, reaches_up, reaches_from, enabled_up, enabled_from}
 use Rattle.circuit_theory.specs.EventFrames.{IsCareTree}
 use Rattle.circuit_theory.specs.Frame.{EventSide, EventUnfolds, ConeLatches, ConeOthers, ReachedAt, IsNode}
-use Rattle.class_queries.specs.event_laws.Sides.{moved_put}
+use Rattle.circuit_laws.specs.event_laws.Sides.{moved_put}
 
 module _ {P R : Type 0} (c : Circuit P) (j : Circuit R) (f : P → R) (replace : (R → Bool) → (P → Bool) → R → Bool) (part : IsPart c j f replace) (some : R → Bool) (meets : Meets j some) (order orders : List ℕ) (class : R → ℕ) where
   abbrev own : EventSide P

@@ -15,8 +15,8 @@ use Rattle.circuit_theory.specs.EventFrames.{AreNodeVariables}
 use Rattle.circuit_theory.specs.EventSizes.{Start}
 use Rattle.circuit_theory.specs.EventTotals.{StartLatches}
 use Rattle.circuit_theory.specs.Frame.{EventSide, ConeLatches}
-use Rattle.class_queries.specs.event_laws.Sides.{UnfoldsAsPart}
-use Rattle.class_queries.proofs.event_laws.SideTrees.{sides_unfold_in_nets}
+use Rattle.circuit_laws.specs.event_laws.Sides.{UnfoldsAsPart}
+use Rattle.circuit_laws.proofs.event_laws.SideTrees.{sides_unfold_in_nets}
 use Rattle.class_search.specs.flat_net.Sound.{IsSound}
 use Rattle.class_search.specs.flat_net.View.{circuit_of}
 use Rattle.class_search.proofs.flat_net.Nets.{sound_is_net}

@@ -2,12 +2,12 @@
 use Rattle.std.proofs.Common.{◌≡◌, ℕ, Bool, List, false, true, refl, sym, subst, arith, inl, inr}
 use Rattle.std.specs.Prelude.{◌⊎◌}
 use Rattle.std.specs.List.{Contains}
-use Rattle.assume_shape.specs.declared.shape.ShapeFault.{ShapeFault}
+use Rattle.assume_laws.specs.declared.assume_shape.shape.ShapeFault.{ShapeFault}
 use Rattle.assume_taken.specs.Taken.{IsFirstFault}
 use Rattle.check_meaning.specs.check_texts.Texts.{AreComparable}
 use Rattle.sec_base.specs.declared.settings.Settings.{Settings}
-use Rattle.check_meaning.specs.under_base.Met.{shared_by}
-use Rattle.check_meaning.specs.under_base.Sizes.{IsTooLargeUnder}
+use Rattle.under_base.specs.Met.{shared_by}
+use Rattle.under_base.specs.Sizes.{IsTooLargeUnder}
 use Rattle.flat_net.specs.View.{NetView}
 use Rattle.sec_files.specs.Loading.{Loads}
 use Rattle.design_rows.specs.Designs as design

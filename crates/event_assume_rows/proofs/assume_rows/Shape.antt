@@ -10,10 +10,10 @@ use Rattle.circuit_theory.proofs.Lists.{Contains-map, of_at, length-map}
 use Rattle.flat_net.specs.declared.parts.LatchAt.{LatchAt}
 use Rattle.flat_net.specs.declared.parts.Port.{Port}
 use Rattle.flat_net.specs.View.{NetView, named, circuit_of}
-use Rattle.assume_shape.specs.declared.shape.ShapeFault.{ShapeFault}
-use Rattle.assume_shape.specs.declared.shape.ShapeFault.TheVariants as fault
+use Rattle.assume_laws.specs.declared.assume_shape.shape.ShapeFault.{ShapeFault}
+use Rattle.assume_laws.specs.declared.assume_shape.shape.ShapeFault.TheVariants as fault
 use Rattle.assume_taken.specs.Taken.{IsFirstFault}
-use Rattle.check_meaning.specs.under_base.Met.{shared_by}
+use Rattle.under_base.specs.Met.{shared_by}
 use Rattle.design_rows.specs.Small.{IsSmall, small_and}
 use Rattle.design_rows.proofs.Spelling.{ports_are}
 use Rattle.check_meaning.proofs.check_texts.Uncut.{uncut_is}

@@ -12,12 +12,12 @@ use Rattle.flat_net.specs.View.{NetView, named, circuit_of}
 use Rattle.witness_report.specs.declared.witness.PairName.TheVariants as pair
 use Rattle.sec_base.specs.declared.settings.Settings.{Settings}
 use Rattle.sec_setup.specs.Pairs.{NamedPair, named_pairs, pair_called}
-use Rattle.compare_base.specs.Compared.{ByReset}
+use Rattle.under_base.specs.compare_base.Compared.{ByReset}
 use Rattle.assume_laws.specs.Assume.{HasVariableAt}
-use Rattle.assume_shape.specs.declared.shape.ShapeFault.{ShapeFault}
-use Rattle.assume_shape.specs.declared.shape.ShapeFault.TheVariants as fault
-use Rattle.under_fits.specs.Places.{IsReadAt, ArePairPlaces, IsOverAtPairs}
-use Rattle.check_meaning.specs.under_base.Sizes.{IsOverCut, IsOverFromReset, IsTooLargeUnder}
+use Rattle.assume_laws.specs.declared.assume_shape.shape.ShapeFault.{ShapeFault}
+use Rattle.assume_laws.specs.declared.assume_shape.shape.ShapeFault.TheVariants as fault
+use Rattle.under_base.specs.under_fits.Places.{IsReadAt, ArePairPlaces, IsOverAtPairs}
+use Rattle.under_base.specs.Sizes.{IsOverCut, IsOverFromReset, IsTooLargeUnder}
 use Rattle.design_rows.specs.Small.{IsSmall, small_and}
 use Rattle.check_meaning.proofs.check_texts.Latchless.{cut_latchless, visits_now, none_chosen}
 use Rattle.event_assume_rows.specs.assume_rows.SameInputs.{small_or, small_same}

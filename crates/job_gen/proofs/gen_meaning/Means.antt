@@ -32,7 +32,7 @@ use Rattle.job_gen.specs.gen_meaning.Found.{IsOutcomeOf, IsGenFound, GenFound}
 use Rattle.job_gen.specs.gen_meaning.Answer.{TakesReport, TwinsAgree, TwinsDiffer, TwinsUndecided, GenMeans, IsGenAnswer}
 use Rattle.job_gen.specs.gen_meaning.Report.{gen_text}
 use Rattle.swept_queries.proofs.Listed.{zip_left}
-use Rattle.plain_meaning.proofs.Fitted.{cut_answer, limit_answer, kept_proof}
+use Rattle.outcome_fits.proofs.plain_meaning.Fitted.{cut_answer, limit_answer, kept_proof}
 
 equal_verdict : (v : Verdict) → generated_status v ≡ status.Done → v ≡ verdict.Equal
 equal_verdict verdict.Equal e = refl

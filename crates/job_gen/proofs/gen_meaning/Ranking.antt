@@ -27,7 +27,7 @@ use Rattle.pair_gen.specs.Cells.{name_of, column_of, data_of, second_of}
 use Rattle.pair_gen.specs.Twins.{place_of, IsOf, HasGate, HasLatch, IsTwin}
 use Rattle.pair_gen.specs.Sketch.{latch_cell, gate_cell}
 use Rattle.pair_gen.proofs.Numbers.{IsPlaced, gate_whole, latch_whole, gate_placed, latch_placed, latch_stage, latch_column, stage_of_place, layer_of_place, column_of_place, column_placed, data_placed}
-use Rattle.cut_points.specs.Exposed.{IsToldCycle}
+use Rattle.sec_setup.specs.cut_points.Exposed.{IsToldCycle}
 
 -- the cell that a driver is, and the driver of a cell
 abbrev pub cell_of : Driver → Cell

@@ -7,7 +7,7 @@ use Rattle.flat_net.specs.View.{NetView}
 use Rattle.pair_gen.specs.Twins.{IsTwin}
 use Rattle.pair_gen.specs.Words.{words_of}
 use Rattle.outcome.specs.declared.verdict.Outcome.{Outcome}
-use Rattle.plain_check.specs.compare_base.Compared.{IsCompared}
+use Rattle.plain_check.specs.Compared.{IsCompared}
 use Rattle.job_base.specs.Ends.{EndsBy}
 use Rattle.job_base.specs.declared.finding.Finding.{Finding}
 use Rattle.job_base.specs.declared.finding.Finding.TheVariants as finding

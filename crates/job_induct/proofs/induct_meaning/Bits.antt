@@ -22,7 +22,7 @@ use Rattle.latch_blocks.specs.declared.variables.Variables.{Variables}
 use Rattle.induct_report.specs.block_graph.declared.nets.BlockNets.{BlockNets}
 use Rattle.induct_report.specs.block_graph.declared.graph.BlockGraph.{BlockGraph}
 use Rattle.induct_report.specs.block_graph.Graph.{IsBlockGraph}
-use Rattle.induct_report.specs.induct.Inductions.{variable_told}
+use Rattle.induct.specs.Inductions.{variable_told}
 use Rattle.job_induct.specs.induct_meaning.Answer.{shared_count, HaveBits}
 
 told_low : (first count v : ℕ) → v < first → variable_told first count v ≡ v

@@ -13,8 +13,8 @@ use Rattle.job_base.specs.declared.finding.Refusal.TheVariants as refusal
 use Rattle.job_base.specs.declared.finding.Finding.{Finding}
 use Rattle.job_base.specs.declared.finding.Finding.TheVariants as finding
 use Rattle.job_base.specs.Written.{status_of, judgement_status}
-use Rattle.job_files.proofs.Accepted.{is_short, has_no_fault, is_sound, has_good_records}
-use Rattle.job_files.proofs.Reading.{some_and, if_told}
+use Rattle.sec_files.proofs.job_files.Accepted.{is_short, has_no_fault, is_sound, has_good_records}
+use Rattle.sec_files.proofs.job_files.Reading.{some_and, if_told}
 use Rattle.job_induct.specs.induct_meaning.Found.{IsInductRefusal, IsInductFound}
 use Rattle.job_induct.specs.induct_meaning.Answer.{CanBeJudged, IsInductAnswer, IsInductComplete}
 

@@ -24,12 +24,12 @@ use Rattle.induct_report.specs.block_outputs.declared.answer.OutputAnswer.{Outpu
 use Rattle.induct_report.specs.block_outputs.declared.answer.OutputAnswer.TheVariants as answer
 use Rattle.induct_report.specs.block_outputs.declared.outputs.OutputPair.{OutputPair}
 use Rattle.induct_report.specs.block_outputs.Answers.{IsAnswer, IsOutputAnswer, IsShown}
-use Rattle.job_files.proofs.Reading.{some_and}
-use Rattle.induct_report.specs.induct.declared.induction.InductPair.{InductPair}
-use Rattle.induct_report.specs.induct.declared.induction.InductVerdict.{InductVerdict}
-use Rattle.induct_report.specs.induct.declared.induction.InductVerdict.TheVariants as verdict
-use Rattle.induct_report.specs.induct.declared.induction.Induction.{Induction}
-use Rattle.induct_report.specs.induct.Inductions.{pair_told, limit_or, first_limit, shown_or, first_shown, verdict_of, variable_told, AreOwnNumbers, IsOver, IsSplitLimitOf}
+use Rattle.sec_files.proofs.job_files.Reading.{some_and}
+use Rattle.induct.specs.declared.induction.InductPair.{InductPair}
+use Rattle.induct.specs.declared.induction.InductVerdict.{InductVerdict}
+use Rattle.induct.specs.declared.induction.InductVerdict.TheVariants as verdict
+use Rattle.induct.specs.declared.induction.Induction.{Induction}
+use Rattle.induct.specs.Inductions.{pair_told, limit_or, first_limit, shown_or, first_shown, verdict_of, variable_told, AreOwnNumbers, IsOver, IsSplitLimitOf}
 use Rattle.induct.proofs.ToldInside.{left_leaf, right_leaf}
 use Rattle.job_induct.specs.induct_meaning.Judged.{proofs_of, proofs_with}
 use Rattle.job_induct.specs.induct_meaning.Answer.{shared_count, HaveBits, TellApart, PairUndecided, SplitUndecided}

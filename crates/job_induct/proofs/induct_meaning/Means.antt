@@ -17,9 +17,9 @@ use Rattle.job_base.specs.declared.finding.Finding.TheVariants as finding
 use Rattle.job_base.specs.declared.status.StatusName.{StatusName}
 use Rattle.job_base.specs.declared.status.StatusName.TheVariants as status
 use Rattle.job_base.specs.Written.{judgement_status, IsWrittenAs}
-use Rattle.induct_report.specs.induct.declared.induction.InductVerdict.{InductVerdict}
-use Rattle.induct_report.specs.induct.declared.induction.InductVerdict.TheVariants as verdict
-use Rattle.induct_report.specs.induct.Inductions.{IsOver, IsSplitLimitOf}
+use Rattle.induct.specs.declared.induction.InductVerdict.{InductVerdict}
+use Rattle.induct.specs.declared.induction.InductVerdict.TheVariants as verdict
+use Rattle.induct.specs.Inductions.{IsOver, IsSplitLimitOf}
 use Rattle.job_induct.specs.induct_meaning.Judged.{judgement_of, IsJudged}
 use Rattle.job_induct.specs.induct_meaning.Found.{OfNets, IsInductFound}
 use Rattle.job_induct.specs.induct_meaning.Answer.{OfTexts, BlocksAgree, BlocksNotShown, BlocksUndecided, InductMeans}

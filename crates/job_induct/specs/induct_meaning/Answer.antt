@@ -20,9 +20,9 @@ use Rattle.induct_report.specs.block_outputs.Answers.{IsLimit}
 use Rattle.sec_files.specs.Loading.{IsAccepted, Loads, SpellsCircuit}
 use Rattle.job_base.specs.declared.status.StatusName.{StatusName}
 use Rattle.job_base.specs.declared.status.StatusName.TheVariants as status
-use Rattle.induct_report.specs.induct.declared.induction.InductVerdict.TheVariants as verdict
-use Rattle.induct_report.specs.induct.declared.induction.Induction.{Induction}
-use Rattle.induct_report.specs.induct.Inductions.{AreOwnNumbers, IsOver, IsInduction}
+use Rattle.induct.specs.declared.induction.InductVerdict.TheVariants as verdict
+use Rattle.induct.specs.declared.induction.Induction.{Induction}
+use Rattle.induct.specs.Inductions.{AreOwnNumbers, IsOver, IsInduction}
 use Rattle.induct_report.specs.Report.{induct_text}
 use Rattle.job_induct.specs.induct_meaning.Judged.{AreLight}
 

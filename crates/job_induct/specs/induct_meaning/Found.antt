@@ -10,9 +10,9 @@ use Rattle.job_base.specs.declared.finding.Refusal.{Refusal}
 use Rattle.job_base.specs.declared.finding.Refusal.TheVariants as refusal
 use Rattle.job_base.specs.declared.finding.Finding.{Finding}
 use Rattle.job_base.specs.declared.finding.Finding.TheVariants as finding
-use Rattle.job_files.specs.Reading.{IsLoaded}
-use Rattle.induct_report.specs.induct.declared.induction.InductError.TheVariants as refused
-use Rattle.induct_report.specs.induct.Inductions.{IsRefusal}
+use Rattle.sec_files.specs.job_files.Reading.{IsLoaded}
+use Rattle.induct.specs.declared.induction.InductError.TheVariants as refused
+use Rattle.induct.specs.Inductions.{IsRefusal}
 use Rattle.job_induct.specs.induct_meaning.Judged.{IsJudged}
 
 -- the paths that the comparison reads, in the order of their fetches

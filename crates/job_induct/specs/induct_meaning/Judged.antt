@@ -10,11 +10,11 @@ use Rattle.pair_decide.specs.declared.query.Proof.{Proof}
 use Rattle.latch_blocks.specs.Signals.{net_weight}
 use Rattle.job_base.specs.declared.finding.Judgement.{Judgement}
 use Rattle.job_base.specs.declared.finding.Judgement.TheVariants as judgement
-use Rattle.induct_report.specs.induct.declared.induction.InductPair.{InductPair}
-use Rattle.induct_report.specs.induct.declared.induction.InductVerdict.{InductVerdict}
-use Rattle.induct_report.specs.induct.declared.induction.InductVerdict.TheVariants as verdict
-use Rattle.induct_report.specs.induct.declared.induction.Induction.{Induction}
-use Rattle.induct_report.specs.induct.Inductions.{IsInduction}
+use Rattle.induct.specs.declared.induction.InductPair.{InductPair}
+use Rattle.induct.specs.declared.induction.InductVerdict.{InductVerdict}
+use Rattle.induct.specs.declared.induction.InductVerdict.TheVariants as verdict
+use Rattle.induct.specs.declared.induction.Induction.{Induction}
+use Rattle.induct.specs.Inductions.{IsInduction}
 use Rattle.induct_report.specs.Report.{induct_text}
 
 abbrev pub judgement_of : InductVerdict → Judgement

@@ -3,7 +3,7 @@ use Rattle.std.specs.Prelude.{map, string_bytes}
 use Rattle.std.proofs.Common.{subst, sym}
 use Rattle.std.proofs.lemmas.List.Elements.{All-weaker}
 use Rattle.command_line.specs.Jobs.{job_of}
-use Rattle.job_files.specs.Reading.{Held}
+use Rattle.sec_files.specs.job_files.Reading.{Held}
 use Rattle.sec_run.specs.Job.{paths_in}
 use Rattle.sec_run.specs.Answer.{IsFinding}
 use Rattle.sec_run.specs.Promises.{IsComplete}

@@ -31,8 +31,8 @@ use Rattle.pair_decide.specs.declared.query.Query.{Query}
 use Rattle.pair_decide.specs.Queries.{IsQuery, IsSame, IsLeast, Distinguishes, assigned_to, roots_of}
 use Rattle.shift_variables.specs.Sequences.{bits_at}
 use Rattle.shift_variables.specs.Variables.{variable_of, variables_of}
-use Rattle.cycle_variables.specs.Cycles.{GoesFirst, AreInCycles, IsCycleMerge}
-use Rattle.cycle_variables.proofs.MergeCycles.{cycle_apart}
+use Rattle.shift_variables.specs.cycle_variables.Cycles.{GoesFirst, AreInCycles, IsCycleMerge}
+use Rattle.shift_variables.proofs.cycle_variables.MergeCycles.{cycle_apart}
 use Rattle.reset_form.specs.reset_asked.Asked.{IsCycleQuery}
 use Rattle.outcome_fits.specs.ResetLimits.{HasValueOf}
 use Rattle.shift_variables.proofs.Assignments.{assigned_alike}

@@ -13,7 +13,7 @@ use Rattle.pair_decide.specs.declared.query.Query.{Query}
 use Rattle.aig.specs.declared.node.Node.{Node}
 use Rattle.interface.specs.declared.pairs.SignalPair.{SignalPair}
 use Rattle.sec_setup.specs.declared.setup.Setup.{Setup}
-use Rattle.cycle_variables.specs.Cycles.{AreInCycles}
+use Rattle.shift_variables.specs.cycle_variables.Cycles.{AreInCycles}
 use Rattle.reset_form.specs.reset_asked.Asked.{IsCycleQuery}
 use Rattle.reset_functions.specs.Pairs.{AreCyclesOf, IsTopOf}
 pub use Rattle.reset_functions.proofs.OwnPairs.{output_within, one_pair_depth}

@@ -8,7 +8,7 @@ use Rattle.pair_decide.specs.declared.query.Query.{Query}
 use Rattle.obligations.specs.declared.obligation.Obligation.{Obligation}
 use Rattle.interface.specs.declared.pairs.SignalPair.{SignalPair}
 use Rattle.sec_setup.specs.declared.setup.Setup.{Setup}
-use Rattle.cycle_variables.specs.Cycles.{IsCycleMerge}
+use Rattle.shift_variables.specs.cycle_variables.Cycles.{IsCycleMerge}
 use Rattle.reset_functions.specs.declared.bases.Bases.{Bases}
 use Rattle.reset_functions.specs.declared.functions.Functions.{Functions}
 use Rattle.reset_functions.specs.Pairs.{AreCyclesOf}

@@ -6,17 +6,17 @@ ghost use Rattle.sec_base.specs.Table.{AreDistinct};
 ghost use Rattle.aig.specs.Graph.{vars_of};
 ghost use Rattle.aig.specs.Values.{value};
 ghost use Rattle.pair_decide.specs.Queries.{assigned_to};
-ghost use Rattle.cycle_variables.specs.Cycles.{AreInCycles};
+ghost use Rattle.shift_variables.specs.cycle_variables.Cycles.{AreInCycles};
 ghost use Rattle.reset_form.specs.reset_asked.Sequences.{IsSequenceOf};
 
 use aig::Aig;
-use cycle_variables::cycle_rows;
 use obligations::copy_name;
 use outcome::{PairName, Stimulus, Witness};
 use pair_decide::Query;
 use reset_functions::Functions;
 use sec_base::{Bits, NoMemory, PlaceTable, Words};
 use shift_variables::bits_at;
+use shift_variables::cycle_variables::cycle_rows;
 use std::alloc::Global;
 
 /// The sequence of a pair of this name that ends in the cycle `last`, over the inputs of these names, with the values of both sides.

@@ -11,7 +11,7 @@ use Rattle.circuit_theory.specs.Tree.{Tree, AreNumbered, tree_value}
 use Rattle.circuit_theory.proofs.Inputs.{test_same}
 use Rattle.circuit_theory.proofs.Lists.{at_of, of_at, map-map, zip_right}
 use Rattle.circuit_laws.proofs.LawProofs.{numbers_are_shared}
-use Rattle.event_laws.proofs.EventVariables.{tree_same}
+use Rattle.circuit_laws.proofs.event_laws.EventVariables.{tree_same}
 use Rattle.flat_net.specs.View.{NetView, named, circuit_of, ports_of}
 use Rattle.flat_net.proofs.Nets.{sound_is_net, sound_names}
 use Rattle.sec_base.specs.declared.basics.PairAnswer.{PairAnswer}
@@ -25,18 +25,18 @@ use Rattle.outcome.specs.declared.verdict.Verdict.TheVariants as verdict
 use Rattle.outcome.specs.declared.verdict.Outcome.{Outcome}
 use Rattle.reset_laws.specs.Reset.{HasStarts, AreAlikeFromReset, TakesPower, MakesDifferFromReset}
 use Rattle.reset_laws.proofs.ResetAgreement.{reset_same_at, lt_true, lt_false}
-use Rattle.reset_nets.proofs.Starts.{nets_have_starts}
+use Rattle.reset_laws.proofs.reset_nets.Starts.{nets_have_starts}
 use Rattle.sec_setup.specs.Pairs.{NamedPair, named_pairs}
-use Rattle.plain_meaning.specs.outcome_fits.ResetOutcome.{Numbered}
-use Rattle.plain_meaning.proofs.CutPairs.{IsOutputPair, IsNextPair, one_output, pair_listed, listed_is}
+use Rattle.outcome_fits.specs.ResetOutcome.{Numbered}
+use Rattle.outcome_fits.proofs.plain_meaning.CutPairs.{IsOutputPair, IsNextPair, one_output, pair_listed, listed_is}
 use Rattle.assume_laws.specs.Assume.{Assumption, RowMeets, RunMeets, AreEqualFromResetUnder}
 use Rattle.assume_laws.specs.Sequences.{RowsMeet, filled}
 use Rattle.assume_laws.proofs.Care.{run_holds}
 use Rattle.assume_laws.proofs.Filled.{filled_at, shift_itself, left_leaves, right_leaves}
 use Rattle.assume_laws.proofs.PlainLaws.{equal_resets_agree_under}
 use Rattle.assume_laws.proofs.ResetFilled.{reset_witness_makes_differ_under}
-use Rattle.under_fits.specs.ResetVerdict.{AgreeAtUnder, AnswerFitsUnder, PairFitsUnder, IsFirstDifferenceUnder}
-use Rattle.under_fits.specs.ResetOutcome.{numbers_of, ResetOutcomeFitsUnder, ResetVerdictFitsUnder, MakesResetsDifferUnder}
+use Rattle.under_base.specs.under_fits.ResetVerdict.{AgreeAtUnder, AnswerFitsUnder, PairFitsUnder, IsFirstDifferenceUnder}
+use Rattle.under_base.specs.under_fits.ResetOutcome.{numbers_of, ResetOutcomeFitsUnder, ResetVerdictFitsUnder, MakesResetsDifferUnder}
 use Rattle.under_meaning.specs.under_reset_meaning.Laws.{AreNets, EqualResetsSayUnder, DifferentResetsShowUnder}
 use Rattle.under_meaning.proofs.under_reset_meaning.LeavesUnder.{powered_value}
 

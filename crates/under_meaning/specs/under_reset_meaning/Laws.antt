@@ -8,7 +8,7 @@ use Rattle.outcome.specs.declared.verdict.ResetWitness.{ResetWitness}
 use Rattle.outcome.specs.declared.verdict.Verdict.TheVariants as verdict
 use Rattle.assume_laws.specs.Assume.{Assumption, AgreeFromResetUnder}
 use Rattle.assume_laws.specs.Sequences.{RowsMeet}
-use Rattle.under_fits.specs.ResetOutcome.{ResetOutcomeFitsUnder, MakesResetsDifferUnder}
+use Rattle.under_base.specs.under_fits.ResetOutcome.{ResetOutcomeFitsUnder, MakesResetsDifferUnder}
 
 -- both nets are sound, and B's outputs have distinct names
 pub record AreNets (a b : NetView) : Type 0 where

@@ -1,7 +1,7 @@
 -- The query's places are few, and what is gathered has them.
 use Rattle.std.proofs.Common.{◌∙◌, ◌+◌, ◌-◌, ◌^◌, ◌<◌, min, ℕ, List, length, sym, ap, subst, arith}
 use Rattle.std.specs.List.{All}
-use Rattle.query_places.specs.Places.{AreGrouped, ArePlacesOf, ComeInTurn}
+use Rattle.shift_variables.specs.query_places.Places.{AreGrouped, ArePlacesOf, ComeInTurn}
 use Rattle.unfold_places.specs.Reach.{Adds}
 use Rattle.assume_places.specs.Gathered.{IsAmong}
 use Rattle.assume_places.specs.declared.gathered.QueryPlaces.{QueryPlaces}

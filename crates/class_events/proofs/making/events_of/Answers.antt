@@ -3,7 +3,7 @@ use Rattle.std.proofs.Common.{Err, List, sym, ap, subst}
 use Rattle.std.specs.Global.{Vec}
 use Rattle.std.proofs.lemmas.Result.{err_from_is_err_and}
 use Rattle.event_classes.specs.KeptApart.{Apart}
-use Rattle.pair_events.specs.View.{EventsView}
+use Rattle.event_agreement.specs.pair_events.View.{EventsView}
 use Rattle.class_events.specs.Made.{events_in, AreEnablesCounted}
 use Rattle.class_events.specs.Separated.{AreSeparated}
 use Rattle.class_events.proofs.Counted.{enables_counted}

@@ -6,7 +6,7 @@ use Rattle.event_classes.specs.Order.{place_of}
 use Rattle.event_classes.specs.KeptApart.{Apart}
 use Rattle.event_classes.specs.Apart.{IsApart, pairs_below}
 use Rattle.event_classes.specs.Named.{NamesLatches}
-use Rattle.pair_events.specs.View.{side_of_both}
+use Rattle.event_agreement.specs.pair_events.View.{side_of_both}
 use Rattle.class_events.proofs.Pairs.{pairs_are}
 use Rattle.class_events.proofs.separated.apart_at.Goals as goal
 

@@ -4,7 +4,7 @@ use Rattle.circuit_theory.specs.declared.Side.{Side}
 use Rattle.outcome.specs.declared.verdict.Outcome.{Outcome}
 use Rattle.outcome.specs.declared.verdict.Verdict.{Verdict}
 use Rattle.sec_setup.proofs.Uncut.{uncut}
-use Rattle.under_base.specs.compare_base.declared.error.CompareError.TheVariants as refused
+use Rattle.under_base.specs.declared.compare_base.error.CompareError.TheVariants as refused
 use Rattle.under_base.proofs.compare_base.Forms.{in_reset}
 use Rattle.under_base.specs.Compared.{ComparedUnder}
 use Rattle.compare_under.proofs.CutOutcomes.{over_shared, can_be_premise}

@@ -1,7 +1,7 @@
 -- What is taken, and the outcome where that wasn't decided.
 use Rattle.std.proofs.Common.{ℕ, List, sym, subst, arith, Err, inl}
 use Rattle.interface.proofs.Numbering.{few_shared}
-use Rattle.under_base.specs.compare_base.declared.error.CompareError.{CompareError}
+use Rattle.under_base.specs.declared.compare_base.error.CompareError.{CompareError}
 use Rattle.under_base.specs.assume_taken.Premises.{IsTaken}
 use Rattle.under_base.specs.assume_taken.Taken.{IsUndecidedBy}
 use Rattle.under_base.specs.Compared.{ComparedUnder}

@@ -2,7 +2,7 @@
 use Rattle.std.proofs.Common.{length, sym, subst, Ok, Err, inr}
 use Rattle.circuit_theory.specs.declared.Side.{Side}
 use Rattle.outcome.specs.declared.verdict.Outcome.{Outcome}
-use Rattle.under_base.specs.compare_base.declared.error.CompareError.TheVariants as refused
+use Rattle.under_base.specs.declared.compare_base.error.CompareError.TheVariants as refused
 use Rattle.under_base.proofs.compare_base.Forms.{in_always}
 use Rattle.under_base.specs.Compared.{ComparedUnder}
 use Rattle.compare_under.proofs.CutOutcomes.{over_shared, can_be_premise, circuit_too_large, assumption_too_large, outcome_is_compared_under}

@@ -1,6 +1,6 @@
 -- The class map is made; or why not.
 use Rattle.std.proofs.Common.{◌∙◌, refl, ap}
-use Rattle.event_names.proofs.compare_base.Refusals.{refused_by}
+use Rattle.event_names.proofs.under_base.compare_base.Refusals.{refused_by}
 use Rattle.event_names.specs.Named.{latch_names}
 use Rattle.event_answers.specs.Laws.{HaveClassesGiven}
 use Rattle.event_answers.specs.Reached.{ReachesPairs}

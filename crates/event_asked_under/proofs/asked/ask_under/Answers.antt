@@ -8,12 +8,12 @@ use Rattle.pair_decide.specs.declared.query.Query.{Query}
 use Rattle.obligations.specs.declared.obligation.Obligation.{Obligation}
 use Rattle.obligations.specs.Asked.{queries_of}
 use Rattle.class_queries.specs.Enables.{both_of}
-use Rattle.assume_shape.specs.Shape.{assumption_of}
+use Rattle.assume_laws.specs.assume_shape.Shape.{assumption_of}
 use Rattle.assume_queries.specs.assume_places.Gathered.{IsOverUnder, IsLightUnder}
 use Rattle.assume_queries.specs.declared.assume_answers.order.VariableOrder.TheVariants as order
 use Rattle.assume_queries.specs.assume_answers.Order.{AreOrdered}
 use Rattle.graph_copy.specs.graph_clone.Twins.{AreTwins}
-use Rattle.ranked_nodes.specs.Named.{ranked_in}
+use Rattle.event_variables.specs.ranked_nodes.Named.{ranked_in}
 use Rattle.event_asked_under.specs.Sides.{AreAligned, AreWithSides}
 use Rattle.event_asked_under.proofs.Paths.{named_apart}
 use Rattle.event_asked_under.proofs.Sums.{over_at_nodes, light_at_nodes}

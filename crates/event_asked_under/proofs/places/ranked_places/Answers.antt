@@ -4,7 +4,7 @@ use Rattle.std.proofs.lemmas.List.{take_all}
 use Rattle.std.proofs.lemmas.Option.{slice_get_within}
 use Rattle.circuit_theory.proofs.Lists.{length-map}
 use Rattle.flat_net.proofs.Places.{All-at}
-use Rattle.ranked_nodes.specs.Named.{ranked_in}
+use Rattle.event_variables.specs.ranked_nodes.Named.{ranked_in}
 use Rattle.event_asked_under.proofs.Tables.{next_ranked}
 use Rattle.event_asked_under.proofs.places.ranked_places.Goals as goal
 

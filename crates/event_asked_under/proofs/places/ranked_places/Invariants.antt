@@ -1,5 +1,5 @@
 use Rattle.std.proofs.Common.{◌≡◌, take}
-use Rattle.ranked_nodes.specs.Named.{ranked_in}
+use Rattle.event_variables.specs.ranked_nodes.Named.{ranked_in}
 use Rattle.event_asked_under.proofs.places.ranked_places.Given as goal
 
 abbrev pub invariant-loop-v : goal.invariant-loop-v

@@ -2,7 +2,7 @@
 use Rattle.std.proofs.Common.{List, refl, sym, subst}
 use Rattle.std.specs.List.{All}
 use Rattle.interface.specs.declared.pairs.SignalPair.{SignalPair}
-use Rattle.event_meaning.specs.compare_base.declared.error.CompareError.{CompareError}
+use Rattle.event_meaning.specs.event_meaning_under.CompareError.{CompareError}
 use Rattle.event_answers.specs.Asked.{IsPairOf}
 use Rattle.event_answers.specs.Finding.{AreNotUnfolded, IsNamedFound, refusal_of}
 use Rattle.event_answers.proofs.Finding.{not_unfolded}

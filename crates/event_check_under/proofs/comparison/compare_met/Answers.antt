@@ -1,11 +1,11 @@
 -- The limit of an enable or of a class, or what is refused before the pairs.
 use Rattle.std.proofs.Common.{◌+◌, ℕ, List, length, Some, Ok, sym, ap, subst, inr}
-use Rattle.event_answers_under.proofs.compare_base.Refusals.{refused_by}
+use Rattle.event_names.proofs.under_base.compare_base.Refusals.{refused_by}
 use Rattle.event_answers_under.specs.assume_taken.Premises.{IsPremiseOf}
 use Rattle.event_answers.specs.Reached.{ReachesPairs}
 use Rattle.event_answers.specs.declared.reaching.Reached.{Reached}
 use Rattle.event_answers.proofs.Told.{limit_at, told_outcome}
-use Rattle.event_answers_under.specs.Answered.{ComparedInEventsUnder, IsComparedInEventsUnder}
+use Rattle.event_meaning.specs.event_meaning_under.Answered.{ComparedInEventsUnder, IsComparedInEventsUnder}
 use Rattle.event_answers_under.proofs.Answering.{limit_compared, met}
 use Rattle.event_answers_under.proofs.Refusals.{refused_under}
 use Rattle.event_answers_under.specs.under_base.Met.{shared_by}

@@ -1,7 +1,7 @@
 -- What is found, or why the pairs can't be compared.
 use Rattle.std.proofs.Common.{length, refl, sym, subst, Err}
 use Rattle.std.specs.List.{All}
-use Rattle.event_answers_under.specs.compare_base.declared.error.CompareError.{CompareError}
+use Rattle.event_meaning.specs.event_meaning_under.CompareError.{CompareError}
 use Rattle.event_answers.specs.Asked.{IsPairOf}
 use Rattle.event_answers.specs.Finding.{IsNamedFound}
 use Rattle.event_answers_under.specs.Pairs.{FindsPairsUnder}

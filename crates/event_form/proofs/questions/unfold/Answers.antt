@@ -1,9 +1,9 @@
 -- What was made, as it is told.
-use Rattle.pair_events.specs.event_nodes.Nodes.{GrowsEvents}
-use Rattle.pair_events.specs.Functions.{IsEventFunction}
-use Rattle.pair_events.proofs.Unfolding.{on_ok}
-use Rattle.pair_events.specs.Counted.{GoOnCounting}
-use Rattle.pair_events.specs.View.{IsWithinLimits, side_of_both, signal_at}
+use Rattle.event_agreement.specs.event_nodes.Nodes.{GrowsEvents}
+use Rattle.event_agreement.specs.event_pairs.Functions.{IsEventFunction}
+use Rattle.event_agreement.proofs.pair_events.Unfolding.{on_ok}
+use Rattle.event_agreement.specs.pair_events.Counted.{GoOnCounting}
+use Rattle.event_agreement.specs.pair_events.View.{IsWithinLimits, side_of_both, signal_at}
 use Rattle.event_form.specs.Asked.{IsLater}
 use Rattle.event_form.proofs.Asking.{later_by}
 use Rattle.event_form.proofs.Refusing.{told_if, told_on, told_many, told_large, signal_refused}

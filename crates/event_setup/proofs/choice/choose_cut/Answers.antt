@@ -1,8 +1,8 @@
 -- The minimal cut that is chosen, or the cycle that is told.
 use Rattle.std.proofs.Common.{Err, subst}
 use Rattle.circuit_theory.specs.declared.Mode.TheVariants.{Event}
-use Rattle.cut_points.specs.declared.exposed.ExposeError.{ExposeError}
-use Rattle.cut_points.specs.Exposed.{Exposes}
+use Rattle.sec_setup.specs.declared.cut_points.exposed.ExposeError.{ExposeError}
+use Rattle.sec_setup.specs.cut_points.Exposed.{Exposes}
 use Rattle.event_setup.proofs.Choices.{cut_chosen, unpaired}
 use Rattle.event_setup.proofs.choice.choose_cut.Goals as goal
 

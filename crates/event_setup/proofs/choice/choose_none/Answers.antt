@@ -1,6 +1,6 @@
 -- No net has a cycle, and no latch is chosen.
 use Rattle.std.proofs.Common.{◌≡◌, false, [], sym, subst}
-use Rattle.cut_points.specs.declared.exposed.Exposure.{Exposure}
+use Rattle.sec_setup.specs.declared.cut_points.exposed.Exposure.{Exposure}
 use Rattle.event_setup.specs.Choosing.{AreChosen, IsCycleOf}
 use Rattle.event_setup.proofs.Choices.{none_chosen}
 use Rattle.event_setup.proofs.choice.choose_none.Goals as goal

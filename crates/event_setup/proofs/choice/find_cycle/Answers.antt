@@ -1,6 +1,6 @@
 use Rattle.std.proofs.Common.{List, [], ℕ, sym, subst}
 use Rattle.circuit_theory.specs.declared.Mode.TheVariants.{Event}
-use Rattle.cut_points.specs.Exposed.{IsToldCycle}
+use Rattle.sec_setup.specs.cut_points.Exposed.{IsToldCycle}
 use Rattle.event_setup.proofs.Choices.{told_cycle, acyclic_graph}
 use Rattle.event_setup.proofs.choice.find_cycle.Goals as goal
 

@@ -1,6 +1,6 @@
 -- The variable's input, and the steps to its event node.
 use Rattle.std.proofs.Common.{◌≤◌, ℕ, length, refl}
-use Rattle.event_nodes.proofs.Places.{All-at}
+use Rattle.flat_net.proofs.Places.{All-at}
 use Rattle.event_form.proofs.Telling.{tells}
 use Rattle.event_shown_under.proofs.frames.bit_at.Goals as goal
 

@@ -6,7 +6,7 @@ use Rattle.circuit_theory.specs.Query.{Variable}
 use Rattle.event_nodes.specs.Nodes.{path_of}
 use Rattle.event_variables.specs.Variables.{variable_of}
 use Rattle.event_variables.proofs.NodePaths.{variable_is}
-use Rattle.frame_sequences.specs.Frames.{AreAlwaysSteps}
+use Rattle.event_variables.specs.frame_sequences.Frames.{AreAlwaysSteps}
 use Rattle.event_shown_under.proofs.Shifts.{AreSteps, next_never, next_steps}
 use Rattle.event_shown_under.proofs.steps.steps_of.Goals as goal
 use Rattle.event_shown_under.proofs.steps.steps_of.Goals.{in-Some+in_ok-push, in_default}

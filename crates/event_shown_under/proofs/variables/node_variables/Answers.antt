@@ -2,7 +2,7 @@
 use Rattle.std.proofs.Common.{◌≡◌, ℕ, ◌<◌, ◌≤◌, List, length, get_or, slice_get, Some, sym, ap, subst, arith}
 use Rattle.std.proofs.lemmas.Option.{slice_get-get_or}
 use Rattle.event_nodes.specs.Nodes.{EventGraphView}
-use Rattle.event_nodes.proofs.Places.{All-at}
+use Rattle.flat_net.proofs.Places.{All-at}
 use Rattle.event_shown_under.proofs.Making.{next_made}
 use Rattle.event_shown_under.proofs.variables.node_variables.Goals as goal
 

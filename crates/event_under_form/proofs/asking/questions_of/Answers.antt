@@ -2,8 +2,8 @@
 use Rattle.std.proofs.Common.{sym, subst}
 use Rattle.std.specs.List.{All}
 use Rattle.event_nodes.specs.Nodes.{EventGraphView}
-use Rattle.pair_events.specs.Laws.{AreKept}
-use Rattle.pair_events.specs.View.{side_of_both}
+use Rattle.event_agreement.specs.pair_events.Laws.{AreKept}
+use Rattle.event_agreement.specs.pair_events.View.{side_of_both}
 use Rattle.event_form.specs.Asked.{AreAsked}
 use Rattle.event_witness_under.specs.Questions.{IsOneOver}
 use Rattle.event_under_form.specs.Asked.{AreAskedAssumed}

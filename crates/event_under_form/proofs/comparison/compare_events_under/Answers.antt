@@ -2,7 +2,7 @@
 use Rattle.std.proofs.Common.{◌≡◌, ℕ, Err, refl, sym, ap, subst}
 use Rattle.circuit_theory.specs.Joined.{Either}
 use Rattle.circuit_theory.specs.Frame.{EventSide}
-use Rattle.pair_events.specs.View.{side_of_both}
+use Rattle.event_agreement.specs.pair_events.View.{side_of_both}
 use Rattle.event_form.specs.Asked.{AreAsked}
 use Rattle.event_findings.specs.Separated.{AreSeparated}
 use Rattle.event_findings.proofs.Telling.{separated_stay}

@@ -5,7 +5,7 @@ use Rattle.sec_base.specs.declared.basics.PairAnswer.TheVariants as answer
 use Rattle.event_nodes.specs.Nodes.{EventGraphView}
 use Rattle.event_form.specs.Counted.{left_starts, right_starts}
 use Rattle.event_form.proofs.Refusing.{error_is, memory_refused, ok_refused}
-use Rattle.pair_events.specs.View.{side_of_both}
+use Rattle.event_agreement.specs.pair_events.View.{side_of_both}
 use Rattle.event_findings.specs.Reached.{BothReachAlways}
 use Rattle.event_findings.specs.Separations.{AreToldApart, AreToldFor}
 use Rattle.event_comparison.proofs.Showing.{refused_for_all, stay_counted}

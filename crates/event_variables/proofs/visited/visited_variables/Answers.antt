@@ -2,7 +2,7 @@
 use Rattle.std.proofs.Common.{◌∙◌, ◌<◌, ◌≤◌, ℕ, length, refl, sym, ap, subst, arith}
 use Rattle.std.proofs.lemmas.Option.{slice_get_within}
 use Rattle.circuit_theory.proofs.Lists.{All-from_each}
-use Rattle.event_nodes.proofs.flat_net.Places.{All-at}
+use Rattle.flat_net.proofs.Places.{All-at}
 use Rattle.event_nodes.specs.Nodes.{EventGraphView}
 use Rattle.event_nodes.proofs.Growing.{grows_refl, grows_trans}
 use Rattle.event_variables.specs.Order.{IsOrderOf}

@@ -2,7 +2,7 @@
 use Rattle.std.proofs.Common.{◌≢◌, ◌∙◌, ◌*◌, ◌<◌, ℕ, List, [], ◌∷◌, length, sym, ap, subst}
 use Rattle.std.specs.List.{AllPairs}
 use Rattle.aig.specs.declared.node.Node.{Node}
-use Rattle.cone_values.specs.lane_eval.Tables.{Covers}
+use Rattle.class_separations.specs.cone_values.lane_eval.Tables.{Covers}
 use Rattle.event_witness.proofs.Covering.{bit_told}
 use Rattle.event_witness.proofs.sides.side_of.Goals as goal
 

@@ -3,7 +3,7 @@ use Rattle.std.proofs.Common.{◌∙◌, ℕ, Bool, List, length, refl, sym, ap,
 use Rattle.sec_base.specs.Table.{AreDistinct}
 use Rattle.circuit_theory.specs.EventFrames.{frame_of}
 use Rattle.circuit_theory.specs.Frame.{bits_as_shifts}
-use Rattle.frame_sequences.specs.event_variables.Variables.{variables_of}
+use Rattle.event_variables.specs.Variables.{variables_of}
 use Rattle.event_witness.specs.Sequences.{AreSidesOf}
 use Rattle.event_witness.proofs.Told.{rows_fit, rows_told}
 use Rattle.event_witness.proofs.witness.witness_of.Goals as goal

@@ -4,8 +4,8 @@ use Rattle.sec_base.specs.Outside.{Rose}
 use Rattle.job_base.specs.declared.finding.Finding.{Finding}
 use Rattle.job_base.specs.declared.finding.Stop.{Stop}
 use Rattle.sec_files.specs.Stimuli.{IsStimulus}
-use Rattle.job_files.specs.Reading.{ReadFailed}
-use Rattle.job_files.proofs.Reading.{first_failed, is_loaded}
+use Rattle.sec_files.specs.job_files.Reading.{ReadFailed}
+use Rattle.sec_files.proofs.job_files.Reading.{first_failed, is_loaded}
 use Rattle.job_circuit.specs.Reports.{IsSimFound}
 use Rattle.job_circuit.specs.Ends.{SimFound}
 use Rattle.job_circuit.proofs.OneCircuit.{circuit_ends, sim_circuit, run_ends, stimulus_ends}

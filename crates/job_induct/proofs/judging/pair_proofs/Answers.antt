@@ -3,7 +3,7 @@ use Rattle.std.specs.List.{filter_map}
 use Rattle.std.proofs.Common.{◌≡◌, List, [], ◌∷◌, ◌++◌, refl, sym, ◌∙◌, ap, Option, Some, None}
 use Rattle.std.proofs.lemmas.List.Elements.{filter_map-append}
 use Rattle.pair_decide.specs.declared.query.Proof.{Proof}
-use Rattle.induct_report.specs.induct.declared.induction.InductPair.{InductPair}
+use Rattle.induct.specs.declared.induction.InductPair.{InductPair}
 use Rattle.job_induct.proofs.judging.pair_proofs.Goals as goal
 
 -- the proof, if any, of one output

@@ -1,6 +1,6 @@
 use Rattle.std.specs.List.{filter_map}
 use Rattle.std.proofs.Common.{◌≡◌}
-use Rattle.induct_report.specs.induct.declared.induction.InductPair.{InductPair}
+use Rattle.induct.specs.declared.induction.InductPair.{InductPair}
 use Rattle.job_induct.proofs.judging.pair_proofs.Given as goal
 
 abbrev pub invariant-loop-pair : goal.invariant-loop-pair

@@ -8,7 +8,7 @@ use Rattle.obligations.specs.Asked.{queries_of}
 use Rattle.assume_queries.specs.declared.assume_answers.order.VariableOrder.TheVariants as order
 use Rattle.assume_queries.specs.assume_answers.Order.{AreOrdered}
 use Rattle.assume_queries.specs.assume_places.Gathered.{IsOverUnder, IsLightUnder}
-use Rattle.assume_shape.specs.Shape.{assumption_of}
+use Rattle.assume_laws.specs.assume_shape.Shape.{assumption_of}
 use Rattle.assume_queries.specs.assume_answers.Under.{IsObligationUnder}
 use Rattle.plain_asked.specs.declared.functions.Functions.{Functions}
 use Rattle.plain_asked.specs.Pairs.{Unfolds, AreFunctions, AreLight, left_signals, right_signals}

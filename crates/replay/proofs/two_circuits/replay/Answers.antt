@@ -3,8 +3,8 @@ use Rattle.std.specs.Prelude.{IsErrAnd}
 use Rattle.circuit_theory.specs.declared.Mode.{Mode}
 use Rattle.flat_net.specs.View.{NetView}
 use Rattle.replay.specs.declared.differences.Replayed.{Replayed}
-use Rattle.replay_header.specs.declared.error.ReplayError.{ReplayError}
-use Rattle.replay_header.specs.declared.error.ReplayError.TheVariants as refused
+use Rattle.replay.specs.declared.replay_header.error.ReplayError.{ReplayError}
+use Rattle.replay.specs.declared.replay_header.error.ReplayError.TheVariants as refused
 use Rattle.replay.specs.Replay.{Replays}
 use Rattle.replay.proofs.two_circuits.replay.Goals as goal
 

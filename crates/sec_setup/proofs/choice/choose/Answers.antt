@@ -1,6 +1,6 @@
 -- No latch graph has a cycle, and no latch is chosen.
 use Rattle.std.proofs.Common.{◌≡◌, Bool, [], sym, subst}
-use Rattle.cut_points.specs.declared.exposed.Exposure.{Exposure}
+use Rattle.sec_setup.specs.declared.cut_points.exposed.Exposure.{Exposure}
 use Rattle.sec_setup.specs.Choosing.{IsChosen}
 use Rattle.sec_setup.specs.Cycles.{IsCycleOf}
 use Rattle.sec_setup.proofs.Uncut.{none_chosen}

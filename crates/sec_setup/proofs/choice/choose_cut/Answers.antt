@@ -3,9 +3,9 @@ use Rattle.std.proofs.Common.{◌≡◌, Bool, true, false, List, ℕ, Err, sym,
 use Rattle.circuit_theory.specs.declared.Mode.TheVariants.{Plain}
 use Rattle.circuit_theory.specs.declared.Side.{Side}
 use Rattle.circuit_theory.specs.declared.Side.TheVariants.{A, B}
-use Rattle.cut_points.specs.declared.exposed.ExposeError.{ExposeError}
-use Rattle.cut_points.specs.declared.exposed.ExposeError.TheVariants as expose_error
-use Rattle.cut_points.specs.Exposed.{Exposes}
+use Rattle.sec_setup.specs.declared.cut_points.exposed.ExposeError.{ExposeError}
+use Rattle.sec_setup.specs.declared.cut_points.exposed.ExposeError.TheVariants as expose_error
+use Rattle.sec_setup.specs.cut_points.Exposed.{Exposes}
 use Rattle.interface.specs.flat_net.View.{NetView}
 use Rattle.sec_setup.specs.declared.error.SetupError.TheVariants as setup_error
 use Rattle.sec_setup.specs.Choosing.{Chosen}

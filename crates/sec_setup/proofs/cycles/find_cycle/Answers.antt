@@ -1,7 +1,7 @@
 use Rattle.sec_setup.proofs.ToldCycles.{told_cycle, acyclic_graph}
 use Rattle.std.proofs.Common.{List, [], ℕ, sym, subst}
 use Rattle.circuit_theory.specs.declared.Mode.TheVariants.{Plain}
-use Rattle.cut_points.specs.Exposed.{IsToldCycle}
+use Rattle.sec_setup.specs.cut_points.Exposed.{IsToldCycle}
 use Rattle.sec_setup.proofs.cycles.find_cycle.Goals as goal
 
 pub returns-in-Some : goal.returns-in-Some

@@ -1,7 +1,7 @@
 use Rattle.std.proofs.Common.{◌∙◌, ◌∷◌, [], ℕ, List, take, length, get_or, Some, refl, sym, ap, subst, arith}
 use Rattle.flat_net.specs.Makes.{MakerView}
 use Rattle.aiger_records.specs.declared.record.Record.TheVariants.{Input}
-use Rattle.aiger_graph.specs.Circuit.{input_of, input_literals}
+use Rattle.aiger_file.specs.aiger_graph.Circuit.{input_of, input_literals}
 use Rattle.std.proofs.lemmas.List.{length-append}
 use Rattle.aiger_file.specs.Names.{name_of}
 use Rattle.aiger_read.specs.Made.{IsMade}

@@ -6,7 +6,7 @@ use Rattle.circuit_theory.proofs.Lists.{of_at}
 use Rattle.unfold_places.specs.declared.signal_function.Unfolded.{Unfolded}
 use Rattle.interface.specs.declared.pairs.SignalPair.{SignalPair}
 use Rattle.shift_variables.proofs.Reading.{item_at}
-use Rattle.cycle_variables.specs.Cycles.{AreInCycles}
+use Rattle.shift_variables.specs.cycle_variables.Cycles.{AreInCycles}
 use Rattle.reset_form.specs.reset_asked.Asked.{AskedOf, AreCycleQueries}
 use Rattle.reset_functions.specs.Pairs.{AreCyclesOf}
 use Rattle.reset_functions.proofs.OwnPairs.{own_pairs}

@@ -5,7 +5,7 @@ use Rattle.flat_net.proofs.Growth.{length-push}
 use Rattle.flat_net.proofs.Places.{All-at}
 use Rattle.unfold_places.specs.declared.signal_function.Unfolded.{Unfolded}
 use Rattle.shift_variables.proofs.Reading.{item_at}
-use Rattle.cycle_variables.specs.Cycles.{AreInCycles}
+use Rattle.shift_variables.specs.cycle_variables.Cycles.{AreInCycles}
 use Rattle.reset_form.proofs.reset_asked.PairAt.{query_next}
 use Rattle.reset_form.proofs.reset_asked.questions.queries_of.Goals as goal
 

@@ -1,6 +1,0 @@
-//! The circuit of a file in the AIGER formats, what its literals read, and an order of them, or a loop of gates.
-#![tactic(auto)]
-
-mod graph;
-
-pub use graph::{Ordered, order_literals};

@@ -1,0 +1,5 @@
+use Rattle.circuit_laws.proofs.event_laws.OneClassMap.{classes_are_one_in_nets}
+use Rattle.circuit_laws.proofs.event_laws.laws.classes_are_one.Goals as goal
+
+pub returns : goal.returns
+returns c = classes_are_one_in_nets

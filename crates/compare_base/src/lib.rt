@@ -1,6 +1,0 @@
-//! What a comparison of two circuits answers, and what each answer says of them; how the answers are found is no matter here.
-#![tactic(auto)]
-
-mod error;
-
-pub use error::CompareError;

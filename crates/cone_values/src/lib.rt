@@ -1,6 +1,0 @@
-//! The value of one literal under one assignment, over the literal's cone alone.
-#![tactic(auto)]
-
-mod value;
-
-pub use value::value_in_cone;

@@ -1,4 +1,0 @@
-//! The laws of the event form, for circuits with latches that have a load enable, with their lemmas.
-#![tactic(auto)]
-
-pub mod laws;

@@ -1,5 +1,0 @@
-use Rattle.event_samples.proofs.AssumedDifference.{meeting_difference, never_is_assumption, never_unfolds, never_met}
-use Rattle.event_samples.proofs.samples.met_and_not_met.Goals as goal
-
-pub returns : goal.returns
-returns c = record { met = meeting_difference; assumption = never_is_assumption; unfolds = never_unfolds; never = never_met }

@@ -1,4 +1,0 @@
-//! Small pairs of circuits that meet the premises of the laws, and what the laws then say of them.
-#![tactic(auto)]
-
-pub mod samples;

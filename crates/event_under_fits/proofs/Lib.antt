@@ -1,3 +1,0 @@
-pub use Rattle.event_findings.proofs.event_agreement
-pub use Rattle.event_findings.proofs.event_witness
-pub use Rattle.event_under.proofs as event_under

@@ -1,5 +1,0 @@
-pub mod Findings
-pub use Rattle.event_findings.specs as event_findings
-pub use Rattle.event_findings.specs.event_witness
-pub use Rattle.event_findings.specs.pair_events
-pub use Rattle.event_under.specs as event_under

@@ -1,3 +1,0 @@
-pub mod Deciding
-pub mod EnabledDecided
-pub use Rattle.circuit_laws.proofs as circuit_laws

@@ -1,4 +1,0 @@
-//! What is decided of a flat net by trying all values of its inputs and latches.
-#![tactic(auto)]
-
-pub mod laws;

@@ -1,3 +1,0 @@
-pub mod Steps
-pub mod Filling
-pub use Rattle.event_variables.proofs as event_variables

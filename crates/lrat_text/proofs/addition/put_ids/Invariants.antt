@@ -1,7 +1,0 @@
-use Rattle.std.proofs.Common.{◌≡◌, ◌++◌, take, map}
-use Rattle.lrat_text.specs.Spellings.{id_of}
-use Rattle.lrat_text.proofs.addition.put_ids.Given as goal
-
--- the numbers so far
-abbrev pub invariant-loop-number : goal.invariant-loop-number
-invariant-loop-number l = l.ids.items ≡ l.fn.ids.items ++ map id_of (take l.number-index l.numbers)

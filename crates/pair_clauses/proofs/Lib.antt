@@ -1,7 +1,0 @@
-pub use Rattle.compare_base.proofs.ToldCycles
-pub mod Refused
-pub mod Outputs
-pub mod Places
-pub mod Differing
-pub mod Few
-pub mod Given

@@ -1,6 +1,0 @@
-use Rattle.std.proofs.Common.{take}
-use Rattle.query_places.specs.Places.{ArePlacesOf, ComeInTurn}
-use Rattle.query_places.proofs.places.places_of.Given as goal
-
-abbrev pub invariant-loop-i : goal.invariant-loop-i
-invariant-loop-i l = record { are : ArePlacesOf l.table (take l.i l.vars) l.places.items; turn : ComeInTurn l.table l.vars l.places.items }

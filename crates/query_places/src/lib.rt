@@ -1,8 +1,0 @@
-//! The places at which a query reads inputs: the shifts or cycles of its variables.
-#![tactic(auto)]
-
-mod laws;
-mod places;
-
-pub use laws::variables_are_grouped;
-pub use places::places_of;

@@ -1,8 +1,0 @@
-use Rattle.std.proofs.Common.{◌≡◌, take}
-use Rattle.std.specs.List.{filter}
-use Rattle.name_tables.specs.Names.{latch_names}
-use Rattle.replay_header.specs.Header.{is_opened}
-use Rattle.replay_header.proofs.opened_latches.opened_names.Given as goal
-
-abbrev pub invariant-loop-latch : goal.invariant-loop-latch
-invariant-loop-latch l = l.names ≡ filter (is_opened l.a l.b l.header) (take l.latch-index (latch_names l.a))

@@ -1,0 +1,3 @@
+//! The laws of reset runs, for nets.
+
+pub mod laws;

@@ -1,4 +1,0 @@
-//! The laws of reset runs, for nets.
-#![tactic(auto)]
-
-pub mod laws;

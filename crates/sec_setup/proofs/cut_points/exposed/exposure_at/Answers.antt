@@ -1,0 +1,15 @@
+use Rattle.std.proofs.Common.{◌≡◌, ◌<◌, ◌∙◌, ℕ, length, take, sym, ap, subst, arith}
+use Rattle.std.proofs.Math.Seq.{take-length}
+use Rattle.std.specs.List.{All}
+use Rattle.minimal_cut.specs.Chosen.{at_places}
+use Rattle.sec_setup.specs.cut_points.expose_pick.Pairs.{lefts}
+use Rattle.sec_setup.proofs.cut_points.Exposures.{lefts_within}
+use Rattle.sec_setup.proofs.cut_points.exposed.exposure_at.Goals as goal
+
+pub names_at-requires : goal.names_at-requires
+names_at-requires c =
+    let n = length c.args.a.now.latches in
+    let end : c.loop-place.place-index ≡ length c.args.places.now = omega arith in
+    let all : take c.loop-place.place-index c.args.places.now ≡ c.args.places.now = ap (λ (i : ℕ). take i c.args.places.now) end ∙ take-length c.args.places.now in
+    let left = c.as_slice.ensures ∙ c.loop-place.invariant.left ∙ ap (at_places (lefts c.args.common.now)) all in
+    subst (All (λ (j : ℕ). j < n)) (sym left) (lefts_within n c.args.common.now c.requires.common c.args.places.now c.requires.places)

@@ -1,0 +1,72 @@
+//! The choice of the latches that are exposed.
+
+ghost use Rattle.std.specs.Prelude.{◌≡◌, ◌≢◌, ◌<◌, All, length, IfOk, OnOk, IfErr};
+ghost use Rattle.std.specs.List.{AllPairs};
+ghost use Rattle.latch_graph.specs.sec_base.Table.{AreDistinct};
+ghost use Rattle.minimal_cut.specs.Chosen.{IsFree, IsMinimalChoice};
+ghost use Rattle.sec_setup.specs.cut_points.expose_pick.Pairs.{lefts, rights};
+ghost use Rattle.sec_setup.specs.cut_points.expose_pick.Refused.{Refuses};
+
+use crate::cut_points::expose_pick::error::PickError;
+use crate::cut_points::expose_pick::pairs::{LatchPairs, lefts_of, rights_of};
+use crate::cut_points::expose_pick::remaining_cycle::cycle_left;
+use latch_graph::{Ids, LatchGraph, NoMemory, Side};
+use minimal_cut::chosen;
+use std::alloc::Global;
+
+/// The places of pairs whose latches are a minimal cut, in increasing order: no cycle is left in either graph without
+/// these latches, and without one of them fewer there is a cycle in one of the graphs. `Unpaired` comes exactly where a
+/// cycle is left without the latches of all pairs, the first graph's before the second's. No latch stands in two pairs.
+pub fn pick(
+    alloc: Global,
+    a: &LatchGraph,
+    b: &LatchGraph,
+    common: &LatchPairs,
+) -> Result<Ids, PickError>
+    requires left { All (λ p. p.left < length a.now.latches) common.now }
+    requires right { All (λ p. p.right < length b.now.latches) common.now }
+    requires left_once { AllPairs (λ p q. p.left ≢ q.left) common.now }
+    requires right_once { AllPairs (λ p q. p.right ≢ q.right) common.now }
+    ensures minimal { IfOk result (IsMinimalChoice a.now b.now (lefts common.now) (rights common.now)) }
+    ensures left_paired { OnOk result (IsFree a.now (lefts common.now)) }
+    ensures right_paired { OnOk result (IsFree b.now (rights common.now)) }
+    ensures unpaired { IfErr result (Refuses a.now b.now (lefts common.now) (rights common.now)) }
+{
+    let left = lefts_of(alloc, common.as_slice())?;
+    let right = rights_of(alloc, common.as_slice())?;
+    if let Some(cycle) = cycle_left(alloc, a, left.as_slice())? {
+        return Err(PickError::Unpaired {
+            side: Side::A,
+            cycle,
+        });
+    }
+    if let Some(cycle) = cycle_left(alloc, b, right.as_slice())? {
+        return Err(PickError::Unpaired {
+            side: Side::B,
+            cycle,
+        });
+    }
+    let places = cut_of(alloc, a, b, left.as_slice(), right.as_slice())?;
+    Ok(places)
+}
+
+/// The places of pairs whose latches are a minimal cut, where without all of them no cycle is left.
+fn cut_of(
+    alloc: Global,
+    a: &LatchGraph,
+    b: &LatchGraph,
+    lefts: &[u32],
+    rights: &[u32],
+) -> Result<Ids, NoMemory>
+    requires left { All (λ j. j < length a.now.latches) lefts.now }
+    requires right { All (λ j. j < length b.now.latches) rights.now }
+    requires left_once { AreDistinct lefts.now }
+    requires right_once { AreDistinct rights.now }
+    requires pairs { length rights.now ≡ length lefts.now }
+    requires left_free { IsFree a.now lefts.now }
+    requires right_free { IsFree b.now rights.now }
+    ensures { IfOk result (IsMinimalChoice a.now b.now lefts.now rights.now) }
+{
+    let places = chosen(alloc, a.signals(), b.signals(), lefts, rights)?;
+    Ok(places)
+}

@@ -1,0 +1,68 @@
+-- One number goes behind, or one that both lists have, and at the end what is left of one list.
+use Rattle.std.proofs.Common.{◌≡◌, ◌+◌, ◌∙◌, ℕ, List, ◌++◌, drop, get_or, sym, ap, subst, arith, inl, inr}
+use Rattle.shift_variables.specs.cycle_variables.Cycles.{IsCycleMerge}
+use Rattle.shift_variables.proofs.cycle_variables.MergeCycles.{Rest, rest_less, rest_equal, rest_greater, rest_done}
+use Rattle.shift_variables.proofs.Reading.{number_at, rest_from}
+use Rattle.shift_variables.proofs.cycle_variables.merge.merge_cycles.Goals as goal
+use Rattle.shift_variables.proofs.cycle_variables.merge.merge_cycles.Goals.{then-loop-i-test+else-j-right, else-loop-i-test}
+
+pub loop-i-preserved-in-Less : goal.loop-i-preserved-in-Less
+loop-i-preserved-in-Less c =
+    let left = c.args.left.now in
+    let right = c.args.right.now in
+    let i = c.loop-i.i in
+    let j = c.loop-i.j in
+    record {
+      left_in = omega (arith, c.loop-i-test.true);
+      right_in = c.loop-i.invariant.right_in;
+      rest =
+          subst (Rest c.args.places.now left right (i + 1) j) (sym {A = List ℕ} c.in_ok-push-in-Less.ensures.items)
+          (rest_less c.args.places.now left right c.requires.left.ordered c.requires.right.ordered i j (get_or left i 0) (get_or right j 0) c.loop-i.merged.items
+          (number_at left i 0 c.loop-i-test.true) (number_at right j 0 c.if-j-right.true) c.in-Less.ensures c.loop-i.invariant.rest);
+    }
+
+pub loop-i-preserved-in-Equal : goal.loop-i-preserved-in-Equal
+loop-i-preserved-in-Equal c =
+    let left = c.args.left.now in
+    let right = c.args.right.now in
+    let i = c.loop-i.i in
+    let j = c.loop-i.j in
+    record {
+      left_in = omega (arith, c.loop-i-test.true);
+      right_in = omega (arith, c.if-j-right.true);
+      rest =
+          subst (Rest c.args.places.now left right (i + 1) (j + 1)) (sym {A = List ℕ} c.in_ok-push-in-Equal.ensures.items)
+          (rest_equal c.args.places.now left right c.requires.left.ordered c.requires.right.ordered i j (get_or left i 0) (get_or right j 0) c.loop-i.merged.items
+          (number_at left i 0 c.loop-i-test.true) (number_at right j 0 c.if-j-right.true) c.in-Equal.ensures c.loop-i.invariant.rest);
+    }
+
+pub loop-i-preserved : goal.loop-i-preserved
+loop-i-preserved c =
+    let left = c.args.left.now in
+    let right = c.args.right.now in
+    let i = c.loop-i.i in
+    let j = c.loop-i.j in
+    record {
+      left_in = c.loop-i.invariant.left_in;
+      right_in = omega (arith, c.if-j-right.true);
+      rest =
+          subst (Rest c.args.places.now left right i (j + 1)) (sym {A = List ℕ} c.in_ok-push-in-Greater.ensures.items)
+          (rest_greater c.args.places.now left right c.requires.left.ordered c.requires.right.ordered i j (get_or left i 0) (get_or right j 0) c.loop-i.merged.items
+          (number_at left i 0 c.loop-i-test.true) (number_at right j 0 c.if-j-right.true) c.in-Greater.ensures c.loop-i.invariant.rest);
+    }
+
+pub returns : goal.returns
+returns c =
+    let left = c.args.left.now in
+    let right = c.args.right.now in
+    let i = c.loop-i.i in
+    let j = c.loop-i.j in
+    let all : c.from_vec.result ≡ (c.loop-i.merged.items ++ drop i left) ++ drop j right =
+    c.from_vec.ensures
+    ∙ (c.in_ok-extend_from_slice-2.ensures.items
+    ∙ (ap (λ (xs : List ℕ). c.extend_from_slice.new.self.items ++ xs) (rest_from right j)
+    ∙ ap (λ (xs : List ℕ). xs ++ drop j right) (c.in_ok-extend_from_slice.ensures.items ∙ ap (λ (xs : List ℕ). c.loop-i.merged.items ++ xs) (rest_from left i)))) in
+    subst (IsCycleMerge c.args.places.now left right) (sym all)
+    (rest_done c.args.places.now left right c.requires.left.ordered c.requires.right.ordered i j c.loop-i.merged.items
+    (elim c.loop-i-test.branch [ then-loop-i-test+else-j-right w ↦ inr w.if-j-right.false | else-loop-i-test w ↦ inl w.loop-i-test.false ])
+    c.loop-i.invariant.rest)
