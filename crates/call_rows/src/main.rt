@@ -1,58 +1,80 @@
-//! Makes single calls of the crates below the jobs, one for each row of the file `rows`, and prints the row and what comes of it.
+//! Makes single calls of the crates below the jobs, and prints what comes of them. Each file has rows of one kind. Of the base's tables,
+//! lists, shelves and sinks a row is a name, a tab and words.
 //!
-//! - `graph A`: the depth of each output of the circuit, the weight of its unfolding, and a cycle of latches.
-//! - `ones A ROW..`: the values and the marks of the outputs in each cycle, where each latch powers up with 1.
-//! - `stimulus S`: the stimulus as it is written again, or its faulty line.
-//!
-//! A and S are files of this folder. A row that begins with `#` is a remark.
+//! `names`: `+w` adds the name w, `=w` numbers it, `?w` looks it up; behind stand the names in their order.
+//! `places`: `pq` numbers the pair of the digits p and q; behind stand the pairs in their order, and a copy of the
+//! lists of their first and second digits.
+//! `shelves`: `!n` has read n fail, `w=n` puts a file w of n bytes, `~n` lets each later read give n bytes at most, and behind these
+//! `w<n` fetches w of at most n bytes.
+//! `sinks`: the room, the write that fails or 0, what it keeps, and the piece that is written.
+//! `files`: `w<n` fetches the real file w of at most n bytes.
+//! `clauses`: `KIND;NAME;CLAUSES;MORE`. Clauses stand as in DIMACS, each with a 0 at its end. What more stands there is a log, the steps
+//! of a resolver, or the variables and the conflicts of a search.
+//! `calls`: `graph A` is the depth of each output of the circuit, the weight of its unfolding, and a cycle of latches; `ones A ROW..` the
+//! values and the marks of the outputs in each cycle, where each latch powers up with 1; `stimulus S` the stimulus as it is written
+//! again, or its faulty line. A and S are files of this folder. A row that begins with `#` is a remark.
 #![tactic(auto)]
 
+mod calls;
+mod checks;
 mod circuits;
+mod formulas;
+mod resolution;
+mod row_parts;
 mod runs;
+mod searches;
+mod shelves;
+mod sinks;
 mod stimuli;
+mod tables;
+mod words;
 
-use circuits::put_graph;
-use row_text::Telling;
-use runs::put_run;
-use sec_base::{FileShelf, MAX_FILE_BYTES, Shelf, fetch};
+use row_text::{show, show_rows, split_at};
+use shelves::{show_files, show_shelf};
+use sinks::show_sink;
 use std::process::ExitCode;
 use std::rt::HostRuntime;
-use std::str;
-use stimuli::put_stimulus;
+use tables::{show_names, show_places};
 
-/// Puts what comes of the call.
-fn put_call<S: Shelf>(out: &mut Telling, data: &mut S, call: &str, rest: &str) {
-    match call {
-        "graph" => put_graph(out, data, rest),
-        "ones" => put_run(out, data, rest),
-        "stimulus" => put_stimulus(out, data, rest),
-        _ => out.lose(),
+/// What the rows of a file tell of.
+#[derive(Clone, Copy)]
+enum Asked {
+    Names,
+    Places,
+    Shelves,
+    Sinks,
+    Files,
+}
+
+fn show_told(rt: &HostRuntime, asked: Asked, words: &[u8]) {
+    match asked {
+        Asked::Names => show_names(rt, words),
+        Asked::Places => show_places(rt, words),
+        Asked::Shelves => show_shelf(rt, words),
+        Asked::Sinks => show_sink(rt, words),
+        Asked::Files => show_files(rt, words),
     }
 }
 
-/// Puts the row and what comes of it; nothing of a remark or an empty row.
-fn put_row<S: Shelf>(out: &mut Telling, data: &mut S, row: &str) {
-    if row.is_empty() || row.starts_with('#') {
-        return;
-    }
-    out.put(row.as_bytes());
-    out.put(b"\n");
-    let (call, rest) = row.split_once(' ').unwrap_or((row, ""));
-    put_call(out, data, call, rest);
-    out.put(b"\n");
+fn show_row(rt: &HostRuntime, asked: Asked, row: &[u8]) {
+    let (name, words) = split_at(b'\t', row);
+    show(rt, name);
+    show(rt, b":");
+    show_told(rt, asked, words);
+    show(rt, b"\n");
+}
+
+/// Shows what each row of the file tells, one on a line.
+fn show_file(rt: &HostRuntime, asked: Asked, path: &str) {
+    show_rows(rt, path, |row| show_row(rt, asked, row));
 }
 
 fn main(rt: HostRuntime) -> ExitCode {
-    let mut out = Telling::new(rt.alloc());
-    let mut data = FileShelf::new(&rt);
-    let Ok(rows) = fetch(rt.alloc(), &mut data, "rows", MAX_FILE_BYTES) else {
-        return ExitCode::from(3);
-    };
-    let Ok(rows) = str::from_utf8(rows.as_slice()) else {
-        return ExitCode::from(4);
-    };
-    for row in rows.split('\n') {
-        put_row(&mut out, &mut data, row);
-    }
-    out.write(&rt)
+    show_file(&rt, Asked::Names, "names");
+    show_file(&rt, Asked::Places, "places");
+    show_file(&rt, Asked::Shelves, "shelves");
+    show_file(&rt, Asked::Sinks, "sinks");
+    show_file(&rt, Asked::Files, "files");
+    show_rows(&rt, "clauses", |row| formulas::show_row(&rt, row));
+    calls::show_calls(&rt)
 }

@@ -1,26 +1,17 @@
-//! Prints what each line of the file `rows` comes to: `KIND;NAME;CLAUSES;MORE`. Clauses stand as in
-//! DIMACS, each with a 0 at its end. What more stands there is a log, the steps of a resolver, or
-//! the variables and the conflicts of a search.
-#![tactic(auto)]
-
-mod checks;
-mod resolution;
-mod row_parts;
-mod searches;
-mod words;
+//! What clauses come to, with a log, the steps of a resolver, or the variables and the conflicts of a search behind them.
 
 ghost use Rattle.std.specs.Prelude.{◌≤◌, length};
 
-use checks::{show_checked, show_clause, show_derived};
+use crate::checks::{show_checked, show_clause, show_derived};
+use crate::resolution::show_resolved;
+use crate::row_parts::{clauses_of, numbers_of};
+use crate::searches::show_searched;
 use proof_check::Clauses;
-use resolution::show_resolved;
-use row_parts::{clauses_of, numbers_of};
-use row_text::{show, show_rows, split_at};
-use searches::show_searched;
+use row_text::{show, split_at};
 use std::rt::HostRuntime;
 
 /// How many clauses and chains a row has at most.
-const MANY: usize = 1_000_000;
+pub(crate) const MANY: usize = 1_000_000;
 
 /// Shows what the numbers, behind clauses, come to.
 fn show_numbers(rt: &HostRuntime, kind: &[u8], clauses: &Clauses, numbers: &[u32])
@@ -72,7 +63,7 @@ fn show_kind(rt: &HostRuntime, kind: &[u8], formula: &[u8], more: &[u8]) {
 }
 
 /// Shows what the row comes to.
-fn show_row(rt: &HostRuntime, row: &[u8]) {
+pub(crate) fn show_row(rt: &HostRuntime, row: &[u8]) {
     let (kind, named) = split_at(b';', row);
     let (name, about) = split_at(b';', named);
     let (formula, more) = split_at(b';', about);
@@ -80,8 +71,4 @@ fn show_row(rt: &HostRuntime, row: &[u8]) {
     show(rt, b": ");
     show_kind(rt, kind, formula, more);
     show(rt, b"\n");
-}
-
-fn main(rt: HostRuntime) {
-    show_rows(&rt, "rows", |row| show_row(&rt, row));
 }

@@ -3,7 +3,7 @@
 
 ghost use Rattle.std.specs.Prelude.{◌≤◌, length};
 
-use crate::MANY;
+use crate::formulas::MANY;
 use crate::words::show_counted;
 use proof_check::{Clause, Clauses, Log, check_chains, check_log};
 use row_text::{show, show_bit};

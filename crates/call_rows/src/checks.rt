@@ -2,7 +2,7 @@
 
 ghost use Rattle.std.specs.Prelude.{◌≤◌, length};
 
-use crate::MANY;
+use crate::formulas::MANY;
 use crate::row_parts::{literals_of, log_of};
 use crate::words::{show_counted, show_error, show_literals};
 use proof_check::{Clause, ClauseError, Clauses, Literals, Log, check_chains, check_log};
