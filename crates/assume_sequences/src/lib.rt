@@ -4,6 +4,7 @@
 //! What comparisons under an assumption on the inputs take of it.
 #![tactic(auto)]
 
+pub mod assume_taken;
 mod fill;
 mod premise;
 

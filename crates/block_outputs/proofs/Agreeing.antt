@@ -12,9 +12,9 @@ use Rattle.flat_net.specs.View.{NetView, named, circuit_of}
 use Rattle.flat_net.proofs.Places.{All-at}
 use Rattle.interface.proofs.Paired.{names_of, place_named-at}
 use Rattle.interface.proofs.Shared.{some_is}
-use Rattle.block_graph.specs.declared.nets.BlockNets.{BlockNets}
-use Rattle.block_graph.specs.declared.graph.BlockGraph.{BlockGraph}
-use Rattle.block_graph.specs.Comparing.{AgreeOver}
+use Rattle.block_refine.specs.declared.block_graph.nets.BlockNets.{BlockNets}
+use Rattle.block_refine.specs.declared.block_graph.graph.BlockGraph.{BlockGraph}
+use Rattle.block_refine.specs.block_graph.Comparing.{AgreeOver}
 use Rattle.block_refine.proofs.Agreeing.{outputs_agree}
 use Rattle.block_outputs.specs.declared.answer.OutputAnswer.{OutputAnswer}
 use Rattle.block_outputs.specs.declared.answer.OutputAnswer.TheVariants as answer

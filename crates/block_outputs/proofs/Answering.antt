@@ -20,13 +20,13 @@ use Rattle.pair_decide.specs.Answers.{Decides, IsDifference}
 use Rattle.latch_blocks.specs.Readings.{AreRead}
 use Rattle.latch_blocks.proofs.Readings.{readings_are_values}
 use Rattle.latch_blocks.proofs.Supports.{reached_among}
-use Rattle.block_graph.specs.declared.nets.BlockNets.{BlockNets}
-use Rattle.block_graph.specs.declared.graph.BlockGraph.{BlockGraph}
-use Rattle.block_graph.specs.declared.compare.Comparison.{Comparison}
-use Rattle.block_graph.specs.Graph.{IsBlockGraph}
-use Rattle.block_graph.specs.Comparing.{IsLitIn, IsComparison, AreOwn, AgreeOver}
-use Rattle.block_graph.proofs.OnGraph.{same_agree}
-use Rattle.block_graph.proofs.Queries.{is_query}
+use Rattle.block_refine.specs.declared.block_graph.nets.BlockNets.{BlockNets}
+use Rattle.block_refine.specs.declared.block_graph.graph.BlockGraph.{BlockGraph}
+use Rattle.block_refine.specs.declared.block_graph.compare.Comparison.{Comparison}
+use Rattle.block_refine.specs.block_graph.Graph.{IsBlockGraph}
+use Rattle.block_refine.specs.block_graph.Comparing.{IsLitIn, IsComparison, AreOwn, AgreeOver}
+use Rattle.block_refine.proofs.block_graph.OnGraph.{same_agree}
+use Rattle.block_refine.proofs.block_graph.Queries.{is_query}
 use Rattle.block_outputs.specs.declared.answer.Shown.{Shown}
 use Rattle.block_outputs.specs.Answers.{IsQueryOf, IsShown, IsLimit}
 

@@ -9,9 +9,9 @@ use Rattle.pair_decide.specs.declared.query.Proof.{Proof}
 use Rattle.pair_decide.specs.Answers.{IsAtLimit, IsDifference}
 use Rattle.pair_decide.specs.Queries.{assigned_to}
 use Rattle.latch_blocks.specs.Readings.{AreRead}
-use Rattle.block_graph.specs.declared.nets.BlockNets.{BlockNets}
-use Rattle.block_graph.specs.declared.graph.BlockGraph.{BlockGraph}
-use Rattle.block_graph.specs.Comparing.{IsLitIn, AreOwn, AreConstant, AgreeOver}
+use Rattle.block_refine.specs.declared.block_graph.nets.BlockNets.{BlockNets}
+use Rattle.block_refine.specs.declared.block_graph.graph.BlockGraph.{BlockGraph}
+use Rattle.block_refine.specs.block_graph.Comparing.{IsLitIn, AreOwn, AreConstant, AgreeOver}
 use Rattle.block_outputs.specs.declared.answer.Shown.{Shown}
 use Rattle.block_outputs.specs.declared.answer.OutputAnswer.{OutputAnswer}
 use Rattle.block_outputs.specs.declared.answer.OutputAnswer.TheVariants as answer

@@ -5,8 +5,8 @@ use Rattle.circuit_theory.specs.Interface.{AreNumbersOf}
 use Rattle.reset_laws.specs.Reset.{AgreeFromReset}
 use Rattle.flat_net.specs.Comparable.{IsComparable}
 use Rattle.flat_net.specs.View.{circuit_of, ports_of}
-use Rattle.block_graph.specs.declared.nets.BlockNets.{BlockNets}
-use Rattle.block_graph.specs.declared.graph.BlockGraph.{BlockGraph}
+use Rattle.block_refine.specs.declared.block_graph.nets.BlockNets.{BlockNets}
+use Rattle.block_refine.specs.declared.block_graph.graph.BlockGraph.{BlockGraph}
 use Rattle.block_refine.specs.Refining.{AreCoarsest}
 use Rattle.block_outputs.specs.declared.answer.OutputAnswer.TheVariants as answer
 use Rattle.block_outputs.specs.declared.outputs.OutputPair.{OutputPair}

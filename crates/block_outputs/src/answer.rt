@@ -4,11 +4,11 @@ ghost use Rattle.std.specs.Prelude.{◌≡◌, ◌≢◌, ◌*◌, ◌<◌, ◌�
 ghost use Rattle.std.specs.List.{AllPairs};
 ghost use Rattle.aig.specs.Values.{value};
 ghost use Rattle.lane_eval.specs.Tables.{Covers, assigned_to};
-ghost use Rattle.block_graph.specs.Graph.{IsBlockGraph, IsSignalOf, number_of};
+ghost use Rattle.block_refine.specs.block_graph.Graph.{IsBlockGraph, IsSignalOf, number_of};
 ghost use Rattle.block_outputs.specs.Answers.{IsAnswer};
 
 use aig::{Aig, Lit};
-use block_graph::{BlockGraph, BlockNets, Comparison, NetSignal};
+use block_refine::block_graph::{BlockGraph, BlockNets, Comparison, NetSignal};
 use class_separations::cone_values::value_in_cone;
 use pair_decide::{Decision, Proof};
 use sec_base::{Bits, Ids, MAX_CONFLICTS, NoMemory};

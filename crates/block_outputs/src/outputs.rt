@@ -6,11 +6,11 @@ ghost use Rattle.circuit_theory.specs.Agree.{place_named};
 ghost use Rattle.circuit_theory.specs.Interface.{first_mismatch};
 ghost use Rattle.flat_net.specs.Comparable.{IsComparable};
 ghost use Rattle.flat_net.specs.View.{circuit_of, ports_of};
-ghost use Rattle.block_graph.specs.Graph.{IsBlockGraph};
+ghost use Rattle.block_refine.specs.block_graph.Graph.{IsBlockGraph};
 ghost use Rattle.block_outputs.specs.Answers.{IsOutputAnswer};
 
 use crate::answer::{OutputAnswer, answer};
-use block_graph::{BlockGraph, BlockNets, NetSignal};
+use block_refine::block_graph::{BlockGraph, BlockNets, NetSignal};
 use flat_net::{Net, Port, Signal};
 use interface::output_names;
 use sec_base::{MAX_CONFLICTS, NameTable, NoMemory, Seq, Word};

@@ -14,12 +14,12 @@ use Rattle.pair_decide.specs.declared.query.Decision.TheVariants as decision
 use Rattle.pair_decide.specs.Queries.{IsSame, assigned_to}
 use Rattle.pair_decide.specs.Answers.{Decides, IsDifference}
 use Rattle.latch_blocks.specs.Partitions.{nexts_of}
-use Rattle.block_graph.specs.declared.nets.BlockNets.{BlockNets}
-use Rattle.block_graph.specs.declared.graph.BlockGraph.{BlockGraph}
-use Rattle.block_graph.specs.declared.compare.Comparison.{Comparison}
-use Rattle.block_graph.specs.Graph.{IsBlockGraph}
-use Rattle.block_graph.specs.Comparing.{IsLitIn, IsComparison, AreOwn, AgreeOver, AreReadBy}
-use Rattle.block_graph.proofs.OnGraph.{same_agree, read_by}
+use Rattle.block_refine.specs.declared.block_graph.nets.BlockNets.{BlockNets}
+use Rattle.block_refine.specs.declared.block_graph.graph.BlockGraph.{BlockGraph}
+use Rattle.block_refine.specs.declared.block_graph.compare.Comparison.{Comparison}
+use Rattle.block_refine.specs.block_graph.Graph.{IsBlockGraph}
+use Rattle.block_refine.specs.block_graph.Comparing.{IsLitIn, IsComparison, AreOwn, AgreeOver, AreReadBy}
+use Rattle.block_refine.proofs.block_graph.OnGraph.{same_agree, read_by}
 use Rattle.block_refine.specs.Asking.{IsNext, TakeOneValue, TellApart, IsLimitAt}
 
 module _ (n : BlockNets) (i j : ℕ) (l r : Either ℕ ℕ) (l_is : IsNext n i l) (r_is : IsNext n j r) where

@@ -19,17 +19,17 @@ use Rattle.latch_blocks.specs.Signals.{net_weight}
 use Rattle.latch_blocks.proofs.Counting.{split_refines, split_has_fewer_pairs}
 use Rattle.latch_blocks.proofs.Going.{partition_splits, partition_ends}
 use Rattle.latch_blocks.proofs.Placing.{left_next, right_next, stands, place_of, place_inside, block_is}
-use Rattle.block_graph.specs.declared.nets.BlockNets.{BlockNets}
-use Rattle.block_graph.specs.declared.graph.BlockGraph.{BlockGraph}
-use Rattle.block_graph.specs.Graph.{IsBlockGraph}
-use Rattle.block_graph.specs.Comparing.{AreConstant}
+use Rattle.block_refine.specs.declared.block_graph.nets.BlockNets.{BlockNets}
+use Rattle.block_refine.specs.declared.block_graph.graph.BlockGraph.{BlockGraph}
+use Rattle.block_refine.specs.block_graph.Graph.{IsBlockGraph}
+use Rattle.block_refine.specs.block_graph.Comparing.{AreConstant}
 use Rattle.block_refine.specs.declared.pass.Pass.{Pass}
 use Rattle.block_refine.specs.declared.pass.Round.{Round}
 use Rattle.block_refine.specs.declared.pass.Round.TheVariants as round
 use Rattle.block_refine.specs.Asking.{IsNext, TakeOneValue, TellApart, IsLimitAt}
 use Rattle.block_refine.specs.Passes.{AreMembers, IsUnderWay, IsOnPass, first_of, IsPass, IsLimitOf, IsSteady, IsRound, IsEndRound, IsLimitRound}
-use Rattle.block_graph.proofs.Making.{blocks_few}
-use Rattle.block_graph.proofs.Numbered.{light_few}
+use Rattle.block_refine.proofs.block_graph.Making.{blocks_few}
+use Rattle.block_refine.proofs.block_graph.Numbered.{light_few}
 use Rattle.block_refine.specs.Refining.{AreCoarsest, IsSplitLimit, IsTurn}
 
 pub nexts_long : (a b : NetView) → length (nexts_of a b) ≡ length a.latches + length b.latches

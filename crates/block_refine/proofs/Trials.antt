@@ -13,11 +13,11 @@ use Rattle.flat_net.specs.Sound.{IsSound}
 use Rattle.latch_blocks.specs.Blocks.{block_at, bit_at, IsSplit}
 use Rattle.latch_blocks.specs.Partitions.{nexts_of}
 use Rattle.latch_blocks.specs.Signals.{AreMerged}
-use Rattle.block_graph.specs.declared.nets.BlockNets.{BlockNets}
-use Rattle.block_graph.specs.declared.graph.BlockGraph.{BlockGraph}
-use Rattle.block_graph.specs.Graph.{IsBlockGraph}
-use Rattle.block_graph.specs.Comparing.{AreReadBy}
-use Rattle.block_graph.proofs.OnGraph.{read_by}
+use Rattle.block_refine.specs.declared.block_graph.nets.BlockNets.{BlockNets}
+use Rattle.block_refine.specs.declared.block_graph.graph.BlockGraph.{BlockGraph}
+use Rattle.block_refine.specs.block_graph.Graph.{IsBlockGraph}
+use Rattle.block_refine.specs.block_graph.Comparing.{AreReadBy}
+use Rattle.block_refine.proofs.block_graph.OnGraph.{read_by}
 use Rattle.block_refine.specs.declared.pass.Pass.{Pass}
 use Rattle.block_refine.specs.Asking.{IsNext, TellApart}
 use Rattle.block_refine.specs.Passes.{AreMembers, IsPass, IsApartAt, first_of}

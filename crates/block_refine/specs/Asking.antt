@@ -5,9 +5,9 @@ use Rattle.pair_decide.specs.declared.query.Query.{Query}
 use Rattle.pair_decide.specs.declared.query.Proof.{Proof}
 use Rattle.pair_decide.specs.Answers.{IsAtLimit}
 use Rattle.latch_blocks.specs.Partitions.{nexts_of}
-use Rattle.block_graph.specs.declared.nets.BlockNets.{BlockNets}
-use Rattle.block_graph.specs.declared.graph.BlockGraph.{BlockGraph}
-use Rattle.block_graph.specs.Comparing.{AgreeOver, AreConstant, AreOwn, IsLitIn}
+use Rattle.block_refine.specs.declared.block_graph.nets.BlockNets.{BlockNets}
+use Rattle.block_refine.specs.declared.block_graph.graph.BlockGraph.{BlockGraph}
+use Rattle.block_refine.specs.block_graph.Comparing.{AgreeOver, AreConstant, AreOwn, IsLitIn}
 use Rattle.block_refine.specs.declared.ask.Answer.{Answer}
 use Rattle.block_refine.specs.declared.ask.Answer.TheVariants as answer
 

@@ -2,3 +2,4 @@ pub mod Asking
 pub mod Laws
 pub mod Passes
 pub mod Refining
+pub mod block_graph

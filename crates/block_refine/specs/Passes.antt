@@ -4,9 +4,9 @@ use Rattle.pair_decide.specs.declared.query.Proof.{Proof}
 use Rattle.latch_blocks.specs.Blocks.{block_at, bit_at}
 use Rattle.latch_blocks.specs.Laws.{pairs_alike}
 use Rattle.latch_blocks.specs.Partitions.{IsOnTheWay}
-use Rattle.block_graph.specs.declared.nets.BlockNets.{BlockNets}
-use Rattle.block_graph.specs.declared.graph.BlockGraph.{BlockGraph}
-use Rattle.block_graph.specs.Graph.{AreReady, IsBlockGraph}
+use Rattle.block_refine.specs.declared.block_graph.nets.BlockNets.{BlockNets}
+use Rattle.block_refine.specs.declared.block_graph.graph.BlockGraph.{BlockGraph}
+use Rattle.block_refine.specs.block_graph.Graph.{AreReady, IsBlockGraph}
 use Rattle.block_refine.specs.Asking.{TakeOneValue, IsLimitAt}
 use Rattle.block_refine.specs.declared.pass.Pass.{Pass}
 use Rattle.block_refine.specs.declared.pass.Step.{Step}

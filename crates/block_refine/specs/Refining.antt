@@ -16,7 +16,7 @@ use Rattle.latch_blocks.specs.Blocks.{block_at, AreInOrder}
 use Rattle.latch_blocks.specs.Partitions.{block_of, nexts_of, IsOnTheWay}
 use Rattle.latch_blocks.specs.QueryLaws.{IsLitAt, AreOnGraph}
 use Rattle.latch_blocks.specs.Laws.{pairs_alike}
-use Rattle.block_graph.specs.Comparing.{IsVariableAt}
+use Rattle.block_refine.specs.block_graph.Comparing.{IsVariableAt}
 use Rattle.block_refine.specs.declared.pass.Round.{Round}
 use Rattle.block_refine.specs.declared.pass.Round.TheVariants as round
 use Rattle.block_refine.specs.declared.refinement.SplitLimit.{SplitLimit}

@@ -1,11 +1,11 @@
 //! Whether two latches take over one value.
 
 ghost use Rattle.std.specs.Prelude.{◌≡◌, ◌+◌, ◌<◌, ◌≤◌, length, IfOk, IsTrue};
-ghost use Rattle.block_graph.specs.Graph.{IsBlockGraph};
+ghost use Rattle.block_refine.specs.block_graph.Graph.{IsBlockGraph};
 ghost use Rattle.block_refine.specs.Asking.{IsAnswer};
 
+use crate::block_graph::{BlockGraph, BlockNets, Comparison};
 use aig::Lit;
-use block_graph::{BlockGraph, BlockNets, Comparison};
 use pair_decide::{Decision, Proof};
 use sec_base::{MAX_CONFLICTS, NoMemory};
 use std::alloc::Global;

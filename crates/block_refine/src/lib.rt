@@ -3,6 +3,7 @@
 #![tactic(auto)]
 
 mod ask;
+pub mod block_graph;
 mod firsts;
 pub mod laws;
 mod pass;

@@ -1,13 +1,13 @@
 //! One pass over all latches.
 
 ghost use Rattle.std.specs.Prelude.{◌≡◌, ◌+◌, ◌<◌, ◌≤◌, ◌^◌, true, length, IfOk, OnOk};
-ghost use Rattle.block_graph.specs.Graph.{IsBlockGraph};
+ghost use Rattle.block_refine.specs.block_graph.Graph.{IsBlockGraph};
 ghost use Rattle.latch_blocks.specs.Blocks.{IsSplit, block_at};
 ghost use Rattle.block_refine.specs.Passes.{AreMembers, IsOnPass, IsPass, IsStep, IsRound, IsEndRound, IsLimitRound};
 
 use crate::ask::{Answer, ask};
+use crate::block_graph::{BlockGraph, BlockNets};
 use crate::firsts::first_members;
-use block_graph::{BlockGraph, BlockNets};
 use latch_blocks::split_blocks;
 use pair_decide::Proof;
 use sec_base::{Ids, MAX_CONFLICTS, NoMemory};

@@ -5,9 +5,9 @@ ghost use Rattle.latch_blocks.specs.Partitions.{IsOnTheWay};
 ghost use Rattle.latch_blocks.specs.Signals.{net_weight};
 ghost use Rattle.block_refine.specs.Refining.{IsRefined, IsTurn};
 
+use crate::block_graph::BlockNets;
 use crate::pass::{Round, pass_over};
 use crate::starts::starts;
-use block_graph::BlockNets;
 use flat_net::Net;
 use latch_blocks::initial_blocks;
 use pair_decide::Proof;

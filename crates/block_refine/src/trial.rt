@@ -2,11 +2,11 @@
 
 ghost use Rattle.std.specs.Prelude.{◌≡◌, ◌<◌, length, All, IfOk, OnOk, IfSome};
 ghost use Rattle.std.specs.List.Sorted.{IsStrictlyIncreasing};
-ghost use Rattle.block_graph.specs.Graph.{IsBlockGraph};
+ghost use Rattle.block_refine.specs.block_graph.Graph.{IsBlockGraph};
 ghost use Rattle.block_refine.specs.Passes.{AreMembers, IsPass, IsApartAt};
 
+use crate::block_graph::{BlockGraph, BlockNets};
 use crate::pass::{Pass, first_in};
-use block_graph::{BlockGraph, BlockNets};
 use latch_blocks::merged;
 use rand_core::{Rng, SeedableRng};
 use rand_xoshiro::Xoshiro256PlusPlus;

@@ -9,8 +9,8 @@ use Rattle.proof_check.specs.declared.derivation.Chain.{Chain}
 use Rattle.proof_check.proofs.OneVerdict.{log_one}
 use Rattle.cnf_encode.specs.declared.cnf.Cnf.{Cnf}
 use Rattle.text_numbers.specs.Lines.{lines_of}
-use Rattle.dimacs_text.specs.dimacs_writer.Laws.{AreWritable}
-use Rattle.dimacs_text.proofs.dimacs_writer.Lining.{line_off}
+use Rattle.lrat_core.specs.dimacs_text.dimacs_writer.Laws.{AreWritable}
+use Rattle.lrat_core.proofs.dimacs_text.dimacs_writer.Lining.{line_off}
 use Rattle.lrat_core.specs.Lines.{Line, Adds, Deletes}
 use Rattle.lrat_core.specs.States.{State, start}
 use Rattle.lrat_core.specs.Sequences.{LinesGive, Accepted}

@@ -10,10 +10,10 @@ use Rattle.text_numbers.specs.Lines.{tokens_of, is_passed_over, is_empty}
 use Rattle.text_numbers.specs.Numbers.{with_first, number_of, numbers_of, positive, is_zero, has_zero}
 use Rattle.text_numbers.specs.declared.numbers.TheConstants.{MAX_SIZE}
 use Rattle.text_numbers.specs.declared.numbers.Number.{Number}
-use Rattle.dimacs_text.specs.Literals.{is_literal, literal_of}
-use Rattle.dimacs_text.specs.dimacs_writer.Written.{literal_text, literal_piece}
-use Rattle.dimacs_text.proofs.dimacs_writer.Lining.{Plain, Solid, solid_plain, token_off, last_token}
-use Rattle.dimacs_text.proofs.dimacs_writer.Numerals.{at_most, some_digits, solid_digits, digit, no_comment, number_is, literal_number, literal_some, literal_solid}
+use Rattle.lrat_core.specs.dimacs_text.Literals.{is_literal, literal_of}
+use Rattle.lrat_core.specs.dimacs_text.dimacs_writer.Written.{literal_text, literal_piece}
+use Rattle.lrat_core.proofs.dimacs_text.dimacs_writer.Lining.{Plain, Solid, solid_plain, token_off, last_token}
+use Rattle.lrat_core.proofs.dimacs_text.dimacs_writer.Numerals.{at_most, some_digits, solid_digits, digit, no_comment, number_is, literal_number, literal_some, literal_solid}
 use Rattle.lrat_core.specs.Lines.{Addition, Line, Adds, Deletes}
 use Rattle.lrat_core.specs.declared.hints.Hint.{Hint}
 use Rattle.lrat_core.specs.declared.hints.Hint.TheVariants.{Clause, Negative}

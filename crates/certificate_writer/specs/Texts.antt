@@ -6,9 +6,9 @@ use Rattle.proof_check.specs.Literals.{Literal}
 use Rattle.proof_check.specs.Chains.{LogDerives}
 use Rattle.proof_check.specs.declared.derivation.Chain.{Chain}
 use Rattle.cnf_encode.specs.declared.cnf.Cnf.{Cnf}
-use Rattle.dimacs_text.specs.Dimacs.{formula_of}
-use Rattle.dimacs_text.specs.Formulas.{Formula}
-use Rattle.dimacs_text.specs.dimacs_writer.Written.{literal_piece, dimacs_text}
+use Rattle.lrat_core.specs.dimacs_text.Dimacs.{formula_of}
+use Rattle.lrat_core.specs.dimacs_text.Formulas.{Formula}
+use Rattle.lrat_core.specs.dimacs_text.dimacs_writer.Written.{literal_piece, dimacs_text}
 use Rattle.lrat_core.specs.Lines.{Addition, Line, Adds, Deletes}
 use Rattle.lrat_core.specs.Logs.{lines_of}
 use Rattle.lrat_core.specs.Sequences.{Accepted}

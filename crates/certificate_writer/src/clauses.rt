@@ -1,11 +1,11 @@
 //! The clauses of a query as a text.
 
 ghost use Rattle.std.specs.Prelude.{◌≡◌, IfOk};
-ghost use Rattle.dimacs_text.specs.dimacs_writer.Laws.{AreWritable};
+ghost use Rattle.lrat_core.specs.dimacs_text.dimacs_writer.Laws.{AreWritable};
 ghost use Rattle.certificate_writer.specs.Texts.{SpellsClauses};
 
 use cnf_encode::Cnf;
-use dimacs_text::dimacs_writer::{write_clauses, written_is_spelled};
+use lrat_core::dimacs_text::dimacs_writer::{write_clauses, written_is_spelled};
 use sec_base::{NoMemory, Text};
 use std::alloc::Global;
 

@@ -4,7 +4,7 @@ ghost use Rattle.std.specs.Prelude.{◌≡◌, ◌+◌, ◌<◌, ◌^◌, ◌++�
 ghost use Rattle.std.specs.List.{All, flat_map};
 ghost use Rattle.proof_check.specs.Clauses.{IsClause};
 ghost use Rattle.proof_check.specs.Chains.{IsRefutation, LogDerives};
-ghost use Rattle.dimacs_text.specs.dimacs_writer.Laws.{AreWritable};
+ghost use Rattle.lrat_core.specs.dimacs_text.dimacs_writer.Laws.{AreWritable};
 ghost use Rattle.lrat_core.specs.Logs.{hints_of, clauses_back, lines_of};
 ghost use Rattle.certificate_writer.specs.Hinting.{AreWithin, IsWithin, all_known, falsified_by};
 ghost use Rattle.certificate_writer.specs.Texts.{addition_text, line_text, IsTextOf, IsAcceptedOver};
@@ -13,7 +13,7 @@ use crate::hints::put_hints;
 use crate::known::Known;
 use clause_watch::Trail;
 use cnf_encode::Cnf;
-use dimacs_text::dimacs_writer::put_literals;
+use lrat_core::dimacs_text::dimacs_writer::put_literals;
 use proof_check::{Chain, Clause, Clauses, Log, check_chains};
 use sec_base::{NoMemory, Seq, Text, put, put_number};
 use std::alloc::Global;

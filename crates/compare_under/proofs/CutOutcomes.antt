@@ -27,16 +27,16 @@ use Rattle.assume_laws.specs.declared.assume_shape.shape.ShapeFault.TheVariants 
 use Rattle.plain_asked_under.specs.assume_sequences.Filled.{bit_of}
 use Rattle.plain_asked_under.specs.assume_sequences.declared.premise.Premise.{Premise}
 use Rattle.plain_asked_under.specs.assume_sequences.Assumed.{IsAssumedBy, CanBeAssumed}
-use Rattle.under_base.specs.assume_taken.Premises.{IsPremiseOf}
-use Rattle.under_base.specs.assume_taken.Taken.{assumed_by, IsUndecidedBy}
-use Rattle.under_base.proofs.assume_taken.Premises.{is_assumed, can_be_assumed}
+use Rattle.under_base.specs.assume_sequences.assume_taken.Premises.{IsPremiseOf}
+use Rattle.under_base.specs.Taken.{assumed_by, IsUndecidedBy}
+use Rattle.under_base.proofs.assume_sequences.assume_taken.Premises.{is_assumed, can_be_assumed}
 use Rattle.plain_asked_under.specs.declared.error.PlainUnderError.TheVariants as found_error
 use Rattle.plain_asked_under.specs.Formed.{AreFoundUnder, FormedUnder}
 use Rattle.under_base.specs.under_fits.Places.{IsOverAtPairs, IsLightAtPairs}
 use Rattle.plain_asked_under.specs.Verdict.{FindingsFitUnder}
 use Rattle.under_base.specs.under_fits.Outcome.{OutcomeFitsUnder}
-use Rattle.under_meaning.specs.Laws.{AreNets}
-use Rattle.under_meaning.proofs.Meaning.{equal_says_under, different_shows_under, not_shown_under}
+use Rattle.plain_asked_under.specs.under_meaning.Laws.{AreNets}
+use Rattle.plain_asked_under.proofs.under_meaning.Meaning.{equal_says_under, different_shows_under, not_shown_under}
 use Rattle.under_base.specs.declared.compare_base.error.CompareError.TheVariants as refused
 use Rattle.under_base.proofs.compare_base.CutSetups.{choice, in_order, left_too_large, right_too_large}
 use Rattle.under_base.proofs.compare_base.Forms.{in_always}

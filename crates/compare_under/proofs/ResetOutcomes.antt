@@ -22,15 +22,15 @@ use Rattle.assume_laws.specs.Assume.{Assumption}
 use Rattle.assume_laws.specs.declared.assume_shape.shape.ShapeFault.TheVariants as fault
 use Rattle.plain_asked_under.specs.assume_sequences.Filled.{bit_of}
 use Rattle.plain_asked_under.specs.assume_sequences.declared.premise.Premise.{Premise}
-use Rattle.under_base.specs.assume_taken.Premises.{IsPremiseOf}
-use Rattle.under_base.specs.assume_taken.Taken.{assumed_by}
+use Rattle.under_base.specs.assume_sequences.assume_taken.Premises.{IsPremiseOf}
+use Rattle.under_base.specs.Taken.{assumed_by}
 use Rattle.reset_asked_under.specs.declared.error.ResetUnderError.TheVariants as found_error
 use Rattle.reset_asked_under.specs.Formed.{AreFoundUnder, FormedUnder}
 use Rattle.under_base.specs.under_fits.ResetPlaces.{IsOverInCycles, IsLightInCycles}
 use Rattle.reset_asked_under.specs.Verdict.{FindingsFitUnder, VerdictFitsUnder}
 use Rattle.under_base.specs.under_fits.ResetOutcome.{numbers_of, ResetOutcomeFitsUnder, ResetVerdictFitsUnder}
-use Rattle.under_meaning.specs.under_reset_meaning.Laws.{AreNets}
-use Rattle.under_meaning.proofs.under_reset_meaning.Meaning.{equal_resets_say_under, different_resets_show_under}
+use Rattle.plain_asked_under.specs.under_meaning.under_reset_meaning.Laws.{AreNets}
+use Rattle.plain_asked_under.proofs.under_meaning.under_reset_meaning.Meaning.{equal_resets_say_under, different_resets_show_under}
 use Rattle.under_base.specs.declared.compare_base.error.CompareError.TheVariants as refused
 use Rattle.under_base.proofs.compare_base.Forms.{in_reset}
 use Rattle.under_base.proofs.compare_base.UncutSetups.{left_light, right_light, left_too_large, right_too_large, of_circuits, based, left_numbers, right_numbers}

@@ -24,9 +24,9 @@ use Rattle.assume_laws.specs.Assume.{Assumption, ReadsInputs}
 use Rattle.event_meaning.specs.event_meaning_under.assume_sequences.Assumed.{CanBeAssumed, IsAssumedBy}
 use Rattle.event_meaning.specs.event_meaning_under.assume_sequences.declared.premise.Premise.{Premise}
 use Rattle.event_meaning.specs.event_meaning_under.assume_sequences.Filled.{bit_of}
-use Rattle.event_meaning.specs.event_meaning_under.assume_taken.Premises.{IsPremiseOf}
+use Rattle.event_meaning.specs.event_meaning_under.assume_sequences.assume_taken.Premises.{IsPremiseOf}
 use Rattle.event_meaning.specs.event_meaning_under.Taken.{assumed_by, IsUndecidedBy}
-use Rattle.event_meaning.proofs.event_meaning_under.assume_taken.Premises.{is_assumed, can_be_assumed}
+use Rattle.event_meaning.proofs.event_meaning_under.assume_sequences.assume_taken.Premises.{is_assumed, can_be_assumed}
 use Rattle.event_meaning.specs.event_meaning_under.event_under.Places.{IsLightAtNodes}
 use Rattle.event_meaning.specs.event_meaning_under.Met.{shared_by, IsMet, IsAssumptionLimit}
 use Rattle.event_meaning.proofs.under_base.Reading.{reads_cut}

@@ -8,9 +8,9 @@ use Rattle.sec_setup.specs.Matching.{InterfacesMatch, InterfaceFails as NoMatch}
 use Rattle.event_meaning.specs.event_meaning_under.assume_sequences.declared.premise.Premise.{Premise}
 use Rattle.assume_laws.specs.declared.assume_shape.shape.ShapeFault.{ShapeFault}
 use Rattle.assume_laws.specs.declared.assume_shape.shape.ShapeFault.TheVariants as shape_fault
-use Rattle.event_meaning.specs.event_meaning_under.assume_taken.declared.error.TakeError.{TakeError}
-use Rattle.event_meaning.specs.event_meaning_under.assume_taken.declared.error.TakeError.TheVariants as untaken
-use Rattle.event_meaning.specs.event_meaning_under.assume_taken.Premises.{IsTaken}
+use Rattle.event_meaning.specs.event_meaning_under.assume_sequences.declared.assume_taken.error.TakeError.{TakeError}
+use Rattle.event_meaning.specs.event_meaning_under.assume_sequences.declared.assume_taken.error.TakeError.TheVariants as untaken
+use Rattle.event_meaning.specs.event_meaning_under.assume_sequences.assume_taken.Premises.{IsTaken}
 use Rattle.class_queries.specs.Enables.{both_of}
 use Rattle.event_meaning.specs.event_meaning_under.CompareError.{CompareError}
 use Rattle.event_meaning.specs.event_meaning_under.CompareError.TheVariants as refused

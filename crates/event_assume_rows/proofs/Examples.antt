@@ -12,7 +12,7 @@ use Rattle.design_rows.specs.Small.{IsSmall}
 use Rattle.design_rows.proofs.Spelling.{accepted, net_is_small}
 use Rattle.check_meaning.specs.event_meaning.event_meaning_under.Heavy.{IsTooLargeForEvents}
 use Rattle.under_base.specs.Met.{shared_by}
-use Rattle.assume_taken.specs.Taken.{IsFirstFault}
+use Rattle.assume_sequences.specs.assume_taken.Taken.{IsFirstFault}
 use Rattle.event_premises.proofs.Comparing.{comparable_events}
 use Rattle.event_premises.proofs.LoadExamples.{no_cycles}
 use Rattle.event_premises.proofs.Nets.{accepted_text, flat_of, ports_match, shared_kept}

@@ -2,7 +2,7 @@
 
 ghost use Rattle.std.specs.Prelude.{◌≡◌, ◌+◌, ◌≤◌, length};
 ghost use Rattle.flat_net.specs.Comparable.{IsComparable};
-ghost use Rattle.event_answers_under.specs.assume_taken.Premises.{IsPremiseOf};
+ghost use Rattle.event_answers_under.specs.assume_sequences.assume_taken.Premises.{IsPremiseOf};
 ghost use Rattle.event_answers.specs.Reached.{AreClassed};
 ghost use Rattle.event_meaning.specs.event_meaning_under.Answered.{ComparedInEventsUnder};
 ghost use Rattle.event_answers_under.specs.under_base.Refusals.{refusal_of};

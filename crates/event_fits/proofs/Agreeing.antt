@@ -22,12 +22,12 @@ use Rattle.interface.specs.Pairs.{NamedPair, named_pairs, places_of}
 use Rattle.sec_base.specs.declared.basics.PairAnswer.{PairAnswer}
 use Rattle.sec_base.specs.declared.basics.PairAnswer.TheVariants as answer
 use Rattle.under_base.specs.compare_base.pair_decide.declared.query.Proof.{Proof}
-use Rattle.read_inputs.specs.Cuts.{columns_of}
-use Rattle.read_inputs.proofs.CutNets.{cut_numbered}
+use Rattle.under_base.specs.compare_base.Cuts.{columns_of}
+use Rattle.event_setup.proofs.read_inputs.CutNets.{cut_numbered}
 use Rattle.event_findings.specs.outcome.declared.verdict.PairResult.{PairResult}
-use Rattle.read_inputs.proofs.CutPairs.{one_output, pair_listed}
-use Rattle.read_inputs.specs.class_queries.Enables.{both_of, class_map}
-use Rattle.read_inputs.proofs.class_queries.Meaning.{numbered}
+use Rattle.under_base.proofs.compare_base.CutPairs.{one_output, pair_listed}
+use Rattle.event_findings.specs.class_queries.Enables.{both_of, class_map}
+use Rattle.event_setup.proofs.read_inputs.class_queries.Meaning.{numbered}
 use Rattle.event_findings.proofs.event_form.SameCircuits.{AreSame, same_classes, same_depths, same_events}
 use Rattle.event_findings.specs.event_form.Answers.{AnswerFits, PairFits}
 use Rattle.event_nodes.specs.View.{EventCircuitView}

@@ -11,8 +11,8 @@ use Rattle.circuit_theory.specs.EventSizes.{Start, IsEventOver}
 use Rattle.circuit_theory.specs.EventTotals.{IsNodesOver, IsNodesWithin}
 use Rattle.circuit_theory.specs.Frame.{EventSide}
 use Rattle.event_findings.specs.unshown_pairs.Made.{AreEnablesCounted}
-use Rattle.read_inputs.specs.class_queries.Enables.{both_of}
-use Rattle.read_inputs.specs.class_queries.Laws.{AreKept}
+use Rattle.event_findings.specs.class_queries.Enables.{both_of}
+use Rattle.event_findings.specs.class_queries.Laws.{AreKept}
 use Rattle.event_findings.specs.class_totals.Totals.{circuit_at, starts_at}
 use Rattle.event_findings.specs.class_totals.Functions.{signal_start}
 use Rattle.event_nodes.specs.View.{EventCircuitView, side_of, Enabled}

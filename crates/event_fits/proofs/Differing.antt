@@ -12,17 +12,17 @@ use Rattle.flat_net.specs.View.{NetView, circuit_of}
 use Rattle.flat_net.proofs.Nets.{sound_is_net, sound_names}
 use Rattle.interface.specs.declared.pairs.SignalPair.{SignalPair}
 use Rattle.interface.specs.Pairs.{named_pairs, places_of}
-use Rattle.read_inputs.specs.Cuts.{columns_of, is_cut}
+use Rattle.under_base.specs.compare_base.Cuts.{columns_of, is_cut}
 use Rattle.witness_report.specs.declared.stimulus.Stimulus.{Stimulus}
 use Rattle.witness_report.specs.declared.witness.PairName.{PairName}
 use Rattle.witness_report.specs.declared.witness.Witness.{Witness}
 use Rattle.witness_report.specs.Shown.{Obeys, ArePlacesOf, MakesDiffer, MakesCutsDiffer}
 use Rattle.circuit_theory.specs.Fits.{MakesDiffer as HaveValues}
-use Rattle.read_inputs.proofs.CutPairs.{IsOutputPair, IsNextPair, listed_is, listed_places}
+use Rattle.under_base.proofs.compare_base.CutPairs.{IsOutputPair, IsNextPair, listed_is, listed_places}
 use Rattle.event_nodes.specs.View.{EventCircuitView}
 use Rattle.event_fits.specs.Circuits.{AreEventCircuits, AreNets}
-use Rattle.read_inputs.proofs.Places.{IsShown, listed_shown}
-use Rattle.read_inputs.proofs.Reading.{value_shows}
+use Rattle.event_setup.proofs.read_inputs.Places.{IsShown, listed_shown}
+use Rattle.event_setup.proofs.read_inputs.Reading.{value_shows}
 
 -- a run of the cut circuit is one of the cut net's circuit, and obeys what it obeyed
 module _ (names : List (List ℕ)) (c : Circuit ℕ) (n : NetView) (is : IsCutCircuit names c (circuit_of n)) where

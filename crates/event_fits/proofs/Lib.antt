@@ -4,5 +4,4 @@ pub mod Counting
 pub use Rattle.under_base.proofs as under_base
 pub use Rattle.under_base.proofs.outcome_fits
 pub use Rattle.event_setup.proofs as event_setup
-pub use Rattle.read_inputs.proofs as read_inputs
-pub use Rattle.read_inputs.proofs.class_queries
+pub use Rattle.event_setup.proofs.read_inputs.class_queries

@@ -6,8 +6,8 @@ use Rattle.flat_net.specs.declared.parts.Port.{Port}
 use Rattle.flat_net.specs.Sound.{IsSound}
 use Rattle.flat_net.specs.View.{NetView, circuit_of}
 use Rattle.sec_base.specs.Table.{AreDistinct}
-use Rattle.read_inputs.specs.Cuts.{AreCutAt, columns_of}
-use Rattle.read_inputs.specs.Setup.{AreColumns}
+use Rattle.under_base.specs.compare_base.Cuts.{AreCutAt, columns_of}
+use Rattle.event_setup.specs.read_inputs.Setup.{AreColumns}
 use Rattle.event_nodes.specs.View.{EventCircuitView, IsEventCircuit}
 use Rattle.event_setup.specs.Choosing.{HaveNoCycles}
 use Rattle.event_setup.specs.Recovered.{AreKnown}

@@ -11,8 +11,8 @@ use Rattle.event_findings.specs.outcome.declared.verdict.LimitAt.{LimitAt}
 use Rattle.event_findings.specs.outcome.declared.verdict.LimitAt.TheVariants as limit_at
 use Rattle.event_findings.specs.outcome.declared.verdict.Outcome.{Outcome}
 use Rattle.event_findings.specs.outcome.declared.verdict.Verdict.TheVariants as verdict
-use Rattle.read_inputs.specs.Cuts.{columns_of, is_cut}
-use Rattle.read_inputs.specs.class_queries.Enables.{both_of}
+use Rattle.under_base.specs.compare_base.Cuts.{columns_of, is_cut}
+use Rattle.event_findings.specs.class_queries.Enables.{both_of}
 use Rattle.event_findings.specs.unshown_pairs.Refused.{IsLimitOf}
 use Rattle.event_nodes.specs.View.{EventCircuitView}
 use Rattle.event_setup.specs.Recovered.{RecoversBoth}

@@ -26,4 +26,4 @@ pub use Rattle.event_findings.specs.event_classes
 pub use Rattle.event_findings.specs.outcome
 pub use Rattle.event_setup.specs as event_setup
 pub use Rattle.event_setup.specs.sec_setup
-pub use Rattle.read_inputs.specs.class_queries
+pub use Rattle.event_findings.specs.class_queries

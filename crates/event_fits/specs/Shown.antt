@@ -11,8 +11,8 @@ use Rattle.witness_report.specs.declared.frame_report.frame.Spot.{Spot}
 use Rattle.interface.specs.Pairs.{NamedPair, named_pairs}
 use Rattle.event_findings.specs.outcome.declared.verdict.Outcome.{Outcome}
 use Rattle.event_findings.specs.outcome.declared.verdict.Unshown.{Unshown}
-use Rattle.read_inputs.specs.Cuts.{columns_of}
-use Rattle.read_inputs.specs.class_queries.Enables.{both_of}
+use Rattle.under_base.specs.compare_base.Cuts.{columns_of}
+use Rattle.event_findings.specs.class_queries.Enables.{both_of}
 use Rattle.event_nodes.specs.View.{EventCircuitView}
 use Rattle.event_fits.specs.Circuits.{AreEventCircuits}
 

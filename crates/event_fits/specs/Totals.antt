@@ -7,7 +7,7 @@ use Rattle.circuit_theory.specs.EventSizes.{Start, IsEventOver}
 use Rattle.circuit_theory.specs.EventTotals.{AreStarts, IsNodesOver, IsNodesWithin}
 use Rattle.event_nodes.specs.View.{EventCircuitView, side_of, Enabled}
 use Rattle.class_extension.specs.Sides.{AreStartsOfBoth}
-use Rattle.read_inputs.specs.class_queries.Enables.{both_of}
+use Rattle.event_findings.specs.class_queries.Enables.{both_of}
 use Rattle.event_findings.specs.class_totals.Totals.{circuit_at, starts_at}
 use Rattle.event_findings.specs.unshown_pairs.Counted.{left_starts, right_starts}
 use Rattle.event_findings.specs.unshown_pairs.Stopped.{lefts_before, rights_before, lefts_with, rights_with}

@@ -5,4 +5,3 @@ pub mod Framing
 pub mod Exact
 pub use Rattle.under_base.proofs as under_base
 pub use Rattle.under_base.proofs.assume_sequences
-pub use Rattle.under_base.proofs.assume_taken

@@ -27,4 +27,3 @@ pub use Rattle.event_shown_under.specs.event_under_fits.event_findings
 pub use Rattle.event_shown_under.specs.event_under
 pub use Rattle.under_base.specs as under_base
 pub use Rattle.under_base.specs.assume_sequences
-pub use Rattle.under_base.specs.assume_taken

@@ -3,4 +3,3 @@ pub use Rattle.event_fits.proofs.Counting
 pub use Rattle.event_fits.proofs.under_base
 pub use Rattle.event_fits.proofs.event_setup
 pub use Rattle.event_fits.proofs.outcome_fits
-pub use Rattle.event_fits.proofs.read_inputs

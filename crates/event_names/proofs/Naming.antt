@@ -28,10 +28,10 @@ use Rattle.event_fits.specs.EventVerdict.{EventVerdict}
 use Rattle.event_fits.specs.EventVerdict.TheVariants as found
 use Rattle.event_fits.specs.UnshownPair.{UnshownPair}
 use Rattle.event_fits.specs.Named.{latch_names, names_at}
-use Rattle.event_fits.proofs.read_inputs.Places.{IsShown}
+use Rattle.event_fits.proofs.event_setup.read_inputs.Places.{IsShown}
 use Rattle.event_names.specs.declared.names.Names.{Names}
 use Rattle.event_names.specs.Nameable.{CanBeNamed, IsBitIn, IsLatchIn, IsOtherIn, IsSeparationIn, IsUnshownIn}
-use Rattle.event_fits.proofs.read_inputs.Leaves.{class_below, pair_below}
+use Rattle.event_fits.proofs.event_setup.read_inputs.Leaves.{class_below, pair_below}
 
 -- a latch has a name
 module _ (a b : NetView) (n : Names) (left : n.left ≡ latch_names a) (right : n.right ≡ latch_names b) where

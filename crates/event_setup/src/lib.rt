@@ -9,6 +9,7 @@ mod depths;
 mod enables;
 mod error;
 mod numbering;
+pub mod read_inputs;
 mod setup;
 
 pub use enables::{EnabledLatches, recover_both};

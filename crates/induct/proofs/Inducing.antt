@@ -8,11 +8,11 @@ use Rattle.reset_laws.specs.Reset.{AgreeFromReset}
 use Rattle.flat_net.specs.Comparable.{IsComparable}
 use Rattle.flat_net.specs.Sound.{IsSound}
 use Rattle.flat_net.specs.View.{NetView, circuit_of, ports_of}
-use Rattle.block_graph.specs.declared.nets.BlockNets.{BlockNets}
-use Rattle.block_graph.specs.declared.graph.BlockGraph.{BlockGraph}
-use Rattle.block_graph.specs.Graph.{IsBlockGraph}
-use Rattle.block_outputs.specs.block_refine.declared.refinement.SplitLimit.{SplitLimit}
-use Rattle.block_outputs.specs.block_refine.Refining.{AreCoarsest, IsSplitLimit}
+use Rattle.block_refine.specs.declared.block_graph.nets.BlockNets.{BlockNets}
+use Rattle.block_refine.specs.declared.block_graph.graph.BlockGraph.{BlockGraph}
+use Rattle.block_refine.specs.block_graph.Graph.{IsBlockGraph}
+use Rattle.block_refine.specs.declared.refinement.SplitLimit.{SplitLimit}
+use Rattle.block_refine.specs.Refining.{AreCoarsest, IsSplitLimit}
 use Rattle.block_outputs.specs.declared.outputs.OutputPair.{OutputPair}
 use Rattle.block_outputs.specs.Answers.{IsOutputAnswer}
 use Rattle.induct.specs.declared.induction.Induction.{Induction}

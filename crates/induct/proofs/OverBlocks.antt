@@ -9,11 +9,11 @@ use Rattle.flat_net.specs.Sound.{IsSound}
 use Rattle.flat_net.specs.View.{NetView, circuit_of, ports_of}
 use Rattle.circuit_theory.specs.Interface.{shared_inputs}
 use Rattle.latch_blocks.specs.Signals.{net_weight}
-use Rattle.block_graph.specs.declared.nets.BlockNets.{BlockNets}
-use Rattle.block_graph.specs.declared.graph.BlockGraph.{BlockGraph}
-use Rattle.block_graph.specs.Graph.{AreReady, IsBlockGraph}
-use Rattle.block_graph.proofs.Numbered.{light_few}
-use Rattle.block_outputs.specs.block_refine.Refining.{AreCoarsest}
+use Rattle.block_refine.specs.declared.block_graph.nets.BlockNets.{BlockNets}
+use Rattle.block_refine.specs.declared.block_graph.graph.BlockGraph.{BlockGraph}
+use Rattle.block_refine.specs.block_graph.Graph.{AreReady, IsBlockGraph}
+use Rattle.block_refine.proofs.block_graph.Numbered.{light_few}
+use Rattle.block_refine.specs.Refining.{AreCoarsest}
 use Rattle.block_outputs.specs.declared.answer.Shown.{Shown}
 use Rattle.block_outputs.specs.declared.answer.OutputAnswer.{OutputAnswer}
 use Rattle.block_outputs.specs.declared.answer.OutputAnswer.TheVariants as answer

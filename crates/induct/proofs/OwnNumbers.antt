@@ -12,7 +12,7 @@ use Rattle.flat_net.specs.Sound.{IsSound}
 use Rattle.flat_net.proofs.CutNets.{length-filter-le}
 use Rattle.flat_net.proofs.Nets.{some_at}
 use Rattle.latch_blocks.specs.Signals.{net_weight}
-use Rattle.block_graph.proofs.Numbered.{light_few}
+use Rattle.block_refine.proofs.block_graph.Numbered.{light_few}
 use Rattle.induct.specs.Inductions.{AreOwnNumbers, AreLowered}
 
 less_or_more : (x s : ℕ) → (x < s) ⊎ (s ≤ x)

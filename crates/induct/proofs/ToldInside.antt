@@ -18,9 +18,9 @@ use Rattle.interface.proofs.Paired.{place_named-from}
 use Rattle.interface.proofs.Shared.{are_matched}
 use Rattle.latch_blocks.specs.Blocks.{block_at}
 use Rattle.latch_blocks.specs.Signals.{variable_of, IsLeaf}
-use Rattle.block_graph.specs.declared.nets.BlockNets.{BlockNets}
-use Rattle.block_graph.specs.declared.graph.BlockGraph.{BlockGraph}
-use Rattle.block_graph.specs.Graph.{IsBlockGraph}
+use Rattle.block_refine.specs.declared.block_graph.nets.BlockNets.{BlockNets}
+use Rattle.block_refine.specs.declared.block_graph.graph.BlockGraph.{BlockGraph}
+use Rattle.block_refine.specs.block_graph.Graph.{IsBlockGraph}
 use Rattle.block_outputs.specs.declared.answer.Shown.{Shown}
 use Rattle.block_outputs.specs.declared.answer.OutputAnswer.{OutputAnswer}
 use Rattle.block_outputs.specs.declared.answer.OutputAnswer.TheVariants as answer

@@ -10,11 +10,11 @@ use Rattle.sec_base.specs.declared.limits.TheConstants.{MAX_WEIGHT}
 use Rattle.flat_net.specs.View.{NetView, ports_of}
 use Rattle.latch_blocks.specs.Blocks.{block_at}
 use Rattle.latch_blocks.specs.Signals.{net_weight}
-use Rattle.block_graph.specs.declared.nets.BlockNets.{BlockNets}
-use Rattle.block_graph.specs.declared.graph.BlockGraph.{BlockGraph}
-use Rattle.block_graph.specs.Graph.{IsBlockGraph}
-use Rattle.block_outputs.specs.block_refine.declared.refinement.SplitLimit.{SplitLimit}
-use Rattle.block_outputs.specs.block_refine.Refining.{AreCoarsest, IsSplitLimit}
+use Rattle.block_refine.specs.declared.block_graph.nets.BlockNets.{BlockNets}
+use Rattle.block_refine.specs.declared.block_graph.graph.BlockGraph.{BlockGraph}
+use Rattle.block_refine.specs.block_graph.Graph.{IsBlockGraph}
+use Rattle.block_refine.specs.declared.refinement.SplitLimit.{SplitLimit}
+use Rattle.block_refine.specs.Refining.{AreCoarsest, IsSplitLimit}
 use Rattle.block_outputs.specs.declared.answer.Shown.{Shown}
 use Rattle.block_outputs.specs.declared.answer.OutputAnswer.{OutputAnswer}
 use Rattle.block_outputs.specs.declared.answer.OutputAnswer.TheVariants as answer

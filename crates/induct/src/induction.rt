@@ -7,14 +7,14 @@ ghost use Rattle.flat_net.specs.Comparable.{IsComparable};
 ghost use Rattle.flat_net.specs.View.{circuit_of, ports_of};
 ghost use Rattle.latch_blocks.specs.Signals.{net_weight};
 ghost use Rattle.induct.specs.declared.induction.InductVerdict.TheVariants as verdict;
-ghost use Rattle.block_outputs.specs.block_refine.Refining.{AreCoarsest, IsSplitLimit};
+ghost use Rattle.block_refine.specs.Refining.{AreCoarsest, IsSplitLimit};
 ghost use Rattle.induct.specs.Inductions.{AreOwnNumbers, IsOver, IsSplitLimitOf, IsInduction, IsRefusal};
 
 use crate::members::{members, tag_at};
 use crate::numbers::own_numbers;
 use crate::verdict::judge;
-use block_graph::{BlockGraph, BlockNets};
 use block_outputs::{Refined, SplitLimit, compare_outputs, refine};
+use block_refine::block_graph::{BlockGraph, BlockNets};
 use flat_net::Net;
 use interface::inputs_beside;
 use latch_blocks::is_light;

@@ -4,7 +4,7 @@ use Rattle.std.proofs.Common.{◌≡◌, ℕ, ◌≤◌, ◌^◌, Bool, true, fa
 use Rattle.flat_net.specs.View.{NetView}
 use Rattle.cnf_encode.specs.declared.cnf.Cnf.{Cnf}
 use Rattle.cnf_encode.specs.Encoding.{IsSmall}
-use Rattle.dimacs_text.specs.dimacs_writer.Laws.{AreWritable}
+use Rattle.lrat_core.specs.dimacs_text.dimacs_writer.Laws.{AreWritable}
 use Rattle.certificate_writer.specs.Texts.{SpellsClauses}
 use Rattle.job_cert.specs.pair_clauses.Clauses.{ArePairClauses}
 use Rattle.job_cert.specs.declared.pair_clauses.error.CertError.{CertError}

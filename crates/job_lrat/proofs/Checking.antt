@@ -9,8 +9,8 @@ use Rattle.sec_base.specs.FetchError.TheVariants as fetch_error
 use Rattle.text_numbers.specs.Answers.{IsGiven}
 use Rattle.text_numbers.specs.declared.kinds.TextError.{TextError}
 use Rattle.text_numbers.specs.declared.kinds.TextError.TheVariants as text_error
-use Rattle.dimacs_text.specs.Dimacs.{formula_of}
-use Rattle.dimacs_text.specs.Formulas.{Formula}
+use Rattle.lrat_core.specs.dimacs_text.Dimacs.{formula_of}
+use Rattle.lrat_core.specs.dimacs_text.Formulas.{Formula}
 use Rattle.lrat_core.specs.lrat_text.Verdicts.{IsChecked}
 use Rattle.job_base.specs.declared.finding.File.TheVariants as file
 use Rattle.job_base.specs.Ends.{EndsBy}

@@ -6,8 +6,8 @@ use Rattle.pair_decide.specs.declared.query.Proof.{Proof}
 use Rattle.text_numbers.specs.declared.kinds.TextError.{TextError}
 use Rattle.text_numbers.specs.declared.kinds.TextError.TheVariants as text_error
 use Rattle.text_numbers.specs.declared.kinds.TextKind.{TextKind}
-use Rattle.dimacs_text.specs.Dimacs.{formula_of}
-use Rattle.dimacs_text.specs.Formulas.{Formula}
+use Rattle.lrat_core.specs.dimacs_text.Dimacs.{formula_of}
+use Rattle.lrat_core.specs.dimacs_text.Formulas.{Formula}
 use Rattle.lrat_core.specs.Sequences.{Verdict, Accepted, Refused}
 use Rattle.lrat_core.specs.lrat_text.Verdicts.{IsTextVerdict}
 use Rattle.lrat_core.proofs.lrat_text.Texts.{one_verdict}

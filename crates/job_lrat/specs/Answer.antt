@@ -1,7 +1,7 @@
 -- What the status says of a refutation that is checked, and when it can be checked.
 use Rattle.std.specs.Prelude.{ℕ, List, Option, IsSomeAnd}
 use Rattle.sec_base.specs.Outside.{Takes}
-use Rattle.dimacs_text.specs.Formulas.{Formula}
+use Rattle.lrat_core.specs.dimacs_text.Formulas.{Formula}
 use Rattle.job_base.specs.declared.status.StatusName.{StatusName}
 use Rattle.job_base.specs.declared.status.StatusName.TheVariants as status
 use Rattle.job_base.specs.Meaning.{ReportMeans, EndsWith}

@@ -2,7 +2,7 @@
 use Rattle.std.specs.Prelude.{◌≡◌, ℕ, List, [], ◌∷◌, Option, IfSome, codes}
 use Rattle.proof_check.specs.Clauses.{Unsatisfiable}
 use Rattle.text_numbers.specs.declared.kinds.TextKind.{TextKind}
-use Rattle.dimacs_text.specs.Formulas.{Formula}
+use Rattle.lrat_core.specs.dimacs_text.Formulas.{Formula}
 use Rattle.job_base.specs.Reading.{ReadFailedAfter}
 use Rattle.job_base.specs.declared.finding.File.TheVariants as file
 use Rattle.job_base.specs.declared.finding.LineFault.TheVariants as line_fault

@@ -4,8 +4,8 @@ use Rattle.sec_base.specs.declared.limits.TheConstants.{MAX_FILE_BYTES}
 use Rattle.sec_base.specs.FetchError.TheVariants as fetch_error
 use Rattle.text_numbers.specs.declared.kinds.TextError.TheVariants as text_error
 use Rattle.text_numbers.specs.declared.kinds.TextKind.{TextKind}
-use Rattle.dimacs_text.specs.Dimacs.{formula_of}
-use Rattle.dimacs_text.specs.Formulas.{Formula}
+use Rattle.lrat_core.specs.dimacs_text.Dimacs.{formula_of}
+use Rattle.lrat_core.specs.dimacs_text.Formulas.{Formula}
 use Rattle.lrat_core.specs.Sequences.{Accepted, Refused}
 use Rattle.lrat_core.specs.lrat_text.Verdicts.{IsTextVerdict}
 use Rattle.job_lrat.specs.declared.loading.TextLoadError.{TextLoadError}

@@ -8,3 +8,4 @@ pub mod Sequences
 pub mod States
 pub mod Stored
 pub mod lrat_text
+pub mod dimacs_text

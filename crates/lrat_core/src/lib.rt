@@ -6,6 +6,7 @@
 #![tactic(auto)]
 
 mod checker;
+pub mod dimacs_text;
 mod falsified;
 mod hints;
 mod laws;

@@ -9,6 +9,7 @@ mod comparison;
 mod error;
 mod laws;
 mod shown;
+pub mod under_meaning;
 
 pub use assume_sequences::Premise;
 pub use comparison::compare_plain_under;

@@ -11,12 +11,12 @@ use Rattle.sec_base.specs.Table.{AreDistinct}
 use Rattle.flat_net.specs.declared.parts.Port.{Port}
 use Rattle.flat_net.specs.Cut.{latch_at, as_input, exposed_names, IsCut, IsCutCircuit}
 use Rattle.flat_net.specs.View.{NetView, named, circuit_of, ports_of}
-use Rattle.assume_taken.proofs.sec_setup.CutNets.{cut_numbers}
+use Rattle.outcome_fits.proofs.CutNets.{cut_numbers}
 use Rattle.assume_laws.specs.Assume.{ReadsInputs}
 use Rattle.assume_laws.specs.assume_shape.Shape.{HasShape}
 use Rattle.assume_laws.proofs.assume_shape.Shapes.{shapes_are_assumptions}
-use Rattle.assume_taken.specs.Taken.{IsAssumed, assumed_by}
-use Rattle.assume_taken.proofs.Shapes.{shape_over, numbers_over}
+use Rattle.assume_sequences.specs.assume_taken.Taken.{IsAssumed, assumed_by}
+use Rattle.assume_sequences.proofs.assume_taken.Shapes.{shape_over, numbers_over}
 use Rattle.under_base.specs.Met.{shared_by}
 
 -- a shared input is one of the first circuit

@@ -2,13 +2,13 @@
 use Rattle.std.proofs.Common.{Err, inl}
 use Rattle.flat_net.specs.View.{NetView}
 use Rattle.sec_base.specs.declared.settings.Settings.{Settings}
-use Rattle.assume_taken.specs.sec_setup.declared.error.SetupError.{SetupError}
-use Rattle.assume_taken.specs.sec_setup.declared.error.SetupError.TheVariants as unset
-use Rattle.assume_taken.specs.sec_setup.Choosing.{Chosen}
-use Rattle.assume_taken.specs.sec_setup.Matching.{InterfacesMatch, InterfaceFails as NoMatch}
-use Rattle.assume_taken.specs.declared.error.TakeError.{TakeError}
-use Rattle.assume_taken.specs.declared.error.TakeError.TheVariants as untaken
-use Rattle.assume_taken.specs.Premises.{IsTaken}
+use Rattle.outcome_fits.specs.sec_setup.declared.error.SetupError.{SetupError}
+use Rattle.outcome_fits.specs.sec_setup.declared.error.SetupError.TheVariants as unset
+use Rattle.outcome_fits.specs.sec_setup.Choosing.{Chosen}
+use Rattle.outcome_fits.specs.sec_setup.Matching.{InterfacesMatch, InterfaceFails as NoMatch}
+use Rattle.assume_sequences.specs.declared.assume_taken.error.TakeError.{TakeError}
+use Rattle.assume_sequences.specs.declared.assume_taken.error.TakeError.TheVariants as untaken
+use Rattle.assume_sequences.specs.assume_taken.Premises.{IsTaken}
 use Rattle.under_base.specs.compare_base.Compared.{refusal_of as refusal_of_setup}
 use Rattle.under_base.proofs.compare_base.Refusals.{unchosen}
 use Rattle.under_base.specs.Compared.{ComparedUnder}

@@ -7,17 +7,17 @@ use Rattle.flat_net.specs.View.{NetView, circuit_of}
 use Rattle.sec_base.specs.declared.basics.PairAnswer.{PairAnswer}
 use Rattle.sec_base.specs.declared.basics.PairAnswer.TheVariants as answer
 use Rattle.sec_base.specs.declared.settings.Settings.{Settings}
-use Rattle.assume_taken.specs.pair_decide.declared.query.Proof.{Proof}
+use Rattle.outcome_fits.specs.pair_decide.declared.query.Proof.{Proof}
 use Rattle.outcome_fits.specs.outcome.declared.verdict.Outcome.{Outcome}
 use Rattle.outcome_fits.specs.outcome.declared.verdict.PairResult.{PairResult}
 use Rattle.outcome_fits.specs.outcome.declared.verdict.Verdict.{Verdict}
 use Rattle.outcome_fits.specs.outcome.declared.verdict.Verdict.TheVariants as verdict
 use Rattle.outcome_fits.specs.outcome.declared.verdict.Why.TheVariants as why
 use Rattle.witness_report.specs.declared.witness.Witness.{Witness}
-use Rattle.assume_taken.specs.sec_setup.Cuts.{columns_of, is_cut}
-use Rattle.assume_taken.specs.sec_setup.Pairs.{NamedPair, named_pairs}
+use Rattle.outcome_fits.specs.Cuts.{columns_of, is_cut}
+use Rattle.outcome_fits.specs.Pairs.{NamedPair, named_pairs}
 use Rattle.assume_laws.specs.Assume.{Assumption}
-use Rattle.assume_taken.specs.Taken.{assumed_by}
+use Rattle.assume_sequences.specs.assume_taken.Taken.{assumed_by}
 use Rattle.under_base.specs.under_fits.Pairs.{AnswerFitsUnder, PairFitsUnder}
 use Rattle.under_base.specs.under_fits.Verdict.{IsFirstOfAnswerUnder, VerdictFitsUnder}
 use Rattle.under_base.specs.Compared.{IsComparedUnder}

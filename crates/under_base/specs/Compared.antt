@@ -11,14 +11,14 @@ use Rattle.outcome_fits.specs.outcome.declared.verdict.Verdict.TheVariants as ve
 use Rattle.outcome_fits.specs.outcome.declared.verdict.Why.TheVariants as why
 use Rattle.outcome_fits.specs.outcome.declared.verdict.Outcome.{Outcome}
 use Rattle.outcome_fits.specs.outcome.declared.verdict.ResetWitness.{ResetWitness}
-use Rattle.assume_taken.specs.sec_setup.Matching.{InterfacesMatch}
-use Rattle.assume_taken.specs.sec_setup.Pairs.{named_pairs}
+use Rattle.outcome_fits.specs.sec_setup.Matching.{InterfacesMatch}
+use Rattle.outcome_fits.specs.Pairs.{named_pairs}
 use Rattle.outcome_fits.specs.Fitting.{IsLight}
 use Rattle.under_base.specs.under_fits.Places.{IsLightAtPairs}
 use Rattle.under_base.specs.under_fits.ResetPlaces.{IsLightInCycles}
 use Rattle.assume_laws.specs.Assume.{AgreeFromResetUnder}
 use Rattle.assume_laws.specs.Sequences.{RowsMeet}
-use Rattle.assume_taken.specs.Taken.{assumed_by, IsFirstFault, IsVacuousBy}
+use Rattle.assume_sequences.specs.assume_taken.Taken.{assumed_by, IsFirstFault, IsVacuousBy}
 use Rattle.under_base.specs.under_fits.Outcome.{OutcomeFitsUnder, AreEqualUnder}
 use Rattle.under_base.specs.under_fits.ResetOutcome.{numbers_of, ResetOutcomeFitsUnder, MakesResetsDifferUnder}
 use Rattle.under_base.specs.declared.compare_base.error.CompareError.{CompareError}

@@ -10,7 +10,7 @@ use Rattle.outcome_fits.specs.outcome.declared.verdict.Verdict.{Verdict}
 use Rattle.outcome_fits.specs.outcome.declared.verdict.Verdict.TheVariants as verdict
 use Rattle.assume_laws.specs.Assume.{Assumption, AgreeUnder}
 use Rattle.assume_laws.specs.Sequences.{RowsMeet}
-use Rattle.assume_taken.specs.Taken.{assumed_by}
+use Rattle.assume_sequences.specs.assume_taken.Taken.{assumed_by}
 use Rattle.under_base.specs.Compared.{IsComparedUnder}
 
 -- equal, different or limit, and what the first two say

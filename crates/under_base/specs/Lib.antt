@@ -1,4 +1,4 @@
-pub use Rattle.assume_taken.specs.Taken
+pub use Rattle.assume_sequences.specs.assume_taken.Taken
 pub mod Met
 pub mod Sizes
 pub mod Compared
@@ -6,7 +6,6 @@ pub mod Laws
 pub mod Refusals
 pub mod compare_base
 pub mod under_fits
-pub use Rattle.assume_taken.specs as assume_taken
-pub use Rattle.assume_taken.specs.assume_sequences
+pub use Rattle.assume_sequences.specs as assume_sequences
 pub use Rattle.assume_laws.specs as assume_laws
 pub use Rattle.outcome_fits.specs as outcome_fits

@@ -3,13 +3,13 @@ use Rattle.std.specs.Prelude.{◌≡◌, ℕ, Bool, List, [], length, Some}
 use Rattle.circuit_theory.specs.Interface.{shared_inputs}
 use Rattle.flat_net.specs.Sound.{IsSound}
 use Rattle.flat_net.specs.View.{NetView, ports_of}
-use Rattle.assume_taken.specs.pair_decide.declared.query.Proof.{Proof}
+use Rattle.outcome_fits.specs.pair_decide.declared.query.Proof.{Proof}
 use Rattle.outcome_fits.specs.outcome.declared.verdict.LimitAt.TheVariants as limit_at
 use Rattle.outcome_fits.specs.outcome.declared.verdict.Outcome.{Outcome}
 use Rattle.outcome_fits.specs.outcome.declared.verdict.Verdict.TheVariants as verdict
-use Rattle.assume_taken.specs.sec_setup.Matching.{InterfacesMatch}
-use Rattle.assume_taken.specs.Asked.{IsKeptRow}
-use Rattle.assume_taken.specs.Taken.{IsAssumed, assumed_by, IsUndecidedBy}
+use Rattle.outcome_fits.specs.sec_setup.Matching.{InterfacesMatch}
+use Rattle.assume_sequences.specs.assume_taken.Asked.{IsKeptRow}
+use Rattle.assume_sequences.specs.assume_taken.Taken.{IsAssumed, assumed_by, IsUndecidedBy}
 
 -- the names of the inputs that both circuits have, in A's order
 abbrev pub shared_by : NetView → NetView → List (List ℕ)

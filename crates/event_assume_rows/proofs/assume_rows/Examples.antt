@@ -3,7 +3,7 @@ use Rattle.std.proofs.Common.{◌≡◌, ℕ, Bool, List, false, true, refl, sym
 use Rattle.std.specs.Prelude.{◌⊎◌}
 use Rattle.std.specs.List.{Contains}
 use Rattle.assume_laws.specs.declared.assume_shape.shape.ShapeFault.{ShapeFault}
-use Rattle.assume_taken.specs.Taken.{IsFirstFault}
+use Rattle.assume_sequences.specs.assume_taken.Taken.{IsFirstFault}
 use Rattle.check_meaning.specs.check_texts.Texts.{AreComparable}
 use Rattle.sec_base.specs.declared.settings.Settings.{Settings}
 use Rattle.under_base.specs.Met.{shared_by}

@@ -17,7 +17,7 @@ use Rattle.sec_files.specs.Formats.{Blif}
 use Rattle.sec_files.specs.Loading.{Loads}
 use Rattle.sec_files.proofs.Texts.{text_net}
 use Rattle.assume_laws.specs.Assume.{RowMeets}
-use Rattle.assume_taken.specs.Taken.{IsAssumed, assumed_by}
+use Rattle.assume_sequences.specs.assume_taken.Taken.{IsAssumed, assumed_by}
 use Rattle.design_rows.proofs.Spelling.{net_is_small}
 use Rattle.event_assume_rows.specs.assume_rows.SameInputs.{same, same_cover, same_design, small_same}
 use Rattle.event_assume_rows.proofs.assume_rows.Spelled.{same_spells}

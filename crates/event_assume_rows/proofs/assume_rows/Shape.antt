@@ -12,7 +12,7 @@ use Rattle.flat_net.specs.declared.parts.Port.{Port}
 use Rattle.flat_net.specs.View.{NetView, named, circuit_of}
 use Rattle.assume_laws.specs.declared.assume_shape.shape.ShapeFault.{ShapeFault}
 use Rattle.assume_laws.specs.declared.assume_shape.shape.ShapeFault.TheVariants as fault
-use Rattle.assume_taken.specs.Taken.{IsFirstFault}
+use Rattle.assume_sequences.specs.assume_taken.Taken.{IsFirstFault}
 use Rattle.under_base.specs.Met.{shared_by}
 use Rattle.design_rows.specs.Small.{IsSmall, small_and}
 use Rattle.design_rows.proofs.Spelling.{ports_are}

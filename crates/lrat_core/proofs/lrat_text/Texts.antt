@@ -5,7 +5,7 @@ use Rattle.lrat_core.specs.Lines.{Line}
 use Rattle.text_numbers.specs.Lines.{lines_of}
 use Rattle.text_numbers.specs.declared.kinds.TextError.{TextError}
 use Rattle.text_numbers.specs.declared.kinds.TextKind.TheVariants.{BadLine, NoEmpty}
-use Rattle.dimacs_text.specs.Formulas.{Formula}
+use Rattle.lrat_core.specs.dimacs_text.Formulas.{Formula}
 use Rattle.lrat_core.specs.States.{State, start}
 use Rattle.lrat_core.specs.declared.line_error.LineError.{LineError}
 use Rattle.lrat_core.specs.declared.line_error.LineError.TheVariants as line_error

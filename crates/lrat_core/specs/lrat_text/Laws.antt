@@ -1,7 +1,7 @@
 -- Laws of the verdicts.
 use Rattle.std.specs.Prelude.{◌≡◌, ℕ, true, false, List, [], ◌∷◌, codes}
 use Rattle.proof_check.specs.Clauses.{Unsatisfiable}
-use Rattle.dimacs_text.specs.Formulas.{Formula}
+use Rattle.lrat_core.specs.dimacs_text.Formulas.{Formula}
 use Rattle.lrat_core.specs.Sequences.{Verdict, Accepted}
 use Rattle.lrat_core.specs.lrat_text.Verdicts.{IsTextVerdict}
 

@@ -4,7 +4,7 @@ use Rattle.std.specs.List.{list_all, before_first, after_first}
 use Rattle.proof_check.specs.Literals.{Literal}
 use Rattle.text_numbers.specs.Numbers.{is_zero}
 use Rattle.text_numbers.specs.declared.numbers.Number.{Number}
-use Rattle.dimacs_text.specs.Literals.{is_literal}
+use Rattle.lrat_core.specs.dimacs_text.Literals.{is_literal}
 use Rattle.text_numbers.specs.declared.kinds.TextKind.TheVariants.{BadLine}
 use Rattle.text_numbers.specs.declared.kinds.TextError.{TextError}
 use Rattle.text_numbers.specs.declared.kinds.TextError.TheVariants as text_error

@@ -4,7 +4,7 @@ use Rattle.std.specs.List.{list_all, before_first, after_first}
 use Rattle.text_numbers.specs.Lines.{is_empty, tokens_of, is_passed_over}
 use Rattle.text_numbers.specs.Numbers.{numbers_of, is_zero, has_zero}
 use Rattle.text_numbers.specs.declared.numbers.Number.{Number}
-use Rattle.dimacs_text.specs.Literals.{is_literal, literal_of}
+use Rattle.lrat_core.specs.dimacs_text.Literals.{is_literal, literal_of}
 use Rattle.lrat_core.specs.Lines.{Line, adds, Deletes}
 use Rattle.lrat_core.specs.declared.hints.Hint.{Hint}
 use Rattle.lrat_core.specs.declared.hints.Hint.TheVariants.{Clause, Negative}

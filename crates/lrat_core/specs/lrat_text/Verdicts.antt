@@ -5,7 +5,7 @@ use Rattle.text_numbers.specs.declared.kinds.TextError.{TextError}
 use Rattle.text_numbers.specs.declared.kinds.TextError.TheVariants as error
 use Rattle.text_numbers.specs.declared.kinds.TextKind.{TextKind}
 use Rattle.text_numbers.specs.declared.kinds.TextKind.TheVariants.{BadLine, NoEmpty}
-use Rattle.dimacs_text.specs.Formulas.{Formula}
+use Rattle.lrat_core.specs.dimacs_text.Formulas.{Formula}
 use Rattle.lrat_core.specs.Lines.{Line}
 use Rattle.lrat_core.specs.States.{State, start}
 use Rattle.lrat_core.specs.Sequences.{Verdict, Accepted, Refused, LineGives, AddsEmpty, after}

@@ -5,7 +5,7 @@ ghost use Rattle.lrat_core.specs.lrat_text.Spellings.{hint_of, id_of, is_additio
 ghost use Rattle.lrat_core.specs.lrat_text.Parts.{ArePartsOf, IsAddition, IsDeletion};
 
 use crate::Hint;
-use dimacs_text::put_literals;
+use crate::dimacs_text::put_literals;
 use proof_check::Literal;
 use sec_base::NoMemory;
 use text_numbers::{Number, split_at_zero};

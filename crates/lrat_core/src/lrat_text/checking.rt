@@ -7,9 +7,9 @@ ghost use Rattle.lrat_core.specs.lrat_text.Spellings.{spelling_of};
 ghost use Rattle.lrat_core.specs.lrat_text.Verdicts.{IsChecked};
 ghost use Rattle.lrat_core.specs.lrat_text.Parts.{IsStep, IsFault, error_at};
 
+use crate::dimacs_text::Formula;
 use crate::lrat_text::line::{Buffers, Form};
 use crate::{Checker, LineError};
-use dimacs_text::Formula;
 use sec_base::MAX_FILE_BYTES;
 use std::alloc::Global;
 use text_numbers::{NumberedLines, TextError, TextKind};

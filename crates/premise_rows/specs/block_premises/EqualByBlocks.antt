@@ -12,8 +12,8 @@ use Rattle.flat_net.specs.Comparable.{IsComparable}
 use Rattle.flat_net.specs.Sound.{IsSound}
 use Rattle.flat_net.specs.View.{NetView, circuit_of, ports_of}
 use Rattle.latch_blocks.specs.QueryLaws.{AreBlockValues}
-use Rattle.block_graph.specs.declared.nets.BlockNets.{BlockNets}
-use Rattle.block_graph.specs.declared.graph.BlockGraph.{BlockGraph}
+use Rattle.block_refine.specs.declared.block_graph.nets.BlockNets.{BlockNets}
+use Rattle.block_refine.specs.declared.block_graph.graph.BlockGraph.{BlockGraph}
 use Rattle.block_refine.specs.Refining.{AreCoarsest}
 use Rattle.block_outputs.specs.declared.answer.OutputAnswer.TheVariants as answer
 use Rattle.block_outputs.specs.declared.outputs.OutputPair.{OutputPair}

@@ -1,5 +1,5 @@
 -- By the answer to the query.
-use Rattle.block_graph.specs.Graph.{number_of}
+use Rattle.block_refine.specs.block_graph.Graph.{number_of}
 use Rattle.block_outputs.proofs.Answering.{answer_same, answer_limit, bits_each, vars_distinct, lit_within, lit_covered, answer_differs}
 use Rattle.block_outputs.proofs.answer.answer.Goals as goal
 

@@ -3,8 +3,8 @@ use Rattle.std.proofs.Common.{◌<◌, ℕ, Bool, List, length, sym, ap, subst, 
 use Rattle.std.specs.List.{All}
 use Rattle.std.specs.List.Sorted.{IsStrictlyIncreasing}
 use Rattle.pair_decide.specs.Queries.{assigned_to}
-use Rattle.block_graph.specs.Comparing.{AreReadBy}
-use Rattle.block_graph.specs.Graph.{number_of}
+use Rattle.block_refine.specs.block_graph.Comparing.{AreReadBy}
+use Rattle.block_refine.specs.block_graph.Graph.{number_of}
 use Rattle.block_refine.proofs.Asking.{one_literal, answer_same, difference, answer_differs, answer_limit}
 use Rattle.block_refine.proofs.ask.ask.Goals as goal
 

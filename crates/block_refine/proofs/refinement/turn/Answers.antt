@@ -2,7 +2,7 @@
 use Rattle.std.proofs.Common.{◌++◌, List, ℕ, sym, subst}
 use Rattle.std.proofs.lemmas.Result.{IfOk-weaker}
 use Rattle.latch_blocks.specs.Partitions.{IsOnTheWay}
-use Rattle.block_graph.specs.declared.nets.BlockNets.{BlockNets}
+use Rattle.block_refine.specs.declared.block_graph.nets.BlockNets.{BlockNets}
 use Rattle.block_refine.specs.declared.pass.Round.{Round}
 use Rattle.block_refine.specs.Passes.{IsRound}
 use Rattle.block_refine.specs.Refining.{IsTurn}

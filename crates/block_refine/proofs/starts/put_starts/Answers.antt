@@ -2,7 +2,7 @@
 use Rattle.std.proofs.Common.{◌∙◌, ◌++◌, List, map, ap}
 use Rattle.std.proofs.lemmas.List.{take_all}
 use Rattle.flat_net.specs.declared.parts.LatchAt.{LatchAt}
-use Rattle.block_graph.proofs.Pushed.{pushed_none, pushed_more}
+use Rattle.block_refine.proofs.block_graph.Pushed.{pushed_none, pushed_more}
 use Rattle.block_refine.proofs.starts.put_starts.Goals as goal
 
 pub loop-latch-init : goal.loop-latch-init

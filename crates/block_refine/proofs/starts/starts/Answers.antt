@@ -1,6 +1,6 @@
 -- A's latches and then B's.
 use Rattle.flat_net.specs.declared.parts.LatchAt.{LatchAt}
-use Rattle.block_graph.proofs.Pushed.{both_sides}
+use Rattle.block_refine.proofs.block_graph.Pushed.{both_sides}
 use Rattle.block_refine.proofs.starts.starts.Goals as goal
 
 pub returns : goal.returns

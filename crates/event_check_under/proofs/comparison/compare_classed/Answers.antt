@@ -1,7 +1,7 @@
 -- The outcome by the pairs, or why they can't be compared.
 use Rattle.std.proofs.Common.{◌+◌, ℕ, List, length, Some, refl, sym, ap, subst, inr}
 use Rattle.event_names.proofs.under_base.compare_base.Refusals.{refused_by}
-use Rattle.event_answers_under.specs.assume_taken.Premises.{IsPremiseOf}
+use Rattle.event_answers_under.specs.assume_sequences.assume_taken.Premises.{IsPremiseOf}
 use Rattle.event_answers.proofs.Told.{told_outcome}
 use Rattle.event_meaning.specs.event_meaning_under.Answered.{ComparedInEventsUnder, IsComparedInEventsUnder}
 use Rattle.event_answers_under.proofs.Answering.{can_be_premise, met, pairs_compared}

@@ -2,8 +2,8 @@
 use Rattle.std.proofs.Common.{◌∙◌, ℕ, List, length, sym, ap, subst, arith, Some, Err, inl}
 use Rattle.interface.proofs.Numbering.{few_shared}
 use Rattle.outcome.specs.declared.verdict.LimitAt.TheVariants as limit_at
-use Rattle.event_answers_under.specs.assume_taken.Premises.{IsTaken}
-use Rattle.event_answers_under.specs.assume_taken.Taken.{IsUndecidedBy}
+use Rattle.event_answers_under.specs.assume_sequences.assume_taken.Premises.{IsTaken}
+use Rattle.event_meaning.specs.event_meaning_under.Taken.{IsUndecidedBy}
 use Rattle.event_meaning.specs.event_meaning_under.CompareError.{CompareError}
 use Rattle.event_names.specs.under_base.compare_base.Compared.{refusal_of}
 use Rattle.event_names.proofs.under_base.compare_base.Refusals.{refused_by}

@@ -1,7 +1,7 @@
 -- The limit of an enable or of a class, or what is refused before the pairs.
 use Rattle.std.proofs.Common.{◌+◌, ℕ, List, length, Some, Ok, sym, ap, subst, inr}
 use Rattle.event_names.proofs.under_base.compare_base.Refusals.{refused_by}
-use Rattle.event_answers_under.specs.assume_taken.Premises.{IsPremiseOf}
+use Rattle.event_answers_under.specs.assume_sequences.assume_taken.Premises.{IsPremiseOf}
 use Rattle.event_answers.specs.Reached.{ReachesPairs}
 use Rattle.event_answers.specs.declared.reaching.Reached.{Reached}
 use Rattle.event_answers.proofs.Told.{limit_at, told_outcome}

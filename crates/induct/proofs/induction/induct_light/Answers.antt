@@ -1,6 +1,6 @@
 -- By what comes of the refinement.
 use Rattle.std.proofs.Common.{sym, subst}
-use Rattle.block_outputs.specs.block_refine.Refining.{AreCoarsest, IsRefined}
+use Rattle.block_refine.specs.Refining.{AreCoarsest, IsRefined}
 use Rattle.induct.proofs.OwnNumbers.{orders_long}
 use Rattle.induct.proofs.induction.induct_light.Goals as goal
 

@@ -1,8 +1,0 @@
-use Rattle.std.proofs.Common.{◌≡◌, ◌++◌, take}
-use Rattle.std.specs.List.{flat_map}
-use Rattle.dimacs_text.specs.dimacs_writer.Written.{literal_piece}
-use Rattle.dimacs_text.proofs.dimacs_writer.writer.put_literals.Given as goal
-
--- the literals so far
-abbrev pub invariant-loop-literal : goal.invariant-loop-literal
-invariant-loop-literal l = l.text.items ≡ l.fn.text.items ++ flat_map literal_piece (take l.literal-index l.literals)
