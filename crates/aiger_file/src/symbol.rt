@@ -72,7 +72,12 @@ fn is_bad_byte(byte: u8) -> bool
 fn has_bad_byte(name: &[u8]) -> bool
     ensures { result ≡ list_any is_bad_byte name.now }
 {
-    name.iter().any(|byte| is_bad_byte(*byte))
+    for byte in name {
+        if is_bad_byte(*byte) {
+            return true;
+        }
+    }
+    false
 }
 
 fn is_bad_name(name: &[u8]) -> bool

@@ -67,7 +67,12 @@ fn counts_fit(form: Form, greatest: u64, inputs: u64, latches: u64, gates: u64) 
 fn are_zeros(numbers: &[u64]) -> bool
     ensures { result ≡ list_all (λ n. n == 0) numbers.now }
 {
-    numbers.iter().all(|n| *n == 0)
+    for n in numbers {
+        if *n != 0 {
+            return false;
+        }
+    }
+    true
 }
 
 /// The header of these numbers.

@@ -58,8 +58,7 @@ pub fn keep_apart(
         vars: always.vars,
         bits: always.bits,
     })?;
-    keep_told(alloc, events, classes, latch, told, aparts)?;
-    Ok(())
+    keep_told(alloc, events, classes, latch, told, aparts)
 }
 
 /// Puts behind the others what tells the latch from each class.

@@ -68,7 +68,7 @@ pub(crate) fn outcome_of(
         left_latches: a.latches().len() as u32,
         right_latches: b.latches().len() as u32,
         assumed: Some(name),
-        exposed: setup.exposed,
+        exposed: setup.into_exposed(),
         classes: 0,
         pairs: findings.pairs,
         through: findings.through,

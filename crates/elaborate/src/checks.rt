@@ -36,16 +36,24 @@ pub(crate) fn is_long(prefix: usize, name: &[u8]) -> bool
 pub(crate) fn are_long(prefix: usize, names: &[Word]) -> bool
     ensures { result ≡ list_any (is_long_behind prefix) names.now }
 {
-    names.iter().any(|name| is_long(prefix, name.as_slice()))
+    for name in names {
+        if is_long(prefix, name.as_slice()) {
+            return true;
+        }
+    }
+    false
 }
 
 /// Whether one of the actuals behind so many bytes has more than 4,096 bytes.
 fn actuals_are_long(prefix: usize, pairs: &[Pair]) -> bool
     ensures { result ≡ list_any (λ p. is_long_behind prefix p.actual) pairs.now }
 {
-    pairs
-        .iter()
-        .any(|pair| is_long(prefix, pair.actual.as_slice()))
+    for pair in pairs {
+        if is_long(prefix, pair.actual.as_slice()) {
+            return true;
+        }
+    }
+    false
 }
 
 /// The number of the model that is entered.

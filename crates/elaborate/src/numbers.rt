@@ -18,11 +18,12 @@ pub(crate) fn number(
 {
     let mut flat = prefix.to_vec(alloc)?;
     put(&mut flat, name)?;
-    if let Some(number) = table.find(flat.as_slice()) {
+    let whole = flat.as_slice();
+    if let Some(number) = table.find(whole) {
         return Ok(number);
     }
     let number = table.len();
-    table.add(alloc, flat.as_slice())?;
+    table.add(alloc, whole)?;
     Ok(number)
 }
 

@@ -79,7 +79,12 @@ impl Scope {
 fn has_step(steps: &[Step], model: u32) -> bool
     ensures { result ≡ list_any (λ s. s.model == model) steps.now }
 {
-    steps.iter().any(|step| step.model == model)
+    for step in steps {
+        if step.model == model {
+            return true;
+        }
+    }
+    false
 }
 
 /// What stands before the names of the signals inside an instance.

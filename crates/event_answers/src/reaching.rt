@@ -1,12 +1,13 @@
 //! The steps of a comparison in the event form up to its pairs.
 
-ghost use Rattle.std.specs.Prelude.{◌≡◌, ◌≤◌};
+ghost use Rattle.std.specs.Prelude.{◌≡◌, ◌≤◌, IfOk};
 ghost use Rattle.circuit_theory.specs.Interface.{shared_inputs};
 ghost use Rattle.flat_net.specs.Comparable.{IsComparable};
 ghost use Rattle.flat_net.specs.View.{ports_of};
 ghost use Rattle.sec_setup.specs.Matching.{InterfacesMatch};
 ghost use Rattle.event_names.specs.event_setup.Recovered.{AreBothMarked, AreKnown};
 ghost use Rattle.event_names.specs.event_setup.Setup.{IsEventSetupOf};
+ghost use Rattle.event_names.specs.Named.{latch_names};
 ghost use Rattle.event_answers.specs.Reached.{ReachesPairs};
 
 use crate::limits::{unclassed, unrecovered};
@@ -17,7 +18,7 @@ use event_names::{
 use flat_net::Net;
 use interface::SignalPairs;
 use outcome::{LimitAt, Settings};
-use sec_base::{Ids, MAX_CONFLICTS, NameTable, Words};
+use sec_base::{Ids, MAX_CONFLICTS, NameTable, NoMemory, Words};
 use std::alloc::Global;
 
 /// The pairs that are compared, with their depths, and whether latches are cut open.
@@ -97,6 +98,15 @@ fn reach_recovered(
     reach_set_up(alloc, a, b, setup, settings)
 }
 
+/// The names of the latches of both circuits.
+fn both_latch_names(alloc: Global, setup: &EventSetup) -> Result<(Words, Words), NoMemory>
+    ensures { IfOk result (λ names. (names.0 ≡ latch_names setup.now.left.net) × (names.1 ≡ latch_names setup.now.right.net)) }
+{
+    let left_latches = latch_names(alloc, setup.left.net())?;
+    let right_latches = latch_names(alloc, setup.right.net())?;
+    Ok((left_latches, right_latches))
+}
+
 /// The same by this setup.
 fn reach_set_up(
     alloc: Global,
@@ -114,8 +124,8 @@ fn reach_set_up(
 {
     setup.left.keeps();
     setup.right.keeps();
-    let left_latches = latch_names(alloc, setup.left.net())?;
-    let right_latches = latch_names(alloc, setup.right.net())?;
+    let latches = both_latch_names(alloc, &setup)?;
+    let (left_latches, right_latches) = latches;
     let cut = setup.is_cut();
     let EventSetup {
         left,

@@ -1,5 +1,6 @@
 -- Where a class query met the limit.
-use Rattle.std.proofs.Common.{◌≡◌, ◌∙◌, ◌<◌, ℕ, List, ◌∷◌, length, slice_get, Option, Some, None, Result, Err, sym, ap, subst, arith}
+use Rattle.std.proofs.Common.{◌≡◌, ◌∙◌, ◌<◌, ℕ, List, ◌∷◌, length, slice_get, Option, Some, None, Result, Ok, Err, true, true≢false, sym, ap, subst, arith}
+use Rattle.std.specs.Prelude.{is_ok, OnOk}
 use Rattle.std.specs.List.{All}
 use Rattle.std.proofs.lemmas.Option.{slice_get_within}
 use Rattle.circuit_theory.specs.declared.Side.{Side}
@@ -54,6 +55,30 @@ third_of e = cc
 
 pub error_is : {X : Type 0} {e f : EventError} → ◌≡◌ {A = Result X EventError} (Err e) (Err f) → e ≡ f
 error_is q = cc
+
+-- what is made isn't refused, and neither is memory that is wanted one of the other causes
+pub no_error : {X : Type 0} {x : X} {e : EventError} → ◌≡◌ {A = Result X EventError} (Ok x) (Err e) → ⊥
+no_error q = cc
+
+pub many_no_large : {side : Side} → event_error.TooManyEvents ≡ event_error.TooLarge side → ⊥
+many_no_large q = cc
+
+pub many_no_limit : {t : Tag} {p : Option Tag} {y : Proof} → event_error.TooManyEvents ≡ event_error.Limit t p y → ⊥
+many_no_limit q = cc
+
+pub memory_no_many : {X : Type 0} {r : Result X EventError} {e : EventError} → r ≡ Err e → e ≡ event_error.NoMemory → r ≡ Err event_error.TooManyEvents → ⊥
+memory_no_many p q is = cc
+
+pub memory_no_large : {X : Type 0} {r : Result X EventError} {e : EventError} {side : Side} → r ≡ Err e → e ≡ event_error.NoMemory → r ≡ Err (event_error.TooLarge side) → ⊥
+memory_no_large p q is = cc
+
+pub memory_no_limit : {X : Type 0} {r : Result X EventError} {e : EventError} {t : Tag} {o : Option Tag} {y : Proof} → r ≡ Err e → e ≡ event_error.NoMemory → r ≡ Err (event_error.Limit t o y) → ⊥
+memory_no_limit p q is = cc
+
+-- what holds where it is done
+pub when_ok : {X E P : Type 0} (r : Result X E) → is_ok r ≡ true → OnOk r P → P
+when_ok (Ok x) e h = h
+when_ok (Err x) e h = absurd (true≢false (sym e))
 
 not_memory : {t : Tag} {p : Option Tag} {y : Proof} → event_error.NoMemory ≡ event_error.Limit t p y → ⊥
 not_memory e = cc

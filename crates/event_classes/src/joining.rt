@@ -1,6 +1,6 @@
 //! The next latch joins a class.
 
-ghost use Rattle.std.specs.Prelude.{◌≡◌, ◌<◌, ◌≤◌, ℕ, suc, List, ◌∷◌, length, Option, Err, OnOk};
+ghost use Rattle.std.specs.Prelude.{◌≡◌, ◌<◌, ◌≤◌, ℕ, suc, List, ◌∷◌, length, Option, Err, true, is_ok, OnOk};
 ghost use Rattle.circuit_theory.specs.declared.Side.{Side};
 ghost use Rattle.circuit_theory.specs.Joined.{Either};
 ghost use Rattle.class_fits.specs.class_search.Comparing.{IsReadyEnable};
@@ -49,11 +49,9 @@ pub(crate) fn join_next(
     map.left_count.keeps();
     map.right_count.keeps();
     if let Some(class) = map.table.class_of(enable.value, enable.care) {
-        take_latch(map, tag, class)?;
-        return Ok(());
+        return of_memory(take_latch(map, tag, class));
     }
-    join_asked(alloc, map, tag, enable, conflicts)?;
-    Ok(())
+    join_asked(alloc, map, tag, enable, conflicts)
 }
 
 /// The next latch is given its class, where no earlier latch has the literals of its enable.
@@ -86,10 +84,7 @@ fn join_asked(
         &enable,
         conflicts,
     ) {
-        Ok(fit) => {
-            join_fit(alloc, map, tag, enable, fit)?;
-            Ok(())
-        }
+        Ok(fit) => join_fit(alloc, map, tag, enable, fit),
         Err(unfit) => Err(limit_of(map.classes.as_slice(), tag, unfit)),
     }
 }
@@ -137,18 +132,24 @@ fn join_fit(
     ensures limit { (latch : Tag) (other : Option Tag) (proof : Proof) → result ≡ Err (event_error.Limit latch other proof) → ⊥ }
 {
     match fit {
-        Fit::Always => {
-            join_always(map, tag, &enable)?;
-            Ok(())
-        }
-        Fit::Joins(place) => {
-            join_class(map, tag, enable, place)?;
-            Ok(())
-        }
+        Fit::Always => of_memory(join_always(map, tag, &enable)),
+        Fit::Joins(place) => of_memory(join_class(map, tag, enable, place)),
         Fit::Founds(always, told) => {
-            found_class(alloc, map, tag, enable, always, told.as_slice())?;
-            Ok(())
+            found_class(alloc, map, tag, enable, always, told.as_slice())
         }
+    }
+}
+
+/// What is done, or that memory was wanted.
+fn of_memory(done: Result<(), NoMemory>) -> Result<(), EventError>
+    ensures done { OnOk result (is_ok done ≡ true) }
+    ensures many { result ≡ Err event_error.TooManyEvents → ⊥ }
+    ensures large { (side : Side) → result ≡ Err (event_error.TooLarge side) → ⊥ }
+    ensures limit { (latch : Tag) (other : Option Tag) (proof : Proof) → result ≡ Err (event_error.Limit latch other proof) → ⊥ }
+{
+    match done {
+        Ok(()) => Ok(()),
+        Err(_) => Err(EventError::NoMemory),
     }
 }
 
@@ -211,12 +212,34 @@ fn found_class(
     ensures large { (side : Side) → result ≡ Err (event_error.TooLarge side) → ⊥ }
     ensures limit { (latch : Tag) (other : Option Tag) (proof : Proof) → result ≡ Err (event_error.Limit latch other proof) → ⊥ }
 {
-    map.left.keeps();
-    map.right.keeps();
-    map.events.keeps();
     if map.classes.len() >= CLASSES {
         return Err(EventError::TooManyEvents);
     }
+    of_memory(put_founded(alloc, map, tag, enable, always, told))
+}
+
+/// The same, where there is room for one more.
+fn put_founded(
+    alloc: Global,
+    map: &mut ClassMap,
+    tag: Tag,
+    enable: Enable,
+    always: Difference,
+    told: &[Told],
+) -> Result<(), NoMemory>
+    requires latch { IsTagOf map.old.left.net map.old.right.net tag }
+    requires enable { IsEnableAt map.old tag enable }
+    requires own { IsOwnAt map.old tag enable }
+    requires ready { IsReadyEnable map.old.events enable }
+    requires absent { IsAbsent map.old enable }
+    requires fits { FitsIn map.old tag (suc (length map.old.classes.items)) }
+    requires told { AreToldAt map.old tag always told.now }
+    requires few { length map.old.classes.items < 500 }
+    ensures { OnOk result (GoesOn map.old map.new tag (with_next map.old tag)) }
+{
+    map.left.keeps();
+    map.right.keeps();
+    map.events.keeps();
     let class = map.classes.len() as u32 + 1;
     keep_apart(
         alloc,

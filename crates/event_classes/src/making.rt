@@ -5,7 +5,7 @@ ghost use Rattle.circuit_theory.specs.declared.Side.{Side};
 ghost use Rattle.circuit_theory.specs.Depth.{LatchesHaveDepths};
 ghost use Rattle.flat_net.specs.View.{circuit_of};
 ghost use Rattle.event_nodes.specs.View.{Enabled};
-ghost use Rattle.class_fits.specs.event_order.Order.{IsTagOf};
+ghost use Rattle.class_fits.specs.event_order.Order.{IsTagOf, IsTagOrder};
 ghost use Rattle.class_fits.specs.pair_decide.declared.query.Proof.{Proof};
 ghost use Rattle.sec_base.specs.declared.basics.Tag.{Tag};
 ghost use Rattle.event_classes.specs.declared.error.EventError.TheVariants as event_error;
@@ -50,14 +50,47 @@ pub fn make_classes(
     if tags.len() > LATCHES {
         return Err(EventError::TooManyEvents);
     }
+    make_over(alloc, left, right, tags.as_slice(), conflicts)
+}
+
+/// The same of these latches, in their order. Where it is refused, the map is let go by one call.
+fn make_over(
+    alloc: Global,
+    left: EventCircuit,
+    right: EventCircuit,
+    tags: &[Tag],
+    conflicts: u32,
+) -> Result<ClassMap, EventError>
+    requires left_depths { LatchesHaveDepths (circuit_of left.net) (Enabled left) }
+    requires right_depths { LatchesHaveDepths (circuit_of right.net) (Enabled right) }
+    requires left_classes { All (λ k. k ≡ 0) left.classes }
+    requires right_classes { All (λ k. k ≡ 0) right.classes }
+    requires named { All (IsTagOf left.net right.net) tags.now }
+    requires order { IsTagOrder left.net right.net tags.now }
+    requires few { length tags.now ≤ 30000 }
+    requires conflicts { conflicts ≤ MAX_CONFLICTS }
+    ensures made { IfOk result (IsClassMapOf left right) }
+    ensures many { result ≡ Err event_error.TooManyEvents → IsTooMany left right }
+    ensures large { (side : Side) → result ≡ Err (event_error.TooLarge side) → IsTooHeavy left right side }
+    ensures limit { (latch : Tag) (other : Option Tag) (proof : Proof) → result ≡ Err (event_error.Limit latch other proof) → IsLimitOf left right latch other conflicts proof }
+{
+    left.keeps();
+    right.keeps();
     let mut map = begin(alloc, left, right)?;
-    join_all(alloc, &mut map, tags.as_slice(), conflicts)?;
-    map.left.keeps();
-    map.right.keeps();
-    map.events.keeps();
-    map.left_count.keeps();
-    map.right_count.keeps();
-    Ok(map)
+    match join_all(alloc, &mut map, tags, conflicts) {
+        Ok(()) => {
+            map.left.keeps();
+            map.right.keeps();
+            map.events.keeps();
+            map.left_count.keeps();
+            map.right_count.keeps();
+            Ok(map)
+        }
+        Err(error) => {
+            drop(map);
+            Err(error)
+        }
+    }
 }
 
 /// No latch is taken.

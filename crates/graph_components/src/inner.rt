@@ -16,8 +16,7 @@ pub fn inner_nodes(alloc: Global, nodes: &[Node]) -> Result<Vec<Node>, NoMemory>
 {
     let found = components_of(alloc, nodes)?;
     let labels = ranked(nodes, found.as_slice());
-    let inner = within(alloc, nodes, labels)?;
-    Ok(inner)
+    within(alloc, nodes, labels)
 }
 
 /// The numbers, if no signal reads one with a greater number, or else none.

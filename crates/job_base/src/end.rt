@@ -94,8 +94,7 @@ fn status_of(finding: &Finding) -> StatusName
 fn keep_proof(proofs: &mut Proofs, pair: PairResult) -> Result<(), NoMemory>
     ensures { OnOk result (proofs.new ≡ proofs.old ++ option_to_list pair.proof) }
 {
-    let PairResult { proof, .. } = pair;
-    match proof {
+    match pair.into_proof() {
         Some(proof) => proofs.push(proof),
         None => Ok(()),
     }
@@ -127,7 +126,7 @@ fn proofs_from(alloc: Global, first: Option<Proof>, pairs: PairResults) -> Resul
 fn proofs_of(alloc: Global, outcome: Outcome) -> Result<Proofs, NoMemory>
     ensures { IfOk result (λ proofs. proofs ≡ outcome_proofs outcome) }
 {
-    let Outcome { pairs, verdict, .. } = outcome;
+    let (pairs, verdict) = outcome.into_parts(alloc);
     proofs_from(alloc, verdict.into_proof(), pairs)
 }
 

@@ -38,7 +38,6 @@ pub enum LineFault {
 }
 
 /// Why a job ends without an answer.
-#[derive(Drop)]
 pub enum Refusal {
     /// The file has more than 16,777,216 bytes.
     TooLong(File),
@@ -63,6 +62,25 @@ pub enum Refusal {
     Misfit(Misfit),
     /// No output has this name.
     Pair(Word),
+}
+
+/// It is let go by one call: an owner isn't taken apart variant by variant at each way out.
+impl Drop for Refusal {
+    fn drop(self) {
+        match self {
+            Refusal::TooLong(_) => {}
+            Refusal::Text(_, _, _) => {}
+            Refusal::Design(_, _) => {}
+            Refusal::Record(_, _, _) => {}
+            Refusal::Interface(_) => {}
+            Refusal::TooLarge(_) => {}
+            Refusal::TooManyEvents => {}
+            Refusal::Assume(_) => {}
+            Refusal::Vacuous => {}
+            Refusal::Misfit(_) => {}
+            Refusal::Pair(_) => {}
+        }
+    }
 }
 
 /// What a search of the clauses of a pair of outputs finds in place of a refutation.

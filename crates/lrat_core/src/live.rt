@@ -18,10 +18,16 @@ struct Span {
 
 /// Clauses by their numbers. The literals of all clauses stand one after another in one store. A contract sees the numbers
 /// with their clauses in any order, and speaks of the clause of each number.
-#[derive(Drop)]
 pub(crate) struct LiveClauses {
     store: Vec<Literal>,
     spans: HashMap<u64, Span>,
+}
+
+/// It is let go by one call: an owner isn't taken apart field by field at each way out.
+impl Drop for LiveClauses {
+    fn drop(self) {
+        let LiveClauses { store: _, spans: _ } = self;
+    }
 }
 
 impl Model for LiveClauses {

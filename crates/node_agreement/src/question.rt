@@ -16,7 +16,7 @@ const NARROW: usize = 16;
 const SHORT: u32 = 100;
 
 /// What a proof took.
-#[derive(Clone, Copy, Debug)]
+#[derive(Clone, Copy)]
 pub(crate) struct Cost {
     /// The conflicts of a search.
     pub conflicts: u32,

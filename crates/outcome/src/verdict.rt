@@ -4,11 +4,12 @@ ghost use Rattle.std.specs.Prelude.{◌≡◌, option_to_list};
 ghost use Rattle.outcome.specs.Proofs.{limit_proofs, verdict_proofs};
 
 use pair_decide::Proof;
+use std::alloc::Global;
+use std::mem;
 use witness_report::frame_report::Frame;
 use witness_report::{Bits, PairAnswer, PairName, Seq, Side, Witness, Word, Words};
 
 /// What was found of one pair.
-#[derive(Drop)]
 pub struct PairResult {
     pub name: PairName,
     /// The greater of the two sides' sequential depths, in cycles; in the event mode the number of event nodes that both sides reach
@@ -17,6 +18,27 @@ pub struct PairResult {
     pub answer: PairAnswer,
     /// The clauses of the pair's query and the log of the search, exactly where the answer is `Limit`.
     pub proof: Option<Proof>,
+}
+
+/// It is let go by one call: an owner isn't taken apart field by field at each way out.
+impl Drop for PairResult {
+    fn drop(self) {
+        let PairResult {
+            name: _,
+            size: _,
+            answer: _,
+            proof: _,
+        } = self;
+    }
+}
+
+impl PairResult {
+    /// The proof of the limit, where the answer is `Limit`.
+    pub fn into_proof(mut self) -> Option<Proof>
+        ensures { result ≡ self.proof }
+    {
+        self.proof.take()
+    }
 }
 
 /// The results of the pairs, in order.
@@ -199,7 +221,6 @@ impl Verdict {
 }
 
 /// All that a comparison finds.
-#[derive(Drop)]
 pub struct Outcome {
     /// The number of inputs that both circuits have.
     pub inputs: u32,
@@ -215,4 +236,33 @@ pub struct Outcome {
     /// The greatest depth of the pairs, in cycles; 0 in the event mode.
     pub through: u32,
     pub verdict: Verdict,
+}
+
+/// It is let go by one call: an owner isn't taken apart field by field at each way out.
+impl Drop for Outcome {
+    fn drop(self) {
+        let Outcome {
+            inputs: _,
+            left_latches: _,
+            right_latches: _,
+            assumed: _,
+            exposed: _,
+            classes: _,
+            pairs: _,
+            through: _,
+            verdict: _,
+        } = self;
+    }
+}
+
+impl Outcome {
+    /// The results of the pairs, and the verdict.
+    pub fn into_parts(mut self, alloc: Global) -> (PairResults, Verdict)
+        ensures pairs { result.0 ≡ self.pairs }
+        ensures verdict { result.1 ≡ self.verdict }
+    {
+        let pairs = mem::replace(&mut self.pairs, Seq::new(alloc));
+        let verdict = mem::replace(&mut self.verdict, Verdict::Equal);
+        (pairs, verdict)
+    }
 }

@@ -10,13 +10,23 @@ use sec_base::{Bits, NameTable, NoMemory};
 use std::alloc::Global;
 
 /// A circuit's run with its marks, and where the bits of its inputs stand in the rows of a stimulus.
-#[derive(Drop)]
 pub(crate) struct Feed<'a> {
     pub(crate) sim: MarkedSim<'a>,
     /// For each input the column of its name, where there is one.
     columns: Vec<Option<u32>>,
     /// Room for the bits of the inputs.
     bits: Vec<bool>,
+}
+
+/// It is let go by one call: an owner isn't taken apart field by field at each way out.
+impl Drop for Feed<'_> {
+    fn drop(self) {
+        let Feed {
+            sim: _,
+            columns: _,
+            bits: _,
+        } = self;
+    }
 }
 
 impl<'a> Feed<'a> {

@@ -1,13 +1,16 @@
 -- What is asked of a pair by the place of its functions.
-use Rattle.std.proofs.Common.{ℕ, List, Option, Some, None, sym, subst, inl, inr}
+use Rattle.std.proofs.Common.{◌≡◌, ◌∙◌, ℕ, List, Option, Some, None, get_or, slice_get, refl, sym, subst, inl, inr}
 use Rattle.std.specs.Prelude.{IfSome}
+use Rattle.std.proofs.lemmas.Option.{same_Some, slice_get_within}
 use Rattle.interface.specs.declared.pairs.SignalPair.{SignalPair}
 use Rattle.sec_setup.specs.declared.setup.Setup.{Setup}
+use Rattle.unfold_places.specs.declared.signal_function.Unfolded.{Unfolded}
 use Rattle.pair_decide.specs.declared.query.Query.{Query}
 use Rattle.outcome_fits.specs.Obligation.{Obligation}
 use Rattle.plain_asked.specs.declared.functions.Functions.{Functions}
 use Rattle.plain_asked.specs.Apart.{IsPairAt}
 use Rattle.plain_asked.specs.Asked.{AreAskedAt, AskedApart, AsksWith, IsOnlyQuery, StandAt}
+use Rattle.shift_variables.proofs.Reading.{item_at}
 use Rattle.plain_asked.proofs.PairQueries.{in_order}
 
 module _ (s : Setup) (f : Functions) (p : SignalPair) where
@@ -40,3 +43,22 @@ module _ (s : Setup) (f : Functions) (p : SignalPair) where
         right_is = h.right_is;
         queries_are = subst (IsOnlyQuery f.places h.left_function h.right_function) (sym w.queries_are) (asked h.left_function h.right_function h.left_at h.right_at);
       })
+
+module _ (f : Functions) where
+  -- what stands at a place that is one
+  pub standing : (place : Option ℕ) (k : ℕ) → place ≡ Some k → IfSome place (StandAt f) → StandAt f k
+  standing place k is h = subst (λ (p : Option ℕ). IfSome p (StandAt f)) is h
+
+  module _ (k : ℕ) (w : StandAt f k) where
+    -- the functions that are read there
+    pub read_left : (l : Unfolded) → l ≡ get_or f.left.items k l → w.left ≡ l
+    read_left l is = same_Some w.left l (sym w.left_at ∙ item_at f.left.items f.left.items k l refl (slice_get_within f.left.items k w.left w.left_at) is)
+
+    pub read_right : (r : Unfolded) → r ≡ get_or f.right.items k r → w.right ≡ r
+    read_right r is = same_Some w.right r (sym w.right_at ∙ item_at f.right.items f.right.items k r refl (slice_get_within f.right.items k w.right w.right_at) is)
+
+    -- their query is what is asked there
+    pub asked_here : (l r : Unfolded) (queries : List Query) → w.left ≡ l → w.right ≡ r → IsOnlyQuery f.places l r queries → AreAskedAt f (Some k) queries
+    asked_here l r queries left right is = λ x y at_x at_y.
+        subst (λ (u : Unfolded). IsOnlyQuery f.places u y queries) (sym left ∙ same_Some w.left x (sym w.left_at ∙ at_x))
+        (subst (λ (u : Unfolded). IsOnlyQuery f.places l u queries) (sym right ∙ same_Some w.right y (sym w.right_at ∙ at_y)) is)

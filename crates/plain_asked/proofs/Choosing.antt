@@ -40,6 +40,19 @@ pub at_end : {X : Type 0} (xs : List X) (y : X) (ys : List X) → slice_get (xs 
 at_end [] y ys = refl
 at_end (z ∷ xs) y ys = at_end xs y ys
 
+-- at first none is chosen
+no_signal : (s : Signal) → Contains [] s → ⊥
+no_signal s h = omega (arith, h.1)
+
+pub none_chosen : (lefts rights : List Signal) (xs ys : List Lit) (c : Chosen) → c.left.items ≡ [] → c.right.items ≡ [] → c.at.items ≡ [] → AreChosen lefts rights xs ys 0 c
+none_chosen lefts rights xs ys c left right at = record {
+  each = ap length at;
+  alike = ap length left ∙ sym (ap length right);
+  left = λ s h. absurd (no_signal s (subst (λ (l : List Signal). Contains l s) left h));
+  right = λ s h. absurd (no_signal s (subst (λ (l : List Signal). Contains l s) right h));
+  are = λ i s t x y below a b d e. absurd (omega (arith, below));
+}
+
 module _ (lefts rights : List Signal) (xs ys : List Lit) (i : ℕ) (old new : Chosen) (s t : Signal) (x y : Lit) (s_at : slice_get lefts i ≡ Some s) (t_at : slice_get rights i ≡ Some t) (x_at : slice_get xs i ≡ Some x) (y_at : slice_get ys i ≡ Some y) where
   -- what was chosen stays so
   chosen_later : IsPut s t x y old new → (s′ t′ : Signal) (x′ y′ : Lit) (place : Option ℕ) → IsChosen s′ t′ x′ y′ old.left.items old.right.items place → IsChosen s′ t′ x′ y′ new.left.items new.right.items place

@@ -1,7 +1,8 @@
 -- Functions of signals while the graph and the table grow, and the weight of their unfoldings.
-use Rattle.std.proofs.Common.{◌≡◌, ◌∙◌, ◌<◌, ℕ, List, [], ◌∷◌, ◌++◌, map, Result, Ok, Err, ap, subst}
+use Rattle.std.proofs.Common.{◌≡◌, ◌∙◌, ◌+◌, ◌<◌, ℕ, List, [], ◌∷◌, ◌++◌, length, map, take, get_or, Result, Ok, Err, sym, ap, subst}
 use Rattle.std.specs.Prelude.{OnOk}
 use Rattle.std.specs.List.{All, AllZip, Contains}
+use Rattle.std.proofs.lemmas.List.{map-append, take_more}
 use Rattle.std.proofs.lemmas.List.Elements.{All-contains}
 use Rattle.circuit_theory.specs.Circuit.{Circuit}
 use Rattle.circuit_theory.specs.Sizes.{IsWeight, IsOver}
@@ -20,6 +21,14 @@ use Rattle.plain_asked.specs.declared.error.PlainError.{PlainError}
 use Rattle.plain_asked.specs.declared.error.PlainError.TheVariants as refused
 use Rattle.interface.specs.declared.pairs.SignalPair.{SignalPair}
 use Rattle.plain_asked.specs.Pairs.{IsFunctionOf, AreLight, AreTooLarge, IsRefusalOf, Unfolds, left_signals, right_signals}
+
+-- what is pushed of the next element
+pub map_next : {X Y : Type 0} (f : X → Y) (xs : List X) (ys new : List Y) (i : ℕ) (x : X) → i < length xs → x ≡ get_or xs i x → ys ≡ map f (take i xs) → new ≡ ys ++ f x ∷ [] → new ≡ map f (take (i + 1) xs)
+map_next {X} {Y} f xs ys new i x inside is before pushed =
+    pushed
+    ∙ (ap (λ (l : List Y). l ++ f x ∷ []) before
+    ∙ (ap (λ (y : X). map f (take i xs) ++ f y ∷ []) is
+    ∙ (sym (map-append f (take i xs) (get_or xs i x ∷ [])) ∙ ap (map f) (sym (take_more xs i x inside)))))
 
 -- functions of the signals stay them while the graph and the table grow
 pub functions_later : {X : Type 0} (signal : X → ℕ) (n : NetView) (order : List ℕ) (g h : List Node) (places more : List (ℕ × ℕ)) → Grows g h → Adds (λ p. Unit {0}) places more → (xs : List X) (us : List Unfolded) →

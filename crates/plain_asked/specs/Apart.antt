@@ -1,6 +1,7 @@
 -- The functions of the pairs whose signals have two literals.
-use Rattle.std.specs.Prelude.{◌≡◌, ℕ, ◌<◌, List, [], ◌∷◌, ◌++◌, length, map, slice_get, Option, Some, None, Result, Ok, Err, Contains}
+use Rattle.std.specs.Prelude.{◌≡◌, ℕ, ◌+◌, ◌*◌, ◌<◌, ◌≤◌, List, [], ◌∷◌, ◌++◌, length, map, slice_get, Option, Some, None, Result, Ok, Err, Contains}
 use Rattle.std.specs.List.{AllZip}
+use Rattle.sec_base.specs.declared.limits.TheConstants.{MAX_WEIGHT}
 use Rattle.flat_net.specs.declared.signals.Signal.{Signal}
 use Rattle.flat_net.specs.View.{NetView}
 use Rattle.aig.specs.declared.node.Lit.{Lit}
@@ -99,3 +100,16 @@ pub record AreChosenOf (a b : UnfolderView) (g : List Node) (places : List (ℕ 
   pub left_lits : AllZip (λ (s : Signal) (x : Lit). IsLiteralOf a.net a.order g places s.0 x.0) lefts xs
   pub right_lits : AllZip (λ (s : Signal) (x : Lit). IsLiteralOf b.net b.order g places s.0 x.0) rights ys
   pub chosen : AreChosen lefts rights xs ys (length lefts) c
+
+-- the signals of the pairs are chosen by unfolders that have unfolded nothing else
+pub record HaveChosen (a b a_new b_new : UnfolderView) (g h : List Node) (places more : List (ℕ × ℕ)) (pairs : List SignalPair) (c : Chosen) : Type 0 where
+  pub chosen : AreChosenOf a_new b_new h more pairs c
+  pub left : HasDone a a_new h more (left_signals pairs)
+  pub right : HasDone b b_new h more (right_signals pairs)
+  pub nodes : length h ≤ length g + 2 * MAX_WEIGHT
+  pub entries : length more ≤ length places + 2 * MAX_WEIGHT
+
+-- or the first circuit is told whose outputs weigh too much
+abbrev pub ChoosesOf : UnfolderView → UnfolderView → UnfolderView → UnfolderView → List Node → List Node → List (ℕ × ℕ) → List (ℕ × ℕ) → List SignalPair → Result Chosen PlainError → Type 0
+ChoosesOf a b a_new b_new g h places more pairs (Ok c) = HaveChosen a b a_new b_new g h places more pairs c
+ChoosesOf a b a_new b_new g h places more pairs (Err e) = UnfoldsApart a.net b.net a.order b.order pairs (Err e)

@@ -1,11 +1,11 @@
 //! The functions of the pairs whose signals have two literals.
 
-ghost use Rattle.std.specs.Prelude.{◌≡◌, ℕ, ◌+◌, ◌*◌, ◌^◌, ◌<◌, ◌≤◌, ◌++◌, map, length, All, Contains, IfOk, IfErr, OnOk, Err};
+ghost use Rattle.std.specs.Prelude.{◌≡◌, ℕ, ◌+◌, ◌^◌, ◌<◌, ◌≤◌, ◌++◌, map, length, All, Contains, IfOk, IfErr, OnOk};
 ghost use Rattle.std.specs.List.{AllZip};
 ghost use Rattle.cbf_unfold.specs.Building.{IsLater};
 ghost use Rattle.cbf_unfold.specs.Unfolded.{IsLiteralOf, Fits};
 ghost use Rattle.unfold_places.specs.InputOrder.{IsOrderOf};
-ghost use Rattle.plain_asked.specs.Apart.{AreChosen, AreChosenOf, HasDone, IsNew, IsPut, UnfoldsApart};
+ghost use Rattle.plain_asked.specs.Apart.{AreChosen, ChoosesOf, IsNew, IsPut, UnfoldsApart};
 ghost use Rattle.plain_asked.specs.Pairs.{IsFunctionOf, IsRefusalOf, left_signals, right_signals};
 
 use crate::error::PlainError;
@@ -14,7 +14,7 @@ use aig::{Aig, Lit};
 use cbf_unfold::{UnfoldError, Unfolded, Unfolder};
 use flat_net::{Net, Signal};
 use latch_graph::LatchGraph;
-use sec_base::{MAX_WEIGHT, NoMemory, Orders, PlaceTable, Side};
+use sec_base::{NoMemory, Orders, PlaceTable, Side};
 use sec_setup::SignalPair;
 use std::alloc::Global;
 
@@ -28,11 +28,35 @@ pub struct PairFunctions {
 }
 
 /// The signals of the pairs whose literals differ, and where they stand.
-#[derive(Drop)]
 pub(crate) struct Chosen {
     pub(crate) left: Vec<Signal>,
     pub(crate) right: Vec<Signal>,
     pub(crate) at: Vec<Option<usize>>,
+}
+
+/// It is let go by one call: an owner isn't taken apart field by field at each way out.
+impl Drop for Chosen {
+    fn drop(self) {
+        let Chosen {
+            left: _,
+            right: _,
+            at: _,
+        } = self;
+    }
+}
+
+impl Chosen {
+    /// Where they stand.
+    fn into_at(self) -> Vec<Option<usize>>
+        ensures { result.items ≡ self.at.items }
+    {
+        let Chosen {
+            left: _,
+            right: _,
+            at,
+        } = self;
+        at
+    }
 }
 
 /// The functions of the pairs whose signals have different literals: no variables are listed where they have one. All literals of A are
@@ -84,7 +108,7 @@ fn unfold_by(
             left,
             right,
         },
-        at: chosen.at,
+        at: chosen.into_at(),
     })
 }
 
@@ -103,12 +127,7 @@ fn choose_pairs(
     requires right_new { IsNew b_side.old }
     requires nodes { length aig.old ≤ 2 ^ 28 }
     requires entries { length places.old ≤ 2 ^ 28 }
-    ensures chosen { IfOk result (AreChosenOf a_side.new b_side.new aig.new places.new pairs.now) }
-    ensures left { OnOk result (HasDone a_side.old a_side.new aig.new places.new (left_signals pairs.now)) }
-    ensures right { OnOk result (HasDone b_side.old b_side.new aig.new places.new (right_signals pairs.now)) }
-    ensures refused { IfErr result (λ e. UnfoldsApart a_side.old.net b_side.old.net a_side.old.order b_side.old.order pairs.now (Err e)) }
-    ensures nodes { OnOk result (length aig.new ≤ length aig.old + 2 * MAX_WEIGHT) }
-    ensures entries { OnOk result (length places.new ≤ length places.old + 2 * MAX_WEIGHT) }
+    ensures { ChoosesOf a_side.old b_side.old a_side.new b_side.new aig.old aig.new places.old places.new pairs.now result }
 {
     let lefts = left_signals(alloc, pairs)?;
     let of_a = lefts.as_slice();

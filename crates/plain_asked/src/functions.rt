@@ -127,14 +127,20 @@ fn unfold_right(
 pub(crate) fn left_signals(alloc: Global, pairs: &[SignalPair]) -> Result<Vec<Signal>, NoMemory>
     ensures { IfOk result (λ signals. signals.items ≡ map (λ p. p.left) pairs.now) }
 {
-    let signals = pairs.iter().map(|pair| pair.left).collect(alloc)?;
+    let mut signals = Vec::new(alloc);
+    for pair in pairs {
+        signals.push(pair.left)?;
+    }
     Ok(signals)
 }
 
 pub(crate) fn right_signals(alloc: Global, pairs: &[SignalPair]) -> Result<Vec<Signal>, NoMemory>
     ensures { IfOk result (λ signals. signals.items ≡ map (λ p. p.right) pairs.now) }
 {
-    let signals = pairs.iter().map(|pair| pair.right).collect(alloc)?;
+    let mut signals = Vec::new(alloc);
+    for pair in pairs {
+        signals.push(pair.right)?;
+    }
     Ok(signals)
 }
 

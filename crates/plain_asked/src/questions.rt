@@ -75,8 +75,7 @@ fn obligation_of(
         &functions.left[i],
         &functions.right[i],
     )?;
-    let obligation = obligation_with(setup, i, queries)?;
-    Ok(obligation)
+    obligation_with(setup, i, queries)
 }
 
 /// What is asked of the pair at a place where the functions of those are given whose literals differ.
@@ -92,8 +91,7 @@ fn obligation_apart(
     ensures { IfOk result (λ o. (p : SignalPair) → slice_get setup.now.pairs i ≡ Some p → AskedApart setup.now functions.now.functions p o) }
 {
     let queries = queries_at(alloc, &functions.functions, functions.at[i])?;
-    let obligation = obligation_with(setup, i, queries)?;
-    Ok(obligation)
+    obligation_with(setup, i, queries)
 }
 
 /// The pair at a place, with these queries.

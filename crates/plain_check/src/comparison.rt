@@ -257,7 +257,7 @@ fn outcome_of(a: &Net, b: &Net, setup: Setup<'_>, findings: Findings) -> Outcome
         left_latches: a.latches().len() as u32,
         right_latches: b.latches().len() as u32,
         assumed: None,
-        exposed: setup.exposed,
+        exposed: setup.into_exposed(),
         classes: 0,
         pairs: findings.pairs,
         through: findings.through,

@@ -17,7 +17,6 @@ use std::alloc::Global;
 
 /// What two circuits are compared by: the nets in which the exposed latches are cut out, which are the circuits' own nets where none
 /// is exposed; the numbers of their inputs; and the pairs of their outputs.
-#[derive(Drop)]
 pub struct Setup<'a> {
     /// A's net with the exposed latches cut out.
     pub left: &'a Net,
@@ -37,12 +36,47 @@ pub struct Setup<'a> {
     pub pairs: SignalPairs,
 }
 
+/// It is let go by one call: an owner isn't taken apart field by field at each way out.
+impl Drop for Setup<'_> {
+    fn drop(self) {
+        let Setup {
+            left: _,
+            right: _,
+            left_graph: _,
+            right_graph: _,
+            inputs: _,
+            exposed: _,
+            orders: _,
+            columns: _,
+            pairs: _,
+        } = self;
+    }
+}
+
 impl<'a> Setup<'a> {
     /// Whether latches are cut open, so that a pair that differs isn't shown to differ.
     pub fn is_cut(&self) -> bool
         ensures { result ≡ is_cut self.now.exposed }
     {
         self.exposed.len() > 0
+    }
+
+    /// The names of the exposed latches.
+    pub fn into_exposed(self) -> Words
+        ensures { result ≡ self.entry.exposed }
+    {
+        let Setup {
+            left: _,
+            right: _,
+            left_graph: _,
+            right_graph: _,
+            inputs: _,
+            exposed,
+            orders: _,
+            columns: _,
+            pairs: _,
+        } = self;
+        exposed
     }
 }
 
@@ -69,7 +103,7 @@ pub fn set_up<'a>(
     a.keeps();
     b.keeps();
     cut.left.keeps();
-    let numbering = number(alloc, a, b, cut, shared, exposure)?;
+    let exposed = exposure.names.copy()?;
     let pairs = pairs_of(
         alloc,
         a,
@@ -78,7 +112,7 @@ pub fn set_up<'a>(
         &exposure.left,
         &exposure.right,
     )?;
-    let exposed = exposure.names.copy()?;
+    let numbering = number(alloc, a, b, cut, shared, exposure)?;
     let Numbering { orders, columns } = numbering;
     Ok(Setup {
         left: cut.left,

@@ -1,8 +1,9 @@
 //! The report of a simulation.
 
-ghost use Rattle.std.specs.Prelude.{◌≡◌, ◌^◌, ◌<◌, None, length, option_map, IfOk};
+ghost use Rattle.std.specs.Prelude.{◌≡◌, ◌^◌, ◌<◌, [], ◌∷◌, ◌++◌, None, codes, length, map, option_map, IfOk, OnOk};
 ghost use Rattle.circuit_theory.specs.declared.Mode.{Mode};
 ghost use Rattle.latch_cone.specs.Cones.{MarksEnabled};
+ghost use Rattle.witness_report.specs.Text.{names_text};
 ghost use Rattle.sim_report.specs.Checks.{first_misfit};
 ghost use Rattle.sim_report.specs.Report.{IsSimReport};
 
@@ -69,12 +70,10 @@ fn fitting_report(
     requires fits { first_misfit net.now stimulus.now.names (option_map (λ word. word.now) power) ≡ None }
     ensures { (mode : Mode) → MarksEnabled mode net.now enabled.now → IfOk result (λ text. IsSimReport mode net.now stimulus.now.names stimulus.now.rows (option_map (λ word. word.now) power.entry) reset text) }
 {
+    let mut text = Vec::new(alloc);
+    put_head(&mut text, net)?;
     let columns = columns_of(alloc, net, names)?;
     let bits = word_bits(alloc, net, power)?;
-    let mut text = Vec::new(alloc);
-    put(&mut text, b"outputs")?;
-    put_ports(&mut text, net.outputs())?;
-    put(&mut text, b"\n")?;
     put_cycles(
         alloc,
         &mut text,
@@ -85,4 +84,13 @@ fn fitting_report(
         stimulus.rows.as_slice(),
     )?;
     Ok(Seq::from_vec(text))
+}
+
+/// Puts the line of the names of the outputs.
+fn put_head(text: &mut Vec<u8>, net: &Net) -> Result<(), NoMemory>
+    ensures { OnOk result (text.new.items ≡ text.old.items ++ (codes "outputs" ++ names_text (map (λ port. port.name) net.now.outputs) ++ 10 ∷ [])) }
+{
+    put(text, b"outputs")?;
+    put_ports(text, net.outputs())?;
+    put(text, b"\n")
 }

@@ -26,11 +26,21 @@ const NARROW: usize = 16;
 
 /// A swept graph, and what is known of the queries at their places. The words have the variables' bits under the assignments that
 /// tell queries apart.
-#[derive(Drop)]
 pub struct SweptQueries {
     pub aig: Aig,
     pub known: Vec<Known>,
     pub words: Vec<u64>,
+}
+
+/// It is let go by one call: an owner isn't taken apart field by field at each way out.
+impl Drop for SweptQueries {
+    fn drop(self) {
+        let SweptQueries {
+            aig: _,
+            known: _,
+            words: _,
+        } = self;
+    }
 }
 
 /// Tries 512 assignments on the given queries, and sweeps the graph, with at most so many conflicts, for those that aren't told apart

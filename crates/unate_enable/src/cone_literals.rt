@@ -1,6 +1,6 @@
 //! What a latch takes over as a literal of a graph.
 
-ghost use Rattle.std.specs.Prelude.{◌≡◌, ℕ, ◌+◌, ◌*◌, ◌^◌, ◌<◌, ◌≤◌, Bool, true, nat_eq, if◌then◌else◌, List, length, slice_get, Some, All, Contains, IfOk, IfSome, OnOk};
+ghost use Rattle.std.specs.Prelude.{◌≡◌, ℕ, ◌+◌, ◌*◌, ◌^◌, ◌<◌, ◌≤◌, Bool, true, nat_eq, if◌then◌else◌, List, length, slice_get, Some, None, All, Contains, IfOk, IfSome, OnOk};
 ghost use Rattle.std.specs.List.{AllZip, sum_by};
 ghost use Rattle.std.specs.List.Sorted.{IsStrictlyIncreasing};
 ghost use Rattle.circuit_theory.specs.Circuit.{Circuit, Reads, IsSource};
@@ -39,12 +39,38 @@ pub(crate) fn lit_with(
     ensures value { IfOk result (λ x. HasValue (circuit_of net.now) latch.0 bit places.now aig.new s.0 x.0) }
     ensures grown { OnOk result (HasGrown aig.old aig.new (length places.now + sum_by (weight_at net.now) signals.now) (length places.now)) }
 {
-    aig.keeps();
     let mut known = IndexMap::new(alloc);
-    put(&mut known, latch.0, constant(bit))?;
-    put_places(aig, &mut known, places)?;
-    put_gates(alloc, net, aig, &mut known, signals)?;
-    Ok(lit_of(&known, s))
+    lit_over(alloc, net, aig, &mut known, signals, places, latch, bit, s)
+}
+
+/// The same, with a table of literals that has none yet.
+fn lit_over(
+    alloc: Global,
+    net: &Net,
+    aig: &mut Aig,
+    known: &mut IndexMap<u32, Lit>,
+    signals: &[u32],
+    places: &[u32],
+    latch: Signal,
+    bit: bool,
+    s: Signal,
+) -> Result<Lit, NoMemory>
+    requires empty { (q : ℕ) → get nat_eq known.old q ≡ None }
+    requires increasing { IsStrictlyIncreasing signals.now }
+    requires within { All (λ s. s < length net.now.drivers) signals.now }
+    requires closed { AreClosed (circuit_of net.now) latch.0 places.now signals.now }
+    requires among { Contains signals.now s.0 }
+    requires few { length places.now < 2 ^ 29 }
+    requires room { length aig.old + length places.now + sum_by (weight_at net.now) signals.now < 2 ^ 30 }
+    ensures within { IfOk result (λ x. x.0 < 2 * length aig.new) }
+    ensures value { IfOk result (λ x. HasValue (circuit_of net.now) latch.0 bit places.now aig.new s.0 x.0) }
+    ensures grown { OnOk result (HasGrown aig.old aig.new (length places.now + sum_by (weight_at net.now) signals.now) (length places.now)) }
+{
+    aig.keeps();
+    put(known, latch.0, constant(bit))?;
+    put_places(aig, known, places)?;
+    put_gates(alloc, net, aig, known, signals)?;
+    Ok(lit_of(known, s))
 }
 
 /// Puts the variables of the places.

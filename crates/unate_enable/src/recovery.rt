@@ -94,11 +94,32 @@ pub fn recover_by(
     net.keeps();
     let at = latch_of(net, latch);
     let signals = inside(alloc, net, facts.ranks.as_slice(), at.next, at.out)?;
-    if !is_among(signals.as_slice(), at.out) {
+    recover_inside(alloc, net, facts, latch, signals.as_slice(), conflicts)
+}
+
+/// The same, with the signals that lead back to the latch.
+fn recover_inside(
+    alloc: Global,
+    net: &Net,
+    facts: &NetFacts,
+    latch: u32,
+    signals: &[u32],
+    conflicts: u32,
+) -> Result<Recovery, RecoverError>
+    requires facts { AreFactsOf net.now facts.now }
+    requires latch { latch < length net.now.latches }
+    requires conflicts { conflicts ≤ MAX_CONFLICTS }
+    requires inside { AreInside net.now (data_of_latch net.now latch) (out_of_latch net.now latch) signals.now }
+    ensures recovery { IfOk result (IsRecovery net.now latch conflicts) }
+    ensures large { result ≡ Err recover_error.TooLarge → IsTooLarge net.now latch }
+{
+    net.keeps();
+    let at = latch_of(net, latch);
+    if !is_among(signals, at.out) {
         return Ok(Recovery::Plain);
     }
     let skip = is_query_alone(facts, conflicts);
-    let shown = is_shown(alloc, net, latch, signals.as_slice(), skip)?;
+    let shown = is_shown(alloc, net, latch, signals, skip)?;
     if shown {
         return Ok(Recovery::Enabled);
     }
@@ -128,14 +149,34 @@ fn recover_whole(
     net.keeps();
     let at = latch_of(net, latch);
     let signals = reached(alloc, net, at.next)?;
-    if !is_among(signals.as_slice(), at.out) {
+    recover_over(alloc, net, latch, signals.as_slice(), conflicts, looked)
+}
+
+/// The same, with the signals of the cone.
+fn recover_over(
+    alloc: Global,
+    net: &Net,
+    latch: u32,
+    signals: &[u32],
+    conflicts: u32,
+    looked: bool,
+) -> Result<Recovery, RecoverError>
+    requires latch { latch < length net.now.latches }
+    requires conflicts { conflicts ≤ MAX_CONFLICTS }
+    requires reached { AreReached (circuit_of net.now) (length net.now.drivers) (data_of_latch net.now latch) signals.now }
+    ensures recovery { IfOk result (IsRecovery net.now latch conflicts) }
+    ensures large { result ≡ Err recover_error.TooLarge → IsTooLarge net.now latch }
+{
+    net.keeps();
+    let at = latch_of(net, latch);
+    if !is_among(signals, at.out) {
         return Ok(Recovery::Plain);
     }
-    if !are_light(net, signals.as_slice()) {
+    if !are_light(net, signals) {
         return Err(RecoverError::TooLarge);
     }
     let skip = looked || conflicts < FEW;
-    let recovery = ask(alloc, net, latch, signals.as_slice(), conflicts, skip)?;
+    let recovery = ask(alloc, net, latch, signals, conflicts, skip)?;
     Ok(recovery)
 }
 
@@ -167,9 +208,18 @@ fn ask(
     if shown {
         return Ok(Recovery::Enabled);
     }
-    let cone = cone_among(alloc, net, latch, signals)?;
-    let places = places(alloc, net, &cone)?;
+    let places = places_among(alloc, net, latch, signals)?;
     ask_over(alloc, net, latch, signals, places.as_slice(), conflicts)
+}
+
+/// The places of the latch's cone.
+fn places_among(alloc: Global, net: &Net, latch: u32, signals: &[u32]) -> Result<Ids, NoMemory>
+    requires reached { AreReached (circuit_of net.now) (length net.now.drivers) (data_of_latch net.now latch) signals.now }
+    ensures { IfOk result (λ places. (cone : LatchCone) × IsConeOfLatch net.now latch cone × (places ≡ places_of net.now cone)) }
+{
+    net.keeps();
+    let cone = cone_among(alloc, net, latch, signals)?;
+    places(alloc, net, &cone)
 }
 
 /// Whether the covers of what leads back to the latch show that it is enabled. With `skip` they aren't looked at: with few
@@ -218,17 +268,17 @@ fn ask_over(
     let query = query_of(alloc, net, latch, signals, places, &mut aig)?;
     aig.keeps();
     let decision = decide(alloc, &aig, &query, conflicts)?;
-    Ok(recovery_of(decision))
+    recovery_of(decision)
 }
 
-/// What the decision says of the latch.
-fn recovery_of(decision: Decision) -> Recovery
-    ensures { result ≡ recovery_of decision }
+/// What the decision says of the latch, as its caller gives it on: the layout of a recovery by itself is dear to prove.
+fn recovery_of(decision: Decision) -> Result<Recovery, NoMemory>
+    ensures { IfOk result (λ recovery. recovery ≡ recovery_of decision) }
 {
     match decision {
-        Decision::Same(_) => Recovery::Enabled,
-        Decision::Differs(bits) => Recovery::NotUnate(bits),
-        Decision::Limit(proof) => Recovery::Limit(proof),
+        Decision::Same(_) => Ok(Recovery::Enabled),
+        Decision::Differs(bits) => Ok(Recovery::NotUnate(bits)),
+        Decision::Limit(proof) => Ok(Recovery::Limit(proof)),
     }
 }
 

@@ -1,6 +1,7 @@
 //! The inputs and latches among signals.
 
-ghost use Rattle.std.specs.Prelude.{◌≡◌, ◌<◌, ℕ, length, All, Contains, IfOk, IfSome, IfNone};
+ghost use Rattle.std.specs.Prelude.{◌≡◌, ◌<◌, ◌↔◌, ℕ, length, All, Contains, IfOk, IfSome, IfNone};
+ghost use Rattle.std.specs.List.Sorted.{IsStrictlyIncreasing};
 ghost use Rattle.flat_net.specs.View.{circuit_of};
 ghost use Rattle.unate_enable.specs.Walks.{AreReached};
 ghost use Rattle.unate_enable.specs.Cones.{IsConeOfLatch, data_of_latch, input_at, places_of};
@@ -39,9 +40,17 @@ fn inputs_among(alloc: Global, net: &Net, signals: &[u32]) -> Result<Ids, NoMemo
             inputs.push(i)?;
         }
     }
-    inputs.sort()?;
-    inputs.dedup();
-    Ok(Ids::from_vec(inputs))
+    in_order(inputs)
+}
+
+/// The same numbers, each once, increasing.
+fn in_order(numbers: Vec<u32>) -> Result<Ids, NoMemory>
+    ensures { IfOk result (λ made. IsStrictlyIncreasing made × ((x : ℕ) → Contains numbers.items x ↔ Contains made x)) }
+{
+    let mut sorted = numbers;
+    sorted.sort()?;
+    sorted.dedup();
+    Ok(Ids::from_vec(sorted))
 }
 
 /// The number of the input that drives the signal, if one does.
@@ -79,9 +88,7 @@ fn latches_among(alloc: Global, net: &Net, latch: u32, signals: &[u32]) -> Resul
             latches.push(j)?;
         }
     }
-    latches.sort()?;
-    latches.dedup();
-    Ok(Ids::from_vec(latches))
+    in_order(latches)
 }
 
 /// The signals of the cone's inputs, and then of its latches.

@@ -40,16 +40,31 @@ pub(crate) fn never_falls(
     ensures { IfOk result (λ never. IsTrue never → (low high : ℕ → Bool) → IsRaise (circuit_of net.now) own.0 low high → low next.0 ≡ true → high next.0 ≡ true) }
 {
     let mut ways = IndexMap::new(alloc);
-    put(
-        &mut ways,
-        own.0,
-        Way {
-            rises: true,
-            falls: false,
-        },
-    )?;
-    put_ways(net, &mut ways, signals)?;
-    let way = way_at(&ways, next);
+    never_falls_in(net, &mut ways, signals, own, next)
+}
+
+/// The same, with a table of ways.
+fn never_falls_in(
+    net: &Net,
+    ways: &mut IndexMap<u32, Way>,
+    signals: &[u32],
+    own: Signal,
+    next: Signal,
+) -> Result<bool, NoMemory>
+    requires increasing { IsStrictlyIncreasing signals.now }
+    requires within { All (λ s. s < length net.now.drivers) signals.now }
+    requires closed { AreClosedTo (circuit_of net.now) own.0 signals.now }
+    requires among { Contains signals.now next.0 }
+    requires source { IsSource (circuit_of net.now) own.0 }
+    ensures { IfOk result (λ never. IsTrue never → (low high : ℕ → Bool) → IsRaise (circuit_of net.now) own.0 low high → low next.0 ≡ true → high next.0 ≡ true) }
+{
+    let rising = Way {
+        rises: true,
+        falls: false,
+    };
+    put(ways, own.0, rising)?;
+    put_ways(net, ways, signals)?;
+    let way = way_at(ways, next);
     Ok(!way.falls)
 }
 

@@ -26,12 +26,23 @@ pub(crate) enum Form {
 }
 
 /// The parts of the line that was read last. The memory serves all lines.
-#[derive(Drop)]
 pub(crate) struct Buffers {
     pub(crate) numbers: Vec<Number>,
     pub(crate) literals: Vec<Literal>,
     pub(crate) hints: Vec<Hint>,
     pub(crate) ids: Vec<u64>,
+}
+
+/// It is let go by one call: an owner isn't taken apart field by field at each way out.
+impl Drop for Buffers {
+    fn drop(self) {
+        let Buffers {
+            numbers: _,
+            literals: _,
+            hints: _,
+            ids: _,
+        } = self;
+    }
 }
 
 impl Buffers {

@@ -23,18 +23,20 @@ pub fn merge_cycles(
     let mut i = 0;
     let mut j = 0;
     while i < left.len() && j < right.len() {
-        match order_of(places, left[i], right[j]) {
+        let u = left[i];
+        let v = right[j];
+        match order_of(places, u, v) {
             Ordering::Less => {
-                merged.push(left[i])?;
+                merged.push(u)?;
                 i += 1;
             }
             Ordering::Equal => {
-                merged.push(left[i])?;
+                merged.push(u)?;
                 i += 1;
                 j += 1;
             }
             Ordering::Greater => {
-                merged.push(right[j])?;
+                merged.push(v)?;
                 j += 1;
             }
         }

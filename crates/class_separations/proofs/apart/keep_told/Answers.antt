@@ -1,14 +1,26 @@
 -- One class after the other.
-use Rattle.std.proofs.Common.{◌∙◌, ◌<◌, length, Some, sym, ap, arith}
+use Rattle.std.proofs.Common.{◌≡◌, ◌∙◌, ◌<◌, length, Some, sym, ap, subst, arith}
 use Rattle.std.proofs.lemmas.Option.{slice_get-get_or}
+use Rattle.class_separations.specs.Telling.{HasKeptTo}
 use Rattle.class_separations.proofs.Kept.{kept_none, kept_next}
 use Rattle.class_separations.proofs.apart.keep_told.Goals as goal
 
 pub loop-place-init : goal.loop-place-init
 loop-place-init c = kept_none c.args.events.now c.args.classes.now c.args.latch c.args.told.now c.args.aparts.now.items
 
+pub apart_of-requires : goal.apart_of-requires
+apart_of-requires c =
+    let inside : c.loop-place.place < length c.args.classes.now = omega (arith, c.loop-place-test.true, c.requires.told.few) in
+    c.requires.told.each c.loop-place.place c.index-classes-place.result c.index-told-place.result (slice_get-get_or c.args.classes.now c.loop-place.place c.index-classes-place.result inside ∙ ap Some (sym c.index-classes-place.is))
+    (slice_get-get_or c.args.told.now c.loop-place.place c.index-told-place.result c.loop-place-test.true ∙ ap Some (sym c.index-told-place.is))
+
 pub loop-place-preserved : goal.loop-place-preserved
 loop-place-preserved c =
     let inside : c.loop-place.place < length c.args.classes.now = omega (arith, c.loop-place-test.true, c.requires.told.few) in
     kept_next c.args.events.now c.args.classes.now c.args.latch c.args.told.now c.loop-place.place c.args.aparts.now.items c.loop-place.aparts.items c.push.new.self.items c.in_ok-one.one c.index-classes-place.result c.index-told-place.result c.loop-place.invariant c.in_ok-push.ensures.items
     (slice_get-get_or c.args.classes.now c.loop-place.place c.index-classes-place.result inside ∙ ap Some (sym c.index-classes-place.is)) (slice_get-get_or c.args.told.now c.loop-place.place c.index-told-place.result c.loop-place-test.true ∙ ap Some (sym c.index-told-place.is)) c.in_ok-one.ensures
+
+pub returns : goal.returns
+returns c =
+    let end : c.loop-place.place ≡ length c.args.told.now = omega (arith, c.loop-place-test.false, c.loop-place.auto.place-end) in
+    subst (λ k. HasKeptTo c.args.events.now c.args.classes.now c.args.latch c.args.told.now k c.args.aparts.now.items c.loop-place.aparts.items) end c.loop-place.invariant

@@ -1,4 +1,4 @@
-use Rattle.std.proofs.Common.{◌≡◌, ◌<◌, ℕ, List, Bool, length, Some, slice_get, sym, ◌∙◌, ap, subst, refl, get_or}
+use Rattle.std.proofs.Common.{◌≡◌, ◌<◌, ℕ, List, Bool, length, Some, slice_get, sym, ◌∙◌, ap, subst, refl, get_or, arith}
 use Rattle.std.specs.List.{list_any}
 use Rattle.std.proofs.lemmas.Bool.{or_left, or_right, or_from}
 use Rattle.std.proofs.lemmas.Option.{slice_get_read}
@@ -55,3 +55,11 @@ returns-clause-ok c =
     (or_from (list_any (λ (p : Pair). is_long_behind (length c.args.outer.now.prefix) p.actual) c.args.pairs.now) (exceeds (length c.in_ok-inner.inner.prefix) f.room)
     (ap (λ (n : ℕ). list_any (λ (p : Pair). is_long_behind n p.actual) c.args.pairs.now) (sym c.len.ensures) ∙ sym c.if-actuals_are_long.ensures)
     (ap (λ (n : ℕ). exceeds n f.room) (sym c.len-else-actuals_are_long.ensures) ∙ sym c.if-exceed.ensures))
+
+pub bounds-models-model : goal.bounds-models-model
+bounds-models-model c = model_within c.args.models.now c.in_ok-model.model c.args.name.now c.in_ok-model.ensures.named
+
+pub bounds-as_slice-model : goal.bounds-as_slice-model
+bounds-as_slice-model c =
+    let within : c.in_ok-model.model < length c.args.models.now = model_within c.args.models.now c.in_ok-model.model c.args.name.now c.in_ok-model.ensures.named in
+    omega (arith, within, c.requires.tables.as_many, ap length c.as_slice.ensures.value)

@@ -1,7 +1,6 @@
 -- The class map is made; or why not.
-use Rattle.std.proofs.Common.{◌∙◌, refl, ap}
+use Rattle.std.proofs.Common.{refl}
 use Rattle.event_names.proofs.under_base.compare_base.Refusals.{refused_by}
-use Rattle.event_names.specs.Named.{latch_names}
 use Rattle.event_answers.specs.Laws.{HaveClassesGiven}
 use Rattle.event_answers.specs.Reached.{ReachesPairs}
 use Rattle.event_answers.proofs.Stopping.{reached_first, reached_then, setup_askable, unclassed_stops}
@@ -28,8 +27,8 @@ returns-in-Ok c =
     let e = c.in-Ok.separated.events in
     let k = c.keeps-in-Ok.ensures.kept in
     let given : HaveClassesGiven s e = record { left = c.in-Ok.ensures.left; right = c.in-Ok.ensures.right } in
-    let left_is = c.in_ok-left_latches.ensures ∙ ap latch_names c.net.ensures in
-    let right_is = c.in_ok-right_latches.ensures ∙ ap latch_names c.net-2.ensures in
+    let left_is = c.in_ok-latches.ensures.0 in
+    let right_is = c.in_ok-latches.ensures.1 in
     record {
       reached = reached_then a b c.args.settings.now c.requires.left_known c.requires.right_known s c.requires.setup e given k.left_sound k.right_sound k.left k.right;
       counted = c.in-Ok.ensures.counted;
@@ -42,9 +41,9 @@ returns-in-Ok c =
 
 pub unclassed-requires : goal.unclassed-requires
 unclassed-requires c =
-    let left_is = c.in_ok-left_latches.ensures ∙ ap latch_names c.net.ensures in
-    let right_is = c.in_ok-right_latches.ensures ∙ ap latch_names c.net-2.ensures in
-    can_tell c.args.setup.left c.args.setup.right (record { columns = c.args.setup.columns; left = c.in_ok-left_latches.left_latches; right = c.in_ok-right_latches.right_latches }) c.args.settings.now.conflicts left_is right_is c.in-Err.error c.in-Err.ensures.refused
+    let left_is = c.in_ok-latches.ensures.0 in
+    let right_is = c.in_ok-latches.ensures.1 in
+    can_tell c.args.setup.left c.args.setup.right (record { columns = c.args.setup.columns; left = c.in_ok-latches.latches.0; right = c.in_ok-latches.latches.1 }) c.args.settings.now.conflicts left_is right_is c.in-Err.error c.in-Err.ensures.refused
 
 pub returns-in_err-at-in-Err : goal.returns-in_err-at-in-Err
 returns-in_err-at-in-Err c =
@@ -53,15 +52,15 @@ returns-in_err-at-in-Err c =
     let s = c.args.setup in
     let at = reached_first a b c.args.settings.now c.requires.left_known c.requires.right_known s c.requires.setup c.keeps.ensures.sound c.keeps-2.ensures.sound c.keeps.ensures.circuit c.keeps-2.ensures.circuit in
     refused_by (ReachesPairs a b c.args.settings.now) c.from_residual-in_err-at-in-Err.result c.in_err-at-in-Err.field-0.0 c.from_residual-in_err-at-in-Err.ensures.1
-    (map_refused a b c.args.settings.now c.requires.matches s (record { columns = s.columns; left = c.in_ok-left_latches.left_latches; right = c.in_ok-right_latches.right_latches }) at c.in-Err.error c.in-Err.ensures.refused c.in_err-at-in-Err.field-0.0 c.in_err-at-in-Err.ensures)
+    (map_refused a b c.args.settings.now c.requires.matches s (record { columns = s.columns; left = c.in_ok-latches.latches.0; right = c.in_ok-latches.latches.1 }) at c.in-Err.error c.in-Err.ensures.refused c.in_err-at-in-Err.field-0.0 c.in_err-at-in-Err.ensures)
 
 pub returns-in_ok-at-in-Err : goal.returns-in_ok-at-in-Err
 returns-in_ok-at-in-Err c =
     let a = c.args.a.now in
     let b = c.args.b.now in
     let s = c.args.setup in
-    let left_is = c.in_ok-left_latches.ensures ∙ ap latch_names c.net.ensures in
-    let right_is = c.in_ok-right_latches.ensures ∙ ap latch_names c.net-2.ensures in
+    let left_is = c.in_ok-latches.ensures.0 in
+    let right_is = c.in_ok-latches.ensures.1 in
     let at = reached_first a b c.args.settings.now c.requires.left_known c.requires.right_known s c.requires.setup c.keeps.ensures.sound c.keeps-2.ensures.sound c.keeps.ensures.circuit c.keeps-2.ensures.circuit in
-    unclassed_stops a b c.args.settings.now c.requires.left_known c.requires.right_known s c.requires.setup (record { columns = s.columns; left = c.in_ok-left_latches.left_latches; right = c.in_ok-right_latches.right_latches }) left_is right_is at
+    unclassed_stops a b c.args.settings.now c.requires.left_known c.requires.right_known s c.requires.setup (record { columns = s.columns; left = c.in_ok-latches.latches.0; right = c.in_ok-latches.latches.1 }) left_is right_is at
     c.in-Err.error c.in-Err.ensures.refused c.in_ok-at-in-Err.at c.in_ok-at-in-Err.ensures

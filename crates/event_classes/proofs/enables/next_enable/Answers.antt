@@ -4,7 +4,7 @@ use Rattle.std.proofs.lemmas.Result.{err_from_is_err_and}
 use Rattle.class_fits.specs.event_order.Order.{IsTagOf}
 use Rattle.event_classes.specs.declared.map.ClassMap.{ClassMap}
 use Rattle.event_classes.proofs.Enabling.{enable_on, own_on, side_of_two}
-use Rattle.event_classes.proofs.Limiting.{error_is}
+use Rattle.event_classes.proofs.Limiting.{error_is, no_error}
 use Rattle.event_classes.proofs.enables.next_enable.Goals as goal
 
 pub returns-clause-enable : goal.returns-clause-enable
@@ -23,3 +23,17 @@ pub returns-in_err-made-clause-large : goal.returns-in_err-made-clause-large
 returns-in_err-made-clause-large c =
     let p = err_from_is_err_and c.from_residual.result c.from_residual.ensures.1 in
     λ side. rw (p.1, p.2) (λ is. c.in_err-made.ensures.large side (ap Err (error_is is)))
+
+pub returns-in_err-made-clause-limit : goal.returns-in_err-made-clause-limit
+returns-in_err-made-clause-limit c =
+    let p = err_from_is_err_and c.from_residual.result c.from_residual.ensures.1 in
+    λ latch other proof. rw (p.1, p.2) (λ is. c.in_err-made.ensures.limit latch other proof (ap Err (error_is is)))
+
+pub returns-clause-many : goal.returns-clause-many
+returns-clause-many c = λ is. absurd (no_error is)
+
+pub returns-clause-large : goal.returns-clause-large
+returns-clause-large c = λ side is. absurd (no_error is)
+
+pub returns-clause-limit : goal.returns-clause-limit
+returns-clause-limit c = λ latch other proof is. no_error is

@@ -5,7 +5,7 @@ use Rattle.circuit_theory.specs.declared.Side.TheVariants.{B}
 use Rattle.class_totals.specs.Totals.{ReachFew, WeighTooMuch}
 use Rattle.event_classes.specs.Map.{taken_of, with_next}
 use Rattle.event_classes.proofs.Enabling.{right_counts}
-use Rattle.event_classes.proofs.Limiting.{error_is as of_error}
+use Rattle.event_classes.proofs.Limiting.{error_is as of_error, no_error}
 use Rattle.event_classes.proofs.Refusing.{right_many, right_large}
 use Rattle.event_classes.proofs.Setting.{latch_there}
 use Rattle.event_classes.proofs.enables.right_enable.Goals as goal
@@ -25,3 +25,15 @@ returns-in-Err-clause-large c = λ side is depths counts.
     let same = c.refusal.ensures.large side (of_error is) in
     subst (λ (o : Side). ReachFew c.args.map.now.left c.args.map.now.right (with_next c.args.map.now (record { side = B; latch = c.args.j })) × WeighTooMuch o c.args.map.now.left c.args.map.now.right (with_next c.args.map.now (record { side = B; latch = c.args.j }))) same.0
     (right_large c.args.map.now.left c.args.map.now.right c.args.map.now.events c.enable_of.new.events (taken_of c.args.map.now) c.args.j c.args.map.now.left_count c.args.map.now.right_count c.keeps.ensures.sound c.keeps-2.ensures.sound c.keeps-3.ensures.events c.keeps-in-Err.ensures.events counts c.enable_of.new.count c.requires.latch c.enable_of.ensures.counting c.enable_of.result c.enable_of.ensures.refused (c.in-Err.is ∙ ap Err same.1) depths.1)
+
+pub returns-in-Err-clause-limit : goal.returns-in-Err-clause-limit
+returns-in-Err-clause-limit c = λ latch other proof is. c.refusal.ensures.limit latch other proof (of_error is)
+
+pub returns-in-Ok-clause-many : goal.returns-in-Ok-clause-many
+returns-in-Ok-clause-many c = λ is. absurd (no_error is)
+
+pub returns-in-Ok-clause-large : goal.returns-in-Ok-clause-large
+returns-in-Ok-clause-large c = λ side is. absurd (no_error is)
+
+pub returns-in-Ok-clause-limit : goal.returns-in-Ok-clause-limit
+returns-in-Ok-clause-limit c = λ latch other proof is. no_error is

@@ -1,28 +1,40 @@
 -- A latch that founds a class.
-use Rattle.std.proofs.Common.{◌≡◌, ◌∙◌, ◌+◌, suc, List, [], ◌∷◌, ◌++◌, length, sym, ap, subst, arith}
-use Rattle.class_fits.specs.class_search.declared.class.Class.{Class}
-use Rattle.class_separations.specs.declared.apart.Apart.{Apart}
-use Rattle.class_separations.specs.Telling.{AreToldIn, HasKept}
-use Rattle.event_classes.specs.declared.map.ClassMap.{ClassMap}
-use Rattle.event_classes.specs.Map.{FitsIn}
-use Rattle.event_classes.proofs.NextLatch.{founded_goes_on}
+use Rattle.std.proofs.Common.{arith}
+use Rattle.std.proofs.lemmas.Result.{on_ok_weaker}
+use Rattle.std.specs.Prelude.{◌≡◌, is_ok, true}
+use Rattle.event_classes.proofs.Limiting.{error_is, many_no_large, many_no_limit, when_ok}
 use Rattle.event_classes.proofs.Stopping.{class_over}
 use Rattle.event_classes.proofs.joining.found_class.Goals as goal
 
-pub keep_apart-requires : goal.keep_apart-requires
-keep_apart-requires c = record { told = subst (λ (cs : List Class). AreToldIn c.args.map.now.events cs c.args.told.now) (sym c.as_slice.ensures.value) c.requires.told.0 }
+pub put_founded-requires : goal.put_founded-requires
+put_founded-requires c = record {
+  latch = c.requires.latch;
+  enable = c.requires.enable;
+  own = c.requires.own;
+  ready = c.requires.ready;
+  absent = c.requires.absent;
+  fits = c.requires.fits;
+  told = c.requires.told;
+  few = omega (arith, c.if-len-ge-CLASSES.false, c.len.ensures);
+}
 
 pub returns-clause-goes_on : goal.returns-clause-goes_on
-returns-clause-goes_on c =
-    let founded : ClassMap = record c.take_latch.new.map { classes = c.push.new.self } in
-    let next : suc (length c.args.map.now.classes.items) ≡ c.len-2.result + 1 = omega (arith, c.len-2.ensures) in
-    let number : c.len-2.result + 1 ≡ suc (length c.args.map.now.classes.items) = omega (arith, c.len-2.ensures) in
-    founded_goes_on c.args.map.now founded c.args.tag (c.len-2.result + 1) c.args.enable (record { left_sound = c.keeps.ensures.sound; right_sound = c.keeps-2.ensures.sound; left = c.keeps.ensures.circuit; right = c.keeps-2.ensures.circuit; events = c.keeps-3.ensures.events }) c.requires.latch c.requires.enable (subst (FitsIn c.args.map.now c.args.tag) next c.requires.fits) c.in_ok-take_latch.ensures.set
-    c.in_ok-take_latch.ensures.taken (ap (λ (m : ClassMap). m.events) c.take_latch.ensures.rest) (ap (λ (m : ClassMap). m.left_count) c.take_latch.ensures.rest) (ap (λ (m : ClassMap). m.right_count) c.take_latch.ensures.rest) (ap (λ (m : ClassMap). m.table) c.take_latch.ensures.rest ∙ c.in_ok-put.ensures.ok)
-    c.new-founded.result c.join.new.self number (omega (arith, c.if-len-ge-CLASSES.false, c.len.ensures)) c.new-founded.ensures.tags c.new-founded.ensures.enables c.in_ok-join.ensures.tags c.in_ok-join.ensures.enables c.requires.ready c.requires.own c.args.always c.args.told.now c.requires.told
-    (subst (λ (xs : List Apart). HasKept c.args.map.now.events c.args.map.now.classes.items c.args.tag c.args.always c.args.told.now c.args.map.now.aparts.items xs) (sym (ap (λ (m : ClassMap). m.aparts.items) c.take_latch.ensures.rest))
-    (subst (λ (cs : List Class). HasKept c.args.map.now.events cs c.args.tag c.args.always c.args.told.now c.args.map.now.aparts.items c.keep_apart.new.aparts.items) c.as_slice.ensures.value c.in_ok-keep_apart.ensures))
-    (c.in_ok-push.ensures.items ∙ ap (λ (cs : List Class). cs ++ c.join.new.self ∷ []) (ap (λ (m : ClassMap). m.classes.items) c.take_latch.ensures.rest))
+returns-clause-goes_on c = on_ok_weaker c.of_memory.result (λ (e : is_ok c.put_founded.result ≡ true). when_ok c.put_founded.result e c.put_founded.ensures) c.of_memory.ensures.done
+
+pub returns-clause-many : goal.returns-clause-many
+returns-clause-many c = λ is. absurd (c.of_memory.ensures.many is)
+
+pub returns-clause-large : goal.returns-clause-large
+returns-clause-large c = c.of_memory.ensures.large
+
+pub returns-clause-limit : goal.returns-clause-limit
+returns-clause-limit c = c.of_memory.ensures.limit
 
 pub returns-then-len-ge-CLASSES-clause-many : goal.returns-then-len-ge-CLASSES-clause-many
 returns-then-len-ge-CLASSES-clause-many c = λ is. class_over c.args.map.now c.args.tag (omega (arith, c.if-len-ge-CLASSES.true, c.len.ensures)) c.requires.fits
+
+pub returns-then-len-ge-CLASSES-clause-large : goal.returns-then-len-ge-CLASSES-clause-large
+returns-then-len-ge-CLASSES-clause-large c = λ side is. many_no_large (error_is is)
+
+pub returns-then-len-ge-CLASSES-clause-limit : goal.returns-then-len-ge-CLASSES-clause-limit
+returns-then-len-ge-CLASSES-clause-limit c = λ latch other proof is. many_no_limit (error_is is)

@@ -4,6 +4,9 @@ use Rattle.event_classes.specs.declared.map.ClassMap.{ClassMap}
 use Rattle.event_classes.proofs.NextLatch.{always_goes_on}
 use Rattle.event_classes.proofs.joining.join_always.Goals as goal
 
+pub put-requires : goal.put-requires
+put-requires c = c.requires.absent
+
 pub returns : goal.returns
 returns c =
     always_goes_on c.args.map.now c.take_latch.new.map c.args.tag 0 c.args.enable.now (record { left_sound = c.keeps.ensures.sound; right_sound = c.keeps-2.ensures.sound; left = c.keeps.ensures.circuit; right = c.keeps-2.ensures.circuit; events = c.keeps-3.ensures.events }) c.requires.latch c.requires.enable c.requires.fits c.in_ok-take_latch.ensures.set

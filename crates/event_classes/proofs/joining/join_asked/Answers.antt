@@ -1,11 +1,11 @@
 -- What is found for the latch is its first fit.
-use Rattle.std.proofs.Common.{ℕ, List, Err, refl, sym, ap, subst}
-use Rattle.std.proofs.lemmas.Result.{err_from_is_err_and}
+use Rattle.std.proofs.Common.{ℕ, List, refl, sym, ap, subst}
+use Rattle.std.proofs.lemmas.Result.{on_ok_weaker}
 use Rattle.class_fits.specs.class_search.declared.class.Class.{Class}
 use Rattle.class_fits.specs.class_search.Search.{AreReadyClasses, IsFit, IsUnfit}
 use Rattle.class_totals.specs.class_queries.Enables.{both_of}
 use Rattle.event_classes.specs.Limits.{IsNamed, IsErrorOf}
-use Rattle.event_classes.specs.Map.{places_in, taken_of, with_next}
+use Rattle.event_classes.specs.Map.{GoesOn, places_in, taken_of, with_next}
 use Rattle.class_totals.specs.Totals.{HaveCounted}
 use Rattle.event_nodes.specs.Nodes.{EventGraphView}
 use Rattle.event_classes.proofs.Limiting.{named_of, limit_at, limit_alone, error_is}
@@ -54,11 +54,27 @@ join_fit-requires-clause-fits c =
 pub join_fit-requires-clause-place : goal.join_fit-requires-clause-place
 join_fit-requires-clause-place c = λ place same. fit_place c.args.map.now.events c.first_fit.new.events c.args.map.now.classes.items c.args.enable c.args.conflicts place c.in-Ok.fit (subst (λ (cs : List Class). IsFit c.args.map.now.events c.first_fit.new.events cs c.args.enable c.args.conflicts c.in-Ok.fit) c.as_slice.ensures.value c.in-Ok.ensures.fit) same
 
-pub returns-in_ok-join_fit-in-Ok-clause-goes_on : goal.returns-in_ok-join_fit-in-Ok-clause-goes_on
-returns-in_ok-join_fit-in-Ok-clause-goes_on c =
+pub join_fit-requires-clause-absent : goal.join_fit-requires-clause-absent
+join_fit-requires-clause-absent c = c.requires.absent
+
+pub returns-in-Ok-clause-goes_on : goal.returns-in-Ok-clause-goes_on
+returns-in-Ok-clause-goes_on c =
     let found : ClassMap = record c.args.map.now { events = c.first_fit.new.events } in
+    on_ok_weaker c.join_fit.result (λ (on : GoesOn found c.join_fit.new.map c.args.tag (with_next found c.args.tag)).
     goes_on_from c.args.map.now found c.join_fit.new.map c.args.tag (with_next c.args.map.now c.args.tag) (with_next found c.args.tag) refl refl refl (made_grows c.args.map.now found refl c.keeps-3.ensures.events c.first_fit.ensures.grows (within_grows c.args.map.now found refl c.first_fit.ensures.rest))
-    (λ t. subst (λ (es : List (ℕ × ℕ)). HaveCounted c.args.map.now.left c.args.map.now.right es (with_next c.args.map.now c.args.tag) c.args.map.now.left_count c.args.map.now.right_count) (sym (ap (λ (w : EventGraphView). w.children) c.first_fit.ensures.rest)) t) c.in_ok-join_fit-in-Ok.ensures.goes_on
+    (λ t. subst (λ (es : List (ℕ × ℕ)). HaveCounted c.args.map.now.left c.args.map.now.right es (with_next c.args.map.now c.args.tag) c.args.map.now.left_count c.args.map.now.right_count) (sym (ap (λ (w : EventGraphView). w.children) c.first_fit.ensures.rest)) t) on)
+    c.join_fit.ensures.goes_on
+
+pub returns-in-Ok-clause-many : goal.returns-in-Ok-clause-many
+returns-in-Ok-clause-many c =
+    let found : ClassMap = record c.args.map.now { events = c.first_fit.new.events } in
+    λ is. class_before c.args.map.now found c.args.tag refl (made_grows c.args.map.now found refl c.keeps-3.ensures.events c.first_fit.ensures.grows (within_grows c.args.map.now found refl c.first_fit.ensures.rest)) (c.join_fit.ensures.many is)
+
+pub returns-in-Ok-clause-large : goal.returns-in-Ok-clause-large
+returns-in-Ok-clause-large c = c.join_fit.ensures.large
+
+pub returns-in-Ok-clause-limit : goal.returns-in-Ok-clause-limit
+returns-in-Ok-clause-limit c = λ latch other proof is. absurd (c.join_fit.ensures.limit latch other proof is)
 
 pub limit_of-requires : goal.limit_of-requires
 limit_of-requires c =
@@ -77,9 +93,3 @@ returns-in-Err-clause-many c = λ is. absurd ((limit_alone c.args.map.now.classe
 
 pub returns-in-Err-clause-large : goal.returns-in-Err-clause-large
 returns-in-Err-clause-large c = λ side is. (limit_alone c.args.map.now.classes.items c.args.tag c.in-Err.unfit c.limit_of.result (subst (λ (cs : List Class). IsErrorOf cs c.args.tag c.limit_of.result c.in-Err.unfit) c.as_slice-in-Err.ensures.value c.limit_of.ensures)).1 side (error_is is)
-
-pub returns-in_err-join_fit-in-Ok-clause-many : goal.returns-in_err-join_fit-in-Ok-clause-many
-returns-in_err-join_fit-in-Ok-clause-many c =
-    let found : ClassMap = record c.args.map.now { events = c.first_fit.new.events } in
-    let p = err_from_is_err_and c.from_residual.result c.from_residual.ensures.1 in
-    rw (p.1, p.2) (λ is. class_before c.args.map.now found c.args.tag refl (made_grows c.args.map.now found refl c.keeps-3.ensures.events c.first_fit.ensures.grows (within_grows c.args.map.now found refl c.first_fit.ensures.rest)) (c.in_err-join_fit-in-Ok.ensures.many (ap Err (error_is is))))

@@ -8,6 +8,12 @@ use Rattle.event_classes.specs.Map.{FitsIn}
 use Rattle.event_classes.proofs.NextLatch.{class_goes_on}
 use Rattle.event_classes.proofs.joining.join_class.Goals as goal
 
+pub put-requires : goal.put-requires
+put-requires c = c.requires.absent
+
+pub index_mut-requires : goal.index_mut-requires
+index_mut-requires c = let long : length c.take_latch.new.map.classes.items ≡ length c.args.map.now.classes.items = ap (λ (m : ClassMap). length m.classes.items) c.take_latch.ensures.rest in omega (arith, c.requires.place, long)
+
 pub returns : goal.returns
 returns c =
     let joined : ClassMap = record c.take_latch.new.map { classes = with_item c.take_latch.new.map.classes c.args.place c.join.new.self } in

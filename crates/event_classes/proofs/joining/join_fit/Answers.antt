@@ -1,7 +1,8 @@
 -- The class that was found.
-use Rattle.std.proofs.Common.{List, Err, sym, ap, subst}
-use Rattle.std.proofs.lemmas.Result.{err_from_is_err_and}
-use Rattle.event_classes.proofs.Limiting.{error_is}
+use Rattle.std.proofs.Common.{List, sym, subst}
+use Rattle.std.proofs.lemmas.Result.{on_ok_weaker}
+use Rattle.std.specs.Prelude.{◌≡◌, is_ok, true}
+use Rattle.event_classes.proofs.Limiting.{when_ok}
 use Rattle.class_fits.specs.class_search.declared.search.Fit.{Fit}
 use Rattle.class_fits.specs.Members.{class_of_fit}
 use Rattle.class_fits.specs.class_search.declared.told.Told.{Told}
@@ -23,7 +24,29 @@ found_class-requires-clause-fits c = subst (λ (f : Fit). FitsIn c.args.map.now 
 pub found_class-requires-clause-told : goal.found_class-requires-clause-told
 found_class-requires-clause-told c = subst (λ (ts : List Told). AreToldAt c.args.map.now c.args.tag c.in-Founds.always ts) (sym c.as_slice.ensures.value) (subst (AreToldBy c.args.map.now c.args.tag) c.in-Founds.is c.requires.told)
 
-pub returns-in_err-found_class-in-Founds-clause-many : goal.returns-in_err-found_class-in-Founds-clause-many
-returns-in_err-found_class-in-Founds-clause-many c =
-    let p = err_from_is_err_and c.from_residual-in_err-found_class-in-Founds.result c.from_residual-in_err-found_class-in-Founds.ensures.1 in
-    rw (p.1, p.2) (λ is. c.in_err-found_class-in-Founds.ensures.many (ap Err (error_is is)))
+pub returns-in-Always-clause-goes_on : goal.returns-in-Always-clause-goes_on
+returns-in-Always-clause-goes_on c = on_ok_weaker c.of_memory.result (λ (e : is_ok c.join_always.result ≡ true). when_ok c.join_always.result e c.join_always.ensures) c.of_memory.ensures.done
+
+pub returns-in-Always-clause-many : goal.returns-in-Always-clause-many
+returns-in-Always-clause-many c = λ is. absurd (c.of_memory.ensures.many is)
+
+pub returns-in-Always-clause-large : goal.returns-in-Always-clause-large
+returns-in-Always-clause-large c = c.of_memory.ensures.large
+
+pub returns-in-Always-clause-limit : goal.returns-in-Always-clause-limit
+returns-in-Always-clause-limit c = c.of_memory.ensures.limit
+
+pub returns-in-Joins-clause-goes_on : goal.returns-in-Joins-clause-goes_on
+returns-in-Joins-clause-goes_on c = on_ok_weaker c.of_memory-in-Joins.result (λ (e : is_ok c.join_class.result ≡ true). when_ok c.join_class.result e c.join_class.ensures) c.of_memory-in-Joins.ensures.done
+
+pub returns-in-Joins-clause-many : goal.returns-in-Joins-clause-many
+returns-in-Joins-clause-many c = λ is. absurd (c.of_memory-in-Joins.ensures.many is)
+
+pub returns-in-Joins-clause-large : goal.returns-in-Joins-clause-large
+returns-in-Joins-clause-large c = c.of_memory-in-Joins.ensures.large
+
+pub returns-in-Joins-clause-limit : goal.returns-in-Joins-clause-limit
+returns-in-Joins-clause-limit c = c.of_memory-in-Joins.ensures.limit
+
+pub returns-in-Founds : goal.returns-in-Founds
+returns-in-Founds c = record { goes_on = c.found_class.ensures.goes_on; many = c.found_class.ensures.many; large = c.found_class.ensures.large; limit = c.found_class.ensures.limit }

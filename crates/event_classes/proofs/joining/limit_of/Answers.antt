@@ -7,6 +7,9 @@ use Rattle.event_classes.specs.declared.error.EventError.TheVariants as event_er
 use Rattle.event_classes.specs.Limits.{IsNamed, IsErrorOf}
 use Rattle.event_classes.proofs.joining.limit_of.Goals as goal
 
+pub bounds-classes-place : goal.bounds-classes-place
+bounds-classes-place c = let named = subst (IsNamed c.args.classes.now) c.in-Member.is c.requires in slice_get_within c.args.classes.now c.in-Member.place named.0 named.1
+
 pub returns-in-Member : goal.returns-in-Member
 returns-in-Member c =
     let named = subst (IsNamed c.args.classes.now) c.in-Member.is c.requires in

@@ -1,8 +1,9 @@
 -- One latch after the other.
-use Rattle.std.proofs.Common.{Err, ap}
+use Rattle.std.proofs.Common.{◌≡◌, Err, length, ap, subst, arith}
 use Rattle.std.proofs.lemmas.Option.{slice_get-get_or}
 use Rattle.std.proofs.lemmas.Result.{err_from_is_err_and}
-use Rattle.event_classes.proofs.Limiting.{error_is}
+use Rattle.event_classes.proofs.Limiting.{error_is, no_error}
+use Rattle.event_classes.specs.Map.{IsMadeTo}
 use Rattle.event_classes.proofs.Stopping.{many_of, heavy_of, limit_of}
 use Rattle.event_classes.proofs.WholeMap.{tag_next, next_made, made_next}
 use Rattle.event_classes.proofs.making.join_all.Goals as goal
@@ -34,3 +35,15 @@ returns-in_err-join_next-clause-limit c =
     let at = slice_get-get_or c.args.tags.now c.loop-at.at _ c.loop-at-test.true in
     λ latch other proof. rw (p.1, p.2) (λ is. limit_of c.args.map.now c.loop-at.map c.args.tags.now c.loop-at.at _ c.loop-at-test.true at c.loop-at.invariant c.requires.few c.keeps.ensures.sound c.keeps-in-loop-at.ensures.sound c.keeps-in-loop-at-2.ensures.events c.keeps-in-loop-at-3.ensures c.keeps-in-loop-at-4.ensures
     c.args.conflicts latch other proof (tag_next c.args.map.now c.loop-at.map c.args.tags.now c.loop-at.at _ c.loop-at-test.true at c.loop-at.invariant c.requires.named) (c.in_err-join_next.ensures.limit latch other proof (ap Err (error_is is))))
+
+pub returns-clause-made : goal.returns-clause-made
+returns-clause-made c = let end : c.loop-at.at ≡ length c.args.tags.now = omega (arith, c.loop-at-test.false, c.loop-at.auto.at-end) in subst (IsMadeTo c.args.map.now c.loop-at.map c.args.tags.now) end c.loop-at.invariant
+
+pub returns-clause-many : goal.returns-clause-many
+returns-clause-many c = λ is. absurd (no_error is)
+
+pub returns-clause-large : goal.returns-clause-large
+returns-clause-large c = λ side is. absurd (no_error is)
+
+pub returns-clause-limit : goal.returns-clause-limit
+returns-clause-limit c = λ latch other proof is. absurd (no_error is)

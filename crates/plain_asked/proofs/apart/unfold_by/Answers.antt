@@ -20,6 +20,18 @@ choose_pairs-requires-clause-nodes c = omega (arith, ap length c.in_ok-aig.ensur
 pub choose_pairs-requires-clause-entries : goal.choose_pairs-requires-clause-entries
 choose_pairs-requires-clause-entries c = omega (arith, ap length c.new-places.ensures)
 
+pub choose_pairs-requires-clause-left : goal.choose_pairs-requires-clause-left
+choose_pairs-requires-clause-left c = c.requires.left
+
+pub choose_pairs-requires-clause-right : goal.choose_pairs-requires-clause-right
+choose_pairs-requires-clause-right c = c.requires.right
+
+pub choose_pairs-requires-clause-left_new : goal.choose_pairs-requires-clause-left_new
+choose_pairs-requires-clause-left_new c = c.requires.left_new
+
+pub choose_pairs-requires-clause-right_new : goal.choose_pairs-requires-clause-right_new
+choose_pairs-requires-clause-right_new c = c.requires.right_new
+
 pub functions_of-requires-clause-signals : goal.functions_of-requires-clause-signals
 functions_of-requires-clause-signals c =
     let pairs = c.args.pairs.now in
@@ -60,7 +72,7 @@ returns-in_err-chosen c =
     let a = c.args.a_side.now in
     let b = c.args.b_side.now in
     let same : c.from_residual-in_err-chosen.result ≡ Err c.in_err-chosen.field-0.0 = search rules in
-    subst (UnfoldsApart a.net b.net a.order b.order c.args.pairs.now) (sym same) c.in_err-chosen.ensures.refused
+    subst (UnfoldsApart a.net b.net a.order b.order c.args.pairs.now) (sym same) c.in_err-chosen.ensures
 
 pub returns-in_err-left : goal.returns-in_err-left
 returns-in_err-left c =
@@ -105,10 +117,10 @@ returns c =
     let adds = adds_trans (λ (p : ℕ × ℕ). Unit {0}) places more most a_later.adds b_later.adds in (
       light_from a.net (left_signals pairs) c.choose_pairs.new.a_side g places left.net left.done left.fits,
       light_from b.net (right_signals pairs) c.choose_pairs.new.b_side g places right.net right.done right.fits,
-      apart_from a.net b.net a.order b.order pairs (record { functions = record { aig = k; places = most; left = c.in_ok-left.left; right = c.in_ok-right.right }; at = c.in_ok-chosen.chosen.at }) are.lefts are.rights are.xs are.ys c.in_ok-chosen.chosen are.left_are are.right_are
+      apart_from a.net b.net a.order b.order pairs (record { functions = record { aig = k; places = most; left = c.in_ok-left.left; right = c.in_ok-right.right }; at = c.into_at.result }) are.lefts are.rights are.xs are.ys c.in_ok-chosen.chosen are.left_are are.right_are
           (literals_here a.net c.choose_pairs.new.a_side.net a.order c.choose_pairs.new.a_side.order left.net left.order g k places most grows adds are.lefts are.xs are.left_lits)
           (literals_here b.net c.choose_pairs.new.b_side.net b.order c.choose_pairs.new.b_side.order right.net right.order g k places most grows adds are.rights are.ys are.right_lits)
-          are.chosen refl
+          are.chosen c.into_at.ensures
           (functions_here a.net c.functions_of.new.unfolder.net a.order c.functions_of.new.unfolder.order (a_later.net ∙ left.net) (a_later.order ∙ left.order) h k more most b_later.grows b_later.adds c.in_ok-chosen.chosen.left.items c.in_ok-left.left.items (subst (λ (l : List Signal). AllZip (λ (s : Signal) (u : Unfolded). IsFunctionOf c.functions_of.new.unfolder.net c.functions_of.new.unfolder.order h more s.0 u) l c.in_ok-left.left.items) c.as_slice-own_a.ensures.value c.in_ok-left.ensures.unfolded))
           (functions_here b.net c.functions_of-2.new.unfolder.net b.order c.functions_of-2.new.unfolder.order (b_later.net ∙ right.net) (b_later.order ∙ right.order) k k most most (Grows-refl k) (adds_none (λ (p : ℕ × ℕ). Unit {0}) most most refl) c.in_ok-chosen.chosen.right.items c.in_ok-right.right.items (subst (λ (l : List Signal). AllZip (λ (s : Signal) (u : Unfolded). IsFunctionOf c.functions_of-2.new.unfolder.net c.functions_of-2.new.unfolder.order k most s.0 u) l c.in_ok-right.right.items) c.as_slice-own_b.ensures.value c.in_ok-right.ensures.unfolded)),
     )

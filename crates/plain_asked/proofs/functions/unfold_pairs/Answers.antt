@@ -1,9 +1,33 @@
 -- A's functions stay while B is unfolded.
-use Rattle.std.proofs.Common.{◌≡◌, Err, refl, sym, subst, rules}
+use Rattle.std.proofs.Common.{◌≡◌, length, Err, refl, sym, ap, subst, arith, rules}
 use Rattle.interface.specs.declared.pairs.SignalPair.{SignalPair}
 use Rattle.plain_asked.specs.Pairs.{Unfolds, left_signals, right_signals}
 use Rattle.plain_asked.proofs.Growing.{functions_later, refused_left, refused_right}
 use Rattle.plain_asked.proofs.functions.unfold_pairs.Goals as goal
+
+pub unfold_left-requires-clause-order : goal.unfold_left-requires-clause-order
+unfold_left-requires-clause-order c = c.requires.left_order
+
+pub unfold_left-requires-clause-signals : goal.unfold_left-requires-clause-signals
+unfold_left-requires-clause-signals c = c.requires.left
+
+pub unfold_left-requires-clause-nodes : goal.unfold_left-requires-clause-nodes
+unfold_left-requires-clause-nodes c = omega (arith, ap length c.in_ok-aig.ensures)
+
+pub unfold_left-requires-clause-entries : goal.unfold_left-requires-clause-entries
+unfold_left-requires-clause-entries c = omega (arith, ap length c.new-places.ensures)
+
+pub unfold_right-requires-clause-order : goal.unfold_right-requires-clause-order
+unfold_right-requires-clause-order c = c.requires.right_order
+
+pub unfold_right-requires-clause-signals : goal.unfold_right-requires-clause-signals
+unfold_right-requires-clause-signals c = c.requires.right
+
+pub unfold_right-requires-clause-nodes : goal.unfold_right-requires-clause-nodes
+unfold_right-requires-clause-nodes c = omega (arith, ap length c.in_ok-aig.ensures, c.unfold_left.ensures.nodes)
+
+pub unfold_right-requires-clause-entries : goal.unfold_right-requires-clause-entries
+unfold_right-requires-clause-entries c = omega (arith, ap length c.new-places.ensures, c.unfold_left.ensures.entries)
 
 pub returns-in_err-left-clause-unfolds : goal.returns-in_err-left-clause-unfolds
 returns-in_err-left-clause-unfolds c =
@@ -30,3 +54,9 @@ returns-clause-unfolds c = (
     right_are = c.in_ok-right.ensures.unfolded;
   },
 )
+
+pub returns-clause-small : goal.returns-clause-small
+returns-clause-small c = omega (arith, ap length c.in_ok-aig.ensures, c.unfold_left.ensures.nodes, c.unfold_right.ensures.nodes)
+
+pub returns-clause-few : goal.returns-clause-few
+returns-clause-few c = omega (arith, ap length c.new-places.ensures, c.unfold_left.ensures.entries, c.unfold_right.ensures.entries)

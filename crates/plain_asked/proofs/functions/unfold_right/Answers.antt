@@ -3,6 +3,7 @@ use Rattle.std.proofs.Common.{◌≡◌, ◌∙◌, ℕ, List, map, IfOk, IfErr,
 use Rattle.std.specs.Prelude.{OnOk}
 use Rattle.std.proofs.lemmas.Result.{IfOk-weaker}
 use Rattle.std.specs.List.{AllZip}
+use Rattle.aig.proofs.Growth.{Grows-refl}
 use Rattle.circuit_theory.proofs.Lists.{map-map}
 use Rattle.flat_net.specs.declared.signals.Signal.{Signal}
 use Rattle.unfold_places.proofs.Lists.{adds_none}
@@ -51,3 +52,9 @@ returns-clause-nodes c = c.unfold_side.ensures.nodes
 
 pub returns-clause-entries : goal.returns-clause-entries
 returns-clause-entries c = c.unfold_side.ensures.entries
+
+pub returns-in_err-signals-clause-grows : goal.returns-in_err-signals-clause-grows
+returns-in_err-signals-clause-grows c = Grows-refl c.args.aig.now
+
+pub unfold_side-requires-clause-order : goal.unfold_side-requires-clause-order
+unfold_side-requires-clause-order c = c.requires.order

@@ -2,6 +2,7 @@
 use Rattle.std.proofs.Common.{◌≡◌, ◌<◌, ℕ, List, length, refl, sym, subst, Err, IfOk}
 use Rattle.std.specs.Prelude.{OnOk}
 use Rattle.std.specs.List.{All, AllZip}
+use Rattle.aig.proofs.Growth.{Grows-refl}
 use Rattle.flat_net.specs.declared.signals.Signal.{Signal}
 use Rattle.flat_net.specs.View.{NetView}
 use Rattle.unfold_places.specs.declared.error.UnfoldError.TheVariants as unfold_error
@@ -35,3 +36,18 @@ returns-clause-light c = subst (λ (n : NetView). OnOk c.unfold_all.result (AreL
 
 pub returns-clause-over : goal.returns-clause-over
 returns-clause-over c = subst (λ (n : NetView). c.unfold_all.result ≡ Err unfold_error.TooLarge → AreTooLarge n (numbers_of c.args.signals.now)) c.in_ok-unfolder.ensures.net c.unfold_all.ensures.over
+
+pub returns-in_err-unfolder-clause-grows : goal.returns-in_err-unfolder-clause-grows
+returns-in_err-unfolder-clause-grows c = Grows-refl c.args.aig.now
+
+pub returns-clause-grows : goal.returns-clause-grows
+returns-clause-grows c = c.unfold_all.ensures.grows
+
+pub returns-clause-adds : goal.returns-clause-adds
+returns-clause-adds c = c.unfold_all.ensures.adds
+
+pub returns-clause-nodes : goal.returns-clause-nodes
+returns-clause-nodes c = c.unfold_all.ensures.nodes
+
+pub returns-clause-entries : goal.returns-clause-entries
+returns-clause-entries c = c.unfold_all.ensures.entries

@@ -1,5 +1,6 @@
 -- One pair more.
-use Rattle.std.proofs.Common.{◌≡◌, ℕ, ◌+◌, ◌<◌, ◌++◌, ◌∷◌, [], List, length, take, slice_get, Some, sym, subst, arith}
+use Rattle.std.proofs.Common.{◌≡◌, ℕ, ◌+◌, ◌<◌, ◌≤◌, ◌++◌, ◌∷◌, [], List, length, take, slice_get, Some, sym, subst, arith}
+use Rattle.std.proofs.lemmas.List.{take_all}
 use Rattle.circuit_theory.proofs.Lists.{zip_push}
 use Rattle.outcome_fits.specs.Obligation.{Obligation}
 use Rattle.interface.specs.declared.pairs.SignalPair.{SignalPair}
@@ -20,3 +21,9 @@ pub loop-i-preserved : goal.loop-i-preserved
 loop-i-preserved c =
     let inside : c.loop-i.i < length c.args.setup.now.pairs = omega arith in
     asked_more c.args.setup.now c.args.functions.now c.args.setup.now.pairs c.loop-i.i c.loop-i.asked.items c.push.new.self.items c.in_ok-obligation.obligation inside c.in_ok-obligation.ensures c.in_ok-push.ensures.items c.loop-i.invariant
+
+pub returns : goal.returns
+returns c =
+    let pairs = c.args.setup.now.pairs in
+    let past : length pairs ≤ c.loop-i.i = omega arith in
+    subst (λ (ps : List SignalPair). AreAsked c.args.setup.now c.args.functions.now ps c.loop-i.asked.items) (take_all c.loop-i.i pairs past) c.loop-i.invariant

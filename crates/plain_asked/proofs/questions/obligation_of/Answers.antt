@@ -1,6 +1,8 @@
 -- The functions of the pair stand at its place.
-use Rattle.std.proofs.Common.{sym, subst, arith}
-use Rattle.plain_asked.specs.Asked.{IsOnlyQuery}
+use Rattle.std.proofs.Common.{◌≡◌, slice_get, Some, sym, subst, arith}
+use Rattle.std.proofs.lemmas.Result.{IfOk-weaker}
+use Rattle.interface.specs.declared.pairs.SignalPair.{SignalPair}
+use Rattle.plain_asked.specs.Asked.{AskedOf, AsksWith, IsOnlyQuery}
 use Rattle.plain_asked.proofs.PairAt.{element, left_within, right_within, left_variables, right_variables, left_here, right_here}
 use Rattle.plain_asked.proofs.questions.obligation_of.Goals as goal
 
@@ -33,10 +35,12 @@ queries_of-requires-clause-right c =
     right_variables s.left.now s.right.now s.pairs c.args.i p.0 p.1 s.orders.left s.orders.right c.args.functions.now c.requires.functions c.index-2.result.now c.index-2.ensures
 
 pub returns : goal.returns
-returns c = λ p at.
+returns c =
     let s = c.args.setup.now in
     let f = c.args.functions.now in
-    let w = c.in_ok-obligation.ensures p at in
+    IfOk-weaker c.obligation_with.result (λ o. (p : SignalPair) → slice_get s.pairs c.args.i ≡ Some p → AsksWith s p c.in_ok-queries.queries o) (λ o. (p : SignalPair) → slice_get s.pairs c.args.i ≡ Some p → AskedOf s f p o)
+    (λ o asks p at.
+    let w = asks p at in
     record {
       name_is = w.name_is;
       size_is = w.size_is;
@@ -46,4 +50,4 @@ returns c = λ p at.
       left_is = left_here s.left.now s.right.now s.pairs c.args.i p at s.orders.left s.orders.right f c.requires.functions c.index.result.now c.index.ensures;
       right_is = right_here s.left.now s.right.now s.pairs c.args.i p at s.orders.left s.orders.right f c.requires.functions c.index-2.result.now c.index-2.ensures;
       queries_are = subst (IsOnlyQuery f.places c.index.result.now c.index-2.result.now) (sym w.queries_are) c.in_ok-queries.ensures;
-    }
+    }) c.obligation_with.ensures

@@ -3,7 +3,7 @@ use Rattle.std.proofs.Common.{◌≡◌, ◌∙◌, ℕ, suc, Bool, List, length
 use Rattle.std.specs.List.{All}
 use Rattle.circuit_theory.specs.Sequence.{sequence_rows}
 use Rattle.sec_base.specs.Table.{AreDistinct}
-use Rattle.plain_asked.specs.Sequences.{bits_at}
+use Rattle.plain_asked.specs.Sequences.{bits_at, IsSequence}
 use Rattle.shift_variables.proofs.CycleRows.{rows_fit}
 use Rattle.plain_asked.proofs.witness.witness_of.Goals as goal
 
@@ -17,3 +17,11 @@ invariant_of-result c = record {
   distinct = subst (λ (ns : List (List ℕ)). AreDistinct ns) (sym c.in_ok-names.ensures) c.requires.distinct;
   fit = fits c.args.last c.len.result (bits_at c.args.functions.now.places c.as_slice-vars.result.now c.as_slice-bits.result.now) c.in_ok-rows.rows (length c.in_ok-names.names) c.in_ok-rows.ensures (c.len.ensures ∙ ap length (sym c.in_ok-names.ensures));
 }
+
+pub rows_of-requires : goal.rows_of-requires
+rows_of-requires c =
+    let places = c.args.functions.now.places in
+    let bits = c.as_slice-bits.result.now in
+    subst (λ (n : ℕ). IsSequence places c.as_slice-vars.result.now bits c.args.last n) (sym c.len.ensures)
+    (subst (λ (vs : List ℕ). IsSequence places vs bits c.args.last (length c.args.names.now)) (sym c.as_slice-vars.ensures)
+    (subst (λ (bs : List Bool). IsSequence places c.args.query.now.vars bs c.args.last (length c.args.names.now)) (sym c.as_slice-bits.ensures) c.requires.sequence))

@@ -23,11 +23,9 @@ returns c = λ mode enabled.
     let s = c.args.stimulus.now in
     let columns = c.in_ok-columns.columns.items in
     let are = subst (λ (names : List (List ℕ)). AreColumns n names columns) c.requires.table c.in_ok-columns.ensures in
-    let begins : c.put-2.new.text.items ≡ codes "outputs" ++ names_text (map (λ (p : Port). p.name) n.outputs) ++ 10 ∷ [] =
-    c.in_ok-put-2.ensures.ok ∙ ap (λ (t : List ℕ). t ++ 10 ∷ []) (c.in_ok-put_ports.ensures
-    ∙ (ap (λ (ports : List Port). c.put.new.text.items ++ names_text (map (λ (p : Port). p.name) ports)) c.outputs.ensures
-    ∙ ap (λ (t : List ℕ). t ++ names_text (map (λ (p : Port). p.name) n.outputs)) (c.in_ok-put.ensures.ok ∙ ap (λ (t : List ℕ). t ++ codes "outputs") c.new-text.ensures.items))) in
-    let put = subst (λ (bits : List Bool). PutsCycles n c.args.enabled.now (start_bits n c.args.reset bits) (map (reordered columns) s.rows) c.put-2.new.text.items c.put_cycles.new.text.items) c.in_ok-bits.ensures
-    (subst (λ (k : List ℕ). PutsCycles n c.args.enabled.now (start_bits n c.args.reset c.in_ok-bits.bits) (map (reordered k) s.rows) c.put-2.new.text.items c.put_cycles.new.text.items) c.as_slice.ensures.value
-    (subst (λ (rows : List (List Bool)). PutsCycles n c.args.enabled.now (start_bits n c.args.reset c.in_ok-bits.bits) (map (reordered c.as_slice.result.now) rows) c.put-2.new.text.items c.put_cycles.new.text.items) c.as_slice-2.ensures c.in_ok-put_cycles.ensures)) in
-    subst (IsSimReport mode n s.names s.rows _ c.args.reset) (sym c.from_vec.ensures) (report_is n s.names s.rows columns are s.fit mode c.args.enabled.now enabled _ c.args.reset c.put-2.new.text.items c.put_cycles.new.text.items begins put)
+    let begins : c.put_head.new.text.items ≡ codes "outputs" ++ names_text (map (λ (p : Port). p.name) n.outputs) ++ 10 ∷ [] =
+    c.in_ok-put_head.ensures ∙ ap (λ (t : List ℕ). t ++ (codes "outputs" ++ names_text (map (λ (p : Port). p.name) n.outputs) ++ 10 ∷ [])) c.new-text.ensures.items in
+    let put = subst (λ (bits : List Bool). PutsCycles n c.args.enabled.now (start_bits n c.args.reset bits) (map (reordered columns) s.rows) c.put_head.new.text.items c.put_cycles.new.text.items) c.in_ok-bits.ensures
+    (subst (λ (k : List ℕ). PutsCycles n c.args.enabled.now (start_bits n c.args.reset c.in_ok-bits.bits) (map (reordered k) s.rows) c.put_head.new.text.items c.put_cycles.new.text.items) c.as_slice.ensures.value
+    (subst (λ (rows : List (List Bool)). PutsCycles n c.args.enabled.now (start_bits n c.args.reset c.in_ok-bits.bits) (map (reordered c.as_slice.result.now) rows) c.put_head.new.text.items c.put_cycles.new.text.items) c.as_slice-2.ensures c.in_ok-put_cycles.ensures)) in
+    subst (IsSimReport mode n s.names s.rows _ c.args.reset) (sym c.from_vec.ensures) (report_is n s.names s.rows columns are s.fit mode c.args.enabled.now enabled _ c.args.reset c.put_head.new.text.items c.put_cycles.new.text.items begins put)

@@ -1,9 +1,15 @@
 -- All that is reached, in order.
-use Rattle.std.proofs.Common.{◌∙◌}
+use Rattle.std.proofs.Common.{ℕ, Vec, Global, length}
+use Rattle.std.specs.List.Sorted.{IsPermutation, IsSorted}
+use Rattle.std.specs.Ordering.{nat_cmp}
+use Rattle.std.proofs.lemmas.Result.{IfOk-weaker}
+use Rattle.flat_net.specs.View.{circuit_of}
+use Rattle.unate_enable.specs.Walks.{AreReached}
 use Rattle.unate_enable.proofs.Walks.{reached_sorted}
 use Rattle.unate_enable.proofs.reached_signals.reached.Goals as goal
 
 pub returns : goal.returns
 returns c =
-    reached_sorted c.args.net.now c.args.from.0 c.in_ok-seen.seen.keys c.in_ok-signals.signals.items c.sort.new.self.items c.in_ok-seen.ensures c.as_slice.ensures.unique
-    (c.in_ok-signals.ensures.items ∙ c.as_slice.ensures.keys) c.sort.ensures.permutation c.in_ok-sort.ensures.sorted
+    IfOk-weaker c.in_order.result (λ (v : Vec ℕ Global). IsPermutation c.as_slice.result.now v.items × IsSorted nat_cmp v.items)
+    (λ (v : Vec ℕ Global). AreReached (circuit_of c.args.net.now) (length c.args.net.now.drivers) c.args.from.0 v.items)
+    (λ v h. reached_sorted c.args.net.now c.args.from.0 c.in_ok-seen.seen.keys c.as_slice.result.now v.items c.in_ok-seen.ensures c.as_slice.ensures.unique c.as_slice.ensures.keys h.0 h.1) c.in_order.ensures

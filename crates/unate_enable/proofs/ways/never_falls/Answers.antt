@@ -1,19 +1,14 @@
--- The latch goes up first, and then each signal goes its way.
-use Rattle.std.proofs.Common.{◌≡◌, ◌∙◌, ℕ, Bool, true, false, not, nat_eq, refl, sym, ap, subst, true≢false}
-use Rattle.std.specs.Prelude.{IsTrue}
-use Rattle.indexmap.specs.IndexMap.{get}
-use Rattle.flat_net.specs.View.{circuit_of}
-use Rattle.unate_enable.specs.declared.ways.Way.{Way}
-use Rattle.unate_enable.specs.Raises.{MayGo, way_in}
-use Rattle.unate_enable.proofs.Raised.{first_goes}
+-- By a table of ways.
 use Rattle.unate_enable.proofs.ways.never_falls.Goals as goal
 
-not_set : (b : Bool) → IsTrue (not b) → b ≡ false
-not_set false h = refl
-not_set true h = absurd (true≢false (sym h))
+pub never_falls_in-requires : goal.never_falls_in-requires
+never_falls_in-requires c = record {
+  increasing = c.requires.increasing;
+  within = c.requires.within;
+  closed = c.requires.closed;
+  among = c.requires.among;
+  source = c.requires.source;
+}
 
 pub returns : goal.returns
-returns c = λ e low high raise up.
-    let first = first_goes (get nat_eq c.new-ways.result) (get nat_eq c.put.new.ways) (circuit_of c.args.net.now) c.args.own.0 c.in_ok-put.ensures low high raise in
-    let go = c.in_ok-put_ways.ensures c.args.own.0 low high c.requires.source raise c.requires.closed first c.args.next.0 c.requires.among in
-    go.up (ap (λ (w : Way). w.falls) (sym c.way_at-way.ensures) ∙ not_set c.way_at-way.result.falls e) up
+returns c = c.never_falls_in.ensures

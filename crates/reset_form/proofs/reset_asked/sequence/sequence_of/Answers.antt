@@ -4,6 +4,7 @@ use Rattle.std.specs.List.{All}
 use Rattle.circuit_theory.specs.Sequence.{sequence_rows}
 use Rattle.sec_base.specs.Table.{AreDistinct}
 use Rattle.shift_variables.specs.Sequences.{bits_at}
+use Rattle.shift_variables.specs.cycle_variables.Cycles.{AreInCycles}
 use Rattle.shift_variables.proofs.CycleRows.{rows_fit}
 use Rattle.reset_form.proofs.reset_asked.CycleQueries.{numbers_apart}
 use Rattle.reset_form.proofs.reset_asked.sequence.sequence_of.Goals as goal
@@ -21,3 +22,9 @@ invariant_of-result c = record {
 
 pub sides_at-requires-clause-distinct : goal.sides_at-requires-clause-distinct
 sides_at-requires-clause-distinct c = numbers_apart c.args.functions.now.places c.args.query.now.vars c.requires.in_order.ordered
+
+pub cycle_rows-requires-clause-each : goal.cycle_rows-requires-clause-each
+cycle_rows-requires-clause-each c = ap length c.as_slice-bits.ensures ∙ (c.requires.each ∙ sym (ap length c.as_slice.ensures))
+
+pub cycle_rows-requires-clause-in_order : goal.cycle_rows-requires-clause-in_order
+cycle_rows-requires-clause-in_order c = subst (AreInCycles c.args.functions.now.places) (sym c.as_slice.ensures) c.requires.in_order
