@@ -10,12 +10,6 @@ use Rattle.pair_decide.specs.Queries.{assigned_to}
 use Rattle.class_search.specs.declared.compare.Enable.{Enable}
 use Rattle.class_separations.proofs.apart.apart_of.Goals as goal
 
-pub index-enable-requires : goal.index-enable-requires
-index-enable-requires c = slice_get_within c.args.class.now.enables.items c.args.told.now.member c.requires.enable c.requires.enable_at
-
-pub index-requires : goal.index-requires
-index-requires c = slice_get_within c.args.class.now.tags.items c.args.told.now.member c.requires.tag c.requires.tag_at
-
 pub value_in_cone-requires : goal.value_in_cone-requires
 value_in_cone-requires c =
     let here = slice_get-get_or c.args.class.now.enables.items c.args.told.now.member c.index-enable.result.now (slice_get_within c.args.class.now.enables.items c.args.told.now.member c.requires.enable c.requires.enable_at) ∙ ap Some (sym c.index-enable.ensures) in
