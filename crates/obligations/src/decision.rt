@@ -37,23 +37,6 @@ pub fn decide_all(
     ensures { IfOk result (HaveDecided aig.now conflicts asked.now) }
 {
     let swept = sweep_asked(alloc, aig, asked, conflicts)?;
-    decide_each(alloc, aig, asked, &swept, conflicts)
-}
-
-/// Decides all obligations in order, with what the sweep tells of their queries.
-fn decide_each(
-    alloc: Global,
-    aig: &Aig,
-    asked: &[Obligation],
-    swept: &SweptQueries,
-    conflicts: u32,
-) -> Result<Decided, NoMemory>
-    requires asked { AreAsked aig.now asked.now }
-    requires known { AreKnown aig.now swept.now (queries_of asked.now) }
-    requires few { length (queries_of asked.now) < 2 ^ 64 }
-    requires conflicts { conflicts ≤ MAX_CONFLICTS }
-    ensures { IfOk result (HaveDecided aig.now conflicts asked.now) }
-{
     let mut decided = Decided {
         results: PairResults::new(alloc),
         different: None,
@@ -61,7 +44,7 @@ fn decide_each(
     };
     let mut place = 0;
     for i in 0..asked.len() {
-        decide_next(alloc, aig, asked, swept, i, place, conflicts, &mut decided)?;
+        decide_next(alloc, aig, asked, &swept, i, place, conflicts, &mut decided)?;
         place += asked[i].queries.len();
     }
     Ok(decided)
