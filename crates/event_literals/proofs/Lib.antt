@@ -1,4 +1,3 @@
-pub mod Entries
 pub mod Known
 pub mod Lits
 pub mod Going

@@ -13,11 +13,11 @@ ghost use Rattle.event_walk.specs.Walk.{IsCounting, IsRefused, IsRootOf, IsCount
 ghost use Rattle.event_literals.specs.Known.{AreKnown, IsKnownIn, HasUnfolded, IsMet, IsReady, IsLater, HasGrown, IsInputLit, IsGateLit};
 ghost use Rattle.event_literals.specs.Built.{IsReadyFor, IsWalked};
 
-use crate::memo::Memo;
 use event_walk::{
     Counter, Driver, EventCircuit, EventGraph, EventUnfoldError, EventWalker, Frame, Lit, NoMemory,
     Place, PlaceTable, Signal, Step, Ways, constant, gate_of, latch_of,
 };
+use graph_copy::memo::Memo;
 use std::alloc::Global;
 use std::marker::Model;
 

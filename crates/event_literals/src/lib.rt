@@ -3,7 +3,6 @@
 #![tactic(auto)]
 
 mod builder;
-mod memo;
 
 pub use aig_or::short_or;
 pub use builder::{EventBuilder, Unfolding};

@@ -9,3 +9,4 @@ pub mod InFrames
 pub mod Walked
 pub use Rattle.event_nodes.proofs as event_nodes
 pub use Rattle.event_nodes.proofs.flat_net
+mod FrameKeys

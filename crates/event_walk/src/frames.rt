@@ -4,14 +4,15 @@ ghost use Rattle.std.specs.Prelude.{◌≡◌, ◌⊎◌, ◌+◌, ◌^◌, ◌<
 ghost use Rattle.circuit_theory.specs.Frame.{NotPut};
 ghost use Rattle.event_walk.specs.declared.frames.Put.TheVariants.{Low, High};
 ghost use Rattle.event_walk.specs.Ready.{put_of};
+ghost use Rattle.event_walk.specs.FramePlaces.{put_number};
 
 use event_nodes::{Lit, NoMemory};
-use indexmap::IndexSet;
+use sec_base::{Key, UniqueTable, mixed};
 use std::alloc::Global;
 use std::marker::Model;
 
 /// The latch that is read as a constant.
-#[derive(Clone, Copy, PartialEq, Eq, Hash)]
+#[derive(Clone, Copy, PartialEq, Eq)]
 pub enum Put {
     /// No latch.
     Free,
@@ -46,10 +47,36 @@ pub fn constant(put: Put, signal: u32) -> Option<Lit>
 }
 
 /// An event node by its number, and the latch that is put there.
-#[derive(Clone, Copy, PartialEq, Eq, Hash)]
+#[derive(Clone, Copy)]
 pub struct Frame {
     pub node: u32,
     pub put: Put,
+}
+
+/// A number for what is put. Two that differ have one number only by chance.
+fn put_number(put: Put) -> u32
+    ensures { result ≡ put_number put }
+{
+    match put {
+        Put::Free => 0,
+        Put::Low(latch) => mixed(1, latch),
+        Put::High(latch) => mixed(2, latch),
+    }
+}
+
+impl Key for Frame {
+    ghost use Rattle.event_walk.specs.FramePlaces.{frame_place};
+
+    ghost place_at = { frame_place };
+
+    fn place(self, step: u32) -> u32 {
+        mixed(self.node, put_number(self.put)).wrapping_add(step)
+    }
+
+    #[tactic(auto, using(crate::proofs::FrameKeys::same_frame))]
+    fn is(self, other: Frame) -> bool {
+        self.node == other.node && self.put == other.put
+    }
 }
 
 /// A signal that is to be unfolded in a frame. Steps go by rank and then by signal: what is read comes before.
@@ -77,18 +104,16 @@ pub struct Ways {
 /// Frames in the order in which they first came. A contract sees the list.
 #[derive(Drop)]
 pub(crate) struct Frames {
-    frames: IndexSet<Frame>,
+    frames: UniqueTable<Frame>,
 }
 
 impl Model for Frames {
-    ghost use Rattle.std.specs.Prelude.{List, length, ◌<◌, ◌^◌};
+    ghost use Rattle.std.specs.Prelude.{List};
     ghost use Rattle.event_walk.specs.declared.frames.Frame.{Frame};
 
     ghost Value = { List Frame };
 
-    ghost view = { λ t. t.frames.keys };
-
-    ghost invariant = { λ t. length t.frames.keys < 2 ^ 32 };
+    ghost view = { λ t. t.frames };
 }
 
 impl Frames {
@@ -97,7 +122,7 @@ impl Frames {
         ensures { result ≡ [] }
     {
         Frames {
-            frames: IndexSet::new(alloc),
+            frames: UniqueTable::new(alloc, u32::MAX),
         }
     }
 
@@ -110,8 +135,7 @@ impl Frames {
         ensures grown { OnOk result ((self.new ≡ self.old) ⊎ (self.new ≡ self.old ++ frame ∷ [])) }
         ensures err { OnErr result (self.new ≡ self.old) }
     {
-        let (id, _) = self.frames.insert_full(frame)?;
-        Ok(id as u32)
+        self.frames.insert(frame)
     }
 
     /// The frame with this number.
@@ -119,6 +143,6 @@ impl Frames {
         requires { id < length self.now }
         ensures { slice_get self.now id ≡ Some result }
     {
-        self.frames[id as usize]
+        self.frames.key(id)
     }
 }

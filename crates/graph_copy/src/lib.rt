@@ -1,7 +1,9 @@
-//! A literal of one graph put into another, where the variables have other numbers.
+//! What is built in a graph: a literal of another graph put into it, where the variables have other numbers, and the literals of
+//! places that were met.
 #![tactic(auto)]
 
 mod copy;
 pub mod graph_clone;
+pub mod memo;
 
 pub use copy::copy_into;

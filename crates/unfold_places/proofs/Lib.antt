@@ -6,7 +6,6 @@ pub mod ReadPlaces
 pub mod Over
 pub mod PairTest
 pub mod Order
-pub mod Entries
 pub mod InputLists
 pub mod Zips
 pub mod Words

@@ -5,7 +5,6 @@
 
 mod error;
 pub mod listing;
-pub mod memo;
 pub mod reads;
 mod signal_function;
 pub mod variables;
@@ -13,4 +12,5 @@ pub mod visitors;
 
 pub use error::UnfoldError;
 pub use flat_net::{BitRows, Bits, Ids, NoMemory, PlaceTable, Seq};
+pub use graph_copy::memo;
 pub use signal_function::Unfolded;

@@ -5,11 +5,11 @@ ghost use Rattle.std.specs.List.{AllPairs};
 ghost use Rattle.aig.specs.declared.node.Lit.{Lit};
 
 use aig::Lit;
-use flat_net::{NoMemory, UniqueTable};
+use sec_base::{NoMemory, UniqueTable};
 use std::alloc::Global;
 use std::marker::Model;
 
-/// A cycle, and a signal's number.
+/// A signal and when it is read: a cycle or a frame, and the signal's number.
 pub type Place = (u32, u32);
 
 /// Places with their literals, each place once, in the order in which they were put. A contract sees the list.
@@ -67,14 +67,14 @@ impl Memo {
     }
 
     /// How many places were met.
-    pub(crate) fn len(&self) -> usize
+    pub fn len(&self) -> usize
         ensures { result ≡ length self.now }
     {
         self.places.len() as usize
     }
 
     /// The place with this number, in the order in which they were put.
-    pub(crate) fn place(&self, number: usize) -> Place
+    pub fn place(&self, number: usize) -> Place
         requires { number < length self.now }
         ensures { (x : Lit) × (slice_get self.now number ≡ Some (result, x)) }
     {
@@ -83,7 +83,7 @@ impl Memo {
     }
 
     /// The number of a place that was met.
-    pub(crate) fn number(&self, place: Place) -> usize
+    pub fn number(&self, place: Place) -> usize
         requires { (x : Lit) × Contains self.now (place, x) }
         ensures { (x : Lit) × (slice_get self.now result ≡ Some (place, x)) }
     {

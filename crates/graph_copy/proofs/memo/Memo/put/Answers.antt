@@ -2,8 +2,8 @@
 use Rattle.std.proofs.Common.{◌≡◌, ◌∙◌, ℕ, List, [], ◌∷◌, ◌++◌, map, sym, ap, subst, Contains}
 use Rattle.std.specs.List.{zip}
 use Rattle.aig.specs.declared.node.Lit.{Lit}
-use Rattle.unfold_places.proofs.Entries.{new_place, zip_push}
-use Rattle.unfold_places.proofs.memo.Memo.put.Goals as goal
+use Rattle.graph_copy.proofs.Entries.{new_place, zip_push}
+use Rattle.graph_copy.proofs.memo.Memo.put.Goals as goal
 
 pub put-requires : goal.put-requires
 put-requires c =

@@ -1,8 +1,8 @@
 -- What the table finds has an entry, and it finds each place.
 use Rattle.std.proofs.Common.{ℕ, List, map, subst, Contains}
 use Rattle.aig.specs.declared.node.Lit.{Lit}
-use Rattle.unfold_places.proofs.Entries.{no_entry, entry_of}
-use Rattle.unfold_places.proofs.memo.Memo.get.Goals as goal
+use Rattle.graph_copy.proofs.Entries.{no_entry, entry_of}
+use Rattle.graph_copy.proofs.memo.Memo.get.Goals as goal
 
 pub returns-in-Some-clause-here : goal.returns-in-Some-clause-here
 returns-in-Some-clause-here c =

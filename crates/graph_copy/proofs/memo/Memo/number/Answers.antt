@@ -1,8 +1,8 @@
 -- The place that was met has the number that is found for it.
 use Rattle.std.proofs.Common.{◌≡◌, ℕ, List, slice_get, Some, sym, subst, Contains}
 use Rattle.aig.specs.declared.node.Lit.{Lit}
-use Rattle.unfold_places.proofs.Entries.{entry_at, entry_place}
-use Rattle.unfold_places.proofs.memo.Memo.number.Goals as goal
+use Rattle.graph_copy.proofs.Entries.{entry_at, entry_place}
+use Rattle.graph_copy.proofs.memo.Memo.number.Goals as goal
 
 pub returns : goal.returns
 returns c =

@@ -1,8 +1,8 @@
 -- The entry with the number has its place and a literal.
 use Rattle.std.proofs.Common.{◌≡◌, ℕ, List, length, slice_get, Some, ap, subst, arith}
 use Rattle.aig.specs.declared.node.Lit.{Lit}
-use Rattle.unfold_places.proofs.Entries.{entry_at, entries_length}
-use Rattle.unfold_places.proofs.memo.Memo.place.Goals as goal
+use Rattle.graph_copy.proofs.Entries.{entry_at, entries_length}
+use Rattle.graph_copy.proofs.memo.Memo.place.Goals as goal
 
 pub overflow_cast-number : goal.overflow_cast-number
 overflow_cast-number c = omega (arith, c.requires, c.keeps.ensures.few, entries_length c.self.inside.places c.self.inside.lits.items c.self.invariant, ap length c.self.view_is)

@@ -2,8 +2,8 @@
 use Rattle.std.proofs.Common.{◌≢◌, ℕ, List, map, subst}
 use Rattle.std.specs.List.{AllPairs}
 use Rattle.aig.specs.declared.node.Lit.{Lit}
-use Rattle.unfold_places.proofs.Entries.{entries_differ}
-use Rattle.unfold_places.proofs.memo.Memo.keeps.Goals as goal
+use Rattle.graph_copy.proofs.Entries.{entries_differ}
+use Rattle.graph_copy.proofs.memo.Memo.keeps.Goals as goal
 
 pub returns : goal.returns
 returns c =
