@@ -1,5 +1,4 @@
 pub mod Bounds
-pub mod Entries
 pub mod Classes
 pub mod Giving
 pub mod Tables

@@ -1,26 +1,38 @@
 //! The enables of the latches that have a class.
 
-ghost use Rattle.std.specs.Prelude.{◌≡◌, ℕ, List, [], ◌∷◌, ◌++◌, IfSome, IfNone, OnOk, OnErr, Contains, map};
+ghost use Rattle.std.specs.Prelude.{◌≡◌, ◌<◌, ℕ, List, [], ◌∷◌, ◌++◌, IfSome, IfNone, OnOk, OnErr, Contains, map, vec_len, vec_capacity};
 
 use aig::Lit;
-use indexmap::IndexMap;
-use sec_base::NoMemory;
+use sec_base::{NoMemory, UniqueTable};
 use std::alloc::Global;
 use std::marker::Model;
 
 /// The class of the first latch with each enable: the literals of an enable and of its care, and the class. Latches whose literals are
 /// the same belong to one class. A contract sees the list, in which the two literals stand as a pair of numbers.
-#[derive(Drop)]
 pub struct EnableTable {
-    classes: IndexMap<(u32, u32), u32>,
+    enables: UniqueTable<(u32, u32)>,
+    classes: Vec<u32>,
+}
+
+/// It is let go by one call: an owner isn't taken apart field by field at each way out.
+impl Drop for EnableTable {
+    fn drop(self) {
+        let EnableTable {
+            enables: _,
+            classes: _,
+        } = self;
+    }
 }
 
 impl Model for EnableTable {
-    ghost use Rattle.std.specs.Prelude.{List, ℕ};
+    ghost use Rattle.std.specs.Prelude.{◌≡◌, List, ℕ, length};
+    ghost use Rattle.std.specs.List.{zip};
 
     ghost Value = { List ((ℕ × ℕ) × ℕ) };
 
-    ghost view = { λ t. t.classes.entries };
+    ghost view = { λ t. zip t.enables t.classes.items };
+
+    ghost invariant = { λ t. length t.classes.items ≡ length t.enables };
 }
 
 impl EnableTable {
@@ -29,7 +41,8 @@ impl EnableTable {
         ensures { result ≡ [] }
     {
         EnableTable {
-            classes: IndexMap::new(alloc),
+            enables: UniqueTable::new(alloc, u32::MAX),
+            classes: Vec::new(alloc),
         }
     }
 
@@ -38,8 +51,8 @@ impl EnableTable {
         ensures here { IfSome result (λ k. Contains self.now ((enable.0, care.0), k)) }
         ensures absent { IfNone result (Contains (map (λ e. e.0) self.now) (enable.0, care.0) → ⊥) }
     {
-        match self.classes.get(&(enable.0, care.0)) {
-            Some(class) => Some(*class),
+        match self.enables.find((enable.0, care.0)) {
+            Some(number) => Some(self.classes[number as usize]),
             None => None,
         }
     }
@@ -50,7 +63,19 @@ impl EnableTable {
         ensures ok { OnOk result (self.new ≡ self.old ++ ((enable.0, care.0), class) ∷ []) }
         ensures err { OnErr result (self.new ≡ self.old) }
     {
-        self.classes.insert((enable.0, care.0), class)?;
+        self.classes.reserve(1)?;
+        self.enables.put((enable.0, care.0))?;
+        put_last(&mut self.classes, class);
         Ok(())
+    }
+}
+
+/// Puts the class last. There is room for it.
+fn put_last(classes: &mut Vec<u32>, class: u32)
+    requires { vec_len classes.old < vec_capacity classes.old }
+    ensures { classes.new.items ≡ classes.old.items ++ class ∷ [] }
+{
+    if classes.push(class).is_err() {
+        unreachable!();
     }
 }

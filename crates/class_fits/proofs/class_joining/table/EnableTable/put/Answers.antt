@@ -1,11 +1,15 @@
--- A new key goes last.
-use Rattle.std.proofs.Common.{◌∙◌, ◌++◌, ◌∷◌, [], ℕ, List, map, sym, ap, subst, Contains}
-use Rattle.indexmap.proofs.CallerLemmas.{insert_entry-new}
-use Rattle.class_fits.proofs.class_joining.Entries.{absent_key}
-use Rattle.event_nodes.proofs.PairTest.{same_pair}
+-- A new key goes last, and so does its class.
+use Rattle.std.proofs.Common.{◌≡◌, ◌∙◌, ℕ, List, [], ◌∷◌, ◌++◌, map, sym, ap, subst, Contains}
+use Rattle.std.specs.List.{zip}
+use Rattle.graph_copy.proofs.Entries.{new_place, zip_push}
 use Rattle.class_fits.proofs.class_joining.table.EnableTable.put.Goals as goal
+
+pub put-requires : goal.put-requires
+put-requires c =
+    new_place c.self.inside.enables c.self.inside.classes.items c.self.invariant (c.args.enable.0, c.args.care.0) (subst (λ (es : List ((ℕ × ℕ) × ℕ)). Contains (map (λ e. e.0) es) (c.args.enable.0, c.args.care.0) → ⊥) (sym c.self.view_is) c.requires)
 
 pub returns-clause-ok : goal.returns-clause-ok
 returns-clause-ok c =
-    let none = absent_key (c.args.enable.0, c.args.care.0) c.self.inside.classes.entries (subst (λ (es : List ((ℕ × ℕ) × ℕ)). Contains (map (λ e. e.0) es) (c.args.enable.0, c.args.care.0) → ⊥) (sym c.self.view_is) c.requires) in
-    c.in_ok-insert.ensures.entries ∙ insert_entry-new same_pair c.self.inside.classes (c.args.enable.0, c.args.care.0) c.args.class none ∙ ap (λ (es : List ((ℕ × ℕ) × ℕ)). es ++ ((c.args.enable.0, c.args.care.0), c.args.class) ∷ []) c.self.view_is
+    let enables : c.put.new.self ≡ c.self.inside.enables ++ (c.args.enable.0, c.args.care.0) ∷ [] = c.in_ok-put.ensures.ok in
+    let classes : c.put_last.new.classes.items ≡ c.self.inside.classes.items ++ c.args.class ∷ [] = c.put_last.ensures ∙ ap (λ (xs : List ℕ). xs ++ c.args.class ∷ []) c.reserve.ensures.items in
+    ap (λ (ps : List (ℕ × ℕ)). zip ps c.put_last.new.classes.items) enables ∙ ap (zip (c.self.inside.enables ++ (c.args.enable.0, c.args.care.0) ∷ [])) classes ∙ zip_push c.self.inside.enables c.self.inside.classes.items (c.args.enable.0, c.args.care.0) c.args.class c.self.invariant ∙ ap (λ (es : List ((ℕ × ℕ) × ℕ)). es ++ ((c.args.enable.0, c.args.care.0), c.args.class) ∷ []) c.self.view_is
