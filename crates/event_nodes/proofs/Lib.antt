@@ -1,5 +1,4 @@
 pub mod Drivers
-pub mod PairTest
 pub mod Growing
 mod Kept
 pub mod Lists
