@@ -6,3 +6,5 @@ pub mod SpelledTexts
 pub mod Spelling
 pub mod NoFaults
 pub mod Ranking
+pub mod Counting
+pub mod Shallow

@@ -1,5 +1,3 @@
-pub mod Counting
-pub mod Shallow
 pub mod Sides
 pub mod Within
 pub mod Comparing
