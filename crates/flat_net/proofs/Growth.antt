@@ -1,13 +1,14 @@
 -- A net that grows by one item keeps what each net keeps.
-use Rattle.std.proofs.Common.{◌≡◌, ◌+◌, ◌^◌, ◌<◌, ◌≤◌, ◌∙◌, ℕ, zero, suc, List, [], ◌∷◌, ◌++◌, length, slice_get, Option, Some, None, refl, sym, ap, subst, arith, inl, inr}
+use Rattle.std.proofs.Common.{◌≡◌, ◌+◌, ◌^◌, ◌<◌, ◌≤◌, ◌∙◌, ℕ, zero, suc, List, [], ◌∷◌, ◌++◌, length, map, take, append_assoc, slice_get, Option, Some, None, Result, Ok, Err, OnOk, OnErr, refl, sym, ap, subst, arith, inl, inr}
 use Rattle.std.specs.Prelude.{◌⊎◌, IsSomeAnd}
 use Rattle.std.specs.List.{All}
-use Rattle.std.proofs.lemmas.List.{length-append}
+use Rattle.std.proofs.lemmas.List.{length-append, map-append}
 use Rattle.std.proofs.lemmas.List.Elements.{All-push}
 use Rattle.std.proofs.lemmas.Option.{slice_get_within, none-some, same_Some}
 use Rattle.circuit_theory.specs.Cover.{Cover}
 use Rattle.sec_base.specs.Cover.{IsCoverSound}
 use Rattle.sec_base.specs.Table.{AreDistinct}
+use Rattle.sec_base.proofs.TableLemmas.{take-push}
 use Rattle.sec_base.specs.declared.basics.Init.{Init}
 use Rattle.flat_net.specs.declared.signals.Signal.{Signal}
 use Rattle.flat_net.specs.declared.parts.Port.{Port}
@@ -23,6 +24,26 @@ use Rattle.flat_net.specs.Makes.{with_input, with_latch, with_gate, with_cover, 
 -- an equal net is sound too
 pub sound_along : (m : NetView) {k : NetView} → IsSound m → k ≡ m → IsSound k
 sound_along m sound same = subst IsSound (sym same) sound
+
+-- what follows from a result whichever it is
+pub either_way : {T E P : Type 0} (r : Result T E) → OnOk r P → OnErr r P → P
+either_way (Ok x) ok err = ok
+either_way (Err e) ok err = err
+
+-- facts of one outcome of a result, taken together
+pub ok_together : {T E A B C D P : Type 0} (r : Result T E) → OnOk r A → OnOk r B → OnOk r C → OnOk r D → (A → B → C → D → P) → OnOk r P
+ok_together (Ok x) a b c d f = f a b c d
+ok_together (Err e) a b c d f = tt
+
+pub err_together : {T E A B C P : Type 0} (r : Result T E) → OnErr r A → OnErr r B → OnErr r C → (A → B → C → P) → OnErr r P
+err_together (Ok x) a b c f = tt
+err_together (Err e) a b c f = f a b c
+
+-- one item more of those that are made of a list's
+pub made_more : {A B : Type 0} (first : List B) (f : A → B) (from : List A) (i : ℕ) (x : A) (new old : List B) → slice_get from i ≡ Some x → old ≡ first ++ map f (take i from) → new ≡ old ++ f x ∷ [] → new ≡ first ++ map f (take (i + 1) from)
+made_more first f from i x new old here before more =
+    let front : map f (take i from) ++ f x ∷ [] ≡ map f (take (i + 1) from) = sym (map-append f (take i from) (x ∷ [])) ∙ ap (map f) (take-push from i x here) in
+    more ∙ (ap (λ l. l ++ f x ∷ []) before ∙ rw append_assoc (ap (λ l. first ++ l) front))
 
 -- what stands in a list stands in a longer one
 pub slice_get-append : {X : Type 0} (xs ys : List X) (i : ℕ) (x : X) → slice_get xs i ≡ Some x → slice_get (xs ++ ys) i ≡ Some x

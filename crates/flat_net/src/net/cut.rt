@@ -7,6 +7,7 @@ ghost use Rattle.flat_net.specs.View.{circuit_of};
 ghost use Rattle.flat_net.specs.Cut.{latch_at, exposed_names, as_input, as_output, stays, moved_to, IsCut, IsCutCircuit, ArePlaces, AreMoved};
 
 use super::Net;
+use super::growth::put_port;
 use crate::parts::{Driver, Gate, LatchAt, Port};
 use sec_base::{Cover, Duplicate, Ids, NameTable, NoMemory, Word};
 use std::alloc::Global;
@@ -103,7 +104,7 @@ impl Net {
         ensures clock { IfOk result (λ p. p.1 ≡ self.now.clock) }
     {
         let names = self.table_copied(alloc)?;
-        let clock = self.clock_copied()?;
+        let clock = self.clock_copied(alloc)?;
         Ok((names, clock))
     }
 
@@ -125,13 +126,10 @@ impl Net {
         self.names.copy(alloc)
     }
 
-    fn clock_copied(&self) -> Result<Option<Word>, NoMemory>
+    fn clock_copied(&self, alloc: Global) -> Result<Option<Word>, NoMemory>
         ensures { IfOk result (λ clock. clock ≡ self.now.clock) }
     {
-        match &self.clock {
-            Some(name) => Ok(Some(name.copy()?)),
-            None => Ok(None),
-        }
+        self.clock.duplicate(alloc)
     }
 
     fn latch_at(&self, j: u32) -> &LatchAt
@@ -163,10 +161,7 @@ impl Net {
         let mut ports = copy_all(alloc, self.inputs())?;
         for j in exposed {
             let latch = self.latch_at(*j);
-            ports.push(Port {
-                name: latch.name.copy()?,
-                signal: latch.out,
-            })?;
+            put_port(&mut ports, alloc, latch.name.as_slice(), latch.out)?;
         }
         Ok(ports)
     }
@@ -178,10 +173,7 @@ impl Net {
         let mut ports = copy_all(alloc, self.outputs())?;
         for j in exposed {
             let latch = self.latch_at(*j);
-            ports.push(Port {
-                name: latch.name.copy()?,
-                signal: latch.next,
-            })?;
+            put_port(&mut ports, alloc, latch.name.as_slice(), latch.next)?;
         }
         Ok(ports)
     }

@@ -42,22 +42,20 @@ impl Net {
         let signal = Signal(self.drivers.len() as u32);
         let number = self.inputs.len() as u32;
         let name_kept = Seq::from_vec(name.to_vec(alloc)?);
+        let port = Port {
+            name: name_kept,
+            signal,
+        };
+        let driver = Driver::Input(number);
         enter(
             alloc,
             &mut self.names,
             &mut self.drivers,
             &mut self.inputs,
             name,
-        )?;
-        push_within(
-            &mut self.inputs,
-            Port {
-                name: name_kept,
-                signal,
-            },
-        );
-        push_within(&mut self.drivers, Driver::Input(number));
-        Ok(signal)
+            port,
+            driver,
+        )
     }
 
     pub(crate) fn add_latch(
@@ -75,24 +73,22 @@ impl Net {
         let signal = Signal(self.drivers.len() as u32);
         let number = self.latches.len() as u32;
         let name_kept = Seq::from_vec(name.to_vec(alloc)?);
+        let latch = LatchAt {
+            name: name_kept,
+            next: signal,
+            out: signal,
+            init,
+        };
+        let driver = Driver::Latch(number);
         enter(
             alloc,
             &mut self.names,
             &mut self.drivers,
             &mut self.latches,
             name,
-        )?;
-        push_within(
-            &mut self.latches,
-            LatchAt {
-                name: name_kept,
-                next: signal,
-                out: signal,
-                init,
-            },
-        );
-        push_within(&mut self.drivers, Driver::Latch(number));
-        Ok(signal)
+            latch,
+            driver,
+        )
     }
 
     pub(crate) fn add_gate(
@@ -112,16 +108,17 @@ impl Net {
     {
         let out = Signal(self.drivers.len() as u32);
         let number = self.gates.len() as u32;
+        let gate = Gate { fanins, cover, out };
+        let driver = Driver::Gate(number);
         enter(
             alloc,
             &mut self.names,
             &mut self.drivers,
             &mut self.gates,
             name,
-        )?;
-        push_within(&mut self.gates, Gate { fanins, cover, out });
-        push_within(&mut self.drivers, Driver::Gate(number));
-        Ok(out)
+            gate,
+            driver,
+        )
     }
 
     pub(crate) fn add_cover(&mut self, cover: Cover) -> Result<u32, NoMemory>
@@ -146,12 +143,7 @@ impl Net {
         ensures ok { OnOk result (self.new ≡ with_output self.old name.now s) }
         ensures err { OnErr result (self.new ≡ self.old) }
     {
-        let name_kept = Seq::from_vec(name.to_vec(alloc)?);
-        self.outputs.push(Port {
-            name: name_kept,
-            signal: s,
-        })?;
-        Ok(())
+        put_port(&mut self.outputs, alloc, name, s)
     }
 
     pub(crate) fn put_next(&mut self, latch: Signal, next: Signal) -> u32
@@ -177,28 +169,61 @@ impl Net {
     }
 }
 
-/// Puts the name of a new signal last, with room for its driver and for one item more. After `NoMemory` no name has come.
-fn enter<T>(
+/// Puts a port of this name last. After `NoMemory` nothing has changed.
+pub(crate) fn put_port(
+    ports: &mut Vec<Port>,
+    alloc: Global,
+    name: &[u8],
+    signal: Signal,
+) -> Result<(), NoMemory>
+    ensures ok { OnOk result (ports.new.items ≡ ports.old.items ++ (record { name = name.now; signal = signal }) ∷ []) }
+    ensures err { OnErr result (ports.new.items ≡ ports.old.items) }
+{
+    let name = Seq::from_vec(name.to_vec(alloc)?);
+    ports.push(Port { name, signal })?;
+    Ok(())
+}
+
+/// Puts a new signal last: its name, its driver and what stands for it among the items. After `NoMemory` nothing has changed.
+fn enter<T: Drop>(
     alloc: Global,
     names: &mut NameTable,
     drivers: &mut Vec<Driver>,
     items: &mut Vec<T>,
     name: &[u8],
-) -> Result<(), NoMemory>
+    item: T,
+    driver: Driver,
+) -> Result<Signal, NoMemory>
     requires room { length names.old + 1 < 2 ^ 32 }
     requires new { is_among names.old name.now ≡ false }
+    requires number { length drivers.old.items < 2 ^ 32 }
+    ensures signal { IfOk result (λ s. s.0 ≡ length drivers.old.items) }
     ensures names { OnOk result (names.new ≡ names.old ++ name.now ∷ []) }
-    ensures err { OnErr result (names.new ≡ names.old) }
+    ensures names_err { OnErr result (names.new ≡ names.old) }
     ensures distinct { OnOk result (AreDistinct names.new) }
-    ensures drivers { drivers.new.items ≡ drivers.old.items }
+    ensures drivers { OnOk result (drivers.new.items ≡ drivers.old.items ++ driver ∷ []) }
+    ensures drivers_err { OnErr result (drivers.new.items ≡ drivers.old.items) }
+    ensures items { OnOk result (items.new.items ≡ items.old.items ++ item ∷ []) }
+    ensures items_err { OnErr result (items.new.items ≡ items.old.items) }
+{
+    let signal = Signal(drivers.len() as u32);
+    make_room(items, drivers)?;
+    names.intern(alloc, name)?;
+    names.keeps();
+    push_within(items, item);
+    push_within(drivers, driver);
+    Ok(signal)
+}
+
+/// Room for one more of each. After `NoMemory` no item has changed either.
+fn make_room<T>(items: &mut Vec<T>, drivers: &mut Vec<Driver>) -> Result<(), NoMemory>
     ensures items { items.new.items ≡ items.old.items }
-    ensures driver_room { OnOk result (vec_len drivers.new < vec_capacity drivers.new) }
+    ensures drivers { drivers.new.items ≡ drivers.old.items }
     ensures item_room { OnOk result (vec_len items.new < vec_capacity items.new) }
+    ensures driver_room { OnOk result (vec_len drivers.new < vec_capacity drivers.new) }
 {
     items.reserve(1)?;
     drivers.reserve(1)?;
-    names.intern(alloc, name)?;
-    names.keeps();
     Ok(())
 }
 

@@ -9,6 +9,12 @@ use Rattle.flat_net.proofs.PlaceLists.{PlacesSoFar, places_input, places_latch}
 use Rattle.flat_net.proofs.net.Net.places.Goals as goal
 use Rattle.flat_net.proofs.net.Net.places.Goals.{in-Some+in_ok-push-in-Some, in-None+in_ok-push-in-None}
 
+pub overflow_add-first : goal.overflow_add-first
+overflow_add-first c =
+    let below : c.in-Some.k < length c.args.names.now = slice_get_within _ _ _ c.in-Some.ensures.here in
+    let inputs = ap length c.inputs.ensures in
+    omega (arith, below, inputs, c.requires)
+
 pub overflow_add-left : goal.overflow_add-left
 overflow_add-left c =
     let latches : length c.latches-latch-items.result.now ≡ length c.args.self.now.latches = ap length c.latches-latch-items.ensures in

@@ -9,6 +9,9 @@ use Rattle.flat_net.proofs.Growth.{sound_along}
 use Rattle.flat_net.proofs.NextSet.{sound_next, written}
 use Rattle.flat_net.proofs.net.Net.put_next.Goals as goal
 
+pub driver-requires : goal.driver-requires
+driver-requires c = slice_get_within _ _ _ c.requires.latch.1
+
 pub index_mut-requires : goal.index_mut-requires
 index_mut-requires c =
     let sound : IsSound c.args.self.now = subst IsSound c.self.view_is c.self.invariant in
