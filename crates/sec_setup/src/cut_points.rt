@@ -6,4 +6,5 @@ pub mod expose_pick;
 mod exposed;
 
 pub use expose_pick::LatchGraph;
+pub(crate) use exposed::names_at;
 pub use exposed::{ExposeError, Exposure, expose};

@@ -88,7 +88,7 @@ fn unpaired(alloc: Global, net: &Net, side: Side, cycle: &[u32]) -> ExposeError
 }
 
 /// The names of the latches at these positions.
-fn names_at(alloc: Global, net: &Net, positions: &[u32]) -> Result<Words, NoMemory>
+pub(crate) fn names_at(alloc: Global, net: &Net, positions: &[u32]) -> Result<Words, NoMemory>
     requires { All (λ j. j < length net.now.latches) positions.now }
     ensures { IfOk result (λ names. names ≡ exposed_names net.now positions.now) }
 {

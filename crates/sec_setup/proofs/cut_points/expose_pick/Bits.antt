@@ -1,8 +1,9 @@
 -- Bits of which one more is set.
-use Rattle.std.proofs.Common.{◌≡◌, ◌≢◌, ℕ, ◌+◌, ◌<◌, Bool, true, false, List, length, Some, sym, subst, arith, inl, inr}
+use Rattle.std.proofs.Common.{◌≡◌, ◌≢◌, ℕ, ◌+◌, ◌<◌, Bool, true, false, List, length, Some, ◌∙◌, sym, subst, arith, inl, inr}
 use Rattle.std.specs.Prelude.{◌⊎◌, slice_get}
-use Rattle.std.specs.List.{Contains}
+use Rattle.std.specs.List.{All, Contains}
 use Rattle.std.proofs.Math.ListN.{set}
+use Rattle.std.proofs.lemmas.Option.{slice_get_within, get_or_from_slice_get}
 use Rattle.latch_graph.proofs.flat_net.Places.{one_at}
 use Rattle.latch_graph.proofs.flat_net.Nets.{some_at}
 use Rattle.circuit_theory.proofs.Lists.{of_at}
@@ -29,8 +30,8 @@ bits_more bits positions i j b at inside = record {
     from m (inl x) = subst (λ z. Contains positions z) (sym x.0) (of_at positions i j at)
     from m (inr x) = b.from m x.1
 
-pub bits_none : (bits : List Bool) (positions : List ℕ) → ((j : ℕ) (bit : Bool) → slice_get bits j ≡ Some bit → bit ≡ false) → AreBits bits positions 0
-bits_none bits positions none = record { set = λ i j l h. absurd (omega (arith, l)); from = λ j h. absurd (true_false (none j true h)) }
+pub bits_none : (bits : List Bool) (positions : List ℕ) → All (λ bit. bit ≡ false) bits → AreBits bits positions 0
+bits_none bits positions none = record { set = λ i j l h. absurd (omega (arith, l)); from = λ j h. absurd (true_false (sym (get_or_from_slice_get bits j true false h) ∙ none j false (slice_get_within bits j true h))) }
   where
     true_false : true ≡ false → ⊥
     true_false e = cc

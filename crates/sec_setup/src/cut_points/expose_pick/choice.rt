@@ -10,7 +10,7 @@ ghost use Rattle.sec_setup.specs.cut_points.expose_pick.Refused.{Refuses};
 use crate::cut_points::expose_pick::error::PickError;
 use crate::cut_points::expose_pick::pairs::{LatchPairs, lefts_of, rights_of};
 use crate::cut_points::expose_pick::remaining_cycle::cycle_left;
-use latch_graph::{Ids, LatchGraph, NoMemory, Side};
+use latch_graph::{Ids, LatchGraph, Side};
 use minimal_cut::chosen;
 use std::alloc::Global;
 
@@ -34,39 +34,39 @@ pub fn pick(
 {
     let left = lefts_of(alloc, common.as_slice())?;
     let right = rights_of(alloc, common.as_slice())?;
-    if let Some(cycle) = cycle_left(alloc, a, left.as_slice())? {
-        return Err(PickError::Unpaired {
-            side: Side::A,
-            cycle,
-        });
-    }
-    if let Some(cycle) = cycle_left(alloc, b, right.as_slice())? {
-        return Err(PickError::Unpaired {
-            side: Side::B,
-            cycle,
-        });
-    }
-    let places = cut_of(alloc, a, b, left.as_slice(), right.as_slice())?;
-    Ok(places)
+    pick_apart(alloc, a, b, left.as_slice(), right.as_slice())
 }
 
-/// The places of pairs whose latches are a minimal cut, where without all of them no cycle is left.
-fn cut_of(
+/// The same by the positions of the pairs' latches, in either graph.
+fn pick_apart(
     alloc: Global,
     a: &LatchGraph,
     b: &LatchGraph,
     lefts: &[u32],
     rights: &[u32],
-) -> Result<Ids, NoMemory>
+) -> Result<Ids, PickError>
     requires left { All (λ j. j < length a.now.latches) lefts.now }
     requires right { All (λ j. j < length b.now.latches) rights.now }
     requires left_once { AreDistinct lefts.now }
     requires right_once { AreDistinct rights.now }
     requires pairs { length rights.now ≡ length lefts.now }
-    requires left_free { IsFree a.now lefts.now }
-    requires right_free { IsFree b.now rights.now }
-    ensures { IfOk result (IsMinimalChoice a.now b.now lefts.now rights.now) }
+    ensures minimal { IfOk result (IsMinimalChoice a.now b.now lefts.now rights.now) }
+    ensures left_paired { OnOk result (IsFree a.now lefts.now) }
+    ensures right_paired { OnOk result (IsFree b.now rights.now) }
+    ensures unpaired { IfErr result (Refuses a.now b.now lefts.now rights.now) }
 {
+    if let Some(cycle) = cycle_left(alloc, a, lefts)? {
+        return Err(PickError::Unpaired {
+            side: Side::A,
+            cycle,
+        });
+    }
+    if let Some(cycle) = cycle_left(alloc, b, rights)? {
+        return Err(PickError::Unpaired {
+            side: Side::B,
+            cycle,
+        });
+    }
     let places = chosen(alloc, a.signals(), b.signals(), lefts, rights)?;
     Ok(places)
 }

@@ -26,12 +26,20 @@ impl Duplicate for LatchPair {
 pub(crate) fn lefts_of(alloc: Global, common: &[LatchPair]) -> Result<Vec<u32>, NoMemory>
     ensures { IfOk result (λ made. made.items ≡ lefts common.now) }
 {
-    Ok(common.iter().map(|pair| pair.left).collect(alloc)?)
+    let mut made = Vec::with_capacity(alloc, common.len())?;
+    for pair in common {
+        made.push(pair.left)?;
+    }
+    Ok(made)
 }
 
 /// The positions in the second circuit.
 pub(crate) fn rights_of(alloc: Global, common: &[LatchPair]) -> Result<Vec<u32>, NoMemory>
     ensures { IfOk result (λ made. made.items ≡ rights common.now) }
 {
-    Ok(common.iter().map(|pair| pair.right).collect(alloc)?)
+    let mut made = Vec::with_capacity(alloc, common.len())?;
+    for pair in common {
+        made.push(pair.right)?;
+    }
+    Ok(made)
 }

@@ -1,6 +1,6 @@
 //! Cycles that are left without all common latches.
 
-ghost use Rattle.std.specs.Prelude.{◌≡◌, ◌<◌, ℕ, Bool, true, false, All, length, slice_get, Some, IfOk, IfSome, IfNone};
+ghost use Rattle.std.specs.Prelude.{◌≡◌, ◌<◌, false, All, length, IfOk, IfSome, IfNone};
 ghost use Rattle.minimal_cut.specs.Chosen.{IsFree};
 ghost use Rattle.sec_setup.specs.cut_points.expose_pick.Pairs.{IsLeft};
 ghost use Rattle.sec_setup.specs.cut_points.expose_pick.Bits.{AreBits};
@@ -29,29 +29,18 @@ fn bits_at(alloc: Global, count: usize, positions: &[u32]) -> Result<Bits, NoMem
     ensures size { IfOk result (λ bits. length bits ≡ count) }
     ensures set { IfOk result (λ bits. AreBits bits positions.now (length positions.now)) }
 {
-    let mut bits = none_set(alloc, count)?;
+    let mut bits = vec![in alloc; false; count]?;
     set_all(positions, bits.as_mut_slice());
     Ok(Seq::from_vec(bits))
 }
 
 fn set_all(positions: &[u32], bits: &mut [bool])
     requires within { All (λ j. j < length bits.old) positions.now }
-    requires none { (j : ℕ) (bit : Bool) → slice_get bits.old j ≡ Some bit → bit ≡ false }
+    requires none { All (λ bit. bit ≡ false) bits.old }
     ensures { AreBits bits.new positions.now (length positions.now) }
 {
     for i in 0..positions.len() {
         let position = positions[i] as usize;
         bits[position] = true;
     }
-}
-
-fn none_set(alloc: Global, count: usize) -> Result<Vec<bool>, NoMemory>
-    ensures size { IfOk result (λ bits. length bits.items ≡ count) }
-    ensures none { IfOk result (λ bits. (j : ℕ) (bit : Bool) → slice_get bits.items j ≡ Some bit → bit ≡ false) }
-{
-    let mut bits = Vec::new(alloc);
-    for _i in 0..count {
-        bits.push(false)?;
-    }
-    Ok(bits)
 }

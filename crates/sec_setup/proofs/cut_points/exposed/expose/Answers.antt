@@ -1,4 +1,6 @@
-use Rattle.std.proofs.Common.{◌≡◌, ◌∙◌, ℕ, List, ap, subst}
+use Rattle.std.proofs.Common.{◌≡◌, ◌<◌, ◌∙◌, ℕ, List, length, sym, ap, subst}
+use Rattle.std.specs.List.{All}
+use Rattle.std.proofs.lemmas.List.{length-map}
 use Rattle.circuit_theory.specs.declared.Side.{Side}
 use Rattle.circuit_theory.specs.declared.Side.TheVariants.{A, B}
 use Rattle.latch_graph.specs.flat_net.View.{circuit_of}
@@ -18,6 +20,12 @@ use Rattle.sec_setup.proofs.cut_points.exposed.expose.Goals as goal
 pub pick-requires-clause-right_once : goal.pick-requires-clause-right_once
 pick-requires-clause-right_once c =
     right_once c.args.a.now c.args.b.now c.args.left.now c.args.right.now c.requires.left_graph c.requires.right_graph c.in_ok-common.common c.in_ok-common.ensures
+
+pub exposure_at-requires-clause-places : goal.exposure_at-requires-clause-places
+exposure_at-requires-clause-places c =
+    let common = c.in_ok-common.common in
+    subst (λ (ks : List ℕ). All (λ k. k < length c.as_slice.result.now) ks) (sym c.as_slice-in-Ok.ensures)
+    (subst (λ (n : ℕ). All (λ k. k < n) c.in-Ok.places) (length-map common (λ (p : LatchPair). p.left) ∙ sym (ap length c.as_slice.ensures)) c.in-Ok.ensures.minimal.within)
 
 pub returns-in-Ok : goal.returns-in-Ok
 returns-in-Ok c = λ mode in_a in_b.

@@ -3,7 +3,7 @@ use Rattle.std.proofs.Common.{◌<◌, length, subst, sym}
 use Rattle.std.specs.List.{All}
 use Rattle.latch_graph.specs.Graph.{GraphView}
 use Rattle.minimal_cut.specs.Chosen.{IsFree, IsMinimalChoice}
-use Rattle.sec_setup.proofs.cut_points.expose_pick.choice.cut_of.Goals as goal
+use Rattle.sec_setup.proofs.cut_points.expose_pick.choice.pick_apart.Goals as goal
 
 pub chosen-requires-clause-left : goal.chosen-requires-clause-left
 chosen-requires-clause-left c = subst (λ (g : GraphView). All (λ j. j < length g.latches) c.args.lefts.now) (sym c.signals.ensures) c.requires.left
@@ -11,13 +11,7 @@ chosen-requires-clause-left c = subst (λ (g : GraphView). All (λ j. j < length
 pub chosen-requires-clause-right : goal.chosen-requires-clause-right
 chosen-requires-clause-right c = subst (λ (g : GraphView). All (λ j. j < length g.latches) c.args.rights.now) (sym c.signals-2.ensures) c.requires.right
 
-pub chosen-requires-clause-left_free : goal.chosen-requires-clause-left_free
-chosen-requires-clause-left_free c = subst (λ (g : GraphView). IsFree g c.args.lefts.now) (sym c.signals.ensures) c.requires.left_free
-
-pub chosen-requires-clause-right_free : goal.chosen-requires-clause-right_free
-chosen-requires-clause-right_free c = subst (λ (g : GraphView). IsFree g c.args.rights.now) (sym c.signals-2.ensures) c.requires.right_free
-
-pub returns : goal.returns
-returns c =
+pub returns-clause-minimal : goal.returns-clause-minimal
+returns-clause-minimal c =
     subst (λ (g : GraphView). IsMinimalChoice g c.args.b.now c.args.lefts.now c.args.rights.now c.in_ok-places.places) c.signals.ensures
     (subst (λ (g : GraphView). IsMinimalChoice c.signals.result.now g c.args.lefts.now c.args.rights.now c.in_ok-places.places) c.signals-2.ensures c.in_ok-places.ensures)
