@@ -187,11 +187,7 @@ fn none_passed(alloc: Global, count: usize) -> Result<Vec<bool>, NoMemory>
     ensures size { IfOk result (λ passed. length passed.items ≡ count) }
     ensures none { IfOk result (λ passed. (j : ℕ) (bit : Bool) → slice_get passed.items j ≡ Some bit → bit ≡ false) }
 {
-    let mut passed = Vec::new(alloc);
-    for _i in 0..count {
-        passed.push(false)?;
-    }
-    Ok(passed)
+    Ok(vec![in alloc; false; count]?)
 }
 
 fn signal_of(latches: &[LatchAt], latch: u32) -> u32

@@ -36,11 +36,7 @@ pub(crate) fn all_new(alloc: Global, count: usize) -> Result<Vec<State>, NoMemor
     ensures size { IfOk result (λ states. length states.items ≡ count) }
     ensures new { IfOk result (λ states. (s : ℕ) (st : State) → slice_get states.items s ≡ Some st → st ≡ State.New) }
 {
-    let mut states = Vec::new(alloc);
-    for _i in 0..count {
-        states.push(State::New)?;
-    }
-    Ok(states)
+    Ok(vec![in alloc; State::New; count]?)
 }
 
 /// The states with the depth of each new signal, or that it leads back to a cycle.
