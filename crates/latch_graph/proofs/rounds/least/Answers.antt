@@ -24,3 +24,9 @@ loop-i-preserved c =
 
 pub returns-clause-least : goal.returns-clause-least
 returns-clause-least c = λ i j x h k. let l = slice_get_within c.args.round.now i j h in c.loop-i.invariant.least i j x (omega (arith, l, c.loop-i-test.false)) h k
+
+pub is_named_before-requires-clause-j : goal.is_named_before-requires-clause-j
+is_named_before-requires-clause-j c = c.requires.within c.loop-i.i _ (slice_get-get_or c.args.round.now c.loop-i.i 0 c.loop-i-test.true)
+
+pub is_named_before-requires-clause-k : goal.is_named_before-requires-clause-k
+is_named_before-requires-clause-k c = c.requires.within c.loop-i.best _ (slice_get-get_or c.args.round.now c.loop-i.best 0 c.loop-i.invariant.within)

@@ -1,4 +1,4 @@
-use Rattle.std.proofs.Common.{◌≡◌, ◌≢◌, ℕ, ◌+◌, ◌<◌, slice_get, Some, sym, ◌∙◌, subst, arith, inl, inr}
+use Rattle.std.proofs.Common.{◌≡◌, ◌≢◌, ℕ, ◌+◌, ◌<◌, get_or, slice_get, Some, sym, ◌∙◌, subst, arith, inl, inr}
 use Rattle.std.specs.Prelude.{◌⊎◌}
 use Rattle.std.proofs.lemmas.Option.{slice_get_within}
 use Rattle.signal_graph.specs.flat_net.declared.signals.Signal.{Signal}
@@ -33,3 +33,8 @@ loop-read-preserved c = λ k r l h. go k r l h (same_or_not k c.loop-read.read)
 
 pub returns-clause-none : goal.returns-clause-none
 returns-clause-none c = λ k r h. let l = slice_get_within c.args.reads.now k r h in c.loop-read.invariant k r (omega (arith, l, c.loop-read-test.false)) h
+
+pub bounds-states-reads : goal.bounds-states-reads
+bounds-states-reads c =
+    let i = c.loop-read.read in
+    c.requires.within i (get_or c.args.reads.now i (record { 0 = 0 })) (read_at c.args.reads.now i (record { 0 = 0 }) c.loop-read-test.true)

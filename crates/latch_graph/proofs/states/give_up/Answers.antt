@@ -21,3 +21,12 @@ returns-clause-states c =
     let all : c.loop-step.step-index ≡ length c.args.way.now.items = omega (arith, c.loop-step-test.false, c.loop-step.auto.step-index-end, ap length c.deref-step-items.ensures.value) in
     subst (λ z. IsGivenUp c.args.way.now.items z c.args.states.now c.loop-step.states) all
     (subst (λ (z : List Step). IsGivenUp z c.loop-step.step-index c.args.states.now c.loop-step.states) c.deref-step-items.ensures.value c.loop-step.invariant)
+
+pub bounds-states-step : goal.bounds-states-step
+bounds-states-step c =
+    let i = c.loop-step.step-index in
+    let read = c.deref-step-items.result.now in
+    let step : Step = get_or read i (record { signal = 0; read = 0 }) in
+    let at = read_at read i (record { signal = 0; read = 0 }) c.loop-step-test.true in
+    let below = c.requires i step (subst (λ (z : List Step). slice_get z i ≡ Some step) c.deref-step-items.ensures.value at) in
+    omega (arith, below, c.loop-step.auto.states)

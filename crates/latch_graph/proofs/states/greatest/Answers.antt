@@ -1,4 +1,5 @@
 use Rattle.std.proofs.Common.{◌+◌, get_or, subst, sym}
+use Rattle.std.proofs.lemmas.Option.{slice_get_within}
 use Rattle.signal_graph.specs.flat_net.declared.signals.Signal.{Signal}
 use Rattle.latch_graph.specs.declared.states.State.TheVariants.{New}
 use Rattle.signal_graph.proofs.Lists.{read_at}
@@ -24,3 +25,10 @@ loop-signal-preserved c =
 
 pub returns : goal.returns
 returns c = greatest_all c.args.states.now c.args.reads.now c.loop-signal.signal-index c.loop-signal.most c.loop-signal.invariant c.loop-signal-test.false
+
+pub bounds-states-signal : goal.bounds-states-signal
+bounds-states-signal c =
+    let i = c.loop-signal.signal-index in
+    let r : Signal = get_or c.args.reads.now i (record { 0 = 0 }) in
+    let known = c.requires i r (read_at c.args.reads.now i (record { 0 = 0 }) c.loop-signal-test.true) in
+    slice_get_within c.args.states.now r.0 known.1.0 known.1.1

@@ -5,7 +5,7 @@ use Rattle.signal_graph.proofs.flat_net.Nets.{some_at}
 use Rattle.latch_graph.specs.declared.states.State.{State}
 use Rattle.latch_graph.specs.declared.states.State.TheVariants.{New, Open}
 use Rattle.latch_graph.specs.declared.states.Step.{Step}
-use Rattle.latch_graph.specs.Settling.{IsLater}
+use Rattle.latch_graph.specs.Settling.{IsLater, IsWay}
 use Rattle.signal_graph.proofs.Lists.{set_same}
 use Rattle.signal_graph.proofs.Lists.{read_at}
 use Rattle.latch_graph.proofs.Ways.{way_along, way_opens, later_same, later_after, set_later}
@@ -40,3 +40,9 @@ returns-clause-root c = λ h.
   where
     open_new : ◌≡◌ {A = Option State} (Some Open) (Some New) → ⊥
     open_new e = cc
+
+pub take_step-requires-clause-way : goal.take_step-requires-clause-way
+take_step-requires-clause-way c = subst (λ (z : List Step). IsWay c.args.nodes.now c.loop-step.states z) c.in-Some.ensures.items c.loop-step.invariant.way
+
+pub loop-step-preserved : goal.loop-step-preserved
+loop-step-preserved c = record { way = c.in_ok-take_step.ensures.way; later = later_after c.loop-step.invariant.later c.in_ok-take_step.ensures.later }
