@@ -76,9 +76,15 @@ fn reads_net(nets: &[Option<u32>], reads: &[u32], net: u32) -> bool
     requires { All (λ n. n < length nets.now) reads.now }
     ensures { IsTrue result ↔ ReadsNet nets.now net reads.now }
 {
-    reads
-        .iter()
-        .any(|signal| nets[*signal as usize] == Some(net))
+    for signal in reads {
+        let Some(found) = nets[*signal as usize] else {
+            continue;
+        };
+        if found == net {
+            return true;
+        }
+    }
+    false
 }
 
 /// The first gate or latch that reads the net, by its output, or else the first output of the main model that is of it.
