@@ -3,7 +3,7 @@ use Rattle.std.specs.Prelude.{slice_index, All}
 use Rattle.std.specs.List.{count_by}
 use Rattle.std.proofs.lemmas.Result.{IfOk-weaker}
 use Rattle.connectivity.specs.Steps.{is_open, IsBackBy, net_at, AreEnds}
-use Rattle.connectivity.proofs.StepTables.{all_within, twice_back, settled}
+use Rattle.connectivity.proofs.StepTables.{all_within, all_within_itself, twice_back, settled}
 use Rattle.connectivity.proofs.sources.ends.Goals as goal
 
 -- the table of twice as far
@@ -40,3 +40,16 @@ loop-at-preserved c =
       steps = (k + k, omega (arith, c.loop-at.invariant.steps.1), b);
       count = c.still_open-left.ensures ∙ ap (λ zs. count_by (is_open c.args.froms.now) zs) c.deref-in-loop-at-2.ensures.value;
     }
+
+pub twice-requires : goal.twice-requires
+twice-requires c =
+    subst (λ (zs : List ℕ). All (λ m. m < length zs) zs) (sym c.deref-in-loop-at.ensures.value) (all_within_itself c.args.froms.now c.loop-at.invariant.steps.0 c.loop-at.at.items c.loop-at.invariant.steps.2)
+
+pub still_open-open-requires : goal.still_open-open-requires
+still_open-open-requires c = subst (λ (zs : List ℕ). All (λ m. m < length c.args.froms.now) zs) (sym c.deref.ensures.value) (all_within c.args.froms.now 1 c.in_ok-at.at.items c.in_ok-at.ensures)
+
+pub loop-at-init : goal.loop-at-init
+loop-at-init c = record {
+  steps = (1, omega arith, c.in_ok-at.ensures);
+  count = c.still_open-open.ensures ∙ ap (λ (zs : List ℕ). count_by (is_open c.args.froms.now) zs) c.deref.ensures.value;
+}

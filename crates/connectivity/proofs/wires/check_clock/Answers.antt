@@ -52,3 +52,6 @@ returns c =
       };
       err = tt;
     }
+
+pub name_of-requires : goal.name_of-requires
+name_of-requires c = clock_within c.args.flat.now c.keeps.ensures c.requires.clock.0.0 c.args.clock c.requires.clock.0.1

@@ -1,9 +1,10 @@
-use Rattle.std.proofs.Common.{◌≡◌, ◌∙◌, ◌++◌, List, length, sym, ap, subst, arith}
+use Rattle.std.proofs.Common.{◌≡◌, ◌∙◌, ◌++◌, List, [], length, sym, ap, subst, arith}
 use Rattle.std.proofs.lemmas.List.{with_items_is}
 use Rattle.connectivity.specs.declared.source.Source.{Source}
 use Rattle.connectivity.specs.Wiring.{wires_of}
 use Rattle.connectivity.specs.Tables.{AreSources}
 use Rattle.connectivity.proofs.Bounds.{bounded}
+use Rattle.connectivity.proofs.SourceTables.{sources_none}
 use Rattle.connectivity.proofs.Undriven.{undriven_first, undriven_never}
 use Rattle.connectivity.proofs.Told.{told_again, told_undriven}
 use Rattle.connectivity.proofs.wires.sources.Goals as goal
@@ -42,3 +43,7 @@ returns-clause-ok c =
       undriven_never w (length flat.names) (bounded flat c.keeps.ensures) c.deref.result.now (ap length seen ∙ long)
           (subst (λ (zs : List Source). AreSources (w.inputs ++ w.clocks) w.outs zs) (sym seen) c.in_default.ensures.sources) c.in_default-undriven.ensures.told,
     )
+
+pub driven_again-requires-clause-none : goal.driven_again-requires-clause-none
+driven_again-requires-clause-none c =
+    subst (λ (zs : List Source). AreSources [] [] zs) (sym (c.deref_mut.ensures.value ∙ c.in_ok-sources.ensures.items_if_clones_equal (λ y e. e))) (sources_none _)
