@@ -44,11 +44,7 @@ fn none_met(alloc: Global, count: usize) -> Result<Vec<Mark>, NoMemory>
     ensures size { IfOk result (λ marks. length marks.items ≡ count) }
     ensures none { IfOk result (λ marks. (s : ℕ) (mark : Mark) → slice_get marks.items s ≡ Some mark → mark ≡ Mark.Met Direction.Back 0) }
 {
-    let mut marks = Vec::new(alloc);
-    for _i in 0..count {
-        marks.push(Mark::Met(Direction::Back, 0))?;
-    }
-    Ok(marks)
+    Ok(vec![in alloc; Mark::Met(Direction::Back, 0); count]?)
 }
 
 /// The marks before the first turn: the latches at these positions are taken out.
