@@ -21,3 +21,11 @@ loop-i-preserved c =
     let read : (get_or c.args.latches.now (get_or c.args.positions.now c.loop-i.i 0) c.index-latches-position.result).out.0 ≡ c.index-latches-position.result.out.0 = ap (λ (z : LatchAt). z.out.0) (sym c.index-latches-position.is) in
     subst (λ z. AreFirst c.args.latches.now c.args.positions.now (c.loop-i.i + 1) (set c.loop-i.marks z Out)) (same ∙ sym read)
     (first_more c.args.latches.now c.args.positions.now c.loop-i.i (get_or c.args.positions.now c.loop-i.i 0) c.loop-i.marks c.loop-i.invariant (slice_get-get_or c.args.positions.now c.loop-i.i 0 c.loop-i-test.true) (omega (arith, out, same, c.loop-i.auto.marks)))
+
+pub bounds-marks-signal : goal.bounds-marks-signal
+bounds-marks-signal c =
+    let j = get_or c.args.positions.now c.loop-i.i 0 in
+    let inside = c.requires.within c.loop-i.i 0 c.loop-i-test.true in
+    let at = slice_get_read c.args.latches.now (length c.args.latches.now) j c.index-latches-position.result refl inside c.index-latches-position.is in
+    let out = c.requires.out j c.index-latches-position.result at in
+    omega (arith, out, ap (λ (z : LatchAt). z.out.0) c.index-latches-position.is, c.loop-i.auto.marks)

@@ -19,3 +19,10 @@ pub returns : goal.returns
 returns c =
     let here = slice_get_read c.args.nodes.now (length c.args.nodes.now) c.args.s c.index-nodes-s.result refl c.requires.signal c.index-nodes-s.is in
     up_to_next c.args.nodes.now c.args.s c.loop-k.k c.loop-k.readers c.index-nodes-s.result here (subst (λ (z : List Signal). length z ≤ c.loop-k.k) c.as_slice-reads.ensures c.loop-k-test.false) c.loop-k.invariant
+
+pub bounds-readers-reads : goal.bounds-readers-reads
+bounds-readers-reads c =
+    let r = get_or c.as_slice-reads.result.now c.loop-k.k (record { 0 = 0 }) in
+    let here = slice_get_read c.args.nodes.now (length c.args.nodes.now) c.args.s c.index-nodes-s.result refl c.requires.signal c.index-nodes-s.is in
+    let read = subst (λ (z : List Signal). slice_get z c.loop-k.k ≡ Some r) c.as_slice-reads.ensures (slice_get-get_or c.as_slice-reads.result.now c.loop-k.k (record { 0 = 0 }) c.loop-k-test.true) in
+    omega (arith, c.requires.within c.args.s c.loop-k.k c.index-nodes-s.result r here read, c.loop-k.invariant.size)

@@ -24,3 +24,9 @@ returns c =
     (subst (λ (g : GraphView). IfOk made (IsMinimalChoice a.graph.now g c.args.lefts.now c.args.rights.now)) c.in_ok-field_b.ensures.graph
     (subst (λ (z : List ℕ). IfOk made (IsMinimalChoice a.graph.now b.graph.now z c.args.rights.now)) c.in_ok-field_a.ensures.positions
     (subst (λ (z : List ℕ). IfOk made (IsMinimalChoice a.graph.now b.graph.now a.positions.now z)) c.in_ok-field_b.ensures.positions c.chosen_in.ensures)))
+
+pub chosen_in-requires-clause-a : goal.chosen_in-requires-clause-a
+chosen_in-requires-clause-a c = c.in_ok-field_a.ensures.field
+
+pub chosen_in-requires-clause-b : goal.chosen_in-requires-clause-b
+chosen_in-requires-clause-b c = c.in_ok-field_b.ensures.field

@@ -1,6 +1,9 @@
 -- Before the first turn, and after the last.
-use Rattle.std.proofs.Common.{length, List, [], subst, sym, ap, ◌∙◌}
+use Rattle.std.proofs.Common.{◌<◌, length, List, [], subst, sym, ap, ◌∙◌}
 use Rattle.graph_components.specs.flat_net.declared.parts.LatchAt.{LatchAt}
+use Rattle.std.specs.List.{All}
+use Rattle.graph_components.specs.Node.{Node}
+use Rattle.graph_components.specs.Graph.{AreNodes}
 use Rattle.minimal_cut.specs.declared.marks.Mark.{Mark}
 use Rattle.minimal_cut.specs.Marks.{AreFirst}
 use Rattle.minimal_cut.specs.Trying.{IsSide}
@@ -25,3 +28,17 @@ pub returns : goal.returns
 returns c =
     is_minimal c.args.a.now.graph.now c.args.b.now.graph.now c.requires.a.are c.requires.b.are c.args.a.now.positions.now c.args.b.now.positions.now c.requires.a.within c.requires.b.within c.requires.a.once c.requires.b.once c.requires.pairs
     c.try_all.new.left c.try_all.new.right c.in_ok-places.places c.in_ok-places.ensures
+
+pub first_marks-requires-clause-nodes : goal.first_marks-requires-clause-nodes
+first_marks-requires-clause-nodes c =
+    subst (λ (z : List Node). AreNodes z c.latches.result.now) (sym c.nodes.ensures) (subst (λ (z : List LatchAt). AreNodes c.args.a.now.graph.now.nodes z) (sym c.latches.ensures) c.requires.a.are)
+
+pub first_marks-requires-2-clause-nodes : goal.first_marks-requires-2-clause-nodes
+first_marks-requires-2-clause-nodes c =
+    subst (λ (z : List Node). AreNodes z c.latches-2.result.now) (sym c.nodes-2.ensures) (subst (λ (z : List LatchAt). AreNodes c.args.b.now.graph.now.nodes z) (sym c.latches-2.ensures) c.requires.b.are)
+
+pub first_marks-requires-clause-within : goal.first_marks-requires-clause-within
+first_marks-requires-clause-within c = subst (λ (z : List LatchAt). All (λ j. j < length z) c.args.a.now.positions.now) (sym c.latches.ensures) c.requires.a.within
+
+pub first_marks-requires-2-clause-within : goal.first_marks-requires-2-clause-within
+first_marks-requires-2-clause-within c = subst (λ (z : List LatchAt). All (λ j. j < length z) c.args.b.now.positions.now) (sym c.latches-2.ensures) c.requires.b.within

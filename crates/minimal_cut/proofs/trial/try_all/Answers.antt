@@ -1,8 +1,9 @@
 -- One pair more is tried.
-use Rattle.std.proofs.Common.{◌≡◌, ◌<◌, length, get_or, sym, ap, ◌∙◌, arith}
+use Rattle.std.proofs.Common.{◌≡◌, ◌<◌, ℕ, List, length, get_or, sym, ap, ◌∙◌, subst, arith}
 use Rattle.std.specs.Prelude.{◌||◌}
 use Rattle.std.proofs.lemmas.Option.{slice_get-get_or}
 use Rattle.graph_components.proofs.flat_net.Places.{All-at}
+use Rattle.minimal_cut.specs.Trying.{AreTried}
 use Rattle.minimal_cut.proofs.Sides.{signal_within}
 use Rattle.minimal_cut.proofs.Tried.{few_positions, tried_turn}
 use Rattle.minimal_cut.proofs.trial.try_all.Goals as goal
@@ -50,3 +51,18 @@ loop-k-preserved c =
     c.loop-k.places c.loop-k.left c.loop-k.right c.closes_at.new.marks c.closes_at-in-loop-k.new.marks c.loop-k.invariant c.in_ok-in_left.ensures.marks c.in_ok-in_right.ensures.marks c.in_ok-in_left.ensures.back c.in_ok-in_right.ensures.back
     c.in_ok-in_left.in_left c.in_ok-in_right.in_right c.in_ok-in_left.ensures.yes c.in_ok-in_left.ensures.no c.in_ok-in_right.ensures.yes c.in_ok-in_right.ensures.no c.if-in_left.needed needed_is c.take_out_if.new.marks
     c.take_out_if-in-loop-k.new.marks c.push_if.new.places c.take_out_if.ensures c.take_out_if-in-loop-k.ensures c.in_ok-push_if.ensures
+
+pub loop-k-init : goal.loop-k-init
+loop-k-init c =
+    subst (λ (z : List ℕ). AreTried c.args.a.now.graph.now c.args.b.now.graph.now c.args.a.now.positions.now c.args.b.now.positions.now 0 c.args.left.now c.args.right.now z) (sym c.new-places.ensures) c.requires.none_tried
+
+pub take_out_if-requires-clause-within : goal.take_out_if-requires-clause-within
+take_out_if-requires-clause-within c = c.requires.a.within
+
+pub take_out_if-requires-in-loop-k-clause-within : goal.take_out_if-requires-in-loop-k-clause-within
+take_out_if-requires-in-loop-k-clause-within c = c.requires.b.within
+
+pub returns : goal.returns
+returns c =
+    let end : c.loop-k.k ≡ length c.args.a.now.positions.now = omega (arith, c.loop-k-test.false, c.loop-k.auto.k-end) in
+    subst (λ k. AreTried c.args.a.now.graph.now c.args.b.now.graph.now c.args.a.now.positions.now c.args.b.now.positions.now k c.loop-k.left c.loop-k.right c.loop-k.places) end c.loop-k.invariant

@@ -1,10 +1,11 @@
 -- One reading more.
-use Rattle.std.proofs.Common.{◌≡◌, List, Bool, length, get_or, Some, refl, subst, arith}
+use Rattle.std.proofs.Common.{◌≡◌, List, Bool, length, get_or, Some, refl, sym, subst, arith}
 use Rattle.std.specs.Prelude.{slice_get}
 use Rattle.std.proofs.lemmas.Option.{slice_get-get_or, slice_get_read}
 use Rattle.graph_components.specs.flat_net.declared.signals.Signal.{Signal}
 use Rattle.minimal_cut.specs.Readers.{NodeReads}
-use Rattle.minimal_cut.specs.Walk.{Meets}
+use Rattle.minimal_cut.specs.declared.marks.Mark.{Mark}
+use Rattle.minimal_cut.specs.Walk.{IsLater, Meets}
 use Rattle.minimal_cut.proofs.Marking.{later_refl, later_then}
 use Rattle.minimal_cut.proofs.Walks.{met_within, going_begins, going_found, going_more, going_ends}
 use Rattle.minimal_cut.proofs.walk.go_on.Goals as goal
@@ -65,3 +66,8 @@ returns-clause-no c = λ e.
     let node = slice_get_read c.args.nodes.now (length c.args.nodes.now) c.index-signal.result.now c.index-nodes-signal.result refl inside c.index-nodes-signal.is in
     going_ends c.args.nodes.now c.args.root c.args.way c.args.turn c.loop-k.marks c.loop-k.met.items c.args.at c.loop-k.k c.index-signal.result.now c.as_slice-reads.result.now c.loop-k.invariant.going c.index-nodes-signal.result node
     c.as_slice-reads.ensures c.loop-k-test.false
+
+pub returns-then-found-clause-later : goal.returns-then-found-clause-later
+returns-then-found-clause-later c =
+    let same = subst (λ (b : Bool). Meets c.loop-k.marks c.meet.new.marks c.loop-k.met.items c.meet.new.met.items (get_or c.as_slice-reads.result.now c.loop-k.k (record { 0 = 0 })).0 c.args.way c.args.root c.args.turn b) c.if-found.true c.in_ok-found.ensures in
+    subst (λ (z : List Mark). IsLater c.args.way c.args.turn c.args.marks.now z) (sym same.0) c.loop-k.invariant.later

@@ -1,7 +1,9 @@
 -- The two walks from their beginning until they meet, or one ends.
-use Rattle.std.proofs.Common.{◌+◌, ◌≤◌, List, length, sym, subst, arith}
+use Rattle.std.proofs.Common.{◌+◌, ◌<◌, ◌≤◌, List, length, sym, subst, arith}
 use Rattle.minimal_cut.specs.declared.marks.Direction.TheVariants.{Back, Ahead}
+use Rattle.std.proofs.lemmas.Option.{slice_get_within}
 use Rattle.minimal_cut.specs.declared.marks.Mark.{Mark}
+use Rattle.minimal_cut.specs.declared.marks.Mark.TheVariants.{Out}
 use Rattle.minimal_cut.specs.Marks.{IsPutBack}
 use Rattle.minimal_cut.proofs.Turned.{read_within, reader_within}
 use Rattle.minimal_cut.proofs.Marking.{same_out_refl, same_out_then, later_same, later_table, back_put, back_along}
@@ -89,3 +91,14 @@ returns-then-met_ahead-clause-marks c =
 
 pub returns-clause-marks : goal.returns-clause-marks
 returns-clause-marks c = c.loop-at.invariant.walks.table
+
+pub put_back-requires : goal.put_back-requires
+put_back-requires c = slice_get_within c.args.marks.now c.args.root Out c.requires.root
+
+pub go_on-requires-clause-root : goal.go_on-requires-clause-root
+go_on-requires-clause-root c = subst (λ n. c.args.root < n) c.requires.marks.size (slice_get_within c.args.marks.now c.args.root Out c.requires.root)
+
+pub go_on-requires-in-loop-at-clause-root : goal.go_on-requires-in-loop-at-clause-root
+go_on-requires-in-loop-at-clause-root c =
+    let within = slice_get_within c.args.marks.now c.args.root Out c.requires.root in
+    subst (λ n. c.args.root < n) (sym c.requires.readers.size) (subst (λ n. c.args.root < n) c.requires.marks.size within)
