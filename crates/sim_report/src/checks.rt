@@ -19,7 +19,12 @@ fn is_digit(digit: u8) -> bool
 fn are_digits(word: &[u8]) -> bool
     ensures { result ≡ list_all (λ digit. (digit == 48) || (digit == 49)) word.now }
 {
-    word.iter().all(|digit| is_digit(*digit))
+    for digit in word {
+        if !is_digit(*digit) {
+            return false;
+        }
+    }
+    true
 }
 
 /// Whether the word has one digit `0` or `1` for each latch.
