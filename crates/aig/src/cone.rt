@@ -106,7 +106,7 @@ fn placed(cone: &[u32], node: Node) -> Node
 }
 
 /// The literal as one of a place in the list.
-fn placed_lit(cone: &[u32], l: Lit) -> Lit
+pub(crate) fn placed_lit(cone: &[u32], l: Lit) -> Lit
     requires increasing { IsStrictlyIncreasing cone.now }
     requires few { All (λ n. n < 2 ^ 30) cone.now }
     requires there { Contains cone.now (l.0 / 2) }

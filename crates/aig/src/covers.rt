@@ -91,10 +91,7 @@ impl Aig {
     {
         match place_lit(place, fanin) {
             None => Ok(from),
-            Some(l) => {
-                let x = self.and(from, l)?;
-                Ok(x)
-            }
+            Some(l) => self.and(from, l),
         }
     }
 }

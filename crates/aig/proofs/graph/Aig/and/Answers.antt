@@ -1,9 +1,11 @@
-use Rattle.std.proofs.Common.{◌≡◌, ◌∙◌, ◌*◌, ◌<◌, List, length, None, sym, ap, subst}
+use Rattle.std.proofs.Common.{◌≡◌, ◌∙◌, ℕ, ◌*◌, ◌<◌, Bool, ◌&&◌, List, length, None, sym, ap, subst}
+use Rattle.std.proofs.lemmas.Result.{IfOk-weaker}
 use Rattle.std.specs.Prelude.{option_map}
 use Rattle.aig.specs.declared.node.Lit.{Lit}
 use Rattle.aig.specs.declared.node.Node.{Node}
 use Rattle.aig.specs.Graph.{IsGraph, IsAbove, IsLitOf, Grows}
-use Rattle.aig.specs.Rules.{simple_and, and_node}
+use Rattle.aig.specs.Values.{value}
+use Rattle.aig.specs.Rules.{simple_and, IsAndOf}
 use Rattle.aig.proofs.Meaning.{value-grows}
 use Rattle.aig.proofs.CoverMeaning.{value-and}
 use Rattle.aig.proofs.Insert.{and_node-above, simple_and-none, simple_and-within, simple_and-is, and_node-is, value-and_grown, lit-within}
@@ -24,16 +26,28 @@ pub returns-in-Some-clause-value : goal.returns-in-Some-clause-value
 returns-in-Some-clause-value c = λ a.
     value-and c.args.self.now (subst IsGraph c.self.view_is c.self.invariant.0) a c.args.l.0 c.args.r.0 c.in-Some.x.0 (simple_and-is c.args.self.now c.args.l.0 c.args.r.0 c.in-Some.x.0 (sym c.in-Some.ensures))
 
-pub returns-in_ok-x-in-None-clause-within : goal.returns-in_ok-x-in-None-clause-within
-returns-in_ok-x-in-None-clause-within c = lit-within c.insert.new.nodes c.and_node.result c.in_ok-x-in-None.x.0 c.in_ok-x-in-None.ensures.here
-
-pub returns-in_ok-x-in-None-clause-value : goal.returns-in_ok-x-in-None-clause-value
-returns-in_ok-x-in-None-clause-value c = λ a.
+pub returns-in-None-clause-here : goal.returns-in-None-clause-here
+returns-in-None-clause-here c =
     let none : simple_and c.args.l.0 c.args.r.0 ≡ None = sym c.simple_and.ensures ∙ ap (option_map (λ (x : Lit). x.0)) c.in-None.is in
     let h : List Node = c.insert.new.nodes in
-    let here : IsLitOf h (and_node c.args.l.0 c.args.r.0) c.in_ok-x-in-None.x.0 = subst (λ (node : Node). IsLitOf h node c.in_ok-x-in-None.x.0) c.and_node.ensures c.in_ok-x-in-None.ensures.here in
-    value-and_grown c.args.self.now h c.insert.ensures.graph (subst (λ (k : List Node). Grows k h) c.self.view_is c.insert.ensures.grows) c.args.l.0 c.args.r.0 c.in_ok-x-in-None.x.0 c.requires.left c.requires.right
-    (and_node-is h c.args.l.0 c.args.r.0 c.in_ok-x-in-None.x.0 none here) a
+    IfOk-weaker c.insert.result (λ x. IsLitOf h c.and_node.result x.0) (λ x. IsAndOf h c.args.l.0 c.args.r.0 x.0)
+    (λ x here. and_node-is h c.args.l.0 c.args.r.0 x.0 none (subst (λ (node : Node). IsLitOf h node x.0) c.and_node.ensures here)) c.insert.ensures.here
 
-pub returns-in_ok-x-in-None-clause-older : goal.returns-in_ok-x-in-None-clause-older
-returns-in_ok-x-in-None-clause-older c = value-grows c.args.self.now c.insert.new.nodes (subst (λ (k : List Node). Grows k c.insert.new.nodes) c.self.view_is c.insert.ensures.grows)
+pub returns-in-None-clause-within : goal.returns-in-None-clause-within
+returns-in-None-clause-within c =
+    let h : List Node = c.insert.new.nodes in
+    IfOk-weaker c.insert.result (λ x. IsLitOf h c.and_node.result x.0) (λ x. x.0 < 2 * length h) (λ x here. lit-within h c.and_node.result x.0 here) c.insert.ensures.here
+
+pub returns-in-None-clause-value : goal.returns-in-None-clause-value
+returns-in-None-clause-value c =
+    let g : List Node = c.args.self.now in
+    let h : List Node = c.insert.new.nodes in
+    let grows : Grows g h = subst (λ (k : List Node). Grows k h) c.self.view_is c.insert.ensures.grows in
+    IfOk-weaker c.insert.result (λ x. IsAndOf h c.args.l.0 c.args.r.0 x.0) (λ x. (a : ℕ → Bool) → value h a x.0 ≡ value g a c.args.l.0 && value g a c.args.r.0)
+    (λ x here a. value-and_grown g h c.insert.ensures.graph grows c.args.l.0 c.args.r.0 x.0 c.requires.left c.requires.right here a) (returns-in-None-clause-here c)
+
+pub returns-in-None-clause-grows : goal.returns-in-None-clause-grows
+returns-in-None-clause-grows c = subst (λ (k : List Node). Grows k c.insert.new.nodes) c.self.view_is c.insert.ensures.grows
+
+pub returns-in-None-clause-older : goal.returns-in-None-clause-older
+returns-in-None-clause-older c = value-grows c.args.self.now c.insert.new.nodes (subst (λ (k : List Node). Grows k c.insert.new.nodes) c.self.view_is c.insert.ensures.grows)

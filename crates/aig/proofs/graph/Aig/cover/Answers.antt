@@ -30,6 +30,15 @@ loop-i-preserved c =
           (rows-step c.row.new.self h c.loop-i.lit.0 c.rows-rows.result.now (map (λ f. f.0) c.args.fanins.now) c.loop-i.i c.as_slice.result.now c.in_ok-next.next.0 x row c.loop-i-test.true c.in_ok-next.ensures.here grows is);
     }
 
+pub returns-in_err-next-clause-grows : goal.returns-in_err-next-clause-grows
+returns-in_err-next-clause-grows c = Grows-trans c.args.self.now c.loop-i.self c.row.new.self c.loop-i.invariant.grows c.row.ensures.grows
+
+pub returns-clause-here : goal.returns-clause-here
+returns-clause-here c =
+    let rows : AreRowsOf c.loop-i.self 0 c.rows-rows.result.now (map (λ f. f.0) c.args.fanins.now) c.loop-i.lit.0 =
+    c.loop-i.invariant.rest c.loop-i.self c.loop-i.lit.0 (Grows-refl c.loop-i.self) (rows-done c.loop-i.self c.loop-i.lit.0 c.rows-rows.result.now (map (λ f. f.0) c.args.fanins.now) c.loop-i.i c.loop-i-test.false) in
+    (c.loop-i.lit.0, subst (λ (rs : List (List ℕ)). AreRowsOf c.loop-i.self 0 rs (map (λ f. f.0) c.args.fanins.now) c.loop-i.lit.0) c.rows-rows.ensures rows, c.signed.ensures.literal ∙ ap (λ (b : Bool). if b then c.loop-i.lit.0 else flip c.loop-i.lit.0) c.on.ensures)
+
 pub returns-in_err-next-clause-older : goal.returns-in_err-next-clause-older
 returns-in_err-next-clause-older c =
     value-grows c.args.self.now c.row.new.self (Grows-trans c.args.self.now c.loop-i.self c.row.new.self c.loop-i.invariant.grows c.row.ensures.grows)
@@ -39,10 +48,7 @@ returns-clause-within c = c.signed.ensures.within (length c.loop-i.self) c.loop-
 
 pub returns-clause-value : goal.returns-clause-value
 returns-clause-value c = λ a.
-    let rows : AreRowsOf c.loop-i.self 0 c.rows-rows.result.now (map (λ f. f.0) c.args.fanins.now) c.loop-i.lit.0 =
-    c.loop-i.invariant.rest c.loop-i.self c.loop-i.lit.0 (Grows-refl c.loop-i.self) (rows-done c.loop-i.self c.loop-i.lit.0 c.rows-rows.result.now (map (λ f. f.0) c.args.fanins.now) c.loop-i.i c.loop-i-test.false) in
-    let here : IsCoverOf c.loop-i.self c.args.cover.now (map (λ f. f.0) c.args.fanins.now) c.signed.result.0 =
-    (c.loop-i.lit.0, subst (λ (rs : List (List ℕ)). AreRowsOf c.loop-i.self 0 rs (map (λ f. f.0) c.args.fanins.now) c.loop-i.lit.0) c.rows-rows.ensures rows, c.signed.ensures.literal ∙ ap (λ (b : Bool). if b then c.loop-i.lit.0 else flip c.loop-i.lit.0) c.on.ensures) in
+    let here : IsCoverOf c.loop-i.self c.args.cover.now (map (λ f. f.0) c.args.fanins.now) c.signed.result.0 = returns-clause-here c in
     value-cover_grown c.args.self.now c.loop-i.self c.keeps-3.ensures.graph c.loop-i.invariant.grows c.args.cover.now c.args.fanins.now c.signed.result.0 c.requires.within here a
 
 pub returns-clause-older : goal.returns-clause-older

@@ -1,10 +1,17 @@
 use Rattle.std.proofs.Common.{◌∙◌, get_or, refl, arith}
-use Rattle.aig.proofs.Growth.{Grows-refl, Grows-trans}
+use Rattle.aig.proofs.Growth.{Grows-refl, Grows-trans, Grows-length}
 use Rattle.aig.proofs.Folds.{cube-step}
 use Rattle.aig.proofs.graph.Aig.cube.Goals as goal
 
 pub loop-i-init : goal.loop-i-init
 loop-i-init c = record { grows = Grows-refl c.args.self.now; few = omega arith; within = omega (arith, c.requires.some); vars = refl; rest = λ h x grows is. is }
+
+pub place-requires-clause-fanin : goal.place-requires-clause-fanin
+place-requires-clause-fanin c =
+    omega (arith, c.requires.within c.loop-i.i (record { 0 = 0 }) (omega (arith, c.requires.width, c.loop-i-test.true)), Grows-length c.args.self.now c.loop-i.self c.loop-i.invariant.grows)
+
+pub returns-in_err-next-clause-grows : goal.returns-in_err-next-clause-grows
+returns-in_err-next-clause-grows c = Grows-trans c.args.self.now c.loop-i.self c.place.new.self c.loop-i.invariant.grows c.place.ensures.grows
 
 pub loop-i-preserved : goal.loop-i-preserved
 loop-i-preserved c = record {

@@ -1,7 +1,7 @@
-use Rattle.std.proofs.Common.{◌≡◌, ◌∙◌, Some, sym, ap, length}
-use Rattle.std.specs.Prelude.{option_map}
+use Rattle.std.proofs.Common.{◌≡◌, ◌∙◌, ℕ, Option, Some, sym, ap, subst, length}
+use Rattle.std.specs.Prelude.{option_map, IfOk}
 use Rattle.aig.specs.declared.node.Lit.{Lit}
-use Rattle.aig.specs.Rules.{place_lit}
+use Rattle.aig.specs.Rules.{place_lit, IsPlaceOf}
 use Rattle.aig.proofs.Insert.{place_lit-within}
 use Rattle.aig.proofs.graph.Aig.place.Goals as goal
 
@@ -9,3 +9,8 @@ pub and-requires-clause-right : goal.and-requires-clause-right
 and-requires-clause-right c =
     let some : place_lit c.args.place c.args.fanin.0 ≡ Some c.in-Some.l.0 = sym c.place_lit.ensures ∙ ap (option_map (λ (x : Lit). x.0)) c.in-Some.is in
     place_lit-within c.args.place c.args.fanin.0 c.in-Some.l.0 (length c.args.self.now) some c.requires.fanin
+
+pub returns-in-Some-clause-here : goal.returns-in-Some-clause-here
+returns-in-Some-clause-here c =
+    let some : place_lit c.args.place c.args.fanin.0 ≡ Some c.in-Some.l.0 = sym c.place_lit.ensures ∙ ap (option_map (λ (x : Lit). x.0)) c.in-Some.is in
+    subst (λ (o : Option ℕ). IfOk c.and.result (λ x. IsPlaceOf c.and.new.self c.args.from.0 o x.0)) (sym some) c.and.ensures.here

@@ -1,5 +1,5 @@
 use Rattle.std.proofs.Common.{length, map, arith}
-use Rattle.aig.proofs.Growth.{Grows-length}
+use Rattle.aig.proofs.Growth.{Grows-length, Grows-trans}
 use Rattle.aig.proofs.Folds.{row-is}
 use Rattle.aig.proofs.graph.Aig.row.Goals as goal
 
@@ -17,3 +17,6 @@ returns-clause-here c =
 
 pub returns-clause-within : goal.returns-clause-within
 returns-clause-within c = c.not.ensures.within (length c.and.new.self) c.in_ok-both.ensures.within
+
+pub returns-clause-grows : goal.returns-clause-grows
+returns-clause-grows c = Grows-trans c.args.self.now c.cube.new.self c.and.new.self c.cube.ensures.grows c.and.ensures.grows
