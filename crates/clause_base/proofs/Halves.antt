@@ -1,5 +1,5 @@
 -- The clause of two halves.
-use Rattle.std.proofs.Common.{◌≡◌, ◌⊎◌, ℕ, ◌+◌, ◌<◌, List, ◌++◌, length, take, drop, refl, sym, ◌∙◌, ap, subst, arith, inl, inr, Option, Some, None, Result, Ok, Err}
+use Rattle.std.proofs.Common.{◌≡◌, ◌⊎◌, ℕ, ◌<◌, List, ◌++◌, length, take, drop, refl, sym, ◌∙◌, ap, subst, arith, inl, inr, Option, Some, None, Result, Ok, Err}
 use Rattle.std.specs.Prelude.{◌↔◌}
 use Rattle.std.specs.Option.{ok_or}
 use Rattle.std.specs.Result.{IfOk}
@@ -54,6 +54,11 @@ sorted_of_united left right l r (Ok made) is_l is_r h = subst (λ (o : Option (L
     go (Some c) u = λ front back lf rb. clause_of_halves (front ++ back) front back l r c refl lf rb u
     go None w = λ front back lf rb. tautology_of_halves (front ++ back) front back l r refl lf rb w
 sorted_of_united left right l r (Err e) is_l is_r h = h
+
+-- an option that is no clause is none
+pub none_there : (o : Option (List Literal)) → ((c : List Literal) → o ≡ Some c → ⊥) → o ≡ None
+none_there None h = refl
+none_there (Some c) h = absurd (h c refl)
 
 -- a half without a clause
 pub none_of_left : (left right : Option (List Literal)) → left ≡ None → AreBothSorted left right None

@@ -1,6 +1,6 @@
-use Rattle.std.proofs.Common.{◌≡◌, ℕ, ◌+◌, ◌-◌, ◌<◌, ◌≤◌, List, None, subst, arith, length}
+use Rattle.std.proofs.Common.{◌≡◌, List, None, subst, sym, arith}
 use Rattle.clause_base.specs.Literals.{Literal}
-use Rattle.clause_base.specs.Merging.{IsTurn}
+use Rattle.clause_base.specs.Merging.{IsTurn, IsMerged}
 use Rattle.clause_base.specs.declared.merge.Merged.{Merged}
 use Rattle.clause_base.specs.declared.merge.Places.{Places}
 use Rattle.clause_base.specs.declared.merge.Merged.TheVariants.{Union, Clash}
@@ -10,6 +10,15 @@ use Rattle.clause_base.proofs.merge.merge.Goals as goal
 -- what a turn comes to, by its answer
 turned : (a b out : List Literal) (old new : Places) (m n : Merged) → m ≡ n → IsTurn a b old out new m → IsTurn a b old out new n
 turned a b out old new m n is h = subst (IsTurn a b old out new) is h
+
+pub turns-init : goal.turns-init
+turns-init c = subst (λ (out : List Literal). IsMerged c.args.left.now c.args.right.now out None 0 0) (sym c.clear.ensures.items) (start c.args.left.now c.args.right.now None)
+
+pub turn-requires-clause-left : goal.turn-requires-clause-left
+turn-requires-clause-left c = c.requires.left
+
+pub turn-requires-clause-right : goal.turn-requires-clause-right
+turn-requires-clause-right c = c.requires.right
 
 pub turns-preserved : goal.turns-preserved
 turns-preserved c = (turned c.args.left.now c.args.right.now c.turn.new.out.items c.turns.at c.turn.new.at c.in_ok-turn.field-0 Union c.in-Union.is c.in_ok-turn.ensures).0
