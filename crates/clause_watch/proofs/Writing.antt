@@ -46,6 +46,12 @@ unwritten rows l m new differ = ap (λ (o : Option (List Watcher)). unwrap_or o 
 is_row : (rows : List (List Watcher)) (l : Literal) (i : ℕ) (old : List Watcher) → i ≡ row_of l → row_of l < length rows → old ≡ get_or rows i old → old ≡ row rows l
 is_row rows l i old is within reads = subst (λ n. old ≡ get_or rows n old) is reads ∙ sym (row_read rows l old within)
 
+-- a place of the literal's row is one of what was read there
+pub in_row : (rows now : List (List Watcher)) (l : Literal) (place i : ℕ) (old : List Watcher) → rows ≡ now → i ≡ row_of l → old ≡ get_or rows i old → place < length (row now l) → place < length old
+in_row rows now l place i old same is reads h =
+    let there : old ≡ get_or now i old = reads ∙ ap (λ (rs : List (List Watcher)). get_or rs i old) same in
+    subst (λ (r : List Watcher). place < length r) (sym (is_row now l i old is (row_within now l place h) there)) h
+
 -- one clause more
 pub added : {E : Type 0} (rows now : List (List Watcher)) (l : Literal) (w : Watcher) (i : ℕ) (old new : List Watcher) (r : Result (Unit {0}) E) → rows ≡ now → i ≡ row_of l → row_of l < length now → old ≡ get_or rows i old → OnOk r (new ≡ old ++ w ∷ []) → OnOk r (IsAdded now l w (set rows i new))
 added rows now l w i old new (Err e) view is within reads h = tt

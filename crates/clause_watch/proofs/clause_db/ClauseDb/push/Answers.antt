@@ -18,3 +18,6 @@ returns-in-Ok-clause-ok c =
     let grown : pieces c.extend_from_slice.new.self.items c.push.new.self.items ≡ pieces (c.self.inside.literals.items ++ c.args.clause.now) (c.self.inside.starts.items ++ end ∷ []) =
     ap (λ (ls : List Literal). pieces ls c.push.new.self.items) c.in-Ok.ensures.items ∙ ap (λ (s : List ℕ). pieces (c.self.inside.literals.items ++ c.args.clause.now) s) c.in_ok-push.ensures.items in
     grown ∙ (pieces_push c.self.inside.literals.items c.args.clause.now end c.self.inside.starts.items c.self.invariant.cut size ∙ ap (λ (x : List (List Literal)). x ++ c.args.clause.now ∷ []) c.self.view_is)
+
+pub invariant_of-self : goal.invariant_of-self
+invariant_of-self c = subst (λ (s : List ℕ). IsFlat c.self.inside.literals.items s) (sym c.in_err-push.ensures.items) c.self.invariant

@@ -1,5 +1,7 @@
 use Rattle.std.proofs.Common.{◌∙◌}
 use Rattle.clause_watch.proofs.Loading.{loaded_conflict, loaded_more, never_gone}
+use Rattle.std.proofs.Common.{arith}
+use Rattle.clause_watch.proofs.Loading.{loaded_whole}
 use Rattle.clause_watch.proofs.propagation.Watches.load.Goals as goal
 use Rattle.clause_watch.proofs.propagation.Watches.load.Goals.{in-Stays, in-Gone}
 
@@ -15,3 +17,8 @@ loop-number-preserved c =
       | in-Stays s ↦ (loaded_more w.known c.enter.new.trail w.pairs w.rows c.loop-number.number c.in_ok-enter.field-0 s.in-Stays.is c.in_ok-enter.ensures.entered, c.enter.ensures.variables ∙ c.loop-number.invariant.1)
       | in-Gone s ↦ absurd (never_gone w.known c.enter.new.trail w.pairs w.rows c.loop-number.number c.in_ok-enter.field-0 s.in-Gone.is c.in_ok-enter.ensures.entered)
     ]
+
+pub returns-clause-loaded : goal.returns-clause-loaded
+returns-clause-loaded c =
+    let w = c.args.self.now.clauses in
+    loaded_whole w.known c.loop-number.trail w.pairs w.rows c.loop-number.number (omega (arith, c.loop-number-test.false, c.len-number-end.ensures, c.requires.numbers)) c.loop-number.invariant.0

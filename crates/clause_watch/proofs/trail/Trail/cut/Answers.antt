@@ -2,6 +2,8 @@ use Rattle.std.proofs.Common.{arith, subst, List}
 use Rattle.clause_watch.specs.Index.{IsIndex}
 use Rattle.clause_watch.specs.declared.entry.Entry.{Entry}
 use Rattle.clause_watch.proofs.Index.{index_pop_at, popped_inside}
+use Rattle.std.proofs.Common.{ap, take}
+use Rattle.clause_watch.specs.Trails.{TrailView}
 use Rattle.clause_watch.proofs.trail.Trail.cut.Goals as goal
 
 pub index_mut-requires : goal.index_mut-requires
@@ -14,3 +16,6 @@ pub loop-self-preserved-in-Some : goal.loop-self-preserved-in-Some
 loop-self-preserved-in-Some c =
     index_pop_at c.loop-self.self-inside.entries.items c.pop.new.self.items c.in-Some.entry c.loop-self.self-inside.marks.items c.variable.result c.args.self.now.variables c.args.keep c.args.self.now.entries
     c.in-Some.ensures.items c.variable.ensures.value (omega (arith, c.loop-self.self-inside.entries.ok.0)) c.loop-self.invariant
+
+pub loop-self-init : goal.loop-self-init
+loop-self-init c = (c.self.invariant, ap (λ (t : TrailView). t.variables) c.self.view_is, ap (λ (t : TrailView). take c.args.keep t.entries) c.self.view_is)

@@ -4,6 +4,7 @@ use Rattle.clause_watch.specs.Trails.{TrailView, FreeBefore}
 use Rattle.clause_watch.specs.declared.entry.Entry.{Entry}
 use Rattle.clause_watch.proofs.Index.{index_push_at}
 use Rattle.clause_watch.proofs.Trails.{entry_of}
+use Rattle.clause_watch.specs.Index.{IsIndex}
 use Rattle.clause_watch.proofs.trail.Trail.push.Goals as goal
 
 pub invariant_of-self-2 : goal.invariant_of-self-2
@@ -27,3 +28,9 @@ returns-clause-room c =
     (subst (λ (es : List Entry). FreeBefore es (length es) l) (sym entries) c.requires.free) c.in_ok-push.ensures.items c.variable.ensures.value (omega (arith, c.self.inside.entries.ok.0)) c.is_positive.ensures in
     let grown : length c.push.new.self.items ≡ length c.self.inside.entries.items + 1 = ap (λ (es : List Entry). length es) c.in_ok-push.ensures.items ∙ length-append c.self.inside.entries.items (entry_of l c.args.reason ∷ []) in
     omega (arith, made.counted, length-set marks (c.variable.result - 1) (Some (mark_of c.len-place.result c.is_positive.result)), grown, same, size)
+
+pub invariant_of-self : goal.invariant_of-self
+invariant_of-self c = subst (λ (es : List Entry). IsIndex es c.self.inside.marks.items) (sym c.in_err-push.ensures.items) c.self.invariant
+
+pub returns-clause-variables : goal.returns-clause-variables
+returns-clause-variables c = length-set c.self.inside.marks.items (c.variable.result - 1) (Some (mark_of c.len-place.result c.is_positive.result)) ∙ ap (λ (t : TrailView). t.variables) c.self.view_is

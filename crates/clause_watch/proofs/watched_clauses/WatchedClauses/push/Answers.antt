@@ -1,6 +1,8 @@
-use Rattle.std.proofs.Common.{◌≤◌, length, arith}
+use Rattle.std.proofs.Common.{◌≡◌, ◌≤◌, length, arith}
 use Rattle.clause_watch.specs.TwoWatches.{KeepsWatches}
 use Rattle.clause_watch.proofs.Keeping.{keeps_as, keeps_same, keeps_short_either, keeps_long_as, ok_of}
+use Rattle.std.proofs.Common.{ℕ, subst}
+use Rattle.clause_watch.specs.TwoWatches.{WatchedView, IsPushed, IsInBothRows}
 use Rattle.clause_watch.proofs.watched_clauses.WatchedClauses.push.Goals as goal
 
 pub invariant_of-self : goal.invariant_of-self
@@ -41,3 +43,21 @@ returns-in-Ok-clause-kept c =
     let long : 2 ≤ length c.args.clause.now = omega (arith, c.if-clause-lt2.false) in
     keeps_long_as s.store c.push_both-2.new.store c.args.clause.now s.pairs.items c.push_both-2.new.pairs.items c.args.pair s.watchers c.add_both.new.self c.len-number.result
     c.self.invariant long (c.requires.own long) (omega (arith, c.len-number.ensures)) c.in_ok-add_both.ensures.ok c.in-Ok.ensures.stored c.in-Ok.ensures.paired
+
+pub pop_both-requires : goal.pop_both-requires
+pop_both-requires c = (c.self.inside.watchers, c.len-number.result, c.in_ok-add_both.ensures.ok)
+
+pub push_both-requires-2 : goal.push_both-requires-2
+push_both-requires-2 c = c.requires.clause
+
+pub returns-in-Ok-clause-pushed : goal.returns-in-Ok-clause-pushed
+returns-in-Ok-clause-pushed c =
+    let s = c.self.inside in
+    let number : c.len-number.result ≡ length s.store = omega (arith, c.len-number.ensures) in
+    let new : WatchedView = record { known = c.push_both-2.new.store; pairs = c.push_both-2.new.pairs.items; rows = c.add_both.new.self } in
+    subst (λ (v : WatchedView). IsPushed v c.args.clause.now c.args.pair new) c.self.view_is (record {
+      stored = c.in-Ok.ensures.stored;
+      paired = c.in-Ok.ensures.paired;
+      short = λ below. absurd (omega (arith, below, c.if-clause-lt2.false));
+      long = λ long. subst (λ (n : ℕ). IsInBothRows s.watchers n c.args.pair.first c.args.pair.second c.add_both.new.self) number c.in_ok-add_both.ensures.ok;
+    })

@@ -5,6 +5,11 @@ use Rattle.clause_watch.specs.Rows.{row}
 use Rattle.clause_watch.specs.TwoWatches.{WatchedView, IsWatch}
 use Rattle.clause_watch.specs.declared.watchers.Watcher.{Watcher}
 use Rattle.clause_watch.proofs.Keeping.{keeps_same, keeps_rewatched}
+use Rattle.clause_watch.specs.TwoWatches.{WatchedView}
+use Rattle.clause_watch.specs.declared.watchers.Watcher.{Watcher}
+use Rattle.clause_watch.specs.declared.pair.Pair.{Pair}
+use Rattle.std.proofs.Math.ListN.{set}
+use Rattle.clause_watch.specs.Rows.{IsAdded}
 use Rattle.clause_watch.proofs.watched_clauses.WatchedClauses.rewatch.Goals as goal
 
 pub invariant_of-self : goal.invariant_of-self
@@ -36,3 +41,14 @@ invariant_of-self-2 c =
     keeps_rewatched s.store s.pairs.items _ s.watchers c.remove.new.self c.args.literal c.args.place c.args.number e.0 own.0 c.args.other c.args.next
     c.self.invariant at e.2 there was c.requires.apart own.2 c.requires.differ
     (record { between = c.add.new.self; added = c.in_ok-add.ensures.ok; written = refl; removed = c.remove.ensures })
+
+pub returns-clause-moved : goal.returns-clause-moved
+returns-clause-moved c =
+    let pair : Pair = record { first = c.args.other; second = c.args.next } in
+    let watcher : Watcher = record { clause = c.args.number; blocker = c.args.other } in
+    record {
+      between = c.add.new.self;
+      added = subst (λ (v : WatchedView). IsAdded v.rows c.args.next watcher c.add.new.self) c.self.view_is c.in_ok-add.ensures.ok;
+      written = ap (λ (v : WatchedView). set v.pairs c.args.number pair) c.self.view_is;
+      removed = c.remove.ensures;
+    }
