@@ -17,3 +17,6 @@ returns c = λ clauses variables conflicts r room.
       },
       fewer_left conflicts (length s.log) (length c.restart.new.self.log) variables _ _ room (ap (λ xs. length xs) logged ∙ length-append s.log (learnt.chain ∷ [])),
     )
+
+pub learn-requires-2-clause-range : goal.learn-requires-2-clause-range
+learn-requires-2-clause-range c = c.requires.learnt.1
