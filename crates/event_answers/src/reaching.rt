@@ -30,12 +30,23 @@ pub struct Asked {
 }
 
 /// Two circuits whose latches have their classes, with the names of inputs and latches, the pairs, and the names of the exposed latches.
-#[derive(Drop)]
 pub struct Classed {
     pub separated: Separated,
     pub names: Names,
     pub asked: Asked,
     pub exposed: Words,
+}
+
+/// It is let go by one call: an owner isn't taken apart field by field at each way out.
+impl Drop for Classed {
+    fn drop(self) {
+        let Classed {
+            separated: _,
+            names: _,
+            asked: _,
+            exposed: _,
+        } = self;
+    }
 }
 
 /// How far a comparison comes before its pairs.

@@ -13,9 +13,10 @@ use event_answers::{Classed, Reached, limit_found, outcome_of, reach_pairs};
 use event_meaning::CompareError;
 use flat_net::Net;
 use outcome::{Outcome, Settings};
-use sec_base::MAX_CONFLICTS;
+use sec_base::{MAX_CONFLICTS, Words};
 use sec_setup::shared_names;
 use std::alloc::Global;
+use std::mem;
 
 /// Compares the circuits by unfolding their outputs into functions of the inputs at earlier events. Latches with a load enable are recovered first,
 /// and those of both circuits that load together are of one class. Where latches may be cut open, a minimal cut of them becomes inputs, self-edges
@@ -38,7 +39,9 @@ pub fn compare_in_events(
     b.keeps();
     let shared = shared_names(alloc, a, b)?;
     match reach_pairs(alloc, a, b, &shared, settings)? {
-        Reached::Pairs(classed) => compare_classed(alloc, a, b, shared.len(), classed, settings),
+        Reached::Pairs(mut classed) => {
+            compare_classed(alloc, a, b, shared.len(), &mut classed, settings)
+        }
         Reached::Limit(exposed, at) => {
             let found = limit_found(alloc, at);
             Ok(outcome_of(a, b, shared.len(), None, exposed, found))
@@ -52,7 +55,7 @@ fn compare_classed(
     a: &Net,
     b: &Net,
     inputs: u32,
-    classed: Classed,
+    classed: &mut Classed,
     settings: &Settings,
 ) -> Result<Outcome, CompareError>
     requires conflicts { settings.now.conflicts ≤ MAX_CONFLICTS }
@@ -60,17 +63,18 @@ fn compare_classed(
     requires right { IsComparable b.now }
     requires matches { InterfacesMatch a.now b.now }
     requires inputs { inputs ≡ length (shared_inputs (ports_of a.now) (ports_of b.now)) }
-    requires classed { AreClassed a.now b.now settings.now classed }
+    requires classed { AreClassed a.now b.now settings.now classed.old }
     ensures { ComparedInEvents a.now b.now settings.now result }
 {
     a.keeps();
     b.keeps();
-    let Classed {
-        separated,
-        names,
-        asked,
-        exposed,
-    } = classed;
-    let found = compare_pairs(alloc, separated, &names, &asked, settings.conflicts)?;
+    let found = compare_pairs(
+        alloc,
+        &mut classed.separated,
+        &classed.names,
+        &classed.asked,
+        settings.conflicts,
+    )?;
+    let exposed = mem::replace(&mut classed.exposed, Words::new(alloc));
     Ok(outcome_of(a, b, inputs, None, exposed, found))
 }

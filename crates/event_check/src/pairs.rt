@@ -17,19 +17,19 @@ use std::alloc::Global;
 /// Compares the pairs of two circuits whose latches have their classes.
 pub(crate) fn compare_pairs(
     alloc: Global,
-    separated: Separated,
+    separated: &mut Separated,
     names: &Names,
     asked: &Asked,
     conflicts: u32,
 ) -> Result<Found, CompareError>
-    requires counted { AreEnablesCounted separated.events }
-    requires separated { AreSeparated separated.events separated.aparts.items }
-    requires askable { AreAskable separated.events names.now asked.now }
+    requires counted { AreEnablesCounted separated.old.events }
+    requires separated { AreSeparated separated.old.events separated.old.aparts.items }
+    requires askable { AreAskable separated.old.events names.now asked.now }
     requires conflicts { conflicts ≤ MAX_CONFLICTS }
-    ensures { FindsPairs separated.events.left separated.events.right names.now asked.now conflicts result }
+    ensures { FindsPairs separated.old.events.left separated.old.events.right names.now asked.now conflicts result }
 {
-    let Separated { events, aparts } = separated;
-    let mut events = events;
+    let events = &mut separated.events;
+    let aparts = separated.aparts.as_slice();
     events.keeps();
     let compared = EventPairs {
         pairs: asked.pairs.as_slice(),
@@ -37,7 +37,7 @@ pub(crate) fn compare_pairs(
         names: &names.columns,
         cut: asked.cut,
     };
-    match compare_events(alloc, &mut events, aparts.as_slice(), &compared, conflicts) {
+    match compare_events(alloc, events, aparts, &compared, conflicts) {
         Ok(findings) => {
             events.keeps();
             let found = named_findings(alloc, names, findings, events.classes())?;

@@ -1,9 +1,9 @@
 -- The outcome by the pairs, or why they can't be unfolded.
-use Rattle.std.proofs.Common.{None, refl, sym, subst, Ok}
+use Rattle.std.proofs.Common.{◌∙◌, ℕ, List, None, refl, sym, ap, subst, Ok}
 use Rattle.outcome.specs.declared.verdict.Outcome.{Outcome}
 use Rattle.event_meaning.proofs.under_base.compare_base.Refusals.{refused_by}
 use Rattle.event_answers.specs.Compared.{ComparedInEvents}
-use Rattle.event_answers.proofs.Told.{told_outcome}
+use Rattle.event_answers.proofs.Told.{told_outcome, outcome_by}
 use Rattle.event_answers.proofs.Refusals.{pairs_refused}
 use Rattle.event_check.proofs.Answering.{pairs_compared}
 use Rattle.event_check.proofs.comparison.compare_classed.Goals as goal
@@ -21,7 +21,7 @@ pub returns-in_err-found : goal.returns-in_err-found
 returns-in_err-found c =
     let a = c.args.a.now in
     let b = c.args.b.now in
-    let x = c.args.classed in
+    let x = c.args.classed.now in
     let is = c.requires.classed in
     refused_by (ComparedInEvents a b c.args.settings.now) c.from_residual.result c.in_err-found.field-0.0 c.from_residual.ensures.1
     (pairs_refused a b c.args.settings.now c.requires.matches x.exposed x.separated.events.left x.separated.events.right is.reached x.asked.pairs is.listed c.in_err-found.field-0.0 c.in_err-found.ensures)
@@ -30,6 +30,8 @@ pub returns : goal.returns
 returns c =
     let a = c.args.a.now in
     let b = c.args.b.now in
-    let x = c.args.classed in
-    subst (λ (o : Outcome). ComparedInEvents a b c.args.settings.now (Ok o)) (sym (told_outcome a b c.args.inputs None x.exposed c.in_ok-found.found c.in_ok-found.found c.outcome_of.result c.outcome_of.ensures c.requires.inputs refl))
+    let x = c.args.classed.now in
+    let is = told_outcome a b c.args.inputs None c.replace-exposed.result c.in_ok-found.found c.in_ok-found.found c.outcome_of.result c.outcome_of.ensures c.requires.inputs refl in
+    let same = is ∙ ap (λ (names : List (List ℕ)). outcome_by a b None names c.in_ok-found.found) c.replace-exposed.ensures.value in
+    subst (λ (o : Outcome). ComparedInEvents a b c.args.settings.now (Ok o)) (sym same)
     (pairs_compared a b c.args.settings.now c.keeps.ensures.sound c.keeps-2.ensures.sound c.requires.left c.requires.right c.requires.matches x c.requires.classed c.in_ok-found.found c.in_ok-found.ensures)

@@ -10,7 +10,7 @@ use Rattle.event_check.proofs.Finding.{found_named, pairs_found}
 use Rattle.event_check.proofs.pairs.compare_pairs.Goals as goal
 
 pub compare_events-requires-clause-pairs : goal.compare_events-requires-clause-pairs
-compare_events-requires-clause-pairs c = subst (All (IsPairOf c.args.separated.events)) (sym c.as_slice.ensures) c.requires.askable.within
+compare_events-requires-clause-pairs c = subst (All (IsPairOf c.args.separated.now.events)) (sym c.as_slice.ensures) c.requires.askable.within
 
 pub compare_events-requires-clause-compared : goal.compare_events-requires-clause-compared
 compare_events-requires-clause-compared c = c.requires.askable.compared _ (c.as_slice.ensures, c.as_slice-2.ensures, refl, refl)
@@ -20,18 +20,18 @@ compare_events-requires-clause-within c = c.requires.counted.limits
 
 pub named_findings-requires : goal.named_findings-requires
 named_findings-requires c =
-    found_named c.args.separated.events c.args.names.now c.args.asked.now c.requires.askable _ (c.as_slice.ensures, c.as_slice-2.ensures, refl, refl) c.keeps.ensures.kept c.compare_events.new.events c.args.conflicts c.in-Ok.findings
+    found_named c.args.separated.now.events c.args.names.now c.args.asked.now c.requires.askable _ (c.as_slice.ensures, c.as_slice-2.ensures, refl, refl) c.keeps.ensures.kept c.compare_events.new.events c.args.conflicts c.in-Ok.findings
     c.in-Ok.ensures.counted c.in-Ok.ensures.fits
 
-pub returns-in-Ok : goal.returns-in-Ok
-returns-in-Ok c =
-    pairs_found c.args.separated.events c.args.names.now c.args.asked.now c.requires.askable _ (c.as_slice.ensures, c.as_slice-2.ensures, refl, refl) c.keeps.ensures.kept c.compare_events.new.events c.args.conflicts c.in-Ok.findings
+pub returns-in_ok-found-in-Ok : goal.returns-in_ok-found-in-Ok
+returns-in_ok-found-in-Ok c =
+    pairs_found c.args.separated.now.events c.args.names.now c.args.asked.now c.requires.askable _ (c.as_slice.ensures, c.as_slice-2.ensures, refl, refl) c.keeps.ensures.kept c.compare_events.new.events c.args.conflicts c.in-Ok.findings
     c.in-Ok.ensures.counted c.in-Ok.ensures.fits c.keeps.ensures.events c.requires.counted c.requires.separated.few c.keeps-in-Ok.ensures.kept c.keeps-in-Ok.ensures.once c.in_ok-found-in-Ok.found
     (subst (λ count. IsNamedFound c.args.names.now c.in-Ok.findings count c.in_ok-found-in-Ok.found) c.classes.ensures c.in_ok-found-in-Ok.ensures)
 
-pub returns : goal.returns
-returns c =
-    let e = c.args.separated.events in
+pub returns-in-Err : goal.returns-in-Err
+returns-in-Err c =
+    let e = c.args.separated.now.events in
     subst (AreNotUnfolded e.left e.right c.args.asked.now.pairs) (sym c.refusal_of.ensures)
     (subst (λ (ps : List SignalPair). AreNotUnfolded e.left e.right ps (refusal_of c.in-Err.error)) c.as_slice.ensures
     (not_unfolded e c.keeps.ensures.events c.requires.counted c.requires.separated.few _ c.in-Err.error c.in-Err.ensures.refused))
