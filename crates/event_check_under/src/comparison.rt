@@ -17,6 +17,7 @@ use outcome::{LimitAt, Outcome, Settings};
 use sec_base::{MAX_CONFLICTS, Words};
 use sec_setup::shared_names;
 use std::alloc::Global;
+use std::mem;
 
 /// Compares the circuits `a` and `b` in the runs whose inputs make the output of the circuit `c` 1 in each cycle, by unfolding their outputs into
 /// functions of the inputs at earlier events. It is done as without `c`, each query of a pair with `c` as a further care at the event nodes that have
@@ -83,9 +84,9 @@ fn compare_met(
     left.keeps();
     right.keeps();
     match reach_pairs(alloc, left, right, circuits.shared, settings)? {
-        Reached::Pairs(classed) => {
+        Reached::Pairs(mut classed) => {
             let premise = widen(premise, classed.exposed.len())?;
-            compare_classed(alloc, circuits, classed, &premise, settings)
+            compare_classed(alloc, circuits, &mut classed, &premise, settings)
         }
         Reached::Limit(exposed, at) => {
             let found = limit_found(alloc, at);
@@ -98,31 +99,26 @@ fn compare_met(
 fn compare_classed(
     alloc: Global,
     circuits: &Circuits<'_>,
-    classed: Classed,
+    classed: &mut Classed,
     premise: &Premise,
     settings: &Settings,
 ) -> Result<Outcome, CompareError>
     requires conflicts { settings.now.conflicts ≤ MAX_CONFLICTS }
     requires matched { AreMatched circuits.now }
-    requires classed { AreClassed circuits.now.left.now circuits.now.right.now settings.now classed }
-    requires premise { IsPremiseOf circuits.now.shared.now circuits.now.assumed.now (length circuits.now.shared.now + length classed.exposed) premise.now }
+    requires classed { AreClassed circuits.now.left.now circuits.now.right.now settings.now classed.old }
+    requires premise { IsPremiseOf circuits.now.shared.now circuits.now.assumed.now (length circuits.now.shared.now + length classed.old.exposed) premise.now }
     ensures { ComparedInEventsUnder circuits.now.left.now circuits.now.right.now circuits.now.assumed.now settings.now result }
 {
     circuits.left.keeps();
     circuits.right.keeps();
-    let Classed {
-        separated,
-        names,
-        asked,
-        exposed,
-    } = classed;
     let found = compare_pairs(
         alloc,
-        separated,
-        &names,
-        &asked,
+        &mut classed.separated,
+        &classed.names,
+        &classed.asked,
         premise,
         settings.conflicts,
     )?;
+    let exposed = mem::replace(&mut classed.exposed, Words::new(alloc));
     Ok(outcome_under(circuits, exposed, found)?)
 }

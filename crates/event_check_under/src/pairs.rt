@@ -18,21 +18,21 @@ use std::alloc::Global;
 /// Compares the pairs of two circuits whose latches have their classes, under the assumption of this premise.
 pub(crate) fn compare_pairs(
     alloc: Global,
-    separated: Separated,
+    separated: &mut Separated,
     names: &Names,
     asked: &Asked,
     premise: &Premise,
     conflicts: u32,
 ) -> Result<Found, CompareError>
-    requires counted { AreEnablesCounted separated.events }
-    requires separated { AreSeparated separated.events separated.aparts.items }
-    requires askable { AreAskable separated.events names.now asked.now }
+    requires counted { AreEnablesCounted separated.old.events }
+    requires separated { AreSeparated separated.old.events separated.old.aparts.items }
+    requires askable { AreAskable separated.old.events names.now asked.now }
     requires premise { CanBeAssumed premise.now (length names.now.columns) }
     requires conflicts { conflicts ≤ MAX_CONFLICTS }
-    ensures { FindsPairsUnder separated.events.left separated.events.right names.now asked.now premise.now conflicts result }
+    ensures { FindsPairsUnder separated.old.events.left separated.old.events.right names.now asked.now premise.now conflicts result }
 {
-    let Separated { events, aparts } = separated;
-    let mut events = events;
+    let events = &mut separated.events;
+    let aparts = separated.aparts.as_slice();
     events.keeps();
     let compared = EventPairs {
         pairs: asked.pairs.as_slice(),
@@ -40,8 +40,7 @@ pub(crate) fn compare_pairs(
         names: &names.columns,
         cut: asked.cut,
     };
-    let aparts = aparts.as_slice();
-    match compare_events_under(alloc, &mut events, aparts, &compared, premise, conflicts) {
+    match compare_events_under(alloc, events, aparts, &compared, premise, conflicts) {
         Ok(findings) => {
             events.keeps();
             let found = named_findings(alloc, names, findings, events.classes())?;

@@ -1,8 +1,8 @@
 -- The outcome by the pairs, or why they can't be compared.
-use Rattle.std.proofs.Common.{◌+◌, ℕ, List, length, Some, refl, sym, ap, subst, inr}
+use Rattle.std.proofs.Common.{◌∙◌, ◌+◌, ℕ, List, length, Some, refl, sym, ap, subst, inr}
 use Rattle.event_names.proofs.under_base.compare_base.Refusals.{refused_by}
 use Rattle.event_answers_under.specs.assume_sequences.assume_taken.Premises.{IsPremiseOf}
-use Rattle.event_answers.proofs.Told.{told_outcome}
+use Rattle.event_answers.proofs.Told.{told_outcome, outcome_by}
 use Rattle.event_meaning.specs.event_meaning_under.Answered.{ComparedInEventsUnder, IsComparedInEventsUnder}
 use Rattle.event_answers_under.proofs.Answering.{can_be_premise, met, pairs_compared}
 use Rattle.event_answers_under.proofs.Refusals.{pairs_refused_under}
@@ -15,8 +15,8 @@ compare_pairs-requires-clause-premise c =
     let a = x.left.now in
     let b = x.right.now in
     let m = c.requires.matched in
-    let premise = subst (λ (names : List (List ℕ)). IsPremiseOf names x.assumed.now (length names + length c.args.classed.exposed) c.args.premise.now) m.shared c.requires.premise in
-    can_be_premise a b x.assumed.now c.args.settings.now c.keeps.ensures.sound c.keeps-2.ensures.sound m.left m.right m.matches (length (shared_by a b) + length c.args.classed.exposed) c.args.premise.now premise c.args.classed c.requires.classed refl
+    let premise = subst (λ (names : List (List ℕ)). IsPremiseOf names x.assumed.now (length names + length c.args.classed.now.exposed) c.args.premise.now) m.shared c.requires.premise in
+    can_be_premise a b x.assumed.now c.args.settings.now c.keeps.ensures.sound c.keeps-2.ensures.sound m.left m.right m.matches (length (shared_by a b) + length c.args.classed.now.exposed) c.args.premise.now premise c.args.classed.now c.requires.classed refl
 
 pub returns-in_err-found : goal.returns-in_err-found
 returns-in_err-found c =
@@ -25,10 +25,10 @@ returns-in_err-found c =
     let b = x.right.now in
     let s = c.args.settings.now in
     let m = c.requires.matched in
-    let premise = subst (λ (names : List (List ℕ)). IsPremiseOf names x.assumed.now (length names + length c.args.classed.exposed) c.args.premise.now) m.shared c.requires.premise in
-    let is_met = met a b x.assumed.now s c.keeps.ensures.sound c.keeps-2.ensures.sound m.left m.right m.matches (length (shared_by a b) + length c.args.classed.exposed) c.args.premise.now premise in
+    let premise = subst (λ (names : List (List ℕ)). IsPremiseOf names x.assumed.now (length names + length c.args.classed.now.exposed) c.args.premise.now) m.shared c.requires.premise in
+    let is_met = met a b x.assumed.now s c.keeps.ensures.sound c.keeps-2.ensures.sound m.left m.right m.matches (length (shared_by a b) + length c.args.classed.now.exposed) c.args.premise.now premise in
     refused_by (ComparedInEventsUnder a b x.assumed.now s) c.from_residual.result c.in_err-found.field-0.0 c.from_residual.ensures.1
-    (pairs_refused_under a b x.assumed.now s is_met c.args.classed c.requires.classed c.args.premise.now premise.weight_is s.conflicts c.in_err-found.field-0.0 c.in_err-found.ensures)
+    (pairs_refused_under a b x.assumed.now s is_met c.args.classed.now c.requires.classed c.args.premise.now premise.weight_is s.conflicts c.in_err-found.field-0.0 c.in_err-found.ensures)
 
 pub returns : goal.returns
 returns c =
@@ -37,9 +37,10 @@ returns c =
     let b = x.right.now in
     let s = c.args.settings.now in
     let m = c.requires.matched in
-    let y = c.args.classed in
+    let y = c.args.classed.now in
     let f = c.in_ok-found.found in
     let premise = subst (λ (names : List (List ℕ)). IsPremiseOf names x.assumed.now (length names + length y.exposed) c.args.premise.now) m.shared c.requires.premise in
     let shape = premise.assumed.shape in
-    let is = told_outcome a b (length x.shared.now) (Some shape.output.name) y.exposed f f c.in_ok-outcome_under.field-0 (c.in_ok-outcome_under.ensures shape.output shape.outputs) (ap length m.shared) refl in
-    inr (subst (IsComparedInEventsUnder a b x.assumed.now s) (sym is) (pairs_compared a b x.assumed.now s c.keeps.ensures.sound c.keeps-2.ensures.sound m.left m.right m.matches (length (shared_by a b) + length y.exposed) c.args.premise.now premise y c.requires.classed refl f c.in_ok-found.ensures))
+    let is = told_outcome a b (length x.shared.now) (Some shape.output.name) c.replace-exposed.result f f c.in_ok-outcome_under.field-0 (c.in_ok-outcome_under.ensures shape.output shape.outputs) (ap length m.shared) refl in
+    let same = is ∙ ap (λ (names : List (List ℕ)). outcome_by a b (Some shape.output.name) names f) c.replace-exposed.ensures.value in
+    inr (subst (IsComparedInEventsUnder a b x.assumed.now s) (sym same) (pairs_compared a b x.assumed.now s c.keeps.ensures.sound c.keeps-2.ensures.sound m.left m.right m.matches (length (shared_by a b) + length y.exposed) c.args.premise.now premise y c.requires.classed refl f c.in_ok-found.ensures))
