@@ -15,6 +15,9 @@ returns-in_err-shared c =
     refused_by (ComparedInEvents c.args.a.now c.args.b.now c.args.settings.now) c.from_residual.result (refusal_of c.in_err-shared.field-0.0) c.from_residual.ensures.1
     (unmatched c.args.a.now c.args.b.now c.args.settings.now c.in_err-shared.field-0.0 c.in_err-shared.ensures.err)
 
+pub compare_classed-requires-clause-classed : goal.compare_classed-requires-clause-classed
+compare_classed-requires-clause-classed c = subst (λ (r : Reached). ReachesPairs c.args.a.now c.args.b.now c.args.settings.now (Ok r)) c.in-Pairs.is c.in_ok-classed.ensures
+
 pub returns : goal.returns
 returns c =
     let a = c.args.a.now in

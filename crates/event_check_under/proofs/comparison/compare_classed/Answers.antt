@@ -1,5 +1,5 @@
 -- The outcome by the pairs, or why they can't be compared.
-use Rattle.std.proofs.Common.{◌∙◌, ◌+◌, ℕ, List, length, Some, refl, sym, ap, subst, inr}
+use Rattle.std.proofs.Common.{◌∙◌, ◌+◌, ℕ, List, length, Some, refl, sym, ap, subst, arith, inr}
 use Rattle.event_names.proofs.under_base.compare_base.Refusals.{refused_by}
 use Rattle.event_answers_under.specs.assume_sequences.assume_taken.Premises.{IsPremiseOf}
 use Rattle.event_answers.proofs.Told.{told_outcome, outcome_by}
@@ -17,6 +17,9 @@ compare_pairs-requires-clause-premise c =
     let m = c.requires.matched in
     let premise = subst (λ (names : List (List ℕ)). IsPremiseOf names x.assumed.now (length names + length c.args.classed.now.exposed) c.args.premise.now) m.shared c.requires.premise in
     can_be_premise a b x.assumed.now c.args.settings.now c.keeps.ensures.sound c.keeps-2.ensures.sound m.left m.right m.matches (length (shared_by a b) + length c.args.classed.now.exposed) c.args.premise.now premise c.args.classed.now c.requires.classed refl
+
+pub outcome_under-requires : goal.outcome_under-requires
+outcome_under-requires c = omega (arith, ap length c.requires.premise.assumed.shape.outputs)
 
 pub returns-in_err-found : goal.returns-in_err-found
 returns-in_err-found c =

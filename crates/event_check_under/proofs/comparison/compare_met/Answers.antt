@@ -1,5 +1,5 @@
 -- The limit of an enable or of a class, or what is refused before the pairs.
-use Rattle.std.proofs.Common.{◌+◌, ℕ, List, length, Some, Ok, sym, ap, subst, inr}
+use Rattle.std.proofs.Common.{◌+◌, ℕ, List, length, Some, Ok, sym, ap, subst, arith, inr}
 use Rattle.event_names.proofs.under_base.compare_base.Refusals.{refused_by}
 use Rattle.event_answers_under.specs.assume_sequences.assume_taken.Premises.{IsPremiseOf}
 use Rattle.event_answers.specs.Reached.{ReachesPairs}
@@ -22,6 +22,12 @@ returns-in_err-classed c =
     let is_met = met a b x.assumed.now s c.keeps.ensures.sound c.keeps-2.ensures.sound m.left m.right m.matches (length (shared_by a b)) c.args.premise premise in
     refused_by (ComparedInEventsUnder a b x.assumed.now s) c.from_residual.result c.in_err-classed.field-0.0 c.from_residual.ensures.1
     (refused_under a b x.assumed.now s c.in_err-classed.field-0.0 is_met c.in_err-classed.ensures)
+
+pub compare_classed-requires-clause-classed : goal.compare_classed-requires-clause-classed
+compare_classed-requires-clause-classed c = subst (λ (r : Reached). ReachesPairs c.args.circuits.now.left.now c.args.circuits.now.right.now c.args.settings.now (Ok r)) c.in-Pairs.is c.in_ok-classed.ensures
+
+pub outcome_under-requires : goal.outcome_under-requires
+outcome_under-requires c = omega (arith, ap length c.requires.premise.assumed.shape.outputs)
 
 pub compare_classed-requires-clause-premise : goal.compare_classed-requires-clause-premise
 compare_classed-requires-clause-premise c =

@@ -1,12 +1,15 @@
 -- The classes of the pair, and what tells them apart.
-use Rattle.std.proofs.Common.{◌≡◌, ◌∙◌, ◌≤◌, ℕ, true, false, List, length, sym, subst}
-use Rattle.std.specs.List.{All, AllZip}
+use Rattle.std.proofs.Common.{◌≡◌, ◌∙◌, ◌<◌, ◌≤◌, ℕ, true, false, List, [], ◌∷◌, length, sym, subst}
+use Rattle.std.proofs.lemmas.Result.{err_from_is_err_and}
+use Rattle.std.specs.List.{All, AllPairs, AllZip}
 use Rattle.circuit_theory.proofs.Lists.{All-from_each}
 use Rattle.event_nodes.specs.Nodes.{EventGraphView}
 use Rattle.class_events.specs.View.{EventsView}
 use Rattle.class_events.specs.Separated.{AreSeparated}
 use Rattle.class_events.proofs.Telling.{separated_stay}
 use Rattle.event_form.specs.Asked.{IsLater}
+use Rattle.event_form.specs.Functions.{signal_start}
+use Rattle.event_form.proofs.Refusing.{memory_refused, ok_refused}
 use Rattle.class_events.specs.class_separations.declared.apart.Apart.{Apart}
 use Rattle.event_nodes.specs.Nodes.{IsEventGraph}
 use Rattle.unshown_pairs.specs.Classes.{AreEntered}
@@ -30,6 +33,25 @@ classes_into-requires c =
 
 pub returns-then-reach-clause-told : goal.returns-then-reach-clause-told
 returns-then-reach-clause-told c = c.in_ok-reach.ensures.reach.only_is.0 c.if-reach.true
+
+pub returns-then-reach-clause-refused : goal.returns-then-reach-clause-refused
+returns-then-reach-clause-refused c = ok_refused (signal_start c.args.pair.now.left.0 ∷ []) (signal_start c.args.pair.now.right.0 ∷ []) c.args.events.now _
+
+pub returns-in_err-classes-clause-refused : goal.returns-in_err-classes-clause-refused
+returns-in_err-classes-clause-refused c =
+    let p = err_from_is_err_and c.from_residual-in_err-classes.result c.from_residual-in_err-classes.ensures.1 in
+    rw (p.1, p.2) (memory_refused (signal_start c.args.pair.now.left.0 ∷ []) (signal_start c.args.pair.now.right.0 ∷ []) c.args.events.now)
+
+pub returns-in_err-told-clause-refused : goal.returns-in_err-told-clause-refused
+returns-in_err-told-clause-refused c =
+    let p = err_from_is_err_and c.from_residual-in_err-told.result c.from_residual-in_err-told.ensures.1 in
+    rw (p.1, p.2) (memory_refused (signal_start c.args.pair.now.left.0 ∷ []) (signal_start c.args.pair.now.right.0 ∷ []) c.args.events.now)
+
+pub returns-clause-refused : goal.returns-clause-refused
+returns-clause-refused c = ok_refused (signal_start c.args.pair.now.left.0 ∷ []) (signal_start c.args.pair.now.right.0 ∷ []) c.args.events.now _
+
+pub separations_among-requires-clause-rising : goal.separations_among-requires-clause-rising
+separations_among-requires-clause-rising c = subst (AllPairs ◌<◌) (sym c.as_slice-2.ensures.value) c.in_ok-classes.ensures.rising
 
 pub separations_among-requires-clause-separated : goal.separations_among-requires-clause-separated
 separations_among-requires-clause-separated c = later_separated c.args.events.now c.reach_of.new.events c.args.aparts.now c.keeps.ensures.kept.events c.in_ok-reach.ensures.later c.requires.separated
