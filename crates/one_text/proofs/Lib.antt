@@ -1,3 +1,4 @@
 pub mod OneNets
 pub mod OneText
+pub mod Itself
 pub mod Unfolded

@@ -10,7 +10,8 @@ ghost use Rattle.job_base.specs.Lines.{finding_text};
 ghost use Rattle.sec_run.specs.Job.{paths_in};
 ghost use Rattle.sec_run.specs.Answer.{IsFinding};
 ghost use Rattle.sec_run.specs.Promises.{IsComplete};
-ghost use Rattle.one_text_runs.specs.OneTextRuns.{OfCheck, OfOneText, IsEqualAnswer};
+ghost use Rattle.one_text.specs.Itself.{OfOneText, IsEqualAnswer};
+ghost use Rattle.one_text_runs.specs.OneTextRuns.{OfCheck};
 
 use circuit_theory::Mode;
 use command_line::Task;
