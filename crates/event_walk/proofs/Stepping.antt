@@ -120,6 +120,13 @@ no_memory_many e = cc
 same_error : {X : Type 0} (e f : EventUnfoldError) → ◌≡◌ {A = Result X EventUnfoldError} (Err e) (Err f) → e ≡ f
 same_error e f q = cc
 
+-- a value is no refusal
+pub ok_apart : {X P : Type 0} (v : X) (e : EventUnfoldError) → ◌≡◌ {A = Result X EventUnfoldError} (Ok v) (Err e) → P
+ok_apart v e q = cc
+
+pub many_apart : {X : Type 0} → ◌≡◌ {A = Result X EventUnfoldError} (Err unfold_error.TooManyEvents) (Err unfold_error.TooLarge) → ⊥
+many_apart q = cc
+
 -- want of memory is neither of the two
 pub refused_memory : {X : Type 0} (n : NetView) (children counted : List (ℕ × ℕ)) → IsRefused {X = X} n children counted (Err unfold_error.NoMemory)
 refused_memory {X} n children counted = record {

@@ -1,6 +1,6 @@
 //! Frames: an event node, and the latch that is read as a constant there.
 
-ghost use Rattle.std.specs.Prelude.{◌≡◌, ◌⊎◌, ◌+◌, ◌^◌, ◌<◌, List, [], ◌∷◌, ◌++◌, length, slice_get, Some, Contains, IfSome, IfNone, IfOk, OnOk, OnErr};
+ghost use Rattle.std.specs.Prelude.{◌≡◌, ◌⊎◌, ◌+◌, ◌^◌, ◌<◌, List, [], ◌∷◌, ◌++◌, length, slice_get, Some, IfSome, IfNone, IfOk, OnOk, OnErr};
 ghost use Rattle.circuit_theory.specs.Frame.{NotPut};
 ghost use Rattle.event_walk.specs.declared.frames.Put.TheVariants.{Low, High};
 ghost use Rattle.event_walk.specs.Ready.{put_of};
@@ -130,8 +130,6 @@ impl Frames {
     pub(crate) fn intern(&mut self, frame: Frame) -> Result<u32, NoMemory>
         requires { length self.old + 1 < 2 ^ 32 }
         ensures here { IfOk result (λ id. slice_get self.new id ≡ Some frame) }
-        ensures known { OnOk result (Contains self.old frame → self.new ≡ self.old) }
-        ensures added { OnOk result ((Contains self.old frame → ⊥) → self.new ≡ self.old ++ frame ∷ []) }
         ensures grown { OnOk result ((self.new ≡ self.old) ⊎ (self.new ≡ self.old ++ frame ∷ [])) }
         ensures err { OnErr result (self.new ≡ self.old) }
     {

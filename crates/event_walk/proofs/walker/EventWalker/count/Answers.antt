@@ -8,6 +8,7 @@ use Rattle.event_nodes.specs.declared.error.EventUnfoldError.TheVariants as unfo
 use Rattle.event_nodes.specs.View.{EventCircuitView}
 use Rattle.event_nodes.specs.Visited.{IsWeighed, places_weight}
 use Rattle.event_walk.specs.declared.frames.Frame.{Frame}
+use Rattle.std.proofs.lemmas.Option.{slice_get_within}
 use Rattle.event_walk.proofs.walker.EventWalker.count.Goals as goal
 
 pub count-requires-clause-signal : goal.count-requires-clause-signal
@@ -31,3 +32,6 @@ returns-clause-weighed c = subst (λ (n : NetView). OnOk c.count.result (IsWeigh
 
 pub returns-clause-large : goal.returns-clause-large
 returns-clause-large c = subst (λ (n : NetView). c.count.result ≡ Err unfold_error.TooLarge → 2000000 < places_weight n c.count.new.self.places) (c.net.ensures ∙ ap (λ (e : EventCircuitView). e.net) c.circuit-circuit.ensures) c.count.ensures.large
+
+pub frame-node-requires : goal.frame-node-requires
+frame-node-requires c = slice_get_within c.args.self.now.frames c.args.place.0 c.requires.framed.0 c.requires.framed.1

@@ -9,7 +9,7 @@ use Rattle.event_nodes.specs.View.{EventCircuitView}
 use Rattle.event_nodes.proofs.Drivers.{driven_gate, gate_reads_to}
 use Rattle.event_walk.proofs.Lent.{drives_of, sound_of}
 use Rattle.event_walk.proofs.Expanding.{input_expanded, gate_expanded}
-use Rattle.event_walk.proofs.Stepping.{step_none, step_gate}
+use Rattle.event_walk.proofs.Stepping.{ok_apart, step_none, step_gate}
 use Rattle.event_walk.proofs.walker.EventWalker.expand.Goals as goal
 
 pub gate_of-requires : goal.gate_of-requires
@@ -60,3 +60,15 @@ returns-in_err-add_fanins-in-Gate-clause-step c =
     let at = subst (λ (n : NetView). slice_get n.gates c.in-Gate.j ≡ Some c.gate_of.result.now) (c.net-in-Gate.ensures ∙ ap (λ (e : EventCircuitView). e.net) c.circuit-circuit.ensures) c.gate_of.ensures in
     step_gate u c.args.events.now sound c.args.place c.as_slice.result.now c.args.table.now c.add_fanins.new.table c.requires.seen
     (λ f h. gate_reads_to u.circuit.net sound c.args.place.1 c.in-Gate.j drives c.gate_of.result.now at f (subst (λ (l : List Signal). Contains l f) c.as_slice.ensures h)) c.add_fanins.ensures.adds
+
+pub returns-in_ok-add_fanins-in-Gate-clause-many : goal.returns-in_ok-add_fanins-in-Gate-clause-many
+returns-in_ok-add_fanins-in-Gate-clause-many c = λ is. ok_apart _ _ is
+
+pub returns-in_ok-add_fanins-in-Gate-clause-large : goal.returns-in_ok-add_fanins-in-Gate-clause-large
+returns-in_ok-add_fanins-in-Gate-clause-large c = λ is. ok_apart _ _ is
+
+pub returns-in-Input-clause-many : goal.returns-in-Input-clause-many
+returns-in-Input-clause-many c = λ is. ok_apart _ _ is
+
+pub returns-in-Input-clause-large : goal.returns-in-Input-clause-large
+returns-in-Input-clause-large c = λ is. ok_apart _ _ is

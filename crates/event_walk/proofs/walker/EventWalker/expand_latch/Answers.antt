@@ -2,7 +2,8 @@
 use Rattle.event_nodes.proofs.Drivers.{driven_latch}
 use Rattle.event_walk.proofs.Expanding.{put_expanded}
 use Rattle.event_walk.proofs.Lent.{sound_of}
-use Rattle.event_walk.proofs.Stepping.{step_none}
+use Rattle.event_walk.proofs.Stepping.{ok_apart, step_none}
+use Rattle.std.proofs.lemmas.Option.{slice_get_within}
 use Rattle.event_walk.proofs.walker.EventWalker.expand_latch.Goals as goal
 
 pub returns-in-Some-clause-step : goal.returns-in-Some-clause-step
@@ -18,3 +19,12 @@ returns-in-Some-clause-expanded c =
 
 pub go_on-requires-clause-framed : goal.go_on-requires-clause-framed
 go_on-requires-clause-framed c = c.frame-frame.ensures
+
+pub frame-frame-requires : goal.frame-frame-requires
+frame-frame-requires c = slice_get_within c.args.self.now.frames c.args.place.0 c.requires.seen.0 c.requires.seen.1
+
+pub returns-in-Some-clause-many : goal.returns-in-Some-clause-many
+returns-in-Some-clause-many c = λ is. ok_apart _ _ is
+
+pub returns-in-Some-clause-large : goal.returns-in-Some-clause-large
+returns-in-Some-clause-large c = λ is. ok_apart _ _ is

@@ -1,5 +1,5 @@
 -- The latch takes over its data in the frames in which it goes on, at its child.
-use Rattle.std.proofs.Common.{◌≡◌, ◌∙◌, ◌<◌, ℕ, length, slice_get, Some, sym, ap, subst}
+use Rattle.std.proofs.Common.{◌≡◌, ◌∙◌, ◌+◌, ◌^◌, ◌<◌, ℕ, length, slice_get, Some, sym, ap, subst}
 use Rattle.std.proofs.lemmas.Option.{slice_get_within}
 use Rattle.event_nodes.specs.flat_net.declared.parts.Driver.TheVariants as driver
 use Rattle.event_nodes.specs.flat_net.Sound.{IsSound}
@@ -15,7 +15,7 @@ use Rattle.event_walk.specs.Walk.{IsEntry, AreWays}
 use Rattle.event_walk.proofs.Expanding.{latch_expanded}
 use Rattle.event_walk.proofs.Lent.{sound_of}
 use Rattle.event_walk.proofs.Opening.{opened_one, seen_later}
-use Rattle.event_walk.proofs.Stepping.{step_child, step_latch, step_same}
+use Rattle.event_walk.proofs.Stepping.{step_child, step_latch, step_same, ok_apart, many_apart}
 use Rattle.event_walk.proofs.walker.EventWalker.go_on.Goals as goal
 
 pub class-requires : goal.class-requires
@@ -93,3 +93,15 @@ returns-clause-expanded c =
     let at = adds_at (λ (f : Frame). Unit {0}) u.frames c.enter_latch.new.frames c.args.place.0 c.args.frame opened.frames c.requires.framed in
     let are = subst (λ (k : EventCircuitView). AreWays k c.enter_latch.new.frames c.enter_latch.new.table c.in_ok-child.child l.0 c.in_ok-ways.ways) eq (c.in_ok-ways.ensures.ways l.0 on_lent) in
     latch_expanded e sound c.enter_latch.new.frames c.child.new.self.children c.enter_latch.new.table c.args.place seen c.args.j l.0 drives l.1 c.in_ok-child.child c.in_ok-ways.ways c.args.frame at child are
+
+pub enter_latch-requires-clause-frames : goal.enter_latch-requires-clause-frames
+enter_latch-requires-clause-frames c = subst (λ (k : EventWalkerView). length k.frames + 2 < 2 ^ 32) (sym c.self.view_is) c.requires.frames
+
+pub returns-clause-many : goal.returns-clause-many
+returns-clause-many c = λ is. ok_apart _ _ is
+
+pub returns-clause-large : goal.returns-clause-large
+returns-clause-large c = λ is. ok_apart _ _ is
+
+pub returns-then-nodes-ge-NODES-clause-large : goal.returns-then-nodes-ge-NODES-clause-large
+returns-then-nodes-ge-NODES-clause-large c = λ is. many_apart is

@@ -13,7 +13,7 @@ use Rattle.event_walk.specs.declared.frames.Ways.{Ways}
 use Rattle.event_walk.specs.Walk.{IsSeen, IsVisitedPlace, IsWalk}
 use Rattle.event_walk.proofs.Exact.{exact_first, exact_more, counting_more, counting_on}
 use Rattle.event_walk.proofs.Opening.{walk_first, walk_more}
-use Rattle.event_walk.proofs.Stepping.{nodes_none}
+use Rattle.event_walk.proofs.Stepping.{refused_memory, refused_ok, nodes_none}
 use Rattle.event_walk.proofs.walker.EventWalker.visited.Goals as goal
 
 pub loop-at-init : goal.loop-at-init
@@ -134,3 +134,9 @@ returns-in_err-next-clause-grows c = grows_trans c.args.events.now c.loop-at.eve
 
 pub returns-in_err-push-clause-grows : goal.returns-in_err-push-clause-grows
 returns-in_err-push-clause-grows c = grows_trans c.args.events.now c.loop-at.events c.expand.new.events c.loop-at.invariant.walk.opened.grows c.expand.ensures.step.opened.grows
+
+pub returns-clause-refused : goal.returns-clause-refused
+returns-clause-refused c = refused_ok _ _ _ _
+
+pub returns-in_default-clause-refused : goal.returns-in_default-clause-refused
+returns-in_default-clause-refused c = refused_memory _ _ _
