@@ -1,4 +1,4 @@
--- A latch whose bit isn't set isn't enabled.
+-- A latch is enabled where its bit is set.
 use Rattle.std.proofs.Common.{◌≡◌, ◌∙◌, ℕ, Bool, true, false, List, get_or, slice_get, Some, refl, sym, ap, subst, arith, inl, inr}
 use Rattle.std.specs.Prelude.{◌⊎◌, ◌↔◌}
 use Rattle.flat_net.specs.circuit_theory.Circuit.{IsLatch}
@@ -18,6 +18,14 @@ bit_off e v same is bits are j l at off on =
     let bit = some_at e.enabled j (omega (arith, inside, own.marks.each)) in
     let set = (own.marks.exactly j l bit.0 at bit.1).1 on in
     false≢true (sym off ∙ (ap (λ (bs : List Bool). get_or bs j false) (are ∙ ap (λ (k : EventCircuitView). k.enabled) same) ∙ (get_or_from_slice_get e.enabled j bit.0 false bit.1 ∙ set)))
+
+pub bit_on : (e v : EventCircuitView) → v ≡ e → IsEventCircuit v → (bits : List Bool) → bits ≡ v.enabled → (j : ℕ) (l : LatchAt) → slice_get e.net.latches j ≡ Some l → get_or bits j false ≡ true → Enabled e l.out.0
+bit_on e v same is bits are j l at on =
+    let own : IsEventCircuit e = subst IsEventCircuit same is in
+    let inside = slice_get_within e.net.latches j l at in
+    let bit = some_at e.enabled j (omega (arith, inside, own.marks.each)) in
+    let read = ap (λ (bs : List Bool). get_or bs j false) (are ∙ ap (λ (k : EventCircuitView). k.enabled) same) ∙ get_or_from_slice_get e.enabled j bit.0 false bit.1 in
+    (own.marks.exactly j l bit.0 at bit.1).0 (sym read ∙ on)
 
 -- the bits tell whether a latch is enabled
 pub kind_of : (e : EventCircuitView) → IsSound e.net → IsEventCircuit e → (name : List ℕ) (v next : ℕ) → IsLatch (circuit_of e.net) name v next → Enabled e v ⊎ (Enabled e v → ⊥)

@@ -1,11 +1,13 @@
 -- One place more is counted.
-use Rattle.std.proofs.Common.{◌≡◌, ◌∙◌, ◌+◌, ◌-◌, ◌^◌, ◌<◌, ◌≤◌, ℕ, List, [], ◌∷◌, ◌++◌, length, ap, arith, inl, inr}
+use Rattle.std.proofs.Common.{◌≡◌, ◌∙◌, ◌+◌, ◌-◌, ◌^◌, ◌<◌, ◌≤◌, ℕ, List, [], ◌∷◌, ◌++◌, length, Result, Ok, Err, ap, arith, inl, inr}
 use Rattle.std.specs.Prelude.{◌⊎◌}
 use Rattle.std.specs.List.{Contains}
 use Rattle.std.proofs.lemmas.List.Sums.{sum_by_push}
 use Rattle.flat_net.specs.Sound.{IsSound}
 use Rattle.flat_net.specs.View.{NetView}
 use Rattle.flat_net.proofs.Growth.{length-push}
+use Rattle.event_nodes.specs.declared.error.EventUnfoldError.{EventUnfoldError}
+use Rattle.event_nodes.specs.declared.error.EventUnfoldError.TheVariants as unfold_error
 use Rattle.event_nodes.specs.Visited.{CounterView, IsWeighed, places_weight}
 use Rattle.event_nodes.specs.Weights.{weight_at}
 use Rattle.event_nodes.proofs.Drivers.{weight_positive}
@@ -51,3 +53,10 @@ room_for_place n c w = omega (arith, w.few, w.small)
 
 pub weight_fits : (w more : ℕ) → w ≤ 2000000 → more ≤ 2000000 - w → w + more < 2 ^ 32
 weight_fits w more small room = omega (arith, small, room)
+
+-- a value is no refusal
+pub ok_apart : {X P : Type 0} {v : X} (e : EventUnfoldError) → ◌≡◌ {A = Result X EventUnfoldError} (Ok v) (Err e) → P
+ok_apart e q = cc
+
+pub large_apart : {X : Type 0} → ◌≡◌ {A = Result X EventUnfoldError} (Err unfold_error.TooLarge) (Err unfold_error.TooManyEvents) → ⊥
+large_apart q = cc

@@ -123,7 +123,6 @@ impl EventGraph {
         ensures same { self.new ≡ record self.old { children = self.new.children } }
         ensures err { OnErr result (self.new ≡ self.old) }
     {
-        self.children.keeps();
         let entry = self.children.intern(node, class)?;
         self.children.keeps();
         Ok(entry + 1)
@@ -141,7 +140,6 @@ impl EventGraph {
         ensures places { length self.new.places ≤ length self.old.places + 1 }
         ensures same { self.new.children ≡ self.old.children }
     {
-        self.places.keeps();
         let variable = self.places.intern(input, node)?;
         self.places.keeps();
         let made = self.aig.input(variable);

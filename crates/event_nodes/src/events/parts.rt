@@ -41,7 +41,6 @@ impl EventGraph {
         ensures places { length self.new.places ≤ length self.old.places + 1 }
         ensures same { self.new ≡ record self.old { places = self.new.places } }
     {
-        self.places.keeps();
         let variable = self.places.intern(input, node)?;
         self.places.keeps();
         Ok(variable)

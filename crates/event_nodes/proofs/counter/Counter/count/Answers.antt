@@ -4,7 +4,7 @@ use Rattle.std.specs.List.{Contains}
 use Rattle.flat_net.proofs.circuit_theory.Lists.{of_at}
 use Rattle.event_nodes.specs.Adds.{Adds}
 use Rattle.event_nodes.specs.Visited.{CounterView, IsWeighed}
-use Rattle.event_nodes.proofs.Counting.{counted_cases, counted_old, counted_new, room_for_place, weight_fits, weighed_more}
+use Rattle.event_nodes.proofs.Counting.{counted_cases, counted_old, counted_new, room_for_place, weight_fits, weighed_more, passed_weight, ok_apart, large_apart}
 use Rattle.event_nodes.proofs.Lists.{adds_none}
 use Rattle.event_nodes.proofs.Table.{interned}
 use Rattle.event_nodes.proofs.counter.Counter.count.Goals as goal
@@ -56,3 +56,24 @@ returns-clause-weighed c =
     let cases = counted_cases c.self.inside.places c.intern.new.self (c.args.node, c.args.s.0) c.in_ok-intern.ensures.known c.in_ok-intern.ensures.added in
     weighed_more c.args.net.now c.keeps.ensures.sound (record { places = c.self.inside.places; weight = c.self.inside.weight }) (subst (IsWeighed c.args.net.now) (sym c.self.view_is) c.requires.weighed) c.intern.new.self (c.args.node, c.args.s.0)
     (counted_new _ _ _ cases (λ same. c.if-after-before.false (c.len-after.ensures ∙ (same ∙ sym c.len-before.ensures)))) c.in-Some.more c.in-Some.ensures.here c.in-Some.ensures.room
+
+pub returns-in_default-clause-large : goal.returns-in_default-clause-large
+returns-in_default-clause-large c = λ is.
+    let cases = counted_cases c.self.inside.places c.intern.new.self (c.args.node, c.args.s.0) c.in_ok-intern.ensures.known c.in_ok-intern.ensures.added in
+    passed_weight c.args.net.now c.keeps.ensures.sound (record { places = c.self.inside.places; weight = c.self.inside.weight }) (subst (IsWeighed c.args.net.now) (sym c.self.view_is) c.requires.weighed) c.intern.new.self (c.args.node, c.args.s.0)
+    (counted_new _ _ _ cases (λ same. c.if-after-before.false (c.len-after.ensures ∙ (same ∙ sym c.len-before.ensures)))) c.in_default.ensures.none
+
+pub returns-in_default-clause-many : goal.returns-in_default-clause-many
+returns-in_default-clause-many c = λ is. large_apart is
+
+pub returns-clause-large : goal.returns-clause-large
+returns-clause-large c = λ is. ok_apart _ is
+
+pub returns-clause-many : goal.returns-clause-many
+returns-clause-many c = λ is. ok_apart _ is
+
+pub returns-then-after-before-clause-large : goal.returns-then-after-before-clause-large
+returns-then-after-before-clause-large c = λ is. ok_apart _ is
+
+pub returns-then-after-before-clause-many : goal.returns-then-after-before-clause-many
+returns-then-after-before-clause-many c = λ is. ok_apart _ is

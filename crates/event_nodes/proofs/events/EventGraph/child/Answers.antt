@@ -41,7 +41,7 @@ overflow_add-result c =
 pub invariant_of-self-2 : goal.invariant_of-self-2
 invariant_of-self-2 c =
     child_kept (record { graph = c.self.inside.aig; children = c.self.inside.children; places = c.self.inside.places }) c.intern.new.self (c.args.node, c.args.class) c.self.invariant
-    (subst (λ (w : EventGraphView). c.args.node ≤ length w.children) (sym c.self.view_is) c.requires.node) c.in_ok-entry.ensures.known c.in_ok-entry.ensures.added c.keeps-2.ensures
+    (subst (λ (w : EventGraphView). c.args.node ≤ length w.children) (sym c.self.view_is) c.requires.node) c.in_ok-entry.ensures.known c.in_ok-entry.ensures.added c.keeps.ensures
 
 pub returns-clause-here : goal.returns-clause-here
 returns-clause-here c = (c.in_ok-entry.entry, refl, c.in_ok-entry.ensures.here)

@@ -28,7 +28,7 @@ returns-in_err-variable-clause-same c = ap (λ (w : EventGraphView). record w { 
 pub invariant_of-self-2 : goal.invariant_of-self-2
 invariant_of-self-2 c =
     variable_kept (record { graph = c.self.inside.aig; children = c.self.inside.children; places = c.self.inside.places }) c.intern.new.self c.self.inside.aig (c.args.input, c.args.node) c.self.invariant
-    (subst (λ (w : EventGraphView). c.args.node ≤ length w.children) (sym c.self.view_is) c.requires.node) c.in_ok-variable.ensures.known c.in_ok-variable.ensures.added c.keeps-2.ensures c.self.invariant.is_graph
+    (subst (λ (w : EventGraphView). c.args.node ≤ length w.children) (sym c.self.view_is) c.requires.node) c.in_ok-variable.ensures.known c.in_ok-variable.ensures.added c.keeps.ensures c.self.invariant.is_graph
 
 pub returns-clause-here : goal.returns-clause-here
 returns-clause-here c = c.in_ok-variable.ensures.here

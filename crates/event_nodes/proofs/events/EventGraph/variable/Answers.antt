@@ -39,7 +39,7 @@ input-made-requires-clause-small c =
 pub invariant_of-self-2 : goal.invariant_of-self-2
 invariant_of-self-2 c =
     variable_kept (record { graph = c.self.inside.aig; children = c.self.inside.children; places = c.self.inside.places }) c.intern.new.self c.input-made.new.self (c.args.input, c.args.node) c.self.invariant
-    (subst (λ (w : EventGraphView). c.args.node ≤ length w.children) (sym c.self.view_is) c.requires.node) c.in_ok-variable.ensures.known c.in_ok-variable.ensures.added c.keeps-2.ensures c.keeps-3.ensures.graph
+    (subst (λ (w : EventGraphView). c.args.node ≤ length w.children) (sym c.self.view_is) c.requires.node) c.in_ok-variable.ensures.known c.in_ok-variable.ensures.added c.keeps.ensures c.keeps-2.ensures.graph
 
 pub returns-clause-here : goal.returns-clause-here
 returns-clause-here c = IfOk-weaker c.input-made.result _ _ (λ x h. (c.in_ok-variable.variable, c.in_ok-variable.ensures.here, h)) c.input-made.ensures.here
