@@ -1,12 +1,13 @@
 -- One row more is fed.
-use Rattle.std.proofs.Common.{◌≡◌, ◌∙◌, ◌+◌, ◌++◌, ◌∷◌, [], List, Bool, map, take, length, refl, sym, ap, subst, arith}
+use Rattle.std.proofs.Common.{◌≡◌, ◌<◌, ◌≤◌, ◌∙◌, ◌+◌, ◌++◌, ◌∷◌, [], List, Bool, map, take, length, refl, sym, ap, subst, arith}
 use Rattle.std.specs.Vec.{with_items}
-use Rattle.std.proofs.lemmas.List.{with_items_is, map-append, length-map}
+use Rattle.std.proofs.lemmas.List.{with_items_is, map-append, length-map, length-take-le, take_all}
+use Rattle.std.specs.List.{All}
 use Rattle.sec_base.proofs.TableLemmas.{take-push}
 use Rattle.cycle_sim.specs.View.{HasMarkedRun}
 use Rattle.cycle_sim.proofs.Lists.{item_at}
 use Rattle.sim_report.specs.Checks.{start_bits}
-use Rattle.sim_report.specs.Cycles.{reordered}
+use Rattle.sim_report.specs.Cycles.{PutsCycles, reordered}
 use Rattle.sim_report.proofs.Lines.{IsAt, at_more}
 use Rattle.sim_report.proofs.cycles.put_cycles.Goals as goal
 
@@ -31,3 +32,20 @@ loop-row-preserved c =
       subst (λ (done : List (List Bool)). IsAt n c.args.enabled.now power done c.put_next.new.sim c.args.text.now.items c.put_next.new.text.items) more next,
       ap length (written ∙ bits) ∙ length-map columns _,
     )
+
+pub reorder-requires-clause-within : goal.reorder-requires-clause-within
+reorder-requires-clause-within c =
+    subst (λ (z : List Bool). All (λ k. k < length z) c.args.columns.now) (sym (c.as_slice.ensures ∙ c.row-item.is)) (c.requires.within c.loop-row.row-index c.row-item.result c.loop-row-test.true)
+
+pub put_next-requires-clause-room : goal.put_next-requires-clause-room
+put_next-requires-clause-room c =
+    let done = map (reordered c.args.columns.now) (take c.loop-row.row-index c.args.rows.now) in
+    let gone : length done ≡ length (take c.loop-row.row-index c.args.rows.now) = length-map (take c.loop-row.row-index c.args.rows.now) (reordered c.args.columns.now) in
+    let inside : c.loop-row.row-index ≤ length c.args.rows.now = omega (arith, c.loop-row-test.true) in
+    let front = length-take-le c.loop-row.row-index c.args.rows.now inside in
+    omega (arith, c.loop-row.invariant.0.run.goes.cycles, gone, front, c.loop-row-test.true, c.requires.few)
+
+pub returns : goal.returns
+returns c =
+    subst (λ (zs : List (List Bool)). PutsCycles c.args.net.now c.args.enabled.now (start_bits c.args.net.now c.args.power.reset c.args.power.bits) (map (reordered c.args.columns.now) zs) c.args.text.now.items c.loop-row.text.items)
+    (take_all c.loop-row.row-index c.args.rows.now c.loop-row-test.false) c.loop-row.invariant.0.put
