@@ -1,4 +1,4 @@
-use Rattle.std.proofs.Common.{◌≡◌, ◌++◌, false, length, take, arith, sym, ◌∙◌, ap, subst}
+use Rattle.std.proofs.Common.{◌≡◌, ◌<◌, ◌++◌, false, length, take, arith, sym, ◌∙◌, ap, subst}
 use Rattle.std.proofs.lemmas.List.{length-append}
 use Rattle.sec_base.specs.Table.{is_among}
 use Rattle.elaborate.specs.declared.flat.FlatKind.{FlatKind}
@@ -45,3 +45,15 @@ loop-statement-preserved c =
           c.in_ok-add_latch.ensures.signals),
       c.in_ok-add_latch.ensures.covers ∙ c.loop-statement.invariant.1,
     )
+
+pub name-requires : goal.name-requires
+name-requires c =
+    let at = statement_at c.args.flat.now.statements c.as_slice-statement-items.result.now c.loop-statement.statement-index c.statement-item.result c.as_slice-statement-items.ensures c.loop-statement-test.true c.statement-item.is in
+    out_within (length c.args.flat.now.names) c.args.flat.now.statements c.loop-statement.statement-index c.statement-item.result c.args.flat.now.within at
+
+pub add_latch-requires-clause-number : goal.add_latch-requires-clause-number
+add_latch-requires-clause-number c =
+    let at = statement_at c.args.flat.now.statements c.as_slice-statement-items.result.now c.loop-statement.statement-index c.statement-item.result c.as_slice-statement-items.ensures c.loop-statement-test.true c.statement-item.is in
+    let l = out_within (length c.args.flat.now.names) c.args.flat.now.statements c.loop-statement.statement-index c.statement-item.result c.args.flat.now.within at in
+    let has = c.loop-statement.invariant.0 c.requires.0 c.requires.1 in
+    subst (λ n. c.statement-item.result.out < n) (sym has.built.size) l
