@@ -1,0 +1,9 @@
+use Rattle.lrat_core.specs.lrat_text.Spellings.{id_of}
+use Rattle.lrat_core.proofs.Loops.{map_more, map_whole}
+use Rattle.lrat_core.proofs.lrat_text.addition.put_ids.Goals as goal
+
+pub loop-number-preserved : goal.loop-number-preserved
+loop-number-preserved c = map_more id_of c.args.ids.now.items c.loop-number.ids.items c.push.new.self.items c.args.numbers.now c.loop-number.number-index _ c.id_of.result c.loop-number.invariant c.in_ok-push.ensures.items c.id_of.ensures c.loop-number-test.true
+
+pub returns : goal.returns
+returns c = map_whole id_of c.args.ids.now.items c.loop-number.ids.items c.args.numbers.now c.loop-number.number-index c.loop-number.invariant c.loop-number-test.false
