@@ -9,20 +9,21 @@ use flat_net::{Net, Signal, Signals};
 use flatten::flatten;
 use latch_cone::none_enabled;
 use latch_graph::{LatchGraph, Weight};
-use row_text::Telling;
-use sec_base::{Ids, MAX_FILE_BYTES, NoMemory, Shelf};
+use row_text::{file_of, show, show_count};
+use sec_base::{Ids, MAX_FILE_BYTES, NoMemory};
 use std::alloc::Global;
+use std::rt::HostRuntime;
 
 /// The weight up to which an unfolding is weighed.
 const MOST: u32 = 1_000;
 
 /// The net of a circuit, if it is without a fault.
-pub fn net_of<S: Shelf>(out: &mut Telling, data: &mut S, path: &str) -> Option<Net> {
-    let text = out.file(data, path)?;
+pub(crate) fn net_of(rt: &HostRuntime, path: &str) -> Option<Net> {
+    let text = file_of(rt, path)?;
     if text.len() > MAX_FILE_BYTES as usize {
         return None;
     }
-    net_in(out.alloc(), text.as_slice())
+    net_in(rt.alloc(), text.as_slice())
 }
 
 fn net_in(alloc: Global, text: &[u8]) -> Option<Net>
@@ -42,65 +43,65 @@ fn graph_of(alloc: Global, net: &Net) -> Result<LatchGraph, NoMemory>
     LatchGraph::new(alloc, net, &none)
 }
 
-/// Puts the depth and the weight of each output, and a cycle of latches.
-pub fn put_graph<S: Shelf>(out: &mut Telling, data: &mut S, path: &str) {
-    match net_of(out, data, path) {
-        Some(net) => put_graph_of(out, &net),
-        None => out.lose(),
+/// Shows the depth and the weight of each output, and a cycle of latches.
+pub(crate) fn show_graph(rt: &HostRuntime, path: &str) {
+    match net_of(rt, path) {
+        Some(net) => show_graph_of(rt, &net),
+        None => show(rt, b"no net\n"),
     }
 }
 
-fn put_graph_of(out: &mut Telling, net: &Net) {
-    match graph_of(out.alloc(), net) {
+fn show_graph_of(rt: &HostRuntime, net: &Net) {
+    match graph_of(rt.alloc(), net) {
         Ok(graph) => {
-            put_outputs(out, net, &graph);
-            put_cycle(out, net, &graph);
+            show_outputs(rt, net, &graph);
+            show_cycle(rt, net, &graph);
         }
-        Err(_) => out.lose(),
+        Err(_) => show(rt, b"lost"),
     }
 }
 
-fn put_outputs(out: &mut Telling, net: &Net, graph: &LatchGraph)
+fn show_outputs(rt: &HostRuntime, net: &Net, graph: &LatchGraph)
     requires { IsGraphIn Plain net.now graph.now }
 {
     for i in 0..net.outputs().len() {
-        put_output(out, net, graph, i);
+        show_output(rt, net, graph, i);
     }
 }
 
-/// Puts the depth of the output, what its unfolding weighs, and that it weighs more than one less.
-fn put_output(out: &mut Telling, net: &Net, graph: &LatchGraph, i: usize)
+/// Shows the depth of the output, what its unfolding weighs, and that it weighs more than one less.
+fn show_output(rt: &HostRuntime, net: &Net, graph: &LatchGraph, i: usize)
     requires graph { IsGraphIn Plain net.now graph.now }
     requires place { i < length net.now.outputs }
 {
     net.keeps();
     let signal = net.outputs()[i].signal;
-    out.put(b"output depth");
+    show(rt, b"output depth");
     match graph.depth(signal) {
-        Some(depth) => out.put_count(u64::from(depth)),
-        None => out.put(b" -"),
+        Some(depth) => show_count(rt, u64::from(depth)),
+        None => show(rt, b" -"),
     }
-    out.put(b" weight");
-    match weight_of(out.alloc(), net, graph, signal, MOST) {
+    show(rt, b" weight");
+    match weight_of(rt.alloc(), net, graph, signal, MOST) {
         Ok(Weight::Within(weight)) => {
-            out.put_count(u64::from(weight));
-            put_over(out, net, graph, signal, weight.saturating_sub(1));
+            show_count(rt, u64::from(weight));
+            show_over(rt, net, graph, signal, weight.saturating_sub(1));
         }
-        Ok(Weight::Over) => out.put(b" over"),
-        Err(_) => out.lose(),
+        Ok(Weight::Over) => show(rt, b" over"),
+        Err(_) => show(rt, b"lost"),
     }
-    out.put(b"\n");
+    show(rt, b"\n");
 }
 
-/// Puts whether the unfolding weighs more.
-fn put_over(out: &mut Telling, net: &Net, graph: &LatchGraph, signal: Signal, weight: u32)
+/// Shows whether the unfolding weighs more.
+fn show_over(rt: &HostRuntime, net: &Net, graph: &LatchGraph, signal: Signal, weight: u32)
     requires graph { IsGraphIn Plain net.now graph.now }
     requires signal { signal.0 < length net.now.drivers }
 {
-    match weight_of(out.alloc(), net, graph, signal, weight) {
-        Ok(Weight::Over) => out.put(b", no less"),
-        Ok(Weight::Within(_)) => out.put(b", less"),
-        Err(_) => out.lose(),
+    match weight_of(rt.alloc(), net, graph, signal, weight) {
+        Ok(Weight::Over) => show(rt, b", no less"),
+        Ok(Weight::Within(_)) => show(rt, b", less"),
+        Err(_) => show(rt, b"lost"),
     }
 }
 
@@ -119,19 +120,25 @@ fn weight_of(
     graph.weight(alloc, net, &signals, cap)
 }
 
-/// Puts the positions of the latches of a cycle, or that there is none.
-fn put_cycle(out: &mut Telling, net: &Net, graph: &LatchGraph)
+/// Shows the positions of the latches of a cycle, or that there is none.
+fn show_cycle(rt: &HostRuntime, net: &Net, graph: &LatchGraph)
     requires { IsGraphIn Plain net.now graph.now }
 {
-    match cycle_of(out.alloc(), net, graph) {
+    match cycle_of(rt.alloc(), net, graph) {
         Ok(Some(positions)) => {
-            out.put(b"cycle");
-            out.put_counts(positions.as_slice());
+            show(rt, b"cycle");
+            show_counts(rt, positions.as_slice());
         }
-        Ok(None) => out.put(b"acyclic"),
-        Err(_) => out.lose(),
+        Ok(None) => show(rt, b"acyclic"),
+        Err(_) => show(rt, b"lost"),
     }
-    out.put(b"\n");
+    show(rt, b"\n");
+}
+
+fn show_counts(rt: &HostRuntime, numbers: &[u32]) {
+    for number in numbers {
+        show_count(rt, u64::from(*number));
+    }
 }
 
 fn cycle_of(alloc: Global, net: &Net, graph: &LatchGraph) -> Result<Option<Ids>, NoMemory>

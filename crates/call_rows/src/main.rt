@@ -29,10 +29,9 @@ mod stimuli;
 mod tables;
 mod words;
 
-use row_text::{show, show_rows, split_at};
+use row_text::{file_of, show, split_at};
 use shelves::{show_files, show_shelf};
 use sinks::show_sink;
-use std::process::ExitCode;
 use std::rt::HostRuntime;
 use tables::{show_names, show_places};
 
@@ -44,37 +43,54 @@ enum Asked {
     Shelves,
     Sinks,
     Files,
+    Clauses,
+    Calls,
 }
 
-fn show_told(rt: &HostRuntime, asked: Asked, words: &[u8]) {
+/// Shows a name, and what the words behind it tell.
+fn show_named(rt: &HostRuntime, asked: Asked, row: &[u8]) {
+    let (name, words) = split_at(b'\t', row);
+    show(rt, name);
+    show(rt, b":");
     match asked {
         Asked::Names => show_names(rt, words),
         Asked::Places => show_places(rt, words),
         Asked::Shelves => show_shelf(rt, words),
         Asked::Sinks => show_sink(rt, words),
-        Asked::Files => show_files(rt, words),
+        _ => show_files(rt, words),
     }
-}
-
-fn show_row(rt: &HostRuntime, asked: Asked, row: &[u8]) {
-    let (name, words) = split_at(b'\t', row);
-    show(rt, name);
-    show(rt, b":");
-    show_told(rt, asked, words);
     show(rt, b"\n");
 }
 
-/// Shows what each row of the file tells, one on a line.
-fn show_file(rt: &HostRuntime, asked: Asked, path: &str) {
-    show_rows(rt, path, |row| show_row(rt, asked, row));
+fn show_row(rt: &HostRuntime, asked: Asked, row: &[u8]) {
+    match asked {
+        Asked::Clauses => formulas::show_row(rt, row),
+        Asked::Calls => calls::show_row(rt, row),
+        _ => show_named(rt, asked, row),
+    }
 }
 
-fn main(rt: HostRuntime) -> ExitCode {
+/// Shows what each row of the file tells.
+fn show_file(rt: &HostRuntime, asked: Asked, path: &str) {
+    let Some(rows) = file_of(rt, path) else {
+        return show(rt, b"no rows\n");
+    };
+    let mut rest = rows.as_slice();
+    for _ in 0..rows.len() {
+        let (row, later) = split_at(b'\n', rest);
+        if !row.is_empty() {
+            show_row(rt, asked, row);
+        }
+        rest = later;
+    }
+}
+
+fn main(rt: HostRuntime) {
     show_file(&rt, Asked::Names, "names");
     show_file(&rt, Asked::Places, "places");
     show_file(&rt, Asked::Shelves, "shelves");
     show_file(&rt, Asked::Sinks, "sinks");
     show_file(&rt, Asked::Files, "files");
-    show_rows(&rt, "clauses", |row| formulas::show_row(&rt, row));
-    calls::show_calls(&rt)
+    show_file(&rt, Asked::Clauses, "clauses");
+    show_file(&rt, Asked::Calls, "calls");
 }

@@ -6,9 +6,10 @@ use crate::circuits::net_of;
 use cycle_sim::{MarkedSim, Power};
 use flat_net::Net;
 use latch_cone::none_enabled;
-use row_text::Telling;
-use sec_base::{NoMemory, Shelf};
+use row_text::show;
+use sec_base::NoMemory;
 use std::alloc::Global;
+use std::rt::HostRuntime;
 
 /// The bits of a row of digits.
 fn bits_of(alloc: Global, digits: &str) -> Result<Vec<bool>, NoMemory> {
@@ -19,12 +20,12 @@ fn bits_of(alloc: Global, digits: &str) -> Result<Vec<bool>, NoMemory> {
     Ok(bits)
 }
 
-/// Puts the values and the marks of the outputs in each cycle of the run.
-pub fn put_run<S: Shelf>(out: &mut Telling, data: &mut S, words: &str) {
+/// Shows the values and the marks of the outputs in each cycle of the run.
+pub(crate) fn show_ones(rt: &HostRuntime, words: &str) {
     let (path, rows) = words.split_once(' ').unwrap_or((words, ""));
-    match net_of(out, data, path) {
-        Some(net) => put_cycles(out, &net, rows),
-        None => out.lose(),
+    match net_of(rt, path) {
+        Some(net) => show_cycles(rt, &net, rows),
+        None => show(rt, b"no net\n"),
     }
 }
 
@@ -36,51 +37,48 @@ fn at_ones(alloc: Global, net: &Net) -> Result<MarkedSim<'_>, NoMemory>
     MarkedSim::new(alloc, net, &Power::Ones, &enabled)
 }
 
-fn put_cycles(out: &mut Telling, net: &Net, rows: &str) {
-    let Ok(mut marked) = at_ones(out.alloc(), net) else {
-        out.lose();
-        return;
+fn show_cycles(rt: &HostRuntime, net: &Net, rows: &str) {
+    let Ok(mut marked) = at_ones(rt.alloc(), net) else {
+        return show(rt, b"lost\n");
     };
     for row in rows.split_whitespace() {
-        put_cycle(out, net, &mut marked, row);
+        show_cycle(rt, net, &mut marked, row);
     }
 }
 
-/// Takes one cycle over the row, and puts the values and the marks of the outputs in it.
-fn put_cycle(out: &mut Telling, net: &Net, marked: &mut MarkedSim<'_>, row: &str)
+/// Takes one cycle over the row, and shows the values and the marks of the outputs in it.
+fn show_cycle(rt: &HostRuntime, net: &Net, marked: &mut MarkedSim<'_>, row: &str)
     requires { marked.old.sim.net ≡ net.now }
     ensures { marked.new.sim.net ≡ marked.old.sim.net }
 {
-    let Ok(inputs) = bits_of(out.alloc(), row) else {
-        out.lose();
-        return;
+    let Ok(inputs) = bits_of(rt.alloc(), row) else {
+        return show(rt, b"lost\n");
     };
     if inputs.len() != net.inputs().len() || marked.cycles() > 1_000 {
-        out.lose();
-        return;
+        return show(rt, b"lost\n");
     }
     marked.step(inputs.as_slice());
-    put_outputs(out, net, marked);
+    show_outputs(rt, net, marked);
 }
 
-/// Puts the values and the marks of the outputs in the latest cycle.
-fn put_outputs(out: &mut Telling, net: &Net, marked: &MarkedSim<'_>)
+/// Shows the values and the marks of the outputs in the latest cycle.
+fn show_outputs(rt: &HostRuntime, net: &Net, marked: &MarkedSim<'_>)
     requires net { marked.now.sim.net ≡ net.now }
     requires begun { 0 < marked.now.sim.cycles }
 {
-    out.put(b"values");
+    show(rt, b"values");
     for (place, _) in net.outputs().iter().enumerate() {
         let Ok(output) = u32::try_from(place) else {
             break;
         };
-        out.put_bit(marked.output(output));
+        show(rt, if marked.output(output) { b" 1" } else { b" 0" });
     }
-    out.put(b" marks");
+    show(rt, b" marks");
     for (place, _) in net.outputs().iter().enumerate() {
         let Ok(output) = u32::try_from(place) else {
             break;
         };
-        out.put_bit(marked.mark(output));
+        show(rt, if marked.mark(output) { b" 1" } else { b" 0" });
     }
-    out.put(b"\n");
+    show(rt, b"\n");
 }

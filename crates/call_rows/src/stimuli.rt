@@ -1,44 +1,40 @@
 //! Stimuli, read and written again.
 
-ghost use Rattle.std.specs.Prelude.{◌+◌, ◌^◌, ◌<◌, length};
-
-use row_text::Telling;
-use sec_base::{MAX_FILE_BYTES, Shelf};
+use row_text::{file_of, show, show_count};
+use sec_base::MAX_FILE_BYTES;
+use std::rt::HostRuntime;
 use witness_report::{StimError, Stimulus, read_stimulus, reads_back, write_stimulus};
 
-/// Puts the stimulus as it is written, or its faulty line.
-pub fn put_stimulus<S: Shelf>(out: &mut Telling, data: &mut S, path: &str) {
-    let Some(text) = out.file(data, path) else {
-        return;
-    };
+/// Shows the stimulus as it is written, or its faulty line.
+pub(crate) fn show_stimulus(rt: &HostRuntime, path: &str) {
+    match file_of(rt, path) {
+        Some(text) => show_text(rt, text.as_slice()),
+        None => show(rt, b"lost\n"),
+    }
+}
+
+fn show_text(rt: &HostRuntime, text: &[u8]) {
     if text.len() > MAX_FILE_BYTES as usize {
-        out.lose();
-        return;
+        return show(rt, b"too long\n");
     }
-    put_read(out, text.as_slice());
-}
-
-fn put_read(out: &mut Telling, text: &[u8])
-    requires { length text.now + 2 < 2 ^ 32 }
-{
-    match read_stimulus(out.alloc(), text) {
-        Ok(stimulus) => put_written(out, &stimulus),
-        Err(StimError::BadHeader { line }) => put_fault(out, b"no header in line", line),
-        Err(StimError::BadRow { line }) => put_fault(out, b"no row in line", line),
-        Err(StimError::NoMemory) => out.lose(),
+    match read_stimulus(rt.alloc(), text) {
+        Ok(stimulus) => show_written(rt, &stimulus),
+        Err(StimError::BadHeader { line }) => show_fault(rt, b"no header in line", line),
+        Err(StimError::BadRow { line }) => show_fault(rt, b"no row in line", line),
+        Err(StimError::NoMemory) => show(rt, b"lost\n"),
     }
 }
 
-fn put_fault(out: &mut Telling, fault: &[u8], line: u32) {
-    out.put(fault);
-    out.put_count(u64::from(line));
-    out.put(b"\n");
+fn show_fault(rt: &HostRuntime, fault: &[u8], line: u32) {
+    show(rt, fault);
+    show_count(rt, u64::from(line));
+    show(rt, b"\n");
 }
 
-fn put_written(out: &mut Telling, stimulus: &Stimulus) {
+fn show_written(rt: &HostRuntime, stimulus: &Stimulus) {
     reads_back(stimulus);
-    match write_stimulus(out.alloc(), stimulus) {
-        Ok(text) => out.put(text.as_slice()),
-        Err(_) => out.lose(),
+    match write_stimulus(rt.alloc(), stimulus) {
+        Ok(text) => show(rt, text.as_slice()),
+        Err(_) => show(rt, b"lost\n"),
     }
 }

@@ -1,10 +1,8 @@
 //! Rows of a file, and what stands in them.
 
-use crate::pieces::{file_of, show};
 use crate::telling::Telling;
 use sec_base::NoMemory;
 use std::alloc::Global;
-use std::rt::HostRuntime;
 
 /// The parts of the bytes before and behind the first such byte; all and none where there is none.
 pub fn split_at(mark: u8, bytes: &[u8]) -> (&[u8], &[u8]) {
@@ -17,24 +15,6 @@ pub fn split_at(mark: u8, bytes: &[u8]) -> (&[u8], &[u8]) {
         }
     }
     (bytes, &[])
-}
-
-/// Calls the function for each row of the file at the path that isn't empty, one after another; writes that there are no rows
-/// where the file isn't read.
-pub fn show_rows<F: Fn(&[u8])>(rt: &HostRuntime, path: &str, show_row: F)
-    requires { F.IsAlwaysCallable show_row }
-{
-    let Some(rows) = file_of(rt, path) else {
-        return show(rt, b"no rows\n");
-    };
-    let mut rest = rows.as_slice();
-    for _ in 0..rows.as_slice().len() {
-        let (row, later) = split_at(b'\n', rest);
-        if !row.is_empty() {
-            show_row(row);
-        }
-        rest = later;
-    }
 }
 
 /// The words of the text, which blanks part.

@@ -1,8 +1,8 @@
 //! Runs with a read that fails, or a write that is cut short.
 
-use crate::files::shelf_of;
-use crate::one_run::{show_run, show_short_write};
-use row_text::{show, show_count};
+use crate::one_run::show_run;
+use row_text::{shelf_of, show, show_count};
+use sec_base::MemShelf;
 use std::rt::HostRuntime;
 
 /// The exit status of a read fault.
@@ -21,20 +21,23 @@ fn show_failing_read(rt: &HostRuntime, words: &[String], files: &str, fails: u32
     show_count(rt, u64::from(fails));
     show(rt, b" fails\n");
     let mut shelf = shelf_of(rt, files, fails);
-    if show_run(rt, words, &mut shelf).code == READ_FAULT {
+    if show_run(rt, words, &mut shelf, None, 0).code == READ_FAULT {
         show(rt, b"once more\n");
-        show_run(rt, words, &mut shelf);
+        show_run(rt, words, &mut shelf, None, 0);
     }
 }
 
-/// Runs the words, and then with a write that takes each number of bytes from none on, as long as that is less than the report.
-pub(crate) fn show_short_writes(rt: &HostRuntime, words: &[String], files: &str) {
-    let mut shelf = shelf_of(rt, files, 0);
-    let whole = show_run(rt, words, &mut shelf).taken;
+/// Runs the words with a write that takes each number of bytes from none on, as long as that is less than the report.
+pub(crate) fn show_short_writes(
+    rt: &HostRuntime,
+    words: &[String],
+    shelf: &mut MemShelf,
+    whole: usize,
+) {
     for keep in 0..whole {
         show(rt, b"the write takes");
         show_count(rt, keep as u64);
         show(rt, b"\n");
-        show_short_write(rt, words, &mut shelf, keep);
+        show_run(rt, words, shelf, Some(1), keep);
     }
 }
