@@ -5,7 +5,7 @@ ghost use Rattle.std.specs.Prelude.{◌≤◌, length};
 use crate::formulas::MANY;
 use crate::row_parts::{literals_of, log_of};
 use crate::words::{show_counted, show_error, show_literals};
-use proof_check::{Clause, ClauseError, Clauses, Literals, Log, check_chains, check_log};
+use proof_check::{Clause, ClauseError, Clauses, Log, check_chains, check_log};
 use row_text::show;
 use sec_base::Duplicate;
 use std::rt::HostRuntime;
@@ -21,31 +21,13 @@ fn show_copy(rt: &HostRuntime, clause: &Clause) {
     }
 }
 
-fn show_made(rt: &HostRuntime, literals: &Literals) {
-    match Clause::new(rt.alloc(), literals) {
+/// Shows the clause of literals, by an equal one, with its length.
+pub(crate) fn show_clause(rt: &HostRuntime, text: &[u8]) {
+    let literals = literals_of(rt, text);
+    match Clause::new(rt.alloc(), &literals) {
         Ok(clause) => show_copy(rt, &clause),
         Err(ClauseError::Tautology) => show(rt, b"a tautology"),
         Err(ClauseError::NoMemory) => show(rt, b"no memory"),
-    }
-}
-
-/// Shows the clause of literals, by an equal one, with its length.
-pub(crate) fn show_clause(rt: &HostRuntime, text: &[u8]) {
-    match literals_of(rt.alloc(), text) {
-        Ok(literals) => show_made(rt, &literals),
-        Err(_) => show(rt, b"no memory"),
-    }
-}
-
-fn show_check(rt: &HostRuntime, clauses: &Clauses, log: &Log)
-    requires { length clauses.now ≤ 1000000 }
-{
-    if log.len() > MANY {
-        return show(rt, b"too many");
-    }
-    match check_log(rt.alloc(), clauses, log) {
-        Ok(checked) => show_counted(rt, checked.chains as usize, b" chains hold"),
-        Err(error) => show_error(rt, error),
     }
 }
 
@@ -53,9 +35,13 @@ fn show_check(rt: &HostRuntime, clauses: &Clauses, log: &Log)
 pub(crate) fn show_checked(rt: &HostRuntime, clauses: &Clauses, text: &[u8])
     requires { length clauses.now ≤ 1000000 }
 {
-    match log_of(rt.alloc(), text) {
-        Ok(log) => show_check(rt, clauses, &log),
-        Err(_) => show(rt, b"no memory"),
+    let log = log_of(rt, text);
+    if log.len() > MANY {
+        return show(rt, b"too many");
+    }
+    match check_log(rt.alloc(), clauses, &log) {
+        Ok(checked) => show_counted(rt, checked.chains as usize, b" chains hold"),
+        Err(error) => show_error(rt, error),
     }
 }
 
@@ -85,18 +71,10 @@ fn show_from_copy(rt: &HostRuntime, clauses: &Clauses, log: &Log) {
     }
 }
 
-/// The clauses that a copy of the log derives from a copy of the clauses.
-fn show_by_copy(rt: &HostRuntime, clauses: &Clauses, log: &Log) {
-    match log.duplicate(rt.alloc()) {
-        Ok(copy) => show_from_copy(rt, clauses, &copy),
-        Err(_) => show(rt, b"no memory"),
-    }
-}
-
 /// Shows the clauses that a log derives, read from copies of the clauses and of the log.
 pub(crate) fn show_derived(rt: &HostRuntime, clauses: &Clauses, text: &[u8]) {
-    match log_of(rt.alloc(), text) {
-        Ok(log) => show_by_copy(rt, clauses, &log),
+    match log_of(rt, text).duplicate(rt.alloc()) {
+        Ok(log) => show_from_copy(rt, clauses, &log),
         Err(_) => show(rt, b"no memory"),
     }
 }

@@ -1,6 +1,6 @@
 //! Latch graphs.
 
-ghost use Rattle.std.specs.Prelude.{◌<◌, ◌≤◌, length, IfOk};
+ghost use Rattle.std.specs.Prelude.{◌<◌, length, IfOk};
 ghost use Rattle.circuit_theory.specs.declared.Mode.TheVariants.{Plain};
 ghost use Rattle.signal_graph.specs.Graph.{IsGraphIn};
 
@@ -17,22 +17,21 @@ use std::rt::HostRuntime;
 /// The weight up to which an unfolding is weighed.
 const MOST: u32 = 1_000;
 
-/// The net of a circuit, if it is without a fault.
-pub(crate) fn net_of(rt: &HostRuntime, path: &str) -> Option<Net> {
-    let text = file_of(rt, path)?;
+/// The net of a text, if it is without a fault.
+pub(crate) fn net_in(alloc: Global, text: &[u8]) -> Option<Net> {
     if text.len() > MAX_FILE_BYTES as usize {
         return None;
     }
-    net_in(rt.alloc(), text.as_slice())
+    let Ok(design) = read_design(alloc, text) else {
+        return None;
+    };
+    flatten(alloc, &design).ok()
 }
 
-fn net_in(alloc: Global, text: &[u8]) -> Option<Net>
-    requires { length text.now ≤ 16777216 }
-{
-    match read_design(alloc, text) {
-        Ok(design) => flatten(alloc, &design).ok(),
-        Err(_) => None,
-    }
+/// The net of a file.
+pub(crate) fn net_of(rt: &HostRuntime, path: &str) -> Option<Net> {
+    let text = file_of(rt, path)?;
+    net_in(rt.alloc(), text.as_slice())
 }
 
 /// The graph of the net's latches.

@@ -38,28 +38,19 @@ fn show_more(rt: &HostRuntime, kind: &[u8], clauses: &Clauses, more: &[u8])
     if kind == b"chains".as_slice() {
         return show_derived(rt, clauses, more);
     }
-    match numbers_of(rt.alloc(), more) {
-        Ok(numbers) => show_numbers(rt, kind, clauses, numbers.as_slice()),
-        Err(_) => show(rt, b"no memory"),
-    }
-}
-
-fn show_formula(rt: &HostRuntime, kind: &[u8], clauses: &Clauses, more: &[u8]) {
-    if clauses.len() > MANY {
-        show(rt, b"too many");
-    } else {
-        show_more(rt, kind, clauses, more);
-    }
+    let numbers = numbers_of(rt, more);
+    show_numbers(rt, kind, clauses, numbers.as_slice());
 }
 
 fn show_kind(rt: &HostRuntime, kind: &[u8], formula: &[u8], more: &[u8]) {
     if kind == b"clause".as_slice() {
         return show_clause(rt, formula);
     }
-    match clauses_of(rt.alloc(), formula) {
-        Ok(clauses) => show_formula(rt, kind, &clauses, more),
-        Err(_) => show(rt, b"no memory"),
+    let clauses = clauses_of(rt, formula);
+    if clauses.len() > MANY {
+        return show(rt, b"too many");
     }
+    show_more(rt, kind, &clauses, more);
 }
 
 /// Shows what the row comes to.

@@ -13,12 +13,18 @@
 //! `calls`: `graph A` is the depth of each output of the circuit, the weight of its unfolding, and a cycle of latches; `ones A ROW..` the
 //! values and the marks of the outputs in each cycle, where each latch powers up with 1; `stimulus S` the stimulus as it is written
 //! again, or its faulty line. A and S are files of this folder. A row that begins with `#` is a remark.
+//! `enables`: the cone of each latch of a netlist, and what is found out about its enable at 0 conflicts and at 20,000.
+//! `blocks`: the coarsest inductive partition of the latches of two netlists, a line for each block.
+//! `classes`: the class of each enabled latch of two netlists, in the order in which they are given classes, and what tells each two classes
+//! apart; and so of `limited`, where no query has any conflicts. Here a row is a netlist in BLIF, or two with `;` between them, with `|` in
+//! place of each line feed; inputs at one position are one input.
 #![tactic(auto)]
 
 mod calls;
 mod checks;
 mod circuits;
 mod formulas;
+mod latches;
 mod resolution;
 mod row_parts;
 mod runs;
@@ -29,7 +35,9 @@ mod stimuli;
 mod tables;
 mod words;
 
+use latches::{show_blocks, show_classes, show_enables};
 use row_text::{file_of, show, split_at};
+use sec_base::DEFAULT_CONFLICTS;
 use shelves::{show_files, show_shelf};
 use sinks::show_sink;
 use std::rt::HostRuntime;
@@ -45,6 +53,10 @@ enum Asked {
     Files,
     Clauses,
     Calls,
+    Enables,
+    Blocks,
+    Classes,
+    Limited,
 }
 
 /// Shows a name, and what the words behind it tell.
@@ -66,6 +78,10 @@ fn show_row(rt: &HostRuntime, asked: Asked, row: &[u8]) {
     match asked {
         Asked::Clauses => formulas::show_row(rt, row),
         Asked::Calls => calls::show_row(rt, row),
+        Asked::Enables => show_enables(rt, row),
+        Asked::Blocks => show_blocks(rt, row),
+        Asked::Classes => show_classes(rt, row, DEFAULT_CONFLICTS),
+        Asked::Limited => show_classes(rt, row, 0),
         _ => show_named(rt, asked, row),
     }
 }
@@ -93,4 +109,8 @@ fn main(rt: HostRuntime) {
     show_file(&rt, Asked::Files, "files");
     show_file(&rt, Asked::Clauses, "clauses");
     show_file(&rt, Asked::Calls, "calls");
+    show_file(&rt, Asked::Enables, "enables");
+    show_file(&rt, Asked::Blocks, "blocks");
+    show_file(&rt, Asked::Classes, "classes");
+    show_file(&rt, Asked::Limited, "limited");
 }

@@ -30,14 +30,6 @@ fn show_steps(rt: &HostRuntime, resolver: &mut Resolver, clauses: &Clauses, pair
     }
 }
 
-fn start(rt: &HostRuntime, resolver: &mut Resolver, clauses: &Clauses) {
-    if let Some(first) = clauses.as_slice().first() {
-        if resolver.start(first.as_slice()).is_err() {
-            show(rt, b"no memory");
-        }
-    }
-}
-
 fn show_left(rt: &HostRuntime, resolver: &Resolver) {
     match resolver.clause() {
         Ok(clause) => show_literals(rt, clause.as_slice()),
@@ -48,7 +40,11 @@ fn show_left(rt: &HostRuntime, resolver: &Resolver) {
 /// Shows what a resolver makes of the first clause, by pairs of a pivot and a clause's number.
 pub(crate) fn show_resolved(rt: &HostRuntime, clauses: &Clauses, pairs: &[u32]) {
     let mut resolver = Resolver::new(rt.alloc());
-    start(rt, &mut resolver, clauses);
+    if let Some(first) = clauses.as_slice().first() {
+        if resolver.start(first.as_slice()).is_err() {
+            show(rt, b"no memory");
+        }
+    }
     show_steps(rt, &mut resolver, clauses, pairs);
     show_left(rt, &resolver);
 }

@@ -1,11 +1,23 @@
 //! Clauses and logs, read from a row.
 
 use proof_check::{Chain, Clause, Clauses, Literal, Literals, Log, Step, Steps};
-use row_text::{number_of, split_at};
+use row_text::{number_of, show, split_at};
 use sec_base::{NoMemory, Seq};
-use std::alloc::Global;
+use std::rt::HostRuntime;
 
-fn literal_by(digits: &[u8], is_positive: bool) -> Option<Literal> {
+/// Writes that a part is lost, where it wasn't put.
+fn note(rt: &HostRuntime, put: Result<(), NoMemory>) {
+    if put.is_err() {
+        show(rt, b"lost");
+    }
+}
+
+/// The literal of a DIMACS number, if it is one.
+fn literal_of(word: &[u8]) -> Option<Literal> {
+    let (digits, is_positive) = match word {
+        [b'-', digits @ ..] => (digits, false),
+        digits => (digits, true),
+    };
     let variable = number_of(digits)?;
     if variable == 0 || variable > 1_000 {
         return None;
@@ -13,34 +25,25 @@ fn literal_by(digits: &[u8], is_positive: bool) -> Option<Literal> {
     Some(Literal::new(variable as u32, is_positive))
 }
 
-/// The literal of a DIMACS number, if it is one.
-fn literal_of(word: &[u8]) -> Option<Literal> {
-    match word {
-        [b'-', digits @ ..] => literal_by(digits, false),
-        digits => literal_by(digits, true),
-    }
-}
-
 /// The literals of a text: its words that are some.
-pub(crate) fn literals_of(alloc: Global, text: &[u8]) -> Result<Literals, NoMemory> {
-    let mut literals = Seq::new(alloc);
+pub(crate) fn literals_of(rt: &HostRuntime, text: &[u8]) -> Literals {
+    let mut literals = Seq::new(rt.alloc());
     let mut rest = text;
     for _ in 0..text.len() {
         let (word, later) = split_at(b' ', rest);
         rest = later;
         if let Some(literal) = literal_of(word) {
-            literals.push(literal)?;
+            note(rt, literals.push(literal));
         }
     }
-    Ok(literals)
+    literals
 }
 
 /// Puts the clause of the literals of a text last, if they are one.
-fn add_clause(alloc: Global, clauses: &mut Clauses, text: &[u8]) -> Result<(), NoMemory> {
-    let literals = literals_of(alloc, text)?;
-    match Clause::new(alloc, &literals) {
-        Ok(clause) => clauses.push(clause),
-        Err(_) => Ok(()),
+fn add_clause(rt: &HostRuntime, clauses: &mut Clauses, text: &[u8]) {
+    let literals = literals_of(rt, text);
+    if let Ok(clause) = Clause::new(rt.alloc(), &literals) {
+        note(rt, clauses.push(clause));
     }
 }
 
@@ -60,17 +63,17 @@ fn split_at_zero(text: &[u8]) -> Option<(&[u8], &[u8])> {
 }
 
 /// The clauses of a text, each of which ends with a 0.
-pub(crate) fn clauses_of(alloc: Global, text: &[u8]) -> Result<Clauses, NoMemory> {
-    let mut clauses = Seq::new(alloc);
+pub(crate) fn clauses_of(rt: &HostRuntime, text: &[u8]) -> Clauses {
+    let mut clauses = Seq::new(rt.alloc());
     let mut rest = text;
     for _ in 0..text.len() {
         let Some((clause, later)) = split_at_zero(rest) else {
             break;
         };
-        add_clause(alloc, &mut clauses, clause)?;
+        add_clause(rt, &mut clauses, clause);
         rest = later;
     }
-    Ok(clauses)
+    clauses
 }
 
 fn small_number_of(word: &[u8]) -> Option<u32> {
@@ -78,56 +81,57 @@ fn small_number_of(word: &[u8]) -> Option<u32> {
 }
 
 /// The numbers of a text.
-pub(crate) fn numbers_of(alloc: Global, text: &[u8]) -> Result<Vec<u32>, NoMemory> {
-    let mut numbers = Vec::new(alloc);
+pub(crate) fn numbers_of(rt: &HostRuntime, text: &[u8]) -> Vec<u32> {
+    let mut numbers = Vec::new(rt.alloc());
     let mut rest = text;
     for _ in 0..text.len() {
         let (word, later) = split_at(b' ', rest);
         rest = later;
         if let Some(number) = small_number_of(word) {
-            numbers.push(number)?;
+            if numbers.push(number).is_err() {
+                show(rt, b"lost");
+            }
         }
     }
-    Ok(numbers)
+    numbers
 }
 
 /// Steps from pairs of a pivot and a clause's number.
-fn steps_of(alloc: Global, pairs: &[u32]) -> Result<Steps, NoMemory> {
-    let mut steps = Seq::new(alloc);
+fn steps_of(rt: &HostRuntime, pairs: &[u32]) -> Steps {
+    let mut steps = Seq::new(rt.alloc());
     for pair in pairs.chunks_exact(2) {
         if let [pivot, clause] = pair {
-            steps.push(Step {
+            let step = Step {
                 pivot: *pivot,
                 clause: *clause,
-            })?;
+            };
+            note(rt, steps.push(step));
         }
     }
-    Ok(steps)
-}
-
-fn push_chain(alloc: Global, log: &mut Log, start: u32, pairs: &[u32]) -> Result<(), NoMemory> {
-    let steps = steps_of(alloc, pairs)?;
-    log.push(Chain { start, steps })
+    steps
 }
 
 /// Puts the chain of the numbers of a text last, if there are any.
-fn add_chain(alloc: Global, log: &mut Log, text: &[u8]) -> Result<(), NoMemory> {
-    let numbers = numbers_of(alloc, text)?;
-    match numbers.as_slice() {
-        [start, pairs @ ..] => push_chain(alloc, log, *start, pairs),
-        [] => Ok(()),
+fn add_chain(rt: &HostRuntime, log: &mut Log, text: &[u8]) {
+    let numbers = numbers_of(rt, text);
+    if let [start, pairs @ ..] = numbers.as_slice() {
+        let chain = Chain {
+            start: *start,
+            steps: steps_of(rt, pairs),
+        };
+        note(rt, log.push(chain));
     }
 }
 
 /// The log of a text: chains with commas between, each the number of its first clause and then pairs
 /// of a pivot and a clause's number.
-pub(crate) fn log_of(alloc: Global, text: &[u8]) -> Result<Log, NoMemory> {
-    let mut log = Seq::new(alloc);
+pub(crate) fn log_of(rt: &HostRuntime, text: &[u8]) -> Log {
+    let mut log = Seq::new(rt.alloc());
     let mut rest = text;
     for _ in 0..text.len() {
         let (chain, later) = split_at(b',', rest);
-        add_chain(alloc, &mut log, chain)?;
+        add_chain(rt, &mut log, chain);
         rest = later;
     }
-    Ok(log)
+    log
 }

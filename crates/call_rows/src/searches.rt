@@ -63,11 +63,6 @@ fn show_model(rt: &HostRuntime, bits: &Bits) {
     }
 }
 
-fn show_chains(rt: &HostRuntime, log: &Log) {
-    show(rt, b", ");
-    show_counted(rt, log.len(), b" chains");
-}
-
 /// Shows what is found, in a word where it is brief, and else with the bits of a model or the number of chains. What a brief limit
 /// derives isn't looked at.
 fn show_found(rt: &HostRuntime, clauses: &Clauses, found: &Found, is_brief: bool)
@@ -84,29 +79,19 @@ fn show_found(rt: &HostRuntime, clauses: &Clauses, found: &Found, is_brief: bool
         Found::Refuted(log) => {
             show(rt, b"refuted");
             if !is_brief {
-                show_chains(rt, log);
+                show(rt, b", ");
+                show_counted(rt, log.len(), b" chains");
             }
             show_holds(rt, refutes(rt.alloc(), clauses, log));
         }
         Found::Limit(log) => {
             show(rt, b"limit");
             if !is_brief {
-                show_chains(rt, log);
+                show(rt, b", ");
+                show_counted(rt, log.len(), b" chains");
                 show_holds(rt, derives(rt.alloc(), clauses, log));
             }
         }
-    }
-}
-
-fn show_search(rt: &HostRuntime, clauses: &Clauses, variables: u32, conflicts: u32, is_brief: bool)
-    requires { length clauses.now ≤ 1000000 }
-{
-    if variables > 1_000_000 || !in_range(clauses, variables) {
-        return show(rt, b"out of range");
-    }
-    match search(rt.alloc(), clauses, variables, conflicts) {
-        Ok(found) => show_found(rt, clauses, &found, is_brief),
-        Err(_) => show(rt, b"no memory"),
     }
 }
 
@@ -114,8 +99,14 @@ fn show_search(rt: &HostRuntime, clauses: &Clauses, variables: u32, conflicts: u
 pub(crate) fn show_searched(rt: &HostRuntime, clauses: &Clauses, numbers: &[u32], is_brief: bool)
     requires { length clauses.now ≤ 1000000 }
 {
-    match numbers {
-        [variables, conflicts] => show_search(rt, clauses, *variables, *conflicts, is_brief),
-        _ => show(rt, b"out of range"),
+    let [variables, conflicts] = numbers else {
+        return show(rt, b"out of range");
+    };
+    if *variables > 1_000_000 || !in_range(clauses, *variables) {
+        return show(rt, b"out of range");
+    }
+    match search(rt.alloc(), clauses, *variables, *conflicts) {
+        Ok(found) => show_found(rt, clauses, &found, is_brief),
+        Err(_) => show(rt, b"no memory"),
     }
 }

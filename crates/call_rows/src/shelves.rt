@@ -5,18 +5,12 @@ use sec_base::{Duplicate, FetchError, FilePath, FileShelf, FileText, Ids, MemShe
 use std::rt::HostRuntime;
 use std::str;
 
-fn word_of(error: &FetchError) -> &'static [u8] {
-    match error {
-        FetchError::Failed => b" failed",
-        FetchError::TooLong => b" too-long",
-        FetchError::NoMemory => b" no-memory",
-    }
-}
-
 fn show_fetched(rt: &HostRuntime, fetched: &Result<FileText, FetchError>) {
     match fetched {
         Ok(text) => show_count(rt, text.len() as u64),
-        Err(error) => show(rt, word_of(error)),
+        Err(FetchError::Failed) => show(rt, b" failed"),
+        Err(FetchError::TooLong) => show(rt, b" too-long"),
+        Err(FetchError::NoMemory) => show(rt, b" no-memory"),
     }
 }
 
@@ -61,14 +55,6 @@ fn put_file(rt: &HostRuntime, shelf: &mut MemShelf, word: &[u8]) {
     }
 }
 
-/// Lets each later read give so many bytes at most, where that is a number above 0.
-fn let_most(shelf: &mut MemShelf, digits: &[u8]) {
-    let most = size_of(digits);
-    if most > 0 {
-        shelf.set_most(most);
-    }
-}
-
 /// The reads that the words `!n` have fail.
 fn fails_of(rt: &HostRuntime, words: &[u8]) -> Ids {
     let mut fails = Ids::new(rt.alloc());
@@ -93,7 +79,10 @@ pub(crate) fn show_shelf(rt: &HostRuntime, words: &[u8]) {
         let (word, later) = split_at(b' ', rest);
         rest = later;
         if let [b'~', digits @ ..] = word {
-            let_most(&mut shelf, digits);
+            let most = size_of(digits);
+            if most > 0 {
+                shelf.set_most(most);
+            }
         } else if word.contains(&b'=') {
             put_file(rt, &mut shelf, word);
         } else if word.contains(&b'<') {

@@ -87,7 +87,7 @@ fn show_ids(rt: &HostRuntime, ids: &Ids) {
     }
 }
 
-/// The first and the second numbers of the pairs.
+/// A copy of the first and the second numbers of the pairs.
 fn orders_of(rt: &HostRuntime, table: &PlaceTable) -> Option<Orders> {
     let mut left = Ids::new(rt.alloc());
     let mut right = Ids::new(rt.alloc());
@@ -96,26 +96,18 @@ fn orders_of(rt: &HostRuntime, table: &PlaceTable) -> Option<Orders> {
         left.push(first).ok()?;
         right.push(second).ok()?;
     }
-    Some(Orders { left, right })
-}
-
-/// Shows a copy of two lists.
-fn show_orders(rt: &HostRuntime, orders: &Orders) {
-    match orders.duplicate(rt.alloc()) {
-        Ok(copy) => {
-            show_ids(rt, &copy.left);
-            show(rt, b" and");
-            show_ids(rt, &copy.right);
-        }
-        Err(_) => show(rt, b" no-memory"),
-    }
+    Orders { left, right }.duplicate(rt.alloc()).ok()
 }
 
 /// Shows a copy of the lists of the first and the second numbers of the pairs.
 fn show_lists(rt: &HostRuntime, table: &PlaceTable) {
     show(rt, b", copied");
     match orders_of(rt, table) {
-        Some(orders) => show_orders(rt, &orders),
+        Some(copy) => {
+            show_ids(rt, &copy.left);
+            show(rt, b" and");
+            show_ids(rt, &copy.right);
+        }
         None => show(rt, b" no-memory"),
     }
 }

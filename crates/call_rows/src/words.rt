@@ -4,18 +4,14 @@ use proof_check::{ChainKind, Literal, ProofError};
 use row_text::{show, show_number};
 use std::rt::HostRuntime;
 
-fn show_literal(rt: &HostRuntime, literal: Literal) {
-    if !literal.is_positive() {
-        show(rt, b"-");
-    }
-    show_number(rt, u64::from(literal.variable()));
-    show(rt, b" ");
-}
-
 /// Shows a clause as in DIMACS.
 pub(crate) fn show_literals(rt: &HostRuntime, literals: &[Literal]) {
     for literal in literals {
-        show_literal(rt, *literal);
+        if !literal.is_positive() {
+            show(rt, b"-");
+        }
+        show_number(rt, u64::from(literal.variable()));
+        show(rt, b" ");
     }
     show(rt, b"0");
 }

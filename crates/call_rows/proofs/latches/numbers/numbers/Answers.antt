@@ -3,8 +3,8 @@ use Rattle.std.proofs.Common.{◌∙◌, ◌+◌, ◌<◌, ◌^◌, ℕ, [], ◌
 use Rattle.std.specs.List.{All}
 use Rattle.std.proofs.lemmas.List.Elements.{All-contains, Contains-append_cases}
 use Rattle.circuit_theory.proofs.Lists.{All-from_each, only}
-use Rattle.latch_rows.proofs.Numbered.{numbered_more, one_more}
-use Rattle.latch_rows.proofs.numbers.numbers.Goals as goal
+use Rattle.call_rows.proofs.Numbered.{numbered_more, one_more}
+use Rattle.call_rows.proofs.latches.numbers.numbers.Goals as goal
 
 pub overflow_cast-number : goal.overflow_cast-number
 overflow_cast-number c = omega (arith, c.loop-number-test.true, c.loop-number.invariant.few)

@@ -1,7 +1,7 @@
 //! What is told of two netlists.
 
-use crate::nets::net_of;
-use crate::numbers::numbers;
+use crate::latches::nets::net_of;
+use crate::latches::numbers::numbers;
 use block_refine::{Refined, refine};
 use flat_net::Net;
 use latch_blocks::is_light;

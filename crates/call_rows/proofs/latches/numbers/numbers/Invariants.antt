@@ -1,6 +1,6 @@
 use Rattle.std.proofs.Common.{◌≡◌, ◌<◌, ◌≤◌, ◌^◌, ℕ, length, slice_get, Some}
 use Rattle.std.specs.List.{All}
-use Rattle.latch_rows.proofs.numbers.numbers.Given as goal
+use Rattle.call_rows.proofs.latches.numbers.numbers.Given as goal
 
 abbrev pub invariant-loop-number : goal.invariant-loop-number
 invariant-loop-number l = record {

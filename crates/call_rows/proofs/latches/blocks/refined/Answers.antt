@@ -1,6 +1,6 @@
 -- The numbers are those of the inputs, and small.
 use Rattle.std.proofs.Common.{◌∙◌, length, ap}
-use Rattle.latch_rows.proofs.blocks.refined.Goals as goal
+use Rattle.call_rows.proofs.latches.blocks.refined.Goals as goal
 
 pub refine-requires-clause-long : goal.refine-requires-clause-long
 refine-requires-clause-long c = (c.in-Ok.ensures.each ∙ ap length c.inputs.ensures, c.in-Ok-numbers.ensures.each ∙ ap length c.inputs-2.ensures)

@@ -2,7 +2,7 @@
 use Rattle.std.proofs.Common.{◌∙◌, ap, length, sym, subst}
 use Rattle.circuit_theory.specs.declared.Mode.TheVariants.{Event}
 use Rattle.latch_cone.specs.Kinds.{AreKindsIn}
-use Rattle.latch_rows.proofs.circuits.marks_of.Goals as goal
+use Rattle.call_rows.proofs.latches.circuits.marks_of.Goals as goal
 
 pub new-requires : goal.new-requires
 new-requires c = c.in-Ok-enabled_among.ensures.each ∙ (ap length c.as_slice.ensures ∙ c.in-Ok.ensures.0.each)

@@ -1,8 +1,8 @@
 -- The circuit keeps what a circuit keeps.
 use Rattle.std.proofs.Common.{◌∙◌, ap, length, sym, subst}
-use Rattle.latch_rows.specs.Starts.{IsStart}
-use Rattle.latch_rows.proofs.Begun.{begun_circuit}
-use Rattle.latch_rows.proofs.circuits.begun.Goals as goal
+use Rattle.call_rows.specs.Starts.{IsStart}
+use Rattle.call_rows.proofs.Begun.{begun_circuit}
+use Rattle.call_rows.proofs.latches.circuits.begun.Goals as goal
 
 pub new-requires : goal.new-requires
 new-requires c =

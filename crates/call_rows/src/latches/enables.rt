@@ -2,11 +2,10 @@
 
 ghost use Rattle.std.specs.Prelude.{◌<◌, ◌≤◌, length};
 
-use blif_read::{Design, read_design};
+use crate::latches::nets::net_of;
 use flat_net::Net;
-use flatten::flatten;
-use row_text::{show, show_count, show_word, text_of};
-use sec_base::{Bits, Ids, MAX_CONFLICTS, MAX_FILE_BYTES};
+use row_text::{show, show_count, show_word};
+use sec_base::{Bits, Ids, MAX_CONFLICTS};
 use std::rt::HostRuntime;
 use unate_enable::{LatchCone, RecoverError, Recovery, cone, recover};
 
@@ -14,24 +13,9 @@ use unate_enable::{LatchCone, RecoverError, Recovery, cone, recover};
 pub(crate) fn show_row(rt: &HostRuntime, row: &[u8]) {
     show(rt, row);
     show(rt, b"\n");
-    let text = text_of(rt.alloc(), row, b"");
-    show_text(rt, text.bytes());
-}
-
-fn show_text(rt: &HostRuntime, text: &[u8]) {
-    if text.len() > MAX_FILE_BYTES as usize {
-        return show(rt, b"too long\n");
-    }
-    match read_design(rt.alloc(), text) {
-        Ok(design) => show_design(rt, &design),
-        Err(_) => show(rt, b"no design\n"),
-    }
-}
-
-fn show_design(rt: &HostRuntime, design: &Design) {
-    match flatten(rt.alloc(), design) {
-        Ok(net) => show_latches(rt, &net),
-        Err(_) => show(rt, b"no net\n"),
+    match net_of(rt.alloc(), row) {
+        Some(net) => show_latches(rt, &net),
+        None => show(rt, b"no net\n"),
     }
 }
 

@@ -1,10 +1,10 @@
 //! What is told of two netlists.
 
 ghost use Rattle.std.specs.Prelude.{◌≤◌};
-ghost use Rattle.latch_rows.specs.Starts.{IsStart};
+ghost use Rattle.call_rows.specs.Starts.{IsStart};
 
-use crate::circuits::circuit_of;
-use crate::nets::net_of;
+use crate::latches::circuits::circuit_of;
+use crate::latches::nets::net_of;
 use class_separations::Apart;
 use event_classes::{ClassMap, EventError, make_classes};
 use event_nodes::EventCircuit;

@@ -2,9 +2,9 @@
 
 ghost use Rattle.std.specs.Prelude.{◌≡◌, length, All, IfOk, IfSome};
 ghost use Rattle.event_order.specs.Order.{IsMarkedNet};
-ghost use Rattle.latch_rows.specs.Starts.{IsStart};
+ghost use Rattle.call_rows.specs.Starts.{IsStart};
 
-use crate::numbers::numbers;
+use crate::latches::numbers::numbers;
 use circuit_theory::Mode;
 use event_nodes::EventCircuit;
 use event_order::have_depths;
