@@ -1,7 +1,8 @@
 -- A signal is unfolded from a frame at the root.
-use Rattle.std.proofs.Common.{◌≡◌, ◌∙◌, ◌*◌, ◌<◌, ◌≤◌, ℕ, true, false, List, [], ◌∷◌, ◌++◌, length, slice_get, Some, refl, sym, ap, subst, arith, inl, inr}
+use Rattle.std.proofs.Common.{◌≡◌, ◌∙◌, ◌*◌, ◌<◌, ◌≤◌, ℕ, true, false, List, [], ◌∷◌, ◌++◌, length, take, slice_get, Some, refl, sym, ap, subst, arith, inl, inr}
 use Rattle.std.specs.Prelude.{◌⊎◌}
-use Rattle.std.specs.List.{All, Contains}
+use Rattle.std.specs.List.{All, Contains, sum_by}
+use Rattle.std.proofs.lemmas.List.{take_all}
 use Rattle.std.proofs.lemmas.List.Elements.{All-weaker}
 use Rattle.std.proofs.lemmas.Option.{slice_get_within}
 use Rattle.circuit_theory.proofs.Lists.{at_of}
@@ -14,9 +15,10 @@ use Rattle.event_walk.specs.event_nodes.Lit.{Lit}
 use Rattle.event_walk.specs.event_nodes.Graph.{flip}
 use Rattle.aig_or.specs.ShortOr.{IsShortOr}
 use Rattle.event_walk.specs.event_nodes.Adds.{Adds}
-use Rattle.event_walk.specs.event_nodes.Nodes.{EventGraphView, IsEventGraph, GrowsEvents}
+use Rattle.event_walk.specs.event_nodes.Nodes.{EventGraphView, IsEventGraph, IsTree, GrowsEvents}
 use Rattle.event_walk.specs.event_nodes.View.{EventCircuitView}
 use Rattle.event_walk.specs.event_nodes.Visited.{CounterView}
+use Rattle.event_walk.specs.event_nodes.Weights.{weight_at}
 use Rattle.event_walk.proofs.event_nodes.Growing.{grows_refl, grows_trans}
 use Rattle.event_walk.proofs.event_nodes.Lists.{adds_none, adds_trans, adds_at, adds_contains}
 use Rattle.event_walk.specs.declared.frames.Frame.{Frame}
@@ -24,8 +26,8 @@ use Rattle.event_walk.specs.declared.frames.Put.TheVariants.{Low, High}
 use Rattle.event_walk.specs.declared.frames.Step.{Step}
 use Rattle.event_walk.specs.declared.frames.Ways.{Ways}
 use Rattle.event_literals.specs.Known.{EventUnfolderView, unfolder_of, walker_of, IsKnownAt, IsKnownIn, IsEnableLit, AreKnown, HasUnfolded, IsMet, IsLater}
-use Rattle.event_walk.specs.Plan.{IsPlanOf}
-use Rattle.event_walk.specs.Walk.{IsExpanded, IsVisitedPlace, IsOpened, IsWalk, IsCounted, IsExact}
+use Rattle.event_walk.specs.Plan.{AreExpanded, IsPlanOf}
+use Rattle.event_walk.specs.Walk.{IsSeen, IsExpanded, IsVisitedPlace, IsOpened, IsWalk, IsCounted, IsExact}
 use Rattle.event_walk.specs.Ready.{EventWalkerView}
 use Rattle.event_literals.specs.Built.{IsWalked, AreMetOn}
 use Rattle.event_walk.proofs.InFrames.{interned_frame}
@@ -53,6 +55,29 @@ pub opened_known : (u v : EventWalkerView) (memo : List ((ℕ × ℕ) × Lit)) (
 opened_known u v memo w x room opened is known =
     subst (λ (e : EventCircuitView). AreKnown e x v.frames memo) (sym opened.circuit)
     (λ p y h. let k = are_known_later u.circuit w x u.frames memo is opened.grows known p y h in (k.0, adds_at (λ (f : Frame). Unit {0}) u.frames v.frames p.0 k.0 opened.frames k.1, k.2, k.3))
+
+-- a walk to its end gives what its places are built from
+module _ (u v : EventWalkerView) (w x : EventGraphView) (root : ℕ × ℕ) (table : List (ℕ × ℕ)) (ways : List Ways) (at weight cap : ℕ) (walk : IsWalk u v w x root table ways at weight cap) (done : length table ≤ at) where
+  pub walk_expanded : (now : List Ways) → now ≡ ways → AreExpanded v.circuit v.frames x.children table now
+  walk_expanded now same = subst (AreExpanded v.circuit v.frames x.children table) (sym same) (record { each = omega (arith, walk.each, walk.inside, done); seen = walk.seen; expanded = walk.expanded })
+
+  pub walk_weighs : sum_by (λ (p : ℕ × ℕ). weight_at v.circuit.net p.1) table ≤ cap
+  walk_weighs =
+      let whole : take at table ≡ table = take_all at table done in
+      let all : sum_by (λ (p : ℕ × ℕ). weight_at v.circuit.net p.1) table ≡ weight = sym (ap (sum_by (λ (p : ℕ × ℕ). weight_at v.circuit.net p.1)) whole) ∙ walk.weighs in
+      omega (arith, all, walk.small)
+
+-- the places of expanded ones have frames
+pub expanded_frames : (e : EventCircuitView) (frames now : List Frame) (children table : List (ℕ × ℕ)) (ways : List Ways) (nodes : ℕ) → AreExpanded e frames children table ways → now ≡ frames → nodes ≡ length children →
+    All (λ p. (f : Frame) × (slice_get now p.0 ≡ Some f) × (f.node ≤ nodes)) table
+expanded_frames e frames now children table ways nodes is same many =
+    All-weaker (IsSeen e frames children) (λ (p : ℕ × ℕ). (f : Frame) × (slice_get now p.0 ≡ Some f) × (f.node ≤ nodes)) (λ p s. (s.0, subst (λ (l : List Frame). slice_get l p.0 ≡ Some s.0) (sym same) s.1, omega (arith, many, s.2))) table is.seen
+
+-- they have a plan
+pub expanded_plan : (e : EventCircuitView) (frames now : List Frame) (children table : List (ℕ × ℕ)) (ways : List Ways) (nodes : ℕ) (plan : List Step) → AreExpanded e frames children table ways → now ≡ frames → nodes ≡ length children → IsTree children → IsSound e.net →
+    ((d : EventCircuitView) (cs : List (ℕ × ℕ)) → length cs ≡ nodes → IsTree cs → IsSound d.net → AreExpanded d now cs table ways → IsPlanOf d now cs table plan) → IsPlanOf e frames children table plan
+expanded_plan e frames now children table ways nodes plan is same many tree sound made =
+    subst (λ (l : List Frame). IsPlanOf e l children table plan) same (made e children (sym many) tree sound (subst (λ (l : List Frame). AreExpanded e l children table ways) (sym same) is))
 
 -- what is in the table was met
 pub table_met : (e : EventCircuitView) (frames : List Frame) (children table : List (ℕ × ℕ)) (plan now : List Step) (memo : List ((ℕ × ℕ) × Lit)) → IsPlanOf e frames children table plan → now ≡ plan → ((p : Step) → Contains now p → IsMet memo (p.frame, p.signal)) →

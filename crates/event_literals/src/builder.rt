@@ -8,6 +8,7 @@ ghost use Rattle.event_walk.specs.event_nodes.Weights.{gate_weight, weight_at};
 ghost use Rattle.event_walk.specs.event_nodes.Nodes.{EventGraphView, GrowsEvents};
 ghost use Rattle.event_walk.specs.declared.frames.Frame.{Frame};
 ghost use Rattle.event_walk.specs.declared.frames.Step.{Step};
+ghost use Rattle.event_walk.specs.Plan.{AreExpanded};
 ghost use Rattle.event_walk.specs.Ready.{IsPlan};
 ghost use Rattle.event_walk.specs.Walk.{IsCounting, IsRefused, IsRootOf, IsCountedOn};
 ghost use Rattle.event_literals.specs.Known.{AreKnown, IsKnownIn, HasUnfolded, IsMet, IsReady, IsLater, HasGrown, IsInputLit, IsGateLit};
@@ -106,18 +107,35 @@ impl<'a> EventBuilder<'a> {
         events.keeps();
         let root = (self.walker.intern(frame)?, s.0);
         let (table, ways) = self.walker.visited(alloc, events, counter, root, cap)?;
-        let circuit = self.walker.circuit();
-        circuit.keeps();
-        events.keeps();
-        let plan = self
-            .walker
-            .plan(alloc, events.nodes(), &table, ways.as_slice())?;
-        self.build(alloc, events, plan.as_slice())?;
+        self.build_all(alloc, events, &table, ways.as_slice())?;
         Ok(Unfolding {
             lit: self.met(root),
             table,
             ways,
         })
+    }
+
+    /// Unfolds all places of a walk to its end, each with its ways.
+    fn build_all(
+        &mut self,
+        alloc: Global,
+        events: &mut EventGraph,
+        table: &PlaceTable,
+        ways: &[Ways],
+    ) -> Result<(), NoMemory>
+        requires expanded { AreExpanded self.old.circuit self.old.frames events.old.children table.now ways.now }
+        requires known { AreKnown self.old.circuit events.old self.old.frames self.old.memo }
+        requires nodes { length events.old.graph + sum_by (λ p. weight_at self.old.circuit.net p.1) table.now < 2 ^ 30 }
+        requires places { length events.old.places + sum_by (λ p. weight_at self.old.circuit.net p.1) table.now < 2 ^ 31 }
+        ensures known { AreKnown self.new.circuit events.new self.new.frames self.new.memo }
+        ensures met { OnOk result ((p : ℕ × ℕ) → Contains table.now p → IsMet self.new.memo p) }
+        ensures later { IsLater self.old self.new events.old events.new (sum_by (λ p. weight_at self.old.circuit.net p.1) table.now) }
+    {
+        let circuit = self.circuit();
+        circuit.keeps();
+        events.keeps();
+        let plan = self.walker.plan(alloc, events.nodes(), table, ways)?;
+        self.build(alloc, events, plan.as_slice())
     }
 
     /// Unfolds all steps of a plan.

@@ -13,7 +13,7 @@ use Rattle.event_walk.specs.event_nodes.Rules.{cover_room}
 use Rattle.event_walk.specs.event_nodes.View.{EventCircuitView}
 use Rattle.event_literals.specs.Known.{IsMet}
 use Rattle.event_walk.specs.event_nodes.Weights.{gate_weight}
-use Rattle.event_literals.proofs.Lits.{zip_all, cover_within_weight, gate_lit, cover_grown}
+use Rattle.event_literals.proofs.Lits.{grown_none, zip_all, cover_within_weight, gate_lit, cover_grown}
 use Rattle.event_literals.proofs.builder.EventBuilder.gate_literal.Goals as goal
 
 pub fanin_literals-requires : goal.fanin_literals-requires
@@ -71,3 +71,6 @@ returns-clause-grown c =
     let room = cover_within_weight net.covers g c.cover.result.now (cover_of-is net.covers g c.cover.result.now here) fits in
     let weight : gate_weight net.covers (slice_get net.gates c.args.j) ≡ gate_weight net.covers (Some g) = ap (gate_weight net.covers) at in
     cover_grown c.args.events.now c.cover-2.new.self (cover_room c.cover.result.now) (gate_weight net.covers (slice_get net.gates c.args.j)) c.cover-2.ensures.grows c.cover-2.ensures.same c.cover-2.ensures.few (omega (arith, room, weight))
+
+pub returns-in_err-lits-clause-grown : goal.returns-in_err-lits-clause-grown
+returns-in_err-lits-clause-grown c = grown_none c.args.events.now _

@@ -6,7 +6,7 @@ use Rattle.event_walk.specs.flat_net.View.{NetView}
 use Rattle.event_walk.specs.event_nodes.View.{EventCircuitView}
 use Rattle.event_walk.proofs.event_nodes.Drivers.{driven_gate, driven_latch}
 use Rattle.event_walk.proofs.Lent.{drives_of, latch_of_lent, sound_of, order_of}
-use Rattle.event_literals.proofs.Lits.{input_is, gate_is, gate_met, put_is, latch_met, latch_is}
+use Rattle.event_literals.proofs.Lits.{grown_none, input_is, gate_is, gate_met, put_is, latch_met, latch_is}
 use Rattle.event_literals.proofs.builder.EventBuilder.literal.Goals as goal
 
 pub input_literal-requires-clause-input : goal.input_literal-requires-clause-input
@@ -96,3 +96,12 @@ returns-in-None-clause-known c =
     let at = c.frame-frame.ensures in
     latch_is u sound (order_of u.circuit lent c.circuit-circuit.ensures c.keeps.ensures.circuit) c.args.events.now c.args.step c.frame-frame.result at c.in-None.ensures.free c.requires.ready c.in-Latch.j c.latch_of.result.now drives on
     c.keeps-2.ensures.events c.requires.known c.met.result c.met.ensures
+
+pub frame-frame-requires : goal.frame-frame-requires
+frame-frame-requires c = slice_get_within c.args.self.now.frames c.args.step.frame c.requires.ready.frame c.requires.ready.at
+
+pub returns-in-None-clause-grown : goal.returns-in-None-clause-grown
+returns-in-None-clause-grown c = grown_none c.args.events.now _
+
+pub returns-in-Some-clause-grown : goal.returns-in-Some-clause-grown
+returns-in-Some-clause-grown c = grown_none c.args.events.now _

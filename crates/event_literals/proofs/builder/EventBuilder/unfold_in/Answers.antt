@@ -1,24 +1,16 @@
 -- All that the walk met is built, so that the root's literal was met.
-use Rattle.std.proofs.Common.{◌≡◌, ◌∙◌, ℕ, List, length, refl, ap, sym, subst, arith}
-use Rattle.std.specs.List.{sum_by}
-use Rattle.event_walk.specs.flat_net.Sound.{IsSound}
-use Rattle.event_walk.specs.event_nodes.Nodes.{IsTree}
+use Rattle.std.proofs.Common.{◌∙◌, ℕ, List, length, refl, ap, sym, subst, arith}
 use Rattle.event_walk.specs.event_nodes.View.{EventCircuitView}
 use Rattle.event_walk.specs.event_nodes.Visited.{IsWeighed}
-use Rattle.event_walk.specs.event_nodes.Weights.{weight_at}
 use Rattle.event_walk.proofs.event_nodes.Growing.{grows_refl, grows_trans}
 use Rattle.event_walk.proofs.event_nodes.Lists.{adds_none}
-use Rattle.event_walk.specs.declared.frames.Step.{Step}
-use Rattle.event_walk.specs.declared.frames.Ways.{Ways}
 use Rattle.event_literals.specs.Known.{EventUnfolderView, unfolder_of}
-use Rattle.event_walk.specs.Ready.{EventWalkerView, IsPlan}
-use Rattle.event_walk.specs.Plan.{AreExpanded, IsPlanOf}
+use Rattle.event_walk.specs.Ready.{EventWalkerView}
 use Rattle.event_walk.specs.Walk.{IsCounting}
 use Rattle.event_literals.proofs.Going.{later_within}
-use Rattle.event_literals.proofs.Rooted.{frame_known, opened_known, table_met, root_known, walked_to, unfolded_from}
+use Rattle.event_literals.proofs.Rooted.{frame_known, opened_known, root_known, walked_to, unfolded_from, walk_expanded, walk_weighs}
 use Rattle.event_walk.proofs.Rooting.{root_visited}
-use Rattle.event_walk.proofs.Stepping.{nodes_none}
-use Rattle.event_walk.proofs.Walked.{walk_frames, walk_plan, plan_weighs}
+use Rattle.event_walk.proofs.Stepping.{nodes_none, refused_ok}
 use Rattle.event_literals.proofs.builder.EventBuilder.unfold_in.Goals as goal
 
 pub returns-in_err-table-clause-counting : goal.returns-in_err-table-clause-counting
@@ -29,122 +21,74 @@ returns-in_err-table-clause-counting c = (
       (c.visited.ensures.counting x (root_visited c.intern.new.self.circuit c.intern.new.self.frames c.args.events.now.children c.args.frame c.in_ok-intern.field-0 c.args.s.0 c.in_ok-intern.ensures.here c.requires.root x begins)),
 )
 
-pub plan-requires-clause-seen : goal.plan-requires-clause-seen
-plan-requires-clause-seen c =
-    let w = c.in_ok-table.ensures.walked in
-    walk_frames _ _ _ _ _ _ _ _ _ _ w.2 w.4 c.visited.new.self.frames refl c.nodes.result c.nodes.ensures
+pub build_all-requires-clause-expanded : goal.build_all-requires-clause-expanded
+build_all-requires-clause-expanded c = let w = c.in_ok-table.ensures.walked in walk_expanded _ _ _ _ _ _ _ _ _ _ w.2 w.4 _ c.as_slice.ensures.value
 
-pub returns-in_err-plan-clause-counting : goal.returns-in_err-plan-clause-counting
-returns-in_err-plan-clause-counting c = (
-  c.visited.ensures.grows,
-  λ x begins.
-      subst (λ (e : EventCircuitView). IsCounting e x c.args.events.now.children c.visited.new.events.children c.args.counter.now c.visited.new.counter) (ap (λ (k : EventWalkerView). k.circuit) c.intern.ensures.same ∙ ap (λ (k : EventUnfolderView). k.circuit) c.self.view_is)
-      (c.visited.ensures.counting x (root_visited c.intern.new.self.circuit c.intern.new.self.frames c.args.events.now.children c.args.frame c.in_ok-intern.field-0 c.args.s.0 c.in_ok-intern.ensures.here c.requires.root x begins)),
-)
-
-pub build-requires-clause-plan : goal.build-requires-clause-plan
-build-requires-clause-plan c =
-    let w = c.in_ok-table.ensures.walked in
-    let sound : IsSound c.visited.new.self.circuit.net = subst (λ (e : EventCircuitView). IsSound e.net) c.circuit-circuit.ensures c.keeps-2.ensures.sound in
-    let is : IsPlanOf c.visited.new.self.circuit c.visited.new.self.frames c.visited.new.events.children c.in_ok-table.table c.in_ok-plan.plan.items =
-    walk_plan _ _ _ _ _ _ _ _ _ _ w.2 w.4 c.visited.new.self.frames refl c.nodes.result c.nodes.ensures c.in_ok-plan.plan.items c.keeps-3.ensures.events.is_tree sound
-    (subst (λ (o : List Ways). (e : EventCircuitView) (children : List (ℕ × ℕ)) → length children ≡ c.nodes.result → IsTree children → IsSound e.net → AreExpanded e c.visited.new.self.frames children c.in_ok-table.table o →
-    IsPlanOf e c.visited.new.self.frames children c.in_ok-table.table c.in_ok-plan.plan.items) c.as_slice.ensures.value c.in_ok-plan.ensures) in
-    subst (λ (p : List Step). IsPlan c.visited.new.self.circuit c.visited.new.self.frames c.visited.new.events.children p) (sym c.as_slice-2.ensures.value) is.is_plan
-
-pub build-requires-clause-known : goal.build-requires-clause-known
-build-requires-clause-known c =
+pub build_all-requires-clause-known : goal.build_all-requires-clause-known
+build_all-requires-clause-known c =
     let w = c.in_ok-table.ensures.walked in
     opened_known c.intern.new.self c.visited.new.self c.self.inside.memo c.args.events.now c.visited.new.events _ w.2.opened c.keeps.ensures.events
     (frame_known _ c.args.self.now c.self.view_is c.intern.new.self c.intern.ensures.same c.args.events.now c.args.frame c.in_ok-intern.ensures.grown c.requires.known)
 
-pub build-requires-clause-nodes : goal.build-requires-clause-nodes
-build-requires-clause-nodes c =
+pub build_all-requires-clause-nodes : goal.build_all-requires-clause-nodes
+build_all-requires-clause-nodes c =
     let w = c.in_ok-table.ensures.walked in
-    let sound : IsSound c.visited.new.self.circuit.net = subst (λ (e : EventCircuitView). IsSound e.net) c.circuit-circuit.ensures c.keeps-2.ensures.sound in
-    let is : IsPlanOf c.visited.new.self.circuit c.visited.new.self.frames c.visited.new.events.children c.in_ok-table.table c.in_ok-plan.plan.items =
-    walk_plan _ _ _ _ _ _ _ _ _ _ w.2 w.4 c.visited.new.self.frames refl c.nodes.result c.nodes.ensures c.in_ok-plan.plan.items c.keeps-3.ensures.events.is_tree sound
-    (subst (λ (o : List Ways). (e : EventCircuitView) (children : List (ℕ × ℕ)) → length children ≡ c.nodes.result → IsTree children → IsSound e.net → AreExpanded e c.visited.new.self.frames children c.in_ok-table.table o →
-    IsPlanOf e c.visited.new.self.frames children c.in_ok-table.table c.in_ok-plan.plan.items) c.as_slice.ensures.value c.in_ok-plan.ensures) in
-    let sum = ap (sum_by (λ (s : Step). weight_at c.visited.new.self.circuit.net s.signal)) c.as_slice-2.ensures.value in
-    let few = plan_weighs _ _ _ _ _ _ _ _ _ _ w.2 w.4 c.in_ok-plan.plan.items is in
-    omega (arith, sum, few, ap length w.2.opened.graph, c.requires.room.has.nodes)
+    let few = walk_weighs _ _ _ _ _ _ _ _ _ _ w.2 w.4 in
+    omega (arith, few, ap length w.2.opened.graph, c.requires.room.has.nodes)
 
-pub build-requires-clause-places : goal.build-requires-clause-places
-build-requires-clause-places c =
+pub build_all-requires-clause-places : goal.build_all-requires-clause-places
+build_all-requires-clause-places c =
     let w = c.in_ok-table.ensures.walked in
-    let sound : IsSound c.visited.new.self.circuit.net = subst (λ (e : EventCircuitView). IsSound e.net) c.circuit-circuit.ensures c.keeps-2.ensures.sound in
-    let is : IsPlanOf c.visited.new.self.circuit c.visited.new.self.frames c.visited.new.events.children c.in_ok-table.table c.in_ok-plan.plan.items =
-    walk_plan _ _ _ _ _ _ _ _ _ _ w.2 w.4 c.visited.new.self.frames refl c.nodes.result c.nodes.ensures c.in_ok-plan.plan.items c.keeps-3.ensures.events.is_tree sound
-    (subst (λ (o : List Ways). (e : EventCircuitView) (children : List (ℕ × ℕ)) → length children ≡ c.nodes.result → IsTree children → IsSound e.net → AreExpanded e c.visited.new.self.frames children c.in_ok-table.table o →
-    IsPlanOf e c.visited.new.self.frames children c.in_ok-table.table c.in_ok-plan.plan.items) c.as_slice.ensures.value c.in_ok-plan.ensures) in
-    let sum = ap (sum_by (λ (s : Step). weight_at c.visited.new.self.circuit.net s.signal)) c.as_slice-2.ensures.value in
-    let few = plan_weighs _ _ _ _ _ _ _ _ _ _ w.2 w.4 c.in_ok-plan.plan.items is in
-    omega (arith, sum, few, ap length w.2.opened.places, c.requires.room.has.places)
+    let few = walk_weighs _ _ _ _ _ _ _ _ _ _ w.2 w.4 in
+    omega (arith, few, ap length w.2.opened.places, c.requires.room.has.places)
 
-pub returns-in_err-build-clause-counting : goal.returns-in_err-build-clause-counting
-returns-in_err-build-clause-counting c = (
-  grows_trans c.args.events.now c.visited.new.events c.build.new.events c.visited.ensures.grows c.build.ensures.later.grown.grows,
+pub returns-in_err-build_all-clause-counting : goal.returns-in_err-build_all-clause-counting
+returns-in_err-build_all-clause-counting c = (
+  grows_trans c.args.events.now c.visited.new.events c.build_all.new.events c.visited.ensures.grows c.build_all.ensures.later.grown.grows,
   λ x begins.
-      subst (λ (cs : List (ℕ × ℕ)). IsCounting c.args.self.now.circuit x c.args.events.now.children cs c.args.counter.now c.visited.new.counter) (sym c.build.ensures.later.grown.children)
+      subst (λ (cs : List (ℕ × ℕ)). IsCounting c.args.self.now.circuit x c.args.events.now.children cs c.args.counter.now c.visited.new.counter) (sym c.build_all.ensures.later.grown.children)
       (subst (λ (e : EventCircuitView). IsCounting e x c.args.events.now.children c.visited.new.events.children c.args.counter.now c.visited.new.counter) (ap (λ (k : EventWalkerView). k.circuit) c.intern.ensures.same ∙ ap (λ (k : EventUnfolderView). k.circuit) c.self.view_is)
       (c.visited.ensures.counting x (root_visited c.intern.new.self.circuit c.intern.new.self.frames c.args.events.now.children c.args.frame c.in_ok-intern.field-0 c.args.s.0 c.in_ok-intern.ensures.here c.requires.root x begins))),
 )
 
 pub met-requires : goal.met-requires
-met-requires c =
-    let w = c.in_ok-table.ensures.walked in
-    let sound : IsSound c.visited.new.self.circuit.net = subst (λ (e : EventCircuitView). IsSound e.net) c.circuit-circuit.ensures c.keeps-2.ensures.sound in
-    let is : IsPlanOf c.visited.new.self.circuit c.visited.new.self.frames c.visited.new.events.children c.in_ok-table.table c.in_ok-plan.plan.items =
-    walk_plan _ _ _ _ _ _ _ _ _ _ w.2 w.4 c.visited.new.self.frames refl c.nodes.result c.nodes.ensures c.in_ok-plan.plan.items c.keeps-3.ensures.events.is_tree sound
-    (subst (λ (o : List Ways). (e : EventCircuitView) (children : List (ℕ × ℕ)) → length children ≡ c.nodes.result → IsTree children → IsSound e.net → AreExpanded e c.visited.new.self.frames children c.in_ok-table.table o →
-    IsPlanOf e c.visited.new.self.frames children c.in_ok-table.table c.in_ok-plan.plan.items) c.as_slice.ensures.value c.in_ok-plan.ensures) in
-    table_met _ _ _ c.in_ok-table.table c.in_ok-plan.plan.items c.as_slice-2.result.now c.build.new.self.memo is c.as_slice-2.ensures.value c.in_ok-build.ensures.met (c.in_ok-intern.field-0, c.args.s.0) w.2.begins
+met-requires c = let w = c.in_ok-table.ensures.walked in c.in_ok-build_all.ensures.met (c.in_ok-intern.field-0, c.args.s.0) w.2.begins
+
+pub returns-clause-refused : goal.returns-clause-refused
+returns-clause-refused c = refused_ok _ _ _ _
 
 pub returns-clause-here : goal.returns-clause-here
 returns-clause-here c =
     let w = c.in_ok-table.ensures.walked in
-    root_known _ c.visited.new.self c.self.inside.memo c.build.new.self c.args.events.now c.visited.new.events c.build.new.events _ _ c.in_ok-intern.field-0 c.args.s.0 c.args.frame c.met.result c.in_ok-intern.ensures.here w.2.opened c.build.ensures.later c.build.ensures.known c.met.ensures
+    root_known _ c.visited.new.self c.self.inside.memo c.build_all.new.self c.args.events.now c.visited.new.events c.build_all.new.events _ _ c.in_ok-intern.field-0 c.args.s.0 c.args.frame c.met.result c.in_ok-intern.ensures.here w.2.opened c.build_all.ensures.later c.build_all.ensures.known c.met.ensures
 
 pub returns-clause-walked : goal.returns-clause-walked
 returns-clause-walked c =
     let w = c.in_ok-table.ensures.walked in
-    let sound : IsSound c.visited.new.self.circuit.net = subst (λ (e : EventCircuitView). IsSound e.net) c.circuit-circuit.ensures c.keeps-2.ensures.sound in
-    let is : IsPlanOf c.visited.new.self.circuit c.visited.new.self.frames c.visited.new.events.children c.in_ok-table.table c.in_ok-plan.plan.items =
-    walk_plan _ _ _ _ _ _ _ _ _ _ w.2 w.4 c.visited.new.self.frames refl c.nodes.result c.nodes.ensures c.in_ok-plan.plan.items c.keeps-3.ensures.events.is_tree sound
-    (subst (λ (o : List Ways). (e : EventCircuitView) (children : List (ℕ × ℕ)) → length children ≡ c.nodes.result → IsTree children → IsSound e.net → AreExpanded e c.visited.new.self.frames children c.in_ok-table.table o →
-    IsPlanOf e c.visited.new.self.frames children c.in_ok-table.table c.in_ok-plan.plan.items) c.as_slice.ensures.value c.in_ok-plan.ensures) in
-    let sum = ap (sum_by (λ (s : Step). weight_at c.visited.new.self.circuit.net s.signal)) c.as_slice-2.ensures.value in
-    let few = plan_weighs _ _ _ _ _ _ _ _ _ _ w.2 w.4 c.in_ok-plan.plan.items is in
-    let later = later_within (unfolder_of c.visited.new.self c.self.inside.memo) c.build.new.self c.visited.new.events c.build.new.events _ c.args.cap c.build.ensures.later (omega (arith, sum, few)) in
-    walked_to _ c.visited.new.self c.self.inside.memo c.build.new.self c.args.events.now c.visited.new.events c.build.new.events c.args.counter.now c.visited.new.counter c.args.frame c.in_ok-intern.field-0 c.args.s.0 c.in_ok-table.table c.in_ok-table.ways.items w.0 w.1 c.args.cap c.args.cap
-    c.in_ok-intern.ensures.here c.requires.root w.2 w.3 w.4 later (λ p h. table_met _ _ _ c.in_ok-table.table c.in_ok-plan.plan.items c.as_slice-2.result.now c.build.new.self.memo is c.as_slice-2.ensures.value c.in_ok-build.ensures.met p h)
+    let few = walk_weighs _ _ _ _ _ _ _ _ _ _ w.2 w.4 in
+    let later = later_within (unfolder_of c.visited.new.self c.self.inside.memo) c.build_all.new.self c.visited.new.events c.build_all.new.events _ c.args.cap c.build_all.ensures.later few in
+    walked_to _ c.visited.new.self c.self.inside.memo c.build_all.new.self c.args.events.now c.visited.new.events c.build_all.new.events c.args.counter.now c.visited.new.counter c.args.frame c.in_ok-intern.field-0 c.args.s.0 c.in_ok-table.table c.in_ok-table.ways.items w.0 w.1 c.args.cap c.args.cap
+    c.in_ok-intern.ensures.here c.requires.root w.2 w.3 w.4 later c.in_ok-build_all.ensures.met
 
 pub returns-clause-unfolded : goal.returns-clause-unfolded
 returns-clause-unfolded c =
     let w = c.in_ok-table.ensures.walked in
-    let sound : IsSound c.visited.new.self.circuit.net = subst (λ (e : EventCircuitView). IsSound e.net) c.circuit-circuit.ensures c.keeps-2.ensures.sound in
-    let is : IsPlanOf c.visited.new.self.circuit c.visited.new.self.frames c.visited.new.events.children c.in_ok-table.table c.in_ok-plan.plan.items =
-    walk_plan _ _ _ _ _ _ _ _ _ _ w.2 w.4 c.visited.new.self.frames refl c.nodes.result c.nodes.ensures c.in_ok-plan.plan.items c.keeps-3.ensures.events.is_tree sound
-    (subst (λ (o : List Ways). (e : EventCircuitView) (children : List (ℕ × ℕ)) → length children ≡ c.nodes.result → IsTree children → IsSound e.net → AreExpanded e c.visited.new.self.frames children c.in_ok-table.table o →
-    IsPlanOf e c.visited.new.self.frames children c.in_ok-table.table c.in_ok-plan.plan.items) c.as_slice.ensures.value c.in_ok-plan.ensures) in
-    let sum = ap (sum_by (λ (s : Step). weight_at c.visited.new.self.circuit.net s.signal)) c.as_slice-2.ensures.value in
-    let few = plan_weighs _ _ _ _ _ _ _ _ _ _ w.2 w.4 c.in_ok-plan.plan.items is in
-    let later = later_within (unfolder_of c.visited.new.self c.self.inside.memo) c.build.new.self c.visited.new.events c.build.new.events _ c.args.cap c.build.ensures.later (omega (arith, sum, few)) in (
-      unfolded_from _ c.args.self.now c.self.view_is c.intern.new.self c.visited.new.self c.intern.ensures.same c.build.new.self c.args.events.now c.visited.new.events c.build.new.events c.args.frame c.in_ok-intern.ensures.grown w.0 c.args.cap w.2.opened
+    let few = walk_weighs _ _ _ _ _ _ _ _ _ _ w.2 w.4 in
+    let later = later_within (unfolder_of c.visited.new.self c.self.inside.memo) c.build_all.new.self c.visited.new.events c.build_all.new.events _ c.args.cap c.build_all.ensures.later few in (
+      unfolded_from _ c.args.self.now c.self.view_is c.intern.new.self c.visited.new.self c.intern.ensures.same c.build_all.new.self c.args.events.now c.visited.new.events c.build_all.new.events c.args.frame c.in_ok-intern.ensures.grown w.0 c.args.cap w.2.opened
           (let p = w.2.passed in let s = w.2.small in omega (arith, p, s)) later,
       record {
         weighed = subst (λ (e : EventCircuitView). IsWeighed e.net c.visited.new.counter) (ap (λ (k : EventWalkerView). k.circuit) c.intern.ensures.same ∙ ap (λ (k : EventUnfolderView). k.circuit) c.self.view_is) w.3.weighed;
-        few = omega (arith, ap length c.build.ensures.later.grown.children, w.3.few);
+        few = omega (arith, ap length c.build_all.ensures.later.grown.children, w.3.few);
         more = w.3.more;
       },
     )
 
 pub returns-clause-counting : goal.returns-clause-counting
 returns-clause-counting c = (
-  grows_trans c.args.events.now c.visited.new.events c.build.new.events c.visited.ensures.grows c.build.ensures.later.grown.grows,
+  grows_trans c.args.events.now c.visited.new.events c.build_all.new.events c.visited.ensures.grows c.build_all.ensures.later.grown.grows,
   λ x begins.
-      subst (λ (cs : List (ℕ × ℕ)). IsCounting c.args.self.now.circuit x c.args.events.now.children cs c.args.counter.now c.visited.new.counter) (sym c.build.ensures.later.grown.children)
+      subst (λ (cs : List (ℕ × ℕ)). IsCounting c.args.self.now.circuit x c.args.events.now.children cs c.args.counter.now c.visited.new.counter) (sym c.build_all.ensures.later.grown.children)
       (subst (λ (e : EventCircuitView). IsCounting e x c.args.events.now.children c.visited.new.events.children c.args.counter.now c.visited.new.counter) (ap (λ (k : EventWalkerView). k.circuit) c.intern.ensures.same ∙ ap (λ (k : EventUnfolderView). k.circuit) c.self.view_is)
       (c.visited.ensures.counting x (root_visited c.intern.new.self.circuit c.intern.new.self.frames c.args.events.now.children c.args.frame c.in_ok-intern.field-0 c.args.s.0 c.in_ok-intern.ensures.here c.requires.root x begins))),
 )
