@@ -1,13 +1,13 @@
-use Rattle.std.proofs.Common.{ℕ, List, [], ◌∷◌, Contains, subst, sym}
+use Rattle.std.proofs.Common.{ℕ, ◌+◌, ◌∙◌, List, [], ◌∷◌, Contains, subst, sym}
 use Rattle.std.proofs.lemmas.List.Elements.{Contains-append_left, Contains-append_right}
 use Rattle.clause_base.proofs.Members.{Contains-head}
-use Rattle.proof_check.proofs.Marking.{marking_grown}
 use Rattle.proof_check.proofs.marks.Marks.reach.Goals as goal
 
 pub returns-in_ok-push-clause-marking : goal.returns-in_ok-push-clause-marking
 returns-in_ok-push-clause-marking c =
     let e = c.in_ok-grow.ensures in
-    marking_grown c.args.self.now.signs.items c.grow.new.self.signs.items c.args.self.now.touched.items c.push.new.self.items e.small e.same (λ v h. subst (λ (t : List ℕ). Contains t v) (sym c.in_ok-push.ensures.items) (Contains-append_left c.grow.new.self.touched.items (c.args.variable ∷ []) v (subst (λ (t : List ℕ). Contains t v) (sym e.touched) h))) c.requires.marking
+    let kept : (v : ℕ) → Contains c.args.self.now.touched.items v → Contains c.push.new.self.items v = (λ v h. subst (λ (t : List ℕ). Contains t v) (sym c.in_ok-push.ensures.items) (Contains-append_left c.grow.new.self.touched.items (c.args.variable ∷ []) v (subst (λ (t : List ℕ). Contains t v) (sym e.touched) h))) in
+    record { small = e.small; listed = λ i s at. kept (i + 1) (c.requires.marking.listed i s (sym (e.same i) ∙ at)) }
 
 pub returns-in_ok-push-clause-roomier : goal.returns-in_ok-push-clause-roomier
 returns-in_ok-push-clause-roomier c =
@@ -17,7 +17,8 @@ returns-in_ok-push-clause-roomier c =
 pub returns-else-is_none-clause-marking : goal.returns-else-is_none-clause-marking
 returns-else-is_none-clause-marking c =
     let e = c.in_ok-grow.ensures in
-    marking_grown c.args.self.now.signs.items c.grow.new.self.signs.items c.args.self.now.touched.items c.grow.new.self.touched.items e.small e.same (λ v h. subst (λ (t : List ℕ). Contains t v) (sym e.touched) h) c.requires.marking
+    let kept : (v : ℕ) → Contains c.args.self.now.touched.items v → Contains c.grow.new.self.touched.items v = (λ v h. subst (λ (t : List ℕ). Contains t v) (sym e.touched) h) in
+    record { small = e.small; listed = λ i s at. kept (i + 1) (c.requires.marking.listed i s (sym (e.same i) ∙ at)) }
 
 pub returns-else-is_none-clause-roomier : goal.returns-else-is_none-clause-roomier
 returns-else-is_none-clause-roomier c =
