@@ -4,7 +4,6 @@ use circuit_theory::Mode;
 use sec_base::{FilePath, Settings, Word};
 
 /// What the words of a command line ask for: a job.
-#[derive(Drop)]
 pub enum Task {
     /// Compare the circuits of two files. Where a third file is assumed, only runs count whose inputs make its output 1 in each
     /// cycle.
@@ -60,4 +59,50 @@ pub enum Task {
         b: FilePath,
         conflicts: u32,
     },
+}
+
+/// It is let go by one call: an owner isn't taken apart field by field at each way out.
+impl Drop for Task {
+    fn drop(self) {
+        match self {
+            Task::Check {
+                a: _,
+                b: _,
+                settings: _,
+                assumed: _,
+            } => {}
+            Task::Graph { a: _, mode: _ } => {}
+            Task::Sim {
+                a: _,
+                s: _,
+                mode: _,
+                power: _,
+                reset: _,
+            } => {}
+            Task::Replay {
+                a: _,
+                b: _,
+                s: _,
+                mode: _,
+            } => {}
+            Task::Gen {
+                seed: _,
+                regroup: _,
+                conflicts: _,
+            } => {}
+            Task::Lrat { f: _, l: _ } => {}
+            Task::Cert {
+                a: _,
+                b: _,
+                pair: _,
+                lrat: _,
+                conflicts: _,
+            } => {}
+            Task::Induct {
+                a: _,
+                b: _,
+                conflicts: _,
+            } => {}
+        }
+    }
 }
