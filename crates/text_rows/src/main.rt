@@ -1,4 +1,4 @@
-//! Prints what the rows of eight files tell of texts of circuits. A row is a name, a tab and a text, with marks for what a row can't hold
+//! Prints what the rows of nine files tell of texts of circuits, and of functions. A row of a text is a name, a tab and a text, with marks for what a row can't hold
 //! as it is (`row_text::text_of`).
 //!
 //! Of what a text spells: the lines and tokens of each text of `lines`, what each text of `designs` spells in BLIF, or its fault, the
@@ -9,6 +9,8 @@
 //! ports), or the walk's fault. `wires`: the fault of drivers and clocks. `nets`: the net, or the design's fault. `cuts`: the net, its
 //! latches looked up by name, the value of each gate where all signals are 0 and where all are 1, and the net without its first latch,
 //! with the inputs that are read. Behind the rows stands a net that is made by hand.
+//!
+//! `functions`: a name, the definitions of a small graph, and what is asked of it, parted by `:`.
 #![tactic(auto)]
 
 mod aiger_files;
@@ -16,6 +18,7 @@ mod covers;
 mod cuts;
 mod designs;
 mod faults;
+mod functions;
 mod lines;
 mod made;
 mod nets;
@@ -47,6 +50,7 @@ enum Asked {
     Wires,
     Net,
     Cut,
+    Function,
 }
 
 fn show_asked(rt: &HostRuntime, asked: Asked, design: &Design) {
@@ -81,6 +85,9 @@ fn show_told(rt: &HostRuntime, asked: Asked, text: &[u8]) {
 }
 
 fn show_row(rt: &HostRuntime, asked: Asked, row: &[u8], long: &[u8]) {
+    if let Asked::Function = asked {
+        return functions::show_row(rt, row);
+    }
     let (name, marks) = split_at(b'\t', row);
     show(rt, name);
     show(rt, b":");
@@ -116,4 +123,5 @@ fn main(rt: HostRuntime) {
     show_file(&rt, Asked::Net, "nets", &part);
     show_file(&rt, Asked::Cut, "cuts", &part);
     show_made(&rt);
+    show_file(&rt, Asked::Function, "functions", &part);
 }

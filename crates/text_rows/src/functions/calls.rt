@@ -3,10 +3,10 @@
 ghost use Rattle.std.specs.Prelude.{◌*◌, ◌<◌, length, IfSome};
 ghost use Rattle.aig.specs.Cone.{IsClosed};
 
-use crate::decisions::{show_clauses, show_decision, show_table};
-use crate::lanes::{show_and_block, show_signatures};
-use crate::sketch::Sketch;
-use crate::sweeps::{show_cases, show_swept};
+use crate::functions::decisions::{show_clauses, show_decision, show_table};
+use crate::functions::lanes::{show_and_block, show_signatures};
+use crate::functions::sketch::Sketch;
+use crate::functions::sweeps::{show_cases, show_swept};
 use aig::{Aig, Lit, Node};
 use row_text::{show, show_count, show_number};
 use std::alloc::{AllocError, Global};

@@ -4,8 +4,8 @@ ghost use Rattle.std.specs.Prelude.{◌≡◌, ◌≢◌, ℕ, ◌*◌, ◌<◌,
 ghost use Rattle.std.specs.List.{AllPairs};
 ghost use Rattle.lane_eval.specs.Tables.{Covers};
 
-use crate::calls::{literal_at, show_value_under};
-use crate::sketch::Sketch;
+use crate::functions::calls::{literal_at, show_value_under};
+use crate::functions::sketch::Sketch;
 use aig::{Aig, Lit};
 use cnf_encode::{Cnf, encode};
 use lane_eval::table_differs;

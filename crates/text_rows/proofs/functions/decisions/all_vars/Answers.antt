@@ -9,7 +9,7 @@ use Rattle.aig.specs.declared.node.Node.TheVariants.{Input}
 use Rattle.aig.specs.Graph.{vars_of}
 use Rattle.aig.proofs.Insert.{vars_of-member}
 use Rattle.aig.proofs.Growth.{slice_get-append}
-use Rattle.function_rows.proofs.decisions.all_vars.Goals as goal
+use Rattle.text_rows.proofs.functions.decisions.all_vars.Goals as goal
 
 last : (xs : List ℕ) (x : ℕ) → slice_get (xs ++ x ∷ []) (length xs) ≡ Some x
 last [] x = refl

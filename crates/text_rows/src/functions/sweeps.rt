@@ -2,9 +2,9 @@
 
 ghost use Rattle.std.specs.Prelude.{◌≡◌, ◌*◌, ◌<◌, length, All};
 
-use crate::calls::literal_at;
-use crate::decisions::conflicts_at;
-use crate::sketch::Sketch;
+use crate::functions::calls::literal_at;
+use crate::functions::decisions::conflicts_at;
+use crate::functions::sketch::Sketch;
 use aig::{Aig, Lit, Lits};
 use case_split::agree_by_cases;
 use row_text::show;

@@ -1,7 +1,4 @@
-//! Prints what each line of the file `rows` answers: calls of the graph, of tables and signatures, of clauses and of decisions.
-//!
-//! A row has a name, the definitions of a small graph, and a call, parted by `:`.
-#![tactic(auto)]
+//! Calls of the graph, of tables and signatures, of clauses and of decisions.
 
 mod calls;
 mod decisions;
@@ -10,7 +7,7 @@ mod sketch;
 mod sweeps;
 
 use calls::show_call;
-use row_text::{file_of, show, split_at, words_of};
+use row_text::{show, split_at, words_of};
 use sketch::{Sketch, sketched};
 use std::rt::HostRuntime;
 
@@ -25,7 +22,8 @@ fn show_answer(rt: &HostRuntime, sketch: &Sketch, words: &[u8]) {
     }
 }
 
-fn show_row(rt: &HostRuntime, row: &[u8]) {
+/// Shows the row and what its call answers. A row has a name, the definitions of a small graph, and a call, parted by `:`.
+pub(crate) fn show_row(rt: &HostRuntime, row: &[u8]) {
     let (name, rest) = split_at(b':', row);
     let (definitions, words) = split_at(b':', rest);
     show(rt, name);
@@ -35,18 +33,4 @@ fn show_row(rt: &HostRuntime, row: &[u8]) {
         None => show(rt, b" not a row"),
     }
     show(rt, b"\n");
-}
-
-fn main(rt: HostRuntime) {
-    let Some(rows) = file_of(&rt, "rows") else {
-        return show(&rt, b"no rows\n");
-    };
-    let mut rest = rows.as_slice();
-    for _ in 0..rows.len() {
-        let (row, later) = split_at(b'\n', rest);
-        if !row.is_empty() {
-            show_row(&rt, row);
-        }
-        rest = later;
-    }
 }
