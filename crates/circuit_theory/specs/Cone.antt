@@ -1,10 +1,9 @@
 -- The next-state functions of one latch, over the inputs and the other latches of its cone.
-use Rattle.std.specs.Prelude.{◌≡◌, ◌≢◌, ℕ, ◌<◌, ◌⊎◌, Bool, true, false, List, [], ◌∷◌, Option, Some, None, slice_get}
+use Rattle.std.specs.Prelude.{◌≡◌, ◌≢◌, ℕ, Bool, true, false, List, [], ◌∷◌, Option, Some, None, slice_get}
 use Rattle.std.specs.List.{Contains, filter_map}
 use Rattle.circuit_theory.specs.Cover.{Cover}
 use Rattle.circuit_theory.specs.Circuit.{Circuit, Equation, Gate, Latch, Port}
-use Rattle.circuit_theory.specs.Tree.{Tree, Trees, Leaf, Fixed, Branch, Nil, Cons, tree_value}
-use Rattle.circuit_theory.specs.Query.{Query, Variable}
+use Rattle.circuit_theory.specs.Tree.{Tree, Trees, Leaf, Fixed, Branch, Nil, Cons}
 
 -- a leaf's number counts the inputs, or the latches
 pub data Source : Type 0 where
@@ -20,14 +19,6 @@ latch_place (Port out from) = None
 -- the latches in the order of the list of equations
 abbrev pub latches_of : {P : Type 0} → Circuit P → List P
 latches_of c = filter_map latch_place c.equations
-
--- inputs come before latches, each by number
-abbrev pub SourceBefore : Variable Source → Variable Source → Type 0
-SourceBefore x y = KindBefore x.at y.at ⊎ ((x.at ≡ y.at) × (x.input < y.input))
-  where
-    KindBefore : Source → Source → Type 0
-    KindBefore AnInput ALatch = Unit {0}
-    KindBefore x y = ⊥
 
 -- two kinds are one
 abbrev pub same_source : Source → Source → Bool
@@ -49,7 +40,3 @@ mutual
   pub data ConeUnfoldsAll {P : Type 0} (c : Circuit P) (u : P) (bit : Bool) : List P → Trees Source → Type 0 where
     none : ConeUnfoldsAll c u bit [] Nil
     more : {p : P} {ps : List P} {tree : Tree Source} {trees : Trees Source} → ConeUnfolds c u bit p tree → ConeUnfoldsAll c u bit ps trees → ConeUnfoldsAll c u bit (p ∷ ps) (Cons tree trees)
-
--- does some assignment give 1 with the latch at 0, and 0 with it at 1?
-abbrev pub recovery_query : Tree Source → Tree Source → Query Source
-recovery_query low high = record { left = λ a. tree_value a low; right = λ a. tree_value a high; care = λ a. tree_value a low }

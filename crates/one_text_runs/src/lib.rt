@@ -10,8 +10,7 @@ ghost use Rattle.job_base.specs.Lines.{finding_text};
 ghost use Rattle.sec_run.specs.Job.{paths_in};
 ghost use Rattle.sec_run.specs.Answer.{IsFinding};
 ghost use Rattle.sec_run.specs.Promises.{IsComplete};
-ghost use Rattle.one_text.specs.Itself.{OfOneText, IsEqualAnswer};
-ghost use Rattle.one_text_runs.specs.OneTextRuns.{OfCheck};
+ghost use Rattle.one_text.specs.Itself.{OfCheck, OfOneText, IsEqualAnswer};
 
 use circuit_theory::Mode;
 use command_line::Task;
