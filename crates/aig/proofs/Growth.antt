@@ -21,9 +21,6 @@ Grows-refl g = ([], append_nil g)
 pub Grows-trans : (g h k : List Node) → Grows g h → Grows h k → Grows g k
 Grows-trans g h k (more, e) (others, f) = (more ++ others, f ∙ ap (λ (xs : List Node). xs ++ others) e ∙ append_assoc g more others)
 
-pub Grows-one : (g : List Node) (node : Node) → Grows g (g ++ node ∷ [])
-Grows-one g node = (node ∷ [], refl)
-
 pub Grows-length : (g h : List Node) → Grows g h → length g ≤ length h
 Grows-length g h (more, e) = omega (arith, ap length e, length-append g more)
 

@@ -9,9 +9,6 @@ use Rattle.aiger_records.specs.declared.record.Record.TheVariants.{Input}
 use Rattle.aiger_records.specs.Records.{inputs_to}
 use Rattle.aiger_records.specs.Faults.{defined_by, is_literal, is_defined, is_defined_again, DefinesOnce}
 
-pub once_none : DefinesOnce []
-once_none i j literal r s hi hj di dj = absurd (none-some r hi)
-
 -- the old items, and the new one
 push_cases : {X : Type 0} (xs : List X) (y : X) (i : ℕ) (x : X) → slice_get (xs ++ y ∷ []) i ≡ Some x → (slice_get xs i ≡ Some x) ⊎ ((i ≡ length xs) × (y ≡ x))
 push_cases [] y zero x h = inr (refl, same_Some y x h)

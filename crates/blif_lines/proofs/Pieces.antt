@@ -51,13 +51,6 @@ goes_on n m begun piece body more rest is ends cut =
     let P : List ℕ → Type 0 = λ b. before_line n begun (join_line m b rest) ≡ before_line n ((begun ++ more) ++ 32 ∷ []) rest in
     subst P is (rw ends (before_both n m begun (going_on body) rest ∙ ap (λ (b : List ℕ). before_line n b rest) (ap (λ (b : List ℕ). begun ++ (b ++ 32 ∷ [])) (sym cut) ∙ sym (append_assoc begun more (32 ∷ [])))))
 
--- a body that ends the line
-pub ends_here : (n m : ℕ) (begun piece body : List ℕ) (rest : List RawLine) → body ≡ cut_line piece → ends_with_byte 92 body ≡ false →
-    before_line n begun (join_line m (cut_line piece) rest) ≡ raw_line n (begun ++ body) ∷ rest
-ends_here n m begun piece body rest is ends =
-    let P : List ℕ → Type 0 = λ b. before_line n begun (join_line m b rest) ≡ raw_line n (begun ++ body) ∷ rest in
-    subst P is (rw ends refl)
-
 -- the next physical line ends at the first line feed
 pub next_is : (text : List ℕ) (place : ℕ) → place ≡ position_or_len is_line_feed text → place < length text →
     physical_left false text ≡ take place text ∷ physical_left false (drop (place + 1) text)
@@ -97,13 +90,6 @@ pub line_goes_on : (d e : Bool) (n m k : ℕ) (rest after piece body begun more 
 line_goes_on d e n m k rest after piece body begun more split next is ends cut =
     ap (λ (ps : List (List ℕ)). before_line k begun (joined_lines n ps)) split ∙ goes_on k n begun piece body more (joined_lines (n + 1) (physical_left e after)) is ends cut
     ∙ ap (λ (i : ℕ). before_line k ((begun ++ more) ++ 32 ∷ []) (joined_lines i (physical_left e after))) (sym next)
-
--- a line that ends with the piece
-pub line_ends : (d e : Bool) (n m k : ℕ) (rest after piece body begun : List ℕ) → physical_left d rest ≡ piece ∷ physical_left e after → m ≡ n + 1 → body ≡ cut_line piece →
-    ends_with_byte 92 body ≡ false → before_line k begun (left_lines d n rest) ≡ raw_line k (begun ++ body) ∷ left_lines e m after
-line_ends d e n m k rest after piece body begun split next is ends =
-    ap (λ (ps : List (List ℕ)). before_line k begun (joined_lines n ps)) split ∙ ends_here k n begun piece body (joined_lines (n + 1) (physical_left e after)) is ends
-    ∙ ap (λ (i : ℕ). raw_line k (begun ++ body) ∷ joined_lines i (physical_left e after)) (sym next)
 
 -- what a slice from n on holds
 pub rest_from : (xs : List ℕ) (n : ℕ) → take (length xs - n) (drop n xs) ≡ drop n xs

@@ -13,19 +13,6 @@ use Rattle.blif_read.specs.Fault.{fault_of}
 use Rattle.blif_read.specs.Reading.{fault_at, first_fault_after}
 use Rattle.blif_read.specs.State.{TookAnd, TookLine, Means, ReadTo, TookLines, lines_among, answer_at}
 
--- from the step on a line's tokens to the line
-pub took_line : (number : ℕ) (t : List ℕ) (ts : List (List ℕ)) (before : List Line) (new : Reader) (result : Result (Unit {0}) Stop) (given : Result (Unit {0}) ReadError) →
-    TookAnd (fault_of before (line_of number (t ∷ ts))) (Means new (line_of number (t ∷ ts) ∷ before)) result →
-    given ≡ answer_at number result → TookLine number (t ∷ ts) before new given
-took_line number t ts before new result given took is =
-    let P : Result (Unit {0}) ReadError → Type 0 = λ r. TookLine number (t ∷ ts) before new r in
-    subst P (sym is) (go result took)
-  where
-    go : (result : Result (Unit {0}) Stop) → TookAnd (fault_of before (line_of number (t ∷ ts))) (Means new (line_of number (t ∷ ts) ∷ before)) result → TookLine number (t ∷ ts) before new (answer_at number result)
-    go (Ok u) took = took
-    go (Err stop.NoMemory) took = tt
-    go (Err (stop.Fault k)) took = (refl, took)
-
 step_ok : (whole : List Line) (number : ℕ) (tokens : List (List ℕ)) (rest : List TokenLine) (old new : Reader) (u : Unit {0}) →
     ReadTo whole (map headed (cond (not (is_empty tokens)) (record { number = number; tokens = tokens } ∷ rest) rest)) old →
     ((before : List Line) → Means old before → TookLine number tokens before new (Ok u)) →
@@ -46,23 +33,6 @@ pub read_on : (whole : List Line) (raw : RawLine) (raws : List RawLine) (old new
     ((before : List Line) → Means old before → TookLine raw.number (tokens_of raw.bytes) before new (Ok u)) →
     ReadTo whole (lines_among raws) new
 read_on whole raw raws old new u rd step = step_ok whole raw.number (tokens_of raw.bytes) (filter (λ line. not (is_empty line.tokens)) (map token_line raws)) old new u rd step
-
-step_err : (text : List ℕ) (number : ℕ) (tokens : List (List ℕ)) (rest : List TokenLine) (old new : Reader) (e : ReadError) →
-    ReadTo (lines_of text) (map headed (cond (not (is_empty tokens)) (record { number = number; tokens = tokens } ∷ rest) rest)) old →
-    ((before : List Line) → Means old before → TookLine number tokens before new (Err e)) →
-    TookLines text new (Err e)
-step_err text number tokens rest old new read.NoMemory rd step = tt
-step_err text number [] rest old new (read.At line k) rd step = absurd (step rd.before rd.means)
-step_err text number (t ∷ ts) rest old new (read.At line k) rd step =
-    let took = step rd.before rd.means in
-    rd.fault ∙ ap (λ f. fault_at number f (first_fault_after (line_of number (t ∷ ts) ∷ rd.before) (map headed rest))) took.1 ∙ ap (λ n. Some (record { line = n; kind = k })) (sym took.0)
-
--- the first faulty line ends the reading
-pub read_stops : (text : List ℕ) (raw : RawLine) (raws : List RawLine) (old new : Reader) (e : ReadError) →
-    ReadTo (lines_of text) (lines_among (raw ∷ raws)) old →
-    ((before : List Line) → Means old before → TookLine raw.number (tokens_of raw.bytes) before new (Err e)) →
-    TookLines text new (Err e)
-read_stops text raw raws old new e rd step = step_err text raw.number (tokens_of raw.bytes) (filter (λ line. not (is_empty line.tokens)) (map token_line raws)) old new e rd step
 
 -- before the first line
 pub read_none : (whole : List Line) (r : Reader) → Means r [] → ReadTo whole whole r

@@ -94,13 +94,6 @@ word_taken h number args old new result passes took before word m =
     let P : Option ReadKind → Type 0 = λ f. TookAnd f (Means new (line_with number h word args ∷ before)) result in
     subst P (sym own) (took before word m)
 
--- a word line that is stopped before its own rules
-pub word_stopped : (h : Head) (args : List (List ℕ)) (old : Reader) (k : ReadKind) → gate (is_none old.current) h args ≡ Some k →
-    (before : List Line) → Means old before → word_fault before (open_model before) h args ≡ Some k
-word_stopped h args old k stops before m =
-    let stopped : gate (is_empty (open_model before)) h args ≡ Some k = ap (λ none. gate none h args) (sym (none_open old before m)) ∙ stops in
-    ap (λ f. f or_else own_fault before (open_model before) h args) stopped
-
 again : (x y : Bool) → (x || (x || y)) ≡ (x || y)
 again true y = refl
 again false y = refl

@@ -27,10 +27,6 @@ split-both g x y v low high is-low is-high old new both all =
     let other : IsCaseOf g x y v true both.second = subst (λ (o : Option Case). IfSome o (IsCaseOf g x y v true)) both.is-high is-high in
     (both-cases g x y v both.first both.second one other first second, rest)
 
--- a literal agrees with itself
-pub split-same : (g : List Node) (x y : ℕ) → x ≡ y → (cases : List Case) → IsSplitOf g x y cases cases
-split-same g x y same cases all = (λ a. subst (λ (z : ℕ). value g a x ≡ value g a z) same refl, all)
-
 -- one case less, where that one was split
 pub split-next : (g : List Node) (x y : ℕ) (case : Case) (before rest new : List Case) → before ≡ rest ++ case ∷ [] → (AllAgree before → AgreeIn g x y)
     → IsSplitOf case.graph case.left.0 case.right.0 rest new → AllAgree new → AgreeIn g x y

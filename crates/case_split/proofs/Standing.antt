@@ -11,13 +11,6 @@ use Rattle.aig.proofs.Insert.{push-cases}
 use Rattle.case_split.specs.Under.{StandsUnder, AreUnder}
 
 module _ (v : ℕ) (bit : Bool) (g : List Node) where
-  pub under-grows : (h k : List Node) → KeepsValues h k → length h ≤ length k → (x y : ℕ) → StandsUnder v bit g h x y → StandsUnder v bit g k x y
-  under-grows h k keeps more x y s = record { within = omega (arith, s.within); same = λ a is. keeps a y s.within ∙ s.same a is }
-
-  -- the node's literal
-  pub under-even : (h : List Node) (x y : ℕ) → x % 2 ≡ 0 → StandsUnder v bit g h (2 * (x / 2)) y → StandsUnder v bit g h x y
-  under-even h x y even s = let e : 2 * (x / 2) ≡ x = omega arith in subst (λ (z : ℕ). StandsUnder v bit g h z y) e s
-
   -- its complement
   pub under-odd : (h : List Node) (x y z : ℕ) → x % 2 ≡ 1 → z ≡ flip y → StandsUnder v bit g h (2 * (x / 2)) y → StandsUnder v bit g h x z
   under-odd h x y z odd is s =
@@ -35,21 +28,3 @@ module _ (v : ℕ) (bit : Bool) (g : List Node) where
     within = within;
     same = λ a here. made a ∙ ap (λ (b : Bool). b && value h a t) (left.same a here) ∙ ap (λ (b : Bool). value g a l && b) (right.same a here) ∙ sym (is a);
   }
-
-  -- a literal of the value that the node has
-  pub under-value : (h : List Node) (x y : ℕ) → y < 2 * length h → ((a : ℕ → Bool) → a v ≡ bit → value h a y ≡ value g a x) → StandsUnder v bit g h x y
-  under-value h x y within same = record { within = within; same = same }
-
-  pub AreUnder-grows : (h k : List Node) → KeepsValues h k → length h ≤ length k → (lits : List (Option Lit)) → AreUnder g v bit h lits → AreUnder g v bit k lits
-  AreUnder-grows h k keeps more lits are n y at = under-grows h k keeps more (2 * n) y.0 (are n y at)
-
-  -- what is known of one node more
-  pub AreUnder-push : (h : List Node) (lits : List (Option Lit)) (n : ℕ) (found : Option Lit) → n ≡ length lits → AreUnder g v bit h lits
-      → ((y : Lit) → found ≡ Some y → StandsUnder v bit g h (2 * n) y.0) → AreUnder g v bit h (lits ++ found ∷ [])
-  AreUnder-push h lits n found last are stands m z at = by (push-cases lits found m (Some z) at)
-    where
-      by : (slice_get lits m ≡ Some (Some z)) ⊎ ((m ≡ length lits) × (Some z ≡ found)) → StandsUnder v bit g h (2 * m) z.0
-      by (inl before) = are m z before
-      by (inr (e, f)) =
-          let here : n ≡ m = last ∙ sym e in
-          subst (λ (j : ℕ). StandsUnder v bit g h (2 * j) z.0) here (stands z (sym f))

@@ -244,11 +244,6 @@ met_next u v g h places more reach i d inside later here before j q below at = g
         let one : get_or reach i d ≡ q = get_or_from_slice_get reach i q d (subst (λ (k : ℕ). slice_get reach k ≡ Some q) same at) in
         subst (IsMet v.memo) one here
 
--- too much for the unfolder as it was
-pub over_before : (u v : UnfolderView) → v.net ≡ u.net → v.done ≡ u.done → v.cap ≡ u.cap → IsOver (circuit_of v.net) v.done v.cap → IsOver (circuit_of u.net) u.done u.cap
-over_before u v net done cap over =
-    subst (λ (n : NetView). IsOver (circuit_of n) u.done u.cap) net (subst (λ (d : List ℕ). IsOver (circuit_of v.net) d u.cap) done (subst (λ (k : ℕ). IsOver (circuit_of v.net) v.done k) cap over))
-
 -- the weight of a place is counted before it is unfolded
 pub ready_weight : (u : UnfolderView) (weight : ℕ) (p : ℕ × ℕ) → IsReady u p → IsReady (record u { weight = weight }) p
 ready_weight u weight p ready = record { visited = ready.visited; within = ready.within; early = ready.early; read = ready.read }

@@ -37,9 +37,6 @@ gate_lit u cycle j h g lits (Ok x) at each is within = record { gate = g; at = a
 gate_lit u cycle j h g lits (Err e) at each is within = is
 
 module _ (u : UnfolderView) (sound : IsSound u.net) (order : IsOrderOf u.net u.order) (p : ℕ × ℕ) where
-  Is : List Node → List (ℕ × ℕ) → ℕ → Type 0
-  Is g places x = IsKnown u.net u.order u.cap g places p x
-
   -- an input's place
   pub input_is : {E : Type 0} (i : ℕ) (g : List Node) (places : List (ℕ × ℕ)) (r : Result Lit E) → slice_get u.net.drivers p.1 ≡ Some (driver.Input i) → IfOk r (λ x. IsInputLit u.order i (u.cap - p.0) g places x.0) →
       IfOk r (λ x. IsKnown u.net u.order u.cap g places p x.0)

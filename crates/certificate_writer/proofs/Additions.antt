@@ -48,11 +48,6 @@ module _ (known : List (List Literal)) (log : List Chain) (derived : List (List 
       ∙ (append_assoc old (addition_text line) (flat_map line_text (lines_from (at + 1)))
       ∙ (ap (λ (ls : List Line). old ++ flat_map line_text ls) (sym (next_line at chain c lt is below here)) ∙ so))
 
-  -- the last line stands
-  pub text_whole : (at : ℕ) (text whole : List ℕ) → length log ≤ at → text ++ flat_map line_text (lines_from at) ≡ whole → text ≡ whole
-  text_whole at text whole past so =
-      sym (append-nil text) ∙ (ap (λ (xs : List Chain). text ++ flat_map line_text (lines_of (known ++ take at derived) xs (drop at derived))) (sym (drop_of_length-le log past)) ∙ so)
-
   pub text_none : flat_map line_text (lines_from 0) ≡ flat_map line_text (lines_of known log derived)
   text_none = ap (λ (ks : List (List Literal)). flat_map line_text (lines_of ks log derived)) (append-nil known)
 

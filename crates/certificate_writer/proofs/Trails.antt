@@ -190,10 +190,6 @@ clause_free t c i x ordered lt is so k m below at same =
     length-take-at : length (take i c) ≡ i
     length-take-at = length-take-le i c (omega arith)
 
-pub clause_more : (t u : List Entry) (c : List Literal) (i : ℕ) (x n : Literal) → i < length c → x ≡ get_or c i x → n ≡ negation x → falsified_by t ≡ take i c → u ≡ t ++ record { literal = n; reason = None } ∷ [] → falsified_by u ≡ take (i + 1) c
-clause_more t u c i x n lt is neg so e =
-    falsified_push t n u e ∙ (ap (λ ls. ls ++ negation n ∷ []) so ∙ (ap (λ (y : Literal). take i c ++ negation y ∷ []) neg ∙ (ap (λ (y : Literal). take i c ++ y ∷ []) (negation_twice x ∙ is) ∙ sym (take_more c i x lt))))
-
 pub clause_consistent : (t : List Entry) (c : List Literal) → IsClause c → falsified_by t ≡ c → IsConsistent (falsified_by t)
 clause_consistent t c ordered so =
     subst IsConsistent (sym so) (λ l h k. not_same_sign l.positive (ap (λ (x : Literal). x.positive) (one_of_variable c l (negation l) ordered h k refl)))

@@ -33,9 +33,6 @@ unlike_answered v w enables latch conflicts u (members.Limit member proof) grows
       (subst (λ (m : ℕ). IsAnswered v w enables latch conflicts m u.compared) (sym h.0) (record { at = w; since = grows; until = grows_refl w; kept = is; enable = first.enable; is = first.at; before = first.before; compared = first.compared })),
 )
 
-pub all_agreed : (v w : EventGraphView) (enables : List Enable) (latch : Enable) → GrowsEvents v w → IsEventGraph w → All (λ x. AreSameEnables w x latch) enables → HaveAgreed v w enables latch
-all_agreed v w enables latch grows is same = record { at = w; since = grows; until = grows_refl w; kept = is; same = same }
-
 -- an answer between two states is one between an earlier one and a later one
 pub answered_between : (u v w x : EventGraphView) → GrowsEvents u v → GrowsEvents w x → (enables : List Enable) (latch : Enable) (conflicts member : ℕ) (c : Compared) → IsAnswered v w enables latch conflicts member c → IsAnswered u x enables latch conflicts member c
 answered_between u v w x before after enables latch conflicts member c k = record {

@@ -82,11 +82,6 @@ both_undone rows old mid new number first second m p q =
 pub popped_more : (old new : List (List Watcher)) (l : Literal) (e : Watcher) → IsAdded old l e new → 0 < length (row new l)
 popped_more old new l e a = omega (arith, ap (λ (r : List Watcher). length r) a.here, length-append (row old l) (e ∷ []))
 
-pub popped_first : (rows old mid : List (List Watcher)) (number : ℕ) (first second : Literal) → IsInBothRows rows number first second old → IsPopped old second mid → 0 < length (row mid first)
-popped_first rows old mid number first second m p =
-    let s = undone m.between old old mid second (record { clause = number; blocker = first }) m.right (same_rows old) p in
-    omega (arith, ap (λ (r : List Watcher). length r) (s.same first), popped_more rows m.between first (record { clause = number; blocker = second }) m.left)
-
 -- a clause more
 
 pub alone_more : (pairs : List Pair) (p : Pair) (rows : List (List Watcher)) → AreAlone pairs rows → AreAlone (pairs ++ p ∷ []) rows
@@ -359,14 +354,3 @@ keeps_rewatched known pairs new_pairs rows new l place number e c other next v a
         side : pair ≡ w.0 → (w.0.first ≡ l) ⊎ (w.0.second ≡ l) → ⊥
         side is (inl q) = far (ap (λ (x : Literal). x.variable) (ap (λ (x : Pair). x.first) is ∙ q))
         side is (inr q) = apart (ap (λ (x : Pair). x.second) is ∙ q)
-
--- the first two literals of a clause are its own
-pub first_two : (c : List Literal) (l m : Literal) → IsClause c → 2 ≤ length c → l ≡ get_or c 0 l → m ≡ get_or c 1 m → AreOwn c (record { first = l; second = m })
-first_two c l m clause long first second =
-    let left : get_or c 0 m ≡ l = get_or_default c 0 m l (omega arith) ∙ sym first in
-    let rises = clause 0 1 m (omega arith) (omega arith) in
-    record {
-      first = (0, omega (arith, long), sym first);
-      second = (1, omega (arith, long), sym second);
-      differ = λ e. omega (arith, rises, ap (λ (x : Literal). x.variable) left, ap (λ (x : Literal). x.variable) second, e);
-    }

@@ -87,9 +87,6 @@ flat_push ls more end starts f clause is = record {
     go i c (inl x) = at_number IsClause (pieces ls starts) i c f.clauses x.1
     go i c (inr x) = subst IsClause x.1 clause
 
-pub flat_start : IsFlat [] (0 ∷ [])
-flat_start = record { cut = refl; clauses = λ k d within. absurd (omega (arith, within)) }
-
 pub flat_clause : (ls : List Literal) (starts : List ℕ) (i : ℕ) (c : List Literal) → IsFlat ls starts → slice_get (pieces ls starts) i ≡ Some c → IsClause c
 flat_clause ls starts i c f there = at_number IsClause (pieces ls starts) i c f.clauses there
 

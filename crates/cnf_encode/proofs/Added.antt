@@ -19,9 +19,6 @@ AreClausesOf-append [] cs ys ds h k = subst (λ (es : List (List Literal)). AreC
 AreClausesOf-append (x ∷ xs) cs ys ds (inl (both, h)) k = inl (both, AreClausesOf-append xs cs ys ds h k)
 AreClausesOf-append (x ∷ xs) cs ys ds (inr (c, others, is, h, e)) k = inr (c, others ++ ds, is, AreClausesOf-append xs others ys ds h k, ap (λ (es : List (List Literal)). es ++ ds) e)
 
-pub Adds-none : (old : List (List Literal)) → Adds [] old old
-Adds-none old = ([], refl, sym (nil old))
-
 -- one list after the other
 pub Adds-join : (xs ys a b c : List (List Literal)) → Adds xs a b → Adds ys b c → Adds (xs ++ ys) a c
 Adds-join xs ys a b c (first, h, e) (second, k, f) = (first ++ second, AreClausesOf-append xs first ys second h k, f ∙ ap (λ (ds : List (List Literal)). ds ++ second) e ∙ append_assoc a first second)

@@ -35,9 +35,6 @@ module _ (nets : List (Option ℕ)) (signals : List ℕ) where
   at_last : (i n net : ℕ) → slice_get signals i ≡ Some n → slice_get nets n ≡ Some (Some net) → NetIsAt nets (take (i + 1) signals) i net
   at_last i n net here leads = record { signal = n; here = slice_get-last signals i n here; leads = leads }
 
-  pub one_start : AreOneNet nets (take 0 signals) None
-  one_start i net h = none-some h.signal h.here
-
   -- a signal without a net
   pub one_passed : (i n : ℕ) (clock : Option ℕ) → slice_get signals i ≡ Some n → slice_get nets n ≡ Some None → AreOneNet nets (take i signals) clock → AreOneNet nets (take (i + 1) signals) clock
   one_passed i n None here none old = λ j net h. by j net (at_cases i j net n here h)

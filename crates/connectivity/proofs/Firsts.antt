@@ -78,9 +78,6 @@ meant_never xs name M N back never i q e = never i q (record { item = e.item; he
 
 -- going on from the items before
 module _ {X P : Type 0} (name : X → P) (M : X → Type 0) where
-  pub never_start : (xs : List X) → IsNever (IsAt (take 0 xs) name M)
-  never_start xs = never_nil name M
-
   pub never_more : (xs : List X) (i : ℕ) (x : X) → slice_get xs i ≡ Some x → IsNever (IsAt (take i xs) name M) → (M x → ⊥) → IsNever (IsAt (take (i + 1) xs) name M)
   never_more xs i x here before none =
       subst (λ zs. IsNever (IsAt zs name M)) (take-push xs i x here) (never_append name M (take i xs) (x ∷ []) before (never_one name M x none))

@@ -48,10 +48,3 @@ module _ (w : EventGraphView) (is : IsEventGraph w) (ranks : List ℕ) (have : H
           let low = slice_get-take v w.places k.0 q.0 k.1 in
           let same = put_one k.0 v q.0 p low.1 at q.2 in
           omega (arith, low.0, same)
-
-  -- no entry stands twice
-  pub ranked_distinct : AreDistinct (ranked_in ranks w.places)
-  ranked_distinct i j x first second =
-      let p = map_at put w.places i x first in
-      let q = map_at put w.places j x second in
-      put_one i j p.0 q.0 p.1 q.1 (p.2 ∙ sym q.2)

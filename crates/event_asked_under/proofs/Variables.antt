@@ -50,9 +50,6 @@ module _ (w : EventGraphView) (is : IsEventGraph w) (r : RankedNodes) (k : AreRa
   pub entry_in : (v : ℕ) → v < length w.places → (p : ℕ × ℕ) × (slice_get w.places v ≡ Some p)
   entry_in v below = (get_or w.places v (0, 0), slice_get-get_or w.places v (0, 0) below)
 
-  pub table_long : length w.places ≤ length table
-  table_long = let long = adds_length (λ q. Unit {0}) (ranked_in r.ranks.items w.places) table adds in let same = length-map {Y = ℕ × ℕ} (λ (q : ℕ × ℕ). (q.0, get_or r.ranks.items q.1 0)) w.places in omega (arith, long, same)
-
   -- the place of a variable is that of its node
   pub node_there : (v : ℕ) → v < length w.places → at_rank (place_of table v) ≡ (event_variables.variable_of w v).at
   node_there v below =

@@ -114,10 +114,6 @@ sum_take w [] (suc i) = omega arith
 sum_take w (x ∷ xs) zero = omega arith
 sum_take w (x ∷ xs) (suc i) = omega (arith, sum_by-cons w x (take i xs), sum_by-cons w x xs, sum_take w xs i)
 
--- the room that is left for the next step
-pub weight_next : (u v : EventUnfolderView) (w x : EventGraphView) (room : ℕ) (s : ℕ) → IsLater u v w x room → weight_at v.circuit.net s ≡ weight_at u.circuit.net s
-weight_next u v w x room s later = ap (λ (e : EventCircuitView). weight_at e.net s) later.circuit
-
 pub room_next : (u v : EventUnfolderView) (w x : EventGraphView) (plan : List Step) (i : ℕ) (d : Step) (bound : ℕ) → IsLater u v w x (sum_by (λ (p : Step). weight_at u.circuit.net p.signal) (take i plan)) → i < length plan →
     length w.graph + sum_by (λ (p : Step). weight_at u.circuit.net p.signal) plan < bound → length x.graph + weight_at v.circuit.net (get_or plan i d).signal < bound
 room_next u v w x plan i d bound later inside room =

@@ -78,9 +78,6 @@ module _ (children : List (ℕ × ℕ)) (tree : IsTree children) where
       let within = slice_get_within children (n - 1) (parent, class) at in
       (omega (arith, low, some), omega (arith, low, within))
 
-  pub counted_none : (node : ℕ) → node ≤ length children → HasCounted children node node 0
-  counted_none node within = record { made = within; counted = omega arith; few = omega arith }
-
   pub counted_more : (node at steps parent class : ℕ) → HasCounted children node at steps → 0 < at → slice_get children (at - 1) ≡ Some (parent, class) → HasCounted children node parent (steps + 1)
   counted_more node at steps parent class so some here =
       let low = parent_low at parent class some here in

@@ -23,10 +23,6 @@ use Rattle.event_walk.specs.Walk.{IsSeen, IsExpanded, IsEntry, IsOpened, IsWalk}
 use Rattle.event_nodes.proofs.Lists.{adds_none, adds_trans, adds_weaker, adds_contains, adds_at, adds_length, adds_take}
 use Rattle.event_nodes.proofs.Growing.{grows_refl, grows_trans, children_more}
 
-pub if_cases : {X : Type 0} (b : Bool) (ys xs zs : List X) → ys ≡ (if b then xs else zs) → (ys ≡ xs) ⊎ (ys ≡ zs)
-if_cases true ys xs zs e = inl e
-if_cases false ys xs zs e = inr e
-
 pub opened_none : (u : EventWalkerView) (w : EventGraphView) (room : ℕ) → IsOpened u u w w room
 opened_none u w room = record {
   circuit = refl;
@@ -150,15 +146,6 @@ walk_more u v t w x y root table new ways at weight more cap p g walk here opene
         let same : p ≡ q = one_at new at p q (adds_at (IsSeen t.circuit t.frames y.children) table new at p adds here) (subst (λ (k : ℕ). slice_get new k ≡ Some q) place at_i) in
         subst (λ (r : ℕ × ℕ). IsExpanded t.circuit t.frames y.children new r h) same (subst (λ (k : Ways). IsExpanded t.circuit t.frames y.children new p k) e.1 expanded)
 
--- all places are expanded
-pub walk_all : (u v : EventWalkerView) (w x : EventGraphView) (root : ℕ × ℕ) (table : List (ℕ × ℕ)) (ways : List Ways) (at weight cap : ℕ) → IsWalk u v w x root table ways at weight cap → length table ≤ at → (p : ℕ × ℕ) → Contains table p →
-    (g : Ways) × IsExpanded v.circuit v.frames x.children table p g
-walk_all u v w x root table ways at weight cap walk done p h =
-    let i = at_of table p h in
-    let inside = slice_get_within table i.0 p i.1 in
-    let g = some_at ways i.0 (omega (arith, inside, done, walk.each)) in
-    (g.0, walk.expanded i.0 p g.0 i.1 g.1)
-
 pub walk_first : (u : EventWalkerView) (w : EventGraphView) (root : ℕ × ℕ) (table : List (ℕ × ℕ)) (cap : ℕ) → IsSeen u.circuit u.frames w.children root → table ≡ root ∷ [] → IsWalk u u w w root table [] 0 0 cap
 walk_first u w root table cap seen is = subst (λ (t : List (ℕ × ℕ)). IsWalk u u w w root t [] 0 0 cap) (sym is) (record {
   begins = Contains-head root [];
@@ -172,14 +159,3 @@ walk_first u w root table cap seen is = subst (λ (t : List (ℕ × ℕ)). IsWal
   passed = omega arith;
   small = omega arith;
 })
-
--- with more room
-pub opened_within : (u v : EventWalkerView) (w x : EventGraphView) (room all : ℕ) → IsOpened u v w x room → room ≤ all → IsOpened u v w x all
-opened_within u v w x room all a few = record {
-  circuit = a.circuit;
-  frames = a.frames;
-  grows = a.grows;
-  graph = a.graph;
-  places = a.places;
-  few_frames = omega (arith, a.few_frames, few);
-}

@@ -37,9 +37,6 @@ pub filter-take : {X : Type 0} (p : X → Bool) (xs : List X) (i : ℕ) (x : X) 
 filter-take p xs i x here = ap (filter p) (sym (take-push xs i x here)) ∙ filter-push p (take i xs) x
 
 module _ (names : List (List ℕ)) (inputs : ℕ) (latches : List LatchAt) where
-  pub places_start : PlacesSoFar names inputs latches 0 0 []
-  places_start = record { len = refl; count = refl; low = omega arith; each = λ j l below. absurd (omega (arith, below)) }
-
   -- the places of one latch more
   each_more : (i : ℕ) (places : List Driver) (l : LatchAt) (d : Driver) → length places ≡ i → slice_get latches i ≡ Some l →
       ((j : ℕ) (k : LatchAt) → j < i → slice_get latches j ≡ Some k → (e : Driver) × (slice_get places j ≡ Some e) × IsPlaceOf names inputs (length (filter (stays names) (take j latches))) k.name e) →

@@ -23,27 +23,10 @@ pub kinds_are : (mode : Mode) (n : NetView) (conflicts : ℕ) (kinds : List Latc
 kinds_are Plain n conflicts kinds found = found
 kinds_are Event n conflicts kinds found = found.0
 
-pub cones_are_light : (mode : Mode) (n : NetView) (conflicts : ℕ) (kinds : List LatchKind) → FoundIn mode n conflicts (Ok kinds) → AreLightIn mode n
-cones_are_light Plain n conflicts kinds found = tt
-cones_are_light Event n conflicts kinds found = found.1
-
 -- want of memory says nothing
 pub memory_wanted : (mode : Mode) (n : NetView) → IsUnknown mode n kinds_error.NoMemory
 memory_wanted Plain n = tt
 memory_wanted Event n = tt
-
-pub kinds_unknown : (mode : Mode) (n : NetView) (names : List (List ℕ)) (rows : List (List Bool)) (power : Option (List ℕ)) (reset : Bool) (error : KindsError) → IsUnknown mode n error → Runs mode n names rows power reset (Err (simulate_error error))
-kinds_unknown mode n names rows power reset kinds_error.TooLarge unknown = unknown
-kinds_unknown mode n names rows power reset (kinds_error.Limit name proof) unknown = unknown
-kinds_unknown mode n names rows power reset kinds_error.NoMemory unknown = tt
-
--- a run where all fits
-pub run_simulates : (mode : Mode) (n : NetView) (names : List (List ℕ)) (rows : List (List Bool)) (power : Option (List ℕ)) (reset : Bool) (found : Result (List ℕ) SimulateError) → first_misfit n names power ≡ None → Runs mode n names rows power reset found → Simulates mode n names rows power reset found
-run_simulates mode n names rows power reset (Ok report) fits runs = (fits, runs)
-run_simulates mode n names rows power reset (Err (refused.Misfit m)) fits runs = absurd runs
-run_simulates mode n names rows power reset (Err refused.TooLarge) fits runs = (fits, runs)
-run_simulates mode n names rows power reset (Err (refused.Limit name proof)) fits runs = (fits, runs)
-run_simulates mode n names rows power reset (Err refused.NoMemory) fits runs = tt
 
 -- a cone that is too large isn't light
 pub large_or_light : (mode : Mode) (n : NetView) → IsSound n → IsUnknown mode n kinds_error.TooLarge → AreLightIn mode n → ⊥

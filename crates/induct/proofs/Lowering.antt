@@ -10,13 +10,6 @@ pub record AreLoweredTo (bound from : ℕ) (numbers : List ℕ) (count : ℕ) (m
   pub low : (k i : ℕ) → k < count → slice_get numbers k ≡ Some i → i < bound → slice_get made k ≡ Some i
   pub high : (k i : ℕ) → k < count → slice_get numbers k ≡ Some i → bound ≤ i → slice_get made k ≡ Some (from + k)
 
-pub lowered_none : (bound from : ℕ) (numbers : List ℕ) → AreLoweredTo bound from numbers 0 []
-lowered_none bound from numbers = record {
-  each = refl;
-  low = λ k i l at b. absurd (omega (arith, l));
-  high = λ k i l at b. absurd (omega (arith, l));
-}
-
 less_or_same : (x s : ℕ) → x < s + 1 → (x < s) ⊎ (x ≡ s)
 less_or_same x s l = grind arith
 

@@ -17,18 +17,6 @@ use Rattle.interface.specs.Numbered.{AreNumbered, AreNumbers}
 use Rattle.interface.proofs.Interfaces.{among_entries, name_once}
 use Rattle.interface.proofs.Shared.{some_is}
 
-pub no_numbers : (shared : List (List ℕ)) (from : ℕ) → AreNumbers [] shared from from []
-no_numbers shared from = record {
-  each = refl;
-  ordered = omega arith;
-  known = λ k i name at h e. absurd (empty k name at);
-  others = λ k i name at h e. absurd (empty k name at);
-  rising = λ j k h i first second l at at' n n' e e'. absurd (empty j first at);
-}
-  where
-    empty : (k : ℕ) (name : List ℕ) → slice_get [] k ≡ Some name → ⊥
-    empty k name at = omega (arith, slice_get_within {A = List ℕ} [] k name at)
-
 no_true_false : true ≡ false → ⊥
 no_true_false e = cc
 

@@ -17,14 +17,6 @@ use Rattle.job_replay.specs.declared.fault.ReplayFault.{ReplayFault}
 use Rattle.job_replay.specs.declared.fault.ReplayFault.TheVariants as fault
 use Rattle.job_replay.specs.Modes.{fault_of, Matches, AreKnown, HasBits, KnowsEnabled, AreUnknown, AreBothKnown, ReplaysMatching, ReplaysIn}
 
--- the bits of kinds that are found out
-pub has_bits : (mode : Mode) (n : NetView) (kinds : List LatchKind) (bits : List Bool) → FoundIn mode n 20000 (Ok kinds) → length bits ≡ length kinds → MarksEnabled mode n bits → HasBits mode n bits
-has_bits mode n kinds bits found each marks = record {
-  known = record { kinds = kinds; found = found };
-  each = each ∙ (kinds_are mode n 20000 kinds found).each;
-  marks = marks;
-}
-
 -- what A's latches are isn't known
 pub left_unknown : (mode : Mode) (a b : NetView) (header : List (List ℕ)) (rows : List (List Bool)) (e : ReplayFault) → KnowsEnabled mode A a (Err e) → ReplaysMatching mode a b header rows (Err e)
 left_unknown mode a b header rows (fault.Interface name) known = absurd known
@@ -42,28 +34,3 @@ right_unknown mode a b header rows (fault.Limit side name proof) left known = su
 right_unknown mode a b header rows (fault.Unknown name) left known = absurd known
 right_unknown mode a b header rows (fault.Missing name) left known = absurd known
 right_unknown mode a b header rows fault.NoMemory left known = tt
-
--- the header doesn't fit
-pub header_refused : (mode : Mode) (a b : NetView) (header : List (List ℕ)) (rows : List (List Bool)) (e : ReplayError) → AreBothKnown mode a b → Replays mode a b header rows (Err e) → ReplaysMatching mode a b header rows (Err (fault_of e))
-header_refused mode a b header rows (replay_error.Unknown name) known is = (known, is)
-header_refused mode a b header rows (replay_error.Missing name) known is = (known, is)
-header_refused mode a b header rows replay_error.NoMemory known is = tt
-
--- a replay where the interfaces match
-pub matching_replayed : (mode : Mode) (a b : NetView) (header : List (List ℕ)) (rows : List (List Bool)) (found : Result (List Difference) ReplayFault) → InterfacesMatch a b → ReplaysMatching mode a b header rows found → ReplaysIn mode a b header rows found
-matching_replayed mode a b header rows (Ok differences) matches is = (matches, is)
-matching_replayed mode a b header rows (Err (fault.Interface name)) matches is = absurd is
-matching_replayed mode a b header rows (Err (fault.TooLarge side)) matches is = (matches, is)
-matching_replayed mode a b header rows (Err (fault.Limit side name proof)) matches is = (matches, is)
-matching_replayed mode a b header rows (Err (fault.Unknown name)) matches is = (matches, is)
-matching_replayed mode a b header rows (Err (fault.Missing name)) matches is = (matches, is)
-matching_replayed mode a b header rows (Err fault.NoMemory) matches is = tt
-
--- the interfaces don't match
-pub interface_refused : (mode : Mode) (a b : NetView) (header : List (List ℕ)) (rows : List (List Bool)) (e : ReplayFault) → Matches a b (Err e) → ReplaysIn mode a b header rows (Err e)
-interface_refused mode a b header rows (fault.Interface name) is = is
-interface_refused mode a b header rows (fault.TooLarge side) is = absurd is
-interface_refused mode a b header rows (fault.Limit side name proof) is = absurd is
-interface_refused mode a b header rows (fault.Unknown name) is = absurd is
-interface_refused mode a b header rows (fault.Missing name) is = absurd is
-interface_refused mode a b header rows fault.NoMemory is = tt

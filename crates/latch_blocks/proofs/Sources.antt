@@ -26,8 +26,5 @@ module _ (n : NetView) (sound : IsSound n) (w : Variables) (are : AreVariables n
   pub input_small : (i k : ℕ) → slice_get w.inputs i ≡ Some k → k + 1 < 2 ^ 32
   input_small i k at = All-at (λ m. m + 1 < 2 ^ 32) w.inputs i k at are.small_inputs
 
-  pub latch_small : (j k : ℕ) → slice_get w.latches j ≡ Some k → k + 1 < 2 ^ 32
-  latch_small j k at = All-at (λ m. m + 1 < 2 ^ 32) w.latches j k at are.small_latches
-
 pub driven_at : (n : NetView) (w : Variables) (s : ℕ) (d : Driver) → slice_get n.drivers s ≡ Some d → variable_at n w s ≡ variable_of w d
 driven_at n w s d drives = ap (λ (o : Option Driver). option_and_then (variable_of w) o) drives

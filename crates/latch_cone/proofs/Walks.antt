@@ -137,10 +137,6 @@ module _ (n : NetView) (sound : IsSound n) where
   closed_all from seen closed s u Reaches.here h = h
   closed_all from seen closed s u (Reaches.there {q = q} reads rest) h = closed_all from seen closed q u rest (closed s q h reads)
 
-  -- another latch of the net stands in its circuit
-  pub other_latch : (own s : ℕ) → IsOther n own s → (name : List ℕ) × (next : ℕ) × IsLatch (circuit_of n) name s next
-  other_latch own s o = (o.latch.name, o.latch.next.0, subst (λ z. IsLatch (circuit_of n) o.latch.name z o.latch.next.0) o.out (latch_stands n o.position o.latch o.here))
-
 -- the other latches among the first so many signals
 pub record AreOthersOf (n : NetView) (own : ℕ) (seen : List ℕ) (count : ℕ) (others : List Signal) : Type 0 where
   pub each : (k : ℕ) (r : Signal) → slice_get others k ≡ Some r → IsOther n own r.0 × Contains seen r.0

@@ -76,37 +76,6 @@ takes_over nodes latches j k inside other node here named i r at reached n bits 
         subst (λ (z : LatchAt). Reaches (circuit_of n) z.next.0 (latch_in latches k).out.0 × (IsMarkedBy latches bits z.out.0 → z.out.0 ≢ (latch_in latches k).out.0)) one
         (read_taken n (graph_of nodes latches bits) of m l bit node.reads place bit_is taken i r at (latch_in latches k).out.0 source (reached n bits of))
 
--- at first no latch is removed
-pub removed_none : (latches : List LatchAt) (bits : List Bool) (states : List State) → ((s : ℕ) (st : State) → slice_get states s ≡ Some st → st ≡ New) → AreRemoved latches bits 0 states
-removed_none latches bits states new = record { from = λ s st h. inl (new s st h); marked = λ j l m. absurd (omega (arith, m)) }
-
--- one latch more, removed or not
-pub removed_more : (latches : List LatchAt) (bits : List Bool) (j : ℕ) (states states' : List State) (l : LatchAt) (b : Bool) → AreRemoved latches bits j states → slice_get latches j ≡ Some l → slice_get bits j ≡ Some b → l.out.0 < length states →
-    states' ≡ (if b then set states l.out.0 Removed else states) → AreRemoved latches bits (j + 1) states'
-removed_more latches bits j states states' l false r at bit inside e = subst (λ z. AreRemoved latches bits (j + 1) z) (sym e) (record { from = r.from; marked = λ i k m h b. marked i k h b m (same_or_not i j) })
-  where
-    marked : (i : ℕ) (k : LatchAt) → slice_get latches i ≡ Some k → slice_get bits i ≡ Some true → i < j + 1 → (i ≡ j) ⊎ (i ≢ j) → slice_get states k.out.0 ≡ Some Removed
-    marked i k h b m (inl q) = absurd (differ (sym (subst (λ z. slice_get bits z ≡ Some true) q b) ∙ bit))
-      where
-        differ : ◌≡◌ {A = Option Bool} (Some true) (Some false) → ⊥
-        differ x = cc
-    marked i k h b m (inr n) = r.marked i k (omega (arith, m, n)) h b
-removed_more latches bits j states states' l true r at bit inside e =
-    subst (λ z. AreRemoved latches bits (j + 1) z) (sym e) (record { from = λ s st h. from s st (set_cases states l.out.0 s Removed st h); marked = λ i k m h b. marked i k h b m (same_or_not i j) (same_or_not k.out.0 l.out.0) })
-  where
-    from : (s : ℕ) (st : State) → ((s ≡ l.out.0) × (Removed ≡ st)) ⊎ ((s ≢ l.out.0) × (slice_get states s ≡ Some st)) →
-        (st ≡ New) ⊎ ((st ≡ Removed) × (i : ℕ) × (k : LatchAt) × (slice_get latches i ≡ Some k) × (slice_get bits i ≡ Some true) × (k.out.0 ≡ s))
-    from s st (inl x) = inr (sym x.1, j, l, at, bit, sym x.0)
-    from s st (inr x) = r.from s st x.1
-
-    here : slice_get (set states l.out.0 Removed) l.out.0 ≡ Some Removed
-    here = set_same states l.out.0 (get_or states l.out.0 New) Removed (slice_get-get_or states l.out.0 New inside)
-
-    marked : (i : ℕ) (k : LatchAt) → slice_get latches i ≡ Some k → slice_get bits i ≡ Some true → i < j + 1 → (i ≡ j) ⊎ (i ≢ j) → (k.out.0 ≡ l.out.0) ⊎ (k.out.0 ≢ l.out.0) → slice_get (set states l.out.0 Removed) k.out.0 ≡ Some Removed
-    marked i k h b m q (inl o) = subst (λ z. slice_get (set states l.out.0 Removed) z ≡ Some Removed) (sym o) here
-    marked i k h b m (inl q) (inr o) = absurd (o (ap (λ (z : LatchAt). z.out.0) (one_at latches j k l (subst (λ z. slice_get latches z ≡ Some k) q h) at)))
-    marked i k h b m (inr n) (inr o) = set_other states l.out.0 k.out.0 Removed Removed o (r.marked i k (omega (arith, m, n)) h b)
-
 -- the removed latches of a settled table
 pub without_is : (latches : List LatchAt) (bits : List Bool) (first states : List State) → AreRemoved latches bits (length latches) first → SameRemoved first states → IsWithout latches bits states
 without_is latches bits first states r same = record {

@@ -89,10 +89,6 @@ mode_cycle mode n g is removed latches cycle = cycle_less (circuit_of n) (Skippe
 pub cycle_in_graph : (mode : Mode) (n : NetView) (g : GraphView) → IsGraphIn mode n g → (removed : List (List ℕ)) → HasCycle (circuit_of n) (EnabledIn mode (circuit_of n)) removed → HasCycle (circuit_of n) (SkippedBy g) removed
 cycle_in_graph mode n g is removed cycle = has_cycle_less (circuit_of n) (EnabledIn mode (circuit_of n)) (SkippedBy g) (mode_as_skips mode n g is) removed cycle
 
--- a graph whose bits mark the enabled latches of a mode is the graph of the mode
-pub graph_in_mode : (mode : Mode) (n : NetView) (g : GraphView) (bits : List Bool) → IsGraphOf n g → g.skipped ≡ bits → MarksEnabled mode n bits → IsGraphIn mode n g
-graph_in_mode mode n g bits graph same marks = record { graph = graph; skips = subst (MarksEnabled mode n) (sym same) marks }
-
 -- in plain mode no bit is set
 pub plain_graph : (n : NetView) (g : GraphView) → IsGraphIn Plain n g → IsPlainGraphOf n g
 plain_graph n g is = record { graph = is.graph; plain = λ j bit h. by j bit h }

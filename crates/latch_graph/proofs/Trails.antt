@@ -19,21 +19,6 @@ use Rattle.signal_graph.proofs.Lists.{set_same, set_other, set_cases}
 true_false : ◌≡◌ {A = Option Bool} (Some true) (Some false) → ⊥
 true_false e = cc
 
-pub trail_none : (nodes : List Node) (latches : List LatchAt) (states : List State) (passed : List Bool) (at : ℕ) → length passed ≡ length latches → ((j : ℕ) → slice_get passed j ≡ Some true → ⊥) → IsEndless latches states at →
-    IsTrail nodes latches states passed [] at
-trail_none nodes latches states passed at size none ends = record {
-  size = size;
-  ends = ends;
-  on = λ i j h. absurd (nothing i j h);
-  off = λ j h. absurd (none j h);
-  distinct = λ i j x h k. absurd (nothing i x h);
-  edges = λ i j k h l. absurd (nothing i j h);
-  last = λ i j e h. absurd (nothing i j h);
-}
-  where
-    nothing : (i j : ℕ) → slice_get [] i ≡ Some j → ⊥
-    nothing i j h = let l = slice_get_within [] i j h in omega (arith, l)
-
 -- the latch that comes next goes on the trail
 pub trail_more : (nodes : List Node) (latches : List LatchAt) (states : List State) (passed : List Bool) (trail : List ℕ) (at next : ℕ) → IsTrail nodes latches states passed trail at → slice_get passed at ≡ Some false →
     IsEndless latches states next → TakesOver nodes latches at next → IsTrail nodes latches states (set passed at true) (trail ++ at ∷ []) next

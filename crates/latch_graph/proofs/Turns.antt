@@ -72,13 +72,6 @@ back_once n first i j p l m k (inl x) (inr y) = absurd (omega (arith, x.0, x.1, 
 back_once n first i j p l m k (inr x) (inl y) = absurd (omega (arith, x.0, x.1, y.0, y.1, m, l))
 back_once n first i j p l m k (inr x) (inr y) = omega (arith, x.0, x.1, y.0, y.1, l, m, k)
 
-after_within : (n i : ℕ) → i < n → after_in_round n i < n
-after_within n i l = go (same_or_not (i + 1) n)
-  where
-    go : (i + 1 ≡ n) ⊎ (i + 1 ≢ n) → after_in_round n i < n
-    go (inl e) = omega (arith, after_last n i e, l)
-    go (inr e) = omega (arith, after_next n i e, l, e)
-
 -- the names of removed latches
 pub marked_has : (latches : List LatchAt) (bits : List Bool) (j : ℕ) (l : LatchAt) → slice_get latches j ≡ Some l → slice_get bits j ≡ Some true → Contains (marked_names latches bits) l.name
 marked_has [] bits j l h k = absurd (let m = slice_get_within [] j l h in omega (arith, m))

@@ -146,10 +146,6 @@ module _ (way : Direction) (turn : ℕ) where
           let both = count (Met v u) h in
           omega (arith, both, one, none)
 
--- a table before a turn is one before a later turn
-pub marks_later : (nodes : List Node) (marks : List Mark) (turn : ℕ) → AreMarks nodes marks turn → AreMarks nodes marks (turn + 1)
-marks_later nodes marks turn table = record { size = table.size; early = λ s t way h. let l = table.early s t way h in omega (arith, l) }
-
 -- a latch is put back
 pub marks-back : (nodes : List Node) (marks : List Mark) (turn t : ℕ) → AreMarks nodes marks turn → AreMarks nodes (set marks t (Met Back turn)) (turn + 1)
 marks-back nodes marks turn t table = record { size = length-set marks t (Met Back turn) ∙ table.size; early = λ s u way h. early s u way (set_cases marks t s (Met Back turn) (Met way u) h) }

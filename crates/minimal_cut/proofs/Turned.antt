@@ -55,13 +55,6 @@ module _ (old : List Node) (r reader : ℕ) (node after : Node) (here : slice_ge
           let read : slice_get (node.reads ++ record { 0 = reader } ∷ []) e.place ≡ Some e.signal = subst (λ (z : List Signal). slice_get z e.place ≡ Some e.signal) (ap (λ (z : Node). z.reads) (sym y.1) ∙ pushed) e.read in
           in_reads y.1 y.0 (slice_get-push_cases node.reads (record { 0 = reader }) e.place e.signal read)
 
-pub up_to_none : (nodes readers : List Node) → length readers ≡ length nodes → ((r : ℕ) (node : Node) → slice_get readers r ≡ Some node → node.reads ≡ []) → AreReadersUpTo nodes 0 0 readers
-up_to_none nodes readers size none = record { size = size; back = λ x r e l. absurd (early e.place l); from = λ x r e. absurd (nothing_at e.node.reads e.place e.signal (none r e.node e.here) e.read) }
-  where
-    early : {x : ℕ} (place : ℕ) → (x < 0) ⊎ ((x ≡ 0) × (place < 0)) → ⊥
-    early place (inl l) = omega (arith, l)
-    early place (inr l) = omega (arith, l.1)
-
 -- one reading more is turned round
 pub up_to_more : (nodes : List Node) (s k : ℕ) (readers : List Node) (node : Node) (f : Signal) (old after : Node) → AreReadersUpTo nodes s k readers → slice_get nodes s ≡ Some node → slice_get node.reads k ≡ Some f →
     slice_get readers f.0 ≡ Some old → after.reads ≡ old.reads ++ record { 0 = s } ∷ [] → AreReadersUpTo nodes s (k + 1) (set readers f.0 after)

@@ -19,21 +19,6 @@ use Rattle.minimal_cut.specs.Walk.{other_way, IsOlder, IsLater, IsPassed, IsMet,
 use Rattle.minimal_cut.proofs.WayLemmas.{way_then, way_more, way_ahead, way_behind}
 use Rattle.minimal_cut.proofs.Marking.{way_along, met_free, later_refl, later-set, later_same, later_table, marks-back, met_stays, other_were, unseen-met}
 
--- what the other walk has met in this turn, where a direction isn't this one
-not_way : (way other : Direction) → (way ≡ other → ⊥) → other ≡ other_way way
-not_way Back Back n = absurd (n refl)
-not_way Back Ahead n = refl
-not_way Ahead Back n = refl
-not_way Ahead Ahead n = absurd (n refl)
-
--- a signal that was met in this turn: by this walk, or by the other
-pub meets_met : (marks : List Mark) (met : List ℕ) (signal root turn last : ℕ) (way other : Direction) (b : Bool) → (b ≡ true → way ≡ other) → (b ≡ false → way ≢ other) → slice_get marks signal ≡ Some (Met other last) → last ≡ turn → signal ≢ root →
-    Meets marks marks met met signal way root turn (not b)
-meets_met marks met signal root turn last way other true holds fails at same apart =
-    (apart, inl (refl, refl, inr (subst (λ z. slice_get marks signal ≡ Some (Met z turn)) (sym (holds refl)) (subst (λ z. slice_get marks signal ≡ Some (Met other z)) same at))))
-meets_met marks met signal root turn last way other false holds fails at same apart =
-    (refl, refl, inr (subst (λ z. slice_get marks signal ≡ Some (Met z turn)) (not_way way other (fails refl)) (subst (λ z. slice_get marks signal ≡ Some (Met other z)) same at)))
-
 module _ (nodes : List Node) (root : ℕ) (way : Direction) (turn : ℕ) where
   -- what is passed or met stays so, whichever walk goes on
   passed_along : (v : Direction) (old new : List Mark) → IsLater v turn old new → (r : ℕ) → IsPassed old root way turn r → IsPassed new root way turn r

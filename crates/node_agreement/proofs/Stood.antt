@@ -57,37 +57,6 @@ AreStandIns-push g h lits n y last are stands m z at = by (push-cases lits y m z
         let here : n ≡ m = last ∙ sym e in
         subst (λ (w : Lit). StandsFor plainly g h (2 * m) w.0) (sym f) (subst (λ (j : ℕ). StandsFor plainly g h (2 * j) y.0) here stands)
 
-pub AreChosen-grows : (g h : List Node) → KeepsValues g h → length g ≤ length h → (lits : List Lit) → AreChosen g lits → AreChosen h lits
-AreChosen-grows g h keeps more lits are n y at =
-    let (within, s) = are n y at in
-    let old : 2 * n < 2 * length g = omega arith in
-    (omega arith, record { within = omega (arith, s.within); same = λ a. keeps a y.0 s.within ∙ s.same a ∙ sym (keeps a (2 * n) old) })
-
-pub AreChosen-push : (g : List Node) (lits : List Lit) (n : ℕ) (y : Lit) → n ≡ length lits → n < length g → AreChosen g lits → StandsFor plainly g g (2 * n) y.0 → AreChosen g (lits ++ y ∷ [])
-AreChosen-push g lits n y last within are stands m z at = by (push-cases lits y m z at)
-  where
-    by : (slice_get lits m ≡ Some z) ⊎ ((m ≡ length lits) × (z ≡ y)) → (m < length g) × StandsFor plainly g g (2 * m) z.0
-    by (inl before) = are m z before
-    by (inr (e, f)) =
-        let here : n ≡ m = last ∙ sym e in (
-          subst (λ (j : ℕ). j < length g) here within,
-          subst (λ (w : Lit). StandsFor plainly g g (2 * m) w.0) (sym f) (subst (λ (j : ℕ). StandsFor plainly g g (2 * j) y.0) here stands),
-        )
-
-pub AreLocal-grows : (g : List Node) (numbers : List ℕ) (h k : List Node) → KeepsValues h k → length h ≤ length k → (lits : List Lit) → AreLocal g numbers h lits → AreLocal g numbers k lits
-AreLocal-grows g numbers h k keeps more lits are p n y number at = stands-grows (by_nodes g) g h k keeps more (2 * n) y.0 (are p n y number at)
-
-pub AreLocal-push : (g : List Node) (numbers : List ℕ) (h : List Node) (lits : List Lit) (n : ℕ) (y : Lit) → slice_get numbers (length lits) ≡ Some n
-    → AreLocal g numbers h lits → StandsFor (by_nodes g) g h (2 * n) y.0 → AreLocal g numbers h (lits ++ y ∷ [])
-AreLocal-push g numbers h lits n y there are stands p m z number at = by (push-cases lits y p z at)
-  where
-    by : (slice_get lits p ≡ Some z) ⊎ ((p ≡ length lits) × (z ≡ y)) → StandsFor (by_nodes g) g h (2 * m) z.0
-    by (inl before) = are p m z number before
-    by (inr (e, f)) =
-        let same : Some n ≡ Some m = sym there ∙ ap (slice_get numbers) (sym e) ∙ number in
-        let here : n ≡ m = cc in
-        subst (λ (w : Lit). StandsFor (by_nodes g) g h (2 * m) w.0) (sym f) (subst (λ (j : ℕ). StandsFor (by_nodes g) g h (2 * j) y.0) here stands)
-
 -- what a list of stand-ins has at a place
 pub chosen-at : (g : List Node) (lits : List Lit) (n : ℕ) (d : Lit) → n < length lits → AreChosen g lits → StandsFor plainly g g (2 * n) (get_or lits n d).0
 chosen-at g lits n d within are = (are n (get_or lits n d) (slice_get-get_or lits n d within)).1

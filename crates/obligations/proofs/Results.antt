@@ -146,18 +146,6 @@ module _ (g : List Node) (conflicts : ℕ) (asked : List Obligation) (o : Obliga
           let e : r.answer ≡ answer.Limit = answer_is _ b.0 in
           quiet decisive own (λ k. let z : answer.Limit ≡ answer.Different = sym e ∙ k in cc) (λ k. let z : answer.Limit ≡ answer.NotShown = sym e ∙ k in cc) (subst (λ (x : Option Difference). IsPut decisive x old new) b.1 put)
 
--- nothing is decided yet
-pub nothing-yet : (g : List Node) (conflicts : ℕ) (d : Decided) → d.results ≡ [] → d.different ≡ None → d.not_shown ≡ None → HaveDecided g conflicts [] d
-nothing-yet g conflicts d results different not_shown = record {
-  results = subst (AllZip (IsAnswered g conflicts) []) (sym results) tt;
-  different = first answer.Different d.different different;
-  not_shown = first answer.NotShown d.not_shown not_shown;
-}
-  where
-    first : (wanted : PairAnswer) (o : Option Difference) → o ≡ None → IsFirst g [] wanted d.results o
-    first wanted o e =
-        subst (IsFirst g [] wanted d.results) (sym e) (subst (NoneIs wanted) (sym results) (All-nil (λ (r : PairResult). r.answer ≢ wanted)))
-
 -- what is put looks at both differences alone
 pub put-alike : (decisive : Bool) (d : Option Difference) (results : List PairResult) (old new : Decided) → IsPut decisive d (record { results = results; different = old.different; not_shown = old.not_shown }) new → IsPut decisive d old new
 put-alike true d results old new put = put

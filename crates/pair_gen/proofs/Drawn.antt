@@ -137,18 +137,3 @@ module _ (circuit : Side) (regroup : Bool) (words : List ℕ) where
       ap₂ (λ (cs : List Cover) (n : ℕ). slice_get cs n) s.covers rows ∙ rows_at circuit regroup (k / 1680) (k / 40 % 42) kind in
       let two : length fanins ≡ 2 = ap length reads in
       subst (λ (o : Option Cover). IsSomeAnd o (λ (c : Cover). c.width ≡ length fanins)) (sym there) (rows_width circuit regrouped kind ∙ sym two)
-
-  -- with other covers
-  pub covers_changed : (made : MakerView) (before covers : List Cover) (i j k : ℕ) → IsSketch circuit regroup words before made i j k →
-      IsSketch circuit regroup words covers (record made { net = record made.net { covers = covers } }) i j k
-  covers_changed made before covers i j k s = record {
-    inputs = s.inputs;
-    outputs = s.outputs;
-    gates = s.gates;
-    latches = s.latches;
-    covers = refl;
-    size = s.size;
-    names = s.names;
-    clock = s.clock;
-    set = s.set;
-  }

@@ -21,6 +21,3 @@ module _ (circuit : Side) (before : MakerView) where
   shown_more made after n e new =
       new ∙ ap (λ (m : MakerView). let k : MakerView = record m { net = with_output m.net (output_name n) (signal_of (shown_by circuit n)) } in k) e
       ∙ ap (with_shown before) (sym (first_of-more (output_at circuit) n))
-
-  pub shown_size : (made : MakerView) (n : ℕ) → made ≡ with_shown before (first_of (output_at circuit) n) → length made.net.drivers ≡ length before.net.drivers
-  shown_size made n e = ap (λ (m : MakerView). length m.net.drivers) e

@@ -13,18 +13,6 @@ no_left a b pivot none w = none w.0 w.2 w.1
 pub no_right : (a b : List Literal) (pivot : ℕ) → ((l : Literal) → Contains b l → l.variable ≢ pivot) → HoldOpposite a b pivot → ⊥
 no_right a b pivot none w = none (negation w.0) w.3 w.1
 
-pub opposite_by_signs : (a b : List Literal) (pivot : ℕ) (l m : Literal) → Contains a l → l.variable ≡ pivot → Contains b m → m.variable ≡ pivot → (l.positive ≡ m.positive → ⊥) → HoldOpposite a b pivot
-opposite_by_signs a b pivot l m p e q f n =
-    (l, e, p, subst (Contains b) (sym (same_literal (negation l) m (e ∙ sym f) (other_sign l.positive m.positive n))) q)
-
-pub signs_by_opposite : (a b : List Literal) (pivot : ℕ) (l m : Literal) → IsClause a → IsClause b → Contains a l → l.variable ≡ pivot → Contains b m → m.variable ≡ pivot → HoldOpposite a b pivot → l.positive ≡ m.positive → ⊥
-signs_by_opposite a b pivot l m ca cb p e q f w s =
-    let first : w.0 ≡ l = one_of_variable a w.0 l ca w.2 p (w.1 ∙ sym e) in
-    let second : negation w.0 ≡ m = one_of_variable b (negation w.0) m cb w.3 q (w.1 ∙ sym f) in
-    let x : w.0.positive ≡ l.positive = ap (λ (k : Literal). k.positive) first in
-    let y : not w.0.positive ≡ m.positive = ap (λ (k : Literal). k.positive) second in
-    not_same_sign w.0.positive (x ∙ s ∙ sym y)
-
 -- a resolvent is determined
 pub resolvent_unique : (a b : List Literal) (pivot : ℕ) (c d : List Literal) → IsResolvent a b pivot c → IsResolvent a b pivot d → c ≡ d
 resolvent_unique a b pivot c d p q = clause_unique c d p.ordered q.ordered (λ l. (λ h. (q.members l).1 ((p.members l).0 h), λ h. (p.members l).1 ((q.members l).0 h)))

@@ -87,22 +87,6 @@ module _ {P : Type 0} (c d : Circuit P) (one : AreOne c d) where
     carries = λ t h. subst (λ (es : List (Equation P)). All (Carries (run t) (run (t + 1))) es) one.equations (is_run.carries t h);
   }
 
-module _ {P : Type 0} (c d : Circuit P) (one : AreOne c d) where
-  one_extends : (u : P) (bit : Bool) (x v : P → Bool) → ExtendsWith c u bit x v → ExtendsWith d u bit x v
-  one_extends u bit x v ex = record { meets = one_meets c d one v ex.meets; sources = λ p s n. ex.sources p (one_source d c (one_back c d one) p s) n; put = ex.put }
-
-  pub one_enabled : (u : P) → IsEnabled c u → IsEnabled d u
-  one_enabled u en = record {
-    name = en.name;
-    next = en.next;
-    latch = one_equation c d one _ en.latch;
-    self_edge = one_cone c d one en.next u en.self_edge;
-    rises = λ x low high l h e. en.rises x low high (back u false x low l) (back u true x high h) e;
-  }
-    where
-      back : (u : P) (bit : Bool) (x v : P → Bool) → ExtendsWith d u bit x v → ExtendsWith c u bit x v
-      back u bit x v ex = record { meets = one_meets d c (one_back c d one) v ex.meets; sources = λ p s n. ex.sources p (one_source c d one p s) n; put = ex.put }
-
 -- Two circuits that are one, of whose inputs some are free: runs that are one elsewhere have the same marks, where the same latches
 -- count as enabled.
 module _ {P : Type 0} (c d : Circuit P) (one : AreOne c d) (free : P → Bool) (unread : AreUnread d free) (in_c in_d : P → Type 0)

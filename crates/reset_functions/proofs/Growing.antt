@@ -179,9 +179,6 @@ among_none done tops none p = (λ h. absurd (nothing p (subst (λ (l : List (ℕ
 pub light_as : (n : NetView) (P Q : ℕ × ℕ → Type 0) → ((p : ℕ × ℕ) → P p ↔ Q p) → IsLight n P → IsLight n Q
 light_as n P Q same light = (light.0, λ p. (λ h. (same p).0 ((light.1 p).0 h), λ h. (light.1 p).1 ((same p).1 h)), light.2, light.3, light.4)
 
-pub large_as : (n : NetView) (P Q : ℕ × ℕ → Type 0) → ((p : ℕ × ℕ) → P p → Q p) → IsTooLarge n P → IsTooLarge n Q
-large_as n P Q same large = (large.0, λ p h. same p (large.1 p h), large.2)
-
 -- the sides of pairs are those below their tops
 module _ (s : Setup) (side : SignalPair → ℕ) (pairs : List SignalPair) (tops : List (ℕ × ℕ)) (are : AllZip (IsTopOf s side) pairs tops) where
   abbrev pub Side : ℕ × ℕ → Type 0

@@ -59,27 +59,6 @@ cone_first n order base s last visited inside is = record {
   leaves_ordered = λ i j d below within. absurd (omega (arith, within));
 }
 
--- one place further back
-pub start_next : (visited : List (ℕ × ℕ)) (end cycle from : ℕ) (d : ℕ × ℕ) → 0 < from → from ≤ end → end ≤ length visited → (get_or visited (from - 1) d).0 ≡ cycle →
-    ((i : ℕ) (p : ℕ × ℕ) → from ≤ i → i < end → slice_get visited i ≡ Some p → p.0 ≡ cycle) → (i : ℕ) (p : ℕ × ℕ) → from - 1 ≤ i → i < end → slice_get visited i ≡ Some p → p.0 ≡ cycle
-start_next visited end cycle from d some before inside here same i p above below at = go (cases_lt i from)
-  where
-    go : (i < from) ⊎ (from ≤ i) → p.0 ≡ cycle
-    go (inr l) = same i p l below at
-    go (inl l) =
-        let first : i ≡ from - 1 = omega (arith, l, above, some) in
-        let own : slice_get visited (from - 1) ≡ Some (get_or visited (from - 1) d) = slice_get-get_or visited (from - 1) d (omega (arith, some, before, inside)) in
-        let one : p ≡ get_or visited (from - 1) d = one_at visited (from - 1) p (get_or visited (from - 1) d) (ap (slice_get visited) (sym first) ∙ at) own in
-        ap (λ (q : ℕ × ℕ). q.0) one ∙ here
-
--- the place before is of another cycle
-pub start_other : (visited : List (ℕ × ℕ)) (cycle from : ℕ) (d : ℕ × ℕ) → from ≤ length visited → ((get_or visited (from - 1) d).0 ≢ cycle) → (i : ℕ) (p : ℕ × ℕ) → i + 1 ≡ from → slice_get visited i ≡ Some p → p.0 ≢ cycle
-start_other visited cycle from d inside apart i p next at e =
-    let same : i ≡ from - 1 = omega (arith, next) in
-    let own : slice_get visited (from - 1) ≡ Some (get_or visited (from - 1) d) = slice_get-get_or visited (from - 1) d (omega (arith, next, inside)) in
-    let one : p ≡ get_or visited (from - 1) d = one_at visited (from - 1) p (get_or visited (from - 1) d) (ap (slice_get visited) (sym same) ∙ at) own in
-    apart (ap (λ (q : ℕ × ℕ). q.0) (sym one) ∙ e)
-
 -- what is made so far of a block
 abbrev pub IsFront : List (ℕ × ℕ) → ℕ → List (ℕ × ℕ) → Type 0
 IsFront visited from block = (i : ℕ) (q : ℕ × ℕ) → slice_get block i ≡ Some q → (p : ℕ × ℕ) × (slice_get visited (from + i) ≡ Some p) × (q ≡ (0, p.1))

@@ -20,10 +20,6 @@ use Rattle.reset_unfold.specs.Places.{IsLeafAt}
 use Rattle.reset_unfold.specs.Reach.{AreVisited, AreLeavesOf, AreLeavesAt}
 
 module _ (c : Circuit ℕ) (order : List ℕ) (base : ℕ) (places : List (ℕ × ℕ)) where
-  -- without places there are no leaves
-  pub leaves_none : AreLeavesOf c order base [] []
-  leaves_none = record { from = λ x h. absurd (omega (arith, h.1)); all = λ p number h k. absurd (omega (arith, h.1)); differ = λ i j d l m. absurd (omega arith) }
-
   more : (i : ℕ) (d : ℕ × ℕ) → i < length places → take i places ++ get_or places i d ∷ [] ≡ take (i + 1) places
   more i d inside = sym (take_more places i d inside)
 

@@ -75,13 +75,6 @@ module _ (row : ℕ → ℕ → Bool) (rows : ℕ) (bits : List Bool) (right : (
     }
 
 module _ (firsts : List ℕ) (bits : List Bool) where
-  pub split-none : (f : ℕ → Option ℕ) → ((k : ℕ) → f k ≡ None) → IsSplitSoFar firsts bits f 0 []
-  split-none f none = record {
-    each = refl;
-    heads = λ k p at. absurd (let e : None ≡ Some p = sym (none k) ∙ at in cc);
-    known = λ j p at. absurd (none-some p at);
-  }
-
   pub split-done : (f : ℕ → Option ℕ) (i : ℕ) (new : List ℕ) → IsSplitSoFar firsts bits f i new → IsSplit firsts bits i new
   split-done f i new so_far = record {
     each = so_far.each;

@@ -45,19 +45,6 @@ others_passed t c l place bound e is fails there none m h differ = go (fails m h
 pub others_more : (t : List Entry) (c : List Literal) (l : Literal) (n m : ℕ) → n ≤ m → OthersFalse t n c l → OthersFalse t m c l
 others_more t c l n m le fails x h differ = true_more t n m (negation x) le (fails x h differ)
 
--- what became false last was forced, where there was no decision, or one before it
-pub forced_after : (t : List Entry) (c : List Literal) (decision : Option ℕ) (d : ℕ) (last : Placed) → decision ≡ Some d → IsLastDecision t decision → IsLastFalse t c 0 (Some last) → d < last.place → HasReason t last.place
-forced_after t c decision d last is decided l below = go (subst (IsLastDecision t) is decided)
-  where
-    go : IsLastDecision t (Some d) → HasReason t last.place
-    go known = (l.2.0, l.2.1, known.1 last.place l.2.0 below l.2.1)
-
-pub forced_always : (t : List Entry) (c : List Literal) (decision : Option ℕ) (last : Placed) → decision ≡ None → IsLastDecision t decision → IsLastFalse t c 0 (Some last) → HasReason t last.place
-forced_always t c decision last is decided l = go (subst (IsLastDecision t) is decided)
-  where
-    go : IsLastDecision t None → HasReason t last.place
-    go known = (l.2.0, l.2.1, known last.place l.2.0 l.2.1)
-
 -- a step of the analysis
 pub reason_step : (known : List (List Literal)) (t : TrailView) (decision : Option ℕ) (c next : List Literal) (chain longer : Chain) (bound : ℕ) (last : Placed) → IsTrail known t.entries → InRange t.variables known → IsAnalysing known t decision chain.start c chain.steps bound → IsLastFalse t.entries c 0 (Some last) →
     IsReasonStep known t.entries last c chain next longer → IsAnalysing known t decision longer.start next longer.steps last.place

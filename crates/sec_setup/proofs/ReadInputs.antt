@@ -81,9 +81,6 @@ input_at n order p i h =
     record { k = b.0; port = key.0; at = key.1; place = ap (λ (m : Named ℕ). m.place) key.2 ∙ b.3; number = b.4 }
 
 module _ (n : NetView) where
-  reads_gate : Signal → Gate → Bool
-  reads_gate s g = list_any (λ (f : Signal). f.0 == s.0) g.fanins
-
   -- what an output's unfolding visits is read
   visited_is_read : (s j : ℕ) (q : Signal) → Contains (map (λ (o : Port). o.signal.0) n.outputs) s → Visits (circuit_of n) s 0 q.0 j → is_read n q ≡ true
   visited_is_read s j q shown visits = by_visit q.0 j visits refl

@@ -49,15 +49,6 @@ module _ {P : Type 0} (c d : Circuit P) (same : AreSame c d) where
     carries = λ t h. subst (λ (es : List (Equation P)). All (Carries (run t) (run (t + 1))) es) same.equations (is_run.carries t h);
   }
 
-  -- what is marked in a run of the one is marked in the other's
-  pub same_mark : {run : ℕ → P → Bool} {t : ℕ} {p : P} → Marked c NoneEnabled run t p → Marked d NoneEnabled run t p
-  same_mark (Marked.input i) = Marked.input (i.0, same_input _ i.1)
-  same_mark (Marked.gate eq each) = Marked.gate (same_equation _ eq) (λ q h. same_mark (each q h))
-  same_mark (Marked.port eq from) = Marked.port (same_equation _ eq) (same_mark from)
-  same_mark (Marked.plain eq other mark) = Marked.plain (same_equation _ eq) other (same_mark mark)
-  same_mark (Marked.loads eq en others loads) = absurd en
-  same_mark (Marked.keeps eq en others mark) = absurd en
-
   -- what is reached in the one is reached in the other
   pub same_reading : {p q : P} → Reads c p q → Reads d p q
   same_reading (Reads.by_gate eq h) = Reads.by_gate (same_equation _ eq) h

@@ -90,9 +90,3 @@ module _ {P : Type 0} (c : Circuit P) (enabled : P → Type 0) (removed : List (
           one : (last : P) → slice_get latches 0 ≡ Some last → last ≡ first
           one last at = some_is (sym at ∙ here)
       go (suc i) e last at closes = LatchPath.step closes (back i last (ap (slice_get latches) (sym e) ∙ at))
-
--- a cycle that is told is one
-pub told_is_cyclic : (n : NetView) (names : List (List ℕ)) → IsToldCycle Plain n [] names → IsAcyclic n → ⊥
-told_is_cyclic n names told free =
-    let first = some_at told.latches 0 told.cycle.some in
-    free (round (circuit_of n) NoneEnabled [] told.latches told.cycle first.0 first.1)

@@ -28,10 +28,6 @@ roots_for-step asked i d roots new within are more =
     more ∙ ap (λ (ls : List Lit). ls ++ three (get_or asked i d)) are ∙ ap (λ (ls : List Lit). roots_for (take i asked) ++ ls) (sym (append-nothing (three (get_or asked i d))))
     ∙ sym (roots_for-append (take i asked) (get_or asked i d ∷ [])) ∙ ap roots_for (sym (take_more asked i d within))
 
--- three literals, put one after the other
-pub three-put : (roots : List Lit) (x y z : Lit) → ((roots ++ x ∷ []) ++ y ∷ []) ++ z ∷ [] ≡ roots ++ x ∷ y ∷ z ∷ []
-three-put roots x y z = simp append_assoc
-
 pub roots_for-length : (asked : List Known) → length (roots_for asked) ≡ 3 * length asked
 roots_for-length [] = refl
 roots_for-length (Nothing ∷ asked) = let rest : length (roots_for asked) ≡ 3 * length asked = roots_for-length asked in omega (arith, rest)
@@ -81,20 +77,6 @@ roots_for-within g (known ∷ asked) some are = go known (All-head (AreKnownWith
 -- what holds of each element holds of the one at a place
 pub All-at : {X : Type 0} (P : X → Type 0) (xs : List X) (i : ℕ) (x : X) → slice_get xs i ≡ Some x → All P xs → P x
 All-at P xs i x here all = subst P (get_or_from_slice_get xs i x x here) (All-get_or P xs i x (slice_get_within xs i x here) all)
-
--- one more is made
-pub made-more : (asked made : List Known) (lits : List Lit) (old new : Known) (u : Sides) → slice_get asked (length made) ≡ Some old → HasThree lits (length made) u → IsMoved old u new → AreMade asked lits made → AreMade asked lits (made ++ new ∷ [])
-made-more asked made lits old new u there three moved are i k at = go (push-cases made new i k at)
-  where
-    Here : ℕ → Known → Type 0
-    Here j m = (o : Known) × (t : Sides) × (slice_get asked j ≡ Some o) × HasThree lits j t × IsMoved o t m
-
-    here : Here (length made) new
-    here = (old, u, there, three, moved)
-
-    go : (slice_get made i ≡ Some k) ⊎ ((i ≡ length made) × (k ≡ new)) → Here i k
-    go (inl before) = are i k before
-    go (inr (last, e)) = subst (λ (j : ℕ). Here j k) (sym last) (subst (λ (m : Known). Here (length made) m) (sym e) here)
 
 -- each element on the right has its element on the left
 pub zip_left : {X Y : Type 0} (R : X → Y → Type 0) (xs : List X) (ys : List Y) → AllZip R xs ys → (i : ℕ) (y : Y) → slice_get ys i ≡ Some y → (x : X) × (slice_get xs i ≡ Some x) × R x y

@@ -64,10 +64,6 @@ module _ (g : List Node) (words : List ℕ) (table : List (List ℕ)) (signed : 
   length_is : length table ≡ length g
   length_is = signed.each
 
-  pub within_table : (given : Option Sides) → MayBeWithin g given → MayBeWithin table given
-  within_table None h = h
-  within_table (Some t) h = record { left = omega (arith, h.left, length_is); right = omega (arith, h.right, length_is); care = omega (arith, h.care, length_is) }
-
   pub known_within : (known : Known) → AreKnownWithin table known → AreKnownWithin g known
   known_within Nothing h = h
   known_within (Swept t) h = record { left = omega (arith, h.left, length_is); right = omega (arith, h.right, length_is); care = omega (arith, h.care, length_is) }

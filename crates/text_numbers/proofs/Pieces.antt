@@ -84,16 +84,6 @@ last_word_is text e = ap (filter (λ t. not (is_empty t))) (slice_split_none is_
     one [] = refl
     one (x ∷ xs) = refl
 
--- a word that isn't empty is the first token, and an empty one is none
-pub word_some : (word : List ℕ) (tokens : List (List ℕ)) → 0 < length word → put_token word tokens ≡ word ∷ tokens
-word_some [] tokens h = absurd (omega (arith, h))
-word_some (x ∷ word) tokens h = refl
-
 pub word_none : (word : List ℕ) (tokens : List (List ℕ)) → length word ≤ 0 → put_token word tokens ≡ tokens
 word_none [] tokens h = refl
 word_none (x ∷ word) tokens h = absurd (omega (arith, h))
-
--- a line without bytes has no token
-pub no_word : (line : List ℕ) → length line ≤ 0 → tokens_of line ≡ []
-no_word [] h = refl
-no_word (x ∷ line) h = absurd (omega (arith, h))

@@ -28,10 +28,6 @@ pub read_none : {X : Type 0} (f : List ℕ → Option X) (front so_far : List X)
 read_none f front so_far start left after token so e is =
     none_behind front (all_spelled f start) (so ∙ (ap (λ ts. behind so_far (all_spelled f ts)) e ∙ ap (λ o. behind so_far (with_first o (all_spelled f after))) is))
 
-pub read_all : {X : Type 0} (f : List ℕ → Option X) (front so_far : List X) (start left : List (List ℕ)) → behind front (all_spelled f start) ≡ behind so_far (all_spelled f left) → left ≡ [] →
-    behind front (all_spelled f start) ≡ Some so_far
-read_all f front so_far start left so e = so ∙ (ap (λ ts. behind so_far (all_spelled f ts)) e ∙ ap Some (append-nil so_far))
-
 -- the first 0
 pub zero_found : (numbers : List Number) (i : ℕ) (d : Number) → i < length numbers → ((k : ℕ) → k < i → is_zero (get_or numbers k d) ≡ false) → is_zero (get_or numbers i d) ≡ true → position_or_len is_zero numbers ≡ i
 zero_found numbers i d h before here = position_or_len_is is_zero numbers i d (omega arith) before (λ _. here)

@@ -38,10 +38,6 @@ pub zip_more : {X Y : Type 0} (R : X → Y → Type 0) (xs : List X) (ys : List 
 zip_more R xs ys i d x inside zip here = subst (AllZip R (xs ++ x ∷ [])) (sym (take_more ys i d inside)) (zip_push R xs (take i ys) x (get_or ys i d) zip here)
 
 module _ (c : Circuit ℕ) (order : List ℕ) (places : List (ℕ × ℕ)) where
-  -- without places there are no inputs
-  pub inputs_none : AreInputsOf c order [] []
-  inputs_none = record { from = λ x h. absurd (omega (arith, h.1)); all = λ p number h k. absurd (omega (arith, h.1)); differ = λ i j d l m. absurd (omega arith) }
-
   more : (i : ℕ) (d : ℕ × ℕ) → i < length places → take i places ++ get_or places i d ∷ [] ≡ take (i + 1) places
   more i d inside = sym (take_more places i d inside)
 

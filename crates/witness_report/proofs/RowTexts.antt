@@ -19,23 +19,6 @@ pub row_digits : (row : List Bool) → 0 < length row → row_text row ≡ map d
 row_digits [] h = absurd (omega (arith, h))
 row_digits (bit ∷ bits) h = refl
 
-pub length_digits : (row : List Bool) → length (map digit_of row) ≡ length row
-length_digits [] = refl
-length_digits (bit ∷ bits) = ap suc (length_digits bits)
-
--- a row without bits is a dash
-pub row_dash : (row : List Bool) → length row ≡ 0 → row_text row ≡ 45 ∷ []
-row_dash [] h = refl
-row_dash (bit ∷ bits) h = absurd (omega (arith, h))
-
--- a line that is no dash, of another length, or with a byte that is no digit is no row
-pub no_dash : (line : List ℕ) → (line ≡ 45 ∷ [] → ⊥) → IsNoRow 0 line
-no_dash line other row none e = other (sym e ∙ row_dash row none)
-
-pub no_length : (count : ℕ) (line : List ℕ) → 0 < count → (length line ≡ count → ⊥) → IsNoRow count line
-no_length count line some other row wide e =
-    other (ap length (sym e ∙ row_digits row (omega (arith, some, wide))) ∙ (length_digits row ∙ wide))
-
 pub no_bits : (count : ℕ) (line : List ℕ) → 0 < count → ((bits : List Bool) → map digit_of bits ≡ line → ⊥) → IsNoRow count line
 no_bits count line some other row wide e = other row (sym (row_digits row (omega (arith, some, wide))) ∙ e)
 

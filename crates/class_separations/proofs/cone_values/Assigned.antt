@@ -19,31 +19,6 @@ use Rattle.lane_eval.proofs.Numbered.{assigned_to-at}
 use Rattle.pair_decide.proofs.Reached.{same-root}
 use Rattle.class_separations.specs.cone_values.Bits.{HasBits}
 
-pub bits_begin : (vars : List ℕ) (bits assignment : List Bool) → HasBits vars bits 0 assignment
-bits_begin vars bits assignment k v below at inside = absurd (omega (arith, below))
-
--- one variable more
-pub bits_put : (vars : List ℕ) (bits : List Bool) (k : ℕ) (assignment : List Bool) → AllPairs (λ u v. u ≢ v) vars → k < length vars → get_or vars k 0 < length assignment → HasBits vars bits k assignment →
-    HasBits vars bits (k + 1) (set assignment (get_or vars k 0) (get_or bits k false))
-bits_put vars bits k assignment distinct inside within has j v below at room = by (j == k) refl
-  where
-    here : get_or vars j 0 ≡ v
-    here = get_or_from_slice_get vars j v 0 at
-
-    by : (t : Bool) → (j == k) ≡ t → get_or (set assignment (get_or vars k 0) (get_or bits k false)) v false ≡ get_or bits j false
-    by true test =
-        let e : j ≡ k = (Decides-eqb j k).0 test in
-        let same : v ≡ get_or vars k 0 = sym here ∙ ap (λ (i : ℕ). get_or vars i 0) e in
-        ap (λ (w : ℕ). get_or (set assignment (get_or vars k 0) (get_or bits k false)) w false) same ∙ get_or-set_same assignment (get_or vars k 0) (get_or bits k false) false within ∙ ap (λ (i : ℕ). get_or bits i false) (sym e)
-    by false test =
-        let apart : j ≢ k = λ (e : j ≡ k). differs ((Decides-eqb j k).1 e) test in
-        let less : j < k = omega (arith, apart, below) in
-        let other : v ≢ get_or vars k 0 = λ (e : v ≡ get_or vars k 0). distinct j k 0 less inside (here ∙ e) in
-        get_or-set_other assignment (get_or vars k 0) v (get_or bits k false) false other ∙ has j v less at (let z = length-set assignment (get_or vars k 0) (get_or bits k false) in omega (arith, room, z))
-      where
-        differs : (j == k) ≡ true → (j == k) ≡ false → ⊥
-        differs p q = let e : true ≡ false = sym p ∙ q in cc
-
 -- one for which there is no room
 pub bits_left : (vars : List ℕ) (bits : List Bool) (k : ℕ) (assignment : List Bool) → length assignment ≤ get_or vars k 0 → HasBits vars bits k assignment → HasBits vars bits (k + 1) assignment
 bits_left vars bits k assignment none has j v below at room = by (j == k) refl

@@ -32,36 +32,6 @@ next_entry es once n e at old new before adds few k here = go adds.more adds.is 
         is ∙ (ap (λ (l : List (ℕ × ℕ)). l ++ x ∷ []) before ∙ (ap (λ (y : ℕ × ℕ). take n es ++ y ∷ []) (each 0 e (omega arith)) ∙ take-push es n e at))
     go (x ∷ y ∷ more) is each = absurd (let long = length-append old (x ∷ y ∷ more) in omega (arith, few, ap length is, long))
 
--- one zero more
-pub next_zero : (n v : ℕ) (old new more : List (ℕ × ℕ)) → new ≡ old ++ more → length new ≤ length old + 1 → HasZeros n old → slice_get new v ≡ Some (0, n) → HasZeros (n + 1) new
-next_zero n v old new more is few zeros here = go (below_or v n)
-  where
-    below_or : (i j : ℕ) → (i < j) ⊎ (j ≤ i)
-    below_or i j = grind arith
-
-    old_at : (k : ℕ) (x : ℕ × ℕ) → slice_get old k ≡ Some x → slice_get new k ≡ Some x
-    old_at k x h = ap (λ (l : List (ℕ × ℕ)). slice_get l k) is ∙ slice_get-append old more k x h
-
-    inside : v < length new
-    inside = slice_get_within new v (0, n) here
-
-    go : (v < n) ⊎ (n ≤ v) → HasZeros (n + 1) new
-    go (inl low) =
-        let same : (0, v) ≡ (0, n) = same_Some (0, v) (0, n) (sym (old_at v (0, v) (zeros.at v low)) ∙ here) in
-        absurd (let e = ap (λ (p : ℕ × ℕ). p.1) same in omega (arith, low, e))
-    go (inr high) =
-        let top : v ≡ n = omega (arith, high, inside, few, zeros.each) in
-        record {
-          each = omega (arith, high, inside, few, zeros.each);
-          at = λ k below. at k below (below_or k n) top;
-        }
-      where
-        at : (k : ℕ) → k < n + 1 → (k < n) ⊎ (n ≤ k) → v ≡ n → slice_get new k ≡ Some (0, k)
-        at k below (inl low) top = old_at k (0, k) (zeros.at k low)
-        at k below (inr high) top =
-            let e : n ≡ k = omega (arith, below, high) in
-            subst (λ (m : ℕ). slice_get new m ≡ Some (0, m)) e (subst (λ (m : ℕ). slice_get new m ≡ Some (0, n)) top here)
-
 -- the variable of a zero is the input 0 at the node
 zero_at : (w : EventGraphView) (count n : ℕ) → HasZeros count w.places → n < count → variable_of w n ≡ record { input = 0; at = path_of w.children n }
 zero_at w count n zeros below =

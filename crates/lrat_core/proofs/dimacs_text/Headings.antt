@@ -12,26 +12,8 @@ module _ (tokens first second third fourth fifth : List (List ℕ)) (a b c d e :
   pub one_token : tokens ≡ a ∷ first → first ≡ [] → None ≡ header_of tokens
   one_token p q = ap header_of (sym (p ∙ ap (λ ts. a ∷ ts) q))
 
-  pub two_tokens : tokens ≡ a ∷ first → first ≡ b ∷ second → second ≡ [] → None ≡ header_of tokens
-  two_tokens p q r = ap header_of (sym (p ∙ (ap (λ ts. a ∷ ts) q ∙ ap (λ ts. a ∷ b ∷ ts) r)))
-
-  pub three_tokens : tokens ≡ a ∷ first → first ≡ b ∷ second → second ≡ c ∷ third → third ≡ [] → None ≡ header_of tokens
-  three_tokens p q r s = ap header_of (sym (p ∙ (ap (λ ts. a ∷ ts) q ∙ (ap (λ ts. a ∷ b ∷ ts) r ∙ ap (λ ts. a ∷ b ∷ c ∷ ts) s))))
-
-  pub five_tokens : tokens ≡ a ∷ first → first ≡ b ∷ second → second ≡ c ∷ third → third ≡ d ∷ fourth → fourth ≡ e ∷ fifth → None ≡ header_of tokens
-  five_tokens p q r s t =
-      ap header_of (sym (p ∙ (ap (λ ts. a ∷ ts) q ∙ (ap (λ ts. a ∷ b ∷ ts) r ∙ (ap (λ ts. a ∷ b ∷ c ∷ ts) s ∙ ap (λ ts. a ∷ b ∷ c ∷ d ∷ ts) t)))))
-
   four : tokens ≡ a ∷ first → first ≡ b ∷ second → second ≡ c ∷ third → third ≡ d ∷ fourth → fourth ≡ [] → header_of tokens ≡ cond (bytes_eq a (codes "p") && bytes_eq b (codes "cnf")) (header_from (count_of c) (count_of d)) None
   four p q r s t = ap header_of (p ∙ (ap (λ ts. a ∷ ts) q ∙ (ap (λ ts. a ∷ b ∷ ts) r ∙ (ap (λ ts. a ∷ b ∷ c ∷ ts) s ∙ ap (λ ts. a ∷ b ∷ c ∷ d ∷ ts) t))))
-
-  pub other_words : tokens ≡ a ∷ first → first ≡ b ∷ second → second ≡ c ∷ third → third ≡ d ∷ fourth → fourth ≡ [] → (bytes_eq a (codes "p") && bytes_eq b (codes "cnf")) ≡ false → None ≡ header_of tokens
-  other_words p q r s t w = sym (four p q r s t ∙ ap (λ k. cond k (header_from (count_of c) (count_of d)) None) w)
-
-  pub are_header : tokens ≡ a ∷ first → first ≡ b ∷ second → second ≡ c ∷ third → third ≡ d ∷ fourth → fourth ≡ [] → bytes_eq a (codes "p") ≡ true → bytes_eq b (codes "cnf") ≡ true →
-      header_from (count_of c) (count_of d) ≡ header_of tokens
-  are_header p q r s t v w =
-      sym (four p q r s t ∙ (ap (λ k. cond (k && bytes_eq b (codes "cnf")) (header_from (count_of c) (count_of d)) None) v ∙ ap (λ k. cond k (header_from (count_of c) (count_of d)) None) w))
 
 -- the lines up to the header
 pub over : (number : ℕ) (left lines : List (List ℕ)) (line : List ℕ) → left ≡ line ∷ lines → is_passed_over (tokens_of line) ≡ true → formula_from number left ≡ formula_from (suc number) lines

@@ -31,36 +31,15 @@ count_put [] End = omega arith
 count_put (Literal l ∷ more) e = count_put more e
 count_put (End ∷ more) e = let h = count_put more e in let g : suc (ends (more ++ e ∷ [])) ≡ suc (ends more) + cond (is_end e) 1 0 = omega (arith, h) in g
 
--- the clauses so far, and those of the entries that are left
-pub literal_read : (entries : List Entry) (i : ℕ) (d : Entry) (l : words.Literal) (front new : List words.Literal) → i < length entries → get_or entries i d ≡ Literal l → new ≡ front ++ l ∷ [] →
-    clauses_from front (drop i entries) ≡ clauses_from new (drop (i + 1) entries)
-literal_read entries i d l front new lt e put =
-    ap (clauses_from front) (drop-cons entries i d lt ∙ ap (λ x. x ∷ drop (suc i) entries) e)
-    ∙ (ap (λ ls. clauses_from ls (drop (suc i) entries)) (sym put) ∙ ap (λ k. clauses_from new (drop k entries)) (let q : suc i ≡ i + 1 = omega arith in q))
-
 pub end_read : (entries : List Entry) (i : ℕ) (d : Entry) (front new : List words.Literal) → i < length entries → get_or entries i d ≡ End → new ≡ [] →
     clauses_from front (drop i entries) ≡ front ∷ clauses_from new (drop (i + 1) entries)
 end_read entries i d front new lt e none =
     ap (clauses_from front) (drop-cons entries i d lt ∙ ap (λ x. x ∷ drop (suc i) entries) e)
     ∙ (ap (λ ls. front ∷ clauses_from ls (drop (suc i) entries)) (sym none) ∙ ap (λ k. front ∷ clauses_from new (drop k entries)) (let q : suc i ≡ i + 1 = omega arith in q))
 
-pub all_ended : (entries : List Entry) (i : ℕ) (front : List words.Literal) (clauses : List (List words.Literal)) → length entries ≤ i → clauses ++ clauses_from front (drop i entries) ≡ clauses
-all_ended entries i front clauses le = ap (λ es. clauses ++ clauses_from front es) (drop_of_length-le entries le) ∙ append-nil clauses
-
--- what a line does
-pub line_over : (limit : ℕ) (before : List Entry) (line : List ℕ) → is_passed_over (tokens_of line) ≡ true → line_entries limit before line ≡ Some before
-line_over limit before line e = ap (λ b. cond b (Some before) (behind before (entries_of limit (tokens_of line)))) e
-
 pub line_read : (limit : ℕ) (before : List Entry) (line : List ℕ) (o : Option (List Entry)) → is_passed_over (tokens_of line) ≡ false → behind before (entries_of limit (tokens_of line)) ≡ o →
     line_entries limit before line ≡ o
 line_read limit before line o e f = ap (λ b. cond b (Some before) (behind before (entries_of limit (tokens_of line)))) e ∙ f
-
-pub bad_number : (header : Header) (number : ℕ) (o : Option (List Entry)) (later : List Entry → Result Formula TextError) → o ≡ None → line_then header number o later ≡ Err (At number BadNumber)
-bad_number header number o later e = ap (λ p. line_then header number p later) e
-
-pub bad_count : (header : Header) (number : ℕ) (o : Option (List Entry)) (entries : List Entry) (later : List Entry → Result Formula TextError) → o ≡ Some entries → is_past header.clauses entries ≡ true →
-    line_then header number o later ≡ Err (At number BadCount)
-bad_count header number o entries later e past = ap (λ p. line_then header number p later) e ∙ ap (λ b. cond b (Err (At number BadCount)) (later entries)) past
 
 pub goes_on : (header : Header) (number : ℕ) (entries new : List Entry) (left lines : List (List ℕ)) (line : List ℕ) → left ≡ line ∷ lines → line_entries header.variables entries line ≡ Some new →
     is_past header.clauses new ≡ false → body_from header entries number left ≡ body_from header new (suc number) lines

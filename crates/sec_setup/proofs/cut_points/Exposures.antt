@@ -89,15 +89,6 @@ module _ (a b : NetView) (ga gb : GraphView) (of_a : IsGraphOf a ga) (of_b : IsG
       left_once i j d less inside
       (one_name a of_a.sound (get_or common i d).left (get_or common j d).left p.left q.left (p.name ∙ ap (λ (k : ℕ). (latch_at b k).name) e ∙ sym q.name))
 
-  pub left_in_graph : All (λ (p : LatchPair). p.left < length ga.latches) common
-  left_in_graph = all_then (HaveOneName a.latches b.latches) (λ (p : LatchPair). p.left < length ga.latches) common (λ p h. subst (λ (ls : List LatchAt). p.left < length ls) (sym of_a.latches) h.left) are.each
-
-  pub right_in_graph : All (λ (p : LatchPair). p.right < length gb.latches) common
-  right_in_graph = all_then (HaveOneName a.latches b.latches) (λ (p : LatchPair). p.right < length gb.latches) common (λ p h. subst (λ (ls : List LatchAt). p.right < length ls) (sym of_b.latches) h.right) are.each
-
-  pub left_in_net : All (λ (p : LatchPair). p.left < length a.latches) common
-  left_in_net = all_then (HaveOneName a.latches b.latches) (λ (p : LatchPair). p.left < length a.latches) common (λ p h. h.left) are.each
-
   graph_named : All (laws.HaveOneName ga gb) common
   graph_named = all_then (HaveOneName a.latches b.latches) (laws.HaveOneName ga gb) common one are.each
     where

@@ -57,15 +57,6 @@ not_among n name none = go (is_among (latch_names (circuit_of n).equations) name
     go true e = absurd (no (is_among-sound (latch_names (circuit_of n).equations) name e))
     go false e = e
 
--- before the first latch
-pub common_none : (a b : NetView) → AreCommonUpTo a b 0 []
-common_none a b = record {
-  each = All-nil (HaveOneName a.latches b.latches);
-  below = All-nil (λ (p : LatchPair). p.left < 0);
-  in_order = λ i j d less within. absurd (omega (arith, within));
-  names = refl;
-}
-
 -- one latch more
 module _ (a b : NetView) (i : ℕ) (inside : i < length a.latches) (pairs : List LatchPair) (so_far : AreCommonUpTo a b i pairs) where
   abbrev shared : List ℕ → Bool

@@ -224,12 +224,6 @@ gate_weighs n s j gate cover rows columns driven at covered rows_are columns_are
     ap (λ (z : Cover). 1 + max 1 (length z.rows) * (length gate.fanins + 1)) (cover_of-is n.covers gate cover covered) in
     ap (λ z. 1 + z * columns) rows_are ∙ ap (λ z. 1 + max 1 (length cover.rows) * z) columns_are ∙ sym whole ∙ sym here
 
--- a new place with the sum, or with what is above the cap
-pub meeting_new : (n : NetView) (old new : List (ℕ × ℕ)) (place : ℕ × ℕ) (total cap : ℕ) (sum : Option ℕ) → IfSome sum (λ z. (z ≡ total + weight_of n place.0) × (z ≤ cap)) → IfNone sum (cap < total + weight_of n place.0) →
-    new ≡ old ++ place ∷ [] → (Contains old place → ⊥) → Meeting n old new place total cap sum
-meeting_new n old new place total cap None some over put absent = (inr (absent, put, refl), over)
-meeting_new n old new place total cap (Some sum) some over put absent = (inr (absent, put, some.0), some.1)
-
 pub met_longer : (n : NetView) (old new : List (ℕ × ℕ)) (place : ℕ × ℕ) (total sum : ℕ) → IsMet n old new place total sum → length old ≤ length new
 met_longer n old new place total sum (inl x) = omega (arith, ap length x.1)
 met_longer n old new place total sum (inr x) = omega (arith, ap length x.1, length-push old place)
