@@ -13,9 +13,9 @@ use Rattle.std.proofs.lemmas.Map.Made.{IsDistinct-from_AllPairs}
 use Rattle.std.specs.Ordering.{nat_cmp}
 use Rattle.sec_base.proofs.circuit_theory.Lists.{Contains-head, Contains-tail, Contains-map_from, at_of, of_at}
 use Rattle.sec_base.proofs.circuit_theory.Sums.{sum_within}
-use Rattle.sec_base.specs.unique_table.Places.{IsWith}
-use Rattle.sec_base.proofs.unique_table.Keys.{all-differ}
-use Rattle.sec_base.specs.Table.{AreDistinct}
+use Rattle.base_tables.specs.unique_table.Places.{IsWith}
+use Rattle.base_tables.proofs.unique_table.Keys.{all-differ}
+use Rattle.base_tables.specs.Table.{AreDistinct}
 use Rattle.aig.specs.declared.node.Lit.{Lit}
 use Rattle.aig.specs.declared.node.Node.{Node}
 use Rattle.aig.specs.declared.node.Node.TheVariants.{Constant, Input, And}

@@ -4,7 +4,7 @@ use Rattle.std.proofs.lemmas.Option.{none-some}
 use Rattle.std.proofs.lemmas.List.{length-append}
 use Rattle.sec_base.specs.circuit_theory.Cover.{Cover}
 use Rattle.sec_base.specs.circuit_theory.Tree.{Tree, Trees, Leaf, Fixed, Branch, Nil, Cons}
-use Rattle.sec_base.specs.Table.{AreDistinct}
+use Rattle.base_tables.specs.Table.{AreDistinct}
 use Rattle.aig.specs.declared.node.Node.{Node}
 use Rattle.aig.specs.declared.node.Node.TheVariants.{Constant, Input, And}
 use Rattle.aig.specs.Graph.{IsGraph, Grows, IsLitOf, flip, vars_of}

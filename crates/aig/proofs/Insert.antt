@@ -4,7 +4,7 @@ use Rattle.std.specs.Prelude.{nat_lt}
 use Rattle.std.proofs.lemmas.Option.{slice_get_within, none-some, same_Some}
 use Rattle.std.proofs.lemmas.List.{length-append}
 use Rattle.sec_base.proofs.circuit_theory.Lists.{of_at}
-use Rattle.sec_base.specs.unique_table.Places.{IsWith}
+use Rattle.base_tables.specs.unique_table.Places.{IsWith}
 use Rattle.sec_base.specs.circuit_theory.Cover.{Cover, cover_value}
 use Rattle.aig.specs.declared.node.Lit.{Lit}
 use Rattle.aig.specs.declared.node.Node.{Node}

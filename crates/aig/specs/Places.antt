@@ -1,6 +1,6 @@
 -- Where a node is looked for.
 use Rattle.std.specs.Prelude.{ℕ}
-use Rattle.sec_base.specs.unique_table.Places.{mixed}
+use Rattle.base_tables.specs.unique_table.Places.{mixed}
 use Rattle.aig.specs.declared.node.Node.{Node}
 use Rattle.aig.specs.declared.node.Node.TheVariants.{Constant, Input, And}
 use Rattle.aig.specs.Ways.{and_place}

@@ -1,6 +1,6 @@
 -- Where an and is looked for.
 use Rattle.std.specs.Prelude.{ℕ, ◌+◌, ◌-◌, ◌*◌, ◌/◌, ◌%◌, ◌^◌, nat_lt, if◌then◌else◌}
-use Rattle.sec_base.specs.unique_table.Places.{mixed}
+use Rattle.base_tables.specs.unique_table.Places.{mixed}
 
 -- the place of a step of the search for the and of two literals
 unfoldable pub and_place : ℕ → ℕ → ℕ → ℕ

@@ -8,7 +8,8 @@ ghost use Rattle.std.specs.List.Sorted.{IsStrictlyIncreasing};
 
 use crate::graph::Aig;
 use crate::node::{Lit, Node};
-use sec_base::{Ids, NoMemory, UniqueTable};
+use base_tables::UniqueTable;
+use sec_base::{Ids, NoMemory};
 use std::alloc::Global;
 
 impl Aig {

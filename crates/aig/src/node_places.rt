@@ -4,7 +4,7 @@ ghost use Rattle.std.specs.Prelude.{◌≡◌};
 ghost use Rattle.aig.specs.Ways.{and_place};
 
 use crate::node::{Lit, Node};
-use sec_base::{Key, mixed};
+use base_tables::{Key, mixed};
 
 /// How many places near one another a node is looked for at.
 const NEAR: u32 = 8;

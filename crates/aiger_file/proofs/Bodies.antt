@@ -4,9 +4,8 @@ use Rattle.aiger_records.specs.declared.header.Header.{Header}
 use Rattle.aiger_records.specs.declared.record.Record.{Record}
 use Rattle.aiger_records.specs.declared.error.AigerKind.{AigerKind}
 use Rattle.aiger_records.specs.declared.error.AigerKind.TheVariants as kind
-use Rattle.aiger_records.specs.Records.{Taken, record_at, implied}
+use Rattle.aiger_records.specs.Records.{Taken, record_at, implied, body_length}
 use Rattle.aiger_records.specs.Faults.{fault_of}
-use Rattle.aiger_records.specs.Records.{body_length}
 use Rattle.aiger_file.specs.Reading.{Body, put_record, body_from, body_of, records_fault, first_fault_after, fault_at, at, those_there, body_with, FaultAt}
 use Rattle.aiger_file.specs.State.{BodyTo, Refuses, refusal_at}
 use Rattle.aiger_records.specs.Took.{Stops}

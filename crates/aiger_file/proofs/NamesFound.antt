@@ -3,7 +3,7 @@ use Rattle.std.proofs.Common.{◌≡◌, ℕ, zero, suc, ◌+◌, Bool, true, fa
 use Rattle.std.specs.Prelude.{bytes_eq}
 use Rattle.std.proofs.lemmas.Slice.Eq.{bytes_eq-Decides}
 use Rattle.std.proofs.lemmas.Option.{none-some, same_Some}
-use Rattle.sec_base.specs.Table.{is_among, AreDistinct}
+use Rattle.base_tables.specs.Table.{is_among, AreDistinct}
 use Rattle.aiger_file.specs.declared.symbol.Named.{Named}
 use Rattle.aiger_file.specs.Names.{name_beside, name_of, names_from, repeats}
 

@@ -1,7 +1,7 @@
 -- The names of inputs, latches and outputs.
 use Rattle.std.specs.Prelude.{ℕ, zero, suc, ◌+◌, ◌||◌, Bool, false, if◌then◌else◌, List, [], ◌∷◌, ◌++◌, bytes_eq}
 use Rattle.std.specs.Fmt.{decimal}
-use Rattle.sec_base.specs.Table.{is_among}
+use Rattle.base_tables.specs.Table.{is_among}
 use Rattle.aiger_file.specs.declared.symbol.Named.{Named}
 
 -- the word that names number k of a kind: its letter and the number

@@ -1,7 +1,7 @@
 -- The symbols behind the body of a file.
 use Rattle.std.specs.Prelude.{◌≡◌, ℕ, ◌==◌, nat_le, nat_lt, ◌||◌, not, Bool, true, false, if◌then◌else◌, List, [], ◌∷◌, length, Option, Some, None, option_and_then, codes, refl}
 use Rattle.std.specs.List.{list_any, slice_split}
-use Rattle.sec_base.specs.Table.{is_among}
+use Rattle.base_tables.specs.Table.{is_among}
 use Rattle.aiger_records.specs.declared.header.Header.{Header}
 use Rattle.aiger_records.specs.declared.record.Section.{Section}
 use Rattle.aiger_records.specs.declared.record.Section.TheVariants as section

@@ -4,7 +4,8 @@ ghost use Rattle.std.specs.Prelude.{◌≡◌, ◌++◌, ◌||◌, [], true, not
 ghost use Rattle.aiger_file.specs.Names.{key_of, name_of, names_from, repeats};
 
 use crate::symbol::Named;
-use sec_base::{NameTable, NoMemory, put_number};
+use base_tables::NameTable;
+use sec_base::{NoMemory, put_number};
 use std::alloc::Global;
 
 /// The word that names number k of the kind with this letter.

@@ -4,10 +4,11 @@ ghost use Rattle.std.specs.Prelude.{◌≡◌, ◌∷◌, ◌++◌, [], if◌the
 ghost use Rattle.std.specs.List.{list_any};
 ghost use Rattle.aiger_file.specs.Symbols.{the_symbol, section_named, symbol_of, is_end, count_of, is_bad_byte, is_bad_name, symbol_fault};
 ghost use Rattle.aiger_records.specs.Took.{Took};
-ghost use Rattle.sec_base.specs.Table.{is_among};
+ghost use Rattle.base_tables.specs.Table.{is_among};
 
 use aiger_records::{AigerKind, Cut, Header, Section, Stop, cut_at, number_of};
-use sec_base::{MAX_NAME_BYTES, NameTable, NoMemory, Seq, Words};
+use base_tables::NameTable;
+use sec_base::{MAX_NAME_BYTES, NoMemory, Seq, Words};
 use std::alloc::Global;
 
 /// The name of an input, a latch or an output, counted from 0.

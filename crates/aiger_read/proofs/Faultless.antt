@@ -9,8 +9,8 @@ use Rattle.std.proofs.lemmas.Option.{none-some, same_Some, slice_get_within}
 use Rattle.circuit_theory.specs.Circuit.{Named as Port}
 use Rattle.circuit_theory.specs.Interface.{◌or_else◌}
 use Rattle.circuit_theory.proofs.Lists.{All-from_each, Contains-head, Contains-tail, Contains-cases, at_of, only}
-use Rattle.sec_base.specs.Table.{is_among, AreDistinct}
-use Rattle.sec_base.proofs.TableLemmas.{Contains_not-is_among}
+use Rattle.base_tables.specs.Table.{is_among, AreDistinct}
+use Rattle.base_tables.proofs.TableLemmas.{Contains_not-is_among}
 use Rattle.aiger_file.proofs.aiger_graph.net_assembly.Rows.{slice_get-append}
 use Rattle.aiger_file.proofs.aiger_graph.net_assembly.DistinctLists.{distinct_nil, distinct_cons, distinct_append}
 use Rattle.aiger_records.specs.declared.header.Header.{Header}

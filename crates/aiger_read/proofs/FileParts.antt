@@ -5,8 +5,7 @@ use Rattle.std.specs.List.{Contains, filter_map, cons_option}
 use Rattle.std.proofs.lemmas.Bool.{false_from_ne_true}
 use Rattle.std.proofs.lemmas.Bool.Decides.{Decides-eqb}
 use Rattle.std.proofs.lemmas.Option.{none-some, same_Some}
-use Rattle.circuit_theory.specs.Circuit.{Equation, Named, Started}
-use Rattle.circuit_theory.specs.Circuit.{Gate as gate_equation, Latch as latch_equation, Port as port_equation}
+use Rattle.circuit_theory.specs.Circuit.{Equation, Named, Started, Gate as gate_equation, Latch as latch_equation, Port as port_equation}
 use Rattle.circuit_theory.specs.Flattened.{latch_names}
 use Rattle.circuit_theory.specs.Joined.{moved, moved_start}
 use Rattle.circuit_theory.proofs.Lists.{Contains-cases, Contains-head, Contains-tail}
@@ -15,8 +14,7 @@ use Rattle.sec_base.specs.declared.basics.Init.{Init}
 use Rattle.sec_base.specs.declared.basics.Init.TheVariants as init
 use Rattle.flat_net.specs.declared.signals.Signal.{Signal}
 use Rattle.flat_net.specs.declared.parts.LatchAt.{LatchAt}
-use Rattle.flat_net.specs.View.{equation_of_latch}
-use Rattle.flat_net.specs.View.{start_of as net_start}
+use Rattle.flat_net.specs.View.{equation_of_latch, start_of as net_start}
 use Rattle.aiger_file.specs.aiger_graph.net_assembly.Shown.{with_nexts}
 use Rattle.aiger_records.specs.declared.record.Record.{Record}
 use Rattle.aiger_records.specs.Faults.{defined_by}

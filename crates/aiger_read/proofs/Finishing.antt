@@ -6,8 +6,7 @@ use Rattle.std.proofs.lemmas.List.Elements.{All-contains, Contains-append_left, 
 use Rattle.std.proofs.lemmas.List.{length-map}
 use Rattle.std.proofs.lemmas.Option.{slice_get_within, slice_get-get_or}
 use Rattle.circuit_theory.specs.Cover.{Cover}
-use Rattle.circuit_theory.specs.Circuit.{Circuit, Equation, Named, Started, IsLatch, out_of}
-use Rattle.circuit_theory.specs.Circuit.{Gate as gate_equation, Latch as latch_equation, Port as port_equation}
+use Rattle.circuit_theory.specs.Circuit.{Circuit, Equation, Named, Started, IsLatch, out_of, Gate as gate_equation, Latch as latch_equation, Port as port_equation}
 use Rattle.circuit_theory.specs.Flattened.{Follows, latch_names}
 use Rattle.circuit_theory.specs.Joined.{moved, moved_name, moved_start}
 use Rattle.circuit_theory.specs.Places.{IsPlace}
@@ -16,15 +15,14 @@ use Rattle.circuit_theory.proofs.Numbers.{slice_get-map}
 use Rattle.net_alike.specs.Renumbered.{latch_rows}
 use Rattle.net_alike.specs.FlatCircuit.{HasSignal, IsFlatCircuit}
 use Rattle.net_alike.proofs.Carrying.{map_fixed}
-use Rattle.sec_base.specs.Table.{AreDistinct}
+use Rattle.base_tables.specs.Table.{AreDistinct}
 use Rattle.aiger_file.proofs.aiger_graph.net_assembly.Rows.{slice_get-take_to}
 use Rattle.flat_net.specs.declared.signals.Signal.{Signal}
 use Rattle.flat_net.specs.declared.parts.Port.{Port as NetPort}
 use Rattle.flat_net.specs.declared.parts.LatchAt.{LatchAt}
 use Rattle.flat_net.specs.declared.parts.Gate.{Gate as NetGate}
 use Rattle.flat_net.specs.declared.parts.Driver.TheVariants as driver
-use Rattle.flat_net.specs.View.{NetView, named, circuit_of, equation_of_gate, equation_of_latch, cover_of}
-use Rattle.flat_net.specs.View.{start_of as net_start}
+use Rattle.flat_net.specs.View.{NetView, named, circuit_of, equation_of_gate, equation_of_latch, cover_of, start_of as net_start}
 use Rattle.flat_net.specs.Sound.{IsSound}
 use Rattle.flat_net.specs.Comparable.{IsComparable}
 use Rattle.aiger_file.specs.aiger_graph.net_assembly.Assembled.{IsAssembled}

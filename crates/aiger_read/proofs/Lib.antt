@@ -8,5 +8,3 @@ pub mod Finishing
 pub mod Sections
 pub mod Faultless
 pub mod Answered
-pub use Rattle.aiger_file.proofs.aiger_graph.NoLoops
-pub use Rattle.aiger_file.proofs.aiger_graph.ReadLiterals

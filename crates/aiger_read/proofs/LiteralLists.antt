@@ -9,8 +9,8 @@ use Rattle.std.proofs.lemmas.List.Elements.{Contains-append_left, Contains-appen
 use Rattle.std.proofs.lemmas.List.Folds.{list_any_at}
 use Rattle.std.proofs.lemmas.Option.{none-some, same_Some, slice_get_within, get_or_from_slice_get}
 use Rattle.circuit_theory.proofs.Lists.{Contains-head, Contains-tail, Contains-filter, Contains-map, Contains-map_from, filter_test, filter_map-from, at_of, only}
-use Rattle.sec_base.specs.Table.{AreDistinct}
-use Rattle.sec_base.proofs.TableLemmas.{take-push}
+use Rattle.base_tables.specs.Table.{AreDistinct}
+use Rattle.base_tables.proofs.TableLemmas.{take-push}
 use Rattle.aiger_file.proofs.aiger_graph.net_assembly.DistinctLists.{distinct_nil, distinct_cons, distinct_append, distinct_filter, Contains-kept}
 use Rattle.aiger_file.proofs.aiger_graph.net_assembly.Building.{list_all_place}
 use Rattle.aiger_records.specs.declared.record.Record.{Record}

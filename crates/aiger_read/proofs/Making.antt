@@ -7,13 +7,12 @@ use Rattle.std.proofs.lemmas.List.Elements.{filter-append}
 use Rattle.std.proofs.lemmas.List.FromFn.{length-map-range_with_len}
 use Rattle.std.proofs.lemmas.Option.{none-some, same_Some, slice_get_within, slice_get-get_or, get_or_from_slice_get}
 use Rattle.circuit_theory.specs.Cover.{Cover}
-use Rattle.circuit_theory.specs.Circuit.{Equation, Named as Port}
-use Rattle.circuit_theory.specs.Circuit.{Gate as gate_equation}
+use Rattle.circuit_theory.specs.Circuit.{Equation, Named as Port, Gate as gate_equation}
 use Rattle.circuit_theory.specs.Joined.{moved, moved_name}
 use Rattle.circuit_theory.proofs.Lists.{map-map, map_same, All-from_each, Contains-map_from, Contains-filter, at_of, of_at}
 use Rattle.circuit_theory.proofs.Numbers.{slice_get-map}
-use Rattle.sec_base.specs.Table.{is_among, AreDistinct}
-use Rattle.sec_base.proofs.TableLemmas.{not_before, take-push}
+use Rattle.base_tables.specs.Table.{is_among, AreDistinct}
+use Rattle.base_tables.proofs.TableLemmas.{not_before, take-push}
 use Rattle.flat_net.specs.declared.signals.Signal.{Signal}
 use Rattle.flat_net.specs.declared.parts.Port.{Port as NetPort}
 use Rattle.flat_net.specs.declared.parts.Gate.{Gate as NetGate}

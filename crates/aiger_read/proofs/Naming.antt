@@ -12,8 +12,8 @@ use Rattle.std.proofs.lemmas.Option.{none-some, same_Some}
 use Rattle.circuit_theory.specs.Circuit.{Named as Port}
 use Rattle.circuit_theory.proofs.Lists.{Contains-head, Contains-tail, at_of, of_at}
 use Rattle.circuit_theory.proofs.Numbers.{slice_get-map}
-use Rattle.sec_base.specs.Table.{AreDistinct}
-use Rattle.sec_base.proofs.TableLemmas.{key_at}
+use Rattle.base_tables.specs.Table.{AreDistinct}
+use Rattle.base_tables.proofs.TableLemmas.{key_at}
 use Rattle.aiger_file.proofs.aiger_graph.net_assembly.Rows.{slice_get-append}
 use Rattle.aiger_file.proofs.aiger_graph.net_assembly.DistinctLists.{distinct_tail}
 use Rattle.aiger_file.specs.declared.symbol.Named.{Named}

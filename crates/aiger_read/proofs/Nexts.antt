@@ -5,7 +5,7 @@ use Rattle.std.proofs.lemmas.List.{map-append, length-append, length-map}
 use Rattle.std.proofs.lemmas.List.Elements.{All-contains}
 use Rattle.std.proofs.lemmas.Option.{none-some, same_Some, slice_get_within, slice_get-get_or}
 use Rattle.circuit_theory.proofs.Lists.{Contains-head, at_of}
-use Rattle.sec_base.proofs.TableLemmas.{key_at}
+use Rattle.base_tables.proofs.TableLemmas.{key_at}
 use Rattle.flat_net.specs.declared.signals.Signal.{Signal}
 use Rattle.flat_net.specs.declared.parts.LatchAt.{LatchAt}
 use Rattle.flat_net.specs.declared.parts.Driver.TheVariants as driver

@@ -6,7 +6,7 @@ use Rattle.circuit_theory.specs.Circuit.{Circuit, Equation, IsInput, out_of, Gat
 use Rattle.circuit_theory.specs.Flattened.{IsFlattened}
 use Rattle.circuit_theory.specs.Places.{IsPlace}
 use Rattle.net_alike.specs.FlatCircuit.{IsFlatCircuit}
-use Rattle.sec_base.specs.Table.{AreDistinct}
+use Rattle.base_tables.specs.Table.{AreDistinct}
 use Rattle.flat_net.specs.declared.parts.LatchAt.{LatchAt}
 use Rattle.flat_net.specs.View.{NetView, circuit_of}
 use Rattle.flat_net.specs.Sound.{IsSound}

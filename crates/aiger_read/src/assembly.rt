@@ -1,7 +1,7 @@
 //! A net under construction, and the signals of literals.
 
 ghost use Rattle.std.specs.Prelude.{◌≡◌, ◌+◌, ◌^◌, ◌<◌, ◌++◌, ◌∷◌, [], false, length, replicate, map, slice_get, slice_set, All, IfOk, OnOk, IsSomeAnd};
-ghost use Rattle.sec_base.specs.Table.{is_among};
+ghost use Rattle.base_tables.specs.Table.{is_among};
 ghost use Rattle.flat_net.specs.Makes.{empty_net, new_signal, with_input, with_latch, with_gate};
 ghost use Rattle.aiger_read.specs.SignalNames.{gate_name};
 ghost use Rattle.aiger_read.specs.Signals.{all_covers};

@@ -6,7 +6,8 @@ ghost use Rattle.cbf_unfold.specs.unfold_places.Reach.{Adds};
 ghost use Rattle.assume_functions.specs.Functions.{AreNumbersAt};
 
 use crate::own::OwnFunction;
-use sec_base::{Ids, MAX_WEIGHT, NoMemory, PlaceTable, Seq};
+use base_tables::PlaceTable;
+use sec_base::{Ids, MAX_WEIGHT, NoMemory, Seq};
 use std::alloc::Global;
 
 /// For each variable of the function its number in the table, with this place in place of its own. It is put into the table where

@@ -10,9 +10,10 @@ ghost use Rattle.cbf_unfold.specs.unfold_places.declared.error.UnfoldError.TheVa
 ghost use Rattle.assume_functions.specs.Functions.{IsOwnFunction, IsWeighed};
 
 use aig::Aig;
+use base_tables::PlaceTable;
 use cbf_unfold::{LatchGraph, UnfoldError, Unfolded, Unfolder};
 use flat_net::{Net, Signal};
-use sec_base::{Ids, PlaceTable};
+use sec_base::Ids;
 use std::alloc::Global;
 
 /// The function of a signal on a graph that has nothing else. Its variables are inputs by their numbers, each with the place 0.

@@ -9,9 +9,10 @@ ghost use Rattle.assume_functions.specs.Functions.{IsOwnFunction, IsAssumedAt, H
 use crate::numbers::{numbers_at, picked};
 use crate::own::OwnFunction;
 use aig::Aig;
+use base_tables::PlaceTable;
 use cbf_unfold::Unfolded;
 use graph_copy::copy_into;
-use sec_base::{NoMemory, PlaceTable};
+use sec_base::NoMemory;
 use std::alloc::Global;
 
 /// The function of a net without latches in this graph, where each input is read at this place. After `NoMemory` the graph and the

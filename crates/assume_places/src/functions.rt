@@ -9,7 +9,8 @@ ghost use Rattle.assume_places.specs.Placed.{CanBePut, ArePut};
 
 use aig::Aig;
 use assume_functions::{OwnFunction, assume_at};
-use sec_base::{MAX_WEIGHT, NoMemory, PlaceTable};
+use base_tables::PlaceTable;
+use sec_base::{MAX_WEIGHT, NoMemory};
 use std::alloc::Global;
 use unfold_places::Unfolded;
 

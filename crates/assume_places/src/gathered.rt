@@ -7,8 +7,9 @@ ghost use Rattle.unfold_places.specs.Reach.{Adds};
 ghost use Rattle.obligations.specs.Asked.{queries_of};
 ghost use Rattle.assume_places.specs.Gathered.{HasPlaces, AreGathered, IsAmong, place_at};
 
+use base_tables::PlaceTable;
 use obligations::{Obligation, Query};
-use sec_base::{Ids, MAX_WEIGHT, NoMemory, PlaceTable, Seq};
+use sec_base::{Ids, MAX_WEIGHT, NoMemory, Seq};
 use shift_variables::query_places::places_of;
 use std::alloc::Global;
 

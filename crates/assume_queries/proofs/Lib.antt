@@ -5,4 +5,3 @@ pub mod Meaning
 pub mod Parting
 pub mod Mapped
 pub mod Conjunctions
-pub use Rattle.shift_variables.proofs as shift_variables

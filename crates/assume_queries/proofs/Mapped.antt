@@ -16,11 +16,11 @@ use Rattle.unfold_places.proofs.Zips.{zip_left}
 use Rattle.shift_variables.specs.Variables.{variable_of}
 use Rattle.shift_variables.specs.query_places.Places.{place_of, AreGrouped, ComesFirst}
 use Rattle.shift_variables.proofs.query_places.Grouped.{variables_are_grouped}
-use Rattle.assume_places.specs.obligations.declared.obligation.Obligation.{Obligation}
+use Rattle.obligations.specs.declared.obligation.Obligation.{Obligation}
 use Rattle.assume_laws.specs.Assume.{IsAssumption}
 use Rattle.assume_laws.specs.assume_shape.Shape.{assumption_of}
-use Rattle.assume_places.specs.assume_functions.declared.own.OwnFunction.{OwnFunction}
-use Rattle.assume_places.specs.assume_functions.Functions.{IsAssumedAt}
+use Rattle.assume_functions.specs.declared.own.OwnFunction.{OwnFunction}
+use Rattle.assume_functions.specs.Functions.{IsAssumedAt}
 use Rattle.assume_places.specs.Gathered.{HasPlaces, AreOwn, place_at}
 use Rattle.assume_places.specs.Placed.{ArePut, CanBePut}
 use Rattle.assume_queries.specs.declared.map.Parts.{Parts}

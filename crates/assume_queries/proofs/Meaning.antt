@@ -20,7 +20,7 @@ use Rattle.shift_variables.proofs.Reading.{pair_is}
 use Rattle.shift_variables.specs.query_places.Places.{place_of}
 use Rattle.assume_laws.specs.Assume.{Assumption, IsAssumption, RowMeets, PlaceUnfolds}
 use Rattle.assume_laws.specs.assume_shape.Shape.{assumption_of}
-use Rattle.assume_places.proofs.assume_functions.Assumed.{assumed_meets}
+use Rattle.assume_functions.proofs.Assumed.{assumed_meets}
 use Rattle.assume_places.specs.Gathered.{place_at, AreOwn}
 use Rattle.assume_places.specs.Placed.{ArePut}
 use Rattle.assume_queries.specs.declared.assume_answers.order.VariableOrder.{VariableOrder}

@@ -10,9 +10,9 @@ use Rattle.aig.specs.declared.node.Node.{Node}
 use Rattle.aig.specs.Graph.{IsGraph, Grows}
 use Rattle.pair_decide.specs.declared.query.Query.{Query}
 use Rattle.unfold_places.specs.declared.signal_function.Unfolded.{Unfolded}
-use Rattle.assume_places.specs.obligations.declared.obligation.Obligation.{Obligation}
-use Rattle.assume_places.specs.obligations.Asked.{queries_of}
-use Rattle.assume_places.proofs.obligations.Listed.{query-at, take-next}
+use Rattle.obligations.specs.declared.obligation.Obligation.{Obligation}
+use Rattle.obligations.specs.Asked.{queries_of}
+use Rattle.obligations.proofs.Listed.{query-at, take-next}
 use Rattle.assume_places.specs.Gathered.{AreOwn}
 use Rattle.assume_queries.specs.declared.map.Parts.{Parts}
 use Rattle.assume_queries.specs.declared.assume_answers.order.VariableOrder.{VariableOrder}

@@ -4,5 +4,4 @@ pub mod Parted
 pub mod Care
 pub mod assume_answers
 pub use Rattle.assume_places.specs as assume_places
-pub use Rattle.assume_places.specs.assume_functions
-pub use Rattle.shift_variables.specs as shift_variables
+pub use Rattle.assume_functions.specs as assume_functions

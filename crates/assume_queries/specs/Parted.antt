@@ -6,11 +6,11 @@ use Rattle.flat_net.specs.View.{NetView, circuit_of}
 use Rattle.aig.specs.declared.node.Node.{Node}
 use Rattle.pair_decide.specs.declared.query.Query.{Query}
 use Rattle.unfold_places.specs.declared.signal_function.Unfolded.{Unfolded}
-use Rattle.assume_places.specs.obligations.declared.obligation.Obligation.{Obligation}
+use Rattle.obligations.specs.declared.obligation.Obligation.{Obligation}
 use Rattle.assume_laws.specs.Assume.{IsAssumption}
 use Rattle.assume_laws.specs.assume_shape.Shape.{assumption_of}
-use Rattle.assume_places.specs.assume_functions.declared.own.OwnFunction.{OwnFunction}
-use Rattle.assume_places.specs.assume_functions.Functions.{IsOwnFunction}
+use Rattle.assume_functions.specs.declared.own.OwnFunction.{OwnFunction}
+use Rattle.assume_functions.specs.Functions.{IsOwnFunction}
 use Rattle.assume_places.specs.Gathered.{AreOwn}
 use Rattle.assume_queries.specs.declared.map.Parts.{Parts}
 use Rattle.assume_queries.specs.declared.assume_answers.order.VariableOrder.{VariableOrder}

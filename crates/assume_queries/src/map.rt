@@ -6,10 +6,10 @@ ghost use Rattle.flat_net.specs.View.{NetView};
 ghost use Rattle.aig.specs.Graph.{Grows};
 ghost use Rattle.unfold_places.specs.Reach.{Adds};
 ghost use Rattle.pair_decide.specs.declared.query.Query.{Query};
-ghost use Rattle.assume_places.specs.obligations.Asked.{queries_of};
+ghost use Rattle.obligations.specs.Asked.{queries_of};
 ghost use Rattle.assume_laws.specs.Assume.{IsAssumption};
 ghost use Rattle.assume_laws.specs.assume_shape.Shape.{assumption_of};
-ghost use Rattle.assume_places.specs.assume_functions.Functions.{IsOwnFunction};
+ghost use Rattle.assume_functions.specs.Functions.{IsOwnFunction};
 ghost use Rattle.assume_places.specs.Gathered.{AreOwn, IsOverUnder, IsLightUnder};
 ghost use Rattle.assume_queries.specs.declared.map.UnderError.TheVariants as under_error;
 ghost use Rattle.assume_queries.specs.assume_answers.Order.{AreOrdered};
@@ -22,7 +22,8 @@ use aig::Aig;
 use assume_places::{
     Obligation, OwnFunction, Queries, QueryPlaces, copy_name, functions_at, places_of_all,
 };
-use sec_base::{Ids, MAX_WEIGHT, NoMemory, PlaceTable};
+use base_tables::PlaceTable;
+use sec_base::{Ids, MAX_WEIGHT, NoMemory};
 use std::alloc::Global;
 use unfold_places::Unfolded;
 

@@ -4,7 +4,8 @@ ghost use Rattle.std.specs.Prelude.{IfOk};
 ghost use Rattle.assume_queries.specs.assume_answers.Order.{AreOrdered, IsOrderedMerge};
 
 use crate::assume_answers::VariableOrder;
-use sec_base::{Ids, NoMemory, PlaceTable};
+use base_tables::PlaceTable;
+use sec_base::{Ids, NoMemory};
 use shift_variables::cycle_variables::merge_cycles;
 use shift_variables::merge_variables;
 use std::alloc::Global;

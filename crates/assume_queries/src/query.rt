@@ -11,8 +11,9 @@ use crate::care::conjunction;
 use crate::order::merged;
 use crate::parts::{literals, variables};
 use aig::Aig;
+use base_tables::PlaceTable;
 use pair_decide::Query;
-use sec_base::{NoMemory, PlaceTable};
+use sec_base::NoMemory;
 use std::alloc::Global;
 use unfold_places::Unfolded;
 

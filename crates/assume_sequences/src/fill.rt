@@ -8,7 +8,8 @@ ghost use Rattle.shift_variables.specs.Variables.{variables_of};
 ghost use Rattle.assume_laws.specs.Sequences.{filled};
 ghost use Rattle.assume_sequences.specs.Filled.{bit_of, has_place, row_or};
 
-use sec_base::{BitRows, Bits, NoMemory, PlaceTable};
+use base_tables::PlaceTable;
+use sec_base::{BitRows, Bits, NoMemory};
 use std::alloc::Global;
 
 /// The rows of a sequence, where each cycle at whose shift none of these variables stands has the meeting row.

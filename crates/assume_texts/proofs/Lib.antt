@@ -5,4 +5,4 @@ pub mod Sequences
 pub mod Texts
 pub use Rattle.job_base.proofs as job_base
 pub use Rattle.text_circuits.proofs as text_circuits
-pub use Rattle.under_base.proofs.outcome_fits
+pub use Rattle.outcome_fits.proofs as outcome_fits

@@ -21,7 +21,7 @@ use Rattle.outcome.specs.Report.{report_text}
 use Rattle.job_base.specs.Written.{outcome_proofs}
 use Rattle.job_base.proofs.Limits.{pair_proofs}
 use Rattle.sec_setup.specs.Pairs.{NamedPair, named_pairs}
-use Rattle.under_base.specs.outcome_fits.ResetOutcome.{Numbered, IsFirstLimit}
+use Rattle.outcome_fits.specs.ResetOutcome.{Numbered, IsFirstLimit}
 use Rattle.under_base.proofs.compare_base.Fitted.{kept_proof}
 use Rattle.swept_queries.proofs.Listed.{zip_left}
 use Rattle.assume_laws.specs.Assume.{Assumption}

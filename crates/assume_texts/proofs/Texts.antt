@@ -24,7 +24,7 @@ use Rattle.job_base.specs.Written.{outcome_proofs}
 use Rattle.job_base.proofs.Limits.{pair_proofs}
 use Rattle.sec_setup.specs.Pairs.{NamedPair, named_pairs}
 use Rattle.sec_setup.specs.Cuts.{columns_of, is_cut}
-use Rattle.under_base.specs.outcome_fits.Outcome.{IsFirstLimit}
+use Rattle.outcome_fits.specs.Outcome.{IsFirstLimit}
 use Rattle.assume_laws.specs.Assume.{Assumption}
 use Rattle.assume_laws.specs.Sequences.{RowsMeet}
 use Rattle.under_base.specs.Taken.{assumed_by}

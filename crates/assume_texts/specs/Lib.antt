@@ -1,4 +1,3 @@
-pub use Rattle.under_base.specs.Compared
 pub mod Agreement
 pub mod Answers
 pub mod Meets

@@ -5,13 +5,13 @@ use Rattle.std.specs.Str.{bytes_eq}
 use Rattle.std.proofs.lemmas.List.{get_or-map}
 use Rattle.std.proofs.lemmas.Option.{same_Some, slice_get_within, get_or_from_slice_get}
 use Rattle.std.proofs.lemmas.Slice.Eq.{bytes_eq-Decides}
-use Rattle.unique_table.specs.Places.{slot_at, IsWith}
-use Rattle.unique_table.proofs.Searches.{Passed}
+use Rattle.base_tables.specs.unique_table.Places.{slot_at, IsWith}
+use Rattle.base_tables.proofs.unique_table.Searches.{Passed}
 use Rattle.base_tables.specs.Hashed.{hash_of}
 use Rattle.base_tables.specs.Table.{is_among}
 use Rattle.base_tables.proofs.TableLemmas.{is_among-at}
 use Rattle.base_tables.proofs.Appended.{at-is_among}
-use Rattle.unique_table.proofs.Elements.{of_at}
+use Rattle.base_tables.proofs.unique_table.Elements.{of_at}
 
 -- one place more, where another name has its number
 pub passed-on : (at : ℕ → ℕ) (names : List (List ℕ)) (slots : List ℕ) (name : List ℕ) (step slot : ℕ) → Passed at names slots name step → slot_at at slots step ≡ slot → slot ≢ 0 → (slice_get names (slot - 1) ≡ Some name → ⊥)

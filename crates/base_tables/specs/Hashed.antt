@@ -1,6 +1,6 @@
 -- Names in an open table of their numbers.
 use Rattle.std.specs.Prelude.{◌≡◌, ℕ, ◌+◌, ◌*◌, ◌/◌, ◌%◌, ◌^◌, List, [], ◌∷◌, map, bit_xor}
-use Rattle.unique_table.specs.Places.{mixed, IsTable}
+use Rattle.base_tables.specs.unique_table.Places.{mixed, IsTable}
 use Rattle.base_tables.specs.declared.name_search.TheConstants.{TRIES}
 
 -- one byte more, and all bytes, by the hash of Fowler, Noll and Vo

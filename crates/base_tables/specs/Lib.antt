@@ -1,3 +1,3 @@
 pub mod Hashed
 pub mod Table
-pub use Rattle.unique_table.specs as unique_table
+pub mod unique_table

@@ -5,9 +5,9 @@ ghost use Rattle.base_tables.specs.Table.{is_among, AreDistinct};
 
 use crate::name_search::{filled, free_place, name_hash, number_of};
 use crate::sorted_names::put_last;
+use crate::unique_table::{NoMemory, Seq, Word};
 use std::alloc::Global;
 use std::marker::Model;
-use unique_table::{NoMemory, Seq, Word};
 
 /// The least places of a table that has names.
 const LEAST: usize = 16;

@@ -5,6 +5,7 @@ mod hashed_names;
 mod name_search;
 mod sorted_names;
 mod tables;
+pub mod unique_table;
 
 pub use tables::{NameTable, PlaceTable};
 pub use unique_table::{Key, UniqueTable, mixed};

@@ -1,12 +1,12 @@
 //! The search for a name and for a free place.
 
 ghost use Rattle.std.specs.Prelude.{◌≡◌, ℕ, ◌<◌, ◌^◌, List, length, map, slice_get, replicate, Some, Contains, IfSome, IfNone, IfOk, IsTrue, ◌↔◌};
-ghost use Rattle.unique_table.specs.Places.{IsFree, place_in};
+ghost use Rattle.base_tables.specs.unique_table.Places.{IsFree, place_in};
 ghost use Rattle.base_tables.specs.Hashed.{hash_of, place_from, IsNameTable};
 ghost use Rattle.base_tables.specs.Table.{AreDistinct};
 
+use crate::unique_table::{NoMemory, mixed};
 use std::alloc::Global;
-use unique_table::{NoMemory, mixed};
 
 /// At how many places a name is looked for. Half of all places are free, so of names whose hashes lie at random none finds so many
 /// taken.

@@ -3,10 +3,10 @@
 ghost use Rattle.std.specs.Prelude.{◌≡◌, ◌+◌, ◌^◌, ◌<◌, ℕ, false, List, [], ◌∷◌, ◌++◌, length, map, slice_get, is_some, vec_len, vec_capacity, Some, IfSome, OnOk, OnErr};
 ghost use Rattle.base_tables.specs.Table.{is_among};
 
+use crate::unique_table::{NoMemory, Seq, Word};
 use std::alloc::Global;
 use std::collections::BTreeMap;
 use std::marker::Model;
-use unique_table::{NoMemory, Seq, Word};
 
 /// Names in the order in which they first came. Whatever the names are, a look-up compares a name with a number of others that
 /// grows with the logarithm of how many there are. A contract sees the list of names.

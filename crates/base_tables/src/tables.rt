@@ -5,9 +5,9 @@ ghost use Rattle.base_tables.specs.Table.{is_among, AreDistinct};
 
 use crate::hashed_names::HashedNames;
 use crate::sorted_names::SortedNames;
+use crate::unique_table::{NoMemory, Seq, UniqueTable, Words};
 use std::alloc::Global;
 use std::marker::Model;
-use unique_table::{NoMemory, Seq, UniqueTable, Words};
 
 /// The most entries of a table.
 const FULL: usize = u32::MAX as usize;

@@ -10,10 +10,11 @@ mod logical;
 mod physical;
 mod tokens;
 
+pub use base_tables::NameTable;
 pub use line::RawLine;
 pub use logical::Lines;
 pub use sec_base::{
     Cover, Duplicate, Edge, Ids, Init, MAX_FILE_BYTES, MAX_LEVELS, MAX_NAME_BYTES, MAX_PLACES,
-    MAX_STATEMENTS, NameTable, NoMemory, Seq, Word, Words, put, put_number,
+    MAX_STATEMENTS, NoMemory, Seq, Word, Words, put, put_number,
 };
 pub use tokens::tokens_of;

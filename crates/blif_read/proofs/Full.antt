@@ -2,7 +2,7 @@
 use Rattle.std.proofs.Common.{◌≡◌, ℕ, ◌<◌, ◌≤◌, nat_le, Bool, true, false, not, cond, if◌then◌else◌, List, [], ◌∷◌, ◌++◌, length, map, refl, ap, arith, Some, None, codes, bytes_eq}
 use Rattle.std.specs.List.{list_all, filter, slice_split, before_first, after_first}
 use Rattle.std.proofs.lemmas.Bool.{leb-true, le-leb}
-use Rattle.blif_lines.specs.sec_base.Table.{is_among}
+use Rattle.base_tables.specs.Table.{is_among}
 use Rattle.blif_lines.specs.declared.line.RawLine.{RawLine}
 use Rattle.blif_lines.specs.Lines.{TokenLine, is_empty, is_blank, tokens_of, token_line, raw_lines}
 use Rattle.blif_read.specs.declared.head.Head.{Head}

@@ -15,4 +15,3 @@ pub mod Bytes
 pub mod Loop
 pub mod Plain
 mod Texts
-pub use Rattle.blif_lines.proofs.sec_base

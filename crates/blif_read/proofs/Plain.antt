@@ -4,7 +4,7 @@ use Rattle.std.specs.List.{filter, slice_split, list_all, before_first, position
 use Rattle.std.specs.Io.BufRead.{strip_last, ends_with_byte}
 use Rattle.std.proofs.lemmas.List.{get_or-take}
 use Rattle.std.proofs.lemmas.List.Sums.{fails_before_first}
-use Rattle.blif_lines.specs.sec_base.Table.{is_among}
+use Rattle.base_tables.specs.Table.{is_among}
 use Rattle.blif_lines.specs.declared.line.RawLine.{RawLine}
 use Rattle.blif_lines.specs.Lines.{TokenLine, is_blank, is_hash, is_empty, cut_line, going_on, raw_line, before_line, join_line, joined_lines, raw_lines, physical_lines, tokens_of, token_line}
 use Rattle.blif_read.specs.declared.head.Head.{Head}

@@ -2,12 +2,11 @@
 use Rattle.std.specs.Prelude.{◌≡◌, ℕ, zero, suc, ◌+◌, ◌<◌, Bool, true, false, not, List, [], ◌∷◌, ◌++◌, map, length, Option, Some, None, codes, bytes_eq, refl}
 use Rattle.std.specs.List.{filter, filter_map, find, All, Contains}
 use Rattle.std.specs.Fmt.{decimal, digits}
-use Rattle.circuit_theory.specs.Circuit.{Circuit, Equation, Gate, Port, Named, Started}
-use Rattle.circuit_theory.specs.Circuit.{Latch as Register}
+use Rattle.circuit_theory.specs.Circuit.{Circuit, Equation, Gate, Port, Named, Started, Latch as Register}
 use Rattle.circuit_theory.specs.Flattened.{Follows}
 use Rattle.blif_lines.specs.sec_base.declared.basics.Init.{Init}
 use Rattle.blif_lines.specs.sec_base.declared.basics.Init.TheVariants as init
-use Rattle.blif_lines.specs.sec_base.Table.{is_among}
+use Rattle.base_tables.specs.Table.{is_among}
 use Rattle.blif_read.specs.declared.design.BlifModel.{BlifModel}
 use Rattle.blif_read.specs.declared.design.Pair.{Pair}
 use Rattle.blif_read.specs.declared.design.Statement.{Statement}

@@ -4,7 +4,7 @@ use Rattle.std.specs.List.{list_any, list_all, before_first, after_first}
 use Rattle.circuit_theory.specs.Interface.{◌or_else◌}
 use Rattle.blif_lines.specs.sec_base.declared.limits.TheConstants.{MAX_NAME_BYTES}
 use Rattle.blif_lines.specs.Lines.{is_empty}
-use Rattle.blif_lines.specs.sec_base.Table.{is_among}
+use Rattle.base_tables.specs.Table.{is_among}
 use Rattle.blif_read.specs.declared.head.Head.{Head}
 use Rattle.blif_read.specs.declared.head.Head.TheVariants as head
 use Rattle.blif_read.specs.declared.error.ReadKind.{ReadKind}

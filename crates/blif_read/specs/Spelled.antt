@@ -5,7 +5,7 @@ use Rattle.blif_lines.specs.sec_base.declared.basics.Edge.{Edge}
 use Rattle.blif_lines.specs.sec_base.declared.basics.Edge.TheVariants as edge
 use Rattle.blif_lines.specs.sec_base.declared.basics.Init.{Init}
 use Rattle.blif_lines.specs.sec_base.declared.basics.Init.TheVariants as init
-use Rattle.blif_lines.specs.sec_base.Table.{is_among}
+use Rattle.base_tables.specs.Table.{is_among}
 use Rattle.blif_read.specs.declared.head.Head.{Head}
 use Rattle.blif_read.specs.declared.head.Head.TheVariants as head
 use Rattle.blif_read.specs.declared.design.BlifModel.{BlifModel}

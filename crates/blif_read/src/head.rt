@@ -3,7 +3,7 @@
 ghost use Rattle.std.specs.Prelude.{◌≡◌, ◌&&◌, not, map, bytes_eq};
 ghost use Rattle.std.specs.List.{list_any};
 ghost use Rattle.blif_read.specs.Heads.{head_of, dot_head, begins_with_dot, count_fits, unsupported_words};
-ghost use Rattle.blif_lines.specs.sec_base.Table.{is_among};
+ghost use Rattle.base_tables.specs.Table.{is_among};
 ghost use Rattle.blif_read.specs.Fault.{is_control, is_long, is_model_head, gate};
 
 use crate::error::ReadKind;

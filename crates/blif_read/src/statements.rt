@@ -5,7 +5,7 @@ ghost use Rattle.std.specs.List.{list_all, position_or_len};
 ghost use Rattle.blif_read.specs.Spelled.{control_of, latch_of, subckt_of, pair_of, is_equals};
 ghost use Rattle.blif_read.specs.Fault.{latch_fault, is_pair, guard, level_types, edge_types, init_words};
 ghost use Rattle.blif_read.specs.Heads.{rest_of, count_fits};
-ghost use Rattle.blif_lines.specs.sec_base.Table.{is_among};
+ghost use Rattle.base_tables.specs.Table.{is_among};
 ghost use Rattle.blif_read.specs.declared.head.Head.TheVariants as head;
 ghost use Rattle.blif_read.specs.State.{TookStatement, TookEdge, TookInit};
 ghost use Rattle.blif_read.specs.declared.error.ReadKind.TheVariants as kind;

@@ -1,7 +1,7 @@
 -- A marked net whose latches are all of class 0.
 use Rattle.std.proofs.Common.{◌≡◌, ◌∙◌, ℕ, Bool, true, List, length, slice_get, Some, sym, ap}
 use Rattle.std.proofs.lemmas.Option.{same_Some}
-use Rattle.sec_base.specs.Table.{AreDistinct}
+use Rattle.base_tables.specs.Table.{AreDistinct}
 use Rattle.flat_net.specs.View.{NetView}
 use Rattle.event_nodes.specs.View.{IsEventCircuit}
 use Rattle.event_order.specs.Order.{IsMarkedNet}

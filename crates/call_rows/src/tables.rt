@@ -1,7 +1,8 @@
 //! Tables of names and of pairs.
 
+use base_tables::{NameTable, PlaceTable};
 use row_text::{show, show_count, show_word, split_at};
-use sec_base::{Duplicate, Ids, NameTable, Orders, PlaceTable, Words};
+use sec_base::{Duplicate, Ids, Orders, Words};
 use std::rt::HostRuntime;
 
 fn show_found(rt: &HostRuntime, table: &NameTable, name: &[u8]) {

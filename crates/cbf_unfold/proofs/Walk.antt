@@ -8,8 +8,8 @@ use Rattle.std.proofs.lemmas.Bool.{cases_lt}
 use Rattle.std.proofs.lemmas.Option.{slice_get_within, get_or_from_slice_get}
 use Rattle.circuit_theory.specs.Sizes.{Visits, IsOver}
 use Rattle.circuit_theory.proofs.Lists.{Contains-head, All-from_each, at_of}
-use Rattle.sec_base.specs.Table.{AreDistinct}
-use Rattle.sec_base.proofs.TableLemmas.{slice_get-take}
+use Rattle.base_tables.specs.Table.{AreDistinct}
+use Rattle.base_tables.proofs.TableLemmas.{slice_get-take}
 use Rattle.flat_net.specs.View.{NetView, circuit_of}
 use Rattle.flat_net.specs.Sound.{IsSound}
 use Rattle.flat_net.proofs.Places.{All-at, one_at}

@@ -9,7 +9,7 @@ use Rattle.circuit_theory.specs.Query.{assigned, same_shift, Variable}
 use Rattle.circuit_theory.specs.Sequence.{sequence_rows, row_value, TakesInputs}
 use Rattle.flat_net.specs.View.{NetView, circuit_of}
 use Rattle.flat_net.specs.Sound.{IsSound}
-use Rattle.sec_base.specs.Table.{AreDistinct}
+use Rattle.base_tables.specs.Table.{AreDistinct}
 use Rattle.aig.specs.declared.node.Node.{Node}
 use Rattle.aig.specs.declared.node.Node.TheVariants.{Input}
 use Rattle.aig.specs.Graph.{IsGraph, Grows}

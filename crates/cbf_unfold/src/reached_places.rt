@@ -6,8 +6,9 @@ ghost use Rattle.flat_net.specs.View.{circuit_of};
 ghost use Rattle.unfold_places.specs.Reach.{AreUnmet, IsReach};
 ghost use Rattle.unfold_places.specs.declared.error.UnfoldError.TheVariants as unfold_error;
 
+use base_tables::PlaceTable;
 use flat_net::{Net, Signal};
-use sec_base::{MAX_WEIGHT, PlaceTable};
+use sec_base::MAX_WEIGHT;
 use std::alloc::Global;
 use unfold_places::UnfoldError;
 use unfold_places::listing::listed;

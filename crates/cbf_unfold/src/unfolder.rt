@@ -16,9 +16,10 @@ mod places;
 mod rooting;
 
 use aig::{Aig, Lit};
+use base_tables::PlaceTable;
 use flat_net::{Net, Signal};
 use latch_graph::LatchGraph;
-use sec_base::{Ids, MAX_WEIGHT, NoMemory, PlaceTable};
+use sec_base::{Ids, MAX_WEIGHT, NoMemory};
 use std::alloc::Global;
 use std::marker::Model;
 use unfold_places::memo::{Memo, Place};

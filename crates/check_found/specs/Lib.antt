@@ -3,5 +3,4 @@ pub use Rattle.event_meaning.specs.event_meaning_under.Answered
 pub mod Check
 pub mod Found
 pub mod Ends
-pub use Rattle.sec_files.specs as sec_files
 pub use Rattle.sec_files.specs.job_files.job_base

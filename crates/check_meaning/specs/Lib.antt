@@ -5,4 +5,3 @@ pub use Rattle.check_found.specs.Compared
 pub use Rattle.check_texts.specs as check_texts
 pub use Rattle.event_texts.specs as event_texts
 pub use Rattle.event_texts_under.specs.event_meaning
-pub use Rattle.event_texts_under.specs.under_base

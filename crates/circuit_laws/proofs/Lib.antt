@@ -24,4 +24,3 @@ pub mod TreeDepth
 pub mod Values
 pub mod Weights
 pub mod Windows
-pub use Rattle.circuit_theory.proofs as circuit_theory

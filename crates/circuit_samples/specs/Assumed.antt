@@ -2,11 +2,10 @@
 use Rattle.std.specs.Prelude.{ℕ, Bool, false, List, [], ◌∷◌, map}
 use Rattle.std.specs.List.{Contains}
 use Rattle.circuit_theory.specs.declared.Mode.TheVariants.{Plain}
-use Rattle.circuit_theory.specs.Run.{IsResetRun}
+use Rattle.circuit_theory.specs.Run.{IsResetRun, IsRun}
 use Rattle.circuit_theory.specs.Net.{IsNet, HasDistinctNames}
 use Rattle.circuit_theory.specs.Tree.{Leaf, AreNumbered}
 use Rattle.circuit_theory.specs.Sequence.{TakesInputs, row_value}
-use Rattle.circuit_theory.specs.Run.{IsRun}
 use Rattle.circuit_theory.specs.Agree.{cut, IsPair, IsMinimalCut}
 use Rattle.circuit_theory.specs.Interface.{AreNumbersOf}
 use Rattle.reset_laws.specs.Reset.{ResetUnfolds, HasStarts, AreBased, AreEqualFromReset}

@@ -21,8 +21,7 @@ use Rattle.class_search.specs.pair_decide.declared.query.SameBy.{SameBy}
 use Rattle.class_search.specs.pair_decide.declared.query.SameBy.TheVariants as same_by
 use Rattle.class_search.specs.pair_decide.declared.query.Decision.TheVariants as answer
 use Rattle.class_search.specs.pair_decide.Answers.{Decides, IsAtLimit}
-use Rattle.class_search.specs.pair_decide.Queries.{assigned_to}
-use Rattle.class_search.specs.pair_decide.Queries.{IsSame as query_same}
+use Rattle.class_search.specs.pair_decide.Queries.{assigned_to, IsSame as query_same}
 use Rattle.event_nodes.specs.Nodes.{EventGraphView, IsEventGraph, GrowsEvents}
 use Rattle.event_nodes.specs.View.{EventCircuitView}
 use Rattle.class_search.specs.declared.compare.Enable.{Enable}

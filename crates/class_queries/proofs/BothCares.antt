@@ -5,9 +5,9 @@ use Rattle.circuit_theory.specs.Circuit.{Circuit, IsLatch, Meets}
 use Rattle.circuit_theory.specs.Joined.{Either, Left, Right, joined, beside}
 use Rattle.circuit_theory.specs.Net.{IsNet}
 use Rattle.circuit_theory.specs.Run.{IsEnabled}
-use Rattle.edbf_unfold.proofs.circuit_laws.NetLaws.{net_value, net_value-extends}
-use Rattle.edbf_unfold.proofs.circuit_laws.Parts.{IsPart, latch_up, latch_from, reaches_up, reaches_from, enabled_up, enabled_from}
-use Rattle.edbf_unfold.proofs.circuit_laws.JoinedParts.{left_part, right_part, replace_left, replace_right, meets_both}
+use Rattle.circuit_laws.proofs.NetLaws.{net_value, net_value-extends}
+use Rattle.circuit_laws.proofs.Parts.{IsPart, latch_up, latch_from, reaches_up, reaches_from, enabled_up, enabled_from}
+use Rattle.circuit_laws.proofs.JoinedParts.{left_part, right_part, replace_left, replace_right, meets_both}
 use Rattle.circuit_theory.specs.Frame.{EventSide, ConeLatches, ConeOthers, ReachedAt, IsEnable}
 use Rattle.circuit_theory.specs.Classes.{EnableCare}
 use Rattle.circuit_theory.specs.EventFits.{side_by_side}

@@ -5,7 +5,7 @@ use Rattle.circuit_theory.specs.Names.{same_name}
 use Rattle.circuit_theory.proofs.Inputs.{test_same, test_refl, same_name-sound}
 use Rattle.circuit_theory.proofs.Numbers.{same_name-refl}
 use Rattle.edbf_unfold.specs.Nodes.{EventGraphView, IsEventGraph, named_places}
-use Rattle.edbf_unfold.specs.sec_base.Table.{AreDistinct}
+use Rattle.base_tables.specs.Table.{AreDistinct}
 use Rattle.edbf_unfold.specs.Laws.{TakesFrame}
 use Rattle.edbf_unfold.proofs.EventLiterals.{named_distinct}
 

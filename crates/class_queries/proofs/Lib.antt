@@ -3,4 +3,3 @@ pub mod BothCares
 pub mod Meaning
 pub mod Staying
 pub use Rattle.edbf_unfold.proofs as edbf_unfold
-pub use Rattle.edbf_unfold.proofs.circuit_laws

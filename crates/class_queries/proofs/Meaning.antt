@@ -4,15 +4,15 @@ use Rattle.std.specs.Prelude.{◌↔◌, ◌&&◌}
 use Rattle.circuit_theory.specs.Joined.{Either}
 use Rattle.circuit_theory.specs.Run.{IsEnabled}
 use Rattle.circuit_theory.proofs.Lists.{length-map}
-use Rattle.edbf_unfold.proofs.circuit_laws.JoinedParts.{joined_single, joined_number_once}
+use Rattle.circuit_laws.proofs.JoinedParts.{joined_single, joined_number_once}
 use Rattle.circuit_theory.specs.Frame.{EventSide}
 use Rattle.circuit_theory.specs.Classes.{EnableCare, EnableAtRoot, EnablesEqual, EnablesDiffer, SometimesOff}
 use Rattle.edbf_unfold.specs.ClassSteps.{HaveTwinEnables}
 use Rattle.edbf_unfold.proofs.EventTrees.{one_enable}
-use Rattle.edbf_unfold.specs.flat_net.View.{circuit_of, named}
-use Rattle.edbf_unfold.proofs.flat_net.Nets.{sound_is_net}
-use Rattle.edbf_unfold.specs.aig.Values.{value}
-use Rattle.edbf_unfold.proofs.aig.CoverMeaning.{value-and, value-one}
+use Rattle.event_nodes.specs.flat_net.View.{circuit_of, named}
+use Rattle.event_nodes.proofs.flat_net.Nets.{sound_is_net}
+use Rattle.graph_copy.specs.aig_or.aig.Values.{value}
+use Rattle.graph_copy.proofs.aig_or.aig.CoverMeaning.{value-and, value-one}
 use Rattle.edbf_unfold.specs.Nodes.{EventGraphView}
 use Rattle.edbf_unfold.specs.View.{EventCircuitView, IsEventCircuit}
 use Rattle.edbf_unfold.proofs.CareMeaning.{care_value}

@@ -7,13 +7,13 @@ use Rattle.circuit_theory.specs.Depth.{LatchesHaveDepths}
 use Rattle.circuit_theory.specs.Joined.{joined}
 use Rattle.circuit_theory.specs.Run.{IsEnabled}
 use Rattle.circuit_theory.proofs.Lists.{Contains-head, only}
-use Rattle.edbf_unfold.proofs.circuit_laws.JoinedParts.{joined_same, joined_single}
+use Rattle.circuit_laws.proofs.JoinedParts.{joined_same, joined_single}
 use Rattle.circuit_theory.specs.EventTotals.{IsMapSoFar}
 use Rattle.edbf_unfold.proofs.ClassSteps.{pairs_ahead}
 use Rattle.edbf_unfold.proofs.OneClassMap.{side, rank_of, Agrees, Before, enable_to, enable_care, place_of, depth_of}
-use Rattle.edbf_unfold.proofs.flat_net.Growth.{slice_get-append}
-use Rattle.edbf_unfold.proofs.aig.Growth.{Grows-length}
-use Rattle.edbf_unfold.proofs.aig.Meaning.{value-grows}
+use Rattle.event_nodes.proofs.flat_net.Growth.{slice_get-append}
+use Rattle.graph_copy.proofs.aig_or.aig.Growth.{Grows-length}
+use Rattle.graph_copy.proofs.aig_or.aig.Meaning.{value-grows}
 use Rattle.circuit_theory.specs.Classes.{EnableCare, EnableAtRoot}
 use Rattle.edbf_unfold.specs.Nodes.{EventGraphView, named_places}
 use Rattle.edbf_unfold.proofs.Paths.{named_grows}

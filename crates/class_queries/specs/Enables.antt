@@ -4,9 +4,9 @@ use Rattle.circuit_theory.specs.Joined.{Either, Left, Right}
 use Rattle.circuit_theory.specs.Frame.{EventSide}
 use Rattle.circuit_theory.specs.Classes.{EnableCare, EnableAtRoot}
 use Rattle.circuit_theory.specs.EventFits.{side_by_side}
-use Rattle.edbf_unfold.specs.flat_net.View.{circuit_of}
-use Rattle.edbf_unfold.specs.aig.Rules.{IsAndOf}
-use Rattle.edbf_unfold.specs.aig.Values.{value}
+use Rattle.event_nodes.specs.flat_net.View.{circuit_of}
+use Rattle.graph_copy.specs.aig_or.aig.Rules.{IsAndOf}
+use Rattle.graph_copy.specs.aig_or.aig.Values.{value}
 use Rattle.edbf_unfold.specs.Nodes.{EventGraphView}
 use Rattle.edbf_unfold.specs.View.{EventCircuitView, class_at}
 use Rattle.edbf_unfold.specs.Laws.{TakesFrame}

@@ -1,6 +1,4 @@
 pub mod Enables
 pub mod Laws
 pub use Rattle.edbf_unfold.specs as edbf_unfold
-pub use Rattle.edbf_unfold.specs.circuit_laws
-pub use Rattle.edbf_unfold.specs.event_nodes
 pub use Rattle.edbf_unfold.specs.event_walk

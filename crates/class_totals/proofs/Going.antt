@@ -16,10 +16,10 @@ use Rattle.flat_net.specs.declared.parts.LatchAt.{LatchAt}
 use Rattle.flat_net.specs.Sound.{IsSound}
 use Rattle.flat_net.specs.View.{circuit_of}
 use Rattle.flat_net.proofs.Nets.{latch_stands, sound_is_net}
-use Rattle.event_functions.specs.event_nodes.Adds.{Adds}
-use Rattle.event_functions.specs.event_nodes.Nodes.{path_of}
-use Rattle.event_functions.specs.event_nodes.View.{EventCircuitView, side_of, Enabled}
-use Rattle.event_functions.specs.event_nodes.Visited.{CounterView, IsVisitedPair, AreNodesFrom, HoldsNodes}
+use Rattle.event_variables.specs.event_nodes.Adds.{Adds}
+use Rattle.event_variables.specs.event_nodes.Nodes.{path_of}
+use Rattle.event_variables.specs.event_nodes.View.{EventCircuitView, side_of, Enabled}
+use Rattle.event_variables.specs.event_nodes.Visited.{CounterView, IsVisitedPair, AreNodesFrom, HoldsNodes}
 use Rattle.class_queries.specs.event_walk.Walk.{IsCounting, HasCountedStart, enable_start}
 use Rattle.class_queries.specs.Enables.{both_of, class_map}
 use Rattle.class_extension.specs.Sides.{AreStartsOfBoth, IsEnableAmong, moved_start}

@@ -8,14 +8,14 @@ use Rattle.circuit_theory.proofs.Lists.{Contains-head, only}
 use Rattle.circuit_theory.specs.EventSizes.{Start}
 use Rattle.circuit_theory.specs.EventTotals.{StartLatches}
 use Rattle.circuit_theory.specs.Frame.{EventSide, ReachedAt, IsNode}
-use Rattle.event_functions.specs.event_nodes.Adds.{Adds}
-use Rattle.event_functions.specs.event_nodes.Nodes.{path_of}
-use Rattle.event_functions.specs.event_nodes.Reach.{IsListedAt}
-use Rattle.event_functions.specs.event_nodes.View.{EventCircuitView, side_of, Enabled}
-use Rattle.event_functions.specs.event_nodes.Visited.{CounterView, IsVisitedPair, HoldsVisits, HasCounted}
-use Rattle.event_functions.proofs.event_nodes.Lists.{adds_contains, adds_cases}
-use Rattle.event_functions.proofs.event_nodes.Paths.{path_grows}
-use Rattle.event_functions.proofs.event_nodes.Visits.{visits_more}
+use Rattle.event_variables.specs.event_nodes.Adds.{Adds}
+use Rattle.event_variables.specs.event_nodes.Nodes.{path_of}
+use Rattle.event_variables.specs.event_nodes.Reach.{IsListedAt}
+use Rattle.event_variables.specs.event_nodes.View.{EventCircuitView, side_of, Enabled}
+use Rattle.event_variables.specs.event_nodes.Visited.{CounterView, IsVisitedPair, HoldsVisits, HasCounted}
+use Rattle.event_variables.proofs.event_nodes.Lists.{adds_contains, adds_cases}
+use Rattle.event_variables.proofs.event_nodes.Paths.{path_grows}
+use Rattle.event_variables.proofs.event_nodes.Visits.{visits_more}
 use Rattle.class_queries.specs.event_walk.Walk.{IsCounting, HasCountedStart}
 use Rattle.event_functions.proofs.Totaling.{pair_later}
 use Rattle.class_extension.specs.Laws.{UnfoldAlike}

@@ -10,12 +10,12 @@ use Rattle.circuit_theory.specs.EventSizes.{Start}
 use Rattle.circuit_theory.specs.EventTotals.{IsNodesOver, IsNodesWithin, StartLatches}
 use Rattle.circuit_theory.specs.Frame.{EventSide, IsNode}
 use Rattle.flat_net.proofs.Nets.{some_at}
-use Rattle.event_functions.specs.event_nodes.Adds.{Adds}
-use Rattle.event_functions.specs.event_nodes.Nodes.{EventGraphView, IsEventGraph, path_of, paths_of}
-use Rattle.event_functions.proofs.event_nodes.Lists.{adds_cases}
-use Rattle.event_functions.proofs.event_nodes.OnePath.{one_node}
-use Rattle.event_functions.proofs.event_nodes.Paths.{child_path, paths_length}
-use Rattle.event_functions.proofs.event_nodes.Totals.{counted_weight}
+use Rattle.event_variables.specs.event_nodes.Adds.{Adds}
+use Rattle.event_variables.specs.event_nodes.Nodes.{EventGraphView, IsEventGraph, path_of, paths_of}
+use Rattle.event_variables.proofs.event_nodes.Lists.{adds_cases}
+use Rattle.event_variables.proofs.event_nodes.OnePath.{one_node}
+use Rattle.event_variables.proofs.event_nodes.Paths.{child_path, paths_length}
+use Rattle.event_variables.proofs.event_nodes.Totals.{counted_weight}
 use Rattle.class_queries.specs.event_walk.Walk.{enable_start}
 use Rattle.class_queries.specs.Enables.{both_of}
 use Rattle.class_totals.specs.Totals.{HasNodes}

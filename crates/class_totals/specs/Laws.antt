@@ -6,11 +6,11 @@ use Rattle.circuit_theory.specs.EventSizes.{Start, IsEventOver}
 use Rattle.flat_net.specs.declared.parts.LatchAt.{LatchAt}
 use Rattle.flat_net.specs.Sound.{IsSound}
 use Rattle.flat_net.specs.View.{circuit_of}
-use Rattle.flat_net.specs.sec_base.Table.{AreDistinct}
-use Rattle.event_functions.specs.event_nodes.Adds.{Adds}
-use Rattle.event_functions.specs.event_nodes.Nodes.{EventGraphView, IsEventGraph}
-use Rattle.event_functions.specs.event_nodes.View.{EventCircuitView, side_of, Enabled}
-use Rattle.event_functions.specs.event_nodes.Visited.{CounterView, IsVisitedPair, AreNodesFrom, HoldsNodes}
+use Rattle.base_tables.specs.Table.{AreDistinct}
+use Rattle.event_variables.specs.event_nodes.Adds.{Adds}
+use Rattle.event_variables.specs.event_nodes.Nodes.{EventGraphView, IsEventGraph}
+use Rattle.event_variables.specs.event_nodes.View.{EventCircuitView, side_of, Enabled}
+use Rattle.event_variables.specs.event_nodes.Visited.{CounterView, IsVisitedPair, AreNodesFrom, HoldsNodes}
 use Rattle.class_queries.specs.event_walk.Walk.{IsCounting, HasCountedStart, enable_start}
 use Rattle.class_queries.specs.Enables.{class_map}
 use Rattle.class_extension.specs.Laws.{IsNextGiven}

@@ -8,9 +8,9 @@ use Rattle.circuit_theory.specs.EventSizes.{Start, IsEventWeight, IsEventOver}
 use Rattle.circuit_theory.specs.EventTotals.{AreStarts, IsNodesOver, IsNodesWithin, StartLatches}
 use Rattle.circuit_theory.specs.Frame.{EventSide, IsNode}
 use Rattle.flat_net.specs.View.{circuit_of}
-use Rattle.event_functions.specs.event_nodes.Nodes.{path_of}
-use Rattle.event_functions.specs.event_nodes.View.{EventCircuitView, side_of, Enabled}
-use Rattle.event_functions.specs.event_nodes.Visited.{CounterView, HasCounted}
+use Rattle.event_variables.specs.event_nodes.Nodes.{path_of}
+use Rattle.event_variables.specs.event_nodes.View.{EventCircuitView, side_of, Enabled}
+use Rattle.event_variables.specs.event_nodes.Visited.{CounterView, HasCounted}
 use Rattle.class_queries.specs.Enables.{both_of}
 use Rattle.class_extension.specs.Sides.{AreStartsOfBoth, IsEnableAmong}
 

@@ -9,4 +9,3 @@ pub mod Pieces
 pub mod Trails
 pub mod Visits
 pub mod Writing
-pub use Rattle.clause_base.proofs as clause_base

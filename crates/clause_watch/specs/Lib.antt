@@ -7,4 +7,3 @@ pub mod Rows
 pub mod Trails
 pub mod TwoWatches
 pub mod Watching
-pub use Rattle.clause_base.specs as clause_base

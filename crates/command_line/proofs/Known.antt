@@ -15,7 +15,7 @@ use Rattle.clap.specs.ValueTests.{accepts}
 use Rattle.clap.specs.Walk.{Row, Rule, Text, Walk, answers_to, finished, first_of, nothing_held, rows_after, settled, walk, walk_from}
 use Rattle.clap.specs.Simple.{App, Shape, built, built_leaf, entered, help_shape, inherited, label_of, marked_built, names_of, rows_at, subcommand_of, with_leaf_noted}
 use Rattle.clap.specs.declared.builder.value_parser.ValueParser.{ValueParser}
-use Rattle.command_words.specs.Command.{sec_app, check_app, graph_app, sim_app, replay_app, gen_app, lrat_app, cert_app, induct_app, most_conflicts, any_number}
+use Rattle.command_line.specs.command_words.Command.{sec_app, check_app, graph_app, sim_app, replay_app, gen_app, lrat_app, cert_app, induct_app, most_conflicts, any_number}
 use Rattle.command_line.specs.Jobs.{cert_in, check_in, conflicts_in, form_in, gen_in, graph_in, induct_in, job_of, lrat_in, mode_in, number_of, replay_in, sim_in, task_in}
 use Rattle.command_line.specs.Known.{HasFitMode, mode_fits}
 use Rattle.command_line.proofs.Taken.{else_first, else_next, EachRule, IsNotHelp, IsOwn, no_help_walk}

@@ -2,7 +2,7 @@
 use Rattle.std.specs.Prelude.{◌≡◌, ◌||◌, Bool, true, false, if◌then◌else◌, [], ◌∷◌, List, None, Some, is_some, codes, bytes_eq, IfSome}
 use Rattle.circuit_theory.specs.declared.Mode.TheVariants.{Plain}
 use Rattle.clap.specs.Words.{Row, Text, fault_of, subcommand_of}
-use Rattle.command_words.specs.Command.{sec_app}
+use Rattle.command_line.specs.command_words.Command.{sec_app}
 use Rattle.command_line.specs.Jobs.{job_of, mode_in, form_in}
 use Rattle.command_line.specs.declared.task.Task.TheVariants as task
 

@@ -5,14 +5,14 @@ ghost use Rattle.std.specs.Str.Parse.{digits_value, without_leading_plus};
 ghost use Rattle.clap.specs.Words.{fault_of, first_of, found_of, rows_of, subcommand_of, subcommand_rows_of, IsUnsignedIn};
 ghost use Rattle.clap.specs.ValueTests.{accepts};
 ghost use Rattle.clap.specs.declared.builder.value_parser.ValueParser.TheVariants as parser;
-ghost use Rattle.command_words.specs.Command.{sec_app};
+ghost use Rattle.command_line.specs.command_words.Command.{sec_app};
 ghost use Rattle.command_line.specs.Jobs.{job_of, task_in, check_in, graph_in, sim_in, replay_in, gen_in, lrat_in, cert_in, induct_in, form_of, form_in, mode_of, mode_in, refuses_reset, is_set, number_of, conflicts_in, settings_in};
 
+use crate::command_words::sec_command;
 use crate::task::Task;
 use circuit_theory::Mode;
 use clap::ArgMatches;
 use clap::error::ErrorKind;
-use command_words::sec_command;
 use sec_base::{FilePath, NoMemory, Seq, Settings, Word};
 use std::alloc::{AllocError, Global};
 

@@ -4,6 +4,7 @@
 //! definition for this command.
 #![tactic(auto)]
 
+pub mod command_words;
 mod jobs;
 mod laws;
 mod task;

@@ -3,7 +3,7 @@ use Rattle.std.proofs.Common.{false, ◌≡◌, ℕ, ◌+◌, List, [], ◌∷�
 use Rattle.circuit_theory.specs.declared.Side.{Side}
 use Rattle.circuit_theory.specs.declared.Side.TheVariants.{A, B}
 use Rattle.circuit_theory.specs.Interface.{AreNumbersOf}
-use Rattle.sec_base.specs.Table.{AreDistinct}
+use Rattle.base_tables.specs.Table.{AreDistinct}
 use Rattle.flat_net.specs.declared.parts.Port.{Port}
 use Rattle.flat_net.specs.Comparable.{IsComparable}
 use Rattle.flat_net.specs.Sound.{IsSound}
@@ -21,15 +21,15 @@ use Rattle.sec_setup.specs.Matching.{InterfacesMatch}
 use Rattle.sec_setup.specs.Pairs.{NamedPair, named_pairs}
 use Rattle.sec_setup.specs.Setup.{IsSetupOf}
 use Rattle.sec_setup.proofs.CutNets.{cut_numbers}
-use Rattle.under_base.proofs.outcome_fits.plain_meaning.CutSizes.{cut_light}
-use Rattle.plain_asked_under.specs.plain_asked.declared.findings.Findings.{Findings}
+use Rattle.outcome_fits.proofs.plain_meaning.CutSizes.{cut_light}
+use Rattle.plain_asked.specs.declared.findings.Findings.{Findings}
 use Rattle.assume_laws.specs.declared.assume_shape.shape.ShapeFault.TheVariants as fault
-use Rattle.plain_asked_under.specs.assume_sequences.Filled.{bit_of}
-use Rattle.plain_asked_under.specs.assume_sequences.declared.premise.Premise.{Premise}
-use Rattle.plain_asked_under.specs.assume_sequences.Assumed.{IsAssumedBy, CanBeAssumed}
-use Rattle.under_base.specs.assume_sequences.assume_taken.Premises.{IsPremiseOf}
+use Rattle.assume_sequences.specs.Filled.{bit_of}
+use Rattle.assume_sequences.specs.declared.premise.Premise.{Premise}
+use Rattle.assume_sequences.specs.Assumed.{IsAssumedBy, CanBeAssumed}
+use Rattle.assume_sequences.specs.assume_taken.Premises.{IsPremiseOf}
 use Rattle.under_base.specs.Taken.{assumed_by, IsUndecidedBy}
-use Rattle.under_base.proofs.assume_sequences.assume_taken.Premises.{is_assumed, can_be_assumed}
+use Rattle.assume_sequences.proofs.assume_taken.Premises.{is_assumed, can_be_assumed}
 use Rattle.plain_asked_under.specs.declared.error.PlainUnderError.TheVariants as found_error
 use Rattle.plain_asked_under.specs.Formed.{AreFoundUnder, FormedUnder}
 use Rattle.under_base.specs.under_fits.Places.{IsOverAtPairs, IsLightAtPairs}

@@ -14,15 +14,15 @@ use Rattle.sec_setup.specs.Choosing.{IsChosen}
 use Rattle.sec_setup.specs.Matching.{InterfacesMatch}
 use Rattle.sec_setup.specs.Pairs.{NamedPair, named_pairs}
 use Rattle.sec_setup.specs.Setup.{IsSetupOf}
-use Rattle.plain_asked_under.specs.outcome_fits.ResetOutcome.{Numbered}
+use Rattle.outcome_fits.specs.ResetOutcome.{Numbered}
 use Rattle.reset_asked_under.specs.ResetFindings.{ResetFindings}
 use Rattle.reset_asked_under.specs.ResetVerdict.{ResetVerdict}
 use Rattle.reset_asked_under.specs.ResetVerdict.TheVariants as found_verdict
 use Rattle.assume_laws.specs.Assume.{Assumption}
 use Rattle.assume_laws.specs.declared.assume_shape.shape.ShapeFault.TheVariants as fault
-use Rattle.plain_asked_under.specs.assume_sequences.Filled.{bit_of}
-use Rattle.plain_asked_under.specs.assume_sequences.declared.premise.Premise.{Premise}
-use Rattle.under_base.specs.assume_sequences.assume_taken.Premises.{IsPremiseOf}
+use Rattle.assume_sequences.specs.Filled.{bit_of}
+use Rattle.assume_sequences.specs.declared.premise.Premise.{Premise}
+use Rattle.assume_sequences.specs.assume_taken.Premises.{IsPremiseOf}
 use Rattle.under_base.specs.Taken.{assumed_by}
 use Rattle.reset_asked_under.specs.declared.error.ResetUnderError.TheVariants as found_error
 use Rattle.reset_asked_under.specs.Formed.{AreFoundUnder, FormedUnder}

@@ -1,7 +1,7 @@
 //! What is compared.
 
+use base_tables::NameTable;
 use flat_net::Net;
-use sec_base::NameTable;
 use sec_setup::Nets;
 
 /// Two circuits, a third that is assumed of their inputs, and the names of the inputs that the two share.

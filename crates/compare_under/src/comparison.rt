@@ -6,7 +6,7 @@ ghost use Rattle.flat_net.specs.Comparable.{IsComparable};
 ghost use Rattle.sec_setup.specs.Choosing.{IsChosen};
 ghost use Rattle.sec_setup.specs.Cuts.{AreCutBy};
 ghost use Rattle.sec_setup.specs.Setup.{AreGraphed};
-ghost use Rattle.under_base.specs.assume_sequences.assume_taken.Premises.{IsPremiseOf};
+ghost use Rattle.assume_sequences.specs.assume_taken.Premises.{IsPremiseOf};
 ghost use Rattle.under_base.specs.Compared.{ComparedUnder};
 ghost use Rattle.compare_under.specs.Circuits.{AreMatched};
 ghost use Rattle.under_base.specs.Refusals.{refusal_of};

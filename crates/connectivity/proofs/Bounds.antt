@@ -8,7 +8,7 @@ use Rattle.std.specs.List.{All, Contains, list_all}
 use Rattle.std.proofs.lemmas.List.Elements.{All-contains, All-nil, All-cons, All-weaker, Contains-append_cases}
 use Rattle.std.proofs.lemmas.Option.{none-some, same_Some}
 use Rattle.circuit_theory.proofs.Lists.{Contains-head, Contains-map_from, at_of, of_at}
-use Rattle.sec_base.proofs.TableLemmas.{key_at}
+use Rattle.base_tables.proofs.TableLemmas.{key_at}
 use Rattle.elaborate.specs.declared.flat.Flat.{Flat}
 use Rattle.elaborate.specs.declared.flat.FlatStatement.{FlatStatement}
 use Rattle.elaborate.specs.declared.flat.FlatKind.{FlatKind}

@@ -3,7 +3,7 @@ use Rattle.std.proofs.Common.{◌≡◌, ◌∙◌, ◌<◌, ◌≤◌, ◌+◌,
 use Rattle.std.specs.Prelude.{◌⊎◌, unwrap_or}
 use Rattle.std.proofs.lemmas.List.{take_all}
 use Rattle.std.proofs.lemmas.Option.{none-some, same_Some}
-use Rattle.sec_base.proofs.TableLemmas.{take-push, slice_get-take}
+use Rattle.base_tables.proofs.TableLemmas.{take-push, slice_get-take}
 use Rattle.sec_base.specs.declared.basics.Edge.{Edge}
 use Rattle.sec_base.specs.declared.basics.Edge.TheVariants as edge
 use Rattle.connectivity.specs.Wiring.{TypedLatch}

@@ -3,7 +3,7 @@ use Rattle.std.proofs.Common.{◌≡◌, ◌+◌, ◌<◌, ◌≤◌, ℕ, zero,
 use Rattle.std.specs.Prelude.{◌⊎◌}
 use Rattle.std.proofs.lemmas.Option.{slice_get_within, none-some, same_Some}
 use Rattle.std.proofs.lemmas.List.{take_all}
-use Rattle.sec_base.proofs.TableLemmas.{take-push}
+use Rattle.base_tables.proofs.TableLemmas.{take-push}
 use Rattle.connectivity.specs.Wiring.{joined}
 use Rattle.connectivity.specs.Events.{IsFirst, IsNever, IsAt}
 use Rattle.connectivity.proofs.Joined.{slice_get-append, slice_get-append_right, slice_get-append_cases, split_at, joined_more, joined_split}

@@ -3,7 +3,7 @@ use Rattle.std.proofs.Common.{◌≡◌, ◌+◌, ◌∙◌, ℕ, zero, suc, Lis
 use Rattle.std.specs.Prelude.{◌⊎◌}
 use Rattle.std.proofs.lemmas.Option.{none-some, same_Some}
 use Rattle.std.proofs.lemmas.List.{map-append}
-use Rattle.sec_base.proofs.TableLemmas.{take-push}
+use Rattle.base_tables.proofs.TableLemmas.{take-push}
 use Rattle.connectivity.specs.Wiring.{joined}
 
 -- what stands in a list stands in a longer one

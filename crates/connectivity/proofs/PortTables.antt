@@ -8,7 +8,7 @@ use Rattle.std.proofs.lemmas.List.Elements.{All-contains, Contains-append_left, 
 use Rattle.std.proofs.lemmas.Option.{none-some, same_Some, slice_get_within, slice_get-get_or}
 use Rattle.circuit_theory.proofs.Lists.{Contains-head, at_of, of_at}
 use Rattle.circuit_theory.proofs.Numbers.{slice_get-map}
-use Rattle.sec_base.proofs.TableLemmas.{key_at}
+use Rattle.base_tables.proofs.TableLemmas.{key_at}
 use Rattle.elaborate.specs.declared.flat.Flat.{Flat}
 use Rattle.elaborate.specs.declared.flat.FlatStatement.{FlatStatement}
 use Rattle.elaborate.specs.declared.flat.FlatKind.{FlatKind}

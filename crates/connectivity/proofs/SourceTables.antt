@@ -6,7 +6,7 @@ use Rattle.std.proofs.lemmas.Bool.{cases_eq}
 use Rattle.std.proofs.lemmas.List.Elements.{Contains-append_left, Contains-append_right, Contains-append_cases, Contains-push, Contains-push_cases}
 use Rattle.std.proofs.lemmas.Option.{none-some, same_Some}
 use Rattle.circuit_theory.proofs.Lists.{at_of, of_at}
-use Rattle.sec_base.proofs.TableLemmas.{take-push}
+use Rattle.base_tables.proofs.TableLemmas.{take-push}
 use Rattle.connectivity.specs.declared.source.Source.{Source}
 use Rattle.connectivity.specs.declared.source.Source.TheVariants as source
 use Rattle.connectivity.specs.Wiring.{Wiring}

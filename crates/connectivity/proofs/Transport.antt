@@ -6,7 +6,7 @@ use Rattle.std.proofs.lemmas.List.{map-append, take-map}
 use Rattle.std.proofs.lemmas.List.Elements.{Contains-append_cases}
 use Rattle.circuit_theory.proofs.Lists.{Contains-map, Contains-map_from, at_of, of_at, map-map}
 use Rattle.circuit_theory.proofs.Numbers.{slice_get-map}
-use Rattle.sec_base.proofs.TableLemmas.{key_at, slice_get-take}
+use Rattle.base_tables.proofs.TableLemmas.{key_at, slice_get-take}
 use Rattle.connectivity.specs.Wiring.{Wiring, PortOf, TypedLatch, Cell}
 use Rattle.connectivity.specs.Events.{IsFirst, IsNever, IsAt}
 use Rattle.connectivity.specs.Faults.{driven_before, driven, DrivesAgain, IsUndriven, ReadsUndriven, Follows, HasNet, clock_signals, HasClockNet, OtherClock, HasOtherEdge, OtherEdge, IsGatedClock, output_cell, readers, ReadsClockNet, ClockRead}

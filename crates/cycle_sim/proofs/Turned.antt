@@ -1,7 +1,7 @@
 -- When a latch loads, and when an enabled latch is marked.
 use Rattle.std.specs.Bool.{beq}
 use Rattle.std.proofs.Common.{◌≡◌, ◌≢◌, ℕ, suc, ◌<◌, ◌↔◌, Bool, true, false, not, List, length, get_or, set, slice_get, Some, refl, sym, ◌∙◌, ap, subst, arith, inl, inr, ◌⊎◌, ◌&&◌, ◌||◌}
-use Rattle.std.proofs.lemmas.Option.{slice_get_within}
+use Rattle.std.proofs.lemmas.Option.{slice_get_within, get_or_from_slice_get}
 use Rattle.circuit_theory.specs.Circuit.{Circuit, Latch as latch_equation, IsLatch, IsSource, Meets, InCone, Reads, Reaches}
 use Rattle.circuit_theory.specs.Run.{ExtendsWith, Loads, Marked, IsDetermined}
 use Rattle.circuit_theory.specs.Net.{IsNet}
@@ -20,7 +20,6 @@ use Rattle.inner_cone.specs.latch_cone.Cones.{IsMarkedBy}
 use Rattle.inner_cone.proofs.latch_cone.Walks.{reach_on}
 use Rattle.inner_cone.specs.Sides.{AreSides}
 use Rattle.std.specs.List.{list_all, Contains}
-use Rattle.std.proofs.lemmas.Option.{get_or_from_slice_get}
 
 -- a place is marked where the inputs and latches of its cone are
 pub mark_by_cone : {P : Type 0} (c : Circuit P) (enabled : P → Type 0) (run : ℕ → P → Bool) (t : ℕ) {p : P} → IsDetermined c p → ((u : P) → InCone c p u → Marked c enabled run t u) → Marked c enabled run t p

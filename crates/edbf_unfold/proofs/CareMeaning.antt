@@ -11,17 +11,17 @@ use Rattle.circuit_laws.proofs.event_laws.EventTrees.{one_enable}
 use Rattle.event_literals.specs.Sound.{IsSound}
 use Rattle.event_literals.specs.View.{circuit_of}
 use Rattle.event_literals.proofs.Nets.{sound_is_net}
-use Rattle.event_literals.specs.event_nodes.Node.{Node}
-use Rattle.event_literals.specs.event_nodes.Graph.{IsGraph}
-use Rattle.event_literals.specs.event_nodes.Values.{value}
-use Rattle.event_literals.proofs.event_nodes.CoverMeaning.{value-and, value-one}
-use Rattle.event_literals.specs.event_nodes.Nodes.{EventGraphView, IsEventGraph}
-use Rattle.event_literals.specs.event_nodes.View.{EventCircuitView, IsEventCircuit, side_of, Enabled}
-use Rattle.event_literals.specs.event_nodes.Reach.{IsBegun}
+use Rattle.event_nodes.specs.Node.{Node}
+use Rattle.event_nodes.specs.Graph.{IsGraph}
+use Rattle.event_nodes.specs.Values.{value}
+use Rattle.event_nodes.proofs.CoverMeaning.{value-and, value-one}
+use Rattle.event_nodes.specs.Nodes.{EventGraphView, IsEventGraph}
+use Rattle.event_nodes.specs.View.{EventCircuitView, IsEventCircuit, side_of, Enabled}
+use Rattle.event_nodes.specs.Reach.{IsBegun}
 use Rattle.edbf_unfold.specs.Care.{IsEnableOnward, IsAndOfAll, IsCareLit}
 use Rattle.edbf_unfold.specs.Laws.{TakesFrame, CareLiteralIsCare}
-use Rattle.event_literals.proofs.event_nodes.Bits.{kind_of}
-use Rattle.event_literals.proofs.event_nodes.Drivers.{latch_next, latch_equation_stands}
+use Rattle.event_nodes.proofs.Bits.{kind_of}
+use Rattle.event_nodes.proofs.Drivers.{latch_next, latch_equation_stands}
 use Rattle.edbf_unfold.proofs.EventLiterals.{enable_value}
 
 both_true : (b c : Bool) → b && c ≡ true → (b ≡ true) × (c ≡ true)

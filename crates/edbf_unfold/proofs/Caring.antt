@@ -11,18 +11,18 @@ use Rattle.circuit_theory.specs.Frame.{NotPut}
 use Rattle.event_literals.specs.LatchAt.{LatchAt}
 use Rattle.event_literals.specs.View.{circuit_of}
 use Rattle.event_literals.proofs.Places.{one_at}
-use Rattle.event_literals.specs.event_nodes.Lit.{Lit}
-use Rattle.event_literals.specs.event_nodes.Graph.{flip}
-use Rattle.event_literals.specs.event_nodes.Rules.{IsAndOf}
-use Rattle.event_literals.proofs.event_nodes.Growth.{Grows-length, IsAndOf-grows}
-use Rattle.event_literals.proofs.event_nodes.Literals.{flip-within}
-use Rattle.event_literals.specs.event_nodes.Nodes.{EventGraphView, IsEventGraph, GrowsEvents, IsChild, path_of}
-use Rattle.event_literals.specs.event_nodes.View.{EventCircuitView, side_of, Enabled}
-use Rattle.event_literals.proofs.event_nodes.Paths.{child_path}
-use Rattle.event_literals.specs.event_walk.declared.frames.Frame.{Frame}
-use Rattle.event_literals.specs.event_walk.declared.frames.Put.{Put}
-use Rattle.event_literals.specs.event_walk.declared.frames.Put.TheVariants.{Free, Low, High}
-use Rattle.event_literals.specs.event_walk.declared.frames.Step.{Step}
+use Rattle.event_nodes.specs.Lit.{Lit}
+use Rattle.event_nodes.specs.Graph.{flip}
+use Rattle.event_nodes.specs.Rules.{IsAndOf}
+use Rattle.event_nodes.proofs.Growth.{Grows-length, IsAndOf-grows}
+use Rattle.event_nodes.proofs.Literals.{flip-within}
+use Rattle.event_nodes.specs.Nodes.{EventGraphView, IsEventGraph, GrowsEvents, IsChild, path_of}
+use Rattle.event_nodes.specs.View.{EventCircuitView, side_of, Enabled}
+use Rattle.event_nodes.proofs.Paths.{child_path}
+use Rattle.event_literals.specs.declared.event_walk.frames.Frame.{Frame}
+use Rattle.event_literals.specs.declared.event_walk.frames.Put.{Put}
+use Rattle.event_literals.specs.declared.event_walk.frames.Put.TheVariants.{Free, Low, High}
+use Rattle.event_literals.specs.declared.event_walk.frames.Step.{Step}
 use Rattle.event_literals.specs.event_walk.Ready.{put_of, IsReadyBy}
 use Rattle.event_literals.specs.Known.{IsKnownAt, IsEnableLit, AreKnown, IsMet}
 use Rattle.edbf_unfold.specs.Care.{IsEnableOnward, IsHeldPlace, IsPlaceEnable, IsAndOfAll, IsCareOf, IsWithEnable, IsAndEnable}

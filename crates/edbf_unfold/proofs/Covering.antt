@@ -8,23 +8,23 @@ use Rattle.circuit_theory.proofs.Lists.{Contains-cases, at_of, of_at}
 use Rattle.circuit_theory.specs.Frame.{NotPut, IsNode, ReachedAt, ConeLatches}
 use Rattle.circuit_theory.specs.EventSizes.{Start, IsOther, EventVisits}
 use Rattle.circuit_theory.specs.EventTotals.{StartLatches}
-use Rattle.event_literals.specs.event_nodes.Table.{AreDistinct}
+use Rattle.event_nodes.specs.Table.{AreDistinct}
 use Rattle.event_literals.specs.Sound.{IsSound}
 use Rattle.event_literals.specs.View.{circuit_of}
 use Rattle.event_literals.proofs.Nets.{some_at}
 use Rattle.event_literals.proofs.Places.{one_at, All-at}
-use Rattle.event_literals.specs.event_nodes.Nodes.{EventGraphView, IsTree, IsChild, path_of}
-use Rattle.event_literals.specs.event_nodes.Reach.{IsBegun}
-use Rattle.event_literals.specs.event_nodes.View.{IsEventCircuit, side_of, Enabled}
-use Rattle.event_literals.specs.event_nodes.Visited.{HoldsVisits, HoldsNodes}
-use Rattle.event_literals.proofs.event_nodes.Bits.{kind_of}
-use Rattle.event_literals.proofs.event_nodes.OnePath.{one_node}
-use Rattle.event_literals.proofs.event_nodes.Paths.{child_path, path_grows}
-use Rattle.event_literals.proofs.event_nodes.Visits.{visited_reached, reached_visited}
-use Rattle.event_literals.specs.event_walk.declared.frames.Frame.{Frame}
-use Rattle.event_literals.specs.event_walk.declared.frames.Put.{Put}
-use Rattle.event_literals.specs.event_walk.declared.frames.Put.TheVariants.{Free, Low, High}
-use Rattle.event_literals.specs.event_walk.declared.frames.Ways.{Ways}
+use Rattle.event_nodes.specs.Nodes.{EventGraphView, IsTree, IsChild, path_of}
+use Rattle.event_nodes.specs.Reach.{IsBegun}
+use Rattle.event_nodes.specs.View.{IsEventCircuit, side_of, Enabled}
+use Rattle.event_nodes.specs.Visited.{HoldsVisits, HoldsNodes}
+use Rattle.event_nodes.proofs.Bits.{kind_of}
+use Rattle.event_nodes.proofs.OnePath.{one_node}
+use Rattle.event_nodes.proofs.Paths.{child_path, path_grows}
+use Rattle.event_nodes.proofs.Visits.{visited_reached, reached_visited}
+use Rattle.event_literals.specs.declared.event_walk.frames.Frame.{Frame}
+use Rattle.event_literals.specs.declared.event_walk.frames.Put.{Put}
+use Rattle.event_literals.specs.declared.event_walk.frames.Put.TheVariants.{Free, Low, High}
+use Rattle.event_literals.specs.declared.event_walk.frames.Ways.{Ways}
 use Rattle.edbf_unfold.specs.Care.{IsEnableOnward, IsPlaceEnable, IsCareOf, IsCareLit}
 use Rattle.event_literals.specs.Known.{EventUnfolderView}
 use Rattle.event_literals.specs.event_walk.Ready.{put_of}

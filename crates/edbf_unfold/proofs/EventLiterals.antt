@@ -4,18 +4,18 @@ use Rattle.std.specs.Prelude.{◌||◌, not}
 use Rattle.circuit_theory.specs.Tree.{Tree, tree_value}
 use Rattle.circuit_theory.proofs.Lists.{map_at}
 use Rattle.circuit_theory.specs.Frame.{IsEnable}
-use Rattle.event_literals.specs.event_nodes.Table.{AreDistinct}
+use Rattle.event_nodes.specs.Table.{AreDistinct}
 use Rattle.event_literals.proofs.Places.{All-at}
-use Rattle.event_literals.specs.event_nodes.Builds.{Builds}
-use Rattle.event_literals.specs.event_nodes.Graph.{flip}
-use Rattle.event_literals.specs.event_nodes.Values.{value}
-use Rattle.event_literals.proofs.event_nodes.Growth.{Builds-one}
-use Rattle.event_literals.proofs.event_nodes.Meaning.{value-flip}
-use Rattle.event_literals.proofs.event_nodes.CoverMeaning.{value-tree}
-use Rattle.event_literals.specs.event_nodes.Nodes.{path_of, EventGraphView, named_places, IsEventGraph}
+use Rattle.event_nodes.specs.Builds.{Builds}
+use Rattle.event_nodes.specs.Graph.{flip}
+use Rattle.event_nodes.specs.Values.{value}
+use Rattle.event_nodes.proofs.Growth.{Builds-one}
+use Rattle.event_nodes.proofs.Meaning.{value-flip}
+use Rattle.event_nodes.proofs.CoverMeaning.{value-tree}
+use Rattle.event_nodes.specs.Nodes.{path_of, EventGraphView, named_places, IsEventGraph}
 use Rattle.edbf_unfold.specs.Laws.{EqualEventTreesOneLiteral, EqualEnablesOneLiteral, LiteralIsTree, EnableLiteralIsEnable, KnownLater}
-use Rattle.event_literals.proofs.event_nodes.OnePath.{one_node}
-use Rattle.event_literals.proofs.event_nodes.Drivers.{latch_equation_stands}
+use Rattle.event_nodes.proofs.OnePath.{one_node}
+use Rattle.event_nodes.proofs.Drivers.{latch_equation_stands}
 use Rattle.event_literals.proofs.Known.{known_at_later}
 use Rattle.event_literals.proofs.OrStaying.{IsShortOr-one}
 use Rattle.event_literals.proofs.OrValues.{value-short_or}

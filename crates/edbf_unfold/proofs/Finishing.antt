@@ -6,15 +6,15 @@ use Rattle.circuit_theory.specs.Frame.{NotPut}
 use Rattle.event_literals.specs.Sound.{IsSound}
 use Rattle.event_literals.proofs.Nets.{some_at}
 use Rattle.event_literals.proofs.Places.{one_at}
-use Rattle.event_literals.specs.event_nodes.Lit.{Lit}
-use Rattle.event_literals.specs.event_nodes.Nodes.{EventGraphView, IsEventGraph, GrowsEvents}
-use Rattle.event_literals.specs.event_nodes.View.{EventCircuitView, IsEventCircuit, side_of}
-use Rattle.event_literals.specs.event_nodes.Visited.{CounterView, HoldsVisits, HoldsNodes}
-use Rattle.event_literals.proofs.event_nodes.Growing.{grows_trans}
-use Rattle.event_literals.proofs.event_nodes.Lists.{adds_none, adds_trans}
-use Rattle.event_literals.specs.event_walk.declared.frames.Frame.{Frame}
-use Rattle.event_literals.specs.event_walk.declared.frames.Put.TheVariants.{Free}
-use Rattle.event_literals.specs.event_walk.declared.frames.Ways.{Ways}
+use Rattle.event_nodes.specs.Lit.{Lit}
+use Rattle.event_nodes.specs.Nodes.{EventGraphView, IsEventGraph, GrowsEvents}
+use Rattle.event_nodes.specs.View.{EventCircuitView, IsEventCircuit, side_of}
+use Rattle.event_nodes.specs.Visited.{CounterView, HoldsVisits, HoldsNodes}
+use Rattle.event_nodes.proofs.Growing.{grows_trans}
+use Rattle.event_nodes.proofs.Lists.{adds_none, adds_trans}
+use Rattle.event_literals.specs.declared.event_walk.frames.Frame.{Frame}
+use Rattle.event_literals.specs.declared.event_walk.frames.Put.TheVariants.{Free}
+use Rattle.event_literals.specs.declared.event_walk.frames.Ways.{Ways}
 use Rattle.edbf_unfold.specs.Care.{IsCareOf, IsCareLit}
 use Rattle.event_literals.specs.Known.{EventUnfolderView, IsKnownAt, IsKnownIn, HasUnfolded, HasGrown}
 use Rattle.event_literals.specs.event_walk.Ready.{put_of}

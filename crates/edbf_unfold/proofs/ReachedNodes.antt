@@ -9,9 +9,9 @@ use Rattle.std.proofs.lemmas.List.Sorted.{IsPermutation-sym, Contains-permutatio
 use Rattle.std.proofs.lemmas.Option.{slice_get_within}
 use Rattle.circuit_theory.proofs.Lists.{Contains-head, Contains-cases}
 use Rattle.event_literals.proofs.Places.{one_at}
-use Rattle.event_literals.specs.event_nodes.View.{EventCircuitView}
-use Rattle.event_literals.specs.event_walk.declared.frames.Frame.{Frame}
-use Rattle.event_literals.specs.event_walk.declared.frames.Ways.{Ways}
+use Rattle.event_nodes.specs.View.{EventCircuitView}
+use Rattle.event_literals.specs.declared.event_walk.frames.Frame.{Frame}
+use Rattle.event_literals.specs.declared.event_walk.frames.Ways.{Ways}
 use Rattle.edbf_unfold.specs.Reached.{IsOpenPlace, IsNodePut, AreNodesOf}
 
 module _ (e : EventCircuitView) (frames : List Frame) (table : List (ℕ × ℕ)) (ways : List Ways) where

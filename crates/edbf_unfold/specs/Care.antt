@@ -5,14 +5,14 @@ use Rattle.circuit_theory.specs.Frame.{NotPut, ReachedAt}
 use Rattle.circuit_theory.specs.EventSizes.{Start}
 use Rattle.event_literals.specs.LatchAt.{LatchAt}
 use Rattle.event_literals.specs.View.{circuit_of}
-use Rattle.event_literals.specs.event_nodes.Node.{Node}
-use Rattle.event_literals.specs.event_nodes.Lit.{Lit}
-use Rattle.event_literals.specs.event_nodes.Graph.{flip}
-use Rattle.event_literals.specs.event_nodes.Rules.{IsAndOf}
-use Rattle.event_literals.specs.event_nodes.Nodes.{EventGraphView, path_of}
-use Rattle.event_literals.specs.event_nodes.Reach.{IsBegun}
-use Rattle.event_literals.specs.event_nodes.View.{EventCircuitView, side_of, Enabled}
-use Rattle.event_literals.specs.event_walk.declared.frames.Frame.{Frame}
+use Rattle.event_nodes.specs.Node.{Node}
+use Rattle.event_nodes.specs.Lit.{Lit}
+use Rattle.event_nodes.specs.Graph.{flip}
+use Rattle.event_nodes.specs.Rules.{IsAndOf}
+use Rattle.event_nodes.specs.Nodes.{EventGraphView, path_of}
+use Rattle.event_nodes.specs.Reach.{IsBegun}
+use Rattle.event_nodes.specs.View.{EventCircuitView, side_of, Enabled}
+use Rattle.event_literals.specs.declared.event_walk.frames.Frame.{Frame}
 use Rattle.event_literals.specs.Known.{IsEnableLit}
 use Rattle.event_literals.specs.ShortOr.{IsShortOr}
 use Rattle.event_literals.specs.event_walk.Ready.{put_of}

@@ -6,9 +6,9 @@ use Rattle.circuit_theory.specs.Classes.{EnableCare}
 use Rattle.event_literals.specs.LatchAt.{LatchAt}
 use Rattle.event_literals.specs.Sound.{IsSound}
 use Rattle.event_literals.specs.View.{circuit_of}
-use Rattle.event_literals.specs.event_nodes.Values.{value}
-use Rattle.event_literals.specs.event_nodes.Nodes.{EventGraphView, IsEventGraph, GrowsEvents, named_places}
-use Rattle.event_literals.specs.event_nodes.View.{EventCircuitView, IsEventCircuit, side_of, Enabled}
+use Rattle.event_nodes.specs.Values.{value}
+use Rattle.event_nodes.specs.Nodes.{EventGraphView, IsEventGraph, GrowsEvents, named_places}
+use Rattle.event_nodes.specs.View.{EventCircuitView, IsEventCircuit, side_of, Enabled}
 use Rattle.event_literals.specs.Known.{IsKnownAt, IsEnableLit}
 use Rattle.edbf_unfold.specs.Care.{IsCareLit}
 

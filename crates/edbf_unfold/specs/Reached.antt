@@ -5,10 +5,10 @@ use Rattle.circuit_theory.specs.Frame.{NotPut, IsNode, ReachedAt}
 use Rattle.circuit_theory.specs.EventSizes.{Start}
 use Rattle.circuit_theory.specs.EventTotals.{StartLatches}
 use Rattle.event_literals.specs.View.{circuit_of}
-use Rattle.event_literals.specs.event_nodes.Nodes.{path_of}
-use Rattle.event_literals.specs.event_nodes.View.{EventCircuitView, side_of, Enabled}
-use Rattle.event_literals.specs.event_walk.declared.frames.Frame.{Frame}
-use Rattle.event_literals.specs.event_walk.declared.frames.Ways.{Ways}
+use Rattle.event_nodes.specs.Nodes.{path_of}
+use Rattle.event_nodes.specs.View.{EventCircuitView, side_of, Enabled}
+use Rattle.event_literals.specs.declared.event_walk.frames.Frame.{Frame}
+use Rattle.event_literals.specs.declared.event_walk.frames.Ways.{Ways}
 use Rattle.event_literals.specs.event_walk.Ready.{put_of}
 
 -- a latch drives the place's signal, and isn't the one that is read as a constant in the frame

@@ -7,7 +7,7 @@ use Rattle.circuit_theory.specs.Joined.{moved, moved_name}
 use Rattle.circuit_theory.specs.Flattened.{IsFlattened, Follows}
 use Rattle.circuit_theory.specs.Places.{IsPlace}
 use Rattle.circuit_theory.proofs.Lists.{map-map, Contains-map, of_at}
-use Rattle.blif_read.proofs.sec_base.TableLemmas.{key_at}
+use Rattle.base_tables.proofs.TableLemmas.{key_at}
 use Rattle.elaborate.specs.Renaming.{IsRenaming}
 use Rattle.elaborate.proofs.Renamed.{marks_down, renamed_is_flattened, renamed_places}
 

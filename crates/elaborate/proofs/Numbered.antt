@@ -8,7 +8,7 @@ use Rattle.std.proofs.lemmas.Slice.Eq.{bytes_eq-Decides}
 use Rattle.circuit_theory.specs.Circuit.{Equation, Named, Latch as Register}
 use Rattle.circuit_theory.specs.Joined.{moved, moved_name}
 use Rattle.circuit_theory.proofs.Lists.{map-map}
-use Rattle.blif_read.specs.sec_base.Table.{AreDistinct}
+use Rattle.base_tables.specs.Table.{AreDistinct}
 use Rattle.blif_read.specs.declared.design.BlifModel.{BlifModel}
 use Rattle.blif_read.specs.declared.design.Statement.TheVariants.{Names, Latch, Subckt}
 use Rattle.blif_read.specs.Design.{Place, Item, At, Enter, Pairing, place_at, top, at_top, name_of, is_input_formal, port_of, is_clock, equation_of, main_walk, main_inputs, main_outputs, circuit_of_design}

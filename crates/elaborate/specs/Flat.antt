@@ -2,8 +2,7 @@
 use Rattle.std.specs.Prelude.{◌≡◌, ℕ, ◌==◌, Bool, true, false, not, List, [], ◌∷◌, map, length, Option, Some, None, option_map, slice_get, unwrap_or}
 use Rattle.std.specs.List.{filter, filter_map}
 use Rattle.circuit_theory.specs.Cover.{Cover}
-use Rattle.circuit_theory.specs.Circuit.{Circuit, Equation, Gate, Port, Named, Started}
-use Rattle.circuit_theory.specs.Circuit.{Latch as Register}
+use Rattle.circuit_theory.specs.Circuit.{Circuit, Equation, Gate, Port, Named, Started, Latch as Register}
 use Rattle.blif_read.specs.sec_base.declared.basics.Edge.{Edge}
 use Rattle.blif_read.specs.sec_base.declared.basics.Init.{Init}
 use Rattle.blif_read.specs.sec_base.declared.basics.Init.TheVariants as init

@@ -2,7 +2,7 @@
 
 ghost use Rattle.std.specs.Prelude.{◌≡◌, ◌≢◌, ◌<◌, ◌||◌, List, [], ◌∷◌, ◌++◌, length, map, slice_get, None, Some, IfOk, IfErr, OnOk};
 ghost use Rattle.std.specs.List.{list_any};
-ghost use Rattle.blif_read.specs.sec_base.Table.{is_among};
+ghost use Rattle.base_tables.specs.Table.{is_among};
 ghost use Rattle.blif_read.specs.Kept.{model_names};
 ghost use Rattle.blif_read.specs.declared.design.Pair.{Pair};
 ghost use Rattle.blif_read.specs.Design.{model_named};

@@ -2,7 +2,7 @@
 
 ghost use Rattle.std.specs.Prelude.{◌≡◌, ◌||◌, ℕ, false, List, [], IfOk, OnOk};
 ghost use Rattle.std.specs.List.{list_any};
-ghost use Rattle.blif_read.specs.sec_base.Table.{is_among};
+ghost use Rattle.base_tables.specs.Table.{is_among};
 ghost use Rattle.blif_read.specs.Kept.{model_names};
 ghost use Rattle.blif_read.specs.Fault.{repeats};
 ghost use Rattle.elaborate.specs.Scopes.{AreFormals, AreTables, is_long_behind, exceeds};

@@ -8,12 +8,12 @@ use Rattle.flat_net.specs.Sound.{IsSound}
 use Rattle.flat_net.specs.View.{NetView, circuit_of}
 use Rattle.flat_net.proofs.Nets.{sound_is_net, sound_names}
 use Rattle.interface.specs.Pairs.{NamedPair, places_of}
-use Rattle.event_names.proofs.outcome_fits.plain_meaning.CutPairs.{one_output, pair_listed}
+use Rattle.outcome_fits.proofs.plain_meaning.CutPairs.{one_output, pair_listed}
 use Rattle.event_nodes.specs.View.{EventCircuitView}
 use Rattle.event_comparison.specs.Agreement.{AreAllPairs, AreCutFrom}
-use Rattle.event_comparison.specs.event_agreement.pair_events.View.{EventsView}
-use Rattle.event_names.specs.event_setup.declared.setup.EventSetup.{EventSetup}
-use Rattle.event_names.specs.event_setup.Setup.{IsEventSetupOf}
+use Rattle.event_agreement.specs.pair_events.View.{EventsView}
+use Rattle.event_setup.specs.declared.setup.EventSetup.{EventSetup}
+use Rattle.event_setup.specs.Setup.{IsEventSetupOf}
 use Rattle.event_answers.specs.Laws.{EqualSetupsAgree, HaveClassesGiven}
 
 module _ (a b : NetView) (sa : IsSound a) (sb : IsSound b) (expose : Bool) (s : EventSetup) (is : IsEventSetupOf a b expose s) where

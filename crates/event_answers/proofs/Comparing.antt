@@ -7,20 +7,20 @@ use Rattle.circuit_theory.specs.Interface.{AreNumbersOf}
 use Rattle.circuit_theory.specs.Tree.{AreNumbered}
 use Rattle.circuit_theory.proofs.Lists.{All-from_each, Contains-map, map-map, zip_weaker}
 use Rattle.circuit_laws.proofs.LawProofs.{numbers_are_shared}
-use Rattle.sec_base.specs.Table.{AreDistinct}
+use Rattle.base_tables.specs.Table.{AreDistinct}
 use Rattle.flat_net.specs.View.{NetView, circuit_of, named, ports_of}
 use Rattle.interface.specs.declared.pairs.SignalPair.{SignalPair}
 use Rattle.interface.specs.Pairs.{outputs_of}
 use Rattle.sec_setup.specs.Setup.{AreColumns}
 use Rattle.sec_setup.proofs.ReadInputs.{visited_is_column}
 use Rattle.event_nodes.specs.View.{EventCircuitView}
-use Rattle.event_comparison.specs.event_witness.Asked.{IsPairOf}
-use Rattle.event_comparison.specs.event_witness.Sequences.{HasInputsBelow}
+use Rattle.event_witness.specs.Asked.{IsPairOf}
+use Rattle.event_witness.specs.Sequences.{HasInputsBelow}
 use Rattle.event_comparison.specs.EventPairs.{EventPairs}
 use Rattle.event_comparison.specs.Compared.{AreCompared, IsEventDepth}
-use Rattle.event_names.specs.event_setup.declared.setup.EventSetup.{EventSetup}
-use Rattle.event_names.specs.event_setup.Setup.{IsEventSetup, IsPairDepthIn, IsPairWithin}
-use Rattle.event_names.proofs.event_setup.Setups.{pairs_within}
+use Rattle.event_setup.specs.declared.setup.EventSetup.{EventSetup}
+use Rattle.event_setup.specs.Setup.{IsEventSetup, IsPairDepthIn, IsPairWithin}
+use Rattle.event_setup.proofs.Setups.{pairs_within}
 use Rattle.event_answers.specs.Laws.{ArePairsOfSetup, SetupsAreCompared}
 
 -- an input that the unfolding of an output visits has a column

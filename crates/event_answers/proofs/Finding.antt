@@ -5,8 +5,8 @@ use Rattle.flat_net.specs.View.{circuit_of, named}
 use Rattle.interface.specs.declared.pairs.SignalPair.{SignalPair}
 use Rattle.event_comparison.specs.class_events.Made.{AreEnablesCounted}
 use Rattle.class_queries.specs.Laws.{AreKept}
-use Rattle.event_comparison.specs.event_agreement.pair_events.View.{EventsView, IsEvents}
-use Rattle.event_comparison.specs.event_agreement.pair_events.Within.{IsCountedOnce}
+use Rattle.event_agreement.specs.pair_events.View.{EventsView, IsEvents}
+use Rattle.event_agreement.specs.pair_events.Within.{IsCountedOnce}
 use Rattle.event_comparison.specs.Counted.{AreRefused, ArePairsCounted}
 use Rattle.event_names.specs.EventFormError.{EventFormError}
 use Rattle.event_names.specs.EventFormError.TheVariants as form_error

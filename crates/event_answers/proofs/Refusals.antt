@@ -12,14 +12,14 @@ use Rattle.event_comparison.specs.class_events.EventError.{EventError}
 use Rattle.event_comparison.specs.class_events.EventError.TheVariants as event_error
 use Rattle.event_comparison.specs.class_events.Refused.{IsRefusedMap}
 use Rattle.event_nodes.specs.View.{EventCircuitView}
-use Rattle.event_names.specs.event_setup.declared.error.RecoveryError.{RecoveryError}
-use Rattle.event_names.specs.event_setup.declared.error.RecoveryError.TheVariants as unknown
-use Rattle.event_names.specs.event_setup.declared.setup.EventSetup.{EventSetup}
-use Rattle.event_names.specs.event_setup.Choosing.{RefusesCycle}
-use Rattle.event_names.specs.event_setup.Recovered.{AreKnown, RecoversBoth}
-use Rattle.event_names.specs.under_base.declared.compare_base.error.CompareError.{CompareError}
-use Rattle.event_names.specs.under_base.declared.compare_base.error.CompareError.TheVariants as refused
-use Rattle.event_names.specs.under_base.compare_base.Compared.{refusal_of}
+use Rattle.event_setup.specs.declared.error.RecoveryError.{RecoveryError}
+use Rattle.event_setup.specs.declared.error.RecoveryError.TheVariants as unknown
+use Rattle.event_setup.specs.declared.setup.EventSetup.{EventSetup}
+use Rattle.event_setup.specs.Choosing.{RefusesCycle}
+use Rattle.event_setup.specs.Recovered.{AreKnown, RecoversBoth}
+use Rattle.under_base.specs.declared.compare_base.error.CompareError.{CompareError}
+use Rattle.under_base.specs.declared.compare_base.error.CompareError.TheVariants as refused
+use Rattle.under_base.specs.compare_base.Compared.{refusal_of}
 use Rattle.event_names.specs.Circuits.{AreReached}
 use Rattle.event_names.specs.Compared.{ComparedInEvents}
 use Rattle.event_names.specs.Named.{latch_names}

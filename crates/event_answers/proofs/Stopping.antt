@@ -19,16 +19,16 @@ use Rattle.event_comparison.specs.class_events.EventError.{EventError}
 use Rattle.event_comparison.specs.class_events.EventError.TheVariants as event_error
 use Rattle.event_comparison.specs.class_events.Refused.{IsLimitOf, IsRefusedMap}
 use Rattle.event_nodes.specs.View.{EventCircuitView, IsEventCircuit}
-use Rattle.event_names.specs.event_setup.declared.error.RecoveryError.{RecoveryError}
-use Rattle.event_names.specs.event_setup.declared.error.RecoveryError.TheVariants as unknown
-use Rattle.event_names.specs.event_setup.declared.setup.EventSetup.{EventSetup}
-use Rattle.event_names.specs.event_setup.Recovered.{AreKnown, RecoversBoth}
-use Rattle.event_names.specs.event_setup.Setup.{IsEventSetupOf, IsPairWithin}
-use Rattle.event_names.proofs.event_setup.Setups.{pairs_within}
+use Rattle.event_setup.specs.declared.error.RecoveryError.{RecoveryError}
+use Rattle.event_setup.specs.declared.error.RecoveryError.TheVariants as unknown
+use Rattle.event_setup.specs.declared.setup.EventSetup.{EventSetup}
+use Rattle.event_setup.specs.Recovered.{AreKnown, RecoversBoth}
+use Rattle.event_setup.specs.Setup.{IsEventSetupOf, IsPairWithin}
+use Rattle.event_setup.proofs.Setups.{pairs_within}
 use Rattle.event_answers.specs.Laws.{HaveClassesGiven}
 use Rattle.event_answers.proofs.Comparing.{setups_compared}
-use Rattle.event_comparison.specs.event_agreement.pair_events.View.{EventsView}
-use Rattle.event_names.specs.under_base.declared.compare_base.error.CompareError.{CompareError}
+use Rattle.event_agreement.specs.pair_events.View.{EventsView}
+use Rattle.under_base.specs.declared.compare_base.error.CompareError.{CompareError}
 use Rattle.event_names.specs.Asked.{IsPairOf}
 use Rattle.event_names.specs.Circuits.{AreReached}
 use Rattle.event_names.specs.Fitting.{class_limit}

@@ -2,7 +2,7 @@
 use Rattle.std.specs.Prelude.{◌≡◌, All}
 use Rattle.interface.specs.Pairs.{ArePairsOf}
 use Rattle.sec_setup.specs.Setup.{AreColumns}
-use Rattle.event_comparison.specs.event_agreement.pair_events.View.{EventsView}
+use Rattle.event_agreement.specs.pair_events.View.{EventsView}
 use Rattle.event_comparison.specs.Compared.{AreCompared}
 use Rattle.event_comparison.specs.EventPairs.{EventPairs}
 use Rattle.event_names.specs.Asked.{IsPairOf}

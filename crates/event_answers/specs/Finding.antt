@@ -5,8 +5,8 @@ use Rattle.interface.specs.declared.pairs.SignalPair.{SignalPair}
 use Rattle.class_queries.specs.Enables.{both_of}
 use Rattle.event_nodes.specs.View.{EventCircuitView}
 use Rattle.event_comparison.specs.EventFindings.{EventFindings}
-use Rattle.event_names.specs.under_base.declared.compare_base.error.CompareError.{CompareError}
-use Rattle.event_names.specs.under_base.declared.compare_base.error.CompareError.TheVariants as refused
+use Rattle.under_base.specs.declared.compare_base.error.CompareError.{CompareError}
+use Rattle.under_base.specs.declared.compare_base.error.CompareError.TheVariants as refused
 use Rattle.event_names.specs.EventFormError.{EventFormError}
 use Rattle.event_names.specs.EventFormError.TheVariants as form_error
 use Rattle.event_names.specs.Named.{NamesVerdict}

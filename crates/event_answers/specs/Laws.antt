@@ -6,13 +6,13 @@ use Rattle.circuit_theory.specs.Agree.{Agree, AgreeOnward}
 use Rattle.flat_net.specs.Comparable.{IsComparable}
 use Rattle.flat_net.specs.Sound.{IsSound}
 use Rattle.flat_net.specs.View.{NetView, circuit_of}
-use Rattle.event_names.specs.event_setup.declared.setup.EventSetup.{EventSetup}
-use Rattle.event_names.specs.event_setup.Setup.{IsEventSetup, IsEventSetupOf}
-use Rattle.event_comparison.specs.event_witness.Asked.{IsPairOf}
+use Rattle.event_setup.specs.declared.setup.EventSetup.{EventSetup}
+use Rattle.event_setup.specs.Setup.{IsEventSetup, IsEventSetupOf}
+use Rattle.event_witness.specs.Asked.{IsPairOf}
 use Rattle.event_comparison.specs.EventPairs.{EventPairs}
 use Rattle.event_comparison.specs.Agreement.{AreAllPairs, AreCutFrom, CircuitsAgree}
 use Rattle.event_comparison.specs.Compared.{AreCompared}
-use Rattle.event_comparison.specs.event_agreement.pair_events.View.{EventsView}
+use Rattle.event_agreement.specs.pair_events.View.{EventsView}
 
 -- the circuits are those of the setup, whatever classes their latches have
 pub record HaveClassesGiven (s : EventSetup) (e : EventsView) : Type 0 where

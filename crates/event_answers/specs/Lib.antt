@@ -17,4 +17,3 @@ pub use Rattle.event_comparison.specs.Findings
 pub use Rattle.event_comparison.specs.EventFindings
 pub use Rattle.event_comparison.specs.EventPairs
 pub use Rattle.event_comparison.specs.class_events
-pub use Rattle.event_comparison.specs.event_agreement

@@ -4,10 +4,10 @@ use Rattle.outcome.specs.declared.verdict.LimitAt.{LimitAt}
 use Rattle.outcome.specs.declared.verdict.LimitAt.TheVariants as limit_at
 use Rattle.event_comparison.specs.class_events.EventError.{EventError}
 use Rattle.event_comparison.specs.class_events.EventError.TheVariants as event_error
-use Rattle.event_names.specs.event_setup.declared.error.RecoveryError.{RecoveryError}
-use Rattle.event_names.specs.event_setup.declared.error.RecoveryError.TheVariants as unknown
-use Rattle.event_names.specs.under_base.declared.compare_base.error.CompareError.{CompareError}
-use Rattle.event_names.specs.under_base.declared.compare_base.error.CompareError.TheVariants as refused
+use Rattle.event_setup.specs.declared.error.RecoveryError.{RecoveryError}
+use Rattle.event_setup.specs.declared.error.RecoveryError.TheVariants as unknown
+use Rattle.under_base.specs.declared.compare_base.error.CompareError.{CompareError}
+use Rattle.under_base.specs.declared.compare_base.error.CompareError.TheVariants as refused
 use Rattle.event_names.specs.Fitting.{class_limit}
 use Rattle.event_names.specs.Nameable.{IsLatchIn, IsOtherIn}
 use Rattle.event_names.specs.declared.names.Names.{Names}

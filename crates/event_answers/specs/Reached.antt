@@ -9,7 +9,7 @@ use Rattle.outcome.specs.declared.verdict.Outcome.{Outcome}
 use Rattle.outcome.specs.declared.verdict.Verdict.TheVariants as verdict
 use Rattle.event_comparison.specs.class_events.Made.{AreEnablesCounted}
 use Rattle.event_comparison.specs.class_events.Separated.{AreSeparated}
-use Rattle.event_names.specs.under_base.declared.compare_base.error.CompareError.{CompareError}
+use Rattle.under_base.specs.declared.compare_base.error.CompareError.{CompareError}
 use Rattle.event_names.specs.Circuits.{AreReached}
 use Rattle.event_names.specs.Compared.{ComparedInEvents}
 use Rattle.event_names.specs.Fitting.{IsUnclassed, IsUnrecovered}

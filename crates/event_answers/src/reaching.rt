@@ -5,12 +5,13 @@ ghost use Rattle.circuit_theory.specs.Interface.{shared_inputs};
 ghost use Rattle.flat_net.specs.Comparable.{IsComparable};
 ghost use Rattle.flat_net.specs.View.{ports_of};
 ghost use Rattle.sec_setup.specs.Matching.{InterfacesMatch};
-ghost use Rattle.event_names.specs.event_setup.Recovered.{AreBothMarked, AreKnown};
-ghost use Rattle.event_names.specs.event_setup.Setup.{IsEventSetupOf};
+ghost use Rattle.event_setup.specs.Recovered.{AreBothMarked, AreKnown};
+ghost use Rattle.event_setup.specs.Setup.{IsEventSetupOf};
 ghost use Rattle.event_names.specs.Named.{latch_names};
 ghost use Rattle.event_answers.specs.Reached.{ReachesPairs};
 
 use crate::limits::{unclassed, unrecovered};
+use base_tables::NameTable;
 use event_comparison::{Separated, events_of};
 use event_names::{
     CompareError, EnabledLatches, EventSetup, Names, latch_names, recover_both, set_up_events,
@@ -18,7 +19,7 @@ use event_names::{
 use flat_net::Net;
 use interface::SignalPairs;
 use outcome::{LimitAt, Settings};
-use sec_base::{Ids, MAX_CONFLICTS, NameTable, NoMemory, Words};
+use sec_base::{Ids, MAX_CONFLICTS, NoMemory, Words};
 use std::alloc::Global;
 
 /// The pairs that are compared, with their depths, and whether latches are cut open.

@@ -9,7 +9,7 @@ use Rattle.circuit_theory.proofs.Lists.{map_at}
 use Rattle.circuit_theory.specs.Frame.{NodeBefore}
 use Rattle.flat_net.proofs.Nets.{some_at}
 use Rattle.reset_laws.specs.Reset.{CycleBefore}
-use Rattle.sec_base.specs.Table.{AreDistinct}
+use Rattle.base_tables.specs.Table.{AreDistinct}
 use Rattle.event_nodes.specs.Nodes.{IsTree, path_of}
 use Rattle.event_nodes.proofs.OnePath.{one_node}
 use Rattle.event_variables.specs.Variables.{PathBefore}

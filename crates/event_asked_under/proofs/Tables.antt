@@ -5,8 +5,8 @@ use Rattle.std.proofs.lemmas.List.{map-append}
 use Rattle.std.proofs.lemmas.Option.{get_or_from_slice_get}
 use Rattle.circuit_theory.proofs.Lists.{Contains-map_from, at_of, map_at}
 use Rattle.flat_net.proofs.Places.{All-at}
-use Rattle.sec_base.specs.Table.{AreDistinct}
-use Rattle.sec_base.proofs.TableLemmas.{slice_get-take, take-push}
+use Rattle.base_tables.specs.Table.{AreDistinct}
+use Rattle.base_tables.proofs.TableLemmas.{slice_get-take, take-push}
 use Rattle.event_nodes.specs.Nodes.{EventGraphView, IsEventGraph}
 use Rattle.event_variables.specs.ranked_nodes.Named.{ranked_in}
 

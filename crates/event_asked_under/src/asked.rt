@@ -2,7 +2,7 @@
 
 ghost use Rattle.std.specs.Prelude.{◌≡◌, ℕ, ◌^◌, ◌≤◌, Bool, true, List, length, All, Err, IfOk};
 ghost use Rattle.flat_net.specs.View.{NetView};
-ghost use Rattle.sec_base.specs.Table.{AreDistinct};
+ghost use Rattle.base_tables.specs.Table.{AreDistinct};
 ghost use Rattle.event_nodes.specs.View.{EventCircuitView};
 ghost use Rattle.class_queries.specs.Enables.{both_of};
 ghost use Rattle.class_queries.specs.Laws.{AreKept};
@@ -23,11 +23,11 @@ use crate::sides::with_sides;
 use aig::Aig;
 use assume_queries::assume_answers::VariableOrder;
 use assume_queries::{OwnFunction, UnderError, asked_under};
+use base_tables::PlaceTable;
 use event_nodes::EventGraph;
 use event_variables::ranked_nodes::{RankedNodes, ranks_of};
 use graph_copy::graph_clone::{GraphCopy, copy_graph};
 use obligations::Obligation;
-use sec_base::PlaceTable;
 use std::alloc::Global;
 
 /// What is asked of pairs under an assumption.

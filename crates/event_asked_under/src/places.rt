@@ -3,8 +3,9 @@
 ghost use Rattle.std.specs.Prelude.{◌≡◌, ℕ, ◌≤◌, length, slice_get, Some, IfOk};
 ghost use Rattle.event_variables.specs.ranked_nodes.Named.{ranked_in};
 
+use base_tables::PlaceTable;
 use event_nodes::EventGraph;
-use sec_base::{NoMemory, PlaceTable};
+use sec_base::NoMemory;
 use std::alloc::Global;
 
 /// The variables by their numbers: the input of each, and for its event node the place that is given.

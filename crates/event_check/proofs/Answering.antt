@@ -12,7 +12,7 @@ use Rattle.outcome.specs.declared.verdict.Outcome.{Outcome}
 use Rattle.sec_setup.specs.Matching.{InterfacesMatch, InterfaceFails as NoMatch}
 use Rattle.sec_setup.specs.declared.error.SetupError.{SetupError}
 use Rattle.sec_setup.specs.declared.error.SetupError.TheVariants as unset
-use Rattle.event_meaning.specs.under_base.compare_base.Compared.{refusal_of}
+use Rattle.under_base.specs.compare_base.Compared.{refusal_of}
 use Rattle.event_nodes.specs.View.{EventCircuitView}
 use Rattle.event_answers.specs.Circuits.{AreNets}
 use Rattle.event_answers.specs.Compared.{ComparedInEvents, IsComparedInEvents}

@@ -6,8 +6,8 @@ use Rattle.interface.specs.Pairs.{ArePairsOf}
 use Rattle.event_answers.specs.class_events.Made.{AreEnablesCounted}
 use Rattle.class_queries.specs.Laws.{AreKept}
 use Rattle.event_nodes.specs.View.{EventCircuitView}
-use Rattle.event_answers.specs.event_agreement.pair_events.View.{EventsView, IsEvents}
-use Rattle.event_answers.specs.event_agreement.pair_events.Within.{IsCountedOnce}
+use Rattle.event_agreement.specs.pair_events.View.{EventsView, IsEvents}
+use Rattle.event_agreement.specs.pair_events.Within.{IsCountedOnce}
 use Rattle.event_answers.specs.Findings.{FindingsFit}
 use Rattle.event_answers.specs.EventFindings.{EventFindings}
 use Rattle.event_answers.specs.EventPairs.{EventPairs}

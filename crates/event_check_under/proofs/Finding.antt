@@ -6,16 +6,16 @@ use Rattle.event_answers.specs.class_events.Made.{AreEnablesCounted}
 use Rattle.class_queries.specs.Enables.{both_of}
 use Rattle.class_queries.specs.Laws.{AreKept}
 use Rattle.event_nodes.specs.View.{EventCircuitView}
-use Rattle.event_answers.specs.event_agreement.pair_events.View.{EventsView, IsEvents}
-use Rattle.event_answers.specs.event_agreement.pair_events.Within.{IsCountedOnce}
+use Rattle.event_agreement.specs.pair_events.View.{EventsView, IsEvents}
+use Rattle.event_agreement.specs.pair_events.Within.{IsCountedOnce}
 use Rattle.event_answers.specs.EventFindings.{EventFindings}
 use Rattle.event_answers.specs.EventPairs.{EventPairs}
-use Rattle.event_answers_under.specs.assume_sequences.Assumed.{CanBeAssumed, IsAssumedBy}
-use Rattle.event_answers_under.specs.assume_sequences.declared.premise.Premise.{Premise}
-use Rattle.event_answers_under.proofs.assume_sequences.Numbers.{number_below}
-use Rattle.event_answers_under.specs.assume_sequences.Filled.{bit_of}
+use Rattle.assume_sequences.specs.Assumed.{CanBeAssumed, IsAssumedBy}
+use Rattle.assume_sequences.specs.declared.premise.Premise.{Premise}
+use Rattle.assume_sequences.proofs.Numbers.{number_below}
+use Rattle.assume_sequences.specs.Filled.{bit_of}
 use Rattle.assume_laws.specs.assume_shape.Shape.{assumption_of}
-use Rattle.event_answers_under.specs.event_under.Places.{IsLightAtNodes, IsOverAtNodes}
+use Rattle.event_shown_under.specs.event_under.Places.{IsLightAtNodes, IsOverAtNodes}
 use Rattle.event_answers.specs.Askable.{AreAskable, IsAskedBy}
 use Rattle.event_answers.specs.EventFormError.TheVariants as form_error
 use Rattle.event_answers.specs.Finding.{AreNotUnfolded, AreUnfolded, IsNamedFound}
@@ -24,7 +24,7 @@ use Rattle.event_names.specs.declared.names.Names.{Names}
 use Rattle.event_answers.specs.declared.outcomes.Found.{Found}
 use Rattle.event_answers.specs.declared.reaching.Asked.{Asked}
 use Rattle.event_answers.proofs.Finding.{long, not_unfolded, unfolded}
-use Rattle.event_answers_under.specs.Pairs.{ArePairsFoundUnder, FindsPairsUnder}
+use Rattle.event_check_under.specs.event_answers_under.Pairs.{ArePairsFoundUnder, FindsPairsUnder}
 use Rattle.event_check_under.proofs.event_names_under.Naming.{verdict_named_under}
 use Rattle.event_under_form.specs.Formed.{ArePairsLight, ArePairsOver, AreRefusedUnder, FindingsFitAssumed}
 use Rattle.event_under_form.specs.declared.error.EventUnderError.{EventUnderError}

@@ -2,7 +2,7 @@
 use Rattle.std.specs.Prelude.{◌≡◌}
 use Rattle.flat_net.specs.Comparable.{IsComparable}
 use Rattle.sec_setup.specs.Matching.{InterfacesMatch}
-use Rattle.event_answers_under.specs.under_base.Met.{shared_by}
+use Rattle.under_base.specs.Met.{shared_by}
 use Rattle.event_check_under.specs.declared.circuits.Circuits.{Circuits}
 
 -- All three can be compared, the interfaces of the first two match, and the names are those that these share.

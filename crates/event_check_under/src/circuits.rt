@@ -3,10 +3,11 @@
 ghost use Rattle.std.specs.Prelude.{◌≡◌, ◌<◌, [], ◌∷◌, length, Some, IfOk};
 ghost use Rattle.flat_net.specs.declared.parts.Port.{Port};
 
+use base_tables::NameTable;
 use event_answers::{Found, outcome_of};
 use flat_net::Net;
 use outcome::Outcome;
-use sec_base::{NameTable, NoMemory, Words};
+use sec_base::{NoMemory, Words};
 
 /// Two circuits, a third that is assumed of their inputs, and the names of the inputs that the two share.
 #[derive(Clone, Copy)]

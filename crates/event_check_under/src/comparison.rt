@@ -2,16 +2,16 @@
 
 ghost use Rattle.std.specs.Prelude.{◌≡◌, ◌+◌, ◌≤◌, length};
 ghost use Rattle.flat_net.specs.Comparable.{IsComparable};
-ghost use Rattle.event_answers_under.specs.assume_sequences.assume_taken.Premises.{IsPremiseOf};
+ghost use Rattle.assume_sequences.specs.assume_taken.Premises.{IsPremiseOf};
 ghost use Rattle.event_answers.specs.Reached.{AreClassed};
 ghost use Rattle.event_meaning.specs.event_meaning_under.Answered.{ComparedInEventsUnder};
-ghost use Rattle.event_answers_under.specs.under_base.Refusals.{refusal_of};
+ghost use Rattle.under_base.specs.Refusals.{refusal_of};
 ghost use Rattle.event_check_under.specs.Circuits.{AreMatched};
 
 use crate::circuits::{Circuits, outcome_under};
+use crate::event_answers_under::{CompareError, Premise, TakeError, Taken, take, widen};
 use crate::pairs::compare_pairs;
 use event_answers::{Classed, Reached, limit_found, reach_pairs};
-use event_answers_under::{CompareError, Premise, TakeError, Taken, take, widen};
 use flat_net::Net;
 use outcome::{LimitAt, Outcome, Settings};
 use sec_base::{MAX_CONFLICTS, Words};

@@ -3,6 +3,7 @@
 
 mod circuits;
 mod comparison;
+pub mod event_answers_under;
 pub mod event_names_under;
 mod pairs;
 

@@ -3,14 +3,14 @@
 ghost use Rattle.std.specs.Prelude.{◌≡◌, ◌≤◌, length};
 ghost use Rattle.event_answers.specs.class_events.Made.{AreEnablesCounted};
 ghost use Rattle.event_answers.specs.class_events.Separated.{AreSeparated};
-ghost use Rattle.event_answers_under.specs.assume_sequences.Assumed.{CanBeAssumed};
+ghost use Rattle.assume_sequences.specs.Assumed.{CanBeAssumed};
 ghost use Rattle.event_answers.specs.Askable.{AreAskable};
-ghost use Rattle.event_answers_under.specs.Pairs.{FindsPairsUnder};
+ghost use Rattle.event_check_under.specs.event_answers_under.Pairs.{FindsPairsUnder};
 ghost use Rattle.event_check_under.specs.Refusals.{refusal_under};
 
+use crate::event_answers_under::{CompareError, Premise};
 use assume_laws::assume_shape::ShapeFault;
 use event_answers::{Asked, EventPairs, Found, Names, Separated, named_findings};
-use event_answers_under::{CompareError, Premise};
 use event_under_form::{EventUnderError, compare_events_under};
 use sec_base::MAX_CONFLICTS;
 use std::alloc::Global;

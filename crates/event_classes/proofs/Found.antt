@@ -16,23 +16,23 @@ use Rattle.flat_net.proofs.Places.{All-at, one_at}
 use Rattle.aig.specs.Values.{value}
 use Rattle.aig.proofs.Meaning.{value-grows}
 use Rattle.sec_base.specs.declared.basics.Tag.{Tag}
-use Rattle.class_fits.specs.pair_decide.Queries.{assigned_to}
+use Rattle.class_search.specs.pair_decide.Queries.{assigned_to}
 use Rattle.event_nodes.specs.Nodes.{EventGraphView, IsEventGraph, GrowsEvents}
 use Rattle.event_nodes.specs.View.{EventCircuitView}
-use Rattle.class_totals.specs.event_variables.Variables.{variables_of}
-use Rattle.class_totals.proofs.event_variables.Cones.{reached_among}
-use Rattle.class_fits.specs.class_search.declared.compare.Enable.{Enable}
-use Rattle.class_fits.specs.class_search.Comparing.{IsReadyEnable}
-use Rattle.class_fits.proofs.class_search.Queries.{distinct_in_order}
-use Rattle.class_totals.specs.class_queries.Enables.{both_of, IsEnableFunction}
-use Rattle.class_totals.specs.class_queries.Laws.{AreKept}
-use Rattle.class_totals.proofs.class_queries.Meaning.{equal_law}
-use Rattle.class_totals.proofs.class_queries.Staying.{functions_grow_with_graph}
-use Rattle.class_fits.specs.class_search.declared.class.Class.{Class}
-use Rattle.class_fits.specs.class_search.declared.told.Difference.{Difference}
-use Rattle.class_fits.specs.class_search.declared.told.Told.{Told}
-use Rattle.class_fits.specs.class_search.Told.{IsTold, IsAlwaysTold}
-use Rattle.class_fits.specs.class_search.Search.{AreReadyClasses, AreTold, IsFit}
+use Rattle.event_variables.specs.Variables.{variables_of}
+use Rattle.event_variables.proofs.Cones.{reached_among}
+use Rattle.class_search.specs.declared.compare.Enable.{Enable}
+use Rattle.class_search.specs.Comparing.{IsReadyEnable}
+use Rattle.class_search.proofs.Queries.{distinct_in_order}
+use Rattle.class_queries.specs.Enables.{both_of, IsEnableFunction}
+use Rattle.class_queries.specs.Laws.{AreKept}
+use Rattle.class_queries.proofs.Meaning.{equal_law}
+use Rattle.class_queries.proofs.Staying.{functions_grow_with_graph}
+use Rattle.class_search.specs.declared.class.Class.{Class}
+use Rattle.class_search.specs.declared.told.Difference.{Difference}
+use Rattle.class_search.specs.declared.told.Told.{Told}
+use Rattle.class_search.specs.Told.{IsTold, IsAlwaysTold}
+use Rattle.class_search.specs.Search.{AreReadyClasses, AreTold, IsFit}
 use Rattle.class_fits.specs.Members.{HasMembers, HaveMembers}
 use Rattle.class_extension.specs.Telling.{TellsApart, TellsFromAlways}
 use Rattle.class_separations.specs.Telling.{IsToldIn, AreToldIn}
@@ -40,8 +40,8 @@ use Rattle.class_separations.specs.Apart.{HaveOwnVariables, IsToldOf, AreToldOf}
 use Rattle.class_separations.proofs.Variables.{variables_same, within_later}
 use Rattle.class_separations.proofs.Telling.{told_apart, told_always}
 use Rattle.event_classes.specs.declared.map.ClassMap.{ClassMap}
-use Rattle.class_fits.specs.class_search.declared.search.Fit.{Fit}
-use Rattle.class_fits.specs.class_search.declared.search.Fit.TheVariants as fit
+use Rattle.class_search.specs.declared.search.Fit.{Fit}
+use Rattle.class_search.specs.declared.search.Fit.TheVariants as fit
 use Rattle.event_classes.specs.Map.{IsMade, IsEnableAt, IsOwnAt, AreToldAt, AreToldBy, places_in, taken_of}
 use Rattle.event_classes.proofs.Setting.{next_enabled}
 

@@ -11,4 +11,3 @@ pub mod Refusing
 pub mod WholeMap
 pub mod Limiting
 pub mod Stopping
-pub use Rattle.class_extension.proofs as class_extension

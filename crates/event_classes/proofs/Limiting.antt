@@ -12,20 +12,20 @@ use Rattle.aig.specs.declared.node.Lit.{Lit}
 use Rattle.flat_net.proofs.Nets.{some_at}
 use Rattle.flat_net.proofs.Places.{one_at}
 use Rattle.sec_base.specs.declared.basics.Tag.{Tag}
-use Rattle.class_fits.specs.pair_decide.declared.query.Proof.{Proof}
+use Rattle.class_search.specs.pair_decide.declared.query.Proof.{Proof}
 use Rattle.event_nodes.specs.Nodes.{EventGraphView, GrowsEvents}
-use Rattle.class_fits.specs.event_order.Order.{IsTagOf}
-use Rattle.class_totals.specs.event_variables.Variables.{variables_of}
-use Rattle.class_fits.specs.pair_decide.declared.query.Query.{Query}
-use Rattle.class_fits.specs.class_search.Comparing.{IsReadyEnable}
-use Rattle.class_fits.specs.class_search.declared.compare.Enable.{Enable}
-use Rattle.class_totals.specs.class_queries.Enables.{both_of, IsEnableFunction, AsksEnables}
-use Rattle.class_totals.specs.class_queries.Laws.{AreKept}
-use Rattle.class_totals.proofs.class_queries.Staying.{functions_grow_with_graph}
-use Rattle.class_fits.specs.class_search.declared.class.Class.{Class}
-use Rattle.class_fits.specs.class_search.declared.search.Unfit.{Unfit}
-use Rattle.class_fits.specs.class_search.declared.search.Unfit.TheVariants as unfit
-use Rattle.class_fits.specs.class_search.Search.{IsUnfit}
+use Rattle.event_order.specs.Order.{IsTagOf}
+use Rattle.event_variables.specs.Variables.{variables_of}
+use Rattle.class_search.specs.pair_decide.declared.query.Query.{Query}
+use Rattle.class_search.specs.Comparing.{IsReadyEnable}
+use Rattle.class_search.specs.declared.compare.Enable.{Enable}
+use Rattle.class_queries.specs.Enables.{both_of, IsEnableFunction, AsksEnables}
+use Rattle.class_queries.specs.Laws.{AreKept}
+use Rattle.class_queries.proofs.Staying.{functions_grow_with_graph}
+use Rattle.class_search.specs.declared.class.Class.{Class}
+use Rattle.class_search.specs.declared.search.Unfit.{Unfit}
+use Rattle.class_search.specs.declared.search.Unfit.TheVariants as unfit
+use Rattle.class_search.specs.Search.{IsUnfit}
 use Rattle.class_fits.specs.Members.{HaveMembers}
 use Rattle.class_fits.proofs.Fitting.{limit_asked}
 use Rattle.class_separations.proofs.Variables.{variables_same, merged_variables}

@@ -8,10 +8,10 @@ use Rattle.flat_net.proofs.CutNets.{slice_get-append_cases}
 use Rattle.flat_net.proofs.Nets.{some_at}
 use Rattle.sec_base.specs.declared.basics.Tag.{Tag}
 use Rattle.event_nodes.specs.Nodes.{EventGraphView}
-use Rattle.class_fits.specs.event_order.Order.{IsTagOf}
-use Rattle.class_fits.specs.class_search.declared.class.Class.{Class}
-use Rattle.class_fits.specs.class_search.declared.told.Difference.{Difference}
-use Rattle.class_fits.specs.class_search.declared.told.Told.{Told}
+use Rattle.event_order.specs.Order.{IsTagOf}
+use Rattle.class_search.specs.declared.class.Class.{Class}
+use Rattle.class_search.specs.declared.told.Difference.{Difference}
+use Rattle.class_search.specs.declared.told.Told.{Told}
 use Rattle.class_separations.specs.declared.apart.Apart.{Apart}
 use Rattle.class_separations.specs.Telling.{HasKept, IsApartOf, always_apart}
 use Rattle.event_classes.specs.Named.{NamesLatches, AreNamed}

@@ -3,7 +3,7 @@ use Rattle.std.proofs.Common.{◌≡◌, ◌∙◌, ◌<◌, ◌≤◌, ℕ, suc
 use Rattle.std.specs.Prelude.{Contains}
 use Rattle.std.specs.List.{All}
 use Rattle.std.proofs.lemmas.List.{length-set}
-use Rattle.std.proofs.lemmas.List.Elements.{All-nil, All-push}
+use Rattle.std.proofs.lemmas.List.Elements.{All-nil, All-push, Contains-append_right}
 use Rattle.std.proofs.lemmas.Option.{slice_get_within}
 use Rattle.circuit_theory.specs.Depth.{LatchesHaveDepths}
 use Rattle.circuit_theory.specs.Joined.{Either}
@@ -12,21 +12,21 @@ use Rattle.sec_base.specs.declared.basics.Tag.{Tag}
 use Rattle.event_nodes.specs.Nodes.{EventGraphView, IsEventGraph, GrowsEvents}
 use Rattle.event_nodes.specs.View.{EventCircuitView}
 use Rattle.event_nodes.specs.Visited.{IsWeighed}
-use Rattle.class_fits.specs.event_order.Order.{IsTagOf, place_of}
+use Rattle.event_order.specs.Order.{IsTagOf, place_of}
 use Rattle.flat_net.proofs.Places.{All-at}
-use Rattle.class_fits.specs.class_search.declared.compare.Enable.{Enable}
-use Rattle.class_fits.specs.class_search.Comparing.{IsReadyEnable}
+use Rattle.class_search.specs.declared.compare.Enable.{Enable}
+use Rattle.class_search.specs.Comparing.{IsReadyEnable}
 use Rattle.class_extension.specs.Laws.{IsNextGiven}
 use Rattle.flat_net.specs.View.{circuit_of}
-use Rattle.class_totals.specs.class_queries.Enables.{both_of, class_map, IsEnableFunction}
-use Rattle.class_totals.specs.class_queries.Laws.{AreKept}
-use Rattle.class_totals.proofs.class_queries.Staying.{functions_grow_with_graph}
+use Rattle.class_queries.specs.Enables.{both_of, class_map, IsEnableFunction}
+use Rattle.class_queries.specs.Laws.{AreKept}
+use Rattle.class_queries.proofs.Staying.{functions_grow_with_graph}
 use Rattle.class_fits.specs.class_joining.Joining.{HasJoined}
 use Rattle.class_fits.proofs.class_joining.Tables.{found_fits}
-use Rattle.class_fits.specs.class_search.declared.class.Class.{Class}
-use Rattle.class_fits.specs.class_search.declared.search.Fit.{Fit}
-use Rattle.class_fits.specs.class_search.declared.search.Fit.TheVariants as fit
-use Rattle.class_fits.specs.class_search.Search.{IsFit}
+use Rattle.class_search.specs.declared.class.Class.{Class}
+use Rattle.class_search.specs.declared.search.Fit.{Fit}
+use Rattle.class_search.specs.declared.search.Fit.TheVariants as fit
+use Rattle.class_search.specs.Search.{IsFit}
 use Rattle.class_fits.specs.Members.{IsAmong, HaveMembers, class_of_fit}
 use Rattle.class_fits.proofs.Fitting.{fit_first}
 use Rattle.event_classes.specs.declared.map.ClassMap.{ClassMap}
@@ -39,12 +39,11 @@ use Rattle.class_separations.specs.declared.apart.Apart.{Apart}
 use Rattle.class_separations.specs.Apart.{AreTakenMembers, AreToldApart}
 use Rattle.class_separations.specs.Telling.{HasKept}
 use Rattle.class_separations.proofs.Going.{told_grows, told_stays, told_joins, told_founds}
-use Rattle.class_fits.specs.class_search.declared.told.Difference.{Difference}
-use Rattle.class_fits.specs.class_search.declared.told.Told.{Told}
+use Rattle.class_search.specs.declared.told.Difference.{Difference}
+use Rattle.class_search.specs.declared.told.Told.{Told}
 use Rattle.circuit_theory.specs.Frame.{EventSide}
 use Rattle.flat_net.proofs.Nets.{some_at}
 use Rattle.circuit_theory.proofs.Lists.{Contains-head}
-use Rattle.std.proofs.lemmas.List.Elements.{Contains-append_right}
 use Rattle.event_classes.proofs.Setting.{next_enabled, goes_on_with, next_given, class_now}
 use Rattle.event_classes.proofs.Standing.{stand_grows, classes_ready, class_within, function_moves, at_set, stand_known, stand_always, stand_joined, stand_founded}
 

@@ -4,10 +4,10 @@ use Rattle.std.proofs.lemmas.List.Elements.{All-weaker, All-get_or}
 use Rattle.circuit_theory.specs.Query.{Variable}
 use Rattle.circuit_theory.specs.Frame.{NodeBefore}
 use Rattle.event_nodes.specs.Nodes.{EventGraphView, IsEventGraph, GrowsEvents}
-use Rattle.class_totals.specs.event_variables.Variables.{AreInOrder, variable_of}
-use Rattle.class_fits.specs.class_search.declared.compare.Enable.{Enable}
-use Rattle.class_fits.specs.class_search.Comparing.{IsReadyEnable}
-use Rattle.class_fits.proofs.class_search.Queries.{ready_later}
+use Rattle.event_variables.specs.Variables.{AreInOrder, variable_of}
+use Rattle.class_search.specs.declared.compare.Enable.{Enable}
+use Rattle.class_search.specs.Comparing.{IsReadyEnable}
+use Rattle.class_search.proofs.Queries.{ready_later}
 use Rattle.class_separations.proofs.Variables.{variable_same}
 
 module _ (w x : EventGraphView) (is : IsEventGraph w) (grows : GrowsEvents w x) where

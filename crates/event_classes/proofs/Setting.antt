@@ -16,10 +16,10 @@ use Rattle.flat_net.specs.Sound.{IsSound}
 use Rattle.flat_net.specs.View.{NetView, circuit_of}
 use Rattle.sec_base.specs.declared.basics.Tag.{Tag}
 use Rattle.event_nodes.specs.Nodes.{EventGraphView}
-use Rattle.event_nodes.specs.View.{EventCircuitView, IsEventCircuit}
+use Rattle.event_nodes.specs.View.{EventCircuitView, IsEventCircuit, class_at}
 use Rattle.event_nodes.specs.Visited.{CounterView, IsWeighed}
-use Rattle.class_fits.specs.event_order.Order.{place_of, IsTagOf}
-use Rattle.class_totals.specs.class_queries.Enables.{both_of, class_map}
+use Rattle.event_order.specs.Order.{place_of, IsTagOf}
+use Rattle.class_queries.specs.Enables.{both_of, class_map}
 use Rattle.class_fits.specs.class_joining.Joining.{with_class, HasJoined}
 use Rattle.class_fits.proofs.class_joining.Classes.{class_kept}
 use Rattle.class_fits.proofs.class_joining.Giving.{class_given}
@@ -28,7 +28,6 @@ use Rattle.class_separations.specs.Apart.{AreToldApart}
 use Rattle.class_totals.specs.Totals.{HaveCounted}
 use Rattle.class_totals.proofs.Going.{totals_stay}
 use Rattle.flat_net.proofs.Nets.{sound_is_net}
-use Rattle.event_nodes.specs.View.{class_at}
 use Rattle.event_classes.specs.declared.map.ClassMap.{ClassMap}
 use Rattle.event_classes.specs.Named.{AreNamed}
 use Rattle.event_classes.specs.Stand.{IsStand}

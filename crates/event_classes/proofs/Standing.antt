@@ -18,15 +18,15 @@ use Rattle.flat_net.proofs.Places.{one_at}
 use Rattle.sec_base.specs.declared.basics.Tag.{Tag}
 use Rattle.event_nodes.specs.Nodes.{EventGraphView, IsEventGraph, GrowsEvents}
 use Rattle.event_nodes.specs.View.{EventCircuitView}
-use Rattle.class_fits.specs.class_search.declared.compare.Enable.{Enable}
-use Rattle.class_fits.specs.class_search.Comparing.{IsReadyEnable}
-use Rattle.class_totals.specs.class_queries.Enables.{both_of, IsEnableFunction}
-use Rattle.class_totals.specs.class_queries.Laws.{AreKept}
-use Rattle.class_totals.proofs.class_queries.Meaning.{numbered}
+use Rattle.class_search.specs.declared.compare.Enable.{Enable}
+use Rattle.class_search.specs.Comparing.{IsReadyEnable}
+use Rattle.class_queries.specs.Enables.{both_of, IsEnableFunction}
+use Rattle.class_queries.specs.Laws.{AreKept}
+use Rattle.class_queries.proofs.Meaning.{numbered}
 use Rattle.class_fits.specs.class_joining.Joining.{HasJoined, AreKnownEnables}
 use Rattle.class_fits.proofs.class_joining.Tables.{goes_on, grows_on}
-use Rattle.class_fits.specs.class_search.declared.class.Class.{Class}
-use Rattle.class_fits.specs.class_search.Search.{AreReadyClasses}
+use Rattle.class_search.specs.declared.class.Class.{Class}
+use Rattle.class_search.specs.Search.{AreReadyClasses}
 use Rattle.class_fits.specs.Members.{IsAmong, HasMembers}
 use Rattle.class_fits.proofs.Members.{members_grow_on, members_stay_on, members_join_on}
 use Rattle.event_classes.specs.Stand.{IsStand}

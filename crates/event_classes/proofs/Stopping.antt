@@ -18,12 +18,12 @@ use Rattle.circuit_theory.specs.Frame.{EventSide}
 use Rattle.flat_net.specs.Sound.{IsSound}
 use Rattle.flat_net.specs.View.{NetView, circuit_of}
 use Rattle.sec_base.specs.declared.basics.Tag.{Tag}
-use Rattle.sec_base.specs.Table.{AreDistinct}
-use Rattle.class_fits.specs.pair_decide.declared.query.Proof.{Proof}
+use Rattle.base_tables.specs.Table.{AreDistinct}
+use Rattle.class_search.specs.pair_decide.declared.query.Proof.{Proof}
 use Rattle.event_nodes.specs.Nodes.{IsEventGraph}
 use Rattle.event_nodes.specs.View.{EventCircuitView, Enabled}
-use Rattle.class_fits.specs.event_order.Order.{place_of, IsTagOf, IsTagOrder}
-use Rattle.class_totals.specs.class_queries.Enables.{both_of, class_map}
+use Rattle.event_order.specs.Order.{place_of, IsTagOf, IsTagOrder}
+use Rattle.class_queries.specs.Enables.{both_of, class_map}
 use Rattle.class_fits.proofs.class_joining.Bounds.{depths_of_both}
 use Rattle.class_totals.specs.Totals.{AreWithin}
 use Rattle.class_totals.proofs.Over.{totals_are_within}

@@ -5,15 +5,15 @@ use Rattle.circuit_theory.specs.EventFrames.{AreNodeVariables, IsClassTree}
 use Rattle.circuit_theory.specs.EventTotals.{IsAsked}
 use Rattle.circuit_theory.specs.Frame.{EventSide}
 use Rattle.sec_base.specs.declared.basics.Tag.{Tag}
-use Rattle.class_fits.specs.pair_decide.declared.query.Proof.{Proof}
-use Rattle.class_fits.specs.pair_decide.declared.query.Query.{Query}
-use Rattle.class_fits.specs.pair_decide.Answers.{IsAtLimit}
+use Rattle.class_search.specs.pair_decide.declared.query.Proof.{Proof}
+use Rattle.class_search.specs.pair_decide.declared.query.Query.{Query}
+use Rattle.class_search.specs.pair_decide.Answers.{IsAtLimit}
 use Rattle.event_nodes.specs.Nodes.{EventGraphView, IsEventGraph}
-use Rattle.class_totals.specs.event_variables.Variables.{variables_of}
-use Rattle.class_totals.specs.class_queries.Enables.{IsEnableFunction, AsksEnables}
-use Rattle.class_fits.specs.class_search.declared.class.Class.{Class}
-use Rattle.class_fits.specs.class_search.declared.search.Unfit.{Unfit}
-use Rattle.class_fits.specs.class_search.declared.search.Unfit.TheVariants as unfit
+use Rattle.event_variables.specs.Variables.{variables_of}
+use Rattle.class_queries.specs.Enables.{IsEnableFunction, AsksEnables}
+use Rattle.class_search.specs.declared.class.Class.{Class}
+use Rattle.class_search.specs.declared.search.Unfit.{Unfit}
+use Rattle.class_search.specs.declared.search.Unfit.TheVariants as unfit
 use Rattle.event_classes.specs.declared.error.EventError.{EventError}
 use Rattle.event_classes.specs.declared.error.EventError.TheVariants as event_error
 

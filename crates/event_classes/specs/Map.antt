@@ -13,18 +13,18 @@ use Rattle.aig.specs.declared.node.Node.TheVariants.{Constant}
 use Rattle.event_nodes.specs.Nodes.{EventGraphView}
 use Rattle.event_nodes.specs.View.{EventCircuitView}
 use Rattle.event_nodes.specs.Visited.{IsWeighed}
-use Rattle.class_fits.specs.event_order.Order.{place_of}
+use Rattle.event_order.specs.Order.{place_of}
 use Rattle.class_totals.specs.Functions.{IsEnableFunctionOf}
-use Rattle.class_fits.specs.class_search.declared.compare.Enable.{Enable}
-use Rattle.class_totals.specs.class_queries.Enables.{both_of, IsEnableFunction}
+use Rattle.class_search.specs.declared.compare.Enable.{Enable}
+use Rattle.class_queries.specs.Enables.{both_of, IsEnableFunction}
 use Rattle.class_fits.specs.class_joining.Joining.{with_class}
 use Rattle.event_classes.specs.declared.map.ClassMap.{ClassMap}
 use Rattle.circuit_theory.specs.EventFrames.{AreNodeVariables, IsClassTree}
-use Rattle.class_totals.specs.event_variables.Variables.{variables_of}
-use Rattle.class_fits.specs.class_search.declared.search.Fit.{Fit}
-use Rattle.class_fits.specs.class_search.declared.search.Fit.TheVariants as fit
-use Rattle.class_fits.specs.class_search.declared.told.Difference.{Difference}
-use Rattle.class_fits.specs.class_search.declared.told.Told.{Told}
+use Rattle.event_variables.specs.Variables.{variables_of}
+use Rattle.class_search.specs.declared.search.Fit.{Fit}
+use Rattle.class_search.specs.declared.search.Fit.TheVariants as fit
+use Rattle.class_search.specs.declared.told.Difference.{Difference}
+use Rattle.class_search.specs.declared.told.Told.{Told}
 use Rattle.class_separations.specs.Apart.{AreToldApart, AreToldOf}
 use Rattle.class_separations.specs.Telling.{AreToldIn}
 use Rattle.class_totals.specs.Totals.{HaveCounted, AreWithin}

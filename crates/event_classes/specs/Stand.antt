@@ -6,10 +6,10 @@ use Rattle.circuit_theory.specs.EventTotals.{IsMapSoFar}
 use Rattle.sec_base.specs.declared.basics.Tag.{Tag}
 use Rattle.event_nodes.specs.Nodes.{EventGraphView}
 use Rattle.event_nodes.specs.View.{EventCircuitView}
-use Rattle.class_totals.specs.class_queries.Enables.{both_of}
+use Rattle.class_queries.specs.Enables.{both_of}
 use Rattle.class_fits.specs.class_joining.Joining.{AreKnownEnables}
-use Rattle.class_fits.specs.class_search.declared.class.Class.{Class}
-use Rattle.class_fits.specs.class_search.Search.{AreReadyClasses}
+use Rattle.class_search.specs.declared.class.Class.{Class}
+use Rattle.class_search.specs.Search.{AreReadyClasses}
 use Rattle.class_fits.specs.Members.{HaveMembers}
 
 -- Of the enabled latches of both circuits, in their order, these have their classes: the classes are so many, the table has the enables of

@@ -3,11 +3,11 @@
 ghost use Rattle.std.specs.Prelude.{◌≡◌, ◌<◌, ◌≤◌, ℕ, suc, List, ◌∷◌, length, Option, Err, true, is_ok, OnOk};
 ghost use Rattle.circuit_theory.specs.declared.Side.{Side};
 ghost use Rattle.circuit_theory.specs.Joined.{Either};
-ghost use Rattle.class_fits.specs.class_search.Comparing.{IsReadyEnable};
-ghost use Rattle.class_fits.specs.event_order.Order.{IsTagOf};
+ghost use Rattle.class_search.specs.Comparing.{IsReadyEnable};
+ghost use Rattle.event_order.specs.Order.{IsTagOf};
 ghost use Rattle.class_fits.specs.Members.{class_of_fit};
-ghost use Rattle.class_fits.specs.class_search.declared.search.Fit.TheVariants as fit_is;
-ghost use Rattle.class_fits.specs.pair_decide.declared.query.Proof.{Proof};
+ghost use Rattle.class_search.specs.declared.search.Fit.TheVariants as fit_is;
+ghost use Rattle.class_search.specs.pair_decide.declared.query.Proof.{Proof};
 ghost use Rattle.sec_base.specs.declared.basics.Tag.{Tag};
 ghost use Rattle.event_classes.specs.declared.error.EventError.TheVariants as event_error;
 ghost use Rattle.event_classes.specs.Limits.{IsNamed, IsErrorOf};

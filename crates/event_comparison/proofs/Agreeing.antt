@@ -18,16 +18,16 @@ use Rattle.class_queries.specs.Enables.{both_of}
 use Rattle.class_queries.specs.Laws.{AreKept}
 use Rattle.event_nodes.specs.Nodes.{EventGraphView}
 use Rattle.event_nodes.specs.View.{EventCircuitView}
-use Rattle.event_findings.specs.event_agreement.Laws.{HasSameQuery}
-use Rattle.event_findings.proofs.event_agreement.Agreeing.{queries_agree}
-use Rattle.event_findings.proofs.event_agreement.CutCircuits.{cut_queries_agree}
+use Rattle.event_agreement.specs.Laws.{HasSameQuery}
+use Rattle.event_agreement.proofs.Agreeing.{queries_agree}
+use Rattle.event_agreement.proofs.CutCircuits.{cut_queries_agree}
 use Rattle.interface.specs.declared.pairs.SignalPair.{SignalPair}
 use Rattle.obligations.specs.declared.obligation.Obligation.{Obligation}
 use Rattle.obligations.specs.Decided.{AnswerIs, IsAnswered}
 use Rattle.outcome.specs.declared.verdict.PairResult.{PairResult}
 use Rattle.pair_decide.specs.declared.query.Proof.{Proof}
 use Rattle.pair_decide.specs.Queries.{IsSame}
-use Rattle.event_findings.specs.event_form.Asked.{AreAsked, IsAskedOf}
+use Rattle.event_form.specs.Asked.{AreAsked, IsAskedOf}
 use Rattle.event_comparison.specs.Agreement.{AreAllPairs, CircuitsAgree}
 
 module _ (s : EventSide (Either ℕ ℕ)) (w : EventGraphView) (cut : Bool) (conflicts : ℕ) where

@@ -14,9 +14,9 @@ use Rattle.obligations.specs.declared.obligation.Obligation.{Obligation}
 use Rattle.obligations.specs.Decided.{AnswerIs, IsAnswered}
 use Rattle.outcome.specs.declared.verdict.PairResult.{PairResult}
 use Rattle.pair_decide.specs.declared.query.Proof.{Proof}
-use Rattle.event_findings.specs.event_form.Answers.{PairFits}
-use Rattle.event_findings.specs.event_form.Asked.{AreAsked, IsAskedOf}
-use Rattle.event_findings.proofs.event_form.Answers.{answers_are_fit}
+use Rattle.event_form.specs.Answers.{PairFits}
+use Rattle.event_form.specs.Asked.{AreAsked, IsAskedOf}
+use Rattle.event_form.proofs.Answers.{answers_are_fit}
 use Rattle.event_findings.specs.Compared.{IsEventDepth}
 
 -- each result is that of its pair

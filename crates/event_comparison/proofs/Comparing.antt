@@ -6,12 +6,12 @@ use Rattle.std.proofs.lemmas.List.Elements.{All-contains}
 use Rattle.event_nodes.specs.View.{EventCircuitView}
 use Rattle.interface.specs.declared.pairs.SignalPair.{SignalPair}
 use Rattle.obligations.specs.declared.obligation.Obligation.{Obligation}
-use Rattle.event_findings.specs.event_agreement.pair_events.View.{EventsView, IsWithinLimits, side_of_both}
+use Rattle.event_agreement.specs.pair_events.View.{EventsView, IsWithinLimits, side_of_both}
 use Rattle.event_findings.specs.Separated.{AreSeparated}
-use Rattle.event_findings.specs.class_separations.declared.apart.Apart.{Apart}
-use Rattle.event_findings.specs.event_form.Asked.{AreAsked, IsLater, IsPairOf}
-use Rattle.event_findings.specs.event_form.Counted.{CountsOn}
-use Rattle.event_findings.proofs.event_form.Asking.{pair_on, side_same}
+use Rattle.class_separations.specs.declared.apart.Apart.{Apart}
+use Rattle.event_form.specs.Asked.{AreAsked, IsLater, IsPairOf}
+use Rattle.event_form.specs.Counted.{CountsOn}
+use Rattle.event_form.proofs.Asking.{pair_on, side_same}
 use Rattle.event_comparison.specs.Agreement.{CircuitsAgree}
 use Rattle.event_comparison.specs.Asked.{AreAskedFrom, StayCounted}
 use Rattle.event_findings.specs.Compared.{AreCompared}

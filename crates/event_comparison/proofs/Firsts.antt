@@ -20,11 +20,11 @@ use Rattle.obligations.specs.Decided.{HaveDecided, IsAnswered, IsFirst, IsFirstO
 use Rattle.obligations.specs.Verdict.{IsVerdictAt}
 use Rattle.outcome.specs.declared.verdict.PairResult.{PairResult}
 use Rattle.pair_decide.specs.declared.query.Query.{Query}
-use Rattle.event_findings.specs.event_agreement.pair_events.View.{EventsView, side_of_both}
-use Rattle.event_findings.proofs.swept_queries.Listed.{zip_left}
+use Rattle.event_agreement.specs.pair_events.View.{EventsView, side_of_both}
+use Rattle.obligations.proofs.swept_queries.Listed.{zip_left}
 use Rattle.witness_report.specs.declared.witness.Witness.{Witness}
-use Rattle.event_findings.specs.event_form.Answers.{PairFits}
-use Rattle.event_findings.specs.event_form.Asked.{AreAsked, IsAskedOf, IsDecisive}
+use Rattle.event_form.specs.Answers.{PairFits}
+use Rattle.event_form.specs.Asked.{AreAsked, IsAskedOf, IsDecisive}
 use Rattle.event_findings.specs.UnshownFrame.{UnshownFrame}
 use Rattle.event_findings.specs.Sequences.{IsWitnessOf}
 use Rattle.event_findings.specs.Shown.{IsQueryAt, IsUnshownAt, IsWitnessAt}

@@ -5,10 +5,10 @@ use Rattle.class_queries.specs.Laws.{AreKept}
 use Rattle.event_nodes.specs.Nodes.{IsEventGraph}
 use Rattle.obligations.specs.declared.obligation.Obligation.{Obligation}
 use Rattle.outcome.specs.declared.verdict.PairResult.{PairResult}
-use Rattle.event_findings.specs.event_agreement.pair_events.View.{EventsView, IsEvents, side_of_both}
+use Rattle.event_agreement.specs.pair_events.View.{EventsView, IsEvents, side_of_both}
 use Rattle.sec_base.specs.declared.basics.PairAnswer.TheVariants as answer
-use Rattle.event_findings.specs.event_form.Asked.{AreAsked, IsLater}
-use Rattle.event_findings.proofs.event_form.Asking.{all_asked_on}
+use Rattle.event_form.specs.Asked.{AreAsked, IsLater}
+use Rattle.event_form.proofs.Asking.{all_asked_on}
 use Rattle.event_comparison.specs.Agreement.{CircuitsAgree}
 use Rattle.event_findings.specs.Compared.{AreCompared}
 use Rattle.event_comparison.specs.Decided.{AreFound}

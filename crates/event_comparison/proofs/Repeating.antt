@@ -14,17 +14,17 @@ use Rattle.flat_net.proofs.Nets.{sound_is_net}
 use Rattle.class_queries.specs.Laws.{AreKept}
 use Rattle.event_nodes.specs.View.{EventCircuitView, side_of, Enabled}
 use Rattle.interface.specs.declared.pairs.SignalPair.{SignalPair}
-use Rattle.event_findings.specs.event_agreement.pair_events.Counted.{both_starts}
-use Rattle.event_findings.specs.event_agreement.pair_events.View.{EventsView, IsWithinLimits, circuit_at, side_of_both}
-use Rattle.event_findings.specs.event_agreement.pair_events.Within.{AreTotalsWithin, IsCountedOnce}
-use Rattle.event_findings.proofs.event_agreement.pair_events.Within.{is_within}
-use Rattle.event_findings.specs.event_form.Asked.{IsLater}
-use Rattle.event_findings.specs.event_form.Counted.{CountsOn, left_starts, right_starts}
-use Rattle.event_findings.specs.event_form.Refused.{starts_at, IsRefusedFor}
-use Rattle.event_findings.specs.event_form.Stopped.{IsStoppedFor}
-use Rattle.event_findings.specs.event_form.declared.error.EventFormError.{EventFormError}
-use Rattle.event_findings.specs.event_form.declared.error.EventFormError.TheVariants as form_error
-use Rattle.event_findings.proofs.event_form.Stopping.{never_stopped}
+use Rattle.event_agreement.specs.pair_events.Counted.{both_starts}
+use Rattle.event_agreement.specs.pair_events.View.{EventsView, IsWithinLimits, circuit_at, side_of_both}
+use Rattle.event_agreement.specs.pair_events.Within.{AreTotalsWithin, IsCountedOnce}
+use Rattle.event_agreement.proofs.pair_events.Within.{is_within}
+use Rattle.event_form.specs.Asked.{IsLater}
+use Rattle.event_form.specs.Counted.{CountsOn, left_starts, right_starts}
+use Rattle.event_form.specs.Refused.{starts_at, IsRefusedFor}
+use Rattle.event_form.specs.Stopped.{IsStoppedFor}
+use Rattle.event_form.specs.declared.error.EventFormError.{EventFormError}
+use Rattle.event_form.specs.declared.error.EventFormError.TheVariants as form_error
+use Rattle.event_form.proofs.Stopping.{never_stopped}
 use Rattle.event_comparison.specs.Counted.{AreRefused}
 use Rattle.event_comparison.proofs.Showing.{refused_again}
 

@@ -16,8 +16,8 @@ use Rattle.class_queries.specs.Laws.{AreKept}
 use Rattle.event_nodes.specs.Nodes.{EventGraphView}
 use Rattle.event_nodes.specs.View.{EventCircuitView}
 use Rattle.event_variables.specs.Variables.{variables_of}
-use Rattle.event_findings.specs.event_agreement.Laws.{IsFrameDifference}
-use Rattle.event_findings.proofs.event_agreement.PairQueries.{differences_least}
+use Rattle.event_agreement.specs.Laws.{IsFrameDifference}
+use Rattle.event_agreement.proofs.PairQueries.{differences_least}
 use Rattle.interface.specs.declared.pairs.SignalPair.{SignalPair}
 use Rattle.obligations.specs.declared.obligation.Obligation.{Obligation}
 use Rattle.obligations.specs.Found.{IsDifferenceOf}
@@ -25,9 +25,9 @@ use Rattle.pair_decide.specs.declared.query.Query.{Query}
 use Rattle.pair_decide.specs.Answers.{IsDifference}
 use Rattle.pair_decide.specs.Queries.{assigned_to}
 use Rattle.witness_report.specs.declared.witness.Witness.{Witness}
-use Rattle.event_findings.specs.event_form.Answers as form_answers
-use Rattle.event_findings.specs.event_form.Asked.{IsAskedOf}
-use Rattle.event_findings.proofs.event_form.Answers.{frames_of_differences}
+use Rattle.event_form.specs.Answers as form_answers
+use Rattle.event_form.specs.Asked.{IsAskedOf}
+use Rattle.event_form.proofs.Answers.{frames_of_differences}
 use Rattle.event_findings.specs.UnshownFrame.{UnshownFrame}
 use Rattle.event_findings.specs.Sequences.{HasInputsBelow, IsWitnessOf, rows_at}
 use Rattle.event_findings.specs.Unshown.{IsUnshownOf}

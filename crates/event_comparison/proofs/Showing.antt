@@ -7,7 +7,7 @@ use Rattle.circuit_theory.proofs.Lists.{Contains-map, of_at, zip_length}
 use Rattle.circuit_theory.specs.EventSizes.{Start}
 use Rattle.event_nodes.specs.Nodes.{EventGraphView, IsEventGraph}
 use Rattle.event_nodes.proofs.Growing.{grows_refl}
-use Rattle.event_findings.specs.event_form.Functions.{signal_start}
+use Rattle.event_form.specs.Functions.{signal_start}
 use Rattle.flat_net.proofs.Places.{All-at}
 use Rattle.interface.specs.declared.pairs.SignalPair.{SignalPair}
 use Rattle.obligations.specs.declared.obligation.Difference.{Difference}
@@ -18,17 +18,17 @@ use Rattle.obligations.specs.declared.verdict.VerdictAt.TheVariants as at
 use Rattle.obligations.specs.Decided.{HaveDecided, IsFirst, IsFirstOf}
 use Rattle.obligations.specs.Verdict.{IsVerdictAt}
 use Rattle.outcome.specs.declared.verdict.PairResult.{PairResult}
-use Rattle.event_findings.specs.event_agreement.pair_events.Counted.{HaveCounted}
-use Rattle.event_findings.specs.event_agreement.pair_events.View.{EventsView, side_of_both}
+use Rattle.event_agreement.specs.pair_events.Counted.{HaveCounted}
+use Rattle.event_agreement.specs.pair_events.View.{EventsView, side_of_both}
 use Rattle.sec_base.specs.declared.basics.PairAnswer.{PairAnswer}
 use Rattle.sec_base.specs.declared.basics.PairAnswer.TheVariants as answer
-use Rattle.event_findings.specs.event_form.Asked.{IsAskedOf, IsLater, IsPairOf}
-use Rattle.event_findings.specs.event_form.Counted.{left_starts, right_starts}
-use Rattle.event_findings.specs.event_form.Refused.{IsRefusedFor}
-use Rattle.event_findings.specs.event_form.declared.error.EventFormError.{EventFormError}
-use Rattle.event_findings.proofs.event_form.Asking.{all_asked_on, later_refl}
-use Rattle.event_findings.proofs.event_form.Counted.{none_counted}
-use Rattle.event_findings.proofs.event_form.Refusing.{all_within, nothing_within, one_within, refused_later}
+use Rattle.event_form.specs.Asked.{IsAskedOf, IsLater, IsPairOf}
+use Rattle.event_form.specs.Counted.{left_starts, right_starts}
+use Rattle.event_form.specs.Refused.{IsRefusedFor}
+use Rattle.event_form.specs.declared.error.EventFormError.{EventFormError}
+use Rattle.event_form.proofs.Asking.{all_asked_on, later_refl}
+use Rattle.event_form.proofs.Counted.{none_counted}
+use Rattle.event_form.proofs.Refusing.{all_within, nothing_within, one_within, refused_later}
 use Rattle.event_findings.specs.Shown.{IsShowable}
 use Rattle.event_findings.proofs.Growing.{differences_later}
 use Rattle.event_findings.proofs.Showing.{differences_shown}
@@ -36,7 +36,7 @@ use Rattle.event_findings.specs.Reached.{StaysCounted}
 use Rattle.event_comparison.specs.Asked.{AreAskedFrom, DiffersFirst, IsFoundAt, StayCounted}
 use Rattle.event_comparison.specs.Shown.{OfPair}
 use Rattle.event_findings.specs.declared.pairs.EventPairs.{EventPairs}
-use Rattle.event_findings.specs.class_separations.declared.apart.Apart.{Apart}
+use Rattle.class_separations.specs.declared.apart.Apart.{Apart}
 
 -- the obligation of a pair stands at the pair's place
 pub pair_within : (e : EventsView) (aparts : List Apart) (c : EventPairs) (asked : List Obligation) → AreAskedFrom e aparts c asked → (i : ℕ) (o : Obligation) → slice_get asked i ≡ Some o → i < length c.pairs.now

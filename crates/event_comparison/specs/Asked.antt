@@ -2,7 +2,7 @@
 use Rattle.std.specs.Prelude.{◌≡◌, ℕ, ◌<◌, List, ◌++◌, length, All}
 use Rattle.circuit_theory.specs.EventSizes.{Start}
 use Rattle.event_findings.specs.Separated.{AreSeparated}
-use Rattle.event_findings.specs.class_separations.declared.apart.Apart.{Apart}
+use Rattle.class_separations.specs.declared.apart.Apart.{Apart}
 use Rattle.event_nodes.specs.Nodes.{EventGraphView}
 use Rattle.interface.specs.declared.pairs.SignalPair.{SignalPair}
 use Rattle.obligations.specs.declared.obligation.Difference.{Difference}
@@ -11,12 +11,12 @@ use Rattle.obligations.specs.declared.verdict.VerdictAt.{VerdictAt}
 use Rattle.obligations.specs.declared.verdict.VerdictAt.TheVariants as at
 use Rattle.obligations.specs.Decided.{IsFirstOf}
 use Rattle.outcome.specs.declared.verdict.PairResult.{PairResult}
-use Rattle.event_findings.specs.event_agreement.pair_events.Counted.{HaveCounted}
-use Rattle.event_findings.specs.event_agreement.pair_events.View.{EventsView, IsWithinLimits, side_of_both}
-use Rattle.sec_base.specs.Table.{AreDistinct}
+use Rattle.event_agreement.specs.pair_events.Counted.{HaveCounted}
+use Rattle.event_agreement.specs.pair_events.View.{EventsView, IsWithinLimits, side_of_both}
+use Rattle.base_tables.specs.Table.{AreDistinct}
 use Rattle.sec_base.specs.declared.basics.PairAnswer.TheVariants as answer
-use Rattle.event_findings.specs.event_form.Asked.{AreAsked, IsPairOf}
-use Rattle.event_findings.specs.event_form.Counted.{left_starts, right_starts}
+use Rattle.event_form.specs.Asked.{AreAsked, IsPairOf}
+use Rattle.event_form.specs.Counted.{left_starts, right_starts}
 use Rattle.event_findings.specs.declared.pairs.EventPairs.{EventPairs}
 
 -- what is asked of the pairs of the circuits, and what tells their classes apart

@@ -2,12 +2,12 @@
 use Rattle.std.specs.Prelude.{ℕ, List, Result}
 use Rattle.circuit_theory.specs.EventSizes.{Start}
 use Rattle.interface.specs.declared.pairs.SignalPair.{SignalPair}
-use Rattle.event_findings.specs.event_agreement.pair_events.Counted.{HaveCounted}
-use Rattle.event_findings.specs.event_agreement.pair_events.View.{EventsView, IsWithinLimits}
-use Rattle.event_findings.specs.event_form.Asked.{IsLater}
-use Rattle.event_findings.specs.event_form.Counted.{CountsOn}
-use Rattle.event_findings.specs.event_form.Stopped.{IsStoppedFor}
-use Rattle.event_findings.specs.event_form.declared.error.EventFormError.{EventFormError}
+use Rattle.event_agreement.specs.pair_events.Counted.{HaveCounted}
+use Rattle.event_agreement.specs.pair_events.View.{EventsView, IsWithinLimits}
+use Rattle.event_form.specs.Asked.{IsLater}
+use Rattle.event_form.specs.Counted.{CountsOn}
+use Rattle.event_form.specs.Stopped.{IsStoppedFor}
+use Rattle.event_form.specs.declared.error.EventFormError.{EventFormError}
 
 -- The circuits and classes are the same. What the pairs visit and reach is counted with what was counted before, and all is within the limits.
 pub record ArePairsCounted (pairs : List SignalPair) (old new : EventsView) : Type 0 where

@@ -8,5 +8,3 @@ pub mod Counted
 pub use Rattle.event_findings.specs.Findings
 pub use Rattle.event_findings.specs.declared.findings.EventFindings
 pub use Rattle.event_findings.specs.class_events
-pub use Rattle.event_findings.specs.event_witness
-pub use Rattle.event_findings.specs.event_agreement

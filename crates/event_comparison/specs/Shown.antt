@@ -6,7 +6,7 @@ use Rattle.obligations.specs.declared.obligation.Obligation.{Obligation}
 use Rattle.obligations.specs.declared.verdict.VerdictAt.{VerdictAt}
 use Rattle.obligations.specs.declared.verdict.VerdictAt.TheVariants as at
 use Rattle.outcome.specs.declared.verdict.PairResult.{PairResult}
-use Rattle.event_findings.specs.event_agreement.pair_events.View.{EventsView, side_of_both}
+use Rattle.event_agreement.specs.pair_events.View.{EventsView, side_of_both}
 use Rattle.witness_report.specs.declared.witness.Witness.{Witness}
 use Rattle.event_findings.specs.Shown.{IsWitnessAt, IsUnshownAt}
 use Rattle.event_findings.specs.Reached.{BothReachAlways}

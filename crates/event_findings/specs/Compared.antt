@@ -3,10 +3,10 @@ use Rattle.std.specs.Prelude.{◌≡◌, ℕ, max, length}
 use Rattle.std.specs.List.{All, AllZip}
 use Rattle.circuit_theory.specs.Depth.{IsDepth}
 use Rattle.circuit_theory.specs.Tree.{AreNumbered}
-use Rattle.unshown_pairs.specs.flat_net.View.{circuit_of}
-use Rattle.sec_base.specs.Table.{AreDistinct}
-use Rattle.unshown_pairs.specs.event_nodes.View.{EventCircuitView, Enabled}
-use Rattle.unshown_pairs.specs.interface.declared.pairs.SignalPair.{SignalPair}
+use Rattle.flat_net.specs.View.{circuit_of}
+use Rattle.base_tables.specs.Table.{AreDistinct}
+use Rattle.event_nodes.specs.View.{EventCircuitView, Enabled}
+use Rattle.interface.specs.declared.pairs.SignalPair.{SignalPair}
 use Rattle.event_witness.specs.Sequences.{HasInputsBelow}
 use Rattle.event_findings.specs.declared.pairs.EventPairs.{EventPairs}
 

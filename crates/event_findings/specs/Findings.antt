@@ -8,15 +8,15 @@ use Rattle.circuit_theory.specs.Query as frame_query
 use Rattle.circuit_theory.specs.Sequence.{sequence_rows}
 use Rattle.circuit_theory.specs.EventFrames.{IsUnshownFrame, IsEventDifference, frame_of}
 use Rattle.circuit_theory.specs.Frame.{bits_as_shifts}
-use Rattle.unshown_pairs.specs.flat_net.View.{circuit_of}
+use Rattle.flat_net.specs.View.{circuit_of}
 use Rattle.sec_base.specs.declared.basics.PairAnswer.{PairAnswer}
 use Rattle.sec_base.specs.declared.basics.PairAnswer.TheVariants as answer
-use Rattle.unshown_pairs.specs.class_queries.Enables.{both_of}
-use Rattle.unshown_pairs.specs.event_nodes.View.{EventCircuitView}
-use Rattle.unshown_pairs.specs.interface.declared.pairs.SignalPair.{SignalPair}
-use Rattle.unshown_pairs.specs.witness_report.declared.witness.PairName.{PairName}
-use Rattle.unshown_pairs.specs.witness_report.declared.witness.Witness.{Witness}
-use Rattle.event_witness.specs.outcome.declared.verdict.PairResult.{PairResult}
+use Rattle.class_queries.specs.Enables.{both_of}
+use Rattle.event_nodes.specs.View.{EventCircuitView}
+use Rattle.interface.specs.declared.pairs.SignalPair.{SignalPair}
+use Rattle.interface.specs.witness_report.declared.witness.PairName.{PairName}
+use Rattle.interface.specs.witness_report.declared.witness.Witness.{Witness}
+use Rattle.outcome.specs.declared.verdict.PairResult.{PairResult}
 use Rattle.unshown_pairs.specs.Decided.{NoneIs}
 use Rattle.unshown_pairs.specs.Answers.{PairFits}
 use Rattle.event_witness.specs.declared.unshown.UnshownFrame.{UnshownFrame}

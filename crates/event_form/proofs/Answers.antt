@@ -14,9 +14,9 @@ use Rattle.aig.specs.Builds.{Builds}
 use Rattle.aig.specs.declared.node.Node.{Node}
 use Rattle.aig.specs.declared.node.Lit.{Lit}
 use Rattle.aig.proofs.Growth.{Builds-one}
-use Rattle.event_agreement.specs.event_nodes.Nodes.{EventGraphView, IsEventGraph, named_places, path_of}
-use Rattle.event_agreement.specs.event_variables.Variables.{variable_of, variables_of}
-use Rattle.event_agreement.proofs.event_variables.Named.{named_distinct}
+use Rattle.class_search.specs.event_nodes.Nodes.{EventGraphView, IsEventGraph, named_places, path_of}
+use Rattle.class_search.specs.event_variables.Variables.{variable_of, variables_of}
+use Rattle.class_search.proofs.event_variables.Named.{named_distinct}
 use Rattle.event_agreement.specs.Laws.{HasSameQuery}
 use Rattle.event_agreement.specs.Queries.{AsksEventPair}
 use Rattle.event_agreement.proofs.PairQueries.{within, are_variables, left_value, right_value, care_value, same_events, shown_frame}

@@ -10,12 +10,12 @@ use Rattle.circuit_theory.proofs.Lists.{Contains-map, Contains-map_from, length-
 use Rattle.circuit_theory.specs.EventFits.{ReachesAlways}
 use Rattle.circuit_theory.specs.EventFrames.{IsEventSize}
 use Rattle.circuit_theory.specs.Frame.{EventSide, ConeLatches, IsNode}
-use Rattle.event_agreement.specs.event_nodes.Nodes.{EventGraphView, IsEventGraph, GrowsEvents, path_of}
-use Rattle.event_agreement.specs.event_nodes.View.{EventCircuitView}
-use Rattle.event_agreement.proofs.event_nodes.Growing.{grows_trans}
-use Rattle.event_agreement.proofs.event_nodes.Lists.{pairs_map}
-use Rattle.event_agreement.proofs.event_nodes.OnePath.{one_node}
-use Rattle.event_agreement.specs.event_variables.Order.{IsOnce}
+use Rattle.class_search.specs.event_nodes.Nodes.{EventGraphView, IsEventGraph, GrowsEvents, path_of}
+use Rattle.class_search.specs.event_nodes.View.{EventCircuitView}
+use Rattle.class_search.proofs.event_nodes.Growing.{grows_trans}
+use Rattle.class_search.proofs.event_nodes.Lists.{pairs_map}
+use Rattle.class_search.proofs.event_nodes.OnePath.{one_node}
+use Rattle.class_search.specs.event_variables.Order.{IsOnce}
 use Rattle.event_agreement.specs.event_pairs.SignalFunction.{SignalFunction}
 use Rattle.event_agreement.specs.pair_events.Enables.{both_of}
 use Rattle.event_agreement.specs.event_pairs.Functions.{IsEventFunction, AreNodesOf}

@@ -5,8 +5,8 @@ use Rattle.std.proofs.Math.Seq.{drop-cons}
 use Rattle.circuit_theory.specs.declared.Side.{Side}
 use Rattle.circuit_theory.specs.declared.Side.TheVariants.{A, B}
 use Rattle.circuit_theory.specs.EventSizes.{Start}
-use Rattle.event_agreement.specs.event_nodes.declared.error.EventUnfoldError.{EventUnfoldError}
-use Rattle.event_agreement.specs.event_functions.Functions.{signal_start}
+use Rattle.class_search.specs.event_nodes.declared.error.EventUnfoldError.{EventUnfoldError}
+use Rattle.event_functions.specs.Functions.{signal_start}
 use Rattle.event_agreement.specs.pair_events.Laws.{AreKept}
 use Rattle.interface.specs.declared.pairs.SignalPair.{SignalPair}
 use Rattle.event_agreement.specs.pair_events.Counted.{GoOnCounting, HaveCounted, IsRefusedBy, IsTooLarge}

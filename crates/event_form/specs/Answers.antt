@@ -8,7 +8,7 @@ use Rattle.circuit_theory.specs.Tree.{Tree, tree_value}
 use Rattle.circuit_theory.specs.EventFits.{HaveEqualEvents}
 use Rattle.circuit_theory.specs.EventFrames.{AreNodeVariables, IsPairTree, IsEventSize, HaveDifferentEvents, IsUnshownFrame}
 use Rattle.circuit_theory.specs.Frame.{EventSide, EventUnfolds, ConeLatches, HasCare}
-use Rattle.aig.specs.sec_base.Table.{AreDistinct}
+use Rattle.base_tables.specs.Table.{AreDistinct}
 use Rattle.aig.specs.sec_base.declared.basics.PairAnswer.{PairAnswer}
 use Rattle.aig.specs.sec_base.declared.basics.PairAnswer.TheVariants as answer
 use Rattle.aig.specs.declared.node.Node.{Node}
@@ -18,8 +18,8 @@ use Rattle.aig.specs.Graph.{IsGraph}
 use Rattle.aig.specs.Values.{value}
 use Rattle.obligations.specs.cnf_encode.Encoding.{IsEncoding}
 use Rattle.obligations.specs.sat_search.Found.{IsFruitless}
-use Rattle.event_agreement.specs.event_nodes.Nodes.{EventGraphView}
-use Rattle.event_agreement.specs.event_variables.Variables.{variables_of}
+use Rattle.class_search.specs.event_nodes.Nodes.{EventGraphView}
+use Rattle.class_search.specs.event_variables.Variables.{variables_of}
 use Rattle.interface.specs.declared.pairs.SignalPair.{SignalPair}
 use Rattle.obligations.specs.PairResult.{PairResult}
 use Rattle.obligations.specs.pair_decide.declared.query.Proof.{Proof}

@@ -6,8 +6,8 @@ use Rattle.circuit_theory.specs.EventFits.{ReachesAlways}
 use Rattle.circuit_theory.specs.EventFrames.{IsEventSize}
 use Rattle.circuit_theory.specs.Frame.{EventSide}
 use Rattle.aig.specs.Rules.{IsAndOf}
-use Rattle.event_agreement.specs.event_nodes.Nodes.{EventGraphView, GrowsEvents}
-use Rattle.event_agreement.specs.event_variables.Variables.{AreInOrder, IsMergeOf}
+use Rattle.class_search.specs.event_nodes.Nodes.{EventGraphView, GrowsEvents}
+use Rattle.class_search.specs.event_variables.Variables.{AreInOrder, IsMergeOf}
 use Rattle.event_agreement.specs.event_pairs.SignalFunction.{SignalFunction}
 use Rattle.event_agreement.specs.Queries.{AsksEventPair}
 use Rattle.interface.specs.declared.pairs.SignalPair.{SignalPair}

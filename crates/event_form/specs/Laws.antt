@@ -11,8 +11,8 @@ use Rattle.circuit_theory.specs.Classes.{HasClasses}
 use Rattle.circuit_theory.specs.Frame.{EventSide}
 use Rattle.interface.specs.flat_net.View.{circuit_of}
 use Rattle.aig.specs.sec_base.declared.basics.PairAnswer.TheVariants as answer
-use Rattle.event_agreement.specs.event_nodes.Nodes.{EventGraphView, IsEventGraph}
-use Rattle.event_agreement.specs.event_nodes.View.{EventCircuitView}
+use Rattle.class_search.specs.event_nodes.Nodes.{EventGraphView, IsEventGraph}
+use Rattle.class_search.specs.event_nodes.View.{EventCircuitView}
 use Rattle.event_agreement.specs.pair_events.Enables.{both_of}
 use Rattle.event_agreement.specs.pair_events.Laws.{AreKept}
 use Rattle.interface.specs.declared.pairs.SignalPair.{SignalPair}

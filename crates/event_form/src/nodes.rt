@@ -1,7 +1,7 @@
 //! The event nodes of a pair.
 
 ghost use Rattle.std.specs.Prelude.{◌≡◌, IfOk};
-ghost use Rattle.event_agreement.specs.event_variables.Order.{IsOnce};
+ghost use Rattle.class_search.specs.event_variables.Order.{IsOnce};
 ghost use Rattle.event_form.specs.Asked.{IsUnion};
 
 use aig::NoMemory;

@@ -22,8 +22,8 @@ use Rattle.event_variables.specs.aig.Cone.{IsReached}
 use Rattle.event_variables.specs.event_nodes.Nodes.{EventGraphView, IsEventGraph, named_places, path_of}
 use Rattle.event_variables.specs.event_nodes.Reach.{IsBegun}
 use Rattle.event_variables.specs.event_nodes.View.{EventCircuitView, IsEventCircuit, side_of, Enabled}
-use Rattle.edbf_unfold.specs.event_literals.Walk.{enable_start}
-use Rattle.edbf_unfold.specs.event_literals.Known.{IsKnownAt, IsEnableLit}
+use Rattle.event_literals.specs.Walk.{enable_start}
+use Rattle.event_literals.specs.Known.{IsKnownAt, IsEnableLit}
 use Rattle.edbf_unfold.specs.Care.{IsCareLit, IsEnableOnward, IsAndOfAll}
 use Rattle.event_variables.specs.Variables.{variable_of}
 use Rattle.event_variables.proofs.Cones.{From, Supports, supports_tree, supports_flip, supports_and_of, supports_constant, reached_one, from_one}

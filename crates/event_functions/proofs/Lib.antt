@@ -4,6 +4,4 @@ pub mod Growing
 pub mod Visiting
 pub mod Shortening
 pub mod Covering
-pub use Rattle.edbf_unfold.proofs.event_literals.Known
-pub use Rattle.event_variables.proofs as event_variables
-pub use Rattle.event_variables.proofs.event_nodes
+pub use Rattle.event_literals.proofs.Known

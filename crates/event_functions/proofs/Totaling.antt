@@ -16,7 +16,7 @@ use Rattle.event_variables.specs.event_nodes.Visited.{CounterView, IsWeighed, Is
 use Rattle.event_variables.proofs.event_nodes.Lists.{adds_contains, adds_from}
 use Rattle.event_variables.proofs.event_nodes.Paths.{path_grows}
 use Rattle.event_variables.proofs.event_nodes.Totals.{passed_over}
-use Rattle.edbf_unfold.specs.event_literals.Walk.{IsCounting, HasCountedStart}
+use Rattle.event_literals.specs.Walk.{IsCounting, HasCountedStart}
 use Rattle.event_functions.specs.Refused.{IsOverweight}
 
 abbrev pub nothing : CounterView

@@ -7,9 +7,9 @@ use Rattle.event_variables.specs.event_nodes.View.{EventCircuitView}
 use Rattle.event_variables.specs.event_nodes.Visited.{CounterView, IsVisitedPair, AreNodesFrom}
 use Rattle.event_variables.proofs.event_nodes.Lists.{adds_trans}
 use Rattle.event_reach.proofs.Making.{nodes_since}
-use Rattle.edbf_unfold.specs.event_literals.Walk.{IsCounting}
-use Rattle.edbf_unfold.specs.event_literals.Known.{EventUnfolderView, AreKnown}
-use Rattle.edbf_unfold.specs.event_literals.Built.{IsReadyFor}
+use Rattle.event_literals.specs.Walk.{IsCounting}
+use Rattle.event_literals.specs.Known.{EventUnfolderView, AreKnown}
+use Rattle.event_literals.specs.Built.{IsReadyFor}
 use Rattle.event_functions.proofs.Totaling.{nothing, pair_later}
 
 module _ (u : EventUnfolderView) (e : EventCircuitView) (begins : u ≡ record { circuit = e; frames = []; memo = [] }) where

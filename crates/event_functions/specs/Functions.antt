@@ -4,8 +4,8 @@ use Rattle.circuit_theory.specs.EventSizes.{Start}
 use Rattle.event_variables.specs.flat_net.declared.parts.LatchAt.{LatchAt}
 use Rattle.event_variables.specs.event_nodes.Nodes.{EventGraphView}
 use Rattle.event_variables.specs.event_nodes.View.{EventCircuitView}
-use Rattle.edbf_unfold.specs.event_literals.Walk.{enable_start}
-use Rattle.edbf_unfold.specs.event_literals.Known.{IsKnownAt, IsEnableLit}
+use Rattle.event_literals.specs.Walk.{enable_start}
+use Rattle.event_literals.specs.Known.{IsKnownAt, IsEnableLit}
 use Rattle.edbf_unfold.specs.Care.{IsCareLit}
 use Rattle.edbf_unfold.specs.Reached.{IsReachOf}
 use Rattle.event_variables.specs.Inputs.{AreVisitedInputs}

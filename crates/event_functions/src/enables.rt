@@ -5,9 +5,9 @@ ghost use Rattle.event_variables.specs.flat_net.declared.parts.LatchAt.{LatchAt}
 ghost use Rattle.event_variables.specs.event_nodes.declared.error.EventUnfoldError.TheVariants as unfold_error;
 ghost use Rattle.event_variables.specs.event_nodes.Nodes.{GrowsEvents};
 ghost use Rattle.event_variables.specs.event_nodes.Visited.{IsWeighed};
-ghost use Rattle.edbf_unfold.specs.event_literals.Walk.{HasCountedStart, IsCounting, enable_start};
+ghost use Rattle.event_literals.specs.Walk.{HasCountedStart, IsCounting, enable_start};
 ghost use Rattle.edbf_unfold.specs.Care.{IsCareLit};
-ghost use Rattle.edbf_unfold.specs.event_literals.Known.{IsEnableLit};
+ghost use Rattle.event_literals.specs.Known.{IsEnableLit};
 ghost use Rattle.event_functions.specs.Functions.{IsEnableFunctionOf};
 ghost use Rattle.event_functions.specs.Refused.{HasFewNodes, IsTooHeavy, IsRefusal};
 

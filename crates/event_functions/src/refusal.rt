@@ -5,7 +5,7 @@ ghost use Rattle.event_variables.specs.flat_net.declared.parts.LatchAt.{LatchAt}
 ghost use Rattle.event_variables.specs.event_nodes.declared.error.EventUnfoldError.TheVariants as unfold_error;
 ghost use Rattle.event_variables.specs.event_nodes.Nodes.{GrowsEvents, IsEventGraph};
 ghost use Rattle.event_variables.specs.event_nodes.Visited.{AreNodesFrom, places_weight};
-ghost use Rattle.edbf_unfold.specs.event_literals.Walk.{enable_start};
+ghost use Rattle.event_literals.specs.Walk.{enable_start};
 ghost use Rattle.event_functions.specs.Functions.{signal_start};
 ghost use Rattle.event_functions.specs.Refused.{HasFewNodes, IsOverweight};
 

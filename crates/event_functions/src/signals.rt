@@ -4,10 +4,10 @@ ghost use Rattle.std.specs.Prelude.{◌≡◌, ◌^◌, ◌<◌, ◌≤◌, [], 
 ghost use Rattle.event_variables.specs.event_nodes.declared.error.EventUnfoldError.TheVariants as unfold_error;
 ghost use Rattle.event_variables.specs.event_nodes.Nodes.{GrowsEvents};
 ghost use Rattle.event_variables.specs.event_nodes.Visited.{IsWeighed};
-ghost use Rattle.edbf_unfold.specs.event_literals.Walk.{HasCountedStart, IsCounting};
+ghost use Rattle.event_literals.specs.Walk.{HasCountedStart, IsCounting};
 ghost use Rattle.edbf_unfold.specs.Care.{IsCareLit};
 ghost use Rattle.edbf_unfold.specs.Reached.{IsReachOf};
-ghost use Rattle.edbf_unfold.specs.event_literals.Known.{IsKnownAt};
+ghost use Rattle.event_literals.specs.Known.{IsKnownAt};
 ghost use Rattle.event_functions.specs.Functions.{IsFunctionOf, signal_start};
 ghost use Rattle.event_functions.specs.Refused.{HasFewNodes, IsTooHeavy, IsRefusal};
 

@@ -6,17 +6,17 @@ use Rattle.std.proofs.lemmas.Bool.{cases_lt}
 use Rattle.std.proofs.lemmas.List.Elements.{Contains-push, Contains-push_cases}
 use Rattle.std.proofs.lemmas.List.Sums.{sum_by-cons, sum_by_more}
 use Rattle.std.proofs.lemmas.Option.{get_or_from_slice_get}
-use Rattle.event_walk.specs.event_nodes.Lit.{Lit}
-use Rattle.event_walk.specs.declared.frames.Frame.{Frame}
-use Rattle.event_walk.specs.declared.frames.Step.{Step}
-use Rattle.event_walk.specs.event_nodes.Nodes.{EventGraphView, IsEventGraph, GrowsEvents}
-use Rattle.event_walk.specs.event_nodes.View.{EventCircuitView}
+use Rattle.event_nodes.specs.Lit.{Lit}
+use Rattle.event_literals.specs.declared.event_walk.frames.Frame.{Frame}
+use Rattle.event_literals.specs.declared.event_walk.frames.Step.{Step}
+use Rattle.event_nodes.specs.Nodes.{EventGraphView, IsEventGraph, GrowsEvents}
+use Rattle.event_nodes.specs.View.{EventCircuitView}
 use Rattle.event_literals.specs.Known.{EventUnfolderView, IsKnownIn, AreKnown, IsMet, IsReady, IsLater, HasGrown}
-use Rattle.event_walk.specs.Ready.{IsReadyBy, StandsBefore, IsPlan}
-use Rattle.event_walk.specs.event_nodes.Weights.{weight_at}
+use Rattle.event_literals.specs.event_walk.Ready.{IsReadyBy, StandsBefore, IsPlan}
+use Rattle.event_nodes.specs.Weights.{weight_at}
 use Rattle.event_literals.proofs.Known.{known_later}
-use Rattle.event_walk.proofs.event_nodes.Growing.{grows_trans}
-use Rattle.event_walk.proofs.event_nodes.Lists.{adds_none, adds_trans, adds_push, adds_contains}
+use Rattle.event_nodes.proofs.Growing.{grows_trans}
+use Rattle.event_nodes.proofs.Lists.{adds_none, adds_trans, adds_push, adds_contains}
 use Rattle.event_literals.proofs.Lits.{grown_none}
 
 abbrev Entry : Type 0

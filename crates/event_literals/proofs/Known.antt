@@ -8,22 +8,22 @@ use Rattle.circuit_theory.specs.Circuit.{Gate as gate_equation, IsLatch}
 use Rattle.circuit_theory.specs.Tree.{Tree, Trees, Leaf, Fixed, Branch, Nil, Cons, IsInputNumber}
 use Rattle.circuit_theory.specs.Frame.{EventUnfolds, EventUnfoldsAll, NotPut}
 use Rattle.circuit_theory.proofs.Numbers.{slice_get-map}
-use Rattle.event_walk.specs.flat_net.declared.signals.Signal.{Signal}
-use Rattle.event_walk.specs.flat_net.View.{circuit_of}
-use Rattle.event_walk.specs.event_nodes.Lit.{Lit}
-use Rattle.event_walk.specs.event_nodes.Node.TheVariants.{Input}
-use Rattle.event_walk.specs.event_nodes.Graph.{IsLitOf}
-use Rattle.event_walk.specs.event_nodes.Rules.{IsCoverOf}
-use Rattle.event_walk.specs.event_nodes.Builds.{Builds, BuildsAll}
-use Rattle.event_walk.proofs.event_nodes.Growth.{Grows-length, Builds-grows}
-use Rattle.event_walk.specs.declared.frames.Frame.{Frame}
-use Rattle.event_walk.specs.declared.frames.Put.{Put}
-use Rattle.event_walk.specs.declared.frames.Put.TheVariants.{Free, Low, High}
-use Rattle.event_walk.specs.event_nodes.Nodes.{EventGraphView, path_of, named_places, IsEventGraph, GrowsEvents}
-use Rattle.event_walk.specs.event_nodes.View.{EventCircuitView, side_of, Enabled}
-use Rattle.event_walk.specs.Ready.{put_of, IsOnward}
+use Rattle.event_nodes.specs.flat_net.declared.signals.Signal.{Signal}
+use Rattle.event_nodes.specs.flat_net.View.{circuit_of}
+use Rattle.event_nodes.specs.Lit.{Lit}
+use Rattle.event_nodes.specs.Node.TheVariants.{Input}
+use Rattle.event_nodes.specs.Graph.{IsLitOf}
+use Rattle.event_nodes.specs.Rules.{IsCoverOf}
+use Rattle.event_nodes.specs.Builds.{Builds, BuildsAll}
+use Rattle.event_nodes.proofs.Growth.{Grows-length, Builds-grows}
+use Rattle.event_literals.specs.declared.event_walk.frames.Frame.{Frame}
+use Rattle.event_literals.specs.declared.event_walk.frames.Put.{Put}
+use Rattle.event_literals.specs.declared.event_walk.frames.Put.TheVariants.{Free, Low, High}
+use Rattle.event_nodes.specs.Nodes.{EventGraphView, path_of, named_places, IsEventGraph, GrowsEvents}
+use Rattle.event_nodes.specs.View.{EventCircuitView, side_of, Enabled}
+use Rattle.event_literals.specs.event_walk.Ready.{put_of, IsOnward}
 use Rattle.event_literals.specs.Known.{IsKnownAt, IsKnownIn}
-use Rattle.event_walk.proofs.event_nodes.Paths.{path_grows, child_path, named_grows}
+use Rattle.event_nodes.proofs.Paths.{path_grows, child_path, named_grows}
 
 pub builds_later : (w v : EventGraphView) → IsEventGraph w → GrowsEvents w v → (tree : Tree (List ℕ)) (x : ℕ) → Builds w.graph (named_places w) tree x → Builds v.graph (named_places v) tree x
 builds_later w v is grows tree x builds =

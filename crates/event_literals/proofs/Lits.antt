@@ -10,29 +10,29 @@ use Rattle.circuit_theory.specs.Cover.{Cover}
 use Rattle.circuit_theory.specs.Frame.{NotPut}
 use Rattle.circuit_theory.proofs.Lists.{All-from_each, zip_push, zip_weaker}
 use Rattle.circuit_theory.proofs.Numbers.{at_beside, slice_get-map}
-use Rattle.event_walk.specs.flat_net.declared.signals.Signal.{Signal}
-use Rattle.event_walk.specs.flat_net.declared.parts.Gate.{Gate}
-use Rattle.event_walk.specs.flat_net.declared.parts.LatchAt.{LatchAt}
-use Rattle.event_walk.specs.flat_net.declared.parts.Driver.TheVariants as driver
-use Rattle.event_walk.specs.flat_net.View.{named, circuit_of, cover_of}
-use Rattle.event_walk.specs.flat_net.Sound.{IsSound}
-use Rattle.event_walk.proofs.flat_net.Places.{one_at}
-use Rattle.event_walk.specs.event_nodes.Lit.{Lit}
-use Rattle.event_walk.specs.event_nodes.Node.{Node}
-use Rattle.event_walk.specs.event_nodes.Graph.{IsLitOf}
-use Rattle.event_walk.specs.event_nodes.Node.TheVariants.{Input}
-use Rattle.event_walk.specs.event_nodes.Rules.{IsCoverOf, cover_room}
-use Rattle.event_walk.specs.declared.frames.Frame.{Frame}
-use Rattle.event_walk.specs.declared.frames.Put.TheVariants.{Low, High}
-use Rattle.event_walk.specs.declared.frames.Step.{Step}
-use Rattle.event_walk.specs.event_nodes.Nodes.{EventGraphView, IsEventGraph, GrowsEvents}
-use Rattle.event_walk.specs.event_nodes.View.{EventCircuitView}
+use Rattle.event_nodes.specs.flat_net.declared.signals.Signal.{Signal}
+use Rattle.event_nodes.specs.flat_net.declared.parts.Gate.{Gate}
+use Rattle.event_nodes.specs.flat_net.declared.parts.LatchAt.{LatchAt}
+use Rattle.event_nodes.specs.flat_net.declared.parts.Driver.TheVariants as driver
+use Rattle.event_nodes.specs.flat_net.View.{named, circuit_of, cover_of}
+use Rattle.event_nodes.specs.flat_net.Sound.{IsSound}
+use Rattle.event_nodes.proofs.flat_net.Places.{one_at}
+use Rattle.event_nodes.specs.Lit.{Lit}
+use Rattle.event_nodes.specs.Node.{Node}
+use Rattle.event_nodes.specs.Graph.{IsLitOf}
+use Rattle.event_nodes.specs.Node.TheVariants.{Input}
+use Rattle.event_nodes.specs.Rules.{IsCoverOf, cover_room}
+use Rattle.event_literals.specs.declared.event_walk.frames.Frame.{Frame}
+use Rattle.event_literals.specs.declared.event_walk.frames.Put.TheVariants.{Low, High}
+use Rattle.event_literals.specs.declared.event_walk.frames.Step.{Step}
+use Rattle.event_nodes.specs.Nodes.{EventGraphView, IsEventGraph, GrowsEvents}
+use Rattle.event_nodes.specs.View.{EventCircuitView}
 use Rattle.event_literals.specs.Known.{EventUnfolderView, IsKnownIn, AreKnown, IsMet, IsReady, HasGrown, IsInputLit, IsGateLit}
-use Rattle.event_walk.specs.Ready.{put_of}
-use Rattle.event_walk.specs.event_nodes.Weights.{gate_weight}
-use Rattle.event_walk.proofs.event_nodes.Drivers.{driven_gate, gate_equation_stands, gate_reads_to, latch_equation_stands}
+use Rattle.event_literals.specs.event_walk.Ready.{put_of}
+use Rattle.event_nodes.specs.Weights.{gate_weight}
+use Rattle.event_nodes.proofs.Drivers.{driven_gate, gate_equation_stands, gate_reads_to, latch_equation_stands}
 use Rattle.event_literals.proofs.Known.{known_later, known_input, known_low, known_high, known_onward, known_gate}
-use Rattle.event_walk.proofs.event_nodes.Growing.{grows_refl}
+use Rattle.event_nodes.proofs.Growing.{grows_refl}
 
 -- a pair of lists with one element more each
 pub zip_more_left : {X Y : Type 0} (R : X → Y → Type 0) (xs : List X) (ys : List Y) (i : ℕ) (d : X) (y : Y) → i < length xs → AllZip R (take i xs) ys → R (get_or xs i d) y → AllZip R (take (i + 1) xs) (ys ++ y ∷ [])

@@ -6,36 +6,36 @@ use Rattle.std.proofs.lemmas.List.{take_all}
 use Rattle.std.proofs.lemmas.List.Elements.{All-weaker}
 use Rattle.std.proofs.lemmas.Option.{slice_get_within}
 use Rattle.circuit_theory.proofs.Lists.{at_of}
-use Rattle.event_walk.specs.flat_net.declared.parts.LatchAt.{LatchAt}
-use Rattle.event_walk.specs.flat_net.Sound.{IsSound}
-use Rattle.event_walk.specs.flat_net.View.{NetView}
-use Rattle.event_walk.proofs.flat_net.Growth.{slice_get-append}
-use Rattle.event_walk.proofs.flat_net.Places.{one_at}
-use Rattle.event_walk.specs.event_nodes.Lit.{Lit}
-use Rattle.event_walk.specs.event_nodes.Graph.{flip}
-use Rattle.aig_or.specs.ShortOr.{IsShortOr}
-use Rattle.event_walk.specs.event_nodes.Adds.{Adds}
-use Rattle.event_walk.specs.event_nodes.Nodes.{EventGraphView, IsEventGraph, IsTree, GrowsEvents}
-use Rattle.event_walk.specs.event_nodes.View.{EventCircuitView}
-use Rattle.event_walk.specs.event_nodes.Visited.{CounterView}
-use Rattle.event_walk.specs.event_nodes.Weights.{weight_at}
-use Rattle.event_walk.proofs.event_nodes.Growing.{grows_refl, grows_trans}
-use Rattle.event_walk.proofs.event_nodes.Lists.{adds_none, adds_trans, adds_at, adds_contains}
-use Rattle.event_walk.specs.declared.frames.Frame.{Frame}
-use Rattle.event_walk.specs.declared.frames.Put.TheVariants.{Low, High}
-use Rattle.event_walk.specs.declared.frames.Step.{Step}
-use Rattle.event_walk.specs.declared.frames.Ways.{Ways}
+use Rattle.event_nodes.specs.flat_net.declared.parts.LatchAt.{LatchAt}
+use Rattle.event_nodes.specs.flat_net.Sound.{IsSound}
+use Rattle.event_nodes.specs.flat_net.View.{NetView}
+use Rattle.event_nodes.proofs.flat_net.Growth.{slice_get-append}
+use Rattle.event_nodes.proofs.flat_net.Places.{one_at}
+use Rattle.event_nodes.specs.Lit.{Lit}
+use Rattle.event_nodes.specs.Graph.{flip}
+use Rattle.graph_copy.specs.aig_or.ShortOr.{IsShortOr}
+use Rattle.event_nodes.specs.Adds.{Adds}
+use Rattle.event_nodes.specs.Nodes.{EventGraphView, IsEventGraph, IsTree, GrowsEvents}
+use Rattle.event_nodes.specs.View.{EventCircuitView}
+use Rattle.event_nodes.specs.Visited.{CounterView}
+use Rattle.event_nodes.specs.Weights.{weight_at}
+use Rattle.event_nodes.proofs.Growing.{grows_refl, grows_trans}
+use Rattle.event_nodes.proofs.Lists.{adds_none, adds_trans, adds_at, adds_contains}
+use Rattle.event_literals.specs.declared.event_walk.frames.Frame.{Frame}
+use Rattle.event_literals.specs.declared.event_walk.frames.Put.TheVariants.{Low, High}
+use Rattle.event_literals.specs.declared.event_walk.frames.Step.{Step}
+use Rattle.event_literals.specs.declared.event_walk.frames.Ways.{Ways}
 use Rattle.event_literals.specs.Known.{EventUnfolderView, unfolder_of, walker_of, IsKnownAt, IsKnownIn, IsEnableLit, AreKnown, HasUnfolded, IsMet, IsLater}
-use Rattle.event_walk.specs.Plan.{AreExpanded, IsPlanOf}
-use Rattle.event_walk.specs.Walk.{IsSeen, IsExpanded, IsVisitedPlace, IsOpened, IsWalk, IsCounted, IsExact}
-use Rattle.event_walk.specs.Ready.{EventWalkerView}
+use Rattle.event_literals.specs.event_walk.Plan.{AreExpanded, IsPlanOf}
+use Rattle.event_literals.specs.event_walk.Walk.{IsSeen, IsExpanded, IsVisitedPlace, IsOpened, IsWalk, IsCounted, IsExact}
+use Rattle.event_literals.specs.event_walk.Ready.{EventWalkerView}
 use Rattle.event_literals.specs.Built.{IsWalked, AreMetOn}
-use Rattle.event_walk.proofs.InFrames.{interned_frame}
-use Rattle.event_walk.proofs.Exact.{visited_later}
-use Rattle.event_walk.proofs.Rooting.{root_path, root_visited}
+use Rattle.event_literals.proofs.event_walk.InFrames.{interned_frame}
+use Rattle.event_literals.proofs.event_walk.Exact.{visited_later}
+use Rattle.event_literals.proofs.event_walk.Rooting.{root_path, root_visited}
 use Rattle.event_literals.proofs.Going.{are_known_later}
 use Rattle.event_literals.proofs.Known.{known_at_later}
-use Rattle.event_walk.proofs.Opening.{ready_later}
+use Rattle.event_literals.proofs.event_walk.Opening.{ready_later}
 
 -- what is known is known with a frame more
 pub frame_known : (i u : EventUnfolderView) → i ≡ u → (k : EventWalkerView) → k ≡ record { circuit = i.circuit; frames = k.frames } → (w : EventGraphView) (f : Frame) → (k.frames ≡ i.frames) ⊎ (k.frames ≡ i.frames ++ f ∷ []) → AreKnown u.circuit w u.frames u.memo →

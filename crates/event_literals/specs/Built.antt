@@ -1,12 +1,12 @@
 -- What an unfolding of a signal has met, and what it asks for.
 use Rattle.std.specs.Prelude.{◌≡◌, ℕ, ◌+◌, ◌*◌, ◌<◌, ◌≤◌, List, length, slice_get, Some, All, Contains}
 use Rattle.circuit_theory.specs.EventSizes.{Start}
-use Rattle.event_walk.specs.event_nodes.Nodes.{EventGraphView}
-use Rattle.event_walk.specs.event_nodes.Visited.{CounterView, IsWeighed}
-use Rattle.event_walk.specs.declared.frames.Frame.{Frame}
-use Rattle.event_walk.specs.declared.frames.Ways.{Ways}
-use Rattle.event_walk.specs.Ready.{IsReadyBy}
-use Rattle.event_walk.specs.Walk.{IsExpanded, IsVisitedPlace, IsCounted, IsRootOf}
+use Rattle.event_nodes.specs.Nodes.{EventGraphView}
+use Rattle.event_nodes.specs.Visited.{CounterView, IsWeighed}
+use Rattle.event_literals.specs.declared.event_walk.frames.Frame.{Frame}
+use Rattle.event_literals.specs.declared.event_walk.frames.Ways.{Ways}
+use Rattle.event_literals.specs.event_walk.Ready.{IsReadyBy}
+use Rattle.event_literals.specs.event_walk.Walk.{IsExpanded, IsVisitedPlace, IsCounted, IsRootOf}
 use Rattle.event_literals.specs.Known.{EventUnfolderView, HasRoomFor, IsMet}
 
 -- there is room for so many places more, and the numbers are within their limits

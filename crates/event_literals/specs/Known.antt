@@ -3,22 +3,22 @@ use Rattle.std.specs.Prelude.{◌≡◌, ℕ, ◌+◌, ◌*◌, ◌^◌, ◌<◌
 use Rattle.std.specs.List.{AllZip}
 use Rattle.circuit_theory.specs.Tree.{Tree}
 use Rattle.circuit_theory.specs.Frame.{EventUnfolds}
-use Rattle.event_walk.specs.flat_net.declared.parts.Gate.{Gate}
-use Rattle.event_walk.specs.flat_net.declared.parts.LatchAt.{LatchAt}
-use Rattle.event_walk.specs.flat_net.View.{cover_of}
-use Rattle.event_walk.specs.event_nodes.Lit.{Lit}
-use Rattle.event_walk.specs.event_nodes.Node.{Node}
-use Rattle.event_walk.specs.event_nodes.Node.TheVariants.{Input}
-use Rattle.event_walk.specs.event_nodes.Graph.{IsLitOf, flip}
-use Rattle.event_walk.specs.event_nodes.Rules.{IsCoverOf}
-use Rattle.event_walk.specs.event_nodes.Builds.{Builds}
-use Rattle.aig_or.specs.ShortOr.{IsShortOr}
-use Rattle.event_walk.specs.declared.frames.Frame.{Frame}
-use Rattle.event_walk.specs.declared.frames.Step.{Step}
-use Rattle.event_walk.specs.Ready.{EventWalkerView, IsReadyBy, put_of}
-use Rattle.event_walk.specs.event_nodes.Adds.{Adds}
-use Rattle.event_walk.specs.event_nodes.Nodes.{EventGraphView, path_of, named_places, GrowsEvents}
-use Rattle.event_walk.specs.event_nodes.View.{EventCircuitView, side_of, Enabled}
+use Rattle.event_nodes.specs.flat_net.declared.parts.Gate.{Gate}
+use Rattle.event_nodes.specs.flat_net.declared.parts.LatchAt.{LatchAt}
+use Rattle.event_nodes.specs.flat_net.View.{cover_of}
+use Rattle.event_nodes.specs.Lit.{Lit}
+use Rattle.event_nodes.specs.Node.{Node}
+use Rattle.event_nodes.specs.Node.TheVariants.{Input}
+use Rattle.event_nodes.specs.Graph.{IsLitOf, flip}
+use Rattle.event_nodes.specs.Rules.{IsCoverOf}
+use Rattle.event_nodes.specs.Builds.{Builds}
+use Rattle.graph_copy.specs.aig_or.ShortOr.{IsShortOr}
+use Rattle.event_literals.specs.declared.event_walk.frames.Frame.{Frame}
+use Rattle.event_literals.specs.declared.event_walk.frames.Step.{Step}
+use Rattle.event_literals.specs.event_walk.Ready.{EventWalkerView, IsReadyBy, put_of}
+use Rattle.event_nodes.specs.Adds.{Adds}
+use Rattle.event_nodes.specs.Nodes.{EventGraphView, path_of, named_places, GrowsEvents}
+use Rattle.event_nodes.specs.View.{EventCircuitView, side_of, Enabled}
 
 -- the literal is that of the signal's tree at the path, under the latch that is put
 pub record IsKnownAt (e : EventCircuitView) (w : EventGraphView) (put : Option (ℕ × Bool)) (p : ℕ) (path : List ℕ) (lit : ℕ) : Type 0 where

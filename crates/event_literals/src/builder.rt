@@ -3,18 +3,18 @@
 ghost use Rattle.std.specs.Prelude.{◌≡◌, ℕ, ◌+◌, ◌*◌, ◌^◌, ◌<◌, ◌≤◌, [], length, slice_get, Some, None, All, Contains, IfOk, IfSome, OnOk};
 ghost use Rattle.std.specs.List.{AllZip, sum_by};
 ghost use Rattle.circuit_theory.specs.EventSizes.{Start};
-ghost use Rattle.event_walk.specs.event_nodes.Lit.{Lit};
-ghost use Rattle.event_walk.specs.event_nodes.Weights.{gate_weight, weight_at};
-ghost use Rattle.event_walk.specs.event_nodes.Nodes.{EventGraphView, GrowsEvents};
-ghost use Rattle.event_walk.specs.declared.frames.Frame.{Frame};
-ghost use Rattle.event_walk.specs.declared.frames.Step.{Step};
-ghost use Rattle.event_walk.specs.Plan.{AreExpanded};
-ghost use Rattle.event_walk.specs.Ready.{IsPlan};
-ghost use Rattle.event_walk.specs.Walk.{IsCounting, IsRefused, IsRootOf, IsCountedOn};
+ghost use Rattle.event_nodes.specs.Lit.{Lit};
+ghost use Rattle.event_nodes.specs.Weights.{gate_weight, weight_at};
+ghost use Rattle.event_nodes.specs.Nodes.{EventGraphView, GrowsEvents};
+ghost use Rattle.event_literals.specs.declared.event_walk.frames.Frame.{Frame};
+ghost use Rattle.event_literals.specs.declared.event_walk.frames.Step.{Step};
+ghost use Rattle.event_literals.specs.event_walk.Plan.{AreExpanded};
+ghost use Rattle.event_literals.specs.event_walk.Ready.{IsPlan};
+ghost use Rattle.event_literals.specs.event_walk.Walk.{IsCounting, IsRefused, IsRootOf, IsCountedOn};
 ghost use Rattle.event_literals.specs.Known.{AreKnown, IsKnownIn, HasUnfolded, IsMet, IsReady, IsLater, HasGrown, IsInputLit, IsGateLit};
 ghost use Rattle.event_literals.specs.Built.{IsReadyFor, IsWalked};
 
-use event_walk::{
+use crate::event_walk::{
     Counter, Driver, EventCircuit, EventGraph, EventUnfoldError, EventWalker, Frame, Lit, NoMemory,
     Place, PlaceTable, Signal, Step, Ways, constant, gate_of, latch_of,
 };

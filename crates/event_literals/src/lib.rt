@@ -3,10 +3,11 @@
 #![tactic(auto)]
 
 mod builder;
+pub mod event_walk;
 
-pub use aig_or::short_or;
 pub use builder::{EventBuilder, Unfolding};
 pub use event_walk::{
     Aig, Counter, Driver, EventCircuit, EventGraph, EventUnfoldError, Frame, Ids, Lit, NoMemory,
     Place, PlaceTable, Put, Seq, Signal, Ways, constant, latch_of,
 };
+pub use graph_copy::aig_or::short_or;

@@ -18,10 +18,10 @@ use Rattle.pair_decide.specs.declared.query.Proof.{Proof}
 use Rattle.outcome.specs.declared.verdict.PairResult.{PairResult}
 use Rattle.class_queries.specs.Enables.{both_of}
 use Rattle.class_queries.proofs.Meaning.{numbered}
-use Rattle.event_fits.specs.Answers.{AnswerFits, PairFits}
-use Rattle.event_fits.specs.Asked.{IsDecisive}
+use Rattle.event_names.specs.event_fits.Answers.{AnswerFits, PairFits}
+use Rattle.event_names.specs.event_fits.Asked.{IsDecisive}
 use Rattle.event_nodes.specs.View.{EventCircuitView}
-use Rattle.event_fits.specs.Circuits.{IsReadyCircuit}
+use Rattle.event_names.specs.event_fits.Circuits.{IsReadyCircuit}
 use Rattle.event_meaning.specs.Laws.{AnswersAreExact}
 
 module _ (a b : EventCircuitView) (left_ready : IsReadyCircuit a) (right_ready : IsReadyCircuit b) where

@@ -17,14 +17,14 @@ use Rattle.witness_report.specs.Shown.{MakesDiffer, MakesCutsDiffer}
 use Rattle.outcome.specs.declared.verdict.Outcome.{Outcome}
 use Rattle.outcome.specs.declared.verdict.PairResult.{PairResult}
 use Rattle.class_queries.specs.Enables.{both_of}
-use Rattle.event_fits.specs.Circuits.{AreNets}
-use Rattle.event_fits.proofs.Agreeing.{circuits_agree}
-use Rattle.event_fits.proofs.Differing.{cuts_differ, circuits_differ}
-use Rattle.event_fits.specs.Answers.{AnswerFits, PairFits}
+use Rattle.event_names.specs.event_fits.Circuits.{AreNets}
+use Rattle.event_names.proofs.event_fits.Agreeing.{circuits_agree}
+use Rattle.event_names.proofs.event_fits.Differing.{cuts_differ, circuits_differ}
+use Rattle.event_names.specs.event_fits.Answers.{AnswerFits, PairFits}
 use Rattle.event_nodes.specs.View.{EventCircuitView}
-use Rattle.event_fits.specs.Findings.{IsFirstWith, IsSequenceOf, VerdictFits}
-use Rattle.event_fits.specs.Fitting.{IsComparedByPairs}
-use Rattle.event_fits.specs.Named.{latch_names}
+use Rattle.event_names.specs.event_fits.Findings.{IsFirstWith, IsSequenceOf, VerdictFits}
+use Rattle.event_names.specs.event_fits.Fitting.{IsComparedByPairs}
+use Rattle.event_names.specs.event_fits.Named.{latch_names}
 use Rattle.event_meaning.specs.Laws.{CutOutcomesDiffer, DifferentOutcomesDiffer, EqualOutcomesAgree}
 use Rattle.event_meaning.proofs.Cases.{compared, cut_found, cut_no_limit, different_found, different_no_limit, equal_found, equal_no_limit}
 

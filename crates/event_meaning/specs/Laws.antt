@@ -13,12 +13,12 @@ use Rattle.outcome.specs.declared.verdict.Unshown.{Unshown}
 use Rattle.outcome.specs.declared.verdict.Verdict.TheVariants as verdict
 use Rattle.outcome.specs.declared.verdict.Why.TheVariants as why
 use Rattle.class_queries.specs.Enables.{both_of}
-use Rattle.event_fits.specs.Circuits.{AreNets}
-use Rattle.event_fits.specs.Asked.{IsDecisive}
+use Rattle.event_names.specs.event_fits.Circuits.{AreNets}
+use Rattle.event_names.specs.event_fits.Asked.{IsDecisive}
 use Rattle.sec_setup.specs.Cuts.{is_cut}
 use Rattle.under_base.specs.compare_base.Says.{SaysEqual, SaysDifferent, SaysNotShown}
-use Rattle.event_fits.specs.Fitting.{EventOutcomeFits, IsComparedByPairs}
-use Rattle.event_fits.specs.Shown.{IsFramed}
+use Rattle.event_names.specs.event_fits.Fitting.{EventOutcomeFits, IsComparedByPairs}
+use Rattle.event_names.specs.event_fits.Shown.{IsFramed}
 
 -- Equal says that the circuits agree in the event mode, and onward over the exposed latches.
 abbrev pub EqualOutcomesAgree : Type 0

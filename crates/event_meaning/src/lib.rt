@@ -4,7 +4,7 @@
 pub mod event_meaning_under;
 mod laws;
 
-pub use event_fits::CompareError;
+pub use event_names::event_fits::CompareError;
 pub use laws::{
     answers_are_exact, cut_outcomes_differ, different_outcomes_differ, equal_outcomes_agree,
     unshown_outcomes_are_framed,

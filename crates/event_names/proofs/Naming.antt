@@ -14,24 +14,24 @@ use Rattle.flat_net.specs.View.{NetView, named, circuit_of}
 use Rattle.interface.specs.declared.pairs.SignalPair.{SignalPair}
 use Rattle.interface.specs.Pairs.{ArePairsOf, outputs_of}
 use Rattle.sec_base.specs.declared.basics.Tag.{Tag}
-use Rattle.event_fits.specs.sec_setup.Setup.{AreColumns}
-use Rattle.event_fits.specs.outcome.declared.verdict.PairResult.{PairResult}
-use Rattle.event_fits.specs.FrameBit.{FrameBit}
+use Rattle.sec_setup.specs.Setup.{AreColumns}
+use Rattle.outcome.specs.declared.verdict.PairResult.{PairResult}
+use Rattle.event_names.specs.event_fits.FrameBit.{FrameBit}
 use Rattle.event_nodes.specs.View.{EventCircuitView}
 use Rattle.event_order.specs.Order.{IsTagOf, net_at}
-use Rattle.event_fits.specs.Separations.{Separates, SeparatesBy}
-use Rattle.event_fits.specs.Told.{TellsVariable}
-use Rattle.event_fits.specs.ToldSeparation.{ToldSeparation}
-use Rattle.event_fits.specs.Findings.{IsFirstUnshown, VerdictFits}
-use Rattle.event_fits.specs.EventPairs.{EventPairs}
-use Rattle.event_fits.specs.EventVerdict.{EventVerdict}
-use Rattle.event_fits.specs.EventVerdict.TheVariants as found
-use Rattle.event_fits.specs.UnshownPair.{UnshownPair}
-use Rattle.event_fits.specs.Named.{latch_names, names_at}
-use Rattle.event_fits.proofs.event_setup.read_inputs.Places.{IsShown}
+use Rattle.event_names.specs.event_fits.Separations.{Separates, SeparatesBy}
+use Rattle.event_names.specs.event_fits.Told.{TellsVariable}
+use Rattle.event_names.specs.event_fits.ToldSeparation.{ToldSeparation}
+use Rattle.event_names.specs.event_fits.Findings.{IsFirstUnshown, VerdictFits}
+use Rattle.event_names.specs.event_fits.EventPairs.{EventPairs}
+use Rattle.event_names.specs.event_fits.EventVerdict.{EventVerdict}
+use Rattle.event_names.specs.event_fits.EventVerdict.TheVariants as found
+use Rattle.event_names.specs.event_fits.UnshownPair.{UnshownPair}
+use Rattle.event_names.specs.event_fits.Named.{latch_names, names_at}
+use Rattle.event_setup.proofs.read_inputs.Places.{IsShown}
 use Rattle.event_names.specs.declared.names.Names.{Names}
 use Rattle.event_names.specs.Nameable.{CanBeNamed, IsBitIn, IsLatchIn, IsOtherIn, IsSeparationIn, IsUnshownIn}
-use Rattle.event_fits.proofs.event_setup.read_inputs.Leaves.{class_below, pair_below}
+use Rattle.event_setup.proofs.read_inputs.Leaves.{class_below, pair_below}
 
 -- a latch has a name
 module _ (a b : NetView) (n : Names) (left : n.left ≡ latch_names a) (right : n.right ≡ latch_names b) where

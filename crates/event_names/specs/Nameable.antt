@@ -1,12 +1,12 @@
 -- What can be told by names: its latches and inputs have some.
 use Rattle.std.specs.Prelude.{ℕ, ◌<◌, List, length, Option, Some, None, All}
 use Rattle.sec_base.specs.declared.basics.Tag.{Tag}
-use Rattle.event_fits.specs.FrameBit.{FrameBit}
-use Rattle.event_fits.specs.ToldSeparation.{ToldSeparation}
-use Rattle.event_fits.specs.EventVerdict.{EventVerdict}
-use Rattle.event_fits.specs.EventVerdict.TheVariants as found
-use Rattle.event_fits.specs.UnshownPair.{UnshownPair}
-use Rattle.event_fits.specs.Named.{names_at}
+use Rattle.event_names.specs.event_fits.FrameBit.{FrameBit}
+use Rattle.event_names.specs.event_fits.ToldSeparation.{ToldSeparation}
+use Rattle.event_names.specs.event_fits.EventVerdict.{EventVerdict}
+use Rattle.event_names.specs.event_fits.EventVerdict.TheVariants as found
+use Rattle.event_names.specs.event_fits.UnshownPair.{UnshownPair}
+use Rattle.event_names.specs.event_fits.Named.{names_at}
 use Rattle.event_names.specs.declared.names.Names.{Names}
 
 -- the latch has a name

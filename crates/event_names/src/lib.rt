@@ -1,6 +1,7 @@
 //! What is found of pairs in the event form, told by the names of inputs and latches.
 #![tactic(auto)]
 
+pub mod event_fits;
 mod names;
 
 pub use event_fits::{

@@ -2,10 +2,10 @@
 
 ghost use Rattle.std.specs.Prelude.{◌≡◌, option_map, All, IfOk};
 ghost use Rattle.std.specs.List.{AllZip};
-ghost use Rattle.event_fits.specs.Named.{latch_names, latch_of, NamesSeparation, NamesSpot, NamesUnshown, NamesVerdict};
+ghost use Rattle.event_names.specs.event_fits.Named.{latch_names, latch_of, NamesSeparation, NamesSpot, NamesUnshown, NamesVerdict};
 ghost use Rattle.event_names.specs.Nameable.{CanBeNamed, IsInputIn, IsLatchIn, IsOtherIn, IsSeparationIn, IsUnshownIn};
 
-use event_fits::{
+use crate::event_fits::{
     EventVerdict, Frame, FrameBit, LimitAt, Separation, Separations, Spot, Spots, ToldSeparation,
     Unshown, UnshownFrame, UnshownPair, Verdict, Why,
 };

@@ -14,8 +14,6 @@ pub mod Counting
 pub use Rattle.aig.proofs.CoverMeaning
 pub use Rattle.aig.proofs.Growth
 pub use Rattle.aig.proofs.Literals
-pub use Rattle.flat_net.proofs.Nets
-pub use Rattle.flat_net.proofs.Places
 pub use Rattle.aig.proofs.Meaning
 pub use Rattle.aig.proofs as aig
 pub use Rattle.flat_net.proofs as flat_net

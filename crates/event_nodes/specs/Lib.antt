@@ -13,9 +13,5 @@ pub use Rattle.aig.specs.Rules
 pub use Rattle.aig.specs.declared.node.Node
 pub use Rattle.aig.specs.Values
 pub use Rattle.flat_net.specs.Table
-pub use Rattle.flat_net.specs.circuit_theory.EventSizes
-pub use Rattle.flat_net.specs.circuit_theory.EventTotals
-pub use Rattle.flat_net.specs.circuit_theory.Frame
 pub use Rattle.aig.specs as aig
 pub use Rattle.flat_net.specs as flat_net
-pub use Rattle.flat_net.specs.sec_base

@@ -10,7 +10,7 @@ use Rattle.sec_setup.specs.cut_points.Common.{common_names}
 use Rattle.sec_setup.specs.Cycles.{AreBroken}
 use Rattle.sec_setup.specs.Matching.{InterfacesMatch}
 use Rattle.latch_kinds.specs.Found.{HasTooLarge}
-use Rattle.unate_enable.specs.Cones.{data_of_latch}
+use Rattle.latch_kinds.specs.unate_enable.Cones.{data_of_latch}
 use Rattle.event_nodes.specs.View.{EventCircuitView}
 use Rattle.event_texts.specs.event_fits.Choosing.{HaveNoCycles}
 use Rattle.event_texts.specs.event_fits.Recovered.{RecoversBoth}

@@ -4,4 +4,3 @@ pub mod Numbering
 pub mod Recovered
 pub mod Setup
 pub mod read_inputs
-pub use Rattle.sec_setup.specs as sec_setup

@@ -1,7 +1,7 @@
 -- The cut nets as circuits whose inputs are numbered.
 use Rattle.std.specs.Prelude.{◌≡◌, ℕ, List, length}
 use Rattle.std.specs.List.{All}
-use Rattle.sec_base.specs.Table.{AreDistinct}
+use Rattle.base_tables.specs.Table.{AreDistinct}
 use Rattle.sec_base.specs.declared.basics.Orders.{Orders}
 use Rattle.flat_net.specs.View.{NetView}
 use Rattle.interface.specs.Numbered.{AreNumbered}

@@ -6,7 +6,7 @@ use Rattle.circuit_theory.specs.Agree.{IsMinimalCut}
 use Rattle.circuit_theory.specs.Depth.{IsDepth, LatchesHaveDepths}
 use Rattle.circuit_theory.specs.Interface.{shared_inputs}
 use Rattle.circuit_theory.specs.Run.{IsEnabled}
-use Rattle.sec_base.specs.Table.{AreDistinct}
+use Rattle.base_tables.specs.Table.{AreDistinct}
 use Rattle.flat_net.specs.View.{NetView, circuit_of, ports_of}
 use Rattle.sec_setup.specs.declared.cut_points.exposed.Exposure.{Exposure}
 use Rattle.interface.specs.declared.pairs.SignalPair.{SignalPair}

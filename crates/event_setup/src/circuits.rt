@@ -11,9 +11,10 @@ ghost use Rattle.event_setup.specs.Recovered.{AreMarked};
 
 use crate::cutting::{CutNets, MarkedNet};
 use crate::numbering::{Numbering, number};
+use base_tables::NameTable;
 use event_nodes::EventCircuit;
 use flat_net::Net;
-use sec_base::{Ids, NameTable, NoMemory, Orders, Seq, Words};
+use sec_base::{Ids, NoMemory, Orders, Seq, Words};
 use sec_setup::cut_points::Exposure;
 use std::alloc::Global;
 

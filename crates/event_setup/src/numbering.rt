@@ -2,7 +2,7 @@
 
 ghost use Rattle.std.specs.Prelude.{◌≡◌, ◌++◌, IfOk};
 ghost use Rattle.circuit_theory.specs.Interface.{shared_inputs};
-ghost use Rattle.sec_base.specs.Table.{AreDistinct};
+ghost use Rattle.base_tables.specs.Table.{AreDistinct};
 ghost use Rattle.flat_net.specs.Comparable.{IsComparable};
 ghost use Rattle.flat_net.specs.View.{ports_of};
 ghost use Rattle.interface.specs.Numbered.{AreNumbered};
@@ -10,9 +10,10 @@ ghost use Rattle.event_setup.specs.Choosing.{AreOpened};
 ghost use Rattle.event_setup.specs.Cutting.{AreMarkedCuts};
 
 use crate::cutting::CutNets;
+use base_tables::NameTable;
 use flat_net::Net;
 use interface::orders_of;
-use sec_base::{NameTable, NoMemory, Orders, Words};
+use sec_base::{NoMemory, Orders, Words};
 use sec_setup::cut_points::Exposure;
 use std::alloc::Global;
 

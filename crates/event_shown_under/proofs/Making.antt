@@ -6,7 +6,7 @@ use Rattle.std.proofs.lemmas.List.Elements.{All-push, All-weaker}
 use Rattle.std.proofs.lemmas.Option.{get_or_from_slice_get, slice_get_within}
 use Rattle.circuit_theory.specs.Query.{Variable}
 use Rattle.circuit_theory.proofs.Numbers.{slice_get-map}
-use Rattle.sec_base.proofs.TableLemmas.{take-push}
+use Rattle.base_tables.proofs.TableLemmas.{take-push}
 use Rattle.event_nodes.specs.Nodes.{EventGraphView, IsEventGraph, GrowsEvents, path_of}
 use Rattle.event_variables.specs.Variables.{variable_of, variables_of}
 use Rattle.event_variables.proofs.NodePaths.{variable_is}

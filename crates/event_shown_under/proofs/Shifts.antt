@@ -14,7 +14,7 @@ use Rattle.circuit_theory.proofs.Sums.{same_or_not}
 use Rattle.circuit_theory.specs.Frame.{always_node, bits_as_shifts}
 use Rattle.event_nodes.specs.Nodes.{EventGraphView}
 use Rattle.event_variables.specs.Variables.{variable_of, variables_of}
-use Rattle.sec_base.proofs.TableLemmas.{take-push}
+use Rattle.base_tables.proofs.TableLemmas.{take-push}
 use Rattle.shift_variables.specs.Variables as shift
 use Rattle.shift_variables.proofs.Assignments.{test_differs}
 use Rattle.assume_laws.specs.Sequences.{filled}

@@ -8,9 +8,10 @@ ghost use Rattle.circuit_theory.specs.Frame.{always_node};
 ghost use Rattle.event_variables.specs.Variables.{variables_of};
 ghost use Rattle.event_shown_under.specs.Steps.{shifts_of};
 
+use base_tables::PlaceTable;
 use event_nodes::EventGraph;
 use event_variables::frame_sequences::always_steps;
-use sec_base::{NoMemory, PlaceTable};
+use sec_base::NoMemory;
 use std::alloc::Global;
 
 /// Variables of an input at places.

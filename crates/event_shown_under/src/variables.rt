@@ -5,9 +5,10 @@ ghost use Rattle.event_variables.specs.ranked_nodes.Named.{named_ranks};
 ghost use Rattle.event_under.specs.Asked.{variables_in};
 ghost use Rattle.event_variables.specs.Variables.{variables_of};
 
+use base_tables::PlaceTable;
 use event_nodes::EventGraph;
 use event_variables::ranked_nodes::copy_nodes;
-use sec_base::{NoMemory, PlaceTable};
+use sec_base::NoMemory;
 use std::alloc::Global;
 
 /// The variables of a query, each an input at an event node.

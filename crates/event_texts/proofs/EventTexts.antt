@@ -30,7 +30,7 @@ use Rattle.job_base.proofs.Limits.{pair_proofs}
 use Rattle.sec_setup.specs.Cuts.{columns_of}
 use Rattle.swept_queries.proofs.Listed.{zip_left}
 use Rattle.class_queries.specs.Enables.{both_of}
-use Rattle.event_meaning.proofs.outcome_fits.plain_meaning.Fitted.{kept_proof, no_names, some_names, were_exposed}
+use Rattle.outcome_fits.proofs.plain_meaning.Fitted.{kept_proof, no_names, some_names, were_exposed}
 use Rattle.event_meaning.specs.Answers.{AnswerFits, IsUndecided, PairFits}
 use Rattle.event_nodes.specs.View.{EventCircuitView}
 use Rattle.event_meaning.specs.Findings.{VerdictFits}

@@ -26,7 +26,7 @@ use Rattle.sec_setup.specs.Matching.{InterfacesMatch}
 use Rattle.class_queries.specs.Enables.{both_of}
 use Rattle.event_meaning.specs.Says.{SaysEqual, SaysDifferent, SaysNotShown}
 use Rattle.event_meaning.specs.Answers.{IsUndecided}
-use Rattle.event_meaning.specs.event_setup.Choosing.{HaveNoCycles}
+use Rattle.event_setup.specs.Choosing.{HaveNoCycles}
 use Rattle.event_meaning.specs.Compared.{AreTooLargeInEvents, HaveTooManyEvents}
 use Rattle.event_meaning.specs.Fitting.{EventOutcomeFits, IsComparedByPairs, IsUnclassed, IsUnrecovered}
 use Rattle.event_meaning.specs.Shown.{IsFramed}

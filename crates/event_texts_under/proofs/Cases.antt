@@ -17,7 +17,7 @@ use Rattle.outcome.specs.declared.verdict.Verdict.TheVariants as verdict
 use Rattle.class_queries.specs.Enables.{both_of}
 use Rattle.event_nodes.specs.View.{EventCircuitView}
 use Rattle.assume_laws.specs.Assume.{Assumption}
-use Rattle.event_meaning.specs.event_meaning_under.event_under.Answers.{AnswerFitsUnder, IsUndecidedUnder, PairFitsUnder}
+use Rattle.event_shown_under.specs.event_under.Answers.{AnswerFitsUnder, IsUndecidedUnder, PairFitsUnder}
 use Rattle.event_meaning.specs.Findings.{IsFirstWith}
 use Rattle.event_meaning.specs.Fitting.{class_limit, IsUnrecovered, IsUnclassed}
 use Rattle.event_meaning.specs.Named.{latch_names}

@@ -30,7 +30,7 @@ use Rattle.class_queries.specs.Enables.{both_of}
 use Rattle.assume_texts.proofs.outcome_fits.plain_meaning.Fitted.{kept_proof, no_names, some_names, were_exposed}
 use Rattle.assume_laws.specs.Assume.{Assumption}
 use Rattle.assume_laws.specs.Sequences.{RowsMeet}
-use Rattle.event_meaning.specs.event_meaning_under.event_under.Answers.{PairFitsUnder}
+use Rattle.event_shown_under.specs.event_under.Answers.{PairFitsUnder}
 use Rattle.event_meaning.specs.EventVerdict.{EventVerdict}
 use Rattle.event_meaning.specs.EventVerdict.TheVariants as found
 use Rattle.event_meaning.proofs.Cases.{cut_found, cut_no_limit, different_found, different_no_limit, equal_no_limit}

@@ -21,7 +21,7 @@ use Rattle.interface.specs.declared.pairs.SignalPair.{SignalPair}
 use Rattle.sec_setup.specs.Cuts.{columns_of}
 use Rattle.class_queries.specs.Enables.{both_of}
 use Rattle.assume_laws.specs.Assume.{Assumption}
-use Rattle.event_meaning.specs.event_meaning_under.event_under.Answers.{IsUndecidedUnder}
+use Rattle.event_shown_under.specs.event_under.Answers.{IsUndecidedUnder}
 use Rattle.event_meaning.specs.Says.{SaysDifferent, SaysNotShown}
 use Rattle.event_meaning.specs.Fitting.{IsUnclassed, IsUnrecovered}
 use Rattle.event_meaning.specs.event_meaning_under.Fitted.{EventOutcomeFitsUnder, IsComparedByPairsUnder}

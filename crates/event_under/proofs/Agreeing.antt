@@ -18,11 +18,11 @@ use Rattle.flat_net.specs.View.{circuit_of}
 use Rattle.flat_net.proofs.Nets.{sound_is_net}
 use Rattle.sec_base.specs.declared.basics.PairAnswer.{PairAnswer}
 use Rattle.sec_base.specs.declared.basics.PairAnswer.TheVariants as answer
-use Rattle.event_form.specs.class_queries.Enables.{both_of, class_map}
-use Rattle.event_form.proofs.class_queries.Meaning.{numbered}
-use Rattle.event_form.proofs.event_agreement.CutCircuits.{left_same, right_same, both_same, some, cut_meets}
-use Rattle.event_form.proofs.event_agreement.SameCircuits.{AreSame, same_part, same_classes, same_depths}
-use Rattle.event_form.proofs.event_agreement.event_pairs.Parts.{cone_up, care_tree_up}
+use Rattle.class_queries.specs.Enables.{both_of, class_map}
+use Rattle.class_queries.proofs.Meaning.{numbered}
+use Rattle.event_agreement.proofs.CutCircuits.{left_same, right_same, both_same, some, cut_meets}
+use Rattle.event_agreement.proofs.SameCircuits.{AreSame, same_part, same_classes, same_depths}
+use Rattle.event_agreement.proofs.event_pairs.Parts.{cone_up, care_tree_up}
 use Rattle.interface.specs.declared.pairs.SignalPair.{SignalPair}
 use Rattle.outcome.specs.declared.verdict.PairResult.{PairResult}
 use Rattle.outcome.specs.pair_decide.declared.query.Proof.{Proof}

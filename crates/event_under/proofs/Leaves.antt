@@ -22,9 +22,9 @@ use Rattle.event_nodes.specs.View.{EventCircuitView}
 use Rattle.event_nodes.proofs.Bits.{kind_of}
 use Rattle.event_nodes.proofs.Visits.{reached_visited}
 use Rattle.event_variables.proofs.Leaves.{IsPart, leaf_visited, visited_part, part_leaf}
-use Rattle.event_form.specs.class_queries.Enables.{both_of}
-use Rattle.event_form.specs.class_queries.Laws.{AreKept}
-use Rattle.event_form.proofs.class_queries.Meaning.{numbered}
+use Rattle.class_queries.specs.Enables.{both_of}
+use Rattle.class_queries.specs.Laws.{AreKept}
+use Rattle.class_queries.proofs.Meaning.{numbered}
 use Rattle.assume_laws.specs.Sequences.{IsSideTree}
 use Rattle.event_under.specs.Laws.{SidesHaveAllVariables}
 

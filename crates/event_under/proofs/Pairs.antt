@@ -11,7 +11,7 @@ use Rattle.circuit_theory.specs.Tree.{tree_value}
 use Rattle.circuit_theory.proofs.Lists.{Contains-map, length-map}
 use Rattle.circuit_theory.specs.EventFrames.{IsEventSize, frame_of}
 use Rattle.circuit_theory.specs.Frame.{EventSide}
-use Rattle.sec_base.specs.Table.{AreDistinct}
+use Rattle.base_tables.specs.Table.{AreDistinct}
 use Rattle.sec_base.specs.declared.basics.PairAnswer.{PairAnswer}
 use Rattle.sec_base.specs.declared.basics.PairAnswer.TheVariants as answer
 use Rattle.aig.specs.declared.node.Node.{Node}

@@ -6,7 +6,7 @@ use Rattle.circuit_theory.specs.Run.{IsEnabled}
 use Rattle.circuit_theory.specs.Tree.{Tree, tree_value}
 use Rattle.circuit_theory.specs.EventFrames.{AreNodeVariables, IsEventSize}
 use Rattle.circuit_theory.specs.Frame.{EventSide, EventUnfolds}
-use Rattle.sec_base.specs.Table.{AreDistinct}
+use Rattle.base_tables.specs.Table.{AreDistinct}
 use Rattle.sec_base.specs.declared.basics.PairAnswer.{PairAnswer}
 use Rattle.sec_base.specs.declared.basics.PairAnswer.TheVariants as answer
 use Rattle.aig.specs.declared.node.Node.{Node}

@@ -19,7 +19,7 @@ use Rattle.circuit_theory.specs.EventFrames.{AreNodeVariables, IsPairTree, frame
 use Rattle.circuit_theory.specs.Frame.{EventSide, EventUnfolds, bits_as_shifts}
 use Rattle.flat_net.specs.Cut.{IsCutCircuit}
 use Rattle.flat_net.specs.View.{circuit_of}
-use Rattle.sec_base.specs.Table.{AreDistinct}
+use Rattle.base_tables.specs.Table.{AreDistinct}
 use Rattle.sec_base.specs.declared.basics.PairAnswer.TheVariants as answer
 use Rattle.aig.specs.declared.node.Node.{Node}
 use Rattle.aig.specs.Values.{value}
@@ -28,8 +28,8 @@ use Rattle.outcome.specs.pair_decide.Answers.{IsDifference}
 use Rattle.outcome.specs.pair_decide.Queries.{assigned_to}
 use Rattle.event_nodes.specs.Nodes.{EventGraphView}
 use Rattle.event_nodes.specs.View.{EventCircuitView, Enabled}
-use Rattle.event_form.specs.class_queries.Enables.{both_of}
-use Rattle.event_form.specs.class_queries.Laws.{AreKept}
+use Rattle.class_queries.specs.Enables.{both_of}
+use Rattle.class_queries.specs.Laws.{AreKept}
 use Rattle.interface.specs.declared.pairs.SignalPair.{SignalPair}
 use Rattle.obligations.specs.declared.obligation.Obligation.{Obligation}
 use Rattle.obligations.specs.Decided.{IsAnswered}

@@ -9,7 +9,7 @@ use Rattle.circuit_theory.proofs.Lists.{All-from_each, at_of}
 use Rattle.circuit_theory.specs.Frame.{EventSide}
 use Rattle.flat_net.specs.View.{NetView}
 use Rattle.flat_net.proofs.Nets.{some_at}
-use Rattle.sec_base.specs.Table.{AreDistinct}
+use Rattle.base_tables.specs.Table.{AreDistinct}
 use Rattle.pair_decide.specs.Queries.{IsQuery}
 use Rattle.interface.specs.declared.pairs.SignalPair.{SignalPair}
 use Rattle.obligations.specs.declared.obligation.Obligation.{Obligation}

@@ -1,7 +1,7 @@
 -- What is asked of pairs under an assumption, and what a verdict on it is shown by.
 use Rattle.std.specs.Prelude.{◌≡◌, ℕ, List, length}
 use Rattle.flat_net.specs.View.{NetView}
-use Rattle.sec_base.specs.Table.{AreDistinct}
+use Rattle.base_tables.specs.Table.{AreDistinct}
 use Rattle.sec_base.specs.declared.basics.PairAnswer.{PairAnswer}
 use Rattle.event_agreement.specs.pair_events.View.{EventsView, side_of_both}
 use Rattle.obligations.specs.Decided.{IsFirstOf}

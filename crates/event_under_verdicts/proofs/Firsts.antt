@@ -18,7 +18,7 @@ use Rattle.circuit_theory.specs.Frame.{bits_as_shifts}
 use Rattle.flat_net.specs.View.{circuit_of}
 use Rattle.flat_net.proofs.Nets.{some_at}
 use Rattle.flat_net.proofs.Places.{All-at}
-use Rattle.sec_base.specs.Table.{AreDistinct}
+use Rattle.base_tables.specs.Table.{AreDistinct}
 use Rattle.sec_base.specs.declared.basics.PairAnswer.{PairAnswer}
 use Rattle.sec_base.specs.declared.basics.PairAnswer.TheVariants as answer
 use Rattle.aig.specs.declared.node.Node.{Node}

@@ -8,4 +8,3 @@ pub mod frame_sequences
 pub use Rattle.event_nodes.specs as event_nodes
 pub use Rattle.event_nodes.specs.aig
 pub use Rattle.flat_net.specs as flat_net
-pub use Rattle.sec_base.specs as sec_base

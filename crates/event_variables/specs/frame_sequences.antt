@@ -1,2 +1,1 @@
 pub mod Frames
-pub use Rattle.event_nodes.specs as event_nodes

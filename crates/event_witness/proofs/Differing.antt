@@ -14,10 +14,10 @@ use Rattle.interface.specs.flat_net.View.{circuit_of}
 use Rattle.interface.proofs.flat_net.Nets.{sound_is_net}
 use Rattle.aig.specs.Values.{value}
 use Rattle.event_variables.specs.Variables.{variables_of}
-use Rattle.event_form.specs.class_queries.Enables.{both_of, class_map}
-use Rattle.event_form.proofs.class_queries.Meaning.{numbered}
-use Rattle.event_form.specs.event_agreement.Laws.{IsFrameDifference}
-use Rattle.event_form.proofs.event_agreement.PairQueries.{are_variables, differences_least}
+use Rattle.class_queries.specs.Enables.{both_of, class_map}
+use Rattle.class_queries.proofs.Meaning.{numbered}
+use Rattle.event_agreement.specs.Laws.{IsFrameDifference}
+use Rattle.event_agreement.proofs.PairQueries.{are_variables, differences_least}
 use Rattle.outcome.specs.pair_decide.declared.query.Query.{Query}
 use Rattle.outcome.specs.pair_decide.Answers.{IsDifference}
 use Rattle.outcome.specs.pair_decide.Queries.{assigned_to}

@@ -8,7 +8,7 @@ use Rattle.aig.specs.Graph.{Grows}
 use Rattle.aig.specs.Values.{value}
 use Rattle.aig.proofs.Meaning.{value-grows}
 use Rattle.event_variables.specs.Nodes.{EventGraphView, IsEventGraph, GrowsEvents}
-use Rattle.event_form.proofs.event_agreement.PairQueries.{is_query}
+use Rattle.event_agreement.proofs.PairQueries.{is_query}
 use Rattle.interface.specs.declared.pairs.SignalPair.{SignalPair}
 use Rattle.event_form.specs.Difference.{Difference}
 use Rattle.event_form.specs.Obligation.{Obligation}

@@ -7,7 +7,7 @@ use Rattle.circuit_theory.specs.Joined.{Either, Left, Right}
 use Rattle.circuit_theory.specs.Frame.{EventSide}
 use Rattle.sec_base.specs.declared.basics.PairAnswer.{PairAnswer}
 use Rattle.event_variables.specs.Nodes.{EventGraphView, IsEventGraph}
-use Rattle.event_form.proofs.event_agreement.PairQueries.{is_query, within}
+use Rattle.event_agreement.proofs.PairQueries.{is_query, within}
 use Rattle.interface.specs.declared.pairs.SignalPair.{SignalPair}
 use Rattle.event_form.specs.Difference.{Difference}
 use Rattle.event_form.specs.Obligation.{Obligation}

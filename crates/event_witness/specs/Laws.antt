@@ -13,8 +13,8 @@ use Rattle.sec_base.specs.declared.basics.PairAnswer.{PairAnswer}
 use Rattle.aig.specs.Values.{value}
 use Rattle.event_variables.specs.Nodes.{EventGraphView, IsEventGraph, GrowsEvents}
 use Rattle.event_variables.specs.event_nodes.View.{EventCircuitView, Enabled}
-use Rattle.event_form.specs.class_queries.Enables.{both_of}
-use Rattle.event_form.specs.class_queries.Laws.{AreKept}
+use Rattle.class_queries.specs.Enables.{both_of}
+use Rattle.class_queries.specs.Laws.{AreKept}
 use Rattle.interface.specs.declared.pairs.SignalPair.{SignalPair}
 use Rattle.event_form.specs.Obligation.{Obligation}
 use Rattle.event_form.specs.Difference.{Difference}

@@ -3,4 +3,3 @@ pub mod Sequences
 pub mod Unshown
 pub mod Shown
 pub mod Laws
-pub use Rattle.outcome.specs as outcome

@@ -1,7 +1,7 @@
 //! What shows a difference of what is asked of pairs.
 
 ghost use Rattle.std.specs.Prelude.{◌≡◌, length, IfOk};
-ghost use Rattle.sec_base.specs.Table.{AreDistinct};
+ghost use Rattle.base_tables.specs.Table.{AreDistinct};
 ghost use Rattle.event_witness.specs.Shown.{IsShowable, IsUnshownAt, IsWitnessAt};
 
 use crate::unshown::{UnshownFrame, unshown_of};

@@ -1,7 +1,7 @@
 //! The sequence of a difference.
 
 ghost use Rattle.std.specs.Prelude.{◌≡◌, ◌<◌, length, All, IfOk};
-ghost use Rattle.sec_base.specs.Table.{AreDistinct};
+ghost use Rattle.base_tables.specs.Table.{AreDistinct};
 ghost use Rattle.event_witness_under.specs.Shown.{HasSides, IsSequenceAt, IsSequenceOf};
 
 use crate::ready::ReadyDifference;

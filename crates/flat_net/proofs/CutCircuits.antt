@@ -12,7 +12,7 @@ use Rattle.circuit_theory.specs.Agree.{cut, is_kept, latch_named, named_at, firs
 use Rattle.circuit_theory.proofs.Lists.{map-map}
 use Rattle.circuit_theory.proofs.Inputs.{same_name-sound}
 use Rattle.circuit_theory.proofs.Numbers.{same_name-refl}
-use Rattle.sec_base.specs.Table.{is_among, AreDistinct}
+use Rattle.base_tables.specs.Table.{is_among, AreDistinct}
 use Rattle.flat_net.specs.declared.parts.Port.{Port}
 use Rattle.flat_net.specs.declared.parts.Gate.{Gate}
 use Rattle.flat_net.specs.declared.parts.LatchAt.{LatchAt}

@@ -3,8 +3,8 @@ use Rattle.std.proofs.Common.{◌≡◌, ◌<◌, ◌∙◌, ℕ, false, List, l
 use Rattle.std.specs.List.{All}
 use Rattle.std.proofs.lemmas.List.{take-map}
 use Rattle.std.proofs.lemmas.Option.{slice_get-get_or, slice_get-map}
-use Rattle.sec_base.specs.Table.{is_among, AreDistinct}
-use Rattle.sec_base.proofs.TableLemmas.{key_at, not_before}
+use Rattle.base_tables.specs.Table.{is_among, AreDistinct}
+use Rattle.base_tables.proofs.TableLemmas.{key_at, not_before}
 use Rattle.flat_net.specs.declared.parts.Driver.TheVariants as driver
 use Rattle.flat_net.specs.View.{NetView}
 use Rattle.flat_net.specs.Sound.{IsSound}

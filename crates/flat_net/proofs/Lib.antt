@@ -7,7 +7,5 @@ pub mod PlaceLists
 pub mod Exposed
 pub mod CutNets
 pub mod CutCircuits
-pub use Rattle.sec_base.proofs.TableLemmas
+pub use Rattle.base_tables.proofs.TableLemmas
 pub use Rattle.circuit_theory.proofs as circuit_theory
-pub use Rattle.sec_base.proofs as sec_base
-pub use Rattle.sec_base.proofs.unique_table

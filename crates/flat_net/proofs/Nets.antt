@@ -7,7 +7,7 @@ use Rattle.std.proofs.lemmas.Option.{slice_get_within, slice_get-get_or}
 use Rattle.circuit_theory.specs.Circuit.{Equation, Latch as latch_equation, Named, IsLatch, IsSingleDriven, out_of}
 use Rattle.circuit_theory.specs.Net.{IsAbove, IsWithin, IsDriven, IsNet, HasDistinctNames}
 use Rattle.circuit_theory.proofs.Lists.{Contains-map, Contains-map_from, All-from_each, at_of, of_at}
-use Rattle.sec_base.proofs.TableLemmas.{key_at}
+use Rattle.base_tables.proofs.TableLemmas.{key_at}
 use Rattle.flat_net.specs.declared.parts.Port.{Port}
 use Rattle.flat_net.specs.declared.parts.Gate.{Gate}
 use Rattle.flat_net.specs.declared.parts.LatchAt.{LatchAt}

@@ -4,8 +4,8 @@ use Rattle.std.specs.Prelude.{◌⊎◌}
 use Rattle.std.specs.List.{filter}
 use Rattle.std.proofs.lemmas.Bool.{cases_lt}
 use Rattle.std.proofs.lemmas.Option.{same_Some}
-use Rattle.sec_base.specs.Table.{is_among}
-use Rattle.sec_base.proofs.TableLemmas.{take-push}
+use Rattle.base_tables.specs.Table.{is_among}
+use Rattle.base_tables.proofs.TableLemmas.{take-push}
 use Rattle.flat_net.proofs.Growth.{slice_get-append, slice_get-push, length-push}
 use Rattle.flat_net.specs.declared.parts.LatchAt.{LatchAt}
 use Rattle.flat_net.specs.declared.parts.Driver.{Driver}

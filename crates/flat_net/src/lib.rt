@@ -6,11 +6,12 @@ mod net;
 mod parts;
 mod signals;
 
+pub use base_tables::{NameTable, PlaceTable, UniqueTable};
 pub use maker::NetMaker;
 pub use net::Net;
 pub use parts::{Driver, Gate, LatchAt, Port};
 pub use sec_base::{
-    BitRows, Bits, Cover, Duplicate, Ids, MAX_CONFLICTS, NameTable, NoMemory, Orders, PlaceTable,
-    Seq, Side, Tag, UniqueTable, Word, Words, unset_bits,
+    BitRows, Bits, Cover, Duplicate, Ids, MAX_CONFLICTS, NoMemory, Orders, Seq, Side, Tag, Word,
+    Words, unset_bits,
 };
 pub use signals::{Signal, Signals};

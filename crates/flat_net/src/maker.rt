@@ -1,7 +1,7 @@
 //! A net under construction.
 
 ghost use Rattle.std.specs.Prelude.{◌≡◌, ◌+◌, ◌^◌, ◌<◌, ℕ, true, false, [], ◌∷◌, ◌++◌, length, slice_get, slice_set, Some, All, IfOk, IfSome, is_some, IsSomeAnd, OnOk, OnErr};
-ghost use Rattle.sec_base.specs.Table.{is_among};
+ghost use Rattle.base_tables.specs.Table.{is_among};
 ghost use Rattle.flat_net.specs.Sound.{IsSound};
 ghost use Rattle.flat_net.specs.Makes.{MakerView, empty_net, with_input, with_latch, with_gate, with_cover, with_output, with_next, with_clock};
 

@@ -4,7 +4,7 @@ ghost use Rattle.std.specs.Prelude.{◌≡◌, ◌<◌, length, map, slice_get, 
 ghost use Rattle.std.specs.List.{list_any};
 ghost use Rattle.circuit_theory.specs.Cover.{cover_value, row_matches};
 ghost use Rattle.sec_base.specs.Cover.{IsCoverSound};
-ghost use Rattle.sec_base.specs.Table.{is_among};
+ghost use Rattle.base_tables.specs.Table.{is_among};
 ghost use Rattle.circuit_theory.specs.Net.{IsNet, HasDistinctNames};
 ghost use Rattle.flat_net.specs.View.{NetView, cover_of, circuit_of, is_read};
 ghost use Rattle.flat_net.specs.Sound.{IsSound, IsInOrder};
@@ -14,8 +14,9 @@ mod growth;
 
 use crate::parts::{Driver, Gate, LatchAt, Port};
 use crate::signals::Signal;
+use base_tables::NameTable;
 pub(crate) use growth::push_within;
-use sec_base::{Cover, NameTable, Word, place_matches};
+use sec_base::{Cover, Word, place_matches};
 use std::marker::Model;
 
 /// A flat circuit. Each signal has one driver and a name of its own, and each gate stands behind the gates that it

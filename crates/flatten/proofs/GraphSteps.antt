@@ -1,7 +1,7 @@
 -- What signals read, and the lists that the code makes of it.
 use Rattle.std.proofs.Common.{◌≡◌, ◌+◌, ◌∙◌, ℕ, List, [], ◌∷◌, ◌++◌, map, take, slice_get, Some, sym, ap}
 use Rattle.std.proofs.lemmas.List.{map-append}
-use Rattle.sec_base.proofs.TableLemmas.{take-push}
+use Rattle.base_tables.proofs.TableLemmas.{take-push}
 use Rattle.elaborate.specs.declared.flat.FlatStatement.{FlatStatement}
 use Rattle.connectivity.specs.declared.source.Source.{Source}
 use Rattle.flatten.specs.Graph.{source_reads}

@@ -15,8 +15,7 @@ use Rattle.blif_read.specs.declared.design.Statement.TheVariants.{Names, Latch, 
 use Rattle.blif_read.specs.Design.{Inside, Place, name_of, Item, At, Enter, Pairing, is_input_formal, place_at, start_at, start_of, main_walk, circuit_of_design}
 use Rattle.blif_read.specs.Kept.{is_plain, written_names, covers_fit}
 use Rattle.flat_net.specs.declared.parts.LatchAt.{LatchAt}
-use Rattle.flat_net.specs.View.{NetView, circuit_of}
-use Rattle.flat_net.specs.View.{start_of as net_start}
+use Rattle.flat_net.specs.View.{NetView, circuit_of, start_of as net_start}
 use Rattle.elaborate.specs.declared.flat.Flat.{Flat}
 use Rattle.elaborate.specs.declared.flat.FlatStatement.{FlatStatement}
 use Rattle.elaborate.specs.declared.flat.FlatKind.{FlatKind}

@@ -3,7 +3,7 @@ use Rattle.std.specs.Prelude.{◌≡◌, ℕ, suc, ◌<◌, ◌≤◌, ◌==◌,
 use Rattle.std.specs.List.{All, Contains, filter}
 use Rattle.circuit_theory.specs.Circuit.{Equation}
 use Rattle.circuit_theory.specs.Joined.{moved}
-use Rattle.sec_base.specs.Table.{AreDistinct}
+use Rattle.base_tables.specs.Table.{AreDistinct}
 use Rattle.blif_read.specs.declared.design.BlifModel.{BlifModel}
 use Rattle.flat_net.specs.declared.signals.Signal.{Signal}
 use Rattle.flat_net.specs.declared.parts.Gate.{Gate}

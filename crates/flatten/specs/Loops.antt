@@ -2,7 +2,7 @@
 use Rattle.std.specs.Prelude.{◌≡◌, ◌⊎◌, ℕ, suc, ◌-◌, ◌<◌, Bool, List, [], ◌∷◌, ◌++◌, map, length, take, drop, slice_get, slice_index_or, Some}
 use Rattle.std.specs.List.{All, Contains, filter}
 use Rattle.circuit_theory.specs.Names.{ListBefore}
-use Rattle.sec_base.specs.Table.{AreDistinct}
+use Rattle.base_tables.specs.Table.{AreDistinct}
 use Rattle.elaborate.specs.Flat.{FlatDesign, FlatOf, Kind, gate, latch, port, name_at}
 
 -- a gate or a port has its value in the cycle in which it reads

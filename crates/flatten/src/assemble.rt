@@ -1,15 +1,16 @@
 //! The net of a sound flat design.
 
 ghost use Rattle.std.specs.Prelude.{◌≡◌, ◌^◌, ◌+◌, ◌<◌, ℕ, List, [], ◌∷◌, ◌++◌, false, true, length, replicate, slice_get, slice_set, slice_index_or, option_map, Some, None, All, IfOk, IfSome, OnOk, IsSomeAnd};
-ghost use Rattle.sec_base.specs.Table.{is_among, AreDistinct};
+ghost use Rattle.base_tables.specs.Table.{is_among, AreDistinct};
 ghost use Rattle.elaborate.specs.Flat.{cover_at, is_number, name_at};
 ghost use Rattle.net_assembly.specs.Built.{IsBuilt, CanTakeLatches, unclocked, with_inputs, latch_outs, with_latches};
 ghost use Rattle.flat_net.specs.Makes.{empty_net, new_signal, with_input, with_latch, with_gate, with_output, with_next};
 
+use base_tables::PlaceTable;
 use blif_read::{BlifModel, Statement};
 use elaborate::{Flat, FlatKind};
 use flat_net::{Net, NetMaker, Signal, Signals};
-use sec_base::{Cover, Init, NoMemory, PlaceTable, Seq};
+use sec_base::{Cover, Init, NoMemory, Seq};
 use std::alloc::Global;
 use std::mem;
 

@@ -3,9 +3,8 @@
 ghost use Rattle.std.specs.Prelude.{◌≡◌, ◌<◌, ◌^◌, ◌++◌, ◌≢◌, ℕ, true, false, [], length, map, take, drop, slice_index_or, slice_get, All, IfOk, IfErr, OnOk};
 ghost use Rattle.std.specs.List.{filter};
 ghost use Rattle.circuit_theory.specs.Names.{ListBefore};
-ghost use Rattle.elaborate.specs.Flat.{name_at};
+ghost use Rattle.elaborate.specs.Flat.{name_at, named, view_of};
 ghost use Rattle.flatten.specs.Graph.{IsSourceWithin, source_reads, is_gate_source, is_gate_out, graph_of};
-ghost use Rattle.elaborate.specs.Flat.{named, view_of};
 ghost use Rattle.elaborate.specs.declared.error.FlatError.TheVariants as fault;
 ghost use Rattle.connectivity.specs.Wired.{IsWired};
 ghost use Rattle.connectivity.specs.Wiring.{wires_of};

@@ -5,8 +5,8 @@ use Rattle.std.specs.List.{zip, AllPairs}
 use Rattle.std.proofs.lemmas.Option.{slice_get-get_or, slice_get_within, same_Some, none-some}
 use Rattle.std.proofs.lemmas.Slice.Zip.{firsts-zip, length-zip}
 use Rattle.circuit_theory.proofs.Lists.{Contains-map, of_at}
-use Rattle.sec_base.specs.unique_table.Places.{StandOnce}
-use Rattle.sec_base.proofs.unique_table.Keys.{all-differ}
+use Rattle.base_tables.specs.unique_table.Places.{StandOnce}
+use Rattle.base_tables.proofs.unique_table.Keys.{all-differ}
 
 -- what stands at a number of both lists
 pub zip_at : {X : Type 0} (ps : List (ℕ × ℕ)) (xs : List X) (i : ℕ) (p : ℕ × ℕ) (x : X) → slice_get ps i ≡ Some p → slice_get xs i ≡ Some x → slice_get (zip ps xs) i ≡ Some (p, x)

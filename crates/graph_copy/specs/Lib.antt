@@ -1,2 +1,3 @@
 pub mod Copy
 pub mod graph_clone
+pub mod aig_or

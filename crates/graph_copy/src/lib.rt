@@ -2,6 +2,7 @@
 //! places that were met.
 #![tactic(auto)]
 
+pub mod aig_or;
 mod copy;
 pub mod graph_clone;
 pub mod memo;

@@ -5,7 +5,8 @@ ghost use Rattle.std.specs.List.{AllPairs};
 ghost use Rattle.aig.specs.declared.node.Lit.{Lit};
 
 use aig::Lit;
-use sec_base::{NoMemory, UniqueTable};
+use base_tables::UniqueTable;
+use sec_base::NoMemory;
 use std::alloc::Global;
 use std::marker::Model;
 

@@ -13,8 +13,8 @@ use Rattle.block_refine.specs.declared.block_graph.graph.BlockGraph.{BlockGraph}
 use Rattle.block_refine.specs.block_graph.Graph.{IsBlockGraph}
 use Rattle.block_refine.specs.declared.refinement.SplitLimit.{SplitLimit}
 use Rattle.block_refine.specs.Refining.{AreCoarsest, IsSplitLimit}
-use Rattle.block_outputs.specs.declared.outputs.OutputPair.{OutputPair}
-use Rattle.block_outputs.specs.Answers.{IsOutputAnswer}
+use Rattle.induct.specs.declared.block_outputs.outputs.OutputPair.{OutputPair}
+use Rattle.induct.specs.block_outputs.Answers.{IsOutputAnswer}
 use Rattle.induct.specs.declared.induction.Induction.{Induction}
 use Rattle.induct.specs.declared.induction.InductVerdict.TheVariants as verdict
 use Rattle.induct.specs.Inductions.{AreOwnNumbers, tag_at, AreMembers, pair_told, first_limit, first_shown, verdict_of, TellsInside, IsOver, IsSplitLimitOf}

@@ -14,12 +14,12 @@ use Rattle.block_refine.specs.declared.block_graph.graph.BlockGraph.{BlockGraph}
 use Rattle.block_refine.specs.block_graph.Graph.{AreReady, IsBlockGraph}
 use Rattle.block_refine.proofs.block_graph.Numbered.{light_few}
 use Rattle.block_refine.specs.Refining.{AreCoarsest}
-use Rattle.block_outputs.specs.declared.answer.Shown.{Shown}
-use Rattle.block_outputs.specs.declared.answer.OutputAnswer.{OutputAnswer}
-use Rattle.block_outputs.specs.declared.answer.OutputAnswer.TheVariants as answer
-use Rattle.block_outputs.specs.declared.outputs.OutputPair.{OutputPair}
-use Rattle.block_outputs.specs.Answers.{IsAnswer, IsOutputAnswer}
-use Rattle.block_outputs.proofs.Agreeing.{equal_outputs_agree}
+use Rattle.induct.specs.declared.block_outputs.answer.Shown.{Shown}
+use Rattle.induct.specs.declared.block_outputs.answer.OutputAnswer.{OutputAnswer}
+use Rattle.induct.specs.declared.block_outputs.answer.OutputAnswer.TheVariants as answer
+use Rattle.induct.specs.declared.block_outputs.outputs.OutputPair.{OutputPair}
+use Rattle.induct.specs.block_outputs.Answers.{IsAnswer, IsOutputAnswer}
+use Rattle.induct.proofs.block_outputs.Agreeing.{equal_outputs_agree}
 use Rattle.induct.specs.declared.induction.InductVerdict.TheVariants as verdict
 use Rattle.induct.specs.Inductions.{AreOwnNumbers, AreSmall, first_limit, first_shown, limit_or, shown_or, variable_told, verdict_of}
 use Rattle.induct.proofs.OwnNumbers.{orders_long}

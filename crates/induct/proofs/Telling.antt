@@ -4,10 +4,10 @@ use Rattle.std.specs.List.{All}
 use Rattle.std.specs.Option.{option_or}
 use Rattle.std.proofs.lemmas.List.{map_push}
 use Rattle.std.proofs.lemmas.List.Elements.{All-head, All-tail}
-use Rattle.block_outputs.specs.declared.answer.Shown.{Shown}
-use Rattle.block_outputs.specs.declared.answer.OutputAnswer.{OutputAnswer}
-use Rattle.block_outputs.specs.declared.answer.OutputAnswer.TheVariants as answer
-use Rattle.block_outputs.specs.declared.outputs.OutputPair.{OutputPair}
+use Rattle.induct.specs.declared.block_outputs.answer.Shown.{Shown}
+use Rattle.induct.specs.declared.block_outputs.answer.OutputAnswer.{OutputAnswer}
+use Rattle.induct.specs.declared.block_outputs.answer.OutputAnswer.TheVariants as answer
+use Rattle.induct.specs.declared.block_outputs.outputs.OutputPair.{OutputPair}
 use Rattle.induct.specs.declared.induction.InductPair.{InductPair}
 use Rattle.induct.specs.declared.verdict.Told.{Told}
 use Rattle.induct.specs.Inductions.{pair_told, limit_or, shown_or, first_limit, first_shown, AreSmall, IsTold}

@@ -21,11 +21,11 @@ use Rattle.latch_blocks.specs.Signals.{variable_of, IsLeaf}
 use Rattle.block_refine.specs.declared.block_graph.nets.BlockNets.{BlockNets}
 use Rattle.block_refine.specs.declared.block_graph.graph.BlockGraph.{BlockGraph}
 use Rattle.block_refine.specs.block_graph.Graph.{IsBlockGraph}
-use Rattle.block_outputs.specs.declared.answer.Shown.{Shown}
-use Rattle.block_outputs.specs.declared.answer.OutputAnswer.{OutputAnswer}
-use Rattle.block_outputs.specs.declared.answer.OutputAnswer.TheVariants as answer
-use Rattle.block_outputs.specs.declared.outputs.OutputPair.{OutputPair}
-use Rattle.block_outputs.specs.Answers.{IsAnswer, IsOutputAnswer, IsShown}
+use Rattle.induct.specs.declared.block_outputs.answer.Shown.{Shown}
+use Rattle.induct.specs.declared.block_outputs.answer.OutputAnswer.{OutputAnswer}
+use Rattle.induct.specs.declared.block_outputs.answer.OutputAnswer.TheVariants as answer
+use Rattle.induct.specs.declared.block_outputs.outputs.OutputPair.{OutputPair}
+use Rattle.induct.specs.block_outputs.Answers.{IsAnswer, IsOutputAnswer, IsShown}
 use Rattle.induct.specs.Inductions.{AreOwnNumbers, variable_told, first_limit, first_shown, shown_or, verdict_of, TellsInside}
 use Rattle.induct.proofs.LeftOut.{stays_beside}
 

@@ -15,11 +15,11 @@ use Rattle.block_refine.specs.declared.block_graph.graph.BlockGraph.{BlockGraph}
 use Rattle.block_refine.specs.block_graph.Graph.{IsBlockGraph}
 use Rattle.block_refine.specs.declared.refinement.SplitLimit.{SplitLimit}
 use Rattle.block_refine.specs.Refining.{AreCoarsest, IsSplitLimit}
-use Rattle.block_outputs.specs.declared.answer.Shown.{Shown}
-use Rattle.block_outputs.specs.declared.answer.OutputAnswer.{OutputAnswer}
-use Rattle.block_outputs.specs.declared.answer.OutputAnswer.TheVariants as answer
-use Rattle.block_outputs.specs.declared.outputs.OutputPair.{OutputPair}
-use Rattle.block_outputs.specs.Answers.{IsOutputAnswer}
+use Rattle.induct.specs.declared.block_outputs.answer.Shown.{Shown}
+use Rattle.induct.specs.declared.block_outputs.answer.OutputAnswer.{OutputAnswer}
+use Rattle.induct.specs.declared.block_outputs.answer.OutputAnswer.TheVariants as answer
+use Rattle.induct.specs.declared.block_outputs.outputs.OutputPair.{OutputPair}
+use Rattle.induct.specs.block_outputs.Answers.{IsOutputAnswer}
 use Rattle.induct.specs.declared.induction.InductPair.{InductPair}
 use Rattle.induct.specs.declared.induction.InductVerdict.{InductVerdict}
 use Rattle.induct.specs.declared.induction.InductVerdict.TheVariants as verdict

@@ -1,3 +1,3 @@
 pub mod Inductions
 pub use Rattle.block_refine.specs as block_refine
-pub use Rattle.block_outputs.specs as block_outputs
+pub mod block_outputs

@@ -10,10 +10,10 @@ ghost use Rattle.induct.specs.declared.induction.InductVerdict.TheVariants as ve
 ghost use Rattle.block_refine.specs.Refining.{AreCoarsest, IsSplitLimit};
 ghost use Rattle.induct.specs.Inductions.{AreOwnNumbers, IsOver, IsSplitLimitOf, IsInduction, IsRefusal};
 
+use crate::block_outputs::{Refined, SplitLimit, compare_outputs, refine};
 use crate::members::{members, tag_at};
 use crate::numbers::own_numbers;
 use crate::verdict::judge;
-use block_outputs::{Refined, SplitLimit, compare_outputs, refine};
 use block_refine::block_graph::{BlockGraph, BlockNets};
 use flat_net::Net;
 use interface::inputs_beside;

@@ -2,6 +2,7 @@
 //! behaviour and not by name.
 #![tactic(auto)]
 
+pub mod block_outputs;
 mod induction;
 mod members;
 mod numbers;

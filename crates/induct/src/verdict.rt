@@ -2,11 +2,11 @@
 
 ghost use Rattle.std.specs.Prelude.{◌≡◌, [], ◌∷◌, ◌+◌, ◌^◌, ◌<◌, List, ◌++◌, map, All, Some, IfOk, IfSome, OnOk};
 ghost use Rattle.std.specs.Option.{option_or};
-ghost use Rattle.block_outputs.specs.declared.outputs.OutputPair.{OutputPair};
+ghost use Rattle.induct.specs.declared.block_outputs.outputs.OutputPair.{OutputPair};
 ghost use Rattle.induct.specs.Inductions.{pair_told, variable_told, first_limit, first_shown, verdict_of, AreSmall, IsTold};
 
+use crate::block_outputs::{OutputAnswer, OutputPair, OutputPairs, Shown};
 use crate::induction::{Blocks, InductPair, InductPairs, InductVerdict, Induction};
-use block_outputs::{OutputAnswer, OutputPair, OutputPairs, Shown};
 use pair_decide::Proof;
 use sec_base::{Ids, NoMemory, PairAnswer, Word};
 use std::alloc::Global;

@@ -7,9 +7,10 @@ ghost use Rattle.flat_net.specs.Cut.{latch_at};
 ghost use Rattle.outcome.specs.Report.{answer_word};
 ghost use Rattle.induct_report.specs.Report.{counts_text, member_text, block_line, pair_line, variable_text, bit_line, values_text, limit_text};
 
+use base_tables::NameTable;
 use flat_net::Net;
 use induct::InductPair;
-use sec_base::{NameTable, NoMemory, PairAnswer, Side, Tag, digit_of, put, put_number};
+use sec_base::{NoMemory, PairAnswer, Side, Tag, digit_of, put, put_number};
 use std::alloc::Global;
 
 /// Puts how many inputs are shared and how many latches A and B have.

@@ -7,10 +7,11 @@ ghost use Rattle.induct_report.specs.Report.{block_line, blocks_text, listed_tex
 use crate::text::{
     put_bits, put_block, put_block_count, put_counts, put_limit, put_pair, put_values,
 };
+use base_tables::NameTable;
 use flat_net::Net;
 use induct::{Block, Blocks, InductPair, InductVerdict, Induction};
 use interface::inputs_beside;
-use sec_base::{NameTable, NoMemory, Seq, Text, put};
+use sec_base::{NoMemory, Seq, Text, put};
 use std::alloc::Global;
 
 /// The report: how many inputs both circuits share and how many latches each has; how many blocks there are, a line for each with its

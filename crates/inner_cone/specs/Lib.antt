@@ -5,4 +5,3 @@ pub use Rattle.latch_cone.specs.Cones
 pub use Rattle.latch_cone.specs as latch_cone
 pub use Rattle.latch_cone.specs.circuit_theory
 pub use Rattle.latch_cone.specs.flat_net
-pub use Rattle.latch_cone.specs.sec_base

@@ -6,4 +6,3 @@ pub mod Paired
 pub mod Shared
 pub use Rattle.circuit_laws.proofs as circuit_laws
 pub use Rattle.flat_net.proofs as flat_net
-pub use Rattle.flat_net.proofs.sec_base

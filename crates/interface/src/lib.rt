@@ -2,6 +2,7 @@
 //! are compared. It knows no latch graph.
 #![tactic(auto)]
 
+pub mod name_tables;
 mod numbers;
 mod pairs;
 

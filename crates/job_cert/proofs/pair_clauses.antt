@@ -1,4 +1,3 @@
-pub use Rattle.under_base.proofs.compare_base.ToldCycles
 pub mod Refused
 pub mod Outputs
 pub mod Places

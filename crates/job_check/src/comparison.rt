@@ -8,10 +8,10 @@ ghost use Rattle.flat_net.specs.Comparable.{IsComparable};
 ghost use Rattle.check_found.specs.Check.{Check, all_paths, assumed_paths};
 ghost use Rattle.check_found.specs.Ends.{compare_end, EndsBeside, EndsBoth, FoundOf};
 
+use crate::sec_check::{CompareError, Outcome, Settings, compare, compare_under};
 use check_found::{File, Finding, Refusal, Stop, load, load_end};
 use flat_net::Net;
 use sec_base::{MAX_CONFLICTS, Shelf};
-use sec_check::{CompareError, Outcome, Settings, compare, compare_under};
 use std::alloc::Global;
 
 /// The paths of two files that are to be compared, how, and that of the assumption where there is one.

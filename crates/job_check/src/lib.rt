@@ -2,5 +2,6 @@
 #![tactic(auto)]
 
 mod comparison;
+pub mod sec_check;
 
 pub use comparison::{Comparison, check};

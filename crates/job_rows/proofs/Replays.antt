@@ -7,7 +7,7 @@ use Rattle.circuit_theory.specs.declared.Mode.{Mode}
 use Rattle.circuit_theory.specs.declared.Mode.TheVariants.{Plain, Event}
 use Rattle.circuit_theory.specs.Interface.{first_missing, shared_inputs}
 use Rattle.circuit_theory.proofs.Lists.{Contains-cases}
-use Rattle.sec_base.specs.Table.{is_among}
+use Rattle.base_tables.specs.Table.{is_among}
 use Rattle.blif_read.specs.declared.design.BlifModel.{BlifModel}
 use Rattle.flat_net.specs.declared.parts.LatchAt.{LatchAt}
 use Rattle.flat_net.specs.View.{NetView, ports_of}

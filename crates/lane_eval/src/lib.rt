@@ -4,6 +4,7 @@
 mod blocks;
 mod evaluation;
 mod places;
+pub mod root_classes;
 mod signature_table;
 mod table;
 mod variables;

@@ -2,7 +2,7 @@
 use Rattle.std.proofs.Common.{◌≡◌, ◌≢◌, ◌∙◌, ◌<◌, ℕ, Bool, true, false, List, length, slice_get, Some, if◌then◌else◌, refl, sym, ap, arith}
 use Rattle.std.specs.Prelude.{◌↔◌}
 use Rattle.std.proofs.lemmas.Option.{same_Some}
-use Rattle.sec_base.specs.Table.{AreDistinct}
+use Rattle.base_tables.specs.Table.{AreDistinct}
 use Rattle.sec_base.specs.declared.basics.Init.{Init}
 use Rattle.sec_base.specs.declared.basics.Init.TheVariants as init
 use Rattle.latch_blocks.specs.Blocks.{block_at, bit_at, start_at, HaveOneStart, IsByStarts, IsSplit}

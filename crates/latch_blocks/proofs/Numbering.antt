@@ -1,12 +1,11 @@
 -- One number more.
 use Rattle.std.proofs.Common.{◌≡◌, ◌≢◌, ◌∙◌, ◌+◌, ◌<◌, ◌≤◌, ◌⊎◌, ℕ, List, [], ◌∷◌, ◌++◌, length, slice_get, Some, sym, ap, subst, arith, inl, inr}
 use Rattle.std.specs.List.{Contains}
-use Rattle.std.proofs.Math.ListN.{get_or-append}
+use Rattle.std.proofs.Math.ListN.{get_or-append, length-append}
 use Rattle.std.proofs.Math.Seq.{get_or-append_seam}
 use Rattle.std.proofs.lemmas.Option.{slice_get_within, get_or_from_slice_get, slice_get-get_or}
 use Rattle.circuit_theory.proofs.Lists.{Contains-head, Contains-tail, Contains-cases, of_at}
 use Rattle.circuit_theory.proofs.Sums.{same_or_not}
-use Rattle.std.proofs.Math.ListN.{length-append}
 use Rattle.latch_blocks.specs.Blocks.{block_at}
 use Rattle.latch_blocks.specs.Numbers.{IsNumberedBy}
 

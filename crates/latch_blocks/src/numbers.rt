@@ -3,7 +3,8 @@
 ghost use Rattle.std.specs.Prelude.{◌≡◌, ◌+◌, ◌^◌, ◌<◌, ◌≤◌, ℕ, length, OnOk};
 ghost use Rattle.latch_blocks.specs.Numbers.{IsNumberedBy};
 
-use sec_base::{Ids, NoMemory, PlaceTable};
+use base_tables::PlaceTable;
+use sec_base::{Ids, NoMemory};
 
 /// Gives the next place the number of its key, a pair of numbers.
 pub(crate) fn put(

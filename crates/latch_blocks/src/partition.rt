@@ -5,7 +5,8 @@ ghost use Rattle.latch_blocks.specs.Blocks.{IsByStarts, IsSplit};
 ghost use Rattle.latch_blocks.specs.Numbers.{start_kind, start_rest};
 
 use crate::numbers::put;
-use sec_base::{Ids, Init, NoMemory, PlaceTable};
+use base_tables::PlaceTable;
+use sec_base::{Ids, Init, NoMemory};
 use std::alloc::Global;
 
 /// The partition by initial values: all latches that start with 0 are one block, and so are those that start with 1; each other

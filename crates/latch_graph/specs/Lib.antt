@@ -5,4 +5,3 @@ pub use Rattle.signal_graph.specs.Graph
 pub use Rattle.signal_graph.specs as signal_graph
 pub use Rattle.signal_graph.specs.flat_net
 pub use Rattle.signal_graph.specs.latch_cone
-pub use Rattle.signal_graph.specs.sec_base

@@ -13,7 +13,7 @@ use Rattle.flat_net.proofs.Nets.{some_at, latch_stands, sound_is_net}
 use Rattle.latch_cone.specs.declared.kinds.LatchKind.{LatchKind}
 use Rattle.latch_cone.specs.declared.kinds.LatchKind.TheVariants as kind
 use Rattle.latch_cone.specs.Kinds.{IsInOwnCone, IsKindIn, AreKindsIn}
-use Rattle.unate_enable.specs.Recovery.{HasSelfEdge, IsLight}
+use Rattle.latch_kinds.specs.unate_enable.Recovery.{HasSelfEdge, IsLight}
 use Rattle.latch_kinds.specs.declared.kinds.KindsError.{KindsError}
 use Rattle.latch_kinds.specs.declared.kinds.KindsError.TheVariants as refused
 use Rattle.latch_kinds.specs.Found.{IsDecided, AreDecidedBefore, AreLight, FoundAt, AreFound}

@@ -8,9 +8,9 @@ use Rattle.flat_net.specs.View.{NetView, circuit_of}
 use Rattle.latch_cone.specs.declared.kinds.LatchKind.{LatchKind}
 use Rattle.latch_cone.specs.declared.kinds.LatchKind.TheVariants as kind
 use Rattle.latch_cone.specs.Kinds.{AreKindsIn}
-use Rattle.unate_enable.specs.pair_decide.declared.query.Proof.{Proof}
-use Rattle.unate_enable.specs.Cones.{out_of_latch}
-use Rattle.unate_enable.specs.Recovery.{HasSelfEdge, IsAsked, IsEnabledAt, IsUndecided, IsLight, IsTooLarge}
+use Rattle.latch_kinds.specs.unate_enable.pair_decide.declared.query.Proof.{Proof}
+use Rattle.latch_kinds.specs.unate_enable.Cones.{out_of_latch}
+use Rattle.latch_kinds.specs.unate_enable.Recovery.{HasSelfEdge, IsAsked, IsEnabledAt, IsUndecided, IsLight, IsTooLarge}
 use Rattle.latch_kinds.specs.declared.kinds.KindsError.{KindsError}
 use Rattle.latch_kinds.specs.declared.kinds.KindsError.TheVariants as refused
 

@@ -1,3 +1,3 @@
 pub mod Found
 pub mod enable_laws
-pub use Rattle.unate_enable.specs as unate_enable
+pub mod unate_enable

@@ -3,6 +3,7 @@
 
 pub mod enable_laws;
 mod kinds;
+pub mod unate_enable;
 
 pub use kinds::{KindsError, LatchKinds, kinds_in};
 pub use unate_enable::Proof;

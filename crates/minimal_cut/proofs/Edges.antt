@@ -7,15 +7,15 @@ use Rattle.std.proofs.lemmas.List.Elements.{All-contains}
 use Rattle.circuit_theory.specs.Circuit.{Equation, Gate as gate_equation, Latch as latch_equation, Port as port_equation, IsSource, IsLatch, Reads, Reaches}
 use Rattle.circuit_theory.specs.Depth.{LatchReads, LatchPath, HasCycle}
 use Rattle.circuit_theory.specs.Net.{IsNet, IsWithin}
-use Rattle.graph_components.specs.flat_net.declared.parts.LatchAt.{LatchAt}
-use Rattle.graph_components.specs.flat_net.Cut.{no_latch}
-use Rattle.graph_components.specs.flat_net.View.{NetView, circuit_of}
-use Rattle.graph_components.proofs.flat_net.Places.{one_at}
-use Rattle.graph_components.proofs.flat_net.Nets.{some_at, latch_stands, sound_is_net}
-use Rattle.graph_components.specs.Node.{Node}
-use Rattle.graph_components.specs.Graph.{GraphView, IsGraphOf, SkippedBy, AreNodes}
-use Rattle.graph_components.proofs.Driving.{kept_nodes, read_taken, taken_read, none_some}
-use Rattle.graph_components.proofs.Reading.{reads_node, latch_node, node_reads}
+use Rattle.minimal_cut.specs.graph_components.flat_net.declared.parts.LatchAt.{LatchAt}
+use Rattle.minimal_cut.specs.graph_components.flat_net.Cut.{no_latch}
+use Rattle.minimal_cut.specs.graph_components.flat_net.View.{NetView, circuit_of}
+use Rattle.minimal_cut.proofs.graph_components.flat_net.Places.{one_at}
+use Rattle.minimal_cut.proofs.graph_components.flat_net.Nets.{some_at, latch_stands, sound_is_net}
+use Rattle.minimal_cut.specs.graph_components.Node.{Node}
+use Rattle.minimal_cut.specs.graph_components.Graph.{GraphView, IsGraphOf, SkippedBy, AreNodes}
+use Rattle.minimal_cut.proofs.graph_components.Driving.{kept_nodes, read_taken, taken_read, none_some}
+use Rattle.minimal_cut.proofs.graph_components.Reading.{reads_node, latch_node, node_reads}
 use Rattle.minimal_cut.specs.Readers.{NodeReads, WayBack}
 use Rattle.minimal_cut.specs.Marks.{signal_of}
 use Rattle.minimal_cut.proofs.WayLemmas.{way_then}

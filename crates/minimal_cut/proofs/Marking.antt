@@ -6,13 +6,13 @@ use Rattle.std.proofs.lemmas.Bool.{ne_eqb}
 use Rattle.std.proofs.lemmas.List.{length-set}
 use Rattle.std.proofs.lemmas.List.Sums.{sum_by-set}
 use Rattle.std.proofs.lemmas.Option.{slice_get_within, get_or_from_slice_get}
-use Rattle.graph_components.specs.flat_net.declared.parts.LatchAt.{LatchAt}
-use Rattle.graph_components.proofs.flat_net.Places.{one_at}
-use Rattle.graph_components.proofs.flat_net.Nets.{some_at}
+use Rattle.minimal_cut.specs.graph_components.flat_net.declared.parts.LatchAt.{LatchAt}
+use Rattle.minimal_cut.proofs.graph_components.flat_net.Places.{one_at}
+use Rattle.minimal_cut.proofs.graph_components.flat_net.Nets.{some_at}
 use Rattle.circuit_theory.proofs.Inputs.{test_refl}
 use Rattle.circuit_theory.proofs.Sums.{same_or_not}
-use Rattle.graph_components.specs.Node.{Node}
-use Rattle.graph_components.proofs.Lists.{set_same, set_other, set_cases}
+use Rattle.minimal_cut.specs.graph_components.Node.{Node}
+use Rattle.minimal_cut.proofs.graph_components.Lists.{set_same, set_other, set_cases}
 use Rattle.minimal_cut.specs.declared.marks.Direction.{Direction}
 use Rattle.minimal_cut.specs.declared.marks.Direction.TheVariants.{Back}
 use Rattle.minimal_cut.specs.declared.marks.Mark.{Mark}

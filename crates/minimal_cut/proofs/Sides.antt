@@ -6,15 +6,15 @@ use Rattle.std.proofs.lemmas.Option.{slice_get_within, slice_get-get_or, get_or_
 use Rattle.std.proofs.lemmas.List.Elements.{All-contains, Contains-append_left, Contains-append_right}
 use Rattle.circuit_theory.proofs.Lists.{Contains-head, Contains-map_from, at_of}
 use Rattle.circuit_theory.proofs.Sums.{same_or_not}
-use Rattle.graph_components.specs.sec_base.Table.{AreDistinct}
-use Rattle.graph_components.specs.flat_net.declared.parts.LatchAt.{LatchAt}
-use Rattle.graph_components.specs.flat_net.declared.parts.Driver.TheVariants as driver
-use Rattle.graph_components.specs.flat_net.View.{NetView}
-use Rattle.graph_components.specs.flat_net.Cut.{no_latch}
-use Rattle.graph_components.proofs.flat_net.Places.{one_at, All-at}
-use Rattle.graph_components.proofs.flat_net.Growth.{slice_get-push_cases}
-use Rattle.graph_components.specs.Node.{Node}
-use Rattle.graph_components.specs.Graph.{GraphView, IsGraphOf, AreNodes}
+use Rattle.base_tables.specs.Table.{AreDistinct}
+use Rattle.minimal_cut.specs.graph_components.flat_net.declared.parts.LatchAt.{LatchAt}
+use Rattle.minimal_cut.specs.graph_components.flat_net.declared.parts.Driver.TheVariants as driver
+use Rattle.minimal_cut.specs.graph_components.flat_net.View.{NetView}
+use Rattle.minimal_cut.specs.graph_components.flat_net.Cut.{no_latch}
+use Rattle.minimal_cut.proofs.graph_components.flat_net.Places.{one_at, All-at}
+use Rattle.minimal_cut.proofs.graph_components.flat_net.Growth.{slice_get-push_cases}
+use Rattle.minimal_cut.specs.graph_components.Node.{Node}
+use Rattle.minimal_cut.specs.graph_components.Graph.{GraphView, IsGraphOf, AreNodes}
 use Rattle.minimal_cut.specs.declared.marks.Direction.{Direction}
 use Rattle.minimal_cut.specs.declared.marks.Direction.TheVariants.{Back}
 use Rattle.minimal_cut.specs.declared.marks.Mark.{Mark}

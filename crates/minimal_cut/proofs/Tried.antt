@@ -7,16 +7,16 @@ use Rattle.std.proofs.lemmas.Option.{slice_get_within, slice_get-get_or, get_or_
 use Rattle.std.proofs.lemmas.Bool.{cases_order}
 use Rattle.circuit_theory.specs.Depth.{HasCycle, without}
 use Rattle.circuit_theory.proofs.Lists.{Contains-cases, Contains-map, at_of, map_at, length-map}
-use Rattle.graph_components.specs.sec_base.Table.{AreDistinct}
-use Rattle.graph_components.specs.flat_net.declared.parts.LatchAt.{LatchAt}
-use Rattle.graph_components.specs.flat_net.View.{NetView, circuit_of}
-use Rattle.graph_components.specs.flat_net.Cut.{no_latch}
-use Rattle.graph_components.proofs.flat_net.Places.{one_at, All-at}
-use Rattle.graph_components.proofs.flat_net.Growth.{slice_get-push_cases}
-use Rattle.graph_components.proofs.flat_net.CutNets.{few_distinct}
-use Rattle.graph_components.specs.Node.{Node}
-use Rattle.graph_components.specs.Graph.{GraphView, IsGraphOf, SkippedBy, AreNodes}
-use Rattle.graph_components.proofs.Lists.{AllPairs-from_at}
+use Rattle.base_tables.specs.Table.{AreDistinct}
+use Rattle.minimal_cut.specs.graph_components.flat_net.declared.parts.LatchAt.{LatchAt}
+use Rattle.minimal_cut.specs.graph_components.flat_net.View.{NetView, circuit_of}
+use Rattle.minimal_cut.specs.graph_components.flat_net.Cut.{no_latch}
+use Rattle.minimal_cut.proofs.graph_components.flat_net.Places.{one_at, All-at}
+use Rattle.minimal_cut.proofs.graph_components.flat_net.Growth.{slice_get-push_cases}
+use Rattle.minimal_cut.proofs.graph_components.flat_net.CutNets.{few_distinct}
+use Rattle.minimal_cut.specs.graph_components.Node.{Node}
+use Rattle.minimal_cut.specs.graph_components.Graph.{GraphView, IsGraphOf, SkippedBy, AreNodes}
+use Rattle.minimal_cut.proofs.graph_components.Lists.{AllPairs-from_at}
 use Rattle.minimal_cut.specs.declared.marks.Mark.{Mark}
 use Rattle.minimal_cut.specs.declared.marks.Mark.TheVariants.{Out}
 use Rattle.minimal_cut.specs.Chosen.{IsFree, IsMinimalChoice, at_places, names_at}

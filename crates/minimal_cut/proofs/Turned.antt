@@ -5,12 +5,12 @@ use Rattle.std.proofs.Math.ListN.{set}
 use Rattle.std.proofs.lemmas.List.{length-set}
 use Rattle.std.proofs.lemmas.Option.{slice_get_within}
 use Rattle.circuit_theory.proofs.Sums.{same_or_not}
-use Rattle.graph_components.specs.flat_net.declared.signals.Signal.{Signal}
-use Rattle.graph_components.proofs.flat_net.Places.{one_at}
-use Rattle.graph_components.proofs.flat_net.Growth.{slice_get-append, slice_get-push, slice_get-push_cases}
-use Rattle.graph_components.specs.Node.{Node}
-use Rattle.graph_components.proofs.Lists.{set_same, set_other, set_cases}
-use Rattle.graph_components.proofs.Driving.{nothing_at}
+use Rattle.minimal_cut.specs.graph_components.flat_net.declared.signals.Signal.{Signal}
+use Rattle.minimal_cut.proofs.graph_components.flat_net.Places.{one_at}
+use Rattle.minimal_cut.proofs.graph_components.flat_net.Growth.{slice_get-append, slice_get-push, slice_get-push_cases}
+use Rattle.minimal_cut.specs.graph_components.Node.{Node}
+use Rattle.minimal_cut.proofs.graph_components.Lists.{set_same, set_other, set_cases}
+use Rattle.minimal_cut.proofs.graph_components.Driving.{nothing_at}
 use Rattle.minimal_cut.specs.Readers.{NodeReads, AreReaders, AreReadersUpTo}
 
 -- a signal has one reading more

@@ -4,11 +4,11 @@ use Rattle.std.specs.Prelude.{◌⊎◌, slice_get}
 use Rattle.std.proofs.Math.ListN.{set}
 use Rattle.std.proofs.lemmas.Option.{slice_get_within}
 use Rattle.circuit_theory.proofs.Sums.{same_or_not}
-use Rattle.graph_components.specs.flat_net.declared.signals.Signal.{Signal}
-use Rattle.graph_components.proofs.flat_net.Places.{one_at}
-use Rattle.graph_components.proofs.flat_net.Growth.{slice_get-append, slice_get-push, slice_get-push_cases, length-push}
-use Rattle.graph_components.specs.Node.{Node}
-use Rattle.graph_components.proofs.Lists.{set_same, set_cases}
+use Rattle.minimal_cut.specs.graph_components.flat_net.declared.signals.Signal.{Signal}
+use Rattle.minimal_cut.proofs.graph_components.flat_net.Places.{one_at}
+use Rattle.minimal_cut.proofs.graph_components.flat_net.Growth.{slice_get-append, slice_get-push, slice_get-push_cases, length-push}
+use Rattle.minimal_cut.specs.graph_components.Node.{Node}
+use Rattle.minimal_cut.proofs.graph_components.Lists.{set_same, set_cases}
 use Rattle.minimal_cut.specs.declared.marks.Direction.{Direction}
 use Rattle.minimal_cut.specs.declared.marks.Direction.TheVariants.{Back, Ahead}
 use Rattle.minimal_cut.specs.declared.marks.Mark.{Mark}

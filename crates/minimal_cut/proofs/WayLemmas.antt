@@ -6,10 +6,10 @@ use Rattle.std.proofs.lemmas.Bool.Decides.{Decides-eqb}
 use Rattle.std.proofs.lemmas.Option.{slice_get_within, same_Some}
 use Rattle.circuit_theory.proofs.Lists.{Contains-head, Contains-tail, Contains-cases, Contains-filter, at_of, of_at}
 use Rattle.circuit_theory.proofs.Sums.{same_or_not}
-use Rattle.graph_components.specs.flat_net.declared.signals.Signal.{Signal}
-use Rattle.graph_components.proofs.flat_net.Nets.{some_at}
-use Rattle.graph_components.specs.Inner.{AreInner}
-use Rattle.graph_components.specs.Node.{Node}
+use Rattle.minimal_cut.specs.graph_components.flat_net.declared.signals.Signal.{Signal}
+use Rattle.minimal_cut.proofs.graph_components.flat_net.Nets.{some_at}
+use Rattle.minimal_cut.specs.graph_components.Inner.{AreInner}
+use Rattle.minimal_cut.specs.graph_components.Node.{Node}
 use Rattle.minimal_cut.specs.Readers.{NodeReads, WayBack, AreReaders}
 
 -- a way stays where fewer signals are blocked

@@ -3,3 +3,4 @@ pub mod Readers
 pub mod Marks
 pub mod Walk
 pub mod Trying
+pub mod graph_components

@@ -1,7 +1,7 @@
 -- Readings, ways along them, and the same turned round.
 use Rattle.std.specs.Prelude.{◌≡◌, ℕ, ◌<◌, ◌⊎◌, List, length, slice_get, Some}
-use Rattle.graph_components.specs.flat_net.declared.signals.Signal.{Signal}
-use Rattle.graph_components.specs.Node.{Node}
+use Rattle.minimal_cut.specs.graph_components.flat_net.declared.signals.Signal.{Signal}
+use Rattle.minimal_cut.specs.graph_components.Node.{Node}
 
 -- the signal s reads the signal r
 pub record NodeReads (nodes : List Node) (s r : ℕ) : Type 0 where

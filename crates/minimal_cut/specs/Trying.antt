@@ -1,10 +1,10 @@
 -- How far the latches of two graphs are tried.
 use Rattle.std.specs.Prelude.{◌≡◌, ℕ, ◌+◌, ◌<◌, ◌≤◌, ◌⊎◌, List, length, slice_get, Some, All, Contains}
-use Rattle.graph_components.specs.sec_base.Table.{AreDistinct}
-use Rattle.graph_components.specs.flat_net.View.{NetView}
-use Rattle.graph_components.specs.Node.{Node}
-use Rattle.graph_components.specs.Graph.{GraphView, IsGraphOf, AreNodes}
-use Rattle.graph_components.specs.Inner.{AreInner}
+use Rattle.base_tables.specs.Table.{AreDistinct}
+use Rattle.minimal_cut.specs.graph_components.flat_net.View.{NetView}
+use Rattle.minimal_cut.specs.graph_components.Node.{Node}
+use Rattle.minimal_cut.specs.graph_components.Graph.{GraphView, IsGraphOf, AreNodes}
+use Rattle.minimal_cut.specs.graph_components.Inner.{AreInner}
 use Rattle.minimal_cut.specs.declared.marks.Mark.{Mark}
 use Rattle.minimal_cut.specs.Readers.{WayBack, AreReaders}
 use Rattle.minimal_cut.specs.Marks.{IsBlocked, IsBlockedBut, AreMarks, signal_of}

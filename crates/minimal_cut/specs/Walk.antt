@@ -1,8 +1,8 @@
 -- How far a walk from a latch that is put back has come.
 use Rattle.std.specs.Prelude.{◌≡◌, ◌≢◌, ◌==◌, ℕ, ◌<◌, ◌⊎◌, if◌then◌else◌, Bool, true, false, List, [], ◌∷◌, ◌++◌, length, slice_get, slice_set, Some}
 use Rattle.std.specs.List.{sum_by}
-use Rattle.graph_components.specs.Node.{Node}
-use Rattle.graph_components.specs.flat_net.declared.signals.Signal.{Signal}
+use Rattle.minimal_cut.specs.graph_components.Node.{Node}
+use Rattle.minimal_cut.specs.graph_components.flat_net.declared.signals.Signal.{Signal}
 use Rattle.minimal_cut.specs.declared.marks.Direction.{Direction}
 use Rattle.minimal_cut.specs.declared.marks.Direction.TheVariants.{Back, Ahead}
 use Rattle.minimal_cut.specs.declared.marks.Mark.{Mark}

@@ -1,12 +1,12 @@
 //! What is known of the signals of a graph while its latches are tried.
 
 ghost use Rattle.std.specs.Prelude.{◌≡◌, ◌≢◌, ℕ, ◌<◌, All, true, false, length, slice_get, Some, IfOk};
-ghost use Rattle.graph_components.specs.flat_net.declared.parts.LatchAt.{LatchAt};
-ghost use Rattle.graph_components.specs.Node.{Node};
-ghost use Rattle.graph_components.specs.Graph.{AreNodes};
+ghost use Rattle.minimal_cut.specs.graph_components.flat_net.declared.parts.LatchAt.{LatchAt};
+ghost use Rattle.minimal_cut.specs.graph_components.Node.{Node};
+ghost use Rattle.minimal_cut.specs.graph_components.Graph.{AreNodes};
 ghost use Rattle.minimal_cut.specs.Marks.{AreFirst};
 
-use graph_components::{LatchAt, NoMemory, Node};
+use crate::graph_components::{LatchAt, NoMemory, Node};
 use std::alloc::Global;
 
 /// Which way a walk goes.

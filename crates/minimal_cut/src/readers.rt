@@ -1,11 +1,11 @@
 //! Which signals read a signal.
 
 ghost use Rattle.std.specs.Prelude.{◌≡◌, ℕ, ◌+◌, ◌^◌, ◌<◌, [], ◌∷◌, ◌++◌, None, length, slice_get, Some, IfOk, OnOk};
-ghost use Rattle.graph_components.specs.flat_net.declared.signals.Signal.{Signal};
-ghost use Rattle.graph_components.specs.Node.{Node};
+ghost use Rattle.minimal_cut.specs.graph_components.flat_net.declared.signals.Signal.{Signal};
+ghost use Rattle.minimal_cut.specs.graph_components.Node.{Node};
 ghost use Rattle.minimal_cut.specs.Readers.{AreReaders, AreReadersUpTo};
 
-use graph_components::{NoMemory, Node, Signal, Signals};
+use crate::graph_components::{NoMemory, Node, Signal, Signals};
 use std::alloc::Global;
 
 /// The nodes with all readings turned round: each signal has those that read it.

@@ -1,17 +1,17 @@
 //! One latch after the other is put back, where that closes no cycle.
 
 ghost use Rattle.std.specs.Prelude.{◌≡◌, ◌+◌, ◌<◌, [], ◌∷◌, ◌++◌, true, false, All, length, slice_get, slice_set, slice_index_or, Some, OnOk, IfOk, if◌then◌else◌};
-ghost use Rattle.graph_components.specs.sec_base.Table.{AreDistinct};
+ghost use Rattle.base_tables.specs.Table.{AreDistinct};
 ghost use Rattle.minimal_cut.specs.declared.marks.Mark.{Mark};
 ghost use Rattle.minimal_cut.specs.Chosen.{IsFree, IsMinimalChoice};
 ghost use Rattle.minimal_cut.specs.Readers.{WayBack};
 ghost use Rattle.minimal_cut.specs.Marks.{AreMarks, IsPutBack, IsBlocked, signal_of};
 ghost use Rattle.minimal_cut.specs.Trying.{IsField, AreTried};
 
+use crate::graph_components::{Ids, NoMemory, Node, Seq, SignalGraph, inner_nodes};
 use crate::marks::{Mark, first_marks};
 use crate::readers::readers_of;
 use crate::walk::closes_cycle;
-use graph_components::{Ids, NoMemory, Node, Seq, SignalGraph, inner_nodes};
 use std::alloc::Global;
 
 /// One of the two graphs, with the positions of its latches in the pairs, its readings that can be part of a cycle, and these turned

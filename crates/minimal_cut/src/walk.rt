@@ -2,15 +2,15 @@
 //! ahead along what reads.
 
 ghost use Rattle.std.specs.Prelude.{◌≡◌, ℕ, ◌+◌, ◌<◌, [], ◌∷◌, true, false, length, slice_get, slice_set, Some, OnOk, IfOk};
-ghost use Rattle.graph_components.specs.flat_net.declared.signals.Signal.{Signal};
-ghost use Rattle.graph_components.specs.Node.{Node};
+ghost use Rattle.minimal_cut.specs.graph_components.flat_net.declared.signals.Signal.{Signal};
+ghost use Rattle.minimal_cut.specs.graph_components.Node.{Node};
 ghost use Rattle.minimal_cut.specs.declared.marks.Mark.{Mark};
 ghost use Rattle.minimal_cut.specs.Readers.{AreReaders, WayBack};
 ghost use Rattle.minimal_cut.specs.Marks.{AreMarks, IsPutBack, IsBlocked};
 ghost use Rattle.minimal_cut.specs.Walk.{IsWalk, IsLater, Meets, HasMet, unseen_count};
 
+use crate::graph_components::{NoMemory, Node};
 use crate::marks::{Direction, Mark};
-use graph_components::{NoMemory, Node};
 use std::alloc::Global;
 
 /// Puts the latch of the root back, and tells whether that closes a cycle. A walk back and a walk ahead go on in turn,

@@ -7,8 +7,8 @@ use Rattle.std.proofs.lemmas.List.{length-append}
 use Rattle.std.proofs.lemmas.List.Elements.{Contains-append_left, Contains-append_right}
 use Rattle.std.proofs.lemmas.Option.{none-some}
 use Rattle.circuit_theory.proofs.Lists.{Contains-head, Contains-cases, at_of}
-use Rattle.sec_base.specs.Table.{is_among, AreDistinct}
-use Rattle.sec_base.proofs.TableLemmas.{Contains_not-is_among}
+use Rattle.base_tables.specs.Table.{is_among, AreDistinct}
+use Rattle.base_tables.proofs.TableLemmas.{Contains_not-is_among}
 use Rattle.elaborate.specs.blif_read.declared.design.BlifModel.{BlifModel}
 use Rattle.elaborate.specs.blif_read.Design.{top, name_of, main_inputs, main_outputs}
 use Rattle.elaborate.specs.blif_read.Fault.{repeats}

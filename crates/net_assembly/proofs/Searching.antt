@@ -9,8 +9,8 @@ use Rattle.std.proofs.lemmas.Bool.Decides.{Decides-eqb, Decides-ltb}
 use Rattle.std.proofs.lemmas.Option.{none-some, same_Some, slice_get_within, slice_get_read, slice_get-get_or, get_or_from_slice_get}
 use Rattle.std.proofs.lemmas.List.Elements.{All-get_or, All-contains}
 use Rattle.circuit_theory.proofs.Lists.{at_of, of_at}
-use Rattle.sec_base.specs.Table.{AreDistinct}
-use Rattle.sec_base.proofs.TableLemmas.{slice_get-take}
+use Rattle.base_tables.specs.Table.{AreDistinct}
+use Rattle.base_tables.proofs.TableLemmas.{slice_get-take}
 use Rattle.net_assembly.specs.declared.search.Mark.{Mark}
 use Rattle.net_assembly.specs.declared.search.Mark.TheVariants.{New, Entered, Done}
 use Rattle.net_assembly.specs.Order.{reads_of, IsBehind, IsOrder, IsRound}

@@ -1,7 +1,7 @@
 -- How far a search through what numbers read has come.
 use Rattle.std.specs.Prelude.{◌≡◌, ◌≢◌, ℕ, suc, ◌+◌, ◌-◌, ◌<◌, ◌≤◌, List, [], ◌∷◌, length, slice_get, Some}
 use Rattle.std.specs.List.{Contains}
-use Rattle.sec_base.specs.Table.{AreDistinct}
+use Rattle.base_tables.specs.Table.{AreDistinct}
 use Rattle.net_assembly.specs.declared.search.Mark.{Mark}
 use Rattle.net_assembly.specs.declared.search.Mark.TheVariants.{New, Entered, Done}
 use Rattle.net_assembly.specs.Order.{reads_of, IsBehind}

@@ -2,13 +2,13 @@
 use Rattle.std.proofs.Common.{◌≡◌, ◌≢◌, ℕ, ◌*◌, ◌<◌, List, [], ◌∷◌, length, Option, Some, None, refl, sym, ◌∙◌, ap, subst, arith}
 use Rattle.std.specs.Prelude.{Contains}
 use Rattle.std.specs.List.{AllPairs}
-use Rattle.root_classes.specs.aig.declared.node.Node.{Node}
-use Rattle.root_classes.specs.aig.declared.node.Node.TheVariants.{Input}
-use Rattle.root_classes.specs.aig.Graph.{IsGraph}
-use Rattle.root_classes.specs.aig.Values.{value}
-use Rattle.root_classes.proofs.aig.CoverMeaning.{value-one}
-use Rattle.root_classes.proofs.aig.Insert.{graph-some}
-use Rattle.root_classes.specs.lane_eval.Tables as table
+use Rattle.lane_eval.specs.root_classes.aig.declared.node.Node.{Node}
+use Rattle.lane_eval.specs.root_classes.aig.declared.node.Node.TheVariants.{Input}
+use Rattle.lane_eval.specs.root_classes.aig.Graph.{IsGraph}
+use Rattle.lane_eval.specs.root_classes.aig.Values.{value}
+use Rattle.lane_eval.proofs.root_classes.aig.CoverMeaning.{value-one}
+use Rattle.lane_eval.proofs.root_classes.aig.Insert.{graph-some}
+use Rattle.lane_eval.specs.Tables as table
 use Rattle.pair_decide.specs.declared.query.Query.{Query}
 use Rattle.pair_decide.specs.declared.query.SameBy.{SameBy}
 use Rattle.pair_decide.specs.declared.query.SameBy.TheVariants as same
@@ -16,12 +16,12 @@ use Rattle.pair_decide.specs.declared.query.Decision.{Decision}
 use Rattle.pair_decide.specs.declared.query.Decision.TheVariants as answer
 use Rattle.pair_decide.specs.Queries.{IsQuery, IsSame}
 use Rattle.pair_decide.specs.Answers.{Decides}
-use Rattle.root_classes.specs.Agreeing.{Agree}
+use Rattle.lane_eval.specs.root_classes.Agreeing.{Agree}
 use Rattle.node_agreement.specs.declared.question.Tried.{Tried}
 use Rattle.node_agreement.specs.Answers.{IsFound, IsOutcome, IsAnswer}
-use Rattle.root_classes.specs.Inputs.{inputs_of}
-use Rattle.root_classes.proofs.Listed.{inputs_of-has}
-use Rattle.root_classes.proofs.Assigned.{inputs-distinct}
+use Rattle.lane_eval.specs.root_classes.Inputs.{inputs_of}
+use Rattle.lane_eval.proofs.root_classes.Listed.{inputs_of-has}
+use Rattle.lane_eval.proofs.root_classes.Assigned.{inputs-distinct}
 
 -- all variables of a graph cover the cones of two literals without a care
 pub all-covered : (g : List Node) (left right : ℕ) (vars : List ℕ) → vars ≡ inputs_of g → table.Covers g (left ∷ right ∷ 1 ∷ []) vars

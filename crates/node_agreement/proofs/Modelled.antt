@@ -2,9 +2,9 @@
 use Rattle.std.proofs.Common.{◌≡◌, ℕ, List, [], ◌∷◌, ◌++◌, length, slice_get, Some, sym, ◌∙◌, ap, subst, inl, inr}
 use Rattle.std.specs.Prelude.{◌⊎◌}
 use Rattle.std.proofs.lemmas.Option.{same_Some}
-use Rattle.root_classes.specs.aig.declared.node.Node.{Node}
-use Rattle.root_classes.specs.aig.declared.node.Node.TheVariants.{Input}
-use Rattle.root_classes.proofs.aig.Insert.{push-cases}
+use Rattle.lane_eval.specs.root_classes.aig.declared.node.Node.{Node}
+use Rattle.lane_eval.specs.root_classes.aig.declared.node.Node.TheVariants.{Input}
+use Rattle.lane_eval.proofs.root_classes.aig.Insert.{push-cases}
 use Rattle.node_agreement.specs.Answers.{AreVariables}
 
 pub variables-step : (g : List Node) (nodes vars more : List ℕ) (i n v : ℕ) → length vars ≡ i → slice_get nodes i ≡ Some n → slice_get g n ≡ Some (Input v) → more ≡ vars ++ v ∷ [] → AreVariables g nodes vars → AreVariables g nodes more

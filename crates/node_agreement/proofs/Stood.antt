@@ -2,13 +2,13 @@
 use Rattle.std.proofs.Common.{◌≡◌, ℕ, get_or, Result, Ok, Err, ◌*◌, ◌/◌, ◌%◌, ◌<◌, ◌≤◌, Bool, not, ◌&&◌, List, [], ◌∷◌, ◌++◌, length, slice_get, Some, refl, sym, ◌∙◌, ap, subst, arith, inl, inr}
 use Rattle.std.specs.Prelude.{◌⊎◌, IfOk}
 use Rattle.std.proofs.lemmas.Option.{slice_get-get_or}
-use Rattle.root_classes.specs.aig.declared.node.Lit.{Lit}
-use Rattle.root_classes.specs.aig.declared.node.Node.{Node}
-use Rattle.root_classes.specs.aig.Graph.{flip}
-use Rattle.root_classes.specs.aig.Values.{value, KeepsValues}
-use Rattle.root_classes.proofs.aig.Literals.{flip-even, flip-within}
-use Rattle.root_classes.proofs.aig.Meaning.{value-flip}
-use Rattle.root_classes.proofs.aig.Insert.{push-cases}
+use Rattle.lane_eval.specs.root_classes.aig.declared.node.Lit.{Lit}
+use Rattle.lane_eval.specs.root_classes.aig.declared.node.Node.{Node}
+use Rattle.lane_eval.specs.root_classes.aig.Graph.{flip}
+use Rattle.lane_eval.specs.root_classes.aig.Values.{value, KeepsValues}
+use Rattle.lane_eval.proofs.root_classes.aig.Literals.{flip-even, flip-within}
+use Rattle.lane_eval.proofs.root_classes.aig.Meaning.{value-flip}
+use Rattle.lane_eval.proofs.root_classes.aig.Insert.{push-cases}
 use Rattle.node_agreement.specs.Standing.{StandsFor, AreStandIns, AreChosen, AreLocal, plainly, by_nodes}
 
 module _ (with : (ℕ → Bool) → ℕ → Bool) (g : List Node) where

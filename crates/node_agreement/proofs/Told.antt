@@ -4,16 +4,16 @@ use Rattle.std.specs.Prelude.{Contains, IfSome}
 use Rattle.std.specs.List.{AllPairs}
 use Rattle.std.proofs.lemmas.Option.{slice_get-get_or, slice_get_within}
 use Rattle.circuit_theory.proofs.Lists.{at_of}
-use Rattle.root_classes.specs.aig.declared.node.Node.{Node}
-use Rattle.root_classes.specs.aig.declared.node.Node.TheVariants.{Input}
-use Rattle.root_classes.specs.aig.Graph.{IsGraph}
-use Rattle.root_classes.specs.aig.Values.{value}
-use Rattle.root_classes.proofs.aig.Meaning.{value-node}
-use Rattle.root_classes.specs.lane_eval.Tables.{assigned_to}
-use Rattle.root_classes.proofs.lane_eval.Numbered.{assigned_to-at}
-use Rattle.root_classes.specs.Agreeing.{Agree}
-use Rattle.root_classes.specs.Inputs.{inputs_of}
-use Rattle.root_classes.proofs.Assigned.{inputs-distinct, value-same}
+use Rattle.lane_eval.specs.root_classes.aig.declared.node.Node.{Node}
+use Rattle.lane_eval.specs.root_classes.aig.declared.node.Node.TheVariants.{Input}
+use Rattle.lane_eval.specs.root_classes.aig.Graph.{IsGraph}
+use Rattle.lane_eval.specs.root_classes.aig.Values.{value}
+use Rattle.lane_eval.proofs.root_classes.aig.Meaning.{value-node}
+use Rattle.lane_eval.specs.Tables.{assigned_to}
+use Rattle.lane_eval.proofs.Numbered.{assigned_to-at}
+use Rattle.lane_eval.specs.root_classes.Agreeing.{Agree}
+use Rattle.lane_eval.specs.root_classes.Inputs.{inputs_of}
+use Rattle.lane_eval.proofs.root_classes.Assigned.{inputs-distinct, value-same}
 use Rattle.sweep_candidates.specs.declared.models.Model.{Model}
 use Rattle.node_agreement.specs.declared.question.Tried.{Tried}
 use Rattle.node_agreement.specs.declared.question.Tried.TheVariants as tried

@@ -1,12 +1,12 @@
 -- What attempts tell.
 use Rattle.std.specs.Prelude.{◌≡◌, ◌≢◌, ℕ, Bool, List, length, slice_get, Some, None, Option, ⊤}
 use Rattle.circuit_theory.specs.Query.{bits_of}
-use Rattle.root_classes.specs.aig.declared.node.Node.{Node}
-use Rattle.root_classes.specs.aig.declared.node.Node.TheVariants.{Input}
-use Rattle.root_classes.specs.aig.Values.{value}
-use Rattle.root_classes.specs.lane_eval.Tables.{assigned_to}
-use Rattle.root_classes.specs.Agreeing.{Agree}
-use Rattle.root_classes.specs.Inputs.{inputs_of}
+use Rattle.lane_eval.specs.root_classes.aig.declared.node.Node.{Node}
+use Rattle.lane_eval.specs.root_classes.aig.declared.node.Node.TheVariants.{Input}
+use Rattle.lane_eval.specs.root_classes.aig.Values.{value}
+use Rattle.lane_eval.specs.Tables.{assigned_to}
+use Rattle.lane_eval.specs.root_classes.Agreeing.{Agree}
+use Rattle.lane_eval.specs.root_classes.Inputs.{inputs_of}
 use Rattle.sweep_candidates.specs.declared.models.Model.{Model}
 use Rattle.pair_decide.specs.declared.query.Decision.{Decision}
 use Rattle.pair_decide.specs.declared.query.Decision.TheVariants as answer

@@ -3,7 +3,7 @@
 ghost use Rattle.std.specs.Prelude.{◌≤◌};
 
 use crate::question::Tried;
-use root_classes::MAX_CONFLICTS;
+use lane_eval::root_classes::MAX_CONFLICTS;
 
 /// How nodes are proved to agree.
 #[derive(Clone, Copy)]

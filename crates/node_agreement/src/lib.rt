@@ -11,8 +11,8 @@ mod small;
 mod table;
 
 pub use budget::{Budget, Effort};
+pub use lane_eval::root_classes::{SignatureTable, leads_of, signatures, variables};
 pub use pair_decide::{Decision, Query, SameBy, decide};
 pub use proof::{Proved, prove};
-pub use root_classes::{SignatureTable, leads_of, signatures, variables};
 pub use signs::{signed, zero};
 pub use sweep_candidates::Hints;

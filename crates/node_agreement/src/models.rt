@@ -1,10 +1,10 @@
 //! Assignments that tell two literals apart.
 
 ghost use Rattle.std.specs.Prelude.{◌≡◌, ℕ, ◌++◌, [], ◌∷◌, slice_get, Some, IfOk, IfSome, IsTrue};
-ghost use Rattle.root_classes.specs.aig.declared.node.Node.TheVariants.{Input};
+ghost use Rattle.lane_eval.specs.root_classes.aig.declared.node.Node.TheVariants.{Input};
 ghost use Rattle.node_agreement.specs.Answers.{IsModelOf};
 
-use root_classes::{Aig, Bits, NoMemory, Node};
+use lane_eval::root_classes::{Aig, Bits, NoMemory, Node};
 use std::alloc::Global;
 use sweep_candidates::Model;
 

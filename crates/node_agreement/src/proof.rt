@@ -1,8 +1,8 @@
 //! Proving that two literals of a graph agree.
 
 ghost use Rattle.std.specs.Prelude.{◌≡◌, ℕ, ◌*◌, ◌<◌, ◌≤◌, List, length, IfOk, IfSome};
-ghost use Rattle.root_classes.specs.aig.declared.node.Node.{Node};
-ghost use Rattle.root_classes.specs.Agreeing.{Agree};
+ghost use Rattle.lane_eval.specs.root_classes.aig.declared.node.Node.{Node};
+ghost use Rattle.lane_eval.specs.root_classes.Agreeing.{Agree};
 ghost use Rattle.sweep_candidates.specs.declared.models.Model.{Model};
 ghost use Rattle.node_agreement.specs.declared.proof.Proved.TheVariants as proved;
 ghost use Rattle.node_agreement.specs.Answers.{DifferAt, IsToldOf, IsProved};
@@ -12,7 +12,7 @@ use crate::models::model_of;
 use crate::question::{Tried, ask};
 use crate::small::{find, small_graph};
 use case_split::agree_by_cases;
-use root_classes::{Aig, Lit, NoMemory};
+use lane_eval::root_classes::{Aig, Lit, NoMemory};
 use std::alloc::Global;
 use sweep_candidates::{Model, cut_of, small_cone_of, window_of};
 

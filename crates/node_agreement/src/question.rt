@@ -1,12 +1,12 @@
 //! Whether two literals of a small graph agree under all assignments: by a table, or by a search.
 
 ghost use Rattle.std.specs.Prelude.{◌≡◌, ◌*◌, ◌<◌, ◌≤◌, length, IfOk};
-ghost use Rattle.root_classes.specs.Inputs.{inputs_of};
+ghost use Rattle.lane_eval.specs.root_classes.Inputs.{inputs_of};
 ghost use Rattle.node_agreement.specs.Answers.{IsAnswer, IsOutcome};
 
 use crate::table::{ask_table, is_light};
+use lane_eval::root_classes::{Aig, Bits, Ids, Lit, NoMemory, variables};
 use pair_decide::{Decision, Query, SameBy, decide};
-use root_classes::{Aig, Bits, Ids, Lit, NoMemory, variables};
 use std::alloc::Global;
 
 /// The most variables of a query that needs no search.

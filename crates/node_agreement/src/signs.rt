@@ -1,11 +1,11 @@
 //! Signs of literals.
 
 ghost use Rattle.std.specs.Prelude.{◌≡◌, ℕ, ◌*◌, ◌/◌, ◌<◌, Bool, false, List, length};
-ghost use Rattle.root_classes.specs.aig.declared.node.Node.{Node};
-ghost use Rattle.root_classes.specs.aig.Values.{value};
+ghost use Rattle.lane_eval.specs.root_classes.aig.declared.node.Node.{Node};
+ghost use Rattle.lane_eval.specs.root_classes.aig.Values.{value};
 ghost use Rattle.node_agreement.specs.Standing.{StandsFor, signed_lit};
 
-use root_classes::{Aig, Lit};
+use lane_eval::root_classes::{Aig, Lit};
 
 /// The literal for another one, where this is the literal for its node.
 pub fn signed(y: Lit, l: Lit) -> Lit

@@ -1,12 +1,12 @@
 //! Small graphs that stand for a part of a graph. Their variables are nodes of that graph.
 
 ghost use Rattle.std.specs.Prelude.{◌≡◌, ℕ, ◌+◌, ◌*◌, ◌/◌, ◌^◌, ◌<◌, ◌≤◌, List, length, IfOk, OnOk, IfSome, slice_get, Some};
-ghost use Rattle.root_classes.specs.aig.declared.node.Node.{Node};
-ghost use Rattle.root_classes.specs.aig.Values.{KeepsValues};
+ghost use Rattle.lane_eval.specs.root_classes.aig.declared.node.Node.{Node};
+ghost use Rattle.lane_eval.specs.root_classes.aig.Values.{KeepsValues};
 ghost use Rattle.node_agreement.specs.Standing.{StandsFor, AreLocal, by_nodes};
 
 use crate::signs::{signed, zero};
-use root_classes::{Aig, Lit, NoMemory, Node};
+use lane_eval::root_classes::{Aig, Lit, NoMemory, Node};
 use std::alloc::Global;
 
 /// The most nodes of a small graph.

@@ -2,12 +2,12 @@
 
 ghost use Rattle.std.specs.Prelude.{◌≡◌, ℕ, ◌*◌, ◌<◌, ◌≤◌, List, Some, length, IfOk};
 ghost use Rattle.circuit_theory.specs.Query.{bits_of};
-ghost use Rattle.root_classes.specs.aig.declared.node.Node.{Node};
-ghost use Rattle.root_classes.specs.Inputs.{inputs_of};
+ghost use Rattle.lane_eval.specs.root_classes.aig.declared.node.Node.{Node};
+ghost use Rattle.lane_eval.specs.root_classes.Inputs.{inputs_of};
 ghost use Rattle.node_agreement.specs.Answers.{IsAnswer, IsFound};
 
 use crate::question::{Cost, Tried};
-use root_classes::{Aig, Bits, Ids, Lit, NoMemory, table_differs, variables};
+use lane_eval::root_classes::{Aig, Bits, Ids, Lit, NoMemory, table_differs, variables};
 use std::alloc::Global;
 
 /// The most variables of a query that needs no search.

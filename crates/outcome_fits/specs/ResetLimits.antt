@@ -5,7 +5,7 @@ use Rattle.circuit_theory.specs.Circuit.{Circuit}
 use Rattle.circuit_theory.specs.Tree.{Tree, tree_value}
 use Rattle.circuit_theory.specs.Query.{Variable, AreVariables}
 use Rattle.reset_laws.specs.Reset.{ResetUnfolds, CycleBefore}
-use Rattle.sec_setup.specs.sec_base.Table.{AreDistinct}
+use Rattle.base_tables.specs.Table.{AreDistinct}
 use Rattle.obligations.specs.aig.declared.node.Node.{Node}
 use Rattle.obligations.specs.aig.declared.node.Node.TheVariants.{Input}
 use Rattle.obligations.specs.aig.Cone.{IsReached}

@@ -6,7 +6,7 @@ use Rattle.std.proofs.lemmas.List.{length-append}
 use Rattle.circuit_theory.proofs.Lists.{All-from_each, Contains-cases, only}
 use Rattle.circuit_theory.specs.Cover.{Cover}
 use Rattle.circuit_theory.specs.declared.Side.{Side}
-use Rattle.sec_base.specs.Table.{is_among}
+use Rattle.base_tables.specs.Table.{is_among}
 use Rattle.sec_base.specs.declared.basics.Init.TheVariants as init
 use Rattle.flat_net.specs.declared.signals.Signal.{Signal}
 use Rattle.flat_net.specs.declared.parts.Port.{Port}

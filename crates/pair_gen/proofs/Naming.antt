@@ -7,8 +7,8 @@ use Rattle.std.proofs.lemmas.Fmt.{decimal_injective}
 use Rattle.std.proofs.lemmas.Option.{slice_get_within, same_Some}
 use Rattle.circuit_theory.specs.declared.Side.{Side}
 use Rattle.circuit_theory.specs.declared.Side.TheVariants.{A, B}
-use Rattle.sec_base.specs.Table.{is_among}
-use Rattle.sec_base.proofs.TableLemmas.{is_among-at}
+use Rattle.base_tables.specs.Table.{is_among}
+use Rattle.base_tables.proofs.TableLemmas.{is_among-at}
 use Rattle.pair_gen.specs.declared.cells.Cell.{Cell}
 use Rattle.pair_gen.specs.declared.cells.Cell.TheVariants.{Input, Latch, Gate}
 use Rattle.pair_gen.specs.Cells.{name_of, output_name}

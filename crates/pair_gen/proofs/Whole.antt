@@ -5,8 +5,8 @@ use Rattle.std.proofs.lemmas.Bool.{lt-ltb}
 use Rattle.std.proofs.lemmas.Option.{slice_get_within, same_Some}
 use Rattle.circuit_theory.specs.Cover.{Cover}
 use Rattle.circuit_theory.specs.declared.Side.{Side}
-use Rattle.sec_base.specs.Table.{AreDistinct}
-use Rattle.sec_base.proofs.TableLemmas.{key_at}
+use Rattle.base_tables.specs.Table.{AreDistinct}
+use Rattle.base_tables.proofs.TableLemmas.{key_at}
 use Rattle.flat_net.specs.declared.parts.Port.{Port}
 use Rattle.flat_net.specs.declared.parts.LatchAt.{LatchAt}
 use Rattle.flat_net.specs.View.{NetView}

@@ -4,9 +4,10 @@ ghost use Rattle.std.specs.Prelude.{◌≡◌, length, All, IfOk};
 ghost use Rattle.pair_runs.specs.Feeding.{IsColumn, AreColumns, IsWithin, bit_of, reordered};
 ghost use Rattle.pair_runs.specs.Feeds.{IsFresh, CanStep, Steps};
 
+use base_tables::NameTable;
 use cycle_sim::{MarkedSim, Power};
 use flat_net::Net;
-use sec_base::{Bits, NameTable, NoMemory};
+use sec_base::{Bits, NoMemory};
 use std::alloc::Global;
 
 /// A circuit's run with its marks, and where the bits of its inputs stand in the rows of a stimulus.

@@ -7,8 +7,9 @@ ghost use Rattle.pair_runs.specs.Showing.{ArePlacesOf, PutsShown};
 use crate::differences::{Differences, OutputPair};
 use crate::feed::Feed;
 use crate::shown::put_shown;
+use base_tables::NameTable;
 use flat_net::Net;
-use sec_base::{Bits, NameTable, NoMemory};
+use sec_base::{Bits, NoMemory};
 use std::alloc::Global;
 use witness_report::Stimulus;
 

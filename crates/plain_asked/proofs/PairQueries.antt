@@ -10,7 +10,7 @@ use Rattle.circuit_theory.specs.Query as query
 use Rattle.circuit_theory.specs.Query.{Variable, AreVariables, ShiftBefore, HasLeaf, same_shift, pair_query, bits_of}
 use Rattle.circuit_theory.proofs.Lists.{Contains-head, Contains-tail, Contains-cases, Contains-map, Contains-map_from, All-from_each, length-map}
 use Rattle.circuit_theory.proofs.Sums.{AllPairs-head, AllPairs-tail}
-use Rattle.sec_base.specs.Table.{AreDistinct}
+use Rattle.base_tables.specs.Table.{AreDistinct}
 use Rattle.flat_net.specs.View.{NetView}
 use Rattle.aig.specs.declared.node.Lit.{Lit}
 use Rattle.aig.specs.declared.node.Node.{Node}

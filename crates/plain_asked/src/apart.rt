@@ -11,10 +11,11 @@ ghost use Rattle.plain_asked.specs.Pairs.{IsFunctionOf, IsRefusalOf, left_signal
 use crate::error::PlainError;
 use crate::functions::{Functions, left_signals, right_signals};
 use aig::{Aig, Lit};
+use base_tables::PlaceTable;
 use cbf_unfold::{UnfoldError, Unfolded, Unfolder};
 use flat_net::{Net, Signal};
 use latch_graph::LatchGraph;
-use sec_base::{NoMemory, Orders, PlaceTable, Side};
+use sec_base::{NoMemory, Orders, Side};
 use sec_setup::SignalPair;
 use std::alloc::Global;
 

@@ -12,10 +12,11 @@ ghost use Rattle.plain_asked.specs.Pairs.{IsFunctionOf, AreLight, AreTooLarge, I
 
 use crate::error::PlainError;
 use aig::Aig;
+use base_tables::PlaceTable;
 use cbf_unfold::{UnfoldError, Unfolded, Unfolder};
 use flat_net::{Net, Signal};
 use latch_graph::LatchGraph;
-use sec_base::{Ids, MAX_WEIGHT, NoMemory, Orders, PlaceTable, Side};
+use sec_base::{Ids, MAX_WEIGHT, NoMemory, Orders, Side};
 use sec_setup::SignalPair;
 use std::alloc::Global;
 

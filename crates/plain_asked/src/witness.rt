@@ -2,7 +2,7 @@
 
 ghost use Rattle.std.specs.Prelude.{◌≡◌, ◌≢◌, ℕ, ◌*◌, ◌<◌, ◌≤◌, length, false, slice_index_or, All, IfOk};
 ghost use Rattle.std.specs.List.{AllPairs};
-ghost use Rattle.sec_base.specs.Table.{AreDistinct};
+ghost use Rattle.base_tables.specs.Table.{AreDistinct};
 ghost use Rattle.aig.specs.Graph.{vars_of};
 ghost use Rattle.aig.specs.Values.{value};
 ghost use Rattle.pair_decide.specs.Queries.{assigned_to};
@@ -10,9 +10,10 @@ ghost use Rattle.plain_asked.specs.Sequences.{IsSequence, IsWitnessOf};
 
 use crate::functions::Functions;
 use aig::Aig;
+use base_tables::PlaceTable;
 use outcome_fits::{PairName, Stimulus, Witness, copy_name};
 use pair_decide::Query;
-use sec_base::{Bits, NoMemory, PlaceTable, Words};
+use sec_base::{Bits, NoMemory, Words};
 use shift_variables::{bits_at, rows_of};
 use std::alloc::Global;
 

@@ -1,4 +1,3 @@
 pub mod CutUnder
 pub mod SequencesUnder
 pub mod Meaning
-pub use Rattle.outcome_fits.proofs as outcome_fits

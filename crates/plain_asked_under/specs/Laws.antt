@@ -4,7 +4,7 @@ use Rattle.std.specs.List.{All, Contains}
 use Rattle.circuit_theory.specs.Query.{same_shift}
 use Rattle.circuit_theory.specs.Sequence.{sequence_rows}
 use Rattle.circuit_theory.specs.Tree.{IsInputNumber}
-use Rattle.sec_base.specs.Table.{AreDistinct}
+use Rattle.base_tables.specs.Table.{AreDistinct}
 use Rattle.flat_net.specs.Sound.{IsSound}
 use Rattle.flat_net.specs.View.{circuit_of}
 use Rattle.aig.specs.Graph.{IsGraph}

@@ -2,15 +2,16 @@
 
 ghost use Rattle.std.specs.Prelude.{◌≡◌, ◌<◌, ℕ, Bool, length, All, IfOk};
 ghost use Rattle.circuit_theory.specs.Sequence.{sequence_rows};
-ghost use Rattle.sec_base.specs.Table.{AreDistinct};
+ghost use Rattle.base_tables.specs.Table.{AreDistinct};
 ghost use Rattle.plain_asked_under.specs.Shown.{CanBeFilled, CanBeShownUnder, IsFilledIn, IsFilledSequence, IsShowableUnder, IsShownUnder, IsWitnessAtUnder};
 
 use assume_sequences::fill_shifts;
+use base_tables::PlaceTable;
 use obligations::{Difference, Obligation, VerdictAt, copy_name};
 use outcome::{LimitAt, PairResult, Stimulus, Verdict, Why, Witness};
 use pair_decide::Query;
 use plain_asked::{Functions, witness_of};
-use sec_base::{Bits, NoMemory, PlaceTable, Words};
+use sec_base::{Bits, NoMemory, Words};
 use std::alloc::Global;
 
 /// The verdict at an obligation under the assumption, with the sequence of its difference over the inputs of these names.

@@ -14,7 +14,7 @@ use Rattle.flat_net.specs.declared.parts.Port.{Port}
 use Rattle.flat_net.specs.View.{NetView, named, circuit_of, ports_of}
 use Rattle.flat_net.specs.Sound.{IsSound}
 use Rattle.flat_net.proofs.Nets.{sound_is_net, sound_names}
-use Rattle.sec_base.specs.Table.{AreDistinct}
+use Rattle.base_tables.specs.Table.{AreDistinct}
 use Rattle.sec_base.specs.declared.basics.PairAnswer.{PairAnswer}
 use Rattle.sec_base.specs.declared.basics.PairAnswer.TheVariants as answer
 use Rattle.pair_decide.specs.declared.query.Proof.{Proof}

@@ -12,10 +12,11 @@ ghost use Rattle.under_base.specs.compare_base.Compared.{Compared};
 ghost use Rattle.plain_check.specs.Verdicts.{verdict_of};
 
 use crate::plain_form::{Findings, PlainError, compare_plain};
+use base_tables::NameTable;
 use flat_net::Net;
 use outcome::{LimitAt, Outcome, Settings, Verdict};
 use reset_form::{ResetError, ResetFindings, ResetVerdict, compare_reset};
-use sec_base::{MAX_CONFLICTS, NameTable, NoMemory};
+use sec_base::{MAX_CONFLICTS, NoMemory};
 use sec_setup::cut_points::Exposure;
 use sec_setup::{Nets, Setup, choose, graph_of, set_up, shared_names};
 use std::alloc::Global;

@@ -6,7 +6,7 @@ use Rattle.std.proofs.lemmas.Option.{slice_get_within, get_or_from_slice_get, sa
 use Rattle.circuit_theory.specs.Circuit.{Circuit, Named, Latch as latch_equation, IsLatch}
 use Rattle.circuit_theory.specs.Run.{IsRun}
 use Rattle.circuit_theory.proofs.Lists.{All-from_each, Contains-map_from, of_at, length-map}
-use Rattle.sec_base.specs.Table.{AreDistinct}
+use Rattle.base_tables.specs.Table.{AreDistinct}
 use Rattle.flat_net.specs.declared.parts.Port.{Port}
 use Rattle.flat_net.specs.declared.parts.LatchAt.{LatchAt}
 use Rattle.flat_net.specs.Sound.{IsSound}

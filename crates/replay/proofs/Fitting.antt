@@ -4,7 +4,7 @@ use Rattle.std.specs.Prelude.{IfOk}
 use Rattle.std.specs.List.{All}
 use Rattle.circuit_theory.specs.declared.Mode.{Mode}
 use Rattle.circuit_theory.specs.Net.{HasDistinctNames}
-use Rattle.sec_base.specs.Table.{AreDistinct}
+use Rattle.base_tables.specs.Table.{AreDistinct}
 use Rattle.flat_net.specs.Sound.{IsSound}
 use Rattle.flat_net.specs.View.{NetView, circuit_of}
 use Rattle.latch_cone.specs.Cones.{MarksEnabled}

@@ -13,7 +13,7 @@ use Rattle.circuit_theory.specs.Names.{is_among}
 use Rattle.circuit_theory.proofs.Inputs.{test_same, test_refl}
 use Rattle.circuit_theory.proofs.Lists.{Contains-filter, Contains-map_from, at_of, of_at, length-map}
 use Rattle.circuit_theory.proofs.Numbers.{is_among-sound, is_among-complete}
-use Rattle.sec_base.proofs.TableLemmas.{key_at}
+use Rattle.base_tables.proofs.TableLemmas.{key_at}
 use Rattle.flat_net.specs.declared.parts.Port.{Port}
 use Rattle.flat_net.specs.declared.parts.Gate.{Gate}
 use Rattle.flat_net.specs.declared.parts.LatchAt.{LatchAt}

@@ -11,7 +11,7 @@ use Rattle.sec_setup.specs.Matching.{InterfacesMatch}
 use Rattle.interface.proofs.Columns.{read_stays}
 use Rattle.interface.proofs.Interfaces.{input_read_by_name}
 use Rattle.interface.proofs.Shared.{are_matched, missing_none}
-use Rattle.name_tables.specs.Names.{latch_names}
+use Rattle.interface.specs.name_tables.Names.{latch_names}
 use Rattle.replay.specs.replay_header.Header.{opened, FitsBoth}
 use Rattle.replay.proofs.replay_header.Names.{opened_of_both}
 use Rattle.replay.specs.cut_sides.Opening.{AreNamesOf}

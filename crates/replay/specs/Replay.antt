@@ -9,7 +9,7 @@ use Rattle.circuit_theory.specs.Replay.{AreDifferences, Difference as PlacedDiff
 use Rattle.flat_net.specs.View.{NetView, circuit_of}
 use Rattle.flat_net.specs.declared.parts.Port.{Port}
 use Rattle.latch_cone.specs.Cones.{MarksEnabled}
-use Rattle.sec_base.specs.Table.{AreDistinct}
+use Rattle.base_tables.specs.Table.{AreDistinct}
 use Rattle.sec_base.specs.NoMemory.{NoMemory}
 use Rattle.sec_setup.specs.Matching.{InterfacesMatch}
 use Rattle.sec_setup.specs.Pairs.{NamedPair, named_pairs}

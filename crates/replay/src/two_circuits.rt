@@ -2,7 +2,7 @@
 
 ghost use Rattle.std.specs.Prelude.{◌≡◌, ◌^◌, ◌<◌, map, length};
 ghost use Rattle.circuit_theory.specs.declared.Mode.{Mode};
-ghost use Rattle.sec_base.specs.Table.{AreDistinct};
+ghost use Rattle.base_tables.specs.Table.{AreDistinct};
 ghost use Rattle.latch_cone.specs.Cones.{MarksEnabled};
 ghost use Rattle.sec_setup.specs.Matching.{InterfacesMatch};
 ghost use Rattle.replay.specs.Replay.{Replays, IsFitting, FindsReplay};
@@ -10,10 +10,11 @@ ghost use Rattle.replay.specs.Replay.{Replays, IsFitting, FindsReplay};
 use crate::cut_sides::{cut_side, pairs_of};
 use crate::differences::Replayed;
 use crate::replay_header::{ReplayError, opened_by};
+use base_tables::NameTable;
 use flat_net::Net;
-use name_tables::table_of_names;
+use interface::name_tables::table_of_names;
 use pair_runs::{Differences, Side, run_pairs};
-use sec_base::{Bits, NameTable, NoMemory};
+use sec_base::{Bits, NoMemory};
 use std::alloc::Global;
 use witness_report::Stimulus;
 

@@ -1,6 +1,6 @@
 -- What is found of a pair in a cycle under an assumption.
 use Rattle.std.specs.Prelude.{ℕ, Bool, List}
-use Rattle.sec_base.specs.Table.{AreDistinct}
+use Rattle.base_tables.specs.Table.{AreDistinct}
 use Rattle.flat_net.specs.View.{NetView, circuit_of}
 use Rattle.aig.specs.declared.node.Node.{Node}
 use Rattle.aig.specs.Graph.{IsGraph}

@@ -2,17 +2,18 @@
 
 ghost use Rattle.std.specs.Prelude.{◌≡◌, ◌<◌, ◌≤◌, ℕ, Bool, length, All, IfOk};
 ghost use Rattle.reset_laws.specs.Reset.{reset_rows};
-ghost use Rattle.sec_base.specs.Table.{AreDistinct};
+ghost use Rattle.base_tables.specs.Table.{AreDistinct};
 ghost use Rattle.shift_variables.specs.cycle_variables.Cycles.{AreInCycles};
 ghost use Rattle.reset_asked_under.specs.Shown.{CanBeFilled, CanBeShownUnder, HasPowers, IsFilledIn, IsFilledSequence, IsShowableUnder, IsShownUnder, IsWitnessAtUnder};
 
 use assume_sequences::fill_cycles;
+use base_tables::PlaceTable;
 use obligations::{Difference, Obligation, VerdictAt, copy_name};
 use outcome::{PairResult, ResetWitness, Stimulus, Witness};
 use pair_decide::Query;
 use reset_form::reset_asked::{ResetVerdict, sequence_of};
 use reset_functions::{Bases, Functions};
-use sec_base::{Bits, NoMemory, PlaceTable, Words};
+use sec_base::{Bits, NoMemory, Words};
 use sec_setup::Setup;
 use shift_variables::cycle_variables::power_up;
 use std::alloc::Global;

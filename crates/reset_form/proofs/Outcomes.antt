@@ -15,7 +15,7 @@ use Rattle.obligations.specs.Verdict.{IsVerdictAt}
 use Rattle.interface.specs.declared.pairs.SignalPair.{SignalPair}
 use Rattle.sec_setup.specs.declared.setup.Setup.{Setup}
 use Rattle.sec_setup.specs.Pairs.{places_of}
-use Rattle.outcome_fits.proofs.swept_queries.Listed.{zip_left}
+use Rattle.obligations.proofs.swept_queries.Listed.{zip_left}
 use Rattle.circuit_theory.proofs.Lists.{zip_right}
 use Rattle.reset_functions.specs.declared.bases.Bases.{Bases}
 use Rattle.reset_functions.specs.declared.functions.Functions.{Functions}

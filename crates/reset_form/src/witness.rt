@@ -1,7 +1,7 @@
 //! The sequence of a difference, with both power-ups.
 
 ghost use Rattle.std.specs.Prelude.{◌≡◌, ◌*◌, ◌<◌, length, IfOk};
-ghost use Rattle.sec_base.specs.Table.{AreDistinct};
+ghost use Rattle.base_tables.specs.Table.{AreDistinct};
 ghost use Rattle.shift_variables.specs.cycle_variables.Cycles.{AreInCycles};
 ghost use Rattle.reset_form.specs.Shown.{IsWitnessOf};
 

@@ -11,7 +11,7 @@ use Rattle.unfold_places.proofs.Zips.{zip_left}
 use Rattle.sec_setup.specs.interface.declared.pairs.SignalPair.{SignalPair}
 use Rattle.sec_setup.specs.declared.setup.Setup.{Setup}
 use Rattle.shift_variables.proofs.Assignments.{take_next}
-use Rattle.sec_base.proofs.TableLemmas.{slice_get-take}
+use Rattle.base_tables.proofs.TableLemmas.{slice_get-take}
 use Rattle.flat_net.proofs.Growth.{length-push}
 use Rattle.flat_net.specs.View.{NetView, circuit_of}
 use Rattle.reset_laws.specs.Weight.{IsResetOver}

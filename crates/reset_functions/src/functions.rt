@@ -17,9 +17,10 @@ ghost use Rattle.reset_functions.specs.Pairs.{AreCyclesOf, AreTops, IsAmong, IsB
 use crate::bases::Bases;
 use crate::error::ResetError;
 use aig::Aig;
+use base_tables::PlaceTable;
 use flat_net::{Net, Signal};
 use reset_unfold::ResetUnfolder;
-use sec_base::{Ids, MAX_WEIGHT, NoMemory, PlaceTable, Seq, Side};
+use sec_base::{Ids, MAX_WEIGHT, NoMemory, Seq, Side};
 use sec_setup::{LatchGraph, Setup, pair_depth};
 use std::alloc::Global;
 use unfold_places::memo::Place;

@@ -18,9 +18,8 @@ use Rattle.aig.specs.declared.node.Lit.{Lit}
 use Rattle.aig.specs.declared.node.Node.{Node}
 use Rattle.aig.specs.Builds.{Builds}
 use Rattle.unfold_places.specs.Places.{Steps, PlaceBefore, weight_at}
-use Rattle.unfold_places.specs.Reach.{IsThere}
+use Rattle.unfold_places.specs.Reach.{IsThere, IsMet}
 use Rattle.unfold_places.specs.Growing.{IsNumberOf}
-use Rattle.unfold_places.specs.Reach.{IsMet}
 use Rattle.unfold_places.specs.InputOrder.{IsOrderOf}
 use Rattle.unfold_places.proofs.Growing.{zip_map}
 use Rattle.reset_unfold.specs.Places.{IsLeafAt, starts_of, in_cycle}

@@ -15,8 +15,7 @@ use Rattle.aig.specs.declared.node.Lit.{Lit}
 use Rattle.aig.specs.declared.node.Node.{Node}
 use Rattle.aig.proofs.Growth.{Grows-refl, Grows-trans}
 use Rattle.unfold_places.specs.Places.{Steps, PlaceBefore, weight_at}
-use Rattle.unfold_places.specs.Reach.{IsThere}
-use Rattle.unfold_places.specs.Reach.{IsMet}
+use Rattle.unfold_places.specs.Reach.{IsThere, IsMet}
 use Rattle.unfold_places.specs.Growing.{HasGrown}
 use Rattle.unfold_places.proofs.Lists.{adds_none, adds_trans, adds_push, adds_contains, pairs_at, sum_by-map}
 use Rattle.unfold_places.proofs.Drivers.{step_lower, step_within}

@@ -9,7 +9,7 @@ use Rattle.std.proofs.lemmas.Option.{slice_get-get_or}
 use Rattle.circuit_theory.specs.Circuit.{Circuit}
 use Rattle.circuit_theory.specs.Query.{Variable}
 use Rattle.circuit_theory.proofs.Lists.{at_of}
-use Rattle.sec_base.proofs.TableLemmas.{slice_get-take}
+use Rattle.base_tables.proofs.TableLemmas.{slice_get-take}
 use Rattle.reset_laws.specs.Weight.{ResetVisits}
 use Rattle.unfold_places.specs.Places.{PlaceBefore}
 use Rattle.unfold_places.specs.Reach.{IsThere}

@@ -11,4 +11,3 @@ pub mod Going
 pub mod Finish
 pub mod CoveredCones
 pub mod CycleLeaves
-pub use Rattle.reset_laws.proofs as reset_laws

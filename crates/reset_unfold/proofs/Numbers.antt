@@ -10,7 +10,7 @@ use Rattle.circuit_theory.specs.Tree.{IsInputNumber}
 use Rattle.circuit_theory.proofs.Inputs.{beside_is_input}
 use Rattle.circuit_theory.proofs.Lists.{of_at}
 use Rattle.circuit_theory.proofs.Numbers.{beside_at, at_beside, distinct_at, one_number, one_place, slice_get-map}
-use Rattle.sec_base.specs.Table.{AreDistinct}
+use Rattle.base_tables.specs.Table.{AreDistinct}
 use Rattle.flat_net.specs.declared.parts.LatchAt.{LatchAt}
 use Rattle.flat_net.specs.declared.parts.Driver.TheVariants as driver
 use Rattle.flat_net.specs.View.{NetView, circuit_of, named, start_of}

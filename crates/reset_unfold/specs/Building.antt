@@ -9,8 +9,7 @@ use Rattle.aig.specs.declared.node.Node.TheVariants.{Input}
 use Rattle.aig.specs.Graph.{Grows, IsLitOf}
 use Rattle.aig.specs.Rules.{IsCoverOf}
 use Rattle.unfold_places.specs.Places.{Steps, PlaceBefore}
-use Rattle.unfold_places.specs.Reach.{Adds}
-use Rattle.unfold_places.specs.Reach.{IsMet}
+use Rattle.unfold_places.specs.Reach.{Adds, IsMet}
 use Rattle.reset_unfold.specs.Places.{IsVisited}
 use Rattle.reset_unfold.specs.Reach.{AreLeavesAt}
 use Rattle.reset_unfold.specs.View.{ResetView}

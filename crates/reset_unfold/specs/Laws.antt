@@ -5,7 +5,7 @@ use Rattle.circuit_theory.specs.Cone.{latches_of}
 use Rattle.circuit_theory.specs.Run.{IsResetRun}
 use Rattle.circuit_theory.specs.Tree.{IsInputNumber}
 use Rattle.reset_laws.specs.Reset.{IsFree}
-use Rattle.sec_base.specs.Table.{AreDistinct}
+use Rattle.base_tables.specs.Table.{AreDistinct}
 use Rattle.flat_net.specs.View.{NetView, circuit_of}
 use Rattle.aig.specs.declared.node.Node.{Node}
 use Rattle.aig.specs.declared.node.Node.TheVariants.{Input}

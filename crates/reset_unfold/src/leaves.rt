@@ -9,8 +9,9 @@ ghost use Rattle.unfold_places.specs.InputOrder.{IsOrderOf};
 ghost use Rattle.reset_unfold.specs.Places.{IsLeafAt, IsFreeAt};
 ghost use Rattle.reset_unfold.specs.Reach.{AreLeavesOf};
 
+use base_tables::PlaceTable;
 use flat_net::{Driver, LatchAt, Net, Signal};
-use sec_base::{Ids, Init, NoMemory, PlaceTable, Seq};
+use sec_base::{Ids, Init, NoMemory, Seq};
 use std::alloc::Global;
 use unfold_places::memo::Place;
 use unfold_places::reads::latch_of;

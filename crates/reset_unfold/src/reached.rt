@@ -10,8 +10,9 @@ ghost use Rattle.unfold_places.specs.declared.error.UnfoldError.TheVariants as u
 ghost use Rattle.reset_unfold.specs.Places.{starts_of};
 ghost use Rattle.reset_unfold.specs.Reach.{AreUnmet, IsReach};
 
+use base_tables::PlaceTable;
 use flat_net::{Driver, Net, Signal};
-use sec_base::{MAX_WEIGHT, NoMemory, PlaceTable};
+use sec_base::{MAX_WEIGHT, NoMemory};
 use std::alloc::Global;
 use unfold_places::UnfoldError;
 use unfold_places::listing::listed;

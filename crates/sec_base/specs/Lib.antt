@@ -1,11 +1,7 @@
 pub mod Cover
 pub mod Texts
-pub use Rattle.base_tables.specs.Table
 pub use Rattle.base_shelves.specs.Outside
-pub use Rattle.base_shelves.specs.Fetch
 pub use Rattle.base_shelves.specs.MemShelf
-pub use Rattle.base_shelves.specs.MemSink
 pub use Rattle.base_shelves.specs.declared.whole_file.FetchError
 pub use Rattle.base_shelves.specs.NoMemory
-pub use Rattle.base_tables.specs.unique_table
 pub use Rattle.circuit_theory.specs as circuit_theory

@@ -14,7 +14,6 @@ pub use base_shelves::{
     MemShelf, MemSink, NoMemory, Seq, Shelf, ShelfError, Sink, StdSink, Text, Word, Words, fetch,
     unset_bits,
 };
-pub use base_tables::{Key, NameTable, PlaceTable, UniqueTable, mixed};
 pub use basics::{Edge, Init, Orders, PairAnswer, Tag};
 pub use circuit_theory::Side;
 pub use covers::{Cover, place_matches};

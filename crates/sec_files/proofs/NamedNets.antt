@@ -7,7 +7,7 @@ use Rattle.circuit_theory.specs.Names.{same_name}
 use Rattle.circuit_theory.proofs.Inputs.{same_name-sound}
 use Rattle.circuit_theory.proofs.Lists.{filter_map-from, at_of}
 use Rattle.circuit_theory.proofs.Numbers.{same_name-refl}
-use Rattle.sec_base.specs.Table.{AreDistinct}
+use Rattle.base_tables.specs.Table.{AreDistinct}
 use Rattle.sec_base.specs.declared.basics.Init.{Init}
 use Rattle.sec_base.specs.declared.basics.Init.TheVariants as init
 use Rattle.blif_read.specs.Design.{Place, top}

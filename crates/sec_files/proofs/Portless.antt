@@ -2,8 +2,7 @@
 use Rattle.std.proofs.Common.{◌≡◌, ℕ, List, [], inl, inr, ◌⊎◌, Option, Some, None, arith}
 use Rattle.std.specs.List.{Contains}
 use Rattle.std.proofs.lemmas.List.Elements.{Contains-append_cases}
-use Rattle.circuit_theory.specs.Circuit.{Equation, Port}
-use Rattle.circuit_theory.specs.Circuit.{Gate as gate_equation}
+use Rattle.circuit_theory.specs.Circuit.{Equation, Port, Gate as gate_equation}
 use Rattle.circuit_theory.specs.Cover.{Cover}
 use Rattle.circuit_theory.proofs.Lists.{only}
 use Rattle.aiger_records.specs.declared.record.Record.{Record}

@@ -4,4 +4,3 @@ pub mod Stimuli
 pub mod Named
 pub mod job_files
 pub use Rattle.aiger_read.specs as aiger_read
-pub use Rattle.aiger_file.specs as aiger_file

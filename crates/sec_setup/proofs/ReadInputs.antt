@@ -16,7 +16,7 @@ use Rattle.interface.specs.flat_net.declared.parts.LatchAt.{LatchAt}
 use Rattle.interface.specs.flat_net.View.{NetView, named, equation_of_gate, equation_of_latch, circuit_of, is_read, ports_of}
 use Rattle.interface.proofs.flat_net.Nets.{OfGate, OfLatch, equation_from}
 use Rattle.interface.proofs.flat_net.Places.{one_at}
-use Rattle.interface.proofs.sec_base.TableLemmas.{key_at}
+use Rattle.base_tables.proofs.TableLemmas.{key_at}
 use Rattle.sec_setup.specs.Pairs.{outputs_of}
 use Rattle.sec_setup.specs.Setup.{AreColumns}
 

@@ -2,7 +2,7 @@
 use Rattle.std.proofs.Common.{◌≡◌, ℕ, ◌+◌, ◌<◌, ◌≤◌, ◌^◌, List, ◌++◌, map, length, sym, ◌∙◌, ap, subst, arith, length-append}
 use Rattle.std.specs.List.{Contains}
 use Rattle.circuit_theory.specs.Interface.{shared_inputs}
-use Rattle.interface.specs.sec_base.Table.{AreDistinct}
+use Rattle.base_tables.specs.Table.{AreDistinct}
 use Rattle.interface.specs.sec_base.declared.basics.Orders.{Orders}
 use Rattle.interface.specs.flat_net.Comparable.{IsComparable}
 use Rattle.interface.specs.flat_net.Sound.{IsSound}

@@ -6,7 +6,7 @@ use Rattle.std.proofs.lemmas.List.Elements.{All-nil}
 use Rattle.circuit_theory.specs.declared.Mode.TheVariants.{Plain}
 use Rattle.circuit_theory.specs.Agree.{cut, is_kept, IsMinimalCut}
 use Rattle.circuit_theory.specs.Circuit.{Circuit, Equation, Gate, Latch, Port as port_equation}
-use Rattle.interface.specs.sec_base.Table.{AreDistinct}
+use Rattle.base_tables.specs.Table.{AreDistinct}
 use Rattle.interface.specs.flat_net.declared.parts.LatchAt.{LatchAt}
 use Rattle.interface.specs.flat_net.Cut.{latch_at, exposed_names, stays, IsCut, IsCutCircuit}
 use Rattle.interface.specs.flat_net.View.{NetView, circuit_of}

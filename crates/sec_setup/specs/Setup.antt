@@ -3,7 +3,7 @@ use Rattle.std.specs.Prelude.{◌≡◌, ℕ, List, map, length}
 use Rattle.std.specs.List.{Contains}
 use Rattle.circuit_theory.specs.declared.Mode.TheVariants.{Plain}
 use Rattle.circuit_theory.specs.Interface.{shared_inputs, AreNumbersOf}
-use Rattle.interface.specs.sec_base.Table.{AreDistinct}
+use Rattle.base_tables.specs.Table.{AreDistinct}
 use Rattle.interface.specs.flat_net.View.{NetView, circuit_of, ports_of}
 use Rattle.latch_graph.specs.Graph.{IsGraphIn}
 use Rattle.sec_setup.specs.declared.nets.Nets.{Nets}

@@ -2,7 +2,7 @@
 
 ghost use Rattle.std.specs.Prelude.{◌≡◌, ◌++◌, ◌+◌, ◌<◌, ◌^◌, length, IfOk};
 ghost use Rattle.circuit_theory.specs.Interface.{shared_inputs};
-ghost use Rattle.interface.specs.sec_base.Table.{AreDistinct};
+ghost use Rattle.base_tables.specs.Table.{AreDistinct};
 ghost use Rattle.interface.specs.flat_net.Comparable.{IsComparable};
 ghost use Rattle.interface.specs.flat_net.View.{ports_of};
 ghost use Rattle.interface.specs.Numbered.{AreNumbered};

@@ -10,7 +10,7 @@ use Rattle.circuit_theory.proofs.Lists.{Contains-head, Contains-tail}
 use Rattle.circuit_theory.proofs.Inputs.{test_same, test_refl}
 use Rattle.circuit_theory.proofs.Numbers.{distinct_at}
 use Rattle.circuit_theory.proofs.Sums.{same_or_not}
-use Rattle.unfold_places.specs.sec_base.Table.{AreDistinct}
+use Rattle.base_tables.specs.Table.{AreDistinct}
 use Rattle.pair_decide.specs.Queries.{assigned_to}
 use Rattle.shift_variables.specs.Variables.{variable_of, variables_of}
 

@@ -10,7 +10,7 @@ use Rattle.circuit_theory.specs.Query.{Variable, ShiftBefore, assigned, same_shi
 use Rattle.circuit_theory.specs.Sequence.{sequence_value, sequence_row, sequence_rows_from}
 use Rattle.circuit_theory.proofs.Lists.{All-from_each, Contains-map_from, at_of, of_at, length-map}
 use Rattle.circuit_theory.proofs.Sums.{AllPairs-head, AllPairs-tail}
-use Rattle.unfold_places.proofs.sec_base.TableLemmas.{slice_get-take}
+use Rattle.base_tables.proofs.TableLemmas.{slice_get-take}
 use Rattle.latch_graph.proofs.Trails.{slice_get-drop}
 use Rattle.unfold_places.proofs.Lists.{pairs_at}
 use Rattle.flat_net.proofs.Places.{All-at}

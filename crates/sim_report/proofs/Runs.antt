@@ -7,8 +7,8 @@ use Rattle.std.proofs.lemmas.Option.{slice_get_within, slice_get-get_or, get_or_
 use Rattle.circuit_theory.specs.Run.{IsRun}
 use Rattle.circuit_theory.specs.Interface.{first_missing, ◌or_else◌}
 use Rattle.circuit_theory.proofs.Lists.{at_of, of_at, Contains-map, Contains-tail, Contains-head}
-use Rattle.sec_base.specs.Table.{AreDistinct}
-use Rattle.sec_base.proofs.TableLemmas.{key_at}
+use Rattle.base_tables.specs.Table.{AreDistinct}
+use Rattle.base_tables.proofs.TableLemmas.{key_at}
 use Rattle.flat_net.specs.declared.parts.Port.{Port}
 use Rattle.flat_net.specs.View.{NetView, circuit_of}
 use Rattle.flat_net.proofs.Nets.{some_at}
@@ -20,13 +20,13 @@ use Rattle.cycle_sim.proofs.Starts.{length-reset_bits}
 use Rattle.sim_report.specs.declared.refusal.Misfit.{Misfit}
 use Rattle.sim_report.specs.declared.refusal.Misfit.TheVariants as misfit
 use Rattle.sim_report.specs.Checks.{is_power, word_bits, power_of, named_misfit, first_misfit}
-use Rattle.name_tables.specs.Names.{input_names}
+use Rattle.interface.specs.name_tables.Names.{input_names}
 use Rattle.sim_report.specs.Report.{cycle_lines, IsSimulated, IsSimReport}
 use Rattle.sim_report.specs.Cycles.{AreColumns, PutsCycles, reordered}
 use Rattle.latch_cone.specs.Cones.{MarksEnabled}
 use Rattle.circuit_theory.specs.declared.Mode.{Mode}
 use Rattle.sim_report.proofs.Lines.{shown_in_mode}
-use Rattle.name_tables.proofs.Names.{missing_none}
+use Rattle.interface.proofs.name_tables.Names.{missing_none}
 
 -- the columns of a stimulus whose rows have one bit for each name
 module _ (n : NetView) (names : List (List ℕ)) (rows : List (List Bool)) (columns : List ℕ) (are : AreColumns n names columns) (wide : All (λ row. length row ≡ length names) rows) where

@@ -3,7 +3,7 @@ use Rattle.std.specs.Prelude.{ℕ, ◌==◌, ◌&&◌, ◌||◌, Bool, true, fal
 use Rattle.std.specs.List.{list_all}
 use Rattle.circuit_theory.specs.Interface.{first_missing, ◌or_else◌}
 use Rattle.flat_net.specs.View.{NetView}
-use Rattle.name_tables.specs.Names.{input_names}
+use Rattle.interface.specs.name_tables.Names.{input_names}
 use Rattle.cycle_sim.specs.Runs.{reset_bits}
 use Rattle.sim_report.specs.declared.refusal.Misfit.{Misfit}
 use Rattle.sim_report.specs.declared.refusal.Misfit.TheVariants as misfit

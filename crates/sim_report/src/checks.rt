@@ -5,9 +5,10 @@ ghost use Rattle.std.specs.List.{list_all};
 ghost use Rattle.sim_report.specs.Checks.{is_power_word, is_power, word_bits, first_misfit};
 
 use crate::refusal::Misfit;
+use base_tables::NameTable;
 use flat_net::Net;
-use name_tables::{first_missing, table_of_inputs, word_of};
-use sec_base::{Bits, NameTable, NoMemory, Seq};
+use interface::name_tables::{first_missing, table_of_inputs, word_of};
+use sec_base::{Bits, NoMemory, Seq};
 use std::alloc::Global;
 
 fn is_digit(digit: u8) -> bool

@@ -2,11 +2,12 @@
 
 ghost use Rattle.std.specs.Prelude.{◌≡◌, ◌<◌, None, All, length, IfOk};
 ghost use Rattle.circuit_theory.specs.Interface.{first_missing};
-ghost use Rattle.name_tables.specs.Names.{input_names};
+ghost use Rattle.interface.specs.name_tables.Names.{input_names};
 ghost use Rattle.sim_report.specs.Cycles.{AreColumns, reordered};
 
+use base_tables::NameTable;
 use flat_net::Net;
-use sec_base::{NameTable, NoMemory};
+use sec_base::NoMemory;
 use std::alloc::Global;
 
 /// For each input the column of its name. Each input has one.

@@ -12,9 +12,10 @@ use crate::columns::columns_of;
 use crate::cycles::{PowerUp, put_cycles};
 use crate::refusal::Misfit;
 use crate::text::put_ports;
+use base_tables::NameTable;
 use flat_net::Net;
-use name_tables::table_of_names;
-use sec_base::{Bits, NameTable, NoMemory, Seq, Text, put};
+use interface::name_tables::table_of_names;
+use sec_base::{Bits, NoMemory, Seq, Text, put};
 use std::alloc::Global;
 use witness_report::Stimulus;
 

@@ -1,9 +1,9 @@
 -- Assignments of a table of signatures, by their numbers.
 use Rattle.std.specs.Prelude.{◌≡◌, ◌≢◌, ℕ, ◌/◌, ◌%◌, ◌<◌, ◌==◌, Bool, true, List, [], map, slice_index_or}
-use Rattle.sweep.specs.aig.declared.node.Node.{Node}
-use Rattle.sweep.specs.aig.Values.{value}
-use Rattle.sweep.specs.lane_eval.Blocks.{block_bit, turned}
-use Rattle.sweep.specs.lane_eval.Signatures.{word_lane}
+use Rattle.swept_queries.specs.sweep.aig.declared.node.Node.{Node}
+use Rattle.swept_queries.specs.sweep.aig.Values.{value}
+use Rattle.swept_queries.specs.sweep.lane_eval.Blocks.{block_bit, turned}
+use Rattle.swept_queries.specs.sweep.lane_eval.Signatures.{word_lane}
 use Rattle.swept_queries.specs.declared.sides.Sides.{Sides}
 
 -- the literal's value under assignment k, by the blocks of the nodes

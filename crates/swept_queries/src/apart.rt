@@ -1,12 +1,12 @@
 //! Queries that a simulation tells apart.
 
 ghost use Rattle.std.specs.Prelude.{◌≡◌, ◌*◌, ◌/◌, ◌%◌, ◌<◌, ◌==◌, Bool, [], length, slice_index_or, IfSome};
-ghost use Rattle.sweep.specs.lane_eval.Blocks.{block_bit, turned};
+ghost use Rattle.swept_queries.specs.sweep.lane_eval.Blocks.{block_bit, turned};
 ghost use Rattle.swept_queries.specs.InStead.{AreWithin};
 ghost use Rattle.swept_queries.specs.Lanes.{TellsApart, lit_lane};
 
 use crate::sides::Sides;
-use sweep::{Lit, SignatureTable};
+use crate::sweep::{Lit, SignatureTable};
 
 /// An assignment that meets the care and tells the sides apart, if there is one among those of the table.
 pub(crate) fn lane_apart(table: &SignatureTable, sides: &Sides) -> Option<u32>

@@ -2,13 +2,13 @@
 
 ghost use Rattle.std.specs.Prelude.{◌≡◌, ◌*◌, ◌↔◌, ℕ, List, length, All, IfOk, IsTrue};
 ghost use Rattle.std.specs.List.{AllZip};
-ghost use Rattle.sweep.specs.aig.Graph.{vars_of};
+ghost use Rattle.swept_queries.specs.sweep.aig.Graph.{vars_of};
 ghost use Rattle.swept_queries.specs.InStead.{MayBeWithin, AreKnownWithin, IsTrivial, IsKept, IsChosen};
 
 use crate::apart::lane_apart;
 use crate::sides::{Known, Sides};
+use crate::sweep::{Aig, Lit, NoMemory, SignatureTable, signatures};
 use std::alloc::Global;
-use sweep::{Aig, Lit, NoMemory, SignatureTable, signatures};
 
 /// Whether there is a query whose sides are different literals and whose care isn't the literal 0.
 pub(crate) fn is_any_open(given: &[Option<Sides>]) -> bool {

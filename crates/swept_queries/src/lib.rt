@@ -7,6 +7,7 @@ mod queries;
 mod query;
 mod roots;
 mod sides;
+pub mod sweep;
 mod targets;
 mod words;
 

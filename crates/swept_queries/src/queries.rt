@@ -1,11 +1,11 @@
 //! Sweeping the queries, and deciding them.
 
 ghost use Rattle.std.specs.Prelude.{◌≡◌, ◌*◌, ◌<◌, ◌≤◌, List, length, All, IfOk};
-ghost use Rattle.sweep.specs.aig.declared.node.Node.{Node};
-ghost use Rattle.sweep.specs.aig.Graph.{vars_of};
-ghost use Rattle.sweep.specs.pair_decide.declared.query.Query.{Query};
-ghost use Rattle.sweep.specs.pair_decide.Queries.{IsQuery};
-ghost use Rattle.sweep.specs.Swept.{IsSwept};
+ghost use Rattle.swept_queries.specs.sweep.aig.declared.node.Node.{Node};
+ghost use Rattle.swept_queries.specs.sweep.aig.Graph.{vars_of};
+ghost use Rattle.swept_queries.specs.sweep.pair_decide.declared.query.Query.{Query};
+ghost use Rattle.swept_queries.specs.sweep.pair_decide.Queries.{IsQuery};
+ghost use Rattle.swept_queries.specs.sweep.Swept.{IsSwept};
 ghost use Rattle.swept_queries.specs.Lanes.{DiffersAt};
 ghost use Rattle.swept_queries.specs.InStead.{MayBeWithin, AreKnownWithin, IsMovedTo, AreSwept, IsKnown, IsTrueOf, StandFor, DecidesInStead, sides_of};
 
@@ -13,13 +13,13 @@ use crate::choice::{chosen, is_any_open};
 use crate::query::query_in_stead;
 use crate::roots::{known_after, roots_of};
 use crate::sides::{Known, Sides};
-use crate::targets::{is_any_left, kept_lits, tried_lits};
-use crate::words::{bits_at, seeded_words};
-use std::alloc::Global;
-use sweep::{
+use crate::sweep::{
     Aig, Decision, Effort, Lits, MAX_CONFLICTS, NoMemory, Query, SameBy, Swept, decide,
     sweep_across,
 };
+use crate::targets::{is_any_left, kept_lits, tried_lits};
+use crate::words::{bits_at, seeded_words};
+use std::alloc::Global;
 
 /// The most variables of a query for which the least difference is wanted.
 const NARROW: usize = 16;

@@ -1,14 +1,14 @@
 //! One query over the swept graph.
 
 ghost use Rattle.std.specs.Prelude.{◌≡◌, ℕ, List, Contains, slice_get, IfOk, IfSome, IsTrue};
-ghost use Rattle.sweep.specs.aig.declared.node.Node.{Node};
-ghost use Rattle.sweep.specs.aig.declared.node.Node.TheVariants.{Input};
-ghost use Rattle.sweep.specs.pair_decide.Queries.{IsQuery};
+ghost use Rattle.swept_queries.specs.sweep.aig.declared.node.Node.{Node};
+ghost use Rattle.swept_queries.specs.sweep.aig.declared.node.Node.TheVariants.{Input};
+ghost use Rattle.swept_queries.specs.sweep.pair_decide.Queries.{IsQuery};
 ghost use Rattle.swept_queries.specs.InStead.{AreWithin, sides_of, ReadsOnly, StandFor, IsInStead};
 
 use crate::sides::Sides;
+use crate::sweep::{Aig, Ids, NoMemory, Node, Query};
 use std::alloc::Global;
-use sweep::{Aig, Ids, NoMemory, Node, Query};
 
 /// The query with these literals of the graph in the place of its own, if their cones read no variable but the query's.
 pub(crate) fn query_in_stead(

@@ -4,8 +4,8 @@ ghost use Rattle.std.specs.Prelude.{◌≡◌, ◌*◌, ◌++◌, [], ◌∷◌,
 ghost use Rattle.swept_queries.specs.Roots.{three, roots_for, IsMoved, AreMade};
 
 use crate::sides::{Known, Sides};
+use crate::sweep::{Lit, Lits, NoMemory};
 use std::alloc::Global;
-use sweep::{Lit, Lits, NoMemory};
 
 /// The roots. A query that isn't swept has the literal 0 three times.
 pub(crate) fn roots_of(alloc: Global, asked: &[Known]) -> Result<Lits, NoMemory>

@@ -1,6 +1,6 @@
 //! The literals of queries, and what is known of them.
 
-use sweep::Lit;
+use crate::sweep::Lit;
 
 /// The literals of a query: both sides and the care.
 #[derive(Clone, Copy)]

@@ -1,13 +1,13 @@
 //! Which nodes a sweep tries: those of queries whose sides are still different literals.
 
 ghost use Rattle.std.specs.Prelude.{◌≡◌, ◌*◌, ◌<◌, List, length, All, IfOk, IfSome, OnOk};
-ghost use Rattle.sweep.specs.aig.declared.node.Node.{Node};
+ghost use Rattle.swept_queries.specs.sweep.aig.declared.node.Node.{Node};
 ghost use Rattle.swept_queries.specs.declared.sides.Known.TheVariants as what;
 ghost use Rattle.swept_queries.specs.InStead.{AreKnownWithin};
 
 use crate::sides::{Known, Sides};
+use crate::sweep::{Lit, NoMemory};
 use std::alloc::Global;
-use sweep::{Lit, NoMemory};
 
 /// Whether there is a query to be swept whose sides are different literals.
 pub(crate) fn is_any_left(known: &[Known]) -> bool {

@@ -1,13 +1,13 @@
 //! Random words, eight for each variable: bit k of them is the variable's bit under assignment k.
 
 ghost use Rattle.std.specs.Prelude.{◌≡◌, ◌*◌, length, slice_index, IfOk};
-ghost use Rattle.sweep.specs.lane_eval.Signatures.{word_lane};
+ghost use Rattle.swept_queries.specs.sweep.lane_eval.Signatures.{word_lane};
 ghost use Rattle.swept_queries.specs.Lanes.{lane_bits};
 
+use crate::sweep::{Bits, NoMemory};
 use rand_core::{Rng, SeedableRng};
 use rand_xoshiro::Xoshiro256PlusPlus;
 use std::alloc::Global;
-use sweep::{Bits, NoMemory};
 
 /// Eight words for each of so many variables, the same at each call.
 pub(crate) fn seeded_words(alloc: Global, variables: u32) -> Result<Vec<u64>, NoMemory>

@@ -6,7 +6,7 @@ use Rattle.circuit_theory.proofs.Lists.{zip_weaker}
 use Rattle.flat_net.specs.Cut.{IsCutCircuit}
 use Rattle.outcome_fits.specs.Pairs.{NamedPair}
 use Rattle.outcome_fits.proofs.CutNets.{same_as_cut}
-use Rattle.outcome_fits.proofs.sec_setup.SameEquations.{same_tree, turned}
+use Rattle.sec_setup.proofs.SameEquations.{same_tree, turned}
 use Rattle.under_base.specs.under_fits.Places.{IsReadAt, ArePairPlaces, ArePlacesOfPairs, IsOverAtPairs, IsLightAtPairs}
 
 module _ (names : List (List ℕ)) (a b m k : Circuit ℕ) (left_is : IsCutCircuit names a m) (right_is : IsCutCircuit names b k) (left right : List ℕ) where

@@ -7,7 +7,7 @@ use Rattle.circuit_theory.specs.Agree.{cut}
 use Rattle.circuit_theory.specs.Circuit.{Named}
 use Rattle.circuit_theory.specs.Interface.{AreNumbersOf}
 use Rattle.circuit_theory.proofs.Lists.{map-map, Contains-map, Contains-map_from, Contains-filter}
-use Rattle.sec_base.specs.Table.{AreDistinct}
+use Rattle.base_tables.specs.Table.{AreDistinct}
 use Rattle.flat_net.specs.declared.parts.Port.{Port}
 use Rattle.flat_net.specs.Cut.{latch_at, as_input, exposed_names, IsCut, IsCutCircuit}
 use Rattle.flat_net.specs.View.{NetView, named, circuit_of, ports_of}

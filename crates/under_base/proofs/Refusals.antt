@@ -2,10 +2,10 @@
 use Rattle.std.proofs.Common.{Err, inl}
 use Rattle.flat_net.specs.View.{NetView}
 use Rattle.sec_base.specs.declared.settings.Settings.{Settings}
-use Rattle.outcome_fits.specs.sec_setup.declared.error.SetupError.{SetupError}
-use Rattle.outcome_fits.specs.sec_setup.declared.error.SetupError.TheVariants as unset
-use Rattle.outcome_fits.specs.sec_setup.Choosing.{Chosen}
-use Rattle.outcome_fits.specs.sec_setup.Matching.{InterfacesMatch, InterfaceFails as NoMatch}
+use Rattle.sec_setup.specs.declared.error.SetupError.{SetupError}
+use Rattle.sec_setup.specs.declared.error.SetupError.TheVariants as unset
+use Rattle.sec_setup.specs.Choosing.{Chosen}
+use Rattle.sec_setup.specs.Matching.{InterfacesMatch, InterfaceFails as NoMatch}
 use Rattle.assume_sequences.specs.declared.assume_taken.error.TakeError.{TakeError}
 use Rattle.assume_sequences.specs.declared.assume_taken.error.TakeError.TheVariants as untaken
 use Rattle.assume_sequences.specs.assume_taken.Premises.{IsTaken}

@@ -7,4 +7,3 @@ pub mod Forms
 pub mod Refusals
 pub mod ToldCycles
 pub mod UncutSetups
-pub use Rattle.outcome_fits.proofs as outcome_fits

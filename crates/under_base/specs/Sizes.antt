@@ -5,7 +5,7 @@ use Rattle.circuit_theory.specs.Interface.{AreNumbersOf}
 use Rattle.flat_net.specs.View.{NetView, circuit_of, ports_of}
 use Rattle.sec_base.specs.declared.settings.Settings.{Settings}
 use Rattle.outcome_fits.specs.Cuts.{IsChoice, StandInOrder, columns_of}
-use Rattle.outcome_fits.specs.sec_setup.Cycles.{AreBroken}
+use Rattle.sec_setup.specs.Cycles.{AreBroken}
 use Rattle.outcome_fits.specs.Pairs.{named_pairs}
 use Rattle.reset_laws.specs.Reset.{AreBased}
 use Rattle.outcome_fits.specs.Fitting.{IsCutLight}

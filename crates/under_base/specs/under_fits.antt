@@ -7,4 +7,3 @@ pub mod ResetOutcome
 pub mod ResetPlaces
 pub mod ResetVerdict
 pub mod Verdict
-pub use Rattle.assume_places.specs.outcome

@@ -13,5 +13,3 @@ pub mod Passing
 pub mod Candidates
 pub mod Growing
 pub mod Cone
-pub use Rattle.flat_net.proofs as flat_net
-pub use Rattle.flat_net.proofs.sec_base

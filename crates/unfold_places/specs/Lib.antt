@@ -4,4 +4,3 @@ pub mod Planned
 pub mod InputOrder
 pub mod Visitors
 pub mod Growing
-pub use Rattle.flat_net.specs.sec_base

@@ -4,7 +4,7 @@ use Rattle.std.specs.List.{AllZip}
 use Rattle.std.proofs.lemmas.List.{drop_more, map-append, take_more}
 use Rattle.circuit_theory.proofs.Lists.{zip_push}
 use Rattle.event_nodes.specs.Nodes.{EventGraphView}
-use Rattle.class_events.specs.class_separations.declared.apart.Apart.{Apart}
+use Rattle.class_separations.specs.declared.apart.Apart.{Apart}
 use Rattle.unshown_pairs.specs.Telling.{HaveTold, IsToldAt, two_of}
 use Rattle.unshown_pairs.specs.declared.separations.ToldSeparation.{ToldSeparation}
 use Rattle.unshown_pairs.proofs.Two.{beside, zip_append}

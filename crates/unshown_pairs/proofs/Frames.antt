@@ -2,7 +2,7 @@
 use Rattle.std.proofs.Common.{ℕ, Bool, List, [], ◌∷◌}
 use Rattle.std.specs.List.{AllZip}
 use Rattle.event_nodes.specs.Nodes.{EventGraphView}
-use Rattle.class_events.specs.event_variables.Variables.{variables_of}
+use Rattle.class_search.specs.event_variables.Variables.{variables_of}
 use Rattle.event_form.specs.declared.frames.FrameBit.{FrameBit}
 use Rattle.event_form.specs.Frames as told_frames
 use Rattle.event_form.specs.Frames.{TellsFrame}

@@ -6,7 +6,4 @@ pub mod Frames
 pub mod EachTwo
 pub mod Standing
 pub mod Separating
-pub use Rattle.class_events.proofs.Telling
-pub use Rattle.event_form.proofs.event_agreement
-pub use Rattle.event_form.proofs as event_form
-pub use Rattle.event_form.proofs.swept_queries
+pub use Rattle.unshown_pairs.proofs.class_events.Telling

@@ -10,7 +10,7 @@ use Rattle.circuit_laws.proofs.event_laws.ClassMaps.{fold_each}
 use Rattle.flat_net.proofs.Nets.{some_at}
 use Rattle.event_nodes.specs.Nodes.{IsTree, path_of}
 use Rattle.event_nodes.proofs.Paths.{child_path, path_grows}
-use Rattle.class_events.specs.Functions.{AreNodesOf}
+use Rattle.unshown_pairs.specs.class_events.Functions.{AreNodesOf}
 use Rattle.unshown_pairs.specs.Classes.{IsEnteredAmong, IsEnteredBy}
 
 module _ {P : Type 0} (s : EventSide P) (start : P → Type 0) where

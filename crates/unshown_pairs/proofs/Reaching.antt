@@ -13,14 +13,14 @@ use Rattle.event_nodes.specs.View.{EventCircuitView}
 use Rattle.event_nodes.specs.Nodes.{path_of}
 use Rattle.event_form.specs.Functions.{signal_start}
 use Rattle.event_form.specs.SignalFunction.{SignalFunction}
-use Rattle.class_events.specs.Functions.{AreNodesOf}
-use Rattle.class_events.proofs.Unions.{pair_nodes}
+use Rattle.unshown_pairs.specs.class_events.Functions.{AreNodesOf}
+use Rattle.unshown_pairs.proofs.class_events.Unions.{pair_nodes}
 use Rattle.circuit_theory.specs.EventFits.{ReachesAlways}
 use Rattle.interface.specs.declared.pairs.SignalPair.{SignalPair}
-use Rattle.class_events.specs.Counted.{HaveCounted, GoOnCounting, both_starts}
-use Rattle.class_events.specs.View.{EventsView, side_of_both}
-use Rattle.class_events.proofs.Counting.{pair_more}
-use Rattle.class_events.proofs.Starts.{both_more, node_more}
+use Rattle.unshown_pairs.specs.class_events.Counted.{HaveCounted, GoOnCounting, both_starts}
+use Rattle.unshown_pairs.specs.class_events.View.{EventsView, side_of_both}
+use Rattle.unshown_pairs.proofs.class_events.Counting.{pair_more}
+use Rattle.unshown_pairs.proofs.class_events.Starts.{both_more, node_more}
 use Rattle.event_form.specs.Asked.{IsUnion}
 use Rattle.event_form.proofs.Refusing.{Within}
 use Rattle.unshown_pairs.specs.Reached.{BothReachAlways, IsReachOf, StaysCounted}

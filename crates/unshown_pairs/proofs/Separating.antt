@@ -10,16 +10,16 @@ use Rattle.circuit_theory.specs.EventFrames.{IsSeparation, IsSeparationFromAlway
 use Rattle.circuit_theory.specs.Frame.{EventSide}
 use Rattle.flat_net.proofs.Places.{All-at, one_at}
 use Rattle.sec_base.specs.declared.basics.Tag.{Tag}
-use Rattle.class_events.specs.Separated.{AreSeparated}
-use Rattle.class_events.specs.class_separations.declared.apart.Apart.{Apart}
-use Rattle.class_events.specs.class_separations.Apart.{IsApart, IsSeparationBy, number_of}
-use Rattle.class_events.specs.Named.{NamesLatches}
+use Rattle.unshown_pairs.specs.class_events.Separated.{AreSeparated}
+use Rattle.class_separations.specs.declared.apart.Apart.{Apart}
+use Rattle.class_separations.specs.Apart.{IsApart, IsSeparationBy, number_of}
+use Rattle.unshown_pairs.specs.class_events.Named.{NamesLatches}
 use Rattle.event_nodes.specs.Nodes.{IsEventGraph}
-use Rattle.class_events.specs.event_order.Order.{place_of, IsTagOf}
-use Rattle.class_events.specs.Functions.{AreNodesOf}
-use Rattle.class_events.specs.event_variables.Variables.{variables_of}
+use Rattle.event_order.specs.Order.{place_of, IsTagOf}
+use Rattle.unshown_pairs.specs.class_events.Functions.{AreNodesOf}
+use Rattle.class_search.specs.event_variables.Variables.{variables_of}
 use Rattle.interface.specs.declared.pairs.SignalPair.{SignalPair}
-use Rattle.class_events.specs.View.{EventsView, IsEvents, side_of_both}
+use Rattle.unshown_pairs.specs.class_events.View.{EventsView, IsEvents, side_of_both}
 use Rattle.unshown_pairs.specs.Classes.{AreEntered}
 use Rattle.unshown_pairs.specs.Reached.{PairLatches}
 use Rattle.unshown_pairs.specs.Separations.{AreSeparationsOf, ComesBefore, OccursFor, Separates, SeparatesBy}

@@ -8,12 +8,12 @@ use Rattle.circuit_theory.specs.Frame.{EventSide}
 use Rattle.flat_net.proofs.Places.{one_at}
 use Rattle.sec_base.specs.declared.basics.Tag.{Tag}
 use Rattle.event_nodes.specs.Nodes.{EventGraphView}
-use Rattle.class_events.specs.event_variables.Variables.{variable_of}
-use Rattle.class_events.specs.class_separations.declared.apart.Apart.{Apart}
-use Rattle.class_events.specs.class_separations.Apart.{IsApart, IsSeparationBy, number_of}
-use Rattle.class_events.specs.Separated.{AreSeparated}
-use Rattle.class_events.proofs.Pairs.{pairs_are}
-use Rattle.class_events.specs.View.{EventsView}
+use Rattle.class_search.specs.event_variables.Variables.{variable_of}
+use Rattle.class_separations.specs.declared.apart.Apart.{Apart}
+use Rattle.class_separations.specs.Apart.{IsApart, IsSeparationBy, number_of}
+use Rattle.unshown_pairs.specs.class_events.Separated.{AreSeparated}
+use Rattle.unshown_pairs.proofs.class_events.Pairs.{pairs_are}
+use Rattle.unshown_pairs.specs.class_events.View.{EventsView}
 
 -- there are as many bits as variables
 pub apart_each : (s : EventSide (Either ℕ ℕ)) (w : EventGraphView) (place : Tag → Either ℕ ℕ) (order : List (Either ℕ ℕ)) (low high : ℕ) (x : Apart) → IsApart s w place order low high x → length x.bits ≡ length x.vars

@@ -5,10 +5,10 @@ use Rattle.circuit_theory.specs.EventFits.{ReachesAlways}
 use Rattle.circuit_theory.specs.EventSizes.{Start}
 use Rattle.circuit_theory.specs.Frame.{EventSide, ConeLatches}
 use Rattle.event_form.specs.Functions.{signal_start}
-use Rattle.class_events.specs.Functions.{AreNodesOf}
+use Rattle.unshown_pairs.specs.class_events.Functions.{AreNodesOf}
 use Rattle.interface.specs.declared.pairs.SignalPair.{SignalPair}
-use Rattle.class_events.specs.Counted.{HaveCounted}
-use Rattle.class_events.specs.View.{EventsView}
+use Rattle.unshown_pairs.specs.class_events.Counted.{HaveCounted}
+use Rattle.unshown_pairs.specs.class_events.View.{EventsView}
 use Rattle.unshown_pairs.specs.declared.reach.PairReach.{PairReach}
 
 -- the latches in the cone of either side

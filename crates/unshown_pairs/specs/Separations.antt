@@ -7,9 +7,9 @@ use Rattle.circuit_theory.specs.Run.{IsEnabled}
 use Rattle.circuit_theory.specs.Classes.{HasClasses}
 use Rattle.circuit_theory.specs.EventFrames.{IsSeparation, IsSeparationFromAlways}
 use Rattle.circuit_theory.specs.Frame.{EventSide, IsNode}
-use Rattle.event_form.specs.class_queries.Enables.{both_of}
+use Rattle.class_queries.specs.Enables.{both_of}
 use Rattle.event_nodes.specs.View.{EventCircuitView}
-use Rattle.class_events.specs.event_order.Order.{place_of, IsTagOf}
+use Rattle.event_order.specs.Order.{place_of, IsTagOf}
 use Rattle.interface.specs.declared.pairs.SignalPair.{SignalPair}
 use Rattle.sec_base.specs.declared.basics.Tag.{Tag}
 use Rattle.unshown_pairs.specs.Reached.{PairLatches, BothReachAlways}

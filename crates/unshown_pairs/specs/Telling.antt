@@ -3,8 +3,8 @@ use Rattle.std.specs.Prelude.{◌≡◌, ℕ, List, [], ◌∷◌, ◌++◌, map
 use Rattle.std.specs.List.{AllZip}
 use Rattle.event_nodes.specs.Nodes.{EventGraphView}
 use Rattle.event_form.specs.Frames.{TellsFrame}
-use Rattle.class_events.specs.class_separations.declared.apart.Apart.{Apart}
-use Rattle.class_events.specs.class_separations.Apart.{number_of}
+use Rattle.class_separations.specs.declared.apart.Apart.{Apart}
+use Rattle.class_separations.specs.Apart.{number_of}
 use Rattle.unshown_pairs.specs.declared.separations.ToldSeparation.{ToldSeparation}
 
 -- what tells the two classes apart is told: the latches, the values, and the frame of its bits

@@ -2,6 +2,7 @@
 //! classes that occur in the paths of its event nodes.
 #![tactic(auto)]
 
+pub mod class_events;
 mod classes;
 mod reach;
 mod separations;

@@ -4,10 +4,10 @@ ghost use Rattle.std.specs.Prelude.{◌≡◌, ◌&&◌, [], ◌∷◌, IfOk, On
 ghost use Rattle.event_form.specs.Asked.{IsLater, IsPairOf};
 ghost use Rattle.event_form.specs.Refused.{IsRefusedFor};
 ghost use Rattle.event_form.specs.Functions.{signal_start};
-ghost use Rattle.class_events.specs.View.{IsWithinLimits, side_of_both};
+ghost use Rattle.unshown_pairs.specs.class_events.View.{IsWithinLimits, side_of_both};
 ghost use Rattle.unshown_pairs.specs.Reached.{IsReachOf, StaysCounted};
 
-use class_events::Events;
+use crate::class_events::Events;
 use event_form::{EventFormError, unfold, union_of};
 use interface::SignalPair;
 use sec_base::Side;

@@ -2,10 +2,10 @@
 
 ghost use Rattle.std.specs.Prelude.{◌≡◌, ◌<◌, ◌≤◌, length, All, IfOk, OnOk};
 ghost use Rattle.std.specs.List.{AllPairs, AllZip};
-ghost use Rattle.class_events.specs.Separated.{AreSeparated};
+ghost use Rattle.unshown_pairs.specs.class_events.Separated.{AreSeparated};
 ghost use Rattle.unshown_pairs.specs.Telling.{HaveTold, IsToldAt, two_of};
 
-use class_events::{Apart, Events};
+use crate::class_events::{Apart, Events};
 use event_form::{FrameBit, frame_of};
 use sec_base::{NoMemory, Seq, Tag};
 use std::alloc::Global;

@@ -1,18 +1,18 @@
 //! What tells the classes of a pair apart.
 
 ghost use Rattle.std.specs.Prelude.{[], ◌∷◌, IfOk, OnOk};
-ghost use Rattle.class_events.specs.Separated.{AreSeparated};
+ghost use Rattle.unshown_pairs.specs.class_events.Separated.{AreSeparated};
 ghost use Rattle.event_form.specs.Asked.{IsLater, IsPairOf};
 ghost use Rattle.event_form.specs.Refused.{IsRefusedFor};
 ghost use Rattle.event_form.specs.Functions.{signal_start};
-ghost use Rattle.class_events.specs.View.{IsWithinLimits};
+ghost use Rattle.unshown_pairs.specs.class_events.View.{IsWithinLimits};
 ghost use Rattle.unshown_pairs.specs.Reached.{StaysCounted};
 ghost use Rattle.unshown_pairs.specs.Separations.{AreToldFor};
 
+use crate::class_events::{Apart, Events};
 use crate::classes::classes_into;
 use crate::reach::reach_of;
 use crate::separations::{ToldSeparations, separations_among};
-use class_events::{Apart, Events};
 use event_form::EventFormError;
 use interface::SignalPair;
 use std::alloc::Global;

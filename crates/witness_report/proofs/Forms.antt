@@ -8,8 +8,8 @@ use Rattle.std.proofs.lemmas.List.Splits.{join_with_byte-slice_split}
 use Rattle.std.proofs.lemmas.Bool.Decides.{Decides-eqb}
 use Rattle.std.proofs.lemmas.Option.{slice_get_within}
 use Rattle.circuit_theory.proofs.Lists.{Contains-head, Contains-tail, Contains-cases, Contains-map_from, All-from_each}
-use Rattle.sec_base.specs.Table.{AreDistinct, is_among}
-use Rattle.sec_base.proofs.TableLemmas.{is_among-at}
+use Rattle.base_tables.specs.Table.{AreDistinct, is_among}
+use Rattle.base_tables.proofs.TableLemmas.{is_among-at}
 use Rattle.witness_report.specs.Text.{digit_of, names_text, header_line, row_text, row_line, stimulus_text}
 use Rattle.witness_report.specs.Form.{IsName, AreNames, AreRows, IsForm, lines_of, IsBadRow}
 use Rattle.witness_report.specs.Parts.{IsBadLine}

@@ -2,7 +2,7 @@
 use Rattle.std.specs.Prelude.{◌≡◌, ℕ, ◌+◌, ◌<◌, ◌==◌, ◌⊎◌, Bool, List, [], ◌∷◌, ◌++◌, length, map, All, Contains}
 use Rattle.std.specs.List.{slice_split}
 use Rattle.std.specs.Io.BufRead.{strip_last}
-use Rattle.sec_base.specs.Table.{AreDistinct}
+use Rattle.base_tables.specs.Table.{AreDistinct}
 use Rattle.witness_report.specs.Text.{header_line, row_text, stimulus_text}
 
 -- a name that a header can hold: some bytes, none of them a blank or a line feed

@@ -11,7 +11,8 @@ use crate::error::StimError;
 use crate::pieces::Pieces;
 use crate::rows::read_rows;
 use crate::stimulus::Stimulus;
-use sec_base::{NameTable, NoMemory, Words};
+use base_tables::NameTable;
+use sec_base::{NoMemory, Words};
 use std::alloc::Global;
 
 /// The text without one line feed at its end.

@@ -1,7 +1,7 @@
 //! Values of named inputs.
 
 ghost use Rattle.std.specs.Prelude.{◌≡◌, length, All};
-ghost use Rattle.sec_base.specs.Table.{AreDistinct};
+ghost use Rattle.base_tables.specs.Table.{AreDistinct};
 
 use sec_base::{BitRows, Words};
 

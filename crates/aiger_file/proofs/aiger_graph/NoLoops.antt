@@ -6,8 +6,7 @@ use Rattle.std.proofs.lemmas.List.Elements.{Contains-append_left, Contains-appen
 use Rattle.std.proofs.lemmas.List.FromFn.{length-map-range_with_len, get_or-map-range_with_len}
 use Rattle.std.proofs.lemmas.Option.{slice_get-get_or, slice_get_within}
 use Rattle.circuit_theory.specs.Cover.{Cover}
-use Rattle.circuit_theory.specs.Circuit.{Equation, Reads}
-use Rattle.circuit_theory.specs.Circuit.{Gate as gate_equation, Latch as latch_equation, Port as port_equation}
+use Rattle.circuit_theory.specs.Circuit.{Equation, Reads, Gate as gate_equation, Latch as latch_equation, Port as port_equation}
 use Rattle.circuit_theory.proofs.Lists.{Contains-cases, Contains-map_from, All-from_each, at_of}
 use Rattle.net_assembly.specs.Order.{reads_of, IsOrder, IsRound}
 use Rattle.aiger_records.specs.declared.record.Record.{Record}

@@ -6,8 +6,7 @@ use Rattle.std.proofs.lemmas.Bool.{or_parts, false_from_ne_true, ltb-false, eqb-
 use Rattle.std.proofs.lemmas.Bool.Decides.{Decides-eqb}
 use Rattle.std.proofs.lemmas.List.Elements.{All-nil, All-cons, All-contains, Contains-append_left, Contains-append_right, Contains-append_cases}
 use Rattle.std.proofs.lemmas.Option.{none-some, same_Some}
-use Rattle.circuit_theory.specs.Circuit.{Equation}
-use Rattle.circuit_theory.specs.Circuit.{Gate as gate_equation}
+use Rattle.circuit_theory.specs.Circuit.{Equation, Gate as gate_equation}
 use Rattle.circuit_theory.proofs.Lists.{Contains-head, Contains-cases, only, of_at}
 use Rattle.aiger_records.specs.declared.header.Header.{Header}
 use Rattle.aiger_records.specs.declared.record.Record.{Record}

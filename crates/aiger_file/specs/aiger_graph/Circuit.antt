@@ -2,8 +2,7 @@
 use Rattle.std.specs.Prelude.{ℕ, ◌+◌, ◌-◌, ◌==◌, Bool, true, false, if◌then◌else◌, List, [], ◌∷◌, ◌++◌, Option, Some, None, codes}
 use Rattle.std.specs.List.{filter_map, list_any}
 use Rattle.circuit_theory.specs.Cover.{Cover}
-use Rattle.circuit_theory.specs.Circuit.{Circuit, Equation, Named as Port, Started}
-use Rattle.circuit_theory.specs.Circuit.{Gate as gate_equation, Latch as latch_equation}
+use Rattle.circuit_theory.specs.Circuit.{Circuit, Equation, Named as Port, Started, Gate as gate_equation, Latch as latch_equation}
 use Rattle.aiger_records.specs.declared.record.Record.{Record}
 use Rattle.aiger_records.specs.declared.record.Record.TheVariants.{Input, Latch, Output, Gate, Packed}
 use Rattle.aiger_records.specs.Driven.{used_by}

@@ -11,7 +11,7 @@ use Rattle.pair_decide.specs.declared.query.Query.{Query}
 use Rattle.unfold_places.specs.Growing.{TakesBits}
 use Rattle.shift_variables.specs.Variables.{variables_of}
 use Rattle.shift_variables.specs.query_places.Places.{place_of}
-use Rattle.assume_places.specs.obligations.declared.obligation.Obligation.{Obligation}
+use Rattle.obligations.specs.declared.obligation.Obligation.{Obligation}
 use Rattle.assume_laws.specs.Assume.{Assumption, RowMeets, PlaceUnfolds}
 use Rattle.assume_queries.specs.declared.assume_answers.order.VariableOrder.{VariableOrder}
 use Rattle.assume_queries.specs.assume_answers.Order.{AreOrdered}

@@ -8,7 +8,7 @@ use Rattle.circuit_theory.specs.Query as query
 use Rattle.circuit_theory.specs.Tree.{Tree, tree_value}
 use Rattle.circuit_theory.proofs.Lists.{zip_length}
 use Rattle.circuit_laws.proofs.Windows.{row_value-is}
-use Rattle.sec_base.specs.Table.{AreDistinct}
+use Rattle.base_tables.specs.Table.{AreDistinct}
 use Rattle.flat_net.specs.View.{NetView, circuit_of}
 use Rattle.aig.specs.Builds.{HasTreeValues}
 use Rattle.aig.specs.Graph.{IsGraph}

@@ -12,7 +12,7 @@ use Rattle.circuit_theory.proofs.Numbers.{beside_at}
 use Rattle.circuit_theory.proofs.Sums.{AllPairs-head, AllPairs-tail}
 use Rattle.circuit_laws.proofs.Windows.{row_value-is}
 use Rattle.reset_laws.proofs.ResetWindows.{assigned_absent}
-use Rattle.sec_base.specs.Table.{AreDistinct}
+use Rattle.base_tables.specs.Table.{AreDistinct}
 use Rattle.flat_net.specs.View.{NetView, circuit_of}
 use Rattle.aig.specs.declared.node.Node.TheVariants.{Constant, Input}
 use Rattle.aig.specs.Builds.{HasTreeValues}

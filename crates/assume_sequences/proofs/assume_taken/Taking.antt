@@ -1,7 +1,7 @@
 -- What the answers of the assumption's query say of a net whose function was made.
 use Rattle.std.proofs.Common.{◌≡◌, ℕ, zero, suc, Bool, List, [], ◌∷◌, length, get_or, refl, ◌∙◌, ap}
 use Rattle.circuit_theory.specs.Sequence.{sequence_row}
-use Rattle.sec_base.specs.Table.{AreDistinct}
+use Rattle.base_tables.specs.Table.{AreDistinct}
 use Rattle.flat_net.specs.declared.parts.Port.{Port}
 use Rattle.flat_net.specs.View.{NetView}
 use Rattle.aig.specs.Builds.{HasTreeValues}

@@ -1,7 +1,7 @@
 //! The assumption's query: is its output 0 for each row of inputs?
 
 ghost use Rattle.std.specs.Prelude.{◌≡◌, ◌≤◌, IfOk};
-ghost use Rattle.sec_base.specs.Table.{AreDistinct};
+ghost use Rattle.base_tables.specs.Table.{AreDistinct};
 ghost use Rattle.aig.specs.Graph.{IsGraph};
 ghost use Rattle.pair_decide.specs.Answers.{IsDifference};
 ghost use Rattle.assume_sequences.specs.assume_taken.Meeting.{CanMeet, IsMeeting, IsRowOf, meeting_query};

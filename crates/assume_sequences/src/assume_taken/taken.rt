@@ -15,10 +15,11 @@ use crate::assume_taken::error::TakeError;
 use crate::assume_taken::meeting::{Meeting, meeting_row};
 use crate::{OwnFunction, Premise, own_function};
 use assume_laws::assume_shape::{ShapeFault, numbers_of, shape_fault};
+use base_tables::NameTable;
 use flat_net::{Net, Signal, Signals};
 use latch_graph::{LatchGraph, Weight};
 use pair_decide::Proof;
-use sec_base::{MAX_CONFLICTS, MAX_WEIGHT, NameTable, NoMemory};
+use sec_base::{MAX_CONFLICTS, MAX_WEIGHT, NoMemory};
 use sec_setup::graph_of;
 use std::alloc::Global;
 

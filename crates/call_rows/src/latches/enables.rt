@@ -4,10 +4,10 @@ ghost use Rattle.std.specs.Prelude.{◌<◌, ◌≤◌, length};
 
 use crate::latches::nets::net_of;
 use flat_net::Net;
+use latch_kinds::unate_enable::{LatchCone, RecoverError, Recovery, cone, recover};
 use row_text::{show, show_count, show_word};
 use sec_base::{Bits, Ids, MAX_CONFLICTS};
 use std::rt::HostRuntime;
-use unate_enable::{LatchCone, RecoverError, Recovery, cone, recover};
 
 /// Shows the netlist, and then a line of the cone of each latch and two of its enable.
 pub(crate) fn show_row(rt: &HostRuntime, row: &[u8]) {

@@ -1,7 +1,7 @@
 //! Numbers of inputs.
 
 ghost use Rattle.std.specs.Prelude.{◌≡◌, ◌^◌, ◌<◌, length, All, IfOk};
-ghost use Rattle.sec_base.specs.Table.{AreDistinct};
+ghost use Rattle.base_tables.specs.Table.{AreDistinct};
 
 use sec_base::{Ids, NoMemory};
 use std::alloc::Global;

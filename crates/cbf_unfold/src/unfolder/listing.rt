@@ -12,8 +12,9 @@ ghost use Rattle.cbf_unfold.specs.Found.{IsFound};
 
 use super::Unfolder;
 use aig::Lit;
+use base_tables::PlaceTable;
 use flat_net::Signal;
-use sec_base::{Ids, NoMemory, PlaceTable};
+use sec_base::{Ids, NoMemory};
 use std::alloc::Global;
 use unfold_places::Unfolded;
 use unfold_places::memo::Place;

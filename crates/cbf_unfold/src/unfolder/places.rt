@@ -10,8 +10,8 @@ ghost use Rattle.unfold_places.specs.declared.error.UnfoldError.TheVariants as u
 
 use super::Unfolder;
 use aig::Aig;
+use base_tables::PlaceTable;
 use flat_net::Signal;
-use sec_base::PlaceTable;
 use std::alloc::Global;
 use unfold_places::UnfoldError;
 use unfold_places::memo::Place;

@@ -11,8 +11,9 @@ ghost use Rattle.unfold_places.specs.declared.error.UnfoldError.TheVariants as u
 use super::Unfolder;
 use crate::reached_places::reach;
 use aig::{Aig, Lit};
+use base_tables::PlaceTable;
 use flat_net::Signal;
-use sec_base::{MAX_WEIGHT, PlaceTable};
+use sec_base::MAX_WEIGHT;
 use std::alloc::Global;
 use unfold_places::UnfoldError;
 

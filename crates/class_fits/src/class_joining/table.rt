@@ -3,7 +3,8 @@
 ghost use Rattle.std.specs.Prelude.{◌≡◌, ◌<◌, ℕ, List, [], ◌∷◌, ◌++◌, IfSome, IfNone, OnOk, OnErr, Contains, map, vec_len, vec_capacity};
 
 use aig::Lit;
-use sec_base::{NoMemory, UniqueTable};
+use base_tables::UniqueTable;
+use sec_base::NoMemory;
 use std::alloc::Global;
 use std::marker::Model;
 

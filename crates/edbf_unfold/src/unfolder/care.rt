@@ -3,9 +3,9 @@
 ghost use Rattle.std.specs.Prelude.{◌≡◌, ℕ, ◌+◌, ◌*◌, ◌^◌, ◌<◌, length, slice_get, Some, Contains, IfOk};
 ghost use Rattle.circuit_theory.specs.Frame.{NotPut};
 ghost use Rattle.event_literals.specs.Driver.TheVariants as driver;
-ghost use Rattle.event_literals.specs.event_nodes.Graph.{flip};
-ghost use Rattle.event_literals.specs.event_nodes.Lit.{Lit};
-ghost use Rattle.event_literals.specs.event_walk.declared.frames.Ways.{Ways};
+ghost use Rattle.event_nodes.specs.Graph.{flip};
+ghost use Rattle.event_nodes.specs.Lit.{Lit};
+ghost use Rattle.event_literals.specs.declared.event_walk.frames.Ways.{Ways};
 ghost use Rattle.event_literals.specs.Known.{AreKnown, HasGrown, IsMet};
 ghost use Rattle.event_literals.specs.event_walk.Ready.{IsReadyBy, put_of};
 ghost use Rattle.event_literals.specs.Built.{AreMetOn};

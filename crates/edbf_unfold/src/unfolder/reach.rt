@@ -2,9 +2,9 @@
 
 ghost use Rattle.std.specs.Prelude.{◌≡◌, ℕ, ◌<◌, true, false, length, slice_get, Some, IfSome, IfNone, IfOk, OnOk};
 ghost use Rattle.event_literals.specs.Driver.TheVariants as driver;
-ghost use Rattle.event_literals.specs.event_nodes.View.{side_of};
-ghost use Rattle.event_literals.specs.event_walk.declared.frames.Frame.{Frame};
-ghost use Rattle.event_literals.specs.event_walk.declared.frames.Ways.{Ways};
+ghost use Rattle.event_nodes.specs.View.{side_of};
+ghost use Rattle.event_literals.specs.declared.event_walk.frames.Frame.{Frame};
+ghost use Rattle.event_literals.specs.declared.event_walk.frames.Ways.{Ways};
 ghost use Rattle.edbf_unfold.specs.Reached.{IsOpenPlace, IsOnwardAt, IsNodePut, AreNodesOf};
 
 use super::EventUnfolder;

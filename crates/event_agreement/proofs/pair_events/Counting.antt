@@ -8,7 +8,6 @@ use Rattle.class_search.specs.event_nodes.Table.{AreDistinct}
 use Rattle.std.proofs.lemmas.List.Elements.{All-weaker, Contains-append_cases, Contains-append_left, Contains-append_right, Contains-get_or}
 use Rattle.circuit_theory.proofs.Lists.{Contains-head, only}
 use Rattle.circuit_theory.specs.EventSizes.{Start, EventVisits}
-use Rattle.circuit_theory.specs.Frame.{IsNode}
 use Rattle.class_search.proofs.flat_net.Nets.{some_at}
 use Rattle.class_search.specs.event_nodes.Adds.{Adds}
 use Rattle.class_search.specs.event_nodes.Nodes.{EventGraphView, IsEventGraph, IsTree, paths_of, path_of}

@@ -1,7 +1,6 @@
 -- What the starts of both circuits reach, and what each of them reaches by itself.
 use Rattle.std.proofs.Common.{◌≡◌, ℕ, Bool, List, [], ◌∷◌, ◌++◌, map, Option, Some, None, sym, ap, subst, inl, inr}
 use Rattle.std.specs.Prelude.{◌⊎◌, Contains}
-use Rattle.std.proofs.lemmas.List.{map-append}
 use Rattle.std.proofs.lemmas.List.Elements.{Contains-append_cases, Contains-append_left, Contains-append_right}
 use Rattle.circuit_theory.specs.Circuit.{Circuit, Meets}
 use Rattle.circuit_theory.specs.Joined.{Either, Left, Right}

@@ -18,7 +18,7 @@ use Rattle.outcome.specs.declared.verdict.PairResult.{PairResult}
 use Rattle.sec_setup.specs.Setup.{AreColumns}
 use Rattle.class_queries.specs.Enables.{both_of}
 use Rattle.event_nodes.specs.View.{EventCircuitView}
-use Rattle.event_names.proofs.event_setup.read_inputs.Leaves.{pair_below}
+use Rattle.event_setup.proofs.read_inputs.Leaves.{pair_below}
 use Rattle.assume_laws.specs.Assume.{Assumption}
 use Rattle.assume_laws.specs.Sequences.{IsPairTreeUnder}
 use Rattle.assume_laws.proofs.Meeting.{leaf_input}

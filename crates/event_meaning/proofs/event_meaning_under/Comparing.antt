@@ -23,9 +23,9 @@ use Rattle.class_queries.specs.Enables.{both_of}
 use Rattle.class_queries.specs.Laws.{AreKept}
 use Rattle.assume_laws.specs.Assume.{Assumption}
 use Rattle.event_shown_under.specs.event_under.Laws.{AreAllPairs}
-use Rattle.event_fits.specs.Circuits.{AreNets}
-use Rattle.event_fits.specs.Fitting.{class_limit, IsUnrecovered, IsUnclassed}
-use Rattle.event_fits.specs.Named.{latch_names}
+use Rattle.event_names.specs.event_fits.Circuits.{AreNets}
+use Rattle.event_names.specs.event_fits.Fitting.{class_limit, IsUnrecovered, IsUnclassed}
+use Rattle.event_names.specs.event_fits.Named.{latch_names}
 use Rattle.event_meaning.specs.event_meaning_under.Fitted.{EventOutcomeFitsUnder, IsComparedByPairsUnder}
 use Rattle.event_meaning.proofs.event_meaning_under.Bare.{bare, bare_kept}
 

@@ -20,8 +20,8 @@ use Rattle.event_nodes.specs.View.{EventCircuitView}
 use Rattle.assume_laws.specs.Assume.{Assumption, HaveEqualEventsUnder}
 use Rattle.assume_laws.specs.Sequences.{HaveDifferentEventsUnder}
 use Rattle.event_shown_under.specs.event_under.Answers.{AnswerFitsUnder, PairFitsUnder}
-use Rattle.event_fits.specs.Asked.{IsDecisive}
-use Rattle.event_fits.specs.Circuits.{IsReadyCircuit}
+use Rattle.event_names.specs.event_fits.Asked.{IsDecisive}
+use Rattle.event_names.specs.event_fits.Circuits.{IsReadyCircuit}
 use Rattle.event_meaning.specs.event_meaning_under.Laws.{AnswersAreExactUnder}
 
 module _ (c : Assumption) (a b : EventCircuitView) (left_ready : IsReadyCircuit a) (right_ready : IsReadyCircuit b) where

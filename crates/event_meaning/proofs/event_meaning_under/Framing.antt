@@ -11,10 +11,10 @@ use Rattle.class_queries.specs.Enables.{both_of}
 use Rattle.event_meaning.proofs.Cases.{events_found, unshown_no_limit}
 use Rattle.assume_laws.specs.Sequences.{IsUnshownFrameUnder}
 use Rattle.event_shown_under.specs.event_under_fits.Findings.{VerdictFitsUnder}
-use Rattle.event_fits.specs.FrameBit.{FrameBit}
-use Rattle.event_fits.specs.Told as told
-use Rattle.event_fits.specs.Named.{latch_names, NamesSpot}
-use Rattle.event_fits.specs.Shown.{TellsVariable, TellsFrame}
+use Rattle.event_names.specs.event_fits.FrameBit.{FrameBit}
+use Rattle.event_names.specs.event_fits.Told as told
+use Rattle.event_names.specs.event_fits.Named.{latch_names, NamesSpot}
+use Rattle.event_names.specs.event_fits.Shown.{TellsVariable, TellsFrame}
 use Rattle.event_meaning.specs.event_meaning_under.Laws.{UnshownOutcomesAreFramedUnder}
 use Rattle.event_meaning.proofs.event_meaning_under.Comparing.{compared_under}
 

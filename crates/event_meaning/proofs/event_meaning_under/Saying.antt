@@ -18,16 +18,16 @@ use Rattle.outcome.specs.declared.verdict.Outcome.{Outcome}
 use Rattle.outcome.specs.declared.verdict.PairResult.{PairResult}
 use Rattle.class_queries.specs.Enables.{both_of}
 use Rattle.event_nodes.specs.View.{EventCircuitView}
-use Rattle.event_fits.proofs.Differing.{cuts_differ, circuits_differ}
+use Rattle.event_names.proofs.event_fits.Differing.{cuts_differ, circuits_differ}
 use Rattle.event_meaning.proofs.Cases.{cut_found, cut_no_limit, different_found, different_no_limit, equal_found, equal_no_limit}
 use Rattle.assume_laws.specs.Assume.{Assumption}
 use Rattle.assume_laws.specs.Sequences.{filled_frame}
 use Rattle.event_shown_under.specs.event_under.Answers.{AnswerFitsUnder, PairFitsUnder}
 use Rattle.event_shown_under.proofs.event_under_fits.event_under.Agreeing.{cuts_agree}
 use Rattle.event_shown_under.specs.event_under_fits.Findings.{IsSequenceUnder, VerdictFitsUnder}
-use Rattle.event_fits.specs.Findings.{IsFirstWith}
-use Rattle.event_fits.specs.Circuits.{AreNets}
-use Rattle.event_fits.specs.Named.{latch_names}
+use Rattle.event_names.specs.event_fits.Findings.{IsFirstWith}
+use Rattle.event_names.specs.event_fits.Circuits.{AreNets}
+use Rattle.event_names.specs.event_fits.Named.{latch_names}
 use Rattle.event_meaning.specs.event_meaning_under.Fitted.{IsComparedByPairsUnder}
 use Rattle.event_meaning.specs.event_meaning_under.Laws.{CutOutcomesDifferUnder, DifferentOutcomesDifferUnder, EqualOutcomesAgreeUnder}
 use Rattle.event_meaning.proofs.event_meaning_under.Bare.{bare}

@@ -9,11 +9,11 @@ use Rattle.sec_setup.specs.Cuts.{columns_of, is_cut}
 use Rattle.class_queries.specs.Enables.{both_of}
 use Rattle.event_nodes.specs.View.{EventCircuitView}
 use Rattle.event_shown_under.specs.event_under_fits.event_findings.declared.findings.EventFindings.{EventFindings}
-use Rattle.event_fits.specs.EventPairs.{EventPairs}
-use Rattle.event_fits.specs.Circuits.{AreReached}
-use Rattle.event_fits.specs.Totals.{IsMapMade, IsWithinWith}
-use Rattle.event_fits.specs.Named.{latch_names, NamesVerdict}
-use Rattle.event_fits.specs.Fitting.{IsUnrecovered, IsUnclassed}
+use Rattle.event_names.specs.event_fits.EventPairs.{EventPairs}
+use Rattle.event_names.specs.event_fits.Circuits.{AreReached}
+use Rattle.event_names.specs.event_fits.Totals.{IsMapMade, IsWithinWith}
+use Rattle.event_names.specs.event_fits.Named.{latch_names, NamesVerdict}
+use Rattle.event_names.specs.event_fits.Fitting.{IsUnrecovered, IsUnclassed}
 use Rattle.assume_laws.specs.Assume.{Assumption, ReadsInputs}
 use Rattle.event_shown_under.specs.event_under.Places.{IsLightAtNodes}
 use Rattle.event_shown_under.specs.event_under_fits.Findings.{FindingsFitUnder}

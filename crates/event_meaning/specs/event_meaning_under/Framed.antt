@@ -11,8 +11,8 @@ use Rattle.outcome.specs.declared.verdict.Unshown.{Unshown}
 use Rattle.sec_setup.specs.Cuts.{columns_of}
 use Rattle.class_queries.specs.Enables.{both_of}
 use Rattle.event_nodes.specs.View.{EventCircuitView}
-use Rattle.event_fits.specs.Circuits.{AreEventCircuits}
-use Rattle.event_fits.specs.Shown.{TellsFrame}
+use Rattle.event_names.specs.event_fits.Circuits.{AreEventCircuits}
+use Rattle.event_names.specs.event_fits.Shown.{TellsFrame}
 use Rattle.assume_laws.specs.Assume.{Assumption}
 use Rattle.assume_laws.specs.Sequences.{IsUnshownFrameUnder}
 

@@ -5,8 +5,8 @@ use Rattle.interface.specs.declared.pairs.SignalPair.{SignalPair}
 use Rattle.sec_base.specs.declared.settings.Settings.{Settings}
 use Rattle.class_queries.specs.Enables.{both_of}
 use Rattle.event_nodes.specs.View.{EventCircuitView}
-use Rattle.event_fits.specs.Compared.{StopsAtPairs}
-use Rattle.event_fits.specs.Totals.{IsMapMade, IsWithinWith}
+use Rattle.event_names.specs.event_fits.Compared.{StopsAtPairs}
+use Rattle.event_names.specs.event_fits.Totals.{IsMapMade, IsWithinWith}
 use Rattle.event_shown_under.specs.event_under.Places.{IsOverAtNodes}
 use Rattle.assume_laws.specs.declared.assume_shape.shape.ShapeFault.{ShapeFault}
 use Rattle.assume_laws.specs.declared.assume_shape.shape.ShapeFault.TheVariants as fault

@@ -16,8 +16,8 @@ use Rattle.class_queries.specs.Enables.{both_of}
 use Rattle.sec_setup.specs.Cuts.{is_cut}
 use Rattle.assume_laws.specs.Assume.{Assumption}
 use Rattle.assume_laws.specs.Sequences.{HaveDifferentEventsUnder}
-use Rattle.event_fits.specs.Circuits.{AreNets}
-use Rattle.event_fits.specs.Asked.{IsDecisive}
+use Rattle.event_names.specs.event_fits.Circuits.{AreNets}
+use Rattle.event_names.specs.event_fits.Asked.{IsDecisive}
 use Rattle.event_meaning.specs.event_meaning_under.Fitted.{EventOutcomeFitsUnder, IsComparedByPairsUnder}
 use Rattle.event_meaning.specs.event_meaning_under.Framed.{IsFramedUnder}
 use Rattle.event_meaning.specs.event_meaning_under.Saying.{SaysEqualUnder, SaysDifferentUnder, SaysNotShownUnder}

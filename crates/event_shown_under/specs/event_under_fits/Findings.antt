@@ -10,16 +10,16 @@ use Rattle.circuit_theory.specs.EventFrames.{frame_of}
 use Rattle.circuit_theory.specs.Frame.{bits_as_shifts}
 use Rattle.flat_net.specs.View.{circuit_of}
 use Rattle.sec_base.specs.declared.basics.PairAnswer.TheVariants as answer
-use Rattle.event_findings.specs.class_queries.Enables.{both_of}
+use Rattle.class_queries.specs.Enables.{both_of}
 use Rattle.event_nodes.specs.View.{EventCircuitView}
 use Rattle.interface.specs.declared.pairs.SignalPair.{SignalPair}
 use Rattle.witness_report.specs.declared.witness.Witness.{Witness}
-use Rattle.event_findings.specs.outcome.declared.verdict.PairResult.{PairResult}
-use Rattle.event_findings.specs.obligations.Decided.{NoneIs}
-use Rattle.event_findings.specs.event_witness.declared.unshown.UnshownFrame.{UnshownFrame}
-use Rattle.event_findings.specs.unshown_pairs.Reached.{BothReachAlways}
-use Rattle.event_findings.specs.unshown_pairs.Separations.{AreToldApart}
-use Rattle.event_findings.specs.unshown_pairs.Told.{TellsBits}
+use Rattle.outcome.specs.declared.verdict.PairResult.{PairResult}
+use Rattle.obligations.specs.Decided.{NoneIs}
+use Rattle.event_witness.specs.declared.unshown.UnshownFrame.{UnshownFrame}
+use Rattle.unshown_pairs.specs.Reached.{BothReachAlways}
+use Rattle.unshown_pairs.specs.Separations.{AreToldApart}
+use Rattle.unshown_pairs.specs.Told.{TellsBits}
 use Rattle.event_findings.specs.declared.findings.EventFindings.{EventFindings}
 use Rattle.event_findings.specs.declared.pairs.EventPairs.{EventPairs}
 use Rattle.event_findings.specs.declared.verdict.EventVerdict.{EventVerdict}

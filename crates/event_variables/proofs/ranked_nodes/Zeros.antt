@@ -10,8 +10,8 @@ use Rattle.circuit_theory.specs.Query.{Variable}
 use Rattle.circuit_theory.proofs.Numbers.{slice_get-map}
 use Rattle.circuit_theory.specs.Frame.{NodeBefore}
 use Rattle.flat_net.proofs.Growth.{slice_get-append}
-use Rattle.sec_base.specs.Table.{AreDistinct}
-use Rattle.sec_base.proofs.TableLemmas.{slice_get-take, take-push}
+use Rattle.base_tables.specs.Table.{AreDistinct}
+use Rattle.base_tables.proofs.TableLemmas.{slice_get-take, take-push}
 use Rattle.event_nodes.specs.Adds.{Adds}
 use Rattle.event_nodes.specs.Nodes.{EventGraphView, named_places, path_of}
 use Rattle.event_nodes.proofs.Lists.{pairs_at}

@@ -2,14 +2,15 @@
 
 ghost use Rattle.std.specs.Prelude.{◌≡◌, ◌+◌, ◌^◌, ◌<◌, ◌++◌, length, map, slice_get, Some, All, IfOk};
 ghost use Rattle.std.specs.List.{filter};
-ghost use Rattle.sec_base.specs.Table.{AreDistinct};
+ghost use Rattle.base_tables.specs.Table.{AreDistinct};
 ghost use Rattle.flat_net.specs.View.{circuit_of};
 ghost use Rattle.flat_net.specs.Cut.{latch_at, exposed_names, as_input, as_output, stays, moved_to, IsCut, IsCutCircuit, ArePlaces, AreMoved};
 
 use super::Net;
 use super::growth::put_port;
 use crate::parts::{Driver, Gate, LatchAt, Port};
-use sec_base::{Cover, Duplicate, Ids, NameTable, NoMemory, Word};
+use base_tables::NameTable;
+use sec_base::{Cover, Duplicate, Ids, NoMemory, Word};
 use std::alloc::Global;
 
 impl Net {

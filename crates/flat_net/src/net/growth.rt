@@ -1,13 +1,14 @@
 //! How a net grows, signal by signal.
 
 ghost use Rattle.std.specs.Prelude.{◌≡◌, ◌+◌, ◌^◌, ◌<◌, ℕ, false, [], ◌∷◌, ◌++◌, length, slice_get, vec_len, vec_capacity, Some, All, IfOk, IsSomeAnd, OnOk, OnErr};
-ghost use Rattle.sec_base.specs.Table.{AreDistinct, is_among};
+ghost use Rattle.base_tables.specs.Table.{AreDistinct, is_among};
 ghost use Rattle.flat_net.specs.Makes.{empty_net, with_input, with_latch, with_gate, with_cover, with_output, with_next, with_clock};
 
 use super::Net;
 use crate::parts::{Driver, Gate, LatchAt, Port};
 use crate::signals::{Signal, Signals};
-use sec_base::{Cover, Init, NameTable, NoMemory, Seq, Word};
+use base_tables::NameTable;
+use sec_base::{Cover, Init, NoMemory, Seq, Word};
 use std::alloc::Global;
 
 impl Net {

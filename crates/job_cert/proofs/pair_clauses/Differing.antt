@@ -7,7 +7,7 @@ use Rattle.circuit_theory.specs.Net.{IsNet}
 use Rattle.circuit_theory.specs.Tree.{Tree, tree_value, HaveEqualFunctions}
 use Rattle.circuit_theory.proofs.Numbers.{one_number}
 use Rattle.circuit_laws.proofs.OneTree.{one_tree}
-use Rattle.sec_base.specs.Table.{AreDistinct}
+use Rattle.base_tables.specs.Table.{AreDistinct}
 use Rattle.flat_net.specs.View.{NetView, circuit_of}
 use Rattle.aig.specs.declared.node.Node.{Node}
 use Rattle.aig.specs.Graph.{IsGraph}

@@ -17,7 +17,7 @@ use Rattle.sec_setup.specs.Matching.{InterfacesMatch}
 use Rattle.sec_setup.specs.Pairs.{ArePairsOf, outputs_of}
 use Rattle.sec_setup.proofs.Uncut.{uncut}
 use Rattle.under_base.specs.compare_base.Compared as compared
-use Rattle.under_base.proofs.outcome_fits.plain_meaning.CutSizes.{cut_over, cut_light}
+use Rattle.outcome_fits.proofs.plain_meaning.CutSizes.{cut_over, cut_light}
 use Rattle.job_cert.specs.pair_clauses.Clauses.{PairGives, size_refusal_of}
 use Rattle.job_cert.specs.declared.pair_clauses.error.CertError.{CertError}
 use Rattle.job_cert.specs.declared.pair_clauses.error.CertError.TheVariants.{Compare}

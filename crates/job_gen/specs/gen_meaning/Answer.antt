@@ -14,7 +14,7 @@ use Rattle.outcome.specs.declared.verdict.LimitAt.TheVariants as limit_at
 use Rattle.sec_setup.specs.Cuts.{AreCutAt, columns_of}
 use Rattle.sec_setup.specs.Pairs.{NamedPair, named_pairs}
 use Rattle.outcome_fits.specs.Limits.{IsUndecided}
-use Rattle.plain_check.specs.under_base.compare_base.Says.{SaysEqual, SaysDifferent}
+use Rattle.under_base.specs.compare_base.Says.{SaysEqual, SaysDifferent}
 use Rattle.job_base.specs.declared.status.StatusName.{StatusName}
 use Rattle.job_base.specs.declared.status.StatusName.TheVariants as status
 use Rattle.job_gen.specs.declared.gen_meaning.generation.Generation.{Generation}

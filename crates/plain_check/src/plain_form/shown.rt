@@ -1,7 +1,7 @@
 //! The verdict of a comparison, with what shows it.
 
 ghost use Rattle.std.specs.Prelude.{◌≡◌, IfOk};
-ghost use Rattle.sec_base.specs.Table.{AreDistinct};
+ghost use Rattle.base_tables.specs.Table.{AreDistinct};
 ghost use Rattle.plain_check.specs.plain_form.Shown.{CanBeShown, IsShowable, IsShown, IsWitnessAt};
 
 use obligations::{Difference, Obligation, VerdictAt, copy_name};

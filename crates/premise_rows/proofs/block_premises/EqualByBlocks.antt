@@ -17,8 +17,8 @@ use Rattle.latch_blocks.specs.Partitions.{block_of}
 use Rattle.latch_blocks.specs.QueryLaws.{AreBlockValues}
 use Rattle.block_refine.specs.Refining.{AreCoarsest}
 use Rattle.block_refine.proofs.Agreeing.{outputs_agree}
-use Rattle.block_outputs.specs.declared.answer.OutputAnswer.TheVariants as answer
-use Rattle.block_outputs.specs.declared.outputs.OutputPair.{OutputPair}
+use Rattle.induct.specs.declared.block_outputs.answer.OutputAnswer.TheVariants as answer
+use Rattle.induct.specs.declared.block_outputs.outputs.OutputPair.{OutputPair}
 use Rattle.design_rows.specs.Designs.{xor_cover}
 use Rattle.premise_rows.proofs.block_premises.TurningNets.{one_is_sound, two_is_sound}
 use Rattle.premise_rows.specs.block_premises.EqualByBlocks.{one_turning, two_turning, a_numbers, one_block, AreEqualByBlocks}

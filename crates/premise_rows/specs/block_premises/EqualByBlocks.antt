@@ -15,9 +15,9 @@ use Rattle.latch_blocks.specs.QueryLaws.{AreBlockValues}
 use Rattle.block_refine.specs.declared.block_graph.nets.BlockNets.{BlockNets}
 use Rattle.block_refine.specs.declared.block_graph.graph.BlockGraph.{BlockGraph}
 use Rattle.block_refine.specs.Refining.{AreCoarsest}
-use Rattle.block_outputs.specs.declared.answer.OutputAnswer.TheVariants as answer
-use Rattle.block_outputs.specs.declared.outputs.OutputPair.{OutputPair}
-use Rattle.block_outputs.specs.Answers.{IsOutputAnswer}
+use Rattle.induct.specs.declared.block_outputs.answer.OutputAnswer.TheVariants as answer
+use Rattle.induct.specs.declared.block_outputs.outputs.OutputPair.{OutputPair}
+use Rattle.induct.specs.block_outputs.Answers.{IsOutputAnswer}
 use Rattle.design_rows.specs.Designs.{xor_cover}
 
 -- 0 a; 1 q, which starts with 0 and takes over 2, one of a and q but not both

@@ -6,7 +6,7 @@ use Rattle.std.proofs.lemmas.List.{map-append, take_all}
 use Rattle.std.proofs.lemmas.Option.{slice_get_within, get_or_from_slice_get, same_Some}
 use Rattle.circuit_theory.proofs.Lists.{Contains-map_from, at_of, All-from_each}
 use Rattle.circuit_theory.proofs.Numbers.{slice_get-map}
-use Rattle.sec_base.specs.Table.{AreDistinct}
+use Rattle.base_tables.specs.Table.{AreDistinct}
 use Rattle.flat_net.specs.declared.parts.LatchAt.{LatchAt}
 use Rattle.flat_net.specs.Cut.{latch_at, no_latch, exposed_names}
 use Rattle.flat_net.specs.Sound.{IsSound}
@@ -14,8 +14,8 @@ use Rattle.flat_net.specs.View.{NetView}
 use Rattle.flat_net.proofs.Places.{All-at}
 use Rattle.interface.specs.Pairing.{AreNamedAt}
 use Rattle.pair_runs.proofs.Places.{pushed_at}
-use Rattle.name_tables.specs.Names.{latch_names}
-use Rattle.name_tables.proofs.Names.{latches_distinct, latch_name_at}
+use Rattle.interface.specs.name_tables.Names.{latch_names}
+use Rattle.interface.proofs.name_tables.Names.{latches_distinct, latch_name_at}
 use Rattle.replay.specs.cut_sides.Opening.{HasBit}
 
 -- the positions of the first so many names

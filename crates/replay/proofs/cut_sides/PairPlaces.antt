@@ -15,8 +15,7 @@ use Rattle.flat_net.proofs.Nets.{some_at}
 use Rattle.cycle_sim.proofs.Lists.{map_is, append_left}
 use Rattle.witness_report.specs.declared.witness.PairName.TheVariants as pair
 use Rattle.interface.specs.declared.pairs.SignalPair.{SignalPair}
-use Rattle.interface.specs.Pairing.{AreNamedAt}
-use Rattle.interface.specs.Pairing.{IsOutputPair, ArePairs}
+use Rattle.interface.specs.Pairing.{AreNamedAt, IsOutputPair, ArePairs}
 use Rattle.sec_setup.specs.Pairs.{named_pairs, places_of}
 use Rattle.interface.proofs.NamedPairs.{pairs_named}
 use Rattle.pair_runs.specs.declared.differences.OutputPair.{OutputPair}

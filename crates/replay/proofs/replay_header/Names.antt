@@ -5,12 +5,12 @@ use Rattle.std.specs.List.{All, Contains, find}
 use Rattle.std.proofs.lemmas.List.{drop_more}
 use Rattle.std.proofs.lemmas.Option.{slice_get_within, get_or_from_slice_get, none-some}
 use Rattle.circuit_theory.proofs.Lists.{Contains-map, of_at, filter_test, Contains-filter}
-use Rattle.sec_base.specs.Table.{is_among as is_entry}
-use Rattle.sec_base.proofs.TableLemmas.{key_at, is_among-at, is_among-Contains}
+use Rattle.base_tables.specs.Table.{is_among as is_entry}
+use Rattle.base_tables.proofs.TableLemmas.{key_at, is_among-at, is_among-Contains}
 use Rattle.flat_net.specs.declared.parts.LatchAt.{LatchAt}
 use Rattle.flat_net.specs.View.{NetView}
 use Rattle.flat_net.proofs.Places.{All-at}
-use Rattle.name_tables.specs.Names.{latch_names}
+use Rattle.interface.specs.name_tables.Names.{latch_names}
 use Rattle.replay.specs.replay_header.Header.{is_input, is_known, is_opened, opened, FitsBoth}
 use Rattle.replay.proofs.replay_header.Tests.{no_true_false, and_both, not_true}
 

@@ -3,13 +3,13 @@ use Rattle.std.proofs.Common.{◌≡◌, ℕ, ◌+◌, Bool, true, false, cond, 
 use Rattle.std.specs.Prelude.{if◌then◌else◌}
 use Rattle.std.specs.List.{Contains, filter}
 use Rattle.circuit_theory.proofs.Lists.{Contains-filter, at_of, of_at}
-use Rattle.sec_base.specs.Table.{is_among as is_entry}
-use Rattle.sec_base.proofs.TableLemmas.{is_among-at, slice_get-take}
+use Rattle.base_tables.specs.Table.{is_among as is_entry}
+use Rattle.base_tables.proofs.TableLemmas.{is_among-at, slice_get-take}
 use Rattle.flat_net.specs.Sound.{IsSound}
 use Rattle.flat_net.specs.View.{NetView}
 use Rattle.flat_net.proofs.PlaceLists.{filter-take}
-use Rattle.name_tables.specs.Names.{latch_names}
-use Rattle.name_tables.proofs.Names.{latches_distinct}
+use Rattle.interface.specs.name_tables.Names.{latch_names}
+use Rattle.interface.proofs.name_tables.Names.{latches_distinct}
 use Rattle.replay.specs.replay_header.Header.{is_opened}
 
 -- a latch more that is opened or not

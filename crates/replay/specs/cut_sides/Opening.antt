@@ -5,7 +5,7 @@ use Rattle.flat_net.specs.Cut.{IsCut, IsCutCircuit}
 use Rattle.flat_net.specs.declared.parts.LatchAt.{LatchAt}
 use Rattle.flat_net.specs.View.{NetView, circuit_of}
 use Rattle.interface.specs.Pairing.{AreNamedAt}
-use Rattle.name_tables.specs.Names.{latch_names}
+use Rattle.interface.specs.name_tables.Names.{latch_names}
 
 -- the latch is one of the net's, and this is its bit
 pub record HasBit (n : NetView) (bits : List Bool) (l : LatchAt) (bit : Bool) : Type 0 where

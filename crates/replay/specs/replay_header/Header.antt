@@ -2,9 +2,9 @@
 use Rattle.std.specs.Prelude.{◌≡◌, ℕ, Bool, ◌&&◌, ◌||◌, not, List, Option, Some, None, Result, Ok, Err}
 use Rattle.std.specs.List.{filter, find}
 use Rattle.circuit_theory.specs.Interface.{first_missing, shared_inputs}
-use Rattle.sec_base.specs.Table.{is_among}
+use Rattle.base_tables.specs.Table.{is_among}
 use Rattle.flat_net.specs.View.{NetView, ports_of}
-use Rattle.name_tables.specs.Names.{input_names, latch_names}
+use Rattle.interface.specs.name_tables.Names.{input_names, latch_names}
 use Rattle.replay.specs.declared.replay_header.error.ReplayError.{ReplayError}
 use Rattle.replay.specs.declared.replay_header.error.ReplayError.TheVariants as refused
 

@@ -5,8 +5,9 @@ ghost use Rattle.flat_net.specs.declared.parts.LatchAt.{LatchAt};
 ghost use Rattle.interface.specs.Pairing.{AreNamedAt};
 ghost use Rattle.replay.specs.cut_sides.Opening.{AreBitsOf, AreNamesOf};
 
+use base_tables::NameTable;
 use flat_net::Net;
-use sec_base::{Bits, Ids, NameTable, NoMemory};
+use sec_base::{Bits, Ids, NoMemory};
 use std::alloc::Global;
 
 /// The positions of the latches of these names. Each is a latch of the net.

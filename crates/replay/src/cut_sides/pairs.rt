@@ -2,14 +2,15 @@
 
 ghost use Rattle.std.specs.Prelude.{◌≡◌, ◌+◌, ◌<◌, ◌^◌, map, length, IfOk, OnOk};
 ghost use Rattle.std.specs.List.{Contains};
-ghost use Rattle.sec_base.specs.Table.{AreDistinct};
+ghost use Rattle.base_tables.specs.Table.{AreDistinct};
 ghost use Rattle.sec_setup.specs.Matching.{InterfacesMatch};
 ghost use Rattle.replay.specs.cut_sides.Pairs.{IsOutputAt, AreOutputsBeside, IsNextAt, PutsNexts, ArePairsAt};
 
+use base_tables::NameTable;
 use flat_net::{Net, Port};
-use name_tables::{table_of_ports, word_of};
+use interface::name_tables::{table_of_ports, word_of};
 use pair_runs::OutputPair;
-use sec_base::{NameTable, NoMemory};
+use sec_base::NoMemory;
 use std::alloc::Global;
 use witness_report::PairName;
 

@@ -4,9 +4,10 @@ ghost use Rattle.std.specs.Prelude.{◌≡◌, length, IfOk};
 ghost use Rattle.replay.specs.cut_sides.Opening.{AreNamesOf, IsCutSide};
 
 use crate::cut_sides::opened_latches::{bits_left, positions_of};
+use base_tables::NameTable;
 use flat_net::Net;
 use pair_runs::Side;
-use sec_base::{Bits, NameTable, NoMemory};
+use sec_base::{Bits, NoMemory};
 use std::alloc::Global;
 
 /// A circuit in which latches are cut open.

@@ -1,15 +1,16 @@
 //! Whether the names of a stimulus fit two circuits.
 
 ghost use Rattle.std.specs.Prelude.{◌≡◌, ◌&&◌, ◌||◌, option_map, IfOk};
-ghost use Rattle.sec_base.specs.Table.{is_among};
-ghost use Rattle.name_tables.specs.Names.{input_names, latch_names};
+ghost use Rattle.base_tables.specs.Table.{is_among};
+ghost use Rattle.interface.specs.name_tables.Names.{input_names, latch_names};
 ghost use Rattle.replay.specs.replay_header.Header.{is_known, first_unknown, FitsOr};
 
 use crate::replay_header::error::ReplayError;
+use base_tables::NameTable;
 use flat_net::Net;
 use interface::inputs_beside;
-use name_tables::{first_missing, table_of_inputs, word_of};
-use sec_base::{NameTable, NoMemory};
+use interface::name_tables::{first_missing, table_of_inputs, word_of};
+use sec_base::NoMemory;
 use std::alloc::Global;
 
 /// The names of both circuits' inputs.

@@ -1,13 +1,14 @@
 //! Which latches the names of a stimulus cut open.
 
 ghost use Rattle.std.specs.Prelude.{◌≡◌, IfOk};
-ghost use Rattle.name_tables.specs.Names.{input_names};
+ghost use Rattle.interface.specs.name_tables.Names.{input_names};
 ghost use Rattle.replay.specs.replay_header.Header.{is_opened, opened, Opens};
 
 use crate::replay_header::error::ReplayError;
 use crate::replay_header::header::{InputNames, match_header};
+use base_tables::NameTable;
 use flat_net::Net;
-use sec_base::{NameTable, NoMemory};
+use sec_base::NoMemory;
 use std::alloc::Global;
 
 /// Whether a latch of this name is cut open: the header names it, and it is no input.

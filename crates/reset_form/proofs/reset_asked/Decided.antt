@@ -16,7 +16,7 @@ use Rattle.pair_decide.specs.declared.query.Query.{Query}
 use Rattle.pair_decide.specs.declared.query.Proof.{Proof}
 use Rattle.pair_decide.specs.Queries.{IsSame, roots_of}
 use Rattle.pair_decide.specs.Answers.{IsDifference, IsAtLimit}
-use Rattle.outcome_fits.specs.swept_queries.InStead.{IsInStead}
+use Rattle.obligations.specs.swept_queries.InStead.{IsInStead}
 use Rattle.shift_variables.specs.Sequences.{bits_at}
 use Rattle.shift_variables.specs.Variables.{variable_of, variables_of}
 use Rattle.outcome_fits.specs.ResetLimits.{ReadOnly, IsUndecidedAt}

@@ -8,10 +8,11 @@ ghost use Rattle.reset_form.specs.reset_asked.Asked.{AreAsked, AskedOf, AreCycle
 ghost use Rattle.reset_functions.specs.Pairs.{HaveFunctions};
 
 use aig::Lit;
+use base_tables::PlaceTable;
 use obligations::{Obligation, Queries, copy_name};
 use pair_decide::Query;
 use reset_functions::{Bases, Functions};
-use sec_base::{NoMemory, PlaceTable};
+use sec_base::NoMemory;
 use sec_setup::{Setup, pair_depth};
 use shift_variables::cycle_variables::merge_cycles;
 use std::alloc::Global;

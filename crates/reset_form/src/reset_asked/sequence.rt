@@ -2,7 +2,7 @@
 
 ghost use Rattle.std.specs.Prelude.{◌≡◌, ◌≢◌, ℕ, ◌*◌, ◌<◌, ◌≤◌, length, false, slice_index_or, All, IfOk};
 ghost use Rattle.std.specs.List.{AllPairs};
-ghost use Rattle.sec_base.specs.Table.{AreDistinct};
+ghost use Rattle.base_tables.specs.Table.{AreDistinct};
 ghost use Rattle.aig.specs.Graph.{vars_of};
 ghost use Rattle.aig.specs.Values.{value};
 ghost use Rattle.pair_decide.specs.Queries.{assigned_to};
@@ -10,11 +10,12 @@ ghost use Rattle.shift_variables.specs.cycle_variables.Cycles.{AreInCycles};
 ghost use Rattle.reset_form.specs.reset_asked.Sequences.{IsSequenceOf};
 
 use aig::Aig;
+use base_tables::PlaceTable;
 use obligations::copy_name;
 use outcome::{PairName, Stimulus, Witness};
 use pair_decide::Query;
 use reset_functions::Functions;
-use sec_base::{Bits, NoMemory, PlaceTable, Words};
+use sec_base::{Bits, NoMemory, Words};
 use shift_variables::bits_at;
 use shift_variables::cycle_variables::cycle_rows;
 use std::alloc::Global;

@@ -14,8 +14,9 @@ ghost use Rattle.reset_unfold.specs.Building.{AreKnown, IsReady, IsVariableLit, 
 use super::ResetUnfolder;
 use crate::leaves::initial;
 use aig::{Aig, Lit};
+use base_tables::PlaceTable;
 use flat_net::{Driver, Signal};
-use sec_base::{NoMemory, PlaceTable};
+use sec_base::NoMemory;
 use std::alloc::Global;
 use unfold_places::memo::Place;
 use unfold_places::reads::{gate_of, latch_of};

@@ -12,8 +12,8 @@ ghost use Rattle.reset_unfold.specs.Building.{IsReady, HasRoom, IsLaterReset};
 
 use super::ResetUnfolder;
 use aig::Aig;
+use base_tables::PlaceTable;
 use flat_net::Signal;
-use sec_base::PlaceTable;
 use std::alloc::Global;
 use unfold_places::UnfoldError;
 use unfold_places::memo::Place;

@@ -2,4 +2,3 @@ pub mod Bits
 pub mod Removed
 pub mod Paired
 pub mod Cuts
-pub use Rattle.latch_graph.proofs.Skipping

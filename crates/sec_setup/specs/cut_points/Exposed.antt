@@ -7,7 +7,7 @@ use Rattle.circuit_theory.specs.declared.Side.TheVariants.{A, B}
 use Rattle.circuit_theory.specs.Agree.{EnabledIn, IsMinimalCut}
 use Rattle.circuit_theory.specs.Circuit.{IsLatch}
 use Rattle.circuit_theory.specs.Depth.{HasCycle, IsCycle, BeginsWithLeast}
-use Rattle.latch_graph.specs.sec_base.Table.{AreDistinct}
+use Rattle.base_tables.specs.Table.{AreDistinct}
 use Rattle.latch_graph.specs.flat_net.View.{NetView, circuit_of}
 use Rattle.latch_graph.specs.flat_net.Cut.{exposed_names}
 use Rattle.sec_setup.specs.declared.cut_points.exposed.Exposure.{Exposure}

@@ -3,11 +3,10 @@ use Rattle.std.proofs.Common.{◌≡◌, ◌≢◌, ◌∙◌, ◌+◌, ℕ, Boo
 use Rattle.std.specs.Prelude.{◌⊎◌}
 use Rattle.std.specs.List.{AllPairs, Contains}
 use Rattle.std.proofs.lemmas.List.{map-append}
-use Rattle.circuit_theory.proofs.Lists.{Contains-map_from, at_of}
+use Rattle.circuit_theory.proofs.Lists.{Contains-map_from, at_of, length-map}
 use Rattle.circuit_theory.proofs.Sums.{same_or_not}
-use Rattle.sec_base.proofs.TableLemmas.{slice_get-take}
+use Rattle.base_tables.proofs.TableLemmas.{slice_get-take}
 use Rattle.unfold_places.proofs.Lists.{pairs_at}
-use Rattle.circuit_theory.proofs.Lists.{length-map}
 use Rattle.pair_decide.specs.Queries.{assigned_to}
 use Rattle.shift_variables.proofs.Assignments.{take_next, assigned_new, assigned_old, length_take}
 use Rattle.shift_variables.specs.cycle_variables.Cycles.{number_of}

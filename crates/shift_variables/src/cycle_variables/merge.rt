@@ -3,7 +3,8 @@
 ghost use Rattle.std.specs.Prelude.{◌≡◌, ◌<◌, length, IfOk};
 ghost use Rattle.shift_variables.specs.cycle_variables.Cycles.{AreInCycles, IsCycleMerge, Stands};
 
-use sec_base::{Ids, NoMemory, PlaceTable, Seq};
+use base_tables::PlaceTable;
+use sec_base::{Ids, NoMemory, Seq};
 use std::alloc::Global;
 use std::cmp::Ordering;
 

@@ -8,8 +8,9 @@ ghost use Rattle.shift_variables.specs.cycle_variables.Cycles.{AreInCycles, IsPo
 
 use crate::cycle_variables::rows::bits_from;
 use crate::end_of_shift;
+use base_tables::PlaceTable;
 use flat_net::Net;
-use sec_base::{Bits, Init, NoMemory, PlaceTable, Seq};
+use sec_base::{Bits, Init, NoMemory, Seq};
 use std::alloc::Global;
 
 /// The power-up of a net whose latches' variables have the numbers from `base` on, a bit for each latch: its initial value where

@@ -8,7 +8,8 @@ ghost use Rattle.shift_variables.specs.Sequences.{bits_at};
 ghost use Rattle.shift_variables.specs.cycle_variables.Cycles.{AreInCycles, number_of};
 
 use crate::end_of_shift;
-use sec_base::{BitRows, Bits, NoMemory, PlaceTable, Seq};
+use base_tables::PlaceTable;
+use sec_base::{BitRows, Bits, NoMemory, Seq};
 use std::alloc::Global;
 
 /// The rows of the sequence of the cycles 0 to `last`: each input has in a cycle the bit of its variable there, at its place among

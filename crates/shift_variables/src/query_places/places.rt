@@ -3,7 +3,8 @@
 ghost use Rattle.std.specs.Prelude.{◌≡◌, ◌≢◌, ◌-◌, ◌<◌, true, false, length, slice_index_or, All, IfOk};
 ghost use Rattle.shift_variables.specs.query_places.Places.{place_of, AreGrouped, ArePlacesOf, ComeInTurn};
 
-use sec_base::{Ids, NoMemory, PlaceTable, Seq};
+use base_tables::PlaceTable;
+use sec_base::{Ids, NoMemory, Seq};
 use std::alloc::Global;
 
 /// The places of these variables, each once, in the order in which they come. Variables of one place stand side by side.

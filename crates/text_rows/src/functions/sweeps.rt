@@ -11,7 +11,7 @@ use row_text::show;
 use sec_base::NoMemory;
 use std::alloc::Global;
 use std::rt::HostRuntime;
-use sweep::{Swept, sweep};
+use swept_queries::sweep::{Swept, sweep};
 
 /// Fills the words by Marsaglia's xorshift ("Xorshift RNGs").
 fn fill(words: &mut [u64])

@@ -2,13 +2,13 @@
 use Rattle.std.proofs.Common.{false, ◌≡◌, ℕ, List, sym, subst, Err}
 use Rattle.circuit_theory.specs.declared.Side.TheVariants.{A, B}
 use Rattle.flat_net.specs.View.{NetView, circuit_of}
-use Rattle.outcome_fits.specs.sec_setup.declared.cut_points.exposed.Exposure.{Exposure}
+use Rattle.sec_setup.specs.declared.cut_points.exposed.Exposure.{Exposure}
 use Rattle.sec_base.specs.declared.settings.Settings.{Settings}
-use Rattle.outcome_fits.specs.sec_setup.declared.setup.Setup.{Setup}
-use Rattle.outcome_fits.specs.sec_setup.Choosing.{IsChosen}
+use Rattle.sec_setup.specs.declared.setup.Setup.{Setup}
+use Rattle.sec_setup.specs.Choosing.{IsChosen}
 use Rattle.outcome_fits.specs.Cuts.{IsChoice, StandInOrder}
-use Rattle.outcome_fits.specs.sec_setup.Matching.{InterfacesMatch}
-use Rattle.outcome_fits.specs.sec_setup.Setup.{IsSetupOf}
+use Rattle.sec_setup.specs.Matching.{InterfacesMatch}
+use Rattle.sec_setup.specs.Setup.{IsSetupOf}
 use Rattle.outcome_fits.specs.Fitting.{IsLight, IsTooLarge}
 use Rattle.outcome_fits.proofs.plain_meaning.CutSizes.{cut_over, cut_light}
 use Rattle.under_base.specs.declared.compare_base.error.CompareError.TheVariants as refused

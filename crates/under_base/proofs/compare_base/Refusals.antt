@@ -4,11 +4,11 @@ use Rattle.std.proofs.Common.{◌≡◌, sym, subst, Result, Ok, Err}
 use Rattle.circuit_theory.specs.declared.Side.TheVariants.{A, B}
 use Rattle.flat_net.specs.View.{NetView}
 use Rattle.sec_base.specs.declared.settings.Settings.{Settings}
-use Rattle.outcome_fits.specs.outcome.declared.verdict.Outcome.{Outcome}
-use Rattle.outcome_fits.specs.sec_setup.declared.error.SetupError.{SetupError}
-use Rattle.outcome_fits.specs.sec_setup.declared.error.SetupError.TheVariants as unset
-use Rattle.outcome_fits.specs.sec_setup.Choosing.{Chosen}
-use Rattle.outcome_fits.specs.sec_setup.Matching.{InterfacesMatch, InterfaceFails as NoMatch}
+use Rattle.obligations.specs.outcome.declared.verdict.Outcome.{Outcome}
+use Rattle.sec_setup.specs.declared.error.SetupError.{SetupError}
+use Rattle.sec_setup.specs.declared.error.SetupError.TheVariants as unset
+use Rattle.sec_setup.specs.Choosing.{Chosen}
+use Rattle.sec_setup.specs.Matching.{InterfacesMatch, InterfaceFails as NoMatch}
 use Rattle.under_base.specs.declared.compare_base.error.CompareError.{CompareError}
 use Rattle.under_base.specs.declared.compare_base.error.CompareError.TheVariants as refused
 use Rattle.under_base.specs.compare_base.Compared.{Compared, InterfaceFails, refusal_of}

@@ -8,7 +8,7 @@ use Rattle.circuit_theory.specs.Depth.{LatchReads, LatchPath, IsCycle, HasCycle,
 use Rattle.circuit_theory.specs.Run.{NoneEnabled}
 use Rattle.flat_net.specs.View.{NetView, circuit_of}
 use Rattle.flat_net.proofs.Nets.{some_at}
-use Rattle.outcome_fits.specs.sec_setup.cut_points.Exposed.{IsFreeWithout, IsToldCycle}
+use Rattle.sec_setup.specs.cut_points.Exposed.{IsFreeWithout, IsToldCycle}
 
 some_is : {X : Type 0} {x y : X} → Some x ≡ Some y → x ≡ y
 some_is q = cc

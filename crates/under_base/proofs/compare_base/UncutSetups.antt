@@ -18,15 +18,15 @@ use Rattle.flat_net.specs.declared.parts.Port.{Port}
 use Rattle.flat_net.specs.Cut.{latch_at, stays, IsCut}
 use Rattle.flat_net.specs.Sound.{IsSound}
 use Rattle.flat_net.specs.View.{NetView, circuit_of, ports_of}
-use Rattle.outcome_fits.specs.interface.declared.pairs.SignalPair.{SignalPair}
+use Rattle.interface.specs.declared.pairs.SignalPair.{SignalPair}
 use Rattle.reset_laws.specs.Reset.{AreBased}
 use Rattle.reset_laws.specs.Weight.{IsResetWeight, IsResetOver}
 use Rattle.reset_laws.proofs.reset_nets.Starts.{nets_have_starts}
 use Rattle.reset_functions.specs.reset_unfold.Places.{starts_of}
-use Rattle.outcome_fits.specs.sec_setup.declared.setup.Setup.{Setup}
+use Rattle.sec_setup.specs.declared.setup.Setup.{Setup}
 use Rattle.outcome_fits.specs.Cuts.{columns_of}
 use Rattle.outcome_fits.specs.Pairs.{NamedPair, named_pairs, places_of}
-use Rattle.outcome_fits.specs.sec_setup.Setup.{IsSetupOf}
+use Rattle.sec_setup.specs.Setup.{IsSetupOf}
 use Rattle.reset_functions.specs.declared.bases.Bases.{Bases}
 use Rattle.reset_functions.specs.Bases.{AreBases}
 use Rattle.outcome_fits.specs.ResetOutcome.{Numbered}

@@ -8,18 +8,18 @@ use Rattle.flat_net.specs.Sound.{IsSound}
 use Rattle.flat_net.specs.View.{NetView, circuit_of, ports_of}
 use Rattle.witness_report.specs.declared.witness.Witness.{Witness}
 use Rattle.sec_base.specs.declared.settings.Settings.{Settings}
-use Rattle.outcome_fits.specs.outcome.declared.verdict.Verdict.TheVariants as verdict
-use Rattle.outcome_fits.specs.outcome.declared.verdict.Why.TheVariants as why
-use Rattle.outcome_fits.specs.outcome.declared.verdict.Outcome.{Outcome}
-use Rattle.outcome_fits.specs.outcome.declared.verdict.ResetWitness.{ResetWitness}
+use Rattle.obligations.specs.outcome.declared.verdict.Verdict.TheVariants as verdict
+use Rattle.obligations.specs.outcome.declared.verdict.Why.TheVariants as why
+use Rattle.obligations.specs.outcome.declared.verdict.Outcome.{Outcome}
+use Rattle.obligations.specs.outcome.declared.verdict.ResetWitness.{ResetWitness}
 use Rattle.reset_laws.specs.Reset.{AgreeFromReset}
-use Rattle.outcome_fits.specs.sec_setup.cut_points.Common.{common_names}
-use Rattle.outcome_fits.specs.sec_setup.cut_points.Exposed.{IsFreeWithout, IsToldCycle}
-use Rattle.outcome_fits.specs.sec_setup.declared.error.SetupError.{SetupError}
-use Rattle.outcome_fits.specs.sec_setup.declared.error.SetupError.TheVariants as unset
+use Rattle.sec_setup.specs.cut_points.Common.{common_names}
+use Rattle.sec_setup.specs.cut_points.Exposed.{IsFreeWithout, IsToldCycle}
+use Rattle.sec_setup.specs.declared.error.SetupError.{SetupError}
+use Rattle.sec_setup.specs.declared.error.SetupError.TheVariants as unset
 use Rattle.outcome_fits.specs.Cuts.{IsChoice, StandInOrder}
-use Rattle.outcome_fits.specs.sec_setup.Cycles.{IsAcyclic, AreBroken}
-use Rattle.outcome_fits.specs.sec_setup.Matching.{InterfacesMatch}
+use Rattle.sec_setup.specs.Cycles.{IsAcyclic, AreBroken}
+use Rattle.sec_setup.specs.Matching.{InterfacesMatch}
 use Rattle.under_base.specs.declared.compare_base.error.CompareError.{CompareError}
 use Rattle.under_base.specs.declared.compare_base.error.CompareError.TheVariants as refused
 use Rattle.outcome_fits.specs.Fitting.{IsLight, IsCutOver, IsCutLight, OutcomeFits}

@@ -4,13 +4,13 @@ use Rattle.circuit_theory.specs.Circuit.{Circuit}
 use Rattle.circuit_theory.specs.Tree.{Tree, Unfolds, tree_value}
 use Rattle.circuit_theory.specs.Query.{Variable, ShiftBefore}
 use Rattle.aig.specs.declared.node.Node.{Node}
-use Rattle.sec_base.specs.Table.{AreDistinct}
+use Rattle.base_tables.specs.Table.{AreDistinct}
 use Rattle.aig.specs.Graph.{IsGraph}
 use Rattle.aig.specs.Values.{value}
 use Rattle.cnf_encode.specs.Encoding.{IsEncoding}
 use Rattle.sat_search.specs.Found.{IsFruitless}
-use Rattle.assume_places.specs.pair_decide.declared.query.Proof.{Proof}
-use Rattle.assume_places.specs.unfold_places.Growing.{TakesBits}
+use Rattle.obligations.specs.pair_decide.declared.query.Proof.{Proof}
+use Rattle.unfold_places.specs.Growing.{TakesBits}
 use Rattle.assume_laws.specs.Assume.{Assumption, MeetsAtVariables}
 use Rattle.assume_laws.specs.Sequences.{AreVariablesUnder}
 use Rattle.outcome_fits.specs.Limits.{HasValueOf, ReadOnly}

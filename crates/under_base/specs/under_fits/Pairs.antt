@@ -5,9 +5,9 @@ use Rattle.circuit_theory.specs.Fits.{IsPairDepth}
 use Rattle.circuit_theory.specs.Tree.{Tree, Unfolds, tree_value}
 use Rattle.sec_base.specs.declared.basics.PairAnswer.{PairAnswer}
 use Rattle.sec_base.specs.declared.basics.PairAnswer.TheVariants as answer
-use Rattle.assume_places.specs.pair_decide.declared.query.Proof.{Proof}
-use Rattle.assume_places.specs.outcome.declared.verdict.PairResult.{PairResult}
-use Rattle.outcome_fits.specs.sec_setup.Pairs.{NamedPair}
+use Rattle.obligations.specs.pair_decide.declared.query.Proof.{Proof}
+use Rattle.obligations.specs.outcome.declared.verdict.PairResult.{PairResult}
+use Rattle.sec_setup.specs.Pairs.{NamedPair}
 use Rattle.assume_laws.specs.Assume.{Assumption, MeetsAtVariables, HaveEqualFunctionsUnder}
 use Rattle.under_base.specs.under_fits.Limits.{IsUndecidedUnder}
 

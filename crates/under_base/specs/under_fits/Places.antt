@@ -4,7 +4,7 @@ use Rattle.std.specs.List.{AllPairs, AllZip, Contains}
 use Rattle.circuit_theory.specs.Circuit.{Circuit}
 use Rattle.circuit_theory.specs.Tree.{Tree, Unfolds}
 use Rattle.sec_base.specs.declared.limits.TheConstants.{MAX_WEIGHT}
-use Rattle.outcome_fits.specs.sec_setup.Pairs.{NamedPair}
+use Rattle.sec_setup.specs.Pairs.{NamedPair}
 use Rattle.assume_laws.specs.Assume.{HasVariableAt}
 use Rattle.assume_places.specs.Gathered.{sum_under}
 

@@ -5,7 +5,7 @@ use Rattle.circuit_theory.specs.Fits.{IsPairDepth}
 use Rattle.circuit_theory.specs.Tree.{Tree}
 use Rattle.reset_laws.specs.Reset.{ResetUnfolds}
 use Rattle.sec_base.specs.declared.limits.TheConstants.{MAX_WEIGHT}
-use Rattle.outcome_fits.specs.sec_setup.Pairs.{NamedPair}
+use Rattle.sec_setup.specs.Pairs.{NamedPair}
 use Rattle.assume_laws.specs.Assume.{HasVariableAt}
 use Rattle.outcome_fits.specs.ResetOutcome.{Numbered}
 

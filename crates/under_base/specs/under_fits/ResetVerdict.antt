@@ -3,10 +3,10 @@ use Rattle.std.specs.Prelude.{◌≡◌, ◌≢◌, ℕ, ◌<◌, ◌≤◌, Boo
 use Rattle.circuit_theory.specs.Fits.{IsPairDepth}
 use Rattle.sec_base.specs.declared.basics.PairAnswer.{PairAnswer}
 use Rattle.sec_base.specs.declared.basics.PairAnswer.TheVariants as answer
-use Rattle.assume_places.specs.pair_decide.declared.query.Proof.{Proof}
-use Rattle.assume_places.specs.outcome.declared.verdict.PairResult.{PairResult}
-use Rattle.assume_places.specs.outcome.declared.verdict.ResetWitness.{ResetWitness}
-use Rattle.outcome_fits.specs.sec_setup.Pairs.{NamedPair}
+use Rattle.obligations.specs.pair_decide.declared.query.Proof.{Proof}
+use Rattle.obligations.specs.outcome.declared.verdict.PairResult.{PairResult}
+use Rattle.obligations.specs.outcome.declared.verdict.ResetWitness.{ResetWitness}
+use Rattle.sec_setup.specs.Pairs.{NamedPair}
 use Rattle.assume_laws.specs.Assume.{Assumption, HaveEqualResetsUnder}
 use Rattle.assume_laws.specs.Sequences.{IsResetWitnessUnder}
 use Rattle.outcome_fits.specs.ResetOutcome.{Numbered}

@@ -5,11 +5,11 @@ use Rattle.circuit_theory.specs.Circuit.{Circuit}
 use Rattle.sec_base.specs.declared.basics.PairAnswer.{PairAnswer}
 use Rattle.sec_base.specs.declared.basics.PairAnswer.TheVariants as answer
 use Rattle.witness_report.specs.declared.witness.Witness.{Witness}
-use Rattle.assume_places.specs.outcome.declared.verdict.PairResult.{PairResult}
-use Rattle.assume_places.specs.outcome.declared.verdict.Verdict.{Verdict}
-use Rattle.assume_places.specs.outcome.declared.verdict.Verdict.TheVariants as verdict
-use Rattle.assume_places.specs.outcome.declared.verdict.Why.TheVariants as why
-use Rattle.outcome_fits.specs.sec_setup.Pairs.{NamedPair}
+use Rattle.obligations.specs.outcome.declared.verdict.PairResult.{PairResult}
+use Rattle.obligations.specs.outcome.declared.verdict.Verdict.{Verdict}
+use Rattle.obligations.specs.outcome.declared.verdict.Verdict.TheVariants as verdict
+use Rattle.obligations.specs.outcome.declared.verdict.Why.TheVariants as why
+use Rattle.sec_setup.specs.Pairs.{NamedPair}
 use Rattle.outcome_fits.specs.Outcome.{NoneIs, IsFirstLimit}
 use Rattle.assume_laws.specs.Assume.{Assumption}
 use Rattle.assume_laws.specs.Sequences.{IsWitnessUnder}

@@ -4,7 +4,7 @@ use Rattle.std.proofs.lemmas.List.Elements.{All-contains}
 use Rattle.circuit_theory.proofs.Lists.{zip_weaker}
 use Rattle.aig.proofs.Growth.{Grows-trans}
 use Rattle.pair_decide.specs.declared.query.Query.{Query}
-use Rattle.assume_places.specs.obligations.Asked.{queries_of}
+use Rattle.obligations.specs.Asked.{queries_of}
 use Rattle.assume_laws.specs.assume_shape.Shape.{assumption_of}
 use Rattle.assume_places.proofs.Gathering.{is_over, is_light}
 use Rattle.assume_queries.specs.assume_answers.Order.{AreOrdered}

@@ -7,7 +7,7 @@ use Rattle.std.proofs.lemmas.Option.{slice_get_within, slice_get-get_or, same_So
 use Rattle.aig.proofs.Growth.{Grows-refl, Grows-trans, Grows-length}
 use Rattle.pair_decide.specs.declared.query.Query.{Query}
 use Rattle.unfold_places.specs.declared.signal_function.Unfolded.{Unfolded}
-use Rattle.assume_places.proofs.obligations.Listed.{item-at}
+use Rattle.obligations.proofs.Listed.{item-at}
 use Rattle.assume_queries.specs.declared.map.Parts.{Parts}
 use Rattle.assume_queries.specs.declared.assume_answers.order.VariableOrder.{VariableOrder}
 use Rattle.assume_queries.specs.Made.{IsMadeOf}

@@ -7,9 +7,9 @@ use Rattle.circuit_theory.proofs.Lists.{zip_length}
 use Rattle.aig.proofs.Growth.{Grows-refl, Grows-trans, Grows-length}
 use Rattle.pair_decide.specs.declared.query.Query.{Query}
 use Rattle.unfold_places.specs.declared.signal_function.Unfolded.{Unfolded}
-use Rattle.assume_places.specs.obligations.declared.obligation.Obligation.{Obligation}
-use Rattle.assume_places.specs.obligations.Asked.{queries_of}
-use Rattle.assume_places.proofs.obligations.Listed.{item-at, queries-more, queries-within}
+use Rattle.obligations.specs.declared.obligation.Obligation.{Obligation}
+use Rattle.obligations.specs.Asked.{queries_of}
+use Rattle.obligations.proofs.Listed.{item-at, queries-more, queries-within}
 use Rattle.assume_queries.specs.Parted.{HasParts, IsObligationMade}
 use Rattle.assume_queries.proofs.Parting.{parts_from, own_from, obligation_from, obligations_more}
 use Rattle.assume_queries.proofs.map.obligations_under.Goals as goal

@@ -1,7 +1,7 @@
 use Rattle.std.proofs.Common.{◌≡◌, ◌+◌, ◌≤◌, ℕ, List, drop, length, take}
 use Rattle.std.specs.List.{AllZip, sum_by}
 use Rattle.aig.specs.Graph.{Grows, IsGraph}
-use Rattle.assume_places.specs.obligations.Asked.{queries_of}
+use Rattle.obligations.specs.Asked.{queries_of}
 use Rattle.assume_places.specs.Gathered.{AreOwn}
 use Rattle.assume_queries.specs.Parted.{IsObligationMade}
 use Rattle.assume_queries.proofs.map.obligations_under.Given as goal

@@ -4,7 +4,7 @@ use Rattle.std.proofs.lemmas.List.{map-append, take_more, take_all}
 use Rattle.std.proofs.lemmas.Option.{get_or_from_slice_get}
 use Rattle.aig.specs.declared.node.Lit.{Lit}
 use Rattle.unfold_places.specs.declared.signal_function.Unfolded.{Unfolded}
-use Rattle.assume_places.proofs.obligations.Listed.{item-at}
+use Rattle.obligations.proofs.Listed.{item-at}
 use Rattle.assume_queries.specs.Parts.{function_at, literals_at}
 use Rattle.assume_queries.proofs.parts.literals.Goals as goal
 

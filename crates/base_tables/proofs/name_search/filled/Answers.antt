@@ -1,8 +1,8 @@
 -- The number of the next name goes to the first free place.
 use Rattle.std.proofs.Common.{◌≡◌, ◌∙◌, ◌<◌, ◌^◌, ℕ, List, [], length, map, take, get_or, refl, ap, subst, arith}
 use Rattle.std.proofs.lemmas.List.{length-map, get_or-map, take_all}
-use Rattle.unique_table.specs.Places.{IsFree, IsTable}
-use Rattle.unique_table.proofs.Filling.{table-none, table-next}
+use Rattle.base_tables.specs.unique_table.Places.{IsFree, IsTable}
+use Rattle.base_tables.proofs.unique_table.Filling.{table-none, table-next}
 use Rattle.base_tables.specs.declared.name_search.TheConstants.{TRIES}
 use Rattle.base_tables.specs.Hashed.{hash_of, name_place, place_from}
 use Rattle.base_tables.proofs.name_search.filled.Goals as goal

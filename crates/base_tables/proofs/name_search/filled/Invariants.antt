@@ -1,5 +1,5 @@
 use Rattle.std.proofs.Common.{map, take}
-use Rattle.unique_table.specs.Places.{IsTable}
+use Rattle.base_tables.specs.unique_table.Places.{IsTable}
 use Rattle.base_tables.specs.declared.name_search.TheConstants.{TRIES}
 use Rattle.base_tables.specs.Hashed.{name_place}
 use Rattle.base_tables.proofs.name_search.filled.Given as goal

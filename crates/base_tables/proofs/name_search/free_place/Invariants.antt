@@ -1,4 +1,4 @@
-use Rattle.unique_table.specs.Places.{AreTaken}
+use Rattle.base_tables.specs.unique_table.Places.{AreTaken}
 use Rattle.base_tables.specs.Hashed.{place_from}
 use Rattle.base_tables.proofs.name_search.free_place.Given as goal
 

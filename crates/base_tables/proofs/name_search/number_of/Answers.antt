@@ -1,8 +1,8 @@
 -- One place more of the search, and its two ends.
 use Rattle.std.proofs.Common.{◌≡◌, ◌∙◌, ℕ, map, get_or, sym, ap, arith, true≢false}
 use Rattle.std.proofs.lemmas.List.{length-map}
-use Rattle.unique_table.specs.Places.{slot_at}
-use Rattle.unique_table.proofs.Searches.{passed-none, passed-free, passed-all}
+use Rattle.base_tables.specs.unique_table.Places.{slot_at}
+use Rattle.base_tables.proofs.unique_table.Searches.{passed-none, passed-free, passed-all}
 use Rattle.base_tables.specs.declared.name_search.TheConstants.{TRIES}
 use Rattle.base_tables.specs.Hashed.{name_place, place_from}
 use Rattle.base_tables.proofs.Hashing.{passed-on}

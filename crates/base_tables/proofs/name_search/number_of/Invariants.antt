@@ -1,5 +1,5 @@
 use Rattle.std.proofs.Common.{map}
-use Rattle.unique_table.proofs.Searches.{Passed}
+use Rattle.base_tables.proofs.unique_table.Searches.{Passed}
 use Rattle.base_tables.specs.Hashed.{name_place}
 use Rattle.base_tables.proofs.name_search.number_of.Given as goal
 

@@ -2,7 +2,7 @@
 use Rattle.std.proofs.Common.{ℕ, List, sym, subst, arith, Err, inl}
 use Rattle.interface.proofs.Numbering.{few_shared}
 use Rattle.under_base.specs.declared.compare_base.error.CompareError.{CompareError}
-use Rattle.under_base.specs.assume_sequences.assume_taken.Premises.{IsTaken}
+use Rattle.assume_sequences.specs.assume_taken.Premises.{IsTaken}
 use Rattle.under_base.specs.Taken.{IsUndecidedBy}
 use Rattle.under_base.specs.Compared.{ComparedUnder}
 use Rattle.under_base.proofs.Refusals.{untaken_under}

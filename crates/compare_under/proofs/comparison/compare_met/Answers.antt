@@ -1,7 +1,7 @@
 -- A cycle, or no latch that is cut open: the nets are those of the circuits. The premise goes over the exposed latches too.
 use Rattle.std.proofs.Common.{ℕ, ◌+◌, List, length, sym, ◌∙◌, subst}
 use Rattle.sec_setup.proofs.Uncut.{uncut, no_names}
-use Rattle.under_base.specs.assume_sequences.assume_taken.Premises.{IsPremiseOf}
+use Rattle.assume_sequences.specs.assume_taken.Premises.{IsPremiseOf}
 use Rattle.under_base.specs.compare_base.Compared.{refusal_of}
 use Rattle.under_base.proofs.compare_base.Refusals.{refused_by}
 use Rattle.under_base.specs.Compared.{ComparedUnder}

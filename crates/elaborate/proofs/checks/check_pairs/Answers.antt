@@ -1,7 +1,7 @@
 -- Pair by pair: those before are without a fault, and the rest decides.
 use Rattle.std.proofs.Common.{◌+◌, ◌||◌, ℕ, Bool, List, drop, ◌∙◌, ap}
 use Rattle.std.proofs.lemmas.Result.{err_from_is_err_and}
-use Rattle.blif_read.specs.sec_base.Table.{is_among}
+use Rattle.base_tables.specs.Table.{is_among}
 use Rattle.blif_read.specs.declared.design.Pair.{Pair}
 use Rattle.elaborate.specs.Walking.{pairs_fault}
 use Rattle.elaborate.proofs.Checked.{map_more, rest_at}

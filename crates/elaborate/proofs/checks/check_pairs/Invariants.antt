@@ -1,5 +1,5 @@
 use Rattle.std.proofs.Common.{◌≡◌, ◌||◌, [], map, take, drop}
-use Rattle.blif_read.specs.sec_base.Table.{is_among}
+use Rattle.base_tables.specs.Table.{is_among}
 use Rattle.elaborate.specs.Walking.{pairs_fault}
 use Rattle.elaborate.proofs.checks.check_pairs.Given as goal
 

@@ -1,5 +1,5 @@
 use Rattle.std.proofs.Common.{◌≡◌, ◌<◌, ◌≤◌, ℕ, List, Option, Some, slice_get, sym, ◌∙◌, ap, subst, length}
-use Rattle.blif_read.specs.sec_base.Table.{is_among, AreDistinct}
+use Rattle.base_tables.specs.Table.{is_among, AreDistinct}
 use Rattle.blif_read.specs.declared.design.BlifModel.{BlifModel}
 use Rattle.blif_read.specs.Kept.{model_names}
 use Rattle.elaborate.specs.declared.error.FlatError.TheVariants as flat_error

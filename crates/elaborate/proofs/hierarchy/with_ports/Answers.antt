@@ -1,7 +1,7 @@
 -- The names and the statements are those that were moved out.
 use Rattle.std.proofs.Common.{◌≡◌, ◌≤◌, ℕ, true, List, length, sum_by, sym, ◌∙◌, ap, subst}
 use Rattle.std.specs.List.{list_all}
-use Rattle.blif_read.specs.sec_base.Table.{AreDistinct}
+use Rattle.base_tables.specs.Table.{AreDistinct}
 use Rattle.elaborate.specs.declared.flat.FlatStatement.{FlatStatement}
 use Rattle.elaborate.specs.Within.{is_within, reads_as_kind, written_places}
 use Rattle.elaborate.specs.State.{ArePortNumbers}

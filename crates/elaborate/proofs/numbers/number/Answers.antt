@@ -1,7 +1,7 @@
 -- A name that is found keeps its number; a new one has the number behind those before.
 use Rattle.std.proofs.Common.{◌≡◌, ◌∙◌, ℕ, zero, suc, false, List, [], ◌∷◌, ◌++◌, length, slice_get, Some, if◌then◌else◌, refl, sym, ap, subst, rules}
 use Rattle.std.proofs.lemmas.Option.{none-some}
-use Rattle.blif_read.specs.sec_base.Table.{is_among}
+use Rattle.base_tables.specs.Table.{is_among}
 use Rattle.elaborate.specs.State.{Keeps}
 use Rattle.elaborate.proofs.numbers.number.Goals as goal
 

@@ -1,5 +1,5 @@
 use Rattle.std.proofs.Common.{◌≡◌, List, ℕ, get_or, sym, subst}
-use Rattle.blif_read.specs.sec_base.Table.{is_among}
+use Rattle.base_tables.specs.Table.{is_among}
 use Rattle.elaborate.proofs.Tabled.{among_more}
 use Rattle.elaborate.proofs.tables.add_all.Goals as goal
 

@@ -1,5 +1,5 @@
 use Rattle.std.proofs.Common.{◌≡◌, ℕ, ◌||◌, List, take}
-use Rattle.blif_read.specs.sec_base.Table.{is_among}
+use Rattle.base_tables.specs.Table.{is_among}
 use Rattle.elaborate.proofs.tables.add_all.Given as goal
 
 abbrev pub invariant-loop-name : goal.invariant-loop-name

@@ -1,6 +1,6 @@
 use Rattle.std.proofs.Common.{ℕ, List, ◌||◌, ◌∙◌, ap, ap₂, refl}
 use Rattle.std.specs.List.{list_any}
-use Rattle.blif_read.specs.sec_base.Table.{is_among}
+use Rattle.base_tables.specs.Table.{is_among}
 use Rattle.elaborate.specs.Scopes.{is_long_behind, exceeds}
 use Rattle.elaborate.proofs.Tabled.{formals_are}
 use Rattle.elaborate.proofs.tables.formals_of.Goals as goal

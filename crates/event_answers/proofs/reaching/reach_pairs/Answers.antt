@@ -1,6 +1,6 @@
 -- Enables that aren't known.
 use Rattle.std.proofs.Common.{List, ℕ, sym, subst}
-use Rattle.event_names.proofs.under_base.compare_base.Refusals.{refused_by}
+use Rattle.under_base.proofs.compare_base.Refusals.{refused_by}
 use Rattle.event_answers.specs.Reached.{ReachesPairs, StopsAtLimit}
 use Rattle.event_answers.proofs.Stopping.{unknown_stops}
 use Rattle.event_answers.proofs.Refusals.{unknown_refused}

@@ -1,6 +1,6 @@
 -- A cycle is refused.
-use Rattle.event_names.specs.under_base.compare_base.Compared.{refusal_of}
-use Rattle.event_names.proofs.under_base.compare_base.Refusals.{refused_by}
+use Rattle.under_base.specs.compare_base.Compared.{refusal_of}
+use Rattle.under_base.proofs.compare_base.Refusals.{refused_by}
 use Rattle.event_answers.specs.Reached.{ReachesPairs}
 use Rattle.event_answers.proofs.Refusals.{cycle_refused}
 use Rattle.event_answers.proofs.reaching.reach_recovered.Goals as goal

@@ -1,6 +1,6 @@
 -- The class map is made; or why not.
 use Rattle.std.proofs.Common.{refl}
-use Rattle.event_names.proofs.under_base.compare_base.Refusals.{refused_by}
+use Rattle.under_base.proofs.compare_base.Refusals.{refused_by}
 use Rattle.event_answers.specs.Laws.{HaveClassesGiven}
 use Rattle.event_answers.specs.Reached.{ReachesPairs}
 use Rattle.event_answers.proofs.Stopping.{reached_first, reached_then, setup_askable, unclassed_stops}

@@ -1,7 +1,7 @@
 -- The outcome by the pairs, or why they can't be unfolded.
 use Rattle.std.proofs.Common.{◌∙◌, ℕ, List, None, refl, sym, ap, subst, Ok}
 use Rattle.outcome.specs.declared.verdict.Outcome.{Outcome}
-use Rattle.event_meaning.proofs.under_base.compare_base.Refusals.{refused_by}
+use Rattle.under_base.proofs.compare_base.Refusals.{refused_by}
 use Rattle.event_answers.specs.Compared.{ComparedInEvents}
 use Rattle.event_answers.proofs.Told.{told_outcome, outcome_by}
 use Rattle.event_answers.proofs.Refusals.{pairs_refused}

@@ -1,8 +1,8 @@
 -- Interfaces that don't match, what is refused before the pairs, and the limit of an enable or of a class.
 use Rattle.std.proofs.Common.{◌∙◌, None, sym, ap, subst, length, Ok}
 use Rattle.outcome.specs.declared.verdict.Outcome.{Outcome}
-use Rattle.event_meaning.specs.under_base.compare_base.Compared.{refusal_of}
-use Rattle.event_meaning.proofs.under_base.compare_base.Refusals.{refused_by}
+use Rattle.under_base.specs.compare_base.Compared.{refusal_of}
+use Rattle.under_base.proofs.compare_base.Refusals.{refused_by}
 use Rattle.event_answers.specs.Compared.{ComparedInEvents}
 use Rattle.event_answers.specs.Reached.{ReachesPairs}
 use Rattle.event_answers.specs.declared.reaching.Reached.{Reached}

@@ -2,16 +2,16 @@
 use Rattle.std.proofs.Common.{◌∙◌, ℕ, List, length, sym, ap, subst, arith, Some, Err, inl}
 use Rattle.interface.proofs.Numbering.{few_shared}
 use Rattle.outcome.specs.declared.verdict.LimitAt.TheVariants as limit_at
-use Rattle.event_answers_under.specs.assume_sequences.assume_taken.Premises.{IsTaken}
+use Rattle.assume_sequences.specs.assume_taken.Premises.{IsTaken}
 use Rattle.event_meaning.specs.event_meaning_under.Taken.{IsUndecidedBy}
 use Rattle.event_meaning.specs.event_meaning_under.CompareError.{CompareError}
-use Rattle.event_names.specs.under_base.compare_base.Compared.{refusal_of}
-use Rattle.event_names.proofs.under_base.compare_base.Refusals.{refused_by}
-use Rattle.event_answers_under.specs.under_base.Met.{IsAssumptionLimit}
+use Rattle.under_base.specs.compare_base.Compared.{refusal_of}
+use Rattle.under_base.proofs.compare_base.Refusals.{refused_by}
+use Rattle.under_base.specs.Met.{IsAssumptionLimit}
 use Rattle.event_answers.proofs.Told.{told_outcome, outcome_by, limit_at as found_limit}
 use Rattle.event_meaning.specs.event_meaning_under.Answered.{ComparedInEventsUnder}
-use Rattle.event_answers_under.proofs.Answering.{assumption_limit}
-use Rattle.event_answers_under.proofs.Refusals.{unmatched_under, untaken_under}
+use Rattle.event_check_under.proofs.event_answers_under.Answering.{assumption_limit}
+use Rattle.event_check_under.proofs.event_answers_under.Refusals.{unmatched_under, untaken_under}
 use Rattle.event_check_under.proofs.comparison.compare_in_events_under.Goals as goal
 
 pub returns-in_err-shared : goal.returns-in_err-shared

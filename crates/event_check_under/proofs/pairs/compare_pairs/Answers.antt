@@ -4,7 +4,7 @@ use Rattle.std.specs.List.{All}
 use Rattle.event_meaning.specs.event_meaning_under.CompareError.{CompareError}
 use Rattle.event_answers.specs.Asked.{IsPairOf}
 use Rattle.event_answers.specs.Finding.{IsNamedFound}
-use Rattle.event_answers_under.specs.Pairs.{FindsPairsUnder}
+use Rattle.event_check_under.specs.event_answers_under.Pairs.{FindsPairsUnder}
 use Rattle.event_check_under.proofs.Finding.{found_named, found_refused, pairs_found}
 use Rattle.event_check_under.proofs.pairs.compare_pairs.Goals as goal
 

@@ -1,9 +1,9 @@
 -- What is found for the latch is its first fit.
 use Rattle.std.proofs.Common.{ℕ, List, refl, sym, ap, subst}
 use Rattle.std.proofs.lemmas.Result.{on_ok_weaker}
-use Rattle.class_fits.specs.class_search.declared.class.Class.{Class}
-use Rattle.class_fits.specs.class_search.Search.{AreReadyClasses, IsFit, IsUnfit}
-use Rattle.class_totals.specs.class_queries.Enables.{both_of}
+use Rattle.class_search.specs.declared.class.Class.{Class}
+use Rattle.class_search.specs.Search.{AreReadyClasses, IsFit, IsUnfit}
+use Rattle.class_queries.specs.Enables.{both_of}
 use Rattle.event_classes.specs.Limits.{IsNamed, IsErrorOf}
 use Rattle.event_classes.specs.Map.{GoesOn, places_in, taken_of, with_next}
 use Rattle.class_totals.specs.Totals.{HaveCounted}

@@ -2,7 +2,7 @@
 use Rattle.std.proofs.Common.{◌≡◌, ◌∙◌, ◌+◌, suc, List, length, slice_get, slice_set, Some, sym, ap, subst, arith}
 use Rattle.std.proofs.lemmas.Option.{slice_get-get_or}
 use Rattle.std.specs.Vec.{with_item}
-use Rattle.class_fits.specs.class_search.declared.class.Class.{Class}
+use Rattle.class_search.specs.declared.class.Class.{Class}
 use Rattle.event_classes.specs.declared.map.ClassMap.{ClassMap}
 use Rattle.event_classes.specs.Map.{FitsIn}
 use Rattle.event_classes.proofs.NextLatch.{class_goes_on}

@@ -2,7 +2,7 @@
 use Rattle.std.proofs.Common.{◌≡◌, ◌∙◌, ◌<◌, length, get_or, slice_get, Some, refl, sym, ap, subst}
 use Rattle.std.proofs.lemmas.Option.{slice_get-get_or, slice_get_within}
 use Rattle.flat_net.proofs.Places.{one_at}
-use Rattle.class_fits.specs.class_search.declared.class.Class.{Class}
+use Rattle.class_search.specs.declared.class.Class.{Class}
 use Rattle.event_classes.specs.declared.error.EventError.TheVariants as event_error
 use Rattle.event_classes.specs.Limits.{IsNamed, IsErrorOf}
 use Rattle.event_classes.proofs.joining.limit_of.Goals as goal

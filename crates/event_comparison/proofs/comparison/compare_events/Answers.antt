@@ -4,8 +4,8 @@ use Rattle.std.proofs.lemmas.Result.{err_from_is_err_and}
 use Rattle.obligations.specs.Asked as graph_level
 use Rattle.event_findings.specs.Separated.{AreSeparated}
 use Rattle.event_findings.proofs.Telling.{separated_stay}
-use Rattle.event_findings.proofs.event_form.Asking.{later_trans}
-use Rattle.event_findings.proofs.event_form.Refusing.{error_is}
+use Rattle.event_form.proofs.Asking.{later_trans}
+use Rattle.event_form.proofs.Refusing.{error_is}
 use Rattle.event_comparison.specs.Asked.{AreAskedFrom}
 use Rattle.event_comparison.proofs.Comparing.{asked_from, compared_later, counted_on}
 use Rattle.event_comparison.proofs.Fitting.{compared_agree, compared_fits}

@@ -1,7 +1,7 @@
 -- Sorted, equal numbers stand side by side.
 use Rattle.std.proofs.Common.{eqb}
 use Rattle.std.proofs.lemmas.List.Filters.{dedup_is}
-use Rattle.event_agreement.proofs.event_variables.Sorting.{once_sorted}
+use Rattle.class_search.proofs.event_variables.Sorting.{once_sorted}
 use Rattle.event_form.proofs.nodes.once.Goals as goal
 
 pub returns : goal.returns

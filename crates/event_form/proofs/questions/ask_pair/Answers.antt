@@ -2,9 +2,9 @@
 use Rattle.std.proofs.Common.{◌<◌, [], ◌∷◌, length, Err, sym, ap, subst}
 use Rattle.std.proofs.lemmas.Result.{err_from_is_err_and}
 use Rattle.circuit_theory.specs.Joined.{Left}
-use Rattle.event_agreement.specs.event_nodes.View.{EventCircuitView}
-use Rattle.event_agreement.proofs.event_nodes.Growing.{grows_refl}
-use Rattle.event_agreement.specs.event_functions.Functions.{signal_start}
+use Rattle.class_search.specs.event_nodes.View.{EventCircuitView}
+use Rattle.class_search.proofs.event_nodes.Growing.{grows_refl}
+use Rattle.event_functions.specs.Functions.{signal_start}
 use Rattle.event_form.proofs.Asking.{function_on, later_refl, later_trans, more_is_later}
 use Rattle.event_form.proofs.Counted.{left_counted, none_counted, pair_counted, within_same}
 use Rattle.event_form.proofs.Refusing.{all_within, error_is, memory_refused, nothing_within, ok_refused, refused_later}

@@ -5,12 +5,12 @@ use Rattle.std.proofs.lemmas.List.{take_all}
 use Rattle.std.proofs.lemmas.Result.{err_from_is_err_and}
 use Rattle.std.proofs.lemmas.Option.{slice_get-get_or}
 use Rattle.interface.proofs.flat_net.Places.{All-at}
-use Rattle.event_agreement.proofs.event_nodes.Growing.{grows_refl}
+use Rattle.class_search.proofs.event_nodes.Growing.{grows_refl}
 use Rattle.interface.specs.declared.pairs.SignalPair.{SignalPair}
 use Rattle.event_agreement.specs.pair_events.View.{side_of_both}
 use Rattle.event_form.specs.Asked.{AreAsked, IsPairOf}
 use Rattle.event_form.specs.Counted.{CountsOn, left_starts, right_starts}
-use Rattle.event_agreement.specs.event_functions.Functions.{signal_start}
+use Rattle.event_functions.specs.Functions.{signal_start}
 use Rattle.event_form.proofs.Refusing.{error_is, front_within, memory_refused, ok_refused, one_within, refused_later}
 use Rattle.event_form.proofs.Asking.{asked_next, asked_queries, later_refl, later_trans, pair_on}
 use Rattle.event_form.proofs.Counted.{none_counted, counted_next}

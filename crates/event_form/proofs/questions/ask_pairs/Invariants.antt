@@ -2,7 +2,7 @@ use Rattle.std.proofs.Common.{take}
 use Rattle.event_form.specs.Asked.{AreAsked, IsLater}
 use Rattle.event_form.specs.Counted.{CountsOn}
 use Rattle.event_form.proofs.questions.ask_pairs.Given as goal
-use Rattle.event_agreement.specs.event_nodes.Nodes.{IsEventGraph}
+use Rattle.class_search.specs.event_nodes.Nodes.{IsEventGraph}
 use Rattle.event_agreement.specs.pair_events.View.{IsWithinLimits, side_of_both}
 
 abbrev pub invariant-loop-i : goal.invariant-loop-i

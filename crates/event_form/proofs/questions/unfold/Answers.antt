@@ -1,5 +1,5 @@
 -- What was made, as it is told.
-use Rattle.event_agreement.specs.event_nodes.Nodes.{GrowsEvents}
+use Rattle.class_search.specs.event_nodes.Nodes.{GrowsEvents}
 use Rattle.event_agreement.specs.event_pairs.Functions.{IsEventFunction}
 use Rattle.event_agreement.proofs.pair_events.Unfolding.{on_ok}
 use Rattle.event_agreement.specs.pair_events.Counted.{GoOnCounting}

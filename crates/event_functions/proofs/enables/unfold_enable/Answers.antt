@@ -7,7 +7,7 @@ use Rattle.event_variables.proofs.flat_net.Nets.{some_at}
 use Rattle.event_variables.specs.event_nodes.Visited.{IsWeighed, HoldsVisits, IsVisitedPair}
 use Rattle.event_variables.proofs.event_nodes.Growing.{grows_trans}
 use Rattle.event_variables.proofs.event_nodes.Lists.{adds_none}
-use Rattle.edbf_unfold.specs.event_literals.Walk.{HasCountedStart, IsCounting, enable_start}
+use Rattle.event_literals.specs.Walk.{HasCountedStart, IsCounting, enable_start}
 use Rattle.edbf_unfold.proofs.Caring.{enable_later}
 use Rattle.event_variables.proofs.Meaning.{visited_inputs}
 use Rattle.event_functions.specs.Refused.{IsOverweight}

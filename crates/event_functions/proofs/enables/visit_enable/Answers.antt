@@ -1,8 +1,8 @@
 -- An unfolder that has met nothing visits the start.
 use Rattle.std.proofs.Common.{◌≡◌, ◌∙◌, ◌<◌, ℕ, [], length, slice_get, Some, Err, refl, sym, ap, subst, arith}
 use Rattle.event_variables.specs.event_nodes.View.{EventCircuitView}
-use Rattle.edbf_unfold.specs.event_literals.Walk.{HasCountedStart, IsCounting, enable_start}
-use Rattle.edbf_unfold.specs.event_literals.Known.{IsEnableLit}
+use Rattle.event_literals.specs.Walk.{HasCountedStart, IsCounting, enable_start}
+use Rattle.event_literals.specs.Known.{IsEnableLit}
 use Rattle.edbf_unfold.specs.Care.{IsCareLit}
 use Rattle.event_variables.specs.event_nodes.Visited.{places_weight}
 use Rattle.event_variables.proofs.event_nodes.Growing.{grows_refl, grows_trans}

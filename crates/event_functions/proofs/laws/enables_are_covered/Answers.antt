@@ -1,5 +1,5 @@
 use Rattle.std.proofs.Common.{refl}
-use Rattle.edbf_unfold.specs.event_literals.Walk.{enable_start}
+use Rattle.event_literals.specs.Walk.{enable_start}
 use Rattle.event_functions.proofs.Covering.{two_roots, own_enable_supports, care_supports}
 use Rattle.event_functions.proofs.laws.enables_are_covered.Goals as goal
 

@@ -2,7 +2,7 @@
 use Rattle.std.proofs.Common.{◌∙◌, sym, arith}
 use Rattle.event_variables.proofs.event_nodes.Growing.{grows_refl}
 use Rattle.event_reach.proofs.Making.{no_nodes}
-use Rattle.edbf_unfold.specs.event_literals.Walk.{enable_start}
+use Rattle.event_literals.specs.Walk.{enable_start}
 use Rattle.event_functions.proofs.Refusing.{from_ok}
 use Rattle.event_functions.proofs.refusal.enable_nodes.Goals as goal
 

@@ -1,7 +1,7 @@
 -- What the walk said, or how many event nodes there are.
 use Rattle.event_variables.proofs.event_nodes.Growing.{grows_refl}
 use Rattle.event_reach.proofs.Making.{no_nodes}
-use Rattle.edbf_unfold.specs.event_literals.Walk.{enable_start}
+use Rattle.event_literals.specs.Walk.{enable_start}
 use Rattle.event_functions.proofs.refusal.enable_refusal.Goals as goal
 
 pub returns-in-TooLarge-clause-large : goal.returns-in-TooLarge-clause-large

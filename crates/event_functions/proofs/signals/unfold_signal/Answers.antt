@@ -6,10 +6,10 @@ use Rattle.event_variables.specs.flat_net.View.{NetView}
 use Rattle.event_variables.specs.event_nodes.Visited.{IsWeighed, HoldsVisits, IsVisitedPair}
 use Rattle.event_variables.proofs.event_nodes.Growing.{grows_trans}
 use Rattle.event_variables.proofs.event_nodes.Lists.{adds_none}
-use Rattle.edbf_unfold.specs.event_literals.Walk.{HasCountedStart, IsCounting}
+use Rattle.event_literals.specs.Walk.{HasCountedStart, IsCounting}
 use Rattle.edbf_unfold.specs.Reached.{IsReachOf}
 use Rattle.event_variables.proofs.Meaning.{visited_inputs}
-use Rattle.edbf_unfold.proofs.event_literals.Known.{known_at_later}
+use Rattle.event_literals.proofs.Known.{known_at_later}
 use Rattle.event_functions.specs.Functions.{signal_start}
 use Rattle.event_functions.specs.Refused.{IsOverweight}
 use Rattle.event_functions.proofs.Refusing.{error_is}

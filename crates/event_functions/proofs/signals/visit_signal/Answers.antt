@@ -1,8 +1,8 @@
 -- An unfolder that has met nothing visits the start.
 use Rattle.std.proofs.Common.{◌∙◌, ◌<◌, ℕ, [], length, None, Err, refl, sym, ap, subst, arith}
 use Rattle.event_variables.specs.event_nodes.View.{EventCircuitView}
-use Rattle.edbf_unfold.specs.event_literals.Walk.{HasCountedStart, IsCounting}
-use Rattle.edbf_unfold.specs.event_literals.Known.{IsKnownAt}
+use Rattle.event_literals.specs.Walk.{HasCountedStart, IsCounting}
+use Rattle.event_literals.specs.Known.{IsKnownAt}
 use Rattle.edbf_unfold.specs.Care.{IsCareLit}
 use Rattle.edbf_unfold.specs.Reached.{IsReachOf}
 use Rattle.event_functions.specs.Functions.{signal_start}

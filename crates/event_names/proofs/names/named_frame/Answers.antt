@@ -3,10 +3,10 @@ use Rattle.std.proofs.Common.{◌∙◌, List, refl, sym, subst}
 use Rattle.std.specs.List.{AllZip}
 use Rattle.std.proofs.lemmas.List.{take_all}
 use Rattle.std.proofs.lemmas.Option.{same_Some}
-use Rattle.event_fits.specs.FrameBit.{FrameBit}
+use Rattle.event_names.specs.event_fits.FrameBit.{FrameBit}
 use Rattle.event_order.proofs.LatchDepths.{item_at, zip_more}
 use Rattle.flat_net.proofs.Places.{All-at}
-use Rattle.event_fits.specs.Named.{NamesSpot}
+use Rattle.event_names.specs.event_fits.Named.{NamesSpot}
 use Rattle.event_names.specs.Nameable.{IsInputIn}
 use Rattle.event_names.proofs.names.named_frame.Goals as goal
 

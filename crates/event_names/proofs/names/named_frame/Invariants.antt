@@ -1,6 +1,6 @@
 use Rattle.std.proofs.Common.{take}
 use Rattle.std.specs.List.{AllZip}
-use Rattle.event_fits.specs.Named.{NamesSpot}
+use Rattle.event_names.specs.event_fits.Named.{NamesSpot}
 use Rattle.event_names.proofs.names.named_frame.Given as goal
 
 abbrev pub invariant-loop-bit : goal.invariant-loop-bit

@@ -5,8 +5,8 @@ use Rattle.std.proofs.lemmas.List.{take_all}
 use Rattle.std.proofs.lemmas.Option.{same_Some}
 use Rattle.event_order.proofs.LatchDepths.{item_at, zip_more}
 use Rattle.flat_net.proofs.Places.{All-at}
-use Rattle.event_fits.specs.ToldSeparation.{ToldSeparation}
-use Rattle.event_fits.specs.Named.{NamesSeparation}
+use Rattle.event_names.specs.event_fits.ToldSeparation.{ToldSeparation}
+use Rattle.event_names.specs.event_fits.Named.{NamesSeparation}
 use Rattle.event_names.specs.Nameable.{IsSeparationIn}
 use Rattle.event_names.proofs.names.named_separations.Goals as goal
 

@@ -1,6 +1,6 @@
 use Rattle.std.proofs.Common.{take}
 use Rattle.std.specs.List.{AllZip}
-use Rattle.event_fits.specs.Named.{NamesSeparation}
+use Rattle.event_names.specs.event_fits.Named.{NamesSeparation}
 use Rattle.event_names.proofs.names.named_separations.Given as goal
 
 abbrev pub invariant-loop-x : goal.invariant-loop-x

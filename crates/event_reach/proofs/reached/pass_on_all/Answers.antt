@@ -6,8 +6,7 @@ use Rattle.event_nodes.proofs.flat_net.Places.{All-at}
 use Rattle.event_nodes.specs.Nodes.{EventGraphView}
 use Rattle.event_nodes.specs.Reach.{IsReachedPlace}
 use Rattle.event_reach.specs.Made.{HasChild}
-use Rattle.event_nodes.proofs.Growing.{grows_refl}
-use Rattle.event_nodes.proofs.Growing.{grows_trans}
+use Rattle.event_nodes.proofs.Growing.{grows_refl, grows_trans}
 use Rattle.event_nodes.proofs.Lists.{adds_none, adds_trans, adds_length}
 use Rattle.event_reach.proofs.Making.{no_nodes, nodes_since, children_next}
 use Rattle.event_reach.proofs.Reaching.{reached_more, passed_more, passed_all}

@@ -1,6 +1,6 @@
 -- The setup is that of both nets.
 use Rattle.std.proofs.Common.{◌∙◌, ℕ, List, length, refl, ap, subst, sym}
-use Rattle.sec_base.specs.Table.{AreDistinct}
+use Rattle.base_tables.specs.Table.{AreDistinct}
 use Rattle.flat_net.specs.View.{ports_of}
 use Rattle.interface.proofs.Columns.{columns_once}
 use Rattle.interface.proofs.NamedPairs.{pairs_cut, pairs_named}

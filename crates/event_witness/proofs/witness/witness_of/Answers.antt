@@ -1,6 +1,6 @@
 -- The names are distinct, and each row has a bit for each; the rows, the values and the name are those of the difference.
 use Rattle.std.proofs.Common.{◌∙◌, ℕ, Bool, List, length, refl, sym, ap, subst}
-use Rattle.sec_base.specs.Table.{AreDistinct}
+use Rattle.base_tables.specs.Table.{AreDistinct}
 use Rattle.circuit_theory.specs.EventFrames.{frame_of}
 use Rattle.circuit_theory.specs.Frame.{bits_as_shifts}
 use Rattle.event_variables.specs.Variables.{variables_of}

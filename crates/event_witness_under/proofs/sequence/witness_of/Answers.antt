@@ -1,13 +1,13 @@
 -- The names are distinct, and each row has a bit for each.
 use Rattle.std.proofs.Common.{◌∙◌, ◌<◌, ℕ, Bool, List, length, refl, sym, ap, subst}
 use Rattle.std.specs.List.{All}
-use Rattle.sec_base.specs.Table.{AreDistinct}
+use Rattle.base_tables.specs.Table.{AreDistinct}
 use Rattle.circuit_theory.specs.Sequence.{sequence_rows}
 use Rattle.circuit_theory.specs.Frame.{bits_as_shifts}
 use Rattle.event_variables.specs.Variables.{variables_of}
 use Rattle.assume_laws.specs.Sequences.{filled_frame}
 use Rattle.event_shown_under.specs.assume_sequences.Filled.{bit_of}
-use Rattle.event_findings.proofs.event_witness.Told.{rows_fit}
+use Rattle.event_witness.proofs.Told.{rows_fit}
 use Rattle.event_witness_under.proofs.sequence.witness_of.Goals as goal
 
 pub rows_under-requires-clause-each : goal.rows_under-requires-clause-each

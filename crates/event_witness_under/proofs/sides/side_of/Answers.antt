@@ -2,7 +2,7 @@
 use Rattle.std.proofs.Common.{◌≢◌, ◌∙◌, ℕ, [], ◌∷◌, length, refl, sym, ap, subst}
 use Rattle.std.specs.List.{AllPairs}
 use Rattle.lane_eval.specs.Tables.{Covers}
-use Rattle.event_findings.proofs.event_witness.Covering.{bit_told}
+use Rattle.event_witness.proofs.Covering.{bit_told}
 use Rattle.event_witness_under.proofs.sides.side_of.Goals as goal
 
 pub value_in_cone-requires-clause-each : goal.value_in_cone-requires-clause-each

@@ -1,5 +1,5 @@
 use Rattle.std.proofs.Common.{◌++◌, ℕ, Option, sym, subst}
-use Rattle.sec_base.specs.Table.{AreDistinct}
+use Rattle.base_tables.specs.Table.{AreDistinct}
 use Rattle.net_assembly.specs.Built.{IsBuilt, unclocked, latch_outs}
 use Rattle.flatten.specs.Gated.{first_made, gates_in}
 use Rattle.flatten.proofs.MadeNets.{distinct_front, begun_at}

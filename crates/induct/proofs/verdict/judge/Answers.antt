@@ -1,6 +1,6 @@
 -- The variables of the first output that isn't shown.
 use Rattle.std.proofs.Common.{ℕ, List, Option, sym, subst}
-use Rattle.block_outputs.specs.declared.answer.Shown.{Shown}
+use Rattle.induct.specs.declared.block_outputs.answer.Shown.{Shown}
 use Rattle.induct.proofs.Telling.{IsFew, first_shown_small}
 use Rattle.induct.proofs.verdict.judge.Goals as goal
 

@@ -3,7 +3,7 @@ use Rattle.circuit_theory.specs.declared.Side.TheVariants.{A, B}
 use Rattle.pair_gen.specs.Words.{words_of}
 use Rattle.pair_gen.proofs.Whole.{twin_comparable}
 use Rattle.outcome.specs.declared.verdict.Outcome.{Outcome}
-use Rattle.plain_check.specs.under_base.declared.compare_base.error.CompareError.{CompareError}
+use Rattle.under_base.specs.declared.compare_base.error.CompareError.{CompareError}
 use Rattle.plain_check.specs.Compared.{Compared}
 use Rattle.job_gen.specs.gen_meaning.Found.{settings_of}
 use Rattle.job_gen.proofs.gen_meaning.Never.{never_refused}

@@ -6,8 +6,7 @@ use Rattle.latch_graph.specs.declared.states.State.{State}
 use Rattle.latch_graph.specs.declared.states.State.TheVariants.{New, Open}
 use Rattle.latch_graph.specs.declared.states.Step.{Step}
 use Rattle.latch_graph.specs.Settling.{IsLater, IsWay}
-use Rattle.signal_graph.proofs.Lists.{set_same}
-use Rattle.signal_graph.proofs.Lists.{read_at}
+use Rattle.signal_graph.proofs.Lists.{set_same, read_at}
 use Rattle.latch_graph.proofs.Ways.{way_along, way_opens, later_same, later_after, set_later}
 use Rattle.latch_graph.proofs.states.settle_from.Goals as goal
 

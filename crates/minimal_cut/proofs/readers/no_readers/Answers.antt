@@ -1,9 +1,9 @@
 -- One signal more that nothing reads.
 use Rattle.std.proofs.Common.{◌≡◌, ◌∙◌, ◌∷◌, ◌++◌, [], ℕ, List, None, Some, length, slice_get, sym, ap, subst, arith, inl, inr}
 use Rattle.std.specs.Prelude.{◌⊎◌}
-use Rattle.graph_components.specs.flat_net.declared.signals.Signal.{Signal}
-use Rattle.graph_components.specs.Node.{Node}
-use Rattle.graph_components.proofs.flat_net.Growth.{length-push, slice_get-push_cases}
+use Rattle.minimal_cut.specs.graph_components.flat_net.declared.signals.Signal.{Signal}
+use Rattle.minimal_cut.specs.graph_components.Node.{Node}
+use Rattle.minimal_cut.proofs.graph_components.flat_net.Growth.{length-push, slice_get-push_cases}
 use Rattle.minimal_cut.proofs.readers.no_readers.Goals as goal
 
 none_pushed : (xs : List Node) (y : Node) → y.reads ≡ [] → ((r : ℕ) (node : Node) → slice_get xs r ≡ Some node → node.reads ≡ []) → (r : ℕ) (node : Node) → slice_get (xs ++ y ∷ []) r ≡ Some node → node.reads ≡ []

@@ -1,5 +1,5 @@
 use Rattle.std.proofs.Common.{◌≡◌, ℕ, [], length, slice_get, Some}
-use Rattle.graph_components.specs.Node.{Node}
+use Rattle.minimal_cut.specs.graph_components.Node.{Node}
 use Rattle.minimal_cut.proofs.readers.no_readers.Given as goal
 
 abbrev pub invariant-loop-i : goal.invariant-loop-i

@@ -1,6 +1,6 @@
 use Rattle.std.proofs.Common.{◌≡◌, List, length, sym, subst, arith}
-use Rattle.graph_components.specs.Node.{Node}
-use Rattle.graph_components.proofs.Lists.{written_back}
+use Rattle.minimal_cut.specs.graph_components.Node.{Node}
+use Rattle.minimal_cut.proofs.graph_components.Lists.{written_back}
 use Rattle.minimal_cut.specs.Readers.{AreReaders}
 use Rattle.minimal_cut.proofs.Turned.{up_to_all}
 use Rattle.minimal_cut.proofs.readers.readers_of.Goals as goal

@@ -1,7 +1,7 @@
 -- What is kept is that of these graphs and positions.
 use Rattle.std.proofs.Common.{ℕ, List, subst, sym}
 use Rattle.std.specs.Prelude.{IfOk}
-use Rattle.graph_components.specs.Graph.{GraphView}
+use Rattle.minimal_cut.specs.graph_components.Graph.{GraphView}
 use Rattle.minimal_cut.specs.Chosen.{IsFree, IsMinimalChoice}
 use Rattle.minimal_cut.proofs.trial.chosen.Goals as goal
 

@@ -1,9 +1,9 @@
 -- Before the first turn, and after the last.
 use Rattle.std.proofs.Common.{◌<◌, length, List, [], subst, sym, ap, ◌∙◌}
-use Rattle.graph_components.specs.flat_net.declared.parts.LatchAt.{LatchAt}
+use Rattle.minimal_cut.specs.graph_components.flat_net.declared.parts.LatchAt.{LatchAt}
 use Rattle.std.specs.List.{All}
-use Rattle.graph_components.specs.Node.{Node}
-use Rattle.graph_components.specs.Graph.{AreNodes}
+use Rattle.minimal_cut.specs.graph_components.Node.{Node}
+use Rattle.minimal_cut.specs.graph_components.Graph.{AreNodes}
 use Rattle.minimal_cut.specs.declared.marks.Mark.{Mark}
 use Rattle.minimal_cut.specs.Marks.{AreFirst}
 use Rattle.minimal_cut.specs.Trying.{IsSide}

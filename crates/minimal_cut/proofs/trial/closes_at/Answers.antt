@@ -1,7 +1,7 @@
 -- Cycles stay within the readings that the walks go along.
 use Rattle.std.proofs.Common.{◌∙◌, ℕ, List, length, sym, ap, subst}
-use Rattle.graph_components.specs.Node.{Node}
-use Rattle.graph_components.specs.Inner.{AreInner}
+use Rattle.minimal_cut.specs.graph_components.Node.{Node}
+use Rattle.minimal_cut.specs.graph_components.Inner.{AreInner}
 use Rattle.minimal_cut.specs.Readers.{WayBack, AreReaders}
 use Rattle.minimal_cut.specs.Marks.{IsBlocked}
 use Rattle.minimal_cut.proofs.WayLemmas.{way_there, way_within}

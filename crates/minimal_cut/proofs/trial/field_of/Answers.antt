@@ -1,7 +1,7 @@
 -- The readings that can be part of a cycle are readings of the graph.
 use Rattle.std.proofs.Common.{List, length, sym, ap, subst, arith}
-use Rattle.graph_components.specs.Node.{Node}
-use Rattle.graph_components.specs.Inner.{AreInner}
+use Rattle.minimal_cut.specs.graph_components.Node.{Node}
+use Rattle.minimal_cut.specs.graph_components.Inner.{AreInner}
 use Rattle.minimal_cut.specs.Readers.{AreReaders}
 use Rattle.minimal_cut.proofs.WayLemmas.{inner_within}
 use Rattle.minimal_cut.proofs.trial.field_of.Goals as goal

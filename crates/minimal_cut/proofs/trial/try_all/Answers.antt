@@ -2,7 +2,7 @@
 use Rattle.std.proofs.Common.{◌≡◌, ◌<◌, ℕ, List, length, get_or, sym, ap, ◌∙◌, subst, arith}
 use Rattle.std.specs.Prelude.{◌||◌}
 use Rattle.std.proofs.lemmas.Option.{slice_get-get_or}
-use Rattle.graph_components.proofs.flat_net.Places.{All-at}
+use Rattle.minimal_cut.proofs.graph_components.flat_net.Places.{All-at}
 use Rattle.minimal_cut.specs.Trying.{AreTried}
 use Rattle.minimal_cut.proofs.Sides.{signal_within}
 use Rattle.minimal_cut.proofs.Tried.{few_positions, tried_turn}

@@ -1,4 +1,4 @@
-use Rattle.root_classes.proofs.aig.CoverMeaning.{value-zero}
+use Rattle.lane_eval.proofs.root_classes.aig.CoverMeaning.{value-zero}
 use Rattle.node_agreement.proofs.signs.zero.Goals as goal
 
 pub returns-clause-value : goal.returns-clause-value

@@ -1,6 +1,6 @@
 use Rattle.std.proofs.Common.{◌≡◌, ◌∙◌, length, sym, ap, subst}
 use Rattle.circuit_theory.specs.Query.{bits_of}
-use Rattle.root_classes.proofs.lane_eval.Numbered.{bits_of-length}
+use Rattle.lane_eval.proofs.Numbered.{bits_of-length}
 use Rattle.node_agreement.specs.Answers.{DifferAt}
 use Rattle.node_agreement.proofs.table.differing_by.Goals as goal
 

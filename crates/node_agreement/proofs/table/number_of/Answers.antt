@@ -1,6 +1,6 @@
 use Rattle.std.proofs.Common.{arith}
-use Rattle.root_classes.proofs.aig.Insert.{graph-some}
-use Rattle.root_classes.proofs.Assigned.{inputs-distinct}
+use Rattle.lane_eval.proofs.root_classes.aig.Insert.{graph-some}
+use Rattle.lane_eval.proofs.root_classes.Assigned.{inputs-distinct}
 use Rattle.node_agreement.proofs.Asked.{all-covered, table-found}
 use Rattle.node_agreement.proofs.table.number_of.Goals as goal
 

@@ -1,7 +1,7 @@
 use Rattle.std.proofs.Common.{◌≡◌, ◌∙◌, List, Bool, [], ◌∷◌, ◌++◌, ℕ, length, take, slice_get, Some, refl, sym, ap, subst, arith}
 use Rattle.std.proofs.lemmas.List.{length-take-le, take_all}
 use Rattle.cycle_sim.proofs.Lists.{item_at}
-use Rattle.sec_base.proofs.TableLemmas.{take-push}
+use Rattle.base_tables.proofs.TableLemmas.{take-push}
 use Rattle.pair_runs.specs.Feeds.{fed, PutsCycles}
 use Rattle.pair_runs.proofs.Fed.{at_first, can_step, places_stay}
 use Rattle.pair_runs.proofs.ShownPairs.{IsAt, at_more}

@@ -2,7 +2,7 @@
 use Rattle.std.proofs.Common.{◌≡◌, ◌∙◌, ℕ, suc, Bool, List, length, sym, ap, subst}
 use Rattle.std.specs.List.{All}
 use Rattle.circuit_theory.specs.Sequence.{sequence_rows}
-use Rattle.sec_base.specs.Table.{AreDistinct}
+use Rattle.base_tables.specs.Table.{AreDistinct}
 use Rattle.plain_asked.specs.Sequences.{bits_at, IsSequence}
 use Rattle.shift_variables.proofs.CycleRows.{rows_fit}
 use Rattle.plain_asked.proofs.witness.witness_of.Goals as goal

@@ -1,6 +1,6 @@
 -- What an outcome from the initial values that fits two nets under an assumption says of their circuits.
 use Rattle.std.specs.Prelude.{◌≡◌, ℕ, Bool, map}
-use Rattle.sec_base.specs.Table.{AreDistinct}
+use Rattle.base_tables.specs.Table.{AreDistinct}
 use Rattle.flat_net.specs.Sound.{IsSound}
 use Rattle.flat_net.specs.View.{NetView, circuit_of}
 use Rattle.outcome.specs.declared.verdict.Outcome.{Outcome}

@@ -5,9 +5,8 @@ use Rattle.circuit_theory.proofs.Lists.{of_at}
 use Rattle.sec_setup.specs.interface.declared.pairs.SignalPair.{SignalPair}
 use Rattle.shift_variables.proofs.Reading.{item_at}
 use Rattle.reset_functions.specs.Pairs.{AreTops}
-use Rattle.reset_functions.proofs.OwnPairs.{own_pairs}
+use Rattle.reset_functions.proofs.OwnPairs.{own_pairs, output_within}
 use Rattle.reset_functions.proofs.Growing.{tops_next}
-use Rattle.reset_functions.proofs.OwnPairs.{output_within}
 use Rattle.reset_functions.proofs.functions.tops_of.Goals as goal
 
 pub pair_depth-depth-requires-clause-left : goal.pair_depth-depth-requires-clause-left

@@ -4,9 +4,8 @@ use Rattle.std.specs.List.{All, AllZip}
 use Rattle.circuit_theory.specs.declared.Side.TheVariants.{A, B}
 use Rattle.sec_setup.specs.interface.declared.pairs.SignalPair.{SignalPair}
 use Rattle.reset_functions.specs.Pairs.{AreCyclesOf, IsAmong, IsLeftSide, IsRightSide, IsLight, IsRefusalOf, Unfolds}
-use Rattle.reset_functions.proofs.OwnPairs.{own_pairs}
+use Rattle.reset_functions.proofs.OwnPairs.{own_pairs, output_within}
 use Rattle.reset_functions.proofs.Growing.{all_later, among_is_side, side_is_among, light_as, tops_within}
-use Rattle.reset_functions.proofs.OwnPairs.{output_within}
 use Rattle.reset_functions.proofs.Parts.{is_order, left_room, right_inputs_below, refused_left, refused_right, refusal_as}
 use Rattle.reset_functions.proofs.functions.unfold_pairs.Goals as goal
 

@@ -1,6 +1,6 @@
 -- The setup is that of both nets.
 use Rattle.std.proofs.Common.{◌≡◌, ◌∙◌, List, ℕ, length, sym, ap, subst}
-use Rattle.interface.specs.sec_base.Table.{AreDistinct}
+use Rattle.base_tables.specs.Table.{AreDistinct}
 use Rattle.interface.specs.flat_net.View.{circuit_of, ports_of}
 use Rattle.sec_setup.specs.Cuts.{AreCutAt, columns_of}
 use Rattle.interface.specs.Pairs.{named_pairs}

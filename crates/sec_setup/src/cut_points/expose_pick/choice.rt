@@ -2,7 +2,7 @@
 
 ghost use Rattle.std.specs.Prelude.{◌≡◌, ◌≢◌, ◌<◌, All, length, IfOk, OnOk, IfErr};
 ghost use Rattle.std.specs.List.{AllPairs};
-ghost use Rattle.latch_graph.specs.sec_base.Table.{AreDistinct};
+ghost use Rattle.base_tables.specs.Table.{AreDistinct};
 ghost use Rattle.minimal_cut.specs.Chosen.{IsFree, IsMinimalChoice};
 ghost use Rattle.sec_setup.specs.cut_points.expose_pick.Pairs.{lefts, rights};
 ghost use Rattle.sec_setup.specs.cut_points.expose_pick.Refused.{Refuses};

@@ -4,8 +4,8 @@ use Rattle.std.specs.Prelude.{Contains}
 use Rattle.circuit_theory.proofs.Lists.{Contains-map, of_at}
 use Rattle.flat_net.specs.declared.parts.Port.{Port}
 use Rattle.cycle_sim.proofs.Lists.{item_at}
-use Rattle.name_tables.specs.Names.{input_names}
-use Rattle.name_tables.proofs.Names.{missing_none}
+use Rattle.interface.specs.name_tables.Names.{input_names}
+use Rattle.interface.proofs.name_tables.Names.{missing_none}
 use Rattle.sim_report.proofs.Places.{each_more}
 use Rattle.sim_report.proofs.columns.columns_of.Goals as goal
 

@@ -3,7 +3,7 @@ use Rattle.std.proofs.Common.{◌≡◌, ◌<◌, ◌≤◌, ◌∙◌, ◌+◌,
 use Rattle.std.specs.Vec.{with_items}
 use Rattle.std.proofs.lemmas.List.{with_items_is, map-append, length-map, length-take-le, take_all}
 use Rattle.std.specs.List.{All}
-use Rattle.sec_base.proofs.TableLemmas.{take-push}
+use Rattle.base_tables.proofs.TableLemmas.{take-push}
 use Rattle.cycle_sim.specs.View.{HasMarkedRun}
 use Rattle.cycle_sim.proofs.Lists.{item_at}
 use Rattle.sim_report.specs.Checks.{start_bits}

@@ -1,6 +1,6 @@
 use Rattle.std.proofs.Common.{◌/◌, ◌%◌, Bool, not, List, ℕ, [], slice_index_or, sym, ◌∙◌, ap, eq-eqb, true≢false}
 use Rattle.swept_queries.proofs.ToldApart.{apart-eqb}
-use Rattle.sweep.specs.lane_eval.Blocks.{block_bit, word_bit, turned}
+use Rattle.swept_queries.specs.sweep.lane_eval.Blocks.{block_bit, word_bit, turned}
 use Rattle.swept_queries.proofs.apart.lane_bit.Goals as goal
 
 pub returns-then-is_complement : goal.returns-then-is_complement

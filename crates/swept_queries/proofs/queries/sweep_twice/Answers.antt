@@ -1,6 +1,6 @@
 -- What is moved twice is moved.
 use Rattle.std.proofs.Common.{◌*◌, ◌∙◌, sym, ap}
-use Rattle.sweep.proofs.pair_decide.Read.{IfOk-then}
+use Rattle.swept_queries.proofs.sweep.pair_decide.Read.{IfOk-then}
 use Rattle.swept_queries.proofs.Stand.{moved_within, moved_twice}
 use Rattle.swept_queries.proofs.queries.sweep_twice.Goals as goal
 

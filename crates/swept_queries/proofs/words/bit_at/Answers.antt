@@ -1,6 +1,6 @@
 use Rattle.std.proofs.Common.{ℕ, ◌/◌, ◌%◌, ◌^◌, ap}
 use Rattle.std.specs.Prelude.{◌==◌}
-use Rattle.sweep.specs.lane_eval.Blocks.{word_bit}
+use Rattle.swept_queries.specs.sweep.lane_eval.Blocks.{word_bit}
 use Rattle.swept_queries.proofs.words.bit_at.Goals as goal
 
 pub returns : goal.returns

@@ -5,8 +5,8 @@ use Rattle.circuit_theory.specs.Joined.{Left}
 use Rattle.event_nodes.specs.View.{EventCircuitView}
 use Rattle.event_nodes.proofs.Growing.{grows_refl}
 use Rattle.event_form.specs.Functions.{signal_start}
-use Rattle.class_events.specs.Functions.{IsEventFunction}
-use Rattle.class_events.specs.View.{side_of_both}
+use Rattle.unshown_pairs.specs.class_events.Functions.{IsEventFunction}
+use Rattle.unshown_pairs.specs.class_events.View.{side_of_both}
 use Rattle.event_form.proofs.Asking.{function_on, later_refl, later_trans}
 use Rattle.event_form.proofs.Counted.{left_counted, none_counted}
 use Rattle.event_form.proofs.Refusing.{all_within, error_is, memory_refused, nothing_within, ok_refused, refused_later}

@@ -3,15 +3,14 @@ use Rattle.std.proofs.Common.{◌≡◌, ◌∙◌, ◌<◌, ◌≤◌, ℕ, tru
 use Rattle.std.proofs.lemmas.Result.{err_from_is_err_and}
 use Rattle.std.specs.List.{All, AllPairs, AllZip}
 use Rattle.circuit_theory.proofs.Lists.{All-from_each}
-use Rattle.event_nodes.specs.Nodes.{EventGraphView}
-use Rattle.class_events.specs.View.{EventsView}
-use Rattle.class_events.specs.Separated.{AreSeparated}
-use Rattle.class_events.proofs.Telling.{separated_stay}
+use Rattle.event_nodes.specs.Nodes.{EventGraphView, IsEventGraph}
+use Rattle.unshown_pairs.specs.class_events.View.{EventsView}
+use Rattle.unshown_pairs.specs.class_events.Separated.{AreSeparated}
+use Rattle.unshown_pairs.proofs.class_events.Telling.{separated_stay}
 use Rattle.event_form.specs.Asked.{IsLater}
 use Rattle.event_form.specs.Functions.{signal_start}
 use Rattle.event_form.proofs.Refusing.{memory_refused, ok_refused}
-use Rattle.class_events.specs.class_separations.declared.apart.Apart.{Apart}
-use Rattle.event_nodes.specs.Nodes.{IsEventGraph}
+use Rattle.class_separations.specs.declared.apart.Apart.{Apart}
 use Rattle.unshown_pairs.specs.Classes.{AreEntered}
 use Rattle.unshown_pairs.specs.Telling.{IsToldAt, two_of}
 use Rattle.unshown_pairs.proofs.Separating.{classes_low, separations_are}

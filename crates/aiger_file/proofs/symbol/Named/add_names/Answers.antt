@@ -1,5 +1,5 @@
 use Rattle.std.proofs.Common.{◌≡◌, ◌+◌, ◌-◌, ◌||◌, ◌∷◌, ◌++◌, [], List, ℕ, Bool, false, cond, sym, ◌∙◌, ap, subst, arith, append_assoc}
-use Rattle.sec_base.specs.Table.{is_among}
+use Rattle.base_tables.specs.Table.{is_among}
 use Rattle.aiger_file.specs.Names.{names_from, name_of, repeats}
 use Rattle.aiger_file.proofs.NamesFound.{next_name, none_repeats_by}
 use Rattle.aiger_file.proofs.symbol.Named.add_names.Goals as goal

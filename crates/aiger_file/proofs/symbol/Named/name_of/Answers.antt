@@ -1,7 +1,7 @@
 use Rattle.std.proofs.Common.{◌≡◌, List, ℕ, false, slice_get, Some, sym, ◌∙◌, ap, subst, arith}
 use Rattle.std.specs.Prelude.{IfOk}
 use Rattle.std.proofs.lemmas.Option.{slice_get_within}
-use Rattle.sec_base.specs.Table.{is_among}
+use Rattle.base_tables.specs.Table.{is_among}
 use Rattle.aiger_file.specs.Names.{key_of}
 use Rattle.aiger_file.proofs.NamesFound.{name_there, name_absent}
 use Rattle.aiger_file.proofs.symbol.Named.name_of.Goals as goal

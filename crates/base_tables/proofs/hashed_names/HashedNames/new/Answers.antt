@@ -1,6 +1,6 @@
 -- No names stand in no places.
 use Rattle.std.proofs.Common.{ℕ, List, map, sym, ap, ◌∙◌, Vec, Global}
-use Rattle.unique_table.proofs.Filling.{table-none}
+use Rattle.base_tables.proofs.unique_table.Filling.{table-none}
 use Rattle.base_tables.specs.declared.name_search.TheConstants.{TRIES}
 use Rattle.base_tables.specs.Hashed.{hash_of, name_place}
 use Rattle.base_tables.proofs.hashed_names.HashedNames.new.Goals as goal

@@ -1,8 +1,8 @@
 -- A new name gets the next number, at the first free place.
 use Rattle.std.proofs.Common.{◌≡◌, ◌+◌, ◌<◌, ◌^◌, ◌∙◌, ℕ, List, [], ◌∷◌, ◌++◌, length, map, set, Contains, sym, ap, subst, arith, Vec, Global}
 use Rattle.std.proofs.lemmas.List.{map-append, length-map}
-use Rattle.unique_table.specs.Places.{IsFree, IsTable}
-use Rattle.unique_table.proofs.Filling.{table-put}
+use Rattle.base_tables.specs.unique_table.Places.{IsFree, IsTable}
+use Rattle.base_tables.proofs.unique_table.Filling.{table-put}
 use Rattle.base_tables.specs.declared.name_search.TheConstants.{TRIES}
 use Rattle.base_tables.specs.Hashed.{hash_of, name_place, place_from, IsNameTable}
 use Rattle.base_tables.specs.Table.{is_among}

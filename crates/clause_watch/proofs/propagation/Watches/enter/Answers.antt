@@ -1,6 +1,5 @@
-use Rattle.std.proofs.Common.{arith}
+use Rattle.std.proofs.Common.{arith, ◌<◌, ◌≤◌, subst, sym}
 use Rattle.clause_watch.proofs.Loading.{entered_long, entered_force}
-use Rattle.std.proofs.Common.{◌<◌, ◌≤◌, subst, sym}
 use Rattle.clause_base.specs.Literals.{Literal}
 use Rattle.clause_watch.specs.Range.{AllInRange}
 use Rattle.clause_watch.proofs.Lists.{at_number}

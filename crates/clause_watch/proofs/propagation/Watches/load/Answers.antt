@@ -1,7 +1,5 @@
-use Rattle.std.proofs.Common.{◌∙◌}
-use Rattle.clause_watch.proofs.Loading.{loaded_conflict, loaded_more, never_gone}
-use Rattle.std.proofs.Common.{arith}
-use Rattle.clause_watch.proofs.Loading.{loaded_whole}
+use Rattle.std.proofs.Common.{◌∙◌, arith}
+use Rattle.clause_watch.proofs.Loading.{loaded_conflict, loaded_more, never_gone, loaded_whole}
 use Rattle.clause_watch.proofs.propagation.Watches.load.Goals as goal
 use Rattle.clause_watch.proofs.propagation.Watches.load.Goals.{in-Stays, in-Gone}
 

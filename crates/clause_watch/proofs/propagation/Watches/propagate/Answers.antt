@@ -1,6 +1,5 @@
-use Rattle.std.proofs.Common.{arith}
+use Rattle.std.proofs.Common.{arith, ◌∙◌, ◌+◌, ℕ, Option, subst}
 use Rattle.clause_watch.proofs.Visits.{quiet_end}
-use Rattle.std.proofs.Common.{◌∙◌, ◌+◌, ℕ, Option, subst}
 use Rattle.clause_watch.specs.Watching.{IsWatched, IsRowVisited}
 use Rattle.clause_watch.proofs.propagation.Watches.propagate.Goals as goal
 

@@ -1,6 +1,5 @@
-use Rattle.std.proofs.Common.{refl, arith}
+use Rattle.std.proofs.Common.{refl, arith, ◌≡◌, ◌∙◌, ℕ, List, length, subst}
 use Rattle.clause_watch.proofs.Visits.{visit_start, visit_end}
-use Rattle.std.proofs.Common.{◌≡◌, ◌∙◌, ℕ, List, length, subst}
 use Rattle.clause_base.specs.Literals.{Literal}
 use Rattle.clause_watch.specs.Rows.{row}
 use Rattle.clause_watch.specs.Trails.{TrailView}

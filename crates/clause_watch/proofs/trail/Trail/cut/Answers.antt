@@ -1,8 +1,7 @@
-use Rattle.std.proofs.Common.{arith, subst, List}
+use Rattle.std.proofs.Common.{arith, subst, List, ap, take}
 use Rattle.clause_watch.specs.Index.{IsIndex}
 use Rattle.clause_watch.specs.declared.entry.Entry.{Entry}
 use Rattle.clause_watch.proofs.Index.{index_pop_at, popped_inside}
-use Rattle.std.proofs.Common.{ap, take}
 use Rattle.clause_watch.specs.Trails.{TrailView}
 use Rattle.clause_watch.proofs.trail.Trail.cut.Goals as goal
 

@@ -1,6 +1,5 @@
-use Rattle.std.proofs.Common.{◌≡◌, arith}
+use Rattle.std.proofs.Common.{◌≡◌, arith, ◌∙◌, [], length, ap, sym, None}
 use Rattle.clause_watch.proofs.Index.{index_start}
-use Rattle.std.proofs.Common.{◌∙◌, [], length, ap, sym, None}
 use Rattle.std.proofs.lemmas.List.{replicate_more, length-replicate}
 use Rattle.clause_watch.proofs.Visits.{same_trail}
 use Rattle.clause_watch.proofs.trail.Trail.new.Goals as goal

@@ -1,10 +1,9 @@
 use Rattle.std.proofs.Common.{List, [], ◌∷◌, length, length-append, length-set, ap, sym, ◌∙◌, subst, arith, ◌≡◌, ◌-◌, ◌+◌, Some}
-use Rattle.clause_watch.specs.Index.{mark_of}
+use Rattle.clause_watch.specs.Index.{mark_of, IsIndex}
 use Rattle.clause_watch.specs.Trails.{TrailView, FreeBefore}
 use Rattle.clause_watch.specs.declared.entry.Entry.{Entry}
 use Rattle.clause_watch.proofs.Index.{index_push_at}
 use Rattle.clause_watch.proofs.Trails.{entry_of}
-use Rattle.clause_watch.specs.Index.{IsIndex}
 use Rattle.clause_watch.proofs.trail.Trail.push.Goals as goal
 
 pub invariant_of-self-2 : goal.invariant_of-self-2

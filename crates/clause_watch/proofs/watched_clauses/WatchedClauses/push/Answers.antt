@@ -1,8 +1,6 @@
-use Rattle.std.proofs.Common.{◌≡◌, ◌≤◌, length, arith}
-use Rattle.clause_watch.specs.TwoWatches.{KeepsWatches}
+use Rattle.std.proofs.Common.{◌≡◌, ◌≤◌, length, arith, ℕ, subst}
+use Rattle.clause_watch.specs.TwoWatches.{KeepsWatches, WatchedView, IsPushed, IsInBothRows}
 use Rattle.clause_watch.proofs.Keeping.{keeps_as, keeps_same, keeps_short_either, keeps_long_as, ok_of}
-use Rattle.std.proofs.Common.{ℕ, subst}
-use Rattle.clause_watch.specs.TwoWatches.{WatchedView, IsPushed, IsInBothRows}
 use Rattle.clause_watch.proofs.watched_clauses.WatchedClauses.push.Goals as goal
 
 pub invariant_of-self : goal.invariant_of-self

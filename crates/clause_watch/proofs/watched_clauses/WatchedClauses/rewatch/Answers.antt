@@ -1,15 +1,12 @@
 use Rattle.std.proofs.Common.{◌≡◌, length, sym, ap, subst, arith, refl, Some, List}
 use Rattle.std.specs.Prelude.{slice_get}
 use Rattle.std.proofs.lemmas.Option.{slice_get_within}
-use Rattle.clause_watch.specs.Rows.{row}
+use Rattle.clause_watch.specs.Rows.{row, IsAdded}
 use Rattle.clause_watch.specs.TwoWatches.{WatchedView, IsWatch}
 use Rattle.clause_watch.specs.declared.watchers.Watcher.{Watcher}
 use Rattle.clause_watch.proofs.Keeping.{keeps_same, keeps_rewatched}
-use Rattle.clause_watch.specs.TwoWatches.{WatchedView}
-use Rattle.clause_watch.specs.declared.watchers.Watcher.{Watcher}
 use Rattle.clause_watch.specs.declared.pair.Pair.{Pair}
 use Rattle.std.proofs.Math.ListN.{set}
-use Rattle.clause_watch.specs.Rows.{IsAdded}
 use Rattle.clause_watch.proofs.watched_clauses.WatchedClauses.rewatch.Goals as goal
 
 pub invariant_of-self : goal.invariant_of-self

@@ -1,6 +1,5 @@
-use Rattle.std.proofs.Common.{arith}
+use Rattle.std.proofs.Common.{arith, []}
 use Rattle.clause_watch.proofs.Writing.{all_empty}
-use Rattle.std.proofs.Common.{[]}
 use Rattle.std.proofs.lemmas.List.{replicate_more}
 use Rattle.clause_watch.proofs.watchers.Watchers.new.Goals as goal
 

@@ -1,5 +1,4 @@
-use Rattle.clause_watch.proofs.Writing.{row_within, put}
-use Rattle.clause_watch.proofs.Writing.{in_row}
+use Rattle.clause_watch.proofs.Writing.{row_within, put, in_row}
 use Rattle.clause_watch.proofs.watchers.Watchers.put.Goals as goal
 
 pub returns : goal.returns

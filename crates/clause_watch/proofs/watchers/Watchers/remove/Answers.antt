@@ -1,5 +1,4 @@
-use Rattle.clause_watch.proofs.Writing.{row_within, removed}
-use Rattle.clause_watch.proofs.Writing.{in_row}
+use Rattle.clause_watch.proofs.Writing.{row_within, removed, in_row}
 use Rattle.clause_watch.proofs.watchers.Watchers.remove.Goals as goal
 
 pub returns : goal.returns

@@ -1,8 +1,8 @@
 -- The enable, and the and with it.
 use Rattle.std.proofs.Common.{◌*◌, ◌<◌, ℕ, length, arith}
-use Rattle.event_literals.specs.event_nodes.Graph.{flip}
-use Rattle.event_literals.proofs.event_nodes.Growth.{Grows-length}
-use Rattle.event_literals.proofs.event_nodes.Literals.{flip-within}
+use Rattle.event_nodes.specs.Graph.{flip}
+use Rattle.event_nodes.proofs.Growth.{Grows-length}
+use Rattle.event_nodes.proofs.Literals.{flip-within}
 use Rattle.event_literals.proofs.Lits.{cover_grown}
 use Rattle.event_literals.proofs.OrStaying.{IsShortOr-grows}
 use Rattle.event_literals.proofs.Going.{grown_trans, grown_within}

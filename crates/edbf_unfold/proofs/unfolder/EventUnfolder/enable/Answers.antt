@@ -4,12 +4,12 @@ use Rattle.event_literals.specs.LatchAt.{LatchAt}
 use Rattle.event_literals.specs.Sound.{IsSound}
 use Rattle.event_literals.specs.View.{NetView}
 use Rattle.event_literals.proofs.Places.{one_at}
-use Rattle.event_literals.specs.event_nodes.View.{EventCircuitView, IsEventCircuit}
-use Rattle.event_literals.specs.event_nodes.Visited.{IsWeighed}
-use Rattle.event_literals.proofs.event_nodes.Growing.{grows_trans}
-use Rattle.event_literals.proofs.event_nodes.Lists.{adds_trans}
-use Rattle.event_literals.specs.event_walk.declared.frames.Put.TheVariants.{Low}
-use Rattle.event_literals.specs.event_walk.declared.frames.Ways.{Ways}
+use Rattle.event_nodes.specs.View.{EventCircuitView, IsEventCircuit}
+use Rattle.event_nodes.specs.Visited.{IsWeighed}
+use Rattle.event_nodes.proofs.Growing.{grows_trans}
+use Rattle.event_nodes.proofs.Lists.{adds_trans}
+use Rattle.event_literals.specs.declared.event_walk.frames.Put.TheVariants.{Low}
+use Rattle.event_literals.specs.declared.event_walk.frames.Ways.{Ways}
 use Rattle.edbf_unfold.specs.Care.{IsCareLit}
 use Rattle.event_literals.specs.Known.{IsEnableLit}
 use Rattle.event_literals.specs.event_walk.Walk.{IsCounting, HasCountedStart, enable_start}

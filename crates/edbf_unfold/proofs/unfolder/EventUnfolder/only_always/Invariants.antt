@@ -1,5 +1,5 @@
 use Rattle.std.proofs.Common.{◌≡◌, ◌<◌, ℕ, slice_get, Some}
-use Rattle.event_literals.specs.event_nodes.View.{side_of}
+use Rattle.event_nodes.specs.View.{side_of}
 use Rattle.edbf_unfold.specs.Reached.{IsOpenPlace}
 use Rattle.edbf_unfold.proofs.unfolder.EventUnfolder.only_always.Given as goal
 

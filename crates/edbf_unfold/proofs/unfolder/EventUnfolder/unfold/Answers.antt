@@ -1,10 +1,10 @@
 -- The value and the care of what the walk met.
 use Rattle.std.proofs.Common.{◌≡◌, ◌∙◌, List, length, slice_get, Some, None, refl, sym, ap, subst, arith}
 use Rattle.event_literals.specs.Sound.{IsSound}
-use Rattle.event_literals.specs.event_nodes.View.{EventCircuitView, IsEventCircuit}
-use Rattle.event_literals.proofs.event_nodes.Growing.{grows_trans}
-use Rattle.event_literals.specs.event_walk.declared.frames.Put.TheVariants.{Free}
-use Rattle.event_literals.specs.event_walk.declared.frames.Ways.{Ways}
+use Rattle.event_nodes.specs.View.{EventCircuitView, IsEventCircuit}
+use Rattle.event_nodes.proofs.Growing.{grows_trans}
+use Rattle.event_literals.specs.declared.event_walk.frames.Put.TheVariants.{Free}
+use Rattle.event_literals.specs.declared.event_walk.frames.Ways.{Ways}
 use Rattle.edbf_unfold.specs.Reached.{AreNodesOf}
 use Rattle.event_literals.specs.Built.{AreMetOn}
 use Rattle.edbf_unfold.proofs.Finishing.{root_later, unfolded_more, counting_same, finished_care, finished_count, finished_reach, onward_at, framed_at}

@@ -3,8 +3,8 @@ use Rattle.std.proofs.Common.{◌≡◌, ◌∙◌, slice_get, Some, ap, subst}
 use Rattle.event_literals.specs.Driver.TheVariants as driver
 use Rattle.event_literals.specs.View.{NetView}
 use Rattle.event_literals.proofs.Places.{one_at}
-use Rattle.event_literals.specs.event_nodes.View.{EventCircuitView}
-use Rattle.event_literals.proofs.event_nodes.Drivers.{latch_of_equation}
+use Rattle.event_nodes.specs.View.{EventCircuitView}
+use Rattle.event_nodes.proofs.Drivers.{latch_of_equation}
 use Rattle.edbf_unfold.proofs.Caring.{with_none}
 use Rattle.event_literals.proofs.event_walk.Lent.{drives_of, sound_of}
 use Rattle.edbf_unfold.proofs.unfolder.EventUnfolder.with_enable.Goals as goal

@@ -2,9 +2,9 @@
 use Rattle.std.proofs.Common.{◌≡◌, ◌∙◌, ◌<◌, length, slice_get, Some, sym, ap, subst}
 use Rattle.std.proofs.lemmas.Option.{slice_get_within}
 use Rattle.event_literals.specs.View.{NetView}
-use Rattle.event_literals.specs.event_nodes.View.{EventCircuitView, Enabled}
-use Rattle.event_literals.proofs.event_nodes.Drivers.{driven_latch, latch_out, latch_equation_stands}
-use Rattle.event_literals.specs.event_walk.declared.frames.Step.{Step}
+use Rattle.event_nodes.specs.View.{EventCircuitView, Enabled}
+use Rattle.event_nodes.proofs.Drivers.{driven_latch, latch_out, latch_equation_stands}
+use Rattle.event_literals.specs.declared.event_walk.frames.Step.{Step}
 use Rattle.edbf_unfold.proofs.Caring.{with_none, with_own, low_met, high_met}
 use Rattle.event_literals.proofs.Going.{are_known_later}
 use Rattle.event_literals.proofs.event_walk.Lent.{sound_of, latch_of_lent}

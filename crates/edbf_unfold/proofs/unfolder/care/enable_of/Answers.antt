@@ -1,8 +1,8 @@
 -- The short literal, or not both not the one and the other.
 use Rattle.std.proofs.Common.{◌≡◌, ◌*◌, ◌<◌, ℕ, List, Some, None, length, sym, subst, arith}
-use Rattle.event_literals.specs.event_nodes.Graph.{flip}
-use Rattle.event_literals.specs.event_nodes.Node.{Node}
-use Rattle.event_literals.specs.event_nodes.Rules.{IsAndOf}
+use Rattle.event_nodes.specs.Graph.{flip}
+use Rattle.event_nodes.specs.Node.{Node}
+use Rattle.event_nodes.specs.Rules.{IsAndOf}
 use Rattle.event_literals.specs.ShortOr.{short_or, IsShortOr}
 use Rattle.event_literals.proofs.Lits.{cover_grown, grown_none}
 use Rattle.event_literals.proofs.OrStaying.{short_is, made_is}

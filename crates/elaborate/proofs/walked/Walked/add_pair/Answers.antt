@@ -1,5 +1,5 @@
 use Rattle.std.proofs.Common.{ℕ, List, ◌∷◌, [], ◌++◌, Some, sym, ◌∙◌, ap, subst, refl}
-use Rattle.blif_read.specs.sec_base.Table.{is_among}
+use Rattle.base_tables.specs.Table.{is_among}
 use Rattle.elaborate.specs.declared.walked.Walked.{Walked}
 use Rattle.elaborate.specs.State.{Adds, pair_between}
 use Rattle.elaborate.proofs.Spelled.{input_added, output_added}

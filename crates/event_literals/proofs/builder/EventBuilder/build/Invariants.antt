@@ -1,8 +1,8 @@
 use Rattle.std.proofs.Common.{◌≡◌, ◌<◌, ℕ, slice_get, Some, take}
 use Rattle.std.specs.List.{sum_by}
-use Rattle.event_walk.specs.declared.frames.Step.{Step}
+use Rattle.event_literals.specs.declared.event_walk.frames.Step.{Step}
 use Rattle.event_literals.specs.Known.{AreKnown, IsMet, IsLater}
-use Rattle.event_walk.specs.event_nodes.Weights.{weight_at}
+use Rattle.event_nodes.specs.Weights.{weight_at}
 use Rattle.event_literals.proofs.builder.EventBuilder.build.Given as goal
 
 abbrev pub invariant-loop-step : goal.invariant-loop-step

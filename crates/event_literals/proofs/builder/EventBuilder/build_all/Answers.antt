@@ -2,12 +2,12 @@
 use Rattle.std.proofs.Common.{◌∙◌, ◌+◌, ◌^◌, ◌<◌, List, length, ap, sym, subst, arith}
 use Rattle.std.proofs.lemmas.Result.{on_ok_weaker}
 use Rattle.std.specs.List.{sum_by}
-use Rattle.event_walk.specs.flat_net.Sound.{IsSound}
-use Rattle.event_walk.specs.event_nodes.View.{EventCircuitView}
-use Rattle.event_walk.specs.event_nodes.Weights.{weight_at}
-use Rattle.event_walk.specs.declared.frames.Step.{Step}
-use Rattle.event_walk.specs.Plan.{IsPlanOf}
-use Rattle.event_walk.specs.Ready.{IsPlan}
+use Rattle.event_nodes.specs.flat_net.Sound.{IsSound}
+use Rattle.event_nodes.specs.View.{EventCircuitView}
+use Rattle.event_nodes.specs.Weights.{weight_at}
+use Rattle.event_literals.specs.declared.event_walk.frames.Step.{Step}
+use Rattle.event_literals.specs.event_walk.Plan.{IsPlanOf}
+use Rattle.event_literals.specs.event_walk.Ready.{IsPlan}
 use Rattle.event_literals.specs.Known.{EventUnfolderView, IsLater}
 use Rattle.event_literals.proofs.Going.{later_none}
 use Rattle.event_literals.proofs.Rooted.{expanded_frames, expanded_plan, table_met}

@@ -1,6 +1,6 @@
 -- The place was met before, or its literal is kept.
 use Rattle.std.proofs.Common.{refl}
-use Rattle.event_walk.specs.event_nodes.Weights.{weight_at}
+use Rattle.event_nodes.specs.Weights.{weight_at}
 use Rattle.event_literals.proofs.Going.{later_none, are_known_later, kept_known, kept_later, kept_none, none_known, kept_met}
 use Rattle.event_literals.proofs.builder.EventBuilder.build_step.Goals as goal
 

@@ -1,7 +1,7 @@
 use Rattle.std.proofs.Common.{take}
 use Rattle.std.specs.List.{AllZip, Contains}
-use Rattle.event_walk.specs.flat_net.declared.signals.Signal.{Signal}
-use Rattle.event_walk.specs.event_nodes.Lit.{Lit}
+use Rattle.event_nodes.specs.flat_net.declared.signals.Signal.{Signal}
+use Rattle.event_nodes.specs.Lit.{Lit}
 use Rattle.event_literals.proofs.builder.EventBuilder.fanin_literals.Given as goal
 
 abbrev pub invariant-loop-fanin : goal.invariant-loop-fanin

@@ -3,16 +3,16 @@ use Rattle.std.proofs.Common.{◌≡◌, ◌∙◌, ◌*◌, ◌<◌, length, sy
 use Rattle.std.specs.Prelude.{IfSome}
 use Rattle.std.specs.List.{All, Contains}
 use Rattle.circuit_theory.proofs.Lists.{zip_length}
-use Rattle.event_walk.specs.flat_net.declared.signals.Signal.{Signal}
-use Rattle.event_walk.specs.flat_net.declared.parts.Gate.{Gate}
-use Rattle.event_walk.specs.flat_net.View.{NetView}
-use Rattle.event_walk.specs.flat_net.Sound.{IsSound}
-use Rattle.event_walk.proofs.flat_net.Places.{cover_of-is, cover_within, cover_fits}
-use Rattle.event_walk.specs.event_nodes.Lit.{Lit}
-use Rattle.event_walk.specs.event_nodes.Rules.{cover_room}
-use Rattle.event_walk.specs.event_nodes.View.{EventCircuitView}
+use Rattle.event_nodes.specs.flat_net.declared.signals.Signal.{Signal}
+use Rattle.event_nodes.specs.flat_net.declared.parts.Gate.{Gate}
+use Rattle.event_nodes.specs.flat_net.View.{NetView}
+use Rattle.event_nodes.specs.flat_net.Sound.{IsSound}
+use Rattle.event_nodes.proofs.flat_net.Places.{cover_of-is, cover_within, cover_fits}
+use Rattle.event_nodes.specs.Lit.{Lit}
+use Rattle.event_nodes.specs.Rules.{cover_room}
+use Rattle.event_nodes.specs.View.{EventCircuitView}
 use Rattle.event_literals.specs.Known.{IsMet}
-use Rattle.event_walk.specs.event_nodes.Weights.{gate_weight}
+use Rattle.event_nodes.specs.Weights.{gate_weight}
 use Rattle.event_literals.proofs.Lits.{grown_none, zip_all, cover_within_weight, gate_lit, cover_grown}
 use Rattle.event_literals.proofs.builder.EventBuilder.gate_literal.Goals as goal
 

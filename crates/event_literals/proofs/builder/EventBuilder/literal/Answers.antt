@@ -1,11 +1,11 @@
 -- What drives the signal says which literal its step has.
 use Rattle.std.proofs.Common.{◌∙◌, ◌<◌, length, sym, ap, subst, arith}
 use Rattle.std.proofs.lemmas.Option.{slice_get_within}
-use Rattle.event_walk.specs.flat_net.declared.parts.Driver.TheVariants as driver
-use Rattle.event_walk.specs.flat_net.View.{NetView}
-use Rattle.event_walk.specs.event_nodes.View.{EventCircuitView}
-use Rattle.event_walk.proofs.event_nodes.Drivers.{driven_gate, driven_latch}
-use Rattle.event_walk.proofs.Lent.{drives_of, latch_of_lent, sound_of, order_of}
+use Rattle.event_nodes.specs.flat_net.declared.parts.Driver.TheVariants as driver
+use Rattle.event_nodes.specs.flat_net.View.{NetView}
+use Rattle.event_nodes.specs.View.{EventCircuitView}
+use Rattle.event_nodes.proofs.Drivers.{driven_gate, driven_latch}
+use Rattle.event_literals.proofs.event_walk.Lent.{drives_of, latch_of_lent, sound_of, order_of}
 use Rattle.event_literals.proofs.Lits.{grown_none, input_is, gate_is, gate_met, put_is, latch_met, latch_is}
 use Rattle.event_literals.proofs.builder.EventBuilder.literal.Goals as goal
 

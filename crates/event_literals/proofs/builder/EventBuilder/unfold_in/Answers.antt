@@ -1,16 +1,16 @@
 -- All that the walk met is built, so that the root's literal was met.
 use Rattle.std.proofs.Common.{◌∙◌, ℕ, List, length, refl, ap, sym, subst, arith}
-use Rattle.event_walk.specs.event_nodes.View.{EventCircuitView}
-use Rattle.event_walk.specs.event_nodes.Visited.{IsWeighed}
-use Rattle.event_walk.proofs.event_nodes.Growing.{grows_refl, grows_trans}
-use Rattle.event_walk.proofs.event_nodes.Lists.{adds_none}
+use Rattle.event_nodes.specs.View.{EventCircuitView}
+use Rattle.event_nodes.specs.Visited.{IsWeighed}
+use Rattle.event_nodes.proofs.Growing.{grows_refl, grows_trans}
+use Rattle.event_nodes.proofs.Lists.{adds_none}
 use Rattle.event_literals.specs.Known.{EventUnfolderView, unfolder_of}
-use Rattle.event_walk.specs.Ready.{EventWalkerView}
-use Rattle.event_walk.specs.Walk.{IsCounting}
+use Rattle.event_literals.specs.event_walk.Ready.{EventWalkerView}
+use Rattle.event_literals.specs.event_walk.Walk.{IsCounting}
 use Rattle.event_literals.proofs.Going.{later_within}
 use Rattle.event_literals.proofs.Rooted.{frame_known, opened_known, root_known, walked_to, unfolded_from, walk_expanded, walk_weighs}
-use Rattle.event_walk.proofs.Rooting.{root_visited}
-use Rattle.event_walk.proofs.Stepping.{nodes_none, refused_ok}
+use Rattle.event_literals.proofs.event_walk.Rooting.{root_visited}
+use Rattle.event_literals.proofs.event_walk.Stepping.{nodes_none, refused_ok}
 use Rattle.event_literals.proofs.builder.EventBuilder.unfold_in.Goals as goal
 
 pub returns-in_err-table-clause-counting : goal.returns-in_err-table-clause-counting

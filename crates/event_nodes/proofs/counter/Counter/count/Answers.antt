@@ -1,6 +1,5 @@
 -- The place was there, or it goes last and adds to the weight.
 use Rattle.std.proofs.Common.{◌≡◌, ◌∙◌, ℕ, List, length, sym, subst, arith}
-use Rattle.std.specs.List.{Contains}
 use Rattle.flat_net.proofs.circuit_theory.Lists.{of_at}
 use Rattle.event_nodes.specs.Adds.{Adds}
 use Rattle.event_nodes.specs.Visited.{CounterView, IsWeighed}

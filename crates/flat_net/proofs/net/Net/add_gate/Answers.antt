@@ -1,6 +1,6 @@
 -- The net has one gate more, or is as it was.
 use Rattle.std.proofs.Common.{◌≡◌, ◌++◌, ◌∷◌, [], rules, subst}
-use Rattle.sec_base.specs.Table.{AreDistinct}
+use Rattle.base_tables.specs.Table.{AreDistinct}
 use Rattle.flat_net.specs.Makes.{with_gate}
 use Rattle.flat_net.specs.Sound.{IsSound}
 use Rattle.flat_net.proofs.Growth.{either_way, ok_together, err_together, sound_along, sound_gate}

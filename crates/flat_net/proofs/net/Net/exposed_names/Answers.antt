@@ -2,8 +2,8 @@
 use Rattle.std.proofs.Common.{◌≡◌, ◌∙◌, ◌++◌, ◌∷◌, [], false, take, slice_get, get_or, Some, if◌then◌else◌, sym, ap}
 use Rattle.std.proofs.lemmas.List.{map-append}
 use Rattle.std.proofs.lemmas.Option.{slice_get-get_or}
-use Rattle.sec_base.specs.Table.{is_among}
-use Rattle.sec_base.proofs.TableLemmas.{take-push}
+use Rattle.base_tables.specs.Table.{is_among}
+use Rattle.base_tables.proofs.TableLemmas.{take-push}
 use Rattle.flat_net.specs.Cut.{latch_at, exposed_names}
 use Rattle.flat_net.proofs.Exposed.{not_yet}
 use Rattle.flat_net.proofs.net.Net.exposed_names.Goals as goal

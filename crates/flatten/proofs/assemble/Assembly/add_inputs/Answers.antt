@@ -1,5 +1,5 @@
 use Rattle.std.proofs.Common.{◌≡◌, false, take, get_or, arith, sym, ◌∙◌, ap, subst}
-use Rattle.sec_base.specs.Table.{is_among}
+use Rattle.base_tables.specs.Table.{is_among}
 use Rattle.flat_net.specs.Makes.{with_input}
 use Rattle.net_assembly.specs.Built.{unclocked}
 use Rattle.net_assembly.proofs.Building.{input_at, input_within, name_in, input_fresh, inputs_take, room_for, new_name}

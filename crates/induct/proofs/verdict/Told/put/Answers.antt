@@ -1,6 +1,6 @@
 -- One output more, by its answer.
 use Rattle.std.proofs.Common.{◌∙◌, refl, sym}
-use Rattle.block_outputs.specs.declared.answer.OutputAnswer.TheVariants as answer
+use Rattle.induct.specs.declared.block_outputs.answer.OutputAnswer.TheVariants as answer
 use Rattle.induct.proofs.Telling.{or_none, told_by}
 use Rattle.induct.proofs.verdict.Told.put.Goals as goal
 

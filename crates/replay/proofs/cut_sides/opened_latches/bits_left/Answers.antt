@@ -4,7 +4,7 @@ use Rattle.std.proofs.lemmas.Option.{slice_get-get_or, slice_get_within}
 use Rattle.circuit_theory.proofs.Lists.{Contains-map, of_at}
 use Rattle.flat_net.specs.declared.parts.LatchAt.{LatchAt}
 use Rattle.cycle_sim.proofs.Lists.{item_at}
-use Rattle.name_tables.specs.Names.{latch_names}
+use Rattle.interface.specs.name_tables.Names.{latch_names}
 use Rattle.replay.proofs.cut_sides.Opened.{no_latch_absent, latch_named_at, has_bit, bit_more}
 use Rattle.replay.proofs.cut_sides.opened_latches.bits_left.Goals as goal
 

@@ -1,8 +1,8 @@
 use Rattle.std.proofs.Common.{arith}
 use Rattle.flat_net.proofs.Places.{All-at}
 use Rattle.std.specs.List.{Contains}
-use Rattle.sec_base.proofs.TableLemmas.{take-push}
-use Rattle.name_tables.specs.Names.{latch_names}
+use Rattle.base_tables.proofs.TableLemmas.{take-push}
+use Rattle.interface.specs.name_tables.Names.{latch_names}
 use Rattle.replay.proofs.cut_sides.Opened.{no_latch_absent, position_more, named_at}
 use Rattle.replay.proofs.cut_sides.opened_latches.positions_of.Goals as goal
 

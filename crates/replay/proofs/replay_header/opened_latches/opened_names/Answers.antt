@@ -4,10 +4,10 @@ use Rattle.std.proofs.lemmas.List.{take_all}
 use Rattle.circuit_theory.proofs.Lists.{length-map}
 use Rattle.flat_net.specs.declared.parts.LatchAt.{LatchAt}
 use Rattle.std.specs.Prelude.{if◌then◌else◌}
-use Rattle.sec_base.specs.Table.{is_among as is_entry}
-use Rattle.name_tables.specs.Names.{latch_names}
+use Rattle.base_tables.specs.Table.{is_among as is_entry}
+use Rattle.interface.specs.name_tables.Names.{latch_names}
 use Rattle.replay.specs.replay_header.Header.{is_opened}
-use Rattle.name_tables.proofs.Names.{item_at, latch_name_at}
+use Rattle.interface.proofs.name_tables.Names.{item_at, latch_name_at}
 use Rattle.replay.proofs.replay_header.Opened.{opened_next, opened_more}
 use Rattle.replay.proofs.replay_header.opened_latches.opened_names.Goals as goal
 

@@ -1,6 +1,6 @@
 use Rattle.std.proofs.Common.{◌≡◌, take}
 use Rattle.std.specs.List.{filter}
-use Rattle.name_tables.specs.Names.{latch_names}
+use Rattle.interface.specs.name_tables.Names.{latch_names}
 use Rattle.replay.specs.replay_header.Header.{is_opened}
 use Rattle.replay.proofs.replay_header.opened_latches.opened_names.Given as goal
 

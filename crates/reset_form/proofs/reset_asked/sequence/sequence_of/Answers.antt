@@ -2,7 +2,7 @@
 use Rattle.std.proofs.Common.{◌≡◌, ◌∙◌, ◌-◌, ℕ, suc, Bool, List, length, sym, ap, subst}
 use Rattle.std.specs.List.{All}
 use Rattle.circuit_theory.specs.Sequence.{sequence_rows}
-use Rattle.sec_base.specs.Table.{AreDistinct}
+use Rattle.base_tables.specs.Table.{AreDistinct}
 use Rattle.shift_variables.specs.Sequences.{bits_at}
 use Rattle.shift_variables.specs.cycle_variables.Cycles.{AreInCycles}
 use Rattle.shift_variables.proofs.CycleRows.{rows_fit}

@@ -1,6 +1,6 @@
 -- The bits of the assignment are a difference of the query.
 use Rattle.std.proofs.Common.{◌<◌, ◌≡◌, ◌∙◌, ℕ, List, length, sym, ap, subst, arith}
-use Rattle.sweep.specs.pair_decide.Answers.{IsDifference}
+use Rattle.swept_queries.specs.sweep.pair_decide.Answers.{IsDifference}
 use Rattle.swept_queries.specs.Lanes.{lane_bits}
 use Rattle.swept_queries.proofs.ToldApart.{lane-difference}
 use Rattle.swept_queries.proofs.Stand.{itself}

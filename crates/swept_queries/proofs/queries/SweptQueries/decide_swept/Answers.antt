@@ -1,9 +1,9 @@
 -- The answer is that of the query in the stead of this one.
 use Rattle.std.proofs.Common.{◌≡◌, List, Option, Some, IfSome, subst, rules}
-use Rattle.sweep.specs.aig.declared.node.Node.{Node}
-use Rattle.sweep.specs.pair_decide.declared.query.Query.{Query}
-use Rattle.sweep.specs.pair_decide.Queries.{IsQuery}
-use Rattle.sweep.proofs.pair_decide.Read.{IfOk-then}
+use Rattle.swept_queries.specs.sweep.aig.declared.node.Node.{Node}
+use Rattle.swept_queries.specs.sweep.pair_decide.declared.query.Query.{Query}
+use Rattle.swept_queries.specs.sweep.pair_decide.Queries.{IsQuery}
+use Rattle.swept_queries.proofs.sweep.pair_decide.Read.{IfOk-then}
 use Rattle.swept_queries.specs.InStead.{sides_of, StandFor, IsInStead}
 use Rattle.swept_queries.proofs.OneLiteral.{one-literal}
 use Rattle.swept_queries.proofs.queries.SweptQueries.decide_swept.Goals as goal

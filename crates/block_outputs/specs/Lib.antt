@@ -1,3 +1,0 @@
-pub mod Answers
-pub mod Laws
-pub use Rattle.block_refine.specs as block_refine

@@ -1,0 +1,4 @@
+pub mod Ready
+pub mod Walk
+pub mod Plan
+pub mod FramePlaces

@@ -1,6 +1,0 @@
-use Rattle.std.proofs.Common.{◌≡◌, length}
-use Rattle.graph_components.proofs.Ranks.{AreMadeTo}
-use Rattle.graph_components.proofs.inner.within.Given as goal
-
-abbrev pub invariant-loop-s : goal.invariant-loop-s
-invariant-loop-s l = record { size : length l.inner.items ≡ l.s; made : AreMadeTo l.nodes l.labels l.s l.inner.items }

@@ -1,0 +1,2 @@
+pub mod ShortOr
+pub use Rattle.aig.specs as aig

@@ -1,0 +1,6 @@
+pub mod Agreeing
+pub mod Inputs
+pub mod Leads
+pub mod Rows
+pub mod Splits
+pub use Rattle.aig.specs as aig

@@ -1,6 +1,0 @@
-pub mod Listed
-pub mod Classes
-pub mod Assigned
-pub mod Led
-pub use Rattle.aig.proofs as aig
-pub use Rattle.lane_eval.proofs as lane_eval

@@ -1,7 +1,0 @@
-pub mod Agreeing
-pub mod Inputs
-pub mod Leads
-pub mod Rows
-pub mod Splits
-pub use Rattle.aig.specs as aig
-pub use Rattle.lane_eval.specs as lane_eval

@@ -1,0 +1,9 @@
+use Rattle.std.proofs.Common.{◌/◌, ◌<◌, length, arith}
+use Rattle.node_agreement.specs.Standing.{plainly}
+use Rattle.node_agreement.proofs.Stood.{stand_in-at}
+use Rattle.swept_queries.proofs.sweep.growth.literal_for.Goals as goal
+
+pub returns-clause-stands : goal.returns-clause-stands
+returns-clause-stands c = λ g h are.
+    let within : c.args.l.0 / 2 < length c.args.map.now = omega arith in
+    c.signed.ensures.stands plainly g h (stand_in-at g h c.args.map.now (c.args.l.0 / 2) _ within are)

@@ -1,0 +1,14 @@
+-- A new graph with literals for the first nodes of a graph.
+use Rattle.std.specs.Prelude.{◌≡◌, ℕ, ◌≤◌, List, length, take}
+use Rattle.aig.specs.declared.node.Node.{Node}
+use Rattle.aig.specs.Graph.{vars_of}
+use Rattle.swept_queries.specs.declared.sweep.growth.Growth.{Growth}
+use Rattle.node_agreement.specs.Standing.{AreStandIns, AreChosen}
+
+-- there is a literal for each of the first n nodes, the new graph has no more nodes, and it has their variables
+pub record IsGrown (g : List Node) (w : Growth) (n : ℕ) : Type 0 where
+  pub each : length w.map.items ≡ n
+  pub stand : AreStandIns g w.graph w.map.items
+  pub chosen : AreChosen w.graph w.chosen.items
+  pub few : length w.graph ≤ n
+  pub vars : vars_of w.graph ≡ vars_of (take n g)

@@ -1,0 +1,8 @@
+//! Makes nodes of an and-inverter graph one where they are proved to agree.
+
+mod graph;
+mod growth;
+
+pub use aig::{Aig, Bits, Ids, Lit, Lits, MAX_CONFLICTS, NoMemory, Node};
+pub use graph::{Swept, sweep, sweep_across};
+pub use node_agreement::{Decision, Effort, Query, SameBy, SignatureTable, decide, signatures};
