@@ -8,8 +8,8 @@ use Rattle.sec_setup.specs.declared.error.SetupError.{SetupError}
 use Rattle.sec_setup.specs.declared.error.SetupError.TheVariants as unset
 use Rattle.sec_setup.specs.Matching.{InterfacesMatch}
 use Rattle.outcome.specs.declared.verdict.LimitAt.{LimitAt}
-use Rattle.event_comparison.specs.class_events.EventError.{EventError}
-use Rattle.event_comparison.specs.class_events.EventError.TheVariants as event_error
+use Rattle.event_classes.specs.declared.error.EventError.{EventError}
+use Rattle.event_classes.specs.declared.error.EventError.TheVariants as event_error
 use Rattle.event_comparison.specs.class_events.Refused.{IsRefusedMap}
 use Rattle.event_nodes.specs.View.{EventCircuitView}
 use Rattle.event_setup.specs.declared.error.RecoveryError.{RecoveryError}

@@ -15,8 +15,8 @@ use Rattle.outcome.specs.declared.verdict.LimitAt.{LimitAt}
 use Rattle.outcome.specs.declared.verdict.LimitAt.TheVariants as limit_at
 use Rattle.outcome.specs.declared.verdict.Verdict.TheVariants as verdict
 use Rattle.sec_setup.specs.Setup.{AreColumns}
-use Rattle.event_comparison.specs.class_events.EventError.{EventError}
-use Rattle.event_comparison.specs.class_events.EventError.TheVariants as event_error
+use Rattle.event_classes.specs.declared.error.EventError.{EventError}
+use Rattle.event_classes.specs.declared.error.EventError.TheVariants as event_error
 use Rattle.event_comparison.specs.class_events.Refused.{IsLimitOf, IsRefusedMap}
 use Rattle.event_nodes.specs.View.{EventCircuitView, IsEventCircuit}
 use Rattle.event_setup.specs.declared.error.RecoveryError.{RecoveryError}

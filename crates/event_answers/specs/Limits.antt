@@ -2,8 +2,8 @@
 use Rattle.std.specs.Prelude.{◌≡◌, Result, Ok, Err}
 use Rattle.outcome.specs.declared.verdict.LimitAt.{LimitAt}
 use Rattle.outcome.specs.declared.verdict.LimitAt.TheVariants as limit_at
-use Rattle.event_comparison.specs.class_events.EventError.{EventError}
-use Rattle.event_comparison.specs.class_events.EventError.TheVariants as event_error
+use Rattle.event_classes.specs.declared.error.EventError.{EventError}
+use Rattle.event_classes.specs.declared.error.EventError.TheVariants as event_error
 use Rattle.event_setup.specs.declared.error.RecoveryError.{RecoveryError}
 use Rattle.event_setup.specs.declared.error.RecoveryError.TheVariants as unknown
 use Rattle.under_base.specs.declared.compare_base.error.CompareError.{CompareError}

@@ -12,9 +12,9 @@ use Rattle.sec_setup.specs.Matching.{InterfacesMatch}
 use Rattle.latch_kinds.specs.Found.{HasTooLarge}
 use Rattle.latch_kinds.specs.unate_enable.Cones.{data_of_latch}
 use Rattle.event_nodes.specs.View.{EventCircuitView}
-use Rattle.event_texts.specs.event_fits.Choosing.{HaveNoCycles}
-use Rattle.event_texts.specs.event_fits.Recovered.{RecoversBoth}
-use Rattle.event_texts.specs.event_fits.RecoveryError.TheVariants as unknown
+use Rattle.event_setup.specs.Choosing.{HaveNoCycles}
+use Rattle.event_setup.specs.Recovered.{RecoversBoth}
+use Rattle.event_setup.specs.declared.error.RecoveryError.TheVariants as unknown
 use Rattle.event_texts.specs.event_fits.Circuits.{AreReached}
 use Rattle.event_texts.specs.Compared.{AreTooLargeInEvents, HaveTooManyEvents}
 use Rattle.sec_files.specs.Loading.{IsAccepted, Loads}

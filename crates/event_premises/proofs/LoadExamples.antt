@@ -25,7 +25,7 @@ use Rattle.design_rows.specs.Designs.{and_cover}
 use Rattle.design_rows.specs.NoFault.{has_no_fault}
 use Rattle.design_rows.proofs.NoFaults.{tested_is_sound}
 use Rattle.sec_files.specs.Loading.{Loads}
-use Rattle.event_texts.specs.event_fits.Choosing.{HaveNoCycles}
+use Rattle.event_setup.specs.Choosing.{HaveNoCycles}
 use Rattle.event_premises.specs.Loads.{loading, on_load, off_load, off_and_cover, on_loads, off_loads}
 use Rattle.event_premises.specs.Premises.{LoadsAreComparable}
 use Rattle.event_premises.proofs.Comparing.{comparable_events}

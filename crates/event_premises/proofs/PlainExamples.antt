@@ -8,7 +8,7 @@ use Rattle.blif_read.specs.Design.{Place, top, walk, circuit_of_design}
 use Rattle.flat_net.specs.View.{NetView, circuit_of}
 use Rattle.sec_setup.specs.cut_points.Common.{common_names}
 use Rattle.sec_setup.specs.Cycles.{AreBroken}
-use Rattle.event_texts.specs.event_fits.Choosing.{HaveNoCycles}
+use Rattle.event_setup.specs.Choosing.{HaveNoCycles}
 use Rattle.sec_files.specs.Loading.{Loads}
 use Rattle.design_rows.specs.Designs as design
 use Rattle.design_rows.specs.Small.{small_late, small_early, small_toggle, IsSmall}

@@ -19,10 +19,10 @@ use Rattle.pair_decide.specs.declared.query.Proof.{Proof}
 use Rattle.latch_blocks.specs.Blocks.{block_at}
 use Rattle.latch_blocks.specs.QueryLaws.{AreBlockValues}
 use Rattle.latch_blocks.specs.Signals.{IsLeaf}
-use Rattle.induct_report.specs.block_outputs.declared.answer.Shown.{Shown}
-use Rattle.induct_report.specs.block_outputs.declared.answer.OutputAnswer.{OutputAnswer}
-use Rattle.induct_report.specs.block_outputs.declared.answer.OutputAnswer.TheVariants as answer
-use Rattle.induct_report.specs.block_outputs.declared.outputs.OutputPair.{OutputPair}
+use Rattle.induct.specs.declared.block_outputs.answer.Shown.{Shown}
+use Rattle.induct.specs.declared.block_outputs.answer.OutputAnswer.{OutputAnswer}
+use Rattle.induct.specs.declared.block_outputs.answer.OutputAnswer.TheVariants as answer
+use Rattle.induct.specs.declared.block_outputs.outputs.OutputPair.{OutputPair}
 use Rattle.induct_report.specs.block_outputs.Answers.{IsAnswer, IsOutputAnswer, IsShown}
 use Rattle.sec_files.proofs.job_files.Reading.{some_and}
 use Rattle.induct.specs.declared.induction.InductPair.{InductPair}
