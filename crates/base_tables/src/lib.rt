@@ -1,4 +1,4 @@
-//! Tables that number names, and pairs of numbers, in the order in which they first come.
+//! Tables that number names, pairs of numbers and other keys, in the order in which they first come.
 #![tactic(auto)]
 
 mod hashed_names;

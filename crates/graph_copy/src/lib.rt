@@ -1,5 +1,5 @@
-//! What is built in a graph: a literal of another graph put into it, where the variables have other numbers, and the literals of
-//! places that were met.
+//! What is built in a graph: a literal of another graph put into it, where the variables have other numbers, the or of two literals
+//! where the graph has it already, and the literals of places that were met.
 #![tactic(auto)]
 
 pub mod aig_or;

@@ -1,5 +1,5 @@
 //! The ports of two circuits beside one another: which inputs both have, the numbers of the inputs, and the pairs of signals that
-//! are compared. It knows no latch graph.
+//! are compared; tables of the names of ports. It knows no latch graph.
 #![tactic(auto)]
 
 pub mod name_tables;

@@ -1,4 +1,5 @@
-//! Values of a graph's nodes under 512 assignments at once, and tables of all assignments of at most 24 variables.
+//! Values of a graph's nodes under 512 assignments at once, tables of all assignments of at most 24 variables, and which roots of a
+//! graph with few inputs agree under all of them.
 #![tactic(auto)]
 
 mod blocks;

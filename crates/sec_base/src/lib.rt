@@ -1,5 +1,5 @@
-//! Covers, limits, small types and pieces of reports, with the lists, the tables and the outside that stand in crates of their
-//! own: what all crates of `sec` stand on.
+//! Covers, limits, small types and pieces of reports, with the lists and the outside that stand in crates of their own: what nearly
+//! all crates of `sec` stand on. Tables stand beside it.
 #![tactic(auto)]
 
 mod basics;
