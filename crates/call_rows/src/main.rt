@@ -8,6 +8,8 @@
 //! `w<n` fetches w of at most n bytes.
 //! `sinks`: the room, the write that fails or 0, what it keeps, and the piece that is written.
 //! `files`: `w<n` fetches the real file w of at most n bytes.
+//! `cells`: the cells of a small circuit, `i` an input, `d2` a latch that takes over signal 2, `n0,1` the NAND of two signals; behind
+//! them stand the depth of the last one and whether it is settled in each of the first four cycles, by the slow programs.
 //! `clauses`: `KIND;NAME;CLAUSES;MORE`. Clauses stand as in DIMACS, each with a 0 at its end. What more stands there is a log, the steps
 //! of a resolver, or the variables and the conflicts of a search.
 //! `calls`: `graph A` is the depth of each output of the circuit, the weight of its unfolding, and a cycle of latches; `ones A ROW..` the
@@ -21,6 +23,7 @@
 #![tactic(auto)]
 
 mod calls;
+mod cells;
 mod checks;
 mod circuits;
 mod formulas;
@@ -35,6 +38,7 @@ mod stimuli;
 mod tables;
 mod words;
 
+use cells::show_cells;
 use latches::{show_blocks, show_classes, show_enables};
 use row_text::{file_of, show, split_at};
 use sec_base::DEFAULT_CONFLICTS;
@@ -50,6 +54,7 @@ enum Asked {
     Places,
     Shelves,
     Sinks,
+    Cells,
     Files,
     Clauses,
     Calls,
@@ -69,6 +74,7 @@ fn show_named(rt: &HostRuntime, asked: Asked, row: &[u8]) {
         Asked::Places => show_places(rt, words),
         Asked::Shelves => show_shelf(rt, words),
         Asked::Sinks => show_sink(rt, words),
+        Asked::Cells => show_cells(rt, words),
         _ => show_files(rt, words),
     }
     show(rt, b"\n");
@@ -107,6 +113,7 @@ fn main(rt: HostRuntime) {
     show_file(&rt, Asked::Shelves, "shelves");
     show_file(&rt, Asked::Sinks, "sinks");
     show_file(&rt, Asked::Files, "files");
+    show_file(&rt, Asked::Cells, "cells");
     show_file(&rt, Asked::Clauses, "clauses");
     show_file(&rt, Asked::Calls, "calls");
     show_file(&rt, Asked::Enables, "enables");
