@@ -6,6 +6,7 @@ use Rattle.std.specs.List.{Contains}
 use Rattle.latch_cone.specs.Cones.{AreReached}
 use Rattle.event_nodes.specs.Adds.{Adds}
 use Rattle.event_reach.proofs.Latches.{IsRootLatch}
+use Rattle.event_nodes.proofs.Growing.{grows_refl}
 use Rattle.event_nodes.proofs.Lists.{adds_contains}
 use Rattle.event_reach.proofs.Making.{no_nodes, all_made}
 use Rattle.event_reach.proofs.Reaching.{signal_begun, signal_roots, reached_all}
@@ -77,3 +78,21 @@ returns-clause-made c =
     let seen = subst (λ (n : NetView). AreReached n c.args.s.0 c.in_ok-seen.seen) c.net-net.ensures c.in_ok-seen.ensures in
     let adds = subst (λ (n : NetView). Adds (IsRootLatch n c.in_ok-seen.seen) c.new-table.result c.put_latches.new.table) c.net-net.ensures c.put_latches.ensures.adds in
     c.pass_on_all.ensures.made (record { place = c.args.s.0; left_out = None }) (signal_begun c.args.circuit.now c.args.events.now.children c.put_latches.new.table c.args.s.0 c.in_ok-seen.seen c.new-table.result c.new-table.ensures seen adds)
+
+pub returns-in_err-seen-clause-grows : goal.returns-in_err-seen-clause-grows
+returns-in_err-seen-clause-grows c = grows_refl c.args.events.now
+
+pub returns-in_err-put_latches-clause-grows : goal.returns-in_err-put_latches-clause-grows
+returns-in_err-put_latches-clause-grows c = grows_refl c.args.events.now
+
+pub returns-in_err-pass_on_all-clause-grows : goal.returns-in_err-pass_on_all-clause-grows
+returns-in_err-pass_on_all-clause-grows c = c.pass_on_all.ensures.grows
+
+pub returns-in_err-pass_on_all-clause-same : goal.returns-in_err-pass_on_all-clause-same
+returns-in_err-pass_on_all-clause-same c = c.pass_on_all.ensures.same
+
+pub returns-clause-grows : goal.returns-clause-grows
+returns-clause-grows c = c.pass_on_all.ensures.grows
+
+pub returns-clause-same : goal.returns-clause-same
+returns-clause-same c = c.pass_on_all.ensures.same
