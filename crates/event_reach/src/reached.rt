@@ -14,10 +14,10 @@ ghost use Rattle.event_nodes.specs.Reach.{IsReachedPlace, IsPassedOn, AreReached
 ghost use Rattle.event_reach.specs.Made.{HasChild};
 ghost use Rattle.event_nodes.specs.Visited.{AreNodesFrom, HoldsNodes};
 
+use base_tables::UniqueTable;
 use event_nodes::{
     Driver, EventCircuit, EventGraph, EventUnfoldError, Net, Place, PlaceTable, Signal, add,
 };
-use indexmap::IndexSet;
 use latch_cone::{other_latches, reached};
 use std::alloc::Global;
 
@@ -62,19 +62,19 @@ fn put_all(
 fn put_latches(
     net: &Net,
     table: &mut PlaceTable,
-    signals: &IndexSet<u32>,
+    signals: &UniqueTable<u32>,
     cap: u32,
 ) -> Result<(), EventUnfoldError>
     requires cap { cap ≤ 2000000 }
     requires few { length table.old ≤ cap }
-    requires within { (i s : ℕ) → slice_get signals.now.keys i ≡ Some s → s < length net.now.drivers }
-    ensures adds { Adds (λ q. (q.0 ≡ 0) × Contains signals.now.keys q.1 × ((name : List ℕ) × (next : ℕ) × IsLatch (circuit_of net.now) name q.1 next)) table.old table.new }
-    ensures all { OnOk result ((v : ℕ) (name : List ℕ) (next : ℕ) → Contains signals.now.keys v → IsLatch (circuit_of net.now) name v next → Contains table.new (0, v)) }
+    requires within { (i s : ℕ) → slice_get signals.now i ≡ Some s → s < length net.now.drivers }
+    ensures adds { Adds (λ q. (q.0 ≡ 0) × Contains signals.now q.1 × ((name : List ℕ) × (next : ℕ) × IsLatch (circuit_of net.now) name q.1 next)) table.old table.new }
+    ensures all { OnOk result ((v : ℕ) (name : List ℕ) (next : ℕ) → Contains signals.now v → IsLatch (circuit_of net.now) name v next → Contains table.new (0, v)) }
     ensures few { OnOk result (length table.new ≤ cap) }
 {
     net.keeps();
     for at in 0..signals.len() {
-        let signal = signals[at];
+        let signal = signals.key(at);
         if let Driver::Latch(_) = net.driver(Signal(signal)) {
             put(table, 0, signal, cap)?;
         }

@@ -1,21 +1,52 @@
 -- The gates among the signals that lead back.
-use Rattle.std.proofs.Common.{◌≡◌, ◌∙◌, ℕ, List, slice_get, get_or, Option, Some, None, sym, ap, subst, inl, inr, ◌⊎◌}
+use Rattle.std.proofs.Common.{◌≡◌, ◌∙◌, ◌+◌, ◌++◌, [], ◌∷◌, ℕ, List, take, slice_get, get_or, Option, Some, None, refl, sym, ap, subst, inl, inr, ◌⊎◌}
+use Rattle.std.specs.Prelude.{option_and_then}
+use Rattle.std.specs.Option.{option_to_list}
 use Rattle.std.specs.List.{Contains, filter_map}
+use Rattle.std.proofs.lemmas.List.Elements.{filter_map-append}
 use Rattle.std.specs.List.Sorted.{IsNonDecreasing, IsPermutation}
 use Rattle.std.proofs.lemmas.List.Sorted.{Contains-permutation, IsPermutation-sym}
 use Rattle.std.proofs.lemmas.Option.{slice_get_within}
 use Rattle.latch_cone.proofs.circuit_theory.Lists.{at_of, of_at, filter_map-from}
+use Rattle.latch_cone.proofs.flat_net.TableLemmas.{take-push}
 use Rattle.latch_cone.specs.flat_net.declared.parts.Gate.{Gate}
 use Rattle.latch_cone.specs.flat_net.declared.parts.LatchAt.{LatchAt}
+use Rattle.latch_cone.specs.flat_net.declared.parts.Driver.{Driver}
 use Rattle.latch_cone.specs.flat_net.declared.parts.Driver.TheVariants as driver
 use Rattle.latch_cone.specs.flat_net.View.{NetView}
 use Rattle.latch_cone.specs.flat_net.Sound.{IsSound}
-use Rattle.latch_cone.specs.Parts.{gate_at}
+use Rattle.latch_cone.specs.Parts.{gate_of, gate_at}
 use Rattle.latch_cone.proofs.Walks.{gate_fanins}
-use Rattle.latch_cone.proofs.ConeGates.{filter_map-into, driven_by_gate}
+use Rattle.latch_cone.proofs.ConeGates.{filter_map-into, driven_by_gate, made_of_one}
 use Rattle.inner_cone.specs.Inner.{AreRanked, AreHigh, LeadsAside, IsLow}
 use Rattle.inner_cone.specs.Gates.{AreInnerGates}
 use Rattle.inner_cone.proofs.Inner.{low_aside}
+
+-- one signal more, of which a gate comes or none
+made_more : (n : NetView) (seen : List ℕ) (i s : ℕ) → slice_get seen i ≡ Some s → (found : List ℕ) → found ≡ filter_map (gate_at n) (take i seen) → found ++ option_to_list (gate_at n s) ≡ filter_map (gate_at n) (take (i + 1) seen)
+made_more n seen i s at found is =
+    let f = gate_at n in
+    ap (λ (xs : List ℕ). xs ++ option_to_list (f s)) is
+    ∙ (ap (λ (xs : List ℕ). filter_map f (take i seen) ++ xs) (sym (made_of_one f s))
+    ∙ (sym (filter_map-append f (take i seen) (s ∷ [])) ∙ ap (filter_map f) (take-push seen i s at)))
+
+pub gate_more : (n : NetView) (seen : List ℕ) (i s : ℕ) → slice_get seen i ≡ Some s → (found : List ℕ) → found ≡ filter_map (gate_at n) (take i seen) → (j : ℕ) → slice_get n.drivers s ≡ Some (driver.Gate j) → found ++ j ∷ [] ≡ filter_map (gate_at n) (take (i + 1) seen)
+gate_more n seen i s at found is j drives =
+    ap (λ (o : Option ℕ). found ++ option_to_list o) (sym (ap (option_and_then gate_of) drives)) ∙ made_more n seen i s at found is
+
+append_none : (xs : List ℕ) → xs ≡ xs ++ []
+append_none [] = refl
+append_none (x ∷ xs) = ap (λ (ys : List ℕ). x ∷ ys) (append_none xs)
+
+no_gate : (d : Driver) → ((j : ℕ) → d ≡ driver.Gate j → ⊥) → None ≡ gate_of d
+no_gate (driver.Input i) other = refl
+no_gate (driver.Gate j) other = absurd (other j refl)
+no_gate (driver.Latch j) other = refl
+
+pub none_more : (n : NetView) (seen : List ℕ) (i s : ℕ) → slice_get seen i ≡ Some s → (found : List ℕ) → found ≡ filter_map (gate_at n) (take i seen) → (d : Driver) → slice_get n.drivers s ≡ Some d → ((j : ℕ) → d ≡ driver.Gate j → ⊥) → found ≡ filter_map (gate_at n) (take (i + 1) seen)
+none_more n seen i s at found is d drives other =
+    append_none found
+    ∙ (ap (λ (o : Option ℕ). found ++ option_to_list o) (no_gate d other ∙ sym (ap (option_and_then gate_of) drives)) ∙ made_more n seen i s at found is)
 
 module _ (n : NetView) (sound : IsSound n) (l : LatchAt) (ranks : List ℕ) (ranked : AreRanked n ranks) (seen gates : List ℕ) (high : AreHigh n ranks (get_or ranks l.out.0 0) l.next.0 seen) (order : IsNonDecreasing gates) (are : IsPermutation (filter_map (gate_at n) seen) gates) where
   -- the gate of a signal that is there is among them

@@ -7,7 +7,9 @@ use Rattle.std.proofs.lemmas.Bool.Decides.{Decides-eqb}
 use Rattle.std.proofs.lemmas.Option.{same_Some}
 use Rattle.std.proofs.lemmas.List.Sorted.{Contains-permutation, IsPermutation-sym}
 use Rattle.std.proofs.lemmas.List.Elements.{All-contains}
+use Rattle.std.proofs.lemmas.Map.Made.{IsDistinct-from_AllPairs}
 use Rattle.std.proofs.lemmas.Map.Keys.{IsStrictlyIncreasing-from_distinct, IsDistinct-IsPermutation}
+use Rattle.base_tables.proofs.unique_table.Keys.{all-differ}
 use Rattle.latch_cone.specs.circuit_theory.Circuit.{Reaches}
 use Rattle.latch_cone.proofs.circuit_theory.Lists.{All-from_each, at_of, of_at}
 use Rattle.latch_cone.specs.flat_net.declared.signals.Signal.{Signal}
@@ -75,8 +77,12 @@ pub stay_or : (ranks : List ℕ) (least : ℕ) (old new : List ℕ) (s : ℕ) �
 stay_or ranks least old new s stay (inl h) = inl (stay_there old new s stay h)
 stay_or ranks least old new s stay (inr low) = inr low
 
+-- no signal stands twice
+pub some_distinct : (n : NetView) (from : ℕ) (seen : List ℕ) → AreSome n from seen → IsDistinct (λ x y. x == y) seen
+some_distinct n from seen some = IsDistinct-from_AllPairs Decides-eqb seen (all-differ seen some.distinct)
+
 -- equality of numbers is one both ways
-eqb-swap : (x y : ℕ) → (x == y) ≡ (y == x)
+pub eqb-swap : (x y : ℕ) → (x == y) ≡ (y == x)
 eqb-swap x y = by (x == y) (y == x) refl refl
   where
     by : (b c : Bool) → (x == y) ≡ b → (y == x) ≡ c → b ≡ c
@@ -86,11 +92,11 @@ eqb-swap x y = by (x == y) (y == x) refl refl
     by false true p q = absurd (true≢false (sym ((Decides-eqb x y).1 (sym ((Decides-eqb y x).0 q))) ∙ p))
 
 -- what leads back is among the sorted signals
-pub inside_sorted : (n : NetView) (ranks : List ℕ) → AreRanked n ranks → (from own least : ℕ) → least ≡ get_or ranks own 0 → (seen items sorted : List ℕ) → AreHigh n ranks least from seen → IsDistinct (λ x y. x == y) seen → items ≡ seen →
+pub inside_sorted : (n : NetView) (ranks : List ℕ) → AreRanked n ranks → (from own least : ℕ) → least ≡ get_or ranks own 0 → (seen items sorted : List ℕ) → AreHigh n ranks least from seen → items ≡ seen →
     IsPermutation items sorted → IsNonDecreasing sorted → AreInside n from own sorted
-inside_sorted n ranks ranked from own least is_least seen items sorted high distinct is same order =
+inside_sorted n ranks ranked from own least is_least seen items sorted high is same order =
     let moved : IsPermutation seen sorted = subst (λ (xs : List ℕ). IsPermutation xs sorted) is same in
-    let apart : IsDistinct (λ x y. x == y) sorted = IsDistinct-IsPermutation (λ x y. x == y) eqb-swap seen sorted moved distinct in
+    let apart : IsDistinct (λ x y. x == y) sorted = IsDistinct-IsPermutation (λ x y. x == y) eqb-swap seen sorted moved (some_distinct n from seen high.some) in
     record {
       increasing = IsStrictlyIncreasing-from_distinct sorted order apart;
       within = All-from_each (λ s. s < length n.drivers) sorted (λ s h. within s (back s moved h));

@@ -14,7 +14,7 @@ use Rattle.latch_cone.specs.flat_net.Sound.{IsSound}
 use Rattle.latch_cone.proofs.flat_net.Nets.{gate_stands, latch_stands, input_stands, sound_is_net}
 use Rattle.latch_cone.proofs.Walks.{nothing_at, source_stays}
 use Rattle.inner_cone.specs.Inner.{AreRanked, LeadsAside, IsLow, AreHigh}
-use Rattle.inner_cone.specs.Sides.{AreSides, IsSomeSide, AreSomeSides, AreKept, IsLowPut, IsOtherPut}
+use Rattle.inner_cone.specs.Sides.{AreSides, IsSomeSide, AreSomeSides, AreKept, IsLowPut}
 use Rattle.inner_cone.proofs.Inner.{low_aside}
 
 pub none_there : {X : Type 0} (x : X) → Contains [] x → ⊥
@@ -49,19 +49,6 @@ module _ (ranks : List ℕ) (least : ℕ) (old new : List Signal) (s : Signal) w
   pub low_some : IsLowPut ranks least old new s → (n : NetView) (from own : ℕ) → s.0 < length n.drivers → Reaches (circuit_of n) from s.0 → AreSomeSides n ranks least from own old → AreSomeSides n ranks least from own new
   low_some (inl x) n from own within reach some = push_some n ranks least from own old new s x.0 (record { within = within; reached = reach; aside = inl x.1 }) some
   low_some (inr x) n from own within reach some = subst (λ (z : List Signal). AreSomeSides n ranks least from own z) (sym x.0) some
-
-module _ (old new : List Signal) (own : ℕ) (s : Signal) where
-  pub other_kept : IsOtherPut old new own s → AreKept old new
-  other_kept (inl x) r h = push_kept old new s x.0 r h
-  other_kept (inr x) r h = subst (λ (z : List Signal). Contains z r) (sym x.0) h
-
-  pub other_there : IsOtherPut old new own s → s.0 ≢ own → Contains new s
-  other_there (inl x) other = push_there old new s x.0
-  other_there (inr x) other = absurd (other x.1)
-
-  pub other_some : IsOtherPut old new own s → (n : NetView) (ranks : List ℕ) (least from : ℕ) → s.0 < length n.drivers → Reaches (circuit_of n) from s.0 → IsSource (circuit_of n) s.0 → AreSomeSides n ranks least from own old → AreSomeSides n ranks least from own new
-  other_some (inl x) n ranks least from within reach source some = push_some n ranks least from own old new s x.0 (record { within = within; reached = reach; aside = inr (source, x.1) }) some
-  other_some (inr x) n ranks least from within reach source some = subst (λ (z : List Signal). AreSomeSides n ranks least from own z) (sym x.0) some
 
 module _ (n : NetView) (sound : IsSound n) where
   net : IsNet (circuit_of n) (length n.drivers)

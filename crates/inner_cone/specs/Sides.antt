@@ -30,7 +30,3 @@ AreKept old new = (r : Signal) → Contains old r → Contains new r
 -- the signal is put last if it is low
 abbrev pub IsLowPut : List ℕ → ℕ → List Signal → List Signal → Signal → Type 0
 IsLowPut ranks least old new s = ((new ≡ old ++ s ∷ []) × IsLow ranks least s.0) ⊎ ((new ≡ old) × (IsLow ranks least s.0 → ⊥))
-
--- the signal is put last if it is another than this
-abbrev pub IsOtherPut : List Signal → List Signal → ℕ → Signal → Type 0
-IsOtherPut old new own s = ((new ≡ old ++ s ∷ []) × (s.0 ≢ own)) ⊎ ((new ≡ old) × (s.0 ≡ own))

@@ -1,10 +1,44 @@
-//! The strongly connected components of signals, where a gate reads its fan-ins and a latch what it takes over (R. Tarjan,
-//! "Depth-first search and linear graph algorithms", SIAM Journal on Computing 1, 1972). No clause speaks of them: who uses the
-//! numbers looks whether they are right.
+//! The strongly connected components of signals that read one another, as in a net, where a gate reads its fan-ins and a latch what
+//! it takes over (R. Tarjan, "Depth-first search and linear graph algorithms", SIAM Journal on Computing 1, 1972). No clause speaks
+//! of them: who uses the numbers looks whether they are right.
 
 use crate::numbers::number_at;
 use latch_cone::{Driver, Net, NoMemory, Signal};
 use std::alloc::Global;
+
+/// Signals that read one another.
+pub trait Readings {
+    /// How many signals there are.
+    fn count(&self) -> u32;
+
+    /// The signal that this one reads at the place, if it reads so many.
+    fn read_at(&self, signal: u32, place: usize) -> Option<u32>;
+}
+
+impl Readings for Net {
+    fn count(&self) -> u32 {
+        self.size()
+    }
+
+    fn read_at(&self, signal: u32, place: usize) -> Option<u32> {
+        if signal >= self.size() {
+            return None;
+        }
+        match self.driver(Signal(signal)) {
+            Driver::Input(_) => None,
+            Driver::Gate(j) => fanin_at(self, j, place),
+            Driver::Latch(j) => {
+                if place > 0 {
+                    return None;
+                }
+                match self.latches().get(j as usize) {
+                    Some(latch) => Some(latch.next.0),
+                    None => None,
+                }
+            }
+        }
+    }
+}
 
 /// A signal on the way, with how many of those that it reads were looked at.
 #[derive(Clone, Copy)]
@@ -32,12 +66,21 @@ struct Walk {
 }
 
 /// The number of each signal's component. A signal reads none whose component has a greater number.
-pub(crate) fn components_of(alloc: Global, net: &Net) -> Result<Vec<u32>, NoMemory> {
-    let mut walk = Walk::new(alloc, net.size() as usize)?;
-    for root in 0..net.size() {
-        walk.go_from(net, root)?;
+pub fn components_of<R: Readings>(alloc: Global, readings: &R) -> Result<Vec<u32>, NoMemory> {
+    let mut walk = Walk::new(alloc, readings.count() as usize)?;
+    for root in 0..readings.count() {
+        walk.go_from(readings, root)?;
     }
-    Ok(walk.taken())
+    let Walk {
+        met: _,
+        low: _,
+        components,
+        pending: _,
+        way: _,
+        count: _,
+        known: _,
+    } = walk;
+    Ok(components)
 }
 
 impl Walk {
@@ -53,22 +96,8 @@ impl Walk {
         })
     }
 
-    /// The numbers of the components.
-    fn taken(self) -> Vec<u32> {
-        let Walk {
-            met: _,
-            low: _,
-            components,
-            pending: _,
-            way: _,
-            count: _,
-            known: _,
-        } = self;
-        components
-    }
-
     /// Walks from the signal, if it wasn't met before.
-    fn go_from(&mut self, net: &Net, root: u32) -> Result<(), NoMemory> {
+    fn go_from<R: Readings>(&mut self, readings: &R, root: u32) -> Result<(), NoMemory> {
         if number_at(self.met.as_slice(), root) > 0 {
             return Ok(());
         }
@@ -80,17 +109,17 @@ impl Walk {
             let Some(step) = self.way.pop() else {
                 return Ok(());
             };
-            self.take(net, step)?;
+            self.take(readings, step)?;
         }
         Ok(())
     }
 
     /// Goes on from the signal of the step: to one that it reads and that wasn't met, or back from it.
-    fn take(&mut self, net: &Net, step: Step) -> Result<(), NoMemory> {
+    fn take<R: Readings>(&mut self, readings: &R, step: Step) -> Result<(), NoMemory> {
         if step.read == 0 {
             self.meet(step.signal)?;
         }
-        match self.next_new(net, step) {
+        match self.next_new(readings, step) {
             Some((read, signal)) => {
                 self.way.push(Step {
                     signal: step.signal,
@@ -104,25 +133,23 @@ impl Walk {
     }
 
     /// The next signal that is read and wasn't met, with its place. What was met before it counts for how low the signal leads back.
-    fn next_new(&mut self, net: &Net, step: Step) -> Option<(usize, u32)> {
-        for read in step.read.saturating_sub(1)..count_of(net, step.signal) {
-            let Some(signal) = read_at(net, step.signal, read) else {
+    fn next_new<R: Readings>(&mut self, readings: &R, step: Step) -> Option<(usize, u32)> {
+        for read in step.read.saturating_sub(1)..usize::MAX {
+            let Some(signal) = readings.read_at(step.signal, read) else {
                 return None;
             };
             if number_at(self.met.as_slice(), signal) == 0 {
                 return Some((read, signal));
             }
             if number_at(self.components.as_slice(), signal) == 0 {
-                self.lower(step.signal, signal);
+                let low = number_at(self.low.as_slice(), step.signal).min(number_at(
+                    self.low.as_slice(),
+                    signal,
+                ));
+                put_at(self.low.as_mut_slice(), step.signal, low);
             }
         }
         None
-    }
-
-    /// The signal leads back to where the one leads that it reads.
-    fn lower(&mut self, signal: u32, read: u32) {
-        let low = number_at(self.low.as_slice(), signal).min(number_at(self.low.as_slice(), read));
-        put_at(self.low.as_mut_slice(), signal, low);
     }
 
     /// Meets the signal.
@@ -152,49 +179,13 @@ impl Walk {
     }
 }
 
-/// How many signals are read by this one.
-fn count_of(net: &Net, signal: u32) -> usize {
-    if signal >= net.size() {
-        return 0;
-    }
-    match net.driver(Signal(signal)) {
-        Driver::Input(_) => 0,
-        Driver::Gate(j) => fanins_of(net, j).len(),
-        Driver::Latch(_) => 1,
-    }
-}
-
-/// The signal that this one reads at the place.
-fn read_at(net: &Net, signal: u32, place: usize) -> Option<u32> {
-    if signal >= net.size() {
+/// The fan-in at this place of the gate with this number.
+fn fanin_at(net: &Net, j: u32, place: usize) -> Option<u32> {
+    let Some(gate) = net.gates().get(j as usize) else {
         return None;
-    }
-    match net.driver(Signal(signal)) {
-        Driver::Input(_) => None,
-        Driver::Gate(j) => signal_at(fanins_of(net, j), place),
-        Driver::Latch(j) => next_of(net, j),
-    }
-}
-
-/// The fan-ins of the gate with this number.
-fn fanins_of(net: &Net, j: u32) -> &[Signal] {
-    match net.gates().get(j as usize) {
-        Some(gate) => gate.fanins.as_slice(),
-        None => &[],
-    }
-}
-
-fn signal_at(signals: &[Signal], place: usize) -> Option<u32> {
-    match signals.get(place) {
-        Some(signal) => Some(signal.0),
-        None => None,
-    }
-}
-
-/// What the latch with this number takes over.
-fn next_of(net: &Net, j: u32) -> Option<u32> {
-    match net.latches().get(j as usize) {
-        Some(latch) => Some(latch.next.0),
+    };
+    match gate.fanins.as_slice().get(place) {
+        Some(fanin) => Some(fanin.0),
         None => None,
     }
 }

@@ -10,11 +10,12 @@ mod parts;
 mod sides;
 mod walk;
 
+pub use components::{Readings, components_of};
 pub use latch_cone::{
     Bits, Driver, Duplicate, Ids, LatchAt, Net, NoMemory, Seq, Side, Signal, Signals, Words,
     none_enabled,
 };
-pub use numbers::ranks;
+pub use numbers::{are_at_most, number_at, ranks};
 pub use parts::{InnerParts, inner_parts};
 pub use sides::sides_of;
 pub use walk::inside;

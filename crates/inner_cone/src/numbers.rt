@@ -38,7 +38,7 @@ fn are_ranked(net: &Net, numbers: &[u32]) -> bool
 }
 
 /// Whether the signals' numbers are at most this one.
-fn are_at_most(reads: &[Signal], numbers: &[u32], most: u32) -> bool
+pub fn are_at_most(reads: &[Signal], numbers: &[u32], most: u32) -> bool
     ensures { result ≡ true → All (λ r. slice_index_or numbers.now r.0 0 ≤ most) reads.now }
 {
     for read in reads {
@@ -50,7 +50,7 @@ fn are_at_most(reads: &[Signal], numbers: &[u32], most: u32) -> bool
 }
 
 /// The number of the signal.
-pub(crate) fn number_at(numbers: &[u32], signal: u32) -> u32
+pub fn number_at(numbers: &[u32], signal: u32) -> u32
     ensures { result ≡ slice_index_or numbers.now signal 0 }
 {
     match numbers.get(signal as usize) {

@@ -1,8 +1,7 @@
 //! The parts of a latch's cone that its load enable stands in: the gates that lead back to the latch, and what they read besides.
 
-ghost use Rattle.std.specs.Prelude.{◌≡◌, ◌<◌, ◌++◌, ℕ, length, slice_get, Some, IfOk, OnOk};
+ghost use Rattle.std.specs.Prelude.{◌≡◌, ◌<◌, ℕ, length, slice_get, Some, IfOk};
 ghost use Rattle.std.specs.List.{filter_map};
-ghost use Rattle.std.specs.Option.{option_to_list};
 ghost use Rattle.std.specs.List.Sorted.{IsNonDecreasing, IsPermutation};
 ghost use Rattle.latch_cone.specs.flat_net.declared.parts.LatchAt.{LatchAt};
 ghost use Rattle.latch_cone.specs.Parts.{gate_at};
@@ -12,8 +11,8 @@ ghost use Rattle.inner_cone.specs.Gates.{AreInnerGates};
 
 use crate::numbers::number_at;
 use crate::sides::sides_of;
-use crate::walk::{count, signal_at, walked};
-use indexmap::IndexSet;
+use crate::walk::walked;
+use base_tables::UniqueTable;
 use latch_cone::{Driver, Ids, LatchAt, Net, NoMemory, Seq, Signal, Signals};
 use std::alloc::Global;
 
@@ -58,37 +57,16 @@ fn gates_of(alloc: Global, net: &Net, ranks: &[u32], taker: &LatchAt) -> Result<
 }
 
 /// The positions of the gates that drive these signals, in order.
-fn gates_among(alloc: Global, net: &Net, seen: &IndexSet<u32>) -> Result<Ids, NoMemory>
-    requires { (i s : ℕ) → slice_get seen.now.keys i ≡ Some s → s < length net.now.drivers }
-    ensures { IfOk result (λ gates. IsNonDecreasing gates × IsPermutation (filter_map (gate_at net.now) seen.now.keys) gates) }
-{
-    let mut gates = drivers_among(alloc, net, seen)?;
-    gates.sort()?;
-    Ok(Seq::from_vec(gates))
-}
-
-/// The positions of the gates that drive these signals, in the order of the signals.
-fn drivers_among(alloc: Global, net: &Net, seen: &IndexSet<u32>) -> Result<Vec<u32>, NoMemory>
-    requires { (i s : ℕ) → slice_get seen.now.keys i ≡ Some s → s < length net.now.drivers }
-    ensures { IfOk result (λ gates. gates.items ≡ filter_map (gate_at net.now) seen.now.keys) }
+fn gates_among(alloc: Global, net: &Net, seen: &UniqueTable<u32>) -> Result<Ids, NoMemory>
+    requires { (i s : ℕ) → slice_get seen.now i ≡ Some s → s < length net.now.drivers }
+    ensures { IfOk result (λ gates. IsNonDecreasing gates × IsPermutation (filter_map (gate_at net.now) seen.now) gates) }
 {
     let mut gates = Vec::new(alloc);
-    for at in 0..count(seen) {
-        put_driver(net, &mut gates, Signal(signal_at(seen, at)))?;
-    }
-    Ok(gates)
-}
-
-/// Puts the position of the gate that drives the signal, where one does.
-fn put_driver(net: &Net, gates: &mut Vec<u32>, signal: Signal) -> Result<(), NoMemory>
-    requires { signal.0 < length net.now.drivers }
-    ensures { OnOk result (gates.new.items ≡ gates.old.items ++ option_to_list (gate_at net.now signal.0)) }
-{
-    match net.driver(signal) {
-        Driver::Gate(j) => {
+    for at in 0..seen.len() {
+        if let Driver::Gate(j) = net.driver(Signal(seen.key(at))) {
             gates.push(j)?;
-            Ok(())
         }
-        _ => Ok(()),
     }
+    gates.sort()?;
+    Ok(Seq::from_vec(gates))
 }

@@ -1,12 +1,12 @@
 //! What the signals that lead back to a latch read besides.
 
-ghost use Rattle.std.specs.Prelude.{◌≡◌, ◌≢◌, ◌<◌, ◌⊎◌, ℕ, [], ◌∷◌, ◌++◌, length, slice_get, slice_index_or, Some, Contains, IfOk, OnOk};
+ghost use Rattle.std.specs.Prelude.{◌≡◌, ◌≢◌, ◌<◌, ℕ, length, slice_get, slice_index_or, Some, Contains, IfOk, OnOk};
 ghost use Rattle.latch_cone.specs.circuit_theory.Circuit.{Reads, Reaches, IsSource};
 ghost use Rattle.latch_cone.specs.flat_net.declared.signals.Signal.{Signal};
 ghost use Rattle.latch_cone.specs.flat_net.View.{NetView, circuit_of};
 ghost use Rattle.latch_cone.specs.Cones.{AreRead};
 ghost use Rattle.inner_cone.specs.Inner.{AreRanked, AreHigh, IsLow};
-ghost use Rattle.inner_cone.specs.Sides.{AreSides, AreSomeSides, IsLowPut, IsOtherPut, AreKept};
+ghost use Rattle.inner_cone.specs.Sides.{AreSides, AreSomeSides, IsLowPut, AreKept};
 
 use crate::numbers::number_at;
 use crate::walk::walked;
@@ -105,19 +105,11 @@ fn put_sides(
             Ok(())
         }
         _ => {
-            put_other(sides, own, signal)?;
+            if signal.0 == own.0 {
+                return Ok(());
+            }
+            sides.push(signal)?;
             Ok(())
         }
     }
-}
-
-/// Puts the signal if it is another than `own`.
-fn put_other(sides: &mut Signals, own: Signal, signal: Signal) -> Result<(), NoMemory>
-    ensures { OnOk result (IsOtherPut sides.old sides.new own.0 signal) }
-{
-    if signal.0 == own.0 {
-        return Ok(());
-    }
-    sides.push(signal)?;
-    Ok(())
 }

@@ -1,7 +1,6 @@
 //! The walk through what leads back to a signal.
 
-ghost use Rattle.std.specs.Prelude.{◌≡◌, ◌<◌, ◌⊎◌, ℕ, true, false, [], ◌∷◌, ◌++◌, length, slice_get, slice_index_or, Some, Contains, IfOk, OnOk};
-ghost use Rattle.std.specs.List.Sorted.{IsNonDecreasing, IsPermutation};
+ghost use Rattle.std.specs.Prelude.{◌≡◌, ◌<◌, ◌⊎◌, ℕ, [], length, slice_get, Some, Contains, IfOk, OnOk};
 ghost use Rattle.latch_cone.specs.circuit_theory.Circuit.{Reads, Reaches};
 ghost use Rattle.latch_cone.specs.flat_net.declared.signals.Signal.{Signal};
 ghost use Rattle.latch_cone.specs.flat_net.View.{NetView, circuit_of};
@@ -9,7 +8,7 @@ ghost use Rattle.latch_cone.specs.Cones.{AreSome, AreRead, Stay};
 ghost use Rattle.inner_cone.specs.Inner.{AreRanked, AreInside, IsLow, AreHigh, IsHighPut};
 
 use crate::numbers::number_at;
-use indexmap::IndexSet;
+use base_tables::UniqueTable;
 use latch_cone::{Driver, Net, NoMemory, Signal};
 use std::alloc::Global;
 
@@ -28,14 +27,7 @@ pub fn inside(
 {
     let least = number_at(ranks, own.0);
     let seen = walked(alloc, net, ranks, least, from)?;
-    in_order(alloc, seen.as_slice())
-}
-
-/// These signals, in order.
-fn in_order(alloc: Global, signals: &[u32]) -> Result<Vec<u32>, NoMemory>
-    ensures { IfOk result (λ sorted. IsNonDecreasing sorted.items × IsPermutation signals.now sorted.items) }
-{
-    let mut sorted = Vec::from_slice(alloc, signals)?;
+    let mut sorted = Vec::from_slice(alloc, seen.as_slice())?;
     sorted.sort()?;
     Ok(sorted)
 }
@@ -47,11 +39,11 @@ pub(crate) fn walked(
     ranks: &[u32],
     least: u32,
     from: Signal,
-) -> Result<IndexSet<u32>, NoMemory>
+) -> Result<UniqueTable<u32>, NoMemory>
     requires { from.0 < length net.now.drivers }
-    ensures { IfOk result (λ seen. AreHigh net.now ranks.now least from.0 seen.keys) }
+    ensures { IfOk result (λ seen. AreHigh net.now ranks.now least from.0 seen) }
 {
-    let mut seen = IndexSet::new(alloc);
+    let mut seen = UniqueTable::new(alloc, u32::MAX);
     put_walked(net, &mut seen, ranks, least, from)?;
     Ok(seen)
 }
@@ -59,51 +51,38 @@ pub(crate) fn walked(
 /// Puts these signals where none is met yet.
 fn put_walked(
     net: &Net,
-    seen: &mut IndexSet<u32>,
+    seen: &mut UniqueTable<u32>,
     ranks: &[u32],
     least: u32,
     from: Signal,
 ) -> Result<(), NoMemory>
     requires within { from.0 < length net.now.drivers }
-    requires empty { seen.old.keys ≡ [] }
-    ensures { OnOk result (AreHigh net.now ranks.now least from.0 seen.new.keys) }
+    requires empty { seen.old ≡ [] }
+    ensures { OnOk result (AreHigh net.now ranks.now least from.0 seen.new) }
 {
     net.keeps();
     put_high(seen, ranks, least, from.0)?;
     let mut at = 0;
-    while at < count(seen) {
-        let signal = signal_at(seen, at);
+    while at < seen.len() {
+        let signal = seen.key(at);
         put_reads(net, seen, ranks, least, Signal(signal))?;
         at += 1;
     }
     Ok(())
 }
 
-pub(crate) fn count(seen: &IndexSet<u32>) -> usize
-    ensures { result ≡ length seen.now.keys }
-{
-    seen.len()
-}
-
-pub(crate) fn signal_at(seen: &IndexSet<u32>, at: usize) -> u32
-    requires { at < length seen.now.keys }
-    ensures { slice_get seen.now.keys at ≡ Some result }
-{
-    seen[at]
-}
-
 /// Puts what a signal reads through a gate, but for what has a lesser number.
 fn put_reads(
     net: &Net,
-    seen: &mut IndexSet<u32>,
+    seen: &mut UniqueTable<u32>,
     ranks: &[u32],
     least: u32,
     signal: Signal,
 ) -> Result<(), NoMemory>
     requires { signal.0 < length net.now.drivers }
-    ensures stay { OnOk result (Stay seen.old.keys seen.new.keys) }
-    ensures some { OnOk result ((from : ℕ) → Reaches (circuit_of net.now) from signal.0 → AreSome net.now from seen.old.keys → AreSome net.now from seen.new.keys) }
-    ensures there { OnOk result ((r : ℕ) → Reads (circuit_of net.now) signal.0 r → Contains seen.new.keys r ⊎ IsLow ranks.now least r) }
+    ensures stay { OnOk result (Stay seen.old seen.new) }
+    ensures some { OnOk result ((from : ℕ) → Reaches (circuit_of net.now) from signal.0 → AreSome net.now from seen.old → AreSome net.now from seen.new) }
+    ensures there { OnOk result ((r : ℕ) → Reads (circuit_of net.now) signal.0 r → Contains seen.new r ⊎ IsLow ranks.now least r) }
 {
     net.keeps();
     match net.driver(signal) {
@@ -118,14 +97,14 @@ fn put_reads(
 
 /// Puts these signals, but for those that have a lesser number.
 fn put_all(
-    seen: &mut IndexSet<u32>,
+    seen: &mut UniqueTable<u32>,
     ranks: &[u32],
     least: u32,
     reads: &[Signal],
 ) -> Result<(), NoMemory>
-    ensures stay { OnOk result (Stay seen.old.keys seen.new.keys) }
-    ensures some { OnOk result ((n : NetView) (from : ℕ) → AreRead n from reads.now → AreSome n from seen.old.keys → AreSome n from seen.new.keys) }
-    ensures there { OnOk result ((k : ℕ) (r : Signal) → slice_get reads.now k ≡ Some r → Contains seen.new.keys r.0 ⊎ IsLow ranks.now least r.0) }
+    ensures stay { OnOk result (Stay seen.old seen.new) }
+    ensures some { OnOk result ((n : NetView) (from : ℕ) → AreRead n from reads.now → AreSome n from seen.old → AreSome n from seen.new) }
+    ensures there { OnOk result ((k : ℕ) (r : Signal) → slice_get reads.now k ≡ Some r → Contains seen.new r.0 ⊎ IsLow ranks.now least r.0) }
 {
     for signal in reads.iter() {
         put_high(seen, ranks, least, signal.0)?;
@@ -135,25 +114,16 @@ fn put_all(
 
 /// Puts the signal last if it is new, but not where it has a lesser number.
 fn put_high(
-    seen: &mut IndexSet<u32>,
+    seen: &mut UniqueTable<u32>,
     ranks: &[u32],
     least: u32,
     signal: u32,
 ) -> Result<(), NoMemory>
-    ensures { OnOk result (IsHighPut ranks.now least seen.old.keys seen.new.keys signal) }
+    ensures { OnOk result (IsHighPut ranks.now least seen.old seen.new signal) }
 {
     if number_at(ranks, signal) < least {
         return Ok(());
     }
-    insert(seen, signal)?;
+    seen.insert(signal)?;
     Ok(())
-}
-
-/// Whether the signal is new; it goes last then.
-fn insert(seen: &mut IndexSet<u32>, signal: u32) -> Result<bool, NoMemory>
-    ensures new { IfOk result (λ new. new ≡ true → (seen.new.keys ≡ seen.old.keys ++ signal ∷ []) × (Contains seen.old.keys signal → ⊥)) }
-    ensures old { IfOk result (λ new. new ≡ false → (seen.new.keys ≡ seen.old.keys) × Contains seen.old.keys signal) }
-{
-    let (_, new) = seen.insert_full(signal)?;
-    Ok(new)
 }

@@ -1,15 +1,14 @@
 -- The interface by tables of names.
-use Rattle.std.proofs.Common.{◌≡◌, ℕ, zero, suc, ◌+◌, ◌<◌, ◌≤◌, Bool, true, false, cond, List, [], ◌∷◌, ◌++◌, length, map, take, drop, get_or, refl, sym, ◌∙◌, ap, subst, arith, Option, Some, None, slice_get, length-append}
+use Rattle.std.proofs.Common.{◌≡◌, ℕ, zero, suc, ◌+◌, ◌<◌, ◌≤◌, Bool, true, false, cond, List, [], ◌∷◌, ◌++◌, length, map, take, get_or, refl, sym, ◌∙◌, ap, subst, arith, Option, Some, slice_get, length-append}
 use Rattle.std.specs.Prelude.{not, ◌&&◌, ◌||◌, ◌==◌, bytes_eq, IfSome}
 use Rattle.std.specs.List.{filter, find, flat_map, list_any, Contains}
-use Rattle.std.proofs.lemmas.List.{take_more, drop_more}
 use Rattle.std.proofs.lemmas.List.Elements.{filter-append}
 use Rattle.std.proofs.lemmas.List.Folds.{list_any-append}
 use Rattle.std.proofs.lemmas.Slice.Eq.{bytes_eq-Decides}
 use Rattle.flat_net.proofs.TableLemmas.{list_any-map, slice_get-take}
 use Rattle.flat_net.specs.Table.{is_among as is_entry}
 use Rattle.circuit_theory.specs.Names.{same_name, is_among}
-use Rattle.circuit_theory.specs.Interface.{Ports, is_clock, inputs_beside, first_missing}
+use Rattle.circuit_theory.specs.Interface.{Ports, is_clock, inputs_beside}
 use Rattle.circuit_theory.proofs.Inputs.{same_name-sound}
 use Rattle.circuit_theory.proofs.Numbers.{same_name-refl, is_among-sound, is_among-complete, slice_get-map}
 use Rattle.flat_net.specs.declared.parts.Port.{Port}
@@ -19,7 +18,7 @@ use Rattle.flat_net.specs.declared.signals.Signal.{Signal}
 use Rattle.flat_net.specs.View.{NetView, is_read, ports_of}
 use Rattle.flat_net.specs.declared.parts.Driver.TheVariants as driver
 use Rattle.flat_net.specs.Sound.{IsSound}
-use Rattle.std.proofs.lemmas.Option.{slice_get_within, get_or_from_slice_get, slice_get_read}
+use Rattle.std.proofs.lemmas.Option.{slice_get_read}
 use Rattle.circuit_theory.proofs.Lists.{at_of, of_at, map_at, Contains-map, Contains-map_from, Contains-filter}
 use Rattle.interface.proofs.Shared.{some_is, Contains-filter_in, filter-passed}
 use Rattle.interface.specs.Numbered.{stays}
@@ -110,17 +109,6 @@ fresh_entry n sound other i p at = go (is_entry names p.name) refl
     go : (b : Bool) → is_entry names p.name ≡ b → is_entry names p.name ≡ false
     go false e = e
     go true e = absurd (twice (is_among-sound names p.name (among_entries names p.name ∙ e)))
-
--- the rest of the names begin with this one
-pub missing_more : (names others : List (List ℕ)) (i : ℕ) (name : List ℕ) → slice_get names i ≡ Some name →
-    first_missing (drop i names) others ≡ cond (is_entry others name) (first_missing (drop (i + 1) names) others) (Some name)
-missing_more names others i name at =
-    ap (λ (ns : List (List ℕ)). first_missing ns others) (drop_more names i name (slice_get_within names i name at) ∙ ap (λ (m : List ℕ). m ∷ drop (i + 1) names) (get_or_from_slice_get names i name name at))
-    ∙ turned (is_entry others name) (among_entries others name)
-  where
-    turned : (b : Bool) → is_among others name ≡ b → first_missing (name ∷ drop (i + 1) names) others ≡ cond b (first_missing (drop (i + 1) names) others) (Some name)
-    turned true e = ap (λ (t : Bool). cond (not t) (Some name) (first_missing (drop (i + 1) names) others)) e
-    turned false e = ap (λ (t : Bool). cond (not t) (Some name) (first_missing (drop (i + 1) names) others)) e
 
 -- one input more that stays or doesn't
 pub beside_more : (n : NetView) → IsSound n → (other : Ports) (i : ℕ) (p : Port) → slice_get n.inputs i ≡ Some p →

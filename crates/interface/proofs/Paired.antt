@@ -1,13 +1,12 @@
 -- The output of a name, by the place of its name.
-use Rattle.std.proofs.Common.{◌≡◌, ℕ, zero, suc, ◌+◌, ◌<◌, ◌≤◌, Bool, true, false, cond, List, [], ◌∷◌, ◌++◌, map, length, get_or, take, refl, sym, ◌∙◌, ap, subst, arith, add-one, Some, slice_get}
+use Rattle.std.proofs.Common.{◌≡◌, ℕ, zero, suc, ◌+◌, ◌<◌, Bool, true, false, cond, List, [], ◌∷◌, ◌++◌, map, length, get_or, take, refl, sym, ◌∙◌, ap, arith, add-one, Some, slice_get}
 use Rattle.std.specs.List.{Contains}
-use Rattle.std.proofs.lemmas.List.{map-append, take-map}
 use Rattle.std.proofs.lemmas.Option.{slice_get_within, slice_get-get_or, get_or_from_slice_get, none-some}
 use Rattle.std.proofs.Math.Seq.{take-suc}
 use Rattle.circuit_theory.specs.Names.{same_name}
 use Rattle.circuit_theory.specs.Agree.{place_named}
 use Rattle.circuit_theory.proofs.Inputs.{same_name-sound}
-use Rattle.circuit_theory.proofs.Numbers.{same_name-refl, slice_get-map}
+use Rattle.circuit_theory.proofs.Numbers.{same_name-refl}
 use Rattle.flat_net.specs.declared.parts.Port.{Port}
 use Rattle.flat_net.specs.View.{named}
 use Rattle.flat_net.specs.Table.{AreDistinct}
@@ -59,32 +58,6 @@ port_within [] i name h = slice_get_within [] i name h
 port_within (p ∷ ports) zero name h = omega arith
 port_within (p ∷ ports) (suc i) name h = let ih = port_within ports i name h in omega arith
 
--- the name at a place is none of those before
-pub name_is_new : (names : List (List ℕ)) (i : ℕ) (name : List ℕ) → AreDistinct names → slice_get names i ≡ Some name → Contains (take i names) name → ⊥
-name_is_new names i name distinct at h =
-    let there = taken names i h.0 name (slice_get-get_or (take i names) h.0 name h.1 ∙ ap Some h.2) in
-    let same : h.0 ≡ i = distinct h.0 i name there at in
-    omega (arith, short names i, h.1, same)
-  where
-    taken : (xs : List (List ℕ)) (n k : ℕ) (x : List ℕ) → slice_get (take n xs) k ≡ Some x → slice_get xs k ≡ Some x
-    taken [] zero k x e = e
-    taken [] (suc n) k x e = e
-    taken (y ∷ xs) zero k x e = absurd (let l = slice_get_within [] k x e in omega arith)
-    taken (y ∷ xs) (suc n) zero x e = e
-    taken (y ∷ xs) (suc n) (suc k) x e = taken xs n k x e
-
-    short : (xs : List (List ℕ)) (n : ℕ) → length (take n xs) ≤ n
-    short [] zero = omega arith
-    short [] (suc n) = omega arith
-    short (y ∷ xs) zero = omega arith
-    short (y ∷ xs) (suc n) = let ih = short xs n in omega arith
-
-pub names_short : (ports : List Port) (i : ℕ) → length (names_of (take i ports)) ≤ i
-names_short [] zero = omega arith
-names_short [] (suc i) = omega arith
-names_short (p ∷ ports) zero = omega arith
-names_short (p ∷ ports) (suc i) = let ih = names_short ports i in omega arith
-
 -- the element that a loop is at
 pub item_at : {X : Type 0} (xs ys : List X) (i : ℕ) (x : X) → ys ≡ xs → i < length ys → x ≡ get_or ys i x → slice_get xs i ≡ Some x
 item_at xs ys i x same h is = ap (λ zs. slice_get zs i) (sym same) ∙ (slice_get-get_or ys i x h ∙ ap Some (sym is))
@@ -93,13 +66,3 @@ item_at xs ys i x same h is = ap (λ zs. slice_get zs i) (sym same) ∙ (slice_g
 pub take_next : {X : Type 0} (xs : List X) (i : ℕ) (x : X) → slice_get xs i ≡ Some x → take (i + 1) xs ≡ take i xs ++ x ∷ []
 take_next {X} xs i x at =
     ap (λ k. take k xs) (add-one i) ∙ (take-suc xs i x (slice_get_within xs i x at) ∙ ap (λ (y : X). take i xs ++ y ∷ []) (get_or_from_slice_get xs i x x at))
-
--- a table of names with one name more
-pub names_next : (ports : List Port) (i : ℕ) (port : Port) (name : List ℕ) (table more : List (List ℕ)) → AreDistinct (names_of ports) → slice_get ports i ≡ Some port → name ≡ port.name →
-    table ≡ names_of (take i ports) → ((Contains table name → ⊥) → more ≡ table ++ name ∷ []) → more ≡ names_of (take (i + 1) ports)
-names_next ports i port name table more distinct at same held added =
-    let front : table ≡ take i (names_of ports) = held ∙ sym (take-map (λ (p : Port). p.name) i ports) in
-    let own : slice_get (names_of ports) i ≡ Some name = slice_get-map (λ (p : Port). p.name) ports i port at ∙ ap Some (sym same) in
-    added (λ h. name_is_new (names_of ports) i name distinct own (subst (λ (names : List (List ℕ)). Contains names name) front h))
-    ∙ (ap (λ (names : List (List ℕ)). names ++ name ∷ []) held ∙ (ap (λ (n : List ℕ). names_of (take i ports) ++ n ∷ []) same
-    ∙ (sym (map-append (λ (p : Port). p.name) (take i ports) (port ∷ [])) ∙ ap names_of (sym (take_next ports i port at)))))

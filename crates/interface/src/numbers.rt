@@ -5,6 +5,7 @@ ghost use Rattle.circuit_theory.specs.Interface.{first_missing, inputs_beside, i
 ghost use Rattle.flat_net.specs.View.{ports_of};
 ghost use Rattle.interface.specs.Numbered.{AreNumbered, AreNumbers, stays};
 
+use crate::name_tables::first_missing;
 use flat_net::{Ids, NameTable, Net, NoMemory, Orders};
 use std::alloc::Global;
 
@@ -44,19 +45,6 @@ pub fn inputs_beside(alloc: Global, own: &Net, other: &Net) -> Result<NameTable,
         names.intern(alloc, port.name.as_slice())?;
     }
     Ok(names)
-}
-
-/// The first of the names that isn't among the others.
-fn first_missing<'a>(names: &'a NameTable, others: &NameTable) -> Option<&'a [u8]>
-    ensures { option_map (λ name. name.now) result ≡ first_missing names.now others.now }
-{
-    for id in 0..names.len() {
-        let name = names.name(id);
-        if !others.has(name) {
-            return Some(name);
-        }
-    }
-    None
 }
 
 /// The numbers of a circuit's inputs: a shared name's place, or for the others, in their order, numbers from `from` on; and

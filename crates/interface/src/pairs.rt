@@ -9,6 +9,7 @@ ghost use Rattle.flat_net.specs.View.{ports_of};
 ghost use Rattle.flat_net.specs.Comparable.{IsComparable};
 ghost use Rattle.interface.specs.Pairing.{AreNamedAt, IsOutputPair, IsNextPairAt, ArePairs};
 
+use crate::name_tables::table_of_ports;
 use flat_net::{Ids, NameTable, Net, NoMemory, Port, Seq, Signal, Words};
 use std::alloc::Global;
 use witness_report::PairName;
@@ -114,9 +115,5 @@ pub fn output_names(alloc: Global, outputs: &[Port]) -> Result<NameTable, NoMemo
     requires few { length outputs.now ≤ 2 ^ 27 }
     ensures { IfOk result (λ table. table ≡ map (λ p. p.name) outputs.now) }
 {
-    let mut table = NameTable::new(alloc);
-    for output in outputs {
-        table.intern(alloc, output.name.as_slice())?;
-    }
-    Ok(table)
+    table_of_ports(alloc, outputs)
 }

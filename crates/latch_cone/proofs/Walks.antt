@@ -1,9 +1,10 @@
 -- How a walk backwards through gates goes on.
-use Rattle.std.proofs.Common.{◌≡◌, ◌≢◌, ℕ, ◌+◌, ◌<◌, ◌≤◌, Bool, true, false, List, [], ◌∷◌, ◌++◌, length, map, Some, refl, sym, ◌∙◌, ap, subst, arith, inl, inr}
+use Rattle.std.proofs.Common.{◌≡◌, ◌≢◌, ℕ, ◌+◌, ◌<◌, ◌≤◌, List, [], ◌∷◌, ◌++◌, length, map, Some, refl, sym, ◌∙◌, ap, subst, arith, inl, inr}
 use Rattle.std.specs.Prelude.{◌⊎◌, slice_get}
 use Rattle.std.specs.List.{Contains}
 use Rattle.std.proofs.lemmas.Option.{slice_get_within}
 use Rattle.std.proofs.lemmas.List.Elements.{All-contains}
+use Rattle.base_tables.specs.unique_table.Places.{IsWith}
 use Rattle.flat_net.specs.declared.signals.Signal.{Signal}
 use Rattle.flat_net.specs.declared.parts.Gate.{Gate}
 use Rattle.flat_net.specs.declared.parts.Driver.TheVariants as driver
@@ -36,9 +37,9 @@ reach_on (Reaches.there first more) rest = Reaches.there first (reach_on more re
 abbrev pub IsPut : List ℕ → List ℕ → ℕ → Type 0
 IsPut old new s = ((new ≡ old) × Contains old s) ⊎ ((new ≡ old ++ s ∷ []) × (Contains old s → ⊥))
 
-pub is_put : (old new : List ℕ) (s : ℕ) (b : Bool) → (b ≡ true → (new ≡ old ++ s ∷ []) × (Contains old s → ⊥)) → (b ≡ false → (new ≡ old) × Contains old s) → IsPut old new s
-is_put old new s true f g = inr (f refl)
-is_put old new s false f g = inl (g refl)
+pub is_put : (old new : List ℕ) (s : ℕ) → IsWith old s new → IsPut old new s
+is_put old new s (inl x) = inl (x.1, x.0)
+is_put old new s (inr x) = inr (x.1, x.0)
 
 pub put_stay : (old new : List ℕ) (s : ℕ) → IsPut old new s → Stay old new
 put_stay old new s (inl x) i r h = subst (λ z. slice_get z i ≡ Some r) (sym x.0) h

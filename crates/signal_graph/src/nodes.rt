@@ -1,10 +1,8 @@
 //! What each signal reads.
 
-ghost use Rattle.std.specs.Prelude.{◌≡◌, ◌<◌, ℕ, [], ◌∷◌, length, slice_get, Some, IfOk};
+ghost use Rattle.std.specs.Prelude.{◌≡◌, ◌<◌, ℕ, length, slice_get, Some, IfOk};
 ghost use Rattle.inner_cone.specs.Inner.{AreRanked};
-ghost use Rattle.inner_cone.specs.Sides.{AreSides};
 ghost use Rattle.inner_cone.specs.flat_net.declared.parts.Driver.{Driver};
-ghost use Rattle.inner_cone.specs.flat_net.declared.parts.LatchAt.{LatchAt};
 ghost use Rattle.signal_graph.specs.declared.nodes.Node.{Node};
 ghost use Rattle.signal_graph.specs.Graph.{IsNodeOf, AreTaken};
 
@@ -71,7 +69,13 @@ fn node_of(
             latch: None,
         }),
         Driver::Latch(j) => {
-            let reads = taken(alloc, net, numbers, j, is_set(skipped, j))?;
+            let reads = taken(
+                alloc,
+                net,
+                numbers,
+                &net.latches()[j as usize],
+                skipped[j as usize],
+            )?;
             Ok(Node {
                 reads,
                 latch: Some(j),
@@ -80,52 +84,23 @@ fn node_of(
     }
 }
 
-/// The bit of a latch.
-fn is_set(bits: &[bool], latch: u32) -> bool
-    requires { latch < length bits.now }
-    ensures { slice_get bits.now latch ≡ Some result }
-{
-    bits[latch as usize]
-}
-
 /// What a latch's node reads: what the latch takes over, or what leads to the other latches of its cone and not back to it.
 fn taken(
     alloc: Global,
     net: &Net,
     numbers: &[u32],
-    latch: u32,
+    latch: &LatchAt,
     skipped: bool,
 ) -> Result<Signals, NoMemory>
     requires ranked { AreRanked net.now numbers.now }
-    requires latch { latch < length net.now.latches }
-    ensures { IfOk result (λ reads. (l : LatchAt) → slice_get net.now.latches latch ≡ Some l → AreTaken net.now l skipped reads) }
+    requires within { latch.now.next.0 < length net.now.drivers }
+    ensures { IfOk result (AreTaken net.now latch.now skipped) }
 {
     if skipped {
-        let reads = sides_at(alloc, net, numbers, latch)?;
-        Ok(reads)
-    } else {
-        let reads = next_alone(alloc, net.latches()[latch as usize].next)?;
-        Ok(reads)
+        return sides_of(alloc, net, numbers, latch.next, latch.out);
     }
-}
-
-/// What leads to the other latches of the latch's cone and not back to it.
-fn sides_at(alloc: Global, net: &Net, numbers: &[u32], latch: u32) -> Result<Signals, NoMemory>
-    requires ranked { AreRanked net.now numbers.now }
-    requires latch { latch < length net.now.latches }
-    ensures { IfOk result (λ reads. (l : LatchAt) → slice_get net.now.latches latch ≡ Some l → AreSides net.now l.next.0 l.out.0 reads) }
-{
-    net.keeps();
-    let taker = &net.latches()[latch as usize];
-    let sides = sides_of(alloc, net, numbers, taker.next, taker.out)?;
-    Ok(sides)
-}
-
-fn next_alone(alloc: Global, next: Signal) -> Result<Signals, NoMemory>
-    ensures { IfOk result (λ reads. reads ≡ next ∷ []) }
-{
     let mut reads = Signals::new(alloc);
-    reads.push(next)?;
+    reads.push(latch.next)?;
     Ok(reads)
 }
 

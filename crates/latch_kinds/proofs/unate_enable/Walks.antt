@@ -1,15 +1,15 @@
 -- Signals that are reached, sorted.
-use Rattle.std.proofs.Common.{◌≡◌, ◌<◌, ◌==◌, ℕ, Bool, true, false, true≢false, List, length, Contains, refl, sym, ◌∙◌, subst}
+use Rattle.std.proofs.Common.{◌≡◌, ◌<◌, ◌==◌, ℕ, List, length, Contains, subst}
 use Rattle.std.specs.List.{IsDistinct}
 use Rattle.std.specs.List.Sorted.{IsPermutation, IsSorted}
 use Rattle.std.specs.Ordering.{nat_cmp}
-use Rattle.std.proofs.lemmas.Bool.Decides.{Decides-eqb}
 use Rattle.std.proofs.lemmas.List.Sorted.{Contains-permutation, IsPermutation-sym, IsNonDecreasingBy-from_sort}
 use Rattle.std.proofs.lemmas.Map.Keys.{IsStrictlyIncreasing-from_distinct, IsDistinct-IsPermutation}
 use Rattle.circuit_theory.specs.Circuit.{Circuit, Reads, Reaches}
 use Rattle.circuit_theory.proofs.Lists.{All-from_each, at_of}
 use Rattle.flat_net.specs.View.{NetView, circuit_of}
 use Rattle.latch_cone.specs.Cones.{AreReached as AreAllReached}
+use Rattle.inner_cone.proofs.Inner.{eqb-swap, some_distinct}
 use Rattle.latch_kinds.specs.unate_enable.Walks.{AreReached}
 
 -- what is reached goes on to what that reads
@@ -17,22 +17,12 @@ pub reaches_on : (c : Circuit ℕ) (p s q : ℕ) → Reaches c p s → Reads c s
 reaches_on c p s q Reaches.here r = Reaches.there r Reaches.here
 reaches_on c p s q (Reaches.there {q = m} first rest) r = Reaches.there first (reaches_on c m s q rest r)
 
--- equality of numbers is one both ways
-eqb-swap : (x y : ℕ) → (x == y) ≡ (y == x)
-eqb-swap x y = by (x == y) (y == x) refl refl
-  where
-    by : (b c : Bool) → (x == y) ≡ b → (y == x) ≡ c → b ≡ c
-    by true true p q = refl
-    by false false p q = refl
-    by true false p q = absurd (true≢false (sym ((Decides-eqb y x).1 (sym ((Decides-eqb x y).0 p))) ∙ q))
-    by false true p q = absurd (true≢false (sym ((Decides-eqb x y).1 (sym ((Decides-eqb y x).0 q))) ∙ p))
-
 -- all that is reached, each once, sorted
-pub reached_sorted : (n : NetView) (from : ℕ) (seen items sorted : List ℕ) → AreAllReached n from seen → IsDistinct (λ x y. x == y) seen → items ≡ seen → IsPermutation items sorted → IsSorted nat_cmp sorted →
+pub reached_sorted : (n : NetView) (from : ℕ) (seen items sorted : List ℕ) → AreAllReached n from seen → items ≡ seen → IsPermutation items sorted → IsSorted nat_cmp sorted →
     AreReached (circuit_of n) (length n.drivers) from sorted
-reached_sorted n from seen items sorted all distinct is same order =
+reached_sorted n from seen items sorted all is same order =
     let moved : IsPermutation seen sorted = subst (λ (xs : List ℕ). IsPermutation xs sorted) is same in
-    let apart : IsDistinct (λ x y. x == y) sorted = IsDistinct-IsPermutation (λ x y. x == y) eqb-swap seen sorted moved distinct in
+    let apart : IsDistinct (λ x y. x == y) sorted = IsDistinct-IsPermutation (λ x y. x == y) eqb-swap seen sorted moved (some_distinct n from seen all.some) in
     record {
       increasing = IsStrictlyIncreasing-from_distinct sorted (IsNonDecreasingBy-from_sort (λ x. x) sorted order) apart;
       within = All-from_each (λ s. s < length n.drivers) sorted (λ s h. within s (back s moved h));

@@ -1,10 +1,10 @@
 //! The readings within components.
 
-ghost use Rattle.std.specs.Prelude.{◌≡◌, ◌^◌, ◌<◌, ◌≤◌, ◌==◌, true, All, length, filter, slice_index_or, IfOk};
-ghost use Rattle.signal_graph.specs.flat_net.declared.signals.Signal.{Signal};
-ghost use Rattle.minimal_cut.specs.graph_components.Inner.{AreRanked, AreInner, IsInnerOf};
+ghost use Rattle.std.specs.Prelude.{◌≡◌, ◌^◌, ◌<◌, ◌==◌, true, length, filter, slice_index_or, IfOk};
+ghost use Rattle.minimal_cut.specs.graph_components.Inner.{AreRanked, AreInner};
 
-use crate::graph_components::components::{components_of, number_at};
+use crate::graph_components::components::numbers_of;
+use inner_cone::{are_at_most, number_at};
 use signal_graph::{NoMemory, Node, Signal, Signals};
 use std::alloc::Global;
 
@@ -14,7 +14,7 @@ pub fn inner_nodes(alloc: Global, nodes: &[Node]) -> Result<Vec<Node>, NoMemory>
     requires { length nodes.now < 2 ^ 32 }
     ensures { IfOk result (λ inner. AreInner nodes.now inner.items) }
 {
-    let found = components_of(alloc, nodes)?;
+    let found = numbers_of(alloc, nodes)?;
     let labels = ranked(nodes, found.as_slice());
     within(alloc, nodes, labels)
 }
@@ -45,18 +45,6 @@ fn are_ranked(nodes: &[Node], labels: &[u32]) -> bool
     true
 }
 
-/// Whether the signals' numbers are at most this one.
-fn are_at_most(reads: &[Signal], labels: &[u32], most: u32) -> bool
-    ensures { result ≡ true → All (λ r. slice_index_or labels.now r.0 0 ≤ most) reads.now }
-{
-    for read in reads {
-        if number_at(labels, read.0) > most {
-            return false;
-        }
-    }
-    true
-}
-
 /// The nodes with their readings of signals of their own numbers.
 fn within(alloc: Global, nodes: &[Node], labels: &[u32]) -> Result<Vec<Node>, NoMemory>
     requires few { length nodes.now < 2 ^ 32 }
@@ -66,17 +54,11 @@ fn within(alloc: Global, nodes: &[Node], labels: &[u32]) -> Result<Vec<Node>, No
     let mut inner = Vec::with_capacity(alloc, nodes.len())?;
     for s in 0..nodes.len() {
         let node = &nodes[s];
-        inner.push(inner_node(alloc, node, labels, number_at(labels, s as u32))?)?;
+        let label = number_at(labels, s as u32);
+        let reads = same_of(alloc, node.reads.as_slice(), labels, label)?;
+        inner.push(Node { reads, latch: None })?;
     }
     Ok(inner)
-}
-
-/// The node with its readings of signals of this number.
-fn inner_node(alloc: Global, node: &Node, labels: &[u32], label: u32) -> Result<Node, NoMemory>
-    ensures { IfOk result (λ made. IsInnerOf labels.now label node.now made) }
-{
-    let reads = same_of(alloc, node.reads.as_slice(), labels, label)?;
-    Ok(Node { reads, latch: None })
 }
 
 /// The signals of this number.

@@ -1,6 +1,6 @@
 //! The weight of an unfolding.
 
-ghost use Rattle.std.specs.Prelude.{◌≡◌, ℕ, ◌+◌, ◌*◌, ◌^◌, ◌<◌, ◌≤◌, max, map, List, [], ◌∷◌, ◌++◌, length, slice_get, true, false, Some, IfOk, IfSome, IfNone, OnOk, Contains};
+ghost use Rattle.std.specs.Prelude.{◌≡◌, ℕ, ◌+◌, ◌*◌, ◌^◌, ◌<◌, ◌≤◌, map, List, [], length, slice_get, Some, IfOk, IfSome, IfNone, OnOk};
 ghost use Rattle.inner_cone.specs.circuit_theory.Sizes.{IsOver};
 ghost use Rattle.inner_cone.specs.flat_net.declared.signals.Signal.{Signal};
 ghost use Rattle.inner_cone.specs.flat_net.View.{circuit_of};
@@ -8,7 +8,7 @@ ghost use Rattle.signal_graph.specs.Graph.{ArePlainNodes, step_of};
 ghost use Rattle.signal_graph.specs.unfolding_weight.Weight.{Weighs, weight_of, AreMet, Stay, Meeting, IsVisited, AreVisited, AreThere, AreReadsThere};
 
 use crate::nodes::Node;
-use indexmap::IndexSet;
+use base_tables::UniqueTable;
 use inner_cone::{Driver, Net, NoMemory, Signal};
 use std::alloc::Global;
 
@@ -33,7 +33,7 @@ pub fn weigh(
     requires within { (k : ℕ) (r : Signal) → slice_get outputs.now k ≡ Some r → r.0 < length net.now.drivers }
     ensures { IfOk result (Weighs (circuit_of net.now) (map (λ s. s.0) outputs.now) cap) }
 {
-    let mut places = IndexSet::new(alloc);
+    let mut places = UniqueTable::new(alloc, u32::MAX);
     weigh_all(nodes, net, &mut places, outputs, cap)
 }
 
@@ -41,13 +41,13 @@ pub fn weigh(
 fn weigh_all(
     nodes: &[Node],
     net: &Net,
-    places: &mut IndexSet<(u32, u32)>,
+    places: &mut UniqueTable<(u32, u32)>,
     outputs: &[Signal],
     cap: u32,
 ) -> Result<Weight, NoMemory>
     requires graph { ArePlainNodes net.now nodes.now }
     requires within { (k : ℕ) (r : Signal) → slice_get outputs.now k ≡ Some r → r.0 < length net.now.drivers }
-    requires empty { places.old.keys ≡ [] }
+    requires empty { places.old ≡ [] }
     ensures { IfOk result (Weighs (circuit_of net.now) (map (λ s. s.0) outputs.now) cap) }
 {
     net.keeps();
@@ -56,8 +56,8 @@ fn weigh_all(
     };
     let mut total = first;
     let mut at = 0;
-    while at < place_count(places) {
-        let place = place_at(places, at);
+    while at < places.len() {
+        let place = places.key(at);
         match meet_reads(nodes, net, places, place, total, cap)? {
             Some(sum) => total = sum,
             None => return Ok(Weight::Over),
@@ -67,38 +67,25 @@ fn weigh_all(
     Ok(Weight::Within(total))
 }
 
-fn place_count(places: &IndexSet<(u32, u32)>) -> usize
-    ensures { result ≡ length places.now.keys }
-{
-    places.len()
-}
-
-fn place_at(places: &IndexSet<(u32, u32)>, at: usize) -> (u32, u32)
-    requires { at < length places.now.keys }
-    ensures { slice_get places.now.keys at ≡ Some result }
-{
-    places[at]
-}
-
 /// Adds what a place reads, a latch's in the cycle before.
 fn meet_reads(
     nodes: &[Node],
     net: &Net,
-    places: &mut IndexSet<(u32, u32)>,
+    places: &mut UniqueTable<(u32, u32)>,
     place: (u32, u32),
     total: u32,
     cap: u32,
 ) -> Result<Option<u32>, NoMemory>
     requires graph { ArePlainNodes net.now nodes.now }
     requires within { place.0 < length net.now.drivers }
-    requires early { place.1 + 1 ≤ length places.old.keys }
-    requires few { length places.old.keys ≤ total }
+    requires early { place.1 + 1 ≤ length places.old }
+    requires few { length places.old ≤ total }
     requires low { total ≤ cap }
-    ensures met { IfOk result (λ sum. IfSome sum (λ sum. (outputs : List ℕ) → IsVisited net.now outputs place → AreMet net.now outputs places.old.keys total → AreMet net.now outputs places.new.keys sum)) }
+    ensures met { IfOk result (λ sum. IfSome sum (λ sum. (outputs : List ℕ) → IsVisited net.now outputs place → AreMet net.now outputs places.old total → AreMet net.now outputs places.new sum)) }
     ensures low { IfOk result (λ sum. IfSome sum (λ sum. sum ≤ cap)) }
-    ensures there { IfOk result (λ sum. IfSome sum (λ sum. AreReadsThere nodes.now place places.new.keys)) }
-    ensures stay { OnOk result (Stay places.old.keys places.new.keys) }
-    ensures over { IfOk result (λ sum. IfNone sum ((outputs : List ℕ) → IsVisited net.now outputs place → AreMet net.now outputs places.old.keys total → IsOver (circuit_of net.now) outputs cap)) }
+    ensures there { IfOk result (λ sum. IfSome sum (λ sum. AreReadsThere nodes.now place places.new)) }
+    ensures stay { OnOk result (Stay places.old places.new) }
+    ensures over { IfOk result (λ sum. IfNone sum ((outputs : List ℕ) → IsVisited net.now outputs place → AreMet net.now outputs places.old total → IsOver (circuit_of net.now) outputs cap)) }
 {
     let node = &nodes[place.0 as usize];
     let shift = back(node, place.1);
@@ -120,20 +107,20 @@ fn back(node: &Node, shift: u32) -> u32
 /// Adds these signals, so many cycles ago. Gives the new sum of the weights; None exactly where it is above the cap.
 fn meet_all(
     net: &Net,
-    places: &mut IndexSet<(u32, u32)>,
+    places: &mut UniqueTable<(u32, u32)>,
     reads: &[Signal],
     shift: u32,
     total: u32,
     cap: u32,
 ) -> Result<Option<u32>, NoMemory>
     requires within { (k : ℕ) (r : Signal) → slice_get reads.now k ≡ Some r → r.0 < length net.now.drivers }
-    requires early { shift ≤ length places.old.keys }
+    requires early { shift ≤ length places.old }
     requires low { total ≤ cap }
-    ensures met { IfOk result (λ sum. IfSome sum (λ sum. (outputs : List ℕ) → AreVisited net.now outputs reads.now shift → AreMet net.now outputs places.old.keys total → AreMet net.now outputs places.new.keys sum)) }
+    ensures met { IfOk result (λ sum. IfSome sum (λ sum. (outputs : List ℕ) → AreVisited net.now outputs reads.now shift → AreMet net.now outputs places.old total → AreMet net.now outputs places.new sum)) }
     ensures low { IfOk result (λ sum. IfSome sum (λ sum. sum ≤ cap)) }
-    ensures there { IfOk result (λ sum. IfSome sum (λ sum. AreThere reads.now (length reads.now) shift places.new.keys)) }
-    ensures stay { OnOk result (Stay places.old.keys places.new.keys) }
-    ensures over { IfOk result (λ sum. IfNone sum ((outputs : List ℕ) → AreVisited net.now outputs reads.now shift → AreMet net.now outputs places.old.keys total → IsOver (circuit_of net.now) outputs cap)) }
+    ensures there { IfOk result (λ sum. IfSome sum (λ sum. AreThere reads.now (length reads.now) shift places.new)) }
+    ensures stay { OnOk result (Stay places.old places.new) }
+    ensures over { IfOk result (λ sum. IfNone sum ((outputs : List ℕ) → AreVisited net.now outputs reads.now shift → AreMet net.now outputs places.old total → IsOver (circuit_of net.now) outputs cap)) }
 {
     net.keeps();
     let mut sum = total;
@@ -149,29 +136,22 @@ fn meet_all(
 /// Adds a signal so many cycles ago, if it isn't there yet.
 fn meet(
     net: &Net,
-    places: &mut IndexSet<(u32, u32)>,
+    places: &mut UniqueTable<(u32, u32)>,
     place: (u32, u32),
     total: u32,
     cap: u32,
 ) -> Result<Option<u32>, NoMemory>
     requires place { place.0 < length net.now.drivers }
     requires low { total ≤ cap }
-    ensures { IfOk result (Meeting net.now places.old.keys places.new.keys place total cap) }
+    ensures { IfOk result (Meeting net.now places.old places.new place total cap) }
 {
-    if insert(places, place)? {
-        Ok(heavier(net, Signal(place.0), total, cap))
-    } else {
-        Ok(Some(total))
+    match places.find(place) {
+        Some(_) => Ok(Some(total)),
+        None => {
+            places.put(place)?;
+            Ok(heavier(net, Signal(place.0), total, cap))
+        }
     }
-}
-
-/// Whether the place is new; it goes last then.
-fn insert(places: &mut IndexSet<(u32, u32)>, place: (u32, u32)) -> Result<bool, NoMemory>
-    ensures new { IfOk result (λ new. new ≡ true → (places.new.keys ≡ places.old.keys ++ place ∷ []) × (Contains places.old.keys place → ⊥)) }
-    ensures old { IfOk result (λ new. new ≡ false → (places.new.keys ≡ places.old.keys) × Contains places.old.keys place) }
-{
-    let (_, new) = places.insert_full(place)?;
-    Ok(new)
 }
 
 /// The sum with the signal's weight; None exactly where it is above the cap.
@@ -185,18 +165,12 @@ fn heavier(net: &Net, s: Signal, total: u32, cap: u32) -> Option<u32>
     match net.driver(s) {
         Driver::Gate(j) => {
             let gate = &net.gates()[j as usize];
-            let rows = net.cover(gate.cover).rows().len();
+            let rows = net.cover(gate.cover).rows().len().max(1);
             let fanins = gate.fanins.as_slice().len();
-            added_to(total, at_least_one(rows), fanins + 1, cap)
+            added_to(total, rows, fanins + 1, cap)
         }
         _ => { if total < cap { Some(total + 1) } else { None } }
     }
-}
-
-fn at_least_one(rows: usize) -> usize
-    ensures { result ≡ max 1 rows }
-{
-    if rows == 0 { 1 } else { rows }
 }
 
 /// total + 1 + rows * columns; None exactly where it is above the cap.

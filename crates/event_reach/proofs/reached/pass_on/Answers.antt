@@ -1,5 +1,5 @@
 -- The others of the latch's cone are put at the child.
-use Rattle.std.proofs.Common.{◌≡◌, ◌∙◌, ◌<◌, ℕ, List, length, slice_get, sym, ap, subst}
+use Rattle.std.proofs.Common.{◌≡◌, ◌∙◌, ◌<◌, ℕ, List, length, slice_get, refl, sym, ap, subst}
 use Rattle.std.specs.List.{All, Contains}
 use Rattle.event_nodes.specs.flat_net.declared.signals.Signal.{Signal}
 use Rattle.std.proofs.lemmas.Option.{slice_get_within}
@@ -11,7 +11,8 @@ use Rattle.event_nodes.specs.Reach.{IsReachedPlace}
 use Rattle.event_nodes.specs.View.{side_of}
 use Rattle.event_nodes.specs.Visited.{AreNodesFrom}
 use Rattle.event_nodes.proofs.Drivers.{latch_of_equation}
-use Rattle.event_nodes.proofs.Lists.{adds_weaker}
+use Rattle.event_nodes.proofs.Growing.{grows_refl}
+use Rattle.event_nodes.proofs.Lists.{adds_none, adds_weaker}
 use Rattle.event_reach.proofs.Making.{no_nodes, child_made}
 use Rattle.event_reach.proofs.Passing.{drives_at, latch_at, passed_on, place_reached, ok_always, ok_then}
 use Rattle.event_reach.proofs.reached.pass_on.Goals as goal
@@ -71,3 +72,31 @@ returns-clause-child c =
     let l = latch_at _ _ c.keeps.ensures.sound c.args.place.1 c.in-Latch.j _ c.net-net.ensures c.driver.ensures c.in-Latch.is in
     ok_always c.put_all.result
     (c.in_ok-child.child, subst (λ (k : ℕ). IsChild c.child.new.self.children c.args.place.0 k c.in_ok-child.child) (sym (ap (side_of c.args.circuit.now).class (sym l.2) ∙ c.class.ensures l.0 l.1)) c.in_ok-child.ensures.here)
+
+pub returns-in_err-others-clause-kept : goal.returns-in_err-others-clause-kept
+returns-in_err-others-clause-kept c = adds_none (λ (q : ℕ × ℕ). q ≡ q) c.args.table.now c.args.table.now refl
+
+pub returns-in_err-others-clause-grows : goal.returns-in_err-others-clause-grows
+returns-in_err-others-clause-grows c = grows_refl c.args.events.now
+
+pub returns-in_err-child-clause-kept : goal.returns-in_err-child-clause-kept
+returns-in_err-child-clause-kept c = adds_none (λ (q : ℕ × ℕ). q ≡ q) c.args.table.now c.args.table.now refl
+
+pub returns-in_err-child-clause-grows : goal.returns-in_err-child-clause-grows
+returns-in_err-child-clause-grows c = c.child.ensures.grows
+
+pub returns-in_err-child-clause-same : goal.returns-in_err-child-clause-same
+returns-in_err-child-clause-same c = c.child.ensures.same
+
+pub returns-clause-kept : goal.returns-clause-kept
+returns-clause-kept c =
+    adds_weaker (λ (q : ℕ × ℕ). (f : Signal) × Contains c.as_slice.result.now f × ((c.in_ok-child.child, f.0) ≡ q)) (λ (q : ℕ × ℕ). q ≡ q) c.args.table.now c.put_all.new.table (λ q x. refl) c.put_all.ensures.adds
+
+pub returns-clause-few : goal.returns-clause-few
+returns-clause-few c = c.put_all.ensures.few
+
+pub returns-clause-grows : goal.returns-clause-grows
+returns-clause-grows c = c.child.ensures.grows
+
+pub returns-clause-same : goal.returns-clause-same
+returns-clause-same c = c.child.ensures.same

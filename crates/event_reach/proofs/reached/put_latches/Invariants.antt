@@ -8,7 +8,7 @@ use Rattle.event_reach.proofs.reached.put_latches.Given as goal
 
 abbrev pub invariant-loop-at : goal.invariant-loop-at
 invariant-loop-at l = record {
-  adds : Adds (IsRootLatch l.net l.signals.keys) l.initial.table l.table;
-  all : (i v : ℕ) (name : List ℕ) (next : ℕ) → i < l.at → slice_get l.signals.keys i ≡ Some v → IsLatch (circuit_of l.net) name v next → Contains l.table (0, v);
+  adds : Adds (IsRootLatch l.net l.signals) l.initial.table l.table;
+  all : (i v : ℕ) (name : List ℕ) (next : ℕ) → i < l.at → slice_get l.signals i ≡ Some v → IsLatch (circuit_of l.net) name v next → Contains l.table (0, v);
   few : length l.table ≤ l.cap;
 }

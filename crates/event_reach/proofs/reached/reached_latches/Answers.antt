@@ -6,6 +6,7 @@ use Rattle.std.specs.List.{Contains}
 use Rattle.latch_cone.specs.Cones.{AreReached}
 use Rattle.event_nodes.specs.Adds.{Adds}
 use Rattle.event_reach.proofs.Latches.{IsRootLatch}
+use Rattle.event_nodes.proofs.Growing.{grows_refl}
 use Rattle.event_nodes.proofs.Lists.{adds_contains}
 use Rattle.event_reach.proofs.Making.{no_nodes, all_made}
 use Rattle.event_reach.proofs.Reaching.{signal_begun, signal_roots, reached_all}
@@ -26,37 +27,37 @@ pass_on_all-requires-clause-few c = c.in_ok-put_latches.ensures.few
 pub pass_on_all-requires-clause-reached : goal.pass_on_all-requires-clause-reached
 pass_on_all-requires-clause-reached c = (
   record { place = c.args.s.0; left_out = None },
-  signal_begun c.args.circuit.now c.args.events.now.children c.put_latches.new.table c.args.s.0 c.in_ok-seen.seen.keys c.new-table.result c.new-table.ensures
-      (subst (λ (n : NetView). AreReached n c.args.s.0 c.in_ok-seen.seen.keys) c.net-net.ensures c.in_ok-seen.ensures)
-      (subst (λ (n : NetView). Adds (IsRootLatch n c.in_ok-seen.seen.keys) c.new-table.result c.put_latches.new.table) c.net-net.ensures c.put_latches.ensures.adds),
+  signal_begun c.args.circuit.now c.args.events.now.children c.put_latches.new.table c.args.s.0 c.in_ok-seen.seen c.new-table.result c.new-table.ensures
+      (subst (λ (n : NetView). AreReached n c.args.s.0 c.in_ok-seen.seen) c.net-net.ensures c.in_ok-seen.ensures)
+      (subst (λ (n : NetView). Adds (IsRootLatch n c.in_ok-seen.seen) c.new-table.result c.put_latches.new.table) c.net-net.ensures c.put_latches.ensures.adds),
 )
 
 pub returns-clause-reached : goal.returns-clause-reached
 returns-clause-reached c = λ depths.
-    let seen = subst (λ (n : NetView). AreReached n c.args.s.0 c.in_ok-seen.seen.keys) c.net-net.ensures c.in_ok-seen.ensures in
-    let adds = subst (λ (n : NetView). Adds (IsRootLatch n c.in_ok-seen.seen.keys) c.new-table.result c.put_latches.new.table) c.net-net.ensures c.put_latches.ensures.adds in
-    let all = subst (λ (n : NetView). (v : ℕ) (name : List ℕ) (next : ℕ) → Contains c.in_ok-seen.seen.keys v → IsLatch (circuit_of n) name v next → Contains c.put_latches.new.table (0, v)) c.net-net.ensures c.in_ok-put_latches.ensures.all in
+    let seen = subst (λ (n : NetView). AreReached n c.args.s.0 c.in_ok-seen.seen) c.net-net.ensures c.in_ok-seen.ensures in
+    let adds = subst (λ (n : NetView). Adds (IsRootLatch n c.in_ok-seen.seen) c.new-table.result c.put_latches.new.table) c.net-net.ensures c.put_latches.ensures.adds in
+    let all = subst (λ (n : NetView). (v : ℕ) (name : List ℕ) (next : ℕ) → Contains c.in_ok-seen.seen v → IsLatch (circuit_of n) name v next → Contains c.put_latches.new.table (0, v)) c.net-net.ensures c.in_ok-put_latches.ensures.all in
     record {
       each = c.in_ok-pass_on_all.ensures.reached (record { place = c.args.s.0; left_out = None })
-          (signal_begun c.args.circuit.now c.args.events.now.children c.put_latches.new.table c.args.s.0 c.in_ok-seen.seen.keys c.new-table.result c.new-table.ensures seen adds);
+          (signal_begun c.args.circuit.now c.args.events.now.children c.put_latches.new.table c.args.s.0 c.in_ok-seen.seen c.new-table.result c.new-table.ensures seen adds);
       all = reached_all c.args.circuit.now c.pass_on_all.new.events.children c.keeps-2.ensures.events.is_tree (record { place = c.args.s.0; left_out = None }) c.pass_on_all.new.table
           (λ v begun. adds_contains (λ (q : ℕ × ℕ). q ≡ q) c.put_latches.new.table c.pass_on_all.new.table (0, v) c.pass_on_all.ensures.kept
-          (signal_roots c.args.circuit.now c.args.events.now.children c.put_latches.new.table c.args.s.0 c.in_ok-seen.seen.keys seen all v begun))
+          (signal_roots c.args.circuit.now c.args.events.now.children c.put_latches.new.table c.args.s.0 c.in_ok-seen.seen seen all v begun))
           (c.in_ok-pass_on_all.ensures.passed depths);
     }
 
 pub returns-clause-nodes : goal.returns-clause-nodes
 returns-clause-nodes c = λ depths.
-    let seen = subst (λ (n : NetView). AreReached n c.args.s.0 c.in_ok-seen.seen.keys) c.net-net.ensures c.in_ok-seen.ensures in
-    let adds = subst (λ (n : NetView). Adds (IsRootLatch n c.in_ok-seen.seen.keys) c.new-table.result c.put_latches.new.table) c.net-net.ensures c.put_latches.ensures.adds in
-    let all = subst (λ (n : NetView). (v : ℕ) (name : List ℕ) (next : ℕ) → Contains c.in_ok-seen.seen.keys v → IsLatch (circuit_of n) name v next → Contains c.put_latches.new.table (0, v)) c.net-net.ensures c.in_ok-put_latches.ensures.all in
+    let seen = subst (λ (n : NetView). AreReached n c.args.s.0 c.in_ok-seen.seen) c.net-net.ensures c.in_ok-seen.ensures in
+    let adds = subst (λ (n : NetView). Adds (IsRootLatch n c.in_ok-seen.seen) c.new-table.result c.put_latches.new.table) c.net-net.ensures c.put_latches.ensures.adds in
+    let all = subst (λ (n : NetView). (v : ℕ) (name : List ℕ) (next : ℕ) → Contains c.in_ok-seen.seen v → IsLatch (circuit_of n) name v next → Contains c.put_latches.new.table (0, v)) c.net-net.ensures c.in_ok-put_latches.ensures.all in
     all_made c.args.circuit.now (record { place = c.args.s.0; left_out = None }) c.pass_on_all.new.events.children c.pass_on_all.new.table c.keeps-2.ensures.events.is_tree
     (record {
       each = c.in_ok-pass_on_all.ensures.reached (record { place = c.args.s.0; left_out = None })
-          (signal_begun c.args.circuit.now c.args.events.now.children c.put_latches.new.table c.args.s.0 c.in_ok-seen.seen.keys c.new-table.result c.new-table.ensures seen adds);
+          (signal_begun c.args.circuit.now c.args.events.now.children c.put_latches.new.table c.args.s.0 c.in_ok-seen.seen c.new-table.result c.new-table.ensures seen adds);
       all = reached_all c.args.circuit.now c.pass_on_all.new.events.children c.keeps-2.ensures.events.is_tree (record { place = c.args.s.0; left_out = None }) c.pass_on_all.new.table
           (λ v begun. adds_contains (λ (q : ℕ × ℕ). q ≡ q) c.put_latches.new.table c.pass_on_all.new.table (0, v) c.pass_on_all.ensures.kept
-          (signal_roots c.args.circuit.now c.args.events.now.children c.put_latches.new.table c.args.s.0 c.in_ok-seen.seen.keys seen all v begun))
+          (signal_roots c.args.circuit.now c.args.events.now.children c.put_latches.new.table c.args.s.0 c.in_ok-seen.seen seen all v begun))
           (c.in_ok-pass_on_all.ensures.passed depths);
     }) c.in_ok-pass_on_all.ensures.children
 
@@ -68,12 +69,30 @@ returns-in_err-put_latches-clause-made c = no_nodes c.args.circuit.now c.args.ev
 
 pub returns-in_err-pass_on_all-clause-made : goal.returns-in_err-pass_on_all-clause-made
 returns-in_err-pass_on_all-clause-made c =
-    let seen = subst (λ (n : NetView). AreReached n c.args.s.0 c.in_ok-seen.seen.keys) c.net-net.ensures c.in_ok-seen.ensures in
-    let adds = subst (λ (n : NetView). Adds (IsRootLatch n c.in_ok-seen.seen.keys) c.new-table.result c.put_latches.new.table) c.net-net.ensures c.put_latches.ensures.adds in
-    c.pass_on_all.ensures.made (record { place = c.args.s.0; left_out = None }) (signal_begun c.args.circuit.now c.args.events.now.children c.put_latches.new.table c.args.s.0 c.in_ok-seen.seen.keys c.new-table.result c.new-table.ensures seen adds)
+    let seen = subst (λ (n : NetView). AreReached n c.args.s.0 c.in_ok-seen.seen) c.net-net.ensures c.in_ok-seen.ensures in
+    let adds = subst (λ (n : NetView). Adds (IsRootLatch n c.in_ok-seen.seen) c.new-table.result c.put_latches.new.table) c.net-net.ensures c.put_latches.ensures.adds in
+    c.pass_on_all.ensures.made (record { place = c.args.s.0; left_out = None }) (signal_begun c.args.circuit.now c.args.events.now.children c.put_latches.new.table c.args.s.0 c.in_ok-seen.seen c.new-table.result c.new-table.ensures seen adds)
 
 pub returns-clause-made : goal.returns-clause-made
 returns-clause-made c =
-    let seen = subst (λ (n : NetView). AreReached n c.args.s.0 c.in_ok-seen.seen.keys) c.net-net.ensures c.in_ok-seen.ensures in
-    let adds = subst (λ (n : NetView). Adds (IsRootLatch n c.in_ok-seen.seen.keys) c.new-table.result c.put_latches.new.table) c.net-net.ensures c.put_latches.ensures.adds in
-    c.pass_on_all.ensures.made (record { place = c.args.s.0; left_out = None }) (signal_begun c.args.circuit.now c.args.events.now.children c.put_latches.new.table c.args.s.0 c.in_ok-seen.seen.keys c.new-table.result c.new-table.ensures seen adds)
+    let seen = subst (λ (n : NetView). AreReached n c.args.s.0 c.in_ok-seen.seen) c.net-net.ensures c.in_ok-seen.ensures in
+    let adds = subst (λ (n : NetView). Adds (IsRootLatch n c.in_ok-seen.seen) c.new-table.result c.put_latches.new.table) c.net-net.ensures c.put_latches.ensures.adds in
+    c.pass_on_all.ensures.made (record { place = c.args.s.0; left_out = None }) (signal_begun c.args.circuit.now c.args.events.now.children c.put_latches.new.table c.args.s.0 c.in_ok-seen.seen c.new-table.result c.new-table.ensures seen adds)
+
+pub returns-in_err-seen-clause-grows : goal.returns-in_err-seen-clause-grows
+returns-in_err-seen-clause-grows c = grows_refl c.args.events.now
+
+pub returns-in_err-put_latches-clause-grows : goal.returns-in_err-put_latches-clause-grows
+returns-in_err-put_latches-clause-grows c = grows_refl c.args.events.now
+
+pub returns-in_err-pass_on_all-clause-grows : goal.returns-in_err-pass_on_all-clause-grows
+returns-in_err-pass_on_all-clause-grows c = c.pass_on_all.ensures.grows
+
+pub returns-in_err-pass_on_all-clause-same : goal.returns-in_err-pass_on_all-clause-same
+returns-in_err-pass_on_all-clause-same c = c.pass_on_all.ensures.same
+
+pub returns-clause-grows : goal.returns-clause-grows
+returns-clause-grows c = c.pass_on_all.ensures.grows
+
+pub returns-clause-same : goal.returns-clause-same
+returns-clause-same c = c.pass_on_all.ensures.same

@@ -7,6 +7,7 @@ use Rattle.event_nodes.specs.flat_net.View.{NetView}
 use Rattle.event_nodes.proofs.flat_net.Nets.{some_at}
 use Rattle.latch_cone.specs.Cones.{AreOthers}
 use Rattle.event_nodes.specs.Adds.{Adds}
+use Rattle.event_nodes.proofs.Growing.{grows_refl}
 use Rattle.event_nodes.proofs.Lists.{adds_contains}
 use Rattle.event_reach.proofs.Making.{no_nodes, all_made}
 use Rattle.event_reach.proofs.Reaching.{others_begun, others_roots, reached_all}
@@ -79,3 +80,21 @@ returns-clause-made c = λ l at.
     let are = are_others _ _ c.net-net.ensures c.args.j c.in_ok-others.others c.in_ok-others.ensures l at in
     let adds = subst (λ (fs : List Signal). Adds (λ (q : ℕ × ℕ). (f : Signal) × Contains fs f × ((0, f.0) ≡ q)) c.new-table.result c.put_all.new.table) c.as_slice.ensures c.put_all.ensures.adds in
     c.pass_on_all.ensures.made (record { place = l.next.0; left_out = Some l.out.0 }) (others_begun c.args.circuit.now c.args.events.now.children c.put_all.new.table c.keeps.ensures.sound l c.in_ok-others.others are c.new-table.result c.new-table.ensures adds)
+
+pub returns-in_err-others-clause-grows : goal.returns-in_err-others-clause-grows
+returns-in_err-others-clause-grows c = grows_refl c.args.events.now
+
+pub returns-in_err-put_all-clause-grows : goal.returns-in_err-put_all-clause-grows
+returns-in_err-put_all-clause-grows c = grows_refl c.args.events.now
+
+pub returns-in_err-pass_on_all-clause-grows : goal.returns-in_err-pass_on_all-clause-grows
+returns-in_err-pass_on_all-clause-grows c = c.pass_on_all.ensures.grows
+
+pub returns-in_err-pass_on_all-clause-same : goal.returns-in_err-pass_on_all-clause-same
+returns-in_err-pass_on_all-clause-same c = c.pass_on_all.ensures.same
+
+pub returns-clause-grows : goal.returns-clause-grows
+returns-clause-grows c = c.pass_on_all.ensures.grows
+
+pub returns-clause-same : goal.returns-clause-same
+returns-clause-same c = c.pass_on_all.ensures.same

@@ -12,7 +12,7 @@ use Rattle.inner_cone.proofs.parts.gates_of.Goals as goal
 pub returns : goal.returns
 returns c =
     let n = c.args.net.now in
-    let seen = c.in_ok-seen.seen.keys in
+    let seen = c.in_ok-seen.seen in
     let high = subst (λ m. AreHigh n c.args.ranks.now m c.args.taker.now.next.0 seen) c.number_at-least.ensures c.in_ok-seen.ensures in
     IfOk-weaker c.gates_among.result (λ (gates : List ℕ). IsNonDecreasing gates × IsPermutation (filter_map (gate_at n) seen) gates) (AreInnerGates n c.args.taker.now)
     (λ (gates : List ℕ) are. inner_gates n c.keeps.ensures.sound c.args.taker.now c.args.ranks.now c.requires.ranked seen gates high are.0 are.1) c.gates_among.ensures

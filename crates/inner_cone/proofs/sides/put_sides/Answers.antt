@@ -1,5 +1,5 @@
 -- A gate's reads, or another source.
-use Rattle.std.proofs.Common.{◌≡◌, ◌<◌, ℕ, List, Some, get_or, slice_get, length, refl, subst, sym, ap, arith, ◌∙◌}
+use Rattle.std.proofs.Common.{◌≡◌, ◌<◌, ℕ, List, Some, get_or, slice_get, length, refl, subst, sym, ap, arith, inr, ◌∙◌}
 use Rattle.std.specs.Prelude.{Contains}
 use Rattle.std.proofs.lemmas.Option.{slice_get_within, slice_get_read}
 use Rattle.latch_cone.specs.circuit_theory.Circuit.{Reads}
@@ -11,7 +11,7 @@ use Rattle.latch_cone.proofs.flat_net.Places.{one_at, All-at}
 use Rattle.latch_cone.proofs.Walks.{gate_reads, gate_fanins, reach_more}
 use Rattle.inner_cone.specs.Sides.{AreSomeSides}
 use Rattle.inner_cone.specs.Inner.{IsLow}
-use Rattle.inner_cone.proofs.SideSignals.{gate_source, other_source, other_kept, other_there, other_some}
+use Rattle.inner_cone.proofs.SideSignals.{gate_source, other_source, push_kept, push_there, push_some}
 use Rattle.inner_cone.proofs.sides.put_sides.Goals as goal
 
 pub bounds-gates-j : goal.bounds-gates-j
@@ -55,14 +55,27 @@ returns-in_ok-put_lows-in-Gate-clause-reads c = λ q reads low.
 pub returns-in_ok-put_lows-in-Gate-clause-source : goal.returns-in_ok-put_lows-in-Gate-clause-source
 returns-in_ok-put_lows-in-Gate-clause-source c = λ source other. absurd (gate_source c.args.net.now c.keeps.ensures.sound c.args.signal.0 c.in-Gate.j c.in-Gate.ensures source)
 
-pub returns-in_ok-put_other-in_default : goal.returns-in_ok-put_other-in_default
-returns-in_ok-put_other-in_default c =
+pub returns-then-signal-own : goal.returns-then-signal-own
+returns-then-signal-own c =
+    let n = c.args.net.now in
+    let e = c.if-signal-own.true in
+    record {
+      kept = λ r h. h;
+      some = λ from reach some. some;
+      reads = λ q reads low. let g = gate_reads n c.keeps.ensures.sound reads in absurd (c.in_default.not-Gate g.position (one_at n.drivers c.args.signal.0 _ (driver.Gate g.position) c.driver.ensures g.owner));
+      source = λ is other. absurd (other e);
+    }
+
+pub returns-in_ok-push-in_default : goal.returns-in_ok-push-in_default
+returns-in_ok-push-in_default c =
     let n = c.args.net.now in
     let source = other_source n c.keeps.ensures.sound c.args.signal.0 c.driver.result c.driver.ensures (λ j e. c.in_default.not-Gate j e) in
-    let put = c.in_ok-put_other-in_default.ensures in
+    let put = c.in_ok-push-in_default.ensures.ok in
     record {
-      kept = λ r h. other_kept c.args.sides.now c.put_other.new.sides c.args.own.0 c.args.signal put r h;
-      some = λ from reach some. other_some c.args.sides.now c.put_other.new.sides c.args.own.0 c.args.signal put n c.args.ranks.now (get_or c.args.ranks.now c.args.own.0 0) from c.requires reach source some;
+      kept = λ r h. push_kept c.args.sides.now c.push.new.self c.args.signal put r h;
+      some = λ from reach some.
+          push_some n c.args.ranks.now (get_or c.args.ranks.now c.args.own.0 0) from c.args.own.0 c.args.sides.now c.push.new.self c.args.signal put
+          (record { within = c.requires; reached = reach; aside = inr (source, λ e. c.if-signal-own.false e) }) some;
       reads = λ q reads low. let g = gate_reads n c.keeps.ensures.sound reads in absurd (c.in_default.not-Gate g.position (one_at n.drivers c.args.signal.0 _ (driver.Gate g.position) c.driver.ensures g.owner));
-      source = λ is other. other_there c.args.sides.now c.put_other.new.sides c.args.own.0 c.args.signal put other;
+      source = λ is other. push_there c.args.sides.now c.push.new.self c.args.signal put;
     }

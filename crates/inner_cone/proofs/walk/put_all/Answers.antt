@@ -14,8 +14,8 @@ loop-signal-preserved c =
     let i = c.loop-signal.signal-index in
     let r : Signal = get_or c.args.reads.now i (record { 0 = 0 }) in
     let at : slice_get c.args.reads.now i ≡ Some r = slice_get-get_or c.args.reads.now i (record { 0 = 0 }) c.loop-signal-test.true in
-    let old = c.loop-signal.seen.keys in
-    let new = c.put_high.new.seen.keys in
+    let old = c.loop-signal.seen in
+    let new = c.put_high.new.seen in
     let put : IsHighPut c.args.ranks.now c.args.least old new r.0 = c.in_ok-put_high.ensures in
     let stays = high_stay c.args.ranks.now c.args.least old new r.0 put in
     record {
@@ -25,11 +25,11 @@ loop-signal-preserved c =
     }
   where
     there : (k : ℕ) (s : Signal) → slice_get c.args.reads.now k ≡ Some s → k < c.loop-signal.signal-index + 1 → (k ≡ c.loop-signal.signal-index) ⊎ (k ≢ c.loop-signal.signal-index) →
-        {r : Signal} → slice_get c.args.reads.now c.loop-signal.signal-index ≡ Some r → IsHighPut c.args.ranks.now c.args.least c.loop-signal.seen.keys c.put_high.new.seen.keys r.0 → Contains c.put_high.new.seen.keys s.0 ⊎ IsLow c.args.ranks.now c.args.least s.0
+        {r : Signal} → slice_get c.args.reads.now c.loop-signal.signal-index ≡ Some r → IsHighPut c.args.ranks.now c.args.least c.loop-signal.seen c.put_high.new.seen r.0 → Contains c.put_high.new.seen s.0 ⊎ IsLow c.args.ranks.now c.args.least s.0
     there k s h l (inl e) {r} at put =
-        subst (λ (z : Signal). Contains c.put_high.new.seen.keys z.0 ⊎ IsLow c.args.ranks.now c.args.least z.0) (one_at c.args.reads.now c.loop-signal.signal-index r s at (subst (λ z. slice_get c.args.reads.now z ≡ Some s) e h)) (high_there c.args.ranks.now c.args.least c.loop-signal.seen.keys c.put_high.new.seen.keys r.0 put)
+        subst (λ (z : Signal). Contains c.put_high.new.seen z.0 ⊎ IsLow c.args.ranks.now c.args.least z.0) (one_at c.args.reads.now c.loop-signal.signal-index r s at (subst (λ z. slice_get c.args.reads.now z ≡ Some s) e h)) (high_there c.args.ranks.now c.args.least c.loop-signal.seen c.put_high.new.seen r.0 put)
     there k s h l (inr n) {r} at put =
-        stay_or c.args.ranks.now c.args.least c.loop-signal.seen.keys c.put_high.new.seen.keys s.0 (high_stay c.args.ranks.now c.args.least c.loop-signal.seen.keys c.put_high.new.seen.keys r.0 put) (c.loop-signal.invariant.there k s (omega (arith, l, n)) h)
+        stay_or c.args.ranks.now c.args.least c.loop-signal.seen c.put_high.new.seen s.0 (high_stay c.args.ranks.now c.args.least c.loop-signal.seen c.put_high.new.seen r.0 put) (c.loop-signal.invariant.there k s (omega (arith, l, n)) h)
 
 pub returns-clause-there : goal.returns-clause-there
 returns-clause-there c = λ k r h. let l = slice_get_within c.args.reads.now k r h in c.loop-signal.invariant.there k r (omega (arith, l, c.loop-signal-test.false)) h

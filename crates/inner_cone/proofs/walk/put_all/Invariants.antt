@@ -7,7 +7,7 @@ use Rattle.inner_cone.proofs.walk.put_all.Given as goal
 
 abbrev pub invariant-loop-signal : goal.invariant-loop-signal
 invariant-loop-signal l = record {
-  stay : Stay l.initial.seen.keys l.seen.keys;
-  some : (n : NetView) (from : ℕ) → AreRead n from l.reads → AreSome n from l.initial.seen.keys → AreSome n from l.seen.keys;
-  there : (k : ℕ) (r : Signal) → k < l.signal-index → slice_get l.reads k ≡ Some r → Contains l.seen.keys r.0 ⊎ IsLow l.ranks l.least r.0;
+  stay : Stay l.initial.seen l.seen;
+  some : (n : NetView) (from : ℕ) → AreRead n from l.reads → AreSome n from l.initial.seen → AreSome n from l.seen;
+  there : (k : ℕ) (r : Signal) → k < l.signal-index → slice_get l.reads k ≡ Some r → Contains l.seen r.0 ⊎ IsLow l.ranks l.least r.0;
 }

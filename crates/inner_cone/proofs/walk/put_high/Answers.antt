@@ -5,5 +5,5 @@ use Rattle.inner_cone.proofs.walk.put_high.Goals as goal
 
 pub returns : goal.returns
 returns c =
-    high_put c.args.ranks.now c.args.least c.args.seen.now.keys c.insert.new.seen.keys c.args.signal
-    (is_put c.args.seen.now.keys c.insert.new.seen.keys c.args.signal c.in_ok-insert.field-0 c.in_ok-insert.ensures.new c.in_ok-insert.ensures.old)
+    high_put c.args.ranks.now c.args.least c.args.seen.now c.insert.new.self c.args.signal
+    (is_put c.args.seen.now c.insert.new.self c.args.signal c.in_ok-insert.ensures.ok)

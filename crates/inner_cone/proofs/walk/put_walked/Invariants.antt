@@ -7,9 +7,9 @@ use Rattle.inner_cone.proofs.walk.put_walked.Given as goal
 
 abbrev pub invariant-loop-at : goal.invariant-loop-at
 invariant-loop-at l = record {
-  some : AreSome l.net l.fn.from.0 l.seen.keys;
-  root : Contains l.seen.keys l.fn.from.0 ⊎ IsLow l.ranks l.least l.fn.from.0;
-  closed : (i s : ℕ) → i < l.at → slice_get l.seen.keys i ≡ Some s → (r : ℕ) → Reads (circuit_of l.net) s r → Contains l.seen.keys r ⊎ IsLow l.ranks l.least r;
+  some : AreSome l.net l.fn.from.0 l.seen;
+  root : Contains l.seen l.fn.from.0 ⊎ IsLow l.ranks l.least l.fn.from.0;
+  closed : (i s : ℕ) → i < l.at → slice_get l.seen i ≡ Some s → (r : ℕ) → Reads (circuit_of l.net) s r → Contains l.seen r ⊎ IsLow l.ranks l.least r;
 }
 
 abbrev pub decreases-loop-at : goal.decreases-loop-at

@@ -12,7 +12,7 @@ pub variable_at-requires-clause-signal : goal.variable_at-requires-clause-signal
 variable_at-requires-clause-signal c =
     let at = slice_get-get_or c.as_slice-s-items.result.now c.loop-s.s-index 0 c.loop-s-test.true in
     let s = get_or c.as_slice-s-items.result.now c.loop-s.s-index 0 in
-    c.in_ok-seen.ensures.some.within c.loop-s.s-index s (subst (λ (l : List ℕ). slice_get l c.loop-s.s-index ≡ Some s) c.as_slice-s-items.ensures.keys at)
+    c.in_ok-seen.ensures.some.within c.loop-s.s-index s (subst (λ (l : List ℕ). slice_get l c.loop-s.s-index ≡ Some s) c.as_slice-s-items.ensures at)
 
 pub loop-s-preserved : goal.loop-s-preserved
 loop-s-preserved c =
@@ -29,5 +29,5 @@ loop-s-preserved c =
 
 pub returns : goal.returns
 returns c =
-    are_leaves c.args.net.now c.args.variables.now c.args.from.0 c.in_ok-seen.seen.keys c.loop-s.found.items c.in_ok-seen.ensures
-    (c.loop-s.invariant ∙ ap (filter_map (variable_at c.args.net.now c.args.variables.now)) (take_all c.loop-s.s-index c.as_slice-s-items.result.now c.loop-s-test.false ∙ c.as_slice-s-items.ensures.keys))
+    are_leaves c.args.net.now c.args.variables.now c.args.from.0 c.in_ok-seen.seen c.loop-s.found.items c.in_ok-seen.ensures
+    (c.loop-s.invariant ∙ ap (filter_map (variable_at c.args.net.now c.args.variables.now)) (take_all c.loop-s.s-index c.as_slice-s-items.result.now c.loop-s-test.false ∙ c.as_slice-s-items.ensures))

@@ -23,7 +23,7 @@ pub returns : goal.returns
 returns c =
     let n = c.args.net.now in
     let taker = c.index-latches-latch.result in
-    let seen = c.in_ok-seen.seen.keys in
+    let seen = c.in_ok-seen.seen in
     let inside : c.args.latch < length c.latches.result.now = omega (arith, c.requires, ap length c.latches.ensures) in
     let at = slice_get_read c.latches.result.now (length c.latches.result.now) c.args.latch taker refl inside c.index-latches-latch.is in
     let here : slice_get n.latches c.args.latch ≡ Some taker = subst (λ (z : List LatchAt). slice_get z c.args.latch ≡ Some taker) c.latches.ensures at in

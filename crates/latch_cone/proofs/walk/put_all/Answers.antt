@@ -12,9 +12,9 @@ loop-signal-preserved c =
     let i = c.loop-signal.signal-index in
     let r : Signal = get_or c.args.reads.now i (record { 0 = 0 }) in
     let at : slice_get c.args.reads.now i ≡ Some r = slice_get-get_or c.args.reads.now i (record { 0 = 0 }) c.loop-signal-test.true in
-    let old = c.loop-signal.seen.keys in
-    let new = c.insert.new.seen.keys in
-    let put : IsPut old new r.0 = is_put old new r.0 c.in_ok-insert.field-0 c.in_ok-insert.ensures.new c.in_ok-insert.ensures.old in
+    let old = c.loop-signal.seen in
+    let new = c.insert.new.self in
+    let put : IsPut old new r.0 = is_put old new r.0 c.in_ok-insert.ensures.ok in
     let stays = put_stay old new r.0 put in
     record {
       stay = λ k s h. stays k s (c.loop-signal.invariant.stay k s h);
@@ -23,11 +23,11 @@ loop-signal-preserved c =
     }
   where
     there : (k : ℕ) (s : Signal) → slice_get c.args.reads.now k ≡ Some s → k < c.loop-signal.signal-index + 1 → (k ≡ c.loop-signal.signal-index) ⊎ (k ≢ c.loop-signal.signal-index) →
-        {r : Signal} → slice_get c.args.reads.now c.loop-signal.signal-index ≡ Some r → IsPut c.loop-signal.seen.keys c.insert.new.seen.keys r.0 → Contains c.insert.new.seen.keys s.0
+        {r : Signal} → slice_get c.args.reads.now c.loop-signal.signal-index ≡ Some r → IsPut c.loop-signal.seen c.insert.new.self r.0 → Contains c.insert.new.self s.0
     there k s h l (inl e) {r} at put =
-        subst (λ (z : Signal). Contains c.insert.new.seen.keys z.0) (one_at c.args.reads.now c.loop-signal.signal-index r s at (subst (λ z. slice_get c.args.reads.now z ≡ Some s) e h)) (put_there c.loop-signal.seen.keys c.insert.new.seen.keys r.0 put)
+        subst (λ (z : Signal). Contains c.insert.new.self z.0) (one_at c.args.reads.now c.loop-signal.signal-index r s at (subst (λ z. slice_get c.args.reads.now z ≡ Some s) e h)) (put_there c.loop-signal.seen c.insert.new.self r.0 put)
     there k s h l (inr n) {r} at put =
-        stay_there c.loop-signal.seen.keys c.insert.new.seen.keys s.0 (put_stay c.loop-signal.seen.keys c.insert.new.seen.keys r.0 put) (c.loop-signal.invariant.there k s (omega (arith, l, n)) h)
+        stay_there c.loop-signal.seen c.insert.new.self s.0 (put_stay c.loop-signal.seen c.insert.new.self r.0 put) (c.loop-signal.invariant.there k s (omega (arith, l, n)) h)
 
 pub returns-clause-there : goal.returns-clause-there
 returns-clause-there c = λ k r h. let l = slice_get_within c.args.reads.now k r h in c.loop-signal.invariant.there k r (omega (arith, l, c.loop-signal-test.false)) h

@@ -46,7 +46,7 @@ returns-in_ok-put_all-in-Gate-clause-there c = λ r reads.
     let one = same_gate (one_at c.args.net.now.drivers c.args.signal.0 (driver.Gate x.position) (driver.Gate c.in-Gate.j) x.owner c.in-Gate.ensures) in
     let gate : x.gate ≡ c.index-gates-j.result = one_at c.args.net.now.gates c.in-Gate.j x.gate c.index-gates-j.result (subst (λ z. slice_get c.args.net.now.gates z ≡ Some x.gate) one x.here) here in
     let read = subst (λ (z : Gate). slice_get z.fanins x.read.0 ≡ Some x.read.1) gate x.read.2 in
-    subst (λ z. Contains c.put_all.new.seen.keys z) x.read.3 (c.in_ok-put_all-in-Gate.ensures.there x.read.0 x.read.1 (subst (λ (z : List Signal). slice_get z x.read.0 ≡ Some x.read.1) (sym (c.as_slice-fanins.ensures ∙ ap (λ (z : Gate). z.fanins) (sym c.index-gates-j.is))) read))
+    subst (λ z. Contains c.put_all.new.seen z) x.read.3 (c.in_ok-put_all-in-Gate.ensures.there x.read.0 x.read.1 (subst (λ (z : List Signal). slice_get z x.read.0 ≡ Some x.read.1) (sym (c.as_slice-fanins.ensures ∙ ap (λ (z : Gate). z.fanins) (sym c.index-gates-j.is))) read))
   where
     same_gate : {i j : ℕ} → driver.Gate i ≡ driver.Gate j → i ≡ j
     same_gate e = cc

@@ -1,7 +1,8 @@
-use Rattle.std.proofs.Common.{◌≡◌, ◌<◌, List, slice_get, Some, None, length, subst, sym, ap, ◌∙◌, refl, arith}
-use Rattle.std.proofs.lemmas.Option.{slice_get_within, slice_get_read}
+use Rattle.std.proofs.Common.{◌≡◌, ◌<◌, List, false, get_or, slice_get, Some, None, length, subst, sym, ap, ◌∙◌, refl, arith}
+use Rattle.std.proofs.lemmas.Option.{slice_get_within, slice_get_read, slice_get-get_or}
 use Rattle.inner_cone.proofs.flat_net.Places.{one_at}
 use Rattle.inner_cone.specs.flat_net.declared.parts.Gate.{Gate}
+use Rattle.inner_cone.specs.flat_net.declared.parts.LatchAt.{LatchAt}
 use Rattle.inner_cone.specs.flat_net.declared.parts.Driver.TheVariants as driver
 use Rattle.signal_graph.specs.Graph.{IsNodeOf}
 use Rattle.signal_graph.proofs.nodes.node_of.Goals as goal
@@ -11,15 +12,22 @@ bounds-gates-j c =
     let g = c.keeps.ensures.sound.drivers c.args.s.0 (driver.Gate c.in-Gate.j) c.in-Gate.ensures in
     omega (arith, slice_get_within c.args.net.now.gates c.in-Gate.j g.0 g.1, ap length c.gates.ensures)
 
-pub is_set-requires : goal.is_set-requires
-is_set-requires c =
+pub bounds-latches-j : goal.bounds-latches-j
+bounds-latches-j c =
+    let l = c.keeps.ensures.sound.drivers c.args.s.0 (driver.Latch c.in-Latch.j) c.in-Latch.ensures in
+    omega (arith, slice_get_within c.args.net.now.latches c.in-Latch.j l.0 l.1, ap length c.latches.ensures)
+
+pub bounds-skipped-j : goal.bounds-skipped-j
+bounds-skipped-j c =
     let l = c.keeps.ensures.sound.drivers c.args.s.0 (driver.Latch c.in-Latch.j) c.in-Latch.ensures in
     omega (arith, slice_get_within c.args.net.now.latches c.in-Latch.j l.0 l.1, c.requires.bits)
 
-pub taken-requires-clause-latch : goal.taken-requires-clause-latch
-taken-requires-clause-latch c =
+pub taken-requires-clause-within : goal.taken-requires-clause-within
+taken-requires-clause-within c =
     let l = c.keeps.ensures.sound.drivers c.args.s.0 (driver.Latch c.in-Latch.j) c.in-Latch.ensures in
-    slice_get_within c.args.net.now.latches c.in-Latch.j l.0 l.1
+    let inside : c.in-Latch.j < length c.latches.result.now = omega (arith, slice_get_within c.args.net.now.latches c.in-Latch.j l.0 l.1, ap length c.latches.ensures) in
+    let at = slice_get_read c.latches.result.now (length c.latches.result.now) c.in-Latch.j c.index-latches-j.result refl inside c.index-latches-j.is in
+    (c.keeps.ensures.sound.latches c.in-Latch.j c.index-latches-j.result (subst (λ (z : List LatchAt). slice_get z c.in-Latch.j ≡ Some c.index-latches-j.result) c.latches.ensures at)).within
 
 pub returns-in_ok-copy-in-Gate : goal.returns-in_ok-copy-in-Gate
 returns-in_ok-copy-in-Gate c = λ d h.
@@ -32,5 +40,10 @@ returns-in_ok-copy-in-Gate c = λ d h.
 pub returns-in_ok-reads-in-Latch : goal.returns-in_ok-reads-in-Latch
 returns-in_ok-reads-in-Latch c = λ d h.
     let x = c.keeps.ensures.sound.drivers c.args.s.0 (driver.Latch c.in-Latch.j) c.in-Latch.ensures in
+    let below = slice_get_within c.args.net.now.latches c.in-Latch.j x.0 x.1 in
+    let inside : c.in-Latch.j < length c.latches.result.now = omega (arith, below, ap length c.latches.ensures) in
+    let at = slice_get_read c.latches.result.now (length c.latches.result.now) c.in-Latch.j c.index-latches-j.result refl inside c.index-latches-j.is in
+    let here = subst (λ (z : List LatchAt). slice_get z c.in-Latch.j ≡ Some c.index-latches-j.result) c.latches.ensures at in
+    let bit = slice_get-get_or c.args.skipped.now c.in-Latch.j false (omega (arith, below, c.requires.bits)) in
     subst (λ z. IsNodeOf c.args.net.now c.args.skipped.now z (record { reads = c.in_ok-reads-in-Latch.reads; latch = Some c.in-Latch.j })) (one_at c.args.net.now.drivers c.args.s.0 (driver.Latch c.in-Latch.j) d c.in-Latch.ensures h)
-    (x.0, x.1, c.is_set.result, c.is_set.ensures, c.in_ok-reads-in-Latch.ensures x.0 x.1, refl)
+    (c.index-latches-j.result, here, get_or c.args.skipped.now c.in-Latch.j false, bit, c.in_ok-reads-in-Latch.ensures, refl)

@@ -1,7 +1,9 @@
 -- One node more.
-use Rattle.std.proofs.Common.{◌≡◌, ◌∙◌, ℕ, List, [], ◌∷◌, length, get_or, refl, sym, ap, subst, arith}
+use Rattle.std.proofs.Common.{◌∙◌, ◌==◌, ℕ, [], ◌∷◌, None, filter, length, get_or, refl, ap, subst, arith}
 use Rattle.std.proofs.lemmas.List.{length-append}
 use Rattle.std.proofs.lemmas.Option.{slice_get_read, slice_get_within}
+use Rattle.signal_graph.specs.flat_net.declared.signals.Signal.{Signal}
+use Rattle.signal_graph.specs.declared.nodes.Node.{Node}
 use Rattle.minimal_cut.specs.graph_components.Inner.{IsInnerOf}
 use Rattle.minimal_cut.proofs.graph_components.Ranks.{made_more}
 use Rattle.minimal_cut.proofs.graph_components.inner.within.Goals as goal
@@ -12,10 +14,12 @@ loop-s-init c = record { size = ap length c.in_ok-inner.ensures.items; made = λ
 pub loop-s-preserved : goal.loop-s-preserved
 loop-s-preserved c =
     let at = slice_get_read c.args.nodes.now (length c.args.nodes.now) c.loop-s.s c.index-nodes-s.result refl c.loop-s-test.true c.index-nodes-s.is in
+    let made : Node = record { reads = c.in_ok-reads.reads; latch = None } in
+    let same = c.in_ok-reads.ensures ∙ ap (filter (λ (r : Signal). get_or c.args.labels.now r.0 0 == c.number_at-label.result)) c.as_slice.ensures in
     record {
-      size = omega (arith, ap length c.in_ok-push.ensures.items, length-append c.loop-s.inner.items (c.in_ok-inner_node.field-0 ∷ []), c.loop-s.invariant.size);
-      made = made_more c.args.nodes.now c.args.labels.now c.loop-s.s c.loop-s.inner.items c.push.new.self.items c.index-nodes-s.result c.in_ok-inner_node.field-0 c.loop-s.invariant.size at c.in_ok-push.ensures.items
-          (subst (λ (m : ℕ). IsInnerOf c.args.labels.now m c.index-nodes-s.result c.in_ok-inner_node.field-0) c.number_at.ensures c.in_ok-inner_node.ensures) c.loop-s.invariant.made;
+      size = omega (arith, ap length c.in_ok-push.ensures.items, length-append c.loop-s.inner.items (made ∷ []), c.loop-s.invariant.size);
+      made = made_more c.args.nodes.now c.args.labels.now c.loop-s.s c.loop-s.inner.items c.push.new.self.items c.index-nodes-s.result made c.loop-s.invariant.size at c.in_ok-push.ensures.items
+          (subst (λ (m : ℕ). IsInnerOf c.args.labels.now m c.index-nodes-s.result made) c.number_at-label.ensures same) c.loop-s.invariant.made;
     }
 
 pub returns : goal.returns

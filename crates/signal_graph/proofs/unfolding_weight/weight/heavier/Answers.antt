@@ -1,4 +1,4 @@
-use Rattle.std.proofs.Common.{◌≡◌, ◌+◌, ◌<◌, ◌≤◌, max, List, Some, length, slice_get, subst, ap, ◌∙◌, refl, arith}
+use Rattle.std.proofs.Common.{◌≡◌, ◌+◌, ◌<◌, ◌≤◌, max, List, Some, length, slice_get, subst, ap, refl, arith}
 use Rattle.std.specs.Prelude.{IfSome, IfNone}
 use Rattle.std.proofs.lemmas.Option.{slice_get_within, slice_get_read}
 use Rattle.inner_cone.specs.flat_net.declared.signals.Signal.{Signal}
@@ -27,8 +27,9 @@ returns-in-Gate-clause-sum c =
     let l : c.in-Gate.j < length c.gates.result.now = omega (arith, slice_get_within c.args.net.now.gates c.in-Gate.j g.0 g.1, ap length c.gates.ensures) in
     let at = slice_get_read c.gates.result.now (length c.gates.result.now) c.in-Gate.j c.index-gates-j.result refl l c.index-gates-j.is in
     let here = subst (λ (z : List Gate). slice_get z c.in-Gate.j ≡ Some c.index-gates-j.result) c.gates.ensures at in
-    let weight = gate_weighs c.args.net.now c.args.s.0 c.in-Gate.j c.index-gates-j.result c.cover.result.now c.at_least_one.result (length c.as_slice-fanins.result.now + 1) c.in-Gate.ensures here c.cover.ensures
-    (c.at_least_one.ensures ∙ ap (λ z. max 1 (length z)) c.rows-rows.ensures) (ap (λ (z : List Signal). length z + 1) c.as_slice-fanins.ensures) in
+    let rows : c.max-rows.result ≡ max 1 (length c.cover.result.now.rows) = omega (arith, c.max-rows.ensures, ap length c.rows.ensures) in
+    let weight = gate_weighs c.args.net.now c.args.s.0 c.in-Gate.j c.index-gates-j.result c.cover.result.now c.max-rows.result (length c.as_slice-fanins.result.now + 1) c.in-Gate.ensures here c.cover.ensures
+    rows (ap (λ (z : List Signal). length z + 1) c.as_slice-fanins.ensures) in
     subst (λ z. IfSome c.added_to.result (λ sum. (sum ≡ c.args.total + z) × (sum ≤ c.args.cap))) weight c.added_to.ensures.sum
 
 pub returns-in-Gate-clause-over : goal.returns-in-Gate-clause-over
@@ -37,6 +38,7 @@ returns-in-Gate-clause-over c =
     let l : c.in-Gate.j < length c.gates.result.now = omega (arith, slice_get_within c.args.net.now.gates c.in-Gate.j g.0 g.1, ap length c.gates.ensures) in
     let at = slice_get_read c.gates.result.now (length c.gates.result.now) c.in-Gate.j c.index-gates-j.result refl l c.index-gates-j.is in
     let here = subst (λ (z : List Gate). slice_get z c.in-Gate.j ≡ Some c.index-gates-j.result) c.gates.ensures at in
-    let weight = gate_weighs c.args.net.now c.args.s.0 c.in-Gate.j c.index-gates-j.result c.cover.result.now c.at_least_one.result (length c.as_slice-fanins.result.now + 1) c.in-Gate.ensures here c.cover.ensures
-    (c.at_least_one.ensures ∙ ap (λ z. max 1 (length z)) c.rows-rows.ensures) (ap (λ (z : List Signal). length z + 1) c.as_slice-fanins.ensures) in
+    let rows : c.max-rows.result ≡ max 1 (length c.cover.result.now.rows) = omega (arith, c.max-rows.ensures, ap length c.rows.ensures) in
+    let weight = gate_weighs c.args.net.now c.args.s.0 c.in-Gate.j c.index-gates-j.result c.cover.result.now c.max-rows.result (length c.as_slice-fanins.result.now + 1) c.in-Gate.ensures here c.cover.ensures
+    rows (ap (λ (z : List Signal). length z + 1) c.as_slice-fanins.ensures) in
     subst (λ z. IfNone c.added_to.result (c.args.cap < c.args.total + z)) weight c.added_to.ensures.over

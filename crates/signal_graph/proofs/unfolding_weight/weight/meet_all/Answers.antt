@@ -19,8 +19,8 @@ loop-signal-preserved c =
     let i = c.loop-signal.signal-index in
     let r : Signal = get_or c.args.reads.now i (record { 0 = 0 }) in
     let at : slice_get c.args.reads.now i ≡ Some r = read_at c.args.reads.now i (record { 0 = 0 }) c.loop-signal-test.true in
-    let old = c.loop-signal.places.keys in
-    let new = c.meet.new.places.keys in
+    let old = c.loop-signal.places in
+    let new = c.meet.new.places in
     let meeting = subst (λ z. Meeting c.args.net.now old new (r.0, c.args.shift) c.loop-signal.sum c.args.cap z) c.in-Some.is c.in_ok-more.ensures in
     let stays = met_stay c.args.net.now old new (r.0, c.args.shift) c.loop-signal.sum c.in-Some.more meeting.0 in
     record {
@@ -37,8 +37,8 @@ returns-in-None-clause-over c = λ outputs visited met.
     let i = c.loop-signal.signal-index in
     let r : Signal = get_or c.args.reads.now i (record { 0 = 0 }) in
     let at : slice_get c.args.reads.now i ≡ Some r = read_at c.args.reads.now i (record { 0 = 0 }) c.loop-signal-test.true in
-    let old = c.loop-signal.places.keys in
-    let new = c.meet.new.places.keys in
+    let old = c.loop-signal.places in
+    let new = c.meet.new.places in
     let meeting = subst (λ z. Meeting c.args.net.now old new (r.0, c.args.shift) c.loop-signal.sum c.args.cap z) c.in-None.is c.in_ok-more.ensures in
     is_over c.args.net.now c.keeps.ensures.sound outputs new _
     (met_more c.args.net.now outputs old new (r.0, c.args.shift) c.loop-signal.sum _ meeting.0 (c.loop-signal.invariant.met outputs visited met) (visited i r at)
@@ -47,8 +47,8 @@ returns-in-None-clause-over c = λ outputs visited met.
 pub returns-in-None-clause-stay : goal.returns-in-None-clause-stay
 returns-in-None-clause-stay c = λ k p h.
     let r : Signal = get_or c.args.reads.now c.loop-signal.signal-index (record { 0 = 0 }) in
-    let old = c.loop-signal.places.keys in
-    let new = c.meet.new.places.keys in
+    let old = c.loop-signal.places in
+    let new = c.meet.new.places in
     let meeting = subst (λ z. Meeting c.args.net.now old new (r.0, c.args.shift) c.loop-signal.sum c.args.cap z) c.in-None.is c.in_ok-more.ensures in
     met_stay c.args.net.now old new (r.0, c.args.shift) c.loop-signal.sum _ meeting.0 k p (c.loop-signal.invariant.stay k p h)
 

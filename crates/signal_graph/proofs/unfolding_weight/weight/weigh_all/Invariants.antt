@@ -5,10 +5,10 @@ use Rattle.signal_graph.proofs.unfolding_weight.weight.weigh_all.Given as goal
 
 abbrev pub invariant-loop-at : goal.invariant-loop-at
 invariant-loop-at l = record {
-  met : AreMet l.net (map (λ s. s.0) l.outputs) l.places.keys l.total;
+  met : AreMet l.net (map (λ s. s.0) l.outputs) l.places l.total;
   low : l.total ≤ l.cap;
-  roots : (o : ℕ) → Contains (map (λ s. s.0) l.outputs) o → Contains l.places.keys (o, 0);
-  closed : (i : ℕ) (p : ℕ × ℕ) → i < l.at → slice_get l.places.keys i ≡ Some p → AreReadsThere l.nodes p l.places.keys;
+  roots : (o : ℕ) → Contains (map (λ s. s.0) l.outputs) o → Contains l.places (o, 0);
+  closed : (i : ℕ) (p : ℕ × ℕ) → i < l.at → slice_get l.places i ≡ Some p → AreReadsThere l.nodes p l.places;
 }
 
 abbrev pub decreases-loop-at : goal.decreases-loop-at

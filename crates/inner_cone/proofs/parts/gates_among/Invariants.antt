@@ -1,7 +1,7 @@
 use Rattle.std.proofs.Common.{◌≡◌, take}
 use Rattle.std.specs.List.{filter_map}
 use Rattle.latch_cone.specs.Parts.{gate_at}
-use Rattle.inner_cone.proofs.parts.drivers_among.Given as goal
+use Rattle.inner_cone.proofs.parts.gates_among.Given as goal
 
 abbrev pub invariant-loop-at : goal.invariant-loop-at
-invariant-loop-at l = l.gates.items ≡ filter_map (gate_at l.net) (take l.at l.seen.keys)
+invariant-loop-at l = l.gates.items ≡ filter_map (gate_at l.net) (take l.at l.seen)
