@@ -10,7 +10,7 @@ use super::Net;
 use super::growth::put_port;
 use crate::parts::{Driver, Gate, LatchAt, Port};
 use base_tables::NameTable;
-use sec_base::{Cover, Duplicate, Ids, NoMemory, Word};
+use sec_base::{Cover, Duplicate, Ids, NoMemory, Seq, Word};
 use std::alloc::Global;
 
 impl Net {
@@ -54,10 +54,10 @@ impl Net {
         &self,
         alloc: Global,
         exposed: &[u32],
-    ) -> Result<(Vec<Port>, Vec<Port>), NoMemory>
+    ) -> Result<(Vec<Port>, Seq<Port>), NoMemory>
         requires { All (λ j. j < length self.now.latches) exposed.now }
         ensures inputs { IfOk result (λ p. p.0.items ≡ self.now.inputs ++ map (λ j. as_input (latch_at self.now j)) exposed.now) }
-        ensures outputs { IfOk result (λ p. p.1.items ≡ self.now.outputs ++ map (λ j. as_output (latch_at self.now j)) exposed.now) }
+        ensures outputs { IfOk result (λ p. p.1 ≡ self.now.outputs ++ map (λ j. as_output (latch_at self.now j)) exposed.now) }
     {
         let inputs = self.inputs_after(alloc, exposed)?;
         let outputs = self.outputs_after(alloc, exposed)?;
@@ -87,50 +87,25 @@ impl Net {
         ensures { IfOk result (λ drivers. AreMoved self.now names.now drivers.items) }
     {
         let places = self.places(alloc, names)?;
-        let drivers = moved_drivers(alloc, self.drivers_held(), places.as_slice())?;
-        Ok(drivers)
+        moved_drivers(alloc, self.drivers.as_slice(), places.as_slice())
     }
 
-    fn gates_copied(&self, alloc: Global) -> Result<(Vec<Gate>, Vec<Cover>), NoMemory>
+    fn gates_copied(&self, alloc: Global) -> Result<(Vec<Gate>, Seq<Cover>), NoMemory>
         ensures gates { IfOk result (λ p. p.0.items ≡ self.now.gates) }
-        ensures covers { IfOk result (λ p. p.1.items ≡ self.now.covers) }
+        ensures covers { IfOk result (λ p. p.1 ≡ self.now.covers) }
     {
         let gates = copy_all(alloc, self.gates())?;
-        let covers = copy_all(alloc, self.covers_held())?;
-        Ok((gates, covers))
+        let covers = self.covers.copy()?;
+        Ok((gates.into_vec(), covers))
     }
 
     fn names_copied(&self, alloc: Global) -> Result<(NameTable, Option<Word>), NoMemory>
         ensures names { IfOk result (λ p. p.0 ≡ self.now.names) }
         ensures clock { IfOk result (λ p. p.1 ≡ self.now.clock) }
     {
-        let names = self.table_copied(alloc)?;
-        let clock = self.clock_copied(alloc)?;
+        let names = self.names.copy(alloc)?;
+        let clock = self.clock.duplicate(alloc)?;
         Ok((names, clock))
-    }
-
-    fn covers_held(&self) -> &[Cover]
-        ensures { result.now ≡ self.now.covers }
-    {
-        self.covers.as_slice()
-    }
-
-    fn drivers_held(&self) -> &[Driver]
-        ensures { result.now ≡ self.now.drivers }
-    {
-        self.drivers.as_slice()
-    }
-
-    fn table_copied(&self, alloc: Global) -> Result<NameTable, NoMemory>
-        ensures { IfOk result (λ names. names ≡ self.now.names) }
-    {
-        self.names.copy(alloc)
-    }
-
-    fn clock_copied(&self, alloc: Global) -> Result<Option<Word>, NoMemory>
-        ensures { IfOk result (λ clock. clock ≡ self.now.clock) }
-    {
-        self.clock.duplicate(alloc)
     }
 
     fn latch_at(&self, j: u32) -> &LatchAt
@@ -164,12 +139,12 @@ impl Net {
             let latch = self.latch_at(*j);
             put_port(&mut ports, alloc, latch.name.as_slice(), latch.out)?;
         }
-        Ok(ports)
+        Ok(ports.into_vec())
     }
 
-    fn outputs_after(&self, alloc: Global, exposed: &[u32]) -> Result<Vec<Port>, NoMemory>
+    fn outputs_after(&self, alloc: Global, exposed: &[u32]) -> Result<Seq<Port>, NoMemory>
         requires { All (λ j. j < length self.now.latches) exposed.now }
-        ensures { IfOk result (λ ports. ports.items ≡ self.now.outputs ++ map (λ j. as_output (latch_at self.now j)) exposed.now) }
+        ensures { IfOk result (λ ports. ports ≡ self.now.outputs ++ map (λ j. as_output (latch_at self.now j)) exposed.now) }
     {
         let mut ports = copy_all(alloc, self.outputs())?;
         for j in exposed {
@@ -182,13 +157,13 @@ impl Net {
     fn latches_left(&self, alloc: Global, names: &NameTable) -> Result<Vec<LatchAt>, NoMemory>
         ensures { IfOk result (λ left. left.items ≡ filter (stays names.now) self.now.latches) }
     {
-        let mut left = Vec::new(alloc);
+        let mut left = Seq::new(alloc);
         for latch in self.latches() {
             if !names.has(latch.name.as_slice()) {
                 left.push(latch.duplicate(alloc)?)?;
             }
         }
-        Ok(left)
+        Ok(left.into_vec())
     }
 
     fn places(&self, alloc: Global, names: &NameTable) -> Result<Vec<Driver>, NoMemory>
@@ -198,15 +173,17 @@ impl Net {
         self.keeps();
         let first = self.inputs().len() as u32;
         let mut left: u32 = 0;
-        let mut places = Vec::with_capacity(alloc, self.latches().len())?;
+        let mut places = Vec::new(alloc);
         for latch in self.latches() {
-            match names.find(latch.name.as_slice()) {
-                Some(k) => places.push(Driver::Input(first + k))?,
+            let place = match names.find(latch.name.as_slice()) {
+                Some(k) => Driver::Input(first + k),
                 None => {
-                    places.push(Driver::Latch(left))?;
+                    let number = left;
                     left += 1;
+                    Driver::Latch(number)
                 }
-            }
+            };
+            places.push(place)?;
         }
         Ok(places)
     }
@@ -220,7 +197,7 @@ fn moved_drivers(
 ) -> Result<Vec<Driver>, NoMemory>
     ensures { IfOk result (λ moved. moved.items ≡ map (moved_to places.now) drivers.now) }
 {
-    let mut moved = Vec::with_capacity(alloc, drivers.len())?;
+    let mut moved = Vec::new(alloc);
     for driver in drivers {
         moved.push(moved_to(*driver, places))?;
     }
@@ -237,10 +214,10 @@ fn moved_to(driver: Driver, places: &[Driver]) -> Driver
 }
 
 /// Equal items.
-fn copy_all<T: Duplicate>(alloc: Global, items: &[T]) -> Result<Vec<T>, NoMemory>
-    ensures { IfOk result (λ copies. copies.items ≡ items.now) }
+fn copy_all<T: Duplicate>(alloc: Global, items: &[T]) -> Result<Seq<T>, NoMemory>
+    ensures { IfOk result (λ copies. copies ≡ items.now) }
 {
-    let mut copies = Vec::with_capacity(alloc, items.len())?;
+    let mut copies = Seq::new(alloc);
     for item in items {
         copies.push(item.duplicate(alloc)?)?;
     }

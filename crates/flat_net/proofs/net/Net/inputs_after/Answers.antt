@@ -15,10 +15,10 @@ loop-j-preserved c =
     let j = get_or c.args.exposed.now i 0 in
     let here : slice_get c.args.exposed.now i ≡ Some j = slice_get-get_or c.args.exposed.now i 0 c.loop-j-test.true in
     made_more n.inputs (λ k. as_input (latch_at n k)) c.args.exposed.now i j _ _ here c.loop-j.invariant
-    (c.in_ok-put_port.ensures.ok ∙ (ap (λ (name : List ℕ). let p : Port = record { name = name; signal = c.latch_at-latch.result.now.out } in c.loop-j.ports.items ++ p ∷ []) c.as_slice.ensures
-    ∙ ap (λ (l : LatchAt). c.loop-j.ports.items ++ as_input l ∷ []) c.latch_at-latch.ensures.is))
+    (c.in_ok-put_port.ensures.ok ∙ (ap (λ (name : List ℕ). let p : Port = record { name = name; signal = c.latch_at-latch.result.now.out } in c.loop-j.ports ++ p ∷ []) c.as_slice.ensures
+    ∙ ap (λ (l : LatchAt). c.loop-j.ports ++ as_input l ∷ []) c.latch_at-latch.ensures.is))
 
 pub returns : goal.returns
 returns c =
     let n = c.args.self.now in
-    c.loop-j.invariant ∙ ap (λ (l : List ℕ). n.inputs ++ map (λ k. as_input (latch_at n k)) l) (take_all c.loop-j.j-index c.args.exposed.now c.loop-j-test.false)
+    c.into_vec.ensures ∙ c.loop-j.invariant ∙ ap (λ (l : List ℕ). n.inputs ++ map (λ k. as_input (latch_at n k)) l) (take_all c.loop-j.j-index c.args.exposed.now c.loop-j-test.false)

@@ -15,8 +15,8 @@ loop-j-preserved c =
     let j = get_or c.args.exposed.now i 0 in
     let here : slice_get c.args.exposed.now i ≡ Some j = slice_get-get_or c.args.exposed.now i 0 c.loop-j-test.true in
     made_more n.outputs (λ k. as_output (latch_at n k)) c.args.exposed.now i j _ _ here c.loop-j.invariant
-    (c.in_ok-put_port.ensures.ok ∙ (ap (λ (name : List ℕ). let p : Port = record { name = name; signal = c.latch_at-latch.result.now.next } in c.loop-j.ports.items ++ p ∷ []) c.as_slice.ensures
-    ∙ ap (λ (l : LatchAt). c.loop-j.ports.items ++ as_output l ∷ []) c.latch_at-latch.ensures.is))
+    (c.in_ok-put_port.ensures.ok ∙ (ap (λ (name : List ℕ). let p : Port = record { name = name; signal = c.latch_at-latch.result.now.next } in c.loop-j.ports ++ p ∷ []) c.as_slice.ensures
+    ∙ ap (λ (l : LatchAt). c.loop-j.ports ++ as_output l ∷ []) c.latch_at-latch.ensures.is))
 
 pub returns : goal.returns
 returns c =
