@@ -16,17 +16,17 @@ use crate::parts::{Driver, Gate, LatchAt, Port};
 use crate::signals::Signal;
 use base_tables::NameTable;
 pub(crate) use growth::push_within;
-use sec_base::{Cover, Seq, Word, place_matches};
+use sec_base::{Cover, Word, place_matches};
 use std::marker::Model;
 
 /// A flat circuit. Each signal has one driver and a name of its own, and each gate stands behind the gates that it
 /// reads. A contract sees the record of its lists.
 pub struct Net {
     inputs: Vec<Port>,
-    outputs: Seq<Port>,
+    outputs: Vec<Port>,
     gates: Vec<Gate>,
     latches: Vec<LatchAt>,
-    covers: Seq<Cover>,
+    covers: Vec<Cover>,
     drivers: Vec<Driver>,
     names: NameTable,
     clock: Option<Word>,
@@ -54,9 +54,9 @@ impl Model for Net {
 
     ghost Value = { NetView };
 
-    ghost view = { λ n. record { inputs = n.inputs.items; outputs = n.outputs; gates = n.gates.items; latches = n.latches.items; covers = n.covers; drivers = n.drivers.items; names = n.names; clock = n.clock } };
+    ghost view = { λ n. record { inputs = n.inputs.items; outputs = n.outputs.items; gates = n.gates.items; latches = n.latches.items; covers = n.covers.items; drivers = n.drivers.items; names = n.names; clock = n.clock } };
 
-    ghost invariant = { λ n. IsSound (record { inputs = n.inputs.items; outputs = n.outputs; gates = n.gates.items; latches = n.latches.items; covers = n.covers; drivers = n.drivers.items; names = n.names; clock = n.clock }) };
+    ghost invariant = { λ n. IsSound (record { inputs = n.inputs.items; outputs = n.outputs.items; gates = n.gates.items; latches = n.latches.items; covers = n.covers.items; drivers = n.drivers.items; names = n.names; clock = n.clock }) };
 }
 
 impl Net {
@@ -121,7 +121,7 @@ impl Net {
         requires { id < length self.now.covers }
         ensures { slice_get self.now.covers id ≡ Some result.now }
     {
-        &self.covers.as_slice()[id as usize]
+        &self.covers[id as usize]
     }
 
     /// What drives the signal.

@@ -1,6 +1,6 @@
 //! Nets with latches cut out.
 
-ghost use Rattle.std.specs.Prelude.{◌≡◌, ◌+◌, ◌^◌, ◌<◌, ◌++◌, length, map, slice_get, Some, All, IfOk};
+ghost use Rattle.std.specs.Prelude.{◌≡◌, ◌+◌, ◌^◌, ◌<◌, ◌++◌, length, map, slice_get, Some, All, IfOk, if◌then◌else◌};
 ghost use Rattle.std.specs.List.{filter};
 ghost use Rattle.base_tables.specs.Table.{AreDistinct};
 ghost use Rattle.flat_net.specs.View.{circuit_of};
@@ -10,7 +10,7 @@ use super::Net;
 use super::growth::put_port;
 use crate::parts::{Driver, Gate, LatchAt, Port};
 use base_tables::NameTable;
-use sec_base::{Cover, Duplicate, Ids, NoMemory, Seq, Word};
+use sec_base::{Cover, Duplicate, Ids, NoMemory, Word};
 use std::alloc::Global;
 
 impl Net {
@@ -54,13 +54,13 @@ impl Net {
         &self,
         alloc: Global,
         exposed: &[u32],
-    ) -> Result<(Vec<Port>, Seq<Port>), NoMemory>
+    ) -> Result<(Vec<Port>, Vec<Port>), NoMemory>
         requires { All (λ j. j < length self.now.latches) exposed.now }
         ensures inputs { IfOk result (λ p. p.0.items ≡ self.now.inputs ++ map (λ j. as_input (latch_at self.now j)) exposed.now) }
-        ensures outputs { IfOk result (λ p. p.1 ≡ self.now.outputs ++ map (λ j. as_output (latch_at self.now j)) exposed.now) }
+        ensures outputs { IfOk result (λ p. p.1.items ≡ self.now.outputs ++ map (λ j. as_output (latch_at self.now j)) exposed.now) }
     {
-        let inputs = self.inputs_after(alloc, exposed)?;
-        let outputs = self.outputs_after(alloc, exposed)?;
+        let inputs = self.ports_behind(alloc, self.inputs(), exposed, false)?;
+        let outputs = self.ports_behind(alloc, self.outputs(), exposed, true)?;
         Ok((inputs, outputs))
     }
 
@@ -90,13 +90,13 @@ impl Net {
         moved_drivers(alloc, self.drivers.as_slice(), places.as_slice())
     }
 
-    fn gates_copied(&self, alloc: Global) -> Result<(Vec<Gate>, Seq<Cover>), NoMemory>
+    fn gates_copied(&self, alloc: Global) -> Result<(Vec<Gate>, Vec<Cover>), NoMemory>
         ensures gates { IfOk result (λ p. p.0.items ≡ self.now.gates) }
-        ensures covers { IfOk result (λ p. p.1 ≡ self.now.covers) }
+        ensures covers { IfOk result (λ p. p.1.items ≡ self.now.covers) }
     {
         let gates = copy_all(alloc, self.gates())?;
-        let covers = self.covers.copy()?;
-        Ok((gates.into_vec(), covers))
+        let covers = copy_all(alloc, self.covers.as_slice())?;
+        Ok((gates, covers))
     }
 
     fn names_copied(&self, alloc: Global) -> Result<(NameTable, Option<Word>), NoMemory>
@@ -130,40 +130,37 @@ impl Net {
         Ok(names)
     }
 
-    fn inputs_after(&self, alloc: Global, exposed: &[u32]) -> Result<Vec<Port>, NoMemory>
+    /// The ports, and behind them one for each exposed latch, which stands for what the latch takes over or for its
+    /// signal.
+    fn ports_behind(
+        &self,
+        alloc: Global,
+        ports: &[Port],
+        exposed: &[u32],
+        takes_over: bool,
+    ) -> Result<Vec<Port>, NoMemory>
         requires { All (λ j. j < length self.now.latches) exposed.now }
-        ensures { IfOk result (λ ports. ports.items ≡ self.now.inputs ++ map (λ j. as_input (latch_at self.now j)) exposed.now) }
+        ensures { IfOk result (λ made. made.items ≡ ports.now ++ map (λ j. if takes_over then as_output (latch_at self.now j) else as_input (latch_at self.now j)) exposed.now) }
     {
-        let mut ports = copy_all(alloc, self.inputs())?;
+        let mut made = copy_all(alloc, ports)?;
         for j in exposed {
             let latch = self.latch_at(*j);
-            put_port(&mut ports, alloc, latch.name.as_slice(), latch.out)?;
+            let signal = if takes_over { latch.next } else { latch.out };
+            put_port(&mut made, alloc, latch.name.as_slice(), signal)?;
         }
-        Ok(ports.into_vec())
-    }
-
-    fn outputs_after(&self, alloc: Global, exposed: &[u32]) -> Result<Seq<Port>, NoMemory>
-        requires { All (λ j. j < length self.now.latches) exposed.now }
-        ensures { IfOk result (λ ports. ports ≡ self.now.outputs ++ map (λ j. as_output (latch_at self.now j)) exposed.now) }
-    {
-        let mut ports = copy_all(alloc, self.outputs())?;
-        for j in exposed {
-            let latch = self.latch_at(*j);
-            put_port(&mut ports, alloc, latch.name.as_slice(), latch.next)?;
-        }
-        Ok(ports)
+        Ok(made)
     }
 
     fn latches_left(&self, alloc: Global, names: &NameTable) -> Result<Vec<LatchAt>, NoMemory>
         ensures { IfOk result (λ left. left.items ≡ filter (stays names.now) self.now.latches) }
     {
-        let mut left = Seq::new(alloc);
+        let mut left = Vec::new(alloc);
         for latch in self.latches() {
             if !names.has(latch.name.as_slice()) {
                 left.push(latch.duplicate(alloc)?)?;
             }
         }
-        Ok(left.into_vec())
+        Ok(left)
     }
 
     fn places(&self, alloc: Global, names: &NameTable) -> Result<Vec<Driver>, NoMemory>
@@ -214,10 +211,10 @@ fn moved_to(driver: Driver, places: &[Driver]) -> Driver
 }
 
 /// Equal items.
-fn copy_all<T: Duplicate>(alloc: Global, items: &[T]) -> Result<Seq<T>, NoMemory>
-    ensures { IfOk result (λ copies. copies ≡ items.now) }
+fn copy_all<T: Duplicate>(alloc: Global, items: &[T]) -> Result<Vec<T>, NoMemory>
+    ensures { IfOk result (λ copies. copies.items ≡ items.now) }
 {
-    let mut copies = Seq::new(alloc);
+    let mut copies = Vec::new(alloc);
     for item in items {
         copies.push(item.duplicate(alloc)?)?;
     }

@@ -17,10 +17,10 @@ impl Net {
     {
         Net {
             inputs: Vec::new(alloc),
-            outputs: Seq::new(alloc),
+            outputs: Vec::new(alloc),
             gates: Vec::new(alloc),
             latches: Vec::new(alloc),
-            covers: Seq::new(alloc),
+            covers: Vec::new(alloc),
             drivers: Vec::new(alloc),
             names: NameTable::new(alloc),
             clock: None,
@@ -178,16 +178,17 @@ impl Net {
 
 /// Puts a port of this name last. After `NoMemory` nothing has changed.
 pub(crate) fn put_port(
-    ports: &mut Seq<Port>,
+    ports: &mut Vec<Port>,
     alloc: Global,
     name: &[u8],
     signal: Signal,
 ) -> Result<(), NoMemory>
-    ensures ok { OnOk result (ports.new ≡ ports.old ++ (record { name = name.now; signal = signal }) ∷ []) }
-    ensures err { OnErr result (ports.new ≡ ports.old) }
+    ensures ok { OnOk result (ports.new.items ≡ ports.old.items ++ (record { name = name.now; signal = signal }) ∷ []) }
+    ensures err { OnErr result (ports.new.items ≡ ports.old.items) }
 {
     let name = Seq::from_vec(name.to_vec(alloc)?);
-    ports.push(Port { name, signal })
+    ports.push(Port { name, signal })?;
+    Ok(())
 }
 
 /// Puts a new signal last: its name, its driver and what stands for it among the items. After `NoMemory` nothing has changed.
