@@ -1,7 +1,7 @@
 //! The records of a body, one after the other.
 
 ghost use Rattle.std.specs.Prelude.{◌≡◌, ◌+◌, ◌<◌, ◌≤◌, ◌^◌, length, option_map, IfOk, IfSome, MatchOption, None, Some};
-ghost use Rattle.aiger_records.specs.Records.{section_of, input_lines, left_out, latch_literal, gate_literal, line_record, is_packed, packed_record, record_at, body_length};
+ghost use Rattle.aiger_records.specs.Records.{section_of, input_lines, left_out, line_record, is_packed, packed_record, record_at, body_length};
 ghost use Rattle.aiger_records.specs.Faults.{IsSmall};
 
 use crate::cuts::{Cut, cut_at};
@@ -60,24 +60,6 @@ impl Header {
         }
     }
 
-    /// The literal of a latch of the binary form.
-    fn latch_literal(&self, k: u64) -> u64
-        requires small { IsSmall self.now }
-        requires within { k < 2 ^ 32 }
-        ensures { result ≡ latch_literal self.now k }
-    {
-        2 * (self.inputs + k + 1)
-    }
-
-    /// The literal of a gate of the binary form.
-    fn gate_literal(&self, k: u64) -> u64
-        requires small { IsSmall self.now }
-        requires within { k < 2 ^ 32 }
-        ensures { result ≡ gate_literal self.now k }
-    {
-        2 * (self.inputs + k.saturating_sub(self.outputs) + 1)
-    }
-
     /// The numbers that the line of record k leaves out at its front.
     fn left_out(&self, alloc: Global, k: u64, section: Section) -> Result<Vec<u64>, NoMemory>
         requires small { IsSmall self.now }
@@ -87,7 +69,7 @@ impl Header {
         let mut numbers = Vec::new(alloc);
         match self.form {
             Form::Binary => match section {
-                Section::Latch => numbers.push(self.latch_literal(k))?,
+                Section::Latch => numbers.push(2 * (self.inputs + k + 1))?,
                 _ => {}
             },
             Form::Ascii => {}
@@ -130,7 +112,8 @@ impl Header {
     {
         let section = self.section_of(k);
         if is_packed(self.form, section) {
-            return Ok(packed_record(self.gate_literal(k), text));
+            let literal = 2 * (self.inputs + k.saturating_sub(self.outputs) + 1);
+            return Ok(packed_record(literal, text));
         }
         let Some(Cut { before, after }) = cut_at(b'\n', text) else {
             return Ok(None);

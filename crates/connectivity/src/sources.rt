@@ -39,7 +39,7 @@ pub(crate) fn ports(
     requires { All (IsStatementWithin (length flat.now.statements)) sources.now }
     ensures { IfOk result (λ froms. froms.items ≡ map (source_port flat.now.statements) sources.now) }
 {
-    let mut froms = Vec::with_capacity(alloc, sources.len())?;
+    let mut froms = Vec::new(alloc);
     for source in sources {
         froms.push(port_from(flat, *source))?;
     }
@@ -52,7 +52,7 @@ fn one_back(alloc: Global, froms: &[Option<u32>]) -> Result<Vec<u32>, NoMemory>
     requires within { ArePortsWithin froms.now }
     ensures { IfOk result (λ at. IsBackBy froms.now 1 at.items) }
 {
-    let mut at = Vec::with_capacity(alloc, froms.len())?;
+    let mut at = Vec::new(alloc);
     for (signal, from) in froms.iter().enumerate() {
         at.push(match from {
             Some(from) => *from,
@@ -67,7 +67,7 @@ fn twice(alloc: Global, at: &[u32]) -> Result<Vec<u32>, NoMemory>
     requires { All (λ m. m < length at.now) at.now }
     ensures { IfOk result (λ further. further.items ≡ map (slice_index at.now) at.now) }
 {
-    let mut further = Vec::with_capacity(alloc, at.len())?;
+    let mut further = Vec::new(alloc);
     for place in at {
         further.push(at[*place as usize])?;
     }
@@ -89,7 +89,7 @@ fn ended(alloc: Global, froms: &[Option<u32>], at: &[u32]) -> Result<Vec<Option<
     requires { All (λ m. m < length froms.now) at.now }
     ensures { IfOk result (λ nets. nets.items ≡ map (net_at froms.now) at.now) }
 {
-    let mut nets = Vec::with_capacity(alloc, at.len())?;
+    let mut nets = Vec::new(alloc);
     for place in at {
         nets.push(if froms[*place as usize].is_some() {
             None

@@ -117,8 +117,11 @@ fn clock_net(
     ensures err { IfErr result (IsTold flat.now) }
 {
     keeps(flat);
-    let signals = clock_signals(alloc, flat)?;
-    let clock = match one_net(&signals, nets) {
+    let found = {
+        let signals = clock_signals(alloc, flat)?;
+        one_net(&signals, nets)
+    };
+    let clock = match found {
         Ok(clock) => clock,
         Err(other) => return Err(FlatError::TwoClocks(name_of(alloc, flat, other)?)),
     };

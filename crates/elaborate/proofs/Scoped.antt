@@ -85,6 +85,15 @@ pub entry_passed : (main : List ℕ) (path inner : List Inside) (o : Option Blif
     found_fault main (Enter path inner o name pairs) ≡ (ports_fault m pairs or_else when (has_long path inner m pairs) flat_error.LongName)
 entry_passed main path inner o m name pairs none is = ap (λ (f : Option FlatError). f or_else inner_fault path inner o pairs) none ∙ ap (λ (x : Option BlifModel). inner_fault path inner x pairs) is
 
+-- where the model isn't entered, that is the fault
+pub entry_refused : (main : List ℕ) (path inner : List Inside) (o : Option BlifModel) (name : List ℕ) (pairs : List Pair) (e : FlatError) → entry_fault main path o name ≡ Some e → found_fault main (Enter path inner o name pairs) ≡ Some e
+entry_refused main path inner o name pairs e h = ap (λ (f : Option FlatError). f or_else inner_fault path inner o pairs) h
+
+-- where the model is entered and the pairs have a fault, it is theirs
+pub ports_refused : (main : List ℕ) (path inner : List Inside) (o : Option BlifModel) (m : BlifModel) (name : List ℕ) (pairs : List Pair) (e : FlatError) → entry_fault main path o name ≡ None → o ≡ Some m → ports_fault m pairs ≡ Some e →
+    found_fault main (Enter path inner o name pairs) ≡ Some e
+ports_refused main path inner o m name pairs e none is h = entry_passed main path inner o m name pairs none is ∙ ap (λ (f : Option FlatError). f or_else when (has_long path inner m pairs) flat_error.LongName) h
+
 -- what is left to find in an instance whose model is entered and whose pairs have no fault
 pub entered_is : (models : List BlifModel) (main : List ℕ) (outer inner : Scope) (instance : ℕ) (name : List ℕ) (pairs : List Pair) (m : BlifModel) (f : Formals) → IsScope models outer → entry_fault main (path_of (model_names models) outer) (model_named models name) name ≡ None → model_named models name ≡ Some m →
     AreFormals m f → ports_fault m pairs ≡ None → IsInside models outer instance name inner →

@@ -144,8 +144,7 @@ fn check_ports(
 {
     let seen = check_pairs(alloc, formals, pairs)?;
     check_open(alloc, &seen, model.inputs.as_slice())?;
-    check_open(alloc, &seen, model.clocks.as_slice())?;
-    Ok(())
+    check_open(alloc, &seen, model.clocks.as_slice())
 }
 
 /// The scope of an instance, or its first fault.

@@ -11,7 +11,7 @@ ghost use Rattle.elaborate.specs.Walked.{IsWalked};
 ghost use Rattle.elaborate.specs.Walking.{main_name, design_walk_fault};
 ghost use Rattle.elaborate.specs.Steps.{visits, heads};
 ghost use Rattle.elaborate.specs.Scopes.{AreTables, IsScope, IsInside, GoesInside, path_of, instance_at, pairs_at, below_scope};
-ghost use Rattle.elaborate.specs.State.{ArePortNumbers, HasWalked, IsKept, IsWithPorts, state};
+ghost use Rattle.elaborate.specs.State.{HasWalked, IsKept, IsWithPorts, state};
 
 use crate::checks::entered;
 use crate::error::FlatError;
@@ -21,8 +21,7 @@ use crate::scope::Scope;
 use crate::tables::{Tables, tables_of};
 use crate::walked::Walked;
 use blif_read::{
-    BlifModel, Design, Ids, MAX_PLACES, MAX_STATEMENTS, NameTable, NoMemory, Pair, Seq, Statement,
-    Word,
+    BlifModel, Design, MAX_PLACES, MAX_STATEMENTS, NameTable, NoMemory, Pair, Seq, Statement, Word,
 };
 use std::alloc::Global;
 use std::mem;
@@ -156,20 +155,6 @@ fn walk_scope(
     Ok(())
 }
 
-/// The numbers of the main model's inputs, clocks and outputs. New names go last.
-fn port_numbers(
-    alloc: Global,
-    names: &mut NameTable,
-    main: &BlifModel,
-) -> Result<(Ids, Ids, Ids), NoMemory>
-    ensures { IfOk result (λ ports. ArePortNumbers main.now names.old names.new ports.0 ports.1 ports.2) }
-{
-    let inputs = numbers(alloc, names, b"", main.inputs.as_slice())?;
-    let clocks = numbers(alloc, names, b"", main.clocks.as_slice())?;
-    let outputs = numbers(alloc, names, b"", main.outputs.as_slice())?;
-    Ok((inputs, clocks, outputs))
-}
-
 /// The flat statements with the main model's ports. They are moved out.
 fn with_ports(alloc: Global, walked: &mut Walked, main: &BlifModel) -> Result<Flat, NoMemory>
     requires kept { IsKept walked.old }
@@ -178,7 +163,9 @@ fn with_ports(alloc: Global, walked: &mut Walked, main: &BlifModel) -> Result<Fl
     requires few_places { sum_by written_places walked.old.statements ≤ MAX_PLACES }
     ensures { IfOk result (IsWithPorts main.now walked.old) }
 {
-    let (inputs, clocks, outputs) = port_numbers(alloc, &mut walked.names, main)?;
+    let inputs = numbers(alloc, &mut walked.names, b"", main.inputs.as_slice())?;
+    let clocks = numbers(alloc, &mut walked.names, b"", main.clocks.as_slice())?;
+    let outputs = numbers(alloc, &mut walked.names, b"", main.outputs.as_slice())?;
     walked.names.keeps();
     Ok(Flat {
         names: mem::replace(&mut walked.names, NameTable::new(alloc)),

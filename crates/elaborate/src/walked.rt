@@ -92,8 +92,7 @@ impl Walked {
         let reads = numbers(alloc, &mut self.names, prefix, fanins)?;
         let out = number(alloc, &mut self.names, prefix, out)?;
         let kind = FlatKind::Gate { model, statement };
-        self.statements.push(FlatStatement { out, reads, kind })?;
-        Ok(())
+        self.statements.push(FlatStatement { out, reads, kind })
     }
 
     /// Adds a latch.
@@ -118,8 +117,7 @@ impl Walked {
             control,
             init,
         };
-        self.add_statement(alloc, out, data, kind)?;
-        Ok(())
+        self.add_statement(alloc, out, data, kind)
     }
 
     /// Counts and adds a gate, or refuses it: for its count, or for a long name.
@@ -180,8 +178,7 @@ impl Walked {
     {
         let mut reads = Seq::new(alloc);
         reads.push(from)?;
-        self.statements.push(FlatStatement { out, reads, kind })?;
-        Ok(())
+        self.statements.push(FlatStatement { out, reads, kind })
     }
 
     /// Adds a pair of an instance whose model has these input formals.
@@ -199,11 +196,10 @@ impl Walked {
         let actual = number(alloc, &mut self.names, outer, pair.actual.as_slice())?;
         let formal = number(alloc, &mut self.names, inner, pair.formal.as_slice())?;
         if inputs.has(pair.formal.as_slice()) {
-            self.add_statement(alloc, formal, actual, FlatKind::Port)?;
+            self.add_statement(alloc, formal, actual, FlatKind::Port)
         } else {
-            self.add_statement(alloc, actual, formal, FlatKind::Port)?;
+            self.add_statement(alloc, actual, formal, FlatKind::Port)
         }
-        Ok(())
     }
 
     /// Adds the pairs of an instance whose model has these input formals.

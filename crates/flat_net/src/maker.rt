@@ -8,7 +8,7 @@ ghost use Rattle.flat_net.specs.Makes.{MakerView, empty_net, with_input, with_la
 use crate::net::{Net, push_within};
 use crate::parts::Driver;
 use crate::signals::{Signal, Signals};
-use sec_base::{Cover, Init, NoMemory, Word};
+use sec_base::{Cover, Init, NoMemory, Seq, Word};
 use std::alloc::Global;
 use std::marker::Model;
 
@@ -78,7 +78,8 @@ impl NetMaker {
         ensures ok { OnOk result (self.new ≡ record self.old { net = with_input self.old.net name.now }) }
         ensures err { OnErr result (self.new ≡ self.old) }
     {
-        self.net.add_input(self.alloc, name)
+        let name_kept = Seq::from_vec(name.to_vec(self.alloc)?);
+        self.net.add_input(self.alloc, name, name_kept)
     }
 
     /// A new signal that a latch drives, whose next is to be set. After `NoMemory` nothing has changed.
@@ -90,7 +91,8 @@ impl NetMaker {
         ensures err { OnErr result (self.new ≡ self.old) }
     {
         self.set.reserve(1)?;
-        let signal = self.net.add_latch(self.alloc, name, init)?;
+        let name_kept = Seq::from_vec(name.to_vec(self.alloc)?);
+        let signal = self.net.add_latch(self.alloc, name, name_kept, init)?;
         push_within(&mut self.set, false);
         Ok(signal)
     }

@@ -1,6 +1,6 @@
 //! Nets with latches cut out.
 
-ghost use Rattle.std.specs.Prelude.{◌≡◌, ◌+◌, ◌^◌, ◌<◌, ◌++◌, length, map, slice_get, Some, All, IfOk};
+ghost use Rattle.std.specs.Prelude.{◌≡◌, ◌+◌, ◌^◌, ◌<◌, ◌++◌, length, map, slice_get, Some, All, IfOk, if◌then◌else◌};
 ghost use Rattle.std.specs.List.{filter};
 ghost use Rattle.base_tables.specs.Table.{AreDistinct};
 ghost use Rattle.flat_net.specs.View.{circuit_of};
@@ -59,8 +59,8 @@ impl Net {
         ensures inputs { IfOk result (λ p. p.0.items ≡ self.now.inputs ++ map (λ j. as_input (latch_at self.now j)) exposed.now) }
         ensures outputs { IfOk result (λ p. p.1.items ≡ self.now.outputs ++ map (λ j. as_output (latch_at self.now j)) exposed.now) }
     {
-        let inputs = self.inputs_after(alloc, exposed)?;
-        let outputs = self.outputs_after(alloc, exposed)?;
+        let inputs = self.ports_behind(alloc, self.inputs(), exposed, false)?;
+        let outputs = self.ports_behind(alloc, self.outputs(), exposed, true)?;
         Ok((inputs, outputs))
     }
 
@@ -87,8 +87,7 @@ impl Net {
         ensures { IfOk result (λ drivers. AreMoved self.now names.now drivers.items) }
     {
         let places = self.places(alloc, names)?;
-        let drivers = moved_drivers(alloc, self.drivers_held(), places.as_slice())?;
-        Ok(drivers)
+        moved_drivers(alloc, self.drivers.as_slice(), places.as_slice())
     }
 
     fn gates_copied(&self, alloc: Global) -> Result<(Vec<Gate>, Vec<Cover>), NoMemory>
@@ -96,7 +95,7 @@ impl Net {
         ensures covers { IfOk result (λ p. p.1.items ≡ self.now.covers) }
     {
         let gates = copy_all(alloc, self.gates())?;
-        let covers = copy_all(alloc, self.covers_held())?;
+        let covers = copy_all(alloc, self.covers.as_slice())?;
         Ok((gates, covers))
     }
 
@@ -104,33 +103,9 @@ impl Net {
         ensures names { IfOk result (λ p. p.0 ≡ self.now.names) }
         ensures clock { IfOk result (λ p. p.1 ≡ self.now.clock) }
     {
-        let names = self.table_copied(alloc)?;
-        let clock = self.clock_copied(alloc)?;
+        let names = self.names.copy(alloc)?;
+        let clock = self.clock.duplicate(alloc)?;
         Ok((names, clock))
-    }
-
-    fn covers_held(&self) -> &[Cover]
-        ensures { result.now ≡ self.now.covers }
-    {
-        self.covers.as_slice()
-    }
-
-    fn drivers_held(&self) -> &[Driver]
-        ensures { result.now ≡ self.now.drivers }
-    {
-        self.drivers.as_slice()
-    }
-
-    fn table_copied(&self, alloc: Global) -> Result<NameTable, NoMemory>
-        ensures { IfOk result (λ names. names ≡ self.now.names) }
-    {
-        self.names.copy(alloc)
-    }
-
-    fn clock_copied(&self, alloc: Global) -> Result<Option<Word>, NoMemory>
-        ensures { IfOk result (λ clock. clock ≡ self.now.clock) }
-    {
-        self.clock.duplicate(alloc)
     }
 
     fn latch_at(&self, j: u32) -> &LatchAt
@@ -155,28 +130,25 @@ impl Net {
         Ok(names)
     }
 
-    fn inputs_after(&self, alloc: Global, exposed: &[u32]) -> Result<Vec<Port>, NoMemory>
+    /// The ports, and behind them one for each exposed latch, which stands for what the latch takes over or for its
+    /// signal.
+    fn ports_behind(
+        &self,
+        alloc: Global,
+        ports: &[Port],
+        exposed: &[u32],
+        takes_over: bool,
+    ) -> Result<Vec<Port>, NoMemory>
         requires { All (λ j. j < length self.now.latches) exposed.now }
-        ensures { IfOk result (λ ports. ports.items ≡ self.now.inputs ++ map (λ j. as_input (latch_at self.now j)) exposed.now) }
+        ensures { IfOk result (λ made. made.items ≡ ports.now ++ map (λ j. if takes_over then as_output (latch_at self.now j) else as_input (latch_at self.now j)) exposed.now) }
     {
-        let mut ports = copy_all(alloc, self.inputs())?;
+        let mut made = copy_all(alloc, ports)?;
         for j in exposed {
             let latch = self.latch_at(*j);
-            put_port(&mut ports, alloc, latch.name.as_slice(), latch.out)?;
+            let signal = if takes_over { latch.next } else { latch.out };
+            put_port(&mut made, alloc, latch.name.as_slice(), signal)?;
         }
-        Ok(ports)
-    }
-
-    fn outputs_after(&self, alloc: Global, exposed: &[u32]) -> Result<Vec<Port>, NoMemory>
-        requires { All (λ j. j < length self.now.latches) exposed.now }
-        ensures { IfOk result (λ ports. ports.items ≡ self.now.outputs ++ map (λ j. as_output (latch_at self.now j)) exposed.now) }
-    {
-        let mut ports = copy_all(alloc, self.outputs())?;
-        for j in exposed {
-            let latch = self.latch_at(*j);
-            put_port(&mut ports, alloc, latch.name.as_slice(), latch.next)?;
-        }
-        Ok(ports)
+        Ok(made)
     }
 
     fn latches_left(&self, alloc: Global, names: &NameTable) -> Result<Vec<LatchAt>, NoMemory>
@@ -198,15 +170,17 @@ impl Net {
         self.keeps();
         let first = self.inputs().len() as u32;
         let mut left: u32 = 0;
-        let mut places = Vec::with_capacity(alloc, self.latches().len())?;
+        let mut places = Vec::new(alloc);
         for latch in self.latches() {
-            match names.find(latch.name.as_slice()) {
-                Some(k) => places.push(Driver::Input(first + k))?,
+            let place = match names.find(latch.name.as_slice()) {
+                Some(k) => Driver::Input(first + k),
                 None => {
-                    places.push(Driver::Latch(left))?;
+                    let number = left;
                     left += 1;
+                    Driver::Latch(number)
                 }
-            }
+            };
+            places.push(place)?;
         }
         Ok(places)
     }
@@ -220,7 +194,7 @@ fn moved_drivers(
 ) -> Result<Vec<Driver>, NoMemory>
     ensures { IfOk result (λ moved. moved.items ≡ map (moved_to places.now) drivers.now) }
 {
-    let mut moved = Vec::with_capacity(alloc, drivers.len())?;
+    let mut moved = Vec::new(alloc);
     for driver in drivers {
         moved.push(moved_to(*driver, places))?;
     }
@@ -240,7 +214,7 @@ fn moved_to(driver: Driver, places: &[Driver]) -> Driver
 fn copy_all<T: Duplicate>(alloc: Global, items: &[T]) -> Result<Vec<T>, NoMemory>
     ensures { IfOk result (λ copies. copies.items ≡ items.now) }
 {
-    let mut copies = Vec::with_capacity(alloc, items.len())?;
+    let mut copies = Vec::new(alloc);
     for item in items {
         copies.push(item.duplicate(alloc)?)?;
     }

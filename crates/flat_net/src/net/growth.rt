@@ -9,7 +9,7 @@ use crate::parts::{Driver, Gate, LatchAt, Port};
 use crate::signals::{Signal, Signals};
 use base_tables::NameTable;
 use sec_base::{Cover, Init, NoMemory, Seq, Word};
-use std::alloc::Global;
+use std::alloc::{AllocError, Global};
 
 impl Net {
     pub(crate) fn empty(alloc: Global) -> Net
@@ -33,7 +33,13 @@ impl Net {
         self.names.has(name)
     }
 
-    pub(crate) fn add_input(&mut self, alloc: Global, name: &[u8]) -> Result<Signal, NoMemory>
+    pub(crate) fn add_input(
+        &mut self,
+        alloc: Global,
+        name: &[u8],
+        name_kept: Word,
+    ) -> Result<Signal, NoMemory>
+        requires kept { name_kept ≡ name.now }
         requires room { length self.old.drivers + 1 < 2 ^ 32 }
         requires new { is_among self.old.names name.now ≡ false }
         ensures signal { IfOk result (λ s. s.0 ≡ length self.old.drivers) }
@@ -42,7 +48,6 @@ impl Net {
     {
         let signal = Signal(self.drivers.len() as u32);
         let number = self.inputs.len() as u32;
-        let name_kept = Seq::from_vec(name.to_vec(alloc)?);
         let port = Port {
             name: name_kept,
             signal,
@@ -63,8 +68,10 @@ impl Net {
         &mut self,
         alloc: Global,
         name: &[u8],
+        name_kept: Word,
         init: Init,
     ) -> Result<Signal, NoMemory>
+        requires kept { name_kept ≡ name.now }
         requires room { length self.old.drivers + 1 < 2 ^ 32 }
         requires new { is_among self.old.names name.now ≡ false }
         ensures signal { IfOk result (λ s. s.0 ≡ length self.old.drivers) }
@@ -73,7 +80,6 @@ impl Net {
     {
         let signal = Signal(self.drivers.len() as u32);
         let number = self.latches.len() as u32;
-        let name_kept = Seq::from_vec(name.to_vec(alloc)?);
         let latch = LatchAt {
             name: name_kept,
             next: signal,
@@ -216,16 +222,15 @@ fn enter<T: Drop>(
     Ok(signal)
 }
 
-/// Room for one more of each. After `NoMemory` no item has changed either.
-fn make_room<T>(items: &mut Vec<T>, drivers: &mut Vec<Driver>) -> Result<(), NoMemory>
+/// Room for one more of each. After an error no item has changed either.
+fn make_room<T>(items: &mut Vec<T>, drivers: &mut Vec<Driver>) -> Result<(), AllocError>
     ensures items { items.new.items ≡ items.old.items }
     ensures drivers { drivers.new.items ≡ drivers.old.items }
     ensures item_room { OnOk result (vec_len items.new < vec_capacity items.new) }
     ensures driver_room { OnOk result (vec_len drivers.new < vec_capacity drivers.new) }
 {
     items.reserve(1)?;
-    drivers.reserve(1)?;
-    Ok(())
+    drivers.reserve(1)
 }
 
 /// Puts the item last, where there is room for it.

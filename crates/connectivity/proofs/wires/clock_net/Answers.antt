@@ -1,5 +1,6 @@
 use Rattle.std.proofs.Common.{◌<◌, ◌∙◌, ℕ, List, length, sym, subst}
 use Rattle.std.specs.Prelude.{All}
+use Rattle.std.proofs.lemmas.Result.{err_from_is_err_and}
 use Rattle.connectivity.specs.Wiring.{wires_of}
 use Rattle.connectivity.specs.Events.{IsFirst}
 use Rattle.connectivity.specs.Clocks.{AreOneNet, OtherNet}
@@ -8,8 +9,8 @@ use Rattle.connectivity.proofs.ClockNets.{clocks_below, first_other_clock, never
 use Rattle.connectivity.proofs.Told.{clock_within, told_clocks, told_edges}
 use Rattle.connectivity.proofs.wires.clock_net.Goals as goal
 
-pub one_net-requires : goal.one_net-requires
-one_net-requires c =
+pub one_net-found-requires : goal.one_net-found-requires
+one_net-found-requires c =
     let flat = c.args.flat.now in
     subst (λ (n : ℕ). All (λ m. m < n) c.deref.result.now) (sym c.requires.tables.nets.len)
     (subst (λ (zs : List ℕ). All (λ m. m < length flat.names) zs) (sym (c.deref.ensures.value ∙ c.in_ok-signals.ensures))
@@ -53,3 +54,11 @@ returns-clause-ok c =
     let flat = c.args.flat.now in
     let one = subst (λ (zs : List ℕ). AreOneNet c.args.nets.now zs c.in-Ok.clock) (c.deref.ensures.value ∙ c.in_ok-signals.ensures) c.in-Ok.ensures in
     (c.in_ok-check_clocked.ensures.ok, clock_is (wires_of flat) (length flat.names) (bounded flat c.keeps.ensures) c.args.nets.now c.requires.tables.nets c.in-Ok.clock one)
+
+pub check_clocked-requires-clause-one_edge : goal.check_clocked-requires-clause-one_edge
+check_clocked-requires-clause-one_edge c = c.in_default.ensures.edge
+
+pub returns-in_err-check_clocked-clause-err : goal.returns-in_err-check_clocked-clause-err
+returns-in_err-check_clocked-clause-err c =
+    let p = err_from_is_err_and c.from_residual-in_err-check_clocked.result c.from_residual-in_err-check_clocked.ensures.1 in
+    rw (p.1, p.2) c.in_err-check_clocked.ensures.err

@@ -2,16 +2,42 @@ use Rattle.std.proofs.Common.{◌≡◌, ◌<◌, ℕ, List, Bool, length, Some,
 use Rattle.std.specs.List.{list_any}
 use Rattle.std.proofs.lemmas.Bool.{or_left, or_right, or_from}
 use Rattle.std.proofs.lemmas.Option.{slice_get_read}
+use Rattle.std.proofs.lemmas.Result.{err_from_is_err_and}
 use Rattle.blif_read.specs.declared.design.BlifModel.{BlifModel}
 use Rattle.blif_read.specs.declared.design.Pair.{Pair}
+use Rattle.blif_read.specs.Design.{model_named}
 use Rattle.elaborate.specs.declared.error.FlatError.TheVariants as flat_error
 use Rattle.elaborate.specs.declared.tables.Formals.{Formals}
 use Rattle.elaborate.specs.Walking.{main_name, when}
 use Rattle.elaborate.specs.Scopes.{is_long_behind, exceeds, IsInside}
 use Rattle.elaborate.proofs.Tabled.{model_within}
-use Rattle.elaborate.proofs.Scoped.{inside_made, entered_is}
+use Rattle.elaborate.proofs.Scoped.{inside_made, entered_is, entry_refused, ports_refused}
 use Rattle.elaborate.proofs.checks.entered.Goals as goal
 use Rattle.elaborate.proofs.checks.entered.Goals.{then-actuals_are_long-via-then-actuals_are_long, then-actuals_are_long-via-else-actuals_are_long+then-exceed}
+
+pub check_ports-requires : goal.check_ports-requires
+check_ports-requires c =
+    let within : c.in_ok-model.model < length c.args.models.now = model_within c.args.models.now c.in_ok-model.model c.args.name.now c.in_ok-model.ensures.named in
+    let m : BlifModel = c.index-models-model.result in
+    let f : Formals = c.index-as_slice-model.result in
+    let here : slice_get c.args.models.now c.in_ok-model.model ≡ Some m = slice_get_read c.args.models.now (length c.args.models.now) c.in_ok-model.model m refl within c.index-models-model.is in
+    let formals : slice_get c.args.tables.now.formals.items c.in_ok-model.model ≡ Some f = slice_get_read c.args.tables.now.formals.items (length c.args.models.now) c.in_ok-model.model f (sym c.requires.tables.as_many) within
+    (subst (λ (fs : List Formals). f ≡ get_or fs c.in_ok-model.model f) c.as_slice.ensures.value c.index-as_slice-model.is) in
+    c.requires.tables.each c.in_ok-model.model m f here formals
+
+pub returns-in_err-model-clause-err : goal.returns-in_err-model-clause-err
+returns-in_err-model-clause-err c =
+    let p = err_from_is_err_and c.from_residual.result c.from_residual.ensures.1 in
+    rw (p.1, p.2) (λ ne. entry_refused (main_name c.args.models.now) _ _ (model_named c.args.models.now c.args.name.now) c.args.name.now c.args.pairs.now c.in_err-model.field-0.0 (c.in_err-model.ensures.err ne))
+
+pub returns-in_err-check_ports-clause-err : goal.returns-in_err-check_ports-clause-err
+returns-in_err-check_ports-clause-err c =
+    let p = err_from_is_err_and c.from_residual-in_err-check_ports.result c.from_residual-in_err-check_ports.ensures.1 in
+    let within : c.in_ok-model.model < length c.args.models.now = model_within c.args.models.now c.in_ok-model.model c.args.name.now c.in_ok-model.ensures.named in
+    let m : BlifModel = c.index-models-model.result in
+    let here : slice_get c.args.models.now c.in_ok-model.model ≡ Some m = slice_get_read c.args.models.now (length c.args.models.now) c.in_ok-model.model m refl within c.index-models-model.is in
+    rw (p.1, p.2) (λ ne. ports_refused (main_name c.args.models.now) _ _ (model_named c.args.models.now c.args.name.now) m c.args.name.now c.args.pairs.now c.in_err-check_ports.field-0.0 c.in_ok-model.ensures.ok.1
+    (c.in_ok-model.ensures.ok.0 ∙ here) (c.in_err-check_ports.ensures.err ne))
 
 pub returns-then-actuals_are_long-clause-err : goal.returns-then-actuals_are_long-clause-err
 returns-then-actuals_are_long-clause-err c = λ ne.

@@ -1,6 +1,6 @@
 use Rattle.std.proofs.Common.{rules, ◌≡◌, false, List, sym, subst, arith}
 use Rattle.std.specs.List.{All}
-use Rattle.std.proofs.lemmas.Grind.{common_steps, elements}
+use Rattle.std.proofs.lemmas.Grind.{common_steps}
 use Rattle.std.proofs.lemmas.List.Elements.{All-push}
 use Rattle.aiger_records.specs.declared.record.Record.{Record}
 use Rattle.aiger_records.specs.Faults.{has_bad_literal, DefinesOnce}
@@ -14,7 +14,7 @@ invariant_of-self-in-Some c =
     let Q : List Record → Type 0 = λ rs. All P rs in
     record {
       small = c.args.self.now.small;
-      marked = first_of (search rules, grind (arith, common_steps), grind (arith, elements));
+      marked = first_of (grind (arith, common_steps), search rules);
       good = subst Q (sym c.in_ok-push.ensures.ok) (All-push P c.args.self.now.records c.args.found c.args.self.now.good c.requires.literals);
       once = subst DefinesOnce (sym c.in_ok-push.ensures.ok) (once_more c.args.self.now.records c.args.found c.args.self.now.once c.requires.new);
     }
@@ -26,7 +26,7 @@ invariant_of-self-in_default c =
     let Q : List Record → Type 0 = λ rs. All P rs in
     record {
       small = c.args.self.now.small;
-      marked = first_of (search rules, grind (arith, common_steps), grind (arith, elements));
+      marked = grind (arith, common_steps);
       good = subst Q (sym c.in_ok-push.ensures.ok) (All-push P c.args.self.now.records c.args.found c.args.self.now.good c.requires.literals);
       once = subst DefinesOnce (sym c.in_ok-push.ensures.ok) (once_more c.args.self.now.records c.args.found c.args.self.now.once c.requires.new);
     }

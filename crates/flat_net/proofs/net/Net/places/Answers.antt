@@ -1,5 +1,5 @@
 -- One latch more: it is exposed, or it stays.
-use Rattle.std.proofs.Common.{◌≡◌, ◌∙◌, ◌+◌, ◌<◌, true, false, List, length, take, slice_get, Some, refl, sym, ap, subst, arith}
+use Rattle.std.proofs.Common.{◌≡◌, ◌∙◌, ◌+◌, ◌<◌, ◌++◌, ◌∷◌, [], true, false, List, length, take, slice_get, Some, refl, sym, ap, subst, arith}
 use Rattle.std.proofs.lemmas.Option.{slice_get_read, slice_get_within}
 use Rattle.std.specs.List.{filter}
 use Rattle.base_tables.specs.Table.{is_among}
@@ -7,10 +7,10 @@ use Rattle.flat_net.specs.Cut.{stays, IsPlaceOf}
 use Rattle.flat_net.specs.declared.parts.LatchAt.{LatchAt}
 use Rattle.flat_net.proofs.PlaceLists.{PlacesSoFar, places_input, places_latch}
 use Rattle.flat_net.proofs.net.Net.places.Goals as goal
-use Rattle.flat_net.proofs.net.Net.places.Goals.{in-Some+in_ok-push-in-Some, in-None+in_ok-push-in-None}
+use Rattle.flat_net.proofs.net.Net.places.Goals.{in-Some, in-None}
 
-pub overflow_add-first : goal.overflow_add-first
-overflow_add-first c =
+pub overflow_add-place : goal.overflow_add-place
+overflow_add-place c =
     let below : c.in-Some.k < length c.args.names.now = slice_get_within _ _ _ c.in-Some.ensures.here in
     let inputs = ap length c.inputs.ensures in
     omega (arith, below, inputs, c.requires)
@@ -28,17 +28,17 @@ loop-latch-preserved c =
     let l = c.latch-item.result in
     let here : slice_get latches i ≡ Some l = slice_get_read latches (length latches) i l refl c.loop-latch-test.true c.latch-item.is in
     elim c.match-find.branch [
-      | in-Some+in_ok-push-in-Some w ↦
+      | in-Some w ↦
           let at : slice_get names w.in-Some.k ≡ Some l.name = w.in-Some.ensures.here ∙ ap Some c.as_slice.ensures in
           let among : is_among names l.name ≡ true = ap (is_among names) (sym c.as_slice.ensures) ∙ sym w.in-Some.ensures.found in
-          subst (λ left. PlacesSoFar names (length c.inputs.result.now) latches (i + 1) left c.match-find.places.items) (sym w.left-is)
+          subst (λ left. PlacesSoFar names (length c.inputs.result.now) latches (i + 1) left c.push.new.self.items) (sym w.left-is)
           (places_input names (length c.inputs.result.now) latches i c.loop-latch.left c.loop-latch.places.items l w.in-Some.k _ c.loop-latch.invariant here at among
-          (ap (λ p. p.items) w.places-is ∙ w.in_ok-push-in-Some.ensures.items))
-      | in-None+in_ok-push-in-None w ↦
+          (c.in_ok-push.ensures.items ∙ ap (λ d. c.loop-latch.places.items ++ d ∷ []) w.place-is))
+      | in-None w ↦
           let among : is_among names l.name ≡ false = ap (is_among names) (sym c.as_slice.ensures) ∙ sym w.in-None.ensures.found in
-          subst (λ left. PlacesSoFar names (length c.inputs.result.now) latches (i + 1) left c.match-find.places.items) (sym w.left-is)
+          subst (λ left. PlacesSoFar names (length c.inputs.result.now) latches (i + 1) left c.push.new.self.items) (sym w.left-is)
           (places_latch names (length c.inputs.result.now) latches i c.loop-latch.left c.loop-latch.places.items l _ c.loop-latch.invariant here among
-          (ap (λ p. p.items) w.places-is ∙ w.in_ok-push-in-None.ensures.items))
+          (c.in_ok-push.ensures.items ∙ ap (λ d. c.loop-latch.places.items ++ d ∷ []) w.place-is))
     ]
 
 pub returns : goal.returns
