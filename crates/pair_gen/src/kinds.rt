@@ -49,31 +49,19 @@ pub(crate) fn rows_of(
     ensures { IfOk result (λ cover. cover ≡ rows_of circuit regrouped kind) }
 {
     match circuit {
-        Side::A => rows_in_a(alloc, kind),
-        Side::B => rows_in_b(alloc, regrouped, kind),
-    }
-}
-
-fn rows_in_a(alloc: Global, kind: Kind) -> Result<Cover, NoMemory>
-    ensures { IfOk result (λ cover. cover ≡ rows_of Side.A false kind) }
-{
-    match kind {
-        Kind::And => one_row(alloc, b"11", true),
-        Kind::Or => two_rows(alloc, b"1-", b"-1", true),
-        Kind::Xor => two_rows(alloc, b"10", b"01", true),
-        Kind::AndNot => one_row(alloc, b"10", true),
-    }
-}
-
-fn rows_in_b(alloc: Global, regrouped: bool, kind: Kind) -> Result<Cover, NoMemory>
-    ensures { IfOk result (λ cover. cover ≡ rows_of Side.B regrouped kind) }
-{
-    match kind {
-        Kind::And => two_rows(alloc, b"0-", b"-0", false),
-        Kind::Or => one_row(alloc, b"00", false),
-        Kind::Xor if regrouped => two_rows(alloc, b"11", b"00", false),
-        Kind::Xor => two_rows(alloc, b"10", b"01", true),
-        Kind::AndNot => two_rows(alloc, b"0-", b"-1", false),
+        Side::A => match kind {
+            Kind::And => one_row(alloc, b"11", true),
+            Kind::Or => two_rows(alloc, b"1-", b"-1", true),
+            Kind::Xor => two_rows(alloc, b"10", b"01", true),
+            Kind::AndNot => one_row(alloc, b"10", true),
+        },
+        Side::B => match kind {
+            Kind::And => two_rows(alloc, b"0-", b"-0", false),
+            Kind::Or => one_row(alloc, b"00", false),
+            Kind::Xor if regrouped => two_rows(alloc, b"11", b"00", false),
+            Kind::Xor => two_rows(alloc, b"10", b"01", true),
+            Kind::AndNot => two_rows(alloc, b"0-", b"-1", false),
+        },
     }
 }
 
