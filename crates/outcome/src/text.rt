@@ -202,22 +202,6 @@ fn put_low(text: &mut Vec<u8>, front: &[u8], low: &Option<(Side, Word)>) -> Resu
     }
 }
 
-/// Puts two classes, and a latch of each.
-fn put_classes(alloc: Global, text: &mut Vec<u8>, separation: &Separation) -> Result<(), NoMemory>
-    ensures { let s = separation.now in
-        OnOk result (text.new.items ≡ text.old.items ++ (codes "apart " ++ decimal s.low ++ 32 ∷ [] ++ decimal s.high ++ 32 ∷ [] ++ low_text s.low_latch ++ 32 ∷ [] ++ latch_text s.high_latch.0 s.high_latch.1)) }
-{
-    put_count(alloc, text, b"apart ", u64::from(separation.low))?;
-    put_count(alloc, text, b" ", u64::from(separation.high))?;
-    put_low(text, b" ", &separation.low_latch)?;
-    put_latch(
-        text,
-        b" ",
-        separation.high_latch.0,
-        &separation.high_latch.1,
-    )
-}
-
 /// Puts two classes, a latch of each, the values of their enables and the frame that gives them.
 #[tactic(auto, unfolding(crate::specs::Report::separation_text))]
 fn put_separation(
@@ -227,7 +211,15 @@ fn put_separation(
 ) -> Result<(), NoMemory>
     ensures { OnOk result (text.new.items ≡ text.old.items ++ separation_text separation.now) }
 {
-    put_classes(alloc, text, separation)?;
+    put_count(alloc, text, b"apart ", u64::from(separation.low))?;
+    put_count(alloc, text, b" ", u64::from(separation.high))?;
+    put_low(text, b" ", &separation.low_latch)?;
+    put_latch(
+        text,
+        b" ",
+        separation.high_latch.0,
+        &separation.high_latch.1,
+    )?;
     put_bits(text, separation.left, separation.right)?;
     put_frame(alloc, text, &separation.frame)
 }
@@ -297,12 +289,10 @@ fn put_verdict(
         Verdict::DifferentFrom(shown) => {
             put_reset_witness(alloc, text, b"verdict different ", shown)
         }
-        Verdict::NotShown(Why::Cut(witness)) => {
-            put_witness(alloc, text, b"verdict not-shown cut ", witness)
-        }
-        Verdict::NotShown(Why::Events(unshown)) => {
-            put_unshown(alloc, text, b"verdict not-shown events ", unshown)
-        }
+        Verdict::NotShown(why) => match why {
+            Why::Cut(witness) => put_witness(alloc, text, b"verdict not-shown cut ", witness),
+            Why::Events(unshown) => put_unshown(alloc, text, b"verdict not-shown events ", unshown),
+        },
         Verdict::Limit(at) => put_limit(alloc, text, at, conflicts),
     }
 }
@@ -402,29 +392,6 @@ fn put_exposed(alloc: Global, text: &mut Vec<u8>, exposed: &Words) -> Result<(),
     put(text, b"\n")
 }
 
-/// Whether it was found out which latches are to be cut open.
-fn knows_exposed(verdict: &Verdict) -> bool
-    ensures { result ≡ knows_exposed verdict.now }
-{
-    match verdict {
-        Verdict::Limit(LimitAt::Assume(_)) => false,
-        Verdict::Limit(LimitAt::Recover(_, _, _)) => false,
-        _ => true,
-    }
-}
-
-/// Whether pairs were asked about.
-fn knows_pairs(verdict: &Verdict) -> bool
-    ensures { result ≡ knows_pairs verdict.now }
-{
-    match verdict {
-        Verdict::Limit(LimitAt::Assume(_)) => false,
-        Verdict::Limit(LimitAt::Recover(_, _, _)) => false,
-        Verdict::Limit(LimitAt::Class(_, _, _, _)) => false,
-        _ => true,
-    }
-}
-
 /// Puts the lines of what was found out before the verdict.
 fn put_found(
     alloc: Global,
@@ -434,13 +401,15 @@ fn put_found(
 ) -> Result<(), NoMemory>
     ensures { OnOk result (text.new.items ≡ text.old.items ++ ((if knows_exposed outcome.now.verdict then exposed_line outcome.now.exposed else []) ++ (if knows_pairs outcome.now.verdict then pairs_text mode outcome.now else []))) }
 {
-    if knows_exposed(&outcome.verdict) {
-        put_exposed(alloc, text, &outcome.exposed)?;
+    match &outcome.verdict {
+        Verdict::Limit(LimitAt::Assume(_)) => Ok(()),
+        Verdict::Limit(LimitAt::Recover(_, _, _)) => Ok(()),
+        Verdict::Limit(LimitAt::Class(_, _, _, _)) => put_exposed(alloc, text, &outcome.exposed),
+        _ => {
+            put_exposed(alloc, text, &outcome.exposed)?;
+            put_pairs(alloc, text, mode, outcome)
+        }
     }
-    if knows_pairs(&outcome.verdict) {
-        put_pairs(alloc, text, mode, outcome)?;
-    }
-    Ok(())
 }
 
 /// The report of a comparison: the counts, whether runs begin with the latches' initial values, the assumption where there is one, the
