@@ -82,24 +82,17 @@ pub(crate) fn column_of(circuit: Side, stage: u32, layer: u32, column: u32) -> C
     ensures { result ≡ column_of circuit stage layer column }
 {
     if layer == 0 {
-        return behind(circuit, stage, column);
+        if stage == 0 {
+            return Cell::Input(column);
+        }
+        return match circuit {
+            Side::A => Cell::Latch(stage - 1, column),
+            Side::B => Cell::Gate(stage - 1, 41, column),
+        };
     }
     match circuit {
         Side::B if layer == 41 => Cell::Latch(stage, column),
         _ => Cell::Gate(stage, layer - 1, column),
-    }
-}
-
-/// What a gate of the first layer of this stage reads as this column.
-fn behind(circuit: Side, stage: u32, column: u32) -> Cell
-    ensures { result ≡ column_of circuit stage 0 column }
-{
-    if stage == 0 {
-        return Cell::Input(column);
-    }
-    match circuit {
-        Side::A => Cell::Latch(stage - 1, column),
-        Side::B => Cell::Gate(stage - 1, 41, column),
     }
 }
 

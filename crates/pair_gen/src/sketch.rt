@@ -147,20 +147,11 @@ pub(crate) fn set_nexts(plan: &Plan<'_>, maker: &mut NetMaker)
     ensures { IsTied plan.now.circuit maker.old maker.new 120 }
 {
     for place in 0..120u32 {
-        set_next(plan.circuit, maker, place);
+        maker.keeps();
+        let (stage, column) = (place / 40, place % 40);
+        let latch = signal_of(Cell::Latch(stage, column));
+        maker.set_next(latch, signal_of(data_of(plan.circuit, stage, column)));
     }
-}
-
-fn set_next(circuit: Side, maker: &mut NetMaker, place: u32)
-    requires place { place < 120 }
-    requires size { length maker.old.net.drivers ≡ 5200 }
-    requires latch { IsSomeAnd (slice_get maker.old.net.latches place) (λ latch. latch.out ≡ signal_of (latch_cell place)) }
-    ensures { maker.new ≡ record { net = with_next maker.old.net place (signal_of (data_of circuit (place / 40) (place % 40))); set = slice_set maker.old.set place true } }
-{
-    maker.keeps();
-    let (stage, column) = (place / 40, place % 40);
-    let latch = signal_of(Cell::Latch(stage, column));
-    maker.set_next(latch, signal_of(data_of(circuit, stage, column)));
 }
 
 /// The outputs.
