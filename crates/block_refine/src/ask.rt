@@ -1,11 +1,10 @@
 //! Whether two latches take over one value.
 
-ghost use Rattle.std.specs.Prelude.{◌≡◌, ◌+◌, ◌<◌, ◌≤◌, length, IfOk, IsTrue};
+ghost use Rattle.std.specs.Prelude.{◌+◌, ◌<◌, ◌≤◌, length, IfOk};
 ghost use Rattle.block_refine.specs.block_graph.Graph.{IsBlockGraph};
 ghost use Rattle.block_refine.specs.Asking.{IsAnswer};
 
 use crate::block_graph::{BlockGraph, BlockNets, Comparison};
-use aig::Lit;
 use pair_decide::{Decision, Proof};
 use sec_base::{MAX_CONFLICTS, NoMemory};
 use std::alloc::Global;
@@ -40,7 +39,9 @@ pub(crate) fn ask(
     graph.aig.keeps();
     let left = nets.next(i);
     let right = nets.next(j);
-    if is_one(graph.lit(nets, left), graph.lit(nets, right)) {
+    let x = graph.lit(nets, left);
+    let y = graph.lit(nets, right);
+    if x.0 == y.0 {
         return Ok(Answer::Agree);
     }
     let compared = graph.compare(alloc, nets, left, right, conflicts)?;
@@ -53,11 +54,4 @@ pub(crate) fn ask(
             Ok(Answer::Apart(made))
         }
     }
-}
-
-/// Whether both are one literal.
-fn is_one(left: Lit, right: Lit) -> bool
-    ensures { IsTrue result → left.0 ≡ right.0 }
-{
-    left.0 == right.0
 }

@@ -1,16 +1,17 @@
 //! One pass over all latches.
 
-ghost use Rattle.std.specs.Prelude.{◌≡◌, ◌+◌, ◌<◌, ◌≤◌, ◌^◌, true, length, IfOk, OnOk};
+ghost use Rattle.std.specs.Prelude.{◌≡◌, ◌+◌, ◌<◌, ◌≤◌, ◌^◌, true, false, length, IfOk, OnOk};
 ghost use Rattle.block_refine.specs.block_graph.Graph.{IsBlockGraph};
 ghost use Rattle.latch_blocks.specs.Blocks.{IsSplit, block_at};
-ghost use Rattle.block_refine.specs.Passes.{AreMembers, IsOnPass, IsPass, IsStep, IsRound, IsEndRound, IsLimitRound};
+ghost use Rattle.block_refine.specs.Passes.{AreMembers, IsOnPass, IsPass, IsStep, IsRound};
+ghost use Rattle.block_refine.specs.declared.pass.Round.TheVariants as round;
 
 use crate::ask::{Answer, ask};
 use crate::block_graph::{BlockGraph, BlockNets};
 use crate::firsts::first_members;
 use latch_blocks::split_blocks;
 use pair_decide::Proof;
-use sec_base::{Ids, MAX_CONFLICTS, NoMemory};
+use sec_base::{Ids, MAX_CONFLICTS, NoMemory, Seq};
 use std::alloc::Global;
 
 /// A partition while a pass is made over the latches, and whether the pass has split a block.
@@ -50,9 +51,9 @@ impl Pass {
         nets.left.keeps();
         nets.right.keeps();
         let firsts = first_members(alloc, nets.blocks)?;
-        let blocks = copied(alloc, nets.blocks)?;
+        let blocks = nets.blocks.to_vec(alloc)?;
         Ok(Pass {
-            blocks,
+            blocks: Seq::from_vec(blocks),
             firsts,
             split: false,
         })
@@ -112,17 +113,6 @@ pub(crate) fn first_in(firsts: &[usize], blocks: &[u32], latch: usize) -> usize
     firsts[blocks[latch] as usize]
 }
 
-/// These numbers.
-fn copied(alloc: Global, numbers: &[u32]) -> Result<Ids, NoMemory>
-    ensures { IfOk result (λ made. made ≡ numbers.now) }
-{
-    let mut made = Ids::new(alloc);
-    for number in numbers {
-        made.push(*number)?;
-    }
-    Ok(made)
-}
-
 /// Compares each latch with the first one of its block.
 pub(crate) fn pass_over(
     alloc: Global,
@@ -141,30 +131,20 @@ pub(crate) fn pass_over(
     for j in 0..nets.blocks.len() {
         match pass.step(alloc, nets, &graph, j, conflicts)? {
             Step::Goes => {}
-            Step::Limit(first, proof) => return Ok(at_limit(pass, first, j, proof)),
+            Step::Limit(first, proof) => return Ok(ended(pass, Round::Limit(first, j, proof))),
         }
     }
-    Ok(ended(pass))
+    Ok(ended(pass, Round::Same))
 }
 
-/// What comes of a pass that has looked at all latches.
-fn ended(pass: Pass) -> Round
-    ensures { IsEndRound pass result }
+/// What comes of a pass at its end, or at the limit of a query, where no block was split. Where blocks were split, the next pass asks again.
+fn ended(pass: Pass, same: Round) -> Round
+    ensures split { pass.split ≡ true → result ≡ round.Split pass.blocks }
+    ensures same { pass.split ≡ false → result ≡ same }
 {
     if pass.split {
         Round::Split(pass.blocks)
     } else {
-        Round::Same
-    }
-}
-
-/// What comes of a pass whose query of these two latches met the limit. Where blocks were split, the next pass asks again.
-fn at_limit(pass: Pass, first: usize, latch: usize, proof: Proof) -> Round
-    ensures { IsLimitRound pass first latch proof result }
-{
-    if pass.split {
-        Round::Split(pass.blocks)
-    } else {
-        Round::Limit(first, latch, proof)
+        same
     }
 }

@@ -1,15 +1,13 @@
 //! The refinement.
 
-ghost use Rattle.std.specs.Prelude.{◌≡◌, ◌^◌, ◌<◌, ◌≤◌, ◌++◌, length, All, IfOk};
-ghost use Rattle.latch_blocks.specs.Partitions.{IsOnTheWay};
+ghost use Rattle.std.specs.Prelude.{◌≡◌, ◌^◌, ◌<◌, ◌≤◌, length, All, IfOk};
 ghost use Rattle.latch_blocks.specs.Signals.{net_weight};
-ghost use Rattle.block_refine.specs.Refining.{IsRefined, IsTurn};
+ghost use Rattle.block_refine.specs.Refining.{IsRefined};
 
 use crate::block_graph::BlockNets;
 use crate::pass::{Round, pass_over};
-use crate::starts::starts;
+use crate::starts::by_starts;
 use flat_net::Net;
-use latch_blocks::initial_blocks;
 use pair_decide::Proof;
 use sec_base::{Ids, MAX_CONFLICTS, MAX_WEIGHT, NoMemory, Orders};
 use std::alloc::Global;
@@ -49,10 +47,15 @@ pub fn refine(
 {
     left.keeps();
     right.keeps();
-    let starts = starts(alloc, left, right)?;
-    let mut blocks = initial_blocks(alloc, &starts)?;
+    let mut blocks = by_starts(alloc, left, right)?;
     'rounds: loop {
-        match turn(alloc, left, right, orders, &blocks, conflicts)? {
+        let nets = BlockNets {
+            left,
+            right,
+            orders,
+            blocks: blocks.as_slice(),
+        };
+        match pass_over(alloc, &nets, conflicts)? {
             Round::Same => return Ok(Refined::Inductive(blocks)),
             Round::Split(fine) => blocks = fine,
             Round::Limit(left, right, proof) => {
@@ -65,32 +68,4 @@ pub fn refine(
             }
         }
     }
-}
-
-/// A pass over a partition on the way.
-fn turn(
-    alloc: Global,
-    left: &Net,
-    right: &Net,
-    orders: &Orders,
-    blocks: &Ids,
-    conflicts: u32,
-) -> Result<Round, NoMemory>
-    requires light { (net_weight left.now ≤ MAX_WEIGHT) × (net_weight right.now ≤ MAX_WEIGHT) }
-    requires long { (length orders.now.left ≡ length left.now.inputs) × (length orders.now.right ≡ length right.now.inputs) }
-    requires small { All (λ i. i < 2 ^ 31) orders.now.left × All (λ i. i < 2 ^ 31) orders.now.right }
-    requires way { IsOnTheWay left.now right.now (orders.now.left ++ orders.now.right) blocks.now }
-    requires conflicts { conflicts ≤ MAX_CONFLICTS }
-    ensures { IfOk result (IsTurn left.now right.now orders.now blocks.now conflicts) }
-{
-    left.keeps();
-    right.keeps();
-    let blocks = blocks.as_slice();
-    let nets = BlockNets {
-        left,
-        right,
-        orders,
-        blocks,
-    };
-    pass_over(alloc, &nets, conflicts)
 }

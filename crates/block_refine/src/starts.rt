@@ -1,21 +1,24 @@
 //! The initial values of all latches.
 
-ghost use Rattle.std.specs.Prelude.{◌≡◌, ◌++◌, map, IfOk, OnOk};
+ghost use Rattle.std.specs.Prelude.{◌≡◌, ◌+◌, ◌^◌, ◌<◌, ◌++◌, length, map, IfOk, OnOk};
 ghost use Rattle.flat_net.specs.declared.parts.LatchAt.{LatchAt};
+ghost use Rattle.latch_blocks.specs.Blocks.{IsByStarts};
 ghost use Rattle.latch_blocks.specs.Partitions.{starts_of};
 
 use flat_net::{LatchAt, Net};
-use sec_base::{Init, NoMemory};
+use latch_blocks::initial_blocks;
+use sec_base::{Ids, Init, NoMemory};
 use std::alloc::Global;
 
-/// The initial values of all latches, A's first.
-pub(crate) fn starts(alloc: Global, left: &Net, right: &Net) -> Result<Vec<Init>, NoMemory>
-    ensures { IfOk result (λ made. made.items ≡ starts_of left.now right.now) }
+/// The partition of all latches by their initial values, A's first.
+pub(crate) fn by_starts(alloc: Global, left: &Net, right: &Net) -> Result<Ids, NoMemory>
+    requires { length (starts_of left.now right.now) + 1 < 2 ^ 32 }
+    ensures { IfOk result (IsByStarts (starts_of left.now right.now)) }
 {
     let mut made = Vec::new(alloc);
     put_starts(&mut made, left.latches())?;
     put_starts(&mut made, right.latches())?;
-    Ok(made)
+    initial_blocks(alloc, &made)
 }
 
 fn put_starts(made: &mut Vec<Init>, latches: &[LatchAt]) -> Result<(), NoMemory>

@@ -1,7 +1,6 @@
 //! The literals of all signals.
 
-ghost use Rattle.std.specs.Prelude.{◌≡◌, ℕ, ◌+◌, ◌*◌, ◌^◌, ◌<◌, ◌≤◌, List, length, slice_get, Some, All, IfOk, OnOk};
-ghost use Rattle.flat_net.specs.declared.parts.Driver.TheVariants as driver;
+ghost use Rattle.std.specs.Prelude.{◌≡◌, ℕ, ◌+◌, ◌^◌, ◌<◌, ◌≤◌, List, length, Some, IfOk, OnOk};
 ghost use Rattle.flat_net.specs.View.{NetView};
 ghost use Rattle.aig.specs.Graph.{Grows};
 ghost use Rattle.unfold_places.specs.Places.{weight_at};
@@ -58,16 +57,12 @@ fn literal(
 {
     net.keeps();
     match net.driver(s) {
-        Driver::Input(i) => {
-            let lit = variable_literal(aig, variable_in(&variables.inputs, i))?;
-            Ok(lit)
-        }
-        Driver::Latch(j) => {
-            let lit = variable_literal(aig, variable_in(&variables.latches, j))?;
-            Ok(lit)
-        }
+        Driver::Input(i) => variable_literal(aig, variable_in(&variables.inputs, i)),
+        Driver::Latch(j) => variable_literal(aig, variable_in(&variables.latches, j)),
         Driver::Gate(j) => {
-            let lit = driven_literal(alloc, aig, net, lits, s, j)?;
+            aig.keeps();
+            let lit = gate_literal(alloc, aig, net, lits, j)?;
+            aig.keeps();
             Ok(lit)
         }
     }
@@ -84,31 +79,6 @@ fn variable_literal(aig: &mut Aig, variable: u32) -> Result<Lit, NoMemory>
 {
     aig.keeps();
     let lit = aig.input(variable)?;
-    aig.keeps();
-    Ok(lit)
-}
-
-/// The literal of the signal that the gate with this number drives, where those before have theirs.
-fn driven_literal(
-    alloc: Global,
-    aig: &mut Aig,
-    net: &Net,
-    lits: &[Lit],
-    s: Signal,
-    j: u32,
-) -> Result<Lit, NoMemory>
-    requires driver { slice_get net.now.drivers s.0 ≡ Some (driver.Gate j) }
-    requires before { length lits.now ≡ s.0 }
-    requires within { All (λ x. x.0 < 2 * length aig.old) lits.now }
-    requires room { length aig.old + weight_at net.now s.0 < 2 ^ 30 }
-    ensures here { IfOk result (λ x. (w : Variables) → AreSignalLits net.now w aig.old lits.now → IsSignalLit net.now w aig.new s.0 x) }
-    ensures stay { OnOk result ((w : Variables) → AreSignalLits net.now w aig.old lits.now → AreSignalLits net.now w aig.new lits.now) }
-    ensures grows { Grows aig.old aig.new }
-    ensures few { length aig.new ≤ length aig.old + weight_at net.now s.0 }
-{
-    net.keeps();
-    aig.keeps();
-    let lit = gate_literal(alloc, aig, net, lits, j)?;
     aig.keeps();
     Ok(lit)
 }

@@ -18,8 +18,8 @@ pub fn initial_blocks(alloc: Global, starts: &[Init]) -> Result<Ids, NoMemory>
     let mut table = PlaceTable::new(alloc);
     let mut blocks = Ids::new(alloc);
     for j in 0..starts.len() {
-        let start = starts[j];
-        put(&mut table, &mut blocks, kind(start), rest(start, j as u32))?;
+        let (kind, rest) = key(starts[j], j as u32);
+        put(&mut table, &mut blocks, kind, rest)?;
     }
     table.keeps();
     Ok(blocks)
@@ -47,23 +47,14 @@ fn digit(bit: bool) -> u32
     if bit { 1 } else { 0 }
 }
 
-/// Which initial value it is: 0, 1, or neither.
-fn kind(start: Init) -> u32
-    ensures { result ≡ start_kind start }
+/// Which initial value it is, 0, 1 or neither, and what tells latches that start with neither apart.
+fn key(start: Init, place: u32) -> (u32, u32)
+    ensures kind { result.0 ≡ start_kind start }
+    ensures rest { result.1 ≡ start_rest start place }
 {
     match start {
-        Init::Zero => 0,
-        Init::One => 1,
-        _ => 2,
-    }
-}
-
-/// What tells latches that start with neither apart.
-fn rest(start: Init, place: u32) -> u32
-    ensures { result ≡ start_rest start place }
-{
-    match start {
-        Init::Zero | Init::One => 0,
-        _ => place,
+        Init::Zero => (0, 0),
+        Init::One => (1, 0),
+        _ => (2, place),
     }
 }

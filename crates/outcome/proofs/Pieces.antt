@@ -20,6 +20,11 @@ three_pieces t a b c d e f x y z p q r = r ∙ ap (λ (l : List ℕ). l ++ (e ++
 pub four_pieces : (t a b c d e f g h x y z w : List ℕ) → x ≡ t ++ (a ++ b) → y ≡ x ++ (c ++ d) → z ≡ y ++ (e ++ f) → w ≡ z ++ (g ++ h) → w ≡ t ++ (a ++ b ++ c ++ d ++ e ++ f ++ g ++ h)
 four_pieces t a b c d e f g h x y z w p q r s = s ∙ ap (λ (l : List ℕ). l ++ (g ++ h)) (three_pieces t a b c d e f x y z p q r) ∙ simp append_assoc
 
+-- four pieces, each in two parts, and two more
+pub six_pieces : (t a b c d e f g h i j x y z w u v : List ℕ) → x ≡ t ++ (a ++ b) → y ≡ x ++ (c ++ d) → z ≡ y ++ (e ++ f) → w ≡ z ++ (g ++ h) → u ≡ w ++ i → v ≡ u ++ j → v ≡ t ++ (a ++ b ++ c ++ d ++ e ++ f ++ g ++ h ++ i ++ j)
+six_pieces t a b c d e f g h i j x y z w u v p q r s one two =
+    two ∙ ap (λ (l : List ℕ). l ++ j) (one ∙ ap (λ (l : List ℕ). l ++ i) (four_pieces t a b c d e f g h x y z w p q r s)) ∙ simp append_assoc
+
 -- the piece of one element more of a list
 pub one_more : {X : Type 0} (piece : X → List ℕ) (front : List ℕ) (xs : List X) (i : ℕ) (x : X) → i < length xs → x ≡ get_or xs i x → (front ++ flat_map piece (take i xs)) ++ piece x ≡ front ++ flat_map piece (take (i + 1) xs)
 one_more piece front xs i x within is =

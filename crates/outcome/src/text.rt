@@ -3,9 +3,9 @@
 ghost use Rattle.std.specs.Prelude.{◌≡◌, ℕ, List, [], ◌∷◌, ◌++◌, length, codes, if◌then◌else◌, OnOk, IfOk};
 ghost use Rattle.std.specs.Fmt.{decimal};
 ghost use Rattle.std.specs.List.{flat_map};
-ghost use Rattle.witness_report.specs.Text.{row_line, stimulus_text};
+ghost use Rattle.witness_report.specs.Text.{row_line};
 ghost use Rattle.witness_report.specs.frame_report.Text.{frame_text};
-ghost use Rattle.outcome.specs.Report.{answer_word, pair_text, pair_front, size_word, pair_line, bits_text, values_text, witness_text, reset_witness_text, latch_text, low_text, separation_text, unshown_text, why_text, limit_text, through_text, through_line, pairs_text, verdict_text, counts_text, reset_line, assume_line, exposed_line, classes_line, knows_exposed, knows_pairs, report_text};
+ghost use Rattle.outcome.specs.Report.{answer_word, pair_text, pair_front, size_word, pair_line, bits_text, witness_text, reset_witness_text, latch_text, low_text, separation_text, unshown_text, limit_text, through_line, pairs_text, verdict_text, counts_text, reset_line, assume_line, exposed_line, classes_line, knows_exposed, knows_pairs, report_text};
 
 use crate::verdict::{
     LimitAt, Outcome, PairResult, ResetWitness, Separation, Unshown, Verdict, Why,
@@ -13,16 +13,9 @@ use crate::verdict::{
 use std::alloc::Global;
 use witness_report::frame_report::put_frame;
 use witness_report::{
-    Mode, NoMemory, PairAnswer, PairName, Seq, Settings, Side, Stimulus, Text, Witness, Word,
-    Words, digit_of, put, put_digits, put_names, put_number, write_stimulus,
+    Mode, NoMemory, PairAnswer, PairName, Seq, Settings, Side, Text, Witness, Word, Words,
+    digit_of, put, put_digits, put_names, put_number, write_stimulus,
 };
-
-fn put_stimulus(alloc: Global, text: &mut Vec<u8>, stimulus: &Stimulus) -> Result<(), NoMemory>
-    ensures { OnOk result (text.new.items ≡ text.old.items ++ stimulus_text stimulus.now.names stimulus.now.rows) }
-{
-    let written = write_stimulus(alloc, stimulus)?;
-    put(text, written.as_slice())
-}
 
 fn answer_word(answer: PairAnswer) -> &'static str
     ensures { result.now ≡ answer_word answer }
@@ -41,14 +34,6 @@ fn put_behind(text: &mut Vec<u8>, front: &[u8], word: &[u8]) -> Result<(), NoMem
 {
     put(text, front)?;
     put(text, word)
-}
-
-/// Puts the word behind what stands before it, and ends the line.
-fn put_line(text: &mut Vec<u8>, front: &[u8], word: &[u8]) -> Result<(), NoMemory>
-    ensures { OnOk result (text.new.items ≡ text.old.items ++ (front.now ++ word.now ++ 10 ∷ [])) }
-{
-    put_behind(text, front, word)?;
-    put(text, b"\n")
 }
 
 /// Puts the number behind what stands before it.
@@ -120,7 +105,8 @@ fn put_pair(
         size_word(mode).as_bytes(),
         u64::from(pair.size),
     )?;
-    put_line(text, b" ", answer_word(pair.answer).as_bytes())
+    put_behind(text, b" ", answer_word(pair.answer).as_bytes())?;
+    put(text, b"\n")
 }
 
 fn put_each(
@@ -145,15 +131,8 @@ fn put_bits(text: &mut Vec<u8>, left: bool, right: bool) -> Result<(), NoMemory>
     put_behind(text, b" values ", &digits)
 }
 
-#[tactic(auto, unfolding(crate::specs::Report::values_text))]
-fn put_values(alloc: Global, text: &mut Vec<u8>, witness: &Witness) -> Result<(), NoMemory>
-    ensures { OnOk result (text.new.items ≡ text.old.items ++ values_text witness.now) }
-{
-    put_count(alloc, text, b" cycle ", u64::from(witness.cycle))?;
-    put_bits(text, witness.left, witness.right)
-}
-
 /// Puts the pair, the cycle and the values of a sequence behind what stands before them, and then its stimulus.
+#[tactic(auto, unfolding(crate::specs::Report::values_text))]
 fn put_witness(
     alloc: Global,
     text: &mut Vec<u8>,
@@ -163,8 +142,10 @@ fn put_witness(
     ensures { OnOk result (text.new.items ≡ text.old.items ++ (front.now ++ witness_text witness.now)) }
 {
     put_pair_name(text, front, &witness.pair)?;
-    put_values(alloc, text, witness)?;
-    put_stimulus(alloc, text, &witness.stimulus)
+    put_count(alloc, text, b" cycle ", u64::from(witness.cycle))?;
+    put_bits(text, witness.left, witness.right)?;
+    let stimulus = write_stimulus(alloc, &witness.stimulus)?;
+    put(text, stimulus.as_slice())
 }
 
 /// Puts the rest of a line: a digit for each latch, or `-` without latches.
@@ -221,22 +202,6 @@ fn put_low(text: &mut Vec<u8>, front: &[u8], low: &Option<(Side, Word)>) -> Resu
     }
 }
 
-/// Puts two classes, and a latch of each.
-fn put_classes(alloc: Global, text: &mut Vec<u8>, separation: &Separation) -> Result<(), NoMemory>
-    ensures { let s = separation.now in
-        OnOk result (text.new.items ≡ text.old.items ++ (codes "apart " ++ decimal s.low ++ 32 ∷ [] ++ decimal s.high ++ 32 ∷ [] ++ low_text s.low_latch ++ 32 ∷ [] ++ latch_text s.high_latch.0 s.high_latch.1)) }
-{
-    put_count(alloc, text, b"apart ", u64::from(separation.low))?;
-    put_count(alloc, text, b" ", u64::from(separation.high))?;
-    put_low(text, b" ", &separation.low_latch)?;
-    put_latch(
-        text,
-        b" ",
-        separation.high_latch.0,
-        &separation.high_latch.1,
-    )
-}
-
 /// Puts two classes, a latch of each, the values of their enables and the frame that gives them.
 #[tactic(auto, unfolding(crate::specs::Report::separation_text))]
 fn put_separation(
@@ -246,7 +211,15 @@ fn put_separation(
 ) -> Result<(), NoMemory>
     ensures { OnOk result (text.new.items ≡ text.old.items ++ separation_text separation.now) }
 {
-    put_classes(alloc, text, separation)?;
+    put_count(alloc, text, b"apart ", u64::from(separation.low))?;
+    put_count(alloc, text, b" ", u64::from(separation.high))?;
+    put_low(text, b" ", &separation.low_latch)?;
+    put_latch(
+        text,
+        b" ",
+        separation.high_latch.0,
+        &separation.high_latch.1,
+    )?;
     put_bits(text, separation.left, separation.right)?;
     put_frame(alloc, text, &separation.frame)
 }
@@ -274,16 +247,6 @@ fn put_unshown(
     put_bits(text, unshown.left, unshown.right)?;
     put_frame(alloc, text, &unshown.frame)?;
     put_separations(alloc, text, unshown.apart.as_slice())
-}
-
-/// Puts the verdict that the circuits may still agree, and what shows it.
-fn put_why(alloc: Global, text: &mut Vec<u8>, why: &Why) -> Result<(), NoMemory>
-    ensures { OnOk result (text.new.items ≡ text.old.items ++ (codes "verdict not-shown " ++ why_text why.now)) }
-{
-    match why {
-        Why::Cut(witness) => put_witness(alloc, text, b"verdict not-shown cut ", witness),
-        Why::Events(unshown) => put_unshown(alloc, text, b"verdict not-shown events ", unshown),
-    }
 }
 
 /// Puts the verdict that the limit was met, and the place.
@@ -326,25 +289,17 @@ fn put_verdict(
         Verdict::DifferentFrom(shown) => {
             put_reset_witness(alloc, text, b"verdict different ", shown)
         }
-        Verdict::NotShown(why) => put_why(alloc, text, why),
+        Verdict::NotShown(why) => match why {
+            Why::Cut(witness) => put_witness(alloc, text, b"verdict not-shown cut ", witness),
+            Why::Events(unshown) => put_unshown(alloc, text, b"verdict not-shown events ", unshown),
+        },
         Verdict::Limit(at) => put_limit(alloc, text, at, conflicts),
     }
 }
 
-/// Puts the cycle from which on all pairs are settled, where the circuits are equal and latches were cut open.
-fn put_through(alloc: Global, text: &mut Vec<u8>, outcome: &Outcome) -> Result<(), NoMemory>
-    ensures { OnOk result (text.new.items ≡ text.old.items ++ through_text outcome.now.through outcome.now.exposed outcome.now.verdict) }
-{
-    if outcome.exposed.len() == 0 {
-        return Ok(());
-    }
-    match outcome.verdict {
-        Verdict::Equal => { put_count_line(alloc, text, b"through ", u64::from(outcome.through)) }
-        _ => Ok(()),
-    }
-}
-
-fn put_through_line(
+/// Puts the cycle from which on all pairs are settled, where the circuits are equal and latches were cut open; in the event mode there is
+/// none.
+fn put_through(
     alloc: Global,
     text: &mut Vec<u8>,
     mode: Mode,
@@ -353,8 +308,18 @@ fn put_through_line(
     ensures { OnOk result (text.new.items ≡ text.old.items ++ through_line mode outcome.now) }
 {
     match mode {
-        Mode::Plain => put_through(alloc, text, outcome),
         Mode::Event => Ok(()),
+        Mode::Plain => {
+            if outcome.exposed.len() == 0 {
+                return Ok(());
+            }
+            match outcome.verdict {
+                Verdict::Equal => {
+                    put_count_line(alloc, text, b"through ", u64::from(outcome.through))
+                }
+                _ => Ok(()),
+            }
+        }
     }
 }
 
@@ -384,7 +349,7 @@ fn put_pairs(
 {
     put_class_count(alloc, text, mode, outcome.classes)?;
     put_each(alloc, text, mode, outcome.pairs.as_slice())?;
-    put_through_line(alloc, text, mode, outcome)
+    put_through(alloc, text, mode, outcome)
 }
 
 fn put_counts(alloc: Global, text: &mut Vec<u8>, outcome: &Outcome) -> Result<(), NoMemory>
@@ -411,7 +376,10 @@ fn put_assumed(text: &mut Vec<u8>, assumed: &Option<Word>) -> Result<(), NoMemor
 {
     match assumed {
         None => Ok(()),
-        Some(name) => put_line(text, b"assume ", name.as_slice()),
+        Some(name) => {
+            put_behind(text, b"assume ", name.as_slice())?;
+            put(text, b"\n")
+        }
     }
 }
 
@@ -424,29 +392,6 @@ fn put_exposed(alloc: Global, text: &mut Vec<u8>, exposed: &Words) -> Result<(),
     put(text, b"\n")
 }
 
-/// Whether it was found out which latches are to be cut open.
-fn knows_exposed(verdict: &Verdict) -> bool
-    ensures { result ≡ knows_exposed verdict.now }
-{
-    match verdict {
-        Verdict::Limit(LimitAt::Assume(_)) => false,
-        Verdict::Limit(LimitAt::Recover(_, _, _)) => false,
-        _ => true,
-    }
-}
-
-/// Whether pairs were asked about.
-fn knows_pairs(verdict: &Verdict) -> bool
-    ensures { result ≡ knows_pairs verdict.now }
-{
-    match verdict {
-        Verdict::Limit(LimitAt::Assume(_)) => false,
-        Verdict::Limit(LimitAt::Recover(_, _, _)) => false,
-        Verdict::Limit(LimitAt::Class(_, _, _, _)) => false,
-        _ => true,
-    }
-}
-
 /// Puts the lines of what was found out before the verdict.
 fn put_found(
     alloc: Global,
@@ -456,13 +401,15 @@ fn put_found(
 ) -> Result<(), NoMemory>
     ensures { OnOk result (text.new.items ≡ text.old.items ++ ((if knows_exposed outcome.now.verdict then exposed_line outcome.now.exposed else []) ++ (if knows_pairs outcome.now.verdict then pairs_text mode outcome.now else []))) }
 {
-    if knows_exposed(&outcome.verdict) {
-        put_exposed(alloc, text, &outcome.exposed)?;
+    match &outcome.verdict {
+        Verdict::Limit(LimitAt::Assume(_)) => Ok(()),
+        Verdict::Limit(LimitAt::Recover(_, _, _)) => Ok(()),
+        Verdict::Limit(LimitAt::Class(_, _, _, _)) => put_exposed(alloc, text, &outcome.exposed),
+        _ => {
+            put_exposed(alloc, text, &outcome.exposed)?;
+            put_pairs(alloc, text, mode, outcome)
+        }
     }
-    if knows_pairs(&outcome.verdict) {
-        put_pairs(alloc, text, mode, outcome)?;
-    }
-    Ok(())
 }
 
 /// The report of a comparison: the counts, whether runs begin with the latches' initial values, the assumption where there is one, the

@@ -45,6 +45,7 @@ impl PairResult {
 pub type PairResults = Seq<PairResult>;
 
 /// Where a comparison met the limit of conflicts.
+#[derive(Drop)]
 pub enum LimitAt {
     /// At the query whether some values of the inputs meet the assumption; its proof.
     Assume(Proof),
@@ -54,18 +55,6 @@ pub enum LimitAt {
     Class(Side, Word, Option<(Side, Word)>, Proof),
     /// At the query of this pair.
     Pair(PairName),
-}
-
-/// It is let go by one call: an owner isn't taken apart field by field at each way out.
-impl Drop for LimitAt {
-    fn drop(self) {
-        match self {
-            LimitAt::Assume(_) => {}
-            LimitAt::Recover(_, _, _) => {}
-            LimitAt::Class(_, _, _, _) => {}
-            LimitAt::Pair(_) => {}
-        }
-    }
 }
 
 impl LimitAt {
@@ -144,21 +133,12 @@ impl Drop for Unshown {
 }
 
 /// What is shown where the functions of a pair differ, and the circuits themselves may still agree.
+#[derive(Drop)]
 pub enum Why {
     /// A sequence over the inputs and the latches that were cut open makes the pair of the cut circuits differ.
     Cut(Witness),
     /// The pair reaches a class that doesn't always load, and a frame makes its functions differ.
     Events(Unshown),
-}
-
-/// It is let go by one call: an owner isn't taken apart field by field at each way out.
-impl Drop for Why {
-    fn drop(self) {
-        match self {
-            Why::Cut(_) => {}
-            Why::Events(_) => {}
-        }
-    }
 }
 
 /// An input sequence that makes a pair differ in runs from the initial values, with the values of the latches in cycle 0.

@@ -25,54 +25,55 @@ pub enum Cell {
 pub(crate) fn name(alloc: Global, circuit: Side, cell: Cell) -> Result<Vec<u8>, NoMemory>
     ensures { IfOk result (λ name. name.items ≡ name_of circuit cell) }
 {
-    match cell {
-        Cell::Input(column) => numbered(alloc, b"x", column),
-        Cell::Latch(stage, column) => match circuit {
-            Side::A => latch_name(alloc, b"q", stage, column),
-            Side::B => latch_name(alloc, b"r", stage, column),
-        },
-        Cell::Gate(stage, layer, column) => gate_name(alloc, stage, layer, column),
-    }
+    let mut name = Vec::new(alloc);
+    put_name(alloc, &mut name, circuit, cell)?;
+    Ok(name)
 }
 
 /// The name of the output of a column.
 pub(crate) fn output_name(alloc: Global, column: u32) -> Result<Vec<u8>, NoMemory>
     ensures { IfOk result (λ name. name.items ≡ output_name column) }
 {
-    numbered(alloc, b"y", column)
-}
-
-fn latch_name(alloc: Global, letter: &[u8], stage: u32, column: u32) -> Result<Vec<u8>, NoMemory>
-    ensures { IfOk result (λ name. name.items ≡ letter.now ++ decimal stage ++ codes "_" ++ decimal column) }
-{
-    let mut name = numbered(alloc, letter, stage)?;
-    add_number(alloc, &mut name, column)?;
+    let mut name = Vec::new(alloc);
+    put_part(alloc, &mut name, b"y", column)?;
     Ok(name)
 }
 
-fn gate_name(alloc: Global, stage: u32, layer: u32, column: u32) -> Result<Vec<u8>, NoMemory>
-    ensures { IfOk result (λ name. name.items ≡ codes "g" ++ decimal stage ++ codes "_" ++ decimal layer ++ codes "_" ++ decimal column) }
+fn put_name(alloc: Global, name: &mut Vec<u8>, circuit: Side, cell: Cell) -> Result<(), NoMemory>
+    ensures { OnOk result (name.new.items ≡ name.old.items ++ name_of circuit cell) }
 {
-    let mut name = numbered(alloc, b"g", stage)?;
-    add_number(alloc, &mut name, layer)?;
-    add_number(alloc, &mut name, column)?;
-    Ok(name)
+    match cell {
+        Cell::Input(column) => put_part(alloc, name, b"x", column),
+        Cell::Latch(stage, column) => match circuit {
+            Side::A => put_parts(alloc, name, b"q", stage, column),
+            Side::B => put_parts(alloc, name, b"r", stage, column),
+        },
+        Cell::Gate(stage, layer, column) => {
+            put_parts(alloc, name, b"g", stage, layer)?;
+            put_part(alloc, name, b"_", column)
+        }
+    }
 }
 
-/// These bytes and a number behind them.
-fn numbered(alloc: Global, front: &[u8], number: u32) -> Result<Vec<u8>, NoMemory>
-    ensures { IfOk result (λ name. name.items ≡ front.now ++ decimal number) }
+/// Puts these bytes and two numbers with a `_` between them.
+fn put_parts(
+    alloc: Global,
+    name: &mut Vec<u8>,
+    front: &[u8],
+    first: u32,
+    second: u32,
+) -> Result<(), NoMemory>
+    ensures { OnOk result (name.new.items ≡ name.old.items ++ (front.now ++ decimal first ++ codes "_" ++ decimal second)) }
 {
-    let mut name = front.to_vec(alloc)?;
-    put_number(alloc, &mut name, u64::from(number))?;
-    Ok(name)
+    put_part(alloc, name, front, first)?;
+    put_part(alloc, name, b"_", second)
 }
 
-/// A further number behind a `_`.
-fn add_number(alloc: Global, name: &mut Vec<u8>, number: u32) -> Result<(), NoMemory>
-    ensures { OnOk result (name.new.items ≡ name.old.items ++ codes "_" ++ decimal number) }
+/// Puts these bytes and a number behind them.
+fn put_part(alloc: Global, name: &mut Vec<u8>, front: &[u8], number: u32) -> Result<(), NoMemory>
+    ensures { OnOk result (name.new.items ≡ name.old.items ++ (front.now ++ decimal number)) }
 {
-    put(name, b"_")?;
+    put(name, front)?;
     put_number(alloc, name, u64::from(number))
 }
 
@@ -81,24 +82,17 @@ pub(crate) fn column_of(circuit: Side, stage: u32, layer: u32, column: u32) -> C
     ensures { result ≡ column_of circuit stage layer column }
 {
     if layer == 0 {
-        return behind(circuit, stage, column);
+        if stage == 0 {
+            return Cell::Input(column);
+        }
+        return match circuit {
+            Side::A => Cell::Latch(stage - 1, column),
+            Side::B => Cell::Gate(stage - 1, 41, column),
+        };
     }
     match circuit {
         Side::B if layer == 41 => Cell::Latch(stage, column),
         _ => Cell::Gate(stage, layer - 1, column),
-    }
-}
-
-/// What a gate of the first layer of this stage reads as this column.
-fn behind(circuit: Side, stage: u32, column: u32) -> Cell
-    ensures { result ≡ column_of circuit stage 0 column }
-{
-    if stage == 0 {
-        return Cell::Input(column);
-    }
-    match circuit {
-        Side::A => Cell::Latch(stage - 1, column),
-        Side::B => Cell::Gate(stage - 1, 41, column),
     }
 }
 

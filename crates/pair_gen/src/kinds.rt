@@ -1,12 +1,12 @@
 //! Kinds of gates, and their rows.
 
-ghost use Rattle.std.specs.Prelude.{◌≡◌, Bool, false, true, ◌∷◌, [], length, codes, IfOk};
+ghost use Rattle.std.specs.Prelude.{◌≡◌, Bool, false, true, ◌∷◌, [], length, codes, ◌++◌, IfOk, OnOk};
 ghost use Rattle.std.specs.List.{All};
 ghost use Rattle.circuit_theory.specs.Cover.{cover_value};
 ghost use Rattle.sec_base.specs.Cover.{IsPlace};
 ghost use Rattle.pair_gen.specs.Kinds.{kind_of, rows_of, RowsSpellFunctions};
 
-use sec_base::{Cover, NoMemory, Seq, Side};
+use sec_base::{Cover, Cubes, NoMemory, Seq, Side};
 use std::alloc::Global;
 
 /// What a gate of two fan-ins computes.
@@ -49,31 +49,19 @@ pub(crate) fn rows_of(
     ensures { IfOk result (λ cover. cover ≡ rows_of circuit regrouped kind) }
 {
     match circuit {
-        Side::A => rows_in_a(alloc, kind),
-        Side::B => rows_in_b(alloc, regrouped, kind),
-    }
-}
-
-fn rows_in_a(alloc: Global, kind: Kind) -> Result<Cover, NoMemory>
-    ensures { IfOk result (λ cover. cover ≡ rows_of Side.A false kind) }
-{
-    match kind {
-        Kind::And => one_row(alloc, b"11", true),
-        Kind::Or => two_rows(alloc, b"1-", b"-1", true),
-        Kind::Xor => two_rows(alloc, b"10", b"01", true),
-        Kind::AndNot => one_row(alloc, b"10", true),
-    }
-}
-
-fn rows_in_b(alloc: Global, regrouped: bool, kind: Kind) -> Result<Cover, NoMemory>
-    ensures { IfOk result (λ cover. cover ≡ rows_of Side.B regrouped kind) }
-{
-    match kind {
-        Kind::And => two_rows(alloc, b"0-", b"-0", false),
-        Kind::Or => one_row(alloc, b"00", false),
-        Kind::Xor if regrouped => two_rows(alloc, b"11", b"00", false),
-        Kind::Xor => two_rows(alloc, b"10", b"01", true),
-        Kind::AndNot => two_rows(alloc, b"0-", b"-1", false),
+        Side::A => match kind {
+            Kind::And => one_row(alloc, b"11", true),
+            Kind::Or => two_rows(alloc, b"1-", b"-1", true),
+            Kind::Xor => two_rows(alloc, b"10", b"01", true),
+            Kind::AndNot => one_row(alloc, b"10", true),
+        },
+        Side::B => match kind {
+            Kind::And => two_rows(alloc, b"0-", b"-0", false),
+            Kind::Or => one_row(alloc, b"00", false),
+            Kind::Xor if regrouped => two_rows(alloc, b"11", b"00", false),
+            Kind::Xor => two_rows(alloc, b"10", b"01", true),
+            Kind::AndNot => two_rows(alloc, b"0-", b"-1", false),
+        },
     }
 }
 
@@ -83,8 +71,8 @@ fn one_row(alloc: Global, row: &[u8], on: bool) -> Result<Cover, NoMemory>
     requires places { All IsPlace row.now }
     ensures { IfOk result (λ cover. cover ≡ record { width = 2; rows = row.now ∷ []; on = on }) }
 {
-    let mut rows = Seq::new(alloc);
-    rows.push(Seq::from_vec(row.to_vec(alloc)?))?;
+    let mut rows = Cubes::new(alloc);
+    put_row(alloc, &mut rows, row)?;
     Ok(Cover::from_rows(2, rows, on))
 }
 
@@ -96,8 +84,16 @@ fn two_rows(alloc: Global, first: &[u8], second: &[u8], on: bool) -> Result<Cove
     requires second_places { All IsPlace second.now }
     ensures { IfOk result (λ cover. cover ≡ record { width = 2; rows = first.now ∷ second.now ∷ []; on = on }) }
 {
-    let mut rows = Seq::new(alloc);
-    rows.push(Seq::from_vec(first.to_vec(alloc)?))?;
-    rows.push(Seq::from_vec(second.to_vec(alloc)?))?;
+    let mut rows = Cubes::new(alloc);
+    put_row(alloc, &mut rows, first)?;
+    put_row(alloc, &mut rows, second)?;
     Ok(Cover::from_rows(2, rows, on))
+}
+
+/// Puts a row behind the others.
+fn put_row(alloc: Global, rows: &mut Cubes, row: &[u8]) -> Result<(), NoMemory>
+    ensures { OnOk result (rows.new ≡ rows.old ++ row.now ∷ []) }
+{
+    let row = row.to_vec(alloc)?;
+    rows.push(Seq::from_vec(row))
 }

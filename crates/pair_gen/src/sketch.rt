@@ -44,23 +44,9 @@ fn add_inputs(alloc: Global, plan: &Plan<'_>, maker: &mut NetMaker) -> Result<()
     ensures { OnOk result (IsSketch plan.now.circuit plan.now.regroup plan.now.words.now [] maker.new 40 0 0) }
 {
     for column in 0..40u32 {
-        add_input(alloc, plan, maker, column)?;
+        let name = name(alloc, plan.circuit, Cell::Input(column))?;
+        maker.input(name.as_slice())?;
     }
-    Ok(())
-}
-
-fn add_input(
-    alloc: Global,
-    plan: &Plan<'_>,
-    maker: &mut NetMaker,
-    column: u32,
-) -> Result<(), NoMemory>
-    requires column { column < 40 }
-    requires sketch { IsSketch plan.now.circuit plan.now.regroup plan.now.words.now [] maker.old column 0 0 }
-    ensures { OnOk result (IsSketch plan.now.circuit plan.now.regroup plan.now.words.now [] maker.new (column + 1) 0 0) }
-{
-    let name = name(alloc, plan.circuit, Cell::Input(column))?;
-    maker.input(name.as_slice())?;
     Ok(())
 }
 
@@ -69,23 +55,9 @@ fn add_latches(alloc: Global, plan: &Plan<'_>, maker: &mut NetMaker) -> Result<(
     ensures { OnOk result (IsSketch plan.now.circuit plan.now.regroup plan.now.words.now [] maker.new 40 120 0) }
 {
     for place in 0..120u32 {
-        add_latch(alloc, plan, maker, place)?;
+        let name = name(alloc, plan.circuit, Cell::Latch(place / 40, place % 40))?;
+        maker.latch(name.as_slice(), Init::DontCare)?;
     }
-    Ok(())
-}
-
-fn add_latch(
-    alloc: Global,
-    plan: &Plan<'_>,
-    maker: &mut NetMaker,
-    place: u32,
-) -> Result<(), NoMemory>
-    requires place { place < 120 }
-    requires sketch { IsSketch plan.now.circuit plan.now.regroup plan.now.words.now [] maker.old 40 place 0 }
-    ensures { OnOk result (IsSketch plan.now.circuit plan.now.regroup plan.now.words.now [] maker.new 40 (place + 1) 0) }
-{
-    let name = name(alloc, plan.circuit, Cell::Latch(place / 40, place % 40))?;
-    maker.latch(name.as_slice(), Init::DontCare)?;
     Ok(())
 }
 
@@ -124,31 +96,16 @@ fn add_gates(alloc: Global, plan: &Plan<'_>, maker: &mut NetMaker) -> Result<(),
     ensures { OnOk result (IsSketch plan.now.circuit plan.now.regroup plan.now.words.now (covers_of plan.now.circuit plan.now.regroup) maker.new 40 120 5040) }
 {
     for place in 0..5040u32 {
-        add_gate(alloc, plan, maker, place)?;
+        let (stage, layer, column) = (place / 1680, place / 40 % 42, place % 40);
+        let word = plan.words[place as usize];
+        let first = column_of(plan.circuit, stage, layer, column);
+        let second = column_of(plan.circuit, stage, layer, second_of(word, column));
+        let fanins = fanins_of(alloc, first, second)?;
+        let name = name(alloc, plan.circuit, Cell::Gate(stage, layer, column))?;
+        let regrouped = is_regrouped(plan.regroup, stage, layer);
+        let cover = cover_number(regrouped, kind_of(word));
+        maker.gate(name.as_slice(), fanins, cover)?;
     }
-    Ok(())
-}
-
-fn add_gate(
-    alloc: Global,
-    plan: &Plan<'_>,
-    maker: &mut NetMaker,
-    place: u32,
-) -> Result<(), NoMemory>
-    requires words { length plan.now.words.now ≡ 5040 }
-    requires place { place < 5040 }
-    requires sketch { IsSketch plan.now.circuit plan.now.regroup plan.now.words.now (covers_of plan.now.circuit plan.now.regroup) maker.old 40 120 place }
-    ensures { OnOk result (IsSketch plan.now.circuit plan.now.regroup plan.now.words.now (covers_of plan.now.circuit plan.now.regroup) maker.new 40 120 (place + 1)) }
-{
-    let (stage, layer, column) = (place / 1680, place / 40 % 42, place % 40);
-    let word = plan.words[place as usize];
-    let first = column_of(plan.circuit, stage, layer, column);
-    let second = column_of(plan.circuit, stage, layer, second_of(word, column));
-    let fanins = fanins_of(alloc, first, second)?;
-    let name = name(alloc, plan.circuit, Cell::Gate(stage, layer, column))?;
-    let regrouped = is_regrouped(plan.regroup, stage, layer);
-    let cover = cover_number(regrouped, kind_of(word));
-    maker.gate(name.as_slice(), fanins, cover)?;
     Ok(())
 }
 
@@ -190,20 +147,11 @@ pub(crate) fn set_nexts(plan: &Plan<'_>, maker: &mut NetMaker)
     ensures { IsTied plan.now.circuit maker.old maker.new 120 }
 {
     for place in 0..120u32 {
-        set_next(plan.circuit, maker, place);
+        maker.keeps();
+        let (stage, column) = (place / 40, place % 40);
+        let latch = signal_of(Cell::Latch(stage, column));
+        maker.set_next(latch, signal_of(data_of(plan.circuit, stage, column)));
     }
-}
-
-fn set_next(circuit: Side, maker: &mut NetMaker, place: u32)
-    requires place { place < 120 }
-    requires size { length maker.old.net.drivers ≡ 5200 }
-    requires latch { IsSomeAnd (slice_get maker.old.net.latches place) (λ latch. latch.out ≡ signal_of (latch_cell place)) }
-    ensures { maker.new ≡ record { net = with_next maker.old.net place (signal_of (data_of circuit (place / 40) (place % 40))); set = slice_set maker.old.set place true } }
-{
-    maker.keeps();
-    let (stage, column) = (place / 40, place % 40);
-    let latch = signal_of(Cell::Latch(stage, column));
-    maker.set_next(latch, signal_of(data_of(circuit, stage, column)));
 }
 
 /// The outputs.
@@ -217,21 +165,8 @@ pub(crate) fn add_outputs(
     ensures { OnOk result (maker.new ≡ record maker.old { net = record maker.old.net { outputs = first_of (output_at plan.now.circuit) 40 } }) }
 {
     for column in 0..40u32 {
-        add_output(alloc, plan.circuit, maker, column)?;
+        let name = output_name(alloc, column)?;
+        maker.output(name.as_slice(), signal_of(shown_by(plan.circuit, column)))?;
     }
     Ok(())
-}
-
-fn add_output(
-    alloc: Global,
-    circuit: Side,
-    maker: &mut NetMaker,
-    column: u32,
-) -> Result<(), NoMemory>
-    requires column { column < 40 }
-    requires size { length maker.old.net.drivers ≡ 5200 }
-    ensures { OnOk result (maker.new ≡ record maker.old { net = with_output maker.old.net (output_name column) (signal_of (shown_by circuit column)) }) }
-{
-    let name = output_name(alloc, column)?;
-    maker.output(name.as_slice(), signal_of(shown_by(circuit, column)))
 }

@@ -29,34 +29,25 @@ pub fn generate(alloc: Global, seed: u64, regroup: bool) -> Result<Twins, NoMemo
     ensures comparable_b { IfOk result (λ twins. IsComparable twins.b) }
 {
     let words = words_of(alloc, seed)?;
-    let a = draw(
-        alloc,
-        &Plan {
-            circuit: Side::A,
-            regroup: false,
-            words: words.as_slice(),
-        },
-    )?;
-    let b = draw(
-        alloc,
-        &Plan {
-            circuit: Side::B,
-            regroup,
-            words: words.as_slice(),
-        },
-    )?;
+    let a = draw(alloc, Side::A, false, words.as_slice())?;
+    let b = draw(alloc, Side::B, regroup, words.as_slice())?;
     Ok(Twins { a, b })
 }
 
 /// A circuit of the pair that these words decide.
-fn draw(alloc: Global, plan: &Plan<'_>) -> Result<Net, NoMemory>
-    requires { length plan.now.words.now ≡ 5040 }
-    ensures twin { IfOk result (IsTwin plan.now.circuit plan.now.regroup plan.now.words.now) }
+fn draw(alloc: Global, circuit: Side, regroup: bool, words: &[u64]) -> Result<Net, NoMemory>
+    requires { length words.now ≡ 5040 }
+    ensures twin { IfOk result (IsTwin circuit regroup words.now) }
     ensures comparable { IfOk result IsComparable }
 {
+    let plan = Plan {
+        circuit,
+        regroup,
+        words,
+    };
     let mut maker = NetMaker::new(alloc);
-    add_cells(alloc, plan, &mut maker)?;
-    set_nexts(plan, &mut maker);
-    add_outputs(alloc, plan, &mut maker)?;
+    add_cells(alloc, &plan, &mut maker)?;
+    set_nexts(&plan, &mut maker);
+    add_outputs(alloc, &plan, &mut maker)?;
     Ok(maker.finish())
 }

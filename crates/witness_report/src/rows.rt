@@ -1,6 +1,6 @@
 //! Rows of bits as lines.
 
-ghost use Rattle.std.specs.Prelude.{◌≡◌, ◌+◌, ◌^◌, ◌<◌, ℕ, Bool, List, [], ◌∷◌, bytes_eq, length, map, All, IfOk, IfSome, IfNone, IsErrOf};
+ghost use Rattle.std.specs.Prelude.{◌≡◌, ◌+◌, ◌^◌, ◌<◌, ℕ, Bool, List, [], ◌∷◌, length, map, All, IfOk, IfSome, IfNone, IsErrOf};
 ghost use Rattle.witness_report.specs.Text.{digit_of, row_text};
 ghost use Rattle.witness_report.specs.Form.{AreRows, IsNoRow};
 ghost use Rattle.witness_report.specs.Parts.{IsBadLine};
@@ -23,28 +23,13 @@ fn bit_of(byte: u8) -> Option<bool>
     }
 }
 
-/// The bits of a line of digits, or none where another byte stands in it.
-fn digits(alloc: Global, line: &[u8]) -> Result<Option<Vec<bool>>, NoMemory>
-    ensures some { IfOk result (λ found. IfSome found (λ bits. map digit_of bits.items ≡ line.now)) }
-    ensures none { IfOk result (λ found. IfNone found ((bits : List Bool) → map digit_of bits ≡ line.now → ⊥)) }
-{
-    let mut bits = Vec::with_capacity(alloc, line.len())?;
-    for byte in line.iter() {
-        let Some(bit) = bit_of(*byte) else {
-            return Ok(None);
-        };
-        bits.push(bit)?;
-    }
-    Ok(Some(bits))
-}
-
 /// The row of so many bits that a line spells, or none where it spells none.
 fn read_row(alloc: Global, count: usize, line: &[u8]) -> Result<Option<Bits>, NoMemory>
     ensures some { IfOk result (λ found. IfSome found (λ row. (length row ≡ count) × (row_text row ≡ line.now))) }
     ensures none { IfOk result (λ found. IfNone found (IsNoRow count line.now)) }
 {
     if count == 0 {
-        return Ok(if is_dash(line) {
+        return Ok(if line == b"-".as_slice() {
             Some(Bits::new(alloc))
         } else {
             None
@@ -53,16 +38,14 @@ fn read_row(alloc: Global, count: usize, line: &[u8]) -> Result<Option<Bits>, No
     if line.len() != count {
         return Ok(None);
     }
-    match digits(alloc, line)? {
-        Some(bits) => Ok(Some(Seq::from_vec(bits))),
-        None => Ok(None),
+    let mut bits = Vec::with_capacity(alloc, count)?;
+    for byte in line.iter() {
+        let Some(bit) = bit_of(*byte) else {
+            return Ok(None);
+        };
+        bits.push(bit)?;
     }
-}
-
-fn is_dash(line: &[u8]) -> bool
-    ensures { result ≡ bytes_eq line.now (45 ∷ []) }
-{
-    line == b"-".as_slice()
+    Ok(Some(Seq::from_vec(bits)))
 }
 
 /// The rows that the lines spell, of which the first has the number 2, or the first that spells none.

@@ -32,8 +32,7 @@ fn put_rows(text: &mut Vec<u8>, rows: &[Bits]) -> Result<(), NoMemory>
 pub fn write_stimulus(alloc: Global, s: &Stimulus) -> Result<Text, NoMemory>
     ensures { IfOk result (λ text. text ≡ stimulus_text s.now.names s.now.rows) }
 {
-    let mut text = Vec::new(alloc);
-    put(&mut text, b"inputs")?;
+    let mut text = b"inputs".as_slice().to_vec(alloc)?;
     put_names(&mut text, &s.names)?;
     put(&mut text, b"\n")?;
     put_rows(&mut text, s.rows.as_slice())?;

@@ -59,12 +59,12 @@ impl BlockGraph {
         nets.right.keeps();
         let first = first_block(nets.orders);
         let count = nets.left.latches().len();
-        let left = variables_of(alloc, &nets.orders.left, &nets.blocks[..count], first)?;
-        let right = variables_of(alloc, &nets.orders.right, &nets.blocks[count..], first)?;
         let mut aig = Aig::new(alloc)?;
         aig.keeps();
+        let left = variables_of(alloc, &nets.orders.left, &nets.blocks[..count], first)?;
         let left = net_lits(alloc, &mut aig, nets.left, left)?;
         aig.keeps();
+        let right = variables_of(alloc, &nets.orders.right, &nets.blocks[count..], first)?;
         let right = net_lits(alloc, &mut aig, nets.right, right)?;
         aig.keeps();
         let limit = first + nets.blocks.len() as u32;

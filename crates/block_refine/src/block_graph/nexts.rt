@@ -50,21 +50,13 @@ impl BlockGraph {
         requires below { All (λ k. k < self.now.limit) vars.now }
         ensures { IfOk result (λ values. values.items ≡ meaning.node_bits self.now.aig (assigned_to vars.now bits.now)) }
     {
-        let size = most(self.aig.vars(), self.limit);
+        let size = self.aig.vars().max(self.limit);
         let assignment = bits_at(alloc, size as usize, vars, bits)?;
         let nodes = self.aig.nodes();
         let mut values = vec![in alloc; false; nodes.len()]?;
         node_bits(nodes, assignment.as_slice(), values.as_mut_slice());
         Ok(values)
     }
-}
-
-/// The greater of both.
-fn most(left: u32, right: u32) -> u32
-    ensures left { left ≤ result }
-    ensures right { right ≤ result }
-{
-    left.max(right)
 }
 
 /// Puts what each of these latches takes over, where the nodes have these values.

@@ -28,20 +28,9 @@ fn above(numbers: &[u32], least: u32) -> u32
 {
     let mut next = least;
     for i in numbers {
-        next = above_both(next, *i);
+        next = next.max(*i + 1);
     }
     next
-}
-
-/// A number above the second one that isn't below the first one.
-fn above_both(least: u32, i: u32) -> u32
-    requires least { least ≤ 2 ^ 31 }
-    requires small { i < 2 ^ 31 }
-    ensures least { least ≤ result }
-    ensures above { i < result }
-    ensures small { result ≤ 2 ^ 31 }
-{
-    least.max(i + 1)
 }
 
 /// The variables of a net whose inputs have these numbers and whose latches are in these blocks, the first of which has the variable

@@ -8,22 +8,6 @@ use crate::frame_report::frame::{Frame, Spot};
 use sec_base::{NoMemory, digit_of, put, put_number};
 use std::alloc::Global;
 
-fn put_step(alloc: Global, text: &mut Vec<u8>, class: u32) -> Result<(), NoMemory>
-    ensures { OnOk result (text.new.items ≡ text.old.items ++ step_text class) }
-{
-    put(text, b"/")?;
-    put_number(alloc, text, u64::from(class))
-}
-
-fn put_steps(alloc: Global, text: &mut Vec<u8>, path: &[u32]) -> Result<(), NoMemory>
-    ensures { OnOk result (text.new.items ≡ text.old.items ++ flat_map step_text path.now) }
-{
-    for class in path {
-        put_step(alloc, text, *class)?;
-    }
-    Ok(())
-}
-
 /// Puts the path of an event node: `/` for the root.
 fn put_path(alloc: Global, text: &mut Vec<u8>, path: &[u32]) -> Result<(), NoMemory>
     ensures { OnOk result (text.new.items ≡ text.old.items ++ path_text path.now) }
@@ -31,7 +15,11 @@ fn put_path(alloc: Global, text: &mut Vec<u8>, path: &[u32]) -> Result<(), NoMem
     if path.is_empty() {
         return put(text, b"/");
     }
-    put_steps(alloc, text, path)
+    for class in path {
+        put(text, b"/")?;
+        put_number(alloc, text, u64::from(*class))?;
+    }
+    Ok(())
 }
 
 fn put_spot(alloc: Global, text: &mut Vec<u8>, spot: &Spot) -> Result<(), NoMemory>
@@ -41,9 +29,7 @@ fn put_spot(alloc: Global, text: &mut Vec<u8>, spot: &Spot) -> Result<(), NoMemo
     put_path(alloc, text, spot.path.as_slice())?;
     put(text, b" ")?;
     put(text, spot.input.as_slice())?;
-    put(text, b" ")?;
-    text.push(digit_of(spot.bit))?;
-    put(text, b"\n")
+    put(text, &[b' ', digit_of(spot.bit), b'\n'])
 }
 
 /// Puts a line for each spot of the frame behind the text: its path, its input and its bit. After `NoMemory` a front of this may stand

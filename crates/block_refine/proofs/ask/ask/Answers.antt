@@ -8,10 +8,10 @@ use Rattle.block_refine.specs.block_graph.Graph.{number_of}
 use Rattle.block_refine.proofs.Asking.{one_literal, answer_same, difference, answer_differs, answer_limit}
 use Rattle.block_refine.proofs.ask.ask.Goals as goal
 
-pub returns-then-is_one : goal.returns-then-is_one
-returns-then-is_one c =
+pub returns-then-x-y : goal.returns-then-x-y
+returns-then-x-y c =
     one_literal c.args.nets.now c.args.i c.args.j (number_of c.next-left.result) (number_of c.next-right.result) c.next-left.ensures.at c.next-right.ensures.at c.args.graph.now c.requires.graph c.keeps.ensures.sound c.keeps-2.ensures.sound c.keeps-3.ensures.graph
-    c.lit.result c.lit-2.result c.lit.ensures c.lit-2.ensures (c.is_one.ensures c.if-is_one.true)
+    c.lit-x.result c.lit-y.result c.lit-x.ensures c.lit-y.ensures c.if-x-y.true
 
 pub returns-in-Same : goal.returns-in-Same
 returns-in-Same c =

@@ -13,8 +13,8 @@ loop-j-preserved c = subst (IsStep c.args.nets.now c.in_ok-graph.graph c.args.co
 pub returns-in-Limit : goal.returns-in-Limit
 returns-in-Limit c =
     let both = subst (IsStep c.args.nets.now c.in_ok-graph.graph c.args.conflicts c.loop-j.j c.step.new.self) c.in-Limit.is c.in_ok-step.ensures in
-    round_limits c.args.nets.now c.in_ok-graph.graph c.args.conflicts c.loop-j.j c.step.new.self c.in-Limit.first c.loop-j.j c.in-Limit.proof c.at_limit.result c.in_ok-graph.ensures both.0 both.1 c.at_limit.ensures
+    round_limits c.args.nets.now c.in_ok-graph.graph c.args.conflicts c.loop-j.j c.step.new.self c.in-Limit.first c.loop-j.j c.in-Limit.proof c.ended.result c.in_ok-graph.ensures both.0 both.1 (c.ended.ensures.split, c.ended.ensures.same)
 
 pub returns : goal.returns
 returns c =
-    round_ends c.args.nets.now c.keeps.ensures.sound c.keeps-2.ensures.sound c.args.conflicts c.loop-j.j c.loop-j.pass c.ended.result c.loop-j.invariant (omega (arith, c.loop-j-test.false)) c.ended.ensures
+    round_ends c.args.nets.now c.keeps.ensures.sound c.keeps-2.ensures.sound c.args.conflicts c.loop-j.j c.loop-j.pass c.ended-2.result c.loop-j.invariant (omega (arith, c.loop-j-test.false)) (c.ended-2.ensures.split, c.ended-2.ensures.same)

@@ -13,8 +13,8 @@ put-requires c = omega (arith, c.loop-j.invariant.numbered.few, c.loop-j.invaria
 
 pub loop-j-preserved : goal.loop-j-preserved
 loop-j-preserved c =
-    let kind = c.kind.ensures in
-    let rest = c.rest.ensures in
+    let kind = c.key-kind.ensures.kind in
+    let rest = c.key-kind.ensures.rest in
     record {
       numbered = c.in_ok-put.ensures.numbered (start_key c.args.starts.now) (ap (start_key c.args.starts.now) c.loop-j.invariant.each ∙ sym (λ i. (kind i, rest i))) c.loop-j.invariant.numbered;
       each = c.in_ok-put.ensures.one ∙ ap (λ k. k + 1) c.loop-j.invariant.each;

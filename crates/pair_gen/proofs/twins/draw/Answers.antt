@@ -8,15 +8,15 @@ use Rattle.pair_gen.proofs.twins.draw.Goals as goal
 pub finish-requires : goal.finish-requires
 finish-requires c =
     subst (λ (bits : List Bool). All (λ (b : Bool). b ≡ true) bits) (sym (ap (λ (m : MakerView). m.set) c.in_ok-add_outputs.ensures))
-    (all_set c.args.plan.now.circuit c.add_cells.new.maker c.set_nexts.new.maker c.set_nexts.ensures)
+    (all_set c.args.circuit c.add_cells.new.maker c.set_nexts.new.maker c.set_nexts.ensures)
 
 pub returns-clause-twin : goal.returns-clause-twin
 returns-clause-twin c =
-    twin c.args.plan.now.circuit c.args.plan.now.regroup c.args.plan.now.words.now c.add_cells.new.maker c.set_nexts.new.maker c.finish.result c.in_ok-add_cells.ensures c.set_nexts.ensures
+    twin c.args.circuit c.args.regroup c.args.words.now c.add_cells.new.maker c.set_nexts.new.maker c.finish.result c.in_ok-add_cells.ensures c.set_nexts.ensures
     (c.finish.ensures ∙ ap (λ (m : MakerView). m.net) c.in_ok-add_outputs.ensures)
 
 pub returns-clause-comparable : goal.returns-clause-comparable
 returns-clause-comparable c =
-    twin_comparable c.args.plan.now.circuit c.args.plan.now.regroup c.args.plan.now.words.now c.finish.result
-    (twin c.args.plan.now.circuit c.args.plan.now.regroup c.args.plan.now.words.now c.add_cells.new.maker c.set_nexts.new.maker c.finish.result c.in_ok-add_cells.ensures c.set_nexts.ensures
+    twin_comparable c.args.circuit c.args.regroup c.args.words.now c.finish.result
+    (twin c.args.circuit c.args.regroup c.args.words.now c.add_cells.new.maker c.set_nexts.new.maker c.finish.result c.in_ok-add_cells.ensures c.set_nexts.ensures
     (c.finish.ensures ∙ ap (λ (m : MakerView). m.net) c.in_ok-add_outputs.ensures))

@@ -1,4 +1,6 @@
-use Rattle.std.proofs.Common.{◌∙◌, length, ap}
+use Rattle.std.proofs.Common.{◌∙◌, ℕ, List, false, length, ap, subst}
+use Rattle.circuit_theory.specs.declared.Side.TheVariants.{A, B}
+use Rattle.pair_gen.specs.Twins.{IsTwin}
 use Rattle.pair_gen.proofs.Draws.{words_count}
 use Rattle.pair_gen.proofs.twins.generate.Goals as goal
 
@@ -7,3 +9,11 @@ draw-requires c = ap length (c.as_slice.ensures.value ∙ c.in_ok-words.ensures)
 
 pub draw-requires-2 : goal.draw-requires-2
 draw-requires-2 c = ap length (c.as_slice-2.ensures.value ∙ c.in_ok-words.ensures) ∙ words_count c.args.seed
+
+pub returns : goal.returns
+returns c = record {
+  a = subst (λ (ws : List ℕ). IsTwin A false ws c.in_ok-a.a) (c.as_slice.ensures.value ∙ c.in_ok-words.ensures) c.in_ok-a.ensures.twin;
+  b = subst (λ (ws : List ℕ). IsTwin B c.args.regroup ws c.in_ok-b.b) (c.as_slice-2.ensures.value ∙ c.in_ok-words.ensures) c.in_ok-b.ensures.twin;
+  comparable_a = c.in_ok-a.ensures.comparable;
+  comparable_b = c.in_ok-b.ensures.comparable;
+}

@@ -11,7 +11,7 @@ use Rattle.pair_decide.specs.Queries.{assigned_to}
 use Rattle.block_refine.proofs.block_graph.graph.BlockGraph.node_values.Goals as goal
 
 pub bits_at-requires-clause-within : goal.bits_at-requires-clause-within
-bits_at-requires-clause-within c = All-weaker (λ (k : ℕ). k < c.args.self.now.limit) (λ (k : ℕ). k < c.most-size.result) (λ k l. omega (arith, l, c.most-size.ensures.right)) c.args.vars.now c.requires.below
+bits_at-requires-clause-within c = All-weaker (λ (k : ℕ). k < c.args.self.now.limit) (λ (k : ℕ). k < c.max-size.result) (λ k l. omega (arith, l, c.max-size.ensures)) c.args.vars.now c.requires.below
 
 pub bits_at-requires-clause-distinct : goal.bits_at-requires-clause-distinct
 bits_at-requires-clause-distinct c = λ i j d l m e. let pair = AllPairs-from_increasing c.args.vars.now c.requires.increasing i j d l m in omega (arith, pair, e)
@@ -23,7 +23,7 @@ pub node_bits-requires-clause-covers : goal.node_bits-requires-clause-covers
 node_bits-requires-clause-covers c =
     let same = ap vars_of c.nodes-nodes.ensures.nodes in
     let long = ap length c.as_slice.ensures.value in
-    omega (arith, same, long, c.vars.ensures, c.most-size.ensures.left, c.in_ok-assignment.ensures.size)
+    omega (arith, same, long, c.vars.ensures, c.max-size.ensures, c.in_ok-assignment.ensures.size)
 
 pub returns : goal.returns
 returns c =

@@ -5,7 +5,7 @@ use Rattle.circuit_theory.proofs.Lists.{length-map}
 use Rattle.circuit_theory.proofs.Numbers.{slice_get-map}
 use Rattle.flat_net.specs.declared.parts.LatchAt.{LatchAt}
 use Rattle.latch_blocks.specs.Partitions.{nexts_of}
-use Rattle.latch_blocks.proofs.Placing.{left_next, right_next, at_right}
+use Rattle.latch_blocks.proofs.Placing.{left_next, right_next, at_left, at_right}
 use Rattle.block_refine.proofs.block_graph.nets.BlockNets.next.Goals as goal
 
 pub returns-then-place-left-clause-signal : goal.returns-then-place-left-clause-signal
@@ -14,6 +14,15 @@ returns-then-place-left-clause-signal c =
     let l : LatchAt = get_or ls c.args.place c.index-left-place.result in
     let at : slice_get c.args.self.now.left.now.latches c.args.place ≡ Some l = ap (λ (zs : List LatchAt). slice_get zs c.args.place) (sym c.latches-left.ensures) ∙ slice_get-get_or ls c.args.place c.index-left-place.result (omega (arith, c.if-place-left.true)) in
     (c.keeps.ensures.sound.latches c.args.place l at).within
+
+pub returns-then-place-left-clause-at : goal.returns-then-place-left-clause-at
+returns-then-place-left-clause-at c =
+    let a = c.args.self.now.left.now in
+    let b = c.args.self.now.right.now in
+    let ls = c.latches-left.result.now in
+    let l : LatchAt = get_or ls c.args.place c.index-left-place.result in
+    let at : slice_get a.latches c.args.place ≡ Some l = ap (λ (zs : List LatchAt). slice_get zs c.args.place) (sym c.latches-left.ensures) ∙ slice_get-get_or ls c.args.place c.index-left-place.result (omega (arith, c.if-place-left.true)) in
+    at_left (map left_next a.latches) (map right_next b.latches) c.args.place (left_next l) (slice_get-map left_next a.latches c.args.place l at)
 
 pub returns-else-place-left-clause-at : goal.returns-else-place-left-clause-at
 returns-else-place-left-clause-at c =
