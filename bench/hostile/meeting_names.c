@@ -1,7 +1,7 @@
 /* Prints names of eight letters that the program's tables of names all look for at the same places: meeting_names COUNT BITS
  *
- * The tables are open tables whose hash has no seed (`hash_of` of the crate base_tables: FNV-1a of 64 bits, mixed to 32), and where a
- * search begins is told by the lowest bits of the hash. So anyone can find such names, by trying: one of 2^BITS fits. */
+ * The tables are open tables whose hash has no seed (`hash_of` of the crate base_tables: FNV-1a of 64 bits, which `mixed` makes 32), and
+ * where a search begins is told by the lowest of these. So anyone can find such names, by trying: one of 2^BITS fits. */
 #include <stdint.h>
 #include <stdio.h>
 #include <stdlib.h>

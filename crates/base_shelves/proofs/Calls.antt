@@ -1,5 +1,6 @@
 -- A call that is counted changes nothing else of a shelf in memory.
-use Rattle.std.proofs.Common.{◌≡◌, ℕ, List, ap}
+use Rattle.std.proofs.Common.{◌≡◌, ◌≢◌, ◌∙◌, ◌<◌, ℕ, List, Some, Contains, length, get_or, ap}
+use Rattle.std.proofs.lemmas.Option.{slice_get-get_or, get_or_from_slice_get}
 use Rattle.base_shelves.specs.declared.mem_shelf.MemShelf.{MemShelf}
 use Rattle.base_shelves.specs.MemShelf.{held_by, faults_of, next_call}
 
@@ -18,3 +19,11 @@ module _ (before now : MemShelf) (same : now ≡ record before { calls = next_ca
 
   pub calls_are : now.calls ≡ next_call before
   calls_are = ap (λ (s : MemShelf). s.calls) same
+
+-- a number that stands at a place is among the numbers
+pub at_call : (calls : List ℕ) (number k : ℕ) → k < length calls → get_or calls k 0 ≡ number → Contains calls number
+at_call calls number k inside here = (k, inside, get_or_from_slice_get calls k number number (slice_get-get_or calls k 0 inside ∙ ap Some here))
+
+-- one that stands at no place isn't
+pub no_call : (calls : List ℕ) (number : ℕ) → ((k : ℕ) → k < length calls → get_or calls k 0 ≢ number) → Contains calls number → ⊥
+no_call calls number other (k, inside, here) = other k inside (get_or_from_slice_get calls k number 0 (slice_get-get_or calls k number inside ∙ ap Some here))

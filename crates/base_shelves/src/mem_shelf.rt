@@ -95,11 +95,7 @@ impl MemShelf {
         ensures same { self.new ≡ record self.old { calls = next_call self.old } }
     {
         self.calls = self.calls.saturating_add(1);
-        let number = self.calls;
-        self.fails
-            .as_slice()
-            .iter()
-            .any(|call| u64::from(*call) == number)
+        is_among(self.fails.as_slice(), self.calls)
     }
 
     fn count_fault(&mut self, path: &str)
@@ -159,6 +155,18 @@ impl Shelf for MemShelf {
             }
         }
     }
+}
+
+#[tactic(auto, using(crate::proofs::Calls::at_call, crate::proofs::Calls::no_call))]
+fn is_among(calls: &[u32], number: u64) -> bool
+    ensures { IsTrue result ↔ Contains calls.now number }
+{
+    for call in calls {
+        if u64::from(*call) == number {
+            return true;
+        }
+    }
+    false
 }
 
 fn one_more(count: u64) -> u64

@@ -1,18 +1,11 @@
 -- Between the keys of an index set and the list that a table is seen as.
-use Rattle.std.proofs.Common.{◌≡◌, ◌+◌, ◌<◌, ℕ, Bool, true, false, ◌||◌, List, [], ◌∷◌, ◌++◌, map, slice_get, Some, Contains, refl, sym, ap, subst, ◌∙◌, true≢false, arith, take, zero, suc, ◌==◌, ◌&&◌}
-use Rattle.std.specs.List.{list_any}
+use Rattle.std.proofs.Common.{◌≡◌, ◌+◌, ◌<◌, ℕ, Bool, true, false, ◌||◌, List, [], ◌∷◌, ◌++◌, map, slice_get, Some, Contains, refl, sym, ap, subst, ◌∙◌, true≢false, arith, take, zero, suc}
 use Rattle.std.specs.Str.{bytes_eq}
-use Rattle.std.proofs.lemmas.Bool.Decides.{Decides-eqb}
 use Rattle.std.proofs.lemmas.List.{take_more}
 use Rattle.std.proofs.lemmas.List.Folds.{list_any_at}
 use Rattle.std.proofs.lemmas.Option.{slice_get_within, get_or_from_slice_get, none-some, same_Some}
 use Rattle.std.proofs.lemmas.Slice.Eq.{bytes_eq-Decides}
 use Rattle.base_tables.specs.Table.{is_among, AreDistinct}
-
--- a test of what a function gives
-pub list_any-map : {X Y : Type 0} (test : Y → Bool) (f : X → Y) (xs : List X) → list_any (λ x. test (f x)) xs ≡ list_any test (map f xs)
-list_any-map test f [] = refl
-list_any-map test f (x ∷ xs) = ap (λ rest. test (f x) || rest) (list_any-map test f xs)
 
 -- a name of the list is among the names
 pub is_among-Contains : (names : List (List ℕ)) (name : List ℕ) → Contains names name → is_among names name ≡ true
@@ -28,10 +21,6 @@ pub key_at : {K X : Type 0} (f : K → X) (ks : List K) (i : ℕ) (x : X) → sl
 key_at f [] i x h = absurd (none-some x h)
 key_at f (k ∷ ks) zero x h = (k, refl, same_Some (f k) x h)
 key_at f (k ∷ ks) (suc i) x h = key_at f ks i x h
-
--- equal pairs pass the test of pairs
-pub pair_eq-same : (a b : ℕ × ℕ) → a ≡ b → ((a.0 == b.0) && (a.1 == b.1)) ≡ true
-pair_eq-same a b e = ap (λ t. t && (a.1 == b.1)) ((Decides-eqb a.0 b.0).1 (ap (λ p. p.0) e)) ∙ (Decides-eqb a.1 b.1).1 (ap (λ p. p.1) e)
 
 -- a name that is among the names stands at a place
 pub is_among-at : (names : List (List ℕ)) (name : List ℕ) → is_among names name ≡ true → (i : ℕ) × (slice_get names i ≡ Some name)

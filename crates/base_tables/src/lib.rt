@@ -1,9 +1,6 @@
 //! Tables that number names, pairs of numbers and other keys, in the order in which they first come.
 #![tactic(auto)]
 
-mod hashed_names;
-mod name_search;
-mod sorted_names;
 mod tables;
 pub mod unique_table;
 

@@ -2,7 +2,7 @@
 
 ghost use Rattle.std.specs.Prelude.{◌≡◌, true, [], ◌∷◌, ◌++◌, length, All, OnOk, OnErr, IfOk};
 ghost use Rattle.circuit_theory.specs.Cover.{cover_value, row_matches, place_matches};
-ghost use Rattle.std.specs.List.{list_all, list_any, zip};
+ghost use Rattle.std.specs.List.{list_any};
 ghost use Rattle.sec_base.specs.Cover.{IsCube, IsCoverSound};
 
 use base_shelves::{Cubes, Duplicate, NoMemory, Seq, Word};
@@ -122,24 +122,27 @@ pub fn place_matches(place: u8, bit: bool) -> bool
     place == b'-' || place == (if bit { b'1' } else { b'0' })
 }
 
+#[tactic(auto, using(crate::proofs::Rows::row_next, crate::proofs::Rows::row_end))]
 fn row_matches(row: &[u8], bits: &[bool]) -> bool
     requires { length row.now ≡ length bits.now }
     ensures { result ≡ row_matches row.now bits.now }
 {
-    places_match(row, bits)
-}
-
-fn places_match(row: &[u8], bits: &[bool]) -> bool
-    ensures { result ≡ list_all (λ p. place_matches p.0 p.1) (zip row.now bits.now) }
-{
-    row.iter()
-        .zip(bits)
-        .all(|(place, bit)| place_matches(*place, *bit))
+    for i in 0..row.len() {
+        if !place_matches(row[i], bits[i]) {
+            return false;
+        }
+    }
+    true
 }
 
 fn any_matches(rows: &[Word], bits: &[bool]) -> bool
     requires { All (λ row. length row ≡ length bits.now) rows.now }
     ensures { result ≡ list_any (λ row. row_matches row bits.now) rows.now }
 {
-    rows.iter().any(|row| row_matches(row.as_slice(), bits))
+    for row in rows {
+        if row_matches(row.as_slice(), bits) {
+            return true;
+        }
+    }
+    false
 }

@@ -1,6 +1,6 @@
 //! The search for a key and for a free place.
 
-ghost use Rattle.std.specs.Prelude.{◌≡◌, ℕ, ◌+◌, ◌-◌, ◌^◌, ◌<◌, length, slice_get, replicate, Some, Contains, IfSome, IfNone, IfOk};
+ghost use Rattle.std.specs.Prelude.{◌≡◌, ℕ, ◌+◌, ◌-◌, ◌^◌, ◌<◌, length, slice_get, Some, Contains, IfSome, IfNone, IfOk};
 ghost use Rattle.base_tables.specs.unique_table.Places.{IsTable, IsFree, StandOnce, place_in};
 
 use crate::unique_table::key::Key;
@@ -58,7 +58,7 @@ pub(crate) fn filled<K: Key>(
     requires once { StandOnce keys.now }
     ensures { IfOk result (λ slots. IsTable K.place_at tries keys.now slots.items) }
 {
-    let mut slots = free_slots(alloc, len)?;
+    let mut slots: Vec<u32> = vec![in alloc; 0; len]?;
     for number in 0..keys.len() {
         let Some(place) = free_place(slots.as_slice(), tries, keys[number]) else {
             return Err(NoMemory);
@@ -66,11 +66,4 @@ pub(crate) fn filled<K: Key>(
         slots[place] = number as u32 + 1;
     }
     Ok(slots)
-}
-
-/// So many free places.
-fn free_slots(alloc: Global, len: usize) -> Result<Vec<u32>, NoMemory>
-    ensures { IfOk result (λ slots. slots.items ≡ replicate len 0) }
-{
-    Ok(vec![in alloc; 0; len]?)
 }

@@ -12,9 +12,6 @@ use std::marker::Model;
 /// The least places of a table that has keys.
 const LEAST: usize = 16;
 
-/// The most keys of a table.
-const FULL: usize = u32::MAX as usize;
-
 /// Keys in the order in which they first came, each at the number of its place. A contract sees the list of keys.
 pub struct UniqueTable<K: Key> {
     keys: Vec<K>,
@@ -116,23 +113,24 @@ impl<K: Key> UniqueTable<K> {
         ensures ok { OnOk result (self.new ≡ self.old ++ key ∷ []) }
         ensures err { OnErr result (self.new ≡ self.old) }
     {
-        if self.keys.len() >= FULL {
+        if self.len() == u32::MAX {
             return Err(NoMemory);
         }
-        if self.keys.len() >= self.slots.len() / 2 {
-            self.grow()?;
-        }
+        self.make_room()?;
         self.put_free(key)
     }
 
-    /// Doubles the places.
-    fn grow(&mut self) -> Result<(), NoMemory>
+    /// Doubles the places where half of them are taken.
+    fn make_room(&mut self) -> Result<(), NoMemory>
         ensures { self.new ≡ self.old }
     {
-        let len = self.slots.len().saturating_mul(2).max(LEAST);
-        let alloc = *self.keys.allocator();
-        let slots = filled(alloc, self.keys.as_slice(), self.tries, len)?;
-        self.slots = slots;
+        let len = self.slots.len();
+        if self.keys.len() >= len / 2 {
+            let len = len.saturating_mul(2).max(LEAST);
+            let alloc = *self.keys.allocator();
+            let slots = filled(alloc, self.keys.as_slice(), self.tries, len)?;
+            self.slots = slots;
+        }
         Ok(())
     }
 

@@ -1,29 +1,43 @@
--- What is neither early nor late isn't in the table.
-use Rattle.std.proofs.Common.{◌≡◌, ◌+◌, ◌||◌, ◌∙◌, ◌++◌, ℕ, List, slice_get, ap, false, arith, rules, sym}
+-- What is neither among the first names nor has a number isn't in the table.
+use Rattle.std.proofs.Common.{◌≡◌, ◌∙◌, ◌<◌, ℕ, List, Some, Contains, length, slice_get, ap, sym, subst, arith}
 use Rattle.std.specs.Str.{bytes_eq}
-use Rattle.std.proofs.lemmas.List.Folds.{list_any-append}
-use Rattle.std.proofs.lemmas.Option.{slice_get_within}
-use Rattle.base_tables.specs.Table.{is_among}
-use Rattle.base_tables.proofs.Appended.{at-left, at-right}
-use Rattle.base_tables.proofs.TableLemmas.{Contains_not-is_among}
+use Rattle.std.proofs.lemmas.Option.{slice_get-get_or, slice_get_within}
+use Rattle.base_tables.proofs.Appended.{at-is_among}
+use Rattle.base_tables.proofs.Hashing.{not-among}
+use Rattle.base_tables.proofs.Hashed.{same-name, not-named, no-hash, other-name, not-found}
 use Rattle.base_tables.proofs.tables.NameTable.find.Goals as goal
+use Rattle.base_tables.proofs.tables.NameTable.find.Goals.{in-Some+else-eq, in_default}
 
-pub returns-in-Some-clause-here : goal.returns-in-Some-clause-here
-returns-in-Some-clause-here c = ap (λ (ns : List (List ℕ)). slice_get ns c.in-Some.id) (sym c.self.view_is) ∙ at-left c.self.inside.early c.self.inside.late c.in-Some.id c.args.name.now c.in-Some.ensures.here
+pub returns-then-eq : goal.returns-then-eq
+returns-then-eq c =
+    let below : c.in-Some.id < length c.self.inside.hashes = slice_get_within c.self.inside.hashes c.in-Some.id c.name_hash.result c.in-Some.ensures.here in
+    let within : c.in-Some.id < length c.self.inside.names.items = omega (arith, below, c.self.invariant.first) in
+    let at : slice_get c.self.inside.names.items c.in-Some.id ≡ Some c.index.result.now = slice_get-get_or c.self.inside.names.items c.in-Some.id c.index.result.now within ∙ ap Some (sym c.index.ensures) in
+    let is : c.eq.result ≡ bytes_eq c.index.result.now c.args.name.now = c.eq.ensures ∙ ap (λ (xs : List ℕ). bytes_eq xs c.args.name.now) c.as_slice.ensures in
+    let there : slice_get c.args.self.now c.in-Some.id ≡ Some c.args.name.now = same-name c.self.inside.names.items c.args.self.now c.in-Some.id c.index.result.now c.args.name.now c.self.view_is at (sym is ∙ c.if-eq.true) in
+    record { here = there; absent = tt; found = sym (at-is_among c.args.self.now c.args.name.now c.in-Some.id there) }
 
-pub overflow_add-result : goal.overflow_add-result
-overflow_add-result c =
-    let within = slice_get_within c.self.inside.late c.in-Some-find.id c.args.name.now c.in-Some-find.ensures.here in
-    omega (arith, c.len.ensures, within, c.self.invariant.0)
+pub returns-in-Some-get : goal.returns-in-Some-get
+returns-in-Some-get c =
+    let there : slice_get c.args.self.now c.in-Some-get.id.now ≡ Some c.args.name.now =
+    ap (λ (ns : List (List ℕ)). slice_get ns c.in-Some-get.id.now) (sym c.self.view_is) ∙ c.self.invariant.here c.args.name.now c.in-Some-get.id.now (sym c.in-Some-get.ensures.value) in
+    record { here = there; absent = tt; found = sym (at-is_among c.args.self.now c.args.name.now c.in-Some-get.id.now there) }
 
-pub returns-in-Some-find-clause-here : goal.returns-in-Some-find-clause-here
-returns-in-Some-find-clause-here c =
-    ap (λ (ns : List (List ℕ)). slice_get ns (c.len.result + c.in-Some-find.id)) (sym c.self.view_is)
-    ∙ ap (λ (n : ℕ). slice_get (c.self.inside.early ++ c.self.inside.late) (n + c.in-Some-find.id)) c.len.ensures
-    ∙ at-right c.self.inside.early c.self.inside.late c.in-Some-find.id c.args.name.now c.in-Some-find.ensures.here
-
-pub returns-in-None-find-clause-absent : goal.returns-in-None-find-clause-absent
-returns-in-None-find-clause-absent c =
-    let first : is_among c.self.inside.early c.args.name.now ≡ false = search rules in
-    let last : is_among c.self.inside.late c.args.name.now ≡ false = search rules in
-    Contains_not-is_among _ _ (ap (λ names. is_among names c.args.name.now) (sym c.self.view_is) ∙ list_any-append (λ n. bytes_eq c.args.name.now n) c.self.inside.early c.self.inside.late ∙ ap (λ b. b || is_among c.self.inside.late c.args.name.now) first ∙ last)
+pub returns-in-None : goal.returns-in-None
+returns-in-None c =
+    let names : List (List ℕ) = c.self.inside.names.items in
+    let name : List ℕ = c.args.name.now in
+    let other : (i : ℕ) → i < length c.self.inside.hashes → slice_get c.self.inside.names.items i ≡ Some c.args.name.now → ⊥ =
+    elim c.match-find.branch [
+      | in-Some+else-eq w ↦
+          let below : w.in-Some.id < length c.self.inside.hashes = slice_get_within c.self.inside.hashes w.in-Some.id c.name_hash.result w.in-Some.ensures.here in
+          let within : w.in-Some.id < length c.self.inside.names.items = omega (arith, below, c.self.invariant.first) in
+          other-name names c.self.inside.hashes _ c.self.invariant name w.in-Some.id w.index.result.now c.keeps.ensures.once (w.in-Some.ensures.here ∙ ap Some c.name_hash.ensures)
+          (slice_get-get_or names w.in-Some.id w.index.result.now within ∙ ap Some (sym w.index.ensures))
+          (sym (w.eq.ensures ∙ ap (λ (xs : List ℕ). bytes_eq xs name) w.as_slice.ensures) ∙ w.if-eq.false)
+      | in_default w ↦ no-hash names c.self.inside.hashes _ c.self.invariant name
+          (subst (λ (h : ℕ × ℕ). Contains c.self.inside.hashes h → ⊥) c.name_hash.ensures (not-found c.find.result w.in_default.not-Some c.find.ensures.absent))
+    ] in
+    let gone : Contains c.args.self.now c.args.name.now → ⊥ =
+    subst (λ (ns : List (List ℕ)). Contains ns c.args.name.now → ⊥) c.self.view_is (not-named names c.self.inside.hashes _ c.self.invariant name (sym c.in-None.ensures.value) other) in
+    record { here = tt; absent = gone; found = sym (not-among c.args.self.now c.args.name.now gone) }

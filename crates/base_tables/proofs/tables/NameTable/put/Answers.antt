@@ -1,47 +1,51 @@
--- A new name stands once.
-use Rattle.std.proofs.Common.{◌≡◌, ◌+◌, ◌<◌, ◌^◌, ◌++◌, ◌∷◌, [], ◌∙◌, ℕ, List, ap, length, subst, sym, arith, Vec, Global, Option}
-use Rattle.std.specs.Prelude.{IfSome, IfNone}
-use Rattle.base_tables.specs.Table.{is_among, AreDistinct}
-use Rattle.base_tables.proofs.Appended.{early-put, late-push, early-seen, late-seen, not-late}
+-- The name goes last, with its number.
+use Rattle.std.proofs.Common.{◌≡◌, ◌∙◌, ◌+◌, ◌<◌, ◌^◌, ◌++◌, ◌∷◌, [], ℕ, List, ap, length, subst, sym, arith, rules}
+use Rattle.std.specs.BTreeMap.{get_by}
+use Rattle.std.specs.Cmp.Lexicographic.{slice_cmp}
+use Rattle.std.specs.Ordering.{nat_cmp}
+use Rattle.base_tables.specs.Hashed.{IsNameTable}
+use Rattle.base_tables.specs.Table.{is_among}
+use Rattle.base_tables.proofs.Appended.{at-last}
 use Rattle.base_tables.proofs.tables.NameTable.put.Goals as goal
 
+pub put_number-requires : goal.put_number-requires
+put_number-requires c =
+    let inside : c.as_slice-names.result.now ≡ c.self.inside.names.items = c.as_slice-names.ensures.value ∙ c.reserve.ensures.items in
+    let seen : c.as_slice-names.result.now ≡ c.args.self.now = c.as_slice-names.ensures.value ∙ c.reserve.ensures.items ∙ c.self.view_is in
+    record {
+      table = subst (λ (ns : List (List ℕ)). IsNameTable ns c.self.inside.hashes (λ q. get_by (λ k. slice_cmp nat_cmp q k.items) c.self.inside.late)) (sym inside) c.self.invariant;
+      new = ap (λ (ns : List (List ℕ)). is_among ns c.args.name.now) seen ∙ c.requires.new;
+      room = subst (λ (ns : List (List ℕ)). length ns + 1 < 2 ^ 32) (sym seen) c.requires.room;
+    }
+
+pub put_last-requires : goal.put_last-requires
+put_last-requires c = omega (arith, c.in_ok-reserve.ensures.ok)
+
 pub invariant_of-self : goal.invariant_of-self
-invariant_of-self c =
-    late-push c.put_sorted.result c.self.inside.early c.self.inside.late c.put_sorted.new.self c.args.name.items c.put_sorted.ensures.ok c.put_sorted.ensures.err c.self.invariant.0 c.self.invariant.1
-    (ap (λ names. is_among names c.args.name.items) c.self.view_is ∙ c.requires.new)
-    (subst (λ names. length names + 1 < 2 ^ 32) (sym c.self.view_is) c.requires.room)
+invariant_of-self c = subst (λ (ns : List (List ℕ)). IsNameTable ns c.self.inside.hashes (λ q. get_by (λ k. slice_cmp nat_cmp q k.items) c.self.inside.late)) (sym c.reserve.ensures.items) c.self.invariant
 
-pub invariant_of-self-in-None : goal.invariant_of-self-in-None
-invariant_of-self-in-None c =
-    let none : length c.self.inside.late ≡ 0 = omega (arith, c.if-len-gt0.false, c.len.ensures) in
-    early-put c.self.inside.early c.self.inside.late c.put_hashed.new.self c.args.name.items none
-    (subst (λ back. IfNone back (c.put_hashed.new.self ≡ c.self.inside.early ++ c.args.name.items ∷ [])) c.in-None.is c.in_ok-put_hashed.ensures.put) c.self.invariant.1
-    (ap (λ names. is_among names c.args.name.items) c.self.view_is ∙ c.requires.new)
-    (subst (λ names. length names + 1 < 2 ^ 32) (sym c.self.view_is) c.requires.room)
+pub invariant_of-self-in_err-id : goal.invariant_of-self-in_err-id
+invariant_of-self-in_err-id c =
+    subst (λ (ns : List (List ℕ)). IsNameTable ns c.put_number.new.hashes (λ q. get_by (λ k. slice_cmp nat_cmp q k.items) c.put_number.new.late)) c.as_slice-names.ensures.value c.in_err-id.ensures.err
 
-pub invariant_of-self-in-Some : goal.invariant_of-self-in-Some
-invariant_of-self-in-Some c =
-    let kept : c.put_hashed.new.self ≡ c.self.inside.early = subst (λ back. IfSome back (λ same. c.put_hashed.new.self ≡ c.self.inside.early)) c.in-Some.is c.in_ok-put_hashed.ensures.kept in
-    let same : c.in-Some.name ≡ c.args.name = subst (λ back. IfSome back (λ same. same ≡ c.args.name)) c.in-Some.is c.in_ok-put_hashed.ensures.back in
-    subst (λ (early : List (List ℕ)). (length early + length c.put_sorted-in-Some.new.self < 2 ^ 32) × AreDistinct (early ++ c.put_sorted-in-Some.new.self)) (sym kept)
-    (late-push c.put_sorted-in-Some.result c.self.inside.early c.self.inside.late c.put_sorted-in-Some.new.self c.in-Some.name.items c.put_sorted-in-Some.ensures.ok c.put_sorted-in-Some.ensures.err c.self.invariant.0 c.self.invariant.1
-    (ap (λ name. is_among (c.self.inside.early ++ c.self.inside.late) name.items) same ∙ ap (λ names. is_among names c.args.name.items) c.self.view_is ∙ c.requires.new)
-    (subst (λ names. length names + 1 < 2 ^ 32) (sym c.self.view_is) c.requires.room))
+pub invariant_of-self-2 : goal.invariant_of-self-2
+invariant_of-self-2 c =
+    let same : c.in_ok-word.word.items ≡ c.args.name.now = search rules in
+    let seen : c.put_last.new.names.items ≡ c.as_slice-names.result.now ++ c.args.name.now ∷ [] =
+    c.put_last.ensures ∙ ap (λ (ns : List (List ℕ)). ns ++ c.from_vec.result ∷ []) (sym c.as_slice-names.ensures.value)
+    ∙ ap (λ (word : List ℕ). c.as_slice-names.result.now ++ word ∷ []) (c.from_vec.ensures ∙ same) in
+    subst (λ (ns : List (List ℕ)). IsNameTable ns c.put_number.new.hashes (λ q. get_by (λ k. slice_cmp nat_cmp q k.items) c.put_number.new.late)) (sym seen) c.in_ok-id.ensures.put
 
-pub put_sorted-requires-in-Some-clause-new : goal.put_sorted-requires-in-Some-clause-new
-put_sorted-requires-in-Some-clause-new c =
-    let same : c.in-Some.name ≡ c.args.name = subst (λ (back : Option (Vec ℕ Global)). IfSome back (λ same. same ≡ c.args.name)) c.in-Some.is c.in_ok-put_hashed.ensures.back in
-    ap (λ (name : Vec ℕ Global). is_among c.self.inside.late name.items) same ∙ not-late c.self.inside.early c.self.inside.late c.args.self.now c.args.name.items c.self.view_is c.requires.new
+pub returns-clause-here : goal.returns-clause-here
+returns-clause-here c =
+    let same : c.in_ok-word.word.items ≡ c.args.name.now = search rules in
+    let seen : c.put_last.new.names.items ≡ c.as_slice-names.result.now ++ c.args.name.now ∷ [] =
+    c.put_last.ensures ∙ ap (λ (ns : List (List ℕ)). ns ++ c.from_vec.result ∷ []) (sym c.as_slice-names.ensures.value)
+    ∙ ap (λ (word : List ℕ). c.as_slice-names.result.now ++ word ∷ []) (c.from_vec.ensures ∙ same) in
+    at-last c.as_slice-names.result.now c.put_last.new.names.items c.args.name.now c.in_ok-id.id seen c.in_ok-id.ensures.last
 
-pub returns-in-None-clause-ok : goal.returns-in-None-clause-ok
-returns-in-None-clause-ok c =
-    let none : length c.self.inside.late ≡ 0 = omega (arith, c.if-len-gt0.false, c.len.ensures) in
-    early-seen c.self.inside.early c.self.inside.late c.put_hashed.new.self c.args.self.now c.args.name.items none
-    (subst (λ (back : Option (Vec ℕ Global)). IfNone back (c.put_hashed.new.self ≡ c.self.inside.early ++ c.args.name.items ∷ [])) c.in-None.is c.in_ok-put_hashed.ensures.put) c.self.view_is
-
-pub returns-in-Some-clause-ok : goal.returns-in-Some-clause-ok
-returns-in-Some-clause-ok c =
-    let kept : c.put_hashed.new.self ≡ c.self.inside.early = subst (λ (back : Option (Vec ℕ Global)). IfSome back (λ same. c.put_hashed.new.self ≡ c.self.inside.early)) c.in-Some.is c.in_ok-put_hashed.ensures.kept in
-    let same : c.in-Some.name ≡ c.args.name = subst (λ (back : Option (Vec ℕ Global)). IfSome back (λ same. same ≡ c.args.name)) c.in-Some.is c.in_ok-put_hashed.ensures.back in
-    late-seen c.put_sorted-in-Some.result c.self.inside.early c.put_hashed.new.self c.self.inside.late c.put_sorted-in-Some.new.self c.args.self.now c.in-Some.name.items c.args.name.items
-    c.put_sorted-in-Some.ensures.ok kept (ap (λ (name : Vec ℕ Global). name.items) same) c.self.view_is
+pub returns-clause-ok : goal.returns-clause-ok
+returns-clause-ok c =
+    let same : c.in_ok-word.word.items ≡ c.args.name.now = search rules in
+    c.put_last.ensures ∙ ap (λ (ns : List (List ℕ)). ns ++ c.from_vec.result ∷ []) (c.reserve.ensures.items ∙ c.self.view_is)
+    ∙ ap (λ (word : List ℕ). c.args.self.now ++ word ∷ []) (c.from_vec.ensures ∙ same)

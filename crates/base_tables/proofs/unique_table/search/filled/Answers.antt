@@ -6,7 +6,7 @@ use Rattle.base_tables.proofs.unique_table.Filling.{table-none, table-next}
 use Rattle.base_tables.proofs.unique_table.search.filled.Goals as goal
 
 pub loop-number-init : goal.loop-number-init
-loop-number-init g c = table-none g.K.Key.place_at c.args.tries (take 0 c.args.keys.now) c.in_ok-slots.slots.items c.args.len refl c.in_ok-slots.ensures
+loop-number-init g c = table-none g.K.Key.place_at c.args.tries (take 0 c.args.keys.now) c.in_ok-slots.slots.items c.args.len refl (c.in_ok-slots.ensures.items_if_clones_equal (λ y e. e))
 
 pub offset_bounds-keys-number : goal.offset_bounds-keys-number
 offset_bounds-keys-number g c = omega (arith, c.loop-number-test.true)

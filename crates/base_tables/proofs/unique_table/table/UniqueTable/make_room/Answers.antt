@@ -1,7 +1,7 @@
 -- The new places hold the numbers of the same keys.
-use Rattle.std.proofs.Common.{◌≡◌, List, length, sym, ap, subst, arith}
+use Rattle.std.proofs.Common.{List, sym, subst, arith}
 use Rattle.base_tables.specs.unique_table.Places.{IsTable, StandOnce}
-use Rattle.base_tables.proofs.unique_table.table.UniqueTable.grow.Goals as goal
+use Rattle.base_tables.proofs.unique_table.table.UniqueTable.make_room.Goals as goal
 
 pub filled-requires-clause-few : goal.filled-requires-clause-few
 filled-requires-clause-few g c = omega (arith, c.as_slice.ensures.len, c.self.inside.keys.ok.0, c.self.invariant.few)
