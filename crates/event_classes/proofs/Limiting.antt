@@ -12,11 +12,11 @@ use Rattle.aig.specs.declared.node.Lit.{Lit}
 use Rattle.flat_net.proofs.Nets.{some_at}
 use Rattle.flat_net.proofs.Places.{one_at}
 use Rattle.sec_base.specs.declared.basics.Tag.{Tag}
-use Rattle.class_search.specs.pair_decide.declared.query.Proof.{Proof}
+use Rattle.class_search.specs.pair_decide.Proof.{Proof}
 use Rattle.event_nodes.specs.Nodes.{EventGraphView, GrowsEvents}
 use Rattle.event_order.specs.Order.{IsTagOf}
 use Rattle.event_variables.specs.Variables.{variables_of}
-use Rattle.class_search.specs.pair_decide.declared.query.Query.{Query}
+use Rattle.class_search.specs.pair_decide.Query.{Query}
 use Rattle.class_search.specs.Comparing.{IsReadyEnable}
 use Rattle.class_search.specs.declared.compare.Enable.{Enable}
 use Rattle.class_queries.specs.Enables.{both_of, IsEnableFunction, AsksEnables}

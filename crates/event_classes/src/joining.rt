@@ -7,7 +7,7 @@ ghost use Rattle.class_search.specs.Comparing.{IsReadyEnable};
 ghost use Rattle.event_order.specs.Order.{IsTagOf};
 ghost use Rattle.class_fits.specs.Members.{class_of_fit};
 ghost use Rattle.class_search.specs.declared.search.Fit.TheVariants as fit_is;
-ghost use Rattle.class_search.specs.pair_decide.declared.query.Proof.{Proof};
+ghost use Rattle.class_search.specs.pair_decide.Proof.{Proof};
 ghost use Rattle.sec_base.specs.declared.basics.Tag.{Tag};
 ghost use Rattle.event_classes.specs.declared.error.EventError.TheVariants as event_error;
 ghost use Rattle.event_classes.specs.Limits.{IsNamed, IsErrorOf};
