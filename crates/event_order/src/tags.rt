@@ -31,8 +31,7 @@ pub fn latch_order(
     let others = enabled_depths(alloc, right, right_enabled)?;
     depths.extend_from_slice(others.as_slice())?;
     let turns = turns_of(alloc, depths.as_slice())?;
-    let tags = tags_of(alloc, turns.as_slice(), left.latches().len())?;
-    Ok(tags)
+    tags_of(alloc, turns.as_slice(), left.latches().len())
 }
 
 /// The latches with these turns, where so many latches are of the first circuit.

@@ -1,5 +1,6 @@
 -- The latches of both nets by their turns.
 use Rattle.std.proofs.Common.{◌≡◌, ◌∙◌, ◌++◌, ℕ, List, Option, length, sym, ap, subst}
+use Rattle.std.proofs.lemmas.Result.{IfOk-weaker}
 use Rattle.std.specs.List.{AllZip}
 use Rattle.sec_base.specs.declared.basics.Tag.{Tag}
 use Rattle.event_order.specs.declared.turns.Turn.{Turn}
@@ -18,14 +19,14 @@ pub returns-clause-named : goal.returns-clause-named
 returns-clause-named c =
     let all : c.as_slice-2.result.now ≡ c.in_ok-depths.depths.items ++ c.in_ok-others.others.items =
     c.as_slice-2.ensures.value ∙ (c.in_ok-extend_from_slice.ensures.items ∙ ap (λ (os : List (Option ℕ)). c.in_ok-depths.depths.items ++ os) c.as_slice.ensures.value) in
-    tags_named c.args.left.now c.args.right.now c.keeps.ensures.sound c.keeps-2.ensures.sound c.in_ok-depths.depths.items c.in_ok-others.others.items c.in_ok-depths.ensures c.in_ok-others.ensures c.as_slice-3.result.now
-    (subst (λ (ds : List (Option ℕ)). AreTurns ds c.as_slice-3.result.now) all (subst (AreTurns c.as_slice-2.result.now) (sym c.as_slice-3.ensures.value) c.in_ok-turns.ensures)) c.in_ok-tags.tags.items
-    (subst (λ (n : ℕ). AllZip (λ (turn : Turn) (tag : Tag). IsTagAt n turn.number tag) c.as_slice-3.result.now c.in_ok-tags.tags.items) (ap length c.latches.ensures) c.in_ok-tags.ensures)
+    IfOk-weaker c.tags_of.result _ _ (λ tags at. tags_named c.args.left.now c.args.right.now c.keeps.ensures.sound c.keeps-2.ensures.sound c.in_ok-depths.depths.items c.in_ok-others.others.items c.in_ok-depths.ensures c.in_ok-others.ensures c.as_slice-3.result.now
+    (subst (λ (ds : List (Option ℕ)). AreTurns ds c.as_slice-3.result.now) all (subst (AreTurns c.as_slice-2.result.now) (sym c.as_slice-3.ensures.value) c.in_ok-turns.ensures)) tags.items
+    (subst (λ (n : ℕ). AllZip (λ (turn : Turn) (tag : Tag). IsTagAt n turn.number tag) c.as_slice-3.result.now tags.items) (ap length c.latches.ensures) at)) c.tags_of.ensures
 
 pub returns-clause-order : goal.returns-clause-order
-returns-clause-order c = λ left right class.
+returns-clause-order c =
     let all : c.as_slice-2.result.now ≡ c.in_ok-depths.depths.items ++ c.in_ok-others.others.items =
     c.as_slice-2.ensures.value ∙ (c.in_ok-extend_from_slice.ensures.items ∙ ap (λ (os : List (Option ℕ)). c.in_ok-depths.depths.items ++ os) c.as_slice.ensures.value) in
-    tags_ordered c.args.left.now c.args.right.now c.keeps.ensures.sound c.keeps-2.ensures.sound c.in_ok-depths.depths.items c.in_ok-others.others.items c.in_ok-depths.ensures c.in_ok-others.ensures c.as_slice-3.result.now
-    (subst (λ (ds : List (Option ℕ)). AreTurns ds c.as_slice-3.result.now) all (subst (AreTurns c.as_slice-2.result.now) (sym c.as_slice-3.ensures.value) c.in_ok-turns.ensures)) c.in_ok-tags.tags.items
-    (subst (λ (n : ℕ). AllZip (λ (turn : Turn) (tag : Tag). IsTagAt n turn.number tag) c.as_slice-3.result.now c.in_ok-tags.tags.items) (ap length c.latches.ensures) c.in_ok-tags.ensures) left right class
+    IfOk-weaker c.tags_of.result _ _ (λ tags at left right class. tags_ordered c.args.left.now c.args.right.now c.keeps.ensures.sound c.keeps-2.ensures.sound c.in_ok-depths.depths.items c.in_ok-others.others.items c.in_ok-depths.ensures c.in_ok-others.ensures c.as_slice-3.result.now
+    (subst (λ (ds : List (Option ℕ)). AreTurns ds c.as_slice-3.result.now) all (subst (AreTurns c.as_slice-2.result.now) (sym c.as_slice-3.ensures.value) c.in_ok-turns.ensures)) tags.items
+    (subst (λ (n : ℕ). AllZip (λ (turn : Turn) (tag : Tag). IsTagAt n turn.number tag) c.as_slice-3.result.now tags.items) (ap length c.latches.ensures) at) left right class) c.tags_of.ensures
