@@ -53,6 +53,11 @@ second_of e = cc
 third_of : {s t : Tag} {o p : Option Tag} {x y : Proof} → event_error.Limit s o x ≡ event_error.Limit t p y → x ≡ y
 third_of e = cc
 
+-- two facts of what is done give a third
+pub both_ok : {T E : Type 0} (r : Result T E) (P Q : Type 0) {X : Type 0} → (P → Q → X) → OnOk r P → OnOk r Q → OnOk r X
+both_ok (Ok x) P Q f p q = f p q
+both_ok (Err e) P Q f p q = tt
+
 pub error_is : {X : Type 0} {e f : EventError} → ◌≡◌ {A = Result X EventError} (Err e) (Err f) → e ≡ f
 error_is q = cc
 

@@ -165,8 +165,7 @@ fn join_always(map: &mut ClassMap, tag: Tag, enable: &Enable) -> Result<(), NoMe
     map.right.keeps();
     map.events.keeps();
     map.table.put(enable.value, enable.care, 0)?;
-    take_latch(map, tag, 0)?;
-    Ok(())
+    take_latch(map, tag, 0)
 }
 
 /// It joins the class at this place.
@@ -187,8 +186,7 @@ fn join_class(map: &mut ClassMap, tag: Tag, enable: Enable, place: usize) -> Res
     let class = place as u32 + 1;
     map.table.put(enable.value, enable.care, class)?;
     take_latch(map, tag, class)?;
-    map.classes[place].join(tag, enable)?;
-    Ok(())
+    map.classes[place].join(tag, enable)
 }
 
 /// It founds the next class.
